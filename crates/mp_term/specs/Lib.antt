@@ -1,0 +1,13 @@
+pub mod Tree
+pub mod Code
+pub mod Size
+pub mod View
+pub mod Falls
+pub mod Order
+pub mod Sorting
+pub mod Signature
+pub mod Normal
+pub mod TreeLists
+pub mod OrderLaws
+pub mod NormalTest
+pub mod Names
