@@ -1,0 +1,41 @@
+-- The normal form of a pattern.
+use Rattle.std.specs.Prelude.{ℕ, Bool, true, false, ◌&&◌, not, List, [], ◌∷◌, flat_map, nat_eq, if◌then◌else◌}
+use Rattle.mp_term.specs.Sorting.{sorted}
+use Rattle.mp_term.specs.Signature.{Sig, is_assoc, is_comm, is_one}
+use Rattle.mp_pattern.specs.PatternTree.{plus, star, optional, Pattern, symbol_pattern, app_pattern, wild_pattern, Patterns, no_patterns, more_patterns, pattern_list, patterns}
+use Rattle.mp_pattern.specs.Order.{pattern_cmp}
+
+abbrev pub parts : ℕ → Pattern → List Pattern
+parts f (symbol_pattern n) = symbol_pattern n ∷ []
+parts f (app_pattern g ps) = if nat_eq f g then pattern_list ps else (app_pattern g ps ∷ [])
+parts f (wild_pattern w x) = wild_pattern w x ∷ []
+
+-- it may take no argument or several: a plus, star or optional wildcard
+abbrev pub is_loose : Pattern → Bool
+is_loose (wild_pattern plus x) = true
+is_loose (wild_pattern star x) = true
+is_loose (wild_pattern (optional t) x) = true
+is_loose _ = false
+
+module _ (sig : Sig) where
+  abbrev pub flattened : ℕ → List Pattern → List Pattern
+  flattened f ps = if is_assoc sig f then flat_map (parts f) ps else ps
+
+  abbrev pub in_order : ℕ → List Pattern → List Pattern
+  in_order f ps = if is_comm sig f then sorted pattern_cmp ps else ps
+
+  -- a one-identity operation of one argument is that argument, unless the argument is loose
+  abbrev pub collapsed : ℕ → List Pattern → Pattern
+  collapsed f [] = app_pattern f no_patterns
+  collapsed f (p ∷ []) = if is_one sig f && not (is_loose p) then p else app_pattern f (more_patterns p no_patterns)
+  collapsed f (p ∷ q ∷ ps) = app_pattern f (patterns (p ∷ q ∷ ps))
+
+  abbrev mutual
+    pub normal_pattern : Pattern → Pattern
+    normal_pattern (symbol_pattern n) = symbol_pattern n
+    normal_pattern (app_pattern f ps) = collapsed f (in_order f (flattened f (normal_patterns ps)))
+    normal_pattern (wild_pattern w x) = wild_pattern w x
+
+    pub normal_patterns : Patterns → List Pattern
+    normal_patterns no_patterns = []
+    normal_patterns (more_patterns p ps) = normal_pattern p ∷ normal_patterns ps

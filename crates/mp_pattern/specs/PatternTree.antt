@@ -1,0 +1,30 @@
+-- The plain trees that contracts see in place of patterns.
+use Rattle.std.specs.Prelude.{ℕ, List, [], ◌∷◌, Option}
+use Rattle.mp_term.specs.Tree.{Tree}
+
+-- one argument; a symbol of a kind; one argument or more; any number of them; one argument, or none and then the default
+pub data Wildcard : Type 0 where
+  dot : Wildcard
+  kind : ℕ → Wildcard
+  plus : Wildcard
+  star : Wildcard
+  optional : Tree → Wildcard
+
+mutual
+  -- a symbol, an operation's number with its arguments, or a wildcard with its variable
+  pub data Pattern : Type 0 where
+    symbol_pattern : List ℕ → Pattern
+    app_pattern : ℕ → Patterns → Pattern
+    wild_pattern : Wildcard → Option (List ℕ) → Pattern
+
+  pub data Patterns : Type 0 where
+    no_patterns : Patterns
+    more_patterns : Pattern → Patterns → Patterns
+
+abbrev pub pattern_list : Patterns → List Pattern
+pattern_list no_patterns = []
+pattern_list (more_patterns p ps) = p ∷ pattern_list ps
+
+abbrev pub patterns : List Pattern → Patterns
+patterns [] = no_patterns
+patterns (p ∷ ps) = more_patterns p (patterns ps)

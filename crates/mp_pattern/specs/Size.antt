@@ -1,0 +1,16 @@
+-- How many nodes a pattern has: the length of its take tables.
+use Rattle.std.specs.Prelude.{ℕ, ◌+◌, List}
+use Rattle.mp_pattern.specs.PatternTree.{Pattern, symbol_pattern, app_pattern, wild_pattern, Patterns, no_patterns, more_patterns, patterns}
+
+abbrev mutual
+  pub pattern_nodes : Pattern → ℕ
+  pattern_nodes (symbol_pattern n) = 1
+  pattern_nodes (app_pattern f ps) = all_pattern_nodes ps + 1
+  pattern_nodes (wild_pattern w x) = 1
+
+  pub all_pattern_nodes : Patterns → ℕ
+  all_pattern_nodes no_patterns = 0
+  all_pattern_nodes (more_patterns p ps) = pattern_nodes p + all_pattern_nodes ps
+
+abbrev pub list_nodes : List Pattern → ℕ
+list_nodes ps = all_pattern_nodes (patterns ps)

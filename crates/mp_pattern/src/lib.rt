@@ -1,0 +1,6 @@
+//! Patterns over a signature.
+#![tactic(auto)]
+
+mod pattern;
+
+pub use pattern::{Pattern, Patterns, Shape};
