@@ -1,0 +1,107 @@
+-- `one_list` is the one-list.
+use Rattle.std.proofs.Common.{◌≡◌, List, [], ◌∷◌, true, false, ◌&&◌, refl, ap, sym, ◌∙◌, subst}
+use Rattle.std.specs.Prelude.{Some, None, ◌↔◌, if◌then◌else◌, Contains}
+use Rattle.std.proofs.lemmas.Cmp.{lists_total}
+use Rattle.mp_term.specs.Order.{tree_cmp}
+use Rattle.mp_term.specs.OrderLaws.{tree_cmp_total, tree_same}
+use Rattle.mp_term.specs.Tree.{Tree}
+use Rattle.mp_term.specs.Signature.{Sig}
+use Rattle.mp_term.specs.Normal.{IsNormal}
+use Rattle.mp_term.proofs.NormalTestLaws.{both, joined_tests}
+use Rattle.mp_pattern.specs.Value.{Value, one, seq, bag, Subst, same_name}
+use Rattle.mp_pattern.specs.Fits.{Table, Fits}
+use Rattle.mp_pattern.specs.DerivationOrder.{table_cmp}
+use Rattle.mp_pattern.specs.Admission.{Rule, meets, Admits, IsLeast, AreLeast}
+use Rattle.mp_pattern.specs.Lists.{IsOneList}
+use Rattle.mp_theory.specs.Solve.{solve}
+use Rattle.mp_theory.specs.Frames.{settle, start}
+use Rattle.mp_theory.proofs.Merging.{name_same, same_terms-sound, same_terms-complete}
+use Rattle.mp_theory.specs.Search.{In}
+use Rattle.mp_theory.specs.Sound.{IsSound}
+use Rattle.mp_theory.specs.Machine.{takes, tables}
+use Rattle.mp_theory.specs.OneList.{same_value, same_subst, admitted, one_list}
+use Rattle.mp_theory.proofs.PiecesLaws.{same-sound, same-itself}
+use Rattle.mp_theory.proofs.Tables.{tables-exact, tables-ascending, entry_cmp_total}
+use Rattle.mp_theory.proofs.Solving.{same_name-itself, then_some}
+use Rattle.mp_theory.proofs.FitsSolves.{fits-solves, solves-fits}
+use Rattle.mp_theory.proofs.FirstsLaws.{contains-from_in, in-from_contains, Both, from_both, IsFirst, Added, added}
+
+same_value-itself : (v : Value) → same_value v v ≡ true
+same_value-itself (one t) = same-itself tree_cmp tree_cmp_total tree_same t
+same_value-itself (seq ts) = same_terms-complete ts ts refl
+same_value-itself (bag ts) = same_terms-complete ts ts refl
+
+same_value-sound : (v w : Value) → same_value v w ≡ true → v ≡ w
+same_value-sound (one t) (one u) e = ap one (same-sound tree_cmp tree_cmp_total tree_same t u e)
+same_value-sound (seq ts) (seq us) e = ap seq (same_terms-sound ts us e)
+same_value-sound (bag ts) (bag us) e = ap bag (same_terms-sound ts us e)
+same_value-sound (one t) (seq us) e = cc
+same_value-sound (one t) (bag us) e = cc
+same_value-sound (seq ts) (one u) e = cc
+same_value-sound (seq ts) (bag us) e = cc
+same_value-sound (bag ts) (one u) e = cc
+same_value-sound (bag ts) (seq us) e = cc
+
+pub same_subst-itself : (s : Subst) → same_subst s s ≡ true
+same_subst-itself [] = refl
+same_subst-itself (b ∷ s) = joined_tests _ _ (same_name-itself b.name) (joined_tests _ _ (same_value-itself b.value) (same_subst-itself s))
+
+pub same_subst-sound : (r s : Subst) → same_subst r s ≡ true → r ≡ s
+same_subst-sound [] [] e = refl
+same_subst-sound [] (c ∷ s) e = cc
+same_subst-sound (b ∷ r) [] e = cc
+same_subst-sound (b ∷ r) (c ∷ s) e =
+    let h = both (same_name b.name c.name) (same_value b.value c.value && same_subst r s) e in
+    let k = both (same_value b.value c.value) (same_subst r s) h.1 in
+    ap (λ m. record { name = m; value = b.value } ∷ r) (name_same b.name c.name h.0) ∙ ap (λ m. record { name = c.name; value = m } ∷ r) (same_value-sound b.value c.value k.0) ∙ ap (λ m. c ∷ m) (same_subst-sound r s k.1)
+
+module _ (sig : Sig) (r : Rule) (t : Tree) where
+  abbrev Solves : Table → Subst → Type 0
+  Solves T s = solve sig [] (takes (settle (start r.pattern t)) T) ≡ Some s
+
+  from_admitted : (T : Table) (s : Subst) → admitted sig r t T ≡ Some s → Solves T s × (meets sig r.condition s ≡ true)
+  from_admitted T s e =
+      let a = then_some (λ u. if meets sig r.condition u then Some u else None) (solve sig [] (takes (settle (start r.pattern t)) T)) s e in
+      elim (meets sig r.condition a.0) as (λ b. meets sig r.condition a.0 ≡ b → (if b then Some a.0 else None) ≡ Some s → Solves T s × (meets sig r.condition s ≡ true)) [
+        | true ↦ λ m p. let q : a.0 ≡ s = cc in (a.1 ∙ ap Some q, subst (λ u. meets sig r.condition u ≡ true) q m)
+        | false ↦ λ m p. cc
+      ] refl a.2
+
+  to_admitted : (T : Table) (s : Subst) → Solves T s → meets sig r.condition s ≡ true → admitted sig r t T ≡ Some s
+  to_admitted T s e m = rw (e, m) refl
+
+  module _ (sound : IsSound sig r.pattern) (normal : IsNormal sig t) where
+    abbrev Found : Added same_subst same_subst-itself same_subst-sound (admitted sig r t) table_cmp (lists_total entry_cmp_total) [] (tables sig r.pattern t)
+    Found = added same_subst same_subst-itself same_subst-sound (admitted sig r t) table_cmp (lists_total entry_cmp_total) [] (tables sig r.pattern t) (tables-ascending sig r.pattern t)
+
+    abbrev First : Subst → Table → Type 0
+    First = IsFirst same_subst same_subst-itself same_subst-sound (admitted sig r t) table_cmp (lists_total entry_cmp_total) (tables sig r.pattern t)
+
+    fits-admitted : (s : Subst) (T : Table) → Fits sig r.pattern t s T → meets sig r.condition s ≡ true → In T (tables sig r.pattern t) × (admitted sig r t T ≡ Some s)
+    fits-admitted s T h m = let k = fits-solves sig r.pattern t s T normal h in ((tables-exact sig r.pattern t T).1 k.0, to_admitted T s k.1 m)
+
+    admitted-fits : (s : Subst) (T : Table) → In T (tables sig r.pattern t) → admitted sig r t T ≡ Some s → Fits sig r.pattern t s T × (meets sig r.condition s ≡ true)
+    admitted-fits s T i e = let k = from_admitted T s e in (solves-fits sig r.pattern t s T sound normal ((tables-exact sig r.pattern t T).0 i) k.0, k.1)
+
+    first-least : (s : Subst) (T : Table) → First s T → IsLeast sig r.pattern t s T
+    first-least s T h =
+        let k = admitted-fits s T h.stands h.gives in
+        record { fits = k.0; least = λ U u l. let a = fits-admitted s U u k.1 in h.least U a.0 a.1 l }
+
+    are-least : (ss : List Subst) (Ts : List Table) → Both First ss Ts → AreLeast sig r.pattern t ss Ts
+    are-least [] [] h = tt
+    are-least [] (T ∷ Ts) h = absurd h
+    are-least (s ∷ ss) [] h = absurd h
+    are-least (s ∷ ss) (T ∷ Ts) h = (first-least s T h.0, are-least ss Ts h.1)
+
+    found-exactly : (s : Subst) → Contains Found.items s ↔ Admits sig r t s
+    found-exactly s = (
+      λ c.
+          let f = from_both First Found.items Found.firsts s Found.least (in-from_contains s Found.items c) in
+          let k = admitted-fits s f.0 f.1.stands f.1.gives in
+          record { table = f.0; fits = k.0; condition = k.1 },
+      λ a. let k = fits-admitted s a.table a.fits a.condition in contains-from_in s Found.items (Found.complete a.table s k.0 k.1),
+    )
+
+    pub one_list-is : IsOneList sig r t (one_list sig r t)
+    one_list-is = subst (IsOneList sig r t) (sym Found.is) (record { exactly = found-exactly; tables = Found.firsts; least = are-least Found.items Found.firsts Found.least; ascending = Found.ascending })

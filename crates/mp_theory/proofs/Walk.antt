@@ -1,0 +1,300 @@
+-- A walk with the values of a substitution is a walk of the search whose takes the substitution obeys.
+use Rattle.std.proofs.Common.{◌≡◌, ℕ, List, [], ◌∷◌, Bool, true, false, ◌&&◌, not, refl, ap, sym, ◌∙◌, inl, inr, subst, eqb-true, eq-eqb, arith}
+use Rattle.std.specs.Prelude.{Option, Some, None, is_some, ◌↔◌, if◌then◌else◌, ⊤}
+use Rattle.std.specs.List.{AllByRecursion}
+use Rattle.mp_term.specs.Order.{tree_cmp}
+use Rattle.mp_term.specs.OrderLaws.{tree_cmp_total, tree_same}
+use Rattle.mp_term.specs.Tree.{Tree, symbol, app, Trees, tree_list, trees, no_trees, more_trees}
+use Rattle.mp_term.specs.TreeLists.{trees-tree_list, tree_list-trees}
+use Rattle.mp_term.specs.Signature.{Sig, is_comm, is_one}
+use Rattle.mp_term.specs.NormalTest.{is_single, ascending, passes, all_pass}
+use Rattle.mp_term.proofs.NormalTestLaws.{both, joined_tests}
+use Rattle.mp_pattern.specs.PatternTree.{Wildcard, Pattern, symbol_pattern, app_pattern, wild_pattern, Patterns, no_patterns, more_patterns}
+use Rattle.mp_pattern.specs.Value.{Value, IsFinal, Subst, value_of}
+use Rattle.mp_pattern.specs.Variables.{comm_above, is_sequence}
+use Rattle.mp_pattern.specs.Fits.{Entry, Table, is_left_out, no_sequence, ByValue, HasValue, WildTakes}
+use Rattle.mp_pattern.specs.Holds.{is_bag}
+use Rattle.mp_theory.specs.Solve.{Taken, is_alone, given}
+use Rattle.mp_theory.specs.Frames.{Frame, Next, ended, refused, child, is_done, settle}
+use Rattle.mp_theory.proofs.Agenda.{Step, Run, IsCut}
+use Rattle.mp_theory.proofs.Merging.{same_terms-sound, same_terms-complete}
+use Rattle.mp_theory.proofs.SolveLaws.{Obeys}
+use Rattle.mp_theory.specs.Search.{In, Accepts}
+use Rattle.mp_theory.specs.Pieces.{without, pieces, is_piece}
+use Rattle.mp_theory.specs.Sound.{Each, AllEach, DefaultNormal}
+use Rattle.mp_theory.specs.Machine.{entries, is_ended, entered, taken_out, onward, said, takes, reads, choices}
+use Rattle.mp_theory.proofs.SearchLaws.{in-flat, from_in-flat, in-filter, from_in-filter, all-append, from_all-append}
+use Rattle.mp_theory.proofs.PiecesLaws.{sublist-from_piece, length-without, all-piece, all-without, pieces-exact}
+use Rattle.mp_theory.proofs.Cuts.{put, piece-from_apart, apart-from_piece}
+use Rattle.mp_theory.proofs.Wildcards.{put-single, arguments-in_order, Gives, gives, takes-given, IsFine, given-final, refines-itself}
+
+abbrev entry : List Tree → Bool → Entry
+entry l c = record { terms = l; collapsed = c }
+
+-- the choices are the pieces that the node may read
+pub in-entries : (l : List Tree) (c : Bool) (ls : List (List Tree)) → In l ls → In (entry l c) (entries ls)
+in-entries l c ls h = in-flat (λ m. entry m false ∷ entry m true ∷ []) l (entry l c) ls h (elim c as (λ b. In (entry l b) (entry l false ∷ entry l true ∷ [])) [ true ↦ inr (inl refl) | false ↦ inl refl ])
+
+pub from_in-entries : (e : Entry) (ls : List (List Tree)) → In e (entries ls) → In e.terms ls
+from_in-entries e ls h =
+    let r = from_in-flat (λ m. entry m false ∷ entry m true ∷ []) e ls h in
+    let q : e.terms ≡ r.0 = elim r.2 [ inl i ↦ ap (λ d. d.terms) i | inr i ↦ elim i [ inl j ↦ ap (λ d. d.terms) j | inr j ↦ absurd j ] ] in
+    subst (λ m. In m ls) (sym q) r.1
+
+module _ (sig : Sig) where
+  pub choices-exact : (p : Pattern) (f : Frame) (fs : List Frame) (l : List Tree) (c : Bool) → In (entry l c) (choices sig (child p f fs)) ↔ ((is_piece tree_cmp (comm_above sig f.under) l f.left ≡ true) × (reads sig p f.under (entry l c) ≡ true))
+  choices-exact p f fs l c = (
+    λ h.
+        let r = from_in-filter (reads sig p f.under) (entry l c) (entries (pieces tree_cmp (comm_above sig f.under) f.left)) h in
+        ((pieces-exact tree_cmp tree_cmp_total tree_same (comm_above sig f.under) l f.left).0 (from_in-entries (entry l c) (pieces tree_cmp (comm_above sig f.under) f.left) r.0), r.1),
+    λ h. in-filter (reads sig p f.under) (entry l c) (entries (pieces tree_cmp (comm_above sig f.under) f.left)) (in-entries l c (pieces tree_cmp (comm_above sig f.under) f.left) ((pieces-exact tree_cmp tree_cmp_total tree_same (comm_above sig f.under) l f.left).1 h.0)) h.1,
+  )
+
+  -- Q is a property of wildcards
+  module _ (Q : Option ℕ → Wildcard → Option (List ℕ) → Type 0) where
+    abbrev pub IsSoundFrame : Frame → Type 0
+    IsSoundFrame f = IsFine sig f.under f.left × AllEach Q f.under f.children
+
+    -- what is left is fine, and Q holds of the wildcards still to come
+    abbrev pub IsSoundAt : Next → Type 0
+    IsSoundAt (child p f fs) = Each Q f.under p × IsSoundFrame f × AllByRecursion IsSoundFrame fs
+    IsSoundAt _ = ⊤
+
+    pub sound-settle : (fs : List Frame) → AllByRecursion IsSoundFrame fs → IsSoundAt (settle fs)
+    sound-settle [] h = tt
+    sound-settle (f ∷ fs) h =
+        elim f.children as (λ c. AllEach Q f.under c → IsSoundAt (elim c [ no_patterns ↦ if is_done f.left f.owes then settle fs else refused | more_patterns p ps ↦ child p (record f { children = ps }) fs ])) [
+          | no_patterns ↦ λ k. elim (is_done f.left f.owes) as (λ b. IsSoundAt (if b then settle fs else refused)) [ true ↦ sound-settle fs h.1 | false ↦ tt ]
+          | more_patterns p ps ↦ λ k. (k.0, (h.0.0, k.1), h.1)
+        ] h.0.1
+
+    pub fine-piece : (f : Option ℕ) (l ts : List Tree) → is_piece tree_cmp (comm_above sig f) l ts ≡ true → IsFine sig f ts → IsFine sig f l
+    fine-piece f l ts h k =
+        let s = sublist-from_piece tree_cmp tree_cmp_total tree_same (comm_above sig f) l ts h in
+        record {
+          pass = all-piece tree_cmp tree_cmp_total tree_same (λ t. passes sig t ≡ true) l ts s k.pass;
+          alone = λ n. all-piece tree_cmp tree_cmp_total tree_same (λ t. is_alone sig f t ≡ true) l ts s (k.alone (omega (arith, length-without tree_cmp tree_cmp_total tree_same l ts s)));
+          in_order = (apart-from_piece (comm_above sig f) l ts k.in_order h).piece_in_order;
+        }
+
+    pub fine-without : (f : Option ℕ) (l ts : List Tree) → is_piece tree_cmp (comm_above sig f) l ts ≡ true → IsFine sig f ts → IsFine sig f (without tree_cmp l ts)
+    fine-without f l ts h k =
+        let s = sublist-from_piece tree_cmp tree_cmp_total tree_same (comm_above sig f) l ts h in
+        record {
+          pass = all-without tree_cmp tree_cmp_total tree_same (λ t. passes sig t ≡ true) l ts k.pass;
+          alone = λ n. all-without tree_cmp tree_cmp_total tree_same (λ t. is_alone sig f t ≡ true) l ts (k.alone (omega (arith, length-without tree_cmp tree_cmp_total tree_same l ts s)));
+          in_order = (apart-from_piece (comm_above sig f) l ts k.in_order h).rest_in_order;
+        }
+
+    all_pass-each : (g : ℕ) (ts : Trees) → all_pass sig g ts ≡ true → AllByRecursion (λ t. passes sig t ≡ true) (tree_list ts) × AllByRecursion (λ t. is_alone sig (Some g) t ≡ true) (tree_list ts)
+    all_pass-each g no_trees h = (tt, tt)
+    all_pass-each g (more_trees t ts) h =
+        let k = both (passes sig t && is_alone sig (Some g) t) (all_pass sig g ts) h in
+        let m = both (passes sig t) (is_alone sig (Some g) t) k.0 in
+        let i = all_pass-each g ts k.1 in
+        ((m.0, i.0), (m.1, i.1))
+
+    -- the arguments of a term that passes are fine
+    pub fine-arguments : (g : ℕ) (ts : Trees) → passes sig (app g ts) ≡ true → IsFine sig (Some g) (tree_list ts)
+    fine-arguments g ts h =
+        let k = both (not (is_comm sig g && not (ascending (tree_list ts)))) (all_pass sig g ts) (both (not (is_one sig g && is_single (tree_list ts))) _ h).1 in
+        let i = all_pass-each g ts k.1 in
+        record { pass = i.0; alone = λ _. i.1; in_order = arguments-in_order sig g ts h }
+
+    pub fine-single : (f : Option ℕ) (t : Tree) → passes sig t ≡ true → IsFine sig f (t ∷ [])
+    fine-single f t h = record { pass = (h, tt); alone = λ n. absurd (omega arith); in_order = put-single (comm_above sig f) t }
+
+    pub sound-onward : (p : Pattern) (f : Frame) (fs : List Frame) (l : List Tree) (c : Bool) → IsSoundAt (child p f fs) → is_piece tree_cmp (comm_above sig f.under) l f.left ≡ true → reads sig p f.under (entry l c) ≡ true → IsSoundAt (onward (child p f fs) (entry l c))
+    sound-onward (symbol_pattern n) f fs l c h i r = sound-settle (taken_out (symbol_pattern n) (entry l c) f ∷ fs) ((fine-without f.under l f.left i h.1.0, h.1.1), h.2)
+    sound-onward (wild_pattern w x) f fs l c h i r = sound-settle (taken_out (wild_pattern w x) (entry l c) f ∷ fs) ((fine-without f.under l f.left i h.1.0, h.1.1), h.2)
+    sound-onward (app_pattern g ps) f fs [] true h i r = cc
+    sound-onward (app_pattern g ps) f fs (t ∷ []) true h i r =
+        sound-settle (entered (app_pattern g ps) (entry (t ∷ []) true) (taken_out (app_pattern g ps) (entry (t ∷ []) true) f ∷ fs))
+        ((fine-single (Some g) t (fine-piece f.under (t ∷ []) f.left i h.1.0).pass.0, h.0), ((fine-without f.under (t ∷ []) f.left i h.1.0, h.1.1), h.2))
+    sound-onward (app_pattern g ps) f fs (t ∷ u ∷ l) true h i r = cc
+    sound-onward (app_pattern g ps) f fs [] false h i r = cc
+    sound-onward (app_pattern g ps) f fs (symbol n ∷ []) false h i r = cc
+    sound-onward (app_pattern g ps) f fs (app k ts ∷ []) false h i r =
+        let pass : passes sig (app k ts) ≡ true = (fine-piece f.under (app k ts ∷ []) f.left i h.1.0).pass.0 in
+        sound-settle (entered (app_pattern g ps) (entry (app k ts ∷ []) false) (taken_out (app_pattern g ps) (entry (app k ts ∷ []) false) f ∷ fs))
+        ((subst (λ m. IsFine sig (Some m) (tree_list ts)) (sym (eqb-true g k r)) (fine-arguments k ts pass), h.0), ((fine-without f.under (app k ts ∷ []) f.left i h.1.0, h.1.1), h.2))
+    sound-onward (app_pattern g ps) f fs (t ∷ u ∷ l) false h i r = cc
+
+  module _ (line : Option ℕ → Wildcard → Option (List ℕ) → List Tree → Type 0) where
+    -- the walk from a place on
+    abbrev pub RunAt : Next → Table → Type 0
+    RunAt n [] = n ≡ ended
+    RunAt n (e ∷ T) = Step sig line n e (λ gs. Run sig line gs T)
+
+    pub run_at : (fs : List Frame) (T : Table) → Run sig line fs T → RunAt (settle fs) T
+    run_at fs [] h = h
+    run_at fs (e ∷ T) h = h
+
+    pub at_run : (fs : List Frame) (T : Table) → RunAt (settle fs) T → Run sig line fs T
+    at_run fs [] h = h
+    at_run fs (e ∷ T) h = h
+
+    cut-piece : (f : Option ℕ) (left l rest : List Tree) → IsCut sig line f left l rest → put (comm_above sig f) l ≡ l → (is_piece tree_cmp (comm_above sig f) l left ≡ true) × (rest ≡ without tree_cmp l left)
+    cut-piece f left l rest h e = piece-from_apart (comm_above sig f) l rest left (record { together = h.together; piece_in_order = e; rest_in_order = h.in_order })
+
+    piece-cut : (f : Option ℕ) (left l : List Tree) → put (comm_above sig f) left ≡ left → is_piece tree_cmp (comm_above sig f) l left ≡ true → IsCut sig line f left l (without tree_cmp l left)
+    piece-cut f left l e h = let a = apart-from_piece (comm_above sig f) l left e h in record { together = a.together; in_order = a.rest_in_order }
+
+  -- a walk of the search is a walk by the wildcards' line, if what the takes are known to be gives the line
+  module _ (line : Option ℕ → Wildcard → Option (List ℕ) → List Tree → Type 0) (Q : Option ℕ → Wildcard → Option (List ℕ) → Type 0) (P : Taken → Type 0)
+      (wild_takes : (w : Wildcard) (x : Option (List ℕ)) (f : Frame) (fs : List Frame) (e : Entry) → Q f.under w x → IsFine sig f.under e.terms → is_some (given sig f.under w e.terms) ≡ true → AllByRecursion P (said (child (wild_pattern w x) f fs) e) → line f.under w x e.terms) where
+    abbrev Told : List Taken → Type 0
+    Told = AllByRecursion P
+
+    step-walked : (p : Pattern) (f : Frame) (fs : List Frame) (l : List Tree) (c : Bool) (T : Table) → IsSoundAt Q (child p f fs) → is_piece tree_cmp (comm_above sig f.under) l f.left ≡ true → reads sig p f.under (entry l c) ≡ true → Told (said (child p f fs) (entry l c))
+        → RunAt line (onward (child p f fs) (entry l c)) T → RunAt line (child p f fs) (entry l c ∷ T)
+    step-walked (symbol_pattern n) f fs l true T h i r o k = cc
+    step-walked (symbol_pattern n) f fs l false T h i r o k =
+        (without tree_cmp l f.left, piece-cut line f.under f.left l h.1.0.in_order i, (ap (λ m. entry m false) (same_terms-sound l (symbol n ∷ []) r), at_run line (taken_out (symbol_pattern n) (entry l false) f ∷ fs) T k))
+    step-walked (wild_pattern w x) f fs l true T h i r o k = cc
+    step-walked (wild_pattern w x) f fs l false T h i r o k =
+        (without tree_cmp l f.left, piece-cut line f.under f.left l h.1.0.in_order i, (wild_takes w x f fs (entry l false) h.0 (fine-piece Q f.under l f.left i h.1.0) r o, refl, at_run line (taken_out (wild_pattern w x) (entry l false) f ∷ fs) T k))
+    step-walked (app_pattern g ps) f fs [] true T h i r o k = cc
+    step-walked (app_pattern g ps) f fs (t ∷ []) true T h i r o k =
+        let b = both (is_one sig g) (no_sequence ps) r in (
+          without tree_cmp (t ∷ []) f.left,
+          piece-cut line f.under f.left (t ∷ []) h.1.0.in_order i,
+          inr (t, refl, b.0, b.1, at_run line (entered (app_pattern g ps) (entry (t ∷ []) true) (taken_out (app_pattern g ps) (entry (t ∷ []) true) f ∷ fs)) T k),
+        )
+    step-walked (app_pattern g ps) f fs (t ∷ u ∷ l) true T h i r o k = cc
+    step-walked (app_pattern g ps) f fs [] false T h i r o k = cc
+    step-walked (app_pattern g ps) f fs (symbol n ∷ []) false T h i r o k = cc
+    step-walked (app_pattern g ps) f fs (app m ts ∷ []) false T h i r o k =
+        let q : m ≡ g = sym (eqb-true g m r) in (
+          without tree_cmp (app m ts ∷ []) f.left,
+          piece-cut line f.under f.left (app m ts ∷ []) h.1.0.in_order i,
+          inl (
+            tree_list ts,
+            ap (λ a. entry (app a ts ∷ []) false) q ∙ ap (λ us. entry (app g us ∷ []) false) (sym (trees-tree_list ts)),
+            at_run line (entered (app_pattern g ps) (entry (app m ts ∷ []) false) (taken_out (app_pattern g ps) (entry (app m ts ∷ []) false) f ∷ fs)) T k,
+          ),
+        )
+    step-walked (app_pattern g ps) f fs (t ∷ u ∷ l) false T h i r o k = cc
+
+    -- a table with the shape is a walk
+    pub walked : (n : Next) (T : Table) → IsSoundAt Q n → Accepts (choices sig) onward is_ended n T → Told (takes n T) → RunAt line n T
+    walked ended [] h a o = refl
+    walked refused [] h a o = cc
+    walked (child p f fs) [] h a o = cc
+    walked ended (e ∷ T) h a o = absurd a.0
+    walked refused (e ∷ T) h a o = absurd a.0
+    walked (child p f fs) (e ∷ T) h a o =
+        let c = (choices-exact p f fs e.terms e.collapsed).0 a.0 in
+        let os = from_all-append P (said (child p f fs) e) (takes (onward (child p f fs) e) T) o in
+        step-walked p f fs e.terms e.collapsed T h c.0 c.1 os.0 (walked (onward (child p f fs) e) T (sound-onward Q p f fs e.terms e.collapsed h c.0 c.1) a.1 os.1)
+
+  module _ (s : Subst) where
+    -- a sequence variable that stands under an operation that isn't commutative has no multiset
+    abbrev pub FormHolds : Option ℕ → Wildcard → Option (List ℕ) → Type 0
+    FormHolds f w None = ⊤
+    FormHolds f w (Some x) = is_sequence w ≡ true → comm_above sig f ≡ false → is_bag (value_of s x) ≡ false
+
+    abbrev Values : Option ℕ → Wildcard → Option (List ℕ) → List Tree → Type 0
+    Values = ByValue sig s
+
+    abbrev Obedient : List Taken → Type 0
+    Obedient = AllByRecursion (Obeys sig s)
+
+    -- a step with values is a choice that s obeys
+    record IsChosen (n : Next) (e : Entry) (T : Table) : Type 0 where
+      choice : In e (choices sig n)
+      obeys : Obedient (said n e)
+      sound : IsSoundAt FormHolds (onward n e)
+      go : RunAt Values (onward n e) T
+
+    chosen : (p : Pattern) (f : Frame) (fs : List Frame) (e : Entry) (T : Table) (gs : List Frame) → IsSoundAt FormHolds (child p f fs) → is_piece tree_cmp (comm_above sig f.under) e.terms f.left ≡ true → reads sig p f.under e ≡ true
+        → Obedient (said (child p f fs) e) → settle gs ≡ onward (child p f fs) e → Run sig Values gs T → IsChosen (child p f fs) e T
+    chosen p f fs e T gs h i r o q k = record {
+      choice = (choices-exact p f fs e.terms e.collapsed).1 (i, r);
+      obeys = o;
+      sound = sound-onward FormHolds p f fs e.terms e.collapsed h i r;
+      go = subst (λ n. RunAt Values n T) q (run_at Values gs T k);
+    }
+
+    chosen-symbol : (n : List ℕ) (f : Frame) (fs : List Frame) (rest : List Tree) (T : Table) → IsSoundAt FormHolds (child (symbol_pattern n) f fs) → IsCut sig Values f.under f.left (symbol n ∷ []) rest
+        → Run sig Values (record { under = f.under; children = f.children; left = rest; owes = f.owes && not (is_left_out (symbol_pattern n) (symbol n ∷ [])) } ∷ fs) T → IsChosen (child (symbol_pattern n) f fs) (entry (symbol n ∷ []) false) T
+    chosen-symbol n f fs rest T h cut k =
+        let c = cut-piece Values f.under f.left (symbol n ∷ []) rest cut (put-single (comm_above sig f.under) (symbol n)) in
+        chosen (symbol_pattern n) f fs (entry (symbol n ∷ []) false) T (taken_out (symbol_pattern n) (entry (symbol n ∷ []) false) f ∷ fs) h c.0 (same_terms-complete (symbol n ∷ []) (symbol n ∷ []) refl) tt refl
+        (subst (λ m. Run sig Values (record { under = f.under; children = f.children; left = m; owes = f.owes && not false } ∷ fs) T) c.1 k)
+
+    chosen-arguments : (g : ℕ) (ps : Patterns) (f : Frame) (fs : List Frame) (rest args : List Tree) (T : Table) → IsSoundAt FormHolds (child (app_pattern g ps) f fs) → IsCut sig Values f.under f.left (app g (trees args) ∷ []) rest
+        → Run sig Values (record { under = Some g; children = ps; left = args; owes = false } ∷ record { under = f.under; children = f.children; left = rest; owes = f.owes && not false } ∷ fs) T
+        → IsChosen (child (app_pattern g ps) f fs) (entry (app g (trees args) ∷ []) false) T
+    chosen-arguments g ps f fs rest args T h cut k =
+        let c = cut-piece Values f.under f.left (app g (trees args) ∷ []) rest cut (put-single (comm_above sig f.under) (app g (trees args))) in
+        chosen (app_pattern g ps) f fs (entry (app g (trees args) ∷ []) false) T
+        (entered (app_pattern g ps) (entry (app g (trees args) ∷ []) false) (taken_out (app_pattern g ps) (entry (app g (trees args) ∷ []) false) f ∷ fs)) h c.0 (eq-eqb g g refl) tt refl
+        (subst (λ a. Run sig Values (record { under = Some g; children = ps; left = a; owes = false } ∷ record { under = f.under; children = f.children; left = without tree_cmp (app g (trees args) ∷ []) f.left; owes = f.owes && not false } ∷ fs) T) (sym (tree_list-trees args))
+        (subst (λ m. Run sig Values (record { under = Some g; children = ps; left = args; owes = false } ∷ record { under = f.under; children = f.children; left = m; owes = f.owes && not false } ∷ fs) T) c.1 k))
+
+    chosen-collapsed : (g : ℕ) (ps : Patterns) (f : Frame) (fs : List Frame) (rest : List Tree) (t : Tree) (T : Table) → IsSoundAt FormHolds (child (app_pattern g ps) f fs) → IsCut sig Values f.under f.left (t ∷ []) rest → is_one sig g ≡ true → no_sequence ps ≡ true
+        → Run sig Values (record { under = Some g; children = ps; left = t ∷ []; owes = true } ∷ record { under = f.under; children = f.children; left = rest; owes = f.owes && not false } ∷ fs) T
+        → IsChosen (child (app_pattern g ps) f fs) (entry (t ∷ []) true) T
+    chosen-collapsed g ps f fs rest t T h cut one plain k =
+        let c = cut-piece Values f.under f.left (t ∷ []) rest cut (put-single (comm_above sig f.under) t) in
+        chosen (app_pattern g ps) f fs (entry (t ∷ []) true) T (entered (app_pattern g ps) (entry (t ∷ []) true) (taken_out (app_pattern g ps) (entry (t ∷ []) true) f ∷ fs)) h c.0 (joined_tests _ _ one plain) tt refl
+        (subst (λ m. Run sig Values (record { under = Some g; children = ps; left = t ∷ []; owes = true } ∷ record { under = f.under; children = f.children; left = m; owes = f.owes && not false } ∷ fs) T) c.1 k)
+
+    module _ (finals : (x : List ℕ) (v : Value) → value_of s x ≡ Some v → IsFinal sig v) where
+      held-final : (x : Option (List ℕ)) (v : Value) → HasValue sig s x v → IsFinal sig v
+      held-final None v h = h
+      held-final (Some x) v h = finals x v h
+
+      wild-obeys : (w : Wildcard) (x : Option (List ℕ)) (f : Frame) (fs : List Frame) (e : Entry) (v : Value) → FormHolds f.under w x → HasValue sig s x v → Gives sig f.under w v e.terms → Obedient (said (child (wild_pattern w x) f fs) e)
+      wild-obeys w None f fs e v q h g = tt
+      wild-obeys w (Some x) f fs e v q h g = (record { value = g.value; is = g.is; final = v; held = h; refines = g.refines (λ i j. ap is_bag (sym h) ∙ q i j) }, tt)
+
+      chosen-wild : (w : Wildcard) (x : Option (List ℕ)) (f : Frame) (fs : List Frame) (e : Entry) (rest : List Tree) (T : Table) (v : Value) → IsSoundAt FormHolds (child (wild_pattern w x) f fs) → IsCut sig Values f.under f.left e.terms rest
+          → HasValue sig s x v → WildTakes sig f.under w v e.terms → e.collapsed ≡ false
+          → Run sig Values (record { under = f.under; children = f.children; left = rest; owes = f.owes && not (is_left_out (wild_pattern w x) e.terms) } ∷ fs) T → IsChosen (child (wild_pattern w x) f fs) e T
+      chosen-wild w x f fs e rest T v h cut has takes mark k =
+          let g = gives sig f.under w v e.terms (held-final x v has) takes in
+          let c = cut-piece Values f.under f.left e.terms rest cut g.in_order in
+          chosen (wild_pattern w x) f fs e T (taken_out (wild_pattern w x) e f ∷ fs) h c.0 (joined_tests _ _ (ap not mark) (ap is_some g.is)) (wild-obeys w x f fs e v h.0 has g) refl
+          (subst (λ m. Run sig Values (record { under = f.under; children = f.children; left = m; owes = f.owes && not (is_left_out (wild_pattern w x) e.terms) } ∷ fs) T) c.1 k)
+
+      step-chosen : (n : Next) (e : Entry) (T : Table) → IsSoundAt FormHolds n → RunAt Values n (e ∷ T) → IsChosen n e T
+      step-chosen ended e T h k = absurd k
+      step-chosen refused e T h k = absurd k
+      step-chosen (child (symbol_pattern n) f fs) e T h k =
+          let q : e.terms ≡ symbol n ∷ [] = ap (λ d. d.terms) k.2.0 in
+          subst (λ d. IsChosen (child (symbol_pattern n) f fs) d T) (sym k.2.0) (chosen-symbol n f fs k.0 T h (subst (λ l. IsCut sig Values f.under f.left l k.0) q k.1) k.2.1)
+      step-chosen (child (wild_pattern w x) f fs) e T h k = chosen-wild w x f fs e k.0 T k.2.0.0 h k.1 k.2.0.1 k.2.0.2 k.2.1 k.2.2
+      step-chosen (child (app_pattern g ps) f fs) e T h k =
+          elim k.2 [
+            | inl i ↦ subst (λ d. IsChosen (child (app_pattern g ps) f fs) d T) (sym i.1) (chosen-arguments g ps f fs k.0 i.0 T h (subst (λ l. IsCut sig Values f.under f.left l k.0) (ap (λ d. d.terms) i.1) k.1) i.2)
+            | inr i ↦ subst (λ d. IsChosen (child (app_pattern g ps) f fs) d T) (sym i.1) (chosen-collapsed g ps f fs k.0 i.0 T h (subst (λ l. IsCut sig Values f.under f.left l k.0) (ap (λ d. d.terms) i.1) k.1) i.2 i.3 i.4)
+          ]
+
+      -- a walk with the values of s has the shape, and s obeys its takes
+      pub accepted : (n : Next) (T : Table) → IsSoundAt FormHolds n → RunAt Values n T → Accepts (choices sig) onward is_ended n T × Obedient (takes n T)
+      accepted n [] h k = (ap is_ended k, tt)
+      accepted n (e ∷ T) h k =
+          let c = step-chosen n e T h k in
+          let i = accepted (onward n e) T c.sound c.go in
+          ((c.choice, i.0), all-append (Obeys sig s) (said n e) (takes (onward n e) T) c.obeys i.1)
+
+    -- the wildcard's default, if it has one, is normal
+    abbrev pub DefaultHolds : Option ℕ → Wildcard → Option (List ℕ) → Type 0
+    DefaultHolds f w x = DefaultNormal sig w
+
+    some_from : {A : Type 0} (o : Option A) → is_some o ≡ true → (v : A) × (o ≡ Some v)
+    some_from None e = cc
+    some_from (Some v) e = (v, refl)
+
+    wild-valued : (w : Wildcard) (x : Option (List ℕ)) (f : Frame) (fs : List Frame) (e : Entry) → DefaultNormal sig w → IsFine sig f.under e.terms → is_some (given sig f.under w e.terms) ≡ true → Obedient (said (child (wild_pattern w x) f fs) e)
+        → (v : Value) × HasValue sig s x v × WildTakes sig f.under w v e.terms
+    wild-valued w None f fs e d fine r o =
+        let g = some_from (given sig f.under w e.terms) r in
+        (g.0, given-final sig f.under w e.terms g.0 g.1 d fine, takes-given sig f.under w g.0 g.0 e.terms g.1 fine.in_order (refines-itself g.0))
+    wild-valued w (Some x) f fs e d fine r o = (o.0.final, o.0.held, takes-given sig f.under w o.0.value o.0.final e.terms o.0.is fine.in_order o.0.refines)
+
+    -- a table with the shape, whose takes s obeys, is a walk with the values of s
+    pub valued : (n : Next) (T : Table) → IsSoundAt DefaultHolds n → Accepts (choices sig) onward is_ended n T → Obedient (takes n T) → RunAt Values n T
+    valued = walked Values DefaultHolds (Obeys sig s) wild-valued

@@ -1,0 +1,10 @@
+pub mod Solve
+pub mod Frames
+pub mod Search
+pub mod Pieces
+pub mod Machine
+pub mod Sound
+pub mod OneList
+pub mod Trail
+pub mod Cursor
+pub mod Bounds

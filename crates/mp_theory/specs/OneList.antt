@@ -1,0 +1,33 @@
+-- The one-list, as the search finds it.
+use Rattle.std.specs.Prelude.{Bool, true, false, ◌&&◌, List, [], ◌∷◌, Option, Some, None, filter_map, option_and_then, if◌then◌else◌}
+use Rattle.mp_term.specs.Order.{tree_cmp}
+use Rattle.mp_term.specs.Tree.{Tree}
+use Rattle.mp_term.specs.Signature.{Sig}
+use Rattle.mp_pattern.specs.Value.{Value, one, seq, bag, Subst, same_name, same_terms}
+use Rattle.mp_pattern.specs.Fits.{Table}
+use Rattle.mp_pattern.specs.Admission.{Rule, meets}
+use Rattle.mp_pattern.specs.Firsts.{firsts_after}
+use Rattle.mp_theory.specs.Solve.{solve}
+use Rattle.mp_theory.specs.Frames.{settle, start}
+use Rattle.mp_theory.specs.Pieces.{same}
+use Rattle.mp_theory.specs.Machine.{takes, tables}
+
+abbrev pub same_value : Value → Value → Bool
+same_value (one t) (one u) = same tree_cmp t u
+same_value (seq ts) (seq us) = same_terms ts us
+same_value (bag ts) (bag us) = same_terms ts us
+same_value _ _ = false
+
+abbrev pub same_subst : Subst → Subst → Bool
+same_subst [] [] = true
+same_subst (b ∷ r) (c ∷ s) = same_name b.name c.name && (same_value b.value c.value && same_subst r s)
+same_subst _ _ = false
+
+module _ (sig : Sig) (r : Rule) (t : Tree) where
+  -- the substitution that solves the table's takes, where the condition holds of it
+  abbrev pub admitted : Table → Option Subst
+  admitted T = option_and_then (λ s. if meets sig r.condition s then Some s else None) (solve sig [] (takes (settle (start r.pattern t)) T))
+
+  -- of the tables in order, each substitution once
+  abbrev pub one_list : List Subst
+  one_list = firsts_after same_subst [] (filter_map admitted (tables sig r.pattern t))
