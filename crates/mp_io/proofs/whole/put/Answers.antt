@@ -1,0 +1,20 @@
+use Rattle.std.proofs.Common.{rules, arith, length, refl}
+use Rattle.mp_io.proofs.Pieces.{front_kept, slice_written}
+use Rattle.mp_io.proofs.whole.put.Goals as goal
+
+pub returns-in-Err : goal.returns-in-Err
+returns-in-Err g c =
+    let cause = c.in-Err.ensures.cause in
+    record {
+      whole = tt;
+      front = front_kept _ _ _ _ _ c.loop-rest.invariant.written c.in-Err.ensures.bytes;
+      cause = record { later = omega (arith, cause.later); failed = omega (arith, cause.failed) };
+    }
+
+pub loop-rest-preserved : goal.loop-rest-preserved
+loop-rest-preserved g c =
+    let cause = c.in-Ok.ensures.cause in
+    record {
+      written = slice_written _ _ _ _ _ _ _ c.loop-rest.invariant.written c.in-Ok.ensures.bytes refl;
+      faults = omega (arith, cause.later);
+    }

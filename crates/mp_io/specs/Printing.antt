@@ -1,0 +1,23 @@
+-- What the answer of a call that writes a text means.
+use Rattle.std.specs.Prelude.{◌≡◌, ℕ, ◌++◌, List, [], ◌∷◌, Option, Result, OnErr, OnOk}
+use Rattle.std.specs.Borrow.{Bor}
+use Rattle.std.specs.Io.KnownBytes.{Appends}
+use Rattle.mp_io.specs.Devices.{HasCause, Text}
+
+-- told contents grow by a front of the text
+pub record AppendsFront (old new : Option Text) (text : Text) : Type 0 where
+  pub front : Text
+  pub rest : Text
+  pub split : text ≡ front ++ rest
+  pub written : Appends old new front
+
+-- at `Ok` the whole text was appended; at `Err` a front of it, and the count of faults rose
+pub record Prints {T E : Type 0} (old new : Option Text) (before after : ℕ) (text : Text) (result : Result T E) : Type 0 where
+  pub whole : OnOk result (Appends old new text)
+  pub front : OnErr result (AppendsFront old new text)
+  pub cause : HasCause before after result
+
+-- the parts, one after another
+abbrev pub joined : List (Bor Text) → Text
+joined [] = []
+joined (part ∷ parts) = part.now ++ joined parts

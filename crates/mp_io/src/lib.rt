@@ -1,0 +1,15 @@
+//! Devices: a shelf that gives the bytes of named files and a sink that takes bytes, in memory and
+//! real, with counts of their faults; files read whole, and texts written whole.
+#![tactic(auto)]
+
+mod devices;
+mod memory_shelf;
+mod memory_sink;
+mod real;
+mod whole;
+
+pub use devices::{Failed, Memory, Shelf, Sink};
+pub use memory_shelf::MemoryShelf;
+pub use memory_sink::MemorySink;
+pub use real::{RealShelf, RealSink};
+pub use whole::{ReadFault, put, put_all, read_whole};
