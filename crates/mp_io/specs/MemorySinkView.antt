@@ -1,5 +1,5 @@
 -- A sink in memory, as its fields have it.
-use Rattle.std.specs.Prelude.{ℕ, ◌≤◌, length, vec_capacity}
+use Rattle.std.specs.Prelude.{◌≤◌, length, vec_capacity}
 use Rattle.mp_io.specs.MemorySink.{SinkState}
 use Rattle.mp_io.specs.declared.memory_sink.MemorySink.TheInside.{Inside}
 

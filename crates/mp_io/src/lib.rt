@@ -13,3 +13,6 @@ pub use memory_shelf::MemoryShelf;
 pub use memory_sink::MemorySink;
 pub use real::{RealShelf, RealSink};
 pub use whole::{ReadFault, put, put_all, read_whole};
+
+#[cfg(test)]
+mod tests;

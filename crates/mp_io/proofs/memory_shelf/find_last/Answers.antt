@@ -1,5 +1,5 @@
-use Rattle.std.proofs.Common.{arith, ◌∙◌, ◌<◌, ◌≡◌, length, sym, ap, Bool, true, false, subst, IfSome}
-use Rattle.std.specs.Prelude.{ℕ, Option, option_and_then, string_bytes}
+use Rattle.std.proofs.Common.{arith, ◌∙◌, ◌<◌, ◌≡◌, length, sym, ap, subst, IfSome}
+use Rattle.std.specs.Prelude.{option_and_then, string_bytes}
 use Rattle.std.specs.Str.{bytes_eq}
 use Rattle.mp_io.specs.MemoryShelfView.{bytes_at}
 use Rattle.mp_io.proofs.Held.{held_found, held_kept}

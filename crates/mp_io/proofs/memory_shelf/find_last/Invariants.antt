@@ -1,4 +1,4 @@
-use Rattle.std.proofs.Common.{◌≡◌, ◌<◌, ◌≤◌, length, take, IfSome}
+use Rattle.std.proofs.Common.{◌≡◌, ◌<◌, length, take, IfSome}
 use Rattle.std.specs.Prelude.{option_and_then}
 use Rattle.mp_io.specs.Devices.{held}
 use Rattle.mp_io.specs.MemoryShelfView.{bytes_at, entries_of}

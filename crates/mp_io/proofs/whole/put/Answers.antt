@@ -1,4 +1,4 @@
-use Rattle.std.proofs.Common.{rules, arith, length, refl}
+use Rattle.std.proofs.Common.{arith, refl}
 use Rattle.mp_io.proofs.Pieces.{front_kept, slice_written}
 use Rattle.mp_io.proofs.whole.put.Goals as goal
 
