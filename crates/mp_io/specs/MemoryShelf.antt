@@ -22,14 +22,14 @@ abbrev pub is_fault : ShelfState → Bool
 is_fault s = fails_at s.fails s.calls
 
 -- the bytes of the file that a start of this name finds
-abbrev pub found : ShelfState → Text → Option Text
-found s name = if is_fault s then None else held s.files name
+abbrev pub bytes_found : ShelfState → Text → Option Text
+bytes_found s name = if is_fault s then None else held s.files name
 
 -- after a start: what it found is started, with all its bytes left
 abbrev pub after_start : ShelfState → Text → ShelfState
 after_start s name = record s {
-  is_started = is_some (found s name);
-  rest = unwrap_or (found s name) [];
+  is_started = is_some (bytes_found s name);
+  rest = unwrap_or (bytes_found s name) [];
   given = 0;
   calls = saturating_add s.calls 1;
   start_faults = count_faults (is_fault s) s.start_faults;

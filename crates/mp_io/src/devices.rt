@@ -69,7 +69,7 @@ pub trait Shelf {
         ensures files { files self.new ≡ files self.old }
         ensures started { is_started self.new ≡ true }
 
-        // what was given
+        // what was given: the next bytes, and none into room only at the end
         ensures bound { ReadsAtMost result room.new }
         ensures bytes { ReadConsumes (rest self.old) (rest self.new) result room.new }
         ensures given { MatchResult result (λ count. given self.new ≡ saturating_add (given self.old) count) (λ _. given self.new ≡ given self.old) }

@@ -1,26 +1,27 @@
 // A shelf of files in memory, whose calls fail at the numbers that it was made with.
-ghost use Rattle.std.specs.Prelude.{◌≡◌, ◌⊎◌, ◌<◌, ◌≤◌, ◌+◌, ◌++◌, ◌∷◌, not, min, true, false, List, [], Option, Some, length, take, OnOk, OnErr, IfOk, IfSome, IsErr, is_ok, is_some, MatchResult, option_and_then, if◌then◌else◌, string_bytes};
+ghost use Rattle.std.specs.Prelude.{◌≡◌, ◌⊎◌, ◌<◌, ◌≤◌, ◌+◌, ◌++◌, ◌∷◌, not, min, true, false, [], Option, Some, length, take, OnOk, OnErr, IfOk, IfSome, IsErr, is_ok, is_some, MatchResult, option_and_then, if◌then◌else◌, string_bytes};
 ghost use Rattle.std.specs.Io.{ReadsAtMost};
 ghost use Rattle.std.specs.Io.KnownBytes.{ReadConsumes};
 ghost use Rattle.std.specs.Str.{bytes_eq};
-ghost use Rattle.mp_io.specs.Devices.{Files, HasCause, HasRead, IsMissing, Rose, Text, held, saturating_add};
-ghost use Rattle.mp_io.specs.MemoryShelf.{after_read, after_start, count_given, found, is_fault};
+ghost use Rattle.mp_io.specs.Devices.{HasCause, HasRead, IsMissing, Rose, Text, held, saturating_add};
+ghost use Rattle.mp_io.specs.MemoryShelf.{after_read, after_start, bytes_found, count_given, is_fault};
+ghost use Rattle.mp_io.specs.MemoryShelfView.{IsInPlace, bytes_at, entries_of, rest_at};
 
 use crate::{Failed, Memory, Shelf};
 use std::alloc::{AllocError, Global};
 use std::marker::Model;
 
 #[derive(Drop)]
-pub(crate) struct HeldFile {
-    pub(crate) name: String,
-    pub(crate) bytes: Vec<u8>,
+struct HeldFile {
+    name: String,
+    bytes: Vec<u8>,
 }
 
 // The index of a file, and how many of its bytes were given.
 #[derive(Clone, Copy)]
-pub(crate) struct Place {
-    pub(crate) index: usize,
-    pub(crate) at: usize,
+struct Place {
+    index: usize,
+    at: usize,
 }
 
 /// Files that are held in memory, and told.
@@ -50,8 +51,6 @@ impl Model for MemoryShelf {
 
     ghost invariant = { IsShelf };
 }
-
-ghost use Rattle.mp_io.specs.MemoryShelfView.{IsInPlace, bytes_at, entries_of, rest_at};
 
 // The index of the file that counts for a name: the last one of that name.
 fn find_last(files: &[HeldFile], name: &str) -> Option<usize>
@@ -174,7 +173,7 @@ impl Shelf for MemoryShelf {
 
         // exactly
         ensures after { self.new ≡ after_start self.old name.now }
-        ensures answer { is_ok result ≡ is_some (found self.old name.now) }
+        ensures answer { is_ok result ≡ is_some (bytes_found self.old name.now) }
     {
         let fault = self.fails.contains(&self.calls);
         self.calls = self.calls.saturating_add(1);

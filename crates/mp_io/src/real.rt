@@ -1,5 +1,5 @@
 // The system's files and streams as devices. They tell no bytes: what they pass on is trusted.
-ghost use Rattle.std.specs.Prelude.{◌≡◌, ◌⊎◌, ◌<◌, ◌≤◌, ℕ, Bool, true, false, not, List, Option, None, Ok, length, OnErr, OnOk, IfOk, IsErr, [], is_ok, MatchResult};
+ghost use Rattle.std.specs.Prelude.{◌≡◌, ◌⊎◌, ◌<◌, ◌≤◌, ℕ, true, false, not, None, Ok, length, OnErr, OnOk, IfOk, IsErr, IsOk, [], codes, is_ok, MatchResult};
 ghost use Rattle.std.specs.Io.{ReadsAtMost, WritesAtMost};
 ghost use Rattle.std.specs.Io.KnownBytes.{ReadConsumes, WriteAppends};
 ghost use Rattle.mp_io.specs.Devices.{Files, HasCause, HasRead, IsMissing, Rose, count_faults, saturating_add};
@@ -11,7 +11,7 @@ use std::marker::Model;
 use std::rt::Files;
 
 #[derive(Drop)]
-pub(crate) enum Started<F, I> {
+enum Started<F, I> {
     Nothing,
     Named(F),
     Standard(I),
@@ -73,7 +73,8 @@ impl<'a, R: Files + Input> Shelf for RealShelf<'a, R> {
 
     /// Opens the file of this path, or standard input for `-`.
     ///
-    /// `Failed`: exactly where the system doesn't open the file, which is a fault.
+    /// `Failed`: exactly where the system doesn't open the file, which is a fault. Standard input never
+    /// fails to start.
     fn start(&mut self, name: &str) -> Result<(), Failed>
         ensures started { self.new.is_started ≡ is_ok result }
         ensures rest { OnOk result (HasRead None name.now [] None) }
@@ -85,6 +86,7 @@ impl<'a, R: Files + Input> Shelf for RealShelf<'a, R> {
         ensures read_faults { self.old.read_faults ≤ self.new.read_faults }
 
         // exactly
+        ensures standard { name.now ≡ codes "-" → IsOk result }
         ensures after { self.new ≡ record self.old { is_started = is_ok result; given = 0; start_faults = count_faults (not (is_ok result)) self.old.start_faults } }
     {
         self.started = Started::Nothing;
@@ -125,7 +127,7 @@ impl<'a, R: Files + Input> Shelf for RealShelf<'a, R> {
         let answer = match &mut self.started {
             Started::Named(file) => file.read(room),
             Started::Standard(input) => input.read(room),
-            Started::Nothing => Ok(0),
+            Started::Nothing => unreachable!(),
         };
         match answer {
             Ok(count) => {
