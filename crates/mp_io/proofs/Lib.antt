@@ -1,3 +1,4 @@
+mod DevicesExamples
 pub mod Held
 pub mod Written
 pub mod Pieces

@@ -6,6 +6,7 @@ ghost use Rattle.mp_io.specs.Devices.{Files, HasCause, HasRead, IsMissing, Rose,
 
 use crate::{Failed, Shelf, Sink};
 use std::fs::File;
+use std::io;
 use std::io::{Read, Write};
 use std::marker::Model;
 use std::rt::Files;
@@ -166,6 +167,18 @@ impl<W: Write + Drop> RealSink<W> {
     }
 }
 
+// What a write answers: the bytes that the writer took, where it took one and was flushed after it.
+fn write_answer(taken: io::Result<usize>, flushed: io::Result<()>) -> Result<usize, Failed>
+    ensures taken { IfOk result (λ count. (taken ≡ Ok count) × (0 < count)) }
+    ensures flushed { IsOk result → IsOk flushed }
+    ensures succeeds { IsOk flushed → IfOk taken (λ count. 0 < count → result ≡ Ok count) }
+{
+    match taken {
+        Ok(count) if count > 0 && flushed.is_ok() => Ok(count),
+        _ => Err(Failed),
+    }
+}
+
 impl<W: Write + Drop> Sink for RealSink<W> {
     ghost contents = { λ _. None };
 
@@ -188,12 +201,12 @@ impl<W: Write + Drop> Sink for RealSink<W> {
         if piece.is_empty() {
             return Ok(0);
         }
-        match self.writer.write(piece) {
-            Ok(count) if count > 0 && self.writer.flush().is_ok() => Ok(count),
-            _ => {
-                self.faults = self.faults.saturating_add(1);
-                Err(Failed)
-            }
+        let taken = self.writer.write(piece);
+        let flushed = self.writer.flush();
+        let answer = write_answer(taken, flushed);
+        if answer.is_err() {
+            self.faults = self.faults.saturating_add(1);
         }
+        answer
     }
 }
