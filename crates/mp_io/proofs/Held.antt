@@ -16,42 +16,49 @@ use Rattle.std.specs.Global.{Global}
 use Rattle.mp_io.specs.declared.memory_shelf.HeldFile.{HeldFile}
 use Rattle.mp_io.specs.declared.memory_shelf.Place.{Place}
 
-abbrev chosen : Bool → Text → Option Text → Option Text
-chosen is bytes before = if is then Some bytes else before
+-- these bytes where the test holds, else those before
+abbrev bytes_or : Bool → Text → Option Text → Option Text
+bytes_or is bytes before = if is then Some bytes else before
 
-last_or : (is : Bool) (bytes : Text) (before here : Option Text) → option_or (chosen is bytes before) here ≡ chosen is bytes (option_or before here)
-last_or true bytes before here = refl
-last_or false bytes before here = refl
+-- a choice within an `option_or` is a choice of all of it
+option_or-bytes_or : (is : Bool) (bytes : Text) (before here : Option Text) → option_or (bytes_or is bytes before) here ≡ bytes_or is bytes (option_or before here)
+option_or-bytes_or true bytes before here = refl
+option_or-bytes_or false bytes before here = refl
 
-pub held_push : (files : Files) (file : Text × Text) (name : Text) → held (files ++ file ∷ []) name ≡ chosen (bytes_eq file.0 name) file.1 (held files name)
-held_push [] file name = go (bytes_eq file.0 name)
+-- a file at the end takes the place of an older one of its name
+pub held-append : (files : Files) (file : Text × Text) (name : Text) → held (files ++ file ∷ []) name ≡ bytes_or (bytes_eq file.0 name) file.1 (held files name)
+held-append [] file name = go (bytes_eq file.0 name)
   where
-    go : (is : Bool) → option_or None (chosen is file.1 None) ≡ chosen is file.1 None
+    go : (is : Bool) → option_or None (bytes_or is file.1 None) ≡ bytes_or is file.1 None
     go true = refl
     go false = refl
-held_push (first ∷ later) file name =
-    ap (λ o. option_or o (if bytes_eq first.0 name then Some first.1 else None)) (held_push later file name)
-    ∙ last_or (bytes_eq file.0 name) file.1 (held later name) (if bytes_eq first.0 name then Some first.1 else None)
+held-append (first ∷ later) file name =
+    ap (λ o. option_or o (if bytes_eq first.0 name then Some first.1 else None)) (held-append later file name)
+    ∙ option_or-bytes_or (bytes_eq file.0 name) file.1 (held later name) (if bytes_eq first.0 name then Some first.1 else None)
 
-held_more : (files : List HeldFile) (i : ℕ) (file : HeldFile) (name : Text) → i < length files → file ≡ get_or files i file
-    → held (entries_of (take (i + 1) files)) name ≡ chosen (bytes_eq (string_bytes file.name) name) file.bytes.items (held (entries_of (take i files)) name)
-held_more files i file name h is =
+-- the files up to the next one
+held-take_more : (files : List HeldFile) (i : ℕ) (file : HeldFile) (name : Text) → i < length files → file ≡ get_or files i file
+    → held (entries_of (take (i + 1) files)) name ≡ bytes_or (bytes_eq (string_bytes file.name) name) file.bytes.items (held (entries_of (take i files)) name)
+held-take_more files i file name h is =
     ap (λ l. held (entries_of l) name) (take_more files i file h ∙ ap (λ x. take i files ++ x ∷ []) (sym is))
     ∙ ap (λ l. held l name) (map-append entry_of (take i files) (file ∷ []))
-    ∙ held_push (entries_of (take i files)) (entry_of file) name
+    ∙ held-append (entries_of (take i files)) (entry_of file) name
 
-pub held_found : (files : List HeldFile) (i : ℕ) (file : HeldFile) (name : Text) → i < length files → file ≡ get_or files i file → bytes_eq (string_bytes file.name) name ≡ true
+-- the next file has the name
+pub held-take_found : (files : List HeldFile) (i : ℕ) (file : HeldFile) (name : Text) → i < length files → file ≡ get_or files i file → bytes_eq (string_bytes file.name) name ≡ true
     → held (entries_of (take (i + 1) files)) name ≡ bytes_at files i
-held_found files i file name h is same =
-    held_more files i file name h is
-    ∙ ap (λ b. chosen b file.bytes.items (held (entries_of (take i files)) name)) same
+held-take_found files i file name h is same =
+    held-take_more files i file name h is
+    ∙ ap (λ b. bytes_or b file.bytes.items (held (entries_of (take i files)) name)) same
     ∙ sym (ap (option_map (λ (f : HeldFile). f.bytes.items)) (slice_get_read files _ i file refl h is))
 
-pub held_kept : (files : List HeldFile) (i : ℕ) (file : HeldFile) (name : Text) → i < length files → file ≡ get_or files i file → bytes_eq (string_bytes file.name) name ≡ false
+-- the next file has another name
+pub held-take_kept : (files : List HeldFile) (i : ℕ) (file : HeldFile) (name : Text) → i < length files → file ≡ get_or files i file → bytes_eq (string_bytes file.name) name ≡ false
     → held (entries_of (take (i + 1) files)) name ≡ held (entries_of (take i files)) name
-held_kept files i file name h is other =
-    held_more files i file name h is ∙ ap (λ b. chosen b file.bytes.items (held (entries_of (take i files)) name)) other
+held-take_kept files i file name h is other =
+    held-take_more files i file name h is ∙ ap (λ b. bytes_or b file.bytes.items (held (entries_of (take i files)) name)) other
 
+-- a file that is pushed leaves the others at their indices
 slice_get-push : (files : List HeldFile) (file x : HeldFile) (i : ℕ) → slice_get files i ≡ Some x → slice_get (files ++ file ∷ []) i ≡ Some x
 slice_get-push files file x i e =
     let h : i < length files = slice_get_within files i x e in
@@ -66,11 +73,13 @@ slice_get-kept files file place h = go (slice_get files place.index) refl h
     go None e k = absurd k
     go (Some x) e k = slice_get-push files file x place.index e ∙ sym e
 
+-- a file that is pushed leaves what is left of the started one
 rest_at-push : (files : List HeldFile) (file : HeldFile) (place : Option Place) → IsInPlace files place → rest_at (files ++ file ∷ []) place ≡ rest_at files place
 rest_at-push files file None h = refl
 rest_at-push files file (Some place) h =
     ap (λ o. option_map_or (λ (f : HeldFile). drop place.at f.bytes.items) o []) (slice_get-kept files file place h)
 
+-- a file that is pushed is held, and nothing else changes
 pub shelf_state-push : (s : Inside) (old : ShelfState) (new : Vec HeldFile Global) (file : HeldFile) (name bytes : Text)
     → shelf_state s ≡ old → IsShelf s → new.items ≡ s.files.items ++ file ∷ [] → (string_bytes file.name ≡ name) × (file.bytes.items ≡ bytes)
     → shelf_state (record s { files = new }) ≡ record old { files = old.files ++ (name, bytes) ∷ [] }

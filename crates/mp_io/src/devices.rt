@@ -52,7 +52,8 @@ pub trait Shelf {
 
         // when it fails
         ensures missing { IsMissing (files self.old) name.now → IsErr result }
-        ensures cause { OnErr result (Rose (start_faults self.old) (start_faults self.new) ⊎ IsMissing (files self.old) name.now) }
+        ensures cause { OnErr result
+            (Rose (start_faults self.old) (start_faults self.new) ⊎ IsMissing (files self.old) name.now) }
 
         // the counts
         ensures reads { reads self.new ≡ reads self.old }
@@ -72,7 +73,9 @@ pub trait Shelf {
         // what was given: the next bytes, and none into room only at the end
         ensures bound { ReadsAtMost result room.new }
         ensures bytes { ReadConsumes (rest self.old) (rest self.new) result room.new }
-        ensures given { MatchResult result (λ count. given self.new ≡ saturating_add (given self.old) count) (λ _. given self.new ≡ given self.old) }
+        ensures given { MatchResult result
+            (λ count. given self.new ≡ saturating_add (given self.old) count)
+            (λ _. given self.new ≡ given self.old) }
 
         // when it fails, and the counts
         ensures cause { HasCause (read_faults self.old) (read_faults self.new) result }

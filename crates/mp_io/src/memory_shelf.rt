@@ -68,7 +68,8 @@ fn find_last(files: &[HeldFile], name: &str) -> Option<usize>
 
 // A file of this name with these bytes, copied.
 fn make_file(alloc: Global, name: &str, bytes: &[u8]) -> Result<HeldFile, AllocError>
-    ensures { IfOk result (λ file. (string_bytes file.name ≡ name.now) × (file.bytes.items ≡ bytes.now)) }
+    ensures { IfOk result (λ file.
+        (string_bytes file.name ≡ name.now) × (file.bytes.items ≡ bytes.now)) }
 {
     Ok(HeldFile {
         name: String::from_str(alloc, name)?,
@@ -98,7 +99,17 @@ impl MemoryShelf {
     /// A shelf with no file, of whose calls of `start` and `read`, numbered together from 0, those
     /// with the numbers in `fails` are faults. It takes no memory.
     pub fn new(alloc: Global, fails: Vec<u64>) -> MemoryShelf
-        ensures { result ≡ record { files = []; is_started = false; rest = []; given = 0; calls = 0; fails = fails.items; reads = 0; start_faults = 0; read_faults = 0 } }
+        ensures { result ≡ record {
+          files = [];
+          is_started = false;
+          rest = [];
+          given = 0;
+          calls = 0;
+          fails = fails.items;
+          reads = 0;
+          start_faults = 0;
+          read_faults = 0;
+        } }
     {
         MemoryShelf {
             alloc,
@@ -117,8 +128,10 @@ impl MemoryShelf {
     ///
     /// `Memory`: there was no memory for the copy, and the shelf is as it was.
     pub fn add(&mut self, name: &str, bytes: &[u8]) -> Result<(), Memory>
-        ensures ok { OnOk result (self.new ≡ record self.old { files = self.old.files ++ (name.now, bytes.now) ∷ [] }) }
-        ensures held { OnOk result ((other : Text) → held self.new.files other ≡ (if bytes_eq name.now other then Some bytes.now else held self.old.files other)) }
+        ensures ok { OnOk result
+            (self.new ≡ record self.old { files = self.old.files ++ (name.now, bytes.now) ∷ [] }) }
+        ensures held { OnOk result ((other : Text) → held self.new.files other
+            ≡ (if bytes_eq name.now other then Some bytes.now else held self.old.files other)) }
         ensures err { OnErr result (self.new ≡ self.old) }
     {
         let alloc = self.alloc;
@@ -166,7 +179,8 @@ impl Shelf for MemoryShelf {
         ensures rest { OnOk result (HasRead (Some self.old.files) name.now [] (Some self.new.rest)) }
         ensures given { self.new.given ≡ 0 }
         ensures missing { IsMissing (Some self.old.files) name.now → IsErr result }
-        ensures cause { OnErr result (Rose self.old.start_faults self.new.start_faults ⊎ IsMissing (Some self.old.files) name.now) }
+        ensures cause { OnErr result
+            (Rose self.old.start_faults self.new.start_faults ⊎ IsMissing (Some self.old.files) name.now) }
         ensures reads { self.new.reads ≡ self.old.reads }
         ensures start_faults { self.old.start_faults ≤ self.new.start_faults }
         ensures read_faults { self.old.read_faults ≤ self.new.read_faults }
@@ -200,7 +214,9 @@ impl Shelf for MemoryShelf {
         ensures started { self.new.is_started ≡ true }
         ensures bound { ReadsAtMost result room.new }
         ensures bytes { ReadConsumes (Some self.old.rest) (Some self.new.rest) result room.new }
-        ensures given { MatchResult result (λ count. self.new.given ≡ saturating_add self.old.given count) (λ _. self.new.given ≡ self.old.given) }
+        ensures given { MatchResult result
+            (λ count. self.new.given ≡ saturating_add self.old.given count)
+            (λ _. self.new.given ≡ self.old.given) }
         ensures cause { HasCause self.old.read_faults self.new.read_faults result }
         ensures reads { self.new.reads ≡ saturating_add self.old.reads 1 }
         ensures start_faults { self.old.start_faults ≤ self.new.start_faults }

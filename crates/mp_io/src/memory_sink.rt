@@ -40,7 +40,13 @@ impl MemorySink {
     ///
     /// `Memory`: there was no memory for the room.
     pub fn new(alloc: Global, room: usize, fails: Vec<u64>) -> Result<MemorySink, Memory>
-        ensures { IfOk result (λ sink. sink ≡ record { content = []; room = room; writes = 0; fails = fails.items; faults = 0 }) }
+        ensures { IfOk result (λ sink. sink ≡ record {
+          content = [];
+          room = room;
+          writes = 0;
+          fails = fails.items;
+          faults = 0;
+        }) }
     {
         match Vec::with_capacity(alloc, room) {
             Ok(bytes) => Ok(MemorySink {

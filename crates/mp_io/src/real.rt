@@ -38,13 +38,25 @@ impl<'a, R: Files + Input> Model for RealShelf<'a, R> {
 
     ghost use Rattle.mp_io.specs.RealShelfView.{is_open};
 
-    ghost view = { λ s. record { is_started = is_open s.started; given = s.given; reads = s.reads; start_faults = s.start_faults; read_faults = s.read_faults } };
+    ghost view = { λ s. record {
+      is_started = is_open s.started;
+      given = s.given;
+      reads = s.reads;
+      start_faults = s.start_faults;
+      read_faults = s.read_faults;
+    } };
 }
 
 impl<'a, R: Files + Input> RealShelf<'a, R> {
     /// The shelf of the runtime's files, of which none is started and none was at fault.
     pub fn new(rt: &'a R) -> RealShelf<'a, R>
-        ensures { result ≡ record { is_started = false; given = 0; reads = 0; start_faults = 0; read_faults = 0 } }
+        ensures { result ≡ record {
+          is_started = false;
+          given = 0;
+          reads = 0;
+          start_faults = 0;
+          read_faults = 0;
+        } }
     {
         RealShelf {
             rt,
@@ -81,14 +93,19 @@ impl<'a, R: Files + Input> Shelf for RealShelf<'a, R> {
         ensures rest { OnOk result (HasRead None name.now [] None) }
         ensures given { self.new.given ≡ 0 }
         ensures missing { IsMissing None name.now → IsErr result }
-        ensures cause { OnErr result (Rose self.old.start_faults self.new.start_faults ⊎ IsMissing None name.now) }
+        ensures cause { OnErr result
+            (Rose self.old.start_faults self.new.start_faults ⊎ IsMissing None name.now) }
         ensures reads { self.new.reads ≡ self.old.reads }
         ensures start_faults { self.old.start_faults ≤ self.new.start_faults }
         ensures read_faults { self.old.read_faults ≤ self.new.read_faults }
 
         // exactly
         ensures standard { name.now ≡ codes "-" → IsOk result }
-        ensures after { self.new ≡ record self.old { is_started = is_ok result; given = 0; start_faults = count_faults (not (is_ok result)) self.old.start_faults } }
+        ensures after { self.new ≡ record self.old {
+          is_started = is_ok result;
+          given = 0;
+          start_faults = count_faults (not (is_ok result)) self.old.start_faults;
+        } }
     {
         self.started = Started::Nothing;
         self.given = 0;
@@ -116,13 +133,19 @@ impl<'a, R: Files + Input> Shelf for RealShelf<'a, R> {
         ensures started { self.new.is_started ≡ true }
         ensures bound { ReadsAtMost result room.new }
         ensures bytes { ReadConsumes None None result room.new }
-        ensures given { MatchResult result (λ count. self.new.given ≡ saturating_add self.old.given count) (λ _. self.new.given ≡ self.old.given) }
+        ensures given { MatchResult result
+            (λ count. self.new.given ≡ saturating_add self.old.given count)
+            (λ _. self.new.given ≡ self.old.given) }
         ensures cause { HasCause self.old.read_faults self.new.read_faults result }
         ensures reads { self.new.reads ≡ saturating_add self.old.reads 1 }
         ensures start_faults { self.old.start_faults ≤ self.new.start_faults }
 
         // exactly
-        ensures after { self.new ≡ record self.old { given = self.new.given; reads = self.new.reads; read_faults = count_faults (not (is_ok result)) self.old.read_faults } }
+        ensures after { self.new ≡ record self.old {
+          given = self.new.given;
+          reads = self.new.reads;
+          read_faults = count_faults (not (is_ok result)) self.old.read_faults;
+        } }
     {
         self.reads = self.reads.saturating_add(1);
         let answer = match &mut self.started {

@@ -29,8 +29,8 @@ pub enum ReadFault {
 /// It makes at most `limit + 2` reads. No answer changes the shelf's files; which file is started
 /// after it isn't said.
 ///
-/// - `Start`: only where the count of starts rose, or the files are told and none has the name; then
-///   no other answer comes.
+/// - `Start`: only where the count of starts rose, or the files are told and none has the name, which
+///   always gets this answer.
 /// - `Read`: only where the count of reads rose.
 /// - `TooLong`: exactly where the file gave more than `limit` bytes; where the files are told, only
 ///   where the name has more than `limit`, and then the answer is no `Ok`.
@@ -49,12 +49,15 @@ pub fn read_whole<S: Shelf>(
     ensures limit { IfOk result (λ bytes. length bytes.items ≤ limit) }
 
     // each refusal
-    ensures start { IsErrOf result ReadFault.Start → Rose (S.start_faults shelf.old) (S.start_faults shelf.new) ⊎ IsMissing (S.files shelf.old) name.now }
+    ensures start { IsErrOf result ReadFault.Start
+        → Rose (S.start_faults shelf.old) (S.start_faults shelf.new) ⊎ IsMissing (S.files shelf.old) name.now }
     ensures missing { IsMissing (S.files shelf.old) name.now → IsErrOf result ReadFault.Start }
-    ensures read { IsErrOf result ReadFault.Read → Rose (S.read_faults shelf.old) (S.read_faults shelf.new) }
+    ensures read { IsErrOf result ReadFault.Read
+        → Rose (S.read_faults shelf.old) (S.read_faults shelf.new) }
     ensures too_long { IsErrOf result ReadFault.TooLong ↔ (limit < S.given shelf.new) }
     ensures only_longer { IsErrOf result ReadFault.TooLong → IsLonger (S.files shelf.old) name.now limit }
-    ensures longer { IfSome (S.files shelf.old) (λ files. IfSome (held files name.now) (λ bytes. limit < length bytes → IsErr result)) }
+    ensures longer { IfSome (S.files shelf.old) (λ files.
+        IfSome (held files name.now) (λ bytes. limit < length bytes → IsErr result)) }
 
     // the shelf after it
     ensures files { S.files shelf.new ≡ S.files shelf.old }
@@ -89,7 +92,8 @@ pub fn read_whole<S: Shelf>(
 /// `Failed`: the sink's count of faults rose, and a front of the piece was appended. The contract is
 /// `Prints` of `specs/Printing.antt`.
 pub fn put<K: Sink>(sink: &mut K, piece: &[u8]) -> Result<(), Failed>
-    ensures { Prints (K.contents sink.old) (K.contents sink.new) (K.faults sink.old) (K.faults sink.new) piece.now result }
+    ensures { Prints (K.contents sink.old) (K.contents sink.new)
+        (K.faults sink.old) (K.faults sink.new) piece.now result }
 {
     let mut rest = piece;
     while !rest.is_empty() {
@@ -106,7 +110,8 @@ pub fn put<K: Sink>(sink: &mut K, piece: &[u8]) -> Result<(), Failed>
 /// `Failed`: the sink's count of faults rose, and a front of the joined parts was appended. The
 /// contract is `Prints` of `specs/Printing.antt`, over the text `joined`.
 pub fn put_all<K: Sink>(sink: &mut K, parts: &[&[u8]]) -> Result<(), Failed>
-    ensures { Prints (K.contents sink.old) (K.contents sink.new) (K.faults sink.old) (K.faults sink.new) (joined parts.now) result }
+    ensures { Prints (K.contents sink.old) (K.contents sink.new)
+        (K.faults sink.old) (K.faults sink.new) (joined parts.now) result }
 {
     for part in parts {
         match put(sink, part) {
