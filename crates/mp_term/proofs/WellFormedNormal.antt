@@ -4,7 +4,7 @@ use Rattle.std.specs.Prelude.{nat_eq, nat_le, if◌then◌else◌, Option, Some,
 use Rattle.std.proofs.Common.{eqb-true}
 use Rattle.std.proofs.lemmas.Bool.{leb-true}
 use Rattle.std.proofs.lemmas.Bool.Decides.{nat_tests}
-use Rattle.mp_term.specs.declared.term.OpDecl.{OpDecl}
+use Rattle.mp_term.specs.declared.signature.OpDecl.{OpDecl}
 use Rattle.mp_term.specs.Tree.{Tree, symbol, app, Trees, no_trees, more_trees, tree_list, trees}
 use Rattle.mp_term.specs.TreeLists.{tree_list-trees, trees-tree_list}
 use Rattle.mp_term.specs.Order.{tree_cmp}

@@ -1,9 +1,22 @@
-//! Terms over a signature.
+//! Terms over a signature: the term order, the normal form, positions and edits.
 #![tactic(auto)]
 
+mod edit;
+mod memory;
+mod name;
+mod normal;
+mod order;
+mod position;
+mod sign;
+mod signature;
 mod term;
 
-pub use term::{
-    KindId, Memory, Name, NameFault, OpDecl, OpId, Sign, Signature, Term, Terms, compare, copy_term,
-    is_normal, node_count, normalise, well_formed,
-};
+pub use edit::{Edit, Edits};
+pub use memory::Memory;
+pub use name::{Name, NameFault, Names};
+pub use normal::{is_normal, normalise};
+pub use order::compare;
+pub use position::Position;
+pub use sign::Sign;
+pub use signature::{KindId, OpDecl, SigFault, Signature, well_formed};
+pub use term::{OpId, Term, Terms, at, copy_term, depth, node_count};

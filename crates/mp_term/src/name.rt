@@ -1,0 +1,202 @@
+// Names of symbols, operations, kinds and variables, and lists of them.
+ghost use Rattle.std.specs.Prelude.{◌≡◌, [], ◌∷◌, ◌++◌, length, slice_get, option_map, bytes_eq, OnOk, OnErr, IfOk, Err, Some, true, false, refl, ◌↔◌};
+ghost use Rattle.std.specs.Ordering.{is_eq, nat_cmp, eq_by_cmp};
+ghost use Rattle.std.specs.Cmp.{partial_equiv_from_equiv, po, eq_by_cmp_equiv};
+ghost use Rattle.std.specs.Cmp.Lexicographic.{slice_cmp};
+ghost use Rattle.std.proofs.lemmas.Cmp.{nat_list_cmp_total};
+ghost use Rattle.std.specs.List.{list_any};
+ghost use Rattle.mp_term.specs.Names.{is_name, is_name_byte, name_set};
+
+use crate::memory::Memory;
+use std::alloc::Global;
+use std::cmp::Ordering;
+use std::marker::Model;
+
+/// A name: 1 to 64 ASCII letters and digits. Contracts see its bytes. Names compare by their bytes.
+#[derive(Drop)]
+pub struct Name {
+    bytes: Vec<u8>,
+}
+
+impl Model for Name {
+    ghost use Rattle.std.specs.Prelude.{ℕ, List};
+    ghost use Rattle.std.specs.Prelude.{◌≡◌, true};
+    ghost use Rattle.mp_term.specs.Names.{is_name};
+
+    ghost Value = { List ℕ };
+
+    ghost view = { λ n. n.bytes.items };
+
+    ghost invariant = { λ n. is_name n.bytes.items ≡ true };
+}
+
+/// Why bytes make no name, or no sign.
+#[derive(Debug, Drop)]
+pub enum NameFault {
+    /// The bytes aren't so spelt.
+    Spelling,
+    /// There was no memory for a copy of them.
+    Memory,
+}
+
+// The byte is an ASCII letter or digit.
+fn is_name_byte(byte: u8) -> bool
+    ensures { result ≡ is_name_byte byte }
+{
+    byte.is_ascii_alphanumeric()
+}
+
+// The bytes are the spelling of a name.
+fn is_name(bytes: &[u8]) -> bool
+    ensures { result ≡ is_name bytes.now }
+{
+    if bytes.is_empty() || 64 < bytes.len() {
+        return false;
+    }
+    for byte in bytes {
+        if !is_name_byte(*byte) {
+            return false;
+        }
+    }
+    true
+}
+
+impl Name {
+    /// The name that is spelt by the bytes, which are copied (`is_name` of specs/Names.antt).
+    /// `Spelling` comes exactly where they are no name, `Memory` where there is no room for the copy.
+    pub fn new(alloc: Global, bytes: &[u8]) -> Result<Name, NameFault>
+        ensures ok { IfOk result (λ n. n ≡ bytes.now) }
+        ensures spelling { (result ≡ Err NameFault.Spelling) ↔ (is_name bytes.now ≡ false) }
+    {
+        if !is_name(bytes) {
+            return Err(NameFault::Spelling);
+        }
+        let mut copy = Vec::new(alloc);
+        match copy.extend_from_slice(bytes) {
+            Ok(()) => Ok(Name { bytes: copy }),
+            Err(_) => Err(NameFault::Memory),
+        }
+    }
+
+    /// The bytes of the name, which are the spelling of one.
+    pub fn bytes(&self) -> &[u8]
+        ensures bytes { result.now ≡ self.now }
+        ensures name { is_name result.now ≡ true }
+    {
+        &self.bytes
+    }
+
+    // An equal name.
+    pub(crate) fn copy(&self, alloc: Global) -> Result<Name, Memory>
+        ensures { IfOk result (λ n. n ≡ self.now) }
+    {
+        let mut bytes = Vec::new(alloc);
+        match bytes.extend_from_slice(&self.bytes) {
+            Ok(()) => Ok(Name { bytes }),
+            Err(_) => Err(Memory),
+        }
+    }
+}
+
+impl PartialEq for Name {
+    ghost eq = { λ a b. is_eq (slice_cmp nat_cmp a b) };
+
+    ghost laws = { partial_equiv_from_equiv (eq_by_cmp_equiv nat_list_cmp_total) };
+
+    fn eq(&self, other: &Name) -> bool {
+        self.cmp(other).is_eq()
+    }
+}
+
+impl Eq for Name {
+    ghost laws = { eq_by_cmp_equiv nat_list_cmp_total };
+}
+
+impl PartialOrd for Name {
+    ghost partial_cmp = { λ a b. Some (slice_cmp nat_cmp a b) };
+
+    ghost laws = { po nat_list_cmp_total (λ _ _. refl) };
+
+    fn partial_cmp(&self, other: &Name) -> Option<Ordering> {
+        Some(self.cmp(other))
+    }
+}
+
+impl Ord for Name {
+    ghost cmp = { slice_cmp nat_cmp };
+
+    ghost total = { nat_list_cmp_total };
+
+    ghost matches_partial_cmp = { λ _ _. refl };
+
+    ghost matches_eq = { λ _ _. refl };
+
+    fn cmp(&self, other: &Name) -> Ordering {
+        self.bytes.cmp(&other.bytes)
+    }
+}
+
+/// A list of names. Contracts see the list of their bytes.
+#[derive(Drop)]
+pub struct Names {
+    pub(crate) items: Vec<Name>,
+}
+
+impl Model for Names {
+    ghost use Rattle.std.specs.Prelude.{ℕ, List};
+
+    ghost Value = { List (List ℕ) };
+
+    ghost view = { λ ns. ns.items.items };
+}
+
+impl Names {
+    /// The empty list, which takes no memory.
+    pub fn new(alloc: Global) -> Self
+        ensures { result ≡ [] }
+    {
+        Names {
+            items: Vec::new(alloc),
+        }
+    }
+
+    /// Adds a name at the end. At `Memory` the list is as before, and the name is dropped.
+    pub fn push(&mut self, item: Name) -> Result<(), Memory>
+        ensures ok { OnOk result (self.new ≡ self.old ++ item ∷ []) }
+        ensures err { OnErr result (self.new ≡ self.old) }
+    {
+        match self.items.push(item) {
+            Ok(()) => Ok(()),
+            Err(_) => Err(Memory),
+        }
+    }
+
+    /// The number of names.
+    pub fn len(&self) -> usize
+        ensures { result ≡ length self.now }
+    {
+        self.items.len()
+    }
+
+    /// The name at an index from 0, and None exactly where the index isn't below the length.
+    pub fn get(&self, index: usize) -> Option<&Name>
+        ensures { slice_get self.now index ≡ option_map (λ n. n.now) result }
+    {
+        self.items.get(index)
+    }
+
+    // The name of these bytes is in the list.
+    pub(crate) fn contains(&self, bytes: &[u8]) -> bool
+        ensures { result ≡ list_any (bytes_eq bytes.now) self.now }
+    {
+        self.items.iter().any(|name| bytes == name.bytes())
+    }
+
+    // Sorts the names and leaves each once.
+    pub(crate) fn make_set(&mut self)
+        ensures { self.new ≡ name_set self.old }
+    {
+        self.items.sort_unstable();
+        self.items.dedup();
+    }
+}
