@@ -13,3 +13,4 @@ pub mod Edits
 pub mod Signature
 pub mod Normal
 pub mod NormalTest
+pub mod Listing

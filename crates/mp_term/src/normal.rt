@@ -1,9 +1,11 @@
 // Normal forms.
-ghost use Rattle.std.specs.Prelude.{◌≡◌, ◌++◌, map, OnOk, IfOk, true, IsTrue, ◌↔◌, ◌&&◌, not};
+ghost use Rattle.std.specs.Prelude.{◌≡◌, ◌≤◌, ◌++◌, map, OnOk, IfOk, true, IsTrue, ◌↔◌, ◌&&◌, not};
 ghost use Rattle.mp_term.specs.View.{tree};
 ghost use Rattle.mp_term.specs.Order.{tree_cmp};
 ghost use Rattle.mp_term.specs.Sorting.{sorted};
-ghost use Rattle.mp_term.specs.Signature.{is_comm, is_one, well_formed};
+ghost use Rattle.mp_term.specs.Signature.{Sig, all_in_order, is_comm, is_one, well_formed};
+ghost use Rattle.mp_term.specs.Size.{node_count, depth};
+ghost use Rattle.mp_term.specs.Tree.{Tree};
 ghost use Rattle.mp_term.specs.Normal.{parts, collapsed, normal, IsNormal};
 ghost use Rattle.mp_term.specs.NormalTest.{ascending, has_head, is_single, passes};
 
@@ -144,3 +146,19 @@ pub fn is_normal(sig: &Signature, term: &Term) -> bool
 {
     passes(sig, term)
 }
+
+/// A normal form is its own normal form.
+pub fn normal_is_idempotent()
+    ensures { (sig : Sig) (t : Tree) → normal sig (normal sig t) ≡ normal sig t }
+{}
+
+/// The normal form of a well formed term is well formed, where each declaration is in order.
+pub fn normal_is_well_formed()
+    ensures { (sig : Sig) (t : Tree) → all_in_order sig.ops ≡ true → well_formed sig t ≡ true → well_formed sig (normal sig t) ≡ true }
+{}
+
+/// A normal form has no more nodes than the term, and is no deeper.
+pub fn normal_is_no_larger()
+    ensures nodes { (sig : Sig) (t : Tree) → node_count (normal sig t) ≤ node_count t }
+    ensures depth { (sig : Sig) (t : Tree) → depth (normal sig t) ≤ depth t }
+{}
