@@ -29,6 +29,7 @@ module _ (sig : Sig) where
   collapsed f (t ∷ []) = if is_one sig f then t else app f (more_trees t no_trees)
   collapsed f (t ∷ u ∷ ts) = app f (trees (t ∷ u ∷ ts))
 
+  -- the normal form of a tree, and those of the trees of a list
   abbrev mutual
     pub normal : Tree → Tree
     normal (symbol n) = symbol n
@@ -38,5 +39,6 @@ module _ (sig : Sig) where
     normals no_trees = []
     normals (more_trees t ts) = normal t ∷ normals ts
 
+  -- the tree is its own normal form
   abbrev pub IsNormal : Tree → Type 0
   IsNormal t = normal t ≡ t

@@ -5,10 +5,12 @@ use Rattle.mp_term.specs.Tree.{Tree, symbol, app, Trees, no_trees, more_trees, t
 use Rattle.mp_term.specs.Order.{tree_cmp}
 use Rattle.mp_term.specs.Signature.{Sig, is_assoc, is_comm, is_one}
 
+-- the tree is an application of the operation
 abbrev pub has_head : ℕ → Tree → Bool
 has_head f (symbol n) = false
 has_head f (app g ts) = nat_eq f g
 
+-- the list has one item
 abbrev pub is_single : List Tree → Bool
 is_single [] = false
 is_single (t ∷ []) = true

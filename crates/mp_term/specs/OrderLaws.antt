@@ -69,6 +69,7 @@ mutual
   trees_chain (more_trees t ts) (more_trees u us) no_trees = record { less = λ i j. cc; left = λ _. refl; right = λ i. cc }
   trees_chain (more_trees t ts) (more_trees u us) (more_trees v vs) = chain_then _ _ _ _ _ _ (tree_chain t u v) (trees_chain ts us vs)
 
+-- the term order is total
 pub tree_cmp_total : IsTotalOrder tree_cmp
 tree_cmp_total = record {
   antisymm = tree_reverse;
@@ -107,6 +108,7 @@ mutual
   trees_same (more_trees t ts) no_trees e = cc
   trees_same (more_trees t ts) (more_trees u us) e = let h = both_equal _ _ e in cc (tree_same t u h.0, trees_same ts us h.1)
 
+-- item by item is `slice_cmp`
 pub trees_cmp-trees : (xs ys : List Tree) → trees_cmp (trees xs) (trees ys) ≡ slice_cmp tree_cmp xs ys
 trees_cmp-trees [] [] = refl
 trees_cmp-trees [] (y ∷ ys) = refl

@@ -12,11 +12,12 @@ mutual
     no_trees : Trees
     more_trees : Tree → Trees → Trees
 
--- the same as a `List`, and back
+-- the trees as a `List`
 abbrev pub tree_list : Trees → List Tree
 tree_list no_trees = []
 tree_list (more_trees t ts) = t ∷ tree_list ts
 
+-- a `List` as trees
 abbrev pub trees : List Tree → Trees
 trees [] = no_trees
 trees (t ∷ ts) = more_trees t (trees ts)

@@ -1,4 +1,4 @@
--- `items` and `forest` undo each other.
+-- `trees` and `tree_list` undo each other.
 use Rattle.std.proofs.Common.{◌≡◌, List, [], ◌∷◌, refl, ap}
 use Rattle.mp_term.specs.Tree.{Tree, Trees, no_trees, more_trees, tree_list, trees}
 
