@@ -13,7 +13,7 @@ use Rattle.mp_term.specs.declared.signature.SigFault.{SigFault}
 use Rattle.mp_term.specs.declared.signature.SigFault.TheVariants.{DuplicateName, TooManyOps, TooManyKinds, BadFlags}
 use Rattle.mp_term.specs.Tree.{symbol}
 use Rattle.mp_term.specs.Names.{are_distinct, names_ascend, name_set}
-use Rattle.mp_term.specs.Signature.{Sig, Kind, in_order, all_in_order, clashes, none_clash, op_fault, kind_fault, kind_names, kind_members, in_kind, is_member, IsSignature}
+use Rattle.mp_term.specs.Signature.{Sig, Kind, in_order, all_in_order, shares_sign, clashes, none_clash, op_fault, kind_fault, kind_names, kind_members, in_kind, is_member, IsSignature}
 use Rattle.mp_term.proofs.NormalTestLaws.{both, joined_tests, &&-assoc}
 use Rattle.mp_term.proofs.NameSets.{names_ascend-name_set}
 
@@ -50,6 +50,21 @@ module _ {X : Type 0} (p : X → Bool) where
       by_test true e same = ap is_some (position-first x xs e)
       by_test false e same = ap is_some (position-behind x xs e) ∙ still (position p xs) ∙ same
 
+list_any-map : {X Y : Type 0} (p : X → Bool) (f : Y → X) (ys : List Y) → list_any p (map f ys) ≡ list_any (λ y. p (f y)) ys
+list_any-map p f [] = refl
+list_any-map p f (y ∷ ys) = ap (λ b. p (f y) || b) (list_any-map p f ys)
+
+-- a name that isn't among the keys goes last
+pub map-insert_key : {K : Type 0} (bytes : K → List ℕ) (keys new : List K) (k : K) (n : List ℕ) → bytes k ≡ n → list_any (bytes_eq n) (map bytes keys) ≡ false → new ≡ (if list_any (λ c. bytes_eq (bytes k) (bytes c)) keys then keys else (keys ++ k ∷ [])) → map bytes new ≡ map bytes keys ++ n ∷ []
+map-insert_key bytes keys new k n e h q =
+    let a : list_any (λ c. bytes_eq (bytes k) (bytes c)) keys ≡ false = rw e (sym (list_any-map (bytes_eq n) bytes keys) ∙ h) in
+    let b : new ≡ keys ++ k ∷ [] = rw a at q in
+    ap (map bytes) b ∙ map-append bytes keys (k ∷ []) ∙ ap (λ m. map bytes keys ++ m ∷ []) e
+
+-- the items after a push that doesn't fail, into a list that was given room before
+pub items-pushed : {X : Type 0} (b : Bool) (new reserved old : List X) (x : X) → new ≡ (if b then reserved ++ x ∷ [] else reserved) → b ≡ true → reserved ≡ old → new ≡ old ++ x ∷ []
+items-pushed b new reserved old x e t r = let f : new ≡ reserved ++ x ∷ [] = rw t at e in f ∙ ap (λ l. l ++ x ∷ []) r
+
 pub slice_get-behind : {X : Type 0} (x : X) (xs : List X) (i : ℕ) → 0 < i → slice_get (x ∷ xs) i ≡ slice_get xs (i - 1)
 slice_get-behind x xs zero h = absurd (omega arith)
 slice_get-behind x xs (suc i) h = let e : suc i - 1 ≡ i = omega arith in rw e refl
@@ -70,11 +85,6 @@ module _ {K : Type 0} (f : K → Kind) (ks : List K) (sig : Sig) (same : map f k
 
   pub slice_get-kind_members : {B : Type 0} (now : B → K) (i : ℕ) (r : Option B) → (i ≡ 0 → ⊥) → slice_get ks (i - 1) ≡ option_map now r → slice_get (kind_members sig) i ≡ option_map (λ b. (f (now b)).members) r
   slice_get-kind_members now i r n e = slice_get-behind [] (map (λ k. k.members) sig.kinds) i (omega arith) ∙ at_kind now (λ k. k.members) (i - 1) r e
-
-  pub position-kind_names : (n : List ℕ) → bytes_eq n (codes "num") ≡ false → position (bytes_eq n) (kind_names sig) ≡ option_map (λ i. i + 1) (position (λ k. bytes_eq n (f k).name) ks)
-  position-kind_names n e =
-      position-behind (bytes_eq n) (codes "num") (map (λ k. k.name) sig.kinds) e
-      ∙ ap (option_map (λ i. i + 1)) (position-map (bytes_eq n) (λ k. k.name) sig.kinds ∙ ap (position (λ k. bytes_eq n k.name)) (sym same) ∙ position-map (λ k. bytes_eq n k.name) f ks)
 
 -- the kinds but for the first are those with declared members
 in_kind-declared : (sig : Sig) (i : ℕ) (n : List ℕ) → 0 < i → in_kind sig i (symbol n) ≡ is_member n (slice_get sig.kinds (i - 1))
@@ -126,6 +136,20 @@ no_kind_fault true b e = cc
 no_kind_fault false true e = cc
 no_kind_fault false false e = (refl, refl)
 
+-- a name that may be added is new
+pub new_kind_name : (sig : Sig) (n : List ℕ) → kind_fault sig n ≡ None → list_any (bytes_eq n) (kind_names sig) ≡ false
+new_kind_name sig n e = (no_kind_fault (list_any (bytes_eq n) (kind_names sig)) (nat_le 256 (length (kind_names sig))) e).0
+
+no_name_clashes : (d : OpDecl) (ds : List OpDecl) → list_any (clashes d) ds ≡ false → list_any (bytes_eq d.name) (map (λ c. c.name) ds) ≡ false
+no_name_clashes d [] h = refl
+no_name_clashes d (c ∷ ds) h =
+    let k = neither (clashes d c) (list_any (clashes d) ds) h in
+    let n = neither (bytes_eq d.name c.name) (shares_sign d.sign c) k.0 in
+    rw n.0 (no_name_clashes d ds k.1)
+
+pub new_op_name : (sig : Sig) (d : OpDecl) → op_fault sig d ≡ None → list_any (bytes_eq d.name) (map (λ c. c.name) sig.ops) ≡ false
+new_op_name sig d e = no_name_clashes d sig.ops (no_op_fault (list_any (clashes d) sig.ops) (nat_le 256 (length sig.ops)) (in_order d) e).0
+
 pub IsSignature-add_op : (sig : Sig) (d : OpDecl) → IsSignature sig → op_fault sig d ≡ None → d.least ≤ 1000 → IsSignature (record { ops = sig.ops ++ d ∷ []; kinds = sig.kinds })
 IsSignature-add_op sig d h e l =
     let f = no_op_fault (list_any (clashes d) sig.ops) (nat_le 256 (length sig.ops)) (in_order d) e in
@@ -140,11 +164,6 @@ IsSignature-add_op sig d h e l =
       at_most_kinds = h.at_most_kinds;
       members_ascend = h.members_ascend;
     }
-
--- the same where it is added on a condition
-pub IsSignature-add_op_if : (b : Bool) (sig : Sig) (d : OpDecl) → IsSignature sig → op_fault sig d ≡ None → d.least ≤ 1000 → IsSignature (record { ops = if b then sig.ops ++ d ∷ [] else sig.ops; kinds = sig.kinds })
-IsSignature-add_op_if true sig d h e l = IsSignature-add_op sig d h e l
-IsSignature-add_op_if false sig d h e l = h
 
 pub IsSignature-add_kind : (sig : Sig) (n : List ℕ) (ms : List (List ℕ)) → IsSignature sig → kind_fault sig n ≡ None → IsSignature (record { ops = sig.ops; kinds = sig.kinds ++ record { name = n; members = name_set ms } ∷ [] })
 IsSignature-add_kind sig n ms h e =
@@ -161,9 +180,13 @@ IsSignature-add_kind sig n ms h e =
       members_ascend = rw (map-append (λ (c : Kind). c.members) sig.kinds (k ∷ [])) (all_with names_ascend (kind_members sig) (name_set ms) h.members_ascend (names_ascend-name_set ms));
     }
 
-pub IsSignature-add_kind_if : {K : Type 0} (f : K → Kind) (b : Bool) (ops : List OpDecl) (ks : List K) (k : K) (n : List ℕ) (ms : List (List ℕ)) → f k ≡ record { name = n; members = name_set ms } → IsSignature (record { ops = ops; kinds = map f ks }) → kind_fault (record { ops = ops; kinds = map f ks }) n ≡ None → IsSignature (record { ops = ops; kinds = map f (if b then ks ++ k ∷ [] else ks) })
-IsSignature-add_kind_if f true ops ks k n ms q h e = rw (map-append f ks (k ∷ []), q) (IsSignature-add_kind (record { ops = ops; kinds = map f ks }) n ms h e)
-IsSignature-add_kind_if f false ops ks k n ms q h e = h
+-- the same where the kinds are given by f
+pub IsSignature-push_kind : {K : Type 0} (f : K → Kind) (ops : List OpDecl) (ks new : List K) (k : K) (n : List ℕ) (ms : List (List ℕ)) → f k ≡ record { name = n; members = name_set ms } → IsSignature (record { ops = ops; kinds = map f ks }) → kind_fault (record { ops = ops; kinds = map f ks }) n ≡ None → new ≡ ks ++ k ∷ [] → IsSignature (record { ops = ops; kinds = map f new })
+IsSignature-push_kind f ops ks new k n ms q h e p = rw (p, map-append f ks (k ∷ []), q) (IsSignature-add_kind (record { ops = ops; kinds = map f ks }) n ms h e)
+
+-- the names of the kinds with one more
+pub kind_names-push : {K : Type 0} (f : K → Kind) (ops : List OpDecl) (ks new : List K) (k : K) → new ≡ ks ++ k ∷ [] → kind_names (record { ops = ops; kinds = map f new }) ≡ kind_names (record { ops = ops; kinds = map f ks }) ++ (f k).name ∷ []
+kind_names-push f ops ks new k p = rw (p, map-append f ks (k ∷ []), map-append (λ (c : Kind). c.name) (map f ks) (f k ∷ [])) refl
 
 pub is_some-option_map : {A B : Type 0} (f : A → B) (o : Option A) → is_some (option_map f o) ≡ is_some o
 is_some-option_map f None = refl

@@ -4,6 +4,7 @@
 mod edit;
 mod memory;
 mod name;
+mod name_table;
 mod normal;
 mod order;
 mod position;

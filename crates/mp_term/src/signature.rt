@@ -8,6 +8,7 @@ ghost use Rattle.mp_term.specs.Signature.{holds_of, allows, has_name, has_sign, 
 
 use crate::memory::Memory;
 use crate::name::{Name, Names};
+use crate::name_table::NameTable;
 use crate::sign::Sign;
 use crate::term::{OpId, Term};
 use std::alloc::Global;
@@ -70,19 +71,27 @@ struct Kind {
 #[derive(Drop)]
 pub struct Signature {
     pub(crate) ops: Vec<OpDecl>,
+    op_table: NameTable,
     kinds: Vec<Kind>,
+    kind_table: NameTable,
     num: Kind,
 }
 
 impl Model for Signature {
     ghost use Rattle.std.specs.Prelude.{◌≡◌, map, codes, []};
-    ghost use Rattle.mp_term.specs.Signature.{Sig, IsSignature};
+    ghost use Rattle.mp_term.specs.Signature.{Sig, IsSignature, kind_names};
 
     ghost Value = { Sig };
 
     ghost view = { λ s. record { ops = s.ops.items; kinds = map (λ k. record { name = k.name; members = k.members }) s.kinds.items } };
 
-    ghost invariant = { λ s. IsSignature (record { ops = s.ops.items; kinds = map (λ k. record { name = k.name; members = k.members }) s.kinds.items }) × (s.num.name ≡ codes "num") × (s.num.members ≡ []) };
+    ghost invariant = { λ s.
+        let sig : Sig = record { ops = s.ops.items; kinds = map (λ k. record { name = k.name; members = k.members }) s.kinds.items } in
+        IsSignature sig
+        × (s.op_table ≡ map (λ d. d.name) sig.ops)
+        × (s.kind_table ≡ kind_names sig)
+        × (s.num.name ≡ codes "num")
+        × (s.num.members ≡ []) };
 }
 
 // The declaration has the sign, where it has one at all.
@@ -115,28 +124,12 @@ fn is_held(ops: &[OpDecl], decl: &OpDecl) -> bool
     ops.iter().any(|held| clashes(decl, held))
 }
 
-// The index of the operation of that name.
-fn index_of_name(ops: &[OpDecl], name: &[u8]) -> Option<usize>
-    ensures index { result ≡ position (has_name name.now) ops.now }
-    ensures within { IfSome result (λ i. i < length ops.now) }
-{
-    ops.iter().position(|held| name == held.name.bytes())
-}
-
 // The index of the operation of that sign.
 fn index_of_sign(ops: &[OpDecl], sign: &[u8]) -> Option<usize>
     ensures index { result ≡ position (has_sign sign.now) ops.now }
     ensures within { IfSome result (λ i. i < length ops.now) }
 {
     ops.iter().position(|held| has_sign(held, sign))
-}
-
-// The index of the kind of that name.
-fn index_of_kind(kinds: &[Kind], name: &[u8]) -> Option<usize>
-    ensures index { result ≡ position (λ k. bytes_eq name.now k.name) kinds.now }
-    ensures within { IfSome result (λ i. i < length kinds.now) }
-{
-    kinds.iter().position(|kind| name == kind.name.bytes())
 }
 
 // The flags, the sign and the number of arguments go together.
@@ -178,13 +171,17 @@ impl Signature {
         let Ok(name) = Name::new(alloc, b"num") else {
             return Err(Memory);
         };
+        let mut kind_table = NameTable::new(alloc);
+        kind_table.push(name.bytes())?;
         let num = Kind {
             name,
             members: Names::new(alloc),
         };
         Ok(Signature {
             ops: Vec::new(alloc),
+            op_table: NameTable::new(alloc),
             kinds: Vec::new(alloc),
+            kind_table,
             num,
         })
     }
@@ -221,10 +218,15 @@ impl Signature {
             return Err(fault);
         }
         let number = self.ops.len() as u32;
-        match self.ops.push(decl) {
-            Ok(()) => Ok(OpId(number)),
-            Err(_) => Err(SigFault::Memory),
-        }
+        let Ok(()) = self.ops.reserve(1) else {
+            return Err(SigFault::Memory);
+        };
+        let Ok(()) = self.op_table.push(decl.name.bytes()) else {
+            return Err(SigFault::Memory);
+        };
+        // There is room for it.
+        let _ = self.ops.push(decl);
+        Ok(OpId(number))
     }
 
     /// The declaration of an operation, and None exactly where the signature has no operation of that number.
@@ -246,7 +248,7 @@ impl Signature {
     pub fn find_op(&self, name: &[u8]) -> Option<OpId>
         ensures { option_map (λ id. id.0) result ≡ position (has_name name.now) self.now.ops }
     {
-        match index_of_name(&self.ops, name) {
+        match self.op_table.index_of(name) {
             None => None,
             Some(index) => Some(OpId(index as u32)),
         }
@@ -304,10 +306,15 @@ impl Signature {
         let mut members = members;
         members.make_set();
         let number = self.kinds.len() as u32 + 1;
-        match self.kinds.push(Kind { name, members }) {
-            Ok(()) => Ok(KindId(number)),
-            Err(_) => Err(SigFault::Memory),
-        }
+        let Ok(()) = self.kinds.reserve(1) else {
+            return Err(SigFault::Memory);
+        };
+        let Ok(()) = self.kind_table.push(name.bytes()) else {
+            return Err(SigFault::Memory);
+        };
+        // There is room for it.
+        let _ = self.kinds.push(Kind { name, members });
+        Ok(KindId(number))
     }
 
     /// The name of a kind, and None exactly where the signature has no kind of that number.
@@ -335,12 +342,9 @@ impl Signature {
     pub fn find_kind(&self, name: &[u8]) -> Option<KindId>
         ensures { option_map (λ id. id.0) result ≡ position (bytes_eq name.now) (kind_names self.now) }
     {
-        if name == self.num.name.bytes() {
-            return Some(KindId(0));
-        }
-        match index_of_kind(&self.kinds, name) {
+        match self.kind_table.index_of(name) {
             None => None,
-            Some(index) => Some(KindId(index as u32 + 1)),
+            Some(index) => Some(KindId(index as u32)),
         }
     }
 

@@ -1,0 +1,59 @@
+// The index of each of a list of distinct names.
+ghost use Rattle.std.specs.Prelude.{◌≡◌, ◌<◌, ◌++◌, ◌∷◌, [], length, position, bytes_eq, IfSome, OnOk, OnErr, false};
+ghost use Rattle.std.specs.List.{list_any};
+
+use crate::memory::Memory;
+use indexmap::IndexSet;
+use std::alloc::Global;
+use std::marker::Model;
+
+// Distinct names in the order in which they came, each found by its bytes. Contracts see the list of the names.
+#[derive(Drop)]
+pub(crate) struct NameTable {
+    alloc: Global,
+    names: IndexSet<Vec<u8>>,
+}
+
+impl Model for NameTable {
+    ghost use Rattle.std.specs.Prelude.{ℕ, List, map};
+
+    ghost Value = { List (List ℕ) };
+
+    ghost view = { λ t. map (λ k. k.items) t.names.keys };
+}
+
+impl NameTable {
+    // The table of no name, which takes no memory.
+    pub(crate) fn new(alloc: Global) -> Self
+        ensures { result ≡ [] }
+    {
+        NameTable {
+            alloc,
+            names: IndexSet::new(alloc),
+        }
+    }
+
+    // The index of a name. It takes no memory.
+    pub(crate) fn index_of(&self, name: &[u8]) -> Option<usize>
+        ensures index { result ≡ position (bytes_eq name.now) self.now }
+        ensures within { IfSome result (λ i. i < length self.now) }
+    {
+        self.names.get_index_of(name)
+    }
+
+    // Adds a name that isn't there.
+    pub(crate) fn push(&mut self, name: &[u8]) -> Result<(), Memory>
+        requires { list_any (bytes_eq name.now) self.old ≡ false }
+        ensures ok { OnOk result (self.new ≡ self.old ++ name.now ∷ []) }
+        ensures err { OnErr result (self.new ≡ self.old) }
+    {
+        let mut copy = Vec::new(self.alloc);
+        let Ok(()) = copy.extend_from_slice(name) else {
+            return Err(Memory);
+        };
+        let Ok(_) = self.names.insert(copy) else {
+            return Err(Memory);
+        };
+        Ok(())
+    }
+}
