@@ -4,7 +4,7 @@ use Rattle.std.specs.declared.cmp.Ordering.TheVariants.{Less}
 use Rattle.mp_term.specs.Tree.{Tree}
 use Rattle.mp_term.specs.Signature.{Sig}
 use Rattle.mp_pattern.specs.PatternTree.{Pattern}
-use Rattle.mp_pattern.specs.Template.{Template}
+use Rattle.mp_pattern.specs.TemplateTree.{Template}
 use Rattle.mp_pattern.specs.CondTree.{Cond}
 use Rattle.mp_pattern.specs.Value.{Subst}
 use Rattle.mp_pattern.specs.Fits.{Table, Fits}

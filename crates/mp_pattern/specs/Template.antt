@@ -3,18 +3,9 @@ use Rattle.std.specs.Prelude.{◌≡◌, ℕ, List, [], ◌∷◌, ◌++◌}
 use Rattle.mp_term.specs.Tree.{Tree, symbol, app, trees}
 use Rattle.mp_term.specs.Signature.{Sig}
 use Rattle.mp_term.specs.Normal.{normal}
+use Rattle.mp_pattern.specs.TemplateTree.{Template, symbol_template, app_template, variable_template, Templates, no_templates, more_templates}
 use Rattle.mp_pattern.specs.Value.{Subst, value_of}
 use Rattle.mp_pattern.specs.Holds.{listed}
-
-mutual
-  pub data Template : Type 0 where
-    symbol_template : List ℕ → Template
-    app_template : ℕ → Templates → Template
-    variable_template : List ℕ → Template
-
-  pub data Templates : Type 0 where
-    no_templates : Templates
-    more_templates : Template → Templates → Templates
 
 module _ (s : Subst) where
   -- the terms that a template gives to an argument list: a variable gives all terms of its value

@@ -1,6 +1,14 @@
-//! Patterns over a signature.
+//! Patterns, templates, conditions and rules over a signature as data, and what matching is.
 #![tactic(auto)]
 
+mod condition;
+mod entry;
 mod pattern;
+mod rule;
+mod template;
 
+pub use condition::{Amount, BoxedCond, Cond, Conds, Operand, Sense};
+pub use entry::{Entries, Entry, Form};
 pub use pattern::{Pattern, Patterns, Shape};
+pub use rule::{Rule, Rules};
+pub use template::{Template, Templates};

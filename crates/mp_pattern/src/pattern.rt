@@ -1,13 +1,13 @@
 // Patterns: terms with wildcards.
-ghost use Rattle.std.specs.Prelude.{◌≡◌, ℕ, ◌-◌, ◌^◌, min, [], ◌∷◌, ◌++◌, length, slice_get, OnOk, OnErr, option_map};
+ghost use Rattle.std.specs.Prelude.{◌≡◌, [], ◌∷◌, ◌++◌, length, map, slice_get, OnOk, OnErr, option_map};
 ghost use Rattle.mp_pattern.specs.View.{pattern_tree};
-ghost use Rattle.mp_pattern.specs.Size.{pattern_nodes};
 
 use mp_term::{KindId, Memory, Name, OpId, Term};
 use std::alloc::Global;
 use std::marker::Model;
 
-/// What a wildcard takes.
+/// What a wildcard takes: one argument; one symbol of the kind; one argument or more; any number of arguments; one
+/// argument, or none and then its variable has the default.
 #[derive(Drop)]
 pub enum Shape {
     Dot,
@@ -17,6 +17,8 @@ pub enum Shape {
     Opt(Term),
 }
 
+/// A term with wildcards: a symbol, an operation with its arguments, or a wildcard with the name of its variable. A
+/// wildcard without a name binds nothing. Contracts see a pattern as the tree `pattern_tree` of `specs/View`.
 #[cycle(pattern)]
 #[derive(Drop)]
 pub enum Pattern {
@@ -25,6 +27,7 @@ pub enum Pattern {
     Wild(Shape, Option<Name>),
 }
 
+/// A list of patterns, seen by contracts as the list of their trees.
 #[cycle(pattern)]
 #[derive(Drop)]
 pub struct Patterns {
@@ -55,6 +58,7 @@ impl Model for Patterns {
 }
 
 impl Patterns {
+    /// The empty list. It takes no memory.
     pub fn new(alloc: Global) -> Self
         ensures { result ≡ [] }
     {
@@ -63,12 +67,7 @@ impl Patterns {
         }
     }
 
-    pub fn len(&self) -> usize
-        ensures { result ≡ length self.now }
-    {
-        self.items.len()
-    }
-
+    /// Adds a pattern at the end. For want of memory it answers `Memory`, drops the pattern and leaves the list as it was.
     pub fn push(&mut self, item: Pattern) -> Result<(), Memory>
         ensures ok { OnOk result (self.new ≡ self.old ++ pattern_tree item ∷ []) }
         ensures err { OnErr result (self.new ≡ self.old) }
@@ -79,9 +78,24 @@ impl Patterns {
         }
     }
 
+    /// How many patterns there are.
+    pub fn len(&self) -> usize
+        ensures { result ≡ length self.now }
+    {
+        self.items.len()
+    }
+
+    /// The pattern at the index, from 0. It is None exactly where the index isn't below the length.
     pub fn get(&self, index: usize) -> Option<&Pattern>
         ensures { slice_get self.now index ≡ option_map (λ p. pattern_tree p.now) result }
     {
         self.items.get(index)
+    }
+
+    /// The patterns in order.
+    pub fn as_slice(&self) -> &[Pattern]
+        ensures { map pattern_tree result.now ≡ self.now }
+    {
+        &self.items
     }
 }
