@@ -8,6 +8,7 @@ use Rattle.mp_pattern.specs.declared.condition.BoxedCond.TheDeep.{deep-Cond}
 use Rattle.mp_pattern.specs.CondView.{cond_tree}
 use Rattle.mp_pattern.specs.CondSize.{cond_nodes, cond_list_nodes}
 
+-- what a condition holds in a box or a list is no larger than the condition
 pub falls_in_box : (c : Cond) → max (deep-Cond c) 0 ≤ cond_nodes (cond_tree c)
 falls_in_box (Amounts m c n) = omega arith
 falls_in_box (Same a b) = omega arith
@@ -19,6 +20,7 @@ falls_in_box (Not c) = omega arith
 falls_in_box (All cs) = omega arith
 falls_in_box (Any cs) = omega arith
 
+-- and what the conditions of a list hold no larger than the list
 pub falls : (cs : List Cond) → max (most deep-Cond cs) 0 ≤ cond_list_nodes (map cond_tree cs)
 falls [] = omega arith
 falls (c ∷ cs) = omega (arith, falls_in_box c, falls cs)

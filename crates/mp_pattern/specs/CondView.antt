@@ -11,15 +11,18 @@ use Rattle.mp_pattern.specs.declared.condition.Sense.TheVariants.{Lt, Le, Gt, Ge
 use Rattle.mp_pattern.specs.declared.condition.Cond.{Cond}
 use Rattle.mp_pattern.specs.declared.condition.Cond.TheVariants.{Amounts, Same, Less, Free, OfKind, Headed, Not, All, Any}
 
+-- an operand with the tree of its term
 abbrev pub operand : Operand → plain.Operand
 operand (Var x) = plain.var x
 operand (Ground t) = plain.ground (tree t)
 
+-- an amount with its operand's
 abbrev pub amount : Amount → plain.Amount
 amount (Fixed n) = plain.fixed n
 amount (Count a) = plain.count (operand a)
 amount (Size a) = plain.size (operand a)
 
+-- a sense
 abbrev pub sense : Sense → plain.Sense
 sense Lt = plain.lt
 sense Le = plain.le
@@ -28,6 +31,7 @@ sense Ge = plain.ge
 sense Eq = plain.eq
 sense Ne = plain.ne
 
+-- a condition with the numbers of its kinds and operations and the trees of its parts
 abbrev pub cond_tree : Cond → plain.Cond
 cond_tree (Amounts m c n) = plain.amounts (amount m) (sense c) (amount n)
 cond_tree (Same a b) = plain.same (operand a) (operand b)

@@ -5,5 +5,6 @@ use Rattle.mp_term.specs.Tree.{Tree}
 use Rattle.mp_term.specs.Code.{coded_tree}
 use Rattle.mp_pattern.specs.Fits.{Entry}
 
+-- the code of entries
 abbrev pub coded_entry : Coded Entry
 coded_entry = code_by (List Tree × Bool) (coded× (coded_list coded_tree) coded_bool) (λ e. (e.terms, e.collapsed)) (λ p. record { terms = p.0; collapsed = p.1 }) (λ _. refl)

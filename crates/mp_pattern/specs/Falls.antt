@@ -8,6 +8,7 @@ use Rattle.mp_pattern.specs.declared.pattern.Patterns.TheDeep.{deep-Pattern}
 use Rattle.mp_pattern.specs.View.{pattern_tree}
 use Rattle.mp_pattern.specs.Size.{list_nodes}
 
+-- what the patterns of a list hold is no larger than the list
 pub falls : (ps : List Pattern) → max (most deep-Pattern ps) 0 ≤ list_nodes (map pattern_tree ps)
 falls [] = omega arith
 falls (Sym n ∷ ps) = omega (arith, falls ps)

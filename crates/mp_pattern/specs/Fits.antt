@@ -18,6 +18,7 @@ pub record Entry : Type 0 where
 abbrev pub Table : Type 0
 Table = List Entry
 
+-- the lists one after the other
 abbrev pub joined : {X : Type 0} → List (List X) → List X
 joined = flat_map (λ xs. xs)
 
@@ -98,6 +99,7 @@ module _ (sig : Sig) where
       AllTakeBy g (more_patterns p ps) (l ∷ ls) (T ∷ Ts) = TakesBy (Some g) p l T × AllTakeBy g ps ls Ts
       AllTakeBy g _ _ _ = ⊥
 
+  -- p under f takes l with the table T, where each variable has its value in s
   abbrev pub Takes : Subst → Option ℕ → Pattern → List Tree → Table → Type 0
   Takes s = TakesBy (ByValue s)
 

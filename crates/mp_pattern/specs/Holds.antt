@@ -1,6 +1,6 @@
 -- When a condition holds of a substitution.
 use Rattle.std.specs.Prelude.{ℕ, Bool, true, false, ◌&&◌, ◌||◌, not, List, [], ◌∷◌, length, sum_by, Option, Some, None, nat_eq, nat_lt, nat_le, if◌then◌else◌}
-use Rattle.std.specs.Ordering.{is_lt}
+use Rattle.std.specs.Ordering.{is_lt, eq_by_cmp}
 use Rattle.std.specs.List.{list_any}
 use Rattle.mp_term.specs.Tree.{Tree, symbol, app, Trees, no_trees, more_trees}
 use Rattle.mp_term.specs.Order.{tree_cmp}
@@ -11,31 +11,37 @@ use Rattle.mp_term.specs.NormalTest.{has_head}
 use Rattle.mp_pattern.specs.CondTree.{Operand, var, ground, Amount, fixed, count, size, Sense, lt, le, gt, ge, eq, ne, Cond, amounts, same, less, free, of_kind, headed, negation, all_of, any_of, Conds, no_conds, more_conds}
 use Rattle.mp_pattern.specs.Value.{Value, one, bag, terms_of, Subst, value_of, same_terms}
 
--- the value of a ground term is the term
+-- the value of an operand: that of the variable, or the ground term
 abbrev pub value_at : Subst → Operand → Option Value
 value_at s (var x) = value_of s x
 value_at s (ground t) = Some (one t)
 
+-- the terms of a value, and none where there is no value
 abbrev pub listed : Option Value → List Tree
 listed None = []
 listed (Some v) = terms_of v
 
+-- the list of an operand: the terms of its value
 abbrev pub list_of : Subst → Operand → List Tree
 list_of s a = listed (value_at s a)
 
+-- it is a multiset
 abbrev pub is_bag : Option Value → Bool
 is_bag (Some (bag ts)) = true
 is_bag _ = false
 
+-- both are single terms, and the first comes before the second in the term order
 abbrev pub comes_before : Option Value → Option Value → Bool
 comes_before (Some (one t)) (Some (one u)) = is_lt (tree_cmp t u)
 comes_before _ _ = false
 
+-- the number itself, how many terms the operand's list has, or how many nodes they have together
 abbrev pub amount_of : Subst → Amount → ℕ
 amount_of s (fixed n) = n
 amount_of s (count a) = length (list_of s a)
 amount_of s (size a) = sum_by node_count (list_of s a)
 
+-- the comparison of two numbers
 abbrev pub compares : Sense → ℕ → ℕ → Bool
 compares lt m n = nat_lt m n
 compares le m n = nat_le m n
@@ -44,21 +50,28 @@ compares ge m n = nat_le n m
 compares eq m n = nat_eq m n
 compares ne m n = not (nat_eq m n)
 
--- t is u or a subterm of it
-abbrev mutual
-  pub occurs : Tree → Tree → Bool
-  occurs t (symbol n) = same_terms (t ∷ []) (symbol n ∷ [])
-  occurs t (app f us) = same_terms (t ∷ []) (app f us ∷ []) || occurs_in t us
+-- the terms are equal
+abbrev pub same_term : Tree → Tree → Bool
+same_term = eq_by_cmp tree_cmp
 
+abbrev mutual
+  -- t is u or a subterm of it
+  pub occurs : Tree → Tree → Bool
+  occurs t (symbol n) = same_term t (symbol n)
+  occurs t (app f us) = same_term t (app f us) || occurs_in t us
+
+  -- t is one of the terms or a subterm of one
   pub occurs_in : Tree → Trees → Bool
   occurs_in t no_trees = false
   occurs_in t (more_trees u us) = occurs t u || occurs_in t us
 
+-- the test passes on each term of the list
 abbrev pub every : (Tree → Bool) → List Tree → Bool
 every test ts = not (list_any (λ t. not (test t)) ts)
 
 module _ (sig : Sig) (s : Subst) where
   abbrev mutual
+    -- the condition holds of s: each atom by its kind, and the connectives as usual
     pub holds : Cond → Bool
     holds (amounts m c n) = compares c (amount_of s m) (amount_of s n)
     holds (same a b) = if is_bag (value_at s a) || is_bag (value_at s b) then same_terms (sorted tree_cmp (list_of s a)) (sorted tree_cmp (list_of s b)) else same_terms (list_of s a) (list_of s b)
@@ -70,10 +83,12 @@ module _ (sig : Sig) (s : Subst) where
     holds (all_of cs) = all_hold cs
     holds (any_of cs) = some_holds cs
 
+    -- each condition of the list holds
     pub all_hold : Conds → Bool
     all_hold no_conds = true
     all_hold (more_conds c cs) = holds c && all_hold cs
 
+    -- some condition of the list holds
     pub some_holds : Conds → Bool
     some_holds no_conds = false
     some_holds (more_conds c cs) = holds c || some_holds cs

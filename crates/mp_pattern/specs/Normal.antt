@@ -5,10 +5,11 @@ use Rattle.mp_term.specs.Signature.{Sig, is_assoc, is_comm, is_one}
 use Rattle.mp_pattern.specs.PatternTree.{plus, star, optional, Pattern, symbol_pattern, app_pattern, wild_pattern, Patterns, no_patterns, more_patterns, pattern_list, patterns}
 use Rattle.mp_pattern.specs.Order.{pattern_cmp}
 
-abbrev pub parts : ℕ → Pattern → List Pattern
-parts f (symbol_pattern n) = symbol_pattern n ∷ []
-parts f (app_pattern g ps) = if nat_eq f g then pattern_list ps else (app_pattern g ps ∷ [])
-parts f (wild_pattern w x) = wild_pattern w x ∷ []
+-- the arguments of p, where f is its head, and else p alone
+abbrev pub unwrapped : ℕ → Pattern → List Pattern
+unwrapped f (symbol_pattern n) = symbol_pattern n ∷ []
+unwrapped f (app_pattern g ps) = if nat_eq f g then pattern_list ps else (app_pattern g ps ∷ [])
+unwrapped f (wild_pattern w x) = wild_pattern w x ∷ []
 
 -- it may take no argument or several: a plus, star or optional wildcard
 abbrev pub is_loose : Pattern → Bool
@@ -18,9 +19,15 @@ is_loose (wild_pattern (optional t) x) = true
 is_loose _ = false
 
 module _ (sig : Sig) where
-  abbrev pub flattened : ℕ → List Pattern → List Pattern
-  flattened f ps = if is_assoc sig f then flat_map (parts f) ps else ps
+  -- what an argument of f gives: its own arguments, where f is associative and its head, and else itself
+  abbrev pub parts : ℕ → Pattern → List Pattern
+  parts f p = if is_assoc sig f then unwrapped f p else (p ∷ [])
 
+  -- under an associative operation, each argument of the same head is replaced by its arguments
+  abbrev pub flattened : ℕ → List Pattern → List Pattern
+  flattened f ps = flat_map (parts f) ps
+
+  -- the arguments of a commutative operation ascend in the pattern order
   abbrev pub in_order : ℕ → List Pattern → List Pattern
   in_order f ps = if is_comm sig f then sorted pattern_cmp ps else ps
 
@@ -31,11 +38,13 @@ module _ (sig : Sig) where
   collapsed f (p ∷ q ∷ ps) = app_pattern f (patterns (p ∷ q ∷ ps))
 
   abbrev mutual
+    -- the arguments in normal form, flattened, in order, and then the collapse
     pub normal_pattern : Pattern → Pattern
     normal_pattern (symbol_pattern n) = symbol_pattern n
     normal_pattern (app_pattern f ps) = collapsed f (in_order f (flattened f (normal_patterns ps)))
     normal_pattern (wild_pattern w x) = wild_pattern w x
 
+    -- each pattern of the list in normal form
     pub normal_patterns : Patterns → List Pattern
     normal_patterns no_patterns = []
     normal_patterns (more_patterns p ps) = normal_pattern p ∷ normal_patterns ps

@@ -2,7 +2,7 @@
 use Rattle.std.specs.Prelude.{ℕ, List, [], ◌∷◌, Option}
 use Rattle.mp_term.specs.Tree.{Tree}
 
--- one argument; a symbol of a kind; one argument or more; any number of them; one argument, or none and then the default
+-- what a wildcard takes: one argument; one symbol of the kind; one argument or more; any number of them; one argument, or none and then its variable has the default
 pub data Wildcard : Type 0 where
   dot : Wildcard
   kind : ℕ → Wildcard
@@ -17,14 +17,17 @@ mutual
     app_pattern : ℕ → Patterns → Pattern
     wild_pattern : Wildcard → Option (List ℕ) → Pattern
 
+  -- a list of patterns, which stands here since a type can't hold itself inside `List`
   pub data Patterns : Type 0 where
     no_patterns : Patterns
     more_patterns : Pattern → Patterns → Patterns
 
+-- the same as a `List`
 abbrev pub pattern_list : Patterns → List Pattern
 pattern_list no_patterns = []
 pattern_list (more_patterns p ps) = p ∷ pattern_list ps
 
+-- and back
 abbrev pub patterns : List Pattern → Patterns
 patterns [] = no_patterns
 patterns (p ∷ ps) = more_patterns p (patterns ps)

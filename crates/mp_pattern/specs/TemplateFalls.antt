@@ -8,6 +8,7 @@ use Rattle.mp_pattern.specs.declared.template.Templates.TheDeep.{deep-Template}
 use Rattle.mp_pattern.specs.TemplateView.{template_tree}
 use Rattle.mp_pattern.specs.TemplateSize.{template_list_nodes}
 
+-- what the templates of a list hold is no larger than the list
 pub falls : (xs : List Template) → max (most deep-Template xs) 0 ≤ template_list_nodes (map template_tree xs)
 falls [] = omega arith
 falls (Sym n ∷ xs) = omega (arith, falls xs)

@@ -12,14 +12,15 @@ pub record Use : Type 0 where
   pub wildcard : Wildcard
   pub under : Option ℕ
 
--- the occurrences of variables in preorder
 abbrev mutual
+  -- the occurrences of variables in p, which stands under f, in preorder
   pub uses : Option ℕ → Pattern → List Use
   uses f (symbol_pattern n) = []
   uses f (app_pattern g ps) = all_uses (Some g) ps
   uses f (wild_pattern w None) = []
   uses f (wild_pattern w (Some x)) = record { name = x; wildcard = w; under = f } ∷ []
 
+  -- those in each child of f
   pub all_uses : Option ℕ → Patterns → List Use
   all_uses f no_patterns = []
   all_uses f (more_patterns p ps) = uses f p ++ all_uses f ps
@@ -28,6 +29,7 @@ abbrev mutual
 abbrev pub variables : Pattern → List (List ℕ)
 variables p = firsts_after same_name [] (map (λ u. u.name) (uses None p))
 
+-- a plus or star wildcard
 abbrev pub is_sequence : Wildcard → Bool
 is_sequence plus = true
 is_sequence star = true
@@ -45,6 +47,7 @@ module _ (sig : Sig) where
       let mine = filter (λ u. same_name x u.name && is_sequence u.wildcard) us in
       if list_any (λ u. not (comm_above u.under)) mine then seq_form else (if list_any (λ _. true) mine then bag_form else one_form)
 
+  -- the form of a variable of p
   abbrev pub variable_form : Pattern → List ℕ → Form
   variable_form p = form_among (uses None p)
 

@@ -7,6 +7,7 @@ use Rattle.mp_pattern.specs.declared.pattern.Pattern.{Pattern}
 use Rattle.mp_pattern.specs.declared.pattern.Pattern.TheVariants.{Sym, App, Wild}
 use Rattle.mp_term.specs.View.{tree}
 
+-- a wildcard with the number of its kind or the tree of its default
 abbrev pub wildcard : Shape → plain.Wildcard
 wildcard Dot = plain.dot
 wildcard (Kind k) = plain.kind k.0
@@ -14,6 +15,7 @@ wildcard Plus = plain.plus
 wildcard Star = plain.star
 wildcard (Opt t) = plain.optional (tree t)
 
+-- a pattern with the numbers of its operations and the trees of its parts
 abbrev pub pattern_tree : Pattern → plain.Pattern
 pattern_tree (Sym n) = symbol_pattern n
 pattern_tree (App f ps) = app_pattern f.0 (patterns ps)
