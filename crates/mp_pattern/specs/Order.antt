@@ -19,7 +19,7 @@ abbrev mutual
   all_ground no_patterns = true
   all_ground (more_patterns p ps) = is_ground p && all_ground ps
 
--- the place of a wildcard among the classes: kind, dot, optional, plus, star
+-- the class of a wildcard: kind before dot, optional, plus and star
 abbrev pub wildcard_class : Wildcard → ℕ
 wildcard_class (kind k) = 2
 wildcard_class dot = 3
