@@ -15,7 +15,7 @@ pub mod TrailLaws
 pub mod CursorLaws
 pub mod Bounds
 pub mod Pruning
-pub mod MatchRows
+mod OneListExamples
 pub mod SubBags
 pub mod Unique
 pub mod Ground
