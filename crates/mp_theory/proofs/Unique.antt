@@ -84,7 +84,7 @@ module _ (sig : Sig) (t : Tree) where
         let e : s ≡ u = cc in
         ap (λ x. x ∷ ss) e ∙ ap (λ x. u ∷ x) (decided ss us Ts h.1 k.1)
 
-    pub one-list-unique : (ss us : List Subst) → IsOneList sig r t ss → IsOneList sig r t us → ss ≡ us
-    one-list-unique ss us h k =
+    pub IsOneList-unique : (ss us : List Subst) → IsOneList sig r t ss → IsOneList sig r t us → ss ≡ us
+    IsOneList-unique ss us h k =
         let e : h.tables ≡ k.tables = same_members table_cmp (lists_total entry_cmp_total) h.tables k.tables h.ascending k.ascending (table_moves ss us h k) (table_moves us ss k h) in
         decided ss us k.tables (subst (AreLeast sig r.pattern t ss) e h.least) k.least
