@@ -5,6 +5,7 @@ use Rattle.mp_term.specs.Tree.{Tree, symbol, app, trees}
 use Rattle.mp_term.specs.Order.{tree_cmp}
 use Rattle.mp_term.specs.OrderLaws.{tree_cmp_total, tree_same}
 use Rattle.mp_term.proofs.Sorting.{sorted-append_sorted, sorted-single}
+use Rattle.mp_term.proofs.NormalTestLaws.{not_not}
 use mathlib.Core.Bool.{true≢false}
 use Rattle.mp_term.specs.Sorting.{sorted}
 use Rattle.mp_term.specs.Signature.{Sig, is_one}
@@ -13,14 +14,11 @@ use Rattle.mp_theory.specs.Frames.{Frame, Next, ended, refused, child, settle, s
 use Rattle.mp_pattern.specs.Variables.{comm_above}
 use Rattle.mp_pattern.specs.Fits.{Entry, Table, joined, is_left_out, some_left_out, no_sequence, arranged, TakesBy, AllTakeBy}
 
+-- a child that is left out, or a later one
 split_not : (a b c : Bool) → (a && not (b || c)) ≡ ((a && not b) && not c)
 split_not true true c = refl
 split_not true false c = refl
 split_not false b c = refl
-
-not_not : (a : Bool) → not a ≡ false → a ≡ true
-not_not true e = refl
-not_not false e = cc
 
 -- `line` says what a wildcard takes
 module _ (sig : Sig) (line : Option ℕ → Wildcard → Option (List ℕ) → List Tree → Type 0) where
@@ -37,15 +35,18 @@ module _ (sig : Sig) (line : Option ℕ → Wildcard → Option (List ℕ) → L
     pub together : arranged sig f (list ++ rest) ≡ left
     pub in_order : arranged sig f rest ≡ rest
 
+  -- the next entry obeys the line of the child that comes next
   abbrev pub Step : Next → Entry → (List Frame → Type 0) → Type 0
   Step ended e k = ⊥
   Step refused e k = ⊥
   Step (child p f fs) e k = (rest : List Tree) × IsCut f.under f.left e.terms rest × Line p f.under e (record { under = f.under; children = f.children; left = rest; owes = f.owes && not (is_left_out p e.terms) } ∷ fs) k
 
+  -- the table is what the frames still take, entry by entry
   abbrev pub Run : List Frame → Table → Type 0
   Run fs [] = settle fs ≡ ended
   Run fs (e ∷ T) = Step (settle fs) e (λ gs. Run gs T)
 
+  -- a run depends on where the frames settle
   run_by_settle : (fs gs : List Frame) (T : Table) → settle fs ≡ settle gs → Run gs T → Run fs T
   run_by_settle fs gs [] e h = e ∙ h
   run_by_settle fs gs (x ∷ T) e h = subst (λ n. Step n x (λ hs. Run hs T)) (sym e) h
@@ -54,6 +55,7 @@ module _ (sig : Sig) (line : Option ℕ → Wildcard → Option (List ℕ) → L
   no_run fs [] e h = let q : refused ≡ ended = sym e ∙ h in cc
   no_run fs (x ∷ T) e h = subst (λ n. Step n x (λ gs. Run gs T)) e h
 
+  -- lists of no term or one are in order
   arranged_none : (f : Option ℕ) → arranged sig f [] ≡ []
   arranged_none f = elim (comm_above sig f) as (λ v. (if v then sorted tree_cmp [] else []) ≡ []) [ true ↦ refl | false ↦ refl ]
 
@@ -64,6 +66,7 @@ module _ (sig : Sig) (line : Option ℕ → Wildcard → Option (List ℕ) → L
   from_arranged_one f l t =
       elim (comm_above sig f) as (λ v. (if v then sorted tree_cmp l else l) ≡ t ∷ [] → l ≡ t ∷ []) [ true ↦ sorted-single tree_cmp l t | false ↦ λ e. e ]
 
+  -- a part that is put in order first changes nothing
   arranged_again : (f : Option ℕ) (l m : List Tree) → arranged sig f (l ++ arranged sig f m) ≡ arranged sig f (l ++ m)
   arranged_again f l m =
       elim (comm_above sig f) as (λ v. (if v then sorted tree_cmp (l ++ (if v then sorted tree_cmp m else m)) else (l ++ (if v then sorted tree_cmp m else m))) ≡ (if v then sorted tree_cmp (l ++ m) else (l ++ m))) [
@@ -71,6 +74,7 @@ module _ (sig : Sig) (line : Option ℕ → Wildcard → Option (List ℕ) → L
         | false ↦ refl
       ]
 
+  -- the entry by arguments, and a frame
   abbrev leaf : List Tree → Entry
   leaf l = record { terms = l; collapsed = false }
 
@@ -103,6 +107,7 @@ module _ (sig : Sig) (line : Option ℕ → Wildcard → Option (List ℕ) → L
           ),
         )
 
+    -- the children of g, each with its list, and then what comes after g
     pub forward_all : (qs : Patterns) (g : ℕ) (ls : List (List Tree)) (Ts : List Table) → AllTakeBy sig line g qs ls Ts
         → (owes : Bool) (fs : List Frame) (U : Table) → (owes && not (some_left_out qs ls)) ≡ false → Run fs U → Run (frame (Some g) qs (arranged sig (Some g) (joined ls)) owes ∷ fs) (joined Ts ++ U)
     forward_all no_patterns g [] [] h true fs U c k = let e : true ≡ false = c in absurd (true≢false e)
@@ -126,6 +131,7 @@ module _ (sig : Sig) (line : Option ℕ → Wildcard → Option (List ℕ) → L
     pub table : T ≡ mine ++ after
     pub go : Run (frame f ps rest (owes && not (is_left_out p list)) ∷ fs) after
 
+  -- the children of g that were read
   pub record ReadAll (qs : Patterns) (g : ℕ) (left : List Tree) (owes : Bool) (fs : List Frame) (T : Table) : Type 0 where
     pub lists : List (List Tree)
     pub tables : List Table
@@ -136,6 +142,7 @@ module _ (sig : Sig) (line : Option ℕ → Wildcard → Option (List ℕ) → L
     pub table : T ≡ joined tables ++ after
     pub go : Run fs after
 
+  -- an application whose children were read, by arguments and collapsed
   read_by_arguments : (g : ℕ) (qs : Patterns) (f : Option ℕ) (ps : Patterns) (left : List Tree) (owes : Bool) (fs : List Frame) (e : Entry) (U : Table) (rest : List Tree) → IsCut f left e.terms rest
       → (args : List Tree) → e ≡ leaf (app g (trees args) ∷ []) → ReadAll qs g args false (frame f ps rest (owes && not false) ∷ fs) U → Read (app_pattern g qs) f ps left owes fs (e ∷ U)
   read_by_arguments g qs f ps left owes fs e U rest a args q r = record {
@@ -180,6 +187,7 @@ module _ (sig : Sig) (line : Option ℕ → Wildcard → Option (List ℕ) → L
   }
 
   mutual
+    -- a child is read off a run, and then what is left
     pub backward : (p : Pattern) (f : Option ℕ) (ps : Patterns) (left : List Tree) (owes : Bool) (fs : List Frame) (T : Table) → Run (frame f (more_patterns p ps) left owes ∷ fs) T → Read p f ps left owes fs T
     backward (symbol_pattern n) f ps left owes fs [] h = let q : child (symbol_pattern n) (frame f ps left owes) fs ≡ ended = h in absurd (cc)
     backward (symbol_pattern n) f ps left owes fs (e ∷ U) h = record {
@@ -210,6 +218,7 @@ module _ (sig : Sig) (line : Option ℕ → Wildcard → Option (List ℕ) → L
           | inr k ↦ read_collapsed g qs f ps left owes fs e U h.0 h.1 k.0 k.1 k.2 k.3 (backward_all qs g (k.0 ∷ []) true (frame f ps h.0 (owes && not false) ∷ fs) U k.4)
         ]
 
+    -- the children of g, and then what comes after g
     pub backward_all : (qs : Patterns) (g : ℕ) (left : List Tree) (owes : Bool) (fs : List Frame) (T : Table) → Run (frame (Some g) qs left owes ∷ fs) T → ReadAll qs g left owes fs T
     backward_all no_patterns g [] false fs T h = record { lists = []; tables = []; after = T; takes = tt; together = arranged_none (Some g); owed = refl; table = refl; go = run_by_settle fs (frame (Some g) no_patterns [] false ∷ fs) T refl h }
     backward_all no_patterns g [] true fs T h = absurd (no_run (frame (Some g) no_patterns [] true ∷ fs) T refl h)
@@ -228,12 +237,14 @@ module _ (sig : Sig) (line : Option ℕ → Wildcard → Option (List ℕ) → L
           go = i.go;
         }
 
+  -- nothing is left at the end
   at_end : (l : List Tree) (b : Bool) (U : Table) → Run (frame None no_patterns l b ∷ []) U → (l ≡ []) × (U ≡ [])
   at_end [] false [] h = (refl, refl)
   at_end [] false (e ∷ U) h = absurd h
   at_end [] true U h = absurd (no_run (frame None no_patterns [] true ∷ []) U refl h)
   at_end (t ∷ ts) b U h = absurd (no_run (frame None no_patterns (t ∷ ts) b ∷ []) U refl h)
 
+  -- so the pattern takes the subject with the table exactly where the table is a run from the start
   pub run-takes : (p : Pattern) (t : Tree) (T : Table) → TakesBy sig line None p (t ∷ []) T → Run (start p t) T
   run-takes p t T h =
       subst (Run (start p t)) (append-nil T) (forward p None (t ∷ []) T h no_patterns (t ∷ []) [] false [] [] (record { together = refl; in_order = refl }) refl)

@@ -72,6 +72,7 @@ module _ (sig : Sig) where
       let k = from_in-filter (reads sig p f.under) e bounded i in
       (choices-exact sig p f fs e.terms e.collapsed).1 (((pieces_among-exact tree_cmp tree_cmp_total tree_same c ns e.terms f.left).0 (from_in-entries e (pieces_among tree_cmp c ns f.left) k.0)).1, k.1))
 
+  -- a contribution has a term, and under an operation that isn't associative one
   some_contributor : (f : Option ℕ) (l : List Tree) → is_some (contributor sig f l) ≡ true → (1 ≤ length l) × (assoc_above sig f ≡ false → length l ≤ 1)
   some_contributor f [] h = cc
   some_contributor f (t ∷ []) h = (omega arith, λ q. omega arith)

@@ -42,6 +42,7 @@ module _ (sig : Sig) where
   pub reached : (n : Next) (s r : Subst) (e : Entry) (es : List Entry) (ls : List Level) → solve sig s (said n e) ≡ Some r → is_ended (onward n e) ≡ true → to_come sig (level zero n s (e ∷ es) ∷ ls) ≡ r ∷ to_come sig (level zero n s es ∷ ls)
   reached n s r e es ls h q = rw (h, q) refl
 
+  -- or none, if the table may not end there
   pub unfinished : (n : Next) (s r : Subst) (e : Entry) (es : List Entry) (ls : List Level) → solve sig s (said n e) ≡ Some r → is_ended (onward n e) ≡ false → to_come sig (level zero n s (e ∷ es) ∷ ls) ≡ to_come sig (level zero n s es ∷ ls)
   unfinished n s r e es ls h q = rw (h, q) refl
 

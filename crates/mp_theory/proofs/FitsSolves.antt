@@ -62,11 +62,13 @@ module _ (sig : Sig) where
         | false ↦ tuple_among u us i q c
       ]
 
+  -- a tuple is no multiset
   tuple_no_bag : (v : Value) → form_of v ≡ seq_form → is_bag (Some v) ≡ false
   tuple_no_bag (one t) e = refl
   tuple_no_bag (seq ts) e = refl
   tuple_no_bag (bag ts) e = cc
 
+  -- the values of a substitution have the forms that the wildcards ask for
   forms-hold : (p : Pattern) (s : Subst) → IsSubstOf sig p s → Each (FormHolds sig s) None p
   forms-hold p s h =
       each-from_uses (λ u. is_sequence u.wildcard ≡ true → comm_above sig u.under ≡ false → is_bag (value_of s u.name) ≡ false) (FormHolds sig s) (λ f w x k. k) (λ f w. tt) None p
@@ -76,6 +78,7 @@ module _ (sig : Sig) where
         | Some v ↦ λ e. tuple_no_bag v (at_value (λ x w. form_of w ≡ variable_form sig p x) s u.name v h.forms e ∙ tuple_among u (uses None p) i q c)
       ] refl))
 
+  -- before the first node all is sound
   sound-start : (Q : Option ℕ → Wildcard → Option (List ℕ) → Type 0) (p : Pattern) (t : Tree) → IsNormal sig t → Each Q None p → IsSoundAt sig Q (settle (start p t))
   sound-start Q p t n e = sound-settle sig Q (start p t) ((fine-single sig Q None t (final-passes sig t n), (e, tt)), tt)
 
@@ -95,12 +98,14 @@ module _ (sig : Sig) where
       said-final (wild_pattern w None) h i = tt
       said-final (wild_pattern w (Some x)) h i = (λ g q. given-final sig f.under w e.terms g q h.0 (fine-piece sig (DefaultHolds sig s) f.under e.terms f.left i h.1.0), tt)
 
+  -- a table that fits with s has the shape, and s solves its takes
   pub fits-solves : (p : Pattern) (t : Tree) (s : Subst) (T : Table) → IsNormal sig t → Fits sig p t s T → HasShape sig p t T × (solve sig [] (takes (settle (start p t)) T) ≡ Some s)
   fits-solves p t s T n h =
       let a = accepted sig s (λ x v e. at_value (λ y w. IsFinal sig w) s x v h.subst_of.final e) (settle (start p t)) T (sound-start (FormHolds sig s) p t n (forms-hold p s h.subst_of))
       (run_at sig (ByValue sig s) (start p t) T (run-takes sig (ByValue sig s) p t T h.takes)) in
       (a.0, solved-by sig p (takes (settle (start p t)) T) (shape-accounts sig p t T a.0).1 s h.subst_of a.1)
 
+  -- and back
   pub solves-fits : (p : Pattern) (t : Tree) (s : Subst) (T : Table) → IsSound sig p → IsNormal sig t → HasShape sig p t T → solve sig [] (takes (settle (start p t)) T) ≡ Some s → Fits sig p t s T
   solves-fits p t s T d n a e =
       let sound = sound-start (DefaultHolds sig s) p t n d.defaults in

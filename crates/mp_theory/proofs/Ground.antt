@@ -16,6 +16,7 @@ use Rattle.mp_theory.specs.Machine.{is_ended, onward, takes, choices}
 use Rattle.mp_theory.specs.Bounds.{ground_tree, ground_trees}
 use Rattle.mp_theory.proofs.Walk.{IsSoundAt, at_run, walked}
 
+-- no ground child is left out
 none_left_out : (ps : Patterns) (ls : List (List Tree)) → all_ground ps ≡ true → some_left_out ps ls ≡ false
 none_left_out no_patterns ls g = refl
 none_left_out (more_patterns p ps) [] g = refl
@@ -23,12 +24,14 @@ none_left_out (more_patterns (symbol_pattern n) ps) (l ∷ ls) g = none_left_out
 none_left_out (more_patterns (app_pattern f qs) ps) (l ∷ ls) g = none_left_out ps ls (both (all_ground qs) (all_ground ps) g).1
 none_left_out (more_patterns (wild_pattern w x) ps) (l ∷ ls) g = cc
 
+-- the list of the first entry
 abbrev first_terms : Table → List Tree
 first_terms [] = []
 first_terms (e ∷ T) = e.terms
 
 module _ (sig : Sig) (line : Option ℕ → Wildcard → Option (List ℕ) → List Tree → Type 0) where
   mutual
+    -- what a ground pattern takes is its own term
     pub ground_takes : (p : Pattern) (f : Option ℕ) (l : List Tree) (T : Table) → is_ground p ≡ true → TakesBy sig line f p l T → l ≡ ground_tree sig p ∷ []
     ground_takes (symbol_pattern n) f l T g h = h.0
     ground_takes (wild_pattern w x) f l T g h = cc
@@ -53,6 +56,7 @@ module _ (sig : Sig) (line : Option ℕ → Wildcard → Option (List ℕ) → L
   first_entry (app_pattern g ps) f l T U (inr h) = ap (λ V. first_terms (V ++ U)) h.table
 
 module _ (sig : Sig) where
+  -- a line that says nothing
   abbrev Any : Option ℕ → Wildcard → Option (List ℕ) → List Tree → Type 0
   Any f w x l = ⊤
 

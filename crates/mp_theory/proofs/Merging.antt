@@ -7,6 +7,7 @@ use Rattle.std.specs.Ordering.{is_eq}
 use Rattle.std.specs.Cmp.Lexicographic.{slice_cmp}
 use Rattle.std.specs.List.{AllByRecursion}
 use Rattle.std.proofs.lemmas.Cmp.{tied_itself, lists_total}
+use Rattle.std.proofs.lemmas.Option.{none-some}
 use Rattle.mp_term.specs.Tree.{Tree}
 use Rattle.mp_term.specs.Order.{tree_cmp}
 use Rattle.mp_term.specs.OrderLaws.{tree_cmp_total, tree_same, both_equal, nats_same}
@@ -28,29 +29,31 @@ abbrev pub IsArranged : Value → Type 0
 IsArranged (bag ts) = sorted tree_cmp ts ≡ ts
 IsArranged _ = Unit {0}
 
-pub eq_of : (o : Ordering) → is_eq o ≡ true → o ≡ Equal
-eq_of Less e = cc
-eq_of Equal e = refl
-eq_of Greater e = cc
+-- equality tests are sound and complete
+pub from_is_eq : (o : Ordering) → is_eq o ≡ true → o ≡ Equal
+from_is_eq Less e = cc
+from_is_eq Equal e = refl
+from_is_eq Greater e = cc
 
-trees_same : (ts us : List Tree) → slice_cmp tree_cmp ts us ≡ Equal → ts ≡ us
-trees_same [] [] e = refl
-trees_same [] (u ∷ us) e = cc
-trees_same (t ∷ ts) [] e = cc
-trees_same (t ∷ ts) (u ∷ us) e =
+terms_same : (ts us : List Tree) → slice_cmp tree_cmp ts us ≡ Equal → ts ≡ us
+terms_same [] [] e = refl
+terms_same [] (u ∷ us) e = cc
+terms_same (t ∷ ts) [] e = cc
+terms_same (t ∷ ts) (u ∷ us) e =
     let h = both_equal _ _ e in
     let p : t ≡ u = tree_same t u h.0 in
-    let q : ts ≡ us = trees_same ts us h.1 in
+    let q : ts ≡ us = terms_same ts us h.1 in
     cc
 
 pub same_terms-sound : (ts us : List Tree) → same_terms ts us ≡ true → ts ≡ us
-same_terms-sound ts us e = trees_same ts us (eq_of _ e)
+same_terms-sound ts us e = terms_same ts us (from_is_eq _ e)
 
 pub same_terms-complete : (ts us : List Tree) → ts ≡ us → same_terms ts us ≡ true
 same_terms-complete ts us e = rw (← e, tied_itself (lists_total tree_cmp_total) ts) refl
 
-pub again : (ts : List Tree) → sorted tree_cmp (sorted tree_cmp ts) ≡ sorted tree_cmp ts
-again ts = sorted_again tree_cmp tree_cmp_total tree_same ts
+-- sorting twice is sorting once
+pub sorted-sorted : (ts : List Tree) → sorted tree_cmp (sorted tree_cmp ts) ≡ sorted tree_cmp ts
+sorted-sorted ts = sorted_again tree_cmp tree_cmp_total tree_same ts
 
 -- two values that a final one agrees with have a merge, which it agrees with
 pub record Merged (w x v : Value) : Type 0 where
@@ -58,16 +61,17 @@ pub record Merged (w x v : Value) : Type 0 where
   pub is : merge w x ≡ Some value
   pub refines : Refines value v
 
+-- values that agree with one final value have a merge
 pub merge-complete : (w x v : Value) → Refines w v → Refines x v → Merged w x v
 merge-complete (one t) (one u) (one v) p q = record { value = one t; is = rw (q ∙ sym p, tied_itself tree_cmp_total t) refl; refines = p }
 merge-complete (seq ts) (seq us) (seq vs) p q = record { value = seq ts; is = rw (same_terms-complete ts us (p ∙ sym q)) refl; refines = p }
 merge-complete (bag ts) (bag us) (bag vs) p q = record { value = bag ts; is = rw (same_terms-complete ts us (p ∙ sym q)) refl; refines = p }
 merge-complete (bag ts) (bag us) (seq vs) p q = record { value = bag ts; is = rw (same_terms-complete ts us (p ∙ sym q)) refl; refines = p }
 merge-complete (seq ts) (bag us) (seq vs) p q =
-    let e : sorted tree_cmp ts ≡ sorted tree_cmp us = ap (sorted tree_cmp) p ∙ sym (again vs) ∙ ap (sorted tree_cmp) (sym q) in
+    let e : sorted tree_cmp ts ≡ sorted tree_cmp us = ap (sorted tree_cmp) p ∙ sym (sorted-sorted vs) ∙ ap (sorted tree_cmp) (sym q) in
     record { value = seq ts; is = rw (same_terms-complete (sorted tree_cmp ts) (sorted tree_cmp us) e) refl; refines = p }
 merge-complete (bag ts) (seq us) (seq vs) p q =
-    let e : sorted tree_cmp ts ≡ sorted tree_cmp us = ap (sorted tree_cmp) p ∙ again vs ∙ ap (sorted tree_cmp) (sym q) in
+    let e : sorted tree_cmp ts ≡ sorted tree_cmp us = ap (sorted tree_cmp) p ∙ sorted-sorted vs ∙ ap (sorted tree_cmp) (sym q) in
     record { value = seq us; is = rw (same_terms-complete (sorted tree_cmp ts) (sorted tree_cmp us) e) refl; refines = q }
 merge-complete (one t) x (seq vs) p q = absurd p
 merge-complete (one t) x (bag vs) p q = absurd p
@@ -86,11 +90,12 @@ pub from_if : (b : Bool) (a u : Value) → (if b then Some a else None) ≡ Some
 from_if true a u e = (refl, cc)
 from_if false a u e = cc
 
+-- what agrees with a merge agrees with both
 pub merge-sound : (w x u v : Value) → IsArranged w → IsArranged x → merge w x ≡ Some u → Refines u v → Refines w v × Refines x v
 merge-sound (one t) (one u) m v a b e r =
     let h = from_if (is_eq (tree_cmp t u)) (one t) m e in
     let k = subst (λ n. Refines n v) (sym h.1) r in
-    (k, subst (λ n. Refines (one n) v) (tree_same t u (eq_of _ h.0)) k)
+    (k, subst (λ n. Refines (one n) v) (tree_same t u (from_is_eq _ h.0)) k)
 merge-sound (seq ts) (seq us) m v a b e r =
     let h = from_if (same_terms ts us) (seq ts) m e in
     let k = subst (λ n. Refines n v) (sym h.1) r in
@@ -126,16 +131,19 @@ merge-sound (bag ts) (one u) m v a b e r = cc
 abbrev pub Extends : Subst → Subst → Type 0
 Extends env s = AllByRecursion (λ b. (v : Value) × (value_of s b.name ≡ Some v) × Refines b.value v) env
 
+-- each multiset ascends
 abbrev pub AllArranged : Subst → Type 0
 AllArranged env = AllByRecursion (λ b. IsArranged b.value) env
 
+-- the value can be bound, and s agrees with what comes out
 pub record Bound (env s : Subst) (x : List ℕ) (w : Value) : Type 0 where
   pub env_after : Subst
   pub is : bind env x w ≡ Some env_after
   pub extends : Extends env_after s
 
+-- names that test equal are equal
 pub name_same : (x y : List ℕ) → same_name x y ≡ true → x ≡ y
-name_same x y e = nats_same x y (eq_of _ e)
+name_same x y e = nats_same x y (from_is_eq _ e)
 
 -- a value that s agrees with can be bound, and s still agrees
 pub bind-complete : (env s : Subst) (x : List ℕ) (w v : Value) → Extends env s → value_of s x ≡ Some v → Refines w v → Bound env s x w
@@ -155,16 +163,14 @@ bind-complete (b ∷ env) s x w v h e r =
           record { env_after = b ∷ m.env_after; is = rw (q, m.is) refl; extends = (h.0, m.extends) }
     ] refl
 
+-- what an `if` that gave a substitution went through
 pub if_either : (t : Bool) (a b : Option Subst) (r : Subst) → (if t then a else b) ≡ Some r → ((t ≡ true) × (a ≡ Some r)) ⊎ ((t ≡ false) × (b ≡ Some r))
 if_either true a b r e = inl (refl, e)
 if_either false a b r e = inr (refl, e)
 
-none_not_some : {B : Type 0} (o : Option B) (r : B) → o ≡ None → o ≡ Some r → ⊥
-none_not_some o r p e = let q : Some r ≡ None = sym e ∙ p in cc
-
 -- an `option_map` that gave a value
 pub mapped : {A B : Type 0} (f : A → B) (a : Option A) (r : B) → option_map f a ≡ Some r → (x : A) × (a ≡ Some x) × (f x ≡ r)
-mapped f None r e = absurd (none_not_some _ r refl e)
+mapped f None r e = absurd (none-some r e)
 mapped f (Some x) r e = (x, refl, cc)
 
 -- a binding that succeeded: what agrees with the result agreed with all before, and with the new value

@@ -26,6 +26,7 @@ use Rattle.mp_theory.proofs.Solving.{same_name-itself, then_some}
 use Rattle.mp_theory.proofs.FitsSolves.{fits-solves, solves-fits}
 use Rattle.mp_theory.proofs.FirstsLaws.{contains-from_in, in-from_contains, Both, from_both, IsFirst, Added, added}
 
+-- the test of values is sound and complete
 same_value-itself : (v : Value) → same_value v v ≡ true
 same_value-itself (one t) = same-itself tree_cmp tree_cmp_total tree_same t
 same_value-itself (seq ts) = same_terms-complete ts ts refl
@@ -42,6 +43,7 @@ same_value-sound (seq ts) (bag us) e = cc
 same_value-sound (bag ts) (one u) e = cc
 same_value-sound (bag ts) (seq us) e = cc
 
+-- so is the test of substitutions
 pub same_subst-itself : (s : Subst) → same_subst s s ≡ true
 same_subst-itself [] = refl
 same_subst-itself (b ∷ s) = joined_tests _ _ (same_name-itself b.name) (joined_tests _ _ (same_value-itself b.value) (same_subst-itself s))
@@ -56,9 +58,11 @@ same_subst-sound (b ∷ r) (c ∷ s) e =
     ap (λ m. record { name = m; value = b.value } ∷ r) (name_same b.name c.name h.0) ∙ ap (λ m. record { name = c.name; value = m } ∷ r) (same_value-sound b.value c.value k.0) ∙ ap (λ m. c ∷ m) (same_subst-sound r s k.1)
 
 module _ (sig : Sig) (r : Rule) (t : Tree) where
+  -- s solves the takes of the table
   abbrev Solves : Table → Subst → Type 0
   Solves T s = solve sig [] (takes (settle (start r.pattern t)) T) ≡ Some s
 
+  -- a table gives s exactly where s solves its takes and meets the condition
   from_admitted : (T : Table) (s : Subst) → admitted sig r t T ≡ Some s → Solves T s × (meets sig r.condition s ≡ true)
   from_admitted T s e =
       let a = then_some (λ u. if meets sig r.condition u then Some u else None) (solve sig [] (takes (settle (start r.pattern t)) T)) s e in
@@ -71,18 +75,22 @@ module _ (sig : Sig) (r : Rule) (t : Tree) where
   to_admitted T s e m = rw (e, m) refl
 
   module _ (sound : IsSound sig r.pattern) (normal : IsNormal sig t) where
+    -- the first tables and what they give
     abbrev Found : Added same_subst same_subst-itself same_subst-sound (admitted sig r t) table_cmp (lists_total entry_cmp_total) [] (tables sig r.pattern t)
     Found = added same_subst same_subst-itself same_subst-sound (admitted sig r t) table_cmp (lists_total entry_cmp_total) [] (tables sig r.pattern t) (tables-ascending sig r.pattern t)
 
+    -- the table is the first that gives s
     abbrev First : Subst → Table → Type 0
     First = IsFirst same_subst same_subst-itself same_subst-sound (admitted sig r t) table_cmp (lists_total entry_cmp_total) (tables sig r.pattern t)
 
+    -- a table gives s exactly where it fits with s
     fits-admitted : (s : Subst) (T : Table) → Fits sig r.pattern t s T → meets sig r.condition s ≡ true → In T (tables sig r.pattern t) × (admitted sig r t T ≡ Some s)
     fits-admitted s T h m = let k = fits-solves sig r.pattern t s T normal h in ((tables-exact sig r.pattern t T).1 k.0, to_admitted T s k.1 m)
 
     admitted-fits : (s : Subst) (T : Table) → In T (tables sig r.pattern t) → admitted sig r t T ≡ Some s → Fits sig r.pattern t s T × (meets sig r.condition s ≡ true)
     admitted-fits s T i e = let k = from_admitted T s e in (solves-fits sig r.pattern t s T sound normal ((tables-exact sig r.pattern t T).0 i) k.0, k.1)
 
+    -- so the first table that gives s is the least that fits with it
     first-least : (s : Subst) (T : Table) → First s T → IsLeast sig r.pattern t s T
     first-least s T h =
         let k = admitted-fits s T h.stands h.gives in
@@ -94,6 +102,7 @@ module _ (sig : Sig) (r : Rule) (t : Tree) where
     are-least (s ∷ ss) [] h = absurd h
     are-least (s ∷ ss) (T ∷ Ts) h = (first-least s T h.0, are-least ss Ts h.1)
 
+    -- what is found is what the rule admits
     found-exactly : (s : Subst) → Contains Found.items s ↔ Admits sig r t s
     found-exactly s = (
       λ c.
@@ -103,5 +112,6 @@ module _ (sig : Sig) (r : Rule) (t : Tree) where
       λ a. let k = fits-admitted s a.table a.fits a.condition in contains-from_in s Found.items (Found.complete a.table s k.0 k.1),
     )
 
+    -- the list of the search is the one-list
     pub one_list-is : IsOneList sig r t (one_list sig r t)
     one_list-is = subst (IsOneList sig r t) (sym Found.is) (record { exactly = found-exactly; tables = Found.firsts; least = are-least Found.items Found.firsts Found.least; ascending = Found.ascending })

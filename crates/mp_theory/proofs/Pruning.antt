@@ -13,7 +13,7 @@ use Rattle.mp_pattern.specs.Holds.{is_bag}
 use Rattle.mp_pattern.specs.Variables.{comm_above}
 use Rattle.mp_pattern.specs.Fits.{Entry, Table, WildTakes}
 use Rattle.mp_theory.specs.Solve.{bind, given, sequence, solve}
-use Rattle.mp_theory.proofs.Merging.{Refines, IsArranged, eq_of, from_if, mapped, same_terms-sound}
+use Rattle.mp_theory.proofs.Merging.{Refines, IsArranged, from_is_eq, from_if, mapped, same_terms-sound}
 use Rattle.mp_theory.specs.Frames.{Frame, Next, ended, refused, child, is_done, settle}
 use Rattle.mp_theory.specs.Search.{In, words, Accepts}
 use Rattle.mp_theory.specs.Pieces.{without}
@@ -41,14 +41,17 @@ module _ (sig : Sig) where
     pub enough : all_least ps ≤ n
     pub room : all_short sig f ps ≡ true → n ≤ child_count ps
 
+  -- what is left to the frame is within the bounds of its children
   abbrev pub FrameIsWithin : Frame → Type 0
   FrameIsWithin f = IsWithin f.under f.children (length f.left)
 
+  -- so it is at the place that comes next and in the frames around
   abbrev WithinAt : Next → Type 0
   WithinAt ended = ⊤
   WithinAt refused = ⊥
   WithinAt (child p f fs) = IsWithin f.under (more_patterns p f.children) (length f.left) × AllByRecursion FrameIsWithin fs
 
+  -- frames that settle are within their bounds
   done_within : (f : Option ℕ) (ts : List Tree) (b : Bool) → is_done ts b ≡ true → IsWithin f no_patterns (length ts)
   done_within f [] b e = record { enough = omega arith; room = λ _. omega arith }
   done_within f (t ∷ ts) b e = cc
@@ -64,6 +67,7 @@ module _ (sig : Sig) where
         | more_patterns p ps ↦ λ k. k
       ] h
 
+  -- one child more
   one_more : (p : Pattern) (f : Option ℕ) (ps : Patterns) (l rest n : ℕ) → l + rest ≡ n → (least p ≤ l) × (is_short sig f p ≡ true → l ≤ 1) → IsWithin f ps rest → IsWithin f (more_patterns p ps) n
   one_more p f ps l rest n e w h =
       let enough : all_least ps ≤ rest = h.enough in
@@ -94,6 +98,7 @@ module _ (sig : Sig) where
       outer (wild_pattern w x) h = h
       outer (app_pattern g ps) h = h.1
 
+  -- so each frame is, wherever a table is accepted
   pub frames-within : (fs : List Frame) (T : Table) → Accepts (choices sig) onward is_ended (settle fs) T → AllByRecursion FrameIsWithin fs
   frames-within fs T a = within_settled fs (within_at (settle fs) T a)
 
@@ -119,8 +124,9 @@ bound_merges (b ∷ s) x v w r e h =
       | false ↦ λ p q. let m = mapped (λ z. b ∷ z) (bind s x w) r q in bound_merges s x v w m.0 p m.1
     ] e h
 
+-- a value that merges with a bound one agrees with it
 merged_refines : (v w u : Value) → is_bag (Some v) ≡ false → IsArranged w → merge v w ≡ Some u → Refines w v
-merged_refines (one t) (one s) u n a e = sym (tree_same t s (eq_of _ (from_if _ _ u e).0))
+merged_refines (one t) (one s) u n a e = sym (tree_same t s (from_is_eq _ (from_if _ _ u e).0))
 merged_refines (one t) (seq us) u n a e = cc
 merged_refines (one t) (bag us) u n a e = cc
 merged_refines (seq ts) (one s) u n a e = cc
@@ -128,6 +134,7 @@ merged_refines (seq ts) (seq us) u n a e = sym (same_terms-sound ts us (from_if 
 merged_refines (seq ts) (bag us) u n a e = sym a ∙ sym (same_terms-sound _ _ (from_if _ _ u e).0)
 merged_refines (bag ts) w u n a e = cc
 
+-- what a take gives is arranged
 sequence-arranged : (sig : Sig) (f : Option ℕ) (l : List Tree) → put (comm_above sig f) l ≡ l → IsArranged (sequence sig f l)
 sequence-arranged sig f l o = elim (comm_above sig f) as (λ b. put b l ≡ l → IsArranged (if b then bag l else seq l)) [ true ↦ λ e. e | false ↦ λ e. tt ] o
 

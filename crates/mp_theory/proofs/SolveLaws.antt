@@ -19,11 +19,13 @@ module _ (sig : Sig) where
     pub held : value_of s t.by.name ≡ Some final
     pub refines : Refines value final
 
+  -- the takes are solved, by a substitution that s agrees with
   pub record Solved (env s : Subst) (ts : List Taken) : Type 0 where
     pub after : Subst
     pub is : solve sig env ts ≡ Some after
     pub extends : Extends after s
 
+  -- takes that s obeys are solved
   pub solve-complete : (env s : Subst) (ts : List Taken) → Extends env s → AllByRecursion (Obeys s) ts → Solved env s ts
   solve-complete env s [] h k = record { after = env; is = refl; extends = h }
   solve-complete env s (t ∷ ts) h k =
@@ -50,6 +52,7 @@ module _ (sig : Sig) where
         | false ↦ λ q p. single (Some g) (app h us) l (rw (a, q) refl) p
       ] refl e
 
+  -- the term that contributes a list is found from the list
   pub contribution-found : (f : Option ℕ) (v : Tree) (l : List Tree) → contribution sig f v ≡ Some l → contributor sig f l ≡ Some (one v)
   contribution-found None v l e = single None v l refl e
   contribution-found (Some g) v l e =

@@ -15,9 +15,11 @@ use Rattle.mp_theory.proofs.SolveLaws.{Obeys, solve-complete}
 use Rattle.mp_theory.proofs.SearchLaws.{all-append}
 use Rattle.mp_theory.proofs.Wildcards.{contributor-contributes, refines-itself}
 
+-- the names of a substitution
 abbrev pub names : Subst → List (List ℕ)
 names s = map (λ b. b.name) s
 
+-- the test of names is reflexive and symmetric
 pub same_name-itself : (x : List ℕ) → same_name x x ≡ true
 same_name-itself x = rw (tied_itself nat_list_cmp_total x) refl
 
@@ -37,15 +39,17 @@ pub then_some : {A B : Type 0} (f : A → Option B) (o : Option A) (r : B) → o
 then_some f None r e = cc
 then_some f (Some x) r e = (x, refl, e)
 
--- names
+-- no two of the names are the same
 abbrev Distinct : List (List ℕ) → Type 0
 Distinct [] = ⊤
 Distinct (x ∷ xs) = AllByRecursion (λ y. same_name x y ≡ false) xs × Distinct xs
 
+-- where a disjunction is false
 neither : (a b : Bool) → (a || b) ≡ false → (a ≡ false) × (b ≡ false)
 neither true b e = cc
 neither false b e = (refl, e)
 
+-- names that are added once each stay distinct
 distinct-push : (ns : List (List ℕ)) (x : List ℕ) → is_known same_name ns x ≡ false → Distinct ns → Distinct (ns ++ (x ∷ []))
 distinct-push [] x e h = (tt, tt)
 distinct-push (n ∷ ns) x e h = let k = neither (same_name n x) (is_known same_name ns x) e in (all-append (λ y. same_name n y ≡ false) ns (x ∷ []) h.0 (k.0, tt), distinct-push ns x k.1 h.1)
@@ -60,6 +64,7 @@ distinct-firsts ns (x ∷ xs) h = distinct-firsts (add_new same_name ns x) xs (d
 add_new-behind : (n x : List ℕ) (ns : List (List ℕ)) → same_name n x ≡ false → n ∷ add_new same_name ns x ≡ add_new same_name (n ∷ ns) x
 add_new-behind n x ns e = rw e (elim (is_known same_name ns x) as (λ b. n ∷ (if b then ns else ns ++ (x ∷ [])) ≡ (if b then n ∷ ns else n ∷ (ns ++ (x ∷ [])))) [ true ↦ refl | false ↦ refl ])
 
+-- what binding does to the names
 bind-names : (env : Subst) (x : List ℕ) (w : Value) (r : Subst) → bind env x w ≡ Some r → names r ≡ add_new same_name (names env) x
 bind-names [] x w r e = let q : record { name = x; value = w } ∷ [] ≡ r = cc in ap names (sym q)
 bind-names (b ∷ env) x w r e =
@@ -68,7 +73,7 @@ bind-names (b ∷ env) x w r e =
       | inr q ↦ let m = mapped (λ u. b ∷ u) (bind env x w) r q.1 in ap names (sym m.2) ∙ ap (λ ns. b.name ∷ ns) (bind-names env x w m.0 m.1) ∙ add_new-behind b.name x (names env) q.0
     ]
 
--- forms
+-- the form of a variable with uses of two forms: a tuple, if one is a tuple
 abbrev pub join : Form → Form → Form
 join one_form b = b
 join seq_form b = seq_form
@@ -76,6 +81,7 @@ join bag_form one_form = bag_form
 join bag_form seq_form = seq_form
 join bag_form bag_form = bag_form
 
+-- joining is associative, with `one_form` as its unit
 join_assoc : (a b c : Form) → join (join a b) c ≡ join a (join b c)
 join_assoc one_form b c = refl
 join_assoc seq_form b c = refl
@@ -95,10 +101,12 @@ join_seq one_form = refl
 join_seq seq_form = refl
 join_seq bag_form = refl
 
+-- the form of a value, if there is one
 abbrev held_form : Option Value → Form
 held_form None = one_form
 held_form (Some v) = form_of v
 
+-- the form of a merge is the join of the forms
 merge-form : (v w u : Value) → merge v w ≡ Some u → form_of u ≡ join (form_of v) (form_of w)
 merge-form (one t) (one s) u e = sym (ap form_of (from_if _ _ u e).1)
 merge-form (seq ts) (seq us) u e = sym (ap form_of (from_if _ _ u e).1)
@@ -113,6 +121,7 @@ merge-form (bag ts) (one s) u e = cc
 abbrev joined_at : Bool → Form → Form → Form
 joined_at b c d = if b then join c d else c
 
+-- what binding does to the forms
 bind-forms : (env : Subst) (x : List ℕ) (w : Value) (r : Subst) → bind env x w ≡ Some r → (y : List ℕ) → held_form (value_of r y) ≡ joined_at (same_name x y) (held_form (value_of env y)) (form_of w)
 bind-forms [] x w r e y =
     let q : record { name = x; value = w } ∷ [] ≡ r = cc in
@@ -140,7 +149,7 @@ bind-forms (b ∷ env) x w r e y =
           | false ↦ λ q. i
         ] refl
 
--- finals
+-- final values are arranged, and their merges final
 arranged-final : (sig : Sig) (v : Value) → IsFinal sig v → IsArranged v
 arranged-final sig (one t) h = tt
 arranged-final sig (seq ts) h = tt
@@ -157,6 +166,7 @@ merge-final sig (one t) (bag us) u e h k = cc
 merge-final sig (seq ts) (one s) u e h k = cc
 merge-final sig (bag ts) (one s) u e h k = cc
 
+-- each value is final
 abbrev pub AllFinal : Sig → Subst → Type 0
 AllFinal sig env = AllByRecursion (λ b. IsFinal sig b.value) env
 
@@ -164,6 +174,7 @@ all-arranged : (sig : Sig) (env : Subst) → AllFinal sig env → AllArranged en
 all-arranged sig [] h = tt
 all-arranged sig (b ∷ env) h = (arranged-final sig b.value h.0, all-arranged sig env h.1)
 
+-- binding keeps values final
 bind-final : (sig : Sig) (env : Subst) (x : List ℕ) (w : Value) (r : Subst) → bind env x w ≡ Some r → AllFinal sig env → IsFinal sig w → AllFinal sig r
 bind-final sig [] x w r e h k = let q : record { name = x; value = w } ∷ [] ≡ r = cc in subst (AllFinal sig) q (k, tt)
 bind-final sig (b ∷ env) x w r e h k =
@@ -177,6 +188,7 @@ abbrev pub use_form : Bool → Bool → Form
 use_form sequence comm = if sequence then (if comm then bag_form else seq_form) else one_form
 
 module _ (sig : Sig) where
+  -- the form by the uses of sequence wildcards
   abbrev among : List Use → Form
   among m = if list_any (λ v. not (comm_above sig v.under)) m then seq_form else (if list_any (λ _. true) m then bag_form else one_form)
 
@@ -191,12 +203,14 @@ module _ (sig : Sig) where
   among-cons true false u m = refl
   among-cons true true u m = counted (comm_above sig u.under) (list_any (λ v. not (comm_above sig v.under)) m) (list_any (λ _. true) m)
 
+  -- one use more
   pub form_among-cons : (u : Use) (us : List Use) (x : List ℕ) → form_among sig (u ∷ us) x ≡ (if same_name x u.name then join (use_form (is_sequence u.wildcard) (comm_above sig u.under)) (form_among sig us x) else form_among sig us x)
   form_among-cons u us x = among-cons (same_name x u.name) (is_sequence u.wildcard) u (filter (λ v. same_name x v.name && is_sequence v.wildcard) us)
 
   sequence-form : (f : Option ℕ) (l : List Tree) → form_of (sequence sig f l) ≡ use_form true (comm_above sig f)
   sequence-form f l = elim (comm_above sig f) as (λ b. form_of (if b then bag l else seq l) ≡ use_form true b) [ true ↦ refl | false ↦ refl ]
 
+  -- the form of what a take gives
   given-form : (f : Option ℕ) (w : Wildcard) (l : List Tree) (g : Value) → given sig f w l ≡ Some g → form_of g ≡ use_form (is_sequence w) (comm_above sig f)
   given-form f dot l g e = ap form_of (contributor-contributes sig f l g e).is
   given-form f (kind k) [] g e = cc
@@ -226,12 +240,14 @@ module _ (sig : Sig) where
       let b = then_some (λ r. solve sig r ts) (bind env t.by.name a.0) after a.2 in
       record { value = a.0; is = a.1; then_env = b.0; bound = b.1; rest = b.2 }
 
+  -- after the takes the names are the variables, in order of first use
   pub solve-names : (env : Subst) (ts : List Taken) (after : Subst) → solve sig env ts ≡ Some after → names after ≡ firsts_after same_name (names env) (map (λ u. u.name) (map (λ t. t.by) ts))
   solve-names env [] after e = let q : env ≡ after = cc in ap names (sym q)
   solve-names env (t ∷ ts) after e =
       let f = first_take env t ts after e in
       solve-names f.then_env ts after f.rest ∙ ap (λ ns. firsts_after same_name ns (map (λ u. u.name) (map (λ t. t.by) ts))) (bind-names env t.by.name f.value f.then_env f.bound)
 
+  -- and the forms are the joins of the forms of the uses
   pub solve-forms : (env : Subst) (ts : List Taken) (after : Subst) → solve sig env ts ≡ Some after → (y : List ℕ) → held_form (value_of after y) ≡ join (held_form (value_of env y)) (form_among sig (map (λ t. t.by) ts) y)
   solve-forms env [] after e y = let q : env ≡ after = cc in ap (λ s. held_form (value_of s y)) (sym q) ∙ sym (join_one (held_form (value_of env y)))
   solve-forms env (t ∷ ts) after e y =
@@ -252,6 +268,7 @@ module _ (sig : Sig) where
   abbrev pub GivesFinal : Taken → Type 0
   GivesFinal t = (g : Value) → given sig t.by.under t.by.wildcard t.terms ≡ Some g → IsFinal sig g
 
+  -- and the values are final
   pub solve-final : (env : Subst) (ts : List Taken) (after : Subst) → solve sig env ts ≡ Some after → AllFinal sig env → AllByRecursion GivesFinal ts → AllFinal sig after
   solve-final env [] after e h k = let q : env ≡ after = cc in subst (AllFinal sig) q h
   solve-final env (t ∷ ts) after e h k =
@@ -275,10 +292,12 @@ found-behind : (b : Binding) (s r : Subst) → AllByRecursion (λ y. same_name b
 found-behind b s [] h k = tt
 found-behind b s (c ∷ r) h k = (rw h.0 k.0, found-behind b s r h.1 k.1)
 
+-- the bindings of distinct names are found
 pub found-itself : (s : Subst) → Distinct (names s) → AllByRecursion (IsFound s) s
 found-itself [] h = tt
 found-itself (b ∷ s) h = (rw (same_name-itself b.name) refl, found-behind b s s h.0 (found-itself s h.1))
 
+-- so they agree with the substitution and have its forms
 extends-from_found : (s r : Subst) → AllByRecursion (IsFound s) r → Extends r s
 extends-from_found s [] h = tt
 extends-from_found s (b ∷ r) h = ((b.value, h.0, refines-itself b.value), extends-from_found s r h.1)
@@ -299,26 +318,28 @@ same_form (seq t) (one u) r e = absurd r
 same_form (seq t) (bag u) r e = absurd r
 same_form (bag t) (one u) r e = absurd r
 
+-- agreement with the rest
 extends-tail : (b : Binding) (r s : Subst) → AllByRecursion (λ y. same_name b.name y ≡ false) (names r) → Extends r (b ∷ s) → Extends r s
 extends-tail b [] s h k = tt
 extends-tail b (c ∷ r) s h k = ((k.0.0, rw h.0 at k.0.1, k.0.2), extends-tail b r s h.1 k.1)
 
 -- two substitutions of the same names and forms that agree are the same
-pub same_subst : (F : List ℕ → Form) (r s : Subst) → names r ≡ names s → Distinct (names s) → Extends r s → AllByRecursion (λ b. form_of b.value ≡ F b.name) r → AllByRecursion (λ b. form_of b.value ≡ F b.name) s → r ≡ s
-same_subst F [] [] n d x h k = refl
-same_subst F [] (c ∷ s) n d x h k = cc
-same_subst F (b ∷ r) [] n d x h k = cc
-same_subst F (b ∷ r) (c ∷ s) n d x h k =
+pub agreeing_same : (F : List ℕ → Form) (r s : Subst) → names r ≡ names s → Distinct (names s) → Extends r s → AllByRecursion (λ b. form_of b.value ≡ F b.name) r → AllByRecursion (λ b. form_of b.value ≡ F b.name) s → r ≡ s
+agreeing_same F [] [] n d x h k = refl
+agreeing_same F [] (c ∷ s) n d x h k = cc
+agreeing_same F (b ∷ r) [] n d x h k = cc
+agreeing_same F (b ∷ r) (c ∷ s) n d x h k =
     let p : b.name ≡ c.name = cc in
     let ns : names r ≡ names s = cc in
     let here : value_of (c ∷ s) c.name ≡ Some c.value = rw (same_name-itself c.name) refl in
     let held : Some x.0.0 ≡ Some c.value = sym x.0.1 ∙ ap (value_of (c ∷ s)) p ∙ here in
     let q : x.0.0 ≡ c.value = cc in
     let v : b.value ≡ c.value = same_form b.value c.value (subst (Refines b.value) q x.0.2) (h.0 ∙ ap F p ∙ sym k.0) in
-    let t : r ≡ s = same_subst F r s ns d.1 (extends-tail c r s (subst (AllByRecursion (λ y. same_name c.name y ≡ false)) (sym ns) d.0) x.1) h.1 k.1 in
+    let t : r ≡ s = agreeing_same F r s ns d.1 (extends-tail c r s (subst (AllByRecursion (λ y. same_name c.name y ≡ false)) (sym ns) d.0) x.1) h.1 k.1 in
     ap (λ m. record { name = m; value = b.value } ∷ r) p ∙ ap (λ m. record { name = c.name; value = m } ∷ r) v ∙ ap (λ m. c ∷ m) t
 
 module _ (sig : Sig) (p : Pattern) (ts : List Taken) (same_uses : map (λ t. t.by) ts ≡ uses None p) where
+  -- what solves the takes has the pattern's variables, with their forms
   names-from_solve : (s : Subst) → solve sig [] ts ≡ Some s → names s ≡ variables p
   names-from_solve s e = solve-names sig [] ts s e ∙ ap (λ us. firsts_after same_name [] (map (λ u. u.name) us)) same_uses
 
@@ -333,7 +354,7 @@ module _ (sig : Sig) (p : Pattern) (ts : List Taken) (same_uses : map (λ t. t.b
   solved-by s h k =
       let c = solve-complete sig [] s ts tt k in
       let d : Distinct (names s) = subst Distinct (sym h.names) (distinct-firsts [] (map (λ u. u.name) (uses None p)) tt) in
-      let q : c.after ≡ s = same_subst (variable_form sig p) c.after s (names-from_solve c.after c.is ∙ sym h.names) d c.extends
+      let q : c.after ≡ s = agreeing_same (variable_form sig p) c.after s (names-from_solve c.after c.is ∙ sym h.names) d c.extends
       (forms-from_found (variable_form sig p) c.after c.after (found-from_solve c.after c.is) (forms-from_solve c.after c.is)) h.forms in
       c.is ∙ ap Some q
 

@@ -6,12 +6,13 @@ use Rattle.std.specs.declared.cmp.Ordering.TheVariants.{Less, Equal, Greater}
 use Rattle.std.specs.Ordering.{is_eq}
 use Rattle.std.specs.List.{AllByRecursion}
 use Rattle.std.proofs.lemmas.List.{map-append, length-map}
+use Rattle.std.proofs.lemmas.List.Folds.{flat_map-map}
 use Rattle.mp_term.specs.Tree.{Tree}
 use Rattle.mp_term.specs.Order.{tree_cmp}
 use Rattle.mp_term.specs.OrderLaws.{tree_cmp_total, tree_same}
 use Rattle.mp_term.specs.Sorting.{sorted}
 use Rattle.mp_term.proofs.Sorting.{sorted-append_sorted}
-use Rattle.mp_theory.proofs.Merging.{again}
+use Rattle.mp_theory.proofs.Merging.{sorted-sorted}
 use Rattle.mp_theory.specs.Search.{In}
 use Rattle.mp_theory.specs.Pieces.{count_to, same, insert_new, distinct, after, first, pieces_of, pieces, sub_bags}
 use Rattle.mp_theory.proofs.SearchLaws.{all_in, flat_map-same}
@@ -24,23 +25,21 @@ pub record IsSubBag (l ts : List Tree) : Type 0 where
   pub in_order : sorted tree_cmp l ≡ l
   pub together : sorted tree_cmp (l ++ rest) ≡ ts
 
+-- the sub-multisets of an ascending list are listed exactly
 pub sub_bags-exact : (l ts : List Tree) → sorted tree_cmp ts ≡ ts → In l (sub_bags tree_cmp ts) ↔ IsSubBag l ts
 sub_bags-exact l ts e = (
   λ h. let a = apart-from_piece true l ts e ((pieces-exact tree_cmp tree_cmp_total tree_same true l ts).0 h) in record { rest = _; in_order = a.piece_in_order; together = a.together },
   λ h. (pieces-exact tree_cmp tree_cmp_total tree_same true l ts).1 (piece-from_apart true l (sorted tree_cmp h.rest) ts (record {
     together = sorted-append_sorted tree_cmp tree_cmp_total tree_same l h.rest ∙ h.together;
     piece_in_order = h.in_order;
-    rest_in_order = again h.rest;
+    rest_in_order = sorted-sorted h.rest;
   })).0,
 )
 
+-- `map` over `flat_map`, and over lists with one front
 map-flat : {X Y Z : Type 0} (k : Y → Z) (g : X → List Y) (xs : List X) → map k (flat_map g xs) ≡ flat_map (λ x. map k (g x)) xs
 map-flat k g [] = refl
 map-flat k g (x ∷ xs) = map-append k (g x) (flat_map g xs) ∙ ap (λ ys. map k (g x) ++ ys) (map-flat k g xs)
-
-flat-map : {X Y Z : Type 0} (g : Y → List Z) (f : X → Y) (xs : List X) → flat_map g (map f xs) ≡ flat_map (λ x. g (f x)) xs
-flat-map g f [] = refl
-flat-map g f (x ∷ xs) = ap (λ ys. g (f x) ++ ys) (flat-map g f xs)
 
 map-front : {X Y : Type 0} (f : X → Y) (e : X) (ws : List (List X)) → map (λ w. map f w) (map (λ w. e ∷ w) ws) ≡ map (λ w. f e ∷ w) (map (λ w. map f w) ws)
 map-front f e [] = refl
@@ -48,9 +47,11 @@ map-front f e (w ∷ ws) = ap (λ vs. (f e ∷ map f w) ∷ vs) (map-front f e w
 
 -- two orders that f carries into one another where P holds
 module _ {X Y : Type 0} (cmp : X → X → Ordering) (other : Y → Y → Ordering) (f : X → Y) (P : X → Type 0) (alike : (x y : X) → P x → P y → other (f x) (f y) ≡ cmp x y) where
+  -- P holds of each item
   abbrev All : List X → Type 0
   All = AllByRecursion P
 
+  -- f carries the distinct items, and what stands after an item, over
   insert_new-map : (t : X) (us : List X) → P t → All us → insert_new other (f t) (map f us) ≡ map f (insert_new cmp t us)
   insert_new-map t [] p h = refl
   insert_new-map t (u ∷ us) p h =
@@ -61,6 +62,7 @@ module _ {X Y : Type 0} (cmp : X → X → Ordering) (other : Y → Y → Orderi
         | Greater ↦ ap (λ vs. f u ∷ vs) (insert_new-map t us p h.1)
       ]
 
+  -- P holds of the distinct items, and of those after one
   all-insert_new : (t : X) (us : List X) → P t → All us → All (insert_new cmp t us)
   all-insert_new t [] p h = (p, tt)
   all-insert_new t (u ∷ us) p h = elim (cmp t u) as (λ r. All (elim r as (λ _. List X) [ Less ↦ t ∷ u ∷ us | Equal ↦ u ∷ us | Greater ↦ u ∷ insert_new cmp t us ])) [ Less ↦ (p, h) | Equal ↦ h | Greater ↦ (h.0, all-insert_new t us p h.1) ]
@@ -83,6 +85,7 @@ module _ {X Y : Type 0} (cmp : X → X → Ordering) (other : Y → Y → Orderi
   all-after [] e h = tt
   all-after (t ∷ ts) e h = elim (same cmp t e) as (λ b. All (if b then ts else after cmp ts e)) [ true ↦ h.1 | false ↦ all-after ts e h.1 ]
 
+  -- the items with which a piece may begin
   abbrev begin : Bool → List X → List X
   begin b ts = if b then distinct cmp ts else first cmp ts
 
@@ -99,11 +102,12 @@ module _ {X Y : Type 0} (cmp : X → X → Ordering) (other : Y → Y → Orderi
   all-begin false [] h = tt
   all-begin false (t ∷ ts) h = (h.0, tt)
 
+  -- f carries the pieces of a length over
   pieces_of-map : (b : Bool) (n : ℕ) (ts : List X) → All ts → pieces_of other b n (map f ts) ≡ map (λ w. map f w) (pieces_of cmp b n ts)
   pieces_of-map b zero ts h = refl
   pieces_of-map b (suc n) ts h =
       ap (flat_map (λ e. map (λ w. e ∷ w) (pieces_of other b n (after other (map f ts) e)))) (begin-map b ts h)
-      ∙ flat-map (λ e. map (λ w. e ∷ w) (pieces_of other b n (after other (map f ts) e))) f (begin b ts)
+      ∙ flat_map-map (λ e. map (λ w. e ∷ w) (pieces_of other b n (after other (map f ts) e))) f (begin b ts)
       ∙ flat_map-same (λ e. map (λ w. f e ∷ w) (pieces_of other b n (after other (map f ts) (f e)))) (λ e. map (λ w. map f w) (map (λ w. e ∷ w) (pieces_of cmp b n (after cmp ts e)))) (begin b ts) (λ e i.
       ap (λ us. map (λ w. f e ∷ w) (pieces_of other b n us)) (after-map ts e h (all_in P (begin b ts) e (all-begin b ts h) i))
       ∙ ap (map (λ w. f e ∷ w)) (pieces_of-map b n (after cmp ts e) (all-after ts e h))

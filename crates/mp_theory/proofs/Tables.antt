@@ -23,6 +23,7 @@ use Rattle.mp_theory.specs.Machine.{entries, is_ended, entered, taken_out, onwar
 use Rattle.mp_theory.proofs.SearchLaws.{ascending-flat, words-complete, words-sound, words-ascending}
 use Rattle.mp_theory.proofs.PiecesLaws.{pieces-ascending}
 
+-- the derivation order is total on entries
 pub shortlex_total : IsTotalOrder (shortlex tree_cmp)
 shortlex_total = then_total (on_total length nat_cmp_total) (lists_total tree_cmp_total)
 
@@ -46,6 +47,7 @@ abbrev pub uses_at : Next → List Use
 uses_at (child p f fs) = uses f.under p ++ uses_in (f ∷ fs)
 uses_at _ = []
 
+-- the place has the nodes and the uses of the frames
 record IsSettled (fs : List Frame) (n : Next) : Type 0 where
   nodes : nodes_at n ≡ nodes_in fs
   same_uses : uses_at n ≡ uses_in fs
@@ -53,6 +55,7 @@ record IsSettled (fs : List Frame) (n : Next) : Type 0 where
 abbrev IsRefusedOr : List Frame → Next → Type 0
 IsRefusedOr fs n = (n ≡ refused) ⊎ IsSettled fs n
 
+-- frames settle to a refusal or to a place with their nodes and uses
 settled : (fs : List Frame) → (settle fs ≡ refused) ⊎ IsSettled fs (settle fs)
 settled [] = inr (record { nodes = refl; same_uses = refl })
 settled (f ∷ fs) =
@@ -65,6 +68,7 @@ settled (f ∷ fs) =
     ]
 
 module _ (sig : Sig) where
+  -- the table is accepted from the place on
   abbrev Accepted : Next → Table → Type 0
   Accepted = Accepts (choices sig) onward is_ended
 
@@ -73,6 +77,7 @@ module _ (sig : Sig) where
     pub nodes : length T ≡ nodes_at n
     pub same_uses : map (λ t. t.by) (takes n T) ≡ uses_at n
 
+  -- nothing is accepted after a refusal
   refused_none : (T : Table) → Accepted refused T → ⊥
   refused_none [] h = cc
   refused_none (e ∷ T) h = h.0
@@ -84,6 +89,7 @@ module _ (sig : Sig) where
         | inr k ↦ (h.nodes ∙ k.nodes, h.same_uses ∙ k.same_uses)
       ]
 
+  -- an accepted table accounts for the place
   pub accounts : (n : Next) (T : Table) → Accepted n T → Accounts n T
   accounts ended [] a = record { nodes = refl; same_uses = refl }
   accounts refused [] a = cc
@@ -103,15 +109,18 @@ module _ (sig : Sig) where
       let i = accounts-settled (entered (app_pattern g ps) e (taken_out (app_pattern g ps) e f ∷ fs)) T a.1 (accounts (onward (child (app_pattern g ps) f fs) e) T a.1) in
       record { nodes = omega (arith, i.0); same_uses = i.1 }
 
+  -- so a table with the shape has an entry for each node, and its takes are the uses of the variables
   pub shape-accounts : (p : Pattern) (t : Tree) (T : Table) → HasShape sig p t T → (length T ≡ pattern_nodes p) × (map (λ t. t.by) (takes (settle (start p t)) T) ≡ uses None p)
   shape-accounts p t T h = let i = accounts (settle (start p t)) T h in (omega (arith, i.nodes), i.same_uses ∙ append-nil (uses None p))
 
+  -- the tables are exactly those with the shape
   pub tables-exact : (p : Pattern) (t : Tree) (T : Table) → In T (tables sig p t) ↔ HasShape sig p t T
   tables-exact p t T = (
     λ h. (words-sound (choices sig) onward is_ended (pattern_nodes p) (settle (start p t)) T h).1,
     λ h. subst (λ n. In T (words (choices sig) onward is_ended n (settle (start p t)))) (shape-accounts p t T h).0 (words-complete (choices sig) onward is_ended (settle (start p t)) T h),
   )
 
+  -- entries, choices and tables ascend
   pub entries-ascending : (ls : List (List Tree)) → IsStrictlySortedBy (shortlex tree_cmp) ls → IsStrictlySortedBy entry_cmp (entries ls)
   unfolding IsStrictlySortedBy
   entries-ascending ls h =

@@ -27,10 +27,12 @@ use Rattle.mp_theory.proofs.SearchLaws.{flat_map-same}
 use Rattle.mp_theory.proofs.Walk.{choices-exact}
 use Rattle.mp_theory.proofs.FitsSolves.{fits-solves, solves-fits}
 
+-- `filter_map` over `flat_map`
 filter_map-flat : {X Y Z : Type 0} (h : Y → Option Z) (f : X → List Y) (xs : List X) → filter_map h (flat_map f xs) ≡ flat_map (λ x. filter_map h (f x)) xs
 filter_map-flat h f [] = refl
 filter_map-flat h f (x ∷ xs) = filter_map-append h (f x) (flat_map f xs) ∙ ap (λ ys. filter_map h (f x) ++ ys) (filter_map-flat h f xs)
 
+-- `listed_by` depends on what f gives
 listed_by-same : {A B : Type 0} (f g : A → List B) → ((x : A) → f x ≡ g x) → (o : Option A) → listed_by f o ≡ listed_by g o
 listed_by-same f g h None = refl
 listed_by-same f g h (Some x) = h x
@@ -43,6 +45,7 @@ filter_map-front h e None rest (w ∷ ws) k = ap (λ o. cons_option o (filter_ma
 filter_map-front h e (Some r) rest (w ∷ ws) k = ap (λ o. cons_option o (filter_map h (map (λ w. e ∷ w) ws))) (k w) ∙ ap (cons_option (rest r w)) (filter_map-front h e (Some r) rest ws k)
 
 module _ (sig : Sig) where
+  -- takes one after the other
   pub solve-append : (s : Subst) (ts us : List Taken) → solve sig s (ts ++ us) ≡ option_and_then (λ r. solve sig r us) (solve sig s ts)
   solve-append s [] us = refl
   solve-append s (t ∷ ts) us =
@@ -84,6 +87,7 @@ module _ (sig : Sig) where
       let c = choices-exact sig p f fs e.terms e.collapsed in
       (λ h. let k = c.0 h in joined_tests _ _ k.0 k.1, λ h. c.1 (both (is_piece tree_cmp (comm_above sig f.under) e.terms f.left) (reads sig p f.under e) h))
 
+  -- a table has the shape exactly where the test passes
   pub shape-tested : (n : Next) (T : Table) → Accepts (choices sig) onward is_ended n T ↔ (has_shape sig n T ≡ true)
   shape-tested n [] = (λ h. h, λ h. h)
   shape-tested n (e ∷ T) =

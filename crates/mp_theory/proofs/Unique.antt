@@ -21,6 +21,7 @@ use Rattle.mp_theory.proofs.Bounds.{same_members}
 use Rattle.mp_theory.proofs.FitsSolves.{fits-solves}
 use Rattle.mp_theory.proofs.FirstsLaws.{contains-from_in, in-from_contains}
 
+-- entries and tables that compare equal are equal
 same_mark : (a b : Bool) → bool_cmp a b ≡ Equal → a ≡ b
 same_mark true true e = refl
 same_mark false false e = refl
@@ -64,12 +65,14 @@ module _ (sig : Sig) (t : Tree) where
   subst_for p (s ∷ ss) (U ∷ Ts) T h (inr i) = let k = subst_for p ss Ts T h.1 i in (k.0, inr k.1, k.2)
 
   module _ (r : Rule) (normal : IsNormal sig t) where
+    -- the least tables of two one-lists are the same
     table_moves : (ss us : List Subst) (h : IsOneList sig r t ss) (k : IsOneList sig r t us) (T : Table) → In T h.tables → In T k.tables
     table_moves ss us h k T i =
         let a = subst_for r.pattern ss h.tables T h.least i in
         let b = table_for r.pattern us k.tables a.0 k.least (in-from_contains a.0 us ((k.exactly a.0).1 ((h.exactly a.0).0 (contains-from_in a.0 ss a.1)))) in
         subst (λ V. In V k.tables) (one_least r.pattern a.0 b.0 T b.2 a.2) b.1
 
+    -- and each decides its substitution
     decided : (ss us : List Subst) (Ts : List Table) → AreLeast sig r.pattern t ss Ts → AreLeast sig r.pattern t us Ts → ss ≡ us
     decided [] [] [] h k = refl
     decided [] [] (T ∷ Ts) h k = absurd h
@@ -84,6 +87,7 @@ module _ (sig : Sig) (t : Tree) where
         let e : s ≡ u = cc in
         ap (λ x. x ∷ ss) e ∙ ap (λ x. u ∷ x) (decided ss us Ts h.1 k.1)
 
+    -- so the lists are one
     pub IsOneList-unique : (ss us : List Subst) → IsOneList sig r t ss → IsOneList sig r t us → ss ≡ us
     IsOneList-unique ss us h k =
         let e : h.tables ≡ k.tables = same_members table_cmp (lists_total entry_cmp_total) h.tables k.tables h.ascending k.ascending (table_moves ss us h k) (table_moves us ss k h) in

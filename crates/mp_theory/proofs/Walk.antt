@@ -28,10 +28,11 @@ use Rattle.mp_theory.proofs.PiecesLaws.{sublist-from_piece, length-without, all-
 use Rattle.mp_theory.proofs.Cuts.{put, piece-from_apart, apart-from_piece}
 use Rattle.mp_theory.proofs.Wildcards.{put-single, arguments-in_order, Gives, gives, takes-given, IsFine, given-final, refines-itself}
 
+-- the entry of the list, by arguments or collapsed
 abbrev entry : List Tree → Bool → Entry
 entry l c = record { terms = l; collapsed = c }
 
--- the choices are the pieces that the node may read
+-- the entries of the lists
 pub in-entries : (l : List Tree) (c : Bool) (ls : List (List Tree)) → In l ls → In (entry l c) (entries ls)
 in-entries l c ls h = in-flat (λ m. entry m false ∷ entry m true ∷ []) l (entry l c) ls h (elim c as (λ b. In (entry l b) (entry l false ∷ entry l true ∷ [])) [ true ↦ inr (inl refl) | false ↦ inl refl ])
 
@@ -42,6 +43,7 @@ from_in-entries e ls h =
     subst (λ m. In m ls) (sym q) r.1
 
 module _ (sig : Sig) where
+  -- the choices are exactly the pieces that the node may read
   pub choices-exact : (p : Pattern) (f : Frame) (fs : List Frame) (l : List Tree) (c : Bool) → In (entry l c) (choices sig (child p f fs)) ↔ ((is_piece tree_cmp (comm_above sig f.under) l f.left ≡ true) × (reads sig p f.under (entry l c) ≡ true))
   choices-exact p f fs l c = (
     λ h.
@@ -52,6 +54,7 @@ module _ (sig : Sig) where
 
   -- Q is a property of wildcards
   module _ (Q : Option ℕ → Wildcard → Option (List ℕ) → Type 0) where
+    -- what is left to the frame is fine, and Q holds of its wildcards
     abbrev pub IsSoundFrame : Frame → Type 0
     IsSoundFrame f = IsFine sig f.under f.left × AllEach Q f.under f.children
 
@@ -60,6 +63,7 @@ module _ (sig : Sig) where
     IsSoundAt (child p f fs) = Each Q f.under p × IsSoundFrame f × AllByRecursion IsSoundFrame fs
     IsSoundAt _ = ⊤
 
+    -- soundness is kept where the frames settle
     pub sound-settle : (fs : List Frame) → AllByRecursion IsSoundFrame fs → IsSoundAt (settle fs)
     sound-settle [] h = tt
     sound-settle (f ∷ fs) h =
@@ -68,6 +72,7 @@ module _ (sig : Sig) where
           | more_patterns p ps ↦ λ k. (k.0, (h.0.0, k.1), h.1)
         ] h.0.1
 
+    -- a piece of fine terms, the rest, and the arguments of one of them are fine
     pub fine-piece : (f : Option ℕ) (l ts : List Tree) → is_piece tree_cmp (comm_above sig f) l ts ≡ true → IsFine sig f ts → IsFine sig f l
     fine-piece f l ts h k =
         let s = sublist-from_piece tree_cmp tree_cmp_total tree_same (comm_above sig f) l ts h in
@@ -104,6 +109,7 @@ module _ (sig : Sig) where
     pub fine-single : (f : Option ℕ) (t : Tree) → passes sig t ≡ true → IsFine sig f (t ∷ [])
     fine-single f t h = record { pass = (h, tt); alone = λ n. absurd (omega arith); in_order = put-single (comm_above sig f) t }
 
+    -- and soundness is kept by each choice
     pub sound-onward : (p : Pattern) (f : Frame) (fs : List Frame) (l : List Tree) (c : Bool) → IsSoundAt (child p f fs) → is_piece tree_cmp (comm_above sig f.under) l f.left ≡ true → reads sig p f.under (entry l c) ≡ true → IsSoundAt (onward (child p f fs) (entry l c))
     sound-onward (symbol_pattern n) f fs l c h i r = sound-settle (taken_out (symbol_pattern n) (entry l c) f ∷ fs) ((fine-without f.under l f.left i h.1.0, h.1.1), h.2)
     sound-onward (wild_pattern w x) f fs l c h i r = sound-settle (taken_out (wild_pattern w x) (entry l c) f ∷ fs) ((fine-without f.under l f.left i h.1.0, h.1.1), h.2)
@@ -126,6 +132,7 @@ module _ (sig : Sig) where
     RunAt n [] = n ≡ ended
     RunAt n (e ∷ T) = Step sig line n e (λ gs. Run sig line gs T)
 
+    -- a run of frames is a run at the place where they settle
     pub run_at : (fs : List Frame) (T : Table) → Run sig line fs T → RunAt (settle fs) T
     run_at fs [] h = h
     run_at fs (e ∷ T) h = h
@@ -134,6 +141,7 @@ module _ (sig : Sig) where
     at_run fs [] h = h
     at_run fs (e ∷ T) h = h
 
+    -- what is cut out of fine terms is a piece, and a piece is cut out
     cut-piece : (f : Option ℕ) (left l rest : List Tree) → IsCut sig line f left l rest → put (comm_above sig f) l ≡ l → (is_piece tree_cmp (comm_above sig f) l left ≡ true) × (rest ≡ without tree_cmp l left)
     cut-piece f left l rest h e = piece-from_apart (comm_above sig f) l rest left (record { together = h.together; piece_in_order = e; rest_in_order = h.in_order })
 
@@ -143,10 +151,12 @@ module _ (sig : Sig) where
   -- a walk of the search is a walk by the wildcards' line, if what the takes are known to be gives the line
   module _ (line : Option ℕ → Wildcard → Option (List ℕ) → List Tree → Type 0) (Q : Option ℕ → Wildcard → Option (List ℕ) → Type 0) (P : Taken → Type 0)
       (wild_takes : (w : Wildcard) (x : Option (List ℕ)) (f : Frame) (fs : List Frame) (e : Entry) → Q f.under w x → IsFine sig f.under e.terms → is_some (given sig f.under w e.terms) ≡ true → AllByRecursion P (said (child (wild_pattern w x) f fs) e) → line f.under w x e.terms) where
-    abbrev Told : List Taken → Type 0
-    Told = AllByRecursion P
+    -- P holds of each take
+    abbrev AllTold : List Taken → Type 0
+    AllTold = AllByRecursion P
 
-    step-walked : (p : Pattern) (f : Frame) (fs : List Frame) (l : List Tree) (c : Bool) (T : Table) → IsSoundAt Q (child p f fs) → is_piece tree_cmp (comm_above sig f.under) l f.left ≡ true → reads sig p f.under (entry l c) ≡ true → Told (said (child p f fs) (entry l c))
+    -- one choice
+    step-walked : (p : Pattern) (f : Frame) (fs : List Frame) (l : List Tree) (c : Bool) (T : Table) → IsSoundAt Q (child p f fs) → is_piece tree_cmp (comm_above sig f.under) l f.left ≡ true → reads sig p f.under (entry l c) ≡ true → AllTold (said (child p f fs) (entry l c))
         → RunAt line (onward (child p f fs) (entry l c)) T → RunAt line (child p f fs) (entry l c ∷ T)
     step-walked (symbol_pattern n) f fs l true T h i r o k = cc
     step-walked (symbol_pattern n) f fs l false T h i r o k =
@@ -177,7 +187,7 @@ module _ (sig : Sig) where
     step-walked (app_pattern g ps) f fs (t ∷ u ∷ l) false T h i r o k = cc
 
     -- a table with the shape is a walk
-    pub walked : (n : Next) (T : Table) → IsSoundAt Q n → Accepts (choices sig) onward is_ended n T → Told (takes n T) → RunAt line n T
+    pub walked : (n : Next) (T : Table) → IsSoundAt Q n → Accepts (choices sig) onward is_ended n T → AllTold (takes n T) → RunAt line n T
     walked ended [] h a o = refl
     walked refused [] h a o = cc
     walked (child p f fs) [] h a o = cc
@@ -194,21 +204,24 @@ module _ (sig : Sig) where
     FormHolds f w None = ⊤
     FormHolds f w (Some x) = is_sequence w ≡ true → comm_above sig f ≡ false → is_bag (value_of s x) ≡ false
 
+    -- the wildcards' line by the values of s
     abbrev Values : Option ℕ → Wildcard → Option (List ℕ) → List Tree → Type 0
     Values = ByValue sig s
 
-    abbrev Obedient : List Taken → Type 0
-    Obedient = AllByRecursion (Obeys sig s)
+    -- s obeys each take
+    abbrev AllObeyed : List Taken → Type 0
+    AllObeyed = AllByRecursion (Obeys sig s)
 
     -- a step with values is a choice that s obeys
     record IsChosen (n : Next) (e : Entry) (T : Table) : Type 0 where
       choice : In e (choices sig n)
-      obeys : Obedient (said n e)
+      obeys : AllObeyed (said n e)
       sound : IsSoundAt FormHolds (onward n e)
       go : RunAt Values (onward n e) T
 
+    -- a step with values is a choice, case by case of the node
     chosen : (p : Pattern) (f : Frame) (fs : List Frame) (e : Entry) (T : Table) (gs : List Frame) → IsSoundAt FormHolds (child p f fs) → is_piece tree_cmp (comm_above sig f.under) e.terms f.left ≡ true → reads sig p f.under e ≡ true
-        → Obedient (said (child p f fs) e) → settle gs ≡ onward (child p f fs) e → Run sig Values gs T → IsChosen (child p f fs) e T
+        → AllObeyed (said (child p f fs) e) → settle gs ≡ onward (child p f fs) e → Run sig Values gs T → IsChosen (child p f fs) e T
     chosen p f fs e T gs h i r o q k = record {
       choice = (choices-exact p f fs e.terms e.collapsed).1 (i, r);
       obeys = o;
@@ -242,11 +255,12 @@ module _ (sig : Sig) where
         (subst (λ m. Run sig Values (record { under = Some g; children = ps; left = t ∷ []; owes = true } ∷ record { under = f.under; children = f.children; left = m; owes = f.owes && not false } ∷ fs) T) c.1 k)
 
     module _ (finals : (x : List ℕ) (v : Value) → value_of s x ≡ Some v → IsFinal sig v) where
+      -- the values of s are final
       held-final : (x : Option (List ℕ)) (v : Value) → HasValue sig s x v → IsFinal sig v
       held-final None v h = h
       held-final (Some x) v h = finals x v h
 
-      wild-obeys : (w : Wildcard) (x : Option (List ℕ)) (f : Frame) (fs : List Frame) (e : Entry) (v : Value) → FormHolds f.under w x → HasValue sig s x v → Gives sig f.under w v e.terms → Obedient (said (child (wild_pattern w x) f fs) e)
+      wild-obeys : (w : Wildcard) (x : Option (List ℕ)) (f : Frame) (fs : List Frame) (e : Entry) (v : Value) → FormHolds f.under w x → HasValue sig s x v → Gives sig f.under w v e.terms → AllObeyed (said (child (wild_pattern w x) f fs) e)
       wild-obeys w None f fs e v q h g = tt
       wild-obeys w (Some x) f fs e v q h g = (record { value = g.value; is = g.is; final = v; held = h; refines = g.refines (λ i j. ap is_bag (sym h) ∙ q i j) }, tt)
 
@@ -273,7 +287,7 @@ module _ (sig : Sig) where
           ]
 
       -- a walk with the values of s has the shape, and s obeys its takes
-      pub accepted : (n : Next) (T : Table) → IsSoundAt FormHolds n → RunAt Values n T → Accepts (choices sig) onward is_ended n T × Obedient (takes n T)
+      pub accepted : (n : Next) (T : Table) → IsSoundAt FormHolds n → RunAt Values n T → Accepts (choices sig) onward is_ended n T × AllObeyed (takes n T)
       accepted n [] h k = (ap is_ended k, tt)
       accepted n (e ∷ T) h k =
           let c = step-chosen n e T h k in
@@ -284,11 +298,13 @@ module _ (sig : Sig) where
     abbrev pub DefaultHolds : Option ℕ → Wildcard → Option (List ℕ) → Type 0
     DefaultHolds f w x = DefaultNormal sig w
 
+    -- an option that has a value
     some_from : {A : Type 0} (o : Option A) → is_some o ≡ true → (v : A) × (o ≡ Some v)
     some_from None e = cc
     some_from (Some v) e = (v, refl)
 
-    wild-valued : (w : Wildcard) (x : Option (List ℕ)) (f : Frame) (fs : List Frame) (e : Entry) → DefaultNormal sig w → IsFine sig f.under e.terms → is_some (given sig f.under w e.terms) ≡ true → Obedient (said (child (wild_pattern w x) f fs) e)
+    -- a take that s obeys gives the wildcard's line
+    wild-valued : (w : Wildcard) (x : Option (List ℕ)) (f : Frame) (fs : List Frame) (e : Entry) → DefaultNormal sig w → IsFine sig f.under e.terms → is_some (given sig f.under w e.terms) ≡ true → AllObeyed (said (child (wild_pattern w x) f fs) e)
         → (v : Value) × HasValue sig s x v × WildTakes sig f.under w v e.terms
     wild-valued w None f fs e d fine r o =
         let g = some_from (given sig f.under w e.terms) r in
@@ -296,5 +312,5 @@ module _ (sig : Sig) where
     wild-valued w (Some x) f fs e d fine r o = (o.0.final, o.0.held, takes-given sig f.under w o.0.value o.0.final e.terms o.0.is fine.in_order o.0.refines)
 
     -- a table with the shape, whose takes s obeys, is a walk with the values of s
-    pub valued : (n : Next) (T : Table) → IsSoundAt DefaultHolds n → Accepts (choices sig) onward is_ended n T → Obedient (takes n T) → RunAt Values n T
+    pub valued : (n : Next) (T : Table) → IsSoundAt DefaultHolds n → Accepts (choices sig) onward is_ended n T → AllObeyed (takes n T) → RunAt Values n T
     valued = walked Values DefaultHolds (Obeys sig s) wild-valued

@@ -19,11 +19,12 @@ use Rattle.mp_pattern.specs.Contribution.{contribution, spread, if_several}
 use Rattle.mp_pattern.specs.Fits.{WildTakes}
 use Rattle.mp_pattern.specs.Holds.{is_bag}
 use Rattle.mp_theory.specs.Solve.{is_alone, contributor, sequence, of_kind, given}
-use Rattle.mp_theory.proofs.Merging.{Refines, again}
+use Rattle.mp_theory.proofs.Merging.{Refines, sorted-sorted}
 use Rattle.mp_theory.proofs.SolveLaws.{contribution-found}
 use Rattle.mp_theory.specs.Sound.{DefaultNormal}
 use Rattle.mp_theory.proofs.Cuts.{put}
 
+-- lists of one term or none are in order, and so is what was put in order
 pub put-single : (b : Bool) (t : Tree) → put b (t ∷ []) ≡ t ∷ []
 put-single true t = refl
 put-single false t = refl
@@ -33,7 +34,7 @@ put-none true = refl
 put-none false = refl
 
 pub put-put : (b : Bool) (ts : List Tree) → put b (put b ts) ≡ put b ts
-put-put true ts = again ts
+put-put true ts = sorted-sorted ts
 put-put false ts = refl
 
 module _ (sig : Sig) where
@@ -46,9 +47,11 @@ module _ (sig : Sig) where
         | false ↦ λ e. refl
       ] k.0
 
+  -- a normal term passes the test of normal form
   pub final-passes : (t : Tree) → IsNormal sig t → passes sig t ≡ true
   final-passes t e = subst (λ u. passes sig u ≡ true) e (passes-normal sig t)
 
+  -- what a normal term contributes is in order
   spread-in_order : (g : ℕ) (v : Tree) (l : List Tree) → passes sig v ≡ true → spread g v ≡ Some l → put (is_comm sig g) l ≡ l
   spread-in_order g (symbol n) l h e = let q : symbol n ∷ [] ≡ l = cc in subst (λ m. put (is_comm sig g) m ≡ m) q (put-single (is_comm sig g) (symbol n))
   spread-in_order g (app f ts) l h e =
@@ -77,6 +80,7 @@ module _ (sig : Sig) where
     pub in_order : put (comm_above sig f) l ≡ l
     pub refines : (is_sequence w ≡ true → comm_above sig f ≡ false → is_bag (Some v) ≡ false) → Refines value v
 
+  -- a tuple and a multiset agree with what they take
   tuple_refines : (b : Bool) (m l : List Tree) → l ≡ put b m → Refines (if b then bag l else seq l) (seq m)
   tuple_refines true m l e = e
   tuple_refines false m l e = e
@@ -85,6 +89,7 @@ module _ (sig : Sig) where
   multiset_refines true m l e h = e
   multiset_refines false m l e h = let q : true ≡ false = h refl in cc
 
+  -- what a final sequence takes is in order
   put_is : (b : Bool) (m l : List Tree) → l ≡ put b m → put b l ≡ l
   put_is b m l e = subst (λ n. put b n ≡ n) (sym e) (put-put b m)
 
@@ -92,6 +97,7 @@ module _ (sig : Sig) where
   put_is_same true m l e h = subst (λ n. sorted tree_cmp n ≡ n) (sym e) h
   put_is_same false m l e h = refl
 
+  -- the empty list is contributed by no term
   contributor_some : (f : Option ℕ) (w : Value) (l : List Tree) → contributor sig f l ≡ Some w → (l ≡ [] → ⊥)
   contributor_some f w l e q = let r : None ≡ Some w = sym (ap (contributor sig f) q) ∙ e in cc
 
@@ -130,6 +136,7 @@ module _ (sig : Sig) where
     pub is : w ≡ one term
     pub contributes : contribution sig f term ≡ Some l
 
+  -- a term that f doesn't open contributes itself
   alone-contributes : (g : ℕ) (t : Tree) → is_alone sig (Some g) t ≡ true → contribution sig (Some g) t ≡ Some (t ∷ [])
   alone-contributes g t h =
       elim (is_assoc sig g) as (λ b. not (b && has_head g t) ≡ true → (if b then spread g t else Some (t ∷ [])) ≡ Some (t ∷ [])) [
@@ -141,6 +148,7 @@ module _ (sig : Sig) where
       spread_alone (symbol n) e = refl
       spread_alone (app f ts) e = rw e refl
 
+  -- the term that is found contributes the list
   pub contributor-contributes : (f : Option ℕ) (l : List Tree) (w : Value) → contributor sig f l ≡ Some w → Contributed f l w
   contributor-contributes f [] w e = cc
   contributor-contributes None (t ∷ []) w e = record { term = t; is = cc; contributes = refl }
@@ -156,11 +164,13 @@ module _ (sig : Sig) where
         | false ↦ λ q p. cc
       ] refl e
 
+  -- the final value of one term is that term
   refined_one : (t : Tree) (v : Value) → Refines (one t) v → v ≡ one t
   refined_one t (one u) r = ap one (sym r)
   refined_one t (seq m) r = absurd r
   refined_one t (bag m) r = absurd r
 
+  -- the final values of a sequence
   sequence_takes : (b : Bool) (l : List Tree) (v : Value) → put b l ≡ l → Refines (if b then bag l else seq l) v → (m : List Tree) × (((v ≡ seq m) × (l ≡ put b m)) ⊎ ((v ≡ bag m) × (l ≡ m)))
   sequence_takes true l (one u) e r = absurd r
   sequence_takes true l (seq m) e r = (m, inl (refl, r))
@@ -209,6 +219,7 @@ module _ (sig : Sig) where
     pub alone : 2 ≤ length ts → AllByRecursion (λ t. is_alone sig f t ≡ true) ts
     pub in_order : put (comm_above sig f) ts ≡ ts
 
+  -- fine terms pass the tests of an application's arguments
   all_normal : (ts : List Tree) → AllByRecursion (λ t. passes sig t ≡ true) ts → AllByRecursion (IsNormal sig) ts
   all_normal [] h = tt
   all_normal (t ∷ ts) h = (normal-passes sig t h.0, all_normal ts h.1)
@@ -228,6 +239,7 @@ module _ (sig : Sig) where
       ordered true e = ap (λ b. not (true && not b)) (subst (λ m. ascending m ≡ true) e (ascending-from (sorted tree_cmp (t ∷ u ∷ ts)) (ascends-sorted tree_cmp tree_cmp_total (t ∷ u ∷ ts))))
       ordered false e = refl
 
+  -- the term that fine terms contribute to is normal, and the sequence of them final
   contributor-final : (f : Option ℕ) (l : List Tree) (g : Value) → contributor sig f l ≡ Some g → IsFine f l → IsFinal sig g
   contributor-final f [] g e h = cc
   contributor-final f (t ∷ []) g e h =
@@ -262,6 +274,7 @@ module _ (sig : Sig) where
   given-final f (optional u) [] g e d h = let i : one u ≡ g = cc in subst (IsFinal sig) i d
   given-final f (optional u) (t ∷ l) g e d h = contributor-final f (t ∷ l) g e h
 
+-- a value agrees with itself
 pub refines-itself : (v : Value) → Refines v v
 refines-itself (one t) = refl
 refines-itself (seq ts) = refl

@@ -14,7 +14,7 @@ use Rattle.mp_theory.specs.Frames.{Frame, Next, ended, refused, child, settle, s
 use Rattle.mp_theory.specs.Search.{words, Accepts}
 use Rattle.mp_theory.specs.Pieces.{without, pieces}
 
--- both entries with each list
+-- both entries with each list, by arguments before collapsed
 abbrev pub entries : List (List Tree) → List Entry
 entries = flat_map (λ l. record { terms = l; collapsed = false } ∷ record { terms = l; collapsed = true } ∷ [])
 
@@ -28,11 +28,12 @@ abbrev pub arguments : List Tree → List Tree
 arguments (app g ts ∷ []) = tree_list ts
 arguments _ = []
 
+-- nothing more comes
 abbrev pub is_ended : Next → Bool
 is_ended ended = true
 is_ended _ = false
 
--- the frame of an application's children
+-- the frame of an application's children on top of the others
 abbrev pub entered : Pattern → Entry → List Frame → List Frame
 entered (app_pattern g ps) e fs = record { under = Some g; children = ps; left = if e.collapsed then e.terms else arguments e.terms; owes = e.collapsed } ∷ fs
 entered _ e fs = fs
@@ -51,7 +52,7 @@ abbrev pub said : Next → Entry → List Taken
 said (child (wild_pattern w (Some x)) f fs) e = record { by = record { name = x; wildcard = w; under = f.under }; terms = e.terms } ∷ []
 said _ e = []
 
--- the takes of the variables
+-- the takes of the variables in the table, read from the place on
 abbrev pub takes : Next → Table → List Taken
 takes n [] = []
 takes n (e ∷ T) = said n e ++ takes (onward n e) T
@@ -63,12 +64,12 @@ module _ (sig : Sig) where
   reads (wild_pattern w x) f e = not e.collapsed && is_some (given sig f w e.terms)
   reads (app_pattern g ps) f e = if e.collapsed then is_single e.terms && (is_one sig g && no_sequence ps) else is_headed g e.terms
 
-  -- the entries that may stand next, ascending
+  -- the entries that may stand next, ascending: of each piece of what is left, those that the node may have
   abbrev pub choices : Next → List Entry
   choices (child p f fs) = filter (reads p f.under) (entries (pieces tree_cmp (comm_above sig f.under) f.left))
   choices _ = []
 
-  -- the table has the shape of the pattern on the subject
+  -- the table has the shape of the pattern on the subject: each entry may stand where it stands, and nothing is missing at its end
   abbrev pub HasShape : Pattern → Tree → Table → Type 0
   HasShape p t T = Accepts choices onward is_ended (settle (start p t)) T
 

@@ -12,12 +12,14 @@ use Rattle.mp_theory.specs.Frames.{settle, start}
 use Rattle.mp_theory.specs.Pieces.{same}
 use Rattle.mp_theory.specs.Machine.{takes, tables}
 
+-- the values are equal
 abbrev pub same_value : Value → Value → Bool
 same_value (one t) (one u) = same tree_cmp t u
 same_value (seq ts) (seq us) = same_terms ts us
 same_value (bag ts) (bag us) = same_terms ts us
 same_value _ _ = false
 
+-- the substitutions are equal
 abbrev pub same_subst : Subst → Subst → Bool
 same_subst [] [] = true
 same_subst (b ∷ r) (c ∷ s) = same_name b.name c.name && (same_value b.value c.value && same_subst r s)

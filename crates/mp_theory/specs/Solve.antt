@@ -12,7 +12,7 @@ pub record Taken : Type 0 where
   pub by : Use
   pub terms : List Tree
 
--- the merged value in the place of the old one
+-- the value merged with that of the variable, or a new binding at the end
 abbrev pub bind : Subst → List ℕ → Value → Option Subst
 bind [] x w = Some (record { name = x; value = w } ∷ [])
 bind (b ∷ s) x w =
@@ -35,6 +35,7 @@ module _ (sig : Sig) where
   abbrev pub sequence : Option ℕ → List Tree → Value
   sequence f ts = if comm_above sig f then bag ts else seq ts
 
+  -- the one term, if it is a symbol of the kind
   abbrev pub of_kind : ℕ → List Tree → Option Value
   of_kind k (t ∷ []) = if in_kind sig k t then Some (one t) else None
   of_kind k _ = None
@@ -49,7 +50,7 @@ module _ (sig : Sig) where
   given f (optional d) [] = Some (one d)
   given f (optional d) (t ∷ ts) = contributor f (t ∷ ts)
 
-  -- the takes in turn
+  -- the takes in turn over a substitution: each gives a value, which is bound
   abbrev pub solve : Subst → List Taken → Option Subst
   solve s [] = Some s
   solve s (t ∷ ts) = option_and_then (λ w. option_and_then (λ r. solve r ts) (bind s t.by.name w)) (given t.by.under t.by.wildcard t.terms)

@@ -7,11 +7,13 @@ use Rattle.mp_pattern.specs.PatternTree.{Wildcard, optional, Pattern, symbol_pat
 -- Q holds of each wildcard and the operation above it
 module _ (Q : Option ℕ → Wildcard → Option (List ℕ) → Type 0) where
   abbrev mutual
+    -- of p under f
     pub Each : Option ℕ → Pattern → Type 0
     Each f (symbol_pattern n) = ⊤
     Each f (wild_pattern w x) = Q f w x
     Each f (app_pattern g ps) = AllEach (Some g) ps
 
+    -- of each child of f
     pub AllEach : Option ℕ → Patterns → Type 0
     AllEach f no_patterns = ⊤
     AllEach f (more_patterns p ps) = Each f p × AllEach f ps

@@ -23,15 +23,16 @@ module _ (sig : Sig) where
   solutions zero n s = if is_ended n then s ∷ [] else []
   solutions (suc k) n s = flat_map (λ e. listed_by (λ r. solutions k (onward n e) r) (solve sig s (said n e))) (choices sig n)
 
-  -- the entry may stand next
+  -- the entry may stand next: its list is a piece of what is left, and the node may have it
   abbrev pub allows : Next → Entry → Bool
   allows (child p f fs) e = is_piece tree_cmp (comm_above sig f.under) e.terms f.left && reads sig p f.under e
   allows _ e = false
 
+  -- the test of a table, entry by entry from the place on
   abbrev pub has_shape : Next → Table → Bool
   has_shape n [] = is_ended n
   has_shape n (e ∷ T) = allows n e && has_shape (onward n e) T
 
-  -- the substitution that the table fits with
+  -- the substitution that the table fits with, if there is one: the table has the shape, and its takes are solved
   abbrev pub fitted : Pattern → Tree → Table → Option Subst
   fitted p t T = if has_shape (settle (start p t)) T then solve sig [] (takes (settle (start p t)) T) else None
