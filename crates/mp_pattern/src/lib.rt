@@ -6,6 +6,8 @@ mod entry;
 mod pattern;
 mod rule;
 mod template;
+#[cfg(test)]
+mod tests;
 
 pub use condition::{Amount, BoxedCond, Cond, Conds, Operand, Sense};
 pub use entry::{Entries, Entry, Form};

@@ -1,7 +1,7 @@
-pub mod Solve
-pub mod Frames
 pub mod Search
 pub mod Pieces
+pub mod Frames
+pub mod Solve
 pub mod Machine
 pub mod Sound
 pub mod OneList
