@@ -1,21 +1,22 @@
 -- The signature, terms and patterns of the computed examples.
-use Rattle.std.proofs.Common.{ℕ, Bool, List, [], ◌∷◌, true, false}
+use Rattle.std.proofs.Common.{ℕ, List, [], ◌∷◌, true, false}
 use Rattle.std.specs.Prelude.{None, Some, codes}
-use Rattle.mp_term.specs.declared.term.OpDecl.{OpDecl}
 use Rattle.mp_term.specs.Tree.{Tree, symbol, app, trees}
 use Rattle.mp_term.specs.Signature.{Sig}
 use Rattle.mp_pattern.specs.PatternTree.{Wildcard, Pattern, symbol_pattern, app_pattern, wild_pattern, patterns}
 use Rattle.mp_pattern.specs.Value.{Value, Binding}
 use Rattle.mp_pattern.specs.Fits.{Entry}
 
--- op NAME 0+, with the flags
-abbrev pub op : List ℕ → Bool → Bool → Bool → OpDecl
-op name assoc comm single = record { name = name; least = 0; fixed = false; assoc = assoc; comm = comm; one = single; sign = None }
-
 -- op f 0+; op set 0+ comm; op list 0+ assoc; op sum 0+ assoc comm one; op product 0+ assoc comm one; kind v: x y;
 abbrev pub sig : Sig
 sig = record {
-  ops = op (codes "f") false false false ∷ op (codes "set") false true false ∷ op (codes "list") true false false ∷ op (codes "sum") true true true ∷ op (codes "product") true true true ∷ [];
+  ops =
+      record { name = codes "f"; least = 0; fixed = false; assoc = false; comm = false; one = false; sign = None }
+      ∷ record { name = codes "set"; least = 0; fixed = false; assoc = false; comm = true; one = false; sign = None }
+      ∷ record { name = codes "list"; least = 0; fixed = false; assoc = true; comm = false; one = false; sign = None }
+      ∷ record { name = codes "sum"; least = 0; fixed = false; assoc = true; comm = true; one = true; sign = None }
+      ∷ record { name = codes "product"; least = 0; fixed = false; assoc = true; comm = true; one = true; sign = None }
+      ∷ [];
   kinds = record { name = codes "v"; members = codes "x" ∷ codes "y" ∷ [] } ∷ [];
 }
 

@@ -8,8 +8,8 @@ use Rattle.mp_term.specs.Order.{tree_cmp}
 use Rattle.mp_term.specs.Sorting.{sorted}
 use Rattle.mp_term.specs.Normal.{normal}
 use Rattle.mp_pattern.specs.PatternTree.{dot, kind, plus, star, optional, Pattern, symbol_pattern, patterns}
-use Rattle.mp_pattern.specs.TemplateTree.{Template, symbol_template, app_template, variable_template, templates}
-use Rattle.mp_pattern.specs.CondTree.{var, ground, fixed, count, size, lt, ge, Cond, amounts, same, less, free, of_kind, headed, negation, all_of, any_of, conds}
+use Rattle.mp_pattern.specs.TemplateTree.{app_template, variable_template, templates}
+use Rattle.mp_pattern.specs.CondTree.{var, ground, fixed, count, size, lt, ge, amounts, same, less, free, of_kind, headed, negation, all_of, any_of, conds}
 use Rattle.mp_pattern.specs.Order.{pattern_cmp}
 use Rattle.mp_pattern.specs.Normal.{normal_pattern}
 use Rattle.mp_pattern.specs.Value.{one, seq, bag, one_form, seq_form, bag_form, Subst, merge}

@@ -1,5 +1,5 @@
 -- When a condition holds of a substitution.
-use Rattle.std.specs.Prelude.{ℕ, Bool, true, false, ◌&&◌, ◌||◌, not, List, [], ◌∷◌, length, sum_by, Option, Some, None, nat_eq, nat_lt, nat_le, if◌then◌else◌}
+use Rattle.std.specs.Prelude.{ℕ, Bool, true, false, ◌&&◌, ◌||◌, not, List, [], length, sum_by, Option, Some, None, nat_eq, nat_lt, nat_le, if◌then◌else◌}
 use Rattle.std.specs.Ordering.{is_lt, eq_by_cmp}
 use Rattle.std.specs.List.{list_any}
 use Rattle.mp_term.specs.Tree.{Tree, symbol, app, Trees, no_trees, more_trees}

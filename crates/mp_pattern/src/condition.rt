@@ -6,22 +6,27 @@ use mp_term::{KindId, Memory, Name, OpId, Term};
 use std::alloc::Global;
 use std::marker::Model;
 
-/// What an atom speaks of: the value of a variable, or a ground term.
+/// What an atom speaks of. Its list is `list_of` of `specs/Holds`.
 #[derive(Drop)]
 pub enum Operand {
+    /// The terms of the value of a variable.
     Var(Name),
+    /// A term without variables, as a list of one.
     Ground(Term),
 }
 
-/// A number: as written, how many terms the operand has, or how many nodes they have together.
+/// A number that an atom compares: `amount_of` of `specs/Holds`.
 #[derive(Drop)]
 pub enum Amount {
+    /// The number as written.
     Fixed(u32),
+    /// How many terms the operand has.
     Count(Operand),
+    /// How many nodes they have together.
     Size(Operand),
 }
 
-/// How two numbers are compared: `<`, `<=`, `>`, `>=`, `==` or `!=`.
+/// How two numbers are compared: `<`, `<=`, `>`, `>=`, `==` or `!=`, in this order.
 #[derive(Debug, Drop, Clone, Copy, PartialEq, Eq)]
 pub enum Sense {
     Lt,
@@ -32,19 +37,28 @@ pub enum Sense {
     Ne,
 }
 
-/// A condition on a substitution. `specs/Holds` says when it holds.
-/// Contracts see it as the tree `cond_tree` of `specs/CondView`.
+/// A condition on a substitution. Contracts see it as the tree `cond_tree` of `specs/CondView`; `holds` of `specs/Holds` says
+/// when it holds.
 #[cycle(condition)]
 #[derive(Drop)]
 pub enum Cond {
+    /// The two numbers compare so.
     Amounts(Amount, Sense, Amount),
+    /// The lists are equal; where an operand is a multiset, equal as multisets.
     Same(Operand, Operand),
+    /// Both are single terms, and the first comes before the second.
     Less(Operand, Operand),
+    /// No term of the first list is equal to, or a subterm of, a term of the second.
     Free(Operand, Operand),
+    /// Each term of the list is a symbol of the kind.
     OfKind(Operand, KindId),
+    /// Each term of the list is an application of the operation.
     Headed(Operand, OpId),
+    /// The condition in the box doesn't hold.
     Not(BoxedCond),
+    /// Each condition holds.
     All(Conds),
+    /// Some condition holds.
     Any(Conds),
 }
 

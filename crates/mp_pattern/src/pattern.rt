@@ -6,24 +6,30 @@ use mp_term::{KindId, Memory, Name, OpId, Term};
 use std::alloc::Global;
 use std::marker::Model;
 
-/// What a wildcard takes: one argument; one symbol of the kind; one argument or more; any number of arguments; one
-/// argument, or none and then its variable has the default.
+/// What a wildcard takes of the arguments around it. `WildTakes` of `specs/Fits` says it for each value of its variable.
 #[derive(Drop)]
 pub enum Shape {
+    /// One argument, or under an associative operation the arguments that its value contributes.
     Dot,
+    /// One symbol of the kind.
     Kind(KindId),
+    /// One argument or more.
     Plus,
+    /// Any number of arguments.
     Star,
+    /// As a dot does, or nothing, and then its variable has this default.
     Opt(Term),
 }
 
-/// A term with wildcards: a symbol, an operation with its arguments, or a wildcard with the name of its variable. A
-/// wildcard without a name binds nothing. Contracts see a pattern as the tree `pattern_tree` of `specs/View`.
+/// A term with wildcards. Contracts see it as the tree `pattern_tree` of `specs/View`; `specs/Fits` says what it matches.
 #[cycle(pattern)]
 #[derive(Drop)]
 pub enum Pattern {
+    /// A symbol.
     Sym(Name),
+    /// An operation with its arguments.
     App(OpId, Patterns),
+    /// A wildcard with the name of its variable; without a name it binds nothing.
     Wild(Shape, Option<Name>),
 }
 

@@ -6,13 +6,16 @@ use mp_term::{Memory, Name, OpId};
 use std::alloc::Global;
 use std::marker::Model;
 
-/// A term with variables: a symbol, an operation with its arguments, or a variable by its name.
-/// Contracts see it as the tree `template_tree` of `specs/TemplateView`.
+/// A term with variables. Contracts see it as the tree `template_tree` of `specs/TemplateView`; `specs/Instance` says what it
+/// becomes under a substitution.
 #[cycle(template)]
 #[derive(Drop)]
 pub enum Template {
+    /// A symbol.
     Sym(Name),
+    /// An operation with its arguments.
     App(OpId, Templates),
+    /// A variable by its name.
     Var(Name),
 }
 
