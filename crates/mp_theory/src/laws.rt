@@ -19,26 +19,32 @@ ghost use Rattle.mp_theory.specs.Trail.{fitted};
 /// What the search finds is the one-list: for a pattern whose defaults are normal and a normal subject, `one_list` of
 /// `specs/OneList` holds exactly the substitutions that the rule admits, strictly ascending by least take table.
 pub fn one_list_is_the_one_list()
-    ensures { (sig : Sig) (r : Rule) (t : Tree) → IsSound sig r.pattern → IsNormal sig t → IsOneList sig r t (one_list sig r t) }
+    ensures { (sig : Sig) (r : Rule) (t : Tree) → IsSound sig r.pattern → IsNormal sig t →
+        IsOneList sig r t (one_list sig r t) }
 {}
 
 /// A rule has one one-list on a normal subject: two lists that meet `IsOneList` of mp_pattern's `specs/Lists` are equal.
 pub fn one_list_is_unique()
-    ensures { (sig : Sig) (r : Rule) (t : Tree) (ss us : List Subst) → IsNormal sig t → IsOneList sig r t ss → IsOneList sig r t us → ss ≡ us }
+    ensures { (sig : Sig) (r : Rule) (t : Tree) (ss us : List Subst) → IsNormal sig t →
+        IsOneList sig r t ss → IsOneList sig r t us → ss ≡ us }
 {}
 
 /// Only finitely many take tables fit a pattern and a normal subject: each of them is in the list `tables` of
 /// `specs/Machine`, which holds exactly the tables that have the pattern's shape on the subject, strictly ascending in
 /// the derivation order.
 pub fn tables_are_exact()
-    ensures complete { (sig : Sig) (p : Pattern) (t : Tree) (s : Subst) (T : Table) → IsNormal sig t → Fits sig p t s T → In T (tables sig p t) }
-    ensures exact { (sig : Sig) (p : Pattern) (t : Tree) (T : Table) → In T (tables sig p t) ↔ HasShape sig p t T }
+    ensures complete { (sig : Sig) (p : Pattern) (t : Tree) (s : Subst) (T : Table) → IsNormal sig t →
+        Fits sig p t s T → In T (tables sig p t) }
+    ensures exact { (sig : Sig) (p : Pattern) (t : Tree) (T : Table) →
+        In T (tables sig p t) ↔ HasShape sig p t T }
     ensures ascending { (sig : Sig) (p : Pattern) (t : Tree) → IsStrictlySortedBy table_cmp (tables sig p t) }
 {}
 
 /// At most one substitution fits with a take table, and for a pattern whose defaults are normal and a normal subject
 /// `fitted` of `specs/Trail` finds it: it is None exactly where no substitution fits.
 pub fn a_table_decides_its_substitution()
-    ensures unique { (sig : Sig) (p : Pattern) (t : Tree) (T : Table) (r s : Subst) → IsNormal sig t → Fits sig p t r T → Fits sig p t s T → r ≡ s }
-    ensures found { (sig : Sig) (p : Pattern) (t : Tree) (s : Subst) (T : Table) → IsSound sig p → IsNormal sig t → Fits sig p t s T ↔ (fitted sig p t T ≡ Some s) }
+    ensures unique { (sig : Sig) (p : Pattern) (t : Tree) (T : Table) (r s : Subst) → IsNormal sig t →
+        Fits sig p t r T → Fits sig p t s T → r ≡ s }
+    ensures found { (sig : Sig) (p : Pattern) (t : Tree) (s : Subst) (T : Table) → IsSound sig p →
+        IsNormal sig t → Fits sig p t s T ↔ (fitted sig p t T ≡ Some s) }
 {}
