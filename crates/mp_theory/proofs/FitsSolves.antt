@@ -26,7 +26,7 @@ use Rattle.mp_theory.proofs.Tables.{shape-accounts}
 use Rattle.mp_theory.proofs.Solving.{same_name-itself, join, join_seq, use_form, form_among-cons, GivesFinal, solved-by, solution}
 
 -- what holds of the bindings holds of the value of a variable
-at_value : (R : List ℕ → Value → Type 0) (s : Subst) (x : List ℕ) (v : Value) → AllByRecursion (λ b. R b.name b.value) s → value_of s x ≡ Some v → R x v
+pub at_value : (R : List ℕ → Value → Type 0) (s : Subst) (x : List ℕ) (v : Value) → AllByRecursion (λ b. R b.name b.value) s → value_of s x ≡ Some v → R x v
 at_value R [] x v h e = cc
 at_value R (b ∷ s) x v h e =
     elim (same_name b.name x) as (λ c. same_name b.name x ≡ c → (if c then Some b.value else value_of s x) ≡ Some v → R x v) [

@@ -19,3 +19,4 @@ mod OneListExamples
 pub mod SubBags
 pub mod Unique
 pub mod Ground
+pub mod Instances

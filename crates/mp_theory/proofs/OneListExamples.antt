@@ -1,11 +1,11 @@
 -- The one-list of rules and subjects, computed.
-use Rattle.std.proofs.Common.{◌≡◌, ℕ, Bool, List, [], ◌∷◌, map, true, false, refl}
+use Rattle.std.proofs.Common.{◌≡◌, ℕ, List, [], ◌∷◌, map, refl}
 use Rattle.std.specs.Prelude.{None, Some, codes}
 use Rattle.mp_term.specs.Order.{tree_cmp}
 use Rattle.mp_term.specs.Tree.{Tree, symbol}
 use Rattle.mp_pattern.specs.PatternTree.{dot, kind, plus, star, optional, Pattern, wild_pattern}
 use Rattle.mp_pattern.specs.CondTree.{var, fixed, count, size, gt, ge, Cond, amounts, same, free, negation, all_of, conds}
-use Rattle.mp_pattern.specs.Value.{one, seq, bag, Subst}
+use Rattle.mp_pattern.specs.Value.{one, seq, bag}
 use Rattle.mp_pattern.specs.Admission.{Rule}
 use Rattle.mp_pattern.proofs.ExampleWords.{sig, f, set, list, sum, product, num, v, term, pattern, a, b, c, d, nought, x_, y_, z_, unnamed, x→, y→, z→, entry, collapsed_entry}
 use Rattle.mp_theory.specs.Pieces.{sub_bags}

@@ -91,7 +91,7 @@ module _ (sig : Sig) where
           in_order = (apart-from_piece (comm_above sig f) l ts k.in_order h).rest_in_order;
         }
 
-    all_pass-each : (g : ℕ) (ts : Trees) → all_pass sig g ts ≡ true → AllByRecursion (λ t. passes sig t ≡ true) (tree_list ts) × AllByRecursion (λ t. is_alone sig (Some g) t ≡ true) (tree_list ts)
+    pub all_pass-each : (g : ℕ) (ts : Trees) → all_pass sig g ts ≡ true → AllByRecursion (λ t. passes sig t ≡ true) (tree_list ts) × AllByRecursion (λ t. is_alone sig (Some g) t ≡ true) (tree_list ts)
     all_pass-each g no_trees h = (tt, tt)
     all_pass-each g (more_trees t ts) h =
         let k = both (passes sig t && is_alone sig (Some g) t) (all_pass sig g ts) h in

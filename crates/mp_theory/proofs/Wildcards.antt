@@ -24,6 +24,12 @@ use Rattle.mp_theory.proofs.SolveLaws.{contribution-found}
 use Rattle.mp_theory.specs.Sound.{DefaultNormal}
 use Rattle.mp_theory.proofs.Cuts.{put}
 
+-- a list that has several items is that list
+pub if_several-some : (us l : List Tree) → if_several us ≡ Some l → us ≡ l
+if_several-some [] l p = cc
+if_several-some (u ∷ []) l p = cc
+if_several-some (u ∷ w ∷ us) l p = cc
+
 -- lists of one term or none are in order, and so is what was put in order
 pub put-single : (b : Bool) (t : Tree) → put b (t ∷ []) ≡ t ∷ []
 put-single true t = refl
@@ -56,14 +62,9 @@ module _ (sig : Sig) where
   spread-in_order g (symbol n) l h e = let q : symbol n ∷ [] ≡ l = cc in subst (λ m. put (is_comm sig g) m ≡ m) q (put-single (is_comm sig g) (symbol n))
   spread-in_order g (app f ts) l h e =
       elim (nat_eq g f) as (λ b. nat_eq g f ≡ b → (if b then if_several (tree_list ts) else Some (app f ts ∷ [])) ≡ Some l → put (is_comm sig g) l ≡ l) [
-        | true ↦ λ q p. subst (λ m. put (is_comm sig g) m ≡ m) (all_of (tree_list ts) p) (subst (λ k. put (is_comm sig k) (tree_list ts) ≡ tree_list ts) (sym (eqb-true g f q)) (arguments-in_order f ts h))
+        | true ↦ λ q p. subst (λ m. put (is_comm sig g) m ≡ m) (if_several-some (tree_list ts) l p) (subst (λ k. put (is_comm sig k) (tree_list ts) ≡ tree_list ts) (sym (eqb-true g f q)) (arguments-in_order f ts h))
         | false ↦ λ q p. let r : app f ts ∷ [] ≡ l = cc in subst (λ m. put (is_comm sig g) m ≡ m) r (put-single (is_comm sig g) (app f ts))
       ] refl e
-    where
-      all_of : (us : List Tree) → if_several us ≡ Some l → us ≡ l
-      all_of [] p = cc
-      all_of (u ∷ []) p = cc
-      all_of (u ∷ w ∷ us) p = cc
 
   pub contribution-in_order : (f : Option ℕ) (v : Tree) (l : List Tree) → IsNormal sig v → contribution sig f v ≡ Some l → put (comm_above sig f) l ≡ l
   contribution-in_order None v l h e = refl

@@ -26,3 +26,12 @@ DefaultNormal sig _ = ⊤
 -- the defaults of the pattern are normal
 pub record IsSound (sig : Sig) (p : Pattern) : Type 0 where
   pub defaults : Each (λ f w x. DefaultNormal sig w) None p
+
+-- it is no optional wildcard
+abbrev pub IsNotOptional : Wildcard → Type 0
+IsNotOptional (optional d) = ⊥
+IsNotOptional _ = ⊤
+
+-- no wildcard of the pattern is optional
+abbrev pub HasNoOptional : Pattern → Type 0
+HasNoOptional p = Each (λ f w x. IsNotOptional w) None p

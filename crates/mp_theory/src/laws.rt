@@ -1,5 +1,5 @@
 // The main theorems, each as the contract of a function that does nothing.
-ghost use Rattle.std.specs.Prelude.{◌≡◌, ◌↔◌, List, Some};
+ghost use Rattle.std.specs.Prelude.{◌≡◌, ◌↔◌, List, Some, true};
 ghost use Rattle.std.specs.List.Sorted.{IsStrictlySortedBy};
 ghost use Rattle.mp_term.specs.Tree.{Tree};
 ghost use Rattle.mp_term.specs.Signature.{Sig};
@@ -8,11 +8,12 @@ ghost use Rattle.mp_pattern.specs.PatternTree.{Pattern};
 ghost use Rattle.mp_pattern.specs.Value.{Subst};
 ghost use Rattle.mp_pattern.specs.Fits.{Table, Fits};
 ghost use Rattle.mp_pattern.specs.DerivationOrder.{table_cmp};
+ghost use Rattle.mp_pattern.specs.Instance.{is_fully_named, IsPatternApplied};
 ghost use Rattle.mp_pattern.specs.Admission.{Rule};
 ghost use Rattle.mp_pattern.specs.Lists.{IsOneList};
 ghost use Rattle.mp_theory.specs.Search.{In};
 ghost use Rattle.mp_theory.specs.Machine.{HasShape, tables};
-ghost use Rattle.mp_theory.specs.Sound.{IsSound};
+ghost use Rattle.mp_theory.specs.Sound.{IsSound, HasNoOptional};
 ghost use Rattle.mp_theory.specs.OneList.{one_list};
 ghost use Rattle.mp_theory.specs.Trail.{fitted};
 
@@ -47,4 +48,12 @@ pub fn a_table_decides_its_substitution()
         Fits sig p t r T → Fits sig p t s T → r ≡ s }
     ensures found { (sig : Sig) (p : Pattern) (t : Tree) (s : Subst) (T : Table) → IsSound sig p →
         IsNormal sig t → Fits sig p t s T ↔ (fitted sig p t T ≡ Some s) }
+{}
+
+/// Where each wildcard of the pattern has a name and none is optional, a substitution that fits makes the subject: the
+/// normal form of the pattern's instance, by `IsPatternApplied` of mp_pattern's `specs/Instance`, is the normal subject.
+pub fn an_instance_is_the_subject()
+    ensures { (sig : Sig) (p : Pattern) (t : Tree) (s : Subst) (T : Table) →
+        is_fully_named p ≡ true → HasNoOptional p → IsNormal sig t →
+        Fits sig p t s T → IsPatternApplied sig p s t }
 {}
