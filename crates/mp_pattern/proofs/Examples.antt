@@ -48,7 +48,7 @@ patterns_in_order : sorted pattern_cmp (x_ star ∷ x_ plus ∷ x_ (optional nou
     ≡ symbol_pattern (codes "b") ∷ pattern f (a_pattern ∷ []) ∷ pattern f (x_ dot ∷ []) ∷ x_ (kind v) ∷ unnamed (kind v) ∷ x_ dot ∷ y_ dot ∷ unnamed dot ∷ x_ (optional nought) ∷ x_ plus ∷ x_ star ∷ []
 patterns_in_order = refl
 
--- f(x_) comes before set(a, x_), by declaration number, and f(x_, x_) after f(y_), by the number of arguments
+-- applications that hold a wildcard: f(y_) before f(x_, x_), and that before set(x_)
 fewer_arguments_first : pattern_cmp (pattern f (y_ dot ∷ [])) (pattern f (x_ dot ∷ x_ dot ∷ [])) ≡ Less
 fewer_arguments_first = refl
 
