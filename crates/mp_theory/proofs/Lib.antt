@@ -20,3 +20,4 @@ pub mod SubBags
 pub mod Unique
 pub mod Ground
 pub mod Instances
+pub mod AllList

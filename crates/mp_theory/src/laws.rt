@@ -10,7 +10,7 @@ ghost use Rattle.mp_pattern.specs.Fits.{Table, Fits};
 ghost use Rattle.mp_pattern.specs.DerivationOrder.{table_cmp};
 ghost use Rattle.mp_pattern.specs.Instance.{is_fully_named, IsPatternApplied};
 ghost use Rattle.mp_pattern.specs.Admission.{Rule};
-ghost use Rattle.mp_pattern.specs.Lists.{IsOneList};
+ghost use Rattle.mp_pattern.specs.Lists.{Pair, IsOneList, IsAllList};
 ghost use Rattle.mp_theory.specs.Search.{In};
 ghost use Rattle.mp_theory.specs.Machine.{HasShape, tables};
 ghost use Rattle.mp_theory.specs.Sound.{IsSound, HasNoOptional};
@@ -28,6 +28,12 @@ pub fn one_list_is_the_one_list()
 pub fn one_list_is_unique()
     ensures { (sig : Sig) (r : Rule) (t : Tree) (ss us : List Subst) → IsNormal sig t →
         IsOneList sig r t ss → IsOneList sig r t us → ss ≡ us }
+{}
+
+/// Rules have one all-list on a subject: two lists that meet `IsAllList` of mp_pattern's `specs/Lists` are equal.
+pub fn all_list_is_unique()
+    ensures { (sig : Sig) (rules : List Rule) (t : Tree) (ps qs : List Pair) →
+        IsAllList sig rules t ps → IsAllList sig rules t qs → ps ≡ qs }
 {}
 
 /// Only finitely many take tables fit a pattern and a normal subject: each of them is in the list `tables` of
