@@ -55,7 +55,7 @@ put-append true xs ys us vs p q =
 put-append false xs ys us vs p q = ap (λ ts. ts ++ ys) p ∙ ap (λ ts. us ++ ts) q
 
 -- no child that isn't optional is left out
-none_left_out : (g : ℕ) (ps : Patterns) (ls : List (List Tree)) → AllEach (λ f w x. IsNotOptional w) (Some g) ps → some_left_out ps ls ≡ false
+pub none_left_out : (g : ℕ) (ps : Patterns) (ls : List (List Tree)) → AllEach (λ f w x. IsNotOptional w) (Some g) ps → some_left_out ps ls ≡ false
 none_left_out g no_patterns ls h = refl
 none_left_out g (more_patterns p ps) [] h = refl
 none_left_out g (more_patterns (symbol_pattern n) ps) (l ∷ ls) h = none_left_out g ps ls h.1

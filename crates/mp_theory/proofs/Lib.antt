@@ -21,3 +21,4 @@ pub mod Unique
 pub mod Ground
 pub mod Instances
 pub mod AllList
+pub mod OneTable

@@ -56,6 +56,13 @@ pub fn a_table_decides_its_substitution()
         IsNormal sig t → Fits sig p t s T ↔ (fitted sig p t T ≡ Some s) }
 {}
 
+/// Where each wildcard of the pattern has a name and none is optional, one take table at most fits with a substitution.
+pub fn a_substitution_decides_its_table()
+    ensures { (sig : Sig) (p : Pattern) (t : Tree) (s : Subst) (T U : Table) →
+        is_fully_named p ≡ true → HasNoOptional p →
+        Fits sig p t s T → Fits sig p t s U → T ≡ U }
+{}
+
 /// Where each wildcard of the pattern has a name and none is optional, a substitution that fits makes the subject: the
 /// normal form of the pattern's instance, by `IsPatternApplied` of mp_pattern's `specs/Instance`, is the normal subject.
 pub fn an_instance_is_the_subject()
