@@ -1,7 +1,7 @@
 -- Computed examples of the definitions.
 use Rattle.std.proofs.Common.{◌≡◌, List, [], ◌∷◌, true, false, refl}
 use Rattle.std.specs.Prelude.{Some, None, codes}
-use Rattle.std.specs.declared.cmp.Ordering.TheVariants.{Less, Equal, Greater}
+use Rattle.std.specs.declared.cmp.Ordering.TheVariants.{Less, Greater}
 use Rattle.mp_term.specs.declared.signature.OpDecl.{OpDecl}
 use Rattle.mp_term.specs.declared.signature.SigFault.TheVariants.{DuplicateName, BadFlags}
 use Rattle.mp_term.specs.Tree.{Tree, symbol, app, trees}

@@ -1,15 +1,14 @@
 -- A set of names ascends strictly.
-use Rattle.std.proofs.Common.{◌≡◌, Bool, true, false, ◌&&◌, cond, not, List, [], ◌∷◌, ℕ, refl, ap, sym, ◌∙◌}
+use Rattle.std.proofs.Common.{◌≡◌, Bool, true, false, cond, List, [], ◌∷◌, ℕ, refl, sym, ◌∙◌}
 use Rattle.std.specs.declared.cmp.Ordering.{Ordering}
 use Rattle.std.specs.declared.cmp.Ordering.TheVariants.{Less, Equal, Greater}
 use Rattle.std.specs.Ordering.{nat_cmp, eq_by_cmp, is_lt, is_gt, is_eq}
 use Rattle.std.specs.List.{dedup, dedup_from}
-use Rattle.std.specs.Cmp.{IsTotalOrder}
 use Rattle.std.specs.Cmp.Lexicographic.{slice_cmp}
 use Rattle.std.proofs.lemmas.Cmp.{nat_list_cmp_total}
 use Rattle.mp_term.specs.Sorting.{sorted}
 use Rattle.mp_term.specs.Names.{name_set, names_ascend}
-use Rattle.mp_term.proofs.Sorting.{AtLeast, Ascends, ascends-sorted}
+use Rattle.mp_term.proofs.Sorting.{Ascends, ascends-sorted}
 
 abbrev cmp : List ℕ → List ℕ → Ordering
 cmp = slice_cmp nat_cmp

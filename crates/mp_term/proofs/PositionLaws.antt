@@ -1,5 +1,5 @@
 -- One step down from the root.
-use Rattle.std.proofs.Common.{◌≡◌, ℕ, ◌+◌, ◌<◌, List, ◌∷◌, length, get_or, drop, drop-cons, add-one, refl}
+use Rattle.std.proofs.Common.{◌≡◌, ℕ, ◌+◌, ◌<◌, List, length, get_or, drop, drop-cons, add-one, refl}
 use Rattle.std.specs.Prelude.{None, slice_get, option_and_then}
 use Rattle.mp_term.specs.Tree.{Tree, symbol, app, trees}
 use Rattle.mp_term.specs.TreeLists.{tree_list-trees}

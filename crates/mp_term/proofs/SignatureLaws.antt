@@ -1,20 +1,19 @@
 -- Look-ups in a signature, and what stays true of it when a declaration is added.
-use Rattle.std.proofs.Common.{◌≡◌, ℕ, zero, suc, ◌+◌, ◌-◌, ◌<◌, ◌≤◌, Bool, true, false, ◌&&◌, ◌||◌, not, cond, List, [], ◌∷◌, ◌++◌, length, map, refl, ap, sym, ◌∙◌, subst, arith, length-append}
+use Rattle.std.proofs.Common.{◌≡◌, ℕ, zero, suc, ◌+◌, ◌-◌, ◌<◌, ◌≤◌, Bool, true, false, ◌||◌, not, cond, List, [], ◌∷◌, ◌++◌, length, map, refl, ap, sym, ◌∙◌, arith, length-append}
 use Rattle.std.specs.Prelude.{Option, Some, None, option_map, is_some, slice_get, position, nat_le, nat_lt, bytes_eq, codes, if◌then◌else◌}
 use Rattle.std.specs.Option.{option_map_or}
 use Rattle.std.specs.List.{list_any, list_all, position_or_len}
 use Rattle.std.proofs.lemmas.List.{length-map, map-append}
 use Rattle.std.proofs.lemmas.Simd.{map-map}
 use Rattle.std.proofs.lemmas.Option.{slice_get-map}
-use Rattle.std.proofs.lemmas.List.Folds.{list_any-append, list_all-append}
+use Rattle.std.proofs.lemmas.List.Folds.{list_all-append}
 use Rattle.std.proofs.lemmas.Bool.Decides.{nat_tests}
 use Rattle.mp_term.specs.declared.signature.OpDecl.{OpDecl}
-use Rattle.mp_term.specs.declared.signature.SigFault.{SigFault}
 use Rattle.mp_term.specs.declared.signature.SigFault.TheVariants.{DuplicateName, TooManyOps, TooManyKinds, BadFlags}
 use Rattle.mp_term.specs.Tree.{symbol}
 use Rattle.mp_term.specs.Names.{are_distinct, names_ascend, name_set}
 use Rattle.mp_term.specs.Signature.{Sig, Kind, in_order, all_in_order, shares_sign, clashes, none_clash, op_fault, kind_fault, kind_names, kind_members, in_kind, is_member, IsSignature}
-use Rattle.mp_term.proofs.NormalTestLaws.{both, joined_tests, &&-assoc}
+use Rattle.mp_term.proofs.NormalTestLaws.{both, joined_tests}
 use Rattle.mp_term.proofs.NameSets.{names_ascend-name_set}
 
 module _ {X : Type 0} (p : X → Bool) where

@@ -1,5 +1,5 @@
 -- What contracts see of a signature: the operations and the kinds, each by its number.
-use Rattle.std.specs.Prelude.{◌≡◌, ℕ, zero, suc, Bool, true, false, List, [], ◌∷◌, ◌≤◌, ◌==◌, Option, Some, None, slice_get, map, nat_eq, nat_le, ◌&&◌, length, if◌then◌else◌, ◌||◌, not, is_none, codes, bytes_eq, position}
+use Rattle.std.specs.Prelude.{◌≡◌, ℕ, zero, suc, Bool, true, false, List, [], ◌∷◌, ◌≤◌, ◌==◌, Option, Some, None, slice_get, map, nat_eq, nat_le, ◌&&◌, length, if◌then◌else◌, ◌||◌, not, is_none, codes, bytes_eq}
 use Rattle.std.specs.List.{list_any, list_all}
 use Rattle.mp_term.specs.declared.signature.OpDecl.{OpDecl}
 use Rattle.mp_term.specs.declared.signature.SigFault.{SigFault}

@@ -1,4 +1,4 @@
-use Rattle.std.proofs.Common.{◌≡◌, ◌∙◌, ◌+◌, ap, sym, drop}
+use Rattle.std.proofs.Common.{◌∙◌, ◌+◌, ap, sym, drop}
 use Rattle.std.specs.Prelude.{option_map, option_and_then}
 use Rattle.mp_term.specs.View.{tree}
 use Rattle.mp_term.specs.Positions.{subterm}

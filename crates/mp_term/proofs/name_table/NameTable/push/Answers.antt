@@ -1,5 +1,5 @@
 use Rattle.std.proofs.Common.{◌≡◌, ◌∙◌, ◌++◌, ◌∷◌, [], ap, sym, subst, false}
-use Rattle.std.specs.Prelude.{bytes_eq, List, ℕ}
+use Rattle.std.specs.Prelude.{bytes_eq}
 use Rattle.std.specs.List.{list_any}
 use Rattle.mp_term.proofs.SignatureLaws.{map-insert_key}
 use Rattle.mp_term.proofs.name_table.NameTable.push.Goals as goal

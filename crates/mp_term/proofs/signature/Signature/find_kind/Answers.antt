@@ -1,4 +1,4 @@
-use Rattle.std.proofs.Common.{◌≡◌, ◌∙◌, ap, sym}
+use Rattle.std.proofs.Common.{◌∙◌, ap, sym}
 use Rattle.std.specs.Prelude.{position, bytes_eq}
 use Rattle.mp_term.specs.Signature.{Sig, kind_names}
 use Rattle.mp_term.proofs.signature.Signature.find_kind.Goals as goal

@@ -1,5 +1,5 @@
-use Rattle.std.proofs.Common.{◌≡◌, ap, map}
-use Rattle.mp_term.specs.Signature.{Sig, Kind}
+use Rattle.std.proofs.Common.{ap}
+use Rattle.mp_term.specs.Signature.{Sig}
 use Rattle.mp_term.proofs.SignatureLaws.{slice_get-kind_names, slice_get-kind_members}
 use Rattle.mp_term.proofs.signature.Signature.kind.Goals as goal
 
