@@ -1,0 +1,27 @@
+-- Counts and names of an application, whose arguments the code holds in a vector.
+use Rattle.std.proofs.Common.{◌≡◌, ℕ, zero, suc, ◌+◌, ◌≤◌, ◌<◌, List, [], ◌∷◌, map, length, get_or, Vec, Global, ap, ◌∙◌, arith, subst, sym}
+use Rattle.mp_syntax.specs.declared.place.Spot as code
+use Rattle.mp_syntax.specs.declared.tree.Expr.{Expr, Apply}
+use Rattle.mp_syntax.specs.Syntax.{trees}
+use Rattle.mp_syntax.specs.View.{expr_tree}
+use Rattle.mp_syntax.proofs.Trees.{expr_tree-Apply}
+use Rattle.mp_text.specs.Checks.{nodes, all_nodes}
+use Rattle.mp_text.specs.Names.{wildcard_names, all_wildcard_names}
+
+-- the nodes of an application
+pub nodes-Apply : (f : code.Spot) (v : Vec Expr Global) → nodes (expr_tree (Apply f v)) ≡ 1 + all_nodes (trees (map expr_tree v.items))
+nodes-Apply f v = ap nodes (expr_tree-Apply f v) ∙ omega arith
+
+-- the names of the wildcards of an application
+pub wildcard_names-Apply : (f : code.Spot) (v : Vec Expr Global) → wildcard_names (expr_tree (Apply f v)) ≡ all_wildcard_names (trees (map expr_tree v.items))
+wildcard_names-Apply f v = ap wildcard_names (expr_tree-Apply f v)
+
+-- an item has no more nodes than the list
+nodes-get_or : (es : List Expr) (i : ℕ) (d : Expr) → i < length es → nodes (expr_tree (get_or es i d)) ≤ all_nodes (trees (map expr_tree es))
+nodes-get_or [] i d h = absurd (omega arith)
+nodes-get_or (e ∷ es) zero d h = omega arith
+nodes-get_or (e ∷ es) (suc i) d h = omega (arith, nodes-get_or es i d (omega arith))
+
+-- the item at an index has no more nodes than the list
+pub nodes-item : (es : List Expr) (i : ℕ) (x : Expr) → i < length es → x ≡ get_or es i x → nodes (expr_tree x) ≤ all_nodes (trees (map expr_tree es))
+nodes-item es i x h is = let P : Expr → Type 0 = λ y. nodes (expr_tree y) ≤ all_nodes (trees (map expr_tree es)) in subst P (sym is) (nodes-get_or es i x h)

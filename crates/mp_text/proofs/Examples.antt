@@ -1,0 +1,108 @@
+-- Worked examples: the file of a text, the first fault of others, and printed text.
+use Rattle.std.proofs.Common.{◌≡◌, ℕ, true, false, List, [], ◌∷◌, Option, Some, None, refl}
+use Rattle.std.specs.Prelude.{codes}
+use Rattle.mp_term.specs.Tree.{symbol, app, trees}
+use Rattle.mp_term.specs.Signature.{Sig}
+use Rattle.mp_pattern.specs.PatternTree.{dot, symbol_pattern, app_pattern, wild_pattern, patterns}
+use Rattle.mp_pattern.specs.Value.{one, seq, bag}
+use Rattle.mp_syntax.specs.Lexing.{lexemes}
+use Rattle.mp_text.specs.declared.fault.TextKind.{TextKind}
+use Rattle.mp_text.specs.declared.fault.TextKind.TheVariants.{BadByte, Syntax, DuplicateName, TooMany, UnknownOp, BareOperation, Arity, WildcardInTerm}
+use Rattle.mp_text.specs.declared.fault.TextFault.{TextFault}
+use Rattle.mp_text.specs.File.{FileTree}
+use Rattle.mp_text.specs.Reading.{file_of, fault_of}
+use Rattle.mp_text.specs.Printing.{term_text, value_text, subst_text}
+
+-- a fault of this kind, in line 1
+abbrev at : TextKind → ℕ → Option TextFault
+at kind column = Some (record { kind = kind; line = 1; column = column })
+
+-- an operation, a rule and a subject
+file_of-one_of_each : file_of (codes "op f 2; rule r: f(x_, a); subject s: f(0, b);") ≡ Some (record {
+  sig = record { ops = record { name = codes "f"; least = 2; fixed = true; assoc = false; comm = false; one = false; sign = None } ∷ []; kinds = [] };
+  rules = record { name = codes "r"; pattern = app_pattern 0 (patterns (wild_pattern dot (Some (codes "x")) ∷ symbol_pattern (codes "a") ∷ [])); template = None; condition = None } ∷ [];
+  subjects = record { name = codes "s"; term = app 0 (trees (symbol (codes "0") ∷ symbol (codes "b") ∷ [])) } ∷ [];
+  edits = [];
+})
+unfolding lexemes
+file_of-one_of_each = refl
+
+-- a byte that begins no token
+fault_of-bad_byte : fault_of (codes "subject s: é;") ≡ at BadByte 12
+unfolding lexemes
+fault_of-bad_byte = refl
+
+-- brackets round a term alone
+fault_of-bracketed_term : fault_of (codes "subject s: (a);") ≡ at Syntax 12
+unfolding lexemes
+fault_of-bracketed_term = refl
+
+-- two operations of one name
+fault_of-two_operations : fault_of (codes "op f 2; op f 3;") ≡ at DuplicateName 12
+unfolding lexemes
+fault_of-two_operations = refl
+
+-- two rules of one name, but a subject may have the name of a rule
+fault_of-two_rules : fault_of (codes "rule r: a; subject r: a; rule r: b;") ≡ at DuplicateName 31
+unfolding lexemes
+fault_of-two_rules = refl
+
+-- more arguments than any operation may have
+fault_of-arity_above_limit : fault_of (codes "op f 1001;") ≡ at TooMany 6
+unfolding lexemes
+fault_of-arity_above_limit = refl
+
+-- an application of what is no operation
+fault_of-unknown_operation : fault_of (codes "subject s: g(a);") ≡ at UnknownOp 12
+unfolding lexemes
+fault_of-unknown_operation = refl
+
+-- an operation is known to the statements before its own too
+fault_of-declared_later : fault_of (codes "subject s: f(a); op f 1;") ≡ None
+unfolding lexemes
+fault_of-declared_later = refl
+
+-- an operation without arguments in brackets
+fault_of-bare_operation : fault_of (codes "op f 2; subject s: f;") ≡ at BareOperation 20
+unfolding lexemes
+fault_of-bare_operation = refl
+
+-- one argument too few
+fault_of-arity : fault_of (codes "op f 2; rule r: f(x_);") ≡ at Arity 17
+unfolding lexemes
+fault_of-arity = refl
+
+-- a wildcard in a term
+fault_of-wildcard_in_term : fault_of (codes "subject s: x_;") ≡ at WildcardInTerm 12
+unfolding lexemes
+fault_of-wildcard_in_term = refl
+
+-- the declarations are checked first, wherever they stand
+fault_of-declarations_first : fault_of (codes "subject s: x_; op f 1; op f 1;") ≡ at DuplicateName 27
+unfolding lexemes
+fault_of-declarations_first = refl
+
+-- a signature with a sum and a pair
+abbrev example_sig : Sig
+example_sig = record {
+  ops =
+      record { name = codes "plus"; least = 1; fixed = false; assoc = true; comm = true; one = true; sign = Some (codes "+") } ∷
+      record { name = codes "pair"; least = 2; fixed = true; assoc = false; comm = false; one = false; sign = None } ∷ [];
+  kinds = [];
+}
+
+-- a sum of three terms is printed with its sign
+term_text-infix : term_text example_sig (app 0 (trees (symbol (codes "a") ∷ symbol (codes "b") ∷ symbol (codes "c") ∷ []))) ≡ codes "(a + b + c)"
+term_text-infix = refl
+
+-- a sum of one term is printed with its name, as every application without a sign is
+term_text-prefix : term_text example_sig (app 1 (trees (app 0 (trees (symbol (codes "a") ∷ [])) ∷ symbol (codes "b") ∷ []))) ≡ codes "pair(plus(a), b)"
+term_text-prefix = refl
+
+-- a term, a tuple and a multiset
+subst_text-each_form : subst_text example_sig (record { name = codes "x"; value = one (symbol (codes "a")) } ∷ record { name = codes "y"; value = seq (symbol (codes "b") ∷ symbol (codes "c") ∷ []) } ∷ record { name = codes "z"; value = bag (symbol (codes "d") ∷ []) } ∷ []) ≡ codes "{x -> a, y -> (b, c), z -> {d}}"
+subst_text-each_form = refl
+
+-- no binding
+subst_text-empty : subst_text example_sig [] ≡ codes "{}"
+subst_text-empty = refl

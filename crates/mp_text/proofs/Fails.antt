@@ -1,0 +1,35 @@
+-- The first fault of a list of faults that is put together.
+use Rattle.std.proofs.Common.{◌≡◌, Bool, true, List, [], ◌∷◌, ◌++◌, Some, refl, ap, sym, subst}
+use Rattle.mp_syntax.specs.declared.place.Place.{Place}
+use Rattle.mp_text.specs.declared.fault.TextKind.{TextKind}
+use Rattle.mp_text.specs.declared.fault.TextFault.{TextFault}
+use Rattle.mp_text.specs.declared.fault.TextError.{TextError}
+use Rattle.mp_text.specs.declared.fault.TextError.TheVariants.{Text, Memory}
+use Rattle.mp_text.specs.Answers.{first, Fails}
+use Rattle.mp_text.specs.Checks.{fault_at, fault_if}
+
+-- the first fault of the front is the first of all
+first-append : (fs gs : List TextFault) (f : TextFault) → first fs ≡ Some f → first (fs ++ gs) ≡ Some f
+first-append [] gs f h = cc
+first-append (g ∷ fs) gs f h = h
+
+-- the error is the first fault of the front
+pub fails-front : (e : TextError) (fs gs : List TextFault) → Fails e fs → Fails e (fs ++ gs)
+fails-front (Text f) fs gs h = first-append fs gs f h
+fails-front Memory fs gs h = tt
+
+-- the same faults
+pub fails-along : (e : TextError) (fs gs : List TextFault) → fs ≡ gs → Fails e fs → Fails e gs
+fails-along e fs gs p h = subst (Fails e) p h
+
+-- a front without faults goes away
+pub none-append : (fs gs : List TextFault) → fs ≡ [] → fs ++ gs ≡ gs
+none-append fs gs p = ap (λ l. l ++ gs) p
+
+-- the error is the first fault behind a front without faults
+pub fails-behind : (e : TextError) (fs gs : List TextFault) → fs ≡ [] → Fails e gs → Fails e (fs ++ gs)
+fails-behind e fs gs p h = subst (Fails e) (sym (none-append fs gs p)) h
+
+-- the error is the fault of a test that holds
+pub fails-fault_if : (e : TextError) (test : Bool) (kind : TextKind) (place : Place) → e ≡ Text (fault_at kind place) → test ≡ true → Fails e (fault_if test kind place)
+fails-fault_if e test kind place h holds = rw (h, holds) refl

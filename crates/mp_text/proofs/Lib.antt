@@ -1,0 +1,14 @@
+mod Numbers
+mod Loops
+mod Applied
+mod Variables
+mod Fails
+mod Words
+mod Built
+mod Declared
+mod Separated
+mod Pass
+mod FreeNormal
+pub mod Whole
+pub mod SoundLaws
+mod Examples

@@ -1,0 +1,377 @@
+-- What the checks let through is sound.
+use Rattle.std.specs.Prelude.{if◌then◌else◌}
+use Rattle.mp_text.proofs.Words.{both, first-of, second-of}
+use Rattle.std.proofs.Common.{eqb, ◌≡◌, ◌≤◌, ◌<◌, ◌+◌, ℕ, zero, suc, Bool, true, false, ◌&&◌, ◌||◌, leb, ltb, List, [], ◌∷◌, ◌++◌, map, length, Option, Some, None, max, append-nil, append_assoc, length-append, refl, sym, ap, ◌∙◌, subst, arith, rules}
+use Rattle.std.specs.Prelude.{not, is_some, option_and_then, slice_get, unwrap_or}
+use Rattle.std.specs.List.{list_all, AllByRecursion}
+use Rattle.std.specs.Str.{bytes_eq}
+use Rattle.std.proofs.lemmas.List.{length-map, map-append}
+use Rattle.std.proofs.lemmas.Map.Text.{is_eq-slice_cmp}
+use Rattle.mp_term.specs.declared.signature.OpDecl.{OpDecl}
+use Rattle.mp_term.specs.Tree as term
+use Rattle.mp_term.specs.Tree.{tree_list}
+use Rattle.mp_term.specs.Size as size
+use Rattle.mp_term.specs.Size.{node_count, node_counts, depth, greatest_depth}
+use Rattle.mp_term.specs.Signature.{Sig, allows, holds_of, well_formed, all_well_formed}
+use Rattle.mp_term.specs.Names.{are_distinct}
+use Rattle.mp_pattern.specs.PatternTree as pattern
+use Rattle.mp_pattern.specs.Firsts.{firsts_after, is_known, add_new}
+use Rattle.mp_pattern.specs.Size.{pattern_nodes, all_pattern_nodes}
+use Rattle.mp_pattern.specs.Value.{same_name}
+use Rattle.mp_pattern.specs.Variables.{uses, all_uses, variables}
+use Rattle.mp_syntax.specs.Syntax as syntax
+use Rattle.mp_syntax.specs.Syntax.{Spot, Wildcard, Tree, Symbol, Apply, Wild, Trees, no_trees, more_trees, Statement, OpOf, RuleOf, SubjectOf, Fits, AreFit, AreStatements}
+use Rattle.mp_text.specs.declared.fault.TextFault.{TextFault}
+use Rattle.mp_text.specs.declared.fault.TextKind.{TextKind}
+use Rattle.mp_syntax.specs.declared.place.Place.{Place}
+use Rattle.mp_text.specs.Names.{is_among, named, wildcard_names, all_wildcard_names, variable_names, rule_names, subject_names}
+use Rattle.mp_text.specs.Build.{op_number, head_number, shape_of, variable_of, term_of, terms_of, pattern_of, patterns_of, rule_of, rules_of, subject_of, subjects_of, sig_of, file_tree_of}
+use Rattle.mp_text.specs.Checks.{fault_at, fault_if, nodes, all_nodes, is_large_pattern, is_large_term, op_named, head_faults, symbol_faults, allows_patterns, term_faults, all_term_faults, pattern_faults, all_pattern_faults, name_faults, declaration_faults, statement_faults, faults_by, faults}
+use Rattle.mp_text.specs.Flags.{HasNoFlags}
+use Rattle.mp_text.specs.Sound.{DefaultIsNormal, DefaultsAreNormal, AllDefaultsAreNormal, holds_ops, all_hold_ops, IsSoundPattern, IsSoundTerm, IsSoundFile}
+use Rattle.mp_text.specs.File.{FileTree}
+use Rattle.mp_text.specs.Reading.{IsFileOf}
+use Rattle.mp_text.proofs.Declared.{bytes_eq_comm, names-rules_of, names-subjects_of}
+use Rattle.mp_text.proofs.FreeNormal.{normal-free, normal_pattern-free, list_all-op_decls}
+
+-- ---- lists without faults
+
+-- two lists without items
+nil-append : {X : Type 0} (a b : List X) → a ++ b ≡ [] → (a ≡ []) × (b ≡ [])
+nil-append [] b h = (refl, h)
+nil-append (x ∷ a) b h = cc
+
+-- a test that gives no fault doesn't hold
+nil-fault_if : (test : Bool) (kind : TextKind) (place : Place) → fault_if test kind place ≡ [] → test ≡ false
+nil-fault_if true kind place h = cc
+nil-fault_if false kind place h = refl
+
+-- the second test fails where one of the two would do
+or-second : (a b : Bool) → (a || b) ≡ false → (a ≡ false) × (b ≡ false)
+or-second true b h = cc
+or-second false b h = (refl, h)
+
+-- a number that isn't above the bound
+within : (bound n : ℕ) → ltb bound n ≡ false → n ≤ bound
+within bound n h = search (rules, h)
+
+-- a number that doesn't reach the bound
+below : (bound n : ℕ) → leb bound n ≡ false → n < bound
+below bound n h = search (rules, h)
+
+-- ---- operations that are found
+
+-- an operation that is found under a name
+record Found (sig : Sig) (name : List ℕ) (passes : OpDecl → Bool) : Type 0 where
+  decl : OpDecl
+  held : slice_get sig.ops (head_number sig name) ≡ Some decl
+  passed : passes decl ≡ true
+
+not-false : (b : Bool) → not b ≡ false → b ≡ true
+not-false true h = refl
+not-false false h = cc
+
+found-number : (sig : Sig) (passes : OpDecl → Bool) (f : Spot) (n : Option ℕ) → op_number sig f.text ≡ n → (o : Option OpDecl) → option_and_then (slice_get sig.ops) n ≡ o → head_faults passes f o ≡ [] → Found sig f.text passes
+found-number sig passes f None e (Some d) k h = cc
+found-number sig passes f n e None k h = cc
+found-number sig passes f (Some n) e (Some d) k h = record {
+  decl = d;
+  held = ap (λ o. slice_get sig.ops (unwrap_or o 0)) e ∙ k;
+  passed = not-false (passes d) (nil-fault_if (not (passes d)) _ f.place h);
+}
+
+-- a head without faults is found, and passes the test
+found-head : (sig : Sig) (passes : OpDecl → Bool) (f : Spot) → head_faults passes f (op_named sig f.text) ≡ [] → Found sig f.text passes
+found-head sig passes f h = found-number sig passes f (op_number sig f.text) refl (op_named sig f.text) refl h
+
+-- ---- terms
+
+module _ (sig : Sig) where
+  -- as many terms as expressions
+  length-terms_of : (ts : Trees) → length (tree_list (terms_of sig ts)) ≡ length (syntax.tree_list ts)
+  length-terms_of no_trees = refl
+  length-terms_of (more_trees t ts) = ap suc (length-terms_of ts)
+
+  mutual
+    -- a term without faults is well formed
+    well_formed-term_of : (t : Tree) → term_faults sig t ≡ [] → well_formed sig (term_of sig t) ≡ true
+    well_formed-term_of (Symbol w) h = refl
+    well_formed-term_of (Apply f args) h =
+        let p = nil-append (head_faults (allows (length (syntax.tree_list args))) f (op_named sig f.text)) (all_term_faults sig args) h in
+        let d = found-head sig (allows (length (syntax.tree_list args))) f p.0 in
+        rw (d.held, length-terms_of args, d.passed) (all_well_formed-terms_of args p.1)
+    well_formed-term_of (Wild w) h = cc
+
+    all_well_formed-terms_of : (ts : Trees) → all_term_faults sig ts ≡ [] → all_well_formed sig (terms_of sig ts) ≡ true
+    all_well_formed-terms_of no_trees h = refl
+    all_well_formed-terms_of (more_trees t ts) h =
+        let p = nil-append (term_faults sig t) (all_term_faults sig ts) h in
+        rw (well_formed-term_of t p.0) (all_well_formed-terms_of ts p.1)
+
+  mutual
+    -- a term has as many nodes as its expression
+    node_count-term_of : (t : Tree) → node_count (term_of sig t) ≡ nodes t
+    node_count-term_of (Symbol w) = refl
+    node_count-term_of (Apply f args) = ap (λ n. n + 1) (node_counts-terms_of args)
+    node_count-term_of (Wild w) = refl
+
+    node_counts-terms_of : (ts : Trees) → node_counts (terms_of sig ts) ≡ all_nodes ts
+    node_counts-terms_of no_trees = refl
+    node_counts-terms_of (more_trees t ts) = omega (arith, node_count-term_of t, node_counts-terms_of ts)
+
+  mutual
+    -- a term is no deeper than its brackets
+    depth-term_of : (room : ℕ) (t : Tree) → Fits room t → depth (term_of sig t) ≤ room
+    depth-term_of room (Symbol w) h = omega arith
+    depth-term_of zero (Apply f args) h = absurd h
+    depth-term_of (suc room) (Apply f args) h = omega (arith, depth-terms_of room args h)
+    depth-term_of room (Wild w) h = omega arith
+
+    depth-terms_of : (room : ℕ) (ts : Trees) → AreFit room ts → greatest_depth (terms_of sig ts) ≤ room
+    depth-terms_of room no_trees h = omega arith
+    depth-terms_of room (more_trees t ts) h = omega (arith, depth-term_of room t h.0, depth-terms_of room ts h.1)
+
+  -- ---- patterns
+
+  -- no wildcard of this stage is optional
+  default-shape_of : (w : Wildcard) → DefaultIsNormal sig (shape_of w)
+  default-shape_of w = by_tests (eqb w.marks 3) (eqb w.marks 2)
+    where
+      by_tests : (three two : Bool) → DefaultIsNormal sig (if three then pattern.star else (if two then pattern.plus else pattern.dot))
+      by_tests true two = tt
+      by_tests false true = tt
+      by_tests false false = tt
+
+  mutual
+    -- the defaults of a pattern are normal
+    defaults-pattern_of : (p : Tree) → DefaultsAreNormal sig (pattern_of sig p)
+    defaults-pattern_of (Symbol w) = tt
+    defaults-pattern_of (Apply f args) = defaults-patterns_of args
+    defaults-pattern_of (Wild w) = default-shape_of w
+
+    defaults-patterns_of : (ps : Trees) → AllDefaultsAreNormal sig (patterns_of sig ps)
+    defaults-patterns_of no_trees = tt
+    defaults-patterns_of (more_trees p ps) = (defaults-pattern_of p, defaults-patterns_of ps)
+
+  mutual
+    -- the operations of a pattern without faults are held
+    holds_ops-pattern_of : (p : Tree) → pattern_faults sig p ≡ [] → holds_ops sig (pattern_of sig p) ≡ true
+    holds_ops-pattern_of (Symbol w) h = refl
+    holds_ops-pattern_of (Apply f args) h =
+        let p = nil-append (head_faults (allows_patterns (syntax.tree_list args)) f (op_named sig f.text)) (all_pattern_faults sig args) h in
+        rw ((found-head sig (allows_patterns (syntax.tree_list args)) f p.0).held) (all_hold_ops-patterns_of args p.1)
+    holds_ops-pattern_of (Wild w) h = refl
+
+    all_hold_ops-patterns_of : (ps : Trees) → all_pattern_faults sig ps ≡ [] → all_hold_ops sig (patterns_of sig ps) ≡ true
+    all_hold_ops-patterns_of no_trees h = refl
+    all_hold_ops-patterns_of (more_trees p ps) h =
+        let q = nil-append (pattern_faults sig p) (all_pattern_faults sig ps) h in
+        rw (holds_ops-pattern_of p q.0) (all_hold_ops-patterns_of ps q.1)
+
+  mutual
+    -- a pattern has as many nodes as its expression
+    pattern_nodes-pattern_of : (p : Tree) → pattern_nodes (pattern_of sig p) ≡ nodes p
+    pattern_nodes-pattern_of (Symbol w) = refl
+    pattern_nodes-pattern_of (Apply f args) = ap (λ n. n + 1) (all_pattern_nodes-patterns_of args)
+    pattern_nodes-pattern_of (Wild w) = refl
+
+    all_pattern_nodes-patterns_of : (ps : Trees) → all_pattern_nodes (patterns_of sig ps) ≡ all_nodes ps
+    all_pattern_nodes-patterns_of no_trees = refl
+    all_pattern_nodes-patterns_of (more_trees p ps) = omega (arith, pattern_nodes-pattern_of p, all_pattern_nodes-patterns_of ps)
+
+  -- the names of the uses of one wildcard
+  names-wild : (f : Option ℕ) (w : pattern.Wildcard) (name : List ℕ) → map (λ u. u.name) (uses f (pattern.wild_pattern w (variable_of name))) ≡ named name
+  names-wild f w [] = refl
+  names-wild f w (b ∷ bs) = refl
+
+  mutual
+    -- the variables that a pattern uses are the names of its wildcards
+    names-uses : (f : Option ℕ) (p : Tree) → map (λ u. u.name) (uses f (pattern_of sig p)) ≡ wildcard_names p
+    names-uses f (Symbol w) = refl
+    names-uses f (Apply g args) = names-all_uses (Some (head_number sig g.text)) args
+    names-uses f (Wild w) = names-wild f (shape_of w) w.name
+
+    names-all_uses : (f : Option ℕ) (ps : Trees) → map (λ u. u.name) (all_uses f (patterns_of sig ps)) ≡ all_wildcard_names ps
+    names-all_uses f no_trees = refl
+    names-all_uses f (more_trees p ps) =
+        map-append (λ u. u.name) (uses f (pattern_of sig p)) (all_uses f (patterns_of sig ps)) ∙ (λ i. names-uses f p i ++ names-all_uses f ps i)
+
+-- ---- names that differ
+
+-- the same test knows the same items
+is_known-alike : (p q : List ℕ → List ℕ → Bool) → ((a b : List ℕ) → p a b ≡ q a b) → (ys : List (List ℕ)) (x : List ℕ) → is_known p ys x ≡ is_known q ys x
+is_known-alike p q same [] x = refl
+is_known-alike p q same (y ∷ ys) x = λ i. same y x i || is_known-alike p q same ys x i
+
+-- the same test finds the same first items
+firsts_after-alike : (p q : List ℕ → List ℕ → Bool) → ((a b : List ℕ) → p a b ≡ q a b) → (ys xs : List (List ℕ)) → firsts_after p ys xs ≡ firsts_after q ys xs
+firsts_after-alike p q same ys [] = refl
+firsts_after-alike p q same ys (x ∷ xs) =
+    ap (λ l. firsts_after p l xs) (ap (λ b. if b then ys else ys ++ x ∷ []) (is_known-alike p q same ys x)) ∙ firsts_after-alike p q same (add_new q ys x) xs
+
+-- the variables of a pattern are those of its expression
+variables-pattern_of : (sig : Sig) (p : Tree) → variables (pattern_of sig p) ≡ variable_names p
+variables-pattern_of sig p = ap (firsts_after same_name []) (names-uses sig None p) ∙ firsts_after-alike same_name bytes_eq is_eq-slice_cmp [] (wildcard_names p)
+
+-- another name behind all of them
+list_all-push : (p : List ℕ → Bool) (ns : List (List ℕ)) (n : List ℕ) → list_all p ns ≡ true → p n ≡ true → list_all p (ns ++ n ∷ []) ≡ true
+list_all-push p [] n h k = rw k refl
+list_all-push p (m ∷ ns) n h k = both (p m) (list_all p (ns ++ n ∷ [])) (first-of (p m) (list_all p ns) h) (list_all-push p ns n (second-of (p m) (list_all p ns) h) k)
+
+-- a name that is none of the names, which differ
+are_distinct-push : (ns : List (List ℕ)) (n : List ℕ) → are_distinct ns ≡ true → is_among n ns ≡ false → are_distinct (ns ++ n ∷ []) ≡ true
+are_distinct-push [] n h k = refl
+are_distinct-push (m ∷ ns) n h k =
+    let o = or-second (bytes_eq m n) (is_among n ns) k in
+    let p = first-of (list_all (λ x. not (bytes_eq x m)) ns) (are_distinct ns) h in
+    let q = second-of (list_all (λ x. not (bytes_eq x m)) ns) (are_distinct ns) h in
+    both (list_all (λ x. not (bytes_eq x m)) (ns ++ n ∷ [])) (are_distinct (ns ++ n ∷ []))
+    (list_all-push (λ x. not (bytes_eq x m)) ns n p (ap not (bytes_eq_comm n m ∙ o.0))) (are_distinct-push ns n q o.1)
+
+-- ---- statements
+
+-- what the name of a statement without faults shows
+record Named (most : ℕ) (earlier : List (List ℕ)) (large : Bool) (name : Spot) : Type 0 where
+  other : is_among name.text earlier ≡ false
+  few : length earlier < most
+  small : large ≡ false
+
+named-by : (most : ℕ) (earlier : List (List ℕ)) (large : Bool) (name : Spot) → name_faults most earlier large name ≡ [] → Named most earlier large name
+named-by most earlier large name h =
+    let p = nil-append (fault_if (is_among name.text earlier) _ name.place) (fault_if (leb most (length earlier) || large) _ name.place) h in
+    let o = or-second (leb most (length earlier)) large (nil-fault_if (leb most (length earlier) || large) _ name.place p.1) in
+    record { other = nil-fault_if (is_among name.text earlier) _ name.place p.0; few = below most (length earlier) o.0; small = o.1 }
+
+-- the pattern of a rule without faults
+sound-pattern : (sig : Sig) → HasNoFlags sig → (p : Tree) → is_large_pattern p ≡ false → pattern_faults sig p ≡ [] → IsSoundPattern sig (rule_of sig (record { text = []; place = record { line = 0; column = 0 } }) p).pattern
+sound-pattern sig flags p small none =
+    let o = or-second (ltb 64 (nodes p)) (ltb 32 (length (variable_names p))) small in
+    let nodes_few : nodes p ≤ 64 = within 64 (nodes p) o.0 in
+    let names_few : length (variable_names p) ≤ 32 = within 32 (length (variable_names p)) o.1 in
+    let sound : IsSoundPattern sig (pattern_of sig p) = record {
+      normal = normal_pattern-free sig flags (pattern_of sig p);
+      defaults = defaults-pattern_of sig p;
+      held = holds_ops-pattern_of sig p none;
+      nodes = omega (arith, pattern_nodes-pattern_of sig p);
+      few_variables = omega (arith, ap length (variables-pattern_of sig p));
+    } in
+    subst (IsSoundPattern sig) (sym (normal_pattern-free sig flags (pattern_of sig p))) sound
+
+-- the term of a subject without faults
+sound-term : (sig : Sig) → HasNoFlags sig → (t : Tree) → is_large_term t ≡ false → term_faults sig t ≡ [] → Fits 100 t → IsSoundTerm sig (subject_of sig (record { text = []; place = record { line = 0; column = 0 } }) t).term
+sound-term sig flags t small none fits =
+    let few : nodes t ≤ 100000 = within 100000 (nodes t) small in
+    let sound : IsSoundTerm sig (term_of sig t) = record {
+      normal = normal-free sig flags (term_of sig t);
+      formed = well_formed-term_of sig t none;
+      nodes = omega (arith, node_count-term_of sig t);
+      shallow = depth-term_of sig 100 t fits;
+    } in
+    subst (IsSoundTerm sig) (sym (normal-free sig flags (term_of sig t))) sound
+
+module _ (sig : Sig) (flags : HasNoFlags sig) where
+  -- the patterns of statements without faults
+  sound-rules : (earlier ss : List Statement) → faults_by (statement_faults sig) earlier ss ≡ [] → AllByRecursion (λ r. IsSoundPattern sig r.pattern) (rules_of sig ss)
+  sound-rules earlier [] h = tt
+  sound-rules earlier (OpOf name least ∷ ss) h = sound-rules (earlier ++ OpOf name least ∷ []) ss h
+  sound-rules earlier (RuleOf name p ∷ ss) h =
+      let q = nil-append (statement_faults sig earlier (RuleOf name p)) (faults_by (statement_faults sig) (earlier ++ RuleOf name p ∷ []) ss) h in
+      let r = nil-append (name_faults 1000 (rule_names earlier) (is_large_pattern p) name) (pattern_faults sig p) q.0 in
+      (sound-pattern sig flags p (named-by 1000 (rule_names earlier) (is_large_pattern p) name r.0).small r.1, sound-rules (earlier ++ RuleOf name p ∷ []) ss q.1)
+  sound-rules earlier (SubjectOf name t ∷ ss) h =
+      sound-rules (earlier ++ SubjectOf name t ∷ []) ss (nil-append (statement_faults sig earlier (SubjectOf name t)) (faults_by (statement_faults sig) (earlier ++ SubjectOf name t ∷ []) ss) h).1
+
+  -- the terms of statements without faults
+  sound-subjects : (earlier ss : List Statement) → AreStatements ss → faults_by (statement_faults sig) earlier ss ≡ [] → AllByRecursion (λ s. IsSoundTerm sig s.term) (subjects_of sig ss)
+  sound-subjects earlier [] fit h = tt
+  sound-subjects earlier (OpOf name least ∷ ss) fit h = sound-subjects (earlier ++ OpOf name least ∷ []) ss fit.1 h
+  sound-subjects earlier (RuleOf name p ∷ ss) fit h =
+      sound-subjects (earlier ++ RuleOf name p ∷ []) ss fit.1 (nil-append (statement_faults sig earlier (RuleOf name p)) (faults_by (statement_faults sig) (earlier ++ RuleOf name p ∷ []) ss) h).1
+  sound-subjects earlier (SubjectOf name t ∷ ss) fit h =
+      let q = nil-append (statement_faults sig earlier (SubjectOf name t)) (faults_by (statement_faults sig) (earlier ++ SubjectOf name t ∷ []) ss) h in
+      let r = nil-append (name_faults 1000 (subject_names earlier) (is_large_term t) name) (term_faults sig t) q.0 in
+      (sound-term sig flags t (named-by 1000 (subject_names earlier) (is_large_term t) name r.0).small r.1 fit.0, sound-subjects (earlier ++ SubjectOf name t ∷ []) ss fit.1 q.1)
+
+-- ---- the names of statements
+
+-- names that differ, and are at most 1,000
+record Good (names : List (List ℕ)) : Type 0 where
+  distinct : are_distinct names ≡ true
+  few : length names ≤ 1000
+
+good-push : (names : List (List ℕ)) (name : List ℕ) → Good names → is_among name names ≡ false → length names < 1000 → Good (names ++ name ∷ [])
+good-push names name g other few = record { distinct = are_distinct-push names name g.distinct other; few = omega (arith, length-append names (name ∷ [])) }
+
+rule_names-append : (a b : List Statement) → rule_names (a ++ b) ≡ rule_names a ++ rule_names b
+rule_names-append [] b = refl
+rule_names-append (OpOf name least ∷ ss) b = rule_names-append ss b
+rule_names-append (RuleOf name p ∷ ss) b = ap (λ l. name.text ∷ l) (rule_names-append ss b)
+rule_names-append (SubjectOf name t ∷ ss) b = rule_names-append ss b
+
+subject_names-append : (a b : List Statement) → subject_names (a ++ b) ≡ subject_names a ++ subject_names b
+subject_names-append [] b = refl
+subject_names-append (OpOf name least ∷ ss) b = subject_names-append ss b
+subject_names-append (RuleOf name p ∷ ss) b = subject_names-append ss b
+subject_names-append (SubjectOf name t ∷ ss) b = ap (λ l. name.text ∷ l) (subject_names-append ss b)
+
+-- the names of the statements before and of those behind, where one statement goes over
+over : (names_of : List Statement → List (List ℕ)) → ((a b : List Statement) → names_of (a ++ b) ≡ names_of a ++ names_of b) → (earlier ss : List Statement) (s : Statement)
+    → names_of (earlier ++ s ∷ []) ++ names_of ss ≡ names_of earlier ++ names_of (s ∷ ss)
+over names_of law earlier ss s =
+    ap (λ l. l ++ names_of ss) (law earlier (s ∷ [])) ∙ append_assoc (names_of earlier) (names_of (s ∷ [])) (names_of ss) ∙ ap (λ l. names_of earlier ++ l) (sym (law (s ∷ []) ss))
+
+module _ (sig : Sig) where
+  good-rules : (earlier ss : List Statement) → faults_by (statement_faults sig) earlier ss ≡ [] → Good (rule_names earlier) → Good (rule_names earlier ++ rule_names ss)
+  good-rules earlier [] h g = subst Good (sym (append-nil (rule_names earlier))) g
+  good-rules earlier (OpOf name least ∷ ss) h g =
+      let same = rule_names-append earlier (OpOf name least ∷ []) ∙ append-nil (rule_names earlier) in
+      subst Good (over rule_names rule_names-append earlier ss (OpOf name least)) (good-rules (earlier ++ OpOf name least ∷ []) ss h (subst Good (sym same) g))
+  good-rules earlier (RuleOf name p ∷ ss) h g =
+      let q = nil-append (statement_faults sig earlier (RuleOf name p)) (faults_by (statement_faults sig) (earlier ++ RuleOf name p ∷ []) ss) h in
+      let r = nil-append (name_faults 1000 (rule_names earlier) (is_large_pattern p) name) (pattern_faults sig p) q.0 in
+      let n = named-by 1000 (rule_names earlier) (is_large_pattern p) name r.0 in
+      subst Good (over rule_names rule_names-append earlier ss (RuleOf name p))
+      (good-rules (earlier ++ RuleOf name p ∷ []) ss q.1 (subst Good (sym (rule_names-append earlier (RuleOf name p ∷ []))) (good-push (rule_names earlier) name.text g n.other n.few)))
+  good-rules earlier (SubjectOf name t ∷ ss) h g =
+      let q = nil-append (statement_faults sig earlier (SubjectOf name t)) (faults_by (statement_faults sig) (earlier ++ SubjectOf name t ∷ []) ss) h in
+      let same = rule_names-append earlier (SubjectOf name t ∷ []) ∙ append-nil (rule_names earlier) in
+      subst Good (over rule_names rule_names-append earlier ss (SubjectOf name t)) (good-rules (earlier ++ SubjectOf name t ∷ []) ss q.1 (subst Good (sym same) g))
+
+  good-subjects : (earlier ss : List Statement) → faults_by (statement_faults sig) earlier ss ≡ [] → Good (subject_names earlier) → Good (subject_names earlier ++ subject_names ss)
+  good-subjects earlier [] h g = subst Good (sym (append-nil (subject_names earlier))) g
+  good-subjects earlier (OpOf name least ∷ ss) h g =
+      let same = subject_names-append earlier (OpOf name least ∷ []) ∙ append-nil (subject_names earlier) in
+      subst Good (over subject_names subject_names-append earlier ss (OpOf name least)) (good-subjects (earlier ++ OpOf name least ∷ []) ss h (subst Good (sym same) g))
+  good-subjects earlier (RuleOf name p ∷ ss) h g =
+      let q = nil-append (statement_faults sig earlier (RuleOf name p)) (faults_by (statement_faults sig) (earlier ++ RuleOf name p ∷ []) ss) h in
+      let same = subject_names-append earlier (RuleOf name p ∷ []) ∙ append-nil (subject_names earlier) in
+      subst Good (over subject_names subject_names-append earlier ss (RuleOf name p)) (good-subjects (earlier ++ RuleOf name p ∷ []) ss q.1 (subst Good (sym same) g))
+  good-subjects earlier (SubjectOf name t ∷ ss) h g =
+      let q = nil-append (statement_faults sig earlier (SubjectOf name t)) (faults_by (statement_faults sig) (earlier ++ SubjectOf name t ∷ []) ss) h in
+      let r = nil-append (name_faults 1000 (subject_names earlier) (is_large_term t) name) (term_faults sig t) q.0 in
+      let n = named-by 1000 (subject_names earlier) (is_large_term t) name r.0 in
+      subst Good (over subject_names subject_names-append earlier ss (SubjectOf name t))
+      (good-subjects (earlier ++ SubjectOf name t ∷ []) ss q.1 (subst Good (sym (subject_names-append earlier (SubjectOf name t ∷ []))) (good-push (subject_names earlier) name.text g n.other n.few)))
+
+-- ---- files
+
+-- the file of statements without faults is sound
+sound-file : (ss : List Statement) → AreStatements ss → faults ss ≡ [] → IsSoundFile (file_tree_of ss)
+sound-file ss fit h =
+    let sig = sig_of ss in
+    let flags = list_all-op_decls ss in
+    let none : faults_by (statement_faults sig) [] ss ≡ [] = (nil-append (faults_by declaration_faults [] ss) (faults_by (statement_faults sig) [] ss) h).1 in
+    let rules = good-rules sig [] ss none (record { distinct = refl; few = omega arith }) in
+    let subjects = good-subjects sig [] ss none (record { distinct = refl; few = omega arith }) in
+    record {
+      patterns = sound-rules sig flags [] ss none;
+      terms = sound-subjects sig flags [] ss fit none;
+      rule_names = rw (names-rules_of sig ss) rules.distinct;
+      subject_names = rw (names-subjects_of sig ss) subjects.distinct;
+      few_rules = omega (arith, rules.few, length-map (rules_of sig ss) (λ r. r.name), ap length (names-rules_of sig ss));
+      few_subjects = omega (arith, subjects.few, length-map (subjects_of sig ss) (λ s. s.name), ap length (names-subjects_of sig ss));
+    }
+
+-- the file of bytes is sound
+pub IsSoundFile-IsFileOf : (bytes : List ℕ) (f : FileTree) → IsFileOf bytes f → IsSoundFile f
+IsSoundFile-IsFileOf bytes f h = subst IsSoundFile (sym h.file) (sound-file h.statements h.syntax.fits h.faultless)

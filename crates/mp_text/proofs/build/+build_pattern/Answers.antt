@@ -1,0 +1,48 @@
+use Rattle.std.proofs.Common.{◌≡◌, ◌+◌, ◌∷◌, map, drop, arith, rules, ◌∙◌, sym, ap, refl}
+use Rattle.std.proofs.lemmas.Result.{err_from_is_err_and}
+use Rattle.mp_syntax.specs.Syntax.{trees, HasNames, HaveNames}
+use Rattle.mp_syntax.specs.View.{expr_tree}
+use Rattle.mp_text.specs.Answers.{Fails}
+use Rattle.mp_text.specs.Checks.{nodes, all_nodes}
+use Rattle.mp_text.proofs.Applied.{nodes-Apply, nodes-item}
+use Rattle.mp_text.proofs.Loops.{drop-item}
+use Rattle.mp_text.proofs.Fails.{fails-front, fails-behind, none-append}
+use Rattle.mp_text.proofs.Words.{is_name-IsName}
+use Rattle.mp_text.proofs.Built.{HaveNames-Apply, pattern_of-Apply, pattern_faults-Apply}
+use Rattle.mp_text.proofs.build.+build_pattern.Goals as goal
+
+pub build_pattern-symbol-requires : goal.build_pattern-symbol-requires
+build_pattern-symbol-requires t c = is_name-IsName c.in-Symbol.word.text.now (rw c.in-Symbol.is at c.requires)
+
+pub build_pattern-returns-in_err-op-in-Apply : goal.build_pattern-returns-in_err-op-in-Apply
+build_pattern-returns-in_err-op-in-Apply t c =
+    let p = err_from_is_err_and c.from_residual-in_err-op-in-Apply.result c.from_residual-in_err-op-in-Apply.ensures.1 in
+    rw (p.1, p.2, c.in-Apply.is, pattern_faults-Apply c.args.sig.now c.in-Apply.name c.in-Apply.args)
+    (fails-front c.in_err-op-in-Apply.field-0.0 _ _ (rw c.deref.ensures.value at c.in_err-op-in-Apply.ensures))
+
+pub build_pattern-returns-in_err-patterns-in-Apply : goal.build_pattern-returns-in_err-patterns-in-Apply
+build_pattern-returns-in_err-patterns-in-Apply t c =
+    let p = err_from_is_err_and c.from_residual-in_err-patterns-in-Apply.result c.from_residual-in_err-patterns-in-Apply.ensures.1 in
+    rw (p.1, p.2, c.in-Apply.is, pattern_faults-Apply c.args.sig.now c.in-Apply.name c.in-Apply.args)
+    (fails-behind c.in_err-patterns-in-Apply.field-0.0 _ _ (rw c.deref.ensures.value at c.in_ok-op-in-Apply.ensures.0) (rw c.deref-in-Apply.ensures.value at c.in_err-patterns-in-Apply.ensures))
+
+pub build_pattern-returns-in_ok-patterns-in-Apply : goal.build_pattern-returns-in_ok-patterns-in-Apply
+build_pattern-returns-in_ok-patterns-in-Apply t c = (
+  rw (c.in-Apply.is, pattern_faults-Apply c.args.sig.now c.in-Apply.name c.in-Apply.args) (none-append _ _ (rw c.deref.ensures.value at c.in_ok-op-in-Apply.ensures.0) ∙ (rw c.deref-in-Apply.ensures.value at c.in_ok-patterns-in-Apply.ensures.0)),
+  rw (c.in-Apply.is, pattern_of-Apply c.args.sig.now c.in-Apply.name c.in-Apply.args, c.in_ok-op-in-Apply.ensures.1, c.in_ok-patterns-in-Apply.ensures.1, c.deref-in-Apply.ensures.value) refl,
+)
+
+pub build_pattern-variable-requires : goal.build_pattern-variable-requires
+build_pattern-variable-requires t c = is_name-IsName c.in-Wild.wild.name.now (rw c.in-Wild.is at c.requires)
+
+pub build_pattern-build_patterns-requires : goal.build_pattern-build_patterns-requires
+build_pattern-build_patterns-requires t c =
+    let args : nodes (expr_tree c.args.expr.now) ≡ 1 + all_nodes (trees (map expr_tree c.deref-in-Apply.result.now)) =
+    rw (c.in-Apply.is, c.deref-in-Apply.ensures.value) (nodes-Apply c.in-Apply.name c.in-Apply.args) in
+    (omega (arith, args, c.decreases), rw c.deref-in-Apply.ensures.value (HaveNames-Apply c.in-Apply.name c.in-Apply.args (rw c.in-Apply.is at c.requires)))
+
+pub build_patterns-build_pattern-requires : goal.build_patterns-build_pattern-requires
+build_patterns-build_pattern-requires t c =
+    let here = drop-item c.args.exprs.now c.loop-expr.expr-index c.expr-item.result (omega arith) c.expr-item.is in
+    let named : HaveNames (trees (map expr_tree (c.expr-item.result ∷ drop (c.loop-expr.expr-index + 1) c.args.exprs.now))) = rw here at c.loop-expr.invariant.named in
+    (omega (arith, nodes-item c.args.exprs.now c.loop-expr.expr-index c.expr-item.result (omega arith) c.expr-item.is, c.decreases), named.0)

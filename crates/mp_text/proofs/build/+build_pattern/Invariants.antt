@@ -1,0 +1,23 @@
+use Rattle.std.proofs.Common.{◌≡◌, ◌++◌, ◌+◌, ◌*◌, drop, map}
+use Rattle.mp_syntax.specs.Syntax.{trees, HaveNames}
+use Rattle.mp_syntax.specs.View.{expr_tree}
+use Rattle.mp_text.specs.Build.{pattern_of}
+use Rattle.mp_text.specs.Checks.{nodes, all_nodes, all_pattern_faults}
+use Rattle.mp_text.proofs.build.+build_pattern.Given as goal
+
+-- what is built stands before what is to be built, and the faults are those of the rest
+abbrev pub invariant-build_patterns-loop-expr : goal.invariant-build_patterns-loop-expr
+invariant-build_patterns-loop-expr l =
+    let rest = map expr_tree (drop l.expr-index l.exprs) in
+    record {
+      built : l.patterns ++ map (pattern_of l.sig) rest ≡ map (pattern_of l.sig) (map expr_tree l.exprs);
+      faults : all_pattern_faults l.sig (trees rest) ≡ all_pattern_faults l.sig (trees (map expr_tree l.exprs));
+      named : HaveNames (trees rest);
+    }
+
+-- a list of expressions lies between the application that holds it and its items
+abbrev pub decreases-build_pattern : goal.decreases-build_pattern
+decreases-build_pattern l = 2 * nodes (expr_tree l.expr.now)
+
+abbrev pub decreases-build_patterns : goal.decreases-build_patterns
+decreases-build_patterns l = 2 * all_nodes (trees (map expr_tree l.exprs.now)) + 1

@@ -1,0 +1,23 @@
+use Rattle.std.proofs.Common.{◌≡◌, ◌++◌, ◌+◌, ◌*◌, drop, map}
+use Rattle.mp_syntax.specs.Syntax.{trees, HaveNames}
+use Rattle.mp_syntax.specs.View.{expr_tree}
+use Rattle.mp_text.specs.Build.{term_of}
+use Rattle.mp_text.specs.Checks.{nodes, all_nodes, all_term_faults}
+use Rattle.mp_text.proofs.build.+build_term.Given as goal
+
+-- what is built stands before what is to be built, and the faults are those of the rest
+abbrev pub invariant-build_terms-loop-expr : goal.invariant-build_terms-loop-expr
+invariant-build_terms-loop-expr l =
+    let rest = map expr_tree (drop l.expr-index l.exprs) in
+    record {
+      built : l.terms ++ map (term_of l.sig) rest ≡ map (term_of l.sig) (map expr_tree l.exprs);
+      faults : all_term_faults l.sig (trees rest) ≡ all_term_faults l.sig (trees (map expr_tree l.exprs));
+      named : HaveNames (trees rest);
+    }
+
+-- a list of expressions lies between the application that holds it and its items
+abbrev pub decreases-build_term : goal.decreases-build_term
+decreases-build_term l = 2 * nodes (expr_tree l.expr.now)
+
+abbrev pub decreases-build_terms : goal.decreases-build_terms
+decreases-build_terms l = 2 * all_nodes (trees (map expr_tree l.exprs.now)) + 1

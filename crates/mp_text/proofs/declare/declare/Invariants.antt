@@ -1,0 +1,17 @@
+use Rattle.std.proofs.Common.{◌≡◌, [], drop, take, map}
+use Rattle.mp_syntax.specs.Syntax.{StatementsHaveNames}
+use Rattle.mp_syntax.specs.View.{statement_tree}
+use Rattle.mp_text.specs.Build.{sig_of}
+use Rattle.mp_text.specs.Checks.{declaration_faults, faults_by}
+use Rattle.mp_text.proofs.declare.declare.Given as goal
+
+-- the signature is that of the statements so far, and the faults are those of the others
+abbrev pub invariant-loop-statement : goal.invariant-loop-statement
+invariant-loop-statement l =
+    let before = map statement_tree (take l.statement-index l.statements) in
+    let rest = map statement_tree (drop l.statement-index l.statements) in
+    record {
+      declared : l.sig ≡ sig_of before;
+      faults : faults_by declaration_faults before rest ≡ faults_by declaration_faults [] (map statement_tree l.statements);
+      named : StatementsHaveNames rest;
+    }

@@ -1,0 +1,23 @@
+use Rattle.std.proofs.Common.{refl, sym, ◌∙◌}
+use Rattle.mp_syntax.specs.View.{spot_of, expr_tree}
+use Rattle.mp_text.specs.File.{file_tree}
+use Rattle.mp_text.proofs.Words.{is_name-IsName}
+use Rattle.mp_text.proofs.Declared.{file_over-OpOf, gives-RuleOf, gives-SubjectOf}
+use Rattle.mp_text.proofs.reader.add_statement.Goals as goal
+
+pub add_rule-requires-clause-name : goal.add_rule-requires-clause-name
+add_rule-requires-clause-name c = is_name-IsName c.in-Rule.name.text.now (rw c.in-Rule.is at c.requires.names).0
+
+pub add_subject-requires-clause-name : goal.add_subject-requires-clause-name
+add_subject-requires-clause-name c = is_name-IsName c.in-Subject.name.text.now (rw c.in-Subject.is at c.requires.names).0
+
+pub returns-in-Op : goal.returns-in-Op
+returns-in-Op c = λ sig earlier h. rw c.in-Op.is (refl, h ∙ sym (file_over-OpOf sig earlier (spot_of c.in-Op.name) (spot_of c.in-Op.least)))
+
+pub returns-in-Rule : goal.returns-in-Rule
+returns-in-Rule c = λ sig earlier h.
+    rw c.in-Rule.is (gives-RuleOf (file_tree c.args.file.now) sig earlier (spot_of c.in-Rule.name) (expr_tree c.in-Rule.pattern) c.add_rule.new.rules c.add_rule.result h c.add_rule.ensures)
+
+pub returns-in-Subject : goal.returns-in-Subject
+returns-in-Subject c = λ sig earlier h.
+    rw c.in-Subject.is (gives-SubjectOf (file_tree c.args.file.now) sig earlier (spot_of c.in-Subject.name) (expr_tree c.in-Subject.term) c.add_subject.new.subjects c.add_subject.result h c.add_subject.ensures)

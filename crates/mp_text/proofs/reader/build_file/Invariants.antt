@@ -1,0 +1,21 @@
+use Rattle.std.proofs.Common.{◌≡◌, [], drop, take, map}
+use Rattle.mp_syntax.specs.Syntax.{StatementsHaveNames}
+use Rattle.mp_syntax.specs.View.{statement_tree}
+use Rattle.mp_text.specs.Build.{sig_of, file_over}
+use Rattle.mp_text.specs.Checks.{statement_faults, faults_by}
+use Rattle.mp_text.specs.File.{file_tree}
+use Rattle.mp_text.specs.Flags.{HasNoFlags}
+use Rattle.mp_text.proofs.reader.build_file.Given as goal
+
+-- the file is that of the statements so far, and the faults are those of the others
+abbrev pub invariant-loop-statement : goal.invariant-loop-statement
+invariant-loop-statement l =
+    let sig = sig_of (map statement_tree l.statements) in
+    let before = map statement_tree (take l.statement-index l.statements) in
+    let rest = map statement_tree (drop l.statement-index l.statements) in
+    record {
+      built : file_tree l.file ≡ file_over sig before;
+      flags : HasNoFlags l.file.sig;
+      faults : faults_by (statement_faults sig) before rest ≡ faults_by (statement_faults sig) [] (map statement_tree l.statements);
+      named : StatementsHaveNames rest;
+    }

@@ -1,0 +1,104 @@
+-- What the statements of a file stand for: a signature, and over it rules and subjects in normal form.
+use Rattle.std.specs.Prelude.{ℕ, ◌==◌, Bool, true, false, List, [], ◌∷◌, Option, Some, None, unwrap_or, position, if◌then◌else◌}
+use Rattle.mp_term.specs.declared.signature.OpDecl.{OpDecl}
+use Rattle.mp_term.specs.Tree as term
+use Rattle.mp_term.specs.Signature.{Sig, has_name}
+use Rattle.mp_term.specs.Normal.{normal}
+use Rattle.mp_pattern.specs.PatternTree as pattern
+use Rattle.mp_pattern.specs.Normal.{normal_pattern}
+use Rattle.mp_pattern.specs.Admission.{Rule}
+use Rattle.mp_syntax.specs.Syntax.{Spot, Wildcard, Tree, Symbol, Apply, Wild, Trees, no_trees, more_trees, Statement, OpOf, RuleOf, SubjectOf}
+use Rattle.mp_text.specs.Subject.{Subject}
+use Rattle.mp_text.specs.File.{FileTree}
+use Rattle.mp_text.specs.Names.{number_of}
+
+-- ---- signatures
+
+-- op NAME LEAST; declares an operation of a fixed count and without flags
+abbrev pub op_decl : Spot → Spot → OpDecl
+op_decl name least = record { name = name.text; least = number_of least.text; fixed = true; assoc = false; comm = false; one = false; sign = None }
+
+-- the operations that the statements declare, in order
+abbrev pub op_decls : List Statement → List OpDecl
+op_decls [] = []
+op_decls (OpOf name least ∷ ss) = op_decl name least ∷ op_decls ss
+op_decls (RuleOf name p ∷ ss) = op_decls ss
+op_decls (SubjectOf name t ∷ ss) = op_decls ss
+
+-- the signature that the statements declare
+abbrev pub sig_of : List Statement → Sig
+sig_of ss = record { ops = op_decls ss; kinds = [] }
+
+-- ---- terms and patterns
+
+-- what a wildcard takes, by its number of underscores
+abbrev pub shape_of : Wildcard → pattern.Wildcard
+shape_of w = if w.marks == 3 then pattern.star else (if w.marks == 2 then pattern.plus else pattern.dot)
+
+-- the variable of a wildcard, which has none without a name
+abbrev pub variable_of : List ℕ → Option (List ℕ)
+variable_of [] = None
+variable_of (byte ∷ bytes) = Some (byte ∷ bytes)
+
+module _ (sig : Sig) where
+  -- the number of the first operation of that name, where there is one
+  abbrev pub op_number : List ℕ → Option ℕ
+  op_number name = position (has_name name) sig.ops
+
+  -- the same, and 0 where there is none, which no checked expression has
+  abbrev pub head_number : List ℕ → ℕ
+  head_number name = unwrap_or (op_number name) 0
+
+  -- a word is a symbol, and a word before brackets the operation of that name; no checked term has a wildcard
+  abbrev mutual
+    pub term_of : Tree → term.Tree
+    term_of (Symbol w) = term.symbol w.text
+    term_of (Apply f args) = term.app (head_number f.text) (terms_of args)
+    term_of (Wild w) = term.symbol w.name
+
+    pub terms_of : Trees → term.Trees
+    terms_of no_trees = term.no_trees
+    terms_of (more_trees t ts) = term.more_trees (term_of t) (terms_of ts)
+
+  -- the same, and a wildcard with its variable
+  abbrev mutual
+    pub pattern_of : Tree → pattern.Pattern
+    pattern_of (Symbol w) = pattern.symbol_pattern w.text
+    pattern_of (Apply f args) = pattern.app_pattern (head_number f.text) (patterns_of args)
+    pattern_of (Wild w) = pattern.wild_pattern (shape_of w) (variable_of w.name)
+
+    pub patterns_of : Trees → pattern.Patterns
+    patterns_of no_trees = pattern.no_patterns
+    patterns_of (more_trees t ts) = pattern.more_patterns (pattern_of t) (patterns_of ts)
+
+  -- rule NAME: PATTERN; with the pattern in normal form
+  abbrev pub rule_of : Spot → Tree → Rule
+  rule_of name p = record { name = name.text; pattern = normal_pattern sig (pattern_of p); template = None; condition = None }
+
+  -- subject NAME: TERM; with the term in normal form
+  abbrev pub subject_of : Spot → Tree → Subject
+  subject_of name t = record { name = name.text; term = normal sig (term_of t) }
+
+  -- the rules of the statements, in order
+  abbrev pub rules_of : List Statement → List Rule
+  rules_of [] = []
+  rules_of (OpOf name least ∷ ss) = rules_of ss
+  rules_of (RuleOf name p ∷ ss) = rule_of name p ∷ rules_of ss
+  rules_of (SubjectOf name t ∷ ss) = rules_of ss
+
+  -- the subjects of the statements, in order
+  abbrev pub subjects_of : List Statement → List Subject
+  subjects_of [] = []
+  subjects_of (OpOf name least ∷ ss) = subjects_of ss
+  subjects_of (RuleOf name p ∷ ss) = subjects_of ss
+  subjects_of (SubjectOf name t ∷ ss) = subject_of name t ∷ subjects_of ss
+
+-- ---- files
+
+-- the rules and subjects of the statements over a signature
+abbrev pub file_over : Sig → List Statement → FileTree
+file_over sig ss = record { sig = sig; rules = rules_of sig ss; subjects = subjects_of sig ss; edits = [] }
+
+-- the file that the statements stand for
+abbrev pub file_tree_of : List Statement → FileTree
+file_tree_of ss = file_over (sig_of ss) ss

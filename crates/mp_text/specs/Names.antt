@@ -1,0 +1,59 @@
+-- The names and numbers that the statements of a file give.
+use Rattle.std.specs.Prelude.{ℕ, ◌+◌, ◌-◌, ◌*◌, Bool, List, [], ◌∷◌, ◌++◌}
+use Rattle.std.specs.Str.{bytes_eq}
+use Rattle.mp_pattern.specs.Firsts.{is_known, firsts_after}
+use Rattle.mp_syntax.specs.Syntax.{Spot, Tree, Symbol, Apply, Wild, Trees, no_trees, more_trees, Statement, OpOf, RuleOf, SubjectOf}
+
+-- the name is one of these
+abbrev pub is_among : List ℕ → List (List ℕ) → Bool
+is_among name names = is_known bytes_eq names name
+
+-- the names of the operations, in order
+abbrev pub op_names : List Statement → List (List ℕ)
+op_names [] = []
+op_names (OpOf name least ∷ ss) = name.text ∷ op_names ss
+op_names (RuleOf name p ∷ ss) = op_names ss
+op_names (SubjectOf name t ∷ ss) = op_names ss
+
+-- the names of the rules, in order
+abbrev pub rule_names : List Statement → List (List ℕ)
+rule_names [] = []
+rule_names (OpOf name least ∷ ss) = rule_names ss
+rule_names (RuleOf name p ∷ ss) = name.text ∷ rule_names ss
+rule_names (SubjectOf name t ∷ ss) = rule_names ss
+
+-- the names of the subjects, in order
+abbrev pub subject_names : List Statement → List (List ℕ)
+subject_names [] = []
+subject_names (OpOf name least ∷ ss) = subject_names ss
+subject_names (RuleOf name p ∷ ss) = subject_names ss
+subject_names (SubjectOf name t ∷ ss) = name.text ∷ subject_names ss
+
+-- the number that further decimal digits make of a number
+abbrev pub number_after : ℕ → List ℕ → ℕ
+number_after n [] = n
+number_after n (digit ∷ digits) = number_after (10 * n + (digit - 48)) digits
+
+-- the number that is written in decimal digits
+abbrev pub number_of : List ℕ → ℕ
+number_of = number_after 0
+
+-- the name, where there is one
+abbrev pub named : List ℕ → List (List ℕ)
+named [] = []
+named (byte ∷ bytes) = (byte ∷ bytes) ∷ []
+
+-- the names of the wildcards of a pattern, in order
+abbrev mutual
+  pub wildcard_names : Tree → List (List ℕ)
+  wildcard_names (Symbol w) = []
+  wildcard_names (Apply f args) = all_wildcard_names args
+  wildcard_names (Wild w) = named w.name
+
+  pub all_wildcard_names : Trees → List (List ℕ)
+  all_wildcard_names no_trees = []
+  all_wildcard_names (more_trees t ts) = wildcard_names t ++ all_wildcard_names ts
+
+-- the variables of a pattern, each once, at its first place
+abbrev pub variable_names : Tree → List (List ℕ)
+variable_names p = firsts_after bytes_eq [] (wildcard_names p)

@@ -1,0 +1,192 @@
+//! Makes terms and patterns of expressions, and checks them on the way.
+
+ghost use Rattle.std.specs.Prelude.{◌≡◌, [], length, map, true, option_map};
+ghost use Rattle.mp_term.specs.Names.{is_name};
+ghost use Rattle.mp_term.specs.Signature.{allows};
+ghost use Rattle.mp_term.specs.Tree as term;
+ghost use Rattle.mp_term.specs.View.{tree};
+ghost use Rattle.mp_pattern.specs.PatternTree as pattern;
+ghost use Rattle.mp_pattern.specs.View.{pattern_tree, wildcard};
+ghost use Rattle.mp_syntax.specs.Syntax.{trees, tree_list, HasNames, HaveNames};
+ghost use Rattle.mp_syntax.specs.View.{spot_of, wildcard_of, expr_tree};
+ghost use Rattle.mp_text.specs.Answers.{Gives};
+ghost use Rattle.mp_text.specs.Build.{op_number, head_number, shape_of, variable_of, term_of, terms_of, pattern_of, patterns_of};
+ghost use Rattle.mp_text.specs.Checks.{op_named, symbol_faults, head_faults, allows_patterns, term_faults, all_term_faults, pattern_faults, all_pattern_faults};
+
+use crate::checks::allows_patterns;
+use crate::fault::{TextError, TextKind, error_at};
+use mp_pattern::{Pattern, Patterns, Shape};
+use mp_syntax::{Expr, Spot, Wildcard};
+use mp_term::{Name, NameFault, OpDecl, OpId, Signature, Term, Terms};
+use std::alloc::Global;
+
+/// The name of these bytes, which are the spelling of one. `Memory` comes where there is no room for it.
+pub fn new_name(alloc: Global, bytes: &[u8]) -> Result<Name, TextError>
+    requires { is_name bytes.now ≡ true }
+    ensures { Gives result [] (λ n. n ≡ bytes.now) }
+{
+    match Name::new(alloc, bytes) {
+        Ok(name) => Ok(name),
+        Err(NameFault::Memory) => Err(TextError::Memory),
+        Err(NameFault::Spelling) => unreachable!(),
+    }
+}
+
+/// The number and the declaration of the first operation of that name.
+fn find_decl<'a>(sig: &'a Signature, name: &[u8]) -> Option<(OpId, &'a OpDecl)>
+    ensures number { option_map (λ p. p.0.0) result ≡ op_number sig.now name.now }
+    ensures decl { option_map (λ p. p.1.now) result ≡ op_named sig.now name.now }
+{
+    let id = sig.find_op(name)?;
+    let decl = sig.op(id)?;
+    Some((id, decl))
+}
+
+/// The declaration allows that number of arguments.
+fn allows(decl: &OpDecl, count: usize) -> bool
+    ensures { result ≡ allows count decl.now }
+{
+    let least = decl.least as usize;
+    if decl.fixed {
+        count == least
+    } else {
+        least <= count
+    }
+}
+
+/// The symbol of a word, which has the spelling of a name and isn't the name of an operation.
+fn symbol(alloc: Global, sig: &Signature, word: Spot<'_>) -> Result<Name, TextError>
+    requires { is_name word.text.now ≡ true }
+    ensures { Gives result (symbol_faults sig.now (spot_of word.entry)) (λ n. n ≡ word.entry.text.now) }
+{
+    if sig.find_op(word.text).is_some() {
+        return Err(error_at(TextKind::BareOperation, word.place));
+    }
+    new_name(alloc, word.text)
+}
+
+/// The operation that is applied to these terms.
+fn term_head(sig: &Signature, name: Spot<'_>, args: &[Expr<'_>]) -> Result<OpId, TextError>
+    ensures { Gives result (head_faults (allows (length args.now)) (spot_of name.entry) (op_named sig.now name.entry.text.now)) (λ id. id.0 ≡ head_number sig.now name.entry.text.now) }
+{
+    match find_decl(sig, name.text) {
+        None => Err(error_at(TextKind::UnknownOp, name.place)),
+        Some((id, decl)) => {
+            if !allows(decl, args.len()) {
+                return Err(error_at(TextKind::Arity, name.place));
+            }
+            Ok(id)
+        }
+    }
+}
+
+/// The operation that is applied to these patterns.
+fn pattern_head(sig: &Signature, name: Spot<'_>, args: &[Expr<'_>]) -> Result<OpId, TextError>
+    ensures { Gives result (head_faults (allows_patterns (map expr_tree args.now)) (spot_of name.entry) (op_named sig.now name.entry.text.now)) (λ id. id.0 ≡ head_number sig.now name.entry.text.now) }
+{
+    match find_decl(sig, name.text) {
+        None => Err(error_at(TextKind::UnknownOp, name.place)),
+        Some((id, decl)) => {
+            if !allows_patterns(decl, args) {
+                return Err(error_at(TextKind::Arity, name.place));
+            }
+            Ok(id)
+        }
+    }
+}
+
+/// The term of an expression as it is written, or its first fault.
+#[cycle(build_term)]
+pub fn build_term(alloc: Global, sig: &Signature, expr: &Expr<'_>) -> Result<Term, TextError>
+    requires { HasNames (expr_tree expr.now) }
+    ensures { Gives result (term_faults sig.now (expr_tree expr.now)) (λ t. tree t ≡ term_of sig.now (expr_tree expr.now)) }
+{
+    match expr {
+        Expr::Symbol(word) => {
+            let name = symbol(alloc, sig, *word)?;
+            Ok(Term::Sym(name))
+        }
+        Expr::Apply(name, args) => {
+            let op = term_head(sig, *name, args)?;
+            let terms = build_terms(alloc, sig, args)?;
+            Ok(Term::App(op, terms))
+        }
+        Expr::Wild(wild) => Err(error_at(TextKind::WildcardInTerm, wild.place)),
+    }
+}
+
+/// The terms of expressions, or their first fault.
+#[cycle(build_term)]
+fn build_terms(alloc: Global, sig: &Signature, exprs: &[Expr<'_>]) -> Result<Terms, TextError>
+    requires { HaveNames (trees (map expr_tree exprs.now)) }
+    ensures { Gives result (all_term_faults sig.now (trees (map expr_tree exprs.now))) (λ ts. ts ≡ map (term_of sig.now) (map expr_tree exprs.now)) }
+{
+    let mut terms = Terms::new(alloc);
+    for expr in exprs {
+        let term = build_term(alloc, sig, expr)?;
+        terms.push(term)?;
+    }
+    Ok(terms)
+}
+
+/// The pattern of an expression as it is written, or its first fault.
+#[cycle(build_pattern)]
+pub fn build_pattern(alloc: Global, sig: &Signature, expr: &Expr<'_>) -> Result<Pattern, TextError>
+    requires { HasNames (expr_tree expr.now) }
+    ensures { Gives result (pattern_faults sig.now (expr_tree expr.now)) (λ p. pattern_tree p ≡ pattern_of sig.now (expr_tree expr.now)) }
+{
+    match expr {
+        Expr::Symbol(word) => {
+            let name = symbol(alloc, sig, *word)?;
+            Ok(Pattern::Sym(name))
+        }
+        Expr::Apply(name, args) => {
+            let op = pattern_head(sig, *name, args)?;
+            let patterns = build_patterns(alloc, sig, args)?;
+            Ok(Pattern::App(op, patterns))
+        }
+        Expr::Wild(wild) => {
+            let name = variable(alloc, *wild)?;
+            Ok(Pattern::Wild(shape(*wild), name))
+        }
+    }
+}
+
+/// The patterns of expressions, or their first fault.
+#[cycle(build_pattern)]
+fn build_patterns(alloc: Global, sig: &Signature, exprs: &[Expr<'_>]) -> Result<Patterns, TextError>
+    requires { HaveNames (trees (map expr_tree exprs.now)) }
+    ensures { Gives result (all_pattern_faults sig.now (trees (map expr_tree exprs.now))) (λ ps. ps ≡ map (pattern_of sig.now) (map expr_tree exprs.now)) }
+{
+    let mut patterns = Patterns::new(alloc);
+    for expr in exprs {
+        let pattern = build_pattern(alloc, sig, expr)?;
+        patterns.push(pattern)?;
+    }
+    Ok(patterns)
+}
+
+/// What a wildcard takes.
+fn shape(wild: Wildcard<'_>) -> Shape
+    ensures { wildcard result ≡ shape_of (wildcard_of wild.entry) }
+{
+    if wild.marks == 3 {
+        Shape::Star
+    } else if wild.marks == 2 {
+        Shape::Plus
+    } else {
+        Shape::Dot
+    }
+}
+
+/// The variable of a wildcard, whose name has the spelling of one where it isn't empty.
+fn variable(alloc: Global, wild: Wildcard<'_>) -> Result<Option<Name>, TextError>
+    requires { is_name wild.name.now ≡ true }
+    ensures { Gives result [] (λ v. v ≡ variable_of wild.entry.name.now) }
+{
+    if wild.name.is_empty() {
+        return Ok(None);
+    }
+    let name = new_name(alloc, wild.name)?;
+    Ok(Some(name))
+}

@@ -1,0 +1,155 @@
+//! Limits and counts of expressions.
+
+ghost use Rattle.std.specs.Prelude.{◌≡◌, ◌+◌, ◌-◌, ◌^◌, ◌||◌, ℕ, List, [], ◌∷◌, length, map, min, nat_lt, IfOk, OnOk};
+ghost use Rattle.std.specs.List.{list_any};
+ghost use Rattle.std.specs.Str.{bytes_eq};
+ghost use Rattle.mp_pattern.specs.Firsts.{firsts_after};
+ghost use Rattle.mp_syntax.specs.View.{expr_tree};
+ghost use Rattle.mp_text.specs.Checks.{nodes, is_star, may_take_more, fewest, may_reach, allows_patterns, is_large_pattern, is_large_term};
+ghost use Rattle.mp_text.specs.Names.{number_of, wildcard_names, is_among, named};
+
+use mp_syntax::Expr;
+use mp_term::OpDecl;
+use std::alloc::{AllocError, Global};
+
+/// How many nodes a pattern may have.
+const MAX_PATTERN_NODES: u64 = 64;
+/// How many variables a pattern may have.
+const MAX_VARIABLES: usize = 32;
+/// How many nodes a term may have.
+const MAX_TERM_NODES: u64 = 100_000;
+/// The greatest number of arguments that a declaration may say.
+pub const MAX_ARITY: u32 = 1000;
+
+/// The number that decimal digits write, or `MAX_ARITY + 1` where it is greater than that.
+pub fn number_of(digits: &[u8]) -> u32
+    ensures { result ≡ min (number_of digits.now) 1001 }
+{
+    let mut number = 0;
+    for digit in digits {
+        number = (10 * number + u32::from(digit.saturating_sub(48))).min(MAX_ARITY + 1);
+    }
+    number
+}
+
+/// The number of symbols, applications and wildcards; the greatest `u64` where there are more.
+fn node_count(expr: &Expr<'_>) -> u64
+    ensures { result ≡ min (nodes (expr_tree expr.now)) (2 ^ 64 - 1) }
+{
+    match expr {
+        Expr::Symbol(_) => 1,
+        Expr::Apply(_, args) => {
+            let mut count: u64 = 1;
+            for arg in args {
+                count = count.saturating_add(node_count(arg));
+            }
+            count
+        }
+        Expr::Wild(_) => 1,
+    }
+}
+
+/// Adds the names of the wildcards that aren't among the names yet.
+fn add_variables<'a>(expr: &Expr<'a>, names: &mut Vec<&'a [u8]>) -> Result<(), AllocError>
+    ensures { OnOk result (map (λ n. n.now) names.new.items ≡ firsts_after bytes_eq (map (λ n. n.now) names.old.items) (wildcard_names (expr_tree expr.now))) }
+{
+    match expr {
+        Expr::Symbol(_) => Ok(()),
+        Expr::Apply(_, args) => {
+            for arg in args {
+                add_variables(arg, names)?;
+            }
+            Ok(())
+        }
+        Expr::Wild(wild) => add_name(wild.name, names),
+    }
+}
+
+/// Adds the name where it isn't empty and not among the names yet.
+fn add_name<'a>(name: &'a [u8], names: &mut Vec<&'a [u8]>) -> Result<(), AllocError>
+    ensures { OnOk result (map (λ n. n.now) names.new.items ≡ firsts_after bytes_eq (map (λ n. n.now) names.old.items) (named name.now)) }
+{
+    if name.is_empty() || is_among(name, names) {
+        return Ok(());
+    }
+    names.push(name)?;
+    Ok(())
+}
+
+/// The name is one of these.
+fn is_among(name: &[u8], names: &[&[u8]]) -> bool
+    ensures { result ≡ is_among name.now (map (λ n. n.now) names.now) }
+{
+    for known in names {
+        if *known == name {
+            return true;
+        }
+    }
+    false
+}
+
+/// The pattern has more nodes or more variables than a pattern may have.
+pub fn is_large_pattern(alloc: Global, expr: &Expr<'_>) -> Result<bool, AllocError>
+    ensures { IfOk result (λ large. large ≡ is_large_pattern (expr_tree expr.now)) }
+{
+    if node_count(expr) > MAX_PATTERN_NODES {
+        return Ok(true);
+    }
+    let mut names = Vec::new(alloc);
+    add_variables(expr, &mut names)?;
+    Ok(names.len() > MAX_VARIABLES)
+}
+
+/// The term has more nodes than a term may have.
+pub fn is_large_term(expr: &Expr<'_>) -> bool
+    ensures { result ≡ is_large_term (expr_tree expr.now) }
+{
+    node_count(expr) > MAX_TERM_NODES
+}
+
+/// A star wildcard.
+fn is_star(expr: &Expr<'_>) -> bool
+    ensures { result ≡ is_star (expr_tree expr.now) }
+{
+    match expr {
+        Expr::Wild(wild) => wild.marks == 3,
+        _ => false,
+    }
+}
+
+/// A wildcard that may take more than one argument of an operation, which may be associative.
+fn may_take_more(assoc: bool, expr: &Expr<'_>) -> bool
+    ensures { result ≡ may_take_more assoc (expr_tree expr.now) }
+{
+    match expr {
+        Expr::Wild(wild) => wild.marks > 1 || (assoc && wild.kind.is_empty()),
+        _ => false,
+    }
+}
+
+/// The patterns may take as many arguments as this number, or more.
+fn may_reach(assoc: bool, args: &[Expr<'_>], count: usize) -> bool
+    ensures { result ≡ may_reach assoc (map expr_tree args.now) count }
+{
+    for arg in args {
+        if may_take_more(assoc, arg) {
+            return true;
+        }
+    }
+    count <= args.len()
+}
+
+/// How many arguments the patterns take at least.
+fn fewest(args: &[Expr<'_>]) -> usize
+    ensures { result ≡ fewest (map expr_tree args.now) }
+{
+    args.iter().filter(|arg| !is_star(arg)).count()
+}
+
+/// The operation allows a number of arguments that the patterns may take.
+pub fn allows_patterns(decl: &OpDecl, args: &[Expr<'_>]) -> bool
+    ensures { result ≡ allows_patterns (map expr_tree args.now) decl.now }
+{
+    let least = decl.least as usize;
+    may_reach(decl.assoc, args, least) && (!decl.fixed || fewest(args) <= least)
+}
