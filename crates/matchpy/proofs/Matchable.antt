@@ -1,0 +1,67 @@
+-- A file that is read can be matched: its subjects are normal, and its rules have no condition and no default that isn't normal.
+use Rattle.std.proofs.Common.{◌≡◌, ℕ, List, [], ◌∷◌, refl, sym, subst}
+use Rattle.std.specs.Prelude.{Option, Some, None}
+use Rattle.std.specs.List.{AllByRecursion}
+use Rattle.mp_io.specs.Devices.{Text}
+use Rattle.mp_term.specs.Signature.{Sig}
+use Rattle.mp_pattern.specs.PatternTree.{Wildcard, dot, kind, plus, star, optional, Pattern, symbol_pattern, app_pattern, wild_pattern, Patterns, no_patterns, more_patterns}
+use Rattle.mp_pattern.specs.Admission.{Rule}
+use Rattle.mp_syntax.specs.Syntax.{Statement, OpOf, RuleOf, SubjectOf}
+use Rattle.mp_theory.specs.Sound.{AllEach, DefaultNormal, Each}
+use Rattle.mp_text.specs.Build.{rules_of, sig_of}
+use Rattle.mp_text.specs.File.{FileTree, Subject}
+use Rattle.mp_text.specs.Reading.{IsFileOf}
+use Rattle.mp_text.specs.Sound.{AllDefaultsAreNormal, DefaultIsNormal, DefaultsAreNormal, IsSoundFile, IsSoundPattern, IsSoundTerm}
+use Rattle.mp_text.proofs.SoundLaws.{IsSoundFile-IsFileOf}
+use Rattle.matchpy.specs.Matches.{IsMatchable, IsMatchableFile, IsNormalSubject}
+
+module _ (sig : Sig) where
+  -- ---- defaults
+
+  DefaultNormal-read : (w : Wildcard) → DefaultIsNormal sig w → DefaultNormal sig w
+  DefaultNormal-read dot h = tt
+  DefaultNormal-read (kind k) h = tt
+  DefaultNormal-read plus h = tt
+  DefaultNormal-read star h = tt
+  DefaultNormal-read (optional t) h = h
+
+  mutual
+    Each-read : (under : Option ℕ) (p : Pattern) → DefaultsAreNormal sig p → Each (λ f w x. DefaultNormal sig w) under p
+    Each-read under (symbol_pattern n) h = tt
+    Each-read under (app_pattern f ps) h = AllEach-read (Some f) ps h
+    Each-read under (wild_pattern w x) h = DefaultNormal-read w h
+
+    AllEach-read : (under : Option ℕ) (ps : Patterns) → AllDefaultsAreNormal sig ps → AllEach (λ f w x. DefaultNormal sig w) under ps
+    AllEach-read under no_patterns h = tt
+    AllEach-read under (more_patterns p ps) h = (Each-read under p h.0, AllEach-read under ps h.1)
+
+  -- ---- rules and subjects
+
+  abbrev IsUnconditional : Rule → Type 0
+  IsUnconditional r = r.condition ≡ None
+
+  rules_of-unconditional : (ss : List Statement) → AllByRecursion IsUnconditional (rules_of sig ss)
+  rules_of-unconditional [] = tt
+  rules_of-unconditional (OpOf name least ∷ ss) = rules_of-unconditional ss
+  rules_of-unconditional (RuleOf name p ∷ ss) = (refl, rules_of-unconditional ss)
+  rules_of-unconditional (SubjectOf name t ∷ ss) = rules_of-unconditional ss
+
+  IsMatchable-read : (rs : List Rule) → AllByRecursion (λ r. IsSoundPattern sig r.pattern) rs → AllByRecursion IsUnconditional rs → AllByRecursion (IsMatchable sig) rs
+  IsMatchable-read [] h k = tt
+  IsMatchable-read (r ∷ rs) h k =
+      (record { sound = record { defaults = Each-read None r.pattern h.0.defaults }; unconditional = k.0 }, IsMatchable-read rs h.1 k.1)
+
+  IsNormalSubject-read : (ss : List Subject) → AllByRecursion (λ s. IsSoundTerm sig s.term) ss → AllByRecursion (IsNormalSubject sig) ss
+  IsNormalSubject-read [] h = tt
+  IsNormalSubject-read (s ∷ ss) h = (h.0.normal, IsNormalSubject-read ss h.1)
+
+unconditional : (bytes : Text) (file : FileTree) → IsFileOf bytes file → AllByRecursion (λ r. r.condition ≡ None) file.rules
+unconditional bytes file h = subst (λ (f : FileTree). AllByRecursion (λ r. r.condition ≡ None) f.rules) (sym h.file) (rules_of-unconditional (sig_of h.statements) h.statements)
+
+pub IsFileOf-matchable : (bytes : Text) (file : FileTree) → IsFileOf bytes file → IsMatchableFile file
+IsFileOf-matchable bytes file h =
+    let sound : IsSoundFile file = IsSoundFile-IsFileOf bytes file h in
+    record {
+      rules = IsMatchable-read file.sig file.rules sound.patterns (unconditional bytes file h);
+      subjects = IsNormalSubject-read file.sig file.subjects sound.terms;
+    }

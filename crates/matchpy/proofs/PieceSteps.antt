@@ -1,0 +1,84 @@
+-- The steps of the loops over the terms that are left.
+use Rattle.std.proofs.Common.{inl, inr, ◌≡◌, ℕ, zero, suc, ◌+◌, ◌-◌, ◌<◌, ◌≤◌, List, [], ◌∷◌, ◌++◌, map, length, take, drop, get_or, Bool, refl, ap, sym, ◌∙◌, subst, append-nil, append_assoc, add-one, arith}
+use Rattle.std.specs.Prelude.{if◌then◌else◌, flat_map}
+use Rattle.std.specs.List.{range_with_len}
+use Rattle.std.specs.declared.cmp.Ordering.{Ordering}
+use Rattle.std.specs.declared.cmp.Ordering.TheVariants.{Less, Equal}
+use Rattle.std.proofs.Math.ListN.{drop_of_length-le}
+use Rattle.std.proofs.Math.Seq.{drop-cons}
+use Rattle.mp_term.specs.Order.{tree_cmp}
+use Rattle.mp_term.specs.OrderLaws.{tree_cmp_total, tree_same}
+use Rattle.mp_term.specs.Tree.{Tree}
+use Rattle.mp_theory.specs.Search.{In}
+use Rattle.mp_theory.proofs.SearchLaws.{in-left}
+use Rattle.mp_theory.proofs.PiecesLaws.{pieces_among-exact, length-without, sublist-from_piece}
+use Rattle.mp_theory.specs.Pieces.{pieces_among, without, insert_new, distinct, after, first, pieces_of, count_to}
+
+pub count_to-range : (k n : ℕ) → range_with_len k (suc n) ≡ count_to k n
+count_to-range k zero = refl
+count_to-range k (suc n) = ap (λ ns. k ∷ ns) (ap (λ j. range_with_len j (suc n)) (add-one k) ∙ count_to-range (suc k) n)
+
+module _ {X Y : Type 0} (cmp : Y → Y → Ordering) (f : X → Y) where
+  without-nil : (l : List Y) → without cmp l [] ≡ []
+  without-nil [] = refl
+  without-nil (e ∷ l) = refl
+
+  -- at the end of the list
+  pub without-end : (zs l : List Y) (i : ℕ) (xs : List X) → length xs ≤ i → zs ++ without cmp l (map f (drop i xs)) ≡ zs
+  without-end zs l i xs h = rw (drop_of_length-le xs {i = i} h) (ap (λ ys. zs ++ ys) (without-nil l) ∙ append-nil zs)
+
+  module _ (t : Y) where
+    -- the place before the first greater term
+    pub insert_new-less : (i : ℕ) (xs : List X) (x : X) → i < length xs → x ≡ get_or xs i x → cmp t (f x) ≡ Less → map f (take i xs) ++ insert_new cmp t (map f (drop i xs)) ≡ take i (map f xs) ++ (t ∷ drop i (map f xs))
+    insert_new-less i [] x h e q = absurd (omega arith)
+    insert_new-less zero (y ∷ xs) x h e q = let k : cmp t (f y) ≡ Less = subst (λ z. cmp t (f z) ≡ Less) e q in rw k refl
+    insert_new-less (suc i) (y ∷ xs) x h e q = ap (λ ys. f y ∷ ys) (insert_new-less i xs x (omega arith) e q)
+
+    -- the term stands there
+    pub insert_new-equal : (i : ℕ) (xs : List X) (x : X) → i < length xs → x ≡ get_or xs i x → cmp t (f x) ≡ Equal → map f (take i xs) ++ insert_new cmp t (map f (drop i xs)) ≡ map f xs
+    insert_new-equal i [] x h e q = absurd (omega arith)
+    insert_new-equal zero (y ∷ xs) x h e q = let k : cmp t (f y) ≡ Equal = subst (λ z. cmp t (f z) ≡ Equal) e q in rw k refl
+    insert_new-equal (suc i) (y ∷ xs) x h e q = ap (λ ys. f y ∷ ys) (insert_new-equal i xs x (omega arith) e q)
+
+-- the pieces that begin with e
+abbrev pub begun : {Y : Type 0} (cmp : Y → Y → Ordering) → Bool → ℕ → List Y → Y → List (List Y)
+begun cmp anywhere n ts e = map (λ w. e ∷ w) (pieces_of cmp anywhere n (after cmp ts e))
+
+pub pieces_of-longer : {Y : Type 0} (cmp : Y → Y → Ordering) (anywhere : Bool) (n : ℕ) (ts : List Y) → (n ≡ 0 → ⊥) → flat_map (begun cmp anywhere (n - 1) ts) (if anywhere then distinct cmp ts else first cmp ts) ≡ pieces_of cmp anywhere n ts
+pieces_of-longer cmp anywhere zero ts h = absurd (h refl)
+pieces_of-longer cmp anywhere (suc n) ts h = let e : suc n - 1 ≡ n = omega arith in ap (λ m. flat_map (begun cmp anywhere m ts) (if anywhere then distinct cmp ts else first cmp ts)) e
+
+pub drop-next : {X : Type 0} (i : ℕ) (xs : List X) (x : X) → i < length xs → x ≡ get_or xs i x → drop i xs ≡ x ∷ drop (i + 1) xs
+drop-next i xs x h e = drop-cons xs i x h ∙ ap (λ y. y ∷ drop (suc i) xs) (sym e) ∙ ap (λ n. x ∷ drop n xs) (sym (add-one i))
+
+-- one more element of a list gone over
+pub flat_map-step : {X Y Z : Type 0} (f : X → Y) (g : Y → List Z) (zs ws : List Z) (i : ℕ) (xs : List X) (x : X) → i < length xs → x ≡ get_or xs i x → ws ≡ zs ++ g (f x) → ws ++ flat_map g (map f (drop (i + 1) xs)) ≡ zs ++ flat_map g (map f (drop i xs))
+flat_map-step f g zs ws i xs x h e q =
+    ap (λ us. us ++ flat_map g (map f (drop (i + 1) xs))) q ∙ append_assoc zs (g (f x)) (flat_map g (map f (drop (i + 1) xs))) ∙ ap (λ ys. zs ++ flat_map g (map f ys)) (sym (drop-next i xs x h e))
+
+module _ {Z : Type 0} (g : ℕ → List Z) where
+  -- from the least to the greatest number
+  pub flat_map-count_to : (k n : ℕ) → k ≤ n → flat_map g (range_with_len k (n + 1 - k)) ≡ flat_map g (count_to k (n - k))
+  flat_map-count_to k n h = let e : n + 1 - k ≡ suc (n - k) = omega arith in ap (λ m. flat_map g (range_with_len k m)) e ∙ ap (flat_map g) (count_to-range k (n - k))
+
+  -- one more number
+  pub flat_map-next : (zs ws : List Z) (k n : ℕ) → k ≤ n → ws ≡ zs ++ g k → ws ++ flat_map g (range_with_len (k + 1) (n + 1 - (k + 1))) ≡ zs ++ flat_map g (range_with_len k (n + 1 - k))
+  flat_map-next zs ws k n h q =
+      let e : n + 1 - k ≡ suc (n + 1 - (k + 1)) = omega arith in
+      ap (λ us. us ++ flat_map g (range_with_len (k + 1) (n + 1 - (k + 1)))) q ∙ append_assoc zs (g k) (flat_map g (range_with_len (k + 1) (n + 1 - (k + 1)))) ∙ ap (λ m. zs ++ flat_map g (range_with_len k m)) (sym e)
+
+-- all elements of a list gone over
+pub flat_map-end : {X Y Z : Type 0} (f : X → Y) (g : Y → List Z) (zs : List Z) (i : ℕ) (xs : List X) → length xs ≤ i → zs ++ flat_map g (map f (drop i xs)) ≡ zs
+flat_map-end f g zs i xs h = rw (drop_of_length-le xs {i = i} h) (append-nil zs)
+
+-- no piece is longer than the list
+pub pieces_of-short : (anywhere : Bool) (n : ℕ) (ts : List Tree) → length ts < n → [] ≡ pieces_of tree_cmp anywhere n ts
+pieces_of-short anywhere n ts h = sym (at (pieces_of tree_cmp anywhere n ts) refl)
+  where
+    at : (ls : List (List Tree)) → pieces_of tree_cmp anywhere n ts ≡ ls → pieces_of tree_cmp anywhere n ts ≡ []
+    at [] e = e
+    at (l ∷ ls) e =
+        let i : In l (pieces_among tree_cmp anywhere (n ∷ []) ts) = in-left l (pieces_of tree_cmp anywhere n ts) [] (subst (In l) (sym e) (inl refl)) in
+        let k = (pieces_among-exact tree_cmp tree_cmp_total tree_same anywhere (n ∷ []) l ts).0 i in
+        let q : length l ≡ n = elim k.0 [ inl p ↦ p | inr a ↦ absurd a ] in
+        absurd (omega (arith, q, length-without tree_cmp tree_cmp_total tree_same l ts (sublist-from_piece tree_cmp tree_cmp_total tree_same anywhere l ts k.1)))

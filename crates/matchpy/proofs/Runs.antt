@@ -1,0 +1,225 @@
+-- From the answer of a run to the clause of the command.
+use Rattle.std.proofs.Common.{◌≡◌, ◌⊎◌, inl, inr, ℕ, ◌<◌, List, [], ◌∷◌, length, Bool, true, false, refl, sym, ap, ◌∙◌, subst, arith, append-nil}
+use Rattle.std.specs.Prelude.{Option, Some, None, IfSome, if◌then◌else◌, nat_lt}
+use Rattle.std.specs.Io.KnownBytes.{Appends, Keeps}
+use Rattle.mp_io.specs.Devices.{Files, Rose, Text, held}
+use Rattle.mp_io.specs.Printing.{AppendsFront}
+use Rattle.mp_io.proofs.Written.{whole_front}
+use Rattle.mp_text.specs.File.{FileTree}
+use Rattle.mp_text.specs.Reading.{file_of}
+use Rattle.matchpy.specs.Answers.{Answers, IsReached, IsTurnOf, Shelved, Sunk}
+use Rattle.matchpy.specs.Endings.{line_of, status_of, told_line, told_status}
+use Rattle.matchpy.specs.Messages.{long_line, memory_line, open_line, read_line, write_line}
+use Rattle.matchpy.specs.Matches.{has_some, match_text}
+use Rattle.matchpy.specs.Outcome.{Outcome, file_limit, given, match_outcome, outcome_at, over_file, refused}
+use Rattle.matchpy.specs.Run.{HasOutcome, IsSomeMissing, Runs, Says, names_of}
+use Rattle.matchpy.specs.Words.{Request, Match, request_of}
+use Rattle.matchpy.specs.declared.ending.Told.{Told}
+use Rattle.matchpy.specs.declared.ending.Told.TheVariants as told
+use Rattle.matchpy.specs.declared.ending.Ending.{Ending}
+use Rattle.matchpy.specs.declared.ending.Ending.TheVariants as ending
+use Rattle.matchpy.proofs.Outcomes.{outcome_at-is}
+
+-- ---- laws of the outcome
+
+-- with status 4 nothing is written
+abbrev IsSilent : Outcome → Type 0
+IsSilent o = o.status ≡ 4 → o.out ≡ []
+
+-- it stands for a file that isn't held
+abbrev IsUnheld : Outcome → Type 0
+IsUnheld o = (o.status ≡ 4) × (o.out ≡ [])
+
+given-silent : (limit : ℕ) (name : Text) (over : Text → Outcome) (found : Option Text) → ((bytes : Text) → IsSilent (over bytes)) → IsSilent (given limit name over found)
+given-silent limit name over None h = λ e. refl
+given-silent limit name over (Some bytes) h = go (nat_lt limit (length bytes))
+  where
+    go : (b : Bool) → IsSilent (if b then refused 4 (long_line name) else over bytes)
+    go true = λ e. refl
+    go false = h bytes
+
+-- over the bytes of a file the status isn't 4
+pub match_outcome-read : (name bytes : Text) → (match_outcome name bytes).status ≡ 4 → ⊥
+match_outcome-read name bytes = go (file_of bytes)
+  where
+    of_text : (b : Bool) → (let n : ℕ = if b then 0 else 1 in n ≡ 4) → ⊥
+    of_text true = λ e. absurd (omega arith)
+    of_text false = λ e. absurd (omega arith)
+
+    go : (found : Option FileTree) → (over_file name found).status ≡ 4 → ⊥
+    go None = λ e. absurd (omega arith)
+    go (Some file) = of_text (has_some (match_text file))
+
+outcome_at-silent : (files : Files) (request : Option Request) → IsSilent (outcome_at files request)
+outcome_at-silent files None = λ e. refl
+outcome_at-silent files (Some (Match name)) = given-silent file_limit name (match_outcome name) (held files name) (λ bytes e. absurd (match_outcome-read name bytes e))
+
+outcome_at-missing : (files : Files) (request : Option Request) → IsSomeMissing files (names_of request) → IsUnheld (outcome_at files request)
+outcome_at-missing files None h = absurd h
+outcome_at-missing files (Some (Match name)) (inl m) = subst (λ found. IsUnheld (given file_limit name (match_outcome name) found)) (sym m) (refl, refl)
+outcome_at-missing files (Some (Match name)) (inr h) = absurd h
+
+-- ---- what is kept and what is appended
+
+Appends-keeps : (a b : Option Text) → Keeps a b → Appends a b []
+Appends-keeps None b h = tt
+Appends-keeps (Some x) None h = absurd h
+Appends-keeps (Some x) (Some y) h = h ∙ sym (append-nil x)
+
+Keeps-appends : (a b : Option Text) → Appends a b [] → Keeps a b
+Keeps-appends None b h = tt
+Keeps-appends (Some x) None h = absurd h
+Keeps-appends (Some x) (Some y) h = h ∙ append-nil x
+
+AppendsFront-keeps : (out : Sunk) (text : Text) → Keeps out.old out.new → AppendsFront out.old out.new text
+AppendsFront-keeps out text k = record { front = []; rest = text; split = refl; written = Appends-keeps out.old out.new k }
+
+IsTurnOf-some : (files : Option Files) (names : List Text) (name : Text) → IsTurnOf files names name → 0 < length names
+IsTurnOf-some files [] name h = absurd h
+IsTurnOf-some files (n ∷ names) name h = omega arith
+
+-- what the words and the files decide is neither a failed write nor want of memory
+told_status-settled : (t : Told) → (told_status t ≡ 5 → ⊥) × (told_status t ≡ 8 → ⊥)
+told_status-settled told.Done = (λ e. absurd (omega arith), λ e. absurd (omega arith))
+told_status-settled told.Empty = (λ e. absurd (omega arith), λ e. absurd (omega arith))
+told_status-settled told.Usage = (λ e. absurd (omega arith), λ e. absurd (omega arith))
+told_status-settled (told.BadText name fault) = (λ e. absurd (omega arith), λ e. absurd (omega arith))
+told_status-settled (told.TooLong name) = (λ e. absurd (omega arith), λ e. absurd (omega arith))
+
+-- ---- the clause
+
+module _ (files : Files) (request : Option Request) (s0 s1 r0 r1 g : ℕ) (out err : Sunk) where
+  abbrev shelf : Shelved
+  shelf = record { files = Some files; starts = s0; starts_after = s1; reads = r0; reads_after = r1; given_after = g }
+
+  abbrev o : Outcome
+  o = outcome_at files request
+
+  Runs-told : (t : Told) → IsReached o out t → Says err (told_line t) → (told_status t ≡ 5 → ⊥) → (told_status t ≡ 8 → ⊥)
+      → Runs o (names_of request) files shelf out err (told_status t)
+  Runs-told t h says not5 not8 = record {
+    unread = λ e. inl (sym h.status ∙ e);
+    missing = λ m. inl (h.status ∙ (outcome_at-missing files request m).0);
+    settled = λ _ _ _. (h.status, h.text);
+    front = whole_front out.old out.new o.out h.text;
+    nothing = λ e. Keeps-appends out.old out.new (subst (λ (x : Text). Appends out.old out.new x) (outcome_at-silent files request (sym h.status ∙ e)) h.text);
+    write = λ e. absurd (not5 e);
+    line = (
+      told_line t,
+      record {
+        write = λ e. absurd (not5 e);
+        memory = λ e. absurd (not8 e);
+        unread = λ e. inl (sym h.status ∙ e, h.line);
+        other = λ _ _ _. h.line;
+      },
+      says,
+    );
+  }
+
+  Runs-memory : AppendsFront out.old out.new o.out → Says err memory_line → Runs o (names_of request) files shelf out err 8
+  Runs-memory h says = record {
+    unread = λ e. absurd (omega arith);
+    missing = λ m. inr refl;
+    settled = λ _ not8 _. absurd (not8 refl);
+    front = h;
+    nothing = λ e. absurd (omega arith);
+    write = λ e. absurd (omega arith);
+    line = (
+      memory_line,
+      record {
+        write = λ e. absurd (omega arith);
+        memory = λ _. refl;
+        unread = λ e. absurd (omega arith);
+        other = λ _ not8 _. absurd (not8 refl);
+      },
+      says,
+    );
+  }
+
+  Runs-write : Rose out.faults out.faults_after → AppendsFront out.old out.new o.out → 0 < length o.out → Says err write_line → Runs o (names_of request) files shelf out err 5
+  Runs-write rose h long says = record {
+    unread = λ e. absurd (omega arith);
+    missing = λ m. let none : 0 ≡ length o.out = sym (ap length (outcome_at-missing files request m).1) in absurd (omega arith);
+    settled = λ not5 _ _. absurd (not5 refl);
+    front = h;
+    nothing = λ e. absurd (omega arith);
+    write = λ _. (long, rose);
+    line = (
+      write_line,
+      record {
+        write = λ _. refl;
+        memory = λ e. absurd (omega arith);
+        unread = λ e. absurd (omega arith);
+        other = λ not5 _ _. absurd (not5 refl);
+      },
+      says,
+    );
+  }
+
+  Runs-open : (name : Text) → Keeps out.old out.new → IsTurnOf (Some files) (names_of request) name
+      → Rose s0 s1 ⊎ ((held files name ≡ None) × ((o.status ≡ 4) × (open_line name ≡ o.err) × (o.out ≡ [])))
+      → Says err (open_line name) → Runs o (names_of request) files shelf out err 4
+  Runs-open name kept turn why says = record {
+    unread = λ _. elim why [ inl rose ↦ inr (IsTurnOf-some (Some files) (names_of request) name turn, inl rose) | inr m ↦ inl m.1.0 ];
+    missing = λ m. inl refl;
+    settled = λ _ _ calm. elim why [
+      | inl rose ↦ absurd (calm refl (inl rose))
+      | inr m ↦ (sym m.1.0, subst (λ (x : Text). Appends out.old out.new x) (sym m.1.2) (Appends-keeps out.old out.new kept))
+    ];
+    front = AppendsFront-keeps out o.out kept;
+    nothing = λ _. kept;
+    write = λ e. absurd (omega arith);
+    line = (
+      open_line name,
+      record {
+        write = λ e. absurd (omega arith);
+        memory = λ e. absurd (omega arith);
+        unread = λ _. elim why [ inl rose ↦ inr (name, turn, inl (refl, rose)) | inr m ↦ inl (m.1.0, m.1.1) ];
+        other = λ _ _ not4. absurd (not4 refl);
+      },
+      says,
+    );
+  }
+
+  Runs-read : (name : Text) → Keeps out.old out.new → IsTurnOf (Some files) (names_of request) name → (held files name ≡ None → ⊥) → Rose r0 r1
+      → Says err (read_line name) → Runs o (names_of request) files shelf out err 4
+  Runs-read name kept turn there rose says = record {
+    unread = λ _. inr (IsTurnOf-some (Some files) (names_of request) name turn, inr rose);
+    missing = λ m. inl refl;
+    settled = λ _ _ calm. absurd (calm refl (inr rose));
+    front = AppendsFront-keeps out o.out kept;
+    nothing = λ _. kept;
+    write = λ e. absurd (omega arith);
+    line = (
+      read_line name,
+      record {
+        write = λ e. absurd (omega arith);
+        memory = λ e. absurd (omega arith);
+        unread = λ _. inr (name, turn, inr (refl, there, rose));
+        other = λ _ _ not4. absurd (not4 refl);
+      },
+      says,
+    );
+  }
+
+  Runs-answers : (e : Ending) → Answers (names_of request) (λ fs. outcome_at fs request) shelf out e → Says err (line_of e) → Runs o (names_of request) files shelf out err (status_of e)
+  Runs-answers (ending.Told t) h says = Runs-told t h says (told_status-settled t).0 (told_status-settled t).1
+  Runs-answers ending.Memory h says = Runs-memory h says
+  Runs-answers ending.CannotWrite h says = Runs-write h.0 h.1.0 h.1.1 says
+  Runs-answers (ending.CannotOpen name) h says = Runs-open name.now h.0 h.1 h.2 says
+  Runs-answers (ending.CannotRead name) h says = Runs-read name.now h.0 h.1 h.2 h.3 says
+
+-- the clause, of the request that the words make
+pub HasOutcome-answers : (told_files : Option Files) (words : List Text) (asked_for : Option Request) (s0 s1 r0 r1 g : ℕ) (out err : Sunk) (e : Ending) (status : ℕ) → asked_for ≡ request_of words → status ≡ status_of e
+    → Answers (names_of asked_for) (λ fs. outcome_at fs asked_for) (record { files = told_files; starts = s0; starts_after = s1; reads = r0; reads_after = r1; given_after = g }) out e
+    → Says err (line_of e)
+    → IfSome told_files (λ files. HasOutcome words files (record { files = told_files; starts = s0; starts_after = s1; reads = r0; reads_after = r1; given_after = g }) out err status)
+HasOutcome-answers None words asked_for s0 s1 r0 r1 g out err e status asked_is status_is h says = tt
+HasOutcome-answers (Some files) words asked_for s0 s1 r0 r1 g out err e status asked_is status_is h says =
+    let shelf : Shelved = record { files = Some files; starts = s0; starts_after = s1; reads = r0; reads_after = r1; given_after = g } in
+    let whole : HasOutcome words files shelf out err (status_of e) = record {
+      outcome = outcome_at files (request_of words);
+      is_outcome = outcome_at-is files (request_of words);
+      runs = subst (λ r. Runs (outcome_at files r) (names_of r) files shelf out err (status_of e)) asked_is (Runs-answers files asked_for s0 s1 r0 r1 g out err e h says);
+    } in
+    subst (HasOutcome words files shelf out err) (sym status_is) whole

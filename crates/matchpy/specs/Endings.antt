@@ -1,0 +1,36 @@
+-- The status and the line of each ending.
+use Rattle.std.specs.Prelude.{ℕ, []}
+use Rattle.mp_io.specs.Devices.{Text}
+use Rattle.matchpy.specs.Messages.{fault_line, long_line, memory_line, open_line, read_line, usage_line, write_line}
+use Rattle.matchpy.specs.declared.ending.Told.{Told}
+use Rattle.matchpy.specs.declared.ending.Told.TheVariants as told
+use Rattle.matchpy.specs.declared.ending.Ending.{Ending}
+use Rattle.matchpy.specs.declared.ending.Ending.TheVariants as ending
+
+abbrev pub told_status : Told → ℕ
+told_status told.Done = 0
+told_status told.Empty = 1
+told_status told.Usage = 2
+told_status (told.BadText name fault) = 3
+told_status (told.TooLong name) = 4
+
+abbrev pub told_line : Told → Text
+told_line told.Done = []
+told_line told.Empty = []
+told_line told.Usage = usage_line
+told_line (told.BadText name fault) = fault_line name.now fault
+told_line (told.TooLong name) = long_line name.now
+
+abbrev pub status_of : Ending → ℕ
+status_of (ending.Told t) = told_status t
+status_of ending.Memory = 8
+status_of ending.CannotWrite = 5
+status_of (ending.CannotOpen name) = 4
+status_of (ending.CannotRead name) = 4
+
+abbrev pub line_of : Ending → Text
+line_of (ending.Told t) = told_line t
+line_of ending.Memory = memory_line
+line_of ending.CannotWrite = write_line
+line_of (ending.CannotOpen name) = open_line name.now
+line_of (ending.CannotRead name) = read_line name.now

@@ -1,0 +1,15 @@
+pub mod Words
+pub mod Requests
+pub mod Matches
+pub mod Messages
+pub mod Outcome
+pub mod Endings
+pub mod Answers
+pub mod Printed
+pub mod Run
+pub mod Lists
+pub mod Lines
+pub mod Stack
+pub mod Held
+pub mod Trail
+pub mod Substs

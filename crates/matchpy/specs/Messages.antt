@@ -1,0 +1,62 @@
+-- The lines of standard error.
+use Rattle.std.specs.Prelude.{[], ◌∷◌, ◌++◌, codes, decimal}
+use Rattle.mp_io.specs.Devices.{Text}
+use Rattle.mp_text.specs.declared.fault.TextFault.{TextFault}
+use Rattle.mp_text.specs.declared.fault.TextKind.{TextKind}
+use Rattle.mp_text.specs.declared.fault.TextKind.TheVariants.{BadByte, Syntax, TooDeep, DuplicateName, TooMany, BadFlags, UnknownOp, BareOperation, UnknownKind, Arity, KindClash, LooseSequence, WildcardInTerm, UnboundVariable, ConditionKind, UnknownSubject, BadPosition, Overlap, Unread}
+
+-- what is said after the program's name, as a line
+abbrev pub told : Text → Text
+told text = codes "matchpy: " ++ (text ++ 10 ∷ [])
+
+-- the line that says something of a name
+abbrev pub said_of : Text → Text → Text
+said_of name text = codes "matchpy: " ++ (name ++ (text ++ 10 ∷ []))
+
+abbrev pub usage_line : Text
+usage_line = codes "usage: matchpy ACTION [FILE ..] [--engine E] [--limit N] [--resume TOKEN] [--max N]" ++ 10 ∷ []
+
+abbrev pub memory_line : Text
+memory_line = told (codes "want of memory")
+
+abbrev pub write_line : Text
+write_line = told (codes "cannot write")
+
+abbrev pub open_line : Text → Text
+open_line name = said_of name (codes ": cannot open")
+
+abbrev pub read_line : Text → Text
+read_line name = said_of name (codes ": cannot read")
+
+abbrev pub long_line : Text → Text
+long_line name = said_of name (codes ": too long")
+
+-- how a kind of fault is called
+abbrev pub kind_text : TextKind → Text
+kind_text BadByte = codes "BadByte"
+kind_text Syntax = codes "Syntax"
+kind_text TooDeep = codes "TooDeep"
+kind_text DuplicateName = codes "DuplicateName"
+kind_text TooMany = codes "TooMany"
+kind_text BadFlags = codes "BadFlags"
+kind_text UnknownOp = codes "UnknownOp"
+kind_text BareOperation = codes "BareOperation"
+kind_text UnknownKind = codes "UnknownKind"
+kind_text Arity = codes "Arity"
+kind_text KindClash = codes "KindClash"
+kind_text LooseSequence = codes "LooseSequence"
+kind_text WildcardInTerm = codes "WildcardInTerm"
+kind_text UnboundVariable = codes "UnboundVariable"
+kind_text ConditionKind = codes "ConditionKind"
+kind_text UnknownSubject = codes "UnknownSubject"
+kind_text BadPosition = codes "BadPosition"
+kind_text Overlap = codes "Overlap"
+kind_text Unread = codes "Unread"
+
+-- the line that says at which line and column of a named file what stands
+abbrev pub said_at : Text → Text → Text → Text → Text
+said_at name line column text = codes "matchpy: " ++ (name ++ (codes ":" ++ (line ++ (codes ":" ++ (column ++ (codes ": " ++ (text ++ 10 ∷ [])))))))
+
+-- a fault of a file's text
+abbrev pub fault_line : Text → TextFault → Text
+fault_line name fault = said_at name (decimal fault.line) (decimal fault.column) (kind_text fault.kind)

@@ -1,0 +1,66 @@
+-- What a run writes and answers, for these words and these files, memory and faults aside.
+use Rattle.std.specs.Prelude.{◌≡◌, ◌⊎◌, ◌<◌, ◌≤◌, ℕ, List, [], length, Option, Some, None, if◌then◌else◌, nat_lt}
+use Rattle.mp_io.specs.Devices.{Files, Text, held}
+use Rattle.mp_text.specs.File.{FileTree}
+use Rattle.mp_text.specs.Reading.{IsFileOf, file_of, unread_fault}
+use Rattle.matchpy.specs.Messages.{fault_line, long_line, open_line, usage_line}
+use Rattle.matchpy.specs.Matches.{IsMatchText, has_some, match_text}
+use Rattle.matchpy.specs.Words.{Request, Match, request_of}
+
+pub record Outcome : Type 0 where
+  -- the text for standard output, the text for standard error, and the status
+  pub out : Text
+  pub err : Text
+  pub status : ℕ
+
+-- nothing is written but a line
+abbrev pub refused : ℕ → Text → Outcome
+refused status line = record { out = []; err = line; status = status }
+
+-- a file of rules has at most so many bytes
+abbrev pub file_limit : ℕ
+file_limit = 1048576
+
+-- the lines of the matches; the status tells whether there is one
+abbrev pub matched : Text → Outcome
+matched text = record { out = text; err = []; status = if has_some text then 0 else 1 }
+
+-- ---- as a relation
+
+-- over the bytes of a named file: the matches of the file that they stand for, or where they stand for none, the fault
+abbrev pub IsMatchOutcome : Text → Text → Outcome → Type 0
+IsMatchOutcome name bytes o =
+    ((file : FileTree) × IsFileOf bytes file × (text : Text) × IsMatchText file text × (o ≡ matched text))
+    ⊎ (((file : FileTree) → IsFileOf bytes file → ⊥) × (o ≡ refused 3 (fault_line name unread_fault)))
+
+-- a named file is held and not too long, and over its bytes the outcome is as told; or it is refused
+abbrev pub IsOver : ℕ → Text → (Text → Outcome → Type 0) → Option Text → Outcome → Type 0
+IsOver limit name over None o = o ≡ refused 4 (open_line name)
+IsOver limit name over (Some bytes) o = ((limit < length bytes) × (o ≡ refused 4 (long_line name))) ⊎ ((length bytes ≤ limit) × over bytes o)
+
+abbrev pub IsOutcomeAt : Files → Option Request → Outcome → Type 0
+IsOutcomeAt files None o = o ≡ refused 2 usage_line
+IsOutcomeAt files (Some (Match name)) o = IsOver file_limit name (IsMatchOutcome name) (held files name) o
+
+-- o is the outcome of these words over these files
+abbrev pub IsOutcome : List Text → Files → Outcome → Type 0
+IsOutcome words files o = IsOutcomeAt files (request_of words) o
+
+-- ---- as a function
+
+abbrev pub over_file : Text → Option FileTree → Outcome
+over_file name None = refused 3 (fault_line name unread_fault)
+over_file name (Some file) = matched (match_text file)
+
+-- over the bytes of a named file
+abbrev pub match_outcome : Text → Text → Outcome
+match_outcome name bytes = over_file name (file_of bytes)
+
+-- the outcome over a named file's bytes, where it is held and not too long
+abbrev pub given : ℕ → Text → (Text → Outcome) → Option Text → Outcome
+given limit name over None = refused 4 (open_line name)
+given limit name over (Some bytes) = if nat_lt limit (length bytes) then refused 4 (long_line name) else over bytes
+
+abbrev pub outcome_at : Files → Option Request → Outcome
+outcome_at files None = refused 2 usage_line
+outcome_at files (Some (Match name)) = given file_limit name (match_outcome name) (held files name)

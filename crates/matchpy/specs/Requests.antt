@@ -1,0 +1,7 @@
+-- A request of the code, as what is asked for.
+use Rattle.matchpy.specs.Words as words
+use Rattle.matchpy.specs.declared.words.Request.{Request}
+use Rattle.matchpy.specs.declared.words.Request.TheVariants as request
+
+abbrev pub asked : Request → words.Request
+asked (request.Match file) = words.Match file.now

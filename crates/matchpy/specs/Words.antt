@@ -1,0 +1,23 @@
+-- Which request the words of the command line make.
+use Rattle.std.specs.Prelude.{◌==◌, not, Bool, true, false, List, [], ◌∷◌, Option, Some, None, codes, if◌then◌else◌}
+use Rattle.std.specs.Str.{bytes_eq}
+use Rattle.mp_io.specs.Devices.{Text}
+
+-- what is asked for: the matches of the rules of a file
+pub data Request : Type 0 where
+  Match : Text → Request
+
+-- `-`, which is standard input, or a text that isn't empty and doesn't begin with `-`
+abbrev pub is_file_name : Text → Bool
+is_file_name [] = false
+is_file_name (b ∷ []) = true
+is_file_name (b ∷ c ∷ bytes) = not (b == 45)
+
+-- the action `match` and one file
+abbrev pub match_request : Text → Text → Option Request
+match_request action file = if bytes_eq action (codes "match") then (if is_file_name file then Some (Match file) else None) else None
+
+-- the request that the words make, if they make one
+abbrev pub request_of : List Text → Option Request
+request_of (action ∷ file ∷ []) = match_request action file
+request_of _ = None

@@ -1,0 +1,163 @@
+//! How a run ends, and what is said of it.
+
+ghost use Rattle.std.specs.Prelude.{◌≡◌};
+ghost use Rattle.mp_io.specs.Printing.{Prints};
+ghost use Rattle.matchpy.specs.Endings.{line_of, status_of, told_line, told_status};
+ghost use Rattle.matchpy.specs.Messages.{fault_line, kind_text, said_at, said_of};
+
+use itoa::Buffer;
+use mp_io::{Failed, Sink, put, put_all};
+use mp_text::{TextFault, TextKind};
+
+/// An end that the words and the files decide.
+#[derive(Clone, Copy)]
+pub enum Told<'a> {
+    /// Done, with at least one line.
+    Done,
+    /// Done, with no line.
+    Empty,
+    /// The words make no request.
+    Usage,
+    /// The named file's text has a fault.
+    BadText(&'a str, TextFault),
+    /// The named file has more bytes than its limit.
+    TooLong(&'a str),
+}
+
+/// How a run ends.
+#[derive(Clone, Copy)]
+pub enum Ending<'a> {
+    /// As the words and the files decide.
+    Told(Told<'a>),
+    /// For want of memory.
+    Memory,
+    /// At a write that failed.
+    CannotWrite,
+    /// The named file isn't held, or its start failed.
+    CannotOpen(&'a str),
+    /// A read of the named file failed.
+    CannotRead(&'a str),
+}
+
+fn told_status(told: Told<'_>) -> u8
+    ensures { result ≡ told_status told.entry }
+{
+    match told {
+        Told::Done => 0,
+        Told::Empty => 1,
+        Told::Usage => 2,
+        Told::BadText(_, _) => 3,
+        Told::TooLong(_) => 4,
+    }
+}
+
+/// The status of an ending: `status_of` of `specs/Endings.antt`.
+pub fn status(ending: Ending<'_>) -> u8
+    ensures { result ≡ status_of ending.entry }
+{
+    match ending {
+        Ending::Told(told) => told_status(told),
+        Ending::Memory => 8,
+        Ending::CannotWrite => 5,
+        Ending::CannotOpen(_) | Ending::CannotRead(_) => 4,
+    }
+}
+
+// How a kind of fault is called.
+fn kind_text(kind: TextKind) -> &'static [u8]
+    ensures { result.now ≡ kind_text kind }
+{
+    match kind {
+        TextKind::BadByte => b"BadByte",
+        TextKind::Syntax => b"Syntax",
+        TextKind::TooDeep => b"TooDeep",
+        TextKind::DuplicateName => b"DuplicateName",
+        TextKind::TooMany => b"TooMany",
+        TextKind::BadFlags => b"BadFlags",
+        TextKind::UnknownOp => b"UnknownOp",
+        TextKind::BareOperation => b"BareOperation",
+        TextKind::UnknownKind => b"UnknownKind",
+        TextKind::Arity => b"Arity",
+        TextKind::KindClash => b"KindClash",
+        TextKind::LooseSequence => b"LooseSequence",
+        TextKind::WildcardInTerm => b"WildcardInTerm",
+        TextKind::UnboundVariable => b"UnboundVariable",
+        TextKind::ConditionKind => b"ConditionKind",
+        TextKind::UnknownSubject => b"UnknownSubject",
+        TextKind::BadPosition => b"BadPosition",
+        TextKind::Overlap => b"Overlap",
+        TextKind::Unread => b"Unread",
+    }
+}
+
+// Writes the line that says something of a name.
+fn say_of<E: Sink>(err: &mut E, name: &str, text: &[u8]) -> Result<(), Failed>
+    ensures { Prints (E.contents err.old) (E.contents err.new) (E.faults err.old) (E.faults err.new) (said_of name.now text.now) result }
+{
+    put_all(err, &[b"matchpy: ", name.as_bytes(), text, b"\n"])
+}
+
+// Writes the line that says at which line and column of a file what stands.
+fn say_at<E: Sink>(
+    err: &mut E,
+    name: &str,
+    line: &str,
+    column: &str,
+    text: &[u8],
+) -> Result<(), Failed>
+    ensures { Prints (E.contents err.old) (E.contents err.new) (E.faults err.old) (E.faults err.new) (said_at name.now line.now column.now text.now) result }
+{
+    let parts = [
+        b"matchpy: ",
+        name.as_bytes(),
+        b":",
+        line.as_bytes(),
+        b":",
+        column.as_bytes(),
+        b": ",
+        text,
+        b"\n",
+    ];
+    put_all(err, &parts)
+}
+
+// Writes the line of a fault of a file's text.
+fn say_fault<E: Sink>(err: &mut E, name: &str, fault: TextFault) -> Result<(), Failed>
+    ensures { Prints (E.contents err.old) (E.contents err.new) (E.faults err.old) (E.faults err.new) (fault_line name.now fault) result }
+{
+    let mut line = Buffer::new();
+    let mut column = Buffer::new();
+    let line = line.format(fault.line);
+    let column = column.format(fault.column);
+    say_at(err, name, line, column, kind_text(fault.kind))
+}
+
+fn say_told<E: Sink>(err: &mut E, told: Told<'_>) -> Result<(), Failed>
+    ensures { Prints (E.contents err.old) (E.contents err.new) (E.faults err.old) (E.faults err.new) (told_line told.entry) result }
+{
+    match told {
+        Told::Done => Ok(()),
+        Told::Empty => Ok(()),
+        Told::Usage => put(err, USAGE),
+        Told::BadText(name, fault) => say_fault(err, name, fault),
+        Told::TooLong(name) => say_of(err, name, b": too long"),
+    }
+}
+
+/// Writes the line of an ending: `line_of` of `specs/Endings.antt`.
+///
+/// `Failed` comes only where the sink's count rose, and a front of the line was written then.
+pub fn say<E: Sink>(err: &mut E, ending: Ending<'_>) -> Result<(), Failed>
+    ensures { Prints (E.contents err.old) (E.contents err.new) (E.faults err.old) (E.faults err.new) (line_of ending.entry) result }
+{
+    match ending {
+        Ending::Told(told) => say_told(err, told),
+        Ending::Memory => put(err, b"matchpy: want of memory\n"),
+        Ending::CannotWrite => put(err, b"matchpy: cannot write\n"),
+        Ending::CannotOpen(name) => say_of(err, name, b": cannot open"),
+        Ending::CannotRead(name) => say_of(err, name, b": cannot read"),
+    }
+}
+
+const USAGE: &[u8] =
+    b"usage: matchpy ACTION [FILE ..] [--engine E] [--limit N] [--resume TOKEN] [--max N]\n";

@@ -1,0 +1,177 @@
+//! The action `match`, over a file's bytes.
+
+ghost use Rattle.std.specs.Prelude.{◌≡◌, ◌≤◌, ◌<◌, length, map, flat_map, OnErr};
+ghost use Rattle.std.specs.List.{AllByRecursion};
+ghost use Rattle.mp_io.specs.Printing.{Prints};
+ghost use Rattle.mp_pattern.specs.RuleView.{rule_tree};
+ghost use Rattle.mp_text.specs.File.{file_tree, subject_tree};
+ghost use Rattle.matchpy.specs.Answers.{Acts};
+ghost use Rattle.matchpy.specs.Endings.{status_of};
+ghost use Rattle.matchpy.specs.Printed.{PrintsMatches};
+ghost use Rattle.matchpy.specs.Matches.{IsMatchable, IsMatchableFile, IsNormalSubject, match_line, match_text, rule_text, subject_text};
+ghost use Rattle.matchpy.specs.Outcome.{file_limit, match_outcome, matched};
+ghost use Rattle.matchpy.specs.Substs.{subst_of};
+
+use crate::ending::{Ending, Told};
+use crate::one_list::{Subst, one_list};
+use crate::printer::write_subst;
+use mp_io::{Failed, Sink, put, put_all};
+use mp_pattern::Rule;
+use mp_term::{Memory, Signature};
+use mp_text::{File, Subject, TextError, read_file};
+use std::alloc::Global;
+
+// Why the printing of matches stopped.
+#[derive(Clone, Copy)]
+enum Stop {
+    Memory,
+    CannotWrite,
+}
+
+// Writes the line of one match.
+fn write_match<O: Sink>(
+    sig: &Signature,
+    subject: &Subject,
+    rule: &Rule,
+    subst: &Subst,
+    out: &mut O,
+) -> Result<(), Failed>
+    ensures { Prints (O.contents out.old) (O.contents out.new) (O.faults out.old) (O.faults out.new) (match_line sig.now (subject_tree subject.now) (rule_tree rule.now) (subst_of subst.now)) result }
+{
+    let subject_name = subject.name.bytes();
+    let rule_name = rule.name.bytes();
+    match put_all(out, &[subject_name, b" ", rule_name, b" "]) {
+        Ok(()) => {}
+        Err(Failed) => return Err(Failed),
+    }
+    match write_subst(sig, subst, out) {
+        Ok(()) => put(out, b"\n"),
+        Err(Failed) => Err(Failed),
+    }
+}
+
+// Writes a line for each of the substitutions.
+fn write_matches<O: Sink>(
+    sig: &Signature,
+    subject: &Subject,
+    rule: &Rule,
+    matches: &[Subst],
+    out: &mut O,
+) -> Result<(), Failed>
+    ensures prints { Prints (O.contents out.old) (O.contents out.new) (O.faults out.old) (O.faults out.new) (flat_map (match_line sig.now (subject_tree subject.now) (rule_tree rule.now)) (map subst_of matches.now)) result }
+    ensures some { OnErr result (0 < length (flat_map (match_line sig.now (subject_tree subject.now) (rule_tree rule.now)) (map subst_of matches.now))) }
+{
+    for subst in matches {
+        match write_match(sig, subject, rule, subst, out) {
+            Ok(()) => {}
+            Err(Failed) => return Err(Failed),
+        }
+    }
+    Ok(())
+}
+
+// Writes the matches of one rule on one subject, and says whether there are any.
+fn write_rule<O: Sink>(
+    alloc: Global,
+    sig: &Signature,
+    subject: &Subject,
+    rule: &Rule,
+    out: &mut O,
+) -> Result<bool, Stop>
+    requires matchable { IsMatchable sig.now (rule_tree rule.now) }
+    requires normal { IsNormalSubject sig.now (subject_tree subject.now) }
+    ensures { PrintsMatches (rule_text sig.now (subject_tree subject.now) (rule_tree rule.now)) (record { old = O.contents out.old; new = O.contents out.new; faults = O.faults out.old; faults_after = O.faults out.new }) result }
+{
+    let list = match one_list(alloc, sig, &rule.pattern, &subject.term) {
+        Ok(list) => list,
+        Err(Memory) => return Err(Stop::Memory),
+    };
+    let matches = list.as_slice();
+    match write_matches(sig, subject, rule, matches, out) {
+        Ok(()) => Ok(!matches.is_empty()),
+        Err(Failed) => Err(Stop::CannotWrite),
+    }
+}
+
+// Writes the matches of the rules on one subject, and says whether there are any.
+fn write_subject<O: Sink>(
+    alloc: Global,
+    sig: &Signature,
+    rules: &[Rule],
+    subject: &Subject,
+    out: &mut O,
+) -> Result<bool, Stop>
+    requires matchable { AllByRecursion (IsMatchable sig.now) (map rule_tree rules.now) }
+    requires normal { IsNormalSubject sig.now (subject_tree subject.now) }
+    ensures { PrintsMatches (subject_text sig.now (map rule_tree rules.now) (subject_tree subject.now)) (record { old = O.contents out.old; new = O.contents out.new; faults = O.faults out.old; faults_after = O.faults out.new }) result }
+{
+    let mut any = false;
+    for rule in rules {
+        match write_rule(alloc, sig, subject, rule, out) {
+            Ok(some) => any |= some,
+            Err(stop) => return Err(stop),
+        }
+    }
+    Ok(any)
+}
+
+// Writes the matches of the rules on the subjects, and says whether there are any.
+fn write_subjects<O: Sink>(
+    alloc: Global,
+    sig: &Signature,
+    rules: &[Rule],
+    subjects: &[Subject],
+    out: &mut O,
+) -> Result<bool, Stop>
+    requires matchable { AllByRecursion (IsMatchable sig.now) (map rule_tree rules.now) }
+    requires normal { AllByRecursion (IsNormalSubject sig.now) (map subject_tree subjects.now) }
+    ensures { PrintsMatches (flat_map (subject_text sig.now (map rule_tree rules.now)) (map subject_tree subjects.now)) (record { old = O.contents out.old; new = O.contents out.new; faults = O.faults out.old; faults_after = O.faults out.new }) result }
+{
+    let mut any = false;
+    for subject in subjects {
+        match write_subject(alloc, sig, rules, subject, out) {
+            Ok(some) => any |= some,
+            Err(stop) => return Err(stop),
+        }
+    }
+    Ok(any)
+}
+
+// Writes the matches of a file.
+fn write_file<'a, O: Sink>(alloc: Global, file: &File, out: &mut O) -> Ending<'a>
+    requires { IsMatchableFile (file_tree file.now) }
+    ensures acts { Acts (matched (match_text (file_tree file.now))) (record { old = O.contents out.old; new = O.contents out.new; faults = O.faults out.old; faults_after = O.faults out.new }) result }
+    ensures used { status_of result ≡ 2 → ⊥ }
+    ensures read { status_of result ≡ 4 → ⊥ }
+{
+    let rules = file.rules.as_slice();
+    let subjects = file.subjects.as_slice();
+    match write_subjects(alloc, &file.sig, rules, subjects, out) {
+        Ok(true) => Ending::Told(Told::Done),
+        Ok(false) => Ending::Told(Told::Empty),
+        Err(Stop::Memory) => Ending::Memory,
+        Err(Stop::CannotWrite) => Ending::CannotWrite,
+    }
+}
+
+/// Prints a line for each subject, rule and admitted substitution of the file that the bytes stand for.
+///
+/// The ending is that of `match_outcome` of `specs/Outcome.antt`, or want of memory, or a write that failed; a front
+/// of its text was written then. The name is said of a fault of the text.
+pub fn match_file<'a, O: Sink>(
+    alloc: Global,
+    name: &'a str,
+    bytes: &[u8],
+    out: &mut O,
+) -> Ending<'a>
+    requires { length bytes.now ≤ file_limit }
+    ensures acts { Acts (match_outcome name.entry.now bytes.now) (record { old = O.contents out.old; new = O.contents out.new; faults = O.faults out.old; faults_after = O.faults out.new }) result }
+    ensures used { status_of result ≡ 2 → ⊥ }
+    ensures read { status_of result ≡ 4 → ⊥ }
+{
+    match read_file(alloc, bytes) {
+        Ok(file) => write_file(alloc, &file, out),
+        Err(TextError::Text(fault)) => Ending::Told(Told::BadText(name, fault)),
+        Err(TextError::Memory) => Ending::Memory,
+    }
+}

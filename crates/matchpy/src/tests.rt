@@ -1,0 +1,208 @@
+use crate::run::run;
+use mp_io::{MemoryShelf, MemorySink};
+use std::test::Fail;
+
+const USAGE: &[u8] =
+    b"usage: matchpy ACTION [FILE ..] [--engine E] [--limit N] [--resume TOKEN] [--max N]\n";
+
+// Which calls fail: of the shelf, of the sink for lines, and of the sink for errors. Numbers from 0.
+#[derive(Clone, Copy)]
+struct Fails<'a> {
+    shelf: &'a [u64],
+    out: &'a [u64],
+    err: &'a [u64],
+}
+
+const NONE: Fails<'static> = Fails {
+    shelf: &[],
+    out: &[],
+    err: &[],
+};
+
+// The status, and what went to the two sinks, of a run over one file `t`.
+fn ran(
+    rt: &HostRuntime,
+    words: &[&str],
+    bytes: &[u8],
+    fails: &Fails<'_>,
+) -> Result<(u8, Vec<u8>, Vec<u8>), Fail> {
+    let alloc = rt.alloc();
+    let mut owned = Vec::new(alloc);
+    for word in words {
+        owned.push(String::from_str(alloc, word)?)?;
+    }
+    let mut shelf = MemoryShelf::new(alloc, fails.shelf.to_vec(alloc)?);
+    if shelf.add("t", bytes).is_err() {
+        return Err("memory".into());
+    }
+    match (
+        MemorySink::new(alloc, 200, fails.out.to_vec(alloc)?),
+        MemorySink::new(alloc, 200, fails.err.to_vec(alloc)?),
+    ) {
+        (Ok(mut out), Ok(mut err)) => {
+            let status = run(alloc, owned.as_slice(), &mut shelf, &mut out, &mut err);
+            Ok((
+                status,
+                out.content().to_vec(alloc)?,
+                err.content().to_vec(alloc)?,
+            ))
+        }
+        _ => Err("memory".into()),
+    }
+}
+
+#[test]
+fn words_and_files_decide_what_is_printed(rt: HostRuntime) -> Result<(), Fail> {
+    let first = b"op f 2; rule r: f(x_, y_); subject s: f(a, b);".as_slice();
+    let twice = b"op f 2; rule r: f(x_, x_); subject s: f(a, b); subject t: f(b, b);".as_slice();
+    let deep =
+        b"op g 1; op c 0; rule q: x_; rule r: g(g(x_)); rule p: g(y_); subject s: g(g(c()));".as_slice();
+    let nothing = b"".as_slice();
+    for (words, bytes, status, out, err) in [
+        (
+            ["match", "t"].as_slice(),
+            first,
+            0,
+            b"s r {x -> a, y -> b}\n".as_slice(),
+            nothing,
+        ),
+        (
+            ["match", "t"].as_slice(),
+            twice,
+            0,
+            b"t r {x -> b}\n".as_slice(),
+            nothing,
+        ),
+        (
+            ["match", "t"].as_slice(),
+            deep,
+            0,
+            b"s q {x -> g(g(c()))}\ns r {x -> c()}\ns p {y -> g(c())}\n".as_slice(),
+            nothing,
+        ),
+        (
+            ["match", "t"].as_slice(),
+            b"op f 2; rule r: f(x_, x_); subject s: f(a, b);".as_slice(),
+            1,
+            nothing,
+            nothing,
+        ),
+        (["match", "t"].as_slice(), nothing, 1, nothing, nothing),
+        (
+            ["match", "none"].as_slice(),
+            first,
+            4,
+            nothing,
+            b"matchpy: none: cannot open\n".as_slice(),
+        ),
+        (
+            ["match", "t"].as_slice(),
+            b"op f 2; subject s: f(a);".as_slice(),
+            3,
+            nothing,
+            b"matchpy: t:1:1: Unread\n".as_slice(),
+        ),
+        (["match"].as_slice(), first, 2, nothing, USAGE),
+        (["match", "-t"].as_slice(), first, 2, nothing, USAGE),
+        (["match", ""].as_slice(), first, 2, nothing, USAGE),
+        (["match", "t", "t"].as_slice(), first, 2, nothing, USAGE),
+        (["show", "t"].as_slice(), first, 2, nothing, USAGE),
+        ([].as_slice(), first, 2, nothing, USAGE),
+    ] {
+        let (got, printed, said) = ran(&rt, words, bytes, &NONE)?;
+        assert_eq!(rt; printed.as_slice(), out);
+        assert_eq!(rt; said.as_slice(), err);
+        assert_eq!(rt; got, status);
+    }
+    Ok(())
+}
+
+#[test]
+fn a_file_may_have_so_many_bytes_and_no_more(rt: HostRuntime) -> Result<(), Fail> {
+    let alloc = rt.alloc();
+    let spaces = vec![in alloc; b' '; 1_048_577]?;
+    let (longest, _) = spaces.as_slice().split_at(1_048_576);
+    let (status, printed, said) = ran(&rt, &["match", "t"], longest, &NONE)?;
+    assert_eq!(rt; (status, printed.len(), said.len()), (1, 0, 0));
+    let (status, printed, said) = ran(&rt, &["match", "t"], &spaces, &NONE)?;
+    assert_eq!(rt; (status, printed.len()), (4, 0));
+    assert_eq!(rt; said.as_slice(), b"matchpy: t: too long\n".as_slice());
+    Ok(())
+}
+
+#[test]
+fn a_failing_device_gives_its_status(rt: HostRuntime) -> Result<(), Fail> {
+    let bytes = b"op f 2; rule r: f(x_, y_); subject s: f(a, b); subject t: f(c, d);".as_slice();
+    let nothing = b"".as_slice();
+    let one = [1].as_slice();
+    let zero = [0].as_slice();
+    let later = [20].as_slice();
+    for (fails, status, out, err) in [
+        (
+            Fails {
+                shelf: zero,
+                out: &[],
+                err: &[],
+            },
+            4,
+            nothing,
+            b"matchpy: t: cannot open\n".as_slice(),
+        ),
+        (
+            Fails {
+                shelf: one,
+                out: &[],
+                err: &[],
+            },
+            4,
+            nothing,
+            b"matchpy: t: cannot read\n".as_slice(),
+        ),
+        (
+            Fails {
+                shelf: &[],
+                out: zero,
+                err: &[],
+            },
+            5,
+            nothing,
+            b"matchpy: cannot write\n".as_slice(),
+        ),
+        (
+            Fails {
+                shelf: &[],
+                out: later,
+                err: &[],
+            },
+            5,
+            b"s r {x -> a, y -> b}\nt r {x".as_slice(),
+            b"matchpy: cannot write\n".as_slice(),
+        ),
+        (
+            Fails {
+                shelf: zero,
+                out: &[],
+                err: zero,
+            },
+            4,
+            nothing,
+            nothing,
+        ),
+        (
+            Fails {
+                shelf: zero,
+                out: &[],
+                err: one,
+            },
+            4,
+            nothing,
+            b"matchpy: ".as_slice(),
+        ),
+    ] {
+        let (got, printed, said) = ran(&rt, &["match", "t"], bytes, &fails)?;
+        assert_eq!(rt; printed.as_slice(), out);
+        assert_eq!(rt; said.as_slice(), err);
+        assert_eq!(rt; got, status);
+    }
+    Ok(())
+}
