@@ -1,0 +1,32 @@
+-- Trees and lists of trees, and the tree of an application.
+use Rattle.std.proofs.Common.{◌≡◌, List, [], ◌∷◌, map, Vec, Global, refl, ap, ◌∙◌}
+use mathlib.Core.Former.{Count}
+use Rattle.mp_syntax.specs.declared.place.Spot as code_spot
+use Rattle.mp_syntax.specs.declared.tree.Expr.{Expr, Apply, Apply', Row_of-Expr, end_of-Expr, more_of-Expr, items-the_row-Expr, items_hidden-the_row-Expr-0}
+use Rattle.mp_syntax.specs.Syntax as syntax
+use Rattle.mp_syntax.specs.Syntax.{Tree, Trees, trees, tree_list, no_trees, more_trees}
+use Rattle.mp_syntax.specs.View.{spot_of, expr_tree, row_trees}
+
+-- the trees of the list of trees
+pub trees-tree_list : (ts : Trees) → trees (tree_list ts) ≡ ts
+trees-tree_list no_trees = refl
+trees-tree_list (more_trees t ts) = ap (more_trees t) (trees-tree_list ts)
+
+-- the list of the trees of a list
+pub tree_list-trees : (ts : List Tree) → tree_list (trees ts) ≡ ts
+tree_list-trees [] = refl
+tree_list-trees (t ∷ ts) = ap (λ l. t ∷ l) (tree_list-trees ts)
+
+abbrev row_of : Expr → (n : Count) × Row_of-Expr n
+row_of (Apply' _ _ row) = (_, row)
+row_of _ = (_, end_of-Expr)
+
+row_trees-row : (n : _) (row : Row_of-Expr n) → row_trees row ≡ trees (map expr_tree (items-the_row-Expr n row))
+row_trees-row n end_of-Expr = refl
+row_trees-row n (more_of-Expr e row) = ap (more_trees (expr_tree e)) (row_trees-row _ row)
+
+-- an application is its name and the trees of its arguments
+pub expr_tree-Apply : (f : code_spot.Spot) (v : Vec Expr Global) → expr_tree (Apply f v) ≡ syntax.Apply (spot_of f) (trees (map expr_tree v.items))
+expr_tree-Apply f v =
+    let row = row_of (Apply f v) in
+    ap (syntax.Apply (spot_of f)) (row_trees-row row.0 row.1 ∙ ap (λ l. trees (map expr_tree l)) (items_hidden-the_row-Expr-0 v))

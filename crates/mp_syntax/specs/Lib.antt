@@ -1,0 +1,3 @@
+pub mod Tokens
+pub mod Syntax
+pub mod View

@@ -1,0 +1,148 @@
+-- The tokens of a rule file: which texts they are, and how they lie in the bytes.
+use Rattle.std.specs.Prelude.{◌≡◌, ℕ, zero, suc, ◌+◌, ◌<◌, ◌≤◌, ◌≢◌, Bool, true, false, List, [], ◌∷◌, ◌++◌, length, ◌==◌, ◌||◌, if◌then◌else◌, ◌⊎◌, codes}
+use Rattle.std.specs.List.{list_all}
+use Rattle.std.specs.Char.{is_ascii_alphanumeric}
+use Rattle.mp_syntax.specs.declared.place.Place.{Place}
+use Rattle.mp_syntax.specs.declared.token.Punct.{Punct}
+use Rattle.mp_syntax.specs.declared.token.Punct.TheVariants.{Open, Close, OpenSquare, CloseSquare, OpenBrace, CloseBrace, Comma, Semicolon, Colon, Dot, Dollar}
+
+-- ---- tokens
+
+-- what a token is
+pub data Token : Type 0 where
+  Word : List ℕ → Token
+  Wildcard : List ℕ → ℕ → List ℕ → Token
+  Sign : List ℕ → Token
+  Arrow : Token
+  Punctuation : Punct → Token
+  Long : Token
+  Bad : Token
+  End : Token
+
+-- a token and the place of its first byte
+pub record Placed : Type 0 where
+  pub token : Token
+  pub place : Place
+
+-- ---- bytes
+
+-- ASCII letters and digits
+abbrev pub is_word_byte : ℕ → Bool
+is_word_byte b = is_ascii_alphanumeric b
+
+-- + - * / = < > & | ^ ~ ! % @ ?
+abbrev pub is_sign_byte : ℕ → Bool
+is_sign_byte b = b == 43 || b == 45 || b == 42 || b == 47 || b == 61 || b == 60 || b == 62 || b == 38 || b == 124 || b == 94 || b == 126 || b == 33 || b == 37 || b == 64 || b == 63
+
+-- space, tab, carriage return and line feed
+abbrev pub is_blank : ℕ → Bool
+is_blank b = b == 32 || b == 9 || b == 13 || b == 10
+
+-- the byte of a punctuation character
+abbrev pub byte_of : Punct → ℕ
+byte_of Open = 40
+byte_of Close = 41
+byte_of OpenSquare = 91
+byte_of CloseSquare = 93
+byte_of OpenBrace = 123
+byte_of CloseBrace = 125
+byte_of Comma = 44
+byte_of Semicolon = 59
+byte_of Colon = 58
+byte_of Dot = 46
+byte_of Dollar = 36
+
+-- letters and digits alone
+abbrev pub AreWordBytes : List ℕ → Type 0
+AreWordBytes bytes = list_all is_word_byte bytes ≡ true
+
+-- n underscores
+abbrev pub underscores : ℕ → List ℕ
+underscores zero = []
+underscores (suc n) = 95 ∷ underscores n
+
+-- ---- spelling
+
+-- letters and digits, at least one
+pub record IsWord (text : List ℕ) : Type 0 where
+  pub some : text ≢ []
+  pub bytes : AreWordBytes text
+
+-- at most 64 bytes
+abbrev pub IsShort : List ℕ → Type 0
+IsShort word = length word ≤ 64
+
+-- perhaps a word, then one, two or three underscores, and behind a single one perhaps a word
+pub record IsWildcard (text name : List ℕ) (marks : ℕ) (kind : List ℕ) : Type 0 where
+  pub parts : text ≡ name ++ (underscores marks ++ kind)
+  pub name_bytes : AreWordBytes name
+  pub some_marks : 0 < marks
+  pub few_marks : marks ≤ 3
+  pub kind_bytes : AreWordBytes kind
+  pub kind_behind_one : kind ≢ [] → marks ≡ 1
+
+-- a run of sign bytes, at least one
+pub record IsSign (text : List ℕ) : Type 0 where
+  pub some : text ≢ []
+  pub bytes : list_all is_sign_byte text ≡ true
+
+-- a wildcard whose name or kind has more than 64 bytes
+pub record IsLongWildcard (text : List ℕ) : Type 0 where
+  pub name : List ℕ
+  pub marks : ℕ
+  pub kind : List ℕ
+  pub wildcard : IsWildcard text name marks kind
+  pub long : (64 < length name) ⊎ (64 < length kind)
+
+-- the texts that are a token; no text is a bad byte or the end
+abbrev pub Spells : List ℕ → Token → Type 0
+Spells text (Word w) = (text ≡ w) × IsWord w × IsShort w
+Spells text (Wildcard name marks kind) = IsWildcard text name marks kind × IsShort name × IsShort kind
+Spells text (Sign s) = (text ≡ s) × IsSign s × (s ≢ codes "->")
+Spells text Arrow = text ≡ codes "->"
+Spells text (Punctuation p) = text ≡ byte_of p ∷ []
+Spells text Long = (IsWord text × (64 < length text)) ⊎ IsLongWildcard text
+Spells text Bad = ⊥
+Spells text End = ⊥
+
+-- text is the longest front of text ++ rest that is a token
+abbrev pub IsLongest : List ℕ → List ℕ → Type 0
+IsLongest text rest = (more after : List ℕ) (t : Token) → rest ≡ more ++ after → Spells (text ++ more) t → more ≡ []
+
+-- ---- blanks, comments and places
+
+-- blanks and comments: bytes that are passed from one state to the other, where a state is whether a comment is open
+abbrev pub Passes : Bool → List ℕ → Bool → Type 0
+Passes i [] j = i ≡ j
+Passes true (b ∷ bytes) j = Passes (if b == 10 then false else true) bytes j
+Passes false (b ∷ bytes) j = ((b ≡ 35) × Passes true bytes j) ⊎ ((is_blank b ≡ true) × Passes false bytes j)
+
+-- line 1, column 1
+abbrev pub first_place : Place
+first_place = record { line = 1; column = 1 }
+
+-- the place behind a byte
+abbrev pub after_byte : Place → ℕ → Place
+after_byte place b = if b == 10 then record { line = place.line + 1; column = 1 } else record { line = place.line; column = place.column + 1 }
+
+-- the place behind bytes
+abbrev pub place_after : List ℕ → Place → Place
+place_after [] place = place
+place_after (b ∷ bytes) place = place_after bytes (after_byte place b)
+
+-- ---- the tokens of bytes
+
+-- the first token of the bytes is t, behind blanks and comments, and rest lies behind it
+pub record First (bytes : List ℕ) (place : Place) (t : Placed) (rest : List ℕ) : Type 0 where
+  pub gap : List ℕ
+  pub text : List ℕ
+  pub parts : bytes ≡ gap ++ (text ++ rest)
+  pub blank : Passes false gap false
+  pub spelled : Spells text t.token
+  pub longest : IsLongest text rest
+  pub stands : t.place ≡ place_after gap place
+
+-- the bytes, which begin at this place, are these tokens with blanks and comments between them
+abbrev pub Tokens : List ℕ → Place → List Placed → Type 0
+Tokens bytes place [] = (inside : Bool) × Passes false bytes inside
+Tokens bytes place (t ∷ ts) = (rest : List ℕ) × (f : First bytes place t rest) × Tokens rest (place_after f.text t.place) ts

@@ -1,0 +1,59 @@
+//! The syntax trees of a rule file. Their words lie in the bytes of the file.
+
+use crate::place::{Place, Spot};
+
+/// A wildcard as it is written.
+///
+/// As plain data it is a `Wildcard` of `specs/Syntax.antt`.
+#[derive(Clone, Copy, Debug)]
+pub struct Wildcard<'a> {
+    /// The word before the underscores; empty where the wildcard has no name.
+    pub name: &'a [u8],
+    /// The number of underscores, 1 to 3.
+    pub marks: usize,
+    /// The word behind the underscore; empty where the wildcard has no kind.
+    pub kind: &'a [u8],
+    /// The place of its first byte.
+    pub place: Place,
+}
+
+/// An expression.
+///
+/// As plain data it is a `Tree` of `specs/Syntax.antt`, by `expr_tree` of `specs/View.antt`.
+#[derive(Debug, Drop)]
+pub enum Expr<'a> {
+    /// A word alone.
+    Symbol(Spot<'a>),
+    /// A word, and in brackets behind it any number of arguments.
+    Apply(Spot<'a>, Vec<Expr<'a>>),
+    /// A wildcard.
+    Wild(Wildcard<'a>),
+}
+
+/// A statement.
+///
+/// As plain data it is a `Statement` of `specs/Syntax.antt`, by `statement_tree` of `specs/View.antt`.
+#[derive(Debug, Drop)]
+pub enum Statement<'a> {
+    /// `op NAME LEAST;`
+    Op {
+        /// The name of the operation.
+        name: Spot<'a>,
+        /// Its number of arguments, in digits.
+        least: Spot<'a>,
+    },
+    /// `rule NAME: PATTERN;`
+    Rule {
+        /// The name of the rule.
+        name: Spot<'a>,
+        /// The expression behind the colon.
+        pattern: Expr<'a>,
+    },
+    /// `subject NAME: TERM;`
+    Subject {
+        /// The name of the subject.
+        name: Spot<'a>,
+        /// The expression behind the colon.
+        term: Expr<'a>,
+    },
+}
