@@ -1,1 +1,12 @@
+pub mod Again
+pub mod Fit
+pub mod Found
+pub mod Fronts
+pub mod Fuel
+pub mod Longest
+pub mod Names
+pub mod Runs
+pub mod Spelling
+pub mod TokensLaw
 pub mod Trees
+pub mod Whole

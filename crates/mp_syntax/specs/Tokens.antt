@@ -1,6 +1,6 @@
 -- The tokens of a rule file: which texts they are, and how they lie in the bytes.
 use Rattle.std.specs.Prelude.{◌≡◌, ℕ, zero, suc, ◌+◌, ◌<◌, ◌≤◌, ◌≢◌, Bool, true, false, List, [], ◌∷◌, ◌++◌, length, ◌==◌, ◌||◌, if◌then◌else◌, ◌⊎◌, codes}
-use Rattle.std.specs.List.{list_all}
+use Rattle.std.specs.List.{list_all, list_any}
 use Rattle.std.specs.Char.{is_ascii_alphanumeric}
 use Rattle.mp_syntax.specs.declared.place.Place.{Place}
 use Rattle.mp_syntax.specs.declared.token.Punct.{Punct}
@@ -30,9 +30,13 @@ pub record Placed : Type 0 where
 abbrev pub is_word_byte : ℕ → Bool
 is_word_byte b = is_ascii_alphanumeric b
 
--- + - * / = < > & | ^ ~ ! % @ ?
+-- the bytes that signs are made of
+abbrev pub sign_bytes : List ℕ
+sign_bytes = codes "+-*/=<>&|^~!%@?"
+
+-- one of them
 abbrev pub is_sign_byte : ℕ → Bool
-is_sign_byte b = b == 43 || b == 45 || b == 42 || b == 47 || b == 61 || b == 60 || b == 62 || b == 38 || b == 124 || b == 94 || b == 126 || b == 33 || b == 37 || b == 64 || b == 63
+is_sign_byte b = list_any (λ sign. b == sign) sign_bytes
 
 -- space, tab, carriage return and line feed
 abbrev pub is_blank : ℕ → Bool

@@ -1,0 +1,52 @@
+-- Fronts of a list whose elements pass a test.
+use Rattle.std.proofs.Common.{◌≡◌, ℕ, zero, suc, ◌+◌, Bool, true, false, cond, List, [], ◌∷◌, ◌++◌, length, take, drop, refl, sym, ap, ◌∙◌, arith, inl, inr}
+use Rattle.std.specs.Prelude.{◌⊎◌, ◌==◌}
+use Rattle.std.specs.List.{prefix_len, list_all, list_any}
+use Rattle.std.proofs.lemmas.Bool.{and_parts, or_cases, eqb-true}
+use Rattle.std.proofs.lemmas.List.{take_at, drop_at}
+
+-- a front whose elements pass, and then more
+pub prefix_len-pass : (p : ℕ → Bool) (a b : List ℕ) → list_all p a ≡ true → prefix_len p (a ++ b) ≡ length a + prefix_len p b
+prefix_len-pass p [] b h = omega arith
+prefix_len-pass p (x ∷ a) b h =
+    let e : p x ≡ true = (and_parts (p x) (list_all p a) h).0 in
+    rw e (omega (arith, prefix_len-pass p a b (and_parts (p x) (list_all p a) h).1))
+
+-- the front that passes passes
+pub list_all-front : (p : ℕ → Bool) (xs : List ℕ) → list_all p (take (prefix_len p xs) xs) ≡ true
+list_all-front p [] = refl
+list_all-front p (x ∷ xs) = go (p x) refl (list_all-front p xs)
+  where
+    go : (v : Bool) → p x ≡ v → list_all p (take (prefix_len p xs) xs) ≡ true → list_all p (take (cond v (1 + prefix_len p xs) 0) (x ∷ xs)) ≡ true
+    go true e h = let one : 1 + prefix_len p xs ≡ suc (prefix_len p xs) = omega arith in rw (one, e) h
+    go false e h = refl
+
+-- the first a + b elements are the first a and the first b behind them
+pub take-add : (a b : ℕ) (xs : List ℕ) → take (a + b) xs ≡ take a xs ++ take b (drop a xs)
+take-add zero b xs = let e : 0 + b ≡ b = omega arith in rw e refl
+take-add (suc a) b [] = let e : suc a + b ≡ suc (a + b) = omega arith in rw e (sym (take-nil b))
+  where
+    take-nil : (b : ℕ) → take {A = ℕ} b [] ≡ []
+    take-nil zero = refl
+    take-nil (suc b) = refl
+take-add (suc a) b (x ∷ xs) = let e : suc a + b ≡ suc (a + b) = omega arith in rw e (ap (λ l. x ∷ l) (take-add a b xs))
+
+-- more elements than the first list has
+pub take-past : (a b : List ℕ) (n : ℕ) → take (length a + n) (a ++ b) ≡ a ++ take n b
+take-past a b n = take-add (length a) n (a ++ b) ∙ (λ i. take_at a b (length a) refl i ++ take n (drop_at a b (length a) refl i))
+
+-- a list without length is empty
+pub empty-length : {X : Type 0} (l : List X) → length l ≡ 0 → l ≡ []
+empty-length [] e = refl
+empty-length (x ∷ l) e = absurd (omega (arith, e))
+
+-- one of these numbers passes a test that they all pass
+pub one-passes : (q : ℕ → Bool) (b : ℕ) (ns : List ℕ) → list_any (λ n. b == n) ns ≡ true → list_all q ns ≡ true → q b ≡ true
+one-passes q b [] h k = absurd cc
+one-passes q b (n ∷ ns) h k =
+    let parts = and_parts (q n) (list_all q ns) k in
+    go (or_cases (b == n) (list_any (λ n. b == n) ns) h) parts.0 (λ e. one-passes q b ns e parts.1)
+  where
+    go : ((b == n) ≡ true) ⊎ (list_any (λ n. b == n) ns ≡ true) → q n ≡ true → (list_any (λ n. b == n) ns ≡ true → q b ≡ true) → q b ≡ true
+    go (inl e) f g = ap q (eqb-true b n e) ∙ f
+    go (inr e) f g = g e

@@ -1,0 +1,84 @@
+-- The words of what is read are those of tokens: 1 to 64 letters and digits.
+use Rattle.std.proofs.Common.{ℕ, zero, suc, List, [], ◌∷◌, ◌++◌, subst}
+use Rattle.std.specs.Prelude.{◌≢◌}
+use Rattle.mp_syntax.specs.declared.place.Place.{Place}
+use Rattle.mp_syntax.specs.Tokens as tokens
+use Rattle.mp_syntax.specs.Tokens.{Token, Word, Placed, Spells, place_after, Tokens}
+use Rattle.mp_syntax.specs.Syntax.{Spot, Wildcard, Tree, Symbol, Apply, Wild, Trees, no_trees, more_trees, Statement, OpOf, RuleOf, SubjectOf, Expected, Said, Stands, AllMatch, spell, spell_first, spell_others, spell_named, spell_statement, spell_file, Fits, AreFit, FitsStatement, AreStatements, IsName, HasNames, HaveNames, StatementHasNames, StatementsHaveNames}
+
+-- a text is this token
+abbrev pub HasText : Token → Type 0
+HasText t = (text : List ℕ) × Spells text t
+
+-- the token that is expected
+abbrev pub expected_token : Expected → Token
+expected_token (Said t) = t
+expected_token (Stands t place) = t
+
+-- each token has a text
+abbrev pub HaveTexts : List Placed → Type 0
+HaveTexts [] = Unit {0}
+HaveTexts (t ∷ ts) = HasText t.token × HaveTexts ts
+
+-- each token that is expected has a text
+abbrev pub ExpectTexts : List Expected → Type 0
+ExpectTexts [] = Unit {0}
+ExpectTexts (m ∷ ms) = HasText (expected_token m) × ExpectTexts ms
+
+-- the tokens of bytes have texts
+pub tokens-texts : (ts : List Placed) (bytes : List ℕ) (place : Place) → Tokens bytes place ts → HaveTexts ts
+tokens-texts [] bytes place h = tt
+tokens-texts (t ∷ ts) bytes place h = ((h.1.text, h.1.spelled), tokens-texts ts h.0 (place_after h.1.text t.place) h.2)
+
+-- what such tokens match has texts
+pub match-texts : (ts : List Placed) (ms : List Expected) → AllMatch ts ms → HaveTexts ts → ExpectTexts ms
+match-texts [] [] h k = tt
+match-texts [] (m ∷ ms) h k = absurd h
+match-texts (t ∷ ts) [] h k = absurd h
+match-texts (t ∷ ts) (Said u ∷ ms) h k = (subst HasText h.0 k.0, match-texts ts ms h.1 k.1)
+match-texts (t ∷ ts) (Stands u place ∷ ms) h k = (subst HasText h.0.0 k.0, match-texts ts ms h.1 k.1)
+
+texts-append : (a b : List Expected) → ExpectTexts (a ++ b) → ExpectTexts a × ExpectTexts b
+texts-append [] b h = (tt, h)
+texts-append (m ∷ a) b h = let r = texts-append a b h.1 in ((h.0, r.0), r.1)
+
+word-name : (w : List ℕ) → HasText (Word w) → IsName w
+word-name w h = record { is_word = h.1.1; is_short = h.1.2 }
+
+wildcard-name : (w : Wildcard) → HasText (tokens.Wildcard w.name w.marks w.kind) → w.name ≢ [] → IsName w.name
+wildcard-name w h some = record { is_word = record { some = some; bytes = h.1.0.name_bytes }; is_short = h.1.1 }
+
+mutual
+  tree-names : (t : Tree) (room : ℕ) → Fits room t → ExpectTexts (spell t) → HasNames t
+  tree-names (Symbol w) room fits h = word-name w.text h.0
+  tree-names (Apply f args) zero fits h = absurd fits
+  tree-names (Apply f args) (suc room) fits h = (word-name f.text h.0, first-names args room fits h.1.1)
+  tree-names (Wild w) zero fits h = wildcard-name w h.0 fits.named
+  tree-names (Wild w) (suc room) fits h = wildcard-name w h.0 fits.named
+
+  first-names : (ts : Trees) (room : ℕ) → AreFit room ts → ExpectTexts (spell_first ts) → HaveNames ts
+  first-names no_trees room fits h = tt
+  first-names (more_trees t ts) room fits h =
+      let r = texts-append (spell t) (spell_others ts) h in
+      (tree-names t room fits.0 r.0, others-names ts room fits.1 r.1)
+
+  others-names : (ts : Trees) (room : ℕ) → AreFit room ts → ExpectTexts (spell_others ts) → HaveNames ts
+  others-names no_trees room fits h = tt
+  others-names (more_trees t ts) room fits h =
+      let r = texts-append (spell t) (spell_others ts) h.1 in
+      (tree-names t room fits.0 r.0, others-names ts room fits.1 r.1)
+
+named-names : (name : Spot) (e : Tree) → Fits 100 e → ExpectTexts (spell_named name e) → IsName name.text × HasNames e
+named-names name e fits h = (word-name name.text h.0, tree-names e 100 fits (texts-append (spell e) _ h.1.1).0)
+
+statement-names : (s : Statement) → FitsStatement s → ExpectTexts (spell_statement s) → StatementHasNames s
+statement-names (OpOf name least) fits h = (word-name name.text h.1.0, word-name least.text h.1.1.0)
+statement-names (RuleOf name e) fits h = named-names name e fits h.1
+statement-names (SubjectOf name e) fits h = named-names name e fits h.1
+
+-- statements that are spelled by tokens with texts have names
+pub file-names : (file : List Statement) → AreStatements file → ExpectTexts (spell_file file) → StatementsHaveNames file
+file-names [] fits h = tt
+file-names (s ∷ file) fits h =
+    let r = texts-append (spell_statement s) (spell_file file) h in
+    (statement-names s fits.0 r.0, file-names file fits.1 r.1)

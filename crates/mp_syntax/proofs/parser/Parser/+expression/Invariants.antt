@@ -1,0 +1,25 @@
+use Rattle.std.proofs.Common.{◌≡◌, ◌≤◌, ◌+◌, ◌*◌, List, [], ◌∷◌, length, map}
+use Rattle.mp_syntax.specs.Syntax.{Spot, Statement}
+use Rattle.mp_syntax.specs.Machine.{Heading, Frame, frame, BeforeExpr, run}
+use Rattle.mp_syntax.specs.View.{expr_tree}
+use Rattle.mp_syntax.specs.Reading.{ahead}
+use Rattle.mp_syntax.proofs.parser.Parser.+expression.Given as goal
+
+abbrev pub decreases-arguments : goal.decreases-arguments
+decreases-arguments l = 3 * l.room + 3
+
+abbrev pub decreases-behind_word : goal.decreases-behind_word
+decreases-behind_word l = 3 * l.room + 1
+
+abbrev pub decreases-expr : goal.decreases-expr
+decreases-expr l = 3 * l.room + 2
+
+-- the arguments so far are those that the open application holds
+abbrev pub invariant-arguments-loop-args : goal.invariant-arguments-loop-args
+invariant-arguments-loop-args l = record {
+  read : (done : List Statement) (h : Heading) (k : List Frame) (w : Spot) → length k + l.room ≡ 99 → run done (BeforeExpr h (frame w [] ∷ k)) (ahead l.fn.self) ≡ run done (BeforeExpr h (frame w (map expr_tree l.args.items) ∷ k)) (ahead l.self);
+  shorter : length (ahead l.self) ≤ length (ahead l.fn.self);
+}
+
+abbrev pub decreases-arguments-loop-args : goal.decreases-arguments-loop-args
+decreases-arguments-loop-args l = length (ahead l.self)

@@ -1,0 +1,202 @@
+-- Reading token by token: a state is what is read of a statement, and each token leads on or is refused.
+use Rattle.std.specs.Prelude.{ℕ, zero, suc, Bool, true, false, List, [], ◌∷◌, ◌++◌, length, Option, Some, None, Result, Ok, Err, nat_le, if◌then◌else◌, codes}
+use Rattle.std.specs.Str.{bytes_eq}
+use Rattle.std.specs.List.{list_all}
+use Rattle.std.specs.Char.{is_ascii_digit}
+use Rattle.mp_syntax.specs.declared.place.Place.{Place}
+use Rattle.mp_syntax.specs.declared.token.Punct.{Punct}
+use Rattle.mp_syntax.specs.declared.token.Punct.TheVariants.{Open, Close, OpenSquare, CloseSquare, OpenBrace, CloseBrace, Comma, Semicolon, Colon, Dot, Dollar}
+use Rattle.mp_syntax.specs.declared.fault.FaultKind.{FaultKind}
+use Rattle.mp_syntax.specs.declared.fault.FaultKind.TheVariants.{Syntax, TooDeep, BadByte, TooMany}
+use Rattle.mp_syntax.specs.declared.fault.Fault.{Fault}
+use Rattle.mp_syntax.specs.Tokens as tokens
+use Rattle.mp_syntax.specs.Tokens.{Token, Word, Punctuation, Long, Bad, End, Placed}
+use Rattle.mp_syntax.specs.Syntax.{Spot, Tree, Symbol, Apply, Wild, trees, Statement, OpOf, RuleOf, SubjectOf}
+
+-- ---- tests on tokens
+
+-- the same punctuation character
+abbrev pub same_punct : Punct → Punct → Bool
+same_punct Open Open = true
+same_punct Close Close = true
+same_punct OpenSquare OpenSquare = true
+same_punct CloseSquare CloseSquare = true
+same_punct OpenBrace OpenBrace = true
+same_punct CloseBrace CloseBrace = true
+same_punct Comma Comma = true
+same_punct Semicolon Semicolon = true
+same_punct Colon Colon = true
+same_punct Dot Dot = true
+same_punct Dollar Dollar = true
+same_punct _ _ = false
+
+-- the token is this punctuation character
+abbrev pub is_punct : Punct → Token → Bool
+is_punct p (Punctuation q) = same_punct p q
+is_punct p _ = false
+
+-- the token is the end
+abbrev pub is_end : Token → Bool
+is_end End = true
+is_end _ = false
+
+-- the text of a word
+abbrev pub word_of : Token → Option (List ℕ)
+word_of (Word w) = Some w
+word_of _ = None
+
+-- the name of a named wildcard with one underscore and no kind
+abbrev pub dot_of : Token → Option (List ℕ)
+dot_of (tokens.Wildcard (b ∷ bs) (suc zero) []) = Some (b ∷ bs)
+dot_of _ = None
+
+-- digits alone
+abbrev pub is_number : List ℕ → Bool
+is_number w = list_all is_ascii_digit w
+
+-- ---- states
+
+-- the statements that hold an expression
+pub data Role : Type 0 where
+  OfRule : Role
+  OfSubject : Role
+
+-- the statement of this role
+abbrev pub statement_of : Role → Spot → Tree → Statement
+statement_of OfRule name t = RuleOf name t
+statement_of OfSubject name t = SubjectOf name t
+
+-- an application whose bracket is open: its name, and its arguments so far
+pub record Frame : Type 0 where
+  pub name : Spot
+  pub args : List Tree
+
+-- the statement that an expression is in
+pub record Heading : Type 0 where
+  pub role : Role
+  pub name : Spot
+
+-- what is read of a statement; the innermost open application comes first
+pub data State : Type 0 where
+  Top : State
+  AfterOp : State
+  AfterOpName : Spot → State
+  AfterLeast : Spot → Spot → State
+  AfterRole : Role → State
+  AfterName : Heading → State
+  BeforeExpr : Heading → List Frame → State
+  AfterWord : Heading → List Frame → Spot → State
+  AfterOpen : Heading → List Frame → Spot → State
+  AfterExpr : Heading → List Frame → Tree → State
+
+-- what a token does: it leads on, ends a statement, is refused, or ends the file
+pub data Step : Type 0 where
+  Go : State → Step
+  Emit : Statement → Step
+  Refuse : FaultKind → Step
+  Finish : Step
+
+-- ---- steps
+
+-- why a token is refused where the grammar has another one
+abbrev pub refusal : Token → FaultKind
+refusal Bad = BadByte
+refusal Long = TooMany
+refusal _ = Syntax
+
+-- the token is refused
+abbrev pub refuse : Token → Step
+refuse t = Refuse (refusal t)
+
+-- the text at the place
+abbrev pub spot : List ℕ → Place → Spot
+spot text place = record { text = text; place = place }
+
+-- an application with these arguments so far
+abbrev pub frame : Spot → List Tree → Frame
+frame name args = record { name = name; args = args }
+
+-- only this punctuation character leads on
+abbrev pub on_punct : Punct → Token → Step → Step
+on_punct p t next = if is_punct p t then next else refuse t
+
+-- only a word leads on
+abbrev pub on_word : Placed → (Spot → Step) → Option (List ℕ) → Step
+on_word t next (Some w) = next (spot w t.place)
+on_word t next None = refuse t.token
+
+-- which statement begins with this word
+abbrev pub keyword : List ℕ → Step
+keyword w =
+    if bytes_eq w (codes "op") then Go AfterOp
+    else (if bytes_eq w (codes "rule") then Go (AfterRole OfRule)
+    else (if bytes_eq w (codes "subject") then Go (AfterRole OfSubject)
+    else Refuse Syntax))
+
+-- between statements
+abbrev pub step_top : Placed → Step
+step_top t = if is_end t.token then Finish else on_word t (λ w. keyword w.text) (word_of t.token)
+
+-- a number
+abbrev pub step_number : Spot → Spot → Step
+step_number name w = if is_number w.text then Go (AfterLeast name w) else Refuse Syntax
+
+-- a wildcard
+abbrev pub step_dot : Heading → List Frame → Placed → Option (List ℕ) → Step
+step_dot h k t (Some name) = Go (AfterExpr h k (Wild (record { name = name; marks = 1; kind = []; place = t.place })))
+step_dot h k t None = refuse t.token
+
+-- the first token of an expression
+abbrev pub step_expr : Heading → List Frame → Placed → Option (List ℕ) → Step
+step_expr h k t (Some w) = Go (AfterWord h k (spot w t.place))
+step_expr h k t None = step_dot h k t (dot_of t.token)
+
+-- the token behind an expression
+abbrev pub step_behind : Heading → List Frame → Tree → Token → Step
+step_behind h [] e t = on_punct Semicolon t (Emit (statement_of h.role h.name e))
+step_behind h (f ∷ k) e t =
+    if is_punct Comma t then Go (BeforeExpr h (frame f.name (f.args ++ e ∷ []) ∷ k))
+    else on_punct Close t (Go (AfterExpr h k (Apply f.name (trees (f.args ++ e ∷ [])))))
+
+-- what a token does, where at most limit brackets may stand open
+abbrev pub step_in : ℕ → State → Placed → Step
+step_in limit Top t = step_top t
+step_in limit AfterOp t = on_word t (λ w. Go (AfterOpName w)) (word_of t.token)
+step_in limit (AfterOpName name) t = on_word t (λ w. step_number name w) (word_of t.token)
+step_in limit (AfterLeast name least) t = on_punct Semicolon t.token (Emit (OpOf name least))
+step_in limit (AfterRole role) t = on_word t (λ w. Go (AfterName (record { role = role; name = w }))) (word_of t.token)
+step_in limit (AfterName h) t = on_punct Colon t.token (Go (BeforeExpr h []))
+step_in limit (BeforeExpr h k) t = step_expr h k t (word_of t.token)
+step_in limit (AfterWord h k w) t =
+    if is_punct Open t.token then (if nat_le limit (length k) then Refuse TooDeep else Go (AfterOpen h k w))
+    else step_behind h k (Symbol w) t.token
+step_in limit (AfterOpen h k w) t =
+    if is_punct Close t.token then Go (AfterExpr h k (Apply w (trees [])))
+    else step_expr h (frame w [] ∷ k) t (word_of t.token)
+step_in limit (AfterExpr h k e) t = step_behind h k e t.token
+
+-- what a token does, where at most 100 brackets may stand open
+abbrev pub step : State → Placed → Step
+step = step_in 100
+
+-- ---- runs
+
+-- no place, for a list of tokens that lacks its end
+abbrev pub no_place : Place
+no_place = record { line = 0; column = 0 }
+
+-- what comes of a step, where others reads the tokens behind it
+abbrev pub after_step : List Statement → Place → (List Statement → State → Result (List Statement) Fault) → Step → Result (List Statement) Fault
+after_step done place others (Go at) = others done at
+after_step done place others (Emit s) = others (done ++ s ∷ []) Top
+after_step done place others (Refuse kind) = Err (record { kind = kind; place = place })
+after_step done place others Finish = Ok done
+
+-- the statements that are done and those that the tokens spell from this state on, or the first fault
+abbrev pub run_in : ℕ → List Statement → State → List Placed → Result (List Statement) Fault
+run_in limit done at [] = Err (record { kind = Syntax; place = no_place })
+run_in limit done at (t ∷ ts) = after_step done t.place (λ d a. run_in limit d a ts) (step_in limit at t)
+
+-- the same, where at most 100 brackets may stand open
+abbrev pub run : List Statement → State → List Placed → Result (List Statement) Fault
+run = run_in 100

@@ -1,0 +1,88 @@
+//! Reads expressions.
+
+ghost use Rattle.std.specs.Prelude.{◌<◌, ◌≤◌, length, OnOk};
+ghost use Rattle.mp_syntax.specs.View.{spot_of};
+ghost use Rattle.mp_syntax.specs.Reading.{ahead, ExprGives, WordLeads, ArgumentsGive, items_of};
+
+use crate::fault::{FaultKind, SyntaxError};
+use crate::parser::Parser;
+use crate::place::Spot;
+use crate::token::{Kind, Punct};
+use crate::tree::{Expr, Wildcard};
+use std::alloc::Global;
+
+impl<'a> Parser<'a> {
+    /// Reads an expression, in which at most `room` brackets stand open at once.
+    #[cycle(expression)]
+    pub fn expr(&mut self, alloc: Global, room: usize) -> Result<Expr<'a>, SyntaxError>
+        ensures read { ExprGives room result (ahead self.old) (ahead self.new) }
+        ensures shorter { OnOk result (length (ahead self.new) < length (ahead self.old)) }
+    {
+        let place = self.token.place;
+        match self.token.kind {
+            Kind::Word(text) => {
+                self.advance();
+                self.behind_word(alloc, Spot { text, place }, room)
+            }
+            Kind::Wildcard {
+                name: name @ [_, ..],
+                marks: 1,
+                kind: kind @ [],
+            } => {
+                self.advance();
+                let marks = 1;
+                Ok(Expr::Wild(Wildcard {
+                    name,
+                    marks,
+                    kind,
+                    place,
+                }))
+            }
+            _ => Err(self.refused()),
+        }
+    }
+
+    /// Reads what begins with this word: an application, or a symbol.
+    #[cycle(expression)]
+    fn behind_word(
+        &mut self,
+        alloc: Global,
+        name: Spot<'a>,
+        room: usize,
+    ) -> Result<Expr<'a>, SyntaxError>
+        ensures read { WordLeads room (spot_of name.entry) result (ahead self.old) (ahead self.new) }
+        ensures shorter { OnOk result (length (ahead self.new) ≤ length (ahead self.old)) }
+    {
+        if !self.sees(Punct::Open) {
+            return Ok(Expr::Symbol(name));
+        }
+        if room == 0 {
+            return Err(self.fault(FaultKind::TooDeep));
+        }
+        self.advance();
+        if self.sees(Punct::Close) {
+            self.advance();
+            return Ok(Expr::Apply(name, Vec::new(alloc)));
+        }
+        let args = self.arguments(alloc, room - 1)?;
+        Ok(Expr::Apply(name, args))
+    }
+
+    /// Reads the arguments of an application, at least one, and the bracket that closes it.
+    #[cycle(expression)]
+    fn arguments(&mut self, alloc: Global, room: usize) -> Result<Vec<Expr<'a>>, SyntaxError>
+        ensures read { ArgumentsGive room (items_of result) (ahead self.old) (ahead self.new) }
+        ensures shorter { OnOk result (length (ahead self.new) ≤ length (ahead self.old)) }
+    {
+        let mut args = Vec::new(alloc);
+        loop {
+            args.push(self.expr(alloc, room)?)?;
+            if !self.sees(Punct::Comma) {
+                break;
+            }
+            self.advance();
+        }
+        self.expect(Punct::Close)?;
+        Ok(args)
+    }
+}

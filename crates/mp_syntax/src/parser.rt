@@ -1,0 +1,123 @@
+//! Reads a rule file by recursive descent, with one token held.
+
+ghost use Rattle.std.specs.Prelude.{◌≡◌, ◌<◌, ◌-◌, ◌^◌, ◌∷◌, length, OnOk};
+ghost use Rattle.mp_syntax.specs.Tokens.{first_place};
+ghost use Rattle.mp_syntax.specs.Lexing.{placed, token_of, behind, lexemes};
+ghost use Rattle.mp_syntax.specs.Machine.{is_punct, is_end, is_number, refusal};
+ghost use Rattle.mp_syntax.specs.Reading.{ahead, PunctGives, WordGives, NumberGives};
+
+use crate::fault::{Fault, FaultKind, SyntaxError};
+use crate::lexer::Lexer;
+use crate::place::Spot;
+use crate::token::{Kind, Punct, Token};
+
+/// The token held, and what lies behind it.
+#[derive(Clone, Copy, Debug)]
+pub struct Parser<'a> {
+    pub token: Token<'a>,
+    lexer: Lexer<'a>,
+}
+
+impl<'a> Parser<'a> {
+    /// A parser at the first token of a file of fewer than 4,294,967,295 bytes.
+    pub fn new(bytes: &'a [u8]) -> Parser<'a>
+        requires { length bytes.now < 2 ^ 32 - 1 }
+        ensures { ahead result ≡ lexemes bytes.now first_place }
+    {
+        let mut lexer = Lexer::new(bytes);
+        let token = lexer.next_token();
+        Parser { token, lexer }
+    }
+
+    /// Passes the token that is held. The end stays.
+    pub fn advance(&mut self)
+        ensures { ahead self.old ≡ placed self.old.token ∷ behind (token_of self.old.token.kind) (ahead self.new) }
+    {
+        self.token = self.lexer.next_token();
+    }
+
+    /// The fault of this kind, at the token that is held.
+    pub fn fault(&self, kind: FaultKind) -> SyntaxError
+        ensures { result ≡ SyntaxError.Fault (record { kind = kind; place = self.now.token.place }) }
+    {
+        let place = self.token.place;
+        SyntaxError::Fault(Fault { kind, place })
+    }
+
+    /// The fault that the grammar has another token than the one that is held.
+    pub fn refused(&self) -> SyntaxError
+        ensures { result ≡ SyntaxError.Fault (record { kind = refusal (token_of self.now.token.kind); place = self.now.token.place }) }
+    {
+        match self.token.kind {
+            Kind::Bad => self.fault(FaultKind::BadByte),
+            Kind::Long => self.fault(FaultKind::TooMany),
+            _ => self.fault(FaultKind::Syntax),
+        }
+    }
+
+    /// Whether this punctuation character is held.
+    pub fn sees(&self, punct: Punct) -> bool
+        ensures { result ≡ is_punct punct (token_of self.now.token.kind) }
+    {
+        match self.token.kind {
+            Kind::Punct(held) => held == punct,
+            _ => false,
+        }
+    }
+
+    /// Whether the end is held.
+    pub fn is_at_end(&self) -> bool
+        ensures { result ≡ is_end (token_of self.now.token.kind) }
+    {
+        matches!(self.token.kind, Kind::End)
+    }
+
+    /// Passes this punctuation character, or refuses the token that is held.
+    pub fn expect(&mut self, punct: Punct) -> Result<(), SyntaxError>
+        ensures read { PunctGives (placed self.old.token) punct result (ahead self.old) (ahead self.new) }
+        ensures shorter { OnOk result (length (ahead self.new) < length (ahead self.old)) }
+    {
+        if !self.sees(punct) {
+            return Err(self.refused());
+        }
+        self.advance();
+        Ok(())
+    }
+
+    /// Passes a word and gives it, or refuses the token that is held.
+    pub fn word(&mut self) -> Result<Spot<'a>, SyntaxError>
+        ensures read { WordGives result (ahead self.old) (ahead self.new) }
+        ensures shorter { OnOk result (length (ahead self.new) < length (ahead self.old)) }
+    {
+        match self.token.kind {
+            Kind::Word(text) => {
+                let place = self.token.place;
+                self.advance();
+                Ok(Spot { text, place })
+            }
+            _ => Err(self.refused()),
+        }
+    }
+
+    /// Passes a word of digits alone and gives it, or refuses the token that is held.
+    pub fn number(&mut self) -> Result<Spot<'a>, SyntaxError>
+        ensures read { NumberGives result (ahead self.old) (ahead self.new) }
+        ensures shorter { OnOk result (length (ahead self.new) < length (ahead self.old)) }
+    {
+        match self.token.kind {
+            Kind::Word(text) if is_number(text) => {
+                let place = self.token.place;
+                self.advance();
+                Ok(Spot { text, place })
+            }
+            _ => Err(self.refused()),
+        }
+    }
+}
+
+/// Whether a word is of digits alone.
+fn is_number(word: &[u8]) -> bool
+    ensures { result ≡ is_number word.now }
+{
+    word.iter().all(|byte| byte.is_ascii_digit())
+}

@@ -1,0 +1,168 @@
+//! Reads statements and whole files.
+
+ghost use Rattle.std.specs.Prelude.{◌≡◌, ◌<◌, ◌≤◌, ◌-◌, ◌^◌, ◌↔◌, ℕ, List, Some, Err, false, length, map, OnOk, IfOk, IfErr};
+ghost use Rattle.mp_syntax.specs.Tokens.{first_place};
+ghost use Rattle.mp_syntax.specs.Lexing.{token_of, lexemes};
+ghost use Rattle.mp_syntax.specs.Machine.{is_end, keyword, AfterOp, Top, run};
+ghost use Rattle.mp_syntax.specs.Syntax as syntax;
+ghost use Rattle.mp_syntax.specs.Syntax.{IsSyntaxOf, StatementsHaveNames};
+ghost use Rattle.mp_syntax.specs.View.{statement_tree};
+ghost use Rattle.mp_syntax.specs.Reading.{ahead, StatementFrom, NamedExprGives, KeywordGives, FileGives, keyword_step, reading, syntax_of, IfFault, IsOkOrMemory};
+
+use crate::fault::SyntaxError;
+use crate::parser::Parser;
+use crate::place::Spot;
+use crate::token::{Kind, Punct};
+use crate::tree::{Expr, Statement};
+use std::alloc::Global;
+
+/// How many brackets may stand open at once.
+const MAX_OPEN: usize = 100;
+
+/// What a statement is, by the word that it begins with.
+#[derive(Clone, Copy, Debug)]
+pub enum Keyword {
+    /// `op`
+    Op,
+    /// `rule`
+    Rule,
+    /// `subject`
+    Subject,
+}
+
+/// The statements of a rule file, in order, as syntax trees whose words lie in the file's bytes.
+///
+/// The file has fewer than 4,294,967,295 bytes, so that each line and column is a `u32`. Which
+/// statements bytes are is `IsSyntaxOf` of `specs/Syntax.antt`: at most one list of them.
+///
+/// - `SyntaxError::Memory` comes only where memory runs out.
+/// - `SyntaxError::Fault` comes exactly where the bytes are no statements, with the first fault that
+///   reading token by token meets, by `reading` of `specs/Reading.antt`: at a byte that begins no
+///   token (`BadByte`), a word of more than 64 bytes (`TooMany`), a bracket that an expression opens
+///   while 100 are open (`TooDeep`), or another token that the grammar doesn't have there (`Syntax`),
+///   which at the end of a file that stops within a statement is the end.
+///
+/// After an error nothing is kept.
+pub fn read_statements<'a>(
+    alloc: Global,
+    bytes: &'a [u8],
+) -> Result<Vec<Statement<'a>>, SyntaxError>
+    requires { length bytes.now < 2 ^ 32 - 1 }
+
+    // What is answered is what the bytes are.
+    ensures found { IfOk result (λ v. IsSyntaxOf bytes.now (map statement_tree v.items)) }
+    // Each word of it is 1 to 64 letters and digits.
+    ensures names { IfOk result (λ v. StatementsHaveNames (map statement_tree v.items)) }
+    // What the bytes are is answered, unless memory runs out.
+    ensures only { (file : List syntax.Statement) → IsSyntaxOf bytes.now file → IsOkOrMemory result (λ read. read ≡ file) }
+    // A fault is the one that reading token by token meets.
+    ensures fault { IfErr result (λ e. IfFault e (λ f. reading bytes.now ≡ Err f)) }
+{
+    statements(alloc, bytes)
+}
+
+/// Law: bytes are these statements exactly where `syntax_of` of `specs/Reading.antt` gives them.
+///
+/// So each list of bytes is one list of statements or none. It does nothing when it runs.
+pub fn syntax_is_a_function()
+    ensures { (bytes : List ℕ) (file : List syntax.Statement) → IsSyntaxOf bytes file ↔ (syntax_of bytes ≡ Some file) }
+{}
+
+/// Law: each word of the statements of bytes is 1 to 64 letters and digits.
+///
+/// It does nothing when it runs.
+pub fn syntax_has_names()
+    ensures { (bytes : List ℕ) (file : List syntax.Statement) → IsSyntaxOf bytes file → StatementsHaveNames file }
+{}
+
+/// Reads all statements, or the first fault.
+fn statements<'a>(alloc: Global, bytes: &'a [u8]) -> Result<Vec<Statement<'a>>, SyntaxError>
+    requires { length bytes.now < 2 ^ 32 - 1 }
+    ensures { FileGives result (reading bytes.now) }
+{
+    let mut parser = Parser::new(bytes);
+    let mut statements = Vec::new(alloc);
+    while !parser.is_at_end() {
+        let statement = parser.statement(alloc)?;
+        statements.push(statement)?;
+    }
+    Ok(statements)
+}
+
+impl<'a> Parser<'a> {
+    /// Reads one statement, where the end is not held.
+    fn statement(&mut self, alloc: Global) -> Result<Statement<'a>, SyntaxError>
+        requires { is_end (token_of self.old.token.kind) ≡ false }
+        ensures read { StatementFrom Top result (ahead self.old) (ahead self.new) }
+        ensures shorter { OnOk result (length (ahead self.new) < length (ahead self.old)) }
+    {
+        match self.keyword()? {
+            Keyword::Op => self.op(),
+            Keyword::Rule => {
+                let (name, pattern) = self.named_expr(alloc)?;
+                Ok(Statement::Rule { name, pattern })
+            }
+            Keyword::Subject => {
+                let (name, term) = self.named_expr(alloc)?;
+                Ok(Statement::Subject { name, term })
+            }
+        }
+    }
+
+    /// Reads what follows `op`: a name, a number and the semicolon.
+    fn op(&mut self) -> Result<Statement<'a>, SyntaxError>
+        ensures read { StatementFrom AfterOp result (ahead self.old) (ahead self.new) }
+        ensures shorter { OnOk result (length (ahead self.new) ≤ length (ahead self.old)) }
+    {
+        let name = self.word()?;
+        let least = self.number()?;
+        self.expect(Punct::Semicolon)?;
+        Ok(Statement::Op { name, least })
+    }
+
+    /// Reads a name, a colon, an expression and the semicolon.
+    fn named_expr(&mut self, alloc: Global) -> Result<(Spot<'a>, Expr<'a>), SyntaxError>
+        ensures read { NamedExprGives result (ahead self.old) (ahead self.new) }
+        ensures shorter { OnOk result (length (ahead self.new) ≤ length (ahead self.old)) }
+    {
+        let name = self.word()?;
+        self.expect(Punct::Colon)?;
+        let expr = self.expr(alloc, MAX_OPEN)?;
+        self.expect(Punct::Semicolon)?;
+        Ok((name, expr))
+    }
+
+    /// Reads the word that a statement begins with, where the end is not held.
+    fn keyword(&mut self) -> Result<Keyword, SyntaxError>
+        requires { is_end (token_of self.old.token.kind) ≡ false }
+        ensures read { KeywordGives result (ahead self.old) (ahead self.new) }
+        ensures shorter { OnOk result (length (ahead self.new) < length (ahead self.old)) }
+    {
+        let keyword = match self.token.kind {
+            Kind::Word(word) => keyword_of(word),
+            _ => None,
+        };
+        match keyword {
+            Some(keyword) => {
+                self.advance();
+                Ok(keyword)
+            }
+            None => Err(self.refused()),
+        }
+    }
+}
+
+/// The keyword that a word is.
+fn keyword_of(word: &[u8]) -> Option<Keyword>
+    ensures { keyword_step result ≡ keyword word.now }
+{
+    if word == b"op".as_slice() {
+        Some(Keyword::Op)
+    } else if word == b"rule".as_slice() {
+        Some(Keyword::Rule)
+    } else if word == b"subject".as_slice() {
+        Some(Keyword::Subject)
+    } else {
+        None
+    }
+}
