@@ -1,4 +1,5 @@
 pub mod Again
+mod Examples
 pub mod Fit
 pub mod Found
 pub mod Fronts

@@ -1,11 +1,18 @@
 //! The text of rule files: tokens, grammar, and the reading of statements as syntax trees with places.
 #![tactic(auto)]
 
-pub mod expr;
+mod expr;
 pub mod fault;
-pub mod lexer;
-pub mod parser;
+mod lexer;
+mod parser;
 pub mod place;
 pub mod statement;
+#[cfg(test)]
+mod tests;
 pub mod token;
 pub mod tree;
+
+pub use crate::fault::{Fault, FaultKind, SyntaxError};
+pub use crate::place::{Place, Spot};
+pub use crate::statement::read_statements;
+pub use crate::tree::{Expr, Statement, Wildcard};

@@ -21,7 +21,7 @@ const MAX_OPEN: usize = 100;
 
 /// What a statement is, by the word that it begins with.
 #[derive(Clone, Copy, Debug)]
-pub enum Keyword {
+enum Keyword {
     /// `op`
     Op,
     /// `rule`

@@ -1,0 +1,66 @@
+-- Worked examples, by computing.
+use Rattle.std.proofs.Common.{◌≡◌, ℕ, List, [], ◌∷◌, ◌++◌, map, Option, Some, None, Result, Ok, Err, refl}
+use Rattle.std.specs.Prelude.{codes, replicate}
+use Rattle.mp_syntax.specs.declared.place.Place.{Place}
+use Rattle.mp_syntax.specs.declared.token.Punct.TheVariants.{Dot}
+use Rattle.mp_syntax.specs.declared.fault.Fault.{Fault}
+use Rattle.mp_syntax.specs.declared.fault.FaultKind.{FaultKind}
+use Rattle.mp_syntax.specs.declared.fault.FaultKind.TheVariants as kinds
+use Rattle.mp_syntax.specs.Tokens.{Token, Word, Wildcard, Sign, Arrow, Punctuation, Long, Bad, End, Placed, first_place}
+use Rattle.mp_syntax.specs.Lexing.{lexemes}
+use Rattle.mp_syntax.specs.Syntax.{Spot, Symbol, Apply, Wild, trees, Statement, OpOf, RuleOf, SubjectOf}
+use Rattle.mp_syntax.specs.Reading.{reading}
+
+abbrev at : ℕ → ℕ → Place
+at line column = record { line = line; column = column }
+
+abbrev word : List ℕ → ℕ → ℕ → Spot
+word text line column = record { text = text; place = at line column }
+
+abbrev fault : FaultKind → ℕ → ℕ → Result (List Statement) Fault
+fault kind line column = Err (record { kind = kind; place = at line column })
+
+abbrev tokens_of : List ℕ → List Token
+tokens_of bytes = map (λ (t : Placed). t.token) (lexemes bytes first_place)
+
+-- a file and its statements
+file-read : reading (codes "op f 2;\nrule r: f(x_, a);") ≡ Ok (OpOf (word (codes "f") 1 4) (word (codes "2") 1 6) ∷ RuleOf (word (codes "r") 2 6) (Apply (word (codes "f") 2 9) (trees (Wild (record { name = codes "x"; marks = 1; kind = []; place = at 2 11 }) ∷ Symbol (word (codes "a") 2 15) ∷ []))) ∷ [])
+unfolding lexemes
+file-read = refl
+
+-- a comment runs to the end of its line, whatever stands in it
+comment-read : reading (codes "# a # b;\nsubject s: a; # op") ≡ Ok (SubjectOf (word (codes "s") 2 9) (Symbol (word (codes "a") 2 12)) ∷ [])
+unfolding lexemes
+comment-read = refl
+
+-- four underscores are two tokens, and a kind stands behind a single one alone
+underscores-lexed : tokens_of (codes "x____y x__K") ≡ Wildcard (codes "x") 3 [] ∷ Wildcard [] 1 (codes "y") ∷ Wildcard (codes "x") 2 [] ∷ Word (codes "K") ∷ End ∷ []
+unfolding lexemes
+underscores-lexed = refl
+
+underscores-refused : reading (codes "rule r: x____;") ≡ fault kinds.Syntax 1 9
+unfolding lexemes
+underscores-refused = refl
+
+-- a sign is the longest run, and the arrow is a run of its own
+signs-lexed : tokens_of (codes "-> ->> a->b.") ≡ Arrow ∷ Sign (codes "->>") ∷ Word (codes "a") ∷ Arrow ∷ Word (codes "b") ∷ Punctuation Dot ∷ End ∷ []
+unfolding lexemes
+signs-lexed = refl
+
+-- a word has at most 64 bytes, also within a wildcard
+words-lexed : tokens_of (replicate 64 97 ++ codes " " ++ replicate 65 97 ++ codes " x_" ++ replicate 65 97) ≡ Word (replicate 64 97) ∷ Long ∷ Long ∷ End ∷ []
+unfolding lexemes
+words-lexed = refl
+
+long-refused : reading (codes "op " ++ replicate 65 97 ++ codes " 2;") ≡ fault kinds.TooMany 1 4
+unfolding lexemes
+long-refused = refl
+
+-- a byte that begins no token, and a file that stops within a statement
+bad-refused : reading (codes "op f 2;\n  \\") ≡ fault kinds.BadByte 2 3
+unfolding lexemes
+bad-refused = refl
+
+end-refused : reading (codes "op f 2") ≡ fault kinds.Syntax 1 7
+unfolding lexemes
+end-refused = refl

@@ -1,0 +1,122 @@
+use crate::fault::{FaultKind, SyntaxError};
+use crate::statement::{read_statements, syntax_has_names, syntax_is_a_function};
+use crate::tree::{Expr, Statement};
+use std::alloc::Global;
+use std::test::Fail;
+
+/// The first fault of a text: its kind, line and column.
+type First = Option<(FaultKind, u32, u32)>;
+
+fn first_fault(alloc: Global, text: &[u8]) -> Result<First, Fail> {
+    if text.len() > 1000 {
+        Err("the text is too long")?
+    }
+    match read_statements(alloc, text) {
+        Ok(_) => Ok(None),
+        Err(SyntaxError::Memory) => Err("memory ran out")?,
+        Err(SyntaxError::Fault(fault)) => {
+            Ok(Some((fault.kind, fault.place.line, fault.place.column)))
+        }
+    }
+}
+
+/// `subject s: ` and a word in so many brackets.
+fn nested(alloc: Global, depth: usize) -> Result<Vec<u8>, Fail> {
+    let mut text = Vec::new(alloc);
+    text.extend_from_slice(b"op u 1; subject s: ")?;
+    for _ in 0..depth {
+        text.extend_from_slice(b"u(")?;
+    }
+    text.push(b'a')?;
+    for _ in 0..depth {
+        text.push(b')')?;
+    }
+    text.push(b';')?;
+    Ok(text)
+}
+
+/// `op `, a word of so many bytes, and the rest of the statement.
+fn declared(alloc: Global, length: usize) -> Result<Vec<u8>, Fail> {
+    let mut text = Vec::new(alloc);
+    text.extend_from_slice(b"op ")?;
+    for _ in 0..length {
+        text.push(b'f')?;
+    }
+    text.extend_from_slice(b" 2;")?;
+    Ok(text)
+}
+
+#[test]
+fn texts_are_read_or_refused_at_a_token(rt: HostRuntime) -> Result<(), Fail> {
+    let rows: [(&[u8], First); 27] = [
+        (b"", None),
+        (b" \t\r\n# a comment # and more, to the end", None),
+        (b"op f 2;", None),
+        (b"op op 00;rule rule:subject;subject subject:rule();", None),
+        (b"rule r: f(x_, g(x_, a), b());\nsubject s: f(f(a), 12);", None),
+        (b"# {\nop f 2; # \xc3\xa9\nsubject s: a;", None),
+        (b"subject s: \xc3\xa9;", Some((FaultKind::BadByte, 1, 12))),
+        (b"subject s: (a);", Some((FaultKind::Syntax, 1, 12))),
+        (b"op f 2", Some((FaultKind::Syntax, 1, 7))),
+        (b"op f 2;\n\nop", Some((FaultKind::Syntax, 3, 3))),
+        (b"op f x;", Some((FaultKind::Syntax, 1, 6))),
+        (b"op f 2+;", Some((FaultKind::Syntax, 1, 7))),
+        (b"op f_ 2;", Some((FaultKind::Syntax, 1, 4))),
+        (b"kind k: a;", Some((FaultKind::Syntax, 1, 1))),
+        (b"Op f 2;", Some((FaultKind::Syntax, 1, 1))),
+        (b"rule r: ;", Some((FaultKind::Syntax, 1, 9))),
+        (b"rule r f;", Some((FaultKind::Syntax, 1, 8))),
+        (b"rule r: f(a,);", Some((FaultKind::Syntax, 1, 13))),
+        (b"rule r: f(a b);", Some((FaultKind::Syntax, 1, 13))),
+        (b"rule r: f(a;", Some((FaultKind::Syntax, 1, 12))),
+        (b"rule r: x____;", Some((FaultKind::Syntax, 1, 9))),
+        (b"rule r: x_ _;", Some((FaultKind::Syntax, 1, 12))),
+        (b"rule r: x_K;", Some((FaultKind::Syntax, 1, 9))),
+        (b"rule r: x__;", Some((FaultKind::Syntax, 1, 9))),
+        (b"rule r: _;", Some((FaultKind::Syntax, 1, 9))),
+        (b"rule r: f(x_) -> a;", Some((FaultKind::Syntax, 1, 15))),
+        (b"rule r: f(x_)\r\n\t[a];", Some((FaultKind::Syntax, 2, 2))),
+    ];
+    for (text, wanted) in rows {
+        assert_eq!(rt; first_fault(rt.alloc(), text)?, wanted);
+    }
+    Ok(())
+}
+
+#[test]
+fn limits_are_met_exactly(rt: HostRuntime) -> Result<(), Fail> {
+    let alloc = rt.alloc();
+    assert_eq!(rt; first_fault(alloc, &nested(alloc, 100)?)?, None);
+    let too_deep = Some((FaultKind::TooDeep, 1, 221));
+    assert_eq!(rt; first_fault(alloc, &nested(alloc, 101)?)?, too_deep);
+    assert_eq!(rt; first_fault(alloc, &declared(alloc, 64)?)?, None);
+    let too_long = Some((FaultKind::TooMany, 1, 4));
+    assert_eq!(rt; first_fault(alloc, &declared(alloc, 65)?)?, too_long);
+    Ok(())
+}
+
+#[test]
+fn trees_keep_words_and_places(rt: HostRuntime) -> Result<(), Fail> {
+    syntax_is_a_function();
+    syntax_has_names();
+    let text = b"op f 2;\nrule r:\n  f(x_, a);";
+    let file = read_statements(rt.alloc(), text)?;
+    assert_eq!(rt; file.len(), 2);
+    match file.get(1) {
+        Some(Statement::Rule { name, pattern: Expr::Apply(head, args) }) => {
+            assert_eq!(rt; name.text, b"r".as_slice());
+            assert_eq!(rt; (head.place.line, head.place.column), (3, 3));
+            match args.as_slice() {
+                [Expr::Wild(wildcard), Expr::Symbol(symbol)] => {
+                    assert_eq!(rt; wildcard.name, b"x".as_slice());
+                    assert_eq!(rt; (wildcard.place.line, wildcard.place.column), (3, 5));
+                    assert_eq!(rt; symbol.text, b"a".as_slice());
+                    assert_eq!(rt; (symbol.place.line, symbol.place.column), (3, 9));
+                }
+                _ => Err("not the arguments")?,
+            }
+        }
+        _ => Err("not the rule")?,
+    }
+    Ok(())
+}
