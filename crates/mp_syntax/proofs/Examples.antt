@@ -1,12 +1,12 @@
 -- Worked examples, by computing.
-use Rattle.std.proofs.Common.{◌≡◌, ℕ, List, [], ◌∷◌, ◌++◌, map, Option, Some, None, Result, Ok, Err, refl}
+use Rattle.std.proofs.Common.{◌≡◌, ℕ, List, [], ◌∷◌, ◌++◌, map, Result, Ok, Err, refl}
 use Rattle.std.specs.Prelude.{codes, replicate}
 use Rattle.mp_syntax.specs.declared.place.Place.{Place}
 use Rattle.mp_syntax.specs.declared.token.Punct.TheVariants.{Dot}
 use Rattle.mp_syntax.specs.declared.fault.Fault.{Fault}
 use Rattle.mp_syntax.specs.declared.fault.FaultKind.{FaultKind}
 use Rattle.mp_syntax.specs.declared.fault.FaultKind.TheVariants as kinds
-use Rattle.mp_syntax.specs.Tokens.{Token, Word, Wildcard, Sign, Arrow, Punctuation, Long, Bad, End, Placed, first_place}
+use Rattle.mp_syntax.specs.Tokens.{Token, Word, Wildcard, Sign, Arrow, Punctuation, Long, End, Placed, first_place}
 use Rattle.mp_syntax.specs.Lexing.{lexemes}
 use Rattle.mp_syntax.specs.Syntax.{Spot, Symbol, Apply, Wild, trees, Statement, OpOf, RuleOf, SubjectOf}
 use Rattle.mp_syntax.specs.Reading.{reading}

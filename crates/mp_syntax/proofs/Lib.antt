@@ -9,5 +9,6 @@ pub mod Names
 pub mod Runs
 pub mod Spelling
 pub mod TokensLaw
+pub mod TokensTotal
 pub mod Trees
 pub mod Whole

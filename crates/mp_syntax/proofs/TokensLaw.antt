@@ -272,7 +272,7 @@ at-end (b ∷ bytes) h = absurd (not-end (run_at (b ∷ bytes)).0 (no-end (is_wo
     no-end false false e = punct e
 
 -- the lexer's token is the first token of the relation
-is-first : (bytes : List ℕ) (place : Place) → let next = token_at bytes place in IsToken next.0.token → (f : First bytes place next.0 next.1.0) × (place_after f.text next.0.place ≡ next.1.1)
+pub is-first : (bytes : List ℕ) (place : Place) → let next = token_at bytes place in IsToken next.0.token → (f : First bytes place next.0 next.1.0) × (place_after f.text next.0.place ≡ next.1.1)
 is-first bytes place h =
     let r = blanks-passed bytes false place in
     let rest = (after_blanks false bytes place).0 in

@@ -150,3 +150,25 @@ pub record First (bytes : List ℕ) (place : Place) (t : Placed) (rest : List �
 abbrev pub Tokens : List ℕ → Place → List Placed → Type 0
 Tokens bytes place [] = (inside : Bool) × Passes false bytes inside
 Tokens bytes place (t ∷ ts) = (rest : List ℕ) × (f : First bytes place t rest) × Tokens rest (place_after f.text t.place) ts
+
+-- ---- bytes that are no tokens
+
+-- the bytes begin with one that is no blank, no comment and begins no token
+pub record BeginsNoToken (bytes : List ℕ) : Type 0 where
+  pub first : ℕ
+  pub others : List ℕ
+  pub parts : bytes ≡ first ∷ others
+  pub no_blank : is_blank first ≡ false
+  pub no_comment : first ≢ 35
+  pub no_token : (text rest : List ℕ) (t : Token) → bytes ≡ text ++ rest → Spells text t → ⊥
+
+-- the bytes are these tokens with blanks and comments between them, and then a byte at this place that begins none
+abbrev pub TokensUntil : List ℕ → Place → List Placed → Place → Type 0
+TokensUntil bytes place [] stop = (gap rest : List ℕ) × (bytes ≡ gap ++ rest) × Passes false gap false × BeginsNoToken rest × (stop ≡ place_after gap place)
+TokensUntil bytes place (t ∷ ts) stop = (rest : List ℕ) × (f : First bytes place t rest) × TokensUntil rest (place_after f.text t.place) ts stop
+
+-- the bytes are tokens up to a byte that begins none
+pub record StopsEarly (bytes : List ℕ) (place : Place) : Type 0 where
+  pub tokens : List Placed
+  pub stop : Place
+  pub until : TokensUntil bytes place tokens stop

@@ -1,5 +1,6 @@
 use crate::fault::{FaultKind, SyntaxError};
 use crate::statement::{read_statements, syntax_has_names, syntax_is_a_function};
+use crate::token::{tokens_are_total, tokens_are_unique};
 use crate::tree::{Expr, Statement};
 use std::alloc::Global;
 use std::test::Fail;
@@ -53,7 +54,10 @@ fn texts_are_read_or_refused_at_a_token(rt: HostRuntime) -> Result<(), Fail> {
         (b" \t\r\n# a comment # and more, to the end", None),
         (b"op f 2;", None),
         (b"op op 00;rule rule:subject;subject subject:rule();", None),
-        (b"rule r: f(x_, g(x_, a), b());\nsubject s: f(f(a), 12);", None),
+        (
+            b"rule r: f(x_, g(x_, a), b());\nsubject s: f(f(a), 12);",
+            None,
+        ),
         (b"# {\nop f 2; # \xc3\xa9\nsubject s: a;", None),
         (b"subject s: \xc3\xa9;", Some((FaultKind::BadByte, 1, 12))),
         (b"subject s: (a);", Some((FaultKind::Syntax, 1, 12))),
@@ -99,11 +103,18 @@ fn limits_are_met_exactly(rt: HostRuntime) -> Result<(), Fail> {
 fn trees_keep_words_and_places(rt: HostRuntime) -> Result<(), Fail> {
     syntax_is_a_function();
     syntax_has_names();
+    tokens_are_unique();
+    tokens_are_total();
     let text = b"op f 2;\nrule r:\n  f(x_, a);";
     let file = read_statements(rt.alloc(), text)?;
     assert_eq!(rt; file.len(), 2);
     match file.get(1) {
-        Some(Statement::Rule { name, pattern: Expr::Apply(head, args) }) => {
+        Some(
+            Statement::Rule {
+                name,
+                pattern: Expr::Apply(head, args),
+            },
+        ) => {
             assert_eq!(rt; name.text, b"r".as_slice());
             assert_eq!(rt; (head.place.line, head.place.column), (3, 3));
             match args.as_slice() {

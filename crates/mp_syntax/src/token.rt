@@ -1,5 +1,9 @@
 //! The tokens of a rule file.
 
+ghost use Rattle.std.specs.Prelude.{◌≡◌, ◌⊎◌, ℕ, List};
+ghost use Rattle.mp_syntax.specs.declared.place.Place as places;
+ghost use Rattle.mp_syntax.specs.Tokens.{Placed, Tokens, StopsEarly};
+
 use crate::place::Place;
 
 /// A punctuation character, which is a token by itself.
@@ -67,3 +71,17 @@ pub struct Token<'a> {
     /// The place of its first byte; at the end of the file the place just after the last byte.
     pub place: Place,
 }
+
+/// Law: bytes have at most one list of tokens, by `Tokens` of `specs/Tokens.antt`.
+///
+/// It does nothing when it runs.
+pub fn tokens_are_unique()
+    ensures { (bytes : List ℕ) (place : places.Place) (ts us : List Placed) → Tokens bytes place ts → Tokens bytes place us → ts ≡ us }
+{}
+
+/// Law: bytes have tokens, or tokens up to a byte that begins none, by `StopsEarly` of `specs/Tokens.antt`.
+///
+/// It does nothing when it runs.
+pub fn tokens_are_total()
+    ensures { (bytes : List ℕ) (place : places.Place) → ((ts : List Placed) × Tokens bytes place ts) ⊎ StopsEarly bytes place }
+{}
