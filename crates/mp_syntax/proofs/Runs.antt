@@ -10,7 +10,7 @@ use Rattle.mp_syntax.specs.Tokens.{Token, Word, Wildcard, Sign, Arrow, Punctuati
 use Rattle.mp_syntax.specs.Lexing.{behind}
 use Rattle.mp_syntax.specs.Syntax.{Spot, Tree, Apply, trees, Statement}
 use Rattle.mp_syntax.specs.Machine.{State, Role, Step, Go, Heading, Frame, frame, BeforeExpr, AfterWord, AfterOpen, AfterExpr, is_punct, word_of, refuse, on_punct, step, step_expr, run}
-use Rattle.mp_syntax.specs.Reading.{onward, WantsPunct, Fails}
+use Rattle.mp_syntax.specs.Parsing.{onward, WantsPunct, Fails}
 
 -- behind a punctuation character lie the other tokens
 pub behind-punct : (p : Punct) (t : Token) (ts : List Placed) → is_punct p t ≡ true → behind t ts ≡ ts

@@ -11,7 +11,8 @@ use Rattle.mp_syntax.specs.Lexing.{lexemes, token_at, behind}
 use Rattle.mp_syntax.specs.Syntax.{Tree, Symbol, Apply, Wild, Trees, no_trees, more_trees, Statement, OpOf, RuleOf, SubjectOf, Expected, Said, Stands, AllMatch, spell, spell_first, spell_others, spell_statement, spell_file, IsSyntaxOf, StatementsHaveNames}
 use Rattle.mp_syntax.specs.View.{statement_tree}
 use Rattle.mp_syntax.specs.Machine.{Top, run}
-use Rattle.mp_syntax.specs.Reading.{reading, read_value, syntax_of, FileGives, IfFault, IsOkOrMemory}
+use Rattle.mp_syntax.specs.Parsing.{FileGives}
+use Rattle.mp_syntax.specs.Reading.{reading, read_value, syntax_of, IfFault, IsOkOrMemory}
 use Rattle.mp_syntax.proofs.Longest.{IsToken}
 use Rattle.mp_syntax.proofs.Fuel.{lexemes-step}
 use Rattle.mp_syntax.proofs.TokensLaw.{AreTokens, behind-token, end_at, head-is, tail-is, tokens-lexemes, lexemes-tokens}

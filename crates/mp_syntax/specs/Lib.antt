@@ -5,3 +5,4 @@ pub mod Lexing
 pub mod Machine
 pub mod Partial
 pub mod Reading
+pub mod Parsing

@@ -2,7 +2,7 @@
 
 ghost use Rattle.std.specs.Prelude.{◌<◌, ◌≤◌, length, OnOk};
 ghost use Rattle.mp_syntax.specs.View.{spot_of};
-ghost use Rattle.mp_syntax.specs.Reading.{ahead, ExprGives, WordLeads, ArgumentsGive, items_of};
+ghost use Rattle.mp_syntax.specs.Parsing.{ahead, ExprGives, WordLeads, ArgumentsGive, items_of};
 
 use crate::fault::{FaultKind, SyntaxError};
 use crate::parser::Parser;

@@ -4,7 +4,7 @@ ghost use Rattle.std.specs.Prelude.{◌≡◌, ◌<◌, ◌-◌, ◌^◌, ◌∷
 ghost use Rattle.mp_syntax.specs.Tokens.{first_place};
 ghost use Rattle.mp_syntax.specs.Lexing.{placed, token_of, behind, lexemes};
 ghost use Rattle.mp_syntax.specs.Machine.{is_punct, is_end, is_number, refusal};
-ghost use Rattle.mp_syntax.specs.Reading.{ahead, PunctGives, WordGives, NumberGives};
+ghost use Rattle.mp_syntax.specs.Parsing.{ahead, PunctGives, WordGives, NumberGives};
 
 use crate::fault::{Fault, FaultKind, SyntaxError};
 use crate::lexer::Lexer;

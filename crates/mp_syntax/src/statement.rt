@@ -7,7 +7,8 @@ ghost use Rattle.mp_syntax.specs.Machine.{is_end, keyword, AfterOp, Top, run};
 ghost use Rattle.mp_syntax.specs.Syntax as syntax;
 ghost use Rattle.mp_syntax.specs.Syntax.{IsSyntaxOf, StatementsHaveNames};
 ghost use Rattle.mp_syntax.specs.View.{statement_tree};
-ghost use Rattle.mp_syntax.specs.Reading.{ahead, StatementFrom, NamedExprGives, KeywordGives, FileGives, keyword_step, reading, syntax_of, IfFault, IsOkOrMemory};
+ghost use Rattle.mp_syntax.specs.Parsing.{ahead, StatementFrom, NamedExprGives, KeywordGives, FileGives, keyword_step};
+ghost use Rattle.mp_syntax.specs.Reading.{reading, syntax_of, IfFault, IsOkOrMemory};
 
 use crate::fault::SyntaxError;
 use crate::parser::Parser;
@@ -35,7 +36,7 @@ enum Keyword {
 /// The file has fewer than 4,294,967,295 bytes, so that each line and column is a `u32`. Which
 /// statements bytes are is `IsSyntaxOf` of `specs/Syntax.antt`: at most one list of them.
 ///
-/// - `SyntaxError::Memory` comes only where memory runs out.
+/// - `SyntaxError::Memory` comes where memory runs out.
 /// - `SyntaxError::Fault` comes exactly where the bytes are no statements, with the first fault that
 ///   reading token by token meets, by `reading` of `specs/Reading.antt`: at a byte that begins no
 ///   token (`BadByte`), a word of more than 64 bytes (`TooMany`), a bracket that an expression opens

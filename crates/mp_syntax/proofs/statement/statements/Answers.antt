@@ -2,7 +2,7 @@ use Rattle.std.proofs.Common.{sym, ap, ◌∙◌, map}
 use Rattle.std.proofs.lemmas.List.{map_push}
 use Rattle.mp_syntax.specs.Machine.{Top, run}
 use Rattle.mp_syntax.specs.View.{statement_tree}
-use Rattle.mp_syntax.specs.Reading.{ahead}
+use Rattle.mp_syntax.specs.Parsing.{ahead}
 use Rattle.mp_syntax.proofs.statement.statements.Goals as goal
 
 pub loop-parser-preserved : goal.loop-parser-preserved

@@ -1,7 +1,8 @@
 use Rattle.std.proofs.Common.{◌≡◌, map, length}
 use Rattle.mp_syntax.specs.Machine.{Top, run}
 use Rattle.mp_syntax.specs.View.{statement_tree}
-use Rattle.mp_syntax.specs.Reading.{ahead, reading}
+use Rattle.mp_syntax.specs.Parsing.{ahead}
+use Rattle.mp_syntax.specs.Reading.{reading}
 use Rattle.mp_syntax.proofs.statement.statements.Given as goal
 
 -- what is read from here on, behind the statements so far, is what is read from the start

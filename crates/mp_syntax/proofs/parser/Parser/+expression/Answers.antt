@@ -6,7 +6,7 @@ use Rattle.mp_syntax.specs.Lexing.{placed}
 use Rattle.mp_syntax.specs.Machine.{AfterExpr, AfterWord, AfterOpen, frame, run}
 use Rattle.mp_syntax.specs.Syntax.{Apply, trees}
 use Rattle.mp_syntax.specs.View.{spot_of, expr_tree}
-use Rattle.mp_syntax.specs.Reading.{ahead}
+use Rattle.mp_syntax.specs.Parsing.{ahead}
 use Rattle.mp_syntax.proofs.Runs.{expr-closes, fails-along, word-opens, open-closes, open-expr, over-punct}
 use Rattle.mp_syntax.proofs.Trees.{expr_tree-Apply}
 use Rattle.mp_syntax.proofs.parser.Parser.+expression.Goals as goal

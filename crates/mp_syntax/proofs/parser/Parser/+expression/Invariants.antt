@@ -2,7 +2,7 @@ use Rattle.std.proofs.Common.{◌≡◌, ◌≤◌, ◌+◌, ◌*◌, List, [], 
 use Rattle.mp_syntax.specs.Syntax.{Spot, Statement}
 use Rattle.mp_syntax.specs.Machine.{Heading, Frame, frame, BeforeExpr, run}
 use Rattle.mp_syntax.specs.View.{expr_tree}
-use Rattle.mp_syntax.specs.Reading.{ahead}
+use Rattle.mp_syntax.specs.Parsing.{ahead}
 use Rattle.mp_syntax.proofs.parser.Parser.+expression.Given as goal
 
 abbrev pub decreases-arguments : goal.decreases-arguments
