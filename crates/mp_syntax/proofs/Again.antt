@@ -309,21 +309,21 @@ flags-begin (Infixed sign ∷ flags) [] h = absurd h
 flags-begin (Infixed sign ∷ flags) (t ∷ ts) h = record { token = t; others = ts; parts = refl; no_plus = ap (is_sign (codes "+")) h.0 }
 
 -- a token that is no plus is the first of the flags
-no-plus : (done : List Statement) (name least : Spot) (t : Placed) (us : List Placed) → is_sign (codes "+") t.token ≡ false → run done (AfterLeast name least) (t ∷ us) ≡ run done (AfterFlags (declared name least false)) (t ∷ us)
-no-plus done name least t us h = ap (λ b. after_step done t.place (λ d a. run d a us) (cond b (Go (AfterFlags (declared name least true))) (step_flags (declared name least false) t))) h
+no-plus : (done : List Statement) (name least : Spot) (t : Placed) (us : List Placed) → is_sign (codes "+") t.token ≡ false → run done (AfterLeast name least) (t ∷ us) ≡ run done (AfterFlags (declared name least false [])) (t ∷ us)
+no-plus done name least t us h = ap (λ b. after_step done t.place (λ d a. run d a us) (cond b (Go (AfterFlags (declared name least true []))) (step_flags (declared name least false []) t))) h
 
 -- what follows the number of an operation is read
 least-again : (done : List Statement) (name least : Spot) (more : Bool) (flags : List Flag) (ts us : List Placed) → AllMatch ts (spell_plus more ++ (flat_map spell_flag flags ++ semicolon ∷ [])) → run done (AfterLeast name least) (ts ++ us) ≡ run (done ++ OpOf name least more flags ∷ []) Top us
 least-again done name least true flags [] us h = absurd h
 least-again done name least true flags (t ∷ ts) us h =
-    over done (AfterLeast name least) (AfterFlags (declared name least true)) t (ts ++ us) (ap (λ b. cond b (Go (AfterFlags (declared name least true))) (step_flags (declared name least false) t)) (ap (is_sign (codes "+")) h.0))
-    ∙ flags-again done flags (declared name least true) ts us h.1
+    over done (AfterLeast name least) (AfterFlags (declared name least true [])) t (ts ++ us) (ap (λ b. cond b (Go (AfterFlags (declared name least true []))) (step_flags (declared name least false []) t)) (ap (is_sign (codes "+")) h.0))
+    ∙ flags-again done flags (declared name least true []) ts us h.1
 least-again done name least false flags ts us h =
     let b = flags-begin flags ts h in
     ap (λ l. run done (AfterLeast name least) (l ++ us)) b.parts
     ∙ no-plus done name least b.token (b.others ++ us) b.no_plus
-    ∙ ap (λ l. run done (AfterFlags (declared name least false)) (l ++ us)) (sym b.parts)
-    ∙ flags-again done flags (declared name least false) ts us h
+    ∙ ap (λ l. run done (AfterFlags (declared name least false [])) (l ++ us)) (sym b.parts)
+    ∙ flags-again done flags (declared name least false []) ts us h
 
 -- members behind others, and the semicolon, are read
 members-again : (done : List Statement) (name : Spot) (members before : List Spot) (ts us : List Placed) → AllMatch ts (map spelled_word members ++ semicolon ∷ []) → run done (AfterMember name before) (ts ++ us) ≡ run (done ++ KindOf name (before ++ members) ∷ []) Top us

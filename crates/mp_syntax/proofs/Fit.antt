@@ -127,7 +127,7 @@ step-fits (AfterOpName name) t h = text-fits t (λ w. step_number name w) (word_
     go : (w : Spot) (b : Bool) → is_number w.text ≡ b → StepFits (cond b (Go (AfterLeast name w)) (Refuse Syntax))
     go w true e = e
     go w false e = tt
-step-fits (AfterLeast name least) t h = if-fits (is_sign (codes "+") t.token) (Go (AfterFlags (declared name least true))) _ h (flags-fit (declared name least false) t h)
+step-fits (AfterLeast name least) t h = if-fits (is_sign (codes "+") t.token) (Go (AfterFlags (declared name least true []))) _ h (flags-fit (declared name least false []) t h)
 step-fits (AfterFlags d) t h = flags-fit d t h
 step-fits (AfterInfix d) t h = text-fits t (λ sign. Go (AfterFlags (with_flag d (Infixed sign)))) (sign_of t.token) (λ sign. h)
 step-fits AfterKind t h = text-fits t (λ w. Go (AfterKindName w)) (word_of t.token) (λ w. tt)

@@ -205,7 +205,7 @@ adds (AfterOpName name) t = adds-word (λ w. step_number name w) t (so_far (Afte
     go : (w : List ℕ) → Matches t (spelled_word (spot w t.place)) → (b : Bool) → Adds (cond b (Go (AfterLeast name (spot w t.place))) (Refuse Syntax)) (so_far (AfterOpName name)) t
     go w is true = (spelled_word (spot w t.place), is, refl)
     go w is false = tt
-adds (AfterLeast name least) t = adds-sign (codes "+") t _ _ (so_far (AfterLeast name least)) (λ is. (Said (Sign (codes "+")), is, refl)) (adds-flags (declared name least false) t)
+adds (AfterLeast name least) t = adds-sign (codes "+") t _ _ (so_far (AfterLeast name least)) (λ is. (Said (Sign (codes "+")), is, refl)) (adds-flags (declared name least false []) t)
 adds (AfterFlags d) t = adds-flags d t
 adds (AfterInfix d) t = adds-any_sign (λ sign. Go (AfterFlags (with_flag d (Infixed sign)))) t (so_far (AfterInfix d))
     (λ s is. (spelled_sign (spot s t.place), is, spell_declared-with_flag d (Infixed (spot s t.place)) ∙ sym (append_assoc (spell_declared d) (fixed_word (codes "infix") ∷ []) (spelled_sign (spot s t.place) ∷ []))))

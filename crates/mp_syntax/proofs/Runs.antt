@@ -29,18 +29,17 @@ behind-punct p Bad ts h = refl
 pub one-step : (done : List Statement) (at : State) (t : Placed) (new : List Placed) (s : Step) → behind t.token new ≡ new → step at t ≡ s → run done at (t ∷ behind t.token new) ≡ onward t.place done s new
 one-step done at t new s e f = ap (λ ts. onward t.place done (step at t) ts) e ∙ ap (λ s. onward t.place done s new) f
 
+-- a step over a punctuation character
+pub over-punct : (p : Punct) (t : Placed) (old new : List Placed) → old ≡ t ∷ behind t.token new → is_punct p t.token ≡ true → (done : List Statement) (at : State) (next : Step) → step at t ≡ next → run done at old ≡ onward t.place done next new
+over-punct p t old new e h done at next f = ap (run done at) e ∙ one-step done at t new next (behind-punct p t.token new h) f
+
 -- a punctuation character that the state has
 pub passes-punct : (p : Punct) (t : Placed) (old new : List Placed) → old ≡ t ∷ behind t.token new → is_punct p t.token ≡ true → (done : List Statement) (at : State) (next : Step) → WantsPunct t at p next → run done at old ≡ onward t.place done next new
-passes-punct p t old new e h done at next wants =
-    ap (run done at) e ∙ one-step done at t new next (behind-punct p t.token new h) (wants ∙ ap (λ b. cond b next (refuse t.token)) h)
+passes-punct p t old new e h done at next wants = over-punct p t old new e h done at next (wants ∙ ap (λ b. cond b next (refuse t.token)) h)
 
 -- what passes a punctuation character leaves one token less
 pub length-passed : (p : Punct) (t : Placed) (old new : List Placed) → old ≡ t ∷ behind t.token new → is_punct p t.token ≡ true → length old ≡ suc (length new)
 length-passed p t old new e h = ap length (e ∙ ap (λ ts. t ∷ ts) (behind-punct p t.token new h))
-
--- a step over a punctuation character
-pub over-punct : (p : Punct) (t : Placed) (old new : List Placed) → old ≡ t ∷ behind t.token new → is_punct p t.token ≡ true → (done : List Statement) (at next : State) → step at t ≡ Go next → run done at old ≡ run done next new
-over-punct p t old new e h done at next f = ap (run done at) e ∙ one-step done at t new (Go next) (behind-punct p t.token new h) f
 
 -- behind a sign lie the other tokens
 pub behind-sign : (text : List ℕ) (t : Token) (ts : List Placed) → is_sign text t ≡ true → behind t ts ≡ ts
@@ -96,6 +95,10 @@ bracket-opens h k t room len some e = bracket-step h k t e ∙ ap (λ b. cond b 
 -- behind a member of a kind, where no semicolon follows, there is another member
 pub member-again : (done : List Statement) (name : Spot) (members : List Spot) (t : Placed) (ts : List Placed) → is_punct Semicolon t.token ≡ false → run done (AfterMember name members) (t ∷ ts) ≡ run done (BeforeMember name members) (t ∷ ts)
 member-again done name members t ts e = ap (λ b. onward t.place done (cond b (Emit (KindOf name members)) (on_word t (λ w. Go (AfterMember name (members ++ w ∷ []))))) ts) e
+
+-- behind a member of a kind the semicolon ends the statement
+pub members-end : (name : Spot) (members : List Spot) (t : Placed) → is_punct Semicolon t.token ≡ true → step (AfterMember name members) t ≡ Emit (KindOf name members)
+members-end name members t e = ap (λ b. cond b (Emit (KindOf name members)) (on_word t (λ w. Go (AfterMember name (members ++ w ∷ []))))) e
 
 -- the heading of an expression
 abbrev pub heading : Role → Spot → Heading

@@ -171,13 +171,13 @@ step_top t = if is_end t.token then Finish else on_word t (λ w. keyword w.text)
 abbrev pub step_number : Spot → Spot → Step
 step_number name w = if is_number w.text then Go (AfterLeast name w) else Refuse Syntax
 
--- an operation without flags
-abbrev pub declared : Spot → Spot → Bool → Declared
-declared name least more = record { name = name; least = least; more = more; flags = [] }
+-- an operation with these flags so far
+abbrev pub declared : Spot → Spot → Bool → List Flag → Declared
+declared name least more flags = record { name = name; least = least; more = more; flags = flags }
 
 -- one flag more
 abbrev pub with_flag : Declared → Flag → Declared
-with_flag d f = record { name = d.name; least = d.least; more = d.more; flags = d.flags ++ f ∷ [] }
+with_flag d f = declared d.name d.least d.more (d.flags ++ f ∷ [])
 
 -- which flag begins with this word
 abbrev pub step_flag : Declared → List ℕ → Step
@@ -233,8 +233,8 @@ step_in limit Top t = step_top t
 step_in limit AfterOp t = on_word t (λ w. Go (AfterOpName w))
 step_in limit (AfterOpName name) t = on_word t (λ w. step_number name w)
 step_in limit (AfterLeast name least) t =
-    if is_sign (codes "+") t.token then Go (AfterFlags (declared name least true))
-    else step_flags (declared name least false) t
+    if is_sign (codes "+") t.token then Go (AfterFlags (declared name least true []))
+    else step_flags (declared name least false []) t
 step_in limit (AfterFlags d) t = step_flags d t
 step_in limit (AfterInfix d) t = on_sign t (λ sign. Go (AfterFlags (with_flag d (Infixed sign))))
 step_in limit AfterKind t = on_word t (λ w. Go (AfterKindName w))

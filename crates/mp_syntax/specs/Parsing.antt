@@ -60,7 +60,7 @@ NumberGives (Err e) old new = (done : List Statement) (name : Spot) → Fails e 
 
 -- a plus behind the number is passed, where it stands there
 abbrev pub PlusGives : Bool → List Placed → List Placed → Type 0
-PlusGives more old new = (done : List Statement) (name least : Spot) → run done (AfterLeast name least) old ≡ run done (AfterFlags (declared name least more)) new
+PlusGives more old new = (done : List Statement) (name least : Spot) → run done (AfterLeast name least) old ≡ run done (AfterFlags (declared name least more [])) new
 
 -- the state behind the word of a flag
 abbrev pub behind_flag_word : Declared → FlagWord → State
@@ -86,8 +86,8 @@ FlagGives (Err e) old new = (done : List Statement) (d : Declared) → Fails e (
 
 -- flags and the semicolon are passed, or the first fault is given
 abbrev pub FlagsGive : Result (List code_flag.Flag) SyntaxError → List Placed → List Placed → Type 0
-FlagsGive (Ok fs) old new = (done : List Statement) (name least : Spot) (more : Bool) → run done (AfterFlags (declared name least more)) old ≡ run (done ++ OpOf name least more (map flag_of fs) ∷ []) Top new
-FlagsGive (Err e) old new = (done : List Statement) (name least : Spot) (more : Bool) → Fails e (run done (AfterFlags (declared name least more)) old)
+FlagsGive (Ok fs) old new = (done : List Statement) (name least : Spot) (more : Bool) → run done (AfterFlags (declared name least more [])) old ≡ run (done ++ OpOf name least more (map flag_of fs) ∷ []) Top new
+FlagsGive (Err e) old new = (done : List Statement) (name least : Spot) (more : Bool) → Fails e (run done (AfterFlags (declared name least more [])) old)
 
 -- the members of a kind and the semicolon are passed, or the first fault is given
 abbrev pub MembersGive : Result (List code_spot.Spot) SyntaxError → List Placed → List Placed → Type 0
