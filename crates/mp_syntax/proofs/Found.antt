@@ -12,7 +12,7 @@ use Rattle.mp_syntax.specs.declared.fault.Fault.{Fault}
 use Rattle.mp_syntax.specs.declared.fault.FaultKind.TheVariants.{Syntax, TooDeep}
 use Rattle.mp_syntax.specs.Tokens.{Token, Word, Wildcard, Sign, Punctuation, End, Placed}
 use Rattle.mp_syntax.specs.Syntax.{Spot, Tree, Symbol, trees, Flag, Assoc, Comm, One, Infixed, Statement, Expected, Said, Stands, Matches, AllMatch, spell, spell_first, spell_others, spell_plus, spell_flag, spell_statement, spell_file, spelled_word, spelled_sign, another, fixed_word, comma, closing, semicolon}
-use Rattle.mp_syntax.specs.Machine.{Role, OfRule, OfSubject, statement_of, Frame, Arguments, Bracket, Operands, Declared, declared, with_flag, Heading, State, Top, AfterOp, AfterOpName, AfterLeast, AfterFlags, AfterInfix, AfterKind, AfterKindName, BeforeMember, AfterMember, AfterRole, AfterName, BeforeExpr, AfterWord, AfterOpen, AfterExpr, Step, Go, Emit, Refuse, Finish, is_punct, same_punct, is_sign, is_end, word_of, sign_of, dot_of, is_number, keyword, spot, refuse, on_text, on_word, on_sign, step, step_number, step_flag, step_flags, step_members, step_open, step_expr, step_behind, step_dot, after_step, run}
+use Rattle.mp_syntax.specs.Machine.{Role, OfRule, OfSubject, statement_of, Frame, Arguments, Bracket, Operands, Declared, declared, with_flag, Heading, State, Top, AfterOp, AfterOpName, AfterLeast, AfterFlags, AfterInfix, AfterKind, AfterKindName, BeforeMember, AfterMember, AfterRole, AfterName, BeforeExpr, AfterWord, AfterOpen, AfterExpr, Step, Go, Emit, Refuse, Finish, is_punct, same_punct, is_sign, is_end, word_of, sign_of, dot_of, is_number, keyword, spot, refuse, on_text, on_word, on_sign, step, step_number, step_flag, step_flags, step_open, step_expr, step_behind, step_dot, after_step, run}
 use Rattle.mp_syntax.specs.Partial.{spell_before, spell_declared, so_far}
 
 -- ---- what a test on a token says

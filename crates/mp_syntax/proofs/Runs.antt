@@ -1,5 +1,5 @@
 -- Steps of the machine, and runs over one token.
-use Rattle.std.proofs.Common.{◌≡◌, ℕ, suc, ◌+◌, ◌<◌, true, false, cond, List, [], ◌∷◌, ◌++◌, length, Option, None, Result, refl, ap, ◌∙◌, arith, leb}
+use Rattle.std.proofs.Common.{◌≡◌, ℕ, suc, ◌+◌, ◌<◌, true, false, cond, List, [], ◌∷◌, ◌++◌, length, None, Result, refl, ap, ◌∙◌, arith}
 use Rattle.std.proofs.lemmas.Bool.{lt-leb}
 use Rattle.mp_syntax.specs.declared.place.Place.{Place}
 use Rattle.mp_syntax.specs.declared.token.Punct.{Punct}
@@ -40,15 +40,6 @@ passes-punct p t old new e h done at next wants = over-punct p t old new e h don
 -- what passes a punctuation character leaves one token less
 pub length-passed : (p : Punct) (t : Placed) (old new : List Placed) → old ≡ t ∷ behind t.token new → is_punct p t.token ≡ true → length old ≡ suc (length new)
 length-passed p t old new e h = ap length (e ∙ ap (λ ts. t ∷ ts) (behind-punct p t.token new h))
-
--- behind a sign lie the other tokens
-pub behind-sign : (text : List ℕ) (t : Token) (ts : List Placed) → is_sign text t ≡ true → behind t ts ≡ ts
-behind-sign text (Sign s) ts h = refl
-behind-sign text _ ts h = absurd cc
-
--- a step over a sign
-pub over-sign : (text : List ℕ) (t : Placed) (old new : List Placed) → old ≡ t ∷ behind t.token new → is_sign text t.token ≡ true → (done : List Statement) (at next : State) → step at t ≡ Go next → run done at old ≡ run done next new
-over-sign text t old new e h done at next f = ap (run done at) e ∙ one-step done at t new (Go next) (behind-sign text t.token new h) f
 
 -- behind an argument that is read, where no comma follows, the bracket closes
 pub expr-closes : (h : Heading) (name : Spot) (args : List Tree) (k : List Frame) (e : Tree) (t : Placed) → is_punct Comma t.token ≡ false → WantsPunct t (AfterExpr h (Arguments name args ∷ k) e) Close (Go (AfterExpr h k (Apply name (trees (args ++ e ∷ [])))))

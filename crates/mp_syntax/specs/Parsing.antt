@@ -20,7 +20,7 @@ use Rattle.mp_syntax.specs.Tokens.{Token, Placed}
 use Rattle.mp_syntax.specs.Lexing.{placed, behind, lexemes, token_of}
 use Rattle.mp_syntax.specs.Syntax.{Spot, Tree, Apply, InfixOf, Assoc, Comm, One, OpOf, KindOf, Statement, trees}
 use Rattle.mp_syntax.specs.View.{spot_of, flag_of, expr_tree, statement_tree}
-use Rattle.mp_syntax.specs.Machine.{State, Top, AfterOp, AfterOpName, AfterLeast, AfterFlags, AfterInfix, AfterKind, BeforeMember, AfterRole, BeforeExpr, AfterWord, AfterExpr, Step, Go, Refuse, Role, OfRule, OfSubject, statement_of, Heading, Frame, Arguments, Operands, Declared, declared, with_flag, step_flag, on_punct, on_text, word_of, step, after_step, run}
+use Rattle.mp_syntax.specs.Machine.{State, Top, AfterOp, AfterOpName, AfterLeast, AfterFlags, AfterInfix, AfterKind, BeforeMember, AfterRole, BeforeExpr, AfterWord, AfterExpr, Step, Go, Refuse, Role, OfRule, OfSubject, statement_of, Heading, Frame, Arguments, Operands, Declared, declared, with_flag, on_punct, on_text, step, after_step, run}
 
 -- the tokens from the one held on
 abbrev pub ahead : Parser → List Placed

@@ -54,7 +54,7 @@ pub fn read_statements<'a>(
 
     // What is answered is what the bytes are.
     ensures found { IfOk result (λ v. IsSyntaxOf bytes.now (map statement_tree v.items)) }
-    // Each word of it is 1 to 64 letters and digits.
+    // Each word of it is 1 to 64 letters and digits, and each sign is of sign bytes and not the arrow.
     ensures names { IfOk result (λ v. StatementsHaveNames (map statement_tree v.items)) }
     // What the bytes are is answered, unless memory runs out.
     ensures only { (file : List syntax.Statement) → IsSyntaxOf bytes.now file → IsOkOrMemory result (λ read. read ≡ file) }
@@ -71,7 +71,8 @@ pub fn syntax_is_a_function()
     ensures { (bytes : List ℕ) (file : List syntax.Statement) → IsSyntaxOf bytes file ↔ (syntax_of bytes ≡ Some file) }
 {}
 
-/// Law: each word of the statements of bytes is 1 to 64 letters and digits.
+/// Law: each word of the statements of bytes is 1 to 64 letters and digits, and each sign is one or
+/// more sign bytes and not the arrow, by `StatementsHaveNames` of `specs/Syntax.antt`.
 ///
 /// It does nothing when it runs.
 pub fn syntax_has_names()

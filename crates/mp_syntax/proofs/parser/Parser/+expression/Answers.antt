@@ -3,11 +3,11 @@ use Rattle.std.proofs.lemmas.Result.{err_from_is_err_and}
 use Rattle.std.proofs.lemmas.List.{map_push}
 use Rattle.mp_syntax.specs.declared.token.Punct.TheVariants.{Open, Close}
 use Rattle.mp_syntax.specs.Lexing.{placed}
-use Rattle.mp_syntax.specs.Machine.{State, Go, Heading, Frame, BeforeExpr, AfterExpr, AfterWord, AfterOpen, Arguments, Bracket, Operands, run}
-use Rattle.mp_syntax.specs.Syntax.{Apply, InfixOf, Statement, more_trees, trees}
+use Rattle.mp_syntax.specs.Machine.{Go, BeforeExpr, AfterExpr, AfterWord, AfterOpen, Arguments, Bracket, Operands, run}
+use Rattle.mp_syntax.specs.Syntax.{Apply, InfixOf, trees}
 use Rattle.mp_syntax.specs.View.{spot_of, expr_tree}
 use Rattle.mp_syntax.specs.Parsing.{ahead}
-use Rattle.mp_syntax.proofs.Runs.{expr-closes, operand-closes, operand-again, fails-along, word-opens, open-closes, open-expr, bracket-opens, over-punct, over-sign}
+use Rattle.mp_syntax.proofs.Runs.{expr-closes, operand-closes, fails-along, word-opens, open-closes, open-expr, bracket-opens, over-punct}
 use Rattle.mp_syntax.proofs.Trees.{expr_tree-Apply, expr_tree-Infix}
 use Rattle.mp_syntax.proofs.parser.Parser.+expression.Goals as goal
 

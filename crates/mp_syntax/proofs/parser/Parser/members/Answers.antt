@@ -22,11 +22,11 @@ returns-in_err-word-clause-read c =
 pub loop-members-preserved : goal.loop-members-preserved
 loop-members-preserved c = record {
   read = λ done name.
-    let members = map spot_of c.loop-members.members.items in
-    c.loop-members.invariant.read done name
-    ∙ c.in_ok-word.ensures.read done (BeforeMember name members) (λ w. AfterMember name (members ++ w ∷ [])) (λ t. refl)
-    ∙ ap (λ l. run done (AfterMember name l) (ahead c.word.new.self)) (sym (ap (map spot_of) c.in_ok-push.ensures.items ∙ map_push spot_of _ _))
-    ∙ member-again done name (map spot_of c.push.new.self.items) (placed c.word.new.self.token) _ (sym c.sees.ensures ∙ c.if-sees.false);
+      let members = map spot_of c.loop-members.members.items in
+      c.loop-members.invariant.read done name
+      ∙ c.in_ok-word.ensures.read done (BeforeMember name members) (λ w. AfterMember name (members ++ w ∷ [])) (λ t. refl)
+      ∙ ap (λ l. run done (AfterMember name l) (ahead c.word.new.self)) (sym (ap (map spot_of) c.in_ok-push.ensures.items ∙ map_push spot_of _ _))
+      ∙ member-again done name (map spot_of c.push.new.self.items) (placed c.word.new.self.token) _ (sym c.sees.ensures ∙ c.if-sees.false);
   shorter = omega (arith, c.loop-members.invariant.shorter, c.in_ok-word.ensures.shorter);
 }
 
