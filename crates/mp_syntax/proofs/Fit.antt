@@ -1,5 +1,4 @@
--- What the machine reads fits: wildcards are named dots, infix expressions have two operands or more, numbers are of
--- digits, kinds have members, and at most 100 brackets are open.
+-- What the machine reads fits: the wildcards, the operands, the numbers, the members of kinds and the open brackets.
 use Rattle.std.proofs.Common.{◌≡◌, ℕ, suc, ◌-◌, ◌<◌, Bool, true, false, cond, List, [], ◌∷◌, ◌++◌, length, Option, Some, None, Ok, refl, sym, subst, arith, leb}
 use Rattle.std.specs.Prelude.{◌≢◌, codes}
 use Rattle.std.specs.Str.{bytes_eq}

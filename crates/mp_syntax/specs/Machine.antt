@@ -76,8 +76,7 @@ abbrev pub statement_of : Role → Spot → Tree → Statement
 statement_of OfRule name t = RuleOf name t
 statement_of OfSubject name t = SubjectOf name t
 
--- a bracket that is open: of an application with its name and its arguments so far, before the first sign of an
--- infix expression, or behind it, with the sign, the first operand and the others so far
+-- an open bracket: of an application, with its name and arguments so far; or of an infix expression, before its first sign, or behind it with the sign, the first operand and the others so far
 pub data Frame : Type 0 where
   Arguments : Spot → List Tree → Frame
   Bracket : Place → Frame

@@ -166,7 +166,7 @@ pub record IsNamedDot (w : Wildcard) : Type 0 where
   pub dot : w.marks ≡ 1
   pub plain : w.kind ≡ []
 
--- two or more
+-- two expressions or more
 abbrev pub AreSeveral : Trees → Type 0
 AreSeveral no_trees = ⊥
 AreSeveral (more_trees t no_trees) = ⊥
