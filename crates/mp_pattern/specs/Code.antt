@@ -4,6 +4,7 @@ use Rattle.std.proofs.Common.{◌∙◌, ap, inl, inr, append-nil}
 use Rattle.std.specs.Coded.{Coded, code_by, coded×, coded⊎, coded_ℕ, coded_list, coded_option}
 use Rattle.mp_term.specs.Tree.{Tree, symbol}
 use Rattle.mp_term.specs.Code.{Token, step, parse, first, coded_tree}
+use Rattle.mp_pattern.specs.PatternLists.{patterns-pattern_list}
 use Rattle.mp_pattern.specs.PatternTree.{Wildcard, dot, kind, plus, star, optional, Pattern, symbol_pattern, app_pattern, wild_pattern, Patterns, no_patterns, more_patterns, pattern_list, patterns}
 
 -- a wildcard as its class, with the number of its kind and its default where it has them
@@ -58,11 +59,6 @@ abbrev mutual
 -- the patterns that tokens stand for
 abbrev parsed : List (Token Leaf) → List Pattern × List (List Pattern)
 parsed = parse of_leaf (λ f ps. app_pattern f (patterns ps))
-
--- `patterns` undoes `pattern_list`
-patterns-pattern_list : (ps : Patterns) → patterns (pattern_list ps) ≡ ps
-patterns-pattern_list no_patterns = refl
-patterns-pattern_list (more_patterns p ps) = ap (more_patterns p) (patterns-pattern_list ps)
 
 mutual
   -- the tokens of a pattern are parsed to it

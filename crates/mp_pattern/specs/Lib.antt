@@ -1,8 +1,11 @@
 pub mod PatternTree
+pub mod PatternLists
 pub mod TemplateTree
 pub mod CondTree
 pub mod Order
+pub mod PatternOrderLaws
 pub mod Normal
+pub mod Sound
 pub mod Firsts
 pub mod Value
 pub mod Variables

@@ -1,5 +1,5 @@
 -- The normal form of a pattern.
-use Rattle.std.specs.Prelude.{ℕ, Bool, true, false, ◌&&◌, not, List, [], ◌∷◌, flat_map, nat_eq, if◌then◌else◌}
+use Rattle.std.specs.Prelude.{◌≡◌, ℕ, Bool, true, false, ◌&&◌, not, List, [], ◌∷◌, flat_map, nat_eq, if◌then◌else◌}
 use Rattle.mp_term.specs.Sorting.{sorted}
 use Rattle.mp_term.specs.Signature.{Sig, is_assoc, is_comm, is_one}
 use Rattle.mp_pattern.specs.PatternTree.{plus, star, optional, Pattern, symbol_pattern, app_pattern, wild_pattern, Patterns, no_patterns, more_patterns, pattern_list, patterns}
@@ -17,6 +17,12 @@ is_loose (wild_pattern plus x) = true
 is_loose (wild_pattern star x) = true
 is_loose (wild_pattern (optional t) x) = true
 is_loose _ = false
+
+-- one pattern, which isn't loose
+abbrev pub is_collapsible : List Pattern → Bool
+is_collapsible [] = false
+is_collapsible (p ∷ []) = not (is_loose p)
+is_collapsible (p ∷ q ∷ ps) = false
 
 module _ (sig : Sig) where
   -- what an argument of f gives: its own arguments, where f is associative and its head, and else itself
@@ -48,3 +54,7 @@ module _ (sig : Sig) where
     pub normal_patterns : Patterns → List Pattern
     normal_patterns no_patterns = []
     normal_patterns (more_patterns p ps) = normal_pattern p ∷ normal_patterns ps
+
+  -- the pattern is its own normal form
+  abbrev pub IsNormalPattern : Pattern → Type 0
+  IsNormalPattern p = normal_pattern p ≡ p

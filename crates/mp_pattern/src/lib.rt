@@ -3,6 +3,9 @@
 
 mod condition;
 mod entry;
+mod flags;
+mod normal;
+mod order;
 mod pattern;
 mod rule;
 mod template;
@@ -11,6 +14,8 @@ mod tests;
 
 pub use condition::{Amount, BoxedCond, Cond, Conds, Operand, Sense};
 pub use entry::{Entries, Entry, Form};
+pub use normal::normalise_pattern;
+pub use order::pattern_compare;
 pub use pattern::{Pattern, Patterns, Shape};
 pub use rule::{Rule, Rules};
 pub use template::{Template, Templates};

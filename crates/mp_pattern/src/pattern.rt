@@ -37,7 +37,7 @@ pub enum Pattern {
 #[cycle(pattern)]
 #[derive(Drop)]
 pub struct Patterns {
-    items: Vec<Pattern>,
+    pub(crate) items: Vec<Pattern>,
 }
 
 impl Model for Patterns {

@@ -16,10 +16,12 @@ pub record Chain (a b c : Ordering) : Type 0 where
   pub left : a ≡ Equal → c ≡ b
   pub right : b ≡ Equal → c ≡ a
 
-chain_of : {K : Type 0} {R : K → K → Ordering} (o : IsTotalOrder R) → (x y z : K) → Chain (R x y) (R y z) (R x z)
+-- a total order's three comparisons
+pub chain_of : {K : Type 0} {R : K → K → Ordering} (o : IsTotalOrder R) → (x y z : K) → Chain (R x y) (R y z) (R x z)
 chain_of o x y z = record { less = o.trans x y z; left = o.congr x y z; right = λ e. sym (alike_right o y z x e) }
 
-chain_then : (a b c d e f : Ordering) → Chain a b c → Chain d e f → Chain (ordering_then a d) (ordering_then b e) (ordering_then c f)
+-- two comparisons in turn
+pub chain_then : (a b c d e f : Ordering) → Chain a b c → Chain d e f → Chain (ordering_then a d) (ordering_then b e) (ordering_then c f)
 chain_then Less Less c d e f p q = let h = p.less refl refl in record { less = λ _ _. rw h; left = λ i. cc; right = λ i. cc }
 chain_then Less Equal c d e f p q = let h = p.right refl in record { less = λ _ _. rw h; left = λ i. cc; right = λ _. rw h }
 chain_then Less Greater c d e f p q = record { less = λ i j. cc; left = λ i. cc; right = λ i. cc }
@@ -30,7 +32,7 @@ chain_then Greater Less c d e f p q = record { less = λ i j. cc; left = λ i. c
 chain_then Greater Equal c d e f p q = let h = p.right refl in record { less = λ i j. cc; left = λ i. cc; right = λ _. rw h }
 chain_then Greater Greater c d e f p q = record { less = λ i j. cc; left = λ i. cc; right = λ i. cc }
 
-reverse_then : (a b : Ordering) → ordering_reverse (ordering_then a b) ≡ ordering_then (ordering_reverse a) (ordering_reverse b)
+pub reverse_then : (a b : Ordering) → ordering_reverse (ordering_then a b) ≡ ordering_then (ordering_reverse a) (ordering_reverse b)
 reverse_then Less b = refl
 reverse_then Equal b = refl
 reverse_then Greater b = refl
@@ -83,7 +85,7 @@ both_equal Less b e = cc
 both_equal Equal b e = (refl, e)
 both_equal Greater b e = cc
 
-nat_same : (m n : ℕ) → nat_cmp m n ≡ Equal → m ≡ n
+pub nat_same : (m n : ℕ) → nat_cmp m n ≡ Equal → m ≡ n
 nat_same m n e = by_ranked _ _ _ (nat_cmp m n) (ranked m n _ refl) (λ i _. cc) (λ _ h. h) (λ i _. cc)
 
 pub nats_same : (xs ys : List ℕ) → slice_cmp nat_cmp xs ys ≡ Equal → xs ≡ ys

@@ -1,0 +1,35 @@
+-- What is asked of a pattern before it is normalised.
+use Rattle.std.specs.Prelude.{Bool, true, ◌&&◌, is_some, slice_get, ⊤}
+use Rattle.mp_term.specs.Signature.{Sig}
+use Rattle.mp_term.specs.Normal.{IsNormal}
+use Rattle.mp_pattern.specs.PatternTree.{Wildcard, optional, Pattern, symbol_pattern, app_pattern, wild_pattern, Patterns, no_patterns, more_patterns}
+
+module _ (sig : Sig) where
+  -- the default of an optional wildcard is normal
+  abbrev pub DefaultIsNormal : Wildcard → Type 0
+  DefaultIsNormal (optional t) = IsNormal sig t
+  DefaultIsNormal _ = ⊤
+
+  abbrev mutual
+    -- the defaults of a pattern are normal
+    pub DefaultsAreNormal : Pattern → Type 0
+    DefaultsAreNormal (symbol_pattern n) = ⊤
+    DefaultsAreNormal (app_pattern f ps) = AllDefaultsAreNormal ps
+    DefaultsAreNormal (wild_pattern w x) = DefaultIsNormal w
+
+    -- so are those of each pattern of a list
+    pub AllDefaultsAreNormal : Patterns → Type 0
+    AllDefaultsAreNormal no_patterns = ⊤
+    AllDefaultsAreNormal (more_patterns p ps) = DefaultsAreNormal p × AllDefaultsAreNormal ps
+
+  abbrev mutual
+    -- the signature holds each operation of a pattern
+    pub holds_ops : Pattern → Bool
+    holds_ops (symbol_pattern n) = true
+    holds_ops (app_pattern f ps) = is_some (slice_get sig.ops f) && all_hold_ops ps
+    holds_ops (wild_pattern w x) = true
+
+    -- and each of each pattern of a list
+    pub all_hold_ops : Patterns → Bool
+    all_hold_ops no_patterns = true
+    all_hold_ops (more_patterns p ps) = holds_ops p && all_hold_ops ps
