@@ -2,14 +2,13 @@
 use Rattle.std.proofs.Common.{◌≡◌, ℕ, Bool, true, false, ◌&&◌, not, List, [], ◌∷◌, refl, subst}
 use Rattle.std.specs.Prelude.{nat_eq, is_some, slice_get, if◌then◌else◌}
 use Rattle.std.specs.List.{AllByRecursion}
-use Rattle.mp_term.specs.Sorting.{sorted}
-use Rattle.mp_term.specs.Signature.{Sig, is_assoc, is_comm, is_one}
+use Rattle.mp_term.specs.Signature.{Sig, is_assoc, is_one}
 use Rattle.mp_term.proofs.NormalTestLaws.{both, joined_tests}
 use Rattle.mp_pattern.specs.PatternTree.{Pattern, symbol_pattern, app_pattern, wild_pattern, Patterns, no_patterns, more_patterns, pattern_list, patterns}
-use Rattle.mp_pattern.specs.Order.{pattern_cmp}
 use Rattle.mp_pattern.specs.Normal.{is_loose, unwrapped, parts, flattened, in_order, collapsed, normal_pattern, normal_patterns}
 use Rattle.mp_pattern.specs.Sound.{DefaultsAreNormal, AllDefaultsAreNormal, holds_ops, all_hold_ops}
-use Rattle.mp_pattern.proofs.SortedLaws.{all-flat_map, all-sorted}
+use Rattle.mp_pattern.proofs.SortedLaws.{all-flat_map}
+use Rattle.mp_pattern.proofs.NormalLaws.{all-in_order}
 
 -- Q holds of the arguments of each application of which it holds
 abbrev pub GoesDown : (Pattern → Type 0) → Type 0
@@ -32,9 +31,6 @@ module _ (sig : Sig) (Q : Pattern → Type 0) (of_arguments : GoesDown Q) (with_
   all-parts : (f : ℕ) (p : Pattern) → Q p → AllByRecursion Q (parts sig f p)
   all-parts f p h = elim (is_assoc sig f) as (λ b. AllByRecursion Q (if b then unwrapped f p else (p ∷ []))) [ true ↦ all-unwrapped f p h | false ↦ (h, tt) ]
 
-  all-in_order : (f : ℕ) (ps : List Pattern) → AllByRecursion Q ps → AllByRecursion Q (in_order sig f ps)
-  all-in_order f ps h = elim (is_comm sig f) as (λ b. AllByRecursion Q (if b then sorted pattern_cmp ps else ps)) [ true ↦ all-sorted Q pattern_cmp ps h | false ↦ h ]
-
   of_collapsed : (f : ℕ) (ps : Patterns) (qs : List Pattern) → Q (app_pattern f ps) → AllByRecursion Q qs → Q (collapsed sig f qs)
   of_collapsed f ps [] h k = with_arguments f ps [] h k
   of_collapsed f ps (q ∷ []) h k =
@@ -49,7 +45,7 @@ module _ (sig : Sig) (Q : Pattern → Type 0) (of_arguments : GoesDown Q) (with_
     of_normal_pattern (symbol_pattern n) h = h
     of_normal_pattern (app_pattern f ps) h =
         let l = normal_patterns sig ps in
-        of_collapsed f ps (in_order sig f (flattened sig f l)) h (all-in_order f (flattened sig f l) (all-flat_map Q (parts sig f) (all-parts f) l (all-normal_patterns ps (of_arguments f ps h))))
+        of_collapsed f ps (in_order sig f (flattened sig f l)) h (all-in_order Q sig f (flattened sig f l) (all-flat_map Q Q (parts sig f) (all-parts f) l (all-normal_patterns ps (of_arguments f ps h))))
     of_normal_pattern (wild_pattern w x) h = h
 
     all-normal_patterns : (ps : Patterns) → AllByRecursion Q (pattern_list ps) → AllByRecursion Q (normal_patterns sig ps)

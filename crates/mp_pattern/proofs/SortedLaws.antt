@@ -11,9 +11,9 @@ module _ {X : Type 0} (P : X → Type 0) where
   all-append [] ys h k = k
   all-append (x ∷ xs) ys h k = (h.0, all-append xs ys h.1 k)
 
-  pub all-flat_map : (f : X → List X) → ((x : X) → P x → AllByRecursion P (f x)) → (xs : List X) → AllByRecursion P xs → AllByRecursion P (flat_map f xs)
-  all-flat_map f r [] h = tt
-  all-flat_map f r (x ∷ xs) h = all-append (f x) (flat_map f xs) (r x h.0) (all-flat_map f r xs h.1)
+  pub all-flat_map : {Y : Type 0} (Q : Y → Type 0) (f : Y → List X) → ((y : Y) → Q y → AllByRecursion P (f y)) → (ys : List Y) → AllByRecursion Q ys → AllByRecursion P (flat_map f ys)
+  all-flat_map Q f r [] h = tt
+  all-flat_map Q f r (y ∷ ys) h = all-append (f y) (flat_map f ys) (r y h.0) (all-flat_map Q f r ys h.1)
 
   all-insert_sorted : (cmp : X → X → Ordering) (x : X) (ys : List X) → P x → AllByRecursion P ys → AllByRecursion P (insert_sorted cmp x ys)
   all-insert_sorted cmp x [] h k = (h, tt)

@@ -6,6 +6,8 @@ pub mod Order
 pub mod PatternOrderLaws
 pub mod Normal
 pub mod Sound
+pub mod Subpatterns
+pub mod Ground
 pub mod Firsts
 pub mod Value
 pub mod Variables

@@ -4,6 +4,7 @@
 mod condition;
 mod entry;
 mod flags;
+mod laws;
 mod normal;
 mod order;
 mod pattern;
@@ -14,6 +15,10 @@ mod tests;
 
 pub use condition::{Amount, BoxedCond, Cond, Conds, Operand, Sense};
 pub use entry::{Entries, Entry, Form};
+pub use laws::{
+    ground_patterns_are_terms, normal_pattern_is_idempotent, normal_pattern_is_no_larger,
+    normal_pattern_keeps_variables, pattern_order_is_total, subpatterns_are_normal,
+};
 pub use normal::normalise_pattern;
 pub use order::pattern_compare;
 pub use pattern::{Pattern, Patterns, Shape};

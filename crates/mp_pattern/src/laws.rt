@@ -1,0 +1,52 @@
+// Laws of the pattern order and of normal forms, each as the contract of a function that does nothing.
+ghost use Rattle.std.specs.Prelude.{◌≡◌, ◌≤◌, ◌↔◌, map, None, true};
+ghost use Rattle.std.specs.declared.cmp.Ordering.TheVariants.{Equal};
+ghost use Rattle.std.specs.Cmp.{IsTotalOrder};
+ghost use Rattle.std.specs.List.{AllByRecursion};
+ghost use Rattle.std.specs.List.Sorted.{IsPermutation};
+ghost use Rattle.mp_term.specs.Tree.{Tree};
+ghost use Rattle.mp_term.specs.Order.{tree_cmp};
+ghost use Rattle.mp_term.specs.Signature.{Sig};
+ghost use Rattle.mp_term.specs.Normal.{normal};
+ghost use Rattle.mp_pattern.specs.PatternTree.{Pattern};
+ghost use Rattle.mp_pattern.specs.Size.{pattern_nodes};
+ghost use Rattle.mp_pattern.specs.Order.{is_ground, pattern_cmp};
+ghost use Rattle.mp_pattern.specs.Normal.{normal_pattern, IsNormalPattern};
+ghost use Rattle.mp_pattern.specs.Subpatterns.{subpatterns};
+ghost use Rattle.mp_pattern.specs.Ground.{term_pattern};
+ghost use Rattle.mp_pattern.specs.Variables.{uses, variables};
+
+/// The pattern order is total, and equal patterns alone are equal in it.
+pub fn pattern_order_is_total()
+    ensures total { IsTotalOrder pattern_cmp }
+    ensures equal { (p q : Pattern) → (pattern_cmp p q ≡ Equal) ↔ (p ≡ q) }
+{}
+
+/// The normal form of a pattern is its own normal form.
+pub fn normal_pattern_is_idempotent()
+    ensures { (sig : Sig) (p : Pattern) → normal_pattern sig (normal_pattern sig p) ≡ normal_pattern sig p }
+{}
+
+/// The normal form of a pattern has no more nodes than the pattern.
+pub fn normal_pattern_is_no_larger()
+    ensures { (sig : Sig) (p : Pattern) → pattern_nodes (normal_pattern sig p) ≤ pattern_nodes p }
+{}
+
+/// A pattern and its normal form have the same names of variables, each at as many wildcards, and so the same variables.
+pub fn normal_pattern_keeps_variables()
+    ensures names { (sig : Sig) (p : Pattern) →
+        IsPermutation (map (λ u. u.name) (uses None p)) (map (λ u. u.name) (uses None (normal_pattern sig p))) }
+    ensures variables { (sig : Sig) (p : Pattern) → IsPermutation (variables p) (variables (normal_pattern sig p)) }
+{}
+
+/// Each subpattern of a normal pattern is normal.
+pub fn subpatterns_are_normal()
+    ensures { (sig : Sig) (p : Pattern) → IsNormalPattern sig p → AllByRecursion (IsNormalPattern sig) (subpatterns p) }
+{}
+
+/// A pattern without a wildcard is a term. Such patterns compare as their terms, and the normal form of one is that of its term.
+pub fn ground_patterns_are_terms()
+    ensures terms { (p : Pattern) → (is_ground p ≡ true) ↔ ((t : Tree) × (p ≡ term_pattern t)) }
+    ensures order { (t u : Tree) → pattern_cmp (term_pattern t) (term_pattern u) ≡ tree_cmp t u }
+    ensures normal { (sig : Sig) (t : Tree) → normal_pattern sig (term_pattern t) ≡ term_pattern (normal sig t) }
+{}
