@@ -1,10 +1,14 @@
--- Counts and names of an application, whose arguments the code holds in a vector.
+-- Counts and names of applications and infix expressions, whose arguments the code holds in a vector.
 use Rattle.std.proofs.Common.{◌≡◌, ℕ, zero, suc, ◌+◌, ◌≤◌, ◌<◌, List, [], ◌∷◌, map, length, get_or, Vec, Global, ap, ◌∙◌, arith, subst, sym}
+use Rattle.mp_syntax.specs.declared.place.Place.{Place}
 use Rattle.mp_syntax.specs.declared.place.Spot as code
-use Rattle.mp_syntax.specs.declared.tree.Expr.{Expr, Apply}
+use Rattle.mp_syntax.specs.declared.tree.Expr.{Expr, Apply, Infix}
 use Rattle.mp_syntax.specs.Syntax.{trees}
 use Rattle.mp_syntax.specs.View.{expr_tree}
-use Rattle.mp_syntax.proofs.Trees.{expr_tree-Apply}
+use Rattle.mp_syntax.proofs.Trees.{expr_tree-Apply, expr_tree-Infix}
+use Rattle.mp_pattern.specs.declared.pattern.Pattern as code_pattern
+use Rattle.mp_pattern.specs.Size.{pattern_nodes, list_nodes}
+use Rattle.mp_pattern.specs.View.{pattern_tree}
 use Rattle.mp_text.specs.Checks.{nodes, all_nodes}
 use Rattle.mp_text.specs.Names.{wildcard_names, all_wildcard_names}
 
@@ -16,6 +20,14 @@ nodes-Apply f v = ap nodes (expr_tree-Apply f v) ∙ omega arith
 pub wildcard_names-Apply : (f : code.Spot) (v : Vec Expr Global) → wildcard_names (expr_tree (Apply f v)) ≡ all_wildcard_names (trees (map expr_tree v.items))
 wildcard_names-Apply f v = ap wildcard_names (expr_tree-Apply f v)
 
+-- the nodes of an infix expression
+pub nodes-Infix : (place : Place) (sign : code.Spot) (v : Vec Expr Global) → nodes (expr_tree (Infix place sign v)) ≡ 1 + all_nodes (trees (map expr_tree v.items))
+nodes-Infix place sign v = ap nodes (expr_tree-Infix place sign v) ∙ omega arith
+
+-- the names of the wildcards of an infix expression
+pub wildcard_names-Infix : (place : Place) (sign : code.Spot) (v : Vec Expr Global) → wildcard_names (expr_tree (Infix place sign v)) ≡ all_wildcard_names (trees (map expr_tree v.items))
+wildcard_names-Infix place sign v = ap wildcard_names (expr_tree-Infix place sign v)
+
 -- an item has no more nodes than the list
 nodes-get_or : (es : List Expr) (i : ℕ) (d : Expr) → i < length es → nodes (expr_tree (get_or es i d)) ≤ all_nodes (trees (map expr_tree es))
 nodes-get_or [] i d h = absurd (omega arith)
@@ -25,3 +37,13 @@ nodes-get_or (e ∷ es) (suc i) d h = omega (arith, nodes-get_or es i d (omega a
 -- the item at an index has no more nodes than the list
 pub nodes-item : (es : List Expr) (i : ℕ) (x : Expr) → i < length es → x ≡ get_or es i x → nodes (expr_tree x) ≤ all_nodes (trees (map expr_tree es))
 nodes-item es i x h is = let P : Expr → Type 0 = λ y. nodes (expr_tree y) ≤ all_nodes (trees (map expr_tree es)) in subst P (sym is) (nodes-get_or es i x h)
+
+-- an item has no more nodes than the list of patterns
+pattern_nodes-get_or : (ps : List code_pattern.Pattern) (i : ℕ) (d : code_pattern.Pattern) → i < length ps → pattern_nodes (pattern_tree (get_or ps i d)) ≤ list_nodes (map pattern_tree ps)
+pattern_nodes-get_or [] i d h = absurd (omega arith)
+pattern_nodes-get_or (p ∷ ps) zero d h = omega arith
+pattern_nodes-get_or (p ∷ ps) (suc i) d h = omega (arith, pattern_nodes-get_or ps i d (omega arith))
+
+-- the pattern at an index has no more nodes than the list
+pub pattern_nodes-item : (ps : List code_pattern.Pattern) (i : ℕ) (x : code_pattern.Pattern) → i < length ps → x ≡ get_or ps i x → pattern_nodes (pattern_tree x) ≤ list_nodes (map pattern_tree ps)
+pattern_nodes-item ps i x h is = let P : code_pattern.Pattern → Type 0 = λ y. pattern_nodes (pattern_tree y) ≤ list_nodes (map pattern_tree ps) in subst P (sym is) (pattern_nodes-get_or ps i x h)

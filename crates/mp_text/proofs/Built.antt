@@ -1,21 +1,33 @@
--- The terms, patterns and faults of an application, whose arguments the code holds in a vector.
-use Rattle.std.proofs.Common.{◌≡◌, ℕ, List, [], ◌∷◌, ◌++◌, map, length, Vec, Global, refl, ap, sym, ◌∙◌, subst}
+-- The terms, patterns and faults of applications and infix expressions, whose arguments the code holds in a vector.
+use Rattle.std.proofs.Common.{◌≡◌, ℕ, true, false, List, [], ◌∷◌, ◌++◌, map, length, Vec, Global, refl, ap, sym, ◌∙◌, subst}
+use Rattle.std.specs.Prelude.{Option, Some, None, is_some}
 use Rattle.std.proofs.lemmas.List.{length-map}
+use Rattle.mp_term.specs.declared.signature.OpDecl.{OpDecl}
 use Rattle.mp_term.specs.Tree as term
 use Rattle.mp_term.specs.Signature.{Sig, allows}
 use Rattle.mp_pattern.specs.PatternTree as pattern
+use Rattle.mp_syntax.specs.declared.place.Place.{Place}
 use Rattle.mp_syntax.specs.declared.place.Spot as code
-use Rattle.mp_syntax.specs.declared.tree.Expr.{Expr, Apply}
+use Rattle.mp_syntax.specs.declared.tree.Expr.{Expr, Apply, Infix}
 use Rattle.mp_syntax.specs.Syntax as syntax
-use Rattle.mp_syntax.specs.Syntax.{Tree, trees, tree_list, HasNames, HaveNames}
+use Rattle.mp_syntax.specs.Syntax.{Spot, Tree, InfixOf, Trees, no_trees, more_trees, trees, tree_list, HasNames, HaveNames}
 use Rattle.mp_syntax.specs.View.{spot_of, expr_tree}
-use Rattle.mp_syntax.proofs.Trees.{expr_tree-Apply, tree_list-trees}
-use Rattle.mp_text.specs.Build.{head_number, term_of, terms_of, pattern_of, patterns_of}
-use Rattle.mp_text.specs.Checks.{op_named, head_faults, allows_patterns, term_faults, all_term_faults, pattern_faults, all_pattern_faults}
+use Rattle.mp_syntax.proofs.Trees.{expr_tree-Apply, expr_tree-Infix, tree_list-trees}
+use Rattle.mp_text.specs.Build.{op_number, sign_number, head_number, term_of, terms_of, pattern_of, patterns_of}
+use Rattle.mp_text.specs.Checks.{op_named, op_signed, head_faults, arity_faults, sign_faults, allows_patterns, term_faults, term_operand_faults, all_term_faults, pattern_faults, pattern_operand_faults, all_pattern_faults}
 
 -- the words of the arguments are names
 pub HaveNames-Apply : (f : code.Spot) (v : Vec Expr Global) → HasNames (expr_tree (Apply f v)) → HaveNames (trees (map expr_tree v.items))
 HaveNames-Apply f v h = (subst HasNames (expr_tree-Apply f v) h).1
+
+-- the words of the operands are names
+pub HaveNames-Infix : (place : Place) (sign : code.Spot) (v : Vec Expr Global) → HasNames (expr_tree (Infix place sign v)) → HaveNames (trees (map expr_tree v.items))
+HaveNames-Infix place sign v h = (subst HasNames (expr_tree-Infix place sign v) h).1
+
+-- an operation that isn't there
+pub none-unknown : (o : Option OpDecl) → false ≡ is_some o → o ≡ None
+none-unknown None h = refl
+none-unknown (Some d) h = cc
 
 module _ (sig : Sig) where
   -- the terms of a list of expressions
@@ -29,12 +41,12 @@ module _ (sig : Sig) where
   patterns_of-trees (t ∷ ts) = ap (pattern.more_patterns (pattern_of sig t)) (patterns_of-trees ts)
 
   -- the term of an application
-  pub term_of-Apply : (f : code.Spot) (v : Vec Expr Global) → term_of sig (expr_tree (Apply f v)) ≡ term.app (head_number sig f.text.now) (term.trees (map (term_of sig) (map expr_tree v.items)))
-  term_of-Apply f v = ap (term_of sig) (expr_tree-Apply f v) ∙ ap (term.app (head_number sig f.text.now)) (terms_of-trees (map expr_tree v.items))
+  pub term_of-Apply : (f : code.Spot) (v : Vec Expr Global) → term_of sig (expr_tree (Apply f v)) ≡ term.app (head_number (op_number sig f.text.now)) (term.trees (map (term_of sig) (map expr_tree v.items)))
+  term_of-Apply f v = ap (term_of sig) (expr_tree-Apply f v) ∙ ap (term.app (head_number (op_number sig f.text.now))) (terms_of-trees (map expr_tree v.items))
 
   -- the pattern of an application
-  pub pattern_of-Apply : (f : code.Spot) (v : Vec Expr Global) → pattern_of sig (expr_tree (Apply f v)) ≡ pattern.app_pattern (head_number sig f.text.now) (pattern.patterns (map (pattern_of sig) (map expr_tree v.items)))
-  pattern_of-Apply f v = ap (pattern_of sig) (expr_tree-Apply f v) ∙ ap (pattern.app_pattern (head_number sig f.text.now)) (patterns_of-trees (map expr_tree v.items))
+  pub pattern_of-Apply : (f : code.Spot) (v : Vec Expr Global) → pattern_of sig (expr_tree (Apply f v)) ≡ pattern.app_pattern (head_number (op_number sig f.text.now)) (pattern.patterns (map (pattern_of sig) (map expr_tree v.items)))
+  pattern_of-Apply f v = ap (pattern_of sig) (expr_tree-Apply f v) ∙ ap (pattern.app_pattern (head_number (op_number sig f.text.now))) (patterns_of-trees (map expr_tree v.items))
 
   -- the faults of an application in a term
   pub term_faults-Apply : (f : code.Spot) (v : Vec Expr Global)
@@ -48,3 +60,36 @@ module _ (sig : Sig) where
       → pattern_faults sig (expr_tree (Apply f v)) ≡ head_faults (allows_patterns (map expr_tree v.items)) (spot_of f) (op_named sig f.text.now) ++ all_pattern_faults sig (trees (map expr_tree v.items))
   pattern_faults-Apply f v =
       ap (pattern_faults sig) (expr_tree-Apply f v) ∙ ap (λ l. head_faults (allows_patterns l) (spot_of f) (op_named sig f.text.now) ++ all_pattern_faults sig (trees (map expr_tree v.items))) (tree_list-trees (map expr_tree v.items))
+
+  -- the term of operands with a sign between them
+  pub term_of-operands : (place : Place) (sign : Spot) (es : List Expr) → term_of sig (InfixOf place sign (trees (map expr_tree es))) ≡ term.app (head_number (sign_number sig sign.text)) (term.trees (map (term_of sig) (map expr_tree es)))
+  term_of-operands place sign es = ap (term.app (head_number (sign_number sig sign.text))) (terms_of-trees (map expr_tree es))
+
+  -- the pattern of operands with a sign between them
+  pub pattern_of-operands : (place : Place) (sign : Spot) (es : List Expr) → pattern_of sig (InfixOf place sign (trees (map expr_tree es))) ≡ pattern.app_pattern (head_number (sign_number sig sign.text)) (pattern.patterns (map (pattern_of sig) (map expr_tree es)))
+  pattern_of-operands place sign es = ap (pattern.app_pattern (head_number (sign_number sig sign.text))) (patterns_of-trees (map expr_tree es))
+
+  -- the faults of operands in a term, by their number
+  pub term_faults-operands : (place : Place) (sign : Spot) (es : List Expr)
+      → term_faults sig (InfixOf place sign (trees (map expr_tree es))) ≡ arity_faults (allows (length es)) place (op_signed sig sign.text) ++ term_operand_faults sig (sign_faults sign (op_signed sig sign.text)) (trees (map expr_tree es))
+  term_faults-operands place sign es =
+      let count : length (tree_list (trees (map expr_tree es))) ≡ length es = ap length (tree_list-trees (map expr_tree es)) ∙ length-map es expr_tree in
+      ap (λ n. arity_faults (allows n) place (op_signed sig sign.text) ++ term_operand_faults sig (sign_faults sign (op_signed sig sign.text)) (trees (map expr_tree es))) count
+
+  -- the faults of operands in a pattern, by their list
+  pub pattern_faults-operands : (place : Place) (sign : Spot) (es : List Expr)
+      → pattern_faults sig (InfixOf place sign (trees (map expr_tree es))) ≡ arity_faults (allows_patterns (map expr_tree es)) place (op_signed sig sign.text) ++ pattern_operand_faults sig (sign_faults sign (op_signed sig sign.text)) (trees (map expr_tree es))
+  pattern_faults-operands place sign es =
+      ap (λ l. arity_faults (allows_patterns l) place (op_signed sig sign.text) ++ pattern_operand_faults sig (sign_faults sign (op_signed sig sign.text)) (trees (map expr_tree es))) (tree_list-trees (map expr_tree es))
+
+  -- a sign that an operation has is no fault between operands
+  pub term_operand_faults-known : (sign : Spot) (o : Option OpDecl) (ts : Trees) → true ≡ is_some o → term_operand_faults sig (sign_faults sign o) ts ≡ all_term_faults sig ts
+  term_operand_faults-known sign None ts h = cc
+  term_operand_faults-known sign (Some d) no_trees h = refl
+  term_operand_faults-known sign (Some d) (more_trees t ts) h = refl
+
+  -- the same in a pattern
+  pub pattern_operand_faults-known : (sign : Spot) (o : Option OpDecl) (ts : Trees) → true ≡ is_some o → pattern_operand_faults sig (sign_faults sign o) ts ≡ all_pattern_faults sig ts
+  pattern_operand_faults-known sign None ts h = cc
+  pattern_operand_faults-known sign (Some d) no_trees h = refl
+  pattern_operand_faults-known sign (Some d) (more_trees t ts) h = refl

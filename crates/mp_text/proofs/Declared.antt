@@ -1,5 +1,5 @@
 -- What the statements declare: names and counts of operations, rules and subjects, statement by statement.
-use Rattle.std.proofs.Common.{◌≡◌, ℕ, suc, true, false, ◌||◌, List, [], ◌∷◌, ◌++◌, map, length, append-nil, Result, Ok, Err, refl, sym, ap, ◌∙◌, subst}
+use Rattle.std.proofs.Common.{◌≡◌, ℕ, Bool, ◌||◌, List, [], ◌∷◌, ◌++◌, map, length, append-nil, Result, Ok, Err, refl, sym, ap, ◌∙◌, subst}
 use Rattle.std.specs.Prelude.{Option, None, position, is_some, option_map}
 use Rattle.std.specs.List.{list_any}
 use Rattle.std.specs.Str.{bytes_eq}
@@ -7,22 +7,23 @@ use Rattle.std.proofs.lemmas.List.{length-map}
 use Rattle.std.proofs.lemmas.Slice.Eq.{bytes_eq-Decides}
 use Rattle.std.proofs.lemmas.Bool.Decides.{same_from_decides}
 use Rattle.mp_term.specs.declared.signature.OpDecl.{OpDecl}
-use Rattle.mp_term.specs.Signature.{Sig, has_name}
+use Rattle.mp_term.specs.Names.{name_set}
+use Rattle.mp_term.specs.Signature.{Sig, Kind, has_name, has_sign}
 use Rattle.mp_term.proofs.SignatureLaws.{is_some-position, is_some-option_map}
 use Rattle.mp_term.specs.Tree as term
 use Rattle.mp_term.specs.Normal.{normal}
 use Rattle.mp_pattern.specs.PatternTree.{Pattern}
 use Rattle.mp_pattern.specs.Normal.{normal_pattern}
 use Rattle.mp_pattern.specs.Admission.{Rule}
-use Rattle.mp_syntax.specs.Syntax.{Spot, Tree, Statement, OpOf, RuleOf, SubjectOf}
+use Rattle.mp_syntax.specs.Syntax.{Spot, Tree, Flag, Statement, OpOf, KindOf, RuleOf, SubjectOf}
 use Rattle.mp_text.specs.declared.fault.TextFault.{TextFault}
 use Rattle.mp_text.specs.declared.fault.TextError.{TextError}
 use Rattle.mp_text.specs.Subject.{Subject}
 use Rattle.mp_text.specs.File.{FileTree}
 use Rattle.mp_text.specs.Answers.{Gives}
-use Rattle.mp_text.specs.Checks.{statement_faults}
-use Rattle.mp_text.specs.Names.{op_names, rule_names, subject_names, is_among, number_of}
-use Rattle.mp_text.specs.Build.{op_decl, op_decls, sig_of, term_of, pattern_of, rule_of, rules_of, subject_of, subjects_of, file_over}
+use Rattle.mp_text.specs.Checks.{op_faults, kind_faults, statement_faults}
+use Rattle.mp_text.specs.Names.{rule_names, subject_names, is_among}
+use Rattle.mp_text.specs.Build.{op_decl, op_decls, kind_decl, kind_decls, sig_with, term_of, pattern_of, rule_of, rules_of, subject_of, subjects_of, file_over}
 
 -- ---- equal bytes
 
@@ -32,91 +33,101 @@ bytes_eq_comm a b =
     let d = bytes_eq-Decides b a in
     same_from_decides (bytes_eq a b) (bytes_eq b a) (bytes_eq-Decides a b) (λ h. sym (d.0 h), λ h. d.1 (sym h))
 
--- ---- operations
+-- ---- names that are held
+
+-- a name that equals one of the names is among them
+is_among-list_any : (name : List ℕ) (names : List (List ℕ)) → list_any (bytes_eq name) names ≡ is_among name names
+is_among-list_any name [] = refl
+is_among-list_any name (n ∷ ns) = ap (λ b. b || list_any (bytes_eq name) ns) (bytes_eq_comm name n) ∙ ap (λ b. bytes_eq n name || b) (is_among-list_any name ns)
+
+-- an operation has the name exactly where that is among the operations' names
+is_among-has_name : (name : List ℕ) (ds : List OpDecl) → list_any (has_name name) ds ≡ is_among name (map (λ d. d.name) ds)
+is_among-has_name name [] = refl
+is_among-has_name name (d ∷ ds) = ap (λ b. b || list_any (has_name name) ds) (bytes_eq_comm name d.name) ∙ ap (λ b. bytes_eq d.name name || b) (is_among-has_name name ds)
+
+-- an operation is found exactly where its name is held
+pub is_some-found_op : {X : Type 0} (f : X → ℕ) (found : Option X) (name : List ℕ) (ds : List OpDecl) → option_map f found ≡ position (has_name name) ds → is_some found ≡ is_among name (map (λ d. d.name) ds)
+is_some-found_op f found name ds h = sym (is_some-option_map f found) ∙ ap is_some h ∙ is_some-position (has_name name) ds ∙ is_among-has_name name ds
+
+-- an operation is found exactly where its sign is held
+pub is_some-found_sign : {X : Type 0} (f : X → ℕ) (found : Option X) (sign : List ℕ) (ds : List OpDecl) → option_map f found ≡ position (has_sign sign) ds → is_some found ≡ list_any (has_sign sign) ds
+is_some-found_sign f found sign ds h = sym (is_some-option_map f found) ∙ ap is_some h ∙ is_some-position (has_sign sign) ds
+
+-- a kind is found exactly where its name is held
+pub is_some-found_kind : {X : Type 0} (f : X → ℕ) (found : Option X) (name : List ℕ) (names : List (List ℕ)) → option_map f found ≡ position (bytes_eq name) names → is_some found ≡ is_among name names
+is_some-found_kind f found name names h = sym (is_some-option_map f found) ∙ ap is_some h ∙ is_some-position (bytes_eq name) names ∙ is_among-list_any name names
+
+-- ---- operations and kinds
 
 -- the operations of statements in two parts
 pub op_decls-append : (a b : List Statement) → op_decls (a ++ b) ≡ op_decls a ++ op_decls b
 op_decls-append [] b = refl
-op_decls-append (OpOf name least ∷ ss) b = ap (λ l. op_decl name least ∷ l) (op_decls-append ss b)
+op_decls-append (OpOf name least more flags ∷ ss) b = ap (λ l. op_decl name least more flags ∷ l) (op_decls-append ss b)
+op_decls-append (KindOf name members ∷ ss) b = op_decls-append ss b
 op_decls-append (RuleOf name p ∷ ss) b = op_decls-append ss b
 op_decls-append (SubjectOf name t ∷ ss) b = op_decls-append ss b
 
--- the names of the operations, as the statements and as the declarations have them
-is_among-op_names : (name : List ℕ) (ss : List Statement) → list_any (has_name name) (op_decls ss) ≡ is_among name (op_names ss)
-is_among-op_names name [] = refl
-is_among-op_names name (OpOf n least ∷ ss) = ap (λ b. b || list_any (has_name name) (op_decls ss)) (bytes_eq_comm name n.text) ∙ ap (λ b. bytes_eq n.text name || b) (is_among-op_names name ss)
-is_among-op_names name (RuleOf n p ∷ ss) = is_among-op_names name ss
-is_among-op_names name (SubjectOf n t ∷ ss) = is_among-op_names name ss
+-- the kinds of statements in two parts
+pub kind_decls-append : (a b : List Statement) → kind_decls (a ++ b) ≡ kind_decls a ++ kind_decls b
+kind_decls-append [] b = refl
+kind_decls-append (OpOf name least more flags ∷ ss) b = kind_decls-append ss b
+kind_decls-append (KindOf name members ∷ ss) b = ap (λ l. kind_decl name members ∷ l) (kind_decls-append ss b)
+kind_decls-append (RuleOf name p ∷ ss) b = kind_decls-append ss b
+kind_decls-append (SubjectOf name t ∷ ss) b = kind_decls-append ss b
 
--- an operation is found exactly where a statement declares its name
-pub is_some-position_of_op : (name : List ℕ) (ss : List Statement) → is_some (position (has_name name) (op_decls ss)) ≡ is_among name (op_names ss)
-is_some-position_of_op name ss = is_some-position (has_name name) (op_decls ss) ∙ is_among-op_names name ss
+-- a statement that declares no operation adds none
+pub op_decls-other : (ss : List Statement) (s : Statement) → op_decls (s ∷ []) ≡ [] → op_decls (ss ++ s ∷ []) ≡ op_decls ss
+op_decls-other ss s h = op_decls-append ss (s ∷ []) ∙ ap (λ l. op_decls ss ++ l) h ∙ append-nil (op_decls ss)
 
--- as many operations as names
-pub length-op_decls : (ss : List Statement) → length (op_decls ss) ≡ length (op_names ss)
-length-op_decls [] = refl
-length-op_decls (OpOf n least ∷ ss) = ap suc (length-op_decls ss)
-length-op_decls (RuleOf n p ∷ ss) = length-op_decls ss
-length-op_decls (SubjectOf n t ∷ ss) = length-op_decls ss
+-- a statement that declares no kind adds none
+pub kind_decls-other : (ss : List Statement) (s : Statement) → kind_decls (s ∷ []) ≡ [] → kind_decls (ss ++ s ∷ []) ≡ kind_decls ss
+kind_decls-other ss s h = kind_decls-append ss (s ∷ []) ∙ ap (λ l. kind_decls ss ++ l) h ∙ append-nil (kind_decls ss)
+
+-- the kinds of this signature
+abbrev with_kinds : List OpDecl → List Kind → Sig
+with_kinds ds ks = record { ops = ds; kinds = ks }
+
+-- the signature behind a statement that declares no operation
+pub sig_with-other_op : (sig : Sig) (ss : List Statement) (s : Statement) → op_decls (s ∷ []) ≡ [] → sig ≡ sig_with (op_decls ss) [] → sig ≡ sig_with (op_decls (ss ++ s ∷ [])) []
+sig_with-other_op sig ss s none h = h ∙ ap (λ l. sig_with l []) (sym (op_decls-other ss s none))
+
+-- the signature behind a statement that declares no kind
+pub sig_with-other_kind : (sig : Sig) (ds : List OpDecl) (ss : List Statement) (s : Statement) → kind_decls (s ∷ []) ≡ [] → sig ≡ sig_with ds ss → sig ≡ sig_with ds (ss ++ s ∷ [])
+sig_with-other_kind sig ds ss s none h = h ∙ ap (with_kinds ds) (sym (kind_decls-other ss s none))
 
 -- ---- rules and subjects
 
 -- the names of the rules
 pub names-rules_of : (sig : Sig) (ss : List Statement) → map (λ r. r.name) (rules_of sig ss) ≡ rule_names ss
 names-rules_of sig [] = refl
-names-rules_of sig (OpOf n least ∷ ss) = names-rules_of sig ss
+names-rules_of sig (OpOf n least more flags ∷ ss) = names-rules_of sig ss
+names-rules_of sig (KindOf n members ∷ ss) = names-rules_of sig ss
 names-rules_of sig (RuleOf n p ∷ ss) = ap (λ l. n.text ∷ l) (names-rules_of sig ss)
 names-rules_of sig (SubjectOf n t ∷ ss) = names-rules_of sig ss
 
 -- the names of the subjects
 pub names-subjects_of : (sig : Sig) (ss : List Statement) → map (λ s. s.name) (subjects_of sig ss) ≡ subject_names ss
 names-subjects_of sig [] = refl
-names-subjects_of sig (OpOf n least ∷ ss) = names-subjects_of sig ss
+names-subjects_of sig (OpOf n least more flags ∷ ss) = names-subjects_of sig ss
+names-subjects_of sig (KindOf n members ∷ ss) = names-subjects_of sig ss
 names-subjects_of sig (RuleOf n p ∷ ss) = names-subjects_of sig ss
 names-subjects_of sig (SubjectOf n t ∷ ss) = ap (λ l. n.text ∷ l) (names-subjects_of sig ss)
 
 -- the rules of statements in two parts
 pub rules_of-append : (sig : Sig) (a b : List Statement) → rules_of sig (a ++ b) ≡ rules_of sig a ++ rules_of sig b
 rules_of-append sig [] b = refl
-rules_of-append sig (OpOf n least ∷ ss) b = rules_of-append sig ss b
+rules_of-append sig (OpOf n least more flags ∷ ss) b = rules_of-append sig ss b
+rules_of-append sig (KindOf n members ∷ ss) b = rules_of-append sig ss b
 rules_of-append sig (RuleOf n p ∷ ss) b = ap (λ l. rule_of sig n p ∷ l) (rules_of-append sig ss b)
 rules_of-append sig (SubjectOf n t ∷ ss) b = rules_of-append sig ss b
 
 -- the subjects of statements in two parts
 pub subjects_of-append : (sig : Sig) (a b : List Statement) → subjects_of sig (a ++ b) ≡ subjects_of sig a ++ subjects_of sig b
 subjects_of-append sig [] b = refl
-subjects_of-append sig (OpOf n least ∷ ss) b = subjects_of-append sig ss b
+subjects_of-append sig (OpOf n least more flags ∷ ss) b = subjects_of-append sig ss b
+subjects_of-append sig (KindOf n members ∷ ss) b = subjects_of-append sig ss b
 subjects_of-append sig (RuleOf n p ∷ ss) b = subjects_of-append sig ss b
 subjects_of-append sig (SubjectOf n t ∷ ss) b = ap (λ l. subject_of sig n t ∷ l) (subjects_of-append sig ss b)
-
--- ---- the signature, statement by statement
-
--- an operation is held exactly where a statement declared its name
-pub is_some-found_op : {X : Type 0} (f : X → ℕ) (found : Option X) (name : List ℕ) (sig : Sig) (ss : List Statement) → option_map f found ≡ position (has_name name) sig.ops → sig ≡ sig_of ss → is_some found ≡ is_among name (op_names ss)
-is_some-found_op f found name sig ss h e =
-    sym (is_some-option_map f found) ∙ ap is_some h ∙ ap (λ (s : Sig). is_some (position (has_name name) s.ops)) e ∙ is_some-position_of_op name ss
-
--- as many operations are held as were declared
-pub length-held_ops : (sig : Sig) (ss : List Statement) → sig ≡ sig_of ss → length sig.ops ≡ length (op_names ss)
-length-held_ops sig ss e = ap (λ (s : Sig). length s.ops) e ∙ length-op_decls ss
-
--- the signature with one operation more
-pub sig_of-OpOf : (old new : Sig) (word : List ℕ) (count : ℕ) (ss : List Statement) (name least : Spot)
-    → new ≡ record old { ops = old.ops ++ record { name = word; least = count; fixed = true; assoc = false; comm = false; one = false; sign = None } ∷ [] }
-    → old ≡ sig_of ss → word ≡ name.text → count ≡ number_of least.text → new ≡ sig_of (ss ++ OpOf name least ∷ [])
-sig_of-OpOf old new word count ss name least added e w n =
-    let with_decl : OpDecl → Sig → Sig = λ d s. record s { ops = s.ops ++ d ∷ [] } in
-    let decl : List ℕ → ℕ → OpDecl = λ x k. record { name = x; least = k; fixed = true; assoc = false; comm = false; one = false; sign = None } in
-    added ∙ ap (with_decl (decl word count)) e ∙ ap (λ x. with_decl (decl x count) (sig_of ss)) w ∙ ap (λ k. with_decl (decl name.text k) (sig_of ss)) n
-    ∙ sym (ap (λ l. let s : Sig = record { ops = l; kinds = [] } in s) (op_decls-append ss (OpOf name least ∷ [])))
-
--- a rule declares nothing
-pub sig_of-RuleOf : (ss : List Statement) (name : Spot) (p : Tree) → sig_of (ss ++ RuleOf name p ∷ []) ≡ sig_of ss
-sig_of-RuleOf ss name p = ap (λ l. let s : Sig = record { ops = l; kinds = [] } in s) (op_decls-append ss (RuleOf name p ∷ []) ∙ append-nil (op_decls ss))
-
--- a subject declares nothing
-pub sig_of-SubjectOf : (ss : List Statement) (name : Spot) (t : Tree) → sig_of (ss ++ SubjectOf name t ∷ []) ≡ sig_of ss
-sig_of-SubjectOf ss name t = ap (λ l. let s : Sig = record { ops = l; kinds = [] } in s) (op_decls-append ss (SubjectOf name t ∷ []) ∙ append-nil (op_decls ss))
 
 -- ---- rules, statement by statement
 
@@ -157,11 +168,11 @@ subjects_of-SubjectOf sig old new word u ss name t added e w n =
 -- ---- files, statement by statement
 
 -- a declaration adds neither a rule nor a subject
-pub file_over-OpOf : (sig : Sig) (ss : List Statement) (name least : Spot) → file_over sig (ss ++ OpOf name least ∷ []) ≡ file_over sig ss
-file_over-OpOf sig ss name least =
+pub file_over-declaration : (sig : Sig) (ss : List Statement) (s : Statement) → rules_of sig (s ∷ []) ≡ [] → subjects_of sig (s ∷ []) ≡ [] → file_over sig (ss ++ s ∷ []) ≡ file_over sig ss
+file_over-declaration sig ss s no_rule no_subject =
     let file : List Rule → List Subject → FileTree = λ r s. record { sig = sig; rules = r; subjects = s; edits = [] } in
-    ap (λ r. file r (subjects_of sig (ss ++ OpOf name least ∷ []))) (rules_of-append sig ss (OpOf name least ∷ []) ∙ append-nil (rules_of sig ss))
-    ∙ ap (file (rules_of sig ss)) (subjects_of-append sig ss (OpOf name least ∷ []) ∙ append-nil (subjects_of sig ss))
+    ap (λ r. file r (subjects_of sig (ss ++ s ∷ []))) (rules_of-append sig ss (s ∷ []) ∙ ap (λ l. rules_of sig ss ++ l) no_rule ∙ append-nil (rules_of sig ss))
+    ∙ ap (file (rules_of sig ss)) (subjects_of-append sig ss (s ∷ []) ∙ ap (λ l. subjects_of sig ss ++ l) no_subject ∙ append-nil (subjects_of sig ss))
 
 -- a file with one rule more
 file_over-RuleOf : (sig : Sig) (ss : List Statement) (name : Spot) (p : Tree) (new : List Rule) → new ≡ rules_of sig (ss ++ RuleOf name p ∷ []) → record (file_over sig ss) { rules = new } ≡ file_over sig (ss ++ RuleOf name p ∷ [])
@@ -201,3 +212,29 @@ gives-SubjectOf file sig ss name t new r h g =
     → Gives r (statement_faults sig ss (SubjectOf name t)) (λ _. record f { subjects = new } ≡ file_over sig (ss ++ SubjectOf name t ∷ [])) in
     let base : P (file_over sig ss) = λ k. gives-map r _ (λ _. new ≡ subjects_of sig (ss ++ SubjectOf name t ∷ [])) (λ _. record (file_over sig ss) { subjects = new } ≡ file_over sig (ss ++ SubjectOf name t ∷ [])) (λ _ e. file_over-SubjectOf sig ss name t new e) (k ss refl) in
     subst P (sym h) base g
+
+-- what declaring an operation gives, over the signature of the statements before
+pub gives-OpOf : (sig new : Sig) (ss : List Statement) (name least : Spot) (more : Bool) (flags : List Flag) (r : Result (Unit {0}) TextError) → sig ≡ sig_with (op_decls ss) []
+    → Gives r (op_faults sig.ops name least more flags) (λ _. new ≡ record sig { ops = sig.ops ++ op_decl name least more flags ∷ [] })
+    → Gives r (op_faults (op_decls ss) name least more flags) (λ _. new ≡ sig_with (op_decls (ss ++ OpOf name least more flags ∷ [])) [])
+gives-OpOf sig new ss name least more flags r h g =
+    let P : Sig → Type 0 = λ s. Gives r (op_faults s.ops name least more flags) (λ _. new ≡ record s { ops = s.ops ++ op_decl name least more flags ∷ [] }) in
+    gives-map r (op_faults (op_decls ss) name least more flags) (λ _. new ≡ with_kinds (op_decls ss ++ op_decl name least more flags ∷ []) []) (λ _. new ≡ sig_with (op_decls (ss ++ OpOf name least more flags ∷ [])) [])
+    (λ _ e. e ∙ ap (λ l. sig_with l []) (sym (op_decls-append ss (OpOf name least more flags ∷ [])))) (subst P h g)
+
+-- what declaring a kind gives, over the signature of the operations and of the statements before
+pub gives-KindOf : (sig new : Sig) (ds : List OpDecl) (ss : List Statement) (name : Spot) (members : List Spot) (r : Result (Unit {0}) TextError) → sig ≡ sig_with ds ss
+    → Gives r (kind_faults sig name members) (λ _. new ≡ record sig { kinds = sig.kinds ++ kind_decl name members ∷ [] })
+    → Gives r (kind_faults (sig_with ds ss) name members) (λ _. new ≡ sig_with ds (ss ++ KindOf name members ∷ []))
+gives-KindOf sig new ds ss name members r h g =
+    let P : Sig → Type 0 = λ s. Gives r (kind_faults s name members) (λ _. new ≡ record s { kinds = s.kinds ++ kind_decl name members ∷ [] }) in
+    gives-map r (kind_faults (sig_with ds ss) name members) (λ _. new ≡ with_kinds ds (kind_decls ss ++ kind_decl name members ∷ [])) (λ _. new ≡ sig_with ds (ss ++ KindOf name members ∷ []))
+    (λ _ e. e ∙ ap (with_kinds ds) (sym (kind_decls-append ss (KindOf name members ∷ [])))) (subst P h g)
+
+-- the kind that is added
+pub kind_added : (sig new : Sig) (word : List ℕ) (names : List (List ℕ)) (name : Spot) (members : List Spot) → new ≡ record sig { kinds = sig.kinds ++ record { name = word; members = name_set names } ∷ [] }
+    → word ≡ name.text → names ≡ map (λ m. m.text) members → new ≡ record sig { kinds = sig.kinds ++ kind_decl name members ∷ [] }
+kind_added sig new word names name members added w m =
+    let kind : List ℕ → List (List ℕ) → Kind = λ x y. record { name = x; members = name_set y } in
+    let with_kind : Kind → Sig = λ k. record sig { kinds = sig.kinds ++ k ∷ [] } in
+    added ∙ ap (λ x. with_kind (kind x names)) w ∙ ap (λ y. with_kind (kind name.text y)) m

@@ -7,7 +7,7 @@ use Rattle.mp_pattern.specs.PatternTree.{dot, symbol_pattern, app_pattern, wild_
 use Rattle.mp_pattern.specs.Value.{one, seq, bag}
 use Rattle.mp_syntax.specs.Lexing.{lexemes}
 use Rattle.mp_text.specs.declared.fault.TextKind.{TextKind}
-use Rattle.mp_text.specs.declared.fault.TextKind.TheVariants.{BadByte, Syntax, DuplicateName, TooMany, UnknownOp, BareOperation, Arity, WildcardInTerm}
+use Rattle.mp_text.specs.declared.fault.TextKind.TheVariants.{DuplicateName, TooMany, BadFlags, UnknownOp, BareOperation, Arity, WildcardInTerm, Unread}
 use Rattle.mp_text.specs.declared.fault.TextFault.{TextFault}
 use Rattle.mp_text.specs.File.{FileTree}
 use Rattle.mp_text.specs.Reading.{file_of, fault_of}
@@ -27,13 +27,26 @@ file_of-one_of_each : file_of (codes "op f 2; rule r: f(x_, a); subject s: f(0, 
 unfolding lexemes
 file_of-one_of_each = refl
 
+-- flags, a sign, a kind with its members as a set, and a subject in normal form
+file_of-flags : file_of (codes "op p 1+ assoc comm one infix +; kind v: b a b; subject s: (b + p(a));") ≡ Some (record {
+  sig = record {
+    ops = record { name = codes "p"; least = 1; fixed = false; assoc = true; comm = true; one = true; sign = Some (codes "+") } ∷ [];
+    kinds = record { name = codes "v"; members = codes "a" ∷ codes "b" ∷ [] } ∷ [];
+  };
+  rules = [];
+  subjects = record { name = codes "s"; term = app 0 (trees (symbol (codes "a") ∷ symbol (codes "b") ∷ [])) } ∷ [];
+  edits = [];
+})
+unfolding lexemes
+file_of-flags = refl
+
 -- a byte that begins no token
-fault_of-bad_byte : fault_of (codes "subject s: é;") ≡ at BadByte 12
+fault_of-bad_byte : fault_of (codes "subject s: é;") ≡ at Unread 1
 unfolding lexemes
 fault_of-bad_byte = refl
 
 -- brackets round a term alone
-fault_of-bracketed_term : fault_of (codes "subject s: (a);") ≡ at Syntax 12
+fault_of-bracketed_term : fault_of (codes "subject s: (a);") ≡ at Unread 1
 unfolding lexemes
 fault_of-bracketed_term = refl
 
@@ -81,6 +94,56 @@ fault_of-wildcard_in_term = refl
 fault_of-declarations_first : fault_of (codes "subject s: x_; op f 1; op f 1;") ≡ at DuplicateName 27
 unfolding lexemes
 fault_of-declarations_first = refl
+
+-- an associative operation of a fixed count
+fault_of-fixed_assoc : fault_of (codes "op p 2 assoc;") ≡ at BadFlags 4
+unfolding lexemes
+fault_of-fixed_assoc = refl
+
+-- a flag twice, before the sign is looked at
+fault_of-double_flag : fault_of (codes "op p 2 infix + infix +;") ≡ at BadFlags 4
+unfolding lexemes
+fault_of-double_flag = refl
+
+-- a sign of five bytes
+fault_of-long_sign : fault_of (codes "op p 2 infix +++++;") ≡ at BadFlags 4
+unfolding lexemes
+fault_of-long_sign = refl
+
+-- two operations of one sign
+fault_of-held_sign : fault_of (codes "op p 2 infix +; op q 2 infix +;") ≡ at DuplicateName 30
+unfolding lexemes
+fault_of-held_sign = refl
+
+-- the numbers are a kind already
+fault_of-numbers_as_kind : fault_of (codes "kind num: a;") ≡ at DuplicateName 6
+unfolding lexemes
+fault_of-numbers_as_kind = refl
+
+-- an operation as a member of a kind, declared behind it
+fault_of-operation_as_member : fault_of (codes "kind v: a f; op f 2;") ≡ at BareOperation 11
+unfolding lexemes
+fault_of-operation_as_member = refl
+
+-- a sign that no operation has stands behind the first operand
+fault_of-unknown_sign : fault_of (codes "subject s: (g(a) + b);") ≡ at UnknownOp 13
+unfolding lexemes
+fault_of-unknown_sign = refl
+
+-- the number of operands is tested at the bracket
+fault_of-infix_arity : fault_of (codes "op p 2 infix +; subject s: (p + b + c);") ≡ at Arity 28
+unfolding lexemes
+fault_of-infix_arity = refl
+
+-- a pattern with an associative operation
+fault_of-unmatched : fault_of (codes "op p 1+ assoc; rule r: p(x_, a);") ≡ at Unread 1
+unfolding lexemes
+fault_of-unmatched = refl
+
+-- an associative operation that the normal form doesn't have
+fault_of-collapsed : fault_of (codes "op p 1+ assoc one; rule r: p(x_);") ≡ None
+unfolding lexemes
+fault_of-collapsed = refl
 
 -- a signature with a sum and a pair
 abbrev example_sig : Sig

@@ -1,11 +1,11 @@
 -- The first fault of a list of faults that is put together.
-use Rattle.std.proofs.Common.{◌≡◌, Bool, true, List, [], ◌∷◌, ◌++◌, Some, refl, ap, sym, subst}
+use Rattle.std.proofs.Common.{◌≡◌, Bool, true, List, [], ◌∷◌, ◌++◌, Result, Some, refl, ap, sym, subst}
 use Rattle.mp_syntax.specs.declared.place.Place.{Place}
 use Rattle.mp_text.specs.declared.fault.TextKind.{TextKind}
 use Rattle.mp_text.specs.declared.fault.TextFault.{TextFault}
 use Rattle.mp_text.specs.declared.fault.TextError.{TextError}
 use Rattle.mp_text.specs.declared.fault.TextError.TheVariants.{Text, Memory}
-use Rattle.mp_text.specs.Answers.{first, Fails}
+use Rattle.mp_text.specs.Answers.{first, Fails, Gives}
 use Rattle.mp_text.specs.Checks.{fault_at, fault_if}
 
 -- the first fault of the front is the first of all
@@ -33,3 +33,7 @@ fails-behind e fs gs p h = subst (Fails e) (sym (none-append fs gs p)) h
 -- the error is the fault of a test that holds
 pub fails-fault_if : (e : TextError) (test : Bool) (kind : TextKind) (place : Place) → e ≡ Text (fault_at kind place) → test ≡ true → Fails e (fault_if test kind place)
 fails-fault_if e test kind place h holds = rw (h, holds) refl
+
+-- what is given behind a front without faults
+pub gives-behind : {T : Type 0} (r : Result T TextError) (fs gs : List TextFault) (P : T → Type 0) → fs ≡ [] → Gives r gs P → Gives r (fs ++ gs) P
+gives-behind r fs gs P p g = subst (λ l. Gives r l P) (sym (none-append fs gs p)) g

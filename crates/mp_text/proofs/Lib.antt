@@ -4,11 +4,12 @@ mod Applied
 mod Variables
 mod Fails
 mod Words
+mod Faultless
+mod OpLaws
 mod Built
 mod Declared
 mod Separated
 mod Pass
-mod FreeNormal
 pub mod Whole
 pub mod SoundLaws
 mod Examples

@@ -1,88 +1,76 @@
 -- What the checks let through is sound.
 use Rattle.std.specs.Prelude.{if◌then◌else◌}
 use Rattle.mp_text.proofs.Words.{both, first-of, second-of}
+use Rattle.mp_text.proofs.OpLaws.{declarable-op_faults}
+use Rattle.mp_text.proofs.Faultless.{nil-append, nil-fault_if, or-second, within, below, not-false}
 use Rattle.std.proofs.Common.{eqb, ◌≡◌, ◌≤◌, ◌<◌, ◌+◌, ℕ, zero, suc, Bool, true, false, ◌&&◌, ◌||◌, leb, ltb, List, [], ◌∷◌, ◌++◌, map, length, Option, Some, None, max, append-nil, append_assoc, length-append, refl, sym, ap, ◌∙◌, subst, arith, rules}
-use Rattle.std.specs.Prelude.{not, is_some, option_and_then, slice_get, unwrap_or}
+use Rattle.std.specs.Prelude.{not, is_some, option_and_then, slice_get, unwrap_or, Result, Ok, Err, IfOk}
 use Rattle.std.specs.List.{list_all, AllByRecursion}
 use Rattle.std.specs.Str.{bytes_eq}
 use Rattle.std.proofs.lemmas.List.{length-map, map-append}
+use Rattle.std.proofs.lemmas.List.Sorted.{length_permutation}
 use Rattle.std.proofs.lemmas.Map.Text.{is_eq-slice_cmp}
 use Rattle.mp_term.specs.declared.signature.OpDecl.{OpDecl}
 use Rattle.mp_term.specs.Tree as term
 use Rattle.mp_term.specs.Tree.{tree_list}
 use Rattle.mp_term.specs.Size as size
 use Rattle.mp_term.specs.Size.{node_count, node_counts, depth, greatest_depth}
-use Rattle.mp_term.specs.Signature.{Sig, allows, holds_of, well_formed, all_well_formed}
+use Rattle.mp_term.specs.Signature.{Sig, allows, holds_of, in_order, all_in_order, well_formed, all_well_formed}
+use Rattle.mp_term.specs.Normal.{normal}
+use Rattle.mp_term.proofs.NormalSize.{normal-normal, node_count-normal, depth-normal}
+use Rattle.mp_term.proofs.WellFormedNormal.{wf-normal}
 use Rattle.mp_term.specs.Names.{are_distinct}
 use Rattle.mp_pattern.specs.PatternTree as pattern
 use Rattle.mp_pattern.specs.Firsts.{firsts_after, is_known, add_new}
+use Rattle.mp_pattern.specs.Normal.{normal_pattern}
 use Rattle.mp_pattern.specs.Size.{pattern_nodes, all_pattern_nodes}
 use Rattle.mp_pattern.specs.Value.{same_name}
 use Rattle.mp_pattern.specs.Variables.{uses, all_uses, variables}
 use Rattle.mp_syntax.specs.Syntax as syntax
-use Rattle.mp_syntax.specs.Syntax.{Spot, Wildcard, Tree, Symbol, Apply, Wild, Trees, no_trees, more_trees, Statement, OpOf, RuleOf, SubjectOf, Fits, AreFit, AreStatements}
+use Rattle.mp_syntax.specs.Syntax.{Spot, Wildcard, Tree, Symbol, Apply, InfixOf, Wild, Trees, no_trees, more_trees, Flag, Statement, OpOf, KindOf, RuleOf, SubjectOf, Fits, AreFit, AreStatements}
 use Rattle.mp_text.specs.declared.fault.TextFault.{TextFault}
 use Rattle.mp_text.specs.declared.fault.TextKind.{TextKind}
 use Rattle.mp_syntax.specs.declared.place.Place.{Place}
 use Rattle.mp_text.specs.Names.{is_among, named, wildcard_names, all_wildcard_names, variable_names, rule_names, subject_names}
-use Rattle.mp_text.specs.Build.{op_number, head_number, shape_of, variable_of, term_of, terms_of, pattern_of, patterns_of, rule_of, rules_of, subject_of, subjects_of, sig_of, file_tree_of}
-use Rattle.mp_text.specs.Checks.{fault_at, fault_if, nodes, all_nodes, is_large_pattern, is_large_term, op_named, head_faults, symbol_faults, allows_patterns, term_faults, all_term_faults, pattern_faults, all_pattern_faults, name_faults, declaration_faults, statement_faults, faults_by, faults}
-use Rattle.mp_text.specs.Flags.{HasNoFlags}
-use Rattle.mp_text.specs.Sound.{DefaultIsNormal, DefaultsAreNormal, AllDefaultsAreNormal, holds_ops, all_hold_ops, IsSoundPattern, IsSoundTerm, IsSoundFile}
-use Rattle.mp_text.specs.File.{FileTree}
-use Rattle.mp_text.specs.Reading.{IsFileOf}
+use Rattle.mp_text.specs.Build.{op_number, sign_number, head_number, op_decl, op_decls, shape_of, variable_of, term_of, terms_of, pattern_of, patterns_of, rule_of, rules_of, subject_of, subjects_of, sig_of, file_tree_of}
+use Rattle.mp_text.specs.Checks.{fault_at, fault_if, nodes, all_nodes, is_large_pattern, is_large_term, op_at, op_named, op_signed, head_faults, arity_faults, sign_faults, symbol_faults, allows_patterns, term_faults, term_operand_faults, all_term_faults, pattern_faults, pattern_operand_faults, all_pattern_faults, name_faults, op_faults, op_statement_faults, kind_statement_faults, declaration_faults, statement_faults, faults_by, faults}
+use Rattle.mp_pattern.specs.Sound.{DefaultIsNormal, DefaultsAreNormal, AllDefaultsAreNormal, holds_ops, all_hold_ops}
+use Rattle.mp_pattern.proofs.Preserved.{defaults-normal_pattern, holds_ops-normal_pattern}
+use Rattle.mp_pattern.proofs.NormalShape.{normal_pattern-normal_pattern}
+use Rattle.mp_pattern.proofs.NormalMeasures.{pattern_nodes-normal_pattern}
+use Rattle.mp_pattern.proofs.VariableLaws.{IsPermutation-variables}
+use Rattle.mp_text.specs.Sound.{IsSoundPattern, IsSoundTerm, IsSoundFile}
+use Rattle.mp_text.specs.declared.fault.TextError.{TextError}
+use Rattle.mp_text.specs.declared.file.File as code_file
+use Rattle.mp_text.specs.File.{FileTree, file_tree}
+use Rattle.mp_text.specs.Reading.{IsFileOf, ReadGives}
 use Rattle.mp_text.proofs.Declared.{bytes_eq_comm, names-rules_of, names-subjects_of}
-use Rattle.mp_text.proofs.FreeNormal.{normal-free, normal_pattern-free, list_all-op_decls}
-
--- ---- lists without faults
-
--- two lists without items
-nil-append : {X : Type 0} (a b : List X) → a ++ b ≡ [] → (a ≡ []) × (b ≡ [])
-nil-append [] b h = (refl, h)
-nil-append (x ∷ a) b h = cc
-
--- a test that gives no fault doesn't hold
-nil-fault_if : (test : Bool) (kind : TextKind) (place : Place) → fault_if test kind place ≡ [] → test ≡ false
-nil-fault_if true kind place h = cc
-nil-fault_if false kind place h = refl
-
--- the second test fails where one of the two would do
-or-second : (a b : Bool) → (a || b) ≡ false → (a ≡ false) × (b ≡ false)
-or-second true b h = cc
-or-second false b h = (refl, h)
-
--- a number that isn't above the bound
-within : (bound n : ℕ) → ltb bound n ≡ false → n ≤ bound
-within bound n h = search (rules, h)
-
--- a number that doesn't reach the bound
-below : (bound n : ℕ) → leb bound n ≡ false → n < bound
-below bound n h = search (rules, h)
 
 -- ---- operations that are found
 
--- an operation that is found under a name
-record Found (sig : Sig) (name : List ℕ) (passes : OpDecl → Bool) : Type 0 where
+-- an operation that is found under its number
+record Found (sig : Sig) (number : Option ℕ) (passes : OpDecl → Bool) : Type 0 where
   decl : OpDecl
-  held : slice_get sig.ops (head_number sig name) ≡ Some decl
+  held : slice_get sig.ops (head_number number) ≡ Some decl
   passed : passes decl ≡ true
 
-not-false : (b : Bool) → not b ≡ false → b ≡ true
-not-false true h = refl
-not-false false h = cc
+-- an operation before brackets without faults is found, and passes the test
+found-head : (sig : Sig) (passes : OpDecl → Bool) (f : Spot) (number : Option ℕ) → head_faults passes f (op_at sig number) ≡ [] → Found sig number passes
+found-head sig passes f None h = cc
+found-head sig passes f (Some n) h = by_decl (slice_get sig.ops n) refl h
+  where
+    by_decl : (o : Option OpDecl) → slice_get sig.ops n ≡ o → head_faults passes f o ≡ [] → Found sig (Some n) passes
+    by_decl None e h = cc
+    by_decl (Some d) e h = record { decl = d; held = e; passed = not-false (passes d) (nil-fault_if (not (passes d)) _ f.place h) }
 
-found-number : (sig : Sig) (passes : OpDecl → Bool) (f : Spot) (n : Option ℕ) → op_number sig f.text ≡ n → (o : Option OpDecl) → option_and_then (slice_get sig.ops) n ≡ o → head_faults passes f o ≡ [] → Found sig f.text passes
-found-number sig passes f None e (Some d) k h = cc
-found-number sig passes f n e None k h = cc
-found-number sig passes f (Some n) e (Some d) k h = record {
-  decl = d;
-  held = ap (λ o. slice_get sig.ops (unwrap_or o 0)) e ∙ k;
-  passed = not-false (passes d) (nil-fault_if (not (passes d)) _ f.place h);
-}
-
--- a head without faults is found, and passes the test
-found-head : (sig : Sig) (passes : OpDecl → Bool) (f : Spot) → head_faults passes f (op_named sig f.text) ≡ [] → Found sig f.text passes
-found-head sig passes f h = found-number sig passes f (op_number sig f.text) refl (op_named sig f.text) refl h
+-- an operation between operands without faults is found, and passes the test
+found-infix : (sig : Sig) (passes : OpDecl → Bool) (opened : Place) (sign : Spot) (number : Option ℕ) → arity_faults passes opened (op_at sig number) ≡ [] → sign_faults sign (op_at sig number) ≡ [] → Found sig number passes
+found-infix sig passes opened sign None h k = cc
+found-infix sig passes opened sign (Some n) h k = by_decl (slice_get sig.ops n) refl h k
+  where
+    by_decl : (o : Option OpDecl) → slice_get sig.ops n ≡ o → arity_faults passes opened o ≡ [] → sign_faults sign o ≡ [] → Found sig (Some n) passes
+    by_decl None e h k = cc
+    by_decl (Some d) e h k = record { decl = d; held = e; passed = not-false (passes d) (nil-fault_if (not (passes d)) _ opened h) }
 
 -- ---- terms
 
@@ -92,14 +80,28 @@ module _ (sig : Sig) where
   length-terms_of no_trees = refl
   length-terms_of (more_trees t ts) = ap suc (length-terms_of ts)
 
+  -- operands without faults, and a sign without faults
+  nil-term_operands : (at_sign : List TextFault) (ts : Trees) → term_operand_faults sig at_sign ts ≡ [] → (at_sign ≡ []) × (all_term_faults sig ts ≡ [])
+  nil-term_operands at_sign no_trees h = (h, refl)
+  nil-term_operands at_sign (more_trees t ts) h =
+      let p = nil-append (term_faults sig t) (at_sign ++ all_term_faults sig ts) h in
+      let q = nil-append at_sign (all_term_faults sig ts) p.1 in
+      (q.0, ap (λ l. l ++ all_term_faults sig ts) p.0 ∙ q.1)
+
   mutual
     -- a term without faults is well formed
-    well_formed-term_of : (t : Tree) → term_faults sig t ≡ [] → well_formed sig (term_of sig t) ≡ true
+    pub well_formed-term_of : (t : Tree) → term_faults sig t ≡ [] → well_formed sig (term_of sig t) ≡ true
     well_formed-term_of (Symbol w) h = refl
     well_formed-term_of (Apply f args) h =
         let p = nil-append (head_faults (allows (length (syntax.tree_list args))) f (op_named sig f.text)) (all_term_faults sig args) h in
-        let d = found-head sig (allows (length (syntax.tree_list args))) f p.0 in
+        let d = found-head sig (allows (length (syntax.tree_list args))) f (op_number sig f.text) p.0 in
         rw (d.held, length-terms_of args, d.passed) (all_well_formed-terms_of args p.1)
+    well_formed-term_of (InfixOf opened sign operands) h =
+        let at_sign = sign_faults sign (op_signed sig sign.text) in
+        let p = nil-append (arity_faults (allows (length (syntax.tree_list operands))) opened (op_signed sig sign.text)) (term_operand_faults sig at_sign operands) h in
+        let q = nil-term_operands at_sign operands p.1 in
+        let d = found-infix sig (allows (length (syntax.tree_list operands))) opened sign (sign_number sig sign.text) p.0 q.0 in
+        rw (d.held, length-terms_of operands, d.passed) (all_well_formed-terms_of operands q.1)
     well_formed-term_of (Wild w) h = cc
 
     all_well_formed-terms_of : (ts : Trees) → all_term_faults sig ts ≡ [] → all_well_formed sig (terms_of sig ts) ≡ true
@@ -113,6 +115,7 @@ module _ (sig : Sig) where
     node_count-term_of : (t : Tree) → node_count (term_of sig t) ≡ nodes t
     node_count-term_of (Symbol w) = refl
     node_count-term_of (Apply f args) = ap (λ n. n + 1) (node_counts-terms_of args)
+    node_count-term_of (InfixOf opened sign operands) = ap (λ n. n + 1) (node_counts-terms_of operands)
     node_count-term_of (Wild w) = refl
 
     node_counts-terms_of : (ts : Trees) → node_counts (terms_of sig ts) ≡ all_nodes ts
@@ -125,6 +128,8 @@ module _ (sig : Sig) where
     depth-term_of room (Symbol w) h = omega arith
     depth-term_of zero (Apply f args) h = absurd h
     depth-term_of (suc room) (Apply f args) h = omega (arith, depth-terms_of room args h)
+    depth-term_of zero (InfixOf opened sign operands) h = absurd h
+    depth-term_of (suc room) (InfixOf opened sign operands) h = omega (arith, depth-terms_of room operands h.1)
     depth-term_of room (Wild w) h = omega arith
 
     depth-terms_of : (room : ℕ) (ts : Trees) → AreFit room ts → greatest_depth (terms_of sig ts) ≤ room
@@ -144,22 +149,36 @@ module _ (sig : Sig) where
 
   mutual
     -- the defaults of a pattern are normal
-    defaults-pattern_of : (p : Tree) → DefaultsAreNormal sig (pattern_of sig p)
+    pub defaults-pattern_of : (p : Tree) → DefaultsAreNormal sig (pattern_of sig p)
     defaults-pattern_of (Symbol w) = tt
     defaults-pattern_of (Apply f args) = defaults-patterns_of args
+    defaults-pattern_of (InfixOf opened sign operands) = defaults-patterns_of operands
     defaults-pattern_of (Wild w) = default-shape_of w
 
     defaults-patterns_of : (ps : Trees) → AllDefaultsAreNormal sig (patterns_of sig ps)
     defaults-patterns_of no_trees = tt
     defaults-patterns_of (more_trees p ps) = (defaults-pattern_of p, defaults-patterns_of ps)
 
+  -- operands without faults, and a sign without faults, in a pattern
+  nil-pattern_operands : (at_sign : List TextFault) (ps : Trees) → pattern_operand_faults sig at_sign ps ≡ [] → (at_sign ≡ []) × (all_pattern_faults sig ps ≡ [])
+  nil-pattern_operands at_sign no_trees h = (h, refl)
+  nil-pattern_operands at_sign (more_trees p ps) h =
+      let q = nil-append (pattern_faults sig p) (at_sign ++ all_pattern_faults sig ps) h in
+      let r = nil-append at_sign (all_pattern_faults sig ps) q.1 in
+      (r.0, ap (λ l. l ++ all_pattern_faults sig ps) q.0 ∙ r.1)
+
   mutual
     -- the operations of a pattern without faults are held
-    holds_ops-pattern_of : (p : Tree) → pattern_faults sig p ≡ [] → holds_ops sig (pattern_of sig p) ≡ true
+    pub holds_ops-pattern_of : (p : Tree) → pattern_faults sig p ≡ [] → holds_ops sig (pattern_of sig p) ≡ true
     holds_ops-pattern_of (Symbol w) h = refl
     holds_ops-pattern_of (Apply f args) h =
         let p = nil-append (head_faults (allows_patterns (syntax.tree_list args)) f (op_named sig f.text)) (all_pattern_faults sig args) h in
-        rw ((found-head sig (allows_patterns (syntax.tree_list args)) f p.0).held) (all_hold_ops-patterns_of args p.1)
+        rw ((found-head sig (allows_patterns (syntax.tree_list args)) f (op_number sig f.text) p.0).held) (all_hold_ops-patterns_of args p.1)
+    holds_ops-pattern_of (InfixOf opened sign operands) h =
+        let at_sign = sign_faults sign (op_signed sig sign.text) in
+        let p = nil-append (arity_faults (allows_patterns (syntax.tree_list operands)) opened (op_signed sig sign.text)) (pattern_operand_faults sig at_sign operands) h in
+        let q = nil-pattern_operands at_sign operands p.1 in
+        rw ((found-infix sig (allows_patterns (syntax.tree_list operands)) opened sign (sign_number sig sign.text) p.0 q.0).held) (all_hold_ops-patterns_of operands q.1)
     holds_ops-pattern_of (Wild w) h = refl
 
     all_hold_ops-patterns_of : (ps : Trees) → all_pattern_faults sig ps ≡ [] → all_hold_ops sig (patterns_of sig ps) ≡ true
@@ -173,6 +192,7 @@ module _ (sig : Sig) where
     pattern_nodes-pattern_of : (p : Tree) → pattern_nodes (pattern_of sig p) ≡ nodes p
     pattern_nodes-pattern_of (Symbol w) = refl
     pattern_nodes-pattern_of (Apply f args) = ap (λ n. n + 1) (all_pattern_nodes-patterns_of args)
+    pattern_nodes-pattern_of (InfixOf opened sign operands) = ap (λ n. n + 1) (all_pattern_nodes-patterns_of operands)
     pattern_nodes-pattern_of (Wild w) = refl
 
     all_pattern_nodes-patterns_of : (ps : Trees) → all_pattern_nodes (patterns_of sig ps) ≡ all_nodes ps
@@ -188,7 +208,8 @@ module _ (sig : Sig) where
     -- the variables that a pattern uses are the names of its wildcards
     names-uses : (f : Option ℕ) (p : Tree) → map (λ u. u.name) (uses f (pattern_of sig p)) ≡ wildcard_names p
     names-uses f (Symbol w) = refl
-    names-uses f (Apply g args) = names-all_uses (Some (head_number sig g.text)) args
+    names-uses f (Apply g args) = names-all_uses (Some (head_number (op_number sig g.text))) args
+    names-uses f (InfixOf opened sign operands) = names-all_uses (Some (head_number (sign_number sig sign.text))) operands
     names-uses f (Wild w) = names-wild f (shape_of w) w.name
 
     names-all_uses : (f : Option ℕ) (ps : Trees) → map (λ u. u.name) (all_uses f (patterns_of sig ps)) ≡ all_wildcard_names ps
@@ -242,55 +263,69 @@ named-by most earlier large name h =
     let o = or-second (leb most (length earlier)) large (nil-fault_if (leb most (length earlier) || large) _ name.place p.1) in
     record { other = nil-fault_if (is_among name.text earlier) _ name.place p.0; few = below most (length earlier) o.0; small = o.1 }
 
--- the pattern of a rule without faults
-sound-pattern : (sig : Sig) → HasNoFlags sig → (p : Tree) → is_large_pattern p ≡ false → pattern_faults sig p ≡ [] → IsSoundPattern sig (rule_of sig (record { text = []; place = record { line = 0; column = 0 } }) p).pattern
-sound-pattern sig flags p small none =
+-- the normal form of a pattern without faults
+sound-pattern : (sig : Sig) (p : Tree) → is_large_pattern p ≡ false → pattern_faults sig p ≡ [] → IsSoundPattern sig (normal_pattern sig (pattern_of sig p))
+sound-pattern sig p small none =
     let o = or-second (ltb 64 (nodes p)) (ltb 32 (length (variable_names p))) small in
     let nodes_few : nodes p ≤ 64 = within 64 (nodes p) o.0 in
     let names_few : length (variable_names p) ≤ 32 = within 32 (length (variable_names p)) o.1 in
-    let sound : IsSoundPattern sig (pattern_of sig p) = record {
-      normal = normal_pattern-free sig flags (pattern_of sig p);
-      defaults = defaults-pattern_of sig p;
-      held = holds_ops-pattern_of sig p none;
-      nodes = omega (arith, pattern_nodes-pattern_of sig p);
-      few_variables = omega (arith, ap length (variables-pattern_of sig p));
-    } in
-    subst (IsSoundPattern sig) (sym (normal_pattern-free sig flags (pattern_of sig p))) sound
+    record {
+      normal = normal_pattern-normal_pattern sig (pattern_of sig p);
+      defaults = defaults-normal_pattern sig (pattern_of sig p) (defaults-pattern_of sig p);
+      held = holds_ops-normal_pattern sig (pattern_of sig p) (holds_ops-pattern_of sig p none);
+      nodes = omega (arith, pattern_nodes-normal_pattern sig (pattern_of sig p), pattern_nodes-pattern_of sig p);
+      few_variables = omega (arith, length_permutation (variables (pattern_of sig p)) (variables (normal_pattern sig (pattern_of sig p))) (IsPermutation-variables sig (pattern_of sig p)), ap length (variables-pattern_of sig p));
+    }
 
--- the term of a subject without faults
-sound-term : (sig : Sig) → HasNoFlags sig → (t : Tree) → is_large_term t ≡ false → term_faults sig t ≡ [] → Fits 100 t → IsSoundTerm sig (subject_of sig (record { text = []; place = record { line = 0; column = 0 } }) t).term
-sound-term sig flags t small none fits =
+-- the normal form of a term without faults
+sound-term : (sig : Sig) → all_in_order sig.ops ≡ true → (t : Tree) → is_large_term t ≡ false → term_faults sig t ≡ [] → Fits 100 t → IsSoundTerm sig (normal sig (term_of sig t))
+sound-term sig ordered t small none fits =
     let few : nodes t ≤ 100000 = within 100000 (nodes t) small in
-    let sound : IsSoundTerm sig (term_of sig t) = record {
-      normal = normal-free sig flags (term_of sig t);
-      formed = well_formed-term_of sig t none;
-      nodes = omega (arith, node_count-term_of sig t);
-      shallow = depth-term_of sig 100 t fits;
-    } in
-    subst (IsSoundTerm sig) (sym (normal-free sig flags (term_of sig t))) sound
+    record {
+      normal = normal-normal sig (term_of sig t);
+      formed = wf-normal sig ordered (term_of sig t) (well_formed-term_of sig t none);
+      nodes = omega (arith, node_count-normal sig (term_of sig t), node_count-term_of sig t);
+      shallow = omega (arith, depth-normal sig (term_of sig t), depth-term_of sig 100 t fits);
+    }
 
-module _ (sig : Sig) (flags : HasNoFlags sig) where
+-- ---- declarations
+
+-- operations without faults are in order
+all_in_order-op_decls : (earlier ss : List Statement) → faults_by op_statement_faults earlier ss ≡ [] → all_in_order (op_decls ss) ≡ true
+all_in_order-op_decls earlier [] h = refl
+all_in_order-op_decls earlier (OpOf name least more flags ∷ ss) h =
+    let p = nil-append (op_faults (op_decls earlier) name least more flags) (faults_by op_statement_faults (earlier ++ OpOf name least more flags ∷ []) ss) h in
+    both (in_order (op_decl name least more flags)) (all_in_order (op_decls ss)) (declarable-op_faults (op_decls earlier) name least more flags p.0).ordered (all_in_order-op_decls (earlier ++ OpOf name least more flags ∷ []) ss p.1)
+all_in_order-op_decls earlier (KindOf name members ∷ ss) h = all_in_order-op_decls (earlier ++ KindOf name members ∷ []) ss h
+all_in_order-op_decls earlier (RuleOf name p ∷ ss) h = all_in_order-op_decls (earlier ++ RuleOf name p ∷ []) ss h
+all_in_order-op_decls earlier (SubjectOf name t ∷ ss) h = all_in_order-op_decls (earlier ++ SubjectOf name t ∷ []) ss h
+
+-- ---- rules and subjects
+
+module _ (sig : Sig) where
   -- the patterns of statements without faults
   sound-rules : (earlier ss : List Statement) → faults_by (statement_faults sig) earlier ss ≡ [] → AllByRecursion (λ r. IsSoundPattern sig r.pattern) (rules_of sig ss)
   sound-rules earlier [] h = tt
-  sound-rules earlier (OpOf name least ∷ ss) h = sound-rules (earlier ++ OpOf name least ∷ []) ss h
+  sound-rules earlier (OpOf name least more flags ∷ ss) h = sound-rules (earlier ++ OpOf name least more flags ∷ []) ss h
+  sound-rules earlier (KindOf name members ∷ ss) h = sound-rules (earlier ++ KindOf name members ∷ []) ss h
   sound-rules earlier (RuleOf name p ∷ ss) h =
       let q = nil-append (statement_faults sig earlier (RuleOf name p)) (faults_by (statement_faults sig) (earlier ++ RuleOf name p ∷ []) ss) h in
       let r = nil-append (name_faults 1000 (rule_names earlier) (is_large_pattern p) name) (pattern_faults sig p) q.0 in
-      (sound-pattern sig flags p (named-by 1000 (rule_names earlier) (is_large_pattern p) name r.0).small r.1, sound-rules (earlier ++ RuleOf name p ∷ []) ss q.1)
+      (sound-pattern sig p (named-by 1000 (rule_names earlier) (is_large_pattern p) name r.0).small r.1, sound-rules (earlier ++ RuleOf name p ∷ []) ss q.1)
   sound-rules earlier (SubjectOf name t ∷ ss) h =
       sound-rules (earlier ++ SubjectOf name t ∷ []) ss (nil-append (statement_faults sig earlier (SubjectOf name t)) (faults_by (statement_faults sig) (earlier ++ SubjectOf name t ∷ []) ss) h).1
 
   -- the terms of statements without faults
-  sound-subjects : (earlier ss : List Statement) → AreStatements ss → faults_by (statement_faults sig) earlier ss ≡ [] → AllByRecursion (λ s. IsSoundTerm sig s.term) (subjects_of sig ss)
-  sound-subjects earlier [] fit h = tt
-  sound-subjects earlier (OpOf name least ∷ ss) fit h = sound-subjects (earlier ++ OpOf name least ∷ []) ss fit.1 h
-  sound-subjects earlier (RuleOf name p ∷ ss) fit h =
-      sound-subjects (earlier ++ RuleOf name p ∷ []) ss fit.1 (nil-append (statement_faults sig earlier (RuleOf name p)) (faults_by (statement_faults sig) (earlier ++ RuleOf name p ∷ []) ss) h).1
-  sound-subjects earlier (SubjectOf name t ∷ ss) fit h =
+  sound-subjects : all_in_order sig.ops ≡ true → (earlier ss : List Statement) → AreStatements ss → faults_by (statement_faults sig) earlier ss ≡ [] → AllByRecursion (λ s. IsSoundTerm sig s.term) (subjects_of sig ss)
+  sound-subjects ordered earlier [] fit h = tt
+  sound-subjects ordered earlier (OpOf name least more flags ∷ ss) fit h = sound-subjects ordered (earlier ++ OpOf name least more flags ∷ []) ss fit.1 h
+  sound-subjects ordered earlier (KindOf name members ∷ ss) fit h = sound-subjects ordered (earlier ++ KindOf name members ∷ []) ss fit.1 h
+  sound-subjects ordered earlier (RuleOf name p ∷ ss) fit h =
+      sound-subjects ordered (earlier ++ RuleOf name p ∷ []) ss fit.1 (nil-append (statement_faults sig earlier (RuleOf name p)) (faults_by (statement_faults sig) (earlier ++ RuleOf name p ∷ []) ss) h).1
+  sound-subjects ordered earlier (SubjectOf name t ∷ ss) fit h =
       let q = nil-append (statement_faults sig earlier (SubjectOf name t)) (faults_by (statement_faults sig) (earlier ++ SubjectOf name t ∷ []) ss) h in
       let r = nil-append (name_faults 1000 (subject_names earlier) (is_large_term t) name) (term_faults sig t) q.0 in
-      (sound-term sig flags t (named-by 1000 (subject_names earlier) (is_large_term t) name r.0).small r.1 fit.0, sound-subjects (earlier ++ SubjectOf name t ∷ []) ss fit.1 q.1)
+      (sound-term sig ordered t (named-by 1000 (subject_names earlier) (is_large_term t) name r.0).small r.1 fit.0, sound-subjects ordered (earlier ++ SubjectOf name t ∷ []) ss fit.1 q.1)
 
 -- ---- the names of statements
 
@@ -304,13 +339,15 @@ good-push names name g other few = record { distinct = are_distinct-push names n
 
 rule_names-append : (a b : List Statement) → rule_names (a ++ b) ≡ rule_names a ++ rule_names b
 rule_names-append [] b = refl
-rule_names-append (OpOf name least ∷ ss) b = rule_names-append ss b
+rule_names-append (OpOf name least more flags ∷ ss) b = rule_names-append ss b
+rule_names-append (KindOf name members ∷ ss) b = rule_names-append ss b
 rule_names-append (RuleOf name p ∷ ss) b = ap (λ l. name.text ∷ l) (rule_names-append ss b)
 rule_names-append (SubjectOf name t ∷ ss) b = rule_names-append ss b
 
 subject_names-append : (a b : List Statement) → subject_names (a ++ b) ≡ subject_names a ++ subject_names b
 subject_names-append [] b = refl
-subject_names-append (OpOf name least ∷ ss) b = subject_names-append ss b
+subject_names-append (OpOf name least more flags ∷ ss) b = subject_names-append ss b
+subject_names-append (KindOf name members ∷ ss) b = subject_names-append ss b
 subject_names-append (RuleOf name p ∷ ss) b = subject_names-append ss b
 subject_names-append (SubjectOf name t ∷ ss) b = ap (λ l. name.text ∷ l) (subject_names-append ss b)
 
@@ -323,9 +360,12 @@ over names_of law earlier ss s =
 module _ (sig : Sig) where
   good-rules : (earlier ss : List Statement) → faults_by (statement_faults sig) earlier ss ≡ [] → Good (rule_names earlier) → Good (rule_names earlier ++ rule_names ss)
   good-rules earlier [] h g = subst Good (sym (append-nil (rule_names earlier))) g
-  good-rules earlier (OpOf name least ∷ ss) h g =
-      let same = rule_names-append earlier (OpOf name least ∷ []) ∙ append-nil (rule_names earlier) in
-      subst Good (over rule_names rule_names-append earlier ss (OpOf name least)) (good-rules (earlier ++ OpOf name least ∷ []) ss h (subst Good (sym same) g))
+  good-rules earlier (OpOf name least more flags ∷ ss) h g =
+      let same = rule_names-append earlier (OpOf name least more flags ∷ []) ∙ append-nil (rule_names earlier) in
+      subst Good (over rule_names rule_names-append earlier ss (OpOf name least more flags)) (good-rules (earlier ++ OpOf name least more flags ∷ []) ss h (subst Good (sym same) g))
+  good-rules earlier (KindOf name members ∷ ss) h g =
+      let same = rule_names-append earlier (KindOf name members ∷ []) ∙ append-nil (rule_names earlier) in
+      subst Good (over rule_names rule_names-append earlier ss (KindOf name members)) (good-rules (earlier ++ KindOf name members ∷ []) ss h (subst Good (sym same) g))
   good-rules earlier (RuleOf name p ∷ ss) h g =
       let q = nil-append (statement_faults sig earlier (RuleOf name p)) (faults_by (statement_faults sig) (earlier ++ RuleOf name p ∷ []) ss) h in
       let r = nil-append (name_faults 1000 (rule_names earlier) (is_large_pattern p) name) (pattern_faults sig p) q.0 in
@@ -339,9 +379,12 @@ module _ (sig : Sig) where
 
   good-subjects : (earlier ss : List Statement) → faults_by (statement_faults sig) earlier ss ≡ [] → Good (subject_names earlier) → Good (subject_names earlier ++ subject_names ss)
   good-subjects earlier [] h g = subst Good (sym (append-nil (subject_names earlier))) g
-  good-subjects earlier (OpOf name least ∷ ss) h g =
-      let same = subject_names-append earlier (OpOf name least ∷ []) ∙ append-nil (subject_names earlier) in
-      subst Good (over subject_names subject_names-append earlier ss (OpOf name least)) (good-subjects (earlier ++ OpOf name least ∷ []) ss h (subst Good (sym same) g))
+  good-subjects earlier (OpOf name least more flags ∷ ss) h g =
+      let same = subject_names-append earlier (OpOf name least more flags ∷ []) ∙ append-nil (subject_names earlier) in
+      subst Good (over subject_names subject_names-append earlier ss (OpOf name least more flags)) (good-subjects (earlier ++ OpOf name least more flags ∷ []) ss h (subst Good (sym same) g))
+  good-subjects earlier (KindOf name members ∷ ss) h g =
+      let same = subject_names-append earlier (KindOf name members ∷ []) ∙ append-nil (subject_names earlier) in
+      subst Good (over subject_names subject_names-append earlier ss (KindOf name members)) (good-subjects (earlier ++ KindOf name members ∷ []) ss h (subst Good (sym same) g))
   good-subjects earlier (RuleOf name p ∷ ss) h g =
       let q = nil-append (statement_faults sig earlier (RuleOf name p)) (faults_by (statement_faults sig) (earlier ++ RuleOf name p ∷ []) ss) h in
       let same = subject_names-append earlier (RuleOf name p ∷ []) ∙ append-nil (subject_names earlier) in
@@ -359,13 +402,14 @@ module _ (sig : Sig) where
 sound-file : (ss : List Statement) → AreStatements ss → faults ss ≡ [] → IsSoundFile (file_tree_of ss)
 sound-file ss fit h =
     let sig = sig_of ss in
-    let flags = list_all-op_decls ss in
-    let none : faults_by (statement_faults sig) [] ss ≡ [] = (nil-append (faults_by declaration_faults [] ss) (faults_by (statement_faults sig) [] ss) h).1 in
+    let declared = nil-append (declaration_faults ss) (faults_by (statement_faults sig) [] ss) h in
+    let none : faults_by (statement_faults sig) [] ss ≡ [] = declared.1 in
+    let ordered : all_in_order (op_decls ss) ≡ true = all_in_order-op_decls [] ss (nil-append (faults_by op_statement_faults [] ss) (faults_by (kind_statement_faults (op_decls ss)) [] ss) declared.0).0 in
     let rules = good-rules sig [] ss none (record { distinct = refl; few = omega arith }) in
     let subjects = good-subjects sig [] ss none (record { distinct = refl; few = omega arith }) in
     record {
-      patterns = sound-rules sig flags [] ss none;
-      terms = sound-subjects sig flags [] ss fit none;
+      patterns = sound-rules sig [] ss none;
+      terms = sound-subjects sig ordered [] ss fit none;
       rule_names = rw (names-rules_of sig ss) rules.distinct;
       subject_names = rw (names-subjects_of sig ss) subjects.distinct;
       few_rules = omega (arith, rules.few, length-map (rules_of sig ss) (λ r. r.name), ap length (names-rules_of sig ss));
@@ -375,3 +419,8 @@ sound-file ss fit h =
 -- the file of bytes is sound
 pub IsSoundFile-IsFileOf : (bytes : List ℕ) (f : FileTree) → IsFileOf bytes f → IsSoundFile f
 IsSoundFile-IsFileOf bytes f h = subst IsSoundFile (sym h.file) (sound-file h.statements h.syntax.fits h.faultless)
+
+-- a file that is read is sound
+pub IsSoundFile-ReadGives : (bytes : List ℕ) (r : Result code_file.File TextError) → ReadGives bytes r → IfOk r (λ f. IsSoundFile (file_tree f))
+IsSoundFile-ReadGives bytes (Ok f) h = IsSoundFile-IsFileOf bytes (file_tree f) h.0
+IsSoundFile-ReadGives bytes (Err e) h = tt

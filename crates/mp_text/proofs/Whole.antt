@@ -1,11 +1,11 @@
--- The file that is computed from the bytes is the file of the bytes.
-use Rattle.std.proofs.Common.{◌≡◌, ℕ, List, [], ◌∷◌, Option, Some, None, Result, Ok, Err, refl, sym, ap, ◌∙◌, subst}
-use Rattle.std.specs.Prelude.{◌↔◌, option_and_then}
+-- The file and the fault that are computed from the bytes are those of the bytes.
+use Rattle.std.proofs.Common.{◌≡◌, ℕ, Bool, true, false, List, [], ◌∷◌, Option, Some, None, Result, Ok, Err, inl, inr, refl, sym, ap, ◌∙◌, subst}
+use Rattle.std.specs.Prelude.{◌↔◌, ◌⊎◌, option_and_then, if◌then◌else◌}
 use Rattle.mp_syntax.specs.declared.fault.Fault.{Fault}
 use Rattle.mp_syntax.specs.Syntax.{Statement, IsSyntaxOf}
-use Rattle.mp_syntax.specs.Reading.{reading, read_value, syntax_of}
+use Rattle.mp_syntax.specs.Reading.{reading, syntax_of}
 use Rattle.mp_syntax.proofs.Found.{read_ok}
-use Rattle.mp_syntax.proofs.Whole.{syntax_of-exact}
+use Rattle.mp_syntax.proofs.Whole.{syntax_of-exact, reading-found, reading-only}
 use Rattle.mp_text.specs.declared.fault.TextFault.{TextFault}
 use Rattle.mp_text.specs.declared.fault.TextError.{TextError}
 use Rattle.mp_text.specs.declared.fault.TextError.TheVariants.{Text, Memory}
@@ -13,10 +13,17 @@ use Rattle.mp_text.specs.declared.file.File as code
 use Rattle.mp_text.specs.File.{FileTree, file_tree}
 use Rattle.mp_text.specs.Build.{file_tree_of}
 use Rattle.mp_text.specs.Checks.{faults}
-use Rattle.mp_text.specs.Answers.{first, Gives}
-use Rattle.mp_text.specs.Reading.{IsFileOf, file_without, checked_file, file_of, fault_in, fault_of, ReadGives, IsFileOrMemory, IsComputed}
+use Rattle.mp_text.specs.Matched.{is_matched_file}
+use Rattle.mp_text.specs.Answers.{first}
+use Rattle.mp_text.specs.Reading.{IsFileOf, file_without, checked_file, file_of, unread_fault, IsRefused, HasFault, IsUnmatched, IsFaultOf, fault_among, fault_in, fault_of, StatementsGive, ReadGives, IfText, IsFileOrMemory, IsFaultOrMemory, IsComputed}
 
--- ---- the relation and the function
+some_same : {X : Type 0} (a b : X) → Some a ≡ Some b → a ≡ b
+some_same a b e = cc
+
+none_some : {X : Type 0} (a : X) → None ≡ Some a → ⊥
+none_some a e = cc
+
+-- ---- files
 
 -- statements without faults have their file
 checked_file-faultless : (ss : List Statement) → faults ss ≡ [] → checked_file ss ≡ Some (file_tree_of ss)
@@ -43,55 +50,99 @@ computed-of bytes f h =
 pub file_of-exact : (bytes : List ℕ) (f : FileTree) → IsFileOf bytes f ↔ (file_of bytes ≡ Some f)
 file_of-exact bytes f = (computed-of bytes f, λ h. computed-is bytes (syntax_of bytes) f refl h)
 
+-- the bytes are one file
+same_file : (bytes : List ℕ) (f g : FileTree) → IsFileOf bytes f → IsFileOf bytes g → f ≡ g
+same_file bytes f g h k = some_same f g (sym (computed-of bytes f h) ∙ computed-of bytes g k)
+
 -- ---- faults
 
--- where there is a fault there is no file
-file_without-fault : (fs : List TextFault) (f : FileTree) (t : TextFault) → first fs ≡ Some t → file_without fs f ≡ None
-file_without-fault [] f t h = cc
-file_without-fault (x ∷ xs) f t h = refl
+-- the fault of a file that isn't matched
+unmatched-among : (f : FileTree) → is_matched_file f ≡ false → fault_among [] f ≡ Some unread_fault
+unmatched-among f h = ap (λ b. if b then None else Some unread_fault) h
 
-no_file-in : (r : Result (List Statement) Fault) (t : TextFault) → fault_in r ≡ Some t → option_and_then checked_file (read_value r) ≡ None
-no_file-in (Ok ss) t h = file_without-fault (faults ss) (file_tree_of ss) t h
-no_file-in (Err f) t h = refl
+-- a file that is matched has no fault
+matched-among : (f : FileTree) → is_matched_file f ≡ true → fault_among [] f ≡ None
+matched-among f h = ap (λ b. if b then None else Some unread_fault) h
 
--- bytes that have a fault are no file
-file_of-fault : (bytes : List ℕ) (t : TextFault) → fault_of bytes ≡ Some t → file_of bytes ≡ None
-file_of-fault bytes t h = no_file-in (reading bytes) t h
+-- the first of the faults is the fault
+first-among : (fs : List TextFault) (f : FileTree) (t : TextFault) → first fs ≡ Some t → fault_among fs f ≡ Some t
+first-among [] f t h = cc
+first-among (x ∷ xs) f t h = h
+
+-- a fault is the first that is found, or the file isn't matched
+among-cases : (fs : List TextFault) (f : FileTree) (t : TextFault) (matched : Bool) → is_matched_file f ≡ matched → fault_among fs f ≡ Some t → (first fs ≡ Some t) ⊎ ((fs ≡ []) × (is_matched_file f ≡ false) × (t ≡ unread_fault))
+among-cases [] f t true m h = absurd (none_some t (sym (matched-among f m) ∙ h))
+among-cases [] f t false m h = inr (refl, m, some_same t unread_fault (sym h ∙ unmatched-among f m))
+among-cases (x ∷ xs) f t matched m h = inl h
+
+-- what is computed is the fault
+fault-is : (bytes : List ℕ) (r : Result (List Statement) Fault) (t : TextFault) → reading bytes ≡ r → fault_in r ≡ Some t → IsFaultOf bytes t
+fault-is bytes (Err f) t e h = inr (inl (λ ss k. ok_err ss f (sym (reading-only bytes ss k) ∙ e)), some_same t unread_fault (sym h))
+  where
+    ok_err : (ss : List Statement) (f : Fault) → read_ok ss ≡ Err f → ⊥
+    ok_err ss f e = cc
+fault-is bytes (Ok ss) t e h =
+    let syntax = reading-found bytes ss e in
+    elim (among-cases (faults ss) (file_tree_of ss) t (is_matched_file (file_tree_of ss)) refl h) [
+      | inl k ↦ inl (ss, syntax, k)
+      | inr k ↦ inr (inr (file_tree_of ss, record { statements = ss; syntax = syntax; faultless = k.0; file = refl }, k.1), k.2)
+    ]
+
+-- the fault of no statements
+refused-in : (bytes : List ℕ) (r : Result (List Statement) Fault) → reading bytes ≡ r → IsRefused bytes → fault_in r ≡ Some unread_fault
+refused-in bytes (Ok ss) e h = absurd (h ss (reading-found bytes ss e))
+refused-in bytes (Err f) e h = refl
+
+-- the fault of a file that isn't matched
+unmatched-of : (bytes : List ℕ) → IsUnmatched bytes → fault_of bytes ≡ Some unread_fault
+unmatched-of bytes (f, file, m) =
+    let ss = file.statements in
+    ap fault_in (reading-only bytes ss file.syntax) ∙ ap (λ fs. fault_among fs (file_tree_of ss)) file.faultless ∙ unmatched-among (file_tree_of ss) (ap is_matched_file (sym file.file) ∙ m)
+
+-- the fault is the one that is computed
+fault-of : (bytes : List ℕ) (t : TextFault) → IsFaultOf bytes t → fault_of bytes ≡ Some t
+fault-of bytes t (inl (ss, syntax, h)) = ap fault_in (reading-only bytes ss syntax) ∙ first-among (faults ss) (file_tree_of ss) t h
+fault-of bytes t (inr (inl h, e)) = refused-in bytes (reading bytes) refl h ∙ ap Some (sym e)
+fault-of bytes t (inr (inr h, e)) = unmatched-of bytes h ∙ ap Some (sym e)
+
+-- the bytes have a fault exactly where it is computed from them
+pub fault_of-exact : (bytes : List ℕ) (t : TextFault) → IsFaultOf bytes t ↔ (fault_of bytes ≡ Some t)
+fault_of-exact bytes t = (fault-of bytes t, fault-is bytes (reading bytes) t refl)
+
+-- a file that is matched has no fault
+matched-no_fault : (bytes : List ℕ) (f : FileTree) → IsFileOf bytes f → is_matched_file f ≡ true → fault_of bytes ≡ None
+matched-no_fault bytes f file m =
+    let ss = file.statements in
+    ap fault_in (reading-only bytes ss file.syntax) ∙ ap (λ fs. fault_among fs (file_tree_of ss)) file.faultless ∙ matched-among (file_tree_of ss) (ap is_matched_file (sym file.file) ∙ m)
 
 -- ---- what reading answers
 
--- the file is the one that the bytes are, where they are one
-pub ReadGives-only : (bytes : List ℕ) (f : code.File) (g : FileTree) → IsFileOf bytes (file_tree f) → IsFileOf bytes g → file_tree f ≡ g
-ReadGives-only bytes f g h k = some_same (file_tree f) g (sym (computed-of bytes (file_tree f) h) ∙ computed-of bytes g k)
-  where
-    some_same : (a b : FileTree) → Some a ≡ Some b → a ≡ b
-    some_same a b e = cc
+-- the file of the bytes is answered
+pub ReadGives-only : (bytes : List ℕ) (r : Result code.File TextError) → ReadGives bytes r → (f : FileTree) → IsFileOf bytes f → is_matched_file f ≡ true → IsFileOrMemory r (λ g. g ≡ f)
+ReadGives-only bytes (Ok g) h f file m = same_file bytes (file_tree g) f h.0 file
+ReadGives-only bytes (Err (Text t)) h f file m = none_some t (sym (matched-no_fault bytes f file m) ∙ h)
+ReadGives-only bytes (Err Memory) h f file m = tt
 
--- bytes with a fault are no file
-pub ReadGives-none : (bytes : List ℕ) (t : TextFault) (g : FileTree) → fault_of bytes ≡ Some t → IsFileOf bytes g → ⊥
-ReadGives-none bytes t g h k = none_some g (sym (file_of-fault bytes t h) ∙ computed-of bytes g k)
-  where
-    none_some : (a : FileTree) → None ≡ Some a → ⊥
-    none_some a e = cc
+-- a fault that is answered is the fault of the bytes
+pub ReadGives-fault : (bytes : List ℕ) (r : Result code.File TextError) → ReadGives bytes r → IfText r (λ t. IsFaultOf bytes t)
+ReadGives-fault bytes (Ok f) h = tt
+ReadGives-fault bytes (Err (Text t)) h = fault-is bytes (reading bytes) t refl h
+ReadGives-fault bytes (Err Memory) h = tt
 
--- the file is the one that is computed
-pub ReadGives-computed : (bytes : List ℕ) (f : FileTree) → IsFileOf bytes f → file_of bytes ≡ Some f
-ReadGives-computed = computed-of
+-- the fault of the bytes is answered
+pub ReadGives-only_fault : (bytes : List ℕ) (r : Result code.File TextError) → ReadGives bytes r → (t : TextFault) → IsFaultOf bytes t → IsFaultOrMemory r (λ u. u ≡ t)
+ReadGives-only_fault bytes (Ok f) h t k = none_some t (sym (matched-no_fault bytes (file_tree f) h.0 h.1) ∙ fault-of bytes t k)
+ReadGives-only_fault bytes (Err (Text u)) h t k = some_same u t (sym h ∙ fault-of bytes t k)
+ReadGives-only_fault bytes (Err Memory) h t k = tt
 
--- nothing is computed of bytes with a fault
-pub ReadGives-fault : (bytes : List ℕ) (t : TextFault) → fault_of bytes ≡ Some t → file_of bytes ≡ None
-ReadGives-fault = file_of-fault
+-- the answer is the one that is computed
+pub ReadGives-computed : (bytes : List ℕ) (r : Result code.File TextError) → ReadGives bytes r → IsComputed r (file_of bytes) (fault_of bytes)
+ReadGives-computed bytes (Ok f) h = (computed-of bytes (file_tree f) h.0, matched-no_fault bytes (file_tree f) h.0 h.1)
+ReadGives-computed bytes (Err (Text t)) h = h
+ReadGives-computed bytes (Err Memory) h = tt
 
--- what has a value is that value
-read_value-some : (r : Result (List Statement) Fault) (ss : List Statement) → read_value r ≡ Some ss → r ≡ Ok ss
-read_value-some (Ok x) ss h = some_ok x ss h
-  where
-    some_ok : (x y : List Statement) → read_value (Ok x) ≡ Some y → read_ok x ≡ read_ok y
-    some_ok x y e = cc
-read_value-some (Err f) ss h = cc
-
--- what the checks of the statements answer is what reading the bytes answers
-pub ReadGives-checked : (bytes : List ℕ) (ss : List Statement) (r : Result code.File TextError) → IsSyntaxOf bytes ss → Gives r (faults ss) (λ f. file_tree f ≡ file_tree_of ss) → ReadGives bytes r
-ReadGives-checked bytes ss (Ok f) h g = record { statements = ss; syntax = h; faultless = g.0; file = g.1 }
-ReadGives-checked bytes ss (Err (Text t)) h g = ap fault_in (read_value-some (reading bytes) ss ((syntax_of-exact bytes ss).0 h)) ∙ g
-ReadGives-checked bytes ss (Err Memory) h g = tt
+-- what the statements give is what reading the bytes gives
+pub ReadGives-statements : (bytes : List ℕ) (ss : List Statement) (r : Result code.File TextError) → IsSyntaxOf bytes ss → StatementsGive ss r → ReadGives bytes r
+ReadGives-statements bytes ss (Ok f) h g = (record { statements = ss; syntax = h; faultless = g.0; file = g.1 }, g.2)
+ReadGives-statements bytes ss (Err (Text t)) h g = ap fault_in (reading-only bytes ss h) ∙ g
+ReadGives-statements bytes ss (Err Memory) h g = tt

@@ -1,9 +1,13 @@
--- A word of at most 64 bytes is the spelling of a name.
+-- A word of at most 64 bytes is the spelling of a name, and a sign of at most 4 bytes that of a sign.
 use Rattle.std.proofs.Common.{◌≡◌, ◌≢◌, ℕ, ◌≤◌, ◌<◌, Bool, true, false, ◌&&◌, ◌||◌, List, [], ◌∷◌, length, leb, arith, refl, ap, ◌∙◌, sym, rules}
 use Rattle.std.specs.List.{list_all}
-use Rattle.mp_term.specs.Names.{is_name, is_name_byte, all_name_bytes}
+use Rattle.std.specs.Prelude.{not, codes}
+use Rattle.std.specs.Str.{bytes_eq}
+use Rattle.std.proofs.lemmas.Slice.Eq.{bytes_eq-Decides}
+use Rattle.mp_term.specs.Names.{is_name, is_name_byte, all_name_bytes, is_arrow, is_sign, is_sign_byte, all_sign_bytes}
+use Rattle.mp_syntax.specs.Tokens as tokens
 use Rattle.mp_syntax.specs.Tokens.{AreWordBytes, is_word_byte}
-use Rattle.mp_syntax.specs.Syntax.{IsName}
+use Rattle.mp_syntax.specs.Syntax.{IsName, IsInfixSign}
 
 -- the three ranges in either grouping
 or-grouped : (a b c : Bool) → ((a || b) || c) ≡ (a || (b || c))
@@ -45,3 +49,24 @@ pub is_name-IsName : (word : List ℕ) → IsName word → is_name word ≡ true
 is_name-IsName word h =
     let small : length word ≤ 64 = h.is_short in
     both (leb 1 (length word) && leb (length word) 64) (all_name_bytes word) (both (leb 1 (length word)) (leb (length word) 64) (some-item word h.is_word.some) (search (rules, small))) (all_name_bytes-word word h.is_word.bytes)
+
+-- the bytes of signs
+all_sign_bytes-sign : (sign : List ℕ) → list_all tokens.is_sign_byte sign ≡ true → all_sign_bytes sign ≡ true
+all_sign_bytes-sign [] h = refl
+all_sign_bytes-sign (b ∷ bs) h =
+    both (is_sign_byte b) (all_sign_bytes bs) (first-of (tokens.is_sign_byte b) (list_all tokens.is_sign_byte bs) h) (all_sign_bytes-sign bs (second-of (tokens.is_sign_byte b) (list_all tokens.is_sign_byte bs) h))
+
+-- another text than the arrow
+not_arrow : (sign : List ℕ) → sign ≢ codes "->" → not (is_arrow sign) ≡ true
+not_arrow sign h = go (is_arrow sign) refl
+  where
+    go : (b : Bool) → is_arrow sign ≡ b → not b ≡ true
+    go true e = absurd (h ((bytes_eq-Decides sign (codes "->")).0 e))
+    go false e = refl
+
+-- a sign that isn't long is the spelling of one
+pub is_sign-IsInfixSign : (sign : List ℕ) → IsInfixSign sign → length sign ≤ 4 → is_sign sign ≡ true
+is_sign-IsInfixSign sign h short =
+    both ((leb 1 (length sign) && leb (length sign) 4) && not (is_arrow sign)) (all_sign_bytes sign)
+    (both (leb 1 (length sign) && leb (length sign) 4) (not (is_arrow sign)) (both (leb 1 (length sign)) (leb (length sign) 4) (some-item sign h.is_sign.some) (search (rules, short))) (not_arrow sign h.no_arrow))
+    (all_sign_bytes-sign sign h.is_sign.bytes)

@@ -1,33 +1,60 @@
 -- What the statements of a file stand for: a signature, and over it rules and subjects in normal form.
-use Rattle.std.specs.Prelude.{ℕ, ◌==◌, Bool, true, false, List, [], ◌∷◌, Option, Some, None, unwrap_or, position, if◌then◌else◌}
+use Rattle.std.specs.Prelude.{ℕ, ◌==◌, Bool, not, List, [], ◌∷◌, map, Option, Some, None, option_map, unwrap_or, position, if◌then◌else◌}
 use Rattle.mp_term.specs.declared.signature.OpDecl.{OpDecl}
 use Rattle.mp_term.specs.Tree as term
-use Rattle.mp_term.specs.Signature.{Sig, has_name}
+use Rattle.mp_term.specs.Names.{name_set}
+use Rattle.mp_term.specs.Signature.{Sig, Kind, has_name, has_sign}
 use Rattle.mp_term.specs.Normal.{normal}
 use Rattle.mp_pattern.specs.PatternTree as pattern
 use Rattle.mp_pattern.specs.Normal.{normal_pattern}
 use Rattle.mp_pattern.specs.Admission.{Rule}
-use Rattle.mp_syntax.specs.Syntax.{Spot, Wildcard, Tree, Symbol, Apply, Wild, Trees, no_trees, more_trees, Statement, OpOf, RuleOf, SubjectOf}
+use Rattle.mp_syntax.specs.Syntax.{Spot, Wildcard, Tree, Symbol, Apply, InfixOf, Wild, Trees, no_trees, more_trees, Flag, Statement, OpOf, KindOf, RuleOf, SubjectOf}
 use Rattle.mp_text.specs.Subject.{Subject}
 use Rattle.mp_text.specs.File.{FileTree}
+use Rattle.mp_text.specs.Flags.{says_assoc, says_comm, says_one, is_said, sign_spot}
 use Rattle.mp_text.specs.Names.{number_of}
 
 -- ---- signatures
 
--- op NAME LEAST; declares an operation of a fixed count and without flags
-abbrev pub op_decl : Spot → Spot → OpDecl
-op_decl name least = record { name = name.text; least = number_of least.text; fixed = true; assoc = false; comm = false; one = false; sign = None }
+-- op NAME LEAST FLAG ..; declares an operation of a fixed count, and op NAME LEAST+ FLAG ..; one that takes more arguments too
+abbrev pub op_decl : Spot → Spot → Bool → List Flag → OpDecl
+op_decl name least more flags = record {
+  name = name.text;
+  least = number_of least.text;
+  fixed = not more;
+  assoc = is_said says_assoc flags;
+  comm = is_said says_comm flags;
+  one = is_said says_one flags;
+  sign = option_map (λ s. s.text) (sign_spot flags);
+}
+
+-- kind NAME: MEMBER ..; declares a kind, whose members are a set
+abbrev pub kind_decl : Spot → List Spot → Kind
+kind_decl name members = record { name = name.text; members = name_set (map (λ m. m.text) members) }
 
 -- the operations that the statements declare, in order
 abbrev pub op_decls : List Statement → List OpDecl
 op_decls [] = []
-op_decls (OpOf name least ∷ ss) = op_decl name least ∷ op_decls ss
+op_decls (OpOf name least more flags ∷ ss) = op_decl name least more flags ∷ op_decls ss
+op_decls (KindOf name members ∷ ss) = op_decls ss
 op_decls (RuleOf name p ∷ ss) = op_decls ss
 op_decls (SubjectOf name t ∷ ss) = op_decls ss
 
+-- the kinds that the statements declare, in order
+abbrev pub kind_decls : List Statement → List Kind
+kind_decls [] = []
+kind_decls (OpOf name least more flags ∷ ss) = kind_decls ss
+kind_decls (KindOf name members ∷ ss) = kind_decl name members ∷ kind_decls ss
+kind_decls (RuleOf name p ∷ ss) = kind_decls ss
+kind_decls (SubjectOf name t ∷ ss) = kind_decls ss
+
+-- the signature of these operations and of the kinds that the statements declare
+abbrev pub sig_with : List OpDecl → List Statement → Sig
+sig_with ds ss = record { ops = ds; kinds = kind_decls ss }
+
 -- the signature that the statements declare
 abbrev pub sig_of : List Statement → Sig
-sig_of ss = record { ops = op_decls ss; kinds = [] }
+sig_of ss = sig_with (op_decls ss) ss
 
 -- ---- terms and patterns
 
@@ -40,20 +67,25 @@ abbrev pub variable_of : List ℕ → Option (List ℕ)
 variable_of [] = None
 variable_of (byte ∷ bytes) = Some (byte ∷ bytes)
 
+-- the number of the operation, and 0 where there is none, which no checked expression has
+abbrev pub head_number : Option ℕ → ℕ
+head_number number = unwrap_or number 0
+
 module _ (sig : Sig) where
   -- the number of the first operation of that name, where there is one
   abbrev pub op_number : List ℕ → Option ℕ
   op_number name = position (has_name name) sig.ops
 
-  -- the same, and 0 where there is none, which no checked expression has
-  abbrev pub head_number : List ℕ → ℕ
-  head_number name = unwrap_or (op_number name) 0
+  -- the number of the first operation of that sign, where there is one
+  abbrev pub sign_number : List ℕ → Option ℕ
+  sign_number sign = position (has_sign sign) sig.ops
 
-  -- a word is a symbol, and a word before brackets the operation of that name; no checked term has a wildcard
+  -- A word is a symbol, a word before brackets the operation of that name, and a sign the operation of that sign. No checked term has a wildcard.
   abbrev mutual
     pub term_of : Tree → term.Tree
     term_of (Symbol w) = term.symbol w.text
-    term_of (Apply f args) = term.app (head_number f.text) (terms_of args)
+    term_of (Apply f args) = term.app (head_number (op_number f.text)) (terms_of args)
+    term_of (InfixOf opened sign operands) = term.app (head_number (sign_number sign.text)) (terms_of operands)
     term_of (Wild w) = term.symbol w.name
 
     pub terms_of : Trees → term.Trees
@@ -64,7 +96,8 @@ module _ (sig : Sig) where
   abbrev mutual
     pub pattern_of : Tree → pattern.Pattern
     pattern_of (Symbol w) = pattern.symbol_pattern w.text
-    pattern_of (Apply f args) = pattern.app_pattern (head_number f.text) (patterns_of args)
+    pattern_of (Apply f args) = pattern.app_pattern (head_number (op_number f.text)) (patterns_of args)
+    pattern_of (InfixOf opened sign operands) = pattern.app_pattern (head_number (sign_number sign.text)) (patterns_of operands)
     pattern_of (Wild w) = pattern.wild_pattern (shape_of w) (variable_of w.name)
 
     pub patterns_of : Trees → pattern.Patterns
@@ -82,14 +115,16 @@ module _ (sig : Sig) where
   -- the rules of the statements, in order
   abbrev pub rules_of : List Statement → List Rule
   rules_of [] = []
-  rules_of (OpOf name least ∷ ss) = rules_of ss
+  rules_of (OpOf name least more flags ∷ ss) = rules_of ss
+  rules_of (KindOf name members ∷ ss) = rules_of ss
   rules_of (RuleOf name p ∷ ss) = rule_of name p ∷ rules_of ss
   rules_of (SubjectOf name t ∷ ss) = rules_of ss
 
   -- the subjects of the statements, in order
   abbrev pub subjects_of : List Statement → List Subject
   subjects_of [] = []
-  subjects_of (OpOf name least ∷ ss) = subjects_of ss
+  subjects_of (OpOf name least more flags ∷ ss) = subjects_of ss
+  subjects_of (KindOf name members ∷ ss) = subjects_of ss
   subjects_of (RuleOf name p ∷ ss) = subjects_of ss
   subjects_of (SubjectOf name t ∷ ss) = subject_of name t ∷ subjects_of ss
 

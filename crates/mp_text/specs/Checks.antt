@@ -1,15 +1,16 @@
 -- The checks of a file's statements: all faults that they find, in the order in which they count.
-use Rattle.std.specs.Prelude.{ℕ, ◌+◌, ◌==◌, Bool, true, false, ◌||◌, ◌&&◌, not, List, [], ◌∷◌, ◌++◌, length, Option, Some, None, is_some, option_and_then, slice_get, nat_le, nat_lt, count_by, if◌then◌else◌}
+use Rattle.std.specs.Prelude.{ℕ, ◌+◌, ◌==◌, Bool, false, ◌||◌, ◌&&◌, not, List, [], ◌∷◌, ◌++◌, length, map, flat_map, Option, Some, None, is_some, option_and_then, slice_get, nat_le, nat_lt, count_by, if◌then◌else◌}
 use Rattle.std.specs.List.{list_any}
 use Rattle.mp_term.specs.declared.signature.OpDecl.{OpDecl}
-use Rattle.mp_term.specs.Signature.{Sig, allows}
+use Rattle.mp_term.specs.Signature.{Sig, allows, in_order, has_sign, kind_names}
 use Rattle.mp_syntax.specs.declared.place.Place.{Place}
-use Rattle.mp_syntax.specs.Syntax.{Spot, Wildcard, Tree, Symbol, Apply, Wild, Trees, no_trees, more_trees, tree_list, Statement, OpOf, RuleOf, SubjectOf}
+use Rattle.mp_syntax.specs.Syntax.{Spot, Wildcard, Tree, Symbol, Apply, InfixOf, Wild, Trees, no_trees, more_trees, tree_list, Flag, Statement, OpOf, KindOf, RuleOf, SubjectOf}
 use Rattle.mp_text.specs.declared.fault.TextKind.{TextKind}
-use Rattle.mp_text.specs.declared.fault.TextKind.TheVariants.{DuplicateName, TooMany, UnknownOp, BareOperation, Arity, WildcardInTerm}
+use Rattle.mp_text.specs.declared.fault.TextKind.TheVariants.{DuplicateName, TooMany, BadFlags, UnknownOp, BareOperation, Arity, WildcardInTerm}
 use Rattle.mp_text.specs.declared.fault.TextFault.{TextFault}
-use Rattle.mp_text.specs.Names.{is_among, op_names, rule_names, subject_names, number_of, variable_names}
-use Rattle.mp_text.specs.Build.{op_number, sig_of}
+use Rattle.mp_text.specs.Names.{is_among, rule_names, subject_names, number_of, variable_names}
+use Rattle.mp_text.specs.Flags.{some_flag_twice, sign_spot, is_long_sign}
+use Rattle.mp_text.specs.Build.{op_number, sign_number, op_decl, op_decls, sig_with, sig_of}
 
 -- ---- faults
 
@@ -28,6 +29,7 @@ abbrev mutual
   pub nodes : Tree → ℕ
   nodes (Symbol w) = 1
   nodes (Apply f args) = all_nodes args + 1
+  nodes (InfixOf opened sign operands) = all_nodes operands + 1
   nodes (Wild w) = 1
 
   pub all_nodes : Trees → ℕ
@@ -73,32 +75,60 @@ abbrev pub head_faults : (OpDecl → Bool) → Spot → Option OpDecl → List T
 head_faults passes f None = fault_at UnknownOp f.place ∷ []
 head_faults passes f (Some d) = fault_if (not (passes d)) Arity f.place
 
+-- the operation doesn't pass the test on its number of arguments
+abbrev pub arity_faults : (OpDecl → Bool) → Place → Option OpDecl → List TextFault
+arity_faults passes opened None = []
+arity_faults passes opened (Some d) = fault_if (not (passes d)) Arity opened
+
+-- no operation has the sign
+abbrev pub sign_faults : Spot → Option OpDecl → List TextFault
+sign_faults sign None = fault_at UnknownOp sign.place ∷ []
+sign_faults sign (Some d) = []
+
 module _ (sig : Sig) where
+  -- the operation of that number, where there is one
+  abbrev pub op_at : Option ℕ → Option OpDecl
+  op_at number = option_and_then (slice_get sig.ops) number
+
   -- the first operation of that name, where there is one
   abbrev pub op_named : List ℕ → Option OpDecl
-  op_named name = option_and_then (slice_get sig.ops) (op_number sig name)
+  op_named name = op_at (op_number sig name)
+
+  -- the first operation of that sign, where there is one
+  abbrev pub op_signed : List ℕ → Option OpDecl
+  op_signed sign = op_at (sign_number sig sign)
 
   -- a symbol has the name of an operation
   abbrev pub symbol_faults : Spot → List TextFault
   symbol_faults w = fault_if (is_some (op_number sig w.text)) BareOperation w.place
 
-  -- the faults of a term, by token
+  -- the faults of a term, by token; where a sign stands between operands, the first one stands before it
   abbrev mutual
     pub term_faults : Tree → List TextFault
     term_faults (Symbol w) = symbol_faults w
     term_faults (Apply f args) = head_faults (allows (length (tree_list args))) f (op_named f.text) ++ all_term_faults args
+    term_faults (InfixOf opened sign operands) = arity_faults (allows (length (tree_list operands))) opened (op_signed sign.text) ++ term_operand_faults (sign_faults sign (op_signed sign.text)) operands
     term_faults (Wild w) = fault_at WildcardInTerm w.place ∷ []
+
+    pub term_operand_faults : List TextFault → Trees → List TextFault
+    term_operand_faults at_sign no_trees = at_sign
+    term_operand_faults at_sign (more_trees t ts) = term_faults t ++ (at_sign ++ all_term_faults ts)
 
     pub all_term_faults : Trees → List TextFault
     all_term_faults no_trees = []
     all_term_faults (more_trees t ts) = term_faults t ++ all_term_faults ts
 
-  -- the faults of a pattern, by token
+  -- the faults of a pattern, by token, in the same way
   abbrev mutual
     pub pattern_faults : Tree → List TextFault
     pattern_faults (Symbol w) = symbol_faults w
     pattern_faults (Apply f args) = head_faults (allows_patterns (tree_list args)) f (op_named f.text) ++ all_pattern_faults args
+    pattern_faults (InfixOf opened sign operands) = arity_faults (allows_patterns (tree_list operands)) opened (op_signed sign.text) ++ pattern_operand_faults (sign_faults sign (op_signed sign.text)) operands
     pattern_faults (Wild w) = []
+
+    pub pattern_operand_faults : List TextFault → Trees → List TextFault
+    pattern_operand_faults at_sign no_trees = at_sign
+    pattern_operand_faults at_sign (more_trees t ts) = pattern_faults t ++ (at_sign ++ all_pattern_faults ts)
 
     pub all_pattern_faults : Trees → List TextFault
     all_pattern_faults no_trees = []
@@ -110,19 +140,44 @@ module _ (sig : Sig) where
 abbrev pub name_faults : ℕ → List (List ℕ) → Bool → Spot → List TextFault
 name_faults most earlier is_large name = fault_if (is_among name.text earlier) DuplicateName name.place ++ fault_if (nat_le most (length earlier) || is_large) TooMany name.place
 
--- The faults of a declaration: at its name, and at its number, which is at most 1,000. There are at most 256 operations.
-abbrev pub op_faults : List Statement → Spot → Spot → List TextFault
-op_faults earlier name least = name_faults 256 (op_names earlier) false name ++ fault_if (nat_lt 1000 (number_of least.text)) TooMany least.place
+-- a flag stands twice, the sign has more than 4 bytes, or the declaration isn't in order
+abbrev pub has_bad_flags : Spot → Spot → Bool → List Flag → Bool
+has_bad_flags name least more flags = some_flag_twice flags || (is_long_sign (sign_spot flags) || not (in_order (op_decl name least more flags)))
+
+-- an earlier operation has the sign
+abbrev pub held_sign_faults : List OpDecl → Option Spot → List TextFault
+held_sign_faults earlier None = []
+held_sign_faults earlier (Some sign) = fault_if (list_any (has_sign sign.text) earlier) DuplicateName sign.place
+
+-- The faults of a declaration behind earlier operations: at its name, at its number, which is at most 1,000, and at its sign. There are at most 256 operations.
+abbrev pub op_faults : List OpDecl → Spot → Spot → Bool → List Flag → List TextFault
+op_faults earlier name least more flags =
+    name_faults 256 (map (λ d. d.name) earlier) false name
+    ++ (fault_if (has_bad_flags name least more flags) BadFlags name.place
+    ++ (fault_if (nat_lt 1000 (number_of least.text)) TooMany least.place ++ held_sign_faults earlier (sign_spot flags)))
+
+-- The faults of a kind behind what is declared: at its name, and at each member. There are at most 256 kinds, with the numbers, and at most 10,000 members are written.
+abbrev pub kind_faults : Sig → Spot → List Spot → List TextFault
+kind_faults sig name members = name_faults 256 (kind_names sig) (nat_lt 10000 (length members)) name ++ flat_map (symbol_faults sig) members
 
 -- the faults of a statement that declares an operation, behind earlier statements
-abbrev pub declaration_faults : List Statement → Statement → List TextFault
-declaration_faults earlier (OpOf name least) = op_faults earlier name least
-declaration_faults earlier (RuleOf name p) = []
-declaration_faults earlier (SubjectOf name t) = []
+abbrev pub op_statement_faults : List Statement → Statement → List TextFault
+op_statement_faults earlier (OpOf name least more flags) = op_faults (op_decls earlier) name least more flags
+op_statement_faults earlier (KindOf name members) = []
+op_statement_faults earlier (RuleOf name p) = []
+op_statement_faults earlier (SubjectOf name t) = []
+
+-- the faults of a statement that declares a kind, over the operations of the file and behind earlier statements
+abbrev pub kind_statement_faults : List OpDecl → List Statement → Statement → List TextFault
+kind_statement_faults ds earlier (OpOf name least more flags) = []
+kind_statement_faults ds earlier (KindOf name members) = kind_faults (sig_with ds earlier) name members
+kind_statement_faults ds earlier (RuleOf name p) = []
+kind_statement_faults ds earlier (SubjectOf name t) = []
 
 -- The faults of any other statement, behind earlier statements, over the signature that the file declares. There are at most 1,000 rules and 1,000 subjects.
 abbrev pub statement_faults : Sig → List Statement → Statement → List TextFault
-statement_faults sig earlier (OpOf name least) = []
+statement_faults sig earlier (OpOf name least more flags) = []
+statement_faults sig earlier (KindOf name members) = []
 statement_faults sig earlier (RuleOf name p) = name_faults 1000 (rule_names earlier) (is_large_pattern p) name ++ pattern_faults sig p
 statement_faults sig earlier (SubjectOf name t) = name_faults 1000 (subject_names earlier) (is_large_term t) name ++ term_faults sig t
 
@@ -131,6 +186,10 @@ abbrev pub faults_by : (List Statement → Statement → List TextFault) → Lis
 faults_by rule earlier [] = []
 faults_by rule earlier (s ∷ ss) = rule earlier s ++ faults_by rule (earlier ++ s ∷ []) ss
 
+-- the faults of a file's declarations: those of its operations, and then those of its kinds
+abbrev pub declaration_faults : List Statement → List TextFault
+declaration_faults ss = faults_by op_statement_faults [] ss ++ faults_by (kind_statement_faults (op_decls ss)) [] ss
+
 -- the faults of a file: those of its declarations, and then those of its other statements
 abbrev pub faults : List Statement → List TextFault
-faults ss = faults_by declaration_faults [] ss ++ faults_by (statement_faults (sig_of ss)) [] ss
+faults ss = declaration_faults ss ++ faults_by (statement_faults (sig_of ss)) [] ss

@@ -1,13 +1,54 @@
--- Signatures whose operations have no flags.
-use Rattle.std.specs.Prelude.{◌≡◌, Bool, true, ◌&&◌, not}
-use Rattle.std.specs.List.{list_all}
-use Rattle.mp_term.specs.declared.signature.OpDecl.{OpDecl}
-use Rattle.mp_term.specs.Signature.{Sig}
+-- The flags of an operation, as they are written.
+use Rattle.std.specs.Prelude.{◌≡◌, ℕ, Bool, true, false, ◌||◌, List, [], ◌∷◌, length, Option, Some, None, option_map, nat_lt, count_by}
+use Rattle.mp_term.specs.Names.{is_sign}
+use Rattle.mp_syntax.specs.Syntax.{Spot, Flag, Assoc, Comm, One, Infixed}
 
--- neither associative nor commutative nor one-identity
-abbrev pub is_free : OpDecl → Bool
-is_free d = not d.assoc && (not d.comm && not d.one)
+-- the flag is assoc
+abbrev pub says_assoc : Flag → Bool
+says_assoc Assoc = true
+says_assoc _ = false
 
--- no operation has a flag, so that each term is its normal form
-abbrev pub HasNoFlags : Sig → Type 0
-HasNoFlags sig = list_all is_free sig.ops ≡ true
+-- the flag is comm
+abbrev pub says_comm : Flag → Bool
+says_comm Comm = true
+says_comm _ = false
+
+-- the flag is one
+abbrev pub says_one : Flag → Bool
+says_one One = true
+says_one _ = false
+
+-- the flag is infix
+abbrev pub says_infix : Flag → Bool
+says_infix (Infixed sign) = true
+says_infix _ = false
+
+-- a flag of which the test holds is among the flags
+abbrev pub is_said : (Flag → Bool) → List Flag → Bool
+is_said says flags = nat_lt 0 (count_by says flags)
+
+-- two flags of which the test holds are among the flags
+abbrev pub is_said_twice : (Flag → Bool) → List Flag → Bool
+is_said_twice says flags = nat_lt 1 (count_by says flags)
+
+-- a flag stands twice, whatever its signs are
+abbrev pub some_flag_twice : List Flag → Bool
+some_flag_twice flags = is_said_twice says_assoc flags || (is_said_twice says_comm flags || (is_said_twice says_one flags || is_said_twice says_infix flags))
+
+-- the first sign of the flags, with its place
+abbrev pub sign_spot : List Flag → Option Spot
+sign_spot [] = None
+sign_spot (Assoc ∷ flags) = sign_spot flags
+sign_spot (Comm ∷ flags) = sign_spot flags
+sign_spot (One ∷ flags) = sign_spot flags
+sign_spot (Infixed sign ∷ flags) = Some sign
+
+-- the sign has more than 4 bytes
+abbrev pub is_long_sign : Option Spot → Bool
+is_long_sign None = false
+is_long_sign (Some sign) = nat_lt 4 (length sign.text)
+
+-- the sign, where there is one, is the spelling of one
+abbrev pub IsSpelledSign : Option Spot → Type 0
+IsSpelledSign None = Unit {0}
+IsSpelledSign (Some sign) = is_sign sign.text ≡ true

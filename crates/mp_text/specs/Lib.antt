@@ -2,10 +2,11 @@ pub mod Subject
 pub mod EditSetCode
 pub mod File
 pub mod Names
+pub mod Flags
 pub mod Build
 pub mod Checks
 pub mod Answers
-pub mod Flags
+pub mod Matched
 pub mod Reading
 pub mod Printing
 pub mod Sound

@@ -2,30 +2,25 @@
 use Rattle.std.specs.Prelude.{ℕ, ◌+◌, ◌-◌, ◌*◌, Bool, List, [], ◌∷◌, ◌++◌}
 use Rattle.std.specs.Str.{bytes_eq}
 use Rattle.mp_pattern.specs.Firsts.{is_known, firsts_after}
-use Rattle.mp_syntax.specs.Syntax.{Spot, Tree, Symbol, Apply, Wild, Trees, no_trees, more_trees, Statement, OpOf, RuleOf, SubjectOf}
+use Rattle.mp_syntax.specs.Syntax.{Spot, Tree, Symbol, Apply, InfixOf, Wild, Trees, no_trees, more_trees, Statement, OpOf, KindOf, RuleOf, SubjectOf}
 
 -- the name is one of these
 abbrev pub is_among : List ℕ → List (List ℕ) → Bool
 is_among name names = is_known bytes_eq names name
 
--- the names of the operations, in order
-abbrev pub op_names : List Statement → List (List ℕ)
-op_names [] = []
-op_names (OpOf name least ∷ ss) = name.text ∷ op_names ss
-op_names (RuleOf name p ∷ ss) = op_names ss
-op_names (SubjectOf name t ∷ ss) = op_names ss
-
 -- the names of the rules, in order
 abbrev pub rule_names : List Statement → List (List ℕ)
 rule_names [] = []
-rule_names (OpOf name least ∷ ss) = rule_names ss
+rule_names (OpOf name least more flags ∷ ss) = rule_names ss
+rule_names (KindOf name members ∷ ss) = rule_names ss
 rule_names (RuleOf name p ∷ ss) = name.text ∷ rule_names ss
 rule_names (SubjectOf name t ∷ ss) = rule_names ss
 
 -- the names of the subjects, in order
 abbrev pub subject_names : List Statement → List (List ℕ)
 subject_names [] = []
-subject_names (OpOf name least ∷ ss) = subject_names ss
+subject_names (OpOf name least more flags ∷ ss) = subject_names ss
+subject_names (KindOf name members ∷ ss) = subject_names ss
 subject_names (RuleOf name p ∷ ss) = subject_names ss
 subject_names (SubjectOf name t ∷ ss) = name.text ∷ subject_names ss
 
@@ -48,6 +43,7 @@ abbrev mutual
   pub wildcard_names : Tree → List (List ℕ)
   wildcard_names (Symbol w) = []
   wildcard_names (Apply f args) = all_wildcard_names args
+  wildcard_names (InfixOf opened sign operands) = all_wildcard_names operands
   wildcard_names (Wild w) = named w.name
 
   pub all_wildcard_names : Trees → List (List ℕ)

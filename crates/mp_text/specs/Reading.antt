@@ -1,20 +1,20 @@
--- Which bytes are which file, as a relation and as a function.
-use Rattle.std.specs.Prelude.{◌≡◌, ℕ, List, [], ◌∷◌, Option, Some, None, option_and_then, Result, Ok, Err}
+-- Which bytes are which file, and which fault others have: as relations and as functions.
+use Rattle.std.specs.Prelude.{◌≡◌, ◌⊎◌, ℕ, true, false, List, [], ◌∷◌, Option, Some, None, option_and_then, Result, Ok, Err, if◌then◌else◌}
 use Rattle.mp_syntax.specs.declared.fault.Fault.{Fault}
-use Rattle.mp_syntax.specs.declared.fault.FaultKind.{FaultKind}
-use Rattle.mp_syntax.specs.declared.fault.FaultKind.TheVariants as syntax
 use Rattle.mp_syntax.specs.Syntax.{Statement, IsSyntaxOf}
 use Rattle.mp_syntax.specs.Reading.{reading, syntax_of}
-use Rattle.mp_text.specs.declared.fault.TextKind.{TextKind}
-use Rattle.mp_text.specs.declared.fault.TextKind.TheVariants.{BadByte, Syntax, TooDeep, TooMany, Unread}
+use Rattle.mp_text.specs.declared.fault.TextKind.TheVariants.{Unread}
 use Rattle.mp_text.specs.declared.fault.TextFault.{TextFault}
 use Rattle.mp_text.specs.declared.fault.TextError.{TextError}
 use Rattle.mp_text.specs.declared.fault.TextError.TheVariants.{Text, Memory}
 use Rattle.mp_text.specs.declared.file.File as code
 use Rattle.mp_text.specs.File.{FileTree, file_tree}
 use Rattle.mp_text.specs.Build.{file_tree_of}
-use Rattle.mp_text.specs.Checks.{fault_at, faults}
+use Rattle.mp_text.specs.Checks.{faults}
+use Rattle.mp_text.specs.Matched.{is_matched_file}
 use Rattle.mp_text.specs.Answers.{first}
+
+-- ---- files
 
 -- the bytes are this file: they are statements in which no check finds a fault, and the file is what those stand for
 pub record IsFileOf (bytes : List ℕ) (f : FileTree) : Type 0 where
@@ -38,35 +38,55 @@ file_of bytes = option_and_then checked_file (syntax_of bytes)
 
 -- ---- faults
 
--- the kind of a fault of tokens or grammar
-abbrev pub kind_of : FaultKind → TextKind
-kind_of syntax.Syntax = Syntax
-kind_of syntax.TooDeep = TooDeep
-kind_of syntax.BadByte = BadByte
-kind_of syntax.TooMany = TooMany
-
--- the fault of the tokens or the grammar, or else the first that the checks find
-abbrev pub fault_in : Result (List Statement) Fault → Option TextFault
-fault_in (Ok ss) = first (faults ss)
-fault_in (Err f) = Some (fault_at (kind_of f.kind) f.place)
-
--- the first fault of the bytes, where they are no file
-abbrev pub fault_of : List ℕ → Option TextFault
-fault_of bytes = fault_in (reading bytes)
-
--- the fault of each text that is no file
+-- the fault of a text that isn't read in this version
 abbrev pub unread_fault : TextFault
 unread_fault = record { kind = Unread; line = 1; column = 1 }
 
+-- the bytes are no statements
+abbrev pub IsRefused : List ℕ → Type 0
+IsRefused bytes = (ss : List Statement) → IsSyntaxOf bytes ss → ⊥
+
+-- the bytes are statements in which the checks find this fault first
+abbrev pub HasFault : List ℕ → TextFault → Type 0
+HasFault bytes t = (ss : List Statement) × IsSyntaxOf bytes ss × (first (faults ss) ≡ Some t)
+
+-- the bytes are a file with a rule that isn't matched
+abbrev pub IsUnmatched : List ℕ → Type 0
+IsUnmatched bytes = (f : FileTree) × IsFileOf bytes f × (is_matched_file f ≡ false)
+
+-- the fault of the bytes: the first that the checks find in statements, or Unread where the bytes are no statements or a file that isn't matched
+abbrev pub IsFaultOf : List ℕ → TextFault → Type 0
+IsFaultOf bytes t = HasFault bytes t ⊎ ((IsRefused bytes ⊎ IsUnmatched bytes) × (t ≡ unread_fault))
+
+-- the first of the faults, or Unread where there is none and the file isn't matched
+abbrev pub fault_among : List TextFault → FileTree → Option TextFault
+fault_among [] f = if is_matched_file f then None else Some unread_fault
+fault_among (fault ∷ others) f = Some fault
+
+-- the fault of what was read
+abbrev pub fault_in : Result (List Statement) Fault → Option TextFault
+fault_in (Ok ss) = fault_among (faults ss) (file_tree_of ss)
+fault_in (Err f) = Some unread_fault
+
+-- the fault of the bytes, where they have one
+abbrev pub fault_of : List ℕ → Option TextFault
+fault_of bytes = fault_in (reading bytes)
+
 -- ---- answers
 
--- the file of the bytes, or their first fault, or memory ran out
+-- the file of the bytes, which is matched, or their fault, or memory ran out
 abbrev pub ReadGives : List ℕ → Result code.File TextError → Type 0
-ReadGives bytes (Ok f) = IsFileOf bytes (file_tree f)
+ReadGives bytes (Ok f) = IsFileOf bytes (file_tree f) × (is_matched_file (file_tree f) ≡ true)
 ReadGives bytes (Err (Text t)) = fault_of bytes ≡ Some t
 ReadGives bytes (Err Memory) = Unit {0}
 
--- a fact of the fault of a text that is no file
+-- the file of the statements, which is matched, or their fault, or memory ran out
+abbrev pub StatementsGive : List Statement → Result code.File TextError → Type 0
+StatementsGive ss (Ok f) = (faults ss ≡ []) × (file_tree f ≡ file_tree_of ss) × (is_matched_file (file_tree f) ≡ true)
+StatementsGive ss (Err (Text t)) = fault_among (faults ss) (file_tree_of ss) ≡ Some t
+StatementsGive ss (Err Memory) = Unit {0}
+
+-- a fact of the fault of a text
 abbrev pub IfText : Result code.File TextError → (TextFault → Type 0) → Type 0
 IfText (Ok f) P = Unit {0}
 IfText (Err (Text t)) P = P t
@@ -78,8 +98,14 @@ IsFileOrMemory (Ok f) P = P (file_tree f)
 IsFileOrMemory (Err (Text t)) P = ⊥
 IsFileOrMemory (Err Memory) P = Unit {0}
 
--- the answer is this file, or a fault where there is none, or memory ran out
-abbrev pub IsComputed : Result code.File TextError → Option FileTree → Type 0
-IsComputed (Ok f) file = file ≡ Some (file_tree f)
-IsComputed (Err (Text t)) file = file ≡ None
-IsComputed (Err Memory) file = Unit {0}
+-- a fault of which the fact holds, or memory ran out
+abbrev pub IsFaultOrMemory : Result code.File TextError → (TextFault → Type 0) → Type 0
+IsFaultOrMemory (Ok f) P = ⊥
+IsFaultOrMemory (Err (Text t)) P = P t
+IsFaultOrMemory (Err Memory) P = Unit {0}
+
+-- the answer is this file where there is no fault, or else this fault, or memory ran out
+abbrev pub IsComputed : Result code.File TextError → Option FileTree → Option TextFault → Type 0
+IsComputed (Ok f) file fault = (file ≡ Some (file_tree f)) × (fault ≡ None)
+IsComputed (Err (Text t)) file fault = fault ≡ Some t
+IsComputed (Err Memory) file fault = Unit {0}

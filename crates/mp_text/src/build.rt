@@ -1,22 +1,22 @@
 //! Makes terms and patterns of expressions, and checks them on the way.
 
-ghost use Rattle.std.specs.Prelude.{◌≡◌, [], length, map, true, option_map};
+ghost use Rattle.std.specs.Prelude.{◌≡◌, [], length, map, true, None, is_some, option_map};
 ghost use Rattle.mp_term.specs.Names.{is_name};
 ghost use Rattle.mp_term.specs.Signature.{allows};
 ghost use Rattle.mp_term.specs.Tree as term;
 ghost use Rattle.mp_term.specs.View.{tree};
 ghost use Rattle.mp_pattern.specs.PatternTree as pattern;
 ghost use Rattle.mp_pattern.specs.View.{pattern_tree, wildcard};
-ghost use Rattle.mp_syntax.specs.Syntax.{trees, tree_list, HasNames, HaveNames};
+ghost use Rattle.mp_syntax.specs.Syntax.{trees, tree_list, InfixOf, HasNames, HaveNames};
 ghost use Rattle.mp_syntax.specs.View.{spot_of, wildcard_of, expr_tree};
-ghost use Rattle.mp_text.specs.Answers.{Gives};
-ghost use Rattle.mp_text.specs.Build.{op_number, head_number, shape_of, variable_of, term_of, terms_of, pattern_of, patterns_of};
-ghost use Rattle.mp_text.specs.Checks.{op_named, symbol_faults, head_faults, allows_patterns, term_faults, all_term_faults, pattern_faults, all_pattern_faults};
+ghost use Rattle.mp_text.specs.Answers.{Gives, Fails};
+ghost use Rattle.mp_text.specs.Build.{op_number, sign_number, head_number, shape_of, variable_of, term_of, terms_of, pattern_of, patterns_of};
+ghost use Rattle.mp_text.specs.Checks.{op_named, op_signed, symbol_faults, head_faults, arity_faults, sign_faults, allows_patterns, term_faults, term_operand_faults, all_term_faults, pattern_faults, pattern_operand_faults, all_pattern_faults};
 
 use crate::checks::allows_patterns;
 use crate::fault::{TextError, TextKind, error_at};
 use mp_pattern::{Pattern, Patterns, Shape};
-use mp_syntax::{Expr, Spot, Wildcard};
+use mp_syntax::{Expr, Place, Spot, Wildcard};
 use mp_term::{Name, NameFault, OpDecl, OpId, Signature, Term, Terms};
 use std::alloc::Global;
 
@@ -42,6 +42,16 @@ fn find_decl<'a>(sig: &'a Signature, name: &[u8]) -> Option<(OpId, &'a OpDecl)>
     Some((id, decl))
 }
 
+/// The number and the declaration of the first operation of that sign.
+fn find_sign_decl<'a>(sig: &'a Signature, sign: &[u8]) -> Option<(OpId, &'a OpDecl)>
+    ensures number { option_map (λ p. p.0.0) result ≡ sign_number sig.now sign.now }
+    ensures decl { option_map (λ p. p.1.now) result ≡ op_signed sig.now sign.now }
+{
+    let id = sig.find_sign(sign)?;
+    let decl = sig.op(id)?;
+    Some((id, decl))
+}
+
 /// The declaration allows that number of arguments.
 fn allows(decl: &OpDecl, count: usize) -> bool
     ensures { result ≡ allows count decl.now }
@@ -55,7 +65,7 @@ fn allows(decl: &OpDecl, count: usize) -> bool
 }
 
 /// The symbol of a word, which has the spelling of a name and isn't the name of an operation.
-fn symbol(alloc: Global, sig: &Signature, word: Spot<'_>) -> Result<Name, TextError>
+pub fn symbol(alloc: Global, sig: &Signature, word: Spot<'_>) -> Result<Name, TextError>
     requires { is_name word.text.now ≡ true }
     ensures { Gives result (symbol_faults sig.now (spot_of word.entry)) (λ n. n ≡ word.entry.text.now) }
 {
@@ -67,7 +77,7 @@ fn symbol(alloc: Global, sig: &Signature, word: Spot<'_>) -> Result<Name, TextEr
 
 /// The operation that is applied to these terms.
 fn term_head(sig: &Signature, name: Spot<'_>, args: &[Expr<'_>]) -> Result<OpId, TextError>
-    ensures { Gives result (head_faults (allows (length args.now)) (spot_of name.entry) (op_named sig.now name.entry.text.now)) (λ id. id.0 ≡ head_number sig.now name.entry.text.now) }
+    ensures { Gives result (head_faults (allows (length args.now)) (spot_of name.entry) (op_named sig.now name.entry.text.now)) (λ id. id.0 ≡ head_number (op_number sig.now name.entry.text.now)) }
 {
     match find_decl(sig, name.text) {
         None => Err(error_at(TextKind::UnknownOp, name.place)),
@@ -80,9 +90,30 @@ fn term_head(sig: &Signature, name: Spot<'_>, args: &[Expr<'_>]) -> Result<OpId,
     }
 }
 
+/// The operation whose sign stands between terms, as many as the count; there is none where no operation has the sign.
+fn term_sign(
+    sig: &Signature,
+    place: Place,
+    sign: Spot<'_>,
+    count: usize,
+) -> Result<Option<OpId>, TextError>
+    ensures { Gives result (arity_faults (allows count) place (op_signed sig.now sign.entry.text.now))
+        (λ o. (option_map (λ id. id.0) o ≡ sign_number sig.now sign.entry.text.now) × (is_some o ≡ is_some (op_signed sig.now sign.entry.text.now))) }
+{
+    match find_sign_decl(sig, sign.text) {
+        None => Ok(None),
+        Some((id, decl)) => {
+            if !allows(decl, count) {
+                return Err(error_at(TextKind::Arity, place));
+            }
+            Ok(Some(id))
+        }
+    }
+}
+
 /// The operation that is applied to these patterns.
 fn pattern_head(sig: &Signature, name: Spot<'_>, args: &[Expr<'_>]) -> Result<OpId, TextError>
-    ensures { Gives result (head_faults (allows_patterns (map expr_tree args.now)) (spot_of name.entry) (op_named sig.now name.entry.text.now)) (λ id. id.0 ≡ head_number sig.now name.entry.text.now) }
+    ensures { Gives result (head_faults (allows_patterns (map expr_tree args.now)) (spot_of name.entry) (op_named sig.now name.entry.text.now)) (λ id. id.0 ≡ head_number (op_number sig.now name.entry.text.now)) }
 {
     match find_decl(sig, name.text) {
         None => Err(error_at(TextKind::UnknownOp, name.place)),
@@ -91,6 +122,27 @@ fn pattern_head(sig: &Signature, name: Spot<'_>, args: &[Expr<'_>]) -> Result<Op
                 return Err(error_at(TextKind::Arity, name.place));
             }
             Ok(id)
+        }
+    }
+}
+
+/// The operation whose sign stands between these patterns; there is none where no operation has the sign.
+fn pattern_sign(
+    sig: &Signature,
+    place: Place,
+    sign: Spot<'_>,
+    operands: &[Expr<'_>],
+) -> Result<Option<OpId>, TextError>
+    ensures { Gives result (arity_faults (allows_patterns (map expr_tree operands.now)) place (op_signed sig.now sign.entry.text.now))
+        (λ o. (option_map (λ id. id.0) o ≡ sign_number sig.now sign.entry.text.now) × (is_some o ≡ is_some (op_signed sig.now sign.entry.text.now))) }
+{
+    match find_sign_decl(sig, sign.text) {
+        None => Ok(None),
+        Some((id, decl)) => {
+            if !allows_patterns(decl, operands) {
+                return Err(error_at(TextKind::Arity, place));
+            }
+            Ok(Some(id))
         }
     }
 }
@@ -111,8 +163,53 @@ pub fn build_term(alloc: Global, sig: &Signature, expr: &Expr<'_>) -> Result<Ter
             let terms = build_terms(alloc, sig, args)?;
             Ok(Term::App(op, terms))
         }
+        Expr::Infix {
+            open: place,
+            sign,
+            operands,
+        } => infix_term(alloc, sig, *place, *sign, operands),
         Expr::Wild(wild) => Err(error_at(TextKind::WildcardInTerm, wild.place)),
     }
+}
+
+/// The term of a sign between operands, or its first fault.
+#[cycle(build_term)]
+fn infix_term(
+    alloc: Global,
+    sig: &Signature,
+    place: Place,
+    sign: Spot<'_>,
+    operands: &[Expr<'_>],
+) -> Result<Term, TextError>
+    requires { HaveNames (trees (map expr_tree operands.now)) }
+    ensures { Gives result (term_faults sig.now (InfixOf place (spot_of sign.entry) (trees (map expr_tree operands.now)))) (λ t. tree t ≡ term_of sig.now (InfixOf place (spot_of sign.entry) (trees (map expr_tree operands.now)))) }
+{
+    match term_sign(sig, place, sign, operands.len())? {
+        None => Err(unknown_term_sign(alloc, sig, sign, operands)),
+        Some(op) => {
+            let terms = build_terms(alloc, sig, operands)?;
+            Ok(Term::App(op, terms))
+        }
+    }
+}
+
+/// The first fault of operands between which a sign stands that no operation has.
+#[cycle(build_term)]
+fn unknown_term_sign(
+    alloc: Global,
+    sig: &Signature,
+    sign: Spot<'_>,
+    operands: &[Expr<'_>],
+) -> TextError
+    requires { HaveNames (trees (map expr_tree operands.now)) }
+    ensures { Fails result (term_operand_faults sig.now (sign_faults (spot_of sign.entry) None) (trees (map expr_tree operands.now))) }
+{
+    if let [first, ..] = operands {
+        if let Err(error) = build_term(alloc, sig, first) {
+            return error;
+        }
+    }
+    error_at(TextKind::UnknownOp, sign.place)
 }
 
 /// The terms of expressions, or their first fault.
@@ -145,11 +242,56 @@ pub fn build_pattern(alloc: Global, sig: &Signature, expr: &Expr<'_>) -> Result<
             let patterns = build_patterns(alloc, sig, args)?;
             Ok(Pattern::App(op, patterns))
         }
+        Expr::Infix {
+            open: place,
+            sign,
+            operands,
+        } => infix_pattern(alloc, sig, *place, *sign, operands),
         Expr::Wild(wild) => {
             let name = variable(alloc, *wild)?;
             Ok(Pattern::Wild(shape(*wild), name))
         }
     }
+}
+
+/// The pattern of a sign between operands, or its first fault.
+#[cycle(build_pattern)]
+fn infix_pattern(
+    alloc: Global,
+    sig: &Signature,
+    place: Place,
+    sign: Spot<'_>,
+    operands: &[Expr<'_>],
+) -> Result<Pattern, TextError>
+    requires { HaveNames (trees (map expr_tree operands.now)) }
+    ensures { Gives result (pattern_faults sig.now (InfixOf place (spot_of sign.entry) (trees (map expr_tree operands.now)))) (λ t. pattern_tree t ≡ pattern_of sig.now (InfixOf place (spot_of sign.entry) (trees (map expr_tree operands.now)))) }
+{
+    match pattern_sign(sig, place, sign, operands)? {
+        None => Err(unknown_pattern_sign(alloc, sig, sign, operands)),
+        Some(op) => {
+            let patterns = build_patterns(alloc, sig, operands)?;
+            Ok(Pattern::App(op, patterns))
+        }
+    }
+}
+
+/// The first fault of operands between which a sign stands that no operation has.
+#[cycle(build_pattern)]
+fn unknown_pattern_sign(
+    alloc: Global,
+    sig: &Signature,
+    sign: Spot<'_>,
+    operands: &[Expr<'_>],
+) -> TextError
+    requires { HaveNames (trees (map expr_tree operands.now)) }
+    ensures { Fails result (pattern_operand_faults sig.now (sign_faults (spot_of sign.entry) None) (trees (map expr_tree operands.now))) }
+{
+    if let [first, ..] = operands {
+        if let Err(error) = build_pattern(alloc, sig, first) {
+            return error;
+        }
+    }
+    error_at(TextKind::UnknownOp, sign.place)
 }
 
 /// The patterns of expressions, or their first fault.

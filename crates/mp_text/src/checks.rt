@@ -4,9 +4,10 @@ ghost use Rattle.std.specs.Prelude.{◌≡◌, ◌+◌, ◌-◌, ◌^◌, ◌||�
 ghost use Rattle.std.specs.List.{list_any};
 ghost use Rattle.std.specs.Str.{bytes_eq};
 ghost use Rattle.mp_pattern.specs.Firsts.{firsts_after};
+ghost use Rattle.mp_syntax.specs.Syntax.{trees};
 ghost use Rattle.mp_syntax.specs.View.{expr_tree};
-ghost use Rattle.mp_text.specs.Checks.{nodes, is_star, may_take_more, fewest, may_reach, allows_patterns, is_large_pattern, is_large_term};
-ghost use Rattle.mp_text.specs.Names.{number_of, wildcard_names, is_among, named};
+ghost use Rattle.mp_text.specs.Checks.{nodes, all_nodes, is_star, may_take_more, fewest, may_reach, allows_patterns, is_large_pattern, is_large_term};
+ghost use Rattle.mp_text.specs.Names.{number_of, wildcard_names, all_wildcard_names, is_among, named};
 
 use mp_syntax::Expr;
 use mp_term::OpDecl;
@@ -33,36 +34,52 @@ pub fn number_of(digits: &[u8]) -> u32
 }
 
 /// The number of symbols, applications and wildcards; the greatest `u64` where there are more.
+#[cycle(node_count)]
 fn node_count(expr: &Expr<'_>) -> u64
     ensures { result ≡ min (nodes (expr_tree expr.now)) (2 ^ 64 - 1) }
 {
     match expr {
         Expr::Symbol(_) => 1,
-        Expr::Apply(_, args) => {
-            let mut count: u64 = 1;
-            for arg in args {
-                count = count.saturating_add(node_count(arg));
-            }
-            count
-        }
+        Expr::Apply(_, args) => 1_u64.saturating_add(node_counts(args)),
+        Expr::Infix { operands, .. } => 1_u64.saturating_add(node_counts(operands)),
         Expr::Wild(_) => 1,
     }
 }
 
+/// The nodes of all expressions; the greatest `u64` where there are more.
+#[cycle(node_count)]
+fn node_counts(exprs: &[Expr<'_>]) -> u64
+    ensures { result ≡ min (all_nodes (trees (map expr_tree exprs.now))) (2 ^ 64 - 1) }
+{
+    let mut count: u64 = 0;
+    for expr in exprs {
+        count = count.saturating_add(node_count(expr));
+    }
+    count
+}
+
 /// Adds the names of the wildcards that aren't among the names yet.
+#[cycle(add_variables)]
 fn add_variables<'a>(expr: &Expr<'a>, names: &mut Vec<&'a [u8]>) -> Result<(), AllocError>
     ensures { OnOk result (map (λ n. n.now) names.new.items ≡ firsts_after bytes_eq (map (λ n. n.now) names.old.items) (wildcard_names (expr_tree expr.now))) }
 {
     match expr {
         Expr::Symbol(_) => Ok(()),
-        Expr::Apply(_, args) => {
-            for arg in args {
-                add_variables(arg, names)?;
-            }
-            Ok(())
-        }
+        Expr::Apply(_, args) => add_all_variables(args, names),
+        Expr::Infix { operands, .. } => add_all_variables(operands, names),
         Expr::Wild(wild) => add_name(wild.name, names),
     }
+}
+
+/// Adds the names of the wildcards of all expressions that aren't among the names yet.
+#[cycle(add_variables)]
+fn add_all_variables<'a>(exprs: &[Expr<'a>], names: &mut Vec<&'a [u8]>) -> Result<(), AllocError>
+    ensures { OnOk result (map (λ n. n.now) names.new.items ≡ firsts_after bytes_eq (map (λ n. n.now) names.old.items) (all_wildcard_names (trees (map expr_tree exprs.now)))) }
+{
+    for expr in exprs {
+        add_variables(expr, names)?;
+    }
+    Ok(())
 }
 
 /// Adds the name where it isn't empty and not among the names yet.

@@ -1,24 +1,32 @@
-//! Declares the operations of a file.
+//! Declares the operations and kinds of a file.
 
-ghost use Rattle.std.specs.Prelude.{◌≡◌, ℕ, List, [], ◌∷◌, ◌++◌, length, map, true};
+ghost use Rattle.std.specs.Prelude.{◌≡◌, ◌≤◌, ◌+◌, ℕ, List, [], ◌∷◌, ◌++◌, length, map, flat_map, min, true, false, not, option_map};
+ghost use Rattle.mp_term.specs.declared.signature.OpDecl as decl;
 ghost use Rattle.mp_term.specs.Names.{is_name};
+ghost use Rattle.mp_term.specs.Signature.{in_order};
 ghost use Rattle.mp_syntax.specs.Syntax as syntax;
-ghost use Rattle.mp_syntax.specs.Syntax.{OpOf, StatementHasNames, StatementsHaveNames};
-ghost use Rattle.mp_syntax.specs.View.{spot_of, statement_tree};
+ghost use Rattle.mp_syntax.specs.Syntax.{AreNames, HaveSigns, StatementHasNames, StatementsHaveNames};
+ghost use Rattle.mp_syntax.specs.View.{spot_of, flag_of, statement_tree};
 ghost use Rattle.mp_text.specs.Answers.{Gives};
-ghost use Rattle.mp_text.specs.Build.{sig_of};
-ghost use Rattle.mp_text.specs.Checks.{name_faults, op_faults, declaration_faults, faults_by};
-ghost use Rattle.mp_text.specs.Names.{is_among};
+ghost use Rattle.mp_text.specs.Build.{op_decl, op_decls, kind_decl, sig_with, sig_of};
+ghost use Rattle.mp_text.specs.Checks.{symbol_faults, name_faults, has_bad_flags, held_sign_faults, op_faults, kind_faults, op_statement_faults, kind_statement_faults, declaration_faults, faults_by};
+ghost use Rattle.mp_text.specs.Flags.{sign_spot, IsSpelledSign};
+ghost use Rattle.mp_text.specs.Names.{is_among, number_of};
 
-use crate::build::new_name;
+use crate::build::{new_name, symbol};
 use crate::checks::{MAX_ARITY, number_of};
 use crate::fault::{TextError, TextKind, error_at};
-use mp_syntax::{Spot, Statement};
-use mp_term::{OpDecl, Signature};
+use crate::flags::{has_bad_flags, is_said_assoc, is_said_comm, is_said_one, sign_spot};
+use mp_syntax::{Flag, Spot, Statement};
+use mp_term::{NameFault, Names, OpDecl, Sign, Signature};
 use std::alloc::Global;
 
 /// How many operations a file may declare.
 const MAX_OPS: usize = 256;
+/// How many kinds there may be, with the built-in one.
+const MAX_KINDS: usize = 256;
+/// How many members may be written in one kind.
+const MAX_MEMBERS: usize = 10_000;
 
 /// Checks the name of a statement: whether an earlier one of its sort has it, how many there are, and whether this one is too large.
 pub fn check_name(
@@ -40,63 +48,221 @@ pub fn check_name(
     Ok(())
 }
 
-/// Declares an operation, whose name has the spelling of one.
+/// Checks that no operation of the signature has the sign.
+fn check_sign(sig: &Signature, sign: Option<Spot<'_>>) -> Result<(), TextError>
+    ensures { Gives result (held_sign_faults sig.now.ops (option_map (λ s. spot_of s) sign.entry)) (λ _. Unit {0}) }
+{
+    match sign {
+        None => Ok(()),
+        Some(sign) => {
+            if sig.find_sign(sign.text).is_some() {
+                return Err(error_at(TextKind::DuplicateName, sign.place));
+            }
+            Ok(())
+        }
+    }
+}
+
+/// Checks the declaration of an operation.
+fn check_op(
+    sig: &Signature,
+    name: Spot<'_>,
+    least: Spot<'_>,
+    is_open: bool,
+    flags: &[Flag<'_>],
+) -> Result<(), TextError>
+    ensures { Gives result (op_faults sig.now.ops (spot_of name.entry) (spot_of least.entry) is_open (map flag_of flags.now)) (λ _. Unit {0}) }
+{
+    let is_held = sig.find_op(name.text).is_some();
+    check_name(name, is_held, sig.op_count() as usize, MAX_OPS, false)?;
+    let count = number_of(least.text);
+    if has_bad_flags(count, is_open, flags) {
+        return Err(error_at(TextKind::BadFlags, name.place));
+    }
+    if count > MAX_ARITY {
+        return Err(error_at(TextKind::TooMany, least.place));
+    }
+    check_sign(sig, sign_spot(flags))
+}
+
+/// The sign of a flag, where there is one. It has the spelling of a sign.
+fn new_sign(alloc: Global, sign: Option<Spot<'_>>) -> Result<Option<Sign>, TextError>
+    requires { IsSpelledSign (option_map (λ s. spot_of s) sign) }
+    ensures { Gives result [] (λ s. s ≡ option_map (λ s. s.text.now) sign.entry) }
+{
+    match sign {
+        None => Ok(None),
+        Some(sign) => match Sign::new(alloc, sign.text) {
+            Ok(sign) => Ok(Some(sign)),
+            Err(NameFault::Memory) => Err(TextError::Memory),
+            Err(NameFault::Spelling) => unreachable!(),
+        },
+    }
+}
+
+/// The declaration of an operation, which has no fault.
+fn new_decl(
+    alloc: Global,
+    name: Spot<'_>,
+    least: Spot<'_>,
+    is_open: bool,
+    flags: &[Flag<'_>],
+) -> Result<OpDecl, TextError>
+    requires name { is_name name.text.now ≡ true }
+    requires least { number_of least.text.now ≤ 1000 }
+    requires sign { IsSpelledSign (sign_spot (map flag_of flags.now)) }
+    ensures { Gives result [] (λ d. d ≡ op_decl (spot_of name.entry) (spot_of least.entry) is_open (map flag_of flags.now)) }
+{
+    Ok(OpDecl {
+        name: new_name(alloc, name.text)?,
+        least: number_of(least.text),
+        fixed: !is_open,
+        assoc: is_said_assoc(flags),
+        comm: is_said_comm(flags),
+        one: is_said_one(flags),
+        sign: new_sign(alloc, sign_spot(flags))?,
+    })
+}
+
+/// Declares an operation, whose name and sign have the spelling of such.
 fn declare_op(
     alloc: Global,
     sig: &mut Signature,
     name: Spot<'_>,
     least: Spot<'_>,
+    is_open: bool,
+    flags: &[Flag<'_>],
 ) -> Result<(), TextError>
-    requires { is_name name.text.now ≡ true }
-    ensures { (earlier : List syntax.Statement) → sig.old ≡ sig_of earlier
-        → Gives result (op_faults earlier (spot_of name.entry) (spot_of least.entry)) (λ _. sig.new ≡ sig_of (earlier ++ OpOf (spot_of name.entry) (spot_of least.entry) ∷ [])) }
+    requires name { is_name name.text.now ≡ true }
+    requires signs { HaveSigns (map flag_of flags.now) }
+    ensures { Gives result (op_faults sig.old.ops (spot_of name.entry) (spot_of least.entry) is_open (map flag_of flags.now))
+        (λ _. sig.new ≡ record sig.old { ops = sig.old.ops ++ op_decl (spot_of name.entry) (spot_of least.entry) is_open (map flag_of flags.now) ∷ [] }) }
 {
-    let is_held = sig.find_op(name.text).is_some();
-    check_name(name, is_held, sig.op_count() as usize, MAX_OPS, false)?;
-    let count = number_of(least.text);
-    if count > MAX_ARITY {
-        return Err(error_at(TextKind::TooMany, least.place));
-    }
-    let decl = OpDecl {
-        name: new_name(alloc, name.text)?,
-        least: count,
-        fixed: true,
-        assoc: false,
-        comm: false,
-        one: false,
-        sign: None,
-    };
+    check_op(sig, name, least, is_open, flags)?;
+    let decl = new_decl(alloc, name, least, is_open, flags)?;
     match sig.add_op(decl) {
         Ok(_) => Ok(()),
         Err(_) => Err(TextError::Memory),
     }
 }
 
+/// The members of a kind, which have the spelling of names, or the first fault.
+fn new_members(alloc: Global, sig: &Signature, members: &[Spot<'_>]) -> Result<Names, TextError>
+    requires { AreNames (map spot_of members.now) }
+    ensures { Gives result (flat_map (symbol_faults sig.now) (map spot_of members.now)) (λ ns. ns ≡ map (λ m. m.text) (map spot_of members.now)) }
+{
+    let mut names = Names::new(alloc);
+    for member in members {
+        let name = symbol(alloc, sig, *member)?;
+        names.push(name)?;
+    }
+    Ok(names)
+}
+
+/// Declares a kind, whose name and members have the spelling of names.
+fn declare_kind(
+    alloc: Global,
+    sig: &mut Signature,
+    name: Spot<'_>,
+    members: &[Spot<'_>],
+) -> Result<(), TextError>
+    requires name { is_name name.text.now ≡ true }
+    requires members { AreNames (map spot_of members.now) }
+    ensures { Gives result (kind_faults sig.old (spot_of name.entry) (map spot_of members.now))
+        (λ _. sig.new ≡ record sig.old { kinds = sig.old.kinds ++ kind_decl (spot_of name.entry) (map spot_of members.now) ∷ [] }) }
+{
+    let is_held = sig.find_kind(name.text).is_some();
+    let is_large = members.len() > MAX_MEMBERS;
+    check_name(
+        name,
+        is_held,
+        sig.kind_count() as usize,
+        MAX_KINDS,
+        is_large,
+    )?;
+    let members = new_members(alloc, sig, members)?;
+    let name = new_name(alloc, name.text)?;
+    match sig.add_kind(name, members) {
+        Ok(_) => Ok(()),
+        Err(_) => Err(TextError::Memory),
+    }
+}
+
 /// Declares the operation of a statement, if it declares one.
-fn declare_statement(
+fn declare_op_of(
     alloc: Global,
     sig: &mut Signature,
     statement: &Statement<'_>,
 ) -> Result<(), TextError>
     requires { StatementHasNames (statement_tree statement.now) }
-    ensures { (earlier : List syntax.Statement) → sig.old ≡ sig_of earlier
-        → Gives result (declaration_faults earlier (statement_tree statement.now)) (λ _. sig.new ≡ sig_of (earlier ++ statement_tree statement.now ∷ [])) }
+    ensures { (earlier : List syntax.Statement) → sig.old ≡ sig_with (op_decls earlier) []
+        → Gives result (op_statement_faults earlier (statement_tree statement.now)) (λ _. sig.new ≡ sig_with (op_decls (earlier ++ statement_tree statement.now ∷ [])) []) }
 {
     match statement {
-        Statement::Op { name, least } => declare_op(alloc, sig, *name, *least),
+        Statement::Op {
+            name,
+            least,
+            open: is_open,
+            flags,
+        } => declare_op(alloc, sig, *name, *least, *is_open, flags),
+        Statement::Kind { .. } => Ok(()),
         Statement::Rule { .. } => Ok(()),
         Statement::Subject { .. } => Ok(()),
     }
 }
 
-/// The signature that the statements declare, or the first fault of a declaration.
-pub fn declare(alloc: Global, statements: &[Statement<'_>]) -> Result<Signature, TextError>
+/// Declares the kind of a statement, if it declares one.
+fn declare_kind_of(
+    alloc: Global,
+    sig: &mut Signature,
+    statement: &Statement<'_>,
+) -> Result<(), TextError>
+    requires { StatementHasNames (statement_tree statement.now) }
+    ensures { (ds : List decl.OpDecl) (earlier : List syntax.Statement) → sig.old ≡ sig_with ds earlier
+        → Gives result (kind_statement_faults ds earlier (statement_tree statement.now)) (λ _. sig.new ≡ sig_with ds (earlier ++ statement_tree statement.now ∷ [])) }
+{
+    match statement {
+        Statement::Op { .. } => Ok(()),
+        Statement::Kind { name, members } => declare_kind(alloc, sig, *name, members),
+        Statement::Rule { .. } => Ok(()),
+        Statement::Subject { .. } => Ok(()),
+    }
+}
+
+/// The signature of the operations that the statements declare, or the first fault of such a declaration.
+fn declare_ops(alloc: Global, statements: &[Statement<'_>]) -> Result<Signature, TextError>
     requires { StatementsHaveNames (map statement_tree statements.now) }
-    ensures { Gives result (faults_by declaration_faults [] (map statement_tree statements.now)) (λ sig. sig ≡ sig_of (map statement_tree statements.now)) }
+    ensures { Gives result (faults_by op_statement_faults [] (map statement_tree statements.now)) (λ sig. sig ≡ sig_with (op_decls (map statement_tree statements.now)) []) }
 {
     let mut sig = Signature::new(alloc)?;
     for statement in statements {
-        declare_statement(alloc, &mut sig, statement)?;
+        declare_op_of(alloc, &mut sig, statement)?;
     }
+    Ok(sig)
+}
+
+/// Declares the kinds of the statements over the operations, or finds the first fault of such a declaration.
+fn declare_kinds(
+    alloc: Global,
+    sig: &mut Signature,
+    statements: &[Statement<'_>],
+) -> Result<(), TextError>
+    requires names { StatementsHaveNames (map statement_tree statements.now) }
+    requires no_kinds { sig.old ≡ sig_with sig.old.ops [] }
+    ensures { Gives result (faults_by (kind_statement_faults sig.old.ops) [] (map statement_tree statements.now)) (λ _. sig.new ≡ sig_with sig.old.ops (map statement_tree statements.now)) }
+{
+    for statement in statements {
+        declare_kind_of(alloc, sig, statement)?;
+    }
+    Ok(())
+}
+
+/// The signature that the statements declare, or the first fault of a declaration.
+pub fn declare(alloc: Global, statements: &[Statement<'_>]) -> Result<Signature, TextError>
+    requires { StatementsHaveNames (map statement_tree statements.now) }
+    ensures { Gives result (declaration_faults (map statement_tree statements.now)) (λ sig. sig ≡ sig_of (map statement_tree statements.now)) }
+{
+    let mut sig = declare_ops(alloc, statements)?;
+    declare_kinds(alloc, &mut sig, statements)?;
     Ok(sig)
 }

@@ -6,6 +6,8 @@ mod checks;
 mod declare;
 mod fault;
 mod file;
+mod flags;
+mod matched;
 mod printer;
 mod reader;
 #[cfg(test)]
@@ -14,4 +16,4 @@ mod tests;
 pub use fault::{TextError, TextFault, TextKind};
 pub use file::{EditSet, EditSets, File, Subject, Subjects};
 pub use printer::write_term;
-pub use reader::{file_is_computed, read_file};
+pub use reader::{fault_is_computed, file_is_computed, read_file};

@@ -6,55 +6,62 @@ ghost use Rattle.mp_term.specs.Signature.{Sig};
 ghost use Rattle.mp_syntax.specs.Syntax as syntax;
 ghost use Rattle.mp_syntax.specs.Syntax.{RuleOf, SubjectOf, HasNames, StatementHasNames, StatementsHaveNames};
 ghost use Rattle.mp_syntax.specs.View.{spot_of, expr_tree, statement_tree};
+ghost use Rattle.mp_pattern.specs.Normal.{normal_pattern};
+ghost use Rattle.mp_pattern.specs.View.{pattern_tree};
+ghost use Rattle.mp_term.specs.Normal.{normal};
+ghost use Rattle.mp_term.specs.View.{tree};
+ghost use Rattle.mp_text.specs.declared.fault.TextFault as plain;
+ghost use Rattle.mp_text.specs.declared.fault.TextError.TheVariants.{Text};
 ghost use Rattle.mp_text.specs.Answers.{Gives};
-ghost use Rattle.mp_text.specs.Build.{sig_of, rule_of, rules_of, subject_of, subjects_of, file_over, file_tree_of};
-ghost use Rattle.mp_text.specs.Checks.{statement_faults, faults_by, faults};
+ghost use Rattle.mp_text.specs.Build.{pattern_of, term_of, sig_of, rule_of, rules_of, subject_of, subjects_of, file_over, file_tree_of};
+ghost use Rattle.mp_text.specs.Checks.{pattern_faults, term_faults, statement_faults, faults_by, faults};
 ghost use Rattle.mp_text.specs.File.{FileTree, file_tree};
-ghost use Rattle.mp_text.specs.Flags.{HasNoFlags};
+ghost use Rattle.mp_text.specs.Matched.{is_matched_file};
 ghost use Rattle.mp_text.specs.Names.{is_among};
 ghost use Rattle.mp_text.specs.Sound.{IsSoundFile};
-ghost use Rattle.mp_text.specs.Reading.{IsFileOf, file_of, kind_of, unread_fault, ReadGives, IfText, IsFileOrMemory, IsComputed};
+ghost use Rattle.mp_text.specs.Reading.{IsFileOf, file_of, IsFaultOf, fault_of, unread_fault, StatementsGive, ReadGives, IfText, IsFileOrMemory, IsFaultOrMemory, IsComputed};
 
 use crate::build::{build_pattern, build_term, new_name};
 use crate::checks::{is_large_pattern, is_large_term};
 use crate::declare::{check_name, declare};
-use crate::fault::{TextError, TextFault, TextKind, error_at};
+use crate::fault::{TextError, TextFault, TextKind};
 use crate::file::{EditSets, File, Subject, Subjects};
-use mp_pattern::{Rule, Rules};
-use mp_syntax::{Expr, FaultKind, Spot, Statement, SyntaxError, read_statements};
-use mp_term::Signature;
+use crate::matched::is_matched_file;
+use mp_pattern::{Pattern, Rule, Rules, normalise_pattern};
+use mp_syntax::{Expr, Spot, Statement, SyntaxError, read_statements};
+use mp_term::{Signature, Term, normalise};
 use std::alloc::Global;
 
-/// Reads a rule file: the operations, rules and subjects that its statements stand for.
+/// Reads a rule file: the operations, kinds, rules and subjects that its statements stand for.
 ///
 /// The text is a file exactly where its tokens spell statements (`IsSyntaxOf` of mp_syntax's `specs/Syntax.antt`) in which no
-/// check finds a fault (`faults` of `specs/Checks.antt`); the file is then `file_tree_of` of `specs/Build.antt`.
+/// check finds a fault (`faults` of `specs/Checks.antt`); the file is then `file_tree_of` of `specs/Build.antt`, its terms and patterns
+/// in normal form. It is read where each of its patterns is matched (`is_matched` of `specs/Matched.antt`).
 ///
-/// - `Text`: the text is no file. The fault is `Unread` at line 1, column 1, whatever the first fault is.
+/// - `Text`: the text has this fault, by `IsFaultOf` of `specs/Reading.antt`: where it is statements, the first that the checks find, with
+///   its line and column, from 1; where it is no statements, or a file with a pattern that isn't matched, `Unread` at line 1, column 1.
 /// - `Memory`: memory ran out.
+///
+/// After an error nothing is kept.
 pub fn read_file(alloc: Global, bytes: &[u8]) -> Result<File, TextError>
     requires { length bytes.now < 2 ^ 32 - 1 }
 
     // What is answered is the file of the bytes.
     ensures found { IfOk result (λ f. IsFileOf bytes.now (file_tree f)) }
-    // The file of the bytes is answered, unless memory runs out.
-    ensures only { (f : FileTree) → IsFileOf bytes.now f → IsFileOrMemory result (λ g. g ≡ f) }
-    // Every text that is no file has the same fault.
-    ensures unread { IfText result (λ f. f ≡ unread_fault) }
+    // Its patterns are matched.
+    ensures matched { IfOk result (λ f. is_matched_file (file_tree f) ≡ true) }
+    // The file of the bytes is answered where its patterns are matched, unless memory runs out.
+    ensures only { (f : FileTree) → IsFileOf bytes.now f → is_matched_file f ≡ true → IsFileOrMemory result (λ g. g ≡ f) }
+    // The fault that is answered is the fault of the bytes.
+    ensures fault { IfText result (λ t. IsFaultOf bytes.now t) }
+    // The fault of the bytes is answered, unless memory runs out.
+    ensures only_fault { (t : plain.TextFault) → IsFaultOf bytes.now t → IsFaultOrMemory result (λ u. u ≡ t) }
     // The answer is the one that is computed from the bytes.
-    ensures computed { IsComputed result (file_of bytes.now) }
+    ensures computed { IsComputed result (file_of bytes.now) (fault_of bytes.now) }
     // What holds of every file that is read.
     ensures sound { IfOk result (λ f. IsSoundFile (file_tree f)) }
 {
-    match read_checked(alloc, bytes) {
-        Ok(file) => Ok(file),
-        Err(TextError::Memory) => Err(TextError::Memory),
-        Err(TextError::Text(_)) => Err(TextError::Text(TextFault {
-            kind: TextKind::Unread,
-            line: 1,
-            column: 1,
-        })),
-    }
+    read(alloc, bytes)
 }
 
 /// Law: the bytes are a file exactly where the file is computed from them, so they are at most one.
@@ -64,28 +71,46 @@ pub fn file_is_computed()
     ensures { (bytes : List ℕ) (f : FileTree) → IsFileOf bytes f ↔ (file_of bytes ≡ Some f) }
 {}
 
-/// Reads a rule file, or finds its first fault.
-pub(crate) fn read_checked(alloc: Global, bytes: &[u8]) -> Result<File, TextError>
+/// Law: the bytes have a fault exactly where it is computed from them, so they have at most one.
+///
+/// It does nothing when it runs.
+pub fn fault_is_computed()
+    ensures { (bytes : List ℕ) (t : plain.TextFault) → IsFaultOf bytes t ↔ (fault_of bytes ≡ Some t) }
+{}
+
+/// Reads a rule file, or finds its fault.
+fn read(alloc: Global, bytes: &[u8]) -> Result<File, TextError>
     requires { length bytes.now < 2 ^ 32 - 1 }
     ensures { ReadGives bytes.now result }
 {
     match read_statements(alloc, bytes) {
-        Ok(statements) => build_file(alloc, &statements),
+        Ok(statements) => matched_file(alloc, &statements),
         Err(SyntaxError::Memory) => Err(TextError::Memory),
-        Err(SyntaxError::Fault(fault)) => Err(error_at(kind_of(fault.kind), fault.place)),
+        Err(SyntaxError::Fault(_)) => Err(unread()),
     }
 }
 
-/// The kind of a fault of tokens or grammar.
-fn kind_of(kind: FaultKind) -> TextKind
-    ensures { result ≡ kind_of kind }
+/// The error for a text that isn't read in this version.
+fn unread() -> TextError
+    ensures { result ≡ Text unread_fault }
 {
-    match kind {
-        FaultKind::Syntax => TextKind::Syntax,
-        FaultKind::TooDeep => TextKind::TooDeep,
-        FaultKind::BadByte => TextKind::BadByte,
-        FaultKind::TooMany => TextKind::TooMany,
+    TextError::Text(TextFault {
+        kind: TextKind::Unread,
+        line: 1,
+        column: 1,
+    })
+}
+
+/// The file that the statements stand for, where its patterns are matched, or the fault of the statements.
+fn matched_file(alloc: Global, statements: &[Statement<'_>]) -> Result<File, TextError>
+    requires { StatementsHaveNames (map statement_tree statements.now) }
+    ensures { StatementsGive (map statement_tree statements.now) result }
+{
+    let file = build_file(alloc, statements)?;
+    if !is_matched_file(&file) {
+        return Err(unread());
     }
+    Ok(file)
 }
 
 /// How many rules and how many subjects a file may have.
@@ -115,7 +140,27 @@ fn has_subject(subjects: &Subjects, name: &[u8]) -> bool
     false
 }
 
-/// Adds a rule. No operation has a flag, so its pattern is in normal form as it is built.
+/// The pattern of an expression in normal form, or its first fault.
+fn rule_pattern(alloc: Global, sig: &Signature, expr: &Expr<'_>) -> Result<Pattern, TextError>
+    requires { HasNames (expr_tree expr.now) }
+    ensures { Gives result (pattern_faults sig.now (expr_tree expr.now)) (λ p. pattern_tree p ≡ normal_pattern sig.now (pattern_of sig.now (expr_tree expr.now))) }
+{
+    let pattern = build_pattern(alloc, sig, expr)?;
+    let pattern = normalise_pattern(alloc, sig, pattern)?;
+    Ok(pattern)
+}
+
+/// The term of an expression in normal form, or its first fault.
+fn subject_term(alloc: Global, sig: &Signature, expr: &Expr<'_>) -> Result<Term, TextError>
+    requires { HasNames (expr_tree expr.now) }
+    ensures { Gives result (term_faults sig.now (expr_tree expr.now)) (λ t. tree t ≡ normal sig.now (term_of sig.now (expr_tree expr.now))) }
+{
+    let term = build_term(alloc, sig, expr)?;
+    let term = normalise(alloc, sig, term)?;
+    Ok(term)
+}
+
+/// Adds a rule, with its pattern in normal form.
 fn add_rule(
     alloc: Global,
     sig: &Signature,
@@ -123,7 +168,6 @@ fn add_rule(
     name: Spot<'_>,
     pattern: &Expr<'_>,
 ) -> Result<(), TextError>
-    requires flags { HasNoFlags sig.now }
     requires name { is_name name.text.now ≡ true }
     requires names { HasNames (expr_tree pattern.now) }
     ensures { (earlier : List syntax.Statement) → rules.old ≡ rules_of sig.now earlier
@@ -133,7 +177,7 @@ fn add_rule(
     let is_large = is_large_pattern(alloc, pattern)?;
     let is_held = has_rule(rules, name.text);
     check_name(name, is_held, rules.len(), MAX_STATEMENTS, is_large)?;
-    let pattern = build_pattern(alloc, sig, pattern)?;
+    let pattern = rule_pattern(alloc, sig, pattern)?;
     let name = new_name(alloc, name.text)?;
     rules.push(Rule {
         name,
@@ -144,7 +188,7 @@ fn add_rule(
     Ok(())
 }
 
-/// Adds a subject. No operation has a flag, so its term is in normal form as it is built.
+/// Adds a subject, with its term in normal form.
 fn add_subject(
     alloc: Global,
     sig: &Signature,
@@ -152,7 +196,6 @@ fn add_subject(
     name: Spot<'_>,
     term: &Expr<'_>,
 ) -> Result<(), TextError>
-    requires flags { HasNoFlags sig.now }
     requires name { is_name name.text.now ≡ true }
     requires names { HasNames (expr_tree term.now) }
     ensures { (earlier : List syntax.Statement) → subjects.old ≡ subjects_of sig.now earlier
@@ -162,7 +205,7 @@ fn add_subject(
     let is_large = is_large_term(term);
     let is_held = has_subject(subjects, name.text);
     check_name(name, is_held, subjects.len(), MAX_STATEMENTS, is_large)?;
-    let term = build_term(alloc, sig, term)?;
+    let term = subject_term(alloc, sig, term)?;
     let name = new_name(alloc, name.text)?;
     subjects.push(Subject { name, term })?;
     Ok(())
@@ -170,13 +213,13 @@ fn add_subject(
 
 /// Adds what a statement gives to the file.
 fn add_statement(alloc: Global, file: &mut File, statement: &Statement<'_>) -> Result<(), TextError>
-    requires flags { HasNoFlags file.old.sig }
-    requires names { StatementHasNames (statement_tree statement.now) }
+    requires { StatementHasNames (statement_tree statement.now) }
     ensures { (sig : Sig) (earlier : List syntax.Statement) → file_tree file.old ≡ file_over sig earlier
         → Gives result (statement_faults sig earlier (statement_tree statement.now)) (λ _. file_tree file.new ≡ file_over sig (earlier ++ statement_tree statement.now ∷ [])) }
 {
     match statement {
         Statement::Op { .. } => Ok(()),
+        Statement::Kind { .. } => Ok(()),
         Statement::Rule { name, pattern } => add_rule(
             alloc,
             &file.sig,

@@ -1,7 +1,7 @@
 use crate::fault::{TextError, TextKind};
 use crate::file::{EditSet, EditSets, File, Subject, Subjects};
 use crate::printer::write_term;
-use crate::reader::{file_is_computed, read_checked, read_file};
+use crate::reader::{fault_is_computed, file_is_computed, read_file};
 use mp_io::MemorySink;
 use mp_term::{Edits, Name, Term};
 use std::alloc::Global;
@@ -14,7 +14,7 @@ fn first_fault(alloc: Global, text: &[u8]) -> Result<First, Fail> {
     if text.len() > 1000 {
         Err("the text is too long")?
     }
-    match read_checked(alloc, text) {
+    match read_file(alloc, text) {
         Ok(_) => Ok(None),
         Err(TextError::Memory) => Err("memory ran out")?,
         Err(TextError::Text(fault)) => Ok(Some((fault.kind, fault.line, fault.column))),
@@ -52,11 +52,13 @@ fn printed(alloc: Global, file: &File, number: usize) -> Result<Vec<u8>, Fail> {
 #[test]
 fn the_first_fault_stands_at_its_token(rt: HostRuntime) -> Result<(), Fail> {
     file_is_computed();
-    let rows: [(&[u8], First); 24] = [
+    fault_is_computed();
+    let rows: [(&[u8], First); 25] = [
         (b"", None),
         (b"op f 2; rule r: f(x_, a); subject s: f(a, 0);", None),
-        (b"subject s: \xc3\xa9;", Some((TextKind::BadByte, 1, 12))),
-        (b"subject s: (a);", Some((TextKind::Syntax, 1, 12))),
+        (b"subject s: \xc3\xa9;", Some((TextKind::Unread, 1, 1))),
+        (b"subject s: (a);", Some((TextKind::Unread, 1, 1))),
+        (b"op f 2; op f 3; rule r: ;", Some((TextKind::Unread, 1, 1))),
         // names
         (b"op f 2; op f 3;", Some((TextKind::DuplicateName, 1, 12))),
         (b"rule r: a; subject r: a;", None),
@@ -119,6 +121,96 @@ fn the_first_fault_stands_at_its_token(rt: HostRuntime) -> Result<(), Fail> {
 }
 
 #[test]
+fn faults_of_flags_kinds_and_signs_stand_at_their_tokens(rt: HostRuntime) -> Result<(), Fail> {
+    let rows: [(&[u8], First); 30] = [
+        // declarations that aren't in order
+        (b"op p 2 assoc;", Some((TextKind::BadFlags, 1, 4))),
+        (b"op p 2+ assoc comm; op q 1+ one;", None),
+        (b"op p 3+ assoc;", Some((TextKind::BadFlags, 1, 4))),
+        (b"op p 1 one;", Some((TextKind::BadFlags, 1, 4))),
+        (b"op p 2+ one;", Some((TextKind::BadFlags, 1, 4))),
+        (b"op p 1 infix +;", Some((TextKind::BadFlags, 1, 4))),
+        (b"op p 0+ infix +; op q 2 infix -;", None),
+        (
+            b"op p 2+ comm assoc comm;",
+            Some((TextKind::BadFlags, 1, 4)),
+        ),
+        (b"op p 2 infix + infix -;", Some((TextKind::BadFlags, 1, 4))),
+        (b"op p 2 infix +++++;", Some((TextKind::BadFlags, 1, 4))),
+        // what stands first at a declaration
+        (
+            b"op p 2; op p 2 assoc;",
+            Some((TextKind::DuplicateName, 1, 12)),
+        ),
+        (b"op p 1001+ one;", Some((TextKind::BadFlags, 1, 4))),
+        (b"op p 2 infix + infix +;", Some((TextKind::BadFlags, 1, 4))),
+        (
+            b"op p 2 infix +; op q 2 infix +;",
+            Some((TextKind::DuplicateName, 1, 30)),
+        ),
+        (
+            b"op p 2 infix +; op q 1001 infix +;",
+            Some((TextKind::TooMany, 1, 22)),
+        ),
+        // kinds
+        (b"kind num: a;", Some((TextKind::DuplicateName, 1, 6))),
+        (
+            b"kind v: a; kind v: b;",
+            Some((TextKind::DuplicateName, 1, 17)),
+        ),
+        (
+            b"kind v: a f; op f 2;",
+            Some((TextKind::BareOperation, 1, 11)),
+        ),
+        (b"kind num: a; op f 1001;", Some((TextKind::TooMany, 1, 19))),
+        (
+            b"subject s: g(a); kind num: a;",
+            Some((TextKind::DuplicateName, 1, 23)),
+        ),
+        (b"op f 1; kind f: a a b; rule f: f(f_);", None),
+        // infix
+        (
+            b"subject s: (a + b + c);",
+            Some((TextKind::UnknownOp, 1, 15)),
+        ),
+        (
+            b"subject s: (g(a) + b);",
+            Some((TextKind::UnknownOp, 1, 13)),
+        ),
+        (
+            b"op p 2 infix +; subject s: (a + p + c);",
+            Some((TextKind::Arity, 1, 28)),
+        ),
+        (
+            b"op p 2 infix +; subject s: (p + x_);",
+            Some((TextKind::BareOperation, 1, 29)),
+        ),
+        (
+            b"op p 2 infix +; subject s: (a + x_);",
+            Some((TextKind::WildcardInTerm, 1, 33)),
+        ),
+        (
+            b"op p 3+ infix +; rule r: (x_ + y_);",
+            Some((TextKind::Arity, 1, 26)),
+        ),
+        // patterns that aren't matched
+        (
+            b"op p 1+ assoc; rule r: p(x_, a);",
+            Some((TextKind::Unread, 1, 1)),
+        ),
+        (
+            b"op p 2 comm; subject s: p(b, a); rule r: p(x_, a);",
+            Some((TextKind::Unread, 1, 1)),
+        ),
+        (b"op p 1+ assoc one; rule r: p(x_);", None),
+    ];
+    for (text, first) in rows {
+        assert_eq!(rt; first_fault(rt.alloc(), text)?, first);
+    }
+    Ok(())
+}
+
+#[test]
 fn files_are_read_and_terms_are_printed(rt: HostRuntime) -> Result<(), Fail> {
     let alloc = rt.alloc();
     let file = file_of(
@@ -127,6 +219,12 @@ fn files_are_read_and_terms_are_printed(rt: HostRuntime) -> Result<(), Fail> {
     )?;
     let text = printed(alloc, &file, 0)?;
     assert_eq!(rt; text.as_slice(), b"f(a, f(0, b))".as_slice());
+    let file = file_of(
+        alloc,
+        b"op p 1+ assoc comm one infix +; kind v: b a; subject s: (c + p(p(b)) + (a + b));",
+    )?;
+    let text = printed(alloc, &file, 0)?;
+    assert_eq!(rt; text.as_slice(), b"(a + b + b + c)".as_slice());
     Ok(())
 }
 

@@ -15,9 +15,15 @@ invariant-build_patterns-loop-expr l =
       named : HaveNames (trees rest);
     }
 
--- a list of expressions lies between the application that holds it and its items
+-- each function of the cycle is nearer to the expressions than the one before it
 abbrev pub decreases-build_pattern : goal.decreases-build_pattern
-decreases-build_pattern l = 2 * nodes (expr_tree l.expr.now)
+decreases-build_pattern l = 3 * nodes (expr_tree l.expr.now)
+
+abbrev pub decreases-infix_pattern : goal.decreases-infix_pattern
+decreases-infix_pattern l = 3 * all_nodes (trees (map expr_tree l.operands.now)) + 2
+
+abbrev pub decreases-unknown_pattern_sign : goal.decreases-unknown_pattern_sign
+decreases-unknown_pattern_sign l = 3 * all_nodes (trees (map expr_tree l.operands.now)) + 1
 
 abbrev pub decreases-build_patterns : goal.decreases-build_patterns
-decreases-build_patterns l = 2 * all_nodes (trees (map expr_tree l.exprs.now)) + 1
+decreases-build_patterns l = 3 * all_nodes (trees (map expr_tree l.exprs.now)) + 1

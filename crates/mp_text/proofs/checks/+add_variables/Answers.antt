@@ -1,13 +1,32 @@
-use Rattle.std.proofs.Common.{refl, arith, sym, ap, ◌∙◌}
-use Rattle.mp_text.proofs.Applied.{wildcard_names-Apply}
+use Rattle.std.proofs.Common.{◌≡◌, ◌+◌, map, refl, arith, sym, ap, ◌∙◌}
+use Rattle.mp_syntax.specs.Syntax.{trees}
+use Rattle.mp_syntax.specs.View.{expr_tree}
+use Rattle.mp_text.specs.Checks.{nodes, all_nodes}
+use Rattle.mp_text.proofs.Applied.{nodes-Apply, nodes-Infix, nodes-item, wildcard_names-Apply, wildcard_names-Infix}
 use Rattle.mp_text.proofs.Variables.{firsts_after-append}
 use Rattle.mp_text.proofs.Loops.{drop-item}
 use Rattle.mp_text.proofs.checks.+add_variables.Goals as goal
 
-pub loop-arg-init : goal.loop-arg-init
-loop-arg-init t c = rw (c.deref-arg-items.ensures.value, c.in-Apply.is, wildcard_names-Apply c.in-Apply.field-0 c.in-Apply.args) refl
+pub add_all_variables-add_variables-requires : goal.add_all_variables-add_variables-requires
+add_all_variables-add_variables-requires t c = omega (arith, nodes-item c.args.exprs.now c.loop-expr.expr-index c.expr-item.result (omega arith) c.expr-item.is, c.decreases)
 
-pub loop-arg-preserved : goal.loop-arg-preserved
-loop-arg-preserved t c =
-    let here = drop-item _ c.loop-arg.arg-index c.arg-item.result (omega arith) c.arg-item.is in
-    rw (c.in_ok-add_variables-in-Apply.ensures, ← firsts_after-append) (rw here at c.loop-arg.invariant)
+pub add_all_variables-loop-expr-preserved : goal.add_all_variables-loop-expr-preserved
+add_all_variables-loop-expr-preserved t c =
+    let here = drop-item _ c.loop-expr.expr-index c.expr-item.result (omega arith) c.expr-item.is in
+    rw (c.in_ok-add_variables.ensures, ← firsts_after-append) (rw here at c.loop-expr.invariant)
+
+pub add_variables-add_all_variables-requires : goal.add_variables-add_all_variables-requires
+add_variables-add_all_variables-requires t c =
+    let args : nodes (expr_tree c.args.expr.now) ≡ 1 + all_nodes (trees (map expr_tree c.deref.result.now)) = rw (c.in-Apply.is, c.deref.ensures.value) (nodes-Apply c.in-Apply.field-0 c.in-Apply.args) in
+    omega (arith, args, c.decreases)
+
+pub add_variables-add_all_variables-requires-in-Infix : goal.add_variables-add_all_variables-requires-in-Infix
+add_variables-add_all_variables-requires-in-Infix t c =
+    let args : nodes (expr_tree c.args.expr.now) ≡ 1 + all_nodes (trees (map expr_tree c.deref-in-Infix.result.now)) = rw (c.in-Infix.is, c.deref-in-Infix.ensures.value) (nodes-Infix c.in-Infix.«open» c.in-Infix.sign c.in-Infix.operands) in
+    omega (arith, args, c.decreases)
+
+pub add_variables-returns-in-Apply : goal.add_variables-returns-in-Apply
+add_variables-returns-in-Apply t c = rw (c.in-Apply.is, wildcard_names-Apply c.in-Apply.field-0 c.in-Apply.args) (rw c.deref.ensures.value at c.add_all_variables.ensures)
+
+pub add_variables-returns-in-Infix : goal.add_variables-returns-in-Infix
+add_variables-returns-in-Infix t c = rw (c.in-Infix.is, wildcard_names-Infix c.in-Infix.«open» c.in-Infix.sign c.in-Infix.operands) (rw c.deref-in-Infix.ensures.value at c.add_all_variables-in-Infix.ensures)

@@ -1,11 +1,19 @@
-use Rattle.std.proofs.Common.{◌≡◌, drop, map}
+use Rattle.std.proofs.Common.{◌≡◌, ◌+◌, ◌*◌, drop, map}
 use Rattle.std.specs.Str.{bytes_eq}
 use Rattle.mp_pattern.specs.Firsts.{firsts_after}
 use Rattle.mp_syntax.specs.Syntax.{trees}
 use Rattle.mp_syntax.specs.View.{expr_tree}
-use Rattle.mp_text.specs.Names.{wildcard_names, all_wildcard_names}
+use Rattle.mp_text.specs.Checks.{nodes, all_nodes}
+use Rattle.mp_text.specs.Names.{all_wildcard_names}
 use Rattle.mp_text.proofs.checks.+add_variables.Given as goal
 
-abbrev pub invariant-loop-arg : goal.invariant-loop-arg
-invariant-loop-arg l =
-    firsts_after bytes_eq (map (λ n. n.now) l.names.items) (all_wildcard_names (trees (map expr_tree (drop l.arg-index l.arg-items)))) ≡ firsts_after bytes_eq (map (λ n. n.now) l.fn.names.items) (wildcard_names (expr_tree l.expr))
+abbrev pub invariant-add_all_variables-loop-expr : goal.invariant-add_all_variables-loop-expr
+invariant-add_all_variables-loop-expr l =
+    firsts_after bytes_eq (map (λ n. n.now) l.names.items) (all_wildcard_names (trees (map expr_tree (drop l.expr-index l.exprs)))) ≡ firsts_after bytes_eq (map (λ n. n.now) l.fn.names.items) (all_wildcard_names (trees (map expr_tree l.exprs)))
+
+-- a list of expressions lies between the expression that holds it and its items
+abbrev pub decreases-add_variables : goal.decreases-add_variables
+decreases-add_variables l = 2 * nodes (expr_tree l.expr.now)
+
+abbrev pub decreases-add_all_variables : goal.decreases-add_all_variables
+decreases-add_all_variables l = 2 * all_nodes (trees (map expr_tree l.exprs.now)) + 1

@@ -1,9 +1,7 @@
-use Rattle.std.proofs.Common.{◌∙◌, sym}
+use Rattle.std.proofs.Common.{◌∙◌}
 use Rattle.std.proofs.lemmas.Result.{err_from_is_err_and}
 use Rattle.mp_syntax.specs.View.{spot_of, expr_tree}
-use Rattle.mp_text.specs.Build.{pattern_of}
 use Rattle.mp_text.specs.Names.{rule_names}
-use Rattle.mp_text.proofs.FreeNormal.{normal_pattern-free}
 use Rattle.mp_text.proofs.Fails.{fails-front, fails-behind, none-append}
 use Rattle.mp_text.proofs.Declared.{is_among-held_rules, length-held_rules, rules_of-RuleOf}
 use Rattle.mp_text.proofs.reader.add_rule.Goals as goal
@@ -28,8 +26,7 @@ pub returns : goal.returns
 returns c = λ earlier h.
     let held = c.has_rule-is_held.ensures ∙ is_among-held_rules c.args.name.text.now c.args.sig.now c.args.rules.now earlier h in
     let count = c.len.ensures ∙ length-held_rules c.args.sig.now c.args.rules.now earlier h in
-    let none = (c.in_ok-check_name.ensures (rule_names earlier) held count).0 in
-    let normal = c.in_ok-pattern.ensures.1 ∙ sym (normal_pattern-free c.args.sig.now c.requires.flags (pattern_of c.args.sig.now (expr_tree c.args.pattern.now))) in (
+    let none = (c.in_ok-check_name.ensures (rule_names earlier) held count).0 in (
       none-append _ _ (rw c.in_ok-is_large.ensures at none) ∙ c.in_ok-pattern.ensures.0,
-      rules_of-RuleOf c.args.sig.now c.args.rules.now c.push.new.self _ _ earlier (spot_of c.args.name) (expr_tree c.args.pattern.now) c.in_ok-push.ensures.ok h c.in_ok-name.ensures.1 normal,
+      rules_of-RuleOf c.args.sig.now c.args.rules.now c.push.new.self _ _ earlier (spot_of c.args.name) (expr_tree c.args.pattern.now) c.in_ok-push.ensures.ok h c.in_ok-name.ensures.1 c.in_ok-pattern.ensures.1,
     )

@@ -3,7 +3,6 @@ use Rattle.std.proofs.lemmas.Result.{err_from_is_err_and}
 use Rattle.mp_syntax.specs.View.{statement_tree}
 use Rattle.mp_text.specs.Build.{sig_of}
 use Rattle.mp_text.specs.Checks.{statement_faults, faults_by}
-use Rattle.mp_text.proofs.FreeNormal.{list_all-op_decls}
 use Rattle.mp_text.proofs.Loops.{drop-item}
 use Rattle.mp_text.proofs.Fails.{fails-front, fails-behind, fails-along}
 use Rattle.mp_text.proofs.reader.build_file.Goals as goal
@@ -11,7 +10,6 @@ use Rattle.mp_text.proofs.reader.build_file.Goals as goal
 pub loop-statement-init : goal.loop-statement-init
 loop-statement-init c = record {
   built = rw (c.in_ok-sig.ensures.1, c.new.ensures, c.new-2.ensures, c.new-3.ensures) refl;
-  flags = rw c.in_ok-sig.ensures.1 (list_all-op_decls (map statement_tree c.args.statements.now));
   faults = refl;
   named = c.requires;
 }

@@ -4,7 +4,6 @@ use Rattle.mp_syntax.specs.View.{statement_tree}
 use Rattle.mp_text.specs.Build.{sig_of, file_over}
 use Rattle.mp_text.specs.Checks.{statement_faults, faults_by}
 use Rattle.mp_text.specs.File.{file_tree}
-use Rattle.mp_text.specs.Flags.{HasNoFlags}
 use Rattle.mp_text.proofs.reader.build_file.Given as goal
 
 -- the file is that of the statements so far, and the faults are those of the others
@@ -15,7 +14,6 @@ invariant-loop-statement l =
     let rest = map statement_tree (drop l.statement-index l.statements) in
     record {
       built : file_tree l.file ≡ file_over sig before;
-      flags : HasNoFlags l.file.sig;
       faults : faults_by (statement_faults sig) before rest ≡ faults_by (statement_faults sig) [] (map statement_tree l.statements);
       named : StatementsHaveNames rest;
     }

@@ -1,15 +1,18 @@
-use Rattle.mp_text.proofs.Whole.{ReadGives-only, ReadGives-none, ReadGives-computed}
-use Rattle.mp_text.proofs.SoundLaws.{IsSoundFile-IsFileOf}
+use Rattle.mp_text.proofs.Whole.{ReadGives-only, ReadGives-fault, ReadGives-only_fault, ReadGives-computed}
+use Rattle.mp_text.proofs.SoundLaws.{IsSoundFile-ReadGives}
 use Rattle.mp_text.proofs.reader.read_file.Goals as goal
 
-pub returns-in-Ok-clause-only : goal.returns-in-Ok-clause-only
-returns-in-Ok-clause-only c = λ f h. ReadGives-only _ _ f c.in-Ok.ensures h
+pub returns-clause-only : goal.returns-clause-only
+returns-clause-only c = ReadGives-only c.args.bytes.now c.read.result c.read.ensures
 
-pub returns-in-Ok-clause-computed : goal.returns-in-Ok-clause-computed
-returns-in-Ok-clause-computed c = ReadGives-computed _ _ c.in-Ok.ensures
+pub returns-clause-fault : goal.returns-clause-fault
+returns-clause-fault c = ReadGives-fault c.args.bytes.now c.read.result c.read.ensures
 
-pub returns-in-Err-Text-clause-only : goal.returns-in-Err-Text-clause-only
-returns-in-Err-Text-clause-only c = λ f h. ReadGives-none c.args.bytes.now c.in-Err-Text.field-0-0 f (rw c.in-Err-Text.field-0-is at c.in-Err-Text.ensures) h
+pub returns-clause-only_fault : goal.returns-clause-only_fault
+returns-clause-only_fault c = ReadGives-only_fault c.args.bytes.now c.read.result c.read.ensures
 
-pub returns-in-Ok-clause-sound : goal.returns-in-Ok-clause-sound
-returns-in-Ok-clause-sound c = IsSoundFile-IsFileOf _ _ c.in-Ok.ensures
+pub returns-clause-computed : goal.returns-clause-computed
+returns-clause-computed c = ReadGives-computed c.args.bytes.now c.read.result c.read.ensures
+
+pub returns-clause-sound : goal.returns-clause-sound
+returns-clause-sound c = IsSoundFile-ReadGives c.args.bytes.now c.read.result c.read.ensures

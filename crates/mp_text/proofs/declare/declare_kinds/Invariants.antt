@@ -1,9 +1,9 @@
 use Rattle.std.proofs.Common.{◌≡◌, [], drop, take, map}
 use Rattle.mp_syntax.specs.Syntax.{StatementsHaveNames}
 use Rattle.mp_syntax.specs.View.{statement_tree}
-use Rattle.mp_text.specs.Build.{sig_of}
-use Rattle.mp_text.specs.Checks.{declaration_faults, faults_by}
-use Rattle.mp_text.proofs.declare.declare.Given as goal
+use Rattle.mp_text.specs.Build.{sig_with}
+use Rattle.mp_text.specs.Checks.{kind_statement_faults, faults_by}
+use Rattle.mp_text.proofs.declare.declare_kinds.Given as goal
 
 -- the signature is that of the statements so far, and the faults are those of the others
 abbrev pub invariant-loop-statement : goal.invariant-loop-statement
@@ -11,7 +11,7 @@ invariant-loop-statement l =
     let before = map statement_tree (take l.statement-index l.statements) in
     let rest = map statement_tree (drop l.statement-index l.statements) in
     record {
-      declared : l.sig ≡ sig_of before;
-      faults : faults_by declaration_faults before rest ≡ faults_by declaration_faults [] (map statement_tree l.statements);
+      declared : l.sig ≡ sig_with l.fn.sig.ops before;
+      faults : faults_by (kind_statement_faults l.fn.sig.ops) before rest ≡ faults_by (kind_statement_faults l.fn.sig.ops) [] (map statement_tree l.statements);
       named : StatementsHaveNames rest;
     }

@@ -1,0 +1,48 @@
+-- What the checks of a declaration say where they find no fault.
+use Rattle.std.proofs.Common.{◌≡◌, ◌≤◌, ℕ, Bool, true, false, ◌||◌, not, min, ltb, leb, List, [], ◌∷◌, ◌++◌, length, map, Some, None, refl, sym, ap, ◌∙◌, arith, rules}
+use Rattle.std.specs.Prelude.{Option}
+use Rattle.mp_term.specs.declared.signature.OpDecl.{OpDecl}
+use Rattle.mp_term.specs.Signature.{in_order}
+use Rattle.mp_syntax.specs.Syntax.{Spot, Flag, Assoc, Comm, One, Infixed, HaveSigns, IsInfixSign}
+use Rattle.mp_text.specs.declared.fault.TextKind.TheVariants.{BadFlags, TooMany}
+use Rattle.mp_text.specs.Build.{op_decl}
+use Rattle.mp_text.specs.Checks.{fault_if, name_faults, has_bad_flags, held_sign_faults, op_faults}
+use Rattle.mp_text.specs.Flags.{some_flag_twice, sign_spot, is_long_sign, IsSpelledSign}
+use Rattle.mp_text.specs.Names.{number_of}
+use Rattle.mp_text.proofs.Faultless.{nil-append, nil-fault_if, or-second, within, not-false}
+use Rattle.mp_text.proofs.Words.{is_sign-IsInfixSign}
+
+-- a declaration without faults: its flags and its sign are in order, and its number is small
+pub record Declarable (name least : Spot) (more : Bool) (flags : List Flag) : Type 0 where
+  pub ordered : in_order (op_decl name least more flags) ≡ true
+  pub short : is_long_sign (sign_spot flags) ≡ false
+  pub small : number_of least.text ≤ 1000
+
+pub declarable-op_faults : (ds : List OpDecl) (name least : Spot) (more : Bool) (flags : List Flag) → op_faults ds name least more flags ≡ [] → Declarable name least more flags
+declarable-op_faults ds name least more flags h =
+    let large = fault_if (ltb 1000 (number_of least.text)) TooMany least.place in
+    let bad = fault_if (has_bad_flags name least more flags) BadFlags name.place in
+    let p = nil-append (name_faults 256 (map (λ d. d.name) ds) false name) (bad ++ (large ++ held_sign_faults ds (sign_spot flags))) h in
+    let q = nil-append bad (large ++ held_sign_faults ds (sign_spot flags)) p.1 in
+    let r = nil-append large (held_sign_faults ds (sign_spot flags)) q.1 in
+    let o = or-second (some_flag_twice flags) (is_long_sign (sign_spot flags) || not (in_order (op_decl name least more flags))) (nil-fault_if (has_bad_flags name least more flags) BadFlags name.place q.0) in
+    let s = or-second (is_long_sign (sign_spot flags)) (not (in_order (op_decl name least more flags))) o.1 in
+    record {
+      ordered = not-false (in_order (op_decl name least more flags)) s.1;
+      short = s.0;
+      small = within 1000 (number_of least.text) (nil-fault_if (ltb 1000 (number_of least.text)) TooMany least.place r.0);
+    }
+
+-- the sign of flags whose signs are signs, where it isn't long
+pub IsSpelledSign-HaveSigns : (flags : List Flag) → HaveSigns flags → is_long_sign (sign_spot flags) ≡ false → IsSpelledSign (sign_spot flags)
+IsSpelledSign-HaveSigns [] h short = tt
+IsSpelledSign-HaveSigns (Assoc ∷ flags) h short = IsSpelledSign-HaveSigns flags h.1 short
+IsSpelledSign-HaveSigns (Comm ∷ flags) h short = IsSpelledSign-HaveSigns flags h.1 short
+IsSpelledSign-HaveSigns (One ∷ flags) h short = IsSpelledSign-HaveSigns flags h.1 short
+IsSpelledSign-HaveSigns (Infixed sign ∷ flags) h short = is_sign-IsInfixSign sign.text h.0 (within 4 (length sign.text) short)
+
+-- the last of three tests decides where the others fail
+pub third-of : (a b d r : Bool) → a ≡ false → b ≡ false → r ≡ d → r ≡ (a || (b || d))
+third-of true b d r p q h = cc
+third-of false true d r p q h = cc
+third-of false false d r p q h = h

@@ -1,7 +1,0 @@
-use Rattle.std.proofs.Common.{map}
-use Rattle.mp_syntax.specs.View.{statement_tree}
-use Rattle.mp_text.proofs.Whole.{ReadGives-checked}
-use Rattle.mp_text.proofs.reader.read_checked.Goals as goal
-
-pub returns-in-Ok : goal.returns-in-Ok
-returns-in-Ok c = ReadGives-checked c.args.bytes.now (map statement_tree c.in-Ok.statements.items) c.build_file.result c.in-Ok.ensures.found (rw c.deref.ensures.value at c.build_file.ensures)
