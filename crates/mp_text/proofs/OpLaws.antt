@@ -1,9 +1,8 @@
 -- What the checks of a declaration say where they find no fault.
-use Rattle.std.proofs.Common.{◌≡◌, ◌≤◌, ℕ, Bool, true, false, ◌||◌, not, min, ltb, leb, List, [], ◌∷◌, ◌++◌, length, map, Some, None, refl, sym, ap, ◌∙◌, arith, rules}
-use Rattle.std.specs.Prelude.{Option}
+use Rattle.std.proofs.Common.{◌≡◌, ◌≤◌, Bool, true, false, ◌||◌, not, ltb, List, [], ◌∷◌, ◌++◌, length, map}
 use Rattle.mp_term.specs.declared.signature.OpDecl.{OpDecl}
 use Rattle.mp_term.specs.Signature.{in_order}
-use Rattle.mp_syntax.specs.Syntax.{Spot, Flag, Assoc, Comm, One, Infixed, HaveSigns, IsInfixSign}
+use Rattle.mp_syntax.specs.Syntax.{Spot, Flag, Assoc, Comm, One, Infixed, HaveSigns}
 use Rattle.mp_text.specs.declared.fault.TextKind.TheVariants.{BadFlags, TooMany}
 use Rattle.mp_text.specs.Build.{op_decl}
 use Rattle.mp_text.specs.Checks.{fault_if, name_faults, has_bad_flags, held_sign_faults, op_faults}

@@ -1,5 +1,5 @@
 -- The file and the fault that are computed from the bytes are those of the bytes.
-use Rattle.std.proofs.Common.{◌≡◌, ℕ, Bool, true, false, List, [], ◌∷◌, Option, Some, None, Result, Ok, Err, inl, inr, refl, sym, ap, ◌∙◌, subst}
+use Rattle.std.proofs.Common.{◌≡◌, ℕ, Bool, true, false, List, [], ◌∷◌, Option, Some, None, Result, Ok, Err, inl, inr, refl, sym, ap, ◌∙◌}
 use Rattle.std.specs.Prelude.{◌↔◌, ◌⊎◌, option_and_then, if◌then◌else◌}
 use Rattle.mp_syntax.specs.declared.fault.Fault.{Fault}
 use Rattle.mp_syntax.specs.Syntax.{Statement, IsSyntaxOf}
@@ -15,7 +15,7 @@ use Rattle.mp_text.specs.Build.{file_tree_of}
 use Rattle.mp_text.specs.Checks.{faults}
 use Rattle.mp_text.specs.Matched.{is_matched_file}
 use Rattle.mp_text.specs.Answers.{first}
-use Rattle.mp_text.specs.Reading.{IsFileOf, file_without, checked_file, file_of, unread_fault, IsRefused, HasFault, IsUnmatched, IsFaultOf, fault_among, fault_in, fault_of, StatementsGive, ReadGives, IfText, IsFileOrMemory, IsFaultOrMemory, IsComputed}
+use Rattle.mp_text.specs.Reading.{IsFileOf, file_without, checked_file, file_of, unread_fault, IsRefused, IsUnmatched, IsFaultOf, fault_among, fault_in, fault_of, StatementsGive, ReadGives, IfText, IsFileOrMemory, IsFaultOrMemory, IsComputed}
 
 some_same : {X : Type 0} (a b : X) → Some a ≡ Some b → a ≡ b
 some_same a b e = cc

@@ -1,8 +1,7 @@
 -- A word of at most 64 bytes is the spelling of a name, and a sign of at most 4 bytes that of a sign.
-use Rattle.std.proofs.Common.{◌≡◌, ◌≢◌, ℕ, ◌≤◌, ◌<◌, Bool, true, false, ◌&&◌, ◌||◌, List, [], ◌∷◌, length, leb, arith, refl, ap, ◌∙◌, sym, rules}
+use Rattle.std.proofs.Common.{◌≡◌, ◌≢◌, ℕ, ◌≤◌, Bool, true, false, ◌&&◌, ◌||◌, List, [], ◌∷◌, length, leb, refl, ◌∙◌, sym, rules}
 use Rattle.std.specs.List.{list_all}
 use Rattle.std.specs.Prelude.{not, codes}
-use Rattle.std.specs.Str.{bytes_eq}
 use Rattle.std.proofs.lemmas.Slice.Eq.{bytes_eq-Decides}
 use Rattle.mp_term.specs.Names.{is_name, is_name_byte, all_name_bytes, is_arrow, is_sign, is_sign_byte, all_sign_bytes}
 use Rattle.mp_syntax.specs.Tokens as tokens

@@ -4,7 +4,7 @@ use Rattle.std.specs.List.{list_any}
 use Rattle.mp_term.specs.declared.signature.OpDecl.{OpDecl}
 use Rattle.mp_term.specs.Signature.{Sig, allows, in_order, has_sign, kind_names}
 use Rattle.mp_syntax.specs.declared.place.Place.{Place}
-use Rattle.mp_syntax.specs.Syntax.{Spot, Wildcard, Tree, Symbol, Apply, InfixOf, Wild, Trees, no_trees, more_trees, tree_list, Flag, Statement, OpOf, KindOf, RuleOf, SubjectOf}
+use Rattle.mp_syntax.specs.Syntax.{Spot, Tree, Symbol, Apply, InfixOf, Wild, Trees, no_trees, more_trees, tree_list, Flag, Statement, OpOf, KindOf, RuleOf, SubjectOf}
 use Rattle.mp_text.specs.declared.fault.TextKind.{TextKind}
 use Rattle.mp_text.specs.declared.fault.TextKind.TheVariants.{DuplicateName, TooMany, BadFlags, UnknownOp, BareOperation, Arity, WildcardInTerm}
 use Rattle.mp_text.specs.declared.fault.TextFault.{TextFault}

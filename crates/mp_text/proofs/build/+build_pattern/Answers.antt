@@ -1,6 +1,6 @@
-use Rattle.std.proofs.Common.{◌≡◌, ◌+◌, ◌∷◌, map, drop, arith, rules, ◌∙◌, sym, ap, subst, refl}
+use Rattle.std.proofs.Common.{◌≡◌, ◌+◌, ◌∷◌, map, drop, arith, ◌∙◌, sym, ap, subst, refl}
 use Rattle.std.proofs.lemmas.Result.{err_from_is_err_and}
-use Rattle.mp_syntax.specs.Syntax.{Tree, InfixOf, trees, HasNames, HaveNames}
+use Rattle.mp_syntax.specs.Syntax.{Tree, InfixOf, trees, HaveNames}
 use Rattle.mp_pattern.specs.View.{pattern_tree}
 use Rattle.mp_syntax.specs.View.{spot_of, expr_tree}
 use Rattle.mp_syntax.proofs.Trees.{expr_tree-Infix}
@@ -97,8 +97,8 @@ infix_pattern-returns-in_ok-patterns-in-Some t c =
     let sign = spot_of c.args.sign in
     let ts = trees (map expr_tree c.args.operands.now) in (
       pattern_faults-operands sig c.args.place sign c.args.operands.now ∙ none-append _ _ c.in_ok-pattern_sign.ensures.0
-      ∙ pattern_operand_faults-known sig sign (op_signed sig sign.text) ts (rw c.in-Some.is at c.in_ok-pattern_sign.ensures.1.1) ∙ c.in_ok-patterns-in-Some.ensures.0,
+          ∙ pattern_operand_faults-known sig sign (op_signed sig sign.text) ts (rw c.in-Some.is at c.in_ok-pattern_sign.ensures.1.1) ∙ c.in_ok-patterns-in-Some.ensures.0,
       ap (λ n. pattern.app_pattern (head_number n) (pattern.patterns c.in_ok-patterns-in-Some.patterns)) (rw c.in-Some.is at c.in_ok-pattern_sign.ensures.1.0)
-      ∙ ap (λ l. pattern.app_pattern (head_number (sign_number sig sign.text)) (pattern.patterns l)) c.in_ok-patterns-in-Some.ensures.1
-      ∙ sym (pattern_of-operands sig c.args.place sign c.args.operands.now),
+          ∙ ap (λ l. pattern.app_pattern (head_number (sign_number sig sign.text)) (pattern.patterns l)) c.in_ok-patterns-in-Some.ensures.1
+          ∙ sym (pattern_of-operands sig c.args.place sign c.args.operands.now),
     )

@@ -1,6 +1,6 @@
-use Rattle.std.proofs.Common.{◌≡◌, ◌+◌, ◌∷◌, map, drop, arith, rules, ◌∙◌, sym, ap, subst, refl}
+use Rattle.std.proofs.Common.{◌≡◌, ◌+◌, ◌∷◌, map, drop, arith, ◌∙◌, sym, ap, subst, refl}
 use Rattle.std.proofs.lemmas.Result.{err_from_is_err_and}
-use Rattle.mp_syntax.specs.Syntax.{Tree, InfixOf, trees, HasNames, HaveNames}
+use Rattle.mp_syntax.specs.Syntax.{Tree, InfixOf, trees, HaveNames}
 use Rattle.mp_term.specs.View.{tree}
 use Rattle.mp_syntax.specs.View.{spot_of, expr_tree}
 use Rattle.mp_syntax.proofs.Trees.{expr_tree-Infix}
@@ -94,8 +94,8 @@ infix_term-returns-in_ok-terms-in-Some t c =
     let sign = spot_of c.args.sign in
     let ts = trees (map expr_tree c.args.operands.now) in (
       term_faults-operands sig c.args.place sign c.args.operands.now ∙ none-append _ _ c.in_ok-term_sign.ensures.0
-      ∙ term_operand_faults-known sig sign (op_signed sig sign.text) ts (rw c.in-Some.is at c.in_ok-term_sign.ensures.1.1) ∙ c.in_ok-terms-in-Some.ensures.0,
+          ∙ term_operand_faults-known sig sign (op_signed sig sign.text) ts (rw c.in-Some.is at c.in_ok-term_sign.ensures.1.1) ∙ c.in_ok-terms-in-Some.ensures.0,
       ap (λ n. term.app (head_number n) (term.trees c.in_ok-terms-in-Some.terms)) (rw c.in-Some.is at c.in_ok-term_sign.ensures.1.0)
-      ∙ ap (λ l. term.app (head_number (sign_number sig sign.text)) (term.trees l)) c.in_ok-terms-in-Some.ensures.1
-      ∙ sym (term_of-operands sig c.args.place sign c.args.operands.now),
+          ∙ ap (λ l. term.app (head_number (sign_number sig sign.text)) (term.trees l)) c.in_ok-terms-in-Some.ensures.1
+          ∙ sym (term_of-operands sig c.args.place sign c.args.operands.now),
     )

@@ -1,4 +1,4 @@
-use Rattle.std.proofs.Common.{◌≡◌, ◌+◌, map, refl, arith}
+use Rattle.std.proofs.Common.{◌≡◌, ◌+◌, map, arith}
 use Rattle.mp_syntax.specs.Syntax.{trees}
 use Rattle.mp_syntax.specs.View.{expr_tree}
 use Rattle.mp_text.specs.Checks.{nodes, all_nodes}

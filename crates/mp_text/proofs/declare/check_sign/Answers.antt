@@ -1,4 +1,4 @@
-use Rattle.std.proofs.Common.{◌≡◌, true, false, sym, ◌∙◌}
+use Rattle.std.proofs.Common.{sym, ◌∙◌}
 use Rattle.std.specs.List.{list_any}
 use Rattle.mp_term.specs.declared.term.OpId.{OpId}
 use Rattle.mp_term.specs.Signature.{has_sign}

@@ -1,4 +1,4 @@
-use Rattle.std.proofs.Common.{map, arith, rules, ap, ◌∙◌}
+use Rattle.std.proofs.Common.{map, arith, ap}
 use Rattle.mp_syntax.specs.View.{spot_of, flag_of}
 use Rattle.mp_text.proofs.OpLaws.{declarable-op_faults, IsSpelledSign-HaveSigns}
 use Rattle.mp_text.proofs.declare.declare_op.Goals as goal

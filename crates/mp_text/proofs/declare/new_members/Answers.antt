@@ -1,9 +1,9 @@
-use Rattle.std.proofs.Common.{◌≡◌, ◌+◌, ◌++◌, ◌∷◌, [], map, drop, get_or, append_assoc, arith, refl, sym, ap, ◌∙◌}
+use Rattle.std.proofs.Common.{◌+◌, ◌++◌, ◌∷◌, [], map, drop, get_or, append_assoc, arith, sym, ap, ◌∙◌}
 use Rattle.std.proofs.lemmas.Result.{err_from_is_err_and}
 use Rattle.std.proofs.lemmas.List.{drop_more}
 use Rattle.std.specs.Prelude.{flat_map}
 use Rattle.mp_syntax.specs.declared.place.Spot as code
-use Rattle.mp_syntax.specs.Syntax.{Spot, AreNames}
+use Rattle.mp_syntax.specs.Syntax.{Spot}
 use Rattle.mp_syntax.specs.View.{spot_of}
 use Rattle.mp_text.specs.Checks.{symbol_faults}
 use Rattle.mp_text.proofs.Fails.{fails-front, fails-along, none-append}

@@ -1,4 +1,4 @@
-use Rattle.std.proofs.Common.{◌≡◌, map, not, sym, ap, ◌∙◌, refl}
+use Rattle.std.proofs.Common.{map, not, sym, ap, ◌∙◌}
 use Rattle.mp_term.specs.Signature.{in_order}
 use Rattle.mp_syntax.specs.View.{flag_of}
 use Rattle.mp_text.specs.Build.{op_decl}

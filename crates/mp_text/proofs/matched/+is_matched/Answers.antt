@@ -1,6 +1,4 @@
-use Rattle.std.proofs.Common.{◌≡◌, ◌+◌, ◌≤◌, map, get_or, arith, ap}
-use Rattle.mp_pattern.specs.Size.{pattern_nodes, list_nodes}
-use Rattle.mp_pattern.specs.View.{pattern_tree}
+use Rattle.std.proofs.Common.{arith}
 use Rattle.mp_text.proofs.Applied.{pattern_nodes-item}
 use Rattle.mp_text.proofs.matched.+is_matched.Goals as goal
 

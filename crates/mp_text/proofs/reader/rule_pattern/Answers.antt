@@ -1,7 +1,3 @@
-use Rattle.std.proofs.Common.{ap, sym, ◌∙◌, subst, true}
-use Rattle.std.specs.Prelude.{◌≡◌}
-use Rattle.mp_pattern.specs.PatternTree.{Pattern}
-use Rattle.mp_pattern.specs.Sound.{DefaultsAreNormal, holds_ops}
 use Rattle.mp_syntax.specs.View.{expr_tree}
 use Rattle.mp_text.proofs.SoundLaws.{holds_ops-pattern_of, defaults-pattern_of}
 use Rattle.mp_text.proofs.reader.rule_pattern.Goals as goal
