@@ -122,57 +122,27 @@ fn the_first_fault_stands_at_its_token(rt: HostRuntime) -> Result<(), Fail> {
 
 #[test]
 fn faults_of_flags_kinds_and_signs_stand_at_their_tokens(rt: HostRuntime) -> Result<(), Fail> {
-    let rows: [(&[u8], First); 30] = [
-        // declarations that aren't in order
+    let rows: [(&[u8], First); 14] = [
+        // declarations
         (b"op p 2 assoc;", Some((TextKind::BadFlags, 1, 4))),
         (b"op p 2+ assoc comm; op q 1+ one;", None),
-        (b"op p 3+ assoc;", Some((TextKind::BadFlags, 1, 4))),
-        (b"op p 1 one;", Some((TextKind::BadFlags, 1, 4))),
-        (b"op p 2+ one;", Some((TextKind::BadFlags, 1, 4))),
-        (b"op p 1 infix +;", Some((TextKind::BadFlags, 1, 4))),
-        (b"op p 0+ infix +; op q 2 infix -;", None),
         (
             b"op p 2+ comm assoc comm;",
             Some((TextKind::BadFlags, 1, 4)),
         ),
-        (b"op p 2 infix + infix -;", Some((TextKind::BadFlags, 1, 4))),
         (b"op p 2 infix +++++;", Some((TextKind::BadFlags, 1, 4))),
-        // what stands first at a declaration
-        (
-            b"op p 2; op p 2 assoc;",
-            Some((TextKind::DuplicateName, 1, 12)),
-        ),
         (b"op p 1001+ one;", Some((TextKind::BadFlags, 1, 4))),
-        (b"op p 2 infix + infix +;", Some((TextKind::BadFlags, 1, 4))),
         (
             b"op p 2 infix +; op q 2 infix +;",
             Some((TextKind::DuplicateName, 1, 30)),
         ),
-        (
-            b"op p 2 infix +; op q 1001 infix +;",
-            Some((TextKind::TooMany, 1, 22)),
-        ),
-        // kinds
         (b"kind num: a;", Some((TextKind::DuplicateName, 1, 6))),
-        (
-            b"kind v: a; kind v: b;",
-            Some((TextKind::DuplicateName, 1, 17)),
-        ),
         (
             b"kind v: a f; op f 2;",
             Some((TextKind::BareOperation, 1, 11)),
         ),
-        (b"kind num: a; op f 1001;", Some((TextKind::TooMany, 1, 19))),
-        (
-            b"subject s: g(a); kind num: a;",
-            Some((TextKind::DuplicateName, 1, 23)),
-        ),
         (b"op f 1; kind f: a a b; rule f: f(f_);", None),
         // infix
-        (
-            b"subject s: (a + b + c);",
-            Some((TextKind::UnknownOp, 1, 15)),
-        ),
         (
             b"subject s: (g(a) + b);",
             Some((TextKind::UnknownOp, 1, 13)),
@@ -182,22 +152,10 @@ fn faults_of_flags_kinds_and_signs_stand_at_their_tokens(rt: HostRuntime) -> Res
             Some((TextKind::Arity, 1, 28)),
         ),
         (
-            b"op p 2 infix +; subject s: (p + x_);",
-            Some((TextKind::BareOperation, 1, 29)),
-        ),
-        (
-            b"op p 2 infix +; subject s: (a + x_);",
-            Some((TextKind::WildcardInTerm, 1, 33)),
-        ),
-        (
             b"op p 3+ infix +; rule r: (x_ + y_);",
             Some((TextKind::Arity, 1, 26)),
         ),
         // patterns that aren't matched
-        (
-            b"op p 1+ assoc; rule r: p(x_, a);",
-            Some((TextKind::Unread, 1, 1)),
-        ),
         (
             b"op p 2 comm; subject s: p(b, a); rule r: p(x_, a);",
             Some((TextKind::Unread, 1, 1)),
