@@ -10,6 +10,7 @@ use Rattle.mp_term.specs.Signature.{Sig, holds_of, is_assoc, is_comm, is_one}
 use Rattle.mp_term.specs.Normal as term
 use Rattle.mp_term.specs.Normal.{normal, normals}
 use Rattle.mp_pattern.specs.PatternTree.{Pattern, symbol_pattern, app_pattern, wild_pattern, Patterns, no_patterns, more_patterns, pattern_list, patterns}
+use Rattle.mp_pattern.specs.PatternLists.{patterns-pattern_list}
 use Rattle.mp_pattern.specs.Normal as pattern
 use Rattle.mp_pattern.specs.Normal.{normal_pattern, normal_patterns}
 use Rattle.mp_syntax.specs.Syntax.{Statement, OpOf, RuleOf, SubjectOf}
@@ -74,11 +75,6 @@ module _ (sig : Sig) (h : HasNoFlags sig) where
     normals-free : (ts : Trees) → normals sig ts ≡ tree_list ts
     normals-free no_trees = refl
     normals-free (more_trees t ts) = λ i. normal-free t i ∷ normals-free ts i
-
-  -- the list of patterns, as a chain and back
-  patterns-pattern_list : (ps : Patterns) → patterns (pattern_list ps) ≡ ps
-  patterns-pattern_list no_patterns = refl
-  patterns-pattern_list (more_patterns p ps) = ap (more_patterns p) (patterns-pattern_list ps)
 
   -- the arguments of a pattern aren't flattened
   flattened_patterns-free : (f : ℕ) (ps : List Pattern) → pattern.flattened sig f ps ≡ ps

@@ -28,7 +28,8 @@ use Rattle.mp_text.specs.Names.{is_among, named, wildcard_names, all_wildcard_na
 use Rattle.mp_text.specs.Build.{op_number, head_number, shape_of, variable_of, term_of, terms_of, pattern_of, patterns_of, rule_of, rules_of, subject_of, subjects_of, sig_of, file_tree_of}
 use Rattle.mp_text.specs.Checks.{fault_at, fault_if, nodes, all_nodes, is_large_pattern, is_large_term, op_named, head_faults, symbol_faults, allows_patterns, term_faults, all_term_faults, pattern_faults, all_pattern_faults, name_faults, declaration_faults, statement_faults, faults_by, faults}
 use Rattle.mp_text.specs.Flags.{HasNoFlags}
-use Rattle.mp_text.specs.Sound.{DefaultIsNormal, DefaultsAreNormal, AllDefaultsAreNormal, holds_ops, all_hold_ops, IsSoundPattern, IsSoundTerm, IsSoundFile}
+use Rattle.mp_pattern.specs.Sound.{DefaultIsNormal, DefaultsAreNormal, AllDefaultsAreNormal, holds_ops, all_hold_ops}
+use Rattle.mp_text.specs.Sound.{IsSoundPattern, IsSoundTerm, IsSoundFile}
 use Rattle.mp_text.specs.File.{FileTree}
 use Rattle.mp_text.specs.Reading.{IsFileOf}
 use Rattle.mp_text.proofs.Declared.{bytes_eq_comm, names-rules_of, names-subjects_of}
