@@ -11,7 +11,8 @@ use Rattle.mp_theory.specs.Sound.{AllEach, DefaultNormal, Each}
 use Rattle.mp_text.specs.Build.{rules_of, sig_of}
 use Rattle.mp_text.specs.File.{FileTree, Subject}
 use Rattle.mp_text.specs.Reading.{IsFileOf}
-use Rattle.mp_text.specs.Sound.{AllDefaultsAreNormal, DefaultIsNormal, DefaultsAreNormal, IsSoundFile, IsSoundPattern, IsSoundTerm}
+use Rattle.mp_pattern.specs.Sound.{AllDefaultsAreNormal, DefaultIsNormal, DefaultsAreNormal}
+use Rattle.mp_text.specs.Sound.{IsSoundFile, IsSoundPattern, IsSoundTerm}
 use Rattle.mp_text.proofs.SoundLaws.{IsSoundFile-IsFileOf}
 use Rattle.matchpy.specs.Matches.{IsMatchable, IsMatchableFile, IsNormalSubject}
 

@@ -1,12 +1,12 @@
 -- A normal form is a pattern that each step of normalising leaves as it is, and so are its subpatterns.
-use Rattle.std.proofs.Common.{◌≡◌, ℕ, Bool, true, false, ◌&&◌, not, List, [], ◌∷◌, ◌++◌, refl, ap, sym, ◌∙◌, subst, eqb-true}
-use Rattle.std.specs.Prelude.{nat_eq, if◌then◌else◌, ⊤}
+use Rattle.std.proofs.Common.{◌≡◌, ℕ, Bool, true, false, ◌&&◌, not, List, [], ◌∷◌, refl, ap, sym, ◌∙◌, subst, eqb-true}
+use Rattle.std.specs.Prelude.{nat_eq, ⊤}
 use Rattle.std.specs.List.{AllByRecursion}
 use Rattle.mp_term.specs.Signature.{Sig, is_assoc, is_one}
 use Rattle.mp_term.proofs.NormalTestLaws.{and_false}
 use Rattle.mp_pattern.specs.PatternTree.{Pattern, symbol_pattern, app_pattern, wild_pattern, Patterns, no_patterns, more_patterns, pattern_list, patterns}
-use Rattle.mp_pattern.specs.PatternLists.{pattern_list-patterns, patterns-pattern_list}
-use Rattle.mp_pattern.specs.Normal.{is_loose, unwrapped, parts, flattened, in_order, collapsed, normal_pattern, normal_patterns, IsNormalPattern}
+use Rattle.mp_pattern.specs.PatternLists.{pattern_list-patterns}
+use Rattle.mp_pattern.specs.Normal.{is_loose, parts, flattened, in_order, collapsed, normal_pattern, normal_patterns, IsNormalPattern}
 use Rattle.mp_pattern.specs.Subpatterns.{subpatterns, all_subpatterns}
 use Rattle.mp_pattern.proofs.SortedLaws.{all-append, all-flat_map}
 use Rattle.mp_pattern.proofs.NormalLaws.{all-in_order, in_order-in_order}

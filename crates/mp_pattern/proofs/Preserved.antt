@@ -1,5 +1,5 @@
 -- What holds of a pattern and its arguments, and of any pattern made of such arguments, holds of its normal form.
-use Rattle.std.proofs.Common.{◌≡◌, ℕ, Bool, true, false, ◌&&◌, not, List, [], ◌∷◌, refl, subst}
+use Rattle.std.proofs.Common.{◌≡◌, ℕ, true, false, ◌&&◌, not, List, [], ◌∷◌, refl}
 use Rattle.std.specs.Prelude.{nat_eq, is_some, slice_get, if◌then◌else◌}
 use Rattle.std.specs.List.{AllByRecursion}
 use Rattle.mp_term.specs.Signature.{Sig, is_assoc, is_one}

@@ -1,5 +1,5 @@
 -- A pattern and its normal form have the same names as often, and the same variables.
-use Rattle.std.proofs.Common.{◌≡◌, ℕ, suc, ◌+◌, ◌≤◌, ◌<◌, min, cond, Bool, true, false, ◌||◌, ◌⊎◌, inl, inr, List, [], ◌∷◌, ◌++◌, length, map, refl, ap, sym, ◌∙◌, subst, arith}
+use Rattle.std.proofs.Common.{◌≡◌, ℕ, ◌+◌, ◌≤◌, min, cond, Bool, true, false, ◌||◌, ◌⊎◌, inl, inr, List, [], ◌∷◌, ◌++◌, refl, ap, sym, ◌∙◌, subst, arith}
 use Rattle.std.specs.Prelude.{None, if◌then◌else◌}
 use Rattle.std.specs.declared.cmp.Ordering.{Ordering}
 use Rattle.std.specs.declared.cmp.Ordering.TheVariants.{Less, Equal, Greater}
@@ -11,7 +11,7 @@ use Rattle.std.proofs.lemmas.List.Sorted.{IsPermutation-refl, IsPermutation-sym,
 use Rattle.mp_term.specs.Sorting.{insert_sorted, sorted}
 use Rattle.mp_term.specs.Signature.{Sig}
 use Rattle.mp_term.specs.OrderLaws.{nats_same}
-use Rattle.mp_term.proofs.Sorting.{hit, tally, tally-sorted, hit_itself, ascends-sorted, one_order}
+use Rattle.mp_term.proofs.Sorting.{hit, tally, tally-sorted, ascends-sorted, one_order}
 use Rattle.mp_pattern.specs.PatternTree.{Pattern}
 use Rattle.mp_pattern.specs.Firsts.{is_known, add_new, firsts_after}
 use Rattle.mp_pattern.specs.Value.{same_name}

@@ -6,6 +6,7 @@ pub mod Order
 pub mod PatternOrderLaws
 pub mod Normal
 pub mod Sound
+pub mod Syntactic
 pub mod Subpatterns
 pub mod Ground
 pub mod Firsts

@@ -66,7 +66,7 @@ pub enum Cond {
 #[cycle(condition)]
 #[derive(Drop)]
 pub struct BoxedCond {
-    cond: Box<Cond>,
+    pub(crate) cond: Box<Cond>,
 }
 
 impl Model for BoxedCond {
@@ -113,7 +113,7 @@ impl BoxedCond {
 #[cycle(condition)]
 #[derive(Drop)]
 pub struct Conds {
-    items: Vec<Cond>,
+    pub(crate) items: Vec<Cond>,
 }
 
 impl Model for Conds {

@@ -2,25 +2,31 @@
 #![tactic(auto)]
 
 mod condition;
+mod copy;
 mod entry;
 mod flags;
 mod laws;
+mod named;
 mod normal;
 mod order;
 mod pattern;
 mod rule;
+mod syntactic;
 mod template;
 #[cfg(test)]
 mod tests;
 
 pub use condition::{Amount, BoxedCond, Cond, Conds, Operand, Sense};
+pub use copy::{copy_cond, copy_pattern};
 pub use entry::{Entries, Entry, Form};
 pub use laws::{
     ground_patterns_are_terms, normal_pattern_is_idempotent, normal_pattern_is_no_larger,
     normal_pattern_keeps_variables, pattern_order_is_total, subpatterns_are_normal,
 };
+pub use named::is_fully_named;
 pub use normal::normalise_pattern;
 pub use order::pattern_compare;
 pub use pattern::{Pattern, Patterns, Shape};
 pub use rule::{Rule, Rules};
+pub use syntactic::is_syntactic;
 pub use template::{Template, Templates};

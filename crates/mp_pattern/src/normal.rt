@@ -38,7 +38,7 @@ fn push_parts(out: &mut Patterns, sig: &Signature, op: OpId, pattern: Pattern) -
 }
 
 // The pattern may take no argument or several.
-fn is_loose(pattern: &Pattern) -> bool
+pub(crate) fn is_loose(pattern: &Pattern) -> bool
     ensures { result ≡ is_loose (pattern_tree pattern.now) }
 {
     match pattern {

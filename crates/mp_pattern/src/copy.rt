@@ -1,0 +1,128 @@
+// Copies of patterns and conditions.
+ghost use Rattle.std.specs.Prelude.{◌≡◌, IfOk};
+ghost use Rattle.mp_pattern.specs.View.{wildcard, pattern_tree};
+ghost use Rattle.mp_pattern.specs.CondView.{operand, amount, cond_tree};
+
+use crate::condition::{Amount, BoxedCond, Cond, Conds, Operand};
+use crate::pattern::{Pattern, Patterns, Shape};
+use mp_term::{Memory, Name, copy_term};
+use std::alloc::Global;
+
+// An equal wildcard.
+fn copy_shape(alloc: Global, shape: &Shape) -> Result<Shape, Memory>
+    ensures { IfOk result (λ s. wildcard s ≡ wildcard shape.now) }
+{
+    match shape {
+        Shape::Dot => Ok(Shape::Dot),
+        Shape::Kind(kind) => Ok(Shape::Kind(*kind)),
+        Shape::Plus => Ok(Shape::Plus),
+        Shape::Star => Ok(Shape::Star),
+        Shape::Opt(term) => Ok(Shape::Opt(copy_term(alloc, term)?)),
+    }
+}
+
+// An equal name. Its bytes are spelt as a name is, so only memory can lack.
+fn copy_name(alloc: Global, name: &Name) -> Result<Name, Memory>
+    ensures { IfOk result (λ n. n ≡ name.now) }
+{
+    match Name::new(alloc, name.bytes()) {
+        Ok(copy) => Ok(copy),
+        Err(_) => Err(Memory),
+    }
+}
+
+// An equal name of a variable, where there is one.
+fn copy_variable(alloc: Global, variable: &Option<Name>) -> Result<Option<Name>, Memory>
+    ensures { IfOk result (λ x. x ≡ variable.now) }
+{
+    match variable {
+        None => Ok(None),
+        Some(name) => Ok(Some(copy_name(alloc, name)?)),
+    }
+}
+
+/// An equal pattern: one of the same tree. `Memory` comes where there is no room for it.
+pub fn copy_pattern(alloc: Global, pattern: &Pattern) -> Result<Pattern, Memory>
+    ensures { IfOk result (λ p. pattern_tree p ≡ pattern_tree pattern.now) }
+{
+    match pattern {
+        Pattern::Sym(name) => Ok(Pattern::Sym(copy_name(alloc, name)?)),
+        Pattern::App(op, args) => {
+            let mut copies = Patterns::new(alloc);
+            for arg in &args.items {
+                copies.push(copy_pattern(alloc, arg)?)?;
+            }
+            Ok(Pattern::App(*op, copies))
+        }
+        Pattern::Wild(shape, variable) => {
+            let shape = copy_shape(alloc, shape)?;
+            Ok(Pattern::Wild(shape, copy_variable(alloc, variable)?))
+        }
+    }
+}
+
+// An equal operand.
+fn copy_operand(alloc: Global, source: &Operand) -> Result<Operand, Memory>
+    ensures { IfOk result (λ a. operand a ≡ operand source.now) }
+{
+    match source {
+        Operand::Var(name) => Ok(Operand::Var(copy_name(alloc, name)?)),
+        Operand::Ground(term) => Ok(Operand::Ground(copy_term(alloc, term)?)),
+    }
+}
+
+// An equal amount.
+fn copy_amount(alloc: Global, source: &Amount) -> Result<Amount, Memory>
+    ensures { IfOk result (λ m. amount m ≡ amount source.now) }
+{
+    match source {
+        Amount::Fixed(number) => Ok(Amount::Fixed(*number)),
+        Amount::Count(of) => Ok(Amount::Count(copy_operand(alloc, of)?)),
+        Amount::Size(of) => Ok(Amount::Size(copy_operand(alloc, of)?)),
+    }
+}
+
+/// An equal condition: one of the same tree. `Memory` comes where there is no room for it.
+#[cycle(copy_cond)]
+pub fn copy_cond(alloc: Global, cond: &Cond) -> Result<Cond, Memory>
+    ensures { IfOk result (λ c. cond_tree c ≡ cond_tree cond.now) }
+{
+    match cond {
+        Cond::Amounts(m, sense, n) => {
+            let m = copy_amount(alloc, m)?;
+            Ok(Cond::Amounts(m, *sense, copy_amount(alloc, n)?))
+        }
+        Cond::Same(a, b) => {
+            let a = copy_operand(alloc, a)?;
+            Ok(Cond::Same(a, copy_operand(alloc, b)?))
+        }
+        Cond::Less(a, b) => {
+            let a = copy_operand(alloc, a)?;
+            Ok(Cond::Less(a, copy_operand(alloc, b)?))
+        }
+        Cond::Free(a, b) => {
+            let a = copy_operand(alloc, a)?;
+            Ok(Cond::Free(a, copy_operand(alloc, b)?))
+        }
+        Cond::OfKind(a, kind) => Ok(Cond::OfKind(copy_operand(alloc, a)?, *kind)),
+        Cond::Headed(a, op) => Ok(Cond::Headed(copy_operand(alloc, a)?, *op)),
+        Cond::Not(boxed) => {
+            let inner = copy_cond(alloc, &boxed.cond)?;
+            Ok(Cond::Not(BoxedCond::new(alloc, inner)?))
+        }
+        Cond::All(parts) => Ok(Cond::All(copy_conds(alloc, parts)?)),
+        Cond::Any(parts) => Ok(Cond::Any(copy_conds(alloc, parts)?)),
+    }
+}
+
+// An equal list of conditions.
+#[cycle(copy_cond)]
+fn copy_conds(alloc: Global, parts: &Conds) -> Result<Conds, Memory>
+    ensures { IfOk result (λ cs. cs ≡ parts.now) }
+{
+    let mut copies = Conds::new(alloc);
+    for part in &parts.items {
+        copies.push(copy_cond(alloc, part)?)?;
+    }
+    Ok(copies)
+}
