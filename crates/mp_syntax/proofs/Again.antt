@@ -88,22 +88,22 @@ step_expr-dot x k t w h fits =
 
 -- ---- expressions
 
--- what begins with a token that opens no bracket
-record Begins (ts : List Placed) : Type 0 where
+-- what begins with a token that fails the test
+record Begins (test : Token → Bool) (ts : List Placed) : Type 0 where
   token : Placed
   others : List Placed
   parts : ts ≡ token ∷ others
-  no_open : is_punct Open token.token ≡ false
+  fails : test token.token ≡ false
 
 -- the token opens no bracket
 abbrev OpensNone : Expected → Type 0
 OpensNone m = (t : Placed) → Matches t m → is_punct Open t.token ≡ false
 
-others-begin : (between : Expected) → OpensNone between → (args : Trees) (ts : List Placed) → AllMatch ts (spell_others between args) → Begins ts
+others-begin : (between : Expected) → OpensNone between → (args : Trees) (ts : List Placed) → AllMatch ts (spell_others between args) → Begins (is_punct Open) ts
 others-begin between none no_trees [] h = absurd h
-others-begin between none no_trees (t ∷ ts) h = record { token = t; others = ts; parts = refl; no_open = ap (is_punct Open) h.0 }
+others-begin between none no_trees (t ∷ ts) h = record { token = t; others = ts; parts = refl; fails = ap (is_punct Open) h.0 }
 others-begin between none (more_trees a args) [] h = absurd h
-others-begin between none (more_trees a args) (t ∷ ts) h = record { token = t; others = ts; parts = refl; no_open = none t h.0 }
+others-begin between none (more_trees a args) (t ∷ ts) h = record { token = t; others = ts; parts = refl; fails = none t h.0 }
 
 module _ (done : List Statement) (x : Heading) where
   -- a word that no bracket follows
@@ -155,7 +155,7 @@ module _ (done : List Statement) (x : Heading) where
       let r = split (spell t) (spell_others between args) ts h in
       let b = others-begin between row.opens_none args r.back r.second in
       ap (run done (BeforeExpr x (frame before ∷ k))) (joined ts r.front r.back b.token b.others us r.parts b.parts)
-      ∙ read-t (frame before ∷ k) room r.front b.token (b.others ++ us) r.first t-fits (omega (arith, len)) b.no_open
+      ∙ read-t (frame before ∷ k) room r.front b.token (b.others ++ us) r.first t-fits (omega (arith, len)) b.fails
       ∙ ap (λ l. run done (AfterExpr x (frame before ∷ k) t) (l ++ us)) (sym b.parts)
       ∙ read-args between frame whole row k room before t r.back us r.second args-fit len
 
@@ -288,24 +288,18 @@ flags-again done (Infixed sign ∷ flags) d (t ∷ s ∷ ts) us h =
     ∙ flags-again done flags (with_flag d (Infixed sign)) ts us h.1.1
     ∙ push-flag done d (Infixed sign) flags us
 
--- what begins with a token that is no plus
-record NoPlus (ts : List Placed) : Type 0 where
-  token : Placed
-  others : List Placed
-  parts : ts ≡ token ∷ others
-  no_plus : is_sign (codes "+") token.token ≡ false
-
-flags-begin : (flags : List Flag) (ts : List Placed) → AllMatch ts (flat_map spell_flag flags ++ semicolon ∷ []) → NoPlus ts
+-- flags begin with a token that is no plus
+flags-begin : (flags : List Flag) (ts : List Placed) → AllMatch ts (flat_map spell_flag flags ++ semicolon ∷ []) → Begins (is_sign (codes "+")) ts
 flags-begin [] [] h = absurd h
-flags-begin [] (t ∷ ts) h = record { token = t; others = ts; parts = refl; no_plus = ap (is_sign (codes "+")) h.0 }
+flags-begin [] (t ∷ ts) h = record { token = t; others = ts; parts = refl; fails = ap (is_sign (codes "+")) h.0 }
 flags-begin (Assoc ∷ flags) [] h = absurd h
-flags-begin (Assoc ∷ flags) (t ∷ ts) h = record { token = t; others = ts; parts = refl; no_plus = ap (is_sign (codes "+")) h.0 }
+flags-begin (Assoc ∷ flags) (t ∷ ts) h = record { token = t; others = ts; parts = refl; fails = ap (is_sign (codes "+")) h.0 }
 flags-begin (Comm ∷ flags) [] h = absurd h
-flags-begin (Comm ∷ flags) (t ∷ ts) h = record { token = t; others = ts; parts = refl; no_plus = ap (is_sign (codes "+")) h.0 }
+flags-begin (Comm ∷ flags) (t ∷ ts) h = record { token = t; others = ts; parts = refl; fails = ap (is_sign (codes "+")) h.0 }
 flags-begin (One ∷ flags) [] h = absurd h
-flags-begin (One ∷ flags) (t ∷ ts) h = record { token = t; others = ts; parts = refl; no_plus = ap (is_sign (codes "+")) h.0 }
+flags-begin (One ∷ flags) (t ∷ ts) h = record { token = t; others = ts; parts = refl; fails = ap (is_sign (codes "+")) h.0 }
 flags-begin (Infixed sign ∷ flags) [] h = absurd h
-flags-begin (Infixed sign ∷ flags) (t ∷ ts) h = record { token = t; others = ts; parts = refl; no_plus = ap (is_sign (codes "+")) h.0 }
+flags-begin (Infixed sign ∷ flags) (t ∷ ts) h = record { token = t; others = ts; parts = refl; fails = ap (is_sign (codes "+")) h.0 }
 
 -- a token that is no plus is the first of the flags
 no-plus : (done : List Statement) (name least : Spot) (t : Placed) (us : List Placed) → is_sign (codes "+") t.token ≡ false → run done (AfterLeast name least) (t ∷ us) ≡ run done (AfterFlags (declared name least false [])) (t ∷ us)
@@ -320,7 +314,7 @@ least-again done name least true flags (t ∷ ts) us h =
 least-again done name least false flags ts us h =
     let b = flags-begin flags ts h in
     ap (λ l. run done (AfterLeast name least) (l ++ us)) b.parts
-    ∙ no-plus done name least b.token (b.others ++ us) b.no_plus
+    ∙ no-plus done name least b.token (b.others ++ us) b.fails
     ∙ ap (λ l. run done (AfterFlags (declared name least false [])) (l ++ us)) (sym b.parts)
     ∙ flags-again done flags (declared name least false []) ts us h
 

@@ -1,7 +1,6 @@
 -- What the machine reads is spelled by the tokens.
 use Rattle.std.proofs.Common.{◌≡◌, ℕ, zero, suc, Bool, true, false, cond, List, [], ◌∷◌, ◌++◌, length, Option, Some, None, Result, Ok, refl, sym, ap, ◌∙◌, append_assoc, append-nil, leb}
-use Rattle.std.proofs.lemmas.Grind.{flat_map-append}
-use Rattle.std.proofs.lemmas.List.{map_push}
+use Rattle.std.proofs.lemmas.List.{map_push, flat_map_more}
 use Rattle.std.specs.Prelude.{codes}
 use Rattle.std.specs.List.{flat_map}
 use Rattle.std.specs.Str.{bytes_eq}
@@ -118,7 +117,7 @@ adds-keyword t w h =
 
 -- one element more
 pub flat_map-push : {X A : Type 0} (f : X → List A) (xs : List X) (x : X) → flat_map f (xs ++ x ∷ []) ≡ flat_map f xs ++ f x
-flat_map-push f xs x = flat_map-append f xs (x ∷ []) ∙ ap (λ l. flat_map f xs ++ l) (append-nil (f x))
+flat_map-push f xs x = sym (flat_map_more f [] xs x)
 
 -- expressions of which e is the last
 spell_first-trees : (between : Expected) (args : List Tree) (e : Tree) → spell_first between (trees (args ++ e ∷ [])) ≡ flat_map (spell_before between) args ++ (spell e ++ closing ∷ [])
