@@ -7,6 +7,8 @@ mod Words
 mod Built
 mod Declared
 mod Separated
+mod Parts
+mod PatternSize
 mod Pass
 mod FreeNormal
 pub mod Whole

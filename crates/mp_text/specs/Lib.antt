@@ -8,4 +8,5 @@ pub mod Answers
 pub mod Flags
 pub mod Reading
 pub mod Printing
+pub mod PrintedFile
 pub mod Sound

@@ -1,4 +1,4 @@
-//! Rule files: from the syntax trees of a file to its signature, rules and subjects, checked; and the printed text of terms.
+//! Rule files: from the syntax trees of a file to its signature, rules and subjects, checked; and the printed text of terms, patterns, signatures and files.
 #![tactic(auto)]
 
 mod build;
@@ -6,12 +6,18 @@ mod checks;
 mod declare;
 mod fault;
 mod file;
+mod file_printer;
+mod pattern_printer;
 mod printer;
 mod reader;
+mod signature_printer;
 #[cfg(test)]
 mod tests;
 
 pub use fault::{TextError, TextFault, TextKind};
 pub use file::{EditSet, EditSets, File, Subject, Subjects};
+pub use file_printer::write_file;
+pub use pattern_printer::write_pattern;
 pub use printer::write_term;
 pub use reader::{file_is_computed, read_file};
+pub use signature_printer::write_signature;
