@@ -9,6 +9,8 @@ mod file;
 mod file_printer;
 mod pattern_printer;
 mod printer;
+#[cfg(test)]
+mod printing_tests;
 mod reader;
 mod signature_printer;
 #[cfg(test)]
