@@ -1,14 +1,16 @@
 -- What matches a spelling is read.
-use Rattle.std.proofs.Common.{◌≡◌, ℕ, zero, suc, ◌+◌, Bool, true, false, cond, List, [], ◌∷◌, ◌++◌, length, Some, refl, sym, ap, ◌∙◌, arith, append_assoc, append-nil, leb}
+use Rattle.std.proofs.Common.{◌≡◌, ℕ, zero, suc, ◌+◌, Bool, true, false, cond, List, [], ◌∷◌, ◌++◌, length, map, Option, Some, refl, sym, ap, ◌∙◌, arith, append_assoc, append-nil}
 use Rattle.std.specs.Prelude.{codes}
-use Rattle.std.proofs.lemmas.Bool.{lt-leb}
+use Rattle.std.specs.List.{flat_map}
+use Rattle.std.proofs.lemmas.Slice.Eq.{bytes_eq-Decides}
+use Rattle.mp_syntax.specs.declared.place.Place.{Place}
 use Rattle.mp_syntax.specs.declared.token.Punct.TheVariants.{Open, Close, Comma, Colon, Semicolon}
-use Rattle.mp_syntax.specs.declared.fault.FaultKind.TheVariants.{Syntax, TooDeep}
+use Rattle.mp_syntax.specs.declared.fault.FaultKind.TheVariants.{Syntax}
 use Rattle.mp_syntax.specs.Tokens as tokens
-use Rattle.mp_syntax.specs.Tokens.{Token, Word, Punctuation, Placed}
-use Rattle.mp_syntax.specs.Syntax.{Spot, Wildcard, Tree, Symbol, Apply, Wild, Trees, no_trees, more_trees, trees, tree_list, Statement, OpOf, RuleOf, SubjectOf, Expected, Said, Matches, AllMatch, spell, spell_first, spell_others, spell_named, spell_statement, spell_file, spelled_word, spelled_wildcard, IsNamedDot, Fits, AreFit, FitsStatement, AreStatements}
-use Rattle.mp_syntax.specs.Machine.{Role, OfRule, OfSubject, statement_of, Frame, frame, Heading, State, Top, AfterOp, AfterOpName, AfterLeast, AfterRole, AfterName, BeforeExpr, AfterWord, AfterOpen, AfterExpr, Step, Go, Emit, Refuse, Finish, is_punct, is_end, word_of, dot_of, keyword, spot, on_punct, on_word, step, step_number, step_expr, step_dot, step_behind, after_step, run}
-use Rattle.mp_syntax.proofs.Runs.{heading}
+use Rattle.mp_syntax.specs.Tokens.{Token, Word, Sign, Punctuation, Placed}
+use Rattle.mp_syntax.specs.Syntax.{Spot, Wildcard, Tree, Symbol, Apply, InfixOf, Wild, Trees, no_trees, more_trees, trees, tree_list, Flag, Assoc, Comm, One, Infixed, Statement, OpOf, KindOf, RuleOf, SubjectOf, Expected, Matches, AllMatch, spell, spell_first, spell_others, spell_named, spell_plus, spell_flag, spell_statement, spell_file, spelled_word, spelled_sign, spelled_wildcard, another, comma, semicolon, IsNamedDot, Fits, AreFit, FitsStatement, AreStatements}
+use Rattle.mp_syntax.specs.Machine.{Role, OfRule, OfSubject, statement_of, Frame, Arguments, Bracket, Operands, Declared, declared, with_flag, Heading, State, Top, AfterOp, AfterOpName, AfterLeast, AfterFlags, AfterInfix, AfterKind, AfterKindName, BeforeMember, AfterMember, AfterRole, AfterName, BeforeExpr, AfterWord, AfterOpen, AfterExpr, Step, Go, Emit, Refuse, Finish, is_punct, is_sign, is_end, word_of, sign_of, dot_of, keyword, spot, on_punct, on_text, on_word, step, step_number, step_flag, step_flags, step_open, step_expr, step_dot, step_behind, after_step, run}
+use Rattle.mp_syntax.proofs.Runs.{heading, word-opens, bracket-opens, open-expr, operand-again}
 use Rattle.mp_syntax.proofs.Trees.{trees-tree_list}
 
 -- what matches two spellings in a row is in two parts
@@ -26,16 +28,21 @@ split (m ∷ a) b (t ∷ ts) h =
     let r = split a b ts h.1 in
     record { front = t ∷ r.front; back = r.back; parts = ap (λ l. t ∷ l) r.parts; first = (h.0, r.first); second = r.second }
 
--- one token that matches
-record One (ts : List Placed) (m : Expected) : Type 0 where
+-- a token that matches, and what matches the others
+record Led (ts : List Placed) (m : Expected) (ms : List Expected) : Type 0 where
   token : Placed
-  is : ts ≡ token ∷ []
+  others : List Placed
+  parts : ts ≡ token ∷ others
   match : Matches token m
+  behind : AllMatch others ms
 
-one : (ts : List Placed) (m : Expected) → AllMatch ts (m ∷ []) → One ts m
-one [] m h = absurd h
-one (t ∷ []) m h = record { token = t; is = refl; match = h.0 }
-one (t ∷ u ∷ ts) m h = absurd h.1
+led : (m : Expected) (ms : List Expected) (ts : List Placed) → AllMatch ts (m ∷ ms) → Led ts m ms
+led m ms [] h = absurd h
+led m ms (t ∷ ts) h = record { token = t; others = ts; parts = refl; match = h.0; behind = h.1 }
+
+-- two parts in a row, and the first token of the second
+joined : (ts front back : List Placed) (t : Placed) (others us : List Placed) → ts ≡ front ++ back → back ≡ t ∷ others → ts ++ us ≡ front ++ t ∷ (others ++ us)
+joined ts front back t others us e f = ap (λ l. l ++ us) e ∙ append_assoc front back us ∙ ap (λ l. front ++ (l ++ us)) f
 
 -- ---- steps
 
@@ -51,12 +58,19 @@ ended done at s t us e = ap (after_step done t.place (λ d a. run d a us)) e
 punct-taken : (p : Token → Bool) (t : Placed) (k : Token) (a b : Step) → t.token ≡ k → p k ≡ true → cond (p t.token) a b ≡ a
 punct-taken p t k a b e f = ap (λ v. cond v a b) (ap p e ∙ f)
 
--- a word that matches, where any word leads on
-word-taken : (next : Spot → Step) (t : Placed) (w : Spot) → Matches t (spelled_word w) → on_word t next (word_of t.token) ≡ next w
-word-taken next t w h = ap (on_word t next) (ap word_of h.0) ∙ ap (λ p. next (spot w.text p)) h.1
+text-taken : (text_of : Token → Option (List ℕ)) (next : Spot → Step) (t : Placed) (w : Spot) → text_of t.token ≡ Some w.text → t.place ≡ w.place → on_text t next (text_of t.token) ≡ next w
+text-taken text_of next t w e f = ap (on_text t next) e ∙ ap (λ p. next (spot w.text p)) f
 
-step_expr-word : (x : Heading) (k : List Frame) (t : Placed) (w : Spot) → Matches t (spelled_word w) → step_expr x k t (word_of t.token) ≡ Go (AfterWord x k w)
-step_expr-word x k t w h = ap (step_expr x k t) (ap word_of h.0) ∙ ap (λ p. Go (AfterWord x k (spot w.text p))) h.1
+-- a word that matches, where any word leads on
+word-taken : (next : Spot → Step) (t : Placed) (w : Spot) → Matches t (spelled_word w) → on_word t next ≡ next w
+word-taken next t w h = text-taken word_of next t w (ap word_of h.0) h.1
+
+-- a sign that matches, where any sign leads on
+sign-taken : (next : Spot → Step) (t : Placed) (s : Spot) → Matches t (spelled_sign s) → on_text t next (sign_of t.token) ≡ next s
+sign-taken next t s h = text-taken sign_of next t s (ap sign_of h.0) h.1
+
+step_expr-word : (x : Heading) (k : List Frame) (t : Placed) (w : Spot) → Matches t (spelled_word w) → step_expr 100 x k t (word_of t.token) ≡ Go (AfterWord x k w)
+step_expr-word x k t w h = ap (step_expr 100 x k t) (ap word_of h.0) ∙ ap (λ p. Go (AfterWord x k (spot w.text p))) h.1
 
 dot_of-dot : (w : Wildcard) → IsNamedDot w → dot_of (tokens.Wildcard w.name w.marks w.kind) ≡ Some w.name
 dot_of-dot w h = rw (h.dot, h.plain) (go w.name h.named)
@@ -65,125 +79,165 @@ dot_of-dot w h = rw (h.dot, h.plain) (go w.name h.named)
     go [] f = absurd (f refl)
     go (b ∷ bs) f = refl
 
-step_expr-dot : (x : Heading) (k : List Frame) (t : Placed) (w : Wildcard) → Matches t (spelled_wildcard w) → IsNamedDot w → step_expr x k t (word_of t.token) ≡ Go (AfterExpr x k (Wild w))
+step_expr-dot : (x : Heading) (k : List Frame) (t : Placed) (w : Wildcard) → Matches t (spelled_wildcard w) → IsNamedDot w → step_expr 100 x k t (word_of t.token) ≡ Go (AfterExpr x k (Wild w))
 step_expr-dot x k t w h fits =
-    ap (step_expr x k t) (ap word_of h.0)
+    ap (step_expr 100 x k t) (ap word_of h.0)
+    ∙ ap (λ b. cond b (step_open 100 k (BeforeExpr x (Bracket t.place ∷ k))) (step_dot x k t (dot_of t.token))) (ap (is_punct Open) h.0)
     ∙ ap (step_dot x k t) (ap dot_of h.0 ∙ dot_of-dot w fits)
     ∙ (λ i. Go (AfterExpr x k (Wild (record { name = w.name; marks = sym fits.dot i; kind = sym fits.plain i; place = h.1 i }))))
 
 -- ---- expressions
 
--- what begins as other arguments do: there is a token, and no bracket opens
-record Begins (ts : List Placed) : Type 0 where
+-- what begins with a token that fails the test
+record Begins (test : Token → Bool) (ts : List Placed) : Type 0 where
   token : Placed
   others : List Placed
   parts : ts ≡ token ∷ others
-  no_open : is_punct Open token.token ≡ false
+  fails : test token.token ≡ false
 
-others-begin : (args : Trees) (ts : List Placed) → AllMatch ts (spell_others args) → Begins ts
-others-begin no_trees [] h = absurd h
-others-begin no_trees (t ∷ ts) h = record { token = t; others = ts; parts = refl; no_open = ap (is_punct Open) h.0 }
-others-begin (more_trees a args) [] h = absurd h
-others-begin (more_trees a args) (t ∷ ts) h = record { token = t; others = ts; parts = refl; no_open = ap (is_punct Open) h.0 }
+-- the token opens no bracket
+abbrev OpensNone : Expected → Type 0
+OpensNone m = (t : Placed) → Matches t m → is_punct Open t.token ≡ false
+
+others-begin : (between : Expected) → OpensNone between → (args : Trees) (ts : List Placed) → AllMatch ts (spell_others between args) → Begins (is_punct Open) ts
+others-begin between none no_trees [] h = absurd h
+others-begin between none no_trees (t ∷ ts) h = record { token = t; others = ts; parts = refl; fails = ap (is_punct Open) h.0 }
+others-begin between none (more_trees a args) [] h = absurd h
+others-begin between none (more_trees a args) (t ∷ ts) h = record { token = t; others = ts; parts = refl; fails = none t h.0 }
 
 module _ (done : List Statement) (x : Heading) where
   -- a word that no bracket follows
   word-expr : (k : List Frame) (w : Spot) (u : Placed) (us : List Placed) → is_punct Open u.token ≡ false → run done (AfterWord x k w) (u ∷ us) ≡ run done (AfterExpr x k (Symbol w)) (u ∷ us)
-  word-expr k w u us h = ap (λ b. after_step done u.place (λ d a. run d a us) (cond b (cond (leb 100 (length k)) (Refuse TooDeep) (Go (AfterOpen x k w))) (step_behind x k (Symbol w) u.token))) h
-
-  -- the bracket of an application, where there is room
-  word-open : (k : List Frame) (w : Spot) (t : Placed) (room : ℕ) → length k + suc room ≡ 100 → t.token ≡ Punctuation Open → step (AfterWord x k w) t ≡ Go (AfterOpen x k w)
-  word-open k w t room len h =
-      ap (λ b. cond b (cond (leb 100 (length k)) (Refuse TooDeep) (Go (AfterOpen x k w))) (step_behind x k (Symbol w) t.token)) (ap (is_punct Open) h)
-      ∙ ap (λ b. cond b (Refuse TooDeep) (Go (AfterOpen x k w))) (lt-leb 100 (length k) (omega (arith, len)))
-
-  -- a token that closes no bracket begins the first argument
-  open-first : (k : List Frame) (w : Spot) (t : Placed) (us : List Placed) → is_punct Close t.token ≡ false → run done (AfterOpen x k w) (t ∷ us) ≡ run done (BeforeExpr x (frame w [] ∷ k)) (t ∷ us)
-  open-first k w t us h = ap (λ b. after_step done t.place (λ d a. run d a us) (cond b (Go (AfterExpr x k (Apply w no_trees))) (step_expr x (frame w [] ∷ k) t (word_of t.token)))) h
+  word-expr k w u us h = ap (λ b. after_step done u.place (λ d a. run d a us) (cond b (step_open 100 k (AfterOpen x k w)) (step_behind x k (Symbol w) u))) h
 
   -- what spells an expression isn't closed at once
-  open-spell : (t : Tree) (k : List Frame) (w : Spot) (ts us : List Placed) → AllMatch ts (spell t) → run done (AfterOpen x k w) (ts ++ us) ≡ run done (BeforeExpr x (frame w [] ∷ k)) (ts ++ us)
+  open-spell : (t : Tree) (k : List Frame) (w : Spot) (ts us : List Placed) → AllMatch ts (spell t) → run done (AfterOpen x k w) (ts ++ us) ≡ run done (BeforeExpr x (Arguments w [] ∷ k)) (ts ++ us)
   open-spell (Symbol v) k w [] us h = absurd h
-  open-spell (Symbol v) k w (t ∷ ts) us h = open-first k w t (ts ++ us) (ap (is_punct Close) h.0.0)
+  open-spell (Symbol v) k w (t ∷ ts) us h = open-expr done x k w t (ts ++ us) (ap (is_punct Close) h.0.0)
   open-spell (Apply f args) k w [] us h = absurd h
-  open-spell (Apply f args) k w (t ∷ ts) us h = open-first k w t (ts ++ us) (ap (is_punct Close) h.0.0)
+  open-spell (Apply f args) k w (t ∷ ts) us h = open-expr done x k w t (ts ++ us) (ap (is_punct Close) h.0.0)
+  open-spell (InfixOf place sign operands) k w [] us h = absurd h
+  open-spell (InfixOf place sign operands) k w (t ∷ ts) us h = open-expr done x k w t (ts ++ us) (ap (is_punct Close) h.0.0)
   open-spell (Wild v) k w [] us h = absurd h
-  open-spell (Wild v) k w (t ∷ ts) us h = open-first k w t (ts ++ us) (ap (is_punct Close) h.0.0)
+  open-spell (Wild v) k w (t ∷ ts) us h = open-expr done x k w t (ts ++ us) (ap (is_punct Close) h.0.0)
 
-  closes : (k : List Frame) (f : Frame) (e : Tree) (t : Placed) → t.token ≡ Punctuation Close → step (AfterExpr x (f ∷ k) e) t ≡ Go (AfterExpr x k (Apply f.name (trees (f.args ++ e ∷ []))))
-  closes k f e t h = ap (step_behind x (f ∷ k) e) h
+  -- expressions in brackets: the token between them, the open bracket with those so far, and the tree that they make
+  record IsRow (between : Expected) (frame : List Tree → Frame) (whole : List Tree → Tree) : Type 0 where
+    closes : (k : List Frame) (es : List Tree) (e : Tree) (t : Placed) → t.token ≡ Punctuation Close → step (AfterExpr x (frame es ∷ k) e) t ≡ Go (AfterExpr x k (whole (es ++ e ∷ [])))
+    separates : (k : List Frame) (es : List Tree) (e : Tree) (t : Placed) → Matches t between → step (AfterExpr x (frame es ∷ k) e) t ≡ Go (BeforeExpr x (frame (es ++ e ∷ []) ∷ k))
+    opens_none : OpensNone between
 
-  separates : (k : List Frame) (f : Frame) (e : Tree) (t : Placed) → t.token ≡ Punctuation Comma → step (AfterExpr x (f ∷ k) e) t ≡ Go (BeforeExpr x (frame f.name (f.args ++ e ∷ []) ∷ k))
-  separates k f e t h = ap (step_behind x (f ∷ k) e) h
+  arguments-row : (name : Spot) → IsRow comma (Arguments name) (λ es. Apply name (trees es))
+  arguments-row name = record {
+    closes = λ k es e t h. ap (λ u. cond (is_punct Comma u) (Go (BeforeExpr x (Arguments name (es ++ e ∷ []) ∷ k))) (on_punct Close u (Go (AfterExpr x k (Apply name (trees (es ++ e ∷ []))))))) h;
+    separates = λ k es e t h. ap (λ u. cond (is_punct Comma u) (Go (BeforeExpr x (Arguments name (es ++ e ∷ []) ∷ k))) (on_punct Close u (Go (AfterExpr x k (Apply name (trees (es ++ e ∷ []))))))) h;
+    opens_none = λ t h. ap (is_punct Open) h;
+  }
+
+  operands-row : (place : Place) (sign : Spot) (first : Tree) → IsRow (another sign) (Operands place sign first) (λ es. InfixOf place sign (more_trees first (trees es)))
+  operands-row place sign first = record {
+    closes = λ k es e t h. ap (λ u. cond (is_sign sign.text u) (Go (BeforeExpr x (Operands place sign first (es ++ e ∷ []) ∷ k))) (on_punct Close u (Go (AfterExpr x k (InfixOf place sign (more_trees first (trees (es ++ e ∷ [])))))))) h;
+    separates = λ k es e t h. operand-again x place sign first es k e t (ap (is_sign sign.text) h ∙ (bytes_eq-Decides sign.text sign.text).1 refl);
+    opens_none = λ t h. ap (is_punct Open) h;
+  }
+
+  -- the expression is read, whatever is open
+  abbrev ReadsExpr : Tree → Type 0
+  ReadsExpr e = (k : List Frame) (room : ℕ) (ts : List Placed) (u : Placed) (us : List Placed) → AllMatch ts (spell e) → Fits room e → length k + room ≡ 100 → is_punct Open u.token ≡ false → run done (BeforeExpr x k) (ts ++ u ∷ us) ≡ run done (AfterExpr x k e) (u ∷ us)
+
+  -- the other expressions in brackets are read behind one
+  abbrev ReadsOthers : Trees → Type 0
+  ReadsOthers args = (between : Expected) (frame : List Tree → Frame) (whole : List Tree → Tree) → IsRow between frame whole → (k : List Frame) (room : ℕ) (before : List Tree) (e : Tree) (ts us : List Placed) → AllMatch ts (spell_others between args) → AreFit room args → length k + suc room ≡ 100 → run done (AfterExpr x (frame before ∷ k) e) (ts ++ us) ≡ run done (AfterExpr x k (whole (before ++ e ∷ tree_list args))) us
+
+  -- an expression in brackets and the others behind it
+  row-again : (t : Tree) (args : Trees) → ReadsExpr t → ReadsOthers args → (between : Expected) (frame : List Tree → Frame) (whole : List Tree → Tree) → IsRow between frame whole → (k : List Frame) (room : ℕ) (before : List Tree) (ts us : List Placed) → AllMatch ts (spell t ++ spell_others between args) → Fits room t → AreFit room args → length k + suc room ≡ 100 → run done (BeforeExpr x (frame before ∷ k)) (ts ++ us) ≡ run done (AfterExpr x k (whole (before ++ t ∷ tree_list args))) us
+  row-again t args read-t read-args between frame whole row k room before ts us h t-fits args-fit len =
+      let r = split (spell t) (spell_others between args) ts h in
+      let b = others-begin between row.opens_none args r.back r.second in
+      ap (run done (BeforeExpr x (frame before ∷ k))) (joined ts r.front r.back b.token b.others us r.parts b.parts)
+      ∙ read-t (frame before ∷ k) room r.front b.token (b.others ++ us) r.first t-fits (omega (arith, len)) b.fails
+      ∙ ap (λ l. run done (AfterExpr x (frame before ∷ k) t) (l ++ us)) (sym b.parts)
+      ∙ read-args between frame whole row k room before t r.back us r.second args-fit len
+
+  -- an infix expression, whose operands are read
+  infix-again : (t v : Tree) (vs : Trees) → ReadsExpr t → ReadsExpr v → ReadsOthers vs → (place : Place) (sign : Spot) (k : List Frame) (room : ℕ) (p : Placed) (ts us : List Placed) → AllMatch (p ∷ ts) (spell (InfixOf place sign (more_trees t (more_trees v vs)))) → AreFit room (more_trees t (more_trees v vs)) → length k + suc room ≡ 100 → run done (BeforeExpr x k) (p ∷ (ts ++ us)) ≡ run done (AfterExpr x k (InfixOf place sign (more_trees t (more_trees v vs)))) us
+  infix-again t v vs read-t read-v read-vs place sign k room p ts us h fits len =
+      let r = split (spell t) (spelled_sign sign ∷ (spell v ++ spell_others (another sign) vs)) ts h.1 in
+      let s = led (spelled_sign sign) (spell v ++ spell_others (another sign) vs) r.back r.second in
+      over done (BeforeExpr x k) (BeforeExpr x (Bracket place ∷ k)) p (ts ++ us) (bracket-opens x k p (suc room) len (omega arith) (ap (is_punct Open) h.0.0) ∙ ap (λ q. Go (BeforeExpr x (Bracket q ∷ k))) h.0.1)
+      ∙ ap (run done (BeforeExpr x (Bracket place ∷ k))) (joined ts r.front r.back s.token s.others us r.parts s.parts)
+      ∙ read-t (Bracket place ∷ k) room r.front s.token (s.others ++ us) r.first fits.0 (omega (arith, len)) (ap (is_punct Open) s.match.0)
+      ∙ over done (AfterExpr x (Bracket place ∷ k) t) (BeforeExpr x (Operands place sign t [] ∷ k)) s.token (s.others ++ us) (sign-taken (λ w. Go (BeforeExpr x (Operands place w t [] ∷ k))) s.token sign s.match)
+      ∙ row-again v vs read-v read-vs (another sign) (Operands place sign t) (λ es. InfixOf place sign (more_trees t (trees es))) (operands-row place sign t) k room [] s.others us s.behind fits.1.0 fits.1.1 len
+      ∙ ap (λ l. run done (AfterExpr x k (InfixOf place sign (more_trees t (more_trees v l)))) us) (trees-tree_list vs)
+
+  dot-fits : (room : ℕ) (w : Wildcard) → Fits room (Wild w) → IsNamedDot w
+  dot-fits zero w h = h
+  dot-fits (suc room) w h = h
 
   mutual
-    -- an expression is read, whatever is open
-    pub expr-again : (e : Tree) (k : List Frame) (room : ℕ) (ts : List Placed) (u : Placed) (us : List Placed) → AllMatch ts (spell e) → Fits room e → length k + room ≡ 100 → is_punct Open u.token ≡ false → run done (BeforeExpr x k) (ts ++ u ∷ us) ≡ run done (AfterExpr x k e) (u ∷ us)
+    expr-again : (e : Tree) → ReadsExpr e
     expr-again (Symbol w) k room [] u us h fits len n = absurd h
     expr-again (Symbol w) k room (t ∷ []) u us h fits len n =
         over done (BeforeExpr x k) (AfterWord x k w) t (u ∷ us) (step_expr-word x k t w h.0) ∙ word-expr k w u us n
     expr-again (Symbol w) k room (t ∷ v ∷ ts) u us h fits len n = absurd h.1
     expr-again (Wild w) k room [] u us h fits len n = absurd h
-    expr-again (Wild w) k room (t ∷ []) u us h fits len n = over done (BeforeExpr x k) (AfterExpr x k (Wild w)) t (u ∷ us) (step_expr-dot x k t w h.0 (dot-fits room fits))
-      where
-        dot-fits : (room : ℕ) → Fits room (Wild w) → IsNamedDot w
-        dot-fits zero h = h
-        dot-fits (suc room) h = h
+    expr-again (Wild w) k room (t ∷ []) u us h fits len n = over done (BeforeExpr x k) (AfterExpr x k (Wild w)) t (u ∷ us) (step_expr-dot x k t w h.0 (dot-fits room w fits))
     expr-again (Wild w) k room (t ∷ v ∷ ts) u us h fits len n = absurd h.1
     expr-again (Apply f args) k zero ts u us h fits len n = absurd fits
     expr-again (Apply f args) k (suc room) [] u us h fits len n = absurd h
     expr-again (Apply f args) k (suc room) (t ∷ []) u us h fits len n = absurd h.1
     expr-again (Apply f args) k (suc room) (t ∷ o ∷ ts) u us h fits len n =
         over done (BeforeExpr x k) (AfterWord x k f) t (o ∷ ts ++ u ∷ us) (step_expr-word x k t f h.0)
-        ∙ over done (AfterWord x k f) (AfterOpen x k f) o (ts ++ u ∷ us) (word-open k f o room len h.1.0)
+        ∙ over done (AfterWord x k f) (AfterOpen x k f) o (ts ++ u ∷ us) (word-opens x k f o (suc room) len (omega arith) (ap (is_punct Open) h.1.0))
         ∙ first-again args k f room ts (u ∷ us) h.1.1 fits len
+    expr-again (InfixOf place sign operands) k zero ts u us h fits len n = absurd fits
+    expr-again (InfixOf place sign no_trees) k (suc room) ts u us h fits len n = absurd fits.0
+    expr-again (InfixOf place sign (more_trees t no_trees)) k (suc room) ts u us h fits len n = absurd fits.0
+    expr-again (InfixOf place sign (more_trees t (more_trees v vs))) k (suc room) [] u us h fits len n = absurd h
+    expr-again (InfixOf place sign (more_trees t (more_trees v vs))) k (suc room) (p ∷ ts) u us h fits len n =
+        infix-again t v vs (expr-again t) (expr-again v) (others-again vs) place sign k room p ts (u ∷ us) h fits.1 len
 
     -- arguments are read behind their bracket
-    pub first-again : (args : Trees) (k : List Frame) (w : Spot) (room : ℕ) (ts us : List Placed) → AllMatch ts (spell_first args) → AreFit room args → length k + suc room ≡ 100 → run done (AfterOpen x k w) (ts ++ us) ≡ run done (AfterExpr x k (Apply w args)) us
+    first-again : (args : Trees) (k : List Frame) (w : Spot) (room : ℕ) (ts us : List Placed) → AllMatch ts (spell_first comma args) → AreFit room args → length k + suc room ≡ 100 → run done (AfterOpen x k w) (ts ++ us) ≡ run done (AfterExpr x k (Apply w args)) us
     first-again no_trees k w room [] us h fits len = absurd h
     first-again no_trees k w room (t ∷ []) us h fits len =
-        over done (AfterOpen x k w) (AfterExpr x k (Apply w no_trees)) t us (punct-taken (is_punct Close) t (Punctuation Close) (Go (AfterExpr x k (Apply w no_trees))) (step_expr x (frame w [] ∷ k) t (word_of t.token)) h.0 refl)
+        over done (AfterOpen x k w) (AfterExpr x k (Apply w no_trees)) t us (punct-taken (is_punct Close) t (Punctuation Close) (Go (AfterExpr x k (Apply w no_trees))) (step_expr 100 x (Arguments w [] ∷ k) t (word_of t.token)) h.0 refl)
     first-again no_trees k w room (t ∷ v ∷ ts) us h fits len = absurd h.1
     first-again (more_trees t args) k w room ts us h fits len =
-        let r = split (spell t) (spell_others args) ts h in
-        let b = others-begin args r.back r.second in
-        let whole : ts ++ us ≡ r.front ++ b.token ∷ (b.others ++ us) = ap (λ l. l ++ us) r.parts ∙ append_assoc r.front r.back us ∙ ap (λ l. r.front ++ (l ++ us)) b.parts in
-        ap (run done (AfterOpen x k w)) whole
-        ∙ open-spell t k w r.front (b.token ∷ (b.others ++ us)) r.first
-        ∙ expr-again t (frame w [] ∷ k) room r.front b.token (b.others ++ us) r.first fits.0 (omega (arith, len)) b.no_open
-        ∙ ap (λ l. run done (AfterExpr x (frame w [] ∷ k) t) (l ++ us)) (sym b.parts)
-        ∙ others-again args k w room [] t r.back us r.second fits.1 len
+        let r = split (spell t) (spell_others comma args) ts h in
+        ap (run done (AfterOpen x k w)) (ap (λ l. l ++ us) r.parts ∙ append_assoc r.front r.back us)
+        ∙ open-spell t k w r.front (r.back ++ us) r.first
+        ∙ ap (run done (BeforeExpr x (Arguments w [] ∷ k))) (sym (ap (λ l. l ++ us) r.parts ∙ append_assoc r.front r.back us))
+        ∙ row-again t args (expr-again t) (others-again args) comma (Arguments w) (λ es. Apply w (trees es)) (arguments-row w) k room [] ts us h fits.0 fits.1 len
         ∙ ap (λ l. run done (AfterExpr x k (Apply w (more_trees t l))) us) (trees-tree_list args)
 
-    -- other arguments are read behind one
-    others-again : (args : Trees) (k : List Frame) (w : Spot) (room : ℕ) (before : List Tree) (e : Tree) (ts us : List Placed) → AllMatch ts (spell_others args) → AreFit room args → length k + suc room ≡ 100 → run done (AfterExpr x (frame w before ∷ k) e) (ts ++ us) ≡ run done (AfterExpr x k (Apply w (trees (before ++ e ∷ tree_list args)))) us
-    others-again no_trees k w room before e [] us h fits len = absurd h
-    others-again no_trees k w room before e (t ∷ []) us h fits len =
-        over done (AfterExpr x (frame w before ∷ k) e) (AfterExpr x k (Apply w (trees (before ++ e ∷ [])))) t us (closes k (frame w before) e t h.0)
-    others-again no_trees k w room before e (t ∷ v ∷ ts) us h fits len = absurd h.1
-    others-again (more_trees t args) k w room before e [] us h fits len = absurd h
-    others-again (more_trees t args) k w room before e (c ∷ ts) us h fits len =
-        let r = split (spell t) (spell_others args) ts h.1 in
-        let b = others-begin args r.back r.second in
-        let whole : ts ++ us ≡ r.front ++ b.token ∷ (b.others ++ us) = ap (λ l. l ++ us) r.parts ∙ append_assoc r.front r.back us ∙ ap (λ l. r.front ++ (l ++ us)) b.parts in
-        over done (AfterExpr x (frame w before ∷ k) e) (BeforeExpr x (frame w (before ++ e ∷ []) ∷ k)) c (ts ++ us) (separates k (frame w before) e c h.0)
-        ∙ ap (run done (BeforeExpr x (frame w (before ++ e ∷ []) ∷ k))) whole
-        ∙ expr-again t (frame w (before ++ e ∷ []) ∷ k) room r.front b.token (b.others ++ us) r.first fits.0 (omega (arith, len)) b.no_open
-        ∙ ap (λ l. run done (AfterExpr x (frame w (before ++ e ∷ []) ∷ k) t) (l ++ us)) (sym b.parts)
-        ∙ others-again args k w room (before ++ e ∷ []) t r.back us r.second fits.1 len
-        ∙ ap (λ l. run done (AfterExpr x k (Apply w (trees l))) us) (append_assoc before (e ∷ []) _)
+    others-again : (args : Trees) → ReadsOthers args
+    others-again no_trees between frame whole row k room before e [] us h fits len = absurd h
+    others-again no_trees between frame whole row k room before e (t ∷ []) us h fits len =
+        over done (AfterExpr x (frame before ∷ k) e) (AfterExpr x k (whole (before ++ e ∷ []))) t us (row.closes k before e t h.0)
+    others-again no_trees between frame whole row k room before e (t ∷ v ∷ ts) us h fits len = absurd h.1
+    others-again (more_trees t args) between frame whole row k room before e [] us h fits len = absurd h
+    others-again (more_trees t args) between frame whole row k room before e (c ∷ ts) us h fits len =
+        over done (AfterExpr x (frame before ∷ k) e) (BeforeExpr x (frame (before ++ e ∷ []) ∷ k)) c (ts ++ us) (row.separates k before e c h.0)
+        ∙ row-again t args (expr-again t) (others-again args) between frame whole row k room (before ++ e ∷ []) ts us h.1 fits.0 fits.1 len
+        ∙ ap (λ l. run done (AfterExpr x k (whole l)) us) (append_assoc before (e ∷ []) _)
 
 -- ---- statements
 
 -- an expression and the semicolon behind it
-body-again : (done : List Statement) (x : Heading) (e : Tree) (ts us : List Placed) → AllMatch ts (spell e ++ Said (Punctuation Semicolon) ∷ []) → Fits 100 e → run done (BeforeExpr x []) (ts ++ us) ≡ run (done ++ statement_of x.role x.name e ∷ []) Top us
+body-again : (done : List Statement) (x : Heading) (e : Tree) (ts us : List Placed) → AllMatch ts (spell e ++ semicolon ∷ []) → Fits 100 e → run done (BeforeExpr x []) (ts ++ us) ≡ run (done ++ statement_of x.role x.name e ∷ []) Top us
 body-again done x e ts us h fits =
-    let r = split (spell e) (Said (Punctuation Semicolon) ∷ []) ts h in
-    let s = one r.back (Said (Punctuation Semicolon)) r.second in
-    let whole : ts ++ us ≡ r.front ++ s.token ∷ us = ap (λ l. l ++ us) r.parts ∙ append_assoc r.front r.back us ∙ ap (λ l. r.front ++ (l ++ us)) s.is in
-    ap (run done (BeforeExpr x [])) whole
-    ∙ expr-again done x e [] 100 r.front s.token us r.first fits refl (ap (is_punct Open) s.match)
-    ∙ ended done (AfterExpr x [] e) (statement_of x.role x.name e) s.token us (ap (step_behind x [] e) s.match)
+    let r = split (spell e) (semicolon ∷ []) ts h in
+    let s = led semicolon [] r.back r.second in
+    ap (run done (BeforeExpr x [])) (joined ts r.front r.back s.token s.others us r.parts s.parts)
+    ∙ expr-again done x e [] 100 r.front s.token (s.others ++ us) r.first fits refl (ap (is_punct Open) s.match)
+    ∙ ended done (AfterExpr x [] e) (statement_of x.role x.name e) s.token (s.others ++ us) (ap (λ u. on_punct Semicolon u (Emit (statement_of x.role x.name e))) s.match)
+    ∙ ap (λ l. run (done ++ statement_of x.role x.name e ∷ []) Top (l ++ us)) (nothing s.others s.behind)
+  where
+    nothing : (ts : List Placed) → AllMatch ts [] → ts ≡ []
+    nothing [] h = refl
+    nothing (t ∷ ts) h = absurd h
 
 -- a name, a colon, an expression and the semicolon
 named-again : (done : List Statement) (role : Role) (name : Spot) (e : Tree) (ts us : List Placed) → AllMatch ts (spell_named name e) → Fits 100 e → run done (AfterRole role) (ts ++ us) ≡ run (done ++ statement_of role name e ∷ []) Top us
@@ -196,20 +250,108 @@ named-again done role name e (n ∷ c ∷ ts) us h fits =
 
 -- the word that a statement begins with
 top-word : (t : Placed) (w : List ℕ) → t.token ≡ Word w → step Top t ≡ keyword w
-top-word t w h = ap (λ k. cond (is_end k) Finish (on_word t (λ w. keyword w.text) (word_of k))) h
+top-word t w h = ap (λ k. cond (is_end k) Finish (on_text t (λ w. keyword w.text) (word_of k))) h
+
+-- the operation of a declaration
+abbrev op_of : Declared → List Flag → Statement
+op_of d flags = OpOf d.name d.least d.more flags
+
+-- the word that a flag begins with
+flag-word : (d : Declared) (t : Placed) (w : List ℕ) → t.token ≡ Word w → step (AfterFlags d) t ≡ step_flag d w
+flag-word d t w h = ap (λ k. cond (is_punct Semicolon k) (Emit (op_of d d.flags)) (on_text t (λ w. step_flag d w.text) (word_of k))) h
+
+-- one more flag is among the flags
+push-flag : (done : List Statement) (d : Declared) (f : Flag) (flags : List Flag) (us : List Placed) → run (done ++ op_of d ((d.flags ++ f ∷ []) ++ flags) ∷ []) Top us ≡ run (done ++ op_of d (d.flags ++ f ∷ flags) ∷ []) Top us
+push-flag done d f flags us = ap (λ l. run (done ++ op_of d l ∷ []) Top us) (append_assoc d.flags (f ∷ []) flags)
+
+-- flags and the semicolon are read
+flags-again : (done : List Statement) (flags : List Flag) (d : Declared) (ts us : List Placed) → AllMatch ts (flat_map spell_flag flags ++ semicolon ∷ []) → run done (AfterFlags d) (ts ++ us) ≡ run (done ++ op_of d (d.flags ++ flags) ∷ []) Top us
+flags-again done [] d [] us h = absurd h
+flags-again done [] d (t ∷ []) us h =
+    ended done (AfterFlags d) (op_of d d.flags) t us (punct-taken (is_punct Semicolon) t (Punctuation Semicolon) (Emit (op_of d d.flags)) (on_word t (λ w. step_flag d w.text)) h.0 refl)
+    ∙ ap (λ l. run (done ++ op_of d l ∷ []) Top us) (sym (append-nil d.flags))
+flags-again done [] d (t ∷ v ∷ ts) us h = absurd h.1
+flags-again done (Assoc ∷ flags) d [] us h = absurd h
+flags-again done (Assoc ∷ flags) d (t ∷ ts) us h =
+    over done (AfterFlags d) (AfterFlags (with_flag d Assoc)) t (ts ++ us) (flag-word d t (codes "assoc") h.0) ∙ flags-again done flags (with_flag d Assoc) ts us h.1 ∙ push-flag done d Assoc flags us
+flags-again done (Comm ∷ flags) d [] us h = absurd h
+flags-again done (Comm ∷ flags) d (t ∷ ts) us h =
+    over done (AfterFlags d) (AfterFlags (with_flag d Comm)) t (ts ++ us) (flag-word d t (codes "comm") h.0) ∙ flags-again done flags (with_flag d Comm) ts us h.1 ∙ push-flag done d Comm flags us
+flags-again done (One ∷ flags) d [] us h = absurd h
+flags-again done (One ∷ flags) d (t ∷ ts) us h =
+    over done (AfterFlags d) (AfterFlags (with_flag d One)) t (ts ++ us) (flag-word d t (codes "one") h.0) ∙ flags-again done flags (with_flag d One) ts us h.1 ∙ push-flag done d One flags us
+flags-again done (Infixed sign ∷ flags) d [] us h = absurd h
+flags-again done (Infixed sign ∷ flags) d (t ∷ []) us h = absurd h.1
+flags-again done (Infixed sign ∷ flags) d (t ∷ s ∷ ts) us h =
+    over done (AfterFlags d) (AfterInfix d) t (s ∷ ts ++ us) (flag-word d t (codes "infix") h.0)
+    ∙ over done (AfterInfix d) (AfterFlags (with_flag d (Infixed sign))) s (ts ++ us) (sign-taken (λ w. Go (AfterFlags (with_flag d (Infixed w)))) s sign h.1.0)
+    ∙ flags-again done flags (with_flag d (Infixed sign)) ts us h.1.1
+    ∙ push-flag done d (Infixed sign) flags us
+
+-- flags begin with a token that is no plus
+flags-begin : (flags : List Flag) (ts : List Placed) → AllMatch ts (flat_map spell_flag flags ++ semicolon ∷ []) → Begins (is_sign (codes "+")) ts
+flags-begin [] [] h = absurd h
+flags-begin [] (t ∷ ts) h = record { token = t; others = ts; parts = refl; fails = ap (is_sign (codes "+")) h.0 }
+flags-begin (Assoc ∷ flags) [] h = absurd h
+flags-begin (Assoc ∷ flags) (t ∷ ts) h = record { token = t; others = ts; parts = refl; fails = ap (is_sign (codes "+")) h.0 }
+flags-begin (Comm ∷ flags) [] h = absurd h
+flags-begin (Comm ∷ flags) (t ∷ ts) h = record { token = t; others = ts; parts = refl; fails = ap (is_sign (codes "+")) h.0 }
+flags-begin (One ∷ flags) [] h = absurd h
+flags-begin (One ∷ flags) (t ∷ ts) h = record { token = t; others = ts; parts = refl; fails = ap (is_sign (codes "+")) h.0 }
+flags-begin (Infixed sign ∷ flags) [] h = absurd h
+flags-begin (Infixed sign ∷ flags) (t ∷ ts) h = record { token = t; others = ts; parts = refl; fails = ap (is_sign (codes "+")) h.0 }
+
+-- a token that is no plus is the first of the flags
+no-plus : (done : List Statement) (name least : Spot) (t : Placed) (us : List Placed) → is_sign (codes "+") t.token ≡ false → run done (AfterLeast name least) (t ∷ us) ≡ run done (AfterFlags (declared name least false [])) (t ∷ us)
+no-plus done name least t us h = ap (λ b. after_step done t.place (λ d a. run d a us) (cond b (Go (AfterFlags (declared name least true []))) (step_flags (declared name least false []) t))) h
+
+-- what follows the number of an operation is read
+least-again : (done : List Statement) (name least : Spot) (more : Bool) (flags : List Flag) (ts us : List Placed) → AllMatch ts (spell_plus more ++ (flat_map spell_flag flags ++ semicolon ∷ [])) → run done (AfterLeast name least) (ts ++ us) ≡ run (done ++ OpOf name least more flags ∷ []) Top us
+least-again done name least true flags [] us h = absurd h
+least-again done name least true flags (t ∷ ts) us h =
+    over done (AfterLeast name least) (AfterFlags (declared name least true [])) t (ts ++ us) (ap (λ b. cond b (Go (AfterFlags (declared name least true []))) (step_flags (declared name least false []) t)) (ap (is_sign (codes "+")) h.0))
+    ∙ flags-again done flags (declared name least true []) ts us h.1
+least-again done name least false flags ts us h =
+    let b = flags-begin flags ts h in
+    ap (λ l. run done (AfterLeast name least) (l ++ us)) b.parts
+    ∙ no-plus done name least b.token (b.others ++ us) b.fails
+    ∙ ap (λ l. run done (AfterFlags (declared name least false [])) (l ++ us)) (sym b.parts)
+    ∙ flags-again done flags (declared name least false []) ts us h
+
+-- members behind others, and the semicolon, are read
+members-again : (done : List Statement) (name : Spot) (members before : List Spot) (ts us : List Placed) → AllMatch ts (map spelled_word members ++ semicolon ∷ []) → run done (AfterMember name before) (ts ++ us) ≡ run (done ++ KindOf name (before ++ members) ∷ []) Top us
+members-again done name [] before [] us h = absurd h
+members-again done name [] before (t ∷ []) us h =
+    ended done (AfterMember name before) (KindOf name before) t us (punct-taken (is_punct Semicolon) t (Punctuation Semicolon) (Emit (KindOf name before)) (on_word t (λ w. Go (AfterMember name (before ++ w ∷ [])))) h.0 refl)
+    ∙ ap (λ l. run (done ++ KindOf name l ∷ []) Top us) (sym (append-nil before))
+members-again done name [] before (t ∷ v ∷ ts) us h = absurd h.1
+members-again done name (m ∷ members) before [] us h = absurd h
+members-again done name (m ∷ members) before (t ∷ ts) us h =
+    over done (AfterMember name before) (AfterMember name (before ++ m ∷ [])) t (ts ++ us) (ap (λ k. cond (is_punct Semicolon k) (Emit (KindOf name before)) (on_word t (λ w. Go (AfterMember name (before ++ w ∷ []))))) h.0.0 ∙ word-taken (λ w. Go (AfterMember name (before ++ w ∷ []))) t m h.0)
+    ∙ members-again done name members (before ++ m ∷ []) ts us h.1
+    ∙ ap (λ l. run (done ++ KindOf name l ∷ []) Top us) (append_assoc before (m ∷ []) members)
 
 -- a statement is read
 pub statement-again : (done : List Statement) (s : Statement) (ts us : List Placed) → AllMatch ts (spell_statement s) → FitsStatement s → run done Top (ts ++ us) ≡ run (done ++ s ∷ []) Top us
-statement-again done (OpOf name least) [] us h fits = absurd h
-statement-again done (OpOf name least) (o ∷ []) us h fits = absurd h.1
-statement-again done (OpOf name least) (o ∷ n ∷ []) us h fits = absurd h.1.1
-statement-again done (OpOf name least) (o ∷ n ∷ l ∷ []) us h fits = absurd h.1.1.1
-statement-again done (OpOf name least) (o ∷ n ∷ l ∷ s ∷ []) us h fits =
-    over done Top AfterOp o (n ∷ l ∷ s ∷ us) (top-word o (codes "op") h.0)
-    ∙ over done AfterOp (AfterOpName name) n (l ∷ s ∷ us) (word-taken (λ w. Go (AfterOpName w)) n name h.1.0)
-    ∙ over done (AfterOpName name) (AfterLeast name least) l (s ∷ us) (word-taken (λ w. step_number name w) l least h.1.1.0 ∙ ap (λ b. cond b (Go (AfterLeast name least)) (Refuse Syntax)) fits)
-    ∙ ended done (AfterLeast name least) (OpOf name least) s us (ap (λ k. on_punct Semicolon k (Emit (OpOf name least))) h.1.1.1.0)
-statement-again done (OpOf name least) (o ∷ n ∷ l ∷ s ∷ t ∷ ts) us h fits = absurd h.1.1.1.1
+statement-again done (OpOf name least more flags) [] us h fits = absurd h
+statement-again done (OpOf name least more flags) (o ∷ []) us h fits = absurd h.1
+statement-again done (OpOf name least more flags) (o ∷ n ∷ []) us h fits = absurd h.1.1
+statement-again done (OpOf name least more flags) (o ∷ n ∷ l ∷ ts) us h fits =
+    over done Top AfterOp o (n ∷ l ∷ ts ++ us) (top-word o (codes "op") h.0)
+    ∙ over done AfterOp (AfterOpName name) n (l ∷ ts ++ us) (word-taken (λ w. Go (AfterOpName w)) n name h.1.0)
+    ∙ over done (AfterOpName name) (AfterLeast name least) l (ts ++ us) (word-taken (λ w. step_number name w) l least h.1.1.0 ∙ ap (λ b. cond b (Go (AfterLeast name least)) (Refuse Syntax)) fits)
+    ∙ least-again done name least more flags ts us h.1.1.1
+statement-again done (KindOf name members) [] us h fits = absurd h
+statement-again done (KindOf name members) (k ∷ []) us h fits = absurd h.1
+statement-again done (KindOf name members) (k ∷ n ∷ []) us h fits = absurd h.1.1
+statement-again done (KindOf name []) (k ∷ n ∷ c ∷ ts) us h fits = absurd (fits refl)
+statement-again done (KindOf name (m ∷ members)) (k ∷ n ∷ c ∷ []) us h fits = absurd h.1.1.1
+statement-again done (KindOf name (m ∷ members)) (k ∷ n ∷ c ∷ t ∷ ts) us h fits =
+    over done Top AfterKind k (n ∷ c ∷ t ∷ ts ++ us) (top-word k (codes "kind") h.0)
+    ∙ over done AfterKind (AfterKindName name) n (c ∷ t ∷ ts ++ us) (word-taken (λ w. Go (AfterKindName w)) n name h.1.0)
+    ∙ over done (AfterKindName name) (BeforeMember name []) c (t ∷ ts ++ us) (ap (λ k. on_punct Colon k (Go (BeforeMember name []))) h.1.1.0)
+    ∙ over done (BeforeMember name []) (AfterMember name (m ∷ [])) t (ts ++ us) (word-taken (λ w. Go (AfterMember name (w ∷ []))) t m h.1.1.1.0)
+    ∙ members-again done name members (m ∷ []) ts us h.1.1.1.1
 statement-again done (RuleOf name e) [] us h fits = absurd h
 statement-again done (RuleOf name e) (r ∷ ts) us h fits =
     over done Top (AfterRole OfRule) r (ts ++ us) (top-word r (codes "rule") h.0) ∙ named-again done OfRule name e ts us h.1 fits

@@ -1,5 +1,5 @@
 -- Worked examples, by computing.
-use Rattle.std.proofs.Common.{◌≡◌, ℕ, List, [], ◌∷◌, ◌++◌, map, Result, Ok, Err, refl}
+use Rattle.std.proofs.Common.{◌≡◌, ℕ, true, false, List, [], ◌∷◌, ◌++◌, map, Result, Ok, Err, refl}
 use Rattle.std.specs.Prelude.{codes, replicate}
 use Rattle.mp_syntax.specs.declared.place.Place.{Place}
 use Rattle.mp_syntax.specs.declared.token.Punct.TheVariants.{Dot}
@@ -8,7 +8,7 @@ use Rattle.mp_syntax.specs.declared.fault.FaultKind.{FaultKind}
 use Rattle.mp_syntax.specs.declared.fault.FaultKind.TheVariants as kinds
 use Rattle.mp_syntax.specs.Tokens.{Token, Word, Wildcard, Sign, Arrow, Punctuation, Long, End, Placed, first_place}
 use Rattle.mp_syntax.specs.Lexing.{lexemes}
-use Rattle.mp_syntax.specs.Syntax.{Spot, Symbol, Apply, Wild, trees, Statement, OpOf, RuleOf, SubjectOf}
+use Rattle.mp_syntax.specs.Syntax.{Spot, Symbol, Apply, InfixOf, Wild, trees, Assoc, Comm, Infixed, Statement, OpOf, KindOf, RuleOf, SubjectOf}
 use Rattle.mp_syntax.specs.Reading.{reading}
 
 abbrev at : ℕ → ℕ → Place
@@ -24,9 +24,37 @@ abbrev tokens_of : List ℕ → List Token
 tokens_of bytes = map (λ (t : Placed). t.token) (lexemes bytes first_place)
 
 -- a file and its statements
-file-read : reading (codes "op f 2;\nrule r: f(x_, a);") ≡ Ok (OpOf (word (codes "f") 1 4) (word (codes "2") 1 6) ∷ RuleOf (word (codes "r") 2 6) (Apply (word (codes "f") 2 9) (trees (Wild (record { name = codes "x"; marks = 1; kind = []; place = at 2 11 }) ∷ Symbol (word (codes "a") 2 15) ∷ []))) ∷ [])
+file-read : reading (codes "op f 2;\nrule r: f(x_, a);") ≡ Ok (OpOf (word (codes "f") 1 4) (word (codes "2") 1 6) false [] ∷ RuleOf (word (codes "r") 2 6) (Apply (word (codes "f") 2 9) (trees (Wild (record { name = codes "x"; marks = 1; kind = []; place = at 2 11 }) ∷ Symbol (word (codes "a") 2 15) ∷ []))) ∷ [])
 unfolding lexemes
 file-read = refl
+
+-- a plus and flags, in their order
+op-read : reading (codes "op p 1+ comm infix + assoc;") ≡ Ok (OpOf (word (codes "p") 1 4) (word (codes "1") 1 6) true (Comm ∷ Infixed (word (codes "+") 1 20) ∷ Assoc ∷ []) ∷ [])
+unfolding lexemes
+op-read = refl
+
+-- words are told by their place alone
+words-read : reading (codes "op op 1 comm;kind kind: kind op;") ≡ Ok (OpOf (word (codes "op") 1 4) (word (codes "1") 1 7) false (Comm ∷ []) ∷ KindOf (word (codes "kind") 1 19) (word (codes "kind") 1 25 ∷ word (codes "op") 1 30 ∷ []) ∷ [])
+unfolding lexemes
+words-read = refl
+
+-- operands with one sign, which is kept where it stands first
+infix-read : reading (codes "subject s: (a + (b * c) + d);") ≡ Ok (SubjectOf (word (codes "s") 1 9) (InfixOf (at 1 12) (word (codes "+") 1 15) (trees (Symbol (word (codes "a") 1 13) ∷ InfixOf (at 1 17) (word (codes "*") 1 20) (trees (Symbol (word (codes "b") 1 18) ∷ Symbol (word (codes "c") 1 22) ∷ [])) ∷ Symbol (word (codes "d") 1 27) ∷ []))) ∷ [])
+unfolding lexemes
+infix-read = refl
+
+-- another sign and the arrow are refused where they stand, and so is a bracket round one operand
+other-sign-refused : reading (codes "subject s: (a + b * c);") ≡ fault kinds.Syntax 1 19
+unfolding lexemes
+other-sign-refused = refl
+
+arrow-refused : reading (codes "subject s: (a -> b);") ≡ fault kinds.Syntax 1 15
+unfolding lexemes
+arrow-refused = refl
+
+one-operand-refused : reading (codes "subject s: (a);") ≡ fault kinds.Syntax 1 14
+unfolding lexemes
+one-operand-refused = refl
 
 -- a comment runs to the end of its line, whatever stands in it
 comment-read : reading (codes "# a # b;\nsubject s: a; # op") ≡ Ok (SubjectOf (word (codes "s") 2 9) (Symbol (word (codes "a") 2 12)) ∷ [])

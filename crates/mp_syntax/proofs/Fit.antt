@@ -1,4 +1,4 @@
--- What the machine reads fits: wildcards are named dots, numbers are of digits, and at most 100 brackets are open.
+-- What the machine reads fits: the wildcards, the operands, the numbers, the members of kinds and the open brackets.
 use Rattle.std.proofs.Common.{◌≡◌, ℕ, suc, ◌-◌, ◌<◌, Bool, true, false, cond, List, [], ◌∷◌, ◌++◌, length, Option, Some, None, Ok, refl, sym, subst, arith, leb}
 use Rattle.std.specs.Prelude.{◌≢◌, codes}
 use Rattle.std.specs.Str.{bytes_eq}
@@ -6,18 +6,27 @@ use Rattle.std.proofs.lemmas.Bool.{leb-false}
 use Rattle.mp_syntax.specs.declared.token.Punct.TheVariants.{Open, Close, Comma, Colon, Semicolon}
 use Rattle.mp_syntax.specs.declared.fault.FaultKind.TheVariants.{Syntax, TooDeep}
 use Rattle.mp_syntax.specs.Tokens.{Token, Wildcard, Placed}
-use Rattle.mp_syntax.specs.Syntax.{Spot, Tree, Symbol, Apply, trees, Statement, Fits, AreFit, FitsStatement, AreStatements}
-use Rattle.mp_syntax.specs.Machine.{Role, OfRule, OfSubject, statement_of, Frame, frame, Heading, State, Top, AfterOp, AfterOpName, AfterLeast, AfterRole, AfterName, BeforeExpr, AfterWord, AfterOpen, AfterExpr, Step, Go, Emit, Refuse, Finish, is_punct, is_end, is_number, word_of, dot_of, keyword, spot, refuse, on_word, step, step_number, step_expr, step_behind, step_dot, after_step, run}
+use Rattle.mp_syntax.specs.Syntax.{Spot, Tree, Symbol, Apply, InfixOf, more_trees, trees, Infixed, KindOf, OpOf, Statement, Fits, AreFit, AreSeveral, FitsStatement, AreStatements}
+use Rattle.mp_syntax.specs.Machine.{Role, OfRule, OfSubject, statement_of, Frame, Arguments, Bracket, Operands, Declared, declared, with_flag, Heading, State, Top, AfterOp, AfterOpName, AfterLeast, AfterFlags, AfterInfix, AfterKind, AfterKindName, BeforeMember, AfterMember, AfterRole, AfterName, BeforeExpr, AfterWord, AfterOpen, AfterExpr, Step, Go, Emit, Refuse, Finish, is_punct, is_sign, is_end, is_number, word_of, sign_of, dot_of, keyword, spot, refuse, on_text, on_word, step, step_number, step_flag, step_flags, step_open, step_expr, step_behind, step_dot, after_step, run}
 use Rattle.mp_syntax.proofs.Found.{ok-is}
 
--- the arguments of open applications fit
+-- what an open bracket holds fits, with room brackets more to open in it
+abbrev pub FrameFits : ℕ → Frame → Type 0
+FrameFits room (Arguments name args) = AreFit room (trees args)
+FrameFits room (Bracket place) = Unit {0}
+FrameFits room (Operands place sign first others) = Fits room first × AreFit room (trees others)
+
+-- what open brackets hold fits
 abbrev pub FramesFit : List Frame → Type 0
 FramesFit [] = Unit {0}
-FramesFit (f ∷ k) = (length k < 100) × AreFit (99 - length k) (trees f.args) × FramesFit k
+FramesFit (f ∷ k) = (length k < 100) × FrameFits (99 - length k) f × FramesFit k
 
 -- what a state has read fits
 abbrev pub StateFits : State → Type 0
 StateFits (AfterLeast name least) = is_number least.text ≡ true
+StateFits (AfterFlags d) = is_number d.least.text ≡ true
+StateFits (AfterInfix d) = is_number d.least.text ≡ true
+StateFits (AfterMember name members) = members ≢ []
 StateFits (BeforeExpr h k) = FramesFit k
 StateFits (AfterWord h k w) = FramesFit k
 StateFits (AfterOpen h k w) = (length k < 100) × FramesFit k
@@ -34,9 +43,9 @@ if-fits : (b : Bool) (x y : Step) → StepFits x → StepFits y → StepFits (co
 if-fits true x y h k = h
 if-fits false x y h k = k
 
-word-fits : (t : Placed) (next : Spot → Step) (o : Option (List ℕ)) → ((w : Spot) → StepFits (next w)) → StepFits (on_word t next o)
-word-fits t next (Some w) h = h (spot w t.place)
-word-fits t next None h = tt
+text-fits : (t : Placed) (next : Spot → Step) (o : Option (List ℕ)) → ((w : Spot) → StepFits (next w)) → StepFits (on_text t next o)
+text-fits t next (Some w) h = h (spot w t.place)
+text-fits t next None h = tt
 
 AreFit-push : (room : ℕ) (args : List Tree) (e : Tree) → AreFit room (trees args) → Fits room e → AreFit room (trees (args ++ e ∷ []))
 AreFit-push room [] e h k = (k, tt)
@@ -49,53 +58,87 @@ dot_of-named (Wildcard (b ∷ bs) (suc ℕ.zero) []) w h e = let x : some w ≡ 
     some w = Some w
 dot_of-named _ w h e = absurd cc
 
-expr-fits : (h : Heading) (k : List Frame) (t : Placed) → FramesFit k → StepFits (step_expr h k t (word_of t.token))
+open-fits : (k : List Frame) (next : State) → (length k < 100 → StateFits next) → StepFits (step_open 100 k next)
+open-fits k next h = go (leb 100 (length k)) refl
+  where
+    go : (b : Bool) → leb 100 (length k) ≡ b → StepFits (cond b (Refuse TooDeep) (Go next))
+    go true e = tt
+    go false e = h (leb-false 100 (length k) e)
+
+expr-fits : (h : Heading) (k : List Frame) (t : Placed) → FramesFit k → StepFits (step_expr 100 h k t (word_of t.token))
 expr-fits h k t fits = go (word_of t.token)
   where
     dot : (d : Option (List ℕ)) → dot_of t.token ≡ d → StepFits (step_dot h k t d)
     dot (Some w) e = (fits, record { named = dot_of-named t.token w e; dot = refl; plain = refl })
     dot None e = tt
 
-    go : (o : Option (List ℕ)) → StepFits (step_expr h k t o)
+    go : (o : Option (List ℕ)) → StepFits (step_expr 100 h k t o)
     go (Some w) = fits
-    go None = dot (dot_of t.token) refl
+    go None = if-fits (is_punct Open t.token) _ _ (open-fits k (BeforeExpr h (Bracket t.place ∷ k)) (λ lt. (lt, tt, fits))) (dot (dot_of t.token) refl)
 
-behind-fits : (h : Heading) (k : List Frame) (e : Tree) (t : Token) → FramesFit k → Fits (100 - length k) e → StepFits (step_behind h k e t)
-behind-fits h [] e t fits e-fits = if-fits (is_punct Semicolon t) _ (refuse t) (at h.role) tt
+several-push : (first : Tree) (others : List Tree) (e : Tree) → AreSeveral (more_trees first (trees (others ++ e ∷ [])))
+several-push first [] e = tt
+several-push first (a ∷ others) e = tt
+
+behind-fits : (h : Heading) (k : List Frame) (e : Tree) (t : Placed) → FramesFit k → Fits (100 - length k) e → StepFits (step_behind h k e t)
+behind-fits h [] e t fits e-fits = if-fits (is_punct Semicolon t.token) _ (refuse t.token) (at h.role) tt
   where
     at : (role : Role) → FitsStatement (statement_of role h.name e)
     at OfRule = e-fits
     at OfSubject = e-fits
-behind-fits h (g ∷ k) e t fits e-fits =
-    let pushed : AreFit (99 - length k) (trees (g.args ++ e ∷ [])) = AreFit-push (99 - length k) g.args e fits.1 (subst (λ n. Fits n e) (omega arith) e-fits) in
+behind-fits h (Arguments name args ∷ k) e t fits e-fits =
+    let pushed : AreFit (99 - length k) (trees (args ++ e ∷ [])) = AreFit-push (99 - length k) args e fits.1 (subst (λ n. Fits n e) (omega arith) e-fits) in
     let lt = fits.0 in
     let room : suc (99 - length k) ≡ 100 - length k = omega arith in
-    if-fits (is_punct Comma t) _ _ (fits.0, pushed, fits.2)
-    (if-fits (is_punct Close t) _ (refuse t) (fits.2, subst (λ n. Fits n (Apply g.name (trees (g.args ++ e ∷ [])))) room pushed) tt)
+    if-fits (is_punct Comma t.token) _ _ (fits.0, pushed, fits.2)
+    (if-fits (is_punct Close t.token) _ (refuse t.token) (fits.2, subst (λ n. Fits n (Apply name (trees (args ++ e ∷ [])))) room pushed) tt)
+behind-fits h (Bracket place ∷ k) e t fits e-fits =
+    text-fits t (λ sign. Go (BeforeExpr h (Operands place sign e [] ∷ k))) (sign_of t.token) (λ sign. (fits.0, (subst (λ n. Fits n e) (omega arith) e-fits, tt), fits.2))
+behind-fits h (Operands place sign first others ∷ k) e t fits e-fits =
+    let pushed : AreFit (99 - length k) (trees (others ++ e ∷ [])) = AreFit-push (99 - length k) others e fits.1.1 (subst (λ n. Fits n e) (omega arith) e-fits) in
+    let lt = fits.0 in
+    let room : suc (99 - length k) ≡ 100 - length k = omega arith in
+    if-fits (is_sign sign.text t.token) _ _ (fits.0, (fits.1.0, pushed), fits.2)
+    (if-fits (is_punct Close t.token) _ (refuse t.token) (fits.2, subst (λ n. Fits n (InfixOf place sign (more_trees first (trees (others ++ e ∷ []))))) room (several-push first others e, (fits.1.0, pushed))) tt)
 
 keyword-fits : (w : List ℕ) → StepFits (keyword w)
-keyword-fits w = if-fits (bytes_eq w (codes "op")) _ _ tt (if-fits (bytes_eq w (codes "rule")) _ _ tt (if-fits (bytes_eq w (codes "subject")) _ (Refuse Syntax) tt tt))
+keyword-fits w = if-fits (bytes_eq w (codes "op")) _ _ tt (if-fits (bytes_eq w (codes "kind")) _ _ tt (if-fits (bytes_eq w (codes "rule")) _ _ tt (if-fits (bytes_eq w (codes "subject")) _ (Refuse Syntax) tt tt)))
+
+flag-fits : (d : Declared) (w : List ℕ) → is_number d.least.text ≡ true → StepFits (step_flag d w)
+flag-fits d w h = if-fits (bytes_eq w (codes "assoc")) _ _ h (if-fits (bytes_eq w (codes "comm")) _ _ h (if-fits (bytes_eq w (codes "one")) _ _ h (if-fits (bytes_eq w (codes "infix")) _ (Refuse Syntax) h tt)))
+
+flags-fit : (d : Declared) (t : Placed) → is_number d.least.text ≡ true → StepFits (step_flags d t)
+flags-fit d t h = if-fits (is_punct Semicolon t.token) (Emit (OpOf d.name d.least d.more d.flags)) _ h (text-fits t (λ w. step_flag d w.text) (word_of t.token) (λ w. flag-fits d w.text h))
+
+push-some : (members : List Spot) (w : Spot) → members ++ w ∷ [] ≢ []
+push-some [] w e = absurd cc
+push-some (m ∷ members) w e = absurd cc
+
+member-fits : (name : Spot) (members : List Spot) (t : Placed) → StepFits (on_word t (λ w. Go (AfterMember name (members ++ w ∷ []))))
+member-fits name members t = text-fits t (λ w. Go (AfterMember name (members ++ w ∷ []))) (word_of t.token) (λ w. push-some members w)
 
 -- a step from what fits leads to what fits
 pub step-fits : (at : State) (t : Placed) → StateFits at → StepFits (step at t)
-step-fits Top t h = if-fits (is_end t.token) Finish _ tt (word-fits t (λ w. keyword w.text) (word_of t.token) (λ w. keyword-fits w.text))
-step-fits AfterOp t h = word-fits t (λ w. Go (AfterOpName w)) (word_of t.token) (λ w. tt)
-step-fits (AfterOpName name) t h = word-fits t (λ w. step_number name w) (word_of t.token) (λ w. go w (is_number w.text) refl)
+step-fits Top t h = if-fits (is_end t.token) Finish _ tt (text-fits t (λ w. keyword w.text) (word_of t.token) (λ w. keyword-fits w.text))
+step-fits AfterOp t h = text-fits t (λ w. Go (AfterOpName w)) (word_of t.token) (λ w. tt)
+step-fits (AfterOpName name) t h = text-fits t (λ w. step_number name w) (word_of t.token) (λ w. go w (is_number w.text) refl)
   where
     go : (w : Spot) (b : Bool) → is_number w.text ≡ b → StepFits (cond b (Go (AfterLeast name w)) (Refuse Syntax))
     go w true e = e
     go w false e = tt
-step-fits (AfterLeast name least) t h = if-fits (is_punct Semicolon t.token) _ (refuse t.token) h tt
-step-fits (AfterRole role) t h = word-fits t (λ w. Go (AfterName (record { role = role; name = w }))) (word_of t.token) (λ w. tt)
+step-fits (AfterLeast name least) t h = if-fits (is_sign (codes "+") t.token) (Go (AfterFlags (declared name least true []))) _ h (flags-fit (declared name least false []) t h)
+step-fits (AfterFlags d) t h = flags-fit d t h
+step-fits (AfterInfix d) t h = text-fits t (λ sign. Go (AfterFlags (with_flag d (Infixed sign)))) (sign_of t.token) (λ sign. h)
+step-fits AfterKind t h = text-fits t (λ w. Go (AfterKindName w)) (word_of t.token) (λ w. tt)
+step-fits (AfterKindName name) t h = if-fits (is_punct Colon t.token) _ (refuse t.token) tt tt
+step-fits (BeforeMember name members) t h = member-fits name members t
+step-fits (AfterMember name members) t h = if-fits (is_punct Semicolon t.token) (Emit (KindOf name members)) _ h (member-fits name members t)
+step-fits (AfterRole role) t h = text-fits t (λ w. Go (AfterName (record { role = role; name = w }))) (word_of t.token) (λ w. tt)
 step-fits (AfterName x) t h = if-fits (is_punct Colon t.token) _ (refuse t.token) tt tt
 step-fits (BeforeExpr x k) t h = expr-fits x k t h
-step-fits (AfterWord x k w) t h = if-fits (is_punct Open t.token) _ _ (go (leb 100 (length k)) refl) (behind-fits x k (Symbol w) t.token h tt)
-  where
-    go : (b : Bool) → leb 100 (length k) ≡ b → StepFits (cond b (Refuse TooDeep) (Go (AfterOpen x k w)))
-    go true e = tt
-    go false e = (leb-false 100 (length k) e, h)
-step-fits (AfterOpen x k w) t h = if-fits (is_punct Close t.token) _ _ (h.1, let lt = h.0 in let room : suc (99 - length k) ≡ 100 - length k = omega arith in subst (λ n. Fits n (Apply w (trees []))) room tt) (expr-fits x (frame w [] ∷ k) t (h.0, tt, h.1))
-step-fits (AfterExpr x k e) t h = behind-fits x k e t.token h.0 h.1
+step-fits (AfterWord x k w) t h = if-fits (is_punct Open t.token) _ _ (open-fits k (AfterOpen x k w) (λ lt. (lt, h))) (behind-fits x k (Symbol w) t h tt)
+step-fits (AfterOpen x k w) t h = if-fits (is_punct Close t.token) _ _ (h.1, let lt = h.0 in let room : suc (99 - length k) ≡ 100 - length k = omega arith in subst (λ n. Fits n (Apply w (trees []))) room tt) (expr-fits x (Arguments w [] ∷ k) t (h.0, tt, h.1))
+step-fits (AfterExpr x k e) t h = behind-fits x k e t h.0 h.1
 
 AreStatements-push : (ss : List Statement) (s : Statement) → AreStatements ss → FitsStatement s → AreStatements (ss ++ s ∷ [])
 AreStatements-push [] s h k = (k, tt)

@@ -1,5 +1,6 @@
 -- What the machine reads is spelled by the tokens.
 use Rattle.std.proofs.Common.{◌≡◌, ℕ, zero, suc, Bool, true, false, cond, List, [], ◌∷◌, ◌++◌, length, Option, Some, None, Result, Ok, refl, sym, ap, ◌∙◌, append_assoc, append-nil, leb}
+use Rattle.std.proofs.lemmas.List.{map_push, flat_map_more}
 use Rattle.std.specs.Prelude.{codes}
 use Rattle.std.specs.List.{flat_map}
 use Rattle.std.specs.Str.{bytes_eq}
@@ -8,10 +9,10 @@ use Rattle.mp_syntax.specs.declared.token.Punct.{Punct}
 use Rattle.mp_syntax.specs.declared.token.Punct.TheVariants.{Open, Close, OpenSquare, CloseSquare, OpenBrace, CloseBrace, Comma, Semicolon, Colon, Dot, Dollar}
 use Rattle.mp_syntax.specs.declared.fault.Fault.{Fault}
 use Rattle.mp_syntax.specs.declared.fault.FaultKind.TheVariants.{Syntax, TooDeep}
-use Rattle.mp_syntax.specs.Tokens.{Token, Word, Wildcard, Punctuation, End, Placed}
-use Rattle.mp_syntax.specs.Syntax.{Spot, Tree, Symbol, trees, Statement, Expected, Said, Stands, Matches, AllMatch, spell, spell_first, spell_others, spell_statement, spell_file, spelled_word, fixed_word, comma, closing}
-use Rattle.mp_syntax.specs.Machine.{Role, OfRule, OfSubject, statement_of, Frame, frame, Heading, State, Top, AfterOp, AfterOpName, AfterLeast, AfterRole, AfterName, BeforeExpr, AfterWord, AfterOpen, AfterExpr, Step, Go, Emit, Refuse, Finish, is_punct, same_punct, is_end, word_of, dot_of, is_number, keyword, spot, refuse, on_word, step, step_number, step_expr, step_behind, step_dot, after_step, run}
-use Rattle.mp_syntax.specs.Partial.{with_comma, so_far}
+use Rattle.mp_syntax.specs.Tokens.{Token, Word, Wildcard, Sign, Punctuation, End, Placed}
+use Rattle.mp_syntax.specs.Syntax.{Spot, Tree, Symbol, trees, Flag, Assoc, Comm, One, Infixed, Statement, Expected, Said, Stands, Matches, AllMatch, spell, spell_first, spell_others, spell_plus, spell_flag, spell_statement, spell_file, spelled_word, spelled_sign, another, fixed_word, comma, closing, semicolon}
+use Rattle.mp_syntax.specs.Machine.{Role, OfRule, OfSubject, statement_of, Frame, Arguments, Bracket, Operands, Declared, declared, with_flag, Heading, State, Top, AfterOp, AfterOpName, AfterLeast, AfterFlags, AfterInfix, AfterKind, AfterKindName, BeforeMember, AfterMember, AfterRole, AfterName, BeforeExpr, AfterWord, AfterOpen, AfterExpr, Step, Go, Emit, Refuse, Finish, is_punct, same_punct, is_sign, is_end, word_of, sign_of, dot_of, is_number, keyword, spot, refuse, on_text, on_word, on_sign, step, step_number, step_flag, step_flags, step_open, step_expr, step_behind, step_dot, after_step, run}
+use Rattle.mp_syntax.specs.Partial.{spell_before, spell_declared, so_far}
 
 -- ---- what a test on a token says
 
@@ -45,6 +46,16 @@ some w = Some w
 some-is : (v w : List ℕ) → some v ≡ some w → v ≡ w
 some-is v w h = cc
 
+-- the sign of this text
+pub sign-is : (t : Token) (s : List ℕ) → sign_of t ≡ Some s → t ≡ Sign s
+sign-is (Sign r) s h = cc
+sign-is _ s h = absurd cc
+
+-- the sign that the test has
+pub sign-same : (text : List ℕ) (t : Token) → is_sign text t ≡ true → t ≡ Sign text
+sign-same text (Sign s) h = ap Sign ((bytes_eq-Decides s text).0 h)
+sign-same text _ h = absurd cc
+
 -- the dot of this name
 pub dot-is : (t : Token) (w : List ℕ) → dot_of t ≡ Some w → t ≡ Wildcard w 1 []
 dot-is (Wildcard (b ∷ bs) (suc zero) []) w h = ap (λ v. Wildcard v 1 []) (some-is _ _ h)
@@ -64,71 +75,127 @@ Adds (Emit s) before t = (m : Expected) × Matches t m × (spell_statement s ≡
 Adds (Refuse kind) before t = Unit {0}
 Adds Finish before t = (before ≡ []) × (t.token ≡ End)
 
-adds-punct : (p : Punct) (t : Placed) (a b : Step) (before : List Expected) → (Matches t (Said (Punctuation p)) → Adds a before t) → Adds b before t → Adds (cond (is_punct p t.token) a b) before t
-adds-punct p t a b before h k = go (is_punct p t.token) refl
+adds-token : (test : Token → Bool) (k : Token) → ((u : Token) → test u ≡ true → u ≡ k) → (t : Placed) (a b : Step) (before : List Expected) → (Matches t (Said k) → Adds a before t) → Adds b before t → Adds (cond (test t.token) a b) before t
+adds-token test k is t a b before f g = go (test t.token) refl
   where
-    go : (v : Bool) → is_punct p t.token ≡ v → Adds (cond v a b) before t
-    go true e = h (punct-is p t.token e)
-    go false e = k
+    go : (v : Bool) → test t.token ≡ v → Adds (cond v a b) before t
+    go true e = f (is t.token e)
+    go false e = g
 
-adds-word : (next : Spot → Step) (t : Placed) (before : List Expected) → ((w : List ℕ) → Matches t (spelled_word (spot w t.place)) → Adds (next (spot w t.place)) before t) → Adds (on_word t next (word_of t.token)) before t
-adds-word next t before h = go (word_of t.token) refl
+adds-punct : (p : Punct) (t : Placed) (a b : Step) (before : List Expected) → (Matches t (Said (Punctuation p)) → Adds a before t) → Adds b before t → Adds (cond (is_punct p t.token) a b) before t
+adds-punct p = adds-token (is_punct p) (Punctuation p) (punct-is p)
+
+adds-sign : (text : List ℕ) (t : Placed) (a b : Step) (before : List Expected) → (Matches t (Said (Sign text)) → Adds a before t) → Adds b before t → Adds (cond (is_sign text t.token) a b) before t
+adds-sign text = adds-token (is_sign text) (Sign text) (sign-same text)
+
+adds-text : (text_of : Token → Option (List ℕ)) (kind : List ℕ → Token) → ((u : Token) (w : List ℕ) → text_of u ≡ Some w → u ≡ kind w) → (next : Spot → Step) (t : Placed) (before : List Expected) → ((w : List ℕ) → Matches t (Stands (kind w) t.place) → Adds (next (spot w t.place)) before t) → Adds (on_text t next (text_of t.token)) before t
+adds-text text_of kind is next t before h = go (text_of t.token) refl
   where
-    go : (o : Option (List ℕ)) → word_of t.token ≡ o → Adds (on_word t next o) before t
-    go (Some w) e = h w (word-is t.token w e, refl)
+    go : (o : Option (List ℕ)) → text_of t.token ≡ o → Adds (on_text t next o) before t
+    go (Some w) e = h w (is t.token w e, refl)
     go None e = tt
 
+adds-word : (next : Spot → Step) (t : Placed) (before : List Expected) → ((w : List ℕ) → Matches t (spelled_word (spot w t.place)) → Adds (next (spot w t.place)) before t) → Adds (on_word t next) before t
+adds-word = adds-text word_of Word word-is
+
+adds-any_sign : (next : Spot → Step) (t : Placed) (before : List Expected) → ((s : List ℕ) → Matches t (spelled_sign (spot s t.place)) → Adds (next (spot s t.place)) before t) → Adds (on_sign t next) before t
+adds-any_sign = adds-text sign_of Sign sign-is
+
+adds-fixed : (v : List ℕ) (t : Placed) (w : List ℕ) (a b : Step) (before : List Expected) → t.token ≡ Word w → (Matches t (fixed_word v) → Adds a before t) → Adds b before t → Adds (cond (bytes_eq w v) a b) before t
+adds-fixed v t w a b before h f g = go (bytes_eq w v) refl
+  where
+    go : (c : Bool) → bytes_eq w v ≡ c → Adds (cond c a b) before t
+    go true e = f (h ∙ ap Word ((bytes_eq-Decides w v).0 e))
+    go false e = g
+
 adds-keyword : (t : Placed) (w : List ℕ) → t.token ≡ Word w → Adds (keyword w) [] t
-adds-keyword t w h = go (bytes_eq w (codes "op")) (bytes_eq w (codes "rule")) (bytes_eq w (codes "subject")) refl refl refl
-  where
-    word : (v : List ℕ) → bytes_eq w v ≡ true → Matches t (fixed_word v)
-    word v e = h ∙ ap Word ((bytes_eq-Decides w v).0 e)
+adds-keyword t w h =
+    adds-fixed (codes "op") t w _ _ [] h (λ is. (fixed_word (codes "op"), is, refl))
+    (adds-fixed (codes "kind") t w _ _ [] h (λ is. (fixed_word (codes "kind"), is, refl))
+    (adds-fixed (codes "rule") t w _ _ [] h (λ is. (fixed_word (codes "rule"), is, refl))
+    (adds-fixed (codes "subject") t w _ (Refuse Syntax) [] h (λ is. (fixed_word (codes "subject"), is, refl)) tt)))
 
-    go : (a b c : Bool) → bytes_eq w (codes "op") ≡ a → bytes_eq w (codes "rule") ≡ b → bytes_eq w (codes "subject") ≡ c → Adds (cond a (Go AfterOp) (cond b (Go (AfterRole OfRule)) (cond c (Go (AfterRole OfSubject)) (Refuse Syntax)))) [] t
-    go true b c e f g = (fixed_word (codes "op"), word _ e, refl)
-    go false true c e f g = (fixed_word (codes "rule"), word _ f, refl)
-    go false false true e f g = (fixed_word (codes "subject"), word _ g, refl)
-    go false false false e f g = tt
+-- one element more
+pub flat_map-push : {X A : Type 0} (f : X → List A) (xs : List X) (x : X) → flat_map f (xs ++ x ∷ []) ≡ flat_map f xs ++ f x
+flat_map-push f xs x = sym (flat_map_more f [] xs x)
 
--- arguments of which e is the last
-spell_first-trees : (args : List Tree) (e : Tree) → spell_first (trees (args ++ e ∷ [])) ≡ flat_map with_comma args ++ (spell e ++ closing ∷ [])
-spell_first-trees [] e = refl
-spell_first-trees (a ∷ args) e = ap (λ l. spell a ++ l) (others args) ∙ simp append_assoc
+-- expressions of which e is the last
+spell_first-trees : (between : Expected) (args : List Tree) (e : Tree) → spell_first between (trees (args ++ e ∷ [])) ≡ flat_map (spell_before between) args ++ (spell e ++ closing ∷ [])
+spell_first-trees between [] e = refl
+spell_first-trees between (a ∷ args) e = ap (λ l. spell a ++ l) (others args) ∙ simp append_assoc
   where
-    others : (args : List Tree) → spell_others (trees (args ++ e ∷ [])) ≡ comma ∷ (flat_map with_comma args ++ (spell e ++ closing ∷ []))
+    others : (args : List Tree) → spell_others between (trees (args ++ e ∷ [])) ≡ between ∷ (flat_map (spell_before between) args ++ (spell e ++ closing ∷ []))
     others [] = refl
-    others (a ∷ args) = ap (λ l. comma ∷ spell a ++ l) (others args) ∙ simp append_assoc
+    others (a ∷ args) = ap (λ l. between ∷ spell a ++ l) (others args) ∙ simp append_assoc
 
--- one argument more
-flat_map-with_comma-push : (args : List Tree) (e : Tree) → flat_map with_comma (args ++ e ∷ []) ≡ flat_map with_comma args ++ with_comma e
-flat_map-with_comma-push [] e = simp append-nil
-flat_map-with_comma-push (a ∷ args) e = ap (λ l. with_comma a ++ l) (flat_map-with_comma-push args e) ∙ sym (append_assoc (with_comma a) _ _)
+-- ---- declarations
 
-adds-expr : (h : Heading) (k : List Frame) (t : Placed) → Adds (step_expr h k t (word_of t.token)) (so_far (BeforeExpr h k)) t
+-- one flag more
+spell_declared-with_flag : (d : Declared) (f : Flag) → spell_declared (with_flag d f) ≡ spell_declared d ++ spell_flag f
+spell_declared-with_flag d f =
+    ap (λ l. fixed_word (codes "op") ∷ spelled_word d.name ∷ spelled_word d.least ∷ (spell_plus d.more ++ l)) (flat_map-push spell_flag d.flags f)
+    ∙ ap (λ l. fixed_word (codes "op") ∷ spelled_word d.name ∷ spelled_word d.least ∷ l) (sym (append_assoc (spell_plus d.more) (flat_map spell_flag d.flags) (spell_flag f)))
+
+adds-flag : (d : Declared) (t : Placed) (w : List ℕ) → t.token ≡ Word w → Adds (step_flag d w) (spell_declared d) t
+adds-flag d t w h =
+    adds-fixed (codes "assoc") t w _ _ (spell_declared d) h (λ is. (fixed_word (codes "assoc"), is, spell_declared-with_flag d Assoc))
+    (adds-fixed (codes "comm") t w _ _ (spell_declared d) h (λ is. (fixed_word (codes "comm"), is, spell_declared-with_flag d Comm))
+    (adds-fixed (codes "one") t w _ _ (spell_declared d) h (λ is. (fixed_word (codes "one"), is, spell_declared-with_flag d One))
+    (adds-fixed (codes "infix") t w _ (Refuse Syntax) (spell_declared d) h (λ is. (fixed_word (codes "infix"), is, refl)) tt)))
+
+adds-flags : (d : Declared) (t : Placed) → Adds (step_flags d t) (spell_declared d) t
+adds-flags d t =
+    adds-punct Semicolon t _ _ (spell_declared d) (λ is. (semicolon, is, simp append_assoc))
+    (adds-word (λ w. step_flag d w.text) t (spell_declared d) (λ w is. adds-flag d t w is.0))
+
+adds-member : (name : Spot) (members : List Spot) (t : Placed) → Adds (on_word t (λ w. Go (AfterMember name (members ++ w ∷ [])))) (so_far (BeforeMember name members)) t
+adds-member name members t = adds-word (λ w. Go (AfterMember name (members ++ w ∷ []))) t (so_far (BeforeMember name members))
+    (λ w is. (spelled_word (spot w t.place), is, ap (λ l. fixed_word (codes "kind") ∷ spelled_word name ∷ Said (Punctuation Colon) ∷ l) (map_push spelled_word members (spot w t.place))))
+
+-- ---- expressions
+
+adds-open : (k : List Frame) (next : State) (before : List Expected) (t : Placed) → Adds (Go next) before t → Adds (step_open 100 k next) before t
+adds-open k next before t h = go (leb 100 (length k))
+  where
+    go : (b : Bool) → Adds (cond b (Refuse TooDeep) (Go next)) before t
+    go true = tt
+    go false = h
+
+adds-expr : (h : Heading) (k : List Frame) (t : Placed) → Adds (step_expr 100 h k t (word_of t.token)) (so_far (BeforeExpr h k)) t
 adds-expr h k t = go (word_of t.token) refl
   where
     dot : (d : Option (List ℕ)) → dot_of t.token ≡ d → Adds (step_dot h k t d) (so_far (BeforeExpr h k)) t
     dot (Some w) f = (Stands (Wildcard w 1 []) t.place, (dot-is t.token w f, refl), simp append_assoc)
     dot None f = tt
 
-    go : (o : Option (List ℕ)) → word_of t.token ≡ o → Adds (step_expr h k t o) (so_far (BeforeExpr h k)) t
-    go (Some w) e = (spelled_word (spot w t.place), (word-is t.token w e, refl), simp append_assoc)
-    go None e = dot (dot_of t.token) refl
+    bracket : Matches t (Said (Punctuation Open)) → Adds (step_open 100 k (BeforeExpr h (Bracket t.place ∷ k))) (so_far (BeforeExpr h k)) t
+    bracket is = adds-open k (BeforeExpr h (Bracket t.place ∷ k)) (so_far (BeforeExpr h k)) t (Stands (Punctuation Open) t.place, (is, refl), simp append_assoc)
 
-adds-behind : (h : Heading) (k : List Frame) (e : Tree) (t : Placed) → Adds (step_behind h k e t.token) (so_far (AfterExpr h k e)) t
-adds-behind h [] e t = adds-punct Semicolon t _ (refuse t.token) (so_far (AfterExpr h [] e)) (λ is. (Said (Punctuation Semicolon), is, at h.role)) tt
+    go : (o : Option (List ℕ)) → word_of t.token ≡ o → Adds (step_expr 100 h k t o) (so_far (BeforeExpr h k)) t
+    go (Some w) e = (spelled_word (spot w t.place), (word-is t.token w e, refl), simp append_assoc)
+    go None e = adds-punct Open t _ _ (so_far (BeforeExpr h k)) bracket (dot (dot_of t.token) refl)
+
+adds-behind : (h : Heading) (k : List Frame) (e : Tree) (t : Placed) → Adds (step_behind h k e t) (so_far (AfterExpr h k e)) t
+adds-behind h [] e t = adds-punct Semicolon t _ (refuse t.token) (so_far (AfterExpr h [] e)) (λ is. (semicolon, is, at h.role)) tt
   where
-    at : (role : Role) → spell_statement (statement_of role h.name e) ≡ so_far (AfterExpr (record { role = role; name = h.name }) [] e) ++ Said (Punctuation Semicolon) ∷ []
+    at : (role : Role) → spell_statement (statement_of role h.name e) ≡ so_far (AfterExpr (record { role = role; name = h.name }) [] e) ++ semicolon ∷ []
     at OfRule = refl
     at OfSubject = refl
-adds-behind h (f ∷ k) e t =
-    adds-punct Comma t _ _ (so_far (AfterExpr h (f ∷ k) e)) (λ is. (comma, is, rw (flat_map-with_comma-push f.args e) (simp append_assoc)))
-    (adds-punct Close t _ (refuse t.token) (so_far (AfterExpr h (f ∷ k) e)) (λ is. (closing, is, rw (spell_first-trees f.args e) (simp append_assoc))) tt)
+adds-behind h (Arguments name args ∷ k) e t =
+    adds-punct Comma t _ _ (so_far (AfterExpr h (Arguments name args ∷ k) e)) (λ is. (comma, is, rw (flat_map-push (spell_before comma) args e) (simp append_assoc)))
+    (adds-punct Close t _ (refuse t.token) (so_far (AfterExpr h (Arguments name args ∷ k) e)) (λ is. (closing, is, rw (spell_first-trees comma args e) (simp append_assoc))) tt)
+adds-behind h (Bracket place ∷ k) e t =
+    adds-any_sign (λ sign. Go (BeforeExpr h (Operands place sign e [] ∷ k))) t (so_far (AfterExpr h (Bracket place ∷ k) e)) (λ s is. (spelled_sign (spot s t.place), is, simp append_assoc))
+adds-behind h (Operands place sign first others ∷ k) e t =
+    adds-sign sign.text t _ _ (so_far (AfterExpr h (Operands place sign first others ∷ k) e)) (λ is. (another sign, is, rw (flat_map-push (spell_before (another sign)) others e) (simp append_assoc)))
+    (adds-punct Close t _ (refuse t.token) (so_far (AfterExpr h (Operands place sign first others ∷ k) e)) (λ is. (closing, is, rw (spell_first-trees (another sign) others e) (simp append_assoc))) tt)
+
+-- ---- all states
 
 pub adds : (at : State) (t : Placed) → Adds (step at t) (so_far at) t
 adds Top t = go (is_end t.token) refl
   where
-    go : (v : Bool) → is_end t.token ≡ v → Adds (cond v Finish (on_word t (λ w. keyword w.text) (word_of t.token))) [] t
+    go : (v : Bool) → is_end t.token ≡ v → Adds (cond v Finish (on_word t (λ w. keyword w.text))) [] t
     go true e = (refl, end-is t.token e)
     go false e = adds-word (λ w. keyword w.text) t [] (λ w is. adds-keyword t w is.0)
 adds AfterOp t = adds-word (λ w. Go (AfterOpName w)) t (so_far AfterOp) (λ w is. (spelled_word (spot w t.place), is, refl))
@@ -137,25 +204,23 @@ adds (AfterOpName name) t = adds-word (λ w. step_number name w) t (so_far (Afte
     go : (w : List ℕ) → Matches t (spelled_word (spot w t.place)) → (b : Bool) → Adds (cond b (Go (AfterLeast name (spot w t.place))) (Refuse Syntax)) (so_far (AfterOpName name)) t
     go w is true = (spelled_word (spot w t.place), is, refl)
     go w is false = tt
-adds (AfterLeast name least) t = adds-punct Semicolon t _ (refuse t.token) (so_far (AfterLeast name least)) (λ is. (Said (Punctuation Semicolon), is, refl)) tt
+adds (AfterLeast name least) t = adds-sign (codes "+") t _ _ (so_far (AfterLeast name least)) (λ is. (Said (Sign (codes "+")), is, refl)) (adds-flags (declared name least false []) t)
+adds (AfterFlags d) t = adds-flags d t
+adds (AfterInfix d) t = adds-any_sign (λ sign. Go (AfterFlags (with_flag d (Infixed sign)))) t (so_far (AfterInfix d))
+    (λ s is. (spelled_sign (spot s t.place), is, spell_declared-with_flag d (Infixed (spot s t.place)) ∙ sym (append_assoc (spell_declared d) (fixed_word (codes "infix") ∷ []) (spelled_sign (spot s t.place) ∷ []))))
+adds AfterKind t = adds-word (λ w. Go (AfterKindName w)) t (so_far AfterKind) (λ w is. (spelled_word (spot w t.place), is, refl))
+adds (AfterKindName name) t = adds-punct Colon t _ (refuse t.token) (so_far (AfterKindName name)) (λ is. (Said (Punctuation Colon), is, refl)) tt
+adds (BeforeMember name members) t = adds-member name members t
+adds (AfterMember name members) t = adds-punct Semicolon t _ _ (so_far (AfterMember name members)) (λ is. (semicolon, is, refl)) (adds-member name members t)
 adds (AfterRole role) t = adds-word (λ w. Go (AfterName (record { role = role; name = w }))) t (so_far (AfterRole role)) (λ w is. (spelled_word (spot w t.place), is, refl))
 adds (AfterName h) t = adds-punct Colon t _ (refuse t.token) (so_far (AfterName h)) (λ is. (Said (Punctuation Colon), is, refl)) tt
 adds (BeforeExpr h k) t = adds-expr h k t
 adds (AfterWord h k w) t =
-    adds-punct Open t _ _ (so_far (AfterWord h k w)) (λ is. go is (leb 100 (length k))) (adds-behind h k (Symbol w) t)
-  where
-    go : Matches t (Said (Punctuation Open)) → (b : Bool) → Adds (cond b (Refuse TooDeep) (Go (AfterOpen h k w))) (so_far (AfterWord h k w)) t
-    go is true = tt
-    go is false = (Said (Punctuation Open), is, simp append_assoc)
-adds (AfterOpen h k w) t = adds-punct Close t _ _ (so_far (AfterOpen h k w)) (λ is. (closing, is, simp append_assoc)) (adds-expr h (frame w [] ∷ k) t)
+    adds-punct Open t _ _ (so_far (AfterWord h k w)) (λ is. adds-open k (AfterOpen h k w) (so_far (AfterWord h k w)) t (Said (Punctuation Open), is, simp append_assoc)) (adds-behind h k (Symbol w) t)
+adds (AfterOpen h k w) t = adds-punct Close t _ _ (so_far (AfterOpen h k w)) (λ is. (closing, is, simp append_assoc)) (adds-expr h (Arguments w [] ∷ k) t)
 adds (AfterExpr h k e) t = adds-behind h k e t
 
 -- ---- whole runs
-
--- a statement more is spelled behind the others
-pub spell_file-push : (ss : List Statement) (s : Statement) → spell_file (ss ++ s ∷ []) ≡ spell_file ss ++ spell_statement s
-spell_file-push [] s = simp append-nil
-spell_file-push (x ∷ ss) s = ap (λ l. spell_statement x ++ l) (spell_file-push ss s) ∙ sym (append_assoc (spell_statement x) _ _)
 
 abbrev pub read_ok : List Statement → Result (List Statement) Fault
 read_ok l = Ok l
@@ -192,7 +257,7 @@ run-found (t ∷ ts) done at file e = go (step at t) (adds at t) e (run-found ts
 
     go : (s : Step) → Adds s (so_far at) t → after_step done t.place (λ d a. run d a ts) s ≡ Ok file → ((d : List Statement) (a : State) (f : List Statement) → run d a ts ≡ Ok f → Reads ts (spell_file d ++ so_far a) f) → Reads (t ∷ ts) (spell_file done ++ so_far at) file
     go (Go a) h e ih = one _ _ h.0 h.1 (ap (λ l. spell_file done ++ l) h.2 ∙ sym (append_assoc (spell_file done) (so_far at) _)) (ih done a file e)
-    go (Emit s) h e ih = one _ _ h.0 h.1 (ap (λ l. l ++ []) (spell_file-push done s) ∙ append-nil _ ∙ ap (λ l. spell_file done ++ l) h.2 ∙ sym (append_assoc (spell_file done) (so_far at) _)) (ih (done ++ s ∷ []) Top file e)
+    go (Emit s) h e ih = one _ _ h.0 h.1 (ap (λ l. l ++ []) (flat_map-push spell_statement done s) ∙ append-nil _ ∙ ap (λ l. spell_file done ++ l) h.2 ∙ sym (append_assoc (spell_file done) (so_far at) _)) (ih (done ++ s ∷ []) Top file e)
     go (Refuse kind) h e ih = absurd cc
     go Finish h e ih = record {
       front = [];

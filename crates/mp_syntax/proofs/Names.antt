@@ -1,10 +1,11 @@
--- The words of what is read are those of tokens: 1 to 64 letters and digits.
-use Rattle.std.proofs.Common.{ℕ, zero, suc, List, [], ◌∷◌, ◌++◌, subst}
+-- The words and signs of what is read are those of tokens: 1 to 64 letters and digits, and sign bytes but the arrow.
+use Rattle.std.proofs.Common.{ℕ, zero, suc, List, [], ◌∷◌, ◌++◌, map, subst}
 use Rattle.std.specs.Prelude.{◌≢◌}
+use Rattle.std.specs.List.{flat_map}
 use Rattle.mp_syntax.specs.declared.place.Place.{Place}
 use Rattle.mp_syntax.specs.Tokens as tokens
-use Rattle.mp_syntax.specs.Tokens.{Token, Word, Placed, Spells, place_after, Tokens}
-use Rattle.mp_syntax.specs.Syntax.{Spot, Wildcard, Tree, Symbol, Apply, Wild, Trees, no_trees, more_trees, Statement, OpOf, RuleOf, SubjectOf, Expected, Said, Stands, AllMatch, spell, spell_first, spell_others, spell_named, spell_statement, spell_file, Fits, AreFit, FitsStatement, AreStatements, IsName, HasNames, HaveNames, StatementHasNames, StatementsHaveNames}
+use Rattle.mp_syntax.specs.Tokens.{Token, Word, Sign, Placed, Spells, place_after, Tokens}
+use Rattle.mp_syntax.specs.Syntax.{Spot, Wildcard, Tree, Symbol, Apply, InfixOf, Wild, Trees, no_trees, more_trees, Flag, Assoc, Comm, One, Infixed, Statement, OpOf, KindOf, RuleOf, SubjectOf, Expected, Said, Stands, AllMatch, spelled_word, spelled_sign, another, comma, semicolon, spell, spell_first, spell_others, spell_named, spell_plus, spell_flag, spell_statement, spell_file, Fits, AreFit, FitsStatement, AreStatements, IsName, IsInfixSign, HasNames, HaveNames, HaveSigns, AreNames, StatementHasNames, StatementsHaveNames}
 
 -- a text is this token
 abbrev pub HasText : Token → Type 0
@@ -48,31 +49,53 @@ word-name w h = record { is_word = h.1.1; is_short = h.1.2 }
 wildcard-name : (w : Wildcard) → HasText (tokens.Wildcard w.name w.marks w.kind) → w.name ≢ [] → IsName w.name
 wildcard-name w h some = record { is_word = record { some = some; bytes = h.1.0.name_bytes }; is_short = h.1.1 }
 
+sign-name : (s : List ℕ) → HasText (Sign s) → IsInfixSign s
+sign-name s h = record { is_sign = h.1.1; no_arrow = h.1.2 }
+
 mutual
   tree-names : (t : Tree) (room : ℕ) → Fits room t → ExpectTexts (spell t) → HasNames t
   tree-names (Symbol w) room fits h = word-name w.text h.0
   tree-names (Apply f args) zero fits h = absurd fits
-  tree-names (Apply f args) (suc room) fits h = (word-name f.text h.0, first-names args room fits h.1.1)
+  tree-names (Apply f args) (suc room) fits h = (word-name f.text h.0, first-names comma args room fits h.1.1)
+  tree-names (InfixOf place sign operands) zero fits h = absurd fits
+  tree-names (InfixOf place sign no_trees) (suc room) fits h = absurd fits.0
+  tree-names (InfixOf place sign (more_trees t ts)) (suc room) fits h =
+      let r = texts-append (spell t) (spelled_sign sign ∷ spell_first (another sign) ts) h.1 in
+      (sign-name sign.text r.1.0, (tree-names t room fits.1.0 r.0, first-names (another sign) ts room fits.1.1 r.1.1))
   tree-names (Wild w) zero fits h = wildcard-name w h.0 fits.named
   tree-names (Wild w) (suc room) fits h = wildcard-name w h.0 fits.named
 
-  first-names : (ts : Trees) (room : ℕ) → AreFit room ts → ExpectTexts (spell_first ts) → HaveNames ts
-  first-names no_trees room fits h = tt
-  first-names (more_trees t ts) room fits h =
-      let r = texts-append (spell t) (spell_others ts) h in
-      (tree-names t room fits.0 r.0, others-names ts room fits.1 r.1)
+  first-names : (between : Expected) (ts : Trees) (room : ℕ) → AreFit room ts → ExpectTexts (spell_first between ts) → HaveNames ts
+  first-names between no_trees room fits h = tt
+  first-names between (more_trees t ts) room fits h =
+      let r = texts-append (spell t) (spell_others between ts) h in
+      (tree-names t room fits.0 r.0, others-names between ts room fits.1 r.1)
 
-  others-names : (ts : Trees) (room : ℕ) → AreFit room ts → ExpectTexts (spell_others ts) → HaveNames ts
-  others-names no_trees room fits h = tt
-  others-names (more_trees t ts) room fits h =
-      let r = texts-append (spell t) (spell_others ts) h.1 in
-      (tree-names t room fits.0 r.0, others-names ts room fits.1 r.1)
+  others-names : (between : Expected) (ts : Trees) (room : ℕ) → AreFit room ts → ExpectTexts (spell_others between ts) → HaveNames ts
+  others-names between no_trees room fits h = tt
+  others-names between (more_trees t ts) room fits h =
+      let r = texts-append (spell t) (spell_others between ts) h.1 in
+      (tree-names t room fits.0 r.0, others-names between ts room fits.1 r.1)
+
+flags-names : (flags : List Flag) → ExpectTexts (flat_map spell_flag flags ++ semicolon ∷ []) → HaveSigns flags
+flags-names [] h = tt
+flags-names (Assoc ∷ flags) h = (tt, flags-names flags h.1)
+flags-names (Comm ∷ flags) h = (tt, flags-names flags h.1)
+flags-names (One ∷ flags) h = (tt, flags-names flags h.1)
+flags-names (Infixed sign ∷ flags) h = (sign-name sign.text h.1.0, flags-names flags h.1.1)
+
+members-names : (members : List Spot) → ExpectTexts (map spelled_word members ++ semicolon ∷ []) → AreNames members
+members-names [] h = tt
+members-names (m ∷ members) h = (word-name m.text h.0, members-names members h.1)
 
 named-names : (name : Spot) (e : Tree) → Fits 100 e → ExpectTexts (spell_named name e) → IsName name.text × HasNames e
 named-names name e fits h = (word-name name.text h.0, tree-names e 100 fits (texts-append (spell e) _ h.1.1).0)
 
 statement-names : (s : Statement) → FitsStatement s → ExpectTexts (spell_statement s) → StatementHasNames s
-statement-names (OpOf name least) fits h = (word-name name.text h.1.0, word-name least.text h.1.1.0)
+statement-names (OpOf name least more flags) fits h =
+    let r = texts-append (spell_plus more) (flat_map spell_flag flags ++ semicolon ∷ []) h.1.1.1 in
+    (word-name name.text h.1.0, word-name least.text h.1.1.0, flags-names flags r.1)
+statement-names (KindOf name members) fits h = (word-name name.text h.1.0, members-names members h.1.1.1)
 statement-names (RuleOf name e) fits h = named-names name e fits h.1
 statement-names (SubjectOf name e) fits h = named-names name e fits h.1
 

@@ -1,15 +1,17 @@
 -- Steps of the machine, and runs over one token.
-use Rattle.std.proofs.Common.{◌≡◌, ℕ, suc, ◌+◌, ◌<◌, true, false, cond, List, [], ◌∷◌, ◌++◌, length, Result, refl, ap, ◌∙◌, arith}
+use Rattle.std.proofs.Common.{◌≡◌, ℕ, suc, ◌+◌, ◌<◌, true, false, cond, List, [], ◌∷◌, ◌++◌, length, None, Result, refl, ap, ◌∙◌, arith}
 use Rattle.std.proofs.lemmas.Bool.{lt-leb}
+use Rattle.mp_syntax.specs.declared.place.Place.{Place}
 use Rattle.mp_syntax.specs.declared.token.Punct.{Punct}
-use Rattle.mp_syntax.specs.declared.token.Punct.TheVariants.{Open, Close, Comma}
+use Rattle.mp_syntax.specs.declared.token.Punct.TheVariants.{Open, Close, Comma, Semicolon}
 use Rattle.mp_syntax.specs.declared.fault.Fault.{Fault}
+use Rattle.mp_syntax.specs.declared.fault.FaultKind.TheVariants.{TooDeep}
 use Rattle.mp_syntax.specs.declared.fault.SyntaxError.{SyntaxError}
 use Rattle.mp_syntax.specs.declared.fault.SyntaxError.TheVariants as errors
 use Rattle.mp_syntax.specs.Tokens.{Token, Word, Wildcard, Sign, Arrow, Punctuation, Long, Bad, End, Placed}
 use Rattle.mp_syntax.specs.Lexing.{behind}
-use Rattle.mp_syntax.specs.Syntax.{Spot, Tree, Apply, trees, Statement}
-use Rattle.mp_syntax.specs.Machine.{State, Role, Step, Go, Heading, Frame, frame, BeforeExpr, AfterWord, AfterOpen, AfterExpr, is_punct, word_of, refuse, on_punct, step, step_expr, run}
+use Rattle.mp_syntax.specs.Syntax.{Spot, Tree, Apply, InfixOf, more_trees, trees, KindOf, Statement}
+use Rattle.mp_syntax.specs.Machine.{State, Role, Step, Go, Emit, Refuse, Heading, Frame, Arguments, Bracket, Operands, BeforeMember, AfterMember, BeforeExpr, AfterWord, AfterOpen, AfterExpr, is_punct, is_sign, word_of, dot_of, refuse, on_punct, on_word, step, step_open, step_dot, step_expr, run}
 use Rattle.mp_syntax.specs.Parsing.{onward, WantsPunct, Fails}
 
 -- behind a punctuation character lie the other tokens
@@ -27,22 +29,29 @@ behind-punct p Bad ts h = refl
 pub one-step : (done : List Statement) (at : State) (t : Placed) (new : List Placed) (s : Step) → behind t.token new ≡ new → step at t ≡ s → run done at (t ∷ behind t.token new) ≡ onward t.place done s new
 one-step done at t new s e f = ap (λ ts. onward t.place done (step at t) ts) e ∙ ap (λ s. onward t.place done s new) f
 
+-- a step over a punctuation character
+pub over-punct : (p : Punct) (t : Placed) (old new : List Placed) → old ≡ t ∷ behind t.token new → is_punct p t.token ≡ true → (done : List Statement) (at : State) (next : Step) → step at t ≡ next → run done at old ≡ onward t.place done next new
+over-punct p t old new e h done at next f = ap (run done at) e ∙ one-step done at t new next (behind-punct p t.token new h) f
+
 -- a punctuation character that the state has
 pub passes-punct : (p : Punct) (t : Placed) (old new : List Placed) → old ≡ t ∷ behind t.token new → is_punct p t.token ≡ true → (done : List Statement) (at : State) (next : Step) → WantsPunct t at p next → run done at old ≡ onward t.place done next new
-passes-punct p t old new e h done at next wants =
-    ap (run done at) e ∙ one-step done at t new next (behind-punct p t.token new h) (wants ∙ ap (λ b. cond b next (refuse t.token)) h)
+passes-punct p t old new e h done at next wants = over-punct p t old new e h done at next (wants ∙ ap (λ b. cond b next (refuse t.token)) h)
 
 -- what passes a punctuation character leaves one token less
 pub length-passed : (p : Punct) (t : Placed) (old new : List Placed) → old ≡ t ∷ behind t.token new → is_punct p t.token ≡ true → length old ≡ suc (length new)
 length-passed p t old new e h = ap length (e ∙ ap (λ ts. t ∷ ts) (behind-punct p t.token new h))
 
--- a step over a punctuation character
-pub over-punct : (p : Punct) (t : Placed) (old new : List Placed) → old ≡ t ∷ behind t.token new → is_punct p t.token ≡ true → (done : List Statement) (at next : State) → step at t ≡ Go next → run done at old ≡ run done next new
-over-punct p t old new e h done at next f = ap (run done at) e ∙ one-step done at t new (Go next) (behind-punct p t.token new h) f
-
 -- behind an argument that is read, where no comma follows, the bracket closes
-pub expr-closes : (h : Heading) (f : Frame) (k : List Frame) (e : Tree) (t : Placed) → is_punct Comma t.token ≡ false → WantsPunct t (AfterExpr h (f ∷ k) e) Close (Go (AfterExpr h k (Apply f.name (trees (f.args ++ e ∷ [])))))
-expr-closes h f k e t no-comma = ap (λ b. cond b (Go (BeforeExpr h (frame f.name (f.args ++ e ∷ []) ∷ k))) (on_punct Close t.token (Go (AfterExpr h k (Apply f.name (trees (f.args ++ e ∷ []))))))) no-comma
+pub expr-closes : (h : Heading) (name : Spot) (args : List Tree) (k : List Frame) (e : Tree) (t : Placed) → is_punct Comma t.token ≡ false → WantsPunct t (AfterExpr h (Arguments name args ∷ k) e) Close (Go (AfterExpr h k (Apply name (trees (args ++ e ∷ [])))))
+expr-closes h name args k e t no-comma = ap (λ b. cond b (Go (BeforeExpr h (Arguments name (args ++ e ∷ []) ∷ k))) (on_punct Close t.token (Go (AfterExpr h k (Apply name (trees (args ++ e ∷ []))))))) no-comma
+
+-- behind an operand that is read, where the sign doesn't follow, the bracket closes
+pub operand-closes : (h : Heading) (place : Place) (sign : Spot) (first : Tree) (others : List Tree) (k : List Frame) (e : Tree) (t : Placed) → is_sign sign.text t.token ≡ false → WantsPunct t (AfterExpr h (Operands place sign first others ∷ k) e) Close (Go (AfterExpr h k (InfixOf place sign (more_trees first (trees (others ++ e ∷ []))))))
+operand-closes h place sign first others k e t no-sign = ap (λ b. cond b (Go (BeforeExpr h (Operands place sign first (others ++ e ∷ []) ∷ k))) (on_punct Close t.token (Go (AfterExpr h k (InfixOf place sign (more_trees first (trees (others ++ e ∷ [])))))))) no-sign
+
+-- behind an operand the sign leads on
+pub operand-again : (h : Heading) (place : Place) (sign : Spot) (first : Tree) (others : List Tree) (k : List Frame) (e : Tree) (t : Placed) → is_sign sign.text t.token ≡ true → step (AfterExpr h (Operands place sign first others ∷ k) e) t ≡ Go (BeforeExpr h (Operands place sign first (others ++ e ∷ []) ∷ k))
+operand-again h place sign first others k e t is = ap (λ b. cond b (Go (BeforeExpr h (Operands place sign first (others ++ e ∷ []) ∷ k))) (on_punct Close t.token (Go (AfterExpr h k (InfixOf place sign (more_trees first (trees (others ++ e ∷ [])))))))) is
 
 -- a fault stays one along an equation
 pub fails-along : (e : SyntaxError) (x y : Result (List Statement) Fault) → x ≡ y → Fails e y → Fails e x
@@ -58,8 +67,29 @@ pub open-closes : (h : Heading) (k : List Frame) (w : Spot) (t : Placed) → is_
 open-closes h k w t e = rw e refl
 
 -- an application that is not closed at once has an argument
-pub open-expr : (done : List Statement) (h : Heading) (k : List Frame) (w : Spot) (t : Placed) (ts : List Placed) → is_punct Close t.token ≡ false → run done (AfterOpen h k w) (t ∷ ts) ≡ run done (BeforeExpr h (frame w [] ∷ k)) (t ∷ ts)
-open-expr done h k w t ts e = ap (λ b. onward t.place done (cond b (Go (AfterExpr h k (Apply w (trees [])))) (step_expr h (frame w [] ∷ k) t (word_of t.token))) ts) e
+pub open-expr : (done : List Statement) (h : Heading) (k : List Frame) (w : Spot) (t : Placed) (ts : List Placed) → is_punct Close t.token ≡ false → run done (AfterOpen h k w) (t ∷ ts) ≡ run done (BeforeExpr h (Arguments w [] ∷ k)) (t ∷ ts)
+open-expr done h k w t ts e = ap (λ b. onward t.place done (cond b (Go (AfterExpr h k (Apply w (trees [])))) (step_expr 100 h (Arguments w [] ∷ k) t (word_of t.token))) ts) e
+
+-- a bracket is no word
+pub bracket-no_word : (t : Token) → is_punct Open t ≡ true → word_of t ≡ None
+bracket-no_word (Punctuation p) h = refl
+bracket-no_word _ h = absurd cc
+
+-- the bracket of an infix expression
+pub bracket-step : (h : Heading) (k : List Frame) (t : Placed) → is_punct Open t.token ≡ true → step (BeforeExpr h k) t ≡ step_open 100 k (BeforeExpr h (Bracket t.place ∷ k))
+bracket-step h k t e = ap (step_expr 100 h k t) (bracket-no_word t.token e) ∙ ap (λ b. cond b (step_open 100 k (BeforeExpr h (Bracket t.place ∷ k))) (step_dot h k t (dot_of t.token))) e
+
+-- the same where there is room
+pub bracket-opens : (h : Heading) (k : List Frame) (t : Placed) (room : ℕ) → length k + room ≡ 100 → 0 < room → is_punct Open t.token ≡ true → step (BeforeExpr h k) t ≡ Go (BeforeExpr h (Bracket t.place ∷ k))
+bracket-opens h k t room len some e = bracket-step h k t e ∙ ap (λ b. cond b (Refuse TooDeep) (Go (BeforeExpr h (Bracket t.place ∷ k)))) (lt-leb 100 (length k) (omega (arith, len, some)))
+
+-- behind a member of a kind, where no semicolon follows, there is another member
+pub member-again : (done : List Statement) (name : Spot) (members : List Spot) (t : Placed) (ts : List Placed) → is_punct Semicolon t.token ≡ false → run done (AfterMember name members) (t ∷ ts) ≡ run done (BeforeMember name members) (t ∷ ts)
+member-again done name members t ts e = ap (λ b. onward t.place done (cond b (Emit (KindOf name members)) (on_word t (λ w. Go (AfterMember name (members ++ w ∷ []))))) ts) e
+
+-- behind a member of a kind the semicolon ends the statement
+pub members-end : (name : Spot) (members : List Spot) (t : Placed) → is_punct Semicolon t.token ≡ true → step (AfterMember name members) t ≡ Emit (KindOf name members)
+members-end name members t e = ap (λ b. cond b (Emit (KindOf name members)) (on_word t (λ w. Go (AfterMember name (members ++ w ∷ []))))) e
 
 -- the heading of an expression
 abbrev pub heading : Role → Spot → Heading

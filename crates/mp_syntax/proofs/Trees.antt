@@ -1,8 +1,9 @@
--- Trees and lists of trees, and the tree of an application.
+-- Trees and lists of trees, and the trees of applications and infix expressions.
 use Rattle.std.proofs.Common.{◌≡◌, List, [], ◌∷◌, map, Vec, Global, refl, ap, ◌∙◌}
 use mathlib.Core.Former.{Count}
+use Rattle.mp_syntax.specs.declared.place.Place.{Place}
 use Rattle.mp_syntax.specs.declared.place.Spot as code_spot
-use Rattle.mp_syntax.specs.declared.tree.Expr.{Expr, Apply, Apply', Row_of-Expr, end_of-Expr, more_of-Expr, items-the_row-Expr, items_hidden-the_row-Expr-0}
+use Rattle.mp_syntax.specs.declared.tree.Expr.{Expr, Apply, Apply', Infix, Infix', Row_of-Expr, end_of-Expr, more_of-Expr, items-the_row-Expr, items_hidden-the_row-Expr-0}
 use Rattle.mp_syntax.specs.Syntax as syntax
 use Rattle.mp_syntax.specs.Syntax.{Tree, Trees, trees, tree_list, no_trees, more_trees}
 use Rattle.mp_syntax.specs.View.{spot_of, expr_tree, row_trees}
@@ -19,6 +20,7 @@ tree_list-trees (t ∷ ts) = ap (λ l. t ∷ l) (tree_list-trees ts)
 
 abbrev row_of : Expr → (n : Count) × Row_of-Expr n
 row_of (Apply' _ _ row) = (_, row)
+row_of (Infix' _ _ _ row) = (_, row)
 row_of _ = (_, end_of-Expr)
 
 row_trees-row : (n : _) (row : Row_of-Expr n) → row_trees row ≡ trees (map expr_tree (items-the_row-Expr n row))
@@ -30,3 +32,9 @@ pub expr_tree-Apply : (f : code_spot.Spot) (v : Vec Expr Global) → expr_tree (
 expr_tree-Apply f v =
     let row = row_of (Apply f v) in
     ap (syntax.Apply (spot_of f)) (row_trees-row row.0 row.1 ∙ ap (λ l. trees (map expr_tree l)) (items_hidden-the_row-Expr-0 v))
+
+-- an infix expression is its bracket, its sign and the trees of its operands
+pub expr_tree-Infix : (place : Place) (sign : code_spot.Spot) (v : Vec Expr Global) → expr_tree (Infix place sign v) ≡ syntax.InfixOf place (spot_of sign) (trees (map expr_tree v.items))
+expr_tree-Infix place sign v =
+    let row = row_of (Infix place sign v) in
+    ap (syntax.InfixOf place (spot_of sign)) (row_trees-row row.0 row.1 ∙ ap (λ l. trees (map expr_tree l)) (items_hidden-the_row-Expr-0 v))

@@ -1,6 +1,7 @@
 -- What is read is what the bytes are, and the bytes are what is read.
-use Rattle.std.proofs.Common.{◌≡◌, ℕ, List, [], ◌∷◌, ◌++◌, map, Option, Some, Result, Ok, Err, Vec, Global, sym, ap, subst, ◌∙◌}
+use Rattle.std.proofs.Common.{◌≡◌, ℕ, Bool, true, false, List, [], ◌∷◌, ◌++◌, map, Option, Some, Result, Ok, Err, Vec, Global, sym, ap, subst, ◌∙◌}
 use Rattle.std.specs.Prelude.{◌↔◌, IfOk, IfErr}
+use Rattle.std.specs.List.{flat_map}
 use Rattle.mp_syntax.specs.declared.place.Place.{Place}
 use Rattle.mp_syntax.specs.declared.fault.Fault.{Fault}
 use Rattle.mp_syntax.specs.declared.fault.SyntaxError.{SyntaxError}
@@ -8,7 +9,7 @@ use Rattle.mp_syntax.specs.declared.fault.SyntaxError.TheVariants as errors
 use Rattle.mp_syntax.specs.declared.tree.Statement as code
 use Rattle.mp_syntax.specs.Tokens.{End, Placed, first_place}
 use Rattle.mp_syntax.specs.Lexing.{lexemes, token_at, behind}
-use Rattle.mp_syntax.specs.Syntax.{Tree, Symbol, Apply, Wild, Trees, no_trees, more_trees, Statement, OpOf, RuleOf, SubjectOf, Expected, Said, Stands, AllMatch, spell, spell_first, spell_others, spell_statement, spell_file, IsSyntaxOf, StatementsHaveNames}
+use Rattle.mp_syntax.specs.Syntax.{Spot, Tree, Symbol, Apply, InfixOf, Wild, Trees, no_trees, more_trees, Flag, Assoc, Comm, One, Infixed, Statement, OpOf, KindOf, RuleOf, SubjectOf, Expected, Said, Stands, AllMatch, spelled_word, another, comma, semicolon, spell, spell_first, spell_others, spell_operands, spell_plus, spell_flag, spell_statement, spell_file, IsSyntaxOf, StatementsHaveNames}
 use Rattle.mp_syntax.specs.View.{statement_tree}
 use Rattle.mp_syntax.specs.Machine.{Top, run}
 use Rattle.mp_syntax.specs.Parsing.{FileGives}
@@ -35,19 +36,40 @@ tokens-append (m ∷ a) b h k = (h.0, tokens-append a b h.1 k)
 mutual
   spell-tokens : (t : Tree) → ExpectTokens (spell t)
   spell-tokens (Symbol w) = (tt, tt)
-  spell-tokens (Apply f args) = (tt, (tt, first-tokens args))
+  spell-tokens (Apply f args) = (tt, (tt, first-tokens comma tt args))
+  spell-tokens (InfixOf place sign operands) = (tt, operands-tokens sign operands)
   spell-tokens (Wild w) = (tt, tt)
 
-  first-tokens : (ts : Trees) → ExpectTokens (spell_first ts)
-  first-tokens no_trees = (tt, tt)
-  first-tokens (more_trees t ts) = tokens-append (spell t) _ (spell-tokens t) (others-tokens ts)
+  first-tokens : (between : Expected) → IsToken (expected_token between) → (ts : Trees) → ExpectTokens (spell_first between ts)
+  first-tokens between h no_trees = (tt, tt)
+  first-tokens between h (more_trees t ts) = tokens-append (spell t) _ (spell-tokens t) (others-tokens between h ts)
 
-  others-tokens : (ts : Trees) → ExpectTokens (spell_others ts)
-  others-tokens no_trees = (tt, tt)
-  others-tokens (more_trees t ts) = (tt, tokens-append (spell t) _ (spell-tokens t) (others-tokens ts))
+  others-tokens : (between : Expected) → IsToken (expected_token between) → (ts : Trees) → ExpectTokens (spell_others between ts)
+  others-tokens between h no_trees = (tt, tt)
+  others-tokens between h (more_trees t ts) = (h, tokens-append (spell t) _ (spell-tokens t) (others-tokens between h ts))
+
+  operands-tokens : (sign : Spot) (ts : Trees) → ExpectTokens (spell_operands sign ts)
+  operands-tokens sign no_trees = (tt, tt)
+  operands-tokens sign (more_trees t ts) = tokens-append (spell t) _ (spell-tokens t) (tt, first-tokens (another sign) tt ts)
+
+plus-tokens : (more : Bool) → ExpectTokens (spell_plus more)
+plus-tokens true = (tt, tt)
+plus-tokens false = tt
+
+flags-tokens : (flags : List Flag) → ExpectTokens (flat_map spell_flag flags ++ semicolon ∷ [])
+flags-tokens [] = (tt, tt)
+flags-tokens (Assoc ∷ flags) = (tt, flags-tokens flags)
+flags-tokens (Comm ∷ flags) = (tt, flags-tokens flags)
+flags-tokens (One ∷ flags) = (tt, flags-tokens flags)
+flags-tokens (Infixed sign ∷ flags) = (tt, (tt, flags-tokens flags))
+
+members-tokens : (members : List Spot) → ExpectTokens (map spelled_word members ++ semicolon ∷ [])
+members-tokens [] = (tt, tt)
+members-tokens (m ∷ members) = (tt, members-tokens members)
 
 statement-tokens : (s : Statement) → ExpectTokens (spell_statement s)
-statement-tokens (OpOf name least) = (tt, (tt, (tt, (tt, tt))))
+statement-tokens (OpOf name least more flags) = (tt, (tt, (tt, tokens-append (spell_plus more) _ (plus-tokens more) (flags-tokens flags))))
+statement-tokens (KindOf name members) = (tt, (tt, (tt, members-tokens members)))
 statement-tokens (RuleOf name t) = (tt, (tt, (tt, tokens-append (spell t) _ (spell-tokens t) (tt, tt))))
 statement-tokens (SubjectOf name t) = (tt, (tt, (tt, tokens-append (spell t) _ (spell-tokens t) (tt, tt))))
 

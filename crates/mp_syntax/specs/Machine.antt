@@ -10,8 +10,8 @@ use Rattle.mp_syntax.specs.declared.fault.FaultKind.{FaultKind}
 use Rattle.mp_syntax.specs.declared.fault.FaultKind.TheVariants.{Syntax, TooDeep, BadByte, TooMany}
 use Rattle.mp_syntax.specs.declared.fault.Fault.{Fault}
 use Rattle.mp_syntax.specs.Tokens as tokens
-use Rattle.mp_syntax.specs.Tokens.{Token, Word, Punctuation, Long, Bad, End, Placed}
-use Rattle.mp_syntax.specs.Syntax.{Spot, Tree, Symbol, Apply, Wild, trees, Statement, OpOf, RuleOf, SubjectOf}
+use Rattle.mp_syntax.specs.Tokens.{Token, Word, Sign, Punctuation, Long, Bad, End, Placed}
+use Rattle.mp_syntax.specs.Syntax.{Spot, Tree, Symbol, Apply, InfixOf, Wild, more_trees, trees, Flag, Assoc, Comm, One, Infixed, Statement, OpOf, KindOf, RuleOf, SubjectOf}
 
 -- ---- tests on tokens
 
@@ -45,6 +45,16 @@ abbrev pub word_of : Token → Option (List ℕ)
 word_of (Word w) = Some w
 word_of _ = None
 
+-- the text of a sign
+abbrev pub sign_of : Token → Option (List ℕ)
+sign_of (Sign s) = Some s
+sign_of _ = None
+
+-- the token is this sign
+abbrev pub is_sign : List ℕ → Token → Bool
+is_sign text (Sign s) = bytes_eq s text
+is_sign text _ = false
+
 -- the name of a named wildcard with one underscore and no kind
 abbrev pub dot_of : Token → Option (List ℕ)
 dot_of (tokens.Wildcard (b ∷ bs) (suc zero) []) = Some (b ∷ bs)
@@ -66,22 +76,36 @@ abbrev pub statement_of : Role → Spot → Tree → Statement
 statement_of OfRule name t = RuleOf name t
 statement_of OfSubject name t = SubjectOf name t
 
--- an application whose bracket is open: its name, and its arguments so far
-pub record Frame : Type 0 where
+-- an open bracket: of an application, with its name and arguments so far; or of an infix expression, before its first sign, or behind it with the sign, the first operand and the others so far
+pub data Frame : Type 0 where
+  Arguments : Spot → List Tree → Frame
+  Bracket : Place → Frame
+  Operands : Place → Spot → Tree → List Tree → Frame
+
+-- an operation: its name, its number, whether it takes more arguments, and its flags so far
+pub record Declared : Type 0 where
   pub name : Spot
-  pub args : List Tree
+  pub least : Spot
+  pub more : Bool
+  pub flags : List Flag
 
 -- the statement that an expression is in
 pub record Heading : Type 0 where
   pub role : Role
   pub name : Spot
 
--- what is read of a statement; the innermost open application comes first
+-- what is read of a statement; the innermost open bracket comes first
 pub data State : Type 0 where
   Top : State
   AfterOp : State
   AfterOpName : Spot → State
   AfterLeast : Spot → Spot → State
+  AfterFlags : Declared → State
+  AfterInfix : Declared → State
+  AfterKind : State
+  AfterKindName : Spot → State
+  BeforeMember : Spot → List Spot → State
+  AfterMember : Spot → List Spot → State
   AfterRole : Role → State
   AfterName : Heading → State
   BeforeExpr : Heading → List Frame → State
@@ -112,68 +136,120 @@ refuse t = Refuse (refusal t)
 abbrev pub spot : List ℕ → Place → Spot
 spot text place = record { text = text; place = place }
 
--- an application with these arguments so far
-abbrev pub frame : Spot → List Tree → Frame
-frame name args = record { name = name; args = args }
-
 -- only this punctuation character leads on
 abbrev pub on_punct : Punct → Token → Step → Step
 on_punct p t next = if is_punct p t then next else refuse t
 
+-- only a token with a text leads on
+abbrev pub on_text : Placed → (Spot → Step) → Option (List ℕ) → Step
+on_text t next (Some w) = next (spot w t.place)
+on_text t next None = refuse t.token
+
 -- only a word leads on
-abbrev pub on_word : Placed → (Spot → Step) → Option (List ℕ) → Step
-on_word t next (Some w) = next (spot w t.place)
-on_word t next None = refuse t.token
+abbrev pub on_word : Placed → (Spot → Step) → Step
+on_word t next = on_text t next (word_of t.token)
+
+-- only a sign leads on
+abbrev pub on_sign : Placed → (Spot → Step) → Step
+on_sign t next = on_text t next (sign_of t.token)
 
 -- which statement begins with this word
 abbrev pub keyword : List ℕ → Step
 keyword w =
     if bytes_eq w (codes "op") then Go AfterOp
+    else (if bytes_eq w (codes "kind") then Go AfterKind
     else (if bytes_eq w (codes "rule") then Go (AfterRole OfRule)
     else (if bytes_eq w (codes "subject") then Go (AfterRole OfSubject)
-    else Refuse Syntax))
+    else Refuse Syntax)))
 
 -- between statements
 abbrev pub step_top : Placed → Step
-step_top t = if is_end t.token then Finish else on_word t (λ w. keyword w.text) (word_of t.token)
+step_top t = if is_end t.token then Finish else on_word t (λ w. keyword w.text)
 
 -- a number
 abbrev pub step_number : Spot → Spot → Step
 step_number name w = if is_number w.text then Go (AfterLeast name w) else Refuse Syntax
+
+-- an operation with these flags so far
+abbrev pub declared : Spot → Spot → Bool → List Flag → Declared
+declared name least more flags = record { name = name; least = least; more = more; flags = flags }
+
+-- one flag more
+abbrev pub with_flag : Declared → Flag → Declared
+with_flag d f = declared d.name d.least d.more (d.flags ++ f ∷ [])
+
+-- which flag begins with this word
+abbrev pub step_flag : Declared → List ℕ → Step
+step_flag d w =
+    if bytes_eq w (codes "assoc") then Go (AfterFlags (with_flag d Assoc))
+    else (if bytes_eq w (codes "comm") then Go (AfterFlags (with_flag d Comm))
+    else (if bytes_eq w (codes "one") then Go (AfterFlags (with_flag d One))
+    else (if bytes_eq w (codes "infix") then Go (AfterInfix d)
+    else Refuse Syntax)))
+
+-- the token behind the number or a flag
+abbrev pub step_flags : Declared → Placed → Step
+step_flags d t =
+    if is_punct Semicolon t.token then Emit (OpOf d.name d.least d.more d.flags)
+    else on_word t (λ w. step_flag d w.text)
+
+-- the token behind a member of a kind
+abbrev pub step_members : Spot → List Spot → Placed → Step
+step_members name members t =
+    if is_punct Semicolon t.token then Emit (KindOf name members)
+    else on_word t (λ w. Go (AfterMember name (members ++ w ∷ [])))
 
 -- a wildcard
 abbrev pub step_dot : Heading → List Frame → Placed → Option (List ℕ) → Step
 step_dot h k t (Some name) = Go (AfterExpr h k (Wild (record { name = name; marks = 1; kind = []; place = t.place })))
 step_dot h k t None = refuse t.token
 
--- the first token of an expression
-abbrev pub step_expr : Heading → List Frame → Placed → Option (List ℕ) → Step
-step_expr h k t (Some w) = Go (AfterWord h k (spot w t.place))
-step_expr h k t None = step_dot h k t (dot_of t.token)
+-- a bracket leads on, where fewer than limit are open
+abbrev pub step_open : ℕ → List Frame → State → Step
+step_open limit k next = if nat_le limit (length k) then Refuse TooDeep else Go next
+
+-- the first token of an expression, where at most limit brackets may stand open
+abbrev pub step_expr : ℕ → Heading → List Frame → Placed → Option (List ℕ) → Step
+step_expr limit h k t (Some w) = Go (AfterWord h k (spot w t.place))
+step_expr limit h k t None =
+    if is_punct Open t.token then step_open limit k (BeforeExpr h (Bracket t.place ∷ k))
+    else step_dot h k t (dot_of t.token)
 
 -- the token behind an expression
-abbrev pub step_behind : Heading → List Frame → Tree → Token → Step
-step_behind h [] e t = on_punct Semicolon t (Emit (statement_of h.role h.name e))
-step_behind h (f ∷ k) e t =
-    if is_punct Comma t then Go (BeforeExpr h (frame f.name (f.args ++ e ∷ []) ∷ k))
-    else on_punct Close t (Go (AfterExpr h k (Apply f.name (trees (f.args ++ e ∷ [])))))
+abbrev pub step_behind : Heading → List Frame → Tree → Placed → Step
+step_behind h [] e t = on_punct Semicolon t.token (Emit (statement_of h.role h.name e))
+step_behind h (Arguments name args ∷ k) e t =
+    if is_punct Comma t.token then Go (BeforeExpr h (Arguments name (args ++ e ∷ []) ∷ k))
+    else on_punct Close t.token (Go (AfterExpr h k (Apply name (trees (args ++ e ∷ [])))))
+step_behind h (Bracket place ∷ k) e t = on_sign t (λ sign. Go (BeforeExpr h (Operands place sign e [] ∷ k)))
+step_behind h (Operands place sign first others ∷ k) e t =
+    if is_sign sign.text t.token then Go (BeforeExpr h (Operands place sign first (others ++ e ∷ []) ∷ k))
+    else on_punct Close t.token (Go (AfterExpr h k (InfixOf place sign (more_trees first (trees (others ++ e ∷ []))))))
 
 -- what a token does, where at most limit brackets may stand open
 abbrev pub step_in : ℕ → State → Placed → Step
 step_in limit Top t = step_top t
-step_in limit AfterOp t = on_word t (λ w. Go (AfterOpName w)) (word_of t.token)
-step_in limit (AfterOpName name) t = on_word t (λ w. step_number name w) (word_of t.token)
-step_in limit (AfterLeast name least) t = on_punct Semicolon t.token (Emit (OpOf name least))
-step_in limit (AfterRole role) t = on_word t (λ w. Go (AfterName (record { role = role; name = w }))) (word_of t.token)
+step_in limit AfterOp t = on_word t (λ w. Go (AfterOpName w))
+step_in limit (AfterOpName name) t = on_word t (λ w. step_number name w)
+step_in limit (AfterLeast name least) t =
+    if is_sign (codes "+") t.token then Go (AfterFlags (declared name least true []))
+    else step_flags (declared name least false []) t
+step_in limit (AfterFlags d) t = step_flags d t
+step_in limit (AfterInfix d) t = on_sign t (λ sign. Go (AfterFlags (with_flag d (Infixed sign))))
+step_in limit AfterKind t = on_word t (λ w. Go (AfterKindName w))
+step_in limit (AfterKindName name) t = on_punct Colon t.token (Go (BeforeMember name []))
+step_in limit (BeforeMember name members) t = on_word t (λ w. Go (AfterMember name (members ++ w ∷ [])))
+step_in limit (AfterMember name members) t = step_members name members t
+step_in limit (AfterRole role) t = on_word t (λ w. Go (AfterName (record { role = role; name = w })))
 step_in limit (AfterName h) t = on_punct Colon t.token (Go (BeforeExpr h []))
-step_in limit (BeforeExpr h k) t = step_expr h k t (word_of t.token)
+step_in limit (BeforeExpr h k) t = step_expr limit h k t (word_of t.token)
 step_in limit (AfterWord h k w) t =
-    if is_punct Open t.token then (if nat_le limit (length k) then Refuse TooDeep else Go (AfterOpen h k w))
-    else step_behind h k (Symbol w) t.token
+    if is_punct Open t.token then step_open limit k (AfterOpen h k w)
+    else step_behind h k (Symbol w) t
 step_in limit (AfterOpen h k w) t =
     if is_punct Close t.token then Go (AfterExpr h k (Apply w (trees [])))
-    else step_expr h (frame w [] ∷ k) t (word_of t.token)
-step_in limit (AfterExpr h k e) t = step_behind h k e t.token
+    else step_expr limit h (Arguments w [] ∷ k) t (word_of t.token)
+step_in limit (AfterExpr h k e) t = step_behind h k e t
 
 -- what a token does, where at most 100 brackets may stand open
 abbrev pub step : State → Placed → Step

@@ -1,5 +1,5 @@
 -- What each function of the parser gives, as an equation between two runs of the machine.
-use Rattle.std.specs.Prelude.{◌≡◌, ℕ, ◌+◌, List, [], ◌∷◌, ◌++◌, length, map, Option, Some, None, Result, Ok, Err}
+use Rattle.std.specs.Prelude.{◌≡◌, ℕ, ◌+◌, Bool, List, [], ◌∷◌, ◌++◌, length, map, Option, Some, None, Result, Ok, Err}
 use Rattle.std.specs.Global.{Vec}
 use Rattle.mp_syntax.specs.declared.place.Place.{Place}
 use Rattle.mp_syntax.specs.declared.place.Spot as code_spot
@@ -9,15 +9,18 @@ use Rattle.mp_syntax.specs.declared.fault.FaultKind.TheVariants.{Syntax}
 use Rattle.mp_syntax.specs.declared.fault.SyntaxError.{SyntaxError}
 use Rattle.mp_syntax.specs.declared.fault.SyntaxError.TheVariants as errors
 use Rattle.mp_syntax.specs.declared.parser.Parser.{Parser}
+use Rattle.mp_syntax.specs.declared.declaration.FlagWord.{FlagWord}
+use Rattle.mp_syntax.specs.declared.declaration.FlagWord.TheVariants as flag_words
 use Rattle.mp_syntax.specs.declared.statement.Keyword.{Keyword}
 use Rattle.mp_syntax.specs.declared.statement.Keyword.TheVariants as keywords
 use Rattle.mp_syntax.specs.declared.tree.Expr.{Expr}
+use Rattle.mp_syntax.specs.declared.tree.Flag as code_flag
 use Rattle.mp_syntax.specs.declared.tree.Statement as code
-use Rattle.mp_syntax.specs.Tokens.{Placed}
+use Rattle.mp_syntax.specs.Tokens.{Token, Placed}
 use Rattle.mp_syntax.specs.Lexing.{placed, behind, lexemes, token_of}
-use Rattle.mp_syntax.specs.Syntax.{Spot, Apply, Statement, trees}
-use Rattle.mp_syntax.specs.View.{spot_of, expr_tree, statement_tree}
-use Rattle.mp_syntax.specs.Machine.{State, Top, AfterOp, AfterOpName, AfterLeast, AfterRole, BeforeExpr, AfterWord, AfterExpr, Step, Go, Refuse, Role, OfRule, OfSubject, statement_of, Heading, Frame, frame, on_punct, on_word, word_of, step, after_step, run}
+use Rattle.mp_syntax.specs.Syntax.{Spot, Tree, Apply, InfixOf, Assoc, Comm, One, OpOf, KindOf, Statement, trees}
+use Rattle.mp_syntax.specs.View.{spot_of, flag_of, expr_tree, statement_tree}
+use Rattle.mp_syntax.specs.Machine.{State, Top, AfterOp, AfterOpName, AfterLeast, AfterFlags, AfterInfix, AfterKind, BeforeMember, AfterRole, BeforeExpr, AfterWord, AfterExpr, Step, Go, Refuse, Role, OfRule, OfSubject, statement_of, Heading, Frame, Arguments, Operands, Declared, declared, with_flag, on_punct, on_text, step, after_step, run}
 
 -- the tokens from the one held on
 abbrev pub ahead : Parser → List Placed
@@ -41,19 +44,55 @@ abbrev pub PunctGives : Placed → Punct → Result (Unit {0}) SyntaxError → L
 PunctGives t p (Ok u) old new = (done : List Statement) (at : State) (next : Step) → WantsPunct t at p next → run done at old ≡ onward t.place done next new
 PunctGives t p (Err e) old new = (done : List Statement) (at : State) (next : Step) → WantsPunct t at p next → Fails e (run done at old)
 
--- the state has a word
-abbrev pub WantsWord : State → (Spot → State) → Type 0
-WantsWord at next = (t : Placed) → step at t ≡ on_word t (λ w. Go (next w)) (word_of t.token)
+-- the state has a token with a text
+abbrev pub WantsText : (Token → Option (List ℕ)) → State → (Spot → State) → Type 0
+WantsText text_of at next = (t : Placed) → step at t ≡ on_text t (λ w. Go (next w)) (text_of t.token)
 
--- a word is passed, or refused
-abbrev pub WordGives : Result code_spot.Spot SyntaxError → List Placed → List Placed → Type 0
-WordGives (Ok w) old new = (done : List Statement) (at : State) (next : Spot → State) → WantsWord at next → run done at old ≡ run done (next (spot_of w)) new
-WordGives (Err e) old new = (done : List Statement) (at : State) (next : Spot → State) → WantsWord at next → Fails e (run done at old)
+-- a token with a text is passed, or refused
+abbrev pub TextGives : (Token → Option (List ℕ)) → Result code_spot.Spot SyntaxError → List Placed → List Placed → Type 0
+TextGives text_of (Ok w) old new = (done : List Statement) (at : State) (next : Spot → State) → WantsText text_of at next → run done at old ≡ run done (next (spot_of w)) new
+TextGives text_of (Err e) old new = (done : List Statement) (at : State) (next : Spot → State) → WantsText text_of at next → Fails e (run done at old)
 
 -- the number of an operation is passed, or refused
 abbrev pub NumberGives : Result code_spot.Spot SyntaxError → List Placed → List Placed → Type 0
 NumberGives (Ok w) old new = (done : List Statement) (name : Spot) → run done (AfterOpName name) old ≡ run done (AfterLeast name (spot_of w)) new
 NumberGives (Err e) old new = (done : List Statement) (name : Spot) → Fails e (run done (AfterOpName name) old)
+
+-- a plus behind the number is passed, where it stands there
+abbrev pub PlusGives : Bool → List Placed → List Placed → Type 0
+PlusGives more old new = (done : List Statement) (name least : Spot) → run done (AfterLeast name least) old ≡ run done (AfterFlags (declared name least more [])) new
+
+-- the state behind the word of a flag
+abbrev pub behind_flag_word : Declared → FlagWord → State
+behind_flag_word d flag_words.Assoc = AfterFlags (with_flag d Assoc)
+behind_flag_word d flag_words.Comm = AfterFlags (with_flag d Comm)
+behind_flag_word d flag_words.One = AfterFlags (with_flag d One)
+behind_flag_word d flag_words.Infix = AfterInfix d
+
+-- the step over the word of a flag
+abbrev pub flag_step : Declared → Option FlagWord → Step
+flag_step d (Some f) = Go (behind_flag_word d f)
+flag_step d None = Refuse Syntax
+
+-- the word of a flag is passed, or refused
+abbrev pub FlagWordGives : Result FlagWord SyntaxError → List Placed → List Placed → Type 0
+FlagWordGives (Ok f) old new = (done : List Statement) (d : Declared) → run done (AfterFlags d) old ≡ run done (behind_flag_word d f) new
+FlagWordGives (Err e) old new = (done : List Statement) (d : Declared) → Fails e (run done (AfterFlags d) old)
+
+-- a flag is passed, or refused
+abbrev pub FlagGives : Result code_flag.Flag SyntaxError → List Placed → List Placed → Type 0
+FlagGives (Ok f) old new = (done : List Statement) (d : Declared) → run done (AfterFlags d) old ≡ run done (AfterFlags (with_flag d (flag_of f))) new
+FlagGives (Err e) old new = (done : List Statement) (d : Declared) → Fails e (run done (AfterFlags d) old)
+
+-- flags and the semicolon are passed, or the first fault is given
+abbrev pub FlagsGive : Result (List code_flag.Flag) SyntaxError → List Placed → List Placed → Type 0
+FlagsGive (Ok fs) old new = (done : List Statement) (name least : Spot) (more : Bool) → run done (AfterFlags (declared name least more [])) old ≡ run (done ++ OpOf name least more (map flag_of fs) ∷ []) Top new
+FlagsGive (Err e) old new = (done : List Statement) (name least : Spot) (more : Bool) → Fails e (run done (AfterFlags (declared name least more [])) old)
+
+-- the members of a kind and the semicolon are passed, or the first fault is given
+abbrev pub MembersGive : Result (List code_spot.Spot) SyntaxError → List Placed → List Placed → Type 0
+MembersGive (Ok ws) old new = (done : List Statement) (name : Spot) → run done (BeforeMember name []) old ≡ run (done ++ KindOf name (map spot_of ws) ∷ []) Top new
+MembersGive (Err e) old new = (done : List Statement) (name : Spot) → Fails e (run done (BeforeMember name []) old)
 
 -- an expression is passed, with room brackets more to open, or the first fault is given
 abbrev pub ExprGives : ℕ → Result Expr SyntaxError → List Placed → List Placed → Type 0
@@ -67,17 +106,23 @@ WordLeads room w (Err e) old new = (done : List Statement) (h : Heading) (k : Li
 
 -- arguments are passed up to the closing bracket, or the first fault is given
 abbrev pub ArgumentsGive : ℕ → Result (List Expr) SyntaxError → List Placed → List Placed → Type 0
-ArgumentsGive room (Ok es) old new = (done : List Statement) (h : Heading) (k : List Frame) (w : Spot) → length k + room ≡ 99 → run done (BeforeExpr h (frame w [] ∷ k)) old ≡ run done (AfterExpr h k (Apply w (trees (map expr_tree es)))) new
-ArgumentsGive room (Err e) old new = (done : List Statement) (h : Heading) (k : List Frame) (w : Spot) → length k + room ≡ 99 → Fails e (run done (BeforeExpr h (frame w [] ∷ k)) old)
+ArgumentsGive room (Ok es) old new = (done : List Statement) (h : Heading) (k : List Frame) (w : Spot) → length k + room ≡ 99 → run done (BeforeExpr h (Arguments w [] ∷ k)) old ≡ run done (AfterExpr h k (Apply w (trees (map expr_tree es)))) new
+ArgumentsGive room (Err e) old new = (done : List Statement) (h : Heading) (k : List Frame) (w : Spot) → length k + room ≡ 99 → Fails e (run done (BeforeExpr h (Arguments w [] ∷ k)) old)
+
+-- operands behind the first sign are passed up to the closing bracket, or the first fault is given
+abbrev pub OperandsGive : ℕ → Tree → Spot → Result (List Expr) SyntaxError → List Placed → List Placed → Type 0
+OperandsGive room first sign (Ok es) old new = (done : List Statement) (h : Heading) (k : List Frame) (place : Place) → length k + room ≡ 99 → run done (BeforeExpr h (Operands place sign first [] ∷ k)) old ≡ run done (AfterExpr h k (InfixOf place sign (trees (map expr_tree es)))) new
+OperandsGive room first sign (Err e) old new = (done : List Statement) (h : Heading) (k : List Frame) (place : Place) → length k + room ≡ 99 → Fails e (run done (BeforeExpr h (Operands place sign first [] ∷ k)) old)
 
 -- the items of a vector, or the error
-abbrev pub items_of : Result (Vec Expr) SyntaxError → Result (List Expr) SyntaxError
+abbrev pub items_of : {A : Type 0} → Result (Vec A) SyntaxError → Result (List A) SyntaxError
 items_of (Ok v) = Ok v.items
 items_of (Err e) = Err e
 
 -- the state behind a keyword
 abbrev pub start_of : Keyword → State
 start_of keywords.Op = AfterOp
+start_of keywords.Kind = AfterKind
 start_of keywords.Rule = AfterRole OfRule
 start_of keywords.Subject = AfterRole OfSubject
 

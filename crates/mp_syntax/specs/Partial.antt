@@ -1,28 +1,42 @@
 -- What a state has read of its statement, as a spelling.
-use Rattle.std.specs.Prelude.{List, [], ◌∷◌, ◌++◌, codes}
+use Rattle.std.specs.Prelude.{List, [], ◌∷◌, ◌++◌, map, codes}
 use Rattle.std.specs.List.{flat_map}
 use Rattle.mp_syntax.specs.declared.token.Punct.TheVariants.{Open, Colon}
 use Rattle.mp_syntax.specs.Tokens.{Punctuation}
-use Rattle.mp_syntax.specs.Syntax.{Tree, Expected, Said, spell, spelled_word, fixed_word, comma}
-use Rattle.mp_syntax.specs.Machine.{Role, OfRule, OfSubject, Frame, Heading, State, Top, AfterOp, AfterOpName, AfterLeast, AfterRole, AfterName, BeforeExpr, AfterWord, AfterOpen, AfterExpr}
+use Rattle.mp_syntax.specs.Syntax.{Spot, Tree, Expected, Said, Stands, spell, spell_plus, spell_flag, spelled_word, spelled_sign, another, fixed_word, comma}
+use Rattle.mp_syntax.specs.Machine.{Role, OfRule, OfSubject, Frame, Arguments, Bracket, Operands, Declared, Heading, State, Top, AfterOp, AfterOpName, AfterLeast, AfterFlags, AfterInfix, AfterKind, AfterKindName, BeforeMember, AfterMember, AfterRole, AfterName, BeforeExpr, AfterWord, AfterOpen, AfterExpr}
 
 -- the word that a statement of this role begins with
 abbrev pub role_word : Role → Expected
 role_word OfRule = fixed_word (codes "rule")
 role_word OfSubject = fixed_word (codes "subject")
 
--- an argument and the comma behind it
-abbrev pub with_comma : Tree → List Expected
-with_comma e = spell e ++ comma ∷ []
+-- an expression and the token behind it
+abbrev pub spell_before : Expected → Tree → List Expected
+spell_before between e = spell e ++ between ∷ []
+
+-- an operation up to its flags
+abbrev pub spell_declared : Declared → List Expected
+spell_declared d = fixed_word (codes "op") ∷ spelled_word d.name ∷ spelled_word d.least ∷ (spell_plus d.more ++ flat_map spell_flag d.flags)
+
+-- a kind up to its members
+abbrev pub spell_members : Spot → List Spot → List Expected
+spell_members name members = fixed_word (codes "kind") ∷ spelled_word name ∷ Said (Punctuation Colon) ∷ map spelled_word members
 
 -- the tokens before an expression
 abbrev pub spell_heading : Heading → List Expected
 spell_heading h = role_word h.role ∷ spelled_word h.name ∷ Said (Punctuation Colon) ∷ []
 
--- open applications, the outermost first
+-- an open bracket and what stands behind it
+abbrev pub spell_frame : Frame → List Expected
+spell_frame (Arguments name args) = spelled_word name ∷ Said (Punctuation Open) ∷ flat_map (spell_before comma) args
+spell_frame (Bracket place) = Stands (Punctuation Open) place ∷ []
+spell_frame (Operands place sign first others) = Stands (Punctuation Open) place ∷ spell first ++ spelled_sign sign ∷ flat_map (spell_before (another sign)) others
+
+-- open brackets, the outermost first
 abbrev pub spell_frames : List Frame → List Expected
 spell_frames [] = []
-spell_frames (f ∷ k) = spell_frames k ++ (spelled_word f.name ∷ Said (Punctuation Open) ∷ flat_map with_comma f.args)
+spell_frames (f ∷ k) = spell_frames k ++ spell_frame f
 
 -- the tokens that a state has read
 abbrev pub so_far : State → List Expected
@@ -30,6 +44,12 @@ so_far Top = []
 so_far AfterOp = fixed_word (codes "op") ∷ []
 so_far (AfterOpName name) = fixed_word (codes "op") ∷ spelled_word name ∷ []
 so_far (AfterLeast name least) = fixed_word (codes "op") ∷ spelled_word name ∷ spelled_word least ∷ []
+so_far (AfterFlags d) = spell_declared d
+so_far (AfterInfix d) = spell_declared d ++ fixed_word (codes "infix") ∷ []
+so_far AfterKind = fixed_word (codes "kind") ∷ []
+so_far (AfterKindName name) = fixed_word (codes "kind") ∷ spelled_word name ∷ []
+so_far (BeforeMember name members) = spell_members name members
+so_far (AfterMember name members) = spell_members name members
 so_far (AfterRole role) = role_word role ∷ []
 so_far (AfterName h) = role_word h.role ∷ spelled_word h.name ∷ []
 so_far (BeforeExpr h k) = spell_heading h ++ spell_frames k

@@ -1,11 +1,11 @@
 -- The syntax trees of a rule file, and the grammar: how statements are spelled by tokens.
-use Rattle.std.specs.Prelude.{◌≡◌, ◌≢◌, true, ℕ, zero, suc, List, [], ◌∷◌, ◌++◌, codes}
+use Rattle.std.specs.Prelude.{◌≡◌, ◌≢◌, Bool, true, false, ℕ, zero, suc, List, [], ◌∷◌, ◌++◌, map, codes}
 use Rattle.std.specs.Char.{is_ascii_digit}
 use Rattle.std.specs.List.{flat_map, list_all}
 use Rattle.mp_syntax.specs.declared.place.Place.{Place}
 use Rattle.mp_syntax.specs.declared.token.Punct.TheVariants.{Open, Close, Comma, Semicolon, Colon}
 use Rattle.mp_syntax.specs.Tokens as tokens
-use Rattle.mp_syntax.specs.Tokens.{Token, Word, Punctuation, Placed, Tokens, first_place, IsWord, IsShort}
+use Rattle.mp_syntax.specs.Tokens.{Token, Word, Sign, Punctuation, Placed, Tokens, first_place, IsWord, IsShort, IsSign}
 
 -- ---- trees
 
@@ -21,11 +21,12 @@ pub record Wildcard : Type 0 where
   pub kind : List ℕ
   pub place : Place
 
--- expressions and lists of them
+-- expressions and lists of them; an infix one has the place of its bracket, its sign at the first place, and all operands
 mutual
   pub data Tree : Type 0 where
     Symbol : Spot → Tree
     Apply : Spot → Trees → Tree
+    InfixOf : Place → Spot → Trees → Tree
     Wild : Wildcard → Tree
 
   pub data Trees : Type 0 where
@@ -42,9 +43,17 @@ abbrev pub tree_list : Trees → List Tree
 tree_list no_trees = []
 tree_list (more_trees t ts) = t ∷ tree_list ts
 
--- op NAME LEAST; rule NAME: PATTERN; subject NAME: TERM;
+-- assoc, comm, one, infix SIGN
+pub data Flag : Type 0 where
+  Assoc : Flag
+  Comm : Flag
+  One : Flag
+  Infixed : Spot → Flag
+
+-- op NAME LEAST[+] FLAG ..; kind NAME: MEMBER ..; rule NAME: PATTERN; subject NAME: TERM;
 pub data Statement : Type 0 where
-  OpOf : Spot → Spot → Statement
+  OpOf : Spot → Spot → Bool → List Flag → Statement
+  KindOf : Spot → List Spot → Statement
   RuleOf : Spot → Tree → Statement
   SubjectOf : Spot → Tree → Statement
 
@@ -75,6 +84,14 @@ spelled_word s = Stands (Word s.text) s.place
 abbrev pub spelled_wildcard : Wildcard → Expected
 spelled_wildcard w = Stands (tokens.Wildcard w.name w.marks w.kind) w.place
 
+-- the sign of a spot, at its place
+abbrev pub spelled_sign : Spot → Expected
+spelled_sign s = Stands (Sign s.text) s.place
+
+-- the same sign once more, wherever it stands
+abbrev pub another : Spot → Expected
+another s = Said (Sign s.text)
+
 -- a word that a statement has by its form
 abbrev pub fixed_word : List ℕ → Expected
 fixed_word w = Said (Word w)
@@ -87,28 +104,53 @@ comma = Said (Punctuation Comma)
 abbrev pub closing : Expected
 closing = Said (Punctuation Close)
 
--- expr = WORD | WORD "(" [expr ("," expr)*] ")" | wildcard
+-- a semicolon
+abbrev pub semicolon : Expected
+semicolon = Said (Punctuation Semicolon)
+
+-- expr = WORD | WORD "(" [expr ("," expr)*] ")" | "(" expr s expr (s expr)* ")" with one SIGN s | wildcard
 abbrev mutual
   pub spell : Tree → List Expected
   spell (Symbol w) = spelled_word w ∷ []
-  spell (Apply f args) = spelled_word f ∷ Said (Punctuation Open) ∷ spell_first args
+  spell (Apply f args) = spelled_word f ∷ Said (Punctuation Open) ∷ spell_first comma args
+  spell (InfixOf opened sign operands) = Stands (Punctuation Open) opened ∷ spell_operands sign operands
   spell (Wild w) = spelled_wildcard w ∷ []
 
-  pub spell_first : Trees → List Expected
-  spell_first no_trees = closing ∷ []
-  spell_first (more_trees t ts) = spell t ++ spell_others ts
+  -- expressions with this token between them, and the closing bracket
+  pub spell_first : Expected → Trees → List Expected
+  spell_first between no_trees = closing ∷ []
+  spell_first between (more_trees t ts) = spell t ++ spell_others between ts
 
-  pub spell_others : Trees → List Expected
-  spell_others no_trees = closing ∷ []
-  spell_others (more_trees t ts) = comma ∷ spell t ++ spell_others ts
+  -- the same behind an expression
+  pub spell_others : Expected → Trees → List Expected
+  spell_others between no_trees = closing ∷ []
+  spell_others between (more_trees t ts) = between ∷ spell t ++ spell_others between ts
+
+  -- operands with the sign between them, and the closing bracket
+  pub spell_operands : Spot → Trees → List Expected
+  spell_operands sign no_trees = closing ∷ []
+  spell_operands sign (more_trees t ts) = spell t ++ spelled_sign sign ∷ spell_first (another sign) ts
 
 -- WORD ":" expr ";"
 abbrev pub spell_named : Spot → Tree → List Expected
-spell_named name t = spelled_word name ∷ Said (Punctuation Colon) ∷ spell t ++ Said (Punctuation Semicolon) ∷ []
+spell_named name t = spelled_word name ∷ Said (Punctuation Colon) ∷ spell t ++ semicolon ∷ []
 
--- statement = "op" WORD NUM ";" | "rule" WORD ":" expr ";" | "subject" WORD ":" expr ";"
+-- ["+"]
+abbrev pub spell_plus : Bool → List Expected
+spell_plus true = Said (Sign (codes "+")) ∷ []
+spell_plus false = []
+
+-- flag = "assoc" | "comm" | "one" | "infix" SIGN
+abbrev pub spell_flag : Flag → List Expected
+spell_flag Assoc = fixed_word (codes "assoc") ∷ []
+spell_flag Comm = fixed_word (codes "comm") ∷ []
+spell_flag One = fixed_word (codes "one") ∷ []
+spell_flag (Infixed sign) = fixed_word (codes "infix") ∷ spelled_sign sign ∷ []
+
+-- statement = "op" WORD NUM ["+"] flag* ";" | "kind" WORD ":" WORD WORD* ";" | "rule" WORD ":" expr ";" | "subject" WORD ":" expr ";"
 abbrev pub spell_statement : Statement → List Expected
-spell_statement (OpOf name least) = fixed_word (codes "op") ∷ spelled_word name ∷ spelled_word least ∷ Said (Punctuation Semicolon) ∷ []
+spell_statement (OpOf name least more flags) = fixed_word (codes "op") ∷ spelled_word name ∷ spelled_word least ∷ (spell_plus more ++ (flat_map spell_flag flags ++ semicolon ∷ []))
+spell_statement (KindOf name members) = fixed_word (codes "kind") ∷ spelled_word name ∷ Said (Punctuation Colon) ∷ (map spelled_word members ++ semicolon ∷ [])
 spell_statement (RuleOf name t) = fixed_word (codes "rule") ∷ spell_named name t
 spell_statement (SubjectOf name t) = fixed_word (codes "subject") ∷ spell_named name t
 
@@ -124,21 +166,30 @@ pub record IsNamedDot (w : Wildcard) : Type 0 where
   pub dot : w.marks ≡ 1
   pub plain : w.kind ≡ []
 
--- the wildcards are named dots, and at most room brackets stand open at once
+-- two expressions or more
+abbrev pub AreSeveral : Trees → Type 0
+AreSeveral no_trees = ⊥
+AreSeveral (more_trees t no_trees) = ⊥
+AreSeveral (more_trees t (more_trees u us)) = Unit {0}
+
+-- the wildcards are named dots, infix expressions have two operands or more, and at most room brackets stand open at once
 abbrev mutual
   pub Fits : ℕ → Tree → Type 0
   Fits room (Symbol w) = Unit {0}
   Fits zero (Apply f args) = ⊥
   Fits (suc room) (Apply f args) = AreFit room args
+  Fits zero (InfixOf opened sign operands) = ⊥
+  Fits (suc room) (InfixOf opened sign operands) = AreSeveral operands × AreFit room operands
   Fits room (Wild w) = IsNamedDot w
 
   pub AreFit : ℕ → Trees → Type 0
   AreFit room no_trees = Unit {0}
   AreFit room (more_trees t ts) = Fits room t × AreFit room ts
 
--- the number of an operation is of digits alone, and an expression has at most 100 brackets open at once
+-- the number of an operation is of digits alone, a kind has a member, and an expression has at most 100 brackets open at once
 abbrev pub FitsStatement : Statement → Type 0
-FitsStatement (OpOf name least) = list_all is_ascii_digit least.text ≡ true
+FitsStatement (OpOf name least more flags) = list_all is_ascii_digit least.text ≡ true
+FitsStatement (KindOf name members) = members ≢ []
 FitsStatement (RuleOf name t) = Fits 100 t
 FitsStatement (SubjectOf name t) = Fits 100 t
 
@@ -154,24 +205,48 @@ pub record IsName (word : List ℕ) : Type 0 where
   pub is_word : IsWord word
   pub is_short : IsShort word
 
--- each symbol, each name before a bracket and each name of a wildcard is a word of at most 64 bytes
+-- one or more sign bytes, and not the arrow
+pub record IsInfixSign (sign : List ℕ) : Type 0 where
+  pub is_sign : IsSign sign
+  pub no_arrow : sign ≢ codes "->"
+
+-- each symbol, each name before a bracket and each name of a wildcard is a word of at most 64 bytes, and each sign is one
 abbrev mutual
   pub HasNames : Tree → Type 0
   HasNames (Symbol w) = IsName w.text
   HasNames (Apply f args) = IsName f.text × HaveNames args
+  HasNames (InfixOf opened sign operands) = IsInfixSign sign.text × HaveNames operands
   HasNames (Wild w) = IsName w.name
 
   pub HaveNames : Trees → Type 0
   HaveNames no_trees = Unit {0}
   HaveNames (more_trees t ts) = HasNames t × HaveNames ts
 
--- each word of the statement is one of at most 64 bytes
+-- the sign of the flag is one, where it has a sign
+abbrev pub HasSign : Flag → Type 0
+HasSign Assoc = Unit {0}
+HasSign Comm = Unit {0}
+HasSign One = Unit {0}
+HasSign (Infixed sign) = IsInfixSign sign.text
+
+-- each sign of the flags is one
+abbrev pub HaveSigns : List Flag → Type 0
+HaveSigns [] = Unit {0}
+HaveSigns (f ∷ fs) = HasSign f × HaveSigns fs
+
+-- each of them is a word of at most 64 bytes
+abbrev pub AreNames : List Spot → Type 0
+AreNames [] = Unit {0}
+AreNames (w ∷ ws) = IsName w.text × AreNames ws
+
+-- each word of the statement is one of at most 64 bytes, and each sign is one
 abbrev pub StatementHasNames : Statement → Type 0
-StatementHasNames (OpOf name least) = IsName name.text × IsName least.text
+StatementHasNames (OpOf name least more flags) = IsName name.text × IsName least.text × HaveSigns flags
+StatementHasNames (KindOf name members) = IsName name.text × AreNames members
 StatementHasNames (RuleOf name t) = IsName name.text × HasNames t
 StatementHasNames (SubjectOf name t) = IsName name.text × HasNames t
 
--- each word of the statements is one of at most 64 bytes
+-- each word of the statements is one of at most 64 bytes, and each sign is one
 abbrev pub StatementsHaveNames : List Statement → Type 0
 StatementsHaveNames [] = Unit {0}
 StatementsHaveNames (s ∷ ss) = StatementHasNames s × StatementsHaveNames ss

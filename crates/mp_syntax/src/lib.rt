@@ -1,7 +1,8 @@
 //! The text of rule files: tokens, grammar, and the reading of statements as syntax trees with places.
 #![tactic(auto)]
 
-mod expr;
+mod declaration;
+mod expression;
 pub mod fault;
 mod lexer;
 mod parser;
@@ -15,4 +16,4 @@ pub mod tree;
 pub use crate::fault::{Fault, FaultKind, SyntaxError};
 pub use crate::place::{Place, Spot};
 pub use crate::statement::read_statements;
-pub use crate::tree::{Expr, Statement, Wildcard};
+pub use crate::tree::{Expr, Flag, Statement, Wildcard};

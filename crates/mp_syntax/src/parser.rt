@@ -3,8 +3,8 @@
 ghost use Rattle.std.specs.Prelude.{◌≡◌, ◌<◌, ◌-◌, ◌^◌, ◌∷◌, length, OnOk};
 ghost use Rattle.mp_syntax.specs.Tokens.{first_place};
 ghost use Rattle.mp_syntax.specs.Lexing.{placed, token_of, behind, lexemes};
-ghost use Rattle.mp_syntax.specs.Machine.{is_punct, is_end, is_number, refusal};
-ghost use Rattle.mp_syntax.specs.Parsing.{ahead, PunctGives, WordGives, NumberGives};
+ghost use Rattle.mp_syntax.specs.Machine.{is_punct, is_sign, is_end, is_number, word_of, sign_of, refusal};
+ghost use Rattle.mp_syntax.specs.Parsing.{ahead, PunctGives, TextGives, NumberGives};
 
 use crate::fault::{Fault, FaultKind, SyntaxError};
 use crate::lexer::Lexer;
@@ -65,6 +65,16 @@ impl<'a> Parser<'a> {
         }
     }
 
+    /// Whether this sign is held.
+    pub fn sees_sign(&self, text: &[u8]) -> bool
+        ensures { result ≡ is_sign text.now (token_of self.now.token.kind) }
+    {
+        match self.token.kind {
+            Kind::Sign(held) => held == text,
+            _ => false,
+        }
+    }
+
     /// Whether the end is held.
     pub fn is_at_end(&self) -> bool
         ensures { result ≡ is_end (token_of self.now.token.kind) }
@@ -86,11 +96,26 @@ impl<'a> Parser<'a> {
 
     /// Passes a word and gives it, or refuses the token that is held.
     pub fn word(&mut self) -> Result<Spot<'a>, SyntaxError>
-        ensures read { WordGives result (ahead self.old) (ahead self.new) }
+        ensures read { TextGives word_of result (ahead self.old) (ahead self.new) }
         ensures shorter { OnOk result (length (ahead self.new) < length (ahead self.old)) }
     {
         match self.token.kind {
             Kind::Word(text) => {
+                let place = self.token.place;
+                self.advance();
+                Ok(Spot { text, place })
+            }
+            _ => Err(self.refused()),
+        }
+    }
+
+    /// Passes a sign other than the arrow and gives it, or refuses the token that is held.
+    pub fn sign(&mut self) -> Result<Spot<'a>, SyntaxError>
+        ensures read { TextGives sign_of result (ahead self.old) (ahead self.new) }
+        ensures shorter { OnOk result (length (ahead self.new) < length (ahead self.old)) }
+    {
+        match self.token.kind {
+            Kind::Sign(text) => {
                 let place = self.token.place;
                 self.advance();
                 Ok(Spot { text, place })

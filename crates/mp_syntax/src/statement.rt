@@ -3,9 +3,10 @@
 ghost use Rattle.std.specs.Prelude.{◌≡◌, ◌<◌, ◌≤◌, ◌-◌, ◌^◌, ◌↔◌, ℕ, List, Some, Err, false, length, map, OnOk, IfOk, IfErr};
 ghost use Rattle.mp_syntax.specs.Tokens.{first_place};
 ghost use Rattle.mp_syntax.specs.Lexing.{token_of, lexemes};
-ghost use Rattle.mp_syntax.specs.Machine.{is_end, keyword, AfterOp, Top, run};
+ghost use Rattle.mp_syntax.specs.Machine.{is_end, keyword, Top};
 ghost use Rattle.mp_syntax.specs.Syntax as syntax;
-ghost use Rattle.mp_syntax.specs.Syntax.{IsSyntaxOf, StatementsHaveNames};
+ghost use Rattle.mp_syntax.specs.Syntax.{IsSyntaxOf, StatementsHaveNames, AreStatements};
+ghost use Rattle.mp_syntax.specs.Printed.{statements_text, unplaced};
 ghost use Rattle.mp_syntax.specs.View.{statement_tree};
 ghost use Rattle.mp_syntax.specs.Parsing.{ahead, StatementFrom, NamedExprGives, KeywordGives, FileGives, keyword_step};
 ghost use Rattle.mp_syntax.specs.Reading.{reading, syntax_of, IfFault, IsOkOrMemory};
@@ -25,6 +26,8 @@ const MAX_OPEN: usize = 100;
 enum Keyword {
     /// `op`
     Op,
+    /// `kind`
+    Kind,
     /// `rule`
     Rule,
     /// `subject`
@@ -52,7 +55,7 @@ pub fn read_statements<'a>(
 
     // What is answered is what the bytes are.
     ensures found { IfOk result (λ v. IsSyntaxOf bytes.now (map statement_tree v.items)) }
-    // Each word of it is 1 to 64 letters and digits.
+    // Each word of it is 1 to 64 letters and digits, and each sign is of sign bytes and not the arrow.
     ensures names { IfOk result (λ v. StatementsHaveNames (map statement_tree v.items)) }
     // What the bytes are is answered, unless memory runs out.
     ensures only { (file : List syntax.Statement) → IsSyntaxOf bytes.now file → IsOkOrMemory result (λ read. read ≡ file) }
@@ -69,11 +72,20 @@ pub fn syntax_is_a_function()
     ensures { (bytes : List ℕ) (file : List syntax.Statement) → IsSyntaxOf bytes file ↔ (syntax_of bytes ≡ Some file) }
 {}
 
-/// Law: each word of the statements of bytes is 1 to 64 letters and digits.
+/// Law: each word of the statements of bytes is 1 to 64 letters and digits, and each sign is one or
+/// more sign bytes and not the arrow, by `StatementsHaveNames` of `specs/Syntax.antt`.
 ///
 /// It does nothing when it runs.
 pub fn syntax_has_names()
     ensures { (bytes : List ℕ) (file : List syntax.Statement) → IsSyntaxOf bytes file → StatementsHaveNames file }
+{}
+
+/// Law: the text that statements are printed as, `statements_text` of `specs/Printed.antt`, is read as those statements, apart from
+/// the places where they stand.
+///
+/// Of the statements each word is a word and each expression fits, as of all that are read. It does nothing when it runs.
+pub fn printed_statements_are_read()
+    ensures { (file : List syntax.Statement) → StatementsHaveNames file → AreStatements file → (read : List syntax.Statement) × IsSyntaxOf (statements_text file) read × (map unplaced read ≡ map unplaced file) }
 {}
 
 /// Reads all statements, or the first fault.
@@ -98,7 +110,8 @@ impl<'a> Parser<'a> {
         ensures shorter { OnOk result (length (ahead self.new) < length (ahead self.old)) }
     {
         match self.keyword()? {
-            Keyword::Op => self.op(),
+            Keyword::Op => self.op(alloc),
+            Keyword::Kind => self.kind(alloc),
             Keyword::Rule => {
                 let (name, pattern) = self.named_expr(alloc)?;
                 Ok(Statement::Rule { name, pattern })
@@ -108,17 +121,6 @@ impl<'a> Parser<'a> {
                 Ok(Statement::Subject { name, term })
             }
         }
-    }
-
-    /// Reads what follows `op`: a name, a number and the semicolon.
-    fn op(&mut self) -> Result<Statement<'a>, SyntaxError>
-        ensures read { StatementFrom AfterOp result (ahead self.old) (ahead self.new) }
-        ensures shorter { OnOk result (length (ahead self.new) ≤ length (ahead self.old)) }
-    {
-        let name = self.word()?;
-        let least = self.number()?;
-        self.expect(Punct::Semicolon)?;
-        Ok(Statement::Op { name, least })
     }
 
     /// Reads a name, a colon, an expression and the semicolon.
@@ -159,6 +161,8 @@ fn keyword_of(word: &[u8]) -> Option<Keyword>
 {
     if word == b"op".as_slice() {
         Some(Keyword::Op)
+    } else if word == b"kind".as_slice() {
+        Some(Keyword::Kind)
     } else if word == b"rule".as_slice() {
         Some(Keyword::Rule)
     } else if word == b"subject".as_slice() {

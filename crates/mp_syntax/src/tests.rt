@@ -1,7 +1,9 @@
 use crate::fault::{FaultKind, SyntaxError};
-use crate::statement::{read_statements, syntax_has_names, syntax_is_a_function};
+use crate::statement::{
+    printed_statements_are_read, read_statements, syntax_has_names, syntax_is_a_function,
+};
 use crate::token::{tokens_are_total, tokens_are_unique};
-use crate::tree::{Expr, Statement};
+use crate::tree::{Expr, Flag, Statement};
 use std::alloc::Global;
 use std::test::Fail;
 
@@ -21,16 +23,16 @@ fn first_fault(alloc: Global, text: &[u8]) -> Result<First, Fail> {
     }
 }
 
-/// `subject s: ` and a word in so many brackets.
-fn nested(alloc: Global, depth: usize) -> Result<Vec<u8>, Fail> {
+/// A subject of so many brackets in one another, each opened and closed like this.
+fn nested(alloc: Global, depth: usize, open: &[u8], close: &[u8]) -> Result<Vec<u8>, Fail> {
     let mut text = Vec::new(alloc);
     text.extend_from_slice(b"op u 1; subject s: ")?;
     for _ in 0..depth {
-        text.extend_from_slice(b"u(")?;
+        text.extend_from_slice(open)?;
     }
     text.push(b'a')?;
     for _ in 0..depth {
-        text.push(b')')?;
+        text.extend_from_slice(close)?;
     }
     text.push(b';')?;
     Ok(text)
@@ -49,7 +51,7 @@ fn declared(alloc: Global, length: usize) -> Result<Vec<u8>, Fail> {
 
 #[test]
 fn texts_are_read_or_refused_at_a_token(rt: HostRuntime) -> Result<(), Fail> {
-    let rows: [(&[u8], First); 27] = [
+    let rows: [(&[u8], First); 48] = [
         (b"", None),
         (b" \t\r\n# a comment # and more, to the end", None),
         (b"op f 2;", None),
@@ -60,13 +62,10 @@ fn texts_are_read_or_refused_at_a_token(rt: HostRuntime) -> Result<(), Fail> {
         ),
         (b"# {\nop f 2; # \xc3\xa9\nsubject s: a;", None),
         (b"subject s: \xc3\xa9;", Some((FaultKind::BadByte, 1, 12))),
-        (b"subject s: (a);", Some((FaultKind::Syntax, 1, 12))),
         (b"op f 2", Some((FaultKind::Syntax, 1, 7))),
         (b"op f 2;\n\nop", Some((FaultKind::Syntax, 3, 3))),
         (b"op f x;", Some((FaultKind::Syntax, 1, 6))),
-        (b"op f 2+;", Some((FaultKind::Syntax, 1, 7))),
         (b"op f_ 2;", Some((FaultKind::Syntax, 1, 4))),
-        (b"kind k: a;", Some((FaultKind::Syntax, 1, 1))),
         (b"Op f 2;", Some((FaultKind::Syntax, 1, 1))),
         (b"rule r: ;", Some((FaultKind::Syntax, 1, 9))),
         (b"rule r f;", Some((FaultKind::Syntax, 1, 8))),
@@ -80,6 +79,33 @@ fn texts_are_read_or_refused_at_a_token(rt: HostRuntime) -> Result<(), Fail> {
         (b"rule r: _;", Some((FaultKind::Syntax, 1, 9))),
         (b"rule r: f(x_) -> a;", Some((FaultKind::Syntax, 1, 15))),
         (b"rule r: f(x_)\r\n\t[a];", Some((FaultKind::Syntax, 2, 2))),
+        (b"op f 2+; op g 0 + assoc comm one infix *;", None),
+        (b"op assoc 1 comm; op infix 1 infix ++ infix -;", None),
+        (b"op op 1 comm; kind kind: kind;", None),
+        (b"op f 2 ++;", Some((FaultKind::Syntax, 1, 8))),
+        (b"op f 2 assoc +;", Some((FaultKind::Syntax, 1, 14))),
+        (b"op f 2 assoc 3;", Some((FaultKind::Syntax, 1, 14))),
+        (b"op f 2 infix;", Some((FaultKind::Syntax, 1, 13))),
+        (b"op f 2 infix ->;", Some((FaultKind::Syntax, 1, 14))),
+        (b"kind k: a b 1;", None),
+        (b"kind k: ;", Some((FaultKind::Syntax, 1, 9))),
+        (b"kind k: a, b;", Some((FaultKind::Syntax, 1, 10))),
+        (b"kind k: a", Some((FaultKind::Syntax, 1, 10))),
+        (b"subject s: (a + (b * c * f((d - e))) + g());", None),
+        (b"rule r: (x_ + (y_ - x_));", None),
+        (b"subject s: (a);", Some((FaultKind::Syntax, 1, 14))),
+        (b"subject s: ();", Some((FaultKind::Syntax, 1, 13))),
+        (b"subject s: (a +);", Some((FaultKind::Syntax, 1, 16))),
+        (b"subject s: (a + b * c);", Some((FaultKind::Syntax, 1, 19))),
+        (
+            b"subject s: (a ++ b + c);",
+            Some((FaultKind::Syntax, 1, 20)),
+        ),
+        (b"subject s: (a + b, c);", Some((FaultKind::Syntax, 1, 18))),
+        (b"subject s: (a -> b);", Some((FaultKind::Syntax, 1, 15))),
+        (b"subject s: (a + b", Some((FaultKind::Syntax, 1, 18))),
+        (b"subject s: f(a + b);", Some((FaultKind::Syntax, 1, 16))),
+        (b"subject s: a + b;", Some((FaultKind::Syntax, 1, 14))),
     ];
     for (text, wanted) in rows {
         assert_eq!(rt; first_fault(rt.alloc(), text)?, wanted);
@@ -90,20 +116,36 @@ fn texts_are_read_or_refused_at_a_token(rt: HostRuntime) -> Result<(), Fail> {
 #[test]
 fn limits_are_met_exactly(rt: HostRuntime) -> Result<(), Fail> {
     let alloc = rt.alloc();
-    assert_eq!(rt; first_fault(alloc, &nested(alloc, 100)?)?, None);
+    assert_eq!(rt;
+        first_fault(alloc, &nested(alloc, 100, b"u(", b")")?)?,
+        None
+    );
     let too_deep = Some((FaultKind::TooDeep, 1, 221));
-    assert_eq!(rt; first_fault(alloc, &nested(alloc, 101)?)?, too_deep);
+    assert_eq!(rt;
+        first_fault(alloc, &nested(alloc, 101, b"u(", b")")?)?,
+        too_deep
+    );
+    assert_eq!(rt;
+        first_fault(alloc, &nested(alloc, 100, b"(", b"+b)")?)?,
+        None
+    );
+    let too_deep = Some((FaultKind::TooDeep, 1, 120));
+    assert_eq!(rt;
+        first_fault(alloc, &nested(alloc, 101, b"(", b"+b)")?)?,
+        too_deep
+    );
     assert_eq!(rt; first_fault(alloc, &declared(alloc, 64)?)?, None);
     let too_long = Some((FaultKind::TooMany, 1, 4));
     assert_eq!(rt; first_fault(alloc, &declared(alloc, 65)?)?, too_long);
     Ok(())
 }
 
-/// The first word of an expression, its line and its column.
+/// The word of an expression, or its sign, its line and its column.
 fn first_word<'a>(expr: &Expr<'a>) -> (&'a [u8], u32, u32) {
     match expr {
         Expr::Symbol(spot) => (spot.text, spot.place.line, spot.place.column),
         Expr::Apply(spot, _) => (spot.text, spot.place.line, spot.place.column),
+        Expr::Infix { sign, .. } => (sign.text, sign.place.line, sign.place.column),
         Expr::Wild(wildcard) => (wildcard.name, wildcard.place.line, wildcard.place.column),
     }
 }
@@ -132,9 +174,79 @@ fn trees_keep_words_and_places(rt: HostRuntime) -> Result<(), Fail> {
     Ok(())
 }
 
+/// The column of the sign of a flag, or 0.
+fn sign_column(flag: Flag) -> u32 {
+    match flag {
+        Flag::Infix(sign) => sign.place.column,
+        _ => 0,
+    }
+}
+
+#[test]
+fn declarations_keep_their_order(rt: HostRuntime) -> Result<(), Fail> {
+    let file = read_statements(rt.alloc(), b"op f 2+ comm infix *;\nkind k: b a;")?;
+    match file.get(0) {
+        Some(
+            Statement::Op {
+                name,
+                least,
+                open,
+                flags,
+            },
+        ) => {
+            assert_eq!(rt; name.text, b"f".as_slice());
+            assert_eq!(rt; least.place.column, 6);
+            assert!(rt; *open);
+            match flags.as_slice() {
+                [Flag::Comm, second] => assert_eq!(rt; sign_column(*second), 20),
+                _ => Err("not the flags")?,
+            }
+        }
+        _ => Err("not the operation")?,
+    }
+    match file.get(1) {
+        Some(Statement::Kind { name, members }) => {
+            assert_eq!(rt; name.place.column, 6);
+            match members.as_slice() {
+                [first, second] => {
+                    assert_eq!(rt; first.text, b"b".as_slice());
+                    assert_eq!(rt; second.place.column, 11);
+                }
+                _ => Err("not two members")?,
+            }
+        }
+        _ => Err("not the kind")?,
+    }
+    Ok(())
+}
+
+#[test]
+fn operands_keep_their_order(rt: HostRuntime) -> Result<(), Fail> {
+    let file = read_statements(rt.alloc(), b"subject s: (a * b * c);")?;
+    match file.get(0) {
+        Some(Statement::Subject { name: _, term }) => {
+            assert_eq!(rt; first_word(term), (b"*".as_slice(), 1, 15));
+            match term {
+                Expr::Infix {
+                    open,
+                    sign: _,
+                    operands,
+                } => {
+                    assert_eq!(rt; open.column, 12);
+                    assert_eq!(rt; operands.len(), 3);
+                }
+                _ => Err("no infix expression")?,
+            }
+        }
+        _ => Err("not the subject")?,
+    }
+    Ok(())
+}
+
 #[test]
 fn laws_do_nothing(_rt: HostRuntime) -> Result<(), Fail> {
     syntax_is_a_function();
+    printed_statements_are_read();
     syntax_has_names();
     tokens_are_unique();
     tokens_are_total();

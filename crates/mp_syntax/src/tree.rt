@@ -26,8 +26,32 @@ pub enum Expr<'a> {
     Symbol(Spot<'a>),
     /// A word, and in brackets behind it any number of arguments.
     Apply(Spot<'a>, Vec<Expr<'a>>),
+    /// In brackets two operands or more, with one sign between each two of them.
+    Infix {
+        /// The place of the opening bracket.
+        open: Place,
+        /// The sign, at the place where it stands first.
+        sign: Spot<'a>,
+        /// The operands, in order; what is read has two or more.
+        operands: Vec<Expr<'a>>,
+    },
     /// A wildcard.
     Wild(Wildcard<'a>),
+}
+
+/// A flag of an operation.
+///
+/// As plain data it is a `Flag` of `specs/Syntax.antt`, by `flag_of` of `specs/View.antt`.
+#[derive(Clone, Copy, Debug)]
+pub enum Flag<'a> {
+    /// `assoc`
+    Assoc,
+    /// `comm`
+    Comm,
+    /// `one`
+    One,
+    /// `infix SIGN`, with the sign.
+    Infix(Spot<'a>),
 }
 
 /// A statement.
@@ -35,12 +59,23 @@ pub enum Expr<'a> {
 /// As plain data it is a `Statement` of `specs/Syntax.antt`, by `statement_tree` of `specs/View.antt`.
 #[derive(Debug, Drop)]
 pub enum Statement<'a> {
-    /// `op NAME LEAST;`
+    /// `op NAME LEAST FLAG ..;` or `op NAME LEAST+ FLAG ..;`
     Op {
         /// The name of the operation.
         name: Spot<'a>,
-        /// Its number of arguments, in digits.
+        /// Its least number of arguments, in digits.
         least: Spot<'a>,
+        /// Whether it takes more arguments: a `+` stands behind the number.
+        open: bool,
+        /// Its flags as they are written, in order.
+        flags: Vec<Flag<'a>>,
+    },
+    /// `kind NAME: MEMBER ..;`
+    Kind {
+        /// The name of the kind.
+        name: Spot<'a>,
+        /// The words behind the colon, in order; what is read has one or more.
+        members: Vec<Spot<'a>>,
     },
     /// `rule NAME: PATTERN;`
     Rule {

@@ -9,6 +9,7 @@ mod Declared
 mod Separated
 mod Parts
 mod PatternSize
+mod Spelled
 mod Pass
 mod FreeNormal
 pub mod Whole

@@ -9,4 +9,5 @@ pub mod Flags
 pub mod Reading
 pub mod Printing
 pub mod PrintedFile
+pub mod Spelled
 pub mod Sound

@@ -1,11 +1,14 @@
 //! Prints whole files.
 
-ghost use Rattle.std.specs.Prelude.{◌≡◌, map};
+ghost use Rattle.std.specs.Prelude.{◌≡◌, List, map};
 ghost use Rattle.std.specs.List.{flat_map};
 ghost use Rattle.mp_io.specs.Printing.{Prints};
 ghost use Rattle.mp_pattern.specs.RuleView.{rule_tree};
-ghost use Rattle.mp_text.specs.File.{subject_tree, file_tree};
+ghost use Rattle.mp_syntax.specs.Syntax.{Statement, IsSyntaxOf, AreStatements, StatementsHaveNames};
+ghost use Rattle.mp_syntax.specs.Printed.{unplaced};
+ghost use Rattle.mp_text.specs.File.{FileTree, subject_tree, file_tree};
 ghost use Rattle.mp_text.specs.PrintedFile.{rule_text, subject_text, file_text};
+ghost use Rattle.mp_text.specs.Spelled.{file_spelling};
 
 use crate::file::{File, Subject};
 use crate::pattern_printer::write_pattern;
@@ -28,6 +31,16 @@ pub fn write_file<K: Sink>(file: &File, sink: &mut K) -> Result<(), Failed>
     write_rules(&file.sig, file.rules.as_slice(), sink)?;
     write_subjects(&file.sig, file.subjects.as_slice(), sink)
 }
+
+/// Law: the text that a file is printed as, `file_text` of `specs/PrintedFile.antt`, is read as the statements of the file,
+/// `file_spelling` of `specs/Spelled.antt`, apart from the places where they stand.
+///
+/// It holds for a file whose statements the grammar has: each word is a word of 1 to 64 letters and digits, each sign a sign, each
+/// kind has a member, each wildcard is one that is read, and at most 100 brackets stand open at once. It does nothing when it runs.
+pub fn printed_file_is_its_statements()
+    ensures { (file : FileTree) → StatementsHaveNames (file_spelling file) → AreStatements (file_spelling file)
+        → (read : List Statement) × IsSyntaxOf (file_text file) read × (map unplaced read ≡ file_spelling file) }
+{}
 
 /// Appends the rules.
 fn write_rules<K: Sink>(sig: &Signature, rules: &[Rule], sink: &mut K) -> Result<(), Failed>

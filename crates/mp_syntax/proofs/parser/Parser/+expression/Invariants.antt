@@ -1,7 +1,9 @@
 use Rattle.std.proofs.Common.{◌≡◌, ◌≤◌, ◌+◌, ◌*◌, List, [], ◌∷◌, length, map}
+use Rattle.mp_syntax.specs.declared.place.Place.{Place}
+use Rattle.mp_syntax.specs.declared.tree.Expr.{Expr}
 use Rattle.mp_syntax.specs.Syntax.{Spot, Statement}
-use Rattle.mp_syntax.specs.Machine.{Heading, Frame, frame, BeforeExpr, run}
-use Rattle.mp_syntax.specs.View.{expr_tree}
+use Rattle.mp_syntax.specs.Machine.{Heading, Frame, Arguments, Operands, BeforeExpr, run}
+use Rattle.mp_syntax.specs.View.{spot_of, expr_tree}
 use Rattle.mp_syntax.specs.Parsing.{ahead}
 use Rattle.mp_syntax.proofs.parser.Parser.+expression.Given as goal
 
@@ -14,12 +16,30 @@ decreases-behind_word l = 3 * l.room + 1
 abbrev pub decreases-expr : goal.decreases-expr
 decreases-expr l = 3 * l.room + 2
 
+abbrev pub decreases-infix : goal.decreases-infix
+decreases-infix l = 3 * l.room + 1
+
+abbrev pub decreases-operands : goal.decreases-operands
+decreases-operands l = 3 * l.room + 3
+
 -- the arguments so far are those that the open application holds
 abbrev pub invariant-arguments-loop-args : goal.invariant-arguments-loop-args
 invariant-arguments-loop-args l = record {
-  read : (done : List Statement) (h : Heading) (k : List Frame) (w : Spot) → length k + l.room ≡ 99 → run done (BeforeExpr h (frame w [] ∷ k)) (ahead l.fn.self) ≡ run done (BeforeExpr h (frame w (map expr_tree l.args.items) ∷ k)) (ahead l.self);
+  read : (done : List Statement) (h : Heading) (k : List Frame) (w : Spot) → length k + l.room ≡ 99 → run done (BeforeExpr h (Arguments w [] ∷ k)) (ahead l.fn.self) ≡ run done (BeforeExpr h (Arguments w (map expr_tree l.args.items) ∷ k)) (ahead l.self);
   shorter : length (ahead l.self) ≤ length (ahead l.fn.self);
 }
 
 abbrev pub decreases-arguments-loop-args : goal.decreases-arguments-loop-args
 decreases-arguments-loop-args l = length (ahead l.self)
+
+-- the operands so far are the first, and the others that the open bracket holds
+abbrev pub invariant-operands-loop-operands : goal.invariant-operands-loop-operands
+invariant-operands-loop-operands l = record {
+  others : List Expr;
+  items : l.operands.items ≡ l.fn.first ∷ others;
+  read : (done : List Statement) (h : Heading) (k : List Frame) (place : Place) → length k + l.room ≡ 99 → run done (BeforeExpr h (Operands place (spot_of l.sign) (expr_tree l.fn.first) [] ∷ k)) (ahead l.fn.self) ≡ run done (BeforeExpr h (Operands place (spot_of l.sign) (expr_tree l.fn.first) (map expr_tree others) ∷ k)) (ahead l.self);
+  shorter : length (ahead l.self) ≤ length (ahead l.fn.self);
+}
+
+abbrev pub decreases-operands-loop-operands : goal.decreases-operands-loop-operands
+decreases-operands-loop-operands l = length (ahead l.self)

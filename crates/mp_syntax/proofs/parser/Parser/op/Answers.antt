@@ -1,6 +1,6 @@
 use Rattle.std.proofs.Common.{refl, ◌∙◌}
 use Rattle.std.proofs.lemmas.Result.{err_from_is_err_and}
-use Rattle.mp_syntax.specs.Machine.{AfterOp, AfterOpName, AfterLeast}
+use Rattle.mp_syntax.specs.Machine.{AfterOp, AfterOpName}
 use Rattle.mp_syntax.specs.View.{spot_of}
 use Rattle.mp_syntax.proofs.Runs.{fails-along}
 use Rattle.mp_syntax.proofs.parser.Parser.op.Goals as goal
@@ -17,16 +17,18 @@ returns-in_err-least-clause-read c =
     (c.in_ok-name.ensures.read done AfterOp AfterOpName (λ t. refl))
     (c.in_err-least.ensures.read done (spot_of c.in_ok-name.name)))
 
-pub returns-in_err-expect-clause-read : goal.returns-in_err-expect-clause-read
-returns-in_err-expect-clause-read c =
-    let p = err_from_is_err_and c.from_residual-in_err-expect.result c.from_residual-in_err-expect.ensures.1 in
+pub returns-in_err-flags-clause-read : goal.returns-in_err-flags-clause-read
+returns-in_err-flags-clause-read c =
+    let p = err_from_is_err_and c.from_residual-in_err-flags.result c.from_residual-in_err-flags.ensures.1 in
     rw (p.1, p.2) (λ done. fails-along _ _ _
     (c.in_ok-name.ensures.read done AfterOp AfterOpName (λ t. refl)
-    ∙ c.in_ok-least.ensures.read done (spot_of c.in_ok-name.name))
-    (c.in_err-expect.ensures.read done (AfterLeast (spot_of c.in_ok-name.name) (spot_of c.in_ok-least.least)) _ refl))
+    ∙ c.in_ok-least.ensures.read done (spot_of c.in_ok-name.name)
+    ∙ c.plus-open.ensures.read done (spot_of c.in_ok-name.name) (spot_of c.in_ok-least.least))
+    (c.in_err-flags.ensures.read done (spot_of c.in_ok-name.name) (spot_of c.in_ok-least.least) c.plus-open.result))
 
 pub returns-clause-read : goal.returns-clause-read
 returns-clause-read c = λ done.
     c.in_ok-name.ensures.read done AfterOp AfterOpName (λ t. refl)
     ∙ c.in_ok-least.ensures.read done (spot_of c.in_ok-name.name)
-    ∙ c.in_ok-expect.ensures.read done (AfterLeast (spot_of c.in_ok-name.name) (spot_of c.in_ok-least.least)) _ refl
+    ∙ c.plus-open.ensures.read done (spot_of c.in_ok-name.name) (spot_of c.in_ok-least.least)
+    ∙ c.in_ok-flags.ensures.read done (spot_of c.in_ok-name.name) (spot_of c.in_ok-least.least) c.plus-open.result

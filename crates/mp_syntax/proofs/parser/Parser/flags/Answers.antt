@@ -1,0 +1,24 @@
+use Rattle.std.proofs.Common.{map, sym, ap, ◌∙◌, arith}
+use Rattle.std.proofs.lemmas.Result.{err_from_is_err_and}
+use Rattle.std.proofs.lemmas.List.{map_push}
+use Rattle.mp_syntax.specs.Machine.{AfterFlags, declared, run}
+use Rattle.mp_syntax.specs.View.{flag_of}
+use Rattle.mp_syntax.specs.Parsing.{ahead}
+use Rattle.mp_syntax.proofs.Runs.{fails-along}
+use Rattle.mp_syntax.proofs.parser.Parser.flags.Goals as goal
+
+pub returns-in_err-flag-clause-read : goal.returns-in_err-flag-clause-read
+returns-in_err-flag-clause-read c =
+    let p = err_from_is_err_and c.from_residual.result c.from_residual.ensures.1 in
+    rw (p.1, p.2) (λ done name least more. fails-along _ _ _
+    (c.loop-flags.invariant.read done name least more)
+    (c.in_err-flag.ensures.read done (declared name least more (map flag_of c.loop-flags.flags.items))))
+
+pub loop-flags-preserved : goal.loop-flags-preserved
+loop-flags-preserved c = record {
+  read = λ done name least more.
+      c.loop-flags.invariant.read done name least more
+      ∙ c.in_ok-flag.ensures.read done (declared name least more (map flag_of c.loop-flags.flags.items))
+      ∙ ap (λ l. run done (AfterFlags (declared name least more l)) (ahead c.flag.new.self)) (sym (ap (map flag_of) c.in_ok-push.ensures.items ∙ map_push flag_of _ _));
+  shorter = omega (arith, c.loop-flags.invariant.shorter, c.in_ok-flag.ensures.shorter);
+}

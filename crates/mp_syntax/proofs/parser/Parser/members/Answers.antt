@@ -1,0 +1,39 @@
+use Rattle.std.proofs.Common.{[], ◌∷◌, ◌++◌, map, refl, sym, ap, ◌∙◌, arith}
+use Rattle.std.proofs.lemmas.Result.{err_from_is_err_and}
+use Rattle.std.proofs.lemmas.List.{map_push}
+use Rattle.mp_syntax.specs.declared.token.Punct.TheVariants.{Semicolon}
+use Rattle.mp_syntax.specs.Lexing.{placed}
+use Rattle.mp_syntax.specs.Syntax.{KindOf}
+use Rattle.mp_syntax.specs.Machine.{BeforeMember, AfterMember, Emit, run}
+use Rattle.mp_syntax.specs.View.{spot_of}
+use Rattle.mp_syntax.specs.Parsing.{ahead}
+use Rattle.mp_syntax.proofs.Runs.{fails-along, member-again, members-end, over-punct}
+use Rattle.mp_syntax.proofs.parser.Parser.members.Goals as goal
+
+pub returns-in_err-word-clause-read : goal.returns-in_err-word-clause-read
+returns-in_err-word-clause-read c =
+    let p = err_from_is_err_and c.from_residual.result c.from_residual.ensures.1 in
+    rw (p.1, p.2) (λ done name.
+    let members = map spot_of c.loop-members.members.items in
+    fails-along _ _ _
+    (c.loop-members.invariant.read done name)
+    (c.in_err-word.ensures.read done (BeforeMember name members) (λ w. AfterMember name (members ++ w ∷ [])) (λ t. refl)))
+
+pub loop-members-preserved : goal.loop-members-preserved
+loop-members-preserved c = record {
+  read = λ done name.
+      let members = map spot_of c.loop-members.members.items in
+      c.loop-members.invariant.read done name
+      ∙ c.in_ok-word.ensures.read done (BeforeMember name members) (λ w. AfterMember name (members ++ w ∷ [])) (λ t. refl)
+      ∙ ap (λ l. run done (AfterMember name l) (ahead c.word.new.self)) (sym (ap (map spot_of) c.in_ok-push.ensures.items ∙ map_push spot_of _ _))
+      ∙ member-again done name (map spot_of c.push.new.self.items) (placed c.word.new.self.token) _ (sym c.sees.ensures ∙ c.if-sees.false);
+  shorter = omega (arith, c.loop-members.invariant.shorter, c.in_ok-word.ensures.shorter);
+}
+
+pub returns-clause-read : goal.returns-clause-read
+returns-clause-read c = λ done name.
+    let members = map spot_of c.loop-members.members.items in
+    c.loop-members.invariant.read done name
+    ∙ c.in_ok-word.ensures.read done (BeforeMember name members) (λ w. AfterMember name (members ++ w ∷ [])) (λ t. refl)
+    ∙ ap (λ l. run done (AfterMember name l) (ahead c.word.new.self)) (sym (ap (map spot_of) c.in_ok-push.ensures.items ∙ map_push spot_of _ _))
+    ∙ over-punct Semicolon (placed c.word.new.self.token) _ _ c.advance.ensures (sym c.sees.ensures ∙ c.if-sees.true) done (AfterMember name (map spot_of c.push.new.self.items)) (Emit (KindOf name (map spot_of c.push.new.self.items))) (members-end name (map spot_of c.push.new.self.items) (placed c.word.new.self.token) (sym c.sees.ensures ∙ c.if-sees.true))
