@@ -1,12 +1,12 @@
 -- Where the token at the front ends: a run goes on no further than the bytes of its class.
-use Rattle.std.proofs.Common.{◌≡◌, ℕ, zero, suc, ◌+◌, ◌<◌, ◌≤◌, Bool, true, false, cond, List, [], ◌∷◌, ◌++◌, length, refl, sym, ap, subst, ◌∙◌, arith, length-append, inl, inr}
+use Rattle.std.proofs.Common.{◌≡◌, ℕ, zero, suc, ◌+◌, ◌<◌, Bool, true, false, cond, List, [], ◌∷◌, ◌++◌, length, refl, sym, ap, ◌∙◌, arith, length-append, inl, inr}
 use Rattle.std.specs.Prelude.{◌⊎◌, ◌||◌, ◌&&◌}
 use Rattle.std.specs.List.{prefix_len, list_all}
 use Rattle.std.proofs.lemmas.Bool.{and_parts, or_left}
 use Rattle.std.proofs.lemmas.List.Folds.{list_all-append}
 use Rattle.mp_syntax.specs.declared.token.Punct.{Punct}
 use Rattle.mp_syntax.specs.declared.token.Punct.TheVariants.{Open, Close, OpenSquare, CloseSquare, OpenBrace, CloseBrace, Comma, Semicolon, Colon, Dot, Dollar}
-use Rattle.mp_syntax.specs.Tokens.{Token, Word, Wildcard, Sign, Arrow, Punctuation, Long, Bad, End, byte_of, is_word_byte, is_sign_byte, AreWordBytes, underscores, IsWord, IsWildcard, IsSign, Spells, IsLongest}
+use Rattle.mp_syntax.specs.Tokens.{Token, Word, Wildcard, Sign, Arrow, Punctuation, Long, Bad, End, byte_of, is_word_byte, is_sign_byte, AreWordBytes, underscores, IsWildcard, Spells}
 use Rattle.mp_syntax.specs.Lexing.{kind_at, is_underscore}
 use Rattle.mp_syntax.proofs.Fronts.{empty-length}
 use Rattle.mp_syntax.proofs.Longest.{IsRun, IsLongestRun, sign-begins}

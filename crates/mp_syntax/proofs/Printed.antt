@@ -1,18 +1,17 @@
 -- What is printed of statements is read again as those statements.
-use Rattle.std.proofs.Common.{◌≡◌, ◌≢◌, ℕ, zero, suc, ◌+◌, ◌<◌, ◌≤◌, Bool, true, false, cond, List, [], ◌∷◌, ◌++◌, length, map, drop, Ok, refl, sym, ap, subst, ◌∙◌, arith, append_assoc, append-nil, length-append}
+use Rattle.std.proofs.Common.{◌≡◌, ◌≢◌, ℕ, zero, suc, ◌+◌, ◌≤◌, Bool, true, false, cond, List, [], ◌∷◌, ◌++◌, length, map, drop, refl, sym, ap, subst, ◌∙◌, arith, append_assoc}
 use Rattle.std.specs.Prelude.{codes}
-use Rattle.std.specs.List.{flat_map, prefix_len, list_all}
+use Rattle.std.specs.List.{flat_map, prefix_len}
 use Rattle.std.proofs.lemmas.List.{drop_at}
 use Rattle.mp_syntax.specs.declared.place.Place.{Place}
 use Rattle.mp_syntax.specs.declared.token.Punct.{Punct}
 use Rattle.mp_syntax.specs.declared.token.Punct.TheVariants.{Open, Close, Comma, Colon, Semicolon}
 use Rattle.mp_syntax.specs.Tokens as tokens
-use Rattle.mp_syntax.specs.Tokens.{Token, Word, Sign, Punctuation, Placed, byte_of, is_sign_byte, underscores, Spells, IsWildcard, after_byte, first_place}
+use Rattle.mp_syntax.specs.Tokens.{Token, Word, Sign, Punctuation, Placed, byte_of, is_sign_byte, Spells, IsWildcard, after_byte, first_place}
 use Rattle.mp_syntax.specs.Lexing.{kind_at, token_at, after_blanks, lexemes}
-use Rattle.mp_syntax.specs.Syntax.{Spot, Wildcard, Tree, Symbol, Apply, InfixOf, Wild, Trees, no_trees, more_trees, Flag, Assoc, Comm, One, Infixed, Statement, OpOf, KindOf, RuleOf, SubjectOf, Expected, Said, Stands, Matches, AllMatch, spelled_word, spelled_wildcard, spelled_sign, another, fixed_word, comma, closing, semicolon, spell, spell_first, spell_others, spell_operands, spell_named, spell_plus, spell_flag, spell_statement, spell_file, IsNamedDot, AreSeveral, Fits, AreFit, FitsStatement, AreStatements, IsName, IsInfixSign, HasNames, HaveNames, HasSign, HaveSigns, AreNames, StatementHasNames, StatementsHaveNames, IsSyntaxOf}
+use Rattle.mp_syntax.specs.Syntax.{Spot, Wildcard, Tree, Symbol, Apply, InfixOf, Wild, Trees, no_trees, more_trees, Flag, Assoc, Comm, One, Infixed, Statement, OpOf, KindOf, RuleOf, SubjectOf, Expected, Said, Stands, Matches, AllMatch, spelled_word, spelled_wildcard, spelled_sign, another, fixed_word, comma, closing, semicolon, spell, spell_first, spell_others, spell_operands, spell_named, spell_plus, spell_flag, spell_statement, spell_file, IsNamedDot, AreSeveral, Fits, AreFit, FitsStatement, AreStatements, IsName, IsInfixSign, HasNames, HaveNames, HaveSigns, AreNames, StatementHasNames, StatementsHaveNames, IsSyntaxOf}
 use Rattle.mp_syntax.specs.Machine.{Top, run}
 use Rattle.mp_syntax.specs.Printed.{wildcard_text, tree_text, first_text, others_text, plus_text, flag_text, member_text, line_end, named_text, statement_text, statements_text, unplaced_spot, unplaced_tree, unplaced_trees, unplaced_flag, unplaced}
-use Rattle.mp_syntax.proofs.Longest.{IsToken, IsLongestRun}
 use Rattle.mp_syntax.proofs.Spelling.{spells-some, spells-token}
 use Rattle.mp_syntax.proofs.Fuel.{lexemes-step, lexemes-next}
 use Rattle.mp_syntax.proofs.TokensLaw.{starts-stay, plain-starts, spells-plain, behind-token, end_at}

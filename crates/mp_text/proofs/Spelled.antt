@@ -10,14 +10,14 @@ use Rattle.mp_term.specs.Signature.{Sig, Kind}
 use Rattle.mp_pattern.specs.PatternTree as pattern
 use Rattle.mp_pattern.specs.Admission.{Rule}
 use Rattle.mp_syntax.specs.Tokens.{first_place}
-use Rattle.mp_syntax.specs.Syntax.{Spot, Tree, Symbol, Apply, InfixOf, Wild, Trees, no_trees, more_trees, tree_list, Flag, Assoc, Comm, One, Infixed, Statement, OpOf, KindOf, RuleOf, SubjectOf, IsSyntaxOf, Fits, AreFit, FitsStatement, AreStatements, StatementsHaveNames}
-use Rattle.mp_syntax.specs.Printed.{tree_text, first_text, others_text, plus_text, flag_text, member_text, line_end, named_text, statement_text, statements_text, unplaced_spot, unplaced_tree, unplaced_trees, unplaced_flag, unplaced}
+use Rattle.mp_syntax.specs.Syntax.{Tree, Apply, InfixOf, Trees, no_trees, more_trees, tree_list, Flag, Assoc, Comm, One, Statement, OpOf, KindOf, RuleOf, SubjectOf, IsSyntaxOf, Fits, AreFit, FitsStatement, AreStatements, StatementsHaveNames}
+use Rattle.mp_syntax.specs.Printed.{tree_text, first_text, others_text, plus_text, flag_text, member_text, line_end, statement_text, statements_text, unplaced_spot, unplaced_tree, unplaced_trees, unplaced_flag, unplaced}
 use Rattle.mp_syntax.proofs.Printed.{printed-again}
 use Rattle.mp_text.specs.Subject.{Subject}
 use Rattle.mp_text.specs.File.{FileTree}
-use Rattle.mp_text.specs.Printing.{separated, preceded, bracketed, prefix_text, infix_text, application_text, held_text, term_text, term_texts}
-use Rattle.mp_text.specs.PrintedFile.{shape_text, wildcard_text, pattern_text, pattern_texts, text_if, op_text, head_text, kind_text, signature_text, rule_text, subject_text, file_text}
-use Rattle.mp_text.specs.Spelled.{piece, application_spelling, held_spelling, wild_of, term_spelling, term_spellings, wildcard_spelling, pattern_spelling, pattern_spellings, flag_if, sign_flags, op_flags, op_spelling, kind_spelling, rule_spelling, subject_spelling, file_spelling}
+use Rattle.mp_text.specs.Printing.{separated, preceded, prefix_text, infix_text, application_text, held_text, term_text, term_texts}
+use Rattle.mp_text.specs.PrintedFile.{shape_text, pattern_text, pattern_texts, text_if, op_text, head_text, kind_text, rule_text, subject_text, file_text}
+use Rattle.mp_text.specs.Spelled.{piece, application_spelling, held_spelling, term_spelling, term_spellings, wildcard_spelling, pattern_spelling, pattern_spellings, flag_if, sign_flags, op_flags, op_spelling, kind_spelling, rule_spelling, subject_spelling, file_spelling}
 
 -- ---- applications
 

@@ -1,5 +1,5 @@
 -- The statements that a file is printed as.
-use Rattle.std.specs.Prelude.{ℕ, Bool, true, false, not, List, [], ◌∷◌, ◌++◌, map, length, Option, Some, None, unwrap_or, slice_get, nat_le, if◌then◌else◌, decimal}
+use Rattle.std.specs.Prelude.{ℕ, Bool, not, List, [], ◌∷◌, ◌++◌, map, length, Option, Some, None, unwrap_or, slice_get, nat_le, if◌then◌else◌, decimal}
 use Rattle.mp_io.specs.Devices.{Text}
 use Rattle.mp_term.specs.declared.signature.OpDecl.{OpDecl}
 use Rattle.mp_term.specs.Tree as term
