@@ -1,4 +1,5 @@
 pub mod Again
+pub mod Ends
 mod Examples
 pub mod Fit
 pub mod Found
@@ -6,6 +7,7 @@ pub mod Fronts
 pub mod Fuel
 pub mod Longest
 pub mod Names
+pub mod Printed
 pub mod Runs
 pub mod Spelling
 pub mod TokensLaw

@@ -91,7 +91,7 @@ takes-punct Dot after = record { enough = omega arith; same = λ e. refl }
 takes-punct Dollar after = record { enough = omega arith; same = λ e. refl }
 
 -- a sign byte begins no word and no wildcard
-sign-begins : (b : ℕ) → is_sign_byte b ≡ true → (is_word_byte b || is_underscore b) ≡ false
+pub sign-begins : (b : ℕ) → is_sign_byte b ≡ true → (is_word_byte b || is_underscore b) ≡ false
 sign-begins b h = not-true (is_word_byte b || is_underscore b) (one-passes (λ n. not (is_word_byte n || is_underscore n)) b sign_bytes h refl)
 
 run-sign : (b : ℕ) (bs : List ℕ) → is_sign_byte b ≡ true → run_at (b ∷ bs) ≡ sign_at (b ∷ bs)

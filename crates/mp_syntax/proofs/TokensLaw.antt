@@ -126,7 +126,7 @@ run-plain text Long h = absurd h
 run-plain text Bad h = absurd h
 run-plain text End h = absurd h
 
-spells-plain : (text : List ℕ) (t : Token) → Spells text t → list_all is_plain text ≡ true
+pub spells-plain : (text : List ℕ) (t : Token) → Spells text t → list_all is_plain text ≡ true
 spells-plain text t h = let r = spells-settles text t h in run-plain text r.run r.is_run
 
 plain-parts : (b : ℕ) → is_plain b ≡ true → ((b == 35) ≡ false) × (is_blank b ≡ false)

@@ -1,5 +1,6 @@
 pub mod Tokens
 pub mod Syntax
+pub mod Printed
 pub mod View
 pub mod Lexing
 pub mod Machine

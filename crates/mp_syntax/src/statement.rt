@@ -5,7 +5,8 @@ ghost use Rattle.mp_syntax.specs.Tokens.{first_place};
 ghost use Rattle.mp_syntax.specs.Lexing.{token_of, lexemes};
 ghost use Rattle.mp_syntax.specs.Machine.{is_end, keyword, Top};
 ghost use Rattle.mp_syntax.specs.Syntax as syntax;
-ghost use Rattle.mp_syntax.specs.Syntax.{IsSyntaxOf, StatementsHaveNames};
+ghost use Rattle.mp_syntax.specs.Syntax.{IsSyntaxOf, StatementsHaveNames, AreStatements};
+ghost use Rattle.mp_syntax.specs.Printed.{statements_text, unplaced};
 ghost use Rattle.mp_syntax.specs.View.{statement_tree};
 ghost use Rattle.mp_syntax.specs.Parsing.{ahead, StatementFrom, NamedExprGives, KeywordGives, FileGives, keyword_step};
 ghost use Rattle.mp_syntax.specs.Reading.{reading, syntax_of, IfFault, IsOkOrMemory};
@@ -77,6 +78,14 @@ pub fn syntax_is_a_function()
 /// It does nothing when it runs.
 pub fn syntax_has_names()
     ensures { (bytes : List ℕ) (file : List syntax.Statement) → IsSyntaxOf bytes file → StatementsHaveNames file }
+{}
+
+/// Law: the text that statements are printed as, `statements_text` of `specs/Printed.antt`, is read as those statements, apart from
+/// the places where they stand.
+///
+/// Of the statements each word is a word and each expression fits, as of all that are read. It does nothing when it runs.
+pub fn printed_statements_are_read()
+    ensures { (file : List syntax.Statement) → StatementsHaveNames file → AreStatements file → (read : List syntax.Statement) × IsSyntaxOf (statements_text file) read × (map unplaced read ≡ map unplaced file) }
 {}
 
 /// Reads all statements, or the first fault.

@@ -1,5 +1,7 @@
 use crate::fault::{FaultKind, SyntaxError};
-use crate::statement::{read_statements, syntax_has_names, syntax_is_a_function};
+use crate::statement::{
+    printed_statements_are_read, read_statements, syntax_has_names, syntax_is_a_function,
+};
 use crate::token::{tokens_are_total, tokens_are_unique};
 use crate::tree::{Expr, Flag, Statement};
 use std::alloc::Global;
@@ -244,6 +246,7 @@ fn operands_keep_their_order(rt: HostRuntime) -> Result<(), Fail> {
 #[test]
 fn laws_do_nothing(_rt: HostRuntime) -> Result<(), Fail> {
     syntax_is_a_function();
+    printed_statements_are_read();
     syntax_has_names();
     tokens_are_unique();
     tokens_are_total();

@@ -9,6 +9,9 @@ mod OpLaws
 mod Built
 mod Declared
 mod Separated
+mod Parts
+mod PatternSize
+mod Spelled
 mod Pass
 pub mod Whole
 pub mod SoundLaws

@@ -14,7 +14,7 @@ remaining separator zero texts = separated separator texts
 remaining separator (suc i) texts = preceded separator texts
 
 -- the first of the remaining texts stands behind its gap
-remaining-cons : (separator : Text) (i : ℕ) (text : Text) (texts : List Text) → remaining separator i (text ∷ texts) ≡ gap_text separator i ++ (text ++ preceded separator texts)
+pub remaining-cons : (separator : Text) (i : ℕ) (text : Text) (texts : List Text) → remaining separator i (text ∷ texts) ≡ gap_text separator i ++ (text ++ preceded separator texts)
 remaining-cons separator zero text texts = refl
 remaining-cons separator (suc i) text texts = refl
 

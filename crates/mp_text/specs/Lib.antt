@@ -9,4 +9,6 @@ pub mod Answers
 pub mod Matched
 pub mod Reading
 pub mod Printing
+pub mod PrintedFile
+pub mod Spelled
 pub mod Sound

@@ -99,7 +99,11 @@ fn write_separated<K: Sink>(
 }
 
 /// Appends what stands before the item of that index: the separator, but nothing before the first.
-fn write_gap<K: Sink>(index: usize, separator: &[&[u8]], sink: &mut K) -> Result<(), Failed>
+pub(crate) fn write_gap<K: Sink>(
+    index: usize,
+    separator: &[&[u8]],
+    sink: &mut K,
+) -> Result<(), Failed>
     ensures { Prints (K.contents sink.old) (K.contents sink.new) (K.faults sink.old) (K.faults sink.new) (gap_text (joined separator.now) index) result }
 {
     if index == 0 {

@@ -1,0 +1,246 @@
+-- The printed text of a file is the text of its statements.
+use Rattle.std.proofs.Common.{◌≡◌, ◌≢◌, ℕ, zero, suc, Bool, true, false, cond, List, [], ◌∷◌, ◌++◌, map, length, Some, None, refl, sym, ap, subst, ◌∙◌, arith, append_assoc, append-nil, leb, not}
+use Rattle.std.specs.Prelude.{Option, unwrap_or, slice_get, codes, decimal, is_some}
+use Rattle.std.specs.List.{flat_map}
+use Rattle.std.proofs.lemmas.List.{length-map}
+use Rattle.mp_io.specs.Devices.{Text}
+use Rattle.mp_term.specs.declared.signature.OpDecl.{OpDecl}
+use Rattle.mp_term.specs.Tree as term
+use Rattle.mp_term.specs.Signature.{Sig, Kind}
+use Rattle.mp_pattern.specs.PatternTree as pattern
+use Rattle.mp_pattern.specs.Admission.{Rule}
+use Rattle.mp_syntax.specs.Tokens.{first_place}
+use Rattle.mp_syntax.specs.Syntax.{Tree, Apply, InfixOf, Trees, no_trees, more_trees, tree_list, Flag, Assoc, Comm, One, Statement, OpOf, KindOf, RuleOf, SubjectOf, IsSyntaxOf, Fits, AreFit, FitsStatement, AreStatements, StatementsHaveNames}
+use Rattle.mp_syntax.specs.Printed.{tree_text, first_text, others_text, plus_text, flag_text, member_text, line_end, statement_text, statements_text, unplaced_spot, unplaced_tree, unplaced_trees, unplaced_flag, unplaced}
+use Rattle.mp_syntax.proofs.Printed.{printed-again}
+use Rattle.mp_text.specs.Subject.{Subject}
+use Rattle.mp_text.specs.File.{FileTree}
+use Rattle.mp_text.specs.Printing.{separated, preceded, prefix_text, infix_text, application_text, held_text, term_text, term_texts}
+use Rattle.mp_text.specs.PrintedFile.{shape_text, pattern_text, pattern_texts, text_if, op_text, head_text, kind_text, rule_text, subject_text, file_text}
+use Rattle.mp_text.specs.Spelled.{piece, application_spelling, held_spelling, term_spelling, term_spellings, wildcard_spelling, pattern_spelling, pattern_spellings, flag_if, sign_flags, op_flags, op_spelling, kind_spelling, rule_spelling, subject_spelling, file_spelling}
+
+-- ---- applications
+
+-- the texts of expressions
+abbrev tree_texts : Trees → List Text
+tree_texts ts = map tree_text (tree_list ts)
+
+-- the texts with a separator before each, and the closing bracket
+preceded-others : (separator : Text) (ts : Trees) → preceded separator (tree_texts ts) ++ codes ")" ≡ others_text separator ts
+preceded-others separator no_trees = refl
+preceded-others separator (more_trees t ts) =
+    append_assoc separator (tree_text t ++ preceded separator (tree_texts ts)) (codes ")")
+    ∙ ap (λ l. separator ++ l) (append_assoc (tree_text t) (preceded separator (tree_texts ts)) (codes ")") ∙ ap (λ l. tree_text t ++ l) (preceded-others separator ts))
+
+-- the texts with a separator between each two, and the closing bracket
+separated-first : (separator : Text) (ts : Trees) → separated separator (tree_texts ts) ++ codes ")" ≡ first_text separator ts
+separated-first separator no_trees = refl
+separated-first separator (more_trees t ts) = append_assoc (tree_text t) (preceded separator (tree_texts ts)) (codes ")") ∙ ap (λ l. tree_text t ++ l) (preceded-others separator ts)
+
+-- an application is printed as it is spelled
+application_text-spelling : (d : OpDecl) (sign : Option Text) (ts : Trees) → application_text d sign (tree_texts ts) ≡ tree_text (application_spelling d sign ts)
+application_text-spelling d None ts = ap (λ l. d.name ++ (codes "(" ++ l)) (separated-first (codes ", ") ts)
+application_text-spelling d (Some sign) ts = ap (λ n. cond (leb 2 n) (infix_text sign (tree_texts ts)) (prefix_text d (tree_texts ts))) (length-map (tree_list ts) tree_text) ∙ go (leb 2 (length (tree_list ts)))
+  where
+    go : (v : Bool) → cond v (infix_text sign (tree_texts ts)) (prefix_text d (tree_texts ts)) ≡ tree_text (cond v (InfixOf first_place (piece sign) ts) (Apply (piece d.name) ts))
+    go true = ap (λ l. codes "(" ++ l) (separated-first (codes " " ++ (sign ++ codes " ")) ts)
+    go false = ap (λ l. d.name ++ (codes "(" ++ l)) (separated-first (codes ", ") ts)
+
+held_text-spelling : (o : Option OpDecl) (ts : Trees) → held_text o (tree_texts ts) ≡ tree_text (held_spelling o ts)
+held_text-spelling None ts = refl
+held_text-spelling (Some d) ts = application_text-spelling d d.sign ts
+
+-- ---- terms
+
+mutual
+  term_text-spelling : (sig : Sig) (t : term.Tree) → term_text sig t ≡ tree_text (term_spelling sig t)
+  term_text-spelling sig (term.symbol n) = refl
+  term_text-spelling sig (term.app f ts) = ap (held_text (slice_get sig.ops f)) (term_texts-spellings sig ts) ∙ held_text-spelling (slice_get sig.ops f) (term_spellings sig ts)
+
+  term_texts-spellings : (sig : Sig) (ts : term.Trees) → term_texts sig ts ≡ tree_texts (term_spellings sig ts)
+  term_texts-spellings sig term.no_trees = refl
+  term_texts-spellings sig (term.more_trees t ts) = λ i. term_text-spelling sig t i ∷ term_texts-spellings sig ts i
+
+-- ---- patterns
+
+-- where an application fits, its arguments do
+fits-args : (d : OpDecl) (sign : Option Text) (room : ℕ) (ts : Trees) → Fits room (application_spelling d sign ts) → (r : ℕ) × AreFit r ts
+fits-args d None zero ts h = absurd h
+fits-args d None (suc room) ts h = (room, h)
+fits-args d (Some sign) room ts h = go (leb 2 (length (tree_list ts))) room h
+  where
+    go : (v : Bool) (room : ℕ) → Fits room (cond v (InfixOf first_place (piece sign) ts) (Apply (piece d.name) ts)) → (r : ℕ) × AreFit r ts
+    go true zero h = absurd h
+    go true (suc room) h = (room, h.1)
+    go false zero h = absurd h
+    go false (suc room) h = (room, h)
+
+held_text-args : (o : Option OpDecl) (texts : List Text) (ts : Trees) (room : ℕ) → Fits room (held_spelling o ts) → ((r : ℕ) → AreFit r ts → texts ≡ tree_texts ts) → held_text o texts ≡ tree_text (held_spelling o ts)
+held_text-args None texts ts room h same = refl
+held_text-args (Some d) texts ts room h same = let a = fits-args d d.sign room ts h in ap (application_text d d.sign) (same a.0 a.1) ∙ application_text-spelling d d.sign ts
+
+wildcard_text-spelling : (sig : Sig) (w : pattern.Wildcard) (x : Text) (room : ℕ) → Fits room (wildcard_spelling sig w x) → x ++ shape_text sig w ≡ tree_text (wildcard_spelling sig w x)
+wildcard_text-spelling sig pattern.dot x room h = refl
+wildcard_text-spelling sig (pattern.kind k) x room h = refl
+wildcard_text-spelling sig pattern.plus x room h = refl
+wildcard_text-spelling sig pattern.star x room h = refl
+wildcard_text-spelling sig (pattern.optional t) x zero h = absurd (omega (arith, h.dot))
+wildcard_text-spelling sig (pattern.optional t) x (suc room) h = absurd (omega (arith, h.dot))
+
+mutual
+  pattern_text-spelling : (sig : Sig) (p : pattern.Pattern) (room : ℕ) → Fits room (pattern_spelling sig p) → pattern_text sig p ≡ tree_text (pattern_spelling sig p)
+  pattern_text-spelling sig (pattern.symbol_pattern n) room h = refl
+  pattern_text-spelling sig (pattern.app_pattern f ps) room h = held_text-args (slice_get sig.ops f) (pattern_texts sig ps) (pattern_spellings sig ps) room h (λ r k. pattern_texts-spellings sig ps r k)
+  pattern_text-spelling sig (pattern.wild_pattern w x) room h = wildcard_text-spelling sig w (unwrap_or x []) room h
+
+  pattern_texts-spellings : (sig : Sig) (ps : pattern.Patterns) (room : ℕ) → AreFit room (pattern_spellings sig ps) → pattern_texts sig ps ≡ tree_texts (pattern_spellings sig ps)
+  pattern_texts-spellings sig pattern.no_patterns room h = refl
+  pattern_texts-spellings sig (pattern.more_patterns p ps) room h = λ i. pattern_text-spelling sig p room h.0 i ∷ pattern_texts-spellings sig ps room h.1 i
+
+-- ---- statements
+
+text_if-plus : (v : Bool) → text_if v (codes "+") ≡ plus_text v
+text_if-plus true = refl
+text_if-plus false = refl
+
+text_if-flag : (v : Bool) (flag : Flag) (flags : List Flag) (last : Text) → text_if v (flag_text flag) ++ (flat_map flag_text flags ++ last) ≡ flat_map flag_text (flag_if v flag ++ flags) ++ last
+text_if-flag true flag flags last = sym (append_assoc (flag_text flag) (flat_map flag_text flags) last)
+text_if-flag false flag flags last = refl
+
+sign-flags : (sign : Option Text) (last : Text) → text_if (is_some sign) (codes " infix ") ++ (unwrap_or sign [] ++ last) ≡ flat_map flag_text (sign_flags sign) ++ last
+sign-flags None last = refl
+sign-flags (Some sign) last = ap (λ l. codes " infix " ++ l) (sym (append_assoc sign [] last))
+
+op_text-spelling : (d : OpDecl) → op_text d ≡ statement_text (op_spelling d)
+op_text-spelling d =
+    let last = sign_flags d.sign in
+    let ones = flag_if d.one One ++ last in
+    let comms = flag_if d.comm Comm ++ ones in
+    let flags : text_if d.assoc (codes " assoc") ++ (text_if d.comm (codes " comm") ++ (text_if d.one (codes " one") ++ (text_if (is_some d.sign) (codes " infix ") ++ (unwrap_or d.sign [] ++ line_end)))) ≡ flat_map flag_text (op_flags d) ++ line_end =
+    ap (λ l. text_if d.assoc (codes " assoc") ++ (text_if d.comm (codes " comm") ++ (text_if d.one (codes " one") ++ l))) (sign-flags d.sign line_end)
+    ∙ ap (λ l. text_if d.assoc (codes " assoc") ++ (text_if d.comm (codes " comm") ++ l)) (text_if-flag d.one One last line_end)
+    ∙ ap (λ l. text_if d.assoc (codes " assoc") ++ l) (text_if-flag d.comm Comm ones line_end)
+    ∙ text_if-flag d.assoc Assoc comms line_end in
+    λ i. codes "op " ++ (d.name ++ (codes " " ++ (decimal d.least ++ (text_if-plus (not d.fixed) i ++ flags i))))
+
+head_text-named : (keyword name body : Text) → head_text keyword name ++ body ≡ keyword ++ (32 ∷ (name ++ (58 ∷ 32 ∷ body)))
+head_text-named keyword name body = append_assoc keyword (32 ∷ (name ++ (58 ∷ 32 ∷ []))) body ∙ ap (λ l. keyword ++ (32 ∷ l)) (append_assoc name (58 ∷ 32 ∷ []) body)
+
+preceded-members : (members : List Text) → preceded (codes " ") members ≡ flat_map member_text (map piece members)
+preceded-members [] = refl
+preceded-members (m ∷ members) = ap (λ l. 32 ∷ (m ++ l)) (preceded-members members)
+
+kind_text-spelling : (k : Kind) → FitsStatement (kind_spelling k) → kind_text k ≡ statement_text (kind_spelling k)
+kind_text-spelling k fits = head_text-named (codes "kind") k.name (separated (codes " ") k.members ++ line_end) ∙ ap (λ l. codes "kind " ++ (k.name ++ (58 ∷ (l ++ line_end)))) (members k.members fits)
+  where
+    members : (members : List Text) → map piece members ≢ [] → codes " " ++ separated (codes " ") members ≡ flat_map member_text (map piece members)
+    members [] some = absurd (some refl)
+    members (m ∷ ms) some = ap (λ l. 32 ∷ (m ++ l)) (preceded-members ms)
+
+rule_text-spelling : (sig : Sig) (r : Rule) → FitsStatement (rule_spelling sig r) → rule_text sig r ≡ statement_text (rule_spelling sig r)
+rule_text-spelling sig r fits = head_text-named (codes "rule") r.name (pattern_text sig r.pattern ++ line_end) ∙ ap (λ l. codes "rule " ++ (r.name ++ (58 ∷ 32 ∷ (l ++ line_end)))) (pattern_text-spelling sig r.pattern 100 fits)
+
+subject_text-spelling : (sig : Sig) (s : Subject) → subject_text sig s ≡ statement_text (subject_spelling sig s)
+subject_text-spelling sig s = head_text-named (codes "subject") s.name (term_text sig s.term ++ line_end) ∙ ap (λ l. codes "subject " ++ (s.name ++ (58 ∷ 32 ∷ (l ++ line_end)))) (term_text-spelling sig s.term)
+
+-- ---- files
+
+module _ {X : Type 0} (text : X → Text) (spelling : X → Statement) (each : (x : X) → FitsStatement (spelling x) → text x ≡ statement_text (spelling x)) where
+  -- the texts of the items, and a text behind them
+  texts-spellings : (xs : List X) (rest : List Statement) (last : Text) → AreStatements (map spelling xs ++ rest) → (AreStatements rest → last ≡ statements_text rest) → flat_map text xs ++ last ≡ statements_text (map spelling xs ++ rest)
+  texts-spellings [] rest last h same = same h
+  texts-spellings (x ∷ xs) rest last h same = append_assoc (text x) (flat_map text xs) last ∙ (λ i. each x h.0 i ++ texts-spellings xs rest last h.1 same i)
+
+-- what is printed of a file is the text of its statements
+pub file_text-spelling : (f : FileTree) → AreStatements (file_spelling f) → file_text f ≡ statements_text (file_spelling f)
+file_text-spelling f h =
+    let subjects = map (subject_spelling f.sig) f.subjects in
+    let rules = map (rule_spelling f.sig) f.rules ++ subjects in
+    let kinds = map kind_spelling f.sig.kinds ++ rules in
+    let last = flat_map (subject_text f.sig) f.subjects in
+    append_assoc (flat_map op_text f.sig.ops) (flat_map kind_text f.sig.kinds) (flat_map (rule_text f.sig) f.rules ++ last)
+    ∙ texts-spellings op_text op_spelling (λ d fits. op_text-spelling d) f.sig.ops kinds _ h (λ h.
+    texts-spellings kind_text kind_spelling kind_text-spelling f.sig.kinds rules _ h (λ h.
+    texts-spellings (rule_text f.sig) (rule_spelling f.sig) (rule_text-spelling f.sig) f.rules subjects last h (λ h.
+    sym (append-nil last)
+    ∙ texts-spellings (subject_text f.sig) (subject_spelling f.sig) (λ s fits. subject_text-spelling f.sig s) f.subjects [] [] (subst AreStatements (sym (append-nil subjects)) h) (λ h. refl)
+    ∙ ap statements_text (append-nil subjects))))
+
+-- ---- places
+
+unplaced-application : (d : OpDecl) (sign : Option Text) (ts : Trees) → unplaced_trees ts ≡ ts → unplaced_tree (application_spelling d sign ts) ≡ application_spelling d sign ts
+unplaced-application d None ts e = ap (Apply (piece d.name)) e
+unplaced-application d (Some sign) ts e = go (leb 2 (length (tree_list ts)))
+  where
+    go : (v : Bool) → unplaced_tree (cond v (InfixOf first_place (piece sign) ts) (Apply (piece d.name) ts)) ≡ cond v (InfixOf first_place (piece sign) ts) (Apply (piece d.name) ts)
+    go true = ap (InfixOf first_place (piece sign)) e
+    go false = ap (Apply (piece d.name)) e
+
+unplaced-held : (o : Option OpDecl) (ts : Trees) → unplaced_trees ts ≡ ts → unplaced_tree (held_spelling o ts) ≡ held_spelling o ts
+unplaced-held None ts e = refl
+unplaced-held (Some d) ts e = unplaced-application d d.sign ts e
+
+mutual
+  unplaced-term : (sig : Sig) (t : term.Tree) → unplaced_tree (term_spelling sig t) ≡ term_spelling sig t
+  unplaced-term sig (term.symbol n) = refl
+  unplaced-term sig (term.app f ts) = unplaced-held (slice_get sig.ops f) (term_spellings sig ts) (unplaced-terms sig ts)
+
+  unplaced-terms : (sig : Sig) (ts : term.Trees) → unplaced_trees (term_spellings sig ts) ≡ term_spellings sig ts
+  unplaced-terms sig term.no_trees = refl
+  unplaced-terms sig (term.more_trees t ts) = λ i. more_trees (unplaced-term sig t i) (unplaced-terms sig ts i)
+
+unplaced-wildcard : (sig : Sig) (w : pattern.Wildcard) (x : Text) → unplaced_tree (wildcard_spelling sig w x) ≡ wildcard_spelling sig w x
+unplaced-wildcard sig pattern.dot x = refl
+unplaced-wildcard sig (pattern.kind k) x = refl
+unplaced-wildcard sig pattern.plus x = refl
+unplaced-wildcard sig pattern.star x = refl
+unplaced-wildcard sig (pattern.optional t) x = refl
+
+mutual
+  unplaced-pattern : (sig : Sig) (p : pattern.Pattern) → unplaced_tree (pattern_spelling sig p) ≡ pattern_spelling sig p
+  unplaced-pattern sig (pattern.symbol_pattern n) = refl
+  unplaced-pattern sig (pattern.app_pattern f ps) = unplaced-held (slice_get sig.ops f) (pattern_spellings sig ps) (unplaced-patterns sig ps)
+  unplaced-pattern sig (pattern.wild_pattern w x) = unplaced-wildcard sig w (unwrap_or x [])
+
+  unplaced-patterns : (sig : Sig) (ps : pattern.Patterns) → unplaced_trees (pattern_spellings sig ps) ≡ pattern_spellings sig ps
+  unplaced-patterns sig pattern.no_patterns = refl
+  unplaced-patterns sig (pattern.more_patterns p ps) = λ i. more_trees (unplaced-pattern sig p i) (unplaced-patterns sig ps i)
+
+unplaced-flag_if : (v : Bool) (flag : Flag) (flags : List Flag) → unplaced_flag flag ≡ flag → map unplaced_flag flags ≡ flags → map unplaced_flag (flag_if v flag ++ flags) ≡ flag_if v flag ++ flags
+unplaced-flag_if true flag flags e h = λ i. e i ∷ h i
+unplaced-flag_if false flag flags e h = h
+
+unplaced-sign : (sign : Option Text) → map unplaced_flag (sign_flags sign) ≡ sign_flags sign
+unplaced-sign None = refl
+unplaced-sign (Some sign) = refl
+
+unplaced-op : (d : OpDecl) → unplaced (op_spelling d) ≡ op_spelling d
+unplaced-op d =
+    ap (OpOf (piece d.name) (piece (decimal d.least)) (not d.fixed))
+    (unplaced-flag_if d.assoc Assoc _ refl (unplaced-flag_if d.comm Comm _ refl (unplaced-flag_if d.one One _ refl (unplaced-sign d.sign))))
+
+unplaced-pieces : (texts : List Text) → map unplaced_spot (map piece texts) ≡ map piece texts
+unplaced-pieces [] = refl
+unplaced-pieces (text ∷ texts) = ap (λ l. piece text ∷ l) (unplaced-pieces texts)
+
+module _ {X : Type 0} (spelling : X → Statement) (each : (x : X) → unplaced (spelling x) ≡ spelling x) where
+  unplaced-spellings : (xs : List X) (rest : List Statement) → map unplaced rest ≡ rest → map unplaced (map spelling xs ++ rest) ≡ map spelling xs ++ rest
+  unplaced-spellings [] rest h = h
+  unplaced-spellings (x ∷ xs) rest h = λ i. each x i ∷ unplaced-spellings xs rest h i
+
+-- the statements of a file stand at the first place
+unplaced-file : (f : FileTree) → map unplaced (file_spelling f) ≡ file_spelling f
+unplaced-file f =
+    let subjects = map (subject_spelling f.sig) f.subjects in
+    let last : map unplaced subjects ≡ subjects = subst (λ l. map unplaced l ≡ l) (append-nil subjects) (unplaced-spellings (subject_spelling f.sig) (λ s. ap (SubjectOf (piece s.name)) (unplaced-term f.sig s.term)) f.subjects [] refl) in
+    unplaced-spellings op_spelling unplaced-op f.sig.ops _
+    (unplaced-spellings kind_spelling (λ k. ap (KindOf (piece k.name)) (unplaced-pieces k.members)) f.sig.kinds _
+    (unplaced-spellings (rule_spelling f.sig) (λ r. ap (RuleOf (piece r.name)) (unplaced-pattern f.sig r.pattern)) f.rules _ last))
+
+-- ---- the printed file is read
+
+-- what is printed of a file is read as the statements of the file, apart from their places
+pub file-again : (f : FileTree) → StatementsHaveNames (file_spelling f) → AreStatements (file_spelling f) → (read : List Statement) × IsSyntaxOf (file_text f) read × (map unplaced read ≡ file_spelling f)
+file-again f names fits =
+    let r = printed-again (file_spelling f) names fits in
+    (r.0, subst (λ l. IsSyntaxOf l r.0) (sym (file_text-spelling f fits)) r.1, r.2 ∙ unplaced-file f)
