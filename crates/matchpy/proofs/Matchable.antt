@@ -6,7 +6,7 @@ use Rattle.mp_io.specs.Devices.{Text}
 use Rattle.mp_term.specs.Signature.{Sig}
 use Rattle.mp_pattern.specs.PatternTree.{Wildcard, dot, kind, plus, star, optional, Pattern, symbol_pattern, app_pattern, wild_pattern, Patterns, no_patterns, more_patterns}
 use Rattle.mp_pattern.specs.Admission.{Rule}
-use Rattle.mp_syntax.specs.Syntax.{Statement, OpOf, RuleOf, SubjectOf}
+use Rattle.mp_syntax.specs.Syntax.{Statement, OpOf, KindOf, RuleOf, SubjectOf}
 use Rattle.mp_theory.specs.Sound.{AllEach, DefaultNormal, Each}
 use Rattle.mp_text.specs.Build.{rules_of, sig_of}
 use Rattle.mp_text.specs.File.{FileTree, Subject}
@@ -43,7 +43,8 @@ module _ (sig : Sig) where
 
   rules_of-unconditional : (ss : List Statement) → AllByRecursion IsUnconditional (rules_of sig ss)
   rules_of-unconditional [] = tt
-  rules_of-unconditional (OpOf name least ∷ ss) = rules_of-unconditional ss
+  rules_of-unconditional (OpOf name least flags sign ∷ ss) = rules_of-unconditional ss
+  rules_of-unconditional (KindOf name members ∷ ss) = rules_of-unconditional ss
   rules_of-unconditional (RuleOf name p ∷ ss) = (refl, rules_of-unconditional ss)
   rules_of-unconditional (SubjectOf name t ∷ ss) = rules_of-unconditional ss
 

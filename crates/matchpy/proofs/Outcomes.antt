@@ -4,9 +4,11 @@ use Rattle.std.specs.Prelude.{Option, Some, None, if◌then◌else◌, nat_lt}
 use Rattle.std.proofs.lemmas.Bool.Decides.{nat_tests}
 use Rattle.mp_io.specs.Devices.{Files, Text, held}
 use Rattle.mp_text.specs.File.{FileTree}
-use Rattle.mp_text.specs.Reading.{IsFileOf, file_of}
-use Rattle.mp_text.proofs.Whole.{file_of-exact}
-use Rattle.matchpy.specs.Messages.{long_line}
+use Rattle.mp_text.specs.Matched.{is_matched_file}
+use Rattle.mp_text.specs.Reading.{IsFaultOf, IsFileOf, fault_of, file_of}
+use Rattle.mp_text.specs.declared.fault.TextFault.{TextFault}
+use Rattle.mp_text.proofs.Whole.{fault_of-exact, file_of-exact, matched-no_fault, no_fault-of}
+use Rattle.matchpy.specs.Messages.{fault_line, long_line}
 use Rattle.matchpy.specs.Matches.{IsMatchText, match_text}
 use Rattle.matchpy.specs.Outcome.{IsMatchOutcome, IsOutcomeAt, IsOver, Outcome, file_limit, given, match_outcome, matched, outcome_at, over_file, refused}
 use Rattle.matchpy.specs.Words.{Request, Match}
@@ -15,11 +17,18 @@ use Rattle.matchpy.proofs.MatchTexts.{IsMatchText-unique, match_text-is}
 
 -- ---- there is one
 
-over_file-is : (name bytes : Text) (found : Option FileTree) → file_of bytes ≡ found → IsMatchOutcome name bytes (over_file name found)
-over_file-is name bytes None e = inr (λ file h. let other : Some file ≡ None = sym ((file_of-exact bytes file).0 h) ∙ e in absurd cc, refl)
-over_file-is name bytes (Some file) e =
-    let read : IsFileOf bytes file = (file_of-exact bytes file).1 e in
-    inl (file, read, match_text file, match_text-is file (IsFileOf-matchable bytes file read), refl)
+over_file-is : (name bytes : Text) (fault : Option TextFault) (found : Option FileTree) → fault_of bytes ≡ fault → file_of bytes ≡ found → IsMatchOutcome name bytes (over_file name fault found)
+over_file-is name bytes (Some fault) found f e = inr (fault, (fault_of-exact bytes fault).1 f, refl)
+over_file-is name bytes None None f e =
+    let (file, read, m) = no_fault-of bytes f in
+    let other : Some file ≡ None = sym ((file_of-exact bytes file).0 read) ∙ e in
+    absurd cc
+over_file-is name bytes None (Some file) f e =
+    let (other, read, m) = no_fault-of bytes f in
+    let both : Some other ≡ Some file = sym ((file_of-exact bytes other).0 read) ∙ e in
+    let same : other ≡ file = cc in
+    let this : IsFileOf bytes file = subst (IsFileOf bytes) same read in
+    inl (file, this, subst (λ g. is_matched_file g ≡ true) same m, match_text file, match_text-is file (IsFileOf-matchable bytes file this), refl)
 
 given-is : (limit : ℕ) (name : Text) (over : Text → Outcome) (Over : Text → Outcome → Type 0) → ((bytes : Text) → Over bytes (over bytes)) → (found : Option Text) → IsOver limit name Over found (given limit name over found)
 given-is limit name over Over h None = refl
@@ -31,19 +40,32 @@ given-is limit name over Over h (Some bytes) = go (nat_lt limit (length bytes)) 
 
 pub outcome_at-is : (files : Files) (request : Option Request) → IsOutcomeAt files request (outcome_at files request)
 outcome_at-is files None = refl
-outcome_at-is files (Some (Match name)) = given-is file_limit name (match_outcome name) (IsMatchOutcome name) (λ bytes. over_file-is name bytes (file_of bytes) refl) (held files name)
+outcome_at-is files (Some (Match name)) = given-is file_limit name (match_outcome name) (IsMatchOutcome name) (λ bytes. over_file-is name bytes (fault_of bytes) (file_of bytes) refl refl) (held files name)
 
 -- ---- and no other
 
+-- a file that is matched has no fault
+read-fault : (bytes : Text) (f : FileTree) (t : TextFault) → IsFileOf bytes f → is_matched_file f ≡ true → IsFaultOf bytes t → ⊥
+read-fault bytes f t read m h =
+    let both : None ≡ Some t = sym (matched-no_fault bytes f read m) ∙ (fault_of-exact bytes t).0 h in
+    absurd cc
+
 IsMatchOutcome-unique : (name bytes : Text) (o p : Outcome) → IsMatchOutcome name bytes o → IsMatchOutcome name bytes p → o ≡ p
 IsMatchOutcome-unique name bytes o p (inl h) (inl k) =
-    let same : Some h.0 ≡ Some k.0 = sym ((file_of-exact bytes h.0).0 h.1) ∙ (file_of-exact bytes k.0).0 k.1 in
-    let file : h.0 ≡ k.0 = cc in
-    let text : IsMatchText k.0 h.2 = subst (λ (f : FileTree). IsMatchText f h.2) file h.3 in
-    h.4 ∙ ap matched (IsMatchText-unique k.0 (IsFileOf-matchable bytes k.0 k.1) h.2 k.2 text k.3) ∙ sym k.4
-IsMatchOutcome-unique name bytes o p (inl h) (inr k) = absurd (k.0 h.0 h.1)
-IsMatchOutcome-unique name bytes o p (inr h) (inl k) = absurd (h.0 k.0 k.1)
-IsMatchOutcome-unique name bytes o p (inr h) (inr k) = h.1 ∙ sym k.1
+    let (f, read, m, text, lines, e) = h in
+    let (g, read_g, m_g, text_g, lines_g, e_g) = k in
+    let same : Some f ≡ Some g = sym ((file_of-exact bytes f).0 read) ∙ (file_of-exact bytes g).0 read_g in
+    let file : f ≡ g = cc in
+    let lines_f : IsMatchText g text = subst (λ (x : FileTree). IsMatchText x text) file lines in
+    e ∙ ap matched (IsMatchText-unique g (IsFileOf-matchable bytes g read_g) text text_g lines_f lines_g) ∙ sym e_g
+IsMatchOutcome-unique name bytes o p (inl h) (inr k) = absurd (read-fault bytes h.0 k.0 h.1 h.2 k.1)
+IsMatchOutcome-unique name bytes o p (inr h) (inl k) = absurd (read-fault bytes k.0 h.0 k.1 k.2 h.1)
+IsMatchOutcome-unique name bytes o p (inr h) (inr k) =
+    let (t, is_t, e) = h in
+    let (u, is_u, e_u) = k in
+    let both : Some t ≡ Some u = sym ((fault_of-exact bytes t).0 is_t) ∙ (fault_of-exact bytes u).0 is_u in
+    let same : t ≡ u = cc in
+    e ∙ ap (λ x. refused 3 (fault_line name x)) same ∙ sym e_u
 
 IsOver-unique : (limit : ℕ) (name : Text) (Over : Text → Outcome → Type 0) → ((bytes : Text) (o p : Outcome) → Over bytes o → Over bytes p → o ≡ p) → (found : Option Text) (o p : Outcome)
     → IsOver limit name Over found o → IsOver limit name Over found p → o ≡ p

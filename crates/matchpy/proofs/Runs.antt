@@ -6,7 +6,8 @@ use Rattle.mp_io.specs.Devices.{Files, Rose, Text, held}
 use Rattle.mp_io.specs.Printing.{AppendsFront}
 use Rattle.mp_io.proofs.Written.{whole_front}
 use Rattle.mp_text.specs.File.{FileTree}
-use Rattle.mp_text.specs.Reading.{file_of}
+use Rattle.mp_text.specs.Reading.{fault_of, file_of}
+use Rattle.mp_text.specs.declared.fault.TextFault.{TextFault}
 use Rattle.matchpy.specs.Answers.{Answers, IsReached, IsTurnOf, Shelved, Sunk}
 use Rattle.matchpy.specs.Endings.{line_of, status_of, told_line, told_status}
 use Rattle.matchpy.specs.Messages.{long_line, memory_line, open_line, read_line, write_line}
@@ -40,15 +41,16 @@ given-silent limit name over (Some bytes) h = go (nat_lt limit (length bytes))
 
 -- over the bytes of a file the status isn't 4
 pub match_outcome-read : (name bytes : Text) → (match_outcome name bytes).status ≡ 4 → ⊥
-match_outcome-read name bytes = go (file_of bytes)
+match_outcome-read name bytes = go (fault_of bytes) (file_of bytes)
   where
     of_text : (b : Bool) → (let n : ℕ = if b then 0 else 1 in n ≡ 4) → ⊥
     of_text true = λ e. absurd (omega arith)
     of_text false = λ e. absurd (omega arith)
 
-    go : (found : Option FileTree) → (over_file name found).status ≡ 4 → ⊥
-    go None = λ e. absurd (omega arith)
-    go (Some file) = of_text (has_some (match_text file))
+    go : (fault : Option TextFault) (found : Option FileTree) → (over_file name fault found).status ≡ 4 → ⊥
+    go (Some fault) found = λ e. absurd (omega arith)
+    go None None = λ e. absurd (omega arith)
+    go None (Some file) = of_text (has_some (match_text file))
 
 outcome_at-silent : (files : Files) (request : Option Request) → IsSilent (outcome_at files request)
 outcome_at-silent files None = λ e. refl

@@ -1,8 +1,10 @@
 -- What a run writes and answers, for these words and these files, memory and faults aside.
-use Rattle.std.specs.Prelude.{◌≡◌, ◌⊎◌, ◌<◌, ◌≤◌, ℕ, List, [], length, Option, Some, None, if◌then◌else◌, nat_lt}
+use Rattle.std.specs.Prelude.{◌≡◌, ◌⊎◌, ◌<◌, ◌≤◌, ℕ, true, List, [], length, Option, Some, None, if◌then◌else◌, nat_lt}
 use Rattle.mp_io.specs.Devices.{Files, Text, held}
 use Rattle.mp_text.specs.File.{FileTree}
-use Rattle.mp_text.specs.Reading.{IsFileOf, file_of, unread_fault}
+use Rattle.mp_text.specs.Matched.{is_matched_file}
+use Rattle.mp_text.specs.Reading.{IsFaultOf, IsFileOf, fault_of, file_of, unread_fault}
+use Rattle.mp_text.specs.declared.fault.TextFault.{TextFault}
 use Rattle.matchpy.specs.Messages.{fault_line, long_line, open_line, usage_line}
 use Rattle.matchpy.specs.Matches.{IsMatchText, has_some, match_text}
 use Rattle.matchpy.specs.Words.{Request, Match, request_of}
@@ -27,11 +29,11 @@ matched text = record { out = text; err = []; status = if has_some text then 0 e
 
 -- ---- as a relation
 
--- over the bytes of a named file: the matches of the file that they stand for, or where they stand for none, the fault
+-- over the bytes of a named file: the matches of the file that they stand for, or the fault that they have
 abbrev pub IsMatchOutcome : Text → Text → Outcome → Type 0
 IsMatchOutcome name bytes o =
-    ((file : FileTree) × IsFileOf bytes file × (text : Text) × IsMatchText file text × (o ≡ matched text))
-    ⊎ (((file : FileTree) → IsFileOf bytes file → ⊥) × (o ≡ refused 3 (fault_line name unread_fault)))
+    ((file : FileTree) × IsFileOf bytes file × (is_matched_file file ≡ true) × (text : Text) × IsMatchText file text × (o ≡ matched text))
+    ⊎ ((fault : TextFault) × IsFaultOf bytes fault × (o ≡ refused 3 (fault_line name fault)))
 
 -- a named file is held and not too long, and over its bytes the outcome is as told; or it is refused
 abbrev pub IsOver : ℕ → Text → (Text → Outcome → Type 0) → Option Text → Outcome → Type 0
@@ -48,13 +50,15 @@ IsOutcome words files o = IsOutcomeAt files (request_of words) o
 
 -- ---- as a function
 
-abbrev pub over_file : Text → Option FileTree → Outcome
-over_file name None = refused 3 (fault_line name unread_fault)
-over_file name (Some file) = matched (match_text file)
+-- the matches of a file, where there is no fault
+abbrev pub over_file : Text → Option TextFault → Option FileTree → Outcome
+over_file name (Some fault) found = refused 3 (fault_line name fault)
+over_file name None (Some file) = matched (match_text file)
+over_file name None None = refused 3 (fault_line name unread_fault)
 
 -- over the bytes of a named file
 abbrev pub match_outcome : Text → Text → Outcome
-match_outcome name bytes = over_file name (file_of bytes)
+match_outcome name bytes = over_file name (fault_of bytes) (file_of bytes)
 
 -- the outcome over a named file's bytes, where it is held and not too long
 abbrev pub given : ℕ → Text → (Text → Outcome) → Option Text → Outcome

@@ -110,10 +110,27 @@ pub fault_of-exact : (bytes : List ℕ) (t : TextFault) → IsFaultOf bytes t �
 fault_of-exact bytes t = (fault-of bytes t, fault-is bytes (reading bytes) t refl)
 
 -- a file that is matched has no fault
-matched-no_fault : (bytes : List ℕ) (f : FileTree) → IsFileOf bytes f → is_matched_file f ≡ true → fault_of bytes ≡ None
+pub matched-no_fault : (bytes : List ℕ) (f : FileTree) → IsFileOf bytes f → is_matched_file f ≡ true → fault_of bytes ≡ None
 matched-no_fault bytes f file m =
     let ss = file.statements in
     ap fault_in (reading-only bytes ss file.syntax) ∙ ap (λ fs. fault_among fs (file_tree_of ss)) file.faultless ∙ matched-among (file_tree_of ss) (ap is_matched_file (sym file.file) ∙ m)
+
+-- where no fault is found the file is matched
+none-among : (fs : List TextFault) (f : FileTree) (matched : Bool) → is_matched_file f ≡ matched → fault_among fs f ≡ None → (fs ≡ []) × (is_matched_file f ≡ true)
+none-among [] f true m h = (refl, m)
+none-among [] f false m h = absurd (none_some unread_fault (sym h ∙ unmatched-among f m))
+none-among (x ∷ xs) f matched m h = absurd (none_some x (sym h))
+
+-- what is read without a fault is a file that is matched
+no_fault-in : (bytes : List ℕ) (r : Result (List Statement) Fault) → reading bytes ≡ r → fault_in r ≡ None → (f : FileTree) × IsFileOf bytes f × (is_matched_file f ≡ true)
+no_fault-in bytes (Err f) e h = absurd (none_some unread_fault (sym h))
+no_fault-in bytes (Ok ss) e h =
+    let k = none-among (faults ss) (file_tree_of ss) (is_matched_file (file_tree_of ss)) refl h in
+    (file_tree_of ss, record { statements = ss; syntax = reading-found bytes ss e; faultless = k.0; file = refl }, k.1)
+
+-- bytes without a fault are a file that is matched
+pub no_fault-of : (bytes : List ℕ) → fault_of bytes ≡ None → (f : FileTree) × IsFileOf bytes f × (is_matched_file f ≡ true)
+no_fault-of bytes h = no_fault-in bytes (reading bytes) refl h
 
 -- ---- what reading answers
 

@@ -6,4 +6,4 @@ use Rattle.matchpy.proofs.matches.match_file.Goals as goal
 pub write_file-requires : goal.write_file-requires
 write_file-requires g c =
     let file = file_tree c.in-Ok.file in
-    IsFileOf-matchable c.args.bytes.now file ((file_of-exact c.args.bytes.now file).1 c.in-Ok.ensures.computed)
+    IsFileOf-matchable c.args.bytes.now file ((file_of-exact c.args.bytes.now file).1 c.in-Ok.ensures.computed.0)
