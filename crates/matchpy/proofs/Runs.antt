@@ -12,9 +12,9 @@ use Rattle.matchpy.specs.Answers.{Answers, IsReached, IsTurnOf, Shelved, Sunk}
 use Rattle.matchpy.specs.Endings.{line_of, status_of, told_line, told_status}
 use Rattle.matchpy.specs.Messages.{long_line, memory_line, open_line, read_line, write_line}
 use Rattle.matchpy.specs.Matches.{has_some, match_text}
-use Rattle.matchpy.specs.Outcome.{Outcome, file_limit, given, match_outcome, outcome_at, over_file, refused}
+use Rattle.matchpy.specs.Outcome.{Outcome, file_limit, given, match_outcome, matched, outcome_at, over_file, refused, show_outcome, shown}
 use Rattle.matchpy.specs.Run.{HasOutcome, IsSomeMissing, Runs, Says, names_of}
-use Rattle.matchpy.specs.Words.{Request, Match, request_of}
+use Rattle.matchpy.specs.Words.{Request, Match, Show, request_of}
 use Rattle.matchpy.specs.declared.ending.Told.{Told}
 use Rattle.matchpy.specs.declared.ending.Told.TheVariants as told
 use Rattle.matchpy.specs.declared.ending.Ending.{Ending}
@@ -40,26 +40,38 @@ given-silent limit name over (Some bytes) h = go (nat_lt limit (length bytes))
     go false = h bytes
 
 -- over the bytes of a file the status isn't 4
-pub match_outcome-read : (name bytes : Text) → (match_outcome name bytes).status ≡ 4 → ⊥
-match_outcome-read name bytes = go (fault_of bytes) (file_of bytes)
+over_file-read : (over : FileTree → Outcome) → ((file : FileTree) → (over file).status ≡ 4 → ⊥) → (name : Text) (fault : Option TextFault) (found : Option FileTree) → (over_file over name fault found).status ≡ 4 → ⊥
+over_file-read over h name (Some fault) found = λ e. absurd (omega arith)
+over_file-read over h name None None = λ e. absurd (omega arith)
+over_file-read over h name None (Some file) = h file
+
+matched-read : (file : FileTree) → (matched (match_text file)).status ≡ 4 → ⊥
+matched-read file = of_text (has_some (match_text file))
   where
     of_text : (b : Bool) → (let n : ℕ = if b then 0 else 1 in n ≡ 4) → ⊥
     of_text true = λ e. absurd (omega arith)
     of_text false = λ e. absurd (omega arith)
 
-    go : (fault : Option TextFault) (found : Option FileTree) → (over_file name fault found).status ≡ 4 → ⊥
-    go (Some fault) found = λ e. absurd (omega arith)
-    go None None = λ e. absurd (omega arith)
-    go None (Some file) = of_text (has_some (match_text file))
+shown-read : (file : FileTree) → (shown file).status ≡ 4 → ⊥
+shown-read file = λ e. absurd (omega arith)
+
+pub match_outcome-read : (name bytes : Text) → (match_outcome name bytes).status ≡ 4 → ⊥
+match_outcome-read name bytes = over_file-read (λ file. matched (match_text file)) matched-read name (fault_of bytes) (file_of bytes)
+
+pub show_outcome-read : (name bytes : Text) → (show_outcome name bytes).status ≡ 4 → ⊥
+show_outcome-read name bytes = over_file-read shown shown-read name (fault_of bytes) (file_of bytes)
 
 outcome_at-silent : (files : Files) (request : Option Request) → IsSilent (outcome_at files request)
 outcome_at-silent files None = λ e. refl
 outcome_at-silent files (Some (Match name)) = given-silent file_limit name (match_outcome name) (held files name) (λ bytes e. absurd (match_outcome-read name bytes e))
+outcome_at-silent files (Some (Show name)) = given-silent file_limit name (show_outcome name) (held files name) (λ bytes e. absurd (show_outcome-read name bytes e))
 
 outcome_at-missing : (files : Files) (request : Option Request) → IsSomeMissing files (names_of request) → IsUnheld (outcome_at files request)
 outcome_at-missing files None h = absurd h
 outcome_at-missing files (Some (Match name)) (inl m) = subst (λ found. IsUnheld (given file_limit name (match_outcome name) found)) (sym m) (refl, refl)
 outcome_at-missing files (Some (Match name)) (inr h) = absurd h
+outcome_at-missing files (Some (Show name)) (inl m) = subst (λ found. IsUnheld (given file_limit name (show_outcome name) found)) (sym m) (refl, refl)
+outcome_at-missing files (Some (Show name)) (inr h) = absurd h
 
 -- ---- what is kept and what is appended
 

@@ -3,11 +3,12 @@ use Rattle.std.specs.Prelude.{◌≡◌, ◌⊎◌, ◌<◌, ◌≤◌, ℕ, tru
 use Rattle.mp_io.specs.Devices.{Files, Text, held}
 use Rattle.mp_text.specs.File.{FileTree}
 use Rattle.mp_text.specs.Matched.{is_matched_file}
+use Rattle.mp_text.specs.PrintedFile.{file_text}
 use Rattle.mp_text.specs.Reading.{IsFaultOf, IsFileOf, fault_of, file_of, unread_fault}
 use Rattle.mp_text.specs.declared.fault.TextFault.{TextFault}
 use Rattle.matchpy.specs.Messages.{fault_line, long_line, open_line, usage_line}
 use Rattle.matchpy.specs.Matches.{IsMatchText, has_some, match_text}
-use Rattle.matchpy.specs.Words.{Request, Match, request_of}
+use Rattle.matchpy.specs.Words.{Request, Match, Show, request_of}
 
 pub record Outcome : Type 0 where
   -- the text for standard output, the text for standard error, and the status
@@ -27,12 +28,24 @@ file_limit = 1048576
 abbrev pub matched : Text → Outcome
 matched text = record { out = text; err = []; status = if has_some text then 0 else 1 }
 
+-- the printed file
+abbrev pub shown : FileTree → Outcome
+shown file = record { out = file_text file; err = []; status = 0 }
+
 -- ---- as a relation
 
--- over the bytes of a named file: the matches of the file that they stand for, or the fault that they have
-abbrev pub IsMatchOutcome : Text → Text → Outcome → Type 0
-IsMatchOutcome name bytes o =
-    ((file : FileTree) × IsFileOf bytes file × (is_matched_file file ≡ true) × (text : Text) × IsMatchText file text × (o ≡ matched text))
+-- the matches of the file are printed
+abbrev pub AreMatches : FileTree → Outcome → Type 0
+AreMatches file o = (text : Text) × IsMatchText file text × (o ≡ matched text)
+
+-- the file is printed
+abbrev pub IsShown : FileTree → Outcome → Type 0
+IsShown file o = o ≡ shown file
+
+-- over the bytes of a named file: as told of the file that they stand for, or the fault that they have
+abbrev pub IsFileOutcome : (FileTree → Outcome → Type 0) → Text → Text → Outcome → Type 0
+IsFileOutcome over name bytes o =
+    ((file : FileTree) × IsFileOf bytes file × (is_matched_file file ≡ true) × over file o)
     ⊎ ((fault : TextFault) × IsFaultOf bytes fault × (o ≡ refused 3 (fault_line name fault)))
 
 -- a named file is held and not too long, and over its bytes the outcome is as told; or it is refused
@@ -42,7 +55,8 @@ IsOver limit name over (Some bytes) o = ((limit < length bytes) × (o ≡ refuse
 
 abbrev pub IsOutcomeAt : Files → Option Request → Outcome → Type 0
 IsOutcomeAt files None o = o ≡ refused 2 usage_line
-IsOutcomeAt files (Some (Match name)) o = IsOver file_limit name (IsMatchOutcome name) (held files name) o
+IsOutcomeAt files (Some (Match name)) o = IsOver file_limit name (IsFileOutcome AreMatches name) (held files name) o
+IsOutcomeAt files (Some (Show name)) o = IsOver file_limit name (IsFileOutcome IsShown name) (held files name) o
 
 -- o is the outcome of these words over these files
 abbrev pub IsOutcome : List Text → Files → Outcome → Type 0
@@ -50,15 +64,21 @@ IsOutcome words files o = IsOutcomeAt files (request_of words) o
 
 -- ---- as a function
 
--- the matches of a file, where there is no fault
-abbrev pub over_file : Text → Option TextFault → Option FileTree → Outcome
-over_file name (Some fault) found = refused 3 (fault_line name fault)
-over_file name None (Some file) = matched (match_text file)
-over_file name None None = refused 3 (fault_line name unread_fault)
+-- as told of a file, where there is no fault
+abbrev pub over_file : (FileTree → Outcome) → Text → Option TextFault → Option FileTree → Outcome
+over_file over name (Some fault) found = refused 3 (fault_line name fault)
+over_file over name None (Some file) = over file
+over_file over name None None = refused 3 (fault_line name unread_fault)
 
 -- over the bytes of a named file
+abbrev pub file_outcome : (FileTree → Outcome) → Text → Text → Outcome
+file_outcome over name bytes = over_file over name (fault_of bytes) (file_of bytes)
+
 abbrev pub match_outcome : Text → Text → Outcome
-match_outcome name bytes = over_file name (fault_of bytes) (file_of bytes)
+match_outcome = file_outcome (λ file. matched (match_text file))
+
+abbrev pub show_outcome : Text → Text → Outcome
+show_outcome = file_outcome shown
 
 -- the outcome over a named file's bytes, where it is held and not too long
 abbrev pub given : ℕ → Text → (Text → Outcome) → Option Text → Outcome
@@ -68,3 +88,4 @@ given limit name over (Some bytes) = if nat_lt limit (length bytes) then refused
 abbrev pub outcome_at : Files → Option Request → Outcome
 outcome_at files None = refused 2 usage_line
 outcome_at files (Some (Match name)) = given file_limit name (match_outcome name) (held files name)
+outcome_at files (Some (Show name)) = given file_limit name (show_outcome name) (held files name)

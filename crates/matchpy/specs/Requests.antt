@@ -5,3 +5,4 @@ use Rattle.matchpy.specs.declared.words.Request.TheVariants as request
 
 abbrev pub asked : Request → words.Request
 asked (request.Match file) = words.Match file.now
+asked (request.Show file) = words.Show file.now

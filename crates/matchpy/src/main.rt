@@ -8,6 +8,7 @@ mod matches;
 mod one_list;
 mod printer;
 mod run;
+mod show;
 mod words;
 
 use mp_io::{RealShelf, RealSink};

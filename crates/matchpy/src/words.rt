@@ -10,6 +10,8 @@ ghost use Rattle.matchpy.specs.Run.{words_of};
 pub enum Request<'a> {
     /// The matches of the rules of a file.
     Match(&'a str),
+    /// The file, printed.
+    Show(&'a str),
 }
 
 // `-`, which is standard input, or a text that isn't empty and doesn't begin with `-`.
@@ -23,7 +25,7 @@ fn is_file_name(name: &str) -> bool
     }
 }
 
-/// The request that the words make, if they make one: `match` and a file's name.
+/// The request that the words make, if they make one: `match` or `show`, and a file's name.
 ///
 /// A file's name is `-` or a text that isn't empty and doesn't begin with `-`.
 /// It meets `request_of` of `specs/Words.antt`.
@@ -32,8 +34,12 @@ pub fn read_words(words: &[String]) -> Option<Request<'_>>
 {
     match words {
         [action, file] => {
-            if action.as_str() == "match" && is_file_name(file.as_str()) {
+            if !is_file_name(file.as_str()) {
+                None
+            } else if action.as_str() == "match" {
                 Some(Request::Match(file.as_str()))
+            } else if action.as_str() == "show" {
+                Some(Request::Show(file.as_str()))
             } else {
                 None
             }
