@@ -12,8 +12,8 @@ use Rattle.matchpy.specs.Substs.{bare_rule}
 use Rattle.std.specs.List.{AllByRecursion}
 use Rattle.std.specs.Io.KnownBytes.{Appends}
 use Rattle.mp_io.specs.Devices.{Rose, Text}
-use Rattle.mp_io.specs.Printing.{AppendsFront, Prints}
-use Rattle.mp_io.proofs.Written.{Written, part_cut, part_written, prints_part_cut}
+use Rattle.mp_io.specs.Printing.{AppendsFront, IsCut, Prints}
+use Rattle.mp_io.proofs.Written.{Written, part_front, part_written, prints_part_cut}
 use Rattle.matchpy.specs.Printed.{PrintsMatches}
 use Rattle.matchpy.specs.Matches.{has_some, match_line, rule_text}
 use Rattle.matchpy.specs.declared.matches.Stop.{Stop}
@@ -42,7 +42,7 @@ module _ {A X : Type 0} (view : A → X) where
 
   -- a front of the part at an index is written, and then nothing more
   pub prints_parts_cut : {T E : Type 0} (text : X → Text) (xs : List A) (i : ℕ) (x : A) (a b c : Option Text) (m n k : ℕ) (whole : Text) (error : E) → i < length xs → x ≡ get_or xs i x
-      → Written a b whole (flat_map text (map view (drop i xs))) → m ≤ n → AppendsFront b c (text (view x)) → n ≤ k → Rose n k → Prints {T = T} a c m k whole (Err error)
+      → Written a b whole (flat_map text (map view (drop i xs))) → m ≤ n → IsCut b c (text (view x)) → n ≤ k → Rose n k → Prints {T = T} a c m k whole (Err error)
   prints_parts_cut text xs i x a b c m n k whole error h is w mn cut nk rose =
       prints_part_cut a b c m n k whole (text (view x)) (flat_map text (map view (drop (i + 1) xs))) error (subst (Written a b whole) (flat_map-drop text xs i x h is) w) mn cut nk rose
 
@@ -87,12 +87,12 @@ has_some-drop view text xs i x whole any some within is h e =
 
 lists_cut : (a b c : Option Text) (m n k : ℕ) (whole part rest : Text) (stop : Stop) → Written a b whole (part ++ rest) → m ≤ n
     → PrintsMatches part (record { old = b; new = c; faults = n; faults_after = k }) (Err stop) → PrintsMatches whole (record { old = a; new = c; faults = m; faults_after = k }) (Err stop)
-lists_cut a b c m n k whole part rest Memory w mn h = part_cut a b c whole part rest w h
+lists_cut a b c m n k whole part rest Memory w mn h = part_front a b c whole part rest w h
 lists_cut a b c m n k whole part rest CannotWrite w mn h =
     let rose = h.1 in
     let long = h.2 in
     let same : length whole ≡ length (w.front ++ (part ++ rest)) = ap length w.split in
-    (part_cut a b c whole part rest w h.0, omega arith, omega (arith, length-append w.front (part ++ rest), length-append part rest))
+    (part_front a b c whole part rest w h.0, omega arith, omega (arith, length-append w.front (part ++ rest), length-append part rest))
 
 module _ {A X : Type 0} (view : A → X) (text : X → Text) (xs : List A) (i : ℕ) (x : A) (a b c : Option Text) (m n k : ℕ) (whole : Text) (within : i < length xs) (is : x ≡ get_or xs i x) where
   -- the call for the item at an index stopped

@@ -2,7 +2,7 @@
 use Rattle.std.proofs.Common.{◌≡◌, ℕ, ◌+◌, ◌<◌, ◌≤◌, List, [], ◌∷◌, ◌++◌, length, map, drop, get_or, refl, sym, ap, ◌∙◌, subst, append_assoc}
 use Rattle.std.specs.Prelude.{Option, Err, codes}
 use Rattle.std.specs.Io.KnownBytes.{Appends}
-use Rattle.mp_io.specs.Printing.{AppendsFront, Prints}
+use Rattle.mp_io.specs.Printing.{IsCut, Prints}
 use Rattle.mp_io.specs.Devices.{Rose, Text}
 use Rattle.mp_io.proofs.Written.{Written, part_written, prints_part_cut}
 use Rattle.mp_text.specs.Printing.{preceded, separated}
@@ -38,7 +38,7 @@ module _ {A X : Type 0} (view : A → X) (text : X → Text) (separator : Text) 
 
   -- a front of the item at an index is written, and then nothing more
   pub prints_rest_cut : {T E : Type 0} (a b c : Option Text) (m n k : ℕ) (whole : Text) (error : E) → Written a b whole (rest_text separator (map text (map view (drop i xs)))) → m ≤ n
-      → AppendsFront b c (separator ++ text (view x)) → n ≤ k → Rose n k → Prints {T = T} a c m k whole (Err error)
+      → IsCut b c (separator ++ text (view x)) → n ≤ k → Rose n k → Prints {T = T} a c m k whole (Err error)
   prints_rest_cut a b c m n k whole error w mn cut nk rose =
       prints_part_cut a b c m n k whole (separator ++ text (view x)) (rest_text (codes ", ") (map text (map view (drop (i + 1) xs)))) error (subst (Written a b whole) rest_text-drop w) mn cut nk rose
 

@@ -1,10 +1,11 @@
 -- A text that is written part by part, and what its printer's answer says in the end.
-use Rattle.std.proofs.Common.{◌≡◌, ℕ, ◌≤◌, [], ◌++◌, refl, sym, ap, ◌∙◌, subst, append_assoc, append-nil, arith, Result, Ok, Err}
+use Rattle.std.proofs.Common.{◌≡◌, ℕ, ◌≤◌, ◌<◌, [], ◌++◌, length, refl, sym, ap, ◌∙◌, subst, append_assoc, append-nil, arith, Result, Ok, Err}
 use Rattle.std.specs.Prelude.{Option}
+use Rattle.std.proofs.lemmas.List.{length-append}
 use Rattle.std.specs.Io.KnownBytes.{Appends}
 use Rattle.std.proofs.KnownBytes.{Appends-nil, Appends-trans}
 use Rattle.mp_io.specs.Devices.{Rose, Text}
-use Rattle.mp_io.specs.Printing.{AppendsFront, Prints}
+use Rattle.mp_io.specs.Printing.{AppendsFront, IsCut, Prints}
 
 -- the contents grew by the front of the text, and the rest is still to come
 pub record Written (old new : Option Text) (text rest : Text) : Type 0 where
@@ -24,14 +25,24 @@ part_written a b c text part rest w h = record {
   written = Appends-trans a b c w.front part w.written h;
 }
 
+-- a text with a part that has a byte has one
+part_some : (a b : Option Text) (text part rest : Text) → Written a b text (part ++ rest) → 0 < length part → 0 < length text
+part_some a b text part rest w long =
+    let same : length text ≡ length (w.front ++ (part ++ rest)) = ap length w.split in
+    omega (arith, length-append w.front (part ++ rest), length-append part rest)
+
 -- a front of the next part is written, and then nothing more
-pub part_cut : (a b c : Option Text) (text part rest : Text) → Written a b text (part ++ rest) → AppendsFront b c part → AppendsFront a c text
-part_cut a b c text part rest w h = record {
+pub part_front : (a b c : Option Text) (text part rest : Text) → Written a b text (part ++ rest) → AppendsFront b c part → AppendsFront a c text
+part_front a b c text part rest w h = record {
   front = w.front ++ h.front;
   rest = h.rest ++ rest;
   split = w.split ∙ ap (λ p. w.front ++ (p ++ rest)) h.split ∙ ap (λ p. w.front ++ p) (append_assoc h.front h.rest rest) ∙ sym (append_assoc w.front h.front (h.rest ++ rest));
   written = Appends-trans a b c w.front h.front w.written h.written;
 }
+
+-- the same, of parts that have a byte
+pub part_cut : (a b c : Option Text) (text part rest : Text) → Written a b text (part ++ rest) → IsCut b c part → IsCut a c text
+part_cut a b c text part rest w h = record { front = part_front a b c text part rest w h.front; some = part_some a b text part rest w h.some }
 
 -- what is written so far is a front of the text
 pub so_far : (a b : Option Text) (text rest : Text) → Written a b text rest → AppendsFront a b text
@@ -46,13 +57,19 @@ pub whole_front : (a b : Option Text) (text : Text) → Appends a b text → App
 whole_front a b text h = record { front = text; rest = []; split = sym (append-nil text); written = h }
 
 -- a front of a text is a front of the text and more
-pub front_then : (a b : Option Text) (first second : Text) → AppendsFront a b first → AppendsFront a b (first ++ second)
-front_then a b first second h = record {
-  front = h.front;
-  rest = h.rest ++ second;
-  split = ap (λ l. l ++ second) h.split ∙ append_assoc h.front h.rest second;
-  written = h.written;
-}
+pub front_then : (a b : Option Text) (first second : Text) → IsCut a b first → IsCut a b (first ++ second)
+front_then a b first second h =
+    let cut = h.front in
+    let long = h.some in
+    record {
+      front = record {
+        front = cut.front;
+        rest = cut.rest ++ second;
+        split = ap (λ l. l ++ second) cut.split ∙ append_assoc cut.front cut.rest second;
+        written = cut.written;
+      };
+      some = omega (arith, length-append first second);
+    }
 
 -- ---- what a printer answers
 
@@ -66,7 +83,7 @@ prints_ended a b m n text value w h = record { whole = ended a b text w; front =
 
 -- a printer that fails within the next part
 pub prints_part_cut : {T E : Type 0} (a b c : Option Text) (m n k : ℕ) (text part rest : Text) (error : E)
-    → Written a b text (part ++ rest) → m ≤ n → AppendsFront b c part → n ≤ k → Rose n k → Prints {T = T} a c m k text (Err error)
+    → Written a b text (part ++ rest) → m ≤ n → IsCut b c part → n ≤ k → Rose n k → Prints {T = T} a c m k text (Err error)
 prints_part_cut a b c m n k text part rest error w h cut later rose = record {
   whole = tt;
   front = part_cut a b c text part rest w cut;
@@ -92,6 +109,6 @@ prints_then a b c m n k first second result written h p =
 
 -- a printer that fails within the first of two texts
 pub prints_cut : {T E : Type 0} (a b : Option Text) (m n : ℕ) (first second : Text) (error : E)
-    → AppendsFront a b first → m ≤ n → Rose m n → Prints {T = T} a b m n (first ++ second) (Err error)
+    → IsCut a b first → m ≤ n → Rose m n → Prints {T = T} a b m n (first ++ second) (Err error)
 prints_cut a b m n first second error cut later rose =
     record { whole = tt; front = front_then a b first second cut; cause = record { later = later; failed = rose } }

@@ -1,5 +1,5 @@
 -- What the answer of a call that writes a text means.
-use Rattle.std.specs.Prelude.{◌≡◌, ℕ, ◌++◌, List, [], ◌∷◌, Option, Result, OnErr, OnOk}
+use Rattle.std.specs.Prelude.{◌≡◌, ◌<◌, ℕ, ◌++◌, List, [], ◌∷◌, length, Option, Result, OnErr, OnOk}
 use Rattle.std.specs.Borrow.{Bor}
 use Rattle.std.specs.Io.KnownBytes.{Appends}
 use Rattle.mp_io.specs.Devices.{HasCause, Text}
@@ -11,10 +11,15 @@ pub record AppendsFront (old new : Option Text) (text : Text) : Type 0 where
   pub split : text ≡ front ++ rest
   pub written : Appends old new front
 
--- at `Ok` the whole text was appended; at `Err` a front of it, and the count of faults rose
+-- told contents grow by a front of a text that has a byte
+pub record IsCut (old new : Option Text) (text : Text) : Type 0 where
+  pub front : AppendsFront old new text
+  pub some : 0 < length text
+
+-- at `Ok` the whole text was appended; at `Err` there was one, a front of it was appended, and the count of faults rose
 pub record Prints {T E : Type 0} (old new : Option Text) (before after : ℕ) (text : Text) (result : Result T E) : Type 0 where
   pub whole : OnOk result (Appends old new text)
-  pub front : OnErr result (AppendsFront old new text)
+  pub front : OnErr result (IsCut old new text)
   pub cause : HasCause before after result
 
 -- the parts, one after another

@@ -5,7 +5,7 @@ use Rattle.std.specs.List.{flat_map}
 use Rattle.std.specs.Option.{option_map_or}
 use Rattle.std.specs.Io.KnownBytes.{Appends}
 use Rattle.mp_io.specs.Devices.{Text, Rose}
-use Rattle.mp_io.specs.Printing.{AppendsFront, Prints}
+use Rattle.mp_io.specs.Printing.{IsCut, Prints}
 use Rattle.mp_io.proofs.Written.{Written, part_written, prints_part_cut}
 use Rattle.std.proofs.lemmas.Option.{slice_get-map}
 use Rattle.mp_term.specs.Signature.{Sig, Kind, kind_names, kind_members}
@@ -43,7 +43,7 @@ module _ {X : Type 0} (f : X → Text) (xs : List X) (i : ℕ) (a b c : Option T
   text_written w p = part_written a b c whole part (flat_map f (drop (i + 1) xs)) (subst (Written a b whole) (flat_map-drop f xs i ∙ ap (λ l. l ++ flat_map f (drop (i + 1) xs)) (sym same)) w) p
 
   -- a front of the text at an index is written, and then nothing more
-  pub prints_text_cut : {T E : Type 0} (m n k : ℕ) (error : E) → Written a b whole (flat_map f (drop i xs)) → m ≤ n → AppendsFront b c part → n ≤ k → Rose n k → Prints {T = T} a c m k whole (Err error)
+  pub prints_text_cut : {T E : Type 0} (m n k : ℕ) (error : E) → Written a b whole (flat_map f (drop i xs)) → m ≤ n → IsCut b c part → n ≤ k → Rose n k → Prints {T = T} a c m k whole (Err error)
   prints_text_cut m n k error w mn cut nk rose =
       prints_part_cut a b c m n k whole part (flat_map f (drop (i + 1) xs)) error (subst (Written a b whole) (flat_map-drop f xs i ∙ ap (λ l. l ++ flat_map f (drop (i + 1) xs)) (sym same)) w) mn cut nk rose
 
@@ -59,7 +59,7 @@ module _ {A X : Type 0} (f : X → Text) (view : A → X) (xs : List A) (i : ℕ
   item_written w p = part_written a b c whole (f (view x)) (flat_map f (map view (drop (i + 1) xs))) (subst (Written a b whole) flat_map-drop_item w) p
 
   -- a front of the text of an item is written, and then nothing more
-  pub prints_item_cut : {T E : Type 0} (m n k : ℕ) (error : E) → Written a b whole (flat_map f (map view (drop i xs))) → m ≤ n → AppendsFront b c (f (view x)) → n ≤ k → Rose n k → Prints {T = T} a c m k whole (Err error)
+  pub prints_item_cut : {T E : Type 0} (m n k : ℕ) (error : E) → Written a b whole (flat_map f (map view (drop i xs))) → m ≤ n → IsCut b c (f (view x)) → n ≤ k → Rose n k → Prints {T = T} a c m k whole (Err error)
   prints_item_cut m n k error w mn cut nk rose =
       prints_part_cut a b c m n k whole (f (view x)) (flat_map f (map view (drop (i + 1) xs))) error (subst (Written a b whole) flat_map-drop_item w) mn cut nk rose
 

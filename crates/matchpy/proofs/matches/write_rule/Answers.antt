@@ -25,4 +25,4 @@ returns g c =
     let rule = rule_tree c.args.rule.now in
     let same = rule_text-bare c.args.sig.now subject rule (map subst_of c.as_slice-matches.result.now) c.requires.matchable.unconditional (ap (map subst_of) c.as_slice-matches.ensures.value ∙ c.in-Ok.ensures.list) in
     let printed = c.in-Err-write_matches.ensures.prints in
-    (AppendsFront-same _ _ _ _ same printed.front, printed.cause.failed, subst (λ (t : Text). 0 < length t) same c.in-Err-write_matches.ensures.some)
+    (AppendsFront-same _ _ _ _ same printed.front.front, printed.cause.failed, subst (λ (t : Text). 0 < length t) same c.in-Err-write_matches.ensures.some)

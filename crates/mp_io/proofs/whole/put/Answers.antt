@@ -1,5 +1,5 @@
-use Rattle.std.proofs.Common.{arith, refl}
-use Rattle.mp_io.proofs.Pieces.{front_kept, slice_written}
+use Rattle.std.proofs.Common.{arith, refl, rules}
+use Rattle.mp_io.proofs.Pieces.{front_kept, rest_some, slice_written}
 use Rattle.mp_io.proofs.whole.put.Goals as goal
 
 pub returns-in-Err : goal.returns-in-Err
@@ -7,7 +7,10 @@ returns-in-Err g c =
     let cause = c.in-Err.ensures.cause in
     record {
       whole = tt;
-      front = front_kept _ _ _ _ _ c.loop-rest.invariant.written c.in-Err.ensures.bytes;
+      front = record {
+        front = front_kept _ _ _ _ _ c.loop-rest.invariant.written c.in-Err.ensures.bytes;
+        some = rest_some _ _ _ _ c.loop-rest.invariant.written (search rules);
+      };
       cause = record { later = omega (arith, cause.later); failed = omega (arith, cause.failed) };
     }
 
