@@ -8,7 +8,7 @@ use Rattle.mp_text.specs.Reading.{IsFaultOf, IsFileOf, fault_of, file_of, unread
 use Rattle.mp_text.specs.declared.fault.TextFault.{TextFault}
 use Rattle.matchpy.specs.Messages.{fault_line, long_line, open_line, usage_line}
 use Rattle.matchpy.specs.Matches.{IsMatchText, has_some, match_text}
-use Rattle.matchpy.specs.Words.{Request, Match, Show, request_of}
+use Rattle.matchpy.specs.Words.{Request, Match, Show, named_file, request_of}
 
 pub record Outcome : Type 0 where
   -- the text for standard output, the text for standard error, and the status
@@ -53,10 +53,14 @@ abbrev pub IsOver : ℕ → Text → (Text → Outcome → Type 0) → Option Te
 IsOver limit name over None o = o ≡ refused 4 (open_line name)
 IsOver limit name over (Some bytes) o = ((limit < length bytes) × (o ≡ refused 4 (long_line name))) ⊎ ((length bytes ≤ limit) × over bytes o)
 
+-- what the request asks for, over the bytes of its file
+abbrev pub IsOutcomeOver : Request → Text → Outcome → Type 0
+IsOutcomeOver (Match name) = IsFileOutcome AreMatches name
+IsOutcomeOver (Show name) = IsFileOutcome IsShown name
+
 abbrev pub IsOutcomeAt : Files → Option Request → Outcome → Type 0
 IsOutcomeAt files None o = o ≡ refused 2 usage_line
-IsOutcomeAt files (Some (Match name)) o = IsOver file_limit name (IsFileOutcome AreMatches name) (held files name) o
-IsOutcomeAt files (Some (Show name)) o = IsOver file_limit name (IsFileOutcome IsShown name) (held files name) o
+IsOutcomeAt files (Some request) o = IsOver file_limit (named_file request) (IsOutcomeOver request) (held files (named_file request)) o
 
 -- o is the outcome of these words over these files
 abbrev pub IsOutcome : List Text → Files → Outcome → Type 0
@@ -85,7 +89,11 @@ abbrev pub given : ℕ → Text → (Text → Outcome) → Option Text → Outco
 given limit name over None = refused 4 (open_line name)
 given limit name over (Some bytes) = if nat_lt limit (length bytes) then refused 4 (long_line name) else over bytes
 
+-- what the request asks for, over the bytes of its file
+abbrev pub outcome_over : Request → Text → Outcome
+outcome_over (Match name) = match_outcome name
+outcome_over (Show name) = show_outcome name
+
 abbrev pub outcome_at : Files → Option Request → Outcome
 outcome_at files None = refused 2 usage_line
-outcome_at files (Some (Match name)) = given file_limit name (match_outcome name) (held files name)
-outcome_at files (Some (Show name)) = given file_limit name (show_outcome name) (held files name)
+outcome_at files (Some request) = given file_limit (named_file request) (outcome_over request) (held files (named_file request))

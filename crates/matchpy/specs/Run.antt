@@ -5,7 +5,7 @@ use Rattle.std.specs.declared.string.String.{String}
 use Rattle.std.specs.Global.{Global}
 use Rattle.mp_io.specs.Devices.{Files, IsMissing, Rose, Text, held}
 use Rattle.mp_io.specs.Printing.{AppendsFront}
-use Rattle.matchpy.specs.Words.{Request, Match, Show, request_of}
+use Rattle.matchpy.specs.Words.{Request, named_file, request_of}
 use Rattle.matchpy.specs.Messages.{memory_line, open_line, read_line, usage_line, write_line}
 use Rattle.matchpy.specs.Outcome.{IsOutcome, Outcome, file_limit}
 use Rattle.matchpy.specs.Answers.{IsTurnOf, IsUnreadLine, Shelved, Sunk}
@@ -17,8 +17,7 @@ words_of = map string_bytes
 -- the files that a request names, in the order in which they are read
 abbrev pub names_of : Option Request → List Text
 names_of None = []
-names_of (Some (Match name)) = name ∷ []
-names_of (Some (Show name)) = name ∷ []
+names_of (Some request) = named_file request ∷ []
 
 -- one of the names isn't held
 abbrev pub IsSomeMissing : Files → List Text → Type 0

@@ -8,6 +8,11 @@ pub data Request : Type 0 where
   Match : Text → Request
   Show : Text → Request
 
+-- the file that is asked about
+abbrev pub named_file : Request → Text
+named_file (Match file) = file
+named_file (Show file) = file
+
 -- `-`, which is standard input, or a text that isn't empty and doesn't begin with `-`
 abbrev pub is_file_name : Text → Bool
 is_file_name [] = false

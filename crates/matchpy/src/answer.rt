@@ -1,14 +1,17 @@
-//! The answer to each request, over a shelf.
+//! The answer to a request, over a shelf.
 
-ghost use Rattle.std.specs.Prelude.{◌≡◌, ◌≤◌, ◌∷◌, [], IfErr};
+ghost use Rattle.std.specs.Prelude.{◌≡◌, ◌≤◌, ◌∷◌, [], length, IfErr};
 ghost use Rattle.mp_io.specs.Devices.{held};
-ghost use Rattle.matchpy.specs.Answers.{Answers, HasCauses, Loads, items_in};
+ghost use Rattle.matchpy.specs.Answers.{Acts, Answers, HasCauses, Loads, items_in};
 ghost use Rattle.matchpy.specs.Endings.{status_of};
-ghost use Rattle.matchpy.specs.Outcome.{file_limit, given, match_outcome, show_outcome};
+ghost use Rattle.matchpy.specs.Outcome.{file_limit, given, outcome_over};
+ghost use Rattle.matchpy.specs.Requests.{asked};
+ghost use Rattle.matchpy.specs.Words.{named_file};
 
 use crate::ending::{Ending, Told};
 use crate::matches::match_file;
 use crate::show::show_file;
+use crate::words::Request;
 use mp_io::{ReadFault, Shelf, Sink, read_whole};
 use std::alloc::Global;
 
@@ -44,53 +47,36 @@ fn load<'a, S: Shelf>(
     }
 }
 
-/// Reads the named file and prints the matches of its rules.
-///
-/// The ending is that of `match_outcome` of `specs/Outcome.antt` over the file's bytes, or a file that
-/// isn't held, is too long, or whose start or read failed, or want of memory, or a write that failed.
-pub fn answer_match<'a, S: Shelf, O: Sink>(
+// Does what the request asks for, over the bytes of its file.
+fn act<'a, O: Sink>(
     alloc: Global,
-    name: &'a str,
-    shelf: &mut S,
+    request: Request<'a>,
+    bytes: &[u8],
     out: &mut O,
 ) -> Ending<'a>
-    ensures answers { Answers (name.entry.now ∷ []) (λ files. given file_limit name.entry.now (match_outcome name.entry.now) (held files name.entry.now))
-        (record {
-          files = S.files shelf.old;
-          starts = S.start_faults shelf.old;
-          starts_after = S.start_faults shelf.new;
-          reads = S.read_faults shelf.old;
-          reads_after = S.read_faults shelf.new;
-          given_after = S.given shelf.new;
-        })
-        (record { old = O.contents out.old; new = O.contents out.new; faults = O.faults out.old; faults_after = O.faults out.new }) result }
-    ensures causes { HasCauses file_limit (name.entry.now ∷ []) (record {
-      files = S.files shelf.old;
-      starts = S.start_faults shelf.old;
-      starts_after = S.start_faults shelf.new;
-      reads = S.read_faults shelf.old;
-      reads_after = S.read_faults shelf.new;
-      given_after = S.given shelf.new;
-    }) result }
+    requires { length bytes.now ≤ file_limit }
+    ensures acts { Acts (outcome_over (asked request.entry) bytes.now) (record { old = O.contents out.old; new = O.contents out.new; faults = O.faults out.old; faults_after = O.faults out.new }) result }
     ensures used { status_of result ≡ 2 → ⊥ }
+    ensures read { status_of result ≡ 4 → ⊥ }
 {
-    match load(alloc, shelf, name, FILE_LIMIT) {
-        Ok(bytes) => match_file(alloc, name, &bytes, out),
-        Err(ending) => ending,
+    match request {
+        Request::Match(name) => match_file(alloc, name, bytes, out),
+        Request::Show(name) => show_file(alloc, name, bytes, out),
     }
 }
 
-/// Reads the named file and prints it.
+/// Reads the file that the request names and does what it asks for: prints the matches of its rules, or the file.
 ///
-/// The ending is that of `show_outcome` of `specs/Outcome.antt` over the file's bytes, or a file that
-/// isn't held, is too long, or whose start or read failed, or want of memory, or a write that failed.
-pub fn answer_show<'a, S: Shelf, O: Sink>(
+/// The ending is that of `outcome_over` of `specs/Outcome.antt` over the file's bytes, or a file that isn't held, is too
+/// long, or whose start or read failed, or want of memory, or a write that failed.
+pub fn answer_file<'a, S: Shelf, O: Sink>(
     alloc: Global,
-    name: &'a str,
+    request: Request<'a>,
     shelf: &mut S,
     out: &mut O,
 ) -> Ending<'a>
-    ensures answers { Answers (name.entry.now ∷ []) (λ files. given file_limit name.entry.now (show_outcome name.entry.now) (held files name.entry.now))
+    ensures answers { let name = named_file (asked request.entry) in
+        Answers (name ∷ []) (λ files. given file_limit name (outcome_over (asked request.entry)) (held files name))
         (record {
           files = S.files shelf.old;
           starts = S.start_faults shelf.old;
@@ -100,7 +86,7 @@ pub fn answer_show<'a, S: Shelf, O: Sink>(
           given_after = S.given shelf.new;
         })
         (record { old = O.contents out.old; new = O.contents out.new; faults = O.faults out.old; faults_after = O.faults out.new }) result }
-    ensures causes { HasCauses file_limit (name.entry.now ∷ []) (record {
+    ensures causes { HasCauses file_limit (named_file (asked request.entry) ∷ []) (record {
       files = S.files shelf.old;
       starts = S.start_faults shelf.old;
       starts_after = S.start_faults shelf.new;
@@ -110,8 +96,8 @@ pub fn answer_show<'a, S: Shelf, O: Sink>(
     }) result }
     ensures used { status_of result ≡ 2 → ⊥ }
 {
-    match load(alloc, shelf, name, FILE_LIMIT) {
-        Ok(bytes) => show_file(alloc, name, &bytes, out),
+    match load(alloc, shelf, request.file(), FILE_LIMIT) {
+        Ok(bytes) => act(alloc, request, &bytes, out),
         Err(ending) => ending,
     }
 }

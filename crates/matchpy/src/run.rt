@@ -9,7 +9,7 @@ ghost use Rattle.matchpy.specs.Endings.{line_of, status_of};
 ghost use Rattle.matchpy.specs.Outcome.{file_limit, outcome_at};
 ghost use Rattle.matchpy.specs.Run.{HasOutcome, Says, Tells, names_of, words_of};
 
-use crate::answer::{answer_match, answer_show};
+use crate::answer::answer_file;
 use crate::ending::{Ending, Told, say, status};
 use crate::words::{Request, read_words};
 use mp_io::{Failed, Shelf, Sink};
@@ -44,8 +44,7 @@ fn answer<'a, S: Shelf, O: Sink>(
     ensures no_usage { is_none request.entry ≡ true → status_of result ≡ 2 }
 {
     match request {
-        Some(Request::Match(name)) => answer_match(alloc, name, shelf, out),
-        Some(Request::Show(name)) => answer_show(alloc, name, shelf, out),
+        Some(request) => answer_file(alloc, request, shelf, out),
         None => Ending::Told(Told::Usage),
     }
 }

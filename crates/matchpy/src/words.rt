@@ -1,7 +1,7 @@
 //! Which request the words of the command line make.
 
 ghost use Rattle.std.specs.Prelude.{◌≡◌, option_map};
-ghost use Rattle.matchpy.specs.Words.{is_file_name, request_of};
+ghost use Rattle.matchpy.specs.Words.{is_file_name, named_file, request_of};
 ghost use Rattle.matchpy.specs.Requests.{asked};
 ghost use Rattle.matchpy.specs.Run.{words_of};
 
@@ -12,6 +12,18 @@ pub enum Request<'a> {
     Match(&'a str),
     /// The file, printed.
     Show(&'a str),
+}
+
+impl<'a> Request<'a> {
+    /// The name of the file that is asked about: `named_file` of `specs/Words.antt`.
+    pub fn file(&self) -> &'a str
+        ensures { result.now ≡ named_file (asked self.now) }
+    {
+        match self {
+            Request::Match(file) => file,
+            Request::Show(file) => file,
+        }
+    }
 }
 
 // `-`, which is standard input, or a text that isn't empty and doesn't begin with `-`.
