@@ -100,13 +100,35 @@ fn words_and_files_decide_what_is_printed(rt: HostRuntime) -> Result<(), Fail> {
             b"op f 2; subject s: f(a);".as_slice(),
             3,
             nothing,
+            b"matchpy: t:1:20: Arity\n".as_slice(),
+        ),
+        (
+            ["match", "t"].as_slice(),
+            b"op f 2 comm; rule r: f(x_, a); subject s: f(a, b);".as_slice(),
+            3,
+            nothing,
             b"matchpy: t:1:1: Unread\n".as_slice(),
+        ),
+        (
+            ["show", "t"].as_slice(),
+            b"op plus 1+ assoc comm one infix +; subject s: plus(b, (c + a));".as_slice(),
+            0,
+            b"op plus 1+ assoc comm one infix +;\nsubject s: (a + b + c);\n".as_slice(),
+            nothing,
+        ),
+        (["show", "t"].as_slice(), nothing, 0, nothing, nothing),
+        (
+            ["show", "t"].as_slice(),
+            b"op f 2; op f 3;".as_slice(),
+            3,
+            nothing,
+            b"matchpy: t:1:12: DuplicateName\n".as_slice(),
         ),
         (["match"].as_slice(), first, 2, nothing, USAGE),
         (["match", "-t"].as_slice(), first, 2, nothing, USAGE),
         (["match", ""].as_slice(), first, 2, nothing, USAGE),
         (["match", "t", "t"].as_slice(), first, 2, nothing, USAGE),
-        (["show", "t"].as_slice(), first, 2, nothing, USAGE),
+        (["show"].as_slice(), first, 2, nothing, USAGE),
         ([].as_slice(), first, 2, nothing, USAGE),
     ] {
         let (got, printed, said) = ran(&rt, words, bytes, &NONE)?;
@@ -204,5 +226,14 @@ fn a_failing_device_gives_its_status(rt: HostRuntime) -> Result<(), Fail> {
         assert_eq!(rt; said.as_slice(), err);
         assert_eq!(rt; got, status);
     }
+    let fails = Fails {
+        shelf: &[],
+        out: one,
+        err: &[],
+    };
+    let (status, printed, said) = ran(&rt, &["show", "t"], bytes, &fails)?;
+    assert_eq!(rt; printed.as_slice(), b"op ".as_slice());
+    assert_eq!(rt; said.as_slice(), b"matchpy: cannot write\n".as_slice());
+    assert_eq!(rt; status, 5);
     Ok(())
 }
