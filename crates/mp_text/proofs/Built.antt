@@ -1,12 +1,11 @@
 -- The terms, patterns and faults of an application, whose arguments the code holds in a vector.
-use Rattle.std.proofs.Common.{◌≡◌, ℕ, List, [], ◌∷◌, ◌++◌, map, length, Vec, Global, refl, ap, sym, ◌∙◌, subst}
+use Rattle.std.proofs.Common.{◌≡◌, List, [], ◌∷◌, ◌++◌, map, length, Vec, Global, refl, ap, ◌∙◌, subst}
 use Rattle.std.proofs.lemmas.List.{length-map}
 use Rattle.mp_term.specs.Tree as term
 use Rattle.mp_term.specs.Signature.{Sig, allows}
 use Rattle.mp_pattern.specs.PatternTree as pattern
 use Rattle.mp_syntax.specs.declared.place.Spot as code
 use Rattle.mp_syntax.specs.declared.tree.Expr.{Expr, Apply}
-use Rattle.mp_syntax.specs.Syntax as syntax
 use Rattle.mp_syntax.specs.Syntax.{Tree, trees, tree_list, HasNames, HaveNames}
 use Rattle.mp_syntax.specs.View.{spot_of, expr_tree}
 use Rattle.mp_syntax.proofs.Trees.{expr_tree-Apply, tree_list-trees}

@@ -1,5 +1,5 @@
 -- Worked examples: the file of a text, the first fault of others, and printed text.
-use Rattle.std.proofs.Common.{◌≡◌, ℕ, true, false, List, [], ◌∷◌, Option, Some, None, refl}
+use Rattle.std.proofs.Common.{◌≡◌, ℕ, true, false, [], ◌∷◌, Option, Some, None, refl}
 use Rattle.std.specs.Prelude.{codes}
 use Rattle.mp_term.specs.Tree.{symbol, app, trees}
 use Rattle.mp_term.specs.Signature.{Sig}
@@ -9,9 +9,8 @@ use Rattle.mp_syntax.specs.Lexing.{lexemes}
 use Rattle.mp_text.specs.declared.fault.TextKind.{TextKind}
 use Rattle.mp_text.specs.declared.fault.TextKind.TheVariants.{BadByte, Syntax, DuplicateName, TooMany, UnknownOp, BareOperation, Arity, WildcardInTerm}
 use Rattle.mp_text.specs.declared.fault.TextFault.{TextFault}
-use Rattle.mp_text.specs.File.{FileTree}
 use Rattle.mp_text.specs.Reading.{file_of, fault_of}
-use Rattle.mp_text.specs.Printing.{term_text, value_text, subst_text}
+use Rattle.mp_text.specs.Printing.{term_text, subst_text}
 
 -- a fault of this kind, in line 1
 abbrev at : TextKind → ℕ → Option TextFault

@@ -1,5 +1,5 @@
 -- Decimal numbers, cut at a bound.
-use Rattle.std.proofs.Common.{◌≡◌, ℕ, ◌+◌, ◌*◌, ◌-◌, ◌≤◌, ◌<◌, min, List, [], ◌∷◌, arith, inl, inr, refl, ap}
+use Rattle.std.proofs.Common.{◌≡◌, ℕ, ◌+◌, ◌*◌, ◌-◌, ◌≤◌, min, List, [], ◌∷◌, arith, inl, inr, ap}
 use Rattle.std.proofs.lemmas.Bool.{cases_lt}
 use Rattle.mp_text.specs.Names.{number_after}
 

@@ -1,18 +1,16 @@
 -- What the checks let through is sound.
 use Rattle.std.specs.Prelude.{if◌then◌else◌}
 use Rattle.mp_text.proofs.Words.{both, first-of, second-of}
-use Rattle.std.proofs.Common.{eqb, ◌≡◌, ◌≤◌, ◌<◌, ◌+◌, ℕ, zero, suc, Bool, true, false, ◌&&◌, ◌||◌, leb, ltb, List, [], ◌∷◌, ◌++◌, map, length, Option, Some, None, max, append-nil, append_assoc, length-append, refl, sym, ap, ◌∙◌, subst, arith, rules}
-use Rattle.std.specs.Prelude.{not, is_some, option_and_then, slice_get, unwrap_or}
+use Rattle.std.proofs.Common.{eqb, ◌≡◌, ◌≤◌, ◌<◌, ◌+◌, ℕ, zero, suc, Bool, true, false, ◌||◌, leb, ltb, List, [], ◌∷◌, ◌++◌, map, length, Option, Some, None, append-nil, append_assoc, length-append, refl, sym, ap, ◌∙◌, subst, arith, rules}
+use Rattle.std.specs.Prelude.{not, option_and_then, slice_get, unwrap_or}
 use Rattle.std.specs.List.{list_all, AllByRecursion}
 use Rattle.std.specs.Str.{bytes_eq}
 use Rattle.std.proofs.lemmas.List.{length-map, map-append}
 use Rattle.std.proofs.lemmas.Map.Text.{is_eq-slice_cmp}
 use Rattle.mp_term.specs.declared.signature.OpDecl.{OpDecl}
-use Rattle.mp_term.specs.Tree as term
 use Rattle.mp_term.specs.Tree.{tree_list}
-use Rattle.mp_term.specs.Size as size
 use Rattle.mp_term.specs.Size.{node_count, node_counts, depth, greatest_depth}
-use Rattle.mp_term.specs.Signature.{Sig, allows, holds_of, well_formed, all_well_formed}
+use Rattle.mp_term.specs.Signature.{Sig, allows, well_formed, all_well_formed}
 use Rattle.mp_term.specs.Names.{are_distinct}
 use Rattle.mp_pattern.specs.PatternTree as pattern
 use Rattle.mp_pattern.specs.Firsts.{firsts_after, is_known, add_new}
@@ -21,12 +19,11 @@ use Rattle.mp_pattern.specs.Value.{same_name}
 use Rattle.mp_pattern.specs.Variables.{uses, all_uses, variables}
 use Rattle.mp_syntax.specs.Syntax as syntax
 use Rattle.mp_syntax.specs.Syntax.{Spot, Wildcard, Tree, Symbol, Apply, Wild, Trees, no_trees, more_trees, Statement, OpOf, RuleOf, SubjectOf, Fits, AreFit, AreStatements}
-use Rattle.mp_text.specs.declared.fault.TextFault.{TextFault}
 use Rattle.mp_text.specs.declared.fault.TextKind.{TextKind}
 use Rattle.mp_syntax.specs.declared.place.Place.{Place}
 use Rattle.mp_text.specs.Names.{is_among, named, wildcard_names, all_wildcard_names, variable_names, rule_names, subject_names}
 use Rattle.mp_text.specs.Build.{op_number, head_number, shape_of, variable_of, term_of, terms_of, pattern_of, patterns_of, rule_of, rules_of, subject_of, subjects_of, sig_of, file_tree_of}
-use Rattle.mp_text.specs.Checks.{fault_at, fault_if, nodes, all_nodes, is_large_pattern, is_large_term, op_named, head_faults, symbol_faults, allows_patterns, term_faults, all_term_faults, pattern_faults, all_pattern_faults, name_faults, declaration_faults, statement_faults, faults_by, faults}
+use Rattle.mp_text.specs.Checks.{fault_if, nodes, all_nodes, is_large_pattern, is_large_term, op_named, head_faults, allows_patterns, term_faults, all_term_faults, pattern_faults, all_pattern_faults, name_faults, declaration_faults, statement_faults, faults_by, faults}
 use Rattle.mp_text.specs.Flags.{HasNoFlags}
 use Rattle.mp_text.specs.Sound.{DefaultIsNormal, DefaultsAreNormal, AllDefaultsAreNormal, holds_ops, all_hold_ops, IsSoundPattern, IsSoundTerm, IsSoundFile}
 use Rattle.mp_text.specs.File.{FileTree}

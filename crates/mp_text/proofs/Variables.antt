@@ -1,5 +1,5 @@
 -- The variables of a pattern: those of its expression.
-use Rattle.std.proofs.Common.{◌≡◌, ℕ, Bool, List, [], ◌∷◌, ◌++◌, refl}
+use Rattle.std.proofs.Common.{◌≡◌, Bool, List, [], ◌∷◌, ◌++◌, refl}
 use Rattle.mp_pattern.specs.Firsts.{firsts_after, add_new}
 
 -- items that are added in two parts

@@ -1,5 +1,5 @@
 -- The file that is computed from the bytes is the file of the bytes.
-use Rattle.std.proofs.Common.{◌≡◌, ℕ, List, [], ◌∷◌, Option, Some, None, Result, Ok, Err, refl, sym, ap, ◌∙◌, subst}
+use Rattle.std.proofs.Common.{◌≡◌, ℕ, List, [], ◌∷◌, Option, Some, None, Result, Ok, Err, refl, sym, ap, ◌∙◌}
 use Rattle.std.specs.Prelude.{◌↔◌, option_and_then}
 use Rattle.mp_syntax.specs.declared.fault.Fault.{Fault}
 use Rattle.mp_syntax.specs.Syntax.{Statement, IsSyntaxOf}
@@ -14,7 +14,7 @@ use Rattle.mp_text.specs.File.{FileTree, file_tree}
 use Rattle.mp_text.specs.Build.{file_tree_of}
 use Rattle.mp_text.specs.Checks.{faults}
 use Rattle.mp_text.specs.Answers.{first, Gives}
-use Rattle.mp_text.specs.Reading.{IsFileOf, file_without, checked_file, file_of, fault_in, fault_of, ReadGives, IsFileOrMemory, IsComputed}
+use Rattle.mp_text.specs.Reading.{IsFileOf, file_without, checked_file, file_of, fault_in, fault_of, ReadGives}
 
 -- ---- the relation and the function
 

@@ -1,5 +1,5 @@
 -- A word of at most 64 bytes is the spelling of a name.
-use Rattle.std.proofs.Common.{◌≡◌, ◌≢◌, ℕ, ◌≤◌, ◌<◌, Bool, true, false, ◌&&◌, ◌||◌, List, [], ◌∷◌, length, leb, arith, refl, ap, ◌∙◌, sym, rules}
+use Rattle.std.proofs.Common.{◌≡◌, ◌≢◌, ℕ, ◌≤◌, Bool, true, false, ◌&&◌, ◌||◌, List, [], ◌∷◌, length, leb, refl, ◌∙◌, sym, rules}
 use Rattle.std.specs.List.{list_all}
 use Rattle.mp_term.specs.Names.{is_name, is_name_byte, all_name_bytes}
 use Rattle.mp_syntax.specs.Tokens.{AreWordBytes, is_word_byte}

@@ -1,5 +1,5 @@
 -- What the statements of a file stand for: a signature, and over it rules and subjects in normal form.
-use Rattle.std.specs.Prelude.{ℕ, ◌==◌, Bool, true, false, List, [], ◌∷◌, Option, Some, None, unwrap_or, position, if◌then◌else◌}
+use Rattle.std.specs.Prelude.{ℕ, ◌==◌, true, false, List, [], ◌∷◌, Option, Some, None, unwrap_or, position, if◌then◌else◌}
 use Rattle.mp_term.specs.declared.signature.OpDecl.{OpDecl}
 use Rattle.mp_term.specs.Tree as term
 use Rattle.mp_term.specs.Signature.{Sig, has_name}

@@ -1,5 +1,5 @@
 -- What holds of every file that is read.
-use Rattle.std.specs.Prelude.{◌≡◌, ◌≤◌, ℕ, Bool, true, ◌&&◌, List, [], ◌∷◌, length, map, is_some, slice_get, ⊤}
+use Rattle.std.specs.Prelude.{◌≡◌, ◌≤◌, Bool, true, ◌&&◌, length, map, is_some, slice_get, ⊤}
 use Rattle.std.specs.List.{AllByRecursion}
 use Rattle.mp_term.specs.Tree.{Tree}
 use Rattle.mp_term.specs.Size.{node_count, depth}

@@ -1,8 +1,7 @@
-use Rattle.std.proofs.Common.{◌≡◌, ◌+◌, ◌∷◌, map, drop, arith, rules, ◌∙◌, sym, ap, refl}
+use Rattle.std.proofs.Common.{◌≡◌, ◌+◌, ◌∷◌, map, drop, arith, ◌∙◌, refl}
 use Rattle.std.proofs.lemmas.Result.{err_from_is_err_and}
-use Rattle.mp_syntax.specs.Syntax.{trees, HasNames, HaveNames}
+use Rattle.mp_syntax.specs.Syntax.{trees, HaveNames}
 use Rattle.mp_syntax.specs.View.{expr_tree}
-use Rattle.mp_text.specs.Answers.{Fails}
 use Rattle.mp_text.specs.Checks.{nodes, all_nodes}
 use Rattle.mp_text.proofs.Applied.{nodes-Apply, nodes-item}
 use Rattle.mp_text.proofs.Loops.{drop-item}

@@ -1,4 +1,4 @@
-use Rattle.std.proofs.Common.{refl, arith, sym, ap, ◌∙◌}
+use Rattle.std.proofs.Common.{refl, arith}
 use Rattle.mp_text.proofs.Applied.{wildcard_names-Apply}
 use Rattle.mp_text.proofs.Variables.{firsts_after-append}
 use Rattle.mp_text.proofs.Loops.{drop-item}

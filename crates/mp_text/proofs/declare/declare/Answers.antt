@@ -1,4 +1,4 @@
-use Rattle.std.proofs.Common.{◌≡◌, ◌+◌, ◌∷◌, [], map, take, drop, arith, sym, ap, ◌∙◌}
+use Rattle.std.proofs.Common.{map, take, arith, sym, ap, ◌∙◌}
 use Rattle.std.proofs.lemmas.Result.{err_from_is_err_and}
 use Rattle.mp_syntax.specs.View.{statement_tree}
 use Rattle.mp_text.specs.Checks.{declaration_faults, faults_by}

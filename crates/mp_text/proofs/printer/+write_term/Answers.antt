@@ -1,16 +1,15 @@
-use Rattle.std.proofs.Common.{◌≡◌, ℕ, ◌+◌, ◌*◌, ◌≤◌, ◌<◌, ◌++◌, List, [], ◌∷◌, map, length, get_or, drop, refl, sym, ap, subst, ◌∙◌, arith, Err}
-use Rattle.std.specs.Prelude.{codes, option_map}
+use Rattle.std.proofs.Common.{◌≡◌, ◌≤◌, ◌++◌, map, get_or, ap, arith}
+use Rattle.std.specs.Prelude.{codes}
 use Rattle.std.proofs.lemmas.Result.{err_from_is_err_and}
-use Rattle.mp_io.specs.Devices.{Text}
-use Rattle.mp_io.specs.Printing.{Prints, joined}
-use Rattle.mp_io.proofs.Written.{Written, prints_then, prints_cut, prints_part_cut, part_written}
+use Rattle.mp_io.specs.Printing.{joined}
+use Rattle.mp_io.proofs.Written.{prints_then, prints_cut, prints_part_cut, part_written}
 use Rattle.mp_term.specs.declared.term.Term.{Term}
 use Rattle.mp_term.specs.View.{tree}
 use Rattle.mp_term.specs.Size.{node_count, all_nodes}
 use Rattle.mp_term.proofs.SizeLaws.{node_count-element}
-use Rattle.mp_text.specs.Printing.{term_text, application_text, bracketed, separated, gap_text}
+use Rattle.mp_text.specs.Printing.{term_text, bracketed, separated, gap_text}
 use Rattle.mp_text.proofs.Loops.{drop-item}
-use Rattle.mp_text.proofs.Separated.{remaining, remaining-here, term_text-app}
+use Rattle.mp_text.proofs.Separated.{remaining-here, term_text-app}
 use Rattle.mp_text.proofs.printer.+write_term.Goals as goal
 
 pub write_bracketed-returns-in_err-put : goal.write_bracketed-returns-in_err-put

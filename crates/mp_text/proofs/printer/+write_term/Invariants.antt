@@ -1,4 +1,4 @@
-use Rattle.std.proofs.Common.{◌≡◌, ◌≤◌, ◌+◌, ◌*◌, drop, map}
+use Rattle.std.proofs.Common.{◌≤◌, ◌+◌, ◌*◌, drop, map}
 use Rattle.mp_io.specs.Printing.{joined}
 use Rattle.mp_io.proofs.Written.{Written}
 use Rattle.mp_term.specs.View.{tree}
