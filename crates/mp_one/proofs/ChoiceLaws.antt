@@ -13,9 +13,9 @@ use Rattle.mp_theory.specs.Machine.{entries, reads, choices}
 use Rattle.mp_theory.specs.Bounds.{least, is_short}
 use Rattle.mp_theory.proofs.Bounds.{choices-by_lengths, within}
 use Rattle.mp_theory.proofs.PiecesLaws.{in-count_to, ascending-count_to}
-use Rattle.matchpy.specs.Lines.{most_of}
-use Rattle.matchpy.proofs.ListLaws.{filter-front}
-use Rattle.matchpy.proofs.PieceSteps.{drop-next}
+use Rattle.mp_one.specs.Lines.{most_of}
+use Rattle.mp_one.proofs.ListLaws.{filter-front}
+use Rattle.mp_one.proofs.PieceSteps.{drop-next}
 
 least-one : (p : Pattern) → least p ≤ 1
 least-one (symbol_pattern n) = omega arith

@@ -13,7 +13,7 @@ use Rattle.std.specs.declared.cmp.Ordering.TheVariants.{Less, Equal, Greater}
 use Rattle.std.specs.Ordering.{is_eq, ordering_then}
 use Rattle.mp_theory.proofs.PiecesLaws.{same-sound, same-itself}
 use Rattle.mp_theory.proofs.Merging.{same_terms-sound, same_terms-complete}
-use Rattle.matchpy.proofs.ListLaws.{bool_same}
+use Rattle.mp_one.proofs.ListLaws.{bool_same}
 
 tree_sound : (t u : Tree) → same tree_cmp t u ≡ true → t ≡ u
 tree_sound = same-sound tree_cmp tree_cmp_total tree_same

@@ -1,26 +1,24 @@
--- How many entries are still to come, and the solutions that are.
+-- How many entries are still to come, and the derivations that are.
 use Rattle.std.proofs.Common.{◌≡◌, ℕ, zero, suc, ◌+◌, List, [], ◌∷◌, ◌++◌, map, length, drop, get_or, true, false, refl, ap, sym, ◌∙◌, subst, ◌-◌, ◌<◌, ◌≤◌, zero-add, eqb-true, eq-eqb, length-drop, arith}
-use Rattle.std.specs.Prelude.{None, nat_eq, flat_map, filter, if◌then◌else◌}
+use Rattle.std.specs.Prelude.{Option, None, flat_map, filter, if◌then◌else◌}
 use Rattle.std.proofs.Math.ListN.{drop_of_length-le}
 use Rattle.mp_term.specs.Tree.{Tree}
 use Rattle.mp_term.specs.Signature.{Sig}
 use Rattle.mp_pattern.specs.PatternTree.{Pattern, symbol_pattern, app_pattern, wild_pattern, Patterns, no_patterns, more_patterns}
 use Rattle.mp_pattern.specs.Size.{pattern_nodes, all_pattern_nodes}
-use Rattle.mp_pattern.specs.Value.{Subst, Binding}
-use Rattle.mp_pattern.specs.Fits.{Entry}
-use Rattle.mp_pattern.specs.Admission.{meets}
+use Rattle.mp_pattern.specs.CondTree.{Cond}
+use Rattle.mp_pattern.specs.Value.{Subst}
+use Rattle.mp_pattern.specs.Fits.{Entry, Table}
+use Rattle.mp_pattern.specs.Admission.{Rule, meets}
 use Rattle.mp_pattern.specs.Firsts.{firsts_after}
 use Rattle.mp_theory.specs.Frames.{Frame, Next, ended, refused, child, is_done, settle, start}
 use Rattle.mp_theory.specs.Machine.{onward, entered, taken_out, choices}
-use Rattle.mp_theory.specs.Trail.{solutions}
-use Rattle.mp_theory.specs.Cursor.{branch}
-use Rattle.mp_theory.specs.OneList.{same_subst, one_list}
+use Rattle.mp_theory.specs.Trail.{derivations, derivations_by}
+use Rattle.mp_theory.specs.OneList.{Item, same_item, item_list}
 use Rattle.mp_theory.proofs.FirstsLaws.{firsts_after-append}
-use Rattle.mp_theory.proofs.TrailLaws.{one_list-by_solutions}
-use Rattle.matchpy.specs.Stack.{nodes_below, entries_left}
-use Rattle.matchpy.specs.Substs.{bare_rule}
-use Rattle.matchpy.proofs.ListLaws.{bool_same}
-use Rattle.matchpy.proofs.PieceSteps.{drop-next}
+use Rattle.mp_theory.proofs.TrailLaws.{item_list-by_derivations}
+use Rattle.mp_one.specs.Stack.{nodes_below, entries_left}
+use Rattle.mp_one.proofs.PieceSteps.{drop-next}
 
 pattern_nodes-below : (p : Pattern) → pattern_nodes p ≡ suc (nodes_below p)
 pattern_nodes-below (symbol_pattern n) = refl
@@ -55,56 +53,50 @@ pub entered-front : (g : ℕ) (ps : Patterns) (e : Entry) (x : Frame) (fs : List
 entered-front g ps e x fs h = ap (λ l. l ++ fs) h
 
 module _ (sig : Sig) where
-  pub solutions-refused : (k : ℕ) (s : Subst) → solutions sig k refused s ≡ []
-  solutions-refused zero s = refl
-  solutions-refused (suc k) s = refl
-
   -- the walk has ended
-  pub solutions-ended : (fs : List Frame) (s : Subst) → settle fs ≡ ended → solutions sig (entries_left fs) (settle fs) s ≡ s ∷ []
-  solutions-ended fs s e =
+  pub derivations-ended : (fs : List Frame) (T : Table) (s : Subst) → settle fs ≡ ended → derivations sig (entries_left fs) (settle fs) T s ≡ (T, s) ∷ []
+  derivations-ended fs T s e =
       let k : entries_left fs ≡ 0 = subst (Comes fs) e (comes fs) in
-      ap (λ n. solutions sig (entries_left fs) n s) e ∙ ap (λ n. solutions sig n ended s) k
+      ap (λ n. derivations sig (entries_left fs) n T s) e ∙ ap (λ n. derivations sig n ended T s) k
+
+  pub derivations-refused : (k : ℕ) (T : Table) (s : Subst) → derivations sig k refused T s ≡ []
+  derivations-refused zero T s = refl
+  derivations-refused (suc k) T s = refl
 
   -- a child is next
-  pub solutions-child : (fs : List Frame) (s : Subst) (p : Pattern) (f : Frame) (gs : List Frame) → settle fs ≡ child p f gs → solutions sig (entries_left fs) (settle fs) s ≡ flat_map (branch sig (nodes_below p + (all_pattern_nodes f.children + entries_left gs)) (child p f gs) s) (choices sig (child p f gs))
-  solutions-child fs s p f gs e =
+  pub derivations-child : (fs : List Frame) (T : Table) (s : Subst) (p : Pattern) (f : Frame) (gs : List Frame) → settle fs ≡ child p f gs → derivations sig (entries_left fs) (settle fs) T s ≡ flat_map (derivations_by sig (nodes_below p + (all_pattern_nodes f.children + entries_left gs)) (child p f gs) T s) (choices sig (child p f gs))
+  derivations-child fs T s p f gs e =
       let k : entries_left fs ≡ suc (nodes_below p + (all_pattern_nodes f.children + entries_left gs)) = subst (Comes fs) e (comes fs) in
-      ap (λ n. solutions sig (entries_left fs) n s) e ∙ ap (λ n. solutions sig n (child p f gs) s) k
+      ap (λ n. derivations sig (entries_left fs) n T s) e ∙ ap (λ n. derivations sig n (child p f gs) T s) k
 
   -- behind an entry
-  pub solutions-onward : (p : Pattern) (f : Frame) (gs hs : List Frame) (e : Entry) (s : Subst) → hs ≡ entered p e (taken_out p e f ∷ gs) → solutions sig (entries_left hs) (settle hs) s ≡ solutions sig (nodes_below p + (all_pattern_nodes f.children + entries_left gs)) (onward (child p f gs) e) s
-  solutions-onward p f gs hs e s h = ap (λ fs. solutions sig (entries_left fs) (settle fs) s) h ∙ ap (λ k. solutions sig k (settle (entered p e (taken_out p e f ∷ gs))) s) (entries_left-entered p e f gs)
+  pub derivations-onward : (p : Pattern) (f : Frame) (gs hs : List Frame) (e : Entry) (T : Table) (s : Subst) → hs ≡ entered p e (taken_out p e f ∷ gs) → derivations sig (entries_left hs) (settle hs) T s ≡ derivations sig (nodes_below p + (all_pattern_nodes f.children + entries_left gs)) (onward (child p f gs) e) T s
+  derivations-onward p f gs hs e T s h = ap (λ fs. derivations sig (entries_left fs) (settle fs) T s) h ∙ ap (λ k. derivations sig k (settle (entered p e (taken_out p e f ∷ gs))) T s) (entries_left-entered p e f gs)
 
-  filter-none : (ss : List Subst) → filter (meets sig None) ss ≡ ss
-  filter-none [] = refl
-  filter-none (s ∷ ss) = ap (λ rs. s ∷ rs) (filter-none ss)
+  filter-none : (c : Option Cond) (is : List Item) → c ≡ None → filter (λ i. meets sig c i.1) is ≡ is
+  filter-none c is e = subst (λ d. filter (λ i. meets sig d i.1) is ≡ is) (sym e) (all is)
+    where
+      all : (is : List Item) → filter (λ i. meets sig None i.1) is ≡ is
+      all [] = refl
+      all (i ∷ is) = ap (λ js. i ∷ js) (all is)
 
-  -- from the root on
-  pub one_list-by_stack : (p : Pattern) (t : Tree) → firsts_after same_subst [] (solutions sig (entries_left (start p t)) (settle (start p t)) []) ≡ one_list sig (bare_rule p) t
-  one_list-by_stack p t =
-      let k : entries_left (start p t) ≡ pattern_nodes p = omega arith in
-      ap (λ n. firsts_after same_subst [] (solutions sig n (settle (start p t)) [])) k
-      ∙ ap (firsts_after same_subst []) (sym (filter-none (solutions sig (pattern_nodes p) (settle (start p t)) [])))
-      ∙ sym (one_list-by_solutions sig (bare_rule p) t)
+  -- from the root on, where there is no condition
+  pub item_list-by_stack : (r : Rule) (t : Tree) → r.condition ≡ None → firsts_after same_item [] (derivations sig (entries_left (start r.pattern t)) (settle (start r.pattern t)) [] []) ≡ item_list sig r t
+  item_list-by_stack r t e =
+      let k : entries_left (start r.pattern t) ≡ pattern_nodes r.pattern = omega arith in
+      ap (λ n. firsts_after same_item [] (derivations sig n (settle (start r.pattern t)) [] [])) k
+      ∙ ap (firsts_after same_item []) (sym (filter-none r.condition (derivations sig (pattern_nodes r.pattern) (settle (start r.pattern t)) [] []) e))
+      ∙ sym (item_list-by_derivations sig r t)
 
 -- the entries that a list gives, one more gone over
-pub firsts_after-step : {X : Type 0} (f : X → Entry) (g : Entry → List Subst) (ys zs : List Subst) (i : ℕ) (xs : List X) (x : X) → i < length xs → x ≡ get_or xs i x → zs ≡ firsts_after same_subst ys (g (f x)) → firsts_after same_subst zs (flat_map g (map f (drop (i + 1) xs))) ≡ firsts_after same_subst ys (flat_map g (map f (drop i xs)))
+pub firsts_after-step : {X : Type 0} (f : X → Entry) (g : Entry → List Item) (ys zs : List Item) (i : ℕ) (xs : List X) (x : X) → i < length xs → x ≡ get_or xs i x → zs ≡ firsts_after same_item ys (g (f x)) → firsts_after same_item zs (flat_map g (map f (drop (i + 1) xs))) ≡ firsts_after same_item ys (flat_map g (map f (drop i xs)))
 firsts_after-step f g ys zs i xs x h e q =
-    ap (λ us. firsts_after same_subst us (flat_map g (map f (drop (i + 1) xs)))) q
-    ∙ sym (firsts_after-append same_subst ys (g (f x)) (flat_map g (map f (drop (i + 1) xs))))
-    ∙ ap (λ us. firsts_after same_subst ys (flat_map g (map f us))) (sym (drop-next i xs x h e))
+    ap (λ us. firsts_after same_item us (flat_map g (map f (drop (i + 1) xs)))) q
+    ∙ sym (firsts_after-append same_item ys (g (f x)) (flat_map g (map f (drop (i + 1) xs))))
+    ∙ ap (λ us. firsts_after same_item ys (flat_map g (map f us))) (sym (drop-next i xs x h e))
 
-pub firsts_after-end : {X : Type 0} (f : X → Entry) (g : Entry → List Subst) (zs : List Subst) (i : ℕ) (xs : List X) → length xs ≤ i → firsts_after same_subst zs (flat_map g (map f (drop i xs))) ≡ zs
+pub firsts_after-end : {X : Type 0} (f : X → Entry) (g : Entry → List Item) (zs : List Item) (i : ℕ) (xs : List X) → length xs ≤ i → firsts_after same_item zs (flat_map g (map f (drop i xs))) ≡ zs
 firsts_after-end f g zs i xs h = rw (drop_of_length-le xs {i = i} h) refl
 
 pub entries_left-child : (fs : List Frame) (p : Pattern) (f : Frame) (gs : List Frame) → settle fs ≡ child p f gs → entries_left fs ≡ suc (nodes_below p + (all_pattern_nodes f.children + entries_left gs))
 entries_left-child fs p f gs e = subst (Comes fs) e (comes fs)
-
--- at the end of both
-pub same_subst-end : {X : Type 0} (f : X → Binding) (i : ℕ) (xs ys : List X) → length xs ≤ i → i ≤ length xs → i ≤ length ys → nat_eq (length xs) (length ys) ≡ same_subst (map f (drop i xs)) (map f (drop i ys))
-same_subst-end {X = X} f i xs ys h k l =
-    rw (drop_of_length-le xs {i = i} h) (bool_same (nat_eq (length xs) (length ys)) (same_subst [] (map f (drop i ys))) (λ e. let q : length ys ≤ i = omega (arith, eqb-true (length xs) (length ys) e) in rw (drop_of_length-le ys {i = i} q) refl) (λ e. eq-eqb (length xs) (length ys) (empty (drop i ys) refl e)))
-  where
-    empty : (zs : List X) → drop i ys ≡ zs → same_subst [] (map f zs) ≡ true → length xs ≡ length ys
-    empty [] p e = let d : length ys - i ≡ 0 = sym (length-drop i ys) ∙ ap length p in omega arith
-    empty (z ∷ zs) p e = cc

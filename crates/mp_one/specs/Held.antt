@@ -5,11 +5,11 @@ use Rattle.mp_term.specs.View.{tree}
 use Rattle.mp_term.specs.Order.{tree_cmp}
 use Rattle.mp_pattern.specs.Value.{Value, one, seq, bag}
 use Rattle.mp_theory.specs.Pieces.{same}
-use Rattle.matchpy.specs.Lists.{trees_of}
-use Rattle.matchpy.specs.declared.one_list.held.Held.{Held}
-use Rattle.matchpy.specs.declared.one_list.held.Held.TheVariants.{Whole, Joined, Seq, Bag}
-use Rattle.matchpy.specs.declared.one_list.held.Merged.{Merged}
-use Rattle.matchpy.specs.declared.one_list.held.Merged.TheVariants.{First, Second, Clash}
+use Rattle.mp_one.specs.Lists.{trees_of}
+use Rattle.mp_one.specs.declared.held.Held.{Held}
+use Rattle.mp_one.specs.declared.held.Held.TheVariants.{Whole, Joined, Seq, Bag}
+use Rattle.mp_one.specs.declared.held.Merged.{Merged}
+use Rattle.mp_one.specs.declared.held.Merged.TheVariants.{First, Second, Clash}
 
 -- the value that is held
 abbrev pub held_value : Held → Value

@@ -7,15 +7,15 @@ use Rattle.mp_pattern.specs.Fits as fits
 use Rattle.mp_theory.specs.Frames as walk
 use Rattle.mp_term.specs.Signature.{Sig}
 use Rattle.mp_theory.specs.Machine as machine
-use Rattle.matchpy.specs.Lines.{above}
-use Rattle.matchpy.specs.Lists.{trees_of}
-use Rattle.matchpy.specs.declared.one_list.stack.Frame.{Frame}
-use Rattle.matchpy.specs.declared.one_list.stack.Stack.{Stack}
-use Rattle.matchpy.specs.declared.one_list.stack.Stack.{Root, Within'}
-use Rattle.matchpy.specs.declared.one_list.stack.Place.{Place}
-use Rattle.matchpy.specs.declared.one_list.stack.Next.{Next}
-use Rattle.matchpy.specs.declared.one_list.stack.Next.TheVariants.{Ended, Refused, Child}
-use Rattle.matchpy.specs.declared.one_list.stack.Entry.{Entry}
+use Rattle.mp_one.specs.Lines.{above}
+use Rattle.mp_one.specs.Lists.{trees_of}
+use Rattle.mp_one.specs.declared.stack.Frame.{Frame}
+use Rattle.mp_one.specs.declared.stack.Stack.{Stack}
+use Rattle.mp_one.specs.declared.stack.Stack.{Root, Within'}
+use Rattle.mp_one.specs.declared.stack.Place.{Place}
+use Rattle.mp_one.specs.declared.stack.Next.{Next}
+use Rattle.mp_one.specs.declared.stack.Next.TheVariants.{Ended, Refused, Child}
+use Rattle.mp_one.specs.declared.stack.Entry.{Entry}
 
 -- the frame as the search sees it
 abbrev pub frame_of : Frame → walk.Frame

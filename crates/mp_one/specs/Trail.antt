@@ -1,10 +1,10 @@
 -- What contracts see of the substitution so far.
 use Rattle.std.specs.Prelude.{List, map, Option, Some, None}
 use Rattle.mp_pattern.specs.Value.{Binding, Subst}
-use Rattle.matchpy.specs.Held.{held_value}
-use Rattle.matchpy.specs.declared.one_list.bind.Bound.{Bound}
-use Rattle.matchpy.specs.declared.one_list.bind.Extended.{Extended}
-use Rattle.matchpy.specs.declared.one_list.bind.Extended.TheVariants.{Clash, Same, Changed}
+use Rattle.mp_one.specs.Held.{held_value}
+use Rattle.mp_one.specs.declared.bind.Bound.{Bound}
+use Rattle.mp_one.specs.declared.bind.Extended.{Extended}
+use Rattle.mp_one.specs.declared.bind.Extended.TheVariants.{Clash, Same, Changed}
 
 -- the variable with its value
 abbrev pub bound_of : Bound → Binding

@@ -2,14 +2,14 @@
 ghost use Rattle.std.specs.Prelude.{◌≡◌, option_map, IfOk};
 ghost use Rattle.mp_theory.specs.Solve as solve;
 ghost use Rattle.mp_theory.specs.Machine as machine;
-ghost use Rattle.matchpy.specs.Stack.{child_of, entry_of};
+ghost use Rattle.mp_one.specs.Stack.{child_of, entry_of};
 ghost use Rattle.mp_pattern.specs.Value as values;
-ghost use Rattle.matchpy.specs.Trail.{bound_of, trail_of, outcome};
-ghost use Rattle.matchpy.specs.Held.{held_value};
+ghost use Rattle.mp_one.specs.Trail.{bound_of, trail_of, outcome};
+ghost use Rattle.mp_one.specs.Held.{held_value};
 
-use crate::one_list::held::{Held, Merged, copy_held, given, merge};
-use crate::one_list::stack::{Entry, Place};
-use crate::one_list::terms::push;
+use crate::held::{Held, Merged, copy_held, given, merge};
+use crate::stack::{Entry, Place};
+use crate::terms::push;
 use mp_pattern::Pattern;
 use mp_term::{Memory, Name, Signature};
 use std::alloc::Global;

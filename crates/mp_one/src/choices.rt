@@ -3,14 +3,14 @@ ghost use Rattle.std.specs.Prelude.{◌≡◌, ◌++◌, ◌∷◌, [], map, fil
 ghost use Rattle.mp_pattern.specs.View.{pattern_tree};
 ghost use Rattle.mp_theory.specs.Machine as machine;
 ghost use Rattle.mp_theory.specs.Bounds as bounds;
-ghost use Rattle.matchpy.specs.Lines.{above, most_of};
-ghost use Rattle.matchpy.specs.Lists.{trees_of, lists_of};
-ghost use Rattle.matchpy.specs.Stack.{child_of, entry_of, reads_at};
+ghost use Rattle.mp_one.specs.Lines.{above, most_of};
+ghost use Rattle.mp_one.specs.Lists.{trees_of, lists_of};
+ghost use Rattle.mp_one.specs.Stack.{child_of, entry_of, reads_at};
 
-use crate::one_list::lines::{comm_above, is_short, least, reads};
-use crate::one_list::pieces::pieces_between;
-use crate::one_list::stack::{Entry, Place};
-use crate::one_list::terms::{copied, push};
+use crate::lines::{comm_above, is_short, least, reads};
+use crate::pieces::pieces_between;
+use crate::stack::{Entry, Place};
+use crate::terms::{copied, push};
 use mp_term::{Memory, Signature, Term};
 use std::alloc::Global;
 

@@ -7,12 +7,12 @@ ghost use Rattle.mp_theory.specs.Pieces.{same};
 ghost use Rattle.mp_pattern.specs.View.{wildcard};
 ghost use Rattle.mp_pattern.specs.Value as values;
 ghost use Rattle.mp_theory.specs.Solve as solve;
-ghost use Rattle.matchpy.specs.Lines.{above};
-ghost use Rattle.matchpy.specs.Lists.{trees_of};
-ghost use Rattle.matchpy.specs.Held.{held_value, merged, is_same_one};
+ghost use Rattle.mp_one.specs.Lines.{above};
+ghost use Rattle.mp_one.specs.Lists.{trees_of};
+ghost use Rattle.mp_one.specs.Held.{held_value, merged, is_same_one};
 
-use crate::one_list::lines::{comm_above, is_alone, is_assoc, is_of_kind};
-use crate::one_list::terms::{copied, references, same_multiset, same_references};
+use crate::lines::{comm_above, is_alone, is_assoc, is_of_kind};
+use crate::terms::{copied, references, same_multiset, same_references};
 use mp_pattern::Shape;
 use mp_term::{Memory, OpId, Signature, Term, compare};
 use std::alloc::Global;

@@ -14,8 +14,8 @@ ghost use Rattle.mp_theory.specs.Pieces.{same};
 ghost use Rattle.mp_theory.specs.Solve as solve;
 ghost use Rattle.mp_theory.specs.Machine as machine;
 ghost use Rattle.mp_theory.specs.Bounds as bounds;
-ghost use Rattle.matchpy.specs.Lists.{trees_of};
-ghost use Rattle.matchpy.specs.Lines.{above, is_sequence};
+ghost use Rattle.mp_one.specs.Lists.{trees_of};
+ghost use Rattle.mp_one.specs.Lines.{above, is_sequence};
 
 use mp_pattern::{Pattern, Shape};
 use mp_term::{KindId, OpId, Signature, Term};

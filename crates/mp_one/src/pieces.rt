@@ -3,9 +3,9 @@ ghost use Rattle.std.specs.Prelude.{◌≡◌, ◌-◌, ◌≤◌, ◌++◌, ◌
 ghost use Rattle.mp_term.specs.View.{tree};
 ghost use Rattle.mp_term.specs.Order.{tree_cmp};
 ghost use Rattle.mp_theory.specs.Pieces as pieces;
-ghost use Rattle.matchpy.specs.Lists.{trees_of, lists_of, IsPlace};
+ghost use Rattle.mp_one.specs.Lists.{trees_of, lists_of, IsPlace};
 
-use crate::one_list::terms::{copied, push};
+use crate::terms::{copied, push};
 use mp_term::{Memory, Term, compare};
 use std::alloc::Global;
 use std::cmp::Ordering;

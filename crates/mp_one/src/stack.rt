@@ -6,11 +6,11 @@ ghost use Rattle.mp_pattern.specs.Fits as fits;
 ghost use Rattle.mp_pattern.specs.View.{pattern_tree};
 ghost use Rattle.mp_theory.specs.Frames as walk;
 ghost use Rattle.mp_theory.specs.Machine as machine;
-ghost use Rattle.matchpy.specs.Lists.{trees_of};
-ghost use Rattle.matchpy.specs.Stack.{stack_frames, frame_of, inner_frame, next_of, entry_of};
+ghost use Rattle.mp_one.specs.Lists.{trees_of};
+ghost use Rattle.mp_one.specs.Stack.{stack_frames, frame_of, inner_frame, next_of, entry_of};
 
-use crate::one_list::pieces::without;
-use crate::one_list::terms::{copied, references};
+use crate::pieces::without;
+use crate::terms::{copied, references};
 use mp_pattern::{Pattern, Patterns, Shape};
 use mp_term::{Memory, OpId, Term};
 use std::alloc::Global;

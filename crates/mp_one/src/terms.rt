@@ -4,7 +4,7 @@ ghost use Rattle.mp_term.specs.View.{tree};
 ghost use Rattle.mp_term.specs.Order.{tree_cmp};
 ghost use Rattle.mp_term.specs.Sorting.{sorted};
 ghost use Rattle.mp_pattern.specs.Value as values;
-ghost use Rattle.matchpy.specs.Lists.{trees_of};
+ghost use Rattle.mp_one.specs.Lists.{trees_of};
 
 use mp_term::{Memory, Term, Terms, copy_term};
 use std::alloc::Global;

@@ -1,7 +1,8 @@
-use crate::one_list::search::one_list;
-use crate::one_list::sound::is_sound;
-use crate::one_list::value::{Subst, Value};
-use mp_pattern::{Pattern, Patterns, Shape};
+use crate::item::{Item, Items};
+use crate::search::eager_list;
+use crate::sound::is_sound;
+use mp_pattern::{Pattern, Patterns, Rule, Shape};
+use mp_subst::Value;
 use mp_term::{KindId, Memory, Name, Names, OpDecl, OpId, Signature, Term, Terms, is_normal};
 use std::alloc::Global;
 use std::test::Fail;
@@ -98,9 +99,9 @@ fn apply(alloc: Global, op: OpId, stack: &mut Vec<Term>, at: usize) -> Result<()
 }
 
 // In postfix notation: `a` is a symbol, and `f/2` is `f` on the two terms before.
-fn term(alloc: Global, sig: &Signature, words: &[&str]) -> Result<Term, Memory> {
+fn term(alloc: Global, sig: &Signature, words: &str) -> Result<Term, Memory> {
     let mut stack = Vec::new(alloc);
-    for word in words {
+    for word in words.split(' ') {
         match word.as_bytes() {
             [symbol] => push(&mut stack, Term::Sym(name(alloc, *symbol)?))?,
             [letter, b'/', count] => {
@@ -152,9 +153,9 @@ fn wildcard(alloc: Global, sig: &Signature, bytes: &[u8]) -> Result<Pattern, Mem
 }
 
 // In postfix notation, as terms are.
-fn pattern(alloc: Global, sig: &Signature, words: &[&str]) -> Result<Pattern, Memory> {
+fn pattern(alloc: Global, sig: &Signature, words: &str) -> Result<Pattern, Memory> {
     let mut stack = Vec::new(alloc);
-    for word in words {
+    for word in words.split(' ') {
         match word.as_bytes() {
             [letter, b'/', count] => {
                 let at = left(stack.len(), *count)?;
@@ -220,9 +221,9 @@ fn write_value(sig: &Signature, value: &Value, out: &mut Vec<u8>) -> Result<(), 
 }
 
 // A line for each substitution.
-fn write_substs(sig: &Signature, substs: &[Subst], out: &mut Vec<u8>) -> Result<(), Memory> {
-    for subst in substs {
-        for (i, binding) in subst.bindings.iter().enumerate() {
+fn write_substs(sig: &Signature, items: &[Item], out: &mut Vec<u8>) -> Result<(), Memory> {
+    for item in items {
+        for (i, binding) in item.subst.bindings.as_slice().iter().enumerate() {
             if i > 0 {
                 write(out, b", ")?;
             }
@@ -235,21 +236,35 @@ fn write_substs(sig: &Signature, substs: &[Subst], out: &mut Vec<u8>) -> Result<
     Ok(())
 }
 
-// What the pattern admits on the subject, in print.
+// What a rule with the pattern admits on the subject.
+fn items(
+    alloc: Global,
+    sig: &Signature,
+    patterns: &str,
+    terms: &str,
+) -> Result<Items, Memory> {
+    let rule = Rule {
+        name: name(alloc, b'r')?,
+        pattern: pattern(alloc, sig, patterns)?,
+        template: None,
+        condition: None,
+    };
+    let subject = term(alloc, sig, terms)?;
+    if !is_sound(sig, &rule.pattern) || !is_normal(sig, &subject) {
+        return Err(Memory);
+    }
+    eager_list(alloc, sig, &rule, &subject)
+}
+
+// The same in print.
 fn admitted(
     alloc: Global,
     sig: &Signature,
-    patterns: &[&str],
-    terms: &[&str],
+    patterns: &str,
+    terms: &str,
 ) -> Result<Vec<u8>, Memory> {
-    let pattern = pattern(alloc, sig, patterns)?;
-    let subject = term(alloc, sig, terms)?;
-    if !is_sound(sig, &pattern) || !is_normal(sig, &subject) {
-        return Err(Memory);
-    }
     let mut out = Vec::new(alloc);
-    let substs = one_list(alloc, sig, &pattern, &subject)?;
-    write_substs(sig, &substs, &mut out)?;
+    write_substs(sig, items(alloc, sig, patterns, terms)?.as_slice(), &mut out)?;
     Ok(out)
 }
 
@@ -257,70 +272,85 @@ fn admitted(
 fn patterns_admit_the_listed_substitutions(rt: HostRuntime) -> Result<(), Fail> {
     let alloc = rt.alloc();
     let sig = signature(alloc)?;
-    let rows: [(&[&str], &[&str], &[u8]); 16] = [
+    let rows: [(&str, &str, &[u8]); 16] = [
         // One variable has one value.
-        (&["x_", "x_", "f/2"], &["a", "b", "f/2"], b""),
+        ("x_ x_ f/2", "a b f/2", b""),
         // Under an associative operation a dot takes several arguments.
         (
-            &["x_", "y_", "p/2"],
-            &["a", "b", "c", "p/3"],
+            "x_ y_ p/2",
+            "a b c p/3",
             b"x -> a, y -> p(b, c)\nx -> p(a, b), y -> c\n",
         ),
         (
-            &["x_", "y_", "s/2"],
-            &["a", "b", "s/2"],
+            "x_ y_ s/2",
+            "a b s/2",
             b"x -> a, y -> b\nx -> b, y -> a\n",
         ),
         // Equal arguments are one choice.
         (
-            &["x__", "y___", "s/2"],
-            &["a", "a", "s/2"],
+            "x__ y___ s/2",
+            "a a s/2",
             b"x -> {a}, y -> {a}\nx -> {a, a}, y -> {}\n",
         ),
         // Each substitution stands once.
         (
-            &["x_", "_", "__", "s/3"],
-            &["a", "b", "c", "s/3"],
+            "x_ _ __ s/3",
+            "a b c s/3",
             b"x -> a\nx -> b\nx -> c\n",
         ),
-        (&["x_", "y_:0", "u/2"], &["a"], b"x -> a, y -> 0\n"),
-        (&["x_:0", "y_:0", "u/2"], &["0"], b"x -> 0, y -> 0\n"),
+        ("x_ y_:0 u/2", "a", b"x -> a, y -> 0\n"),
+        ("x_:0 y_:0 u/2", "0", b"x -> 0, y -> 0\n"),
         // A multiset that is met first becomes the tuple that is met later.
         (
-            &["x__", "s/1", "x__", "g/1", "f/2"],
-            &["a", "b", "s/2", "b", "a", "g/2", "f/2"],
+            "x__ s/1 x__ g/1 f/2",
+            "a b s/2 b a g/2 f/2",
             b"x -> (b, a)\n",
         ),
-        (&["x_", "p/1"], &["a", "p/1"], b"x -> a\n"),
+        ("x_ p/1", "a p/1", b"x -> a\n"),
         (
-            &["x_", "y_", "u/2"],
-            &["a", "b", "c", "u/3"],
+            "x_ y_ u/2",
+            "a b c u/3",
             b"x -> a, y -> u(b, c)\nx -> b, y -> u(a, c)\nx -> c, y -> u(a, b)\nx -> u(a, b), y -> c\nx -> u(a, c), y -> b\nx -> u(b, c), y -> a\n",
         ),
         (
-            &["x_", "y_", "k/2", "z_", "s/2"],
-            &["a", "d", "k/2", "b", "c", "k/2", "s/2"],
+            "x_ y_ k/2 z_ s/2",
+            "a d k/2 b c k/2 s/2",
             b"x -> a, y -> d, z -> k(b, c)\nx -> d, y -> a, z -> k(b, c)\nx -> b, y -> c, z -> k(a, d)\nx -> c, y -> b, z -> k(a, d)\n",
         ),
         (
-            &["x_v", "n_n", "f/2"],
-            &["b", "7", "f/2"],
+            "x_v n_n f/2",
+            "b 7 f/2",
             b"x -> b, n -> 7\n",
         ),
-        (&["x_v", "n_n", "f/2"], &["c", "7", "f/2"], b""),
+        ("x_v n_n f/2", "c 7 f/2", b""),
         // A product without a factor counts once.
         (
-            &["x_w", "c_:1", "t/2", "x_w", "d_:1", "t/2", "r___", "u/3"],
-            &["x", "y", "3", "x", "t/2", "u/3"],
+            "x_w c_:1 t/2 x_w d_:1 t/2 r___ u/3",
+            "x y 3 x t/2 u/3",
             b"x -> x, c -> 1, d -> 3, r -> {y}\nx -> x, c -> 3, d -> 1, r -> {y}\n",
         ),
         // An application with a star child doesn't collapse.
-        (&["y_", "x_:0", "z___", "u/3"], &["a"], b""),
-        (&["a", "b", "f/2"], &["a", "b", "f/2"], b"\n"),
+        ("y_ x_:0 z___ u/3", "a", b""),
+        ("a b f/2", "a b f/2", b"\n"),
     ];
     for (patterns, terms, lines) in rows {
         let out = admitted(alloc, &sig, patterns, terms)?;
         assert_eq!(rt; out.as_slice(), lines);
     }
+    Ok(())
+}
+
+#[test]
+fn each_item_has_its_least_table(rt: HostRuntime) -> Result<(), Fail> {
+    let alloc = rt.alloc();
+    let sig = signature(alloc)?;
+    let items = items(alloc, &sig, "x_ y_:0 u/2", "a")?;
+    assert_eq!(rt; items.len(), 1);
+    let item = items.get(0).ok_or("no item")?;
+    let mut counts = Vec::new(alloc);
+    for entry in item.takes.as_slice() {
+        counts.push((entry.terms.len(), entry.collapsed))?;
+    }
+    assert_eq!(rt; counts.as_slice(), [(1, true), (1, false), (0, false)].as_slice());
     Ok(())
 }

@@ -40,7 +40,7 @@ term_texts-trees sig [] = refl
 term_texts-trees sig (t ∷ ts) = ap (λ l. term_text sig t ∷ l) (term_texts-trees sig ts)
 
 -- a map after a map
-map-map : {X Y Z : Type 0} (g : Y → Z) (f : X → Y) (xs : List X) → map g (map f xs) ≡ map (λ x. g (f x)) xs
+pub map-map : {X Y Z : Type 0} (g : Y → Z) (f : X → Y) (xs : List X) → map g (map f xs) ≡ map (λ x. g (f x)) xs
 map-map g f [] = refl
 map-map g f (x ∷ xs) = ap (λ l. g (f x) ∷ l) (map-map g f xs)
 

@@ -2,10 +2,10 @@ use Rattle.std.proofs.Common.{◌++◌, ◌∷◌, [], true, false, map, ap, ◌
 use Rattle.std.specs.Prelude.{filter}
 use Rattle.mp_pattern.specs.View.{pattern_tree}
 use Rattle.mp_theory.specs.Machine.{reads}
-use Rattle.matchpy.specs.Lists.{trees_of}
-use Rattle.matchpy.specs.Stack.{entry_of, inner_frame}
-use Rattle.matchpy.proofs.ChoiceLaws.{entries-step}
-use Rattle.matchpy.proofs.one_list.choices.choices.Goals as goal
+use Rattle.mp_one.specs.Lists.{trees_of}
+use Rattle.mp_one.specs.Stack.{entry_of, inner_frame}
+use Rattle.mp_one.proofs.ChoiceLaws.{entries-step}
+use Rattle.mp_one.proofs.choices.choices.Goals as goal
 
 pub loop-piece-preserved : goal.loop-piece-preserved
 loop-piece-preserved c =

@@ -2,9 +2,9 @@ use Rattle.std.proofs.Common.{◌≡◌, ◌++◌, map, drop}
 use Rattle.std.specs.Prelude.{filter, option_map}
 use Rattle.mp_pattern.specs.View.{pattern_tree}
 use Rattle.mp_theory.specs.Machine as machine
-use Rattle.matchpy.specs.Lists.{lists_of}
-use Rattle.matchpy.specs.Stack.{entry_of}
-use Rattle.matchpy.proofs.one_list.choices.choices.Given as goal
+use Rattle.mp_one.specs.Lists.{lists_of}
+use Rattle.mp_one.specs.Stack.{entry_of}
+use Rattle.mp_one.proofs.choices.choices.Given as goal
 
 abbrev pub invariant-loop-piece : goal.invariant-loop-piece
 invariant-loop-piece l =

@@ -8,10 +8,10 @@ use Rattle.mp_theory.specs.Pieces.{count_to, pieces_among}
 use Rattle.mp_theory.specs.Machine.{entries, reads}
 use Rattle.mp_theory.specs.Bounds.{least, is_short}
 use Rattle.mp_pattern.specs.Variables.{comm_above}
-use Rattle.matchpy.specs.Lines.{most_of}
-use Rattle.matchpy.specs.Stack.{inner_frame, stack_frames}
-use Rattle.matchpy.proofs.ChoiceLaws.{choices-between}
-use Rattle.matchpy.proofs.one_list.choices.pieces.Goals as goal
+use Rattle.mp_one.specs.Lines.{most_of}
+use Rattle.mp_one.specs.Stack.{inner_frame, stack_frames}
+use Rattle.mp_one.proofs.ChoiceLaws.{choices-between}
+use Rattle.mp_one.proofs.choices.pieces.Goals as goal
 
 pub returns : goal.returns
 returns c =

@@ -4,9 +4,9 @@ use Rattle.mp_term.specs.View.{tree}
 use Rattle.mp_term.specs.Order.{tree_cmp}
 use Rattle.mp_pattern.specs.Value.{same_terms}
 use Rattle.mp_theory.specs.Pieces.{same}
-use Rattle.matchpy.specs.Lists.{trees_of}
-use Rattle.matchpy.proofs.SameLaws.{same-same_head}
-use Rattle.matchpy.proofs.one_list.held.is_joined.Goals as goal
+use Rattle.mp_one.specs.Lists.{trees_of}
+use Rattle.mp_one.proofs.SameLaws.{same-same_head}
+use Rattle.mp_one.proofs.held.is_joined.Goals as goal
 
 pub returns-in_ok-args-in-App : goal.returns-in_ok-args-in-App
 returns-in_ok-args-in-App c =

@@ -4,9 +4,9 @@ use Rattle.mp_term.specs.View.{tree}
 use Rattle.mp_term.specs.Order.{tree_cmp}
 use Rattle.mp_pattern.specs.Value.{same_terms}
 use Rattle.mp_theory.specs.Pieces.{same}
-use Rattle.matchpy.specs.Lists.{trees_of}
-use Rattle.matchpy.proofs.SameLaws.{same-same_head, same-swapped}
-use Rattle.matchpy.proofs.one_list.held.same_term.Goals as goal
+use Rattle.mp_one.specs.Lists.{trees_of}
+use Rattle.mp_one.proofs.SameLaws.{same-same_head, same-swapped}
+use Rattle.mp_one.proofs.held.same_term.Goals as goal
 
 pub returns-in_ok-same-in-Joined-Whole : goal.returns-in_ok-same-in-Joined-Whole
 returns-in_ok-same-in-Joined-Whole c =

@@ -4,9 +4,9 @@ use Rattle.std.proofs.Math.ListN.{length-map}
 use Rattle.mp_term.specs.View.{tree}
 use Rattle.mp_term.specs.Order.{tree_cmp}
 use Rattle.mp_theory.specs.Pieces as pieces
-use Rattle.matchpy.specs.Lists.{trees_of, lists_of}
-use Rattle.matchpy.proofs.PieceSteps.{begun, pieces_of-longer, flat_map-step, flat_map-end, pieces_of-short}
-use Rattle.matchpy.proofs.one_list.pieces.+pieces_of.Goals as goal
+use Rattle.mp_one.specs.Lists.{trees_of, lists_of}
+use Rattle.mp_one.proofs.PieceSteps.{begun, pieces_of-longer, flat_map-step, flat_map-end, pieces_of-short}
+use Rattle.mp_one.proofs.pieces.+pieces_of.Goals as goal
 
 pub loop-first-preserved : goal.loop-first-preserved
 loop-first-preserved t c =

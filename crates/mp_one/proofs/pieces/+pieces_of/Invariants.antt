@@ -1,9 +1,9 @@
 use Rattle.std.proofs.Common.{◌≡◌, ◌++◌, ◌-◌, drop}
 use Rattle.std.specs.Prelude.{flat_map}
 use Rattle.mp_term.specs.Order.{tree_cmp}
-use Rattle.matchpy.specs.Lists.{trees_of, lists_of}
-use Rattle.matchpy.proofs.PieceSteps.{begun}
-use Rattle.matchpy.proofs.one_list.pieces.+pieces_of.Given as goal
+use Rattle.mp_one.specs.Lists.{trees_of, lists_of}
+use Rattle.mp_one.proofs.PieceSteps.{begun}
+use Rattle.mp_one.proofs.pieces.+pieces_of.Given as goal
 
 abbrev pub decreases-pieces_of : goal.decreases-pieces_of
 decreases-pieces_of l = l.length

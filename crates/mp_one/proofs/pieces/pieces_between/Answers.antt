@@ -4,9 +4,9 @@ use Rattle.std.specs.List.{range_with_len}
 use Rattle.std.proofs.lemmas.List.{map-append}
 use Rattle.mp_term.specs.Order.{tree_cmp}
 use Rattle.mp_theory.specs.Pieces.{pieces_of}
-use Rattle.matchpy.specs.Lists.{trees_of, lists_of}
-use Rattle.matchpy.proofs.PieceSteps.{flat_map-count_to, flat_map-next}
-use Rattle.matchpy.proofs.one_list.pieces.pieces_between.Goals as goal
+use Rattle.mp_one.specs.Lists.{trees_of, lists_of}
+use Rattle.mp_one.proofs.PieceSteps.{flat_map-count_to, flat_map-next}
+use Rattle.mp_one.proofs.pieces.pieces_between.Goals as goal
 
 pub loop-length-init : goal.loop-length-init
 loop-length-init c =

@@ -3,8 +3,8 @@ use Rattle.std.specs.Prelude.{flat_map}
 use Rattle.std.specs.List.{range_with_len}
 use Rattle.mp_term.specs.Order.{tree_cmp}
 use Rattle.mp_theory.specs.Pieces.{pieces_of, count_to}
-use Rattle.matchpy.specs.Lists.{trees_of, lists_of}
-use Rattle.matchpy.proofs.one_list.pieces.pieces_between.Given as goal
+use Rattle.mp_one.specs.Lists.{trees_of, lists_of}
+use Rattle.mp_one.proofs.pieces.pieces_between.Given as goal
 
 abbrev pub invariant-loop-length : goal.invariant-loop-length
 invariant-loop-length l =

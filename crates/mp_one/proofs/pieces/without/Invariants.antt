@@ -1,8 +1,8 @@
 use Rattle.std.proofs.Common.{◌≡◌, ◌≤◌, ◌++◌, length, drop}
 use Rattle.mp_term.specs.Order.{tree_cmp}
 use Rattle.mp_theory.specs.Pieces as pieces
-use Rattle.matchpy.specs.Lists.{trees_of}
-use Rattle.matchpy.proofs.one_list.pieces.without.Given as goal
+use Rattle.mp_one.specs.Lists.{trees_of}
+use Rattle.mp_one.proofs.pieces.without.Given as goal
 
 abbrev pub invariant-loop-term : goal.invariant-loop-term
 invariant-loop-term l = record {

@@ -1,8 +1,8 @@
 use Rattle.std.proofs.Common.{sym, subst}
 use Rattle.std.specs.Prelude.{None}
 use Rattle.mp_pattern.specs.PatternTree.{patterns}
-use Rattle.matchpy.proofs.SoundLaws.{AllDefaults, sound-app, app-sound}
-use Rattle.matchpy.proofs.one_list.sound.+sound.Goals as goal
+use Rattle.mp_one.proofs.SoundLaws.{AllDefaults, sound-app, app-sound}
+use Rattle.mp_one.proofs.sound.+sound.Goals as goal
 
 pub is_sound-returns-in-App : goal.is_sound-returns-in-App
 is_sound-returns-in-App t c =

@@ -1,5 +1,5 @@
 use Rattle.std.proofs.Common.{◌+◌, ◌*◌}
-use Rattle.matchpy.proofs.one_list.tests.+write.Given as goal
+use Rattle.mp_one.proofs.tests.+write.Given as goal
 
 abbrev pub decreases-write_term : goal.decreases-write_term
 decreases-write_term l = 2 * l.depth

@@ -1,0 +1,7 @@
+pub mod ListLaws
+pub mod PieceSteps
+pub mod SameLaws
+pub mod BindLaws
+pub mod ChoiceLaws
+pub mod WalkLaws
+pub mod SoundLaws
