@@ -5,3 +5,4 @@ pub mod BindLaws
 pub mod ChoiceLaws
 pub mod WalkLaws
 pub mod SoundLaws
+pub mod FoundLaws
