@@ -12,6 +12,11 @@ mod Separated
 mod Parts
 mod PatternSize
 mod Spelled
+mod SpelledHead
+mod SpelledTerm
+mod SpelledDeclarations
+mod ReadFile
+mod SpelledFile
 mod Pass
 pub mod Whole
 pub mod SoundLaws

@@ -78,7 +78,7 @@ module _ (sig : Sig) where
   length-terms_of (more_trees t ts) = ap suc (length-terms_of ts)
 
   -- operands without faults, and a sign without faults
-  nil-term_operands : (at_sign : List TextFault) (ts : Trees) → term_operand_faults sig at_sign ts ≡ [] → (at_sign ≡ []) × (all_term_faults sig ts ≡ [])
+  pub nil-term_operands : (at_sign : List TextFault) (ts : Trees) → term_operand_faults sig at_sign ts ≡ [] → (at_sign ≡ []) × (all_term_faults sig ts ≡ [])
   nil-term_operands at_sign no_trees h = (h, refl)
   nil-term_operands at_sign (more_trees t ts) h =
       let p = nil-append (term_faults sig t) (at_sign ++ all_term_faults sig ts) h in
@@ -249,12 +249,13 @@ are_distinct-push (m ∷ ns) n h k =
 -- ---- statements
 
 -- what the name of a statement without faults shows
-record Named (most : ℕ) (earlier : List (List ℕ)) (large : Bool) (name : Spot) : Type 0 where
-  other : is_among name.text earlier ≡ false
-  few : length earlier < most
-  small : large ≡ false
+pub record Named (most : ℕ) (earlier : List (List ℕ)) (large : Bool) (name : Spot) : Type 0 where
+  pub other : is_among name.text earlier ≡ false
+  pub few : length earlier < most
+  pub small : large ≡ false
 
-named-by : (most : ℕ) (earlier : List (List ℕ)) (large : Bool) (name : Spot) → name_faults most earlier large name ≡ [] → Named most earlier large name
+-- a name without faults
+pub named-by : (most : ℕ) (earlier : List (List ℕ)) (large : Bool) (name : Spot) → name_faults most earlier large name ≡ [] → Named most earlier large name
 named-by most earlier large name h =
     let p = nil-append (fault_if (is_among name.text earlier) _ name.place) (fault_if (leb most (length earlier) || large) _ name.place) h in
     let o = or-second (leb most (length earlier)) large (nil-fault_if (leb most (length earlier) || large) _ name.place p.1) in
@@ -334,14 +335,16 @@ record Good (names : List (List ℕ)) : Type 0 where
 good-push : (names : List (List ℕ)) (name : List ℕ) → Good names → is_among name names ≡ false → length names < 1000 → Good (names ++ name ∷ [])
 good-push names name g other few = record { distinct = are_distinct-push names name g.distinct other; few = omega (arith, length-append names (name ∷ [])) }
 
-rule_names-append : (a b : List Statement) → rule_names (a ++ b) ≡ rule_names a ++ rule_names b
+-- the names of the rules of statements in two parts
+pub rule_names-append : (a b : List Statement) → rule_names (a ++ b) ≡ rule_names a ++ rule_names b
 rule_names-append [] b = refl
 rule_names-append (OpOf name least more flags ∷ ss) b = rule_names-append ss b
 rule_names-append (KindOf name members ∷ ss) b = rule_names-append ss b
 rule_names-append (RuleOf name p ∷ ss) b = ap (λ l. name.text ∷ l) (rule_names-append ss b)
 rule_names-append (SubjectOf name t ∷ ss) b = rule_names-append ss b
 
-subject_names-append : (a b : List Statement) → subject_names (a ++ b) ≡ subject_names a ++ subject_names b
+-- the names of the subjects of statements in two parts
+pub subject_names-append : (a b : List Statement) → subject_names (a ++ b) ≡ subject_names a ++ subject_names b
 subject_names-append [] b = refl
 subject_names-append (OpOf name least more flags ∷ ss) b = subject_names-append ss b
 subject_names-append (KindOf name members ∷ ss) b = subject_names-append ss b
@@ -396,7 +399,7 @@ module _ (sig : Sig) where
 -- ---- files
 
 -- the file of statements without faults is sound
-sound-file : (ss : List Statement) → AreStatements ss → faults ss ≡ [] → IsSoundFile (file_tree_of ss)
+pub sound-file : (ss : List Statement) → AreStatements ss → faults ss ≡ [] → IsSoundFile (file_tree_of ss)
 sound-file ss fit h =
     let sig = sig_of ss in
     let declared = nil-append (declaration_faults ss) (faults_by (statement_faults sig) [] ss) h in

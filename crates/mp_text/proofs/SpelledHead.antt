@@ -1,6 +1,8 @@
 -- An operation that is held is found by its name and by its sign, so that an application of it is read as it is spelled.
 use Rattle.std.proofs.Common.{◌≡◌, ℕ, zero, suc, ◌+◌, Bool, true, false, ◌&&◌, cond, leb, not, List, [], ◌∷◌, ◌++◌, length, Option, Some, None, refl, sym, ap, subst, ◌∙◌, arith, add-one}
-use Rattle.std.specs.Prelude.{slice_get, option_map, position, is_some}
+use Rattle.std.specs.Prelude.{slice_get, option_map, position, is_some, if◌then◌else◌}
+use Rattle.std.specs.declared.cmp.Ordering.{Ordering}
+use Rattle.std.specs.Ordering.{is_gt}
 use Rattle.std.specs.List.{list_all, AllByRecursion}
 use Rattle.std.specs.Str.{bytes_eq}
 use Rattle.std.proofs.lemmas.Bool.{leb-true}
@@ -8,6 +10,7 @@ use Rattle.std.proofs.lemmas.Slice.Eq.{bytes_eq-Decides}
 use Rattle.mp_io.specs.Devices.{Text}
 use Rattle.mp_term.specs.declared.signature.OpDecl.{OpDecl}
 use Rattle.mp_term.specs.Tree as term
+use Rattle.mp_term.specs.Sorting.{insert_sorted, sorted}
 use Rattle.mp_term.specs.Signature.{Sig, allows, has_name, is_that_sign, has_sign, shares_sign, clashes, none_clash}
 use Rattle.mp_term.proofs.NormalTestLaws.{not_false}
 use Rattle.mp_term.proofs.SignatureLaws.{position-behind, position-first}
@@ -29,6 +32,23 @@ pub all-at : {X : Type 0} (P : X → Type 0) (xs : List X) (i : ℕ) (x : X) →
 all-at P [] i x all here = cc
 all-at P (y ∷ xs) zero x all here = let same : y ≡ x = cc in subst P same all.0
 all-at P (y ∷ xs) (suc i) x all here = all-at P xs i x all.1 here
+
+-- what holds of each item of two lists holds of each of both
+pub all-append : {X : Type 0} (P : X → Type 0) (xs ys : List X) → AllByRecursion P xs → AllByRecursion P ys → AllByRecursion P (xs ++ ys)
+all-append P [] ys h k = k
+all-append P (x ∷ xs) ys h k = (h.0, all-append P xs ys h.1 k)
+
+module _ {X : Type 0} (P : X → Type 0) (cmp : X → X → Ordering) where
+  -- of each item of a list with one more
+  pub all-insert_sorted : (x : X) (ys : List X) → P x → AllByRecursion P ys → AllByRecursion P (insert_sorted cmp x ys)
+  all-insert_sorted x [] h k = (h, tt)
+  all-insert_sorted x (y ∷ ys) h k =
+      elim (is_gt (cmp x y)) as (λ v. AllByRecursion P (if v then y ∷ insert_sorted cmp x ys else (x ∷ y ∷ ys))) [ true ↦ (k.0, all-insert_sorted x ys h k.1) | false ↦ (h, k) ]
+
+  -- of each item of the list in order
+  pub all-sorted : (xs : List X) → AllByRecursion P xs → AllByRecursion P (sorted cmp xs)
+  all-sorted [] h = tt
+  all-sorted (x ∷ xs) h = all-insert_sorted x (sorted cmp xs) h.0 (all-sorted xs h.1)
 
 -- ---- operations that don't clash
 
