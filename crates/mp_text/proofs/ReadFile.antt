@@ -187,7 +187,7 @@ module _ (ds : List OpDecl) where
 module _ (sig : Sig) (R : Rule → Type 0) (S : Subject → Type 0)
     (rule-of : (name : Spot) (p : Tree) → IsName name.text → HasNames p → Fits 100 p → pattern_faults sig p ≡ [] → R (rule_of sig name p))
     (subject-of : (name : Spot) (t : Tree) → IsName name.text → HasNames t → term_faults sig t ≡ [] → S (subject_of sig name t))
-where
+    where
   -- rules and subjects of which the facts hold
   record Hold (rules : List Rule) (subjects : List Subject) : Type 0 where
     pub rules_hold : AllByRecursion R rules

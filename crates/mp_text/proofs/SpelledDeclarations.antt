@@ -21,7 +21,8 @@ use Rattle.mp_term.specs.Signature.{Sig, Kind, in_order, has_name, has_sign, is_
 use Rattle.mp_term.proofs.NormalTestLaws.{not_false}
 use Rattle.mp_term.proofs.Sorting.{length-sorted}
 use Rattle.mp_syntax.specs.Tokens.{first_place, AreWordBytes, is_word_byte}
-use Rattle.mp_syntax.specs.Syntax.{Spot, Flag, Assoc, Comm, One, Infixed, Statement, FitsStatement, IsName, HaveSigns, AreNames, StatementHasNames}
+use Rattle.mp_syntax.specs.Syntax.{Spot, Flag, Assoc, Comm, One, Infixed, Statement, FitsStatement, IsName, HasSign, HaveSigns, AreNames, StatementHasNames}
+use Rattle.mp_text.specs.declared.fault.TextKind.TheVariants.{DuplicateName, TooMany, BadFlags}
 use Rattle.mp_text.specs.declared.fault.TextFault.{TextFault}
 use Rattle.mp_text.specs.Build.{op_decl, op_decls, kind_decl, sig_with}
 use Rattle.mp_text.specs.Checks.{fault_if, symbol_faults, name_faults, has_bad_flags, held_sign_faults, op_faults, kind_faults}
@@ -89,11 +90,11 @@ count-written n small =
 -- ---- flags
 
 -- flags that say just this
-record Say (assoc comm one : Bool) (sign : Option Text) (flags : List Flag) : Type 0 where
-  assoc : is_said says_assoc flags ≡ assoc
-  comm : is_said says_comm flags ≡ comm
-  one : is_said says_one flags ≡ one
-  sign : sign_spot flags ≡ option_map piece sign
+record Say (a c o : Bool) (s : Option Text) (flags : List Flag) : Type 0 where
+  assoc : is_said says_assoc flags ≡ a
+  comm : is_said says_comm flags ≡ c
+  one : is_said says_one flags ≡ o
+  sign : sign_spot flags ≡ option_map piece s
   once : some_flag_twice flags ≡ false
 
 say-flags : (a c o : Bool) (s : Option Text) → Say a c o s (flag_if a Assoc ++ (flag_if c Comm ++ (flag_if o One ++ sign_flags s)))
@@ -139,18 +140,22 @@ op_decl-op_spelling d small =
     let signs = ap (option_map (λ s. s.text)) flags.sign ∙ text-piece d.sign in
     λ i. record { name = d.name; least = count i; fixed = not-not d.fixed i; assoc = flags.assoc i; comm = flags.comm i; one = flags.one i; sign = signs i }
 
-HaveSigns-op_flags : (a c o : Bool) (s : Option Text) → IsSomeSign s → HaveSigns (flag_if a Assoc ++ (flag_if c Comm ++ (flag_if o One ++ sign_flags s)))
-HaveSigns-op_flags true c o s h = (tt, HaveSigns-op_flags false c o s h)
-HaveSigns-op_flags false true o s h = (tt, HaveSigns-op_flags false false o s h)
-HaveSigns-op_flags false false true s h = (tt, HaveSigns-op_flags false false false s h)
-HaveSigns-op_flags false false false None h = tt
-HaveSigns-op_flags false false false (Some sign) h = (h, tt)
+HaveSigns-flag_if : (v : Bool) (flag : Flag) (flags : List Flag) → HasSign flag → HaveSigns flags → HaveSigns (flag_if v flag ++ flags)
+HaveSigns-flag_if true flag flags h k = (h, k)
+HaveSigns-flag_if false flag flags h k = k
+
+HaveSigns-sign_flags : (sign : Option Text) → IsSomeSign sign → HaveSigns (sign_flags sign)
+HaveSigns-sign_flags None h = tt
+HaveSigns-sign_flags (Some sign) h = (h, tt)
+
+HaveSigns-op_flags : (d : OpDecl) → IsSomeSign d.sign → HaveSigns (op_flags d)
+HaveSigns-op_flags d h = HaveSigns-flag_if d.assoc Assoc _ tt (HaveSigns-flag_if d.comm Comm _ tt (HaveSigns-flag_if d.one One _ tt (HaveSigns-sign_flags d.sign h)))
 
 -- its words are names and its sign is one
 pub StatementHasNames-op_spelling : (d : OpDecl) → IsDeclaredOp d → StatementHasNames (op_spelling d)
 StatementHasNames-op_spelling d h =
     let count = count-written d.least h.small in
-    (h.names.name, record { is_word = record { some = count.writes.some; bytes = count.writes.word }; is_short = count.short }, HaveSigns-op_flags d.assoc d.comm d.one d.sign h.names.sign)
+    (h.names.name, record { is_word = record { some = count.writes.some; bytes = count.writes.word }; is_short = count.short }, HaveSigns-op_flags d h.names.sign)
 
 -- its number is of digits
 pub FitsStatement-op_spelling : (d : OpDecl) → IsDeclaredOp d → FitsStatement (op_spelling d)
@@ -164,11 +169,12 @@ none-also p q also (x ∷ xs) h =
     rw (also x o.0) (none-also p q also xs o.1)
 
 -- the faults at a name that is new among few
-none-name_faults : (most : ℕ) (earlier : List Text) (large : Bool) (name : Text) → is_among name earlier ≡ false → length earlier < most → large ≡ false → name_faults most earlier large (piece name) ≡ []
+pub none-name_faults : (most : ℕ) (earlier : List Text) (large : Bool) (name : Text) → is_among name earlier ≡ false → length earlier < most → large ≡ false → name_faults most earlier large (piece name) ≡ []
 none-name_faults most earlier large name new few small =
     let test : leb most (length earlier) ≡ false = search (rules, few) in
     let room : (leb most (length earlier) || large) ≡ false = rw (test, small) refl in
-    ap (λ l. l ++ fault_if (leb most (length earlier) || large) _ first_place) (none-fault_if (is_among name earlier) _ first_place new) ∙ none-fault_if (leb most (length earlier) || large) _ first_place room
+    nil-both (fault_if (is_among name earlier) DuplicateName first_place) (fault_if (leb most (length earlier) || large) TooMany first_place)
+    (none-fault_if (is_among name earlier) DuplicateName first_place new) (none-fault_if (leb most (length earlier) || large) TooMany first_place room)
 
 none-held_sign_faults : (ds : List OpDecl) (d : OpDecl) (sign : Option Text) → d.sign ≡ sign → list_any (clashes d) ds ≡ false → held_sign_faults ds (option_map piece sign) ≡ []
 none-held_sign_faults ds d None e h = refl
@@ -192,8 +198,8 @@ none-op_faults ds d h apart few =
     let bad : has_bad_flags name least (not d.fixed) (op_flags d) ≡ false = rw (flags.once, long, ordered) refl in
     let signs : held_sign_faults ds (sign_spot (op_flags d)) ≡ [] = ap (held_sign_faults ds) flags.sign ∙ none-held_sign_faults ds d d.sign refl apart in
     nil-both (name_faults 256 (map (λ c. c.name) ds) false name) _ (none-name_faults 256 (map (λ c. c.name) ds) false d.name others room refl)
-    (nil-both (fault_if (has_bad_flags name least (not d.fixed) (op_flags d)) _ first_place) _ (none-fault_if (has_bad_flags name least (not d.fixed) (op_flags d)) _ first_place bad)
-    (nil-both (fault_if (ltb 1000 (number_of (decimal d.least))) _ first_place) _ (none-fault_if (ltb 1000 (number_of (decimal d.least))) _ first_place large) signs))
+    (nil-both (fault_if (has_bad_flags name least (not d.fixed) (op_flags d)) BadFlags first_place) _ (none-fault_if (has_bad_flags name least (not d.fixed) (op_flags d)) BadFlags first_place bad)
+    (nil-both (fault_if (ltb 1000 (number_of (decimal d.least))) TooMany first_place) _ (none-fault_if (ltb 1000 (number_of (decimal d.least))) TooMany first_place large) signs))
 
 -- ---- kinds
 

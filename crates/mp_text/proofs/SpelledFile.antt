@@ -1,5 +1,6 @@
 -- The statements of a file that was read stand for that file and have no faults, so that its printed text is read as that file.
 use Rattle.std.proofs.Common.{◌≡◌, ◌≤◌, ◌<◌, ℕ, Bool, true, false, ◌&&◌, ◌||◌, not, ltb, List, [], ◌∷◌, ◌++◌, map, length, Option, Some, None, refl, sym, ap, subst, ◌∙◌, arith, length-append, append-nil, append_assoc, rules}
+use Rattle.std.specs.Prelude.{codes}
 use Rattle.std.specs.List.{list_all, list_any, AllByRecursion}
 use Rattle.std.specs.Str.{bytes_eq}
 use Rattle.std.proofs.lemmas.List.{map-id, map-append, length-map}
@@ -113,7 +114,7 @@ module _ {X : Type 0} (rule : List Statement → Statement → List TextFault) (
   module _ {Y : Type 0} (given : List Statement → List Y) (item : X → Y) (most : ℕ) (Differ : List Y → Type 0) (P : X → Type 0)
       (push : (earlier : List Statement) (x : X) → P x → given (earlier ++ spelling x ∷ []) ≡ given earlier ++ item x ∷ [])
       (each : (earlier : List Statement) (x : X) (ys : List Y) → P x → Differ (given earlier ++ item x ∷ ys) → length (given earlier) < most → rule earlier (spelling x) ≡ [])
-  where
+      where
     none-differing : (earlier : List Statement) (xs : List X) → AllByRecursion P xs → Differ (given earlier ++ map item xs) → length (given earlier ++ map item xs) ≤ most → faults_by rule earlier (map spelling xs) ≡ []
     none-differing earlier [] all differ few = refl
     none-differing earlier (x ∷ xs) all differ few =
@@ -137,7 +138,7 @@ module _
     (pattern-variables : (sig : Sig) → HasOps sig → (p : Pattern) → HasPattern sig p → length (variable_names (pattern_spelling sig p)) ≡ length (variables p))
     (unplaced-file : (ss : List Statement) → file_tree_of (map unplaced ss) ≡ file_tree_of ss)
     (unplaced-faults : (ss : List Statement) → faults (map unplaced ss) ≡ [] → faults ss ≡ [])
-where
+    where
   -- a rule as it is read: its name and its pattern alone
   record IsReadRule (sig : Sig) (r : Rule) : Type 0 where
     name : IsName r.name
@@ -285,7 +286,7 @@ where
     kinds_before-push : (earlier : List Statement) (k : Kind) → IsDeclaredKind f.sig.ops k → kinds_before (earlier ++ kind_spelling k ∷ []) ≡ kinds_before earlier ++ k.name ∷ []
     kinds_before-push earlier k own =
         ap (λ (ks : List Kind). kind_names (record { ops = f.sig.ops; kinds = ks })) (kind_decls-append earlier (kind_spelling k ∷ []))
-        ∙ ap (λ l. _ ∷ l) (map-append (λ (k : Kind). k.name) (kind_decls earlier) (kind_decls (kind_spelling k ∷ [])))
+        ∙ ap (λ l. codes "num" ∷ l) (map-append (λ (k : Kind). k.name) (kind_decls earlier) (kind_decls (kind_spelling k ∷ [])))
 
     none-kinds : faults_by (kind_statement_faults f.sig.ops) [] (file_spelling f) ≡ []
     none-kinds =
