@@ -11,6 +11,7 @@ use Rattle.mp_term.specs.Signature.{Sig, Kind, in_order, has_name, has_sign, sha
 use Rattle.mp_term.proofs.NameSets.{names_ascend-name_set}
 use Rattle.mp_term.proofs.SignatureLaws.{IsSignature-add_op, IsSignature-add_kind}
 use Rattle.mp_pattern.specs.Admission.{Rule}
+use Rattle.mp_pattern.proofs.SortedLaws.{all-append}
 use Rattle.mp_syntax.specs.Syntax.{Spot, Tree, Flag, Assoc, Comm, One, Infixed, Statement, OpOf, KindOf, RuleOf, SubjectOf, Fits, FitsStatement, AreStatements, IsName, HasNames, HaveSigns, AreNames, StatementHasNames, StatementsHaveNames}
 use Rattle.mp_text.specs.declared.fault.TextFault.{TextFault}
 use Rattle.mp_text.specs.Subject.{Subject}
@@ -23,7 +24,7 @@ use Rattle.mp_text.proofs.Declared.{is_among-has_name, is_among-list_any, op_dec
 use Rattle.mp_text.proofs.Faultless.{nil-append, nil-fault_if, or-second, within}
 use Rattle.mp_text.proofs.OpLaws.{declarable-op_faults}
 use Rattle.mp_text.proofs.SoundLaws.{named-by}
-use Rattle.mp_text.proofs.SpelledHead.{all-append, IsSomeSign, IsSymbolOf, IsSymbolOf-symbol_faults}
+use Rattle.mp_text.proofs.SpelledHead.{IsSomeSign, IsSymbolOf, IsSymbolOf-symbol_faults}
 use Rattle.mp_text.proofs.SpelledDeclarations.{IsDeclaredOp, IsDeclaredKind, all-name_set, some-name_set, length-name_set-le}
 
 -- ---- statement by statement

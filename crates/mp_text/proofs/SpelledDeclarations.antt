@@ -20,6 +20,7 @@ use Rattle.mp_term.specs.Sorting.{insert_sorted, sorted}
 use Rattle.mp_term.specs.Signature.{Sig, Kind, in_order, has_name, has_sign, is_that_sign, shares_sign, clashes, none_clash, kind_names}
 use Rattle.mp_term.proofs.NormalTestLaws.{not_false}
 use Rattle.mp_term.proofs.Sorting.{length-sorted}
+use Rattle.mp_pattern.proofs.SortedLaws.{all-sorted}
 use Rattle.mp_syntax.specs.Tokens.{first_place, AreWordBytes, is_word_byte}
 use Rattle.mp_syntax.specs.Syntax.{Spot, Flag, Assoc, Comm, One, Infixed, Statement, FitsStatement, IsName, HasSign, HaveSigns, AreNames, StatementHasNames}
 use Rattle.mp_text.specs.declared.fault.TextKind.TheVariants.{DuplicateName, TooMany, BadFlags}
@@ -32,7 +33,7 @@ use Rattle.mp_text.specs.Spelled.{piece, flag_if, sign_flags, op_flags, op_spell
 use Rattle.mp_text.proofs.Declared.{is_among-has_name}
 use Rattle.mp_text.proofs.Faultless.{nil-append, nil-both, or-second, none-fault_if}
 use Rattle.mp_text.proofs.Words.{first-of, second-of}
-use Rattle.mp_text.proofs.SpelledHead.{HasOpNames, IsSomeSign, IsSymbolOf, symbol_faults-IsSymbolOf, all-sorted}
+use Rattle.mp_text.proofs.SpelledHead.{HasOpNames, IsSomeSign, IsSymbolOf, symbol_faults-IsSymbolOf}
 
 -- ---- numbers
 

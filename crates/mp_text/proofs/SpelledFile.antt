@@ -15,6 +15,7 @@ use Rattle.mp_pattern.specs.Normal.{normal_pattern}
 use Rattle.mp_pattern.specs.Admission.{Rule}
 use Rattle.mp_pattern.specs.Size.{pattern_nodes}
 use Rattle.mp_pattern.specs.Variables.{variables}
+use Rattle.mp_pattern.proofs.SortedLaws.{all-append}
 use Rattle.mp_syntax.specs.Syntax.{Tree, Statement, RuleOf, SubjectOf, Fits, AreStatements, IsName, HasNames, StatementsHaveNames, IsSyntaxOf}
 use Rattle.mp_syntax.specs.Printed.{unplaced}
 use Rattle.mp_syntax.proofs.Whole.{syntax-names}
@@ -33,7 +34,7 @@ use Rattle.mp_text.proofs.Faultless.{nil-append, nil-both}
 use Rattle.mp_text.proofs.Words.{first-of, second-of}
 use Rattle.mp_text.proofs.Spelled.{file-again}
 use Rattle.mp_text.proofs.SoundLaws.{sound-file, rule_names-append, subject_names-append}
-use Rattle.mp_text.proofs.SpelledHead.{HasOpNames, HasOps, all-append}
+use Rattle.mp_text.proofs.SpelledHead.{HasOpNames, HasOps}
 use Rattle.mp_text.proofs.SpelledTerm.{HasSymbols, HasSymbols-term_of, HasSymbols-normal, term_of-term_spelling, term_faults-term_spelling, HasNames-term_spelling, Fits-term_spelling, nodes-term_spelling}
 use Rattle.mp_text.proofs.SpelledDeclarations.{IsDeclaredOp, IsDeclaredKind, op_decl-op_spelling, kind_decl-kind_spelling, none-name_faults, none-op_faults, none-kind_faults, StatementHasNames-op_spelling, FitsStatement-op_spelling, StatementHasNames-kind_spelling, FitsStatement-kind_spelling}
 use Rattle.mp_text.proofs.ReadFile.{IsRead, all-IsRead, AreDeclaredOps-op_decls, AreDeclaredKinds-kind_decls, all-rules_of}

@@ -1,8 +1,6 @@
 -- An operation that is held is found by its name and by its sign, so that an application of it is read as it is spelled.
 use Rattle.std.proofs.Common.{◌≡◌, ℕ, zero, suc, ◌+◌, Bool, true, false, ◌&&◌, cond, leb, not, List, [], ◌∷◌, ◌++◌, length, Option, Some, None, refl, sym, ap, subst, ◌∙◌, arith, add-one}
-use Rattle.std.specs.Prelude.{slice_get, option_map, position, is_some, if◌then◌else◌}
-use Rattle.std.specs.declared.cmp.Ordering.{Ordering}
-use Rattle.std.specs.Ordering.{is_gt}
+use Rattle.std.specs.Prelude.{slice_get, option_map, position, is_some}
 use Rattle.std.specs.List.{list_all, AllByRecursion}
 use Rattle.std.specs.Str.{bytes_eq}
 use Rattle.std.proofs.lemmas.Bool.{leb-true}
@@ -10,7 +8,6 @@ use Rattle.std.proofs.lemmas.Slice.Eq.{bytes_eq-Decides}
 use Rattle.mp_io.specs.Devices.{Text}
 use Rattle.mp_term.specs.declared.signature.OpDecl.{OpDecl}
 use Rattle.mp_term.specs.Tree as term
-use Rattle.mp_term.specs.Sorting.{insert_sorted, sorted}
 use Rattle.mp_term.specs.Signature.{Sig, allows, has_name, is_that_sign, has_sign, shares_sign, clashes, none_clash}
 use Rattle.mp_term.proofs.NormalTestLaws.{not_false}
 use Rattle.mp_term.proofs.SignatureLaws.{position-behind, position-first}
@@ -18,8 +15,7 @@ use Rattle.mp_pattern.specs.PatternTree as pattern
 use Rattle.mp_syntax.specs.Tokens.{first_place}
 use Rattle.mp_syntax.specs.Syntax.{Spot, Tree, Apply, InfixOf, Trees, no_trees, more_trees, tree_list, AreSeveral, Fits, AreFit, IsName, IsInfixSign, HasNames, HaveNames}
 use Rattle.mp_text.specs.Build.{op_number, sign_number, head_number, term_of, terms_of, pattern_of, patterns_of}
-use Rattle.mp_text.specs.Checks.{nodes, all_nodes, op_at, op_named, op_signed, head_faults, arity_faults, sign_faults, allows_patterns, symbol_faults, term_faults, term_operand_faults, all_term_faults, pattern_faults, pattern_operand_faults, all_pattern_faults}
-use Rattle.mp_text.specs.Names.{wildcard_names, all_wildcard_names}
+use Rattle.mp_text.specs.Checks.{op_at, op_named, op_signed, head_faults, arity_faults, sign_faults, allows_patterns, symbol_faults, term_faults, term_operand_faults, all_term_faults, pattern_faults, pattern_operand_faults, all_pattern_faults}
 use Rattle.mp_text.specs.Spelled.{piece, application_spelling, held_spelling}
 use Rattle.mp_text.proofs.Words.{first-of, second-of}
 use Rattle.mp_text.proofs.Faultless.{or-second, nil-fault_if, none-fault_if}
@@ -32,23 +28,6 @@ pub all-at : {X : Type 0} (P : X → Type 0) (xs : List X) (i : ℕ) (x : X) →
 all-at P [] i x all here = cc
 all-at P (y ∷ xs) zero x all here = let same : y ≡ x = cc in subst P same all.0
 all-at P (y ∷ xs) (suc i) x all here = all-at P xs i x all.1 here
-
--- what holds of each item of two lists holds of each of both
-pub all-append : {X : Type 0} (P : X → Type 0) (xs ys : List X) → AllByRecursion P xs → AllByRecursion P ys → AllByRecursion P (xs ++ ys)
-all-append P [] ys h k = k
-all-append P (x ∷ xs) ys h k = (h.0, all-append P xs ys h.1 k)
-
-module _ {X : Type 0} (P : X → Type 0) (cmp : X → X → Ordering) where
-  -- of each item of a list with one more
-  pub all-insert_sorted : (x : X) (ys : List X) → P x → AllByRecursion P ys → AllByRecursion P (insert_sorted cmp x ys)
-  all-insert_sorted x [] h k = (h, tt)
-  all-insert_sorted x (y ∷ ys) h k =
-      elim (is_gt (cmp x y)) as (λ v. AllByRecursion P (if v then y ∷ insert_sorted cmp x ys else (x ∷ y ∷ ys))) [ true ↦ (k.0, all-insert_sorted x ys h k.1) | false ↦ (h, k) ]
-
-  -- of each item of the list in order
-  pub all-sorted : (xs : List X) → AllByRecursion P xs → AllByRecursion P (sorted cmp xs)
-  all-sorted [] h = tt
-  all-sorted (x ∷ xs) h = all-insert_sorted x (sorted cmp xs) h.0 (all-sorted xs h.1)
 
 -- ---- operations that don't clash
 
@@ -176,14 +155,6 @@ module _ (sig : Sig) (h : HasOps sig) (f : ℕ) (d : OpDecl) (here : slice_get s
   -- its brackets
   pub Fits-held : (room : ℕ) (ts : Trees) → AreFit room ts → Fits (suc room) (held_spelling (slice_get sig.ops f) ts)
   Fits-held room ts fit = held_spelling-cases (Fits (suc room)) (slice_get sig.ops f) d ts here fit (λ sign e some. (some, fit))
-
-  -- its nodes
-  pub nodes-held : (ts : Trees) → nodes (held_spelling (slice_get sig.ops f) ts) ≡ all_nodes ts + 1
-  nodes-held ts = held_spelling-cases (λ t. nodes t ≡ all_nodes ts + 1) (slice_get sig.ops f) d ts here refl (λ sign e some. refl)
-
-  -- the names of its wildcards
-  pub wildcard_names-held : (ts : Trees) → wildcard_names (held_spelling (slice_get sig.ops f) ts) ≡ all_wildcard_names ts
-  wildcard_names-held ts = held_spelling-cases (λ t. wildcard_names t ≡ all_wildcard_names ts) (slice_get sig.ops f) d ts here refl (λ sign e some. refl)
 
   -- an operation that passes the test on its arguments has no faults at its name
   head_faults-held : (passes : OpDecl → Bool) → passes d ≡ true → head_faults passes (piece d.name) (op_named sig d.name) ≡ []

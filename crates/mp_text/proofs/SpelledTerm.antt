@@ -1,5 +1,5 @@
 -- A term is read again as it is spelled: its symbols are names and no operations' names, and stay so in its normal form.
-use Rattle.std.proofs.Common.{◌≡◌, ℕ, zero, suc, ◌+◌, ◌≤◌, Bool, true, false, List, [], ◌∷◌, ◌++◌, length, Option, Some, None, refl, ap, ◌∙◌, arith}
+use Rattle.std.proofs.Common.{◌≡◌, ℕ, zero, suc, ◌+◌, ◌≤◌, Bool, true, false, List, [], ◌∷◌, ◌++◌, length, Option, Some, None, refl, sym, ap, ◌∙◌, arith}
 use Rattle.std.specs.Prelude.{slice_get, nat_eq, if◌then◌else◌}
 use Rattle.std.specs.List.{AllByRecursion}
 use Rattle.mp_term.specs.declared.signature.OpDecl.{OpDecl}
@@ -7,17 +7,18 @@ use Rattle.mp_term.specs.Tree as term
 use Rattle.mp_term.specs.Tree.{symbol, app, trees}
 use Rattle.mp_term.specs.Order.{tree_cmp}
 use Rattle.mp_term.specs.Sorting.{sorted}
-use Rattle.mp_term.specs.Size.{node_count, node_counts, depth, greatest_depth}
+use Rattle.mp_term.specs.Size.{node_count, depth, greatest_depth}
 use Rattle.mp_term.specs.Signature.{Sig, holds_of, allows, is_assoc, is_comm, is_one, well_formed, all_well_formed}
 use Rattle.mp_term.specs.Normal.{unwrapped, parts, flattened, in_order, collapsed, normal, normals}
 use Rattle.mp_term.proofs.NormalTestLaws.{both}
+use Rattle.mp_pattern.proofs.SortedLaws.{all-flat_map, all-sorted}
 use Rattle.mp_syntax.specs.Syntax.{Tree, Symbol, Apply, InfixOf, Wild, Trees, no_trees, more_trees, tree_list, Fits, AreFit, HasNames, HaveNames}
 use Rattle.mp_text.specs.Build.{term_of, terms_of}
-use Rattle.mp_text.specs.Checks.{nodes, all_nodes, op_named, op_signed, head_faults, arity_faults, sign_faults, term_faults, term_operand_faults, all_term_faults}
+use Rattle.mp_text.specs.Checks.{nodes, op_named, op_signed, head_faults, arity_faults, sign_faults, term_faults, term_operand_faults, all_term_faults}
 use Rattle.mp_text.specs.Spelled.{term_spelling, term_spellings}
 use Rattle.mp_text.proofs.Faultless.{nil-append}
-use Rattle.mp_text.proofs.SoundLaws.{nil-term_operands}
-use Rattle.mp_text.proofs.SpelledHead.{all-append, all-sorted, HasOps, IsSymbolOf, IsSymbolOf-symbol_faults, symbol_faults-IsSymbolOf, term_of-held, HasNames-held, Fits-held, nodes-held, term_faults-held}
+use Rattle.mp_text.proofs.SoundLaws.{Found, nil-term_operands, node_count-term_of}
+use Rattle.mp_text.proofs.SpelledHead.{HasOps, IsSymbolOf, IsSymbolOf-symbol_faults, symbol_faults-IsSymbolOf, term_of-held, HasNames-held, Fits-held, term_faults-held}
 
 -- ---- the symbols of a term
 
@@ -68,10 +69,6 @@ module _ (sig : Sig) where
   symbols-parts : (f : ℕ) (t : term.Tree) → HasSymbols t → AllByRecursion HasSymbols (parts sig f t)
   symbols-parts f t h = elim (is_assoc sig f) as (λ v. AllByRecursion HasSymbols (if v then unwrapped f t else (t ∷ []))) [ true ↦ symbols-unwrapped f t h | false ↦ (h, tt) ]
 
-  symbols-flattened : (f : ℕ) (ts : List term.Tree) → AllByRecursion HasSymbols ts → AllByRecursion HasSymbols (flattened sig f ts)
-  symbols-flattened f [] h = tt
-  symbols-flattened f (t ∷ ts) h = all-append HasSymbols (parts sig f t) (flattened sig f ts) (symbols-parts f t h.0) (symbols-flattened f ts h.1)
-
   symbols-in_order : (f : ℕ) (ts : List term.Tree) → AllByRecursion HasSymbols ts → AllByRecursion HasSymbols (in_order sig f ts)
   symbols-in_order f ts h = elim (is_comm sig f) as (λ v. AllByRecursion HasSymbols (if v then sorted tree_cmp ts else ts)) [ true ↦ all-sorted HasSymbols tree_cmp ts h | false ↦ h ]
 
@@ -86,23 +83,13 @@ module _ (sig : Sig) where
     HasSymbols-normal (symbol n) h = h
     HasSymbols-normal (app f ts) h =
         let flat = flattened sig f (normals sig ts) in
-        symbols-collapsed f (in_order sig f flat) (symbols-in_order f flat (symbols-flattened f (normals sig ts) (HaveSymbols-normals ts h)))
+        symbols-collapsed f (in_order sig f flat) (symbols-in_order f flat (all-flat_map HasSymbols HasSymbols (parts sig f) (symbols-parts f) (normals sig ts) (HaveSymbols-normals ts h)))
 
     HaveSymbols-normals : (ts : term.Trees) → HaveSymbols ts → AllByRecursion HasSymbols (normals sig ts)
     HaveSymbols-normals term.no_trees h = tt
     HaveSymbols-normals (term.more_trees t ts) h = (HasSymbols-normal t h.0, HaveSymbols-normals ts h.1)
 
 -- ---- the spelling of a term
-
--- an operation that is held, and passes the test
-record Holds (test : OpDecl → Bool) (o : Option OpDecl) : Type 0 where
-  decl : OpDecl
-  here : o ≡ Some decl
-  passes : test decl ≡ true
-
-holds : (test : OpDecl → Bool) (o : Option OpDecl) → holds_of test o ≡ true → Holds test o
-holds test None h = cc
-holds test (Some d) h = record { decl = d; here = refl; passes = h }
 
 module _ (sig : Sig) where
   length-term_spellings : (ts : term.Trees) → length (tree_list (term_spellings sig ts)) ≡ length (term.tree_list ts)
@@ -111,8 +98,12 @@ module _ (sig : Sig) where
 
   module _ (h : HasOps sig) where
     -- the operation of a well formed application
-    op-of : (f : ℕ) (ts : term.Trees) → well_formed sig (app f ts) ≡ true → Holds (allows (length (term.tree_list ts))) (slice_get sig.ops f)
-    op-of f ts w = holds (allows (length (term.tree_list ts))) (slice_get sig.ops f) (both _ _ w).0
+    op-of : (f : ℕ) (ts : term.Trees) → well_formed sig (app f ts) ≡ true → Found sig (Some f) (allows (length (term.tree_list ts)))
+    op-of f ts w = by_decl (slice_get sig.ops f) refl (both _ _ w).0
+      where
+        by_decl : (o : Option OpDecl) → slice_get sig.ops f ≡ o → holds_of (allows (length (term.tree_list ts))) o ≡ true → Found sig (Some f) (allows (length (term.tree_list ts)))
+        by_decl None e p = cc
+        by_decl (Some d) e p = record { decl = d; held = e; passed = p }
 
     mutual
       -- it is read as that term
@@ -120,7 +111,7 @@ module _ (sig : Sig) where
       term_of-term_spelling (symbol n) w = refl
       term_of-term_spelling (app f ts) w =
           let d = op-of f ts w in
-          term_of-held sig h f d.decl d.here (term_spellings sig ts) ∙ ap (app f) (terms_of-term_spellings ts (both _ _ w).1)
+          term_of-held sig h f d.decl d.held (term_spellings sig ts) ∙ ap (app f) (terms_of-term_spellings ts (both _ _ w).1)
 
       terms_of-term_spellings : (ts : term.Trees) → all_well_formed sig ts ≡ true → terms_of sig (term_spellings sig ts) ≡ ts
       terms_of-term_spellings term.no_trees w = refl
@@ -134,7 +125,7 @@ module _ (sig : Sig) where
       term_faults-term_spelling (symbol n) w s = symbol_faults-IsSymbolOf sig n s
       term_faults-term_spelling (app f ts) w s =
           let d = op-of f ts w in
-          term_faults-held sig h f d.decl d.here (term_spellings sig ts) (ap (λ n. allows n d.decl) (length-term_spellings ts) ∙ d.passes) (all_term_faults-term_spellings ts (both _ _ w).1 s)
+          term_faults-held sig h f d.decl d.held (term_spellings sig ts) (ap (λ n. allows n d.decl) (length-term_spellings ts) ∙ d.passed) (all_term_faults-term_spellings ts (both _ _ w).1 s)
 
       all_term_faults-term_spellings : (ts : term.Trees) → all_well_formed sig ts ≡ true → HaveSymbols sig ts → all_term_faults sig (term_spellings sig ts) ≡ []
       all_term_faults-term_spellings term.no_trees w s = refl
@@ -148,7 +139,7 @@ module _ (sig : Sig) where
       HasNames-term_spelling (symbol n) w s = s.name
       HasNames-term_spelling (app f ts) w s =
           let d = op-of f ts w in
-          HasNames-held sig h f d.decl d.here (term_spellings sig ts) (HaveNames-term_spellings ts (both _ _ w).1 s)
+          HasNames-held sig h f d.decl d.held (term_spellings sig ts) (HaveNames-term_spellings ts (both _ _ w).1 s)
 
       HaveNames-term_spellings : (ts : term.Trees) → all_well_formed sig ts ≡ true → HaveSymbols sig ts → HaveNames (term_spellings sig ts)
       HaveNames-term_spellings term.no_trees w s = tt
@@ -164,7 +155,7 @@ module _ (sig : Sig) where
       Fits-term_spelling (app f ts) zero w few = absurd (omega arith)
       Fits-term_spelling (app f ts) (suc room) w few =
           let d = op-of f ts w in
-          Fits-held sig h f d.decl d.here room (term_spellings sig ts) (AreFit-term_spellings ts room (both _ _ w).1 (omega arith))
+          Fits-held sig h f d.decl d.held room (term_spellings sig ts) (AreFit-term_spellings ts room (both _ _ w).1 (omega arith))
 
       AreFit-term_spellings : (ts : term.Trees) (room : ℕ) → all_well_formed sig ts ≡ true → greatest_depth ts ≤ room → AreFit room (term_spellings sig ts)
       AreFit-term_spellings term.no_trees room w few = tt
@@ -172,16 +163,6 @@ module _ (sig : Sig) where
           let p = both _ _ w in
           (Fits-term_spelling t room p.0 (omega arith), AreFit-term_spellings ts room p.1 (omega arith))
 
-    mutual
-      -- it has as many nodes
-      pub nodes-term_spelling : (t : term.Tree) → well_formed sig t ≡ true → nodes (term_spelling sig t) ≡ node_count t
-      nodes-term_spelling (symbol n) w = refl
-      nodes-term_spelling (app f ts) w =
-          let d = op-of f ts w in
-          nodes-held sig h f d.decl d.here (term_spellings sig ts) ∙ ap (λ n. n + 1) (all_nodes-term_spellings ts (both _ _ w).1)
-
-      all_nodes-term_spellings : (ts : term.Trees) → all_well_formed sig ts ≡ true → all_nodes (term_spellings sig ts) ≡ node_counts ts
-      all_nodes-term_spellings term.no_trees w = refl
-      all_nodes-term_spellings (term.more_trees t ts) w =
-          let p = both _ _ w in
-          λ i. nodes-term_spelling t p.0 i + all_nodes-term_spellings ts p.1 i
+    -- it has as many nodes
+    pub nodes-term_spelling : (t : term.Tree) → well_formed sig t ≡ true → nodes (term_spelling sig t) ≡ node_count t
+    nodes-term_spelling t w = sym (node_count-term_of sig (term_spelling sig t)) ∙ ap node_count (term_of-term_spelling t w)
