@@ -13,6 +13,8 @@ mod Parts
 mod PatternSize
 mod Spelled
 mod SpelledHead
+mod Places
+mod SpelledPattern
 mod SpelledTerm
 mod SpelledDeclarations
 mod ReadFile

@@ -1,13 +1,11 @@
 -- What statements without faults give: declarations in order, and rules and subjects of which a fact holds.
-use Rattle.std.proofs.Common.{◌≡◌, ◌≢◌, ◌≤◌, ◌<◌, ℕ, Bool, true, false, ◌||◌, not, leb, ltb, List, [], ◌∷◌, ◌++◌, map, length, Option, Some, None, refl, sym, ap, subst, ◌∙◌, arith, append-nil, append_assoc, rules}
+use Rattle.std.proofs.Common.{◌≡◌, ◌≢◌, ◌≤◌, ◌<◌, Bool, false, leb, ltb, List, [], ◌∷◌, ◌++◌, map, length, Option, Some, None, refl, sym, subst, ◌∙◌, arith, append-nil, append_assoc, rules}
 use Rattle.std.specs.Prelude.{option_map, flat_map}
 use Rattle.std.specs.List.{list_any, AllByRecursion}
 use Rattle.std.specs.Str.{bytes_eq}
 use Rattle.std.proofs.lemmas.List.{length-map}
-use Rattle.mp_io.specs.Devices.{Text}
 use Rattle.mp_term.specs.declared.signature.OpDecl.{OpDecl}
-use Rattle.mp_term.specs.Names.{name_set}
-use Rattle.mp_term.specs.Signature.{Sig, Kind, in_order, has_name, has_sign, shares_sign, clashes, op_fault, kind_fault, kind_names, IsSignature}
+use Rattle.mp_term.specs.Signature.{Sig, Kind, has_name, has_sign, shares_sign, clashes, op_fault, kind_fault, kind_names, IsSignature}
 use Rattle.mp_term.proofs.NameSets.{names_ascend-name_set}
 use Rattle.mp_term.proofs.SignatureLaws.{IsSignature-add_op, IsSignature-add_kind}
 use Rattle.mp_pattern.specs.Admission.{Rule}
@@ -18,7 +16,7 @@ use Rattle.mp_text.specs.Subject.{Subject}
 use Rattle.mp_text.specs.Build.{op_decl, op_decls, kind_decl, kind_decls, sig_with, rule_of, rules_of, subject_of, subjects_of}
 use Rattle.mp_text.specs.Checks.{fault_if, is_large_pattern, is_large_term, symbol_faults, term_faults, pattern_faults, name_faults, has_bad_flags, held_sign_faults, op_faults, kind_faults, op_statement_faults, kind_statement_faults, statement_faults, faults_by}
 use Rattle.mp_text.specs.Flags.{sign_spot, is_long_sign}
-use Rattle.mp_text.specs.Names.{is_among, rule_names, subject_names, number_of}
+use Rattle.mp_text.specs.Names.{rule_names, subject_names, number_of}
 use Rattle.mp_text.specs.Spelled.{piece}
 use Rattle.mp_text.proofs.Declared.{is_among-has_name, is_among-list_any, op_decls-append, op_decls-other, kind_decls-append, kind_decls-other, rules_of-append, subjects_of-append}
 use Rattle.mp_text.proofs.Faultless.{nil-append, nil-fault_if, or-second, within}
@@ -188,32 +186,32 @@ module _ (ds : List OpDecl) where
 module _ (sig : Sig) (R : Rule → Type 0) (S : Subject → Type 0)
     (rule-of : (name : Spot) (p : Tree) → IsName name.text → HasNames p → Fits 100 p → pattern_faults sig p ≡ [] → R (rule_of sig name p))
     (subject-of : (name : Spot) (t : Tree) → IsName name.text → HasNames t → term_faults sig t ≡ [] → S (subject_of sig name t))
-    where
-  -- rules and subjects of which the facts hold
-  record Hold (rules : List Rule) (subjects : List Subject) : Type 0 where
-    pub rules_hold : AllByRecursion R rules
-    pub subjects_hold : AllByRecursion S subjects
+  where
+    -- rules and subjects of which the facts hold
+    record Hold (rules : List Rule) (subjects : List Subject) : Type 0 where
+      pub rules_hold : AllByRecursion R rules
+      pub subjects_hold : AllByRecursion S subjects
 
-  hold-statement : (earlier : List Statement) (s : Statement) → IsRead s → statement_faults sig earlier s ≡ [] → Hold (rules_of sig (s ∷ [])) (subjects_of sig (s ∷ []))
-  hold-statement earlier (OpOf name least more flags) read h = record { rules_hold = tt; subjects_hold = tt }
-  hold-statement earlier (KindOf name members) read h = record { rules_hold = tt; subjects_hold = tt }
-  hold-statement earlier (RuleOf name p) read h =
-      let q = nil-append (name_faults 1000 (rule_names earlier) (is_large_pattern p) name) (pattern_faults sig p) h in
-      record { rules_hold = (rule-of name p read.names.0 read.names.1 read.fits q.1, tt); subjects_hold = tt }
-  hold-statement earlier (SubjectOf name t) read h =
-      let q = nil-append (name_faults 1000 (subject_names earlier) (is_large_term t) name) (term_faults sig t) h in
-      record { rules_hold = tt; subjects_hold = (subject-of name t read.names.0 read.names.1 q.1, tt) }
+    hold-statement : (earlier : List Statement) (s : Statement) → IsRead s → statement_faults sig earlier s ≡ [] → Hold (rules_of sig (s ∷ [])) (subjects_of sig (s ∷ []))
+    hold-statement earlier (OpOf name least more flags) read h = record { rules_hold = tt; subjects_hold = tt }
+    hold-statement earlier (KindOf name members) read h = record { rules_hold = tt; subjects_hold = tt }
+    hold-statement earlier (RuleOf name p) read h =
+        let q = nil-append (name_faults 1000 (rule_names earlier) (is_large_pattern p) name) (pattern_faults sig p) h in
+        record { rules_hold = (rule-of name p read.names.0 read.names.1 read.fits q.1, tt); subjects_hold = tt }
+    hold-statement earlier (SubjectOf name t) read h =
+        let q = nil-append (name_faults 1000 (subject_names earlier) (is_large_term t) name) (term_faults sig t) h in
+        record { rules_hold = tt; subjects_hold = (subject-of name t read.names.0 read.names.1 q.1, tt) }
 
-  hold-behind : (earlier : List Statement) (s : Statement) → IsRead s → statement_faults sig earlier s ≡ [] → Hold (rules_of sig earlier) (subjects_of sig earlier) → Hold (rules_of sig (earlier ++ s ∷ [])) (subjects_of sig (earlier ++ s ∷ []))
-  hold-behind earlier s read h i =
-      let own = hold-statement earlier s read h in
-      record {
-        rules_hold = subst (AllByRecursion R) (sym (rules_of-append sig earlier (s ∷ []))) (all-append R (rules_of sig earlier) (rules_of sig (s ∷ [])) i.rules_hold own.rules_hold);
-        subjects_hold = subst (AllByRecursion S) (sym (subjects_of-append sig earlier (s ∷ []))) (all-append S (subjects_of sig earlier) (subjects_of sig (s ∷ [])) i.subjects_hold own.subjects_hold);
-      }
+    hold-behind : (earlier : List Statement) (s : Statement) → IsRead s → statement_faults sig earlier s ≡ [] → Hold (rules_of sig earlier) (subjects_of sig earlier) → Hold (rules_of sig (earlier ++ s ∷ [])) (subjects_of sig (earlier ++ s ∷ []))
+    hold-behind earlier s read h i =
+        let own = hold-statement earlier s read h in
+        record {
+          rules_hold = subst (AllByRecursion R) (sym (rules_of-append sig earlier (s ∷ []))) (all-append R (rules_of sig earlier) (rules_of sig (s ∷ [])) i.rules_hold own.rules_hold);
+          subjects_hold = subst (AllByRecursion S) (sym (subjects_of-append sig earlier (s ∷ []))) (all-append S (subjects_of sig earlier) (subjects_of sig (s ∷ [])) i.subjects_hold own.subjects_hold);
+        }
 
-  -- the facts hold of the rules and subjects of statements without faults
-  pub all-rules_of : (ss : List Statement) → AllByRecursion IsRead ss → faults_by (statement_faults sig) [] ss ≡ [] → AllByRecursion R (rules_of sig ss) × AllByRecursion S (subjects_of sig ss)
-  all-rules_of ss read h =
-      let all = holds-behind (statement_faults sig) (λ ss. Hold (rules_of sig ss) (subjects_of sig ss)) hold-behind [] ss read h (record { rules_hold = tt; subjects_hold = tt }) in
-      (all.rules_hold, all.subjects_hold)
+    -- the facts hold of the rules and subjects of statements without faults
+    pub all-rules_of : (ss : List Statement) → AllByRecursion IsRead ss → faults_by (statement_faults sig) [] ss ≡ [] → AllByRecursion R (rules_of sig ss) × AllByRecursion S (subjects_of sig ss)
+    all-rules_of ss read h =
+        let all = holds-behind (statement_faults sig) (λ ss. Hold (rules_of sig ss) (subjects_of sig ss)) hold-behind [] ss read h (record { rules_hold = tt; subjects_hold = tt }) in
+        (all.rules_hold, all.subjects_hold)

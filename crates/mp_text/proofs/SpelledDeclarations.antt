@@ -1,31 +1,27 @@
 -- The declarations of operations and kinds are read again as they are spelled, and have no faults.
-use Rattle.std.proofs.Common.{◌≡◌, ◌≢◌, ◌≤◌, ◌<◌, ◌+◌, ◌-◌, ◌*◌, ◌/◌, ◌%◌, ◌^◌, ℕ, zero, suc, Bool, true, false, ◌&&◌, ◌||◌, cond, not, leb, ltb, List, [], ◌∷◌, ◌++◌, map, length, Option, Some, None, refl, sym, ap, subst, ◌∙◌, arith, length-append, append-nil, append_assoc, rules}
-use Rattle.std.specs.Prelude.{option_map, decimal, flat_map, is_some}
+use Rattle.std.proofs.Common.{◌≡◌, ◌≢◌, ◌≤◌, ◌<◌, ◌+◌, ◌-◌, ◌*◌, ◌/◌, ◌%◌, ◌^◌, ℕ, Bool, true, false, ◌||◌, cond, not, leb, ltb, List, [], ◌∷◌, ◌++◌, map, length, Option, Some, None, refl, sym, ap, ◌∙◌, arith, rules}
+use Rattle.std.specs.Prelude.{option_map, decimal, flat_map}
 use Rattle.std.specs.List.{list_all, list_any, AllByRecursion, dedup, dedup_from}
 use Rattle.std.specs.Char.{is_ascii_digit}
-use Rattle.std.specs.Str.{bytes_eq}
 use Rattle.std.specs.Cmp.Lexicographic.{slice_cmp}
 use Rattle.std.specs.declared.cmp.Ordering.{Ordering}
 use Rattle.std.specs.declared.cmp.Ordering.TheVariants.{Less, Equal, Greater}
 use Rattle.std.specs.Ordering.{nat_cmp, eq_by_cmp, is_lt, is_gt, is_eq, ordering_reverse}
 use Rattle.std.proofs.lemmas.Cmp.{nat_list_cmp_total}
 use Rattle.std.proofs.lemmas.Fmt.{decimal_by_steps, length-decimal-le}
-use Rattle.std.proofs.lemmas.List.{length-map, map-append}
+use Rattle.std.proofs.lemmas.List.{length-map}
 use Rattle.std.proofs.lemmas.List.Folds.{list_all-append}
-use Rattle.std.proofs.lemmas.Bool.Decides.{nat_tests}
 use Rattle.mp_io.specs.Devices.{Text}
 use Rattle.mp_term.specs.declared.signature.OpDecl.{OpDecl}
-use Rattle.mp_term.specs.Names.{name_set, names_ascend, are_distinct}
+use Rattle.mp_term.specs.Names.{name_set, names_ascend}
 use Rattle.mp_term.specs.Sorting.{insert_sorted, sorted}
-use Rattle.mp_term.specs.Signature.{Sig, Kind, in_order, has_name, has_sign, is_that_sign, shares_sign, clashes, none_clash, kind_names}
-use Rattle.mp_term.proofs.NormalTestLaws.{not_false}
+use Rattle.mp_term.specs.Signature.{Kind, in_order, has_name, has_sign, shares_sign, clashes, kind_names}
 use Rattle.mp_term.proofs.Sorting.{length-sorted}
 use Rattle.mp_pattern.proofs.SortedLaws.{all-sorted}
 use Rattle.mp_syntax.specs.Tokens.{first_place, AreWordBytes, is_word_byte}
-use Rattle.mp_syntax.specs.Syntax.{Spot, Flag, Assoc, Comm, One, Infixed, Statement, FitsStatement, IsName, HasSign, HaveSigns, AreNames, StatementHasNames}
+use Rattle.mp_syntax.specs.Syntax.{Flag, Assoc, Comm, One, Statement, FitsStatement, IsName, HasSign, HaveSigns, AreNames, StatementHasNames}
 use Rattle.mp_text.specs.declared.fault.TextKind.TheVariants.{DuplicateName, TooMany, BadFlags}
-use Rattle.mp_text.specs.declared.fault.TextFault.{TextFault}
-use Rattle.mp_text.specs.Build.{op_decl, op_decls, kind_decl, sig_with}
+use Rattle.mp_text.specs.Build.{op_decl, kind_decl, sig_with}
 use Rattle.mp_text.specs.Checks.{fault_if, symbol_faults, name_faults, has_bad_flags, held_sign_faults, op_faults, kind_faults}
 use Rattle.mp_text.specs.Flags.{says_assoc, says_comm, says_one, is_said, some_flag_twice, sign_spot, is_long_sign}
 use Rattle.mp_text.specs.Names.{is_among, number_after, number_of}

@@ -1,5 +1,5 @@
 -- An operation that is held is found by its name and by its sign, so that an application of it is read as it is spelled.
-use Rattle.std.proofs.Common.{◌≡◌, ℕ, zero, suc, ◌+◌, Bool, true, false, ◌&&◌, cond, leb, not, List, [], ◌∷◌, ◌++◌, length, Option, Some, None, refl, sym, ap, subst, ◌∙◌, arith, add-one}
+use Rattle.std.proofs.Common.{◌≡◌, ℕ, zero, suc, ◌+◌, Bool, true, false, cond, leb, not, List, [], ◌∷◌, ◌++◌, length, Option, Some, None, refl, sym, ap, subst, ◌∙◌, arith, add-one}
 use Rattle.std.specs.Prelude.{slice_get, option_map, position, is_some}
 use Rattle.std.specs.List.{list_all, AllByRecursion}
 use Rattle.std.specs.Str.{bytes_eq}
@@ -171,9 +171,9 @@ module _ (sig : Sig) (h : HasOps sig) (f : ℕ) (d : OpDecl) (here : slice_get s
       held_spelling-cases (λ t. term_faults sig t ≡ []) (slice_get sig.ops f) d ts here
       (ap (λ l. l ++ all_term_faults sig ts) (head_faults-held passes allowed) ∙ none)
       (λ sign e some.
-          ap (λ l. l ++ term_operand_faults sig (sign_faults (piece sign) (op_signed sig sign)) ts) (arity_faults-held passes sign e allowed)
-          ∙ term_operand_faults-known sig (piece sign) (op_signed sig sign) ts (ap is_some (sym (op_signed-held sign e)))
-          ∙ none)
+      ap (λ l. l ++ term_operand_faults sig (sign_faults (piece sign) (op_signed sig sign)) ts) (arity_faults-held passes sign e allowed)
+      ∙ term_operand_faults-known sig (piece sign) (op_signed sig sign) ts (ap is_some (sym (op_signed-held sign e)))
+      ∙ none)
 
   -- it has no faults in a pattern
   pub pattern_faults-held : (ts : Trees) → allows_patterns (tree_list ts) d ≡ true → all_pattern_faults sig ts ≡ [] → pattern_faults sig (held_spelling (slice_get sig.ops f) ts) ≡ []
@@ -182,6 +182,6 @@ module _ (sig : Sig) (h : HasOps sig) (f : ℕ) (d : OpDecl) (here : slice_get s
       held_spelling-cases (λ t. pattern_faults sig t ≡ []) (slice_get sig.ops f) d ts here
       (ap (λ l. l ++ all_pattern_faults sig ts) (head_faults-held passes allowed) ∙ none)
       (λ sign e some.
-          ap (λ l. l ++ pattern_operand_faults sig (sign_faults (piece sign) (op_signed sig sign)) ts) (arity_faults-held passes sign e allowed)
-          ∙ pattern_operand_faults-known sig (piece sign) (op_signed sig sign) ts (ap is_some (sym (op_signed-held sign e)))
-          ∙ none)
+      ap (λ l. l ++ pattern_operand_faults sig (sign_faults (piece sign) (op_signed sig sign)) ts) (arity_faults-held passes sign e allowed)
+      ∙ pattern_operand_faults-known sig (piece sign) (op_signed sig sign) ts (ap is_some (sym (op_signed-held sign e)))
+      ∙ none)
