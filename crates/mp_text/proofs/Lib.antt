@@ -13,6 +13,7 @@ mod Parts
 mod PatternSize
 mod Spelled
 mod Pass
+mod Places
 pub mod Whole
 pub mod SoundLaws
 mod Examples
