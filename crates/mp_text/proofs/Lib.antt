@@ -12,8 +12,10 @@ mod Separated
 mod Parts
 mod PatternSize
 mod Spelled
-mod Pass
+mod SpelledHead
 mod Places
+mod SpelledPattern
+mod Pass
 pub mod Whole
 pub mod SoundLaws
 mod Examples

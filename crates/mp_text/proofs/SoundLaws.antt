@@ -46,13 +46,13 @@ use Rattle.mp_text.proofs.Declared.{bytes_eq_comm, names-rules_of, names-subject
 -- ---- operations that are found
 
 -- an operation that is found under its number
-record Found (sig : Sig) (number : Option ℕ) (passes : OpDecl → Bool) : Type 0 where
-  decl : OpDecl
-  held : slice_get sig.ops (head_number number) ≡ Some decl
-  passed : passes decl ≡ true
+pub record Found (sig : Sig) (number : Option ℕ) (passes : OpDecl → Bool) : Type 0 where
+  pub decl : OpDecl
+  pub held : slice_get sig.ops (head_number number) ≡ Some decl
+  pub passed : passes decl ≡ true
 
 -- an operation before brackets without faults is found, and passes the test
-found-head : (sig : Sig) (passes : OpDecl → Bool) (f : Spot) (number : Option ℕ) → head_faults passes f (op_at sig number) ≡ [] → Found sig number passes
+pub found-head : (sig : Sig) (passes : OpDecl → Bool) (f : Spot) (number : Option ℕ) → head_faults passes f (op_at sig number) ≡ [] → Found sig number passes
 found-head sig passes f None h = cc
 found-head sig passes f (Some n) h = by_decl (slice_get sig.ops n) refl h
   where
@@ -61,7 +61,7 @@ found-head sig passes f (Some n) h = by_decl (slice_get sig.ops n) refl h
     by_decl (Some d) e h = record { decl = d; held = e; passed = not-false (passes d) (nil-fault_if (not (passes d)) _ f.place h) }
 
 -- an operation between operands without faults is found, and passes the test
-found-infix : (sig : Sig) (passes : OpDecl → Bool) (opened : Place) (sign : Spot) (number : Option ℕ) → arity_faults passes opened (op_at sig number) ≡ [] → sign_faults sign (op_at sig number) ≡ [] → Found sig number passes
+pub found-infix : (sig : Sig) (passes : OpDecl → Bool) (opened : Place) (sign : Spot) (number : Option ℕ) → arity_faults passes opened (op_at sig number) ≡ [] → sign_faults sign (op_at sig number) ≡ [] → Found sig number passes
 found-infix sig passes opened sign None h k = cc
 found-infix sig passes opened sign (Some n) h k = by_decl (slice_get sig.ops n) refl h k
   where
@@ -157,7 +157,7 @@ module _ (sig : Sig) where
     defaults-patterns_of (more_trees p ps) = (defaults-pattern_of p, defaults-patterns_of ps)
 
   -- operands without faults, and a sign without faults, in a pattern
-  nil-pattern_operands : (at_sign : List TextFault) (ps : Trees) → pattern_operand_faults sig at_sign ps ≡ [] → (at_sign ≡ []) × (all_pattern_faults sig ps ≡ [])
+  pub nil-pattern_operands : (at_sign : List TextFault) (ps : Trees) → pattern_operand_faults sig at_sign ps ≡ [] → (at_sign ≡ []) × (all_pattern_faults sig ps ≡ [])
   nil-pattern_operands at_sign no_trees h = (h, refl)
   nil-pattern_operands at_sign (more_trees p ps) h =
       let q = nil-append (pattern_faults sig p) (at_sign ++ all_pattern_faults sig ps) h in
@@ -186,7 +186,7 @@ module _ (sig : Sig) where
 
   mutual
     -- a pattern has as many nodes as its expression
-    pattern_nodes-pattern_of : (p : Tree) → pattern_nodes (pattern_of sig p) ≡ nodes p
+    pub pattern_nodes-pattern_of : (p : Tree) → pattern_nodes (pattern_of sig p) ≡ nodes p
     pattern_nodes-pattern_of (Symbol w) = refl
     pattern_nodes-pattern_of (Apply f args) = ap (λ n. n + 1) (all_pattern_nodes-patterns_of args)
     pattern_nodes-pattern_of (InfixOf opened sign operands) = ap (λ n. n + 1) (all_pattern_nodes-patterns_of operands)
@@ -228,7 +228,7 @@ firsts_after-alike p q same ys (x ∷ xs) =
     ap (λ l. firsts_after p l xs) (ap (λ b. if b then ys else ys ++ x ∷ []) (is_known-alike p q same ys x)) ∙ firsts_after-alike p q same (add_new q ys x) xs
 
 -- the variables of a pattern are those of its expression
-variables-pattern_of : (sig : Sig) (p : Tree) → variables (pattern_of sig p) ≡ variable_names p
+pub variables-pattern_of : (sig : Sig) (p : Tree) → variables (pattern_of sig p) ≡ variable_names p
 variables-pattern_of sig p = ap (firsts_after same_name []) (names-uses sig None p) ∙ firsts_after-alike same_name bytes_eq is_eq-slice_cmp [] (wildcard_names p)
 
 -- another name behind all of them
