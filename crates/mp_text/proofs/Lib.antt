@@ -12,14 +12,14 @@ mod Separated
 mod Parts
 mod PatternSize
 mod Spelled
-mod SpelledHead
+mod Pass
 mod Places
-mod SpelledPattern
+pub mod Whole
+pub mod SoundLaws
+mod SpelledHead
 mod SpelledTerm
+mod SpelledPattern
 mod SpelledDeclarations
 mod ReadFile
 mod SpelledFile
-mod Pass
-pub mod Whole
-pub mod SoundLaws
 mod Examples
