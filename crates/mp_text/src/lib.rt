@@ -21,7 +21,7 @@ mod tests;
 
 pub use fault::{TextError, TextFault, TextKind};
 pub use file::{EditSet, EditSets, File, Subject, Subjects};
-pub use file_printer::{printed_file_is_its_statements, write_file};
+pub use file_printer::{printed_file_is_its_statements, printed_file_is_read, write_file};
 pub use pattern_printer::write_pattern;
 pub use printer::write_term;
 pub use reader::{fault_is_computed, file_is_computed, read_file};

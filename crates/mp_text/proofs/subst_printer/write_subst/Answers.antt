@@ -1,10 +1,10 @@
 use Rattle.std.proofs.Common.{◌≡◌, ◌++◌, map, ap, sym, ◌∙◌}
 use Rattle.std.specs.Prelude.{codes}
 use Rattle.std.proofs.lemmas.Result.{err_from_is_err_and}
+use Rattle.std.proofs.lemmas.Simd.{map-map}
 use Rattle.mp_io.proofs.Written.{prints_then, prints_cut}
 use Rattle.mp_subst.specs.View.{binding_of, subst_of}
 use Rattle.mp_text.specs.Printing.{separated, binding_text}
-use Rattle.mp_text.proofs.Separated.{map-map}
 use Rattle.mp_text.proofs.subst_printer.write_subst.Goals as goal
 
 pub returns-in_err-put : goal.returns-in_err-put
