@@ -4,6 +4,7 @@ use Rattle.std.specs.List.{list_any}
 use Rattle.std.specs.Str.{bytes_eq}
 use Rattle.std.proofs.lemmas.List.{length-map, map-append}
 use Rattle.std.proofs.lemmas.List.Sums.{sum_by-cons}
+use Rattle.std.proofs.lemmas.Simd.{map-map}
 use Rattle.mp_term.specs.declared.signature.OpDecl.{OpDecl}
 use Rattle.mp_term.specs.Tree as term
 use Rattle.mp_term.specs.Names.{name_set}
@@ -159,8 +160,7 @@ op_decl-unplaced_flag name least more flags = λ i. record {
     sign = ap (option_map (λ s. s.text)) (sign_spot-unplaced_flag flags) ∙ text-unplaced_sign (sign_spot flags)
 
 texts-unplaced_spot : (spots : List Spot) → map (λ s. s.text) (map unplaced_spot spots) ≡ map (λ s. s.text) spots
-texts-unplaced_spot [] = refl
-texts-unplaced_spot (s ∷ spots) = ap (λ l. s.text ∷ l) (texts-unplaced_spot spots)
+texts-unplaced_spot spots = map-map (λ s. s.text) unplaced_spot spots
 
 kind_decl-unplaced_spot : (name : Spot) (members : List Spot) → kind_decl (unplaced_spot name) (map unplaced_spot members) ≡ kind_decl name members
 kind_decl-unplaced_spot name members = λ i. record { name = name.text; members = name_set (texts-unplaced_spot members i) }

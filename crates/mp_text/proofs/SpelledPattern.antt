@@ -135,6 +135,11 @@ or-swap true false c = refl
 or-swap false true c = refl
 or-swap false false c = refl
 
+-- one of two tests holds where one of two others does, and each of these gives its own
+or-alike : (a b x y : Bool) → (a ≡ true → x ≡ true) → (b ≡ true → y ≡ true) → (a || b) ≡ true → (x || y) ≡ true
+or-alike true b x y first last h = or_left x y (first refl)
+or-alike false b x y first last h = or_right x y (last h)
+
 module _ (sig : Sig) where
   -- the expressions that patterns are spelled as
   abbrev spelled : List Pattern → List Tree
@@ -277,11 +282,6 @@ module _ (sig : Sig) where
   fewest-normal_patterns (more_patterns p ps) =
       fewest-cons (pattern_spelling sig (normal_pattern sig p)) (spelled (normal_patterns sig ps)) ∙ (λ i. cond (not (is_star-normal_pattern p i)) 1 0 + fewest-normal_patterns ps i)
       ∙ sym (fewest-cons (pattern_spelling sig p) (spelled (pattern_list ps)))
-
-  -- one of two lists of patterns may take more where one of two others may
-  or-alike : (a b x y : Bool) → (a ≡ true → x ≡ true) → (b ≡ true → y ≡ true) → (a || b) ≡ true → (x || y) ≡ true
-  or-alike true b x y first last h = or_left x y (first refl)
-  or-alike false b x y first last h = or_right x y (last h)
 
   some-normal_patterns : (assoc : Bool) (ps : Patterns) → list_any (may_take_more assoc) (spelled (pattern_list ps)) ≡ true → list_any (may_take_more assoc) (spelled (normal_patterns sig ps)) ≡ true
   some-normal_patterns assoc no_patterns h = h
