@@ -10,7 +10,7 @@ use Rattle.mp_term.specs.Signature.{Sig, Kind}
 use Rattle.mp_pattern.specs.PatternTree as pattern
 use Rattle.mp_pattern.specs.Admission.{Rule}
 use Rattle.mp_syntax.specs.Tokens.{first_place}
-use Rattle.mp_syntax.specs.Syntax.{Tree, Apply, InfixOf, Trees, no_trees, more_trees, tree_list, Flag, Assoc, Comm, One, Statement, OpOf, KindOf, RuleOf, SubjectOf, IsSyntaxOf, Fits, AreFit, FitsStatement, AreStatements, StatementsHaveNames}
+use Rattle.mp_syntax.specs.Syntax.{Apply, InfixOf, Trees, no_trees, more_trees, tree_list, Flag, Assoc, Comm, One, Statement, OpOf, KindOf, RuleOf, SubjectOf, IsSyntaxOf, Fits, AreFit, FitsStatement, AreStatements, StatementsHaveNames}
 use Rattle.mp_syntax.specs.Printed.{tree_text, first_text, others_text, plus_text, flag_text, member_text, line_end, statement_text, statements_text, unplaced_spot, unplaced_tree, unplaced_trees, unplaced_flag, unplaced}
 use Rattle.mp_syntax.proofs.Printed.{printed-again}
 use Rattle.mp_text.specs.Subject.{Subject}
