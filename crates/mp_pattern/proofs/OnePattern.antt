@@ -15,9 +15,9 @@ use Rattle.mp_term.proofs.SignatureLaws.{is_some-position}
 use Rattle.mp_pattern.specs.PatternTree.{Wildcard, Pattern, symbol_pattern, app_pattern, wild_pattern, Patterns, no_patterns, more_patterns}
 use Rattle.mp_pattern.specs.Size.{pattern_nodes, all_pattern_nodes}
 use Rattle.mp_pattern.specs.Firsts.{is_known, add_new, firsts_after}
-use Rattle.mp_pattern.specs.Value.{same_name, Form}
+use Rattle.mp_pattern.specs.Value.{same_name}
 use Rattle.mp_pattern.specs.Variables.{Use, uses, all_uses, variables, variable_form}
-use Rattle.mp_pattern.specs.Plan.{Label, symbol_label, app_label, wild_label, Node, Variable, variable_number, nodes, all_nodes, Plan, plan_of}
+use Rattle.mp_pattern.specs.Plan.{symbol_label, app_label, wild_label, Node, Variable, variable_number, nodes, all_nodes, Plan, plan_of}
 
 -- equal names are one
 one_name : (x y : List ℕ) → same_name x y ≡ true → x ≡ y

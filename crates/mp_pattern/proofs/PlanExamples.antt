@@ -1,11 +1,11 @@
 -- Computed examples of plans and of what has none.
 use Rattle.std.proofs.Common.{◌≡◌, ℕ, zero, suc, List, [], ◌∷◌, refl, replicate}
 use Rattle.std.specs.Prelude.{Some, None, codes}
-use Rattle.mp_pattern.specs.PatternTree.{dot, kind, plus, star, optional, Pattern, symbol_pattern, wild_pattern}
+use Rattle.mp_pattern.specs.PatternTree.{dot, kind, plus, star, optional, Pattern, wild_pattern}
 use Rattle.mp_pattern.specs.Value.{one_form, seq_form, bag_form}
 use Rattle.mp_pattern.specs.Clash.{first_clash}
-use Rattle.mp_pattern.specs.Plan.{symbol_label, app_label, wild_label, Plan, plan_of}
-use Rattle.mp_pattern.specs.declared.compile.PlanFault.TheVariants.{LooseSequence, TooManyNodes, TooManyVars, KindClash}
+use Rattle.mp_pattern.specs.Plan.{symbol_label, app_label, wild_label, plan_of}
+use Rattle.mp_pattern.specs.declared.compile.PlanFault.TheVariants.{LooseSequence, TooManyNodes, TooManyVars}
 use Rattle.mp_pattern.specs.PlanFault.{plan_fault}
 use Rattle.mp_pattern.proofs.ExampleWords.{sig, f, set, list, sum, num, v, pattern, a, b, nought, a_pattern, x_, y_, z_, unnamed}
 

@@ -1,6 +1,6 @@
 -- A plan as pairs of lists that give it back.
-use Rattle.std.specs.Prelude.{◌≡◌, ℕ, zero, suc, ◌⊎◌, List, Option, map, refl}
-use Rattle.std.proofs.Common.{inl, inr, ap}
+use Rattle.std.specs.Prelude.{◌≡◌, ℕ, zero, suc, ◌⊎◌, List, Option, refl}
+use Rattle.std.proofs.Common.{inl, inr}
 use Rattle.std.specs.Coded.{Coded, code_by, coded×, coded⊎, coded_ℕ, coded_list, coded_option}
 use Rattle.mp_pattern.specs.PatternTree.{Wildcard}
 use Rattle.mp_pattern.specs.Code.{coded_wildcard}

@@ -1,5 +1,4 @@
 -- The records that the nodes and the variables of a plan are read as.
-use Rattle.mp_term.specs.View.{tree}
 use Rattle.mp_pattern.specs.Value as plain_value
 use Rattle.mp_pattern.specs.Plan as plain
 use Rattle.mp_pattern.specs.declared.entry.Form.{Form}

@@ -1,4 +1,4 @@
-use Rattle.std.proofs.Common.{◌≡◌, true, false, ◌∙◌, sym}
+use Rattle.std.proofs.Common.{◌∙◌, sym}
 use Rattle.mp_pattern.proofs.PlanLaws.{first_clash_after-more, first_clash_after-found}
 use Rattle.mp_pattern.specs.View.{pattern_tree}
 use Rattle.mp_pattern.proofs.outline.first_clash.Goals as goal
