@@ -8,10 +8,10 @@ use Rattle.mp_syntax.specs.declared.token.Punct.TheVariants.{Open, Close, Comma,
 use Rattle.mp_syntax.specs.declared.fault.FaultKind.TheVariants.{Syntax}
 use Rattle.mp_syntax.specs.Tokens as tokens
 use Rattle.mp_syntax.specs.Tokens.{Token, Word, Sign, Punctuation, Placed}
-use Rattle.mp_syntax.specs.Syntax.{Spot, Wildcard, Tree, Symbol, Apply, InfixOf, Wild, Trees, no_trees, more_trees, trees, tree_list, Flag, Assoc, Comm, One, Infixed, Statement, OpOf, KindOf, RuleOf, SubjectOf, Expected, Matches, AllMatch, spell, spell_first, spell_others, spell_named, spell_plus, spell_flag, spell_statement, spell_file, spelled_word, spelled_sign, spelled_wildcard, another, comma, semicolon, IsNamedDot, Fits, AreFit, FitsStatement, AreStatements}
-use Rattle.mp_syntax.specs.Machine.{Role, OfRule, OfSubject, statement_of, Frame, Arguments, Bracket, Operands, Declared, declared, with_flag, Heading, State, Top, AfterOp, AfterOpName, AfterLeast, AfterFlags, AfterInfix, AfterKind, AfterKindName, BeforeMember, AfterMember, AfterRole, AfterName, BeforeExpr, AfterWord, AfterOpen, AfterExpr, Step, Go, Emit, Refuse, Finish, is_punct, is_sign, is_end, word_of, sign_of, dot_of, keyword, spot, on_punct, on_text, on_word, step, step_number, step_flag, step_flags, step_open, step_expr, step_dot, step_behind, after_step, run}
+use Rattle.mp_syntax.specs.Syntax.{Spot, Wildcard, Tree, Symbol, Apply, InfixOf, Wild, Trees, no_trees, more_trees, trees, tree_list, Flag, Assoc, Comm, One, Infixed, Statement, OpOf, KindOf, RuleOf, SubjectOf, Expected, Matches, AllMatch, spell, spell_first, spell_others, spell_named, spell_plus, spell_flag, spell_statement, spell_file, spelled_word, spelled_sign, spelled_wildcard, another, comma, semicolon, IsNamedWildcard, Fits, AreFit, FitsStatement, AreStatements}
+use Rattle.mp_syntax.specs.Machine.{Role, OfRule, OfSubject, statement_of, Frame, Arguments, Bracket, Operands, Declared, declared, with_flag, Heading, State, Top, AfterOp, AfterOpName, AfterLeast, AfterFlags, AfterInfix, AfterKind, AfterKindName, BeforeMember, AfterMember, AfterRole, AfterName, BeforeExpr, AfterWord, AfterOpen, AfterExpr, Step, Go, Emit, Refuse, Finish, is_punct, is_sign, is_end, word_of, sign_of, named_wildcard, keyword, spot, on_punct, on_text, on_word, step, step_number, step_flag, step_flags, step_open, step_expr, step_wildcard, step_behind, after_step, run}
 use Rattle.mp_syntax.proofs.Runs.{heading, word-opens, bracket-opens, open-expr, operand-again}
-use Rattle.mp_syntax.proofs.Trees.{trees-tree_list}
+use Rattle.mp_syntax.proofs.Trees.{trees-tree_list, fits-named}
 
 -- what matches two spellings in a row is in two parts
 pub record Split (ts : List Placed) (a b : List Expected) : Type 0 where
@@ -72,19 +72,18 @@ sign-taken next t s h = text-taken sign_of next t s (ap sign_of h.0) h.1
 step_expr-word : (x : Heading) (k : List Frame) (t : Placed) (w : Spot) → Matches t (spelled_word w) → step_expr 100 x k t (word_of t.token) ≡ Go (AfterWord x k w)
 step_expr-word x k t w h = ap (step_expr 100 x k t) (ap word_of h.0) ∙ ap (λ p. Go (AfterWord x k (spot w.text p))) h.1
 
-dot_of-dot : (w : Wildcard) → IsNamedDot w → dot_of (tokens.Wildcard w.name w.marks w.kind) ≡ Some w.name
-dot_of-dot w h = rw (h.dot, h.plain) (go w.name h.named)
+named_wildcard-named : (w : Wildcard) → IsNamedWildcard w → named_wildcard (tokens.Wildcard w.name w.marks w.kind) w.place ≡ Some w
+named_wildcard-named w h = go w.name h
   where
-    go : (name : List ℕ) → (name ≡ [] → ⊥) → dot_of (tokens.Wildcard name 1 []) ≡ Some name
+    go : (name : List ℕ) → (name ≡ [] → ⊥) → named_wildcard (tokens.Wildcard name w.marks w.kind) w.place ≡ Some (record { name = name; marks = w.marks; kind = w.kind; place = w.place })
     go [] f = absurd (f refl)
     go (b ∷ bs) f = refl
 
-step_expr-dot : (x : Heading) (k : List Frame) (t : Placed) (w : Wildcard) → Matches t (spelled_wildcard w) → IsNamedDot w → step_expr 100 x k t (word_of t.token) ≡ Go (AfterExpr x k (Wild w))
-step_expr-dot x k t w h fits =
+step_expr-wildcard : (x : Heading) (k : List Frame) (t : Placed) (w : Wildcard) → Matches t (spelled_wildcard w) → IsNamedWildcard w → step_expr 100 x k t (word_of t.token) ≡ Go (AfterExpr x k (Wild w))
+step_expr-wildcard x k t w h named =
     ap (step_expr 100 x k t) (ap word_of h.0)
-    ∙ ap (λ b. cond b (step_open 100 k (BeforeExpr x (Bracket t.place ∷ k))) (step_dot x k t (dot_of t.token))) (ap (is_punct Open) h.0)
-    ∙ ap (step_dot x k t) (ap dot_of h.0 ∙ dot_of-dot w fits)
-    ∙ (λ i. Go (AfterExpr x k (Wild (record { name = w.name; marks = sym fits.dot i; kind = sym fits.plain i; place = h.1 i }))))
+    ∙ ap (λ b. cond b (step_open 100 k (BeforeExpr x (Bracket t.place ∷ k))) (step_wildcard x k t (named_wildcard t.token t.place))) (ap (is_punct Open) h.0)
+    ∙ ap (step_wildcard x k t) ((λ i. named_wildcard (h.0 i) (h.1 i)) ∙ named_wildcard-named w named)
 
 -- ---- expressions
 
@@ -171,10 +170,6 @@ module _ (done : List Statement) (x : Heading) where
       ∙ row-again v vs read-v read-vs (another sign) (Operands place sign t) (λ es. InfixOf place sign (more_trees t (trees es))) (operands-row place sign t) k room [] s.others us s.behind fits.1.0 fits.1.1 len
       ∙ ap (λ l. run done (AfterExpr x k (InfixOf place sign (more_trees t (more_trees v l)))) us) (trees-tree_list vs)
 
-  dot-fits : (room : ℕ) (w : Wildcard) → Fits room (Wild w) → IsNamedDot w
-  dot-fits zero w h = h
-  dot-fits (suc room) w h = h
-
   mutual
     expr-again : (e : Tree) → ReadsExpr e
     expr-again (Symbol w) k room [] u us h fits len n = absurd h
@@ -182,7 +177,7 @@ module _ (done : List Statement) (x : Heading) where
         over done (BeforeExpr x k) (AfterWord x k w) t (u ∷ us) (step_expr-word x k t w h.0) ∙ word-expr k w u us n
     expr-again (Symbol w) k room (t ∷ v ∷ ts) u us h fits len n = absurd h.1
     expr-again (Wild w) k room [] u us h fits len n = absurd h
-    expr-again (Wild w) k room (t ∷ []) u us h fits len n = over done (BeforeExpr x k) (AfterExpr x k (Wild w)) t (u ∷ us) (step_expr-dot x k t w h.0 (dot-fits room w fits))
+    expr-again (Wild w) k room (t ∷ []) u us h fits len n = over done (BeforeExpr x k) (AfterExpr x k (Wild w)) t (u ∷ us) (step_expr-wildcard x k t w h.0 (fits-named room w fits))
     expr-again (Wild w) k room (t ∷ v ∷ ts) u us h fits len n = absurd h.1
     expr-again (Apply f args) k zero ts u us h fits len n = absurd fits
     expr-again (Apply f args) k (suc room) [] u us h fits len n = absurd h

@@ -1,14 +1,15 @@
 -- What the machine reads fits: the wildcards, the operands, the numbers, the members of kinds and the open brackets.
-use Rattle.std.proofs.Common.{◌≡◌, ℕ, suc, ◌-◌, ◌<◌, Bool, true, false, cond, List, [], ◌∷◌, ◌++◌, length, Option, Some, None, Ok, refl, sym, subst, arith, leb}
+use Rattle.std.proofs.Common.{◌≡◌, ℕ, suc, ◌-◌, ◌<◌, Bool, true, false, cond, List, [], ◌∷◌, ◌++◌, length, Option, Some, None, Ok, refl, subst, arith, leb}
 use Rattle.std.specs.Prelude.{◌≢◌, codes}
 use Rattle.std.specs.Str.{bytes_eq}
 use Rattle.std.proofs.lemmas.Bool.{leb-false}
 use Rattle.mp_syntax.specs.declared.token.Punct.TheVariants.{Open, Close, Comma, Colon, Semicolon}
 use Rattle.mp_syntax.specs.declared.fault.FaultKind.TheVariants.{Syntax, TooDeep}
-use Rattle.mp_syntax.specs.Tokens.{Token, Wildcard, Placed}
-use Rattle.mp_syntax.specs.Syntax.{Spot, Tree, Symbol, Apply, InfixOf, more_trees, trees, Infixed, KindOf, OpOf, Statement, Fits, AreFit, AreSeveral, FitsStatement, AreStatements}
-use Rattle.mp_syntax.specs.Machine.{Role, OfRule, OfSubject, statement_of, Frame, Arguments, Bracket, Operands, Declared, declared, with_flag, Heading, State, Top, AfterOp, AfterOpName, AfterLeast, AfterFlags, AfterInfix, AfterKind, AfterKindName, BeforeMember, AfterMember, AfterRole, AfterName, BeforeExpr, AfterWord, AfterOpen, AfterExpr, Step, Go, Emit, Refuse, Finish, is_punct, is_sign, is_end, is_number, word_of, sign_of, dot_of, keyword, spot, refuse, on_text, on_word, step, step_number, step_flag, step_flags, step_open, step_expr, step_behind, step_dot, after_step, run}
-use Rattle.mp_syntax.proofs.Found.{ok-is}
+use Rattle.mp_syntax.specs.Tokens.{Placed}
+use Rattle.mp_syntax.specs.Syntax.{Spot, Wildcard, Tree, Symbol, Apply, InfixOf, more_trees, trees, Infixed, KindOf, OpOf, Statement, Fits, AreFit, AreSeveral, FitsStatement, AreStatements}
+use Rattle.mp_syntax.specs.Machine.{Role, OfRule, OfSubject, statement_of, Frame, Arguments, Bracket, Operands, Declared, declared, with_flag, Heading, State, Top, AfterOp, AfterOpName, AfterLeast, AfterFlags, AfterInfix, AfterKind, AfterKindName, BeforeMember, AfterMember, AfterRole, AfterName, BeforeExpr, AfterWord, AfterOpen, AfterExpr, Step, Go, Emit, Refuse, Finish, is_punct, is_sign, is_end, is_number, word_of, sign_of, named_wildcard, keyword, spot, refuse, on_text, on_word, step, step_number, step_flag, step_flags, step_open, step_expr, step_behind, step_wildcard, after_step, run}
+use Rattle.mp_syntax.proofs.Found.{wildcard-is, ok-is}
+use Rattle.mp_syntax.proofs.Trees.{named-fits}
 
 -- what an open bracket holds fits, with room brackets more to open in it
 abbrev pub FrameFits : ℕ → Frame → Type 0
@@ -51,13 +52,6 @@ AreFit-push : (room : ℕ) (args : List Tree) (e : Tree) → AreFit room (trees 
 AreFit-push room [] e h k = (k, tt)
 AreFit-push room (a ∷ args) e h k = (h.0, AreFit-push room args e h.1 k)
 
-dot_of-named : (t : Token) (w : List ℕ) → dot_of t ≡ Some w → w ≢ []
-dot_of-named (Wildcard (b ∷ bs) (suc ℕ.zero) []) w h e = let x : some w ≡ some (b ∷ bs) = sym h in absurd cc
-  where
-    some : List ℕ → Option (List ℕ)
-    some w = Some w
-dot_of-named _ w h e = absurd cc
-
 open-fits : (k : List Frame) (next : State) → (length k < 100 → StateFits next) → StepFits (step_open 100 k next)
 open-fits k next h = go (leb 100 (length k)) refl
   where
@@ -68,13 +62,13 @@ open-fits k next h = go (leb 100 (length k)) refl
 expr-fits : (h : Heading) (k : List Frame) (t : Placed) → FramesFit k → StepFits (step_expr 100 h k t (word_of t.token))
 expr-fits h k t fits = go (word_of t.token)
   where
-    dot : (d : Option (List ℕ)) → dot_of t.token ≡ d → StepFits (step_dot h k t d)
-    dot (Some w) e = (fits, record { named = dot_of-named t.token w e; dot = refl; plain = refl })
-    dot None e = tt
+    wildcard : (o : Option Wildcard) → named_wildcard t.token t.place ≡ o → StepFits (step_wildcard h k t o)
+    wildcard (Some w) e = (fits, named-fits (100 - length k) w (wildcard-is t.token t.place w e).1)
+    wildcard None e = tt
 
     go : (o : Option (List ℕ)) → StepFits (step_expr 100 h k t o)
     go (Some w) = fits
-    go None = if-fits (is_punct Open t.token) _ _ (open-fits k (BeforeExpr h (Bracket t.place ∷ k)) (λ lt. (lt, tt, fits))) (dot (dot_of t.token) refl)
+    go None = if-fits (is_punct Open t.token) _ _ (open-fits k (BeforeExpr h (Bracket t.place ∷ k)) (λ lt. (lt, tt, fits))) (wildcard (named_wildcard t.token t.place) refl)
 
 several-push : (first : Tree) (others : List Tree) (e : Tree) → AreSeveral (more_trees first (trees (others ++ e ∷ [])))
 several-push first [] e = tt

@@ -1,17 +1,19 @@
 -- What the machine reads is spelled by the tokens.
-use Rattle.std.proofs.Common.{◌≡◌, ℕ, zero, suc, Bool, true, false, cond, List, [], ◌∷◌, ◌++◌, length, Option, Some, None, Result, Ok, refl, sym, ap, ◌∙◌, append_assoc, append-nil, leb}
+use Rattle.std.proofs.Common.{◌≡◌, ℕ, Bool, true, false, cond, List, [], ◌∷◌, ◌++◌, length, Option, Some, None, Result, Ok, refl, sym, ap, ◌∙◌, append_assoc, append-nil, leb}
 use Rattle.std.proofs.lemmas.List.{map_push, flat_map_more}
 use Rattle.std.specs.Prelude.{codes}
 use Rattle.std.specs.List.{flat_map}
 use Rattle.std.specs.Str.{bytes_eq}
 use Rattle.std.proofs.lemmas.Slice.Eq.{bytes_eq-Decides}
+use Rattle.mp_syntax.specs.declared.place.Place.{Place}
 use Rattle.mp_syntax.specs.declared.token.Punct.{Punct}
 use Rattle.mp_syntax.specs.declared.token.Punct.TheVariants.{Open, Close, OpenSquare, CloseSquare, OpenBrace, CloseBrace, Comma, Semicolon, Colon, Dot, Dollar}
 use Rattle.mp_syntax.specs.declared.fault.Fault.{Fault}
 use Rattle.mp_syntax.specs.declared.fault.FaultKind.TheVariants.{Syntax, TooDeep}
-use Rattle.mp_syntax.specs.Tokens.{Token, Word, Wildcard, Sign, Punctuation, End, Placed}
-use Rattle.mp_syntax.specs.Syntax.{Spot, Tree, Symbol, trees, Flag, Assoc, Comm, One, Infixed, Statement, Expected, Said, Stands, Matches, AllMatch, spell, spell_first, spell_others, spell_plus, spell_flag, spell_statement, spell_file, spelled_word, spelled_sign, another, fixed_word, comma, closing, semicolon}
-use Rattle.mp_syntax.specs.Machine.{Role, OfRule, OfSubject, statement_of, Frame, Arguments, Bracket, Operands, Declared, declared, with_flag, Heading, State, Top, AfterOp, AfterOpName, AfterLeast, AfterFlags, AfterInfix, AfterKind, AfterKindName, BeforeMember, AfterMember, AfterRole, AfterName, BeforeExpr, AfterWord, AfterOpen, AfterExpr, Step, Go, Emit, Refuse, Finish, is_punct, same_punct, is_sign, is_end, word_of, sign_of, dot_of, is_number, keyword, spot, refuse, on_text, on_word, on_sign, step, step_number, step_flag, step_flags, step_open, step_expr, step_behind, step_dot, after_step, run}
+use Rattle.mp_syntax.specs.Tokens as tokens
+use Rattle.mp_syntax.specs.Tokens.{Token, Word, Sign, Punctuation, End, Placed}
+use Rattle.mp_syntax.specs.Syntax.{Spot, Wildcard, Tree, Symbol, trees, Flag, Assoc, Comm, One, Infixed, Statement, Expected, Said, Stands, Matches, AllMatch, spell, spell_first, spell_others, spell_plus, spell_flag, spell_statement, spell_file, IsNamedWildcard, spelled_word, spelled_wildcard, spelled_sign, another, fixed_word, comma, closing, semicolon}
+use Rattle.mp_syntax.specs.Machine.{Role, OfRule, OfSubject, statement_of, Frame, Arguments, Bracket, Operands, Declared, declared, with_flag, Heading, State, Top, AfterOp, AfterOpName, AfterLeast, AfterFlags, AfterInfix, AfterKind, AfterKindName, BeforeMember, AfterMember, AfterRole, AfterName, BeforeExpr, AfterWord, AfterOpen, AfterExpr, Step, Go, Emit, Refuse, Finish, is_punct, same_punct, is_sign, is_end, word_of, sign_of, named_wildcard, is_number, keyword, spot, refuse, on_text, on_word, on_sign, step, step_number, step_flag, step_flags, step_open, step_expr, step_behind, step_wildcard, after_step, run}
 use Rattle.mp_syntax.specs.Partial.{spell_before, spell_declared, so_far}
 
 -- ---- what a test on a token says
@@ -56,10 +58,20 @@ pub sign-same : (text : List ℕ) (t : Token) → is_sign text t ≡ true → t 
 sign-same text (Sign s) h = ap Sign ((bytes_eq-Decides s text).0 h)
 sign-same text _ h = absurd cc
 
--- the dot of this name
-pub dot-is : (t : Token) (w : List ℕ) → dot_of t ≡ Some w → t ≡ Wildcard w 1 []
-dot-is (Wildcard (b ∷ bs) (suc zero) []) w h = ap (λ v. Wildcard v 1 []) (some-is _ _ h)
-dot-is _ w h = absurd cc
+abbrev some_wildcard : Wildcard → Option Wildcard
+some_wildcard w = Some w
+
+some_wildcard-is : (v w : Wildcard) → some_wildcard v ≡ some_wildcard w → v ≡ w
+some_wildcard-is v w h = cc
+
+-- the wildcard that the token is, with its name
+pub wildcard-is : (k : Token) (place : Place) (w : Wildcard) → named_wildcard k place ≡ Some w → Matches (record { token = k; place = place }) (spelled_wildcard w) × IsNamedWildcard w
+wildcard-is (tokens.Wildcard (b ∷ bs) marks kind) place w h =
+    let v : Wildcard = record { name = b ∷ bs; marks = marks; kind = kind; place = place } in
+    let same : v ≡ w = some_wildcard-is v w h in
+    let name : b ∷ bs ≡ w.name = ap (λ (v : Wildcard). v.name) same in
+    ((ap (λ (v : Wildcard). tokens.Wildcard v.name v.marks v.kind) same, ap (λ (v : Wildcard). v.place) same), λ none. absurd cc)
+wildcard-is _ place w h = absurd cc
 
 -- the end
 pub end-is : (t : Token) → is_end t ≡ true → t ≡ End
@@ -164,16 +176,16 @@ adds-open k next before t h = go (leb 100 (length k))
 adds-expr : (h : Heading) (k : List Frame) (t : Placed) → Adds (step_expr 100 h k t (word_of t.token)) (so_far (BeforeExpr h k)) t
 adds-expr h k t = go (word_of t.token) refl
   where
-    dot : (d : Option (List ℕ)) → dot_of t.token ≡ d → Adds (step_dot h k t d) (so_far (BeforeExpr h k)) t
-    dot (Some w) f = (Stands (Wildcard w 1 []) t.place, (dot-is t.token w f, refl), simp append_assoc)
-    dot None f = tt
+    wildcard : (o : Option Wildcard) → named_wildcard t.token t.place ≡ o → Adds (step_wildcard h k t o) (so_far (BeforeExpr h k)) t
+    wildcard (Some w) f = (spelled_wildcard w, (wildcard-is t.token t.place w f).0, simp append_assoc)
+    wildcard None f = tt
 
     bracket : Matches t (Said (Punctuation Open)) → Adds (step_open 100 k (BeforeExpr h (Bracket t.place ∷ k))) (so_far (BeforeExpr h k)) t
     bracket is = adds-open k (BeforeExpr h (Bracket t.place ∷ k)) (so_far (BeforeExpr h k)) t (Stands (Punctuation Open) t.place, (is, refl), simp append_assoc)
 
     go : (o : Option (List ℕ)) → word_of t.token ≡ o → Adds (step_expr 100 h k t o) (so_far (BeforeExpr h k)) t
     go (Some w) e = (spelled_word (spot w t.place), (word-is t.token w e, refl), simp append_assoc)
-    go None e = adds-punct Open t _ _ (so_far (BeforeExpr h k)) bracket (dot (dot_of t.token) refl)
+    go None e = adds-punct Open t _ _ (so_far (BeforeExpr h k)) bracket (wildcard (named_wildcard t.token t.place) refl)
 
 adds-behind : (h : Heading) (k : List Frame) (e : Tree) (t : Placed) → Adds (step_behind h k e t) (so_far (AfterExpr h k e)) t
 adds-behind h [] e t = adds-punct Semicolon t _ (refuse t.token) (so_far (AfterExpr h [] e)) (λ is. (semicolon, is, at h.role)) tt

@@ -11,7 +11,7 @@ use Rattle.mp_syntax.specs.declared.fault.SyntaxError.TheVariants as errors
 use Rattle.mp_syntax.specs.Tokens.{Token, Word, Wildcard, Sign, Arrow, Punctuation, Long, Bad, End, Placed}
 use Rattle.mp_syntax.specs.Lexing.{behind}
 use Rattle.mp_syntax.specs.Syntax.{Spot, Tree, Apply, InfixOf, more_trees, trees, KindOf, Statement}
-use Rattle.mp_syntax.specs.Machine.{State, Role, Step, Go, Emit, Refuse, Heading, Frame, Arguments, Bracket, Operands, BeforeMember, AfterMember, BeforeExpr, AfterWord, AfterOpen, AfterExpr, is_punct, is_sign, word_of, dot_of, refuse, on_punct, on_word, step, step_open, step_dot, step_expr, run}
+use Rattle.mp_syntax.specs.Machine.{State, Role, Step, Go, Emit, Refuse, Heading, Frame, Arguments, Bracket, Operands, BeforeMember, AfterMember, BeforeExpr, AfterWord, AfterOpen, AfterExpr, is_punct, is_sign, word_of, named_wildcard, refuse, on_punct, on_word, step, step_open, step_wildcard, step_expr, run}
 use Rattle.mp_syntax.specs.Parsing.{onward, WantsPunct, Fails}
 
 -- behind a punctuation character lie the other tokens
@@ -77,7 +77,7 @@ bracket-no_word _ h = absurd cc
 
 -- the bracket of an infix expression
 pub bracket-step : (h : Heading) (k : List Frame) (t : Placed) → is_punct Open t.token ≡ true → step (BeforeExpr h k) t ≡ step_open 100 k (BeforeExpr h (Bracket t.place ∷ k))
-bracket-step h k t e = ap (step_expr 100 h k t) (bracket-no_word t.token e) ∙ ap (λ b. cond b (step_open 100 k (BeforeExpr h (Bracket t.place ∷ k))) (step_dot h k t (dot_of t.token))) e
+bracket-step h k t e = ap (step_expr 100 h k t) (bracket-no_word t.token e) ∙ ap (λ b. cond b (step_open 100 k (BeforeExpr h (Bracket t.place ∷ k))) (step_wildcard h k t (named_wildcard t.token t.place))) e
 
 -- the same where there is room
 pub bracket-opens : (h : Heading) (k : List Frame) (t : Placed) (room : ℕ) → length k + room ≡ 100 → 0 < room → is_punct Open t.token ≡ true → step (BeforeExpr h k) t ≡ Go (BeforeExpr h (Bracket t.place ∷ k))

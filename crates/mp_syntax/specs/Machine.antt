@@ -1,5 +1,5 @@
 -- Reading token by token: a state is what is read of a statement, and each token leads on or is refused.
-use Rattle.std.specs.Prelude.{ℕ, zero, suc, Bool, true, false, List, [], ◌∷◌, ◌++◌, length, Option, Some, None, Result, Ok, Err, nat_le, if◌then◌else◌, codes}
+use Rattle.std.specs.Prelude.{ℕ, Bool, true, false, List, [], ◌∷◌, ◌++◌, length, Option, Some, None, Result, Ok, Err, nat_le, if◌then◌else◌, codes}
 use Rattle.std.specs.Str.{bytes_eq}
 use Rattle.std.specs.List.{list_all}
 use Rattle.std.specs.Char.{is_ascii_digit}
@@ -11,7 +11,7 @@ use Rattle.mp_syntax.specs.declared.fault.FaultKind.TheVariants.{Syntax, TooDeep
 use Rattle.mp_syntax.specs.declared.fault.Fault.{Fault}
 use Rattle.mp_syntax.specs.Tokens as tokens
 use Rattle.mp_syntax.specs.Tokens.{Token, Word, Sign, Punctuation, Long, Bad, End, Placed}
-use Rattle.mp_syntax.specs.Syntax.{Spot, Tree, Symbol, Apply, InfixOf, Wild, more_trees, trees, Flag, Assoc, Comm, One, Infixed, Statement, OpOf, KindOf, RuleOf, SubjectOf}
+use Rattle.mp_syntax.specs.Syntax.{Spot, Wildcard, Tree, Symbol, Apply, InfixOf, Wild, more_trees, trees, Flag, Assoc, Comm, One, Infixed, Statement, OpOf, KindOf, RuleOf, SubjectOf}
 
 -- ---- tests on tokens
 
@@ -55,10 +55,10 @@ abbrev pub is_sign : List ℕ → Token → Bool
 is_sign text (Sign s) = bytes_eq s text
 is_sign text _ = false
 
--- the name of a named wildcard with one underscore and no kind
-abbrev pub dot_of : Token → Option (List ℕ)
-dot_of (tokens.Wildcard (b ∷ bs) (suc zero) []) = Some (b ∷ bs)
-dot_of _ = None
+-- the wildcard that a token at this place is, where it has a name
+abbrev pub named_wildcard : Token → Place → Option Wildcard
+named_wildcard (tokens.Wildcard (b ∷ bs) marks kind) place = Some (record { name = b ∷ bs; marks = marks; kind = kind; place = place })
+named_wildcard _ place = None
 
 -- digits alone
 abbrev pub is_number : List ℕ → Bool
@@ -200,9 +200,9 @@ step_members name members t =
     else on_word t (λ w. Go (AfterMember name (members ++ w ∷ [])))
 
 -- a wildcard
-abbrev pub step_dot : Heading → List Frame → Placed → Option (List ℕ) → Step
-step_dot h k t (Some name) = Go (AfterExpr h k (Wild (record { name = name; marks = 1; kind = []; place = t.place })))
-step_dot h k t None = refuse t.token
+abbrev pub step_wildcard : Heading → List Frame → Placed → Option Wildcard → Step
+step_wildcard h k t (Some w) = Go (AfterExpr h k (Wild w))
+step_wildcard h k t None = refuse t.token
 
 -- a bracket leads on, where fewer than limit are open
 abbrev pub step_open : ℕ → List Frame → State → Step
@@ -213,7 +213,7 @@ abbrev pub step_expr : ℕ → Heading → List Frame → Placed → Option (Lis
 step_expr limit h k t (Some w) = Go (AfterWord h k (spot w t.place))
 step_expr limit h k t None =
     if is_punct Open t.token then step_open limit k (BeforeExpr h (Bracket t.place ∷ k))
-    else step_dot h k t (dot_of t.token)
+    else step_wildcard h k t (named_wildcard t.token t.place)
 
 -- the token behind an expression
 abbrev pub step_behind : Heading → List Frame → Tree → Placed → Step

@@ -31,11 +31,10 @@ impl<'a> Parser<'a> {
             }
             Kind::Wildcard {
                 name: name @ [_, ..],
-                marks: 1,
-                kind: kind @ [],
+                marks,
+                kind,
             } => {
                 self.advance();
-                let marks = 1;
                 Ok(Expr::Wild(Wildcard {
                     name,
                     marks,
