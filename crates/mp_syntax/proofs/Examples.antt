@@ -9,7 +9,7 @@ use Rattle.mp_syntax.specs.declared.fault.FaultKind.TheVariants as kinds
 use Rattle.mp_syntax.specs.Tokens.{Token, Word, Wildcard, Sign, Arrow, Punctuation, Long, End, Placed, first_place}
 use Rattle.mp_syntax.specs.Lexing.{lexemes}
 use Rattle.mp_syntax.specs.Syntax.{Spot, Tree, Symbol, Apply, InfixOf, Wild, trees, Assoc, Comm, Infixed, Statement, OpOf, KindOf, RuleOf, SubjectOf}
-use Rattle.mp_syntax.specs.Reading.{reading}
+use Rattle.mp_syntax.specs.Reading.{reading, expr_reading}
 
 abbrev at : ℕ → ℕ → Place
 at line column = record { line = line; column = column }
@@ -101,6 +101,15 @@ words-lexed = refl
 long-refused : reading (codes "op " ++ replicate 65 97 ++ codes " 2;") ≡ fault kinds.TooMany 1 4
 unfolding lexemes
 long-refused = refl
+
+-- an expression alone is read up to the end
+expression-read : expr_reading (codes "f(x_)") ≡ Ok (Apply (word (codes "f") 1 1) (trees (wildcard (codes "x") 1 [] 3 ∷ [])))
+unfolding lexemes
+expression-read = refl
+
+semicolon-refused : expr_reading (codes "a;") ≡ Err (record { kind = kinds.Syntax; place = at 1 2 })
+unfolding lexemes
+semicolon-refused = refl
 
 -- a byte that begins no token, and a file that stops within a statement
 bad-refused : reading (codes "op f 2;\n  \\") ≡ fault kinds.BadByte 2 3

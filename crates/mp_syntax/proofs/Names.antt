@@ -58,7 +58,7 @@ sign-name : (s : List ℕ) → HasText (Sign s) → IsInfixSign s
 sign-name s h = record { is_sign = h.1.1; no_arrow = h.1.2 }
 
 mutual
-  tree-names : (t : Tree) (room : ℕ) → Fits room t → ExpectTexts (spell t) → HasNames t
+  pub tree-names : (t : Tree) (room : ℕ) → Fits room t → ExpectTexts (spell t) → HasNames t
   tree-names (Symbol w) room fits h = word-name w.text h.0
   tree-names (Apply f args) zero fits h = absurd fits
   tree-names (Apply f args) (suc room) fits h = (word-name f.text h.0, first-names comma args room fits h.1.1)

@@ -11,6 +11,7 @@ use Rattle.mp_syntax.specs.Tokens.{Token, Word, Sign, Punctuation, Placed, byte_
 use Rattle.mp_syntax.specs.Lexing.{kind_at, token_at, after_blanks, lexemes}
 use Rattle.mp_syntax.specs.Syntax.{Spot, Wildcard, Tree, Symbol, Apply, InfixOf, Wild, Trees, no_trees, more_trees, Flag, Assoc, Comm, One, Infixed, Statement, OpOf, KindOf, RuleOf, SubjectOf, Expected, Said, Stands, Matches, AllMatch, spelled_word, spelled_wildcard, spelled_sign, another, fixed_word, comma, closing, semicolon, spell, spell_first, spell_others, spell_operands, spell_named, spell_plus, spell_flag, spell_statement, spell_file, AreSeveral, Fits, AreFit, FitsStatement, AreStatements, IsName, IsInfixSign, HasParts, HasNames, HaveNames, HaveSigns, AreNames, StatementHasNames, StatementsHaveNames, IsSyntaxOf}
 use Rattle.mp_syntax.specs.Machine.{Top, run}
+use Rattle.mp_syntax.specs.Reading.{statements_read}
 use Rattle.mp_syntax.specs.Printed.{wildcard_text, tree_text, first_text, others_text, plus_text, flag_text, member_text, line_end, named_text, statement_text, statements_text, unplaced_spot, unplaced_tree, unplaced_trees, unplaced_flag, unplaced}
 use Rattle.mp_syntax.proofs.Trees.{fits-named, named-fits}
 use Rattle.mp_syntax.proofs.Spelling.{spells-some, spells-token}
@@ -533,4 +534,4 @@ printed-again file names fits =
     let x = lexes-file file first_place names fits in
     let bytes = statements_text file in
     let all : lexemes bytes first_place ≡ x.lexes.ts ++ end_at x.lexes.after ∷ [] = x.lexes.are ∙ ap (λ l. x.lexes.ts ++ l) (lexemes-step [] x.lexes.after) in
-    (x.all, reading-found bytes x.all (ap (run [] Top) all ∙ file-again x.all [] x.lexes.ts (end_at x.lexes.after ∷ []) x.lexes.match x.fits), x.same)
+    (x.all, reading-found bytes x.all (ap statements_read (ap (run [] Top) all ∙ file-again x.all [] x.lexes.ts (end_at x.lexes.after ∷ []) x.lexes.match x.fits)), x.same)

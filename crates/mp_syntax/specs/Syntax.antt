@@ -257,7 +257,14 @@ abbrev pub StatementsHaveNames : List Statement → Type 0
 StatementsHaveNames [] = Unit {0}
 StatementsHaveNames (s ∷ ss) = StatementHasNames s × StatementsHaveNames ss
 
--- ---- files
+-- ---- texts
+
+-- the bytes are this expression: they have tokens, and these spell the expression, which fits
+pub record IsExprOf (bytes : List ℕ) (t : Tree) : Type 0 where
+  pub tokens : List Placed
+  pub lie : Tokens bytes first_place tokens
+  pub spelled : AllMatch tokens (spell t)
+  pub fits : Fits 100 t
 
 -- the bytes are these statements: they have tokens, and these spell the statements, which fit
 pub record IsSyntaxOf (bytes : List ℕ) (file : List Statement) : Type 0 where

@@ -1,3 +1,4 @@
+use crate::expression::{expression_is_a_function, read_expression};
 use crate::fault::{FaultKind, SyntaxError};
 use crate::statement::{
     printed_statements_are_read, read_statements, syntax_has_names, syntax_is_a_function,
@@ -15,6 +16,20 @@ fn first_fault(alloc: Global, text: &[u8]) -> Result<First, Fail> {
         Err("the text is too long")?
     }
     match read_statements(alloc, text) {
+        Ok(_) => Ok(None),
+        Err(SyntaxError::Memory) => Err("memory ran out")?,
+        Err(SyntaxError::Fault(fault)) => {
+            Ok(Some((fault.kind, fault.place.line, fault.place.column)))
+        }
+    }
+}
+
+/// The first fault of a text that is to be an expression alone.
+fn first_expression_fault(alloc: Global, text: &[u8]) -> Result<First, Fail> {
+    if text.len() > 1000 {
+        Err("the text is too long")?
+    }
+    match read_expression(alloc, text) {
         Ok(_) => Ok(None),
         Err(SyntaxError::Memory) => Err("memory ran out")?,
         Err(SyntaxError::Fault(fault)) => {
@@ -117,6 +132,30 @@ fn texts_are_read_or_refused_at_a_token(rt: HostRuntime) -> Result<(), Fail> {
     ];
     for (text, wanted) in rows {
         assert_eq!(rt; first_fault(rt.alloc(), text)?, wanted);
+    }
+    Ok(())
+}
+
+#[test]
+fn expressions_are_read_to_the_end_or_refused_at_a_token(rt: HostRuntime) -> Result<(), Fail> {
+    let rows: [(&[u8], First); 14] = [
+        (b"a", None),
+        (b" f(x_, y_K, (a + z___))\n# the end", None),
+        (b"x__", None),
+        (b"", Some((FaultKind::Syntax, 1, 1))),
+        (b"# a\n", Some((FaultKind::Syntax, 2, 1))),
+        (b"a;", Some((FaultKind::Syntax, 1, 2))),
+        (b"a b", Some((FaultKind::Syntax, 1, 3))),
+        (b"f(a", Some((FaultKind::Syntax, 1, 4))),
+        (b"f(a))", Some((FaultKind::Syntax, 1, 5))),
+        (b"(a + b", Some((FaultKind::Syntax, 1, 7))),
+        (b"x_:a", Some((FaultKind::Syntax, 1, 3))),
+        (b"_", Some((FaultKind::Syntax, 1, 1))),
+        (b"subject s: a;", Some((FaultKind::Syntax, 1, 9))),
+        (b"a \\", Some((FaultKind::BadByte, 1, 3))),
+    ];
+    for (text, wanted) in rows {
+        assert_eq!(rt; first_expression_fault(rt.alloc(), text)?, wanted);
     }
     Ok(())
 }
@@ -264,6 +303,7 @@ fn operands_keep_their_order(rt: HostRuntime) -> Result<(), Fail> {
 #[test]
 fn laws_do_nothing(_rt: HostRuntime) -> Result<(), Fail> {
     syntax_is_a_function();
+    expression_is_a_function();
     printed_statements_are_read();
     syntax_has_names();
     tokens_are_unique();
