@@ -1,12 +1,4 @@
-pub mod ListLaws
-pub mod PieceSteps
-pub mod SameLaws
-pub mod BindLaws
-pub mod ChoiceLaws
-pub mod WalkLaws
-pub mod SoundLaws
 pub mod Parts
-pub mod Separated
 pub mod Chain
 pub mod Matchable
 pub mod MatchTexts

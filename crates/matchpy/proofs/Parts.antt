@@ -5,10 +5,12 @@ use Rattle.std.proofs.lemmas.Bool.Decides.{nat_tests}
 use Rattle.mp_term.specs.Signature.{Sig}
 use Rattle.mp_pattern.specs.Admission.{Rule}
 use Rattle.mp_pattern.specs.Value.{Subst}
-use Rattle.mp_theory.specs.OneList.{one_list}
+use Rattle.mp_subst.specs.View.{subst_of}
+use Rattle.mp_theory.specs.OneList as one
+use Rattle.mp_one.specs.Items.{item_of}
+use Rattle.mp_one.specs.declared.item.Item.{Item}
 use Rattle.mp_text.specs.File.{Subject}
 use Rattle.mp_text.specs.Printing.{subst_text}
-use Rattle.matchpy.specs.Substs.{bare_rule}
 use Rattle.std.specs.List.{AllByRecursion}
 use Rattle.std.specs.Io.KnownBytes.{Appends}
 use Rattle.mp_io.specs.Devices.{Rose, Text}
@@ -124,8 +126,13 @@ has_some-lines view sig subject rule (m ∷ ms) =
     let rest = flat_map (match_line sig subject rule) (map view ms) in
     ap not some ∙ sym (has_some-append line rest ∙ ap (λ b. b || has_some rest) (has_some-length line (match_line-some sig subject rule (view m))))
 
--- the lines of what the pattern alone admits are those of a rule that has no condition
-pub rule_text-bare : (sig : Sig) (subject : Subject) (rule : Rule) (ss : List Subst) → rule.condition ≡ None → ss ≡ one_list sig (bare_rule rule.pattern) subject.term
-    → flat_map (match_line sig subject rule) ss ≡ rule_text sig subject rule
-rule_text-bare sig subject rule ss e is =
-    ap (flat_map (match_line sig subject rule)) (is ∙ ap (λ c. one_list sig (record { name = rule.name; pattern = rule.pattern; template = rule.template; condition = c }) subject.term) (sym e))
+-- the substitutions of items are those of their pairs
+substs-items : (items : List Item) → map (λ i. subst_of i.subst) items ≡ one.item_substs (map item_of items)
+substs-items [] = refl
+substs-items (i ∷ items) = ap (λ ss. subst_of i.subst ∷ ss) (substs-items items)
+
+-- the lines of the items of a rule are its text
+pub rule_text-items : (sig : Sig) (subject : Subject) (rule : Rule) (items : List Item) (list : List one.Item) → map item_of items ≡ list → one.item_substs list ≡ one.one_list sig rule subject.term
+    → flat_map (match_line sig subject rule) (map (λ i. subst_of i.subst) items) ≡ rule_text sig subject rule
+rule_text-items sig subject rule items list e is =
+    ap (flat_map (match_line sig subject rule)) (substs-items items ∙ ap one.item_substs e ∙ is)

@@ -7,9 +7,3 @@ pub mod Endings
 pub mod Answers
 pub mod Printed
 pub mod Run
-pub mod Lists
-pub mod Lines
-pub mod Stack
-pub mod Held
-pub mod Trail
-pub mod Substs

@@ -5,8 +5,6 @@ mod answer;
 mod ending;
 mod laws;
 mod matches;
-mod one_list;
-mod printer;
 mod run;
 mod show;
 mod words;

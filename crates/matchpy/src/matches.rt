@@ -4,21 +4,21 @@ ghost use Rattle.std.specs.Prelude.{◌≡◌, ◌≤◌, ◌<◌, length, map, 
 ghost use Rattle.std.specs.List.{AllByRecursion};
 ghost use Rattle.mp_io.specs.Printing.{Prints};
 ghost use Rattle.mp_pattern.specs.RuleView.{rule_tree};
+ghost use Rattle.mp_subst.specs.View.{subst_of};
 ghost use Rattle.mp_text.specs.File.{file_tree, subject_tree};
 ghost use Rattle.matchpy.specs.Answers.{Acts};
 ghost use Rattle.matchpy.specs.Endings.{status_of};
 ghost use Rattle.matchpy.specs.Printed.{PrintsMatches};
 ghost use Rattle.matchpy.specs.Matches.{IsMatchable, IsMatchableFile, IsNormalSubject, match_line, match_text, rule_text, subject_text};
 ghost use Rattle.matchpy.specs.Outcome.{file_limit, match_outcome, matched};
-ghost use Rattle.matchpy.specs.Substs.{subst_of};
 
 use crate::ending::{Ending, Told};
-use crate::one_list::{Subst, one_list};
-use crate::printer::write_subst;
 use mp_io::{Failed, Sink, put, put_all};
+use mp_one::{Item, eager_list};
 use mp_pattern::Rule;
+use mp_subst::Subst;
 use mp_term::{Memory, Signature};
-use mp_text::{File, Subject, TextError, read_file};
+use mp_text::{File, Subject, TextError, read_file, write_subst};
 use std::alloc::Global;
 
 // Why the printing of matches stopped.
@@ -50,19 +50,19 @@ fn write_match<O: Sink>(
     }
 }
 
-// Writes a line for each of the substitutions.
+// Writes a line for each of the items.
 fn write_matches<O: Sink>(
     sig: &Signature,
     subject: &Subject,
     rule: &Rule,
-    matches: &[Subst],
+    items: &[Item],
     out: &mut O,
 ) -> Result<(), Failed>
-    ensures prints { Prints (O.contents out.old) (O.contents out.new) (O.faults out.old) (O.faults out.new) (flat_map (match_line sig.now (subject_tree subject.now) (rule_tree rule.now)) (map subst_of matches.now)) result }
-    ensures some { OnErr result (0 < length (flat_map (match_line sig.now (subject_tree subject.now) (rule_tree rule.now)) (map subst_of matches.now))) }
+    ensures prints { Prints (O.contents out.old) (O.contents out.new) (O.faults out.old) (O.faults out.new) (flat_map (match_line sig.now (subject_tree subject.now) (rule_tree rule.now)) (map (λ i. subst_of i.subst) items.now)) result }
+    ensures some { OnErr result (0 < length (flat_map (match_line sig.now (subject_tree subject.now) (rule_tree rule.now)) (map (λ i. subst_of i.subst) items.now))) }
 {
-    for subst in matches {
-        match write_match(sig, subject, rule, subst, out) {
+    for item in items {
+        match write_match(sig, subject, rule, &item.subst, out) {
             Ok(()) => {}
             Err(Failed) => return Err(Failed),
         }
@@ -82,13 +82,13 @@ fn write_rule<O: Sink>(
     requires normal { IsNormalSubject sig.now (subject_tree subject.now) }
     ensures { PrintsMatches (rule_text sig.now (subject_tree subject.now) (rule_tree rule.now)) (record { old = O.contents out.old; new = O.contents out.new; faults = O.faults out.old; faults_after = O.faults out.new }) result }
 {
-    let list = match one_list(alloc, sig, &rule.pattern, &subject.term) {
+    let list = match eager_list(alloc, sig, rule, &subject.term) {
         Ok(list) => list,
         Err(Memory) => return Err(Stop::Memory),
     };
-    let matches = list.as_slice();
-    match write_matches(sig, subject, rule, matches, out) {
-        Ok(()) => Ok(!matches.is_empty()),
+    let items = list.as_slice();
+    match write_matches(sig, subject, rule, items, out) {
+        Ok(()) => Ok(!items.is_empty()),
         Err(Failed) => Err(Stop::CannotWrite),
     }
 }

@@ -36,12 +36,12 @@ bytes_eq_comm a b =
 -- ---- names that are held
 
 -- a name that equals one of the names is among them
-is_among-list_any : (name : List ℕ) (names : List (List ℕ)) → list_any (bytes_eq name) names ≡ is_among name names
+pub is_among-list_any : (name : List ℕ) (names : List (List ℕ)) → list_any (bytes_eq name) names ≡ is_among name names
 is_among-list_any name [] = refl
 is_among-list_any name (n ∷ ns) = ap (λ b. b || list_any (bytes_eq name) ns) (bytes_eq_comm name n) ∙ ap (λ b. bytes_eq n name || b) (is_among-list_any name ns)
 
 -- an operation has the name exactly where that is among the operations' names
-is_among-has_name : (name : List ℕ) (ds : List OpDecl) → list_any (has_name name) ds ≡ is_among name (map (λ d. d.name) ds)
+pub is_among-has_name : (name : List ℕ) (ds : List OpDecl) → list_any (has_name name) ds ≡ is_among name (map (λ d. d.name) ds)
 is_among-has_name name [] = refl
 is_among-has_name name (d ∷ ds) = ap (λ b. b || list_any (has_name name) ds) (bytes_eq_comm name d.name) ∙ ap (λ b. bytes_eq d.name name || b) (is_among-has_name name ds)
 

@@ -1,5 +1,5 @@
 -- Lists without faults, and what tests that give no fault say.
-use Rattle.std.proofs.Common.{◌≡◌, ◌≤◌, ◌<◌, ℕ, Bool, true, false, ◌||◌, not, leb, ltb, List, [], ◌∷◌, ◌++◌, refl, rules}
+use Rattle.std.proofs.Common.{◌≡◌, ◌≤◌, ◌<◌, ℕ, Bool, true, false, ◌||◌, not, leb, ltb, List, [], ◌∷◌, ◌++◌, ap, refl, ◌∙◌, rules}
 use Rattle.mp_syntax.specs.declared.place.Place.{Place}
 use Rattle.mp_text.specs.declared.fault.TextKind.{TextKind}
 use Rattle.mp_text.specs.Checks.{fault_if}
@@ -8,6 +8,10 @@ use Rattle.mp_text.specs.Checks.{fault_if}
 pub nil-append : {X : Type 0} (a b : List X) → a ++ b ≡ [] → (a ≡ []) × (b ≡ [])
 nil-append [] b h = (refl, h)
 nil-append (x ∷ a) b h = cc
+
+-- two lists without items are one without items
+pub nil-both : {X : Type 0} (a b : List X) → a ≡ [] → b ≡ [] → a ++ b ≡ []
+nil-both a b h k = ap (λ l. l ++ b) h ∙ k
 
 -- a test that gives no fault doesn't hold
 pub nil-fault_if : (test : Bool) (kind : TextKind) (place : Place) → fault_if test kind place ≡ [] → test ≡ false

@@ -13,6 +13,13 @@ mod Parts
 mod PatternSize
 mod Spelled
 mod Pass
+mod Places
 pub mod Whole
 pub mod SoundLaws
+mod SpelledHead
+mod SpelledTerm
+mod SpelledPattern
+mod SpelledDeclarations
+mod ReadFile
+mod SpelledFile
 mod Examples

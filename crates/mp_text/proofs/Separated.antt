@@ -2,6 +2,7 @@
 use Rattle.std.proofs.Common.{◌≡◌, ℕ, zero, suc, ◌+◌, ◌≤◌, List, [], ◌∷◌, ◌++◌, map, length, drop, Some, add-one, refl, ap, sym, ◌∙◌}
 use Rattle.std.specs.Prelude.{slice_get}
 use Rattle.std.proofs.Math.ListN.{drop_of_length-le}
+use Rattle.std.proofs.lemmas.Simd.{map-map}
 use Rattle.mp_io.specs.Devices.{Text}
 use Rattle.mp_term.specs.declared.signature.OpDecl.{OpDecl}
 use Rattle.mp_term.specs.Tree.{Tree, app, trees}
@@ -38,11 +39,6 @@ remaining-end f separator items i h = ap (λ l. remaining separator i (map f l))
 term_texts-trees : (sig : Sig) (ts : List Tree) → term_texts sig (trees ts) ≡ map (term_text sig) ts
 term_texts-trees sig [] = refl
 term_texts-trees sig (t ∷ ts) = ap (λ l. term_text sig t ∷ l) (term_texts-trees sig ts)
-
--- a map after a map
-map-map : {X Y Z : Type 0} (g : Y → Z) (f : X → Y) (xs : List X) → map g (map f xs) ≡ map (λ x. g (f x)) xs
-map-map g f [] = refl
-map-map g f (x ∷ xs) = ap (λ l. g (f x) ∷ l) (map-map g f xs)
 
 -- the text of an application of an operation that is held
 pub term_text-app : {X : Type 0} (view : X → Tree) (sig : Sig) (f : ℕ) (ts : List Tree) (items : List X) (d : OpDecl) → slice_get sig.ops f ≡ Some d → map view items ≡ ts

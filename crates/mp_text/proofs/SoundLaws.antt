@@ -46,13 +46,13 @@ use Rattle.mp_text.proofs.Declared.{bytes_eq_comm, names-rules_of, names-subject
 -- ---- operations that are found
 
 -- an operation that is found under its number
-record Found (sig : Sig) (number : Option ℕ) (passes : OpDecl → Bool) : Type 0 where
-  decl : OpDecl
-  held : slice_get sig.ops (head_number number) ≡ Some decl
-  passed : passes decl ≡ true
+pub record Found (sig : Sig) (number : Option ℕ) (passes : OpDecl → Bool) : Type 0 where
+  pub decl : OpDecl
+  pub held : slice_get sig.ops (head_number number) ≡ Some decl
+  pub passed : passes decl ≡ true
 
 -- an operation before brackets without faults is found, and passes the test
-found-head : (sig : Sig) (passes : OpDecl → Bool) (f : Spot) (number : Option ℕ) → head_faults passes f (op_at sig number) ≡ [] → Found sig number passes
+pub found-head : (sig : Sig) (passes : OpDecl → Bool) (f : Spot) (number : Option ℕ) → head_faults passes f (op_at sig number) ≡ [] → Found sig number passes
 found-head sig passes f None h = cc
 found-head sig passes f (Some n) h = by_decl (slice_get sig.ops n) refl h
   where
@@ -61,7 +61,7 @@ found-head sig passes f (Some n) h = by_decl (slice_get sig.ops n) refl h
     by_decl (Some d) e h = record { decl = d; held = e; passed = not-false (passes d) (nil-fault_if (not (passes d)) _ f.place h) }
 
 -- an operation between operands without faults is found, and passes the test
-found-infix : (sig : Sig) (passes : OpDecl → Bool) (opened : Place) (sign : Spot) (number : Option ℕ) → arity_faults passes opened (op_at sig number) ≡ [] → sign_faults sign (op_at sig number) ≡ [] → Found sig number passes
+pub found-infix : (sig : Sig) (passes : OpDecl → Bool) (opened : Place) (sign : Spot) (number : Option ℕ) → arity_faults passes opened (op_at sig number) ≡ [] → sign_faults sign (op_at sig number) ≡ [] → Found sig number passes
 found-infix sig passes opened sign None h k = cc
 found-infix sig passes opened sign (Some n) h k = by_decl (slice_get sig.ops n) refl h k
   where
@@ -78,7 +78,7 @@ module _ (sig : Sig) where
   length-terms_of (more_trees t ts) = ap suc (length-terms_of ts)
 
   -- operands without faults, and a sign without faults
-  nil-term_operands : (at_sign : List TextFault) (ts : Trees) → term_operand_faults sig at_sign ts ≡ [] → (at_sign ≡ []) × (all_term_faults sig ts ≡ [])
+  pub nil-term_operands : (at_sign : List TextFault) (ts : Trees) → term_operand_faults sig at_sign ts ≡ [] → (at_sign ≡ []) × (all_term_faults sig ts ≡ [])
   nil-term_operands at_sign no_trees h = (h, refl)
   nil-term_operands at_sign (more_trees t ts) h =
       let p = nil-append (term_faults sig t) (at_sign ++ all_term_faults sig ts) h in
@@ -109,7 +109,7 @@ module _ (sig : Sig) where
 
   mutual
     -- a term has as many nodes as its expression
-    node_count-term_of : (t : Tree) → node_count (term_of sig t) ≡ nodes t
+    pub node_count-term_of : (t : Tree) → node_count (term_of sig t) ≡ nodes t
     node_count-term_of (Symbol w) = refl
     node_count-term_of (Apply f args) = ap (λ n. n + 1) (node_counts-terms_of args)
     node_count-term_of (InfixOf opened sign operands) = ap (λ n. n + 1) (node_counts-terms_of operands)
@@ -157,7 +157,7 @@ module _ (sig : Sig) where
     defaults-patterns_of (more_trees p ps) = (defaults-pattern_of p, defaults-patterns_of ps)
 
   -- operands without faults, and a sign without faults, in a pattern
-  nil-pattern_operands : (at_sign : List TextFault) (ps : Trees) → pattern_operand_faults sig at_sign ps ≡ [] → (at_sign ≡ []) × (all_pattern_faults sig ps ≡ [])
+  pub nil-pattern_operands : (at_sign : List TextFault) (ps : Trees) → pattern_operand_faults sig at_sign ps ≡ [] → (at_sign ≡ []) × (all_pattern_faults sig ps ≡ [])
   nil-pattern_operands at_sign no_trees h = (h, refl)
   nil-pattern_operands at_sign (more_trees p ps) h =
       let q = nil-append (pattern_faults sig p) (at_sign ++ all_pattern_faults sig ps) h in
@@ -186,7 +186,7 @@ module _ (sig : Sig) where
 
   mutual
     -- a pattern has as many nodes as its expression
-    pattern_nodes-pattern_of : (p : Tree) → pattern_nodes (pattern_of sig p) ≡ nodes p
+    pub pattern_nodes-pattern_of : (p : Tree) → pattern_nodes (pattern_of sig p) ≡ nodes p
     pattern_nodes-pattern_of (Symbol w) = refl
     pattern_nodes-pattern_of (Apply f args) = ap (λ n. n + 1) (all_pattern_nodes-patterns_of args)
     pattern_nodes-pattern_of (InfixOf opened sign operands) = ap (λ n. n + 1) (all_pattern_nodes-patterns_of operands)
@@ -228,7 +228,7 @@ firsts_after-alike p q same ys (x ∷ xs) =
     ap (λ l. firsts_after p l xs) (ap (λ b. if b then ys else ys ++ x ∷ []) (is_known-alike p q same ys x)) ∙ firsts_after-alike p q same (add_new q ys x) xs
 
 -- the variables of a pattern are those of its expression
-variables-pattern_of : (sig : Sig) (p : Tree) → variables (pattern_of sig p) ≡ variable_names p
+pub variables-pattern_of : (sig : Sig) (p : Tree) → variables (pattern_of sig p) ≡ variable_names p
 variables-pattern_of sig p = ap (firsts_after same_name []) (names-uses sig None p) ∙ firsts_after-alike same_name bytes_eq is_eq-slice_cmp [] (wildcard_names p)
 
 -- another name behind all of them
@@ -249,12 +249,13 @@ are_distinct-push (m ∷ ns) n h k =
 -- ---- statements
 
 -- what the name of a statement without faults shows
-record Named (most : ℕ) (earlier : List (List ℕ)) (large : Bool) (name : Spot) : Type 0 where
-  other : is_among name.text earlier ≡ false
-  few : length earlier < most
-  small : large ≡ false
+pub record Named (most : ℕ) (earlier : List (List ℕ)) (large : Bool) (name : Spot) : Type 0 where
+  pub other : is_among name.text earlier ≡ false
+  pub few : length earlier < most
+  pub small : large ≡ false
 
-named-by : (most : ℕ) (earlier : List (List ℕ)) (large : Bool) (name : Spot) → name_faults most earlier large name ≡ [] → Named most earlier large name
+-- a name without faults
+pub named-by : (most : ℕ) (earlier : List (List ℕ)) (large : Bool) (name : Spot) → name_faults most earlier large name ≡ [] → Named most earlier large name
 named-by most earlier large name h =
     let p = nil-append (fault_if (is_among name.text earlier) _ name.place) (fault_if (leb most (length earlier) || large) _ name.place) h in
     let o = or-second (leb most (length earlier)) large (nil-fault_if (leb most (length earlier) || large) _ name.place p.1) in
@@ -334,14 +335,16 @@ record Good (names : List (List ℕ)) : Type 0 where
 good-push : (names : List (List ℕ)) (name : List ℕ) → Good names → is_among name names ≡ false → length names < 1000 → Good (names ++ name ∷ [])
 good-push names name g other few = record { distinct = are_distinct-push names name g.distinct other; few = omega (arith, length-append names (name ∷ [])) }
 
-rule_names-append : (a b : List Statement) → rule_names (a ++ b) ≡ rule_names a ++ rule_names b
+-- the names of the rules of statements in two parts
+pub rule_names-append : (a b : List Statement) → rule_names (a ++ b) ≡ rule_names a ++ rule_names b
 rule_names-append [] b = refl
 rule_names-append (OpOf name least more flags ∷ ss) b = rule_names-append ss b
 rule_names-append (KindOf name members ∷ ss) b = rule_names-append ss b
 rule_names-append (RuleOf name p ∷ ss) b = ap (λ l. name.text ∷ l) (rule_names-append ss b)
 rule_names-append (SubjectOf name t ∷ ss) b = rule_names-append ss b
 
-subject_names-append : (a b : List Statement) → subject_names (a ++ b) ≡ subject_names a ++ subject_names b
+-- the names of the subjects of statements in two parts
+pub subject_names-append : (a b : List Statement) → subject_names (a ++ b) ≡ subject_names a ++ subject_names b
 subject_names-append [] b = refl
 subject_names-append (OpOf name least more flags ∷ ss) b = subject_names-append ss b
 subject_names-append (KindOf name members ∷ ss) b = subject_names-append ss b
@@ -396,7 +399,7 @@ module _ (sig : Sig) where
 -- ---- files
 
 -- the file of statements without faults is sound
-sound-file : (ss : List Statement) → AreStatements ss → faults ss ≡ [] → IsSoundFile (file_tree_of ss)
+pub sound-file : (ss : List Statement) → AreStatements ss → faults ss ≡ [] → IsSoundFile (file_tree_of ss)
 sound-file ss fit h =
     let sig = sig_of ss in
     let declared = nil-append (declaration_faults ss) (faults_by (statement_faults sig) [] ss) h in

@@ -1,6 +1,6 @@
 //! Prints whole files.
 
-ghost use Rattle.std.specs.Prelude.{◌≡◌, List, map};
+ghost use Rattle.std.specs.Prelude.{◌≡◌, ℕ, List, map};
 ghost use Rattle.std.specs.List.{flat_map};
 ghost use Rattle.mp_io.specs.Printing.{Prints};
 ghost use Rattle.mp_pattern.specs.RuleView.{rule_tree};
@@ -8,6 +8,7 @@ ghost use Rattle.mp_syntax.specs.Syntax.{Statement, IsSyntaxOf, AreStatements, S
 ghost use Rattle.mp_syntax.specs.Printed.{unplaced};
 ghost use Rattle.mp_text.specs.File.{FileTree, subject_tree, file_tree};
 ghost use Rattle.mp_text.specs.PrintedFile.{rule_text, subject_text, file_text};
+ghost use Rattle.mp_text.specs.Reading.{IsFileOf};
 ghost use Rattle.mp_text.specs.Spelled.{file_spelling};
 
 use crate::file::{File, Subject};
@@ -40,6 +41,14 @@ pub fn write_file<K: Sink>(file: &File, sink: &mut K) -> Result<(), Failed>
 pub fn printed_file_is_its_statements()
     ensures { (file : FileTree) → StatementsHaveNames (file_spelling file) → AreStatements (file_spelling file)
         → (read : List Statement) × IsSyntaxOf (file_text file) read × (map unplaced read ≡ file_spelling file) }
+{}
+
+/// Law: the text that a file is printed as, `file_text` of `specs/PrintedFile.antt`, is read as that file, for every file that some
+/// bytes are, `IsFileOf` of `specs/Reading.antt`.
+///
+/// It does nothing when it runs.
+pub fn printed_file_is_read()
+    ensures { (bytes : List ℕ) (file : FileTree) → IsFileOf bytes file → IsFileOf (file_text file) file }
 {}
 
 /// Appends the rules.

@@ -1,4 +1,4 @@
-//! Rule files: from the syntax trees of a file to its signature, rules and subjects, checked; and the printed text of terms, patterns, signatures and files.
+//! Rule files: from the syntax trees of a file to its signature, rules and subjects, checked; and the printed text of terms, patterns, substitutions, signatures and files.
 #![tactic(auto)]
 
 mod build;
@@ -15,13 +15,15 @@ mod printer;
 mod printing_tests;
 mod reader;
 mod signature_printer;
+mod subst_printer;
 #[cfg(test)]
 mod tests;
 
 pub use fault::{TextError, TextFault, TextKind};
 pub use file::{EditSet, EditSets, File, Subject, Subjects};
-pub use file_printer::{printed_file_is_its_statements, write_file};
+pub use file_printer::{printed_file_is_its_statements, printed_file_is_read, write_file};
 pub use pattern_printer::write_pattern;
 pub use printer::write_term;
 pub use reader::{fault_is_computed, file_is_computed, read_file};
 pub use signature_printer::write_signature;
+pub use subst_printer::write_subst;

@@ -66,7 +66,7 @@ fn write_prefix<K: Sink>(
 
 /// Appends the terms in round brackets, with the separator between each two.
 #[cycle(write_term)]
-fn write_bracketed<K: Sink>(
+pub(crate) fn write_bracketed<K: Sink>(
     sig: &Signature,
     separator: &[&[u8]],
     terms: &[Term],
@@ -82,7 +82,7 @@ fn write_bracketed<K: Sink>(
 
 /// Appends the terms, with the separator between each two.
 #[cycle(write_term)]
-fn write_separated<K: Sink>(
+pub(crate) fn write_separated<K: Sink>(
     sig: &Signature,
     separator: &[&[u8]],
     terms: &[Term],

@@ -1,5 +1,5 @@
 use crate::file::File;
-use crate::file_printer::{printed_file_is_its_statements, write_file};
+use crate::file_printer::{printed_file_is_its_statements, printed_file_is_read, write_file};
 use crate::pattern_printer::write_pattern;
 use crate::reader::read_file;
 use crate::signature_printer::write_signature;
@@ -25,6 +25,7 @@ fn file(alloc: Global) -> Result<File, Fail> {
 #[test]
 fn files_are_printed_a_statement_a_line(rt: HostRuntime) -> Result<(), Fail> {
     printed_file_is_its_statements();
+    printed_file_is_read();
     let file = file(rt.alloc())?;
     let mut sink = sink(rt.alloc())?;
     assert!(rt; write_file(&file, &mut sink).is_ok());

@@ -1,6 +1,7 @@
 -- `one_list` is the one-list.
 use Rattle.std.proofs.Common.{◌≡◌, List, [], ◌∷◌, true, false, ◌&&◌, refl, ap, sym, ◌∙◌, subst}
-use Rattle.std.specs.Prelude.{Some, None, ◌↔◌, if◌then◌else◌, Contains}
+use Rattle.std.specs.Prelude.{Some, None, ◌↔◌, if◌then◌else◌, zip, Contains}
+use Rattle.std.specs.List.Sorted.{IsStrictlySortedBy}
 use Rattle.std.proofs.lemmas.Cmp.{lists_total}
 use Rattle.mp_term.specs.Order.{tree_cmp}
 use Rattle.mp_term.specs.OrderLaws.{tree_cmp_total, tree_same}
@@ -19,7 +20,7 @@ use Rattle.mp_theory.proofs.Merging.{name_same, same_terms-sound, same_terms-com
 use Rattle.mp_theory.specs.Search.{In}
 use Rattle.mp_theory.specs.Sound.{IsSound}
 use Rattle.mp_theory.specs.Machine.{takes, tables}
-use Rattle.mp_theory.specs.OneList.{same_value, same_subst, admitted, one_list}
+use Rattle.mp_theory.specs.OneList.{same_value, same_subst, admitted, one_list, item_tables, item_substs, item_list, AreItems}
 use Rattle.mp_theory.proofs.PiecesLaws.{same-sound, same-itself}
 use Rattle.mp_theory.proofs.Tables.{tables-exact, tables-ascending, entry_cmp_total}
 use Rattle.mp_theory.proofs.Solving.{same_name-itself, then_some}
@@ -115,3 +116,35 @@ module _ (sig : Sig) (r : Rule) (t : Tree) where
     -- the list of the search is the one-list
     pub one_list-is : IsOneList sig r t (one_list sig r t)
     one_list-is = subst (IsOneList sig r t) (sym Found.is) (record { exactly = found-exactly; tables = Found.firsts; least = are-least Found.items Found.firsts Found.least; ascending = Found.ascending })
+
+    -- of lists with a fact for each place, the pairs give back both
+    firsts-zip : (ss : List Subst) (Ts : List Table) → Both First ss Ts → item_tables (zip Ts ss) ≡ Ts
+    firsts-zip [] [] h = refl
+    firsts-zip [] (T ∷ Ts) h = absurd h
+    firsts-zip (s ∷ ss) [] h = absurd h
+    firsts-zip (s ∷ ss) (T ∷ Ts) h = ap (λ l. T ∷ l) (firsts-zip ss Ts h.1)
+
+    seconds-zip : (ss : List Subst) (Ts : List Table) → Both First ss Ts → item_substs (zip Ts ss) ≡ ss
+    seconds-zip [] [] h = refl
+    seconds-zip [] (T ∷ Ts) h = absurd h
+    seconds-zip (s ∷ ss) [] h = absurd h
+    seconds-zip (s ∷ ss) (T ∷ Ts) h = ap (λ l. s ∷ l) (seconds-zip ss Ts h.1)
+
+    -- the items of the search are the first tables with what they give
+    item_list-zip : item_list sig r t ≡ zip Found.firsts Found.items
+    item_list-zip = Found.paired [] refl
+
+    -- the substitutions of the items are the one-list
+    pub item_substs-item_list : item_substs (item_list sig r t) ≡ one_list sig r t
+    item_substs-item_list = ap item_substs item_list-zip ∙ seconds-zip Found.items Found.firsts Found.least ∙ sym Found.is
+
+    -- so the items are exactly those of the rule
+    pub item_list-are : AreItems sig r t (item_list sig r t)
+    item_list-are =
+        let ts = firsts-zip Found.items Found.firsts Found.least in
+        let ss = seconds-zip Found.items Found.firsts Found.least in
+        subst (AreItems sig r t) (sym item_list-zip) (record {
+          exactly = λ s. subst (λ us. Contains us s ↔ Admits sig r t s) (sym ss) (found-exactly s);
+          least = subst (λ us. AreLeast sig r.pattern t us (item_tables (zip Found.firsts Found.items))) (sym ss) (subst (AreLeast sig r.pattern t Found.items) (sym ts) (are-least Found.items Found.firsts Found.least));
+          ascending = subst (IsStrictlySortedBy table_cmp) (sym ts) Found.ascending;
+        })

@@ -1,6 +1,6 @@
 -- Binding as the search goes gives the same list, and a table is tested entry by entry.
-use Rattle.std.proofs.Common.{◌≡◌, ℕ, zero, suc, List, [], ◌∷◌, ◌++◌, map, true, false, refl, ap, sym, ◌∙◌}
-use Rattle.std.specs.Prelude.{Option, Some, None, ◌↔◌, if◌then◌else◌, filter, filter_map, flat_map, option_and_then}
+use Rattle.std.proofs.Common.{◌≡◌, ℕ, zero, suc, List, [], ◌∷◌, ◌++◌, map, true, false, refl, ap, sym, ◌∙◌, append_assoc, append-nil}
+use Rattle.std.specs.Prelude.{Option, Some, None, ◌↔◌, if◌then◌else◌, filter, filter_map, flat_map, option_map, option_and_then}
 use Rattle.std.specs.List.{cons_option}
 use Rattle.std.proofs.lemmas.List.Elements.{filter_map-append}
 use Rattle.mp_term.specs.Order.{tree_cmp}
@@ -21,8 +21,8 @@ use Rattle.mp_theory.specs.Search.{In, words, Accepts}
 use Rattle.mp_theory.specs.Sound.{IsSound}
 use Rattle.mp_theory.specs.Pieces.{is_piece}
 use Rattle.mp_theory.specs.Machine.{is_ended, onward, said, takes, reads, choices, tables}
-use Rattle.mp_theory.specs.OneList.{same_subst, one_list}
-use Rattle.mp_theory.specs.Trail.{listed_by, solutions, allows, has_shape, fitted}
+use Rattle.mp_theory.specs.OneList.{Item, same_subst, same_item, one_list, item_list}
+use Rattle.mp_theory.specs.Trail.{listed_by, solutions, derivations, allows, has_shape, fitted}
 use Rattle.mp_theory.proofs.SearchLaws.{flat_map-same}
 use Rattle.mp_theory.proofs.Walk.{choices-exact}
 use Rattle.mp_theory.proofs.FitsSolves.{fits-solves, solves-fits}
@@ -43,6 +43,10 @@ filter_map-front h e None rest [] k = refl
 filter_map-front h e (Some r) rest [] k = refl
 filter_map-front h e None rest (w ∷ ws) k = ap (λ o. cons_option o (filter_map h (map (λ w. e ∷ w) ws))) (k w) ∙ filter_map-front h e None rest ws k
 filter_map-front h e (Some r) rest (w ∷ ws) k = ap (λ o. cons_option o (filter_map h (map (λ w. e ∷ w) ws))) (k w) ∙ ap (cons_option (rest r w)) (filter_map-front h e (Some r) rest ws k)
+
+-- the item of a table and a substitution
+abbrev item : Table → Subst → Item
+item T s = (T, s)
 
 module _ (sig : Sig) where
   -- takes one after the other
@@ -78,6 +82,43 @@ module _ (sig : Sig) where
       filtered : (h : Table → Option Subst) (Ts : List Table) → filter_map (λ T. option_and_then (λ s. if meets sig r.condition s then Some s else None) (h T)) Ts ≡ filter (meets sig r.condition) (filter_map h Ts)
       filtered h [] = refl
       filtered h (T ∷ Ts) = ap (cons_option (option_and_then (λ s. if meets sig r.condition s then Some s else None) (h T))) (filtered h Ts) ∙ kept (h T) (filter_map h Ts)
+
+  -- the tables in order behind the table so far, each with what solves its takes
+  pub derivations-is : (k : ℕ) (n : Next) (T : Table) (s : Subst) → derivations sig k n T s ≡ filter_map (λ W. option_map (item (T ++ W)) (solve sig s (takes n W))) (words (choices sig) onward is_ended k n)
+  derivations-is zero n T s =
+      elim (is_ended n) as (λ b. (if b then item T s ∷ [] else []) ≡ filter_map (λ W. option_map (item (T ++ W)) (solve sig s (takes n W))) (if b then [] ∷ [] else [])) [
+        | true ↦ ap (λ W. item W s ∷ []) (sym (append-nil T))
+        | false ↦ refl
+      ]
+  derivations-is (suc k) n T s =
+      flat_map-same _ (λ e. filter_map (λ W. option_map (item (T ++ W)) (solve sig s (takes n W))) (map (λ W. e ∷ W) (words (choices sig) onward is_ended k (onward n e)))) (choices sig n) (λ e i.
+      listed_by-same (λ r. derivations sig k (onward n e) (T ++ (e ∷ [])) r) (λ r. filter_map (λ W. option_map (item ((T ++ (e ∷ [])) ++ W)) (solve sig r (takes (onward n e) W))) (words (choices sig) onward is_ended k (onward n e))) (λ r. derivations-is k (onward n e) (T ++ (e ∷ [])) r) (solve sig s (said n e))
+      ∙ sym (filter_map-front (λ W. option_map (item (T ++ W)) (solve sig s (takes n W))) e (solve sig s (said n e)) (λ r W. option_map (item ((T ++ (e ∷ [])) ++ W)) (solve sig r (takes (onward n e) W))) (words (choices sig) onward is_ended k (onward n e)) (λ W. front T s e n W)))
+      ∙ sym (filter_map-flat (λ W. option_map (item (T ++ W)) (solve sig s (takes n W))) (λ e. map (λ W. e ∷ W) (words (choices sig) onward is_ended k (onward n e))) (choices sig n))
+    where
+      after : (T W : Table) (e : Entry) (s : Option Subst) (us : List Taken) → option_map (item (T ++ (e ∷ W))) (option_and_then (λ r. solve sig r us) s) ≡ option_and_then (λ r. option_map (item ((T ++ (e ∷ [])) ++ W)) (solve sig r us)) s
+      after T W e None us = refl
+      after T W e (Some r) us = ap (λ V. option_map (item V) (solve sig r us)) (sym (append_assoc T (e ∷ []) W))
+
+      front : (T : Table) (s : Subst) (e : Entry) (n : Next) (W : Table) → option_map (item (T ++ (e ∷ W))) (solve sig s (said n e ++ takes (onward n e) W)) ≡ option_and_then (λ r. option_map (item ((T ++ (e ∷ [])) ++ W)) (solve sig r (takes (onward n e) W))) (solve sig s (said n e))
+      front T s e n W = ap (option_map (item (T ++ (e ∷ W)))) (solve-append s (said n e) (takes (onward n e) W)) ∙ after T W e (solve sig s (said n e)) (takes (onward n e) W)
+
+  -- the items, by derivations: those under which the condition holds, each substitution once
+  pub item_list-by_derivations : (r : Rule) (t : Tree) → item_list sig r t ≡ firsts_after same_item [] (filter (λ i. meets sig r.condition i.1) (derivations sig (pattern_nodes r.pattern) (settle (start r.pattern t)) [] []))
+  item_list-by_derivations r t =
+      ap (firsts_after same_item []) (
+      filtered (λ T. solve sig [] (takes (settle (start r.pattern t)) T)) (tables sig r.pattern t)
+      ∙ ap (filter (λ i. meets sig r.condition i.1)) (sym (derivations-is (pattern_nodes r.pattern) (settle (start r.pattern t)) [] []))
+      )
+    where
+      kept : (T : Table) (o : Option Subst) (is : List Item) → cons_option (option_map (item T) (option_and_then (λ s. if meets sig r.condition s then Some s else None) o)) (filter (λ i. meets sig r.condition i.1) is) ≡ filter (λ i. meets sig r.condition i.1) (cons_option (option_map (item T) o) is)
+      kept T None is = refl
+      kept T (Some s) is =
+          elim (meets sig r.condition s) as (λ b. cons_option (option_map (item T) (if b then Some s else None)) (filter (λ i. meets sig r.condition i.1) is) ≡ (if b then item T s ∷ filter (λ i. meets sig r.condition i.1) is else filter (λ i. meets sig r.condition i.1) is)) [ true ↦ refl | false ↦ refl ]
+
+      filtered : (h : Table → Option Subst) (Ts : List Table) → filter_map (λ T. option_map (item T) (option_and_then (λ s. if meets sig r.condition s then Some s else None) (h T))) Ts ≡ filter (λ i. meets sig r.condition i.1) (filter_map (λ T. option_map (item T) (h T)) Ts)
+      filtered h [] = refl
+      filtered h (T ∷ Ts) = ap (cons_option (option_map (item T) (option_and_then (λ s. if meets sig r.condition s then Some s else None) (h T)))) (filtered h Ts) ∙ kept T (h T) (filter_map (λ T. option_map (item T) (h T)) Ts)
 
   -- a choice is an entry that is allowed
   pub choice-allowed : (n : Next) (e : Entry) → In e (choices sig n) ↔ (allows sig n e ≡ true)

@@ -1,5 +1,5 @@
 -- The search that binds as it goes: the trail is the substitution so far.
-use Rattle.std.specs.Prelude.{ℕ, zero, suc, Bool, false, ◌&&◌, List, [], ◌∷◌, flat_map, Option, Some, None, if◌then◌else◌}
+use Rattle.std.specs.Prelude.{ℕ, zero, suc, Bool, false, ◌&&◌, List, [], ◌∷◌, ◌++◌, flat_map, Option, Some, None, if◌then◌else◌}
 use Rattle.mp_term.specs.Order.{tree_cmp}
 use Rattle.mp_term.specs.Tree.{Tree}
 use Rattle.mp_term.specs.Signature.{Sig}
@@ -11,6 +11,7 @@ use Rattle.mp_theory.specs.Solve.{solve}
 use Rattle.mp_theory.specs.Frames.{Next, child, settle, start}
 use Rattle.mp_theory.specs.Pieces.{is_piece}
 use Rattle.mp_theory.specs.Machine.{is_ended, onward, said, takes, reads, choices}
+use Rattle.mp_theory.specs.OneList.{Item}
 
 -- what f gives of the value, if there is one
 abbrev pub listed_by : {A B : Type 0} → (A → List B) → Option A → List B
@@ -22,6 +23,15 @@ module _ (sig : Sig) where
   abbrev pub solutions : ℕ → Next → Subst → List Subst
   solutions zero n s = if is_ended n then s ∷ [] else []
   solutions (suc k) n s = flat_map (λ e. listed_by (λ r. solutions k (onward n e) r) (solve sig s (said n e))) (choices sig n)
+
+  -- the same with the tables: the table so far and the entries that lead to a solution, with that
+  abbrev pub derivations : ℕ → Next → Table → Subst → List Item
+  derivations zero n T s = if is_ended n then (T, s) ∷ [] else []
+  derivations (suc k) n T s = flat_map (λ e. listed_by (λ r. derivations k (onward n e) (T ++ e ∷ []) r) (solve sig s (said n e))) (choices sig n)
+
+  -- those that go on with the entry
+  abbrev pub derivations_by : ℕ → Next → Table → Subst → Entry → List Item
+  derivations_by k n T s e = listed_by (λ r. derivations k (onward n e) (T ++ e ∷ []) r) (solve sig s (said n e))
 
   -- the entry may stand next: its list is a piece of what is left, and the node may have it
   abbrev pub allows : Next → Entry → Bool

@@ -14,7 +14,7 @@ ghost use Rattle.mp_pattern.specs.Lists.{Pair, IsOneList, IsAllList};
 ghost use Rattle.mp_theory.specs.Search.{In};
 ghost use Rattle.mp_theory.specs.Machine.{HasShape, tables};
 ghost use Rattle.mp_theory.specs.Sound.{IsSound, HasNoOptional};
-ghost use Rattle.mp_theory.specs.OneList.{one_list};
+ghost use Rattle.mp_theory.specs.OneList.{AreItems, item_list, item_substs, one_list};
 ghost use Rattle.mp_theory.specs.Trail.{fitted};
 
 /// What the search finds is the one-list: for a pattern whose defaults are normal and a normal subject, `one_list` of
@@ -22,6 +22,16 @@ ghost use Rattle.mp_theory.specs.Trail.{fitted};
 pub fn one_list_is_the_one_list()
     ensures { (sig : Sig) (r : Rule) (t : Tree) → IsSound sig r.pattern → IsNormal sig t →
         IsOneList sig r t (one_list sig r t) }
+{}
+
+/// The items that the search finds are those of the rule: for a pattern whose defaults are normal and a normal subject,
+/// `item_list` of `specs/OneList` has exactly the substitutions that the rule admits, each with its least take table,
+/// strictly ascending by these. Its substitutions are `one_list`.
+pub fn the_item_list_is_the_one_list()
+    ensures items { (sig : Sig) (r : Rule) (t : Tree) → IsSound sig r.pattern → IsNormal sig t →
+        AreItems sig r t (item_list sig r t) }
+    ensures substs { (sig : Sig) (r : Rule) (t : Tree) → IsSound sig r.pattern → IsNormal sig t →
+        item_substs (item_list sig r t) ≡ one_list sig r t }
 {}
 
 /// A rule has one one-list on a normal subject: two lists that meet `IsOneList` of mp_pattern's `specs/Lists` are equal.

@@ -1,9 +1,0 @@
-use Rattle.std.proofs.Common.{◌≡◌, drop}
-use Rattle.mp_term.specs.View.{tree}
-use Rattle.mp_term.specs.Order.{tree_cmp}
-use Rattle.mp_theory.specs.Pieces as pieces
-use Rattle.matchpy.specs.Lists.{trees_of}
-use Rattle.matchpy.proofs.one_list.pieces.after.Given as goal
-
-abbrev pub invariant-loop-i : goal.invariant-loop-i
-invariant-loop-i l = pieces.after tree_cmp (trees_of (drop l.i l.list)) (tree l.term) ≡ pieces.after tree_cmp (trees_of l.list) (tree l.term)

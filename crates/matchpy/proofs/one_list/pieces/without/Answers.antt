@@ -1,9 +1,0 @@
-use Rattle.std.proofs.Common.{sym, ◌∙◌, drop}
-use Rattle.mp_term.specs.View.{tree}
-use Rattle.mp_term.specs.Order.{tree_cmp}
-use Rattle.matchpy.specs.Lists.{trees_of}
-use Rattle.matchpy.proofs.PieceSteps.{without-end}
-use Rattle.matchpy.proofs.one_list.pieces.without.Goals as goal
-
-pub returns : goal.returns
-returns c = sym (without-end tree_cmp (λ t. tree t.now) (trees_of c.loop-term.rest.items) (trees_of (drop c.loop-term.taken c.args.terms.now)) c.loop-term.term-index c.args.list.now c.loop-term-test.false) ∙ c.loop-term.invariant.rest

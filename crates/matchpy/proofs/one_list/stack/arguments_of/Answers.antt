@@ -1,8 +1,0 @@
-use Rattle.std.proofs.Common.{ap, ◌∙◌, ◌∷◌, [], sym}
-use Rattle.mp_term.specs.View.{tree}
-use Rattle.mp_theory.specs.Machine.{arguments}
-use Rattle.matchpy.proofs.SameLaws.{arguments-app}
-use Rattle.matchpy.proofs.one_list.stack.arguments_of.Goals as goal
-
-pub returns-in_ok-all-in-App : goal.returns-in_ok-all-in-App
-returns-in_ok-all-in-App c = c.in_ok-all-in-App.ensures ∙ c.as_slice.ensures ∙ arguments-app c.in-App.field-0.0 c.in-App.args ∙ ap (λ t. arguments (tree t ∷ [])) (sym c.in-App.is)

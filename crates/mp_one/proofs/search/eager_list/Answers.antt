@@ -1,0 +1,44 @@
+use Rattle.std.proofs.Common.{◌≡◌, [], ap, ◌∙◌, sym, subst}
+use Rattle.mp_term.specs.View.{tree}
+use Rattle.mp_pattern.specs.View.{pattern_tree}
+use Rattle.mp_pattern.specs.RuleView.{rule_tree}
+use Rattle.mp_pattern.specs.Firsts.{firsts_after}
+use Rattle.mp_pattern.specs.Lists.{IsOneList}
+use Rattle.mp_theory.specs.Frames.{settle, start}
+use Rattle.mp_theory.specs.Trail.{derivations}
+use Rattle.mp_term.specs.Normal.{IsNormal}
+use Rattle.mp_theory.specs.Sound.{IsSound}
+use Rattle.mp_theory.specs.OneList.{same_item, item_substs, item_list, one_list, AreItems}
+use Rattle.mp_theory.proofs.OneListLaws.{one_list-is, item_list-are, item_substs-item_list}
+use Rattle.mp_one.specs.Stack.{entries_left}
+use Rattle.mp_one.proofs.WalkLaws.{item_list-by_stack}
+use Rattle.mp_one.proofs.search.eager_list.Goals as goal
+
+-- what was found is the list of items
+listed : (c : goal.In_ok-search_from) → c.search_from.new.found ≡ item_list c.args.sig.now (rule_tree c.args.rule.now) (tree c.args.subject.now)
+listed c =
+    let r = rule_tree c.args.rule.now in
+    let t = tree c.args.subject.now in
+    c.in_ok-search_from.ensures
+    ∙ ap (λ fs. firsts_after same_item c.new-found.result (derivations c.args.sig.now (entries_left fs) (settle fs) [] [])) c.in_ok-root_frame.ensures
+    ∙ ap (λ is. firsts_after same_item is (derivations c.args.sig.now (entries_left (start r.pattern t)) (settle (start r.pattern t)) [] [])) c.new-found.ensures
+    ∙ item_list-by_stack c.args.sig.now r t c.requires.unconditional
+
+pub returns-clause-list : goal.returns-clause-list
+returns-clause-list c = listed c
+
+pub returns-clause-items : goal.returns-clause-items
+returns-clause-items c = subst (AreItems c.args.sig.now (rule_tree c.args.rule.now) (tree c.args.subject.now)) (sym (listed c)) (item_list-are c.args.sig.now (rule_tree c.args.rule.now) (tree c.args.subject.now) c.requires.sound c.requires.normal)
+
+-- and its substitutions are the one-list
+substs : (c : goal.In_ok-search_from) → IsSound c.args.sig.now (rule_tree c.args.rule.now).pattern → IsNormal c.args.sig.now (tree c.args.subject.now) → item_substs c.search_from.new.found ≡ one_list c.args.sig.now (rule_tree c.args.rule.now) (tree c.args.subject.now)
+substs c sound normal = ap item_substs (listed c) ∙ item_substs-item_list c.args.sig.now (rule_tree c.args.rule.now) (tree c.args.subject.now) sound normal
+
+pub returns-clause-substs : goal.returns-clause-substs
+returns-clause-substs c = substs c c.requires.sound c.requires.normal
+
+pub returns-clause-exact : goal.returns-clause-exact
+returns-clause-exact c =
+    let r = rule_tree c.args.rule.now in
+    let t = tree c.args.subject.now in
+    subst (IsOneList c.args.sig.now r t) (sym (substs c c.requires.sound c.requires.normal)) (one_list-is c.args.sig.now r t c.requires.sound c.requires.normal)

@@ -1,0 +1,83 @@
+// The entries that may stand next, ascending.
+ghost use Rattle.std.specs.Prelude.{◌≡◌, ◌++◌, ◌∷◌, [], map, filter, length, OnOk, IfOk};
+ghost use Rattle.mp_pattern.specs.View.{pattern_tree};
+ghost use Rattle.mp_theory.specs.Machine as machine;
+ghost use Rattle.mp_theory.specs.Bounds as bounds;
+ghost use Rattle.mp_one.specs.Lines.{above, most_of};
+ghost use Rattle.mp_one.specs.Lists.{trees_of, lists_of};
+ghost use Rattle.mp_one.specs.Stack.{child_of, entry_of, reads_at};
+
+use crate::lines::{comm_above, is_short, least, reads};
+use crate::pieces::pieces_between;
+use crate::stack::{Entry, Place};
+use crate::terms::{copied, push};
+use mp_term::{Memory, Signature, Term};
+use std::alloc::Global;
+
+// Adds the entry, if the child may have it.
+fn push_entry<'a>(
+    alloc: Global,
+    sig: &Signature,
+    place: &Place<'_>,
+    piece: &[&'a Term],
+    collapsed: bool,
+    found: &mut Vec<Entry<'a>>,
+) -> Result<(), Memory>
+    ensures { OnOk result (map entry_of found.new.items ≡ map entry_of found.old.items ++ filter (reads_at sig.now place.now) (record { terms = trees_of piece.now; collapsed = collapsed } ∷ [])) }
+{
+    if !reads(sig, place.child, place.under, piece, collapsed) {
+        return Ok(());
+    }
+    push(
+        found,
+        Entry {
+            terms: copied(alloc, piece)?,
+            collapsed,
+        },
+    )
+}
+
+// The greatest number of terms that the child may take.
+fn most(sig: &Signature, place: &Place<'_>) -> usize
+    ensures { result ≡ most_of (bounds.is_short sig.now (above place.now.under) (pattern_tree place.now.child.now)) (length place.now.left.now) }
+{
+    if is_short(sig, place.under, place.child) {
+        return 1;
+    }
+    place.left.len().max(1)
+}
+
+// The pieces of the lengths that the child may take.
+fn pieces<'a>(
+    alloc: Global,
+    sig: &Signature,
+    place: &Place<'a>,
+) -> Result<Vec<Vec<&'a Term>>, Memory>
+    ensures { IfOk result (λ v. filter (reads_at sig.now place.now) (machine.entries (lists_of v.items)) ≡ machine.choices sig.now (child_of place.now)) }
+{
+    let anywhere = comm_above(sig, place.under);
+    let found = pieces_between(
+        alloc,
+        anywhere,
+        least(place.child),
+        most(sig, place),
+        place.left,
+    )?;
+    Ok(found)
+}
+
+/// The entries that may stand next, ascending.
+pub fn choices<'a>(
+    alloc: Global,
+    sig: &Signature,
+    place: &Place<'a>,
+) -> Result<Vec<Entry<'a>>, Memory>
+    ensures { IfOk result (λ v. map entry_of v.items ≡ machine.choices sig.now (child_of place.now)) }
+{
+    let mut found = Vec::new(alloc);
+    for piece in &pieces(alloc, sig, place)? {
+        push_entry(alloc, sig, place, piece, false, &mut found)?;
+        push_entry(alloc, sig, place, piece, true, &mut found)?;
+    }
+    Ok(found)
+}

@@ -1,0 +1,22 @@
+//! One-to-one matching: what one rule admits on one subject, each substitution once, ascending by least take table.
+#![tactic(auto)]
+
+mod bind;
+mod choices;
+mod found;
+mod held;
+mod item;
+mod lines;
+mod path;
+mod pieces;
+mod search;
+mod sound;
+mod stack;
+mod terms;
+#[cfg(test)]
+mod tests;
+mod value;
+
+pub use item::{Item, Items};
+pub use search::eager_list;
+pub use sound::is_sound;

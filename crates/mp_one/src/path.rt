@@ -1,0 +1,42 @@
+// The take table so far.
+ghost use Rattle.std.specs.Prelude.{◌≡◌, IfOk};
+ghost use Rattle.mp_pattern.specs.EntryView.{table_entry};
+ghost use Rattle.mp_one.specs.Stack.{entry_of};
+ghost use Rattle.mp_one.specs.Path.{table_of};
+
+use crate::stack;
+use crate::terms::copies;
+use mp_pattern::{Entries, Entry};
+use mp_term::Memory;
+use std::alloc::Global;
+
+/// The entries of the nodes that have taken, the last one first.
+#[derive(Drop)]
+pub enum Path<'a> {
+    Start,
+    Behind(&'a stack::Entry<'a>, &'a Path<'a>),
+}
+
+// The entry with terms of its own.
+fn own_entry(alloc: Global, entry: &stack::Entry<'_>) -> Result<Entry, Memory>
+    ensures { IfOk result (λ e. table_entry e ≡ entry_of entry.now) }
+{
+    Ok(Entry {
+        terms: copies(alloc, &entry.terms)?,
+        collapsed: entry.collapsed,
+    })
+}
+
+/// The entries in order, with terms of their own.
+pub fn own_table(alloc: Global, path: &Path<'_>) -> Result<Entries, Memory>
+    ensures { IfOk result (λ es. es ≡ table_of path.now) }
+{
+    match path {
+        Path::Start => Ok(Entries::new(alloc)),
+        Path::Behind(entry, before) => {
+            let mut table = own_table(alloc, before)?;
+            table.push(own_entry(alloc, entry)?)?;
+            Ok(table)
+        }
+    }
+}

@@ -1,0 +1,165 @@
+// What a child may take out of the terms that are left.
+ghost use Rattle.std.specs.Prelude.{◌≡◌, ◌-◌, ◌≤◌, ◌++◌, ◌∷◌, map, OnOk, IfOk, if◌then◌else◌};
+ghost use Rattle.mp_term.specs.View.{tree};
+ghost use Rattle.mp_term.specs.Order.{tree_cmp};
+ghost use Rattle.mp_theory.specs.Pieces as pieces;
+ghost use Rattle.mp_one.specs.Lists.{trees_of, lists_of, IsPlace};
+
+use crate::terms::{copied, push};
+use mp_term::{Memory, Term, compare};
+use std::alloc::Global;
+use std::cmp::Ordering;
+
+/// What stands behind the first term of the list that equals the given one.
+pub fn after<'s, 'a>(list: &'s [&'a Term], term: &Term) -> &'s [&'a Term]
+    ensures { trees_of result.now ≡ pieces.after tree_cmp (trees_of list.now) (tree term.now) }
+{
+    for (i, other) in list.iter().enumerate() {
+        if compare(other, term).is_eq() {
+            return &list[i + 1..];
+        }
+    }
+    &list[list.len()..]
+}
+
+/// The list without the terms, each taken out at its first place behind the one before.
+pub fn without<'a>(
+    alloc: Global,
+    terms: &[&Term],
+    list: &[&'a Term],
+) -> Result<Vec<&'a Term>, Memory>
+    ensures { IfOk result (λ v. trees_of v.items ≡ pieces.without tree_cmp (trees_of terms.now) (trees_of list.now)) }
+{
+    let mut rest = Vec::new(alloc);
+    let mut taken: usize = 0;
+    for term in list {
+        if taken < terms.len() && compare(term, terms[taken]).is_eq() {
+            taken += 1;
+        } else {
+            push(&mut rest, *term)?;
+        }
+    }
+    Ok(rest)
+}
+
+// The place of the term in an ascending list, unless it stands there.
+fn place_of(list: &[&Term], term: &Term) -> Option<usize>
+    ensures { IsPlace (tree term.now) (trees_of list.now) result }
+{
+    for (i, other) in list.iter().enumerate() {
+        match compare(term, other) {
+            Ordering::Less => return Some(i),
+            Ordering::Equal => return None,
+            Ordering::Greater => {}
+        }
+    }
+    Some(list.len())
+}
+
+fn insert_new<'a>(list: &mut Vec<&'a Term>, term: &'a Term) -> Result<(), Memory>
+    ensures { OnOk result (trees_of list.new.items ≡ pieces.insert_new tree_cmp (tree term.now) (trees_of list.old.items)) }
+{
+    match place_of(list, term) {
+        None => Ok(()),
+        Some(place) => match list.insert(place, term) {
+            Ok(()) => Ok(()),
+            Err(_) => Err(Memory),
+        },
+    }
+}
+
+// Each term once, ascending.
+fn distinct<'a>(alloc: Global, list: &[&'a Term]) -> Result<Vec<&'a Term>, Memory>
+    ensures { IfOk result (λ v. trees_of v.items ≡ pieces.distinct tree_cmp (trees_of list.now)) }
+{
+    let mut found = Vec::new(alloc);
+    for i in 0..list.len() {
+        insert_new(&mut found, list[list.len() - 1 - i])?;
+    }
+    Ok(found)
+}
+
+// The terms that a piece may begin with: anywhere in the list, or at its front.
+fn beginnings<'a>(alloc: Global, anywhere: bool, list: &[&'a Term]) -> Result<Vec<&'a Term>, Memory>
+    ensures { IfOk result (λ v. trees_of v.items ≡ (if anywhere then pieces.distinct tree_cmp (trees_of list.now) else pieces.first tree_cmp (trees_of list.now))) }
+{
+    if anywhere {
+        return distinct(alloc, list);
+    }
+    match list {
+        [] => Ok(Vec::new(alloc)),
+        [first, ..] => copied(alloc, &[*first]),
+    }
+}
+
+// The list with the term in front.
+fn behind<'a>(alloc: Global, first: &'a Term, rest: &[&'a Term]) -> Result<Vec<&'a Term>, Memory>
+    ensures { IfOk result (λ v. trees_of v.items ≡ tree first.now ∷ trees_of rest.now) }
+{
+    let mut piece = copied(alloc, &[first])?;
+    match piece.extend_from_slice(rest) {
+        Ok(()) => Ok(piece),
+        Err(_) => Err(Memory),
+    }
+}
+
+// Adds each of the lists with the term in front.
+fn push_behind<'a>(
+    alloc: Global,
+    all: &mut Vec<Vec<&'a Term>>,
+    first: &'a Term,
+    rests: &[Vec<&'a Term>],
+) -> Result<(), Memory>
+    ensures { OnOk result (lists_of all.new.items ≡ lists_of all.old.items ++ map (λ w. tree first.now ∷ w) (lists_of rests.now)) }
+{
+    for rest in rests {
+        push(all, behind(alloc, first, rest)?)?;
+    }
+    Ok(())
+}
+
+// The pieces of that many terms, ascending.
+fn pieces_of<'a>(
+    alloc: Global,
+    anywhere: bool,
+    length: usize,
+    list: &[&'a Term],
+) -> Result<Vec<Vec<&'a Term>>, Memory>
+    ensures { IfOk result (λ v. lists_of v.items ≡ pieces.pieces_of tree_cmp anywhere length (trees_of list.now)) }
+{
+    let mut all = Vec::new(alloc);
+    if list.len() < length {
+        return Ok(all);
+    }
+    if length == 0 {
+        push(&mut all, Vec::new(alloc))?;
+        return Ok(all);
+    }
+    for first in &beginnings(alloc, anywhere, list)? {
+        let rests = pieces_of(alloc, anywhere, length - 1, after(list, first))?;
+        push_behind(alloc, &mut all, *first, &rests)?;
+    }
+    Ok(all)
+}
+
+/// The pieces of at least and at most so many terms, by shortlex: sublists, or prefixes.
+pub fn pieces_between<'a>(
+    alloc: Global,
+    anywhere: bool,
+    least: usize,
+    most: usize,
+    list: &[&'a Term],
+) -> Result<Vec<Vec<&'a Term>>, Memory>
+    requires { least ≤ most }
+    ensures { IfOk result (λ v. lists_of v.items ≡ pieces.pieces_among tree_cmp anywhere (pieces.count_to least (most - least)) (trees_of list.now)) }
+{
+    let mut all = Vec::new(alloc);
+    for length in least..=most {
+        let mut some = pieces_of(alloc, anywhere, length, list)?;
+        match all.append(&mut some) {
+            Ok(()) => {}
+            Err(_) => return Err(Memory),
+        }
+    }
+    Ok(all)
+}

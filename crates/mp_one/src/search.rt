@@ -1,0 +1,153 @@
+// The search for items: entry by entry, in the order of the take tables.
+ghost use Rattle.std.specs.Prelude.{◌≡◌, ◌∷◌, [], ◌++◌, OnOk, IfOk, None};
+ghost use Rattle.mp_term.specs.View.{tree};
+ghost use Rattle.mp_term.specs.Normal.{IsNormal};
+ghost use Rattle.mp_pattern.specs.View.{pattern_tree};
+ghost use Rattle.mp_pattern.specs.RuleView.{rule_tree};
+ghost use Rattle.mp_pattern.specs.Firsts as firsts;
+ghost use Rattle.mp_pattern.specs.Lists.{IsOneList};
+ghost use Rattle.mp_theory.specs.Sound.{IsSound};
+ghost use Rattle.mp_theory.specs.Frames as walk;
+ghost use Rattle.mp_theory.specs.Machine as machine;
+ghost use Rattle.mp_theory.specs.Trail as trails;
+ghost use Rattle.mp_theory.specs.OneList as one;
+ghost use Rattle.mp_one.specs.Stack.{frame_of, stack_frames, child_of, entry_of, entries_left, entries_behind};
+ghost use Rattle.mp_one.specs.Trail.{trail_of};
+ghost use Rattle.mp_one.specs.Path.{table_of};
+
+use crate::bind::{Bound, Extended, extend};
+use crate::choices::choices;
+use crate::found::add_new;
+use crate::item::Items;
+use crate::path::Path;
+use crate::stack::{Entry, Frame, Next, Place, Stack, entered, settle, taken_out};
+use crate::terms::copied;
+use mp_pattern::{Pattern, Rule};
+use mp_term::{Memory, Signature, Term};
+use std::alloc::Global;
+use std::slice;
+
+// Goes on behind the entry.
+#[cycle(search)]
+fn descend<'a>(
+    alloc: Global,
+    sig: &Signature,
+    place: &Place<'a>,
+    entry: &Entry<'a>,
+    trail: &[Bound<'a>],
+    path: &'a Path<'a>,
+    found: &mut Items,
+) -> Result<(), Memory>
+    ensures { OnOk result (found.new ≡ firsts.firsts_after one.same_item found.old (trails.derivations sig.now (entries_behind place.now) (machine.onward (child_of place.now) (entry_of entry.now)) (table_of path.now ++ entry_of entry.now ∷ []) (trail_of trail.now))) }
+{
+    let rest = Stack::Within(taken_out(alloc, place, entry)?, place.outer);
+    let behind = Path::Behind(entry, path);
+    match place.child {
+        Pattern::App(op, children) => {
+            let inner = Stack::Within(entered(alloc, *op, children, entry)?, &rest);
+            search(alloc, sig, &inner, &*trail, &behind, found)
+        }
+        _ => search(alloc, sig, &rest, &*trail, &behind, found),
+    }
+}
+
+// Binds what the entry says, and goes on behind it.
+#[cycle(search)]
+fn follow<'a>(
+    alloc: Global,
+    sig: &Signature,
+    place: &Place<'a>,
+    entry: &Entry<'a>,
+    trail: &[Bound<'a>],
+    path: &'a Path<'a>,
+    found: &mut Items,
+) -> Result<(), Memory>
+    ensures { OnOk result (found.new ≡ firsts.firsts_after one.same_item found.old (trails.derivations_by sig.now (entries_behind place.now) (child_of place.now) (table_of path.now) (trail_of trail.now) (entry_of entry.now))) }
+{
+    match extend(alloc, sig, place, entry, trail)? {
+        Extended::Clash => Ok(()),
+        Extended::Same => descend(alloc, sig, place, entry, trail, path, found),
+        Extended::Changed(after) => descend(alloc, sig, place, entry, &after, path, found),
+    }
+}
+
+// Adds what is found from the stack on, where the trail has been bound.
+#[cycle(search)]
+fn search<'a>(
+    alloc: Global,
+    sig: &Signature,
+    stack: &'a Stack<'a>,
+    trail: &'a [Bound<'a>],
+    path: &'a Path<'a>,
+    found: &mut Items,
+) -> Result<(), Memory>
+    ensures { OnOk result (found.new ≡ firsts.firsts_after one.same_item found.old (trails.derivations sig.now (entries_left (stack_frames stack.now)) (walk.settle (stack_frames stack.now)) (table_of path.now) (trail_of trail.now))) }
+{
+    match settle(stack) {
+        Next::Ended => add_new(alloc, path, trail, found),
+        Next::Refused => Ok(()),
+        Next::Child(place) => {
+            for entry in &choices(alloc, sig, &place)? {
+                follow(alloc, sig, &place, entry, trail, path, found)?;
+            }
+            Ok(())
+        }
+    }
+}
+
+// What the pattern is to take.
+fn root_frame<'a>(
+    alloc: Global,
+    pattern: &'a Pattern,
+    subject: &'a Term,
+) -> Result<Frame<'a>, Memory>
+    ensures { IfOk result (λ f. frame_of f ∷ [] ≡ walk.start (pattern_tree pattern.now) (tree subject.now)) }
+{
+    Ok(Frame {
+        under: None,
+        children: slice::from_ref(pattern),
+        left: copied(alloc, &[subject])?,
+        owes: false,
+    })
+}
+
+// Adds what is found from the frame on.
+fn search_from(
+    alloc: Global,
+    sig: &Signature,
+    frame: Frame<'_>,
+    found: &mut Items,
+) -> Result<(), Memory>
+    ensures { OnOk result (found.new ≡ firsts.firsts_after one.same_item found.old (trails.derivations sig.now (entries_left (frame_of frame.entry ∷ [])) (walk.settle (frame_of frame.entry ∷ [])) [] [])) }
+{
+    let root = Stack::Root;
+    let start = Path::Start;
+    search(alloc, sig, &Stack::Within(frame, &root), &[], &start, found)
+}
+
+/// The one-list of a rule and a subject: the substitutions that the rule admits, each once, strictly ascending by least take table,
+/// and with each its least take table. It is `item_list` of mp_theory's `specs/OneList.antt`, whose substitutions are the list that
+/// `IsOneList` of mp_pattern's `specs/Lists.antt` describes.
+///
+/// The pattern is taken as it stands, with whatever operations and wildcards it has; its defaults are normal, as `is_sound` tells, and so is
+/// the subject. The rule has no condition.
+///
+/// `Memory`: memory ran out, and nothing is left. The call takes as long as the whole list, which can grow exponentially in the subject.
+pub fn eager_list(
+    alloc: Global,
+    sig: &Signature,
+    rule: &Rule,
+    subject: &Term,
+) -> Result<Items, Memory>
+    requires sound { IsSound sig.now (pattern_tree rule.now.pattern) }
+    requires unconditional { (rule_tree rule.now).condition ≡ None }
+    requires normal { IsNormal sig.now (tree subject.now) }
+    ensures list { IfOk result (λ is. is ≡ one.item_list sig.now (rule_tree rule.now) (tree subject.now)) }
+    ensures items { IfOk result (λ is. one.AreItems sig.now (rule_tree rule.now) (tree subject.now) is) }
+    ensures substs { IfOk result (λ is. one.item_substs is ≡ one.one_list sig.now (rule_tree rule.now) (tree subject.now)) }
+    ensures exact { IfOk result (λ is. IsOneList sig.now (rule_tree rule.now) (tree subject.now) (one.item_substs is)) }
+{
+    let mut found = Items::new(alloc);
+    search_from(alloc, sig, root_frame(alloc, &rule.pattern, subject)?, &mut found)?;
+    Ok(found)
+}

@@ -1,0 +1,45 @@
+// Substitutions of their own, as they are answered.
+ghost use Rattle.std.specs.Prelude.{◌≡◌, IfOk};
+ghost use Rattle.mp_subst.specs.View.{value_of, subst_of};
+ghost use Rattle.mp_one.specs.Held.{held_value};
+ghost use Rattle.mp_one.specs.Trail.{trail_of};
+
+use crate::bind::Bound;
+use crate::held::Held;
+use crate::terms::copies;
+use mp_subst::{Binding, Bindings, Subst, Value};
+use mp_term::{Memory, Name, Term, copy_term};
+use std::alloc::Global;
+
+fn own_value(alloc: Global, held: &Held<'_>) -> Result<Value, Memory>
+    ensures { IfOk result (λ v. value_of v ≡ held_value held.now) }
+{
+    match held {
+        Held::Whole(term) => Ok(Value::One(copy_term(alloc, term)?)),
+        Held::Joined(op, terms) => Ok(Value::One(Term::App(*op, copies(alloc, terms)?))),
+        Held::Seq(terms) => Ok(Value::Seq(copies(alloc, terms)?)),
+        Held::Bag(terms) => Ok(Value::Bag(copies(alloc, terms)?)),
+    }
+}
+
+fn own_name(alloc: Global, name: &Name) -> Result<Name, Memory>
+    ensures { IfOk result (λ n. n ≡ name.now) }
+{
+    match Name::new(alloc, name.bytes()) {
+        Ok(copy) => Ok(copy),
+        Err(_) => Err(Memory),
+    }
+}
+
+/// The substitution with terms of its own.
+pub fn own_subst(alloc: Global, trail: &[Bound<'_>]) -> Result<Subst, Memory>
+    ensures { IfOk result (λ s. subst_of s ≡ trail_of trail.now) }
+{
+    let mut bindings = Bindings::new(alloc);
+    for bound in trail {
+        let name = own_name(alloc, bound.name)?;
+        let value = own_value(alloc, &bound.value)?;
+        bindings.push(Binding { name, value })?;
+    }
+    Ok(Subst { bindings })
+}

@@ -1,0 +1,217 @@
+-- What statements without faults give: declarations in order, and rules and subjects of which a fact holds.
+use Rattle.std.proofs.Common.{◌≡◌, ◌≢◌, ◌≤◌, ◌<◌, Bool, false, leb, ltb, List, [], ◌∷◌, ◌++◌, map, length, Option, Some, None, refl, sym, subst, ◌∙◌, arith, append-nil, append_assoc, rules}
+use Rattle.std.specs.Prelude.{option_map, flat_map}
+use Rattle.std.specs.List.{list_any, AllByRecursion}
+use Rattle.std.specs.Str.{bytes_eq}
+use Rattle.std.proofs.lemmas.List.{length-map}
+use Rattle.mp_term.specs.declared.signature.OpDecl.{OpDecl}
+use Rattle.mp_term.specs.Signature.{Sig, Kind, has_name, has_sign, shares_sign, clashes, op_fault, kind_fault, kind_names, IsSignature}
+use Rattle.mp_term.proofs.NameSets.{names_ascend-name_set}
+use Rattle.mp_term.proofs.SignatureLaws.{IsSignature-add_op, IsSignature-add_kind}
+use Rattle.mp_pattern.specs.Admission.{Rule}
+use Rattle.mp_pattern.proofs.SortedLaws.{all-append}
+use Rattle.mp_syntax.specs.Syntax.{Spot, Tree, Flag, Assoc, Comm, One, Infixed, Statement, OpOf, KindOf, RuleOf, SubjectOf, Fits, FitsStatement, AreStatements, IsName, HasNames, HaveSigns, AreNames, StatementHasNames, StatementsHaveNames}
+use Rattle.mp_text.specs.declared.fault.TextFault.{TextFault}
+use Rattle.mp_text.specs.Subject.{Subject}
+use Rattle.mp_text.specs.Build.{op_decl, op_decls, kind_decl, kind_decls, sig_with, rule_of, rules_of, subject_of, subjects_of}
+use Rattle.mp_text.specs.Checks.{fault_if, is_large_pattern, is_large_term, symbol_faults, term_faults, pattern_faults, name_faults, has_bad_flags, held_sign_faults, op_faults, kind_faults, op_statement_faults, kind_statement_faults, statement_faults, faults_by}
+use Rattle.mp_text.specs.Flags.{sign_spot, is_long_sign}
+use Rattle.mp_text.specs.Names.{rule_names, subject_names, number_of}
+use Rattle.mp_text.specs.Spelled.{piece}
+use Rattle.mp_text.proofs.Declared.{is_among-has_name, is_among-list_any, op_decls-append, op_decls-other, kind_decls-append, kind_decls-other, rules_of-append, subjects_of-append}
+use Rattle.mp_text.proofs.Faultless.{nil-append, nil-fault_if, or-second, within}
+use Rattle.mp_text.proofs.OpLaws.{declarable-op_faults}
+use Rattle.mp_text.proofs.SoundLaws.{named-by}
+use Rattle.mp_text.proofs.SpelledHead.{IsSomeSign, IsSymbolOf, IsSymbolOf-symbol_faults}
+use Rattle.mp_text.proofs.SpelledDeclarations.{IsDeclaredOp, IsDeclaredKind, all-name_set, some-name_set, length-name_set-le}
+
+-- ---- statement by statement
+
+-- a statement as the grammar has it: its words are names, its signs are signs, and it fits
+pub record IsRead (s : Statement) : Type 0 where
+  pub names : StatementHasNames s
+  pub fits : FitsStatement s
+
+-- each statement is so where their words are names and they fit
+pub all-IsRead : (ss : List Statement) → StatementsHaveNames ss → AreStatements ss → AllByRecursion IsRead ss
+all-IsRead [] names fits = tt
+all-IsRead (s ∷ ss) names fits = (record { names = names.0; fits = fits.0 }, all-IsRead ss names.1 fits.1)
+
+-- what a statement without faults keeps, and holds before the statements, holds behind them
+module _ (rule : List Statement → Statement → List TextFault) (I : List Statement → Type 0) (step : (earlier : List Statement) (s : Statement) → IsRead s → rule earlier s ≡ [] → I earlier → I (earlier ++ s ∷ [])) where
+  pub holds-behind : (earlier ss : List Statement) → AllByRecursion IsRead ss → faults_by rule earlier ss ≡ [] → I earlier → I (earlier ++ ss)
+  holds-behind earlier [] read h i = subst I (sym (append-nil earlier)) i
+  holds-behind earlier (s ∷ ss) read h i =
+      let p = nil-append (rule earlier s) (faults_by rule (earlier ++ s ∷ []) ss) h in
+      subst I (append_assoc earlier (s ∷ []) ss) (holds-behind (earlier ++ s ∷ []) ss read.1 p.1 (step earlier s read.0 p.0 i))
+
+-- ---- operations
+
+-- no operation shares a sign that isn't there
+no-sign : (ds : List OpDecl) → list_any (shares_sign None) ds ≡ false
+no-sign [] = refl
+no-sign (d ∷ ds) = no-sign ds
+
+other-sign : (ds : List OpDecl) (sign : Option Spot) → held_sign_faults ds sign ≡ [] → list_any (shares_sign (option_map (λ s. s.text) sign)) ds ≡ false
+other-sign ds None h = no-sign ds
+other-sign ds (Some sign) h = nil-fault_if (list_any (has_sign sign.text) ds) _ sign.place h
+
+-- an operation clashes with none of those that have neither its name nor its sign
+none-clashes : (d : OpDecl) (ds : List OpDecl) → list_any (has_name d.name) ds ≡ false → list_any (shares_sign d.sign) ds ≡ false → list_any (clashes d) ds ≡ false
+none-clashes d [] h k = refl
+none-clashes d (e ∷ ds) h k =
+    let o = or-second (has_name d.name e) (list_any (has_name d.name) ds) h in
+    let p = or-second (shares_sign d.sign e) (list_any (shares_sign d.sign) ds) k in
+    rw (o.0, p.0) (none-clashes d ds o.1 p.1)
+
+-- an operation whose declaration has no faults may be added
+op_fault-op_faults : (ds : List OpDecl) (name least : Spot) (more : Bool) (flags : List Flag) → op_faults ds name least more flags ≡ [] → op_fault (sig_with ds []) (op_decl name least more flags) ≡ None
+op_fault-op_faults ds name least more flags h =
+    let d = op_decl name least more flags in
+    let names = name_faults 256 (map (λ d. d.name) ds) false name in
+    let bad = fault_if (has_bad_flags name least more flags) _ name.place in
+    let large = fault_if (ltb 1000 (number_of least.text)) _ least.place in
+    let signs = held_sign_faults ds (sign_spot flags) in
+    let p = nil-append names (bad ++ (large ++ signs)) h in
+    let q = nil-append large signs (nil-append bad (large ++ signs) p.1).1 in
+    let n = named-by 256 (map (λ d. d.name) ds) false name p.0 in
+    let apart : list_any (clashes d) ds ≡ false = none-clashes d ds (is_among-has_name name.text ds ∙ n.other) (other-sign ds (sign_spot flags) q.1) in
+    let few : length ds < 256 = omega (arith, n.few, length-map ds (λ d. d.name)) in
+    let room : leb 256 (length ds) ≡ false = search (rules, few) in
+    rw (apart, room, (declarable-op_faults ds name least more flags h).ordered) refl
+
+sign-of : (flags : List Flag) → HaveSigns flags → IsSomeSign (option_map (λ s. s.text) (sign_spot flags))
+sign-of [] h = tt
+sign-of (Assoc ∷ flags) h = sign-of flags h.1
+sign-of (Comm ∷ flags) h = sign-of flags h.1
+sign-of (One ∷ flags) h = sign-of flags h.1
+sign-of (Infixed sign ∷ flags) h = h.0
+
+short-sign : (sign : Option Spot) → is_long_sign (option_map piece (option_map (λ s. s.text) sign)) ≡ is_long_sign sign
+short-sign None = refl
+short-sign (Some sign) = refl
+
+-- operations that statements declare
+pub record AreDeclaredOps (ds : List OpDecl) : Type 0 where
+  pub signature : IsSignature (sig_with ds [])
+  pub each : AllByRecursion IsDeclaredOp ds
+
+declared-op : (ds : List OpDecl) (name least : Spot) (more : Bool) (flags : List Flag) → StatementHasNames (OpOf name least more flags) → op_faults ds name least more flags ≡ [] → AreDeclaredOps ds → AreDeclaredOps (ds ++ op_decl name least more flags ∷ [])
+declared-op ds name least more flags names h i =
+    let d = op_decl name least more flags in
+    let declarable = declarable-op_faults ds name least more flags h in
+    let own : IsDeclaredOp d = record {
+      names = record { name = names.0; sign = sign-of flags names.2 };
+      ordered = declarable.ordered;
+      small = declarable.small;
+      short = short-sign (sign_spot flags) ∙ declarable.short;
+    } in
+    record {
+      signature = IsSignature-add_op (sig_with ds []) d i.signature (op_fault-op_faults ds name least more flags h) declarable.small;
+      each = all-append IsDeclaredOp ds (d ∷ []) i.each (own, tt);
+    }
+
+declare-op : (earlier : List Statement) (s : Statement) → IsRead s → op_statement_faults earlier s ≡ [] → AreDeclaredOps (op_decls earlier) → AreDeclaredOps (op_decls (earlier ++ s ∷ []))
+declare-op earlier (OpOf name least more flags) read h i = subst AreDeclaredOps (sym (op_decls-append earlier (OpOf name least more flags ∷ []))) (declared-op (op_decls earlier) name least more flags read.names h i)
+declare-op earlier (KindOf name members) read h i = subst AreDeclaredOps (sym (op_decls-other earlier (KindOf name members) refl)) i
+declare-op earlier (RuleOf name p) read h i = subst AreDeclaredOps (sym (op_decls-other earlier (RuleOf name p) refl)) i
+declare-op earlier (SubjectOf name t) read h i = subst AreDeclaredOps (sym (op_decls-other earlier (SubjectOf name t) refl)) i
+
+-- the operations of statements without faults
+pub AreDeclaredOps-op_decls : (ss : List Statement) → AllByRecursion IsRead ss → faults_by op_statement_faults [] ss ≡ [] → AreDeclaredOps (op_decls ss)
+AreDeclaredOps-op_decls ss read h =
+    holds-behind op_statement_faults (λ ss. AreDeclaredOps (op_decls ss)) declare-op [] ss read h
+    (record {
+      signature = record { ops_in_order = refl; least_counts = refl; ops_distinct = refl; at_most_ops = omega arith; kinds_distinct = refl; at_most_kinds = omega arith; members_ascend = refl };
+      each = tt;
+    })
+
+-- ---- kinds
+
+-- members without faults are symbols
+symbols-of : (ds : List OpDecl) (ss : List Statement) (members : List Spot) → AreNames members → flat_map (symbol_faults (sig_with ds ss)) members ≡ [] → AllByRecursion (IsSymbolOf (sig_with ds [])) (map (λ m. m.text) members)
+symbols-of ds ss [] names h = tt
+symbols-of ds ss (m ∷ members) names h =
+    let p = nil-append (symbol_faults (sig_with ds ss) m) (flat_map (symbol_faults (sig_with ds ss)) members) h in
+    (IsSymbolOf-symbol_faults (sig_with ds []) m names.0 p.0, symbols-of ds ss members names.1 p.1)
+
+some-member : (members : List Spot) → members ≢ [] → 0 < length (map (λ m. m.text) members)
+some-member [] some = absurd (some refl)
+some-member (m ∷ members) some = omega arith
+
+module _ (ds : List OpDecl) where
+  abbrev with_kinds : List Kind → Sig
+  with_kinds ks = record { ops = ds; kinds = ks }
+
+  -- kinds that statements declare over the operations
+  pub record AreDeclaredKinds (ks : List Kind) : Type 0 where
+    pub signature : IsSignature (with_kinds ks)
+    pub each : AllByRecursion (IsDeclaredKind ds) ks
+
+  declared-kind : (earlier : List Statement) (name : Spot) (members : List Spot) → IsRead (KindOf name members) → kind_faults (sig_with ds earlier) name members ≡ [] → AreDeclaredKinds (kind_decls earlier) → AreDeclaredKinds (kind_decls earlier ++ kind_decl name members ∷ [])
+  declared-kind earlier name members read h i =
+      let sig = sig_with ds earlier in
+      let k = kind_decl name members in
+      let written = map (λ m. m.text) members in
+      let p = nil-append (name_faults 256 (kind_names sig) (ltb 10000 (length members)) name) (flat_map (symbol_faults sig) members) h in
+      let n = named-by 256 (kind_names sig) (ltb 10000 (length members)) name p.0 in
+      let room : leb 256 (length (kind_names sig)) ≡ false = search (rules, n.few) in
+      let new : list_any (bytes_eq name.text) (kind_names sig) ≡ false = is_among-list_any name.text (kind_names sig) ∙ n.other in
+      let addable : kind_fault sig name.text ≡ None = rw (new, room) refl in
+      let few : length members ≤ 10000 = within 10000 (length members) n.small in
+      let own : IsDeclaredKind ds k = record {
+        name = read.names.0;
+        members = all-name_set (IsSymbolOf (sig_with ds [])) written (symbols-of ds earlier members read.names.1 p.1);
+        ascend = names_ascend-name_set written;
+        some = some-name_set written (some-member members read.fits);
+        few = omega (arith, length-name_set-le written, length-map members (λ m. m.text), few);
+      } in
+      record {
+        signature = IsSignature-add_kind sig name.text written i.signature addable;
+        each = all-append (IsDeclaredKind ds) (kind_decls earlier) (k ∷ []) i.each (own, tt);
+      }
+
+  declare-kind : (earlier : List Statement) (s : Statement) → IsRead s → kind_statement_faults ds earlier s ≡ [] → AreDeclaredKinds (kind_decls earlier) → AreDeclaredKinds (kind_decls (earlier ++ s ∷ []))
+  declare-kind earlier (OpOf name least more flags) read h i = subst AreDeclaredKinds (sym (kind_decls-other earlier (OpOf name least more flags) refl)) i
+  declare-kind earlier (KindOf name members) read h i = subst AreDeclaredKinds (sym (kind_decls-append earlier (KindOf name members ∷ []))) (declared-kind earlier name members read h i)
+  declare-kind earlier (RuleOf name p) read h i = subst AreDeclaredKinds (sym (kind_decls-other earlier (RuleOf name p) refl)) i
+  declare-kind earlier (SubjectOf name t) read h i = subst AreDeclaredKinds (sym (kind_decls-other earlier (SubjectOf name t) refl)) i
+
+  -- the kinds of statements without faults
+  pub AreDeclaredKinds-kind_decls : (ss : List Statement) → AllByRecursion IsRead ss → faults_by (kind_statement_faults ds) [] ss ≡ [] → AreDeclaredOps ds → AreDeclaredKinds (kind_decls ss)
+  AreDeclaredKinds-kind_decls ss read h ops = holds-behind (kind_statement_faults ds) (λ ss. AreDeclaredKinds (kind_decls ss)) declare-kind [] ss read h (record { signature = ops.signature; each = tt })
+
+-- ---- rules and subjects
+
+module _ (sig : Sig) (R : Rule → Type 0) (S : Subject → Type 0)
+    (rule-of : (name : Spot) (p : Tree) → IsName name.text → HasNames p → Fits 100 p → pattern_faults sig p ≡ [] → R (rule_of sig name p))
+    (subject-of : (name : Spot) (t : Tree) → IsName name.text → HasNames t → term_faults sig t ≡ [] → S (subject_of sig name t))
+  where
+    -- rules and subjects of which the facts hold
+    record Hold (rules : List Rule) (subjects : List Subject) : Type 0 where
+      pub rules_hold : AllByRecursion R rules
+      pub subjects_hold : AllByRecursion S subjects
+
+    hold-statement : (earlier : List Statement) (s : Statement) → IsRead s → statement_faults sig earlier s ≡ [] → Hold (rules_of sig (s ∷ [])) (subjects_of sig (s ∷ []))
+    hold-statement earlier (OpOf name least more flags) read h = record { rules_hold = tt; subjects_hold = tt }
+    hold-statement earlier (KindOf name members) read h = record { rules_hold = tt; subjects_hold = tt }
+    hold-statement earlier (RuleOf name p) read h =
+        let q = nil-append (name_faults 1000 (rule_names earlier) (is_large_pattern p) name) (pattern_faults sig p) h in
+        record { rules_hold = (rule-of name p read.names.0 read.names.1 read.fits q.1, tt); subjects_hold = tt }
+    hold-statement earlier (SubjectOf name t) read h =
+        let q = nil-append (name_faults 1000 (subject_names earlier) (is_large_term t) name) (term_faults sig t) h in
+        record { rules_hold = tt; subjects_hold = (subject-of name t read.names.0 read.names.1 q.1, tt) }
+
+    hold-behind : (earlier : List Statement) (s : Statement) → IsRead s → statement_faults sig earlier s ≡ [] → Hold (rules_of sig earlier) (subjects_of sig earlier) → Hold (rules_of sig (earlier ++ s ∷ [])) (subjects_of sig (earlier ++ s ∷ []))
+    hold-behind earlier s read h i =
+        let own = hold-statement earlier s read h in
+        record {
+          rules_hold = subst (AllByRecursion R) (sym (rules_of-append sig earlier (s ∷ []))) (all-append R (rules_of sig earlier) (rules_of sig (s ∷ [])) i.rules_hold own.rules_hold);
+          subjects_hold = subst (AllByRecursion S) (sym (subjects_of-append sig earlier (s ∷ []))) (all-append S (subjects_of sig earlier) (subjects_of sig (s ∷ [])) i.subjects_hold own.subjects_hold);
+        }
+
+    -- the facts hold of the rules and subjects of statements without faults
+    pub all-rules_of : (ss : List Statement) → AllByRecursion IsRead ss → faults_by (statement_faults sig) [] ss ≡ [] → AllByRecursion R (rules_of sig ss) × AllByRecursion S (subjects_of sig ss)
+    all-rules_of ss read h =
+        let all = holds-behind (statement_faults sig) (λ ss. Hold (rules_of sig ss) (subjects_of sig ss)) hold-behind [] ss read h (record { rules_hold = tt; subjects_hold = tt }) in
+        (all.rules_hold, all.subjects_hold)
