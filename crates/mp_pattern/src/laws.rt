@@ -15,6 +15,7 @@ ghost use Rattle.mp_pattern.specs.Normal.{normal_pattern, IsNormalPattern};
 ghost use Rattle.mp_pattern.specs.Subpatterns.{subpatterns};
 ghost use Rattle.mp_pattern.specs.Ground.{term_pattern};
 ghost use Rattle.mp_pattern.specs.Variables.{uses, variables};
+ghost use Rattle.mp_pattern.specs.Plan.{Plan, IsPlanOf};
 
 /// The pattern order is total, and equal patterns alone are equal in it.
 pub fn pattern_order_is_total()
@@ -49,4 +50,9 @@ pub fn ground_patterns_are_terms()
     ensures terms { (p : Pattern) → (is_ground p ≡ true) ↔ ((t : Tree) × (p ≡ term_pattern t)) }
     ensures order { (t u : Tree) → pattern_cmp (term_pattern t) (term_pattern u) ≡ tree_cmp t u }
     ensures normal { (sig : Sig) (t : Tree) → normal_pattern sig (term_pattern t) ≡ term_pattern (normal sig t) }
+{}
+
+/// A plan has one pattern, over whatever signature.
+pub fn a_plan_has_one_pattern()
+    ensures { (sig other : Sig) (p q : Pattern) (plan : Plan) → IsPlanOf sig p plan → IsPlanOf other q plan → p ≡ q }
 {}
