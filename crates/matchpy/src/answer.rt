@@ -48,12 +48,7 @@ fn load<'a, S: Shelf>(
 }
 
 // Does what the request asks for, over the bytes of its file.
-fn act<'a, O: Sink>(
-    alloc: Global,
-    request: Request<'a>,
-    bytes: &[u8],
-    out: &mut O,
-) -> Ending<'a>
+fn act<'a, O: Sink>(alloc: Global, request: Request<'a>, bytes: &[u8], out: &mut O) -> Ending<'a>
     requires { length bytes.now ≤ file_limit }
     ensures acts { Acts (outcome_over (asked request.entry) bytes.now) (record { old = O.contents out.old; new = O.contents out.new; faults = O.faults out.old; faults_after = O.faults out.new }) result }
     ensures used { status_of result ≡ 2 → ⊥ }

@@ -14,12 +14,7 @@ use std::alloc::Global;
 ///
 /// The ending is that of `show_outcome` of `specs/Outcome.antt`, or want of memory, or a write that failed; a front
 /// of its text was written then. The name is said of a fault of the text.
-pub fn show_file<'a, O: Sink>(
-    alloc: Global,
-    name: &'a str,
-    bytes: &[u8],
-    out: &mut O,
-) -> Ending<'a>
+pub fn show_file<'a, O: Sink>(alloc: Global, name: &'a str, bytes: &[u8], out: &mut O) -> Ending<'a>
     requires { length bytes.now ≤ file_limit }
     ensures acts { Acts (show_outcome name.entry.now bytes.now) (record { old = O.contents out.old; new = O.contents out.new; faults = O.faults out.old; faults_after = O.faults out.new }) result }
     ensures used { status_of result ≡ 2 → ⊥ }

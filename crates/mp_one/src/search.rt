@@ -148,6 +148,11 @@ pub fn eager_list(
     ensures exact { IfOk result (λ is. IsOneList sig.now (rule_tree rule.now) (tree subject.now) (one.item_substs is)) }
 {
     let mut found = Items::new(alloc);
-    search_from(alloc, sig, root_frame(alloc, &rule.pattern, subject)?, &mut found)?;
+    search_from(
+        alloc,
+        sig,
+        root_frame(alloc, &rule.pattern, subject)?,
+        &mut found,
+    )?;
     Ok(found)
 }

@@ -237,12 +237,7 @@ fn write_substs(sig: &Signature, items: &[Item], out: &mut Vec<u8>) -> Result<()
 }
 
 // What a rule with the pattern admits on the subject.
-fn items(
-    alloc: Global,
-    sig: &Signature,
-    patterns: &str,
-    terms: &str,
-) -> Result<Items, Memory> {
+fn items(alloc: Global, sig: &Signature, patterns: &str, terms: &str) -> Result<Items, Memory> {
     let rule = Rule {
         name: name(alloc, b'r')?,
         pattern: pattern(alloc, sig, patterns)?,
@@ -264,7 +259,11 @@ fn admitted(
     terms: &str,
 ) -> Result<Vec<u8>, Memory> {
     let mut out = Vec::new(alloc);
-    write_substs(sig, items(alloc, sig, patterns, terms)?.as_slice(), &mut out)?;
+    write_substs(
+        sig,
+        items(alloc, sig, patterns, terms)?.as_slice(),
+        &mut out,
+    )?;
     Ok(out)
 }
 
@@ -281,11 +280,7 @@ fn patterns_admit_the_listed_substitutions(rt: HostRuntime) -> Result<(), Fail> 
             "a b c p/3",
             b"x -> a, y -> p(b, c)\nx -> p(a, b), y -> c\n",
         ),
-        (
-            "x_ y_ s/2",
-            "a b s/2",
-            b"x -> a, y -> b\nx -> b, y -> a\n",
-        ),
+        ("x_ y_ s/2", "a b s/2", b"x -> a, y -> b\nx -> b, y -> a\n"),
         // Equal arguments are one choice.
         (
             "x__ y___ s/2",
@@ -293,11 +288,7 @@ fn patterns_admit_the_listed_substitutions(rt: HostRuntime) -> Result<(), Fail> 
             b"x -> {a}, y -> {a}\nx -> {a, a}, y -> {}\n",
         ),
         // Each substitution stands once.
-        (
-            "x_ _ __ s/3",
-            "a b c s/3",
-            b"x -> a\nx -> b\nx -> c\n",
-        ),
+        ("x_ _ __ s/3", "a b c s/3", b"x -> a\nx -> b\nx -> c\n"),
         ("x_ y_:0 u/2", "a", b"x -> a, y -> 0\n"),
         ("x_:0 y_:0 u/2", "0", b"x -> 0, y -> 0\n"),
         // A multiset that is met first becomes the tuple that is met later.
@@ -317,11 +308,7 @@ fn patterns_admit_the_listed_substitutions(rt: HostRuntime) -> Result<(), Fail> 
             "a d k/2 b c k/2 s/2",
             b"x -> a, y -> d, z -> k(b, c)\nx -> d, y -> a, z -> k(b, c)\nx -> b, y -> c, z -> k(a, d)\nx -> c, y -> b, z -> k(a, d)\n",
         ),
-        (
-            "x_v n_n f/2",
-            "b 7 f/2",
-            b"x -> b, n -> 7\n",
-        ),
+        ("x_v n_n f/2", "b 7 f/2", b"x -> b, n -> 7\n"),
         ("x_v n_n f/2", "c 7 f/2", b""),
         // A product without a factor counts once.
         (
@@ -351,6 +338,9 @@ fn each_item_has_its_least_table(rt: HostRuntime) -> Result<(), Fail> {
     for entry in item.takes.as_slice() {
         counts.push((entry.terms.len(), entry.collapsed))?;
     }
-    assert_eq!(rt; counts.as_slice(), [(1, true), (1, false), (0, false)].as_slice());
+    assert_eq!(rt;
+        counts.as_slice(),
+        [(1, true), (1, false), (0, false)].as_slice()
+    );
     Ok(())
 }

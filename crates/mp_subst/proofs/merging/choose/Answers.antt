@@ -2,7 +2,6 @@ use Rattle.std.proofs.Common.{◌≡◌, false, refl, ap, sym, ◌∙◌, subst}
 use Rattle.std.specs.Prelude.{if◌then◌else◌}
 use Rattle.std.specs.Ordering.{is_eq}
 use Rattle.mp_term.specs.declared.term.Terms.{Terms}
-use Rattle.mp_pattern.specs.Lists.{value_cmp}
 use Rattle.mp_subst.specs.declared.merging.Choice.TheVariants.{Old, Neither}
 use Rattle.mp_subst.specs.declared.value.Value.{Value}
 use Rattle.mp_subst.specs.declared.value.Value.TheVariants.{One, Seq, Bag}

@@ -1,4 +1,4 @@
-use Rattle.std.proofs.Common.{◌∙◌, ap, sym}
+use Rattle.std.proofs.Common.{◌∙◌, sym}
 use Rattle.std.specs.Cmp.Derive.Mapped.{lex_map}
 use Rattle.mp_term.specs.View.{tree}
 use Rattle.mp_term.specs.Order.{tree_cmp}
