@@ -13,6 +13,7 @@ ghost use Rattle.mp_pattern.specs.Size.{pattern_nodes};
 ghost use Rattle.mp_pattern.specs.Order.{is_ground, pattern_cmp};
 ghost use Rattle.mp_pattern.specs.Normal.{normal_pattern, IsNormalPattern};
 ghost use Rattle.mp_pattern.specs.Subpatterns.{subpatterns};
+ghost use Rattle.mp_pattern.specs.Clash.{first_clash};
 ghost use Rattle.mp_pattern.specs.Ground.{term_pattern};
 ghost use Rattle.mp_pattern.specs.Variables.{uses, variables};
 ghost use Rattle.mp_pattern.specs.Plan.{Plan, IsPlanOf};
@@ -38,6 +39,11 @@ pub fn normal_pattern_keeps_variables()
     ensures names { (sig : Sig) (p : Pattern) →
         IsPermutation (map (λ u. u.name) (uses None p)) (map (λ u. u.name) (uses None (normal_pattern sig p))) }
     ensures variables { (sig : Sig) (p : Pattern) → IsPermutation (variables p) (variables (normal_pattern sig p)) }
+{}
+
+/// The normal form of a pattern in which no two wildcards of one variable differ has none that differ either.
+pub fn normal_pattern_keeps_no_clash()
+    ensures { (sig : Sig) (p : Pattern) → first_clash p ≡ None → first_clash (normal_pattern sig p) ≡ None }
 {}
 
 /// Each subpattern of a normal pattern is normal.

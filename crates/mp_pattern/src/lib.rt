@@ -27,8 +27,8 @@ pub use copy::{copy_cond, copy_pattern};
 pub use entry::{Entries, Entry, Form};
 pub use laws::{
     a_plan_has_one_pattern, ground_patterns_are_terms, normal_pattern_is_idempotent,
-    normal_pattern_is_no_larger, normal_pattern_keeps_variables, pattern_order_is_total,
-    subpatterns_are_normal,
+    normal_pattern_is_no_larger, normal_pattern_keeps_no_clash, normal_pattern_keeps_variables,
+    pattern_order_is_total, subpatterns_are_normal,
 };
 pub use named::is_fully_named;
 pub use normal::normalise_pattern;

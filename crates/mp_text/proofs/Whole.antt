@@ -4,7 +4,6 @@ use Rattle.std.specs.Prelude.{◌↔◌, ◌⊎◌, option_and_then, if◌then�
 use Rattle.mp_syntax.specs.declared.fault.Fault.{Fault}
 use Rattle.mp_syntax.specs.Syntax.{Statement, IsSyntaxOf}
 use Rattle.mp_syntax.specs.Reading.{reading, syntax_of}
-use Rattle.mp_syntax.proofs.Found.{read_ok}
 use Rattle.mp_syntax.proofs.Whole.{syntax_of-exact, reading-found, reading-only}
 use Rattle.mp_text.specs.declared.fault.TextFault.{TextFault}
 use Rattle.mp_text.specs.declared.fault.TextError.{TextError}
@@ -75,11 +74,14 @@ among-cases [] f t true m h = absurd (none_some t (sym (matched-among f m) ∙ h
 among-cases [] f t false m h = inr (refl, m, some_same t unread_fault (sym h ∙ unmatched-among f m))
 among-cases (x ∷ xs) f t matched m h = inl h
 
+abbrev ok_statements : List Statement → Result (List Statement) Fault
+ok_statements ss = Ok ss
+
 -- what is computed is the fault
 fault-is : (bytes : List ℕ) (r : Result (List Statement) Fault) (t : TextFault) → reading bytes ≡ r → fault_in r ≡ Some t → IsFaultOf bytes t
 fault-is bytes (Err f) t e h = inr (inl (λ ss k. ok_err ss f (sym (reading-only bytes ss k) ∙ e)), some_same t unread_fault (sym h))
   where
-    ok_err : (ss : List Statement) (f : Fault) → read_ok ss ≡ Err f → ⊥
+    ok_err : (ss : List Statement) (f : Fault) → ok_statements ss ≡ Err f → ⊥
     ok_err ss f e = cc
 fault-is bytes (Ok ss) t e h =
     let syntax = reading-found bytes ss e in

@@ -12,3 +12,4 @@ pub mod Printing
 pub mod PrintedFile
 pub mod Spelled
 pub mod Sound
+pub mod Alone

@@ -87,8 +87,8 @@ StatementsGive ss (Err (Text t)) = fault_among (faults ss) (file_tree_of ss) ≡
 StatementsGive ss (Err Memory) = Unit {0}
 
 -- a fact of the fault of a text
-abbrev pub IfText : Result code.File TextError → (TextFault → Type 0) → Type 0
-IfText (Ok f) P = Unit {0}
+abbrev pub IfText : {T : Type 0} → Result T TextError → (TextFault → Type 0) → Type 0
+IfText (Ok v) P = Unit {0}
 IfText (Err (Text t)) P = P t
 IfText (Err Memory) P = Unit {0}
 
@@ -99,8 +99,8 @@ IsFileOrMemory (Err (Text t)) P = ⊥
 IsFileOrMemory (Err Memory) P = Unit {0}
 
 -- a fault of which the fact holds, or memory ran out
-abbrev pub IsFaultOrMemory : Result code.File TextError → (TextFault → Type 0) → Type 0
-IsFaultOrMemory (Ok f) P = ⊥
+abbrev pub IsFaultOrMemory : {T : Type 0} → Result T TextError → (TextFault → Type 0) → Type 0
+IsFaultOrMemory (Ok v) P = ⊥
 IsFaultOrMemory (Err (Text t)) P = P t
 IsFaultOrMemory (Err Memory) P = Unit {0}
 

@@ -1,7 +1,7 @@
 //! Which patterns are matched.
 
-ghost use Rattle.std.specs.Prelude.{◌≡◌, ◌||◌, map};
-ghost use Rattle.mp_term.specs.Signature.{is_assoc, is_comm};
+ghost use Rattle.std.specs.Prelude.{◌≡◌, map};
+ghost use Rattle.mp_term.specs.Signature.{is_comm};
 ghost use Rattle.mp_pattern.specs.PatternTree.{patterns};
 ghost use Rattle.mp_pattern.specs.View.{pattern_tree};
 ghost use Rattle.mp_text.specs.File.{file_tree};
@@ -11,17 +11,17 @@ use crate::file::File;
 use mp_pattern::Pattern;
 use mp_term::{OpId, Signature};
 
-/// The operation is associative or commutative.
-fn is_assoc_or_comm(sig: &Signature, id: OpId) -> bool
-    ensures { result ≡ (is_assoc sig.now id.0 || is_comm sig.now id.0) }
+/// The operation is commutative.
+fn is_comm(sig: &Signature, id: OpId) -> bool
+    ensures { result ≡ is_comm sig.now id.0 }
 {
     match sig.op(id) {
         None => false,
-        Some(decl) => decl.assoc || decl.comm,
+        Some(decl) => decl.comm,
     }
 }
 
-/// No operation of the pattern is associative or commutative.
+/// No operation of the pattern is commutative.
 #[cycle(is_matched)]
 fn is_matched(sig: &Signature, pattern: &Pattern) -> bool
     ensures { result ≡ is_matched sig.now (pattern_tree pattern.now) }
@@ -29,7 +29,7 @@ fn is_matched(sig: &Signature, pattern: &Pattern) -> bool
     match pattern {
         Pattern::Sym(_) => true,
         Pattern::App(op, args) => {
-            if is_assoc_or_comm(sig, *op) {
+            if is_comm(sig, *op) {
                 return false;
             }
             all_matched(sig, args.as_slice())
@@ -38,7 +38,7 @@ fn is_matched(sig: &Signature, pattern: &Pattern) -> bool
     }
 }
 
-/// No operation of the patterns is associative or commutative.
+/// No operation of the patterns is commutative.
 #[cycle(is_matched)]
 fn all_matched(sig: &Signature, items: &[Pattern]) -> bool
     ensures { result ≡ all_matched sig.now (patterns (map pattern_tree items.now)) }

@@ -14,14 +14,14 @@ ghost use Rattle.mp_text.specs.declared.fault.TextFault as plain;
 ghost use Rattle.mp_text.specs.declared.fault.TextError.TheVariants.{Text};
 ghost use Rattle.mp_text.specs.Answers.{Gives};
 ghost use Rattle.mp_text.specs.Build.{pattern_of, term_of, sig_of, rule_of, rules_of, subject_of, subjects_of, file_over, file_tree_of};
-ghost use Rattle.mp_text.specs.Checks.{pattern_faults, term_faults, statement_faults, faults_by, faults};
+ghost use Rattle.mp_text.specs.Checks.{whole_pattern_faults, term_faults, statement_faults, faults_by, faults};
 ghost use Rattle.mp_text.specs.File.{FileTree, file_tree};
 ghost use Rattle.mp_text.specs.Matched.{is_matched_file};
 ghost use Rattle.mp_text.specs.Names.{is_among};
 ghost use Rattle.mp_text.specs.Sound.{IsSoundFile};
 ghost use Rattle.mp_text.specs.Reading.{IsFileOf, file_of, IsFaultOf, fault_of, unread_fault, StatementsGive, ReadGives, IfText, IsFileOrMemory, IsFaultOrMemory, IsComputed};
 
-use crate::build::{build_pattern, build_term, new_name};
+use crate::build::{build_term, new_name, whole_pattern};
 use crate::checks::{is_large_pattern, is_large_term};
 use crate::declare::{check_name, declare};
 use crate::fault::{TextError, TextFault, TextKind};
@@ -91,7 +91,7 @@ fn read(alloc: Global, bytes: &[u8]) -> Result<File, TextError>
 }
 
 /// The error for a text that isn't read in this version.
-fn unread() -> TextError
+pub(crate) fn unread() -> TextError
     ensures { result ≡ Text unread_fault }
 {
     TextError::Text(TextFault {
@@ -143,15 +143,19 @@ fn has_subject(subjects: &Subjects, name: &[u8]) -> bool
 /// The pattern of an expression in normal form, or its first fault.
 fn rule_pattern(alloc: Global, sig: &Signature, expr: &Expr<'_>) -> Result<Pattern, TextError>
     requires { HasNames (expr_tree expr.now) }
-    ensures { Gives result (pattern_faults sig.now (expr_tree expr.now)) (λ p. pattern_tree p ≡ normal_pattern sig.now (pattern_of sig.now (expr_tree expr.now))) }
+    ensures { Gives result (whole_pattern_faults sig.now (expr_tree expr.now)) (λ p. pattern_tree p ≡ normal_pattern sig.now (pattern_of sig.now (expr_tree expr.now))) }
 {
-    let pattern = build_pattern(alloc, sig, expr)?;
+    let pattern = whole_pattern(alloc, sig, expr)?;
     let pattern = normalise_pattern(alloc, sig, pattern)?;
     Ok(pattern)
 }
 
 /// The term of an expression in normal form, or its first fault.
-fn subject_term(alloc: Global, sig: &Signature, expr: &Expr<'_>) -> Result<Term, TextError>
+pub(crate) fn subject_term(
+    alloc: Global,
+    sig: &Signature,
+    expr: &Expr<'_>,
+) -> Result<Term, TextError>
     requires { HasNames (expr_tree expr.now) }
     ensures { Gives result (term_faults sig.now (expr_tree expr.now)) (λ t. tree t ≡ normal sig.now (term_of sig.now (expr_tree expr.now))) }
 {
