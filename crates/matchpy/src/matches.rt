@@ -11,7 +11,7 @@ ghost use Rattle.matchpy.specs.Endings.{status_of};
 ghost use Rattle.matchpy.specs.Printed.{PrintsMatches};
 ghost use Rattle.matchpy.specs.Matches.{IsMatchable, IsMatchableFile, IsNormalSubject, match_line, match_text, rule_text, subject_text};
 ghost use Rattle.matchpy.specs.Outcome.{file_limit, match_outcome, matched};
-ghost use Rattle.matchpy.specs.Planned.{IsPlanned, planned, planned_rule};
+ghost use Rattle.matchpy.specs.Planned.{IsPlanned, planned_rule, rule_plan};
 
 use crate::ending::{Ending, Told};
 use mp_io::{Failed, Sink, put, put_all};
@@ -40,7 +40,7 @@ struct Planned<'a> {
 fn plan_rule<'a>(alloc: Global, sig: &Signature, rule: &'a Rule) -> Result<Planned<'a>, Memory>
     requires { IsMatchable sig.now (rule_tree rule.now) }
     ensures rule { IfOk result (λ p. planned_rule p ≡ rule_tree rule.now) }
-    ensures planned { IfOk result (λ p. IsPlanned sig.now (planned p)) }
+    ensures planned { IfOk result (λ p. IsPlanned sig.now (rule_plan p)) }
 {
     match Plan::compile(alloc, sig, &rule.pattern) {
         Ok(plan) => Ok(Planned { rule, plan }),
@@ -59,7 +59,7 @@ fn plan_rules<'a>(
 ) -> Result<Vec<Planned<'a>>, Memory>
     requires { AllByRecursion (IsMatchable sig.now) (map rule_tree rules.now) }
     ensures rules { IfOk result (λ ps. map planned_rule ps.items ≡ map rule_tree rules.now) }
-    ensures planned { IfOk result (λ ps. AllByRecursion (IsPlanned sig.now) (map planned ps.items)) }
+    ensures planned { IfOk result (λ ps. AllByRecursion (IsPlanned sig.now) (map rule_plan ps.items)) }
 {
     let mut all = Vec::new(alloc);
     for rule in rules {
@@ -122,7 +122,7 @@ fn write_rule<O: Sink>(
     planned: &Planned<'_>,
     out: &mut O,
 ) -> Result<bool, Stop>
-    requires planned { IsPlanned sig.now (planned planned.now) }
+    requires planned { IsPlanned sig.now (rule_plan planned.now) }
     requires normal { IsNormalSubject sig.now (subject_tree subject.now) }
     ensures { PrintsMatches (rule_text sig.now (subject_tree subject.now) (planned_rule planned.now)) (record { old = O.contents out.old; new = O.contents out.new; faults = O.faults out.old; faults_after = O.faults out.new }) result }
 {
@@ -146,7 +146,7 @@ fn write_subject<O: Sink>(
     subject: &Subject,
     out: &mut O,
 ) -> Result<bool, Stop>
-    requires planned { AllByRecursion (IsPlanned sig.now) (map planned rules.now) }
+    requires planned { AllByRecursion (IsPlanned sig.now) (map rule_plan rules.now) }
     requires normal { IsNormalSubject sig.now (subject_tree subject.now) }
     ensures { PrintsMatches (subject_text sig.now (map planned_rule rules.now) (subject_tree subject.now)) (record { old = O.contents out.old; new = O.contents out.new; faults = O.faults out.old; faults_after = O.faults out.new }) result }
 {
@@ -168,7 +168,7 @@ fn write_subjects<O: Sink>(
     subjects: &[Subject],
     out: &mut O,
 ) -> Result<bool, Stop>
-    requires planned { AllByRecursion (IsPlanned sig.now) (map planned rules.now) }
+    requires planned { AllByRecursion (IsPlanned sig.now) (map rule_plan rules.now) }
     requires normal { AllByRecursion (IsNormalSubject sig.now) (map subject_tree subjects.now) }
     ensures { PrintsMatches (flat_map (subject_text sig.now (map planned_rule rules.now)) (map subject_tree subjects.now)) (record { old = O.contents out.old; new = O.contents out.new; faults = O.faults out.old; faults_after = O.faults out.new }) result }
 {

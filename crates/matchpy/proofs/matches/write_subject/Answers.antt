@@ -1,13 +1,13 @@
 use Rattle.std.proofs.Common.{arith, map}
 use Rattle.mp_text.specs.File.{subject_tree}
-use Rattle.matchpy.specs.Planned.{IsPlanned, planned, planned_rule}
+use Rattle.matchpy.specs.Planned.{IsPlanned, planned_rule, rule_plan}
 use Rattle.matchpy.specs.Matches.{rule_text, subject_text}
 use Rattle.matchpy.proofs.Parts.{AllByRecursion-drop, has_some-drop, lists_stopped, parts_written}
 use Rattle.matchpy.proofs.matches.write_subject.Goals as goal
 
 pub write_rule-requires : goal.write_rule-requires
 write_rule-requires g c = record {
-  planned = (AllByRecursion-drop planned (IsPlanned c.args.sig.now) c.args.rules.now c.loop-rule.rule-index c.rule-item.result (omega arith) c.rule-item.is c.loop-rule.invariant.planned).0;
+  planned = (AllByRecursion-drop rule_plan (IsPlanned c.args.sig.now) c.args.rules.now c.loop-rule.rule-index c.rule-item.result (omega arith) c.rule-item.is c.loop-rule.invariant.planned).0;
   normal = c.requires.normal;
 }
 
@@ -27,5 +27,5 @@ loop-rule-preserved g c =
       written = parts_written planned_rule text c.args.rules.now c.loop-rule.rule-index c.rule-item.result _ _ _ whole (omega arith) c.rule-item.is c.loop-rule.invariant.written printed.0;
       any = has_some-drop planned_rule text c.args.rules.now c.loop-rule.rule-index c.rule-item.result whole c.loop-rule.any c.in-Ok.some (omega arith) c.rule-item.is c.loop-rule.invariant.any printed.1;
       faults = omega (arith, printed.2);
-      planned = (AllByRecursion-drop planned (IsPlanned c.args.sig.now) c.args.rules.now c.loop-rule.rule-index c.rule-item.result (omega arith) c.rule-item.is c.loop-rule.invariant.planned).1;
+      planned = (AllByRecursion-drop rule_plan (IsPlanned c.args.sig.now) c.args.rules.now c.loop-rule.rule-index c.rule-item.result (omega arith) c.rule-item.is c.loop-rule.invariant.planned).1;
     }

@@ -3,7 +3,7 @@ use Rattle.std.specs.Prelude.{flat_map, ◌||◌}
 use Rattle.std.specs.List.{AllByRecursion}
 use Rattle.mp_io.proofs.Written.{Written}
 use Rattle.mp_text.specs.File.{subject_tree}
-use Rattle.matchpy.specs.Planned.{IsPlanned, planned, planned_rule}
+use Rattle.matchpy.specs.Planned.{IsPlanned, planned_rule, rule_plan}
 use Rattle.matchpy.specs.Matches.{has_some, rule_text, subject_text}
 use Rattle.matchpy.proofs.matches.write_subject.Given as goal
 
@@ -14,5 +14,5 @@ invariant-loop-rule g l = record {
   any : has_some (subject_text l.sig (map planned_rule l.rules) (subject_tree l.subject))
       ≡ (l.any || has_some (flat_map (rule_text l.sig (subject_tree l.subject)) (map planned_rule (drop l.rule-index l.rules))));
   faults : g.O.Sink.faults l.fn.out ≤ g.O.Sink.faults l.out;
-  planned : AllByRecursion (IsPlanned l.sig) (map planned (drop l.rule-index l.rules));
+  planned : AllByRecursion (IsPlanned l.sig) (map rule_plan (drop l.rule-index l.rules));
 }
