@@ -11,12 +11,12 @@ use Rattle.std.proofs.lemmas.Cmp.{tied_itself}
 use Rattle.mp_term.specs.Listing.{IsListing}
 use Rattle.mp_theory.specs.Search.{In, Accepts}
 use Rattle.mp_theory.specs.Pieces.{count_to, distinct}
-use Rattle.mp_theory.proofs.SearchLaws.{all_in, in-filter, from_in-filter, irreflexive, one_way, words-complete}
+use Rattle.mp_theory.proofs.SearchLaws.{all_in, in-filter, from_in-filter, one_way, words-complete}
 use Rattle.mp_theory.proofs.PiecesLaws.{in-count_to, in-distinct, from_in-distinct, ascending-distinct}
 use Rattle.mp_theory.proofs.FirstsLaws.{contains-from_in, in-from_contains}
 use Rattle.mp_choice.specs.declared.stage.Stage.{Stage}
 use Rattle.mp_choice.specs.declared.stage.Stage.TheVariants.{Before, Standing}
-use Rattle.mp_choice.specs.Listed.{number_lists, above, Reaches, IsExhausted, IsFirst, HasNone, IsNext, IsLast, StandsAt}
+use Rattle.mp_choice.specs.Listed.{number_lists, above, Reaches, IsExhausted, IsFirst, HasNone, IsNext, IsLast}
 
 accepts-numbers : (most : ℕ) (ns : List ℕ) → AllByRecursion (λ n. n ≤ most) ns → Accepts (λ m. count_to 0 m) (λ m n. m) (λ m. true) most ns
 accepts-numbers most [] h = refl

@@ -1,5 +1,5 @@
 -- The value of the list of splits is that list, and the steps of a `Splits` walk through it.
-use Rattle.std.proofs.Common.{◌≡◌, ℕ, ◌≤◌, ◌+◌, List, [], ◌∷◌, Bool, true, false, sym, ◌∙◌, sum, length, arith, Some, None, Option, subst, refl}
+use Rattle.std.proofs.Common.{◌≡◌, ℕ, ◌≤◌, List, [], ◌∷◌, Bool, true, false, sym, ◌∙◌, sum, length, arith, Some, None, Option, subst, refl}
 use Rattle.std.specs.Prelude.{◌&&◌, ◌==◌, nat_le, IfSome, MatchBool}
 use Rattle.std.specs.List.{AllZip}
 use Rattle.std.proofs.lemmas.Bool.Decides.{nat_tests}

@@ -1,5 +1,5 @@
 -- The sub-multisets of counts, as lists of class numbers, are the sublists of the class numbers of the counts.
-use Rattle.std.proofs.Common.{◌≡◌, ℕ, zero, suc, ◌≤◌, ◌<◌, ◌+◌, List, [], ◌∷◌, ◌++◌, map, Bool, true, false, refl, ap, sym, ◌∙◌, inl, inr, subst, length, replicate, arith}
+use Rattle.std.proofs.Common.{◌≡◌, ℕ, zero, suc, ◌≤◌, ◌<◌, ◌+◌, List, [], ◌∷◌, ◌++◌, map, true, false, refl, ap, sym, ◌∙◌, subst, length, replicate, arith}
 use Rattle.std.specs.Prelude.{if◌then◌else◌}
 use Rattle.std.specs.declared.cmp.Ordering.TheVariants.{Less}
 use Rattle.std.specs.Ordering.{nat_cmp}
@@ -20,6 +20,9 @@ use Rattle.mp_choice.specs.SubBags.{classes_from, classes, bag_order, IsSubBag, 
 
 shortlex_total : IsTotalOrder (shortlex nat_cmp)
 shortlex_total = then_total (on_total length nat_cmp_total) nat_list_cmp_total
+
+pub bag_order_total : IsTotalOrder bag_order
+bag_order_total = on_total classes shortlex_total
 
 -- a number is not the same as a lesser one
 same-less : (k x : ℕ) → k < x → same nat_cmp k x ≡ false

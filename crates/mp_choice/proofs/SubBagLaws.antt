@@ -1,5 +1,5 @@
 -- The steps of a `SubBags`, class by class.
-use Rattle.std.proofs.Common.{◌≡◌, ℕ, zero, suc, ◌<◌, ◌≤◌, ◌+◌, ◌-◌, min, List, [], ◌∷◌, refl, sym, ap, ◌∙◌, inl, inr, sum, arith, length, take, drop, subst}
+use Rattle.std.proofs.Common.{◌≡◌, ℕ, zero, suc, ◌<◌, ◌≤◌, ◌+◌, ◌-◌, min, List, [], ◌∷◌, refl, sym, ◌∙◌, inl, inr, sum, arith, length, take, drop, subst}
 use Rattle.std.specs.declared.cmp.Ordering.TheVariants.{Less}
 use Rattle.std.proofs.lemmas.Slice.Zip.{AllZip-long}
 use Rattle.mp_choice.specs.SubBags.{IsSubBag}

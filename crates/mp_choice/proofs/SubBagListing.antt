@@ -1,5 +1,5 @@
 -- The value of the list of sub-multisets is that list, and the steps of a `SubBags` walk through it.
-use Rattle.std.proofs.Common.{◌≡◌, ℕ, ◌<◌, ◌+◌, List, [], ◌∷◌, Bool, true, refl, sym, ◌∙◌, ◌⊎◌, inl, inr, sum, length, arith, subst}
+use Rattle.std.proofs.Common.{◌≡◌, ℕ, ◌<◌, ◌+◌, List, [], ◌∷◌, true, refl, sym, ◌∙◌, ◌⊎◌, inl, inr, sum, length, arith, subst}
 use Rattle.std.specs.Prelude.{nat_le}
 use Rattle.std.specs.declared.cmp.Ordering.TheVariants.{Less}
 use Rattle.mp_term.specs.Listing.{IsListing}

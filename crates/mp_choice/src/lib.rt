@@ -9,6 +9,9 @@ mod sub_bags;
 #[cfg(test)]
 mod tests;
 
-pub use laws::sub_bags_are_those_of_the_theory;
+pub use laws::{
+    list_of_splits_is_unique, list_of_sub_bags_is_unique, steps_give_the_items_in_turn,
+    sub_bags_are_those_of_the_theory,
+};
 pub use splits::{Part, Splits};
 pub use sub_bags::SubBags;

@@ -2,4 +2,4 @@ use Rattle.std.proofs.Common.{◌≡◌}
 use Rattle.mp_choice.proofs.tests.assert_sub_bags.Given as goal
 
 abbrev pub invariant-loop-item : goal.invariant-loop-item
-invariant-loop-item l = l.bags.room ≡ l.initial.bags.room
+invariant-loop-item g l = l.bags.room ≡ l.initial.bags.room
