@@ -1,4 +1,4 @@
-ghost use Rattle.std.specs.Prelude.{◌≡◌, ℕ, ◌+◌, ◌-◌, ◌^◌, ◌<◌, ◌≤◌, ◌↔◌, ◌++◌, length, sum, take, drop, IsTrue, IsSome, IfOk, MatchOption, MatchBool};
+ghost use Rattle.std.specs.Prelude.{◌≡◌, ◌^◌, ◌<◌, ◌≤◌, ◌↔◌, length, sum, take, drop, IsTrue, IsSome, IfOk, MatchOption, MatchBool};
 ghost use Rattle.mp_choice.specs.SubBags.{IsSubBag, AreSubBags};
 ghost use Rattle.mp_choice.specs.SubBagSteps.{IsFilled, IsLastOfSize, Falls};
 ghost use Rattle.mp_choice.specs.SubBagList.{counts_order, sub_bags_of};
