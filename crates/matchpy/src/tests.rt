@@ -105,9 +105,9 @@ fn words_and_files_decide_what_is_printed(rt: HostRuntime) -> Result<(), Fail> {
         (
             ["match", "t"].as_slice(),
             b"op f 2 comm; rule r: f(x_, a); subject s: f(a, b);".as_slice(),
-            3,
+            0,
+            b"s r {x -> b}\n".as_slice(),
             nothing,
-            b"matchpy: t:1:1: Unread\n".as_slice(),
         ),
         (
             ["match", "t"].as_slice(),

@@ -6,7 +6,6 @@ pub mod Flags
 pub mod Build
 pub mod Checks
 pub mod Answers
-pub mod Matched
 pub mod Reading
 pub mod Printing
 pub mod PrintedFile

@@ -9,7 +9,6 @@ mod fault;
 mod file;
 mod file_printer;
 mod flags;
-mod matched;
 mod pattern_printer;
 mod printer;
 #[cfg(test)]

@@ -157,11 +157,8 @@ fn faults_of_flags_kinds_and_signs_stand_at_their_tokens(rt: HostRuntime) -> Res
             b"op p 3+ infix +; rule r: (x_ + y_);",
             Some((TextKind::Arity, 1, 26)),
         ),
-        // patterns that aren't matched
-        (
-            b"op p 2 comm; subject s: p(b, a); rule r: p(x_, a);",
-            Some((TextKind::Unread, 1, 1)),
-        ),
+        // commutative operations
+        (b"op p 2 comm; subject s: p(b, a); rule r: p(x_, a);", None),
         (b"op p 1+ comm one; rule r: p(x_);", None),
         (b"op p 1+ assoc; rule r: p(x_, a);", None),
     ];
@@ -226,14 +223,8 @@ fn faults_of_wildcards_stand_at_their_tokens(rt: HostRuntime) -> Result<(), Fail
             b"op p 1+ comm; rule r: p(x_, x__);",
             Some((TextKind::KindClash, 1, 29)),
         ),
-        (
-            b"op p 1+ comm; rule r: p(x_, y__);",
-            Some((TextKind::Unread, 1, 1)),
-        ),
-        (
-            b"op p 1+ comm one; rule r: p(x__);",
-            Some((TextKind::Unread, 1, 1)),
-        ),
+        (b"op p 1+ comm; rule r: p(x_, y__);", None),
+        (b"op p 1+ comm one; rule r: p(x__);", None),
         (
             b"op f 2; subject s: f(x_q, a);",
             Some((TextKind::UnknownKind, 1, 22)),
