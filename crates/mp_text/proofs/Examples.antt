@@ -170,9 +170,9 @@ unfolding lexemes
 file_of-wildcards = refl
 
 -- a pattern with a commutative operation
-fault_of-unmatched : fault_of (codes "op p 1+ comm; rule r: p(x_, a);") ≡ at Unread 1
+fault_of-commutative : fault_of (codes "op p 1+ comm; rule r: p(x_, a);") ≡ None
 unfolding lexemes
-fault_of-unmatched = refl
+fault_of-commutative = refl
 
 -- a commutative operation that the normal form doesn't have
 fault_of-collapsed : fault_of (codes "op p 1+ comm one; rule r: p(x_);") ≡ None

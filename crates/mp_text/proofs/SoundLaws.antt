@@ -456,5 +456,5 @@ IsSoundFile-IsFileOf bytes f h = subst IsSoundFile (sym h.file) (sound-file h.st
 
 -- a file that is read is sound
 pub IsSoundFile-ReadGives : (bytes : List ℕ) (r : Result code_file.File TextError) → ReadGives bytes r → IfOk r (λ f. IsSoundFile (file_tree f))
-IsSoundFile-ReadGives bytes (Ok f) h = IsSoundFile-IsFileOf bytes (file_tree f) h.0
+IsSoundFile-ReadGives bytes (Ok f) h = IsSoundFile-IsFileOf bytes (file_tree f) h
 IsSoundFile-ReadGives bytes (Err e) h = tt
