@@ -1,10 +1,14 @@
 -- A file that is read can be matched: its subjects are normal, and its rules have no condition and no default that isn't normal.
-use Rattle.std.proofs.Common.{◌≡◌, ℕ, List, [], ◌∷◌, refl, sym, subst}
-use Rattle.std.specs.Prelude.{Option, Some, None}
+use Rattle.std.proofs.Common.{◌≡◌, ℕ, false, List, [], ◌∷◌, length, refl, sym, subst, arith}
+use Rattle.std.specs.Prelude.{Option, Some, None, nat_lt}
+use Rattle.std.proofs.lemmas.Bool.Decides.{nat_tests}
 use Rattle.std.specs.List.{AllByRecursion}
 use Rattle.mp_io.specs.Devices.{Text}
 use Rattle.mp_term.specs.Signature.{Sig}
 use Rattle.mp_pattern.specs.PatternTree.{Wildcard, dot, kind, plus, star, optional, Pattern, symbol_pattern, app_pattern, wild_pattern, Patterns, no_patterns, more_patterns}
+use Rattle.mp_pattern.specs.Size.{pattern_nodes}
+use Rattle.mp_pattern.specs.Variables.{variables}
+use Rattle.mp_pattern.specs.PlanFault.{plan_fault}
 use Rattle.mp_pattern.specs.Admission.{Rule}
 use Rattle.mp_syntax.specs.Syntax.{Statement, OpOf, KindOf, RuleOf, SubjectOf}
 use Rattle.mp_theory.specs.Sound.{AllEach, DefaultNormal, Each}
@@ -36,6 +40,14 @@ module _ (sig : Sig) where
     AllEach-read under no_patterns h = tt
     AllEach-read under (more_patterns p ps) h = (Each-read under p h.0, AllEach-read under ps h.1)
 
+  -- ---- plans
+
+  plan_fault-read : (p : Pattern) → IsSoundPattern sig p → plan_fault p ≡ None
+  plan_fault-read p h =
+      let nodes : nat_lt 64 (pattern_nodes p) ≡ false = grind (arith, nat_tests, h.nodes) in
+      let names : nat_lt 32 (length (variables p)) ≡ false = grind (arith, nat_tests, h.few_variables) in
+      rw (h.plain_root, nodes, names, h.no_clash) refl
+
   -- ---- rules and subjects
 
   abbrev IsUnconditional : Rule → Type 0
@@ -51,7 +63,7 @@ module _ (sig : Sig) where
   IsMatchable-read : (rs : List Rule) → AllByRecursion (λ r. IsSoundPattern sig r.pattern) rs → AllByRecursion IsUnconditional rs → AllByRecursion (IsMatchable sig) rs
   IsMatchable-read [] h k = tt
   IsMatchable-read (r ∷ rs) h k =
-      (record { sound = record { defaults = Each-read None r.pattern h.0.defaults }; unconditional = k.0 }, IsMatchable-read rs h.1 k.1)
+      (record { sound = record { defaults = Each-read None r.pattern h.0.defaults }; planned = plan_fault-read r.pattern h.0; unconditional = k.0 }, IsMatchable-read rs h.1 k.1)
 
   IsNormalSubject-read : (ss : List Subject) → AllByRecursion (λ s. IsSoundTerm sig s.term) ss → AllByRecursion (IsNormalSubject sig) ss
   IsNormalSubject-read [] h = tt

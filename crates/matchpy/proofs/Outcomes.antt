@@ -4,10 +4,9 @@ use Rattle.std.specs.Prelude.{Option, Some, None, if◌then◌else◌, nat_lt}
 use Rattle.std.proofs.lemmas.Bool.Decides.{nat_tests}
 use Rattle.mp_io.specs.Devices.{Files, Text, held}
 use Rattle.mp_text.specs.File.{FileTree}
-use Rattle.mp_text.specs.Matched.{is_matched_file}
 use Rattle.mp_text.specs.Reading.{IsFaultOf, IsFileOf, fault_of, file_of}
 use Rattle.mp_text.specs.declared.fault.TextFault.{TextFault}
-use Rattle.mp_text.proofs.Whole.{fault_of-exact, file_of-exact, matched-no_fault, no_fault-of}
+use Rattle.mp_text.proofs.Whole.{fault_of-exact, file_of-exact, file-no_fault, no_fault-of}
 use Rattle.matchpy.specs.Messages.{fault_line, long_line}
 use Rattle.matchpy.specs.Matches.{IsMatchableFile, match_text}
 use Rattle.matchpy.specs.Outcome.{AreMatches, IsFileOutcome, IsOutcomeAt, IsOver, IsShown, Outcome, file_limit, file_outcome, given, match_outcome, matched, outcome_at, over_file, refused, show_outcome, shown}
@@ -21,15 +20,15 @@ module _ (over : FileTree → Outcome) (Over : FileTree → Outcome → Type 0) 
   over_file-is : (name bytes : Text) (fault : Option TextFault) (found : Option FileTree) → fault_of bytes ≡ fault → file_of bytes ≡ found → IsFileOutcome Over name bytes (over_file over name fault found)
   over_file-is name bytes (Some fault) found f e = inr (fault, (fault_of-exact bytes fault).1 f, refl)
   over_file-is name bytes None None f e =
-      let (file, read, m) = no_fault-of bytes f in
+      let (file, read) = no_fault-of bytes f in
       let other : Some file ≡ None = sym ((file_of-exact bytes file).0 read) ∙ e in
       absurd cc
   over_file-is name bytes None (Some file) f e =
-      let (other, read, m) = no_fault-of bytes f in
+      let (other, read) = no_fault-of bytes f in
       let both : Some other ≡ Some file = sym ((file_of-exact bytes other).0 read) ∙ e in
       let same : other ≡ file = cc in
       let this : IsFileOf bytes file = subst (IsFileOf bytes) same read in
-      inl (file, this, subst (λ g. is_matched_file g ≡ true) same m, is file (IsFileOf-matchable bytes file this))
+      inl (file, this, is file (IsFileOf-matchable bytes file this))
 
   file_outcome-is : (name bytes : Text) → IsFileOutcome Over name bytes (file_outcome over name bytes)
   file_outcome-is name bytes = over_file-is name bytes (fault_of bytes) (file_of bytes) refl refl
@@ -52,22 +51,22 @@ outcome_at-is files (Some (Show name)) = given-is file_limit name (show_outcome 
 
 -- ---- and no other
 
--- a file that is matched has no fault
-read-fault : (bytes : Text) (f : FileTree) (t : TextFault) → IsFileOf bytes f → is_matched_file f ≡ true → IsFaultOf bytes t → ⊥
-read-fault bytes f t read m h =
-    let both : None ≡ Some t = sym (matched-no_fault bytes f read m) ∙ (fault_of-exact bytes t).0 h in
+-- a file has no fault
+read-fault : (bytes : Text) (f : FileTree) (t : TextFault) → IsFileOf bytes f → IsFaultOf bytes t → ⊥
+read-fault bytes f t read h =
+    let both : None ≡ Some t = sym (file-no_fault bytes f read) ∙ (fault_of-exact bytes t).0 h in
     absurd cc
 
 module _ (Over : FileTree → Outcome → Type 0) (unique : (file : FileTree) (o p : Outcome) → IsMatchableFile file → Over file o → Over file p → o ≡ p) where
   IsFileOutcome-unique : (name bytes : Text) (o p : Outcome) → IsFileOutcome Over name bytes o → IsFileOutcome Over name bytes p → o ≡ p
   IsFileOutcome-unique name bytes o p (inl h) (inl k) =
-      let (f, read, m, told) = h in
-      let (g, read_g, m_g, told_g) = k in
+      let (f, read, told) = h in
+      let (g, read_g, told_g) = k in
       let same : Some f ≡ Some g = sym ((file_of-exact bytes f).0 read) ∙ (file_of-exact bytes g).0 read_g in
       let file : f ≡ g = cc in
       unique g o p (IsFileOf-matchable bytes g read_g) (subst (λ (x : FileTree). Over x o) file told) told_g
-  IsFileOutcome-unique name bytes o p (inl h) (inr k) = absurd (read-fault bytes h.0 k.0 h.1 h.2 k.1)
-  IsFileOutcome-unique name bytes o p (inr h) (inl k) = absurd (read-fault bytes k.0 h.0 k.1 k.2 h.1)
+  IsFileOutcome-unique name bytes o p (inl h) (inr k) = absurd (read-fault bytes h.0 k.0 h.1 k.1)
+  IsFileOutcome-unique name bytes o p (inr h) (inl k) = absurd (read-fault bytes k.0 h.0 k.1 h.1)
   IsFileOutcome-unique name bytes o p (inr h) (inr k) =
       let (t, is_t, e) = h in
       let (u, is_u, e_u) = k in

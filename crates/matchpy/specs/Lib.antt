@@ -1,6 +1,7 @@
 pub mod Words
 pub mod Requests
 pub mod Matches
+pub mod Planned
 pub mod Messages
 pub mod Outcome
 pub mod Endings

@@ -7,6 +7,7 @@ use Rattle.mp_term.specs.Normal.{IsNormal}
 use Rattle.mp_pattern.specs.Value.{Subst}
 use Rattle.mp_pattern.specs.Admission.{Rule}
 use Rattle.mp_pattern.specs.Lists.{IsOneList}
+use Rattle.mp_pattern.specs.PlanFault.{plan_fault}
 use Rattle.mp_theory.specs.Sound.{IsSound}
 use Rattle.mp_theory.specs.OneList.{one_list}
 use Rattle.mp_text.specs.File.{FileTree, Subject}
@@ -49,9 +50,10 @@ has_some (b ∷ text) = true
 
 -- ---- what is asked of a file that is matched
 
--- the rule's defaults are normal, and it has no condition
+-- the rule's defaults are normal, its pattern has a plan, and it has no condition
 pub record IsMatchable (sig : Sig) (rule : Rule) : Type 0 where
   pub sound : IsSound sig rule.pattern
+  pub planned : plan_fault rule.pattern ≡ None
   pub unconditional : rule.condition ≡ None
 
 -- the subject's term is normal

@@ -1,8 +1,7 @@
 -- What a run writes and answers, for these words and these files, memory and faults aside.
-use Rattle.std.specs.Prelude.{◌≡◌, ◌⊎◌, ◌<◌, ◌≤◌, ℕ, true, List, [], length, Option, Some, None, if◌then◌else◌, nat_lt}
+use Rattle.std.specs.Prelude.{◌≡◌, ◌⊎◌, ◌<◌, ◌≤◌, ℕ, List, [], length, Option, Some, None, if◌then◌else◌, nat_lt}
 use Rattle.mp_io.specs.Devices.{Files, Text, held}
 use Rattle.mp_text.specs.File.{FileTree}
-use Rattle.mp_text.specs.Matched.{is_matched_file}
 use Rattle.mp_text.specs.PrintedFile.{file_text}
 use Rattle.mp_text.specs.Reading.{IsFaultOf, IsFileOf, fault_of, file_of, unread_fault}
 use Rattle.mp_text.specs.declared.fault.TextFault.{TextFault}
@@ -45,7 +44,7 @@ IsShown file o = o ≡ shown file
 -- over the bytes of a named file: as told of the file that they stand for, or the fault that they have
 abbrev pub IsFileOutcome : (FileTree → Outcome → Type 0) → Text → Text → Outcome → Type 0
 IsFileOutcome over name bytes o =
-    ((file : FileTree) × IsFileOf bytes file × (is_matched_file file ≡ true) × over file o)
+    ((file : FileTree) × IsFileOf bytes file × over file o)
     ⊎ ((fault : TextFault) × IsFaultOf bytes fault × (o ≡ refused 3 (fault_line name fault)))
 
 -- a named file is held and not too long, and over its bytes the outcome is as told; or it is refused

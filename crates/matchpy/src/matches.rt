@@ -1,6 +1,6 @@
 //! The action `match`, over a file's bytes.
 
-ghost use Rattle.std.specs.Prelude.{◌≡◌, ◌≤◌, ◌<◌, length, map, flat_map, OnErr};
+ghost use Rattle.std.specs.Prelude.{◌≡◌, ◌≤◌, ◌<◌, length, map, flat_map, IfOk, OnErr};
 ghost use Rattle.std.specs.List.{AllByRecursion};
 ghost use Rattle.mp_io.specs.Printing.{Prints};
 ghost use Rattle.mp_pattern.specs.RuleView.{rule_tree};
@@ -11,11 +11,12 @@ ghost use Rattle.matchpy.specs.Endings.{status_of};
 ghost use Rattle.matchpy.specs.Printed.{PrintsMatches};
 ghost use Rattle.matchpy.specs.Matches.{IsMatchable, IsMatchableFile, IsNormalSubject, match_line, match_text, rule_text, subject_text};
 ghost use Rattle.matchpy.specs.Outcome.{file_limit, match_outcome, matched};
+ghost use Rattle.matchpy.specs.Planned.{IsPlanned, planned_rule, rule_plan};
 
 use crate::ending::{Ending, Told};
 use mp_io::{Failed, Sink, put, put_all};
 use mp_one::{Item, eager_list};
-use mp_pattern::Rule;
+use mp_pattern::{Plan, PlanFault, Rule};
 use mp_subst::Subst;
 use mp_term::{Memory, Signature};
 use mp_text::{File, Subject, TextError, read_file, write_subst};
@@ -26,6 +27,49 @@ use std::alloc::Global;
 enum Stop {
     Memory,
     CannotWrite,
+}
+
+// A rule with the plan of its pattern.
+#[derive(Drop)]
+struct Planned<'a> {
+    rule: &'a Rule,
+    plan: Plan,
+}
+
+// The rule with the plan of its pattern, which has one.
+fn plan_rule<'a>(alloc: Global, sig: &Signature, rule: &'a Rule) -> Result<Planned<'a>, Memory>
+    requires { IsMatchable sig.now (rule_tree rule.now) }
+    ensures rule { IfOk result (λ p. planned_rule p ≡ rule_tree rule.now) }
+    ensures planned { IfOk result (λ p. IsPlanned sig.now (rule_plan p)) }
+{
+    match Plan::compile(alloc, sig, &rule.pattern) {
+        Ok(plan) => Ok(Planned { rule, plan }),
+        Err(fault) => {
+            prove!(matches!(fault, PlanFault::Memory));
+            Err(Memory)
+        }
+    }
+}
+
+// The rules with their plans.
+fn plan_rules<'a>(
+    alloc: Global,
+    sig: &Signature,
+    rules: &'a [Rule],
+) -> Result<Vec<Planned<'a>>, Memory>
+    requires { AllByRecursion (IsMatchable sig.now) (map rule_tree rules.now) }
+    ensures rules { IfOk result (λ ps. map planned_rule ps.items ≡ map rule_tree rules.now) }
+    ensures planned { IfOk result (λ ps. AllByRecursion (IsPlanned sig.now) (map rule_plan ps.items)) }
+{
+    let mut all = Vec::new(alloc);
+    for rule in rules {
+        let planned = plan_rule(alloc, sig, rule)?;
+        match all.push(planned) {
+            Ok(()) => {}
+            Err(_) => return Err(Memory),
+        }
+    }
+    Ok(all)
 }
 
 // Writes the line of one match.
@@ -75,14 +119,15 @@ fn write_rule<O: Sink>(
     alloc: Global,
     sig: &Signature,
     subject: &Subject,
-    rule: &Rule,
+    planned: &Planned<'_>,
     out: &mut O,
 ) -> Result<bool, Stop>
-    requires matchable { IsMatchable sig.now (rule_tree rule.now) }
+    requires planned { IsPlanned sig.now (rule_plan planned.now) }
     requires normal { IsNormalSubject sig.now (subject_tree subject.now) }
-    ensures { PrintsMatches (rule_text sig.now (subject_tree subject.now) (rule_tree rule.now)) (record { old = O.contents out.old; new = O.contents out.new; faults = O.faults out.old; faults_after = O.faults out.new }) result }
+    ensures { PrintsMatches (rule_text sig.now (subject_tree subject.now) (planned_rule planned.now)) (record { old = O.contents out.old; new = O.contents out.new; faults = O.faults out.old; faults_after = O.faults out.new }) result }
 {
-    let list = match eager_list(alloc, sig, rule, &subject.term) {
+    let rule = planned.rule;
+    let list = match eager_list(alloc, sig, rule, &planned.plan, &subject.term) {
         Ok(list) => list,
         Err(Memory) => return Err(Stop::Memory),
     };
@@ -97,13 +142,13 @@ fn write_rule<O: Sink>(
 fn write_subject<O: Sink>(
     alloc: Global,
     sig: &Signature,
-    rules: &[Rule],
+    rules: &[Planned<'_>],
     subject: &Subject,
     out: &mut O,
 ) -> Result<bool, Stop>
-    requires matchable { AllByRecursion (IsMatchable sig.now) (map rule_tree rules.now) }
+    requires planned { AllByRecursion (IsPlanned sig.now) (map rule_plan rules.now) }
     requires normal { IsNormalSubject sig.now (subject_tree subject.now) }
-    ensures { PrintsMatches (subject_text sig.now (map rule_tree rules.now) (subject_tree subject.now)) (record { old = O.contents out.old; new = O.contents out.new; faults = O.faults out.old; faults_after = O.faults out.new }) result }
+    ensures { PrintsMatches (subject_text sig.now (map planned_rule rules.now) (subject_tree subject.now)) (record { old = O.contents out.old; new = O.contents out.new; faults = O.faults out.old; faults_after = O.faults out.new }) result }
 {
     let mut any = false;
     for rule in rules {
@@ -119,13 +164,13 @@ fn write_subject<O: Sink>(
 fn write_subjects<O: Sink>(
     alloc: Global,
     sig: &Signature,
-    rules: &[Rule],
+    rules: &[Planned<'_>],
     subjects: &[Subject],
     out: &mut O,
 ) -> Result<bool, Stop>
-    requires matchable { AllByRecursion (IsMatchable sig.now) (map rule_tree rules.now) }
+    requires planned { AllByRecursion (IsPlanned sig.now) (map rule_plan rules.now) }
     requires normal { AllByRecursion (IsNormalSubject sig.now) (map subject_tree subjects.now) }
-    ensures { PrintsMatches (flat_map (subject_text sig.now (map rule_tree rules.now)) (map subject_tree subjects.now)) (record { old = O.contents out.old; new = O.contents out.new; faults = O.faults out.old; faults_after = O.faults out.new }) result }
+    ensures { PrintsMatches (flat_map (subject_text sig.now (map planned_rule rules.now)) (map subject_tree subjects.now)) (record { old = O.contents out.old; new = O.contents out.new; faults = O.faults out.old; faults_after = O.faults out.new }) result }
 {
     let mut any = false;
     for subject in subjects {
@@ -144,9 +189,12 @@ fn write_file<'a, O: Sink>(alloc: Global, file: &File, out: &mut O) -> Ending<'a
     ensures used { status_of result ≡ 2 → ⊥ }
     ensures read { status_of result ≡ 4 → ⊥ }
 {
-    let rules = file.rules.as_slice();
+    let rules = match plan_rules(alloc, &file.sig, file.rules.as_slice()) {
+        Ok(rules) => rules,
+        Err(Memory) => return Ending::Memory,
+    };
     let subjects = file.subjects.as_slice();
-    match write_subjects(alloc, &file.sig, rules, subjects, out) {
+    match write_subjects(alloc, &file.sig, &rules, subjects, out) {
         Ok(true) => Ending::Told(Told::Done),
         Ok(false) => Ending::Told(Told::Empty),
         Err(Stop::Memory) => Ending::Memory,

@@ -6,3 +6,4 @@ pub mod ChoiceLaws
 pub mod WalkLaws
 pub mod SoundLaws
 pub mod FoundLaws
+pub mod ItemLaws

@@ -1,9 +1,11 @@
 // The search for items: entry by entry, in the order of the take tables.
 ghost use Rattle.std.specs.Prelude.{◌≡◌, ◌∷◌, [], ◌++◌, OnOk, IfOk, None};
+ghost use Rattle.std.specs.List.{AllByRecursion};
 ghost use Rattle.mp_term.specs.View.{tree};
 ghost use Rattle.mp_term.specs.Normal.{IsNormal};
 ghost use Rattle.mp_pattern.specs.View.{pattern_tree};
 ghost use Rattle.mp_pattern.specs.RuleView.{rule_tree};
+ghost use Rattle.mp_pattern.specs.Plan.{IsPlanOf};
 ghost use Rattle.mp_pattern.specs.Firsts as firsts;
 ghost use Rattle.mp_pattern.specs.Lists.{IsOneList};
 ghost use Rattle.mp_theory.specs.Sound.{IsSound};
@@ -13,6 +15,7 @@ ghost use Rattle.mp_theory.specs.Trail as trails;
 ghost use Rattle.mp_theory.specs.OneList as one;
 ghost use Rattle.mp_one.specs.Stack.{frame_of, stack_frames, child_of, entry_of, entries_left, entries_behind};
 ghost use Rattle.mp_one.specs.Trail.{trail_of};
+ghost use Rattle.mp_one.specs.Items.{IsItemOf};
 ghost use Rattle.mp_one.specs.Path.{table_of};
 
 use crate::bind::{Bound, Extended, extend};
@@ -22,7 +25,7 @@ use crate::item::Items;
 use crate::path::Path;
 use crate::stack::{Entry, Frame, Next, Place, Stack, entered, settle, taken_out};
 use crate::terms::copied;
-use mp_pattern::{Pattern, Rule};
+use mp_pattern::{Pattern, Plan, Rule};
 use mp_term::{Memory, Signature, Term};
 use std::alloc::Global;
 use std::slice;
@@ -129,21 +132,25 @@ fn search_from(
 /// and with each its least take table. It is `item_list` of mp_theory's `specs/OneList.antt`, whose substitutions are the list that
 /// `IsOneList` of mp_pattern's `specs/Lists.antt` describes.
 ///
-/// The pattern is taken as it stands, with whatever operations and wildcards it has; its defaults are normal, as `is_sound` tells, and so is
-/// the subject. The rule has no condition.
+/// The plan is that of the rule's pattern; an item has an entry for each of its nodes and a value for each of its variables. The pattern is taken
+/// as it stands, with whatever operations and wildcards it has; its defaults are normal, as `is_sound` tells, and so is the subject. The rule has
+/// no condition.
 ///
 /// `Memory`: memory ran out, and nothing is left. The call takes as long as the whole list, which can grow exponentially in the subject.
 pub fn eager_list(
     alloc: Global,
     sig: &Signature,
     rule: &Rule,
+    plan: &Plan,
     subject: &Term,
 ) -> Result<Items, Memory>
+    requires plan { IsPlanOf sig.now (pattern_tree rule.now.pattern) plan.now }
     requires sound { IsSound sig.now (pattern_tree rule.now.pattern) }
     requires unconditional { (rule_tree rule.now).condition ≡ None }
     requires normal { IsNormal sig.now (tree subject.now) }
     ensures list { IfOk result (λ is. is ≡ one.item_list sig.now (rule_tree rule.now) (tree subject.now)) }
     ensures items { IfOk result (λ is. one.AreItems sig.now (rule_tree rule.now) (tree subject.now) is) }
+    ensures sizes { IfOk result (λ is. AllByRecursion (IsItemOf plan.now) is) }
     ensures substs { IfOk result (λ is. one.item_substs is ≡ one.one_list sig.now (rule_tree rule.now) (tree subject.now)) }
     ensures exact { IfOk result (λ is. IsOneList sig.now (rule_tree rule.now) (tree subject.now) (one.item_substs is)) }
 {

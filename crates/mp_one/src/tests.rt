@@ -1,7 +1,7 @@
 use crate::item::{Item, Items};
 use crate::search::eager_list;
 use crate::sound::is_sound;
-use mp_pattern::{Pattern, Patterns, Rule, Shape};
+use mp_pattern::{Pattern, Patterns, Plan, Rule, Shape};
 use mp_subst::Value;
 use mp_term::{KindId, Memory, Name, Names, OpDecl, OpId, Signature, Term, Terms, is_normal};
 use std::alloc::Global;
@@ -248,7 +248,8 @@ fn items(alloc: Global, sig: &Signature, patterns: &str, terms: &str) -> Result<
     if !is_sound(sig, &rule.pattern) || !is_normal(sig, &subject) {
         return Err(Memory);
     }
-    eager_list(alloc, sig, &rule, &subject)
+    let plan = Plan::compile(alloc, sig, &rule.pattern).map_err(|_| Memory)?;
+    eager_list(alloc, sig, &rule, &plan, &subject)
 }
 
 // The same in print.

@@ -19,6 +19,8 @@ pub mod Holds
 pub mod Instance
 pub mod Admission
 pub mod Lists
+pub mod Clash
+pub mod Plan
 pub mod View
 pub mod Code
 pub mod Size
@@ -35,3 +37,7 @@ pub mod EntryView
 pub mod EntryCode
 pub mod RuleView
 pub mod RuleCode
+pub mod PlanView
+pub mod PlanCode
+pub mod UseView
+pub mod PlanFault

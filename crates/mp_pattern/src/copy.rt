@@ -9,7 +9,7 @@ use mp_term::{Memory, Name, copy_term};
 use std::alloc::Global;
 
 // An equal wildcard.
-fn copy_shape(alloc: Global, shape: &Shape) -> Result<Shape, Memory>
+pub(crate) fn copy_shape(alloc: Global, shape: &Shape) -> Result<Shape, Memory>
     ensures { IfOk result (λ s. wildcard s ≡ wildcard shape.now) }
 {
     match shape {
@@ -22,7 +22,7 @@ fn copy_shape(alloc: Global, shape: &Shape) -> Result<Shape, Memory>
 }
 
 // An equal name. Its bytes are spelt as a name is, so only memory can lack.
-fn copy_name(alloc: Global, name: &Name) -> Result<Name, Memory>
+pub(crate) fn copy_name(alloc: Global, name: &Name) -> Result<Name, Memory>
     ensures { IfOk result (λ n. n ≡ name.now) }
 {
     match Name::new(alloc, name.bytes()) {

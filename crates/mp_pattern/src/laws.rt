@@ -13,8 +13,10 @@ ghost use Rattle.mp_pattern.specs.Size.{pattern_nodes};
 ghost use Rattle.mp_pattern.specs.Order.{is_ground, pattern_cmp};
 ghost use Rattle.mp_pattern.specs.Normal.{normal_pattern, IsNormalPattern};
 ghost use Rattle.mp_pattern.specs.Subpatterns.{subpatterns};
+ghost use Rattle.mp_pattern.specs.Clash.{first_clash};
 ghost use Rattle.mp_pattern.specs.Ground.{term_pattern};
 ghost use Rattle.mp_pattern.specs.Variables.{uses, variables};
+ghost use Rattle.mp_pattern.specs.Plan.{Plan, IsPlanOf};
 
 /// The pattern order is total, and equal patterns alone are equal in it.
 pub fn pattern_order_is_total()
@@ -39,6 +41,11 @@ pub fn normal_pattern_keeps_variables()
     ensures variables { (sig : Sig) (p : Pattern) → IsPermutation (variables p) (variables (normal_pattern sig p)) }
 {}
 
+/// The normal form of a pattern in which no two wildcards of one variable differ has none that differ either.
+pub fn normal_pattern_keeps_no_clash()
+    ensures { (sig : Sig) (p : Pattern) → first_clash p ≡ None → first_clash (normal_pattern sig p) ≡ None }
+{}
+
 /// Each subpattern of a normal pattern is normal.
 pub fn subpatterns_are_normal()
     ensures { (sig : Sig) (p : Pattern) → IsNormalPattern sig p → AllByRecursion (IsNormalPattern sig) (subpatterns p) }
@@ -49,4 +56,9 @@ pub fn ground_patterns_are_terms()
     ensures terms { (p : Pattern) → (is_ground p ≡ true) ↔ ((t : Tree) × (p ≡ term_pattern t)) }
     ensures order { (t u : Tree) → pattern_cmp (term_pattern t) (term_pattern u) ≡ tree_cmp t u }
     ensures normal { (sig : Sig) (t : Tree) → normal_pattern sig (term_pattern t) ≡ term_pattern (normal sig t) }
+{}
+
+/// A plan has one pattern, over whatever signature.
+pub fn a_plan_has_one_pattern()
+    ensures { (sig other : Sig) (p q : Pattern) (plan : Plan) → IsPlanOf sig p plan → IsPlanOf other q plan → p ≡ q }
 {}

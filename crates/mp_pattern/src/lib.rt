@@ -1,6 +1,7 @@
 //! Patterns, templates, conditions and rules over a signature as data, and what matching is.
 #![tactic(auto)]
 
+mod compile;
 mod condition;
 mod copy;
 mod entry;
@@ -9,24 +10,31 @@ mod laws;
 mod named;
 mod normal;
 mod order;
+mod outline;
 mod pattern;
+mod plan;
+#[cfg(test)]
+mod plan_tests;
 mod rule;
 mod syntactic;
 mod template;
 #[cfg(test)]
 mod tests;
 
+pub use compile::PlanFault;
 pub use condition::{Amount, BoxedCond, Cond, Conds, Operand, Sense};
 pub use copy::{copy_cond, copy_pattern};
 pub use entry::{Entries, Entry, Form};
 pub use laws::{
-    ground_patterns_are_terms, normal_pattern_is_idempotent, normal_pattern_is_no_larger,
-    normal_pattern_keeps_variables, pattern_order_is_total, subpatterns_are_normal,
+    a_plan_has_one_pattern, ground_patterns_are_terms, normal_pattern_is_idempotent,
+    normal_pattern_is_no_larger, normal_pattern_keeps_no_clash, normal_pattern_keeps_variables,
+    pattern_order_is_total, subpatterns_are_normal,
 };
 pub use named::is_fully_named;
 pub use normal::normalise_pattern;
 pub use order::pattern_compare;
 pub use pattern::{Pattern, Patterns, Shape};
+pub use plan::{Plan, PlanNode};
 pub use rule::{Rule, Rules};
 pub use syntactic::is_syntactic;
 pub use template::{Template, Templates};

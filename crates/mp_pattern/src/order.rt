@@ -38,7 +38,7 @@ fn all_ground(items: &[Pattern]) -> bool
 }
 
 // The class of a wildcard.
-fn wildcard_class(shape: &Shape) -> u8
+pub(crate) fn wildcard_class(shape: &Shape) -> u8
     ensures { result ≡ wildcard_class (wildcard shape.now) }
 {
     match shape {
@@ -74,7 +74,7 @@ fn compare_names(x: &Option<Name>, y: &Option<Name>) -> Ordering
 }
 
 // Wildcards of one class by their kinds or defaults.
-fn compare_shapes(v: &Shape, w: &Shape) -> Ordering
+pub(crate) fn compare_shapes(v: &Shape, w: &Shape) -> Ordering
     ensures { result ≡ wildcard_cmp (wildcard v.now) (wildcard w.now) }
 {
     match (v, w) {

@@ -7,11 +7,12 @@ use Rattle.mp_syntax.specs.declared.place.Place.{Place}
 use Rattle.mp_syntax.specs.declared.token.Punct.TheVariants.{Open, Close, Comma, Colon, Semicolon}
 use Rattle.mp_syntax.specs.declared.fault.FaultKind.TheVariants.{Syntax}
 use Rattle.mp_syntax.specs.Tokens as tokens
-use Rattle.mp_syntax.specs.Tokens.{Token, Word, Sign, Punctuation, Placed}
-use Rattle.mp_syntax.specs.Syntax.{Spot, Wildcard, Tree, Symbol, Apply, InfixOf, Wild, Trees, no_trees, more_trees, trees, tree_list, Flag, Assoc, Comm, One, Infixed, Statement, OpOf, KindOf, RuleOf, SubjectOf, Expected, Matches, AllMatch, spell, spell_first, spell_others, spell_named, spell_plus, spell_flag, spell_statement, spell_file, spelled_word, spelled_sign, spelled_wildcard, another, comma, semicolon, IsNamedDot, Fits, AreFit, FitsStatement, AreStatements}
-use Rattle.mp_syntax.specs.Machine.{Role, OfRule, OfSubject, statement_of, Frame, Arguments, Bracket, Operands, Declared, declared, with_flag, Heading, State, Top, AfterOp, AfterOpName, AfterLeast, AfterFlags, AfterInfix, AfterKind, AfterKindName, BeforeMember, AfterMember, AfterRole, AfterName, BeforeExpr, AfterWord, AfterOpen, AfterExpr, Step, Go, Emit, Refuse, Finish, is_punct, is_sign, is_end, word_of, sign_of, dot_of, keyword, spot, on_punct, on_text, on_word, step, step_number, step_flag, step_flags, step_open, step_expr, step_dot, step_behind, after_step, run}
+use Rattle.mp_syntax.specs.Tokens.{Token, Word, Sign, Punctuation, End, Placed}
+use Rattle.mp_syntax.specs.Syntax.{Spot, Wildcard, Tree, Symbol, Apply, InfixOf, Wild, Trees, no_trees, more_trees, trees, tree_list, Flag, Assoc, Comm, One, Infixed, Statement, OpOf, KindOf, RuleOf, SubjectOf, Expected, Matches, AllMatch, spell, spell_first, spell_others, spell_named, spell_plus, spell_flag, spell_statement, spell_file, spelled_word, spelled_sign, spelled_wildcard, another, comma, semicolon, IsNamedWildcard, Fits, AreFit, FitsStatement, AreStatements}
+use Rattle.mp_syntax.specs.Machine.{Role, OfRule, OfSubject, statement_of, Frame, Arguments, Bracket, Operands, Declared, declared, with_flag, Heading, Within, InStatement, Alone, State, Top, AfterOp, AfterOpName, AfterLeast, AfterFlags, AfterInfix, AfterKind, AfterKindName, BeforeMember, AfterMember, AfterRole, AfterName, BeforeExpr, AfterWord, AfterOpen, AfterExpr, Step, Go, Emit, Refuse, Finish, Ends, parsed, refusal, is_punct, is_sign, is_end, word_of, sign_of, named_wildcard, keyword, spot, on_punct, on_text, on_word, step, step_number, step_flag, step_flags, step_open, step_expr, step_wildcard, step_behind, after_step, run}
 use Rattle.mp_syntax.proofs.Runs.{heading, word-opens, bracket-opens, open-expr, operand-again}
-use Rattle.mp_syntax.proofs.Trees.{trees-tree_list}
+use Rattle.mp_syntax.proofs.Found.{read_ok}
+use Rattle.mp_syntax.proofs.Trees.{trees-tree_list, fits-named}
 
 -- what matches two spellings in a row is in two parts
 pub record Split (ts : List Placed) (a b : List Expected) : Type 0 where
@@ -69,22 +70,21 @@ word-taken next t w h = text-taken word_of next t w (ap word_of h.0) h.1
 sign-taken : (next : Spot → Step) (t : Placed) (s : Spot) → Matches t (spelled_sign s) → on_text t next (sign_of t.token) ≡ next s
 sign-taken next t s h = text-taken sign_of next t s (ap sign_of h.0) h.1
 
-step_expr-word : (x : Heading) (k : List Frame) (t : Placed) (w : Spot) → Matches t (spelled_word w) → step_expr 100 x k t (word_of t.token) ≡ Go (AfterWord x k w)
+step_expr-word : (x : Within) (k : List Frame) (t : Placed) (w : Spot) → Matches t (spelled_word w) → step_expr 100 x k t (word_of t.token) ≡ Go (AfterWord x k w)
 step_expr-word x k t w h = ap (step_expr 100 x k t) (ap word_of h.0) ∙ ap (λ p. Go (AfterWord x k (spot w.text p))) h.1
 
-dot_of-dot : (w : Wildcard) → IsNamedDot w → dot_of (tokens.Wildcard w.name w.marks w.kind) ≡ Some w.name
-dot_of-dot w h = rw (h.dot, h.plain) (go w.name h.named)
+named_wildcard-named : (w : Wildcard) → IsNamedWildcard w → named_wildcard (tokens.Wildcard w.name w.marks w.kind) w.place ≡ Some w
+named_wildcard-named w h = go w.name h
   where
-    go : (name : List ℕ) → (name ≡ [] → ⊥) → dot_of (tokens.Wildcard name 1 []) ≡ Some name
+    go : (name : List ℕ) → (name ≡ [] → ⊥) → named_wildcard (tokens.Wildcard name w.marks w.kind) w.place ≡ Some (record { name = name; marks = w.marks; kind = w.kind; place = w.place })
     go [] f = absurd (f refl)
     go (b ∷ bs) f = refl
 
-step_expr-dot : (x : Heading) (k : List Frame) (t : Placed) (w : Wildcard) → Matches t (spelled_wildcard w) → IsNamedDot w → step_expr 100 x k t (word_of t.token) ≡ Go (AfterExpr x k (Wild w))
-step_expr-dot x k t w h fits =
+step_expr-wildcard : (x : Within) (k : List Frame) (t : Placed) (w : Wildcard) → Matches t (spelled_wildcard w) → IsNamedWildcard w → step_expr 100 x k t (word_of t.token) ≡ Go (AfterExpr x k (Wild w))
+step_expr-wildcard x k t w h named =
     ap (step_expr 100 x k t) (ap word_of h.0)
-    ∙ ap (λ b. cond b (step_open 100 k (BeforeExpr x (Bracket t.place ∷ k))) (step_dot x k t (dot_of t.token))) (ap (is_punct Open) h.0)
-    ∙ ap (step_dot x k t) (ap dot_of h.0 ∙ dot_of-dot w fits)
-    ∙ (λ i. Go (AfterExpr x k (Wild (record { name = w.name; marks = sym fits.dot i; kind = sym fits.plain i; place = h.1 i }))))
+    ∙ ap (λ b. cond b (step_open 100 k (BeforeExpr x (Bracket t.place ∷ k))) (step_wildcard x k t (named_wildcard t.token t.place))) (ap (is_punct Open) h.0)
+    ∙ ap (step_wildcard x k t) ((λ i. named_wildcard (h.0 i) (h.1 i)) ∙ named_wildcard-named w named)
 
 -- ---- expressions
 
@@ -105,7 +105,7 @@ others-begin between none no_trees (t ∷ ts) h = record { token = t; others = t
 others-begin between none (more_trees a args) [] h = absurd h
 others-begin between none (more_trees a args) (t ∷ ts) h = record { token = t; others = ts; parts = refl; fails = none t h.0 }
 
-module _ (done : List Statement) (x : Heading) where
+module _ (done : List Statement) (x : Within) where
   -- a word that no bracket follows
   word-expr : (k : List Frame) (w : Spot) (u : Placed) (us : List Placed) → is_punct Open u.token ≡ false → run done (AfterWord x k w) (u ∷ us) ≡ run done (AfterExpr x k (Symbol w)) (u ∷ us)
   word-expr k w u us h = ap (λ b. after_step done u.place (λ d a. run d a us) (cond b (step_open 100 k (AfterOpen x k w)) (step_behind x k (Symbol w) u))) h
@@ -171,10 +171,6 @@ module _ (done : List Statement) (x : Heading) where
       ∙ row-again v vs read-v read-vs (another sign) (Operands place sign t) (λ es. InfixOf place sign (more_trees t (trees es))) (operands-row place sign t) k room [] s.others us s.behind fits.1.0 fits.1.1 len
       ∙ ap (λ l. run done (AfterExpr x k (InfixOf place sign (more_trees t (more_trees v l)))) us) (trees-tree_list vs)
 
-  dot-fits : (room : ℕ) (w : Wildcard) → Fits room (Wild w) → IsNamedDot w
-  dot-fits zero w h = h
-  dot-fits (suc room) w h = h
-
   mutual
     expr-again : (e : Tree) → ReadsExpr e
     expr-again (Symbol w) k room [] u us h fits len n = absurd h
@@ -182,7 +178,7 @@ module _ (done : List Statement) (x : Heading) where
         over done (BeforeExpr x k) (AfterWord x k w) t (u ∷ us) (step_expr-word x k t w h.0) ∙ word-expr k w u us n
     expr-again (Symbol w) k room (t ∷ v ∷ ts) u us h fits len n = absurd h.1
     expr-again (Wild w) k room [] u us h fits len n = absurd h
-    expr-again (Wild w) k room (t ∷ []) u us h fits len n = over done (BeforeExpr x k) (AfterExpr x k (Wild w)) t (u ∷ us) (step_expr-dot x k t w h.0 (dot-fits room w fits))
+    expr-again (Wild w) k room (t ∷ []) u us h fits len n = over done (BeforeExpr x k) (AfterExpr x k (Wild w)) t (u ∷ us) (step_expr-wildcard x k t w h.0 (fits-named room w fits))
     expr-again (Wild w) k room (t ∷ v ∷ ts) u us h fits len n = absurd h.1
     expr-again (Apply f args) k zero ts u us h fits len n = absurd fits
     expr-again (Apply f args) k (suc room) [] u us h fits len n = absurd h
@@ -226,13 +222,13 @@ module _ (done : List Statement) (x : Heading) where
 -- ---- statements
 
 -- an expression and the semicolon behind it
-body-again : (done : List Statement) (x : Heading) (e : Tree) (ts us : List Placed) → AllMatch ts (spell e ++ semicolon ∷ []) → Fits 100 e → run done (BeforeExpr x []) (ts ++ us) ≡ run (done ++ statement_of x.role x.name e ∷ []) Top us
+body-again : (done : List Statement) (x : Heading) (e : Tree) (ts us : List Placed) → AllMatch ts (spell e ++ semicolon ∷ []) → Fits 100 e → run done (BeforeExpr (InStatement x) []) (ts ++ us) ≡ run (done ++ statement_of x.role x.name e ∷ []) Top us
 body-again done x e ts us h fits =
     let r = split (spell e) (semicolon ∷ []) ts h in
     let s = led semicolon [] r.back r.second in
-    ap (run done (BeforeExpr x [])) (joined ts r.front r.back s.token s.others us r.parts s.parts)
-    ∙ expr-again done x e [] 100 r.front s.token (s.others ++ us) r.first fits refl (ap (is_punct Open) s.match)
-    ∙ ended done (AfterExpr x [] e) (statement_of x.role x.name e) s.token (s.others ++ us) (ap (λ u. on_punct Semicolon u (Emit (statement_of x.role x.name e))) s.match)
+    ap (run done (BeforeExpr (InStatement x) [])) (joined ts r.front r.back s.token s.others us r.parts s.parts)
+    ∙ expr-again done (InStatement x) e [] 100 r.front s.token (s.others ++ us) r.first fits refl (ap (is_punct Open) s.match)
+    ∙ ended done (AfterExpr (InStatement x) [] e) (statement_of x.role x.name e) s.token (s.others ++ us) (ap (λ u. on_punct Semicolon u (Emit (statement_of x.role x.name e))) s.match)
     ∙ ap (λ l. run (done ++ statement_of x.role x.name e ∷ []) Top (l ++ us)) (nothing s.others s.behind)
   where
     nothing : (ts : List Placed) → AllMatch ts [] → ts ≡ []
@@ -245,7 +241,7 @@ named-again done role name e [] us h fits = absurd h
 named-again done role name e (n ∷ []) us h fits = absurd h.1
 named-again done role name e (n ∷ c ∷ ts) us h fits =
     over done (AfterRole role) (AfterName (heading role name)) n (c ∷ ts ++ us) (word-taken (λ w. Go (AfterName (heading role w))) n name h.0)
-    ∙ over done (AfterName (heading role name)) (BeforeExpr (heading role name) []) c (ts ++ us) (ap (λ k. on_punct Colon k (Go (BeforeExpr (heading role name) []))) h.1.0)
+    ∙ over done (AfterName (heading role name)) (BeforeExpr (InStatement (heading role name)) []) c (ts ++ us) (ap (λ k. on_punct Colon k (Go (BeforeExpr (InStatement (heading role name)) []))) h.1.0)
     ∙ body-again done (heading role name) e ts us h.1.1 fits
 
 -- the word that a statement begins with
@@ -369,3 +365,9 @@ file-again (s ∷ file) done ts us h fits =
     ∙ statement-again done s r.front (r.back ++ us) r.first fits.0
     ∙ file-again file (done ++ s ∷ []) r.back us r.second fits.1
     ∙ ap (λ d. run d Top us) (append_assoc done (s ∷ []) file)
+
+-- an expression alone is read
+pub alone-again : (e : Tree) (ts : List Placed) (last : Placed) → AllMatch ts (spell e) → Fits 100 e → last.token ≡ End → run [] (BeforeExpr Alone []) (ts ++ last ∷ []) ≡ read_ok (parsed [] (Some e))
+alone-again e ts last h fits ends =
+    expr-again [] Alone e [] 100 ts last [] h fits refl (ap (is_punct Open) ends)
+    ∙ ap (λ k. after_step [] last.place (λ d a. run d a []) (cond (is_end k) (Ends e) (Refuse (refusal k)))) ends

@@ -8,14 +8,18 @@ use Rattle.mp_syntax.specs.declared.fault.FaultKind.{FaultKind}
 use Rattle.mp_syntax.specs.declared.fault.FaultKind.TheVariants as kinds
 use Rattle.mp_syntax.specs.Tokens.{Token, Word, Wildcard, Sign, Arrow, Punctuation, Long, End, Placed, first_place}
 use Rattle.mp_syntax.specs.Lexing.{lexemes}
-use Rattle.mp_syntax.specs.Syntax.{Spot, Symbol, Apply, InfixOf, Wild, trees, Assoc, Comm, Infixed, Statement, OpOf, KindOf, RuleOf, SubjectOf}
-use Rattle.mp_syntax.specs.Reading.{reading}
+use Rattle.mp_syntax.specs.Syntax.{Spot, Tree, Symbol, Apply, InfixOf, Wild, trees, Assoc, Comm, Infixed, Statement, OpOf, KindOf, RuleOf, SubjectOf}
+use Rattle.mp_syntax.specs.Reading.{reading, expr_reading}
 
 abbrev at : ℕ → ℕ → Place
 at line column = record { line = line; column = column }
 
 abbrev word : List ℕ → ℕ → ℕ → Spot
 word text line column = record { text = text; place = at line column }
+
+-- a wildcard in the first line
+abbrev wildcard : List ℕ → ℕ → List ℕ → ℕ → Tree
+wildcard name marks kind column = Wild (record { name = name; marks = marks; kind = kind; place = at 1 column })
 
 abbrev fault : FaultKind → ℕ → ℕ → Result (List Statement) Fault
 fault kind line column = Err (record { kind = kind; place = at line column })
@@ -66,9 +70,23 @@ underscores-lexed : tokens_of (codes "x____y x__K") ≡ Wildcard (codes "x") 3 [
 unfolding lexemes
 underscores-lexed = refl
 
-underscores-refused : reading (codes "rule r: x____;") ≡ fault kinds.Syntax 1 9
+underscores-refused : reading (codes "rule r: x____;") ≡ fault kinds.Syntax 1 13
 unfolding lexemes
 underscores-refused = refl
+
+-- a named wildcard has one to three underscores, and behind a single one perhaps a kind
+wildcards-read : reading (codes "rule r: f(x_, y_K, x__, 1___);") ≡ Ok (RuleOf (word (codes "r") 1 6) (Apply (word (codes "f") 1 9) (trees (wildcard (codes "x") 1 [] 11 ∷ wildcard (codes "y") 1 (codes "K") 15 ∷ wildcard (codes "x") 2 [] 20 ∷ wildcard (codes "1") 3 [] 25 ∷ []))) ∷ [])
+unfolding lexemes
+wildcards-read = refl
+
+-- an unnamed wildcard is refused, and so is a colon behind a wildcard
+unnamed-refused : reading (codes "rule r: _K;") ≡ fault kinds.Syntax 1 9
+unfolding lexemes
+unnamed-refused = refl
+
+default-refused : reading (codes "rule r: x_:a;") ≡ fault kinds.Syntax 1 11
+unfolding lexemes
+default-refused = refl
 
 -- a sign is the longest run, and the arrow is a run of its own
 signs-lexed : tokens_of (codes "-> ->> a->b.") ≡ Arrow ∷ Sign (codes "->>") ∷ Word (codes "a") ∷ Arrow ∷ Word (codes "b") ∷ Punctuation Dot ∷ End ∷ []
@@ -83,6 +101,15 @@ words-lexed = refl
 long-refused : reading (codes "op " ++ replicate 65 97 ++ codes " 2;") ≡ fault kinds.TooMany 1 4
 unfolding lexemes
 long-refused = refl
+
+-- an expression alone is read up to the end
+expression-read : expr_reading (codes "f(x_)") ≡ Ok (Apply (word (codes "f") 1 1) (trees (wildcard (codes "x") 1 [] 3 ∷ [])))
+unfolding lexemes
+expression-read = refl
+
+semicolon-refused : expr_reading (codes "a;") ≡ Err (record { kind = kinds.Syntax; place = at 1 2 })
+unfolding lexemes
+semicolon-refused = refl
 
 -- a byte that begins no token, and a file that stops within a statement
 bad-refused : reading (codes "op f 2;\n  \\") ≡ fault kinds.BadByte 2 3

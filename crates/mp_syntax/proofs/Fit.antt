@@ -1,14 +1,15 @@
 -- What the machine reads fits: the wildcards, the operands, the numbers, the members of kinds and the open brackets.
-use Rattle.std.proofs.Common.{◌≡◌, ℕ, suc, ◌-◌, ◌<◌, Bool, true, false, cond, List, [], ◌∷◌, ◌++◌, length, Option, Some, None, Ok, refl, sym, subst, arith, leb}
+use Rattle.std.proofs.Common.{◌≡◌, ℕ, suc, ◌-◌, ◌<◌, Bool, true, false, cond, List, [], ◌∷◌, ◌++◌, length, Option, Some, None, Ok, refl, subst, arith, leb}
 use Rattle.std.specs.Prelude.{◌≢◌, codes}
 use Rattle.std.specs.Str.{bytes_eq}
 use Rattle.std.proofs.lemmas.Bool.{leb-false}
 use Rattle.mp_syntax.specs.declared.token.Punct.TheVariants.{Open, Close, Comma, Colon, Semicolon}
 use Rattle.mp_syntax.specs.declared.fault.FaultKind.TheVariants.{Syntax, TooDeep}
-use Rattle.mp_syntax.specs.Tokens.{Token, Wildcard, Placed}
-use Rattle.mp_syntax.specs.Syntax.{Spot, Tree, Symbol, Apply, InfixOf, more_trees, trees, Infixed, KindOf, OpOf, Statement, Fits, AreFit, AreSeveral, FitsStatement, AreStatements}
-use Rattle.mp_syntax.specs.Machine.{Role, OfRule, OfSubject, statement_of, Frame, Arguments, Bracket, Operands, Declared, declared, with_flag, Heading, State, Top, AfterOp, AfterOpName, AfterLeast, AfterFlags, AfterInfix, AfterKind, AfterKindName, BeforeMember, AfterMember, AfterRole, AfterName, BeforeExpr, AfterWord, AfterOpen, AfterExpr, Step, Go, Emit, Refuse, Finish, is_punct, is_sign, is_end, is_number, word_of, sign_of, dot_of, keyword, spot, refuse, on_text, on_word, step, step_number, step_flag, step_flags, step_open, step_expr, step_behind, step_dot, after_step, run}
-use Rattle.mp_syntax.proofs.Found.{ok-is}
+use Rattle.mp_syntax.specs.Tokens.{Placed}
+use Rattle.mp_syntax.specs.Syntax.{Spot, Wildcard, Tree, Symbol, Apply, InfixOf, more_trees, trees, Infixed, KindOf, OpOf, Statement, Fits, AreFit, AreSeveral, FitsStatement, AreStatements}
+use Rattle.mp_syntax.specs.Machine.{Role, OfRule, OfSubject, statement_of, Frame, Arguments, Bracket, Operands, Declared, declared, with_flag, Within, InStatement, Alone, State, Top, AfterOp, AfterOpName, AfterLeast, AfterFlags, AfterInfix, AfterKind, AfterKindName, BeforeMember, AfterMember, AfterRole, AfterName, BeforeExpr, AfterWord, AfterOpen, AfterExpr, Step, Go, Emit, Refuse, Finish, Ends, Parsed, parsed, is_punct, is_sign, is_end, is_number, word_of, sign_of, named_wildcard, keyword, spot, refuse, on_text, on_word, step, step_number, step_flag, step_flags, step_open, step_expr, step_behind, step_wildcard, after_step, run}
+use Rattle.mp_syntax.proofs.Found.{wildcard-is, ok-is}
+use Rattle.mp_syntax.proofs.Trees.{named-fits}
 
 -- what an open bracket holds fits, with room brackets more to open in it
 abbrev pub FrameFits : ℕ → Frame → Type 0
@@ -27,16 +28,17 @@ StateFits (AfterLeast name least) = is_number least.text ≡ true
 StateFits (AfterFlags d) = is_number d.least.text ≡ true
 StateFits (AfterInfix d) = is_number d.least.text ≡ true
 StateFits (AfterMember name members) = members ≢ []
-StateFits (BeforeExpr h k) = FramesFit k
-StateFits (AfterWord h k w) = FramesFit k
-StateFits (AfterOpen h k w) = (length k < 100) × FramesFit k
-StateFits (AfterExpr h k e) = FramesFit k × Fits (100 - length k) e
+StateFits (BeforeExpr x k) = FramesFit k
+StateFits (AfterWord x k w) = FramesFit k
+StateFits (AfterOpen x k w) = (length k < 100) × FramesFit k
+StateFits (AfterExpr x k e) = FramesFit k × Fits (100 - length k) e
 StateFits _ = Unit {0}
 
 -- what a step leads to fits
 abbrev pub StepFits : Step → Type 0
 StepFits (Go a) = StateFits a
 StepFits (Emit s) = FitsStatement s
+StepFits (Ends e) = Fits 100 e
 StepFits _ = Unit {0}
 
 if-fits : (b : Bool) (x y : Step) → StepFits x → StepFits y → StepFits (cond b x y)
@@ -51,13 +53,6 @@ AreFit-push : (room : ℕ) (args : List Tree) (e : Tree) → AreFit room (trees 
 AreFit-push room [] e h k = (k, tt)
 AreFit-push room (a ∷ args) e h k = (h.0, AreFit-push room args e h.1 k)
 
-dot_of-named : (t : Token) (w : List ℕ) → dot_of t ≡ Some w → w ≢ []
-dot_of-named (Wildcard (b ∷ bs) (suc ℕ.zero) []) w h e = let x : some w ≡ some (b ∷ bs) = sym h in absurd cc
-  where
-    some : List ℕ → Option (List ℕ)
-    some w = Some w
-dot_of-named _ w h e = absurd cc
-
 open-fits : (k : List Frame) (next : State) → (length k < 100 → StateFits next) → StepFits (step_open 100 k next)
 open-fits k next h = go (leb 100 (length k)) refl
   where
@@ -65,36 +60,37 @@ open-fits k next h = go (leb 100 (length k)) refl
     go true e = tt
     go false e = h (leb-false 100 (length k) e)
 
-expr-fits : (h : Heading) (k : List Frame) (t : Placed) → FramesFit k → StepFits (step_expr 100 h k t (word_of t.token))
-expr-fits h k t fits = go (word_of t.token)
+expr-fits : (x : Within) (k : List Frame) (t : Placed) → FramesFit k → StepFits (step_expr 100 x k t (word_of t.token))
+expr-fits x k t fits = go (word_of t.token)
   where
-    dot : (d : Option (List ℕ)) → dot_of t.token ≡ d → StepFits (step_dot h k t d)
-    dot (Some w) e = (fits, record { named = dot_of-named t.token w e; dot = refl; plain = refl })
-    dot None e = tt
+    wildcard : (o : Option Wildcard) → named_wildcard t.token t.place ≡ o → StepFits (step_wildcard x k t o)
+    wildcard (Some w) e = (fits, named-fits (100 - length k) w (wildcard-is t.token t.place w e).1)
+    wildcard None e = tt
 
-    go : (o : Option (List ℕ)) → StepFits (step_expr 100 h k t o)
+    go : (o : Option (List ℕ)) → StepFits (step_expr 100 x k t o)
     go (Some w) = fits
-    go None = if-fits (is_punct Open t.token) _ _ (open-fits k (BeforeExpr h (Bracket t.place ∷ k)) (λ lt. (lt, tt, fits))) (dot (dot_of t.token) refl)
+    go None = if-fits (is_punct Open t.token) _ _ (open-fits k (BeforeExpr x (Bracket t.place ∷ k)) (λ lt. (lt, tt, fits))) (wildcard (named_wildcard t.token t.place) refl)
 
 several-push : (first : Tree) (others : List Tree) (e : Tree) → AreSeveral (more_trees first (trees (others ++ e ∷ [])))
 several-push first [] e = tt
 several-push first (a ∷ others) e = tt
 
-behind-fits : (h : Heading) (k : List Frame) (e : Tree) (t : Placed) → FramesFit k → Fits (100 - length k) e → StepFits (step_behind h k e t)
-behind-fits h [] e t fits e-fits = if-fits (is_punct Semicolon t.token) _ (refuse t.token) (at h.role) tt
+behind-fits : (x : Within) (k : List Frame) (e : Tree) (t : Placed) → FramesFit k → Fits (100 - length k) e → StepFits (step_behind x k e t)
+behind-fits (InStatement h) [] e t fits e-fits = if-fits (is_punct Semicolon t.token) _ (refuse t.token) (at h.role) tt
   where
     at : (role : Role) → FitsStatement (statement_of role h.name e)
     at OfRule = e-fits
     at OfSubject = e-fits
-behind-fits h (Arguments name args ∷ k) e t fits e-fits =
+behind-fits Alone [] e t fits e-fits = if-fits (is_end t.token) (Ends e) (refuse t.token) e-fits tt
+behind-fits x (Arguments name args ∷ k) e t fits e-fits =
     let pushed : AreFit (99 - length k) (trees (args ++ e ∷ [])) = AreFit-push (99 - length k) args e fits.1 (subst (λ n. Fits n e) (omega arith) e-fits) in
     let lt = fits.0 in
     let room : suc (99 - length k) ≡ 100 - length k = omega arith in
     if-fits (is_punct Comma t.token) _ _ (fits.0, pushed, fits.2)
     (if-fits (is_punct Close t.token) _ (refuse t.token) (fits.2, subst (λ n. Fits n (Apply name (trees (args ++ e ∷ [])))) room pushed) tt)
-behind-fits h (Bracket place ∷ k) e t fits e-fits =
-    text-fits t (λ sign. Go (BeforeExpr h (Operands place sign e [] ∷ k))) (sign_of t.token) (λ sign. (fits.0, (subst (λ n. Fits n e) (omega arith) e-fits, tt), fits.2))
-behind-fits h (Operands place sign first others ∷ k) e t fits e-fits =
+behind-fits x (Bracket place ∷ k) e t fits e-fits =
+    text-fits t (λ sign. Go (BeforeExpr x (Operands place sign e [] ∷ k))) (sign_of t.token) (λ sign. (fits.0, (subst (λ n. Fits n e) (omega arith) e-fits, tt), fits.2))
+behind-fits x (Operands place sign first others ∷ k) e t fits e-fits =
     let pushed : AreFit (99 - length k) (trees (others ++ e ∷ [])) = AreFit-push (99 - length k) others e fits.1.1 (subst (λ n. Fits n e) (omega arith) e-fits) in
     let lt = fits.0 in
     let room : suc (99 - length k) ≡ 100 - length k = omega arith in
@@ -144,13 +140,23 @@ AreStatements-push : (ss : List Statement) (s : Statement) → AreStatements ss 
 AreStatements-push [] s h k = (k, tt)
 AreStatements-push (x ∷ ss) s h k = (h.0, AreStatements-push ss s h.1 k)
 
+-- the expression fits, where there is one
+abbrev pub FitsAlone : Option Tree → Type 0
+FitsAlone None = Unit {0}
+FitsAlone (Some t) = Fits 100 t
+
 -- what is read fits
-pub run-fits : (ts : List Placed) (done : List Statement) (at : State) (file : List Statement) → AreStatements done → StateFits at → run done at ts ≡ Ok file → AreStatements file
-run-fits [] done at file h k e = absurd cc
-run-fits (t ∷ ts) done at file h k e = go (step at t) (step-fits at t k) e (run-fits ts)
+abbrev pub ParsedFits : Parsed → Type 0
+ParsedFits p = AreStatements p.statements × FitsAlone p.expr
+
+-- what is read fits
+pub run-fits : (ts : List Placed) (done : List Statement) (at : State) (p : Parsed) → AreStatements done → StateFits at → run done at ts ≡ Ok p → ParsedFits p
+run-fits [] done at p h k e = absurd cc
+run-fits (t ∷ ts) done at p h k e = go (step at t) (step-fits at t k) e (run-fits ts)
   where
-    go : (s : Step) → StepFits s → after_step done t.place (λ d a. run d a ts) s ≡ Ok file → ((d : List Statement) (a : State) (f : List Statement) → AreStatements d → StateFits a → run d a ts ≡ Ok f → AreStatements f) → AreStatements file
-    go (Go a) x e ih = ih done a file h x e
-    go (Emit s) x e ih = ih (done ++ s ∷ []) Top file (AreStatements-push done s h x) tt e
+    go : (s : Step) → StepFits s → after_step done t.place (λ d a. run d a ts) s ≡ Ok p → ((d : List Statement) (a : State) (q : Parsed) → AreStatements d → StateFits a → run d a ts ≡ Ok q → ParsedFits q) → ParsedFits p
+    go (Go a) x e ih = ih done a p h x e
+    go (Emit s) x e ih = ih (done ++ s ∷ []) Top p (AreStatements-push done s h x) tt e
     go (Refuse f) x e ih = absurd cc
-    go Finish x e ih = subst AreStatements (ok-is done file e) h
+    go Finish x e ih = subst ParsedFits (ok-is (parsed done None) p e) (h, tt)
+    go (Ends t) x e ih = subst ParsedFits (ok-is (parsed done (Some t)) p e) (h, x)

@@ -1,17 +1,19 @@
 -- What the machine reads is spelled by the tokens.
-use Rattle.std.proofs.Common.{◌≡◌, ℕ, zero, suc, Bool, true, false, cond, List, [], ◌∷◌, ◌++◌, length, Option, Some, None, Result, Ok, refl, sym, ap, ◌∙◌, append_assoc, append-nil, leb}
+use Rattle.std.proofs.Common.{◌≡◌, ℕ, Bool, true, false, cond, List, [], ◌∷◌, ◌++◌, length, Option, Some, None, Result, Ok, refl, sym, ap, ◌∙◌, append_assoc, append-nil, leb}
 use Rattle.std.proofs.lemmas.List.{map_push, flat_map_more}
 use Rattle.std.specs.Prelude.{codes}
 use Rattle.std.specs.List.{flat_map}
 use Rattle.std.specs.Str.{bytes_eq}
 use Rattle.std.proofs.lemmas.Slice.Eq.{bytes_eq-Decides}
+use Rattle.mp_syntax.specs.declared.place.Place.{Place}
 use Rattle.mp_syntax.specs.declared.token.Punct.{Punct}
 use Rattle.mp_syntax.specs.declared.token.Punct.TheVariants.{Open, Close, OpenSquare, CloseSquare, OpenBrace, CloseBrace, Comma, Semicolon, Colon, Dot, Dollar}
 use Rattle.mp_syntax.specs.declared.fault.Fault.{Fault}
 use Rattle.mp_syntax.specs.declared.fault.FaultKind.TheVariants.{Syntax, TooDeep}
-use Rattle.mp_syntax.specs.Tokens.{Token, Word, Wildcard, Sign, Punctuation, End, Placed}
-use Rattle.mp_syntax.specs.Syntax.{Spot, Tree, Symbol, trees, Flag, Assoc, Comm, One, Infixed, Statement, Expected, Said, Stands, Matches, AllMatch, spell, spell_first, spell_others, spell_plus, spell_flag, spell_statement, spell_file, spelled_word, spelled_sign, another, fixed_word, comma, closing, semicolon}
-use Rattle.mp_syntax.specs.Machine.{Role, OfRule, OfSubject, statement_of, Frame, Arguments, Bracket, Operands, Declared, declared, with_flag, Heading, State, Top, AfterOp, AfterOpName, AfterLeast, AfterFlags, AfterInfix, AfterKind, AfterKindName, BeforeMember, AfterMember, AfterRole, AfterName, BeforeExpr, AfterWord, AfterOpen, AfterExpr, Step, Go, Emit, Refuse, Finish, is_punct, same_punct, is_sign, is_end, word_of, sign_of, dot_of, is_number, keyword, spot, refuse, on_text, on_word, on_sign, step, step_number, step_flag, step_flags, step_open, step_expr, step_behind, step_dot, after_step, run}
+use Rattle.mp_syntax.specs.Tokens as tokens
+use Rattle.mp_syntax.specs.Tokens.{Token, Word, Sign, Punctuation, End, Placed}
+use Rattle.mp_syntax.specs.Syntax.{Spot, Wildcard, Tree, Symbol, trees, Flag, Assoc, Comm, One, Infixed, Statement, Expected, Said, Stands, Matches, AllMatch, spell, spell_first, spell_others, spell_plus, spell_flag, spell_statement, spell_file, IsNamedWildcard, spelled_word, spelled_wildcard, spelled_sign, another, fixed_word, comma, closing, semicolon}
+use Rattle.mp_syntax.specs.Machine.{Role, OfRule, OfSubject, statement_of, Frame, Arguments, Bracket, Operands, Declared, declared, with_flag, Within, InStatement, Alone, State, Top, AfterOp, AfterOpName, AfterLeast, AfterFlags, AfterInfix, AfterKind, AfterKindName, BeforeMember, AfterMember, AfterRole, AfterName, BeforeExpr, AfterWord, AfterOpen, AfterExpr, Step, Go, Emit, Refuse, Finish, Ends, Parsed, parsed, is_punct, same_punct, is_sign, is_end, word_of, sign_of, named_wildcard, is_number, keyword, spot, refuse, on_text, on_word, on_sign, step, step_number, step_flag, step_flags, step_open, step_expr, step_behind, step_wildcard, after_step, run}
 use Rattle.mp_syntax.specs.Partial.{spell_before, spell_declared, so_far}
 
 -- ---- what a test on a token says
@@ -56,10 +58,20 @@ pub sign-same : (text : List ℕ) (t : Token) → is_sign text t ≡ true → t 
 sign-same text (Sign s) h = ap Sign ((bytes_eq-Decides s text).0 h)
 sign-same text _ h = absurd cc
 
--- the dot of this name
-pub dot-is : (t : Token) (w : List ℕ) → dot_of t ≡ Some w → t ≡ Wildcard w 1 []
-dot-is (Wildcard (b ∷ bs) (suc zero) []) w h = ap (λ v. Wildcard v 1 []) (some-is _ _ h)
-dot-is _ w h = absurd cc
+abbrev some_wildcard : Wildcard → Option Wildcard
+some_wildcard w = Some w
+
+some_wildcard-is : (v w : Wildcard) → some_wildcard v ≡ some_wildcard w → v ≡ w
+some_wildcard-is v w h = cc
+
+-- the wildcard that the token is, with its name
+pub wildcard-is : (k : Token) (place : Place) (w : Wildcard) → named_wildcard k place ≡ Some w → Matches (record { token = k; place = place }) (spelled_wildcard w) × IsNamedWildcard w
+wildcard-is (tokens.Wildcard (b ∷ bs) marks kind) place w h =
+    let v : Wildcard = record { name = b ∷ bs; marks = marks; kind = kind; place = place } in
+    let same : v ≡ w = some_wildcard-is v w h in
+    let name : b ∷ bs ≡ w.name = ap (λ (v : Wildcard). v.name) same in
+    ((ap (λ (v : Wildcard). tokens.Wildcard v.name v.marks v.kind) same, ap (λ (v : Wildcard). v.place) same), λ none. absurd cc)
+wildcard-is _ place w h = absurd cc
 
 -- the end
 pub end-is : (t : Token) → is_end t ≡ true → t ≡ End
@@ -74,6 +86,7 @@ Adds (Go at) before t = (m : Expected) × Matches t m × (so_far at ≡ before +
 Adds (Emit s) before t = (m : Expected) × Matches t m × (spell_statement s ≡ before ++ m ∷ [])
 Adds (Refuse kind) before t = Unit {0}
 Adds Finish before t = (before ≡ []) × (t.token ≡ End)
+Adds (Ends e) before t = (before ≡ spell e) × (t.token ≡ End)
 
 adds-token : (test : Token → Bool) (k : Token) → ((u : Token) → test u ≡ true → u ≡ k) → (t : Placed) (a b : Step) (before : List Expected) → (Matches t (Said k) → Adds a before t) → Adds b before t → Adds (cond (test t.token) a b) before t
 adds-token test k is t a b before f g = go (test t.token) refl
@@ -161,34 +174,39 @@ adds-open k next before t h = go (leb 100 (length k))
     go true = tt
     go false = h
 
-adds-expr : (h : Heading) (k : List Frame) (t : Placed) → Adds (step_expr 100 h k t (word_of t.token)) (so_far (BeforeExpr h k)) t
-adds-expr h k t = go (word_of t.token) refl
+adds-expr : (x : Within) (k : List Frame) (t : Placed) → Adds (step_expr 100 x k t (word_of t.token)) (so_far (BeforeExpr x k)) t
+adds-expr x k t = go (word_of t.token) refl
   where
-    dot : (d : Option (List ℕ)) → dot_of t.token ≡ d → Adds (step_dot h k t d) (so_far (BeforeExpr h k)) t
-    dot (Some w) f = (Stands (Wildcard w 1 []) t.place, (dot-is t.token w f, refl), simp append_assoc)
-    dot None f = tt
+    wildcard : (o : Option Wildcard) → named_wildcard t.token t.place ≡ o → Adds (step_wildcard x k t o) (so_far (BeforeExpr x k)) t
+    wildcard (Some w) f = (spelled_wildcard w, (wildcard-is t.token t.place w f).0, simp append_assoc)
+    wildcard None f = tt
 
-    bracket : Matches t (Said (Punctuation Open)) → Adds (step_open 100 k (BeforeExpr h (Bracket t.place ∷ k))) (so_far (BeforeExpr h k)) t
-    bracket is = adds-open k (BeforeExpr h (Bracket t.place ∷ k)) (so_far (BeforeExpr h k)) t (Stands (Punctuation Open) t.place, (is, refl), simp append_assoc)
+    bracket : Matches t (Said (Punctuation Open)) → Adds (step_open 100 k (BeforeExpr x (Bracket t.place ∷ k))) (so_far (BeforeExpr x k)) t
+    bracket is = adds-open k (BeforeExpr x (Bracket t.place ∷ k)) (so_far (BeforeExpr x k)) t (Stands (Punctuation Open) t.place, (is, refl), simp append_assoc)
 
-    go : (o : Option (List ℕ)) → word_of t.token ≡ o → Adds (step_expr 100 h k t o) (so_far (BeforeExpr h k)) t
+    go : (o : Option (List ℕ)) → word_of t.token ≡ o → Adds (step_expr 100 x k t o) (so_far (BeforeExpr x k)) t
     go (Some w) e = (spelled_word (spot w t.place), (word-is t.token w e, refl), simp append_assoc)
-    go None e = adds-punct Open t _ _ (so_far (BeforeExpr h k)) bracket (dot (dot_of t.token) refl)
+    go None e = adds-punct Open t _ _ (so_far (BeforeExpr x k)) bracket (wildcard (named_wildcard t.token t.place) refl)
 
-adds-behind : (h : Heading) (k : List Frame) (e : Tree) (t : Placed) → Adds (step_behind h k e t) (so_far (AfterExpr h k e)) t
-adds-behind h [] e t = adds-punct Semicolon t _ (refuse t.token) (so_far (AfterExpr h [] e)) (λ is. (semicolon, is, at h.role)) tt
+adds-behind : (x : Within) (k : List Frame) (e : Tree) (t : Placed) → Adds (step_behind x k e t) (so_far (AfterExpr x k e)) t
+adds-behind (InStatement h) [] e t = adds-punct Semicolon t _ (refuse t.token) (so_far (AfterExpr (InStatement h) [] e)) (λ is. (semicolon, is, at h.role)) tt
   where
-    at : (role : Role) → spell_statement (statement_of role h.name e) ≡ so_far (AfterExpr (record { role = role; name = h.name }) [] e) ++ semicolon ∷ []
+    at : (role : Role) → spell_statement (statement_of role h.name e) ≡ so_far (AfterExpr (InStatement (record { role = role; name = h.name })) [] e) ++ semicolon ∷ []
     at OfRule = refl
     at OfSubject = refl
-adds-behind h (Arguments name args ∷ k) e t =
-    adds-punct Comma t _ _ (so_far (AfterExpr h (Arguments name args ∷ k) e)) (λ is. (comma, is, rw (flat_map-push (spell_before comma) args e) (simp append_assoc)))
-    (adds-punct Close t _ (refuse t.token) (so_far (AfterExpr h (Arguments name args ∷ k) e)) (λ is. (closing, is, rw (spell_first-trees comma args e) (simp append_assoc))) tt)
-adds-behind h (Bracket place ∷ k) e t =
-    adds-any_sign (λ sign. Go (BeforeExpr h (Operands place sign e [] ∷ k))) t (so_far (AfterExpr h (Bracket place ∷ k) e)) (λ s is. (spelled_sign (spot s t.place), is, simp append_assoc))
-adds-behind h (Operands place sign first others ∷ k) e t =
-    adds-sign sign.text t _ _ (so_far (AfterExpr h (Operands place sign first others ∷ k) e)) (λ is. (another sign, is, rw (flat_map-push (spell_before (another sign)) others e) (simp append_assoc)))
-    (adds-punct Close t _ (refuse t.token) (so_far (AfterExpr h (Operands place sign first others ∷ k) e)) (λ is. (closing, is, rw (spell_first-trees (another sign) others e) (simp append_assoc))) tt)
+adds-behind Alone [] e t = go (is_end t.token) refl
+  where
+    go : (v : Bool) → is_end t.token ≡ v → Adds (cond v (Ends e) (refuse t.token)) (spell e) t
+    go true is = (refl, end-is t.token is)
+    go false is = tt
+adds-behind x (Arguments name args ∷ k) e t =
+    adds-punct Comma t _ _ (so_far (AfterExpr x (Arguments name args ∷ k) e)) (λ is. (comma, is, rw (flat_map-push (spell_before comma) args e) (simp append_assoc)))
+    (adds-punct Close t _ (refuse t.token) (so_far (AfterExpr x (Arguments name args ∷ k) e)) (λ is. (closing, is, rw (spell_first-trees comma args e) (simp append_assoc))) tt)
+adds-behind x (Bracket place ∷ k) e t =
+    adds-any_sign (λ sign. Go (BeforeExpr x (Operands place sign e [] ∷ k))) t (so_far (AfterExpr x (Bracket place ∷ k) e)) (λ s is. (spelled_sign (spot s t.place), is, simp append_assoc))
+adds-behind x (Operands place sign first others ∷ k) e t =
+    adds-sign sign.text t _ _ (so_far (AfterExpr x (Operands place sign first others ∷ k) e)) (λ is. (another sign, is, rw (flat_map-push (spell_before (another sign)) others e) (simp append_assoc)))
+    (adds-punct Close t _ (refuse t.token) (so_far (AfterExpr x (Operands place sign first others ∷ k) e)) (λ is. (closing, is, rw (spell_first-trees (another sign) others e) (simp append_assoc))) tt)
 
 -- ---- all states
 
@@ -214,22 +232,31 @@ adds (BeforeMember name members) t = adds-member name members t
 adds (AfterMember name members) t = adds-punct Semicolon t _ _ (so_far (AfterMember name members)) (λ is. (semicolon, is, refl)) (adds-member name members t)
 adds (AfterRole role) t = adds-word (λ w. Go (AfterName (record { role = role; name = w }))) t (so_far (AfterRole role)) (λ w is. (spelled_word (spot w t.place), is, refl))
 adds (AfterName h) t = adds-punct Colon t _ (refuse t.token) (so_far (AfterName h)) (λ is. (Said (Punctuation Colon), is, refl)) tt
-adds (BeforeExpr h k) t = adds-expr h k t
-adds (AfterWord h k w) t =
-    adds-punct Open t _ _ (so_far (AfterWord h k w)) (λ is. adds-open k (AfterOpen h k w) (so_far (AfterWord h k w)) t (Said (Punctuation Open), is, simp append_assoc)) (adds-behind h k (Symbol w) t)
-adds (AfterOpen h k w) t = adds-punct Close t _ _ (so_far (AfterOpen h k w)) (λ is. (closing, is, simp append_assoc)) (adds-expr h (Arguments w [] ∷ k) t)
-adds (AfterExpr h k e) t = adds-behind h k e t
+adds (BeforeExpr x k) t = adds-expr x k t
+adds (AfterWord x k w) t =
+    adds-punct Open t _ _ (so_far (AfterWord x k w)) (λ is. adds-open k (AfterOpen x k w) (so_far (AfterWord x k w)) t (Said (Punctuation Open), is, simp append_assoc)) (adds-behind x k (Symbol w) t)
+adds (AfterOpen x k w) t = adds-punct Close t _ _ (so_far (AfterOpen x k w)) (λ is. (closing, is, simp append_assoc)) (adds-expr x (Arguments w [] ∷ k) t)
+adds (AfterExpr x k e) t = adds-behind x k e t
 
 -- ---- whole runs
 
-abbrev pub read_ok : List Statement → Result (List Statement) Fault
-read_ok l = Ok l
+abbrev pub read_ok : Parsed → Result Parsed Fault
+read_ok p = Ok p
 
-pub ok-is : (a b : List Statement) → read_ok a ≡ read_ok b → a ≡ b
+pub ok-is : (a b : Parsed) → read_ok a ≡ read_ok b → a ≡ b
 ok-is a b e = cc
 
--- the tokens up to the end spell what of the file isn't before them
-pub record Reads (ts : List Placed) (before : List Expected) (file : List Statement) : Type 0 where
+-- the spelling of an expression, where there is one
+abbrev pub spell_alone : Option Tree → List Expected
+spell_alone None = []
+spell_alone (Some t) = spell t
+
+-- the spelling of what is read
+abbrev pub spell_parsed : Parsed → List Expected
+spell_parsed p = spell_file p.statements ++ spell_alone p.expr
+
+-- the tokens up to the end spell what is read and isn't before them
+pub record Reads (ts : List Placed) (before : List Expected) (p : Parsed) : Type 0 where
   pub front : List Placed
   pub last : Placed
   pub back : List Placed
@@ -237,13 +264,13 @@ pub record Reads (ts : List Placed) (before : List Expected) (file : List Statem
   pub parts : ts ≡ front ++ last ∷ back
   pub ends : last.token ≡ End
   pub match : AllMatch front others
-  pub spelled : spell_file file ≡ before ++ others
+  pub spelled : spell_parsed p ≡ before ++ others
 
-pub run-found : (ts : List Placed) (done : List Statement) (at : State) (file : List Statement) → run done at ts ≡ Ok file → Reads ts (spell_file done ++ so_far at) file
-run-found [] done at file e = absurd cc
-run-found (t ∷ ts) done at file e = go (step at t) (adds at t) e (run-found ts)
+pub run-found : (ts : List Placed) (done : List Statement) (at : State) (p : Parsed) → run done at ts ≡ Ok p → Reads ts (spell_file done ++ so_far at) p
+run-found [] done at p e = absurd cc
+run-found (t ∷ ts) done at p e = go (step at t) (adds at t) e (run-found ts)
   where
-    one : (before after : List Expected) (m : Expected) → Matches t m → after ≡ before ++ m ∷ [] → Reads ts after file → Reads (t ∷ ts) before file
+    one : (before after : List Expected) (m : Expected) → Matches t m → after ≡ before ++ m ∷ [] → Reads ts after p → Reads (t ∷ ts) before p
     one before after m is e r = record {
       front = t ∷ r.front;
       last = r.last;
@@ -255,17 +282,21 @@ run-found (t ∷ ts) done at file e = go (step at t) (adds at t) e (run-found ts
       spelled = r.spelled ∙ ap (λ l. l ++ r.others) e ∙ append_assoc before (m ∷ []) r.others;
     }
 
-    go : (s : Step) → Adds s (so_far at) t → after_step done t.place (λ d a. run d a ts) s ≡ Ok file → ((d : List Statement) (a : State) (f : List Statement) → run d a ts ≡ Ok f → Reads ts (spell_file d ++ so_far a) f) → Reads (t ∷ ts) (spell_file done ++ so_far at) file
-    go (Go a) h e ih = one _ _ h.0 h.1 (ap (λ l. spell_file done ++ l) h.2 ∙ sym (append_assoc (spell_file done) (so_far at) _)) (ih done a file e)
-    go (Emit s) h e ih = one _ _ h.0 h.1 (ap (λ l. l ++ []) (flat_map-push spell_statement done s) ∙ append-nil _ ∙ ap (λ l. spell_file done ++ l) h.2 ∙ sym (append_assoc (spell_file done) (so_far at) _)) (ih (done ++ s ∷ []) Top file e)
-    go (Refuse kind) h e ih = absurd cc
-    go Finish h e ih = record {
+    last : (o : Option Tree) (spelled : List Expected) → so_far at ≡ spelled → t.token ≡ End → read_ok p ≡ read_ok (parsed done o) → spell_alone o ≡ spelled → Reads (t ∷ ts) (spell_file done ++ so_far at) p
+    last o spelled e ends ok f = record {
       front = [];
       last = t;
       back = ts;
       others = [];
       parts = refl;
-      ends = h.1;
+      ends = ends;
       match = tt;
-      spelled = ap spell_file (sym (ok-is done file e)) ∙ sym (ap (λ l. (spell_file done ++ l) ++ []) h.0 ∙ append-nil _ ∙ append-nil _);
+      spelled = ap spell_parsed (ok-is p (parsed done o) ok) ∙ ap (λ l. spell_file done ++ l) (f ∙ sym e) ∙ sym (append-nil _);
     }
+
+    go : (s : Step) → Adds s (so_far at) t → after_step done t.place (λ d a. run d a ts) s ≡ Ok p → ((d : List Statement) (a : State) (q : Parsed) → run d a ts ≡ Ok q → Reads ts (spell_file d ++ so_far a) q) → Reads (t ∷ ts) (spell_file done ++ so_far at) p
+    go (Go a) h e ih = one _ _ h.0 h.1 (ap (λ l. spell_file done ++ l) h.2 ∙ sym (append_assoc (spell_file done) (so_far at) _)) (ih done a p e)
+    go (Emit s) h e ih = one _ _ h.0 h.1 (ap (λ l. l ++ []) (flat_map-push spell_statement done s) ∙ append-nil _ ∙ ap (λ l. spell_file done ++ l) h.2 ∙ sym (append_assoc (spell_file done) (so_far at) _)) (ih (done ++ s ∷ []) Top p e)
+    go (Refuse kind) h e ih = absurd cc
+    go Finish h e ih = last None [] h.0 h.1 (sym e) refl
+    go (Ends x) h e ih = last (Some x) (spell x) h.0 h.1 (sym e) refl

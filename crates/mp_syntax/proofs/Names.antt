@@ -1,11 +1,10 @@
 -- The words and signs of what is read are those of tokens: 1 to 64 letters and digits, and sign bytes but the arrow.
 use Rattle.std.proofs.Common.{ℕ, zero, suc, List, [], ◌∷◌, ◌++◌, map, subst}
-use Rattle.std.specs.Prelude.{◌≢◌}
 use Rattle.std.specs.List.{flat_map}
 use Rattle.mp_syntax.specs.declared.place.Place.{Place}
 use Rattle.mp_syntax.specs.Tokens as tokens
 use Rattle.mp_syntax.specs.Tokens.{Token, Word, Sign, Placed, Spells, place_after, Tokens}
-use Rattle.mp_syntax.specs.Syntax.{Spot, Wildcard, Tree, Symbol, Apply, InfixOf, Wild, Trees, no_trees, more_trees, Flag, Assoc, Comm, One, Infixed, Statement, OpOf, KindOf, RuleOf, SubjectOf, Expected, Said, Stands, AllMatch, spelled_word, spelled_sign, another, comma, semicolon, spell, spell_first, spell_others, spell_named, spell_plus, spell_flag, spell_statement, spell_file, Fits, AreFit, FitsStatement, AreStatements, IsName, IsInfixSign, HasNames, HaveNames, HaveSigns, AreNames, StatementHasNames, StatementsHaveNames}
+use Rattle.mp_syntax.specs.Syntax.{Spot, Wildcard, Tree, Symbol, Apply, InfixOf, Wild, Trees, no_trees, more_trees, Flag, Assoc, Comm, One, Infixed, Statement, OpOf, KindOf, RuleOf, SubjectOf, Expected, Said, Stands, AllMatch, spelled_word, spelled_sign, another, comma, semicolon, spell, spell_first, spell_others, spell_named, spell_plus, spell_flag, spell_statement, spell_file, Fits, AreFit, FitsStatement, AreStatements, IsName, IsInfixSign, HasParts, HasNames, HaveNames, HaveSigns, AreNames, StatementHasNames, StatementsHaveNames}
 
 -- a text is this token
 abbrev pub HasText : Token → Type 0
@@ -46,14 +45,20 @@ texts-append (m ∷ a) b h = let r = texts-append a b h.1 in ((h.0, r.0), r.1)
 word-name : (w : List ℕ) → HasText (Word w) → IsName w
 word-name w h = record { is_word = h.1.1; is_short = h.1.2 }
 
-wildcard-name : (w : Wildcard) → HasText (tokens.Wildcard w.name w.marks w.kind) → w.name ≢ [] → IsName w.name
-wildcard-name w h some = record { is_word = record { some = some; bytes = h.1.0.name_bytes }; is_short = h.1.1 }
+wildcard-parts : (w : Wildcard) → HasText (tokens.Wildcard w.name w.marks w.kind) → HasParts w
+wildcard-parts w h = record {
+  name = λ some. record { is_word = record { some = some; bytes = h.1.0.name_bytes }; is_short = h.1.1 };
+  some_marks = h.1.0.some_marks;
+  few_marks = h.1.0.few_marks;
+  kind = λ some. record { is_word = record { some = some; bytes = h.1.0.kind_bytes }; is_short = h.1.2 };
+  kind_behind_one = h.1.0.kind_behind_one;
+}
 
 sign-name : (s : List ℕ) → HasText (Sign s) → IsInfixSign s
 sign-name s h = record { is_sign = h.1.1; no_arrow = h.1.2 }
 
 mutual
-  tree-names : (t : Tree) (room : ℕ) → Fits room t → ExpectTexts (spell t) → HasNames t
+  pub tree-names : (t : Tree) (room : ℕ) → Fits room t → ExpectTexts (spell t) → HasNames t
   tree-names (Symbol w) room fits h = word-name w.text h.0
   tree-names (Apply f args) zero fits h = absurd fits
   tree-names (Apply f args) (suc room) fits h = (word-name f.text h.0, first-names comma args room fits h.1.1)
@@ -62,8 +67,7 @@ mutual
   tree-names (InfixOf place sign (more_trees t ts)) (suc room) fits h =
       let r = texts-append (spell t) (spelled_sign sign ∷ spell_first (another sign) ts) h.1 in
       (sign-name sign.text r.1.0, (tree-names t room fits.1.0 r.0, first-names (another sign) ts room fits.1.1 r.1.1))
-  tree-names (Wild w) zero fits h = wildcard-name w h.0 fits.named
-  tree-names (Wild w) (suc room) fits h = wildcard-name w h.0 fits.named
+  tree-names (Wild w) room fits h = wildcard-parts w h.0
 
   first-names : (between : Expected) (ts : Trees) (room : ℕ) → AreFit room ts → ExpectTexts (spell_first between ts) → HaveNames ts
   first-names between no_trees room fits h = tt

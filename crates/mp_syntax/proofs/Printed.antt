@@ -1,5 +1,5 @@
 -- What is printed of statements is read again as those statements.
-use Rattle.std.proofs.Common.{◌≡◌, ◌≢◌, ℕ, zero, suc, ◌+◌, ◌≤◌, Bool, true, false, cond, List, [], ◌∷◌, ◌++◌, length, map, drop, refl, sym, ap, subst, ◌∙◌, arith, append_assoc}
+use Rattle.std.proofs.Common.{◌≡◌, ◌≢◌, ℕ, zero, suc, ◌+◌, Bool, true, false, cond, List, [], ◌∷◌, ◌++◌, length, map, drop, refl, sym, ap, subst, ◌∙◌, arith, append_assoc}
 use Rattle.std.specs.Prelude.{codes}
 use Rattle.std.specs.List.{flat_map, prefix_len}
 use Rattle.std.proofs.lemmas.List.{drop_at}
@@ -7,11 +7,13 @@ use Rattle.mp_syntax.specs.declared.place.Place.{Place}
 use Rattle.mp_syntax.specs.declared.token.Punct.{Punct}
 use Rattle.mp_syntax.specs.declared.token.Punct.TheVariants.{Open, Close, Comma, Colon, Semicolon}
 use Rattle.mp_syntax.specs.Tokens as tokens
-use Rattle.mp_syntax.specs.Tokens.{Token, Word, Sign, Punctuation, Placed, byte_of, is_sign_byte, Spells, IsWildcard, after_byte, first_place}
+use Rattle.mp_syntax.specs.Tokens.{Token, Word, Sign, Punctuation, Placed, byte_of, is_sign_byte, AreWordBytes, IsShort, Spells, IsWildcard, after_byte, first_place}
 use Rattle.mp_syntax.specs.Lexing.{kind_at, token_at, after_blanks, lexemes}
-use Rattle.mp_syntax.specs.Syntax.{Spot, Wildcard, Tree, Symbol, Apply, InfixOf, Wild, Trees, no_trees, more_trees, Flag, Assoc, Comm, One, Infixed, Statement, OpOf, KindOf, RuleOf, SubjectOf, Expected, Said, Stands, Matches, AllMatch, spelled_word, spelled_wildcard, spelled_sign, another, fixed_word, comma, closing, semicolon, spell, spell_first, spell_others, spell_operands, spell_named, spell_plus, spell_flag, spell_statement, spell_file, IsNamedDot, AreSeveral, Fits, AreFit, FitsStatement, AreStatements, IsName, IsInfixSign, HasNames, HaveNames, HaveSigns, AreNames, StatementHasNames, StatementsHaveNames, IsSyntaxOf}
+use Rattle.mp_syntax.specs.Syntax.{Spot, Wildcard, Tree, Symbol, Apply, InfixOf, Wild, Trees, no_trees, more_trees, Flag, Assoc, Comm, One, Infixed, Statement, OpOf, KindOf, RuleOf, SubjectOf, Expected, Said, Stands, Matches, AllMatch, spelled_word, spelled_wildcard, spelled_sign, another, fixed_word, comma, closing, semicolon, spell, spell_first, spell_others, spell_operands, spell_named, spell_plus, spell_flag, spell_statement, spell_file, AreSeveral, Fits, AreFit, FitsStatement, AreStatements, IsName, IsInfixSign, HasParts, HasNames, HaveNames, HaveSigns, AreNames, StatementHasNames, StatementsHaveNames, IsSyntaxOf}
 use Rattle.mp_syntax.specs.Machine.{Top, run}
+use Rattle.mp_syntax.specs.Reading.{statements_read}
 use Rattle.mp_syntax.specs.Printed.{wildcard_text, tree_text, first_text, others_text, plus_text, flag_text, member_text, line_end, named_text, statement_text, statements_text, unplaced_spot, unplaced_tree, unplaced_trees, unplaced_flag, unplaced}
+use Rattle.mp_syntax.proofs.Trees.{fits-named, named-fits}
 use Rattle.mp_syntax.proofs.Spelling.{spells-some, spells-token}
 use Rattle.mp_syntax.proofs.Fuel.{lexemes-step, lexemes-next}
 use Rattle.mp_syntax.proofs.TokensLaw.{starts-stay, plain-starts, spells-plain, behind-token, end_at}
@@ -152,28 +154,25 @@ others-end between separator s no_trees rest = refl
 others-end between separator s (more_trees t ts) rest =
     subst (λ l. prefix_len is_mark_byte l ≡ 0) (sym (append_assoc separator (tree_text t ++ others_text separator ts) rest)) (s.ends ((tree_text t ++ others_text separator ts) ++ rest))
 
--- a named dot is the text of its token
-dot-spells : (w : Wildcard) → IsName w.name → IsNamedDot w → Spells (wildcard_text w) (tokens.Wildcard w.name w.marks w.kind)
-dot-spells w h dot =
-    let short : length w.kind ≤ 64 = rw dot.plain (omega arith) in
+-- a word that may be missing has letters and digits alone, and at most 64 of them
+part-bytes : (w : List ℕ) → (w ≢ [] → IsName w) → AreWordBytes w × IsShort w
+part-bytes [] h = (refl, omega arith)
+part-bytes (b ∷ w) h = let is = h (λ e. absurd cc) in (is.is_word.bytes, is.is_short)
+
+-- a wildcard is the text of its token
+wildcard-spells : (w : Wildcard) → HasParts w → Spells (wildcard_text w) (tokens.Wildcard w.name w.marks w.kind)
+wildcard-spells w h =
+    let name = part-bytes w.name h.name in
+    let kind = part-bytes w.kind h.kind in
     let is : IsWildcard (wildcard_text w) w.name w.marks w.kind = record {
       parts = refl;
-      name_bytes = h.is_word.bytes;
-      some_marks = omega (arith, dot.dot);
-      few_marks = omega (arith, dot.dot);
-      kind_bytes = rw dot.plain refl;
-      kind_behind_one = λ e. dot.dot;
+      name_bytes = name.0;
+      some_marks = h.some_marks;
+      few_marks = h.few_marks;
+      kind_bytes = kind.0;
+      kind_behind_one = h.kind_behind_one;
     } in
-    (is, h.is_short, short)
-
--- a wildcard that fits is a named dot, at any number of brackets
-fits-dot : (room : ℕ) (w : Wildcard) → Fits room (Wild w) → IsNamedDot w
-fits-dot zero w h = h
-fits-dot (suc room) w h = h
-
-dot-fits : (room : ℕ) (w : Wildcard) → IsNamedDot w → Fits room (Wild w)
-dot-fits zero w h = h
-dot-fits (suc room) w h = h
+    (is, name.1, kind.1)
 
 symbol-fits : (room : ℕ) (w : Spot) → Fits room (Symbol w)
 symbol-fits zero w = tt
@@ -188,13 +187,12 @@ mutual
     lexes = lexes-word w.text rest place (Stands (Word w.text) place) h ends (refl, refl);
   }
   lexes-tree (Wild w) room rest place h fits ends =
-      let dot = fits-dot room w fits in
       let here : Wildcard = record { name = w.name; marks = w.marks; kind = w.kind; place = place } in
       record {
         tree = Wild here;
         same = refl;
-        fits = dot-fits room here (record { named = dot.named; dot = dot.dot; plain = dot.plain });
-        lexes = lexes-wildcard (wildcard_text w) w.name w.marks w.kind rest place (spelled_wildcard here) (dot-spells w h dot) ends (refl, refl);
+        fits = named-fits room here (fits-named room w fits);
+        lexes = lexes-wildcard (wildcard_text w) w.name w.marks w.kind rest place (spelled_wildcard here) (wildcard-spells w h) ends (refl, refl);
       }
   lexes-tree (Apply f args) zero rest place h fits ends = absurd fits
   lexes-tree (Apply f args) (suc room) rest place h fits ends =
@@ -536,4 +534,4 @@ printed-again file names fits =
     let x = lexes-file file first_place names fits in
     let bytes = statements_text file in
     let all : lexemes bytes first_place ≡ x.lexes.ts ++ end_at x.lexes.after ∷ [] = x.lexes.are ∙ ap (λ l. x.lexes.ts ++ l) (lexemes-step [] x.lexes.after) in
-    (x.all, reading-found bytes x.all (ap (run [] Top) all ∙ file-again x.all [] x.lexes.ts (end_at x.lexes.after ∷ []) x.lexes.match x.fits), x.same)
+    (x.all, reading-found bytes x.all (ap statements_read (ap (run [] Top) all ∙ file-again x.all [] x.lexes.ts (end_at x.lexes.after ∷ []) x.lexes.match x.fits)), x.same)

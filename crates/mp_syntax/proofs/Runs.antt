@@ -11,7 +11,7 @@ use Rattle.mp_syntax.specs.declared.fault.SyntaxError.TheVariants as errors
 use Rattle.mp_syntax.specs.Tokens.{Token, Word, Wildcard, Sign, Arrow, Punctuation, Long, Bad, End, Placed}
 use Rattle.mp_syntax.specs.Lexing.{behind}
 use Rattle.mp_syntax.specs.Syntax.{Spot, Tree, Apply, InfixOf, more_trees, trees, KindOf, Statement}
-use Rattle.mp_syntax.specs.Machine.{State, Role, Step, Go, Emit, Refuse, Heading, Frame, Arguments, Bracket, Operands, BeforeMember, AfterMember, BeforeExpr, AfterWord, AfterOpen, AfterExpr, is_punct, is_sign, word_of, dot_of, refuse, on_punct, on_word, step, step_open, step_dot, step_expr, run}
+use Rattle.mp_syntax.specs.Machine.{State, Role, Step, Go, Emit, Refuse, Heading, Within, Parsed, Frame, Arguments, Bracket, Operands, BeforeMember, AfterMember, BeforeExpr, AfterWord, AfterOpen, AfterExpr, is_punct, is_sign, word_of, named_wildcard, refuse, on_punct, on_word, step, step_open, step_wildcard, step_expr, run}
 use Rattle.mp_syntax.specs.Parsing.{onward, WantsPunct, Fails}
 
 -- behind a punctuation character lie the other tokens
@@ -42,33 +42,33 @@ pub length-passed : (p : Punct) (t : Placed) (old new : List Placed) → old ≡
 length-passed p t old new e h = ap length (e ∙ ap (λ ts. t ∷ ts) (behind-punct p t.token new h))
 
 -- behind an argument that is read, where no comma follows, the bracket closes
-pub expr-closes : (h : Heading) (name : Spot) (args : List Tree) (k : List Frame) (e : Tree) (t : Placed) → is_punct Comma t.token ≡ false → WantsPunct t (AfterExpr h (Arguments name args ∷ k) e) Close (Go (AfterExpr h k (Apply name (trees (args ++ e ∷ [])))))
-expr-closes h name args k e t no-comma = ap (λ b. cond b (Go (BeforeExpr h (Arguments name (args ++ e ∷ []) ∷ k))) (on_punct Close t.token (Go (AfterExpr h k (Apply name (trees (args ++ e ∷ []))))))) no-comma
+pub expr-closes : (x : Within) (name : Spot) (args : List Tree) (k : List Frame) (e : Tree) (t : Placed) → is_punct Comma t.token ≡ false → WantsPunct t (AfterExpr x (Arguments name args ∷ k) e) Close (Go (AfterExpr x k (Apply name (trees (args ++ e ∷ [])))))
+expr-closes x name args k e t no-comma = ap (λ b. cond b (Go (BeforeExpr x (Arguments name (args ++ e ∷ []) ∷ k))) (on_punct Close t.token (Go (AfterExpr x k (Apply name (trees (args ++ e ∷ []))))))) no-comma
 
 -- behind an operand that is read, where the sign doesn't follow, the bracket closes
-pub operand-closes : (h : Heading) (place : Place) (sign : Spot) (first : Tree) (others : List Tree) (k : List Frame) (e : Tree) (t : Placed) → is_sign sign.text t.token ≡ false → WantsPunct t (AfterExpr h (Operands place sign first others ∷ k) e) Close (Go (AfterExpr h k (InfixOf place sign (more_trees first (trees (others ++ e ∷ []))))))
-operand-closes h place sign first others k e t no-sign = ap (λ b. cond b (Go (BeforeExpr h (Operands place sign first (others ++ e ∷ []) ∷ k))) (on_punct Close t.token (Go (AfterExpr h k (InfixOf place sign (more_trees first (trees (others ++ e ∷ [])))))))) no-sign
+pub operand-closes : (x : Within) (place : Place) (sign : Spot) (first : Tree) (others : List Tree) (k : List Frame) (e : Tree) (t : Placed) → is_sign sign.text t.token ≡ false → WantsPunct t (AfterExpr x (Operands place sign first others ∷ k) e) Close (Go (AfterExpr x k (InfixOf place sign (more_trees first (trees (others ++ e ∷ []))))))
+operand-closes x place sign first others k e t no-sign = ap (λ b. cond b (Go (BeforeExpr x (Operands place sign first (others ++ e ∷ []) ∷ k))) (on_punct Close t.token (Go (AfterExpr x k (InfixOf place sign (more_trees first (trees (others ++ e ∷ [])))))))) no-sign
 
 -- behind an operand the sign leads on
-pub operand-again : (h : Heading) (place : Place) (sign : Spot) (first : Tree) (others : List Tree) (k : List Frame) (e : Tree) (t : Placed) → is_sign sign.text t.token ≡ true → step (AfterExpr h (Operands place sign first others ∷ k) e) t ≡ Go (BeforeExpr h (Operands place sign first (others ++ e ∷ []) ∷ k))
-operand-again h place sign first others k e t is = ap (λ b. cond b (Go (BeforeExpr h (Operands place sign first (others ++ e ∷ []) ∷ k))) (on_punct Close t.token (Go (AfterExpr h k (InfixOf place sign (more_trees first (trees (others ++ e ∷ [])))))))) is
+pub operand-again : (x : Within) (place : Place) (sign : Spot) (first : Tree) (others : List Tree) (k : List Frame) (e : Tree) (t : Placed) → is_sign sign.text t.token ≡ true → step (AfterExpr x (Operands place sign first others ∷ k) e) t ≡ Go (BeforeExpr x (Operands place sign first (others ++ e ∷ []) ∷ k))
+operand-again x place sign first others k e t is = ap (λ b. cond b (Go (BeforeExpr x (Operands place sign first (others ++ e ∷ []) ∷ k))) (on_punct Close t.token (Go (AfterExpr x k (InfixOf place sign (more_trees first (trees (others ++ e ∷ [])))))))) is
 
 -- a fault stays one along an equation
-pub fails-along : (e : SyntaxError) (x y : Result (List Statement) Fault) → x ≡ y → Fails e y → Fails e x
-fails-along errors.Memory x y p h = tt
-fails-along (errors.Fault f) x y p h = p ∙ h
+pub fails-along : (e : SyntaxError) (a b : Result Parsed Fault) → a ≡ b → Fails e b → Fails e a
+fails-along errors.Memory a b p h = tt
+fails-along (errors.Fault f) a b p h = p ∙ h
 
 -- the bracket of an application, where there is room
-pub word-opens : (h : Heading) (k : List Frame) (w : Spot) (t : Placed) (room : ℕ) → length k + room ≡ 100 → 0 < room → is_punct Open t.token ≡ true → step (AfterWord h k w) t ≡ Go (AfterOpen h k w)
-word-opens h k w t room len some e = rw (e, lt-leb 100 (length k) (omega (arith, len, some))) refl
+pub word-opens : (x : Within) (k : List Frame) (w : Spot) (t : Placed) (room : ℕ) → length k + room ≡ 100 → 0 < room → is_punct Open t.token ≡ true → step (AfterWord x k w) t ≡ Go (AfterOpen x k w)
+word-opens x k w t room len some e = rw (e, lt-leb 100 (length k) (omega (arith, len, some))) refl
 
 -- an application without arguments
-pub open-closes : (h : Heading) (k : List Frame) (w : Spot) (t : Placed) → is_punct Close t.token ≡ true → step (AfterOpen h k w) t ≡ Go (AfterExpr h k (Apply w (trees [])))
-open-closes h k w t e = rw e refl
+pub open-closes : (x : Within) (k : List Frame) (w : Spot) (t : Placed) → is_punct Close t.token ≡ true → step (AfterOpen x k w) t ≡ Go (AfterExpr x k (Apply w (trees [])))
+open-closes x k w t e = rw e refl
 
 -- an application that is not closed at once has an argument
-pub open-expr : (done : List Statement) (h : Heading) (k : List Frame) (w : Spot) (t : Placed) (ts : List Placed) → is_punct Close t.token ≡ false → run done (AfterOpen h k w) (t ∷ ts) ≡ run done (BeforeExpr h (Arguments w [] ∷ k)) (t ∷ ts)
-open-expr done h k w t ts e = ap (λ b. onward t.place done (cond b (Go (AfterExpr h k (Apply w (trees [])))) (step_expr 100 h (Arguments w [] ∷ k) t (word_of t.token))) ts) e
+pub open-expr : (done : List Statement) (x : Within) (k : List Frame) (w : Spot) (t : Placed) (ts : List Placed) → is_punct Close t.token ≡ false → run done (AfterOpen x k w) (t ∷ ts) ≡ run done (BeforeExpr x (Arguments w [] ∷ k)) (t ∷ ts)
+open-expr done x k w t ts e = ap (λ b. onward t.place done (cond b (Go (AfterExpr x k (Apply w (trees [])))) (step_expr 100 x (Arguments w [] ∷ k) t (word_of t.token))) ts) e
 
 -- a bracket is no word
 pub bracket-no_word : (t : Token) → is_punct Open t ≡ true → word_of t ≡ None
@@ -76,12 +76,12 @@ bracket-no_word (Punctuation p) h = refl
 bracket-no_word _ h = absurd cc
 
 -- the bracket of an infix expression
-pub bracket-step : (h : Heading) (k : List Frame) (t : Placed) → is_punct Open t.token ≡ true → step (BeforeExpr h k) t ≡ step_open 100 k (BeforeExpr h (Bracket t.place ∷ k))
-bracket-step h k t e = ap (step_expr 100 h k t) (bracket-no_word t.token e) ∙ ap (λ b. cond b (step_open 100 k (BeforeExpr h (Bracket t.place ∷ k))) (step_dot h k t (dot_of t.token))) e
+pub bracket-step : (x : Within) (k : List Frame) (t : Placed) → is_punct Open t.token ≡ true → step (BeforeExpr x k) t ≡ step_open 100 k (BeforeExpr x (Bracket t.place ∷ k))
+bracket-step x k t e = ap (step_expr 100 x k t) (bracket-no_word t.token e) ∙ ap (λ b. cond b (step_open 100 k (BeforeExpr x (Bracket t.place ∷ k))) (step_wildcard x k t (named_wildcard t.token t.place))) e
 
 -- the same where there is room
-pub bracket-opens : (h : Heading) (k : List Frame) (t : Placed) (room : ℕ) → length k + room ≡ 100 → 0 < room → is_punct Open t.token ≡ true → step (BeforeExpr h k) t ≡ Go (BeforeExpr h (Bracket t.place ∷ k))
-bracket-opens h k t room len some e = bracket-step h k t e ∙ ap (λ b. cond b (Refuse TooDeep) (Go (BeforeExpr h (Bracket t.place ∷ k)))) (lt-leb 100 (length k) (omega (arith, len, some)))
+pub bracket-opens : (x : Within) (k : List Frame) (t : Placed) (room : ℕ) → length k + room ≡ 100 → 0 < room → is_punct Open t.token ≡ true → step (BeforeExpr x k) t ≡ Go (BeforeExpr x (Bracket t.place ∷ k))
+bracket-opens x k t room len some e = bracket-step x k t e ∙ ap (λ b. cond b (Refuse TooDeep) (Go (BeforeExpr x (Bracket t.place ∷ k)))) (lt-leb 100 (length k) (omega (arith, len, some)))
 
 -- behind a member of a kind, where no semicolon follows, there is another member
 pub member-again : (done : List Statement) (name : Spot) (members : List Spot) (t : Placed) (ts : List Placed) → is_punct Semicolon t.token ≡ false → run done (AfterMember name members) (t ∷ ts) ≡ run done (BeforeMember name members) (t ∷ ts)

@@ -1,11 +1,11 @@
--- Trees and lists of trees, and the trees of applications and infix expressions.
-use Rattle.std.proofs.Common.{◌≡◌, List, [], ◌∷◌, map, Vec, Global, refl, ap, ◌∙◌}
+-- Trees and lists of trees, the trees of applications and infix expressions, and wildcards, which fit at any number of brackets.
+use Rattle.std.proofs.Common.{◌≡◌, ℕ, zero, suc, List, [], ◌∷◌, map, Vec, Global, refl, ap, ◌∙◌}
 use mathlib.Core.Former.{Count}
 use Rattle.mp_syntax.specs.declared.place.Place.{Place}
 use Rattle.mp_syntax.specs.declared.place.Spot as code_spot
 use Rattle.mp_syntax.specs.declared.tree.Expr.{Expr, Apply, Apply', Infix, Infix', Row_of-Expr, end_of-Expr, more_of-Expr, items-the_row-Expr, items_hidden-the_row-Expr-0}
 use Rattle.mp_syntax.specs.Syntax as syntax
-use Rattle.mp_syntax.specs.Syntax.{Tree, Trees, trees, tree_list, no_trees, more_trees}
+use Rattle.mp_syntax.specs.Syntax.{Wildcard, Tree, Wild, Trees, trees, tree_list, no_trees, more_trees, IsNamedWildcard, Fits}
 use Rattle.mp_syntax.specs.View.{spot_of, expr_tree, row_trees}
 
 -- the trees of the list of trees
@@ -38,3 +38,13 @@ pub expr_tree-Infix : (place : Place) (sign : code_spot.Spot) (v : Vec Expr Glob
 expr_tree-Infix place sign v =
     let row = row_of (Infix place sign v) in
     ap (syntax.InfixOf place (spot_of sign)) (row_trees-row row.0 row.1 ∙ ap (λ l. trees (map expr_tree l)) (items_hidden-the_row-Expr-0 v))
+
+-- a wildcard that fits has a name
+pub fits-named : (room : ℕ) (w : Wildcard) → Fits room (Wild w) → IsNamedWildcard w
+fits-named zero w h = h
+fits-named (suc room) w h = h
+
+-- a wildcard with a name fits
+pub named-fits : (room : ℕ) (w : Wildcard) → IsNamedWildcard w → Fits room (Wild w)
+named-fits zero w h = h
+named-fits (suc room) w h = h

@@ -1,26 +1,28 @@
 -- What is read is what the bytes are, and the bytes are what is read.
-use Rattle.std.proofs.Common.{◌≡◌, ℕ, Bool, true, false, List, [], ◌∷◌, ◌++◌, map, Option, Some, Result, Ok, Err, Vec, Global, sym, ap, subst, ◌∙◌}
+use Rattle.std.proofs.Common.{◌≡◌, ℕ, Bool, true, false, List, [], ◌∷◌, ◌++◌, map, Option, Some, None, Result, Ok, Err, Vec, Global, append-nil, refl, sym, ap, subst, ◌∙◌}
 use Rattle.std.specs.Prelude.{◌↔◌, IfOk, IfErr}
 use Rattle.std.specs.List.{flat_map}
 use Rattle.mp_syntax.specs.declared.place.Place.{Place}
 use Rattle.mp_syntax.specs.declared.fault.Fault.{Fault}
 use Rattle.mp_syntax.specs.declared.fault.SyntaxError.{SyntaxError}
 use Rattle.mp_syntax.specs.declared.fault.SyntaxError.TheVariants as errors
+use Rattle.mp_syntax.specs.declared.tree.Expr.{Expr}
 use Rattle.mp_syntax.specs.declared.tree.Statement as code
-use Rattle.mp_syntax.specs.Tokens.{End, Placed, first_place}
+use Rattle.mp_syntax.specs.Tokens.{End, Placed, Tokens, first_place}
 use Rattle.mp_syntax.specs.Lexing.{lexemes, token_at, behind}
-use Rattle.mp_syntax.specs.Syntax.{Spot, Tree, Symbol, Apply, InfixOf, Wild, Trees, no_trees, more_trees, Flag, Assoc, Comm, One, Infixed, Statement, OpOf, KindOf, RuleOf, SubjectOf, Expected, Said, Stands, AllMatch, spelled_word, another, comma, semicolon, spell, spell_first, spell_others, spell_operands, spell_plus, spell_flag, spell_statement, spell_file, IsSyntaxOf, StatementsHaveNames}
-use Rattle.mp_syntax.specs.View.{statement_tree}
-use Rattle.mp_syntax.specs.Machine.{Top, run}
-use Rattle.mp_syntax.specs.Parsing.{FileGives}
-use Rattle.mp_syntax.specs.Reading.{reading, read_value, syntax_of, IfFault, IsOkOrMemory}
+use Rattle.mp_syntax.specs.Syntax.{Spot, Tree, Symbol, Apply, InfixOf, Wild, Trees, no_trees, more_trees, Flag, Assoc, Comm, One, Infixed, Statement, OpOf, KindOf, RuleOf, SubjectOf, Expected, Said, Stands, AllMatch, spelled_word, another, comma, semicolon, spell, spell_first, spell_others, spell_operands, spell_plus, spell_flag, spell_statement, spell_file, IsExprOf, IsSyntaxOf, HasNames, StatementsHaveNames}
+use Rattle.mp_syntax.specs.View.{expr_tree, statement_tree}
+use Rattle.mp_syntax.specs.Machine.{State, Top, BeforeExpr, Alone, Parsed, parsed, run}
+use Rattle.mp_syntax.specs.Partial.{so_far}
+use Rattle.mp_syntax.specs.Parsing.{FileGives, AloneGives}
+use Rattle.mp_syntax.specs.Reading.{parsed_file, parsed_expr, statements_alone, expr_alone, statements_read, expr_read, reading, expr_reading, read_value, syntax_of, expr_of, IfFault, IsOkOrMemory, IsExprOrMemory}
 use Rattle.mp_syntax.proofs.Longest.{IsToken}
 use Rattle.mp_syntax.proofs.Fuel.{lexemes-step}
 use Rattle.mp_syntax.proofs.TokensLaw.{AreTokens, behind-token, end_at, head-is, tail-is, tokens-lexemes, lexemes-tokens}
-use Rattle.mp_syntax.proofs.Found.{run-found, read_ok, ok-is}
+use Rattle.mp_syntax.proofs.Found.{spell_parsed, run-found, read_ok, ok-is}
 use Rattle.mp_syntax.proofs.Fit.{run-fits}
-use Rattle.mp_syntax.proofs.Again.{file-again}
-use Rattle.mp_syntax.proofs.Names.{expected_token, tokens-texts, match-texts, file-names}
+use Rattle.mp_syntax.proofs.Again.{file-again, alone-again}
+use Rattle.mp_syntax.proofs.Names.{expected_token, tokens-texts, match-texts, tree-names, file-names}
 
 -- ---- a spelling has tokens alone
 
@@ -105,66 +107,151 @@ lexemes-end (x ∷ front) bytes place last back h ends e =
 
 -- ---- both directions
 
+-- the tokens of what is read
+record Lies (bytes : List ℕ) (ms : List Expected) : Type 0 where
+  tokens : List Placed
+  lie : Tokens bytes first_place tokens
+  match : AllMatch tokens ms
+
+-- what is read of the bytes from a state without tokens before it
+lies-read : (bytes : List ℕ) (at : State) (p : Parsed) (ms : List Expected) → run [] at (lexemes bytes first_place) ≡ Ok p → so_far at ≡ [] → spell_parsed p ≡ ms → ExpectTokens ms → Lies bytes ms
+lies-read bytes at p ms e none is are =
+    let r = run-found (lexemes bytes first_place) [] at p e in
+    let match : AllMatch r.front ms = subst (AllMatch r.front) (ap (λ l. l ++ r.others) (sym none) ∙ sym r.spelled ∙ is) r.match in
+    let tokens : AreTokens r.front = match-tokens r.front ms match are in
+    record { tokens = r.front; lie = lexemes-tokens r.front bytes first_place r.last.place tokens (lexemes-end r.front bytes first_place r.last r.back tokens r.ends r.parts); match = match }
+
+-- statements that are read as a file
+parsed-found : (bytes : List ℕ) (file : List Statement) → parsed_file bytes ≡ Ok (parsed file None) → IsSyntaxOf bytes file
+parsed-found bytes file e =
+    let r = lies-read bytes Top (parsed file None) (spell_file file) e refl (append-nil (spell_file file)) (file-tokens file) in
+    record { tokens = r.tokens; lie = r.lie; spelled = r.match; fits = (run-fits (lexemes bytes first_place) [] Top (parsed file None) tt tt e).0 }
+
+-- an expression that is read alone
+alone-found : (bytes : List ℕ) (t : Tree) → parsed_expr bytes ≡ Ok (parsed [] (Some t)) → IsExprOf bytes t
+alone-found bytes t e =
+    let r = lies-read bytes (BeforeExpr Alone []) (parsed [] (Some t)) (spell t) e refl refl (spell-tokens t) in
+    record { tokens = r.tokens; lie = r.lie; spelled = r.match; fits = (run-fits (lexemes bytes first_place) [] (BeforeExpr Alone []) (parsed [] (Some t)) tt tt e).1 }
+
+abbrev value_ok : {A : Type 0} → A → Result A Fault
+value_ok v = Ok v
+
+value-is : {A : Type 0} (a b : A) → value_ok a ≡ value_ok b → a ≡ b
+value-is a b e = cc
+
+-- the statements that are read
+statements_read-ok : (r : Result Parsed Fault) (file : List Statement) → statements_read r ≡ Ok file → r ≡ Ok (parsed file None)
+statements_read-ok (Ok p) file e = go p.statements p.expr e
+  where
+    go : (ss : List Statement) (o : Option Tree) → statements_alone ss o ≡ Ok file → read_ok (parsed ss o) ≡ read_ok (parsed file None)
+    go ss None e = ap (λ l. read_ok (parsed l None)) (value-is ss file e)
+    go ss (Some t) e = absurd cc
+statements_read-ok (Err f) file e = absurd cc
+
+-- the expression that is read
+expr_read-ok : (r : Result Parsed Fault) (t : Tree) → expr_read r ≡ Ok t → r ≡ Ok (parsed [] (Some t))
+expr_read-ok (Ok p) t e = go p.statements p.expr e
+  where
+    go : (ss : List Statement) (o : Option Tree) → expr_alone ss o ≡ Ok t → read_ok (parsed ss o) ≡ read_ok (parsed [] (Some t))
+    go [] (Some u) e = ap (λ l. read_ok (parsed [] (Some l))) (value-is u t e)
+    go [] None e = absurd cc
+    go (s ∷ ss) o e = absurd cc
+expr_read-ok (Err f) t e = absurd cc
+
 -- what is read is what the bytes are
 pub reading-found : (bytes : List ℕ) (file : List Statement) → reading bytes ≡ Ok file → IsSyntaxOf bytes file
-reading-found bytes file e =
-    let r = run-found (lexemes bytes first_place) [] Top file e in
-    let match : AllMatch r.front (spell_file file) = subst (AllMatch r.front) (sym r.spelled) r.match in
-    let are : AreTokens r.front = match-tokens r.front (spell_file file) match (file-tokens file) in
-    record {
-      tokens = r.front;
-      lie = lexemes-tokens r.front bytes first_place r.last.place are (lexemes-end r.front bytes first_place r.last r.back are r.ends r.parts);
-      spelled = match;
-      fits = run-fits (lexemes bytes first_place) [] Top file tt tt e;
-    }
+reading-found bytes file e = parsed-found bytes file (statements_read-ok (parsed_file bytes) file e)
+
+-- the same of an expression alone
+pub expr_reading-found : (bytes : List ℕ) (t : Tree) → expr_reading bytes ≡ Ok t → IsExprOf bytes t
+expr_reading-found bytes t e = alone-found bytes t (expr_read-ok (parsed_expr bytes) t e)
 
 -- what the bytes are is read
-pub reading-only : (bytes : List ℕ) (file : List Statement) → IsSyntaxOf bytes file → reading bytes ≡ Ok file
-reading-only bytes file f =
+parsed-only : (bytes : List ℕ) (file : List Statement) → IsSyntaxOf bytes file → parsed_file bytes ≡ read_ok (parsed file None)
+parsed-only bytes file f =
     let k = tokens-lexemes f.tokens bytes first_place f.lie in
     ap (run [] Top) k.1 ∙ file-again file [] f.tokens (end_at k.0 ∷ []) f.spelled f.fits
 
-abbrev some_file : List Statement → Option (List Statement)
-some_file file = Some file
+alone-only : (bytes : List ℕ) (t : Tree) → IsExprOf bytes t → parsed_expr bytes ≡ read_ok (parsed [] (Some t))
+alone-only bytes t f =
+    let k = tokens-lexemes f.tokens bytes first_place f.lie in
+    ap (run [] (BeforeExpr Alone [])) k.1 ∙ alone-again t f.tokens (end_at k.0) f.spelled f.fits refl
 
-some-is : (a b : List Statement) → some_file a ≡ some_file b → a ≡ b
+pub reading-only : (bytes : List ℕ) (file : List Statement) → IsSyntaxOf bytes file → reading bytes ≡ Ok file
+reading-only bytes file f = ap statements_read (parsed-only bytes file f)
+
+pub expr_reading-only : (bytes : List ℕ) (t : Tree) → IsExprOf bytes t → expr_reading bytes ≡ Ok t
+expr_reading-only bytes t f = ap expr_read (alone-only bytes t f)
+
+abbrev some_value : {A : Type 0} → A → Option A
+some_value v = Some v
+
+some-is : {A : Type 0} (a b : A) → some_value a ≡ some_value b → a ≡ b
 some-is a b e = cc
 
-read_value-some : (r : Result (List Statement) Fault) (file : List Statement) → read_value r ≡ Some file → r ≡ Ok file
-read_value-some (Ok a) file e = ap read_ok (some-is a file e)
-read_value-some (Err f) file e = absurd cc
+read_value-some : {A : Type 0} (r : Result A Fault) (v : A) → read_value r ≡ Some v → r ≡ Ok v
+read_value-some (Ok a) v e = ap value_ok (some-is a v e)
+read_value-some (Err f) v e = absurd cc
 
 -- the statements of bytes are a function of them
 pub syntax_of-exact : (bytes : List ℕ) (file : List Statement) → IsSyntaxOf bytes file ↔ (syntax_of bytes ≡ Some file)
 syntax_of-exact bytes file = (λ f. ap read_value (reading-only bytes file f), λ e. reading-found bytes file (read_value-some (reading bytes) file e))
 
+-- the expression of bytes is a function of them
+pub expr_of-exact : (bytes : List ℕ) (t : Tree) → IsExprOf bytes t ↔ (expr_of bytes ≡ Some t)
+expr_of-exact bytes t = (λ f. ap read_value (expr_reading-only bytes t f), λ e. expr_reading-found bytes t (read_value-some (expr_reading bytes) t e))
+
 -- each word of the statements of bytes is one of at most 64 bytes
 pub syntax-names : (bytes : List ℕ) (file : List Statement) → IsSyntaxOf bytes file → StatementsHaveNames file
 syntax-names bytes file f = file-names file f.fits (match-texts f.tokens (spell_file file) f.spelled (tokens-texts f.tokens bytes first_place f.lie))
 
+-- each word of the expression of bytes is one of at most 64 bytes
+pub expr-names : (bytes : List ℕ) (t : Tree) → IsExprOf bytes t → HasNames t
+expr-names bytes t f = tree-names t 100 f.fits (match-texts f.tokens (spell t) f.spelled (tokens-texts f.tokens bytes first_place f.lie))
+
 -- ---- the answers of the parser
 
+-- the errors differ from what is read
+ok-no_err : (p : Parsed) (f : Fault) → read_ok p ≡ Err f → ⊥
+ok-no_err p f e = cc
+
 -- what is answered is what the bytes are
-pub answer-found : (bytes : List ℕ) (r : Result (Vec code.Statement Global) SyntaxError) → FileGives r (reading bytes) → IfOk r (λ v. IsSyntaxOf bytes (map statement_tree v.items))
-answer-found bytes (Ok v) h = reading-found bytes _ h
+pub answer-found : (bytes : List ℕ) (r : Result (Vec code.Statement Global) SyntaxError) → FileGives r (parsed_file bytes) → IfOk r (λ v. IsSyntaxOf bytes (map statement_tree v.items))
+answer-found bytes (Ok v) h = parsed-found bytes _ h
 answer-found bytes (Err e) h = tt
 
 -- its words are names
-pub answer-names : (bytes : List ℕ) (r : Result (Vec code.Statement Global) SyntaxError) → FileGives r (reading bytes) → IfOk r (λ v. StatementsHaveNames (map statement_tree v.items))
-answer-names bytes (Ok v) h = syntax-names bytes _ (reading-found bytes _ h)
+pub answer-names : (bytes : List ℕ) (r : Result (Vec code.Statement Global) SyntaxError) → FileGives r (parsed_file bytes) → IfOk r (λ v. StatementsHaveNames (map statement_tree v.items))
+answer-names bytes (Ok v) h = syntax-names bytes _ (parsed-found bytes _ h)
 answer-names bytes (Err e) h = tt
 
 -- what the bytes are is answered
-pub answer-only : (bytes : List ℕ) (r : Result (Vec code.Statement Global) SyntaxError) → FileGives r (reading bytes) → (file : List Statement) → IsSyntaxOf bytes file → IsOkOrMemory r (λ read. read ≡ file)
-answer-only bytes (Ok v) h file f = ok-is _ _ (sym h ∙ reading-only bytes file f)
+pub answer-only : (bytes : List ℕ) (r : Result (Vec code.Statement Global) SyntaxError) → FileGives r (parsed_file bytes) → (file : List Statement) → IsSyntaxOf bytes file → IsOkOrMemory r (λ read. read ≡ file)
+answer-only bytes (Ok v) h file f = ap (λ (p : Parsed). p.statements) (ok-is _ _ (sym h ∙ parsed-only bytes file f))
 answer-only bytes (Err errors.Memory) h file f = tt
-answer-only bytes (Err (errors.Fault x)) h file f = differs (sym (reading-only bytes file f) ∙ h)
-  where
-    differs : read_ok file ≡ Err x → ⊥
-    differs e = cc
+answer-only bytes (Err (errors.Fault x)) h file f = ok-no_err (parsed file None) x (sym (parsed-only bytes file f) ∙ h)
 
 -- a fault is the one that is read
-pub answer-fault : (bytes : List ℕ) (r : Result (Vec code.Statement Global) SyntaxError) → FileGives r (reading bytes) → IfErr r (λ e. IfFault e (λ f. reading bytes ≡ Err f))
+pub answer-fault : (bytes : List ℕ) (r : Result (Vec code.Statement Global) SyntaxError) → FileGives r (parsed_file bytes) → IfErr r (λ e. IfFault e (λ f. reading bytes ≡ Err f))
 answer-fault bytes (Ok v) h = tt
 answer-fault bytes (Err errors.Memory) h = tt
-answer-fault bytes (Err (errors.Fault f)) h = h
+answer-fault bytes (Err (errors.Fault f)) h = ap statements_read h
+
+-- the same of an expression alone
+pub alone_answer-found : (bytes : List ℕ) (r : Result Expr SyntaxError) → AloneGives r (parsed_expr bytes) → IfOk r (λ e. IsExprOf bytes (expr_tree e))
+alone_answer-found bytes (Ok e) h = alone-found bytes _ h
+alone_answer-found bytes (Err e) h = tt
+
+pub alone_answer-names : (bytes : List ℕ) (r : Result Expr SyntaxError) → AloneGives r (parsed_expr bytes) → IfOk r (λ e. HasNames (expr_tree e))
+alone_answer-names bytes (Ok e) h = expr-names bytes _ (alone-found bytes _ h)
+alone_answer-names bytes (Err e) h = tt
+
+pub alone_answer-only : (bytes : List ℕ) (r : Result Expr SyntaxError) → AloneGives r (parsed_expr bytes) → (t : Tree) → IsExprOf bytes t → IsExprOrMemory r (λ read. read ≡ t)
+alone_answer-only bytes (Ok e) h t f = some-is _ _ (ap (λ (p : Parsed). p.expr) (ok-is _ _ (sym h ∙ alone-only bytes t f)))
+alone_answer-only bytes (Err errors.Memory) h t f = tt
+alone_answer-only bytes (Err (errors.Fault x)) h t f = ok-no_err (parsed [] (Some t)) x (sym (alone-only bytes t f) ∙ h)
+
+pub alone_answer-fault : (bytes : List ℕ) (r : Result Expr SyntaxError) → AloneGives r (parsed_expr bytes) → IfErr r (λ e. IfFault e (λ f. expr_reading bytes ≡ Err f))
+alone_answer-fault bytes (Ok e) h = tt
+alone_answer-fault bytes (Err errors.Memory) h = tt
+alone_answer-fault bytes (Err (errors.Fault f)) h = ap expr_read h

@@ -1,5 +1,5 @@
 -- Reading token by token: a state is what is read of a statement, and each token leads on or is refused.
-use Rattle.std.specs.Prelude.{ℕ, zero, suc, Bool, true, false, List, [], ◌∷◌, ◌++◌, length, Option, Some, None, Result, Ok, Err, nat_le, if◌then◌else◌, codes}
+use Rattle.std.specs.Prelude.{ℕ, Bool, true, false, List, [], ◌∷◌, ◌++◌, length, Option, Some, None, Result, Ok, Err, nat_le, if◌then◌else◌, codes}
 use Rattle.std.specs.Str.{bytes_eq}
 use Rattle.std.specs.List.{list_all}
 use Rattle.std.specs.Char.{is_ascii_digit}
@@ -11,7 +11,7 @@ use Rattle.mp_syntax.specs.declared.fault.FaultKind.TheVariants.{Syntax, TooDeep
 use Rattle.mp_syntax.specs.declared.fault.Fault.{Fault}
 use Rattle.mp_syntax.specs.Tokens as tokens
 use Rattle.mp_syntax.specs.Tokens.{Token, Word, Sign, Punctuation, Long, Bad, End, Placed}
-use Rattle.mp_syntax.specs.Syntax.{Spot, Tree, Symbol, Apply, InfixOf, Wild, more_trees, trees, Flag, Assoc, Comm, One, Infixed, Statement, OpOf, KindOf, RuleOf, SubjectOf}
+use Rattle.mp_syntax.specs.Syntax.{Spot, Wildcard, Tree, Symbol, Apply, InfixOf, Wild, more_trees, trees, Flag, Assoc, Comm, One, Infixed, Statement, OpOf, KindOf, RuleOf, SubjectOf}
 
 -- ---- tests on tokens
 
@@ -55,10 +55,10 @@ abbrev pub is_sign : List ℕ → Token → Bool
 is_sign text (Sign s) = bytes_eq s text
 is_sign text _ = false
 
--- the name of a named wildcard with one underscore and no kind
-abbrev pub dot_of : Token → Option (List ℕ)
-dot_of (tokens.Wildcard (b ∷ bs) (suc zero) []) = Some (b ∷ bs)
-dot_of _ = None
+-- the wildcard that a token at this place is, where it has a name
+abbrev pub named_wildcard : Token → Place → Option Wildcard
+named_wildcard (tokens.Wildcard (b ∷ bs) marks kind) place = Some (record { name = b ∷ bs; marks = marks; kind = kind; place = place })
+named_wildcard _ place = None
 
 -- digits alone
 abbrev pub is_number : List ℕ → Bool
@@ -94,7 +94,12 @@ pub record Heading : Type 0 where
   pub role : Role
   pub name : Spot
 
--- what is read of a statement; the innermost open bracket comes first
+-- what an expression is in: a statement, or nothing, and then it is the whole text
+pub data Within : Type 0 where
+  InStatement : Heading → Within
+  Alone : Within
+
+-- what is read of a statement or of an expression alone; the innermost open bracket comes first
 pub data State : Type 0 where
   Top : State
   AfterOp : State
@@ -108,17 +113,18 @@ pub data State : Type 0 where
   AfterMember : Spot → List Spot → State
   AfterRole : Role → State
   AfterName : Heading → State
-  BeforeExpr : Heading → List Frame → State
-  AfterWord : Heading → List Frame → Spot → State
-  AfterOpen : Heading → List Frame → Spot → State
-  AfterExpr : Heading → List Frame → Tree → State
+  BeforeExpr : Within → List Frame → State
+  AfterWord : Within → List Frame → Spot → State
+  AfterOpen : Within → List Frame → Spot → State
+  AfterExpr : Within → List Frame → Tree → State
 
--- what a token does: it leads on, ends a statement, is refused, or ends the file
+-- what a token does: it leads on, ends a statement, is refused, ends the file, or ends an expression alone
 pub data Step : Type 0 where
   Go : State → Step
   Emit : Statement → Step
   Refuse : FaultKind → Step
   Finish : Step
+  Ends : Tree → Step
 
 -- ---- steps
 
@@ -200,31 +206,36 @@ step_members name members t =
     else on_word t (λ w. Go (AfterMember name (members ++ w ∷ [])))
 
 -- a wildcard
-abbrev pub step_dot : Heading → List Frame → Placed → Option (List ℕ) → Step
-step_dot h k t (Some name) = Go (AfterExpr h k (Wild (record { name = name; marks = 1; kind = []; place = t.place })))
-step_dot h k t None = refuse t.token
+abbrev pub step_wildcard : Within → List Frame → Placed → Option Wildcard → Step
+step_wildcard x k t (Some w) = Go (AfterExpr x k (Wild w))
+step_wildcard x k t None = refuse t.token
 
 -- a bracket leads on, where fewer than limit are open
 abbrev pub step_open : ℕ → List Frame → State → Step
 step_open limit k next = if nat_le limit (length k) then Refuse TooDeep else Go next
 
 -- the first token of an expression, where at most limit brackets may stand open
-abbrev pub step_expr : ℕ → Heading → List Frame → Placed → Option (List ℕ) → Step
-step_expr limit h k t (Some w) = Go (AfterWord h k (spot w t.place))
-step_expr limit h k t None =
-    if is_punct Open t.token then step_open limit k (BeforeExpr h (Bracket t.place ∷ k))
-    else step_dot h k t (dot_of t.token)
+abbrev pub step_expr : ℕ → Within → List Frame → Placed → Option (List ℕ) → Step
+step_expr limit x k t (Some w) = Go (AfterWord x k (spot w t.place))
+step_expr limit x k t None =
+    if is_punct Open t.token then step_open limit k (BeforeExpr x (Bracket t.place ∷ k))
+    else step_wildcard x k t (named_wildcard t.token t.place)
+
+-- the token behind an expression in no bracket
+abbrev pub step_end : Within → Tree → Placed → Step
+step_end (InStatement h) e t = on_punct Semicolon t.token (Emit (statement_of h.role h.name e))
+step_end Alone e t = if is_end t.token then Ends e else refuse t.token
 
 -- the token behind an expression
-abbrev pub step_behind : Heading → List Frame → Tree → Placed → Step
-step_behind h [] e t = on_punct Semicolon t.token (Emit (statement_of h.role h.name e))
-step_behind h (Arguments name args ∷ k) e t =
-    if is_punct Comma t.token then Go (BeforeExpr h (Arguments name (args ++ e ∷ []) ∷ k))
-    else on_punct Close t.token (Go (AfterExpr h k (Apply name (trees (args ++ e ∷ [])))))
-step_behind h (Bracket place ∷ k) e t = on_sign t (λ sign. Go (BeforeExpr h (Operands place sign e [] ∷ k)))
-step_behind h (Operands place sign first others ∷ k) e t =
-    if is_sign sign.text t.token then Go (BeforeExpr h (Operands place sign first (others ++ e ∷ []) ∷ k))
-    else on_punct Close t.token (Go (AfterExpr h k (InfixOf place sign (more_trees first (trees (others ++ e ∷ []))))))
+abbrev pub step_behind : Within → List Frame → Tree → Placed → Step
+step_behind x [] e t = step_end x e t
+step_behind x (Arguments name args ∷ k) e t =
+    if is_punct Comma t.token then Go (BeforeExpr x (Arguments name (args ++ e ∷ []) ∷ k))
+    else on_punct Close t.token (Go (AfterExpr x k (Apply name (trees (args ++ e ∷ [])))))
+step_behind x (Bracket place ∷ k) e t = on_sign t (λ sign. Go (BeforeExpr x (Operands place sign e [] ∷ k)))
+step_behind x (Operands place sign first others ∷ k) e t =
+    if is_sign sign.text t.token then Go (BeforeExpr x (Operands place sign first (others ++ e ∷ []) ∷ k))
+    else on_punct Close t.token (Go (AfterExpr x k (InfixOf place sign (more_trees first (trees (others ++ e ∷ []))))))
 
 -- what a token does, where at most limit brackets may stand open
 abbrev pub step_in : ℕ → State → Placed → Step
@@ -241,15 +252,15 @@ step_in limit (AfterKindName name) t = on_punct Colon t.token (Go (BeforeMember 
 step_in limit (BeforeMember name members) t = on_word t (λ w. Go (AfterMember name (members ++ w ∷ [])))
 step_in limit (AfterMember name members) t = step_members name members t
 step_in limit (AfterRole role) t = on_word t (λ w. Go (AfterName (record { role = role; name = w })))
-step_in limit (AfterName h) t = on_punct Colon t.token (Go (BeforeExpr h []))
-step_in limit (BeforeExpr h k) t = step_expr limit h k t (word_of t.token)
-step_in limit (AfterWord h k w) t =
-    if is_punct Open t.token then step_open limit k (AfterOpen h k w)
-    else step_behind h k (Symbol w) t
-step_in limit (AfterOpen h k w) t =
-    if is_punct Close t.token then Go (AfterExpr h k (Apply w (trees [])))
-    else step_expr limit h (Arguments w [] ∷ k) t (word_of t.token)
-step_in limit (AfterExpr h k e) t = step_behind h k e t
+step_in limit (AfterName h) t = on_punct Colon t.token (Go (BeforeExpr (InStatement h) []))
+step_in limit (BeforeExpr x k) t = step_expr limit x k t (word_of t.token)
+step_in limit (AfterWord x k w) t =
+    if is_punct Open t.token then step_open limit k (AfterOpen x k w)
+    else step_behind x k (Symbol w) t
+step_in limit (AfterOpen x k w) t =
+    if is_punct Close t.token then Go (AfterExpr x k (Apply w (trees [])))
+    else step_expr limit x (Arguments w [] ∷ k) t (word_of t.token)
+step_in limit (AfterExpr x k e) t = step_behind x k e t
 
 -- what a token does, where at most 100 brackets may stand open
 abbrev pub step : State → Placed → Step
@@ -257,22 +268,32 @@ step = step_in 100
 
 -- ---- runs
 
--- no place, for a list of tokens that lacks its end
-abbrev pub no_place : Place
-no_place = record { line = 0; column = 0 }
+-- what is read: statements, or behind none of them an expression alone
+pub record Parsed : Type 0 where
+  pub statements : List Statement
+  pub expr : Option Tree
+
+-- these statements, and perhaps an expression
+abbrev pub parsed : List Statement → Option Tree → Parsed
+parsed statements expr = record { statements = statements; expr = expr }
+
+-- a fault that no text has, for what the machine never meets, as a list of tokens that lacks its end
+abbrev pub no_fault : Fault
+no_fault = record { kind = Syntax; place = record { line = 0; column = 0 } }
 
 -- what comes of a step, where others reads the tokens behind it
-abbrev pub after_step : List Statement → Place → (List Statement → State → Result (List Statement) Fault) → Step → Result (List Statement) Fault
+abbrev pub after_step : List Statement → Place → (List Statement → State → Result Parsed Fault) → Step → Result Parsed Fault
 after_step done place others (Go at) = others done at
 after_step done place others (Emit s) = others (done ++ s ∷ []) Top
 after_step done place others (Refuse kind) = Err (record { kind = kind; place = place })
-after_step done place others Finish = Ok done
+after_step done place others Finish = Ok (parsed done None)
+after_step done place others (Ends e) = Ok (parsed done (Some e))
 
--- the statements that are done and those that the tokens spell from this state on, or the first fault
-abbrev pub run_in : ℕ → List Statement → State → List Placed → Result (List Statement) Fault
-run_in limit done at [] = Err (record { kind = Syntax; place = no_place })
+-- the statements that are done and what the tokens spell from this state on, or the first fault
+abbrev pub run_in : ℕ → List Statement → State → List Placed → Result Parsed Fault
+run_in limit done at [] = Err no_fault
 run_in limit done at (t ∷ ts) = after_step done t.place (λ d a. run_in limit d a ts) (step_in limit at t)
 
 -- the same, where at most 100 brackets may stand open
-abbrev pub run : List Statement → State → List Placed → Result (List Statement) Fault
+abbrev pub run : List Statement → State → List Placed → Result Parsed Fault
 run = run_in 100

@@ -20,19 +20,19 @@ use Rattle.mp_syntax.specs.Tokens.{Token, Placed}
 use Rattle.mp_syntax.specs.Lexing.{placed, behind, lexemes, token_of}
 use Rattle.mp_syntax.specs.Syntax.{Spot, Tree, Apply, InfixOf, Assoc, Comm, One, OpOf, KindOf, Statement, trees}
 use Rattle.mp_syntax.specs.View.{spot_of, flag_of, expr_tree, statement_tree}
-use Rattle.mp_syntax.specs.Machine.{State, Top, AfterOp, AfterOpName, AfterLeast, AfterFlags, AfterInfix, AfterKind, BeforeMember, AfterRole, BeforeExpr, AfterWord, AfterExpr, Step, Go, Refuse, Role, OfRule, OfSubject, statement_of, Heading, Frame, Arguments, Operands, Declared, declared, with_flag, on_punct, on_text, step, after_step, run}
+use Rattle.mp_syntax.specs.Machine.{State, Top, AfterOp, AfterOpName, AfterLeast, AfterFlags, AfterInfix, AfterKind, BeforeMember, AfterRole, BeforeExpr, AfterWord, AfterExpr, Step, Go, Refuse, Role, OfRule, OfSubject, statement_of, Within, Parsed, parsed, Frame, Arguments, Operands, Declared, declared, with_flag, on_punct, on_text, step, after_step, run}
 
 -- the tokens from the one held on
 abbrev pub ahead : Parser → List Placed
 ahead p = placed p.token ∷ behind (token_of p.token.kind) (lexemes p.lexer.rest.now p.lexer.place)
 
 -- a fault is the one that is read
-abbrev pub Fails : SyntaxError → Result (List Statement) Fault → Type 0
+abbrev pub Fails : SyntaxError → Result Parsed Fault → Type 0
 Fails errors.Memory read = Unit {0}
 Fails (errors.Fault f) read = read ≡ Err f
 
 -- what is read behind a step
-abbrev pub onward : Place → List Statement → Step → List Placed → Result (List Statement) Fault
+abbrev pub onward : Place → List Statement → Step → List Placed → Result Parsed Fault
 onward place done next ts = after_step done place (λ d a. run d a ts) next
 
 -- at the token t the state has this punctuation character
@@ -96,23 +96,23 @@ MembersGive (Err e) old new = (done : List Statement) (name : Spot) → Fails e 
 
 -- an expression is passed, with room brackets more to open, or the first fault is given
 abbrev pub ExprGives : ℕ → Result Expr SyntaxError → List Placed → List Placed → Type 0
-ExprGives room (Ok e) old new = (done : List Statement) (h : Heading) (k : List Frame) → length k + room ≡ 100 → run done (BeforeExpr h k) old ≡ run done (AfterExpr h k (expr_tree e)) new
-ExprGives room (Err e) old new = (done : List Statement) (h : Heading) (k : List Frame) → length k + room ≡ 100 → Fails e (run done (BeforeExpr h k) old)
+ExprGives room (Ok e) old new = (done : List Statement) (x : Within) (k : List Frame) → length k + room ≡ 100 → run done (BeforeExpr x k) old ≡ run done (AfterExpr x k (expr_tree e)) new
+ExprGives room (Err e) old new = (done : List Statement) (x : Within) (k : List Frame) → length k + room ≡ 100 → Fails e (run done (BeforeExpr x k) old)
 
 -- the same behind a word
 abbrev pub WordLeads : ℕ → Spot → Result Expr SyntaxError → List Placed → List Placed → Type 0
-WordLeads room w (Ok e) old new = (done : List Statement) (h : Heading) (k : List Frame) → length k + room ≡ 100 → run done (AfterWord h k w) old ≡ run done (AfterExpr h k (expr_tree e)) new
-WordLeads room w (Err e) old new = (done : List Statement) (h : Heading) (k : List Frame) → length k + room ≡ 100 → Fails e (run done (AfterWord h k w) old)
+WordLeads room w (Ok e) old new = (done : List Statement) (x : Within) (k : List Frame) → length k + room ≡ 100 → run done (AfterWord x k w) old ≡ run done (AfterExpr x k (expr_tree e)) new
+WordLeads room w (Err e) old new = (done : List Statement) (x : Within) (k : List Frame) → length k + room ≡ 100 → Fails e (run done (AfterWord x k w) old)
 
 -- arguments are passed up to the closing bracket, or the first fault is given
 abbrev pub ArgumentsGive : ℕ → Result (List Expr) SyntaxError → List Placed → List Placed → Type 0
-ArgumentsGive room (Ok es) old new = (done : List Statement) (h : Heading) (k : List Frame) (w : Spot) → length k + room ≡ 99 → run done (BeforeExpr h (Arguments w [] ∷ k)) old ≡ run done (AfterExpr h k (Apply w (trees (map expr_tree es)))) new
-ArgumentsGive room (Err e) old new = (done : List Statement) (h : Heading) (k : List Frame) (w : Spot) → length k + room ≡ 99 → Fails e (run done (BeforeExpr h (Arguments w [] ∷ k)) old)
+ArgumentsGive room (Ok es) old new = (done : List Statement) (x : Within) (k : List Frame) (w : Spot) → length k + room ≡ 99 → run done (BeforeExpr x (Arguments w [] ∷ k)) old ≡ run done (AfterExpr x k (Apply w (trees (map expr_tree es)))) new
+ArgumentsGive room (Err e) old new = (done : List Statement) (x : Within) (k : List Frame) (w : Spot) → length k + room ≡ 99 → Fails e (run done (BeforeExpr x (Arguments w [] ∷ k)) old)
 
 -- operands behind the first sign are passed up to the closing bracket, or the first fault is given
 abbrev pub OperandsGive : ℕ → Tree → Spot → Result (List Expr) SyntaxError → List Placed → List Placed → Type 0
-OperandsGive room first sign (Ok es) old new = (done : List Statement) (h : Heading) (k : List Frame) (place : Place) → length k + room ≡ 99 → run done (BeforeExpr h (Operands place sign first [] ∷ k)) old ≡ run done (AfterExpr h k (InfixOf place sign (trees (map expr_tree es)))) new
-OperandsGive room first sign (Err e) old new = (done : List Statement) (h : Heading) (k : List Frame) (place : Place) → length k + room ≡ 99 → Fails e (run done (BeforeExpr h (Operands place sign first [] ∷ k)) old)
+OperandsGive room first sign (Ok es) old new = (done : List Statement) (x : Within) (k : List Frame) (place : Place) → length k + room ≡ 99 → run done (BeforeExpr x (Operands place sign first [] ∷ k)) old ≡ run done (AfterExpr x k (InfixOf place sign (trees (map expr_tree es)))) new
+OperandsGive room first sign (Err e) old new = (done : List Statement) (x : Within) (k : List Frame) (place : Place) → length k + room ≡ 99 → Fails e (run done (BeforeExpr x (Operands place sign first [] ∷ k)) old)
 
 -- the items of a vector, or the error
 abbrev pub items_of : {A : Type 0} → Result (Vec A) SyntaxError → Result (List A) SyntaxError
@@ -147,6 +147,11 @@ NamedExprGives (Ok x) old new = (done : List Statement) (role : Role) → run do
 NamedExprGives (Err e) old new = (done : List Statement) (role : Role) → Fails e (run done (AfterRole role) old)
 
 -- the statements are those that are read, or the fault is the one that is read
-abbrev pub FileGives : Result (Vec code.Statement) SyntaxError → Result (List Statement) Fault → Type 0
-FileGives (Ok v) read = read ≡ Ok (map statement_tree v.items)
+abbrev pub FileGives : Result (Vec code.Statement) SyntaxError → Result Parsed Fault → Type 0
+FileGives (Ok v) read = read ≡ Ok (parsed (map statement_tree v.items) None)
 FileGives (Err e) read = Fails e read
+
+-- the expression is the one that is read alone, or the fault is the one that is read
+abbrev pub AloneGives : Result Expr SyntaxError → Result Parsed Fault → Type 0
+AloneGives (Ok e) read = read ≡ Ok (parsed [] (Some (expr_tree e)))
+AloneGives (Err e) read = Fails e read

@@ -1,10 +1,10 @@
--- What a state has read of its statement, as a spelling.
+-- What a state has read of its statement or expression, as a spelling.
 use Rattle.std.specs.Prelude.{List, [], ◌∷◌, ◌++◌, map, codes}
 use Rattle.std.specs.List.{flat_map}
 use Rattle.mp_syntax.specs.declared.token.Punct.TheVariants.{Open, Colon}
 use Rattle.mp_syntax.specs.Tokens.{Punctuation}
 use Rattle.mp_syntax.specs.Syntax.{Spot, Tree, Expected, Said, Stands, spell, spell_plus, spell_flag, spelled_word, spelled_sign, another, fixed_word, comma}
-use Rattle.mp_syntax.specs.Machine.{Role, OfRule, OfSubject, Frame, Arguments, Bracket, Operands, Declared, Heading, State, Top, AfterOp, AfterOpName, AfterLeast, AfterFlags, AfterInfix, AfterKind, AfterKindName, BeforeMember, AfterMember, AfterRole, AfterName, BeforeExpr, AfterWord, AfterOpen, AfterExpr}
+use Rattle.mp_syntax.specs.Machine.{Role, OfRule, OfSubject, Frame, Arguments, Bracket, Operands, Declared, Within, InStatement, Alone, State, Top, AfterOp, AfterOpName, AfterLeast, AfterFlags, AfterInfix, AfterKind, AfterKindName, BeforeMember, AfterMember, AfterRole, AfterName, BeforeExpr, AfterWord, AfterOpen, AfterExpr}
 
 -- the word that a statement of this role begins with
 abbrev pub role_word : Role → Expected
@@ -23,9 +23,10 @@ spell_declared d = fixed_word (codes "op") ∷ spelled_word d.name ∷ spelled_w
 abbrev pub spell_members : Spot → List Spot → List Expected
 spell_members name members = fixed_word (codes "kind") ∷ spelled_word name ∷ Said (Punctuation Colon) ∷ map spelled_word members
 
--- the tokens before an expression
-abbrev pub spell_heading : Heading → List Expected
-spell_heading h = role_word h.role ∷ spelled_word h.name ∷ Said (Punctuation Colon) ∷ []
+-- the tokens of the statement before an expression; an expression alone has none before it
+abbrev pub spell_within : Within → List Expected
+spell_within (InStatement h) = role_word h.role ∷ spelled_word h.name ∷ Said (Punctuation Colon) ∷ []
+spell_within Alone = []
 
 -- an open bracket and what stands behind it
 abbrev pub spell_frame : Frame → List Expected
@@ -52,7 +53,7 @@ so_far (BeforeMember name members) = spell_members name members
 so_far (AfterMember name members) = spell_members name members
 so_far (AfterRole role) = role_word role ∷ []
 so_far (AfterName h) = role_word h.role ∷ spelled_word h.name ∷ []
-so_far (BeforeExpr h k) = spell_heading h ++ spell_frames k
-so_far (AfterWord h k w) = spell_heading h ++ (spell_frames k ++ spelled_word w ∷ [])
-so_far (AfterOpen h k w) = spell_heading h ++ (spell_frames k ++ spelled_word w ∷ Said (Punctuation Open) ∷ [])
-so_far (AfterExpr h k e) = spell_heading h ++ (spell_frames k ++ spell e)
+so_far (BeforeExpr x k) = spell_within x ++ spell_frames k
+so_far (AfterWord x k w) = spell_within x ++ (spell_frames k ++ spelled_word w ∷ [])
+so_far (AfterOpen x k w) = spell_within x ++ (spell_frames k ++ spelled_word w ∷ Said (Punctuation Open) ∷ [])
+so_far (AfterExpr x k e) = spell_within x ++ (spell_frames k ++ spell e)

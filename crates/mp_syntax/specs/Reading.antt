@@ -1,28 +1,65 @@
--- The reading of a whole file as a function.
+-- The reading of a whole file, and of an expression alone, as functions.
 use Rattle.std.specs.Prelude.{List, [], ℕ, map, Option, Some, None, Result, Ok, Err}
 use Rattle.std.specs.Global.{Vec}
 use Rattle.mp_syntax.specs.declared.fault.Fault.{Fault}
 use Rattle.mp_syntax.specs.declared.fault.SyntaxError.{SyntaxError}
 use Rattle.mp_syntax.specs.declared.fault.SyntaxError.TheVariants as errors
+use Rattle.mp_syntax.specs.declared.tree.Expr.{Expr}
 use Rattle.mp_syntax.specs.declared.tree.Statement as code
 use Rattle.mp_syntax.specs.Tokens.{first_place}
 use Rattle.mp_syntax.specs.Lexing.{lexemes}
-use Rattle.mp_syntax.specs.Syntax.{Statement}
-use Rattle.mp_syntax.specs.View.{statement_tree}
-use Rattle.mp_syntax.specs.Machine.{Top, run}
+use Rattle.mp_syntax.specs.Syntax.{Tree, Statement}
+use Rattle.mp_syntax.specs.View.{expr_tree, statement_tree}
+use Rattle.mp_syntax.specs.Machine.{Top, BeforeExpr, Alone, Parsed, no_fault, run}
+
+-- what the machine reads of a file
+abbrev pub parsed_file : List ℕ → Result Parsed Fault
+parsed_file bytes = run [] Top (lexemes bytes first_place)
+
+-- what the machine reads of an expression alone
+abbrev pub parsed_expr : List ℕ → Result Parsed Fault
+parsed_expr bytes = run [] (BeforeExpr Alone []) (lexemes bytes first_place)
+
+-- statements without an expression
+abbrev pub statements_alone : List Statement → Option Tree → Result (List Statement) Fault
+statements_alone ss None = Ok ss
+statements_alone ss (Some t) = Err no_fault
+
+-- an expression without statements
+abbrev pub expr_alone : List Statement → Option Tree → Result Tree Fault
+expr_alone [] (Some t) = Ok t
+expr_alone ss o = Err no_fault
+
+-- the statements that are read, or the fault
+abbrev pub statements_read : Result Parsed Fault → Result (List Statement) Fault
+statements_read (Ok p) = statements_alone p.statements p.expr
+statements_read (Err f) = Err f
+
+-- the expression that is read, or the fault
+abbrev pub expr_read : Result Parsed Fault → Result Tree Fault
+expr_read (Ok p) = expr_alone p.statements p.expr
+expr_read (Err f) = Err f
 
 -- the statements of a file, or its first fault
 abbrev pub reading : List ℕ → Result (List Statement) Fault
-reading bytes = run [] Top (lexemes bytes first_place)
+reading bytes = statements_read (parsed_file bytes)
+
+-- the expression of a text, or its first fault
+abbrev pub expr_reading : List ℕ → Result Tree Fault
+expr_reading bytes = expr_read (parsed_expr bytes)
 
 -- the value of an Ok
-abbrev pub read_value : Result (List Statement) Fault → Option (List Statement)
-read_value (Ok file) = Some file
+abbrev pub read_value : {A : Type 0} → Result A Fault → Option A
+read_value (Ok v) = Some v
 read_value (Err f) = None
 
 -- the statements of a file, where it has any
 abbrev pub syntax_of : List ℕ → Option (List Statement)
 syntax_of bytes = read_value (reading bytes)
+
+-- the expression of a text, where it is one
+abbrev pub expr_of : List ℕ → Option Tree
+expr_of bytes = read_value (expr_reading bytes)
 
 -- the fact of the fault, where the error is one
 abbrev pub IfFault : SyntaxError → (Fault → Type 0) → Type 0
@@ -34,3 +71,9 @@ abbrev pub IsOkOrMemory : Result (Vec code.Statement) SyntaxError → (List Stat
 IsOkOrMemory (Ok v) P = P (map statement_tree v.items)
 IsOkOrMemory (Err errors.Memory) P = Unit {0}
 IsOkOrMemory (Err (errors.Fault f)) P = ⊥
+
+-- the fact of the expression, where it is answered, and else memory ran out
+abbrev pub IsExprOrMemory : Result Expr SyntaxError → (Tree → Type 0) → Type 0
+IsExprOrMemory (Ok e) P = P (expr_tree e)
+IsExprOrMemory (Err errors.Memory) P = Unit {0}
+IsExprOrMemory (Err (errors.Fault f)) P = ⊥

@@ -1,5 +1,5 @@
 -- The syntax trees of a rule file, and the grammar: how statements are spelled by tokens.
-use Rattle.std.specs.Prelude.{◌≡◌, ◌≢◌, Bool, true, false, ℕ, zero, suc, List, [], ◌∷◌, ◌++◌, map, codes}
+use Rattle.std.specs.Prelude.{◌≡◌, ◌≢◌, ◌<◌, ◌≤◌, Bool, true, false, ℕ, zero, suc, List, [], ◌∷◌, ◌++◌, map, codes}
 use Rattle.std.specs.Char.{is_ascii_digit}
 use Rattle.std.specs.List.{flat_map, list_all}
 use Rattle.mp_syntax.specs.declared.place.Place.{Place}
@@ -160,11 +160,9 @@ spell_file = flat_map spell_statement
 
 -- ---- what fits
 
--- a named wildcard with one underscore and no kind
-pub record IsNamedDot (w : Wildcard) : Type 0 where
-  pub named : w.name ≢ []
-  pub dot : w.marks ≡ 1
-  pub plain : w.kind ≡ []
+-- a wildcard with a name
+abbrev pub IsNamedWildcard : Wildcard → Type 0
+IsNamedWildcard w = w.name ≢ []
 
 -- two expressions or more
 abbrev pub AreSeveral : Trees → Type 0
@@ -172,7 +170,7 @@ AreSeveral no_trees = ⊥
 AreSeveral (more_trees t no_trees) = ⊥
 AreSeveral (more_trees t (more_trees u us)) = Unit {0}
 
--- the wildcards are named dots, infix expressions have two operands or more, and at most room brackets stand open at once
+-- the wildcards are named, infix expressions have two operands or more, and at most room brackets stand open at once
 abbrev mutual
   pub Fits : ℕ → Tree → Type 0
   Fits room (Symbol w) = Unit {0}
@@ -180,7 +178,7 @@ abbrev mutual
   Fits (suc room) (Apply f args) = AreFit room args
   Fits zero (InfixOf opened sign operands) = ⊥
   Fits (suc room) (InfixOf opened sign operands) = AreSeveral operands × AreFit room operands
-  Fits room (Wild w) = IsNamedDot w
+  Fits room (Wild w) = IsNamedWildcard w
 
   pub AreFit : ℕ → Trees → Type 0
   AreFit room no_trees = Unit {0}
@@ -210,13 +208,21 @@ pub record IsInfixSign (sign : List ℕ) : Type 0 where
   pub is_sign : IsSign sign
   pub no_arrow : sign ≢ codes "->"
 
--- each symbol, each name before a bracket and each name of a wildcard is a word of at most 64 bytes, and each sign is one
+-- 1 to 3 underscores, behind a single one perhaps a kind; the name and the kind, where there are any, are words of at most 64 bytes
+pub record HasParts (w : Wildcard) : Type 0 where
+  pub name : w.name ≢ [] → IsName w.name
+  pub some_marks : 0 < w.marks
+  pub few_marks : w.marks ≤ 3
+  pub kind : w.kind ≢ [] → IsName w.kind
+  pub kind_behind_one : w.kind ≢ [] → w.marks ≡ 1
+
+-- each symbol, each name before a bracket and each name and kind of a wildcard is a word of at most 64 bytes, and each wildcard and sign is one
 abbrev mutual
   pub HasNames : Tree → Type 0
   HasNames (Symbol w) = IsName w.text
   HasNames (Apply f args) = IsName f.text × HaveNames args
   HasNames (InfixOf opened sign operands) = IsInfixSign sign.text × HaveNames operands
-  HasNames (Wild w) = IsName w.name
+  HasNames (Wild w) = HasParts w
 
   pub HaveNames : Trees → Type 0
   HaveNames no_trees = Unit {0}
@@ -251,7 +257,14 @@ abbrev pub StatementsHaveNames : List Statement → Type 0
 StatementsHaveNames [] = Unit {0}
 StatementsHaveNames (s ∷ ss) = StatementHasNames s × StatementsHaveNames ss
 
--- ---- files
+-- ---- texts
+
+-- the bytes are this expression: they have tokens, and these spell the expression, which fits
+pub record IsExprOf (bytes : List ℕ) (t : Tree) : Type 0 where
+  pub tokens : List Placed
+  pub lie : Tokens bytes first_place tokens
+  pub spelled : AllMatch tokens (spell t)
+  pub fits : Fits 100 t
 
 -- the bytes are these statements: they have tokens, and these spell the statements, which fit
 pub record IsSyntaxOf (bytes : List ℕ) (file : List Statement) : Type 0 where

@@ -1,17 +1,66 @@
 //! Reads expressions.
 
-ghost use Rattle.std.specs.Prelude.{◌≡◌, ◌<◌, ◌≤◌, true, length, OnOk};
+ghost use Rattle.std.specs.Prelude.{◌≡◌, ◌<◌, ◌≤◌, ◌-◌, ◌^◌, ◌↔◌, ℕ, List, Some, Err, true, length, OnOk, IfOk, IfErr};
 ghost use Rattle.mp_syntax.specs.Lexing.{token_of};
 ghost use Rattle.mp_syntax.specs.Machine.{is_punct};
 ghost use Rattle.mp_syntax.specs.View.{spot_of, expr_tree};
-ghost use Rattle.mp_syntax.specs.Parsing.{ahead, ExprGives, WordLeads, ArgumentsGive, OperandsGive, items_of};
+ghost use Rattle.mp_syntax.specs.Syntax.{Tree, IsExprOf, HasNames};
+ghost use Rattle.mp_syntax.specs.Reading.{parsed_expr, expr_reading, expr_of, IfFault, IsExprOrMemory};
+ghost use Rattle.mp_syntax.specs.Parsing.{ahead, AloneGives, ExprGives, WordLeads, ArgumentsGive, OperandsGive, items_of};
 
 use crate::fault::{FaultKind, SyntaxError};
 use crate::parser::Parser;
 use crate::place::Spot;
+use crate::statement::MAX_OPEN;
 use crate::token::{Kind, Punct};
 use crate::tree::{Expr, Wildcard};
 use std::alloc::Global;
+
+/// The expression that a text is, as a syntax tree whose words lie in the text's bytes.
+///
+/// The text has fewer than 4,294,967,295 bytes, so that each line and column is a `u32`. Which
+/// expression bytes are is `IsExprOf` of `specs/Syntax.antt`: at most one.
+///
+/// - `SyntaxError::Memory` comes where memory runs out.
+/// - `SyntaxError::Fault` comes exactly where the bytes are no expression, with the first fault that
+///   reading token by token meets, by `expr_reading` of `specs/Reading.antt`. Its kinds are those of
+///   `read_statements`; a token behind the expression is one that the grammar doesn't have there.
+///
+/// After an error nothing is kept.
+pub fn read_expression<'a>(alloc: Global, bytes: &'a [u8]) -> Result<Expr<'a>, SyntaxError>
+    requires { length bytes.now < 2 ^ 32 - 1 }
+
+    // What is answered is what the bytes are.
+    ensures found { IfOk result (λ e. IsExprOf bytes.now (expr_tree e)) }
+    // Each word of it is 1 to 64 letters and digits, and each sign is of sign bytes and not the arrow.
+    ensures names { IfOk result (λ e. HasNames (expr_tree e)) }
+    // What the bytes are is answered, unless memory runs out.
+    ensures only { (t : Tree) → IsExprOf bytes.now t → IsExprOrMemory result (λ read. read ≡ t) }
+    // A fault is the one that reading token by token meets.
+    ensures fault { IfErr result (λ e. IfFault e (λ f. expr_reading bytes.now ≡ Err f)) }
+{
+    alone(alloc, bytes)
+}
+
+/// Law: bytes are this expression exactly where `expr_of` of `specs/Reading.antt` gives it.
+///
+/// So each list of bytes is one expression or none. It does nothing when it runs.
+pub fn expression_is_a_function()
+    ensures { (bytes : List ℕ) (t : Tree) → IsExprOf bytes t ↔ (expr_of bytes ≡ Some t) }
+{}
+
+/// Reads an expression up to the end, or the first fault.
+fn alone<'a>(alloc: Global, bytes: &'a [u8]) -> Result<Expr<'a>, SyntaxError>
+    requires { length bytes.now < 2 ^ 32 - 1 }
+    ensures { AloneGives result (parsed_expr bytes.now) }
+{
+    let mut parser = Parser::new(bytes);
+    let expr = parser.expr(alloc, MAX_OPEN)?;
+    if !parser.is_at_end() {
+        return Err(parser.refused());
+    }
+    Ok(expr)
+}
 
 impl<'a> Parser<'a> {
     /// Reads an expression, in which at most `room` brackets stand open at once.
@@ -31,11 +80,10 @@ impl<'a> Parser<'a> {
             }
             Kind::Wildcard {
                 name: name @ [_, ..],
-                marks: 1,
-                kind: kind @ [],
+                marks,
+                kind,
             } => {
                 self.advance();
-                let marks = 1;
                 Ok(Expr::Wild(Wildcard {
                     name,
                     marks,

@@ -13,6 +13,7 @@ mod tests;
 pub mod token;
 pub mod tree;
 
+pub use crate::expression::{expression_is_a_function, read_expression};
 pub use crate::fault::{Fault, FaultKind, SyntaxError};
 pub use crate::place::{Place, Spot};
 pub use crate::statement::read_statements;

@@ -9,7 +9,7 @@ ghost use Rattle.mp_syntax.specs.Syntax.{IsSyntaxOf, StatementsHaveNames, AreSta
 ghost use Rattle.mp_syntax.specs.Printed.{statements_text, unplaced};
 ghost use Rattle.mp_syntax.specs.View.{statement_tree};
 ghost use Rattle.mp_syntax.specs.Parsing.{ahead, StatementFrom, NamedExprGives, KeywordGives, FileGives, keyword_step};
-ghost use Rattle.mp_syntax.specs.Reading.{reading, syntax_of, IfFault, IsOkOrMemory};
+ghost use Rattle.mp_syntax.specs.Reading.{parsed_file, reading, syntax_of, IfFault, IsOkOrMemory};
 
 use crate::fault::SyntaxError;
 use crate::parser::Parser;
@@ -19,7 +19,7 @@ use crate::tree::{Expr, Statement};
 use std::alloc::Global;
 
 /// How many brackets may stand open at once.
-const MAX_OPEN: usize = 100;
+pub(crate) const MAX_OPEN: usize = 100;
 
 /// What a statement is, by the word that it begins with.
 #[derive(Clone, Copy, Debug)]
@@ -91,7 +91,7 @@ pub fn printed_statements_are_read()
 /// Reads all statements, or the first fault.
 fn statements<'a>(alloc: Global, bytes: &'a [u8]) -> Result<Vec<Statement<'a>>, SyntaxError>
     requires { length bytes.now < 2 ^ 32 - 1 }
-    ensures { FileGives result (reading bytes.now) }
+    ensures { FileGives result (parsed_file bytes.now) }
 {
     let mut parser = Parser::new(bytes);
     let mut statements = Vec::new(alloc);

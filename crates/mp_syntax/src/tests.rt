@@ -1,3 +1,4 @@
+use crate::expression::{expression_is_a_function, read_expression};
 use crate::fault::{FaultKind, SyntaxError};
 use crate::statement::{
     printed_statements_are_read, read_statements, syntax_has_names, syntax_is_a_function,
@@ -15,6 +16,20 @@ fn first_fault(alloc: Global, text: &[u8]) -> Result<First, Fail> {
         Err("the text is too long")?
     }
     match read_statements(alloc, text) {
+        Ok(_) => Ok(None),
+        Err(SyntaxError::Memory) => Err("memory ran out")?,
+        Err(SyntaxError::Fault(fault)) => {
+            Ok(Some((fault.kind, fault.place.line, fault.place.column)))
+        }
+    }
+}
+
+/// The first fault of a text that is to be an expression alone.
+fn first_expression_fault(alloc: Global, text: &[u8]) -> Result<First, Fail> {
+    if text.len() > 1000 {
+        Err("the text is too long")?
+    }
+    match read_expression(alloc, text) {
         Ok(_) => Ok(None),
         Err(SyntaxError::Memory) => Err("memory ran out")?,
         Err(SyntaxError::Fault(fault)) => {
@@ -51,7 +66,7 @@ fn declared(alloc: Global, length: usize) -> Result<Vec<u8>, Fail> {
 
 #[test]
 fn texts_are_read_or_refused_at_a_token(rt: HostRuntime) -> Result<(), Fail> {
-    let rows: [(&[u8], First); 48] = [
+    let rows: [(&[u8], First); 56] = [
         (b"", None),
         (b" \t\r\n# a comment # and more, to the end", None),
         (b"op f 2;", None),
@@ -72,11 +87,19 @@ fn texts_are_read_or_refused_at_a_token(rt: HostRuntime) -> Result<(), Fail> {
         (b"rule r: f(a,);", Some((FaultKind::Syntax, 1, 13))),
         (b"rule r: f(a b);", Some((FaultKind::Syntax, 1, 13))),
         (b"rule r: f(a;", Some((FaultKind::Syntax, 1, 12))),
-        (b"rule r: x____;", Some((FaultKind::Syntax, 1, 9))),
+        (b"rule r: x____;", Some((FaultKind::Syntax, 1, 13))),
         (b"rule r: x_ _;", Some((FaultKind::Syntax, 1, 12))),
-        (b"rule r: x_K;", Some((FaultKind::Syntax, 1, 9))),
-        (b"rule r: x__;", Some((FaultKind::Syntax, 1, 9))),
+        (b"rule r: x_K;subject s: 1_2;", None),
+        (b"rule r: f(x__, (x___ + x_K + y__));", None),
+        (b"rule r: x__K;", Some((FaultKind::Syntax, 1, 12))),
+        (b"rule r: x_K_;", Some((FaultKind::Syntax, 1, 12))),
+        (b"rule r: x_(a);", Some((FaultKind::Syntax, 1, 11))),
+        (b"rule r: f(x_K:a);", Some((FaultKind::Syntax, 1, 14))),
+        (b"rule r: x_:a;", Some((FaultKind::Syntax, 1, 11))),
         (b"rule r: _;", Some((FaultKind::Syntax, 1, 9))),
+        (b"rule r: f(_K);", Some((FaultKind::Syntax, 1, 11))),
+        (b"rule r: (a + __);", Some((FaultKind::Syntax, 1, 14))),
+        (b"rule r: ___;", Some((FaultKind::Syntax, 1, 9))),
         (b"rule r: f(x_) -> a;", Some((FaultKind::Syntax, 1, 15))),
         (b"rule r: f(x_)\r\n\t[a];", Some((FaultKind::Syntax, 2, 2))),
         (b"op f 2+; op g 0 + assoc comm one infix *;", None),
@@ -109,6 +132,30 @@ fn texts_are_read_or_refused_at_a_token(rt: HostRuntime) -> Result<(), Fail> {
     ];
     for (text, wanted) in rows {
         assert_eq!(rt; first_fault(rt.alloc(), text)?, wanted);
+    }
+    Ok(())
+}
+
+#[test]
+fn expressions_are_read_to_the_end_or_refused_at_a_token(rt: HostRuntime) -> Result<(), Fail> {
+    let rows: [(&[u8], First); 14] = [
+        (b"a", None),
+        (b" f(x_, y_K, (a + z___))\n# the end", None),
+        (b"x__", None),
+        (b"", Some((FaultKind::Syntax, 1, 1))),
+        (b"# a\n", Some((FaultKind::Syntax, 2, 1))),
+        (b"a;", Some((FaultKind::Syntax, 1, 2))),
+        (b"a b", Some((FaultKind::Syntax, 1, 3))),
+        (b"f(a", Some((FaultKind::Syntax, 1, 4))),
+        (b"f(a))", Some((FaultKind::Syntax, 1, 5))),
+        (b"(a + b", Some((FaultKind::Syntax, 1, 7))),
+        (b"x_:a", Some((FaultKind::Syntax, 1, 3))),
+        (b"_", Some((FaultKind::Syntax, 1, 1))),
+        (b"subject s: a;", Some((FaultKind::Syntax, 1, 9))),
+        (b"a \\", Some((FaultKind::BadByte, 1, 3))),
+    ];
+    for (text, wanted) in rows {
+        assert_eq!(rt; first_expression_fault(rt.alloc(), text)?, wanted);
     }
     Ok(())
 }
@@ -150,9 +197,17 @@ fn first_word<'a>(expr: &Expr<'a>) -> (&'a [u8], u32, u32) {
     }
 }
 
+/// The number of underscores of a wildcard and its kind, or 0 and nothing.
+fn marks_and_kind<'a>(expr: &Expr<'a>) -> (usize, &'a [u8]) {
+    match expr {
+        Expr::Wild(wildcard) => (wildcard.marks, wildcard.kind),
+        _ => (0, b"".as_slice()),
+    }
+}
+
 #[test]
 fn trees_keep_words_and_places(rt: HostRuntime) -> Result<(), Fail> {
-    let file = read_statements(rt.alloc(), b"op f 2;\nrule r:\n  f(x_, a);")?;
+    let file = read_statements(rt.alloc(), b"op f 2;\nrule r:\n  f(x_K, y___);")?;
     assert_eq!(rt; file.len(), 2);
     match file.get(1) {
         Some(Statement::Rule { name, pattern }) => {
@@ -162,7 +217,9 @@ fn trees_keep_words_and_places(rt: HostRuntime) -> Result<(), Fail> {
                 Expr::Apply(_, args) => match args.as_slice() {
                     [first, second] => {
                         assert_eq!(rt; first_word(first), (b"x".as_slice(), 3, 5));
-                        assert_eq!(rt; first_word(second), (b"a".as_slice(), 3, 9));
+                        assert_eq!(rt; marks_and_kind(first), (1, b"K".as_slice()));
+                        assert_eq!(rt; first_word(second), (b"y".as_slice(), 3, 10));
+                        assert_eq!(rt; marks_and_kind(second), (3, b"".as_slice()));
                     }
                     _ => Err("not two arguments")?,
                 },
@@ -246,6 +303,7 @@ fn operands_keep_their_order(rt: HostRuntime) -> Result<(), Fail> {
 #[test]
 fn laws_do_nothing(_rt: HostRuntime) -> Result<(), Fail> {
     syntax_is_a_function();
+    expression_is_a_function();
     printed_statements_are_read();
     syntax_has_names();
     tokens_are_unique();

@@ -10,7 +10,7 @@ use Rattle.mp_pattern.specs.declared.pattern.Pattern as code_pattern
 use Rattle.mp_pattern.specs.Size.{pattern_nodes, list_nodes}
 use Rattle.mp_pattern.specs.View.{pattern_tree}
 use Rattle.mp_text.specs.Checks.{nodes, all_nodes}
-use Rattle.mp_text.specs.Names.{wildcard_names, all_wildcard_names}
+use Rattle.mp_text.specs.Names.{wildcard_names, all_wildcard_names, wildcards, all_wildcards}
 
 -- the nodes of an application
 pub nodes-Apply : (f : code.Spot) (v : Vec Expr Global) → nodes (expr_tree (Apply f v)) ≡ 1 + all_nodes (trees (map expr_tree v.items))
@@ -19,6 +19,10 @@ nodes-Apply f v = ap nodes (expr_tree-Apply f v) ∙ omega arith
 -- the names of the wildcards of an application
 pub wildcard_names-Apply : (f : code.Spot) (v : Vec Expr Global) → wildcard_names (expr_tree (Apply f v)) ≡ all_wildcard_names (trees (map expr_tree v.items))
 wildcard_names-Apply f v = ap wildcard_names (expr_tree-Apply f v)
+
+-- the wildcards of an application
+pub wildcards-Apply : (f : code.Spot) (v : Vec Expr Global) → wildcards (expr_tree (Apply f v)) ≡ all_wildcards (trees (map expr_tree v.items))
+wildcards-Apply f v = ap wildcards (expr_tree-Apply f v)
 
 -- the nodes of an infix expression
 pub nodes-Infix : (place : Place) (sign : code.Spot) (v : Vec Expr Global) → nodes (expr_tree (Infix place sign v)) ≡ 1 + all_nodes (trees (map expr_tree v.items))

@@ -3,18 +3,18 @@ use Rattle.std.proofs.Common.{◌≡◌, ℕ, true, false, [], ◌∷◌, Option
 use Rattle.std.specs.Prelude.{codes}
 use Rattle.mp_term.specs.Tree.{symbol, app, trees}
 use Rattle.mp_term.specs.Signature.{Sig}
-use Rattle.mp_pattern.specs.PatternTree.{dot, symbol_pattern, app_pattern, wild_pattern, patterns}
+use Rattle.mp_pattern.specs.PatternTree.{dot, kind, plus, star, symbol_pattern, app_pattern, wild_pattern, patterns}
 use Rattle.mp_pattern.specs.Value.{one, seq, bag}
 use Rattle.mp_syntax.specs.Lexing.{lexemes}
 use Rattle.mp_text.specs.declared.fault.TextKind.{TextKind}
-use Rattle.mp_text.specs.declared.fault.TextKind.TheVariants.{DuplicateName, TooMany, BadFlags, UnknownOp, BareOperation, Arity, WildcardInTerm, Unread}
+use Rattle.mp_text.specs.declared.fault.TextKind.TheVariants.{DuplicateName, TooMany, BadFlags, UnknownOp, BareOperation, UnknownKind, Arity, KindClash, LooseSequence, WildcardInTerm, Unread}
 use Rattle.mp_text.specs.declared.fault.TextFault.{TextFault}
 use Rattle.mp_text.specs.Reading.{file_of, fault_of}
 use Rattle.mp_text.specs.Printing.{term_text, subst_text}
 
 -- a fault of this kind, in line 1
 abbrev at : TextKind → ℕ → Option TextFault
-at kind column = Some (record { kind = kind; line = 1; column = column })
+at what column = Some (record { kind = what; line = 1; column = column })
 
 -- an operation, a rule and a subject
 file_of-one_of_each : file_of (codes "op f 2; rule r: f(x_, a); subject s: f(0, b);") ≡ Some (record {
@@ -134,13 +134,48 @@ fault_of-infix_arity : fault_of (codes "op p 2 infix +; subject s: (p + b + c);"
 unfolding lexemes
 fault_of-infix_arity = refl
 
--- a pattern with an associative operation
-fault_of-unmatched : fault_of (codes "op p 1+ assoc; rule r: p(x_, a);") ≡ at Unread 1
+-- a wildcard of a kind that isn't declared
+fault_of-unknown_kind : fault_of (codes "rule r: x_q;") ≡ at UnknownKind 9
 unfolding lexemes
-fault_of-unmatched = refl
+fault_of-unknown_kind = refl
 
--- an associative operation that the normal form doesn't have
-fault_of-collapsed : fault_of (codes "op p 1+ assoc one; rule r: p(x_);") ≡ None
+-- two wildcards of one variable that differ, behind the name of the operation
+fault_of-clash : fault_of (codes "op f 2; rule r: f(x_, x__);") ≡ at KindClash 23
+unfolding lexemes
+fault_of-clash = refl
+
+-- the numbers are a kind, and no kind wildcard is a dot
+fault_of-kind_clash : fault_of (codes "op f 3; rule r: f(x_num, y_, y_num);") ≡ at KindClash 30
+unfolding lexemes
+fault_of-kind_clash = refl
+
+-- a wildcard for several terms alone
+fault_of-loose : fault_of (codes "rule r: x__;") ≡ at LooseSequence 9
+unfolding lexemes
+fault_of-loose = refl
+
+-- a fixed count may be met by plus and star wildcards, and each plus wildcard takes one argument at least
+fault_of-sequences : fault_of (codes "op f 1; rule r: f(x___, y__, x___); rule s: f(x__, y__);") ≡ at Arity 45
+unfolding lexemes
+fault_of-sequences = refl
+
+-- a wildcard of each class
+file_of-wildcards : file_of (codes "op g 0+; kind v: a; rule r: g(x_, y_v, z__, x_, w___);") ≡ Some (record {
+  sig = record { ops = record { name = codes "g"; least = 0; fixed = false; assoc = false; comm = false; one = false; sign = None } ∷ []; kinds = record { name = codes "v"; members = codes "a" ∷ [] } ∷ [] };
+  rules = record { name = codes "r"; pattern = app_pattern 0 (patterns (wild_pattern dot (Some (codes "x")) ∷ wild_pattern (kind 1) (Some (codes "y")) ∷ wild_pattern plus (Some (codes "z")) ∷ wild_pattern dot (Some (codes "x")) ∷ wild_pattern star (Some (codes "w")) ∷ [])); template = None; condition = None } ∷ [];
+  subjects = [];
+  edits = [];
+})
+unfolding lexemes
+file_of-wildcards = refl
+
+-- a pattern with a commutative operation
+fault_of-commutative : fault_of (codes "op p 1+ comm; rule r: p(x_, a);") ≡ None
+unfolding lexemes
+fault_of-commutative = refl
+
+-- a commutative operation that the normal form doesn't have
+fault_of-collapsed : fault_of (codes "op p 1+ comm one; rule r: p(x_);") ≡ None
 unfolding lexemes
 fault_of-collapsed = refl
 

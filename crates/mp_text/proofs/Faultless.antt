@@ -13,6 +13,11 @@ nil-append (x ∷ a) b h = cc
 pub nil-both : {X : Type 0} (a b : List X) → a ≡ [] → b ≡ [] → a ++ b ≡ []
 nil-both a b h k = ap (λ l. l ++ b) h ∙ k
 
+-- a list with an item behind others has items
+pub some-behind : {X : Type 0} (a : List X) (x : X) → a ++ x ∷ [] ≡ [] → ⊥
+some-behind [] x h = cc
+some-behind (y ∷ a) x h = cc
+
 -- a test that gives no fault doesn't hold
 pub nil-fault_if : (test : Bool) (kind : TextKind) (place : Place) → fault_if test kind place ≡ [] → test ≡ false
 nil-fault_if true kind place h = cc

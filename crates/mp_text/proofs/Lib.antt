@@ -7,6 +7,7 @@ mod Words
 mod Faultless
 mod OpLaws
 mod Built
+mod Clashes
 mod Declared
 mod Separated
 mod Parts
@@ -18,8 +19,10 @@ pub mod Whole
 pub mod SoundLaws
 mod SpelledHead
 mod SpelledTerm
+mod SpelledWildcard
 mod SpelledPattern
 mod SpelledDeclarations
 mod ReadFile
 mod SpelledFile
 mod Examples
+mod AloneLaws

@@ -15,15 +15,15 @@ use Rattle.mp_pattern.specs.Firsts.{firsts_after}
 use Rattle.mp_pattern.specs.Normal.{normal_pattern}
 use Rattle.mp_syntax.specs.declared.place.Place.{Place}
 use Rattle.mp_syntax.specs.Tokens.{first_place}
-use Rattle.mp_syntax.specs.Syntax.{Spot, Tree, Symbol, Apply, InfixOf, Wild, Trees, no_trees, more_trees, tree_list, Flag, Assoc, Comm, One, Infixed, Statement, OpOf, KindOf, RuleOf, SubjectOf}
+use Rattle.mp_syntax.specs.Syntax.{Spot, Wildcard, Tree, Symbol, Apply, InfixOf, Wild, Trees, no_trees, more_trees, tree_list, Flag, Assoc, Comm, One, Infixed, Statement, OpOf, KindOf, RuleOf, SubjectOf}
 use Rattle.mp_syntax.specs.Printed.{unplaced_spot, unplaced_tree, unplaced_trees, unplaced_flag, unplaced}
 use Rattle.mp_text.specs.declared.fault.TextKind.{TextKind}
-use Rattle.mp_text.specs.declared.fault.TextKind.TheVariants.{DuplicateName, TooMany, BadFlags, BareOperation, Arity}
+use Rattle.mp_text.specs.declared.fault.TextKind.TheVariants.{DuplicateName, TooMany, BadFlags, BareOperation, UnknownKind, Arity, KindClash, LooseSequence, WildcardInTerm}
 use Rattle.mp_text.specs.declared.fault.TextFault.{TextFault}
-use Rattle.mp_text.specs.Names.{is_among, rule_names, subject_names, number_of, wildcard_names, all_wildcard_names, variable_names}
+use Rattle.mp_text.specs.Names.{is_among, rule_names, subject_names, number_of, wildcards, all_wildcards, wildcard_names, all_wildcard_names, variable_names}
 use Rattle.mp_text.specs.Flags.{says_assoc, says_comm, says_one, says_infix, is_said, is_said_twice, some_flag_twice, sign_spot, is_long_sign}
 use Rattle.mp_text.specs.Build.{op_decl, kind_decl, op_decls, kind_decls, sig_with, sig_of, head_number, op_number, sign_number, term_of, terms_of, pattern_of, patterns_of, rule_of, subject_of, rules_of, subjects_of, file_over, file_tree_of}
-use Rattle.mp_text.specs.Checks.{fault_at, fault_if, nodes, all_nodes, is_large_pattern, is_large_term, is_star, may_take_more, fewest, allows_patterns, head_faults, arity_faults, sign_faults, op_named, op_signed, symbol_faults, term_faults, term_operand_faults, all_term_faults, pattern_faults, pattern_operand_faults, all_pattern_faults, name_faults, has_bad_flags, held_sign_faults, op_faults, kind_faults, op_statement_faults, kind_statement_faults, statement_faults, faults_by, declaration_faults, faults}
+use Rattle.mp_text.specs.Checks.{fault_at, fault_if, nodes, all_nodes, is_large_pattern, is_large_term, is_star, may_take_more, fewest, allows_patterns, head_faults, arity_faults, sign_faults, op_named, op_signed, symbol_faults, term_faults, term_operand_faults, all_term_faults, differs, kind_unknown, wildcard_faults, pattern_faults, pattern_operand_faults, all_pattern_faults, loose_faults, whole_pattern_faults, name_faults, has_bad_flags, held_sign_faults, op_faults, kind_faults, op_statement_faults, kind_statement_faults, statement_faults, faults_by, declaration_faults, faults}
 
 -- ---- expressions
 
@@ -52,6 +52,21 @@ mutual
   all_wildcard_names-unplaced_trees : (ts : Trees) → all_wildcard_names (unplaced_trees ts) ≡ all_wildcard_names ts
   all_wildcard_names-unplaced_trees no_trees = refl
   all_wildcard_names-unplaced_trees (more_trees t ts) = λ i. wildcard_names-unplaced_tree t i ++ all_wildcard_names-unplaced_trees ts i
+
+-- the same wildcard at the first place
+abbrev unplaced_wildcard : Wildcard → Wildcard
+unplaced_wildcard w = record { name = w.name; marks = w.marks; kind = w.kind; place = first_place }
+
+mutual
+  wildcards-unplaced_tree : (t : Tree) → wildcards (unplaced_tree t) ≡ map unplaced_wildcard (wildcards t)
+  wildcards-unplaced_tree (Symbol w) = refl
+  wildcards-unplaced_tree (Apply f args) = all_wildcards-unplaced_trees args
+  wildcards-unplaced_tree (InfixOf opened sign operands) = all_wildcards-unplaced_trees operands
+  wildcards-unplaced_tree (Wild w) = refl
+
+  all_wildcards-unplaced_trees : (ts : Trees) → all_wildcards (unplaced_trees ts) ≡ map unplaced_wildcard (all_wildcards ts)
+  all_wildcards-unplaced_trees no_trees = refl
+  all_wildcards-unplaced_trees (more_trees t ts) = (λ i. wildcards-unplaced_tree t i ++ all_wildcards-unplaced_trees ts i) ∙ sym (map-append unplaced_wildcard (wildcards t) (all_wildcards ts))
 
 -- a pattern is large wherever it stands
 is_large_pattern-unplaced_tree : (p : Tree) → is_large_pattern (unplaced_tree p) ≡ is_large_pattern p
@@ -296,7 +311,7 @@ module _ (sig : Sig) where
         joined (arity_faults (allows (length (tree_list operands))) opened (op_signed sig sign.text)) (term_operand_faults sig (sign_faults sign (op_signed sig sign.text)) operands)
         (arity_faults-unplaced (allows (length (tree_list operands))) (allows (length (tree_list (unplaced_trees operands)))) (allows-unplaced_trees operands) opened (op_signed sig sign.text))
         (term_operand_faults-unplaced (sign_faults sign (op_signed sig sign.text)) (sign_faults (unplaced_spot sign) (op_signed sig sign.text)) operands (sign_faults-unplaced sign (op_signed sig sign.text)))
-    term_faults-unplaced (Wild w) = refl
+    term_faults-unplaced (Wild w) = joined (fault_if (kind_unknown sig w.kind) UnknownKind w.place) (fault_at WildcardInTerm w.place ∷ []) (fault_if-unplaced (kind_unknown sig w.kind) UnknownKind w.place refl) refl
 
     term_operand_faults-unplaced : (at_sign same : List TextFault) (ts : Trees) → same ≡ map unplaced_fault at_sign → term_operand_faults sig same (unplaced_trees ts) ≡ map unplaced_fault (term_operand_faults sig at_sign ts)
     term_operand_faults-unplaced at_sign same no_trees e = e
@@ -307,27 +322,54 @@ module _ (sig : Sig) where
     all_term_faults-unplaced no_trees = refl
     all_term_faults-unplaced (more_trees t ts) = joined (term_faults sig t) (all_term_faults sig ts) (term_faults-unplaced t) (all_term_faults-unplaced ts)
 
+  -- a wildcard has the same faults wherever it and those before it stand
+  list_any-unplaced : (w : Wildcard) (before : List Wildcard) → list_any (differs (unplaced_wildcard w)) (map unplaced_wildcard before) ≡ list_any (differs w) before
+  list_any-unplaced w [] = refl
+  list_any-unplaced w (v ∷ before) = ap (λ b. differs w v || b) (list_any-unplaced w before)
+
+  wildcard_faults-unplaced : (before : List Wildcard) (w : Wildcard) → wildcard_faults sig (map unplaced_wildcard before) (unplaced_wildcard w) ≡ map unplaced_fault (wildcard_faults sig before w)
+  wildcard_faults-unplaced before w =
+      joined (fault_if (kind_unknown sig w.kind) UnknownKind w.place) (fault_if (list_any (differs w) before) KindClash w.place)
+      (fault_if-unplaced (kind_unknown sig w.kind) UnknownKind w.place refl) (fault_if-unplaced (list_any (differs w) before) KindClash w.place (list_any-unplaced w before))
+
+  -- the wildcards so far, and those of one expression more
+  seen : (before : List Wildcard) (p : Tree) → map unplaced_wildcard before ++ wildcards (unplaced_tree p) ≡ map unplaced_wildcard (before ++ wildcards p)
+  seen before p = ap (λ l. map unplaced_wildcard before ++ l) (wildcards-unplaced_tree p) ∙ sym (map-append unplaced_wildcard before (wildcards p))
+
   mutual
-    pattern_faults-unplaced : (p : Tree) → pattern_faults sig (unplaced_tree p) ≡ map unplaced_fault (pattern_faults sig p)
-    pattern_faults-unplaced (Symbol w) = symbol_faults-unplaced w
-    pattern_faults-unplaced (Apply f args) =
-        joined (head_faults (allows_patterns (tree_list args)) f (op_named sig f.text)) (all_pattern_faults sig args)
+    pattern_faults-unplaced : (before : List Wildcard) (p : Tree) → pattern_faults sig (map unplaced_wildcard before) (unplaced_tree p) ≡ map unplaced_fault (pattern_faults sig before p)
+    pattern_faults-unplaced before (Symbol w) = symbol_faults-unplaced w
+    pattern_faults-unplaced before (Apply f args) =
+        joined (head_faults (allows_patterns (tree_list args)) f (op_named sig f.text)) (all_pattern_faults sig before args)
         (head_faults-unplaced (allows_patterns (tree_list args)) (allows_patterns (tree_list (unplaced_trees args))) (allows_patterns-unplaced_trees args) f (op_named sig f.text))
-        (all_pattern_faults-unplaced args)
-    pattern_faults-unplaced (InfixOf opened sign operands) =
-        joined (arity_faults (allows_patterns (tree_list operands)) opened (op_signed sig sign.text)) (pattern_operand_faults sig (sign_faults sign (op_signed sig sign.text)) operands)
+        (all_pattern_faults-unplaced before args)
+    pattern_faults-unplaced before (InfixOf opened sign operands) =
+        joined (arity_faults (allows_patterns (tree_list operands)) opened (op_signed sig sign.text)) (pattern_operand_faults sig before (sign_faults sign (op_signed sig sign.text)) operands)
         (arity_faults-unplaced (allows_patterns (tree_list operands)) (allows_patterns (tree_list (unplaced_trees operands))) (allows_patterns-unplaced_trees operands) opened (op_signed sig sign.text))
-        (pattern_operand_faults-unplaced (sign_faults sign (op_signed sig sign.text)) (sign_faults (unplaced_spot sign) (op_signed sig sign.text)) operands (sign_faults-unplaced sign (op_signed sig sign.text)))
-    pattern_faults-unplaced (Wild w) = refl
+        (pattern_operand_faults-unplaced before (sign_faults sign (op_signed sig sign.text)) (sign_faults (unplaced_spot sign) (op_signed sig sign.text)) operands (sign_faults-unplaced sign (op_signed sig sign.text)))
+    pattern_faults-unplaced before (Wild w) = wildcard_faults-unplaced before w
 
-    pattern_operand_faults-unplaced : (at_sign same : List TextFault) (ps : Trees) → same ≡ map unplaced_fault at_sign → pattern_operand_faults sig same (unplaced_trees ps) ≡ map unplaced_fault (pattern_operand_faults sig at_sign ps)
-    pattern_operand_faults-unplaced at_sign same no_trees e = e
-    pattern_operand_faults-unplaced at_sign same (more_trees p ps) e =
-        joined (pattern_faults sig p) (at_sign ++ all_pattern_faults sig ps) (pattern_faults-unplaced p) (joined at_sign (all_pattern_faults sig ps) e (all_pattern_faults-unplaced ps))
+    pattern_operand_faults-unplaced : (before : List Wildcard) (at_sign same : List TextFault) (ps : Trees) → same ≡ map unplaced_fault at_sign
+        → pattern_operand_faults sig (map unplaced_wildcard before) same (unplaced_trees ps) ≡ map unplaced_fault (pattern_operand_faults sig before at_sign ps)
+    pattern_operand_faults-unplaced before at_sign same no_trees e = e
+    pattern_operand_faults-unplaced before at_sign same (more_trees p ps) e =
+        joined (pattern_faults sig before p) (at_sign ++ all_pattern_faults sig (before ++ wildcards p) ps) (pattern_faults-unplaced before p)
+        (joined at_sign (all_pattern_faults sig (before ++ wildcards p) ps) e (ap (λ l. all_pattern_faults sig l (unplaced_trees ps)) (seen before p) ∙ all_pattern_faults-unplaced (before ++ wildcards p) ps))
 
-    all_pattern_faults-unplaced : (ps : Trees) → all_pattern_faults sig (unplaced_trees ps) ≡ map unplaced_fault (all_pattern_faults sig ps)
-    all_pattern_faults-unplaced no_trees = refl
-    all_pattern_faults-unplaced (more_trees p ps) = joined (pattern_faults sig p) (all_pattern_faults sig ps) (pattern_faults-unplaced p) (all_pattern_faults-unplaced ps)
+    all_pattern_faults-unplaced : (before : List Wildcard) (ps : Trees) → all_pattern_faults sig (map unplaced_wildcard before) (unplaced_trees ps) ≡ map unplaced_fault (all_pattern_faults sig before ps)
+    all_pattern_faults-unplaced before no_trees = refl
+    all_pattern_faults-unplaced before (more_trees p ps) =
+        joined (pattern_faults sig before p) (all_pattern_faults sig (before ++ wildcards p) ps) (pattern_faults-unplaced before p)
+        (ap (λ l. all_pattern_faults sig l (unplaced_trees ps)) (seen before p) ∙ all_pattern_faults-unplaced (before ++ wildcards p) ps)
+
+  loose_faults-unplaced : (p : Tree) → loose_faults (unplaced_tree p) ≡ map unplaced_fault (loose_faults p)
+  loose_faults-unplaced (Symbol w) = refl
+  loose_faults-unplaced (Apply f args) = refl
+  loose_faults-unplaced (InfixOf opened sign operands) = refl
+  loose_faults-unplaced (Wild w) = fault_if-unplaced (ltb 1 w.marks) LooseSequence w.place refl
+
+  whole_pattern_faults-unplaced : (p : Tree) → whole_pattern_faults sig (unplaced_tree p) ≡ map unplaced_fault (whole_pattern_faults sig p)
+  whole_pattern_faults-unplaced p = joined (pattern_faults sig [] p) (loose_faults p) (pattern_faults-unplaced [] p) (loose_faults-unplaced p)
 
   members-unplaced : (members : List Spot) → flat_map (symbol_faults sig) (map unplaced_spot members) ≡ map unplaced_fault (flat_map (symbol_faults sig) members)
   members-unplaced [] = refl
@@ -401,8 +443,8 @@ statement_faults-unplaced : (sig : Sig) (earlier : List Statement) (s : Statemen
 statement_faults-unplaced sig earlier (OpOf name least more flags) = refl
 statement_faults-unplaced sig earlier (KindOf name members) = refl
 statement_faults-unplaced sig earlier (RuleOf name p) =
-    joined (name_faults 1000 (rule_names earlier) (is_large_pattern p) name) (pattern_faults sig p)
-    (name_faults-unplaced 1000 (rule_names earlier) (is_large_pattern p) name (rule_names-unplaced earlier) (is_large_pattern-unplaced_tree p)) (pattern_faults-unplaced sig p)
+    joined (name_faults 1000 (rule_names earlier) (is_large_pattern p) name) (whole_pattern_faults sig p)
+    (name_faults-unplaced 1000 (rule_names earlier) (is_large_pattern p) name (rule_names-unplaced earlier) (is_large_pattern-unplaced_tree p)) (whole_pattern_faults-unplaced sig p)
 statement_faults-unplaced sig earlier (SubjectOf name t) =
     joined (name_faults 1000 (subject_names earlier) (is_large_term t) name) (term_faults sig t)
     (name_faults-unplaced 1000 (subject_names earlier) (is_large_term t) name (subject_names-unplaced earlier) (ap (ltb 100000) (nodes-unplaced_tree t))) (term_faults-unplaced sig t)

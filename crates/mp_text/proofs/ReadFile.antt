@@ -14,7 +14,7 @@ use Rattle.mp_syntax.specs.Syntax.{Spot, Tree, Flag, Assoc, Comm, One, Infixed, 
 use Rattle.mp_text.specs.declared.fault.TextFault.{TextFault}
 use Rattle.mp_text.specs.Subject.{Subject}
 use Rattle.mp_text.specs.Build.{op_decl, op_decls, kind_decl, kind_decls, sig_with, rule_of, rules_of, subject_of, subjects_of}
-use Rattle.mp_text.specs.Checks.{fault_if, is_large_pattern, is_large_term, symbol_faults, term_faults, pattern_faults, name_faults, has_bad_flags, held_sign_faults, op_faults, kind_faults, op_statement_faults, kind_statement_faults, statement_faults, faults_by}
+use Rattle.mp_text.specs.Checks.{fault_if, is_large_pattern, is_large_term, symbol_faults, term_faults, whole_pattern_faults, name_faults, has_bad_flags, held_sign_faults, op_faults, kind_faults, op_statement_faults, kind_statement_faults, statement_faults, faults_by}
 use Rattle.mp_text.specs.Flags.{sign_spot, is_long_sign}
 use Rattle.mp_text.specs.Names.{rule_names, subject_names, number_of}
 use Rattle.mp_text.specs.Spelled.{piece}
@@ -184,7 +184,7 @@ module _ (ds : List OpDecl) where
 -- ---- rules and subjects
 
 module _ (sig : Sig) (R : Rule → Type 0) (S : Subject → Type 0)
-    (rule-of : (name : Spot) (p : Tree) → IsName name.text → HasNames p → Fits 100 p → pattern_faults sig p ≡ [] → R (rule_of sig name p))
+    (rule-of : (name : Spot) (p : Tree) → IsName name.text → HasNames p → Fits 100 p → whole_pattern_faults sig p ≡ [] → R (rule_of sig name p))
     (subject-of : (name : Spot) (t : Tree) → IsName name.text → HasNames t → term_faults sig t ≡ [] → S (subject_of sig name t))
   where
     -- rules and subjects of which the facts hold
@@ -196,7 +196,7 @@ module _ (sig : Sig) (R : Rule → Type 0) (S : Subject → Type 0)
     hold-statement earlier (OpOf name least more flags) read h = record { rules_hold = tt; subjects_hold = tt }
     hold-statement earlier (KindOf name members) read h = record { rules_hold = tt; subjects_hold = tt }
     hold-statement earlier (RuleOf name p) read h =
-        let q = nil-append (name_faults 1000 (rule_names earlier) (is_large_pattern p) name) (pattern_faults sig p) h in
+        let q = nil-append (name_faults 1000 (rule_names earlier) (is_large_pattern p) name) (whole_pattern_faults sig p) h in
         record { rules_hold = (rule-of name p read.names.0 read.names.1 read.fits q.1, tt); subjects_hold = tt }
     hold-statement earlier (SubjectOf name t) read h =
         let q = nil-append (name_faults 1000 (subject_names earlier) (is_large_term t) name) (term_faults sig t) h in

@@ -2,8 +2,8 @@
 use Rattle.std.specs.Prelude.{if◌then◌else◌}
 use Rattle.mp_text.proofs.Words.{both, first-of, second-of}
 use Rattle.mp_text.proofs.OpLaws.{declarable-op_faults}
-use Rattle.mp_text.proofs.Faultless.{nil-append, nil-fault_if, or-second, within, below, not-false}
-use Rattle.std.proofs.Common.{eqb, ◌≡◌, ◌≤◌, ◌<◌, ◌+◌, ℕ, zero, suc, Bool, true, false, ◌||◌, leb, ltb, List, [], ◌∷◌, ◌++◌, map, length, Option, Some, None, append-nil, append_assoc, length-append, refl, sym, ap, ◌∙◌, subst, arith}
+use Rattle.mp_text.proofs.Faultless.{nil-append, nil-fault_if, or-second, within, below, not-false, some-behind}
+use Rattle.std.proofs.Common.{eqb, ◌≡◌, ◌≤◌, ◌<◌, ◌+◌, ℕ, zero, suc, Bool, true, false, ◌||◌, ◌&&◌, leb, ltb, rules, List, [], ◌∷◌, ◌++◌, map, length, Option, Some, None, append-nil, append_assoc, length-append, refl, sym, ap, ◌∙◌, subst, arith}
 use Rattle.std.specs.Prelude.{not, slice_get, Result, Ok, Err, IfOk}
 use Rattle.std.specs.List.{list_all, AllByRecursion}
 use Rattle.std.specs.Str.{bytes_eq}
@@ -13,14 +13,16 @@ use Rattle.std.proofs.lemmas.Map.Text.{is_eq-slice_cmp}
 use Rattle.mp_term.specs.declared.signature.OpDecl.{OpDecl}
 use Rattle.mp_term.specs.Tree.{tree_list}
 use Rattle.mp_term.specs.Size.{node_count, node_counts, depth, greatest_depth}
-use Rattle.mp_term.specs.Signature.{Sig, allows, in_order, all_in_order, well_formed, all_well_formed}
+use Rattle.mp_term.specs.Signature as signature
+use Rattle.mp_term.specs.Signature.{Sig, is_one, allows, all_in_order, well_formed, all_well_formed}
 use Rattle.mp_term.specs.Normal.{normal}
+use Rattle.mp_term.proofs.NormalTestLaws.{not_false}
 use Rattle.mp_term.proofs.NormalSize.{normal-normal, node_count-normal, depth-normal}
 use Rattle.mp_term.proofs.WellFormedNormal.{wf-normal}
 use Rattle.mp_term.specs.Names.{are_distinct}
 use Rattle.mp_pattern.specs.PatternTree as pattern
 use Rattle.mp_pattern.specs.Firsts.{firsts_after, is_known, add_new}
-use Rattle.mp_pattern.specs.Normal.{normal_pattern}
+use Rattle.mp_pattern.specs.Normal.{is_loose, flattened, in_order, collapsed, normal_pattern, normal_patterns}
 use Rattle.mp_pattern.specs.Size.{pattern_nodes, all_pattern_nodes}
 use Rattle.mp_pattern.specs.Value.{same_name}
 use Rattle.mp_pattern.specs.Variables.{uses, all_uses, variables}
@@ -28,14 +30,16 @@ use Rattle.mp_syntax.specs.Syntax as syntax
 use Rattle.mp_syntax.specs.Syntax.{Spot, Wildcard, Tree, Symbol, Apply, InfixOf, Wild, Trees, no_trees, more_trees, Flag, Statement, OpOf, KindOf, RuleOf, SubjectOf, Fits, AreFit, AreStatements}
 use Rattle.mp_text.specs.declared.fault.TextFault.{TextFault}
 use Rattle.mp_syntax.specs.declared.place.Place.{Place}
-use Rattle.mp_text.specs.Names.{is_among, named, wildcard_names, all_wildcard_names, variable_names, rule_names, subject_names}
-use Rattle.mp_text.specs.Build.{op_number, sign_number, head_number, op_decl, op_decls, shape_of, variable_of, term_of, terms_of, pattern_of, patterns_of, rules_of, subjects_of, sig_of, file_tree_of}
-use Rattle.mp_text.specs.Checks.{fault_if, nodes, all_nodes, is_large_pattern, is_large_term, op_at, op_named, op_signed, head_faults, arity_faults, sign_faults, allows_patterns, term_faults, term_operand_faults, all_term_faults, pattern_faults, pattern_operand_faults, all_pattern_faults, name_faults, op_faults, op_statement_faults, kind_statement_faults, declaration_faults, statement_faults, faults_by, faults}
+use Rattle.mp_text.specs.Names.{is_among, named, wildcards, wildcard_names, all_wildcard_names, variable_names, rule_names, subject_names}
+use Rattle.mp_text.specs.Build.{op_number, sign_number, head_number, op_decl, op_decls, kind_shape, shape_of, variable_of, term_of, terms_of, pattern_of, patterns_of, rules_of, subjects_of, sig_of, file_tree_of}
+use Rattle.mp_text.specs.Checks.{fault_if, kind_unknown, nodes, all_nodes, is_large_pattern, is_large_term, op_at, op_named, op_signed, head_faults, arity_faults, sign_faults, allows_patterns, term_faults, term_operand_faults, all_term_faults, pattern_faults, pattern_operand_faults, all_pattern_faults, loose_faults, whole_pattern_faults, name_faults, op_faults, op_statement_faults, kind_statement_faults, declaration_faults, statement_faults, faults_by, faults}
 use Rattle.mp_pattern.specs.Sound.{DefaultIsNormal, DefaultsAreNormal, AllDefaultsAreNormal, holds_ops, all_hold_ops}
+use Rattle.mp_pattern.proofs.ClashLaws.{first_clash-normal_pattern}
 use Rattle.mp_pattern.proofs.Preserved.{defaults-normal_pattern, holds_ops-normal_pattern}
 use Rattle.mp_pattern.proofs.NormalShape.{normal_pattern-normal_pattern}
 use Rattle.mp_pattern.proofs.NormalMeasures.{pattern_nodes-normal_pattern}
 use Rattle.mp_pattern.proofs.VariableLaws.{IsPermutation-variables}
+use Rattle.mp_text.proofs.Clashes.{nil-pattern_operands, first_clash-pattern_of}
 use Rattle.mp_text.specs.Sound.{IsSoundPattern, IsSoundTerm, IsSoundFile}
 use Rattle.mp_text.specs.declared.fault.TextError.{TextError}
 use Rattle.mp_text.specs.declared.file.File as code_file
@@ -99,7 +103,7 @@ module _ (sig : Sig) where
         let q = nil-term_operands at_sign operands p.1 in
         let d = found-infix sig (allows (length (syntax.tree_list operands))) opened sign (sign_number sig sign.text) p.0 q.0 in
         rw (d.held, length-terms_of operands, d.passed) (all_well_formed-terms_of operands q.1)
-    well_formed-term_of (Wild w) h = cc
+    well_formed-term_of (Wild w) h = absurd (some-behind (fault_if (kind_unknown sig w.kind) _ w.place) _ h)
 
     all_well_formed-terms_of : (ts : Trees) → all_term_faults sig ts ≡ [] → all_well_formed sig (terms_of sig ts) ≡ true
     all_well_formed-terms_of no_trees h = refl
@@ -136,8 +140,9 @@ module _ (sig : Sig) where
   -- ---- patterns
 
   -- no wildcard of this stage is optional
-  default-shape_of : (w : Wildcard) → DefaultIsNormal sig (shape_of w)
-  default-shape_of w = by_tests (eqb w.marks 3) (eqb w.marks 2)
+  default-shape_of : (kind : List ℕ) (marks : ℕ) → DefaultIsNormal sig (kind_shape sig kind marks)
+  default-shape_of (b ∷ bs) marks = tt
+  default-shape_of [] marks = by_tests (eqb marks 3) (eqb marks 2)
     where
       by_tests : (three two : Bool) → DefaultIsNormal sig (if three then pattern.star else (if two then pattern.plus else pattern.dot))
       by_tests true two = tt
@@ -150,39 +155,65 @@ module _ (sig : Sig) where
     defaults-pattern_of (Symbol w) = tt
     defaults-pattern_of (Apply f args) = defaults-patterns_of args
     defaults-pattern_of (InfixOf opened sign operands) = defaults-patterns_of operands
-    defaults-pattern_of (Wild w) = default-shape_of w
+    defaults-pattern_of (Wild w) = default-shape_of w.kind w.marks
 
     defaults-patterns_of : (ps : Trees) → AllDefaultsAreNormal sig (patterns_of sig ps)
     defaults-patterns_of no_trees = tt
     defaults-patterns_of (more_trees p ps) = (defaults-pattern_of p, defaults-patterns_of ps)
 
-  -- operands without faults, and a sign without faults, in a pattern
-  pub nil-pattern_operands : (at_sign : List TextFault) (ps : Trees) → pattern_operand_faults sig at_sign ps ≡ [] → (at_sign ≡ []) × (all_pattern_faults sig ps ≡ [])
-  nil-pattern_operands at_sign no_trees h = (h, refl)
-  nil-pattern_operands at_sign (more_trees p ps) h =
-      let q = nil-append (pattern_faults sig p) (at_sign ++ all_pattern_faults sig ps) h in
-      let r = nil-append at_sign (all_pattern_faults sig ps) q.1 in
-      (r.0, ap (λ l. l ++ all_pattern_faults sig ps) q.0 ∙ r.1)
-
   mutual
     -- the operations of a pattern without faults are held
-    pub holds_ops-pattern_of : (p : Tree) → pattern_faults sig p ≡ [] → holds_ops sig (pattern_of sig p) ≡ true
-    holds_ops-pattern_of (Symbol w) h = refl
-    holds_ops-pattern_of (Apply f args) h =
-        let p = nil-append (head_faults (allows_patterns (syntax.tree_list args)) f (op_named sig f.text)) (all_pattern_faults sig args) h in
-        rw ((found-head sig (allows_patterns (syntax.tree_list args)) f (op_number sig f.text) p.0).held) (all_hold_ops-patterns_of args p.1)
-    holds_ops-pattern_of (InfixOf opened sign operands) h =
+    pub holds_ops-pattern_of : (before : List Wildcard) (p : Tree) → pattern_faults sig before p ≡ [] → holds_ops sig (pattern_of sig p) ≡ true
+    holds_ops-pattern_of before (Symbol w) h = refl
+    holds_ops-pattern_of before (Apply f args) h =
+        let p = nil-append (head_faults (allows_patterns (syntax.tree_list args)) f (op_named sig f.text)) (all_pattern_faults sig before args) h in
+        rw ((found-head sig (allows_patterns (syntax.tree_list args)) f (op_number sig f.text) p.0).held) (all_hold_ops-patterns_of before args p.1)
+    holds_ops-pattern_of before (InfixOf opened sign operands) h =
         let at_sign = sign_faults sign (op_signed sig sign.text) in
-        let p = nil-append (arity_faults (allows_patterns (syntax.tree_list operands)) opened (op_signed sig sign.text)) (pattern_operand_faults sig at_sign operands) h in
-        let q = nil-pattern_operands at_sign operands p.1 in
-        rw ((found-infix sig (allows_patterns (syntax.tree_list operands)) opened sign (sign_number sig sign.text) p.0 q.0).held) (all_hold_ops-patterns_of operands q.1)
-    holds_ops-pattern_of (Wild w) h = refl
+        let p = nil-append (arity_faults (allows_patterns (syntax.tree_list operands)) opened (op_signed sig sign.text)) (pattern_operand_faults sig before at_sign operands) h in
+        let q = nil-pattern_operands sig before at_sign operands p.1 in
+        rw ((found-infix sig (allows_patterns (syntax.tree_list operands)) opened sign (sign_number sig sign.text) p.0 q.0).held) (all_hold_ops-patterns_of before operands q.1)
+    holds_ops-pattern_of before (Wild w) h = refl
 
-    all_hold_ops-patterns_of : (ps : Trees) → all_pattern_faults sig ps ≡ [] → all_hold_ops sig (patterns_of sig ps) ≡ true
-    all_hold_ops-patterns_of no_trees h = refl
-    all_hold_ops-patterns_of (more_trees p ps) h =
-        let q = nil-append (pattern_faults sig p) (all_pattern_faults sig ps) h in
-        rw (holds_ops-pattern_of p q.0) (all_hold_ops-patterns_of ps q.1)
+    all_hold_ops-patterns_of : (before : List Wildcard) (ps : Trees) → all_pattern_faults sig before ps ≡ [] → all_hold_ops sig (patterns_of sig ps) ≡ true
+    all_hold_ops-patterns_of before no_trees h = refl
+    all_hold_ops-patterns_of before (more_trees p ps) h =
+        let q = nil-append (pattern_faults sig before p) (all_pattern_faults sig (before ++ wildcards p) ps) h in
+        rw (holds_ops-pattern_of before p q.0) (all_hold_ops-patterns_of (before ++ wildcards p) ps q.1)
+
+  -- a pattern that isn't loose doesn't become it in its normal form
+  is_loose-collapsed : (f : ℕ) (ps : List pattern.Pattern) → is_loose (collapsed sig f ps) ≡ false
+  is_loose-collapsed f [] = refl
+  is_loose-collapsed f (p ∷ []) = go (is_one sig f && not (is_loose p)) refl
+    where
+      go : (b : Bool) → (is_one sig f && not (is_loose p)) ≡ b → is_loose (if b then p else pattern.app_pattern f (pattern.more_patterns p pattern.no_patterns)) ≡ false
+      go true e = not_false (is_loose p) (second-of (is_one sig f) (not (is_loose p)) e)
+      go false e = refl
+  is_loose-collapsed f (p ∷ q ∷ ps) = refl
+
+  is_loose-normal_pattern : (p : pattern.Pattern) → is_loose p ≡ false → is_loose (normal_pattern sig p) ≡ false
+  is_loose-normal_pattern (pattern.symbol_pattern n) h = refl
+  is_loose-normal_pattern (pattern.app_pattern f ps) h = is_loose-collapsed f (in_order sig f (flattened sig f (normal_patterns sig ps)))
+  is_loose-normal_pattern (pattern.wild_pattern w x) h = h
+
+  -- a pattern that doesn't stand alone as a plus or star wildcard isn't loose
+  is_loose-loose_faults : (p : Tree) → loose_faults p ≡ [] → is_loose (pattern_of sig p) ≡ false
+  is_loose-loose_faults (Symbol w) h = refl
+  is_loose-loose_faults (Apply f args) h = refl
+  is_loose-loose_faults (InfixOf opened sign operands) h = refl
+  is_loose-loose_faults (Wild w) h = go w.kind w.marks (within 1 w.marks (nil-fault_if (ltb 1 w.marks) _ w.place h))
+    where
+      by_tests : (three two : Bool) → three ≡ false → two ≡ false → is_loose (pattern.wild_pattern (if three then pattern.star else (if two then pattern.plus else pattern.dot)) (variable_of w.name)) ≡ false
+      by_tests false false e k = refl
+      by_tests true two e k = cc
+      by_tests false true e k = cc
+
+      go : (kind : List ℕ) (marks : ℕ) → marks ≤ 1 → is_loose (pattern.wild_pattern (kind_shape sig kind marks) (variable_of w.name)) ≡ false
+      go (b ∷ bs) marks few = refl
+      go [] marks few =
+          let three : eqb marks 3 ≡ false = search (rules, few) in
+          let two : eqb marks 2 ≡ false = search (rules, few) in
+          by_tests (eqb marks 3) (eqb marks 2) three two
 
   mutual
     -- a pattern has as many nodes as its expression
@@ -207,7 +238,7 @@ module _ (sig : Sig) where
     names-uses f (Symbol w) = refl
     names-uses f (Apply g args) = names-all_uses (Some (head_number (op_number sig g.text))) args
     names-uses f (InfixOf opened sign operands) = names-all_uses (Some (head_number (sign_number sig sign.text))) operands
-    names-uses f (Wild w) = names-wild f (shape_of w) w.name
+    names-uses f (Wild w) = names-wild f (shape_of sig w) w.name
 
     names-all_uses : (f : Option ℕ) (ps : Trees) → map (λ u. u.name) (all_uses f (patterns_of sig ps)) ≡ all_wildcard_names ps
     names-all_uses f no_trees = refl
@@ -262,17 +293,20 @@ named-by most earlier large name h =
     record { other = nil-fault_if (is_among name.text earlier) _ name.place p.0; few = below most (length earlier) o.0; small = o.1 }
 
 -- the normal form of a pattern without faults
-sound-pattern : (sig : Sig) (p : Tree) → is_large_pattern p ≡ false → pattern_faults sig p ≡ [] → IsSoundPattern sig (normal_pattern sig (pattern_of sig p))
+sound-pattern : (sig : Sig) (p : Tree) → is_large_pattern p ≡ false → whole_pattern_faults sig p ≡ [] → IsSoundPattern sig (normal_pattern sig (pattern_of sig p))
 sound-pattern sig p small none =
     let o = or-second (ltb 64 (nodes p)) (ltb 32 (length (variable_names p))) small in
+    let q = nil-append (pattern_faults sig [] p) (loose_faults p) none in
     let nodes_few : nodes p ≤ 64 = within 64 (nodes p) o.0 in
     let names_few : length (variable_names p) ≤ 32 = within 32 (length (variable_names p)) o.1 in
     record {
       normal = normal_pattern-normal_pattern sig (pattern_of sig p);
       defaults = defaults-normal_pattern sig (pattern_of sig p) (defaults-pattern_of sig p);
-      held = holds_ops-normal_pattern sig (pattern_of sig p) (holds_ops-pattern_of sig p none);
+      held = holds_ops-normal_pattern sig (pattern_of sig p) (holds_ops-pattern_of sig [] p q.0);
       nodes = omega (arith, pattern_nodes-normal_pattern sig (pattern_of sig p), pattern_nodes-pattern_of sig p);
       few_variables = omega (arith, length_permutation (variables (pattern_of sig p)) (variables (normal_pattern sig (pattern_of sig p))) (IsPermutation-variables sig (pattern_of sig p)), ap length (variables-pattern_of sig p));
+      plain_root = is_loose-normal_pattern sig (pattern_of sig p) (is_loose-loose_faults sig p q.1);
+      no_clash = first_clash-normal_pattern sig (pattern_of sig p) (first_clash-pattern_of sig p q.0);
     }
 
 -- the normal form of a term without faults
@@ -293,7 +327,7 @@ all_in_order-op_decls : (earlier ss : List Statement) → faults_by op_statement
 all_in_order-op_decls earlier [] h = refl
 all_in_order-op_decls earlier (OpOf name least more flags ∷ ss) h =
     let p = nil-append (op_faults (op_decls earlier) name least more flags) (faults_by op_statement_faults (earlier ++ OpOf name least more flags ∷ []) ss) h in
-    both (in_order (op_decl name least more flags)) (all_in_order (op_decls ss)) (declarable-op_faults (op_decls earlier) name least more flags p.0).ordered (all_in_order-op_decls (earlier ++ OpOf name least more flags ∷ []) ss p.1)
+    both (signature.in_order (op_decl name least more flags)) (all_in_order (op_decls ss)) (declarable-op_faults (op_decls earlier) name least more flags p.0).ordered (all_in_order-op_decls (earlier ++ OpOf name least more flags ∷ []) ss p.1)
 all_in_order-op_decls earlier (KindOf name members ∷ ss) h = all_in_order-op_decls (earlier ++ KindOf name members ∷ []) ss h
 all_in_order-op_decls earlier (RuleOf name p ∷ ss) h = all_in_order-op_decls (earlier ++ RuleOf name p ∷ []) ss h
 all_in_order-op_decls earlier (SubjectOf name t ∷ ss) h = all_in_order-op_decls (earlier ++ SubjectOf name t ∷ []) ss h
@@ -308,7 +342,7 @@ module _ (sig : Sig) where
   sound-rules earlier (KindOf name members ∷ ss) h = sound-rules (earlier ++ KindOf name members ∷ []) ss h
   sound-rules earlier (RuleOf name p ∷ ss) h =
       let q = nil-append (statement_faults sig earlier (RuleOf name p)) (faults_by (statement_faults sig) (earlier ++ RuleOf name p ∷ []) ss) h in
-      let r = nil-append (name_faults 1000 (rule_names earlier) (is_large_pattern p) name) (pattern_faults sig p) q.0 in
+      let r = nil-append (name_faults 1000 (rule_names earlier) (is_large_pattern p) name) (whole_pattern_faults sig p) q.0 in
       (sound-pattern sig p (named-by 1000 (rule_names earlier) (is_large_pattern p) name r.0).small r.1, sound-rules (earlier ++ RuleOf name p ∷ []) ss q.1)
   sound-rules earlier (SubjectOf name t ∷ ss) h =
       sound-rules (earlier ++ SubjectOf name t ∷ []) ss (nil-append (statement_faults sig earlier (SubjectOf name t)) (faults_by (statement_faults sig) (earlier ++ SubjectOf name t ∷ []) ss) h).1
@@ -368,7 +402,7 @@ module _ (sig : Sig) where
       subst Good (over rule_names rule_names-append earlier ss (KindOf name members)) (good-rules (earlier ++ KindOf name members ∷ []) ss h (subst Good (sym same) g))
   good-rules earlier (RuleOf name p ∷ ss) h g =
       let q = nil-append (statement_faults sig earlier (RuleOf name p)) (faults_by (statement_faults sig) (earlier ++ RuleOf name p ∷ []) ss) h in
-      let r = nil-append (name_faults 1000 (rule_names earlier) (is_large_pattern p) name) (pattern_faults sig p) q.0 in
+      let r = nil-append (name_faults 1000 (rule_names earlier) (is_large_pattern p) name) (whole_pattern_faults sig p) q.0 in
       let n = named-by 1000 (rule_names earlier) (is_large_pattern p) name r.0 in
       subst Good (over rule_names rule_names-append earlier ss (RuleOf name p))
       (good-rules (earlier ++ RuleOf name p ∷ []) ss q.1 (subst Good (sym (rule_names-append earlier (RuleOf name p ∷ []))) (good-push (rule_names earlier) name.text g n.other n.few)))
@@ -422,5 +456,5 @@ IsSoundFile-IsFileOf bytes f h = subst IsSoundFile (sym h.file) (sound-file h.st
 
 -- a file that is read is sound
 pub IsSoundFile-ReadGives : (bytes : List ℕ) (r : Result code_file.File TextError) → ReadGives bytes r → IfOk r (λ f. IsSoundFile (file_tree f))
-IsSoundFile-ReadGives bytes (Ok f) h = IsSoundFile-IsFileOf bytes (file_tree f) h.0
+IsSoundFile-ReadGives bytes (Ok f) h = IsSoundFile-IsFileOf bytes (file_tree f) h
 IsSoundFile-ReadGives bytes (Err e) h = tt

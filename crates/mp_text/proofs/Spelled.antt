@@ -10,7 +10,7 @@ use Rattle.mp_term.specs.Signature.{Sig, Kind}
 use Rattle.mp_pattern.specs.PatternTree as pattern
 use Rattle.mp_pattern.specs.Admission.{Rule}
 use Rattle.mp_syntax.specs.Tokens.{first_place}
-use Rattle.mp_syntax.specs.Syntax.{Tree, Apply, InfixOf, Trees, no_trees, more_trees, tree_list, Flag, Assoc, Comm, One, Statement, OpOf, KindOf, RuleOf, SubjectOf, IsSyntaxOf, Fits, AreFit, FitsStatement, AreStatements, StatementsHaveNames}
+use Rattle.mp_syntax.specs.Syntax.{Tree, Apply, InfixOf, Trees, no_trees, more_trees, tree_list, Flag, Assoc, Comm, One, Statement, OpOf, KindOf, RuleOf, SubjectOf, IsSyntaxOf, FitsStatement, AreStatements, HasNames, HaveNames, StatementHasNames, StatementsHaveNames}
 use Rattle.mp_syntax.specs.Printed.{tree_text, first_text, others_text, plus_text, flag_text, member_text, line_end, statement_text, statements_text, unplaced_spot, unplaced_tree, unplaced_trees, unplaced_flag, unplaced}
 use Rattle.mp_syntax.proofs.Printed.{printed-again}
 use Rattle.mp_text.specs.Subject.{Subject}
@@ -63,39 +63,35 @@ mutual
 
 -- ---- patterns
 
--- where an application fits, its arguments do
-fits-args : (d : OpDecl) (sign : Option Text) (room : ℕ) (ts : Trees) → Fits room (application_spelling d sign ts) → (r : ℕ) × AreFit r ts
-fits-args d None zero ts h = absurd h
-fits-args d None (suc room) ts h = (room, h)
-fits-args d (Some sign) room ts h = go (leb 2 (length (tree_list ts))) room h
+-- where an application has names, its arguments have
+names-args : (d : OpDecl) (sign : Option Text) (ts : Trees) → HasNames (application_spelling d sign ts) → HaveNames ts
+names-args d None ts h = h.1
+names-args d (Some sign) ts h = go (leb 2 (length (tree_list ts))) h
   where
-    go : (v : Bool) (room : ℕ) → Fits room (cond v (InfixOf first_place (piece sign) ts) (Apply (piece d.name) ts)) → (r : ℕ) × AreFit r ts
-    go true zero h = absurd h
-    go true (suc room) h = (room, h.1)
-    go false zero h = absurd h
-    go false (suc room) h = (room, h)
+    go : (v : Bool) → HasNames (cond v (InfixOf first_place (piece sign) ts) (Apply (piece d.name) ts)) → HaveNames ts
+    go true h = h.1
+    go false h = h.1
 
-held_text-args : (o : Option OpDecl) (texts : List Text) (ts : Trees) (room : ℕ) → Fits room (held_spelling o ts) → ((r : ℕ) → AreFit r ts → texts ≡ tree_texts ts) → held_text o texts ≡ tree_text (held_spelling o ts)
-held_text-args None texts ts room h same = refl
-held_text-args (Some d) texts ts room h same = let a = fits-args d d.sign room ts h in ap (application_text d d.sign) (same a.0 a.1) ∙ application_text-spelling d d.sign ts
+held_text-args : (o : Option OpDecl) (texts : List Text) (ts : Trees) → HasNames (held_spelling o ts) → (HaveNames ts → texts ≡ tree_texts ts) → held_text o texts ≡ tree_text (held_spelling o ts)
+held_text-args None texts ts h same = refl
+held_text-args (Some d) texts ts h same = ap (application_text d d.sign) (same (names-args d d.sign ts h)) ∙ application_text-spelling d d.sign ts
 
-wildcard_text-spelling : (sig : Sig) (w : pattern.Wildcard) (x : Text) (room : ℕ) → Fits room (wildcard_spelling sig w x) → x ++ shape_text sig w ≡ tree_text (wildcard_spelling sig w x)
-wildcard_text-spelling sig pattern.dot x room h = refl
-wildcard_text-spelling sig (pattern.kind k) x room h = refl
-wildcard_text-spelling sig pattern.plus x room h = refl
-wildcard_text-spelling sig pattern.star x room h = refl
-wildcard_text-spelling sig (pattern.optional t) x zero h = absurd (omega (arith, h.dot))
-wildcard_text-spelling sig (pattern.optional t) x (suc room) h = absurd (omega (arith, h.dot))
+wildcard_text-spelling : (sig : Sig) (w : pattern.Wildcard) (x : Text) → HasNames (wildcard_spelling sig w x) → x ++ shape_text sig w ≡ tree_text (wildcard_spelling sig w x)
+wildcard_text-spelling sig pattern.dot x h = refl
+wildcard_text-spelling sig (pattern.kind k) x h = refl
+wildcard_text-spelling sig pattern.plus x h = refl
+wildcard_text-spelling sig pattern.star x h = refl
+wildcard_text-spelling sig (pattern.optional t) x h = absurd (omega (arith, h.some_marks))
 
 mutual
-  pattern_text-spelling : (sig : Sig) (p : pattern.Pattern) (room : ℕ) → Fits room (pattern_spelling sig p) → pattern_text sig p ≡ tree_text (pattern_spelling sig p)
-  pattern_text-spelling sig (pattern.symbol_pattern n) room h = refl
-  pattern_text-spelling sig (pattern.app_pattern f ps) room h = held_text-args (slice_get sig.ops f) (pattern_texts sig ps) (pattern_spellings sig ps) room h (λ r k. pattern_texts-spellings sig ps r k)
-  pattern_text-spelling sig (pattern.wild_pattern w x) room h = wildcard_text-spelling sig w (unwrap_or x []) room h
+  pattern_text-spelling : (sig : Sig) (p : pattern.Pattern) → HasNames (pattern_spelling sig p) → pattern_text sig p ≡ tree_text (pattern_spelling sig p)
+  pattern_text-spelling sig (pattern.symbol_pattern n) h = refl
+  pattern_text-spelling sig (pattern.app_pattern f ps) h = held_text-args (slice_get sig.ops f) (pattern_texts sig ps) (pattern_spellings sig ps) h (λ k. pattern_texts-spellings sig ps k)
+  pattern_text-spelling sig (pattern.wild_pattern w x) h = wildcard_text-spelling sig w (unwrap_or x []) h
 
-  pattern_texts-spellings : (sig : Sig) (ps : pattern.Patterns) (room : ℕ) → AreFit room (pattern_spellings sig ps) → pattern_texts sig ps ≡ tree_texts (pattern_spellings sig ps)
-  pattern_texts-spellings sig pattern.no_patterns room h = refl
-  pattern_texts-spellings sig (pattern.more_patterns p ps) room h = λ i. pattern_text-spelling sig p room h.0 i ∷ pattern_texts-spellings sig ps room h.1 i
+  pattern_texts-spellings : (sig : Sig) (ps : pattern.Patterns) → HaveNames (pattern_spellings sig ps) → pattern_texts sig ps ≡ tree_texts (pattern_spellings sig ps)
+  pattern_texts-spellings sig pattern.no_patterns h = refl
+  pattern_texts-spellings sig (pattern.more_patterns p ps) h = λ i. pattern_text-spelling sig p h.0 i ∷ pattern_texts-spellings sig ps h.1 i
 
 -- ---- statements
 
@@ -137,33 +133,34 @@ kind_text-spelling k fits = head_text-named (codes "kind") k.name (separated (co
     members [] some = absurd (some refl)
     members (m ∷ ms) some = ap (λ l. 32 ∷ (m ++ l)) (preceded-members ms)
 
-rule_text-spelling : (sig : Sig) (r : Rule) → FitsStatement (rule_spelling sig r) → rule_text sig r ≡ statement_text (rule_spelling sig r)
-rule_text-spelling sig r fits = head_text-named (codes "rule") r.name (pattern_text sig r.pattern ++ line_end) ∙ ap (λ l. codes "rule " ++ (r.name ++ (58 ∷ 32 ∷ (l ++ line_end)))) (pattern_text-spelling sig r.pattern 100 fits)
+rule_text-spelling : (sig : Sig) (r : Rule) → StatementHasNames (rule_spelling sig r) → rule_text sig r ≡ statement_text (rule_spelling sig r)
+rule_text-spelling sig r names = head_text-named (codes "rule") r.name (pattern_text sig r.pattern ++ line_end) ∙ ap (λ l. codes "rule " ++ (r.name ++ (58 ∷ 32 ∷ (l ++ line_end)))) (pattern_text-spelling sig r.pattern names.1)
 
 subject_text-spelling : (sig : Sig) (s : Subject) → subject_text sig s ≡ statement_text (subject_spelling sig s)
 subject_text-spelling sig s = head_text-named (codes "subject") s.name (term_text sig s.term ++ line_end) ∙ ap (λ l. codes "subject " ++ (s.name ++ (58 ∷ 32 ∷ (l ++ line_end)))) (term_text-spelling sig s.term)
 
 -- ---- files
 
-module _ {X : Type 0} (text : X → Text) (spelling : X → Statement) (each : (x : X) → FitsStatement (spelling x) → text x ≡ statement_text (spelling x)) where
+module _ {X : Type 0} (text : X → Text) (spelling : X → Statement) (each : (x : X) → StatementHasNames (spelling x) → FitsStatement (spelling x) → text x ≡ statement_text (spelling x)) where
   -- the texts of the items, and a text behind them
-  texts-spellings : (xs : List X) (rest : List Statement) (last : Text) → AreStatements (map spelling xs ++ rest) → (AreStatements rest → last ≡ statements_text rest) → flat_map text xs ++ last ≡ statements_text (map spelling xs ++ rest)
-  texts-spellings [] rest last h same = same h
-  texts-spellings (x ∷ xs) rest last h same = append_assoc (text x) (flat_map text xs) last ∙ (λ i. each x h.0 i ++ texts-spellings xs rest last h.1 same i)
+  texts-spellings : (xs : List X) (rest : List Statement) (last : Text) → StatementsHaveNames (map spelling xs ++ rest) → AreStatements (map spelling xs ++ rest)
+      → (StatementsHaveNames rest → AreStatements rest → last ≡ statements_text rest) → flat_map text xs ++ last ≡ statements_text (map spelling xs ++ rest)
+  texts-spellings [] rest last n h same = same n h
+  texts-spellings (x ∷ xs) rest last n h same = append_assoc (text x) (flat_map text xs) last ∙ (λ i. each x n.0 h.0 i ++ texts-spellings xs rest last n.1 h.1 same i)
 
 -- what is printed of a file is the text of its statements
-pub file_text-spelling : (f : FileTree) → AreStatements (file_spelling f) → file_text f ≡ statements_text (file_spelling f)
-file_text-spelling f h =
+pub file_text-spelling : (f : FileTree) → StatementsHaveNames (file_spelling f) → AreStatements (file_spelling f) → file_text f ≡ statements_text (file_spelling f)
+file_text-spelling f n h =
     let subjects = map (subject_spelling f.sig) f.subjects in
     let rules = map (rule_spelling f.sig) f.rules ++ subjects in
     let kinds = map kind_spelling f.sig.kinds ++ rules in
     let last = flat_map (subject_text f.sig) f.subjects in
     append_assoc (flat_map op_text f.sig.ops) (flat_map kind_text f.sig.kinds) (flat_map (rule_text f.sig) f.rules ++ last)
-    ∙ texts-spellings op_text op_spelling (λ d fits. op_text-spelling d) f.sig.ops kinds _ h (λ h.
-    texts-spellings kind_text kind_spelling kind_text-spelling f.sig.kinds rules _ h (λ h.
-    texts-spellings (rule_text f.sig) (rule_spelling f.sig) (rule_text-spelling f.sig) f.rules subjects last h (λ h.
+    ∙ texts-spellings op_text op_spelling (λ d names fits. op_text-spelling d) f.sig.ops kinds _ n h (λ n h.
+    texts-spellings kind_text kind_spelling (λ k names fits. kind_text-spelling k fits) f.sig.kinds rules _ n h (λ n h.
+    texts-spellings (rule_text f.sig) (rule_spelling f.sig) (λ r names fits. rule_text-spelling f.sig r names) f.rules subjects last n h (λ n h.
     sym (append-nil last)
-    ∙ texts-spellings (subject_text f.sig) (subject_spelling f.sig) (λ s fits. subject_text-spelling f.sig s) f.subjects [] [] (subst AreStatements (sym (append-nil subjects)) h) (λ h. refl)
+    ∙ texts-spellings (subject_text f.sig) (subject_spelling f.sig) (λ s names fits. subject_text-spelling f.sig s) f.subjects [] [] (subst StatementsHaveNames (sym (append-nil subjects)) n) (subst AreStatements (sym (append-nil subjects)) h) (λ n h. refl)
     ∙ ap statements_text (append-nil subjects))))
 
 -- ---- places
@@ -243,4 +240,4 @@ unplaced-file f =
 pub file-again : (f : FileTree) → StatementsHaveNames (file_spelling f) → AreStatements (file_spelling f) → (read : List Statement) × IsSyntaxOf (file_text f) read × (map unplaced read ≡ file_spelling f)
 file-again f names fits =
     let r = printed-again (file_spelling f) names fits in
-    (r.0, subst (λ l. IsSyntaxOf l r.0) (sym (file_text-spelling f fits)) r.1, r.2 ∙ unplaced-file f)
+    (r.0, subst (λ l. IsSyntaxOf l r.0) (sym (file_text-spelling f names fits)) r.1, r.2 ∙ unplaced-file f)

@@ -13,7 +13,7 @@ use Rattle.mp_term.proofs.NormalTestLaws.{not_false}
 use Rattle.mp_term.proofs.SignatureLaws.{position-behind, position-first}
 use Rattle.mp_pattern.specs.PatternTree as pattern
 use Rattle.mp_syntax.specs.Tokens.{first_place}
-use Rattle.mp_syntax.specs.Syntax.{Spot, Tree, Apply, InfixOf, Trees, no_trees, more_trees, tree_list, AreSeveral, Fits, AreFit, IsName, IsInfixSign, HasNames, HaveNames}
+use Rattle.mp_syntax.specs.Syntax.{Spot, Wildcard, Tree, Apply, InfixOf, Trees, no_trees, more_trees, tree_list, AreSeveral, Fits, AreFit, IsName, IsInfixSign, HasNames, HaveNames}
 use Rattle.mp_text.specs.Build.{op_number, sign_number, head_number, term_of, terms_of, pattern_of, patterns_of}
 use Rattle.mp_text.specs.Checks.{op_at, op_named, op_signed, head_faults, arity_faults, sign_faults, allows_patterns, symbol_faults, term_faults, term_operand_faults, all_term_faults, pattern_faults, pattern_operand_faults, all_pattern_faults}
 use Rattle.mp_text.specs.Spelled.{piece, application_spelling, held_spelling}
@@ -176,12 +176,12 @@ module _ (sig : Sig) (h : HasOps sig) (f : ℕ) (d : OpDecl) (here : slice_get s
       ∙ none)
 
   -- it has no faults in a pattern
-  pub pattern_faults-held : (ts : Trees) → allows_patterns (tree_list ts) d ≡ true → all_pattern_faults sig ts ≡ [] → pattern_faults sig (held_spelling (slice_get sig.ops f) ts) ≡ []
-  pattern_faults-held ts allowed none =
+  pub pattern_faults-held : (before : List Wildcard) (ts : Trees) → allows_patterns (tree_list ts) d ≡ true → all_pattern_faults sig before ts ≡ [] → pattern_faults sig before (held_spelling (slice_get sig.ops f) ts) ≡ []
+  pattern_faults-held before ts allowed none =
       let passes = allows_patterns (tree_list ts) in
-      held_spelling-cases (λ t. pattern_faults sig t ≡ []) (slice_get sig.ops f) d ts here
-      (ap (λ l. l ++ all_pattern_faults sig ts) (head_faults-held passes allowed) ∙ none)
+      held_spelling-cases (λ t. pattern_faults sig before t ≡ []) (slice_get sig.ops f) d ts here
+      (ap (λ l. l ++ all_pattern_faults sig before ts) (head_faults-held passes allowed) ∙ none)
       (λ sign e some.
-      ap (λ l. l ++ pattern_operand_faults sig (sign_faults (piece sign) (op_signed sig sign)) ts) (arity_faults-held passes sign e allowed)
-      ∙ pattern_operand_faults-known sig (piece sign) (op_signed sig sign) ts (ap is_some (sym (op_signed-held sign e)))
+      ap (λ l. l ++ pattern_operand_faults sig before (sign_faults (piece sign) (op_signed sig sign)) ts) (arity_faults-held passes sign e allowed)
+      ∙ pattern_operand_faults-known sig before (piece sign) (op_signed sig sign) ts (ap is_some (sym (op_signed-held sign e)))
       ∙ none)

@@ -1,18 +1,21 @@
 -- A pattern is read again as it is spelled, where its operations allow as many arguments as it may take, and so is its normal form.
-use Rattle.std.proofs.Common.{◌≡◌, ◌⊎◌, inl, inr, ℕ, zero, suc, ◌+◌, ◌≤◌, Bool, true, false, ◌&&◌, ◌||◌, not, cond, leb, ltb, eqb, List, [], ◌∷◌, ◌++◌, map, length, Option, Some, None, unwrap_or, refl, sym, ap, subst, ◌∙◌, arith, length-append, eqb-true}
-use Rattle.std.specs.Prelude.{slice_get, nat_eq, if◌then◌else◌}
+use Rattle.std.proofs.Common.{◌≡◌, ◌≢◌, ◌⊎◌, inl, inr, ℕ, zero, suc, ◌+◌, ◌≤◌, ◌<◌, Bool, true, false, ◌&&◌, ◌||◌, not, cond, leb, ltb, eqb, List, [], ◌∷◌, ◌++◌, map, length, Option, Some, None, option_map, unwrap_or, refl, sym, ap, subst, ◌∙◌, arith, length-append, eqb-true, add-one}
+use Rattle.std.specs.Prelude.{slice_get, position, is_none, nat_eq, if◌then◌else◌}
 use Rattle.std.specs.Ordering.{is_gt}
 use Rattle.std.specs.declared.cmp.Ordering.{Ordering}
 use Rattle.std.specs.List.{list_any, AllByRecursion}
 use Rattle.std.proofs.Math.Nat.{add_left_comm}
-use Rattle.std.proofs.lemmas.Bool.{false≢true, leb-true, le-leb, or_cases, or_left, or_right}
+use Rattle.std.specs.Str.{bytes_eq}
+use Rattle.std.proofs.lemmas.Slice.Eq.{bytes_eq-Decides}
+use Rattle.std.proofs.lemmas.Bool.{eq-eqb, false≢true, leb-true, le-leb, or_cases, or_left, or_right}
 use Rattle.std.proofs.lemmas.List.{length-map, map-append}
 use Rattle.std.proofs.lemmas.List.Folds.{list_any-append}
 use Rattle.mp_term.specs.declared.signature.OpDecl.{OpDecl}
 use Rattle.mp_term.specs.Sorting.{insert_sorted, sorted}
 use Rattle.mp_term.specs.Signature as signature
-use Rattle.mp_term.specs.Signature.{Sig, holds_of, all_in_order, is_assoc, is_comm, is_one}
+use Rattle.mp_term.specs.Signature.{Sig, kind_names, holds_of, all_in_order, is_assoc, is_comm, is_one}
 use Rattle.mp_term.proofs.Sorting.{length-sorted}
+use Rattle.mp_term.proofs.SignatureLaws.{position-behind, position-first}
 use Rattle.mp_term.proofs.NormalTestLaws.{not_false}
 use Rattle.mp_pattern.specs.PatternTree as pattern
 use Rattle.mp_pattern.specs.PatternTree.{Pattern, symbol_pattern, app_pattern, wild_pattern, Patterns, no_patterns, more_patterns, pattern_list, patterns}
@@ -20,20 +23,29 @@ use Rattle.mp_pattern.specs.PatternLists.{pattern_list-patterns}
 use Rattle.mp_pattern.specs.Size.{pattern_nodes, all_pattern_nodes}
 use Rattle.mp_pattern.specs.Order.{pattern_cmp}
 use Rattle.mp_pattern.specs.Normal.{unwrapped, is_loose, parts, flattened, in_order, collapsed, normal_pattern, normal_patterns}
+use Rattle.mp_pattern.specs.Subpatterns.{subpatterns, all_subpatterns}
+use Rattle.mp_pattern.specs.Clash.{first_clash}
+use Rattle.mp_pattern.proofs.ClashLaws.{Agree}
 use Rattle.mp_pattern.specs.Variables.{variables}
 use Rattle.mp_pattern.proofs.SortedLaws.{all-flat_map}
 use Rattle.mp_pattern.proofs.NormalLaws.{all-in_order}
 use Rattle.mp_syntax.specs.Tokens.{first_place}
 use Rattle.mp_syntax.specs.Syntax as syntax
-use Rattle.mp_syntax.specs.Syntax.{Tree, Symbol, Apply, InfixOf, Wild, Trees, no_trees, more_trees, tree_list, IsNamedDot, Fits, AreFit, IsName, HasNames, HaveNames}
-use Rattle.mp_text.specs.Names.{variable_names}
-use Rattle.mp_text.specs.Build.{op_number, sign_number, head_number, shape_of, variable_of, pattern_of, patterns_of}
-use Rattle.mp_text.specs.Checks.{nodes, is_star, may_take_more, fewest, may_reach, allows_patterns, op_named, op_signed, head_faults, arity_faults, sign_faults, pattern_faults, pattern_operand_faults, all_pattern_faults}
+use Rattle.mp_syntax.specs.Syntax.{Tree, Symbol, Apply, InfixOf, Wild, Trees, no_trees, more_trees, tree_list, Fits, AreFit, IsName, HasNames, HaveNames}
+use Rattle.mp_text.specs.Names.{wildcards, all_wildcards, variable_names}
+use Rattle.mp_text.specs.Build.{op_number, sign_number, head_number, kind_number, kind_shape, variable_of, pattern_of, patterns_of}
+use Rattle.mp_text.specs.Checks.{fault_if, nodes, differs, loose_faults, is_star, may_take_more, fewest, may_reach, allows_patterns, op_named, op_signed, head_faults, arity_faults, sign_faults, kind_unknown, wildcard_faults, pattern_faults, pattern_operand_faults, all_pattern_faults, whole_pattern_faults}
+use Rattle.mp_syntax.proofs.Trees.{fits-named, named-fits}
+use Rattle.mp_io.specs.Devices.{Text}
+use Rattle.mp_text.specs.declared.fault.TextKind.TheVariants.{UnknownKind, KindClash}
+use Rattle.mp_text.specs.PrintedFile.{kind_name_text}
 use Rattle.mp_text.specs.Spelled.{held_spelling, wildcard_spelling, pattern_spelling, pattern_spellings}
 use Rattle.mp_text.proofs.Words.{both, first-of, second-of}
-use Rattle.mp_text.proofs.Faultless.{nil-append}
+use Rattle.mp_text.proofs.Faultless.{nil-append, nil-both, nil-fault_if, none-fault_if}
+use Rattle.mp_text.proofs.Clashes.{Apart, Apart-split, Apart-first_clash, wilds, wilds-append, nil-pattern_operands}
 use Rattle.mp_text.proofs.Places.{fewest-cons}
-use Rattle.mp_text.proofs.SoundLaws.{Found, found-head, found-infix, nil-pattern_operands, pattern_nodes-pattern_of, variables-pattern_of}
+use Rattle.mp_text.proofs.SoundLaws.{Found, found-head, found-infix, pattern_nodes-pattern_of, variables-pattern_of}
+use Rattle.mp_text.proofs.SpelledWildcard.{IsReadWildcard, IsVariable, IsReadWildcard-kind_shape, IsVariable-variable_of, mark, wildcard_spelling-mark_of, differs-Agree, is_star-kind_shape, may_take_more-kind_shape, pattern_of-wildcard_spelling, pattern_faults-wildcard_spelling, HasNames-wildcard_spelling, Fits-wildcard_spelling}
 use Rattle.mp_text.proofs.SpelledHead.{HasOps, IsSymbolOf, IsSymbolOf-symbol_faults, symbol_faults-IsSymbolOf, held_spelling-cases, pattern_of-held, HasNames-held, Fits-held, pattern_faults-held}
 
 -- ---- numbers of arguments
@@ -66,42 +78,6 @@ allows_patterns-alike ts us d reach few h =
     both (may_reach d.assoc us d.least) (not d.fixed || leb (fewest us) d.least)
     (may_reach-Reaches d.assoc us d.least (reach (Reaches-may_reach d.assoc ts d.least (first-of (may_reach d.assoc ts d.least) (not d.fixed || leb (fewest ts) d.least) h))))
     (ap (λ n. not d.fixed || leb n d.least) few ∙ second-of (may_reach d.assoc ts d.least) (not d.fixed || leb (fewest ts) d.least) h)
-
--- ---- wildcards
-
--- a wildcard that is read: one argument
-abbrev IsReadWildcard : pattern.Wildcard → Type 0
-IsReadWildcard pattern.dot = Unit {0}
-IsReadWildcard (pattern.kind k) = ⊥
-IsReadWildcard pattern.plus = ⊥
-IsReadWildcard pattern.star = ⊥
-IsReadWildcard (pattern.optional t) = ⊥
-
--- a variable, with a name
-abbrev IsVariable : Option (List ℕ) → Type 0
-IsVariable None = ⊥
-IsVariable (Some x) = IsName x
-
--- a named dot is read as one
-IsReadWildcard-shape_of : (w : syntax.Wildcard) → IsNamedDot w → IsReadWildcard (shape_of w)
-IsReadWildcard-shape_of w h = subst (λ m. IsReadWildcard (if eqb m 3 then pattern.star else (if eqb m 2 then pattern.plus else pattern.dot))) (sym h.dot) tt
-
-IsVariable-variable_of : (x : List ℕ) → IsName x → IsVariable (variable_of x)
-IsVariable-variable_of [] h = absurd (h.is_word.some refl)
-IsVariable-variable_of (b ∷ bs) h = h
-
-variable_of-IsName : (x : List ℕ) → IsName x → variable_of x ≡ Some x
-variable_of-IsName [] h = absurd (h.is_word.some refl)
-variable_of-IsName (b ∷ bs) h = refl
-
--- a wildcard that fits is a named dot
-IsNamedDot-Fits : (room : ℕ) (w : syntax.Wildcard) → Fits room (Wild w) → IsNamedDot w
-IsNamedDot-Fits zero w h = h
-IsNamedDot-Fits (suc room) w h = h
-
-Fits-IsNamedDot : (room : ℕ) (w : syntax.Wildcard) → IsNamedDot w → Fits room (Wild w)
-Fits-IsNamedDot zero w h = h
-Fits-IsNamedDot (suc room) w h = h
 
 -- ---- applications
 
@@ -158,7 +134,7 @@ module _ (sig : Sig) where
     pub IsSpelled : Pattern → Type 0
     IsSpelled (symbol_pattern n) = IsSymbolOf sig n
     IsSpelled (app_pattern f ps) = Allowed f (pattern_list ps) × AreSpelled ps
-    IsSpelled (wild_pattern w x) = IsReadWildcard w × IsVariable x
+    IsSpelled (wild_pattern w x) = IsReadWildcard sig w × IsVariable x
 
     pub AreSpelled : Patterns → Type 0
     AreSpelled no_patterns = Unit {0}
@@ -178,67 +154,73 @@ module _ (sig : Sig) where
 
   -- ---- patterns that are read
 
-  is_star-pattern_of : (room : ℕ) (t : Tree) → Fits room t → is_star (pattern_spelling sig (pattern_of sig t)) ≡ is_star t
-  is_star-pattern_of room (Symbol w) h = refl
-  is_star-pattern_of room (Apply f args) h = is_star-held_spelling (slice_get sig.ops (head_number (op_number sig f.text))) (pattern_spellings sig (patterns_of sig args))
-  is_star-pattern_of room (InfixOf opened sign operands) h = is_star-held_spelling (slice_get sig.ops (head_number (sign_number sig sign.text))) (pattern_spellings sig (patterns_of sig operands))
-  is_star-pattern_of room (Wild w) h =
-      subst (λ m. is_star (wildcard_spelling sig (if eqb m 3 then pattern.star else (if eqb m 2 then pattern.plus else pattern.dot)) (unwrap_or (variable_of w.name) [])) ≡ eqb m 3) (sym (IsNamedDot-Fits room w h).dot) refl
+  is_star-pattern_of : (t : Tree) → HasNames t → is_star (pattern_spelling sig (pattern_of sig t)) ≡ is_star t
+  is_star-pattern_of (Symbol w) h = refl
+  is_star-pattern_of (Apply f args) h = is_star-held_spelling (slice_get sig.ops (head_number (op_number sig f.text))) (pattern_spellings sig (patterns_of sig args))
+  is_star-pattern_of (InfixOf opened sign operands) h = is_star-held_spelling (slice_get sig.ops (head_number (sign_number sig sign.text))) (pattern_spellings sig (patterns_of sig operands))
+  is_star-pattern_of (Wild w) h = is_star-kind_shape sig w.kind w.marks (unwrap_or (variable_of w.name) []) h.kind_behind_one
 
-  may_take_more-pattern_of : (assoc : Bool) (room : ℕ) (t : Tree) → Fits room t → may_take_more assoc (pattern_spelling sig (pattern_of sig t)) ≡ may_take_more assoc t
-  may_take_more-pattern_of assoc room (Symbol w) h = refl
-  may_take_more-pattern_of assoc room (Apply f args) h = may_take_more-held_spelling assoc (slice_get sig.ops (head_number (op_number sig f.text))) (pattern_spellings sig (patterns_of sig args))
-  may_take_more-pattern_of assoc room (InfixOf opened sign operands) h = may_take_more-held_spelling assoc (slice_get sig.ops (head_number (sign_number sig sign.text))) (pattern_spellings sig (patterns_of sig operands))
-  may_take_more-pattern_of assoc room (Wild w) h =
-      subst (λ m. may_take_more assoc (wildcard_spelling sig (if eqb m 3 then pattern.star else (if eqb m 2 then pattern.plus else pattern.dot)) (unwrap_or (variable_of w.name) [])) ≡ (ltb 1 m || (assoc && eqb (length w.kind) 0)))
-      (sym (IsNamedDot-Fits room w h).dot) (ap (λ k. assoc && eqb (length k) 0) (sym (IsNamedDot-Fits room w h).plain))
+  -- the kind of a wildcard without faults is known
+  known-wildcard_faults : (before : List syntax.Wildcard) (w : syntax.Wildcard) → wildcard_faults sig before w ≡ [] → kind_unknown sig w.kind ≡ false
+  known-wildcard_faults before w h = nil-fault_if (kind_unknown sig w.kind) _ w.place (nil-append (fault_if (kind_unknown sig w.kind) _ w.place) (fault_if (list_any (differs w) before) _ w.place) h).0
+
+  may_take_more-pattern_of : (assoc : Bool) (before : List syntax.Wildcard) (t : Tree) → HasNames t → pattern_faults sig before t ≡ [] → may_take_more assoc (pattern_spelling sig (pattern_of sig t)) ≡ may_take_more assoc t
+  may_take_more-pattern_of assoc before (Symbol w) h none = refl
+  may_take_more-pattern_of assoc before (Apply f args) h none = may_take_more-held_spelling assoc (slice_get sig.ops (head_number (op_number sig f.text))) (pattern_spellings sig (patterns_of sig args))
+  may_take_more-pattern_of assoc before (InfixOf opened sign operands) h none = may_take_more-held_spelling assoc (slice_get sig.ops (head_number (sign_number sig sign.text))) (pattern_spellings sig (patterns_of sig operands))
+  may_take_more-pattern_of assoc before (Wild w) h none =
+      may_take_more-kind_shape sig assoc w.kind w.marks (unwrap_or (variable_of w.name) []) h.some_marks h.few_marks h.kind_behind_one (known-wildcard_faults before w none)
 
   length-patterns_of : (ts : Trees) → length (spelled (pattern_list (patterns_of sig ts))) ≡ length (tree_list ts)
   length-patterns_of no_trees = refl
   length-patterns_of (more_trees t ts) = ap suc (length-patterns_of ts)
 
-  fewest-patterns_of : (room : ℕ) (ts : Trees) → AreFit room ts → fewest (spelled (pattern_list (patterns_of sig ts))) ≡ fewest (tree_list ts)
-  fewest-patterns_of room no_trees h = refl
-  fewest-patterns_of room (more_trees t ts) h =
-      fewest-cons (pattern_spelling sig (pattern_of sig t)) (spelled (pattern_list (patterns_of sig ts))) ∙ (λ i. cond (not (is_star-pattern_of room t h.0 i)) 1 0 + fewest-patterns_of room ts h.1 i) ∙ sym (fewest-cons t (tree_list ts))
+  fewest-patterns_of : (ts : Trees) → HaveNames ts → fewest (spelled (pattern_list (patterns_of sig ts))) ≡ fewest (tree_list ts)
+  fewest-patterns_of no_trees h = refl
+  fewest-patterns_of (more_trees t ts) h =
+      fewest-cons (pattern_spelling sig (pattern_of sig t)) (spelled (pattern_list (patterns_of sig ts))) ∙ (λ i. cond (not (is_star-pattern_of t h.0 i)) 1 0 + fewest-patterns_of ts h.1 i) ∙ sym (fewest-cons t (tree_list ts))
 
-  some-patterns_of : (assoc : Bool) (room : ℕ) (ts : Trees) → AreFit room ts → list_any (may_take_more assoc) (spelled (pattern_list (patterns_of sig ts))) ≡ list_any (may_take_more assoc) (tree_list ts)
-  some-patterns_of assoc room no_trees h = refl
-  some-patterns_of assoc room (more_trees t ts) h = λ i. may_take_more-pattern_of assoc room t h.0 i || some-patterns_of assoc room ts h.1 i
+  some-patterns_of : (assoc : Bool) (before : List syntax.Wildcard) (ts : Trees) → HaveNames ts → all_pattern_faults sig before ts ≡ []
+      → list_any (may_take_more assoc) (spelled (pattern_list (patterns_of sig ts))) ≡ list_any (may_take_more assoc) (tree_list ts)
+  some-patterns_of assoc before no_trees h none = refl
+  some-patterns_of assoc before (more_trees t ts) h none =
+      let p = nil-append (pattern_faults sig before t) (all_pattern_faults sig (before ++ wildcards t) ts) none in
+      λ i. may_take_more-pattern_of assoc before t h.0 p.0 i || some-patterns_of assoc (before ++ wildcards t) ts h.1 p.1 i
 
-  allows-patterns_of : (room : ℕ) (ts : Trees) (d : OpDecl) → AreFit room ts → allows_patterns (spelled (pattern_list (patterns_of sig ts))) d ≡ allows_patterns (tree_list ts) d
-  allows-patterns_of room ts d h = λ i.
-      (some-patterns_of d.assoc room ts h i || leb d.least (length-patterns_of ts i)) && (not d.fixed || leb (fewest-patterns_of room ts h i) d.least)
+  allows-patterns_of : (before : List syntax.Wildcard) (ts : Trees) (d : OpDecl) → HaveNames ts → all_pattern_faults sig before ts ≡ [] → allows_patterns (spelled (pattern_list (patterns_of sig ts))) d ≡ allows_patterns (tree_list ts) d
+  allows-patterns_of before ts d h none = λ i.
+      (some-patterns_of d.assoc before ts h none i || leb d.least (length-patterns_of ts i)) && (not d.fixed || leb (fewest-patterns_of ts h i) d.least)
 
   -- an operation that is found allows the arguments as they are read
-  allowed-found : (number : Option ℕ) (room : ℕ) (ts : Trees) → AreFit room ts → Found sig number (allows_patterns (tree_list ts)) → Allowed (head_number number) (pattern_list (patterns_of sig ts))
-  allowed-found number room ts fit h = record { decl = h.decl; held = h.held; passed = allows-patterns_of room ts h.decl fit ∙ h.passed }
+  allowed-found : (number : Option ℕ) (before : List syntax.Wildcard) (ts : Trees) → HaveNames ts → all_pattern_faults sig before ts ≡ [] → Found sig number (allows_patterns (tree_list ts)) → Allowed (head_number number) (pattern_list (patterns_of sig ts))
+  allowed-found number before ts names none h = record { decl = h.decl; held = h.held; passed = allows-patterns_of before ts h.decl names none ∙ h.passed }
 
   mutual
     -- the pattern of an expression without faults
-    pub IsSpelled-pattern_of : (room : ℕ) (t : Tree) → HasNames t → Fits room t → pattern_faults sig t ≡ [] → IsSpelled (pattern_of sig t)
-    IsSpelled-pattern_of room (Symbol w) names fit h = IsSymbolOf-symbol_faults sig w names h
-    IsSpelled-pattern_of zero (Apply f args) names fit h = absurd fit
-    IsSpelled-pattern_of (suc room) (Apply f args) names fit h =
-        let p = nil-append (head_faults (allows_patterns (tree_list args)) f (op_named sig f.text)) (all_pattern_faults sig args) h in (
-          allowed-found (op_number sig f.text) room args fit (found-head sig (allows_patterns (tree_list args)) f (op_number sig f.text) p.0),
-          AreSpelled-patterns_of room args names.1 fit p.1,
+    pub IsSpelled-pattern_of : (before : List syntax.Wildcard) (room : ℕ) (t : Tree) → HasNames t → Fits room t → pattern_faults sig before t ≡ [] → IsSpelled (pattern_of sig t)
+    IsSpelled-pattern_of before room (Symbol w) names fit h = IsSymbolOf-symbol_faults sig w names h
+    IsSpelled-pattern_of before zero (Apply f args) names fit h = absurd fit
+    IsSpelled-pattern_of before (suc room) (Apply f args) names fit h =
+        let p = nil-append (head_faults (allows_patterns (tree_list args)) f (op_named sig f.text)) (all_pattern_faults sig before args) h in (
+          allowed-found (op_number sig f.text) before args names.1 p.1 (found-head sig (allows_patterns (tree_list args)) f (op_number sig f.text) p.0),
+          AreSpelled-patterns_of before room args names.1 fit p.1,
         )
-    IsSpelled-pattern_of zero (InfixOf opened sign operands) names fit h = absurd fit
-    IsSpelled-pattern_of (suc room) (InfixOf opened sign operands) names fit h =
+    IsSpelled-pattern_of before zero (InfixOf opened sign operands) names fit h = absurd fit
+    IsSpelled-pattern_of before (suc room) (InfixOf opened sign operands) names fit h =
         let at_sign = sign_faults sign (op_signed sig sign.text) in
-        let p = nil-append (arity_faults (allows_patterns (tree_list operands)) opened (op_signed sig sign.text)) (pattern_operand_faults sig at_sign operands) h in
-        let q = nil-pattern_operands sig at_sign operands p.1 in (
-          allowed-found (sign_number sig sign.text) room operands fit.1 (found-infix sig (allows_patterns (tree_list operands)) opened sign (sign_number sig sign.text) p.0 q.0),
-          AreSpelled-patterns_of room operands names.1 fit.1 q.1,
+        let p = nil-append (arity_faults (allows_patterns (tree_list operands)) opened (op_signed sig sign.text)) (pattern_operand_faults sig before at_sign operands) h in
+        let q = nil-pattern_operands sig before at_sign operands p.1 in (
+          allowed-found (sign_number sig sign.text) before operands names.1 q.1 (found-infix sig (allows_patterns (tree_list operands)) opened sign (sign_number sig sign.text) p.0 q.0),
+          AreSpelled-patterns_of before room operands names.1 fit.1 q.1,
         )
-    IsSpelled-pattern_of room (Wild w) names fit h = (IsReadWildcard-shape_of w (IsNamedDot-Fits room w fit), IsVariable-variable_of w.name names)
+    IsSpelled-pattern_of before room (Wild w) names fit h =
+        (IsReadWildcard-kind_shape sig w.kind w.marks names.kind (known-wildcard_faults before w h), IsVariable-variable_of w.name (names.name (fits-named room w fit)))
 
-    AreSpelled-patterns_of : (room : ℕ) (ts : Trees) → HaveNames ts → AreFit room ts → all_pattern_faults sig ts ≡ [] → AreSpelled (patterns_of sig ts)
-    AreSpelled-patterns_of room no_trees names fit h = tt
-    AreSpelled-patterns_of room (more_trees t ts) names fit h =
-        let p = nil-append (pattern_faults sig t) (all_pattern_faults sig ts) h in
-        (IsSpelled-pattern_of room t names.0 fit.0 p.0, AreSpelled-patterns_of room ts names.1 fit.1 p.1)
+    AreSpelled-patterns_of : (before : List syntax.Wildcard) (room : ℕ) (ts : Trees) → HaveNames ts → AreFit room ts → all_pattern_faults sig before ts ≡ [] → AreSpelled (patterns_of sig ts)
+    AreSpelled-patterns_of before room no_trees names fit h = tt
+    AreSpelled-patterns_of before room (more_trees t ts) names fit h =
+        let p = nil-append (pattern_faults sig before t) (all_pattern_faults sig (before ++ wildcards t) ts) h in
+        (IsSpelled-pattern_of before room t names.0 fit.0 p.0, AreSpelled-patterns_of (before ++ wildcards t) room ts names.1 fit.1 p.1)
 
   -- ---- arguments in normal form
 
@@ -463,35 +445,36 @@ module _ (sig : Sig) where
 
   -- ---- the spelling of a pattern
 
-  pattern_of-wildcard_spelling : (w : pattern.Wildcard) (x : List ℕ) → IsReadWildcard w → IsName x → pattern_of sig (wildcard_spelling sig w x) ≡ wild_pattern w (Some x)
-  pattern_of-wildcard_spelling pattern.dot x h n = ap (wild_pattern pattern.dot) (variable_of-IsName x n)
-  pattern_of-wildcard_spelling (pattern.kind k) x h n = absurd h
-  pattern_of-wildcard_spelling pattern.plus x h n = ap (wild_pattern pattern.plus) (variable_of-IsName x n)
-  pattern_of-wildcard_spelling pattern.star x h n = ap (wild_pattern pattern.star) (variable_of-IsName x n)
-  pattern_of-wildcard_spelling (pattern.optional t) x h n = absurd h
+  -- a wildcard that isn't loose may stand alone
+  loose_faults-pattern_spelling : (p : Pattern) → is_loose p ≡ false → loose_faults (pattern_spelling sig p) ≡ []
+  loose_faults-pattern_spelling (symbol_pattern n) h = refl
+  loose_faults-pattern_spelling (app_pattern f ps) h = go (slice_get sig.ops f)
+    where
+      go : (o : Option OpDecl) → loose_faults (held_spelling o (pattern_spellings sig ps)) ≡ []
+      go None = refl
+      go (Some d) = held_spelling-cases (λ t. loose_faults t ≡ []) (Some d) d (pattern_spellings sig ps) refl refl (λ sign e some. refl)
+  loose_faults-pattern_spelling (wild_pattern pattern.dot x) h = refl
+  loose_faults-pattern_spelling (wild_pattern (pattern.kind k) x) h = refl
+  loose_faults-pattern_spelling (wild_pattern pattern.plus x) h = cc
+  loose_faults-pattern_spelling (wild_pattern pattern.star x) h = cc
+  loose_faults-pattern_spelling (wild_pattern (pattern.optional t) x) h = cc
 
-  pattern_faults-wildcard_spelling : (w : pattern.Wildcard) (x : List ℕ) → pattern_faults sig (wildcard_spelling sig w x) ≡ []
-  pattern_faults-wildcard_spelling pattern.dot x = refl
-  pattern_faults-wildcard_spelling (pattern.kind k) x = refl
-  pattern_faults-wildcard_spelling pattern.plus x = refl
-  pattern_faults-wildcard_spelling pattern.star x = refl
-  pattern_faults-wildcard_spelling (pattern.optional t) x = refl
+  -- the wildcards of an application are those of its arguments
+  wildcards-held : (f : ℕ) (d : OpDecl) (ts : Trees) → slice_get sig.ops f ≡ Some d → wildcards (held_spelling (slice_get sig.ops f) ts) ≡ all_wildcards ts
+  wildcards-held f d ts here = held_spelling-cases (λ t. wildcards t ≡ all_wildcards ts) (slice_get sig.ops f) d ts here refl (λ sign e some. refl)
 
-  HasNames-wildcard_spelling : (w : pattern.Wildcard) (x : List ℕ) → IsName x → HasNames (wildcard_spelling sig w x)
-  HasNames-wildcard_spelling pattern.dot x n = n
-  HasNames-wildcard_spelling (pattern.kind k) x n = n
-  HasNames-wildcard_spelling pattern.plus x n = n
-  HasNames-wildcard_spelling pattern.star x n = n
-  HasNames-wildcard_spelling (pattern.optional t) x n = n
+  mutual
+    -- its wildcards are those of the pattern
+    wildcards-pattern_spelling : (p : Pattern) → IsSpelled p → wildcards (pattern_spelling sig p) ≡ map (mark sig) (wilds (subpatterns p))
+    wildcards-pattern_spelling (symbol_pattern n) s = refl
+    wildcards-pattern_spelling (app_pattern f ps) s = wildcards-held f s.0.decl (pattern_spellings sig ps) s.0.held ∙ wildcards-pattern_spellings ps s.1
+    wildcards-pattern_spelling (wild_pattern w x) s = ap wildcards (wildcard_spelling-mark_of sig w (unwrap_or x []))
 
-  Fits-wildcard_spelling : (room : ℕ) (w : pattern.Wildcard) (x : List ℕ) → IsReadWildcard w → IsName x → Fits room (wildcard_spelling sig w x)
-  Fits-wildcard_spelling room pattern.dot x h n =
-      let w : syntax.Wildcard = record { name = x; marks = 1; kind = []; place = first_place } in
-      Fits-IsNamedDot room w (record { named = n.is_word.some; dot = refl; plain = refl })
-  Fits-wildcard_spelling room (pattern.kind k) x h n = absurd h
-  Fits-wildcard_spelling room pattern.plus x h n = absurd h
-  Fits-wildcard_spelling room pattern.star x h n = absurd h
-  Fits-wildcard_spelling room (pattern.optional t) x h n = absurd h
+    wildcards-pattern_spellings : (ps : Patterns) → AreSpelled ps → all_wildcards (pattern_spellings sig ps) ≡ map (mark sig) (wilds (all_subpatterns ps))
+    wildcards-pattern_spellings no_patterns s = refl
+    wildcards-pattern_spellings (more_patterns p ps) s =
+        (λ i. wildcards-pattern_spelling p s.0 i ++ wildcards-pattern_spellings ps s.1 i)
+        ∙ sym (map-append (mark sig) (wilds (subpatterns p)) (wilds (all_subpatterns ps))) ∙ ap (map (mark sig)) (sym (wilds-append (subpatterns p) (all_subpatterns ps)))
 
   module _ (h : HasOps sig) where
     mutual
@@ -500,24 +483,33 @@ module _ (sig : Sig) where
       pattern_of-pattern_spelling (symbol_pattern n) s = refl
       pattern_of-pattern_spelling (app_pattern f ps) s = pattern_of-held sig h f s.0.decl s.0.held (pattern_spellings sig ps) ∙ ap (app_pattern f) (patterns_of-pattern_spellings ps s.1)
       pattern_of-pattern_spelling (wild_pattern w None) s = absurd s.1
-      pattern_of-pattern_spelling (wild_pattern w (Some x)) s = pattern_of-wildcard_spelling w x s.0 s.1
+      pattern_of-pattern_spelling (wild_pattern w (Some x)) s = pattern_of-wildcard_spelling sig w x s.0 s.1
 
       patterns_of-pattern_spellings : (ps : Patterns) → AreSpelled ps → patterns_of sig (pattern_spellings sig ps) ≡ ps
       patterns_of-pattern_spellings no_patterns s = refl
       patterns_of-pattern_spellings (more_patterns p ps) s = λ i. more_patterns (pattern_of-pattern_spelling p s.0 i) (patterns_of-pattern_spellings ps s.1 i)
 
     mutual
-      -- it has no faults
-      pub pattern_faults-pattern_spelling : (p : Pattern) → IsSpelled p → pattern_faults sig (pattern_spelling sig p) ≡ []
-      pattern_faults-pattern_spelling (symbol_pattern n) s = symbol_faults-IsSymbolOf sig n s
-      pattern_faults-pattern_spelling (app_pattern f ps) s =
-          pattern_faults-held sig h f s.0.decl s.0.held (pattern_spellings sig ps) (ap (λ l. allows_patterns l s.0.decl) (tree_list-pattern_spellings ps) ∙ s.0.passed) (all_pattern_faults-pattern_spellings ps s.1)
-      pattern_faults-pattern_spelling (wild_pattern w x) s = pattern_faults-wildcard_spelling w (unwrap_or x [])
+      -- it has no faults, where its wildcards don't differ
+      pattern_faults-pattern_spelling : (before : List syntax.Wildcard) (p : Pattern) → IsSpelled p → Apart before (wildcards (pattern_spelling sig p)) → pattern_faults sig before (pattern_spelling sig p) ≡ []
+      pattern_faults-pattern_spelling before (symbol_pattern n) s apart = symbol_faults-IsSymbolOf sig n s
+      pattern_faults-pattern_spelling before (app_pattern f ps) s apart =
+          pattern_faults-held sig h f s.0.decl s.0.held before (pattern_spellings sig ps) (ap (λ l. allows_patterns l s.0.decl) (tree_list-pattern_spellings ps) ∙ s.0.passed)
+          (all_pattern_faults-pattern_spellings before ps s.1 (subst (Apart before) (wildcards-held f s.0.decl (pattern_spellings sig ps) s.0.held) apart))
+      pattern_faults-pattern_spelling before (wild_pattern w x) s apart = pattern_faults-wildcard_spelling sig before w (unwrap_or x []) s.0 apart
 
-      all_pattern_faults-pattern_spellings : (ps : Patterns) → AreSpelled ps → all_pattern_faults sig (pattern_spellings sig ps) ≡ []
-      all_pattern_faults-pattern_spellings no_patterns s = refl
-      all_pattern_faults-pattern_spellings (more_patterns p ps) s =
-          ap (λ l. l ++ all_pattern_faults sig (pattern_spellings sig ps)) (pattern_faults-pattern_spelling p s.0) ∙ all_pattern_faults-pattern_spellings ps s.1
+      all_pattern_faults-pattern_spellings : (before : List syntax.Wildcard) (ps : Patterns) → AreSpelled ps → Apart before (all_wildcards (pattern_spellings sig ps)) → all_pattern_faults sig before (pattern_spellings sig ps) ≡ []
+      all_pattern_faults-pattern_spellings before no_patterns s apart = refl
+      all_pattern_faults-pattern_spellings before (more_patterns p ps) s apart =
+          let t = pattern_spelling sig p in
+          let r = Apart-split before (wildcards t) (all_wildcards (pattern_spellings sig ps)) apart in
+          ap (λ l. l ++ all_pattern_faults sig (before ++ wildcards t) (pattern_spellings sig ps)) (pattern_faults-pattern_spelling before p s.0 r.0) ∙ all_pattern_faults-pattern_spellings (before ++ wildcards t) ps s.1 r.1
+
+    -- it has no faults as a whole
+    pub whole_pattern_faults-pattern_spelling : (p : Pattern) → IsSpelled p → first_clash p ≡ None → is_loose p ≡ false → whole_pattern_faults sig (pattern_spelling sig p) ≡ []
+    whole_pattern_faults-pattern_spelling p s none plain =
+        let apart : Apart [] (wildcards (pattern_spelling sig p)) = subst (Apart []) (sym (wildcards-pattern_spelling p s)) (Apart-first_clash (mark sig) (differs-Agree sig) p none) in
+        nil-both (pattern_faults sig [] (pattern_spelling sig p)) (loose_faults (pattern_spelling sig p)) (pattern_faults-pattern_spelling [] p s apart) (loose_faults-pattern_spelling p plain)
 
     mutual
       -- its words are names and its signs are signs
@@ -525,7 +517,7 @@ module _ (sig : Sig) where
       HasNames-pattern_spelling (symbol_pattern n) s = s.name
       HasNames-pattern_spelling (app_pattern f ps) s = HasNames-held sig h f s.0.decl s.0.held (pattern_spellings sig ps) (HaveNames-pattern_spellings ps s.1)
       HasNames-pattern_spelling (wild_pattern w None) s = absurd s.1
-      HasNames-pattern_spelling (wild_pattern w (Some x)) s = HasNames-wildcard_spelling w x s.1
+      HasNames-pattern_spelling (wild_pattern w (Some x)) s = HasNames-wildcard_spelling sig w x s.0 s.1
 
       HaveNames-pattern_spellings : (ps : Patterns) → AreSpelled ps → HaveNames (pattern_spellings sig ps)
       HaveNames-pattern_spellings no_patterns s = tt
@@ -539,7 +531,7 @@ module _ (sig : Sig) where
       Fits-pattern_spelling (app_pattern f ps) zero s few = absurd (omega arith)
       Fits-pattern_spelling (app_pattern f ps) (suc room) s few = Fits-held sig h f s.0.decl s.0.held room (pattern_spellings sig ps) (AreFit-pattern_spellings ps room s.1 (omega arith))
       Fits-pattern_spelling (wild_pattern w None) room s few = absurd s.1
-      Fits-pattern_spelling (wild_pattern w (Some x)) room s few = Fits-wildcard_spelling room w x s.0 s.1
+      Fits-pattern_spelling (wild_pattern w (Some x)) room s few = Fits-wildcard_spelling sig room w x s.1
 
       AreFit-pattern_spellings : (ps : Patterns) (room : ℕ) → AreSpelled ps → all_pattern_nodes ps ≤ room → AreFit room (pattern_spellings sig ps)
       AreFit-pattern_spellings no_patterns room s few = tt

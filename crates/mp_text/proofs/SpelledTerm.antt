@@ -14,9 +14,9 @@ use Rattle.mp_term.proofs.NormalTestLaws.{both}
 use Rattle.mp_pattern.proofs.SortedLaws.{all-flat_map, all-sorted}
 use Rattle.mp_syntax.specs.Syntax.{Tree, Symbol, Apply, InfixOf, Wild, Trees, no_trees, more_trees, tree_list, Fits, AreFit, HasNames, HaveNames}
 use Rattle.mp_text.specs.Build.{term_of, terms_of}
-use Rattle.mp_text.specs.Checks.{nodes, op_named, op_signed, head_faults, arity_faults, sign_faults, term_faults, term_operand_faults, all_term_faults}
+use Rattle.mp_text.specs.Checks.{fault_if, kind_unknown, nodes, op_named, op_signed, head_faults, arity_faults, sign_faults, term_faults, term_operand_faults, all_term_faults}
 use Rattle.mp_text.specs.Spelled.{term_spelling, term_spellings}
-use Rattle.mp_text.proofs.Faultless.{nil-append}
+use Rattle.mp_text.proofs.Faultless.{nil-append, some-behind}
 use Rattle.mp_text.proofs.SoundLaws.{Found, nil-term_operands, node_count-term_of}
 use Rattle.mp_text.proofs.SpelledHead.{HasOps, IsSymbolOf, IsSymbolOf-symbol_faults, symbol_faults-IsSymbolOf, term_of-held, HasNames-held, Fits-held, term_faults-held}
 
@@ -42,7 +42,7 @@ module _ (sig : Sig) where
         let at_sign = sign_faults sign (op_signed sig sign.text) in
         let p = nil-append (arity_faults (allows (length (tree_list operands))) opened (op_signed sig sign.text)) (term_operand_faults sig at_sign operands) h in
         HaveSymbols-terms_of operands names.1 (nil-term_operands sig at_sign operands p.1).1
-    HasSymbols-term_of (Wild w) names h = cc
+    HasSymbols-term_of (Wild w) names h = absurd (some-behind (fault_if (kind_unknown sig w.kind) _ w.place) _ h)
 
     HaveSymbols-terms_of : (ts : Trees) → HaveNames ts → all_term_faults sig ts ≡ [] → HaveSymbols (terms_of sig ts)
     HaveSymbols-terms_of no_trees names h = tt

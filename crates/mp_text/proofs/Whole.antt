@@ -1,10 +1,9 @@
 -- The file and the fault that are computed from the bytes are those of the bytes.
 use Rattle.std.proofs.Common.{◌≡◌, ℕ, Bool, true, false, List, [], ◌∷◌, Option, Some, None, Result, Ok, Err, inl, inr, refl, sym, ap, ◌∙◌}
-use Rattle.std.specs.Prelude.{◌↔◌, ◌⊎◌, option_and_then, if◌then◌else◌}
+use Rattle.std.specs.Prelude.{◌↔◌, option_and_then}
 use Rattle.mp_syntax.specs.declared.fault.Fault.{Fault}
 use Rattle.mp_syntax.specs.Syntax.{Statement, IsSyntaxOf}
 use Rattle.mp_syntax.specs.Reading.{reading, syntax_of}
-use Rattle.mp_syntax.proofs.Found.{read_ok}
 use Rattle.mp_syntax.proofs.Whole.{syntax_of-exact, reading-found, reading-only}
 use Rattle.mp_text.specs.declared.fault.TextFault.{TextFault}
 use Rattle.mp_text.specs.declared.fault.TextError.{TextError}
@@ -13,9 +12,8 @@ use Rattle.mp_text.specs.declared.file.File as code
 use Rattle.mp_text.specs.File.{FileTree, file_tree}
 use Rattle.mp_text.specs.Build.{file_tree_of}
 use Rattle.mp_text.specs.Checks.{faults}
-use Rattle.mp_text.specs.Matched.{is_matched_file}
-use Rattle.mp_text.specs.Answers.{first}
-use Rattle.mp_text.specs.Reading.{IsFileOf, file_without, checked_file, file_of, unread_fault, IsRefused, IsUnmatched, IsFaultOf, fault_among, fault_in, fault_of, StatementsGive, ReadGives, IfText, IsFileOrMemory, IsFaultOrMemory, IsComputed}
+use Rattle.mp_text.specs.Answers.{first, Gives}
+use Rattle.mp_text.specs.Reading.{IsFileOf, file_without, checked_file, file_of, unread_fault, IsRefused, IsFaultOf, fault_in, fault_of, ReadGives, IfText, IsFileOrMemory, IsFaultOrMemory, IsComputed}
 
 some_same : {X : Type 0} (a b : X) → Some a ≡ Some b → a ≡ b
 some_same a b e = cc
@@ -56,89 +54,56 @@ same_file bytes f g h k = some_same f g (sym (computed-of bytes f h) ∙ compute
 
 -- ---- faults
 
--- the fault of a file that isn't matched
-unmatched-among : (f : FileTree) → is_matched_file f ≡ false → fault_among [] f ≡ Some unread_fault
-unmatched-among f h = ap (λ b. if b then None else Some unread_fault) h
-
--- a file that is matched has no fault
-matched-among : (f : FileTree) → is_matched_file f ≡ true → fault_among [] f ≡ None
-matched-among f h = ap (λ b. if b then None else Some unread_fault) h
-
--- the first of the faults is the fault
-first-among : (fs : List TextFault) (f : FileTree) (t : TextFault) → first fs ≡ Some t → fault_among fs f ≡ Some t
-first-among [] f t h = cc
-first-among (x ∷ xs) f t h = h
-
--- a fault is the first that is found, or the file isn't matched
-among-cases : (fs : List TextFault) (f : FileTree) (t : TextFault) (matched : Bool) → is_matched_file f ≡ matched → fault_among fs f ≡ Some t → (first fs ≡ Some t) ⊎ ((fs ≡ []) × (is_matched_file f ≡ false) × (t ≡ unread_fault))
-among-cases [] f t true m h = absurd (none_some t (sym (matched-among f m) ∙ h))
-among-cases [] f t false m h = inr (refl, m, some_same t unread_fault (sym h ∙ unmatched-among f m))
-among-cases (x ∷ xs) f t matched m h = inl h
+abbrev ok_statements : List Statement → Result (List Statement) Fault
+ok_statements ss = Ok ss
 
 -- what is computed is the fault
 fault-is : (bytes : List ℕ) (r : Result (List Statement) Fault) (t : TextFault) → reading bytes ≡ r → fault_in r ≡ Some t → IsFaultOf bytes t
-fault-is bytes (Err f) t e h = inr (inl (λ ss k. ok_err ss f (sym (reading-only bytes ss k) ∙ e)), some_same t unread_fault (sym h))
+fault-is bytes (Err f) t e h = inr (λ ss k. ok_err ss f (sym (reading-only bytes ss k) ∙ e), some_same t unread_fault (sym h))
   where
-    ok_err : (ss : List Statement) (f : Fault) → read_ok ss ≡ Err f → ⊥
+    ok_err : (ss : List Statement) (f : Fault) → ok_statements ss ≡ Err f → ⊥
     ok_err ss f e = cc
-fault-is bytes (Ok ss) t e h =
-    let syntax = reading-found bytes ss e in
-    elim (among-cases (faults ss) (file_tree_of ss) t (is_matched_file (file_tree_of ss)) refl h) [
-      | inl k ↦ inl (ss, syntax, k)
-      | inr k ↦ inr (inr (file_tree_of ss, record { statements = ss; syntax = syntax; faultless = k.0; file = refl }, k.1), k.2)
-    ]
+fault-is bytes (Ok ss) t e h = inl (ss, reading-found bytes ss e, h)
 
 -- the fault of no statements
 refused-in : (bytes : List ℕ) (r : Result (List Statement) Fault) → reading bytes ≡ r → IsRefused bytes → fault_in r ≡ Some unread_fault
 refused-in bytes (Ok ss) e h = absurd (h ss (reading-found bytes ss e))
 refused-in bytes (Err f) e h = refl
 
--- the fault of a file that isn't matched
-unmatched-of : (bytes : List ℕ) → IsUnmatched bytes → fault_of bytes ≡ Some unread_fault
-unmatched-of bytes (f, file, m) =
-    let ss = file.statements in
-    ap fault_in (reading-only bytes ss file.syntax) ∙ ap (λ fs. fault_among fs (file_tree_of ss)) file.faultless ∙ unmatched-among (file_tree_of ss) (ap is_matched_file (sym file.file) ∙ m)
-
 -- the fault is the one that is computed
 fault-of : (bytes : List ℕ) (t : TextFault) → IsFaultOf bytes t → fault_of bytes ≡ Some t
-fault-of bytes t (inl (ss, syntax, h)) = ap fault_in (reading-only bytes ss syntax) ∙ first-among (faults ss) (file_tree_of ss) t h
-fault-of bytes t (inr (inl h, e)) = refused-in bytes (reading bytes) refl h ∙ ap Some (sym e)
-fault-of bytes t (inr (inr h, e)) = unmatched-of bytes h ∙ ap Some (sym e)
+fault-of bytes t (inl (ss, syntax, h)) = ap fault_in (reading-only bytes ss syntax) ∙ h
+fault-of bytes t (inr (h, e)) = refused-in bytes (reading bytes) refl h ∙ ap Some (sym e)
 
 -- the bytes have a fault exactly where it is computed from them
 pub fault_of-exact : (bytes : List ℕ) (t : TextFault) → IsFaultOf bytes t ↔ (fault_of bytes ≡ Some t)
 fault_of-exact bytes t = (fault-of bytes t, fault-is bytes (reading bytes) t refl)
 
--- a file that is matched has no fault
-pub matched-no_fault : (bytes : List ℕ) (f : FileTree) → IsFileOf bytes f → is_matched_file f ≡ true → fault_of bytes ≡ None
-matched-no_fault bytes f file m =
-    let ss = file.statements in
-    ap fault_in (reading-only bytes ss file.syntax) ∙ ap (λ fs. fault_among fs (file_tree_of ss)) file.faultless ∙ matched-among (file_tree_of ss) (ap is_matched_file (sym file.file) ∙ m)
+-- a file has no fault
+pub file-no_fault : (bytes : List ℕ) (f : FileTree) → IsFileOf bytes f → fault_of bytes ≡ None
+file-no_fault bytes f file = ap fault_in (reading-only bytes file.statements file.syntax) ∙ ap first file.faultless
 
--- where no fault is found the file is matched
-none-among : (fs : List TextFault) (f : FileTree) (matched : Bool) → is_matched_file f ≡ matched → fault_among fs f ≡ None → (fs ≡ []) × (is_matched_file f ≡ true)
-none-among [] f true m h = (refl, m)
-none-among [] f false m h = absurd (none_some unread_fault (sym h ∙ unmatched-among f m))
-none-among (x ∷ xs) f matched m h = absurd (none_some x (sym h))
+-- where no fault is first there is none
+first-none : (fs : List TextFault) → first fs ≡ None → fs ≡ []
+first-none [] h = refl
+first-none (x ∷ xs) h = absurd (none_some x (sym h))
 
--- what is read without a fault is a file that is matched
-no_fault-in : (bytes : List ℕ) (r : Result (List Statement) Fault) → reading bytes ≡ r → fault_in r ≡ None → (f : FileTree) × IsFileOf bytes f × (is_matched_file f ≡ true)
+-- what is read without a fault is a file
+no_fault-in : (bytes : List ℕ) (r : Result (List Statement) Fault) → reading bytes ≡ r → fault_in r ≡ None → (f : FileTree) × IsFileOf bytes f
 no_fault-in bytes (Err f) e h = absurd (none_some unread_fault (sym h))
-no_fault-in bytes (Ok ss) e h =
-    let k = none-among (faults ss) (file_tree_of ss) (is_matched_file (file_tree_of ss)) refl h in
-    (file_tree_of ss, record { statements = ss; syntax = reading-found bytes ss e; faultless = k.0; file = refl }, k.1)
+no_fault-in bytes (Ok ss) e h = (file_tree_of ss, record { statements = ss; syntax = reading-found bytes ss e; faultless = first-none (faults ss) h; file = refl })
 
--- bytes without a fault are a file that is matched
-pub no_fault-of : (bytes : List ℕ) → fault_of bytes ≡ None → (f : FileTree) × IsFileOf bytes f × (is_matched_file f ≡ true)
+-- bytes without a fault are a file
+pub no_fault-of : (bytes : List ℕ) → fault_of bytes ≡ None → (f : FileTree) × IsFileOf bytes f
 no_fault-of bytes h = no_fault-in bytes (reading bytes) refl h
 
 -- ---- what reading answers
 
 -- the file of the bytes is answered
-pub ReadGives-only : (bytes : List ℕ) (r : Result code.File TextError) → ReadGives bytes r → (f : FileTree) → IsFileOf bytes f → is_matched_file f ≡ true → IsFileOrMemory r (λ g. g ≡ f)
-ReadGives-only bytes (Ok g) h f file m = same_file bytes (file_tree g) f h.0 file
-ReadGives-only bytes (Err (Text t)) h f file m = none_some t (sym (matched-no_fault bytes f file m) ∙ h)
-ReadGives-only bytes (Err Memory) h f file m = tt
+pub ReadGives-only : (bytes : List ℕ) (r : Result code.File TextError) → ReadGives bytes r → (f : FileTree) → IsFileOf bytes f → IsFileOrMemory r (λ g. g ≡ f)
+ReadGives-only bytes (Ok g) h f file = same_file bytes (file_tree g) f h file
+ReadGives-only bytes (Err (Text t)) h f file = none_some t (sym (file-no_fault bytes f file) ∙ h)
+ReadGives-only bytes (Err Memory) h f file = tt
 
 -- a fault that is answered is the fault of the bytes
 pub ReadGives-fault : (bytes : List ℕ) (r : Result code.File TextError) → ReadGives bytes r → IfText r (λ t. IsFaultOf bytes t)
@@ -148,18 +113,18 @@ ReadGives-fault bytes (Err Memory) h = tt
 
 -- the fault of the bytes is answered
 pub ReadGives-only_fault : (bytes : List ℕ) (r : Result code.File TextError) → ReadGives bytes r → (t : TextFault) → IsFaultOf bytes t → IsFaultOrMemory r (λ u. u ≡ t)
-ReadGives-only_fault bytes (Ok f) h t k = none_some t (sym (matched-no_fault bytes (file_tree f) h.0 h.1) ∙ fault-of bytes t k)
+ReadGives-only_fault bytes (Ok f) h t k = none_some t (sym (file-no_fault bytes (file_tree f) h) ∙ fault-of bytes t k)
 ReadGives-only_fault bytes (Err (Text u)) h t k = some_same u t (sym h ∙ fault-of bytes t k)
 ReadGives-only_fault bytes (Err Memory) h t k = tt
 
 -- the answer is the one that is computed
 pub ReadGives-computed : (bytes : List ℕ) (r : Result code.File TextError) → ReadGives bytes r → IsComputed r (file_of bytes) (fault_of bytes)
-ReadGives-computed bytes (Ok f) h = (computed-of bytes (file_tree f) h.0, matched-no_fault bytes (file_tree f) h.0 h.1)
+ReadGives-computed bytes (Ok f) h = (computed-of bytes (file_tree f) h, file-no_fault bytes (file_tree f) h)
 ReadGives-computed bytes (Err (Text t)) h = h
 ReadGives-computed bytes (Err Memory) h = tt
 
 -- what the statements give is what reading the bytes gives
-pub ReadGives-statements : (bytes : List ℕ) (ss : List Statement) (r : Result code.File TextError) → IsSyntaxOf bytes ss → StatementsGive ss r → ReadGives bytes r
-ReadGives-statements bytes ss (Ok f) h g = (record { statements = ss; syntax = h; faultless = g.0; file = g.1 }, g.2)
+pub ReadGives-statements : (bytes : List ℕ) (ss : List Statement) (r : Result code.File TextError) → IsSyntaxOf bytes ss → Gives r (faults ss) (λ f. file_tree f ≡ file_tree_of ss) → ReadGives bytes r
+ReadGives-statements bytes ss (Ok f) h g = record { statements = ss; syntax = h; faultless = g.0; file = g.1 }
 ReadGives-statements bytes ss (Err (Text t)) h g = ap fault_in (reading-only bytes ss h) ∙ g
 ReadGives-statements bytes ss (Err Memory) h g = tt

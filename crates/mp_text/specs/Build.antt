@@ -1,9 +1,10 @@
 -- What the statements of a file stand for: a signature, and over it rules and subjects in normal form.
 use Rattle.std.specs.Prelude.{ℕ, ◌==◌, Bool, not, List, [], ◌∷◌, map, Option, Some, None, option_map, unwrap_or, position, if◌then◌else◌}
+use Rattle.std.specs.Str.{bytes_eq}
 use Rattle.mp_term.specs.declared.signature.OpDecl.{OpDecl}
 use Rattle.mp_term.specs.Tree as term
 use Rattle.mp_term.specs.Names.{name_set}
-use Rattle.mp_term.specs.Signature.{Sig, Kind, has_name, has_sign}
+use Rattle.mp_term.specs.Signature.{Sig, Kind, has_name, has_sign, kind_names}
 use Rattle.mp_term.specs.Normal.{normal}
 use Rattle.mp_pattern.specs.PatternTree as pattern
 use Rattle.mp_pattern.specs.Normal.{normal_pattern}
@@ -58,16 +59,16 @@ sig_of ss = sig_with (op_decls ss) ss
 
 -- ---- terms and patterns
 
--- what a wildcard takes, by its number of underscores
-abbrev pub shape_of : Wildcard → pattern.Wildcard
-shape_of w = if w.marks == 3 then pattern.star else (if w.marks == 2 then pattern.plus else pattern.dot)
+-- what a wildcard without a kind takes, by its number of underscores
+abbrev pub marked_shape : ℕ → pattern.Wildcard
+marked_shape marks = if marks == 3 then pattern.star else (if marks == 2 then pattern.plus else pattern.dot)
 
 -- the variable of a wildcard, which has none without a name
 abbrev pub variable_of : List ℕ → Option (List ℕ)
 variable_of [] = None
 variable_of (byte ∷ bytes) = Some (byte ∷ bytes)
 
--- the number of the operation, and 0 where there is none, which no checked expression has
+-- the number of the operation or kind, and 0 where there is none, which no checked expression has
 abbrev pub head_number : Option ℕ → ℕ
 head_number number = unwrap_or number 0
 
@@ -79,6 +80,19 @@ module _ (sig : Sig) where
   -- the number of the first operation of that sign, where there is one
   abbrev pub sign_number : List ℕ → Option ℕ
   sign_number sign = position (has_sign sign) sig.ops
+
+  -- the number of the kind of that name, where there is one
+  abbrev pub kind_number : List ℕ → Option ℕ
+  kind_number name = position (bytes_eq name) (kind_names sig)
+
+  -- what a wildcard of this kind takes: a symbol of the kind, and without a kind as its underscores say
+  abbrev pub kind_shape : List ℕ → ℕ → pattern.Wildcard
+  kind_shape [] marks = marked_shape marks
+  kind_shape (byte ∷ bytes) marks = pattern.kind (head_number (kind_number (byte ∷ bytes)))
+
+  -- what a wildcard takes
+  abbrev pub shape_of : Wildcard → pattern.Wildcard
+  shape_of w = kind_shape w.kind w.marks
 
   -- A word is a symbol, a word before brackets the operation of that name, and a sign the operation of that sign. No checked term has a wildcard.
   abbrev mutual

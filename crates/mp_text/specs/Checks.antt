@@ -1,16 +1,17 @@
 -- The checks of a file's statements: all faults that they find, in the order in which they count.
-use Rattle.std.specs.Prelude.{ℕ, ◌+◌, ◌==◌, Bool, false, ◌||◌, ◌&&◌, not, List, [], ◌∷◌, ◌++◌, length, map, flat_map, Option, Some, None, is_some, option_and_then, slice_get, nat_le, nat_lt, count_by, if◌then◌else◌}
+use Rattle.std.specs.Prelude.{ℕ, ◌+◌, ◌==◌, Bool, false, ◌||◌, ◌&&◌, not, List, [], ◌∷◌, ◌++◌, length, map, flat_map, Option, Some, None, is_some, is_none, option_and_then, slice_get, nat_le, nat_lt, count_by, if◌then◌else◌}
 use Rattle.std.specs.List.{list_any}
+use Rattle.std.specs.Str.{bytes_eq}
 use Rattle.mp_term.specs.declared.signature.OpDecl.{OpDecl}
 use Rattle.mp_term.specs.Signature.{Sig, allows, in_order, has_sign, kind_names}
 use Rattle.mp_syntax.specs.declared.place.Place.{Place}
-use Rattle.mp_syntax.specs.Syntax.{Spot, Tree, Symbol, Apply, InfixOf, Wild, Trees, no_trees, more_trees, tree_list, Flag, Statement, OpOf, KindOf, RuleOf, SubjectOf}
+use Rattle.mp_syntax.specs.Syntax.{Spot, Wildcard, Tree, Symbol, Apply, InfixOf, Wild, Trees, no_trees, more_trees, tree_list, Flag, Statement, OpOf, KindOf, RuleOf, SubjectOf}
 use Rattle.mp_text.specs.declared.fault.TextKind.{TextKind}
-use Rattle.mp_text.specs.declared.fault.TextKind.TheVariants.{DuplicateName, TooMany, BadFlags, UnknownOp, BareOperation, Arity, WildcardInTerm}
+use Rattle.mp_text.specs.declared.fault.TextKind.TheVariants.{DuplicateName, TooMany, BadFlags, UnknownOp, BareOperation, UnknownKind, Arity, KindClash, LooseSequence, WildcardInTerm}
 use Rattle.mp_text.specs.declared.fault.TextFault.{TextFault}
-use Rattle.mp_text.specs.Names.{is_among, rule_names, subject_names, number_of, variable_names}
+use Rattle.mp_text.specs.Names.{is_among, is_same_variable, rule_names, subject_names, number_of, wildcards, variable_names}
 use Rattle.mp_text.specs.Flags.{some_flag_twice, sign_spot, is_long_sign}
-use Rattle.mp_text.specs.Build.{op_number, sign_number, op_decl, op_decls, sig_with, sig_of}
+use Rattle.mp_text.specs.Build.{op_number, sign_number, kind_number, op_decl, op_decls, sig_with, sig_of}
 
 -- ---- faults
 
@@ -68,6 +69,17 @@ may_reach assoc args n = list_any (may_take_more assoc) args || nat_le n (length
 abbrev pub allows_patterns : List Tree → OpDecl → Bool
 allows_patterns args d = may_reach d.assoc args d.least && (not d.fixed || nat_le (fewest args) d.least)
 
+-- ---- wildcards
+
+-- the wildcards have one name, and aren't of one class and kind
+abbrev pub differs : Wildcard → Wildcard → Bool
+differs w v = is_same_variable w.name v.name && not (v.marks == w.marks && bytes_eq v.kind w.kind)
+
+-- the fault of a plus or star wildcard that stands alone
+abbrev pub loose_faults : Tree → List TextFault
+loose_faults (Wild w) = fault_if (nat_lt 1 w.marks) LooseSequence w.place
+loose_faults _ = []
+
 -- ---- expressions
 
 -- no operation has the name, or it doesn't pass the test on its number of arguments
@@ -102,13 +114,22 @@ module _ (sig : Sig) where
   abbrev pub symbol_faults : Spot → List TextFault
   symbol_faults w = fault_if (is_some (op_number sig w.text)) BareOperation w.place
 
+  -- no kind has the name of the wildcard's kind
+  abbrev pub kind_unknown : List ℕ → Bool
+  kind_unknown [] = false
+  kind_unknown (byte ∷ bytes) = is_none (kind_number sig (byte ∷ bytes))
+
+  -- the faults of a wildcard in a term: no kind has its kind's name; it stands in a term
+  abbrev pub term_wildcard_faults : Wildcard → List TextFault
+  term_wildcard_faults w = fault_if (kind_unknown w.kind) UnknownKind w.place ++ fault_at WildcardInTerm w.place ∷ []
+
   -- the faults of a term, by token; where a sign stands between operands, the first one stands before it
   abbrev mutual
     pub term_faults : Tree → List TextFault
     term_faults (Symbol w) = symbol_faults w
     term_faults (Apply f args) = head_faults (allows (length (tree_list args))) f (op_named f.text) ++ all_term_faults args
     term_faults (InfixOf opened sign operands) = arity_faults (allows (length (tree_list operands))) opened (op_signed sign.text) ++ term_operand_faults (sign_faults sign (op_signed sign.text)) operands
-    term_faults (Wild w) = fault_at WildcardInTerm w.place ∷ []
+    term_faults (Wild w) = term_wildcard_faults w
 
     pub term_operand_faults : List TextFault → Trees → List TextFault
     term_operand_faults at_sign no_trees = at_sign
@@ -118,21 +139,29 @@ module _ (sig : Sig) where
     all_term_faults no_trees = []
     all_term_faults (more_trees t ts) = term_faults t ++ all_term_faults ts
 
-  -- the faults of a pattern, by token, in the same way
+  -- the faults of a wildcard behind others: no kind has its kind's name; one of the others has its name, and another class or kind
+  abbrev pub wildcard_faults : List Wildcard → Wildcard → List TextFault
+  wildcard_faults before w = fault_if (kind_unknown w.kind) UnknownKind w.place ++ fault_if (list_any (differs w) before) KindClash w.place
+
+  -- the faults of a pattern behind wildcards, by token, in the same way
   abbrev mutual
-    pub pattern_faults : Tree → List TextFault
-    pattern_faults (Symbol w) = symbol_faults w
-    pattern_faults (Apply f args) = head_faults (allows_patterns (tree_list args)) f (op_named f.text) ++ all_pattern_faults args
-    pattern_faults (InfixOf opened sign operands) = arity_faults (allows_patterns (tree_list operands)) opened (op_signed sign.text) ++ pattern_operand_faults (sign_faults sign (op_signed sign.text)) operands
-    pattern_faults (Wild w) = []
+    pub pattern_faults : List Wildcard → Tree → List TextFault
+    pattern_faults before (Symbol w) = symbol_faults w
+    pattern_faults before (Apply f args) = head_faults (allows_patterns (tree_list args)) f (op_named f.text) ++ all_pattern_faults before args
+    pattern_faults before (InfixOf opened sign operands) = arity_faults (allows_patterns (tree_list operands)) opened (op_signed sign.text) ++ pattern_operand_faults before (sign_faults sign (op_signed sign.text)) operands
+    pattern_faults before (Wild w) = wildcard_faults before w
 
-    pub pattern_operand_faults : List TextFault → Trees → List TextFault
-    pattern_operand_faults at_sign no_trees = at_sign
-    pattern_operand_faults at_sign (more_trees t ts) = pattern_faults t ++ (at_sign ++ all_pattern_faults ts)
+    pub pattern_operand_faults : List Wildcard → List TextFault → Trees → List TextFault
+    pattern_operand_faults before at_sign no_trees = at_sign
+    pattern_operand_faults before at_sign (more_trees t ts) = pattern_faults before t ++ (at_sign ++ all_pattern_faults (before ++ wildcards t) ts)
 
-    pub all_pattern_faults : Trees → List TextFault
-    all_pattern_faults no_trees = []
-    all_pattern_faults (more_trees t ts) = pattern_faults t ++ all_pattern_faults ts
+    pub all_pattern_faults : List Wildcard → Trees → List TextFault
+    all_pattern_faults before no_trees = []
+    all_pattern_faults before (more_trees t ts) = pattern_faults before t ++ all_pattern_faults (before ++ wildcards t) ts
+
+  -- the faults of a whole pattern, which is no plus or star wildcard
+  abbrev pub whole_pattern_faults : Tree → List TextFault
+  whole_pattern_faults p = pattern_faults [] p ++ loose_faults p
 
 -- ---- statements
 
@@ -178,7 +207,7 @@ kind_statement_faults ds earlier (SubjectOf name t) = []
 abbrev pub statement_faults : Sig → List Statement → Statement → List TextFault
 statement_faults sig earlier (OpOf name least more flags) = []
 statement_faults sig earlier (KindOf name members) = []
-statement_faults sig earlier (RuleOf name p) = name_faults 1000 (rule_names earlier) (is_large_pattern p) name ++ pattern_faults sig p
+statement_faults sig earlier (RuleOf name p) = name_faults 1000 (rule_names earlier) (is_large_pattern p) name ++ whole_pattern_faults sig p
 statement_faults sig earlier (SubjectOf name t) = name_faults 1000 (subject_names earlier) (is_large_term t) name ++ term_faults sig t
 
 -- the faults of each statement behind the earlier ones, by a rule for one

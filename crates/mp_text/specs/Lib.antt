@@ -6,9 +6,9 @@ pub mod Flags
 pub mod Build
 pub mod Checks
 pub mod Answers
-pub mod Matched
 pub mod Reading
 pub mod Printing
 pub mod PrintedFile
 pub mod Spelled
 pub mod Sound
+pub mod Alone

@@ -1,8 +1,8 @@
 -- The names and numbers that the statements of a file give.
-use Rattle.std.specs.Prelude.{ℕ, ◌+◌, ◌-◌, ◌*◌, Bool, List, [], ◌∷◌, ◌++◌}
+use Rattle.std.specs.Prelude.{ℕ, ◌+◌, ◌-◌, ◌*◌, Bool, false, List, [], ◌∷◌, ◌++◌}
 use Rattle.std.specs.Str.{bytes_eq}
 use Rattle.mp_pattern.specs.Firsts.{is_known, firsts_after}
-use Rattle.mp_syntax.specs.Syntax.{Tree, Symbol, Apply, InfixOf, Wild, Trees, no_trees, more_trees, Statement, OpOf, KindOf, RuleOf, SubjectOf}
+use Rattle.mp_syntax.specs.Syntax.{Wildcard, Tree, Symbol, Apply, InfixOf, Wild, Trees, no_trees, more_trees, Statement, OpOf, KindOf, RuleOf, SubjectOf}
 
 -- the name is one of these
 abbrev pub is_among : List ℕ → List (List ℕ) → Bool
@@ -38,6 +38,11 @@ abbrev pub named : List ℕ → List (List ℕ)
 named [] = []
 named (byte ∷ bytes) = (byte ∷ bytes) ∷ []
 
+-- the names are those of one variable; a wildcard without a name has none
+abbrev pub is_same_variable : List ℕ → List ℕ → Bool
+is_same_variable [] y = false
+is_same_variable (byte ∷ bytes) y = bytes_eq (byte ∷ bytes) y
+
 -- the names of the wildcards of a pattern, in order
 abbrev mutual
   pub wildcard_names : Tree → List (List ℕ)
@@ -49,6 +54,18 @@ abbrev mutual
   pub all_wildcard_names : Trees → List (List ℕ)
   all_wildcard_names no_trees = []
   all_wildcard_names (more_trees t ts) = wildcard_names t ++ all_wildcard_names ts
+
+-- the wildcards of a pattern, in order
+abbrev mutual
+  pub wildcards : Tree → List Wildcard
+  wildcards (Symbol w) = []
+  wildcards (Apply f args) = all_wildcards args
+  wildcards (InfixOf opened sign operands) = all_wildcards operands
+  wildcards (Wild w) = w ∷ []
+
+  pub all_wildcards : Trees → List Wildcard
+  all_wildcards no_trees = []
+  all_wildcards (more_trees t ts) = wildcards t ++ all_wildcards ts
 
 -- the variables of a pattern, each once, at its first place
 abbrev pub variable_names : Tree → List (List ℕ)

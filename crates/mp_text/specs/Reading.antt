@@ -11,7 +11,6 @@ use Rattle.mp_text.specs.declared.file.File as code
 use Rattle.mp_text.specs.File.{FileTree, file_tree}
 use Rattle.mp_text.specs.Build.{file_tree_of}
 use Rattle.mp_text.specs.Checks.{faults}
-use Rattle.mp_text.specs.Matched.{is_matched_file}
 use Rattle.mp_text.specs.Answers.{first}
 
 -- ---- files
@@ -50,22 +49,13 @@ IsRefused bytes = (ss : List Statement) → IsSyntaxOf bytes ss → ⊥
 abbrev pub HasFault : List ℕ → TextFault → Type 0
 HasFault bytes t = (ss : List Statement) × IsSyntaxOf bytes ss × (first (faults ss) ≡ Some t)
 
--- the bytes are a file with a rule that isn't matched
-abbrev pub IsUnmatched : List ℕ → Type 0
-IsUnmatched bytes = (f : FileTree) × IsFileOf bytes f × (is_matched_file f ≡ false)
-
--- the fault of the bytes: the first that the checks find in statements, or Unread where the bytes are no statements or a file that isn't matched
+-- the fault of the bytes: the first that the checks find in statements, or Unread where the bytes are no statements
 abbrev pub IsFaultOf : List ℕ → TextFault → Type 0
-IsFaultOf bytes t = HasFault bytes t ⊎ ((IsRefused bytes ⊎ IsUnmatched bytes) × (t ≡ unread_fault))
-
--- the first of the faults, or Unread where there is none and the file isn't matched
-abbrev pub fault_among : List TextFault → FileTree → Option TextFault
-fault_among [] f = if is_matched_file f then None else Some unread_fault
-fault_among (fault ∷ others) f = Some fault
+IsFaultOf bytes t = HasFault bytes t ⊎ (IsRefused bytes × (t ≡ unread_fault))
 
 -- the fault of what was read
 abbrev pub fault_in : Result (List Statement) Fault → Option TextFault
-fault_in (Ok ss) = fault_among (faults ss) (file_tree_of ss)
+fault_in (Ok ss) = first (faults ss)
 fault_in (Err f) = Some unread_fault
 
 -- the fault of the bytes, where they have one
@@ -74,21 +64,15 @@ fault_of bytes = fault_in (reading bytes)
 
 -- ---- answers
 
--- the file of the bytes, which is matched, or their fault, or memory ran out
+-- the file of the bytes, or their fault, or memory ran out
 abbrev pub ReadGives : List ℕ → Result code.File TextError → Type 0
-ReadGives bytes (Ok f) = IsFileOf bytes (file_tree f) × (is_matched_file (file_tree f) ≡ true)
+ReadGives bytes (Ok f) = IsFileOf bytes (file_tree f)
 ReadGives bytes (Err (Text t)) = fault_of bytes ≡ Some t
 ReadGives bytes (Err Memory) = Unit {0}
 
--- the file of the statements, which is matched, or their fault, or memory ran out
-abbrev pub StatementsGive : List Statement → Result code.File TextError → Type 0
-StatementsGive ss (Ok f) = (faults ss ≡ []) × (file_tree f ≡ file_tree_of ss) × (is_matched_file (file_tree f) ≡ true)
-StatementsGive ss (Err (Text t)) = fault_among (faults ss) (file_tree_of ss) ≡ Some t
-StatementsGive ss (Err Memory) = Unit {0}
-
 -- a fact of the fault of a text
-abbrev pub IfText : Result code.File TextError → (TextFault → Type 0) → Type 0
-IfText (Ok f) P = Unit {0}
+abbrev pub IfText : {T : Type 0} → Result T TextError → (TextFault → Type 0) → Type 0
+IfText (Ok v) P = Unit {0}
 IfText (Err (Text t)) P = P t
 IfText (Err Memory) P = Unit {0}
 
@@ -99,8 +83,8 @@ IsFileOrMemory (Err (Text t)) P = ⊥
 IsFileOrMemory (Err Memory) P = Unit {0}
 
 -- a fault of which the fact holds, or memory ran out
-abbrev pub IsFaultOrMemory : Result code.File TextError → (TextFault → Type 0) → Type 0
-IsFaultOrMemory (Ok f) P = ⊥
+abbrev pub IsFaultOrMemory : {T : Type 0} → Result T TextError → (TextFault → Type 0) → Type 0
+IsFaultOrMemory (Ok v) P = ⊥
 IsFaultOrMemory (Err (Text t)) P = P t
 IsFaultOrMemory (Err Memory) P = Unit {0}
 

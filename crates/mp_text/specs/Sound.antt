@@ -1,5 +1,5 @@
 -- What holds of every file that is read.
-use Rattle.std.specs.Prelude.{◌≡◌, ◌≤◌, true, length, map}
+use Rattle.std.specs.Prelude.{◌≡◌, ◌≤◌, true, false, None, length, map}
 use Rattle.std.specs.List.{AllByRecursion}
 use Rattle.mp_term.specs.Tree.{Tree}
 use Rattle.mp_term.specs.Size.{node_count, depth}
@@ -8,19 +8,22 @@ use Rattle.mp_term.specs.Names.{are_distinct}
 use Rattle.mp_term.specs.Normal.{IsNormal}
 use Rattle.mp_pattern.specs.PatternTree.{Pattern}
 use Rattle.mp_pattern.specs.Size.{pattern_nodes}
-use Rattle.mp_pattern.specs.Normal.{normal_pattern}
+use Rattle.mp_pattern.specs.Normal.{is_loose, normal_pattern}
 use Rattle.mp_pattern.specs.Sound.{DefaultsAreNormal, holds_ops}
 use Rattle.mp_pattern.specs.Variables.{variables}
+use Rattle.mp_pattern.specs.Clash.{first_clash}
 use Rattle.mp_text.specs.File.{FileTree}
 
 module _ (sig : Sig) where
-  -- the pattern of a rule: normal as its defaults are, over operations that are held, and within its limits
+  -- the pattern of a rule: normal as its defaults are, over operations that are held, within its limits, no plus, star or optional wildcard, and no two wildcards of one variable in it differ
   pub record IsSoundPattern (p : Pattern) : Type 0 where
     pub normal : normal_pattern sig p ≡ p
     pub defaults : DefaultsAreNormal sig p
     pub held : holds_ops sig p ≡ true
     pub nodes : pattern_nodes p ≤ 64
     pub few_variables : length (variables p) ≤ 32
+    pub plain_root : is_loose p ≡ false
+    pub no_clash : first_clash p ≡ None
 
   -- the term of a subject: normal, well formed, and within its limits
   pub record IsSoundTerm (t : Tree) : Type 0 where

@@ -1,17 +1,21 @@
 //! Makes terms and patterns of expressions, and checks them on the way.
 
-ghost use Rattle.std.specs.Prelude.{◌≡◌, [], length, map, true, None, is_some, option_map};
+ghost use Rattle.std.specs.Prelude.{◌≡◌, ◌≢◌, [], ◌∷◌, ◌++◌, length, map, true, None, is_some, option_map};
+ghost use Rattle.std.specs.List.{list_any};
 ghost use Rattle.mp_term.specs.Names.{is_name};
 ghost use Rattle.mp_term.specs.Signature.{allows};
 ghost use Rattle.mp_term.specs.Tree as term;
 ghost use Rattle.mp_term.specs.View.{tree};
 ghost use Rattle.mp_pattern.specs.PatternTree as pattern;
+ghost use Rattle.mp_pattern.specs.PatternTree.{wild_pattern};
+ghost use Rattle.mp_text.specs.declared.fault.TextKind.TheVariants.{UnknownKind};
 ghost use Rattle.mp_pattern.specs.View.{pattern_tree, wildcard};
-ghost use Rattle.mp_syntax.specs.Syntax.{trees, tree_list, InfixOf, HasNames, HaveNames};
+ghost use Rattle.mp_syntax.specs.Syntax.{trees, tree_list, InfixOf, HasParts, HasNames, HaveNames};
 ghost use Rattle.mp_syntax.specs.View.{spot_of, wildcard_of, expr_tree};
 ghost use Rattle.mp_text.specs.Answers.{Gives, Fails};
-ghost use Rattle.mp_text.specs.Build.{op_number, sign_number, head_number, shape_of, variable_of, term_of, terms_of, pattern_of, patterns_of};
-ghost use Rattle.mp_text.specs.Checks.{op_named, op_signed, symbol_faults, head_faults, arity_faults, sign_faults, allows_patterns, term_faults, term_operand_faults, all_term_faults, pattern_faults, pattern_operand_faults, all_pattern_faults};
+ghost use Rattle.mp_text.specs.Build.{op_number, sign_number, head_number, marked_shape, shape_of, variable_of, term_of, terms_of, pattern_of, patterns_of};
+ghost use Rattle.mp_text.specs.Names.{wildcards, all_wildcards};
+ghost use Rattle.mp_text.specs.Checks.{fault_if, differs, kind_unknown, term_wildcard_faults, wildcard_faults, loose_faults, whole_pattern_faults, op_named, op_signed, symbol_faults, head_faults, arity_faults, sign_faults, allows_patterns, term_faults, term_operand_faults, all_term_faults, pattern_faults, pattern_operand_faults, all_pattern_faults};
 
 use crate::checks::allows_patterns;
 use crate::fault::{TextError, TextKind, error_at};
@@ -168,7 +172,17 @@ pub fn build_term(alloc: Global, sig: &Signature, expr: &Expr<'_>) -> Result<Ter
             sign,
             operands,
         } => infix_term(alloc, sig, *place, *sign, operands),
-        Expr::Wild(wild) => Err(error_at(TextKind::WildcardInTerm, wild.place)),
+        Expr::Wild(wild) => Err(wildcard_in_term(sig, *wild)),
+    }
+}
+
+/// The first fault of a wildcard in a term.
+fn wildcard_in_term(sig: &Signature, wild: Wildcard<'_>) -> TextError
+    ensures { Fails result (term_wildcard_faults sig.now (wildcard_of wild.entry)) }
+{
+    match shape(sig, wild) {
+        Ok(_) => error_at(TextKind::WildcardInTerm, wild.place),
+        Err(error) => error,
     }
 }
 
@@ -226,11 +240,19 @@ fn build_terms(alloc: Global, sig: &Signature, exprs: &[Expr<'_>]) -> Result<Ter
     Ok(terms)
 }
 
-/// The pattern of an expression as it is written, or its first fault.
+/// The pattern of an expression as it is written, behind these wildcards of the same pattern, or its first fault.
+///
+/// The wildcards of the expression are added to them.
 #[cycle(build_pattern)]
-pub fn build_pattern(alloc: Global, sig: &Signature, expr: &Expr<'_>) -> Result<Pattern, TextError>
+fn build_pattern<'a>(
+    alloc: Global,
+    sig: &Signature,
+    expr: &Expr<'a>,
+    before: &mut Vec<Wildcard<'a>>,
+) -> Result<Pattern, TextError>
     requires { HasNames (expr_tree expr.now) }
-    ensures { Gives result (pattern_faults sig.now (expr_tree expr.now)) (λ p. pattern_tree p ≡ pattern_of sig.now (expr_tree expr.now)) }
+    ensures { Gives result (pattern_faults sig.now (map wildcard_of before.old.items) (expr_tree expr.now))
+        (λ p. (pattern_tree p ≡ pattern_of sig.now (expr_tree expr.now)) × (map wildcard_of before.new.items ≡ map wildcard_of before.old.items ++ wildcards (expr_tree expr.now))) }
 {
     match expr {
         Expr::Symbol(word) => {
@@ -239,91 +261,150 @@ pub fn build_pattern(alloc: Global, sig: &Signature, expr: &Expr<'_>) -> Result<
         }
         Expr::Apply(name, args) => {
             let op = pattern_head(sig, *name, args)?;
-            let patterns = build_patterns(alloc, sig, args)?;
+            let patterns = build_patterns(alloc, sig, args, before)?;
             Ok(Pattern::App(op, patterns))
         }
         Expr::Infix {
             open: place,
             sign,
             operands,
-        } => infix_pattern(alloc, sig, *place, *sign, operands),
-        Expr::Wild(wild) => {
-            let name = variable(alloc, *wild)?;
-            Ok(Pattern::Wild(shape(*wild), name))
-        }
+        } => infix_pattern(alloc, sig, *place, *sign, operands, before),
+        Expr::Wild(wild) => build_wildcard(alloc, sig, *wild, before),
     }
 }
 
-/// The pattern of a sign between operands, or its first fault.
+/// The pattern of a sign between operands behind these wildcards, or its first fault.
 #[cycle(build_pattern)]
-fn infix_pattern(
+fn infix_pattern<'a>(
     alloc: Global,
     sig: &Signature,
     place: Place,
-    sign: Spot<'_>,
-    operands: &[Expr<'_>],
+    sign: Spot<'a>,
+    operands: &[Expr<'a>],
+    before: &mut Vec<Wildcard<'a>>,
 ) -> Result<Pattern, TextError>
     requires { HaveNames (trees (map expr_tree operands.now)) }
-    ensures { Gives result (pattern_faults sig.now (InfixOf place (spot_of sign.entry) (trees (map expr_tree operands.now)))) (λ t. pattern_tree t ≡ pattern_of sig.now (InfixOf place (spot_of sign.entry) (trees (map expr_tree operands.now)))) }
+    ensures { Gives result (pattern_faults sig.now (map wildcard_of before.old.items) (InfixOf place (spot_of sign.entry) (trees (map expr_tree operands.now))))
+        (λ p. (pattern_tree p ≡ pattern_of sig.now (InfixOf place (spot_of sign.entry) (trees (map expr_tree operands.now)))) × (map wildcard_of before.new.items ≡ map wildcard_of before.old.items ++ all_wildcards (trees (map expr_tree operands.now)))) }
 {
     match pattern_sign(sig, place, sign, operands)? {
-        None => Err(unknown_pattern_sign(alloc, sig, sign, operands)),
+        None => Err(unknown_pattern_sign(alloc, sig, sign, operands, before)),
         Some(op) => {
-            let patterns = build_patterns(alloc, sig, operands)?;
+            let patterns = build_patterns(alloc, sig, operands, before)?;
             Ok(Pattern::App(op, patterns))
         }
     }
 }
 
-/// The first fault of operands between which a sign stands that no operation has.
+/// The first fault of operands behind these wildcards, between which a sign stands that no operation has.
 #[cycle(build_pattern)]
-fn unknown_pattern_sign(
+fn unknown_pattern_sign<'a>(
     alloc: Global,
     sig: &Signature,
-    sign: Spot<'_>,
-    operands: &[Expr<'_>],
+    sign: Spot<'a>,
+    operands: &[Expr<'a>],
+    before: &mut Vec<Wildcard<'a>>,
 ) -> TextError
     requires { HaveNames (trees (map expr_tree operands.now)) }
-    ensures { Fails result (pattern_operand_faults sig.now (sign_faults (spot_of sign.entry) None) (trees (map expr_tree operands.now))) }
+    ensures { Fails result (pattern_operand_faults sig.now (map wildcard_of before.old.items) (sign_faults (spot_of sign.entry) None) (trees (map expr_tree operands.now))) }
 {
     if let [first, ..] = operands {
-        if let Err(error) = build_pattern(alloc, sig, first) {
+        if let Err(error) = build_pattern(alloc, sig, first, before) {
             return error;
         }
     }
     error_at(TextKind::UnknownOp, sign.place)
 }
 
-/// The patterns of expressions, or their first fault.
+/// The patterns of expressions behind these wildcards, or their first fault.
 #[cycle(build_pattern)]
-fn build_patterns(alloc: Global, sig: &Signature, exprs: &[Expr<'_>]) -> Result<Patterns, TextError>
+fn build_patterns<'a>(
+    alloc: Global,
+    sig: &Signature,
+    exprs: &[Expr<'a>],
+    before: &mut Vec<Wildcard<'a>>,
+) -> Result<Patterns, TextError>
     requires { HaveNames (trees (map expr_tree exprs.now)) }
-    ensures { Gives result (all_pattern_faults sig.now (trees (map expr_tree exprs.now))) (λ ps. ps ≡ map (pattern_of sig.now) (map expr_tree exprs.now)) }
+    ensures { Gives result (all_pattern_faults sig.now (map wildcard_of before.old.items) (trees (map expr_tree exprs.now)))
+        (λ ps. (ps ≡ map (pattern_of sig.now) (map expr_tree exprs.now)) × (map wildcard_of before.new.items ≡ map wildcard_of before.old.items ++ all_wildcards (trees (map expr_tree exprs.now)))) }
 {
     let mut patterns = Patterns::new(alloc);
     for expr in exprs {
-        let pattern = build_pattern(alloc, sig, expr)?;
+        let pattern = build_pattern(alloc, sig, expr, before)?;
         patterns.push(pattern)?;
     }
     Ok(patterns)
 }
 
-/// What a wildcard takes.
-fn shape(wild: Wildcard<'_>) -> Shape
-    ensures { wildcard result ≡ shape_of (wildcard_of wild.entry) }
+/// The pattern of a wildcard behind these, or its first fault. The wildcard is added to them.
+fn build_wildcard<'a>(
+    alloc: Global,
+    sig: &Signature,
+    wild: Wildcard<'a>,
+    before: &mut Vec<Wildcard<'a>>,
+) -> Result<Pattern, TextError>
+    requires { HasParts (wildcard_of wild) }
+    ensures { Gives result (wildcard_faults sig.now (map wildcard_of before.old.items) (wildcard_of wild.entry))
+        (λ p. (pattern_tree p ≡ wild_pattern (shape_of sig.now (wildcard_of wild.entry)) (variable_of wild.entry.name.now)) × (map wildcard_of before.new.items ≡ map wildcard_of before.old.items ++ wildcard_of wild.entry ∷ [])) }
 {
-    if wild.marks == 3 {
+    let shape = shape(sig, wild)?;
+    if some_differs(wild, before) {
+        return Err(error_at(TextKind::KindClash, wild.place));
+    }
+    let name = variable(alloc, wild)?;
+    before.push(wild)?;
+    Ok(Pattern::Wild(shape, name))
+}
+
+/// What a wildcard takes, where there is the kind that it names.
+fn shape(sig: &Signature, wild: Wildcard<'_>) -> Result<Shape, TextError>
+    ensures { Gives result (fault_if (kind_unknown sig.now wild.entry.kind.now) UnknownKind wild.entry.place) (λ s. wildcard s ≡ shape_of sig.now (wildcard_of wild.entry)) }
+{
+    if wild.kind.is_empty() {
+        return Ok(marked_shape(wild.marks));
+    }
+    match sig.find_kind(wild.kind) {
+        None => Err(error_at(TextKind::UnknownKind, wild.place)),
+        Some(kind) => Ok(Shape::Kind(kind)),
+    }
+}
+
+/// What a wildcard without a kind takes, by its number of underscores.
+fn marked_shape(marks: usize) -> Shape
+    ensures { wildcard result ≡ marked_shape marks }
+{
+    if marks == 3 {
         Shape::Star
-    } else if wild.marks == 2 {
+    } else if marks == 2 {
         Shape::Plus
     } else {
         Shape::Dot
     }
 }
 
+/// One of the others has the name of the wildcard, and another class or kind.
+fn some_differs(wild: Wildcard<'_>, others: &[Wildcard<'_>]) -> bool
+    ensures { result ≡ list_any (differs (wildcard_of wild.entry)) (map wildcard_of others.now) }
+{
+    for other in others {
+        if differs(wild, *other) {
+            return true;
+        }
+    }
+    false
+}
+
+/// The wildcards have one name, and aren't of one class and kind.
+fn differs(wild: Wildcard<'_>, other: Wildcard<'_>) -> bool
+    ensures { result ≡ differs (wildcard_of wild.entry) (wildcard_of other.entry) }
+{
+    let same_variable = !wild.name.is_empty() && wild.name == other.name;
+    same_variable && !(other.marks == wild.marks && other.kind == wild.kind)
+}
+
 /// The variable of a wildcard, whose name has the spelling of one where it isn't empty.
 fn variable(alloc: Global, wild: Wildcard<'_>) -> Result<Option<Name>, TextError>
-    requires { is_name wild.name.now ≡ true }
+    requires { wild.name.now ≢ [] → is_name wild.name.now ≡ true }
     ensures { Gives result [] (λ v. v ≡ variable_of wild.entry.name.now) }
 {
     if wild.name.is_empty() {
@@ -331,4 +412,30 @@ fn variable(alloc: Global, wild: Wildcard<'_>) -> Result<Option<Name>, TextError
     }
     let name = new_name(alloc, wild.name)?;
     Ok(Some(name))
+}
+
+/// The pattern of a whole expression as it is written, or its first fault.
+pub fn whole_pattern(alloc: Global, sig: &Signature, expr: &Expr<'_>) -> Result<Pattern, TextError>
+    requires { HasNames (expr_tree expr.now) }
+    ensures { Gives result (whole_pattern_faults sig.now (expr_tree expr.now)) (λ p. pattern_tree p ≡ pattern_of sig.now (expr_tree expr.now)) }
+{
+    let mut before = Vec::new(alloc);
+    let pattern = build_pattern(alloc, sig, expr, &mut before)?;
+    check_root(expr)?;
+    Ok(pattern)
+}
+
+/// A whole pattern is no plus or star wildcard.
+fn check_root(expr: &Expr<'_>) -> Result<(), TextError>
+    ensures { Gives result (loose_faults (expr_tree expr.now)) (λ _. Unit {0}) }
+{
+    match expr {
+        Expr::Wild(wild) => {
+            if wild.marks > 1 {
+                return Err(error_at(TextKind::LooseSequence, wild.place));
+            }
+            Ok(())
+        }
+        _ => Ok(()),
+    }
 }

@@ -7,7 +7,7 @@ ghost use Rattle.mp_text.specs.Checks.{fault_at};
 
 use mp_syntax::Place;
 use mp_term::Memory;
-use std::alloc::AllocError;
+use std::alloc::{AllocError, AllocFailed};
 
 /// What is wrong at a token of a rule file.
 ///
@@ -86,6 +86,14 @@ impl From<AllocError> for TextError {
     ghost from_gives = { λ _ e. e ≡ errors.Memory };
 
     fn from(_error: AllocError) -> TextError {
+        TextError::Memory
+    }
+}
+
+impl<T: Drop> From<AllocFailed<T>> for TextError {
+    ghost from_gives = { λ _ e. e ≡ errors.Memory };
+
+    fn from(_error: AllocFailed<T>) -> TextError {
         TextError::Memory
     }
 }

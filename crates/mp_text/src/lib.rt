@@ -1,6 +1,7 @@
 //! Rule files: from the syntax trees of a file to its signature, rules and subjects, checked; and the printed text of terms, patterns, substitutions, signatures and files.
 #![tactic(auto)]
 
+mod alone;
 mod build;
 mod checks;
 mod declare;
@@ -8,7 +9,6 @@ mod fault;
 mod file;
 mod file_printer;
 mod flags;
-mod matched;
 mod pattern_printer;
 mod printer;
 #[cfg(test)]
@@ -19,6 +19,7 @@ mod subst_printer;
 #[cfg(test)]
 mod tests;
 
+pub use alone::{read_pattern, read_term};
 pub use fault::{TextError, TextFault, TextKind};
 pub use file::{EditSet, EditSets, File, Subject, Subjects};
 pub use file_printer::{printed_file_is_its_statements, printed_file_is_read, write_file};

@@ -14,19 +14,17 @@ ghost use Rattle.mp_text.specs.declared.fault.TextFault as plain;
 ghost use Rattle.mp_text.specs.declared.fault.TextError.TheVariants.{Text};
 ghost use Rattle.mp_text.specs.Answers.{Gives};
 ghost use Rattle.mp_text.specs.Build.{pattern_of, term_of, sig_of, rule_of, rules_of, subject_of, subjects_of, file_over, file_tree_of};
-ghost use Rattle.mp_text.specs.Checks.{pattern_faults, term_faults, statement_faults, faults_by, faults};
+ghost use Rattle.mp_text.specs.Checks.{whole_pattern_faults, term_faults, statement_faults, faults_by, faults};
 ghost use Rattle.mp_text.specs.File.{FileTree, file_tree};
-ghost use Rattle.mp_text.specs.Matched.{is_matched_file};
 ghost use Rattle.mp_text.specs.Names.{is_among};
 ghost use Rattle.mp_text.specs.Sound.{IsSoundFile};
-ghost use Rattle.mp_text.specs.Reading.{IsFileOf, file_of, IsFaultOf, fault_of, unread_fault, StatementsGive, ReadGives, IfText, IsFileOrMemory, IsFaultOrMemory, IsComputed};
+ghost use Rattle.mp_text.specs.Reading.{IsFileOf, file_of, IsFaultOf, fault_of, unread_fault, ReadGives, IfText, IsFileOrMemory, IsFaultOrMemory, IsComputed};
 
-use crate::build::{build_pattern, build_term, new_name};
+use crate::build::{build_term, new_name, whole_pattern};
 use crate::checks::{is_large_pattern, is_large_term};
 use crate::declare::{check_name, declare};
 use crate::fault::{TextError, TextFault, TextKind};
 use crate::file::{EditSets, File, Subject, Subjects};
-use crate::matched::is_matched_file;
 use mp_pattern::{Pattern, Rule, Rules, normalise_pattern};
 use mp_syntax::{Expr, Spot, Statement, SyntaxError, read_statements};
 use mp_term::{Signature, Term, normalise};
@@ -36,10 +34,10 @@ use std::alloc::Global;
 ///
 /// The text is a file exactly where its tokens spell statements (`IsSyntaxOf` of mp_syntax's `specs/Syntax.antt`) in which no
 /// check finds a fault (`faults` of `specs/Checks.antt`); the file is then `file_tree_of` of `specs/Build.antt`, its terms and patterns
-/// in normal form. It is read where each of its patterns is matched (`is_matched` of `specs/Matched.antt`).
+/// in normal form.
 ///
 /// - `Text`: the text has this fault, by `IsFaultOf` of `specs/Reading.antt`: where it is statements, the first that the checks find, with
-///   its line and column, from 1; where it is no statements, or a file with a pattern that isn't matched, `Unread` at line 1, column 1.
+///   its line and column, from 1; where it is no statements, `Unread` at line 1, column 1.
 /// - `Memory`: memory ran out.
 ///
 /// After an error nothing is kept.
@@ -48,10 +46,8 @@ pub fn read_file(alloc: Global, bytes: &[u8]) -> Result<File, TextError>
 
     // What is answered is the file of the bytes.
     ensures found { IfOk result (λ f. IsFileOf bytes.now (file_tree f)) }
-    // Its patterns are matched.
-    ensures matched { IfOk result (λ f. is_matched_file (file_tree f) ≡ true) }
-    // The file of the bytes is answered where its patterns are matched, unless memory runs out.
-    ensures only { (f : FileTree) → IsFileOf bytes.now f → is_matched_file f ≡ true → IsFileOrMemory result (λ g. g ≡ f) }
+    // The file of the bytes is answered, unless memory runs out.
+    ensures only { (f : FileTree) → IsFileOf bytes.now f → IsFileOrMemory result (λ g. g ≡ f) }
     // The fault that is answered is the fault of the bytes.
     ensures fault { IfText result (λ t. IsFaultOf bytes.now t) }
     // The fault of the bytes is answered, unless memory runs out.
@@ -84,14 +80,14 @@ fn read(alloc: Global, bytes: &[u8]) -> Result<File, TextError>
     ensures { ReadGives bytes.now result }
 {
     match read_statements(alloc, bytes) {
-        Ok(statements) => matched_file(alloc, &statements),
+        Ok(statements) => build_file(alloc, &statements),
         Err(SyntaxError::Memory) => Err(TextError::Memory),
         Err(SyntaxError::Fault(_)) => Err(unread()),
     }
 }
 
 /// The error for a text that isn't read in this version.
-fn unread() -> TextError
+pub(crate) fn unread() -> TextError
     ensures { result ≡ Text unread_fault }
 {
     TextError::Text(TextFault {
@@ -99,18 +95,6 @@ fn unread() -> TextError
         line: 1,
         column: 1,
     })
-}
-
-/// The file that the statements stand for, where its patterns are matched, or the fault of the statements.
-fn matched_file(alloc: Global, statements: &[Statement<'_>]) -> Result<File, TextError>
-    requires { StatementsHaveNames (map statement_tree statements.now) }
-    ensures { StatementsGive (map statement_tree statements.now) result }
-{
-    let file = build_file(alloc, statements)?;
-    if !is_matched_file(&file) {
-        return Err(unread());
-    }
-    Ok(file)
 }
 
 /// How many rules and how many subjects a file may have.
@@ -143,15 +127,19 @@ fn has_subject(subjects: &Subjects, name: &[u8]) -> bool
 /// The pattern of an expression in normal form, or its first fault.
 fn rule_pattern(alloc: Global, sig: &Signature, expr: &Expr<'_>) -> Result<Pattern, TextError>
     requires { HasNames (expr_tree expr.now) }
-    ensures { Gives result (pattern_faults sig.now (expr_tree expr.now)) (λ p. pattern_tree p ≡ normal_pattern sig.now (pattern_of sig.now (expr_tree expr.now))) }
+    ensures { Gives result (whole_pattern_faults sig.now (expr_tree expr.now)) (λ p. pattern_tree p ≡ normal_pattern sig.now (pattern_of sig.now (expr_tree expr.now))) }
 {
-    let pattern = build_pattern(alloc, sig, expr)?;
+    let pattern = whole_pattern(alloc, sig, expr)?;
     let pattern = normalise_pattern(alloc, sig, pattern)?;
     Ok(pattern)
 }
 
 /// The term of an expression in normal form, or its first fault.
-fn subject_term(alloc: Global, sig: &Signature, expr: &Expr<'_>) -> Result<Term, TextError>
+pub(crate) fn subject_term(
+    alloc: Global,
+    sig: &Signature,
+    expr: &Expr<'_>,
+) -> Result<Term, TextError>
     requires { HasNames (expr_tree expr.now) }
     ensures { Gives result (term_faults sig.now (expr_tree expr.now)) (λ t. tree t ≡ normal sig.now (term_of sig.now (expr_tree expr.now))) }
 {

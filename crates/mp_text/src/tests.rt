@@ -1,9 +1,11 @@
+use crate::alone::{read_pattern, read_term};
 use crate::fault::{TextError, TextKind};
 use crate::file::{EditSet, EditSets, File, Subject, Subjects};
+use crate::pattern_printer::write_pattern;
 use crate::printer::write_term;
 use crate::reader::{fault_is_computed, file_is_computed, read_file};
 use mp_io::MemorySink;
-use mp_term::{Edits, Name, Term};
+use mp_term::{Edits, Name, Signature, Term};
 use std::alloc::Global;
 use std::test::Fail;
 
@@ -122,7 +124,7 @@ fn the_first_fault_stands_at_its_token(rt: HostRuntime) -> Result<(), Fail> {
 
 #[test]
 fn faults_of_flags_kinds_and_signs_stand_at_their_tokens(rt: HostRuntime) -> Result<(), Fail> {
-    let rows: [(&[u8], First); 14] = [
+    let rows: [(&[u8], First); 15] = [
         // declarations
         (b"op p 2 assoc;", Some((TextKind::BadFlags, 1, 4))),
         (b"op p 2+ assoc comm; op q 1+ one;", None),
@@ -155,16 +157,191 @@ fn faults_of_flags_kinds_and_signs_stand_at_their_tokens(rt: HostRuntime) -> Res
             b"op p 3+ infix +; rule r: (x_ + y_);",
             Some((TextKind::Arity, 1, 26)),
         ),
-        // patterns that aren't matched
-        (
-            b"op p 2 comm; subject s: p(b, a); rule r: p(x_, a);",
-            Some((TextKind::Unread, 1, 1)),
-        ),
-        (b"op p 1+ assoc one; rule r: p(x_);", None),
+        // commutative operations
+        (b"op p 2 comm; subject s: p(b, a); rule r: p(x_, a);", None),
+        (b"op p 1+ comm one; rule r: p(x_);", None),
+        (b"op p 1+ assoc; rule r: p(x_, a);", None),
     ];
     for (text, first) in rows {
         assert_eq!(rt; first_fault(rt.alloc(), text)?, first);
     }
+    Ok(())
+}
+
+#[test]
+fn faults_of_wildcards_stand_at_their_tokens(rt: HostRuntime) -> Result<(), Fail> {
+    let rows: [(&[u8], First); 24] = [
+        (b"rule r: x_q;", Some((TextKind::UnknownKind, 1, 9))),
+        (
+            b"op f 2; rule r: f(x_, x__);",
+            Some((TextKind::KindClash, 1, 23)),
+        ),
+        (b"rule r: x__;", Some((TextKind::LooseSequence, 1, 9))),
+        (b"rule r: x___;", Some((TextKind::LooseSequence, 1, 9))),
+        (b"rule r: x_num;", None),
+        (
+            b"op f 2; kind v: a; rule r: f(x_v, x_num);",
+            Some((TextKind::KindClash, 1, 35)),
+        ),
+        (b"op f 2; rule r: f(x_num, x_num);", None),
+        (
+            b"op f 3; rule r: f(x_, y__, x_num);",
+            Some((TextKind::KindClash, 1, 28)),
+        ),
+        (
+            b"op f 2; rule r: f(x_q, x_r);",
+            Some((TextKind::UnknownKind, 1, 19)),
+        ),
+        (
+            b"op g 0+; rule r: g(g(x__), x___);",
+            Some((TextKind::KindClash, 1, 28)),
+        ),
+        (b"op f 1; rule r: f(x___, y___, z_);", None),
+        (
+            b"op f 1; rule r: f(x__, y_);",
+            Some((TextKind::Arity, 1, 17)),
+        ),
+        (b"op f 3; rule r: f(x_, y___);", None),
+        (b"op f 2+ assoc; rule r: f(x_);", None),
+        (
+            b"op f 2+ assoc; kind v: a; rule r: f(x_v);",
+            Some((TextKind::Arity, 1, 35)),
+        ),
+        (
+            b"op f 0+; rule r: f(g(x_, x__));",
+            Some((TextKind::UnknownOp, 1, 20)),
+        ),
+        (
+            b"op p 2 infix +; rule r: (x_ + x__);",
+            Some((TextKind::KindClash, 1, 31)),
+        ),
+        (
+            b"rule r: (x_ + (x__ + a));",
+            Some((TextKind::UnknownOp, 1, 13)),
+        ),
+        (
+            b"op p 1+ comm; rule r: p(x_, x__);",
+            Some((TextKind::KindClash, 1, 29)),
+        ),
+        (b"op p 1+ comm; rule r: p(x_, y__);", None),
+        (b"op p 1+ comm one; rule r: p(x__);", None),
+        (
+            b"op f 2; subject s: f(x_q, a);",
+            Some((TextKind::UnknownKind, 1, 22)),
+        ),
+        (
+            b"rule r: x_num; subject s: x__;",
+            Some((TextKind::WildcardInTerm, 1, 27)),
+        ),
+        (b"rule r: _;", Some((TextKind::Unread, 1, 1))),
+    ];
+    for (text, first) in rows {
+        assert_eq!(rt; first_fault(rt.alloc(), text)?, first);
+    }
+    Ok(())
+}
+
+/// The first fault of a term alone, or of a pattern alone.
+fn first_fault_alone(
+    alloc: Global,
+    sig: &Signature,
+    is_term: bool,
+    text: &[u8],
+) -> Result<First, Fail> {
+    if text.len() > 1000 {
+        Err("the text is too long")?
+    }
+    let error = if is_term {
+        read_term(alloc, sig, text).err()
+    } else {
+        read_pattern(alloc, sig, text).err()
+    };
+    match error {
+        None => Ok(None),
+        Some(TextError::Memory) => Err("memory ran out")?,
+        Some(TextError::Text(fault)) => Ok(Some((fault.kind, fault.line, fault.column))),
+    }
+}
+
+/// A name, and in brackets so many arguments of this text.
+fn applied(alloc: Global, name: u8, count: usize, argument: &[u8]) -> Result<Vec<u8>, Fail> {
+    let mut text = Vec::new(alloc);
+    text.push(name)?;
+    text.push(b'(')?;
+    for index in 0..count {
+        if index > 0 {
+            text.push(b',')?;
+        }
+        text.extend_from_slice(argument)?;
+    }
+    text.push(b')')?;
+    Ok(text)
+}
+
+#[test]
+fn terms_and_patterns_alone_are_read_or_refused_at_a_token(rt: HostRuntime) -> Result<(), Fail> {
+    let alloc = rt.alloc();
+    let file = file_of(
+        alloc,
+        b"op f 2; op g 0+; op p 1+ assoc comm one infix +; kind v: a b;",
+    )?;
+    let terms: [(&[u8], First); 9] = [
+        (b"f(b, a)", None),
+        (b"(b + p(a))", None),
+        (b"a;", Some((TextKind::Unread, 1, 1))),
+        (b"", Some((TextKind::Unread, 1, 1))),
+        (b"x_", Some((TextKind::WildcardInTerm, 1, 1))),
+        (b"f(a)", Some((TextKind::Arity, 1, 1))),
+        (b"q(f)", Some((TextKind::UnknownOp, 1, 1))),
+        (b"(f + a)", Some((TextKind::BareOperation, 1, 2))),
+        (b"(a * b)", Some((TextKind::UnknownOp, 1, 4))),
+    ];
+    for (text, first) in terms {
+        assert_eq!(rt; first_fault_alone(alloc, &file.sig, true, text)?, first);
+    }
+    let patterns: [(&[u8], First); 9] = [
+        (b"x_", None),
+        (b"f(x_v, x_v)", None),
+        (b"f(x_v, x_num)", Some((TextKind::KindClash, 1, 8))),
+        (b"x__", Some((TextKind::LooseSequence, 1, 1))),
+        (b"x_q", Some((TextKind::UnknownKind, 1, 1))),
+        (b"f(x___)", None),
+        (b"g(y__, (x_ + x_))", None),
+        (b"g(x_", Some((TextKind::Unread, 1, 1))),
+        (b"f(x_, g)", Some((TextKind::BareOperation, 1, 7))),
+    ];
+    for (text, first) in patterns {
+        assert_eq!(rt; first_fault_alone(alloc, &file.sig, false, text)?, first);
+    }
+    let too_many = Some((TextKind::TooMany, 1, 1));
+    let sig = &file.sig;
+    let nodes = applied(alloc, b'g', 63, b"a")?;
+    assert_eq!(rt; first_fault_alone(alloc, sig, false, &nodes)?, None);
+    let nodes = applied(alloc, b'q', 64, b"a")?;
+    assert_eq!(rt; first_fault_alone(alloc, sig, false, &nodes)?, too_many);
+    Ok(())
+}
+
+#[test]
+fn a_term_alone_is_normal_and_a_pattern_is_as_written(rt: HostRuntime) -> Result<(), Fail> {
+    let alloc = rt.alloc();
+    let file = file_of(
+        alloc,
+        b"op g 0+; op p 1+ assoc comm one infix +; kind v: a b;",
+    )?;
+    let Ok(mut sink) = MemorySink::new(alloc, 200, Vec::new(alloc)) else {
+        return Err("memory ran out")?;
+    };
+    let Ok(term) = read_term(alloc, &file.sig, b"(c + (p(b) + a))") else {
+        return Err("no term")?;
+    };
+    assert!(rt; write_term(&file.sig, &term, &mut sink).is_ok());
+    let Ok(pattern) = read_pattern(alloc, &file.sig, b"g((b+a),x_,y_v,z__ ,w___)") else {
+        return Err("no pattern")?;
+    };
+    assert!(rt; write_pattern(&file.sig, &pattern, &mut sink).is_ok());
+    let text = b"(a + b + c)g((b + a), x_, y_v, z__, w___)";
+    assert_eq!(rt; sink.content(), text.as_slice());
     Ok(())
 }
 

@@ -1,6 +1,7 @@
 -- `one_list` is the one-list.
-use Rattle.std.proofs.Common.{◌≡◌, List, [], ◌∷◌, true, false, ◌&&◌, refl, ap, sym, ◌∙◌, subst}
+use Rattle.std.proofs.Common.{◌≡◌, List, [], ◌∷◌, map, length, true, false, ◌&&◌, refl, ap, sym, ◌∙◌, subst}
 use Rattle.std.specs.Prelude.{Some, None, ◌↔◌, if◌then◌else◌, zip, Contains}
+use Rattle.std.specs.List.{AllByRecursion}
 use Rattle.std.specs.List.Sorted.{IsStrictlySortedBy}
 use Rattle.std.proofs.lemmas.Cmp.{lists_total}
 use Rattle.mp_term.specs.Order.{tree_cmp}
@@ -9,6 +10,9 @@ use Rattle.mp_term.specs.Tree.{Tree}
 use Rattle.mp_term.specs.Signature.{Sig}
 use Rattle.mp_term.specs.Normal.{IsNormal}
 use Rattle.mp_term.proofs.NormalTestLaws.{both, joined_tests}
+use Rattle.mp_pattern.specs.PatternTree.{Pattern}
+use Rattle.mp_pattern.specs.Size.{pattern_nodes}
+use Rattle.mp_pattern.specs.Variables.{variables}
 use Rattle.mp_pattern.specs.Value.{Value, one, seq, bag, Subst, same_name}
 use Rattle.mp_pattern.specs.Fits.{Table, Fits}
 use Rattle.mp_pattern.specs.DerivationOrder.{table_cmp}
@@ -20,9 +24,9 @@ use Rattle.mp_theory.proofs.Merging.{name_same, same_terms-sound, same_terms-com
 use Rattle.mp_theory.specs.Search.{In}
 use Rattle.mp_theory.specs.Sound.{IsSound}
 use Rattle.mp_theory.specs.Machine.{takes, tables}
-use Rattle.mp_theory.specs.OneList.{same_value, same_subst, admitted, one_list, item_tables, item_substs, item_list, AreItems}
+use Rattle.mp_theory.specs.OneList.{Item, same_value, same_subst, admitted, one_list, item_tables, item_substs, item_list, AreItems}
 use Rattle.mp_theory.proofs.PiecesLaws.{same-sound, same-itself}
-use Rattle.mp_theory.proofs.Tables.{tables-exact, tables-ascending, entry_cmp_total}
+use Rattle.mp_theory.proofs.Tables.{tables-exact, tables-ascending, shape-accounts, entry_cmp_total}
 use Rattle.mp_theory.proofs.Solving.{same_name-itself, then_some}
 use Rattle.mp_theory.proofs.FitsSolves.{fits-solves, solves-fits}
 use Rattle.mp_theory.proofs.FirstsLaws.{contains-from_in, in-from_contains, Both, from_both, IsFirst, Added, added}
@@ -148,3 +152,13 @@ module _ (sig : Sig) (r : Rule) (t : Tree) where
           least = subst (λ us. AreLeast sig r.pattern t us (item_tables (zip Found.firsts Found.items))) (sym ss) (subst (AreLeast sig r.pattern t Found.items) (sym ts) (are-least Found.items Found.firsts Found.least));
           ascending = subst (IsStrictlySortedBy table_cmp) (sym ts) Found.ascending;
         })
+
+-- a table that fits has an entry for each node, and its substitution a value for each variable
+fits-shape : (sig : Sig) (p : Pattern) (t : Tree) (s : Subst) (T : Table) → IsNormal sig t → Fits sig p t s T → (length T ≡ pattern_nodes p) × (map (λ b. b.name) s ≡ variables p)
+fits-shape sig p t s T normal h = ((shape-accounts sig p t T (fits-solves sig p t s T normal h).0).0, h.subst_of.names)
+
+-- so has each item
+pub items-shape : (sig : Sig) (r : Rule) (t : Tree) (is : List Item) → IsNormal sig t → AreLeast sig r.pattern t (item_substs is) (item_tables is)
+    → AllByRecursion (λ i. (length i.0 ≡ pattern_nodes r.pattern) × (map (λ b. b.name) i.1 ≡ variables r.pattern)) is
+items-shape sig r t [] normal h = tt
+items-shape sig r t (i ∷ is) normal h = (fits-shape sig r.pattern t i.1 i.0 normal h.0.fits, items-shape sig r t is normal h.1)

@@ -1,10 +1,13 @@
 // The main theorems, each as the contract of a function that does nothing.
-ghost use Rattle.std.specs.Prelude.{◌≡◌, ◌↔◌, List, Some, true};
+ghost use Rattle.std.specs.Prelude.{◌≡◌, ◌↔◌, List, Some, true, map, length};
+ghost use Rattle.std.specs.List.{AllByRecursion};
 ghost use Rattle.std.specs.List.Sorted.{IsStrictlySortedBy};
 ghost use Rattle.mp_term.specs.Tree.{Tree};
 ghost use Rattle.mp_term.specs.Signature.{Sig};
 ghost use Rattle.mp_term.specs.Normal.{IsNormal};
 ghost use Rattle.mp_pattern.specs.PatternTree.{Pattern};
+ghost use Rattle.mp_pattern.specs.Size.{pattern_nodes};
+ghost use Rattle.mp_pattern.specs.Variables.{variables};
 ghost use Rattle.mp_pattern.specs.Value.{Subst};
 ghost use Rattle.mp_pattern.specs.Fits.{Table, Fits};
 ghost use Rattle.mp_pattern.specs.DerivationOrder.{table_cmp};
@@ -14,7 +17,7 @@ ghost use Rattle.mp_pattern.specs.Lists.{Pair, IsOneList, IsAllList};
 ghost use Rattle.mp_theory.specs.Search.{In};
 ghost use Rattle.mp_theory.specs.Machine.{HasShape, tables};
 ghost use Rattle.mp_theory.specs.Sound.{IsSound, HasNoOptional};
-ghost use Rattle.mp_theory.specs.OneList.{AreItems, item_list, item_substs, one_list};
+ghost use Rattle.mp_theory.specs.OneList.{AreItems, Item, item_list, item_substs, one_list};
 ghost use Rattle.mp_theory.specs.Trail.{fitted};
 
 /// What the search finds is the one-list: for a pattern whose defaults are normal and a normal subject, `one_list` of
@@ -32,6 +35,13 @@ pub fn the_item_list_is_the_one_list()
         AreItems sig r t (item_list sig r t) }
     ensures substs { (sig : Sig) (r : Rule) (t : Tree) → IsSound sig r.pattern → IsNormal sig t →
         item_substs (item_list sig r t) ≡ one_list sig r t }
+{}
+
+/// Each item of a rule on a normal subject has an entry for each node of the pattern, and a value for each of its variables, in
+/// order of first occurrence.
+pub fn items_have_the_shape_of_the_pattern()
+    ensures { (sig : Sig) (r : Rule) (t : Tree) (is : List Item) → IsNormal sig t → AreItems sig r t is →
+        AllByRecursion (λ i. (length i.0 ≡ pattern_nodes r.pattern) × (map (λ b. b.name) i.1 ≡ variables r.pattern)) is }
 {}
 
 /// A rule has one one-list on a normal subject: two lists that meet `IsOneList` of mp_pattern's `specs/Lists` are equal.

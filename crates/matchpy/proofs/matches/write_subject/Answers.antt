@@ -1,31 +1,31 @@
 use Rattle.std.proofs.Common.{arith, map}
-use Rattle.mp_pattern.specs.RuleView.{rule_tree}
 use Rattle.mp_text.specs.File.{subject_tree}
-use Rattle.matchpy.specs.Matches.{IsMatchable, rule_text, subject_text}
+use Rattle.matchpy.specs.Planned.{IsPlanned, planned_rule, rule_plan}
+use Rattle.matchpy.specs.Matches.{rule_text, subject_text}
 use Rattle.matchpy.proofs.Parts.{AllByRecursion-drop, has_some-drop, lists_stopped, parts_written}
 use Rattle.matchpy.proofs.matches.write_subject.Goals as goal
 
 pub write_rule-requires : goal.write_rule-requires
 write_rule-requires g c = record {
-  matchable = (AllByRecursion-drop rule_tree (IsMatchable c.args.sig.now) c.args.rules.now c.loop-rule.rule-index c.rule-item.result (omega arith) c.rule-item.is c.loop-rule.invariant.matchable).0;
+  planned = (AllByRecursion-drop rule_plan (IsPlanned c.args.sig.now) c.args.rules.now c.loop-rule.rule-index c.rule-item.result (omega arith) c.rule-item.is c.loop-rule.invariant.planned).0;
   normal = c.requires.normal;
 }
 
 pub returns-in-Err : goal.returns-in-Err
 returns-in-Err g c =
     let subject = subject_tree c.args.subject.now in
-    lists_stopped rule_tree (rule_text c.args.sig.now subject) c.args.rules.now c.loop-rule.rule-index c.rule-item.result _ _ _ _ _ _ (subject_text c.args.sig.now (map rule_tree c.args.rules.now) subject) (omega arith) c.rule-item.is
+    lists_stopped planned_rule (rule_text c.args.sig.now subject) c.args.rules.now c.loop-rule.rule-index c.rule-item.result _ _ _ _ _ _ (subject_text c.args.sig.now (map planned_rule c.args.rules.now) subject) (omega arith) c.rule-item.is
     c.in-Err.stop c.loop-rule.invariant.written c.loop-rule.invariant.faults c.in-Err.ensures
 
 pub loop-rule-preserved : goal.loop-rule-preserved
 loop-rule-preserved g c =
     let subject = subject_tree c.args.subject.now in
     let text = rule_text c.args.sig.now subject in
-    let whole = subject_text c.args.sig.now (map rule_tree c.args.rules.now) subject in
+    let whole = subject_text c.args.sig.now (map planned_rule c.args.rules.now) subject in
     let printed = c.in-Ok.ensures in
     record {
-      written = parts_written rule_tree text c.args.rules.now c.loop-rule.rule-index c.rule-item.result _ _ _ whole (omega arith) c.rule-item.is c.loop-rule.invariant.written printed.0;
-      any = has_some-drop rule_tree text c.args.rules.now c.loop-rule.rule-index c.rule-item.result whole c.loop-rule.any c.in-Ok.some (omega arith) c.rule-item.is c.loop-rule.invariant.any printed.1;
+      written = parts_written planned_rule text c.args.rules.now c.loop-rule.rule-index c.rule-item.result _ _ _ whole (omega arith) c.rule-item.is c.loop-rule.invariant.written printed.0;
+      any = has_some-drop planned_rule text c.args.rules.now c.loop-rule.rule-index c.rule-item.result whole c.loop-rule.any c.in-Ok.some (omega arith) c.rule-item.is c.loop-rule.invariant.any printed.1;
       faults = omega (arith, printed.2);
-      matchable = (AllByRecursion-drop rule_tree (IsMatchable c.args.sig.now) c.args.rules.now c.loop-rule.rule-index c.rule-item.result (omega arith) c.rule-item.is c.loop-rule.invariant.matchable).1;
+      planned = (AllByRecursion-drop rule_plan (IsPlanned c.args.sig.now) c.args.rules.now c.loop-rule.rule-index c.rule-item.result (omega arith) c.rule-item.is c.loop-rule.invariant.planned).1;
     }

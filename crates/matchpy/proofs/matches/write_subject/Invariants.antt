@@ -2,17 +2,17 @@ use Rattle.std.proofs.Common.{◌≡◌, ◌≤◌, drop, map}
 use Rattle.std.specs.Prelude.{flat_map, ◌||◌}
 use Rattle.std.specs.List.{AllByRecursion}
 use Rattle.mp_io.proofs.Written.{Written}
-use Rattle.mp_pattern.specs.RuleView.{rule_tree}
 use Rattle.mp_text.specs.File.{subject_tree}
-use Rattle.matchpy.specs.Matches.{IsMatchable, has_some, rule_text, subject_text}
+use Rattle.matchpy.specs.Planned.{IsPlanned, planned_rule, rule_plan}
+use Rattle.matchpy.specs.Matches.{has_some, rule_text, subject_text}
 use Rattle.matchpy.proofs.matches.write_subject.Given as goal
 
 abbrev pub invariant-loop-rule : goal.invariant-loop-rule
 invariant-loop-rule g l = record {
-  written : Written (g.O.Sink.contents l.fn.out) (g.O.Sink.contents l.out) (subject_text l.sig (map rule_tree l.rules) (subject_tree l.subject))
-      (flat_map (rule_text l.sig (subject_tree l.subject)) (map rule_tree (drop l.rule-index l.rules)));
-  any : has_some (subject_text l.sig (map rule_tree l.rules) (subject_tree l.subject))
-      ≡ (l.any || has_some (flat_map (rule_text l.sig (subject_tree l.subject)) (map rule_tree (drop l.rule-index l.rules))));
+  written : Written (g.O.Sink.contents l.fn.out) (g.O.Sink.contents l.out) (subject_text l.sig (map planned_rule l.rules) (subject_tree l.subject))
+      (flat_map (rule_text l.sig (subject_tree l.subject)) (map planned_rule (drop l.rule-index l.rules)));
+  any : has_some (subject_text l.sig (map planned_rule l.rules) (subject_tree l.subject))
+      ≡ (l.any || has_some (flat_map (rule_text l.sig (subject_tree l.subject)) (map planned_rule (drop l.rule-index l.rules))));
   faults : g.O.Sink.faults l.fn.out ≤ g.O.Sink.faults l.out;
-  matchable : AllByRecursion (IsMatchable l.sig) (map rule_tree (drop l.rule-index l.rules));
+  planned : AllByRecursion (IsPlanned l.sig) (map rule_plan (drop l.rule-index l.rules));
 }

@@ -1,4 +1,5 @@
 use Rattle.std.proofs.Common.{◌≡◌, [], ap, ◌∙◌, sym, subst}
+use Rattle.std.specs.List.{AllByRecursion}
 use Rattle.mp_term.specs.View.{tree}
 use Rattle.mp_pattern.specs.View.{pattern_tree}
 use Rattle.mp_pattern.specs.RuleView.{rule_tree}
@@ -9,9 +10,11 @@ use Rattle.mp_theory.specs.Trail.{derivations}
 use Rattle.mp_term.specs.Normal.{IsNormal}
 use Rattle.mp_theory.specs.Sound.{IsSound}
 use Rattle.mp_theory.specs.OneList.{same_item, item_substs, item_list, one_list, AreItems}
-use Rattle.mp_theory.proofs.OneListLaws.{one_list-is, item_list-are, item_substs-item_list}
+use Rattle.mp_theory.proofs.OneListLaws.{one_list-is, item_list-are, item_substs-item_list, items-shape}
 use Rattle.mp_one.specs.Stack.{entries_left}
+use Rattle.mp_one.specs.Items.{IsItemOf}
 use Rattle.mp_one.proofs.WalkLaws.{item_list-by_stack}
+use Rattle.mp_one.proofs.ItemLaws.{IsItemOf-plan_of}
 use Rattle.mp_one.proofs.search.eager_list.Goals as goal
 
 -- what was found is the list of items
@@ -42,3 +45,11 @@ returns-clause-exact c =
     let r = rule_tree c.args.rule.now in
     let t = tree c.args.subject.now in
     subst (IsOneList c.args.sig.now r t) (sym (substs c c.requires.sound c.requires.normal)) (one_list-is c.args.sig.now r t c.requires.sound c.requires.normal)
+
+pub returns-clause-sizes : goal.returns-clause-sizes
+returns-clause-sizes c =
+    let r = rule_tree c.args.rule.now in
+    let t = tree c.args.subject.now in
+    let sig = c.args.sig.now in
+    subst (λ is. AllByRecursion (IsItemOf c.args.plan.now) is) (sym (listed c))
+    (subst (λ plan. AllByRecursion (IsItemOf plan) (item_list sig r t)) (sym c.requires.plan) (IsItemOf-plan_of sig r.pattern (item_list sig r t) (items-shape sig r t (item_list sig r t) c.requires.normal (item_list-are sig r t c.requires.sound c.requires.normal).least)))

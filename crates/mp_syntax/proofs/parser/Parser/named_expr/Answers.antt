@@ -1,6 +1,6 @@
 use Rattle.std.proofs.Common.{[], refl, ◌∙◌}
 use Rattle.std.proofs.lemmas.Result.{err_from_is_err_and}
-use Rattle.mp_syntax.specs.Machine.{AfterRole, AfterName, AfterExpr}
+use Rattle.mp_syntax.specs.Machine.{AfterRole, AfterName, AfterExpr, InStatement}
 use Rattle.mp_syntax.specs.View.{spot_of, expr_tree}
 use Rattle.mp_syntax.proofs.Runs.{fails-along, heading}
 use Rattle.mp_syntax.proofs.parser.Parser.named_expr.Goals as goal
@@ -23,7 +23,7 @@ returns-in_err-expr-clause-read c =
     rw (p.1, p.2) (λ done role. fails-along _ _ _
     (c.in_ok-name.ensures.read done (AfterRole role) (λ w. AfterName (heading role w)) (λ t. refl)
     ∙ c.in_ok-expect.ensures.read done (AfterName (heading role (spot_of c.in_ok-name.name))) _ refl)
-    (c.in_err-expr.ensures.read done (heading role (spot_of c.in_ok-name.name)) [] refl))
+    (c.in_err-expr.ensures.read done (InStatement (heading role (spot_of c.in_ok-name.name))) [] refl))
 
 pub returns-in_err-expect-2-clause-read : goal.returns-in_err-expect-2-clause-read
 returns-in_err-expect-2-clause-read c =
@@ -31,12 +31,12 @@ returns-in_err-expect-2-clause-read c =
     rw (p.1, p.2) (λ done role. fails-along _ _ _
     (c.in_ok-name.ensures.read done (AfterRole role) (λ w. AfterName (heading role w)) (λ t. refl)
     ∙ c.in_ok-expect.ensures.read done (AfterName (heading role (spot_of c.in_ok-name.name))) _ refl
-    ∙ c.in_ok-expr.ensures.read done (heading role (spot_of c.in_ok-name.name)) [] refl)
-    (c.in_err-expect-2.ensures.read done (AfterExpr (heading role (spot_of c.in_ok-name.name)) [] (expr_tree c.in_ok-expr.expr)) _ refl))
+    ∙ c.in_ok-expr.ensures.read done (InStatement (heading role (spot_of c.in_ok-name.name))) [] refl)
+    (c.in_err-expect-2.ensures.read done (AfterExpr (InStatement (heading role (spot_of c.in_ok-name.name))) [] (expr_tree c.in_ok-expr.expr)) _ refl))
 
 pub returns-clause-read : goal.returns-clause-read
 returns-clause-read c = λ done role.
     c.in_ok-name.ensures.read done (AfterRole role) (λ w. AfterName (heading role w)) (λ t. refl)
     ∙ c.in_ok-expect.ensures.read done (AfterName (heading role (spot_of c.in_ok-name.name))) _ refl
-    ∙ c.in_ok-expr.ensures.read done (heading role (spot_of c.in_ok-name.name)) [] refl
-    ∙ c.in_ok-expect-2.ensures.read done (AfterExpr (heading role (spot_of c.in_ok-name.name)) [] (expr_tree c.in_ok-expr.expr)) _ refl
+    ∙ c.in_ok-expr.ensures.read done (InStatement (heading role (spot_of c.in_ok-name.name))) [] refl
+    ∙ c.in_ok-expect-2.ensures.read done (AfterExpr (InStatement (heading role (spot_of c.in_ok-name.name))) [] (expr_tree c.in_ok-expr.expr)) _ refl

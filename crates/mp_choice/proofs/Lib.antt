@@ -1,0 +1,11 @@
+pub mod Steps
+pub mod Listed
+pub mod Lexicographic
+pub mod SplitLaws
+pub mod SplitLoops
+pub mod SplitListing
+pub mod SubBagLaws
+pub mod SubBagOrder
+pub mod SubBagLoops
+pub mod SubBagListing
+pub mod SubBagClasses

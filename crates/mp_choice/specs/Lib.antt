@@ -1,0 +1,10 @@
+pub mod Choices
+pub mod Listed
+pub mod Splits
+pub mod SplitSteps
+pub mod SplitList
+pub mod SplitsView
+pub mod SubBags
+pub mod SubBagSteps
+pub mod SubBagList
+pub mod SubBagsView

@@ -1,0 +1,17 @@
+//! Generators of choices. Each goes through all of its items, one at a time, in a fixed order, and keeps one item at a time.
+#![tactic(auto)]
+
+mod laws;
+mod room;
+mod splits;
+mod stage;
+mod sub_bags;
+#[cfg(test)]
+mod tests;
+
+pub use laws::{
+    list_of_splits_is_unique, list_of_sub_bags_is_unique, steps_give_the_items_in_turn,
+    sub_bags_are_those_of_the_theory,
+};
+pub use splits::{Part, Splits};
+pub use sub_bags::SubBags;

@@ -1,0 +1,284 @@
+// How a pattern becomes a plan.
+ghost use Rattle.std.specs.Prelude.{◌≡◌, ◌↔◌, ◌⊎◌, ◌+◌, ◌<◌, ◌≤◌, ◌++◌, ◌∷◌, ◌&&◌, ℕ, Some, None, true, not, [], map, filter, length, OnOk, IfOk, IfSome, IsOk, Err, position, option_map, nat_lt, if◌then◌else◌};
+ghost use Rattle.std.specs.List.{list_any};
+ghost use Rattle.mp_pattern.specs.View.{pattern_tree, wildcard};
+ghost use Rattle.mp_pattern.specs.Size.{pattern_nodes};
+ghost use Rattle.mp_pattern.specs.Subpatterns.{subpatterns};
+ghost use Rattle.mp_pattern.specs.Value.{same_name};
+ghost use Rattle.mp_pattern.specs.Variables.{uses, variables, is_sequence, comm_above, form_among};
+ghost use Rattle.mp_pattern.specs.Clash.{first_clash_after};
+ghost use Rattle.mp_pattern.specs.Plan.{nodes, variable_number, IsPlanOf};
+ghost use Rattle.mp_pattern.specs.PlanView.{form, label, node, variable};
+ghost use Rattle.mp_pattern.specs.UseView.{occurrence};
+ghost use Rattle.mp_pattern.specs.PlanFault.{plan_fault, IsCompiled, OrMemory};
+
+use crate::copy::{copy_name, copy_shape};
+use crate::entry::Form;
+use crate::flags::is_comm;
+use crate::normal::is_loose;
+use crate::outline::{Occurrence, Outline, first_clash, node_count, outline_of};
+use crate::pattern::{Pattern, Shape};
+use crate::plan::{Label, Node, Plan, Variable};
+use mp_term::{Memory, Name, OpId, Signature};
+use std::alloc::Global;
+use thiserror::Error;
+
+// How many nodes and how many variables a pattern with a plan has at most.
+const MAX_NODES: u32 = 64;
+
+const MAX_VARIABLES: usize = 32;
+
+/// Why a pattern has no plan.
+#[derive(Debug, Drop, Error)]
+pub enum PlanFault {
+    /// The root is a plus, star or optional wildcard.
+    #[error("the whole pattern is a plus, star or optional wildcard")]
+    LooseSequence,
+    /// The pattern has more than 64 nodes: so many, or the greatest `u32` where there are more.
+    #[error("too many nodes: {count}")]
+    TooManyNodes { count: u32 },
+    /// The pattern has more than 32 variables: so many.
+    #[error("too many variables: {count}")]
+    TooManyVars { count: u32 },
+    /// The wildcard at this node is of another class, kind or default than one of the same variable before it.
+    #[error("another wildcard of the variable at node {node}")]
+    KindClash { node: u32 },
+    /// There was no memory.
+    #[error("want of memory")]
+    Memory,
+}
+
+// The place of the name among the names, from 0.
+fn index_of(names: &[&Name], name: &Name) -> Option<usize>
+    ensures index { result ≡ position (same_name name.now) (map (λ n. n.now) names.now) }
+    ensures within { IfSome result (λ i. i < length names.now) }
+{
+    for (i, other) in names.iter().enumerate() {
+        if *name == **other {
+            return Some(i);
+        }
+    }
+    None
+}
+
+// The number of the variable among the names, from 0.
+fn variable_number(names: &[&Name], variable: &Option<Name>) -> Option<u32>
+    requires { length names.now ≤ 32 }
+    ensures { result ≡ variable_number (map (λ n. n.now) names.now) variable.now }
+{
+    match variable {
+        None => None,
+        Some(name) => match index_of(names, name) {
+            None => None,
+            Some(index) => Some(index as u32),
+        },
+    }
+}
+
+// Adds a node.
+fn push_node(out: &mut Vec<Node>, what: Label, end: u32, parent: Option<u32>) -> Result<(), Memory>
+    ensures { OnOk result (map node out.new.items ≡ map node out.old.items ++ record { label = label what; end = end; parent = parent } ∷ []) }
+{
+    match out.push(Node {
+        label: what,
+        end,
+        parent,
+    }) {
+        Ok(()) => Ok(()),
+        Err(_) => Err(Memory),
+    }
+}
+
+// Adds the nodes of the pattern in preorder, the root with this parent, as the names number its variables.
+fn push_nodes(
+    alloc: Global,
+    out: &mut Vec<Node>,
+    names: &[&Name],
+    pattern: &Pattern,
+    parent: Option<u32>,
+) -> Result<(), Memory>
+    requires variables { length names.now ≤ 32 }
+    requires room { length out.old.items + pattern_nodes (pattern_tree pattern.now) ≤ 64 }
+    ensures nodes { OnOk result (map node out.new.items ≡ map node out.old.items ++ nodes (map (λ n. n.now) names.now) parent (length out.old.items) (pattern_tree pattern.now)) }
+    ensures count { OnOk result (length out.new.items ≡ length out.old.items + pattern_nodes (pattern_tree pattern.now)) }
+{
+    let number = out.len() as u32;
+    match pattern {
+        Pattern::Sym(name) => {
+            let what = Label::Sym(copy_name(alloc, name)?);
+            push_node(out, what, number + 1, parent)
+        }
+        Pattern::App(op, args) => {
+            push_node(out, Label::App(*op), number + node_count(pattern), parent)?;
+            for arg in &args.items {
+                push_nodes(alloc, out, names, arg, Some(number))?;
+            }
+            Ok(())
+        }
+        Pattern::Wild(shape, variable) => {
+            let what = Label::Wild(copy_shape(alloc, shape)?, variable_number(names, variable));
+            push_node(out, what, number + 1, parent)
+        }
+    }
+}
+
+// A plus or star wildcard.
+fn is_sequence(shape: &Shape) -> bool
+    ensures { result ≡ is_sequence (wildcard shape.now) }
+{
+    matches!(shape, Shape::Plus | Shape::Star)
+}
+
+// The operation is commutative; at the root there is none.
+fn is_comm_above(sig: &Signature, under: Option<OpId>) -> bool
+    ensures { result ≡ comm_above sig.now (option_map (λ f. f.0) under) }
+{
+    match under {
+        None => false,
+        Some(op) => is_comm(sig, op),
+    }
+}
+
+// The variable has a plus or star wildcard.
+fn has_sequence(occurrences: &[Occurrence<'_>], name: &Name) -> bool
+    ensures { result ≡ list_any (λ _. true) (filter (λ u. same_name name.now u.name && is_sequence u.wildcard) (map occurrence occurrences.now)) }
+{
+    for occurrence in occurrences {
+        if *name == *occurrence.name && is_sequence(occurrence.shape) {
+            return true;
+        }
+    }
+    false
+}
+
+// The variable has a plus or star wildcard directly under an operation that isn't commutative.
+fn has_ordered_sequence(sig: &Signature, occurrences: &[Occurrence<'_>], name: &Name) -> bool
+    ensures { result ≡ list_any (λ u. not (comm_above sig.now u.under)) (filter (λ u. same_name name.now u.name && is_sequence u.wildcard) (map occurrence occurrences.now)) }
+{
+    for occurrence in occurrences {
+        if *name == *occurrence.name
+            && is_sequence(occurrence.shape)
+            && !is_comm_above(sig, occurrence.under)
+        {
+            return true;
+        }
+    }
+    false
+}
+
+// The form of the variable.
+fn form_among(sig: &Signature, occurrences: &[Occurrence<'_>], name: &Name) -> Form
+    ensures { form result ≡ form_among sig.now (map occurrence occurrences.now) name.now }
+{
+    if has_ordered_sequence(sig, occurrences, name) {
+        Form::Seq
+    } else if has_sequence(occurrences, name) {
+        Form::Bag
+    } else {
+        Form::One
+    }
+}
+
+// The variables of these names with their forms.
+fn variables_of(
+    alloc: Global,
+    sig: &Signature,
+    occurrences: &[Occurrence<'_>],
+    names: &[&Name],
+) -> Result<Vec<Variable>, Memory>
+    ensures { IfOk result (λ vs. map variable vs.items ≡ map (λ x. record { name = x; form = form_among sig.now (map occurrence occurrences.now) x }) (map (λ n. n.now) names.now)) }
+{
+    let mut variables = Vec::new(alloc);
+    for name in names {
+        let form = form_among(sig, occurrences, name);
+        let name = copy_name(alloc, name)?;
+        if variables.push(Variable { name, form }).is_err() {
+            return Err(Memory);
+        }
+    }
+    Ok(variables)
+}
+
+// What the pattern's variables and wildcards have against a plan.
+fn fault(outline: &Outline<'_>) -> Option<PlanFault>
+    requires names { length outline.now.names.items ≤ 64 }
+    requires patterns { length outline.now.patterns.items ≤ 64 }
+    ensures { result ≡ (if nat_lt 32 (length outline.now.names.items) then Some (PlanFault.TooManyVars (length outline.now.names.items))
+        else option_map PlanFault.KindClash (first_clash_after [] (map (λ p. pattern_tree p.now) outline.now.patterns.items))) }
+{
+    let count = outline.names.len();
+    if MAX_VARIABLES < count {
+        return Some(PlanFault::TooManyVars {
+            count: count as u32,
+        });
+    }
+    match first_clash(&outline.patterns) {
+        None => None,
+        Some(node) => Some(PlanFault::KindClash { node: node as u32 }),
+    }
+}
+
+// The plan of the pattern, which has this outline and no fault.
+fn build(
+    alloc: Global,
+    sig: &Signature,
+    pattern: &Pattern,
+    outline: &Outline<'_>,
+) -> Result<Plan, Memory>
+    requires nodes { pattern_nodes (pattern_tree pattern.now) ≤ 64 }
+    requires few { length outline.now.names.items ≤ 32 }
+    requires occurrences { map occurrence outline.now.occurrences.items ≡ uses None (pattern_tree pattern.now) }
+    requires names { map (λ n. n.now) outline.now.names.items ≡ variables (pattern_tree pattern.now) }
+    ensures { IfOk result (λ plan. IsPlanOf sig.now (pattern_tree pattern.now) plan) }
+{
+    let mut nodes = Vec::new(alloc);
+    push_nodes(alloc, &mut nodes, &outline.names, pattern, None)?;
+    let variables = variables_of(alloc, sig, &outline.occurrences, &outline.names)?;
+    Ok(Plan { nodes, variables })
+}
+
+// The plan of the pattern, or the first fault that it has.
+fn compiled(alloc: Global, sig: &Signature, pattern: &Pattern) -> Result<Plan, PlanFault>
+    ensures { IsCompiled sig.now (pattern_tree pattern.now) result }
+{
+    if is_loose(pattern) {
+        return Err(PlanFault::LooseSequence);
+    }
+    let count = node_count(pattern);
+    if MAX_NODES < count {
+        return Err(PlanFault::TooManyNodes { count });
+    }
+    let Ok(outline) = outline_of(alloc, pattern) else {
+        return Err(PlanFault::Memory);
+    };
+    if let Some(fault) = fault(&outline) {
+        return Err(fault);
+    }
+    match build(alloc, sig, pattern, &outline) {
+        Ok(plan) => Ok(plan),
+        Err(Memory) => Err(PlanFault::Memory),
+    }
+}
+
+impl Plan {
+    /// The plan of a pattern over a signature that holds its operations (`IsPlanOf` of `specs/Plan`). The pattern is taken as it
+    /// stands, normal or not. An operation that isn't held would count as one that isn't commutative.
+    ///
+    /// The refusals come in this order (`plan_fault` of `specs/PlanFault`), and leave nothing. `LooseSequence` comes exactly where the
+    /// root is a plus, star or optional wildcard. `TooManyNodes` comes exactly where the pattern has more than 64 nodes, a wildcard
+    /// with its default being one, with their number, or the greatest `u32` where there are more. `TooManyVars` comes exactly where it
+    /// has more than 32 variables, with their number. `KindClash` comes exactly where the wildcard at some node has the variable
+    /// of one before it and another class, kind or default, with the least such node (`first_clash` of `specs/Clash`). `Memory` comes
+    /// where there is no room for the plan, also in place of the last two.
+    pub fn compile(alloc: Global, sig: &Signature, pattern: &Pattern) -> Result<Plan, PlanFault>
+        ensures plan { IfOk result (λ plan. IsPlanOf sig.now (pattern_tree pattern.now) plan) }
+        ensures accepted { OrMemory result (IsOk result ↔ (plan_fault (pattern_tree pattern.now) ≡ None)) }
+        ensures loose { (result ≡ Err PlanFault.LooseSequence) ↔ (plan_fault (pattern_tree pattern.now) ≡ Some PlanFault.LooseSequence) }
+        ensures nodes { (n : ℕ) → (result ≡ Err (PlanFault.TooManyNodes n)) ↔ (plan_fault (pattern_tree pattern.now) ≡ Some (PlanFault.TooManyNodes n)) }
+        ensures vars { (n : ℕ) → OrMemory result ((result ≡ Err (PlanFault.TooManyVars n)) ↔ (plan_fault (pattern_tree pattern.now) ≡ Some (PlanFault.TooManyVars n))) }
+        ensures clash { (n : ℕ) → OrMemory result ((result ≡ Err (PlanFault.KindClash n)) ↔ (plan_fault (pattern_tree pattern.now) ≡ Some (PlanFault.KindClash n))) }
+    {
+        let plan = compiled(alloc, sig, pattern);
+        plan
+    }
+}

@@ -1,0 +1,177 @@
+// Plans: the nodes and the variables of a pattern, each by its number.
+ghost use Rattle.std.specs.Prelude.{◌≡◌, ◌<◌, ◌≤◌, IfSome, length, slice_get, position, option_map};
+ghost use Rattle.std.specs.Option.{option_and_then};
+ghost use Rattle.mp_pattern.specs.Value.{same_name};
+ghost use Rattle.mp_pattern.specs.PlanView.{form, label, shown_label};
+
+use crate::entry::Form;
+use crate::pattern::Shape;
+use mp_term::{Name, OpId};
+use std::marker::Model;
+
+/// What stands at a node of a plan. Contracts see it as the label `shown_label` of `specs/PlanView`.
+#[derive(Drop)]
+pub enum PlanNode<'a> {
+    /// A symbol.
+    Sym(&'a Name),
+    /// An operation.
+    App(OpId),
+    /// A wildcard, with the number of its variable where it has one.
+    Wild(&'a Shape, Option<u32>),
+}
+
+// The same, owned.
+#[derive(Drop)]
+pub(crate) enum Label {
+    Sym(Name),
+    App(OpId),
+    Wild(Shape, Option<u32>),
+}
+
+// A node, with the number of the node after its subpattern and that of its parent.
+#[derive(Drop)]
+pub(crate) struct Node {
+    pub(crate) label: Label,
+    pub(crate) end: u32,
+    pub(crate) parent: Option<u32>,
+}
+
+// A variable with its form.
+#[derive(Drop)]
+pub(crate) struct Variable {
+    pub(crate) name: Name,
+    pub(crate) form: Form,
+}
+
+/// A pattern cut into its nodes, which have the numbers of the preorder from 0, and its variables, which are numbered from 0 by
+/// first occurrence. Contracts see it as the record `Plan` of `specs/Plan`, where `IsPlanOf` says of which pattern it is.
+#[derive(Drop)]
+pub struct Plan {
+    pub(crate) nodes: Vec<Node>,
+    pub(crate) variables: Vec<Variable>,
+}
+
+impl Model for Plan {
+    ghost use Rattle.std.specs.Prelude.{◌≤◌, length, map};
+    ghost use Rattle.mp_pattern.specs.Plan as plain;
+    ghost use Rattle.mp_pattern.specs.PlanCode.{coded_plan};
+
+    ghost Value = { plain.Plan };
+
+    ghost coded = { coded_plan };
+
+    ghost use Rattle.mp_pattern.specs.PlanView.{node, variable};
+
+    ghost view = { λ p. record { nodes = map node p.nodes.items; variables = map variable p.variables.items } };
+
+    ghost invariant = { λ p. (length p.nodes.items ≤ 64) × (length p.variables.items ≤ 32) };
+}
+
+// What a reader is shown of a label.
+fn show(own: &Label) -> PlanNode<'_>
+    ensures { shown_label result ≡ label own.now }
+{
+    match own {
+        Label::Sym(name) => PlanNode::Sym(name),
+        Label::App(op) => PlanNode::App(*op),
+        Label::Wild(shape, variable) => PlanNode::Wild(shape, *variable),
+    }
+}
+
+// The variable has this name.
+fn has_name(variable: &Variable, name: &[u8]) -> bool
+    ensures { result ≡ same_name name.now variable.now.name }
+{
+    name == variable.name.bytes()
+}
+
+// The place of the variable of that name, from 0.
+fn index_of_name(variables: &[Variable], name: &[u8]) -> Option<usize>
+    ensures index { result ≡ position (λ v. same_name name.now v.name) variables.now }
+    ensures within { IfSome result (λ i. i < length variables.now) }
+{
+    variables
+        .iter()
+        .position(|variable| has_name(variable, name))
+}
+
+impl Plan {
+    /// How many nodes the pattern has, which are at most 64.
+    pub fn len(&self) -> u32
+        ensures count { result ≡ length self.now.nodes }
+        ensures most { result ≤ 64 }
+    {
+        self.nodes.len() as u32
+    }
+
+    /// What stands at the node of that number. It is None exactly where no node has the number.
+    pub fn node(&self, node: u32) -> Option<PlanNode<'_>>
+        ensures { option_map shown_label result ≡ option_map (λ n. n.label) (slice_get self.now.nodes node) }
+    {
+        match self.nodes.get(node as usize) {
+            None => None,
+            Some(own) => Some(show(&own.label)),
+        }
+    }
+
+    /// The number of the node after the subpattern at the node of that number; of the last subpatterns it is the number of nodes. It
+    /// is None exactly where no node has the number.
+    pub fn end(&self, node: u32) -> Option<u32>
+        ensures { result ≡ option_map (λ n. n.end) (slice_get self.now.nodes node) }
+    {
+        match self.nodes.get(node as usize) {
+            None => None,
+            Some(own) => Some(own.end),
+        }
+    }
+
+    /// The number of the node whose argument the node of that number is. It is None exactly where no node has the number, and for the
+    /// root, which has no parent.
+    pub fn parent(&self, node: u32) -> Option<u32>
+        ensures { result ≡ option_and_then (λ n. n.parent) (slice_get self.now.nodes node) }
+    {
+        match self.nodes.get(node as usize) {
+            None => None,
+            Some(own) => own.parent,
+        }
+    }
+
+    /// How many variables the pattern has, which are at most 32.
+    pub fn vars(&self) -> u32
+        ensures count { result ≡ length self.now.variables }
+        ensures most { result ≤ 32 }
+    {
+        self.variables.len() as u32
+    }
+
+    /// The name of the variable of that number. It is None exactly where no variable has the number.
+    pub fn var_name(&self, var: u32) -> Option<&Name>
+        ensures { option_map (λ n. n.now) result ≡ option_map (λ v. v.name) (slice_get self.now.variables var) }
+    {
+        match self.variables.get(var as usize) {
+            None => None,
+            Some(variable) => Some(&variable.name),
+        }
+    }
+
+    /// The form of the variable of that number (`variable_form` of `specs/Variables`). It is None exactly where no variable has the
+    /// number.
+    pub fn var_form(&self, var: u32) -> Option<Form>
+        ensures { option_map form result ≡ option_map (λ v. v.form) (slice_get self.now.variables var) }
+    {
+        match self.variables.get(var as usize) {
+            None => None,
+            Some(variable) => Some(variable.form),
+        }
+    }
+
+    /// The number of the variable of that name. It is None exactly where no variable has the name. It takes no memory.
+    pub fn find_var(&self, name: &[u8]) -> Option<u32>
+        ensures { result ≡ position (λ v. same_name name.now v.name) self.now.variables }
+    {
+        match index_of_name(&self.variables, name) {
+            None => None,
+            Some(index) => Some(index as u32),
+        }
+    }
+}

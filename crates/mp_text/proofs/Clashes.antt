@@ -1,0 +1,210 @@
+-- Wildcards of a pattern of which none differs from an earlier one of its name, in syntax trees and in patterns.
+use Rattle.std.proofs.Common.{◌≡◌, ℕ, Bool, true, false, ◌&&◌, ◌||◌, not, eqb, List, [], ◌∷◌, ◌++◌, map, Option, Some, None, unwrap_or, refl, sym, ap, subst, ◌∙◌, eqb-true, append_assoc, append-nil}
+use Rattle.std.specs.List.{list_any, AllByRecursion}
+use Rattle.std.specs.Str.{bytes_eq}
+use Rattle.std.proofs.lemmas.List.{map-append}
+use Rattle.std.proofs.lemmas.Slice.Eq.{bytes_eq-Decides}
+use Rattle.mp_term.specs.Signature.{Sig}
+use Rattle.mp_pattern.specs.PatternTree as pattern
+use Rattle.mp_pattern.specs.PatternTree.{Pattern, symbol_pattern, app_pattern, wild_pattern, Patterns, no_patterns, more_patterns}
+use Rattle.mp_pattern.specs.Subpatterns.{subpatterns, all_subpatterns}
+use Rattle.mp_pattern.specs.Clash.{first_clash}
+use Rattle.mp_pattern.proofs.ClashLaws.{Agree, AgreesWith, InOrder, InOrder-first_clash_after, first_clash_after-InOrder}
+use Rattle.mp_syntax.specs.Syntax.{Wildcard, Tree, Symbol, Apply, InfixOf, Wild, Trees, no_trees, more_trees, tree_list}
+use Rattle.mp_text.specs.declared.fault.TextFault.{TextFault}
+use Rattle.mp_text.specs.Names.{is_same_variable, wildcards, all_wildcards}
+use Rattle.mp_text.specs.Build.{op_number, sign_number, head_number, kind_shape, shape_of, variable_of, pattern_of, patterns_of}
+use Rattle.mp_text.specs.Checks.{fault_if, differs, head_faults, arity_faults, sign_faults, allows_patterns, op_named, op_signed, kind_unknown, pattern_faults, pattern_operand_faults, all_pattern_faults}
+use Rattle.mp_text.proofs.Words.{both, first-of, second-of}
+use Rattle.mp_text.proofs.Faultless.{nil-append, nil-fault_if, not-false}
+
+-- ---- wildcards of syntax trees
+
+-- no wildcard differs from an earlier one of its name, where `before` stand in front of all
+abbrev pub Apart : List Wildcard → List Wildcard → Type 0
+Apart before [] = Unit {0}
+Apart before (w ∷ ws) = (list_any (differs w) before ≡ false) × Apart (before ++ w ∷ []) ws
+
+pub Apart-append : (before a b : List Wildcard) → Apart before a → Apart (before ++ a) b → Apart before (a ++ b)
+Apart-append before [] b h k = subst (λ l. Apart l b) (append-nil before) k
+Apart-append before (w ∷ a) b h k = (h.0, Apart-append (before ++ w ∷ []) a b h.1 (subst (λ l. Apart l b) (sym (append_assoc before (w ∷ []) a)) k))
+
+pub Apart-split : (before a b : List Wildcard) → Apart before (a ++ b) → Apart before a × Apart (before ++ a) b
+Apart-split before [] b h = (tt, subst (λ l. Apart l b) (sym (append-nil before)) h)
+Apart-split before (w ∷ a) b h =
+    let r = Apart-split (before ++ w ∷ []) a b h.1 in
+    ((h.0, r.0), subst (λ l. Apart l b) (append_assoc before (w ∷ []) a) r.1)
+
+-- operands without faults, and a sign without faults, in a pattern
+pub nil-pattern_operands : (sig : Sig) (before : List Wildcard) (at_sign : List TextFault) (ps : Trees) → pattern_operand_faults sig before at_sign ps ≡ [] → (at_sign ≡ []) × (all_pattern_faults sig before ps ≡ [])
+nil-pattern_operands sig before at_sign no_trees h = (h, refl)
+nil-pattern_operands sig before at_sign (more_trees p ps) h =
+    let q = nil-append (pattern_faults sig before p) (at_sign ++ all_pattern_faults sig (before ++ wildcards p) ps) h in
+    let r = nil-append at_sign (all_pattern_faults sig (before ++ wildcards p) ps) q.1 in
+    (r.0, ap (λ l. l ++ all_pattern_faults sig (before ++ wildcards p) ps) q.0 ∙ r.1)
+
+module _ (sig : Sig) where
+  mutual
+    -- the wildcards of a pattern without faults
+    pub Apart-pattern_faults : (before : List Wildcard) (p : Tree) → pattern_faults sig before p ≡ [] → Apart before (wildcards p)
+    Apart-pattern_faults before (Symbol w) h = tt
+    Apart-pattern_faults before (Apply f args) h = Apart-all_pattern_faults before args (nil-append (head_faults (allows_patterns (tree_list args)) f (op_named sig f.text)) (all_pattern_faults sig before args) h).1
+    Apart-pattern_faults before (InfixOf opened sign operands) h =
+        let at_sign = sign_faults sign (op_signed sig sign.text) in
+        let p = nil-append (arity_faults (allows_patterns (tree_list operands)) opened (op_signed sig sign.text)) (pattern_operand_faults sig before at_sign operands) h in
+        Apart-all_pattern_faults before operands (nil-pattern_operands sig before at_sign operands p.1).1
+    Apart-pattern_faults before (Wild w) h =
+        (nil-fault_if (list_any (differs w) before) _ w.place (nil-append (fault_if (kind_unknown sig w.kind) _ w.place) (fault_if (list_any (differs w) before) _ w.place) h).1, tt)
+
+    Apart-all_pattern_faults : (before : List Wildcard) (ps : Trees) → all_pattern_faults sig before ps ≡ [] → Apart before (all_wildcards ps)
+    Apart-all_pattern_faults before no_trees h = tt
+    Apart-all_pattern_faults before (more_trees p ps) h =
+        let q = nil-append (pattern_faults sig before p) (all_pattern_faults sig (before ++ wildcards p) ps) h in
+        Apart-append before (wildcards p) (all_wildcards ps) (Apart-pattern_faults before p q.0) (Apart-all_pattern_faults (before ++ wildcards p) ps q.1)
+
+-- ---- the wildcards among patterns
+
+-- the wildcards of a list
+abbrev pub wilds : List Pattern → List Pattern
+wilds [] = []
+wilds (symbol_pattern n ∷ ps) = wilds ps
+wilds (app_pattern f qs ∷ ps) = wilds ps
+wilds (wild_pattern w x ∷ ps) = wild_pattern w x ∷ wilds ps
+
+pub wilds-append : (ps qs : List Pattern) → wilds (ps ++ qs) ≡ wilds ps ++ wilds qs
+wilds-append [] qs = refl
+wilds-append (symbol_pattern n ∷ ps) qs = wilds-append ps qs
+wilds-append (app_pattern f rs ∷ ps) qs = wilds-append ps qs
+wilds-append (wild_pattern w x ∷ ps) qs = ap (λ l. wild_pattern w x ∷ l) (wilds-append ps qs)
+
+-- a pattern agrees with those of a list where it does with the wildcards
+agrees-wilds : (p : Pattern) (qs : List Pattern) → AgreesWith p (wilds qs) → AgreesWith p qs
+agrees-wilds p [] h = tt
+agrees-wilds p (symbol_pattern n ∷ qs) h = (tt, agrees-wilds p qs h)
+agrees-wilds p (app_pattern f rs ∷ qs) h = (tt, agrees-wilds p qs h)
+agrees-wilds p (wild_pattern w x ∷ qs) h = (h.0, agrees-wilds p qs h.1)
+
+wilds-agree : (p : Pattern) (qs : List Pattern) → AgreesWith p qs → AgreesWith p (wilds qs)
+wilds-agree p [] h = tt
+wilds-agree p (symbol_pattern n ∷ qs) h = wilds-agree p qs h.1
+wilds-agree p (app_pattern f rs ∷ qs) h = wilds-agree p qs h.1
+wilds-agree p (wild_pattern w x ∷ qs) h = (h.0, wilds-agree p qs h.1)
+
+-- a symbol or an application agrees with every pattern
+agree-symbol : (p : Pattern) (n : List ℕ) → Agree p (symbol_pattern n)
+agree-symbol (symbol_pattern m) n = tt
+agree-symbol (app_pattern f ps) n = tt
+agree-symbol (wild_pattern w None) n = tt
+agree-symbol (wild_pattern w (Some x)) n = tt
+
+agree-application : (p : Pattern) (f : ℕ) (ps : Patterns) → Agree p (app_pattern f ps)
+agree-application (symbol_pattern m) f ps = tt
+agree-application (app_pattern g qs) f ps = tt
+agree-application (wild_pattern w None) f ps = tt
+agree-application (wild_pattern w (Some x)) f ps = tt
+
+each-agrees : (p : Pattern) → ((q : Pattern) → Agree q p) → (qs : List Pattern) → AgreesWith p qs
+each-agrees p each [] = tt
+each-agrees p each (q ∷ qs) = (each q, each-agrees p each qs)
+
+wilds-push : (before : List Pattern) (p : Pattern) → wilds (p ∷ []) ≡ [] → wilds (before ++ p ∷ []) ≡ wilds before
+wilds-push before p e = wilds-append before (p ∷ []) ∙ ap (λ l. wilds before ++ l) e ∙ append-nil (wilds before)
+
+-- patterns are in order where their wildcards are
+InOrder-wilds : (before ps : List Pattern) → InOrder (wilds before) (wilds ps) → InOrder before ps
+InOrder-wilds before [] h = tt
+InOrder-wilds before (symbol_pattern n ∷ ps) h =
+    (each-agrees (symbol_pattern n) (λ q. agree-symbol q n) before, InOrder-wilds (before ++ symbol_pattern n ∷ []) ps (subst (λ l. InOrder l (wilds ps)) (sym (wilds-push before (symbol_pattern n) refl)) h))
+InOrder-wilds before (app_pattern f qs ∷ ps) h =
+    (each-agrees (app_pattern f qs) (λ q. agree-application q f qs) before, InOrder-wilds (before ++ app_pattern f qs ∷ []) ps (subst (λ l. InOrder l (wilds ps)) (sym (wilds-push before (app_pattern f qs) refl)) h))
+InOrder-wilds before (wild_pattern w x ∷ ps) h =
+    (agrees-wilds (wild_pattern w x) before h.0, InOrder-wilds (before ++ wild_pattern w x ∷ []) ps (subst (λ l. InOrder l (wilds ps)) (sym (wilds-append before (wild_pattern w x ∷ []))) h.1))
+
+wilds-InOrder : (before ps : List Pattern) → InOrder before ps → InOrder (wilds before) (wilds ps)
+wilds-InOrder before [] h = tt
+wilds-InOrder before (symbol_pattern n ∷ ps) h = subst (λ l. InOrder l (wilds ps)) (wilds-push before (symbol_pattern n) refl) (wilds-InOrder (before ++ symbol_pattern n ∷ []) ps h.1)
+wilds-InOrder before (app_pattern f qs ∷ ps) h = subst (λ l. InOrder l (wilds ps)) (wilds-push before (app_pattern f qs) refl) (wilds-InOrder (before ++ app_pattern f qs ∷ []) ps h.1)
+wilds-InOrder before (wild_pattern w x ∷ ps) h =
+    (wilds-agree (wild_pattern w x) before h.0, subst (λ l. InOrder l (wilds ps)) (wilds-append before (wild_pattern w x ∷ [])) (wilds-InOrder (before ++ wild_pattern w x ∷ []) ps h.1))
+
+-- ---- a pattern that is read
+
+module _ (sig : Sig) where
+  -- the pattern of a wildcard
+  abbrev pub wild_of : Wildcard → Pattern
+  wild_of w = wild_pattern (shape_of sig w) (variable_of w.name)
+
+  mutual
+    -- its wildcards are those of its syntax tree
+    pub wilds-pattern_of : (t : Tree) → wilds (subpatterns (pattern_of sig t)) ≡ map wild_of (wildcards t)
+    wilds-pattern_of (Symbol w) = refl
+    wilds-pattern_of (Apply f args) = wilds-patterns_of args
+    wilds-pattern_of (InfixOf opened sign operands) = wilds-patterns_of operands
+    wilds-pattern_of (Wild w) = refl
+
+    wilds-patterns_of : (ts : Trees) → wilds (all_subpatterns (patterns_of sig ts)) ≡ map wild_of (all_wildcards ts)
+    wilds-patterns_of no_trees = refl
+    wilds-patterns_of (more_trees t ts) =
+        wilds-append (subpatterns (pattern_of sig t)) (all_subpatterns (patterns_of sig ts)) ∙ (λ i. wilds-pattern_of t i ++ wilds-patterns_of ts i) ∙ sym (map-append wild_of (wildcards t) (all_wildcards ts))
+
+  -- wildcards that don't differ agree
+  agree-differs : (v w : Wildcard) → differs w v ≡ false → Agree (wild_of v) (wild_of w)
+  agree-differs v w h = go v.name w.name h
+    where
+      same : (b : Bool) → b ≡ true → (b && not (eqb v.marks w.marks && bytes_eq v.kind w.kind)) ≡ false → shape_of sig v ≡ shape_of sig w
+      same true e h =
+          let k = not-false (eqb v.marks w.marks && bytes_eq v.kind w.kind) h in
+          let marks : v.marks ≡ w.marks = eqb-true v.marks w.marks (first-of (eqb v.marks w.marks) (bytes_eq v.kind w.kind) k) in
+          let kinds : v.kind ≡ w.kind = (bytes_eq-Decides v.kind w.kind).0 (second-of (eqb v.marks w.marks) (bytes_eq v.kind w.kind) k) in
+          λ i. kind_shape sig (kinds i) (marks i)
+      same false e h = cc
+
+      go : (x y : List ℕ) → (is_same_variable y x && not (eqb v.marks w.marks && bytes_eq v.kind w.kind)) ≡ false → Agree (wild_pattern (shape_of sig v) (variable_of x)) (wild_pattern (shape_of sig w) (variable_of y))
+      go [] [] h = tt
+      go [] (b ∷ y) h = tt
+      go (a ∷ x) [] h = tt
+      go (a ∷ x) (b ∷ y) h = λ e. same (bytes_eq (b ∷ y) (a ∷ x)) ((bytes_eq-Decides (b ∷ y) (a ∷ x)).1 (sym e)) h
+
+  agrees-none : (w : Wildcard) (before : List Wildcard) → list_any (differs w) before ≡ false → AgreesWith (wild_of w) (map wild_of before)
+  agrees-none w [] h = tt
+  agrees-none w (v ∷ before) h = go (differs w v) refl h (agrees-none w before)
+    where
+      go : (b : Bool) → differs w v ≡ b → (b || list_any (differs w) before) ≡ false → (list_any (differs w) before ≡ false → AgreesWith (wild_of w) (map wild_of before)) → AgreesWith (wild_of w) (map wild_of (v ∷ before))
+      go true e h ih = cc
+      go false e h ih = (agree-differs v w e, ih h)
+
+  InOrder-Apart : (before ws : List Wildcard) → Apart before ws → InOrder (map wild_of before) (map wild_of ws)
+  InOrder-Apart before [] h = tt
+  InOrder-Apart before (w ∷ ws) h = (agrees-none w before h.0, subst (λ l. InOrder l (map wild_of ws)) (map-append wild_of before (w ∷ [])) (InOrder-Apart (before ++ w ∷ []) ws h.1))
+
+  -- a pattern without faults has no clash
+  pub first_clash-pattern_of : (p : Tree) → pattern_faults sig [] p ≡ [] → first_clash (pattern_of sig p) ≡ None
+  first_clash-pattern_of p h =
+      first_clash_after-InOrder [] (subpatterns (pattern_of sig p))
+      (InOrder-wilds [] (subpatterns (pattern_of sig p)) (subst (InOrder []) (sym (wilds-pattern_of p)) (InOrder-Apart [] (wildcards p) (Apart-pattern_faults sig [] p h))))
+
+-- ---- a pattern as it is spelled
+
+-- wildcards as they are spelled, where those of one name and one shape are spelled as one
+module _ (mark : Pattern → Wildcard)
+    (apart : (v w : pattern.Wildcard) (x y : Option (List ℕ)) → Agree (wild_pattern v x) (wild_pattern w y) → differs (mark (wild_pattern w y)) (mark (wild_pattern v x)) ≡ false)
+  where
+    none-agrees : (w : pattern.Wildcard) (y : Option (List ℕ)) (qs : List Pattern) → AgreesWith (wild_pattern w y) (wilds qs) → list_any (differs (mark (wild_pattern w y))) (map mark (wilds qs)) ≡ false
+    none-agrees w y [] h = refl
+    none-agrees w y (symbol_pattern n ∷ qs) h = none-agrees w y qs h
+    none-agrees w y (app_pattern f rs ∷ qs) h = none-agrees w y qs h
+    none-agrees w y (wild_pattern v x ∷ qs) h = ap (λ b. b || list_any (differs (mark (wild_pattern w y))) (map mark (wilds qs))) (apart v w x y h.0) ∙ none-agrees w y qs h.1
+
+    Apart-wilds : (before ps : List Pattern) → InOrder (wilds before) (wilds ps) → Apart (map mark (wilds before)) (map mark (wilds ps))
+    Apart-wilds before [] h = tt
+    Apart-wilds before (symbol_pattern n ∷ ps) h = Apart-wilds before ps h
+    Apart-wilds before (app_pattern f qs ∷ ps) h = Apart-wilds before ps h
+    Apart-wilds before (wild_pattern w x ∷ ps) h =
+        let more = wilds-append before (wild_pattern w x ∷ []) in (
+          none-agrees w x before h.0,
+          subst (λ l. Apart l (map mark (wilds ps))) (ap (map mark) more ∙ map-append mark (wilds before) (wild_pattern w x ∷ [])) (Apart-wilds (before ++ wild_pattern w x ∷ []) ps (subst (λ l. InOrder l (wilds ps)) (sym more) h.1)),
+        )
+
+    -- the wildcards of a pattern without clashes
+    pub Apart-first_clash : (p : Pattern) → first_clash p ≡ None → Apart [] (map mark (wilds (subpatterns p)))
+    Apart-first_clash p h = Apart-wilds [] (subpatterns p) (wilds-InOrder [] (subpatterns p) (InOrder-first_clash_after [] (subpatterns p) h))
