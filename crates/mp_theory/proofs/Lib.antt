@@ -22,3 +22,4 @@ pub mod Ground
 pub mod Instances
 pub mod AllList
 pub mod OneTable
+pub mod ValueSizes

@@ -297,6 +297,9 @@ pub found-itself : (s : Subst) → Distinct (names s) → AllByRecursion (IsFoun
 found-itself [] h = tt
 found-itself (b ∷ s) h = (rw (same_name-itself b.name) refl, found-behind b s s h.0 (found-itself s h.1))
 
+pub found-IsSubstOf : (sig : Sig) (p : Pattern) (s : Subst) → IsSubstOf sig p s → AllByRecursion (IsFound s) s
+found-IsSubstOf sig p s h = found-itself s (subst Distinct (sym h.names) (distinct-firsts [] (map (λ u. u.name) (uses None p)) tt))
+
 -- so they agree with the substitution and have its forms
 extends-from_found : (s r : Subst) → AllByRecursion (IsFound s) r → Extends r s
 extends-from_found s [] h = tt
