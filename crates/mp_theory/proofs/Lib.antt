@@ -23,3 +23,4 @@ pub mod Instances
 pub mod AllList
 pub mod OneTable
 pub mod ValueSizes
+pub mod DistinctItems

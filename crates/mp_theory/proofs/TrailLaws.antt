@@ -35,7 +35,7 @@ filter_map-flat h f [] = refl
 filter_map-flat h f (x ∷ xs) = filter_map-append h (f x) (flat_map f xs) ∙ ap (λ ys. filter_map h (f x) ++ ys) (filter_map-flat h f xs)
 
 -- what holds of each item that `filter_map` keeps
-all-filter_map : {X Y : Type 0} (P : Y → Type 0) (h : X → Option Y) (xs : List X) → ((x : X) (y : Y) → In x xs → h x ≡ Some y → P y) → AllByRecursion P (filter_map h xs)
+pub all-filter_map : {X Y : Type 0} (P : Y → Type 0) (h : X → Option Y) (xs : List X) → ((x : X) (y : Y) → In x xs → h x ≡ Some y → P y) → AllByRecursion P (filter_map h xs)
 all-filter_map P h [] k = tt
 all-filter_map P h (x ∷ xs) k =
     elim (h x) as (λ o. h x ≡ o → AllByRecursion P (cons_option o (filter_map h xs))) [
@@ -131,13 +131,24 @@ module _ (sig : Sig) where
       filtered h [] = refl
       filtered h (T ∷ Ts) = ap (cons_option (option_map (item T) (option_and_then (λ s. if meets sig r.condition s then Some s else None) (h T)))) (filtered h Ts) ∙ kept T (h T) (filter_map (λ T. option_map (item T) (h T)) Ts)
 
-  -- each derivation is a table that fits, with its substitution
+  -- the item of a table, if its takes are solved: the table fits with its substitution
+  abbrev pub table_item : Pattern → Tree → Table → Option Item
+  table_item p t T = option_map (item T) (solve sig [] (takes (settle (start p t)) T))
+
+  pub table_item-fits : (p : Pattern) (t : Tree) (T : Table) (i : Item) → IsSound sig p → IsNormal sig t → In T (tables sig p t) → table_item p t T ≡ Some i → (T ≡ i.0) × Fits sig p t i.1 T
+  table_item-fits p t T i d n m e =
+      let a = mapped (item T) (solve sig [] (takes (settle (start p t)) T)) i e in
+      (ap (λ j. j.0) a.2, subst (λ j. Fits sig p t j.1 T) a.2 (solves-fits sig p t a.0 T d n ((tables-exact sig p t T).0 m) a.1))
+
+  -- the derivations from the start are these items
+  pub derivations-start : (p : Pattern) (t : Tree) → derivations sig (pattern_nodes p) (settle (start p t)) [] [] ≡ filter_map (table_item p t) (tables sig p t)
+  derivations-start p t = derivations-is (pattern_nodes p) (settle (start p t)) [] []
+
+  -- so each of them is a table that fits, with its substitution
   pub derivations-fit : (p : Pattern) (t : Tree) → IsSound sig p → IsNormal sig t → AllByRecursion (λ i. Fits sig p t i.1 i.0) (derivations sig (pattern_nodes p) (settle (start p t)) [] [])
   derivations-fit p t d n =
-      subst (AllByRecursion (λ i. Fits sig p t i.1 i.0)) (sym (derivations-is (pattern_nodes p) (settle (start p t)) [] []))
-      (all-filter_map (λ i. Fits sig p t i.1 i.0) (λ W. option_map (item W) (solve sig [] (takes (settle (start p t)) W))) (tables sig p t) (λ W i m e.
-      let a = mapped (item W) (solve sig [] (takes (settle (start p t)) W)) i e in
-      subst (λ j. Fits sig p t j.1 j.0) a.2 (solves-fits sig p t a.0 W d n ((tables-exact sig p t W).0 m) a.1)))
+      subst (AllByRecursion (λ i. Fits sig p t i.1 i.0)) (sym (derivations-start p t))
+      (all-filter_map (λ i. Fits sig p t i.1 i.0) (table_item p t) (tables sig p t) (λ T i m e. let k = table_item-fits p t T i d n m e in subst (Fits sig p t i.1) k.0 k.1))
 
   -- a choice is an entry that is allowed
   pub choice-allowed : (n : Next) (e : Entry) → In e (choices sig n) ↔ (allows sig n e ≡ true)
