@@ -15,14 +15,14 @@ use mp_subst::Subst;
 use mp_term::{Term, node_count};
 
 // The number of an amount.
-pub(crate) fn amount_of(amount: &Amount, subst: &Subst) -> u64
-    requires { AllByRecursion (IsOperandReady (subst_of subst.now)) (amount_operands (amount amount.now)) }
-    ensures { result ≡ amount_of (subst_of subst.now) (amount amount.now) }
+pub(crate) fn amount_of(m: &Amount, subst: &Subst) -> u64
+    requires { AllByRecursion (IsOperandReady (subst_of subst.now)) (amount_operands (amount m.now)) }
+    ensures { result ≡ amount_of (subst_of subst.now) (amount m.now) }
 {
-    match amount {
+    match m {
         Amount::Fixed(number) => u64::from(*number),
-        Amount::Count(operand) => list_of(operand, subst).len() as u64,
-        Amount::Size(operand) => total_nodes(list_of(operand, subst)),
+        Amount::Count(a) => list_of(a, subst).len() as u64,
+        Amount::Size(a) => total_nodes(list_of(a, subst)),
     }
 }
 
@@ -38,10 +38,10 @@ pub(crate) fn total_nodes(terms: &[Term]) -> u64
 }
 
 // Whether the numbers compare so.
-pub(crate) fn compares(m: u64, sense: Sense, n: u64) -> bool
-    ensures { result ≡ compares (sense sense) m n }
+pub(crate) fn compares(m: u64, by: Sense, n: u64) -> bool
+    ensures { result ≡ compares (sense by) m n }
 {
-    match sense {
+    match by {
         Sense::Lt => m < n,
         Sense::Le => m <= n,
         Sense::Gt => m > n,

@@ -12,10 +12,10 @@ use mp_term::Term;
 use std::slice;
 
 // The terms of the operand: none where it is a variable without a value.
-pub(crate) fn list_of<'a>(operand: &'a Operand, subst: &'a Subst) -> &'a [Term]
-    ensures { map tree result.now ≡ list_of (subst_of subst.now) (operand operand.now) }
+pub(crate) fn list_of<'a>(a: &'a Operand, subst: &'a Subst) -> &'a [Term]
+    ensures { map tree result.now ≡ list_of (subst_of subst.now) (operand a.now) }
 {
-    match operand {
+    match a {
         Operand::Ground(term) => slice::from_ref(term),
         Operand::Var(name) => match subst.value_of(name) {
             None => &[],
@@ -25,10 +25,10 @@ pub(crate) fn list_of<'a>(operand: &'a Operand, subst: &'a Subst) -> &'a [Term]
 }
 
 // The term of an operand that is one term.
-pub(crate) fn single<'a>(operand: &'a Operand, subst: &'a Subst) -> Option<&'a Term>
-    ensures { option_map (λ t. tree t.now) result ≡ single (value_at (subst_of subst.now) (operand operand.now)) }
+pub(crate) fn single<'a>(a: &'a Operand, subst: &'a Subst) -> Option<&'a Term>
+    ensures { option_map (λ t. tree t.now) result ≡ single (value_at (subst_of subst.now) (operand a.now)) }
 {
-    match operand {
+    match a {
         Operand::Ground(term) => Some(term),
         Operand::Var(name) => match subst.value_of(name) {
             Some(Value::One(term)) => Some(term),
@@ -38,10 +38,10 @@ pub(crate) fn single<'a>(operand: &'a Operand, subst: &'a Subst) -> Option<&'a T
 }
 
 // Whether the operand is a multiset.
-pub(crate) fn is_bag(operand: &Operand, subst: &Subst) -> bool
-    ensures { result ≡ is_bag (value_at (subst_of subst.now) (operand operand.now)) }
+pub(crate) fn is_bag(a: &Operand, subst: &Subst) -> bool
+    ensures { result ≡ is_bag (value_at (subst_of subst.now) (operand a.now)) }
 {
-    match operand {
+    match a {
         Operand::Ground(_) => false,
         Operand::Var(name) => matches!(subst.value_of(name), Some(Value::Bag(_))),
     }

@@ -196,7 +196,11 @@ fn has(alloc: Global, size: bool, a: &str, number: u32, subst: &Subst) -> Result
     ensures { IfOk result (λ c. IsReady (subst_of subst.now) (cond_tree c)) }
 {
     let a = operand(alloc, a, subst)?;
-    let amount = if size { Amount::Size(a) } else { Amount::Count(a) };
+    let amount = if size {
+        Amount::Size(a)
+    } else {
+        Amount::Count(a)
+    };
     Ok(Cond::Amounts(amount, Sense::Eq, Amount::Fixed(number)))
 }
 

@@ -32,7 +32,7 @@ impl Model for Bindings {
     ghost coded = { coded_list coded_binding };
 
     ghost use Rattle.mp_pattern.specs.Value as plain;
-ghost use Rattle.mp_subst.specs.View.{binding_of, value_of, subst_of};
+    ghost use Rattle.mp_subst.specs.View.{binding_of, value_of, subst_of};
 
     ghost view = { λ bs. map binding_of bs.items.items };
 }
