@@ -18,11 +18,7 @@ is_known-item : (is : List Item) (i : Item) → is_known same_item is i ≡ is_k
 is_known-item [] i = refl
 is_known-item (j ∷ is) i = ap (λ b. same_subst j.1 i.1 || b) (is_known-item is i)
 
--- what one item adds: it fails the test, or is known, or is new
-pub collected-failed : (b : Bool) (test : Item → Bool) (is : List Item) (i : Item) → test i ≡ false → is ≡ collected b test is (i ∷ [])
-collected-failed true test is i e = rw e (sym (append-nil is))
-collected-failed false test is i e = rw e refl
-
+-- what one item adds that passes the test: it is known, or it is new
 pub collected-known : (test : Item → Bool) (is : List Item) (i : Item) → test i ≡ true → is_known same_subst (item_substs is) i.1 ≡ true → is ≡ collected false test is (i ∷ [])
 collected-known test is i e k = rw e (sym (ap (λ b. if b then is else is ++ (i ∷ [])) (is_known-item is i ∙ k)))
 

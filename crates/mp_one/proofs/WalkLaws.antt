@@ -1,5 +1,5 @@
 -- How many entries are still to come, and the derivations that are.
-use Rattle.std.proofs.Common.{◌≡◌, ℕ, zero, suc, ◌+◌, List, [], ◌∷◌, ◌++◌, map, length, drop, get_or, true, false, refl, ap, sym, ◌∙◌, subst, ◌-◌, ◌<◌, ◌≤◌, zero-add, eqb-true, eq-eqb, length-drop, arith}
+use Rattle.std.proofs.Common.{◌≡◌, ℕ, zero, suc, ◌+◌, List, [], ◌∷◌, ◌++◌, map, length, drop, get_or, true, false, refl, ap, sym, ◌∙◌, subst, ◌<◌, ◌≤◌, zero-add, arith}
 use Rattle.std.specs.Prelude.{Bool, flat_map, filter, if◌then◌else◌}
 use Rattle.std.specs.List.{AllByRecursion}
 use Rattle.std.proofs.Math.ListN.{drop_of_length-le}

@@ -1,7 +1,6 @@
 -- What a search makes of what it finds.
 use Rattle.std.specs.Prelude.{Bool, true, false, List, ◌++◌, filter, Option, Some, None, option_map, ⊤}
 use Rattle.std.specs.List.{AllByRecursion}
-use Rattle.mp_term.specs.Signature.{Sig}
 use Rattle.mp_pattern.specs.CondTree.{Cond}
 use Rattle.mp_pattern.specs.CondView.{cond_tree}
 use Rattle.mp_pattern.specs.Value.{Subst}

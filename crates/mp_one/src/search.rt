@@ -135,7 +135,14 @@ fn search_from(
 {
     let root = Stack::Root;
     let start = Path::Start;
-    search(alloc, query, &Stack::Within(frame, &root), &[], &start, found)
+    search(
+        alloc,
+        query,
+        &Stack::Within(frame, &root),
+        &[],
+        &start,
+        found,
+    )
 }
 
 /// The one-list of a rule and a subject: the substitutions that the rule admits, each once, strictly ascending by least take table,

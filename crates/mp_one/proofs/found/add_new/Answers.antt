@@ -2,7 +2,7 @@ use Rattle.std.proofs.Common.{◌≡◌, Bool, true, false, [], ◌∷◌, ◌++
 use Rattle.mp_pattern.specs.Admission.{meets}
 use Rattle.mp_pattern.specs.Firsts.{is_known}
 use Rattle.mp_theory.specs.OneList.{Item, same_subst, item_substs}
-use Rattle.mp_one.specs.Found.{condition_of, added, collected}
+use Rattle.mp_one.specs.Found.{condition_of, collected}
 use Rattle.mp_one.specs.Path.{table_of}
 use Rattle.mp_one.specs.Trail.{trail_of}
 use Rattle.mp_one.proofs.FoundLaws.{collected-known, collected-new}
