@@ -4,3 +4,4 @@ pub mod Matchable
 pub mod MatchTexts
 pub mod Outcomes
 pub mod Runs
+pub mod ReadLimits

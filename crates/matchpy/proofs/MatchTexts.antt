@@ -9,7 +9,7 @@ use Rattle.mp_theory.specs.OneList.{one_list}
 use Rattle.mp_theory.proofs.OneListLaws.{one_list-is}
 use Rattle.mp_theory.proofs.Unique.{IsOneList-unique}
 use Rattle.mp_text.specs.File.{FileTree, Subject}
-use Rattle.matchpy.specs.Matches.{IsJoinedBy, IsMatchText, IsMatchable, IsMatchableFile, IsNormalSubject, IsRuleText, match_line, match_text, rule_text, subject_text}
+use Rattle.matchpy.specs.Matches.{IsJoinedBy, IsMatchText, IsMatchable, IsMatchableFile, IsMatchableSubject, IsRuleText, match_line, match_text, rule_text, subject_text}
 
 -- ---- texts of items
 
@@ -35,13 +35,13 @@ IsJoinedBy-unique P (x ∷ xs) d a b h k = h.2 ∙ ap₂ (λ (front rest : Text)
 
 -- ---- texts of rules and subjects
 
-module _ (sig : Sig) (subject : Subject) (normal : IsNormalSubject sig subject) where
+module _ (sig : Sig) (subject : Subject) (matchable : IsMatchableSubject sig subject) where
   rule_text-is : (rule : Rule) → IsMatchable sig rule → IsRuleText sig subject rule (rule_text sig subject rule)
-  rule_text-is rule m = record { matches = one_list sig rule subject.term; listed = one_list-is sig rule subject.term m.sound normal; lines = refl }
+  rule_text-is rule m = record { matches = one_list sig rule subject.term; listed = one_list-is sig rule subject.term m.sound matchable.normal; lines = refl }
 
   IsRuleText-unique : (rule : Rule) → IsDetermined (IsRuleText sig subject) rule
   IsRuleText-unique rule a b h k =
-      h.lines ∙ ap (flat_map (match_line sig subject rule)) (IsOneList-unique sig subject.term rule normal h.matches k.matches h.listed k.listed) ∙ sym k.lines
+      h.lines ∙ ap (flat_map (match_line sig subject rule)) (IsOneList-unique sig subject.term rule matchable.normal h.matches k.matches h.listed k.listed) ∙ sym k.lines
 
   subject_text-is : (rules : List Rule) → AllByRecursion (IsMatchable sig) rules → IsJoinedBy (IsRuleText sig subject) rules (subject_text sig rules subject)
   subject_text-is rules m = IsJoinedBy-flat_map (IsRuleText sig subject) (rule_text sig subject) rules (AllByRecursion-each rule_text-is rules m)
@@ -54,9 +54,9 @@ module _ (sig : Sig) (subject : Subject) (normal : IsNormalSubject sig subject) 
 pub match_text-is : (file : FileTree) → IsMatchableFile file → IsMatchText file (match_text file)
 match_text-is file m =
     IsJoinedBy-flat_map (λ subject. IsJoinedBy (IsRuleText file.sig subject) file.rules) (subject_text file.sig file.rules) file.subjects
-    (AllByRecursion-each (λ subject normal. subject_text-is file.sig subject normal file.rules m.rules) file.subjects m.subjects)
+    (AllByRecursion-each (λ subject matchable. subject_text-is file.sig subject matchable file.rules m.rules) file.subjects m.subjects)
 
 pub IsMatchText-unique : (file : FileTree) → IsMatchableFile file → (a b : Text) → IsMatchText file a → IsMatchText file b → a ≡ b
 IsMatchText-unique file m =
     IsJoinedBy-unique (λ subject. IsJoinedBy (IsRuleText file.sig subject) file.rules) file.subjects
-    (AllByRecursion-each (λ subject normal. IsSubjectText-unique file.sig subject normal file.rules) file.subjects m.subjects)
+    (AllByRecursion-each (λ subject matchable. IsSubjectText-unique file.sig subject matchable file.rules) file.subjects m.subjects)

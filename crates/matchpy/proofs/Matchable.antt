@@ -1,5 +1,5 @@
--- A file that is read can be matched: its subjects are normal, and its rules have no condition and no default that isn't normal.
-use Rattle.std.proofs.Common.{◌≡◌, ℕ, false, List, [], ◌∷◌, length, refl, sym, subst, arith}
+-- A file that is read can be matched: its rules and its subjects are within the limits, and its subjects and its defaults are normal.
+use Rattle.std.proofs.Common.{◌≡◌, ℕ, false, List, [], ◌∷◌, length, refl, arith}
 use Rattle.std.specs.Prelude.{Option, Some, None, nat_lt}
 use Rattle.std.proofs.lemmas.Bool.Decides.{nat_tests}
 use Rattle.std.specs.List.{AllByRecursion}
@@ -10,15 +10,14 @@ use Rattle.mp_pattern.specs.Size.{pattern_nodes}
 use Rattle.mp_pattern.specs.Variables.{variables}
 use Rattle.mp_pattern.specs.PlanFault.{plan_fault}
 use Rattle.mp_pattern.specs.Admission.{Rule}
-use Rattle.mp_syntax.specs.Syntax.{Statement, OpOf, KindOf, RuleOf, SubjectOf}
 use Rattle.mp_theory.specs.Sound.{AllEach, DefaultNormal, Each}
-use Rattle.mp_text.specs.Build.{rules_of, sig_of}
 use Rattle.mp_text.specs.File.{FileTree, Subject}
 use Rattle.mp_text.specs.Reading.{IsFileOf}
 use Rattle.mp_pattern.specs.Sound.{AllDefaultsAreNormal, DefaultIsNormal, DefaultsAreNormal}
 use Rattle.mp_text.specs.Sound.{IsSoundFile, IsSoundPattern, IsSoundTerm}
 use Rattle.mp_text.proofs.SoundLaws.{IsSoundFile-IsFileOf}
-use Rattle.matchpy.specs.Matches.{IsMatchable, IsMatchableFile, IsNormalSubject}
+use Rattle.matchpy.proofs.ReadLimits.{IsWithinLimits, IsFileOf-limits}
+use Rattle.matchpy.specs.Matches.{IsMatchable, IsMatchableFile, IsMatchableSubject}
 
 module _ (sig : Sig) where
   -- ---- defaults
@@ -50,32 +49,21 @@ module _ (sig : Sig) where
 
   -- ---- rules and subjects
 
-  abbrev IsUnconditional : Rule → Type 0
-  IsUnconditional r = r.condition ≡ None
-
-  rules_of-unconditional : (ss : List Statement) → AllByRecursion IsUnconditional (rules_of sig ss)
-  rules_of-unconditional [] = tt
-  rules_of-unconditional (OpOf name least flags sign ∷ ss) = rules_of-unconditional ss
-  rules_of-unconditional (KindOf name members ∷ ss) = rules_of-unconditional ss
-  rules_of-unconditional (RuleOf name p ∷ ss) = (refl, rules_of-unconditional ss)
-  rules_of-unconditional (SubjectOf name t ∷ ss) = rules_of-unconditional ss
-
-  IsMatchable-read : (rs : List Rule) → AllByRecursion (λ r. IsSoundPattern sig r.pattern) rs → AllByRecursion IsUnconditional rs → AllByRecursion (IsMatchable sig) rs
+  IsMatchable-read : (rs : List Rule) → AllByRecursion (λ r. IsSoundPattern sig r.pattern) rs → AllByRecursion IsWithinLimits rs → AllByRecursion (IsMatchable sig) rs
   IsMatchable-read [] h k = tt
-  IsMatchable-read (r ∷ rs) h k =
-      (record { sound = record { defaults = Each-read None r.pattern h.0.defaults }; planned = plan_fault-read r.pattern h.0; unconditional = k.0 }, IsMatchable-read rs h.1 k.1)
+  IsMatchable-read (r ∷ rs) h k = (
+    record { sound = record { defaults = Each-read None r.pattern h.0.defaults }; small = k.0.0; condition = k.0.1; planned = plan_fault-read r.pattern h.0 },
+    IsMatchable-read rs h.1 k.1,
+  )
 
-  IsNormalSubject-read : (ss : List Subject) → AllByRecursion (λ s. IsSoundTerm sig s.term) ss → AllByRecursion (IsNormalSubject sig) ss
-  IsNormalSubject-read [] h = tt
-  IsNormalSubject-read (s ∷ ss) h = (h.0.normal, IsNormalSubject-read ss h.1)
-
-unconditional : (bytes : Text) (file : FileTree) → IsFileOf bytes file → AllByRecursion (λ r. r.condition ≡ None) file.rules
-unconditional bytes file h = subst (λ (f : FileTree). AllByRecursion (λ r. r.condition ≡ None) f.rules) (sym h.file) (rules_of-unconditional (sig_of h.statements) h.statements)
+  IsMatchableSubject-read : (ss : List Subject) → AllByRecursion (λ s. IsSoundTerm sig s.term) ss → AllByRecursion (IsMatchableSubject sig) ss
+  IsMatchableSubject-read [] h = tt
+  IsMatchableSubject-read (s ∷ ss) h = (record { normal = h.0.normal; few = h.0.nodes }, IsMatchableSubject-read ss h.1)
 
 pub IsFileOf-matchable : (bytes : Text) (file : FileTree) → IsFileOf bytes file → IsMatchableFile file
 IsFileOf-matchable bytes file h =
     let sound : IsSoundFile file = IsSoundFile-IsFileOf bytes file h in
     record {
-      rules = IsMatchable-read file.sig file.rules sound.patterns (unconditional bytes file h);
-      subjects = IsNormalSubject-read file.sig file.subjects sound.terms;
+      rules = IsMatchable-read file.sig file.rules sound.patterns (IsFileOf-limits bytes file h);
+      subjects = IsMatchableSubject-read file.sig file.subjects sound.terms;
     }

@@ -1,6 +1,6 @@
 -- The text of items, part by part.
 use Rattle.std.proofs.Common.{◌≡◌, ℕ, suc, ◌+◌, ◌<◌, ◌≤◌, Bool, true, false, List, [], ◌∷◌, ◌++◌, length, map, drop, get_or, refl, sym, ap, ◌∙◌, subst, append_assoc, drop-cons, add-one, length-append, arith}
-use Rattle.std.specs.Prelude.{Option, None, Err, flat_map, ◌||◌, ◌==◌, not}
+use Rattle.std.specs.Prelude.{Option, Err, flat_map, ◌||◌, ◌==◌, not}
 use Rattle.std.proofs.lemmas.Bool.Decides.{nat_tests}
 use Rattle.mp_term.specs.Signature.{Sig}
 use Rattle.mp_pattern.specs.Admission.{Rule}

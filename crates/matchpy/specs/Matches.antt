@@ -1,10 +1,14 @@
 -- The text of the matches of a file: a line for each subject, rule and admitted substitution.
-use Rattle.std.specs.Prelude.{◌≡◌, Bool, true, false, List, [], ◌∷◌, ◌++◌, flat_map, None}
+use Rattle.std.specs.Prelude.{◌≡◌, ◌≤◌, Bool, true, false, List, [], ◌∷◌, ◌++◌, flat_map, None}
 use Rattle.std.specs.List.{AllByRecursion}
 use Rattle.mp_io.specs.Devices.{Text}
+use Rattle.mp_term.specs.Size.{node_count}
 use Rattle.mp_term.specs.Signature.{Sig}
 use Rattle.mp_term.specs.Normal.{IsNormal}
 use Rattle.mp_pattern.specs.Value.{Subst}
+use Rattle.mp_pattern.specs.Variables.{variables}
+use Rattle.mp_pattern.specs.Limits.{DefaultsAreSmall}
+use Rattle.mp_pattern.specs.Operands.{HasConditionOver}
 use Rattle.mp_pattern.specs.Admission.{Rule}
 use Rattle.mp_pattern.specs.Lists.{IsOneList}
 use Rattle.mp_pattern.specs.PlanFault.{plan_fault}
@@ -50,17 +54,19 @@ has_some (b ∷ text) = true
 
 -- ---- what is asked of a file that is matched
 
--- the rule's defaults are normal, its pattern has a plan, and it has no condition
+-- the rule's defaults are normal and small, its condition speaks of the pattern's variables and of small ground terms, and the pattern has a plan
 pub record IsMatchable (sig : Sig) (rule : Rule) : Type 0 where
   pub sound : IsSound sig rule.pattern
+  pub small : DefaultsAreSmall rule.pattern
+  pub condition : HasConditionOver (variables rule.pattern) rule.condition
   pub planned : plan_fault rule.pattern ≡ None
-  pub unconditional : rule.condition ≡ None
 
--- the subject's term is normal
-abbrev pub IsNormalSubject : Sig → Subject → Type 0
-IsNormalSubject sig subject = IsNormal sig subject.term
+-- the subject's term is normal, and has at most 100,000 nodes
+pub record IsMatchableSubject (sig : Sig) (subject : Subject) : Type 0 where
+  pub normal : IsNormal sig subject.term
+  pub few : node_count subject.term ≤ 100000
 
 -- so are all rules and all subjects
 pub record IsMatchableFile (file : FileTree) : Type 0 where
   pub rules : AllByRecursion (IsMatchable file.sig) file.rules
-  pub subjects : AllByRecursion (IsNormalSubject file.sig) file.subjects
+  pub subjects : AllByRecursion (IsMatchableSubject file.sig) file.subjects

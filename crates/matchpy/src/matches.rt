@@ -9,7 +9,7 @@ ghost use Rattle.mp_text.specs.File.{file_tree, subject_tree};
 ghost use Rattle.matchpy.specs.Answers.{Acts};
 ghost use Rattle.matchpy.specs.Endings.{status_of};
 ghost use Rattle.matchpy.specs.Printed.{PrintsMatches};
-ghost use Rattle.matchpy.specs.Matches.{IsMatchable, IsMatchableFile, IsNormalSubject, match_line, match_text, rule_text, subject_text};
+ghost use Rattle.matchpy.specs.Matches.{IsMatchable, IsMatchableFile, IsMatchableSubject, match_line, match_text, rule_text, subject_text};
 ghost use Rattle.matchpy.specs.Outcome.{file_limit, match_outcome, matched};
 ghost use Rattle.matchpy.specs.Planned.{IsPlanned, planned_rule, rule_plan};
 
@@ -123,7 +123,7 @@ fn write_rule<O: Sink>(
     out: &mut O,
 ) -> Result<bool, Stop>
     requires planned { IsPlanned sig.now (rule_plan planned.now) }
-    requires normal { IsNormalSubject sig.now (subject_tree subject.now) }
+    requires matchable { IsMatchableSubject sig.now (subject_tree subject.now) }
     ensures { PrintsMatches (rule_text sig.now (subject_tree subject.now) (planned_rule planned.now)) (record { old = O.contents out.old; new = O.contents out.new; faults = O.faults out.old; faults_after = O.faults out.new }) result }
 {
     let rule = planned.rule;
@@ -147,7 +147,7 @@ fn write_subject<O: Sink>(
     out: &mut O,
 ) -> Result<bool, Stop>
     requires planned { AllByRecursion (IsPlanned sig.now) (map rule_plan rules.now) }
-    requires normal { IsNormalSubject sig.now (subject_tree subject.now) }
+    requires matchable { IsMatchableSubject sig.now (subject_tree subject.now) }
     ensures { PrintsMatches (subject_text sig.now (map planned_rule rules.now) (subject_tree subject.now)) (record { old = O.contents out.old; new = O.contents out.new; faults = O.faults out.old; faults_after = O.faults out.new }) result }
 {
     let mut any = false;
@@ -169,7 +169,7 @@ fn write_subjects<O: Sink>(
     out: &mut O,
 ) -> Result<bool, Stop>
     requires planned { AllByRecursion (IsPlanned sig.now) (map rule_plan rules.now) }
-    requires normal { AllByRecursion (IsNormalSubject sig.now) (map subject_tree subjects.now) }
+    requires matchable { AllByRecursion (IsMatchableSubject sig.now) (map subject_tree subjects.now) }
     ensures { PrintsMatches (flat_map (subject_text sig.now (map planned_rule rules.now)) (map subject_tree subjects.now)) (record { old = O.contents out.old; new = O.contents out.new; faults = O.faults out.old; faults_after = O.faults out.new }) result }
 {
     let mut any = false;

@@ -7,3 +7,4 @@ pub mod WalkLaws
 pub mod SoundLaws
 pub mod FoundLaws
 pub mod ItemLaws
+pub mod ReadyItems

@@ -1,12 +1,12 @@
 -- How many entries are still to come, and the derivations that are.
-use Rattle.std.proofs.Common.{◌≡◌, ℕ, zero, suc, ◌+◌, List, [], ◌∷◌, ◌++◌, map, length, drop, get_or, true, false, refl, ap, sym, ◌∙◌, subst, ◌-◌, ◌<◌, ◌≤◌, zero-add, eqb-true, eq-eqb, length-drop, arith}
-use Rattle.std.specs.Prelude.{Option, None, flat_map, filter, if◌then◌else◌}
+use Rattle.std.proofs.Common.{◌≡◌, ℕ, zero, suc, ◌+◌, List, [], ◌∷◌, ◌++◌, map, length, drop, get_or, true, false, refl, ap, sym, ◌∙◌, subst, ◌<◌, ◌≤◌, zero-add, arith}
+use Rattle.std.specs.Prelude.{Bool, flat_map, filter, if◌then◌else◌}
+use Rattle.std.specs.List.{AllByRecursion}
 use Rattle.std.proofs.Math.ListN.{drop_of_length-le}
 use Rattle.mp_term.specs.Tree.{Tree}
 use Rattle.mp_term.specs.Signature.{Sig}
 use Rattle.mp_pattern.specs.PatternTree.{Pattern, symbol_pattern, app_pattern, wild_pattern, Patterns, no_patterns, more_patterns}
 use Rattle.mp_pattern.specs.Size.{pattern_nodes, all_pattern_nodes}
-use Rattle.mp_pattern.specs.CondTree.{Cond}
 use Rattle.mp_pattern.specs.Value.{Subst}
 use Rattle.mp_pattern.specs.Fits.{Entry, Table}
 use Rattle.mp_pattern.specs.Admission.{Rule, meets}
@@ -15,9 +15,12 @@ use Rattle.mp_theory.specs.Frames.{Frame, Next, ended, refused, child, is_done, 
 use Rattle.mp_theory.specs.Machine.{onward, entered, taken_out, choices}
 use Rattle.mp_theory.specs.Trail.{derivations, derivations_by}
 use Rattle.mp_theory.specs.OneList.{Item, same_item, item_list}
-use Rattle.mp_theory.proofs.FirstsLaws.{firsts_after-append}
+use Rattle.mp_theory.proofs.SearchLaws.{from_all-append}
+use Rattle.mp_theory.proofs.FirstsLaws.{Distinct, distinct-filter, firsts_after-distinct}
 use Rattle.mp_theory.proofs.TrailLaws.{item_list-by_derivations}
 use Rattle.mp_one.specs.Stack.{nodes_below, entries_left}
+use Rattle.mp_one.specs.Found.{collected}
+use Rattle.mp_one.proofs.FoundLaws.{collected-none, collected-append}
 use Rattle.mp_one.proofs.PieceSteps.{drop-next}
 
 pattern_nodes-below : (p : Pattern) → pattern_nodes p ≡ suc (nodes_below p)
@@ -73,30 +76,36 @@ module _ (sig : Sig) where
   pub derivations-onward : (p : Pattern) (f : Frame) (gs hs : List Frame) (e : Entry) (T : Table) (s : Subst) → hs ≡ entered p e (taken_out p e f ∷ gs) → derivations sig (entries_left hs) (settle hs) T s ≡ derivations sig (nodes_below p + (all_pattern_nodes f.children + entries_left gs)) (onward (child p f gs) e) T s
   derivations-onward p f gs hs e T s h = ap (λ fs. derivations sig (entries_left fs) (settle fs) T s) h ∙ ap (λ k. derivations sig k (settle (entered p e (taken_out p e f ∷ gs))) T s) (entries_left-entered p e f gs)
 
-  filter-none : (c : Option Cond) (is : List Item) → c ≡ None → filter (λ i. meets sig c i.1) is ≡ is
-  filter-none c is e = subst (λ d. filter (λ i. meets sig d i.1) is ≡ is) (sym e) (all is)
-    where
-      all : (is : List Item) → filter (λ i. meets sig None i.1) is ≡ is
-      all [] = refl
-      all (i ∷ is) = ap (λ js. i ∷ js) (all is)
+  -- from the root on as many entries are to come as the pattern has nodes
+  pub derivations-root : (fs : List Frame) (p : Pattern) (t : Tree) → fs ≡ start p t → derivations sig (entries_left fs) (settle fs) [] [] ≡ derivations sig (pattern_nodes p) (settle (start p t)) [] []
+  derivations-root fs p t e =
+      let k : entries_left (start p t) ≡ pattern_nodes p = omega arith in
+      ap (λ gs. derivations sig (entries_left gs) (settle gs) [] []) e ∙ ap (λ n. derivations sig n (settle (start p t)) [] []) k
 
-  -- from the root on, where there is no condition
-  pub item_list-by_stack : (r : Rule) (t : Tree) → r.condition ≡ None → firsts_after same_item [] (derivations sig (entries_left (start r.pattern t)) (settle (start r.pattern t)) [] []) ≡ item_list sig r t
-  item_list-by_stack r t e =
-      let k : entries_left (start r.pattern t) ≡ pattern_nodes r.pattern = omega arith in
-      ap (λ n. firsts_after same_item [] (derivations sig n (settle (start r.pattern t)) [] [])) k
-      ∙ ap (firsts_after same_item []) (sym (filter-none r.condition (derivations sig (pattern_nodes r.pattern) (settle (start r.pattern t)) [] []) e))
-      ∙ sym (item_list-by_derivations sig r t)
+  -- what is collected of all derivations is the list of items, also where distinct ones aren't compared
+  pub collected-item_list : (b : Bool) (r : Rule) (t : Tree) (is : List Item) → is ≡ derivations sig (pattern_nodes r.pattern) (settle (start r.pattern t)) [] [] → (b ≡ true → Distinct same_item is) → collected b (λ i. meets sig r.condition i.1) [] is ≡ item_list sig r t
+  collected-item_list b r t is e h =
+      first_each b h ∙ ap (λ js. firsts_after same_item [] (filter (λ i. meets sig r.condition i.1) js)) e ∙ sym (item_list-by_derivations sig r t)
+    where
+      first_each : (b : Bool) → (b ≡ true → Distinct same_item is) → collected b (λ i. meets sig r.condition i.1) [] is ≡ firsts_after same_item [] (filter (λ i. meets sig r.condition i.1) is)
+      first_each true h = sym (firsts_after-distinct same_item (filter (λ i. meets sig r.condition i.1) is) (distinct-filter same_item (λ i. meets sig r.condition i.1) is (h refl)))
+      first_each false h = refl
 
 -- the entries that a list gives, one more gone over
-pub firsts_after-step : {X : Type 0} (f : X → Entry) (g : Entry → List Item) (ys zs : List Item) (i : ℕ) (xs : List X) (x : X) → i < length xs → x ≡ get_or xs i x → zs ≡ firsts_after same_item ys (g (f x)) → firsts_after same_item zs (flat_map g (map f (drop (i + 1) xs))) ≡ firsts_after same_item ys (flat_map g (map f (drop i xs)))
-firsts_after-step f g ys zs i xs x h e q =
-    ap (λ us. firsts_after same_item us (flat_map g (map f (drop (i + 1) xs)))) q
-    ∙ sym (firsts_after-append same_item ys (g (f x)) (flat_map g (map f (drop (i + 1) xs))))
-    ∙ ap (λ us. firsts_after same_item ys (flat_map g (map f us))) (sym (drop-next i xs x h e))
+pub collected-step : {X : Type 0} (b : Bool) (test : Item → Bool) (f : X → Entry) (g : Entry → List Item) (ys zs : List Item) (i : ℕ) (xs : List X) (x : X) → i < length xs → x ≡ get_or xs i x → zs ≡ collected b test ys (g (f x)) → collected b test zs (flat_map g (map f (drop (i + 1) xs))) ≡ collected b test ys (flat_map g (map f (drop i xs)))
+collected-step b test f g ys zs i xs x h e q =
+    ap (λ us. collected b test us (flat_map g (map f (drop (i + 1) xs)))) q
+    ∙ sym (collected-append b test ys (g (f x)) (flat_map g (map f (drop (i + 1) xs))))
+    ∙ ap (λ us. collected b test ys (flat_map g (map f us))) (sym (drop-next i xs x h e))
 
-pub firsts_after-end : {X : Type 0} (f : X → Entry) (g : Entry → List Item) (zs : List Item) (i : ℕ) (xs : List X) → length xs ≤ i → firsts_after same_item zs (flat_map g (map f (drop i xs))) ≡ zs
-firsts_after-end f g zs i xs h = rw (drop_of_length-le xs {i = i} h) refl
+pub collected-end : {X : Type 0} (b : Bool) (test : Item → Bool) (f : X → Entry) (g : Entry → List Item) (zs : List Item) (i : ℕ) (xs : List X) → length xs ≤ i → collected b test zs (flat_map g (map f (drop i xs))) ≡ zs
+collected-end b test f g zs i xs h = rw (drop_of_length-le xs {i = i} h) (collected-none b test zs)
+
+-- what holds of each item that entries give holds of those that one of them gives
+pub all-flat_map_at : {X : Type 0} (P : Item → Type 0) (f : X → Entry) (g : Entry → List Item) (i : ℕ) (xs : List X) (x : X) → i < length xs → x ≡ get_or xs i x → AllByRecursion P (flat_map g (map f xs)) → AllByRecursion P (g (f x))
+all-flat_map_at P f g i [] x h e k = absurd (omega arith)
+all-flat_map_at P f g zero (y ∷ xs) x h e k = subst (λ z. AllByRecursion P (g (f z))) (sym e) (from_all-append P (g (f y)) (flat_map g (map f xs)) k).0
+all-flat_map_at P f g (suc i) (y ∷ xs) x h e k = all-flat_map_at P f g i xs x (omega arith) e (from_all-append P (g (f y)) (flat_map g (map f xs)) k).1
 
 pub entries_left-child : (fs : List Frame) (p : Pattern) (f : Frame) (gs : List Frame) → settle fs ≡ child p f gs → entries_left fs ≡ suc (nodes_below p + (all_pattern_nodes f.children + entries_left gs))
 entries_left-child fs p f gs e = subst (Comes fs) e (comes fs)

@@ -6,3 +6,4 @@ pub mod Held
 pub mod Trail
 pub mod Items
 pub mod ItemCode
+pub mod Found

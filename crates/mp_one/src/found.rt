@@ -1,8 +1,11 @@
 // The items found so far, each substitution once.
-ghost use Rattle.std.specs.Prelude.{◌≡◌, OnOk, map};
+ghost use Rattle.std.specs.Prelude.{◌≡◌, [], ◌∷◌, OnOk, map, option_map};
 ghost use Rattle.mp_pattern.specs.Firsts as firsts;
+ghost use Rattle.mp_pattern.specs.CondView.{cond_tree};
+ghost use Rattle.mp_pattern.specs.Admission as admission;
 ghost use Rattle.mp_subst.specs.View.{subst_of};
 ghost use Rattle.mp_theory.specs.OneList as one;
+ghost use Rattle.mp_one.specs.Found.{IsReadyFor, condition_of, added};
 ghost use Rattle.mp_one.specs.Items.{item_of};
 ghost use Rattle.mp_one.specs.Path.{table_of};
 ghost use Rattle.mp_one.specs.Trail.{trail_of};
@@ -10,10 +13,24 @@ ghost use Rattle.mp_one.specs.Trail.{trail_of};
 use crate::bind::Bound;
 use crate::item::{Item, Items};
 use crate::path::{Path, own_table};
+use crate::query::Query;
 use crate::value::own_subst;
+use mp_cond::holds;
+use mp_pattern::Cond;
 use mp_subst::{Subst, same_subst};
-use mp_term::Memory;
+use mp_term::{Memory, Signature};
 use std::alloc::Global;
+
+// Whether the condition, if there is one, holds of the substitution.
+fn meets(sig: &Signature, condition: &Option<Cond>, subst: &Subst) -> bool
+    requires { IsReadyFor (option_map cond_tree condition.now) (subst_of subst.now) }
+    ensures { result ≡ admission.meets sig.now (option_map cond_tree condition.now) (subst_of subst.now) }
+{
+    match condition {
+        None => true,
+        Some(cond) => holds(sig, cond, subst),
+    }
+}
 
 // Whether an item has the substitution.
 fn is_known(found: &[Item], subst: &Subst) -> bool
@@ -27,17 +44,22 @@ fn is_known(found: &[Item], subst: &Subst) -> bool
     false
 }
 
-/// Adds the substitution with its table at the end, unless it was found before.
+/// Adds the substitution with its table at the end, if it meets the condition, unless it was found before.
 pub fn add_new(
     alloc: Global,
+    query: &Query<'_>,
     path: &Path<'_>,
     trail: &[Bound<'_>],
     found: &mut Items,
 ) -> Result<(), Memory>
-    ensures { OnOk result (found.new ≡ firsts.add_new one.same_item found.old (table_of path.now, trail_of trail.now)) }
+    requires { IsReadyFor (condition_of query.now) (trail_of trail.now) }
+    ensures { OnOk result (found.new ≡ added query.now found.old ((table_of path.now, trail_of trail.now) ∷ [])) }
 {
     let subst = own_subst(alloc, trail)?;
-    if is_known(found.as_slice(), &subst) {
+    if !meets(query.sig, query.condition, &subst) {
+        return Ok(());
+    }
+    if !query.one_table && is_known(found.as_slice(), &subst) {
         return Ok(());
     }
     let takes = own_table(alloc, path)?;

@@ -9,6 +9,7 @@ mod item;
 mod lines;
 mod path;
 mod pieces;
+mod query;
 mod search;
 mod sound;
 mod stack;

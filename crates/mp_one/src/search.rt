@@ -1,12 +1,15 @@
 // The search for items: entry by entry, in the order of the take tables.
-ghost use Rattle.std.specs.Prelude.{◌≡◌, ◌∷◌, [], ◌++◌, OnOk, IfOk, None};
+ghost use Rattle.std.specs.Prelude.{◌≡◌, ◌≤◌, ◌∷◌, [], ◌++◌, OnOk, IfOk};
 ghost use Rattle.std.specs.List.{AllByRecursion};
 ghost use Rattle.mp_term.specs.View.{tree};
 ghost use Rattle.mp_term.specs.Normal.{IsNormal};
+ghost use Rattle.mp_term.specs.Size.{node_count};
 ghost use Rattle.mp_pattern.specs.View.{pattern_tree};
 ghost use Rattle.mp_pattern.specs.RuleView.{rule_tree};
 ghost use Rattle.mp_pattern.specs.Plan.{IsPlanOf};
-ghost use Rattle.mp_pattern.specs.Firsts as firsts;
+ghost use Rattle.mp_pattern.specs.Limits.{DefaultsAreSmall};
+ghost use Rattle.mp_pattern.specs.Operands.{HasConditionOver};
+ghost use Rattle.mp_pattern.specs.Variables.{variables};
 ghost use Rattle.mp_pattern.specs.Lists.{IsOneList};
 ghost use Rattle.mp_theory.specs.Sound.{IsSound};
 ghost use Rattle.mp_theory.specs.Frames as walk;
@@ -17,12 +20,15 @@ ghost use Rattle.mp_one.specs.Stack.{frame_of, stack_frames, child_of, entry_of,
 ghost use Rattle.mp_one.specs.Trail.{trail_of};
 ghost use Rattle.mp_one.specs.Items.{IsItemOf};
 ghost use Rattle.mp_one.specs.Path.{table_of};
+ghost use Rattle.mp_one.specs.Found.{AreReadyFor, condition_of, added};
 
 use crate::bind::{Bound, Extended, extend};
 use crate::choices::choices;
 use crate::found::add_new;
 use crate::item::Items;
 use crate::path::Path;
+use crate::query::Query;
+use crate::sound::decides_table;
 use crate::stack::{Entry, Frame, Next, Place, Stack, entered, settle, taken_out};
 use crate::terms::copied;
 use mp_pattern::{Pattern, Plan, Rule};
@@ -34,23 +40,24 @@ use std::slice;
 #[cycle(search)]
 fn descend<'a>(
     alloc: Global,
-    sig: &Signature,
+    query: &Query<'_>,
     place: &Place<'a>,
     entry: &Entry<'a>,
     trail: &[Bound<'a>],
     path: &'a Path<'a>,
     found: &mut Items,
 ) -> Result<(), Memory>
-    ensures { OnOk result (found.new ≡ firsts.firsts_after one.same_item found.old (trails.derivations sig.now (entries_behind place.now) (machine.onward (child_of place.now) (entry_of entry.now)) (table_of path.now ++ entry_of entry.now ∷ []) (trail_of trail.now))) }
+    requires { AreReadyFor (condition_of query.now) (trails.derivations query.now.sig.now (entries_behind place.now) (machine.onward (child_of place.now) (entry_of entry.now)) (table_of path.now ++ entry_of entry.now ∷ []) (trail_of trail.now)) }
+    ensures { OnOk result (found.new ≡ added query.now found.old (trails.derivations query.now.sig.now (entries_behind place.now) (machine.onward (child_of place.now) (entry_of entry.now)) (table_of path.now ++ entry_of entry.now ∷ []) (trail_of trail.now))) }
 {
     let rest = Stack::Within(taken_out(alloc, place, entry)?, place.outer);
     let behind = Path::Behind(entry, path);
     match place.child {
         Pattern::App(op, children) => {
             let inner = Stack::Within(entered(alloc, *op, children, entry)?, &rest);
-            search(alloc, sig, &inner, &*trail, &behind, found)
+            search(alloc, query, &inner, &*trail, &behind, found)
         }
-        _ => search(alloc, sig, &rest, &*trail, &behind, found),
+        _ => search(alloc, query, &rest, &*trail, &behind, found),
     }
 }
 
@@ -58,19 +65,20 @@ fn descend<'a>(
 #[cycle(search)]
 fn follow<'a>(
     alloc: Global,
-    sig: &Signature,
+    query: &Query<'_>,
     place: &Place<'a>,
     entry: &Entry<'a>,
     trail: &[Bound<'a>],
     path: &'a Path<'a>,
     found: &mut Items,
 ) -> Result<(), Memory>
-    ensures { OnOk result (found.new ≡ firsts.firsts_after one.same_item found.old (trails.derivations_by sig.now (entries_behind place.now) (child_of place.now) (table_of path.now) (trail_of trail.now) (entry_of entry.now))) }
+    requires { AreReadyFor (condition_of query.now) (trails.derivations_by query.now.sig.now (entries_behind place.now) (child_of place.now) (table_of path.now) (trail_of trail.now) (entry_of entry.now)) }
+    ensures { OnOk result (found.new ≡ added query.now found.old (trails.derivations_by query.now.sig.now (entries_behind place.now) (child_of place.now) (table_of path.now) (trail_of trail.now) (entry_of entry.now))) }
 {
-    match extend(alloc, sig, place, entry, trail)? {
+    match extend(alloc, query.sig, place, entry, trail)? {
         Extended::Clash => Ok(()),
-        Extended::Same => descend(alloc, sig, place, entry, trail, path, found),
-        Extended::Changed(after) => descend(alloc, sig, place, entry, &after, path, found),
+        Extended::Same => descend(alloc, query, place, entry, trail, path, found),
+        Extended::Changed(after) => descend(alloc, query, place, entry, &after, path, found),
     }
 }
 
@@ -78,20 +86,21 @@ fn follow<'a>(
 #[cycle(search)]
 fn search<'a>(
     alloc: Global,
-    sig: &Signature,
+    query: &Query<'_>,
     stack: &'a Stack<'a>,
     trail: &'a [Bound<'a>],
     path: &'a Path<'a>,
     found: &mut Items,
 ) -> Result<(), Memory>
-    ensures { OnOk result (found.new ≡ firsts.firsts_after one.same_item found.old (trails.derivations sig.now (entries_left (stack_frames stack.now)) (walk.settle (stack_frames stack.now)) (table_of path.now) (trail_of trail.now))) }
+    requires { AreReadyFor (condition_of query.now) (trails.derivations query.now.sig.now (entries_left (stack_frames stack.now)) (walk.settle (stack_frames stack.now)) (table_of path.now) (trail_of trail.now)) }
+    ensures { OnOk result (found.new ≡ added query.now found.old (trails.derivations query.now.sig.now (entries_left (stack_frames stack.now)) (walk.settle (stack_frames stack.now)) (table_of path.now) (trail_of trail.now))) }
 {
     match settle(stack) {
-        Next::Ended => add_new(alloc, path, trail, found),
+        Next::Ended => add_new(alloc, query, path, trail, found),
         Next::Refused => Ok(()),
         Next::Child(place) => {
-            for entry in &choices(alloc, sig, &place)? {
-                follow(alloc, sig, &place, entry, trail, path, found)?;
+            for entry in &choices(alloc, query.sig, &place)? {
+                follow(alloc, query, &place, entry, trail, path, found)?;
             }
             Ok(())
         }
@@ -117,15 +126,23 @@ fn root_frame<'a>(
 // Adds what is found from the frame on.
 fn search_from(
     alloc: Global,
-    sig: &Signature,
+    query: &Query<'_>,
     frame: Frame<'_>,
     found: &mut Items,
 ) -> Result<(), Memory>
-    ensures { OnOk result (found.new ≡ firsts.firsts_after one.same_item found.old (trails.derivations sig.now (entries_left (frame_of frame.entry ∷ [])) (walk.settle (frame_of frame.entry ∷ [])) [] [])) }
+    requires { AreReadyFor (condition_of query.now) (trails.derivations query.now.sig.now (entries_left (frame_of frame ∷ [])) (walk.settle (frame_of frame ∷ [])) [] []) }
+    ensures { OnOk result (found.new ≡ added query.now found.old (trails.derivations query.now.sig.now (entries_left (frame_of frame.entry ∷ [])) (walk.settle (frame_of frame.entry ∷ [])) [] [])) }
 {
     let root = Stack::Root;
     let start = Path::Start;
-    search(alloc, sig, &Stack::Within(frame, &root), &[], &start, found)
+    search(
+        alloc,
+        query,
+        &Stack::Within(frame, &root),
+        &[],
+        &start,
+        found,
+    )
 }
 
 /// The one-list of a rule and a subject: the substitutions that the rule admits, each once, strictly ascending by least take table,
@@ -133,8 +150,9 @@ fn search_from(
 /// `IsOneList` of mp_pattern's `specs/Lists.antt` describes.
 ///
 /// The plan is that of the rule's pattern; an item has an entry for each of its nodes and a value for each of its variables. The pattern is taken
-/// as it stands, with whatever operations and wildcards it has; its defaults are normal, as `is_sound` tells, and so is the subject. The rule has
-/// no condition.
+/// as it stands, with whatever operations and wildcards it has; its defaults are normal, as `is_sound` tells, and have at most 64 nodes each. The
+/// rule's condition, if it has one, speaks of the pattern's variables and of ground terms of at most 64 nodes each (`HasConditionOver` of mp_pattern's
+/// `specs/Operands.antt`). The subject is normal and has at most 100,000 nodes.
 ///
 /// `Memory`: memory ran out, and nothing is left. The call takes as long as the whole list, which can grow exponentially in the subject.
 pub fn eager_list(
@@ -146,19 +164,27 @@ pub fn eager_list(
 ) -> Result<Items, Memory>
     requires plan { IsPlanOf sig.now (pattern_tree rule.now.pattern) plan.now }
     requires sound { IsSound sig.now (pattern_tree rule.now.pattern) }
-    requires unconditional { (rule_tree rule.now).condition ≡ None }
+    requires small { DefaultsAreSmall (pattern_tree rule.now.pattern) }
+    requires condition { HasConditionOver (variables (pattern_tree rule.now.pattern)) (rule_tree rule.now).condition }
     requires normal { IsNormal sig.now (tree subject.now) }
+    requires few { node_count (tree subject.now) ≤ 100000 }
     ensures list { IfOk result (λ is. is ≡ one.item_list sig.now (rule_tree rule.now) (tree subject.now)) }
     ensures items { IfOk result (λ is. one.AreItems sig.now (rule_tree rule.now) (tree subject.now) is) }
     ensures sizes { IfOk result (λ is. AllByRecursion (IsItemOf plan.now) is) }
     ensures substs { IfOk result (λ is. one.item_substs is ≡ one.one_list sig.now (rule_tree rule.now) (tree subject.now)) }
     ensures exact { IfOk result (λ is. IsOneList sig.now (rule_tree rule.now) (tree subject.now) (one.item_substs is)) }
 {
+    let pattern = &rule.pattern;
+    let query = Query {
+        sig,
+        condition: &rule.condition,
+        one_table: decides_table(pattern),
+    };
     let mut found = Items::new(alloc);
     search_from(
         alloc,
-        sig,
-        root_frame(alloc, &rule.pattern, subject)?,
+        &query,
+        root_frame(alloc, pattern, subject)?,
         &mut found,
     )?;
     Ok(found)

@@ -13,6 +13,7 @@ mod value;
 
 pub use copy::{copy_subst, copy_value};
 pub use merging::merge;
+pub use multiset::same_multiset;
 pub use order::{compare_subst, compare_value, same_subst};
 pub use pair::Pair;
 pub use subst::{Binding, Bindings, Subst};

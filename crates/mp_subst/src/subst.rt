@@ -1,6 +1,7 @@
 // Substitutions, and lists of bindings.
 ghost use Rattle.std.specs.Prelude.{◌≡◌, [], ◌∷◌, ◌++◌, length, map, slice_get, OnOk, OnErr, option_map};
-ghost use Rattle.mp_subst.specs.View.{binding_of};
+ghost use Rattle.mp_pattern.specs.Value as plain;
+ghost use Rattle.mp_subst.specs.View.{binding_of, value_of, subst_of};
 
 use crate::value::Value;
 use mp_term::{Memory, Name};
@@ -30,7 +31,8 @@ impl Model for Bindings {
 
     ghost coded = { coded_list coded_binding };
 
-    ghost use Rattle.mp_subst.specs.View.{binding_of};
+    ghost use Rattle.mp_pattern.specs.Value as plain;
+    ghost use Rattle.mp_subst.specs.View.{binding_of, value_of, subst_of};
 
     ghost view = { λ bs. map binding_of bs.items.items };
 }
@@ -83,4 +85,19 @@ impl Bindings {
 #[derive(Drop)]
 pub struct Subst {
     pub bindings: Bindings,
+}
+
+impl Subst {
+    /// The value of a variable (`value_of` of mp_pattern's `specs/Value`). It is None exactly where the substitution doesn't bind the
+    /// variable. It takes no memory.
+    pub fn value_of(&self, name: &Name) -> Option<&Value>
+        ensures { option_map (λ v. value_of v.now) result ≡ plain.value_of (subst_of self.now) name.now }
+    {
+        for binding in self.bindings.as_slice() {
+            if binding.name == *name {
+                return Some(&binding.value);
+            }
+        }
+        None
+    }
 }

@@ -15,7 +15,7 @@ use Rattle.mp_term.proofs.NormalTestLaws.{passes-normal, normal-passes}
 abbrev deepest : List Tree → ℕ
 deepest ts = greatest_depth (trees ts)
 
-all_nodes-append : (ts us : List Tree) → all_nodes (ts ++ us) ≡ all_nodes ts + all_nodes us
+pub all_nodes-append : (ts us : List Tree) → all_nodes (ts ++ us) ≡ all_nodes ts + all_nodes us
 all_nodes-append [] us = omega arith
 all_nodes-append (t ∷ ts) us = omega (arith, all_nodes-append ts us)
 
@@ -39,7 +39,7 @@ deepest-insert_sorted t (u ∷ us) =
       | false ↦ refl
     ]
 
-all_nodes-sorted : (ts : List Tree) → all_nodes (sorted tree_cmp ts) ≡ all_nodes ts
+pub all_nodes-sorted : (ts : List Tree) → all_nodes (sorted tree_cmp ts) ≡ all_nodes ts
 all_nodes-sorted [] = refl
 all_nodes-sorted (t ∷ ts) = all_nodes-insert_sorted t (sorted tree_cmp ts) ∙ ap (λ n. node_count t + n) (all_nodes-sorted ts)
 

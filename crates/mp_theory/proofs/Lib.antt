@@ -22,3 +22,5 @@ pub mod Ground
 pub mod Instances
 pub mod AllList
 pub mod OneTable
+pub mod ValueSizes
+pub mod DistinctItems

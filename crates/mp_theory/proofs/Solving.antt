@@ -1,6 +1,6 @@
 -- `solve` finds the one substitution of the pattern's variables that the takes obey.
 use Rattle.std.proofs.Common.{◌≡◌, ℕ, List, [], ◌∷◌, ◌++◌, map, Bool, true, false, ◌&&◌, not, refl, ap, sym, ◌∙◌, inl, inr, subst}
-use Rattle.std.specs.Prelude.{Option, Some, None, ◌||◌, filter, option_and_then, if◌then◌else◌, ⊤}
+use Rattle.std.specs.Prelude.{Option, Some, None, ◌||◌, filter, option_and_then, if◌then◌else◌}
 use Rattle.std.specs.List.{AllByRecursion, list_any}
 use Rattle.std.proofs.lemmas.Cmp.{tied_itself, nat_list_cmp_total}
 use Rattle.mp_term.specs.Tree.{Tree}
@@ -12,7 +12,7 @@ use Rattle.mp_pattern.specs.Variables.{Use, uses, variables, comm_above, is_sequ
 use Rattle.mp_theory.specs.Solve.{Taken, bind, given, solve, sequence}
 use Rattle.mp_theory.proofs.Merging.{Refines, IsArranged, Extends, AllArranged, bind-sound, from_if, if_either, mapped, name_same}
 use Rattle.mp_theory.proofs.SolveLaws.{Obeys, solve-complete}
-use Rattle.mp_theory.proofs.SearchLaws.{all-append}
+use Rattle.mp_theory.proofs.FirstsLaws.{Distinct, distinct-firsts}
 use Rattle.mp_theory.proofs.Wildcards.{contributor-contributes, refines-itself}
 
 -- the names of a substitution
@@ -38,28 +38,6 @@ same_name-swap x y =
 pub then_some : {A B : Type 0} (f : A → Option B) (o : Option A) (r : B) → option_and_then f o ≡ Some r → (x : A) × (o ≡ Some x) × (f x ≡ Some r)
 then_some f None r e = cc
 then_some f (Some x) r e = (x, refl, e)
-
--- no two of the names are the same
-abbrev Distinct : List (List ℕ) → Type 0
-Distinct [] = ⊤
-Distinct (x ∷ xs) = AllByRecursion (λ y. same_name x y ≡ false) xs × Distinct xs
-
--- where a disjunction is false
-neither : (a b : Bool) → (a || b) ≡ false → (a ≡ false) × (b ≡ false)
-neither true b e = cc
-neither false b e = (refl, e)
-
--- names that are added once each stay distinct
-distinct-push : (ns : List (List ℕ)) (x : List ℕ) → is_known same_name ns x ≡ false → Distinct ns → Distinct (ns ++ (x ∷ []))
-distinct-push [] x e h = (tt, tt)
-distinct-push (n ∷ ns) x e h = let k = neither (same_name n x) (is_known same_name ns x) e in (all-append (λ y. same_name n y ≡ false) ns (x ∷ []) h.0 (k.0, tt), distinct-push ns x k.1 h.1)
-
-distinct-add_new : (ns : List (List ℕ)) (x : List ℕ) → Distinct ns → Distinct (add_new same_name ns x)
-distinct-add_new ns x h = elim (is_known same_name ns x) as (λ b. is_known same_name ns x ≡ b → Distinct (if b then ns else ns ++ (x ∷ []))) [ true ↦ λ e. h | false ↦ λ e. distinct-push ns x e h ] refl
-
-pub distinct-firsts : (ns xs : List (List ℕ)) → Distinct ns → Distinct (firsts_after same_name ns xs)
-distinct-firsts ns [] h = h
-distinct-firsts ns (x ∷ xs) h = distinct-firsts (add_new same_name ns x) xs (distinct-add_new ns x h)
 
 add_new-behind : (n x : List ℕ) (ns : List (List ℕ)) → same_name n x ≡ false → n ∷ add_new same_name ns x ≡ add_new same_name (n ∷ ns) x
 add_new-behind n x ns e = rw e (elim (is_known same_name ns x) as (λ b. n ∷ (if b then ns else ns ++ (x ∷ [])) ≡ (if b then n ∷ ns else n ∷ (ns ++ (x ∷ [])))) [ true ↦ refl | false ↦ refl ])
@@ -293,9 +271,12 @@ found-behind b s [] h k = tt
 found-behind b s (c ∷ r) h k = (rw h.0 k.0, found-behind b s r h.1 k.1)
 
 -- the bindings of distinct names are found
-pub found-itself : (s : Subst) → Distinct (names s) → AllByRecursion (IsFound s) s
+pub found-itself : (s : Subst) → Distinct same_name (names s) → AllByRecursion (IsFound s) s
 found-itself [] h = tt
 found-itself (b ∷ s) h = (rw (same_name-itself b.name) refl, found-behind b s s h.0 (found-itself s h.1))
+
+pub found-IsSubstOf : (sig : Sig) (p : Pattern) (s : Subst) → IsSubstOf sig p s → AllByRecursion (IsFound s) s
+found-IsSubstOf sig p s h = found-itself s (subst (Distinct same_name) (sym h.names) (distinct-firsts same_name [] (map (λ u. u.name) (uses None p)) tt))
 
 -- so they agree with the substitution and have its forms
 extends-from_found : (s r : Subst) → AllByRecursion (IsFound s) r → Extends r s
@@ -324,7 +305,7 @@ extends-tail b [] s h k = tt
 extends-tail b (c ∷ r) s h k = ((k.0.0, rw h.0 at k.0.1, k.0.2), extends-tail b r s h.1 k.1)
 
 -- two substitutions of the same names and forms that agree are the same
-pub agreeing_same : (F : List ℕ → Form) (r s : Subst) → names r ≡ names s → Distinct (names s) → Extends r s → AllByRecursion (λ b. form_of b.value ≡ F b.name) r → AllByRecursion (λ b. form_of b.value ≡ F b.name) s → r ≡ s
+pub agreeing_same : (F : List ℕ → Form) (r s : Subst) → names r ≡ names s → Distinct same_name (names s) → Extends r s → AllByRecursion (λ b. form_of b.value ≡ F b.name) r → AllByRecursion (λ b. form_of b.value ≡ F b.name) s → r ≡ s
 agreeing_same F [] [] n d x h k = refl
 agreeing_same F [] (c ∷ s) n d x h k = cc
 agreeing_same F (b ∷ r) [] n d x h k = cc
@@ -347,13 +328,13 @@ module _ (sig : Sig) (p : Pattern) (ts : List Taken) (same_uses : map (λ t. t.b
   forms-from_solve s e y = solve-forms sig [] ts s e y ∙ ap (λ us. form_among sig us y) same_uses
 
   found-from_solve : (s : Subst) → solve sig [] ts ≡ Some s → AllByRecursion (IsFound s) s
-  found-from_solve s e = found-itself s (subst Distinct (sym (names-from_solve s e)) (distinct-firsts [] (map (λ u. u.name) (uses None p)) tt))
+  found-from_solve s e = found-itself s (subst (Distinct same_name) (sym (names-from_solve s e)) (distinct-firsts same_name [] (map (λ u. u.name) (uses None p)) tt))
 
   -- a substitution of the pattern that obeys the takes is what solves them
   pub solved-by : (s : Subst) → IsSubstOf sig p s → AllByRecursion (Obeys sig s) ts → solve sig [] ts ≡ Some s
   solved-by s h k =
       let c = solve-complete sig [] s ts tt k in
-      let d : Distinct (names s) = subst Distinct (sym h.names) (distinct-firsts [] (map (λ u. u.name) (uses None p)) tt) in
+      let d : Distinct same_name (names s) = subst (Distinct same_name) (sym h.names) (distinct-firsts same_name [] (map (λ u. u.name) (uses None p)) tt) in
       let q : c.after ≡ s = agreeing_same (variable_form sig p) c.after s (names-from_solve c.after c.is ∙ sym h.names) d c.extends
       (forms-from_found (variable_form sig p) c.after c.after (found-from_solve c.after c.is) (forms-from_solve c.after c.is)) h.forms in
       c.is ∙ ap Some q

@@ -1,7 +1,7 @@
 -- Binding as the search goes gives the same list, and a table is tested entry by entry.
-use Rattle.std.proofs.Common.{◌≡◌, ℕ, zero, suc, List, [], ◌∷◌, ◌++◌, map, true, false, refl, ap, sym, ◌∙◌, append_assoc, append-nil}
+use Rattle.std.proofs.Common.{◌≡◌, ℕ, zero, suc, List, [], ◌∷◌, ◌++◌, map, true, false, refl, ap, sym, ◌∙◌, subst, inl, inr, append_assoc, append-nil}
 use Rattle.std.specs.Prelude.{Option, Some, None, ◌↔◌, if◌then◌else◌, filter, filter_map, flat_map, option_map, option_and_then}
-use Rattle.std.specs.List.{cons_option}
+use Rattle.std.specs.List.{AllByRecursion, cons_option}
 use Rattle.std.proofs.lemmas.List.Elements.{filter_map-append}
 use Rattle.mp_term.specs.Order.{tree_cmp}
 use Rattle.mp_term.specs.Tree.{Tree}
@@ -24,13 +24,24 @@ use Rattle.mp_theory.specs.Machine.{is_ended, onward, said, takes, reads, choice
 use Rattle.mp_theory.specs.OneList.{Item, same_subst, same_item, one_list, item_list}
 use Rattle.mp_theory.specs.Trail.{listed_by, solutions, derivations, allows, has_shape, fitted}
 use Rattle.mp_theory.proofs.SearchLaws.{flat_map-same}
+use Rattle.mp_theory.proofs.Merging.{mapped}
 use Rattle.mp_theory.proofs.Walk.{choices-exact}
+use Rattle.mp_theory.proofs.Tables.{tables-exact}
 use Rattle.mp_theory.proofs.FitsSolves.{fits-solves, solves-fits}
 
 -- `filter_map` over `flat_map`
 filter_map-flat : {X Y Z : Type 0} (h : Y → Option Z) (f : X → List Y) (xs : List X) → filter_map h (flat_map f xs) ≡ flat_map (λ x. filter_map h (f x)) xs
 filter_map-flat h f [] = refl
 filter_map-flat h f (x ∷ xs) = filter_map-append h (f x) (flat_map f xs) ∙ ap (λ ys. filter_map h (f x) ++ ys) (filter_map-flat h f xs)
+
+-- what holds of each item that `filter_map` keeps
+pub all-filter_map : {X Y : Type 0} (P : Y → Type 0) (h : X → Option Y) (xs : List X) → ((x : X) (y : Y) → In x xs → h x ≡ Some y → P y) → AllByRecursion P (filter_map h xs)
+all-filter_map P h [] k = tt
+all-filter_map P h (x ∷ xs) k =
+    elim (h x) as (λ o. h x ≡ o → AllByRecursion P (cons_option o (filter_map h xs))) [
+      | None ↦ λ e. all-filter_map P h xs (λ z y i. k z y (inr i))
+      | Some y ↦ λ e. (k x y (inl refl) e, all-filter_map P h xs (λ z w i. k z w (inr i)))
+    ] refl
 
 -- `listed_by` depends on what f gives
 listed_by-same : {A B : Type 0} (f g : A → List B) → ((x : A) → f x ≡ g x) → (o : Option A) → listed_by f o ≡ listed_by g o
@@ -119,6 +130,25 @@ module _ (sig : Sig) where
       filtered : (h : Table → Option Subst) (Ts : List Table) → filter_map (λ T. option_map (item T) (option_and_then (λ s. if meets sig r.condition s then Some s else None) (h T))) Ts ≡ filter (λ i. meets sig r.condition i.1) (filter_map (λ T. option_map (item T) (h T)) Ts)
       filtered h [] = refl
       filtered h (T ∷ Ts) = ap (cons_option (option_map (item T) (option_and_then (λ s. if meets sig r.condition s then Some s else None) (h T)))) (filtered h Ts) ∙ kept T (h T) (filter_map (λ T. option_map (item T) (h T)) Ts)
+
+  -- the item of a table, if its takes are solved: the table fits with its substitution
+  abbrev pub table_item : Pattern → Tree → Table → Option Item
+  table_item p t T = option_map (item T) (solve sig [] (takes (settle (start p t)) T))
+
+  pub table_item-fits : (p : Pattern) (t : Tree) (T : Table) (i : Item) → IsSound sig p → IsNormal sig t → In T (tables sig p t) → table_item p t T ≡ Some i → (T ≡ i.0) × Fits sig p t i.1 T
+  table_item-fits p t T i d n m e =
+      let a = mapped (item T) (solve sig [] (takes (settle (start p t)) T)) i e in
+      (ap (λ j. j.0) a.2, subst (λ j. Fits sig p t j.1 T) a.2 (solves-fits sig p t a.0 T d n ((tables-exact sig p t T).0 m) a.1))
+
+  -- the derivations from the start are these items
+  pub derivations-start : (p : Pattern) (t : Tree) → derivations sig (pattern_nodes p) (settle (start p t)) [] [] ≡ filter_map (table_item p t) (tables sig p t)
+  derivations-start p t = derivations-is (pattern_nodes p) (settle (start p t)) [] []
+
+  -- so each of them is a table that fits, with its substitution
+  pub derivations-fit : (p : Pattern) (t : Tree) → IsSound sig p → IsNormal sig t → AllByRecursion (λ i. Fits sig p t i.1 i.0) (derivations sig (pattern_nodes p) (settle (start p t)) [] [])
+  derivations-fit p t d n =
+      subst (AllByRecursion (λ i. Fits sig p t i.1 i.0)) (sym (derivations-start p t))
+      (all-filter_map (λ i. Fits sig p t i.1 i.0) (table_item p t) (tables sig p t) (λ T i m e. let k = table_item-fits p t T i d n m e in subst (Fits sig p t i.1) k.0 k.1))
 
   -- a choice is an entry that is allowed
   pub choice-allowed : (n : Next) (e : Entry) → In e (choices sig n) ↔ (allows sig n e ≡ true)

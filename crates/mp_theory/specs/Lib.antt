@@ -8,3 +8,4 @@ pub mod OneList
 pub mod Trail
 pub mod Cursor
 pub mod Bounds
+pub mod ValueSizes

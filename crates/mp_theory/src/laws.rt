@@ -1,11 +1,13 @@
 // The main theorems, each as the contract of a function that does nothing.
-ghost use Rattle.std.specs.Prelude.{◌≡◌, ◌↔◌, List, Some, true, map, length};
+ghost use Rattle.std.specs.Prelude.{◌≡◌, ◌↔◌, ◌+◌, List, Some, true, map, max, length};
 ghost use Rattle.std.specs.List.{AllByRecursion};
 ghost use Rattle.std.specs.List.Sorted.{IsStrictlySortedBy};
 ghost use Rattle.mp_term.specs.Tree.{Tree};
+ghost use Rattle.mp_term.specs.Size.{node_count};
 ghost use Rattle.mp_term.specs.Signature.{Sig};
 ghost use Rattle.mp_term.specs.Normal.{IsNormal};
 ghost use Rattle.mp_pattern.specs.PatternTree.{Pattern};
+ghost use Rattle.mp_pattern.specs.Limits.{DefaultsAreSmall};
 ghost use Rattle.mp_pattern.specs.Size.{pattern_nodes};
 ghost use Rattle.mp_pattern.specs.Variables.{variables};
 ghost use Rattle.mp_pattern.specs.Value.{Subst};
@@ -19,6 +21,7 @@ ghost use Rattle.mp_theory.specs.Machine.{HasShape, tables};
 ghost use Rattle.mp_theory.specs.Sound.{IsSound, HasNoOptional};
 ghost use Rattle.mp_theory.specs.OneList.{AreItems, Item, item_list, item_substs, one_list};
 ghost use Rattle.mp_theory.specs.Trail.{fitted};
+ghost use Rattle.mp_theory.specs.ValueSizes.{HaveAtMost};
 
 /// What the search finds is the one-list: for a pattern whose defaults are normal and a normal subject, `one_list` of
 /// `specs/OneList` holds exactly the substitutions that the rule admits, strictly ascending by least take table.
@@ -81,6 +84,13 @@ pub fn a_substitution_decides_its_table()
     ensures { (sig : Sig) (p : Pattern) (t : Tree) (s : Subst) (T U : Table) →
         is_fully_named p ≡ true → HasNoOptional p →
         Fits sig p t s T → Fits sig p t s U → T ≡ U }
+{}
+
+/// The values of a substitution that fits are no larger than the subject and the defaults: where each default of the pattern has at
+/// most 64 nodes, each value has at most 64 nodes, or one node more than the subject.
+pub fn a_substitution_is_within_its_subject()
+    ensures { (sig : Sig) (p : Pattern) (t : Tree) (s : Subst) (T : Table) → DefaultsAreSmall p →
+        Fits sig p t s T → HaveAtMost (max 64 (node_count t + 1)) s }
 {}
 
 /// Where each wildcard of the pattern has a name and none is optional, a substitution that fits makes the subject: the

@@ -8,7 +8,7 @@ use Rattle.matchpy.proofs.matches.write_subject.Goals as goal
 pub write_rule-requires : goal.write_rule-requires
 write_rule-requires g c = record {
   planned = (AllByRecursion-drop rule_plan (IsPlanned c.args.sig.now) c.args.rules.now c.loop-rule.rule-index c.rule-item.result (omega arith) c.rule-item.is c.loop-rule.invariant.planned).0;
-  normal = c.requires.normal;
+  matchable = c.requires.matchable;
 }
 
 pub returns-in-Err : goal.returns-in-Err

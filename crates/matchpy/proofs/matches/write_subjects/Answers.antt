@@ -2,14 +2,14 @@ use Rattle.std.proofs.Common.{arith, map}
 use Rattle.std.specs.Prelude.{flat_map}
 use Rattle.mp_text.specs.File.{subject_tree}
 use Rattle.matchpy.specs.Planned.{planned_rule}
-use Rattle.matchpy.specs.Matches.{IsNormalSubject, subject_text}
+use Rattle.matchpy.specs.Matches.{IsMatchableSubject, subject_text}
 use Rattle.matchpy.proofs.Parts.{AllByRecursion-drop, has_some-drop, lists_stopped, parts_written}
 use Rattle.matchpy.proofs.matches.write_subjects.Goals as goal
 
 pub write_subject-requires : goal.write_subject-requires
 write_subject-requires g c = record {
   planned = c.requires.planned;
-  normal = (AllByRecursion-drop subject_tree (IsNormalSubject c.args.sig.now) c.args.subjects.now c.loop-subject.subject-index c.subject-item.result (omega arith) c.subject-item.is c.loop-subject.invariant.normal).0;
+  matchable = (AllByRecursion-drop subject_tree (IsMatchableSubject c.args.sig.now) c.args.subjects.now c.loop-subject.subject-index c.subject-item.result (omega arith) c.subject-item.is c.loop-subject.invariant.matchable).0;
 }
 
 pub returns-in-Err : goal.returns-in-Err
@@ -27,5 +27,5 @@ loop-subject-preserved g c =
       written = parts_written subject_tree text c.args.subjects.now c.loop-subject.subject-index c.subject-item.result _ _ _ whole (omega arith) c.subject-item.is c.loop-subject.invariant.written printed.0;
       any = has_some-drop subject_tree text c.args.subjects.now c.loop-subject.subject-index c.subject-item.result whole c.loop-subject.any c.in-Ok.some (omega arith) c.subject-item.is c.loop-subject.invariant.any printed.1;
       faults = omega (arith, printed.2);
-      normal = (AllByRecursion-drop subject_tree (IsNormalSubject c.args.sig.now) c.args.subjects.now c.loop-subject.subject-index c.subject-item.result (omega arith) c.subject-item.is c.loop-subject.invariant.normal).1;
+      matchable = (AllByRecursion-drop subject_tree (IsMatchableSubject c.args.sig.now) c.args.subjects.now c.loop-subject.subject-index c.subject-item.result (omega arith) c.subject-item.is c.loop-subject.invariant.matchable).1;
     }

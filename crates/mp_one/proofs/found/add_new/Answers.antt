@@ -1,19 +1,34 @@
-use Rattle.std.proofs.Common.{◌≡◌, [], ◌∷◌, ◌++◌, OnOk, sym, ◌∙◌, subst}
+use Rattle.std.proofs.Common.{◌≡◌, Bool, true, false, [], ◌∷◌, ◌++◌, OnOk, sym, ap, ◌∙◌, subst}
+use Rattle.mp_pattern.specs.Admission.{meets}
 use Rattle.mp_pattern.specs.Firsts.{is_known}
-use Rattle.mp_theory.specs.OneList.{same_subst, item_substs}
+use Rattle.mp_theory.specs.OneList.{Item, same_subst, item_substs}
+use Rattle.mp_one.specs.Found.{condition_of, collected}
 use Rattle.mp_one.specs.Path.{table_of}
 use Rattle.mp_one.specs.Trail.{trail_of}
-use Rattle.mp_one.proofs.FoundLaws.{add_new-known, add_new-fresh}
+use Rattle.mp_one.proofs.FoundLaws.{collected-known, collected-new}
 use Rattle.mp_one.proofs.found.add_new.Goals as goal
+use Rattle.mp_one.proofs.found.add_new.Goals.{else-not-query-via-then-not-query+else-is_known, else-not-query-via-else-not-query}
 
 pub returns-then-is_known : goal.returns-then-is_known
 returns-then-is_known c =
-    let test : c.is_known.result ≡ is_known same_subst (item_substs c.args.found.now) (trail_of c.args.trail.now) = c.is_known.ensures ∙ (λ k. is_known same_subst (item_substs (c.as_slice.ensures k)) (c.in_ok-subst.ensures k)) in
-    add_new-known c.args.found.now (table_of c.args.path.now, trail_of c.args.trail.now) (sym test ∙ c.if-is_known.true)
+    let q = c.args.query.now in
+    let test : Item → Bool = λ i. meets q.sig.now (condition_of q) i.1 in
+    let here : Item = (table_of c.args.path.now, trail_of c.args.trail.now) in
+    let passes : test here ≡ true = sym (c.meets.ensures ∙ ap (meets q.sig.now (condition_of q)) c.in_ok-subst.ensures) ∙ c.if-not-meets.false in
+    let known : is_known same_subst (item_substs c.args.found.now) here.1 ≡ true = sym (c.is_known.ensures ∙ (λ k. is_known same_subst (item_substs (c.as_slice.ensures k)) (c.in_ok-subst.ensures k))) ∙ c.if-is_known.true in
+    subst (λ b. c.args.found.now ≡ collected b test c.args.found.now (here ∷ [])) (sym c.if-not-query.true) (collected-known test c.args.found.now here passes known)
 
 pub returns : goal.returns
 returns c =
-    let test : c.is_known.result ≡ is_known same_subst (item_substs c.args.found.now) (trail_of c.args.trail.now) = c.is_known.ensures ∙ (λ k. is_known same_subst (item_substs (c.as_slice.ensures k)) (c.in_ok-subst.ensures k)) in
+    let q = c.args.query.now in
+    let test : Item → Bool = λ i. meets q.sig.now (condition_of q) i.1 in
+    let here : Item = (table_of c.args.path.now, trail_of c.args.trail.now) in
+    let passes : test here ≡ true = sym (c.meets.ensures ∙ ap (meets q.sig.now (condition_of q)) c.in_ok-subst.ensures) ∙ c.if-not-meets.false in
+    let new : q.one_table ≡ false → is_known same_subst (item_substs c.args.found.now) here.1 ≡ false =
+    λ m. elim c.else-not-query.branch [
+      | else-not-query-via-then-not-query+else-is_known w ↦ sym (w.is_known.ensures ∙ (λ k. is_known same_subst (item_substs (w.as_slice.ensures k)) (c.in_ok-subst.ensures k))) ∙ w.if-is_known.false
+      | else-not-query-via-else-not-query w ↦ (let e : false ≡ true = sym m ∙ w.if-not-query.false in cc)
+    ] in
     subst (λ is. OnOk c.push.result (c.push.new.self ≡ is))
-    ((λ k. c.args.found.now ++ ((c.in_ok-takes.ensures k, c.in_ok-subst.ensures k) ∷ [])) ∙ add_new-fresh c.args.found.now (table_of c.args.path.now, trail_of c.args.trail.now) (sym test ∙ c.if-is_known.false))
+    ((λ k. c.args.found.now ++ ((c.in_ok-takes.ensures k, c.in_ok-subst.ensures k) ∷ [])) ∙ collected-new q.one_table test c.args.found.now here passes new)
     c.push.ensures.ok

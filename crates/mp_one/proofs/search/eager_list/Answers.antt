@@ -1,31 +1,46 @@
-use Rattle.std.proofs.Common.{◌≡◌, [], ap, ◌∙◌, sym, subst}
+use Rattle.std.proofs.Common.{◌≡◌, [], ◌∷◌, refl, ap, ◌∙◌, sym, subst}
 use Rattle.std.specs.List.{AllByRecursion}
 use Rattle.mp_term.specs.View.{tree}
 use Rattle.mp_pattern.specs.View.{pattern_tree}
 use Rattle.mp_pattern.specs.RuleView.{rule_tree}
-use Rattle.mp_pattern.specs.Firsts.{firsts_after}
+use Rattle.mp_pattern.specs.Size.{pattern_nodes}
+use Rattle.mp_pattern.specs.Admission.{meets}
 use Rattle.mp_pattern.specs.Lists.{IsOneList}
 use Rattle.mp_theory.specs.Frames.{settle, start}
 use Rattle.mp_theory.specs.Trail.{derivations}
 use Rattle.mp_term.specs.Normal.{IsNormal}
 use Rattle.mp_theory.specs.Sound.{IsSound}
-use Rattle.mp_theory.specs.OneList.{same_item, item_substs, item_list, one_list, AreItems}
+use Rattle.mp_theory.specs.OneList.{item_substs, item_list, one_list, AreItems}
 use Rattle.mp_theory.proofs.OneListLaws.{one_list-is, item_list-are, item_substs-item_list, items-shape}
-use Rattle.mp_one.specs.Stack.{entries_left}
+use Rattle.mp_theory.proofs.TrailLaws.{derivations-fit}
+use Rattle.mp_theory.proofs.DistinctItems.{distinct-derivations}
+use Rattle.mp_one.specs.Stack.{frame_of}
 use Rattle.mp_one.specs.Items.{IsItemOf}
-use Rattle.mp_one.proofs.WalkLaws.{item_list-by_stack}
+use Rattle.mp_one.specs.Found.{AreReadyFor, collected}
+use Rattle.mp_one.proofs.WalkLaws.{derivations-root, collected-item_list}
+use Rattle.mp_one.proofs.ReadyItems.{items-ready}
 use Rattle.mp_one.proofs.ItemLaws.{IsItemOf-plan_of}
 use Rattle.mp_one.proofs.search.eager_list.Goals as goal
+
+pub search_from-requires : goal.search_from-requires
+search_from-requires c =
+    let p = pattern_tree c.args.rule.now.pattern in
+    let t = tree c.args.subject.now in
+    let condition = (rule_tree c.args.rule.now).condition in
+    subst (AreReadyFor condition) (sym (derivations-root c.args.sig.now (frame_of c.in_ok-root_frame.field-0 ∷ []) p t c.in_ok-root_frame.ensures)) (items-ready c.args.sig.now p t c.requires.small c.requires.few condition (derivations c.args.sig.now (pattern_nodes p) (settle (start p t)) [] []) c.requires.condition (derivations-fit c.args.sig.now p t c.requires.sound c.requires.normal))
 
 -- what was found is the list of items
 listed : (c : goal.In_ok-search_from) → c.search_from.new.found ≡ item_list c.args.sig.now (rule_tree c.args.rule.now) (tree c.args.subject.now)
 listed c =
+    let sig = c.args.sig.now in
     let r = rule_tree c.args.rule.now in
     let t = tree c.args.subject.now in
+    let b = c.decides_table.result in
+    let all = derivations sig (pattern_nodes r.pattern) (settle (start r.pattern t)) [] [] in
     c.in_ok-search_from.ensures
-    ∙ ap (λ fs. firsts_after same_item c.new-found.result (derivations c.args.sig.now (entries_left fs) (settle fs) [] [])) c.in_ok-root_frame.ensures
-    ∙ ap (λ is. firsts_after same_item is (derivations c.args.sig.now (entries_left (start r.pattern t)) (settle (start r.pattern t)) [] [])) c.new-found.ensures
-    ∙ item_list-by_stack c.args.sig.now r t c.requires.unconditional
+    ∙ ap (λ is. collected b (λ i. meets sig r.condition i.1) c.new-found.result is) (derivations-root sig (frame_of c.in_ok-root_frame.field-0 ∷ []) r.pattern t c.in_ok-root_frame.ensures)
+    ∙ ap (λ is. collected b (λ i. meets sig r.condition i.1) is all) c.new-found.ensures
+    ∙ collected-item_list sig b r t all refl (λ e. let k = c.decides_table.ensures.0 e in distinct-derivations sig r.pattern t k.0 k.1 c.requires.sound c.requires.normal)
 
 pub returns-clause-list : goal.returns-clause-list
 returns-clause-list c = listed c

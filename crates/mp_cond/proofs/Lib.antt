@@ -1,0 +1,5 @@
+pub mod ReadyLaws
+mod Every
+mod Counted
+mod Same
+mod Parts
