@@ -7,3 +7,5 @@ pub mod WalkLaws
 pub mod SoundLaws
 pub mod FoundLaws
 pub mod ItemLaws
+pub mod CheckLaws
+pub mod PlanPatternLaws

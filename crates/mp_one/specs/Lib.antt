@@ -6,3 +6,5 @@ pub mod Held
 pub mod Trail
 pub mod Items
 pub mod ItemCode
+pub mod PlanPattern
+pub mod Check
