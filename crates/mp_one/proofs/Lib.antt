@@ -8,3 +8,5 @@ pub mod SoundLaws
 pub mod FoundLaws
 pub mod ItemLaws
 pub mod ReadyItems
+pub mod CheckLaws
+pub mod PlanPatternLaws
