@@ -1,15 +1,17 @@
 //! Reads a rule file by recursive descent, with one token held.
 
-ghost use Rattle.std.specs.Prelude.{◌≡◌, ◌<◌, ◌-◌, ◌^◌, ◌∷◌, length, OnOk};
+ghost use Rattle.std.specs.Prelude.{◌≡◌, ◌<◌, ◌-◌, ◌^◌, ◌∷◌, None, length, OnOk, IfSome, IfNone};
 ghost use Rattle.mp_syntax.specs.Tokens.{first_place};
 ghost use Rattle.mp_syntax.specs.Lexing.{placed, token_of, behind, lexemes};
-ghost use Rattle.mp_syntax.specs.Machine.{is_punct, is_sign, is_end, is_number, word_of, sign_of, refusal};
-ghost use Rattle.mp_syntax.specs.Parsing.{ahead, PunctGives, TextGives, NumberGives};
+ghost use Rattle.mp_syntax.specs.Machine.{is_punct, is_sign, is_end, is_number, word_of, sign_of, wildcard_at, refusal};
+ghost use Rattle.mp_syntax.specs.View.{wildcard_of};
+ghost use Rattle.mp_syntax.specs.Parsing.{ahead, PunctGives, TextGives, NumberGives, PassesWildcard};
 
 use crate::fault::{Fault, FaultKind, SyntaxError};
 use crate::lexer::Lexer;
 use crate::place::Spot;
 use crate::token::{Kind, Punct, Token};
+use crate::tree::Wildcard;
 
 /// The token held, and what lies behind it.
 #[derive(Clone, Copy, Debug)]
@@ -106,6 +108,28 @@ impl<'a> Parser<'a> {
                 Ok(Spot { text, place })
             }
             _ => Err(self.refused()),
+        }
+    }
+
+    /// Passes a wildcard and gives it, where one is held.
+    pub fn wildcard(&mut self) -> Option<Wildcard<'a>>
+        ensures read { IfSome result (λ w. PassesWildcard (wildcard_of w) (ahead self.old) (ahead self.new)) }
+        ensures shorter { IfSome result (λ w. length (ahead self.new) < length (ahead self.old)) }
+        ensures none { IfNone result (wildcard_at (token_of self.old.token.kind) self.old.token.place ≡ None) }
+        ensures stays { IfNone result (self.new ≡ self.old) }
+    {
+        let place = self.token.place;
+        match self.token.kind {
+            Kind::Wildcard { name, marks, kind } => {
+                self.advance();
+                Some(Wildcard {
+                    name,
+                    marks,
+                    kind,
+                    place,
+                })
+            }
+            _ => None,
         }
     }
 
