@@ -1,7 +1,7 @@
 -- Steps of the machine, and runs over one token.
 use Rattle.std.proofs.Common.{◌≡◌, ℕ, suc, ◌+◌, ◌<◌, true, false, cond, List, [], ◌∷◌, ◌++◌, length, Some, None, Result, refl, ap, ◌∙◌, arith}
 use Rattle.std.specs.Prelude.{◌&&◌}
-use Rattle.std.proofs.lemmas.Bool.{lt-leb}
+use Rattle.std.proofs.lemmas.Bool.{lt-leb, and_parts}
 use Rattle.mp_syntax.specs.declared.place.Place.{Place}
 use Rattle.mp_syntax.specs.declared.token.Punct.{Punct}
 use Rattle.mp_syntax.specs.declared.token.Punct.TheVariants.{Open, Close, Comma, Colon, Semicolon}
@@ -35,6 +35,15 @@ one-step done at t new s e f = ap (λ ts. onward t.place done (step at t) ts) e 
 pub over-punct : (p : Punct) (t : Placed) (old new : List Placed) → old ≡ t ∷ behind t.token new → is_punct p t.token ≡ true → (done : List Statement) (at : State) (next : Step) → step at t ≡ next → run done at old ≡ onward t.place done next new
 over-punct p t old new e h done at next f = ap (run done at) e ∙ one-step done at t new next (behind-punct p t.token new h) f
 
+-- behind a sign lie the other tokens
+behind-sign : (text : List ℕ) (t : Token) (ts : List Placed) → is_sign text t ≡ true → behind t ts ≡ ts
+behind-sign text (Sign s) ts h = refl
+behind-sign text _ ts h = absurd cc
+
+-- a step over a sign
+pub over-sign : (text : List ℕ) (t : Placed) (old new : List Placed) → old ≡ t ∷ behind t.token new → is_sign text t.token ≡ true → (done : List Statement) (at : State) (next : Step) → step at t ≡ next → run done at old ≡ onward t.place done next new
+over-sign text t old new e h done at next f = ap (run done at) e ∙ one-step done at t new next (behind-sign text t.token new h) f
+
 -- a punctuation character that the state has
 pub passes-punct : (p : Punct) (t : Placed) (old new : List Placed) → old ≡ t ∷ behind t.token new → is_punct p t.token ≡ true → (done : List Statement) (at : State) (next : Step) → WantsPunct t at p next → run done at old ≡ onward t.place done next new
 passes-punct p t old new e h done at next wants = over-punct p t old new e h done at next (wants ∙ ap (λ b. cond b next (refuse t.token)) h)
@@ -42,6 +51,10 @@ passes-punct p t old new e h done at next wants = over-punct p t old new e h don
 -- what passes a punctuation character leaves one token less
 pub length-passed : (p : Punct) (t : Placed) (old new : List Placed) → old ≡ t ∷ behind t.token new → is_punct p t.token ≡ true → length old ≡ suc (length new)
 length-passed p t old new e h = ap length (e ∙ ap (λ ts. t ∷ ts) (behind-punct p t.token new h))
+
+-- the same of a sign
+pub length-passed_sign : (text : List ℕ) (t : Placed) (old new : List Placed) → old ≡ t ∷ behind t.token new → is_sign text t.token ≡ true → length old ≡ suc (length new)
+length-passed_sign text t old new e h = ap length (e ∙ ap (λ ts. t ∷ ts) (behind-sign text t.token new h))
 
 -- behind an argument that is read, where no comma follows, the bracket closes
 pub expr-closes : (x : Within) (name : Spot) (args : List Tree) (k : List Frame) (e : Tree) (t : Placed) → is_punct Comma t.token ≡ false → WantsPunct t (AfterExpr x (Arguments name args ∷ k) e) Close (Go (AfterExpr x k (Apply name (trees (args ++ e ∷ [])))))
@@ -105,6 +118,10 @@ wildcard-step x k t w e =
 -- a colon behind a wildcard with one underscore and no kind leads to its default
 pub default-step : (x : Within) (k : List Frame) (w : Wildcard) (t : Placed) → (is_punct Colon t.token && is_dot w) ≡ true → step (AfterWildcard x k w) t ≡ Go (BeforeExpr x (Default w ∷ k))
 default-step x k w t e = ap (λ b. cond b (Go (BeforeExpr x (Default w ∷ k))) (step_behind x k (Wild w) t)) e
+
+-- a run over that colon
+pub over-default : (t : Placed) (old new : List Placed) → old ≡ t ∷ behind t.token new → (done : List Statement) (x : Within) (k : List Frame) (w : Wildcard) → (is_punct Colon t.token && is_dot w) ≡ true → run done (AfterWildcard x k w) old ≡ run done (BeforeExpr x (Default w ∷ k)) new
+over-default t old new e done x k w h = over-punct Colon t old new e (and_parts (is_punct Colon t.token) (is_dot w) h).0 done (AfterWildcard x k w) (Go (BeforeExpr x (Default w ∷ k))) (default-step x k w t h)
 
 -- a wildcard that no default follows is the expression
 pub wildcard-alone : (done : List Statement) (x : Within) (k : List Frame) (w : Wildcard) (t : Placed) (ts : List Placed) → (is_punct Colon t.token && is_dot w) ≡ false → run done (AfterWildcard x k w) (t ∷ ts) ≡ run done (AfterExpr x k (Wild w)) (t ∷ ts)

@@ -110,9 +110,14 @@ abbrev pub WildcardLeads : ℕ → Wildcard → Result Expr SyntaxError → List
 WildcardLeads room w (Ok e) old new = (done : List Statement) (x : Within) (k : List Frame) → open_count k + room ≡ 100 → run done (AfterWildcard x k w) old ≡ run done (AfterExpr x k (expr_tree e)) new
 WildcardLeads room w (Err e) old new = (done : List Statement) (x : Within) (k : List Frame) → open_count k + room ≡ 100 → Fails e (run done (AfterWildcard x k w) old)
 
--- a wildcard is passed
-abbrev pub PassesWildcard : Wildcard → List Placed → List Placed → Type 0
-PassesWildcard w old new = (done : List Statement) (x : Within) (k : List Frame) → run done (BeforeExpr x k) old ≡ run done (AfterWildcard x k w) new
+-- the state behind a wildcard, where there is one
+abbrev pub behind_wildcard : Within → List Frame → Option code_wildcard.Wildcard → State
+behind_wildcard x k (Some w) = AfterWildcard x k (wildcard_of w)
+behind_wildcard x k None = BeforeExpr x k
+
+-- a wildcard is passed, where one is held
+abbrev pub WildcardGives : Option code_wildcard.Wildcard → List Placed → List Placed → Type 0
+WildcardGives o old new = (done : List Statement) (x : Within) (k : List Frame) → run done (BeforeExpr x k) old ≡ run done (behind_wildcard x k o) new
 
 -- what the default of the last of these wildcards stands in
 abbrev pub within_defaults : List Wildcard → List Frame → List Frame

@@ -86,7 +86,7 @@ impl<'a> Parser<'a> {
         ensures read { WildcardLeads room (wildcard_of wildcard.entry) result (ahead self.old) (ahead self.new) }
         ensures shorter { OnOk result (length (ahead self.new) ≤ length (ahead self.old)) }
     {
-        if !(self.sees(Punct::Colon) && wildcard.is_dot()) {
+        if !self.sees_default(&wildcard) {
             return Ok(Expr::Wild(wildcard));
         }
         self.advance();
@@ -114,7 +114,7 @@ impl<'a> Parser<'a> {
         let mut others = Vec::new(alloc);
         let mut last = self.wildcard();
         while let Some(wildcard) = last {
-            if !(self.sees(Punct::Colon) && wildcard.is_dot()) {
+            if !self.sees_default(&wildcard) {
                 break;
             }
             others.push(wildcard)?;
