@@ -197,7 +197,7 @@ lexes-with_colon w rest place h =
     let here = placed_wildcard w place in
     let r = lexes-wildcard (wildcard_text w) w.name w.marks w.kind (58 ∷ rest) place (spelled_wildcard here) (wildcard-spells w h) refl (refl, refl) in
     subst (λ l. Lexes l place (spell_with_colon here) rest) (sym (append_assoc (wildcard_text w) (58 ∷ []) rest))
-        (lexes-then (wildcard_text w ++ (58 ∷ rest)) (58 ∷ rest) rest place (spelled_wildcard here ∷ []) (colon ∷ []) r (lexes-punct Colon rest r.after colon refl))
+    (lexes-then (wildcard_text w ++ (58 ∷ rest)) (58 ∷ rest) rest place (spelled_wildcard here ∷ []) (colon ∷ []) r (lexes-punct Colon rest r.after colon refl))
 
 lexes-chain : (w : Wildcard) (others : List Wildcard) (rest : List ℕ) (place : Place) → HaveParts (w ∷ others) → AreDots (w ∷ others) → LexesChain (flat_map text_with_colon (w ∷ others) ++ rest) rest place w others
 lexes-chain w [] rest place h dots =

@@ -1,4 +1,4 @@
-use Rattle.std.proofs.Common.{◌≡◌, ◌+◌, [], ◌∷◌, ◌++◌, map, None, refl, sym, ap, subst, ◌∙◌, arith}
+use Rattle.std.proofs.Common.{◌≡◌, ◌+◌, [], ◌∷◌, ◌++◌, map, refl, sym, ap, subst, ◌∙◌, arith}
 use Rattle.std.proofs.lemmas.Result.{err_from_is_err_and}
 use Rattle.std.proofs.lemmas.List.{map_push}
 use Rattle.mp_syntax.specs.declared.token.Punct.TheVariants.{Open, Close}
@@ -123,11 +123,11 @@ behind_wildcard-returns-clause-read t c = λ done x k len.
     let e = expr_tree c.match-last.default in
     let test = sym c.sees_default.ensures ∙ c.if-not-sees_default.false in
     let plain : HasNoDefault e = elim c.match-last.branch [
-        behind_wildcard-in-Some v ↦ subst (λ d. HasNoDefault (expr_tree d)) (sym v.default-is) tt
+      | behind_wildcard-in-Some v ↦ subst (λ d. HasNoDefault (expr_tree d)) (sym v.default-is) tt
       | behind_wildcard-in-None+in_ok-default-in-None v ↦ subst (λ d. HasNoDefault (expr_tree d)) (sym v.default-is) v.in_ok-default-in-None.ensures.plain
     ] in
     let last : run done (behind_chain x (within_defaults ws k) c.in_ok-others.last) (ahead c.chain.new.self) ≡ run done (AfterExpr x (within_defaults ws k) e) (ahead c.match-last.self) = elim c.match-last.branch [
-        behind_wildcard-in-Some v ↦ ap (λ o. run done (behind_chain x (within_defaults ws k) o) (ahead c.chain.new.self)) v.in-Some.is ∙ (λ i. run done (AfterExpr x (within_defaults ws k) (expr_tree (sym v.default-is i))) (ahead (sym v.self-is i)))
+      | behind_wildcard-in-Some v ↦ ap (λ o. run done (behind_chain x (within_defaults ws k) o) (ahead c.chain.new.self)) v.in-Some.is ∙ (λ i. run done (AfterExpr x (within_defaults ws k) (expr_tree (sym v.default-is i))) (ahead (sym v.self-is i)))
       | behind_wildcard-in-None+in_ok-default-in-None v ↦
           ap (λ o. run done (behind_chain x (within_defaults ws k) o) (ahead c.chain.new.self)) v.in-None.is
           ∙ v.in_ok-default-in-None.ensures.read done x (within_defaults ws k) (ap (λ n. n + c.args.room) (open_count-within_defaults ws k) ∙ len)

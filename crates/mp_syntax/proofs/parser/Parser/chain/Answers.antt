@@ -1,4 +1,4 @@
-use Rattle.std.proofs.Common.{[], ◌∷◌, ◌++◌, map, None, sym, ap, subst, ◌∙◌, arith, rules}
+use Rattle.std.proofs.Common.{map, None, sym, ap, subst, ◌∙◌, arith}
 use Rattle.std.specs.Prelude.{◌≡◌, IfNone}
 use Rattle.std.proofs.lemmas.Bool.{and_parts}
 use Rattle.std.proofs.lemmas.List.{map_push}
