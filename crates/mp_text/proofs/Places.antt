@@ -23,7 +23,8 @@ use Rattle.mp_text.specs.declared.fault.TextFault.{TextFault}
 use Rattle.mp_text.specs.Names.{is_among, rule_names, subject_names, number_of, wildcards, all_wildcards, wildcard_names, all_wildcard_names, variable_names}
 use Rattle.mp_text.specs.Flags.{says_assoc, says_comm, says_one, says_infix, is_said, is_said_twice, some_flag_twice, sign_spot, is_long_sign}
 use Rattle.mp_text.specs.Build.{op_decl, kind_decl, op_decls, kind_decls, sig_with, sig_of, head_number, op_number, sign_number, term_of, terms_of, pattern_of, patterns_of, rule_of, subject_of, rules_of, subjects_of, file_over, file_tree_of}
-use Rattle.mp_text.specs.Checks.{fault_at, fault_if, nodes, all_nodes, is_large_pattern, is_large_term, is_star, may_take_more, fewest, allows_patterns, head_faults, arity_faults, sign_faults, op_named, op_signed, symbol_faults, term_faults, term_operand_faults, all_term_faults, differs, kind_unknown, wildcard_faults, pattern_faults, pattern_operand_faults, all_pattern_faults, loose_faults, whole_pattern_faults, name_faults, has_bad_flags, held_sign_faults, op_faults, kind_faults, op_statement_faults, kind_statement_faults, statement_faults, faults_by, declaration_faults, faults}
+use Rattle.mp_text.specs.Checks.{fault_at, fault_if, nodes, all_nodes, is_large_pattern, is_large_term, is_star, may_take_more, fewest, allows_patterns, head_faults, arity_faults, sign_faults, op_named, op_signed, symbol_faults, term_faults, term_operand_faults, all_term_faults, differs, kind_unknown, wildcard_faults, pattern_faults, pattern_operand_faults, all_pattern_faults, loose_faults, whole_pattern_faults, name_faults, has_bad_flags, held_sign_faults, op_faults, kind_faults, op_statement_faults, kind_statement_faults, faults_by, declaration_faults}
+use Rattle.mp_text.specs.FileChecks.{statement_faults, faults}
 
 -- ---- expressions
 

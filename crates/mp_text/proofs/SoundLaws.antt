@@ -32,7 +32,8 @@ use Rattle.mp_text.specs.declared.fault.TextFault.{TextFault}
 use Rattle.mp_syntax.specs.declared.place.Place.{Place}
 use Rattle.mp_text.specs.Names.{is_among, named, wildcards, wildcard_names, all_wildcard_names, variable_names, rule_names, subject_names}
 use Rattle.mp_text.specs.Build.{op_number, sign_number, head_number, op_decl, op_decls, kind_shape, shape_of, variable_of, term_of, terms_of, pattern_of, patterns_of, rules_of, subjects_of, sig_of, file_tree_of}
-use Rattle.mp_text.specs.Checks.{fault_if, kind_unknown, nodes, all_nodes, is_large_pattern, is_large_term, op_at, op_named, op_signed, head_faults, arity_faults, sign_faults, allows_patterns, term_faults, term_operand_faults, all_term_faults, pattern_faults, pattern_operand_faults, all_pattern_faults, loose_faults, whole_pattern_faults, name_faults, op_faults, op_statement_faults, kind_statement_faults, declaration_faults, statement_faults, faults_by, faults}
+use Rattle.mp_text.specs.Checks.{fault_if, kind_unknown, nodes, all_nodes, is_large_pattern, is_large_term, op_at, op_named, op_signed, head_faults, arity_faults, sign_faults, allows_patterns, term_faults, term_operand_faults, all_term_faults, pattern_faults, pattern_operand_faults, all_pattern_faults, loose_faults, whole_pattern_faults, name_faults, op_faults, op_statement_faults, kind_statement_faults, declaration_faults, faults_by}
+use Rattle.mp_text.specs.FileChecks.{statement_faults, faults}
 use Rattle.mp_pattern.specs.Sound.{DefaultIsNormal, DefaultsAreNormal, AllDefaultsAreNormal, holds_ops, all_hold_ops}
 use Rattle.mp_pattern.proofs.ClashLaws.{first_clash-normal_pattern}
 use Rattle.mp_pattern.proofs.Preserved.{defaults-normal_pattern, holds_ops-normal_pattern}

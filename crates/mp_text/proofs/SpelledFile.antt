@@ -19,7 +19,8 @@ use Rattle.mp_text.specs.declared.fault.TextFault.{TextFault}
 use Rattle.mp_text.specs.Subject.{Subject}
 use Rattle.mp_text.specs.File.{FileTree}
 use Rattle.mp_text.specs.Build.{op_decls, kind_decls, sig_with, sig_of, term_of, pattern_of, rule_of, rules_of, subject_of, subjects_of, file_over, file_tree_of}
-use Rattle.mp_text.specs.Checks.{nodes, is_large_pattern, is_large_term, term_faults, pattern_faults, loose_faults, whole_pattern_faults, name_faults, op_statement_faults, kind_statement_faults, declaration_faults, statement_faults, faults_by, faults}
+use Rattle.mp_text.specs.Checks.{nodes, is_large_pattern, is_large_term, term_faults, pattern_faults, loose_faults, whole_pattern_faults, name_faults, op_statement_faults, kind_statement_faults, declaration_faults, faults_by}
+use Rattle.mp_text.specs.FileChecks.{statement_faults, faults}
 use Rattle.mp_text.specs.Names.{is_among, rule_names, subject_names, variable_names}
 use Rattle.mp_text.specs.PrintedFile.{file_text}
 use Rattle.mp_text.specs.Reading.{IsFileOf}

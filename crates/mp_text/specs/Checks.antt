@@ -1,4 +1,4 @@
--- The checks of a file's statements: all faults that they find, in the order in which they count.
+-- The checks of expressions and declarations: all faults that they find, in the order in which they count.
 use Rattle.std.specs.Prelude.{ℕ, ◌+◌, ◌==◌, Bool, false, ◌||◌, ◌&&◌, not, List, [], ◌∷◌, ◌++◌, length, map, flat_map, Option, Some, None, is_some, is_none, option_and_then, slice_get, nat_le, nat_lt, count_by, if◌then◌else◌}
 use Rattle.std.specs.List.{list_any}
 use Rattle.std.specs.Str.{bytes_eq}
@@ -203,13 +203,6 @@ kind_statement_faults ds earlier (KindOf name members) = kind_faults (sig_with d
 kind_statement_faults ds earlier (RuleOf name p) = []
 kind_statement_faults ds earlier (SubjectOf name t) = []
 
--- The faults of any other statement, behind earlier statements, over the signature that the file declares. There are at most 1,000 rules and 1,000 subjects.
-abbrev pub statement_faults : Sig → List Statement → Statement → List TextFault
-statement_faults sig earlier (OpOf name least more flags) = []
-statement_faults sig earlier (KindOf name members) = []
-statement_faults sig earlier (RuleOf name p) = name_faults 1000 (rule_names earlier) (is_large_pattern p) name ++ whole_pattern_faults sig p
-statement_faults sig earlier (SubjectOf name t) = name_faults 1000 (subject_names earlier) (is_large_term t) name ++ term_faults sig t
-
 -- the faults of each statement behind the earlier ones, by a rule for one
 abbrev pub faults_by : (List Statement → Statement → List TextFault) → List Statement → List Statement → List TextFault
 faults_by rule earlier [] = []
@@ -218,7 +211,3 @@ faults_by rule earlier (s ∷ ss) = rule earlier s ++ faults_by rule (earlier ++
 -- the faults of a file's declarations: those of its operations, and then those of its kinds
 abbrev pub declaration_faults : List Statement → List TextFault
 declaration_faults ss = faults_by op_statement_faults [] ss ++ faults_by (kind_statement_faults (op_decls ss)) [] ss
-
--- the faults of a file: those of its declarations, and then those of its other statements
-abbrev pub faults : List Statement → List TextFault
-faults ss = declaration_faults ss ++ faults_by (statement_faults (sig_of ss)) [] ss

@@ -5,6 +5,7 @@ pub mod Names
 pub mod Flags
 pub mod Build
 pub mod Checks
+pub mod FileChecks
 pub mod Answers
 pub mod Reading
 pub mod Printing

@@ -1,6 +1,6 @@
 //! Limits and counts of expressions.
 
-ghost use Rattle.std.specs.Prelude.{◌≡◌, ◌+◌, ◌-◌, ◌^◌, ◌||◌, ℕ, List, [], ◌∷◌, length, map, min, nat_lt, IfOk, OnOk};
+ghost use Rattle.std.specs.Prelude.{◌≡◌, ◌+◌, ◌-◌, ◌^◌, ◌≤◌, ◌||◌, ℕ, List, [], ◌∷◌, length, map, min, nat_lt, IfOk, OnOk};
 ghost use Rattle.std.specs.List.{list_any};
 ghost use Rattle.std.specs.Str.{bytes_eq};
 ghost use Rattle.mp_pattern.specs.Firsts.{firsts_after};
@@ -22,13 +22,14 @@ const MAX_TERM_NODES: u64 = 100_000;
 /// The greatest number of arguments that a declaration may say.
 pub const MAX_ARITY: u32 = 1000;
 
-/// The number that decimal digits write, or `MAX_ARITY + 1` where it is greater than that.
-pub fn number_of(digits: &[u8]) -> u32
-    ensures { result ≡ min (number_of digits.now) 1001 }
+/// The number that decimal digits write, or one more than the limit where it is greater than that.
+pub fn number_of(digits: &[u8], limit: u32) -> u32
+    requires { limit ≤ 1000000 }
+    ensures { result ≡ min (number_of digits.now) (limit + 1) }
 {
     let mut number = 0;
     for digit in digits {
-        number = (10 * number + u32::from(digit.saturating_sub(48))).min(MAX_ARITY + 1);
+        number = (10 * number + u32::from(digit.saturating_sub(48))).min(limit + 1);
     }
     number
 }
