@@ -6,7 +6,7 @@ use Rattle.mp_term.specs.Normal.{normal}
 use Rattle.mp_pattern.specs.PatternTree as pattern
 use Rattle.mp_syntax.specs.declared.place.Place.{Place}
 use Rattle.mp_syntax.specs.declared.fault.Fault.{Fault}
-use Rattle.mp_syntax.specs.Syntax.{Tree, Symbol, Apply, InfixOf, Wild, IsExprOf}
+use Rattle.mp_syntax.specs.Syntax.{Tree, Symbol, Apply, InfixOf, Wild, Optional, IsExprOf}
 use Rattle.mp_text.specs.declared.fault.TextKind.TheVariants.{TooMany}
 use Rattle.mp_text.specs.declared.fault.TextFault.{TextFault}
 use Rattle.mp_text.specs.declared.fault.TextError.{TextError}
@@ -24,6 +24,7 @@ start (Symbol w) = w.place
 start (Apply f args) = f.place
 start (InfixOf opened sign operands) = opened
 start (Wild w) = w.place
+start (Optional w others default) = w.place
 
 -- the faults of a term alone: it is too large, at its first token; and its faults by token
 abbrev pub term_alone_faults : Sig → Tree → List TextFault
@@ -50,7 +51,7 @@ normal_term_of sig t = normal sig (term_of sig t)
 abbrev pub IsTermOf : Sig → List ℕ → term.Tree → Type 0
 IsTermOf sig = IsValueOf IsExprOf (term_alone_faults sig) (normal_term_of sig)
 
--- the bytes are this pattern, as it is written
+-- the bytes are this pattern, as it is written, with its defaults in normal form
 abbrev pub IsPatternOf : Sig → List ℕ → pattern.Pattern → Type 0
 IsPatternOf sig = IsValueOf IsExprOf (pattern_alone_faults sig) (pattern_of sig)
 

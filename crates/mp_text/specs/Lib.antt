@@ -4,6 +4,8 @@ pub mod File
 pub mod Names
 pub mod Flags
 pub mod Build
+pub mod Wildcards
+pub mod WildcardView
 pub mod Checks
 pub mod FileChecks
 pub mod Answers
@@ -11,5 +13,6 @@ pub mod Reading
 pub mod Printing
 pub mod PrintedFile
 pub mod Spelled
+pub mod Depth
 pub mod Sound
 pub mod Alone
