@@ -4,7 +4,7 @@ use Rattle.mp_syntax.specs.Syntax.{Tree, InfixOf, trees, HaveNames}
 use Rattle.mp_pattern.specs.View.{pattern_tree}
 use Rattle.mp_syntax.specs.View.{spot_of, expr_tree}
 use Rattle.mp_text.specs.WildcardView.{wildcard_view}
-use Rattle.mp_text.specs.Names.{wildcards}
+use Rattle.mp_text.specs.Wildcards.{pattern_wildcards}
 use Rattle.mp_syntax.proofs.Trees.{expr_tree-Infix}
 use Rattle.mp_text.specs.Answers.{Gives}
 use Rattle.mp_text.specs.Checks.{nodes, all_nodes, op_signed, sign_faults, pattern_faults, pattern_operand_faults}
@@ -62,7 +62,7 @@ build_pattern-infix_pattern-requires t c =
 pub build_pattern-returns-in-Infix : goal.build_pattern-returns-in-Infix
 build_pattern-returns-in-Infix t c =
     let Q : Tree → Type 0 = λ e. Gives c.infix_pattern.result (pattern_faults c.args.sig.now (map wildcard_view c.args.before.now.items) e)
-    (λ v. (pattern_tree v ≡ pattern_of c.args.sig.now e) × (map wildcard_of c.infix_pattern.new.before.items ≡ map wildcard_view c.args.before.now.items ++ wildcards e)) in
+    (λ v. (pattern_tree v ≡ pattern_of c.args.sig.now e) × (map wildcard_view c.infix_pattern.new.before.items ≡ map wildcard_view c.args.before.now.items ++ pattern_wildcards c.args.sig.now e)) in
     let same = ap expr_tree c.in-Infix.is ∙ expr_tree-Infix c.in-Infix.place c.in-Infix.sign c.in-Infix.operands
     ∙ ap (λ l. InfixOf c.in-Infix.place (spot_of c.in-Infix.sign) (trees (map expr_tree l))) (sym c.deref-in-Infix.ensures.value) in
     subst Q (sym same) c.infix_pattern.ensures
