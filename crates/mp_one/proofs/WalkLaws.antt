@@ -20,7 +20,7 @@ use Rattle.mp_theory.proofs.TrailLaws.{item_list-by_derivations}
 use Rattle.mp_one.specs.Stack.{nodes_below, entries_left}
 use Rattle.mp_one.proofs.PieceSteps.{drop-next}
 
-pattern_nodes-below : (p : Pattern) → pattern_nodes p ≡ suc (nodes_below p)
+pub pattern_nodes-below : (p : Pattern) → pattern_nodes p ≡ suc (nodes_below p)
 pattern_nodes-below (symbol_pattern n) = refl
 pattern_nodes-below (app_pattern g ps) = omega arith
 pattern_nodes-below (wild_pattern w x) = refl
