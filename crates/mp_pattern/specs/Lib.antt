@@ -6,6 +6,7 @@ pub mod Order
 pub mod PatternOrderLaws
 pub mod Normal
 pub mod Sound
+pub mod Limits
 pub mod Syntactic
 pub mod Subpatterns
 pub mod Ground
@@ -16,6 +17,7 @@ pub mod Contribution
 pub mod Fits
 pub mod DerivationOrder
 pub mod Holds
+pub mod Operands
 pub mod Instance
 pub mod Admission
 pub mod Lists
