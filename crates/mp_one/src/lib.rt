@@ -20,4 +20,4 @@ mod value;
 
 pub use item::{Item, Items};
 pub use search::eager_list;
-pub use sound::is_sound;
+pub use sound::{has_small_defaults, is_sound};
