@@ -8,3 +8,4 @@ pub mod SoundLaws
 pub mod FoundLaws
 pub mod ItemLaws
 pub mod ReadyItems
+pub mod ConditionLaws
