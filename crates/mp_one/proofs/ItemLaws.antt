@@ -27,7 +27,7 @@ map-itself : (xs : List (List ℕ)) → map (λ x. x) xs ≡ xs
 map-itself [] = refl
 map-itself (x ∷ xs) = ap (λ l. x ∷ l) (map-itself xs)
 
-names-plan_of : (sig : Sig) (p : Pattern) → map (λ v. v.name) (plan_of sig p).variables ≡ variables p
+pub names-plan_of : (sig : Sig) (p : Pattern) → map (λ v. v.name) (plan_of sig p).variables ≡ variables p
 names-plan_of sig p = map-map (λ v. v.name) (λ x. record { name = x; form = variable_form sig p x }) (variables p) ∙ map-itself (variables p)
 
 pub IsItemOf-plan_of : (sig : Sig) (p : Pattern) (is : List Item) → AllByRecursion (λ i. (length i.0 ≡ pattern_nodes p) × (map (λ b. b.name) i.1 ≡ variables p)) is → AllByRecursion (IsItemOf (plan_of sig p)) is

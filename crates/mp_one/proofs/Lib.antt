@@ -10,3 +10,4 @@ pub mod ItemLaws
 pub mod ReadyItems
 pub mod CheckLaws
 pub mod PlanPatternLaws
+pub mod ConditionLaws

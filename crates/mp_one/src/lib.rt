@@ -25,4 +25,4 @@ mod value;
 pub use check::check_takes;
 pub use item::{Item, Items};
 pub use search::eager_list;
-pub use sound::is_sound;
+pub use sound::{has_small_defaults, is_sound};

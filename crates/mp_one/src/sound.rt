@@ -3,10 +3,11 @@ ghost use Rattle.std.specs.Prelude.{◌≡◌, ◌↔◌, IsTrue, true, map, Non
 ghost use Rattle.mp_pattern.specs.PatternTree.{patterns};
 ghost use Rattle.mp_pattern.specs.View.{pattern_tree};
 ghost use Rattle.mp_pattern.specs.Instance.{is_fully_named};
+ghost use Rattle.mp_pattern.specs.Limits.{DefaultsAreSmall, AllDefaultsAreSmall};
 ghost use Rattle.mp_theory.specs.Sound.{AllEach, DefaultNormal, HasNoOptional, IsNotOptional, IsSound};
 
 use mp_pattern::{Pattern, Shape, is_fully_named};
-use mp_term::{Signature, is_normal};
+use mp_term::{Signature, is_normal, node_count};
 
 /// Whether the default of each optional wildcard is normal.
 #[cycle(sound)]
@@ -28,6 +29,29 @@ fn all_sound(sig: &Signature, children: &[Pattern]) -> bool
     match children {
         [] => true,
         [first, rest @ ..] => is_sound(sig, first) && all_sound(sig, rest),
+    }
+}
+
+/// Whether the default of each optional wildcard has at most 64 nodes (`DefaultsAreSmall` of mp_pattern's `specs/Limits`).
+#[cycle(small)]
+pub fn has_small_defaults(pattern: &Pattern) -> bool
+    ensures { IsTrue result ↔ DefaultsAreSmall (pattern_tree pattern.now) }
+{
+    match pattern {
+        Pattern::Wild(Shape::Opt(default), _) => node_count(default) <= 64,
+        Pattern::App(_, children) => have_small_defaults(children.as_slice()),
+        _ => true,
+    }
+}
+
+// Whether those of all the patterns have.
+#[cycle(small)]
+fn have_small_defaults(children: &[Pattern]) -> bool
+    ensures { IsTrue result ↔ AllDefaultsAreSmall (patterns (map pattern_tree children.now)) }
+{
+    match children {
+        [] => true,
+        [first, rest @ ..] => has_small_defaults(first) && have_small_defaults(rest),
     }
 }
 

@@ -1,9 +1,17 @@
+ghost use Rattle.std.specs.Prelude.{map, option_map, IfOk};
+ghost use Rattle.mp_pattern.specs.CondView.{operand, cond_tree};
+ghost use Rattle.mp_pattern.specs.Operands.{IsOperandOver, HasConditionOver};
+
 use crate::item::{Item, Items};
 use crate::search::eager_list;
-use crate::sound::is_sound;
-use mp_pattern::{Pattern, Patterns, Plan, Rule, Shape};
+use crate::sound::{has_small_defaults, is_sound};
+use mp_pattern::{
+    Amount, BoxedCond, Cond, Conds, Operand, Pattern, Patterns, Plan, Rule, Sense, Shape,
+};
 use mp_subst::Value;
-use mp_term::{KindId, Memory, Name, Names, OpDecl, OpId, Signature, Term, Terms, is_normal};
+use mp_term::{
+    KindId, Memory, Name, Names, OpDecl, OpId, Signature, Term, Terms, is_normal, node_count,
+};
 use std::alloc::Global;
 use std::test::Fail;
 
@@ -245,19 +253,72 @@ fn write_substs(sig: &Signature, items: &[Item], out: &mut Vec<u8>) -> Result<()
     Ok(())
 }
 
-// What a rule with the pattern admits on the subject.
-fn items(alloc: Global, sig: &Signature, patterns: &str, terms: &str) -> Result<Items, Memory> {
-    let rule = Rule {
-        name: name(alloc, b'r')?,
-        pattern: pattern(alloc, sig, patterns)?,
-        template: None,
-        condition: None,
-    };
+// The variable of that letter.
+fn variable(alloc: Global, plan: &Plan, letter: u8) -> Result<Operand, Memory>
+    ensures { IfOk result (λ a. IsOperandOver (map (λ v. v.name) plan.now.variables) (operand a)) }
+{
+    let name = Name::new(alloc, &[letter]).map_err(|_| Memory)?;
+    match plan.find_var(name.bytes()) {
+        Some(_) => Ok(Operand::Var(name)),
+        None => Err(Memory),
+    }
+}
+
+// `free($x, $y) and not size($x) > 1`
+fn apart_and_single(alloc: Global, plan: &Plan) -> Result<Cond, Memory>
+    ensures { IfOk result (λ c. HasConditionOver (map (λ v. v.name) plan.now.variables) (Some (cond_tree c))) }
+{
+    let apart = Cond::Free(variable(alloc, plan, b'x')?, variable(alloc, plan, b'y')?);
+    let size = Amount::Size(variable(alloc, plan, b'x')?);
+    let large = Cond::Amounts(size, Sense::Gt, Amount::Fixed(1));
+    let mut both = Conds::new(alloc);
+    both.push(apart)?;
+    both.push(Cond::Not(BoxedCond::new(alloc, large)?))?;
+    Ok(Cond::All(both))
+}
+
+// The condition that is meant, over the variables x and y.
+fn condition(alloc: Global, plan: &Plan, words: &str) -> Result<Option<Cond>, Memory>
+    ensures { IfOk result (λ c. HasConditionOver (map (λ v. v.name) plan.now.variables) (option_map cond_tree c)) }
+{
+    match words {
+        "" => Ok(None),
+        "count($x) >= 2" => {
+            let count = Amount::Count(variable(alloc, plan, b'x')?);
+            Ok(Some(Cond::Amounts(count, Sense::Ge, Amount::Fixed(2))))
+        }
+        "same($x, $y)" => {
+            let second = variable(alloc, plan, b'y')?;
+            Ok(Some(Cond::Same(variable(alloc, plan, b'x')?, second)))
+        }
+        "free($x, $y) and not size($x) > 1" => Ok(Some(apart_and_single(alloc, plan)?)),
+        _ => Err(Memory),
+    }
+}
+
+// What a rule with the pattern and the condition admits on the subject.
+fn items(
+    alloc: Global,
+    sig: &Signature,
+    patterns: &str,
+    words: &str,
+    terms: &str,
+) -> Result<Items, Memory> {
+    let pattern = pattern(alloc, sig, patterns)?;
     let subject = term(alloc, sig, terms)?;
-    if !is_sound(sig, &rule.pattern) || !is_normal(sig, &subject) {
+    if !is_sound(sig, &pattern) || !has_small_defaults(&pattern) {
         return Err(Memory);
     }
-    let plan = Plan::compile(alloc, sig, &rule.pattern).map_err(|_| Memory)?;
+    if !is_normal(sig, &subject) || node_count(&subject) > 100_000 {
+        return Err(Memory);
+    }
+    let plan = Plan::compile(alloc, sig, &pattern).map_err(|_| Memory)?;
+    let rule = Rule {
+        name: name(alloc, b'r')?,
+        pattern,
+        template: None,
+        condition: condition(alloc, &plan, words)?,
+    };
     eager_list(alloc, sig, &rule, &plan, &subject)
 }
 
@@ -266,12 +327,13 @@ fn admitted(
     alloc: Global,
     sig: &Signature,
     patterns: &str,
+    words: &str,
     terms: &str,
 ) -> Result<Vec<u8>, Memory> {
     let mut out = Vec::new(alloc);
     write_substs(
         sig,
-        items(alloc, sig, patterns, terms)?.as_slice(),
+        items(alloc, sig, patterns, words, terms)?.as_slice(),
         &mut out,
     )?;
     Ok(out)
@@ -281,57 +343,87 @@ fn admitted(
 fn patterns_admit_the_listed_substitutions(rt: HostRuntime) -> Result<(), Fail> {
     let alloc = rt.alloc();
     let sig = signature(alloc)?;
-    let rows: [(&str, &str, &[u8]); 16] = [
+    let rows: [(&str, &str, &str, &[u8]); 19] = [
         // One variable has one value.
-        ("x_ x_ f/2", "a b f/2", b""),
+        ("x_ x_ f/2", "", "a b f/2", b""),
         // Under an associative operation a dot takes several arguments.
         (
             "x_ y_ p/2",
+            "",
             "a b c p/3",
             b"x -> a, y -> p(b, c)\nx -> p(a, b), y -> c\n",
         ),
-        ("x_ y_ s/2", "a b s/2", b"x -> a, y -> b\nx -> b, y -> a\n"),
+        (
+            "x_ y_ s/2",
+            "",
+            "a b s/2",
+            b"x -> a, y -> b\nx -> b, y -> a\n",
+        ),
         // Equal arguments are one choice.
         (
             "x__ y___ s/2",
+            "",
             "a a s/2",
             b"x -> {a}, y -> {a}\nx -> {a, a}, y -> {}\n",
         ),
         // Each substitution stands once.
-        ("x_ _ __ s/3", "a b c s/3", b"x -> a\nx -> b\nx -> c\n"),
-        ("x_ y_:0 u/2", "a", b"x -> a, y -> 0\n"),
-        ("x_:0 y_:0 u/2", "0", b"x -> 0, y -> 0\n"),
+        ("x_ _ __ s/3", "", "a b c s/3", b"x -> a\nx -> b\nx -> c\n"),
+        ("x_ y_:0 u/2", "", "a", b"x -> a, y -> 0\n"),
+        ("x_:0 y_:0 u/2", "", "0", b"x -> 0, y -> 0\n"),
         // A multiset that is met first becomes the tuple that is met later.
         (
             "x__ s/1 x__ g/1 f/2",
+            "",
             "a b s/2 b a g/2 f/2",
             b"x -> (b, a)\n",
         ),
-        ("x_ p/1", "a p/1", b"x -> a\n"),
+        ("x_ p/1", "", "a p/1", b"x -> a\n"),
         (
             "x_ y_ u/2",
+            "",
             "a b c u/3",
             b"x -> a, y -> u(b, c)\nx -> b, y -> u(a, c)\nx -> c, y -> u(a, b)\nx -> u(a, b), y -> c\nx -> u(a, c), y -> b\nx -> u(b, c), y -> a\n",
         ),
         (
             "x_ y_ k/2 z_ s/2",
+            "",
             "a d k/2 b c k/2 s/2",
             b"x -> a, y -> d, z -> k(b, c)\nx -> d, y -> a, z -> k(b, c)\nx -> b, y -> c, z -> k(a, d)\nx -> c, y -> b, z -> k(a, d)\n",
         ),
-        ("x_v n_n f/2", "b 7 f/2", b"x -> b, n -> 7\n"),
-        ("x_v n_n f/2", "c 7 f/2", b""),
+        ("x_v n_n f/2", "", "b 7 f/2", b"x -> b, n -> 7\n"),
+        ("x_v n_n f/2", "", "c 7 f/2", b""),
         // A product without a factor counts once.
         (
             "x_w c_:1 t/2 x_w d_:1 t/2 r___ u/3",
+            "",
             "x y 3 x t/2 u/3",
             b"x -> x, c -> 1, d -> 3, r -> {y}\nx -> x, c -> 3, d -> 1, r -> {y}\n",
         ),
         // An application with a star child doesn't collapse.
-        ("y_ x_:0 z___ u/3", "a", b""),
-        ("a b f/2", "a b f/2", b"\n"),
+        ("y_ x_:0 z___ u/3", "", "a", b""),
+        ("a b f/2", "", "a b f/2", b"\n"),
+        // What doesn't meet the condition is left out.
+        (
+            "x__ y___ s/2",
+            "count($x) >= 2",
+            "a a s/2",
+            b"x -> {a, a}, y -> {}\n",
+        ),
+        (
+            "x__ y__ g/2",
+            "free($x, $y) and not size($x) > 1",
+            "a b c g/3",
+            b"x -> (a), y -> (b, c)\n",
+        ),
+        (
+            "x__ s/1 y__ g/1 f/2",
+            "same($x, $y)",
+            "a b s/2 b a g/2 f/2",
+            b"x -> {a, b}, y -> (b, a)\n",
+        ),
     ];
-    for (patterns, terms, lines) in rows {
-        let out = admitted(alloc, &sig, patterns, terms)?;
+    for (patterns, words, terms, lines) in rows {
+        let out = admitted(alloc, &sig, patterns, words, terms)?;
         assert_eq!(rt; out.as_slice(), lines);
     }
     Ok(())
@@ -341,7 +433,7 @@ fn patterns_admit_the_listed_substitutions(rt: HostRuntime) -> Result<(), Fail> 
 fn each_item_has_its_least_table(rt: HostRuntime) -> Result<(), Fail> {
     let alloc = rt.alloc();
     let sig = signature(alloc)?;
-    let items = items(alloc, &sig, "x_ y_:0 u/2", "a")?;
+    let items = items(alloc, &sig, "x_ y_:0 u/2", "", "a")?;
     assert_eq!(rt; items.len(), 1);
     let item = items.get(0).ok_or("no item")?;
     let mut counts = Vec::new(alloc);
