@@ -133,61 +133,93 @@ fn atom(alloc: Global, sort: &str, a: &str, b: &str, subst: &Subst) -> Result<Co
     }
 }
 
-#[test]
-fn atoms_hold_by_their_sort(rt: HostRuntime) -> Result<(), Fail> {
-    let alloc = rt.alloc();
+// Whether the atom over the operands holds.
+fn answer(alloc: Global, sort: &str, a: &str, b: &str, subst: &Subst) -> Result<bool, Fail> {
     let sig = signature(alloc)?;
+    let cond = atom(alloc, sort, a, b, subst)?;
+    Ok(holds(&sig, &cond, subst))
+}
+
+// Whether each atom of the sort, over the operands of a row, has the answer of the row.
+fn all_answer(alloc: Global, sort: &str, rows: &[(&str, &str, bool)]) -> Result<bool, Fail> {
     let subst = subst(alloc)?;
-    let rows = [
-        ("same", "$x", "a", true),
-        ("same", "$y", "a", true),
-        ("same", "$m", "a", true),
-        ("same", "$x", "b", false),
-        ("same", "$p", "a", false),
-        ("same", "$p", "$z", true),
-        ("same", "$z", "$p", true),
-        ("same", "$z", "$z", true),
-        ("same", "$z", "$m", false),
-        ("same", "$e", "$o", true),
-        ("same", "$e", "$y", false),
-        ("less", "$x", "b", true),
-        ("less", "b", "$x", false),
-        ("less", "a", "$x", false),
-        ("less", "b", "$t", true),
-        ("less", "$y", "b", false),
-        ("less", "a", "$p", false),
-        ("less", "$m", "b", false),
-        ("free", "a", "$t", false),
-        ("free", "b", "$t", false),
-        ("free", "aG", "$t", false),
-        ("free", "bG", "$t", true),
-        ("free", "$t", "$t", false),
-        ("free", "$t", "aG", true),
-        ("free", "aGbF", "$t", false),
-        ("free", "$p", "bG", false),
-        ("free", "a", "$q", false),
-        ("free", "$y", "bG", true),
-        ("free", "$e", "a", true),
-        ("free", "a", "$o", true),
-        ("num", "$n", "", true),
-        ("num", "$x", "", false),
-        ("num", "$e", "", true),
-        ("v", "$x", "", true),
-        ("v", "$z", "", true),
-        ("v", "c", "", false),
-        ("v", "aG", "", false),
-        ("w", "a", "", false),
-        ("w", "$o", "", true),
-        ("f", "$t", "", true),
-        ("f", "$q", "", false),
-        ("f", "$x", "", false),
-        ("g", "bG", "", true),
-        ("g", "$e", "", true),
-    ];
-    for (sort, a, b, expected) in rows {
-        let cond = atom(alloc, sort, a, b, &subst)?;
-        assert_eq!(rt; holds(&sig, &cond, &subst), expected);
+    for row in rows {
+        if answer(alloc, sort, row.0, row.1, &subst)? != row.2 {
+            return Ok(false);
+        }
     }
+    Ok(true)
+}
+
+#[test]
+fn lists_are_the_same_as_tuples_or_as_multisets(rt: HostRuntime) -> Result<(), Fail> {
+    let rows = [
+        ("$x", "a", true),
+        ("$y", "a", true),
+        ("$m", "a", true),
+        ("$x", "b", false),
+        ("$p", "a", false),
+        ("$p", "$z", true),
+        ("$z", "$p", true),
+        ("$z", "$m", false),
+        ("$e", "$o", true),
+        ("$e", "$y", false),
+    ];
+    assert!(rt; all_answer(rt.alloc(), "same", &rows)?);
+    Ok(())
+}
+
+#[test]
+fn single_terms_alone_are_less(rt: HostRuntime) -> Result<(), Fail> {
+    let rows = [
+        ("$x", "b", true),
+        ("b", "$x", false),
+        ("a", "$x", false),
+        ("b", "$t", true),
+        ("$y", "b", false),
+        ("a", "$p", false),
+        ("$m", "b", false),
+    ];
+    assert!(rt; all_answer(rt.alloc(), "less", &rows)?);
+    Ok(())
+}
+
+#[test]
+fn terms_are_free_of_what_they_are_no_subterm_of(rt: HostRuntime) -> Result<(), Fail> {
+    let rows = [
+        ("a", "$t", false),
+        ("b", "$t", false),
+        ("aG", "$t", false),
+        ("bG", "$t", true),
+        ("aGbF", "$t", false),
+        ("$t", "aG", true),
+        ("$p", "bG", false),
+        ("a", "$q", false),
+        ("$y", "bG", true),
+        ("$e", "a", true),
+        ("a", "$o", true),
+    ];
+    assert!(rt; all_answer(rt.alloc(), "free", &rows)?);
+    Ok(())
+}
+
+#[test]
+fn each_term_is_of_the_kind(rt: HostRuntime) -> Result<(), Fail> {
+    let numbers = [("$n", "", true), ("$e", "", true), ("$x", "", false)];
+    assert!(rt; all_answer(rt.alloc(), "num", &numbers)?);
+    let letters = [("$z", "", true), ("c", "", false), ("aG", "", false)];
+    assert!(rt; all_answer(rt.alloc(), "v", &letters)?);
+    let unknown = [("$o", "", true), ("a", "", false)];
+    assert!(rt; all_answer(rt.alloc(), "w", &unknown)?);
+    Ok(())
+}
+
+#[test]
+fn each_term_is_headed_by_the_operation(rt: HostRuntime) -> Result<(), Fail> {
+    let two = [("$t", "", true), ("$q", "", false), ("$x", "", false)];
+    assert!(rt; all_answer(rt.alloc(), "f", &two)?);
+    let one = [("bG", "", true), ("$e", "", true), ("$t", "", false)];
+    assert!(rt; all_answer(rt.alloc(), "g", &one)?);
     Ok(())
 }
 
