@@ -1,13 +1,12 @@
 //! Conditions on one substitution, their answers worked out from the definitions.
-ghost use Rattle.std.specs.Prelude.{◌≡◌, [], IfOk};
-ghost use Rattle.mp_pattern.specs.CondTree.{conds};
+ghost use Rattle.std.specs.Prelude.{◌≡◌, [], ◌∷◌, IfOk};
+ghost use Rattle.mp_pattern.specs.CondTree.{amounts, fixed, eq};
 ghost use Rattle.mp_pattern.specs.CondView.{operand, cond_tree};
-ghost use Rattle.mp_pattern.specs.Operands.{operands, all_operands};
 ghost use Rattle.mp_subst.specs.View.{subst_of};
 ghost use Rattle.mp_cond.specs.Ready.{IsOperandReady, IsReady};
 
 use super::*;
-use crate::amount::total_nodes;
+use crate::amount::{amount_of, total_nodes};
 use mp_pattern::{Amount, BoxedCond, Cond, Conds, Form, Operand, Sense};
 use mp_subst::{Binding, Bindings, Subst, Value};
 use mp_term::{KindId, Name, Names, OpId, Signature, Term, Terms, node_count};
@@ -133,82 +132,116 @@ fn atom(alloc: Global, sort: &str, a: &str, b: &str, subst: &Subst) -> Result<Co
     }
 }
 
-#[test]
-fn atoms_hold_by_their_sort(rt: HostRuntime) -> Result<(), Fail> {
-    let alloc = rt.alloc();
+// Whether the condition holds.
+fn answer(alloc: Global, cond: &Cond, subst: &Subst) -> Result<bool, Fail>
+    requires { IsReady (subst_of subst.now) (cond_tree cond.now) }
+{
     let sig = signature(alloc)?;
+    Ok(holds(&sig, cond, subst))
+}
+
+// Whether the atom over the operands holds.
+fn atom_holds(alloc: Global, sort: &str, a: &str, b: &str, subst: &Subst) -> Result<bool, Fail> {
+    let cond = atom(alloc, sort, a, b, subst)?;
+    answer(alloc, &cond, subst)
+}
+
+// Whether each atom of the sort, over the operands of a row, has the answer of the row.
+fn all_answer(alloc: Global, sort: &str, rows: &[(&str, &str, bool)]) -> Result<bool, Fail> {
     let subst = subst(alloc)?;
-    let rows = [
-        ("same", "$x", "a", true),
-        ("same", "$y", "a", true),
-        ("same", "$m", "a", true),
-        ("same", "$x", "b", false),
-        ("same", "$p", "a", false),
-        ("same", "$p", "$z", true),
-        ("same", "$z", "$p", true),
-        ("same", "$z", "$z", true),
-        ("same", "$z", "$m", false),
-        ("same", "$e", "$o", true),
-        ("same", "$e", "$y", false),
-        ("less", "$x", "b", true),
-        ("less", "b", "$x", false),
-        ("less", "a", "$x", false),
-        ("less", "b", "$t", true),
-        ("less", "$y", "b", false),
-        ("less", "a", "$p", false),
-        ("less", "$m", "b", false),
-        ("free", "a", "$t", false),
-        ("free", "b", "$t", false),
-        ("free", "aG", "$t", false),
-        ("free", "bG", "$t", true),
-        ("free", "$t", "$t", false),
-        ("free", "$t", "aG", true),
-        ("free", "aGbF", "$t", false),
-        ("free", "$p", "bG", false),
-        ("free", "a", "$q", false),
-        ("free", "$y", "bG", true),
-        ("free", "$e", "a", true),
-        ("free", "a", "$o", true),
-        ("num", "$n", "", true),
-        ("num", "$x", "", false),
-        ("num", "$e", "", true),
-        ("v", "$x", "", true),
-        ("v", "$z", "", true),
-        ("v", "c", "", false),
-        ("v", "aG", "", false),
-        ("w", "a", "", false),
-        ("w", "$o", "", true),
-        ("f", "$t", "", true),
-        ("f", "$q", "", false),
-        ("f", "$x", "", false),
-        ("g", "bG", "", true),
-        ("g", "$e", "", true),
-    ];
-    for (sort, a, b, expected) in rows {
-        let cond = atom(alloc, sort, a, b, &subst)?;
-        assert_eq!(rt; holds(&sig, &cond, &subst), expected);
+    for row in rows {
+        if atom_holds(alloc, sort, row.0, row.1, &subst)? != row.2 {
+            return Ok(false);
+        }
     }
+    Ok(true)
+}
+
+#[test]
+fn lists_are_the_same_as_tuples_or_as_multisets(rt: HostRuntime) -> Result<(), Fail> {
+    let rows = [
+        ("$x", "a", true),
+        ("$y", "a", true),
+        ("$m", "a", true),
+        ("$x", "b", false),
+        ("$p", "a", false),
+        ("$p", "$z", true),
+        ("$z", "$p", true),
+        ("$z", "$m", false),
+        ("$e", "$o", true),
+        ("$e", "$y", false),
+    ];
+    assert!(rt; all_answer(rt.alloc(), "same", &rows)?);
     Ok(())
 }
 
-// How many terms the operand has, or how many nodes they have, is the number.
-fn has(alloc: Global, size: bool, a: &str, number: u32, subst: &Subst) -> Result<Cond, Fail>
-    ensures { IfOk result (λ c. IsReady (subst_of subst.now) (cond_tree c)) }
-{
-    let a = operand(alloc, a, subst)?;
-    let amount = if size {
-        Amount::Size(a)
-    } else {
-        Amount::Count(a)
-    };
-    Ok(Cond::Amounts(amount, Sense::Eq, Amount::Fixed(number)))
+#[test]
+fn single_terms_alone_are_less(rt: HostRuntime) -> Result<(), Fail> {
+    let rows = [
+        ("$x", "b", true),
+        ("b", "$x", false),
+        ("a", "$x", false),
+        ("b", "$t", true),
+        ("$y", "b", false),
+        ("a", "$p", false),
+        ("$m", "b", false),
+    ];
+    assert!(rt; all_answer(rt.alloc(), "less", &rows)?);
+    Ok(())
+}
+
+#[test]
+fn terms_are_free_of_what_they_are_no_subterm_of(rt: HostRuntime) -> Result<(), Fail> {
+    let rows = [
+        ("a", "$t", false),
+        ("b", "$t", false),
+        ("aG", "$t", false),
+        ("bG", "$t", true),
+        ("aGbF", "$t", false),
+        ("$t", "aG", true),
+        ("$p", "bG", false),
+        ("a", "$q", false),
+        ("$y", "bG", true),
+        ("$e", "a", true),
+        ("a", "$o", true),
+    ];
+    assert!(rt; all_answer(rt.alloc(), "free", &rows)?);
+    Ok(())
+}
+
+#[test]
+fn each_term_is_of_the_kind(rt: HostRuntime) -> Result<(), Fail> {
+    let numbers = [("$n", "", true), ("$e", "", true), ("$x", "", false)];
+    assert!(rt; all_answer(rt.alloc(), "num", &numbers)?);
+    let letters = [("$z", "", true), ("c", "", false), ("aG", "", false)];
+    assert!(rt; all_answer(rt.alloc(), "v", &letters)?);
+    let unknown = [("$o", "", true), ("a", "", false)];
+    assert!(rt; all_answer(rt.alloc(), "w", &unknown)?);
+    Ok(())
+}
+
+#[test]
+fn each_term_is_headed_by_the_operation(rt: HostRuntime) -> Result<(), Fail> {
+    let two = [("$t", "", true), ("$q", "", false), ("$x", "", false)];
+    assert!(rt; all_answer(rt.alloc(), "f", &two)?);
+    let one = [("bG", "", true), ("$e", "", true), ("$t", "", false)];
+    assert!(rt; all_answer(rt.alloc(), "g", &one)?);
+    Ok(())
+}
+
+// Whether the operand has so many terms, and so many nodes.
+fn is_counted(alloc: Global, a: &str, count: u32, size: u32) -> Result<bool, Fail> {
+    let subst = subst(alloc)?;
+    let counted = Amount::Count(operand(alloc, a, &subst)?);
+    let sized = Amount::Size(operand(alloc, a, &subst)?);
+    Ok(
+        amount_of(&counted, &subst) == u64::from(count)
+            && amount_of(&sized, &subst) == u64::from(size),
+    )
 }
 
 #[test]
 fn counts_and_sizes_are_those_of_lists(rt: HostRuntime) -> Result<(), Fail> {
-    let alloc = rt.alloc();
-    let sig = signature(alloc)?;
-    let subst = subst(alloc)?;
     let rows = [
         ("$x", 1, 1),
         ("$t", 1, 4),
@@ -218,73 +251,82 @@ fn counts_and_sizes_are_those_of_lists(rt: HostRuntime) -> Result<(), Fail> {
         ("$e", 0, 0),
     ];
     for (a, count, size) in rows {
-        let counted = has(alloc, false, a, count, &subst)?;
-        assert!(rt; holds(&sig, &counted, &subst));
-        let sized = has(alloc, true, a, size, &subst)?;
-        assert!(rt; holds(&sig, &sized, &subst));
+        assert!(rt; is_counted(rt.alloc(), a, count, size)?);
     }
     Ok(())
 }
 
-// The comparison of the number with 2.
-fn with_two(number: u32, sense: Sense) -> Cond
-    ensures { operands (cond_tree result) ≡ [] }
-{
-    Cond::Amounts(Amount::Fixed(number), sense, Amount::Fixed(2))
+// Whether the number compares so with 2.
+fn compares_with_two(alloc: Global, number: u32, by: Sense, subst: &Subst) -> Result<bool, Fail> {
+    let cond = Cond::Amounts(Amount::Fixed(number), by, Amount::Fixed(2));
+    answer(alloc, &cond, subst)
 }
 
 #[test]
 fn numbers_compare_by_the_sense(rt: HostRuntime) -> Result<(), Fail> {
-    let alloc = rt.alloc();
-    let sig = signature(alloc)?;
-    let subst = subst(alloc)?;
+    let subst = subst(rt.alloc())?;
     let rows = [
-        (Sense::Lt, [true, false, false]),
-        (Sense::Le, [true, true, false]),
-        (Sense::Gt, [false, false, true]),
-        (Sense::Ge, [false, true, true]),
-        (Sense::Eq, [false, true, false]),
-        (Sense::Ne, [true, false, true]),
+        (Sense::Lt, true, false, false),
+        (Sense::Le, true, true, false),
+        (Sense::Gt, false, false, true),
+        (Sense::Ge, false, true, true),
+        (Sense::Eq, false, true, false),
+        (Sense::Ne, true, false, true),
     ];
-    for (sense, [below, equal, above]) in rows {
-        assert_eq!(rt; holds(&sig, &with_two(1, sense), &subst), below);
-        assert_eq!(rt; holds(&sig, &with_two(2, sense), &subst), equal);
-        assert_eq!(rt; holds(&sig, &with_two(3, sense), &subst), above);
+    for (by, below, equal, above) in rows {
+        assert_eq!(rt; compares_with_two(rt.alloc(), 1, by, &subst)?, below);
+        assert_eq!(rt; compares_with_two(rt.alloc(), 2, by, &subst)?, equal);
+        assert_eq!(rt; compares_with_two(rt.alloc(), 3, by, &subst)?, above);
     }
     Ok(())
 }
 
-// A condition that is true or false.
-fn constant(truth: bool) -> Cond
-    ensures { operands (cond_tree result) ≡ [] }
+// Whether a number is 1, and whether it isn't.
+fn is_one(number: u32) -> Cond
+    ensures { cond_tree result ≡ amounts (fixed number) eq (fixed 1) }
 {
-    with_two(2, if truth { Sense::Eq } else { Sense::Ne })
+    Cond::Amounts(Amount::Fixed(number), Sense::Eq, Amount::Fixed(1))
 }
 
-// The two of them.
-fn both(alloc: Global, first: bool, second: bool) -> Result<Conds, Fail>
-    ensures { IfOk result (λ cs. all_operands (conds cs) ≡ []) }
+fn is_not_one(alloc: Global, number: u32, subst: &Subst) -> Result<bool, Fail> {
+    let cond = Cond::Not(BoxedCond::new(alloc, is_one(number))?);
+    answer(alloc, &cond, subst)
+}
+
+// Whether both numbers are 1, and whether one of them is.
+fn both(alloc: Global, p: u32, q: u32) -> Result<Conds, Fail>
+    ensures { IfOk result (λ cs. cs ≡ amounts (fixed p) eq (fixed 1) ∷ amounts (fixed q) eq (fixed 1) ∷ []) }
 {
     let mut parts = Conds::new(alloc);
-    parts.push(constant(first))?;
-    parts.push(constant(second))?;
+    parts.push(is_one(p))?;
+    parts.push(is_one(q))?;
     Ok(parts)
+}
+
+fn all_are_one(alloc: Global, p: u32, q: u32, subst: &Subst) -> Result<bool, Fail> {
+    let cond = Cond::All(both(alloc, p, q)?);
+    answer(alloc, &cond, subst)
+}
+
+fn any_is_one(alloc: Global, p: u32, q: u32, subst: &Subst) -> Result<bool, Fail> {
+    let cond = Cond::Any(both(alloc, p, q)?);
+    answer(alloc, &cond, subst)
 }
 
 #[test]
 fn connectives_join_truths(rt: HostRuntime) -> Result<(), Fail> {
-    let alloc = rt.alloc();
-    let sig = signature(alloc)?;
-    let subst = subst(alloc)?;
-    for (p, q) in [(false, false), (false, true), (true, false), (true, true)] {
-        let all = Cond::All(both(alloc, p, q)?);
-        assert_eq!(rt; holds(&sig, &all, &subst), p && q);
-        let any = Cond::Any(both(alloc, p, q)?);
-        assert_eq!(rt; holds(&sig, &any, &subst), p || q);
-        let not = Cond::Not(BoxedCond::new(alloc, constant(p))?);
-        assert_eq!(rt; holds(&sig, &not, &subst), !p);
+    let subst = subst(rt.alloc())?;
+    let rows = [
+        (0, 0, false, false),
+        (0, 1, false, true),
+        (1, 0, false, true),
+        (1, 1, true, true),
+    ];
+    for (p, q, all, any) in rows {
+        assert_eq!(rt; all_are_one(rt.alloc(), p, q, &subst)?, all);
+        assert_eq!(rt; any_is_one(rt.alloc(), p, q, &subst)?, any);
     }
-    assert!(rt; holds(&sig, &Cond::All(Conds::new(alloc)), &subst));
-    assert!(rt; !holds(&sig, &Cond::Any(Conds::new(alloc)), &subst));
+    assert!(rt; is_not_one(rt.alloc(), 0, &subst)?);
+    assert!(rt; !is_not_one(rt.alloc(), 1, &subst)?);
     Ok(())
 }

@@ -12,6 +12,7 @@ pub mod Answers
 pub mod Reading
 pub mod Printing
 pub mod PrintedFile
+pub mod PrintedCond
 pub mod Spelled
 pub mod Depth
 pub mod Sound
