@@ -50,61 +50,58 @@ fn fits(
     check_takes(alloc, sig, &plan, &subject, &table(alloc, sig, entries)?)
 }
 
+// Tables that fit: patterns and subjects in postfix notation, and the entries of the table.
+const FITTING: &str = "\
+x_ y_ u/2|a b c u/3|a b c u/3;a;b c\n\
+x_ y_ f/2|a b f/2|a b f/2;a;b\n\
+a b f/2|a b f/2|a b f/2;a;b\n\
+x_ y_:0 u/2|a|a !;a;\n\
+x_ y_:0 u/2|a b u/2|a b u/2;a;b\n\
+x_:0 x_:0 u/2|0|0 !;;0\n\
+x_v n_n f/2|b 7 f/2|b 7 f/2;b;7\n\
+x__ s/1 x__ g/1 f/2|a b s/2 b a g/2 f/2|a b s/2 b a g/2 f/2;a b s/2;a b;b a g/2;b a\n\
+_ x_ p/2|a b c p/3|a b c p/3;a b;c";
+
+// Tables that don't.
+const OTHERS: &str = "\
+x_ y_ u/2|a b c u/3|a b c u/3;a;b\n\
+x_ y_ u/2|a b c u/3|a b c u/3;a;c b\n\
+x_ y_ f/2|a b f/2|a b f/2;a\n\
+x_ y_ f/2|a b f/2|a b f/2;a;b;b\n\
+x_ y_ f/2|a b f/2|b b f/2;b;b\n\
+x_ y_ f/2|a b f/2|a b f/2;b;b\n\
+x_ y_ u/2|a b c u/3|a b c u/3;a;b c u/2\n\
+a b f/2|a b f/2|a b f/2;a !;b\n\
+x_ y_:0 u/2|a|a;a;\n\
+x_ y_:0 u/2|a b u/2|a b u/2 !;a;b\n\
+y_ x_:0 z___ u/3|a|a !;a;;\n\
+x_ y_ u/2|a|a !;a;\n\
+x_:0 x_:0 u/2|a|a !;;a\n\
+x_v n_n f/2|c 7 f/2|c 7 f/2;c;7\n\
+x_ x_ f/2|a b f/2|a b f/2;a;b\n\
+x__ s/1|a b s/2|a b s/2;b a\n\
+x__ s/1 x__ g/1 f/2|a b s/2 b b g/2 f/2|a b s/2 b b g/2 f/2;a b s/2;a b;b b g/2;b b\n\
+_ x_ g/2|a b c g/3|a b c g/3;a b;c\n\
+__ x_ g/2|a g/1|a g/1;;a";
+
+// The pattern, the subject and the table of a row.
+fn row_fits(alloc: Global, sig: &Signature, row: &str) -> Result<bool, Memory> {
+    let mut fields = row.split('|');
+    match (fields.next(), fields.next(), fields.next()) {
+        (Some(pattern), Some(subject), Some(table)) => fits(alloc, sig, pattern, subject, table),
+        _ => Err(Memory),
+    }
+}
+
 #[test]
 fn a_table_fits_where_each_node_obeys_its_line(rt: HostRuntime) -> Result<(), Fail> {
     let alloc = rt.alloc();
     let sig = signature(alloc)?;
-    let rows: [(&str, &str, &str, bool); 28] = [
-        ("x_ y_ u/2", "a b c u/3", "a b c u/3;a;b c", true),
-        ("x_ y_ u/2", "a b c u/3", "a b c u/3;a;b", false),
-        ("x_ y_ u/2", "a b c u/3", "a b c u/3;a;c b", false),
-        // Too short, too long.
-        ("x_ y_ f/2", "a b f/2", "a b f/2;a", false),
-        ("x_ y_ f/2", "a b f/2", "a b f/2;a;b", true),
-        ("x_ y_ f/2", "a b f/2", "a b f/2;a;b;b", false),
-        // Another subject, another argument, a term that isn't normal.
-        ("x_ y_ f/2", "a b f/2", "b b f/2;b;b", false),
-        ("x_ y_ f/2", "a b f/2", "a b f/2;b;b", false),
-        ("x_ y_ u/2", "a b c u/3", "a b c u/3;a;b c u/2", false),
-        // The mark is that of a collapsed application.
-        ("a b f/2", "a b f/2", "a b f/2;a;b", true),
-        ("a b f/2", "a b f/2", "a b f/2;a !;b", false),
-        ("x_ y_:0 u/2", "a", "a !;a;", true),
-        ("x_ y_:0 u/2", "a", "a;a;", false),
-        ("x_ y_:0 u/2", "a b u/2", "a b u/2;a;b", true),
-        ("x_ y_:0 u/2", "a b u/2", "a b u/2 !;a;b", false),
-        // A plus or star child doesn't collapse, and a child has to be left out.
-        ("y_ x_:0 z___ u/3", "a", "a !;a;;", false),
-        ("x_ y_ u/2", "a", "a !;a;", false),
-        // A default is a value.
-        ("x_:0 x_:0 u/2", "0", "0 !;;0", true),
-        ("x_:0 x_:0 u/2", "a", "a !;;a", false),
-        ("x_v n_n f/2", "b 7 f/2", "b 7 f/2;b;7", true),
-        ("x_v n_n f/2", "c 7 f/2", "c 7 f/2;c;7", false),
-        // One variable has one value.
-        ("x_ x_ f/2", "a b f/2", "a b f/2;a;b", false),
-        // A multiset is taken in order, and becomes a tuple of its terms.
-        ("x__ s/1", "a b s/2", "a b s/2;b a", false),
-        (
-            "x__ s/1 x__ g/1 f/2",
-            "a b s/2 b a g/2 f/2",
-            "a b s/2 b a g/2 f/2;a b s/2;a b;b a g/2;b a",
-            true,
-        ),
-        (
-            "x__ s/1 x__ g/1 f/2",
-            "a b s/2 b b g/2 f/2",
-            "a b s/2 b b g/2 f/2;a b s/2;a b;b b g/2;b b",
-            false,
-        ),
-        // Unnamed wildcards take what named ones can.
-        ("_ x_ p/2", "a b c p/3", "a b c p/3;a b;c", true),
-        ("_ x_ g/2", "a b c g/3", "a b c g/3;a b;c", false),
-        ("__ x_ g/2", "a g/1", "a g/1;;a", false),
-    ];
-    for (patterns, terms, entries, expected) in rows {
-        let fits = fits(alloc, &sig, patterns, terms, entries)?;
-        assert_eq!(rt; fits, expected, "{patterns} on {terms} with {entries}");
+    for row in FITTING.split('\n') {
+        assert!(rt; row_fits(alloc, &sig, row)?, "{row}");
+    }
+    for row in OTHERS.split('\n') {
+        assert!(rt; !row_fits(alloc, &sig, row)?, "{row}");
     }
     Ok(())
 }
