@@ -19,7 +19,6 @@ mod Pass
 mod Places
 pub mod Whole
 pub mod SoundLaws
-mod CondTexts
 mod SpelledHead
 mod SpelledTerm
 mod SpelledWildcard

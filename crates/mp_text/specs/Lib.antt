@@ -12,7 +12,6 @@ pub mod Answers
 pub mod Reading
 pub mod Printing
 pub mod PrintedFile
-pub mod PrintedCond
 pub mod Spelled
 pub mod Depth
 pub mod Sound

@@ -1,12 +1,9 @@
-//! Rule files: from the syntax trees of a file to its signature, rules and subjects, checked; and the printed text of terms, patterns, conditions, substitutions, signatures and files.
+//! Rule files: from the syntax trees of a file to its signature, rules and subjects, checked; and the printed text of terms, patterns, substitutions, signatures and files.
 #![tactic(auto)]
 
 mod alone;
 mod build;
 mod checks;
-mod cond_printer;
-#[cfg(test)]
-mod cond_printing_tests;
 mod declare;
 mod fault;
 mod file;
@@ -25,7 +22,6 @@ mod wildcard;
 mod written;
 
 pub use alone::{read_pattern, read_term};
-pub use cond_printer::write_cond;
 pub use fault::{TextError, TextFault, TextKind};
 pub use file::{EditSet, EditSets, File, Subject, Subjects};
 pub use file_printer::{printed_file_is_its_statements, printed_file_is_read, write_file};
