@@ -9,3 +9,5 @@ pub mod FoundLaws
 pub mod ItemLaws
 pub mod ReadyItems
 pub mod ConditionLaws
+pub mod CheckLaws
+pub mod PlanPatternLaws

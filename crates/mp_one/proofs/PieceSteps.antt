@@ -1,6 +1,6 @@
 -- The steps of the loops over the terms that are left.
-use Rattle.std.proofs.Common.{inl, inr, ◌≡◌, ℕ, zero, suc, ◌+◌, ◌-◌, ◌<◌, ◌≤◌, List, [], ◌∷◌, ◌++◌, map, length, take, drop, get_or, Bool, refl, ap, sym, ◌∙◌, subst, append-nil, append_assoc, add-one, arith}
-use Rattle.std.specs.Prelude.{if◌then◌else◌, flat_map}
+use Rattle.std.proofs.Common.{inl, inr, ◌≡◌, ℕ, zero, suc, ◌+◌, ◌-◌, ◌<◌, ◌≤◌, List, [], ◌∷◌, ◌++◌, map, length, take, drop, get_or, Bool, false, refl, ap, sym, ◌∙◌, subst, append-nil, append_assoc, add-one, length-drop, eqb-true, eq-eqb, arith}
+use Rattle.std.specs.Prelude.{if◌then◌else◌, flat_map, nat_eq}
 use Rattle.std.specs.List.{range_with_len}
 use Rattle.std.specs.declared.cmp.Ordering.{Ordering}
 use Rattle.std.specs.declared.cmp.Ordering.TheVariants.{Less, Equal}
@@ -12,7 +12,8 @@ use Rattle.mp_term.specs.Tree.{Tree}
 use Rattle.mp_theory.specs.Search.{In}
 use Rattle.mp_theory.proofs.SearchLaws.{in-left}
 use Rattle.mp_theory.proofs.PiecesLaws.{pieces_among-exact, length-without, sublist-from_piece}
-use Rattle.mp_theory.specs.Pieces.{pieces_among, without, insert_new, distinct, after, first, pieces_of, count_to}
+use Rattle.mp_theory.specs.Pieces.{pieces_among, without, insert_new, distinct, after, first, pieces_of, count_to, is_sublist}
+use Rattle.mp_one.proofs.ListLaws.{bool_same}
 
 pub count_to-range : (k n : ℕ) → range_with_len k (suc n) ≡ count_to k n
 count_to-range k zero = refl
@@ -26,6 +27,14 @@ module _ {X Y : Type 0} (cmp : Y → Y → Ordering) (f : X → Y) where
   -- at the end of the list
   pub without-end : (zs l : List Y) (i : ℕ) (xs : List X) → length xs ≤ i → zs ++ without cmp l (map f (drop i xs)) ≡ zs
   without-end zs l i xs h = rw (drop_of_length-le xs {i = i} h) (ap (λ ys. zs ++ ys) (without-nil l) ∙ append-nil zs)
+
+  -- at the end of the list the terms stand in it where all of them were found
+  pub is_sublist-end : (k : ℕ) (es : List X) (i : ℕ) (xs : List X) → k ≤ length es → length xs ≤ i → nat_eq k (length es) ≡ is_sublist cmp (map f (drop k es)) (map f (drop i xs))
+  is_sublist-end k es i xs h l = rw (drop_of_length-le xs {i = i} l) (at (drop k es) (length-drop k es))
+    where
+      at : (ds : List X) → length ds ≡ length es - k → nat_eq k (length es) ≡ is_sublist cmp (map f ds) []
+      at [] q = eq-eqb k (length es) (omega (arith, h, q))
+      at (d ∷ ds) q = bool_same (nat_eq k (length es)) false (λ e. absurd (omega (arith, eqb-true k (length es) e, q))) (λ e. cc)
 
   module _ (t : Y) where
     -- the place before the first greater term

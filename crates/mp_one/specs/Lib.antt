@@ -7,3 +7,5 @@ pub mod Trail
 pub mod Items
 pub mod ItemCode
 pub mod Found
+pub mod PlanPattern
+pub mod Check

@@ -2,6 +2,9 @@
 #![tactic(auto)]
 
 mod bind;
+mod check;
+#[cfg(test)]
+mod check_tests;
 mod choices;
 mod found;
 mod held;
@@ -9,6 +12,7 @@ mod item;
 mod lines;
 mod path;
 mod pieces;
+mod plan_pattern;
 mod query;
 mod search;
 mod sound;
@@ -18,6 +22,7 @@ mod terms;
 mod tests;
 mod value;
 
+pub use check::check_takes;
 pub use item::{Item, Items};
 pub use search::eager_list;
 pub use sound::{has_small_defaults, is_sound};

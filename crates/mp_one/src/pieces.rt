@@ -42,6 +42,42 @@ pub fn without<'a>(
     Ok(rest)
 }
 
+// Whether the terms stand in the list, each at some place behind the one before.
+fn is_sublist(terms: &[&Term], list: &[&Term]) -> bool
+    ensures { result ≡ pieces.is_sublist tree_cmp (trees_of terms.now) (trees_of list.now) }
+{
+    let mut found: usize = 0;
+    for term in list {
+        if found < terms.len() && compare(term, terms[found]).is_eq() {
+            found += 1;
+        }
+    }
+    found == terms.len()
+}
+
+// Whether the list begins with the terms.
+fn is_prefix(terms: &[&Term], list: &[&Term]) -> bool
+    ensures { result ≡ pieces.is_prefix tree_cmp (trees_of terms.now) (trees_of list.now) }
+{
+    for (i, term) in terms.iter().enumerate() {
+        if i >= list.len() || !compare(list[i], term).is_eq() {
+            return false;
+        }
+    }
+    true
+}
+
+/// Whether the terms are a piece of the list: a sublist, or a prefix.
+pub fn is_piece(anywhere: bool, terms: &[&Term], list: &[&Term]) -> bool
+    ensures { result ≡ pieces.is_piece tree_cmp anywhere (trees_of terms.now) (trees_of list.now) }
+{
+    if anywhere {
+        is_sublist(terms, list)
+    } else {
+        is_prefix(terms, list)
+    }
+}
+
 // The place of the term in an ascending list, unless it stands there.
 fn place_of(list: &[&Term], term: &Term) -> Option<usize>
     ensures { IsPlace (tree term.now) (trees_of list.now) result }

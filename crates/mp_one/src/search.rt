@@ -29,12 +29,10 @@ use crate::item::Items;
 use crate::path::Path;
 use crate::query::Query;
 use crate::sound::decides_table;
-use crate::stack::{Entry, Frame, Next, Place, Stack, entered, settle, taken_out};
-use crate::terms::copied;
+use crate::stack::{Entry, Frame, Next, Place, Stack, entered, root_frame, settle, taken_out};
 use mp_pattern::{Pattern, Plan, Rule};
 use mp_term::{Memory, Signature, Term};
 use std::alloc::Global;
-use std::slice;
 
 // Goes on behind the entry.
 #[cycle(search)]
@@ -105,22 +103,6 @@ fn search<'a>(
             Ok(())
         }
     }
-}
-
-// What the pattern is to take.
-fn root_frame<'a>(
-    alloc: Global,
-    pattern: &'a Pattern,
-    subject: &'a Term,
-) -> Result<Frame<'a>, Memory>
-    ensures { IfOk result (λ f. frame_of f ∷ [] ≡ walk.start (pattern_tree pattern.now) (tree subject.now)) }
-{
-    Ok(Frame {
-        under: None,
-        children: slice::from_ref(pattern),
-        left: copied(alloc, &[subject])?,
-        owes: false,
-    })
 }
 
 // Adds what is found from the frame on.

@@ -14,6 +14,7 @@ use crate::terms::{copied, references};
 use mp_pattern::{Pattern, Patterns, Shape};
 use mp_term::{Memory, OpId, Term};
 use std::alloc::Global;
+use std::slice;
 
 /// The children of an operation that are still to take, what they are to take together, and whether one of them must
 /// be left out.
@@ -152,5 +153,21 @@ pub fn entered<'a>(
         children: children.as_slice(),
         left,
         owes: entry.collapsed,
+    })
+}
+
+/// What the pattern is to take: the subject.
+pub fn root_frame<'a>(
+    alloc: Global,
+    pattern: &'a Pattern,
+    subject: &'a Term,
+) -> Result<Frame<'a>, Memory>
+    ensures { IfOk result (λ f. frame_of f ∷ [] ≡ walk.start (pattern_tree pattern.now) (tree subject.now)) }
+{
+    Ok(Frame {
+        under: None,
+        children: slice::from_ref(pattern),
+        left: copied(alloc, &[subject])?,
+        owes: false,
     })
 }

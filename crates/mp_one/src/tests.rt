@@ -61,7 +61,7 @@ fn add_kind(
 
 // `f` and `k` have two arguments, and `k` is commutative; `g` is free, `s` commutative and `p` associative; `u` and `t` are
 // associative, commutative and one-identity. The symbols `a` and `b` are of the kind `v`, `x` and `y` of the kind `w`.
-fn signature(alloc: Global) -> Result<Signature, Memory> {
+pub fn signature(alloc: Global) -> Result<Signature, Memory> {
     let mut sig = Signature::new(alloc)?;
     add_op(alloc, &mut sig, b'f', true, [false, false, false])?;
     add_op(alloc, &mut sig, b'k', true, [false, true, false])?;
@@ -107,17 +107,26 @@ fn apply(alloc: Global, op: OpId, stack: &mut Vec<Term>, at: usize) -> Result<()
 }
 
 // In postfix notation: `a` is a symbol, and `f/2` is `f` on the two terms before.
-fn term(alloc: Global, sig: &Signature, words: &str) -> Result<Term, Memory> {
+pub fn push_term(
+    alloc: Global,
+    sig: &Signature,
+    word: &str,
+    stack: &mut Vec<Term>,
+) -> Result<(), Memory> {
+    match word.as_bytes() {
+        [symbol] => push(stack, Term::Sym(name(alloc, *symbol)?)),
+        [letter, b'/', count] => {
+            let at = left(stack.len(), *count)?;
+            apply(alloc, op(sig, *letter)?, stack, at)
+        }
+        _ => Err(Memory),
+    }
+}
+
+pub fn term(alloc: Global, sig: &Signature, words: &str) -> Result<Term, Memory> {
     let mut stack = Vec::new(alloc);
     for word in words.split(' ') {
-        match word.as_bytes() {
-            [symbol] => push(&mut stack, Term::Sym(name(alloc, *symbol)?))?,
-            [letter, b'/', count] => {
-                let at = left(stack.len(), *count)?;
-                apply(alloc, op(sig, *letter)?, &mut stack, at)?;
-            }
-            _ => return Err(Memory),
-        }
+        push_term(alloc, sig, word, &mut stack)?;
     }
     stack.pop().ok_or(Memory)
 }
@@ -161,7 +170,7 @@ fn wildcard(alloc: Global, sig: &Signature, bytes: &[u8]) -> Result<Pattern, Mem
 }
 
 // In postfix notation, as terms are.
-fn pattern(alloc: Global, sig: &Signature, words: &str) -> Result<Pattern, Memory> {
+pub fn pattern(alloc: Global, sig: &Signature, words: &str) -> Result<Pattern, Memory> {
     let mut stack = Vec::new(alloc);
     for word in words.split(' ') {
         match word.as_bytes() {

@@ -22,7 +22,8 @@ fn own_value(alloc: Global, held: &Held<'_>) -> Result<Value, Memory>
     }
 }
 
-fn own_name(alloc: Global, name: &Name) -> Result<Name, Memory>
+/// The same name.
+pub fn own_name(alloc: Global, name: &Name) -> Result<Name, Memory>
     ensures { IfOk result (λ n. n ≡ name.now) }
 {
     match Name::new(alloc, name.bytes()) {
