@@ -19,6 +19,7 @@ use Rattle.mp_theory.proofs.SearchLaws.{in-left, in-right, from_all-append}
 use Rattle.mp_theory.proofs.Merging.{name_same}
 use Rattle.mp_theory.proofs.Solving.{same_name-itself}
 use Rattle.mp_one.specs.PlanPattern.{Numbered, standing_of, before, from, variable_name, pattern_at, behind}
+use Rattle.mp_one.proofs.WalkLaws.{pattern_nodes-below}
 use Rattle.mp_one.specs.declared.plan_pattern.Standing.{Standing}
 
 -- where nothing is kept, none stands alone
@@ -98,22 +99,17 @@ abbrev numbered : ℕ → Patterns → List Numbered → List Numbered
 numbered n no_patterns is = is
 numbered n (more_patterns p ps) is = (n, p) ∷ numbered (n + pattern_nodes p) ps is
 
-has_nodes : (p : Pattern) → 0 < pattern_nodes p
-has_nodes (symbol_pattern n) = omega arith
-has_nodes (app_pattern f ps) = omega arith
-has_nodes (wild_pattern w x) = omega arith
-
 before-numbered : (vs : List Variable) (n : ℕ) (ps : Patterns) (e : ℕ) (ms : List Node) → e ≡ n + all_pattern_nodes ps → before e (numbered n ps (standing vs e ms)) ≡ pattern_list ps
 before-numbered vs n no_patterns e ms h = before-standing vs e e ms (omega arith)
 before-numbered vs n (more_patterns p ps) e ms h =
-    let k : n < e = omega (arith, h, has_nodes p) in
+    let k : n < e = omega (arith, h, pattern_nodes-below p) in
     let l : nat_lt n e ≡ true = grind (arith, nat_tests) in
     rw l (ap (λ qs. p ∷ qs) (before-numbered vs (n + pattern_nodes p) ps e ms (omega (arith, h))))
 
 from-numbered : (vs : List Variable) (n : ℕ) (ps : Patterns) (e : ℕ) (ms : List Node) → e ≡ n + all_pattern_nodes ps → from e (numbered n ps (standing vs e ms)) ≡ standing vs e ms
 from-numbered vs n no_patterns e ms h = from-standing vs e e ms (omega arith)
 from-numbered vs n (more_patterns p ps) e ms h =
-    let k : n < e = omega (arith, h, has_nodes p) in
+    let k : n < e = omega (arith, h, pattern_nodes-below p) in
     let l : nat_lt n e ≡ true = grind (arith, nat_tests) in
     rw l (from-numbered vs (n + pattern_nodes p) ps e ms (omega (arith, h)))
 

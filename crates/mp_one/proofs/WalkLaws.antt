@@ -23,7 +23,7 @@ use Rattle.mp_one.specs.Found.{collected}
 use Rattle.mp_one.proofs.FoundLaws.{collected-none, collected-append}
 use Rattle.mp_one.proofs.PieceSteps.{drop-next}
 
-pattern_nodes-below : (p : Pattern) → pattern_nodes p ≡ suc (nodes_below p)
+pub pattern_nodes-below : (p : Pattern) → pattern_nodes p ≡ suc (nodes_below p)
 pattern_nodes-below (symbol_pattern n) = refl
 pattern_nodes-below (app_pattern g ps) = omega arith
 pattern_nodes-below (wild_pattern w x) = refl

@@ -13,11 +13,12 @@ Numbered = ℕ × Pattern
 abbrev pub standing_of : List Standing → List Numbered
 standing_of ss = reverse (map (λ s. (s.node, pattern_tree s.pattern)) ss)
 
--- the patterns before the node e, and those from it on
+-- the patterns at the front that stand before the node e
 abbrev pub before : ℕ → List Numbered → List Pattern
 before e [] = []
 before e (i ∷ is) = if nat_lt i.0 e then i.1 ∷ before e is else []
 
+-- the others
 abbrev pub from : ℕ → List Numbered → List Numbered
 from e [] = []
 from e (i ∷ is) = if nat_lt i.0 e then from e is else i ∷ is

@@ -28,4 +28,4 @@ goes_on-returns-in_ok-entry-in-Child t c =
 pub goes_on_with-returns-in-Clash : goal.goes_on_with-returns-in-Clash
 goes_on_with-returns-in-Clash t c =
     let s = trail_of c.args.trail.now in
-    goes_on-clash c.args.sig.now (child_of c.args.place.now) (entry_of c.args.entry.now) (map table_entry c.args.later.now) s (sym c.if-not-allows.ensures) (sym c.in_ok-extend.ensures ∙ ap (outcome s) c.in-Clash.is)
+    goes_on-clash c.args.sig.now (child_of c.args.place.now) (entry_of c.args.entry.now) (map table_entry c.args.later.now) s (sym c.in_ok-extend.ensures ∙ ap (outcome s) c.in-Clash.is)
