@@ -1,18 +1,18 @@
 -- What matches a spelling is read.
-use Rattle.std.proofs.Common.{◌≡◌, ℕ, zero, suc, ◌+◌, Bool, true, false, cond, List, [], ◌∷◌, ◌++◌, length, map, Option, Some, refl, sym, ap, ◌∙◌, arith, append_assoc, append-nil}
-use Rattle.std.specs.Prelude.{codes}
+use Rattle.std.proofs.Common.{◌≡◌, ℕ, zero, suc, ◌+◌, Bool, true, false, cond, List, [], ◌∷◌, ◌++◌, map, Option, Some, refl, sym, ap, ◌∙◌, arith, append_assoc, append-nil}
+use Rattle.std.specs.Prelude.{◌&&◌, codes}
 use Rattle.std.specs.List.{flat_map}
 use Rattle.std.proofs.lemmas.Slice.Eq.{bytes_eq-Decides}
 use Rattle.mp_syntax.specs.declared.place.Place.{Place}
 use Rattle.mp_syntax.specs.declared.token.Punct.TheVariants.{Open, Close, Comma, Colon, Semicolon}
 use Rattle.mp_syntax.specs.declared.fault.FaultKind.TheVariants.{Syntax}
-use Rattle.mp_syntax.specs.Tokens as tokens
-use Rattle.mp_syntax.specs.Tokens.{Token, Word, Sign, Punctuation, End, Placed}
-use Rattle.mp_syntax.specs.Syntax.{Spot, Wildcard, Tree, Symbol, Apply, InfixOf, Wild, Trees, no_trees, more_trees, trees, tree_list, Flag, Assoc, Comm, One, Infixed, Statement, OpOf, KindOf, RuleOf, SubjectOf, Expected, Matches, AllMatch, spell, spell_first, spell_others, spell_named, spell_plus, spell_flag, spell_statement, spell_file, spelled_word, spelled_sign, spelled_wildcard, another, comma, semicolon, IsNamedWildcard, Fits, AreFit, FitsStatement, AreStatements}
-use Rattle.mp_syntax.specs.Machine.{Role, OfRule, OfSubject, statement_of, Frame, Arguments, Bracket, Operands, Declared, declared, with_flag, Heading, Within, InStatement, Alone, State, Top, AfterOp, AfterOpName, AfterLeast, AfterFlags, AfterInfix, AfterKind, AfterKindName, BeforeMember, AfterMember, AfterRole, AfterName, BeforeExpr, AfterWord, AfterOpen, AfterExpr, Step, Go, Emit, Refuse, Finish, Ends, parsed, refusal, is_punct, is_sign, is_end, word_of, sign_of, named_wildcard, keyword, spot, on_punct, on_text, on_word, step, step_number, step_flag, step_flags, step_open, step_expr, step_wildcard, step_behind, after_step, run}
-use Rattle.mp_syntax.proofs.Runs.{heading, word-opens, bracket-opens, open-expr, operand-again}
+use Rattle.mp_syntax.specs.Tokens.{Token, Word, Punctuation, End, Placed}
+use Rattle.mp_syntax.specs.Syntax.{Spot, Wildcard, Tree, Symbol, Apply, InfixOf, Wild, Optional, Trees, no_trees, more_trees, trees, tree_list, Flag, Assoc, Comm, One, Infixed, Statement, OpOf, KindOf, RuleOf, SubjectOf, Expected, Matches, AllMatch, spell, spell_first, spell_others, spell_with_colon, spell_named, spell_plus, spell_flag, spell_statement, spell_file, spelled_word, spelled_sign, spelled_wildcard, another, comma, semicolon, AreDots, Fits, AreFit, FitsStatement, AreStatements}
+use Rattle.mp_syntax.specs.Machine.{Role, OfRule, OfSubject, statement_of, Frame, Arguments, Bracket, Operands, Default, open_count, Declared, declared, with_flag, Heading, Within, InStatement, Alone, State, Top, AfterOp, AfterOpName, AfterLeast, AfterFlags, AfterInfix, AfterKind, AfterKindName, BeforeMember, AfterMember, AfterRole, AfterName, BeforeExpr, AfterWord, AfterOpen, AfterWildcard, AfterExpr, Step, Go, Emit, Refuse, Finish, Ends, parsed, refusal, is_punct, is_sign, is_end, word_of, sign_of, wildcard_at, is_dot, keyword, spot, on_punct, on_text, on_word, step, step_number, step_flag, step_flags, step_open, step_expr, step_behind, after_step, run}
+use Rattle.mp_syntax.specs.Parsing.{within_defaults}
+use Rattle.mp_syntax.proofs.Runs.{heading, word-opens, bracket-opens, open-expr, operand-again, wildcard-step, default-step, wildcard-alone, defaults-behind, chained-optional, open_count-within_defaults}
 use Rattle.mp_syntax.proofs.Found.{read_ok}
-use Rattle.mp_syntax.proofs.Trees.{trees-tree_list, fits-named}
+use Rattle.mp_syntax.proofs.Trees.{trees-tree_list, true-is_dot, fits-optional}
 
 -- what matches two spellings in a row is in two parts
 pub record Split (ts : List Placed) (a b : List Expected) : Type 0 where
@@ -73,37 +73,32 @@ sign-taken next t s h = text-taken sign_of next t s (ap sign_of h.0) h.1
 step_expr-word : (x : Within) (k : List Frame) (t : Placed) (w : Spot) → Matches t (spelled_word w) → step_expr 100 x k t (word_of t.token) ≡ Go (AfterWord x k w)
 step_expr-word x k t w h = ap (step_expr 100 x k t) (ap word_of h.0) ∙ ap (λ p. Go (AfterWord x k (spot w.text p))) h.1
 
-named_wildcard-named : (w : Wildcard) → IsNamedWildcard w → named_wildcard (tokens.Wildcard w.name w.marks w.kind) w.place ≡ Some w
-named_wildcard-named w h = go w.name h
-  where
-    go : (name : List ℕ) → (name ≡ [] → ⊥) → named_wildcard (tokens.Wildcard name w.marks w.kind) w.place ≡ Some (record { name = name; marks = w.marks; kind = w.kind; place = w.place })
-    go [] f = absurd (f refl)
-    go (b ∷ bs) f = refl
-
-step_expr-wildcard : (x : Within) (k : List Frame) (t : Placed) (w : Wildcard) → Matches t (spelled_wildcard w) → IsNamedWildcard w → step_expr 100 x k t (word_of t.token) ≡ Go (AfterExpr x k (Wild w))
-step_expr-wildcard x k t w h named =
-    ap (step_expr 100 x k t) (ap word_of h.0)
-    ∙ ap (λ b. cond b (step_open 100 k (BeforeExpr x (Bracket t.place ∷ k))) (step_wildcard x k t (named_wildcard t.token t.place))) (ap (is_punct Open) h.0)
-    ∙ ap (step_wildcard x k t) ((λ i. named_wildcard (h.0 i) (h.1 i)) ∙ named_wildcard-named w named)
+-- a wildcard that matches leads on
+wildcard-taken : (x : Within) (k : List Frame) (t : Placed) (w : Wildcard) → Matches t (spelled_wildcard w) → step (BeforeExpr x k) t ≡ Go (AfterWildcard x k w)
+wildcard-taken x k t w h = wildcard-step x k t w (λ i. wildcard_at (h.0 i) (h.1 i))
 
 -- ---- expressions
 
--- what begins with a token that fails the test
-record Begins (test : Token → Bool) (ts : List Placed) : Type 0 where
+-- what begins with a token of this fact
+record Begins (P : Placed → Type 0) (ts : List Placed) : Type 0 where
   token : Placed
   others : List Placed
   parts : ts ≡ token ∷ others
-  fails : test token.token ≡ false
+  is : P token
 
--- the token opens no bracket
-abbrev OpensNone : Expected → Type 0
-OpensNone m = (t : Placed) → Matches t m → is_punct Open t.token ≡ false
+-- the token continues no expression: it is no opening bracket and no colon
+abbrev ContinuesNone : Placed → Type 0
+ContinuesNone t = (is_punct Open t.token ≡ false) × (is_punct Colon t.token ≡ false)
 
-others-begin : (between : Expected) → OpensNone between → (args : Trees) (ts : List Placed) → AllMatch ts (spell_others between args) → Begins (is_punct Open) ts
+-- each token that matches continues no expression
+abbrev EachContinuesNone : Expected → Type 0
+EachContinuesNone m = (t : Placed) → Matches t m → ContinuesNone t
+
+others-begin : (between : Expected) → EachContinuesNone between → (args : Trees) (ts : List Placed) → AllMatch ts (spell_others between args) → Begins ContinuesNone ts
 others-begin between none no_trees [] h = absurd h
-others-begin between none no_trees (t ∷ ts) h = record { token = t; others = ts; parts = refl; fails = ap (is_punct Open) h.0 }
+others-begin between none no_trees (t ∷ ts) h = record { token = t; others = ts; parts = refl; is = (ap (is_punct Open) h.0, ap (is_punct Colon) h.0) }
 others-begin between none (more_trees a args) [] h = absurd h
-others-begin between none (more_trees a args) (t ∷ ts) h = record { token = t; others = ts; parts = refl; fails = none t h.0 }
+others-begin between none (more_trees a args) (t ∷ ts) h = record { token = t; others = ts; parts = refl; is = none t h.0 }
 
 module _ (done : List Statement) (x : Within) where
   -- a word that no bracket follows
@@ -118,6 +113,8 @@ module _ (done : List Statement) (x : Within) where
   open-spell (Apply f args) k w (t ∷ ts) us h = open-expr done x k w t (ts ++ us) (ap (is_punct Close) h.0.0)
   open-spell (InfixOf place sign operands) k w [] us h = absurd h
   open-spell (InfixOf place sign operands) k w (t ∷ ts) us h = open-expr done x k w t (ts ++ us) (ap (is_punct Close) h.0.0)
+  open-spell (Optional v others default) k w [] us h = absurd h
+  open-spell (Optional v others default) k w (t ∷ ts) us h = open-expr done x k w t (ts ++ us) (ap (is_punct Close) h.0.0)
   open-spell (Wild v) k w [] us h = absurd h
   open-spell (Wild v) k w (t ∷ ts) us h = open-expr done x k w t (ts ++ us) (ap (is_punct Close) h.0.0)
 
@@ -125,61 +122,85 @@ module _ (done : List Statement) (x : Within) where
   record IsRow (between : Expected) (frame : List Tree → Frame) (whole : List Tree → Tree) : Type 0 where
     closes : (k : List Frame) (es : List Tree) (e : Tree) (t : Placed) → t.token ≡ Punctuation Close → step (AfterExpr x (frame es ∷ k) e) t ≡ Go (AfterExpr x k (whole (es ++ e ∷ [])))
     separates : (k : List Frame) (es : List Tree) (e : Tree) (t : Placed) → Matches t between → step (AfterExpr x (frame es ∷ k) e) t ≡ Go (BeforeExpr x (frame (es ++ e ∷ []) ∷ k))
-    opens_none : OpensNone between
+    continues_none : EachContinuesNone between
+    opens : (k : List Frame) (es : List Tree) → open_count (frame es ∷ k) ≡ suc (open_count k)
 
   arguments-row : (name : Spot) → IsRow comma (Arguments name) (λ es. Apply name (trees es))
   arguments-row name = record {
     closes = λ k es e t h. ap (λ u. cond (is_punct Comma u) (Go (BeforeExpr x (Arguments name (es ++ e ∷ []) ∷ k))) (on_punct Close u (Go (AfterExpr x k (Apply name (trees (es ++ e ∷ []))))))) h;
     separates = λ k es e t h. ap (λ u. cond (is_punct Comma u) (Go (BeforeExpr x (Arguments name (es ++ e ∷ []) ∷ k))) (on_punct Close u (Go (AfterExpr x k (Apply name (trees (es ++ e ∷ []))))))) h;
-    opens_none = λ t h. ap (is_punct Open) h;
+    continues_none = λ t h. (ap (is_punct Open) h, ap (is_punct Colon) h);
+    opens = λ k es. refl;
   }
 
   operands-row : (place : Place) (sign : Spot) (first : Tree) → IsRow (another sign) (Operands place sign first) (λ es. InfixOf place sign (more_trees first (trees es)))
   operands-row place sign first = record {
     closes = λ k es e t h. ap (λ u. cond (is_sign sign.text u) (Go (BeforeExpr x (Operands place sign first (es ++ e ∷ []) ∷ k))) (on_punct Close u (Go (AfterExpr x k (InfixOf place sign (more_trees first (trees (es ++ e ∷ [])))))))) h;
     separates = λ k es e t h. operand-again x place sign first es k e t (ap (is_sign sign.text) h ∙ (bytes_eq-Decides sign.text sign.text).1 refl);
-    opens_none = λ t h. ap (is_punct Open) h;
+    continues_none = λ t h. (ap (is_punct Open) h, ap (is_punct Colon) h);
+    opens = λ k es. refl;
   }
 
   -- the expression is read, whatever is open
   abbrev ReadsExpr : Tree → Type 0
-  ReadsExpr e = (k : List Frame) (room : ℕ) (ts : List Placed) (u : Placed) (us : List Placed) → AllMatch ts (spell e) → Fits room e → length k + room ≡ 100 → is_punct Open u.token ≡ false → run done (BeforeExpr x k) (ts ++ u ∷ us) ≡ run done (AfterExpr x k e) (u ∷ us)
+  ReadsExpr e = (k : List Frame) (room : ℕ) (ts : List Placed) (u : Placed) (us : List Placed) → AllMatch ts (spell e) → Fits room e → open_count k + room ≡ 100 → ContinuesNone u → run done (BeforeExpr x k) (ts ++ u ∷ us) ≡ run done (AfterExpr x k e) (u ∷ us)
 
   -- the other expressions in brackets are read behind one
   abbrev ReadsOthers : Trees → Type 0
-  ReadsOthers args = (between : Expected) (frame : List Tree → Frame) (whole : List Tree → Tree) → IsRow between frame whole → (k : List Frame) (room : ℕ) (before : List Tree) (e : Tree) (ts us : List Placed) → AllMatch ts (spell_others between args) → AreFit room args → length k + suc room ≡ 100 → run done (AfterExpr x (frame before ∷ k) e) (ts ++ us) ≡ run done (AfterExpr x k (whole (before ++ e ∷ tree_list args))) us
+  ReadsOthers args = (between : Expected) (frame : List Tree → Frame) (whole : List Tree → Tree) → IsRow between frame whole → (k : List Frame) (room : ℕ) (before : List Tree) (e : Tree) (ts us : List Placed) → AllMatch ts (spell_others between args) → AreFit room args → open_count k + suc room ≡ 100 → run done (AfterExpr x (frame before ∷ k) e) (ts ++ us) ≡ run done (AfterExpr x k (whole (before ++ e ∷ tree_list args))) us
 
   -- an expression in brackets and the others behind it
-  row-again : (t : Tree) (args : Trees) → ReadsExpr t → ReadsOthers args → (between : Expected) (frame : List Tree → Frame) (whole : List Tree → Tree) → IsRow between frame whole → (k : List Frame) (room : ℕ) (before : List Tree) (ts us : List Placed) → AllMatch ts (spell t ++ spell_others between args) → Fits room t → AreFit room args → length k + suc room ≡ 100 → run done (BeforeExpr x (frame before ∷ k)) (ts ++ us) ≡ run done (AfterExpr x k (whole (before ++ t ∷ tree_list args))) us
+  row-again : (t : Tree) (args : Trees) → ReadsExpr t → ReadsOthers args → (between : Expected) (frame : List Tree → Frame) (whole : List Tree → Tree) → IsRow between frame whole → (k : List Frame) (room : ℕ) (before : List Tree) (ts us : List Placed) → AllMatch ts (spell t ++ spell_others between args) → Fits room t → AreFit room args → open_count k + suc room ≡ 100 → run done (BeforeExpr x (frame before ∷ k)) (ts ++ us) ≡ run done (AfterExpr x k (whole (before ++ t ∷ tree_list args))) us
   row-again t args read-t read-args between frame whole row k room before ts us h t-fits args-fit len =
       let r = split (spell t) (spell_others between args) ts h in
-      let b = others-begin between row.opens_none args r.back r.second in
+      let b = others-begin between row.continues_none args r.back r.second in
       ap (run done (BeforeExpr x (frame before ∷ k))) (joined ts r.front r.back b.token b.others us r.parts b.parts)
-      ∙ read-t (frame before ∷ k) room r.front b.token (b.others ++ us) r.first t-fits (omega (arith, len)) b.fails
+      ∙ read-t (frame before ∷ k) room r.front b.token (b.others ++ us) r.first t-fits (omega (arith, len, row.opens k before)) b.is
       ∙ ap (λ l. run done (AfterExpr x (frame before ∷ k) t) (l ++ us)) (sym b.parts)
       ∙ read-args between frame whole row k room before t r.back us r.second args-fit len
 
   -- an infix expression, whose operands are read
-  infix-again : (t v : Tree) (vs : Trees) → ReadsExpr t → ReadsExpr v → ReadsOthers vs → (place : Place) (sign : Spot) (k : List Frame) (room : ℕ) (p : Placed) (ts us : List Placed) → AllMatch (p ∷ ts) (spell (InfixOf place sign (more_trees t (more_trees v vs)))) → AreFit room (more_trees t (more_trees v vs)) → length k + suc room ≡ 100 → run done (BeforeExpr x k) (p ∷ (ts ++ us)) ≡ run done (AfterExpr x k (InfixOf place sign (more_trees t (more_trees v vs)))) us
+  infix-again : (t v : Tree) (vs : Trees) → ReadsExpr t → ReadsExpr v → ReadsOthers vs → (place : Place) (sign : Spot) (k : List Frame) (room : ℕ) (p : Placed) (ts us : List Placed) → AllMatch (p ∷ ts) (spell (InfixOf place sign (more_trees t (more_trees v vs)))) → AreFit room (more_trees t (more_trees v vs)) → open_count k + suc room ≡ 100 → run done (BeforeExpr x k) (p ∷ (ts ++ us)) ≡ run done (AfterExpr x k (InfixOf place sign (more_trees t (more_trees v vs)))) us
   infix-again t v vs read-t read-v read-vs place sign k room p ts us h fits len =
       let r = split (spell t) (spelled_sign sign ∷ (spell v ++ spell_others (another sign) vs)) ts h.1 in
       let s = led (spelled_sign sign) (spell v ++ spell_others (another sign) vs) r.back r.second in
       over done (BeforeExpr x k) (BeforeExpr x (Bracket place ∷ k)) p (ts ++ us) (bracket-opens x k p (suc room) len (omega arith) (ap (is_punct Open) h.0.0) ∙ ap (λ q. Go (BeforeExpr x (Bracket q ∷ k))) h.0.1)
       ∙ ap (run done (BeforeExpr x (Bracket place ∷ k))) (joined ts r.front r.back s.token s.others us r.parts s.parts)
-      ∙ read-t (Bracket place ∷ k) room r.front s.token (s.others ++ us) r.first fits.0 (omega (arith, len)) (ap (is_punct Open) s.match.0)
+      ∙ read-t (Bracket place ∷ k) room r.front s.token (s.others ++ us) r.first fits.0 (omega (arith, len)) (ap (is_punct Open) s.match.0, ap (is_punct Colon) s.match.0)
       ∙ over done (AfterExpr x (Bracket place ∷ k) t) (BeforeExpr x (Operands place sign t [] ∷ k)) s.token (s.others ++ us) (sign-taken (λ w. Go (BeforeExpr x (Operands place w t [] ∷ k))) s.token sign s.match)
       ∙ row-again v vs read-v read-vs (another sign) (Operands place sign t) (λ es. InfixOf place sign (more_trees t (trees es))) (operands-row place sign t) k room [] s.others us s.behind fits.1.0 fits.1.1 len
       ∙ ap (λ l. run done (AfterExpr x k (InfixOf place sign (more_trees t (more_trees v l)))) us) (trees-tree_list vs)
+
+  -- wildcards with a colon behind each are read
+  chain-again : (ws : List Wildcard) (k : List Frame) (ts us : List Placed) → AllMatch ts (flat_map spell_with_colon ws) → AreDots ws → run done (BeforeExpr x k) (ts ++ us) ≡ run done (BeforeExpr x (within_defaults ws k)) us
+  chain-again [] k [] us h dots = refl
+  chain-again [] k (t ∷ ts) us h dots = absurd h
+  chain-again (w ∷ ws) k [] us h dots = absurd h
+  chain-again (w ∷ ws) k (t ∷ []) us h dots = absurd h.1
+  chain-again (w ∷ ws) k (t ∷ c ∷ ts) us h dots =
+      over done (BeforeExpr x k) (AfterWildcard x k w) t (c ∷ ts ++ us) (wildcard-taken x k t w h.0)
+      ∙ over done (AfterWildcard x k w) (BeforeExpr x (Default w ∷ k)) c (ts ++ us) (default-step x k w c (ap (λ u. is_punct Colon u && is_dot w) h.1.0 ∙ true-is_dot w dots.0))
+      ∙ chain-again ws (Default w ∷ k) ts us h.1.1 dots.1
 
   mutual
     expr-again : (e : Tree) → ReadsExpr e
     expr-again (Symbol w) k room [] u us h fits len n = absurd h
     expr-again (Symbol w) k room (t ∷ []) u us h fits len n =
-        over done (BeforeExpr x k) (AfterWord x k w) t (u ∷ us) (step_expr-word x k t w h.0) ∙ word-expr k w u us n
+        over done (BeforeExpr x k) (AfterWord x k w) t (u ∷ us) (step_expr-word x k t w h.0) ∙ word-expr k w u us n.0
     expr-again (Symbol w) k room (t ∷ v ∷ ts) u us h fits len n = absurd h.1
     expr-again (Wild w) k room [] u us h fits len n = absurd h
-    expr-again (Wild w) k room (t ∷ []) u us h fits len n = over done (BeforeExpr x k) (AfterExpr x k (Wild w)) t (u ∷ us) (step_expr-wildcard x k t w h.0 (fits-named room w fits))
+    expr-again (Wild w) k room (t ∷ []) u us h fits len n =
+        over done (BeforeExpr x k) (AfterWildcard x k w) t (u ∷ us) (wildcard-taken x k t w h.0) ∙ wildcard-alone done x k w u us (ap (λ b. b && is_dot w) n.1)
     expr-again (Wild w) k room (t ∷ v ∷ ts) u us h fits len n = absurd h.1
+    expr-again (Optional w others default) k room ts u us h fits len n =
+        let f = fits-optional room w others default fits in
+        let ws = w ∷ others in
+        let r = split (flat_map spell_with_colon ws) (spell default) ts h in
+        ap (run done (BeforeExpr x k)) (ap (λ l. l ++ u ∷ us) r.parts ∙ append_assoc r.front r.back (u ∷ us))
+        ∙ chain-again ws k r.front (r.back ++ u ∷ us) r.first f.0
+        ∙ expr-again default (within_defaults ws k) room r.back u us r.second f.2 (ap (λ n. n + room) (open_count-within_defaults ws k) ∙ len) n
+        ∙ defaults-behind done x ws k default (u ∷ us)
+        ∙ ap (λ e. run done (AfterExpr x k e) (u ∷ us)) (chained-optional w others default f.1)
     expr-again (Apply f args) k zero ts u us h fits len n = absurd fits
     expr-again (Apply f args) k (suc room) [] u us h fits len n = absurd h
     expr-again (Apply f args) k (suc room) (t ∷ []) u us h fits len n = absurd h.1
@@ -195,7 +216,7 @@ module _ (done : List Statement) (x : Within) where
         infix-again t v vs (expr-again t) (expr-again v) (others-again vs) place sign k room p ts (u ∷ us) h fits.1 len
 
     -- arguments are read behind their bracket
-    first-again : (args : Trees) (k : List Frame) (w : Spot) (room : ℕ) (ts us : List Placed) → AllMatch ts (spell_first comma args) → AreFit room args → length k + suc room ≡ 100 → run done (AfterOpen x k w) (ts ++ us) ≡ run done (AfterExpr x k (Apply w args)) us
+    first-again : (args : Trees) (k : List Frame) (w : Spot) (room : ℕ) (ts us : List Placed) → AllMatch ts (spell_first comma args) → AreFit room args → open_count k + suc room ≡ 100 → run done (AfterOpen x k w) (ts ++ us) ≡ run done (AfterExpr x k (Apply w args)) us
     first-again no_trees k w room [] us h fits len = absurd h
     first-again no_trees k w room (t ∷ []) us h fits len =
         over done (AfterOpen x k w) (AfterExpr x k (Apply w no_trees)) t us (punct-taken (is_punct Close) t (Punctuation Close) (Go (AfterExpr x k (Apply w no_trees))) (step_expr 100 x (Arguments w [] ∷ k) t (word_of t.token)) h.0 refl)
@@ -227,7 +248,7 @@ body-again done x e ts us h fits =
     let r = split (spell e) (semicolon ∷ []) ts h in
     let s = led semicolon [] r.back r.second in
     ap (run done (BeforeExpr (InStatement x) [])) (joined ts r.front r.back s.token s.others us r.parts s.parts)
-    ∙ expr-again done (InStatement x) e [] 100 r.front s.token (s.others ++ us) r.first fits refl (ap (is_punct Open) s.match)
+    ∙ expr-again done (InStatement x) e [] 100 r.front s.token (s.others ++ us) r.first fits refl (ap (is_punct Open) s.match, ap (is_punct Colon) s.match)
     ∙ ended done (AfterExpr (InStatement x) [] e) (statement_of x.role x.name e) s.token (s.others ++ us) (ap (λ u. on_punct Semicolon u (Emit (statement_of x.role x.name e))) s.match)
     ∙ ap (λ l. run (done ++ statement_of x.role x.name e ∷ []) Top (l ++ us)) (nothing s.others s.behind)
   where
@@ -285,17 +306,17 @@ flags-again done (Infixed sign ∷ flags) d (t ∷ s ∷ ts) us h =
     ∙ push-flag done d (Infixed sign) flags us
 
 -- flags begin with a token that is no plus
-flags-begin : (flags : List Flag) (ts : List Placed) → AllMatch ts (flat_map spell_flag flags ++ semicolon ∷ []) → Begins (is_sign (codes "+")) ts
+flags-begin : (flags : List Flag) (ts : List Placed) → AllMatch ts (flat_map spell_flag flags ++ semicolon ∷ []) → Begins (λ t. is_sign (codes "+") t.token ≡ false) ts
 flags-begin [] [] h = absurd h
-flags-begin [] (t ∷ ts) h = record { token = t; others = ts; parts = refl; fails = ap (is_sign (codes "+")) h.0 }
+flags-begin [] (t ∷ ts) h = record { token = t; others = ts; parts = refl; is = ap (is_sign (codes "+")) h.0 }
 flags-begin (Assoc ∷ flags) [] h = absurd h
-flags-begin (Assoc ∷ flags) (t ∷ ts) h = record { token = t; others = ts; parts = refl; fails = ap (is_sign (codes "+")) h.0 }
+flags-begin (Assoc ∷ flags) (t ∷ ts) h = record { token = t; others = ts; parts = refl; is = ap (is_sign (codes "+")) h.0 }
 flags-begin (Comm ∷ flags) [] h = absurd h
-flags-begin (Comm ∷ flags) (t ∷ ts) h = record { token = t; others = ts; parts = refl; fails = ap (is_sign (codes "+")) h.0 }
+flags-begin (Comm ∷ flags) (t ∷ ts) h = record { token = t; others = ts; parts = refl; is = ap (is_sign (codes "+")) h.0 }
 flags-begin (One ∷ flags) [] h = absurd h
-flags-begin (One ∷ flags) (t ∷ ts) h = record { token = t; others = ts; parts = refl; fails = ap (is_sign (codes "+")) h.0 }
+flags-begin (One ∷ flags) (t ∷ ts) h = record { token = t; others = ts; parts = refl; is = ap (is_sign (codes "+")) h.0 }
 flags-begin (Infixed sign ∷ flags) [] h = absurd h
-flags-begin (Infixed sign ∷ flags) (t ∷ ts) h = record { token = t; others = ts; parts = refl; fails = ap (is_sign (codes "+")) h.0 }
+flags-begin (Infixed sign ∷ flags) (t ∷ ts) h = record { token = t; others = ts; parts = refl; is = ap (is_sign (codes "+")) h.0 }
 
 -- a token that is no plus is the first of the flags
 no-plus : (done : List Statement) (name least : Spot) (t : Placed) (us : List Placed) → is_sign (codes "+") t.token ≡ false → run done (AfterLeast name least) (t ∷ us) ≡ run done (AfterFlags (declared name least false [])) (t ∷ us)
@@ -310,7 +331,7 @@ least-again done name least true flags (t ∷ ts) us h =
 least-again done name least false flags ts us h =
     let b = flags-begin flags ts h in
     ap (λ l. run done (AfterLeast name least) (l ++ us)) b.parts
-    ∙ no-plus done name least b.token (b.others ++ us) b.fails
+    ∙ no-plus done name least b.token (b.others ++ us) b.is
     ∙ ap (λ l. run done (AfterFlags (declared name least false [])) (l ++ us)) (sym b.parts)
     ∙ flags-again done flags (declared name least false []) ts us h
 
@@ -369,5 +390,5 @@ file-again (s ∷ file) done ts us h fits =
 -- an expression alone is read
 pub alone-again : (e : Tree) (ts : List Placed) (last : Placed) → AllMatch ts (spell e) → Fits 100 e → last.token ≡ End → run [] (BeforeExpr Alone []) (ts ++ last ∷ []) ≡ read_ok (parsed [] (Some e))
 alone-again e ts last h fits ends =
-    expr-again [] Alone e [] 100 ts last [] h fits refl (ap (is_punct Open) ends)
+    expr-again [] Alone e [] 100 ts last [] h fits refl (ap (is_punct Open) ends, ap (is_punct Colon) ends)
     ∙ ap (λ k. after_step [] last.place (λ d a. run d a []) (cond (is_end k) (Ends e) (Refuse (refusal k)))) ends

@@ -8,7 +8,8 @@ use Rattle.mp_syntax.specs.declared.fault.FaultKind.{FaultKind}
 use Rattle.mp_syntax.specs.declared.fault.FaultKind.TheVariants as kinds
 use Rattle.mp_syntax.specs.Tokens.{Token, Word, Wildcard, Sign, Arrow, Punctuation, Long, End, Placed, first_place}
 use Rattle.mp_syntax.specs.Lexing.{lexemes}
-use Rattle.mp_syntax.specs.Syntax.{Spot, Tree, Symbol, Apply, InfixOf, Wild, trees, Assoc, Comm, Infixed, Statement, OpOf, KindOf, RuleOf, SubjectOf}
+use Rattle.mp_syntax.specs.Syntax as syntax
+use Rattle.mp_syntax.specs.Syntax.{Spot, Tree, Symbol, Apply, InfixOf, Wild, Optional, trees, Assoc, Comm, Infixed, Statement, OpOf, KindOf, RuleOf, SubjectOf}
 use Rattle.mp_syntax.specs.Reading.{reading, expr_reading}
 
 abbrev at : ℕ → ℕ → Place
@@ -18,8 +19,11 @@ abbrev word : List ℕ → ℕ → ℕ → Spot
 word text line column = record { text = text; place = at line column }
 
 -- a wildcard in the first line
+abbrev wild : List ℕ → ℕ → List ℕ → ℕ → syntax.Wildcard
+wild name marks kind column = record { name = name; marks = marks; kind = kind; place = at 1 column }
+
 abbrev wildcard : List ℕ → ℕ → List ℕ → ℕ → Tree
-wildcard name marks kind column = Wild (record { name = name; marks = marks; kind = kind; place = at 1 column })
+wildcard name marks kind column = Wild (wild name marks kind column)
 
 abbrev fault : FaultKind → ℕ → ℕ → Result (List Statement) Fault
 fault kind line column = Err (record { kind = kind; place = at line column })
@@ -74,19 +78,29 @@ underscores-refused : reading (codes "rule r: x____;") ≡ fault kinds.Syntax 1 
 unfolding lexemes
 underscores-refused = refl
 
--- a named wildcard has one to three underscores, and behind a single one perhaps a kind
+-- a wildcard has one to three underscores, and behind a single one perhaps a kind
 wildcards-read : reading (codes "rule r: f(x_, y_K, x__, 1___);") ≡ Ok (RuleOf (word (codes "r") 1 6) (Apply (word (codes "f") 1 9) (trees (wildcard (codes "x") 1 [] 11 ∷ wildcard (codes "y") 1 (codes "K") 15 ∷ wildcard (codes "x") 2 [] 20 ∷ wildcard (codes "1") 3 [] 25 ∷ []))) ∷ [])
 unfolding lexemes
 wildcards-read = refl
 
--- an unnamed wildcard is refused, and so is a colon behind a wildcard
-unnamed-refused : reading (codes "rule r: _K;") ≡ fault kinds.Syntax 1 9
+-- a wildcard may have no name
+unnamed-read : reading (codes "rule r: f(_K, ___);") ≡ Ok (RuleOf (word (codes "r") 1 6) (Apply (word (codes "f") 1 9) (trees (wildcard [] 1 (codes "K") 11 ∷ wildcard [] 3 [] 15 ∷ []))) ∷ [])
 unfolding lexemes
-unnamed-refused = refl
+unnamed-read = refl
 
-default-refused : reading (codes "rule r: x_:a;") ≡ fault kinds.Syntax 1 11
+-- a colon behind one underscore gives a default; a chain is one expression, and the last wildcard of it may be the default
+default-read : expr_reading (codes "x_:f(a)") ≡ Ok (Optional (wild (codes "x") 1 [] 1) [] (Apply (word (codes "f") 1 4) (trees (Symbol (word (codes "a") 1 6) ∷ []))))
 unfolding lexemes
-default-refused = refl
+default-read = refl
+
+chain-read : expr_reading (codes "x_:_:y_K") ≡ Ok (Optional (wild (codes "x") 1 [] 1) (wild [] 1 [] 4 ∷ []) (wildcard (codes "y") 1 (codes "K") 6))
+unfolding lexemes
+chain-read = refl
+
+-- a colon behind another wildcard is refused
+kind_default-refused : reading (codes "rule r: x_K:a;") ≡ fault kinds.Syntax 1 12
+unfolding lexemes
+kind_default-refused = refl
 
 -- a sign is the longest run, and the arrow is a run of its own
 signs-lexed : tokens_of (codes "-> ->> a->b.") ≡ Arrow ∷ Sign (codes "->>") ∷ Word (codes "a") ∷ Arrow ∷ Word (codes "b") ∷ Punctuation Dot ∷ End ∷ []

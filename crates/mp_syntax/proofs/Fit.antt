@@ -1,26 +1,28 @@
--- What the machine reads fits: the wildcards, the operands, the numbers, the members of kinds and the open brackets.
-use Rattle.std.proofs.Common.{◌≡◌, ℕ, suc, ◌-◌, ◌<◌, Bool, true, false, cond, List, [], ◌∷◌, ◌++◌, length, Option, Some, None, Ok, refl, subst, arith, leb}
-use Rattle.std.specs.Prelude.{◌≢◌, codes}
+-- What the machine reads fits: the wildcards with a default, the operands, the numbers, the members of kinds and the open brackets.
+use Rattle.std.proofs.Common.{◌≡◌, ℕ, suc, ◌-◌, ◌<◌, Bool, true, false, cond, List, [], ◌∷◌, ◌++◌, Option, Some, None, Ok, refl, subst, arith, leb}
+use Rattle.std.specs.Prelude.{◌≢◌, ◌&&◌, codes}
 use Rattle.std.specs.Str.{bytes_eq}
 use Rattle.std.proofs.lemmas.Bool.{leb-false}
 use Rattle.mp_syntax.specs.declared.token.Punct.TheVariants.{Open, Close, Comma, Colon, Semicolon}
 use Rattle.mp_syntax.specs.declared.fault.FaultKind.TheVariants.{Syntax, TooDeep}
 use Rattle.mp_syntax.specs.Tokens.{Placed}
-use Rattle.mp_syntax.specs.Syntax.{Spot, Wildcard, Tree, Symbol, Apply, InfixOf, more_trees, trees, Infixed, KindOf, OpOf, Statement, Fits, AreFit, AreSeveral, FitsStatement, AreStatements}
-use Rattle.mp_syntax.specs.Machine.{Role, OfRule, OfSubject, statement_of, Frame, Arguments, Bracket, Operands, Declared, declared, with_flag, Within, InStatement, Alone, State, Top, AfterOp, AfterOpName, AfterLeast, AfterFlags, AfterInfix, AfterKind, AfterKindName, BeforeMember, AfterMember, AfterRole, AfterName, BeforeExpr, AfterWord, AfterOpen, AfterExpr, Step, Go, Emit, Refuse, Finish, Ends, Parsed, parsed, is_punct, is_sign, is_end, is_number, word_of, sign_of, named_wildcard, keyword, spot, refuse, on_text, on_word, step, step_number, step_flag, step_flags, step_open, step_expr, step_behind, step_wildcard, after_step, run}
-use Rattle.mp_syntax.proofs.Found.{wildcard-is, ok-is}
-use Rattle.mp_syntax.proofs.Trees.{named-fits}
+use Rattle.mp_syntax.specs.Syntax.{Spot, Wildcard, Tree, Symbol, Apply, InfixOf, Wild, more_trees, trees, Infixed, KindOf, OpOf, Statement, IsDot, Fits, AreFit, AreSeveral, FitsStatement, AreStatements}
+use Rattle.mp_syntax.specs.Machine.{Role, OfRule, OfSubject, statement_of, Frame, Arguments, Bracket, Operands, Default, open_count, with_default, is_dot, Declared, declared, with_flag, Within, InStatement, Alone, State, Top, AfterOp, AfterOpName, AfterLeast, AfterFlags, AfterInfix, AfterKind, AfterKindName, BeforeMember, AfterMember, AfterRole, AfterName, BeforeExpr, AfterWord, AfterOpen, AfterWildcard, AfterExpr, Step, Go, Emit, Refuse, Finish, Ends, Parsed, parsed, is_punct, is_sign, is_end, is_number, word_of, sign_of, wildcard_at, keyword, spot, refuse, on_text, on_word, step, step_number, step_flag, step_flags, step_open, step_expr, step_behind, step_wildcard, after_step, run}
+use Rattle.mp_syntax.proofs.Found.{ok-is}
+use Rattle.mp_syntax.proofs.Trees.{is_dot-true, wild-fits, with_default-fits}
 
 -- what an open bracket holds fits, with room brackets more to open in it
 abbrev pub FrameFits : ℕ → Frame → Type 0
 FrameFits room (Arguments name args) = AreFit room (trees args)
 FrameFits room (Bracket place) = Unit {0}
 FrameFits room (Operands place sign first others) = Fits room first × AreFit room (trees others)
+FrameFits room (Default w) = Unit {0}
 
--- what open brackets hold fits
+-- what open brackets hold fits, and the wildcards before a default have one underscore and no kind
 abbrev pub FramesFit : List Frame → Type 0
 FramesFit [] = Unit {0}
-FramesFit (f ∷ k) = (length k < 100) × FrameFits (99 - length k) f × FramesFit k
+FramesFit (Default w ∷ k) = IsDot w × FramesFit k
+FramesFit (f ∷ k) = (open_count k < 100) × FrameFits (99 - open_count k) f × FramesFit k
 
 -- what a state has read fits
 abbrev pub StateFits : State → Type 0
@@ -30,8 +32,9 @@ StateFits (AfterInfix d) = is_number d.least.text ≡ true
 StateFits (AfterMember name members) = members ≢ []
 StateFits (BeforeExpr x k) = FramesFit k
 StateFits (AfterWord x k w) = FramesFit k
-StateFits (AfterOpen x k w) = (length k < 100) × FramesFit k
-StateFits (AfterExpr x k e) = FramesFit k × Fits (100 - length k) e
+StateFits (AfterOpen x k w) = (open_count k < 100) × FramesFit k
+StateFits (AfterWildcard x k w) = FramesFit k
+StateFits (AfterExpr x k e) = FramesFit k × Fits (100 - open_count k) e
 StateFits _ = Unit {0}
 
 -- what a step leads to fits
@@ -53,29 +56,29 @@ AreFit-push : (room : ℕ) (args : List Tree) (e : Tree) → AreFit room (trees 
 AreFit-push room [] e h k = (k, tt)
 AreFit-push room (a ∷ args) e h k = (h.0, AreFit-push room args e h.1 k)
 
-open-fits : (k : List Frame) (next : State) → (length k < 100 → StateFits next) → StepFits (step_open 100 k next)
-open-fits k next h = go (leb 100 (length k)) refl
+open-fits : (k : List Frame) (next : State) → (open_count k < 100 → StateFits next) → StepFits (step_open 100 k next)
+open-fits k next h = go (leb 100 (open_count k)) refl
   where
-    go : (b : Bool) → leb 100 (length k) ≡ b → StepFits (cond b (Refuse TooDeep) (Go next))
+    go : (b : Bool) → leb 100 (open_count k) ≡ b → StepFits (cond b (Refuse TooDeep) (Go next))
     go true e = tt
-    go false e = h (leb-false 100 (length k) e)
+    go false e = h (leb-false 100 (open_count k) e)
 
 expr-fits : (x : Within) (k : List Frame) (t : Placed) → FramesFit k → StepFits (step_expr 100 x k t (word_of t.token))
 expr-fits x k t fits = go (word_of t.token)
   where
-    wildcard : (o : Option Wildcard) → named_wildcard t.token t.place ≡ o → StepFits (step_wildcard x k t o)
-    wildcard (Some w) e = (fits, named-fits (100 - length k) w (wildcard-is t.token t.place w e).1)
-    wildcard None e = tt
+    wildcard : (o : Option Wildcard) → StepFits (step_wildcard x k t o)
+    wildcard (Some w) = fits
+    wildcard None = tt
 
     go : (o : Option (List ℕ)) → StepFits (step_expr 100 x k t o)
     go (Some w) = fits
-    go None = if-fits (is_punct Open t.token) _ _ (open-fits k (BeforeExpr x (Bracket t.place ∷ k)) (λ lt. (lt, tt, fits))) (wildcard (named_wildcard t.token t.place) refl)
+    go None = if-fits (is_punct Open t.token) _ _ (open-fits k (BeforeExpr x (Bracket t.place ∷ k)) (λ lt. (lt, tt, fits))) (wildcard (wildcard_at t.token t.place))
 
 several-push : (first : Tree) (others : List Tree) (e : Tree) → AreSeveral (more_trees first (trees (others ++ e ∷ [])))
 several-push first [] e = tt
 several-push first (a ∷ others) e = tt
 
-behind-fits : (x : Within) (k : List Frame) (e : Tree) (t : Placed) → FramesFit k → Fits (100 - length k) e → StepFits (step_behind x k e t)
+behind-fits : (x : Within) (k : List Frame) (e : Tree) (t : Placed) → FramesFit k → Fits (100 - open_count k) e → StepFits (step_behind x k e t)
 behind-fits (InStatement h) [] e t fits e-fits = if-fits (is_punct Semicolon t.token) _ (refuse t.token) (at h.role) tt
   where
     at : (role : Role) → FitsStatement (statement_of role h.name e)
@@ -83,19 +86,20 @@ behind-fits (InStatement h) [] e t fits e-fits = if-fits (is_punct Semicolon t.t
     at OfSubject = e-fits
 behind-fits Alone [] e t fits e-fits = if-fits (is_end t.token) (Ends e) (refuse t.token) e-fits tt
 behind-fits x (Arguments name args ∷ k) e t fits e-fits =
-    let pushed : AreFit (99 - length k) (trees (args ++ e ∷ [])) = AreFit-push (99 - length k) args e fits.1 (subst (λ n. Fits n e) (omega arith) e-fits) in
+    let pushed : AreFit (99 - open_count k) (trees (args ++ e ∷ [])) = AreFit-push (99 - open_count k) args e fits.1 (subst (λ n. Fits n e) (omega arith) e-fits) in
     let lt = fits.0 in
-    let room : suc (99 - length k) ≡ 100 - length k = omega arith in
+    let room : suc (99 - open_count k) ≡ 100 - open_count k = omega arith in
     if-fits (is_punct Comma t.token) _ _ (fits.0, pushed, fits.2)
     (if-fits (is_punct Close t.token) _ (refuse t.token) (fits.2, subst (λ n. Fits n (Apply name (trees (args ++ e ∷ [])))) room pushed) tt)
 behind-fits x (Bracket place ∷ k) e t fits e-fits =
     text-fits t (λ sign. Go (BeforeExpr x (Operands place sign e [] ∷ k))) (sign_of t.token) (λ sign. (fits.0, (subst (λ n. Fits n e) (omega arith) e-fits, tt), fits.2))
 behind-fits x (Operands place sign first others ∷ k) e t fits e-fits =
-    let pushed : AreFit (99 - length k) (trees (others ++ e ∷ [])) = AreFit-push (99 - length k) others e fits.1.1 (subst (λ n. Fits n e) (omega arith) e-fits) in
+    let pushed : AreFit (99 - open_count k) (trees (others ++ e ∷ [])) = AreFit-push (99 - open_count k) others e fits.1.1 (subst (λ n. Fits n e) (omega arith) e-fits) in
     let lt = fits.0 in
-    let room : suc (99 - length k) ≡ 100 - length k = omega arith in
+    let room : suc (99 - open_count k) ≡ 100 - open_count k = omega arith in
     if-fits (is_sign sign.text t.token) _ _ (fits.0, (fits.1.0, pushed), fits.2)
     (if-fits (is_punct Close t.token) _ (refuse t.token) (fits.2, subst (λ n. Fits n (InfixOf place sign (more_trees first (trees (others ++ e ∷ []))))) room (several-push first others e, (fits.1.0, pushed))) tt)
+behind-fits x (Default w ∷ k) e t fits e-fits = behind-fits x k (with_default w e) t fits.1 (with_default-fits (100 - open_count k) w e fits.0 e-fits)
 
 keyword-fits : (w : List ℕ) → StepFits (keyword w)
 keyword-fits w = if-fits (bytes_eq w (codes "op")) _ _ tt (if-fits (bytes_eq w (codes "kind")) _ _ tt (if-fits (bytes_eq w (codes "rule")) _ _ tt (if-fits (bytes_eq w (codes "subject")) _ (Refuse Syntax) tt tt)))
@@ -133,7 +137,13 @@ step-fits (AfterRole role) t h = text-fits t (λ w. Go (AfterName (record { role
 step-fits (AfterName x) t h = if-fits (is_punct Colon t.token) _ (refuse t.token) tt tt
 step-fits (BeforeExpr x k) t h = expr-fits x k t h
 step-fits (AfterWord x k w) t h = if-fits (is_punct Open t.token) _ _ (open-fits k (AfterOpen x k w) (λ lt. (lt, h))) (behind-fits x k (Symbol w) t h tt)
-step-fits (AfterOpen x k w) t h = if-fits (is_punct Close t.token) _ _ (h.1, let lt = h.0 in let room : suc (99 - length k) ≡ 100 - length k = omega arith in subst (λ n. Fits n (Apply w (trees []))) room tt) (expr-fits x (Arguments w [] ∷ k) t (h.0, tt, h.1))
+step-fits (AfterOpen x k w) t h = if-fits (is_punct Close t.token) _ _ (h.1, let lt = h.0 in let room : suc (99 - open_count k) ≡ 100 - open_count k = omega arith in subst (λ n. Fits n (Apply w (trees []))) room tt) (expr-fits x (Arguments w [] ∷ k) t (h.0, tt, h.1))
+step-fits (AfterWildcard x k w) t h = go (is_punct Colon t.token) (is_dot w) refl
+  where
+    go : (v d : Bool) → is_dot w ≡ d → StepFits (cond (v && d) (Go (BeforeExpr x (Default w ∷ k))) (step_behind x k (Wild w) t))
+    go true true e = (is_dot-true w e, h)
+    go true false e = behind-fits x k (Wild w) t h (wild-fits (100 - open_count k) w)
+    go false d e = behind-fits x k (Wild w) t h (wild-fits (100 - open_count k) w)
 step-fits (AfterExpr x k e) t h = behind-fits x k e t h.0 h.1
 
 AreStatements-push : (ss : List Statement) (s : Statement) → AreStatements ss → FitsStatement s → AreStatements (ss ++ s ∷ [])

@@ -1,7 +1,7 @@
 -- What the machine reads is spelled by the tokens.
-use Rattle.std.proofs.Common.{◌≡◌, ℕ, Bool, true, false, cond, List, [], ◌∷◌, ◌++◌, length, Option, Some, None, Result, Ok, refl, sym, ap, ◌∙◌, append_assoc, append-nil, leb}
+use Rattle.std.proofs.Common.{◌≡◌, ℕ, Bool, true, false, cond, List, [], ◌∷◌, ◌++◌, Option, Some, None, Result, Ok, refl, sym, ap, subst, ◌∙◌, append_assoc, append-nil, leb}
 use Rattle.std.proofs.lemmas.List.{map_push, flat_map_more}
-use Rattle.std.specs.Prelude.{codes}
+use Rattle.std.specs.Prelude.{◌&&◌, codes}
 use Rattle.std.specs.List.{flat_map}
 use Rattle.std.specs.Str.{bytes_eq}
 use Rattle.std.proofs.lemmas.Slice.Eq.{bytes_eq-Decides}
@@ -12,9 +12,10 @@ use Rattle.mp_syntax.specs.declared.fault.Fault.{Fault}
 use Rattle.mp_syntax.specs.declared.fault.FaultKind.TheVariants.{Syntax, TooDeep}
 use Rattle.mp_syntax.specs.Tokens as tokens
 use Rattle.mp_syntax.specs.Tokens.{Token, Word, Sign, Punctuation, End, Placed}
-use Rattle.mp_syntax.specs.Syntax.{Spot, Wildcard, Tree, Symbol, trees, Flag, Assoc, Comm, One, Infixed, Statement, Expected, Said, Stands, Matches, AllMatch, spell, spell_first, spell_others, spell_plus, spell_flag, spell_statement, spell_file, IsNamedWildcard, spelled_word, spelled_wildcard, spelled_sign, another, fixed_word, comma, closing, semicolon}
-use Rattle.mp_syntax.specs.Machine.{Role, OfRule, OfSubject, statement_of, Frame, Arguments, Bracket, Operands, Declared, declared, with_flag, Within, InStatement, Alone, State, Top, AfterOp, AfterOpName, AfterLeast, AfterFlags, AfterInfix, AfterKind, AfterKindName, BeforeMember, AfterMember, AfterRole, AfterName, BeforeExpr, AfterWord, AfterOpen, AfterExpr, Step, Go, Emit, Refuse, Finish, Ends, Parsed, parsed, is_punct, same_punct, is_sign, is_end, word_of, sign_of, named_wildcard, is_number, keyword, spot, refuse, on_text, on_word, on_sign, step, step_number, step_flag, step_flags, step_open, step_expr, step_behind, step_wildcard, after_step, run}
+use Rattle.mp_syntax.specs.Syntax.{Spot, Wildcard, Tree, Symbol, Wild, trees, Flag, Assoc, Comm, One, Infixed, Statement, Expected, Said, Stands, Matches, AllMatch, spell, spell_first, spell_others, spell_plus, spell_flag, spell_statement, spell_file, spelled_word, spelled_wildcard, spelled_sign, another, fixed_word, comma, colon, closing, semicolon}
+use Rattle.mp_syntax.specs.Machine.{Role, OfRule, OfSubject, statement_of, Frame, Arguments, Bracket, Operands, Default, open_count, with_default, is_dot, Declared, declared, with_flag, Within, InStatement, Alone, State, Top, AfterOp, AfterOpName, AfterLeast, AfterFlags, AfterInfix, AfterKind, AfterKindName, BeforeMember, AfterMember, AfterRole, AfterName, BeforeExpr, AfterWord, AfterOpen, AfterWildcard, AfterExpr, Step, Go, Emit, Refuse, Finish, Ends, Parsed, parsed, is_punct, same_punct, is_sign, is_end, word_of, sign_of, wildcard_at, is_number, keyword, spot, refuse, on_text, on_word, on_sign, step, step_number, step_flag, step_flags, step_open, step_expr, step_behind, step_wildcard, after_step, run}
 use Rattle.mp_syntax.specs.Partial.{spell_before, spell_declared, so_far}
+use Rattle.mp_syntax.proofs.Trees.{spell-with_default}
 
 -- ---- what a test on a token says
 
@@ -64,13 +65,12 @@ some_wildcard w = Some w
 some_wildcard-is : (v w : Wildcard) → some_wildcard v ≡ some_wildcard w → v ≡ w
 some_wildcard-is v w h = cc
 
--- the wildcard that the token is, with its name
-pub wildcard-is : (k : Token) (place : Place) (w : Wildcard) → named_wildcard k place ≡ Some w → Matches (record { token = k; place = place }) (spelled_wildcard w) × IsNamedWildcard w
-wildcard-is (tokens.Wildcard (b ∷ bs) marks kind) place w h =
-    let v : Wildcard = record { name = b ∷ bs; marks = marks; kind = kind; place = place } in
+-- the wildcard that the token is
+wildcard-is : (k : Token) (place : Place) (w : Wildcard) → wildcard_at k place ≡ Some w → Matches (record { token = k; place = place }) (spelled_wildcard w)
+wildcard-is (tokens.Wildcard name marks kind) place w h =
+    let v : Wildcard = record { name = name; marks = marks; kind = kind; place = place } in
     let same : v ≡ w = some_wildcard-is v w h in
-    let name : b ∷ bs ≡ w.name = ap (λ (v : Wildcard). v.name) same in
-    ((ap (λ (v : Wildcard). tokens.Wildcard v.name v.marks v.kind) same, ap (λ (v : Wildcard). v.place) same), λ none. absurd cc)
+    (ap (λ (v : Wildcard). tokens.Wildcard v.name v.marks v.kind) same, ap (λ (v : Wildcard). v.place) same)
 wildcard-is _ place w h = absurd cc
 
 -- the end
@@ -168,7 +168,7 @@ adds-member name members t = adds-word (λ w. Go (AfterMember name (members ++ w
 -- ---- expressions
 
 adds-open : (k : List Frame) (next : State) (before : List Expected) (t : Placed) → Adds (Go next) before t → Adds (step_open 100 k next) before t
-adds-open k next before t h = go (leb 100 (length k))
+adds-open k next before t h = go (leb 100 (open_count k))
   where
     go : (b : Bool) → Adds (cond b (Refuse TooDeep) (Go next)) before t
     go true = tt
@@ -177,8 +177,8 @@ adds-open k next before t h = go (leb 100 (length k))
 adds-expr : (x : Within) (k : List Frame) (t : Placed) → Adds (step_expr 100 x k t (word_of t.token)) (so_far (BeforeExpr x k)) t
 adds-expr x k t = go (word_of t.token) refl
   where
-    wildcard : (o : Option Wildcard) → named_wildcard t.token t.place ≡ o → Adds (step_wildcard x k t o) (so_far (BeforeExpr x k)) t
-    wildcard (Some w) f = (spelled_wildcard w, (wildcard-is t.token t.place w f).0, simp append_assoc)
+    wildcard : (o : Option Wildcard) → wildcard_at t.token t.place ≡ o → Adds (step_wildcard x k t o) (so_far (BeforeExpr x k)) t
+    wildcard (Some w) f = (spelled_wildcard w, wildcard-is t.token t.place w f, simp append_assoc)
     wildcard None f = tt
 
     bracket : Matches t (Said (Punctuation Open)) → Adds (step_open 100 k (BeforeExpr x (Bracket t.place ∷ k))) (so_far (BeforeExpr x k)) t
@@ -186,7 +186,7 @@ adds-expr x k t = go (word_of t.token) refl
 
     go : (o : Option (List ℕ)) → word_of t.token ≡ o → Adds (step_expr 100 x k t o) (so_far (BeforeExpr x k)) t
     go (Some w) e = (spelled_word (spot w t.place), (word-is t.token w e, refl), simp append_assoc)
-    go None e = adds-punct Open t _ _ (so_far (BeforeExpr x k)) bracket (wildcard (named_wildcard t.token t.place) refl)
+    go None e = adds-punct Open t _ _ (so_far (BeforeExpr x k)) bracket (wildcard (wildcard_at t.token t.place) refl)
 
 adds-behind : (x : Within) (k : List Frame) (e : Tree) (t : Placed) → Adds (step_behind x k e t) (so_far (AfterExpr x k e)) t
 adds-behind (InStatement h) [] e t = adds-punct Semicolon t _ (refuse t.token) (so_far (AfterExpr (InStatement h) [] e)) (λ is. (semicolon, is, at h.role)) tt
@@ -207,6 +207,7 @@ adds-behind x (Bracket place ∷ k) e t =
 adds-behind x (Operands place sign first others ∷ k) e t =
     adds-sign sign.text t _ _ (so_far (AfterExpr x (Operands place sign first others ∷ k) e)) (λ is. (another sign, is, rw (flat_map-push (spell_before (another sign)) others e) (simp append_assoc)))
     (adds-punct Close t _ (refuse t.token) (so_far (AfterExpr x (Operands place sign first others ∷ k) e)) (λ is. (closing, is, rw (spell_first-trees (another sign) others e) (simp append_assoc))) tt)
+adds-behind x (Default w ∷ k) e t = subst (λ l. Adds (step_behind x k (with_default w e) t) l t) (rw (spell-with_default w e) (simp append_assoc)) (adds-behind x k (with_default w e) t)
 
 -- ---- all states
 
@@ -236,6 +237,15 @@ adds (BeforeExpr x k) t = adds-expr x k t
 adds (AfterWord x k w) t =
     adds-punct Open t _ _ (so_far (AfterWord x k w)) (λ is. adds-open k (AfterOpen x k w) (so_far (AfterWord x k w)) t (Said (Punctuation Open), is, simp append_assoc)) (adds-behind x k (Symbol w) t)
 adds (AfterOpen x k w) t = adds-punct Close t _ _ (so_far (AfterOpen x k w)) (λ is. (closing, is, simp append_assoc)) (adds-expr x (Arguments w [] ∷ k) t)
+adds (AfterWildcard x k w) t = go (is_punct Colon t.token) refl
+  where
+    go : (v : Bool) → is_punct Colon t.token ≡ v → Adds (cond (v && is_dot w) (Go (BeforeExpr x (Default w ∷ k))) (step_behind x k (Wild w) t)) (so_far (AfterWildcard x k w)) t
+    go true e = dot (is_dot w)
+      where
+        dot : (d : Bool) → Adds (cond d (Go (BeforeExpr x (Default w ∷ k))) (step_behind x k (Wild w) t)) (so_far (AfterWildcard x k w)) t
+        dot true = (colon, punct-is Colon t.token e, simp append_assoc)
+        dot false = adds-behind x k (Wild w) t
+    go false e = adds-behind x k (Wild w) t
 adds (AfterExpr x k e) t = adds-behind x k e t
 
 -- ---- whole runs

@@ -4,7 +4,8 @@ use Rattle.std.specs.List.{flat_map}
 use Rattle.mp_syntax.specs.declared.place.Place.{Place}
 use Rattle.mp_syntax.specs.Tokens as tokens
 use Rattle.mp_syntax.specs.Tokens.{Token, Word, Sign, Placed, Spells, place_after, Tokens}
-use Rattle.mp_syntax.specs.Syntax.{Spot, Wildcard, Tree, Symbol, Apply, InfixOf, Wild, Trees, no_trees, more_trees, Flag, Assoc, Comm, One, Infixed, Statement, OpOf, KindOf, RuleOf, SubjectOf, Expected, Said, Stands, AllMatch, spelled_word, spelled_sign, another, comma, semicolon, spell, spell_first, spell_others, spell_named, spell_plus, spell_flag, spell_statement, spell_file, Fits, AreFit, FitsStatement, AreStatements, IsName, IsInfixSign, HasParts, HasNames, HaveNames, HaveSigns, AreNames, StatementHasNames, StatementsHaveNames}
+use Rattle.mp_syntax.specs.Syntax.{Spot, Wildcard, Tree, Symbol, Apply, InfixOf, Wild, Optional, Trees, no_trees, more_trees, Flag, Assoc, Comm, One, Infixed, Statement, OpOf, KindOf, RuleOf, SubjectOf, Expected, Said, Stands, AllMatch, spelled_word, spelled_sign, another, comma, semicolon, spell, spell_first, spell_others, spell_with_colon, spell_named, spell_plus, spell_flag, spell_statement, spell_file, Fits, AreFit, FitsStatement, AreStatements, IsName, IsInfixSign, HasParts, HaveParts, HasNames, HaveNames, HaveSigns, AreNames, StatementHasNames, StatementsHaveNames}
+use Rattle.mp_syntax.proofs.Trees.{fits-optional}
 
 -- a text is this token
 abbrev pub HasText : Token → Type 0
@@ -54,6 +55,10 @@ wildcard-parts w h = record {
   kind_behind_one = h.1.0.kind_behind_one;
 }
 
+chain-parts : (ws : List Wildcard) → ExpectTexts (flat_map spell_with_colon ws) → HaveParts ws
+chain-parts [] h = tt
+chain-parts (w ∷ ws) h = (wildcard-parts w h.0, chain-parts ws h.1.1)
+
 sign-name : (s : List ℕ) → HasText (Sign s) → IsInfixSign s
 sign-name s h = record { is_sign = h.1.1; no_arrow = h.1.2 }
 
@@ -68,6 +73,9 @@ mutual
       let r = texts-append (spell t) (spelled_sign sign ∷ spell_first (another sign) ts) h.1 in
       (sign-name sign.text r.1.0, (tree-names t room fits.1.0 r.0, first-names (another sign) ts room fits.1.1 r.1.1))
   tree-names (Wild w) room fits h = wildcard-parts w h.0
+  tree-names (Optional w others default) room fits h =
+      let r = texts-append (flat_map spell_with_colon others) (spell default) h.1.1 in
+      (wildcard-parts w h.0, chain-parts others r.0, tree-names default room (fits-optional room w others default fits).2 r.1)
 
   first-names : (between : Expected) (ts : Trees) (room : ℕ) → AreFit room ts → ExpectTexts (spell_first between ts) → HaveNames ts
   first-names between no_trees room fits h = tt

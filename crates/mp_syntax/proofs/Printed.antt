@@ -1,5 +1,5 @@
 -- What is printed of statements is read again as those statements.
-use Rattle.std.proofs.Common.{◌≡◌, ◌≢◌, ℕ, zero, suc, ◌+◌, Bool, true, false, cond, List, [], ◌∷◌, ◌++◌, length, map, drop, refl, sym, ap, subst, ◌∙◌, arith, append_assoc}
+use Rattle.std.proofs.Common.{◌≡◌, ◌≢◌, ℕ, zero, suc, ◌+◌, Bool, true, false, cond, List, [], ◌∷◌, ◌++◌, length, map, drop, refl, sym, ap, subst, ◌∙◌, arith, append_assoc, append-nil}
 use Rattle.std.specs.Prelude.{codes}
 use Rattle.std.specs.List.{flat_map, prefix_len}
 use Rattle.std.proofs.lemmas.List.{drop_at}
@@ -9,11 +9,11 @@ use Rattle.mp_syntax.specs.declared.token.Punct.TheVariants.{Open, Close, Comma,
 use Rattle.mp_syntax.specs.Tokens as tokens
 use Rattle.mp_syntax.specs.Tokens.{Token, Word, Sign, Punctuation, Placed, byte_of, is_sign_byte, AreWordBytes, IsShort, Spells, IsWildcard, after_byte, first_place}
 use Rattle.mp_syntax.specs.Lexing.{kind_at, token_at, after_blanks, lexemes}
-use Rattle.mp_syntax.specs.Syntax.{Spot, Wildcard, Tree, Symbol, Apply, InfixOf, Wild, Trees, no_trees, more_trees, Flag, Assoc, Comm, One, Infixed, Statement, OpOf, KindOf, RuleOf, SubjectOf, Expected, Said, Stands, Matches, AllMatch, spelled_word, spelled_wildcard, spelled_sign, another, fixed_word, comma, closing, semicolon, spell, spell_first, spell_others, spell_operands, spell_named, spell_plus, spell_flag, spell_statement, spell_file, AreSeveral, Fits, AreFit, FitsStatement, AreStatements, IsName, IsInfixSign, HasParts, HasNames, HaveNames, HaveSigns, AreNames, StatementHasNames, StatementsHaveNames, IsSyntaxOf}
+use Rattle.mp_syntax.specs.Syntax.{Spot, Wildcard, Tree, Symbol, Apply, InfixOf, Wild, Optional, Trees, no_trees, more_trees, Flag, Assoc, Comm, One, Infixed, Statement, OpOf, KindOf, RuleOf, SubjectOf, Expected, Said, Stands, Matches, AllMatch, spelled_word, spelled_wildcard, spelled_sign, another, fixed_word, comma, colon, closing, semicolon, spell_with_colon, spell, spell_first, spell_others, spell_operands, spell_named, spell_plus, spell_flag, spell_statement, spell_file, AreSeveral, AreDots, HasNoDefault, Fits, AreFit, FitsStatement, AreStatements, IsName, IsInfixSign, HasParts, HaveParts, HasNames, HaveNames, HaveSigns, AreNames, StatementHasNames, StatementsHaveNames, IsSyntaxOf}
 use Rattle.mp_syntax.specs.Machine.{Top, run}
 use Rattle.mp_syntax.specs.Reading.{statements_read}
-use Rattle.mp_syntax.specs.Printed.{wildcard_text, tree_text, first_text, others_text, plus_text, flag_text, member_text, line_end, named_text, statement_text, statements_text, unplaced_spot, unplaced_tree, unplaced_trees, unplaced_flag, unplaced}
-use Rattle.mp_syntax.proofs.Trees.{fits-named, named-fits}
+use Rattle.mp_syntax.specs.Printed.{wildcard_text, text_with_colon, tree_text, first_text, others_text, plus_text, flag_text, member_text, line_end, named_text, statement_text, statements_text, unplaced_spot, unplaced_wildcard, unplaced_tree, unplaced_trees, unplaced_flag, unplaced}
+use Rattle.mp_syntax.proofs.Trees.{wild-fits, fits-optional, optional-fits}
 use Rattle.mp_syntax.proofs.Spelling.{spells-some, spells-token}
 use Rattle.mp_syntax.proofs.Fuel.{lexemes-step, lexemes-next}
 use Rattle.mp_syntax.proofs.TokensLaw.{starts-stay, plain-starts, spells-plain, behind-token, end_at}
@@ -159,6 +159,10 @@ part-bytes : (w : List ℕ) → (w ≢ [] → IsName w) → AreWordBytes w × Is
 part-bytes [] h = (refl, omega arith)
 part-bytes (b ∷ w) h = let is = h (λ e. absurd cc) in (is.is_word.bytes, is.is_short)
 
+-- the wildcard at this place
+abbrev placed_wildcard : Wildcard → Place → Wildcard
+placed_wildcard w place = record { name = w.name; marks = w.marks; kind = w.kind; place = place }
+
 -- a wildcard is the text of its token
 wildcard-spells : (w : Wildcard) → HasParts w → Spells (wildcard_text w) (tokens.Wildcard w.name w.marks w.kind)
 wildcard-spells w h =
@@ -178,6 +182,67 @@ symbol-fits : (room : ℕ) (w : Spot) → Fits room (Symbol w)
 symbol-fits zero w = tt
 symbol-fits (suc room) w = tt
 
+-- the bytes begin with these wildcards, each with a colon behind it, which then stand at their places, and rest lies behind them
+record LexesChain (bytes rest : List ℕ) (place : Place) (w : Wildcard) (others : List Wildcard) : Type 0 where
+  first : Wildcard
+  all : List Wildcard
+  same_first : unplaced_wildcard first ≡ unplaced_wildcard w
+  same : map unplaced_wildcard all ≡ map unplaced_wildcard others
+  dots : AreDots (first ∷ all)
+  lexes : Lexes bytes place (flat_map spell_with_colon (first ∷ all)) rest
+
+-- a wildcard and a colon
+lexes-with_colon : (w : Wildcard) (rest : List ℕ) (place : Place) → HasParts w → Lexes (text_with_colon w ++ rest) place (spell_with_colon (placed_wildcard w place)) rest
+lexes-with_colon w rest place h =
+    let here = placed_wildcard w place in
+    let r = lexes-wildcard (wildcard_text w) w.name w.marks w.kind (58 ∷ rest) place (spelled_wildcard here) (wildcard-spells w h) refl (refl, refl) in
+    subst (λ l. Lexes l place (spell_with_colon here) rest) (sym (append_assoc (wildcard_text w) (58 ∷ []) rest))
+    (lexes-then (wildcard_text w ++ (58 ∷ rest)) (58 ∷ rest) rest place (spelled_wildcard here ∷ []) (colon ∷ []) r (lexes-punct Colon rest r.after colon refl))
+
+lexes-chain : (w : Wildcard) (others : List Wildcard) (rest : List ℕ) (place : Place) → HaveParts (w ∷ others) → AreDots (w ∷ others) → LexesChain (flat_map text_with_colon (w ∷ others) ++ rest) rest place w others
+lexes-chain w [] rest place h dots =
+    let here = placed_wildcard w place in
+    record {
+      first = here;
+      all = [];
+      same_first = refl;
+      same = refl;
+      dots = (record { one_mark = dots.0.one_mark; no_kind = dots.0.no_kind }, tt);
+      lexes = subst (λ l. Lexes l place (spell_with_colon here) rest) (ap (λ l. l ++ rest) (sym (append-nil (text_with_colon w)))) (lexes-with_colon w rest place h.0);
+    }
+lexes-chain w (v ∷ others) rest place h dots =
+    let here = placed_wildcard w place in
+    let behind = flat_map text_with_colon (v ∷ others) ++ rest in
+    let r = lexes-with_colon w behind place h.0 in
+    let a = lexes-chain v others rest r.after h.1 dots.1 in
+    record {
+      first = here;
+      all = a.first ∷ a.all;
+      same_first = refl;
+      same = λ i. a.same_first i ∷ a.same i;
+      dots = (record { one_mark = dots.0.one_mark; no_kind = dots.0.no_kind }, a.dots);
+      lexes = subst (λ l. Lexes l place (flat_map spell_with_colon (here ∷ a.first ∷ a.all)) rest) (sym (append_assoc (text_with_colon w) (flat_map text_with_colon (v ∷ others)) rest))
+          (lexes-then (text_with_colon w ++ behind) behind rest place (spell_with_colon here) (flat_map spell_with_colon (a.first ∷ a.all)) r a.lexes);
+    }
+
+-- whether an expression has a default is told apart from its places
+HasNoDefault-unplaced : (t u : Tree) → unplaced_tree t ≡ unplaced_tree u → HasNoDefault u → HasNoDefault t
+HasNoDefault-unplaced t u e h = without t (subst HasNoDefault (sym e) (with_places u h))
+  where
+    with_places : (t : Tree) → HasNoDefault t → HasNoDefault (unplaced_tree t)
+    with_places (Symbol w) h = tt
+    with_places (Apply f args) h = tt
+    with_places (InfixOf opened sign operands) h = tt
+    with_places (Wild w) h = tt
+    with_places (Optional w others default) h = absurd h
+
+    without : (t : Tree) → HasNoDefault (unplaced_tree t) → HasNoDefault t
+    without (Symbol w) h = tt
+    without (Apply f args) h = tt
+    without (InfixOf opened sign operands) h = tt
+    without (Wild w) h = tt
+    without (Optional w others default) h = absurd h
+
 mutual
   lexes-tree : (t : Tree) (room : ℕ) (rest : List ℕ) (place : Place) → HasNames t → Fits room t → prefix_len is_mark_byte rest ≡ 0 → LexesTree room (tree_text t ++ rest) rest place t
   lexes-tree (Symbol w) room rest place h fits ends = record {
@@ -187,12 +252,24 @@ mutual
     lexes = lexes-word w.text rest place (Stands (Word w.text) place) h ends (refl, refl);
   }
   lexes-tree (Wild w) room rest place h fits ends =
-      let here : Wildcard = record { name = w.name; marks = w.marks; kind = w.kind; place = place } in
+      let here = placed_wildcard w place in
       record {
         tree = Wild here;
         same = refl;
-        fits = named-fits room here (fits-named room w fits);
+        fits = wild-fits room here;
         lexes = lexes-wildcard (wildcard_text w) w.name w.marks w.kind rest place (spelled_wildcard here) (wildcard-spells w h) ends (refl, refl);
+      }
+  lexes-tree (Optional w others default) room rest place h fits ends =
+      let f = fits-optional room w others default fits in
+      let behind = tree_text default ++ rest in
+      let a = lexes-chain w others behind place (h.0, h.1) f.0 in
+      let r = lexes-tree default room rest a.lexes.after h.2 f.2 ends in
+      record {
+        tree = Optional a.first a.all r.tree;
+        same = λ i. Optional (a.same_first i) (a.same i) (r.same i);
+        fits = optional-fits room a.first a.all r.tree a.dots (HasNoDefault-unplaced r.tree default r.same f.1) r.fits;
+        lexes = subst (λ l. Lexes l place (spell (Optional a.first a.all r.tree)) rest) (sym (append_assoc (flat_map text_with_colon (w ∷ others)) (tree_text default) rest))
+            (lexes-then (flat_map text_with_colon (w ∷ others) ++ behind) behind rest place (flat_map spell_with_colon (a.first ∷ a.all)) (spell r.tree) a.lexes r.lexes);
       }
   lexes-tree (Apply f args) zero rest place h fits ends = absurd fits
   lexes-tree (Apply f args) (suc room) rest place h fits ends =

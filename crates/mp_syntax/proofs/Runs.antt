@@ -1,24 +1,26 @@
 -- Steps of the machine, and runs over one token.
-use Rattle.std.proofs.Common.{◌≡◌, ℕ, suc, ◌+◌, ◌<◌, true, false, cond, List, [], ◌∷◌, ◌++◌, length, None, Result, refl, ap, ◌∙◌, arith}
-use Rattle.std.proofs.lemmas.Bool.{lt-leb}
+use Rattle.std.proofs.Common.{◌≡◌, ℕ, suc, ◌+◌, ◌<◌, true, false, cond, List, [], ◌∷◌, ◌++◌, length, Some, None, Result, refl, ap, ◌∙◌, arith}
+use Rattle.std.specs.Prelude.{◌&&◌}
+use Rattle.std.proofs.lemmas.Bool.{lt-leb, and_parts}
 use Rattle.mp_syntax.specs.declared.place.Place.{Place}
 use Rattle.mp_syntax.specs.declared.token.Punct.{Punct}
-use Rattle.mp_syntax.specs.declared.token.Punct.TheVariants.{Open, Close, Comma, Semicolon}
+use Rattle.mp_syntax.specs.declared.token.Punct.TheVariants.{Open, Close, Comma, Colon, Semicolon}
 use Rattle.mp_syntax.specs.declared.fault.Fault.{Fault}
 use Rattle.mp_syntax.specs.declared.fault.FaultKind.TheVariants.{TooDeep}
 use Rattle.mp_syntax.specs.declared.fault.SyntaxError.{SyntaxError}
 use Rattle.mp_syntax.specs.declared.fault.SyntaxError.TheVariants as errors
-use Rattle.mp_syntax.specs.Tokens.{Token, Word, Wildcard, Sign, Arrow, Punctuation, Long, Bad, End, Placed}
+use Rattle.mp_syntax.specs.Tokens as tokens
+use Rattle.mp_syntax.specs.Tokens.{Token, Word, Sign, Arrow, Punctuation, Long, Bad, End, Placed}
 use Rattle.mp_syntax.specs.Lexing.{behind}
-use Rattle.mp_syntax.specs.Syntax.{Spot, Tree, Apply, InfixOf, more_trees, trees, KindOf, Statement}
-use Rattle.mp_syntax.specs.Machine.{State, Role, Step, Go, Emit, Refuse, Heading, Within, Parsed, Frame, Arguments, Bracket, Operands, BeforeMember, AfterMember, BeforeExpr, AfterWord, AfterOpen, AfterExpr, is_punct, is_sign, word_of, named_wildcard, refuse, on_punct, on_word, step, step_open, step_wildcard, step_expr, run}
-use Rattle.mp_syntax.specs.Parsing.{onward, WantsPunct, Fails}
+use Rattle.mp_syntax.specs.Syntax.{Spot, Wildcard, Tree, Apply, InfixOf, Symbol, Wild, Optional, more_trees, trees, HasNoDefault, KindOf, Statement}
+use Rattle.mp_syntax.specs.Machine.{State, Role, Step, Go, Emit, Refuse, Heading, Within, Parsed, Frame, Arguments, Bracket, Operands, Default, open_count, BeforeMember, AfterMember, BeforeExpr, AfterWord, AfterOpen, AfterWildcard, AfterExpr, is_punct, is_sign, word_of, wildcard_at, is_dot, with_default, refuse, on_punct, on_word, step, step_open, step_wildcard, step_expr, step_behind, run}
+use Rattle.mp_syntax.specs.Parsing.{onward, WantsPunct, Fails, within_defaults}
 
 -- behind a punctuation character lie the other tokens
 pub behind-punct : (p : Punct) (t : Token) (ts : List Placed) → is_punct p t ≡ true → behind t ts ≡ ts
 behind-punct p End ts h = absurd cc
 behind-punct p (Word w) ts h = refl
-behind-punct p (Wildcard name marks kind) ts h = refl
+behind-punct p (tokens.Wildcard name marks kind) ts h = refl
 behind-punct p (Sign s) ts h = refl
 behind-punct p Arrow ts h = refl
 behind-punct p (Punctuation q) ts h = refl
@@ -33,6 +35,15 @@ one-step done at t new s e f = ap (λ ts. onward t.place done (step at t) ts) e 
 pub over-punct : (p : Punct) (t : Placed) (old new : List Placed) → old ≡ t ∷ behind t.token new → is_punct p t.token ≡ true → (done : List Statement) (at : State) (next : Step) → step at t ≡ next → run done at old ≡ onward t.place done next new
 over-punct p t old new e h done at next f = ap (run done at) e ∙ one-step done at t new next (behind-punct p t.token new h) f
 
+-- behind a sign lie the other tokens
+behind-sign : (text : List ℕ) (t : Token) (ts : List Placed) → is_sign text t ≡ true → behind t ts ≡ ts
+behind-sign text (Sign s) ts h = refl
+behind-sign text _ ts h = absurd cc
+
+-- a step over a sign
+pub over-sign : (text : List ℕ) (t : Placed) (old new : List Placed) → old ≡ t ∷ behind t.token new → is_sign text t.token ≡ true → (done : List Statement) (at : State) (next : Step) → step at t ≡ next → run done at old ≡ onward t.place done next new
+over-sign text t old new e h done at next f = ap (run done at) e ∙ one-step done at t new next (behind-sign text t.token new h) f
+
 -- a punctuation character that the state has
 pub passes-punct : (p : Punct) (t : Placed) (old new : List Placed) → old ≡ t ∷ behind t.token new → is_punct p t.token ≡ true → (done : List Statement) (at : State) (next : Step) → WantsPunct t at p next → run done at old ≡ onward t.place done next new
 passes-punct p t old new e h done at next wants = over-punct p t old new e h done at next (wants ∙ ap (λ b. cond b next (refuse t.token)) h)
@@ -40,6 +51,10 @@ passes-punct p t old new e h done at next wants = over-punct p t old new e h don
 -- what passes a punctuation character leaves one token less
 pub length-passed : (p : Punct) (t : Placed) (old new : List Placed) → old ≡ t ∷ behind t.token new → is_punct p t.token ≡ true → length old ≡ suc (length new)
 length-passed p t old new e h = ap length (e ∙ ap (λ ts. t ∷ ts) (behind-punct p t.token new h))
+
+-- the same of a sign
+pub length-passed_sign : (text : List ℕ) (t : Placed) (old new : List Placed) → old ≡ t ∷ behind t.token new → is_sign text t.token ≡ true → length old ≡ suc (length new)
+length-passed_sign text t old new e h = ap length (e ∙ ap (λ ts. t ∷ ts) (behind-sign text t.token new h))
 
 -- behind an argument that is read, where no comma follows, the bracket closes
 pub expr-closes : (x : Within) (name : Spot) (args : List Tree) (k : List Frame) (e : Tree) (t : Placed) → is_punct Comma t.token ≡ false → WantsPunct t (AfterExpr x (Arguments name args ∷ k) e) Close (Go (AfterExpr x k (Apply name (trees (args ++ e ∷ [])))))
@@ -59,8 +74,8 @@ fails-along errors.Memory a b p h = tt
 fails-along (errors.Fault f) a b p h = p ∙ h
 
 -- the bracket of an application, where there is room
-pub word-opens : (x : Within) (k : List Frame) (w : Spot) (t : Placed) (room : ℕ) → length k + room ≡ 100 → 0 < room → is_punct Open t.token ≡ true → step (AfterWord x k w) t ≡ Go (AfterOpen x k w)
-word-opens x k w t room len some e = rw (e, lt-leb 100 (length k) (omega (arith, len, some))) refl
+pub word-opens : (x : Within) (k : List Frame) (w : Spot) (t : Placed) (room : ℕ) → open_count k + room ≡ 100 → 0 < room → is_punct Open t.token ≡ true → step (AfterWord x k w) t ≡ Go (AfterOpen x k w)
+word-opens x k w t room len some e = rw (e, lt-leb 100 (open_count k) (omega (arith, len, some))) refl
 
 -- an application without arguments
 pub open-closes : (x : Within) (k : List Frame) (w : Spot) (t : Placed) → is_punct Close t.token ≡ true → step (AfterOpen x k w) t ≡ Go (AfterExpr x k (Apply w (trees [])))
@@ -75,13 +90,76 @@ pub bracket-no_word : (t : Token) → is_punct Open t ≡ true → word_of t ≡
 bracket-no_word (Punctuation p) h = refl
 bracket-no_word _ h = absurd cc
 
+-- a wildcard is no bracket
+no_bracket : (t : Token) (place : Place) (w : Wildcard) → wildcard_at t place ≡ Some w → is_punct Open t ≡ false
+no_bracket (tokens.Wildcard name marks kind) place w h = refl
+no_bracket _ place w h = absurd cc
+
+-- a wildcard is no word
+no_word : (t : Token) (place : Place) (w : Wildcard) → wildcard_at t place ≡ Some w → word_of t ≡ None
+no_word (tokens.Wildcard name marks kind) place w h = refl
+no_word _ place w h = absurd cc
+
 -- the bracket of an infix expression
 pub bracket-step : (x : Within) (k : List Frame) (t : Placed) → is_punct Open t.token ≡ true → step (BeforeExpr x k) t ≡ step_open 100 k (BeforeExpr x (Bracket t.place ∷ k))
-bracket-step x k t e = ap (step_expr 100 x k t) (bracket-no_word t.token e) ∙ ap (λ b. cond b (step_open 100 k (BeforeExpr x (Bracket t.place ∷ k))) (step_wildcard x k t (named_wildcard t.token t.place))) e
+bracket-step x k t e = ap (step_expr 100 x k t) (bracket-no_word t.token e) ∙ ap (λ b. cond b (step_open 100 k (BeforeExpr x (Bracket t.place ∷ k))) (step_wildcard x k t (wildcard_at t.token t.place))) e
 
 -- the same where there is room
-pub bracket-opens : (x : Within) (k : List Frame) (t : Placed) (room : ℕ) → length k + room ≡ 100 → 0 < room → is_punct Open t.token ≡ true → step (BeforeExpr x k) t ≡ Go (BeforeExpr x (Bracket t.place ∷ k))
-bracket-opens x k t room len some e = bracket-step x k t e ∙ ap (λ b. cond b (Refuse TooDeep) (Go (BeforeExpr x (Bracket t.place ∷ k)))) (lt-leb 100 (length k) (omega (arith, len, some)))
+pub bracket-opens : (x : Within) (k : List Frame) (t : Placed) (room : ℕ) → open_count k + room ≡ 100 → 0 < room → is_punct Open t.token ≡ true → step (BeforeExpr x k) t ≡ Go (BeforeExpr x (Bracket t.place ∷ k))
+bracket-opens x k t room len some e = bracket-step x k t e ∙ ap (λ b. cond b (Refuse TooDeep) (Go (BeforeExpr x (Bracket t.place ∷ k)))) (lt-leb 100 (open_count k) (omega (arith, len, some)))
+
+-- a wildcard leads to what may stand behind it
+pub wildcard-step : (x : Within) (k : List Frame) (t : Placed) (w : Wildcard) → wildcard_at t.token t.place ≡ Some w → step (BeforeExpr x k) t ≡ Go (AfterWildcard x k w)
+wildcard-step x k t w e =
+    ap (step_expr 100 x k t) (no_word t.token t.place w e)
+    ∙ ap (λ b. cond b (step_open 100 k (BeforeExpr x (Bracket t.place ∷ k))) (step_wildcard x k t (wildcard_at t.token t.place))) (no_bracket t.token t.place w e)
+    ∙ ap (step_wildcard x k t) e
+
+-- a colon behind a wildcard with one underscore and no kind leads to its default
+pub default-step : (x : Within) (k : List Frame) (w : Wildcard) (t : Placed) → (is_punct Colon t.token && is_dot w) ≡ true → step (AfterWildcard x k w) t ≡ Go (BeforeExpr x (Default w ∷ k))
+default-step x k w t e = ap (λ b. cond b (Go (BeforeExpr x (Default w ∷ k))) (step_behind x k (Wild w) t)) e
+
+-- a run over that colon
+pub over-default : (t : Placed) (old new : List Placed) → old ≡ t ∷ behind t.token new → (done : List Statement) (x : Within) (k : List Frame) (w : Wildcard) → (is_punct Colon t.token && is_dot w) ≡ true → run done (AfterWildcard x k w) old ≡ run done (BeforeExpr x (Default w ∷ k)) new
+over-default t old new e done x k w h = over-punct Colon t old new e (and_parts (is_punct Colon t.token) (is_dot w) h).0 done (AfterWildcard x k w) (Go (BeforeExpr x (Default w ∷ k))) (default-step x k w t h)
+
+-- a wildcard that no default follows is the expression
+pub wildcard-alone : (done : List Statement) (x : Within) (k : List Frame) (w : Wildcard) (t : Placed) (ts : List Placed) → (is_punct Colon t.token && is_dot w) ≡ false → run done (AfterWildcard x k w) (t ∷ ts) ≡ run done (AfterExpr x k (Wild w)) (t ∷ ts)
+wildcard-alone done x k w t ts e = ap (λ b. onward t.place done (cond b (Go (BeforeExpr x (Default w ∷ k))) (step_behind x k (Wild w) t)) ts) e
+
+-- behind a default the wildcard with it is read
+default-behind : (done : List Statement) (x : Within) (k : List Frame) (w : Wildcard) (e : Tree) (ts : List Placed) → run done (AfterExpr x (Default w ∷ k) e) ts ≡ run done (AfterExpr x k (with_default w e)) ts
+default-behind done x k w e [] = refl
+default-behind done x k w e (t ∷ ts) = refl
+
+-- the wildcards of a chain with this default
+abbrev pub chained : List Wildcard → Tree → Tree
+chained [] e = e
+chained (w ∷ ws) e = with_default w (chained ws e)
+
+-- behind the default of a chain all its wildcards are read
+pub defaults-behind : (done : List Statement) (x : Within) (ws : List Wildcard) (k : List Frame) (e : Tree) (ts : List Placed) → run done (AfterExpr x (within_defaults ws k) e) ts ≡ run done (AfterExpr x k (chained ws e)) ts
+defaults-behind done x [] k e ts = refl
+defaults-behind done x (w ∷ ws) k e ts = defaults-behind done x ws (Default w ∷ k) e ts ∙ default-behind done x k w (chained ws e) ts
+
+-- a chain whose default is no wildcard with a default is one optional wildcard
+pub chained-optional : (w : Wildcard) (ws : List Wildcard) (e : Tree) → HasNoDefault e → chained (w ∷ ws) e ≡ Optional w ws e
+chained-optional w [] (Symbol s) h = refl
+chained-optional w [] (Apply f args) h = refl
+chained-optional w [] (InfixOf place sign operands) h = refl
+chained-optional w [] (Wild v) h = refl
+chained-optional w [] (Optional v vs e) h = absurd h
+chained-optional w (v ∷ ws) e h = ap (with_default w) (chained-optional v ws e h)
+
+-- a chain opens no bracket
+pub open_count-within_defaults : (ws : List Wildcard) (k : List Frame) → open_count (within_defaults ws k) ≡ open_count k
+open_count-within_defaults [] k = refl
+open_count-within_defaults (w ∷ ws) k = open_count-within_defaults ws (Default w ∷ k)
+
+-- one wildcard more in a chain
+pub within_defaults-push : (ws : List Wildcard) (w : Wildcard) (k : List Frame) → within_defaults (ws ++ w ∷ []) k ≡ Default w ∷ within_defaults ws k
+within_defaults-push [] w k = refl
+within_defaults-push (v ∷ ws) w k = within_defaults-push ws w (Default v ∷ k)
 
 -- behind a member of a kind, where no semicolon follows, there is another member
 pub member-again : (done : List Statement) (name : Spot) (members : List Spot) (t : Placed) (ts : List Placed) → is_punct Semicolon t.token ≡ false → run done (AfterMember name members) (t ∷ ts) ≡ run done (BeforeMember name members) (t ∷ ts)

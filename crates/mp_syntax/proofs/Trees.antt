@@ -1,11 +1,16 @@
 -- Trees and lists of trees, the trees of applications and infix expressions, and wildcards, which fit at any number of brackets.
-use Rattle.std.proofs.Common.{◌≡◌, ℕ, zero, suc, List, [], ◌∷◌, map, Vec, Global, refl, ap, ◌∙◌}
+use Rattle.std.proofs.Common.{◌≡◌, ℕ, zero, suc, true, List, [], ◌∷◌, ◌++◌, length, map, Vec, Global, refl, ap, ◌∙◌}
+use Rattle.std.specs.Prelude.{◌&&◌, ◌==◌}
+use Rattle.std.proofs.lemmas.Bool.{and_parts, eqb-true}
 use mathlib.Core.Former.{Count}
 use Rattle.mp_syntax.specs.declared.place.Place.{Place}
 use Rattle.mp_syntax.specs.declared.place.Spot as code_spot
-use Rattle.mp_syntax.specs.declared.tree.Expr.{Expr, Apply, Apply', Infix, Infix', Row_of-Expr, end_of-Expr, more_of-Expr, items-the_row-Expr, items_hidden-the_row-Expr-0}
+use Rattle.mp_syntax.specs.declared.tree.Expr as code
+use Rattle.mp_syntax.specs.declared.tree.Expr.{Expr, Apply', Infix, Infix', Row_of-Expr, end_of-Expr, more_of-Expr, items-the_row-Expr, items_hidden-the_row-Expr-0}
 use Rattle.mp_syntax.specs.Syntax as syntax
-use Rattle.mp_syntax.specs.Syntax.{Wildcard, Tree, Wild, Trees, trees, tree_list, no_trees, more_trees, IsNamedWildcard, Fits}
+use Rattle.mp_syntax.specs.Syntax.{Wildcard, Tree, Symbol, Apply, InfixOf, Wild, Optional, Trees, trees, tree_list, no_trees, more_trees, IsDot, AreDots, HasNoDefault, Fits, spell, spell_with_colon}
+use Rattle.mp_syntax.specs.Machine.{is_dot, with_default}
+use Rattle.mp_syntax.proofs.Fronts.{empty-length}
 use Rattle.mp_syntax.specs.View.{spot_of, expr_tree, row_trees}
 
 -- the trees of the list of trees
@@ -28,9 +33,9 @@ row_trees-row n end_of-Expr = refl
 row_trees-row n (more_of-Expr e row) = ap (more_trees (expr_tree e)) (row_trees-row _ row)
 
 -- an application is its name and the trees of its arguments
-pub expr_tree-Apply : (f : code_spot.Spot) (v : Vec Expr Global) → expr_tree (Apply f v) ≡ syntax.Apply (spot_of f) (trees (map expr_tree v.items))
+pub expr_tree-Apply : (f : code_spot.Spot) (v : Vec Expr Global) → expr_tree (code.Apply f v) ≡ syntax.Apply (spot_of f) (trees (map expr_tree v.items))
 expr_tree-Apply f v =
-    let row = row_of (Apply f v) in
+    let row = row_of (code.Apply f v) in
     ap (syntax.Apply (spot_of f)) (row_trees-row row.0 row.1 ∙ ap (λ l. trees (map expr_tree l)) (items_hidden-the_row-Expr-0 v))
 
 -- an infix expression is its bracket, its sign and the trees of its operands
@@ -39,12 +44,43 @@ expr_tree-Infix place sign v =
     let row = row_of (Infix place sign v) in
     ap (syntax.InfixOf place (spot_of sign)) (row_trees-row row.0 row.1 ∙ ap (λ l. trees (map expr_tree l)) (items_hidden-the_row-Expr-0 v))
 
--- a wildcard that fits has a name
-pub fits-named : (room : ℕ) (w : Wildcard) → Fits room (Wild w) → IsNamedWildcard w
-fits-named zero w h = h
-fits-named (suc room) w h = h
+-- a wildcard with one underscore and no kind
+pub is_dot-true : (w : Wildcard) → is_dot w ≡ true → IsDot w
+is_dot-true w h =
+    let p = and_parts (w.marks == 1) (length w.kind == 0) h in
+    record { one_mark = eqb-true w.marks 1 p.0; no_kind = empty-length w.kind (eqb-true (length w.kind) 0 p.1) }
 
--- a wildcard with a name fits
-pub named-fits : (room : ℕ) (w : Wildcard) → IsNamedWildcard w → Fits room (Wild w)
-named-fits zero w h = h
-named-fits (suc room) w h = h
+pub true-is_dot : (w : Wildcard) → IsDot w → is_dot w ≡ true
+true-is_dot w h = ap (λ n. (n == 1) && (length w.kind == 0)) h.one_mark ∙ ap (λ (l : List ℕ). length l == 0) h.no_kind
+
+-- a wildcard fits
+pub wild-fits : (room : ℕ) (w : Wildcard) → Fits room (Wild w)
+wild-fits zero w = tt
+wild-fits (suc room) w = tt
+
+-- what a wildcard with a default has to be to fit
+pub fits-optional : (room : ℕ) (w : Wildcard) (others : List Wildcard) (default : Tree) → Fits room (Optional w others default) → AreDots (w ∷ others) × HasNoDefault default × Fits room default
+fits-optional zero w others default h = h
+fits-optional (suc room) w others default h = h
+
+pub optional-fits : (room : ℕ) (w : Wildcard) (others : List Wildcard) (default : Tree) → AreDots (w ∷ others) → HasNoDefault default → Fits room default → Fits room (Optional w others default)
+optional-fits zero w others default h k f = (h, k, f)
+optional-fits (suc room) w others default h k f = (h, k, f)
+
+-- an expression that fits is a default that fits
+pub with_default-fits : (room : ℕ) (w : Wildcard) (e : Tree) → IsDot w → Fits room e → Fits room (with_default w e)
+with_default-fits room w (Symbol s) h fits = optional-fits room w [] (Symbol s) (h, tt) tt fits
+with_default-fits room w (Apply f args) h fits = optional-fits room w [] (Apply f args) (h, tt) tt fits
+with_default-fits room w (InfixOf place sign operands) h fits = optional-fits room w [] (InfixOf place sign operands) (h, tt) tt fits
+with_default-fits room w (Wild v) h fits = optional-fits room w [] (Wild v) (h, tt) tt fits
+with_default-fits room w (Optional v others default) h fits =
+    let r = fits-optional room v others default fits in
+    optional-fits room w (v ∷ others) default (h, r.0) r.1 r.2
+
+-- a wildcard with a default is the wildcard, a colon and the default
+pub spell-with_default : (w : Wildcard) (e : Tree) → spell (with_default w e) ≡ spell_with_colon w ++ spell e
+spell-with_default w (Symbol s) = refl
+spell-with_default w (Apply f args) = refl
+spell-with_default w (InfixOf place sign operands) = refl
+spell-with_default w (Wild v) = refl
+spell-with_default w (Optional v others default) = refl

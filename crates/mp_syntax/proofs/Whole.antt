@@ -10,7 +10,7 @@ use Rattle.mp_syntax.specs.declared.tree.Expr.{Expr}
 use Rattle.mp_syntax.specs.declared.tree.Statement as code
 use Rattle.mp_syntax.specs.Tokens.{End, Placed, Tokens, first_place}
 use Rattle.mp_syntax.specs.Lexing.{lexemes, token_at, behind}
-use Rattle.mp_syntax.specs.Syntax.{Spot, Tree, Symbol, Apply, InfixOf, Wild, Trees, no_trees, more_trees, Flag, Assoc, Comm, One, Infixed, Statement, OpOf, KindOf, RuleOf, SubjectOf, Expected, Said, Stands, AllMatch, spelled_word, another, comma, semicolon, spell, spell_first, spell_others, spell_operands, spell_plus, spell_flag, spell_statement, spell_file, IsExprOf, IsSyntaxOf, HasNames, StatementsHaveNames}
+use Rattle.mp_syntax.specs.Syntax.{Spot, Wildcard, Tree, Symbol, Apply, InfixOf, Wild, Optional, Trees, no_trees, more_trees, Flag, Assoc, Comm, One, Infixed, Statement, OpOf, KindOf, RuleOf, SubjectOf, Expected, Said, Stands, AllMatch, spelled_word, another, comma, semicolon, spell, spell_first, spell_others, spell_operands, spell_with_colon, spell_plus, spell_flag, spell_statement, spell_file, IsExprOf, IsSyntaxOf, HasNames, StatementsHaveNames}
 use Rattle.mp_syntax.specs.View.{expr_tree, statement_tree}
 use Rattle.mp_syntax.specs.Machine.{State, Top, BeforeExpr, Alone, Parsed, parsed, run}
 use Rattle.mp_syntax.specs.Partial.{so_far}
@@ -35,12 +35,17 @@ tokens-append : (a b : List Expected) → ExpectTokens a → ExpectTokens b → 
 tokens-append [] b h k = k
 tokens-append (m ∷ a) b h k = (h.0, tokens-append a b h.1 k)
 
+chain-tokens : (ws : List Wildcard) → ExpectTokens (flat_map spell_with_colon ws)
+chain-tokens [] = tt
+chain-tokens (w ∷ ws) = (tt, (tt, chain-tokens ws))
+
 mutual
   spell-tokens : (t : Tree) → ExpectTokens (spell t)
   spell-tokens (Symbol w) = (tt, tt)
   spell-tokens (Apply f args) = (tt, (tt, first-tokens comma tt args))
   spell-tokens (InfixOf place sign operands) = (tt, operands-tokens sign operands)
   spell-tokens (Wild w) = (tt, tt)
+  spell-tokens (Optional w others default) = (tt, (tt, tokens-append (flat_map spell_with_colon others) (spell default) (chain-tokens others) (spell-tokens default)))
 
   first-tokens : (between : Expected) → IsToken (expected_token between) → (ts : Trees) → ExpectTokens (spell_first between ts)
   first-tokens between h no_trees = (tt, tt)

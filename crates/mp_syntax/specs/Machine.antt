@@ -1,5 +1,5 @@
 -- Reading token by token: a state is what is read of a statement, and each token leads on or is refused.
-use Rattle.std.specs.Prelude.{ℕ, Bool, true, false, List, [], ◌∷◌, ◌++◌, length, Option, Some, None, Result, Ok, Err, nat_le, if◌then◌else◌, codes}
+use Rattle.std.specs.Prelude.{ℕ, suc, Bool, true, false, ◌&&◌, ◌==◌, List, [], ◌∷◌, ◌++◌, length, Option, Some, None, Result, Ok, Err, nat_le, if◌then◌else◌, codes}
 use Rattle.std.specs.Str.{bytes_eq}
 use Rattle.std.specs.List.{list_all}
 use Rattle.std.specs.Char.{is_ascii_digit}
@@ -11,7 +11,7 @@ use Rattle.mp_syntax.specs.declared.fault.FaultKind.TheVariants.{Syntax, TooDeep
 use Rattle.mp_syntax.specs.declared.fault.Fault.{Fault}
 use Rattle.mp_syntax.specs.Tokens as tokens
 use Rattle.mp_syntax.specs.Tokens.{Token, Word, Sign, Punctuation, Long, Bad, End, Placed}
-use Rattle.mp_syntax.specs.Syntax.{Spot, Wildcard, Tree, Symbol, Apply, InfixOf, Wild, more_trees, trees, Flag, Assoc, Comm, One, Infixed, Statement, OpOf, KindOf, RuleOf, SubjectOf}
+use Rattle.mp_syntax.specs.Syntax.{Spot, Wildcard, Tree, Symbol, Apply, InfixOf, Wild, Optional, more_trees, trees, Flag, Assoc, Comm, One, Infixed, Statement, OpOf, KindOf, RuleOf, SubjectOf}
 
 -- ---- tests on tokens
 
@@ -55,10 +55,14 @@ abbrev pub is_sign : List ℕ → Token → Bool
 is_sign text (Sign s) = bytes_eq s text
 is_sign text _ = false
 
--- the wildcard that a token at this place is, where it has a name
-abbrev pub named_wildcard : Token → Place → Option Wildcard
-named_wildcard (tokens.Wildcard (b ∷ bs) marks kind) place = Some (record { name = b ∷ bs; marks = marks; kind = kind; place = place })
-named_wildcard _ place = None
+-- the wildcard that a token at this place is
+abbrev pub wildcard_at : Token → Place → Option Wildcard
+wildcard_at (tokens.Wildcard name marks kind) place = Some (record { name = name; marks = marks; kind = kind; place = place })
+wildcard_at _ place = None
+
+-- the wildcard has one underscore and no kind
+abbrev pub is_dot : Wildcard → Bool
+is_dot w = (w.marks == 1) && (length w.kind == 0)
 
 -- digits alone
 abbrev pub is_number : List ℕ → Bool
@@ -76,11 +80,12 @@ abbrev pub statement_of : Role → Spot → Tree → Statement
 statement_of OfRule name t = RuleOf name t
 statement_of OfSubject name t = SubjectOf name t
 
--- an open bracket: of an application, with its name and arguments so far; or of an infix expression, before its first sign, or behind it with the sign, the first operand and the others so far
+-- what an expression stands in: an open bracket of an application, with its name and arguments so far; one of an infix expression, before its first sign, or behind it with the sign, the first operand and the others so far; or a wildcard whose default it is, which opens no bracket
 pub data Frame : Type 0 where
   Arguments : Spot → List Tree → Frame
   Bracket : Place → Frame
   Operands : Place → Spot → Tree → List Tree → Frame
+  Default : Wildcard → Frame
 
 -- an operation: its name, its number, whether it takes more arguments, and its flags so far
 pub record Declared : Type 0 where
@@ -99,7 +104,7 @@ pub data Within : Type 0 where
   InStatement : Heading → Within
   Alone : Within
 
--- what is read of a statement or of an expression alone; the innermost open bracket comes first
+-- what is read of a statement or of an expression alone; the innermost of what an expression stands in comes first
 pub data State : Type 0 where
   Top : State
   AfterOp : State
@@ -116,6 +121,7 @@ pub data State : Type 0 where
   BeforeExpr : Within → List Frame → State
   AfterWord : Within → List Frame → Spot → State
   AfterOpen : Within → List Frame → Spot → State
+  AfterWildcard : Within → List Frame → Wildcard → State
   AfterExpr : Within → List Frame → Tree → State
 
 -- what a token does: it leads on, ends a statement, is refused, ends the file, or ends an expression alone
@@ -207,19 +213,30 @@ step_members name members t =
 
 -- a wildcard
 abbrev pub step_wildcard : Within → List Frame → Placed → Option Wildcard → Step
-step_wildcard x k t (Some w) = Go (AfterExpr x k (Wild w))
+step_wildcard x k t (Some w) = Go (AfterWildcard x k w)
 step_wildcard x k t None = refuse t.token
+
+-- how many brackets stand open
+abbrev pub open_count : List Frame → ℕ
+open_count [] = 0
+open_count (Default w ∷ k) = open_count k
+open_count (f ∷ k) = suc (open_count k)
+
+-- the wildcard with this default; before a wildcard that has a default already it is the first of the chain
+abbrev pub with_default : Wildcard → Tree → Tree
+with_default w (Optional v others default) = Optional w (v ∷ others) default
+with_default w e = Optional w [] e
 
 -- a bracket leads on, where fewer than limit are open
 abbrev pub step_open : ℕ → List Frame → State → Step
-step_open limit k next = if nat_le limit (length k) then Refuse TooDeep else Go next
+step_open limit k next = if nat_le limit (open_count k) then Refuse TooDeep else Go next
 
 -- the first token of an expression, where at most limit brackets may stand open
 abbrev pub step_expr : ℕ → Within → List Frame → Placed → Option (List ℕ) → Step
 step_expr limit x k t (Some w) = Go (AfterWord x k (spot w t.place))
 step_expr limit x k t None =
     if is_punct Open t.token then step_open limit k (BeforeExpr x (Bracket t.place ∷ k))
-    else step_wildcard x k t (named_wildcard t.token t.place)
+    else step_wildcard x k t (wildcard_at t.token t.place)
 
 -- the token behind an expression in no bracket
 abbrev pub step_end : Within → Tree → Placed → Step
@@ -236,6 +253,7 @@ step_behind x (Bracket place ∷ k) e t = on_sign t (λ sign. Go (BeforeExpr x (
 step_behind x (Operands place sign first others ∷ k) e t =
     if is_sign sign.text t.token then Go (BeforeExpr x (Operands place sign first (others ++ e ∷ []) ∷ k))
     else on_punct Close t.token (Go (AfterExpr x k (InfixOf place sign (more_trees first (trees (others ++ e ∷ []))))))
+step_behind x (Default w ∷ k) e t = step_behind x k (with_default w e) t
 
 -- what a token does, where at most limit brackets may stand open
 abbrev pub step_in : ℕ → State → Placed → Step
@@ -260,6 +278,9 @@ step_in limit (AfterWord x k w) t =
 step_in limit (AfterOpen x k w) t =
     if is_punct Close t.token then Go (AfterExpr x k (Apply w (trees [])))
     else step_expr limit x (Arguments w [] ∷ k) t (word_of t.token)
+step_in limit (AfterWildcard x k w) t =
+    if is_punct Colon t.token && is_dot w then Go (BeforeExpr x (Default w ∷ k))
+    else step_behind x k (Wild w) t
 step_in limit (AfterExpr x k e) t = step_behind x k e t
 
 -- what a token does, where at most 100 brackets may stand open

@@ -1,5 +1,5 @@
 -- What each function of the parser gives, as an equation between two runs of the machine.
-use Rattle.std.specs.Prelude.{◌≡◌, ℕ, ◌+◌, Bool, List, [], ◌∷◌, ◌++◌, length, map, Option, Some, None, Result, Ok, Err}
+use Rattle.std.specs.Prelude.{◌≡◌, ℕ, ◌+◌, Bool, List, [], ◌∷◌, ◌++◌, map, Option, Some, None, Result, Ok, Err}
 use Rattle.std.specs.Global.{Vec}
 use Rattle.mp_syntax.specs.declared.place.Place.{Place}
 use Rattle.mp_syntax.specs.declared.place.Spot as code_spot
@@ -15,12 +15,13 @@ use Rattle.mp_syntax.specs.declared.statement.Keyword.{Keyword}
 use Rattle.mp_syntax.specs.declared.statement.Keyword.TheVariants as keywords
 use Rattle.mp_syntax.specs.declared.tree.Expr.{Expr}
 use Rattle.mp_syntax.specs.declared.tree.Flag as code_flag
+use Rattle.mp_syntax.specs.declared.tree.Wildcard as code_wildcard
 use Rattle.mp_syntax.specs.declared.tree.Statement as code
 use Rattle.mp_syntax.specs.Tokens.{Token, Placed}
 use Rattle.mp_syntax.specs.Lexing.{placed, behind, lexemes, token_of}
-use Rattle.mp_syntax.specs.Syntax.{Spot, Tree, Apply, InfixOf, Assoc, Comm, One, OpOf, KindOf, Statement, trees}
-use Rattle.mp_syntax.specs.View.{spot_of, flag_of, expr_tree, statement_tree}
-use Rattle.mp_syntax.specs.Machine.{State, Top, AfterOp, AfterOpName, AfterLeast, AfterFlags, AfterInfix, AfterKind, BeforeMember, AfterRole, BeforeExpr, AfterWord, AfterExpr, Step, Go, Refuse, Role, OfRule, OfSubject, statement_of, Within, Parsed, parsed, Frame, Arguments, Operands, Declared, declared, with_flag, on_punct, on_text, step, after_step, run}
+use Rattle.mp_syntax.specs.Syntax.{Spot, Wildcard, Tree, Apply, Wild, InfixOf, Assoc, Comm, One, OpOf, KindOf, Statement, trees}
+use Rattle.mp_syntax.specs.View.{spot_of, wildcard_of, flag_of, expr_tree, statement_tree}
+use Rattle.mp_syntax.specs.Machine.{State, Top, AfterOp, AfterOpName, AfterLeast, AfterFlags, AfterInfix, AfterKind, BeforeMember, AfterRole, BeforeExpr, AfterWord, AfterWildcard, AfterExpr, Step, Go, Refuse, Role, OfRule, OfSubject, statement_of, Within, Parsed, parsed, Frame, Arguments, Operands, Default, open_count, Declared, declared, with_flag, on_punct, on_text, step, after_step, run}
 
 -- the tokens from the one held on
 abbrev pub ahead : Parser → List Placed
@@ -96,23 +97,52 @@ MembersGive (Err e) old new = (done : List Statement) (name : Spot) → Fails e 
 
 -- an expression is passed, with room brackets more to open, or the first fault is given
 abbrev pub ExprGives : ℕ → Result Expr SyntaxError → List Placed → List Placed → Type 0
-ExprGives room (Ok e) old new = (done : List Statement) (x : Within) (k : List Frame) → length k + room ≡ 100 → run done (BeforeExpr x k) old ≡ run done (AfterExpr x k (expr_tree e)) new
-ExprGives room (Err e) old new = (done : List Statement) (x : Within) (k : List Frame) → length k + room ≡ 100 → Fails e (run done (BeforeExpr x k) old)
+ExprGives room (Ok e) old new = (done : List Statement) (x : Within) (k : List Frame) → open_count k + room ≡ 100 → run done (BeforeExpr x k) old ≡ run done (AfterExpr x k (expr_tree e)) new
+ExprGives room (Err e) old new = (done : List Statement) (x : Within) (k : List Frame) → open_count k + room ≡ 100 → Fails e (run done (BeforeExpr x k) old)
 
 -- the same behind a word
 abbrev pub WordLeads : ℕ → Spot → Result Expr SyntaxError → List Placed → List Placed → Type 0
-WordLeads room w (Ok e) old new = (done : List Statement) (x : Within) (k : List Frame) → length k + room ≡ 100 → run done (AfterWord x k w) old ≡ run done (AfterExpr x k (expr_tree e)) new
-WordLeads room w (Err e) old new = (done : List Statement) (x : Within) (k : List Frame) → length k + room ≡ 100 → Fails e (run done (AfterWord x k w) old)
+WordLeads room w (Ok e) old new = (done : List Statement) (x : Within) (k : List Frame) → open_count k + room ≡ 100 → run done (AfterWord x k w) old ≡ run done (AfterExpr x k (expr_tree e)) new
+WordLeads room w (Err e) old new = (done : List Statement) (x : Within) (k : List Frame) → open_count k + room ≡ 100 → Fails e (run done (AfterWord x k w) old)
+
+-- the same behind a wildcard
+abbrev pub WildcardLeads : ℕ → Wildcard → Result Expr SyntaxError → List Placed → List Placed → Type 0
+WildcardLeads room w (Ok e) old new = (done : List Statement) (x : Within) (k : List Frame) → open_count k + room ≡ 100 → run done (AfterWildcard x k w) old ≡ run done (AfterExpr x k (expr_tree e)) new
+WildcardLeads room w (Err e) old new = (done : List Statement) (x : Within) (k : List Frame) → open_count k + room ≡ 100 → Fails e (run done (AfterWildcard x k w) old)
+
+-- the state behind a wildcard, where there is one
+abbrev pub behind_wildcard : Within → List Frame → Option code_wildcard.Wildcard → State
+behind_wildcard x k (Some w) = AfterWildcard x k (wildcard_of w)
+behind_wildcard x k None = BeforeExpr x k
+
+-- a wildcard is passed, where one is held
+abbrev pub WildcardGives : Option code_wildcard.Wildcard → List Placed → List Placed → Type 0
+WildcardGives o old new = (done : List Statement) (x : Within) (k : List Frame) → run done (BeforeExpr x k) old ≡ run done (behind_wildcard x k o) new
+
+-- what the default of the last of these wildcards stands in
+abbrev pub within_defaults : List Wildcard → List Frame → List Frame
+within_defaults [] k = k
+within_defaults (w ∷ ws) k = within_defaults ws (Default w ∷ k)
+
+-- the state behind the colons of a chain: behind the wildcard that is the default, where there is one
+abbrev pub behind_chain : Within → List Frame → Option code_wildcard.Wildcard → State
+behind_chain x k (Some w) = AfterExpr x k (Wild (wildcard_of w))
+behind_chain x k None = BeforeExpr x k
+
+-- wildcards with a colon behind each are passed, and behind them a wildcard that is the default, where it is one; only memory can run out
+abbrev pub ChainGives : Result (Vec code_wildcard.Wildcard × Option code_wildcard.Wildcard) SyntaxError → List Placed → List Placed → Type 0
+ChainGives (Ok r) old new = (done : List Statement) (x : Within) (k : List Frame) → run done (BeforeExpr x k) old ≡ run done (behind_chain x (within_defaults (map wildcard_of r.0.items) k) r.1) new
+ChainGives (Err e) old new = e ≡ errors.Memory
 
 -- arguments are passed up to the closing bracket, or the first fault is given
 abbrev pub ArgumentsGive : ℕ → Result (List Expr) SyntaxError → List Placed → List Placed → Type 0
-ArgumentsGive room (Ok es) old new = (done : List Statement) (x : Within) (k : List Frame) (w : Spot) → length k + room ≡ 99 → run done (BeforeExpr x (Arguments w [] ∷ k)) old ≡ run done (AfterExpr x k (Apply w (trees (map expr_tree es)))) new
-ArgumentsGive room (Err e) old new = (done : List Statement) (x : Within) (k : List Frame) (w : Spot) → length k + room ≡ 99 → Fails e (run done (BeforeExpr x (Arguments w [] ∷ k)) old)
+ArgumentsGive room (Ok es) old new = (done : List Statement) (x : Within) (k : List Frame) (w : Spot) → open_count k + room ≡ 99 → run done (BeforeExpr x (Arguments w [] ∷ k)) old ≡ run done (AfterExpr x k (Apply w (trees (map expr_tree es)))) new
+ArgumentsGive room (Err e) old new = (done : List Statement) (x : Within) (k : List Frame) (w : Spot) → open_count k + room ≡ 99 → Fails e (run done (BeforeExpr x (Arguments w [] ∷ k)) old)
 
 -- operands behind the first sign are passed up to the closing bracket, or the first fault is given
 abbrev pub OperandsGive : ℕ → Tree → Spot → Result (List Expr) SyntaxError → List Placed → List Placed → Type 0
-OperandsGive room first sign (Ok es) old new = (done : List Statement) (x : Within) (k : List Frame) (place : Place) → length k + room ≡ 99 → run done (BeforeExpr x (Operands place sign first [] ∷ k)) old ≡ run done (AfterExpr x k (InfixOf place sign (trees (map expr_tree es)))) new
-OperandsGive room first sign (Err e) old new = (done : List Statement) (x : Within) (k : List Frame) (place : Place) → length k + room ≡ 99 → Fails e (run done (BeforeExpr x (Operands place sign first [] ∷ k)) old)
+OperandsGive room first sign (Ok es) old new = (done : List Statement) (x : Within) (k : List Frame) (place : Place) → open_count k + room ≡ 99 → run done (BeforeExpr x (Operands place sign first [] ∷ k)) old ≡ run done (AfterExpr x k (InfixOf place sign (trees (map expr_tree es)))) new
+OperandsGive room first sign (Err e) old new = (done : List Statement) (x : Within) (k : List Frame) (place : Place) → open_count k + room ≡ 99 → Fails e (run done (BeforeExpr x (Operands place sign first [] ∷ k)) old)
 
 -- the items of a vector, or the error
 abbrev pub items_of : {A : Type 0} → Result (Vec A) SyntaxError → Result (List A) SyntaxError

@@ -3,8 +3,8 @@ use Rattle.std.specs.Prelude.{List, [], ◌∷◌, ◌++◌, map, codes}
 use Rattle.std.specs.List.{flat_map}
 use Rattle.mp_syntax.specs.declared.token.Punct.TheVariants.{Open, Colon}
 use Rattle.mp_syntax.specs.Tokens.{Punctuation}
-use Rattle.mp_syntax.specs.Syntax.{Spot, Tree, Expected, Said, Stands, spell, spell_plus, spell_flag, spelled_word, spelled_sign, another, fixed_word, comma}
-use Rattle.mp_syntax.specs.Machine.{Role, OfRule, OfSubject, Frame, Arguments, Bracket, Operands, Declared, Within, InStatement, Alone, State, Top, AfterOp, AfterOpName, AfterLeast, AfterFlags, AfterInfix, AfterKind, AfterKindName, BeforeMember, AfterMember, AfterRole, AfterName, BeforeExpr, AfterWord, AfterOpen, AfterExpr}
+use Rattle.mp_syntax.specs.Syntax.{Spot, Tree, Expected, Said, Stands, spell, spell_with_colon, spell_plus, spell_flag, spelled_word, spelled_wildcard, spelled_sign, another, fixed_word, comma}
+use Rattle.mp_syntax.specs.Machine.{Role, OfRule, OfSubject, Frame, Arguments, Bracket, Operands, Default, Declared, Within, InStatement, Alone, State, Top, AfterOp, AfterOpName, AfterLeast, AfterFlags, AfterInfix, AfterKind, AfterKindName, BeforeMember, AfterMember, AfterRole, AfterName, BeforeExpr, AfterWord, AfterOpen, AfterWildcard, AfterExpr}
 
 -- the word that a statement of this role begins with
 abbrev pub role_word : Role → Expected
@@ -28,13 +28,14 @@ abbrev pub spell_within : Within → List Expected
 spell_within (InStatement h) = role_word h.role ∷ spelled_word h.name ∷ Said (Punctuation Colon) ∷ []
 spell_within Alone = []
 
--- an open bracket and what stands behind it
+-- an open bracket and what stands behind it, or a wildcard and its colon
 abbrev pub spell_frame : Frame → List Expected
 spell_frame (Arguments name args) = spelled_word name ∷ Said (Punctuation Open) ∷ flat_map (spell_before comma) args
 spell_frame (Bracket place) = Stands (Punctuation Open) place ∷ []
 spell_frame (Operands place sign first others) = Stands (Punctuation Open) place ∷ spell first ++ spelled_sign sign ∷ flat_map (spell_before (another sign)) others
+spell_frame (Default w) = spell_with_colon w
 
--- open brackets, the outermost first
+-- the same of several, the outermost first
 abbrev pub spell_frames : List Frame → List Expected
 spell_frames [] = []
 spell_frames (f ∷ k) = spell_frames k ++ spell_frame f
@@ -56,4 +57,5 @@ so_far (AfterName h) = role_word h.role ∷ spelled_word h.name ∷ []
 so_far (BeforeExpr x k) = spell_within x ++ spell_frames k
 so_far (AfterWord x k w) = spell_within x ++ (spell_frames k ++ spelled_word w ∷ [])
 so_far (AfterOpen x k w) = spell_within x ++ (spell_frames k ++ spelled_word w ∷ Said (Punctuation Open) ∷ [])
+so_far (AfterWildcard x k w) = spell_within x ++ (spell_frames k ++ spelled_wildcard w ∷ [])
 so_far (AfterExpr x k e) = spell_within x ++ (spell_frames k ++ spell e)

@@ -1,8 +1,8 @@
 -- The text that statements are printed as, and statements apart from where they stand.
-use Rattle.std.specs.Prelude.{ℕ, Bool, true, false, List, [], ◌++◌, map, codes}
+use Rattle.std.specs.Prelude.{ℕ, Bool, true, false, List, [], ◌∷◌, ◌++◌, map, codes}
 use Rattle.std.specs.List.{flat_map}
 use Rattle.mp_syntax.specs.Tokens.{first_place, underscores}
-use Rattle.mp_syntax.specs.Syntax.{Spot, Wildcard, Tree, Symbol, Apply, InfixOf, Wild, Trees, no_trees, more_trees, Flag, Assoc, Comm, One, Infixed, Statement, OpOf, KindOf, RuleOf, SubjectOf}
+use Rattle.mp_syntax.specs.Syntax.{Spot, Wildcard, Tree, Symbol, Apply, InfixOf, Wild, Optional, Trees, no_trees, more_trees, Flag, Assoc, Comm, One, Infixed, Statement, OpOf, KindOf, RuleOf, SubjectOf}
 
 -- ---- text
 
@@ -10,13 +10,18 @@ use Rattle.mp_syntax.specs.Syntax.{Spot, Wildcard, Tree, Symbol, Apply, InfixOf,
 abbrev pub wildcard_text : Wildcard → List ℕ
 wildcard_text w = w.name ++ (underscores w.marks ++ w.kind)
 
+-- a wildcard and a colon
+abbrev pub text_with_colon : Wildcard → List ℕ
+text_with_colon w = wildcard_text w ++ codes ":"
+
 abbrev mutual
-  -- WORD, WORD(EXPR, EXPR), (EXPR SIGN EXPR) or a wildcard
+  -- WORD, WORD(EXPR, EXPR), (EXPR SIGN EXPR), a wildcard, or a wildcard, a colon and the default
   pub tree_text : Tree → List ℕ
   tree_text (Symbol w) = w.text
   tree_text (Apply f args) = f.text ++ (codes "(" ++ first_text (codes ", ") args)
   tree_text (InfixOf opened sign operands) = codes "(" ++ first_text (codes " " ++ (sign.text ++ codes " ")) operands
   tree_text (Wild w) = wildcard_text w
+  tree_text (Optional w others default) = flat_map text_with_colon (w ∷ others) ++ tree_text default
 
   -- expressions with the separator between each two, and the closing bracket
   pub first_text : List ℕ → Trees → List ℕ
@@ -69,13 +74,18 @@ statements_text = flat_map statement_text
 abbrev pub unplaced_spot : Spot → Spot
 unplaced_spot s = record { text = s.text; place = first_place }
 
+-- the same wildcard at the first place
+abbrev pub unplaced_wildcard : Wildcard → Wildcard
+unplaced_wildcard w = record { name = w.name; marks = w.marks; kind = w.kind; place = first_place }
+
 -- the same expression with each place the first
 abbrev mutual
   pub unplaced_tree : Tree → Tree
   unplaced_tree (Symbol w) = Symbol (unplaced_spot w)
   unplaced_tree (Apply f args) = Apply (unplaced_spot f) (unplaced_trees args)
   unplaced_tree (InfixOf opened sign operands) = InfixOf first_place (unplaced_spot sign) (unplaced_trees operands)
-  unplaced_tree (Wild w) = Wild (record { name = w.name; marks = w.marks; kind = w.kind; place = first_place })
+  unplaced_tree (Wild w) = Wild (unplaced_wildcard w)
+  unplaced_tree (Optional w others default) = Optional (unplaced_wildcard w) (map unplaced_wildcard others) (unplaced_tree default)
 
   pub unplaced_trees : Trees → Trees
   unplaced_trees no_trees = no_trees

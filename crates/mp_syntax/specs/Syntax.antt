@@ -21,13 +21,14 @@ pub record Wildcard : Type 0 where
   pub kind : List ℕ
   pub place : Place
 
--- expressions and lists of them; an infix one has the place of its bracket, its sign at the first place, and all operands
+-- expressions and lists of them; an infix one has the place of its bracket, its sign at the first place, and all operands; an optional one has its wildcard, further wildcards where several stand in a chain, and the default of the last
 mutual
   pub data Tree : Type 0 where
     Symbol : Spot → Tree
     Apply : Spot → Trees → Tree
     InfixOf : Place → Spot → Trees → Tree
     Wild : Wildcard → Tree
+    Optional : Wildcard → List Wildcard → Tree → Tree
 
   pub data Trees : Type 0 where
     no_trees : Trees
@@ -108,13 +109,22 @@ closing = Said (Punctuation Close)
 abbrev pub semicolon : Expected
 semicolon = Said (Punctuation Semicolon)
 
--- expr = WORD | WORD "(" [expr ("," expr)*] ")" | "(" expr s expr (s expr)* ")" with one SIGN s | wildcard
+-- a colon
+abbrev pub colon : Expected
+colon = Said (Punctuation Colon)
+
+-- dot-wildcard ":"
+abbrev pub spell_with_colon : Wildcard → List Expected
+spell_with_colon w = spelled_wildcard w ∷ colon ∷ []
+
+-- expr = WORD | WORD "(" [expr ("," expr)*] ")" | "(" expr s expr (s expr)* ")" with one SIGN s | wildcard | dot-wildcard ":" expr
 abbrev mutual
   pub spell : Tree → List Expected
   spell (Symbol w) = spelled_word w ∷ []
   spell (Apply f args) = spelled_word f ∷ Said (Punctuation Open) ∷ spell_first comma args
   spell (InfixOf opened sign operands) = Stands (Punctuation Open) opened ∷ spell_operands sign operands
   spell (Wild w) = spelled_wildcard w ∷ []
+  spell (Optional w others default) = flat_map spell_with_colon (w ∷ others) ++ spell default
 
   -- expressions with this token between them, and the closing bracket
   pub spell_first : Expected → Trees → List Expected
@@ -133,7 +143,7 @@ abbrev mutual
 
 -- WORD ":" expr ";"
 abbrev pub spell_named : Spot → Tree → List Expected
-spell_named name t = spelled_word name ∷ Said (Punctuation Colon) ∷ spell t ++ semicolon ∷ []
+spell_named name t = spelled_word name ∷ colon ∷ spell t ++ semicolon ∷ []
 
 -- ["+"]
 abbrev pub spell_plus : Bool → List Expected
@@ -150,7 +160,7 @@ spell_flag (Infixed sign) = fixed_word (codes "infix") ∷ spelled_sign sign ∷
 -- statement = "op" WORD NUM ["+"] flag* ";" | "kind" WORD ":" WORD WORD* ";" | "rule" WORD ":" expr ";" | "subject" WORD ":" expr ";"
 abbrev pub spell_statement : Statement → List Expected
 spell_statement (OpOf name least more flags) = fixed_word (codes "op") ∷ spelled_word name ∷ spelled_word least ∷ (spell_plus more ++ (flat_map spell_flag flags ++ semicolon ∷ []))
-spell_statement (KindOf name members) = fixed_word (codes "kind") ∷ spelled_word name ∷ Said (Punctuation Colon) ∷ (map spelled_word members ++ semicolon ∷ [])
+spell_statement (KindOf name members) = fixed_word (codes "kind") ∷ spelled_word name ∷ colon ∷ (map spelled_word members ++ semicolon ∷ [])
 spell_statement (RuleOf name t) = fixed_word (codes "rule") ∷ spell_named name t
 spell_statement (SubjectOf name t) = fixed_word (codes "subject") ∷ spell_named name t
 
@@ -160,9 +170,20 @@ spell_file = flat_map spell_statement
 
 -- ---- what fits
 
--- a wildcard with a name
-abbrev pub IsNamedWildcard : Wildcard → Type 0
-IsNamedWildcard w = w.name ≢ []
+-- a wildcard with one underscore and no kind
+pub record IsDot (w : Wildcard) : Type 0 where
+  pub one_mark : w.marks ≡ 1
+  pub no_kind : w.kind ≡ []
+
+-- each wildcard has one underscore and no kind
+abbrev pub AreDots : List Wildcard → Type 0
+AreDots [] = Unit {0}
+AreDots (w ∷ ws) = IsDot w × AreDots ws
+
+-- the expression is no wildcard with a default
+abbrev pub HasNoDefault : Tree → Type 0
+HasNoDefault (Optional w others default) = ⊥
+HasNoDefault _ = Unit {0}
 
 -- two expressions or more
 abbrev pub AreSeveral : Trees → Type 0
@@ -170,7 +191,7 @@ AreSeveral no_trees = ⊥
 AreSeveral (more_trees t no_trees) = ⊥
 AreSeveral (more_trees t (more_trees u us)) = Unit {0}
 
--- the wildcards are named, infix expressions have two operands or more, and at most room brackets stand open at once
+-- wildcards with a default have one underscore and no kind, the default behind a whole chain of them is none itself, infix expressions have two operands or more, and at most room brackets stand open at once
 abbrev mutual
   pub Fits : ℕ → Tree → Type 0
   Fits room (Symbol w) = Unit {0}
@@ -178,7 +199,8 @@ abbrev mutual
   Fits (suc room) (Apply f args) = AreFit room args
   Fits zero (InfixOf opened sign operands) = ⊥
   Fits (suc room) (InfixOf opened sign operands) = AreSeveral operands × AreFit room operands
-  Fits room (Wild w) = IsNamedWildcard w
+  Fits room (Wild w) = Unit {0}
+  Fits room (Optional w others default) = AreDots (w ∷ others) × HasNoDefault default × Fits room default
 
   pub AreFit : ℕ → Trees → Type 0
   AreFit room no_trees = Unit {0}
@@ -216,6 +238,11 @@ pub record HasParts (w : Wildcard) : Type 0 where
   pub kind : w.kind ≢ [] → IsName w.kind
   pub kind_behind_one : w.kind ≢ [] → w.marks ≡ 1
 
+-- the same of each wildcard
+abbrev pub HaveParts : List Wildcard → Type 0
+HaveParts [] = Unit {0}
+HaveParts (w ∷ ws) = HasParts w × HaveParts ws
+
 -- each symbol, each name before a bracket and each name and kind of a wildcard is a word of at most 64 bytes, and each wildcard and sign is one
 abbrev mutual
   pub HasNames : Tree → Type 0
@@ -223,6 +250,7 @@ abbrev mutual
   HasNames (Apply f args) = IsName f.text × HaveNames args
   HasNames (InfixOf opened sign operands) = IsInfixSign sign.text × HaveNames operands
   HasNames (Wild w) = HasParts w
+  HasNames (Optional w others default) = HasParts w × HaveParts others × HasNames default
 
   pub HaveNames : Trees → Type 0
   HaveNames no_trees = Unit {0}

@@ -2,7 +2,7 @@
 use Rattle.std.specs.Prelude.{map}
 use Rattle.mp_syntax.specs.declared.place.Spot as code_spot
 use Rattle.mp_syntax.specs.declared.tree.Wildcard as code_wildcard
-use Rattle.mp_syntax.specs.declared.tree.Expr.{Expr, Symbol, Apply', Infix', Wild, Row_of-Expr, end_of-Expr, more_of-Expr}
+use Rattle.mp_syntax.specs.declared.tree.Expr.{Expr, Symbol, Apply', Infix', Wild, Optional', Row_of-Expr, end_of-Expr, more_of-Expr}
 use Rattle.mp_syntax.specs.declared.tree.Flag as code_flag
 use Rattle.mp_syntax.specs.declared.tree.Flag.TheVariants as code_flags
 use Rattle.mp_syntax.specs.declared.tree.Statement as code_statement
@@ -25,6 +25,7 @@ abbrev mutual
   expr_tree (Apply' f shape row) = syntax.Apply (spot_of f) (row_trees row)
   expr_tree (Infix' opened sign shape row) = syntax.InfixOf opened (spot_of sign) (row_trees row)
   expr_tree (Wild w) = syntax.Wild (wildcard_of w)
+  expr_tree (Optional' w others p default) = syntax.Optional (wildcard_of w) (map wildcard_of others.items) (expr_tree default)
 
   pub row_trees : {n : _} → Row_of-Expr n → Trees
   row_trees end_of-Expr = no_trees

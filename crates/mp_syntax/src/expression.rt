@@ -1,12 +1,12 @@
 //! Reads expressions.
 
-ghost use Rattle.std.specs.Prelude.{◌≡◌, ◌<◌, ◌≤◌, ◌-◌, ◌^◌, ◌↔◌, ℕ, List, Some, Err, true, length, OnOk, IfOk, IfErr};
+ghost use Rattle.std.specs.Prelude.{◌≡◌, ◌<◌, ◌≤◌, ◌-◌, ◌^◌, ◌↔◌, ℕ, List, Some, None, Err, true, length, OnOk, IfOk, IfErr, IfNone};
 ghost use Rattle.mp_syntax.specs.Lexing.{token_of};
-ghost use Rattle.mp_syntax.specs.Machine.{is_punct};
-ghost use Rattle.mp_syntax.specs.View.{spot_of, expr_tree};
-ghost use Rattle.mp_syntax.specs.Syntax.{Tree, IsExprOf, HasNames};
+ghost use Rattle.mp_syntax.specs.Machine.{is_punct, wildcard_at};
+ghost use Rattle.mp_syntax.specs.View.{spot_of, wildcard_of, expr_tree};
+ghost use Rattle.mp_syntax.specs.Syntax.{Tree, IsExprOf, HasNames, HasNoDefault};
 ghost use Rattle.mp_syntax.specs.Reading.{parsed_expr, expr_reading, expr_of, IfFault, IsExprOrMemory};
-ghost use Rattle.mp_syntax.specs.Parsing.{ahead, AloneGives, ExprGives, WordLeads, ArgumentsGive, OperandsGive, items_of};
+ghost use Rattle.mp_syntax.specs.Parsing.{ahead, AloneGives, ExprGives, WordLeads, WildcardLeads, ChainGives, ArgumentsGive, OperandsGive, items_of};
 
 use crate::fault::{FaultKind, SyntaxError};
 use crate::parser::Parser;
@@ -69,6 +69,69 @@ impl<'a> Parser<'a> {
         ensures read { ExprGives room result (ahead self.old) (ahead self.new) }
         ensures shorter { OnOk result (length (ahead self.new) < length (ahead self.old)) }
     {
+        match self.wildcard() {
+            Some(wildcard) => self.behind_wildcard(alloc, wildcard, room),
+            None => self.word_or_bracket(alloc, room),
+        }
+    }
+
+    /// Reads what begins with this wildcard: one with a default, where a colon follows, or the wildcard alone.
+    #[cycle(expression)]
+    fn behind_wildcard(
+        &mut self,
+        alloc: Global,
+        wildcard: Wildcard<'a>,
+        room: usize,
+    ) -> Result<Expr<'a>, SyntaxError>
+        ensures read { WildcardLeads room (wildcard_of wildcard.entry) result (ahead self.old) (ahead self.new) }
+        ensures shorter { OnOk result (length (ahead self.new) ≤ length (ahead self.old)) }
+    {
+        if !self.sees_default(&wildcard) {
+            return Ok(Expr::Wild(wildcard));
+        }
+        self.advance();
+        let (others, last) = self.chain(alloc)?;
+        let default = match last {
+            Some(wildcard) => Expr::Wild(wildcard),
+            None => self.word_or_bracket(alloc, room)?,
+        };
+        Ok(Expr::Optional {
+            wildcard,
+            others,
+            default: Box::new(alloc, default)?,
+        })
+    }
+
+    /// Reads wildcards with a colon behind each, and behind them the wildcard that is the default, where it is one.
+    fn chain(
+        &mut self,
+        alloc: Global,
+    ) -> Result<(Vec<Wildcard<'a>>, Option<Wildcard<'a>>), SyntaxError>
+        ensures read { ChainGives result (ahead self.old) (ahead self.new) }
+        ensures held { IfOk result (λ r. IfNone r.1 (wildcard_at (token_of self.new.token.kind) self.new.token.place ≡ None)) }
+        ensures shorter { OnOk result (length (ahead self.new) ≤ length (ahead self.old)) }
+    {
+        let mut others = Vec::new(alloc);
+        let mut last = self.wildcard();
+        while let Some(wildcard) = last {
+            if !self.sees_default(&wildcard) {
+                break;
+            }
+            others.push(wildcard)?;
+            self.advance();
+            last = self.wildcard();
+        }
+        Ok((others, last))
+    }
+
+    /// Reads an expression that begins with a word or a bracket, where no wildcard is held.
+    #[cycle(expression)]
+    fn word_or_bracket(&mut self, alloc: Global, room: usize) -> Result<Expr<'a>, SyntaxError>
+        requires { wildcard_at (token_of self.old.token.kind) self.old.token.place ≡ None }
+        ensures read { ExprGives room result (ahead self.old) (ahead self.new) }
+        ensures plain { IfOk result (λ e. HasNoDefault (expr_tree e)) }
+        ensures shorter { OnOk result (length (ahead self.new) < length (ahead self.old)) }
+    {
         if self.sees(Punct::Open) {
             return self.infix(alloc, room);
         }
@@ -77,19 +140,6 @@ impl<'a> Parser<'a> {
             Kind::Word(text) => {
                 self.advance();
                 self.behind_word(alloc, Spot { text, place }, room)
-            }
-            Kind::Wildcard {
-                name: name @ [_, ..],
-                marks,
-                kind,
-            } => {
-                self.advance();
-                Ok(Expr::Wild(Wildcard {
-                    name,
-                    marks,
-                    kind,
-                    place,
-                }))
             }
             _ => Err(self.refused()),
         }
@@ -104,6 +154,7 @@ impl<'a> Parser<'a> {
         room: usize,
     ) -> Result<Expr<'a>, SyntaxError>
         ensures read { WordLeads room (spot_of name.entry) result (ahead self.old) (ahead self.new) }
+        ensures plain { IfOk result (λ e. HasNoDefault (expr_tree e)) }
         ensures shorter { OnOk result (length (ahead self.new) ≤ length (ahead self.old)) }
     {
         if !self.sees(Punct::Open) {
@@ -144,6 +195,7 @@ impl<'a> Parser<'a> {
     fn infix(&mut self, alloc: Global, room: usize) -> Result<Expr<'a>, SyntaxError>
         requires { is_punct Punct.Open (token_of self.old.token.kind) ≡ true }
         ensures read { ExprGives room result (ahead self.old) (ahead self.new) }
+        ensures plain { IfOk result (λ e. HasNoDefault (expr_tree e)) }
         ensures shorter { OnOk result (length (ahead self.new) < length (ahead self.old)) }
     {
         if room == 0 {

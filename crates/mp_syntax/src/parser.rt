@@ -1,15 +1,17 @@
 //! Reads a rule file by recursive descent, with one token held.
 
-ghost use Rattle.std.specs.Prelude.{◌≡◌, ◌<◌, ◌-◌, ◌^◌, ◌∷◌, length, OnOk};
+ghost use Rattle.std.specs.Prelude.{◌≡◌, ◌<◌, ◌≤◌, ◌-◌, ◌^◌, ◌∷◌, ◌&&◌, None, length, OnOk, IfSome, IfNone};
 ghost use Rattle.mp_syntax.specs.Tokens.{first_place};
 ghost use Rattle.mp_syntax.specs.Lexing.{placed, token_of, behind, lexemes};
-ghost use Rattle.mp_syntax.specs.Machine.{is_punct, is_sign, is_end, is_number, word_of, sign_of, refusal};
-ghost use Rattle.mp_syntax.specs.Parsing.{ahead, PunctGives, TextGives, NumberGives};
+ghost use Rattle.mp_syntax.specs.Machine.{is_punct, is_sign, is_end, is_number, word_of, sign_of, wildcard_at, is_dot, refusal};
+ghost use Rattle.mp_syntax.specs.View.{wildcard_of};
+ghost use Rattle.mp_syntax.specs.Parsing.{ahead, PunctGives, TextGives, NumberGives, WildcardGives};
 
 use crate::fault::{Fault, FaultKind, SyntaxError};
 use crate::lexer::Lexer;
 use crate::place::Spot;
 use crate::token::{Kind, Punct, Token};
+use crate::tree::Wildcard;
 
 /// The token held, and what lies behind it.
 #[derive(Clone, Copy, Debug)]
@@ -75,6 +77,13 @@ impl<'a> Parser<'a> {
         }
     }
 
+    /// Whether the default of this wildcard follows, behind the colon that is held.
+    pub fn sees_default(&self, wildcard: &Wildcard) -> bool
+        ensures { result ≡ (is_punct Punct.Colon (token_of self.now.token.kind) && is_dot (wildcard_of wildcard.now)) }
+    {
+        self.sees(Punct::Colon) && wildcard.is_dot()
+    }
+
     /// Whether the end is held.
     pub fn is_at_end(&self) -> bool
         ensures { result ≡ is_end (token_of self.now.token.kind) }
@@ -106,6 +115,28 @@ impl<'a> Parser<'a> {
                 Ok(Spot { text, place })
             }
             _ => Err(self.refused()),
+        }
+    }
+
+    /// Passes a wildcard and gives it, where one is held.
+    pub fn wildcard(&mut self) -> Option<Wildcard<'a>>
+        ensures read { WildcardGives result (ahead self.old) (ahead self.new) }
+        ensures shorter { IfSome result (λ w. length (ahead self.new) < length (ahead self.old)) }
+        ensures none { IfNone result (wildcard_at (token_of self.new.token.kind) self.new.token.place ≡ None) }
+        ensures no_longer { length (ahead self.new) ≤ length (ahead self.old) }
+    {
+        let place = self.token.place;
+        match self.token.kind {
+            Kind::Wildcard { name, marks, kind } => {
+                self.advance();
+                Some(Wildcard {
+                    name,
+                    marks,
+                    kind,
+                    place,
+                })
+            }
+            _ => None,
         }
     }
 

@@ -12,7 +12,7 @@ use std::test::Fail;
 type First = Option<(FaultKind, u32, u32)>;
 
 fn first_fault(alloc: Global, text: &[u8]) -> Result<First, Fail> {
-    if text.len() > 1000 {
+    if text.len() > 5000 {
         Err("the text is too long")?
     }
     match read_statements(alloc, text) {
@@ -26,7 +26,7 @@ fn first_fault(alloc: Global, text: &[u8]) -> Result<First, Fail> {
 
 /// The first fault of a text that is to be an expression alone.
 fn first_expression_fault(alloc: Global, text: &[u8]) -> Result<First, Fail> {
-    if text.len() > 1000 {
+    if text.len() > 5000 {
         Err("the text is too long")?
     }
     match read_expression(alloc, text) {
@@ -66,7 +66,7 @@ fn declared(alloc: Global, length: usize) -> Result<Vec<u8>, Fail> {
 
 #[test]
 fn texts_are_read_or_refused_at_a_token(rt: HostRuntime) -> Result<(), Fail> {
-    let rows: [(&[u8], First); 56] = [
+    let rows: [(&[u8], First); 62] = [
         (b"", None),
         (b" \t\r\n# a comment # and more, to the end", None),
         (b"op f 2;", None),
@@ -94,12 +94,21 @@ fn texts_are_read_or_refused_at_a_token(rt: HostRuntime) -> Result<(), Fail> {
         (b"rule r: x__K;", Some((FaultKind::Syntax, 1, 12))),
         (b"rule r: x_K_;", Some((FaultKind::Syntax, 1, 12))),
         (b"rule r: x_(a);", Some((FaultKind::Syntax, 1, 11))),
+        (b"rule r: f(_, (_K * ___), __);", None),
+        (
+            b"rule r: f(x_:a, _:(b * c), y_:g(z_:h(a)), _:x_:y_K);",
+            None,
+        ),
+        (b"subject s: x_:_:y_:z_:a;", None),
         (b"rule r: f(x_K:a);", Some((FaultKind::Syntax, 1, 14))),
-        (b"rule r: x_:a;", Some((FaultKind::Syntax, 1, 11))),
-        (b"rule r: _;", Some((FaultKind::Syntax, 1, 9))),
-        (b"rule r: f(_K);", Some((FaultKind::Syntax, 1, 11))),
-        (b"rule r: (a + __);", Some((FaultKind::Syntax, 1, 14))),
-        (b"rule r: ___;", Some((FaultKind::Syntax, 1, 9))),
+        (b"rule r: f(x__:a);", Some((FaultKind::Syntax, 1, 14))),
+        (b"rule r: x_:y_K:a;", Some((FaultKind::Syntax, 1, 15))),
+        (b"rule r: a:b;", Some((FaultKind::Syntax, 1, 10))),
+        (b"rule r: f(a):b;", Some((FaultKind::Syntax, 1, 13))),
+        (b"rule r: x_:;", Some((FaultKind::Syntax, 1, 12))),
+        (b"rule r: x_::a;", Some((FaultKind::Syntax, 1, 12))),
+        (b"rule r: x_:y_:", Some((FaultKind::Syntax, 1, 15))),
+        (b"rule r: x_:(a);", Some((FaultKind::Syntax, 1, 14))),
         (b"rule r: f(x_) -> a;", Some((FaultKind::Syntax, 1, 15))),
         (b"rule r: f(x_)\r\n\t[a];", Some((FaultKind::Syntax, 2, 2))),
         (b"op f 2+; op g 0 + assoc comm one infix *;", None),
@@ -149,8 +158,8 @@ fn expressions_are_read_to_the_end_or_refused_at_a_token(rt: HostRuntime) -> Res
         (b"f(a", Some((FaultKind::Syntax, 1, 4))),
         (b"f(a))", Some((FaultKind::Syntax, 1, 5))),
         (b"(a + b", Some((FaultKind::Syntax, 1, 7))),
-        (b"x_:a", Some((FaultKind::Syntax, 1, 3))),
-        (b"_", Some((FaultKind::Syntax, 1, 1))),
+        (b"x_:a", None),
+        (b"_", None),
         (b"subject s: a;", Some((FaultKind::Syntax, 1, 9))),
         (b"a \\", Some((FaultKind::BadByte, 1, 3))),
     ];
@@ -187,6 +196,66 @@ fn limits_are_met_exactly(rt: HostRuntime) -> Result<(), Fail> {
     Ok(())
 }
 
+/// `subject s: `, so many wildcards with a colon behind each, their default and the end of the statement.
+fn chained(alloc: Global, length: usize) -> Result<Vec<u8>, Fail> {
+    let mut text = Vec::new(alloc);
+    text.extend_from_slice(b"subject s: ")?;
+    for _ in 0..length {
+        text.extend_from_slice(b"x_:")?;
+    }
+    text.extend_from_slice(b"a;")?;
+    Ok(text)
+}
+
+/// How many wildcards an expression with a default has behind the first, or 0.
+fn other_wildcards(expr: &Expr) -> usize {
+    match expr {
+        Expr::Optional { others, .. } => others.len(),
+        _ => 0,
+    }
+}
+
+#[test]
+fn chains_of_any_length_are_read(rt: HostRuntime) -> Result<(), Fail> {
+    let text = chained(rt.alloc(), 1000)?;
+    if text.len() > 5000 {
+        Err("the text is too long")?
+    }
+    let file = read_statements(rt.alloc(), &text)?;
+    match file.get(0) {
+        Some(Statement::Subject { name: _, term }) => assert_eq!(rt; other_wildcards(term), 999),
+        _ => Err("not the subject")?,
+    }
+    Ok(())
+}
+
+#[test]
+fn defaults_are_kept(rt: HostRuntime) -> Result<(), Fail> {
+    let read = read_expression(rt.alloc(), b" x_:_:y_:(a + b)")?;
+    match &read {
+        Expr::Optional {
+            wildcard,
+            others,
+            default,
+        } => {
+            assert_eq!(rt;
+                (wildcard.name, wildcard.place.column),
+                (b"x".as_slice(), 2)
+            );
+            assert_eq!(rt; first_word(default), (b"+".as_slice(), 1, 13));
+            match others.as_slice() {
+                [first, second] => {
+                    assert_eq!(rt; (first.name, first.place.column), (b"".as_slice(), 5));
+                    assert_eq!(rt; (second.name, second.place.column), (b"y".as_slice(), 7));
+                }
+                _ => Err("not two other wildcards")?,
+            }
+        }
+        _ => Err("no wildcard with a default")?,
+    }
+    Ok(())
+}
+
 /// The word of an expression, or its sign, its line and its column.
 fn first_word<'a>(expr: &Expr<'a>) -> (&'a [u8], u32, u32) {
     match expr {
@@ -194,6 +263,11 @@ fn first_word<'a>(expr: &Expr<'a>) -> (&'a [u8], u32, u32) {
         Expr::Apply(spot, _) => (spot.text, spot.place.line, spot.place.column),
         Expr::Infix { sign, .. } => (sign.text, sign.place.line, sign.place.column),
         Expr::Wild(wildcard) => (wildcard.name, wildcard.place.line, wildcard.place.column),
+        Expr::Optional { wildcard, .. } => (
+            wildcard.name,
+            wildcard.place.line,
+            wildcard.place.column,
+        ),
     }
 }
 

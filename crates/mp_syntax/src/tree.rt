@@ -1,5 +1,7 @@
 //! The syntax trees of a rule file. Their words lie in the bytes of the file.
 
+ghost use Rattle.std.specs.Prelude.{◌≡◌};
+
 use crate::place::{Place, Spot};
 
 /// A wildcard as it is written.
@@ -15,6 +17,18 @@ pub struct Wildcard<'a> {
     pub kind: &'a [u8],
     /// The place of its first byte.
     pub place: Place,
+}
+
+impl Wildcard<'_> {
+    ghost use Rattle.mp_syntax.specs.Machine.{is_dot};
+    ghost use Rattle.mp_syntax.specs.View.{wildcard_of};
+
+    /// Whether it has one underscore and no kind, and so may have a default.
+    pub(crate) fn is_dot(&self) -> bool
+        ensures { result ≡ is_dot (wildcard_of self.now) }
+    {
+        self.marks == 1 && self.kind.is_empty()
+    }
 }
 
 /// An expression.
@@ -37,6 +51,15 @@ pub enum Expr<'a> {
     },
     /// A wildcard.
     Wild(Wildcard<'a>),
+    /// A wildcard, a colon and its default; or several wildcards, each with a colon behind it, and then the default of the last.
+    Optional {
+        /// The first wildcard.
+        wildcard: Wildcard<'a>,
+        /// The further wildcards, in order.
+        others: Vec<Wildcard<'a>>,
+        /// The expression behind the last colon; what is read is no wildcard with a default.
+        default: Box<Expr<'a>>,
+    },
 }
 
 /// A flag of an operation.

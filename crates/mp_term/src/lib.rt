@@ -18,7 +18,8 @@ pub use edit::{Edit, Edits};
 pub use memory::Memory;
 pub use name::{Name, NameFault, Names};
 pub use normal::{
-    is_normal, normal_is_idempotent, normal_is_no_larger, normal_is_well_formed, normalise,
+    is_normal, normal_form, normal_is_idempotent, normal_is_no_larger, normal_is_well_formed,
+    normalise,
 };
 pub use order::compare;
 pub use position::Position;

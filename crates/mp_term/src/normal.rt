@@ -53,8 +53,9 @@ fn collapse(sig: &Signature, op: OpId, mut args: Terms) -> Term
     Term::App(op, args)
 }
 
-// The normal form, in one pass from the leaves up.
-fn normal_form(alloc: Global, sig: &Signature, term: Term) -> Result<Term, Memory>
+/// The normal form of any term, in one pass from the leaves up (`normal` of specs/Normal.antt), whatever operations it has and
+/// however many arguments they have. `Memory` comes where there is no room for the flattened lists; the term is then dropped.
+pub fn normal_form(alloc: Global, sig: &Signature, term: Term) -> Result<Term, Memory>
     ensures { IfOk result (λ t. tree t ≡ normal sig.now (tree term)) }
 {
     match term {

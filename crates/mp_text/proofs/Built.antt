@@ -9,10 +9,11 @@ use Rattle.mp_pattern.specs.PatternTree as pattern
 use Rattle.mp_syntax.specs.declared.place.Place.{Place}
 use Rattle.mp_syntax.specs.declared.place.Spot as code
 use Rattle.mp_syntax.specs.declared.tree.Expr.{Expr, Apply, Infix}
-use Rattle.mp_syntax.specs.Syntax.{Spot, Wildcard, Tree, InfixOf, Trees, no_trees, more_trees, trees, tree_list, HasNames, HaveNames}
+use Rattle.mp_syntax.specs.Syntax.{Spot, Tree, InfixOf, Trees, no_trees, more_trees, trees, tree_list, HasNames, HaveNames}
 use Rattle.mp_syntax.specs.View.{spot_of, expr_tree}
 use Rattle.mp_syntax.proofs.Trees.{expr_tree-Apply, expr_tree-Infix, tree_list-trees}
 use Rattle.mp_text.specs.Build.{op_number, sign_number, head_number, term_of, terms_of, pattern_of, patterns_of}
+use Rattle.mp_text.specs.Wildcards.{PatternWildcard}
 use Rattle.mp_text.specs.Checks.{op_named, op_signed, head_faults, arity_faults, sign_faults, allows_patterns, term_faults, term_operand_faults, all_term_faults, pattern_faults, pattern_operand_faults, all_pattern_faults}
 
 -- the words of the arguments are names
@@ -55,7 +56,7 @@ module _ (sig : Sig) where
       ap (term_faults sig) (expr_tree-Apply f v) ∙ ap (λ n. head_faults (allows n) (spot_of f) (op_named sig f.text.now) ++ all_term_faults sig (trees (map expr_tree v.items))) count
 
   -- the faults of an application in a pattern
-  pub pattern_faults-Apply : (before : List Wildcard) (f : code.Spot) (v : Vec Expr Global)
+  pub pattern_faults-Apply : (before : List PatternWildcard) (f : code.Spot) (v : Vec Expr Global)
       → pattern_faults sig before (expr_tree (Apply f v)) ≡ head_faults (allows_patterns (map expr_tree v.items)) (spot_of f) (op_named sig f.text.now) ++ all_pattern_faults sig before (trees (map expr_tree v.items))
   pattern_faults-Apply before f v =
       ap (pattern_faults sig before) (expr_tree-Apply f v) ∙ ap (λ l. head_faults (allows_patterns l) (spot_of f) (op_named sig f.text.now) ++ all_pattern_faults sig before (trees (map expr_tree v.items))) (tree_list-trees (map expr_tree v.items))
@@ -76,7 +77,7 @@ module _ (sig : Sig) where
       ap (λ n. arity_faults (allows n) place (op_signed sig sign.text) ++ term_operand_faults sig (sign_faults sign (op_signed sig sign.text)) (trees (map expr_tree es))) count
 
   -- the faults of operands in a pattern, by their list
-  pub pattern_faults-operands : (before : List Wildcard) (place : Place) (sign : Spot) (es : List Expr)
+  pub pattern_faults-operands : (before : List PatternWildcard) (place : Place) (sign : Spot) (es : List Expr)
       → pattern_faults sig before (InfixOf place sign (trees (map expr_tree es))) ≡ arity_faults (allows_patterns (map expr_tree es)) place (op_signed sig sign.text) ++ pattern_operand_faults sig before (sign_faults sign (op_signed sig sign.text)) (trees (map expr_tree es))
   pattern_faults-operands before place sign es =
       ap (λ l. arity_faults (allows_patterns l) place (op_signed sig sign.text) ++ pattern_operand_faults sig before (sign_faults sign (op_signed sig sign.text)) (trees (map expr_tree es))) (tree_list-trees (map expr_tree es))
@@ -88,7 +89,7 @@ module _ (sig : Sig) where
   term_operand_faults-known sign (Some d) (more_trees t ts) h = refl
 
   -- the same in a pattern
-  pub pattern_operand_faults-known : (before : List Wildcard) (sign : Spot) (o : Option OpDecl) (ts : Trees) → true ≡ is_some o → pattern_operand_faults sig before (sign_faults sign o) ts ≡ all_pattern_faults sig before ts
+  pub pattern_operand_faults-known : (before : List PatternWildcard) (sign : Spot) (o : Option OpDecl) (ts : Trees) → true ≡ is_some o → pattern_operand_faults sig before (sign_faults sign o) ts ≡ all_pattern_faults sig before ts
   pattern_operand_faults-known before sign None ts h = cc
   pattern_operand_faults-known before sign (Some d) no_trees h = refl
   pattern_operand_faults-known before sign (Some d) (more_trees t ts) h = refl

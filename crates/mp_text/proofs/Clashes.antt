@@ -5,62 +5,72 @@ use Rattle.std.specs.Str.{bytes_eq}
 use Rattle.std.proofs.lemmas.List.{map-append}
 use Rattle.std.proofs.lemmas.Slice.Eq.{bytes_eq-Decides}
 use Rattle.mp_term.specs.Signature.{Sig}
+use Rattle.mp_term.specs.Normal.{normal}
 use Rattle.mp_pattern.specs.PatternTree as pattern
 use Rattle.mp_pattern.specs.PatternTree.{Pattern, symbol_pattern, app_pattern, wild_pattern, Patterns, no_patterns, more_patterns}
 use Rattle.mp_pattern.specs.Subpatterns.{subpatterns, all_subpatterns}
 use Rattle.mp_pattern.specs.Clash.{first_clash}
-use Rattle.mp_pattern.proofs.ClashLaws.{Agree, AgreesWith, InOrder, InOrder-first_clash_after, first_clash_after-InOrder}
-use Rattle.mp_syntax.specs.Syntax.{Wildcard, Tree, Symbol, Apply, InfixOf, Wild, Trees, no_trees, more_trees, tree_list}
+use Rattle.mp_pattern.proofs.ClashLaws.{same_shape-same, Agree, AgreesWith, InOrder, InOrder-first_clash_after, first_clash_after-InOrder}
+use Rattle.mp_syntax.specs.Syntax.{Wildcard, Tree, Symbol, Apply, InfixOf, Wild, Optional, Trees, no_trees, more_trees, tree_list}
 use Rattle.mp_text.specs.declared.fault.TextFault.{TextFault}
-use Rattle.mp_text.specs.Names.{is_same_variable, wildcards, all_wildcards}
-use Rattle.mp_text.specs.Build.{op_number, sign_number, head_number, kind_shape, shape_of, variable_of, pattern_of, patterns_of}
-use Rattle.mp_text.specs.Checks.{fault_if, differs, head_faults, arity_faults, sign_faults, allows_patterns, op_named, op_signed, kind_unknown, pattern_faults, pattern_operand_faults, all_pattern_faults}
+use Rattle.mp_text.specs.Names.{is_same_variable}
+use Rattle.mp_text.specs.Wildcards.{DefaultForm, absent, normal_form, unknown, PatternWildcard, without_default, with_default_form, pattern_wildcards, all_pattern_wildcards, same_default, same_class, differs}
+use Rattle.mp_text.specs.Build.{op_number, sign_number, head_number, kind_shape, shape_of, variable_of, term_of, pattern_of, patterns_of}
+use Rattle.mp_text.specs.Checks.{fault_if, head_faults, arity_faults, sign_faults, allows_patterns, op_named, op_signed, kind_unknown, default_faults, wildcard_faults, pattern_faults, pattern_operand_faults, all_pattern_faults}
 use Rattle.mp_text.proofs.Words.{both, first-of, second-of}
 use Rattle.mp_text.proofs.Faultless.{nil-append, nil-fault_if, not-false}
+use Rattle.mp_text.proofs.Defaults.{default_form-default_faults}
 
 -- ---- wildcards of syntax trees
 
 -- no wildcard differs from an earlier one of its name, where `before` stand in front of all
-abbrev pub Apart : List Wildcard → List Wildcard → Type 0
+abbrev pub Apart : List PatternWildcard → List PatternWildcard → Type 0
 Apart before [] = Unit {0}
 Apart before (w ∷ ws) = (list_any (differs w) before ≡ false) × Apart (before ++ w ∷ []) ws
 
-pub Apart-append : (before a b : List Wildcard) → Apart before a → Apart (before ++ a) b → Apart before (a ++ b)
+pub Apart-append : (before a b : List PatternWildcard) → Apart before a → Apart (before ++ a) b → Apart before (a ++ b)
 Apart-append before [] b h k = subst (λ l. Apart l b) (append-nil before) k
 Apart-append before (w ∷ a) b h k = (h.0, Apart-append (before ++ w ∷ []) a b h.1 (subst (λ l. Apart l b) (sym (append_assoc before (w ∷ []) a)) k))
 
-pub Apart-split : (before a b : List Wildcard) → Apart before (a ++ b) → Apart before a × Apart (before ++ a) b
+pub Apart-split : (before a b : List PatternWildcard) → Apart before (a ++ b) → Apart before a × Apart (before ++ a) b
 Apart-split before [] b h = (tt, subst (λ l. Apart l b) (sym (append-nil before)) h)
 Apart-split before (w ∷ a) b h =
     let r = Apart-split (before ++ w ∷ []) a b h.1 in
     ((h.0, r.0), subst (λ l. Apart l b) (append_assoc before (w ∷ []) a) r.1)
 
 -- operands without faults, and a sign without faults, in a pattern
-pub nil-pattern_operands : (sig : Sig) (before : List Wildcard) (at_sign : List TextFault) (ps : Trees) → pattern_operand_faults sig before at_sign ps ≡ [] → (at_sign ≡ []) × (all_pattern_faults sig before ps ≡ [])
+pub nil-pattern_operands : (sig : Sig) (before : List PatternWildcard) (at_sign : List TextFault) (ps : Trees) → pattern_operand_faults sig before at_sign ps ≡ [] → (at_sign ≡ []) × (all_pattern_faults sig before ps ≡ [])
 nil-pattern_operands sig before at_sign no_trees h = (h, refl)
 nil-pattern_operands sig before at_sign (more_trees p ps) h =
-    let q = nil-append (pattern_faults sig before p) (at_sign ++ all_pattern_faults sig (before ++ wildcards p) ps) h in
-    let r = nil-append at_sign (all_pattern_faults sig (before ++ wildcards p) ps) q.1 in
-    (r.0, ap (λ l. l ++ all_pattern_faults sig (before ++ wildcards p) ps) q.0 ∙ r.1)
+    let q = nil-append (pattern_faults sig before p) (at_sign ++ all_pattern_faults sig (before ++ pattern_wildcards sig p) ps) h in
+    let r = nil-append at_sign (all_pattern_faults sig (before ++ pattern_wildcards sig p) ps) q.1 in
+    (r.0, ap (λ l. l ++ all_pattern_faults sig (before ++ pattern_wildcards sig p) ps) q.0 ∙ r.1)
 
 module _ (sig : Sig) where
+  -- a wildcard without faults
+  Apart-wildcard_faults : (before : List PatternWildcard) (w : PatternWildcard) → wildcard_faults sig before w ≡ [] → list_any (differs w) before ≡ false
+  Apart-wildcard_faults before w h =
+      nil-fault_if (list_any (differs w) before) _ w.wildcard.place (nil-append (fault_if (kind_unknown sig w.wildcard.kind) _ w.wildcard.place) (fault_if (list_any (differs w) before) _ w.wildcard.place) h).1
+
   mutual
     -- the wildcards of a pattern without faults
-    pub Apart-pattern_faults : (before : List Wildcard) (p : Tree) → pattern_faults sig before p ≡ [] → Apart before (wildcards p)
+    pub Apart-pattern_faults : (before : List PatternWildcard) (p : Tree) → pattern_faults sig before p ≡ [] → Apart before (pattern_wildcards sig p)
     Apart-pattern_faults before (Symbol w) h = tt
     Apart-pattern_faults before (Apply f args) h = Apart-all_pattern_faults before args (nil-append (head_faults (allows_patterns (tree_list args)) f (op_named sig f.text)) (all_pattern_faults sig before args) h).1
     Apart-pattern_faults before (InfixOf opened sign operands) h =
         let at_sign = sign_faults sign (op_signed sig sign.text) in
         let p = nil-append (arity_faults (allows_patterns (tree_list operands)) opened (op_signed sig sign.text)) (pattern_operand_faults sig before at_sign operands) h in
         Apart-all_pattern_faults before operands (nil-pattern_operands sig before at_sign operands p.1).1
-    Apart-pattern_faults before (Wild w) h =
-        (nil-fault_if (list_any (differs w) before) _ w.place (nil-append (fault_if (kind_unknown sig w.kind) _ w.place) (fault_if (list_any (differs w) before) _ w.place) h).1, tt)
+    Apart-pattern_faults before (Wild w) h = (Apart-wildcard_faults before (without_default w) h, tt)
+    Apart-pattern_faults before (Optional w others default) h =
+        let v = with_default_form sig w others default in
+        (Apart-wildcard_faults before v (nil-append (wildcard_faults sig before v) (default_faults sig others default) h).0, tt)
 
-    Apart-all_pattern_faults : (before : List Wildcard) (ps : Trees) → all_pattern_faults sig before ps ≡ [] → Apart before (all_wildcards ps)
+    Apart-all_pattern_faults : (before : List PatternWildcard) (ps : Trees) → all_pattern_faults sig before ps ≡ [] → Apart before (all_pattern_wildcards sig ps)
     Apart-all_pattern_faults before no_trees h = tt
     Apart-all_pattern_faults before (more_trees p ps) h =
-        let q = nil-append (pattern_faults sig before p) (all_pattern_faults sig (before ++ wildcards p) ps) h in
-        Apart-append before (wildcards p) (all_wildcards ps) (Apart-pattern_faults before p q.0) (Apart-all_pattern_faults (before ++ wildcards p) ps q.1)
+        let q = nil-append (pattern_faults sig before p) (all_pattern_faults sig (before ++ pattern_wildcards sig p) ps) h in
+        Apart-append before (pattern_wildcards sig p) (all_pattern_wildcards sig ps) (Apart-pattern_faults before p q.0) (Apart-all_pattern_faults (before ++ pattern_wildcards sig p) ps q.1)
 
 -- ---- the wildcards among patterns
 
@@ -130,42 +140,64 @@ wilds-InOrder before (wild_pattern w x ∷ ps) h =
 -- ---- a pattern that is read
 
 module _ (sig : Sig) where
+  -- what a wildcard takes, by its default
+  abbrev pub form_shape : DefaultForm → Wildcard → pattern.Wildcard
+  form_shape absent w = shape_of sig w
+  form_shape (normal_form t) w = pattern.optional t
+  form_shape unknown w = shape_of sig w
+
   -- the pattern of a wildcard
-  abbrev pub wild_of : Wildcard → Pattern
-  wild_of w = wild_pattern (shape_of sig w) (variable_of w.name)
+  abbrev pub wild_of : PatternWildcard → Pattern
+  wild_of w = wild_pattern (form_shape w.default w.wildcard) (variable_of w.wildcard.name)
 
   mutual
     -- its wildcards are those of its syntax tree
-    pub wilds-pattern_of : (t : Tree) → wilds (subpatterns (pattern_of sig t)) ≡ map wild_of (wildcards t)
-    wilds-pattern_of (Symbol w) = refl
-    wilds-pattern_of (Apply f args) = wilds-patterns_of args
-    wilds-pattern_of (InfixOf opened sign operands) = wilds-patterns_of operands
-    wilds-pattern_of (Wild w) = refl
+    pub wilds-pattern_of : (before : List PatternWildcard) (t : Tree) → pattern_faults sig before t ≡ [] → wilds (subpatterns (pattern_of sig t)) ≡ map wild_of (pattern_wildcards sig t)
+    wilds-pattern_of before (Symbol w) h = refl
+    wilds-pattern_of before (Apply f args) h = wilds-patterns_of before args (nil-append (head_faults (allows_patterns (tree_list args)) f (op_named sig f.text)) (all_pattern_faults sig before args) h).1
+    wilds-pattern_of before (InfixOf opened sign operands) h =
+        let at_sign = sign_faults sign (op_signed sig sign.text) in
+        let p = nil-append (arity_faults (allows_patterns (tree_list operands)) opened (op_signed sig sign.text)) (pattern_operand_faults sig before at_sign operands) h in
+        wilds-patterns_of before operands (nil-pattern_operands sig before at_sign operands p.1).1
+    wilds-pattern_of before (Wild w) h = refl
+    wilds-pattern_of before (Optional w others default) h =
+        let p = nil-append (wildcard_faults sig before (with_default_form sig w others default)) (default_faults sig others default) h in
+        ap (λ f. wild_pattern (form_shape f w) (variable_of w.name) ∷ []) (sym (default_form-default_faults sig others default p.1))
 
-    wilds-patterns_of : (ts : Trees) → wilds (all_subpatterns (patterns_of sig ts)) ≡ map wild_of (all_wildcards ts)
-    wilds-patterns_of no_trees = refl
-    wilds-patterns_of (more_trees t ts) =
-        wilds-append (subpatterns (pattern_of sig t)) (all_subpatterns (patterns_of sig ts)) ∙ (λ i. wilds-pattern_of t i ++ wilds-patterns_of ts i) ∙ sym (map-append wild_of (wildcards t) (all_wildcards ts))
+    wilds-patterns_of : (before : List PatternWildcard) (ts : Trees) → all_pattern_faults sig before ts ≡ [] → wilds (all_subpatterns (patterns_of sig ts)) ≡ map wild_of (all_pattern_wildcards sig ts)
+    wilds-patterns_of before no_trees h = refl
+    wilds-patterns_of before (more_trees t ts) h =
+        let p = nil-append (pattern_faults sig before t) (all_pattern_faults sig (before ++ pattern_wildcards sig t) ts) h in
+        wilds-append (subpatterns (pattern_of sig t)) (all_subpatterns (patterns_of sig ts)) ∙ (λ i. wilds-pattern_of before t p.0 i ++ wilds-patterns_of (before ++ pattern_wildcards sig t) ts p.1 i)
+        ∙ sym (map-append wild_of (pattern_wildcards sig t) (all_pattern_wildcards sig ts))
+
+  -- wildcards of one class, kind and default take the same
+  form_shape-same : (a b : DefaultForm) (v w : Wildcard) → same_default a b ≡ true → v.marks ≡ w.marks → v.kind ≡ w.kind → form_shape a v ≡ form_shape b w
+  form_shape-same absent absent v w h marks kinds = λ i. kind_shape sig (kinds i) (marks i)
+  form_shape-same (normal_form t) (normal_form u) v w h marks kinds = same_shape-same (pattern.optional t) (pattern.optional u) h
+  form_shape-same _ _ v w h marks kinds = cc
 
   -- wildcards that don't differ agree
-  agree-differs : (v w : Wildcard) → differs w v ≡ false → Agree (wild_of v) (wild_of w)
-  agree-differs v w h = go v.name w.name h
+  agree-differs : (v w : PatternWildcard) → differs w v ≡ false → Agree (wild_of v) (wild_of w)
+  agree-differs v w h = go v.wildcard.name w.wildcard.name h
     where
-      same : (b : Bool) → b ≡ true → (b && not (eqb v.marks w.marks && bytes_eq v.kind w.kind)) ≡ false → shape_of sig v ≡ shape_of sig w
+      same : (b : Bool) → b ≡ true → (b && not (same_class v w)) ≡ false → form_shape v.default v.wildcard ≡ form_shape w.default w.wildcard
       same true e h =
-          let k = not-false (eqb v.marks w.marks && bytes_eq v.kind w.kind) h in
-          let marks : v.marks ≡ w.marks = eqb-true v.marks w.marks (first-of (eqb v.marks w.marks) (bytes_eq v.kind w.kind) k) in
-          let kinds : v.kind ≡ w.kind = (bytes_eq-Decides v.kind w.kind).0 (second-of (eqb v.marks w.marks) (bytes_eq v.kind w.kind) k) in
-          λ i. kind_shape sig (kinds i) (marks i)
+          let alike = bytes_eq v.wildcard.kind w.wildcard.kind && same_default v.default w.default in
+          let k = not-false (same_class v w) h in
+          let marks : v.wildcard.marks ≡ w.wildcard.marks = eqb-true v.wildcard.marks w.wildcard.marks (first-of (eqb v.wildcard.marks w.wildcard.marks) alike k) in
+          let l = second-of (eqb v.wildcard.marks w.wildcard.marks) alike k in
+          let kinds : v.wildcard.kind ≡ w.wildcard.kind = (bytes_eq-Decides v.wildcard.kind w.wildcard.kind).0 (first-of (bytes_eq v.wildcard.kind w.wildcard.kind) (same_default v.default w.default) l) in
+          form_shape-same v.default w.default v.wildcard w.wildcard (second-of (bytes_eq v.wildcard.kind w.wildcard.kind) (same_default v.default w.default) l) marks kinds
       same false e h = cc
 
-      go : (x y : List ℕ) → (is_same_variable y x && not (eqb v.marks w.marks && bytes_eq v.kind w.kind)) ≡ false → Agree (wild_pattern (shape_of sig v) (variable_of x)) (wild_pattern (shape_of sig w) (variable_of y))
+      go : (x y : List ℕ) → (is_same_variable y x && not (same_class v w)) ≡ false → Agree (wild_pattern (form_shape v.default v.wildcard) (variable_of x)) (wild_pattern (form_shape w.default w.wildcard) (variable_of y))
       go [] [] h = tt
       go [] (b ∷ y) h = tt
       go (a ∷ x) [] h = tt
       go (a ∷ x) (b ∷ y) h = λ e. same (bytes_eq (b ∷ y) (a ∷ x)) ((bytes_eq-Decides (b ∷ y) (a ∷ x)).1 (sym e)) h
 
-  agrees-none : (w : Wildcard) (before : List Wildcard) → list_any (differs w) before ≡ false → AgreesWith (wild_of w) (map wild_of before)
+  agrees-none : (w : PatternWildcard) (before : List PatternWildcard) → list_any (differs w) before ≡ false → AgreesWith (wild_of w) (map wild_of before)
   agrees-none w [] h = tt
   agrees-none w (v ∷ before) h = go (differs w v) refl h (agrees-none w before)
     where
@@ -173,7 +205,7 @@ module _ (sig : Sig) where
       go true e h ih = cc
       go false e h ih = (agree-differs v w e, ih h)
 
-  InOrder-Apart : (before ws : List Wildcard) → Apart before ws → InOrder (map wild_of before) (map wild_of ws)
+  InOrder-Apart : (before ws : List PatternWildcard) → Apart before ws → InOrder (map wild_of before) (map wild_of ws)
   InOrder-Apart before [] h = tt
   InOrder-Apart before (w ∷ ws) h = (agrees-none w before h.0, subst (λ l. InOrder l (map wild_of ws)) (map-append wild_of before (w ∷ [])) (InOrder-Apart (before ++ w ∷ []) ws h.1))
 
@@ -181,12 +213,12 @@ module _ (sig : Sig) where
   pub first_clash-pattern_of : (p : Tree) → pattern_faults sig [] p ≡ [] → first_clash (pattern_of sig p) ≡ None
   first_clash-pattern_of p h =
       first_clash_after-InOrder [] (subpatterns (pattern_of sig p))
-      (InOrder-wilds [] (subpatterns (pattern_of sig p)) (subst (InOrder []) (sym (wilds-pattern_of p)) (InOrder-Apart [] (wildcards p) (Apart-pattern_faults sig [] p h))))
+      (InOrder-wilds [] (subpatterns (pattern_of sig p)) (subst (InOrder []) (sym (wilds-pattern_of [] p h)) (InOrder-Apart [] (pattern_wildcards sig p) (Apart-pattern_faults sig [] p h))))
 
 -- ---- a pattern as it is spelled
 
 -- wildcards as they are spelled, where those of one name and one shape are spelled as one
-module _ (mark : Pattern → Wildcard)
+module _ (mark : Pattern → PatternWildcard)
     (apart : (v w : pattern.Wildcard) (x y : Option (List ℕ)) → Agree (wild_pattern v x) (wild_pattern w y) → differs (mark (wild_pattern w y)) (mark (wild_pattern v x)) ≡ false)
   where
     none-agrees : (w : pattern.Wildcard) (y : Option (List ℕ)) (qs : List Pattern) → AgreesWith (wild_pattern w y) (wilds qs) → list_any (differs (mark (wild_pattern w y))) (map mark (wilds qs)) ≡ false

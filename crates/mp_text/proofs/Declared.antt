@@ -21,7 +21,8 @@ use Rattle.mp_text.specs.declared.fault.TextError.{TextError}
 use Rattle.mp_text.specs.Subject.{Subject}
 use Rattle.mp_text.specs.File.{FileTree}
 use Rattle.mp_text.specs.Answers.{Gives}
-use Rattle.mp_text.specs.Checks.{op_faults, kind_faults, statement_faults}
+use Rattle.mp_text.specs.Checks.{op_faults, kind_faults}
+use Rattle.mp_text.specs.FileChecks.{statement_faults}
 use Rattle.mp_text.specs.Names.{rule_names, subject_names, is_among}
 use Rattle.mp_text.specs.Build.{op_decl, op_decls, kind_decl, kind_decls, sig_with, term_of, pattern_of, rule_of, rules_of, subject_of, subjects_of, file_over}
 

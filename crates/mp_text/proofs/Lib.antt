@@ -12,6 +12,8 @@ mod Declared
 mod Separated
 mod Parts
 mod PatternSize
+mod PatternDepth
+mod Defaults
 mod Spelled
 mod Pass
 mod Places

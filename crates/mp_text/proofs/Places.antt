@@ -1,5 +1,6 @@
 -- What statements stand for, and which faults they have, doesn't depend on their places.
 use Rattle.std.proofs.Common.{◌≡◌, ℕ, suc, ◌+◌, Bool, true, false, ◌||◌, ◌&&◌, not, is_some, cond, leb, ltb, List, [], ◌∷◌, ◌++◌, map, length, flat_map, count_by, Option, Some, None, option_map, refl, sym, ap, ◌∙◌}
+use Rattle.std.specs.Prelude.{if◌then◌else◌}
 use Rattle.std.specs.List.{list_any}
 use Rattle.std.specs.Str.{bytes_eq}
 use Rattle.std.proofs.lemmas.List.{length-map, map-append}
@@ -15,15 +16,17 @@ use Rattle.mp_pattern.specs.Firsts.{firsts_after}
 use Rattle.mp_pattern.specs.Normal.{normal_pattern}
 use Rattle.mp_syntax.specs.declared.place.Place.{Place}
 use Rattle.mp_syntax.specs.Tokens.{first_place}
-use Rattle.mp_syntax.specs.Syntax.{Spot, Wildcard, Tree, Symbol, Apply, InfixOf, Wild, Trees, no_trees, more_trees, tree_list, Flag, Assoc, Comm, One, Infixed, Statement, OpOf, KindOf, RuleOf, SubjectOf}
-use Rattle.mp_syntax.specs.Printed.{unplaced_spot, unplaced_tree, unplaced_trees, unplaced_flag, unplaced}
+use Rattle.mp_syntax.specs.Syntax.{Spot, Wildcard, Tree, Symbol, Apply, InfixOf, Wild, Optional, Trees, no_trees, more_trees, tree_list, Flag, Assoc, Comm, One, Infixed, Statement, OpOf, KindOf, RuleOf, SubjectOf}
+use Rattle.mp_syntax.specs.Printed.{unplaced_spot, unplaced_wildcard, unplaced_tree, unplaced_trees, unplaced_flag, unplaced}
 use Rattle.mp_text.specs.declared.fault.TextKind.{TextKind}
 use Rattle.mp_text.specs.declared.fault.TextKind.TheVariants.{DuplicateName, TooMany, BadFlags, BareOperation, UnknownKind, Arity, KindClash, LooseSequence, WildcardInTerm}
 use Rattle.mp_text.specs.declared.fault.TextFault.{TextFault}
-use Rattle.mp_text.specs.Names.{is_among, rule_names, subject_names, number_of, wildcards, all_wildcards, wildcard_names, all_wildcard_names, variable_names}
+use Rattle.mp_text.specs.Names.{is_among, rule_names, subject_names, number_of, wildcard_names, all_wildcard_names, variable_names}
 use Rattle.mp_text.specs.Flags.{says_assoc, says_comm, says_one, says_infix, is_said, is_said_twice, some_flag_twice, sign_spot, is_long_sign}
-use Rattle.mp_text.specs.Build.{op_decl, kind_decl, op_decls, kind_decls, sig_with, sig_of, head_number, op_number, sign_number, term_of, terms_of, pattern_of, patterns_of, rule_of, subject_of, rules_of, subjects_of, file_over, file_tree_of}
-use Rattle.mp_text.specs.Checks.{fault_at, fault_if, nodes, all_nodes, is_large_pattern, is_large_term, is_star, may_take_more, fewest, allows_patterns, head_faults, arity_faults, sign_faults, op_named, op_signed, symbol_faults, term_faults, term_operand_faults, all_term_faults, differs, kind_unknown, wildcard_faults, pattern_faults, pattern_operand_faults, all_pattern_faults, loose_faults, whole_pattern_faults, name_faults, has_bad_flags, held_sign_faults, op_faults, kind_faults, op_statement_faults, kind_statement_faults, statement_faults, faults_by, declaration_faults, faults}
+use Rattle.mp_text.specs.Build.{op_decl, kind_decl, op_decls, kind_decls, sig_with, sig_of, head_number, op_number, sign_number, variable_of, term_of, terms_of, has_term, all_have_terms, pattern_of, patterns_of, rule_of, subject_of, rules_of, subjects_of, file_over, file_tree_of}
+use Rattle.mp_text.specs.Wildcards.{DefaultForm, normal_form, unknown, PatternWildcard, without_default, default_form, with_default_form, pattern_wildcards, all_pattern_wildcards, differs}
+use Rattle.mp_text.specs.Checks.{fault_at, fault_if, nodes, all_nodes, has_large_default, some_large_default, is_large_pattern, is_large_term, may_take_none, may_take_more, fewest, allows_patterns, head_faults, arity_faults, sign_faults, op_named, op_signed, symbol_faults, term_faults, term_operand_faults, all_term_faults, kind_unknown, term_wildcard_faults, default_faults, wildcard_faults, pattern_faults, pattern_operand_faults, all_pattern_faults, loose_faults, whole_pattern_faults, name_faults, has_bad_flags, held_sign_faults, op_faults, kind_faults, op_statement_faults, kind_statement_faults, faults_by, declaration_faults}
+use Rattle.mp_text.specs.FileChecks.{statement_faults, faults}
 
 -- ---- expressions
 
@@ -37,6 +40,7 @@ mutual
   nodes-unplaced_tree (Apply f args) = ap (λ n. n + 1) (all_nodes-unplaced_trees args)
   nodes-unplaced_tree (InfixOf opened sign operands) = ap (λ n. n + 1) (all_nodes-unplaced_trees operands)
   nodes-unplaced_tree (Wild w) = refl
+  nodes-unplaced_tree (Optional w others default) = refl
 
   all_nodes-unplaced_trees : (ts : Trees) → all_nodes (unplaced_trees ts) ≡ all_nodes ts
   all_nodes-unplaced_trees no_trees = refl
@@ -48,32 +52,38 @@ mutual
   wildcard_names-unplaced_tree (Apply f args) = all_wildcard_names-unplaced_trees args
   wildcard_names-unplaced_tree (InfixOf opened sign operands) = all_wildcard_names-unplaced_trees operands
   wildcard_names-unplaced_tree (Wild w) = refl
+  wildcard_names-unplaced_tree (Optional w others default) = refl
 
   all_wildcard_names-unplaced_trees : (ts : Trees) → all_wildcard_names (unplaced_trees ts) ≡ all_wildcard_names ts
   all_wildcard_names-unplaced_trees no_trees = refl
   all_wildcard_names-unplaced_trees (more_trees t ts) = λ i. wildcard_names-unplaced_tree t i ++ all_wildcard_names-unplaced_trees ts i
 
--- the same wildcard at the first place
-abbrev unplaced_wildcard : Wildcard → Wildcard
-unplaced_wildcard w = record { name = w.name; marks = w.marks; kind = w.kind; place = first_place }
-
 mutual
-  wildcards-unplaced_tree : (t : Tree) → wildcards (unplaced_tree t) ≡ map unplaced_wildcard (wildcards t)
-  wildcards-unplaced_tree (Symbol w) = refl
-  wildcards-unplaced_tree (Apply f args) = all_wildcards-unplaced_trees args
-  wildcards-unplaced_tree (InfixOf opened sign operands) = all_wildcards-unplaced_trees operands
-  wildcards-unplaced_tree (Wild w) = refl
+  has_large_default-unplaced_tree : (t : Tree) → has_large_default (unplaced_tree t) ≡ has_large_default t
+  has_large_default-unplaced_tree (Symbol w) = refl
+  has_large_default-unplaced_tree (Apply f args) = some_large_default-unplaced_trees args
+  has_large_default-unplaced_tree (InfixOf opened sign operands) = some_large_default-unplaced_trees operands
+  has_large_default-unplaced_tree (Wild w) = refl
+  has_large_default-unplaced_tree (Optional w others default) = λ i. ltb 64 (nodes-unplaced_tree default i) || has_large_default-unplaced_tree default i
 
-  all_wildcards-unplaced_trees : (ts : Trees) → all_wildcards (unplaced_trees ts) ≡ map unplaced_wildcard (all_wildcards ts)
-  all_wildcards-unplaced_trees no_trees = refl
-  all_wildcards-unplaced_trees (more_trees t ts) = (λ i. wildcards-unplaced_tree t i ++ all_wildcards-unplaced_trees ts i) ∙ sym (map-append unplaced_wildcard (wildcards t) (all_wildcards ts))
+  some_large_default-unplaced_trees : (ts : Trees) → some_large_default (unplaced_trees ts) ≡ some_large_default ts
+  some_large_default-unplaced_trees no_trees = refl
+  some_large_default-unplaced_trees (more_trees t ts) = λ i. has_large_default-unplaced_tree t i || some_large_default-unplaced_trees ts i
 
 -- a pattern is large wherever it stands
 is_large_pattern-unplaced_tree : (p : Tree) → is_large_pattern (unplaced_tree p) ≡ is_large_pattern p
-is_large_pattern-unplaced_tree p = λ i. ltb 64 (nodes-unplaced_tree p i) || ltb 32 (length (names i))
+is_large_pattern-unplaced_tree p = λ i. ltb 64 (nodes-unplaced_tree p i) || (ltb 32 (length (names i)) || has_large_default-unplaced_tree p i)
   where
     names : variable_names (unplaced_tree p) ≡ variable_names p
     names = ap (firsts_after bytes_eq []) (wildcard_names-unplaced_tree p)
+
+-- so is a term
+is_large_term-unplaced_tree : (t : Tree) → is_large_term (unplaced_tree t) ≡ is_large_term t
+is_large_term-unplaced_tree t = λ i. ltb 100000 (nodes-unplaced_tree t i) || has_large_default-unplaced_tree t i
+
+-- the same wildcard of a pattern at the first place
+abbrev unplaced_pattern_wildcard : PatternWildcard → PatternWildcard
+unplaced_pattern_wildcard w = record { wildcard = unplaced_wildcard w.wildcard; default = w.default }
 
 module _ (sig : Sig) where
   mutual
@@ -82,6 +92,7 @@ module _ (sig : Sig) where
     term_of-unplaced_tree (Apply f args) = ap (term.app (head_number (op_number sig f.text))) (terms_of-unplaced_trees args)
     term_of-unplaced_tree (InfixOf opened sign operands) = ap (term.app (head_number (sign_number sig sign.text))) (terms_of-unplaced_trees operands)
     term_of-unplaced_tree (Wild w) = refl
+    term_of-unplaced_tree (Optional w others default) = refl
 
     terms_of-unplaced_trees : (ts : Trees) → terms_of sig (unplaced_trees ts) ≡ terms_of sig ts
     terms_of-unplaced_trees no_trees = refl
@@ -93,10 +104,40 @@ module _ (sig : Sig) where
     pattern_of-unplaced_tree (Apply f args) = ap (pattern.app_pattern (head_number (op_number sig f.text))) (patterns_of-unplaced_trees args)
     pattern_of-unplaced_tree (InfixOf opened sign operands) = ap (pattern.app_pattern (head_number (sign_number sig sign.text))) (patterns_of-unplaced_trees operands)
     pattern_of-unplaced_tree (Wild w) = refl
+    pattern_of-unplaced_tree (Optional w others default) = ap (λ t. pattern.wild_pattern (pattern.optional (normal sig t)) (variable_of w.name)) (term_of-unplaced_tree default)
 
     patterns_of-unplaced_trees : (ts : Trees) → patterns_of sig (unplaced_trees ts) ≡ patterns_of sig ts
     patterns_of-unplaced_trees no_trees = refl
     patterns_of-unplaced_trees (more_trees t ts) = λ i. pattern.more_patterns (pattern_of-unplaced_tree t i) (patterns_of-unplaced_trees ts i)
+
+  mutual
+    has_term-unplaced_tree : (t : Tree) → has_term sig (unplaced_tree t) ≡ has_term sig t
+    has_term-unplaced_tree (Symbol w) = refl
+    has_term-unplaced_tree (Apply f args) = ap (λ b. is_some (op_number sig f.text) && b) (all_have_terms-unplaced_trees args)
+    has_term-unplaced_tree (InfixOf opened sign operands) = ap (λ b. is_some (sign_number sig sign.text) && b) (all_have_terms-unplaced_trees operands)
+    has_term-unplaced_tree (Wild w) = refl
+    has_term-unplaced_tree (Optional w others default) = refl
+
+    all_have_terms-unplaced_trees : (ts : Trees) → all_have_terms sig (unplaced_trees ts) ≡ all_have_terms sig ts
+    all_have_terms-unplaced_trees no_trees = refl
+    all_have_terms-unplaced_trees (more_trees t ts) = λ i. has_term-unplaced_tree t i && all_have_terms-unplaced_trees ts i
+
+  default_form-unplaced_tree : (others : List Wildcard) (default : Tree) → default_form sig (map unplaced_wildcard others) (unplaced_tree default) ≡ default_form sig others default
+  default_form-unplaced_tree [] default = λ i. if has_term-unplaced_tree default i then normal_form (normal sig (term_of-unplaced_tree default i)) else unknown
+  default_form-unplaced_tree (v ∷ others) default = refl
+
+  mutual
+    wildcards-unplaced_tree : (t : Tree) → pattern_wildcards sig (unplaced_tree t) ≡ map unplaced_pattern_wildcard (pattern_wildcards sig t)
+    wildcards-unplaced_tree (Symbol w) = refl
+    wildcards-unplaced_tree (Apply f args) = all_wildcards-unplaced_trees args
+    wildcards-unplaced_tree (InfixOf opened sign operands) = all_wildcards-unplaced_trees operands
+    wildcards-unplaced_tree (Wild w) = refl
+    wildcards-unplaced_tree (Optional w others default) = λ i. record { wildcard = unplaced_wildcard w; default = default_form-unplaced_tree others default i } ∷ []
+
+    all_wildcards-unplaced_trees : (ts : Trees) → all_pattern_wildcards sig (unplaced_trees ts) ≡ map unplaced_pattern_wildcard (all_pattern_wildcards sig ts)
+    all_wildcards-unplaced_trees no_trees = refl
+    all_wildcards-unplaced_trees (more_trees t ts) =
+        (λ i. wildcards-unplaced_tree t i ++ all_wildcards-unplaced_trees ts i) ∙ sym (map-append unplaced_pattern_wildcard (pattern_wildcards sig t) (all_pattern_wildcards sig ts))
 
 -- ---- flags
 
@@ -262,26 +303,28 @@ sign_faults-unplaced sign (Some d) = refl
 
 -- ---- numbers of arguments
 
-is_star-unplaced_tree : (t : Tree) → is_star (unplaced_tree t) ≡ is_star t
-is_star-unplaced_tree (Symbol w) = refl
-is_star-unplaced_tree (Apply f args) = refl
-is_star-unplaced_tree (InfixOf opened sign operands) = refl
-is_star-unplaced_tree (Wild w) = refl
+may_take_none-unplaced_tree : (t : Tree) → may_take_none (unplaced_tree t) ≡ may_take_none t
+may_take_none-unplaced_tree (Symbol w) = refl
+may_take_none-unplaced_tree (Apply f args) = refl
+may_take_none-unplaced_tree (InfixOf opened sign operands) = refl
+may_take_none-unplaced_tree (Wild w) = refl
+may_take_none-unplaced_tree (Optional w others default) = refl
 
 may_take_more-unplaced_tree : (assoc : Bool) (t : Tree) → may_take_more assoc (unplaced_tree t) ≡ may_take_more assoc t
 may_take_more-unplaced_tree assoc (Symbol w) = refl
 may_take_more-unplaced_tree assoc (Apply f args) = refl
 may_take_more-unplaced_tree assoc (InfixOf opened sign operands) = refl
 may_take_more-unplaced_tree assoc (Wild w) = refl
+may_take_more-unplaced_tree assoc (Optional w others default) = refl
 
 -- how many arguments these patterns take at least, with one pattern before them
-pub fewest-cons : (t : Tree) (ts : List Tree) → fewest (t ∷ ts) ≡ cond (not (is_star t)) 1 0 + fewest ts
-fewest-cons t ts = sum_by-cons (λ p. cond (not (is_star p)) 1 0) t ts
+pub fewest-cons : (t : Tree) (ts : List Tree) → fewest (t ∷ ts) ≡ cond (not (may_take_none t)) 1 0 + fewest ts
+fewest-cons t ts = sum_by-cons (λ p. cond (not (may_take_none p)) 1 0) t ts
 
 fewest-unplaced_trees : (ts : Trees) → fewest (tree_list (unplaced_trees ts)) ≡ fewest (tree_list ts)
 fewest-unplaced_trees no_trees = refl
 fewest-unplaced_trees (more_trees t ts) =
-    fewest-cons (unplaced_tree t) (tree_list (unplaced_trees ts)) ∙ (λ i. cond (not (is_star-unplaced_tree t i)) 1 0 + fewest-unplaced_trees ts i) ∙ sym (fewest-cons t (tree_list ts))
+    fewest-cons (unplaced_tree t) (tree_list (unplaced_trees ts)) ∙ (λ i. cond (not (may_take_none-unplaced_tree t i)) 1 0 + fewest-unplaced_trees ts i) ∙ sym (fewest-cons t (tree_list ts))
 
 some-unplaced_trees : (assoc : Bool) (ts : Trees) → list_any (may_take_more assoc) (tree_list (unplaced_trees ts)) ≡ list_any (may_take_more assoc) (tree_list ts)
 some-unplaced_trees assoc no_trees = refl
@@ -300,6 +343,13 @@ module _ (sig : Sig) where
   symbol_faults-unplaced : (w : Spot) → symbol_faults sig (unplaced_spot w) ≡ map unplaced_fault (symbol_faults sig w)
   symbol_faults-unplaced w = fault_if-unplaced (is_some (op_number sig w.text)) BareOperation w.place refl
 
+  term_wildcard_faults-unplaced : (w : Wildcard) → term_wildcard_faults sig (unplaced_wildcard w) ≡ map unplaced_fault (term_wildcard_faults sig w)
+  term_wildcard_faults-unplaced w = joined (fault_if (kind_unknown sig w.kind) UnknownKind w.place) (fault_at WildcardInTerm w.place ∷ []) (fault_if-unplaced (kind_unknown sig w.kind) UnknownKind w.place refl) refl
+
+  each_term_wildcard-unplaced : (ws : List Wildcard) → flat_map (term_wildcard_faults sig) (map unplaced_wildcard ws) ≡ map unplaced_fault (flat_map (term_wildcard_faults sig) ws)
+  each_term_wildcard-unplaced [] = refl
+  each_term_wildcard-unplaced (w ∷ ws) = joined (term_wildcard_faults sig w) (flat_map (term_wildcard_faults sig) ws) (term_wildcard_faults-unplaced w) (each_term_wildcard-unplaced ws)
+
   mutual
     term_faults-unplaced : (t : Tree) → term_faults sig (unplaced_tree t) ≡ map unplaced_fault (term_faults sig t)
     term_faults-unplaced (Symbol w) = symbol_faults-unplaced w
@@ -311,7 +361,9 @@ module _ (sig : Sig) where
         joined (arity_faults (allows (length (tree_list operands))) opened (op_signed sig sign.text)) (term_operand_faults sig (sign_faults sign (op_signed sig sign.text)) operands)
         (arity_faults-unplaced (allows (length (tree_list operands))) (allows (length (tree_list (unplaced_trees operands)))) (allows-unplaced_trees operands) opened (op_signed sig sign.text))
         (term_operand_faults-unplaced (sign_faults sign (op_signed sig sign.text)) (sign_faults (unplaced_spot sign) (op_signed sig sign.text)) operands (sign_faults-unplaced sign (op_signed sig sign.text)))
-    term_faults-unplaced (Wild w) = joined (fault_if (kind_unknown sig w.kind) UnknownKind w.place) (fault_at WildcardInTerm w.place ∷ []) (fault_if-unplaced (kind_unknown sig w.kind) UnknownKind w.place refl) refl
+    term_faults-unplaced (Wild w) = term_wildcard_faults-unplaced w
+    term_faults-unplaced (Optional w others default) =
+        joined (flat_map (term_wildcard_faults sig) (w ∷ others)) (term_faults sig default) (each_term_wildcard-unplaced (w ∷ others)) (term_faults-unplaced default)
 
     term_operand_faults-unplaced : (at_sign same : List TextFault) (ts : Trees) → same ≡ map unplaced_fault at_sign → term_operand_faults sig same (unplaced_trees ts) ≡ map unplaced_fault (term_operand_faults sig at_sign ts)
     term_operand_faults-unplaced at_sign same no_trees e = e
@@ -323,21 +375,21 @@ module _ (sig : Sig) where
     all_term_faults-unplaced (more_trees t ts) = joined (term_faults sig t) (all_term_faults sig ts) (term_faults-unplaced t) (all_term_faults-unplaced ts)
 
   -- a wildcard has the same faults wherever it and those before it stand
-  list_any-unplaced : (w : Wildcard) (before : List Wildcard) → list_any (differs (unplaced_wildcard w)) (map unplaced_wildcard before) ≡ list_any (differs w) before
+  list_any-unplaced : (w : PatternWildcard) (before : List PatternWildcard) → list_any (differs (unplaced_pattern_wildcard w)) (map unplaced_pattern_wildcard before) ≡ list_any (differs w) before
   list_any-unplaced w [] = refl
   list_any-unplaced w (v ∷ before) = ap (λ b. differs w v || b) (list_any-unplaced w before)
 
-  wildcard_faults-unplaced : (before : List Wildcard) (w : Wildcard) → wildcard_faults sig (map unplaced_wildcard before) (unplaced_wildcard w) ≡ map unplaced_fault (wildcard_faults sig before w)
+  wildcard_faults-unplaced : (before : List PatternWildcard) (w : PatternWildcard) → wildcard_faults sig (map unplaced_pattern_wildcard before) (unplaced_pattern_wildcard w) ≡ map unplaced_fault (wildcard_faults sig before w)
   wildcard_faults-unplaced before w =
-      joined (fault_if (kind_unknown sig w.kind) UnknownKind w.place) (fault_if (list_any (differs w) before) KindClash w.place)
-      (fault_if-unplaced (kind_unknown sig w.kind) UnknownKind w.place refl) (fault_if-unplaced (list_any (differs w) before) KindClash w.place (list_any-unplaced w before))
+      joined (fault_if (kind_unknown sig w.wildcard.kind) UnknownKind w.wildcard.place) (fault_if (list_any (differs w) before) KindClash w.wildcard.place)
+      (fault_if-unplaced (kind_unknown sig w.wildcard.kind) UnknownKind w.wildcard.place refl) (fault_if-unplaced (list_any (differs w) before) KindClash w.wildcard.place (list_any-unplaced w before))
 
   -- the wildcards so far, and those of one expression more
-  seen : (before : List Wildcard) (p : Tree) → map unplaced_wildcard before ++ wildcards (unplaced_tree p) ≡ map unplaced_wildcard (before ++ wildcards p)
-  seen before p = ap (λ l. map unplaced_wildcard before ++ l) (wildcards-unplaced_tree p) ∙ sym (map-append unplaced_wildcard before (wildcards p))
+  seen : (before : List PatternWildcard) (p : Tree) → map unplaced_pattern_wildcard before ++ pattern_wildcards sig (unplaced_tree p) ≡ map unplaced_pattern_wildcard (before ++ pattern_wildcards sig p)
+  seen before p = ap (λ l. map unplaced_pattern_wildcard before ++ l) (wildcards-unplaced_tree sig p) ∙ sym (map-append unplaced_pattern_wildcard before (pattern_wildcards sig p))
 
   mutual
-    pattern_faults-unplaced : (before : List Wildcard) (p : Tree) → pattern_faults sig (map unplaced_wildcard before) (unplaced_tree p) ≡ map unplaced_fault (pattern_faults sig before p)
+    pattern_faults-unplaced : (before : List PatternWildcard) (p : Tree) → pattern_faults sig (map unplaced_pattern_wildcard before) (unplaced_tree p) ≡ map unplaced_fault (pattern_faults sig before p)
     pattern_faults-unplaced before (Symbol w) = symbol_faults-unplaced w
     pattern_faults-unplaced before (Apply f args) =
         joined (head_faults (allows_patterns (tree_list args)) f (op_named sig f.text)) (all_pattern_faults sig before args)
@@ -347,29 +399,35 @@ module _ (sig : Sig) where
         joined (arity_faults (allows_patterns (tree_list operands)) opened (op_signed sig sign.text)) (pattern_operand_faults sig before (sign_faults sign (op_signed sig sign.text)) operands)
         (arity_faults-unplaced (allows_patterns (tree_list operands)) (allows_patterns (tree_list (unplaced_trees operands))) (allows_patterns-unplaced_trees operands) opened (op_signed sig sign.text))
         (pattern_operand_faults-unplaced before (sign_faults sign (op_signed sig sign.text)) (sign_faults (unplaced_spot sign) (op_signed sig sign.text)) operands (sign_faults-unplaced sign (op_signed sig sign.text)))
-    pattern_faults-unplaced before (Wild w) = wildcard_faults-unplaced before w
+    pattern_faults-unplaced before (Wild w) = wildcard_faults-unplaced before (without_default w)
+    pattern_faults-unplaced before (Optional w others default) =
+        joined (wildcard_faults sig before (with_default_form sig w others default)) (default_faults sig others default)
+        (ap (λ f. wildcard_faults sig (map unplaced_pattern_wildcard before) (record { wildcard = unplaced_wildcard w; default = f })) (default_form-unplaced_tree sig others default)
+        ∙ wildcard_faults-unplaced before (with_default_form sig w others default))
+        (joined (flat_map (term_wildcard_faults sig) others) (term_faults sig default) (each_term_wildcard-unplaced others) (term_faults-unplaced default))
 
-    pattern_operand_faults-unplaced : (before : List Wildcard) (at_sign same : List TextFault) (ps : Trees) → same ≡ map unplaced_fault at_sign
-        → pattern_operand_faults sig (map unplaced_wildcard before) same (unplaced_trees ps) ≡ map unplaced_fault (pattern_operand_faults sig before at_sign ps)
+    pattern_operand_faults-unplaced : (before : List PatternWildcard) (at_sign same : List TextFault) (ps : Trees) → same ≡ map unplaced_fault at_sign
+        → pattern_operand_faults sig (map unplaced_pattern_wildcard before) same (unplaced_trees ps) ≡ map unplaced_fault (pattern_operand_faults sig before at_sign ps)
     pattern_operand_faults-unplaced before at_sign same no_trees e = e
     pattern_operand_faults-unplaced before at_sign same (more_trees p ps) e =
-        joined (pattern_faults sig before p) (at_sign ++ all_pattern_faults sig (before ++ wildcards p) ps) (pattern_faults-unplaced before p)
-        (joined at_sign (all_pattern_faults sig (before ++ wildcards p) ps) e (ap (λ l. all_pattern_faults sig l (unplaced_trees ps)) (seen before p) ∙ all_pattern_faults-unplaced (before ++ wildcards p) ps))
+        joined (pattern_faults sig before p) (at_sign ++ all_pattern_faults sig (before ++ pattern_wildcards sig p) ps) (pattern_faults-unplaced before p)
+        (joined at_sign (all_pattern_faults sig (before ++ pattern_wildcards sig p) ps) e (ap (λ l. all_pattern_faults sig l (unplaced_trees ps)) (seen before p) ∙ all_pattern_faults-unplaced (before ++ pattern_wildcards sig p) ps))
 
-    all_pattern_faults-unplaced : (before : List Wildcard) (ps : Trees) → all_pattern_faults sig (map unplaced_wildcard before) (unplaced_trees ps) ≡ map unplaced_fault (all_pattern_faults sig before ps)
+    all_pattern_faults-unplaced : (before : List PatternWildcard) (ps : Trees) → all_pattern_faults sig (map unplaced_pattern_wildcard before) (unplaced_trees ps) ≡ map unplaced_fault (all_pattern_faults sig before ps)
     all_pattern_faults-unplaced before no_trees = refl
     all_pattern_faults-unplaced before (more_trees p ps) =
-        joined (pattern_faults sig before p) (all_pattern_faults sig (before ++ wildcards p) ps) (pattern_faults-unplaced before p)
-        (ap (λ l. all_pattern_faults sig l (unplaced_trees ps)) (seen before p) ∙ all_pattern_faults-unplaced (before ++ wildcards p) ps)
+        joined (pattern_faults sig before p) (all_pattern_faults sig (before ++ pattern_wildcards sig p) ps) (pattern_faults-unplaced before p)
+        (ap (λ l. all_pattern_faults sig l (unplaced_trees ps)) (seen before p) ∙ all_pattern_faults-unplaced (before ++ pattern_wildcards sig p) ps)
 
   loose_faults-unplaced : (p : Tree) → loose_faults (unplaced_tree p) ≡ map unplaced_fault (loose_faults p)
   loose_faults-unplaced (Symbol w) = refl
   loose_faults-unplaced (Apply f args) = refl
   loose_faults-unplaced (InfixOf opened sign operands) = refl
   loose_faults-unplaced (Wild w) = fault_if-unplaced (ltb 1 w.marks) LooseSequence w.place refl
+  loose_faults-unplaced (Optional w others default) = refl
 
   whole_pattern_faults-unplaced : (p : Tree) → whole_pattern_faults sig (unplaced_tree p) ≡ map unplaced_fault (whole_pattern_faults sig p)
-  whole_pattern_faults-unplaced p = joined (pattern_faults sig [] p) (loose_faults p) (pattern_faults-unplaced [] p) (loose_faults-unplaced p)
+  whole_pattern_faults-unplaced p = joined (loose_faults p) (pattern_faults sig [] p) (loose_faults-unplaced p) (pattern_faults-unplaced [] p)
 
   members-unplaced : (members : List Spot) → flat_map (symbol_faults sig) (map unplaced_spot members) ≡ map unplaced_fault (flat_map (symbol_faults sig) members)
   members-unplaced [] = refl
@@ -447,7 +505,7 @@ statement_faults-unplaced sig earlier (RuleOf name p) =
     (name_faults-unplaced 1000 (rule_names earlier) (is_large_pattern p) name (rule_names-unplaced earlier) (is_large_pattern-unplaced_tree p)) (whole_pattern_faults-unplaced sig p)
 statement_faults-unplaced sig earlier (SubjectOf name t) =
     joined (name_faults 1000 (subject_names earlier) (is_large_term t) name) (term_faults sig t)
-    (name_faults-unplaced 1000 (subject_names earlier) (is_large_term t) name (subject_names-unplaced earlier) (ap (ltb 100000) (nodes-unplaced_tree t))) (term_faults-unplaced sig t)
+    (name_faults-unplaced 1000 (subject_names earlier) (is_large_term t) name (subject_names-unplaced earlier) (is_large_term-unplaced_tree t)) (term_faults-unplaced sig t)
 
 module _ (rule : List Statement → Statement → List TextFault) (each : (earlier : List Statement) (s : Statement) → rule (map unplaced earlier) (unplaced s) ≡ map unplaced_fault (rule earlier s)) where
   faults_by-unplaced : (earlier ss : List Statement) → faults_by rule (map unplaced earlier) (map unplaced ss) ≡ map unplaced_fault (faults_by rule earlier ss)

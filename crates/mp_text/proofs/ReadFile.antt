@@ -14,7 +14,8 @@ use Rattle.mp_syntax.specs.Syntax.{Spot, Tree, Flag, Assoc, Comm, One, Infixed, 
 use Rattle.mp_text.specs.declared.fault.TextFault.{TextFault}
 use Rattle.mp_text.specs.Subject.{Subject}
 use Rattle.mp_text.specs.Build.{op_decl, op_decls, kind_decl, kind_decls, sig_with, rule_of, rules_of, subject_of, subjects_of}
-use Rattle.mp_text.specs.Checks.{fault_if, is_large_pattern, is_large_term, symbol_faults, term_faults, whole_pattern_faults, name_faults, has_bad_flags, held_sign_faults, op_faults, kind_faults, op_statement_faults, kind_statement_faults, statement_faults, faults_by}
+use Rattle.mp_text.specs.Checks.{fault_if, is_large_pattern, is_large_term, symbol_faults, term_faults, whole_pattern_faults, name_faults, has_bad_flags, held_sign_faults, op_faults, kind_faults, op_statement_faults, kind_statement_faults, faults_by}
+use Rattle.mp_text.specs.FileChecks.{statement_faults}
 use Rattle.mp_text.specs.Flags.{sign_spot, is_long_sign}
 use Rattle.mp_text.specs.Names.{rule_names, subject_names, number_of}
 use Rattle.mp_text.specs.Spelled.{piece}

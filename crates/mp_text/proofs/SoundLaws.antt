@@ -4,7 +4,7 @@ use Rattle.mp_text.proofs.Words.{both, first-of, second-of}
 use Rattle.mp_text.proofs.OpLaws.{declarable-op_faults}
 use Rattle.mp_text.proofs.Faultless.{nil-append, nil-fault_if, or-second, within, below, not-false, some-behind}
 use Rattle.std.proofs.Common.{eqb, ◌≡◌, ◌≤◌, ◌<◌, ◌+◌, ℕ, zero, suc, Bool, true, false, ◌||◌, ◌&&◌, leb, ltb, rules, List, [], ◌∷◌, ◌++◌, map, length, Option, Some, None, append-nil, append_assoc, length-append, refl, sym, ap, ◌∙◌, subst, arith}
-use Rattle.std.specs.Prelude.{not, slice_get, Result, Ok, Err, IfOk}
+use Rattle.std.specs.Prelude.{not, flat_map, slice_get, Result, Ok, Err, IfOk}
 use Rattle.std.specs.List.{list_all, AllByRecursion}
 use Rattle.std.specs.Str.{bytes_eq}
 use Rattle.std.proofs.lemmas.List.{length-map, map-append}
@@ -27,20 +27,27 @@ use Rattle.mp_pattern.specs.Size.{pattern_nodes, all_pattern_nodes}
 use Rattle.mp_pattern.specs.Value.{same_name}
 use Rattle.mp_pattern.specs.Variables.{uses, all_uses, variables}
 use Rattle.mp_syntax.specs.Syntax as syntax
-use Rattle.mp_syntax.specs.Syntax.{Spot, Wildcard, Tree, Symbol, Apply, InfixOf, Wild, Trees, no_trees, more_trees, Flag, Statement, OpOf, KindOf, RuleOf, SubjectOf, Fits, AreFit, AreStatements}
+use Rattle.mp_syntax.specs.Syntax.{Spot, Wildcard, Tree, Symbol, Apply, InfixOf, Wild, Optional, Trees, no_trees, more_trees, Flag, Statement, OpOf, KindOf, RuleOf, SubjectOf, Fits, AreFit, AreStatements}
 use Rattle.mp_text.specs.declared.fault.TextFault.{TextFault}
 use Rattle.mp_syntax.specs.declared.place.Place.{Place}
-use Rattle.mp_text.specs.Names.{is_among, named, wildcards, wildcard_names, all_wildcard_names, variable_names, rule_names, subject_names}
-use Rattle.mp_text.specs.Build.{op_number, sign_number, head_number, op_decl, op_decls, kind_shape, shape_of, variable_of, term_of, terms_of, pattern_of, patterns_of, rules_of, subjects_of, sig_of, file_tree_of}
-use Rattle.mp_text.specs.Checks.{fault_if, kind_unknown, nodes, all_nodes, is_large_pattern, is_large_term, op_at, op_named, op_signed, head_faults, arity_faults, sign_faults, allows_patterns, term_faults, term_operand_faults, all_term_faults, pattern_faults, pattern_operand_faults, all_pattern_faults, loose_faults, whole_pattern_faults, name_faults, op_faults, op_statement_faults, kind_statement_faults, declaration_faults, statement_faults, faults_by, faults}
+use Rattle.mp_text.specs.Names.{is_among, named, wildcard_names, all_wildcard_names, variable_names, rule_names, subject_names}
+use Rattle.mp_text.specs.Build.{op_number, sign_number, head_number, kind_number, op_decl, op_decls, kind_shape, shape_of, variable_of, term_of, terms_of, pattern_of, patterns_of, rules_of, subjects_of, sig_of, file_tree_of}
+use Rattle.mp_text.specs.Wildcards.{PatternWildcard, with_default_form, pattern_wildcards}
+use Rattle.mp_text.specs.Checks.{fault_if, kind_unknown, nodes, all_nodes, has_large_default, some_large_default, is_large_pattern, is_large_term, op_at, op_named, op_signed, head_faults, arity_faults, sign_faults, allows_patterns, term_faults, term_operand_faults, all_term_faults, term_wildcard_faults, default_faults, wildcard_faults, pattern_faults, pattern_operand_faults, all_pattern_faults, loose_faults, whole_pattern_faults, name_faults, op_faults, op_statement_faults, kind_statement_faults, declaration_faults, faults_by}
+use Rattle.mp_text.specs.FileChecks.{statement_faults, faults}
 use Rattle.mp_pattern.specs.Sound.{DefaultIsNormal, DefaultsAreNormal, AllDefaultsAreNormal, holds_ops, all_hold_ops}
+use Rattle.mp_pattern.specs.Limits.{DefaultIsSmall, DefaultsAreSmall, AllDefaultsAreSmall}
 use Rattle.mp_pattern.proofs.ClashLaws.{first_clash-normal_pattern}
 use Rattle.mp_pattern.proofs.Preserved.{defaults-normal_pattern, holds_ops-normal_pattern}
 use Rattle.mp_pattern.proofs.NormalShape.{normal_pattern-normal_pattern}
 use Rattle.mp_pattern.proofs.NormalMeasures.{pattern_nodes-normal_pattern}
 use Rattle.mp_pattern.proofs.VariableLaws.{IsPermutation-variables}
+use Rattle.mp_syntax.proofs.Trees.{fits-optional}
 use Rattle.mp_text.proofs.Clashes.{nil-pattern_operands, first_clash-pattern_of}
-use Rattle.mp_text.specs.Sound.{IsSoundPattern, IsSoundTerm, IsSoundFile}
+use Rattle.mp_text.proofs.Defaults.{small-normal_pattern, formed-normal_pattern, nil-term_operands, no-optional_term}
+use Rattle.mp_text.proofs.PatternDepth.{pattern_depth-normal_pattern}
+use Rattle.mp_text.specs.Sound.{DefaultIsFormed, DefaultsAreFormed, AllDefaultsAreFormed, IsSoundPattern, IsSoundTerm, IsSoundFile}
+use Rattle.mp_text.specs.Depth.{wildcard_depth, pattern_depth, greatest_pattern_depth}
 use Rattle.mp_text.specs.declared.fault.TextError.{TextError}
 use Rattle.mp_text.specs.declared.file.File as code_file
 use Rattle.mp_text.specs.File.{FileTree, file_tree}
@@ -81,14 +88,6 @@ module _ (sig : Sig) where
   length-terms_of no_trees = refl
   length-terms_of (more_trees t ts) = ap suc (length-terms_of ts)
 
-  -- operands without faults, and a sign without faults
-  pub nil-term_operands : (at_sign : List TextFault) (ts : Trees) → term_operand_faults sig at_sign ts ≡ [] → (at_sign ≡ []) × (all_term_faults sig ts ≡ [])
-  nil-term_operands at_sign no_trees h = (h, refl)
-  nil-term_operands at_sign (more_trees t ts) h =
-      let p = nil-append (term_faults sig t) (at_sign ++ all_term_faults sig ts) h in
-      let q = nil-append at_sign (all_term_faults sig ts) p.1 in
-      (q.0, ap (λ l. l ++ all_term_faults sig ts) p.0 ∙ q.1)
-
   mutual
     -- a term without faults is well formed
     pub well_formed-term_of : (t : Tree) → term_faults sig t ≡ [] → well_formed sig (term_of sig t) ≡ true
@@ -100,10 +99,11 @@ module _ (sig : Sig) where
     well_formed-term_of (InfixOf opened sign operands) h =
         let at_sign = sign_faults sign (op_signed sig sign.text) in
         let p = nil-append (arity_faults (allows (length (syntax.tree_list operands))) opened (op_signed sig sign.text)) (term_operand_faults sig at_sign operands) h in
-        let q = nil-term_operands at_sign operands p.1 in
+        let q = nil-term_operands sig at_sign operands p.1 in
         let d = found-infix sig (allows (length (syntax.tree_list operands))) opened sign (sign_number sig sign.text) p.0 q.0 in
         rw (d.held, length-terms_of operands, d.passed) (all_well_formed-terms_of operands q.1)
     well_formed-term_of (Wild w) h = absurd (some-behind (fault_if (kind_unknown sig w.kind) _ w.place) _ h)
+    well_formed-term_of (Optional w others default) h = absurd (no-optional_term sig w others default h)
 
     all_well_formed-terms_of : (ts : Trees) → all_term_faults sig ts ≡ [] → all_well_formed sig (terms_of sig ts) ≡ true
     all_well_formed-terms_of no_trees h = refl
@@ -118,6 +118,7 @@ module _ (sig : Sig) where
     node_count-term_of (Apply f args) = ap (λ n. n + 1) (node_counts-terms_of args)
     node_count-term_of (InfixOf opened sign operands) = ap (λ n. n + 1) (node_counts-terms_of operands)
     node_count-term_of (Wild w) = refl
+    node_count-term_of (Optional w others default) = refl
 
     node_counts-terms_of : (ts : Trees) → node_counts (terms_of sig ts) ≡ all_nodes ts
     node_counts-terms_of no_trees = refl
@@ -132,6 +133,7 @@ module _ (sig : Sig) where
     depth-term_of zero (InfixOf opened sign operands) h = absurd h
     depth-term_of (suc room) (InfixOf opened sign operands) h = omega (arith, depth-terms_of room operands h.1)
     depth-term_of room (Wild w) h = omega arith
+    depth-term_of room (Optional w others default) h = omega arith
 
     depth-terms_of : (room : ℕ) (ts : Trees) → AreFit room ts → greatest_depth (terms_of sig ts) ≤ room
     depth-terms_of room no_trees h = omega arith
@@ -139,15 +141,15 @@ module _ (sig : Sig) where
 
   -- ---- patterns
 
-  -- no wildcard of this stage is optional
-  default-shape_of : (kind : List ℕ) (marks : ℕ) → DefaultIsNormal sig (kind_shape sig kind marks)
-  default-shape_of (b ∷ bs) marks = tt
-  default-shape_of [] marks = by_tests (eqb marks 3) (eqb marks 2)
+  -- what holds of each wildcard without a default holds of what a wildcard without one takes
+  each-kind_shape : (P : pattern.Wildcard → Type 0) → P pattern.dot → P pattern.plus → P pattern.star → ((k : ℕ) → P (pattern.kind k)) → (kind : List ℕ) (marks : ℕ) → P (kind_shape sig kind marks)
+  each-kind_shape P dot plus star of_kind (b ∷ bs) marks = of_kind (head_number (kind_number sig (b ∷ bs)))
+  each-kind_shape P dot plus star of_kind [] marks = by_tests (eqb marks 3) (eqb marks 2)
     where
-      by_tests : (three two : Bool) → DefaultIsNormal sig (if three then pattern.star else (if two then pattern.plus else pattern.dot))
-      by_tests true two = tt
-      by_tests false true = tt
-      by_tests false false = tt
+      by_tests : (three two : Bool) → P (if three then pattern.star else (if two then pattern.plus else pattern.dot))
+      by_tests true two = star
+      by_tests false true = plus
+      by_tests false false = dot
 
   mutual
     -- the defaults of a pattern are normal
@@ -155,15 +157,69 @@ module _ (sig : Sig) where
     defaults-pattern_of (Symbol w) = tt
     defaults-pattern_of (Apply f args) = defaults-patterns_of args
     defaults-pattern_of (InfixOf opened sign operands) = defaults-patterns_of operands
-    defaults-pattern_of (Wild w) = default-shape_of w.kind w.marks
+    defaults-pattern_of (Wild w) = each-kind_shape (DefaultIsNormal sig) tt tt tt (λ k. tt) w.kind w.marks
+    defaults-pattern_of (Optional w others default) = normal-normal sig (term_of sig default)
 
     defaults-patterns_of : (ps : Trees) → AllDefaultsAreNormal sig (patterns_of sig ps)
     defaults-patterns_of no_trees = tt
     defaults-patterns_of (more_trees p ps) = (defaults-pattern_of p, defaults-patterns_of ps)
 
   mutual
+    -- the defaults of a pattern are small, where none is large as it is written
+    small-pattern_of : (p : Tree) → has_large_default p ≡ false → DefaultsAreSmall (pattern_of sig p)
+    small-pattern_of (Symbol w) h = tt
+    small-pattern_of (Apply f args) h = small-patterns_of args h
+    small-pattern_of (InfixOf opened sign operands) h = small-patterns_of operands h
+    small-pattern_of (Wild w) h = each-kind_shape DefaultIsSmall tt tt tt (λ k. tt) w.kind w.marks
+    small-pattern_of (Optional w others default) h =
+        let few : nodes default ≤ 64 = within 64 (nodes default) (or-second (ltb 64 (nodes default)) (has_large_default default) h).0 in
+        omega (arith, node_count-normal sig (term_of sig default), node_count-term_of default)
+
+    small-patterns_of : (ps : Trees) → some_large_default ps ≡ false → AllDefaultsAreSmall (patterns_of sig ps)
+    small-patterns_of no_trees h = tt
+    small-patterns_of (more_trees p ps) h =
+        let o = or-second (has_large_default p) (some_large_default ps) h in
+        (small-pattern_of p o.0, small-patterns_of ps o.1)
+
+  mutual
+    -- the defaults of a pattern without faults are well formed
+    formed-pattern_of : all_in_order sig.ops ≡ true → (before : List PatternWildcard) (p : Tree) → pattern_faults sig before p ≡ [] → DefaultsAreFormed sig (pattern_of sig p)
+    formed-pattern_of ordered before (Symbol w) h = tt
+    formed-pattern_of ordered before (Apply f args) h = formed-patterns_of ordered before args (nil-append (head_faults (allows_patterns (syntax.tree_list args)) f (op_named sig f.text)) (all_pattern_faults sig before args) h).1
+    formed-pattern_of ordered before (InfixOf opened sign operands) h =
+        let at_sign = sign_faults sign (op_signed sig sign.text) in
+        let p = nil-append (arity_faults (allows_patterns (syntax.tree_list operands)) opened (op_signed sig sign.text)) (pattern_operand_faults sig before at_sign operands) h in
+        formed-patterns_of ordered before operands (nil-pattern_operands sig before at_sign operands p.1).1
+    formed-pattern_of ordered before (Wild w) h = each-kind_shape (DefaultIsFormed sig) tt tt tt (λ k. tt) w.kind w.marks
+    formed-pattern_of ordered before (Optional w others default) h =
+        let p = nil-append (wildcard_faults sig before (with_default_form sig w others default)) (default_faults sig others default) h in
+        let q = nil-append (flat_map (term_wildcard_faults sig) others) (term_faults sig default) p.1 in
+        wf-normal sig ordered (term_of sig default) (well_formed-term_of default q.1)
+
+    formed-patterns_of : all_in_order sig.ops ≡ true → (before : List PatternWildcard) (ps : Trees) → all_pattern_faults sig before ps ≡ [] → AllDefaultsAreFormed sig (patterns_of sig ps)
+    formed-patterns_of ordered before no_trees h = tt
+    formed-patterns_of ordered before (more_trees p ps) h =
+        let q = nil-append (pattern_faults sig before p) (all_pattern_faults sig (before ++ pattern_wildcards sig p) ps) h in
+        (formed-pattern_of ordered before p q.0, formed-patterns_of ordered (before ++ pattern_wildcards sig p) ps q.1)
+
+  mutual
+    -- a pattern is no deeper than its brackets, with those of its defaults
+    depth-pattern_of : (room : ℕ) (p : Tree) → Fits room p → pattern_depth (pattern_of sig p) ≤ room
+    depth-pattern_of room (Symbol w) h = omega arith
+    depth-pattern_of zero (Apply f args) h = absurd h
+    depth-pattern_of (suc room) (Apply f args) h = omega (arith, depth-patterns_of room args h)
+    depth-pattern_of zero (InfixOf opened sign operands) h = absurd h
+    depth-pattern_of (suc room) (InfixOf opened sign operands) h = omega (arith, depth-patterns_of room operands h.1)
+    depth-pattern_of room (Wild w) h = each-kind_shape (λ v. wildcard_depth v ≤ room) (omega arith) (omega arith) (omega arith) (λ k. omega arith) w.kind w.marks
+    depth-pattern_of room (Optional w others default) h = omega (arith, depth-normal sig (term_of sig default), depth-term_of room default (fits-optional room w others default h).2)
+
+    depth-patterns_of : (room : ℕ) (ps : Trees) → AreFit room ps → greatest_pattern_depth (patterns_of sig ps) ≤ room
+    depth-patterns_of room no_trees h = omega arith
+    depth-patterns_of room (more_trees p ps) h = omega (arith, depth-pattern_of room p h.0, depth-patterns_of room ps h.1)
+
+  mutual
     -- the operations of a pattern without faults are held
-    pub holds_ops-pattern_of : (before : List Wildcard) (p : Tree) → pattern_faults sig before p ≡ [] → holds_ops sig (pattern_of sig p) ≡ true
+    pub holds_ops-pattern_of : (before : List PatternWildcard) (p : Tree) → pattern_faults sig before p ≡ [] → holds_ops sig (pattern_of sig p) ≡ true
     holds_ops-pattern_of before (Symbol w) h = refl
     holds_ops-pattern_of before (Apply f args) h =
         let p = nil-append (head_faults (allows_patterns (syntax.tree_list args)) f (op_named sig f.text)) (all_pattern_faults sig before args) h in
@@ -174,12 +230,13 @@ module _ (sig : Sig) where
         let q = nil-pattern_operands sig before at_sign operands p.1 in
         rw ((found-infix sig (allows_patterns (syntax.tree_list operands)) opened sign (sign_number sig sign.text) p.0 q.0).held) (all_hold_ops-patterns_of before operands q.1)
     holds_ops-pattern_of before (Wild w) h = refl
+    holds_ops-pattern_of before (Optional w others default) h = refl
 
-    all_hold_ops-patterns_of : (before : List Wildcard) (ps : Trees) → all_pattern_faults sig before ps ≡ [] → all_hold_ops sig (patterns_of sig ps) ≡ true
+    all_hold_ops-patterns_of : (before : List PatternWildcard) (ps : Trees) → all_pattern_faults sig before ps ≡ [] → all_hold_ops sig (patterns_of sig ps) ≡ true
     all_hold_ops-patterns_of before no_trees h = refl
     all_hold_ops-patterns_of before (more_trees p ps) h =
-        let q = nil-append (pattern_faults sig before p) (all_pattern_faults sig (before ++ wildcards p) ps) h in
-        rw (holds_ops-pattern_of before p q.0) (all_hold_ops-patterns_of (before ++ wildcards p) ps q.1)
+        let q = nil-append (pattern_faults sig before p) (all_pattern_faults sig (before ++ pattern_wildcards sig p) ps) h in
+        rw (holds_ops-pattern_of before p q.0) (all_hold_ops-patterns_of (before ++ pattern_wildcards sig p) ps q.1)
 
   -- a pattern that isn't loose doesn't become it in its normal form
   is_loose-collapsed : (f : ℕ) (ps : List pattern.Pattern) → is_loose (collapsed sig f ps) ≡ false
@@ -196,11 +253,12 @@ module _ (sig : Sig) where
   is_loose-normal_pattern (pattern.app_pattern f ps) h = is_loose-collapsed f (in_order sig f (flattened sig f (normal_patterns sig ps)))
   is_loose-normal_pattern (pattern.wild_pattern w x) h = h
 
-  -- a pattern that doesn't stand alone as a plus or star wildcard isn't loose
+  -- a pattern that doesn't stand alone as a plus, star or optional wildcard isn't loose
   is_loose-loose_faults : (p : Tree) → loose_faults p ≡ [] → is_loose (pattern_of sig p) ≡ false
   is_loose-loose_faults (Symbol w) h = refl
   is_loose-loose_faults (Apply f args) h = refl
   is_loose-loose_faults (InfixOf opened sign operands) h = refl
+  is_loose-loose_faults (Optional w others default) h = cc
   is_loose-loose_faults (Wild w) h = go w.kind w.marks (within 1 w.marks (nil-fault_if (ltb 1 w.marks) _ w.place h))
     where
       by_tests : (three two : Bool) → three ≡ false → two ≡ false → is_loose (pattern.wild_pattern (if three then pattern.star else (if two then pattern.plus else pattern.dot)) (variable_of w.name)) ≡ false
@@ -222,6 +280,7 @@ module _ (sig : Sig) where
     pattern_nodes-pattern_of (Apply f args) = ap (λ n. n + 1) (all_pattern_nodes-patterns_of args)
     pattern_nodes-pattern_of (InfixOf opened sign operands) = ap (λ n. n + 1) (all_pattern_nodes-patterns_of operands)
     pattern_nodes-pattern_of (Wild w) = refl
+    pattern_nodes-pattern_of (Optional w others default) = refl
 
     all_pattern_nodes-patterns_of : (ps : Trees) → all_pattern_nodes (patterns_of sig ps) ≡ all_nodes ps
     all_pattern_nodes-patterns_of no_trees = refl
@@ -239,6 +298,7 @@ module _ (sig : Sig) where
     names-uses f (Apply g args) = names-all_uses (Some (head_number (op_number sig g.text))) args
     names-uses f (InfixOf opened sign operands) = names-all_uses (Some (head_number (sign_number sig sign.text))) operands
     names-uses f (Wild w) = names-wild f (shape_of sig w) w.name
+    names-uses f (Optional w others default) = names-wild f (pattern.optional (normal sig (term_of sig default))) w.name
 
     names-all_uses : (f : Option ℕ) (ps : Trees) → map (λ u. u.name) (all_uses f (patterns_of sig ps)) ≡ all_wildcard_names ps
     names-all_uses f no_trees = refl
@@ -293,26 +353,30 @@ named-by most earlier large name h =
     record { other = nil-fault_if (is_among name.text earlier) _ name.place p.0; few = below most (length earlier) o.0; small = o.1 }
 
 -- the normal form of a pattern without faults
-sound-pattern : (sig : Sig) (p : Tree) → is_large_pattern p ≡ false → whole_pattern_faults sig p ≡ [] → IsSoundPattern sig (normal_pattern sig (pattern_of sig p))
-sound-pattern sig p small none =
-    let o = or-second (ltb 64 (nodes p)) (ltb 32 (length (variable_names p))) small in
-    let q = nil-append (pattern_faults sig [] p) (loose_faults p) none in
+sound-pattern : (sig : Sig) → all_in_order sig.ops ≡ true → (p : Tree) → is_large_pattern p ≡ false → whole_pattern_faults sig p ≡ [] → Fits 100 p → IsSoundPattern sig (normal_pattern sig (pattern_of sig p))
+sound-pattern sig ordered p small none fits =
+    let o = or-second (ltb 64 (nodes p)) (ltb 32 (length (variable_names p)) || has_large_default p) small in
+    let l = or-second (ltb 32 (length (variable_names p))) (has_large_default p) o.1 in
+    let q = nil-append (loose_faults p) (pattern_faults sig [] p) none in
     let nodes_few : nodes p ≤ 64 = within 64 (nodes p) o.0 in
-    let names_few : length (variable_names p) ≤ 32 = within 32 (length (variable_names p)) o.1 in
+    let names_few : length (variable_names p) ≤ 32 = within 32 (length (variable_names p)) l.0 in
     record {
       normal = normal_pattern-normal_pattern sig (pattern_of sig p);
       defaults = defaults-normal_pattern sig (pattern_of sig p) (defaults-pattern_of sig p);
-      held = holds_ops-normal_pattern sig (pattern_of sig p) (holds_ops-pattern_of sig [] p q.0);
+      formed_defaults = formed-normal_pattern sig (pattern_of sig p) (formed-pattern_of sig ordered [] p q.1);
+      small_defaults = small-normal_pattern sig (pattern_of sig p) (small-pattern_of sig p l.1);
+      held = holds_ops-normal_pattern sig (pattern_of sig p) (holds_ops-pattern_of sig [] p q.1);
       nodes = omega (arith, pattern_nodes-normal_pattern sig (pattern_of sig p), pattern_nodes-pattern_of sig p);
+      shallow = omega (arith, pattern_depth-normal_pattern sig (pattern_of sig p), depth-pattern_of sig 100 p fits);
       few_variables = omega (arith, length_permutation (variables (pattern_of sig p)) (variables (normal_pattern sig (pattern_of sig p))) (IsPermutation-variables sig (pattern_of sig p)), ap length (variables-pattern_of sig p));
-      plain_root = is_loose-normal_pattern sig (pattern_of sig p) (is_loose-loose_faults sig p q.1);
-      no_clash = first_clash-normal_pattern sig (pattern_of sig p) (first_clash-pattern_of sig p q.0);
+      plain_root = is_loose-normal_pattern sig (pattern_of sig p) (is_loose-loose_faults sig p q.0);
+      no_clash = first_clash-normal_pattern sig (pattern_of sig p) (first_clash-pattern_of sig p q.1);
     }
 
 -- the normal form of a term without faults
 sound-term : (sig : Sig) → all_in_order sig.ops ≡ true → (t : Tree) → is_large_term t ≡ false → term_faults sig t ≡ [] → Fits 100 t → IsSoundTerm sig (normal sig (term_of sig t))
 sound-term sig ordered t small none fits =
-    let few : nodes t ≤ 100000 = within 100000 (nodes t) small in
+    let few : nodes t ≤ 100000 = within 100000 (nodes t) (or-second (ltb 100000 (nodes t)) (has_large_default t) small).0 in
     record {
       normal = normal-normal sig (term_of sig t);
       formed = wf-normal sig ordered (term_of sig t) (well_formed-term_of sig t none);
@@ -336,16 +400,16 @@ all_in_order-op_decls earlier (SubjectOf name t ∷ ss) h = all_in_order-op_decl
 
 module _ (sig : Sig) where
   -- the patterns of statements without faults
-  sound-rules : (earlier ss : List Statement) → faults_by (statement_faults sig) earlier ss ≡ [] → AllByRecursion (λ r. IsSoundPattern sig r.pattern) (rules_of sig ss)
-  sound-rules earlier [] h = tt
-  sound-rules earlier (OpOf name least more flags ∷ ss) h = sound-rules (earlier ++ OpOf name least more flags ∷ []) ss h
-  sound-rules earlier (KindOf name members ∷ ss) h = sound-rules (earlier ++ KindOf name members ∷ []) ss h
-  sound-rules earlier (RuleOf name p ∷ ss) h =
+  sound-rules : all_in_order sig.ops ≡ true → (earlier ss : List Statement) → AreStatements ss → faults_by (statement_faults sig) earlier ss ≡ [] → AllByRecursion (λ r. IsSoundPattern sig r.pattern) (rules_of sig ss)
+  sound-rules ordered earlier [] fit h = tt
+  sound-rules ordered earlier (OpOf name least more flags ∷ ss) fit h = sound-rules ordered (earlier ++ OpOf name least more flags ∷ []) ss fit.1 h
+  sound-rules ordered earlier (KindOf name members ∷ ss) fit h = sound-rules ordered (earlier ++ KindOf name members ∷ []) ss fit.1 h
+  sound-rules ordered earlier (RuleOf name p ∷ ss) fit h =
       let q = nil-append (statement_faults sig earlier (RuleOf name p)) (faults_by (statement_faults sig) (earlier ++ RuleOf name p ∷ []) ss) h in
       let r = nil-append (name_faults 1000 (rule_names earlier) (is_large_pattern p) name) (whole_pattern_faults sig p) q.0 in
-      (sound-pattern sig p (named-by 1000 (rule_names earlier) (is_large_pattern p) name r.0).small r.1, sound-rules (earlier ++ RuleOf name p ∷ []) ss q.1)
-  sound-rules earlier (SubjectOf name t ∷ ss) h =
-      sound-rules (earlier ++ SubjectOf name t ∷ []) ss (nil-append (statement_faults sig earlier (SubjectOf name t)) (faults_by (statement_faults sig) (earlier ++ SubjectOf name t ∷ []) ss) h).1
+      (sound-pattern sig ordered p (named-by 1000 (rule_names earlier) (is_large_pattern p) name r.0).small r.1 fit.0, sound-rules ordered (earlier ++ RuleOf name p ∷ []) ss fit.1 q.1)
+  sound-rules ordered earlier (SubjectOf name t ∷ ss) fit h =
+      sound-rules ordered (earlier ++ SubjectOf name t ∷ []) ss fit.1 (nil-append (statement_faults sig earlier (SubjectOf name t)) (faults_by (statement_faults sig) (earlier ++ SubjectOf name t ∷ []) ss) h).1
 
   -- the terms of statements without faults
   sound-subjects : all_in_order sig.ops ≡ true → (earlier ss : List Statement) → AreStatements ss → faults_by (statement_faults sig) earlier ss ≡ [] → AllByRecursion (λ s. IsSoundTerm sig s.term) (subjects_of sig ss)
@@ -442,7 +506,7 @@ sound-file ss fit h =
     let rules = good-rules sig [] ss none (record { distinct = refl; few = omega arith }) in
     let subjects = good-subjects sig [] ss none (record { distinct = refl; few = omega arith }) in
     record {
-      patterns = sound-rules sig [] ss none;
+      patterns = sound-rules sig ordered [] ss fit none;
       terms = sound-subjects sig ordered [] ss fit none;
       rule_names = rw (names-rules_of sig ss) rules.distinct;
       subject_names = rw (names-subjects_of sig ss) subjects.distinct;

@@ -10,14 +10,14 @@ use Rattle.mp_term.specs.Signature.{Sig, Kind}
 use Rattle.mp_pattern.specs.PatternTree as pattern
 use Rattle.mp_pattern.specs.Admission.{Rule}
 use Rattle.mp_syntax.specs.Tokens.{first_place}
-use Rattle.mp_syntax.specs.Syntax.{Tree, Apply, InfixOf, Trees, no_trees, more_trees, tree_list, Flag, Assoc, Comm, One, Statement, OpOf, KindOf, RuleOf, SubjectOf, IsSyntaxOf, FitsStatement, AreStatements, HasNames, HaveNames, StatementHasNames, StatementsHaveNames}
+use Rattle.mp_syntax.specs.Syntax.{Tree, Apply, InfixOf, Optional, Trees, no_trees, more_trees, tree_list, Flag, Assoc, Comm, One, Statement, OpOf, KindOf, RuleOf, SubjectOf, IsSyntaxOf, FitsStatement, AreStatements, HasNames, HaveNames, StatementHasNames, StatementsHaveNames}
 use Rattle.mp_syntax.specs.Printed.{tree_text, first_text, others_text, plus_text, flag_text, member_text, line_end, statement_text, statements_text, unplaced_spot, unplaced_tree, unplaced_trees, unplaced_flag, unplaced}
 use Rattle.mp_syntax.proofs.Printed.{printed-again}
 use Rattle.mp_text.specs.Subject.{Subject}
 use Rattle.mp_text.specs.File.{FileTree}
 use Rattle.mp_text.specs.Printing.{separated, preceded, prefix_text, infix_text, application_text, held_text, term_text, term_texts}
 use Rattle.mp_text.specs.PrintedFile.{shape_text, pattern_text, pattern_texts, text_if, op_text, head_text, kind_text, rule_text, subject_text, file_text}
-use Rattle.mp_text.specs.Spelled.{piece, application_spelling, held_spelling, term_spelling, term_spellings, wildcard_spelling, pattern_spelling, pattern_spellings, flag_if, sign_flags, op_flags, op_spelling, kind_spelling, rule_spelling, subject_spelling, file_spelling}
+use Rattle.mp_text.specs.Spelled.{piece, wildcard_piece, application_spelling, held_spelling, term_spelling, term_spellings, wildcard_spelling, pattern_spelling, pattern_spellings, flag_if, sign_flags, op_flags, op_spelling, kind_spelling, rule_spelling, subject_spelling, file_spelling}
 
 -- ---- applications
 
@@ -63,35 +63,22 @@ mutual
 
 -- ---- patterns
 
--- where an application has names, its arguments have
-names-args : (d : OpDecl) (sign : Option Text) (ts : Trees) → HasNames (application_spelling d sign ts) → HaveNames ts
-names-args d None ts h = h.1
-names-args d (Some sign) ts h = go (leb 2 (length (tree_list ts))) h
-  where
-    go : (v : Bool) → HasNames (cond v (InfixOf first_place (piece sign) ts) (Apply (piece d.name) ts)) → HaveNames ts
-    go true h = h.1
-    go false h = h.1
-
-held_text-args : (o : Option OpDecl) (texts : List Text) (ts : Trees) → HasNames (held_spelling o ts) → (HaveNames ts → texts ≡ tree_texts ts) → held_text o texts ≡ tree_text (held_spelling o ts)
-held_text-args None texts ts h same = refl
-held_text-args (Some d) texts ts h same = ap (application_text d d.sign) (same (names-args d d.sign ts h)) ∙ application_text-spelling d d.sign ts
-
-wildcard_text-spelling : (sig : Sig) (w : pattern.Wildcard) (x : Text) → HasNames (wildcard_spelling sig w x) → x ++ shape_text sig w ≡ tree_text (wildcard_spelling sig w x)
-wildcard_text-spelling sig pattern.dot x h = refl
-wildcard_text-spelling sig (pattern.kind k) x h = refl
-wildcard_text-spelling sig pattern.plus x h = refl
-wildcard_text-spelling sig pattern.star x h = refl
-wildcard_text-spelling sig (pattern.optional t) x h = absurd (omega (arith, h.some_marks))
+wildcard_text-spelling : (sig : Sig) (w : pattern.Wildcard) (x : Text) → x ++ shape_text sig w ≡ tree_text (wildcard_spelling sig w x)
+wildcard_text-spelling sig pattern.dot x = refl
+wildcard_text-spelling sig (pattern.kind k) x = refl
+wildcard_text-spelling sig pattern.plus x = refl
+wildcard_text-spelling sig pattern.star x = refl
+wildcard_text-spelling sig (pattern.optional t) x = ap (λ l. x ++ (codes "_:" ++ l)) (term_text-spelling sig t) ∙ sym (simp append_assoc)
 
 mutual
-  pattern_text-spelling : (sig : Sig) (p : pattern.Pattern) → HasNames (pattern_spelling sig p) → pattern_text sig p ≡ tree_text (pattern_spelling sig p)
-  pattern_text-spelling sig (pattern.symbol_pattern n) h = refl
-  pattern_text-spelling sig (pattern.app_pattern f ps) h = held_text-args (slice_get sig.ops f) (pattern_texts sig ps) (pattern_spellings sig ps) h (λ k. pattern_texts-spellings sig ps k)
-  pattern_text-spelling sig (pattern.wild_pattern w x) h = wildcard_text-spelling sig w (unwrap_or x []) h
+  pattern_text-spelling : (sig : Sig) (p : pattern.Pattern) → pattern_text sig p ≡ tree_text (pattern_spelling sig p)
+  pattern_text-spelling sig (pattern.symbol_pattern n) = refl
+  pattern_text-spelling sig (pattern.app_pattern f ps) = ap (held_text (slice_get sig.ops f)) (pattern_texts-spellings sig ps) ∙ held_text-spelling (slice_get sig.ops f) (pattern_spellings sig ps)
+  pattern_text-spelling sig (pattern.wild_pattern w x) = wildcard_text-spelling sig w (unwrap_or x [])
 
-  pattern_texts-spellings : (sig : Sig) (ps : pattern.Patterns) → HaveNames (pattern_spellings sig ps) → pattern_texts sig ps ≡ tree_texts (pattern_spellings sig ps)
-  pattern_texts-spellings sig pattern.no_patterns h = refl
-  pattern_texts-spellings sig (pattern.more_patterns p ps) h = λ i. pattern_text-spelling sig p h.0 i ∷ pattern_texts-spellings sig ps h.1 i
+  pattern_texts-spellings : (sig : Sig) (ps : pattern.Patterns) → pattern_texts sig ps ≡ tree_texts (pattern_spellings sig ps)
+  pattern_texts-spellings sig pattern.no_patterns = refl
+  pattern_texts-spellings sig (pattern.more_patterns p ps) = λ i. pattern_text-spelling sig p i ∷ pattern_texts-spellings sig ps i
 
 -- ---- statements
 
@@ -133,8 +120,8 @@ kind_text-spelling k fits = head_text-named (codes "kind") k.name (separated (co
     members [] some = absurd (some refl)
     members (m ∷ ms) some = ap (λ l. 32 ∷ (m ++ l)) (preceded-members ms)
 
-rule_text-spelling : (sig : Sig) (r : Rule) → StatementHasNames (rule_spelling sig r) → rule_text sig r ≡ statement_text (rule_spelling sig r)
-rule_text-spelling sig r names = head_text-named (codes "rule") r.name (pattern_text sig r.pattern ++ line_end) ∙ ap (λ l. codes "rule " ++ (r.name ++ (58 ∷ 32 ∷ (l ++ line_end)))) (pattern_text-spelling sig r.pattern names.1)
+rule_text-spelling : (sig : Sig) (r : Rule) → rule_text sig r ≡ statement_text (rule_spelling sig r)
+rule_text-spelling sig r = head_text-named (codes "rule") r.name (pattern_text sig r.pattern ++ line_end) ∙ ap (λ l. codes "rule " ++ (r.name ++ (58 ∷ 32 ∷ (l ++ line_end)))) (pattern_text-spelling sig r.pattern)
 
 subject_text-spelling : (sig : Sig) (s : Subject) → subject_text sig s ≡ statement_text (subject_spelling sig s)
 subject_text-spelling sig s = head_text-named (codes "subject") s.name (term_text sig s.term ++ line_end) ∙ ap (λ l. codes "subject " ++ (s.name ++ (58 ∷ 32 ∷ (l ++ line_end)))) (term_text-spelling sig s.term)
@@ -158,7 +145,7 @@ file_text-spelling f n h =
     append_assoc (flat_map op_text f.sig.ops) (flat_map kind_text f.sig.kinds) (flat_map (rule_text f.sig) f.rules ++ last)
     ∙ texts-spellings op_text op_spelling (λ d names fits. op_text-spelling d) f.sig.ops kinds _ n h (λ n h.
     texts-spellings kind_text kind_spelling (λ k names fits. kind_text-spelling k fits) f.sig.kinds rules _ n h (λ n h.
-    texts-spellings (rule_text f.sig) (rule_spelling f.sig) (λ r names fits. rule_text-spelling f.sig r names) f.rules subjects last n h (λ n h.
+    texts-spellings (rule_text f.sig) (rule_spelling f.sig) (λ r names fits. rule_text-spelling f.sig r) f.rules subjects last n h (λ n h.
     sym (append-nil last)
     ∙ texts-spellings (subject_text f.sig) (subject_spelling f.sig) (λ s names fits. subject_text-spelling f.sig s) f.subjects [] [] (subst StatementsHaveNames (sym (append-nil subjects)) n) (subst AreStatements (sym (append-nil subjects)) h) (λ n h. refl)
     ∙ ap statements_text (append-nil subjects))))
@@ -191,7 +178,7 @@ unplaced-wildcard sig pattern.dot x = refl
 unplaced-wildcard sig (pattern.kind k) x = refl
 unplaced-wildcard sig pattern.plus x = refl
 unplaced-wildcard sig pattern.star x = refl
-unplaced-wildcard sig (pattern.optional t) x = refl
+unplaced-wildcard sig (pattern.optional t) x = ap (Optional (wildcard_piece x 1 []) []) (unplaced-term sig t)
 
 mutual
   unplaced-pattern : (sig : Sig) (p : pattern.Pattern) → unplaced_tree (pattern_spelling sig p) ≡ pattern_spelling sig p

@@ -19,7 +19,8 @@ use Rattle.mp_text.specs.declared.fault.TextFault.{TextFault}
 use Rattle.mp_text.specs.Subject.{Subject}
 use Rattle.mp_text.specs.File.{FileTree}
 use Rattle.mp_text.specs.Build.{op_decls, kind_decls, sig_with, sig_of, term_of, pattern_of, rule_of, rules_of, subject_of, subjects_of, file_over, file_tree_of}
-use Rattle.mp_text.specs.Checks.{nodes, is_large_pattern, is_large_term, term_faults, pattern_faults, loose_faults, whole_pattern_faults, name_faults, op_statement_faults, kind_statement_faults, declaration_faults, statement_faults, faults_by, faults}
+use Rattle.mp_text.specs.Checks.{nodes, is_large_pattern, is_large_term, term_faults, pattern_faults, loose_faults, whole_pattern_faults, name_faults, op_statement_faults, kind_statement_faults, declaration_faults, faults_by}
+use Rattle.mp_text.specs.FileChecks.{statement_faults, faults}
 use Rattle.mp_text.specs.Names.{is_among, rule_names, subject_names, variable_names}
 use Rattle.mp_text.specs.PrintedFile.{file_text}
 use Rattle.mp_text.specs.Reading.{IsFileOf}
@@ -31,8 +32,8 @@ use Rattle.mp_text.proofs.Words.{first-of, second-of}
 use Rattle.mp_text.proofs.Spelled.{file-again}
 use Rattle.mp_text.proofs.SoundLaws.{sound-file, rule_names-append, subject_names-append}
 use Rattle.mp_text.proofs.SpelledHead.{HasOpNames, HasOps}
-use Rattle.mp_text.proofs.SpelledTerm.{HasSymbols, HasSymbols-term_of, HasSymbols-normal, term_of-term_spelling, term_faults-term_spelling, HasNames-term_spelling, Fits-term_spelling, nodes-term_spelling}
-use Rattle.mp_text.proofs.SpelledPattern.{IsSpelled, IsSpelled-pattern_of, IsSpelled-normal_pattern, pattern_of-pattern_spelling, whole_pattern_faults-pattern_spelling, HasNames-pattern_spelling, Fits-pattern_spelling, nodes-pattern_spelling, variable_names-pattern_spelling}
+use Rattle.mp_text.proofs.SpelledTerm.{has_large_default-term_spelling, HasSymbols, HasSymbols-term_of, HasSymbols-normal, term_of-term_spelling, term_faults-term_spelling, HasNames-term_spelling, Fits-term_spelling, nodes-term_spelling}
+use Rattle.mp_text.proofs.SpelledPattern.{IsSpelled, IsSpelled-pattern_of, IsSpelled-normal_pattern, pattern_of-pattern_spelling, whole_pattern_faults-pattern_spelling, HasNames-pattern_spelling, Fits-pattern_spelling, has_large_default-pattern_spelling, nodes-pattern_spelling, variable_names-pattern_spelling}
 use Rattle.mp_text.proofs.Places.{file_tree_of-unplaced, no_faults-unplaced}
 use Rattle.mp_text.proofs.SpelledDeclarations.{IsDeclaredOp, IsDeclaredKind, op_decl-op_spelling, kind_decl-kind_spelling, none-name_faults, none-op_faults, none-kind_faults, StatementHasNames-op_spelling, FitsStatement-op_spelling, StatementHasNames-kind_spelling, FitsStatement-kind_spelling}
 use Rattle.mp_text.proofs.ReadFile.{IsRead, all-IsRead, AreDeclaredOps-op_decls, AreDeclaredKinds-kind_decls, all-rules_of}
@@ -157,7 +158,7 @@ read-file ss names fits h =
     let kinds = AreDeclaredKinds-kind_decls (op_decls ss) ss read q.1 ops in
     let ordered : all_in_order sig.ops ≡ true = ops.signature.ops_in_order in
     let all = all-rules_of sig (IsReadRule sig) (IsReadSubject sig)
-    (λ name p n names fits none. record { name = n; pattern = IsSpelled-normal_pattern sig ordered (pattern_of sig p) (IsSpelled-pattern_of sig [] 100 p names fits (nil-append (pattern_faults sig [] p) (loose_faults p) none).0); template = refl; condition = refl })
+    (λ name p n names fits none. record { name = n; pattern = IsSpelled-normal_pattern sig ordered (pattern_of sig p) (IsSpelled-pattern_of sig ordered [] p names (nil-append (loose_faults p) (pattern_faults sig [] p) none).1); template = refl; condition = refl })
     (λ name t n names none. record { name = n; term = HasSymbols-normal sig (term_of sig t) (HasSymbols-term_of sig t names none) })
     ss read p.1 in
     record { signature = kinds.signature; ops = ops.each; kinds = kinds.each; rules_read = all.0; subjects_read = all.1; sound = sound-file ss fits h; no_edits = refl }
@@ -293,7 +294,7 @@ module _ (f : FileTree) (h : IsReadFile f) where
       let names_few : length (variable_names p) ≤ 32 = omega (arith, ap length (variable_names-pattern_spelling f.sig has-ops r.pattern own.0.pattern), own.1.few_variables) in
       let nodes_small : ltb 64 (nodes p) ≡ false = search (rules, nodes_few) in
       let names_small : ltb 32 (length (variable_names p)) ≡ false = search (rules, names_few) in
-      let small : is_large_pattern p ≡ false = rw (nodes_small, names_small) refl in
+      let small : is_large_pattern p ≡ false = rw (nodes_small, names_small) (has_large_default-pattern_spelling f.sig has-ops r.pattern own.0.pattern own.1.small_defaults) in
       nil-both (name_faults 1000 (rule_names earlier) (is_large_pattern p) (piece r.name)) (whole_pattern_faults f.sig p)
       (none-name_faults 1000 (rule_names earlier) (is_large_pattern p) r.name (new-name (rule_names earlier) r.name ns differ) few small)
       (whole_pattern_faults-pattern_spelling f.sig has-ops r.pattern own.0.pattern own.1.no_clash own.1.plain_root)
@@ -302,7 +303,8 @@ module _ (f : FileTree) (h : IsReadFile f) where
   none-subject earlier s ns own differ few =
       let t = term_spelling f.sig s.term in
       let nodes_few : nodes t ≤ 100000 = omega (arith, nodes-term_spelling f.sig has-ops s.term own.1.formed, own.1.nodes) in
-      let small : is_large_term t ≡ false = search (rules, nodes_few) in
+      let nodes_small : ltb 100000 (nodes t) ≡ false = search (rules, nodes_few) in
+      let small : is_large_term t ≡ false = rw nodes_small (has_large_default-term_spelling f.sig s.term) in
       nil-both (name_faults 1000 (subject_names earlier) (is_large_term t) (piece s.name)) (term_faults f.sig t)
       (none-name_faults 1000 (subject_names earlier) (is_large_term t) s.name (new-name (subject_names earlier) s.name ns differ) few small)
       (term_faults-term_spelling f.sig has-ops s.term own.1.formed own.0.term)
@@ -342,7 +344,7 @@ module _ (f : FileTree) (h : IsReadFile f) where
   -- ---- its statements are those of the grammar
 
   read-rule : (r : Rule) → IsRuleHere r → IsRead (rule_spelling f.sig r)
-  read-rule r own = record { names = (own.0.name, HasNames-pattern_spelling f.sig has-ops r.pattern own.0.pattern); fits = Fits-pattern_spelling f.sig has-ops r.pattern 100 own.0.pattern (omega (arith, own.1.nodes)) }
+  read-rule r own = record { names = (own.0.name, HasNames-pattern_spelling f.sig has-ops r.pattern own.0.pattern); fits = Fits-pattern_spelling f.sig has-ops r.pattern 100 own.0.pattern own.1.shallow }
 
   read-subject : (s : Subject) → IsSubjectHere s → IsRead (subject_spelling f.sig s)
   read-subject s own = record { names = (own.0.name, HasNames-term_spelling f.sig has-ops s.term own.1.formed own.0.term); fits = Fits-term_spelling f.sig has-ops s.term 100 own.1.formed own.1.shallow }

@@ -13,8 +13,9 @@ use Rattle.mp_term.proofs.NormalTestLaws.{not_false}
 use Rattle.mp_term.proofs.SignatureLaws.{position-behind, position-first}
 use Rattle.mp_pattern.specs.PatternTree as pattern
 use Rattle.mp_syntax.specs.Tokens.{first_place}
-use Rattle.mp_syntax.specs.Syntax.{Spot, Wildcard, Tree, Apply, InfixOf, Trees, no_trees, more_trees, tree_list, AreSeveral, Fits, AreFit, IsName, IsInfixSign, HasNames, HaveNames}
+use Rattle.mp_syntax.specs.Syntax.{Spot, Tree, Symbol, Apply, InfixOf, Trees, no_trees, more_trees, tree_list, AreSeveral, Fits, AreFit, IsName, IsInfixSign, HasNames, HaveNames}
 use Rattle.mp_text.specs.Build.{op_number, sign_number, head_number, term_of, terms_of, pattern_of, patterns_of}
+use Rattle.mp_text.specs.Wildcards.{PatternWildcard}
 use Rattle.mp_text.specs.Checks.{op_at, op_named, op_signed, head_faults, arity_faults, sign_faults, allows_patterns, symbol_faults, term_faults, term_operand_faults, all_term_faults, pattern_faults, pattern_operand_faults, all_pattern_faults}
 use Rattle.mp_text.specs.Spelled.{piece, application_spelling, held_spelling}
 use Rattle.mp_text.proofs.Words.{first-of, second-of}
@@ -116,6 +117,11 @@ held_spelling-cases P o d ts here before between = subst (λ o. P (held_spelling
     by_sign None e = before
     by_sign (Some sign) e = by_count sign (leb 2 (length (tree_list ts))) e refl
 
+-- what holds of an operation without a name, before any arguments and between any, holds of an application as it is spelled
+pub each-held_spelling : (P : Tree → Type 0) (o : Option OpDecl) (ts : Trees) → P (Symbol (piece [])) → ((name : Spot) → P (Apply name ts)) → ((sign : Spot) → P (InfixOf first_place sign ts)) → P (held_spelling o ts)
+each-held_spelling P None ts none before between = none
+each-held_spelling P (Some d) ts none before between = held_spelling-cases P (Some d) d ts refl (before (piece d.name)) (λ sign e some. between (piece sign))
+
 -- an application of an operation that is held, as it is spelled
 module _ (sig : Sig) (h : HasOps sig) (f : ℕ) (d : OpDecl) (here : slice_get sig.ops f ≡ Some d) where
   -- the operation is found by its name
@@ -176,7 +182,7 @@ module _ (sig : Sig) (h : HasOps sig) (f : ℕ) (d : OpDecl) (here : slice_get s
       ∙ none)
 
   -- it has no faults in a pattern
-  pub pattern_faults-held : (before : List Wildcard) (ts : Trees) → allows_patterns (tree_list ts) d ≡ true → all_pattern_faults sig before ts ≡ [] → pattern_faults sig before (held_spelling (slice_get sig.ops f) ts) ≡ []
+  pub pattern_faults-held : (before : List PatternWildcard) (ts : Trees) → allows_patterns (tree_list ts) d ≡ true → all_pattern_faults sig before ts ≡ [] → pattern_faults sig before (held_spelling (slice_get sig.ops f) ts) ≡ []
   pattern_faults-held before ts allowed none =
       let passes = allows_patterns (tree_list ts) in
       held_spelling-cases (λ t. pattern_faults sig before t ≡ []) (slice_get sig.ops f) d ts here

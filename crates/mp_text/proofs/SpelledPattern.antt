@@ -1,6 +1,6 @@
 -- A pattern is read again as it is spelled, where its operations allow as many arguments as it may take, and so is its normal form.
 use Rattle.std.proofs.Common.{◌≡◌, ◌≢◌, ◌⊎◌, inl, inr, ℕ, zero, suc, ◌+◌, ◌≤◌, ◌<◌, Bool, true, false, ◌&&◌, ◌||◌, not, cond, leb, ltb, eqb, List, [], ◌∷◌, ◌++◌, map, length, Option, Some, None, option_map, unwrap_or, refl, sym, ap, subst, ◌∙◌, arith, length-append, eqb-true, add-one}
-use Rattle.std.specs.Prelude.{slice_get, position, is_none, nat_eq, if◌then◌else◌}
+use Rattle.std.specs.Prelude.{flat_map, slice_get, position, is_none, nat_eq, if◌then◌else◌}
 use Rattle.std.specs.Ordering.{is_gt}
 use Rattle.std.specs.declared.cmp.Ordering.{Ordering}
 use Rattle.std.specs.List.{list_any, AllByRecursion}
@@ -17,6 +17,10 @@ use Rattle.mp_term.specs.Signature.{Sig, kind_names, holds_of, all_in_order, is_
 use Rattle.mp_term.proofs.Sorting.{length-sorted}
 use Rattle.mp_term.proofs.SignatureLaws.{position-behind, position-first}
 use Rattle.mp_term.proofs.NormalTestLaws.{not_false}
+use Rattle.mp_term.specs.Normal.{normal}
+use Rattle.mp_term.proofs.NormalSize.{normal-normal}
+use Rattle.mp_term.proofs.WellFormedNormal.{wf-normal}
+use Rattle.mp_pattern.specs.Limits.{DefaultsAreSmall, AllDefaultsAreSmall}
 use Rattle.mp_pattern.specs.PatternTree as pattern
 use Rattle.mp_pattern.specs.PatternTree.{Pattern, symbol_pattern, app_pattern, wild_pattern, Patterns, no_patterns, more_patterns, pattern_list, patterns}
 use Rattle.mp_pattern.specs.PatternLists.{pattern_list-patterns}
@@ -31,11 +35,12 @@ use Rattle.mp_pattern.proofs.SortedLaws.{all-flat_map}
 use Rattle.mp_pattern.proofs.NormalLaws.{all-in_order}
 use Rattle.mp_syntax.specs.Tokens.{first_place}
 use Rattle.mp_syntax.specs.Syntax as syntax
-use Rattle.mp_syntax.specs.Syntax.{Tree, Symbol, Apply, InfixOf, Wild, Trees, no_trees, more_trees, tree_list, Fits, AreFit, IsName, HasNames, HaveNames}
-use Rattle.mp_text.specs.Names.{wildcards, all_wildcards, variable_names}
-use Rattle.mp_text.specs.Build.{op_number, sign_number, head_number, kind_number, kind_shape, variable_of, pattern_of, patterns_of}
-use Rattle.mp_text.specs.Checks.{fault_if, nodes, differs, loose_faults, is_star, may_take_more, fewest, may_reach, allows_patterns, op_named, op_signed, head_faults, arity_faults, sign_faults, kind_unknown, wildcard_faults, pattern_faults, pattern_operand_faults, all_pattern_faults, whole_pattern_faults}
-use Rattle.mp_syntax.proofs.Trees.{fits-named, named-fits}
+use Rattle.mp_syntax.specs.Syntax.{Tree, Symbol, Apply, InfixOf, Wild, Optional, Trees, no_trees, more_trees, tree_list, Fits, AreFit, IsName, HasNames, HaveNames}
+use Rattle.mp_text.specs.Names.{variable_names}
+use Rattle.mp_text.specs.Wildcards.{PatternWildcard, without_default, with_default_form, pattern_wildcards, all_pattern_wildcards, differs}
+use Rattle.mp_text.specs.Depth.{pattern_depth, greatest_pattern_depth}
+use Rattle.mp_text.specs.Build.{op_number, sign_number, head_number, kind_number, kind_shape, variable_of, term_of, pattern_of, patterns_of}
+use Rattle.mp_text.specs.Checks.{fault_if, nodes, has_large_default, some_large_default, loose_faults, may_take_none, may_take_more, fewest, may_reach, allows_patterns, op_named, op_signed, head_faults, arity_faults, sign_faults, kind_unknown, term_wildcard_faults, term_faults, default_faults, wildcard_faults, pattern_faults, pattern_operand_faults, all_pattern_faults, whole_pattern_faults}
 use Rattle.mp_io.specs.Devices.{Text}
 use Rattle.mp_text.specs.declared.fault.TextKind.TheVariants.{UnknownKind, KindClash}
 use Rattle.mp_text.specs.PrintedFile.{kind_name_text}
@@ -44,9 +49,10 @@ use Rattle.mp_text.proofs.Words.{both, first-of, second-of}
 use Rattle.mp_text.proofs.Faultless.{nil-append, nil-both, nil-fault_if, none-fault_if}
 use Rattle.mp_text.proofs.Clashes.{Apart, Apart-split, Apart-first_clash, wilds, wilds-append, nil-pattern_operands}
 use Rattle.mp_text.proofs.Places.{fewest-cons}
-use Rattle.mp_text.proofs.SoundLaws.{Found, found-head, found-infix, pattern_nodes-pattern_of, variables-pattern_of}
-use Rattle.mp_text.proofs.SpelledWildcard.{IsReadWildcard, IsVariable, IsReadWildcard-kind_shape, IsVariable-variable_of, mark, wildcard_spelling-mark_of, differs-Agree, is_star-kind_shape, may_take_more-kind_shape, pattern_of-wildcard_spelling, pattern_faults-wildcard_spelling, HasNames-wildcard_spelling, Fits-wildcard_spelling}
-use Rattle.mp_text.proofs.SpelledHead.{HasOps, IsSymbolOf, IsSymbolOf-symbol_faults, symbol_faults-IsSymbolOf, held_spelling-cases, pattern_of-held, HasNames-held, Fits-held, pattern_faults-held}
+use Rattle.mp_text.proofs.SoundLaws.{Found, found-head, found-infix, well_formed-term_of, pattern_nodes-pattern_of, variables-pattern_of}
+use Rattle.mp_text.proofs.SpelledWildcard.{IsReadDefault, IsReadWildcard, IsVariable, IsReadWildcard-kind_shape, IsVariable-variable_of, mark, differs-Agree, may_take_none-kind_shape, may_take_more-kind_shape, pattern_of-wildcard_spelling, pattern_wildcards-wildcard_spelling, pattern_faults-wildcard_spelling, HasNames-wildcard_spelling, Fits-wildcard_spelling, has_large_default-wildcard_spelling}
+use Rattle.mp_text.proofs.SpelledTerm.{HasSymbols-term_of, HasSymbols-normal}
+use Rattle.mp_text.proofs.SpelledHead.{HasOps, IsSymbolOf, IsSymbolOf-symbol_faults, symbol_faults-IsSymbolOf, held_spelling-cases, each-held_spelling, pattern_of-held, HasNames-held, Fits-held, pattern_faults-held}
 
 -- ---- numbers of arguments
 
@@ -82,9 +88,9 @@ allows_patterns-alike ts us d reach few h =
 -- ---- applications
 
 -- an application is no wildcard
-is_star-held_spelling : (o : Option OpDecl) (ts : Trees) → is_star (held_spelling o ts) ≡ false
-is_star-held_spelling None ts = refl
-is_star-held_spelling (Some d) ts = held_spelling-cases (λ t. is_star t ≡ false) (Some d) d ts refl refl (λ sign e some. refl)
+may_take_none-held_spelling : (o : Option OpDecl) (ts : Trees) → may_take_none (held_spelling o ts) ≡ false
+may_take_none-held_spelling None ts = refl
+may_take_none-held_spelling (Some d) ts = held_spelling-cases (λ t. may_take_none t ≡ false) (Some d) d ts refl refl (λ sign e some. refl)
 
 may_take_more-held_spelling : (assoc : Bool) (o : Option OpDecl) (ts : Trees) → may_take_more assoc (held_spelling o ts) ≡ false
 may_take_more-held_spelling assoc None ts = refl
@@ -130,7 +136,7 @@ module _ (sig : Sig) where
   Allowed f ps = Found sig (Some f) (allows_patterns (spelled ps))
 
   abbrev mutual
-    -- each symbol is a name and no operation's, each operation allows its arguments, and each wildcard is read and has a name
+    -- each symbol is a name and no operation's, each operation allows its arguments, and each wildcard is read, and its variable has a name
     pub IsSpelled : Pattern → Type 0
     IsSpelled (symbol_pattern n) = IsSymbolOf sig n
     IsSpelled (app_pattern f ps) = Allowed f (pattern_list ps) × AreSpelled ps
@@ -154,22 +160,25 @@ module _ (sig : Sig) where
 
   -- ---- patterns that are read
 
-  is_star-pattern_of : (t : Tree) → HasNames t → is_star (pattern_spelling sig (pattern_of sig t)) ≡ is_star t
-  is_star-pattern_of (Symbol w) h = refl
-  is_star-pattern_of (Apply f args) h = is_star-held_spelling (slice_get sig.ops (head_number (op_number sig f.text))) (pattern_spellings sig (patterns_of sig args))
-  is_star-pattern_of (InfixOf opened sign operands) h = is_star-held_spelling (slice_get sig.ops (head_number (sign_number sig sign.text))) (pattern_spellings sig (patterns_of sig operands))
-  is_star-pattern_of (Wild w) h = is_star-kind_shape sig w.kind w.marks (unwrap_or (variable_of w.name) []) h.kind_behind_one
+  may_take_none-pattern_of : (t : Tree) → HasNames t → may_take_none (pattern_spelling sig (pattern_of sig t)) ≡ may_take_none t
+  may_take_none-pattern_of (Symbol w) h = refl
+  may_take_none-pattern_of (Apply f args) h = may_take_none-held_spelling (slice_get sig.ops (head_number (op_number sig f.text))) (pattern_spellings sig (patterns_of sig args))
+  may_take_none-pattern_of (InfixOf opened sign operands) h = may_take_none-held_spelling (slice_get sig.ops (head_number (sign_number sig sign.text))) (pattern_spellings sig (patterns_of sig operands))
+  may_take_none-pattern_of (Optional w others default) h = refl
+  may_take_none-pattern_of (Wild w) h = may_take_none-kind_shape sig w.kind w.marks (unwrap_or (variable_of w.name) []) h.kind_behind_one
 
   -- the kind of a wildcard without faults is known
-  known-wildcard_faults : (before : List syntax.Wildcard) (w : syntax.Wildcard) → wildcard_faults sig before w ≡ [] → kind_unknown sig w.kind ≡ false
-  known-wildcard_faults before w h = nil-fault_if (kind_unknown sig w.kind) _ w.place (nil-append (fault_if (kind_unknown sig w.kind) _ w.place) (fault_if (list_any (differs w) before) _ w.place) h).0
+  known-wildcard_faults : (before : List PatternWildcard) (w : PatternWildcard) → wildcard_faults sig before w ≡ [] → kind_unknown sig w.wildcard.kind ≡ false
+  known-wildcard_faults before w h =
+      nil-fault_if (kind_unknown sig w.wildcard.kind) _ w.wildcard.place (nil-append (fault_if (kind_unknown sig w.wildcard.kind) _ w.wildcard.place) (fault_if (list_any (differs w) before) _ w.wildcard.place) h).0
 
-  may_take_more-pattern_of : (assoc : Bool) (before : List syntax.Wildcard) (t : Tree) → HasNames t → pattern_faults sig before t ≡ [] → may_take_more assoc (pattern_spelling sig (pattern_of sig t)) ≡ may_take_more assoc t
+  may_take_more-pattern_of : (assoc : Bool) (before : List PatternWildcard) (t : Tree) → HasNames t → pattern_faults sig before t ≡ [] → may_take_more assoc (pattern_spelling sig (pattern_of sig t)) ≡ may_take_more assoc t
   may_take_more-pattern_of assoc before (Symbol w) h none = refl
   may_take_more-pattern_of assoc before (Apply f args) h none = may_take_more-held_spelling assoc (slice_get sig.ops (head_number (op_number sig f.text))) (pattern_spellings sig (patterns_of sig args))
   may_take_more-pattern_of assoc before (InfixOf opened sign operands) h none = may_take_more-held_spelling assoc (slice_get sig.ops (head_number (sign_number sig sign.text))) (pattern_spellings sig (patterns_of sig operands))
+  may_take_more-pattern_of assoc before (Optional w others default) h none = refl
   may_take_more-pattern_of assoc before (Wild w) h none =
-      may_take_more-kind_shape sig assoc w.kind w.marks (unwrap_or (variable_of w.name) []) h.some_marks h.few_marks h.kind_behind_one (known-wildcard_faults before w none)
+      may_take_more-kind_shape sig assoc w.kind w.marks (unwrap_or (variable_of w.name) []) h.some_marks h.few_marks h.kind_behind_one (known-wildcard_faults before (without_default w) none)
 
   length-patterns_of : (ts : Trees) → length (spelled (pattern_list (patterns_of sig ts))) ≡ length (tree_list ts)
   length-patterns_of no_trees = refl
@@ -178,76 +187,85 @@ module _ (sig : Sig) where
   fewest-patterns_of : (ts : Trees) → HaveNames ts → fewest (spelled (pattern_list (patterns_of sig ts))) ≡ fewest (tree_list ts)
   fewest-patterns_of no_trees h = refl
   fewest-patterns_of (more_trees t ts) h =
-      fewest-cons (pattern_spelling sig (pattern_of sig t)) (spelled (pattern_list (patterns_of sig ts))) ∙ (λ i. cond (not (is_star-pattern_of t h.0 i)) 1 0 + fewest-patterns_of ts h.1 i) ∙ sym (fewest-cons t (tree_list ts))
+      fewest-cons (pattern_spelling sig (pattern_of sig t)) (spelled (pattern_list (patterns_of sig ts))) ∙ (λ i. cond (not (may_take_none-pattern_of t h.0 i)) 1 0 + fewest-patterns_of ts h.1 i) ∙ sym (fewest-cons t (tree_list ts))
 
-  some-patterns_of : (assoc : Bool) (before : List syntax.Wildcard) (ts : Trees) → HaveNames ts → all_pattern_faults sig before ts ≡ []
+  some-patterns_of : (assoc : Bool) (before : List PatternWildcard) (ts : Trees) → HaveNames ts → all_pattern_faults sig before ts ≡ []
       → list_any (may_take_more assoc) (spelled (pattern_list (patterns_of sig ts))) ≡ list_any (may_take_more assoc) (tree_list ts)
   some-patterns_of assoc before no_trees h none = refl
   some-patterns_of assoc before (more_trees t ts) h none =
-      let p = nil-append (pattern_faults sig before t) (all_pattern_faults sig (before ++ wildcards t) ts) none in
-      λ i. may_take_more-pattern_of assoc before t h.0 p.0 i || some-patterns_of assoc (before ++ wildcards t) ts h.1 p.1 i
+      let p = nil-append (pattern_faults sig before t) (all_pattern_faults sig (before ++ pattern_wildcards sig t) ts) none in
+      λ i. may_take_more-pattern_of assoc before t h.0 p.0 i || some-patterns_of assoc (before ++ pattern_wildcards sig t) ts h.1 p.1 i
 
-  allows-patterns_of : (before : List syntax.Wildcard) (ts : Trees) (d : OpDecl) → HaveNames ts → all_pattern_faults sig before ts ≡ [] → allows_patterns (spelled (pattern_list (patterns_of sig ts))) d ≡ allows_patterns (tree_list ts) d
+  allows-patterns_of : (before : List PatternWildcard) (ts : Trees) (d : OpDecl) → HaveNames ts → all_pattern_faults sig before ts ≡ [] → allows_patterns (spelled (pattern_list (patterns_of sig ts))) d ≡ allows_patterns (tree_list ts) d
   allows-patterns_of before ts d h none = λ i.
       (some-patterns_of d.assoc before ts h none i || leb d.least (length-patterns_of ts i)) && (not d.fixed || leb (fewest-patterns_of ts h i) d.least)
 
   -- an operation that is found allows the arguments as they are read
-  allowed-found : (number : Option ℕ) (before : List syntax.Wildcard) (ts : Trees) → HaveNames ts → all_pattern_faults sig before ts ≡ [] → Found sig number (allows_patterns (tree_list ts)) → Allowed (head_number number) (pattern_list (patterns_of sig ts))
+  allowed-found : (number : Option ℕ) (before : List PatternWildcard) (ts : Trees) → HaveNames ts → all_pattern_faults sig before ts ≡ [] → Found sig number (allows_patterns (tree_list ts)) → Allowed (head_number number) (pattern_list (patterns_of sig ts))
   allowed-found number before ts names none h = record { decl = h.decl; held = h.held; passed = allows-patterns_of before ts h.decl names none ∙ h.passed }
 
-  mutual
-    -- the pattern of an expression without faults
-    pub IsSpelled-pattern_of : (before : List syntax.Wildcard) (room : ℕ) (t : Tree) → HasNames t → Fits room t → pattern_faults sig before t ≡ [] → IsSpelled (pattern_of sig t)
-    IsSpelled-pattern_of before room (Symbol w) names fit h = IsSymbolOf-symbol_faults sig w names h
-    IsSpelled-pattern_of before zero (Apply f args) names fit h = absurd fit
-    IsSpelled-pattern_of before (suc room) (Apply f args) names fit h =
-        let p = nil-append (head_faults (allows_patterns (tree_list args)) f (op_named sig f.text)) (all_pattern_faults sig before args) h in (
-          allowed-found (op_number sig f.text) before args names.1 p.1 (found-head sig (allows_patterns (tree_list args)) f (op_number sig f.text) p.0),
-          AreSpelled-patterns_of before room args names.1 fit p.1,
-        )
-    IsSpelled-pattern_of before zero (InfixOf opened sign operands) names fit h = absurd fit
-    IsSpelled-pattern_of before (suc room) (InfixOf opened sign operands) names fit h =
-        let at_sign = sign_faults sign (op_signed sig sign.text) in
-        let p = nil-append (arity_faults (allows_patterns (tree_list operands)) opened (op_signed sig sign.text)) (pattern_operand_faults sig before at_sign operands) h in
-        let q = nil-pattern_operands sig before at_sign operands p.1 in (
-          allowed-found (sign_number sig sign.text) before operands names.1 q.1 (found-infix sig (allows_patterns (tree_list operands)) opened sign (sign_number sig sign.text) p.0 q.0),
-          AreSpelled-patterns_of before room operands names.1 fit.1 q.1,
-        )
-    IsSpelled-pattern_of before room (Wild w) names fit h =
-        (IsReadWildcard-kind_shape sig w.kind w.marks names.kind (known-wildcard_faults before w h), IsVariable-variable_of w.name (names.name (fits-named room w fit)))
+  module _ (ordered : all_in_order sig.ops ≡ true) where
+    mutual
+      -- the pattern of an expression without faults
+      pub IsSpelled-pattern_of : (before : List PatternWildcard) (t : Tree) → HasNames t → pattern_faults sig before t ≡ [] → IsSpelled (pattern_of sig t)
+      IsSpelled-pattern_of before (Symbol w) names h = IsSymbolOf-symbol_faults sig w names h
+      IsSpelled-pattern_of before (Apply f args) names h =
+          let p = nil-append (head_faults (allows_patterns (tree_list args)) f (op_named sig f.text)) (all_pattern_faults sig before args) h in (
+            allowed-found (op_number sig f.text) before args names.1 p.1 (found-head sig (allows_patterns (tree_list args)) f (op_number sig f.text) p.0),
+            AreSpelled-patterns_of before args names.1 p.1,
+          )
+      IsSpelled-pattern_of before (InfixOf opened sign operands) names h =
+          let at_sign = sign_faults sign (op_signed sig sign.text) in
+          let p = nil-append (arity_faults (allows_patterns (tree_list operands)) opened (op_signed sig sign.text)) (pattern_operand_faults sig before at_sign operands) h in
+          let q = nil-pattern_operands sig before at_sign operands p.1 in (
+            allowed-found (sign_number sig sign.text) before operands names.1 q.1 (found-infix sig (allows_patterns (tree_list operands)) opened sign (sign_number sig sign.text) p.0 q.0),
+            AreSpelled-patterns_of before operands names.1 q.1,
+          )
+      IsSpelled-pattern_of before (Wild w) names h =
+          (IsReadWildcard-kind_shape sig w.kind w.marks names.kind (known-wildcard_faults before (without_default w) h), IsVariable-variable_of w.name names.name)
+      IsSpelled-pattern_of before (Optional w others default) names h =
+          let p = nil-append (wildcard_faults sig before (with_default_form sig w others default)) (default_faults sig others default) h in
+          let none = (nil-append (flat_map (term_wildcard_faults sig) others) (term_faults sig default) p.1).1 in
+          let t = term_of sig default in
+          let read : IsReadDefault sig (normal sig t) = record {
+            normal = normal-normal sig t;
+            formed = wf-normal sig ordered t (well_formed-term_of sig default none);
+            symbols = HasSymbols-normal sig t (HasSymbols-term_of sig default names.2 none);
+          } in
+          (read, IsVariable-variable_of w.name names.0.name)
 
-    AreSpelled-patterns_of : (before : List syntax.Wildcard) (room : ℕ) (ts : Trees) → HaveNames ts → AreFit room ts → all_pattern_faults sig before ts ≡ [] → AreSpelled (patterns_of sig ts)
-    AreSpelled-patterns_of before room no_trees names fit h = tt
-    AreSpelled-patterns_of before room (more_trees t ts) names fit h =
-        let p = nil-append (pattern_faults sig before t) (all_pattern_faults sig (before ++ wildcards t) ts) h in
-        (IsSpelled-pattern_of before room t names.0 fit.0 p.0, AreSpelled-patterns_of (before ++ wildcards t) room ts names.1 fit.1 p.1)
+      AreSpelled-patterns_of : (before : List PatternWildcard) (ts : Trees) → HaveNames ts → all_pattern_faults sig before ts ≡ [] → AreSpelled (patterns_of sig ts)
+      AreSpelled-patterns_of before no_trees names h = tt
+      AreSpelled-patterns_of before (more_trees t ts) names h =
+          let p = nil-append (pattern_faults sig before t) (all_pattern_faults sig (before ++ pattern_wildcards sig t) ts) h in
+          (IsSpelled-pattern_of before t names.0 p.0, AreSpelled-patterns_of (before ++ pattern_wildcards sig t) ts names.1 p.1)
 
   -- ---- arguments in normal form
 
-  -- a pattern that isn't loose is no star
-  is_star-is_loose : (p : Pattern) → is_loose p ≡ false → is_star (pattern_spelling sig p) ≡ false
-  is_star-is_loose (symbol_pattern n) h = refl
-  is_star-is_loose (app_pattern f ps) h = is_star-held_spelling (slice_get sig.ops f) (pattern_spellings sig ps)
-  is_star-is_loose (wild_pattern pattern.dot x) h = refl
-  is_star-is_loose (wild_pattern (pattern.kind k) x) h = refl
-  is_star-is_loose (wild_pattern pattern.plus x) h = refl
-  is_star-is_loose (wild_pattern pattern.star x) h = cc
-  is_star-is_loose (wild_pattern (pattern.optional t) x) h = refl
+  -- a pattern that isn't loose takes an argument
+  may_take_none-is_loose : (p : Pattern) → is_loose p ≡ false → may_take_none (pattern_spelling sig p) ≡ false
+  may_take_none-is_loose (symbol_pattern n) h = refl
+  may_take_none-is_loose (app_pattern f ps) h = may_take_none-held_spelling (slice_get sig.ops f) (pattern_spellings sig ps)
+  may_take_none-is_loose (wild_pattern pattern.dot x) h = refl
+  may_take_none-is_loose (wild_pattern (pattern.kind k) x) h = refl
+  may_take_none-is_loose (wild_pattern pattern.plus x) h = refl
+  may_take_none-is_loose (wild_pattern pattern.star x) h = cc
+  may_take_none-is_loose (wild_pattern (pattern.optional t) x) h = cc
 
-  is_star-collapsed : (f : ℕ) (ps : List Pattern) → is_star (pattern_spelling sig (collapsed sig f ps)) ≡ false
-  is_star-collapsed f [] = is_star-held_spelling (slice_get sig.ops f) no_trees
-  is_star-collapsed f (p ∷ []) = go (is_one sig f && not (is_loose p)) refl
+  may_take_none-collapsed : (f : ℕ) (ps : List Pattern) → may_take_none (pattern_spelling sig (collapsed sig f ps)) ≡ false
+  may_take_none-collapsed f [] = may_take_none-held_spelling (slice_get sig.ops f) no_trees
+  may_take_none-collapsed f (p ∷ []) = go (is_one sig f && not (is_loose p)) refl
     where
-      go : (b : Bool) → (is_one sig f && not (is_loose p)) ≡ b → is_star (pattern_spelling sig (if b then p else app_pattern f (more_patterns p no_patterns))) ≡ false
-      go true e = is_star-is_loose p (not_false (is_loose p) (second-of (is_one sig f) (not (is_loose p)) e))
-      go false e = is_star-held_spelling (slice_get sig.ops f) (pattern_spellings sig (more_patterns p no_patterns))
-  is_star-collapsed f (p ∷ q ∷ ps) = is_star-held_spelling (slice_get sig.ops f) (pattern_spellings sig (patterns (p ∷ q ∷ ps)))
+      go : (b : Bool) → (is_one sig f && not (is_loose p)) ≡ b → may_take_none (pattern_spelling sig (if b then p else app_pattern f (more_patterns p no_patterns))) ≡ false
+      go true e = may_take_none-is_loose p (not_false (is_loose p) (second-of (is_one sig f) (not (is_loose p)) e))
+      go false e = may_take_none-held_spelling (slice_get sig.ops f) (pattern_spellings sig (more_patterns p no_patterns))
+  may_take_none-collapsed f (p ∷ q ∷ ps) = may_take_none-held_spelling (slice_get sig.ops f) (pattern_spellings sig (patterns (p ∷ q ∷ ps)))
 
-  -- the normal form of a star, and of nothing else, is a star
-  is_star-normal_pattern : (p : Pattern) → is_star (pattern_spelling sig (normal_pattern sig p)) ≡ is_star (pattern_spelling sig p)
-  is_star-normal_pattern (symbol_pattern n) = refl
-  is_star-normal_pattern (app_pattern f ps) = is_star-collapsed f (in_order sig f (flattened sig f (normal_patterns sig ps))) ∙ sym (is_star-held_spelling (slice_get sig.ops f) (pattern_spellings sig ps))
-  is_star-normal_pattern (wild_pattern w x) = refl
+  -- the normal form of what may take no argument, and of nothing else, may take none
+  may_take_none-normal_pattern : (p : Pattern) → may_take_none (pattern_spelling sig (normal_pattern sig p)) ≡ may_take_none (pattern_spelling sig p)
+  may_take_none-normal_pattern (symbol_pattern n) = refl
+  may_take_none-normal_pattern (app_pattern f ps) = may_take_none-collapsed f (in_order sig f (flattened sig f (normal_patterns sig ps))) ∙ sym (may_take_none-held_spelling (slice_get sig.ops f) (pattern_spellings sig ps))
+  may_take_none-normal_pattern (wild_pattern w x) = refl
 
   -- the normal form of what may take more may take more
   may_take_more-normal_pattern : (assoc : Bool) (p : Pattern) → may_take_more assoc (pattern_spelling sig p) ≡ true → may_take_more assoc (pattern_spelling sig (normal_pattern sig p)) ≡ true
@@ -262,7 +280,7 @@ module _ (sig : Sig) where
   fewest-normal_patterns : (ps : Patterns) → fewest (spelled (normal_patterns sig ps)) ≡ fewest (spelled (pattern_list ps))
   fewest-normal_patterns no_patterns = refl
   fewest-normal_patterns (more_patterns p ps) =
-      fewest-cons (pattern_spelling sig (normal_pattern sig p)) (spelled (normal_patterns sig ps)) ∙ (λ i. cond (not (is_star-normal_pattern p i)) 1 0 + fewest-normal_patterns ps i)
+      fewest-cons (pattern_spelling sig (normal_pattern sig p)) (spelled (normal_patterns sig ps)) ∙ (λ i. cond (not (may_take_none-normal_pattern p i)) 1 0 + fewest-normal_patterns ps i)
       ∙ sym (fewest-cons (pattern_spelling sig p) (spelled (pattern_list ps)))
 
   some-normal_patterns : (assoc : Bool) (ps : Patterns) → list_any (may_take_more assoc) (spelled (pattern_list ps)) ≡ true → list_any (may_take_more assoc) (spelled (normal_patterns sig ps)) ≡ true
@@ -281,9 +299,9 @@ module _ (sig : Sig) where
   -- ---- arguments in order
 
   module _ (cmp : Pattern → Pattern → Ordering) where
-    -- a pattern takes one argument at least, or none where it is a star
+    -- a pattern takes one argument at least, or none where it is a star or optional wildcard
     abbrev own : Pattern → ℕ
-    own p = cond (not (is_star (pattern_spelling sig p))) 1 0
+    own p = cond (not (may_take_none (pattern_spelling sig p))) 1 0
 
     fewest-two : (p q : Pattern) (ts : List Tree) → fewest (pattern_spelling sig p ∷ pattern_spelling sig q ∷ ts) ≡ own p + (own q + fewest ts)
     fewest-two p q ts = fewest-cons (pattern_spelling sig p) (pattern_spelling sig q ∷ ts) ∙ ap (λ n. own p + n) (fewest-cons (pattern_spelling sig q) ts)
@@ -460,30 +478,29 @@ module _ (sig : Sig) where
   loose_faults-pattern_spelling (wild_pattern (pattern.optional t) x) h = cc
 
   -- the wildcards of an application are those of its arguments
-  wildcards-held : (f : ℕ) (d : OpDecl) (ts : Trees) → slice_get sig.ops f ≡ Some d → wildcards (held_spelling (slice_get sig.ops f) ts) ≡ all_wildcards ts
-  wildcards-held f d ts here = held_spelling-cases (λ t. wildcards t ≡ all_wildcards ts) (slice_get sig.ops f) d ts here refl (λ sign e some. refl)
-
-  mutual
-    -- its wildcards are those of the pattern
-    wildcards-pattern_spelling : (p : Pattern) → IsSpelled p → wildcards (pattern_spelling sig p) ≡ map (mark sig) (wilds (subpatterns p))
-    wildcards-pattern_spelling (symbol_pattern n) s = refl
-    wildcards-pattern_spelling (app_pattern f ps) s = wildcards-held f s.0.decl (pattern_spellings sig ps) s.0.held ∙ wildcards-pattern_spellings ps s.1
-    wildcards-pattern_spelling (wild_pattern w x) s = ap wildcards (wildcard_spelling-mark_of sig w (unwrap_or x []))
-
-    wildcards-pattern_spellings : (ps : Patterns) → AreSpelled ps → all_wildcards (pattern_spellings sig ps) ≡ map (mark sig) (wilds (all_subpatterns ps))
-    wildcards-pattern_spellings no_patterns s = refl
-    wildcards-pattern_spellings (more_patterns p ps) s =
-        (λ i. wildcards-pattern_spelling p s.0 i ++ wildcards-pattern_spellings ps s.1 i)
-        ∙ sym (map-append (mark sig) (wilds (subpatterns p)) (wilds (all_subpatterns ps))) ∙ ap (map (mark sig)) (sym (wilds-append (subpatterns p) (all_subpatterns ps)))
+  wildcards-held : (f : ℕ) (d : OpDecl) (ts : Trees) → slice_get sig.ops f ≡ Some d → pattern_wildcards sig (held_spelling (slice_get sig.ops f) ts) ≡ all_pattern_wildcards sig ts
+  wildcards-held f d ts here = held_spelling-cases (λ t. pattern_wildcards sig t ≡ all_pattern_wildcards sig ts) (slice_get sig.ops f) d ts here refl (λ sign e some. refl)
 
   module _ (h : HasOps sig) where
+    mutual
+      -- its wildcards are those of the pattern
+      wildcards-pattern_spelling : (p : Pattern) → IsSpelled p → pattern_wildcards sig (pattern_spelling sig p) ≡ map (mark sig) (wilds (subpatterns p))
+      wildcards-pattern_spelling (symbol_pattern n) s = refl
+      wildcards-pattern_spelling (app_pattern f ps) s = wildcards-held f s.0.decl (pattern_spellings sig ps) s.0.held ∙ wildcards-pattern_spellings ps s.1
+      wildcards-pattern_spelling (wild_pattern w x) s = pattern_wildcards-wildcard_spelling sig h w x s.0
+
+      wildcards-pattern_spellings : (ps : Patterns) → AreSpelled ps → all_pattern_wildcards sig (pattern_spellings sig ps) ≡ map (mark sig) (wilds (all_subpatterns ps))
+      wildcards-pattern_spellings no_patterns s = refl
+      wildcards-pattern_spellings (more_patterns p ps) s =
+          (λ i. wildcards-pattern_spelling p s.0 i ++ wildcards-pattern_spellings ps s.1 i)
+          ∙ sym (map-append (mark sig) (wilds (subpatterns p)) (wilds (all_subpatterns ps))) ∙ ap (map (mark sig)) (sym (wilds-append (subpatterns p) (all_subpatterns ps)))
+
     mutual
       -- it is read as that pattern
       pub pattern_of-pattern_spelling : (p : Pattern) → IsSpelled p → pattern_of sig (pattern_spelling sig p) ≡ p
       pattern_of-pattern_spelling (symbol_pattern n) s = refl
       pattern_of-pattern_spelling (app_pattern f ps) s = pattern_of-held sig h f s.0.decl s.0.held (pattern_spellings sig ps) ∙ ap (app_pattern f) (patterns_of-pattern_spellings ps s.1)
-      pattern_of-pattern_spelling (wild_pattern w None) s = absurd s.1
-      pattern_of-pattern_spelling (wild_pattern w (Some x)) s = pattern_of-wildcard_spelling sig w x s.0 s.1
+      pattern_of-pattern_spelling (wild_pattern w x) s = pattern_of-wildcard_spelling sig h w x s.0 s.1
 
       patterns_of-pattern_spellings : (ps : Patterns) → AreSpelled ps → patterns_of sig (pattern_spellings sig ps) ≡ ps
       patterns_of-pattern_spellings no_patterns s = refl
@@ -491,51 +508,63 @@ module _ (sig : Sig) where
 
     mutual
       -- it has no faults, where its wildcards don't differ
-      pattern_faults-pattern_spelling : (before : List syntax.Wildcard) (p : Pattern) → IsSpelled p → Apart before (wildcards (pattern_spelling sig p)) → pattern_faults sig before (pattern_spelling sig p) ≡ []
+      pattern_faults-pattern_spelling : (before : List PatternWildcard) (p : Pattern) → IsSpelled p → Apart before (pattern_wildcards sig (pattern_spelling sig p)) → pattern_faults sig before (pattern_spelling sig p) ≡ []
       pattern_faults-pattern_spelling before (symbol_pattern n) s apart = symbol_faults-IsSymbolOf sig n s
       pattern_faults-pattern_spelling before (app_pattern f ps) s apart =
           pattern_faults-held sig h f s.0.decl s.0.held before (pattern_spellings sig ps) (ap (λ l. allows_patterns l s.0.decl) (tree_list-pattern_spellings ps) ∙ s.0.passed)
           (all_pattern_faults-pattern_spellings before ps s.1 (subst (Apart before) (wildcards-held f s.0.decl (pattern_spellings sig ps) s.0.held) apart))
-      pattern_faults-pattern_spelling before (wild_pattern w x) s apart = pattern_faults-wildcard_spelling sig before w (unwrap_or x []) s.0 apart
+      pattern_faults-pattern_spelling before (wild_pattern w x) s apart = pattern_faults-wildcard_spelling sig h before w (unwrap_or x []) s.0 apart
 
-      all_pattern_faults-pattern_spellings : (before : List syntax.Wildcard) (ps : Patterns) → AreSpelled ps → Apart before (all_wildcards (pattern_spellings sig ps)) → all_pattern_faults sig before (pattern_spellings sig ps) ≡ []
+      all_pattern_faults-pattern_spellings : (before : List PatternWildcard) (ps : Patterns) → AreSpelled ps → Apart before (all_pattern_wildcards sig (pattern_spellings sig ps)) → all_pattern_faults sig before (pattern_spellings sig ps) ≡ []
       all_pattern_faults-pattern_spellings before no_patterns s apart = refl
       all_pattern_faults-pattern_spellings before (more_patterns p ps) s apart =
           let t = pattern_spelling sig p in
-          let r = Apart-split before (wildcards t) (all_wildcards (pattern_spellings sig ps)) apart in
-          ap (λ l. l ++ all_pattern_faults sig (before ++ wildcards t) (pattern_spellings sig ps)) (pattern_faults-pattern_spelling before p s.0 r.0) ∙ all_pattern_faults-pattern_spellings (before ++ wildcards t) ps s.1 r.1
+          let r = Apart-split before (pattern_wildcards sig t) (all_pattern_wildcards sig (pattern_spellings sig ps)) apart in
+          ap (λ l. l ++ all_pattern_faults sig (before ++ pattern_wildcards sig t) (pattern_spellings sig ps)) (pattern_faults-pattern_spelling before p s.0 r.0) ∙ all_pattern_faults-pattern_spellings (before ++ pattern_wildcards sig t) ps s.1 r.1
 
     -- it has no faults as a whole
     pub whole_pattern_faults-pattern_spelling : (p : Pattern) → IsSpelled p → first_clash p ≡ None → is_loose p ≡ false → whole_pattern_faults sig (pattern_spelling sig p) ≡ []
     whole_pattern_faults-pattern_spelling p s none plain =
-        let apart : Apart [] (wildcards (pattern_spelling sig p)) = subst (Apart []) (sym (wildcards-pattern_spelling p s)) (Apart-first_clash (mark sig) (differs-Agree sig) p none) in
-        nil-both (pattern_faults sig [] (pattern_spelling sig p)) (loose_faults (pattern_spelling sig p)) (pattern_faults-pattern_spelling [] p s apart) (loose_faults-pattern_spelling p plain)
+        let apart : Apart [] (pattern_wildcards sig (pattern_spelling sig p)) = subst (Apart []) (sym (wildcards-pattern_spelling p s)) (Apart-first_clash (mark sig) (differs-Agree sig) p none) in
+        nil-both (loose_faults (pattern_spelling sig p)) (pattern_faults sig [] (pattern_spelling sig p)) (loose_faults-pattern_spelling p plain) (pattern_faults-pattern_spelling [] p s apart)
 
     mutual
       -- its words are names and its signs are signs
       pub HasNames-pattern_spelling : (p : Pattern) → IsSpelled p → HasNames (pattern_spelling sig p)
       HasNames-pattern_spelling (symbol_pattern n) s = s.name
       HasNames-pattern_spelling (app_pattern f ps) s = HasNames-held sig h f s.0.decl s.0.held (pattern_spellings sig ps) (HaveNames-pattern_spellings ps s.1)
-      HasNames-pattern_spelling (wild_pattern w None) s = absurd s.1
-      HasNames-pattern_spelling (wild_pattern w (Some x)) s = HasNames-wildcard_spelling sig w x s.0 s.1
+      HasNames-pattern_spelling (wild_pattern w x) s = HasNames-wildcard_spelling sig h w x s.0 s.1
 
       HaveNames-pattern_spellings : (ps : Patterns) → AreSpelled ps → HaveNames (pattern_spellings sig ps)
       HaveNames-pattern_spellings no_patterns s = tt
       HaveNames-pattern_spellings (more_patterns p ps) s = (HasNames-pattern_spelling p s.0, HaveNames-pattern_spellings ps s.1)
 
     mutual
-      -- no more brackets stand open in it at once than it has nodes
-      pub Fits-pattern_spelling : (p : Pattern) (room : ℕ) → IsSpelled p → pattern_nodes p ≤ room → Fits room (pattern_spelling sig p)
+      -- no more brackets stand open in it at once than it is deep, with its defaults
+      pub Fits-pattern_spelling : (p : Pattern) (room : ℕ) → IsSpelled p → pattern_depth p ≤ room → Fits room (pattern_spelling sig p)
       Fits-pattern_spelling (symbol_pattern n) zero s few = tt
       Fits-pattern_spelling (symbol_pattern n) (suc room) s few = tt
       Fits-pattern_spelling (app_pattern f ps) zero s few = absurd (omega arith)
       Fits-pattern_spelling (app_pattern f ps) (suc room) s few = Fits-held sig h f s.0.decl s.0.held room (pattern_spellings sig ps) (AreFit-pattern_spellings ps room s.1 (omega arith))
-      Fits-pattern_spelling (wild_pattern w None) room s few = absurd s.1
-      Fits-pattern_spelling (wild_pattern w (Some x)) room s few = Fits-wildcard_spelling sig room w x s.1
+      Fits-pattern_spelling (wild_pattern w x) room s few = Fits-wildcard_spelling sig h room w (unwrap_or x []) s.0 few
 
-      AreFit-pattern_spellings : (ps : Patterns) (room : ℕ) → AreSpelled ps → all_pattern_nodes ps ≤ room → AreFit room (pattern_spellings sig ps)
+      AreFit-pattern_spellings : (ps : Patterns) (room : ℕ) → AreSpelled ps → greatest_pattern_depth ps ≤ room → AreFit room (pattern_spellings sig ps)
       AreFit-pattern_spellings no_patterns room s few = tt
       AreFit-pattern_spellings (more_patterns p ps) room s few = (Fits-pattern_spelling p room s.0 (omega arith), AreFit-pattern_spellings ps room s.1 (omega arith))
+
+    mutual
+      -- none of its defaults is large, where they are small
+      pub has_large_default-pattern_spelling : (p : Pattern) → IsSpelled p → DefaultsAreSmall p → has_large_default (pattern_spelling sig p) ≡ false
+      has_large_default-pattern_spelling (symbol_pattern n) s small = refl
+      has_large_default-pattern_spelling (app_pattern f ps) s small =
+          let none = some_large_default-pattern_spellings ps s.1 small in
+          each-held_spelling (λ e. has_large_default e ≡ false) (slice_get sig.ops f) (pattern_spellings sig ps) refl (λ name. none) (λ sign. none)
+      has_large_default-pattern_spelling (wild_pattern w x) s small = has_large_default-wildcard_spelling sig h w (unwrap_or x []) s.0 small
+
+      some_large_default-pattern_spellings : (ps : Patterns) → AreSpelled ps → AllDefaultsAreSmall ps → some_large_default (pattern_spellings sig ps) ≡ false
+      some_large_default-pattern_spellings no_patterns s small = refl
+      some_large_default-pattern_spellings (more_patterns p ps) s small =
+          ap (λ b. b || some_large_default (pattern_spellings sig ps)) (has_large_default-pattern_spelling p s.0 small.0) ∙ some_large_default-pattern_spellings ps s.1 small.1
 
     -- it has as many nodes
     pub nodes-pattern_spelling : (p : Pattern) → IsSpelled p → nodes (pattern_spelling sig p) ≡ pattern_nodes p

@@ -1,5 +1,5 @@
 -- A term is read again as it is spelled: its symbols are names and no operations' names, and stay so in its normal form.
-use Rattle.std.proofs.Common.{◌≡◌, ℕ, zero, suc, ◌≤◌, true, false, List, [], ◌∷◌, ◌++◌, length, Option, Some, None, refl, sym, ap, ◌∙◌, arith}
+use Rattle.std.proofs.Common.{◌≡◌, ℕ, zero, suc, ◌≤◌, true, false, List, [], ◌∷◌, ◌++◌, ◌||◌, length, Option, Some, None, refl, sym, ap, ◌∙◌, arith}
 use Rattle.std.specs.Prelude.{slice_get, nat_eq, if◌then◌else◌}
 use Rattle.std.specs.List.{AllByRecursion}
 use Rattle.mp_term.specs.declared.signature.OpDecl.{OpDecl}
@@ -12,13 +12,14 @@ use Rattle.mp_term.specs.Signature.{Sig, holds_of, allows, is_assoc, is_comm, is
 use Rattle.mp_term.specs.Normal.{unwrapped, parts, flattened, in_order, collapsed, normal, normals}
 use Rattle.mp_term.proofs.NormalTestLaws.{both}
 use Rattle.mp_pattern.proofs.SortedLaws.{all-flat_map, all-sorted}
-use Rattle.mp_syntax.specs.Syntax.{Tree, Symbol, Apply, InfixOf, Wild, Trees, no_trees, more_trees, tree_list, Fits, AreFit, HasNames, HaveNames}
+use Rattle.mp_syntax.specs.Syntax.{Tree, Symbol, Apply, InfixOf, Wild, Optional, Trees, no_trees, more_trees, tree_list, HasNoDefault, Fits, AreFit, HasNames, HaveNames}
 use Rattle.mp_text.specs.Build.{term_of, terms_of}
-use Rattle.mp_text.specs.Checks.{fault_if, kind_unknown, nodes, op_named, op_signed, head_faults, arity_faults, sign_faults, term_faults, term_operand_faults, all_term_faults}
+use Rattle.mp_text.specs.Checks.{fault_if, kind_unknown, nodes, has_large_default, some_large_default, op_named, op_signed, head_faults, arity_faults, sign_faults, term_faults, term_operand_faults, all_term_faults}
 use Rattle.mp_text.specs.Spelled.{term_spelling, term_spellings}
 use Rattle.mp_text.proofs.Faultless.{nil-append, some-behind}
-use Rattle.mp_text.proofs.SoundLaws.{Found, nil-term_operands, node_count-term_of}
-use Rattle.mp_text.proofs.SpelledHead.{HasOps, IsSymbolOf, IsSymbolOf-symbol_faults, symbol_faults-IsSymbolOf, term_of-held, HasNames-held, Fits-held, term_faults-held}
+use Rattle.mp_text.proofs.Defaults.{nil-term_operands, no-optional_term}
+use Rattle.mp_text.proofs.SoundLaws.{Found, node_count-term_of}
+use Rattle.mp_text.proofs.SpelledHead.{HasOps, IsSymbolOf, IsSymbolOf-symbol_faults, symbol_faults-IsSymbolOf, each-held_spelling, term_of-held, HasNames-held, Fits-held, term_faults-held}
 
 -- ---- the symbols of a term
 
@@ -43,6 +44,7 @@ module _ (sig : Sig) where
         let p = nil-append (arity_faults (allows (length (tree_list operands))) opened (op_signed sig sign.text)) (term_operand_faults sig at_sign operands) h in
         HaveSymbols-terms_of operands names.1 (nil-term_operands sig at_sign operands p.1).1
     HasSymbols-term_of (Wild w) names h = absurd (some-behind (fault_if (kind_unknown sig w.kind) _ w.place) _ h)
+    HasSymbols-term_of (Optional w others default) names h = absurd (no-optional_term sig w others default h)
 
     HaveSymbols-terms_of : (ts : Trees) → HaveNames ts → all_term_faults sig ts ≡ [] → HaveSymbols (terms_of sig ts)
     HaveSymbols-terms_of no_trees names h = tt
@@ -92,6 +94,23 @@ module _ (sig : Sig) where
 -- ---- the spelling of a term
 
 module _ (sig : Sig) where
+  -- it has no default
+  pub HasNoDefault-term_spelling : (t : term.Tree) → HasNoDefault (term_spelling sig t)
+  HasNoDefault-term_spelling (symbol n) = tt
+  HasNoDefault-term_spelling (app f ts) = each-held_spelling HasNoDefault (slice_get sig.ops f) (term_spellings sig ts) tt (λ name. tt) (λ sign. tt)
+
+  mutual
+    -- none of its defaults is large, since it has none
+    pub has_large_default-term_spelling : (t : term.Tree) → has_large_default (term_spelling sig t) ≡ false
+    has_large_default-term_spelling (symbol n) = refl
+    has_large_default-term_spelling (app f ts) =
+        let none = some_large_default-term_spellings ts in
+        each-held_spelling (λ e. has_large_default e ≡ false) (slice_get sig.ops f) (term_spellings sig ts) refl (λ name. none) (λ sign. none)
+
+    some_large_default-term_spellings : (ts : term.Trees) → some_large_default (term_spellings sig ts) ≡ false
+    some_large_default-term_spellings term.no_trees = refl
+    some_large_default-term_spellings (term.more_trees t ts) = ap (λ b. b || some_large_default (term_spellings sig ts)) (has_large_default-term_spelling t) ∙ some_large_default-term_spellings ts
+
   length-term_spellings : (ts : term.Trees) → length (tree_list (term_spellings sig ts)) ≡ length (term.tree_list ts)
   length-term_spellings term.no_trees = refl
   length-term_spellings (term.more_trees t ts) = ap suc (length-term_spellings ts)

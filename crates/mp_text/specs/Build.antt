@@ -1,5 +1,5 @@
 -- What the statements of a file stand for: a signature, and over it rules and subjects in normal form.
-use Rattle.std.specs.Prelude.{ℕ, ◌==◌, Bool, not, List, [], ◌∷◌, map, Option, Some, None, option_map, unwrap_or, position, if◌then◌else◌}
+use Rattle.std.specs.Prelude.{ℕ, ◌==◌, Bool, true, false, ◌&&◌, not, is_some, List, [], ◌∷◌, map, Option, Some, None, option_map, unwrap_or, position, if◌then◌else◌}
 use Rattle.std.specs.Str.{bytes_eq}
 use Rattle.mp_term.specs.declared.signature.OpDecl.{OpDecl}
 use Rattle.mp_term.specs.Tree as term
@@ -9,7 +9,7 @@ use Rattle.mp_term.specs.Normal.{normal}
 use Rattle.mp_pattern.specs.PatternTree as pattern
 use Rattle.mp_pattern.specs.Normal.{normal_pattern}
 use Rattle.mp_pattern.specs.Admission.{Rule}
-use Rattle.mp_syntax.specs.Syntax.{Spot, Wildcard, Tree, Symbol, Apply, InfixOf, Wild, Trees, no_trees, more_trees, Flag, Statement, OpOf, KindOf, RuleOf, SubjectOf}
+use Rattle.mp_syntax.specs.Syntax.{Spot, Wildcard, Tree, Symbol, Apply, InfixOf, Wild, Optional, Trees, no_trees, more_trees, Flag, Statement, OpOf, KindOf, RuleOf, SubjectOf}
 use Rattle.mp_text.specs.Subject.{Subject}
 use Rattle.mp_text.specs.File.{FileTree}
 use Rattle.mp_text.specs.Flags.{says_assoc, says_comm, says_one, is_said, sign_spot}
@@ -101,18 +101,33 @@ module _ (sig : Sig) where
     term_of (Apply f args) = term.app (head_number (op_number f.text)) (terms_of args)
     term_of (InfixOf opened sign operands) = term.app (head_number (sign_number sign.text)) (terms_of operands)
     term_of (Wild w) = term.symbol w.name
+    term_of (Optional w others default) = term.symbol w.name
 
     pub terms_of : Trees → term.Trees
     terms_of no_trees = term.no_trees
     terms_of (more_trees t ts) = term.more_trees (term_of t) (terms_of ts)
 
-  -- the same, and a wildcard with its variable
+  -- the expression is a term, whose operations may have any number of arguments: it holds no wildcard, and each of its operations is one of the signature's
+  abbrev mutual
+    pub has_term : Tree → Bool
+    has_term (Symbol w) = true
+    has_term (Apply f args) = is_some (op_number f.text) && all_have_terms args
+    has_term (InfixOf opened sign operands) = is_some (sign_number sign.text) && all_have_terms operands
+    has_term (Wild w) = false
+    has_term (Optional w others default) = false
+
+    pub all_have_terms : Trees → Bool
+    all_have_terms no_trees = true
+    all_have_terms (more_trees t ts) = has_term t && all_have_terms ts
+
+  -- A word is a symbol, and an application that of its operation, as in a term. A wildcard has its variable, and a default its normal form.
   abbrev mutual
     pub pattern_of : Tree → pattern.Pattern
     pattern_of (Symbol w) = pattern.symbol_pattern w.text
     pattern_of (Apply f args) = pattern.app_pattern (head_number (op_number f.text)) (patterns_of args)
     pattern_of (InfixOf opened sign operands) = pattern.app_pattern (head_number (sign_number sign.text)) (patterns_of operands)
     pattern_of (Wild w) = pattern.wild_pattern (shape_of w) (variable_of w.name)
+    pattern_of (Optional w others default) = pattern.wild_pattern (pattern.optional (normal sig (term_of default))) (variable_of w.name)
 
     pub patterns_of : Trees → pattern.Patterns
     patterns_of no_trees = pattern.no_patterns

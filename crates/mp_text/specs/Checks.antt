@@ -1,16 +1,17 @@
--- The checks of a file's statements: all faults that they find, in the order in which they count.
-use Rattle.std.specs.Prelude.{ℕ, ◌+◌, ◌==◌, Bool, false, ◌||◌, ◌&&◌, not, List, [], ◌∷◌, ◌++◌, length, map, flat_map, Option, Some, None, is_some, is_none, option_and_then, slice_get, nat_le, nat_lt, count_by, if◌then◌else◌}
+-- The checks of expressions and declarations: all faults that they find, in the order in which they count.
+use Rattle.std.specs.Prelude.{ℕ, ◌+◌, ◌==◌, Bool, true, false, ◌||◌, ◌&&◌, not, List, [], ◌∷◌, ◌++◌, length, map, flat_map, Option, Some, None, is_some, is_none, option_and_then, slice_get, nat_le, nat_lt, count_by, if◌then◌else◌}
 use Rattle.std.specs.List.{list_any}
 use Rattle.std.specs.Str.{bytes_eq}
 use Rattle.mp_term.specs.declared.signature.OpDecl.{OpDecl}
 use Rattle.mp_term.specs.Signature.{Sig, allows, in_order, has_sign, kind_names}
 use Rattle.mp_syntax.specs.declared.place.Place.{Place}
-use Rattle.mp_syntax.specs.Syntax.{Spot, Wildcard, Tree, Symbol, Apply, InfixOf, Wild, Trees, no_trees, more_trees, tree_list, Flag, Statement, OpOf, KindOf, RuleOf, SubjectOf}
+use Rattle.mp_syntax.specs.Syntax.{Spot, Wildcard, Tree, Symbol, Apply, InfixOf, Wild, Optional, Trees, no_trees, more_trees, tree_list, Flag, Statement, OpOf, KindOf, RuleOf, SubjectOf}
 use Rattle.mp_text.specs.declared.fault.TextKind.{TextKind}
 use Rattle.mp_text.specs.declared.fault.TextKind.TheVariants.{DuplicateName, TooMany, BadFlags, UnknownOp, BareOperation, UnknownKind, Arity, KindClash, LooseSequence, WildcardInTerm}
 use Rattle.mp_text.specs.declared.fault.TextFault.{TextFault}
-use Rattle.mp_text.specs.Names.{is_among, is_same_variable, rule_names, subject_names, number_of, wildcards, variable_names}
+use Rattle.mp_text.specs.Names.{is_among, rule_names, subject_names, number_of, variable_names}
 use Rattle.mp_text.specs.Flags.{some_flag_twice, sign_spot, is_long_sign}
+use Rattle.mp_text.specs.Wildcards.{PatternWildcard, without_default, with_default_form, pattern_wildcards, differs}
 use Rattle.mp_text.specs.Build.{op_number, sign_number, kind_number, op_decl, op_decls, sig_with, sig_of}
 
 -- ---- faults
@@ -25,41 +26,57 @@ fault_if test kind place = if test then fault_at kind place ∷ [] else []
 
 -- ---- limits
 
--- the symbols, applications and wildcards of an expression
+-- the symbols, applications and wildcards of an expression; a wildcard with its default is one
 abbrev mutual
   pub nodes : Tree → ℕ
   nodes (Symbol w) = 1
   nodes (Apply f args) = all_nodes args + 1
   nodes (InfixOf opened sign operands) = all_nodes operands + 1
   nodes (Wild w) = 1
+  nodes (Optional w others default) = 1
 
   pub all_nodes : Trees → ℕ
   all_nodes no_trees = 0
   all_nodes (more_trees t ts) = nodes t + all_nodes ts
 
--- a pattern has more than 64 nodes, or more than 32 variables
-abbrev pub is_large_pattern : Tree → Bool
-is_large_pattern p = nat_lt 64 (nodes p) || nat_lt 32 (length (variable_names p))
+-- a default in the expression has more than 64 nodes
+abbrev mutual
+  pub has_large_default : Tree → Bool
+  has_large_default (Symbol w) = false
+  has_large_default (Apply f args) = some_large_default args
+  has_large_default (InfixOf opened sign operands) = some_large_default operands
+  has_large_default (Wild w) = false
+  has_large_default (Optional w others default) = nat_lt 64 (nodes default) || has_large_default default
 
--- a term has more than 100,000 nodes
+  pub some_large_default : Trees → Bool
+  some_large_default no_trees = false
+  some_large_default (more_trees t ts) = has_large_default t || some_large_default ts
+
+-- a pattern has more than 64 nodes or more than 32 variables, or a default in it has more than 64 nodes
+abbrev pub is_large_pattern : Tree → Bool
+is_large_pattern p = nat_lt 64 (nodes p) || (nat_lt 32 (length (variable_names p)) || has_large_default p)
+
+-- a term has more than 100,000 nodes, or a default in it has more than 64 nodes
 abbrev pub is_large_term : Tree → Bool
-is_large_term t = nat_lt 100000 (nodes t)
+is_large_term t = nat_lt 100000 (nodes t) || has_large_default t
 
 -- ---- numbers of arguments
 
--- a star wildcard, which may take no argument
-abbrev pub is_star : Tree → Bool
-is_star (Wild w) = w.marks == 3
-is_star _ = false
+-- a wildcard that may take no argument: a star or optional one
+abbrev pub may_take_none : Tree → Bool
+may_take_none (Wild w) = w.marks == 3
+may_take_none (Optional w others default) = true
+may_take_none _ = false
 
--- a wildcard that may take more than one argument: plus and star, and a dot under an associative operation
+-- a wildcard that may take more than one argument: plus and star, and under an associative operation a dot or optional one
 abbrev pub may_take_more : Bool → Tree → Bool
 may_take_more assoc (Wild w) = nat_lt 1 w.marks || (assoc && length w.kind == 0)
+may_take_more assoc (Optional w others default) = assoc
 may_take_more assoc _ = false
 
 -- how many arguments these patterns take at least
 abbrev pub fewest : List Tree → ℕ
-fewest args = count_by (λ p. not (is_star p)) args
+fewest args = count_by (λ p. not (may_take_none p)) args
 
 -- they may take as many arguments as this number
 abbrev pub may_reach : Bool → List Tree → ℕ → Bool
@@ -71,13 +88,10 @@ allows_patterns args d = may_reach d.assoc args d.least && (not d.fixed || nat_l
 
 -- ---- wildcards
 
--- the wildcards have one name, and aren't of one class and kind
-abbrev pub differs : Wildcard → Wildcard → Bool
-differs w v = is_same_variable w.name v.name && not (v.marks == w.marks && bytes_eq v.kind w.kind)
-
--- the fault of a plus or star wildcard that stands alone
+-- the fault of a plus, star or optional wildcard that stands alone
 abbrev pub loose_faults : Tree → List TextFault
 loose_faults (Wild w) = fault_if (nat_lt 1 w.marks) LooseSequence w.place
+loose_faults (Optional w others default) = fault_at LooseSequence w.place ∷ []
 loose_faults _ = []
 
 -- ---- expressions
@@ -130,6 +144,7 @@ module _ (sig : Sig) where
     term_faults (Apply f args) = head_faults (allows (length (tree_list args))) f (op_named f.text) ++ all_term_faults args
     term_faults (InfixOf opened sign operands) = arity_faults (allows (length (tree_list operands))) opened (op_signed sign.text) ++ term_operand_faults (sign_faults sign (op_signed sign.text)) operands
     term_faults (Wild w) = term_wildcard_faults w
+    term_faults (Optional w others default) = flat_map term_wildcard_faults (w ∷ others) ++ term_faults default
 
     pub term_operand_faults : List TextFault → Trees → List TextFault
     term_operand_faults at_sign no_trees = at_sign
@@ -139,29 +154,34 @@ module _ (sig : Sig) where
     all_term_faults no_trees = []
     all_term_faults (more_trees t ts) = term_faults t ++ all_term_faults ts
 
-  -- the faults of a wildcard behind others: no kind has its kind's name; one of the others has its name, and another class or kind
-  abbrev pub wildcard_faults : List Wildcard → Wildcard → List TextFault
-  wildcard_faults before w = fault_if (kind_unknown w.kind) UnknownKind w.place ++ fault_if (list_any (differs w) before) KindClash w.place
+  -- the faults of a default, by token: each further wildcard of its chain stands in a term, and so does what stands behind them
+  abbrev pub default_faults : List Wildcard → Tree → List TextFault
+  default_faults others default = flat_map term_wildcard_faults others ++ term_faults default
+
+  -- the faults of a wildcard behind others: no kind has its kind's name; one of the others has its name, and another class, kind or default
+  abbrev pub wildcard_faults : List PatternWildcard → PatternWildcard → List TextFault
+  wildcard_faults before w = fault_if (kind_unknown w.wildcard.kind) UnknownKind w.wildcard.place ++ fault_if (list_any (differs w) before) KindClash w.wildcard.place
 
   -- the faults of a pattern behind wildcards, by token, in the same way
   abbrev mutual
-    pub pattern_faults : List Wildcard → Tree → List TextFault
+    pub pattern_faults : List PatternWildcard → Tree → List TextFault
     pattern_faults before (Symbol w) = symbol_faults w
     pattern_faults before (Apply f args) = head_faults (allows_patterns (tree_list args)) f (op_named f.text) ++ all_pattern_faults before args
     pattern_faults before (InfixOf opened sign operands) = arity_faults (allows_patterns (tree_list operands)) opened (op_signed sign.text) ++ pattern_operand_faults before (sign_faults sign (op_signed sign.text)) operands
-    pattern_faults before (Wild w) = wildcard_faults before w
+    pattern_faults before (Wild w) = wildcard_faults before (without_default w)
+    pattern_faults before (Optional w others default) = wildcard_faults before (with_default_form sig w others default) ++ default_faults others default
 
-    pub pattern_operand_faults : List Wildcard → List TextFault → Trees → List TextFault
+    pub pattern_operand_faults : List PatternWildcard → List TextFault → Trees → List TextFault
     pattern_operand_faults before at_sign no_trees = at_sign
-    pattern_operand_faults before at_sign (more_trees t ts) = pattern_faults before t ++ (at_sign ++ all_pattern_faults (before ++ wildcards t) ts)
+    pattern_operand_faults before at_sign (more_trees t ts) = pattern_faults before t ++ (at_sign ++ all_pattern_faults (before ++ pattern_wildcards sig t) ts)
 
-    pub all_pattern_faults : List Wildcard → Trees → List TextFault
+    pub all_pattern_faults : List PatternWildcard → Trees → List TextFault
     all_pattern_faults before no_trees = []
-    all_pattern_faults before (more_trees t ts) = pattern_faults before t ++ all_pattern_faults (before ++ wildcards t) ts
+    all_pattern_faults before (more_trees t ts) = pattern_faults before t ++ all_pattern_faults (before ++ pattern_wildcards sig t) ts
 
-  -- the faults of a whole pattern, which is no plus or star wildcard
+  -- The faults of a whole pattern, which is no plus, star or optional wildcard. One that is has no other fault at its token: it has no kind, and stands behind no other.
   abbrev pub whole_pattern_faults : Tree → List TextFault
-  whole_pattern_faults p = pattern_faults [] p ++ loose_faults p
+  whole_pattern_faults p = loose_faults p ++ pattern_faults [] p
 
 -- ---- statements
 
@@ -203,13 +223,6 @@ kind_statement_faults ds earlier (KindOf name members) = kind_faults (sig_with d
 kind_statement_faults ds earlier (RuleOf name p) = []
 kind_statement_faults ds earlier (SubjectOf name t) = []
 
--- The faults of any other statement, behind earlier statements, over the signature that the file declares. There are at most 1,000 rules and 1,000 subjects.
-abbrev pub statement_faults : Sig → List Statement → Statement → List TextFault
-statement_faults sig earlier (OpOf name least more flags) = []
-statement_faults sig earlier (KindOf name members) = []
-statement_faults sig earlier (RuleOf name p) = name_faults 1000 (rule_names earlier) (is_large_pattern p) name ++ whole_pattern_faults sig p
-statement_faults sig earlier (SubjectOf name t) = name_faults 1000 (subject_names earlier) (is_large_term t) name ++ term_faults sig t
-
 -- the faults of each statement behind the earlier ones, by a rule for one
 abbrev pub faults_by : (List Statement → Statement → List TextFault) → List Statement → List Statement → List TextFault
 faults_by rule earlier [] = []
@@ -218,7 +231,3 @@ faults_by rule earlier (s ∷ ss) = rule earlier s ++ faults_by rule (earlier ++
 -- the faults of a file's declarations: those of its operations, and then those of its kinds
 abbrev pub declaration_faults : List Statement → List TextFault
 declaration_faults ss = faults_by op_statement_faults [] ss ++ faults_by (kind_statement_faults (op_decls ss)) [] ss
-
--- the faults of a file: those of its declarations, and then those of its other statements
-abbrev pub faults : List Statement → List TextFault
-faults ss = declaration_faults ss ++ faults_by (statement_faults (sig_of ss)) [] ss

@@ -4,11 +4,15 @@ pub mod File
 pub mod Names
 pub mod Flags
 pub mod Build
+pub mod Wildcards
+pub mod WildcardView
 pub mod Checks
+pub mod FileChecks
 pub mod Answers
 pub mod Reading
 pub mod Printing
 pub mod PrintedFile
 pub mod Spelled
+pub mod Depth
 pub mod Sound
 pub mod Alone

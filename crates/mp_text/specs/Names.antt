@@ -2,7 +2,7 @@
 use Rattle.std.specs.Prelude.{ℕ, ◌+◌, ◌-◌, ◌*◌, Bool, false, List, [], ◌∷◌, ◌++◌}
 use Rattle.std.specs.Str.{bytes_eq}
 use Rattle.mp_pattern.specs.Firsts.{is_known, firsts_after}
-use Rattle.mp_syntax.specs.Syntax.{Wildcard, Tree, Symbol, Apply, InfixOf, Wild, Trees, no_trees, more_trees, Statement, OpOf, KindOf, RuleOf, SubjectOf}
+use Rattle.mp_syntax.specs.Syntax.{Wildcard, Tree, Symbol, Apply, InfixOf, Wild, Optional, Trees, no_trees, more_trees, Statement, OpOf, KindOf, RuleOf, SubjectOf}
 
 -- the name is one of these
 abbrev pub is_among : List ℕ → List (List ℕ) → Bool
@@ -43,25 +43,27 @@ abbrev pub is_same_variable : List ℕ → List ℕ → Bool
 is_same_variable [] y = false
 is_same_variable (byte ∷ bytes) y = bytes_eq (byte ∷ bytes) y
 
--- the names of the wildcards of a pattern, in order
+-- the names of the wildcards of a pattern, in order; those within defaults aren't among them
 abbrev mutual
   pub wildcard_names : Tree → List (List ℕ)
   wildcard_names (Symbol w) = []
   wildcard_names (Apply f args) = all_wildcard_names args
   wildcard_names (InfixOf opened sign operands) = all_wildcard_names operands
   wildcard_names (Wild w) = named w.name
+  wildcard_names (Optional w others default) = named w.name
 
   pub all_wildcard_names : Trees → List (List ℕ)
   all_wildcard_names no_trees = []
   all_wildcard_names (more_trees t ts) = wildcard_names t ++ all_wildcard_names ts
 
--- the wildcards of a pattern, in order
+-- the wildcards of a pattern, in order, in the same way
 abbrev mutual
   pub wildcards : Tree → List Wildcard
   wildcards (Symbol w) = []
   wildcards (Apply f args) = all_wildcards args
   wildcards (InfixOf opened sign operands) = all_wildcards operands
   wildcards (Wild w) = w ∷ []
+  wildcards (Optional w others default) = w ∷ []
 
   pub all_wildcards : Trees → List Wildcard
   all_wildcards no_trees = []

@@ -10,7 +10,7 @@ use Rattle.mp_text.specs.declared.fault.TextError.TheVariants.{Text, Memory}
 use Rattle.mp_text.specs.declared.file.File as code
 use Rattle.mp_text.specs.File.{FileTree, file_tree}
 use Rattle.mp_text.specs.Build.{file_tree_of}
-use Rattle.mp_text.specs.Checks.{faults}
+use Rattle.mp_text.specs.FileChecks.{faults}
 use Rattle.mp_text.specs.Answers.{first}
 
 -- ---- files

@@ -7,7 +7,8 @@ use Rattle.mp_term.specs.Signature.{Sig, Kind}
 use Rattle.mp_pattern.specs.PatternTree as pattern
 use Rattle.mp_pattern.specs.Admission.{Rule}
 use Rattle.mp_syntax.specs.Tokens.{first_place}
-use Rattle.mp_syntax.specs.Syntax.{Spot, Tree, Symbol, Apply, InfixOf, Wild, Trees, no_trees, more_trees, tree_list, Flag, Assoc, Comm, One, Infixed, Statement, OpOf, KindOf, RuleOf, SubjectOf}
+use Rattle.mp_syntax.specs.Syntax as syntax
+use Rattle.mp_syntax.specs.Syntax.{Spot, Tree, Symbol, Apply, InfixOf, Wild, Optional, Trees, no_trees, more_trees, tree_list, Flag, Assoc, Comm, One, Infixed, Statement, OpOf, KindOf, RuleOf, SubjectOf}
 use Rattle.mp_text.specs.Subject.{Subject}
 use Rattle.mp_text.specs.File.{FileTree}
 use Rattle.mp_text.specs.PrintedFile.{kind_name_text}
@@ -29,8 +30,8 @@ held_spelling None args = Symbol (piece [])
 held_spelling (Some d) args = application_spelling d d.sign args
 
 -- a wildcard by its name, its underscores and its kind
-abbrev pub wild_of : Text → ℕ → Text → Tree
-wild_of name marks kind = Wild (record { name = name; marks = marks; kind = kind; place = first_place })
+abbrev pub wildcard_piece : Text → ℕ → Text → syntax.Wildcard
+wildcard_piece name marks kind = record { name = name; marks = marks; kind = kind; place = first_place }
 
 module _ (sig : Sig) where
   -- a symbol is a word, and an application is spelled as its operation is
@@ -43,13 +44,13 @@ module _ (sig : Sig) where
     term_spellings term.no_trees = no_trees
     term_spellings (term.more_trees t ts) = more_trees (term_spelling t) (term_spellings ts)
 
-  -- one with a default has no underscore here, as no wildcard that is read
+  -- a wildcard of this name, and one with a default with a colon and the default behind it
   abbrev pub wildcard_spelling : pattern.Wildcard → Text → Tree
-  wildcard_spelling pattern.dot x = wild_of x 1 []
-  wildcard_spelling (pattern.kind k) x = wild_of x 1 (kind_name_text sig k)
-  wildcard_spelling pattern.plus x = wild_of x 2 []
-  wildcard_spelling pattern.star x = wild_of x 3 []
-  wildcard_spelling (pattern.optional t) x = wild_of x 0 []
+  wildcard_spelling pattern.dot x = Wild (wildcard_piece x 1 [])
+  wildcard_spelling (pattern.kind k) x = Wild (wildcard_piece x 1 (kind_name_text sig k))
+  wildcard_spelling pattern.plus x = Wild (wildcard_piece x 2 [])
+  wildcard_spelling pattern.star x = Wild (wildcard_piece x 3 [])
+  wildcard_spelling (pattern.optional t) x = Optional (wildcard_piece x 1 []) [] (term_spelling t)
 
   -- the same of patterns, and a wildcard with its variable
   abbrev mutual

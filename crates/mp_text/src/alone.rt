@@ -29,7 +29,7 @@ use std::alloc::Global;
 /// finds a fault (`term_alone_faults` of `specs/Alone.antt`). It has fewer than 4,294,967,295 bytes.
 ///
 /// - `Text`: the text has this fault, by `IsTermFaultOf` of `specs/Alone.antt`: where it is an expression, the first that the checks
-///   find, with its line and column, from 1; a term of more than 100,000 nodes has the fault `TooMany` at its first token. Where it is no
+///   find, with its line and column, from 1; a term of more than 100,000 nodes, or with a default of more than 64, has the fault `TooMany` at its first token. Where it is no
 ///   expression, the fault is `Unread` at line 1, column 1.
 /// - `Memory`: memory ran out.
 ///
@@ -49,13 +49,14 @@ pub fn read_term(alloc: Global, sig: &Signature, bytes: &[u8]) -> Result<Term, T
     term_of_text(alloc, sig, bytes)
 }
 
-/// Reads one pattern over a signature, and gives it as it is written.
+/// Reads one pattern over a signature, and gives it as it is written, with its defaults in normal form.
 ///
 /// The text is a pattern exactly where its tokens spell an expression (`IsExprOf` of mp_syntax's `specs/Syntax.antt`) in which no check
 /// finds a fault (`pattern_alone_faults` of `specs/Alone.antt`). It has fewer than 4,294,967,295 bytes.
 ///
 /// - `Text`: the text has this fault, by `IsPatternFaultOf` of `specs/Alone.antt`: where it is an expression, the first that the checks
-///   find, with its line and column, from 1; a pattern of more than 64 nodes or 32 variables has the fault `TooMany` at its first token.
+///   find, with its line and column, from 1; a pattern of more than 64 nodes or 32 variables, or with a default of more than 64 nodes, has the fault `TooMany` at its first
+///   token.
 ///   Where it is no expression, the fault is `Unread` at line 1, column 1.
 /// - `Memory`: memory ran out.
 ///
@@ -130,5 +131,6 @@ fn start(expr: &Expr<'_>) -> Place
         Expr::Apply(name, _) => name.place,
         Expr::Infix { open: place, .. } => *place,
         Expr::Wild(wild) => wild.place,
+        Expr::Optional { wildcard, .. } => wildcard.place,
     }
 }

@@ -14,11 +14,13 @@ ghost use Rattle.mp_syntax.specs.Syntax.{trees, tree_list, InfixOf, HasParts, Ha
 ghost use Rattle.mp_syntax.specs.View.{spot_of, wildcard_of, expr_tree};
 ghost use Rattle.mp_text.specs.Answers.{Gives, Fails};
 ghost use Rattle.mp_text.specs.Build.{op_number, sign_number, head_number, marked_shape, shape_of, variable_of, term_of, terms_of, pattern_of, patterns_of};
-ghost use Rattle.mp_text.specs.Names.{wildcards, all_wildcards};
-ghost use Rattle.mp_text.specs.Checks.{fault_if, differs, kind_unknown, term_wildcard_faults, wildcard_faults, loose_faults, whole_pattern_faults, op_named, op_signed, symbol_faults, head_faults, arity_faults, sign_faults, allows_patterns, term_faults, term_operand_faults, all_term_faults, pattern_faults, pattern_operand_faults, all_pattern_faults};
+ghost use Rattle.mp_text.specs.Wildcards.{pattern_wildcards, all_pattern_wildcards};
+ghost use Rattle.mp_text.specs.WildcardView.{wildcard_view};
+ghost use Rattle.mp_text.specs.Checks.{fault_if, kind_unknown, term_wildcard_faults, loose_faults, whole_pattern_faults, op_named, op_signed, symbol_faults, head_faults, arity_faults, sign_faults, allows_patterns, term_faults, term_operand_faults, all_term_faults, pattern_faults, pattern_operand_faults, all_pattern_faults};
 
 use crate::checks::allows_patterns;
 use crate::fault::{TextError, TextKind, error_at};
+use crate::wildcard::{PatternWildcard, build_optional, build_wildcard};
 use mp_pattern::{Pattern, Patterns, Shape};
 use mp_syntax::{Expr, Place, Spot, Wildcard};
 use mp_term::{Name, NameFault, OpDecl, OpId, Signature, Term, Terms};
@@ -173,11 +175,12 @@ pub fn build_term(alloc: Global, sig: &Signature, expr: &Expr<'_>) -> Result<Ter
             operands,
         } => infix_term(alloc, sig, *place, *sign, operands),
         Expr::Wild(wild) => Err(wildcard_in_term(sig, *wild)),
+        Expr::Optional { wildcard, .. } => Err(wildcard_in_term(sig, *wildcard)),
     }
 }
 
 /// The first fault of a wildcard in a term.
-fn wildcard_in_term(sig: &Signature, wild: Wildcard<'_>) -> TextError
+pub fn wildcard_in_term(sig: &Signature, wild: Wildcard<'_>) -> TextError
     ensures { Fails result (term_wildcard_faults sig.now (wildcard_of wild.entry)) }
 {
     match shape(sig, wild) {
@@ -248,11 +251,11 @@ fn build_pattern<'a>(
     alloc: Global,
     sig: &Signature,
     expr: &Expr<'a>,
-    before: &mut Vec<Wildcard<'a>>,
+    before: &mut Vec<PatternWildcard<'a>>,
 ) -> Result<Pattern, TextError>
     requires { HasNames (expr_tree expr.now) }
-    ensures { Gives result (pattern_faults sig.now (map wildcard_of before.old.items) (expr_tree expr.now))
-        (λ p. (pattern_tree p ≡ pattern_of sig.now (expr_tree expr.now)) × (map wildcard_of before.new.items ≡ map wildcard_of before.old.items ++ wildcards (expr_tree expr.now))) }
+    ensures { Gives result (pattern_faults sig.now (map wildcard_view before.old.items) (expr_tree expr.now))
+        (λ p. (pattern_tree p ≡ pattern_of sig.now (expr_tree expr.now)) × (map wildcard_view before.new.items ≡ map wildcard_view before.old.items ++ pattern_wildcards sig.now (expr_tree expr.now))) }
 {
     match expr {
         Expr::Symbol(word) => {
@@ -270,6 +273,11 @@ fn build_pattern<'a>(
             operands,
         } => infix_pattern(alloc, sig, *place, *sign, operands, before),
         Expr::Wild(wild) => build_wildcard(alloc, sig, *wild, before),
+        Expr::Optional {
+            wildcard,
+            others,
+            default,
+        } => build_optional(alloc, sig, *wildcard, others, default, before),
     }
 }
 
@@ -281,11 +289,11 @@ fn infix_pattern<'a>(
     place: Place,
     sign: Spot<'a>,
     operands: &[Expr<'a>],
-    before: &mut Vec<Wildcard<'a>>,
+    before: &mut Vec<PatternWildcard<'a>>,
 ) -> Result<Pattern, TextError>
     requires { HaveNames (trees (map expr_tree operands.now)) }
-    ensures { Gives result (pattern_faults sig.now (map wildcard_of before.old.items) (InfixOf place (spot_of sign.entry) (trees (map expr_tree operands.now))))
-        (λ p. (pattern_tree p ≡ pattern_of sig.now (InfixOf place (spot_of sign.entry) (trees (map expr_tree operands.now)))) × (map wildcard_of before.new.items ≡ map wildcard_of before.old.items ++ all_wildcards (trees (map expr_tree operands.now)))) }
+    ensures { Gives result (pattern_faults sig.now (map wildcard_view before.old.items) (InfixOf place (spot_of sign.entry) (trees (map expr_tree operands.now))))
+        (λ p. (pattern_tree p ≡ pattern_of sig.now (InfixOf place (spot_of sign.entry) (trees (map expr_tree operands.now)))) × (map wildcard_view before.new.items ≡ map wildcard_view before.old.items ++ all_pattern_wildcards sig.now (trees (map expr_tree operands.now)))) }
 {
     match pattern_sign(sig, place, sign, operands)? {
         None => Err(unknown_pattern_sign(alloc, sig, sign, operands, before)),
@@ -303,10 +311,10 @@ fn unknown_pattern_sign<'a>(
     sig: &Signature,
     sign: Spot<'a>,
     operands: &[Expr<'a>],
-    before: &mut Vec<Wildcard<'a>>,
+    before: &mut Vec<PatternWildcard<'a>>,
 ) -> TextError
     requires { HaveNames (trees (map expr_tree operands.now)) }
-    ensures { Fails result (pattern_operand_faults sig.now (map wildcard_of before.old.items) (sign_faults (spot_of sign.entry) None) (trees (map expr_tree operands.now))) }
+    ensures { Fails result (pattern_operand_faults sig.now (map wildcard_view before.old.items) (sign_faults (spot_of sign.entry) None) (trees (map expr_tree operands.now))) }
 {
     if let [first, ..] = operands {
         if let Err(error) = build_pattern(alloc, sig, first, before) {
@@ -322,11 +330,11 @@ fn build_patterns<'a>(
     alloc: Global,
     sig: &Signature,
     exprs: &[Expr<'a>],
-    before: &mut Vec<Wildcard<'a>>,
+    before: &mut Vec<PatternWildcard<'a>>,
 ) -> Result<Patterns, TextError>
     requires { HaveNames (trees (map expr_tree exprs.now)) }
-    ensures { Gives result (all_pattern_faults sig.now (map wildcard_of before.old.items) (trees (map expr_tree exprs.now)))
-        (λ ps. (ps ≡ map (pattern_of sig.now) (map expr_tree exprs.now)) × (map wildcard_of before.new.items ≡ map wildcard_of before.old.items ++ all_wildcards (trees (map expr_tree exprs.now)))) }
+    ensures { Gives result (all_pattern_faults sig.now (map wildcard_view before.old.items) (trees (map expr_tree exprs.now)))
+        (λ ps. (ps ≡ map (pattern_of sig.now) (map expr_tree exprs.now)) × (map wildcard_view before.new.items ≡ map wildcard_view before.old.items ++ all_pattern_wildcards sig.now (trees (map expr_tree exprs.now)))) }
 {
     let mut patterns = Patterns::new(alloc);
     for expr in exprs {
@@ -336,28 +344,8 @@ fn build_patterns<'a>(
     Ok(patterns)
 }
 
-/// The pattern of a wildcard behind these, or its first fault. The wildcard is added to them.
-fn build_wildcard<'a>(
-    alloc: Global,
-    sig: &Signature,
-    wild: Wildcard<'a>,
-    before: &mut Vec<Wildcard<'a>>,
-) -> Result<Pattern, TextError>
-    requires { HasParts (wildcard_of wild) }
-    ensures { Gives result (wildcard_faults sig.now (map wildcard_of before.old.items) (wildcard_of wild.entry))
-        (λ p. (pattern_tree p ≡ wild_pattern (shape_of sig.now (wildcard_of wild.entry)) (variable_of wild.entry.name.now)) × (map wildcard_of before.new.items ≡ map wildcard_of before.old.items ++ wildcard_of wild.entry ∷ [])) }
-{
-    let shape = shape(sig, wild)?;
-    if some_differs(wild, before) {
-        return Err(error_at(TextKind::KindClash, wild.place));
-    }
-    let name = variable(alloc, wild)?;
-    before.push(wild)?;
-    Ok(Pattern::Wild(shape, name))
-}
-
 /// What a wildcard takes, where there is the kind that it names.
-fn shape(sig: &Signature, wild: Wildcard<'_>) -> Result<Shape, TextError>
+pub fn shape(sig: &Signature, wild: Wildcard<'_>) -> Result<Shape, TextError>
     ensures { Gives result (fault_if (kind_unknown sig.now wild.entry.kind.now) UnknownKind wild.entry.place) (λ s. wildcard s ≡ shape_of sig.now (wildcard_of wild.entry)) }
 {
     if wild.kind.is_empty() {
@@ -382,28 +370,8 @@ fn marked_shape(marks: usize) -> Shape
     }
 }
 
-/// One of the others has the name of the wildcard, and another class or kind.
-fn some_differs(wild: Wildcard<'_>, others: &[Wildcard<'_>]) -> bool
-    ensures { result ≡ list_any (differs (wildcard_of wild.entry)) (map wildcard_of others.now) }
-{
-    for other in others {
-        if differs(wild, *other) {
-            return true;
-        }
-    }
-    false
-}
-
-/// The wildcards have one name, and aren't of one class and kind.
-fn differs(wild: Wildcard<'_>, other: Wildcard<'_>) -> bool
-    ensures { result ≡ differs (wildcard_of wild.entry) (wildcard_of other.entry) }
-{
-    let same_variable = !wild.name.is_empty() && wild.name == other.name;
-    same_variable && !(other.marks == wild.marks && other.kind == wild.kind)
-}
-
 /// The variable of a wildcard, whose name has the spelling of one where it isn't empty.
-fn variable(alloc: Global, wild: Wildcard<'_>) -> Result<Option<Name>, TextError>
+pub fn variable(alloc: Global, wild: Wildcard<'_>) -> Result<Option<Name>, TextError>
     requires { wild.name.now ≢ [] → is_name wild.name.now ≡ true }
     ensures { Gives result [] (λ v. v ≡ variable_of wild.entry.name.now) }
 {
@@ -419,13 +387,12 @@ pub fn whole_pattern(alloc: Global, sig: &Signature, expr: &Expr<'_>) -> Result<
     requires { HasNames (expr_tree expr.now) }
     ensures { Gives result (whole_pattern_faults sig.now (expr_tree expr.now)) (λ p. pattern_tree p ≡ pattern_of sig.now (expr_tree expr.now)) }
 {
-    let mut before = Vec::new(alloc);
-    let pattern = build_pattern(alloc, sig, expr, &mut before)?;
     check_root(expr)?;
-    Ok(pattern)
+    let mut before = Vec::new(alloc);
+    build_pattern(alloc, sig, expr, &mut before)
 }
 
-/// A whole pattern is no plus or star wildcard.
+/// A whole pattern is no plus, star or optional wildcard.
 fn check_root(expr: &Expr<'_>) -> Result<(), TextError>
     ensures { Gives result (loose_faults (expr_tree expr.now)) (λ _. Unit {0}) }
 {
@@ -435,6 +402,9 @@ fn check_root(expr: &Expr<'_>) -> Result<(), TextError>
                 return Err(error_at(TextKind::LooseSequence, wild.place));
             }
             Ok(())
+        }
+        Expr::Optional { wildcard, .. } => {
+            Err(error_at(TextKind::LooseSequence, wildcard.place))
         }
         _ => Ok(()),
     }

@@ -1,12 +1,12 @@
 //! Limits and counts of expressions.
 
-ghost use Rattle.std.specs.Prelude.{◌≡◌, ◌+◌, ◌-◌, ◌^◌, ◌||◌, ℕ, List, [], ◌∷◌, length, map, min, nat_lt, IfOk, OnOk};
+ghost use Rattle.std.specs.Prelude.{◌≡◌, ◌+◌, ◌-◌, ◌^◌, ◌≤◌, ◌||◌, ℕ, List, [], ◌∷◌, length, map, min, nat_lt, IfOk, OnOk};
 ghost use Rattle.std.specs.List.{list_any};
 ghost use Rattle.std.specs.Str.{bytes_eq};
 ghost use Rattle.mp_pattern.specs.Firsts.{firsts_after};
 ghost use Rattle.mp_syntax.specs.Syntax.{trees};
 ghost use Rattle.mp_syntax.specs.View.{expr_tree};
-ghost use Rattle.mp_text.specs.Checks.{nodes, all_nodes, is_star, may_take_more, fewest, may_reach, allows_patterns, is_large_pattern, is_large_term};
+ghost use Rattle.mp_text.specs.Checks.{nodes, all_nodes, has_large_default, some_large_default, may_take_none, may_take_more, fewest, may_reach, allows_patterns, is_large_pattern, is_large_term};
 ghost use Rattle.mp_text.specs.Names.{number_of, wildcard_names, all_wildcard_names, is_among, named};
 
 use mp_syntax::Expr;
@@ -17,23 +17,26 @@ use std::alloc::{AllocError, Global};
 const MAX_PATTERN_NODES: u64 = 64;
 /// How many variables a pattern may have.
 const MAX_VARIABLES: usize = 32;
+/// How many nodes a default may have.
+const MAX_DEFAULT_NODES: u64 = 64;
 /// How many nodes a term may have.
 const MAX_TERM_NODES: u64 = 100_000;
 /// The greatest number of arguments that a declaration may say.
 pub const MAX_ARITY: u32 = 1000;
 
-/// The number that decimal digits write, or `MAX_ARITY + 1` where it is greater than that.
-pub fn number_of(digits: &[u8]) -> u32
-    ensures { result ≡ min (number_of digits.now) 1001 }
+/// The number that decimal digits write, or one more than the limit where it is greater than that.
+pub fn number_of(digits: &[u8], limit: u32) -> u32
+    requires { limit ≤ 1000000 }
+    ensures { result ≡ min (number_of digits.now) (limit + 1) }
 {
     let mut number = 0;
     for digit in digits {
-        number = (10 * number + u32::from(digit.saturating_sub(48))).min(MAX_ARITY + 1);
+        number = (10 * number + u32::from(digit.saturating_sub(48))).min(limit + 1);
     }
     number
 }
 
-/// The number of symbols, applications and wildcards; the greatest `u64` where there are more.
+/// The number of symbols, applications and wildcards, of which one with its default is one; the greatest `u64` where there are more.
 #[cycle(node_count)]
 fn node_count(expr: &Expr<'_>) -> u64
     ensures { result ≡ min (nodes (expr_tree expr.now)) (2 ^ 64 - 1) }
@@ -43,6 +46,7 @@ fn node_count(expr: &Expr<'_>) -> u64
         Expr::Apply(_, args) => 1_u64.saturating_add(node_counts(args)),
         Expr::Infix { operands, .. } => 1_u64.saturating_add(node_counts(operands)),
         Expr::Wild(_) => 1,
+        Expr::Optional { .. } => 1,
     }
 }
 
@@ -68,6 +72,7 @@ fn add_variables<'a>(expr: &Expr<'a>, names: &mut Vec<&'a [u8]>) -> Result<(), A
         Expr::Apply(_, args) => add_all_variables(args, names),
         Expr::Infix { operands, .. } => add_all_variables(operands, names),
         Expr::Wild(wild) => add_name(wild.name, names),
+        Expr::Optional { wildcard, .. } => add_name(wildcard.name, names),
     }
 }
 
@@ -105,7 +110,36 @@ fn is_among(name: &[u8], names: &[&[u8]]) -> bool
     false
 }
 
-/// The pattern has more nodes or more variables than a pattern may have.
+/// A default in the expression has more nodes than a default may have.
+#[cycle(has_large_default)]
+fn has_large_default(expr: &Expr<'_>) -> bool
+    ensures { result ≡ has_large_default (expr_tree expr.now) }
+{
+    match expr {
+        Expr::Symbol(_) => false,
+        Expr::Apply(_, args) => some_large_default(args),
+        Expr::Infix { operands, .. } => some_large_default(operands),
+        Expr::Wild(_) => false,
+        Expr::Optional { default, .. } => {
+            node_count(default) > MAX_DEFAULT_NODES || has_large_default(default)
+        }
+    }
+}
+
+/// A default in one of the expressions has more nodes than a default may have.
+#[cycle(has_large_default)]
+fn some_large_default(exprs: &[Expr<'_>]) -> bool
+    ensures { result ≡ some_large_default (trees (map expr_tree exprs.now)) }
+{
+    for expr in exprs {
+        if has_large_default(expr) {
+            return true;
+        }
+    }
+    false
+}
+
+/// The pattern has more nodes or more variables than a pattern may have, or a default in it has more nodes than a default may have.
 pub fn is_large_pattern(alloc: Global, expr: &Expr<'_>) -> Result<bool, AllocError>
     ensures { IfOk result (λ large. large ≡ is_large_pattern (expr_tree expr.now)) }
 {
@@ -114,22 +148,23 @@ pub fn is_large_pattern(alloc: Global, expr: &Expr<'_>) -> Result<bool, AllocErr
     }
     let mut names = Vec::new(alloc);
     add_variables(expr, &mut names)?;
-    Ok(names.len() > MAX_VARIABLES)
+    Ok(names.len() > MAX_VARIABLES || has_large_default(expr))
 }
 
-/// The term has more nodes than a term may have.
+/// The term has more nodes than a term may have, or a default in it has more than a default may have.
 pub fn is_large_term(expr: &Expr<'_>) -> bool
     ensures { result ≡ is_large_term (expr_tree expr.now) }
 {
-    node_count(expr) > MAX_TERM_NODES
+    node_count(expr) > MAX_TERM_NODES || has_large_default(expr)
 }
 
-/// A star wildcard.
-fn is_star(expr: &Expr<'_>) -> bool
-    ensures { result ≡ is_star (expr_tree expr.now) }
+/// A wildcard that may take no argument: a star or optional one.
+fn may_take_none(expr: &Expr<'_>) -> bool
+    ensures { result ≡ may_take_none (expr_tree expr.now) }
 {
     match expr {
         Expr::Wild(wild) => wild.marks == 3,
+        Expr::Optional { .. } => true,
         _ => false,
     }
 }
@@ -140,6 +175,7 @@ fn may_take_more(assoc: bool, expr: &Expr<'_>) -> bool
 {
     match expr {
         Expr::Wild(wild) => wild.marks > 1 || (assoc && wild.kind.is_empty()),
+        Expr::Optional { .. } => assoc,
         _ => false,
     }
 }
@@ -160,7 +196,7 @@ fn may_reach(assoc: bool, args: &[Expr<'_>], count: usize) -> bool
 fn fewest(args: &[Expr<'_>]) -> usize
     ensures { result ≡ fewest (map expr_tree args.now) }
 {
-    args.iter().filter(|arg| !is_star(arg)).count()
+    args.iter().filter(|arg| !may_take_none(arg)).count()
 }
 
 /// The operation allows a number of arguments that the patterns may take.

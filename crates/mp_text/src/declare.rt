@@ -75,7 +75,7 @@ fn check_op(
 {
     let is_held = sig.find_op(name.text).is_some();
     check_name(name, is_held, sig.op_count() as usize, MAX_OPS, false)?;
-    let count = number_of(least.text);
+    let count = number_of(least.text, MAX_ARITY);
     if has_bad_flags(count, is_open, flags) {
         return Err(error_at(TextKind::BadFlags, name.place));
     }
@@ -115,7 +115,7 @@ fn new_decl(
 {
     Ok(OpDecl {
         name: new_name(alloc, name.text)?,
-        least: number_of(least.text),
+        least: number_of(least.text, MAX_ARITY),
         fixed: !is_open,
         assoc: is_said_assoc(flags),
         comm: is_said_comm(flags),

@@ -18,6 +18,8 @@ mod signature_printer;
 mod subst_printer;
 #[cfg(test)]
 mod tests;
+mod wildcard;
+mod written;
 
 pub use alone::{read_pattern, read_term};
 pub use fault::{TextError, TextFault, TextKind};

@@ -34,6 +34,53 @@ fn files_are_printed_a_statement_a_line(rt: HostRuntime) -> Result<(), Fail> {
     Ok(())
 }
 
+/// What is printed of the file of a text.
+fn shown(alloc: Global, text: &[u8]) -> Result<Vec<u8>, Fail> {
+    if text.len() > 1000 {
+        Err("the text is too long")?
+    }
+    let Ok(file) = read_file(alloc, text) else {
+        return Err("no file")?;
+    };
+    let mut sink = sink(alloc)?;
+    if write_file(&file, &mut sink).is_err() {
+        return Err("no room")?;
+    }
+    let mut printed = Vec::new(alloc);
+    printed.extend_from_slice(sink.content())?;
+    Ok(printed)
+}
+
+#[test]
+fn defaults_and_unnamed_wildcards_are_printed(rt: HostRuntime) -> Result<(), Fail> {
+    let rows: [(&[u8], &[u8]); 5] = [
+        (
+            b"op s 0+ comm; rule r: s(__, _, x_); subject t: s(a, b, c);",
+            b"op s 0+ comm;\nrule r: s(x_, _, __);\nsubject t: s(a, b, c);\n",
+        ),
+        (
+            b"op p 1+ assoc comm one infix +; rule r: p(x_, y_:0); subject s: a;",
+            b"op p 1+ assoc comm one infix +;\nrule r: (x_ + y_:0);\nsubject s: a;\n",
+        ),
+        (
+            b"op p 1+ assoc comm one infix +; rule r: p(x_:0, y_:0); subject s: 0;",
+            b"op p 1+ assoc comm one infix +;\nrule r: (x_:0 + y_:0);\nsubject s: 0;\n",
+        ),
+        (
+            b"op p 1+ assoc comm one infix +; rule r: p(x_:0, y_, z___); subject s: a;",
+            b"op p 1+ assoc comm one infix +;\nrule r: (y_ + x_:0 + z___);\nsubject s: a;\n",
+        ),
+        (
+            b"op f 3; op p 1+ comm one infix +; rule r: f(_:p(b, a), x_:(p(a) + b), ___);",
+            b"op f 3;\nop p 1+ comm one infix +;\nrule r: f(_:(a + b), x_:(a + b), ___);\n",
+        ),
+    ];
+    for (text, printed) in rows {
+        assert_eq!(rt; shown(rt.alloc(), text)?.as_slice(), printed);
+    }
+    Ok(())
+}
+
 #[test]
 fn signatures_and_patterns_are_printed(rt: HostRuntime) -> Result<(), Fail> {
     let file = file(rt.alloc())?;

@@ -170,7 +170,7 @@ fn faults_of_flags_kinds_and_signs_stand_at_their_tokens(rt: HostRuntime) -> Res
 
 #[test]
 fn faults_of_wildcards_stand_at_their_tokens(rt: HostRuntime) -> Result<(), Fail> {
-    let rows: [(&[u8], First); 24] = [
+    let rows: [(&[u8], First); 25] = [
         (b"rule r: x_q;", Some((TextKind::UnknownKind, 1, 9))),
         (
             b"op f 2; rule r: f(x_, x__);",
@@ -233,10 +233,147 @@ fn faults_of_wildcards_stand_at_their_tokens(rt: HostRuntime) -> Result<(), Fail
             b"rule r: x_num; subject s: x__;",
             Some((TextKind::WildcardInTerm, 1, 27)),
         ),
-        (b"rule r: _;", Some((TextKind::Unread, 1, 1))),
+        (b"rule r: _;", None),
+        (b"rule r: _K;", Some((TextKind::UnknownKind, 1, 9))),
     ];
     for (text, first) in rows {
         assert_eq!(rt; first_fault(rt.alloc(), text)?, first);
+    }
+    Ok(())
+}
+
+#[test]
+fn faults_of_defaults_stand_at_their_tokens(rt: HostRuntime) -> Result<(), Fail> {
+    let rows: [(&[u8], First); 26] = [
+        (b"rule r: x_:f;", Some((TextKind::LooseSequence, 1, 9))),
+        (b"op f 2; rule r: f(x_:a, x_:a);", None),
+        (
+            b"op f 2; rule r: f(x_:a, x_);",
+            Some((TextKind::KindClash, 1, 25)),
+        ),
+        (
+            b"op f 2; rule r: f(x_:a, x_:b);",
+            Some((TextKind::KindClash, 1, 25)),
+        ),
+        (
+            b"op f 2; rule r: f(x_:a, x_:g(b));",
+            Some((TextKind::KindClash, 1, 25)),
+        ),
+        (
+            b"op f 2; rule r: f(x_:g(b), x_:g(b));",
+            Some((TextKind::UnknownOp, 1, 22)),
+        ),
+        (
+            b"op f 2; op p 2+ assoc comm; rule r: f(x_:p(a, b), x_:p(b, a));",
+            None,
+        ),
+        (
+            b"op f 2; op p 2+ assoc; rule r: f(x_:p(a, b), x_:p(p(a), b));",
+            Some((TextKind::Arity, 1, 51)),
+        ),
+        (
+            b"op f 2; op p 2+ assoc; rule r: f(x_:p(a, b), x_:p(p(b), a));",
+            Some((TextKind::KindClash, 1, 46)),
+        ),
+        (
+            b"op f 2; rule r: f(x_:y_:z_:a, b);",
+            Some((TextKind::WildcardInTerm, 1, 22)),
+        ),
+        (
+            b"op f 2; rule r: f(x_:a, x_:y_:a);",
+            Some((TextKind::KindClash, 1, 25)),
+        ),
+        (
+            b"op f 2; rule r: f(x_:f(y__, c), b);",
+            Some((TextKind::WildcardInTerm, 1, 24)),
+        ),
+        (
+            b"op f 2; rule r: f(x_:y_q, b);",
+            Some((TextKind::UnknownKind, 1, 22)),
+        ),
+        (
+            b"op f 2; rule r: f(y_, x_:y__);",
+            Some((TextKind::WildcardInTerm, 1, 26)),
+        ),
+        (
+            b"op f 2; rule r: f(x_:f, b);",
+            Some((TextKind::BareOperation, 1, 22)),
+        ),
+        (
+            b"op f 2; rule r: f(x_:(a + b), b);",
+            Some((TextKind::UnknownOp, 1, 25)),
+        ),
+        (b"op f 2; rule r: f(x_:a, y_:b, z_:c);", None),
+        (b"op f 2; rule r: f(x_:a);", Some((TextKind::Arity, 1, 17))),
+        (b"op f 1; rule r: f(x_:a, y_:b, z_);", None),
+        (
+            b"op f 1; rule r: f(x_:a, y_, z_);",
+            Some((TextKind::Arity, 1, 17)),
+        ),
+        (
+            b"op p 3+ comm; rule r: p(x_:a, y_);",
+            Some((TextKind::Arity, 1, 23)),
+        ),
+        (b"op p 2+ assoc; rule r: p(x_:a);", None),
+        (
+            b"op f 2; rule r: f(x_:f(a), x_);",
+            Some((TextKind::Arity, 1, 22)),
+        ),
+        (b"op f 2 infix +; rule r: (x_:(a + b) + x_:f(a, b));", None),
+        (
+            b"op f 2; subject s: f(x_:a, b);",
+            Some((TextKind::WildcardInTerm, 1, 22)),
+        ),
+        (
+            b"op f 2; subject s: f(a, x_:y_q);",
+            Some((TextKind::WildcardInTerm, 1, 25)),
+        ),
+    ];
+    for (text, first) in rows {
+        assert_eq!(rt; first_fault(rt.alloc(), text)?, first);
+    }
+    Ok(())
+}
+
+/// A statement with a default of as many nodes, and what stands before and behind it.
+fn defaulted(alloc: Global, before: &[u8], nodes: usize, behind: &[u8]) -> Result<Vec<u8>, Fail> {
+    let mut text = Vec::new(alloc);
+    text.extend_from_slice(b"op p 0+; ")?;
+    text.extend_from_slice(before)?;
+    text.extend_from_slice(b"p(a")?;
+    for _ in 2..nodes {
+        text.extend_from_slice(b",a")?;
+    }
+    text.extend_from_slice(behind)?;
+    Ok(text)
+}
+
+#[test]
+fn defaults_have_at_most_64_nodes(rt: HostRuntime) -> Result<(), Fail> {
+    let rows: [(&[u8], usize, &[u8], First); 4] = [
+        (b"rule r: p(x_:", 64, b"));", None),
+        (
+            b"rule r: p(x_:",
+            65,
+            b"));",
+            Some((TextKind::TooMany, 1, 15)),
+        ),
+        (
+            b"rule r: p(x_:p(y_:",
+            65,
+            b")));",
+            Some((TextKind::TooMany, 1, 15)),
+        ),
+        (
+            b"subject s: x_:",
+            65,
+            b");",
+            Some((TextKind::TooMany, 1, 18)),
+        ),
+    ];
+    for (before, nodes, behind, first) in rows {
+        let text = defaulted(rt.alloc(), before, nodes, behind)?;
+        assert_eq!(rt; first_fault(rt.alloc(), &text)?, first);
     }
     Ok(())
 }

@@ -1,9 +1,10 @@
 use Rattle.std.proofs.Common.{◌≡◌, ◌++◌, ◌+◌, ◌*◌, drop, map}
 use Rattle.mp_syntax.specs.Syntax.{trees, HaveNames}
-use Rattle.mp_syntax.specs.View.{wildcard_of, expr_tree}
+use Rattle.mp_syntax.specs.View.{expr_tree}
 use Rattle.mp_text.specs.Build.{pattern_of}
 use Rattle.mp_text.specs.Checks.{nodes, all_nodes, all_pattern_faults}
-use Rattle.mp_text.specs.Names.{all_wildcards}
+use Rattle.mp_text.specs.Wildcards.{all_pattern_wildcards}
+use Rattle.mp_text.specs.WildcardView.{wildcard_view}
 use Rattle.mp_text.proofs.build.+build_pattern.Given as goal
 
 -- what is built stands before what is to be built, and the faults are those of the rest behind the wildcards so far
@@ -12,8 +13,8 @@ invariant-build_patterns-loop-expr l =
     let rest = map expr_tree (drop l.expr-index l.exprs) in
     record {
       built : l.patterns ++ map (pattern_of l.sig) rest ≡ map (pattern_of l.sig) (map expr_tree l.exprs);
-      faults : all_pattern_faults l.sig (map wildcard_of l.before.items) (trees rest) ≡ all_pattern_faults l.sig (map wildcard_of l.fn.before.items) (trees (map expr_tree l.exprs));
-      seen : map wildcard_of l.before.items ++ all_wildcards (trees rest) ≡ map wildcard_of l.fn.before.items ++ all_wildcards (trees (map expr_tree l.exprs));
+      faults : all_pattern_faults l.sig (map wildcard_view l.before.items) (trees rest) ≡ all_pattern_faults l.sig (map wildcard_view l.fn.before.items) (trees (map expr_tree l.exprs));
+      seen : map wildcard_view l.before.items ++ all_pattern_wildcards l.sig (trees rest) ≡ map wildcard_view l.fn.before.items ++ all_pattern_wildcards l.sig (trees (map expr_tree l.exprs));
       named : HaveNames (trees rest);
     }
 

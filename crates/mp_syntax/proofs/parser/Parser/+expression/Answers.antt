@@ -1,15 +1,16 @@
-use Rattle.std.proofs.Common.{[], ◌∷◌, ◌++◌, map, refl, sym, ap, ◌∙◌, arith}
+use Rattle.std.proofs.Common.{◌≡◌, ◌+◌, [], ◌∷◌, ◌++◌, map, refl, sym, ap, subst, ◌∙◌, arith}
 use Rattle.std.proofs.lemmas.Result.{err_from_is_err_and}
 use Rattle.std.proofs.lemmas.List.{map_push}
 use Rattle.mp_syntax.specs.declared.token.Punct.TheVariants.{Open, Close}
 use Rattle.mp_syntax.specs.Lexing.{placed}
-use Rattle.mp_syntax.specs.Machine.{Go, BeforeExpr, AfterExpr, AfterWord, AfterOpen, Arguments, Bracket, Operands, run}
-use Rattle.mp_syntax.specs.Syntax.{Apply, InfixOf, trees}
-use Rattle.mp_syntax.specs.View.{spot_of, expr_tree}
-use Rattle.mp_syntax.specs.Parsing.{ahead}
-use Rattle.mp_syntax.proofs.Runs.{expr-closes, operand-closes, fails-along, word-opens, open-closes, open-expr, bracket-opens, over-punct}
+use Rattle.mp_syntax.specs.Machine.{Go, Default, BeforeExpr, AfterExpr, AfterWord, AfterOpen, Arguments, Bracket, Operands, run}
+use Rattle.mp_syntax.specs.Syntax.{Apply, InfixOf, Optional, trees, HasNoDefault}
+use Rattle.mp_syntax.specs.View.{spot_of, wildcard_of, expr_tree}
+use Rattle.mp_syntax.specs.Parsing.{ahead, behind_chain, within_defaults}
+use Rattle.mp_syntax.proofs.Runs.{expr-closes, operand-closes, fails-along, word-opens, open-closes, open-expr, bracket-opens, over-punct, length-passed_sign, over-sign, operand-again, over-default, defaults-behind, chained-optional, open_count-within_defaults}
 use Rattle.mp_syntax.proofs.Trees.{expr_tree-Apply, expr_tree-Infix}
 use Rattle.mp_syntax.proofs.parser.Parser.+expression.Goals as goal
+use Rattle.mp_syntax.proofs.parser.Parser.+expression.Goals.{behind_wildcard-in-Some, behind_wildcard-in-None+in_ok-default-in-None}
 
 pub arguments-returns-in_err-expect-clause-read : goal.arguments-returns-in_err-expect-clause-read
 arguments-returns-in_err-expect-clause-read t c =
@@ -100,3 +101,58 @@ operands-returns-clause-read t c = λ done h k place len.
     ∙ c.in_ok-expr.ensures.read done h (Operands place sign first others ∷ k) (omega (arith, len))
     ∙ c.in_ok-expect.ensures.read done (AfterExpr h (Operands place sign first others ∷ k) e) _ (operand-closes h place sign first others k e (placed c.expr.new.self.token) (sym c.sees_sign.ensures ∙ c.if-not-sees_sign.true))
     ∙ ap (λ l. run done (AfterExpr h k (InfixOf place sign (trees l))) (ahead c.expect.new.self)) (sym (ap (map expr_tree) (c.in_ok-push-2.ensures.items ∙ ap (λ l. l ++ c.in_ok-expr.field-0 ∷ []) c.loop-operands.invariant.items) ∙ ap (λ l. first ∷ l) (map_push expr_tree c.loop-operands.invariant.others c.in_ok-expr.field-0)))
+
+pub behind_wildcard-returns-in_err-default-in-None-clause-read : goal.behind_wildcard-returns-in_err-default-in-None-clause-read
+behind_wildcard-returns-in_err-default-in-None-clause-read t c =
+    let p = err_from_is_err_and c.from_residual-in_err-default-in-None.result c.from_residual-in_err-default-in-None.ensures.1 in
+    rw (p.1, p.2) (λ done x k len.
+    let w = wildcard_of c.args.wildcard in
+    let ws = w ∷ map wildcard_of c.in_ok-others.others.items in
+    let test = sym c.sees_default.ensures ∙ c.if-not-sees_default.false in
+    fails-along _ _ _
+    (over-default (placed c.args.self.now.token) _ _ c.advance.ensures done x k w test
+    ∙ c.in_ok-others.ensures.read done x (Default w ∷ k)
+    ∙ ap (λ o. run done (behind_chain x (within_defaults ws k) o) (ahead c.chain.new.self)) c.in-None.is)
+    (c.in_err-default-in-None.ensures.read done x (within_defaults ws k) (ap (λ n. n + c.args.room) (open_count-within_defaults ws k) ∙ len)))
+
+pub behind_wildcard-returns-clause-read : goal.behind_wildcard-returns-clause-read
+behind_wildcard-returns-clause-read t c = λ done x k len.
+    let w = wildcard_of c.args.wildcard in
+    let others = map wildcard_of c.in_ok-others.others.items in
+    let ws = w ∷ others in
+    let e = expr_tree c.match-last.default in
+    let test = sym c.sees_default.ensures ∙ c.if-not-sees_default.false in
+    let plain : HasNoDefault e = elim c.match-last.branch [
+      | behind_wildcard-in-Some v ↦ subst (λ d. HasNoDefault (expr_tree d)) (sym v.default-is) tt
+      | behind_wildcard-in-None+in_ok-default-in-None v ↦ subst (λ d. HasNoDefault (expr_tree d)) (sym v.default-is) v.in_ok-default-in-None.ensures.plain
+    ] in
+    let last : run done (behind_chain x (within_defaults ws k) c.in_ok-others.last) (ahead c.chain.new.self) ≡ run done (AfterExpr x (within_defaults ws k) e) (ahead c.match-last.self) = elim c.match-last.branch [
+      | behind_wildcard-in-Some v ↦ ap (λ o. run done (behind_chain x (within_defaults ws k) o) (ahead c.chain.new.self)) v.in-Some.is ∙ (λ i. run done (AfterExpr x (within_defaults ws k) (expr_tree (sym v.default-is i))) (ahead (sym v.self-is i)))
+      | behind_wildcard-in-None+in_ok-default-in-None v ↦
+          ap (λ o. run done (behind_chain x (within_defaults ws k) o) (ahead c.chain.new.self)) v.in-None.is
+          ∙ v.in_ok-default-in-None.ensures.read done x (within_defaults ws k) (ap (λ n. n + c.args.room) (open_count-within_defaults ws k) ∙ len)
+          ∙ (λ i. run done (AfterExpr x (within_defaults ws k) (expr_tree (sym v.default-is i))) (ahead (sym v.self-is i)))
+    ] in
+    over-default (placed c.args.self.now.token) _ _ c.advance.ensures done x k w test
+    ∙ c.in_ok-others.ensures.read done x (Default w ∷ k)
+    ∙ last
+    ∙ defaults-behind done x ws k e (ahead c.match-last.self)
+    ∙ ap (λ t. run done (AfterExpr x k t) (ahead c.match-last.self)) (chained-optional w others e plain ∙ ap (λ d. Optional w others (expr_tree d)) (sym c.in_ok-new.ensures.ok))
+
+pub operands-loop-operands-preserved : goal.operands-loop-operands-preserved
+operands-loop-operands-preserved t c =
+    let sign = spot_of c.args.sign in
+    let first = expr_tree c.args.first in
+    let others = map expr_tree c.loop-operands.invariant.others in
+    let e = expr_tree c.in_ok-expr.field-0 in
+    let held = sym c.sees_sign.ensures ∙ c.if-not-sees_sign.false in
+    record {
+      others = c.loop-operands.invariant.others ++ c.in_ok-expr.field-0 ∷ [];
+      items = c.in_ok-push-2.ensures.items ∙ ap (λ l. l ++ c.in_ok-expr.field-0 ∷ []) c.loop-operands.invariant.items;
+      read = λ done x k place len.
+          c.loop-operands.invariant.read done x k place len
+          ∙ c.in_ok-expr.ensures.read done x (Operands place sign first others ∷ k) (omega (arith, len))
+          ∙ over-sign c.args.sign.text.now (placed c.expr.new.self.token) _ _ c.advance.ensures held done (AfterExpr x (Operands place sign first others ∷ k) e) (Go (BeforeExpr x (Operands place sign first (others ++ e ∷ []) ∷ k))) (operand-again x place sign first others k e (placed c.expr.new.self.token) held)
+          ∙ ap (λ l. run done (BeforeExpr x (Operands place sign first l ∷ k)) (ahead c.advance.new.self)) (sym (map_push expr_tree c.loop-operands.invariant.others c.in_ok-expr.field-0));
+      shorter = let passed = length-passed_sign c.args.sign.text.now (placed c.expr.new.self.token) _ _ c.advance.ensures held in omega (arith, passed, c.in_ok-expr.ensures.shorter, c.loop-operands.invariant.shorter);
+    }

@@ -2,30 +2,36 @@ use Rattle.std.proofs.Common.{◌≡◌, ◌≤◌, ◌+◌, ◌*◌, List, [], 
 use Rattle.mp_syntax.specs.declared.place.Place.{Place}
 use Rattle.mp_syntax.specs.declared.tree.Expr.{Expr}
 use Rattle.mp_syntax.specs.Syntax.{Spot, Statement}
-use Rattle.mp_syntax.specs.Machine.{Within, Frame, Arguments, Operands, BeforeExpr, run}
+use Rattle.mp_syntax.specs.Machine.{Within, Frame, Arguments, Operands, open_count, BeforeExpr, run}
 use Rattle.mp_syntax.specs.View.{spot_of, expr_tree}
 use Rattle.mp_syntax.specs.Parsing.{ahead}
 use Rattle.mp_syntax.proofs.parser.Parser.+expression.Given as goal
 
 abbrev pub decreases-arguments : goal.decreases-arguments
-decreases-arguments l = 3 * l.room + 3
+decreases-arguments l = 5 * l.room + 5
+
+abbrev pub decreases-behind_wildcard : goal.decreases-behind_wildcard
+decreases-behind_wildcard l = 5 * l.room + 3
+
+abbrev pub decreases-word_or_bracket : goal.decreases-word_or_bracket
+decreases-word_or_bracket l = 5 * l.room + 2
 
 abbrev pub decreases-behind_word : goal.decreases-behind_word
-decreases-behind_word l = 3 * l.room + 1
+decreases-behind_word l = 5 * l.room + 1
 
 abbrev pub decreases-expr : goal.decreases-expr
-decreases-expr l = 3 * l.room + 2
+decreases-expr l = 5 * l.room + 4
 
 abbrev pub decreases-infix : goal.decreases-infix
-decreases-infix l = 3 * l.room + 1
+decreases-infix l = 5 * l.room + 1
 
 abbrev pub decreases-operands : goal.decreases-operands
-decreases-operands l = 3 * l.room + 3
+decreases-operands l = 5 * l.room + 5
 
 -- the arguments so far are those that the open application holds
 abbrev pub invariant-arguments-loop-args : goal.invariant-arguments-loop-args
 invariant-arguments-loop-args l = record {
-  read : (done : List Statement) (x : Within) (k : List Frame) (w : Spot) → length k + l.room ≡ 99 → run done (BeforeExpr x (Arguments w [] ∷ k)) (ahead l.fn.self) ≡ run done (BeforeExpr x (Arguments w (map expr_tree l.args.items) ∷ k)) (ahead l.self);
+  read : (done : List Statement) (x : Within) (k : List Frame) (w : Spot) → open_count k + l.room ≡ 99 → run done (BeforeExpr x (Arguments w [] ∷ k)) (ahead l.fn.self) ≡ run done (BeforeExpr x (Arguments w (map expr_tree l.args.items) ∷ k)) (ahead l.self);
   shorter : length (ahead l.self) ≤ length (ahead l.fn.self);
 }
 
@@ -37,7 +43,7 @@ abbrev pub invariant-operands-loop-operands : goal.invariant-operands-loop-opera
 invariant-operands-loop-operands l = record {
   others : List Expr;
   items : l.operands.items ≡ l.fn.first ∷ others;
-  read : (done : List Statement) (x : Within) (k : List Frame) (place : Place) → length k + l.room ≡ 99 → run done (BeforeExpr x (Operands place (spot_of l.sign) (expr_tree l.fn.first) [] ∷ k)) (ahead l.fn.self) ≡ run done (BeforeExpr x (Operands place (spot_of l.sign) (expr_tree l.fn.first) (map expr_tree others) ∷ k)) (ahead l.self);
+  read : (done : List Statement) (x : Within) (k : List Frame) (place : Place) → open_count k + l.room ≡ 99 → run done (BeforeExpr x (Operands place (spot_of l.sign) (expr_tree l.fn.first) [] ∷ k)) (ahead l.fn.self) ≡ run done (BeforeExpr x (Operands place (spot_of l.sign) (expr_tree l.fn.first) (map expr_tree others) ∷ k)) (ahead l.self);
   shorter : length (ahead l.self) ≤ length (ahead l.fn.self);
 }
 

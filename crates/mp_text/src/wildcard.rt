@@ -1,0 +1,192 @@
+//! Makes the wildcards of patterns, and checks that those of one variable are the same.
+
+ghost use Rattle.std.specs.Prelude.{◌≡◌, [], ◌∷◌, ◌++◌, map, option_map};
+ghost use Rattle.std.specs.List.{list_any};
+ghost use Rattle.mp_term.specs.View.{tree};
+ghost use Rattle.mp_term.specs.Normal.{normal};
+ghost use Rattle.mp_pattern.specs.PatternTree.{optional, wild_pattern};
+ghost use Rattle.mp_pattern.specs.View.{pattern_tree, wildcard};
+ghost use Rattle.mp_syntax.specs.Syntax.{HasParts, HasNames};
+ghost use Rattle.mp_syntax.specs.View.{wildcard_of, expr_tree};
+ghost use Rattle.mp_text.specs.Answers.{Gives};
+ghost use Rattle.mp_text.specs.Build.{shape_of, variable_of, term_of};
+ghost use Rattle.mp_text.specs.Wildcards.{default_form, without_default, with_default_form, same_default, same_class, differs};
+ghost use Rattle.mp_text.specs.WildcardView.{default_view, wildcard_view};
+ghost use Rattle.mp_text.specs.Checks.{wildcard_faults, default_faults};
+
+use crate::build::{build_term, shape, variable, wildcard_in_term};
+use crate::fault::{TextError, TextKind, error_at};
+use crate::written::written_term;
+use mp_pattern::{Pattern, Shape};
+use mp_syntax::{Expr, Wildcard};
+use mp_term::{Name, Signature, Term, normal_form, normalise};
+use std::alloc::Global;
+
+/// The default of a wildcard.
+///
+/// As plain data it is a `DefaultForm` of `specs/Wildcards.antt`, by `default_view` of `specs/WildcardView.antt`.
+#[derive(Drop)]
+pub enum DefaultForm {
+    /// There is none.
+    Absent,
+    /// There is one of this normal form.
+    Normal(Term),
+    /// There is one without a normal form.
+    Unknown,
+}
+
+/// A wildcard of a pattern, with its default.
+///
+/// As plain data it is a `PatternWildcard` of `specs/Wildcards.antt`, by `wildcard_view` of `specs/WildcardView.antt`.
+#[derive(Drop)]
+pub struct PatternWildcard<'a> {
+    /// The wildcard.
+    pub wildcard: Wildcard<'a>,
+    /// Its default.
+    pub default: DefaultForm,
+}
+
+/// The pattern of a wildcard without a default behind these, or its first fault. The wildcard is added to them.
+pub fn build_wildcard<'a>(
+    alloc: Global,
+    sig: &Signature,
+    wild: Wildcard<'a>,
+    before: &mut Vec<PatternWildcard<'a>>,
+) -> Result<Pattern, TextError>
+    requires { HasParts (wildcard_of wild) }
+    ensures { Gives result (wildcard_faults sig.now (map wildcard_view before.old.items) (without_default (wildcard_of wild.entry)))
+        (λ p. (pattern_tree p ≡ wild_pattern (shape_of sig.now (wildcard_of wild.entry)) (variable_of wild.entry.name.now)) × (map wildcard_view before.new.items ≡ map wildcard_view before.old.items ++ without_default (wildcard_of wild.entry) ∷ [])) }
+{
+    let wildcard = PatternWildcard {
+        wildcard: wild,
+        default: DefaultForm::Absent,
+    };
+    let (shape, name) = add_wildcard(alloc, sig, wildcard, before)?;
+    Ok(Pattern::Wild(shape, name))
+}
+
+/// The pattern of a wildcard with a default behind these, or its first fault. The wildcard is added to them.
+pub fn build_optional<'a>(
+    alloc: Global,
+    sig: &Signature,
+    wild: Wildcard<'a>,
+    others: &[Wildcard<'a>],
+    default: &Expr<'a>,
+    before: &mut Vec<PatternWildcard<'a>>,
+) -> Result<Pattern, TextError>
+    requires parts { HasParts (wildcard_of wild) }
+    requires names { HasNames (expr_tree default.now) }
+    ensures { Gives result (wildcard_faults sig.now (map wildcard_view before.old.items) (with_default_form sig.now (wildcard_of wild.entry) (map wildcard_of others.now) (expr_tree default.now)) ++ default_faults sig.now (map wildcard_of others.now) (expr_tree default.now))
+        (λ p. (pattern_tree p ≡ wild_pattern (optional (normal sig.now (term_of sig.now (expr_tree default.now)))) (variable_of wild.entry.name.now)) × (map wildcard_view before.new.items ≡ map wildcard_view before.old.items ++ with_default_form sig.now (wildcard_of wild.entry) (map wildcard_of others.now) (expr_tree default.now) ∷ [])) }
+{
+    let form = default_form(alloc, sig, others, default)?;
+    let wildcard = PatternWildcard {
+        wildcard: wild,
+        default: form,
+    };
+    let (_, name) = add_wildcard(alloc, sig, wildcard, before)?;
+    let term = default_term(alloc, sig, others, default)?;
+    Ok(Pattern::Wild(Shape::Opt(term), name))
+}
+
+/// What a wildcard behind these takes as its underscores and its kind say, and its variable; or its first fault. The wildcard is
+/// added to them.
+fn add_wildcard<'a>(
+    alloc: Global,
+    sig: &Signature,
+    new: PatternWildcard<'a>,
+    before: &mut Vec<PatternWildcard<'a>>,
+) -> Result<(Shape, Option<Name>), TextError>
+    requires { HasParts (wildcard_of new.wildcard) }
+    ensures { Gives result (wildcard_faults sig.now (map wildcard_view before.old.items) (wildcard_view new.entry))
+        (λ r. (wildcard r.0 ≡ shape_of sig.now (wildcard_of new.entry.wildcard)) × (r.1 ≡ variable_of new.entry.wildcard.name.now) × (map wildcard_view before.new.items ≡ map wildcard_view before.old.items ++ wildcard_view new.entry ∷ [])) }
+{
+    let shape = shape(sig, new.wildcard)?;
+    if some_differs(&new, before) {
+        return Err(error_at(TextKind::KindClash, new.wildcard.place));
+    }
+    let name = variable(alloc, new.wildcard)?;
+    before.push(new)?;
+    Ok((shape, name))
+}
+
+/// The normal form of a default, which stands behind further wildcards of a chain, where it has one.
+fn default_form(
+    alloc: Global,
+    sig: &Signature,
+    others: &[Wildcard<'_>],
+    default: &Expr<'_>,
+) -> Result<DefaultForm, TextError>
+    requires { HasNames (expr_tree default.now) }
+    ensures { Gives result [] (λ f. default_view f ≡ default_form sig.now (map wildcard_of others.now) (expr_tree default.now)) }
+{
+    if !others.is_empty() {
+        return Ok(DefaultForm::Unknown);
+    }
+    match written_term(alloc, sig, default)? {
+        None => Ok(DefaultForm::Unknown),
+        Some(term) => {
+            let normal = normal_form(alloc, sig, term)?;
+            Ok(DefaultForm::Normal(normal))
+        }
+    }
+}
+
+/// The normal form of a default, which stands behind further wildcards of a chain, or its first fault.
+fn default_term(
+    alloc: Global,
+    sig: &Signature,
+    others: &[Wildcard<'_>],
+    default: &Expr<'_>,
+) -> Result<Term, TextError>
+    requires { HasNames (expr_tree default.now) }
+    ensures { Gives result (default_faults sig.now (map wildcard_of others.now) (expr_tree default.now)) (λ t. tree t ≡ normal sig.now (term_of sig.now (expr_tree default.now))) }
+{
+    if let [other, ..] = others {
+        return Err(wildcard_in_term(sig, *other));
+    }
+    let term = build_term(alloc, sig, default)?;
+    let term = normalise(alloc, sig, term)?;
+    Ok(term)
+}
+
+/// One of the others has the name of the wildcard, and another class, kind or default.
+fn some_differs(wild: &PatternWildcard<'_>, others: &[PatternWildcard<'_>]) -> bool
+    ensures { result ≡ list_any (differs (wildcard_view wild.now)) (map wildcard_view others.now) }
+{
+    for other in others {
+        if differs(wild, other) {
+            return true;
+        }
+    }
+    false
+}
+
+/// The wildcards have one name, and aren't of one class, kind and default.
+fn differs(wild: &PatternWildcard<'_>, other: &PatternWildcard<'_>) -> bool
+    ensures { result ≡ differs (wildcard_view wild.now) (wildcard_view other.now) }
+{
+    let name = wild.wildcard.name;
+    let same_variable = !name.is_empty() && name == other.wildcard.name;
+    same_variable && !same_class(other, wild)
+}
+
+/// The wildcards have as many underscores, one kind and one default.
+fn same_class(wild: &PatternWildcard<'_>, other: &PatternWildcard<'_>) -> bool
+    ensures { result ≡ same_class (wildcard_view wild.now) (wildcard_view other.now) }
+{
+    wild.wildcard.marks == other.wildcard.marks
+        && wild.wildcard.kind == other.wildcard.kind
+        && same_default(&wild.default, &other.default)
+}
+
+/// There is no default, or both have one normal form.
+fn same_default(default: &DefaultForm, other: &DefaultForm) -> bool
+    ensures { result ≡ same_default (default_view default.now) (default_view other.now) }
+{
+    match (default, other) {
+        (DefaultForm::Absent, DefaultForm::Absent) => true,
+        (DefaultForm::Normal(term), DefaultForm::Normal(known)) => term == known,
+        _ => false,
+    }
+}
