@@ -52,7 +52,7 @@ module _ (sig : Sig) where
   IsMatchable-read : (rs : List Rule) → AllByRecursion (λ r. IsSoundPattern sig r.pattern) rs → AllByRecursion IsWithinLimits rs → AllByRecursion (IsMatchable sig) rs
   IsMatchable-read [] h k = tt
   IsMatchable-read (r ∷ rs) h k = (
-    record { sound = record { defaults = Each-read None r.pattern h.0.defaults }; small = k.0.0; condition = k.0.1; planned = plan_fault-read r.pattern h.0 },
+    record { sound = record { defaults = Each-read None r.pattern h.0.defaults }; small = h.0.small_defaults; condition = k.0; planned = plan_fault-read r.pattern h.0 },
     IsMatchable-read rs h.1 k.1,
   )
 

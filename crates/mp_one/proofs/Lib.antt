@@ -8,6 +8,6 @@ pub mod SoundLaws
 pub mod FoundLaws
 pub mod ItemLaws
 pub mod ReadyItems
+pub mod ConditionLaws
 pub mod CheckLaws
 pub mod PlanPatternLaws
-pub mod ConditionLaws
