@@ -1,9 +1,29 @@
 use crate::run::run;
 use mp_io::{MemoryShelf, MemorySink};
+use std::alloc::Global;
 use std::test::Fail;
 
 const USAGE: &[u8] =
     b"usage: matchpy ACTION [FILE ..] [--engine E] [--limit N] [--resume TOKEN] [--max N]\n";
+
+// Files, and behind `|` the lines of their matches, with `&` between each two.
+const MATCHES: &str = "\
+op f 2; rule r: f(x_, x_); subject s: f(a, b);|\n\
+op f 2 comm; rule r: f(x_, a); subject s: f(a, b);|s r {x -> b}\n\
+op s 0+ comm; rule r: s(x_, y_); subject t: s(b, a);|t r {x -> a, y -> b}&t r {x -> b, y -> a}\n\
+op s 0+ comm; rule r: s(x__, y___); subject t: s(a, a);|t r {x -> {a}, y -> {a}}&t r {x -> {a, a}, y -> {}}\n\
+op h 2; op g 0+; op s 0+ comm; rule r: h(s(x__), g(x__)); subject t: h(s(a, b), g(b, a));|t r {x -> (b, a)}\n\
+op plus 1+ assoc comm one infix +; rule r: plus(x_, y_); subject s: (a + b + c);|s r {x -> a, y -> (b + c)}&s r {x -> b, y -> (a + c)}&s r {x -> c, y -> (a + b)}&s r {x -> (a + b), y -> c}&s r {x -> (a + c), y -> b}&s r {x -> (b + c), y -> a}\n\
+op k 2 comm; op s 0+ comm; rule r: s(k(x_, y_), z_); subject t: s(k(a, d), k(b, c));|t r {x -> a, y -> d, z -> k(b, c)}&t r {x -> d, y -> a, z -> k(b, c)}&t r {x -> b, y -> c, z -> k(a, d)}&t r {x -> c, y -> b, z -> k(a, d)}\n\
+op p 1+ assoc; rule r: p(x_, y_); subject s: p(a, p(b, c));|s r {x -> a, y -> p(b, c)}&s r {x -> p(a, b), y -> c}\n\
+op p 1+ assoc; rule r: p(x_); subject s: p(a);|s r {x -> a}\n\
+op f 2; kind v: a b; rule r: f(x_v, n_num); subject s: f(b, 7); subject t: f(c, 7);|s r {x -> b, n -> 7}\n\
+op g 0+; rule r: g(x__, y___); subject s: g(a, b);|s r {x -> (a), y -> (b)}&s r {x -> (a, b), y -> ()}\n\
+op s 0+ comm; rule r: s(__, _, x_); subject t: s(a, b, c);|t r {x -> a}&t r {x -> b}&t r {x -> c}\n\
+op plus 1+ assoc comm one infix +; rule r: plus(x_, y_:0); subject s: a;|s r {x -> a, y -> 0}\n\
+op plus 1+ assoc comm one infix +; rule r: plus(x_:0, y_:0); subject s: 0;|s r {x -> 0, y -> 0}\n\
+op plus 1+ assoc comm one infix +; rule r: plus(x_:0, y_, z___); subject s: a;|\n\
+op plus 1+ assoc comm one infix +; rule r: plus(x_:0); subject s: a; subject t: (a + b);|t r {x -> (a + b)}";
 
 // Which calls fail: of the shelf, of the sink for lines, and of the sink for errors. Numbers from 0.
 #[derive(Clone, Copy)]
@@ -51,6 +71,40 @@ fn ran(
     }
 }
 
+// The lines, each with its end.
+fn ended(alloc: Global, lines: &str) -> Result<Vec<u8>, Fail> {
+    let mut text = Vec::new(alloc);
+    for line in lines.split('&') {
+        if !line.is_empty() {
+            text.extend_from_slice(line.as_bytes())?;
+            text.push(b'\n')?;
+        }
+    }
+    Ok(text)
+}
+
+// Whether the matches of the file are printed as the lines behind it.
+fn is_matched(rt: &HostRuntime, case: &str) -> Result<bool, Fail> {
+    let mut parts = case.split('|');
+    match (parts.next(), parts.next()) {
+        (Some(file), Some(lines)) => {
+            let (status, printed, said) = ran(rt, &["match", "t"], file.as_bytes(), &NONE)?;
+            let expected = ended(rt.alloc(), lines)?;
+            let wanted = if lines.is_empty() { 1 } else { 0 };
+            Ok(status == wanted && printed == expected && said.is_empty())
+        }
+        _ => Err("no case".into()),
+    }
+}
+
+#[test]
+fn each_match_is_printed_once_in_order(rt: HostRuntime) -> Result<(), Fail> {
+    for case in MATCHES.split('\n') {
+        assert!(rt; is_matched(&rt, case)?, "{case}");
+    }
+    Ok(())
+}
+
 #[test]
 fn words_and_files_decide_what_is_printed(rt: HostRuntime) -> Result<(), Fail> {
     let first = b"op f 2; rule r: f(x_, y_); subject s: f(a, b);".as_slice();
@@ -80,13 +134,6 @@ fn words_and_files_decide_what_is_printed(rt: HostRuntime) -> Result<(), Fail> {
             b"s q {x -> g(g(c()))}\ns r {x -> c()}\ns p {y -> g(c())}\n".as_slice(),
             nothing,
         ),
-        (
-            ["match", "t"].as_slice(),
-            b"op f 2; rule r: f(x_, x_); subject s: f(a, b);".as_slice(),
-            1,
-            nothing,
-            nothing,
-        ),
         (["match", "t"].as_slice(), nothing, 1, nothing, nothing),
         (
             ["match", "none"].as_slice(),
@@ -101,76 +148,6 @@ fn words_and_files_decide_what_is_printed(rt: HostRuntime) -> Result<(), Fail> {
             3,
             nothing,
             b"matchpy: t:1:20: Arity\n".as_slice(),
-        ),
-        (
-            ["match", "t"].as_slice(),
-            b"op f 2 comm; rule r: f(x_, a); subject s: f(a, b);".as_slice(),
-            0,
-            b"s r {x -> b}\n".as_slice(),
-            nothing,
-        ),
-        (
-            ["match", "t"].as_slice(),
-            b"op s 0+ comm; rule r: s(x_, y_); subject t: s(b, a);".as_slice(),
-            0,
-            b"t r {x -> a, y -> b}\nt r {x -> b, y -> a}\n".as_slice(),
-            nothing,
-        ),
-        (
-            ["match", "t"].as_slice(),
-            b"op s 0+ comm; rule r: s(x__, y___); subject t: s(a, a);".as_slice(),
-            0,
-            b"t r {x -> {a}, y -> {a}}\nt r {x -> {a, a}, y -> {}}\n".as_slice(),
-            nothing,
-        ),
-        (
-            ["match", "t"].as_slice(),
-            b"op h 2; op g 0+; op s 0+ comm; rule r: h(s(x__), g(x__)); subject t: h(s(a, b), g(b, a));".as_slice(),
-            0,
-            b"t r {x -> (b, a)}\n".as_slice(),
-            nothing,
-        ),
-        (
-            ["match", "t"].as_slice(),
-            b"op plus 1+ assoc comm one infix +; rule r: plus(x_, y_); subject s: (a + b + c);".as_slice(),
-            0,
-            b"s r {x -> a, y -> (b + c)}\ns r {x -> b, y -> (a + c)}\ns r {x -> c, y -> (a + b)}\ns r {x -> (a + b), y -> c}\ns r {x -> (a + c), y -> b}\ns r {x -> (b + c), y -> a}\n".as_slice(),
-            nothing,
-        ),
-        (
-            ["match", "t"].as_slice(),
-            b"op k 2 comm; op s 0+ comm; rule r: s(k(x_, y_), z_); subject t: s(k(a, d), k(b, c));".as_slice(),
-            0,
-            b"t r {x -> a, y -> d, z -> k(b, c)}\nt r {x -> d, y -> a, z -> k(b, c)}\nt r {x -> b, y -> c, z -> k(a, d)}\nt r {x -> c, y -> b, z -> k(a, d)}\n".as_slice(),
-            nothing,
-        ),
-        (
-            ["match", "t"].as_slice(),
-            b"op p 1+ assoc; rule r: p(x_, y_); subject s: p(a, p(b, c));".as_slice(),
-            0,
-            b"s r {x -> a, y -> p(b, c)}\ns r {x -> p(a, b), y -> c}\n".as_slice(),
-            nothing,
-        ),
-        (
-            ["match", "t"].as_slice(),
-            b"op p 1+ assoc; rule r: p(x_); subject s: p(a);".as_slice(),
-            0,
-            b"s r {x -> a}\n".as_slice(),
-            nothing,
-        ),
-        (
-            ["match", "t"].as_slice(),
-            b"op f 2; kind v: a b; rule r: f(x_v, n_num); subject s: f(b, 7); subject t: f(c, 7);".as_slice(),
-            0,
-            b"s r {x -> b, n -> 7}\n".as_slice(),
-            nothing,
-        ),
-        (
-            ["match", "t"].as_slice(),
-            b"op g 0+; rule r: g(x__, y___); subject s: g(a, b);".as_slice(),
-            0,
-            b"s r {x -> (a), y -> (b)}\ns r {x -> (a, b), y -> ()}\n".as_slice(),
-            nothing,
         ),
         (
             ["show", "t"].as_slice(),
