@@ -1,7 +1,7 @@
 -- The parts of a conjunction or a disjunction, one after the other.
 use Rattle.std.proofs.Common.{◌≡◌, ℕ, suc, ◌+◌, ◌<◌, List, [], ◌∷◌, ◌++◌, length, map, get_or, drop, drop-cons, add-one, sym, ap, ◌∙◌}
 use Rattle.std.specs.List.{AllByRecursion}
-use Rattle.mp_pattern.specs.CondTree.{Cond, Conds, more_conds, conds}
+use Rattle.mp_pattern.specs.CondTree.{Cond, more_conds, conds}
 
 -- those from an index on
 pub conds-drop : {X : Type 0} (view : X → Cond) (xs : List X) (i : ℕ) (x : X) → i < length xs → x ≡ get_or xs i x →

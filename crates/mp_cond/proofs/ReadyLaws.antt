@@ -1,8 +1,7 @@
 -- A substitution is ready for the conditions over its variables.
-use Rattle.std.proofs.Common.{◌≡◌, ◌<◌, ◌^◌, ℕ, Bool, true, false, ◌||◌, List, [], ◌∷◌, ◌++◌, map, arith}
+use Rattle.std.proofs.Common.{◌≡◌, ℕ, true, false, ◌||◌, List, [], ◌∷◌, map, arith}
 use Rattle.std.specs.Prelude.{Some, IsSomeAnd, if◌then◌else◌}
 use Rattle.std.specs.List.{AllByRecursion}
-use Rattle.mp_term.specs.Size.{node_count}
 use Rattle.mp_pattern.specs.CondTree.{Operand, var, ground, Cond}
 use Rattle.mp_pattern.specs.Value.{Subst, same_name, value_of}
 use Rattle.mp_pattern.specs.Firsts.{is_known}

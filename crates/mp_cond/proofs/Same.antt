@@ -1,5 +1,5 @@
 -- Equal lists of terms.
-use Rattle.std.proofs.Common.{◌≡◌, Bool, List, map, refl, sym, ◌∙◌}
+use Rattle.std.proofs.Common.{◌≡◌, List, map, refl, sym, ◌∙◌}
 use Rattle.std.specs.Ordering.{eq_by_cmp}
 use Rattle.std.specs.Cmp.Lexicographic.{pointwise, lists_ties}
 use Rattle.std.specs.Cmp.Derive.Mapped.{pointwise-map}

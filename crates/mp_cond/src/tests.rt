@@ -281,19 +281,20 @@ fn numbers_compare_by_the_sense(rt: HostRuntime) -> Result<(), Fail> {
     Ok(())
 }
 
-// Whether a number is 1, and whether it isn't.
+// The comparison of a number with 1.
 fn is_one(number: u32) -> Cond
     ensures { cond_tree result ≡ amounts (fixed number) eq (fixed 1) }
 {
     Cond::Amounts(Amount::Fixed(number), Sense::Eq, Amount::Fixed(1))
 }
 
+// Whether the number isn't 1, by a negation.
 fn is_not_one(alloc: Global, number: u32, subst: &Subst) -> Result<bool, Fail> {
     let cond = Cond::Not(BoxedCond::new(alloc, is_one(number))?);
     answer(alloc, &cond, subst)
 }
 
-// Whether both numbers are 1, and whether one of them is.
+// The comparisons of both numbers with 1.
 fn both(alloc: Global, p: u32, q: u32) -> Result<Conds, Fail>
     ensures { IfOk result (λ cs. cs ≡ amounts (fixed p) eq (fixed 1) ∷ amounts (fixed q) eq (fixed 1) ∷ []) }
 {
@@ -303,11 +304,13 @@ fn both(alloc: Global, p: u32, q: u32) -> Result<Conds, Fail>
     Ok(parts)
 }
 
+// Whether both numbers are 1.
 fn all_are_one(alloc: Global, p: u32, q: u32, subst: &Subst) -> Result<bool, Fail> {
     let cond = Cond::All(both(alloc, p, q)?);
     answer(alloc, &cond, subst)
 }
 
+// Whether one of the numbers is 1.
 fn any_is_one(alloc: Global, p: u32, q: u32, subst: &Subst) -> Result<bool, Fail> {
     let cond = Cond::Any(both(alloc, p, q)?);
     answer(alloc, &cond, subst)

@@ -139,21 +139,27 @@ fn twice(alloc: Global, shape: Shape) -> Result<Pattern, Fail> {
     Ok(Pattern::App(OpId(0), args))
 }
 
+// The pattern of a case, with the answer of `compile`.
+fn case(alloc: Global, number: u8) -> Result<(Pattern, (u8, u32)), Fail> {
+    match number {
+        0 => Ok((wildcard(alloc, Shape::Plus, b"x")?, (1, 0))),
+        1 => Ok((dots(alloc, 64, true)?, (2, 65))),
+        2 => Ok((dots(alloc, 63, false)?, (0, 0))),
+        3 => Ok((dots(alloc, 33, true)?, (3, 33))),
+        4 => Ok((dots(alloc, 32, true)?, (0, 0))),
+        5 => Ok((twice(alloc, Shape::Kind(KindId(0)))?, (0, 0))),
+        6 => Ok((twice(alloc, Shape::Kind(KindId(1)))?, (4, 3))),
+        _ => Ok((twice(alloc, Shape::Star)?, (4, 3))),
+    }
+}
+
 #[test]
 fn refusals_come_in_order(rt: HostRuntime) -> Result<(), Fail> {
     let alloc = rt.alloc();
     let sig = signature(alloc)?;
-    let mut rows = Vec::new(alloc);
-    rows.push((wildcard(alloc, Shape::Plus, b"x")?, (1, 0)))?;
-    rows.push((dots(alloc, 64, true)?, (2, 65)))?;
-    rows.push((dots(alloc, 63, false)?, (0, 0)))?;
-    rows.push((dots(alloc, 33, true)?, (3, 33)))?;
-    rows.push((dots(alloc, 32, true)?, (0, 0)))?;
-    rows.push((twice(alloc, Shape::Kind(KindId(0)))?, (0, 0)))?;
-    rows.push((twice(alloc, Shape::Kind(KindId(1)))?, (4, 3)))?;
-    rows.push((twice(alloc, Shape::Star)?, (4, 3)))?;
-    for (pattern, expected) in &rows {
-        assert_eq!(rt; answer(alloc, &sig, pattern), *expected);
+    for number in 0..8 {
+        let (pattern, expected) = case(alloc, number)?;
+        assert_eq!(rt; answer(alloc, &sig, &pattern), expected);
     }
     Ok(())
 }
