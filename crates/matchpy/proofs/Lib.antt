@@ -4,4 +4,3 @@ pub mod Matchable
 pub mod MatchTexts
 pub mod Outcomes
 pub mod Runs
-pub mod ReadLimits

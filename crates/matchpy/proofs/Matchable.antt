@@ -7,6 +7,7 @@ use Rattle.mp_io.specs.Devices.{Text}
 use Rattle.mp_term.specs.Signature.{Sig}
 use Rattle.mp_pattern.specs.PatternTree.{Wildcard, dot, kind, plus, star, optional, Pattern, symbol_pattern, app_pattern, wild_pattern, Patterns, no_patterns, more_patterns}
 use Rattle.mp_pattern.specs.Size.{pattern_nodes}
+use Rattle.mp_pattern.specs.Operands.{HasConditionOver}
 use Rattle.mp_pattern.specs.Variables.{variables}
 use Rattle.mp_pattern.specs.PlanFault.{plan_fault}
 use Rattle.mp_pattern.specs.Admission.{Rule}
@@ -15,8 +16,7 @@ use Rattle.mp_text.specs.File.{FileTree, Subject}
 use Rattle.mp_text.specs.Reading.{IsFileOf}
 use Rattle.mp_pattern.specs.Sound.{AllDefaultsAreNormal, DefaultIsNormal, DefaultsAreNormal}
 use Rattle.mp_text.specs.Sound.{IsSoundFile, IsSoundPattern, IsSoundTerm}
-use Rattle.mp_text.proofs.SoundLaws.{IsSoundFile-IsFileOf}
-use Rattle.matchpy.proofs.ReadLimits.{IsWithinLimits, IsFileOf-limits}
+use Rattle.mp_text.proofs.SoundFile.{IsSoundFile-IsFileOf}
 use Rattle.matchpy.specs.Matches.{IsMatchable, IsMatchableFile, IsMatchableSubject}
 
 module _ (sig : Sig) where
@@ -49,7 +49,7 @@ module _ (sig : Sig) where
 
   -- ---- rules and subjects
 
-  IsMatchable-read : (rs : List Rule) → AllByRecursion (λ r. IsSoundPattern sig r.pattern) rs → AllByRecursion IsWithinLimits rs → AllByRecursion (IsMatchable sig) rs
+  IsMatchable-read : (rs : List Rule) → AllByRecursion (λ r. IsSoundPattern sig r.pattern) rs → AllByRecursion (λ r. HasConditionOver (variables r.pattern) r.condition) rs → AllByRecursion (IsMatchable sig) rs
   IsMatchable-read [] h k = tt
   IsMatchable-read (r ∷ rs) h k = (
     record { sound = record { defaults = Each-read None r.pattern h.0.defaults }; small = h.0.small_defaults; condition = k.0; planned = plan_fault-read r.pattern h.0 },
@@ -64,6 +64,6 @@ pub IsFileOf-matchable : (bytes : Text) (file : FileTree) → IsFileOf bytes fil
 IsFileOf-matchable bytes file h =
     let sound : IsSoundFile file = IsSoundFile-IsFileOf bytes file h in
     record {
-      rules = IsMatchable-read file.sig file.rules sound.patterns (IsFileOf-limits bytes file h);
+      rules = IsMatchable-read file.sig file.rules sound.patterns sound.conditions;
       subjects = IsMatchableSubject-read file.sig file.subjects sound.terms;
     }

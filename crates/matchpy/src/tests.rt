@@ -23,7 +23,22 @@ op s 0+ comm; rule r: s(__, _, x_); subject t: s(a, b, c);|t r {x -> a}&t r {x -
 op plus 1+ assoc comm one infix +; rule r: plus(x_, y_:0); subject s: a;|s r {x -> a, y -> 0}\n\
 op plus 1+ assoc comm one infix +; rule r: plus(x_:0, y_:0); subject s: 0;|s r {x -> 0, y -> 0}\n\
 op plus 1+ assoc comm one infix +; rule r: plus(x_:0, y_, z___); subject s: a;|\n\
-op plus 1+ assoc comm one infix +; rule r: plus(x_:0); subject s: a; subject t: (a + b);|t r {x -> (a + b)}";
+op plus 1+ assoc comm one infix +; rule r: plus(x_:0); subject s: a; subject t: (a + b);|t r {x -> (a + b)}\n\
+op s 0+ comm; rule r: s(x__, y___) if count($x) >= 2; subject t: s(a, a);|t r {x -> {a, a}, y -> {}}\n\
+op g 0+; rule r: g(x__, y__) if free($x, $y) and not size($x) > 1; subject s: g(a, b, c);|s r {x -> (a), y -> (b, c)}\n\
+op h 2; op g 0+; op s 0+ comm; rule r: h(s(x__), g(y__)) if same($x, $y); subject t: h(s(a, b), g(b, a));|t r {x -> {a, b}, y -> (b, a)}\n\
+op h 2; op g 0+; op s 0+ comm; rule r: h(s(x___), g(y___)) if not same($x, $y); subject t: h(s(a, b), g(b)); subject u: h(s(), g()); subject v: h(s(b, a, b), g(b, b, a)); subject w: h(s(a, b, b), g(a, a, b));|t r {x -> {a, b}, y -> (b)}&w r {x -> {a, b, b}, y -> (a, a, b)}\n\
+op h 2; op g 0+; rule r: h(g(x___), g(y___)) if same($x, $y); subject t: h(g(a, b), g(b, a)); subject u: h(g(a, b), g(a, b));|u r {x -> (a, b), y -> (a, b)}\n\
+op s 0+ comm; rule r: s(x___) if same($x, s(b, a)); subject t: s(s(a, b)); subject u: s(a, b);|t r {x -> {s(a, b)}}\n\
+op g 0+; kind v: a b; rule r: g(x___, y___) if kind($x, v) and head($x, g) and free($x, $x) or count($x) == 2; subject t: g(a, g(a), 7);|t r {x -> (), y -> (a, g(a), 7)}&t r {x -> (a, g(a)), y -> (7)}\n\
+op g 0+; rule r: g(x___) if not head($x, g) or 1 != 1; subject t: g(g(), g(a)); subject u: g(g(), a); subject v: g();|u r {x -> (g(), a)}\n\
+op g 0+; rule r: g(x___) if kind($x, num) and size($x) <= count($x); subject t: g(3, 07); subject u: g(3, a); subject v: g();|t r {x -> (3, 07)}&v r {x -> ()}\n\
+op g 0+; rule r: g(x__) if free($x, g(a, g(b))); subject t: g(a, g(b)); subject u: g(g(a, g(b))); subject v: g(g(g(a, g(b)))); subject w: g(g(a), c);|v r {x -> (g(g(a, g(b))))}&w r {x -> (g(a), c)}\n\
+op f 2; op g 1; rule r: f(x_, y_) if less($x, $y) and not free(g(a), $y); subject t: f(a, g(g(a))); subject u: f(g(g(a)), a); subject v: f(a, g(b));|t r {x -> a, y -> g(g(a))}\n\
+op f 2; rule r: f(x_, y_) if less($x, $y) or same($x, $y) and less(b, $x); subject s: f(c, c); subject t: f(a, a); subject u: f(a, b);|s r {x -> c, y -> c}&u r {x -> a, y -> b}\n\
+op f 2; rule r: f(x_, x_) if not [not same($x, a) or size($x) > 1]; subject s: f(a, a); subject t: f(b, b);|s r {x -> a}\n\
+op plus 1+ assoc comm one infix +; rule r: plus(x_, y_:0) if not same($y, 0) and less($x, $y); subject s: a; subject t: (a + b + c);|t r {x -> a, y -> (b + c)}&t r {x -> b, y -> (a + c)}&t r {x -> c, y -> (a + b)}\n\
+op g 0+; rule if: g(if__) if count($if) == 1; subject if: g(if); subject or: g(if, if);|if if {if -> (if)}";
 
 // Which calls fail: of the shelf, of the sink for lines, and of the sink for errors. Numbers from 0.
 #[derive(Clone, Copy)]
@@ -163,6 +178,34 @@ fn words_and_files_decide_what_is_printed(rt: HostRuntime) -> Result<(), Fail> {
             3,
             nothing,
             b"matchpy: t:1:12: DuplicateName\n".as_slice(),
+        ),
+        (
+            ["match", "t"].as_slice(),
+            b"op g 0+; rule r: g(x__) if less($x, a);".as_slice(),
+            3,
+            nothing,
+            b"matchpy: t:1:33: ConditionKind\n".as_slice(),
+        ),
+        (
+            ["match", "t"].as_slice(),
+            b"op f 2; rule r: f(x_, y_) if less($x, $z);".as_slice(),
+            3,
+            nothing,
+            b"matchpy: t:1:39: UnboundVariable\n".as_slice(),
+        ),
+        (
+            ["match", "t"].as_slice(),
+            b"op f 2; rule r: f(x_, y_) if not [same($x, y) or 1 < 2;".as_slice(),
+            3,
+            nothing,
+            b"matchpy: t:1:1: Unread\n".as_slice(),
+        ),
+        (
+            ["show", "t"].as_slice(),
+            b"op f 2; op s 0+ comm; rule r: f(x_, y_) if [same($x, s(b, a)) or [less($x, $y)]] and not [007 >= count($x)];".as_slice(),
+            0,
+            b"op f 2;\nop s 0+ comm;\nrule r: f(x_, y_) if [same($x, s(a, b)) or less($x, $y)] and not 7 >= count($x);\n".as_slice(),
+            nothing,
         ),
         (["match"].as_slice(), first, 2, nothing, USAGE),
         (["match", "-t"].as_slice(), first, 2, nothing, USAGE),

@@ -160,7 +160,7 @@ first_clash_after-InOrder before (p ∷ ps) h =
 abbrev AllAgree : List Pattern → List Pattern → Type 0
 AllAgree ps qs = AllByRecursion (λ p. AgreesWith p qs) ps
 
-all-split : {X : Type 0} (P : X → Type 0) (xs ys : List X) → AllByRecursion P (xs ++ ys) → AllByRecursion P xs × AllByRecursion P ys
+pub all-split : {X : Type 0} (P : X → Type 0) (xs ys : List X) → AllByRecursion P (xs ++ ys) → AllByRecursion P xs × AllByRecursion P ys
 all-split P [] ys h = (tt, h)
 all-split P (x ∷ xs) ys h = let r = all-split P xs ys h.1 in ((h.0, r.0), r.1)
 

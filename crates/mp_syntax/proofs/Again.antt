@@ -1,17 +1,15 @@
--- What matches a spelling is read.
-use Rattle.std.proofs.Common.{◌≡◌, ℕ, zero, suc, ◌+◌, Bool, true, false, cond, List, [], ◌∷◌, ◌++◌, map, Option, Some, refl, sym, ap, ◌∙◌, arith, append_assoc, append-nil}
-use Rattle.std.specs.Prelude.{◌&&◌, codes}
+-- What matches the spelling of an expression is read.
+use Rattle.std.proofs.Common.{◌≡◌, ℕ, zero, suc, ◌+◌, Bool, true, false, cond, List, [], ◌∷◌, ◌++◌, Option, Some, refl, sym, ap, ◌∙◌, arith, append_assoc}
+use Rattle.std.specs.Prelude.{◌&&◌}
 use Rattle.std.specs.List.{flat_map}
 use Rattle.std.proofs.lemmas.Slice.Eq.{bytes_eq-Decides}
 use Rattle.mp_syntax.specs.declared.place.Place.{Place}
-use Rattle.mp_syntax.specs.declared.token.Punct.TheVariants.{Open, Close, Comma, Colon, Semicolon}
-use Rattle.mp_syntax.specs.declared.fault.FaultKind.TheVariants.{Syntax}
-use Rattle.mp_syntax.specs.Tokens.{Token, Word, Punctuation, End, Placed}
-use Rattle.mp_syntax.specs.Syntax.{Spot, Wildcard, Tree, Symbol, Apply, InfixOf, Wild, Optional, Trees, no_trees, more_trees, trees, tree_list, Flag, Assoc, Comm, One, Infixed, Statement, OpOf, KindOf, RuleOf, SubjectOf, Expected, Matches, AllMatch, spell, spell_first, spell_others, spell_with_colon, spell_named, spell_plus, spell_flag, spell_statement, spell_file, spelled_word, spelled_sign, spelled_wildcard, another, comma, semicolon, AreDots, Fits, AreFit, FitsStatement, AreStatements}
-use Rattle.mp_syntax.specs.Machine.{Role, OfRule, OfSubject, statement_of, Frame, Arguments, Bracket, Operands, Default, open_count, Declared, declared, with_flag, Heading, Within, InStatement, Alone, State, Top, AfterOp, AfterOpName, AfterLeast, AfterFlags, AfterInfix, AfterKind, AfterKindName, BeforeMember, AfterMember, AfterRole, AfterName, BeforeExpr, AfterWord, AfterOpen, AfterWildcard, AfterExpr, Step, Go, Emit, Refuse, Finish, Ends, parsed, refusal, is_punct, is_sign, is_end, word_of, sign_of, wildcard_at, is_dot, keyword, spot, on_punct, on_text, on_word, step, step_number, step_flag, step_flags, step_open, step_expr, step_behind, after_step, run}
+use Rattle.mp_syntax.specs.declared.token.Punct.TheVariants.{Open, Close, Comma, Colon}
+use Rattle.mp_syntax.specs.Tokens.{Token, Punctuation, Placed}
+use Rattle.mp_syntax.specs.Syntax.{Spot, Wildcard, Tree, Symbol, Apply, InfixOf, Wild, Optional, Variable, Trees, no_trees, more_trees, trees, tree_list, Statement, Expected, Matches, AllMatch, spell, spell_first, spell_others, spell_with_colon, spelled_word, spelled_sign, spelled_wildcard, another, comma, AreDots, Fits, AreFit}
+use Rattle.mp_syntax.specs.Machine.{Frame, Arguments, Bracket, Operands, Default, open_count, Within, State, Top, BeforeExpr, AfterWord, AfterOpen, AfterWildcard, AfterExpr, AfterDollar, Step, Go, Emit, is_punct, is_sign, word_of, sign_of, wildcard_at, is_dot, spot, on_punct, on_text, on_word, step, step_open, step_expr, step_behind, after_step, run}
 use Rattle.mp_syntax.specs.Parsing.{within_defaults}
-use Rattle.mp_syntax.proofs.Runs.{heading, word-opens, bracket-opens, open-expr, operand-again, wildcard-step, default-step, wildcard-alone, defaults-behind, chained-optional, open_count-within_defaults}
-use Rattle.mp_syntax.proofs.Found.{read_ok}
+use Rattle.mp_syntax.proofs.Runs.{dollar-step, word-opens, bracket-opens, open-expr, operand-again, wildcard-step, default-step, wildcard-alone, defaults-behind, chained-optional, open_count-within_defaults}
 use Rattle.mp_syntax.proofs.Trees.{trees-tree_list, true-is_dot, fits-optional}
 
 -- what matches two spellings in a row is in two parts
@@ -30,44 +28,44 @@ split (m ∷ a) b (t ∷ ts) h =
     record { front = t ∷ r.front; back = r.back; parts = ap (λ l. t ∷ l) r.parts; first = (h.0, r.first); second = r.second }
 
 -- a token that matches, and what matches the others
-record Led (ts : List Placed) (m : Expected) (ms : List Expected) : Type 0 where
-  token : Placed
-  others : List Placed
-  parts : ts ≡ token ∷ others
-  match : Matches token m
-  behind : AllMatch others ms
+pub record Led (ts : List Placed) (m : Expected) (ms : List Expected) : Type 0 where
+  pub token : Placed
+  pub others : List Placed
+  pub parts : ts ≡ token ∷ others
+  pub match : Matches token m
+  pub behind : AllMatch others ms
 
-led : (m : Expected) (ms : List Expected) (ts : List Placed) → AllMatch ts (m ∷ ms) → Led ts m ms
+pub led : (m : Expected) (ms : List Expected) (ts : List Placed) → AllMatch ts (m ∷ ms) → Led ts m ms
 led m ms [] h = absurd h
 led m ms (t ∷ ts) h = record { token = t; others = ts; parts = refl; match = h.0; behind = h.1 }
 
 -- two parts in a row, and the first token of the second
-joined : (ts front back : List Placed) (t : Placed) (others us : List Placed) → ts ≡ front ++ back → back ≡ t ∷ others → ts ++ us ≡ front ++ t ∷ (others ++ us)
+pub joined : (ts front back : List Placed) (t : Placed) (others us : List Placed) → ts ≡ front ++ back → back ≡ t ∷ others → ts ++ us ≡ front ++ t ∷ (others ++ us)
 joined ts front back t others us e f = ap (λ l. l ++ us) e ∙ append_assoc front back us ∙ ap (λ l. front ++ (l ++ us)) f
 
 -- ---- steps
 
 -- a step that leads on
-over : (done : List Statement) (at next : State) (t : Placed) (us : List Placed) → step at t ≡ Go next → run done at (t ∷ us) ≡ run done next us
+pub over : (done : List Statement) (at next : State) (t : Placed) (us : List Placed) → step at t ≡ Go next → run done at (t ∷ us) ≡ run done next us
 over done at next t us e = ap (after_step done t.place (λ d a. run d a us)) e
 
 -- a step that ends a statement
-ended : (done : List Statement) (at : State) (s : Statement) (t : Placed) (us : List Placed) → step at t ≡ Emit s → run done at (t ∷ us) ≡ run (done ++ s ∷ []) Top us
+pub ended : (done : List Statement) (at : State) (s : Statement) (t : Placed) (us : List Placed) → step at t ≡ Emit s → run done at (t ∷ us) ≡ run (done ++ s ∷ []) Top us
 ended done at s t us e = ap (after_step done t.place (λ d a. run d a us)) e
 
 -- the punctuation character that is wanted
-punct-taken : (p : Token → Bool) (t : Placed) (k : Token) (a b : Step) → t.token ≡ k → p k ≡ true → cond (p t.token) a b ≡ a
+pub punct-taken : (p : Token → Bool) (t : Placed) (k : Token) (a b : Step) → t.token ≡ k → p k ≡ true → cond (p t.token) a b ≡ a
 punct-taken p t k a b e f = ap (λ v. cond v a b) (ap p e ∙ f)
 
 text-taken : (text_of : Token → Option (List ℕ)) (next : Spot → Step) (t : Placed) (w : Spot) → text_of t.token ≡ Some w.text → t.place ≡ w.place → on_text t next (text_of t.token) ≡ next w
 text-taken text_of next t w e f = ap (on_text t next) e ∙ ap (λ p. next (spot w.text p)) f
 
 -- a word that matches, where any word leads on
-word-taken : (next : Spot → Step) (t : Placed) (w : Spot) → Matches t (spelled_word w) → on_word t next ≡ next w
+pub word-taken : (next : Spot → Step) (t : Placed) (w : Spot) → Matches t (spelled_word w) → on_word t next ≡ next w
 word-taken next t w h = text-taken word_of next t w (ap word_of h.0) h.1
 
 -- a sign that matches, where any sign leads on
-sign-taken : (next : Spot → Step) (t : Placed) (s : Spot) → Matches t (spelled_sign s) → on_text t next (sign_of t.token) ≡ next s
+pub sign-taken : (next : Spot → Step) (t : Placed) (s : Spot) → Matches t (spelled_sign s) → on_text t next (sign_of t.token) ≡ next s
 sign-taken next t s h = text-taken sign_of next t s (ap sign_of h.0) h.1
 
 step_expr-word : (x : Within) (k : List Frame) (t : Placed) (w : Spot) → Matches t (spelled_word w) → step_expr 100 x k t (word_of t.token) ≡ Go (AfterWord x k w)
@@ -80,18 +78,18 @@ wildcard-taken x k t w h = wildcard-step x k t w (λ i. wildcard_at (h.0 i) (h.1
 -- ---- expressions
 
 -- what begins with a token of this fact
-record Begins (P : Placed → Type 0) (ts : List Placed) : Type 0 where
-  token : Placed
-  others : List Placed
-  parts : ts ≡ token ∷ others
-  is : P token
+pub record Begins (P : Placed → Type 0) (ts : List Placed) : Type 0 where
+  pub token : Placed
+  pub others : List Placed
+  pub parts : ts ≡ token ∷ others
+  pub is : P token
 
 -- the token continues no expression: it is no opening bracket and no colon
-abbrev ContinuesNone : Placed → Type 0
+abbrev pub ContinuesNone : Placed → Type 0
 ContinuesNone t = (is_punct Open t.token ≡ false) × (is_punct Colon t.token ≡ false)
 
 -- each token that matches continues no expression
-abbrev EachContinuesNone : Expected → Type 0
+abbrev pub EachContinuesNone : Expected → Type 0
 EachContinuesNone m = (t : Placed) → Matches t m → ContinuesNone t
 
 others-begin : (between : Expected) → EachContinuesNone between → (args : Trees) (ts : List Placed) → AllMatch ts (spell_others between args) → Begins ContinuesNone ts
@@ -115,6 +113,8 @@ module _ (done : List Statement) (x : Within) where
   open-spell (InfixOf place sign operands) k w (t ∷ ts) us h = open-expr done x k w t (ts ++ us) (ap (is_punct Close) h.0.0)
   open-spell (Optional v others default) k w [] us h = absurd h
   open-spell (Optional v others default) k w (t ∷ ts) us h = open-expr done x k w t (ts ++ us) (ap (is_punct Close) h.0.0)
+  open-spell (Variable v) k w [] us h = absurd h
+  open-spell (Variable v) k w (t ∷ ts) us h = open-expr done x k w t (ts ++ us) (ap (is_punct Close) h.0.0)
   open-spell (Wild v) k w [] us h = absurd h
   open-spell (Wild v) k w (t ∷ ts) us h = open-expr done x k w t (ts ++ us) (ap (is_punct Close) h.0.0)
 
@@ -142,7 +142,7 @@ module _ (done : List Statement) (x : Within) where
   }
 
   -- the expression is read, whatever is open
-  abbrev ReadsExpr : Tree → Type 0
+  abbrev pub ReadsExpr : Tree → Type 0
   ReadsExpr e = (k : List Frame) (room : ℕ) (ts : List Placed) (u : Placed) (us : List Placed) → AllMatch ts (spell e) → Fits room e → open_count k + room ≡ 100 → ContinuesNone u → run done (BeforeExpr x k) (ts ++ u ∷ us) ≡ run done (AfterExpr x k e) (u ∷ us)
 
   -- the other expressions in brackets are read behind one
@@ -183,7 +183,7 @@ module _ (done : List Statement) (x : Within) where
       ∙ chain-again ws (Default w ∷ k) ts us h.1.1 dots.1
 
   mutual
-    expr-again : (e : Tree) → ReadsExpr e
+    pub expr-again : (e : Tree) → ReadsExpr e
     expr-again (Symbol w) k room [] u us h fits len n = absurd h
     expr-again (Symbol w) k room (t ∷ []) u us h fits len n =
         over done (BeforeExpr x k) (AfterWord x k w) t (u ∷ us) (step_expr-word x k t w h.0) ∙ word-expr k w u us n.0
@@ -214,6 +214,12 @@ module _ (done : List Statement) (x : Within) where
     expr-again (InfixOf place sign (more_trees t (more_trees v vs))) k (suc room) [] u us h fits len n = absurd h
     expr-again (InfixOf place sign (more_trees t (more_trees v vs))) k (suc room) (p ∷ ts) u us h fits len n =
         infix-again t v vs (expr-again t) (expr-again v) (others-again vs) place sign k room p ts (u ∷ us) h fits.1 len
+    expr-again (Variable w) k room [] u us h fits len n = absurd h
+    expr-again (Variable w) k room (t ∷ []) u us h fits len n = absurd h.1
+    expr-again (Variable w) k room (t ∷ v ∷ []) u us h fits len n =
+        over done (BeforeExpr x k) (AfterDollar x k w.place) t (v ∷ u ∷ us) (dollar-step x k t h.0.0 ∙ ap (λ p. Go (AfterDollar x k p)) h.0.1)
+        ∙ over done (AfterDollar x k w.place) (AfterExpr x k (Variable w)) v (u ∷ us) (ap (on_text v (λ s. Go (AfterExpr x k (Variable (spot s.text w.place))))) (ap word_of h.1.0))
+    expr-again (Variable w) k room (t ∷ v ∷ y ∷ ts) u us h fits len n = absurd h.1.1
 
     -- arguments are read behind their bracket
     first-again : (args : Trees) (k : List Frame) (w : Spot) (room : ℕ) (ts us : List Placed) → AllMatch ts (spell_first comma args) → AreFit room args → open_count k + suc room ≡ 100 → run done (AfterOpen x k w) (ts ++ us) ≡ run done (AfterExpr x k (Apply w args)) us
@@ -240,155 +246,30 @@ module _ (done : List Statement) (x : Within) where
         ∙ row-again t args (expr-again t) (others-again args) between frame whole row k room (before ++ e ∷ []) ts us h.1 fits.0 fits.1 len
         ∙ ap (λ l. run done (AfterExpr x k (whole l)) us) (append_assoc before (e ∷ []) _)
 
--- ---- statements
+-- what matches nothing is nothing
+pub nothing : (ts : List Placed) → AllMatch ts [] → ts ≡ []
+nothing [] h = refl
+nothing (t ∷ ts) h = absurd h
 
--- an expression and the semicolon behind it
-body-again : (done : List Statement) (x : Heading) (e : Tree) (ts us : List Placed) → AllMatch ts (spell e ++ semicolon ∷ []) → Fits 100 e → run done (BeforeExpr (InStatement x) []) (ts ++ us) ≡ run (done ++ statement_of x.role x.name e ∷ []) Top us
-body-again done x e ts us h fits =
-    let r = split (spell e) (semicolon ∷ []) ts h in
-    let s = led semicolon [] r.back r.second in
-    ap (run done (BeforeExpr (InStatement x) [])) (joined ts r.front r.back s.token s.others us r.parts s.parts)
-    ∙ expr-again done (InStatement x) e [] 100 r.front s.token (s.others ++ us) r.first fits refl (ap (is_punct Open) s.match, ap (is_punct Colon) s.match)
-    ∙ ended done (AfterExpr (InStatement x) [] e) (statement_of x.role x.name e) s.token (s.others ++ us) (ap (λ u. on_punct Semicolon u (Emit (statement_of x.role x.name e))) s.match)
-    ∙ ap (λ l. run (done ++ statement_of x.role x.name e ∷ []) Top (l ++ us)) (nothing s.others s.behind)
-  where
-    nothing : (ts : List Placed) → AllMatch ts [] → ts ≡ []
-    nothing [] h = refl
-    nothing (t ∷ ts) h = absurd h
+-- the tokens are read from one state to another up to a token that matches m, and the others behind it match ms
+pub record ReadTo (done : List Statement) (from to : State) (m : Expected) (ms : List Expected) (ts us : List Placed) : Type 0 where
+  pub token : Placed
+  pub others : List Placed
+  pub match : Matches token m
+  pub behind : AllMatch others ms
+  pub read : run done from (ts ++ us) ≡ run done to (token ∷ (others ++ us))
 
--- a name, a colon, an expression and the semicolon
-named-again : (done : List Statement) (role : Role) (name : Spot) (e : Tree) (ts us : List Placed) → AllMatch ts (spell_named name e) → Fits 100 e → run done (AfterRole role) (ts ++ us) ≡ run (done ++ statement_of role name e ∷ []) Top us
-named-again done role name e [] us h fits = absurd h
-named-again done role name e (n ∷ []) us h fits = absurd h.1
-named-again done role name e (n ∷ c ∷ ts) us h fits =
-    over done (AfterRole role) (AfterName (heading role name)) n (c ∷ ts ++ us) (word-taken (λ w. Go (AfterName (heading role w))) n name h.0)
-    ∙ over done (AfterName (heading role name)) (BeforeExpr (InStatement (heading role name)) []) c (ts ++ us) (ap (λ k. on_punct Colon k (Go (BeforeExpr (InStatement (heading role name)) []))) h.1.0)
-    ∙ body-again done (heading role name) e ts us h.1.1 fits
-
--- the word that a statement begins with
-top-word : (t : Placed) (w : List ℕ) → t.token ≡ Word w → step Top t ≡ keyword w
-top-word t w h = ap (λ k. cond (is_end k) Finish (on_text t (λ w. keyword w.text) (word_of k))) h
-
--- the operation of a declaration
-abbrev op_of : Declared → List Flag → Statement
-op_of d flags = OpOf d.name d.least d.more flags
-
--- the word that a flag begins with
-flag-word : (d : Declared) (t : Placed) (w : List ℕ) → t.token ≡ Word w → step (AfterFlags d) t ≡ step_flag d w
-flag-word d t w h = ap (λ k. cond (is_punct Semicolon k) (Emit (op_of d d.flags)) (on_text t (λ w. step_flag d w.text) (word_of k))) h
-
--- one more flag is among the flags
-push-flag : (done : List Statement) (d : Declared) (f : Flag) (flags : List Flag) (us : List Placed) → run (done ++ op_of d ((d.flags ++ f ∷ []) ++ flags) ∷ []) Top us ≡ run (done ++ op_of d (d.flags ++ f ∷ flags) ∷ []) Top us
-push-flag done d f flags us = ap (λ l. run (done ++ op_of d l ∷ []) Top us) (append_assoc d.flags (f ∷ []) flags)
-
--- flags and the semicolon are read
-flags-again : (done : List Statement) (flags : List Flag) (d : Declared) (ts us : List Placed) → AllMatch ts (flat_map spell_flag flags ++ semicolon ∷ []) → run done (AfterFlags d) (ts ++ us) ≡ run (done ++ op_of d (d.flags ++ flags) ∷ []) Top us
-flags-again done [] d [] us h = absurd h
-flags-again done [] d (t ∷ []) us h =
-    ended done (AfterFlags d) (op_of d d.flags) t us (punct-taken (is_punct Semicolon) t (Punctuation Semicolon) (Emit (op_of d d.flags)) (on_word t (λ w. step_flag d w.text)) h.0 refl)
-    ∙ ap (λ l. run (done ++ op_of d l ∷ []) Top us) (sym (append-nil d.flags))
-flags-again done [] d (t ∷ v ∷ ts) us h = absurd h.1
-flags-again done (Assoc ∷ flags) d [] us h = absurd h
-flags-again done (Assoc ∷ flags) d (t ∷ ts) us h =
-    over done (AfterFlags d) (AfterFlags (with_flag d Assoc)) t (ts ++ us) (flag-word d t (codes "assoc") h.0) ∙ flags-again done flags (with_flag d Assoc) ts us h.1 ∙ push-flag done d Assoc flags us
-flags-again done (Comm ∷ flags) d [] us h = absurd h
-flags-again done (Comm ∷ flags) d (t ∷ ts) us h =
-    over done (AfterFlags d) (AfterFlags (with_flag d Comm)) t (ts ++ us) (flag-word d t (codes "comm") h.0) ∙ flags-again done flags (with_flag d Comm) ts us h.1 ∙ push-flag done d Comm flags us
-flags-again done (One ∷ flags) d [] us h = absurd h
-flags-again done (One ∷ flags) d (t ∷ ts) us h =
-    over done (AfterFlags d) (AfterFlags (with_flag d One)) t (ts ++ us) (flag-word d t (codes "one") h.0) ∙ flags-again done flags (with_flag d One) ts us h.1 ∙ push-flag done d One flags us
-flags-again done (Infixed sign ∷ flags) d [] us h = absurd h
-flags-again done (Infixed sign ∷ flags) d (t ∷ []) us h = absurd h.1
-flags-again done (Infixed sign ∷ flags) d (t ∷ s ∷ ts) us h =
-    over done (AfterFlags d) (AfterInfix d) t (s ∷ ts ++ us) (flag-word d t (codes "infix") h.0)
-    ∙ over done (AfterInfix d) (AfterFlags (with_flag d (Infixed sign))) s (ts ++ us) (sign-taken (λ w. Go (AfterFlags (with_flag d (Infixed w)))) s sign h.1.0)
-    ∙ flags-again done flags (with_flag d (Infixed sign)) ts us h.1.1
-    ∙ push-flag done d (Infixed sign) flags us
-
--- flags begin with a token that is no plus
-flags-begin : (flags : List Flag) (ts : List Placed) → AllMatch ts (flat_map spell_flag flags ++ semicolon ∷ []) → Begins (λ t. is_sign (codes "+") t.token ≡ false) ts
-flags-begin [] [] h = absurd h
-flags-begin [] (t ∷ ts) h = record { token = t; others = ts; parts = refl; is = ap (is_sign (codes "+")) h.0 }
-flags-begin (Assoc ∷ flags) [] h = absurd h
-flags-begin (Assoc ∷ flags) (t ∷ ts) h = record { token = t; others = ts; parts = refl; is = ap (is_sign (codes "+")) h.0 }
-flags-begin (Comm ∷ flags) [] h = absurd h
-flags-begin (Comm ∷ flags) (t ∷ ts) h = record { token = t; others = ts; parts = refl; is = ap (is_sign (codes "+")) h.0 }
-flags-begin (One ∷ flags) [] h = absurd h
-flags-begin (One ∷ flags) (t ∷ ts) h = record { token = t; others = ts; parts = refl; is = ap (is_sign (codes "+")) h.0 }
-flags-begin (Infixed sign ∷ flags) [] h = absurd h
-flags-begin (Infixed sign ∷ flags) (t ∷ ts) h = record { token = t; others = ts; parts = refl; is = ap (is_sign (codes "+")) h.0 }
-
--- a token that is no plus is the first of the flags
-no-plus : (done : List Statement) (name least : Spot) (t : Placed) (us : List Placed) → is_sign (codes "+") t.token ≡ false → run done (AfterLeast name least) (t ∷ us) ≡ run done (AfterFlags (declared name least false [])) (t ∷ us)
-no-plus done name least t us h = ap (λ b. after_step done t.place (λ d a. run d a us) (cond b (Go (AfterFlags (declared name least true []))) (step_flags (declared name least false []) t))) h
-
--- what follows the number of an operation is read
-least-again : (done : List Statement) (name least : Spot) (more : Bool) (flags : List Flag) (ts us : List Placed) → AllMatch ts (spell_plus more ++ (flat_map spell_flag flags ++ semicolon ∷ [])) → run done (AfterLeast name least) (ts ++ us) ≡ run (done ++ OpOf name least more flags ∷ []) Top us
-least-again done name least true flags [] us h = absurd h
-least-again done name least true flags (t ∷ ts) us h =
-    over done (AfterLeast name least) (AfterFlags (declared name least true [])) t (ts ++ us) (ap (λ b. cond b (Go (AfterFlags (declared name least true []))) (step_flags (declared name least false []) t)) (ap (is_sign (codes "+")) h.0))
-    ∙ flags-again done flags (declared name least true []) ts us h.1
-least-again done name least false flags ts us h =
-    let b = flags-begin flags ts h in
-    ap (λ l. run done (AfterLeast name least) (l ++ us)) b.parts
-    ∙ no-plus done name least b.token (b.others ++ us) b.is
-    ∙ ap (λ l. run done (AfterFlags (declared name least false [])) (l ++ us)) (sym b.parts)
-    ∙ flags-again done flags (declared name least false []) ts us h
-
--- members behind others, and the semicolon, are read
-members-again : (done : List Statement) (name : Spot) (members before : List Spot) (ts us : List Placed) → AllMatch ts (map spelled_word members ++ semicolon ∷ []) → run done (AfterMember name before) (ts ++ us) ≡ run (done ++ KindOf name (before ++ members) ∷ []) Top us
-members-again done name [] before [] us h = absurd h
-members-again done name [] before (t ∷ []) us h =
-    ended done (AfterMember name before) (KindOf name before) t us (punct-taken (is_punct Semicolon) t (Punctuation Semicolon) (Emit (KindOf name before)) (on_word t (λ w. Go (AfterMember name (before ++ w ∷ [])))) h.0 refl)
-    ∙ ap (λ l. run (done ++ KindOf name l ∷ []) Top us) (sym (append-nil before))
-members-again done name [] before (t ∷ v ∷ ts) us h = absurd h.1
-members-again done name (m ∷ members) before [] us h = absurd h
-members-again done name (m ∷ members) before (t ∷ ts) us h =
-    over done (AfterMember name before) (AfterMember name (before ++ m ∷ [])) t (ts ++ us) (ap (λ k. cond (is_punct Semicolon k) (Emit (KindOf name before)) (on_word t (λ w. Go (AfterMember name (before ++ w ∷ []))))) h.0.0 ∙ word-taken (λ w. Go (AfterMember name (before ++ w ∷ []))) t m h.0)
-    ∙ members-again done name members (before ++ m ∷ []) ts us h.1
-    ∙ ap (λ l. run (done ++ KindOf name l ∷ []) Top us) (append_assoc before (m ∷ []) members)
-
--- a statement is read
-pub statement-again : (done : List Statement) (s : Statement) (ts us : List Placed) → AllMatch ts (spell_statement s) → FitsStatement s → run done Top (ts ++ us) ≡ run (done ++ s ∷ []) Top us
-statement-again done (OpOf name least more flags) [] us h fits = absurd h
-statement-again done (OpOf name least more flags) (o ∷ []) us h fits = absurd h.1
-statement-again done (OpOf name least more flags) (o ∷ n ∷ []) us h fits = absurd h.1.1
-statement-again done (OpOf name least more flags) (o ∷ n ∷ l ∷ ts) us h fits =
-    over done Top AfterOp o (n ∷ l ∷ ts ++ us) (top-word o (codes "op") h.0)
-    ∙ over done AfterOp (AfterOpName name) n (l ∷ ts ++ us) (word-taken (λ w. Go (AfterOpName w)) n name h.1.0)
-    ∙ over done (AfterOpName name) (AfterLeast name least) l (ts ++ us) (word-taken (λ w. step_number name w) l least h.1.1.0 ∙ ap (λ b. cond b (Go (AfterLeast name least)) (Refuse Syntax)) fits)
-    ∙ least-again done name least more flags ts us h.1.1.1
-statement-again done (KindOf name members) [] us h fits = absurd h
-statement-again done (KindOf name members) (k ∷ []) us h fits = absurd h.1
-statement-again done (KindOf name members) (k ∷ n ∷ []) us h fits = absurd h.1.1
-statement-again done (KindOf name []) (k ∷ n ∷ c ∷ ts) us h fits = absurd (fits refl)
-statement-again done (KindOf name (m ∷ members)) (k ∷ n ∷ c ∷ []) us h fits = absurd h.1.1.1
-statement-again done (KindOf name (m ∷ members)) (k ∷ n ∷ c ∷ t ∷ ts) us h fits =
-    over done Top AfterKind k (n ∷ c ∷ t ∷ ts ++ us) (top-word k (codes "kind") h.0)
-    ∙ over done AfterKind (AfterKindName name) n (c ∷ t ∷ ts ++ us) (word-taken (λ w. Go (AfterKindName w)) n name h.1.0)
-    ∙ over done (AfterKindName name) (BeforeMember name []) c (t ∷ ts ++ us) (ap (λ k. on_punct Colon k (Go (BeforeMember name []))) h.1.1.0)
-    ∙ over done (BeforeMember name []) (AfterMember name (m ∷ [])) t (ts ++ us) (word-taken (λ w. Go (AfterMember name (w ∷ []))) t m h.1.1.1.0)
-    ∙ members-again done name members (m ∷ []) ts us h.1.1.1.1
-statement-again done (RuleOf name e) [] us h fits = absurd h
-statement-again done (RuleOf name e) (r ∷ ts) us h fits =
-    over done Top (AfterRole OfRule) r (ts ++ us) (top-word r (codes "rule") h.0) ∙ named-again done OfRule name e ts us h.1 fits
-statement-again done (SubjectOf name e) [] us h fits = absurd h
-statement-again done (SubjectOf name e) (r ∷ ts) us h fits =
-    over done Top (AfterRole OfSubject) r (ts ++ us) (top-word r (codes "subject") h.0) ∙ named-again done OfSubject name e ts us h.1 fits
-
--- a file is read
-pub file-again : (file done : List Statement) (ts us : List Placed) → AllMatch ts (spell_file file) → AreStatements file → run done Top (ts ++ us) ≡ run (done ++ file) Top us
-file-again [] done [] us h fits = ap (λ d. run d Top us) (sym (append-nil done))
-file-again [] done (t ∷ ts) us h fits = absurd h
-file-again (s ∷ file) done ts us h fits =
-    let r = split (spell_statement s) (spell_file file) ts h in
-    ap (run done Top) (ap (λ l. l ++ us) r.parts ∙ append_assoc r.front r.back us)
-    ∙ statement-again done s r.front (r.back ++ us) r.first fits.0
-    ∙ file-again file (done ++ s ∷ []) r.back us r.second fits.1
-    ∙ ap (λ d. run d Top us) (append_assoc done (s ∷ []) file)
-
--- an expression alone is read
-pub alone-again : (e : Tree) (ts : List Placed) (last : Placed) → AllMatch ts (spell e) → Fits 100 e → last.token ≡ End → run [] (BeforeExpr Alone []) (ts ++ last ∷ []) ≡ read_ok (parsed [] (Some e))
-alone-again e ts last h fits ends =
-    expr-again [] Alone e [] 100 ts last [] h fits refl (ap (is_punct Open) ends, ap (is_punct Colon) ends)
-    ∙ ap (λ k. after_step [] last.place (λ d a. run d a []) (cond (is_end k) (Ends e) (Refuse (refusal k)))) ends
+-- an expression is read up to a token that continues none
+pub expr-between : (done : List Statement) (x : Within) (k : List Frame) (room : ℕ) (e : Tree) (m : Expected) (ms : List Expected) (ts us : List Placed) → AllMatch ts (spell e ++ m ∷ ms) → Fits room e → open_count k + room ≡ 100 → EachContinuesNone m → ReadTo done (BeforeExpr x k) (AfterExpr x k e) m ms ts us
+expr-between done x k room e m ms ts us h fits len none =
+    let r = split (spell e) (m ∷ ms) ts h in
+    let s = led m ms r.back r.second in
+    record {
+      token = s.token;
+      others = s.others;
+      match = s.match;
+      behind = s.behind;
+      read =
+          ap (run done (BeforeExpr x k)) (joined ts r.front r.back s.token s.others us r.parts s.parts)
+          ∙ expr-again done x e k room r.front s.token (s.others ++ us) r.first fits len (none s.token s.match);
+    }

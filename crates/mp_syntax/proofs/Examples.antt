@@ -1,16 +1,20 @@
 -- Worked examples, by computing.
-use Rattle.std.proofs.Common.{◌≡◌, ℕ, true, false, List, [], ◌∷◌, ◌++◌, map, Result, Ok, Err, refl}
+use Rattle.std.proofs.Common.{◌≡◌, ℕ, true, false, List, [], ◌∷◌, ◌++◌, map, Some, None, Result, Ok, Err, refl}
 use Rattle.std.specs.Prelude.{codes, replicate}
 use Rattle.mp_syntax.specs.declared.place.Place.{Place}
 use Rattle.mp_syntax.specs.declared.token.Punct.TheVariants.{Dot}
 use Rattle.mp_syntax.specs.declared.fault.Fault.{Fault}
 use Rattle.mp_syntax.specs.declared.fault.FaultKind.{FaultKind}
 use Rattle.mp_syntax.specs.declared.fault.FaultKind.TheVariants as kinds
+use Rattle.mp_syntax.specs.declared.condition_tree.Measure.TheVariants.{Count}
+use Rattle.mp_syntax.specs.declared.condition_tree.Sense.TheVariants.{Lt, Eq}
+use Rattle.mp_syntax.specs.declared.condition_tree.Relation.TheVariants.{Less}
+use Rattle.mp_syntax.specs.declared.condition_tree.Property.TheVariants as properties
 use Rattle.mp_syntax.specs.Tokens.{Token, Word, Wildcard, Sign, Arrow, Punctuation, Long, End, Placed, first_place}
 use Rattle.mp_syntax.specs.Lexing.{lexemes}
 use Rattle.mp_syntax.specs.Syntax as syntax
-use Rattle.mp_syntax.specs.Syntax.{Spot, Tree, Symbol, Apply, InfixOf, Wild, Optional, trees, Assoc, Comm, Infixed, Statement, OpOf, KindOf, RuleOf, SubjectOf}
-use Rattle.mp_syntax.specs.Reading.{reading, expr_reading}
+use Rattle.mp_syntax.specs.Syntax.{Spot, Tree, Symbol, Apply, InfixOf, Wild, Optional, Variable, trees, Number, Measured, Compare, Relate, Test, AtomOf, Bracketed, literals, condition, Assoc, Comm, Infixed, Statement, OpOf, KindOf, RuleOf, SubjectOf}
+use Rattle.mp_syntax.specs.Reading.{reading, expr_reading, condition_reading}
 
 abbrev at : ℕ → ℕ → Place
 at line column = record { line = line; column = column }
@@ -32,7 +36,7 @@ abbrev tokens_of : List ℕ → List Token
 tokens_of bytes = map (λ (t : Placed). t.token) (lexemes bytes first_place)
 
 -- a file and its statements
-file-read : reading (codes "op f 2;\nrule r: f(x_, a);") ≡ Ok (OpOf (word (codes "f") 1 4) (word (codes "2") 1 6) false [] ∷ RuleOf (word (codes "r") 2 6) (Apply (word (codes "f") 2 9) (trees (Wild (record { name = codes "x"; marks = 1; kind = []; place = at 2 11 }) ∷ Symbol (word (codes "a") 2 15) ∷ []))) ∷ [])
+file-read : reading (codes "op f 2;\nrule r: f(x_, a);") ≡ Ok (OpOf (word (codes "f") 1 4) (word (codes "2") 1 6) false [] ∷ RuleOf (word (codes "r") 2 6) (Apply (word (codes "f") 2 9) (trees (Wild (record { name = codes "x"; marks = 1; kind = []; place = at 2 11 }) ∷ Symbol (word (codes "a") 2 15) ∷ []))) None ∷ [])
 unfolding lexemes
 file-read = refl
 
@@ -79,12 +83,12 @@ unfolding lexemes
 underscores-refused = refl
 
 -- a wildcard has one to three underscores, and behind a single one perhaps a kind
-wildcards-read : reading (codes "rule r: f(x_, y_K, x__, 1___);") ≡ Ok (RuleOf (word (codes "r") 1 6) (Apply (word (codes "f") 1 9) (trees (wildcard (codes "x") 1 [] 11 ∷ wildcard (codes "y") 1 (codes "K") 15 ∷ wildcard (codes "x") 2 [] 20 ∷ wildcard (codes "1") 3 [] 25 ∷ []))) ∷ [])
+wildcards-read : reading (codes "rule r: f(x_, y_K, x__, 1___);") ≡ Ok (RuleOf (word (codes "r") 1 6) (Apply (word (codes "f") 1 9) (trees (wildcard (codes "x") 1 [] 11 ∷ wildcard (codes "y") 1 (codes "K") 15 ∷ wildcard (codes "x") 2 [] 20 ∷ wildcard (codes "1") 3 [] 25 ∷ []))) None ∷ [])
 unfolding lexemes
 wildcards-read = refl
 
 -- a wildcard may have no name
-unnamed-read : reading (codes "rule r: f(_K, ___);") ≡ Ok (RuleOf (word (codes "r") 1 6) (Apply (word (codes "f") 1 9) (trees (wildcard [] 1 (codes "K") 11 ∷ wildcard [] 3 [] 15 ∷ []))) ∷ [])
+unnamed-read : reading (codes "rule r: f(_K, ___);") ≡ Ok (RuleOf (word (codes "r") 1 6) (Apply (word (codes "f") 1 9) (trees (wildcard [] 1 (codes "K") 11 ∷ wildcard [] 3 [] 15 ∷ []))) None ∷ [])
 unfolding lexemes
 unnamed-read = refl
 
@@ -133,3 +137,22 @@ bad-refused = refl
 end-refused : reading (codes "op f 2") ≡ fault kinds.Syntax 1 7
 unfolding lexemes
 end-refused = refl
+
+-- words are told by their place, those of conditions too
+rule-read : reading (codes "rule if: if if count(if) == 1;") ≡ Ok (RuleOf (word (codes "if") 1 6) (Symbol (word (codes "if") 1 10)) (Some (condition (literals (AtomOf false (Compare (Measured Count (Symbol (word (codes "if") 1 22))) Eq (Number (word (codes "1") 1 29))) ∷ []) ∷ []))) ∷ [])
+unfolding lexemes
+rule-read = refl
+
+-- square brackets are kept, and `and` binds before `or`
+condition-read : condition_reading (codes "not [less($x, a)] and 1 < 2 or kind($x, v)") ≡ Ok (condition (literals (Bracketed true (condition (literals (AtomOf false (Relate Less (Variable (word (codes "x") 1 11)) (Symbol (word (codes "a") 1 15))) ∷ []) ∷ [])) ∷ AtomOf false (Compare (Number (word (codes "1") 1 23)) Lt (Number (word (codes "2") 1 27))) ∷ []) ∷ literals (AtomOf false (Test properties.Kind (Variable (word (codes "x") 1 37)) (word (codes "v") 1 41)) ∷ []) ∷ []))
+unfolding lexemes
+condition-read = refl
+
+-- one `not` at a time, and a condition in a rule alone
+not-refused : condition_reading (codes "not not 1 == 1") ≡ Err (record { kind = kinds.Syntax; place = at 1 5 })
+unfolding lexemes
+not-refused = refl
+
+if-refused : reading (codes "subject s: a if 1 == 1;") ≡ fault kinds.Syntax 1 14
+unfolding lexemes
+if-refused = refl

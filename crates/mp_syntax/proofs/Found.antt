@@ -1,125 +1,18 @@
 -- What the machine reads is spelled by the tokens.
-use Rattle.std.proofs.Common.{◌≡◌, ℕ, Bool, true, false, cond, List, [], ◌∷◌, ◌++◌, Option, Some, None, Result, Ok, refl, sym, ap, subst, ◌∙◌, append_assoc, append-nil, leb}
-use Rattle.std.proofs.lemmas.List.{map_push, flat_map_more}
+use Rattle.std.proofs.Common.{◌≡◌, ℕ, Bool, true, false, cond, List, [], ◌∷◌, ◌++◌, Option, Some, None, Result, Ok, refl, sym, ap, subst, ◌∙◌, append_assoc, append-nil}
+use Rattle.std.proofs.lemmas.List.{map_push}
 use Rattle.std.specs.Prelude.{◌&&◌, codes}
 use Rattle.std.specs.List.{flat_map}
-use Rattle.std.specs.Str.{bytes_eq}
-use Rattle.std.proofs.lemmas.Slice.Eq.{bytes_eq-Decides}
-use Rattle.mp_syntax.specs.declared.place.Place.{Place}
-use Rattle.mp_syntax.specs.declared.token.Punct.{Punct}
-use Rattle.mp_syntax.specs.declared.token.Punct.TheVariants.{Open, Close, OpenSquare, CloseSquare, OpenBrace, CloseBrace, Comma, Semicolon, Colon, Dot, Dollar}
+use Rattle.mp_syntax.specs.declared.token.Punct.TheVariants.{Open, Close, Comma, Semicolon, Colon, Dollar}
 use Rattle.mp_syntax.specs.declared.fault.Fault.{Fault}
-use Rattle.mp_syntax.specs.declared.fault.FaultKind.TheVariants.{Syntax, TooDeep}
-use Rattle.mp_syntax.specs.Tokens as tokens
-use Rattle.mp_syntax.specs.Tokens.{Token, Word, Sign, Punctuation, End, Placed}
-use Rattle.mp_syntax.specs.Syntax.{Spot, Wildcard, Tree, Symbol, Wild, trees, Flag, Assoc, Comm, One, Infixed, Statement, Expected, Said, Stands, Matches, AllMatch, spell, spell_first, spell_others, spell_plus, spell_flag, spell_statement, spell_file, spelled_word, spelled_wildcard, spelled_sign, another, fixed_word, comma, colon, closing, semicolon}
-use Rattle.mp_syntax.specs.Machine.{Role, OfRule, OfSubject, statement_of, Frame, Arguments, Bracket, Operands, Default, open_count, with_default, is_dot, Declared, declared, with_flag, Within, InStatement, Alone, State, Top, AfterOp, AfterOpName, AfterLeast, AfterFlags, AfterInfix, AfterKind, AfterKindName, BeforeMember, AfterMember, AfterRole, AfterName, BeforeExpr, AfterWord, AfterOpen, AfterWildcard, AfterExpr, Step, Go, Emit, Refuse, Finish, Ends, Parsed, parsed, is_punct, same_punct, is_sign, is_end, word_of, sign_of, wildcard_at, is_number, keyword, spot, refuse, on_text, on_word, on_sign, step, step_number, step_flag, step_flags, step_open, step_expr, step_behind, step_wildcard, after_step, run}
+use Rattle.mp_syntax.specs.declared.fault.FaultKind.TheVariants.{Syntax}
+use Rattle.mp_syntax.specs.Tokens.{Word, Sign, Punctuation, End, Placed}
+use Rattle.mp_syntax.specs.Syntax.{Spot, Wildcard, Tree, Symbol, Wild, Variable, trees, Flag, Assoc, Comm, One, Infixed, Statement, Expected, Said, Stands, Matches, AllMatch, spell, spell_first, spell_others, spell_plus, spell_flag, spell_statement, spell_file, spelled_word, spelled_wildcard, spelled_sign, another, fixed_word, comma, colon, closing, semicolon}
+use Rattle.mp_syntax.specs.Machine.{Role, OfRule, OfSubject, heading, Frame, Arguments, Bracket, Operands, Default, Operand, Second, Square, with_default, is_dot, Declared, declared, with_flag, Within, InStatement, Alone, InCondition, ConditionAlone, State, Top, AfterOp, AfterOpName, AfterLeast, AfterFlags, AfterInfix, AfterKind, AfterKindName, BeforeMember, AfterMember, AfterRole, AfterName, BeforeExpr, AfterWord, AfterOpen, AfterWildcard, AfterExpr, AfterDollar, BeforeLiteral, BeforeBody, BeforeOperand, BeforeName, BehindName, AfterAmount, AfterSense, AfterLiteral, Single, SingleExpr, Step, Go, Emit, Refuse, Finish, Ends, Parsed, parsed, is_punct, is_end, word_of, wildcard_at, is_number, keyword, spot, refuse, on_word, step, step_number, step_flag, step_flags, step_open, step_expr, step_behind, step_role, step_wildcard, after_step, run}
 use Rattle.mp_syntax.specs.Partial.{spell_before, spell_declared, so_far}
 use Rattle.mp_syntax.proofs.Trees.{spell-with_default}
-
--- ---- what a test on a token says
-
--- the punctuation character that the test has
-pub punct-is : (p : Punct) (t : Token) → is_punct p t ≡ true → t ≡ Punctuation p
-punct-is p (Punctuation q) h = ap Punctuation (same p q h)
-  where
-    same : (p q : Punct) → same_punct p q ≡ true → q ≡ p
-    same Open Open h = refl
-    same Close Close h = refl
-    same OpenSquare OpenSquare h = refl
-    same CloseSquare CloseSquare h = refl
-    same OpenBrace OpenBrace h = refl
-    same CloseBrace CloseBrace h = refl
-    same Comma Comma h = refl
-    same Semicolon Semicolon h = refl
-    same Colon Colon h = refl
-    same Dot Dot h = refl
-    same Dollar Dollar h = refl
-    same _ _ h = absurd cc
-punct-is p _ h = absurd cc
-
--- the word of this text
-pub word-is : (t : Token) (w : List ℕ) → word_of t ≡ Some w → t ≡ Word w
-word-is (Word v) w h = cc
-word-is _ w h = absurd cc
-
-abbrev some : List ℕ → Option (List ℕ)
-some w = Some w
-
-some-is : (v w : List ℕ) → some v ≡ some w → v ≡ w
-some-is v w h = cc
-
--- the sign of this text
-pub sign-is : (t : Token) (s : List ℕ) → sign_of t ≡ Some s → t ≡ Sign s
-sign-is (Sign r) s h = cc
-sign-is _ s h = absurd cc
-
--- the sign that the test has
-pub sign-same : (text : List ℕ) (t : Token) → is_sign text t ≡ true → t ≡ Sign text
-sign-same text (Sign s) h = ap Sign ((bytes_eq-Decides s text).0 h)
-sign-same text _ h = absurd cc
-
-abbrev some_wildcard : Wildcard → Option Wildcard
-some_wildcard w = Some w
-
-some_wildcard-is : (v w : Wildcard) → some_wildcard v ≡ some_wildcard w → v ≡ w
-some_wildcard-is v w h = cc
-
--- the wildcard that the token is
-wildcard-is : (k : Token) (place : Place) (w : Wildcard) → wildcard_at k place ≡ Some w → Matches (record { token = k; place = place }) (spelled_wildcard w)
-wildcard-is (tokens.Wildcard name marks kind) place w h =
-    let v : Wildcard = record { name = name; marks = marks; kind = kind; place = place } in
-    let same : v ≡ w = some_wildcard-is v w h in
-    (ap (λ (v : Wildcard). tokens.Wildcard v.name v.marks v.kind) same, ap (λ (v : Wildcard). v.place) same)
-wildcard-is _ place w h = absurd cc
-
--- the end
-pub end-is : (t : Token) → is_end t ≡ true → t ≡ End
-end-is End h = refl
-end-is _ h = absurd cc
-
--- ---- what a step adds
-
--- the token t is the one that a step has added to the spelling before it
-abbrev pub Adds : Step → List Expected → Placed → Type 0
-Adds (Go at) before t = (m : Expected) × Matches t m × (so_far at ≡ before ++ m ∷ [])
-Adds (Emit s) before t = (m : Expected) × Matches t m × (spell_statement s ≡ before ++ m ∷ [])
-Adds (Refuse kind) before t = Unit {0}
-Adds Finish before t = (before ≡ []) × (t.token ≡ End)
-Adds (Ends e) before t = (before ≡ spell e) × (t.token ≡ End)
-
-adds-token : (test : Token → Bool) (k : Token) → ((u : Token) → test u ≡ true → u ≡ k) → (t : Placed) (a b : Step) (before : List Expected) → (Matches t (Said k) → Adds a before t) → Adds b before t → Adds (cond (test t.token) a b) before t
-adds-token test k is t a b before f g = go (test t.token) refl
-  where
-    go : (v : Bool) → test t.token ≡ v → Adds (cond v a b) before t
-    go true e = f (is t.token e)
-    go false e = g
-
-adds-punct : (p : Punct) (t : Placed) (a b : Step) (before : List Expected) → (Matches t (Said (Punctuation p)) → Adds a before t) → Adds b before t → Adds (cond (is_punct p t.token) a b) before t
-adds-punct p = adds-token (is_punct p) (Punctuation p) (punct-is p)
-
-adds-sign : (text : List ℕ) (t : Placed) (a b : Step) (before : List Expected) → (Matches t (Said (Sign text)) → Adds a before t) → Adds b before t → Adds (cond (is_sign text t.token) a b) before t
-adds-sign text = adds-token (is_sign text) (Sign text) (sign-same text)
-
-adds-text : (text_of : Token → Option (List ℕ)) (kind : List ℕ → Token) → ((u : Token) (w : List ℕ) → text_of u ≡ Some w → u ≡ kind w) → (next : Spot → Step) (t : Placed) (before : List Expected) → ((w : List ℕ) → Matches t (Stands (kind w) t.place) → Adds (next (spot w t.place)) before t) → Adds (on_text t next (text_of t.token)) before t
-adds-text text_of kind is next t before h = go (text_of t.token) refl
-  where
-    go : (o : Option (List ℕ)) → text_of t.token ≡ o → Adds (on_text t next o) before t
-    go (Some w) e = h w (is t.token w e, refl)
-    go None e = tt
-
-adds-word : (next : Spot → Step) (t : Placed) (before : List Expected) → ((w : List ℕ) → Matches t (spelled_word (spot w t.place)) → Adds (next (spot w t.place)) before t) → Adds (on_word t next) before t
-adds-word = adds-text word_of Word word-is
-
-adds-any_sign : (next : Spot → Step) (t : Placed) (before : List Expected) → ((s : List ℕ) → Matches t (spelled_sign (spot s t.place)) → Adds (next (spot s t.place)) before t) → Adds (on_sign t next) before t
-adds-any_sign = adds-text sign_of Sign sign-is
-
-adds-fixed : (v : List ℕ) (t : Placed) (w : List ℕ) (a b : Step) (before : List Expected) → t.token ≡ Word w → (Matches t (fixed_word v) → Adds a before t) → Adds b before t → Adds (cond (bytes_eq w v) a b) before t
-adds-fixed v t w a b before h f g = go (bytes_eq w v) refl
-  where
-    go : (c : Bool) → bytes_eq w v ≡ c → Adds (cond c a b) before t
-    go true e = f (h ∙ ap Word ((bytes_eq-Decides w v).0 e))
-    go false e = g
+use Rattle.mp_syntax.proofs.Adds.{punct-is, word-is, wildcard-is, end-is, spell_single, Adds, adds-punct, adds-sign, adds-fixed_word, adds-word, adds-any_sign, adds-fixed, adds-open, flat_map-push}
+use Rattle.mp_syntax.proofs.ConditionAdds.{adds-operand, adds-second, adds-literal, adds-body, adds-before_operand, adds-name, adds-behind_name, adds-amount_behind, adds-second_amount, adds-literal_behind}
 
 adds-keyword : (t : Placed) (w : List ℕ) → t.token ≡ Word w → Adds (keyword w) [] t
 adds-keyword t w h =
@@ -127,10 +20,6 @@ adds-keyword t w h =
     (adds-fixed (codes "kind") t w _ _ [] h (λ is. (fixed_word (codes "kind"), is, refl))
     (adds-fixed (codes "rule") t w _ _ [] h (λ is. (fixed_word (codes "rule"), is, refl))
     (adds-fixed (codes "subject") t w _ (Refuse Syntax) [] h (λ is. (fixed_word (codes "subject"), is, refl)) tt)))
-
--- one element more
-pub flat_map-push : {X A : Type 0} (f : X → List A) (xs : List X) (x : X) → flat_map f (xs ++ x ∷ []) ≡ flat_map f xs ++ f x
-flat_map-push f xs x = sym (flat_map_more f [] xs x)
 
 -- expressions of which e is the last
 spell_first-trees : (between : Expected) (args : List Tree) (e : Tree) → spell_first between (trees (args ++ e ∷ [])) ≡ flat_map (spell_before between) args ++ (spell e ++ closing ∷ [])
@@ -167,19 +56,12 @@ adds-member name members t = adds-word (λ w. Go (AfterMember name (members ++ w
 
 -- ---- expressions
 
-adds-open : (k : List Frame) (next : State) (before : List Expected) (t : Placed) → Adds (Go next) before t → Adds (step_open 100 k next) before t
-adds-open k next before t h = go (leb 100 (open_count k))
-  where
-    go : (b : Bool) → Adds (cond b (Refuse TooDeep) (Go next)) before t
-    go true = tt
-    go false = h
-
 adds-expr : (x : Within) (k : List Frame) (t : Placed) → Adds (step_expr 100 x k t (word_of t.token)) (so_far (BeforeExpr x k)) t
 adds-expr x k t = go (word_of t.token) refl
   where
     wildcard : (o : Option Wildcard) → wildcard_at t.token t.place ≡ o → Adds (step_wildcard x k t o) (so_far (BeforeExpr x k)) t
     wildcard (Some w) f = (spelled_wildcard w, wildcard-is t.token t.place w f, simp append_assoc)
-    wildcard None f = tt
+    wildcard None f = adds-punct Dollar t _ (refuse t.token) (so_far (BeforeExpr x k)) (λ is. (Stands (Punctuation Dollar) t.place, (is, refl), simp append_assoc)) tt
 
     bracket : Matches t (Said (Punctuation Open)) → Adds (step_open 100 k (BeforeExpr x (Bracket t.place ∷ k))) (so_far (BeforeExpr x k)) t
     bracket is = adds-open k (BeforeExpr x (Bracket t.place ∷ k)) (so_far (BeforeExpr x k)) t (Stands (Punctuation Open) t.place, (is, refl), simp append_assoc)
@@ -189,16 +71,20 @@ adds-expr x k t = go (word_of t.token) refl
     go None e = adds-punct Open t _ _ (so_far (BeforeExpr x k)) bracket (wildcard (wildcard_at t.token t.place) refl)
 
 adds-behind : (x : Within) (k : List Frame) (e : Tree) (t : Placed) → Adds (step_behind x k e t) (so_far (AfterExpr x k e)) t
-adds-behind (InStatement h) [] e t = adds-punct Semicolon t _ (refuse t.token) (so_far (AfterExpr (InStatement h) [] e)) (λ is. (semicolon, is, at h.role)) tt
+adds-behind (InStatement h) [] e t = at h.role
   where
-    at : (role : Role) → spell_statement (statement_of role h.name e) ≡ so_far (AfterExpr (InStatement (record { role = role; name = h.name })) [] e) ++ semicolon ∷ []
-    at OfRule = refl
-    at OfSubject = refl
+    at : (role : Role) → Adds (step_role role h.name e t.token) (so_far (AfterExpr (InStatement (heading role h.name)) [] e)) t
+    at OfRule =
+        adds-punct Semicolon t _ _ (so_far (AfterExpr (InStatement (heading OfRule h.name)) [] e)) (λ is. (semicolon, is, refl))
+        (adds-fixed_word (codes "if") t _ (refuse t.token) (so_far (AfterExpr (InStatement (heading OfRule h.name)) [] e)) (λ is. (fixed_word (codes "if"), is, append-nil _)) tt)
+    at OfSubject = adds-punct Semicolon t _ (refuse t.token) (so_far (AfterExpr (InStatement (heading OfSubject h.name)) [] e)) (λ is. (semicolon, is, refl)) tt
 adds-behind Alone [] e t = go (is_end t.token) refl
   where
-    go : (v : Bool) → is_end t.token ≡ v → Adds (cond v (Ends e) (refuse t.token)) (spell e) t
+    go : (v : Bool) → is_end t.token ≡ v → Adds (cond v (Ends (SingleExpr e)) (refuse t.token)) (spell e) t
     go true is = (refl, end-is t.token is)
     go false is = tt
+adds-behind (InCondition name pattern) [] e t = tt
+adds-behind ConditionAlone [] e t = tt
 adds-behind x (Arguments name args ∷ k) e t =
     adds-punct Comma t _ _ (so_far (AfterExpr x (Arguments name args ∷ k) e)) (λ is. (comma, is, rw (flat_map-push (spell_before comma) args e) (simp append_assoc)))
     (adds-punct Close t _ (refuse t.token) (so_far (AfterExpr x (Arguments name args ∷ k) e)) (λ is. (closing, is, rw (spell_first-trees comma args e) (simp append_assoc))) tt)
@@ -208,6 +94,9 @@ adds-behind x (Operands place sign first others ∷ k) e t =
     adds-sign sign.text t _ _ (so_far (AfterExpr x (Operands place sign first others ∷ k) e)) (λ is. (another sign, is, rw (flat_map-push (spell_before (another sign)) others e) (simp append_assoc)))
     (adds-punct Close t _ (refuse t.token) (so_far (AfterExpr x (Operands place sign first others ∷ k) e)) (λ is. (closing, is, rw (spell_first-trees (another sign) others e) (simp append_assoc))) tt)
 adds-behind x (Default w ∷ k) e t = subst (λ l. Adds (step_behind x k (with_default w e) t) l t) (rw (spell-with_default w e) (simp append_assoc)) (adds-behind x k (with_default w e) t)
+adds-behind x (Operand s lead ∷ k) e t = adds-operand x k s lead e t
+adds-behind x (Second s r d ∷ k) e t = adds-second x k s r d e t
+adds-behind x (Square s ∷ k) e t = tt
 
 -- ---- all states
 
@@ -247,6 +136,15 @@ adds (AfterWildcard x k w) t = go (is_punct Colon t.token) refl
         dot false = adds-behind x k (Wild w) t
     go false e = adds-behind x k (Wild w) t
 adds (AfterExpr x k e) t = adds-behind x k e t
+adds (AfterDollar x k place) t = adds-word (λ w. Go (AfterExpr x k (Variable (spot w.text place)))) t (so_far (AfterDollar x k place)) (λ w is. (fixed_word w, is.0, simp append_assoc))
+adds (BeforeLiteral x k v) t = adds-literal x k v t
+adds (BeforeBody x k s) t = adds-body x k s t
+adds (BeforeOperand x k s lead) t = adds-before_operand x k s lead t
+adds (BeforeName x k s p e) t = adds-name x k s p e t
+adds (BehindName x k s p e w) t = adds-behind_name x k s p e w t
+adds (AfterAmount x k s a) t = adds-amount_behind x k s a t
+adds (AfterSense x k s a sense) t = adds-second_amount x k s a sense t
+adds (AfterLiteral x k v l) t = adds-literal_behind x k v l t
 
 -- ---- whole runs
 
@@ -256,14 +154,14 @@ read_ok p = Ok p
 pub ok-is : (a b : Parsed) → read_ok a ≡ read_ok b → a ≡ b
 ok-is a b e = cc
 
--- the spelling of an expression, where there is one
-abbrev pub spell_alone : Option Tree → List Expected
+-- the spelling of an expression or a condition, where there is one
+abbrev pub spell_alone : Option Single → List Expected
 spell_alone None = []
-spell_alone (Some t) = spell t
+spell_alone (Some s) = spell_single s
 
 -- the spelling of what is read
 abbrev pub spell_parsed : Parsed → List Expected
-spell_parsed p = spell_file p.statements ++ spell_alone p.expr
+spell_parsed p = spell_file p.statements ++ spell_alone p.single
 
 -- the tokens up to the end spell what is read and isn't before them
 pub record Reads (ts : List Placed) (before : List Expected) (p : Parsed) : Type 0 where
@@ -292,7 +190,7 @@ run-found (t ∷ ts) done at p e = go (step at t) (adds at t) e (run-found ts)
       spelled = r.spelled ∙ ap (λ l. l ++ r.others) e ∙ append_assoc before (m ∷ []) r.others;
     }
 
-    last : (o : Option Tree) (spelled : List Expected) → so_far at ≡ spelled → t.token ≡ End → read_ok p ≡ read_ok (parsed done o) → spell_alone o ≡ spelled → Reads (t ∷ ts) (spell_file done ++ so_far at) p
+    last : (o : Option Single) (spelled : List Expected) → so_far at ≡ spelled → t.token ≡ End → read_ok p ≡ read_ok (parsed done o) → spell_alone o ≡ spelled → Reads (t ∷ ts) (spell_file done ++ so_far at) p
     last o spelled e ends ok f = record {
       front = [];
       last = t;
@@ -309,4 +207,4 @@ run-found (t ∷ ts) done at p e = go (step at t) (adds at t) e (run-found ts)
     go (Emit s) h e ih = one _ _ h.0 h.1 (ap (λ l. l ++ []) (flat_map-push spell_statement done s) ∙ append-nil _ ∙ ap (λ l. spell_file done ++ l) h.2 ∙ sym (append_assoc (spell_file done) (so_far at) _)) (ih (done ++ s ∷ []) Top p e)
     go (Refuse kind) h e ih = absurd cc
     go Finish h e ih = last None [] h.0 h.1 (sym e) refl
-    go (Ends x) h e ih = last (Some x) (spell x) h.0 h.1 (sym e) refl
+    go (Ends x) h e ih = last (Some x) (spell_single x) h.0 h.1 (sym e) refl

@@ -1,4 +1,9 @@
+pub mod Adds
 pub mod Again
+pub mod ConditionAdds
+pub mod ConditionAgain
+pub mod ConditionRuns
+pub mod ConditionTrees
 pub mod Ends
 mod Examples
 pub mod Fit
@@ -8,8 +13,11 @@ pub mod Fuel
 pub mod Longest
 pub mod Names
 pub mod Printed
+pub mod PrintedCondition
+pub mod PrintedExpr
 pub mod Runs
 pub mod Spelling
+pub mod StatementAgain
 pub mod TokensLaw
 pub mod TokensTotal
 pub mod Trees

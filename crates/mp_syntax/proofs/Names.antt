@@ -1,10 +1,10 @@
 -- The words and signs of what is read are those of tokens: 1 to 64 letters and digits, and sign bytes but the arrow.
-use Rattle.std.proofs.Common.{ℕ, zero, suc, List, [], ◌∷◌, ◌++◌, map, subst}
+use Rattle.std.proofs.Common.{ℕ, zero, suc, List, [], ◌∷◌, ◌++◌, Option, Some, None, map, subst}
 use Rattle.std.specs.List.{flat_map}
 use Rattle.mp_syntax.specs.declared.place.Place.{Place}
 use Rattle.mp_syntax.specs.Tokens as tokens
 use Rattle.mp_syntax.specs.Tokens.{Token, Word, Sign, Placed, Spells, place_after, Tokens}
-use Rattle.mp_syntax.specs.Syntax.{Spot, Wildcard, Tree, Symbol, Apply, InfixOf, Wild, Optional, Trees, no_trees, more_trees, Flag, Assoc, Comm, One, Infixed, Statement, OpOf, KindOf, RuleOf, SubjectOf, Expected, Said, Stands, AllMatch, spelled_word, spelled_sign, another, comma, semicolon, spell, spell_first, spell_others, spell_with_colon, spell_named, spell_plus, spell_flag, spell_statement, spell_file, Fits, AreFit, FitsStatement, AreStatements, IsName, IsInfixSign, HasParts, HaveParts, HasNames, HaveNames, HaveSigns, AreNames, StatementHasNames, StatementsHaveNames}
+use Rattle.mp_syntax.specs.Syntax.{Spot, Wildcard, Tree, Symbol, Apply, InfixOf, Wild, Optional, Variable, Trees, no_trees, more_trees, Flag, Assoc, Comm, One, Infixed, Amount, Number, Measured, Atom, Compare, Relate, Test, Literal, AtomOf, Bracketed, Literals, no_literals, more_literals, Condition, no_alternatives, more_alternatives, Statement, OpOf, KindOf, RuleOf, SubjectOf, Expected, Said, Stands, AllMatch, spelled_word, spelled_sign, another, comma, semicolon, spell, spell_first, spell_others, spell_with_colon, spell_plus, spell_amount, spell_atom, spell_not, spell_literal, spell_literals, spell_alternatives, spell_condition, spell_if, spell_flag, spell_statement, spell_file, Fits, AreFit, FitsAmount, FitsAtom, FitsLiteral, LiteralsFit, AlternativesFit, FitsCondition, FitsIf, FitsStatement, AreStatements, IsName, IsInfixSign, HasParts, HaveParts, HasNames, HaveNames, AmountHasNames, AtomHasNames, LiteralHasNames, LiteralsHaveNames, ConditionHasNames, IfHasNames, HaveSigns, AreNames, StatementHasNames, StatementsHaveNames}
 use Rattle.mp_syntax.proofs.Trees.{fits-optional}
 
 -- a text is this token
@@ -76,6 +76,7 @@ mutual
   tree-names (Optional w others default) room fits h =
       let r = texts-append (flat_map spell_with_colon others) (spell default) h.1.1 in
       (wildcard-parts w h.0, chain-parts others r.0, tree-names default room (fits-optional room w others default fits).2 r.1)
+  tree-names (Variable w) room fits h = word-name w.text h.1.0
 
   first-names : (between : Expected) (ts : Trees) (room : ℕ) → AreFit room ts → ExpectTexts (spell_first between ts) → HaveNames ts
   first-names between no_trees room fits h = tt
@@ -100,16 +101,67 @@ members-names : (members : List Spot) → ExpectTexts (map spelled_word members 
 members-names [] h = tt
 members-names (m ∷ members) h = (word-name m.text h.0, members-names members h.1)
 
-named-names : (name : Spot) (e : Tree) → Fits 100 e → ExpectTexts (spell_named name e) → IsName name.text × HasNames e
-named-names name e fits h = (word-name name.text h.0, tree-names e 100 fits (texts-append (spell e) _ h.1.1).0)
+-- ---- conditions
+
+amount-names : (room : ℕ) (a : Amount) → FitsAmount room a → ExpectTexts (spell_amount a) → AmountHasNames a
+amount-names room (Number w) fits h = word-name w.text h.0
+amount-names zero (Measured m e) fits h = absurd fits
+amount-names (suc room) (Measured m e) fits h = tree-names e room fits (texts-append (spell e) _ h.1.1).0
+
+atom-names : (room : ℕ) (a : Atom) → FitsAtom room a → ExpectTexts (spell_atom a) → AtomHasNames a
+atom-names zero (Compare a sense b) fits h =
+    let r = texts-append (spell_amount a) _ h in
+    (amount-names zero a fits.0 r.0, amount-names zero b fits.1 r.1.1)
+atom-names (suc room) (Compare a sense b) fits h =
+    let r = texts-append (spell_amount a) _ h in
+    (amount-names (suc room) a fits.0 r.0, amount-names (suc room) b fits.1 r.1.1)
+atom-names zero (Relate q d e) fits h = absurd fits
+atom-names (suc room) (Relate q d e) fits h =
+    let r = texts-append (spell d) _ h.1.1 in
+    (tree-names d room fits.0 r.0, tree-names e room fits.1 (texts-append (spell e) _ r.1.1).0)
+atom-names zero (Test p e w) fits h = absurd fits
+atom-names (suc room) (Test p e w) fits h =
+    let r = texts-append (spell e) _ h.1.1 in
+    (tree-names e room fits r.0, word-name w.text r.1.1.0)
+
+mutual
+  literal-names : (room : ℕ) (l : Literal) → FitsLiteral room l → ExpectTexts (spell_literal l) → LiteralHasNames l
+  literal-names zero (AtomOf negated a) fits h = atom-names zero a fits (texts-append (spell_not negated) _ h).1
+  literal-names (suc room) (AtomOf negated a) fits h = atom-names (suc room) a fits (texts-append (spell_not negated) _ h).1
+  literal-names zero (Bracketed negated c) fits h = absurd fits
+  literal-names (suc room) (Bracketed negated c) fits h = alternatives-names room [] c fits.1 (texts-append (spell_condition c) _ (texts-append (spell_not negated) _ h).1.1).0
+
+  literals-names : (room : ℕ) (before : List Expected) (ls : Literals) → LiteralsFit room ls → ExpectTexts (spell_literals before ls) → LiteralsHaveNames ls
+  literals-names room before no_literals fits h = tt
+  literals-names room before (more_literals l ls) fits h =
+      let r = texts-append (spell_literal l) _ (texts-append before _ h).1 in
+      (literal-names room l fits.0 r.0, literals-names room _ ls fits.1 r.1)
+
+  alternatives-names : (room : ℕ) (before : List Expected) (c : Condition) → AlternativesFit room c → ExpectTexts (spell_alternatives before c) → ConditionHasNames c
+  alternatives-names room before no_alternatives fits h = tt
+  alternatives-names room before (more_alternatives a c) fits h =
+      let r = texts-append (spell_literals [] a) _ (texts-append before _ h).1 in
+      (literals-names room [] a fits.1 r.0, alternatives-names room _ c fits.2 r.1)
+
+-- a condition that is spelled by tokens with texts has names
+pub condition-names : (c : Condition) → FitsCondition 100 c → ExpectTexts (spell_condition c) → ConditionHasNames c
+condition-names c fits h = alternatives-names 100 [] c fits.1 h
+
+if-names : (o : Option Condition) → FitsIf o → ExpectTexts (spell_if o) → IfHasNames o
+if-names None fits h = tt
+if-names (Some c) fits h = condition-names c fits h.1
+
+-- ---- statements
 
 statement-names : (s : Statement) → FitsStatement s → ExpectTexts (spell_statement s) → StatementHasNames s
 statement-names (OpOf name least more flags) fits h =
     let r = texts-append (spell_plus more) (flat_map spell_flag flags ++ semicolon ∷ []) h.1.1.1 in
     (word-name name.text h.1.0, word-name least.text h.1.1.0, flags-names flags r.1)
 statement-names (KindOf name members) fits h = (word-name name.text h.1.0, members-names members h.1.1.1)
-statement-names (RuleOf name e) fits h = named-names name e fits h.1
-statement-names (SubjectOf name e) fits h = named-names name e fits h.1
+statement-names (RuleOf name e o) fits h =
+    let r = texts-append (spell e) (spell_if o ++ semicolon ∷ []) h.1.1.1 in
+    (word-name name.text h.1.0, tree-names e 100 fits.0 r.0, if-names o fits.1 (texts-append (spell_if o) _ r.1).0)
+statement-names (SubjectOf name e) fits h = (word-name name.text h.1.0, tree-names e 100 fits (texts-append (spell e) _ h.1.1.1).0)
 
 -- statements that are spelled by tokens with texts have names
 pub file-names : (file : List Statement) → AreStatements file → ExpectTexts (spell_file file) → StatementsHaveNames file

@@ -4,7 +4,7 @@ use Rattle.std.specs.Prelude.{◌&&◌}
 use Rattle.std.proofs.lemmas.Bool.{lt-leb, and_parts}
 use Rattle.mp_syntax.specs.declared.place.Place.{Place}
 use Rattle.mp_syntax.specs.declared.token.Punct.{Punct}
-use Rattle.mp_syntax.specs.declared.token.Punct.TheVariants.{Open, Close, Comma, Colon, Semicolon}
+use Rattle.mp_syntax.specs.declared.token.Punct.TheVariants.{Open, Close, Comma, Colon, Semicolon, Dollar}
 use Rattle.mp_syntax.specs.declared.fault.Fault.{Fault}
 use Rattle.mp_syntax.specs.declared.fault.FaultKind.TheVariants.{TooDeep}
 use Rattle.mp_syntax.specs.declared.fault.SyntaxError.{SyntaxError}
@@ -12,8 +12,8 @@ use Rattle.mp_syntax.specs.declared.fault.SyntaxError.TheVariants as errors
 use Rattle.mp_syntax.specs.Tokens as tokens
 use Rattle.mp_syntax.specs.Tokens.{Token, Word, Sign, Arrow, Punctuation, Long, Bad, End, Placed}
 use Rattle.mp_syntax.specs.Lexing.{behind}
-use Rattle.mp_syntax.specs.Syntax.{Spot, Wildcard, Tree, Apply, InfixOf, Symbol, Wild, Optional, more_trees, trees, HasNoDefault, KindOf, Statement}
-use Rattle.mp_syntax.specs.Machine.{State, Role, Step, Go, Emit, Refuse, Heading, Within, Parsed, Frame, Arguments, Bracket, Operands, Default, open_count, BeforeMember, AfterMember, BeforeExpr, AfterWord, AfterOpen, AfterWildcard, AfterExpr, is_punct, is_sign, word_of, wildcard_at, is_dot, with_default, refuse, on_punct, on_word, step, step_open, step_wildcard, step_expr, step_behind, run}
+use Rattle.mp_syntax.specs.Syntax.{Spot, Wildcard, Tree, Apply, InfixOf, Symbol, Wild, Optional, Variable, more_trees, trees, HasNoDefault, KindOf, Statement}
+use Rattle.mp_syntax.specs.Machine.{State, Step, Go, Emit, Refuse, Within, Parsed, Frame, Arguments, Bracket, Operands, Default, open_count, BeforeMember, AfterMember, BeforeExpr, AfterWord, AfterOpen, AfterWildcard, AfterExpr, AfterDollar, is_punct, is_sign, word_of, wildcard_at, is_dot, with_default, refuse, on_punct, on_word, step, step_open, step_wildcard, step_expr, step_behind, run}
 use Rattle.mp_syntax.specs.Parsing.{onward, WantsPunct, Fails, within_defaults}
 
 -- behind a punctuation character lie the other tokens
@@ -149,6 +149,7 @@ chained-optional w [] (Apply f args) h = refl
 chained-optional w [] (InfixOf place sign operands) h = refl
 chained-optional w [] (Wild v) h = refl
 chained-optional w [] (Optional v vs e) h = absurd h
+chained-optional w [] (Variable v) h = refl
 chained-optional w (v ∷ ws) e h = ap (with_default w) (chained-optional v ws e h)
 
 -- a chain opens no bracket
@@ -161,6 +162,10 @@ pub within_defaults-push : (ws : List Wildcard) (w : Wildcard) (k : List Frame) 
 within_defaults-push [] w k = refl
 within_defaults-push (v ∷ ws) w k = within_defaults-push ws w (Default v ∷ k)
 
+-- the `$` of a variable
+pub dollar-step : (x : Within) (k : List Frame) (t : Placed) → t.token ≡ Punctuation Dollar → step (BeforeExpr x k) t ≡ Go (AfterDollar x k t.place)
+dollar-step x k t h = ap (λ u. step_expr 100 x k (record { token = u; place = t.place }) (word_of u)) h
+
 -- behind a member of a kind, where no semicolon follows, there is another member
 pub member-again : (done : List Statement) (name : Spot) (members : List Spot) (t : Placed) (ts : List Placed) → is_punct Semicolon t.token ≡ false → run done (AfterMember name members) (t ∷ ts) ≡ run done (BeforeMember name members) (t ∷ ts)
 member-again done name members t ts e = ap (λ b. onward t.place done (cond b (Emit (KindOf name members)) (on_word t (λ w. Go (AfterMember name (members ++ w ∷ []))))) ts) e
@@ -168,7 +173,3 @@ member-again done name members t ts e = ap (λ b. onward t.place done (cond b (E
 -- behind a member of a kind the semicolon ends the statement
 pub members-end : (name : Spot) (members : List Spot) (t : Placed) → is_punct Semicolon t.token ≡ true → step (AfterMember name members) t ≡ Emit (KindOf name members)
 members-end name members t e = ap (λ b. cond b (Emit (KindOf name members)) (on_word t (λ w. Go (AfterMember name (members ++ w ∷ []))))) e
-
--- the heading of an expression
-abbrev pub heading : Role → Spot → Heading
-heading role name = record { role = role; name = name }

@@ -8,7 +8,7 @@ use Rattle.mp_syntax.specs.declared.place.Spot as code_spot
 use Rattle.mp_syntax.specs.declared.tree.Expr as code
 use Rattle.mp_syntax.specs.declared.tree.Expr.{Expr, Apply', Infix, Infix', Row_of-Expr, end_of-Expr, more_of-Expr, items-the_row-Expr, items_hidden-the_row-Expr-0}
 use Rattle.mp_syntax.specs.Syntax as syntax
-use Rattle.mp_syntax.specs.Syntax.{Wildcard, Tree, Symbol, Apply, InfixOf, Wild, Optional, Trees, trees, tree_list, no_trees, more_trees, IsDot, AreDots, HasNoDefault, Fits, spell, spell_with_colon}
+use Rattle.mp_syntax.specs.Syntax.{Spot, Wildcard, Tree, Symbol, Apply, InfixOf, Wild, Optional, Variable, Trees, trees, tree_list, no_trees, more_trees, IsDot, AreDots, HasNoDefault, Fits, spell, spell_with_colon}
 use Rattle.mp_syntax.specs.Machine.{is_dot, with_default}
 use Rattle.mp_syntax.proofs.Fronts.{empty-length}
 use Rattle.mp_syntax.specs.View.{spot_of, expr_tree, row_trees}
@@ -58,6 +58,11 @@ pub wild-fits : (room : ℕ) (w : Wildcard) → Fits room (Wild w)
 wild-fits zero w = tt
 wild-fits (suc room) w = tt
 
+-- a variable fits
+pub variable-fits : (room : ℕ) (w : Spot) → Fits room (Variable w)
+variable-fits zero w = tt
+variable-fits (suc room) w = tt
+
 -- what a wildcard with a default has to be to fit
 pub fits-optional : (room : ℕ) (w : Wildcard) (others : List Wildcard) (default : Tree) → Fits room (Optional w others default) → AreDots (w ∷ others) × HasNoDefault default × Fits room default
 fits-optional zero w others default h = h
@@ -76,6 +81,7 @@ with_default-fits room w (Wild v) h fits = optional-fits room w [] (Wild v) (h, 
 with_default-fits room w (Optional v others default) h fits =
     let r = fits-optional room v others default fits in
     optional-fits room w (v ∷ others) default (h, r.0) r.1 r.2
+with_default-fits room w (Variable v) h fits = optional-fits room w [] (Variable v) (h, tt) tt fits
 
 -- a wildcard with a default is the wildcard, a colon and the default
 pub spell-with_default : (w : Wildcard) (e : Tree) → spell (with_default w e) ≡ spell_with_colon w ++ spell e
@@ -84,3 +90,4 @@ spell-with_default w (Apply f args) = refl
 spell-with_default w (InfixOf place sign operands) = refl
 spell-with_default w (Wild v) = refl
 spell-with_default w (Optional v others default) = refl
+spell-with_default w (Variable v) = refl

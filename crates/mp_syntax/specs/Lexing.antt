@@ -7,7 +7,7 @@ use Rattle.mp_syntax.specs.declared.token.Punct.TheVariants.{Open, Close, OpenSq
 use Rattle.mp_syntax.specs.declared.token.Kind.{Kind}
 use Rattle.mp_syntax.specs.declared.token.Kind.TheVariants as kinds
 use Rattle.mp_syntax.specs.declared.token.Token as code
-use Rattle.mp_syntax.specs.Tokens.{Token, Word, Wildcard, Sign, Arrow, Punctuation, Long, Bad, End, Placed, is_word_byte, is_sign_byte, is_blank, after_byte}
+use Rattle.mp_syntax.specs.Tokens.{Token, Word, Wildcard, Sign, Arrow, Punctuation, Long, Bad, End, Placed, is_word_byte, is_sign_byte, is_blank, after_byte, first_place}
 
 -- ---- views
 
@@ -105,6 +105,10 @@ token_at bytes place =
     let start = after_blanks false bytes place in
     let found = kind_at start.0 in
     (record { token = found.0; place = start.1 }, (drop found.1 start.0, record { line = start.1.line; column = start.1.column + found.1 }))
+
+-- the place of the first token, or of the end where there is none
+abbrev pub first_token_place : List ℕ → Place
+first_token_place bytes = (token_at bytes first_place).0.place
 
 -- the tokens behind a token: nothing stands behind the end
 abbrev pub behind : Token → List Placed → List Placed

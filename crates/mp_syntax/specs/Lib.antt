@@ -7,3 +7,4 @@ pub mod Machine
 pub mod Partial
 pub mod Reading
 pub mod Parsing
+pub mod ConditionParsing

@@ -11,7 +11,15 @@ use Rattle.mp_syntax.specs.declared.fault.FaultKind.TheVariants.{Syntax, TooDeep
 use Rattle.mp_syntax.specs.declared.fault.Fault.{Fault}
 use Rattle.mp_syntax.specs.Tokens as tokens
 use Rattle.mp_syntax.specs.Tokens.{Token, Word, Sign, Punctuation, Long, Bad, End, Placed}
-use Rattle.mp_syntax.specs.Syntax.{Spot, Wildcard, Tree, Symbol, Apply, InfixOf, Wild, Optional, more_trees, trees, Flag, Assoc, Comm, One, Infixed, Statement, OpOf, KindOf, RuleOf, SubjectOf}
+use Rattle.mp_syntax.specs.declared.condition_tree.Measure.{Measure}
+use Rattle.mp_syntax.specs.declared.condition_tree.Measure.TheVariants.{Count, Size}
+use Rattle.mp_syntax.specs.declared.condition_tree.Sense.{Sense}
+use Rattle.mp_syntax.specs.declared.condition_tree.Sense.TheVariants.{Lt, Le, Gt, Ge, Eq, Ne}
+use Rattle.mp_syntax.specs.declared.condition_tree.Relation.{Relation}
+use Rattle.mp_syntax.specs.declared.condition_tree.Relation.TheVariants.{Same, Less, Free}
+use Rattle.mp_syntax.specs.declared.condition_tree.Property.{Property}
+use Rattle.mp_syntax.specs.declared.condition_tree.Property.TheVariants as properties
+use Rattle.mp_syntax.specs.Syntax.{Spot, Wildcard, Tree, Symbol, Apply, InfixOf, Wild, Optional, Variable, more_trees, trees, Amount, Number, Measured, Atom, Compare, Relate, Test, Literal, AtomOf, Bracketed, Literals, literals, Condition, condition, Flag, Assoc, Comm, One, Infixed, Statement, OpOf, KindOf, RuleOf, SubjectOf, measure_word, sense_sign, relation_word, property_word}
 
 -- ---- tests on tokens
 
@@ -55,6 +63,11 @@ abbrev pub is_sign : List ℕ → Token → Bool
 is_sign text (Sign s) = bytes_eq s text
 is_sign text _ = false
 
+-- the token is this word
+abbrev pub is_word : List ℕ → Token → Bool
+is_word text (Word w) = bytes_eq w text
+is_word text _ = false
+
 -- the wildcard that a token at this place is
 abbrev pub wildcard_at : Token → Place → Option Wildcard
 wildcard_at (tokens.Wildcard name marks kind) place = Some (record { name = name; marks = marks; kind = kind; place = place })
@@ -68,6 +81,51 @@ is_dot w = (w.marks == 1) && (length w.kind == 0)
 abbrev pub is_number : List ℕ → Bool
 is_number w = list_all is_ascii_digit w
 
+-- ---- words and signs of conditions
+
+-- the measure of this word
+abbrev pub measure_of : List ℕ → Option Measure
+measure_of w =
+    if bytes_eq w (measure_word Count) then Some Count
+    else (if bytes_eq w (measure_word Size) then Some Size
+    else None)
+
+-- the comparison of this sign
+abbrev pub sense_of : List ℕ → Option Sense
+sense_of s =
+    if bytes_eq s (sense_sign Lt) then Some Lt
+    else (if bytes_eq s (sense_sign Le) then Some Le
+    else (if bytes_eq s (sense_sign Gt) then Some Gt
+    else (if bytes_eq s (sense_sign Ge) then Some Ge
+    else (if bytes_eq s (sense_sign Eq) then Some Eq
+    else (if bytes_eq s (sense_sign Ne) then Some Ne
+    else None)))))
+
+-- the relation of this word
+abbrev pub relation_of : List ℕ → Option Relation
+relation_of w =
+    if bytes_eq w (relation_word Same) then Some Same
+    else (if bytes_eq w (relation_word Less) then Some Less
+    else (if bytes_eq w (relation_word Free) then Some Free
+    else None))
+
+-- the property of this word
+abbrev pub property_of : List ℕ → Option Property
+property_of w =
+    if bytes_eq w (property_word properties.Kind) then Some properties.Kind
+    else (if bytes_eq w (property_word properties.Head) then Some properties.Head
+    else None)
+
+-- the relation whose word the token is
+abbrev pub relation_held : Token → Option Relation
+relation_held (Word w) = relation_of w
+relation_held _ = None
+
+-- the property whose word the token is
+abbrev pub property_held : Token → Option Property
+property_held (Word w) = property_of w
+property_held _ = None
+
 -- ---- states
 
 -- the statements that hold an expression
@@ -75,17 +133,36 @@ pub data Role : Type 0 where
   OfRule : Role
   OfSubject : Role
 
--- the statement of this role
-abbrev pub statement_of : Role → Spot → Tree → Statement
-statement_of OfRule name t = RuleOf name t
-statement_of OfSubject name t = SubjectOf name t
+-- what is read of a condition before a literal: the alternatives before its own, and the literals before it in its own
+pub record Level : Type 0 where
+  pub alternatives : List Literals
+  pub literals : List Literal
 
--- what an expression stands in: an open bracket of an application, with its name and arguments so far; one of an infix expression, before its first sign, or behind it with the sign, the first operand and the others so far; or a wildcard whose default it is, which opens no bracket
+-- where an atom or a square bracket stands: what is read of its condition before it, and whether `not` stands before it
+pub record Site : Type 0 where
+  pub level : Level
+  pub negated : Bool
+
+-- a side of a comparison; of the second one with what stands before it
+pub data Side : Type 0 where
+  OnLeft : Side
+  OnRight : Amount → Sense → Side
+
+-- a word of an atom that a bracket follows: of a measure on a side of a comparison, of a relation, or of a property
+pub data Lead : Type 0 where
+  OfMeasure : Side → Measure → Lead
+  OfRelation : Relation → Lead
+  OfProperty : Property → Lead
+
+-- what an expression or a condition stands in: an open bracket of an application, with its name and arguments so far; one of an infix expression, before its first sign, or behind it with the sign, the first operand and the others so far; a wildcard whose default it is, which opens no bracket; an open bracket of an atom, with the site and the word of the atom, or before the second operand of a relation also with the first one; or an open square bracket, with its site
 pub data Frame : Type 0 where
   Arguments : Spot → List Tree → Frame
   Bracket : Place → Frame
   Operands : Place → Spot → Tree → List Tree → Frame
   Default : Wildcard → Frame
+  Operand : Site → Lead → Frame
+  Second : Site → Relation → Tree → Frame
+  Square : Site → Frame
 
 -- an operation: its name, its number, whether it takes more arguments, and its flags so far
 pub record Declared : Type 0 where
@@ -99,12 +176,18 @@ pub record Heading : Type 0 where
   pub role : Role
   pub name : Spot
 
--- what an expression is in: a statement, or nothing, and then it is the whole text
+-- the heading of an expression
+abbrev pub heading : Role → Spot → Heading
+heading role name = record { role = role; name = name }
+
+-- what an expression or a condition is in: an expression of a statement, an expression that is the whole text, the condition of a rule with its name and pattern, or a condition that is the whole text
 pub data Within : Type 0 where
   InStatement : Heading → Within
   Alone : Within
+  InCondition : Spot → Tree → Within
+  ConditionAlone : Within
 
--- what is read of a statement or of an expression alone; the innermost of what an expression stands in comes first
+-- what is read of a statement, or of an expression or a condition alone; the innermost of what an expression or a condition stands in comes first
 pub data State : Type 0 where
   Top : State
   AfterOp : State
@@ -123,14 +206,28 @@ pub data State : Type 0 where
   AfterOpen : Within → List Frame → Spot → State
   AfterWildcard : Within → List Frame → Wildcard → State
   AfterExpr : Within → List Frame → Tree → State
+  AfterDollar : Within → List Frame → Place → State
+  BeforeLiteral : Within → List Frame → Level → State
+  BeforeBody : Within → List Frame → Site → State
+  BeforeOperand : Within → List Frame → Site → Lead → State
+  BeforeName : Within → List Frame → Site → Property → Tree → State
+  BehindName : Within → List Frame → Site → Property → Tree → Spot → State
+  AfterAmount : Within → List Frame → Site → Amount → State
+  AfterSense : Within → List Frame → Site → Amount → Sense → State
+  AfterLiteral : Within → List Frame → Level → Literal → State
 
--- what a token does: it leads on, ends a statement, is refused, ends the file, or ends an expression alone
+-- an expression or a condition that is the whole text
+pub data Single : Type 0 where
+  SingleExpr : Tree → Single
+  SingleCondition : Condition → Single
+
+-- what a token does: it leads on, ends a statement, is refused, ends the file, or ends an expression or a condition alone
 pub data Step : Type 0 where
   Go : State → Step
   Emit : Statement → Step
   Refuse : FaultKind → Step
   Finish : Step
-  Ends : Tree → Step
+  Ends : Single → Step
 
 -- ---- steps
 
@@ -164,6 +261,15 @@ on_word t next = on_text t next (word_of t.token)
 -- only a sign leads on
 abbrev pub on_sign : Placed → (Spot → Step) → Step
 on_sign t next = on_text t next (sign_of t.token)
+
+-- only this word leads on
+abbrev pub on_fixed : List ℕ → Token → Step → Step
+on_fixed text t next = if is_word text t then next else refuse t
+
+-- what is found leads on, and without it the other step is taken
+abbrev pub on_found : {A : Type 0} → (A → Step) → Step → Option A → Step
+on_found next other (Some a) = next a
+on_found next other None = other
 
 -- which statement begins with this word
 abbrev pub keyword : List ℕ → Step
@@ -211,10 +317,10 @@ step_members name members t =
     if is_punct Semicolon t.token then Emit (KindOf name members)
     else on_word t (λ w. Go (AfterMember name (members ++ w ∷ [])))
 
--- a wildcard
+-- a wildcard, or the `$` of a variable
 abbrev pub step_wildcard : Within → List Frame → Placed → Option Wildcard → Step
 step_wildcard x k t (Some w) = Go (AfterWildcard x k w)
-step_wildcard x k t None = refuse t.token
+step_wildcard x k t None = if is_punct Dollar t.token then Go (AfterDollar x k t.place) else refuse t.token
 
 -- how many brackets stand open
 abbrev pub open_count : List Frame → ℕ
@@ -238,10 +344,38 @@ step_expr limit x k t None =
     if is_punct Open t.token then step_open limit k (BeforeExpr x (Bracket t.place ∷ k))
     else step_wildcard x k t (wildcard_at t.token t.place)
 
--- the token behind an expression in no bracket
+-- before the first literal of a condition
+abbrev pub no_level : Level
+no_level = record { alternatives = []; literals = [] }
+
+-- the token behind the expression of a statement
+abbrev pub step_role : Role → Spot → Tree → Token → Step
+step_role OfRule name e t =
+    if is_punct Semicolon t then Emit (RuleOf name e None)
+    else on_fixed (codes "if") t (Go (BeforeLiteral (InCondition name e) [] no_level))
+step_role OfSubject name e t = on_punct Semicolon t (Emit (SubjectOf name e))
+
+-- the token behind an expression in no bracket; no expression stands in a place of a condition so
 abbrev pub step_end : Within → Tree → Placed → Step
-step_end (InStatement h) e t = on_punct Semicolon t.token (Emit (statement_of h.role h.name e))
-step_end Alone e t = if is_end t.token then Ends e else refuse t.token
+step_end (InStatement h) e t = step_role h.role h.name e t.token
+step_end Alone e t = if is_end t.token then Ends (SingleExpr e) else refuse t.token
+step_end (InCondition name pattern) e t = refuse t.token
+step_end ConditionAlone e t = refuse t.token
+
+-- the atom at its site is read
+abbrev pub with_atom : Within → List Frame → Site → Atom → State
+with_atom x k s a = AfterLiteral x k s.level (AtomOf s.negated a)
+
+-- the amount on this side is read
+abbrev pub with_amount : Within → List Frame → Site → Side → Amount → State
+with_amount x k s OnLeft a = AfterAmount x k s a
+with_amount x k s (OnRight b sense) a = with_atom x k s (Compare b sense a)
+
+-- the token behind the first operand of an atom
+abbrev pub step_operand : Within → List Frame → Site → Lead → Tree → Token → Step
+step_operand x k s (OfMeasure side m) e t = on_punct Close t (Go (with_amount x k s side (Measured m e)))
+step_operand x k s (OfRelation r) e t = on_punct Comma t (Go (BeforeExpr x (Second s r e ∷ k)))
+step_operand x k s (OfProperty p) e t = on_punct Comma t (Go (BeforeName x k s p e))
 
 -- the token behind an expression
 abbrev pub step_behind : Within → List Frame → Tree → Placed → Step
@@ -254,6 +388,59 @@ step_behind x (Operands place sign first others ∷ k) e t =
     if is_sign sign.text t.token then Go (BeforeExpr x (Operands place sign first (others ++ e ∷ []) ∷ k))
     else on_punct Close t.token (Go (AfterExpr x k (InfixOf place sign (more_trees first (trees (others ++ e ∷ []))))))
 step_behind x (Default w ∷ k) e t = step_behind x k (with_default w e) t
+step_behind x (Operand s lead ∷ k) e t = step_operand x k s lead e t.token
+step_behind x (Second s r d ∷ k) e t = on_punct Close t.token (Go (with_atom x k s (Relate r d e)))
+step_behind x (Square s ∷ k) e t = refuse t.token
+
+-- ---- steps over conditions
+
+-- a word that begins an amount on this side
+abbrev pub step_amount : Within → List Frame → Site → Side → Spot → Step
+step_amount x k s side w =
+    if is_number w.text then Go (with_amount x k s side (Number w))
+    else on_found (λ m. Go (BeforeOperand x k s (OfMeasure side m))) (Refuse Syntax) (measure_of w.text)
+
+-- a word that begins an atom
+abbrev pub step_atom : Within → List Frame → Site → Spot → Step
+step_atom x k s w =
+    on_found (λ r. Go (BeforeOperand x k s (OfRelation r)))
+    (on_found (λ p. Go (BeforeOperand x k s (OfProperty p))) (step_amount x k s OnLeft w) (property_of w.text))
+    (relation_of w.text)
+
+-- the site of a literal
+abbrev pub site : Level → Bool → Site
+site v negated = record { level = v; negated = negated }
+
+-- the first token of an atom, or a square bracket
+abbrev pub step_body : ℕ → Within → List Frame → Site → Placed → Step
+step_body limit x k s t =
+    if is_punct OpenSquare t.token then step_open limit k (BeforeLiteral x (Square s ∷ k) no_level)
+    else on_word t (λ w. step_atom x k s w)
+
+-- behind this literal, with another literal of the same alternative
+abbrev pub next_literal : Level → Literal → Level
+next_literal v l = record { alternatives = v.alternatives; literals = v.literals ++ l ∷ [] }
+
+-- the alternatives up to this literal
+abbrev pub all_alternatives : Level → Literal → List Literals
+all_alternatives v l = v.alternatives ++ literals (v.literals ++ l ∷ []) ∷ []
+
+-- behind this literal, with another alternative
+abbrev pub next_alternative : Level → Literal → Level
+next_alternative v l = record { alternatives = all_alternatives v l; literals = [] }
+
+-- the token behind a condition in no square bracket; no condition stands in a place of an expression so
+abbrev pub step_last : Within → Condition → Placed → Step
+step_last (InStatement h) c t = refuse t.token
+step_last Alone c t = refuse t.token
+step_last (InCondition name pattern) c t = on_punct Semicolon t.token (Emit (RuleOf name pattern (Some c)))
+step_last ConditionAlone c t = if is_end t.token then Ends (SingleCondition c) else refuse t.token
+
+-- the token behind a condition; no condition stands directly in a bracket of an expression or an atom
+abbrev pub step_whole : Within → List Frame → Condition → Placed → Step
+step_whole x [] c t = step_last x c t
+step_whole x (Square s ∷ k) c t = on_punct CloseSquare t.token (Go (AfterLiteral x k s.level (Bracketed s.negated c)))
+step_whole x (f ∷ k) c t = refuse t.token
 
 -- what a token does, where at most limit brackets may stand open
 abbrev pub step_in : ℕ → State → Placed → Step
@@ -282,6 +469,22 @@ step_in limit (AfterWildcard x k w) t =
     if is_punct Colon t.token && is_dot w then Go (BeforeExpr x (Default w ∷ k))
     else step_behind x k (Wild w) t
 step_in limit (AfterExpr x k e) t = step_behind x k e t
+step_in limit (AfterDollar x k place) t = on_word t (λ w. Go (AfterExpr x k (Variable (spot w.text place))))
+step_in limit (BeforeLiteral x k v) t =
+    if is_word (codes "not") t.token then Go (BeforeBody x k (site v true))
+    else step_body limit x k (site v false) t
+step_in limit (BeforeBody x k s) t = step_body limit x k s t
+step_in limit (BeforeOperand x k s lead) t =
+    if is_punct Open t.token then step_open limit k (BeforeExpr x (Operand s lead ∷ k)) else refuse t.token
+step_in limit (BeforeName x k s p e) t = on_word t (λ w. Go (BehindName x k s p e w))
+step_in limit (BehindName x k s p e w) t = on_punct Close t.token (Go (with_atom x k s (Test p e w)))
+step_in limit (AfterAmount x k s a) t =
+    on_sign t (λ sign. on_found (λ sense. Go (AfterSense x k s a sense)) (Refuse Syntax) (sense_of sign.text))
+step_in limit (AfterSense x k s a sense) t = on_word t (λ w. step_amount x k s (OnRight a sense) w)
+step_in limit (AfterLiteral x k v l) t =
+    if is_word (codes "and") t.token then Go (BeforeLiteral x k (next_literal v l))
+    else (if is_word (codes "or") t.token then Go (BeforeLiteral x k (next_alternative v l))
+    else step_whole x k (condition (all_alternatives v l)) t)
 
 -- what a token does, where at most 100 brackets may stand open
 abbrev pub step : State → Placed → Step
@@ -289,14 +492,14 @@ step = step_in 100
 
 -- ---- runs
 
--- what is read: statements, or behind none of them an expression alone
+-- what is read: statements, or behind none of them an expression or a condition alone
 pub record Parsed : Type 0 where
   pub statements : List Statement
-  pub expr : Option Tree
+  pub single : Option Single
 
--- these statements, and perhaps an expression
-abbrev pub parsed : List Statement → Option Tree → Parsed
-parsed statements expr = record { statements = statements; expr = expr }
+-- these statements, and perhaps an expression or a condition
+abbrev pub parsed : List Statement → Option Single → Parsed
+parsed statements single = record { statements = statements; single = single }
 
 -- a fault that no text has, for what the machine never meets, as a list of tokens that lacks its end
 abbrev pub no_fault : Fault
@@ -308,7 +511,7 @@ after_step done place others (Go at) = others done at
 after_step done place others (Emit s) = others (done ++ s ∷ []) Top
 after_step done place others (Refuse kind) = Err (record { kind = kind; place = place })
 after_step done place others Finish = Ok (parsed done None)
-after_step done place others (Ends e) = Ok (parsed done (Some e))
+after_step done place others (Ends s) = Ok (parsed done (Some s))
 
 -- the statements that are done and what the tokens spell from this state on, or the first fault
 abbrev pub run_in : ℕ → List Statement → State → List Placed → Result Parsed Fault

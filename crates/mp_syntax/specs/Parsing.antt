@@ -21,7 +21,7 @@ use Rattle.mp_syntax.specs.Tokens.{Token, Placed}
 use Rattle.mp_syntax.specs.Lexing.{placed, behind, lexemes, token_of}
 use Rattle.mp_syntax.specs.Syntax.{Spot, Wildcard, Tree, Apply, Wild, InfixOf, Assoc, Comm, One, OpOf, KindOf, Statement, trees}
 use Rattle.mp_syntax.specs.View.{spot_of, wildcard_of, flag_of, expr_tree, statement_tree}
-use Rattle.mp_syntax.specs.Machine.{State, Top, AfterOp, AfterOpName, AfterLeast, AfterFlags, AfterInfix, AfterKind, BeforeMember, AfterRole, BeforeExpr, AfterWord, AfterWildcard, AfterExpr, Step, Go, Refuse, Role, OfRule, OfSubject, statement_of, Within, Parsed, parsed, Frame, Arguments, Operands, Default, open_count, Declared, declared, with_flag, on_punct, on_text, step, after_step, run}
+use Rattle.mp_syntax.specs.Machine.{State, Top, AfterOp, AfterOpName, AfterLeast, AfterFlags, AfterInfix, AfterKind, BeforeMember, AfterRole, BeforeExpr, AfterWord, AfterWildcard, AfterExpr, AfterDollar, Step, Go, Refuse, Role, OfRule, OfSubject, heading, Within, InStatement, SingleExpr, Parsed, parsed, Frame, Arguments, Operands, Default, open_count, Declared, declared, with_flag, on_punct, on_text, step, after_step, run}
 
 -- the tokens from the one held on
 abbrev pub ahead : Parser → List Placed
@@ -110,6 +110,11 @@ abbrev pub WildcardLeads : ℕ → Wildcard → Result Expr SyntaxError → List
 WildcardLeads room w (Ok e) old new = (done : List Statement) (x : Within) (k : List Frame) → open_count k + room ≡ 100 → run done (AfterWildcard x k w) old ≡ run done (AfterExpr x k (expr_tree e)) new
 WildcardLeads room w (Err e) old new = (done : List Statement) (x : Within) (k : List Frame) → open_count k + room ≡ 100 → Fails e (run done (AfterWildcard x k w) old)
 
+-- a word is passed behind a `$` at this place, or refused
+abbrev pub DollarLeads : Place → Result Expr SyntaxError → List Placed → List Placed → Type 0
+DollarLeads place (Ok e) old new = (done : List Statement) (x : Within) (k : List Frame) → run done (AfterDollar x k place) old ≡ run done (AfterExpr x k (expr_tree e)) new
+DollarLeads place (Err e) old new = (done : List Statement) (x : Within) (k : List Frame) → Fails e (run done (AfterDollar x k place) old)
+
 -- the state behind a wildcard, where there is one
 abbrev pub behind_wildcard : Within → List Frame → Option code_wildcard.Wildcard → State
 behind_wildcard x k (Some w) = AfterWildcard x k (wildcard_of w)
@@ -171,9 +176,9 @@ abbrev pub StatementFrom : State → Result code.Statement SyntaxError → List 
 StatementFrom at (Ok x) old new = (done : List Statement) → run done at old ≡ run (done ++ statement_tree x ∷ []) Top new
 StatementFrom at (Err e) old new = (done : List Statement) → Fails e (run done at old)
 
--- what follows the keyword of a rule or subject is passed, or the first fault is given
+-- what follows the keyword of a rule or subject is passed up to the end of its expression, or the first fault is given
 abbrev pub NamedExprGives : Result (code_spot.Spot × Expr) SyntaxError → List Placed → List Placed → Type 0
-NamedExprGives (Ok x) old new = (done : List Statement) (role : Role) → run done (AfterRole role) old ≡ run (done ++ statement_of role (spot_of x.0) (expr_tree x.1) ∷ []) Top new
+NamedExprGives (Ok x) old new = (done : List Statement) (role : Role) → run done (AfterRole role) old ≡ run done (AfterExpr (InStatement (heading role (spot_of x.0))) [] (expr_tree x.1)) new
 NamedExprGives (Err e) old new = (done : List Statement) (role : Role) → Fails e (run done (AfterRole role) old)
 
 -- the statements are those that are read, or the fault is the one that is read
@@ -183,5 +188,5 @@ FileGives (Err e) read = Fails e read
 
 -- the expression is the one that is read alone, or the fault is the one that is read
 abbrev pub AloneGives : Result Expr SyntaxError → Result Parsed Fault → Type 0
-AloneGives (Ok e) read = read ≡ Ok (parsed [] (Some (expr_tree e)))
+AloneGives (Ok e) read = read ≡ Ok (parsed [] (Some (SingleExpr (expr_tree e))))
 AloneGives (Err e) read = Fails e read

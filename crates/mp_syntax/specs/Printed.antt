@@ -1,8 +1,8 @@
 -- The text that statements are printed as, and statements apart from where they stand.
-use Rattle.std.specs.Prelude.{ℕ, Bool, true, false, List, [], ◌∷◌, ◌++◌, map, codes}
+use Rattle.std.specs.Prelude.{ℕ, Bool, true, false, List, [], ◌∷◌, ◌++◌, Option, Some, None, map, codes}
 use Rattle.std.specs.List.{flat_map}
 use Rattle.mp_syntax.specs.Tokens.{first_place, underscores}
-use Rattle.mp_syntax.specs.Syntax.{Spot, Wildcard, Tree, Symbol, Apply, InfixOf, Wild, Optional, Trees, no_trees, more_trees, Flag, Assoc, Comm, One, Infixed, Statement, OpOf, KindOf, RuleOf, SubjectOf}
+use Rattle.mp_syntax.specs.Syntax.{Spot, Wildcard, Tree, Symbol, Apply, InfixOf, Wild, Optional, Variable, Trees, no_trees, more_trees, Flag, Assoc, Comm, One, Infixed, Amount, Number, Measured, Atom, Compare, Relate, Test, Literal, AtomOf, Bracketed, Literals, no_literals, more_literals, Condition, no_alternatives, more_alternatives, measure_word, sense_sign, relation_word, property_word, Statement, OpOf, KindOf, RuleOf, SubjectOf}
 
 -- ---- text
 
@@ -15,13 +15,14 @@ abbrev pub text_with_colon : Wildcard → List ℕ
 text_with_colon w = wildcard_text w ++ codes ":"
 
 abbrev mutual
-  -- WORD, WORD(EXPR, EXPR), (EXPR SIGN EXPR), a wildcard, or a wildcard, a colon and the default
+  -- WORD, WORD(EXPR, EXPR), (EXPR SIGN EXPR), a wildcard, a wildcard, a colon and the default, or $WORD
   pub tree_text : Tree → List ℕ
   tree_text (Symbol w) = w.text
   tree_text (Apply f args) = f.text ++ (codes "(" ++ first_text (codes ", ") args)
   tree_text (InfixOf opened sign operands) = codes "(" ++ first_text (codes " " ++ (sign.text ++ codes " ")) operands
   tree_text (Wild w) = wildcard_text w
   tree_text (Optional w others default) = flat_map text_with_colon (w ∷ others) ++ tree_text default
+  tree_text (Variable w) = codes "$" ++ w.text
 
   -- expressions with the separator between each two, and the closing bracket
   pub first_text : List ℕ → Trees → List ℕ
@@ -49,20 +50,61 @@ flag_text (Infixed sign) = codes " infix " ++ sign.text
 abbrev pub member_text : Spot → List ℕ
 member_text m = codes " " ++ m.text
 
+-- NUM, count(EXPR) or size(EXPR)
+abbrev pub amount_text : Amount → List ℕ
+amount_text (Number w) = w.text
+amount_text (Measured m t) = measure_word m ++ (codes "(" ++ (tree_text t ++ codes ")"))
+
+-- AMOUNT SIGN AMOUNT, same(EXPR, EXPR) and the like, or kind(EXPR, WORD) and the like
+abbrev pub atom_text : Atom → List ℕ
+atom_text (Compare a sense b) = amount_text a ++ (codes " " ++ (sense_sign sense ++ (codes " " ++ amount_text b)))
+atom_text (Relate r t u) = relation_word r ++ (codes "(" ++ (tree_text t ++ (codes ", " ++ (tree_text u ++ codes ")"))))
+atom_text (Test p t w) = property_word p ++ (codes "(" ++ (tree_text t ++ (codes ", " ++ (w.text ++ codes ")"))))
+
+-- [not ]
+abbrev pub not_text : Bool → List ℕ
+not_text true = codes "not "
+not_text false = []
+
+abbrev mutual
+  -- [not ]ATOM or [not ][CONDITION] in square brackets
+  pub literal_text : Literal → List ℕ
+  literal_text (AtomOf negated a) = not_text negated ++ atom_text a
+  literal_text (Bracketed negated c) = not_text negated ++ (codes "[" ++ (alternatives_text [] c ++ codes "]"))
+
+  -- literals, the first behind this text and each other one behind ` and `
+  pub literals_text : List ℕ → Literals → List ℕ
+  literals_text before no_literals = []
+  literals_text before (more_literals l ls) = before ++ (literal_text l ++ literals_text (codes " and ") ls)
+
+  -- alternatives, the first behind this text and each other one behind ` or `
+  pub alternatives_text : List ℕ → Condition → List ℕ
+  alternatives_text before no_alternatives = []
+  alternatives_text before (more_alternatives a c) = before ++ (literals_text [] a ++ alternatives_text (codes " or ") c)
+
+-- a condition
+abbrev pub condition_text : Condition → List ℕ
+condition_text c = alternatives_text [] c
+
+-- [ if CONDITION]
+abbrev pub if_text : Option Condition → List ℕ
+if_text None = []
+if_text (Some c) = codes " if " ++ condition_text c
+
 -- what ends a statement and its line
 abbrev pub line_end : List ℕ
 line_end = codes ";\n"
 
--- NAME: EXPR;
-abbrev pub named_text : Spot → Tree → List ℕ
-named_text name t = name.text ++ (codes ": " ++ (tree_text t ++ line_end))
+-- NAME: EXPR, and what follows
+abbrev pub named_text : Spot → Tree → List ℕ → List ℕ
+named_text name t behind = name.text ++ (codes ": " ++ (tree_text t ++ behind))
 
 -- a statement on a line of its own
 abbrev pub statement_text : Statement → List ℕ
 statement_text (OpOf name least more flags) = codes "op " ++ (name.text ++ (codes " " ++ (least.text ++ (plus_text more ++ (flat_map flag_text flags ++ line_end)))))
 statement_text (KindOf name members) = codes "kind " ++ (name.text ++ (codes ":" ++ (flat_map member_text members ++ line_end)))
-statement_text (RuleOf name t) = codes "rule " ++ named_text name t
-statement_text (SubjectOf name t) = codes "subject " ++ named_text name t
+statement_text (RuleOf name t o) = codes "rule " ++ named_text name t (if_text o ++ line_end)
+statement_text (SubjectOf name t) = codes "subject " ++ named_text name t line_end
 
 -- the statements, one after another
 abbrev pub statements_text : List Statement → List ℕ
@@ -86,10 +128,41 @@ abbrev mutual
   unplaced_tree (InfixOf opened sign operands) = InfixOf first_place (unplaced_spot sign) (unplaced_trees operands)
   unplaced_tree (Wild w) = Wild (unplaced_wildcard w)
   unplaced_tree (Optional w others default) = Optional (unplaced_wildcard w) (map unplaced_wildcard others) (unplaced_tree default)
+  unplaced_tree (Variable w) = Variable (unplaced_spot w)
 
   pub unplaced_trees : Trees → Trees
   unplaced_trees no_trees = no_trees
   unplaced_trees (more_trees t ts) = more_trees (unplaced_tree t) (unplaced_trees ts)
+
+-- the same amount with each place the first
+abbrev pub unplaced_amount : Amount → Amount
+unplaced_amount (Number w) = Number (unplaced_spot w)
+unplaced_amount (Measured m t) = Measured m (unplaced_tree t)
+
+-- the same atom with each place the first
+abbrev pub unplaced_atom : Atom → Atom
+unplaced_atom (Compare a sense b) = Compare (unplaced_amount a) sense (unplaced_amount b)
+unplaced_atom (Relate r t u) = Relate r (unplaced_tree t) (unplaced_tree u)
+unplaced_atom (Test p t w) = Test p (unplaced_tree t) (unplaced_spot w)
+
+-- the same condition with each place the first
+abbrev mutual
+  pub unplaced_literal : Literal → Literal
+  unplaced_literal (AtomOf negated a) = AtomOf negated (unplaced_atom a)
+  unplaced_literal (Bracketed negated c) = Bracketed negated (unplaced_condition c)
+
+  pub unplaced_literals : Literals → Literals
+  unplaced_literals no_literals = no_literals
+  unplaced_literals (more_literals l ls) = more_literals (unplaced_literal l) (unplaced_literals ls)
+
+  pub unplaced_condition : Condition → Condition
+  unplaced_condition no_alternatives = no_alternatives
+  unplaced_condition (more_alternatives a c) = more_alternatives (unplaced_literals a) (unplaced_condition c)
+
+-- the same condition of a rule with each place the first, where there is one
+abbrev pub unplaced_if : Option Condition → Option Condition
+unplaced_if None = None
+unplaced_if (Some c) = Some (unplaced_condition c)
 
 -- the same flag with its place the first
 abbrev pub unplaced_flag : Flag → Flag
@@ -102,5 +175,5 @@ unplaced_flag (Infixed sign) = Infixed (unplaced_spot sign)
 abbrev pub unplaced : Statement → Statement
 unplaced (OpOf name least more flags) = OpOf (unplaced_spot name) (unplaced_spot least) more (map unplaced_flag flags)
 unplaced (KindOf name members) = KindOf (unplaced_spot name) (map unplaced_spot members)
-unplaced (RuleOf name t) = RuleOf (unplaced_spot name) (unplaced_tree t)
+unplaced (RuleOf name t o) = RuleOf (unplaced_spot name) (unplaced_tree t) (unplaced_if o)
 unplaced (SubjectOf name t) = SubjectOf (unplaced_spot name) (unplaced_tree t)

@@ -6,11 +6,12 @@ use Rattle.mp_syntax.specs.declared.fault.SyntaxError.{SyntaxError}
 use Rattle.mp_syntax.specs.declared.fault.SyntaxError.TheVariants as errors
 use Rattle.mp_syntax.specs.declared.tree.Expr.{Expr}
 use Rattle.mp_syntax.specs.declared.tree.Statement as code
+use Rattle.mp_syntax.specs.declared.condition_tree.Condition as code_condition
 use Rattle.mp_syntax.specs.Tokens.{first_place}
 use Rattle.mp_syntax.specs.Lexing.{lexemes}
-use Rattle.mp_syntax.specs.Syntax.{Tree, Statement}
-use Rattle.mp_syntax.specs.View.{expr_tree, statement_tree}
-use Rattle.mp_syntax.specs.Machine.{Top, BeforeExpr, Alone, Parsed, no_fault, run}
+use Rattle.mp_syntax.specs.Syntax.{Tree, Condition, Statement}
+use Rattle.mp_syntax.specs.View.{expr_tree, condition_tree, statement_tree}
+use Rattle.mp_syntax.specs.Machine.{Top, BeforeExpr, BeforeLiteral, Alone, ConditionAlone, no_level, Single, SingleExpr, SingleCondition, Parsed, no_fault, run}
 
 -- what the machine reads of a file
 abbrev pub parsed_file : List ℕ → Result Parsed Fault
@@ -20,25 +21,39 @@ parsed_file bytes = run [] Top (lexemes bytes first_place)
 abbrev pub parsed_expr : List ℕ → Result Parsed Fault
 parsed_expr bytes = run [] (BeforeExpr Alone []) (lexemes bytes first_place)
 
--- statements without an expression
-abbrev pub statements_alone : List Statement → Option Tree → Result (List Statement) Fault
+-- what the machine reads of a condition alone
+abbrev pub parsed_condition : List ℕ → Result Parsed Fault
+parsed_condition bytes = run [] (BeforeLiteral ConditionAlone [] no_level) (lexemes bytes first_place)
+
+-- statements without an expression or a condition
+abbrev pub statements_alone : List Statement → Option Single → Result (List Statement) Fault
 statements_alone ss None = Ok ss
-statements_alone ss (Some t) = Err no_fault
+statements_alone ss (Some s) = Err no_fault
 
 -- an expression without statements
-abbrev pub expr_alone : List Statement → Option Tree → Result Tree Fault
-expr_alone [] (Some t) = Ok t
+abbrev pub expr_alone : List Statement → Option Single → Result Tree Fault
+expr_alone [] (Some (SingleExpr t)) = Ok t
 expr_alone ss o = Err no_fault
+
+-- a condition without statements
+abbrev pub condition_alone : List Statement → Option Single → Result Condition Fault
+condition_alone [] (Some (SingleCondition c)) = Ok c
+condition_alone ss o = Err no_fault
 
 -- the statements that are read, or the fault
 abbrev pub statements_read : Result Parsed Fault → Result (List Statement) Fault
-statements_read (Ok p) = statements_alone p.statements p.expr
+statements_read (Ok p) = statements_alone p.statements p.single
 statements_read (Err f) = Err f
 
 -- the expression that is read, or the fault
 abbrev pub expr_read : Result Parsed Fault → Result Tree Fault
-expr_read (Ok p) = expr_alone p.statements p.expr
+expr_read (Ok p) = expr_alone p.statements p.single
 expr_read (Err f) = Err f
+
+-- the condition that is read, or the fault
+abbrev pub condition_read : Result Parsed Fault → Result Condition Fault
+condition_read (Ok p) = condition_alone p.statements p.single
+condition_read (Err f) = Err f
 
 -- the statements of a file, or its first fault
 abbrev pub reading : List ℕ → Result (List Statement) Fault
@@ -47,6 +62,10 @@ reading bytes = statements_read (parsed_file bytes)
 -- the expression of a text, or its first fault
 abbrev pub expr_reading : List ℕ → Result Tree Fault
 expr_reading bytes = expr_read (parsed_expr bytes)
+
+-- the condition of a text, or its first fault
+abbrev pub condition_reading : List ℕ → Result Condition Fault
+condition_reading bytes = condition_read (parsed_condition bytes)
 
 -- the value of an Ok
 abbrev pub read_value : {A : Type 0} → Result A Fault → Option A
@@ -60,6 +79,10 @@ syntax_of bytes = read_value (reading bytes)
 -- the expression of a text, where it is one
 abbrev pub expr_of : List ℕ → Option Tree
 expr_of bytes = read_value (expr_reading bytes)
+
+-- the condition of a text, where it is one
+abbrev pub condition_of_bytes : List ℕ → Option Condition
+condition_of_bytes bytes = read_value (condition_reading bytes)
 
 -- the fact of the fault, where the error is one
 abbrev pub IfFault : SyntaxError → (Fault → Type 0) → Type 0
@@ -77,3 +100,9 @@ abbrev pub IsExprOrMemory : Result Expr SyntaxError → (Tree → Type 0) → Ty
 IsExprOrMemory (Ok e) P = P (expr_tree e)
 IsExprOrMemory (Err errors.Memory) P = Unit {0}
 IsExprOrMemory (Err (errors.Fault f)) P = ⊥
+
+-- the fact of the condition, where it is answered, and else memory ran out
+abbrev pub IsConditionOrMemory : Result code_condition.Condition SyntaxError → (Condition → Type 0) → Type 0
+IsConditionOrMemory (Ok c) P = P (condition_tree c)
+IsConditionOrMemory (Err errors.Memory) P = Unit {0}
+IsConditionOrMemory (Err (errors.Fault f)) P = ⊥

@@ -1,9 +1,17 @@
 -- The syntax trees of a rule file, and the grammar: how statements are spelled by tokens.
-use Rattle.std.specs.Prelude.{◌≡◌, ◌≢◌, ◌<◌, ◌≤◌, Bool, true, false, ℕ, zero, suc, List, [], ◌∷◌, ◌++◌, map, codes}
+use Rattle.std.specs.Prelude.{◌≡◌, ◌≢◌, ◌<◌, ◌≤◌, Bool, true, false, ℕ, zero, suc, List, [], ◌∷◌, ◌++◌, Option, Some, None, map, codes}
 use Rattle.std.specs.Char.{is_ascii_digit}
 use Rattle.std.specs.List.{flat_map, list_all}
 use Rattle.mp_syntax.specs.declared.place.Place.{Place}
-use Rattle.mp_syntax.specs.declared.token.Punct.TheVariants.{Open, Close, Comma, Semicolon, Colon}
+use Rattle.mp_syntax.specs.declared.token.Punct.TheVariants.{Open, Close, OpenSquare, CloseSquare, Comma, Semicolon, Colon, Dollar}
+use Rattle.mp_syntax.specs.declared.condition_tree.Measure.{Measure}
+use Rattle.mp_syntax.specs.declared.condition_tree.Measure.TheVariants.{Count, Size}
+use Rattle.mp_syntax.specs.declared.condition_tree.Sense.{Sense}
+use Rattle.mp_syntax.specs.declared.condition_tree.Sense.TheVariants.{Lt, Le, Gt, Ge, Eq, Ne}
+use Rattle.mp_syntax.specs.declared.condition_tree.Relation.{Relation}
+use Rattle.mp_syntax.specs.declared.condition_tree.Relation.TheVariants.{Same, Less, Free}
+use Rattle.mp_syntax.specs.declared.condition_tree.Property.{Property}
+use Rattle.mp_syntax.specs.declared.condition_tree.Property.TheVariants as properties
 use Rattle.mp_syntax.specs.Tokens as tokens
 use Rattle.mp_syntax.specs.Tokens.{Token, Word, Sign, Punctuation, Placed, Tokens, first_place, IsWord, IsShort, IsSign}
 
@@ -21,7 +29,7 @@ pub record Wildcard : Type 0 where
   pub kind : List ℕ
   pub place : Place
 
--- expressions and lists of them; an infix one has the place of its bracket, its sign at the first place, and all operands; an optional one has its wildcard, further wildcards where several stand in a chain, and the default of the last
+-- expressions and lists of them; an infix one has the place of its bracket, its sign at the first place, and all operands; an optional one has its wildcard, further wildcards where several stand in a chain, and the default of the last; a variable has the place of its `$`
 mutual
   pub data Tree : Type 0 where
     Symbol : Spot → Tree
@@ -29,6 +37,7 @@ mutual
     InfixOf : Place → Spot → Trees → Tree
     Wild : Wildcard → Tree
     Optional : Wildcard → List Wildcard → Tree → Tree
+    Variable : Spot → Tree
 
   pub data Trees : Type 0 where
     no_trees : Trees
@@ -51,11 +60,56 @@ pub data Flag : Type 0 where
   One : Flag
   Infixed : Spot → Flag
 
--- op NAME LEAST[+] FLAG ..; kind NAME: MEMBER ..; rule NAME: PATTERN; subject NAME: TERM;
+-- a side of a comparison: a number, or what is counted of an operand
+pub data Amount : Type 0 where
+  Number : Spot → Amount
+  Measured : Measure → Tree → Amount
+
+-- two amounts compared, what is asked of two operands, or of an operand beside a name
+pub data Atom : Type 0 where
+  Compare : Amount → Sense → Amount → Atom
+  Relate : Relation → Tree → Tree → Atom
+  Test : Property → Tree → Spot → Atom
+
+-- a literal is an atom or a condition in square brackets, each perhaps negated; a condition is a list of alternatives, each a list of literals
+mutual
+  pub data Literal : Type 0 where
+    AtomOf : Bool → Atom → Literal
+    Bracketed : Bool → Condition → Literal
+
+  pub data Literals : Type 0 where
+    no_literals : Literals
+    more_literals : Literal → Literals → Literals
+
+  pub data Condition : Type 0 where
+    no_alternatives : Condition
+    more_alternatives : Literals → Condition → Condition
+
+-- the literals of a list
+abbrev pub literals : List Literal → Literals
+literals [] = no_literals
+literals (l ∷ ls) = more_literals l (literals ls)
+
+-- the list of literals
+abbrev pub literal_list : Literals → List Literal
+literal_list no_literals = []
+literal_list (more_literals l ls) = l ∷ literal_list ls
+
+-- the condition of a list of alternatives
+abbrev pub condition : List Literals → Condition
+condition [] = no_alternatives
+condition (a ∷ others) = more_alternatives a (condition others)
+
+-- the list of alternatives
+abbrev pub alternative_list : Condition → List Literals
+alternative_list no_alternatives = []
+alternative_list (more_alternatives a c) = a ∷ alternative_list c
+
+-- op NAME LEAST[+] FLAG ..; kind NAME: MEMBER ..; rule NAME: PATTERN[ if CONDITION]; subject NAME: TERM;
 pub data Statement : Type 0 where
   OpOf : Spot → Spot → Bool → List Flag → Statement
   KindOf : Spot → List Spot → Statement
-  RuleOf : Spot → Tree → Statement
+  RuleOf : Spot → Tree → Option Condition → Statement
   SubjectOf : Spot → Tree → Statement
 
 -- ---- spelling
@@ -117,7 +171,11 @@ colon = Said (Punctuation Colon)
 abbrev pub spell_with_colon : Wildcard → List Expected
 spell_with_colon w = spelled_wildcard w ∷ colon ∷ []
 
--- expr = WORD | WORD "(" [expr ("," expr)*] ")" | "(" expr s expr (s expr)* ")" with one SIGN s | wildcard | dot-wildcard ":" expr
+-- an opening bracket
+abbrev pub opening : Expected
+opening = Said (Punctuation Open)
+
+-- expr = WORD | WORD "(" [expr ("," expr)*] ")" | "(" expr s expr (s expr)* ")" with one SIGN s | wildcard | dot-wildcard ":" expr | "$" WORD
 abbrev mutual
   pub spell : Tree → List Expected
   spell (Symbol w) = spelled_word w ∷ []
@@ -125,6 +183,7 @@ abbrev mutual
   spell (InfixOf opened sign operands) = Stands (Punctuation Open) opened ∷ spell_operands sign operands
   spell (Wild w) = spelled_wildcard w ∷ []
   spell (Optional w others default) = flat_map spell_with_colon (w ∷ others) ++ spell default
+  spell (Variable w) = Stands (Punctuation Dollar) w.place ∷ fixed_word w.text ∷ []
 
   -- expressions with this token between them, and the closing bracket
   pub spell_first : Expected → Trees → List Expected
@@ -141,9 +200,75 @@ abbrev mutual
   spell_operands sign no_trees = closing ∷ []
   spell_operands sign (more_trees t ts) = spell t ++ spelled_sign sign ∷ spell_first (another sign) ts
 
--- WORD ":" expr ";"
+-- "count" | "size"
+abbrev pub measure_word : Measure → List ℕ
+measure_word Count = codes "count"
+measure_word Size = codes "size"
+
+-- < <= > >= == !=
+abbrev pub sense_sign : Sense → List ℕ
+sense_sign Lt = codes "<"
+sense_sign Le = codes "<="
+sense_sign Gt = codes ">"
+sense_sign Ge = codes ">="
+sense_sign Eq = codes "=="
+sense_sign Ne = codes "!="
+
+-- "same" | "less" | "free"
+abbrev pub relation_word : Relation → List ℕ
+relation_word Same = codes "same"
+relation_word Less = codes "less"
+relation_word Free = codes "free"
+
+-- "kind" | "head"
+abbrev pub property_word : Property → List ℕ
+property_word properties.Kind = codes "kind"
+property_word properties.Head = codes "head"
+
+-- amount = NUM | ("count" | "size") "(" expr ")"
+abbrev pub spell_amount : Amount → List Expected
+spell_amount (Number w) = spelled_word w ∷ []
+spell_amount (Measured m t) = fixed_word (measure_word m) ∷ opening ∷ (spell t ++ closing ∷ [])
+
+-- atom = amount cmp amount | ("same" | "less" | "free") "(" expr "," expr ")" | ("kind" | "head") "(" expr "," WORD ")"
+abbrev pub spell_atom : Atom → List Expected
+spell_atom (Compare a sense b) = spell_amount a ++ Said (Sign (sense_sign sense)) ∷ spell_amount b
+spell_atom (Relate r t u) = fixed_word (relation_word r) ∷ opening ∷ (spell t ++ comma ∷ (spell u ++ closing ∷ []))
+spell_atom (Test p t w) = fixed_word (property_word p) ∷ opening ∷ (spell t ++ comma ∷ spelled_word w ∷ closing ∷ [])
+
+-- ["not"]
+abbrev pub spell_not : Bool → List Expected
+spell_not true = fixed_word (codes "not") ∷ []
+spell_not false = []
+
+-- cond = conj ("or" conj)*, conj = lit ("and" lit)*, lit = ["not"] (atom | "[" cond "]")
+abbrev mutual
+  pub spell_literal : Literal → List Expected
+  spell_literal (AtomOf negated a) = spell_not negated ++ spell_atom a
+  spell_literal (Bracketed negated c) = spell_not negated ++ Said (Punctuation OpenSquare) ∷ (spell_alternatives [] c ++ Said (Punctuation CloseSquare) ∷ [])
+
+  -- literals, the first behind these tokens and each other one behind `and`
+  pub spell_literals : List Expected → Literals → List Expected
+  spell_literals before no_literals = []
+  spell_literals before (more_literals l ls) = before ++ (spell_literal l ++ spell_literals (fixed_word (codes "and") ∷ []) ls)
+
+  -- alternatives, the first behind these tokens and each other one behind `or`
+  pub spell_alternatives : List Expected → Condition → List Expected
+  spell_alternatives before no_alternatives = []
+  spell_alternatives before (more_alternatives a c) = before ++ (spell_literals [] a ++ spell_alternatives (fixed_word (codes "or") ∷ []) c)
+
+-- a condition
+abbrev pub spell_condition : Condition → List Expected
+spell_condition c = spell_alternatives [] c
+
+-- ["if" cond]
+abbrev pub spell_if : Option Condition → List Expected
+spell_if None = []
+spell_if (Some c) = fixed_word (codes "if") ∷ spell_condition c
+
+-- WORD ":" expr
 abbrev pub spell_named : Spot → Tree → List Expected
-spell_named name t = spelled_word name ∷ colon ∷ spell t ++ semicolon ∷ []
+spell_named name t = spelled_word name ∷ colon ∷ spell t
 
 -- ["+"]
 abbrev pub spell_plus : Bool → List Expected
@@ -157,12 +282,12 @@ spell_flag Comm = fixed_word (codes "comm") ∷ []
 spell_flag One = fixed_word (codes "one") ∷ []
 spell_flag (Infixed sign) = fixed_word (codes "infix") ∷ spelled_sign sign ∷ []
 
--- statement = "op" WORD NUM ["+"] flag* ";" | "kind" WORD ":" WORD WORD* ";" | "rule" WORD ":" expr ";" | "subject" WORD ":" expr ";"
+-- statement = "op" WORD NUM ["+"] flag* ";" | "kind" WORD ":" WORD WORD* ";" | "rule" WORD ":" expr ["if" cond] ";" | "subject" WORD ":" expr ";"
 abbrev pub spell_statement : Statement → List Expected
 spell_statement (OpOf name least more flags) = fixed_word (codes "op") ∷ spelled_word name ∷ spelled_word least ∷ (spell_plus more ++ (flat_map spell_flag flags ++ semicolon ∷ []))
 spell_statement (KindOf name members) = fixed_word (codes "kind") ∷ spelled_word name ∷ colon ∷ (map spelled_word members ++ semicolon ∷ [])
-spell_statement (RuleOf name t) = fixed_word (codes "rule") ∷ spell_named name t
-spell_statement (SubjectOf name t) = fixed_word (codes "subject") ∷ spell_named name t
+spell_statement (RuleOf name t o) = fixed_word (codes "rule") ∷ spell_named name t ++ (spell_if o ++ semicolon ∷ [])
+spell_statement (SubjectOf name t) = fixed_word (codes "subject") ∷ spell_named name t ++ semicolon ∷ []
 
 -- file = statement*
 abbrev pub spell_file : List Statement → List Expected
@@ -201,16 +326,65 @@ abbrev mutual
   Fits (suc room) (InfixOf opened sign operands) = AreSeveral operands × AreFit room operands
   Fits room (Wild w) = Unit {0}
   Fits room (Optional w others default) = AreDots (w ∷ others) × HasNoDefault default × Fits room default
+  Fits room (Variable w) = Unit {0}
 
   pub AreFit : ℕ → Trees → Type 0
   AreFit room no_trees = Unit {0}
   AreFit room (more_trees t ts) = Fits room t × AreFit room ts
 
--- the number of an operation is of digits alone, a kind has a member, and an expression has at most 100 brackets open at once
+-- a number is of digits alone, and at most room brackets stand open at once, that of the operand among them
+abbrev pub FitsAmount : ℕ → Amount → Type 0
+FitsAmount room (Number w) = list_all is_ascii_digit w.text ≡ true
+FitsAmount zero (Measured m t) = ⊥
+FitsAmount (suc room) (Measured m t) = Fits room t
+
+-- the same of an atom
+abbrev pub FitsAtom : ℕ → Atom → Type 0
+FitsAtom room (Compare a sense b) = FitsAmount room a × FitsAmount room b
+FitsAtom zero (Relate r t u) = ⊥
+FitsAtom (suc room) (Relate r t u) = Fits room t × Fits room u
+FitsAtom zero (Test p t w) = ⊥
+FitsAtom (suc room) (Test p t w) = Fits room t
+
+-- there is a literal
+abbrev pub HasLiteral : Literals → Type 0
+HasLiteral no_literals = ⊥
+HasLiteral (more_literals l ls) = Unit {0}
+
+-- there is an alternative
+abbrev pub HasAlternative : Condition → Type 0
+HasAlternative no_alternatives = ⊥
+HasAlternative (more_alternatives a c) = Unit {0}
+
+-- each condition has an alternative and each alternative a literal, numbers are of digits alone, and at most room brackets stand open at once
+abbrev mutual
+  pub FitsLiteral : ℕ → Literal → Type 0
+  FitsLiteral room (AtomOf negated a) = FitsAtom room a
+  FitsLiteral zero (Bracketed negated c) = ⊥
+  FitsLiteral (suc room) (Bracketed negated c) = HasAlternative c × AlternativesFit room c
+
+  pub LiteralsFit : ℕ → Literals → Type 0
+  LiteralsFit room no_literals = Unit {0}
+  LiteralsFit room (more_literals l ls) = FitsLiteral room l × LiteralsFit room ls
+
+  pub AlternativesFit : ℕ → Condition → Type 0
+  AlternativesFit room no_alternatives = Unit {0}
+  AlternativesFit room (more_alternatives a c) = HasLiteral a × LiteralsFit room a × AlternativesFit room c
+
+-- the same of a condition
+abbrev pub FitsCondition : ℕ → Condition → Type 0
+FitsCondition room c = HasAlternative c × AlternativesFit room c
+
+-- the condition of a rule fits, where there is one
+abbrev pub FitsIf : Option Condition → Type 0
+FitsIf None = Unit {0}
+FitsIf (Some c) = FitsCondition 100 c
+
+-- the number of an operation is of digits alone, a kind has a member, and expressions and conditions have at most 100 brackets open at once
 abbrev pub FitsStatement : Statement → Type 0
 FitsStatement (OpOf name least more flags) = list_all is_ascii_digit least.text ≡ true
 FitsStatement (KindOf name members) = members ≢ []
-FitsStatement (RuleOf name t) = Fits 100 t
+FitsStatement (RuleOf name t o) = Fits 100 t × FitsIf o
 FitsStatement (SubjectOf name t) = Fits 100 t
 
 -- each statement fits
@@ -251,10 +425,41 @@ abbrev mutual
   HasNames (InfixOf opened sign operands) = IsInfixSign sign.text × HaveNames operands
   HasNames (Wild w) = HasParts w
   HasNames (Optional w others default) = HasParts w × HaveParts others × HasNames default
+  HasNames (Variable w) = IsName w.text
 
   pub HaveNames : Trees → Type 0
   HaveNames no_trees = Unit {0}
   HaveNames (more_trees t ts) = HasNames t × HaveNames ts
+
+-- a number and each word of the operand is one of at most 64 bytes, and each sign is one
+abbrev pub AmountHasNames : Amount → Type 0
+AmountHasNames (Number w) = IsName w.text
+AmountHasNames (Measured m t) = HasNames t
+
+-- the same of an atom
+abbrev pub AtomHasNames : Atom → Type 0
+AtomHasNames (Compare a sense b) = AmountHasNames a × AmountHasNames b
+AtomHasNames (Relate r t u) = HasNames t × HasNames u
+AtomHasNames (Test p t w) = HasNames t × IsName w.text
+
+-- the same of a literal, of literals, and of a condition
+abbrev mutual
+  pub LiteralHasNames : Literal → Type 0
+  LiteralHasNames (AtomOf negated a) = AtomHasNames a
+  LiteralHasNames (Bracketed negated c) = ConditionHasNames c
+
+  pub LiteralsHaveNames : Literals → Type 0
+  LiteralsHaveNames no_literals = Unit {0}
+  LiteralsHaveNames (more_literals l ls) = LiteralHasNames l × LiteralsHaveNames ls
+
+  pub ConditionHasNames : Condition → Type 0
+  ConditionHasNames no_alternatives = Unit {0}
+  ConditionHasNames (more_alternatives a c) = LiteralsHaveNames a × ConditionHasNames c
+
+-- the same of the condition of a rule, where there is one
+abbrev pub IfHasNames : Option Condition → Type 0
+IfHasNames None = Unit {0}
+IfHasNames (Some c) = ConditionHasNames c
 
 -- the sign of the flag is one, where it has a sign
 abbrev pub HasSign : Flag → Type 0
@@ -277,7 +482,7 @@ AreNames (w ∷ ws) = IsName w.text × AreNames ws
 abbrev pub StatementHasNames : Statement → Type 0
 StatementHasNames (OpOf name least more flags) = IsName name.text × IsName least.text × HaveSigns flags
 StatementHasNames (KindOf name members) = IsName name.text × AreNames members
-StatementHasNames (RuleOf name t) = IsName name.text × HasNames t
+StatementHasNames (RuleOf name t o) = IsName name.text × HasNames t × IfHasNames o
 StatementHasNames (SubjectOf name t) = IsName name.text × HasNames t
 
 -- each word of the statements is one of at most 64 bytes, and each sign is one
@@ -293,6 +498,13 @@ pub record IsExprOf (bytes : List ℕ) (t : Tree) : Type 0 where
   pub lie : Tokens bytes first_place tokens
   pub spelled : AllMatch tokens (spell t)
   pub fits : Fits 100 t
+
+-- the bytes are this condition: they have tokens, and these spell the condition, which fits
+pub record IsConditionOf (bytes : List ℕ) (c : Condition) : Type 0 where
+  pub tokens : List Placed
+  pub lie : Tokens bytes first_place tokens
+  pub spelled : AllMatch tokens (spell_condition c)
+  pub fits : FitsCondition 100 c
 
 -- the bytes are these statements: they have tokens, and these spell the statements, which fit
 pub record IsSyntaxOf (bytes : List ℕ) (file : List Statement) : Type 0 where

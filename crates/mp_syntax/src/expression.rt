@@ -6,11 +6,11 @@ ghost use Rattle.mp_syntax.specs.Machine.{is_punct, wildcard_at};
 ghost use Rattle.mp_syntax.specs.View.{spot_of, wildcard_of, expr_tree};
 ghost use Rattle.mp_syntax.specs.Syntax.{Tree, IsExprOf, HasNames, HasNoDefault};
 ghost use Rattle.mp_syntax.specs.Reading.{parsed_expr, expr_reading, expr_of, IfFault, IsExprOrMemory};
-ghost use Rattle.mp_syntax.specs.Parsing.{ahead, AloneGives, ExprGives, WordLeads, WildcardLeads, ChainGives, ArgumentsGive, OperandsGive, items_of};
+ghost use Rattle.mp_syntax.specs.Parsing.{ahead, AloneGives, ExprGives, WordLeads, DollarLeads, WildcardLeads, ChainGives, ArgumentsGive, OperandsGive, items_of};
 
 use crate::fault::{FaultKind, SyntaxError};
 use crate::parser::Parser;
-use crate::place::Spot;
+use crate::place::{Place, Spot};
 use crate::statement::MAX_OPEN;
 use crate::token::{Kind, Punct};
 use crate::tree::{Expr, Wildcard};
@@ -141,6 +141,10 @@ impl<'a> Parser<'a> {
                 self.advance();
                 self.behind_word(alloc, Spot { text, place }, room)
             }
+            Kind::Punct(Punct::Dollar) => {
+                self.advance();
+                self.behind_dollar(place)
+            }
             _ => Err(self.refused()),
         }
     }
@@ -170,6 +174,17 @@ impl<'a> Parser<'a> {
         }
         let args = self.arguments(alloc, room - 1)?;
         Ok(Expr::Apply(name, args))
+    }
+
+    /// Reads the word behind a `$` at this place.
+    fn behind_dollar(&mut self, place: Place) -> Result<Expr<'a>, SyntaxError>
+        ensures read { DollarLeads place result (ahead self.old) (ahead self.new) }
+        ensures plain { IfOk result (λ e. HasNoDefault (expr_tree e)) }
+        ensures shorter { OnOk result (length (ahead self.new) ≤ length (ahead self.old)) }
+    {
+        let name = self.word()?;
+        let text = name.text;
+        Ok(Expr::Variable(Spot { text, place }))
     }
 
     /// Reads the arguments of an application, at least one, and the bracket that closes it.

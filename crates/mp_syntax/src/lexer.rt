@@ -3,10 +3,21 @@
 ghost use Rattle.std.specs.Prelude.{◌≡◌, ◌≤◌, ◌<◌, ◌+◌, ◌-◌, ◌^◌, length, false};
 ghost use Rattle.std.specs.List.{prefix_len};
 ghost use Rattle.mp_syntax.specs.Tokens.{is_word_byte, is_sign_byte, is_blank, after_byte, first_place};
-ghost use Rattle.mp_syntax.specs.Lexing.{is_underscore, least, run_at, settled, word_or_wildcard_at, punct_at, after_blanks, token_of, token_at, placed};
+ghost use Rattle.mp_syntax.specs.Lexing.{first_token_place, is_underscore, least, run_at, settled, word_or_wildcard_at, punct_at, after_blanks, token_of, token_at, placed};
 
 use crate::place::Place;
 use crate::token::{Kind, Punct, Token};
+
+/// The place of the first token of a text, or of the end where it has none: `first_token_place` of `specs/Lexing.antt`.
+///
+/// The text has fewer than 4,294,967,295 bytes, so that each line and column is a `u32`.
+pub fn first_token_place(bytes: &[u8]) -> Place
+    requires { length bytes.now < 2 ^ 32 - 1 }
+    ensures { result ≡ first_token_place bytes.now }
+{
+    let mut lexer = Lexer::new(bytes);
+    lexer.next_token().place
+}
 
 /// The bytes that are left, and the place where they begin.
 #[derive(Clone, Copy, Debug)]

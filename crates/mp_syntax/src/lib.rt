@@ -1,6 +1,11 @@
 //! The text of rule files: tokens, grammar, and the reading of statements as syntax trees with places.
 #![tactic(auto)]
 
+mod atom;
+mod condition;
+#[cfg(test)]
+mod condition_tests;
+pub mod condition_tree;
 mod declaration;
 mod expression;
 pub mod fault;
@@ -13,8 +18,13 @@ mod tests;
 pub mod token;
 pub mod tree;
 
+pub use crate::condition::{condition_is_a_function, read_condition};
+pub use crate::condition_tree::{
+    Alternative, Amount, Atom, Condition, Literal, Measure, Property, Relation, Sense,
+};
 pub use crate::expression::{expression_is_a_function, read_expression};
 pub use crate::fault::{Fault, FaultKind, SyntaxError};
+pub use crate::lexer::first_token_place;
 pub use crate::place::{Place, Spot};
 pub use crate::statement::read_statements;
 pub use crate::tree::{Expr, Flag, Statement, Wildcard};

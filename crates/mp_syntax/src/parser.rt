@@ -3,7 +3,7 @@
 ghost use Rattle.std.specs.Prelude.{◌≡◌, ◌<◌, ◌≤◌, ◌-◌, ◌^◌, ◌∷◌, ◌&&◌, None, length, OnOk, IfSome, IfNone};
 ghost use Rattle.mp_syntax.specs.Tokens.{first_place};
 ghost use Rattle.mp_syntax.specs.Lexing.{placed, token_of, behind, lexemes};
-ghost use Rattle.mp_syntax.specs.Machine.{is_punct, is_sign, is_end, is_number, word_of, sign_of, wildcard_at, is_dot, refusal};
+ghost use Rattle.mp_syntax.specs.Machine.{is_punct, is_sign, is_word, is_end, is_number, word_of, sign_of, wildcard_at, is_dot, refusal};
 ghost use Rattle.mp_syntax.specs.View.{wildcard_of};
 ghost use Rattle.mp_syntax.specs.Parsing.{ahead, PunctGives, TextGives, NumberGives, WildcardGives};
 
@@ -73,6 +73,16 @@ impl<'a> Parser<'a> {
     {
         match self.token.kind {
             Kind::Sign(held) => held == text,
+            _ => false,
+        }
+    }
+
+    /// Whether this word is held.
+    pub fn sees_word(&self, text: &[u8]) -> bool
+        ensures { result ≡ is_word text.now (token_of self.now.token.kind) }
+    {
+        match self.token.kind {
+            Kind::Word(held) => held == text,
             _ => false,
         }
     }
@@ -172,7 +182,7 @@ impl<'a> Parser<'a> {
 }
 
 /// Whether a word is of digits alone.
-fn is_number(word: &[u8]) -> bool
+pub fn is_number(word: &[u8]) -> bool
     ensures { result ≡ is_number word.now }
 {
     word.iter().all(|byte| byte.is_ascii_digit())

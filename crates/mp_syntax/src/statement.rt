@@ -3,14 +3,16 @@
 ghost use Rattle.std.specs.Prelude.{◌≡◌, ◌<◌, ◌≤◌, ◌-◌, ◌^◌, ◌↔◌, ℕ, List, Some, Err, false, length, map, OnOk, IfOk, IfErr};
 ghost use Rattle.mp_syntax.specs.Tokens.{first_place};
 ghost use Rattle.mp_syntax.specs.Lexing.{token_of, lexemes};
-ghost use Rattle.mp_syntax.specs.Machine.{is_end, keyword, Top};
+ghost use Rattle.mp_syntax.specs.Machine.{is_end, keyword, OfRule, OfSubject, Top, AfterRole};
 ghost use Rattle.mp_syntax.specs.Syntax as syntax;
 ghost use Rattle.mp_syntax.specs.Syntax.{IsSyntaxOf, StatementsHaveNames, AreStatements};
 ghost use Rattle.mp_syntax.specs.Printed.{statements_text, unplaced};
 ghost use Rattle.mp_syntax.specs.View.{statement_tree};
 ghost use Rattle.mp_syntax.specs.Parsing.{ahead, StatementFrom, NamedExprGives, KeywordGives, FileGives, keyword_step};
+ghost use Rattle.mp_syntax.specs.ConditionParsing.{IfGives, EndsIf};
 ghost use Rattle.mp_syntax.specs.Reading.{parsed_file, reading, syntax_of, IfFault, IsOkOrMemory};
 
+use crate::condition_tree::Condition;
 use crate::fault::SyntaxError;
 use crate::parser::Parser;
 use crate::place::Spot;
@@ -112,18 +114,51 @@ impl<'a> Parser<'a> {
         match self.keyword()? {
             Keyword::Op => self.op(alloc),
             Keyword::Kind => self.kind(alloc),
-            Keyword::Rule => {
-                let (name, pattern) = self.named_expr(alloc)?;
-                Ok(Statement::Rule { name, pattern })
-            }
-            Keyword::Subject => {
-                let (name, term) = self.named_expr(alloc)?;
-                Ok(Statement::Subject { name, term })
-            }
+            Keyword::Rule => self.rule(alloc),
+            Keyword::Subject => self.subject(alloc),
         }
     }
 
-    /// Reads a name, a colon, an expression and the semicolon.
+    /// Reads what follows `rule`: a name, a colon, an expression, perhaps `if` and a condition, and the semicolon.
+    fn rule(&mut self, alloc: Global) -> Result<Statement<'a>, SyntaxError>
+        ensures read { StatementFrom (AfterRole OfRule) result (ahead self.old) (ahead self.new) }
+        ensures shorter { OnOk result (length (ahead self.new) ≤ length (ahead self.old)) }
+    {
+        let (name, pattern) = self.named_expr(alloc)?;
+        let condition = self.rule_condition(alloc)?;
+        self.expect(Punct::Semicolon)?;
+        Ok(Statement::Rule {
+            name,
+            pattern,
+            condition,
+        })
+    }
+
+    /// Reads `if` and a condition, where `if` is held.
+    fn rule_condition(&mut self, alloc: Global) -> Result<Option<Condition<'a>>, SyntaxError>
+        ensures read { IfGives result (ahead self.old) (ahead self.new) }
+        ensures ends { IfOk result (λ o. EndsIf o (token_of self.new.token.kind)) }
+        ensures shorter { OnOk result (length (ahead self.new) ≤ length (ahead self.old)) }
+    {
+        if !self.sees_word(b"if") {
+            return Ok(None);
+        }
+        self.advance();
+        let condition = self.condition(alloc, MAX_OPEN)?;
+        Ok(Some(condition))
+    }
+
+    /// Reads what follows `subject`: a name, a colon, an expression and the semicolon.
+    fn subject(&mut self, alloc: Global) -> Result<Statement<'a>, SyntaxError>
+        ensures read { StatementFrom (AfterRole OfSubject) result (ahead self.old) (ahead self.new) }
+        ensures shorter { OnOk result (length (ahead self.new) ≤ length (ahead self.old)) }
+    {
+        let (name, term) = self.named_expr(alloc)?;
+        self.expect(Punct::Semicolon)?;
+        Ok(Statement::Subject { name, term })
+    }
+
+    /// Reads a name, a colon and an expression.
     fn named_expr(&mut self, alloc: Global) -> Result<(Spot<'a>, Expr<'a>), SyntaxError>
         ensures read { NamedExprGives result (ahead self.old) (ahead self.new) }
         ensures shorter { OnOk result (length (ahead self.new) ≤ length (ahead self.old)) }
@@ -131,7 +166,6 @@ impl<'a> Parser<'a> {
         let name = self.word()?;
         self.expect(Punct::Colon)?;
         let expr = self.expr(alloc, MAX_OPEN)?;
-        self.expect(Punct::Semicolon)?;
         Ok((name, expr))
     }
 

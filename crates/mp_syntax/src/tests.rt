@@ -1,3 +1,4 @@
+use crate::condition::condition_is_a_function;
 use crate::expression::{expression_is_a_function, read_expression};
 use crate::fault::{FaultKind, SyntaxError};
 use crate::statement::{
@@ -9,9 +10,9 @@ use std::alloc::Global;
 use std::test::Fail;
 
 /// The first fault of a text: its kind, line and column.
-type First = Option<(FaultKind, u32, u32)>;
+pub type First = Option<(FaultKind, u32, u32)>;
 
-fn first_fault(alloc: Global, text: &[u8]) -> Result<First, Fail> {
+pub fn first_fault(alloc: Global, text: &[u8]) -> Result<First, Fail> {
     if text.len() > 5000 {
         Err("the text is too long")?
     }
@@ -268,6 +269,7 @@ fn first_word<'a>(expr: &Expr<'a>) -> (&'a [u8], u32, u32) {
             wildcard.place.line,
             wildcard.place.column,
         ),
+        Expr::Variable(spot) => (spot.text, spot.place.line, spot.place.column),
     }
 }
 
@@ -284,7 +286,7 @@ fn trees_keep_words_and_places(rt: HostRuntime) -> Result<(), Fail> {
     let file = read_statements(rt.alloc(), b"op f 2;\nrule r:\n  f(x_K, y___);")?;
     assert_eq!(rt; file.len(), 2);
     match file.get(1) {
-        Some(Statement::Rule { name, pattern }) => {
+        Some(Statement::Rule { name, pattern, .. }) => {
             assert_eq!(rt; name.text, b"r".as_slice());
             assert_eq!(rt; first_word(pattern), (b"f".as_slice(), 3, 3));
             match pattern {
@@ -378,6 +380,7 @@ fn operands_keep_their_order(rt: HostRuntime) -> Result<(), Fail> {
 fn laws_do_nothing(_rt: HostRuntime) -> Result<(), Fail> {
     syntax_is_a_function();
     expression_is_a_function();
+    condition_is_a_function();
     printed_statements_are_read();
     syntax_has_names();
     tokens_are_unique();

@@ -2,6 +2,7 @@
 
 ghost use Rattle.std.specs.Prelude.{◌≡◌};
 
+use crate::condition_tree::Condition;
 use crate::place::{Place, Spot};
 
 /// A wildcard as it is written.
@@ -60,6 +61,8 @@ pub enum Expr<'a> {
         /// The expression behind the last colon; what is read is no wildcard with a default.
         default: Box<Expr<'a>>,
     },
+    /// `$NAME`: the name, at the place of the `$`.
+    Variable(Spot<'a>),
 }
 
 /// A flag of an operation.
@@ -100,12 +103,14 @@ pub enum Statement<'a> {
         /// The words behind the colon, in order; what is read has one or more.
         members: Vec<Spot<'a>>,
     },
-    /// `rule NAME: PATTERN;`
+    /// `rule NAME: PATTERN;` or `rule NAME: PATTERN if CONDITION;`
     Rule {
         /// The name of the rule.
         name: Spot<'a>,
         /// The expression behind the colon.
         pattern: Expr<'a>,
+        /// The condition behind `if`, where there is one.
+        condition: Option<Condition<'a>>,
     },
     /// `subject NAME: TERM;`
     Subject {

@@ -13,7 +13,7 @@ use Rattle.mp_pattern.specs.Size.{pattern_nodes, list_nodes}
 use Rattle.mp_pattern.specs.View.{pattern_tree}
 use Rattle.mp_text.specs.Checks.{nodes, all_nodes, has_large_default, some_large_default}
 use Rattle.mp_text.specs.Build.{op_number, sign_number, has_term, all_have_terms}
-use Rattle.mp_text.specs.Names.{wildcard_names, all_wildcard_names}
+use Rattle.mp_text.specs.Names.{wildcards, all_wildcards, wildcard_names, all_wildcard_names}
 use Rattle.mp_text.specs.Wildcards.{pattern_wildcards, all_pattern_wildcards}
 
 -- the nodes of an application
@@ -51,6 +51,14 @@ nodes-Infix place sign v = ap nodes (expr_tree-Infix place sign v) ∙ omega ari
 -- the names of the wildcards of an infix expression
 pub wildcard_names-Infix : (place : Place) (sign : code.Spot) (v : Vec Expr Global) → wildcard_names (expr_tree (Infix place sign v)) ≡ all_wildcard_names (trees (map expr_tree v.items))
 wildcard_names-Infix place sign v = ap wildcard_names (expr_tree-Infix place sign v)
+
+-- the wildcards of an application
+pub wildcards-Apply : (f : code.Spot) (v : Vec Expr Global) → wildcards (expr_tree (Apply f v)) ≡ all_wildcards (trees (map expr_tree v.items))
+wildcards-Apply f v = ap wildcards (expr_tree-Apply f v)
+
+-- the wildcards of an infix expression
+pub wildcards-Infix : (place : Place) (sign : code.Spot) (v : Vec Expr Global) → wildcards (expr_tree (Infix place sign v)) ≡ all_wildcards (trees (map expr_tree v.items))
+wildcards-Infix place sign v = ap wildcards (expr_tree-Infix place sign v)
 
 -- an item has no more nodes than the list
 nodes-get_or : (es : List Expr) (i : ℕ) (d : Expr) → i < length es → nodes (expr_tree (get_or es i d)) ≤ all_nodes (trees (map expr_tree es))

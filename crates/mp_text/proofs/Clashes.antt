@@ -1,23 +1,22 @@
 -- Wildcards of a pattern of which none differs from an earlier one of its name, in syntax trees and in patterns.
-use Rattle.std.proofs.Common.{◌≡◌, ℕ, Bool, true, false, ◌&&◌, ◌||◌, not, eqb, List, [], ◌∷◌, ◌++◌, map, Option, Some, None, unwrap_or, refl, sym, ap, subst, ◌∙◌, eqb-true, append_assoc, append-nil}
-use Rattle.std.specs.List.{list_any, AllByRecursion}
+use Rattle.std.proofs.Common.{◌≡◌, ℕ, Bool, true, false, ◌&&◌, ◌||◌, not, eqb, List, [], ◌∷◌, ◌++◌, map, Option, Some, None, refl, sym, ap, subst, ◌∙◌, eqb-true, append_assoc, append-nil}
+use Rattle.std.specs.List.{list_any}
 use Rattle.std.specs.Str.{bytes_eq}
 use Rattle.std.proofs.lemmas.List.{map-append}
 use Rattle.std.proofs.lemmas.Slice.Eq.{bytes_eq-Decides}
 use Rattle.mp_term.specs.Signature.{Sig}
-use Rattle.mp_term.specs.Normal.{normal}
 use Rattle.mp_pattern.specs.PatternTree as pattern
 use Rattle.mp_pattern.specs.PatternTree.{Pattern, symbol_pattern, app_pattern, wild_pattern, Patterns, no_patterns, more_patterns}
 use Rattle.mp_pattern.specs.Subpatterns.{subpatterns, all_subpatterns}
 use Rattle.mp_pattern.specs.Clash.{first_clash}
-use Rattle.mp_pattern.proofs.ClashLaws.{same_shape-same, Agree, AgreesWith, InOrder, InOrder-first_clash_after, first_clash_after-InOrder}
-use Rattle.mp_syntax.specs.Syntax.{Wildcard, Tree, Symbol, Apply, InfixOf, Wild, Optional, Trees, no_trees, more_trees, tree_list}
+use Rattle.mp_pattern.proofs.ClashLaws.{Agree, AgreesWith, InOrder, InOrder-first_clash_after, first_clash_after-InOrder, same_shape-same}
+use Rattle.mp_syntax.specs.Syntax.{Wildcard, Tree, Symbol, Apply, InfixOf, Wild, Variable, Trees, no_trees, more_trees, tree_list, Optional}
 use Rattle.mp_text.specs.declared.fault.TextFault.{TextFault}
 use Rattle.mp_text.specs.Names.{is_same_variable}
 use Rattle.mp_text.specs.Wildcards.{DefaultForm, absent, normal_form, unknown, PatternWildcard, without_default, with_default_form, pattern_wildcards, all_pattern_wildcards, same_default, same_class, differs}
-use Rattle.mp_text.specs.Build.{op_number, sign_number, head_number, kind_shape, shape_of, variable_of, term_of, pattern_of, patterns_of}
+use Rattle.mp_text.specs.Build.{kind_shape, shape_of, variable_of, pattern_of, patterns_of}
 use Rattle.mp_text.specs.Checks.{fault_if, head_faults, arity_faults, sign_faults, allows_patterns, op_named, op_signed, kind_unknown, default_faults, wildcard_faults, pattern_faults, pattern_operand_faults, all_pattern_faults}
-use Rattle.mp_text.proofs.Words.{both, first-of, second-of}
+use Rattle.mp_text.proofs.Words.{first-of, second-of}
 use Rattle.mp_text.proofs.Faultless.{nil-append, nil-fault_if, not-false}
 use Rattle.mp_text.proofs.Defaults.{default_form-default_faults}
 
@@ -65,6 +64,7 @@ module _ (sig : Sig) where
     Apart-pattern_faults before (Optional w others default) h =
         let v = with_default_form sig w others default in
         (Apart-wildcard_faults before v (nil-append (wildcard_faults sig before v) (default_faults sig others default) h).0, tt)
+    Apart-pattern_faults before (Variable x) h = tt
 
     Apart-all_pattern_faults : (before : List PatternWildcard) (ps : Trees) → all_pattern_faults sig before ps ≡ [] → Apart before (all_pattern_wildcards sig ps)
     Apart-all_pattern_faults before no_trees h = tt
@@ -163,6 +163,7 @@ module _ (sig : Sig) where
     wilds-pattern_of before (Optional w others default) h =
         let p = nil-append (wildcard_faults sig before (with_default_form sig w others default)) (default_faults sig others default) h in
         ap (λ f. wild_pattern (form_shape f w) (variable_of w.name) ∷ []) (sym (default_form-default_faults sig others default p.1))
+    wilds-pattern_of before (Variable x) h = refl
 
     wilds-patterns_of : (before : List PatternWildcard) (ts : Trees) → all_pattern_faults sig before ts ≡ [] → wilds (all_subpatterns (patterns_of sig ts)) ≡ map wild_of (all_pattern_wildcards sig ts)
     wilds-patterns_of before no_trees h = refl

@@ -1,6 +1,6 @@
 -- What the statements declare: names and counts of operations, rules and subjects, statement by statement.
 use Rattle.std.proofs.Common.{◌≡◌, ℕ, Bool, ◌||◌, List, [], ◌∷◌, ◌++◌, map, length, append-nil, Result, Ok, Err, refl, sym, ap, ◌∙◌, subst}
-use Rattle.std.specs.Prelude.{Option, None, position, is_some, option_map}
+use Rattle.std.specs.Prelude.{Option, position, is_some, option_map}
 use Rattle.std.specs.List.{list_any}
 use Rattle.std.specs.Str.{bytes_eq}
 use Rattle.std.proofs.lemmas.List.{length-map}
@@ -12,10 +12,8 @@ use Rattle.mp_term.specs.Signature.{Sig, Kind, has_name, has_sign}
 use Rattle.mp_term.proofs.SignatureLaws.{is_some-position, is_some-option_map}
 use Rattle.mp_term.specs.Tree as term
 use Rattle.mp_term.specs.Normal.{normal}
-use Rattle.mp_pattern.specs.PatternTree.{Pattern}
-use Rattle.mp_pattern.specs.Normal.{normal_pattern}
 use Rattle.mp_pattern.specs.Admission.{Rule}
-use Rattle.mp_syntax.specs.Syntax.{Spot, Tree, Flag, Statement, OpOf, KindOf, RuleOf, SubjectOf}
+use Rattle.mp_syntax.specs.Syntax.{Spot, Tree, Flag, Statement, OpOf, KindOf, RuleOf, SubjectOf, Condition}
 use Rattle.mp_text.specs.declared.fault.TextFault.{TextFault}
 use Rattle.mp_text.specs.declared.fault.TextError.{TextError}
 use Rattle.mp_text.specs.Subject.{Subject}
@@ -24,7 +22,8 @@ use Rattle.mp_text.specs.Answers.{Gives}
 use Rattle.mp_text.specs.Checks.{op_faults, kind_faults}
 use Rattle.mp_text.specs.FileChecks.{statement_faults}
 use Rattle.mp_text.specs.Names.{rule_names, subject_names, is_among}
-use Rattle.mp_text.specs.Build.{op_decl, op_decls, kind_decl, kind_decls, sig_with, term_of, pattern_of, rule_of, rules_of, subject_of, subjects_of, file_over}
+use Rattle.mp_text.specs.Build.{op_decl, op_decls, kind_decl, kind_decls, sig_with, term_of, subject_of, subjects_of}
+use Rattle.mp_text.specs.FileBuild.{rule_of, rules_of, file_over}
 
 -- ---- equal bytes
 
@@ -65,7 +64,7 @@ pub op_decls-append : (a b : List Statement) → op_decls (a ++ b) ≡ op_decls 
 op_decls-append [] b = refl
 op_decls-append (OpOf name least more flags ∷ ss) b = ap (λ l. op_decl name least more flags ∷ l) (op_decls-append ss b)
 op_decls-append (KindOf name members ∷ ss) b = op_decls-append ss b
-op_decls-append (RuleOf name p ∷ ss) b = op_decls-append ss b
+op_decls-append (RuleOf name p c ∷ ss) b = op_decls-append ss b
 op_decls-append (SubjectOf name t ∷ ss) b = op_decls-append ss b
 
 -- the kinds of statements in two parts
@@ -73,7 +72,7 @@ pub kind_decls-append : (a b : List Statement) → kind_decls (a ++ b) ≡ kind_
 kind_decls-append [] b = refl
 kind_decls-append (OpOf name least more flags ∷ ss) b = kind_decls-append ss b
 kind_decls-append (KindOf name members ∷ ss) b = ap (λ l. kind_decl name members ∷ l) (kind_decls-append ss b)
-kind_decls-append (RuleOf name p ∷ ss) b = kind_decls-append ss b
+kind_decls-append (RuleOf name p c ∷ ss) b = kind_decls-append ss b
 kind_decls-append (SubjectOf name t ∷ ss) b = kind_decls-append ss b
 
 -- a statement that declares no operation adds none
@@ -103,7 +102,7 @@ pub names-rules_of : (sig : Sig) (ss : List Statement) → map (λ r. r.name) (r
 names-rules_of sig [] = refl
 names-rules_of sig (OpOf n least more flags ∷ ss) = names-rules_of sig ss
 names-rules_of sig (KindOf n members ∷ ss) = names-rules_of sig ss
-names-rules_of sig (RuleOf n p ∷ ss) = ap (λ l. n.text ∷ l) (names-rules_of sig ss)
+names-rules_of sig (RuleOf n p c ∷ ss) = ap (λ l. n.text ∷ l) (names-rules_of sig ss)
 names-rules_of sig (SubjectOf n t ∷ ss) = names-rules_of sig ss
 
 -- the names of the subjects
@@ -111,7 +110,7 @@ pub names-subjects_of : (sig : Sig) (ss : List Statement) → map (λ s. s.name)
 names-subjects_of sig [] = refl
 names-subjects_of sig (OpOf n least more flags ∷ ss) = names-subjects_of sig ss
 names-subjects_of sig (KindOf n members ∷ ss) = names-subjects_of sig ss
-names-subjects_of sig (RuleOf n p ∷ ss) = names-subjects_of sig ss
+names-subjects_of sig (RuleOf n p c ∷ ss) = names-subjects_of sig ss
 names-subjects_of sig (SubjectOf n t ∷ ss) = ap (λ l. n.text ∷ l) (names-subjects_of sig ss)
 
 -- the rules of statements in two parts
@@ -119,7 +118,7 @@ pub rules_of-append : (sig : Sig) (a b : List Statement) → rules_of sig (a ++ 
 rules_of-append sig [] b = refl
 rules_of-append sig (OpOf n least more flags ∷ ss) b = rules_of-append sig ss b
 rules_of-append sig (KindOf n members ∷ ss) b = rules_of-append sig ss b
-rules_of-append sig (RuleOf n p ∷ ss) b = ap (λ l. rule_of sig n p ∷ l) (rules_of-append sig ss b)
+rules_of-append sig (RuleOf n p c ∷ ss) b = ap (λ l. rule_of sig n p c ∷ l) (rules_of-append sig ss b)
 rules_of-append sig (SubjectOf n t ∷ ss) b = rules_of-append sig ss b
 
 -- the subjects of statements in two parts
@@ -127,7 +126,7 @@ pub subjects_of-append : (sig : Sig) (a b : List Statement) → subjects_of sig 
 subjects_of-append sig [] b = refl
 subjects_of-append sig (OpOf n least more flags ∷ ss) b = subjects_of-append sig ss b
 subjects_of-append sig (KindOf n members ∷ ss) b = subjects_of-append sig ss b
-subjects_of-append sig (RuleOf n p ∷ ss) b = subjects_of-append sig ss b
+subjects_of-append sig (RuleOf n p c ∷ ss) b = subjects_of-append sig ss b
 subjects_of-append sig (SubjectOf n t ∷ ss) b = ap (λ l. subject_of sig n t ∷ l) (subjects_of-append sig ss b)
 
 -- ---- rules, statement by statement
@@ -141,12 +140,10 @@ pub length-held_rules : (sig : Sig) (rules : List Rule) (ss : List Statement) �
 length-held_rules sig rules ss h = sym (length-map rules (λ r. r.name)) ∙ ap length (ap (map (λ r. r.name)) h ∙ names-rules_of sig ss)
 
 -- the rules with one rule more
-pub rules_of-RuleOf : (sig : Sig) (old new : List Rule) (word : List ℕ) (q : Pattern) (ss : List Statement) (name : Spot) (p : Tree)
-    → new ≡ old ++ record { name = word; pattern = q; template = None; condition = None } ∷ []
-    → old ≡ rules_of sig ss → word ≡ name.text → q ≡ normal_pattern sig (pattern_of sig p) → new ≡ rules_of sig (ss ++ RuleOf name p ∷ [])
-rules_of-RuleOf sig old new word q ss name p added e w n =
-    let rule : List ℕ → Pattern → Rule = λ x y. record { name = x; pattern = y; template = None; condition = None } in
-    added ∙ ap (λ l. l ++ rule word q ∷ []) e ∙ ap (λ x. rules_of sig ss ++ rule x q ∷ []) w ∙ ap (λ y. rules_of sig ss ++ rule name.text y ∷ []) n ∙ sym (rules_of-append sig ss (RuleOf name p ∷ []))
+pub rules_of-RuleOf : (sig : Sig) (old new : List Rule) (r : Rule) (ss : List Statement) (name : Spot) (p : Tree) (c : Option Condition)
+    → new ≡ old ++ r ∷ [] → old ≡ rules_of sig ss → r ≡ rule_of sig name p c → new ≡ rules_of sig (ss ++ RuleOf name p c ∷ [])
+rules_of-RuleOf sig old new r ss name p c added e h =
+    added ∙ ap (λ l. l ++ r ∷ []) e ∙ ap (λ x. rules_of sig ss ++ x ∷ []) h ∙ sym (rules_of-append sig ss (RuleOf name p c ∷ []))
 
 -- ---- subjects, statement by statement
 
@@ -176,10 +173,10 @@ file_over-declaration sig ss s no_rule no_subject =
     ∙ ap (file (rules_of sig ss)) (subjects_of-append sig ss (s ∷ []) ∙ ap (λ l. subjects_of sig ss ++ l) no_subject ∙ append-nil (subjects_of sig ss))
 
 -- a file with one rule more
-file_over-RuleOf : (sig : Sig) (ss : List Statement) (name : Spot) (p : Tree) (new : List Rule) → new ≡ rules_of sig (ss ++ RuleOf name p ∷ []) → record (file_over sig ss) { rules = new } ≡ file_over sig (ss ++ RuleOf name p ∷ [])
-file_over-RuleOf sig ss name p new h =
+file_over-RuleOf : (sig : Sig) (ss : List Statement) (name : Spot) (p : Tree) (c : Option Condition) (new : List Rule) → new ≡ rules_of sig (ss ++ RuleOf name p c ∷ []) → record (file_over sig ss) { rules = new } ≡ file_over sig (ss ++ RuleOf name p c ∷ [])
+file_over-RuleOf sig ss name p c new h =
     let file : List Rule → List Subject → FileTree = λ r s. record { sig = sig; rules = r; subjects = s; edits = [] } in
-    ap (λ r. file r (subjects_of sig ss)) h ∙ ap (file (rules_of sig (ss ++ RuleOf name p ∷ []))) (sym (subjects_of-append sig ss (RuleOf name p ∷ []) ∙ append-nil (subjects_of sig ss)))
+    ap (λ r. file r (subjects_of sig ss)) h ∙ ap (file (rules_of sig (ss ++ RuleOf name p c ∷ []))) (sym (subjects_of-append sig ss (RuleOf name p c ∷ []) ∙ append-nil (subjects_of sig ss)))
 
 -- a file with one subject more
 file_over-SubjectOf : (sig : Sig) (ss : List Statement) (name : Spot) (t : Tree) (new : List Subject) → new ≡ subjects_of sig (ss ++ SubjectOf name t ∷ []) → record (file_over sig ss) { subjects = new } ≡ file_over sig (ss ++ SubjectOf name t ∷ [])
@@ -193,14 +190,14 @@ gives-map (Ok v) fs P Q step g = (g.0, step v g.1)
 gives-map (Err e) fs P Q step g = g
 
 -- what adding a rule to the rules gives is what adding it to the file gives
-pub gives-RuleOf : (file : FileTree) (sig : Sig) (ss : List Statement) (name : Spot) (p : Tree) (new : List Rule) (r : Result (Unit {0}) TextError) → file ≡ file_over sig ss
-    → ((before : List Statement) → file.rules ≡ rules_of file.sig before → Gives r (statement_faults file.sig before (RuleOf name p)) (λ _. new ≡ rules_of file.sig (before ++ RuleOf name p ∷ [])))
-    → Gives r (statement_faults sig ss (RuleOf name p)) (λ _. record file { rules = new } ≡ file_over sig (ss ++ RuleOf name p ∷ []))
-gives-RuleOf file sig ss name p new r h g =
+pub gives-RuleOf : (file : FileTree) (sig : Sig) (ss : List Statement) (name : Spot) (p : Tree) (c : Option Condition) (new : List Rule) (r : Result (Unit {0}) TextError) → file ≡ file_over sig ss
+    → ((before : List Statement) → file.rules ≡ rules_of file.sig before → Gives r (statement_faults file.sig before (RuleOf name p c)) (λ _. new ≡ rules_of file.sig (before ++ RuleOf name p c ∷ [])))
+    → Gives r (statement_faults sig ss (RuleOf name p c)) (λ _. record file { rules = new } ≡ file_over sig (ss ++ RuleOf name p c ∷ []))
+gives-RuleOf file sig ss name p c new r h g =
     let P : FileTree → Type 0 = λ f.
-    ((before : List Statement) → f.rules ≡ rules_of f.sig before → Gives r (statement_faults f.sig before (RuleOf name p)) (λ _. new ≡ rules_of f.sig (before ++ RuleOf name p ∷ [])))
-    → Gives r (statement_faults sig ss (RuleOf name p)) (λ _. record f { rules = new } ≡ file_over sig (ss ++ RuleOf name p ∷ [])) in
-    let base : P (file_over sig ss) = λ k. gives-map r _ (λ _. new ≡ rules_of sig (ss ++ RuleOf name p ∷ [])) (λ _. record (file_over sig ss) { rules = new } ≡ file_over sig (ss ++ RuleOf name p ∷ [])) (λ _ e. file_over-RuleOf sig ss name p new e) (k ss refl) in
+    ((before : List Statement) → f.rules ≡ rules_of f.sig before → Gives r (statement_faults f.sig before (RuleOf name p c)) (λ _. new ≡ rules_of f.sig (before ++ RuleOf name p c ∷ [])))
+    → Gives r (statement_faults sig ss (RuleOf name p c)) (λ _. record f { rules = new } ≡ file_over sig (ss ++ RuleOf name p c ∷ [])) in
+    let base : P (file_over sig ss) = λ k. gives-map r _ (λ _. new ≡ rules_of sig (ss ++ RuleOf name p c ∷ [])) (λ _. record (file_over sig ss) { rules = new } ≡ file_over sig (ss ++ RuleOf name p c ∷ [])) (λ _ e. file_over-RuleOf sig ss name p c new e) (k ss refl) in
     subst P (sym h) base g
 
 -- what adding a subject to the subjects gives is what adding it to the file gives

@@ -1,5 +1,5 @@
 -- The defaults of a normal form are those of the pattern; and a default without faults has a normal form.
-use Rattle.std.proofs.Common.{◌≡◌, true, false, List, [], ◌∷◌, ◌++◌, length, ℕ, Bool, Option, Some, None, refl, ap, ◌∙◌}
+use Rattle.std.proofs.Common.{◌≡◌, true, List, [], ◌∷◌, ◌++◌, length, ℕ, Bool, Option, Some, None, refl, ap, ◌∙◌}
 use Rattle.std.specs.Prelude.{is_some, flat_map, if◌then◌else◌}
 use Rattle.std.specs.List.{AllByRecursion}
 use Rattle.mp_term.specs.declared.signature.OpDecl.{OpDecl}
@@ -9,7 +9,7 @@ use Rattle.mp_pattern.specs.PatternTree.{Pattern, Patterns, no_patterns, more_pa
 use Rattle.mp_pattern.specs.Normal.{normal_pattern}
 use Rattle.mp_pattern.specs.Limits.{DefaultsAreSmall, AllDefaultsAreSmall}
 use Rattle.mp_pattern.proofs.Preserved.{of_normal_pattern}
-use Rattle.mp_syntax.specs.Syntax.{Spot, Wildcard, Tree, Symbol, Apply, InfixOf, Wild, Optional, Trees, no_trees, more_trees, tree_list}
+use Rattle.mp_syntax.specs.Syntax.{Spot, Wildcard, Tree, Symbol, Apply, InfixOf, Wild, Variable, Optional, Trees, no_trees, more_trees, tree_list}
 use Rattle.mp_text.specs.declared.fault.TextFault.{TextFault}
 use Rattle.mp_text.specs.Build.{op_number, sign_number, term_of, has_term, all_have_terms}
 use Rattle.mp_text.specs.Wildcards.{DefaultForm, normal_form, unknown, default_form}
@@ -85,6 +85,7 @@ module _ (sig : Sig) where
         both (is_some (sign_number sig sign.text)) (all_have_terms sig operands) (known-sign sign (sign_number sig sign.text) q.0) (all_have_terms-term_faults operands q.1)
     has_term-term_faults (Wild w) h = absurd (some-behind (fault_if (kind_unknown sig w.kind) _ w.place) _ h)
     has_term-term_faults (Optional w others default) h = absurd (no-optional_term w others default h)
+    has_term-term_faults (Variable x) h = cc
 
     all_have_terms-term_faults : (ts : Trees) → all_term_faults sig ts ≡ [] → all_have_terms sig ts ≡ true
     all_have_terms-term_faults no_trees h = refl

@@ -17,14 +17,24 @@ mod Defaults
 mod Spelled
 mod Pass
 mod Places
+mod PlacedFaults
 pub mod Whole
 pub mod SoundLaws
+mod CondTexts
+mod BoundNames
+mod SoundConditionLaws
+pub mod SoundFile
 mod SpelledHead
 mod SpelledTerm
 mod SpelledWildcard
 mod SpelledPattern
 mod SpelledDeclarations
 mod ReadFile
+mod SpelledScope
+mod SpelledAtom
+mod SpelledCondition
 mod SpelledFile
 mod Examples
 mod AloneLaws
+mod Joined
+mod ConditionTrees

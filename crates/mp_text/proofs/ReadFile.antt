@@ -1,5 +1,5 @@
 -- What statements without faults give: declarations in order, and rules and subjects of which a fact holds.
-use Rattle.std.proofs.Common.{◌≡◌, ◌≢◌, ◌≤◌, ◌<◌, Bool, false, leb, ltb, List, [], ◌∷◌, ◌++◌, map, length, Option, Some, None, refl, sym, subst, ◌∙◌, arith, append-nil, append_assoc, rules}
+use Rattle.std.proofs.Common.{◌≡◌, ◌≢◌, ◌≤◌, ◌<◌, Bool, false, ◌||◌, leb, ltb, List, [], ◌∷◌, ◌++◌, map, length, Option, Some, None, refl, sym, subst, ◌∙◌, arith, append-nil, append_assoc, rules}
 use Rattle.std.specs.Prelude.{option_map, flat_map}
 use Rattle.std.specs.List.{list_any, AllByRecursion}
 use Rattle.std.specs.Str.{bytes_eq}
@@ -10,12 +10,14 @@ use Rattle.mp_term.proofs.NameSets.{names_ascend-name_set}
 use Rattle.mp_term.proofs.SignatureLaws.{IsSignature-add_op, IsSignature-add_kind}
 use Rattle.mp_pattern.specs.Admission.{Rule}
 use Rattle.mp_pattern.proofs.SortedLaws.{all-append}
-use Rattle.mp_syntax.specs.Syntax.{Spot, Tree, Flag, Assoc, Comm, One, Infixed, Statement, OpOf, KindOf, RuleOf, SubjectOf, Fits, FitsStatement, AreStatements, IsName, HasNames, HaveSigns, AreNames, StatementHasNames, StatementsHaveNames}
+use Rattle.mp_syntax.specs.Syntax.{Spot, Tree, Condition, Flag, Assoc, Comm, One, Infixed, Statement, OpOf, KindOf, RuleOf, SubjectOf, FitsStatement, AreStatements, IsName, HasNames, HaveSigns, AreNames, StatementHasNames, StatementsHaveNames}
 use Rattle.mp_text.specs.declared.fault.TextFault.{TextFault}
 use Rattle.mp_text.specs.Subject.{Subject}
-use Rattle.mp_text.specs.Build.{op_decl, op_decls, kind_decl, kind_decls, sig_with, rule_of, rules_of, subject_of, subjects_of}
-use Rattle.mp_text.specs.Checks.{fault_if, is_large_pattern, is_large_term, symbol_faults, term_faults, whole_pattern_faults, name_faults, has_bad_flags, held_sign_faults, op_faults, kind_faults, op_statement_faults, kind_statement_faults, faults_by}
-use Rattle.mp_text.specs.FileChecks.{statement_faults}
+use Rattle.mp_text.specs.Build.{op_decl, op_decls, kind_decl, kind_decls, sig_with, subject_of, subjects_of}
+use Rattle.mp_text.specs.FileBuild.{rule_of, rules_of}
+use Rattle.mp_text.specs.Checks.{fault_if, is_large_pattern, is_large_term, symbol_faults, term_faults, name_faults, has_bad_flags, held_sign_faults, op_faults, kind_faults, op_statement_faults, kind_statement_faults, faults_by}
+use Rattle.mp_text.specs.ConditionChecks.{has_large_condition}
+use Rattle.mp_text.specs.FileChecks.{rule_faults, statement_faults}
 use Rattle.mp_text.specs.Flags.{sign_spot, is_long_sign}
 use Rattle.mp_text.specs.Names.{rule_names, subject_names, number_of}
 use Rattle.mp_text.specs.Spelled.{piece}
@@ -115,7 +117,7 @@ declared-op ds name least more flags names h i =
 declare-op : (earlier : List Statement) (s : Statement) → IsRead s → op_statement_faults earlier s ≡ [] → AreDeclaredOps (op_decls earlier) → AreDeclaredOps (op_decls (earlier ++ s ∷ []))
 declare-op earlier (OpOf name least more flags) read h i = subst AreDeclaredOps (sym (op_decls-append earlier (OpOf name least more flags ∷ []))) (declared-op (op_decls earlier) name least more flags read.names h i)
 declare-op earlier (KindOf name members) read h i = subst AreDeclaredOps (sym (op_decls-other earlier (KindOf name members) refl)) i
-declare-op earlier (RuleOf name p) read h i = subst AreDeclaredOps (sym (op_decls-other earlier (RuleOf name p) refl)) i
+declare-op earlier (RuleOf name p c) read h i = subst AreDeclaredOps (sym (op_decls-other earlier (RuleOf name p c) refl)) i
 declare-op earlier (SubjectOf name t) read h i = subst AreDeclaredOps (sym (op_decls-other earlier (SubjectOf name t) refl)) i
 
 -- the operations of statements without faults
@@ -175,7 +177,7 @@ module _ (ds : List OpDecl) where
   declare-kind : (earlier : List Statement) (s : Statement) → IsRead s → kind_statement_faults ds earlier s ≡ [] → AreDeclaredKinds (kind_decls earlier) → AreDeclaredKinds (kind_decls (earlier ++ s ∷ []))
   declare-kind earlier (OpOf name least more flags) read h i = subst AreDeclaredKinds (sym (kind_decls-other earlier (OpOf name least more flags) refl)) i
   declare-kind earlier (KindOf name members) read h i = subst AreDeclaredKinds (sym (kind_decls-append earlier (KindOf name members ∷ []))) (declared-kind earlier name members read h i)
-  declare-kind earlier (RuleOf name p) read h i = subst AreDeclaredKinds (sym (kind_decls-other earlier (RuleOf name p) refl)) i
+  declare-kind earlier (RuleOf name p c) read h i = subst AreDeclaredKinds (sym (kind_decls-other earlier (RuleOf name p c) refl)) i
   declare-kind earlier (SubjectOf name t) read h i = subst AreDeclaredKinds (sym (kind_decls-other earlier (SubjectOf name t) refl)) i
 
   -- the kinds of statements without faults
@@ -185,7 +187,7 @@ module _ (ds : List OpDecl) where
 -- ---- rules and subjects
 
 module _ (sig : Sig) (R : Rule → Type 0) (S : Subject → Type 0)
-    (rule-of : (name : Spot) (p : Tree) → IsName name.text → HasNames p → Fits 100 p → whole_pattern_faults sig p ≡ [] → R (rule_of sig name p))
+    (rule-of : (name : Spot) (p : Tree) (c : Option Condition) → IsRead (RuleOf name p c) → (is_large_pattern p || has_large_condition c) ≡ false → rule_faults sig p c ≡ [] → R (rule_of sig name p c))
     (subject-of : (name : Spot) (t : Tree) → IsName name.text → HasNames t → term_faults sig t ≡ [] → S (subject_of sig name t))
   where
     -- rules and subjects of which the facts hold
@@ -196,9 +198,10 @@ module _ (sig : Sig) (R : Rule → Type 0) (S : Subject → Type 0)
     hold-statement : (earlier : List Statement) (s : Statement) → IsRead s → statement_faults sig earlier s ≡ [] → Hold (rules_of sig (s ∷ [])) (subjects_of sig (s ∷ []))
     hold-statement earlier (OpOf name least more flags) read h = record { rules_hold = tt; subjects_hold = tt }
     hold-statement earlier (KindOf name members) read h = record { rules_hold = tt; subjects_hold = tt }
-    hold-statement earlier (RuleOf name p) read h =
-        let q = nil-append (name_faults 1000 (rule_names earlier) (is_large_pattern p) name) (whole_pattern_faults sig p) h in
-        record { rules_hold = (rule-of name p read.names.0 read.names.1 read.fits q.1, tt); subjects_hold = tt }
+    hold-statement earlier (RuleOf name p c) read h =
+        let large = is_large_pattern p || has_large_condition c in
+        let q = nil-append (name_faults 1000 (rule_names earlier) large name) (rule_faults sig p c) h in
+        record { rules_hold = (rule-of name p c read (named-by 1000 (rule_names earlier) large name q.0).small q.1, tt); subjects_hold = tt }
     hold-statement earlier (SubjectOf name t) read h =
         let q = nil-append (name_faults 1000 (subject_names earlier) (is_large_term t) name) (term_faults sig t) h in
         record { rules_hold = tt; subjects_hold = (subject-of name t read.names.0 read.names.1 q.1, tt) }

@@ -1,19 +1,17 @@
 -- What the checks let through is sound.
 use Rattle.std.specs.Prelude.{if◌then◌else◌}
 use Rattle.mp_text.proofs.Words.{both, first-of, second-of}
-use Rattle.mp_text.proofs.OpLaws.{declarable-op_faults}
 use Rattle.mp_text.proofs.Faultless.{nil-append, nil-fault_if, or-second, within, below, not-false, some-behind}
-use Rattle.std.proofs.Common.{eqb, ◌≡◌, ◌≤◌, ◌<◌, ◌+◌, ℕ, zero, suc, Bool, true, false, ◌||◌, ◌&&◌, leb, ltb, rules, List, [], ◌∷◌, ◌++◌, map, length, Option, Some, None, append-nil, append_assoc, length-append, refl, sym, ap, ◌∙◌, subst, arith}
-use Rattle.std.specs.Prelude.{not, flat_map, slice_get, Result, Ok, Err, IfOk}
-use Rattle.std.specs.List.{list_all, AllByRecursion}
+use Rattle.std.proofs.Common.{eqb, ◌≡◌, ◌≤◌, ◌<◌, ◌+◌, ℕ, zero, suc, Bool, true, false, ◌||◌, ◌&&◌, leb, ltb, rules, List, [], ◌∷◌, ◌++◌, map, length, Option, Some, None, refl, ap, ◌∙◌, arith}
+use Rattle.std.specs.Prelude.{not, flat_map, slice_get}
+use Rattle.std.specs.List.{list_all}
 use Rattle.std.specs.Str.{bytes_eq}
-use Rattle.std.proofs.lemmas.List.{length-map, map-append}
+use Rattle.std.proofs.lemmas.List.{map-append}
 use Rattle.std.proofs.lemmas.List.Sorted.{length_permutation}
 use Rattle.std.proofs.lemmas.Map.Text.{is_eq-slice_cmp}
 use Rattle.mp_term.specs.declared.signature.OpDecl.{OpDecl}
 use Rattle.mp_term.specs.Tree.{tree_list}
 use Rattle.mp_term.specs.Size.{node_count, node_counts, depth, greatest_depth}
-use Rattle.mp_term.specs.Signature as signature
 use Rattle.mp_term.specs.Signature.{Sig, is_one, allows, all_in_order, well_formed, all_well_formed}
 use Rattle.mp_term.specs.Normal.{normal}
 use Rattle.mp_term.proofs.NormalTestLaws.{not_false}
@@ -27,14 +25,12 @@ use Rattle.mp_pattern.specs.Size.{pattern_nodes, all_pattern_nodes}
 use Rattle.mp_pattern.specs.Value.{same_name}
 use Rattle.mp_pattern.specs.Variables.{uses, all_uses, variables}
 use Rattle.mp_syntax.specs.Syntax as syntax
-use Rattle.mp_syntax.specs.Syntax.{Spot, Wildcard, Tree, Symbol, Apply, InfixOf, Wild, Optional, Trees, no_trees, more_trees, Flag, Statement, OpOf, KindOf, RuleOf, SubjectOf, Fits, AreFit, AreStatements}
-use Rattle.mp_text.specs.declared.fault.TextFault.{TextFault}
+use Rattle.mp_syntax.specs.Syntax.{Spot, Wildcard, Tree, Symbol, Apply, InfixOf, Wild, Variable, Trees, no_trees, more_trees, Flag, Statement, OpOf, KindOf, RuleOf, SubjectOf, Fits, AreFit, AreStatements, Optional}
 use Rattle.mp_syntax.specs.declared.place.Place.{Place}
-use Rattle.mp_text.specs.Names.{is_among, named, wildcard_names, all_wildcard_names, variable_names, rule_names, subject_names}
-use Rattle.mp_text.specs.Build.{op_number, sign_number, head_number, kind_number, op_decl, op_decls, kind_shape, shape_of, variable_of, term_of, terms_of, pattern_of, patterns_of, rules_of, subjects_of, sig_of, file_tree_of}
+use Rattle.mp_text.specs.Names.{is_among, named, wildcard_names, all_wildcard_names, variable_names}
+use Rattle.mp_text.specs.Build.{op_number, sign_number, head_number, kind_shape, shape_of, variable_of, term_of, terms_of, pattern_of, patterns_of, kind_number}
+use Rattle.mp_text.specs.Checks.{fault_if, kind_unknown, nodes, all_nodes, is_large_pattern, is_large_term, op_at, op_named, op_signed, head_faults, arity_faults, sign_faults, allows_patterns, term_faults, term_operand_faults, all_term_faults, pattern_faults, pattern_operand_faults, all_pattern_faults, loose_faults, whole_pattern_faults, name_faults, has_large_default, some_large_default, term_wildcard_faults, default_faults, wildcard_faults}
 use Rattle.mp_text.specs.Wildcards.{PatternWildcard, with_default_form, pattern_wildcards}
-use Rattle.mp_text.specs.Checks.{fault_if, kind_unknown, nodes, all_nodes, has_large_default, some_large_default, is_large_pattern, is_large_term, op_at, op_named, op_signed, head_faults, arity_faults, sign_faults, allows_patterns, term_faults, term_operand_faults, all_term_faults, term_wildcard_faults, default_faults, wildcard_faults, pattern_faults, pattern_operand_faults, all_pattern_faults, loose_faults, whole_pattern_faults, name_faults, op_faults, op_statement_faults, kind_statement_faults, declaration_faults, faults_by}
-use Rattle.mp_text.specs.FileChecks.{statement_faults, faults}
 use Rattle.mp_pattern.specs.Sound.{DefaultIsNormal, DefaultsAreNormal, AllDefaultsAreNormal, holds_ops, all_hold_ops}
 use Rattle.mp_pattern.specs.Limits.{DefaultIsSmall, DefaultsAreSmall, AllDefaultsAreSmall}
 use Rattle.mp_pattern.proofs.ClashLaws.{first_clash-normal_pattern}
@@ -46,13 +42,9 @@ use Rattle.mp_syntax.proofs.Trees.{fits-optional}
 use Rattle.mp_text.proofs.Clashes.{nil-pattern_operands, first_clash-pattern_of}
 use Rattle.mp_text.proofs.Defaults.{small-normal_pattern, formed-normal_pattern, nil-term_operands, no-optional_term}
 use Rattle.mp_text.proofs.PatternDepth.{pattern_depth-normal_pattern}
-use Rattle.mp_text.specs.Sound.{DefaultIsFormed, DefaultsAreFormed, AllDefaultsAreFormed, IsSoundPattern, IsSoundTerm, IsSoundFile}
+use Rattle.mp_text.specs.Sound.{DefaultIsFormed, DefaultsAreFormed, AllDefaultsAreFormed, IsSoundPattern, IsSoundTerm}
 use Rattle.mp_text.specs.Depth.{wildcard_depth, pattern_depth, greatest_pattern_depth}
-use Rattle.mp_text.specs.declared.fault.TextError.{TextError}
-use Rattle.mp_text.specs.declared.file.File as code_file
-use Rattle.mp_text.specs.File.{FileTree, file_tree}
-use Rattle.mp_text.specs.Reading.{IsFileOf, ReadGives}
-use Rattle.mp_text.proofs.Declared.{bytes_eq_comm, names-rules_of, names-subjects_of}
+use Rattle.mp_text.proofs.Declared.{bytes_eq_comm}
 
 -- ---- operations that are found
 
@@ -104,6 +96,7 @@ module _ (sig : Sig) where
         rw (d.held, length-terms_of operands, d.passed) (all_well_formed-terms_of operands q.1)
     well_formed-term_of (Wild w) h = absurd (some-behind (fault_if (kind_unknown sig w.kind) _ w.place) _ h)
     well_formed-term_of (Optional w others default) h = absurd (no-optional_term sig w others default h)
+    well_formed-term_of (Variable x) h = cc
 
     all_well_formed-terms_of : (ts : Trees) → all_term_faults sig ts ≡ [] → all_well_formed sig (terms_of sig ts) ≡ true
     all_well_formed-terms_of no_trees h = refl
@@ -119,6 +112,7 @@ module _ (sig : Sig) where
     node_count-term_of (InfixOf opened sign operands) = ap (λ n. n + 1) (node_counts-terms_of operands)
     node_count-term_of (Wild w) = refl
     node_count-term_of (Optional w others default) = refl
+    node_count-term_of (Variable x) = refl
 
     node_counts-terms_of : (ts : Trees) → node_counts (terms_of sig ts) ≡ all_nodes ts
     node_counts-terms_of no_trees = refl
@@ -126,7 +120,7 @@ module _ (sig : Sig) where
 
   mutual
     -- a term is no deeper than its brackets
-    depth-term_of : (room : ℕ) (t : Tree) → Fits room t → depth (term_of sig t) ≤ room
+    pub depth-term_of : (room : ℕ) (t : Tree) → Fits room t → depth (term_of sig t) ≤ room
     depth-term_of room (Symbol w) h = omega arith
     depth-term_of zero (Apply f args) h = absurd h
     depth-term_of (suc room) (Apply f args) h = omega (arith, depth-terms_of room args h)
@@ -134,6 +128,7 @@ module _ (sig : Sig) where
     depth-term_of (suc room) (InfixOf opened sign operands) h = omega (arith, depth-terms_of room operands h.1)
     depth-term_of room (Wild w) h = omega arith
     depth-term_of room (Optional w others default) h = omega arith
+    depth-term_of room (Variable x) h = omega arith
 
     depth-terms_of : (room : ℕ) (ts : Trees) → AreFit room ts → greatest_depth (terms_of sig ts) ≤ room
     depth-terms_of room no_trees h = omega arith
@@ -159,6 +154,7 @@ module _ (sig : Sig) where
     defaults-pattern_of (InfixOf opened sign operands) = defaults-patterns_of operands
     defaults-pattern_of (Wild w) = each-kind_shape (DefaultIsNormal sig) tt tt tt (λ k. tt) w.kind w.marks
     defaults-pattern_of (Optional w others default) = normal-normal sig (term_of sig default)
+    defaults-pattern_of (Variable x) = tt
 
     defaults-patterns_of : (ps : Trees) → AllDefaultsAreNormal sig (patterns_of sig ps)
     defaults-patterns_of no_trees = tt
@@ -174,6 +170,7 @@ module _ (sig : Sig) where
     small-pattern_of (Optional w others default) h =
         let few : nodes default ≤ 64 = within 64 (nodes default) (or-second (ltb 64 (nodes default)) (has_large_default default) h).0 in
         omega (arith, node_count-normal sig (term_of sig default), node_count-term_of default)
+    small-pattern_of (Variable x) h = tt
 
     small-patterns_of : (ps : Trees) → some_large_default ps ≡ false → AllDefaultsAreSmall (patterns_of sig ps)
     small-patterns_of no_trees h = tt
@@ -195,6 +192,7 @@ module _ (sig : Sig) where
         let p = nil-append (wildcard_faults sig before (with_default_form sig w others default)) (default_faults sig others default) h in
         let q = nil-append (flat_map (term_wildcard_faults sig) others) (term_faults sig default) p.1 in
         wf-normal sig ordered (term_of sig default) (well_formed-term_of default q.1)
+    formed-pattern_of ordered before (Variable x) h = tt
 
     formed-patterns_of : all_in_order sig.ops ≡ true → (before : List PatternWildcard) (ps : Trees) → all_pattern_faults sig before ps ≡ [] → AllDefaultsAreFormed sig (patterns_of sig ps)
     formed-patterns_of ordered before no_trees h = tt
@@ -212,6 +210,7 @@ module _ (sig : Sig) where
     depth-pattern_of (suc room) (InfixOf opened sign operands) h = omega (arith, depth-patterns_of room operands h.1)
     depth-pattern_of room (Wild w) h = each-kind_shape (λ v. wildcard_depth v ≤ room) (omega arith) (omega arith) (omega arith) (λ k. omega arith) w.kind w.marks
     depth-pattern_of room (Optional w others default) h = omega (arith, depth-normal sig (term_of sig default), depth-term_of room default (fits-optional room w others default h).2)
+    depth-pattern_of room (Variable x) h = omega arith
 
     depth-patterns_of : (room : ℕ) (ps : Trees) → AreFit room ps → greatest_pattern_depth (patterns_of sig ps) ≤ room
     depth-patterns_of room no_trees h = omega arith
@@ -231,6 +230,7 @@ module _ (sig : Sig) where
         rw ((found-infix sig (allows_patterns (syntax.tree_list operands)) opened sign (sign_number sig sign.text) p.0 q.0).held) (all_hold_ops-patterns_of before operands q.1)
     holds_ops-pattern_of before (Wild w) h = refl
     holds_ops-pattern_of before (Optional w others default) h = refl
+    holds_ops-pattern_of before (Variable x) h = refl
 
     all_hold_ops-patterns_of : (before : List PatternWildcard) (ps : Trees) → all_pattern_faults sig before ps ≡ [] → all_hold_ops sig (patterns_of sig ps) ≡ true
     all_hold_ops-patterns_of before no_trees h = refl
@@ -259,6 +259,7 @@ module _ (sig : Sig) where
   is_loose-loose_faults (Apply f args) h = refl
   is_loose-loose_faults (InfixOf opened sign operands) h = refl
   is_loose-loose_faults (Optional w others default) h = cc
+  is_loose-loose_faults (Variable x) h = refl
   is_loose-loose_faults (Wild w) h = go w.kind w.marks (within 1 w.marks (nil-fault_if (ltb 1 w.marks) _ w.place h))
     where
       by_tests : (three two : Bool) → three ≡ false → two ≡ false → is_loose (pattern.wild_pattern (if three then pattern.star else (if two then pattern.plus else pattern.dot)) (variable_of w.name)) ≡ false
@@ -281,6 +282,7 @@ module _ (sig : Sig) where
     pattern_nodes-pattern_of (InfixOf opened sign operands) = ap (λ n. n + 1) (all_pattern_nodes-patterns_of operands)
     pattern_nodes-pattern_of (Wild w) = refl
     pattern_nodes-pattern_of (Optional w others default) = refl
+    pattern_nodes-pattern_of (Variable x) = refl
 
     all_pattern_nodes-patterns_of : (ps : Trees) → all_pattern_nodes (patterns_of sig ps) ≡ all_nodes ps
     all_pattern_nodes-patterns_of no_trees = refl
@@ -299,6 +301,7 @@ module _ (sig : Sig) where
     names-uses f (InfixOf opened sign operands) = names-all_uses (Some (head_number (sign_number sig sign.text))) operands
     names-uses f (Wild w) = names-wild f (shape_of sig w) w.name
     names-uses f (Optional w others default) = names-wild f (pattern.optional (normal sig (term_of sig default))) w.name
+    names-uses f (Variable x) = refl
 
     names-all_uses : (f : Option ℕ) (ps : Trees) → map (λ u. u.name) (all_uses f (patterns_of sig ps)) ≡ all_wildcard_names ps
     names-all_uses f no_trees = refl
@@ -308,7 +311,7 @@ module _ (sig : Sig) where
 -- ---- names that differ
 
 -- the same test knows the same items
-is_known-alike : (p q : List ℕ → List ℕ → Bool) → ((a b : List ℕ) → p a b ≡ q a b) → (ys : List (List ℕ)) (x : List ℕ) → is_known p ys x ≡ is_known q ys x
+pub is_known-alike : (p q : List ℕ → List ℕ → Bool) → ((a b : List ℕ) → p a b ≡ q a b) → (ys : List (List ℕ)) (x : List ℕ) → is_known p ys x ≡ is_known q ys x
 is_known-alike p q same [] x = refl
 is_known-alike p q same (y ∷ ys) x = λ i. same y x i || is_known-alike p q same ys x i
 
@@ -328,7 +331,7 @@ list_all-push p [] n h k = rw k refl
 list_all-push p (m ∷ ns) n h k = both (p m) (list_all p (ns ++ n ∷ [])) (first-of (p m) (list_all p ns) h) (list_all-push p ns n (second-of (p m) (list_all p ns) h) k)
 
 -- a name that is none of the names, which differ
-are_distinct-push : (ns : List (List ℕ)) (n : List ℕ) → are_distinct ns ≡ true → is_among n ns ≡ false → are_distinct (ns ++ n ∷ []) ≡ true
+pub are_distinct-push : (ns : List (List ℕ)) (n : List ℕ) → are_distinct ns ≡ true → is_among n ns ≡ false → are_distinct (ns ++ n ∷ []) ≡ true
 are_distinct-push [] n h k = refl
 are_distinct-push (m ∷ ns) n h k =
     let o = or-second (bytes_eq m n) (is_among n ns) k in
@@ -353,7 +356,7 @@ named-by most earlier large name h =
     record { other = nil-fault_if (is_among name.text earlier) _ name.place p.0; few = below most (length earlier) o.0; small = o.1 }
 
 -- the normal form of a pattern without faults
-sound-pattern : (sig : Sig) → all_in_order sig.ops ≡ true → (p : Tree) → is_large_pattern p ≡ false → whole_pattern_faults sig p ≡ [] → Fits 100 p → IsSoundPattern sig (normal_pattern sig (pattern_of sig p))
+pub sound-pattern : (sig : Sig) → all_in_order sig.ops ≡ true → (p : Tree) → is_large_pattern p ≡ false → whole_pattern_faults sig p ≡ [] → Fits 100 p → IsSoundPattern sig (normal_pattern sig (pattern_of sig p))
 sound-pattern sig ordered p small none fits =
     let o = or-second (ltb 64 (nodes p)) (ltb 32 (length (variable_names p)) || has_large_default p) small in
     let l = or-second (ltb 32 (length (variable_names p))) (has_large_default p) o.1 in
@@ -374,7 +377,7 @@ sound-pattern sig ordered p small none fits =
     }
 
 -- the normal form of a term without faults
-sound-term : (sig : Sig) → all_in_order sig.ops ≡ true → (t : Tree) → is_large_term t ≡ false → term_faults sig t ≡ [] → Fits 100 t → IsSoundTerm sig (normal sig (term_of sig t))
+pub sound-term : (sig : Sig) → all_in_order sig.ops ≡ true → (t : Tree) → is_large_term t ≡ false → term_faults sig t ≡ [] → Fits 100 t → IsSoundTerm sig (normal sig (term_of sig t))
 sound-term sig ordered t small none fits =
     let few : nodes t ≤ 100000 = within 100000 (nodes t) (or-second (ltb 100000 (nodes t)) (has_large_default t) small).0 in
     record {
@@ -383,142 +386,3 @@ sound-term sig ordered t small none fits =
       nodes = omega (arith, node_count-normal sig (term_of sig t), node_count-term_of sig t);
       shallow = omega (arith, depth-normal sig (term_of sig t), depth-term_of sig 100 t fits);
     }
-
--- ---- declarations
-
--- operations without faults are in order
-all_in_order-op_decls : (earlier ss : List Statement) → faults_by op_statement_faults earlier ss ≡ [] → all_in_order (op_decls ss) ≡ true
-all_in_order-op_decls earlier [] h = refl
-all_in_order-op_decls earlier (OpOf name least more flags ∷ ss) h =
-    let p = nil-append (op_faults (op_decls earlier) name least more flags) (faults_by op_statement_faults (earlier ++ OpOf name least more flags ∷ []) ss) h in
-    both (signature.in_order (op_decl name least more flags)) (all_in_order (op_decls ss)) (declarable-op_faults (op_decls earlier) name least more flags p.0).ordered (all_in_order-op_decls (earlier ++ OpOf name least more flags ∷ []) ss p.1)
-all_in_order-op_decls earlier (KindOf name members ∷ ss) h = all_in_order-op_decls (earlier ++ KindOf name members ∷ []) ss h
-all_in_order-op_decls earlier (RuleOf name p ∷ ss) h = all_in_order-op_decls (earlier ++ RuleOf name p ∷ []) ss h
-all_in_order-op_decls earlier (SubjectOf name t ∷ ss) h = all_in_order-op_decls (earlier ++ SubjectOf name t ∷ []) ss h
-
--- ---- rules and subjects
-
-module _ (sig : Sig) where
-  -- the patterns of statements without faults
-  sound-rules : all_in_order sig.ops ≡ true → (earlier ss : List Statement) → AreStatements ss → faults_by (statement_faults sig) earlier ss ≡ [] → AllByRecursion (λ r. IsSoundPattern sig r.pattern) (rules_of sig ss)
-  sound-rules ordered earlier [] fit h = tt
-  sound-rules ordered earlier (OpOf name least more flags ∷ ss) fit h = sound-rules ordered (earlier ++ OpOf name least more flags ∷ []) ss fit.1 h
-  sound-rules ordered earlier (KindOf name members ∷ ss) fit h = sound-rules ordered (earlier ++ KindOf name members ∷ []) ss fit.1 h
-  sound-rules ordered earlier (RuleOf name p ∷ ss) fit h =
-      let q = nil-append (statement_faults sig earlier (RuleOf name p)) (faults_by (statement_faults sig) (earlier ++ RuleOf name p ∷ []) ss) h in
-      let r = nil-append (name_faults 1000 (rule_names earlier) (is_large_pattern p) name) (whole_pattern_faults sig p) q.0 in
-      (sound-pattern sig ordered p (named-by 1000 (rule_names earlier) (is_large_pattern p) name r.0).small r.1 fit.0, sound-rules ordered (earlier ++ RuleOf name p ∷ []) ss fit.1 q.1)
-  sound-rules ordered earlier (SubjectOf name t ∷ ss) fit h =
-      sound-rules ordered (earlier ++ SubjectOf name t ∷ []) ss fit.1 (nil-append (statement_faults sig earlier (SubjectOf name t)) (faults_by (statement_faults sig) (earlier ++ SubjectOf name t ∷ []) ss) h).1
-
-  -- the terms of statements without faults
-  sound-subjects : all_in_order sig.ops ≡ true → (earlier ss : List Statement) → AreStatements ss → faults_by (statement_faults sig) earlier ss ≡ [] → AllByRecursion (λ s. IsSoundTerm sig s.term) (subjects_of sig ss)
-  sound-subjects ordered earlier [] fit h = tt
-  sound-subjects ordered earlier (OpOf name least more flags ∷ ss) fit h = sound-subjects ordered (earlier ++ OpOf name least more flags ∷ []) ss fit.1 h
-  sound-subjects ordered earlier (KindOf name members ∷ ss) fit h = sound-subjects ordered (earlier ++ KindOf name members ∷ []) ss fit.1 h
-  sound-subjects ordered earlier (RuleOf name p ∷ ss) fit h =
-      sound-subjects ordered (earlier ++ RuleOf name p ∷ []) ss fit.1 (nil-append (statement_faults sig earlier (RuleOf name p)) (faults_by (statement_faults sig) (earlier ++ RuleOf name p ∷ []) ss) h).1
-  sound-subjects ordered earlier (SubjectOf name t ∷ ss) fit h =
-      let q = nil-append (statement_faults sig earlier (SubjectOf name t)) (faults_by (statement_faults sig) (earlier ++ SubjectOf name t ∷ []) ss) h in
-      let r = nil-append (name_faults 1000 (subject_names earlier) (is_large_term t) name) (term_faults sig t) q.0 in
-      (sound-term sig ordered t (named-by 1000 (subject_names earlier) (is_large_term t) name r.0).small r.1 fit.0, sound-subjects ordered (earlier ++ SubjectOf name t ∷ []) ss fit.1 q.1)
-
--- ---- the names of statements
-
--- names that differ, and are at most 1,000
-record Good (names : List (List ℕ)) : Type 0 where
-  distinct : are_distinct names ≡ true
-  few : length names ≤ 1000
-
-good-push : (names : List (List ℕ)) (name : List ℕ) → Good names → is_among name names ≡ false → length names < 1000 → Good (names ++ name ∷ [])
-good-push names name g other few = record { distinct = are_distinct-push names name g.distinct other; few = omega (arith, length-append names (name ∷ [])) }
-
--- the names of the rules of statements in two parts
-pub rule_names-append : (a b : List Statement) → rule_names (a ++ b) ≡ rule_names a ++ rule_names b
-rule_names-append [] b = refl
-rule_names-append (OpOf name least more flags ∷ ss) b = rule_names-append ss b
-rule_names-append (KindOf name members ∷ ss) b = rule_names-append ss b
-rule_names-append (RuleOf name p ∷ ss) b = ap (λ l. name.text ∷ l) (rule_names-append ss b)
-rule_names-append (SubjectOf name t ∷ ss) b = rule_names-append ss b
-
--- the names of the subjects of statements in two parts
-pub subject_names-append : (a b : List Statement) → subject_names (a ++ b) ≡ subject_names a ++ subject_names b
-subject_names-append [] b = refl
-subject_names-append (OpOf name least more flags ∷ ss) b = subject_names-append ss b
-subject_names-append (KindOf name members ∷ ss) b = subject_names-append ss b
-subject_names-append (RuleOf name p ∷ ss) b = subject_names-append ss b
-subject_names-append (SubjectOf name t ∷ ss) b = ap (λ l. name.text ∷ l) (subject_names-append ss b)
-
--- the names of the statements before and of those behind, where one statement goes over
-over : (names_of : List Statement → List (List ℕ)) → ((a b : List Statement) → names_of (a ++ b) ≡ names_of a ++ names_of b) → (earlier ss : List Statement) (s : Statement)
-    → names_of (earlier ++ s ∷ []) ++ names_of ss ≡ names_of earlier ++ names_of (s ∷ ss)
-over names_of law earlier ss s =
-    ap (λ l. l ++ names_of ss) (law earlier (s ∷ [])) ∙ append_assoc (names_of earlier) (names_of (s ∷ [])) (names_of ss) ∙ ap (λ l. names_of earlier ++ l) (sym (law (s ∷ []) ss))
-
-module _ (sig : Sig) where
-  good-rules : (earlier ss : List Statement) → faults_by (statement_faults sig) earlier ss ≡ [] → Good (rule_names earlier) → Good (rule_names earlier ++ rule_names ss)
-  good-rules earlier [] h g = subst Good (sym (append-nil (rule_names earlier))) g
-  good-rules earlier (OpOf name least more flags ∷ ss) h g =
-      let same = rule_names-append earlier (OpOf name least more flags ∷ []) ∙ append-nil (rule_names earlier) in
-      subst Good (over rule_names rule_names-append earlier ss (OpOf name least more flags)) (good-rules (earlier ++ OpOf name least more flags ∷ []) ss h (subst Good (sym same) g))
-  good-rules earlier (KindOf name members ∷ ss) h g =
-      let same = rule_names-append earlier (KindOf name members ∷ []) ∙ append-nil (rule_names earlier) in
-      subst Good (over rule_names rule_names-append earlier ss (KindOf name members)) (good-rules (earlier ++ KindOf name members ∷ []) ss h (subst Good (sym same) g))
-  good-rules earlier (RuleOf name p ∷ ss) h g =
-      let q = nil-append (statement_faults sig earlier (RuleOf name p)) (faults_by (statement_faults sig) (earlier ++ RuleOf name p ∷ []) ss) h in
-      let r = nil-append (name_faults 1000 (rule_names earlier) (is_large_pattern p) name) (whole_pattern_faults sig p) q.0 in
-      let n = named-by 1000 (rule_names earlier) (is_large_pattern p) name r.0 in
-      subst Good (over rule_names rule_names-append earlier ss (RuleOf name p))
-      (good-rules (earlier ++ RuleOf name p ∷ []) ss q.1 (subst Good (sym (rule_names-append earlier (RuleOf name p ∷ []))) (good-push (rule_names earlier) name.text g n.other n.few)))
-  good-rules earlier (SubjectOf name t ∷ ss) h g =
-      let q = nil-append (statement_faults sig earlier (SubjectOf name t)) (faults_by (statement_faults sig) (earlier ++ SubjectOf name t ∷ []) ss) h in
-      let same = rule_names-append earlier (SubjectOf name t ∷ []) ∙ append-nil (rule_names earlier) in
-      subst Good (over rule_names rule_names-append earlier ss (SubjectOf name t)) (good-rules (earlier ++ SubjectOf name t ∷ []) ss q.1 (subst Good (sym same) g))
-
-  good-subjects : (earlier ss : List Statement) → faults_by (statement_faults sig) earlier ss ≡ [] → Good (subject_names earlier) → Good (subject_names earlier ++ subject_names ss)
-  good-subjects earlier [] h g = subst Good (sym (append-nil (subject_names earlier))) g
-  good-subjects earlier (OpOf name least more flags ∷ ss) h g =
-      let same = subject_names-append earlier (OpOf name least more flags ∷ []) ∙ append-nil (subject_names earlier) in
-      subst Good (over subject_names subject_names-append earlier ss (OpOf name least more flags)) (good-subjects (earlier ++ OpOf name least more flags ∷ []) ss h (subst Good (sym same) g))
-  good-subjects earlier (KindOf name members ∷ ss) h g =
-      let same = subject_names-append earlier (KindOf name members ∷ []) ∙ append-nil (subject_names earlier) in
-      subst Good (over subject_names subject_names-append earlier ss (KindOf name members)) (good-subjects (earlier ++ KindOf name members ∷ []) ss h (subst Good (sym same) g))
-  good-subjects earlier (RuleOf name p ∷ ss) h g =
-      let q = nil-append (statement_faults sig earlier (RuleOf name p)) (faults_by (statement_faults sig) (earlier ++ RuleOf name p ∷ []) ss) h in
-      let same = subject_names-append earlier (RuleOf name p ∷ []) ∙ append-nil (subject_names earlier) in
-      subst Good (over subject_names subject_names-append earlier ss (RuleOf name p)) (good-subjects (earlier ++ RuleOf name p ∷ []) ss q.1 (subst Good (sym same) g))
-  good-subjects earlier (SubjectOf name t ∷ ss) h g =
-      let q = nil-append (statement_faults sig earlier (SubjectOf name t)) (faults_by (statement_faults sig) (earlier ++ SubjectOf name t ∷ []) ss) h in
-      let r = nil-append (name_faults 1000 (subject_names earlier) (is_large_term t) name) (term_faults sig t) q.0 in
-      let n = named-by 1000 (subject_names earlier) (is_large_term t) name r.0 in
-      subst Good (over subject_names subject_names-append earlier ss (SubjectOf name t))
-      (good-subjects (earlier ++ SubjectOf name t ∷ []) ss q.1 (subst Good (sym (subject_names-append earlier (SubjectOf name t ∷ []))) (good-push (subject_names earlier) name.text g n.other n.few)))
-
--- ---- files
-
--- the file of statements without faults is sound
-pub sound-file : (ss : List Statement) → AreStatements ss → faults ss ≡ [] → IsSoundFile (file_tree_of ss)
-sound-file ss fit h =
-    let sig = sig_of ss in
-    let declared = nil-append (declaration_faults ss) (faults_by (statement_faults sig) [] ss) h in
-    let none : faults_by (statement_faults sig) [] ss ≡ [] = declared.1 in
-    let ordered : all_in_order (op_decls ss) ≡ true = all_in_order-op_decls [] ss (nil-append (faults_by op_statement_faults [] ss) (faults_by (kind_statement_faults (op_decls ss)) [] ss) declared.0).0 in
-    let rules = good-rules sig [] ss none (record { distinct = refl; few = omega arith }) in
-    let subjects = good-subjects sig [] ss none (record { distinct = refl; few = omega arith }) in
-    record {
-      patterns = sound-rules sig ordered [] ss fit none;
-      terms = sound-subjects sig ordered [] ss fit none;
-      rule_names = rw (names-rules_of sig ss) rules.distinct;
-      subject_names = rw (names-subjects_of sig ss) subjects.distinct;
-      few_rules = omega (arith, rules.few, length-map (rules_of sig ss) (λ r. r.name), ap length (names-rules_of sig ss));
-      few_subjects = omega (arith, subjects.few, length-map (subjects_of sig ss) (λ s. s.name), ap length (names-subjects_of sig ss));
-    }
-
--- the file of bytes is sound
-pub IsSoundFile-IsFileOf : (bytes : List ℕ) (f : FileTree) → IsFileOf bytes f → IsSoundFile f
-IsSoundFile-IsFileOf bytes f h = subst IsSoundFile (sym h.file) (sound-file h.statements h.syntax.fits h.faultless)
-
--- a file that is read is sound
-pub IsSoundFile-ReadGives : (bytes : List ℕ) (r : Result code_file.File TextError) → ReadGives bytes r → IfOk r (λ f. IsSoundFile (file_tree f))
-IsSoundFile-ReadGives bytes (Ok f) h = IsSoundFile-IsFileOf bytes (file_tree f) h
-IsSoundFile-ReadGives bytes (Err e) h = tt

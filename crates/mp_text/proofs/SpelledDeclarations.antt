@@ -34,11 +34,11 @@ use Rattle.mp_text.proofs.SpelledHead.{HasOpNames, IsSomeSign, IsSymbolOf, symbo
 -- ---- numbers
 
 -- digits that are a word and write the number
-record Writes (n : ℕ) (digits : List ℕ) : Type 0 where
-  value : number_of digits ≡ n
-  are_digits : list_all is_ascii_digit digits ≡ true
-  some : digits ≢ []
-  word : AreWordBytes digits
+pub record Writes (n : ℕ) (digits : List ℕ) : Type 0 where
+  pub value : number_of digits ≡ n
+  pub are_digits : list_all is_ascii_digit digits ≡ true
+  pub some : digits ≢ []
+  pub word : AreWordBytes digits
 
 -- digits in two parts
 number_after-append : (n : ℕ) (front back : List ℕ) → number_after n (front ++ back) ≡ number_after (number_after n front) back
@@ -73,15 +73,15 @@ writes-decimal = decimal_by_steps Writes one more
           word = list_all-append is_word_byte ds ((48 + n % 10) ∷ []) ∙ rw (w.word, word-digit (48 + n % 10) digit) refl;
         }
 
--- a least count as it is written
-record IsWrittenCount (n : ℕ) : Type 0 where
-  writes : Writes n (decimal n)
-  short : length (decimal n) ≤ 64
+-- a number as it is written
+pub record IsWrittenNumber (n : ℕ) : Type 0 where
+  pub writes : Writes n (decimal n)
+  pub short : length (decimal n) ≤ 64
 
-count-written : (n : ℕ) → n ≤ 1000 → IsWrittenCount n
-count-written n small =
+pub number-written : (n : ℕ) → n ≤ 1000000 → IsWrittenNumber n
+number-written n small =
     let few : n < 2 ^ 64 = omega arith in
-    let short : length (decimal n) ≤ 4 = length-decimal-le 4 n (omega arith) (omega arith) few in
+    let short : length (decimal n) ≤ 7 = length-decimal-le 7 n (omega arith) (omega arith) few in
     record { writes = writes-decimal n few; short = omega arith }
 
 -- ---- flags
@@ -133,7 +133,7 @@ pub record IsDeclaredOp (d : OpDecl) : Type 0 where
 pub op_decl-op_spelling : (d : OpDecl) → d.least ≤ 1000 → op_decl (piece d.name) (piece (decimal d.least)) (not d.fixed) (op_flags d) ≡ d
 op_decl-op_spelling d small =
     let flags = say-flags d.assoc d.comm d.one d.sign in
-    let count = (count-written d.least small).writes.value in
+    let count = (number-written d.least (omega arith)).writes.value in
     let signs = ap (option_map (λ s. s.text)) flags.sign ∙ text-piece d.sign in
     λ i. record { name = d.name; least = count i; fixed = not-not d.fixed i; assoc = flags.assoc i; comm = flags.comm i; one = flags.one i; sign = signs i }
 
@@ -151,12 +151,12 @@ HaveSigns-op_flags d h = HaveSigns-flag_if d.assoc Assoc _ tt (HaveSigns-flag_if
 -- its words are names and its sign is one
 pub StatementHasNames-op_spelling : (d : OpDecl) → IsDeclaredOp d → StatementHasNames (op_spelling d)
 StatementHasNames-op_spelling d h =
-    let count = count-written d.least h.small in
+    let count = number-written d.least (omega (arith, h.small)) in
     (h.names.name, record { is_word = record { some = count.writes.some; bytes = count.writes.word }; is_short = count.short }, HaveSigns-op_flags d h.names.sign)
 
 -- its number is of digits
 pub FitsStatement-op_spelling : (d : OpDecl) → IsDeclaredOp d → FitsStatement (op_spelling d)
-FitsStatement-op_spelling d h = (count-written d.least h.small).writes.are_digits
+FitsStatement-op_spelling d h = (number-written d.least (omega (arith, h.small))).writes.are_digits
 
 -- a test that fails wherever another one does
 none-also : {X : Type 0} (p q : X → Bool) → ((x : X) → p x ≡ false → q x ≡ false) → (xs : List X) → list_any p xs ≡ false → list_any q xs ≡ false
@@ -186,7 +186,7 @@ none-op_faults ds d h apart few =
     let name = piece d.name in
     let least = piece (decimal d.least) in
     let others : is_among d.name (map (λ c. c.name) ds) ≡ false = sym (is_among-has_name d.name ds) ∙ none-also (clashes d) (has_name d.name) (λ c a. (or-second (has_name d.name c) (shares_sign d.sign c) a).0) ds apart in
-    let count : number_of (decimal d.least) ≡ d.least = (count-written d.least h.small).writes.value in
+    let count : number_of (decimal d.least) ≡ d.least = (number-written d.least (omega (arith, h.small))).writes.value in
     let room : length (map (λ c. c.name) ds) < 256 = omega (arith, length-map ds (λ c. c.name)) in
     let bound : number_of (decimal d.least) ≤ 1000 = omega (arith, count, h.small) in
     let large : ltb 1000 (number_of (decimal d.least)) ≡ false = search (rules, bound) in

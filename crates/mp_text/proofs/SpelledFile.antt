@@ -1,6 +1,6 @@
 -- The statements of a file that was read stand for that file and have no faults, so that its printed text is read as that file.
-use Rattle.std.proofs.Common.{◌≡◌, ◌≤◌, ◌<◌, ℕ, Bool, true, false, not, ltb, List, [], ◌∷◌, ◌++◌, map, length, None, refl, sym, ap, subst, ◌∙◌, arith, length-append, append-nil, append_assoc, rules}
-use Rattle.std.specs.Prelude.{codes}
+use Rattle.std.proofs.Common.{◌≡◌, ◌≤◌, ◌<◌, ℕ, Bool, true, false, not, ltb, ◌||◌, ◌&&◌, List, [], ◌∷◌, ◌++◌, map, length, Some, None, refl, sym, ap, subst, ◌∙◌, arith, length-append, append-nil, append_assoc, rules}
+use Rattle.std.specs.Prelude.{Option, option_map, codes}
 use Rattle.std.specs.List.{list_all, list_any, AllByRecursion}
 use Rattle.std.specs.Str.{bytes_eq}
 use Rattle.std.proofs.lemmas.List.{map-id, map-append, length-map}
@@ -11,42 +11,42 @@ use Rattle.mp_term.specs.Signature.{Sig, Kind, all_in_order, clashes, none_clash
 use Rattle.mp_term.specs.Normal.{normal}
 use Rattle.mp_term.proofs.NormalTestLaws.{not_false}
 use Rattle.mp_pattern.specs.Normal.{normal_pattern}
+use Rattle.mp_pattern.specs.CondTree.{Cond}
 use Rattle.mp_pattern.specs.Admission.{Rule}
 use Rattle.mp_pattern.proofs.SortedLaws.{all-append}
-use Rattle.mp_syntax.specs.Syntax.{Statement, AreStatements, IsName, StatementsHaveNames}
+use Rattle.mp_syntax.specs.Syntax.{Spot, Tree, Condition, Statement, RuleOf, AreStatements, IsName, StatementsHaveNames}
 use Rattle.mp_syntax.proofs.Whole.{syntax-names}
 use Rattle.mp_text.specs.declared.fault.TextFault.{TextFault}
 use Rattle.mp_text.specs.Subject.{Subject}
 use Rattle.mp_text.specs.File.{FileTree}
-use Rattle.mp_text.specs.Build.{op_decls, kind_decls, sig_with, sig_of, term_of, pattern_of, rule_of, rules_of, subject_of, subjects_of, file_over, file_tree_of}
+use Rattle.mp_text.specs.Build.{op_decls, kind_decls, sig_with, sig_of, term_of, pattern_of, subject_of, subjects_of}
+use Rattle.mp_text.specs.FileBuild.{rule_of, rules_of, file_over, file_tree_of}
 use Rattle.mp_text.specs.Checks.{nodes, is_large_pattern, is_large_term, term_faults, pattern_faults, loose_faults, whole_pattern_faults, name_faults, op_statement_faults, kind_statement_faults, declaration_faults, faults_by}
-use Rattle.mp_text.specs.FileChecks.{statement_faults, faults}
+use Rattle.mp_text.specs.FileChecks.{rule_faults, statement_faults, faults}
+use Rattle.mp_text.specs.Scope.{Variable, pattern_variables}
+use Rattle.mp_text.specs.ConditionChecks.{has_large_condition, if_faults}
 use Rattle.mp_text.specs.Names.{is_among, rule_names, subject_names, variable_names}
 use Rattle.mp_text.specs.PrintedFile.{file_text}
 use Rattle.mp_text.specs.Reading.{IsFileOf}
 use Rattle.mp_text.specs.Sound.{IsSoundPattern, IsSoundTerm, IsSoundFile}
-use Rattle.mp_text.specs.Spelled.{piece, term_spelling, pattern_spelling, op_spelling, kind_spelling, rule_spelling, subject_spelling, file_spelling}
+use Rattle.mp_text.specs.Spelled.{piece, term_spelling, pattern_spelling, cond_spelling, op_spelling, kind_spelling, rule_spelling, subject_spelling, file_spelling}
 use Rattle.mp_text.proofs.Declared.{bytes_eq_comm, op_decls-append, kind_decls-append, rules_of-append, subjects_of-append}
-use Rattle.mp_text.proofs.Faultless.{nil-append, nil-both}
+use Rattle.mp_text.proofs.Faultless.{nil-append, nil-both, or-second}
 use Rattle.mp_text.proofs.Words.{first-of, second-of}
 use Rattle.mp_text.proofs.Spelled.{file-again}
-use Rattle.mp_text.proofs.SoundLaws.{sound-file, rule_names-append, subject_names-append}
-use Rattle.mp_text.proofs.SpelledHead.{HasOpNames, HasOps}
+use Rattle.mp_text.proofs.SoundLaws.{sound-pattern}
+use Rattle.mp_text.proofs.SoundFile.{sound-file, rule_names-append, subject_names-append}
+use Rattle.mp_text.proofs.SpelledHead.{all-map, all-also, HasOpNames, HasOps}
 use Rattle.mp_text.proofs.SpelledTerm.{has_large_default-term_spelling, HasSymbols, HasSymbols-term_of, HasSymbols-normal, term_of-term_spelling, term_faults-term_spelling, HasNames-term_spelling, Fits-term_spelling, nodes-term_spelling}
 use Rattle.mp_text.proofs.SpelledPattern.{IsSpelled, IsSpelled-pattern_of, IsSpelled-normal_pattern, pattern_of-pattern_spelling, whole_pattern_faults-pattern_spelling, HasNames-pattern_spelling, Fits-pattern_spelling, has_large_default-pattern_spelling, nodes-pattern_spelling, variable_names-pattern_spelling}
-use Rattle.mp_text.proofs.Places.{file_tree_of-unplaced, no_faults-unplaced}
+use Rattle.mp_text.proofs.PlacedFaults.{no_faults-unplaced}
+use Rattle.mp_text.proofs.Places.{file_tree_of-unplaced}
+use Rattle.mp_text.proofs.SpelledScope.{some-pattern_spelling}
+use Rattle.mp_text.proofs.SpelledCondition.{IsReadCondition, IsReadCondition-condition_of}
 use Rattle.mp_text.proofs.SpelledDeclarations.{IsDeclaredOp, IsDeclaredKind, op_decl-op_spelling, kind_decl-kind_spelling, none-name_faults, none-op_faults, none-kind_faults, StatementHasNames-op_spelling, FitsStatement-op_spelling, StatementHasNames-kind_spelling, FitsStatement-kind_spelling}
 use Rattle.mp_text.proofs.ReadFile.{IsRead, all-IsRead, AreDeclaredOps-op_decls, AreDeclaredKinds-kind_decls, all-rules_of}
 
 -- ---- lists
-
-all-map : {X Y : Type 0} (P : X → Type 0) (Q : Y → Type 0) (f : X → Y) → ((x : X) → P x → Q (f x)) → (xs : List X) → AllByRecursion P xs → AllByRecursion Q (map f xs)
-all-map P Q f each [] h = tt
-all-map P Q f each (x ∷ xs) h = (each x h.0, all-map P Q f each xs h.1)
-
-all-also : {X : Type 0} (P Q : X → Type 0) → ((x : X) → P x → Q x) → (xs : List X) → AllByRecursion P xs → AllByRecursion Q xs
-all-also P Q each [] h = tt
-all-also P Q each (x ∷ xs) h = (each x h.0, all-also P Q each xs h.1)
 
 all-both : {X : Type 0} (P Q : X → Type 0) (xs : List X) → AllByRecursion P xs → AllByRecursion Q xs → AllByRecursion (λ x. P x × Q x) xs
 all-both P Q [] h k = tt
@@ -126,12 +126,12 @@ module _ {X : Type 0} (rule : List Statement → Statement → List TextFault) (
 
 -- ---- files
 
--- a rule as it is read: its name and its pattern alone
+-- a rule as it is read: its name, its pattern and perhaps a condition
 record IsReadRule (sig : Sig) (r : Rule) : Type 0 where
   name : IsName r.name
   pattern : IsSpelled sig r.pattern
   template : r.template ≡ None
-  condition : r.condition ≡ None
+  condition : IsReadCondition sig (pattern_variables (pattern_spelling sig r.pattern)) r.condition
 
 -- a subject as it is read
 record IsReadSubject (sig : Sig) (s : Subject) : Type 0 where
@@ -148,6 +148,28 @@ record IsReadFile (f : FileTree) : Type 0 where
   sound : IsSoundFile f
   no_edits : f.edits ≡ []
 
+-- the operations of a signature have names and signs
+HasOps-IsSignature : (sig : Sig) → IsSignature sig → AllByRecursion IsDeclaredOp sig.ops → HasOps sig
+HasOps-IsSignature sig h ops = record { apart = h.ops_distinct; named = all-also IsDeclaredOp HasOpNames (λ d own. own.names) sig.ops ops }
+
+-- a rule without faults
+read-rule_of : (sig : Sig) → HasOps sig → all_in_order sig.ops ≡ true → (name : Spot) (p : Tree) (c : Option Condition) → IsRead (RuleOf name p c) → (is_large_pattern p || has_large_condition c) ≡ false → rule_faults sig p c ≡ []
+    → IsReadRule sig (rule_of sig name p c)
+read-rule_of sig has ordered name p c read small none =
+    let o = or-second (is_large_pattern p) (has_large_condition c) small in
+    let vs = pattern_variables p in
+    let q = nil-append (whole_pattern_faults sig p) (if_faults sig (Some vs) c) none in
+    let again = normal_pattern sig (pattern_of sig p) in
+    let spelled = IsSpelled-normal_pattern sig ordered (pattern_of sig p) (IsSpelled-pattern_of sig ordered [] p read.names.1 (nil-append (loose_faults p) (pattern_faults sig [] p) q.0).1) in
+    let shallow = (sound-pattern sig ordered p o.0 q.0 read.fits.0).shallow in
+    let alike = λ (test : Variable → Bool). some-pattern_spelling test sig has p read.names.1 read.fits.0 spelled shallow in
+    record {
+      name = read.names.0;
+      pattern = spelled;
+      template = refl;
+      condition = IsReadCondition-condition_of sig has ordered vs (pattern_variables (pattern_spelling sig again)) (λ x. alike (λ v. bytes_eq x v.name)) (λ x. alike (λ v. bytes_eq x v.name && v.is_sequence)) c read.names.2 read.fits.1 q.1 o.1;
+    }
+
 read-file : (ss : List Statement) → StatementsHaveNames ss → AreStatements ss → faults ss ≡ [] → IsReadFile (file_tree_of ss)
 read-file ss names fits h =
     let sig = sig_of ss in
@@ -158,10 +180,10 @@ read-file ss names fits h =
     let kinds = AreDeclaredKinds-kind_decls (op_decls ss) ss read q.1 ops in
     let ordered : all_in_order sig.ops ≡ true = ops.signature.ops_in_order in
     let all = all-rules_of sig (IsReadRule sig) (IsReadSubject sig)
-    (λ name p n names fits none. record { name = n; pattern = IsSpelled-normal_pattern sig ordered (pattern_of sig p) (IsSpelled-pattern_of sig ordered [] p names (nil-append (loose_faults p) (pattern_faults sig [] p) none).1); template = refl; condition = refl })
+    (read-rule_of sig (HasOps-IsSignature sig kinds.signature ops.each) ordered)
     (λ name t n names none. record { name = n; term = HasSymbols-normal sig (term_of sig t) (HasSymbols-term_of sig t names none) })
     ss read p.1 in
-    record { signature = kinds.signature; ops = ops.each; kinds = kinds.each; rules_read = all.0; subjects_read = all.1; sound = sound-file ss fits h; no_edits = refl }
+    record { signature = kinds.signature; ops = ops.each; kinds = kinds.each; rules_read = all.0; subjects_read = all.1; sound = sound-file ss names fits h; no_edits = refl }
 
 -- the file of bytes is one that is read
 read-IsFileOf : (bytes : List ℕ) (f : FileTree) → IsFileOf bytes f → IsReadFile f
@@ -171,7 +193,7 @@ read-IsFileOf bytes f h = subst IsReadFile (sym h.file) (read-file h.statements 
 
 module _ (f : FileTree) (h : IsReadFile f) where
   has-ops : HasOps f.sig
-  has-ops = record { apart = h.signature.ops_distinct; named = all-also IsDeclaredOp HasOpNames (λ d own. own.names) f.sig.ops h.ops }
+  has-ops = HasOps-IsSignature f.sig h.signature h.ops
 
   abbrev IsRuleHere : Rule → Type 0
   IsRuleHere r = IsReadRule f.sig r × IsSoundPattern f.sig r.pattern
@@ -205,10 +227,14 @@ module _ (f : FileTree) (h : IsReadFile f) where
   kinds-again : kind_decls kinds ≡ f.sig.kinds
   kinds-again = given-each kind_decls kind_spelling refl (IsDeclaredKind f.sig.ops) (λ k. k) (λ k ss own. ap (λ e. e ∷ kind_decls ss) (kind_decl-kind_spelling k own.ascend)) f.sig.kinds h.kinds ∙ map-id f.sig.kinds
 
-  rule-again : (r : Rule) → IsRuleHere r → rule_of f.sig (piece r.name) (pattern_spelling f.sig r.pattern) ≡ r
+  -- the condition of a rule as it is spelled
+  abbrev spelled_condition : Option Cond → Option Condition
+  spelled_condition o = option_map (cond_spelling f.sig) o
+
+  rule-again : (r : Rule) → IsRuleHere r → rule_of f.sig (piece r.name) (pattern_spelling f.sig r.pattern) (spelled_condition r.condition) ≡ r
   rule-again r own =
       let same = ap (normal_pattern f.sig) (pattern_of-pattern_spelling f.sig has-ops r.pattern own.0.pattern) ∙ own.1.normal in
-      λ i. record { name = r.name; pattern = same i; template = sym own.0.template i; condition = sym own.0.condition i }
+      λ i. record { name = r.name; pattern = same i; template = sym own.0.template i; condition = own.0.condition.again i }
 
   subject-again : (s : Subject) → IsSubjectHere s → subject_of f.sig (piece s.name) (term_spelling f.sig s.term) ≡ s
   subject-again s own =
@@ -295,9 +321,12 @@ module _ (f : FileTree) (h : IsReadFile f) where
       let nodes_small : ltb 64 (nodes p) ≡ false = search (rules, nodes_few) in
       let names_small : ltb 32 (length (variable_names p)) ≡ false = search (rules, names_few) in
       let small : is_large_pattern p ≡ false = rw (nodes_small, names_small) (has_large_default-pattern_spelling f.sig has-ops r.pattern own.0.pattern own.1.small_defaults) in
-      nil-both (name_faults 1000 (rule_names earlier) (is_large_pattern p) (piece r.name)) (whole_pattern_faults f.sig p)
-      (none-name_faults 1000 (rule_names earlier) (is_large_pattern p) r.name (new-name (rule_names earlier) r.name ns differ) few small)
-      (whole_pattern_faults-pattern_spelling f.sig has-ops r.pattern own.0.pattern own.1.no_clash own.1.plain_root)
+      let c = spelled_condition r.condition in
+      let large = is_large_pattern p || has_large_condition c in
+      let condition_small : has_large_condition c ≡ false = own.0.condition.small in
+      nil-both (name_faults 1000 (rule_names earlier) large (piece r.name)) (whole_pattern_faults f.sig p ++ if_faults f.sig (Some (pattern_variables p)) c)
+      (none-name_faults 1000 (rule_names earlier) large r.name (new-name (rule_names earlier) r.name ns differ) few (rw (small, condition_small) refl))
+      (nil-both (whole_pattern_faults f.sig p) (if_faults f.sig (Some (pattern_variables p)) c) (whole_pattern_faults-pattern_spelling f.sig has-ops r.pattern own.0.pattern own.1.no_clash own.1.plain_root) own.0.condition.faultless)
 
   none-subject : (earlier : List Statement) (s : Subject) (ns : List Text) → IsSubjectHere s → are_distinct (subject_names earlier ++ s.name ∷ ns) ≡ true → length (subject_names earlier) < 1000 → statement_faults f.sig earlier (subject_spelling f.sig s) ≡ []
   none-subject earlier s ns own differ few =
@@ -344,7 +373,7 @@ module _ (f : FileTree) (h : IsReadFile f) where
   -- ---- its statements are those of the grammar
 
   read-rule : (r : Rule) → IsRuleHere r → IsRead (rule_spelling f.sig r)
-  read-rule r own = record { names = (own.0.name, HasNames-pattern_spelling f.sig has-ops r.pattern own.0.pattern); fits = Fits-pattern_spelling f.sig has-ops r.pattern 100 own.0.pattern own.1.shallow }
+  read-rule r own = record { names = (own.0.name, HasNames-pattern_spelling f.sig has-ops r.pattern own.0.pattern, own.0.condition.names); fits = (Fits-pattern_spelling f.sig has-ops r.pattern 100 own.0.pattern own.1.shallow, own.0.condition.fits) }
 
   read-subject : (s : Subject) → IsSubjectHere s → IsRead (subject_spelling f.sig s)
   read-subject s own = record { names = (own.0.name, HasNames-term_spelling f.sig has-ops s.term own.1.formed own.0.term); fits = Fits-term_spelling f.sig has-ops s.term 100 own.1.formed own.1.shallow }

@@ -1,5 +1,5 @@
 -- An operation that is held is found by its name and by its sign, so that an application of it is read as it is spelled.
-use Rattle.std.proofs.Common.{◌≡◌, ℕ, zero, suc, ◌+◌, Bool, true, false, cond, leb, not, List, [], ◌∷◌, ◌++◌, length, Option, Some, None, refl, sym, ap, subst, ◌∙◌, arith, add-one}
+use Rattle.std.proofs.Common.{◌≡◌, ℕ, zero, suc, ◌+◌, Bool, true, false, cond, leb, not, List, [], ◌∷◌, ◌++◌, length, map, Option, Some, None, refl, sym, ap, subst, ◌∙◌, arith, add-one}
 use Rattle.std.specs.Prelude.{slice_get, option_map, position, is_some}
 use Rattle.std.specs.List.{list_all, AllByRecursion}
 use Rattle.std.specs.Str.{bytes_eq}
@@ -29,6 +29,16 @@ pub all-at : {X : Type 0} (P : X → Type 0) (xs : List X) (i : ℕ) (x : X) →
 all-at P [] i x all here = cc
 all-at P (y ∷ xs) zero x all here = let same : y ≡ x = cc in subst P same all.0
 all-at P (y ∷ xs) (suc i) x all here = all-at P xs i x all.1 here
+
+-- what holds of each item gives what holds of each image
+pub all-map : {X Y : Type 0} (P : X → Type 0) (Q : Y → Type 0) (f : X → Y) → ((x : X) → P x → Q (f x)) → (xs : List X) → AllByRecursion P xs → AllByRecursion Q (map f xs)
+all-map P Q f each [] h = tt
+all-map P Q f each (x ∷ xs) h = (each x h.0, all-map P Q f each xs h.1)
+
+-- what holds of each item gives another fact of it
+pub all-also : {X : Type 0} (P Q : X → Type 0) → ((x : X) → P x → Q x) → (xs : List X) → AllByRecursion P xs → AllByRecursion Q xs
+all-also P Q each [] h = tt
+all-also P Q each (x ∷ xs) h = (each x h.0, all-also P Q each xs h.1)
 
 -- ---- operations that don't clash
 

@@ -1,13 +1,11 @@
 -- A pattern is read again as it is spelled, where its operations allow as many arguments as it may take, and so is its normal form.
-use Rattle.std.proofs.Common.{◌≡◌, ◌≢◌, ◌⊎◌, inl, inr, ℕ, zero, suc, ◌+◌, ◌≤◌, ◌<◌, Bool, true, false, ◌&&◌, ◌||◌, not, cond, leb, ltb, eqb, List, [], ◌∷◌, ◌++◌, map, length, Option, Some, None, option_map, unwrap_or, refl, sym, ap, subst, ◌∙◌, arith, length-append, eqb-true, add-one}
-use Rattle.std.specs.Prelude.{flat_map, slice_get, position, is_none, nat_eq, if◌then◌else◌}
+use Rattle.std.proofs.Common.{◌≡◌, ◌⊎◌, inl, inr, ℕ, zero, suc, ◌+◌, ◌≤◌, Bool, true, false, ◌&&◌, ◌||◌, not, cond, leb, List, [], ◌∷◌, ◌++◌, map, length, Option, Some, None, unwrap_or, refl, sym, ap, subst, ◌∙◌, arith, length-append, eqb-true}
+use Rattle.std.specs.Prelude.{flat_map, slice_get, nat_eq, if◌then◌else◌}
 use Rattle.std.specs.Ordering.{is_gt}
 use Rattle.std.specs.declared.cmp.Ordering.{Ordering}
 use Rattle.std.specs.List.{list_any, AllByRecursion}
 use Rattle.std.proofs.Math.Nat.{add_left_comm}
-use Rattle.std.specs.Str.{bytes_eq}
-use Rattle.std.proofs.lemmas.Slice.Eq.{bytes_eq-Decides}
-use Rattle.std.proofs.lemmas.Bool.{eq-eqb, false≢true, leb-true, le-leb, or_cases, or_left, or_right}
+use Rattle.std.proofs.lemmas.Bool.{false≢true, leb-true, le-leb, or_cases, or_left, or_right}
 use Rattle.std.proofs.lemmas.List.{length-map, map-append}
 use Rattle.std.proofs.lemmas.List.Folds.{list_any-append}
 use Rattle.mp_term.specs.declared.signature.OpDecl.{OpDecl}
@@ -15,7 +13,6 @@ use Rattle.mp_term.specs.Sorting.{insert_sorted, sorted}
 use Rattle.mp_term.specs.Signature as signature
 use Rattle.mp_term.specs.Signature.{Sig, kind_names, holds_of, all_in_order, is_assoc, is_comm, is_one}
 use Rattle.mp_term.proofs.Sorting.{length-sorted}
-use Rattle.mp_term.proofs.SignatureLaws.{position-behind, position-first}
 use Rattle.mp_term.proofs.NormalTestLaws.{not_false}
 use Rattle.mp_term.specs.Normal.{normal}
 use Rattle.mp_term.proofs.NormalSize.{normal-normal}
@@ -24,31 +21,25 @@ use Rattle.mp_pattern.specs.Limits.{DefaultsAreSmall, AllDefaultsAreSmall}
 use Rattle.mp_pattern.specs.PatternTree as pattern
 use Rattle.mp_pattern.specs.PatternTree.{Pattern, symbol_pattern, app_pattern, wild_pattern, Patterns, no_patterns, more_patterns, pattern_list, patterns}
 use Rattle.mp_pattern.specs.PatternLists.{pattern_list-patterns}
-use Rattle.mp_pattern.specs.Size.{pattern_nodes, all_pattern_nodes}
+use Rattle.mp_pattern.specs.Size.{pattern_nodes}
 use Rattle.mp_pattern.specs.Order.{pattern_cmp}
 use Rattle.mp_pattern.specs.Normal.{unwrapped, is_loose, parts, flattened, in_order, collapsed, normal_pattern, normal_patterns}
 use Rattle.mp_pattern.specs.Subpatterns.{subpatterns, all_subpatterns}
 use Rattle.mp_pattern.specs.Clash.{first_clash}
-use Rattle.mp_pattern.proofs.ClashLaws.{Agree}
 use Rattle.mp_pattern.specs.Variables.{variables}
 use Rattle.mp_pattern.proofs.SortedLaws.{all-flat_map}
 use Rattle.mp_pattern.proofs.NormalLaws.{all-in_order}
-use Rattle.mp_syntax.specs.Tokens.{first_place}
-use Rattle.mp_syntax.specs.Syntax as syntax
-use Rattle.mp_syntax.specs.Syntax.{Tree, Symbol, Apply, InfixOf, Wild, Optional, Trees, no_trees, more_trees, tree_list, Fits, AreFit, IsName, HasNames, HaveNames}
+use Rattle.mp_syntax.specs.Syntax.{Tree, Symbol, Apply, InfixOf, Wild, Variable, Trees, no_trees, more_trees, tree_list, Fits, AreFit, HasNames, HaveNames, Optional}
 use Rattle.mp_text.specs.Names.{variable_names}
+use Rattle.mp_text.specs.Build.{op_number, sign_number, head_number, variable_of, pattern_of, patterns_of, term_of}
+use Rattle.mp_text.specs.Checks.{fault_if, nodes, loose_faults, may_take_more, fewest, may_reach, allows_patterns, op_named, op_signed, head_faults, arity_faults, sign_faults, kind_unknown, wildcard_faults, pattern_faults, pattern_operand_faults, all_pattern_faults, whole_pattern_faults, has_large_default, some_large_default, may_take_none, term_wildcard_faults, term_faults, default_faults}
 use Rattle.mp_text.specs.Wildcards.{PatternWildcard, without_default, with_default_form, pattern_wildcards, all_pattern_wildcards, differs}
 use Rattle.mp_text.specs.Depth.{pattern_depth, greatest_pattern_depth}
-use Rattle.mp_text.specs.Build.{op_number, sign_number, head_number, kind_number, kind_shape, variable_of, term_of, pattern_of, patterns_of}
-use Rattle.mp_text.specs.Checks.{fault_if, nodes, has_large_default, some_large_default, loose_faults, may_take_none, may_take_more, fewest, may_reach, allows_patterns, op_named, op_signed, head_faults, arity_faults, sign_faults, kind_unknown, term_wildcard_faults, term_faults, default_faults, wildcard_faults, pattern_faults, pattern_operand_faults, all_pattern_faults, whole_pattern_faults}
-use Rattle.mp_io.specs.Devices.{Text}
-use Rattle.mp_text.specs.declared.fault.TextKind.TheVariants.{UnknownKind, KindClash}
-use Rattle.mp_text.specs.PrintedFile.{kind_name_text}
-use Rattle.mp_text.specs.Spelled.{held_spelling, wildcard_spelling, pattern_spelling, pattern_spellings}
+use Rattle.mp_text.specs.Spelled.{held_spelling, pattern_spelling, pattern_spellings}
 use Rattle.mp_text.proofs.Words.{both, first-of, second-of}
-use Rattle.mp_text.proofs.Faultless.{nil-append, nil-both, nil-fault_if, none-fault_if}
+use Rattle.mp_text.proofs.Faultless.{nil-append, nil-both, nil-fault_if}
 use Rattle.mp_text.proofs.Clashes.{Apart, Apart-split, Apart-first_clash, wilds, wilds-append, nil-pattern_operands}
-use Rattle.mp_text.proofs.Places.{fewest-cons}
+use Rattle.mp_text.proofs.PlacedFaults.{fewest-cons}
 use Rattle.mp_text.proofs.SoundLaws.{Found, found-head, found-infix, well_formed-term_of, pattern_nodes-pattern_of, variables-pattern_of}
 use Rattle.mp_text.proofs.SpelledWildcard.{IsReadDefault, IsReadWildcard, IsVariable, IsReadWildcard-kind_shape, IsVariable-variable_of, mark, differs-Agree, may_take_none-kind_shape, may_take_more-kind_shape, pattern_of-wildcard_spelling, pattern_wildcards-wildcard_spelling, pattern_faults-wildcard_spelling, HasNames-wildcard_spelling, Fits-wildcard_spelling, has_large_default-wildcard_spelling}
 use Rattle.mp_text.proofs.SpelledTerm.{HasSymbols-term_of, HasSymbols-normal}
@@ -166,6 +157,7 @@ module _ (sig : Sig) where
   may_take_none-pattern_of (InfixOf opened sign operands) h = may_take_none-held_spelling (slice_get sig.ops (head_number (sign_number sig sign.text))) (pattern_spellings sig (patterns_of sig operands))
   may_take_none-pattern_of (Optional w others default) h = refl
   may_take_none-pattern_of (Wild w) h = may_take_none-kind_shape sig w.kind w.marks (unwrap_or (variable_of w.name) []) h.kind_behind_one
+  may_take_none-pattern_of (Variable x) h = refl
 
   -- the kind of a wildcard without faults is known
   known-wildcard_faults : (before : List PatternWildcard) (w : PatternWildcard) → wildcard_faults sig before w ≡ [] → kind_unknown sig w.wildcard.kind ≡ false
@@ -179,6 +171,7 @@ module _ (sig : Sig) where
   may_take_more-pattern_of assoc before (Optional w others default) h none = refl
   may_take_more-pattern_of assoc before (Wild w) h none =
       may_take_more-kind_shape sig assoc w.kind w.marks (unwrap_or (variable_of w.name) []) h.some_marks h.few_marks h.kind_behind_one (known-wildcard_faults before (without_default w) none)
+  may_take_more-pattern_of assoc before (Variable x) h none = refl
 
   length-patterns_of : (ts : Trees) → length (spelled (pattern_list (patterns_of sig ts))) ≡ length (tree_list ts)
   length-patterns_of no_trees = refl
@@ -233,6 +226,7 @@ module _ (sig : Sig) where
             symbols = HasSymbols-normal sig t (HasSymbols-term_of sig default names.2 none);
           } in
           (read, IsVariable-variable_of w.name names.0.name)
+      IsSpelled-pattern_of before (Variable x) names h = cc
 
       AreSpelled-patterns_of : (before : List PatternWildcard) (ts : Trees) → HaveNames ts → all_pattern_faults sig before ts ≡ [] → AreSpelled (patterns_of sig ts)
       AreSpelled-patterns_of before no_trees names h = tt

@@ -12,7 +12,7 @@ use Rattle.mp_term.specs.Signature.{Sig, holds_of, allows, is_assoc, is_comm, is
 use Rattle.mp_term.specs.Normal.{unwrapped, parts, flattened, in_order, collapsed, normal, normals}
 use Rattle.mp_term.proofs.NormalTestLaws.{both}
 use Rattle.mp_pattern.proofs.SortedLaws.{all-flat_map, all-sorted}
-use Rattle.mp_syntax.specs.Syntax.{Tree, Symbol, Apply, InfixOf, Wild, Optional, Trees, no_trees, more_trees, tree_list, HasNoDefault, Fits, AreFit, HasNames, HaveNames}
+use Rattle.mp_syntax.specs.Syntax.{Tree, Symbol, Apply, InfixOf, Wild, Variable, Trees, no_trees, more_trees, tree_list, Fits, AreFit, HasNames, HaveNames, Optional, HasNoDefault}
 use Rattle.mp_text.specs.Build.{term_of, terms_of}
 use Rattle.mp_text.specs.Checks.{fault_if, kind_unknown, nodes, has_large_default, some_large_default, op_named, op_signed, head_faults, arity_faults, sign_faults, term_faults, term_operand_faults, all_term_faults}
 use Rattle.mp_text.specs.Spelled.{term_spelling, term_spellings}
@@ -45,6 +45,7 @@ module _ (sig : Sig) where
         HaveSymbols-terms_of operands names.1 (nil-term_operands sig at_sign operands p.1).1
     HasSymbols-term_of (Wild w) names h = absurd (some-behind (fault_if (kind_unknown sig w.kind) _ w.place) _ h)
     HasSymbols-term_of (Optional w others default) names h = absurd (no-optional_term sig w others default h)
+    HasSymbols-term_of (Variable x) names h = cc
 
     HaveSymbols-terms_of : (ts : Trees) → HaveNames ts → all_term_faults sig ts ≡ [] → HaveSymbols (terms_of sig ts)
     HaveSymbols-terms_of no_trees names h = tt

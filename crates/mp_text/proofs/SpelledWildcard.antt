@@ -1,37 +1,18 @@
 -- A wildcard is read again as it is spelled, where its kind is held.
-use Rattle.std.proofs.Common.{◌≡◌, ◌≢◌, ◌⊎◌, inl, inr, ℕ, zero, suc, ◌+◌, ◌≤◌, ◌<◌, Bool, true, false, ◌&&◌, ◌||◌, not, cond, leb, ltb, eqb, List, [], ◌∷◌, ◌++◌, map, length, Option, Some, None, option_map, unwrap_or, refl, sym, ap, subst, ◌∙◌, arith, rules, length-append, eqb-true, add-one}
-use Rattle.std.specs.Prelude.{slice_get, position, is_none, nat_eq, if◌then◌else◌}
-use Rattle.std.specs.Ordering.{is_gt}
-use Rattle.std.specs.declared.cmp.Ordering.{Ordering}
-use Rattle.std.specs.List.{list_any, AllByRecursion}
-use Rattle.std.proofs.Math.Nat.{add_left_comm}
+use Rattle.std.proofs.Common.{◌≡◌, ◌≢◌, ℕ, zero, suc, ◌+◌, ◌≤◌, ◌<◌, Bool, true, false, ◌&&◌, ◌||◌, not, ltb, eqb, List, [], ◌∷◌, length, Option, Some, None, option_map, unwrap_or, refl, sym, ap, subst, ◌∙◌, arith, rules, add-one}
+use Rattle.std.specs.Prelude.{slice_get, position, is_none, if◌then◌else◌}
+use Rattle.std.specs.List.{list_any}
 use Rattle.std.specs.Str.{bytes_eq}
 use Rattle.std.proofs.lemmas.Slice.Eq.{bytes_eq-Decides}
-use Rattle.std.proofs.lemmas.Bool.{eq-eqb, false≢true, leb-true, le-leb, or_cases, or_left, or_right}
-use Rattle.std.proofs.lemmas.List.{length-map, map-append}
-use Rattle.std.proofs.lemmas.List.Folds.{list_any-append}
-use Rattle.mp_term.specs.declared.signature.OpDecl.{OpDecl}
-use Rattle.mp_term.specs.Sorting.{insert_sorted, sorted}
-use Rattle.mp_term.specs.Signature as signature
+use Rattle.std.proofs.lemmas.Bool.{eq-eqb}
 use Rattle.mp_term.specs.Tree as term
 use Rattle.mp_term.specs.Normal.{normal, IsNormal}
 use Rattle.mp_term.specs.Signature.{Sig, kind_names, well_formed}
-use Rattle.mp_term.proofs.Sorting.{length-sorted}
 use Rattle.mp_term.proofs.SignatureLaws.{position-behind, position-first}
-use Rattle.mp_term.proofs.NormalTestLaws.{not_false}
 use Rattle.mp_pattern.specs.PatternTree as pattern
 use Rattle.mp_pattern.specs.PatternTree.{Pattern, symbol_pattern, app_pattern, wild_pattern, Patterns, no_patterns, more_patterns, pattern_list, patterns}
-use Rattle.mp_pattern.specs.PatternLists.{pattern_list-patterns}
-use Rattle.mp_pattern.specs.Size.{pattern_nodes, all_pattern_nodes}
-use Rattle.mp_pattern.specs.Order.{pattern_cmp}
-use Rattle.mp_pattern.specs.Normal.{unwrapped, is_loose, parts, flattened, in_order, collapsed, normal_pattern, normal_patterns}
-use Rattle.mp_pattern.specs.Subpatterns.{subpatterns, all_subpatterns}
-use Rattle.mp_pattern.specs.Clash.{first_clash}
 use Rattle.mp_pattern.specs.Limits.{DefaultIsSmall}
 use Rattle.mp_pattern.proofs.ClashLaws.{same_shape-itself, Agree}
-use Rattle.mp_pattern.specs.Variables.{variables}
-use Rattle.mp_pattern.proofs.SortedLaws.{all-flat_map}
-use Rattle.mp_pattern.proofs.NormalLaws.{all-in_order}
 use Rattle.mp_syntax.specs.Tokens.{first_place}
 use Rattle.mp_syntax.specs.Syntax as syntax
 use Rattle.mp_syntax.specs.Syntax.{Fits, IsName, HasParts, HasNames}
@@ -42,7 +23,7 @@ use Rattle.mp_syntax.proofs.Trees.{wild-fits, optional-fits}
 use Rattle.mp_text.specs.Depth.{wildcard_depth}
 use Rattle.mp_io.specs.Devices.{Text}
 use Rattle.mp_text.specs.declared.fault.TextKind.TheVariants.{UnknownKind, KindClash}
-use Rattle.mp_text.specs.PrintedFile.{kind_name_text}
+use Rattle.mp_text.specs.Printing.{kind_name_text}
 use Rattle.mp_text.specs.Spelled.{wildcard_piece, term_spelling, wildcard_spelling}
 use Rattle.mp_text.proofs.Words.{both}
 use Rattle.mp_text.proofs.Faultless.{nil-both, none-fault_if}
@@ -54,7 +35,7 @@ use Rattle.mp_text.proofs.SpelledTerm.{HasSymbols, HasNoDefault-term_spelling, h
 -- ---- kinds
 
 -- the first name that is this one is this one
-position-name : (name : Text) (names : List Text) (k : ℕ) → position (bytes_eq name) names ≡ Some k → slice_get names k ≡ Some name
+pub position-name : (name : Text) (names : List Text) (k : ℕ) → position (bytes_eq name) names ≡ Some k → slice_get names k ≡ Some name
 position-name name [] k h = cc
 position-name name (n ∷ names) k h = by_test (bytes_eq name n) refl (position-name name names)
   where

@@ -1,5 +1,5 @@
 -- The file and the fault that are computed from the bytes are those of the bytes.
-use Rattle.std.proofs.Common.{◌≡◌, ℕ, Bool, true, false, List, [], ◌∷◌, Option, Some, None, Result, Ok, Err, inl, inr, refl, sym, ap, ◌∙◌}
+use Rattle.std.proofs.Common.{◌≡◌, ℕ, List, [], ◌∷◌, Option, Some, None, Result, Ok, Err, inl, inr, refl, sym, ap, ◌∙◌}
 use Rattle.std.specs.Prelude.{◌↔◌, option_and_then}
 use Rattle.mp_syntax.specs.declared.fault.Fault.{Fault}
 use Rattle.mp_syntax.specs.Syntax.{Statement, IsSyntaxOf}
@@ -10,7 +10,7 @@ use Rattle.mp_text.specs.declared.fault.TextError.{TextError}
 use Rattle.mp_text.specs.declared.fault.TextError.TheVariants.{Text, Memory}
 use Rattle.mp_text.specs.declared.file.File as code
 use Rattle.mp_text.specs.File.{FileTree, file_tree}
-use Rattle.mp_text.specs.Build.{file_tree_of}
+use Rattle.mp_text.specs.FileBuild.{file_tree_of}
 use Rattle.mp_text.specs.FileChecks.{faults}
 use Rattle.mp_text.specs.Answers.{first, Gives}
 use Rattle.mp_text.specs.Reading.{IsFileOf, file_without, checked_file, file_of, unread_fault, IsRefused, IsFaultOf, fault_in, fault_of, ReadGives, IfText, IsFileOrMemory, IsFaultOrMemory, IsComputed}

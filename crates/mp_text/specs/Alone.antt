@@ -6,7 +6,7 @@ use Rattle.mp_term.specs.Normal.{normal}
 use Rattle.mp_pattern.specs.PatternTree as pattern
 use Rattle.mp_syntax.specs.declared.place.Place.{Place}
 use Rattle.mp_syntax.specs.declared.fault.Fault.{Fault}
-use Rattle.mp_syntax.specs.Syntax.{Tree, Symbol, Apply, InfixOf, Wild, Optional, IsExprOf}
+use Rattle.mp_syntax.specs.Syntax.{Tree, Symbol, Apply, InfixOf, Wild, Variable, IsExprOf, Optional}
 use Rattle.mp_text.specs.declared.fault.TextKind.TheVariants.{TooMany}
 use Rattle.mp_text.specs.declared.fault.TextFault.{TextFault}
 use Rattle.mp_text.specs.declared.fault.TextError.{TextError}
@@ -25,6 +25,7 @@ start (Apply f args) = f.place
 start (InfixOf opened sign operands) = opened
 start (Wild w) = w.place
 start (Optional w others default) = w.place
+start (Variable x) = x.place
 
 -- the faults of a term alone: it is too large, at its first token; and its faults by token
 abbrev pub term_alone_faults : Sig → Tree → List TextFault

@@ -1,4 +1,4 @@
--- What the statements of a file stand for: a signature, and over it rules and subjects in normal form.
+-- What the declarations of a file stand for, and its terms and patterns over a signature.
 use Rattle.std.specs.Prelude.{ℕ, ◌==◌, Bool, true, false, ◌&&◌, not, is_some, List, [], ◌∷◌, map, Option, Some, None, option_map, unwrap_or, position, if◌then◌else◌}
 use Rattle.std.specs.Str.{bytes_eq}
 use Rattle.mp_term.specs.declared.signature.OpDecl.{OpDecl}
@@ -7,11 +7,8 @@ use Rattle.mp_term.specs.Names.{name_set}
 use Rattle.mp_term.specs.Signature.{Sig, Kind, has_name, has_sign, kind_names}
 use Rattle.mp_term.specs.Normal.{normal}
 use Rattle.mp_pattern.specs.PatternTree as pattern
-use Rattle.mp_pattern.specs.Normal.{normal_pattern}
-use Rattle.mp_pattern.specs.Admission.{Rule}
-use Rattle.mp_syntax.specs.Syntax.{Spot, Wildcard, Tree, Symbol, Apply, InfixOf, Wild, Optional, Trees, no_trees, more_trees, Flag, Statement, OpOf, KindOf, RuleOf, SubjectOf}
+use Rattle.mp_syntax.specs.Syntax.{Spot, Wildcard, Tree, Symbol, Apply, InfixOf, Wild, Variable, Trees, no_trees, more_trees, Flag, Statement, OpOf, KindOf, RuleOf, SubjectOf, Optional}
 use Rattle.mp_text.specs.Subject.{Subject}
-use Rattle.mp_text.specs.File.{FileTree}
 use Rattle.mp_text.specs.Flags.{says_assoc, says_comm, says_one, is_said, sign_spot}
 use Rattle.mp_text.specs.Names.{number_of}
 
@@ -38,7 +35,7 @@ abbrev pub op_decls : List Statement → List OpDecl
 op_decls [] = []
 op_decls (OpOf name least more flags ∷ ss) = op_decl name least more flags ∷ op_decls ss
 op_decls (KindOf name members ∷ ss) = op_decls ss
-op_decls (RuleOf name p ∷ ss) = op_decls ss
+op_decls (RuleOf name p c ∷ ss) = op_decls ss
 op_decls (SubjectOf name t ∷ ss) = op_decls ss
 
 -- the kinds that the statements declare, in order
@@ -46,7 +43,7 @@ abbrev pub kind_decls : List Statement → List Kind
 kind_decls [] = []
 kind_decls (OpOf name least more flags ∷ ss) = kind_decls ss
 kind_decls (KindOf name members ∷ ss) = kind_decl name members ∷ kind_decls ss
-kind_decls (RuleOf name p ∷ ss) = kind_decls ss
+kind_decls (RuleOf name p c ∷ ss) = kind_decls ss
 kind_decls (SubjectOf name t ∷ ss) = kind_decls ss
 
 -- the signature of these operations and of the kinds that the statements declare
@@ -94,7 +91,7 @@ module _ (sig : Sig) where
   abbrev pub shape_of : Wildcard → pattern.Wildcard
   shape_of w = kind_shape w.kind w.marks
 
-  -- A word is a symbol, a word before brackets the operation of that name, and a sign the operation of that sign. No checked term has a wildcard.
+  -- A word is a symbol, a word before brackets the operation of that name, and a sign the operation of that sign. No checked term has a wildcard or a variable.
   abbrev mutual
     pub term_of : Tree → term.Tree
     term_of (Symbol w) = term.symbol w.text
@@ -102,12 +99,13 @@ module _ (sig : Sig) where
     term_of (InfixOf opened sign operands) = term.app (head_number (sign_number sign.text)) (terms_of operands)
     term_of (Wild w) = term.symbol w.name
     term_of (Optional w others default) = term.symbol w.name
+    term_of (Variable x) = term.symbol x.text
 
     pub terms_of : Trees → term.Trees
     terms_of no_trees = term.no_trees
     terms_of (more_trees t ts) = term.more_trees (term_of t) (terms_of ts)
 
-  -- the expression is a term, whose operations may have any number of arguments: it holds no wildcard, and each of its operations is one of the signature's
+  -- the expression is a term, whose operations may have any number of arguments: it holds neither a wildcard nor a variable, and each of its operations is one of the signature's
   abbrev mutual
     pub has_term : Tree → Bool
     has_term (Symbol w) = true
@@ -115,12 +113,13 @@ module _ (sig : Sig) where
     has_term (InfixOf opened sign operands) = is_some (sign_number sign.text) && all_have_terms operands
     has_term (Wild w) = false
     has_term (Optional w others default) = false
+    has_term (Variable x) = false
 
     pub all_have_terms : Trees → Bool
     all_have_terms no_trees = true
     all_have_terms (more_trees t ts) = has_term t && all_have_terms ts
 
-  -- A word is a symbol, and an application that of its operation, as in a term. A wildcard has its variable, and a default its normal form.
+  -- A word is a symbol, and an application that of its operation, as in a term. A wildcard has its variable, and a default its normal form. No checked pattern has a variable by itself.
   abbrev mutual
     pub pattern_of : Tree → pattern.Pattern
     pattern_of (Symbol w) = pattern.symbol_pattern w.text
@@ -128,41 +127,20 @@ module _ (sig : Sig) where
     pattern_of (InfixOf opened sign operands) = pattern.app_pattern (head_number (sign_number sign.text)) (patterns_of operands)
     pattern_of (Wild w) = pattern.wild_pattern (shape_of w) (variable_of w.name)
     pattern_of (Optional w others default) = pattern.wild_pattern (pattern.optional (normal sig (term_of default))) (variable_of w.name)
+    pattern_of (Variable x) = pattern.symbol_pattern x.text
 
     pub patterns_of : Trees → pattern.Patterns
     patterns_of no_trees = pattern.no_patterns
     patterns_of (more_trees t ts) = pattern.more_patterns (pattern_of t) (patterns_of ts)
 
-  -- rule NAME: PATTERN; with the pattern in normal form
-  abbrev pub rule_of : Spot → Tree → Rule
-  rule_of name p = record { name = name.text; pattern = normal_pattern sig (pattern_of p); template = None; condition = None }
-
   -- subject NAME: TERM; with the term in normal form
   abbrev pub subject_of : Spot → Tree → Subject
   subject_of name t = record { name = name.text; term = normal sig (term_of t) }
-
-  -- the rules of the statements, in order
-  abbrev pub rules_of : List Statement → List Rule
-  rules_of [] = []
-  rules_of (OpOf name least more flags ∷ ss) = rules_of ss
-  rules_of (KindOf name members ∷ ss) = rules_of ss
-  rules_of (RuleOf name p ∷ ss) = rule_of name p ∷ rules_of ss
-  rules_of (SubjectOf name t ∷ ss) = rules_of ss
 
   -- the subjects of the statements, in order
   abbrev pub subjects_of : List Statement → List Subject
   subjects_of [] = []
   subjects_of (OpOf name least more flags ∷ ss) = subjects_of ss
   subjects_of (KindOf name members ∷ ss) = subjects_of ss
-  subjects_of (RuleOf name p ∷ ss) = subjects_of ss
+  subjects_of (RuleOf name p c ∷ ss) = subjects_of ss
   subjects_of (SubjectOf name t ∷ ss) = subject_of name t ∷ subjects_of ss
-
--- ---- files
-
--- the rules and subjects of the statements over a signature
-abbrev pub file_over : Sig → List Statement → FileTree
-file_over sig ss = record { sig = sig; rules = rules_of sig ss; subjects = subjects_of sig ss; edits = [] }
-
--- the file that the statements stand for
-abbrev pub file_tree_of : List Statement → FileTree
-file_tree_of ss = file_over (sig_of ss) ss

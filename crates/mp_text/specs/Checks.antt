@@ -1,18 +1,17 @@
 -- The checks of expressions and declarations: all faults that they find, in the order in which they count.
 use Rattle.std.specs.Prelude.{ℕ, ◌+◌, ◌==◌, Bool, true, false, ◌||◌, ◌&&◌, not, List, [], ◌∷◌, ◌++◌, length, map, flat_map, Option, Some, None, is_some, is_none, option_and_then, slice_get, nat_le, nat_lt, count_by, if◌then◌else◌}
 use Rattle.std.specs.List.{list_any}
-use Rattle.std.specs.Str.{bytes_eq}
 use Rattle.mp_term.specs.declared.signature.OpDecl.{OpDecl}
 use Rattle.mp_term.specs.Signature.{Sig, allows, in_order, has_sign, kind_names}
 use Rattle.mp_syntax.specs.declared.place.Place.{Place}
-use Rattle.mp_syntax.specs.Syntax.{Spot, Wildcard, Tree, Symbol, Apply, InfixOf, Wild, Optional, Trees, no_trees, more_trees, tree_list, Flag, Statement, OpOf, KindOf, RuleOf, SubjectOf}
+use Rattle.mp_syntax.specs.Syntax.{Spot, Wildcard, Tree, Symbol, Apply, InfixOf, Wild, Variable, Trees, no_trees, more_trees, tree_list, Flag, Statement, OpOf, KindOf, RuleOf, SubjectOf, Optional}
 use Rattle.mp_text.specs.declared.fault.TextKind.{TextKind}
 use Rattle.mp_text.specs.declared.fault.TextKind.TheVariants.{DuplicateName, TooMany, BadFlags, UnknownOp, BareOperation, UnknownKind, Arity, KindClash, LooseSequence, WildcardInTerm}
 use Rattle.mp_text.specs.declared.fault.TextFault.{TextFault}
-use Rattle.mp_text.specs.Names.{is_among, rule_names, subject_names, number_of, variable_names}
+use Rattle.mp_text.specs.Names.{is_among, number_of, variable_names}
 use Rattle.mp_text.specs.Flags.{some_flag_twice, sign_spot, is_long_sign}
 use Rattle.mp_text.specs.Wildcards.{PatternWildcard, without_default, with_default_form, pattern_wildcards, differs}
-use Rattle.mp_text.specs.Build.{op_number, sign_number, kind_number, op_decl, op_decls, sig_with, sig_of}
+use Rattle.mp_text.specs.Build.{op_number, sign_number, kind_number, op_decl, op_decls, sig_with}
 
 -- ---- faults
 
@@ -26,7 +25,7 @@ fault_if test kind place = if test then fault_at kind place ∷ [] else []
 
 -- ---- limits
 
--- the symbols, applications and wildcards of an expression; a wildcard with its default is one
+-- the symbols, applications, wildcards and variables of an expression; a wildcard with its default is one
 abbrev mutual
   pub nodes : Tree → ℕ
   nodes (Symbol w) = 1
@@ -34,6 +33,7 @@ abbrev mutual
   nodes (InfixOf opened sign operands) = all_nodes operands + 1
   nodes (Wild w) = 1
   nodes (Optional w others default) = 1
+  nodes (Variable x) = 1
 
   pub all_nodes : Trees → ℕ
   all_nodes no_trees = 0
@@ -47,6 +47,7 @@ abbrev mutual
   has_large_default (InfixOf opened sign operands) = some_large_default operands
   has_large_default (Wild w) = false
   has_large_default (Optional w others default) = nat_lt 64 (nodes default) || has_large_default default
+  has_large_default (Variable x) = false
 
   pub some_large_default : Trees → Bool
   some_large_default no_trees = false
@@ -55,6 +56,10 @@ abbrev mutual
 -- a pattern has more than 64 nodes or more than 32 variables, or a default in it has more than 64 nodes
 abbrev pub is_large_pattern : Tree → Bool
 is_large_pattern p = nat_lt 64 (nodes p) || (nat_lt 32 (length (variable_names p)) || has_large_default p)
+
+-- an operand of a condition has more than 64 nodes, or a default in it has
+abbrev pub is_large_operand : Tree → Bool
+is_large_operand t = nat_lt 64 (nodes t) || has_large_default t
 
 -- a term has more than 100,000 nodes, or a default in it has more than 64 nodes
 abbrev pub is_large_term : Tree → Bool
@@ -137,7 +142,7 @@ module _ (sig : Sig) where
   abbrev pub term_wildcard_faults : Wildcard → List TextFault
   term_wildcard_faults w = fault_if (kind_unknown w.kind) UnknownKind w.place ++ fault_at WildcardInTerm w.place ∷ []
 
-  -- the faults of a term, by token; where a sign stands between operands, the first one stands before it
+  -- the faults of a term, by token: a variable stands in none; where a sign stands between operands, the first one stands before it
   abbrev mutual
     pub term_faults : Tree → List TextFault
     term_faults (Symbol w) = symbol_faults w
@@ -145,6 +150,7 @@ module _ (sig : Sig) where
     term_faults (InfixOf opened sign operands) = arity_faults (allows (length (tree_list operands))) opened (op_signed sign.text) ++ term_operand_faults (sign_faults sign (op_signed sign.text)) operands
     term_faults (Wild w) = term_wildcard_faults w
     term_faults (Optional w others default) = flat_map term_wildcard_faults (w ∷ others) ++ term_faults default
+    term_faults (Variable x) = fault_at WildcardInTerm x.place ∷ []
 
     pub term_operand_faults : List TextFault → Trees → List TextFault
     term_operand_faults at_sign no_trees = at_sign
@@ -170,6 +176,7 @@ module _ (sig : Sig) where
     pattern_faults before (InfixOf opened sign operands) = arity_faults (allows_patterns (tree_list operands)) opened (op_signed sign.text) ++ pattern_operand_faults before (sign_faults sign (op_signed sign.text)) operands
     pattern_faults before (Wild w) = wildcard_faults before (without_default w)
     pattern_faults before (Optional w others default) = wildcard_faults before (with_default_form sig w others default) ++ default_faults others default
+    pattern_faults before (Variable x) = fault_at WildcardInTerm x.place ∷ []
 
     pub pattern_operand_faults : List PatternWildcard → List TextFault → Trees → List TextFault
     pattern_operand_faults before at_sign no_trees = at_sign
@@ -213,14 +220,14 @@ kind_faults sig name members = name_faults 256 (kind_names sig) (nat_lt 10000 (l
 abbrev pub op_statement_faults : List Statement → Statement → List TextFault
 op_statement_faults earlier (OpOf name least more flags) = op_faults (op_decls earlier) name least more flags
 op_statement_faults earlier (KindOf name members) = []
-op_statement_faults earlier (RuleOf name p) = []
+op_statement_faults earlier (RuleOf name p c) = []
 op_statement_faults earlier (SubjectOf name t) = []
 
 -- the faults of a statement that declares a kind, over the operations of the file and behind earlier statements
 abbrev pub kind_statement_faults : List OpDecl → List Statement → Statement → List TextFault
 kind_statement_faults ds earlier (OpOf name least more flags) = []
 kind_statement_faults ds earlier (KindOf name members) = kind_faults (sig_with ds earlier) name members
-kind_statement_faults ds earlier (RuleOf name p) = []
+kind_statement_faults ds earlier (RuleOf name p c) = []
 kind_statement_faults ds earlier (SubjectOf name t) = []
 
 -- the faults of each statement behind the earlier ones, by a rule for one

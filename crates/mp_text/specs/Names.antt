@@ -2,7 +2,7 @@
 use Rattle.std.specs.Prelude.{ℕ, ◌+◌, ◌-◌, ◌*◌, Bool, false, List, [], ◌∷◌, ◌++◌}
 use Rattle.std.specs.Str.{bytes_eq}
 use Rattle.mp_pattern.specs.Firsts.{is_known, firsts_after}
-use Rattle.mp_syntax.specs.Syntax.{Wildcard, Tree, Symbol, Apply, InfixOf, Wild, Optional, Trees, no_trees, more_trees, Statement, OpOf, KindOf, RuleOf, SubjectOf}
+use Rattle.mp_syntax.specs.Syntax.{Wildcard, Tree, Symbol, Apply, InfixOf, Wild, Variable, Trees, no_trees, more_trees, Statement, OpOf, KindOf, RuleOf, SubjectOf, Optional}
 
 -- the name is one of these
 abbrev pub is_among : List ℕ → List (List ℕ) → Bool
@@ -13,7 +13,7 @@ abbrev pub rule_names : List Statement → List (List ℕ)
 rule_names [] = []
 rule_names (OpOf name least more flags ∷ ss) = rule_names ss
 rule_names (KindOf name members ∷ ss) = rule_names ss
-rule_names (RuleOf name p ∷ ss) = name.text ∷ rule_names ss
+rule_names (RuleOf name p c ∷ ss) = name.text ∷ rule_names ss
 rule_names (SubjectOf name t ∷ ss) = rule_names ss
 
 -- the names of the subjects, in order
@@ -21,7 +21,7 @@ abbrev pub subject_names : List Statement → List (List ℕ)
 subject_names [] = []
 subject_names (OpOf name least more flags ∷ ss) = subject_names ss
 subject_names (KindOf name members ∷ ss) = subject_names ss
-subject_names (RuleOf name p ∷ ss) = subject_names ss
+subject_names (RuleOf name p c ∷ ss) = subject_names ss
 subject_names (SubjectOf name t ∷ ss) = name.text ∷ subject_names ss
 
 -- the number that further decimal digits make of a number
@@ -51,6 +51,7 @@ abbrev mutual
   wildcard_names (InfixOf opened sign operands) = all_wildcard_names operands
   wildcard_names (Wild w) = named w.name
   wildcard_names (Optional w others default) = named w.name
+  wildcard_names (Variable x) = []
 
   pub all_wildcard_names : Trees → List (List ℕ)
   all_wildcard_names no_trees = []
@@ -64,6 +65,7 @@ abbrev mutual
   wildcards (InfixOf opened sign operands) = all_wildcards operands
   wildcards (Wild w) = w ∷ []
   wildcards (Optional w others default) = w ∷ []
+  wildcards (Variable x) = []
 
   pub all_wildcards : Trees → List Wildcard
   all_wildcards no_trees = []

@@ -1,26 +1,24 @@
 -- The printed text of patterns, signatures and whole files.
-use Rattle.std.specs.Prelude.{ℕ, Bool, not, List, [], ◌∷◌, ◌++◌, Option, Some, is_some, unwrap_or, slice_get, if◌then◌else◌, codes, decimal}
+use Rattle.std.specs.Prelude.{Bool, not, List, [], ◌∷◌, ◌++◌, Option, Some, None, is_some, unwrap_or, slice_get, if◌then◌else◌, codes, decimal}
 use Rattle.std.specs.List.{flat_map}
 use Rattle.mp_io.specs.Devices.{Text}
 use Rattle.mp_term.specs.declared.signature.OpDecl.{OpDecl}
-use Rattle.mp_term.specs.Signature.{Sig, Kind, kind_names}
+use Rattle.mp_term.specs.Signature.{Sig, Kind}
 use Rattle.mp_pattern.specs.PatternTree.{Wildcard, dot, kind, plus, star, optional, Pattern, symbol_pattern, app_pattern, wild_pattern, Patterns, no_patterns, more_patterns}
 use Rattle.mp_pattern.specs.Admission.{Rule}
 use Rattle.mp_text.specs.Subject.{Subject}
 use Rattle.mp_text.specs.File.{FileTree}
-use Rattle.mp_text.specs.Printing.{separated, held_text, term_text}
+use Rattle.mp_pattern.specs.CondTree.{Cond}
+use Rattle.mp_text.specs.Printing.{separated, kind_name_text, held_text, term_text}
+use Rattle.mp_text.specs.PrintedCond.{cond_text}
 
 -- ---- patterns
 
 module _ (sig : Sig) where
-  -- the name of a kind; one that isn't held has none
-  abbrev pub kind_name_text : ℕ → Text
-  kind_name_text k = unwrap_or (slice_get (kind_names sig) k) []
-
   -- what stands behind the name of a wildcard: _ _KIND __ ___ _:DEFAULT
   abbrev pub shape_text : Wildcard → Text
   shape_text dot = codes "_"
-  shape_text (kind k) = codes "_" ++ kind_name_text k
+  shape_text (kind k) = codes "_" ++ kind_name_text sig k
   shape_text plus = codes "__"
   shape_text star = codes "___"
   shape_text (optional t) = codes "_:" ++ term_text sig t
@@ -75,9 +73,14 @@ abbrev pub signature_text : Sig → Text
 signature_text sig = flat_map op_text sig.ops ++ flat_map kind_text sig.kinds
 
 module _ (sig : Sig) where
-  -- rule NAME: PATTERN;
+  -- what stands behind the pattern of a rule: [ if CONDITION];
+  abbrev pub ending_text : Option Cond → Text
+  ending_text None = codes ";\n"
+  ending_text (Some c) = codes " if " ++ (cond_text sig c ++ codes ";\n")
+
+  -- rule NAME: PATTERN[ if CONDITION];
   abbrev pub rule_text : Rule → Text
-  rule_text r = statement_text (codes "rule") r.name (pattern_text sig r.pattern)
+  rule_text r = head_text (codes "rule") r.name ++ (pattern_text sig r.pattern ++ ending_text r.condition)
 
   -- subject NAME: TERM;
   abbrev pub subject_text : Subject → Text

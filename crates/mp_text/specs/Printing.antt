@@ -1,10 +1,16 @@
 -- The printed text of terms, values and substitutions.
-use Rattle.std.specs.Prelude.{ℕ, zero, suc, List, [], ◌∷◌, ◌++◌, length, map, Option, Some, None, slice_get, nat_le, if◌then◌else◌, codes}
+use Rattle.std.specs.Prelude.{ℕ, zero, suc, List, [], ◌∷◌, ◌++◌, length, map, Option, Some, None, slice_get, unwrap_or, nat_le, if◌then◌else◌, codes}
 use Rattle.mp_io.specs.Devices.{Text}
 use Rattle.mp_term.specs.declared.signature.OpDecl.{OpDecl}
 use Rattle.mp_term.specs.Tree.{Tree, symbol, app, Trees, no_trees, more_trees}
-use Rattle.mp_term.specs.Signature.{Sig}
+use Rattle.mp_term.specs.Signature.{Sig, kind_names}
 use Rattle.mp_pattern.specs.Value.{Value, one, seq, bag, Binding, Subst}
+
+-- ---- names
+
+-- the name of a kind; one that isn't held has none
+abbrev pub kind_name_text : Sig → ℕ → Text
+kind_name_text sig k = unwrap_or (slice_get (kind_names sig) k) []
 
 -- ---- terms
 

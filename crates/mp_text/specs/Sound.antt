@@ -13,7 +13,9 @@ use Rattle.mp_pattern.specs.Sound.{DefaultsAreNormal, holds_ops}
 use Rattle.mp_pattern.specs.Limits.{DefaultsAreSmall}
 use Rattle.mp_pattern.specs.Variables.{variables}
 use Rattle.mp_pattern.specs.Clash.{first_clash}
+use Rattle.mp_pattern.specs.Operands.{HasConditionOver}
 use Rattle.mp_text.specs.Depth.{pattern_depth}
+use Rattle.mp_text.specs.SoundCondition.{HasSoundCondition}
 use Rattle.mp_text.specs.File.{FileTree}
 
 module _ (sig : Sig) where
@@ -53,9 +55,11 @@ module _ (sig : Sig) where
     pub nodes : node_count t ≤ 100000
     pub shallow : depth t ≤ 100
 
--- each pattern and each term is sound, no two rules and no two subjects have one name, and there are at most 1,000 of either
+-- each pattern, each term and each condition is sound, the conditions of rules are over the variables of their patterns, no two rules and no two subjects have one name, and there are at most 1,000 of either
 pub record IsSoundFile (f : FileTree) : Type 0 where
   pub patterns : AllByRecursion (λ r. IsSoundPattern f.sig r.pattern) f.rules
+  pub conditions : AllByRecursion (λ r. HasConditionOver (variables r.pattern) r.condition) f.rules
+  pub sound_conditions : AllByRecursion (λ r. HasSoundCondition f.sig r.condition) f.rules
   pub terms : AllByRecursion (λ s. IsSoundTerm f.sig s.term) f.subjects
   pub rule_names : are_distinct (map (λ r. r.name) f.rules) ≡ true
   pub subject_names : are_distinct (map (λ s. s.name) f.subjects) ≡ true

@@ -1,17 +1,24 @@
 -- The statements that a file is printed as.
-use Rattle.std.specs.Prelude.{ℕ, Bool, not, List, [], ◌∷◌, ◌++◌, map, length, Option, Some, None, unwrap_or, slice_get, nat_le, if◌then◌else◌, decimal}
+use Rattle.std.specs.Prelude.{ℕ, Bool, true, false, not, List, [], ◌∷◌, ◌++◌, map, length, Option, Some, None, option_map, unwrap_or, slice_get, nat_le, if◌then◌else◌, decimal}
 use Rattle.mp_io.specs.Devices.{Text}
 use Rattle.mp_term.specs.declared.signature.OpDecl.{OpDecl}
 use Rattle.mp_term.specs.Tree as term
 use Rattle.mp_term.specs.Signature.{Sig, Kind}
 use Rattle.mp_pattern.specs.PatternTree as pattern
+use Rattle.mp_pattern.specs.CondTree as cond
 use Rattle.mp_pattern.specs.Admission.{Rule}
+use Rattle.mp_syntax.specs.declared.condition_tree.Measure.TheVariants.{Count, Size}
+use Rattle.mp_syntax.specs.declared.condition_tree.Sense.{Sense}
+use Rattle.mp_syntax.specs.declared.condition_tree.Sense.TheVariants.{Lt, Le, Gt, Ge, Eq, Ne}
+use Rattle.mp_syntax.specs.declared.condition_tree.Relation.TheVariants.{Same, Less, Free}
+use Rattle.mp_syntax.specs.declared.condition_tree.Property.TheVariants as properties
 use Rattle.mp_syntax.specs.Tokens.{first_place}
 use Rattle.mp_syntax.specs.Syntax as syntax
-use Rattle.mp_syntax.specs.Syntax.{Spot, Tree, Symbol, Apply, InfixOf, Wild, Optional, Trees, no_trees, more_trees, tree_list, Flag, Assoc, Comm, One, Infixed, Statement, OpOf, KindOf, RuleOf, SubjectOf}
+use Rattle.mp_syntax.specs.Syntax.{Spot, Tree, Symbol, Apply, InfixOf, Wild, Optional, Variable, Trees, no_trees, more_trees, tree_list, Flag, Assoc, Comm, One, Infixed, Amount, Number, Measured, Atom, Compare, Relate, Test, Literal, AtomOf, Bracketed, Literals, no_literals, more_literals, Condition, no_alternatives, more_alternatives, Statement, OpOf, KindOf, RuleOf, SubjectOf}
 use Rattle.mp_text.specs.Subject.{Subject}
 use Rattle.mp_text.specs.File.{FileTree}
-use Rattle.mp_text.specs.PrintedFile.{kind_name_text}
+use Rattle.mp_text.specs.Printing.{kind_name_text}
+use Rattle.mp_text.specs.PrintedCond.{op_name_text}
 
 -- ---- expressions
 
@@ -63,6 +70,88 @@ module _ (sig : Sig) where
     pattern_spellings pattern.no_patterns = no_trees
     pattern_spellings (pattern.more_patterns p ps) = more_trees (pattern_spelling p) (pattern_spellings ps)
 
+-- ---- conditions
+
+-- the sign of a comparison
+abbrev pub sense_spelling : cond.Sense → Sense
+sense_spelling cond.lt = Lt
+sense_spelling cond.le = Le
+sense_spelling cond.gt = Gt
+sense_spelling cond.ge = Ge
+sense_spelling cond.eq = Eq
+sense_spelling cond.ne = Ne
+
+-- a literal alone, as an alternative and as a condition
+abbrev pub single_literal : Literal → Literals
+single_literal l = more_literals l no_literals
+
+abbrev pub single_alternative : Literals → Condition
+single_alternative ls = more_alternatives ls no_alternatives
+
+-- `not` and a literal, with square brackets where that has a `not` already
+abbrev pub negated_spelling : Literal → Literal
+negated_spelling (AtomOf false a) = AtomOf true a
+negated_spelling (Bracketed false c) = Bracketed true c
+negated_spelling l = Bracketed true (single_alternative (single_literal l))
+
+-- what stands in the brackets of a literal
+abbrev pub bracket_content : Literal → Condition
+bracket_content (Bracketed negated c) = c
+bracket_content l = single_alternative (single_literal l)
+
+-- the literals of the first alternative in the brackets of a literal
+abbrev pub first_alternative : Condition → Literals
+first_alternative (more_alternatives ls c) = ls
+first_alternative no_alternatives = no_literals
+
+-- a part of a disjunction as an alternative, where it is this literal as a part of a conjunction: a conjunction stands without its brackets
+abbrev pub alternative_part : cond.Cond → Literal → Literals
+alternative_part (cond.all_of cs) l = first_alternative (bracket_content l)
+alternative_part _ l = single_literal l
+
+-- a whole condition, where it is this literal as a part of a conjunction: a conjunction and a disjunction stand without their brackets
+abbrev pub whole_condition : cond.Cond → Literal → Condition
+whole_condition (cond.all_of cs) l = bracket_content l
+whole_condition (cond.any_of cs) l = bracket_content l
+whole_condition _ l = single_alternative (single_literal l)
+
+module _ (sig : Sig) where
+  -- $NAME, or a term
+  abbrev pub operand_spelling : cond.Operand → Tree
+  operand_spelling (cond.var x) = Variable (piece x)
+  operand_spelling (cond.ground t) = term_spelling sig t
+
+  -- a number, count(OPERAND) or size(OPERAND)
+  abbrev pub amount_spelling : cond.Amount → Amount
+  amount_spelling (cond.fixed n) = Number (piece (decimal n))
+  amount_spelling (cond.count a) = Measured Count (operand_spelling a)
+  amount_spelling (cond.size a) = Measured Size (operand_spelling a)
+
+  -- a condition as a part of a conjunction: a literal
+  abbrev mutual
+    pub literal_spelling : cond.Cond → Literal
+    literal_spelling (cond.amounts m c n) = AtomOf false (Compare (amount_spelling m) (sense_spelling c) (amount_spelling n))
+    literal_spelling (cond.same a b) = AtomOf false (Relate Same (operand_spelling a) (operand_spelling b))
+    literal_spelling (cond.less a b) = AtomOf false (Relate Less (operand_spelling a) (operand_spelling b))
+    literal_spelling (cond.free a b) = AtomOf false (Relate Free (operand_spelling a) (operand_spelling b))
+    literal_spelling (cond.of_kind a k) = AtomOf false (Test properties.Kind (operand_spelling a) (piece (kind_name_text sig k)))
+    literal_spelling (cond.headed a f) = AtomOf false (Test properties.Head (operand_spelling a) (piece (op_name_text sig f)))
+    literal_spelling (cond.negation c) = negated_spelling (literal_spelling c)
+    literal_spelling (cond.all_of cs) = Bracketed false (single_alternative (literal_spellings cs))
+    literal_spelling (cond.any_of cs) = Bracketed false (alternative_spellings cs)
+
+    pub literal_spellings : cond.Conds → Literals
+    literal_spellings cond.no_conds = no_literals
+    literal_spellings (cond.more_conds c cs) = more_literals (literal_spelling c) (literal_spellings cs)
+
+    pub alternative_spellings : cond.Conds → Condition
+    alternative_spellings cond.no_conds = no_alternatives
+    alternative_spellings (cond.more_conds c cs) = more_alternatives (alternative_part c (literal_spelling c)) (alternative_spellings cs)
+
+  -- a whole condition
+  abbrev pub cond_spelling : cond.Cond → Condition
+  cond_spelling c = whole_condition c (literal_spelling c)
+
 -- ---- statements
 
 -- the flag, where the test holds
@@ -89,7 +178,7 @@ kind_spelling k = KindOf (piece k.name) (map piece k.members)
 module _ (sig : Sig) where
   -- the statement of a rule
   abbrev pub rule_spelling : Rule → Statement
-  rule_spelling r = RuleOf (piece r.name) (pattern_spelling sig r.pattern)
+  rule_spelling r = RuleOf (piece r.name) (pattern_spelling sig r.pattern) (option_map (cond_spelling sig) r.condition)
 
   -- the statement of a subject
   abbrev pub subject_spelling : Subject → Statement

@@ -1,12 +1,12 @@
 -- The wildcards of a pattern with their defaults, and which of them have one variable and yet aren't the same.
-use Rattle.std.specs.Prelude.{ℕ, ◌==◌, Bool, true, false, ◌&&◌, not, List, [], ◌∷◌, ◌++◌, if◌then◌else◌}
+use Rattle.std.specs.Prelude.{◌==◌, Bool, true, false, ◌&&◌, not, List, [], ◌∷◌, ◌++◌, if◌then◌else◌}
 use Rattle.std.specs.Ordering.{is_eq}
 use Rattle.std.specs.Str.{bytes_eq}
 use Rattle.mp_term.specs.Tree as term
 use Rattle.mp_term.specs.Order.{tree_cmp}
 use Rattle.mp_term.specs.Signature.{Sig}
 use Rattle.mp_term.specs.Normal.{normal}
-use Rattle.mp_syntax.specs.Syntax.{Wildcard, Tree, Symbol, Apply, InfixOf, Wild, Optional, Trees, no_trees, more_trees}
+use Rattle.mp_syntax.specs.Syntax.{Wildcard, Tree, Symbol, Apply, InfixOf, Wild, Optional, Variable, Trees, no_trees, more_trees}
 use Rattle.mp_text.specs.Names.{is_same_variable}
 use Rattle.mp_text.specs.Build.{has_term, term_of}
 
@@ -43,6 +43,7 @@ module _ (sig : Sig) where
     pattern_wildcards (InfixOf opened sign operands) = all_pattern_wildcards operands
     pattern_wildcards (Wild w) = without_default w ∷ []
     pattern_wildcards (Optional w others default) = with_default_form w others default ∷ []
+    pattern_wildcards (Variable x) = []
 
     pub all_pattern_wildcards : Trees → List PatternWildcard
     all_pattern_wildcards no_trees = []

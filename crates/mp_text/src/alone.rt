@@ -132,5 +132,6 @@ fn start(expr: &Expr<'_>) -> Place
         Expr::Infix { open: place, .. } => *place,
         Expr::Wild(wild) => wild.place,
         Expr::Optional { wildcard, .. } => wildcard.place,
+        Expr::Variable(name) => name.place,
     }
 }

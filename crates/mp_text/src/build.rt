@@ -176,6 +176,7 @@ pub fn build_term(alloc: Global, sig: &Signature, expr: &Expr<'_>) -> Result<Ter
         } => infix_term(alloc, sig, *place, *sign, operands),
         Expr::Wild(wild) => Err(wildcard_in_term(sig, *wild)),
         Expr::Optional { wildcard, .. } => Err(wildcard_in_term(sig, *wildcard)),
+        Expr::Variable(name) => Err(error_at(TextKind::WildcardInTerm, name.place)),
     }
 }
 
@@ -278,6 +279,7 @@ fn build_pattern<'a>(
             others,
             default,
         } => build_optional(alloc, sig, *wildcard, others, default, before),
+        Expr::Variable(name) => Err(error_at(TextKind::WildcardInTerm, name.place)),
     }
 }
 

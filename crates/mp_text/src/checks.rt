@@ -6,7 +6,7 @@ ghost use Rattle.std.specs.Str.{bytes_eq};
 ghost use Rattle.mp_pattern.specs.Firsts.{firsts_after};
 ghost use Rattle.mp_syntax.specs.Syntax.{trees};
 ghost use Rattle.mp_syntax.specs.View.{expr_tree};
-ghost use Rattle.mp_text.specs.Checks.{nodes, all_nodes, has_large_default, some_large_default, may_take_none, may_take_more, fewest, may_reach, allows_patterns, is_large_pattern, is_large_term};
+ghost use Rattle.mp_text.specs.Checks.{nodes, all_nodes, may_take_more, fewest, may_reach, allows_patterns, is_large_pattern, is_large_operand, is_large_term, has_large_default, some_large_default, may_take_none};
 ghost use Rattle.mp_text.specs.Names.{number_of, wildcard_names, all_wildcard_names, is_among, named};
 
 use mp_syntax::Expr;
@@ -21,6 +21,8 @@ const MAX_VARIABLES: usize = 32;
 const MAX_DEFAULT_NODES: u64 = 64;
 /// How many nodes a term may have.
 const MAX_TERM_NODES: u64 = 100_000;
+/// How many nodes an operand of a condition may have.
+const MAX_OPERAND_NODES: u64 = 64;
 /// The greatest number of arguments that a declaration may say.
 pub const MAX_ARITY: u32 = 1000;
 
@@ -47,6 +49,7 @@ fn node_count(expr: &Expr<'_>) -> u64
         Expr::Infix { operands, .. } => 1_u64.saturating_add(node_counts(operands)),
         Expr::Wild(_) => 1,
         Expr::Optional { .. } => 1,
+        Expr::Variable(_) => 1,
     }
 }
 
@@ -73,6 +76,7 @@ fn add_variables<'a>(expr: &Expr<'a>, names: &mut Vec<&'a [u8]>) -> Result<(), A
         Expr::Infix { operands, .. } => add_all_variables(operands, names),
         Expr::Wild(wild) => add_name(wild.name, names),
         Expr::Optional { wildcard, .. } => add_name(wildcard.name, names),
+        Expr::Variable(_) => Ok(()),
     }
 }
 
@@ -123,6 +127,7 @@ fn has_large_default(expr: &Expr<'_>) -> bool
         Expr::Optional { default, .. } => {
             node_count(default) > MAX_DEFAULT_NODES || has_large_default(default)
         }
+        Expr::Variable(_) => false,
     }
 }
 
@@ -156,6 +161,13 @@ pub fn is_large_term(expr: &Expr<'_>) -> bool
     ensures { result ≡ is_large_term (expr_tree expr.now) }
 {
     node_count(expr) > MAX_TERM_NODES || has_large_default(expr)
+}
+
+/// The operand of a condition has more nodes than one may have.
+pub fn is_large_operand(expr: &Expr<'_>) -> bool
+    ensures { result ≡ is_large_operand (expr_tree expr.now) }
+{
+    node_count(expr) > MAX_OPERAND_NODES || has_large_default(expr)
 }
 
 /// A wildcard that may take no argument: a star or optional one.

@@ -1,28 +1,30 @@
 //! Prints whole files.
 
-ghost use Rattle.std.specs.Prelude.{◌≡◌, ℕ, List, map};
+ghost use Rattle.std.specs.Prelude.{◌≡◌, ℕ, List, map, Some, option_map};
 ghost use Rattle.std.specs.List.{flat_map};
 ghost use Rattle.mp_io.specs.Printing.{Prints};
+ghost use Rattle.mp_pattern.specs.CondView.{cond_tree};
 ghost use Rattle.mp_pattern.specs.RuleView.{rule_tree};
 ghost use Rattle.mp_syntax.specs.Syntax.{Statement, IsSyntaxOf, AreStatements, StatementsHaveNames};
 ghost use Rattle.mp_syntax.specs.Printed.{unplaced};
 ghost use Rattle.mp_text.specs.File.{FileTree, subject_tree, file_tree};
-ghost use Rattle.mp_text.specs.PrintedFile.{rule_text, subject_text, file_text};
+ghost use Rattle.mp_text.specs.PrintedFile.{ending_text, rule_text, subject_text, file_text};
 ghost use Rattle.mp_text.specs.Reading.{IsFileOf};
 ghost use Rattle.mp_text.specs.Spelled.{file_spelling};
 
+use crate::cond_printer::write_cond;
 use crate::file::{File, Subject};
 use crate::pattern_printer::write_pattern;
 use crate::printer::write_term;
 use crate::signature_printer::{write_head, write_signature};
 use mp_io::{Failed, Sink, put};
-use mp_pattern::Rule;
+use mp_pattern::{Cond, Rule};
 use mp_term::Signature;
 
 /// Appends the text of a file to the sink, one statement a line: the operations, the declared kinds, the rules and the subjects,
 /// each in their order. It is `file_text` of `specs/PrintedFile.antt`. It takes no memory.
 ///
-/// Of a rule the name and the pattern are printed.
+/// Of a rule the name, the pattern and the condition are printed.
 ///
 /// `Failed`: the sink's count of faults rose, and a front of the text was appended.
 pub fn write_file<K: Sink>(file: &File, sink: &mut K) -> Result<(), Failed>
@@ -67,6 +69,29 @@ fn write_rule<K: Sink>(sig: &Signature, rule: &Rule, sink: &mut K) -> Result<(),
 {
     write_head(b"rule", &rule.name, sink)?;
     write_pattern(sig, &rule.pattern, sink)?;
+    write_ending(sig, &rule.condition, sink)
+}
+
+/// Appends what stands behind the pattern of a rule: its condition, where there is one, and the end of the statement.
+fn write_ending<K: Sink>(
+    sig: &Signature,
+    condition: &Option<Cond>,
+    sink: &mut K,
+) -> Result<(), Failed>
+    ensures { Prints (K.contents sink.old) (K.contents sink.new) (K.faults sink.old) (K.faults sink.new) (ending_text sig.now (option_map cond_tree condition.now)) result }
+{
+    match condition {
+        None => put(sink, b";\n"),
+        Some(condition) => write_condition(sig, condition, sink),
+    }
+}
+
+/// Appends the condition of a rule behind `if`, and the end of the statement.
+fn write_condition<K: Sink>(sig: &Signature, condition: &Cond, sink: &mut K) -> Result<(), Failed>
+    ensures { Prints (K.contents sink.old) (K.contents sink.new) (K.faults sink.old) (K.faults sink.new) (ending_text sig.now (Some (cond_tree condition.now))) result }
+{
+    put(sink, b" if ")?;
+    write_cond(sig, condition, sink)?;
     put(sink, b";\n")
 }
 

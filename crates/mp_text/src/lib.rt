@@ -1,9 +1,18 @@
-//! Rule files: from the syntax trees of a file to its signature, rules and subjects, checked; and the printed text of terms, patterns, substitutions, signatures and files.
+//! Rule files: from the syntax trees of a file to its signature, rules and subjects, checked; and the printed text of terms, patterns, conditions, substitutions, signatures and files.
 #![tactic(auto)]
 
 mod alone;
+mod atom;
 mod build;
 mod checks;
+mod cond_alone;
+mod cond_printer;
+#[cfg(test)]
+mod cond_printing_tests;
+mod condition;
+mod condition_size;
+#[cfg(test)]
+mod condition_tests;
 mod declare;
 mod fault;
 mod file;
@@ -14,6 +23,8 @@ mod printer;
 #[cfg(test)]
 mod printing_tests;
 mod reader;
+mod rule;
+mod scope;
 mod signature_printer;
 mod subst_printer;
 #[cfg(test)]
@@ -22,6 +33,8 @@ mod wildcard;
 mod written;
 
 pub use alone::{read_pattern, read_term};
+pub use cond_alone::{read_cond, read_loose_cond};
+pub use cond_printer::write_cond;
 pub use fault::{TextError, TextFault, TextKind};
 pub use file::{EditSet, EditSets, File, Subject, Subjects};
 pub use file_printer::{printed_file_is_its_statements, printed_file_is_read, write_file};

@@ -4,8 +4,8 @@ ghost use Rattle.std.specs.Prelude.{◌≡◌, ◌++◌, map, codes};
 ghost use Rattle.mp_io.specs.Printing.{Prints, joined};
 ghost use Rattle.mp_term.specs.View.{tree};
 ghost use Rattle.mp_pattern.specs.View.{pattern_tree, wildcard};
-ghost use Rattle.mp_text.specs.Printing.{application_text, prefix_text, bracketed, separated, term_text};
-ghost use Rattle.mp_text.specs.PrintedFile.{pattern_text, wildcard_text, shape_text, kind_name_text};
+ghost use Rattle.mp_text.specs.Printing.{kind_name_text, application_text, prefix_text, bracketed, separated, term_text};
+ghost use Rattle.mp_text.specs.PrintedFile.{pattern_text, wildcard_text, shape_text};
 
 use crate::printer::{write_gap, write_term};
 use mp_io::{Failed, Sink, put};

@@ -92,3 +92,30 @@ fn signatures_and_patterns_are_printed(rt: HostRuntime) -> Result<(), Fail> {
     assert_eq!(rt; sink.content(), b"op f 2;\nf(x_, a)".as_slice());
     Ok(())
 }
+
+#[test]
+fn conditions_of_rules_are_printed(rt: HostRuntime) -> Result<(), Fail> {
+    let rows: [(&[u8], &[u8]); 4] = [
+        (
+            b"rule r: x_ if [[count($x)==01]];",
+            b"rule r: x_ if count($x) == 1;\n",
+        ),
+        (
+            b"kind v: a; op f 1; rule r: x_ if not [kind($x,v) or not head($x,f)] and 1<2;",
+            b"op f 1;\nkind v: a;\nrule r: x_ if not [kind($x, v) or not head($x, f)] and 1 < 2;\n",
+        ),
+        (
+            b"rule r: x_ if [same($x, a) and less($x, b)] or not [not free($x, a)];",
+            b"rule r: x_ if same($x, a) and less($x, b) or not [not free($x, a)];\n",
+        ),
+        (
+            b"op s 0+ comm; rule r: s(x__) if [size($x) >= 2 and [1 != 2 and 2 <= 3]];",
+            b"op s 0+ comm;\nrule r: s(x__) if size($x) >= 2 and [1 != 2 and 2 <= 3];\n",
+        ),
+    ];
+    for (text, wanted) in rows {
+        assert_eq!(rt; shown(rt.alloc(), text)?.as_slice(), wanted);
+        assert_eq!(rt; shown(rt.alloc(), wanted)?.as_slice(), wanted);
+    }
+    Ok(())
+}

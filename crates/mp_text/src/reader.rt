@@ -4,30 +4,30 @@ ghost use Rattle.std.specs.Prelude.{◌≡◌, ◌<◌, ◌-◌, ◌^◌, ◌↔
 ghost use Rattle.mp_term.specs.Names.{is_name};
 ghost use Rattle.mp_term.specs.Signature.{Sig};
 ghost use Rattle.mp_syntax.specs.Syntax as syntax;
-ghost use Rattle.mp_syntax.specs.Syntax.{RuleOf, SubjectOf, HasNames, StatementHasNames, StatementsHaveNames};
-ghost use Rattle.mp_syntax.specs.View.{spot_of, expr_tree, statement_tree};
-ghost use Rattle.mp_pattern.specs.Normal.{normal_pattern};
-ghost use Rattle.mp_pattern.specs.View.{pattern_tree};
+ghost use Rattle.mp_syntax.specs.Syntax.{RuleOf, SubjectOf, HasNames, IfHasNames, StatementHasNames, StatementsHaveNames};
+ghost use Rattle.mp_syntax.specs.View.{spot_of, expr_tree, if_tree, statement_tree};
 ghost use Rattle.mp_term.specs.Normal.{normal};
 ghost use Rattle.mp_term.specs.View.{tree};
 ghost use Rattle.mp_text.specs.declared.fault.TextFault as plain;
 ghost use Rattle.mp_text.specs.declared.fault.TextError.TheVariants.{Text};
 ghost use Rattle.mp_text.specs.Answers.{Gives};
-ghost use Rattle.mp_text.specs.Build.{pattern_of, term_of, sig_of, rule_of, rules_of, subject_of, subjects_of, file_over, file_tree_of};
-ghost use Rattle.mp_text.specs.Checks.{whole_pattern_faults, term_faults, faults_by};
+ghost use Rattle.mp_text.specs.Build.{term_of, sig_of, subject_of, subjects_of};
+ghost use Rattle.mp_text.specs.FileBuild.{rule_of, rules_of, file_over, file_tree_of};
+ghost use Rattle.mp_text.specs.Checks.{term_faults, faults_by};
 ghost use Rattle.mp_text.specs.FileChecks.{statement_faults, faults};
 ghost use Rattle.mp_text.specs.File.{FileTree, file_tree};
 ghost use Rattle.mp_text.specs.Names.{is_among};
 ghost use Rattle.mp_text.specs.Sound.{IsSoundFile};
 ghost use Rattle.mp_text.specs.Reading.{IsFileOf, file_of, IsFaultOf, fault_of, unread_fault, ReadGives, IfText, IsFileOrMemory, IsFaultOrMemory, IsComputed};
 
-use crate::build::{build_term, new_name, whole_pattern};
-use crate::checks::{is_large_pattern, is_large_term};
+use crate::build::{build_term, new_name};
+use crate::checks::is_large_term;
 use crate::declare::{check_name, declare};
 use crate::fault::{TextError, TextFault, TextKind};
 use crate::file::{EditSets, File, Subject, Subjects};
-use mp_pattern::{Pattern, Rule, Rules, normalise_pattern};
-use mp_syntax::{Expr, Spot, Statement, SyntaxError, read_statements};
+use crate::rule::{build_rule, is_large_rule};
+use mp_pattern::Rules;
+use mp_syntax::{Condition, Expr, Spot, Statement, SyntaxError, read_statements};
 use mp_term::{Signature, Term, normalise};
 use std::alloc::Global;
 
@@ -125,16 +125,6 @@ fn has_subject(subjects: &Subjects, name: &[u8]) -> bool
     false
 }
 
-/// The pattern of an expression in normal form, or its first fault.
-fn rule_pattern(alloc: Global, sig: &Signature, expr: &Expr<'_>) -> Result<Pattern, TextError>
-    requires { HasNames (expr_tree expr.now) }
-    ensures { Gives result (whole_pattern_faults sig.now (expr_tree expr.now)) (λ p. pattern_tree p ≡ normal_pattern sig.now (pattern_of sig.now (expr_tree expr.now))) }
-{
-    let pattern = whole_pattern(alloc, sig, expr)?;
-    let pattern = normalise_pattern(alloc, sig, pattern)?;
-    Ok(pattern)
-}
-
 /// The term of an expression in normal form, or its first fault.
 pub(crate) fn subject_term(
     alloc: Global,
@@ -156,24 +146,20 @@ fn add_rule(
     rules: &mut Rules,
     name: Spot<'_>,
     pattern: &Expr<'_>,
+    condition: &Option<Condition<'_>>,
 ) -> Result<(), TextError>
     requires name { is_name name.text.now ≡ true }
-    requires names { HasNames (expr_tree pattern.now) }
+    requires pattern { HasNames (expr_tree pattern.now) }
+    requires condition { IfHasNames (if_tree condition.now) }
     ensures { (earlier : List syntax.Statement) → rules.old ≡ rules_of sig.now earlier
-        → Gives result (statement_faults sig.now earlier (RuleOf (spot_of name.entry) (expr_tree pattern.now)))
-        (λ _. rules.new ≡ rules_of sig.now (earlier ++ RuleOf (spot_of name.entry) (expr_tree pattern.now) ∷ [])) }
+        → Gives result (statement_faults sig.now earlier (RuleOf (spot_of name.entry) (expr_tree pattern.now) (if_tree condition.now)))
+        (λ _. rules.new ≡ rules_of sig.now (earlier ++ RuleOf (spot_of name.entry) (expr_tree pattern.now) (if_tree condition.now) ∷ [])) }
 {
-    let is_large = is_large_pattern(alloc, pattern)?;
+    let is_large = is_large_rule(alloc, pattern, condition)?;
     let is_held = has_rule(rules, name.text);
     check_name(name, is_held, rules.len(), MAX_STATEMENTS, is_large)?;
-    let pattern = rule_pattern(alloc, sig, pattern)?;
-    let name = new_name(alloc, name.text)?;
-    rules.push(Rule {
-        name,
-        pattern,
-        template: None,
-        condition: None,
-    })?;
+    let rule = build_rule(alloc, sig, name, pattern, condition)?;
+    rules.push(rule)?;
     Ok(())
 }
 
@@ -209,13 +195,11 @@ fn add_statement(alloc: Global, file: &mut File, statement: &Statement<'_>) -> R
     match statement {
         Statement::Op { .. } => Ok(()),
         Statement::Kind { .. } => Ok(()),
-        Statement::Rule { name, pattern } => add_rule(
-            alloc,
-            &file.sig,
-            &mut file.rules,
-            *name,
+        Statement::Rule {
+            name,
             pattern,
-        ),
+            condition,
+        } => add_rule(alloc, &file.sig, &mut file.rules, *name, pattern, condition),
         Statement::Subject { name, term } => add_subject(
             alloc,
             &file.sig,

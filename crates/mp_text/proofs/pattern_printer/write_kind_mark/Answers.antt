@@ -1,7 +1,7 @@
 use Rattle.std.specs.Prelude.{codes}
 use Rattle.std.proofs.lemmas.Result.{err_from_is_err_and}
 use Rattle.mp_io.proofs.Written.{prints_then, prints_cut}
-use Rattle.mp_text.specs.PrintedFile.{kind_name_text}
+use Rattle.mp_text.specs.Printing.{kind_name_text}
 use Rattle.mp_text.proofs.pattern_printer.write_kind_mark.Goals as goal
 
 pub returns-in_err-put : goal.returns-in_err-put

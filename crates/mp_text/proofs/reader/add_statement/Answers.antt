@@ -1,5 +1,5 @@
 use Rattle.std.proofs.Common.{refl, sym, ◌∙◌}
-use Rattle.mp_syntax.specs.View.{spot_of, expr_tree, statement_tree}
+use Rattle.mp_syntax.specs.View.{spot_of, expr_tree, if_tree, statement_tree}
 use Rattle.mp_text.specs.File.{file_tree}
 use Rattle.mp_text.proofs.Words.{is_name-IsName}
 use Rattle.mp_text.proofs.Declared.{file_over-declaration, gives-RuleOf, gives-SubjectOf}
@@ -19,7 +19,7 @@ returns-in-Kind c = λ sig earlier h. (rw c.in-Kind.is refl, h ∙ sym (file_ove
 
 pub returns-in-Rule : goal.returns-in-Rule
 returns-in-Rule c = λ sig earlier h.
-    rw c.in-Rule.is (gives-RuleOf (file_tree c.args.file.now) sig earlier (spot_of c.in-Rule.name) (expr_tree c.in-Rule.pattern) c.add_rule.new.rules c.add_rule.result h c.add_rule.ensures)
+    rw c.in-Rule.is (gives-RuleOf (file_tree c.args.file.now) sig earlier (spot_of c.in-Rule.name) (expr_tree c.in-Rule.pattern) (if_tree c.in-Rule.condition) c.add_rule.new.rules c.add_rule.result h c.add_rule.ensures)
 
 pub returns-in-Subject : goal.returns-in-Subject
 returns-in-Subject c = λ sig earlier h.

@@ -1,7 +1,8 @@
 use Rattle.std.proofs.Common.{◌≡◌, [], drop, take, map}
 use Rattle.mp_syntax.specs.Syntax.{StatementsHaveNames}
 use Rattle.mp_syntax.specs.View.{statement_tree}
-use Rattle.mp_text.specs.Build.{sig_of, file_over}
+use Rattle.mp_text.specs.Build.{sig_of}
+use Rattle.mp_text.specs.FileBuild.{file_over}
 use Rattle.mp_text.specs.Checks.{faults_by}
 use Rattle.mp_text.specs.FileChecks.{statement_faults}
 use Rattle.mp_text.specs.File.{file_tree}

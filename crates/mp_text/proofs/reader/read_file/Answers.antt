@@ -1,5 +1,5 @@
 use Rattle.mp_text.proofs.Whole.{ReadGives-only, ReadGives-fault, ReadGives-only_fault, ReadGives-computed}
-use Rattle.mp_text.proofs.SoundLaws.{IsSoundFile-ReadGives}
+use Rattle.mp_text.proofs.SoundFile.{IsSoundFile-ReadGives}
 use Rattle.mp_text.proofs.reader.read_file.Goals as goal
 
 pub returns-clause-only : goal.returns-clause-only

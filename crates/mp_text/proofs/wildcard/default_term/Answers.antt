@@ -1,5 +1,3 @@
-use Rattle.std.proofs.Common.{map}
-use Rattle.std.specs.Prelude.{flat_map}
 use Rattle.mp_syntax.specs.View.{expr_tree}
 use Rattle.mp_text.proofs.SoundLaws.{well_formed-term_of}
 use Rattle.mp_text.proofs.wildcard.default_term.Goals as goal

@@ -2,7 +2,7 @@ use Rattle.std.proofs.Common.{◌≡◌, ◌+◌, [], ◌∷◌, Option, Some, N
 use Rattle.std.specs.Prelude.{◌&&◌, is_some, option_map, if◌then◌else◌}
 use Rattle.mp_term.specs.Tree as term
 use Rattle.mp_term.specs.View.{tree}
-use Rattle.mp_syntax.specs.Syntax.{InfixOf, trees, HaveNames}
+use Rattle.mp_syntax.specs.Syntax.{trees, HaveNames}
 use Rattle.mp_syntax.specs.View.{spot_of, expr_tree}
 use Rattle.mp_syntax.proofs.Trees.{expr_tree-Infix}
 use Rattle.mp_text.specs.Answers.{Gives}

@@ -1,8 +1,8 @@
 use Rattle.std.proofs.Common.{[], refl, ◌∙◌}
 use Rattle.std.proofs.lemmas.Result.{err_from_is_err_and}
-use Rattle.mp_syntax.specs.Machine.{AfterRole, AfterName, AfterExpr, InStatement}
-use Rattle.mp_syntax.specs.View.{spot_of, expr_tree}
-use Rattle.mp_syntax.proofs.Runs.{fails-along, heading}
+use Rattle.mp_syntax.specs.Machine.{heading, AfterRole, AfterName, InStatement}
+use Rattle.mp_syntax.specs.View.{spot_of}
+use Rattle.mp_syntax.proofs.Runs.{fails-along}
 use Rattle.mp_syntax.proofs.parser.Parser.named_expr.Goals as goal
 
 pub returns-in_err-name-clause-read : goal.returns-in_err-name-clause-read
@@ -25,18 +25,8 @@ returns-in_err-expr-clause-read c =
     ∙ c.in_ok-expect.ensures.read done (AfterName (heading role (spot_of c.in_ok-name.name))) _ refl)
     (c.in_err-expr.ensures.read done (InStatement (heading role (spot_of c.in_ok-name.name))) [] refl))
 
-pub returns-in_err-expect-2-clause-read : goal.returns-in_err-expect-2-clause-read
-returns-in_err-expect-2-clause-read c =
-    let p = err_from_is_err_and c.from_residual-in_err-expect-2.result c.from_residual-in_err-expect-2.ensures.1 in
-    rw (p.1, p.2) (λ done role. fails-along _ _ _
-    (c.in_ok-name.ensures.read done (AfterRole role) (λ w. AfterName (heading role w)) (λ t. refl)
-    ∙ c.in_ok-expect.ensures.read done (AfterName (heading role (spot_of c.in_ok-name.name))) _ refl
-    ∙ c.in_ok-expr.ensures.read done (InStatement (heading role (spot_of c.in_ok-name.name))) [] refl)
-    (c.in_err-expect-2.ensures.read done (AfterExpr (InStatement (heading role (spot_of c.in_ok-name.name))) [] (expr_tree c.in_ok-expr.expr)) _ refl))
-
 pub returns-clause-read : goal.returns-clause-read
 returns-clause-read c = λ done role.
     c.in_ok-name.ensures.read done (AfterRole role) (λ w. AfterName (heading role w)) (λ t. refl)
     ∙ c.in_ok-expect.ensures.read done (AfterName (heading role (spot_of c.in_ok-name.name))) _ refl
     ∙ c.in_ok-expr.ensures.read done (InStatement (heading role (spot_of c.in_ok-name.name))) [] refl
-    ∙ c.in_ok-expect-2.ensures.read done (AfterExpr (InStatement (heading role (spot_of c.in_ok-name.name))) [] (expr_tree c.in_ok-expr.expr)) _ refl

@@ -1,0 +1,125 @@
+-- Steps of the machine over conditions.
+use Rattle.std.proofs.Common.{◌≡◌, ℕ, ◌+◌, ◌-◌, ◌<◌, cond, List, [], ◌∷◌, Option, Some, None, Result, Ok, Err, true, false, refl, ap, ◌∙◌, arith}
+use Rattle.std.specs.Prelude.{codes}
+use Rattle.std.proofs.lemmas.Bool.{lt-leb}
+use Rattle.mp_syntax.specs.declared.token.Punct.TheVariants.{Open, OpenSquare, Semicolon}
+use Rattle.mp_syntax.specs.declared.fault.FaultKind.TheVariants.{TooDeep}
+use Rattle.mp_syntax.specs.declared.condition_tree.Measure.{Measure}
+use Rattle.mp_syntax.specs.declared.condition_tree.Measure.TheVariants.{Count, Size}
+use Rattle.mp_syntax.specs.declared.condition_tree.Sense.{Sense}
+use Rattle.mp_syntax.specs.declared.condition_tree.Sense.TheVariants.{Lt, Le, Gt, Ge, Eq, Ne}
+use Rattle.mp_syntax.specs.declared.condition_tree.Relation.{Relation}
+use Rattle.mp_syntax.specs.declared.condition_tree.Relation.TheVariants.{Same, Less, Free}
+use Rattle.mp_syntax.specs.declared.condition_tree.Property.{Property}
+use Rattle.mp_syntax.specs.declared.condition_tree.Property.TheVariants as properties
+use Rattle.mp_syntax.specs.declared.fault.SyntaxError.{SyntaxError}
+use Rattle.mp_syntax.specs.declared.tree.Expr.{Expr}
+use Rattle.mp_syntax.specs.declared.condition_tree.Condition as code
+use Rattle.mp_syntax.specs.View.{if_tree}
+use Rattle.mp_syntax.specs.Tokens.{Token, Word, End, Placed}
+use Rattle.mp_syntax.specs.Lexing.{behind}
+use Rattle.mp_syntax.specs.Syntax.{Spot, Tree, Literal, condition, Statement, RuleOf, measure_word, sense_sign, relation_word, property_word}
+use Rattle.mp_syntax.specs.Machine.{heading, OfRule, Within, InStatement, InCondition, Frame, Operand, Square, open_count, Level, no_level, next_literal, next_alternative, all_alternatives, Site, OnLeft, Lead, OfRelation, OfProperty, State, BeforeExpr, BeforeLiteral, BeforeBody, BeforeOperand, AfterExpr, AfterLiteral, Step, Go, Emit, Refuse, is_punct, is_word, measure_of, sense_of, relation_of, property_of, relation_held, property_held, refuse, on_punct, on_text, on_found, spot, word_of, step, step_open, step_amount, step_atom, step_body, step_whole, run}
+use Rattle.mp_syntax.specs.Parsing.{onward, WantsPunct, ExprGives}
+use Rattle.mp_syntax.specs.ConditionParsing.{EndsCondition, EndsIf, IfGives, WantsAmount, OperandGives}
+use Rattle.mp_syntax.proofs.Runs.{one-step, fails-along}
+
+-- ---- words and signs
+
+pub measure_of-word : (m : Measure) → measure_of (measure_word m) ≡ Some m
+measure_of-word Count = refl
+measure_of-word Size = refl
+
+pub sense_of-sign : (s : Sense) → sense_of (sense_sign s) ≡ Some s
+sense_of-sign Lt = refl
+sense_of-sign Le = refl
+sense_of-sign Gt = refl
+sense_of-sign Ge = refl
+sense_of-sign Eq = refl
+sense_of-sign Ne = refl
+
+pub relation_of-word : (r : Relation) → relation_of (relation_word r) ≡ Some r
+relation_of-word Same = refl
+relation_of-word Less = refl
+relation_of-word Free = refl
+
+pub property_of-word : (p : Property) → property_of (property_word p) ≡ Some p
+property_of-word properties.Kind = refl
+property_of-word properties.Head = refl
+
+-- ---- steps
+
+-- the bracket of an operand, where there is room
+pub open-step : (x : Within) (k : List Frame) (s : Site) (lead : Lead) (t : Placed) (room : ℕ) → open_count k + room ≡ 100 → 0 < room → is_punct Open t.token ≡ true → step (BeforeOperand x k s lead) t ≡ Go (BeforeExpr x (Operand s lead ∷ k))
+open-step x k s lead t room len some e =
+    ap (λ b. cond b (step_open 100 k (BeforeExpr x (Operand s lead ∷ k))) (refuse t.token)) e
+    ∙ ap (λ b. cond b (Refuse TooDeep) (Go (BeforeExpr x (Operand s lead ∷ k)))) (lt-leb 100 (open_count k) (omega (arith, len, some)))
+
+-- a square bracket, where there is room
+pub square-step : (x : Within) (k : List Frame) (s : Site) (t : Placed) (room : ℕ) → open_count k + room ≡ 100 → 0 < room → is_punct OpenSquare t.token ≡ true → step (BeforeBody x k s) t ≡ Go (BeforeLiteral x (Square s ∷ k) no_level)
+square-step x k s t room len some e =
+    ap (λ b. cond b (step_open 100 k (BeforeLiteral x (Square s ∷ k) no_level)) (on_text t (λ w. step_atom x k s w) (word_of t.token))) e
+    ∙ ap (λ b. cond b (Refuse TooDeep) (Go (BeforeLiteral x (Square s ∷ k) no_level))) (lt-leb 100 (open_count k) (omega (arith, len, some)))
+
+-- a word that begins an atom
+pub plain-step : (x : Within) (k : List Frame) (s : Site) (t : Placed) (w : Spot) → t.token ≡ Word w.text → t.place ≡ w.place → step (BeforeBody x k s) t ≡ step_atom x k s w
+plain-step x k s t w h p = λ i. step_body 100 x k s (record { token = h i; place = p i })
+
+-- ---- runs over one token
+
+-- behind a word lie the other tokens
+behind-word : (text : List ℕ) (t : Token) (ts : List Placed) → is_word text t ≡ true → behind t ts ≡ ts
+behind-word text (Word w) ts h = refl
+behind-word text End ts h = absurd cc
+behind-word text _ ts h = absurd cc
+
+-- a step over this word
+pub over-word : (text : List ℕ) (t : Placed) (old new : List Placed) → old ≡ t ∷ behind t.token new → is_word text t.token ≡ true → (done : List Statement) (at : State) (next : Step) → step at t ≡ next → run done at old ≡ onward t.place done next new
+over-word text t old new e h done at next f = ap (run done at) e ∙ one-step done at t new next (behind-word text t.token new h) f
+
+-- a token that is no square bracket and no word of a relation or a property can only begin an amount
+pub amount-wanted : (x : Within) (k : List Frame) (s : Site) (t : Placed) → is_punct OpenSquare t.token ≡ false → relation_held t.token ≡ None → property_held t.token ≡ None → WantsAmount t (BeforeBody x k s) x k s OnLeft
+amount-wanted x k s t square relation property =
+    ap (λ b. cond b (step_open 100 k (BeforeLiteral x (Square s ∷ k) no_level)) (on_text t (λ w. step_atom x k s w) (word_of t.token))) square
+    ∙ go t.token relation property
+  where
+    go : (u : Token) → relation_held u ≡ None → property_held u ≡ None → on_text t (λ w. step_atom x k s w) (word_of u) ≡ on_text t (λ w. step_amount x k s OnLeft w) (word_of u)
+    go (Word w) relation property =
+        ap (on_found (λ r. Go (BeforeOperand x k s (OfRelation r))) (on_found (λ p. Go (BeforeOperand x k s (OfProperty p))) (step_amount x k s OnLeft (spot w t.place)) (property_of w))) relation
+        ∙ ap (on_found (λ p. Go (BeforeOperand x k s (OfProperty p))) (step_amount x k s OnLeft (spot w t.place))) property
+    go _ relation property = refl
+
+-- what a token that is no `and` does behind a literal
+abbrev step_behind_and : Within → List Frame → Level → Literal → Placed → Step
+step_behind_and x k v l t = cond (is_word (codes "or") t.token) (Go (BeforeLiteral x k (next_alternative v l))) (step_whole x k (condition (all_alternatives v l)) t)
+
+-- `and` leads to another literal
+pub and-step : (x : Within) (k : List Frame) (v : Level) (l : Literal) (t : Placed) → is_word (codes "and") t.token ≡ true → step (AfterLiteral x k v l) t ≡ Go (BeforeLiteral x k (next_literal v l))
+and-step x k v l t h = ap (λ b. cond b (Go (BeforeLiteral x k (next_literal v l))) (step_behind_and x k v l t)) h
+
+-- any other token stands behind the whole condition
+pub whole-step : (x : Within) (k : List Frame) (v : Level) (l : Literal) (t : Placed) → EndsCondition t.token → step (AfterLiteral x k v l) t ≡ step_whole x k (condition (all_alternatives v l)) t
+whole-step x k v l t h =
+    ap (λ b. cond b (Go (BeforeLiteral x k (next_literal v l))) (step_behind_and x k v l t)) h.0
+    ∙ ap (λ b. cond b (Go (BeforeLiteral x k (next_alternative v l))) (step_whole x k (condition (all_alternatives v l)) t)) h.1
+
+-- ---- what calls give
+
+-- an operand behind its bracket
+pub operand-gives : (room : ℕ) (r : Result Expr SyntaxError) (old mid new : List Placed) → 0 < room → ((done : List Statement) (x : Within) (k : List Frame) (s : Site) (lead : Lead) → open_count k + room ≡ 100 → run done (BeforeOperand x k s lead) old ≡ run done (BeforeExpr x (Operand s lead ∷ k)) mid) → ExprGives (room - 1) r mid new → OperandGives room r old new
+operand-gives room (Ok e) old mid new some opens read = λ done x k s lead len. opens done x k s lead len ∙ read done x (Operand s lead ∷ k) (omega (arith, len, some))
+operand-gives room (Err e) old mid new some opens read = λ done x k s lead len. fails-along e _ _ (opens done x k s lead len) (read done x (Operand s lead ∷ k) (omega (arith, len, some)))
+
+-- behind the pattern of a rule, and its condition where it has one, only the semicolon stands
+pub behind-if : (o : Option code.Condition) (old new : List Placed) (t : Placed) → IfGives (Ok o) old new → EndsIf o t.token → (done : List Statement) (name : Spot) (e : Tree)
+    → (at : State) × (run done (AfterExpr (InStatement (heading OfRule name)) [] e) old ≡ run done at new) × WantsPunct t at Semicolon (Emit (RuleOf name e (if_tree o)))
+behind-if None old new t read ends done name e = (
+  AfterExpr (InStatement (heading OfRule name)) [] e,
+  ap (run done (AfterExpr (InStatement (heading OfRule name)) [] e)) read,
+  ap (λ b. cond (is_punct Semicolon t.token) (Emit (RuleOf name e None)) (cond b (Go (BeforeLiteral (InCondition name e) [] no_level)) (refuse t.token))) ends,
+)
+behind-if (Some c) old new t read ends done name e = (
+  AfterLiteral (InCondition name e) [] read.0 read.1,
+  read.3 done name e,
+  whole-step (InCondition name e) [] read.0 read.1 t ends ∙ ap (λ d. on_punct Semicolon t.token (Emit (RuleOf name e (Some d)))) read.2,
+)

@@ -1,0 +1,42 @@
+use Rattle.std.proofs.Common.{sym, refl, ◌∙◌}
+use Rattle.std.proofs.lemmas.Result.{err_from_is_err_and}
+use Rattle.mp_syntax.specs.Lexing.{placed}
+use Rattle.mp_syntax.specs.Machine.{BeforeBody, AfterSense, OnLeft, OnRight}
+use Rattle.mp_syntax.specs.View.{amount_tree}
+use Rattle.mp_syntax.proofs.Runs.{fails-along}
+use Rattle.mp_syntax.proofs.ConditionRuns.{amount-wanted}
+use Rattle.mp_syntax.proofs.parser.Parser.atom.Goals as goal
+
+pub returns-in_err-first-clause-read : goal.returns-in_err-first-clause-read
+returns-in_err-first-clause-read c =
+    let p = err_from_is_err_and c.from_residual.result c.from_residual.ensures.1 in
+    let relation = sym c.sees_relation.ensures ∙ c.in_default.is in
+    let property = sym c.sees_property.ensures ∙ c.in_default-sees_property.is in
+    rw (p.1, p.2) (λ done x k s len. c.in_err-first.ensures.read done (BeforeBody x k s) x k s OnLeft (amount-wanted x k s (placed c.args.self.now.token) c.requires relation property) len)
+
+pub returns-in_err-sense-clause-read : goal.returns-in_err-sense-clause-read
+returns-in_err-sense-clause-read c =
+    let p = err_from_is_err_and c.from_residual-in_err-sense.result c.from_residual-in_err-sense.ensures.1 in
+    let relation = sym c.sees_relation.ensures ∙ c.in_default.is in
+    let property = sym c.sees_property.ensures ∙ c.in_default-sees_property.is in
+    rw (p.1, p.2) (λ done x k s len. fails-along _ _ _
+    (c.in_ok-first.ensures.read done (BeforeBody x k s) x k s OnLeft (amount-wanted x k s (placed c.args.self.now.token) c.requires relation property) len)
+    (c.in_err-sense.ensures.read done x k s (amount_tree c.in_ok-first.first)))
+
+pub returns-in_err-second-clause-read : goal.returns-in_err-second-clause-read
+returns-in_err-second-clause-read c =
+    let p = err_from_is_err_and c.from_residual-in_err-second.result c.from_residual-in_err-second.ensures.1 in
+    let relation = sym c.sees_relation.ensures ∙ c.in_default.is in
+    let property = sym c.sees_property.ensures ∙ c.in_default-sees_property.is in
+    rw (p.1, p.2) (λ done x k s len. fails-along _ _ _
+    (c.in_ok-first.ensures.read done (BeforeBody x k s) x k s OnLeft (amount-wanted x k s (placed c.args.self.now.token) c.requires relation property) len
+    ∙ c.in_ok-sense.ensures.read done x k s (amount_tree c.in_ok-first.first))
+    (c.in_err-second.ensures.read done (AfterSense x k s (amount_tree c.in_ok-first.first) c.in_ok-sense.sense) x k s (OnRight (amount_tree c.in_ok-first.first) c.in_ok-sense.sense) refl len))
+
+pub returns-clause-read : goal.returns-clause-read
+returns-clause-read c = λ done x k s len.
+    let relation = sym c.sees_relation.ensures ∙ c.in_default.is in
+    let property = sym c.sees_property.ensures ∙ c.in_default-sees_property.is in
+    c.in_ok-first.ensures.read done (BeforeBody x k s) x k s OnLeft (amount-wanted x k s (placed c.args.self.now.token) c.requires relation property) len
+    ∙ c.in_ok-sense.ensures.read done x k s (amount_tree c.in_ok-first.first)
+    ∙ c.in_ok-second.ensures.read done (AfterSense x k s (amount_tree c.in_ok-first.first) c.in_ok-sense.sense) x k s (OnRight (amount_tree c.in_ok-first.first) c.in_ok-sense.sense) refl len

@@ -1,0 +1,145 @@
+//! Reads conditions: alternatives, their literals, and square brackets.
+
+ghost use Rattle.std.specs.Prelude.{◌≡◌, ◌<◌, ◌≤◌, ◌-◌, ◌^◌, ◌↔◌, ℕ, List, Some, Err, true, length, OnOk, IfOk, IfErr};
+ghost use Rattle.mp_syntax.specs.Lexing.{token_of};
+ghost use Rattle.mp_syntax.specs.Machine.{is_punct};
+ghost use Rattle.mp_syntax.specs.View.{condition_tree};
+ghost use Rattle.mp_syntax.specs.Syntax as syntax;
+ghost use Rattle.mp_syntax.specs.Syntax.{IsConditionOf, ConditionHasNames};
+ghost use Rattle.mp_syntax.specs.Reading.{parsed_condition, condition_reading, condition_of_bytes, IfFault, IsConditionOrMemory};
+ghost use Rattle.mp_syntax.specs.Parsing.{ahead};
+ghost use Rattle.mp_syntax.specs.ConditionParsing.{ConditionAloneGives, ConditionGives, AlternativeGives, LiteralGives, NegationGives, BracketedGives, EndsCondition, EndsAlternative};
+
+use crate::condition_tree::{Alternative, Condition, Literal};
+use crate::fault::{FaultKind, SyntaxError};
+use crate::parser::Parser;
+use crate::statement::MAX_OPEN;
+use crate::token::Punct;
+use std::alloc::Global;
+
+/// The condition that a text is, as a syntax tree whose words lie in the text's bytes.
+///
+/// The text has fewer than 4,294,967,295 bytes, so that each line and column is a `u32`. Which
+/// condition bytes are is `IsConditionOf` of `specs/Syntax.antt`: at most one.
+///
+/// - `SyntaxError::Memory` comes where memory runs out.
+/// - `SyntaxError::Fault` comes exactly where the bytes are no condition, with the first fault that
+///   reading token by token meets, by `condition_reading` of `specs/Reading.antt`. Its kinds are those of
+///   `read_statements`; a token behind the condition is one that the grammar doesn't have there.
+///
+/// After an error nothing is kept.
+pub fn read_condition<'a>(alloc: Global, bytes: &'a [u8]) -> Result<Condition<'a>, SyntaxError>
+    requires { length bytes.now < 2 ^ 32 - 1 }
+
+    // What is answered is what the bytes are.
+    ensures found { IfOk result (λ c. IsConditionOf bytes.now (condition_tree c)) }
+    // Each word of it is 1 to 64 letters and digits, and each sign is of sign bytes and not the arrow.
+    ensures names { IfOk result (λ c. ConditionHasNames (condition_tree c)) }
+    // What the bytes are is answered, unless memory runs out.
+    ensures only { (c : syntax.Condition) → IsConditionOf bytes.now c → IsConditionOrMemory result (λ read. read ≡ c) }
+    // A fault is the one that reading token by token meets.
+    ensures fault { IfErr result (λ e. IfFault e (λ f. condition_reading bytes.now ≡ Err f)) }
+{
+    alone(alloc, bytes)
+}
+
+/// Law: bytes are this condition exactly where `condition_of_bytes` of `specs/Reading.antt` gives it.
+///
+/// So each list of bytes is one condition or none. It does nothing when it runs.
+pub fn condition_is_a_function()
+    ensures { (bytes : List ℕ) (c : syntax.Condition) → IsConditionOf bytes c ↔ (condition_of_bytes bytes ≡ Some c) }
+{}
+
+/// Reads a condition up to the end, or the first fault.
+fn alone<'a>(alloc: Global, bytes: &'a [u8]) -> Result<Condition<'a>, SyntaxError>
+    requires { length bytes.now < 2 ^ 32 - 1 }
+    ensures { ConditionAloneGives result (parsed_condition bytes.now) }
+{
+    let mut parser = Parser::new(bytes);
+    let condition = parser.condition(alloc, MAX_OPEN)?;
+    if !parser.is_at_end() {
+        return Err(parser.refused());
+    }
+    Ok(condition)
+}
+
+impl<'a> Parser<'a> {
+    /// Reads a condition, in which at most `room` brackets stand open at once.
+    #[cycle(condition)]
+    pub fn condition(&mut self, alloc: Global, room: usize) -> Result<Condition<'a>, SyntaxError>
+        ensures read { ConditionGives room result (ahead self.old) (ahead self.new) }
+        ensures ends { OnOk result (EndsCondition (token_of self.new.token.kind)) }
+        ensures shorter { OnOk result (length (ahead self.new) < length (ahead self.old)) }
+    {
+        let mut alternatives = Vec::new(alloc);
+        loop {
+            alternatives.push(self.alternative(alloc, room)?)?;
+            if !self.sees_word(b"or") {
+                break;
+            }
+            self.advance();
+        }
+        Ok(Condition { alternatives })
+    }
+
+    /// Reads literals with `and` between each two, in which at most `room` brackets stand open at once.
+    #[cycle(condition)]
+    fn alternative(&mut self, alloc: Global, room: usize) -> Result<Alternative<'a>, SyntaxError>
+        ensures read { AlternativeGives room result (ahead self.old) (ahead self.new) }
+        ensures ends { OnOk result (EndsAlternative (token_of self.new.token.kind)) }
+        ensures shorter { OnOk result (length (ahead self.new) < length (ahead self.old)) }
+    {
+        let mut literals = Vec::new(alloc);
+        loop {
+            literals.push(self.literal(alloc, room)?)?;
+            if !self.sees_word(b"and") {
+                break;
+            }
+            self.advance();
+        }
+        Ok(Alternative { literals })
+    }
+
+    /// Reads a literal, in which at most `room` brackets stand open at once.
+    #[cycle(condition)]
+    fn literal(&mut self, alloc: Global, room: usize) -> Result<Literal<'a>, SyntaxError>
+        ensures read { LiteralGives room result (ahead self.old) (ahead self.new) }
+        ensures shorter { OnOk result (length (ahead self.new) < length (ahead self.old)) }
+    {
+        let negated = self.negation();
+        if self.sees(Punct::OpenSquare) {
+            let condition = self.bracketed(alloc, room)?;
+            return Ok(Literal::Bracketed { negated, condition });
+        }
+        let atom = self.atom(alloc, room)?;
+        Ok(Literal::Atom { negated, atom })
+    }
+
+    /// Passes the word `not` where it is held, and says whether it was.
+    fn negation(&mut self) -> bool
+        ensures read { NegationGives result (ahead self.old) (ahead self.new) }
+        ensures shorter { length (ahead self.new) ≤ length (ahead self.old) }
+    {
+        let negated = self.sees_word(b"not");
+        if negated {
+            self.advance();
+        }
+        negated
+    }
+
+    /// Reads a condition in square brackets, of which the opening one is held.
+    #[cycle(condition)]
+    fn bracketed(&mut self, alloc: Global, room: usize) -> Result<Condition<'a>, SyntaxError>
+        requires { is_punct Punct.OpenSquare (token_of self.old.token.kind) ≡ true }
+        ensures read { BracketedGives room result (ahead self.old) (ahead self.new) }
+        ensures shorter { OnOk result (length (ahead self.new) < length (ahead self.old)) }
+    {
+        if room == 0 {
+            return Err(self.fault(FaultKind::TooDeep));
+        }
+        self.advance();
+        let condition = self.condition(alloc, room - 1)?;
+        self.expect(Punct::CloseSquare)?;
+        Ok(condition)
+    }
+}

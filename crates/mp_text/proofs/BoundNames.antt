@@ -1,0 +1,139 @@
+-- The variables that a condition may name are those of its pattern in normal form.
+use Rattle.std.proofs.Common.{◌≡◌, ℕ, Bool, true, false, ◌||◌, List, [], ◌∷◌, ◌++◌, map, refl, sym, ap, ◌∙◌, subst}
+use Rattle.std.specs.Prelude.{◌≢◌, if◌then◌else◌}
+use Rattle.std.specs.List.{list_any, AllByRecursion}
+use Rattle.std.specs.List.Sorted.{IsPermutation}
+use Rattle.std.specs.Str.{bytes_eq}
+use Rattle.std.proofs.lemmas.List.{map-append}
+use Rattle.std.proofs.lemmas.List.Elements.{All-from_recursion, recursion_from_All}
+use Rattle.std.proofs.lemmas.List.Folds.{list_any-append}
+use Rattle.std.proofs.lemmas.List.Sorted.{IsPermutation-sym, All-permutation}
+use Rattle.std.proofs.lemmas.Map.Text.{is_eq-slice_cmp}
+use Rattle.std.proofs.lemmas.Slice.Eq.{bytes_eq-Decides}
+use Rattle.mp_term.specs.Signature.{Sig}
+use Rattle.mp_pattern.specs.Firsts.{firsts_after, is_known, add_new}
+use Rattle.mp_pattern.specs.Normal.{normal_pattern}
+use Rattle.mp_pattern.specs.Value.{same_name}
+use Rattle.mp_pattern.specs.Variables.{variables}
+use Rattle.mp_pattern.proofs.VariableLaws.{IsPermutation-variables}
+use Rattle.mp_syntax.specs.Syntax.{Tree, Symbol, Apply, InfixOf, Wild, Optional, Variable, Trees, no_trees, more_trees}
+use Rattle.mp_text.specs.Build.{pattern_of}
+use Rattle.mp_text.specs.Names.{named, wildcard_names, all_wildcard_names, wildcards, all_wildcards}
+use Rattle.mp_text.specs.Scope.{wildcard_variable, pattern_variables, is_bound}
+use Rattle.mp_text.proofs.Declared.{bytes_eq_comm}
+use Rattle.mp_text.proofs.Faultless.{or-second}
+use Rattle.mp_text.proofs.SoundLaws.{is_known-alike, variables-pattern_of}
+
+differ : true ≡ false → ⊥
+differ e = cc
+
+-- ---- names that are known
+
+module _ (x : List ℕ) where
+  -- what is known stays so among further names
+  known-append : (ys zs : List (List ℕ)) → is_known bytes_eq ys x ≡ true → is_known bytes_eq (ys ++ zs) x ≡ true
+  known-append [] zs h = cc
+  known-append (y ∷ ys) zs h = go (bytes_eq y x) (known-append ys zs) h
+    where
+      go : (b : Bool) → (is_known bytes_eq ys x ≡ true → is_known bytes_eq (ys ++ zs) x ≡ true) → (b || is_known bytes_eq ys x) ≡ true → (b || is_known bytes_eq (ys ++ zs) x) ≡ true
+      go true rest k = refl
+      go false rest k = rest k
+
+  -- so it does behind other names
+  known-behind : (ys zs : List (List ℕ)) → is_known bytes_eq zs x ≡ true → is_known bytes_eq (ys ++ zs) x ≡ true
+  known-behind [] zs h = h
+  known-behind (y ∷ ys) zs h = go (bytes_eq y x) (known-behind ys zs h)
+    where
+      go : (b : Bool) → is_known bytes_eq (ys ++ zs) x ≡ true → (b || is_known bytes_eq (ys ++ zs) x) ≡ true
+      go true rest = refl
+      go false rest = rest
+
+  known-add_new : (y : List ℕ) (ys : List (List ℕ)) → is_known bytes_eq ys x ≡ true → is_known bytes_eq (add_new bytes_eq ys y) x ≡ true
+  known-add_new y ys h = go (is_known bytes_eq ys y)
+    where
+      go : (b : Bool) → is_known bytes_eq (if b then ys else (ys ++ (y ∷ []))) x ≡ true
+      go true = h
+      go false = known-append ys (y ∷ []) h
+
+  -- a name that is added is known
+  known-added : (ys : List (List ℕ)) → is_known bytes_eq (add_new bytes_eq ys x) x ≡ true
+  known-added ys = go (is_known bytes_eq ys x) refl
+    where
+      go : (b : Bool) → is_known bytes_eq ys x ≡ b → is_known bytes_eq (if b then ys else (ys ++ (x ∷ []))) x ≡ true
+      go true e = e
+      go false e = known-behind ys (x ∷ []) (ap (λ b. b || false) ((bytes_eq-Decides x x).1 refl))
+
+  known-firsts_after : (ys zs : List (List ℕ)) → is_known bytes_eq ys x ≡ true → is_known bytes_eq (firsts_after bytes_eq ys zs) x ≡ true
+  known-firsts_after ys [] h = h
+  known-firsts_after ys (z ∷ zs) h = known-firsts_after (add_new bytes_eq ys z) zs (known-add_new z ys h)
+
+  -- each name is among those that stand once
+  known-once : (ys zs : List (List ℕ)) → is_known bytes_eq zs x ≡ true → is_known bytes_eq (firsts_after bytes_eq ys zs) x ≡ true
+  known-once ys [] h = cc
+  known-once ys (z ∷ zs) h = go (bytes_eq z x) (known-once (add_new bytes_eq ys z) zs) refl h
+    where
+      go : (b : Bool) → (is_known bytes_eq zs x ≡ true → is_known bytes_eq (firsts_after bytes_eq (add_new bytes_eq ys z) zs) x ≡ true) → bytes_eq z x ≡ b → (b || is_known bytes_eq zs x) ≡ true → is_known bytes_eq (firsts_after bytes_eq (add_new bytes_eq ys z) zs) x ≡ true
+      go true rest e k = known-firsts_after (add_new bytes_eq ys z) zs (subst (λ y. is_known bytes_eq (add_new bytes_eq ys y) x ≡ true) (sym ((bytes_eq-Decides z x).0 e)) (known-added ys))
+      go false rest e k = rest k
+
+  -- ---- names in another order
+
+  all-unknown : (ys : List (List ℕ)) → is_known same_name ys x ≡ false → AllByRecursion (λ y. same_name y x ≡ false) ys
+  all-unknown [] h = tt
+  all-unknown (y ∷ ys) h =
+      let p = or-second (same_name y x) (is_known same_name ys x) h in
+      (p.0, all-unknown ys p.1)
+
+  none-known : (ys : List (List ℕ)) → AllByRecursion (λ y. same_name y x ≡ false) ys → is_known same_name ys x ≡ false
+  none-known [] h = refl
+  none-known (y ∷ ys) h = ap (λ b. b || is_known same_name ys x) h.0 ∙ none-known ys h.1
+
+  known-permutation : (ys zs : List (List ℕ)) → IsPermutation ys zs → is_known same_name ys x ≡ true → is_known same_name zs x ≡ true
+  known-permutation ys zs s h = go (is_known same_name zs x) refl
+    where
+      P : List ℕ → Type 0
+      P y = same_name y x ≡ false
+
+      go : (b : Bool) → is_known same_name zs x ≡ b → b ≡ true
+      go true e = refl
+      go false e = absurd (differ (sym h ∙ none-known ys (recursion_from_All P ys (All-permutation P zs ys (IsPermutation-sym ys zs s) (All-from_recursion P zs (all-unknown zs e))))))
+
+  -- a name that one of two tests finds is known among the names of both
+  known-either : (ys zs : List (List ℕ)) (b c : Bool) → (b ≡ true → is_known bytes_eq ys x ≡ true) → (c ≡ true → is_known bytes_eq zs x ≡ true) → (b || c) ≡ true → is_known bytes_eq (ys ++ zs) x ≡ true
+  known-either ys zs true c f g h = known-append ys zs (f refl)
+  known-either ys zs false c f g h = known-behind ys zs (g h)
+
+  -- ---- the names of wildcards
+
+  module _ (some : x ≢ []) where
+    known-wild : (name : List ℕ) → (bytes_eq x name || false) ≡ true → is_known bytes_eq (named name) x ≡ true
+    known-wild [] h = absurd (some ((bytes_eq-Decides x []).0 (or-only (bytes_eq x []) h)))
+      where
+        or-only : (b : Bool) → (b || false) ≡ true → b ≡ true
+        or-only true h = refl
+        or-only false h = h
+    known-wild (b ∷ bs) h = ap (λ t. t || false) (bytes_eq_comm (b ∷ bs) x) ∙ h
+
+    mutual
+      known-bound : (p : Tree) → is_bound (map wildcard_variable (wildcards p)) x ≡ true → is_known bytes_eq (wildcard_names p) x ≡ true
+      known-bound (Symbol w) h = cc
+      known-bound (Apply f args) h = known-all_bound args h
+      known-bound (InfixOf opened sign operands) h = known-all_bound operands h
+      known-bound (Wild w) h = known-wild w.name h
+      known-bound (Optional w others default) h = known-wild w.name h
+      known-bound (Variable w) h = cc
+
+      known-all_bound : (ts : Trees) → is_bound (map wildcard_variable (all_wildcards ts)) x ≡ true → is_known bytes_eq (all_wildcard_names ts) x ≡ true
+      known-all_bound no_trees h = cc
+      known-all_bound (more_trees t ts) h =
+          let front = map wildcard_variable (wildcards t) in
+          let back = map wildcard_variable (all_wildcards ts) in
+          known-either (wildcard_names t) (all_wildcard_names ts) (is_bound front x) (is_bound back x) (known-bound t) (known-all_bound ts)
+          (sym (list_any-append (λ v. bytes_eq x v.name) front back) ∙ sym (ap (list_any (λ v. bytes_eq x v.name)) (map-append wildcard_variable (wildcards t) (all_wildcards ts))) ∙ h)
+
+    -- a variable that a condition may name is one of the pattern in normal form
+    pub known-variables : (sig : Sig) (p : Tree) → is_bound (pattern_variables p) x ≡ true → is_known same_name (variables (normal_pattern sig (pattern_of sig p))) x ≡ true
+    known-variables sig p h =
+        let here : is_known same_name (variables (pattern_of sig p)) x ≡ true =
+        is_known-alike same_name bytes_eq is_eq-slice_cmp (variables (pattern_of sig p)) x ∙ ap (λ l. is_known bytes_eq l x) (variables-pattern_of sig p) ∙ known-once [] (wildcard_names p) (known-bound p h) in
+        known-permutation (variables (pattern_of sig p)) (variables (normal_pattern sig (pattern_of sig p))) (IsPermutation-variables sig (pattern_of sig p)) here

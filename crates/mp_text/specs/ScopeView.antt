@@ -1,0 +1,15 @@
+-- The variables that a condition may name, in the code, as plain data.
+use Rattle.std.specs.Prelude.{map, Some, None}
+use Rattle.mp_text.specs.declared.scope.Variable as code_variable
+use Rattle.mp_text.specs.declared.scope.Scope as code_scope
+use Rattle.mp_text.specs.declared.scope.Scope.TheVariants.{Any, Among}
+use Rattle.mp_text.specs.Scope.{Variable, Scope}
+
+-- the variable as plain data
+abbrev pub variable_of : code_variable.Variable → Variable
+variable_of v = record { name = v.name.now; is_sequence = v.is_sequence }
+
+-- the variables that may be named as plain data
+abbrev pub scope_of : code_scope.Scope → Scope
+scope_of Any = None
+scope_of (Among vs) = Some (map variable_of vs.items)

@@ -1,0 +1,119 @@
+//! Reads conditions that stand alone.
+
+ghost use Rattle.std.specs.Prelude.{◌≡◌, ◌<◌, ◌-◌, ◌^◌, length, None, Some, IfOk};
+ghost use Rattle.mp_pattern.specs.CondTree as cond;
+ghost use Rattle.mp_pattern.specs.CondView.{cond_tree};
+ghost use Rattle.mp_syntax.specs.Lexing.{first_token_place};
+ghost use Rattle.mp_syntax.specs.Syntax.{ConditionHasNames};
+ghost use Rattle.mp_syntax.specs.Reading.{condition_reading};
+ghost use Rattle.mp_syntax.specs.View.{condition_tree};
+ghost use Rattle.mp_text.specs.declared.fault.TextFault as plain;
+ghost use Rattle.mp_text.specs.Answers.{Gives};
+ghost use Rattle.mp_text.specs.Conditions.{cond_of};
+ghost use Rattle.mp_text.specs.Reading.{IfText, IsFaultOrMemory};
+ghost use Rattle.mp_text.specs.Alone.{Answers, IsValueOrMemory};
+ghost use Rattle.mp_text.specs.AloneCondition.{condition_alone_faults, IsCondOf, IsCondFaultOf};
+ghost use Rattle.mp_text.specs.Scope.{plan_variables};
+ghost use Rattle.mp_text.specs.ScopeView.{scope_of};
+
+use crate::condition::build_condition;
+use crate::condition_size::is_large_condition;
+use crate::fault::{TextError, TextKind, error_at};
+use crate::reader::unread;
+use crate::scope::{Scope, plan_variables};
+use mp_pattern::{Cond, Plan};
+use mp_syntax::{Condition, Place, SyntaxError, first_token_place, read_condition};
+use mp_term::Signature;
+use std::alloc::Global;
+
+/// Reads one condition over a signature and the variables of a plan.
+///
+/// Each operand that isn't a variable is given in normal form. The text is a condition exactly where its tokens spell one
+/// (`IsConditionOf` of mp_syntax's `specs/Syntax.antt`) in which no check finds a fault (`condition_alone_faults` of
+/// `specs/AloneCondition.antt`). It has fewer than 4,294,967,295 bytes.
+///
+/// - `Text`: the text has this fault, by `IsCondFaultOf` of `specs/AloneCondition.antt`: where it is a condition, the first that the
+///   checks find, with its line and column, from 1; a condition of more than 64 atoms, or with an operand of more than 64 nodes, has the
+///   fault `TooMany` at its first token. Where it is no condition, the fault is `Unread` at line 1, column 1.
+/// - `Memory`: memory ran out.
+///
+/// After an error nothing is kept.
+pub fn read_cond(
+    alloc: Global,
+    sig: &Signature,
+    plan: &Plan,
+    bytes: &[u8],
+) -> Result<Cond, TextError>
+    requires { length bytes.now < 2 ^ 32 - 1 }
+
+    // What is answered is the condition that the bytes are.
+    ensures found { IfOk result (λ c. IsCondOf sig.now (Some (plan_variables plan.now)) bytes.now (cond_tree c)) }
+    // The condition that the bytes are is answered, unless memory runs out.
+    ensures only { (c : cond.Cond) → IsCondOf sig.now (Some (plan_variables plan.now)) bytes.now c → IsValueOrMemory result (λ d. cond_tree d ≡ c) }
+    // The fault that is answered is the fault of the bytes.
+    ensures fault { IfText result (λ f. IsCondFaultOf sig.now (Some (plan_variables plan.now)) bytes.now f) }
+    // The fault of the bytes is answered, unless memory runs out.
+    ensures only_fault { (f : plain.TextFault) → IsCondFaultOf sig.now (Some (plan_variables plan.now)) bytes.now f → IsFaultOrMemory result (λ g. g ≡ f) }
+{
+    let variables = plan_variables(alloc, plan)?;
+    cond_of_text(alloc, sig, &Scope::Among(variables), bytes)
+}
+
+/// Reads one condition over a signature, as `read_cond` does, without a check of the variables that it names.
+///
+/// The text is a condition, or has a fault, by the same definitions: `IsCondOf` and `IsCondFaultOf` of `specs/AloneCondition.antt`, where
+/// any variable may be named and may be an operand of `less`.
+///
+/// - `Text`: the text has this fault.
+/// - `Memory`: memory ran out.
+///
+/// After an error nothing is kept.
+pub fn read_loose_cond(alloc: Global, sig: &Signature, bytes: &[u8]) -> Result<Cond, TextError>
+    requires { length bytes.now < 2 ^ 32 - 1 }
+
+    // What is answered is the condition that the bytes are.
+    ensures found { IfOk result (λ c. IsCondOf sig.now None bytes.now (cond_tree c)) }
+    // The condition that the bytes are is answered, unless memory runs out.
+    ensures only { (c : cond.Cond) → IsCondOf sig.now None bytes.now c → IsValueOrMemory result (λ d. cond_tree d ≡ c) }
+    // The fault that is answered is the fault of the bytes.
+    ensures fault { IfText result (λ f. IsCondFaultOf sig.now None bytes.now f) }
+    // The fault of the bytes is answered, unless memory runs out.
+    ensures only_fault { (f : plain.TextFault) → IsCondFaultOf sig.now None bytes.now f → IsFaultOrMemory result (λ g. g ≡ f) }
+{
+    cond_of_text(alloc, sig, &Scope::Any, bytes)
+}
+
+/// Reads one condition over the variables that it may name, or finds its fault.
+fn cond_of_text(
+    alloc: Global,
+    sig: &Signature,
+    scope: &Scope<'_>,
+    bytes: &[u8],
+) -> Result<Cond, TextError>
+    requires { length bytes.now < 2 ^ 32 - 1 }
+    ensures { Answers (condition_alone_faults sig.now (scope_of scope.now) (first_token_place bytes.now)) (cond_of sig.now) cond_tree (condition_reading bytes.now) result }
+{
+    let start = first_token_place(bytes);
+    match read_condition(alloc, bytes) {
+        Ok(condition) => cond_alone(alloc, sig, scope, start, &condition),
+        Err(SyntaxError::Memory) => Err(TextError::Memory),
+        Err(SyntaxError::Fault(_)) => Err(unread()),
+    }
+}
+
+/// The condition of a syntax tree alone that begins at this place, or its first fault.
+fn cond_alone(
+    alloc: Global,
+    sig: &Signature,
+    scope: &Scope<'_>,
+    start: Place,
+    condition: &Condition<'_>,
+) -> Result<Cond, TextError>
+    requires { ConditionHasNames (condition_tree condition.now) }
+    ensures { Gives result (condition_alone_faults sig.now (scope_of scope.now) start (condition_tree condition.now)) (λ c. cond_tree c ≡ cond_of sig.now (condition_tree condition.now)) }
+{
+    if is_large_condition(condition) {
+        return Err(error_at(TextKind::TooMany, start));
+    }
+    build_condition(alloc, sig, scope, condition)
+}

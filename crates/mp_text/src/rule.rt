@@ -1,0 +1,107 @@
+//! Makes rules of syntax trees, and checks them on the way.
+
+ghost use Rattle.std.specs.Prelude.{◌≡◌, ◌||◌, ◌++◌, true, Some, option_map, IfOk};
+ghost use Rattle.mp_term.specs.Names.{is_name};
+ghost use Rattle.mp_pattern.specs.Normal.{normal_pattern};
+ghost use Rattle.mp_pattern.specs.View.{pattern_tree};
+ghost use Rattle.mp_pattern.specs.CondView.{cond_tree};
+ghost use Rattle.mp_pattern.specs.RuleView.{rule_tree};
+ghost use Rattle.mp_syntax.specs.Syntax.{HasNames, IfHasNames};
+ghost use Rattle.mp_syntax.specs.View.{spot_of, expr_tree, if_tree};
+ghost use Rattle.mp_text.specs.Answers.{Gives};
+ghost use Rattle.mp_text.specs.Build.{pattern_of};
+ghost use Rattle.mp_text.specs.Scope.{pattern_variables};
+ghost use Rattle.mp_text.specs.Conditions.{condition_of};
+ghost use Rattle.mp_text.specs.FileBuild.{rule_of};
+ghost use Rattle.mp_text.specs.Checks.{whole_pattern_faults, is_large_pattern};
+ghost use Rattle.mp_text.specs.ConditionChecks.{has_large_condition, if_faults};
+ghost use Rattle.mp_text.specs.FileChecks.{rule_faults};
+
+use crate::build::{new_name, whole_pattern};
+use crate::checks::is_large_pattern;
+use crate::condition::build_condition;
+use crate::condition_size::is_large_condition;
+use crate::fault::TextError;
+use crate::scope::{Scope, pattern_variables};
+use mp_pattern::{Cond, Pattern, Rule, normalise_pattern};
+use mp_syntax::{Condition, Expr, Spot};
+use mp_term::Signature;
+use std::alloc::{AllocError, Global};
+
+/// The pattern of an expression in normal form, or its first fault.
+fn rule_pattern(alloc: Global, sig: &Signature, expr: &Expr<'_>) -> Result<Pattern, TextError>
+    requires { HasNames (expr_tree expr.now) }
+    ensures { Gives result (whole_pattern_faults sig.now (expr_tree expr.now)) (λ p. pattern_tree p ≡ normal_pattern sig.now (pattern_of sig.now (expr_tree expr.now))) }
+{
+    let pattern = whole_pattern(alloc, sig, expr)?;
+    let pattern = normalise_pattern(alloc, sig, pattern)?;
+    Ok(pattern)
+}
+
+/// The condition of a rule, over the variables of its pattern, or its first fault.
+fn rule_condition(
+    alloc: Global,
+    sig: &Signature,
+    pattern: &Expr<'_>,
+    condition: &Option<Condition<'_>>,
+) -> Result<Option<Cond>, TextError>
+    requires { IfHasNames (if_tree condition.now) }
+    ensures { Gives result (if_faults sig.now (Some (pattern_variables (expr_tree pattern.now))) (if_tree condition.now)) (λ c. option_map cond_tree c ≡ condition_of sig.now (if_tree condition.now)) }
+{
+    match condition {
+        None => Ok(None),
+        Some(condition) => {
+            let variables = pattern_variables(alloc, pattern)?;
+            let cond = build_condition(alloc, sig, &Scope::Among(variables), condition)?;
+            Ok(Some(cond))
+        }
+    }
+}
+
+/// The condition of a rule, where it has one, is larger than it may be.
+fn has_large_condition(condition: &Option<Condition<'_>>) -> bool
+    ensures { result ≡ has_large_condition (if_tree condition.now) }
+{
+    match condition {
+        None => false,
+        Some(condition) => is_large_condition(condition),
+    }
+}
+
+/// The pattern of a rule or its condition is larger than it may be.
+pub fn is_large_rule(
+    alloc: Global,
+    pattern: &Expr<'_>,
+    condition: &Option<Condition<'_>>,
+) -> Result<bool, AllocError>
+    ensures { IfOk result (λ large. large ≡ (is_large_pattern (expr_tree pattern.now) || has_large_condition (if_tree condition.now))) }
+{
+    if is_large_pattern(alloc, pattern)? {
+        return Ok(true);
+    }
+    Ok(has_large_condition(condition))
+}
+
+/// A rule, with its pattern in normal form, or its first fault behind its name.
+pub fn build_rule(
+    alloc: Global,
+    sig: &Signature,
+    name: Spot<'_>,
+    pattern: &Expr<'_>,
+    condition: &Option<Condition<'_>>,
+) -> Result<Rule, TextError>
+    requires name { is_name name.text.now ≡ true }
+    requires pattern { HasNames (expr_tree pattern.now) }
+    requires condition { IfHasNames (if_tree condition.now) }
+    ensures { Gives result (rule_faults sig.now (expr_tree pattern.now) (if_tree condition.now)) (λ r. rule_tree r ≡ rule_of sig.now (spot_of name.entry) (expr_tree pattern.now) (if_tree condition.now)) }
+{
+    let normal = rule_pattern(alloc, sig, pattern)?;
+    let condition = rule_condition(alloc, sig, pattern, condition)?;
+    let name = new_name(alloc, name.text)?;
+    Ok(Rule {
+        name,
+        pattern: normal,
+        template: None,
+        condition,
+    })
+}

@@ -1,0 +1,147 @@
+//! The variables that a condition may name.
+
+ghost use Rattle.std.specs.Prelude.{◌≡◌, [], ◌∷◌, ◌++◌, map, OnOk, IfOk, option_map, slice_get};
+ghost use Rattle.mp_pattern.specs.PlanView.{form};
+ghost use Rattle.mp_syntax.specs.Syntax.{trees};
+ghost use Rattle.mp_syntax.specs.View.{expr_tree, wildcard_of};
+ghost use Rattle.mp_text.specs.Names.{all_wildcards};
+ghost use Rattle.mp_text.specs.Scope.{wildcard_variable, pattern_variables, plan_variables, is_sequence_form, is_bound, is_bound_sequence};
+ghost use Rattle.mp_text.specs.ScopeView.{variable_of};
+
+use mp_pattern::{Form, Plan};
+use mp_syntax::{Expr, Wildcard};
+use std::alloc::{AllocError, Global};
+
+/// A variable that a condition may name.
+///
+/// As plain data it is a `Variable` of `specs/Scope.antt`, by `variable_of` of `specs/ScopeView.antt`.
+#[derive(Clone, Copy)]
+pub struct Variable<'a> {
+    /// The name; empty for a wildcard without one, which no condition names.
+    pub name: &'a [u8],
+    /// It may stand for several terms.
+    pub is_sequence: bool,
+}
+
+/// The variables that a condition may name.
+///
+/// As plain data it is a `Scope` of `specs/Scope.antt`, by `scope_of` of `specs/ScopeView.antt`.
+#[derive(Drop)]
+pub enum Scope<'a> {
+    /// Any variables: it isn't checked.
+    Any,
+    /// These.
+    Among(Vec<Variable<'a>>),
+}
+
+/// Adds the variables of the wildcards of an expression, in order.
+#[cycle(add_variables)]
+fn add_variables<'a>(expr: &Expr<'a>, variables: &mut Vec<Variable<'a>>) -> Result<(), AllocError>
+    ensures { OnOk result (map variable_of variables.new.items ≡ map variable_of variables.old.items ++ pattern_variables (expr_tree expr.now)) }
+{
+    match expr {
+        Expr::Symbol(_) => Ok(()),
+        Expr::Apply(_, args) => add_all_variables(args, variables),
+        Expr::Infix { operands, .. } => add_all_variables(operands, variables),
+        Expr::Wild(wild) => add_wildcard(*wild, variables),
+        Expr::Optional { wildcard, .. } => add_wildcard(*wildcard, variables),
+        Expr::Variable(_) => Ok(()),
+    }
+}
+
+/// Adds the variables of the wildcards of all expressions, in order.
+#[cycle(add_variables)]
+fn add_all_variables<'a>(
+    exprs: &[Expr<'a>],
+    variables: &mut Vec<Variable<'a>>,
+) -> Result<(), AllocError>
+    ensures { OnOk result (map variable_of variables.new.items ≡ map variable_of variables.old.items ++ map wildcard_variable (all_wildcards (trees (map expr_tree exprs.now)))) }
+{
+    for expr in exprs {
+        add_variables(expr, variables)?;
+    }
+    Ok(())
+}
+
+/// Adds the variable of a wildcard.
+fn add_wildcard<'a>(wild: Wildcard<'a>, variables: &mut Vec<Variable<'a>>) -> Result<(), AllocError>
+    ensures { OnOk result (map variable_of variables.new.items ≡ map variable_of variables.old.items ++ wildcard_variable (wildcard_of wild.entry) ∷ []) }
+{
+    variables.push(Variable {
+        name: wild.name,
+        is_sequence: wild.marks > 1,
+    })?;
+    Ok(())
+}
+
+/// The variables of a pattern, one for each wildcard, in order.
+pub fn pattern_variables<'a>(
+    alloc: Global,
+    pattern: &Expr<'a>,
+) -> Result<Vec<Variable<'a>>, AllocError>
+    ensures { IfOk result (λ vs. map variable_of vs.items ≡ pattern_variables (expr_tree pattern.now)) }
+{
+    let mut variables = Vec::new(alloc);
+    add_variables(pattern, &mut variables)?;
+    Ok(variables)
+}
+
+/// The variables of a plan, in order.
+pub fn plan_variables(alloc: Global, plan: &Plan) -> Result<Vec<Variable<'_>>, AllocError>
+    ensures { IfOk result (λ vs. map variable_of vs.items ≡ plan_variables plan.now) }
+{
+    let mut variables = Vec::new(alloc);
+    for number in 0..plan.vars() {
+        if let Some(variable) = plan_variable(plan, number) {
+            variables.push(variable)?;
+        }
+    }
+    Ok(variables)
+}
+
+/// The variable of a plan of that number, where there is one.
+fn plan_variable(plan: &Plan, number: u32) -> Option<Variable<'_>>
+    ensures { option_map variable_of result ≡ slice_get (plan_variables plan.now) number }
+{
+    let name = plan.var_name(number)?;
+    let form = plan.var_form(number)?;
+    Some(Variable {
+        name: name.bytes(),
+        is_sequence: is_sequence_form(form),
+    })
+}
+
+/// A value of the form may have several terms.
+fn is_sequence_form(kind: Form) -> bool
+    ensures { result ≡ is_sequence_form (form kind) }
+{
+    match kind {
+        Form::One => false,
+        Form::Seq => true,
+        Form::Bag => true,
+    }
+}
+
+/// One of the variables has the name.
+pub fn is_bound(variables: &[Variable<'_>], name: &[u8]) -> bool
+    ensures { result ≡ is_bound (map variable_of variables.now) name.now }
+{
+    for variable in variables {
+        if name == variable.name {
+            return true;
+        }
+    }
+    false
+}
+
+/// One of the variables has the name, and may stand for several terms.
+pub fn is_bound_sequence(variables: &[Variable<'_>], name: &[u8]) -> bool
+    ensures { result ≡ is_bound_sequence (map variable_of variables.now) name.now }
+{
+    for variable in variables {
+        if name == variable.name && variable.is_sequence {
+            return true;
+        }
+    }
+    false
+}
