@@ -24,6 +24,7 @@ op plus 1+ assoc comm one infix +; rule r: plus(x_, y_:0); subject s: a;|s r {x 
 op plus 1+ assoc comm one infix +; rule r: plus(x_:0, y_:0); subject s: 0;|s r {x -> 0, y -> 0}\n\
 op plus 1+ assoc comm one infix +; rule r: plus(x_:0, y_, z___); subject s: a;|\n\
 op plus 1+ assoc comm one infix +; rule r: plus(x_:0); subject s: a; subject t: (a + b);|t r {x -> (a + b)}\n\
+op plus 1+ assoc comm one infix +; op times 1+ assoc comm one infix *; kind v: x y; rule collect: plus(times(c_:1, x_v), times(d_:1, x_v), r___); subject t: (x + (3 * x) + y);|t collect {x -> x, c -> 1, d -> 3, r -> {y}}&t collect {x -> x, c -> 3, d -> 1, r -> {y}}\n\
 op s 0+ comm; rule r: s(x__, y___) if count($x) >= 2; subject t: s(a, a);|t r {x -> {a, a}, y -> {}}\n\
 op g 0+; rule r: g(x__, y__) if free($x, $y) and not size($x) > 1; subject s: g(a, b, c);|s r {x -> (a), y -> (b, c)}\n\
 op h 2; op g 0+; op s 0+ comm; rule r: h(s(x__), g(y__)) if same($x, $y); subject t: h(s(a, b), g(b, a));|t r {x -> {a, b}, y -> (b, a)}\n\

@@ -3,8 +3,6 @@
 
 mod bind;
 mod check;
-#[cfg(test)]
-mod check_tests;
 mod choices;
 mod found;
 mod held;
@@ -18,8 +16,6 @@ mod search;
 mod sound;
 mod stack;
 mod terms;
-#[cfg(test)]
-mod tests;
 mod value;
 
 pub use check::check_takes;

@@ -3,8 +3,6 @@
 
 mod atom;
 mod condition;
-#[cfg(test)]
-mod condition_tests;
 pub mod condition_tree;
 mod declaration;
 mod expression;
@@ -13,8 +11,6 @@ mod lexer;
 mod parser;
 pub mod place;
 pub mod statement;
-#[cfg(test)]
-mod tests;
 pub mod token;
 pub mod tree;
 

@@ -7,12 +7,8 @@ mod build;
 mod checks;
 mod cond_alone;
 mod cond_printer;
-#[cfg(test)]
-mod cond_printing_tests;
 mod condition;
 mod condition_size;
-#[cfg(test)]
-mod condition_tests;
 mod declare;
 mod fault;
 mod file;
@@ -20,15 +16,11 @@ mod file_printer;
 mod flags;
 mod pattern_printer;
 mod printer;
-#[cfg(test)]
-mod printing_tests;
 mod reader;
 mod rule;
 mod scope;
 mod signature_printer;
 mod subst_printer;
-#[cfg(test)]
-mod tests;
 mod wildcard;
 mod written;
 

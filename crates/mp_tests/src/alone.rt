@@ -1,0 +1,159 @@
+// Terms, patterns and conditions that stand alone: their first faults.
+use crate::case::{halves, told};
+use mp_pattern::Plan;
+use mp_term::Signature;
+use mp_text::{TextError, read_cond, read_file, read_loose_cond, read_pattern, read_term};
+use std::alloc::Global;
+use std::test::Fail;
+
+/// The operations and kinds of the tests.
+pub const DECLARED: &[u8] =
+    b"op f 2; op g 0+; op s 0+ comm; op p 1+ assoc comm one infix +; kind v: a b;";
+
+// In each table a line is a text and, behind `|`, its first fault: the kind, the line and the column. Nothing stands there where it has none.
+
+const TERMS: &str = "\
+f(b, a)|\n\
+(b + p(a))|\n\
+a;|Unread 1 1\n\
+|Unread 1 1\n\
+x_|WildcardInTerm 1 1\n\
+f(a)|Arity 1 1\n\
+q(f)|UnknownOp 1 1\n\
+(f + a)|BareOperation 1 2\n\
+(a * b)|UnknownOp 1 4";
+
+const PATTERNS: &str = "\
+x_|\n\
+f(x_v, x_v)|\n\
+f(x_v, x_num)|KindClash 1 8\n\
+x__|LooseSequence 1 1\n\
+x_q|UnknownKind 1 1\n\
+f(x___)|\n\
+g(y__, (x_ + x_))|\n\
+g(x_|Unread 1 1\n\
+f(x_, g)|BareOperation 1 7";
+
+// Conditions over the variables of the pattern `s(x__, y___)`.
+const CONDITIONS: &str = "\
+count($x) >= 2|\n\
+less(a, $x)|ConditionKind 1 9\n\
+same($z, a)|UnboundVariable 1 6\n\
+same($x, (b + a)) or not kind($y, v)|\n\
+count($x) >= 2;|Unread 1 1\n\
+|Unread 1 1\n\
+same($x, f(a))|Arity 1 10\n\
+[1 < size($x)] or not 1 < 2000000|TooMany 1 27";
+
+// Conditions whose variables aren't checked.
+const LOOSE_CONDITIONS: &str = "\
+less($x, $z)|\n\
+kind(a, q) and less($x, x_)|UnknownKind 1 9\n\
+head($x, s) or free(y_, $x)|WildcardInTerm 1 21\n\
+not [less($x, f)]|BareOperation 1 15";
+
+/// The signature of `DECLARED`.
+pub fn signature(alloc: Global) -> Result<Signature, Fail> {
+    match read_file(alloc, DECLARED) {
+        Ok(file) => Ok(file.sig),
+        Err(_) => Err("the declarations have a fault".into()),
+    }
+}
+
+/// The plan of a pattern.
+pub fn plan(alloc: Global, sig: &Signature, text: &str) -> Result<Plan, Fail> {
+    if text.len() > 1000 {
+        return Err("the text is too long".into());
+    }
+    let Ok(pattern) = read_pattern(alloc, sig, text.as_bytes()) else {
+        return Err("the pattern has a fault".into());
+    };
+    match Plan::compile(alloc, sig, &pattern) {
+        Ok(plan) => Ok(plan),
+        Err(_) => Err("the pattern has no plan".into()),
+    }
+}
+
+// What a text is read as.
+#[derive(Clone, Copy)]
+enum Sort {
+    Term,
+    Pattern,
+    Condition,
+    LooseCondition,
+}
+
+// Why the text isn't read.
+fn error(
+    alloc: Global,
+    sig: &Signature,
+    plan: &Plan,
+    sort: Sort,
+    text: &[u8],
+) -> Result<Option<TextError>, Fail> {
+    if text.len() > 1000 {
+        return Err("the text is too long".into());
+    }
+    match sort {
+        Sort::Term => Ok(read_term(alloc, sig, text).err()),
+        Sort::Pattern => Ok(read_pattern(alloc, sig, text).err()),
+        Sort::Condition => Ok(read_cond(alloc, sig, plan, text).err()),
+        Sort::LooseCondition => Ok(read_loose_cond(alloc, sig, text).err()),
+    }
+}
+
+// Whether the text of the line has the fault of the line.
+fn is_first(
+    alloc: Global,
+    sig: &Signature,
+    plan: &Plan,
+    sort: Sort,
+    line: &str,
+) -> Result<bool, Fail> {
+    let (text, fault) = halves(line)?;
+    let error = error(alloc, sig, plan, sort, text.as_bytes())?;
+    Ok(told(alloc, error)?.as_str() == fault)
+}
+
+#[test]
+fn the_first_fault_of_a_text_stands_at_its_token(rt: HostRuntime) -> Result<(), Fail> {
+    let alloc = rt.alloc();
+    let sig = signature(alloc)?;
+    let plan = plan(alloc, &sig, "s(x__, y___)")?;
+    for (sort, table) in [
+        (Sort::Term, TERMS),
+        (Sort::Pattern, PATTERNS),
+        (Sort::Condition, CONDITIONS),
+        (Sort::LooseCondition, LOOSE_CONDITIONS),
+    ] {
+        for line in table.split('\n') {
+            assert!(rt; is_first(alloc, &sig, &plan, sort, line)?, "{line}");
+        }
+    }
+    Ok(())
+}
+
+// A name, and in brackets so many arguments `a`.
+fn applied(alloc: Global, name: u8, count: usize) -> Result<Vec<u8>, Fail> {
+    let mut text = Vec::new(alloc);
+    text.push(name)?;
+    text.extend_from_slice(b"(a")?;
+    for _ in 1..count {
+        text.extend_from_slice(b",a")?;
+    }
+    text.push(b')')?;
+    Ok(text)
+}
+
+#[test]
+fn a_pattern_has_at_most_64_nodes(rt: HostRuntime) -> Result<(), Fail> {
+    let alloc = rt.alloc();
+    let sig = signature(alloc)?;
+    let plan = plan(alloc, &sig, "a")?;
+    for (name, count, fault) in [(b'g', 63, ""), (b'q', 64, "TooMany 1 1")] {
+        let text = applied(alloc, name, count)?;
+        let error = error(alloc, &sig, &plan, Sort::Pattern, &text)?;
+        assert_eq!(rt; told(alloc, error)?.as_str(), fault);
+    }
+    Ok(())
+}

@@ -1,0 +1,34 @@
+// Lines of tables, and faults as tables write them.
+use mp_text::{TextError, TextFault};
+use std::alloc::Global;
+use std::test::Fail;
+
+/// What stands before and behind the first `|` of the line.
+pub fn halves<'a>(line: &'a str) -> Result<(&'a str, &'a str), Fail> {
+    match line.split_once('|') {
+        Some(both) => Ok(both),
+        None => Err("the line has no bar".into()),
+    }
+}
+
+fn fault_text(alloc: Global, fault: &TextFault) -> Result<String, Fail> {
+    Ok(format!(in alloc; "{:?} {} {}", fault.kind, fault.line, fault.column)?)
+}
+
+/// The kind, the line and the column of a fault; nothing where there is none.
+pub fn told(alloc: Global, error: Option<TextError>) -> Result<String, Fail> {
+    match error {
+        None => Ok(String::new(alloc)),
+        Some(TextError::Text(fault)) => fault_text(alloc, &fault),
+        Some(TextError::Memory) => Err("memory ran out".into()),
+    }
+}
+
+/// The text, with a line feed for each `&`.
+pub fn with_line_feeds(alloc: Global, text: &str) -> Result<Vec<u8>, Fail> {
+    let mut bytes = Vec::new(alloc);
+    for byte in text.as_bytes() {
+        bytes.push(if *byte == b'&' { b'\n' } else { *byte })?;
+    }
+    Ok(bytes)
+}

@@ -1,0 +1,101 @@
+// The items of the one-list: each substitution with its least take table.
+use crate::case::halves;
+use mp_io::{MemorySink, Sink, put};
+use mp_one::{Item, Items, eager_list, has_small_defaults, is_sound};
+use mp_pattern::{Entry, Plan, Rule};
+use mp_term::{Signature, Term, is_normal, node_count};
+use mp_text::{File, read_file, write_subst, write_term};
+use std::alloc::Global;
+use std::test::Fail;
+
+// Files of a rule and a subject and, behind `|`, the items, each with `&` behind it. A `;` stands between the entries of a table, and a blank between the
+// terms of an entry; the entry of a collapsed application ends with `!`.
+const FILES: &str = "\
+op f 2; rule r: f(x_, x_); subject s: f(a, b);|\n\
+op f 2; rule r: f(a, b); subject s: f(a, b);|f(a, b);a;b {}&\n\
+op p 1+ assoc; rule r: p(x_, y_); subject s: p(a, b, c);|p(a, b, c);a;b c {x -> a, y -> p(b, c)}&p(a, b, c);a b;c {x -> p(a, b), y -> c}&\n\
+op s 0+ comm; rule r: s(x__, y___); subject t: s(a, a);|s(a, a);a;a {x -> {a}, y -> {a}}&s(a, a);a a; {x -> {a, a}, y -> {}}&\n\
+op s 0+ comm; rule r: s(x_, _, __); subject t: s(a, b, c);|s(a, b, c);a;b;c {x -> a}&s(a, b, c);b;a;c {x -> b}&s(a, b, c);c;a;b {x -> c}&\n\
+op h 2; op g 0+; op s 0+ comm; rule r: h(s(x__), g(x__)); subject t: h(s(a, b), g(b, a));|h(s(a, b), g(b, a));s(a, b);a b;g(b, a);b a {x -> (b, a)}&\n\
+op u 1+ assoc comm one infix +; rule r: u(x_, y_:0); subject s: a;|a!;a; {x -> a, y -> 0}&\n\
+op u 1+ assoc comm one infix +; rule r: u(x_:0, y_:0); subject s: 0;|0!;;0 {x -> 0, y -> 0}&\n\
+op u 1+ assoc comm one infix +; rule r: u(x_, y_); subject s: (a + b);|(a + b);a;b {x -> a, y -> b}&(a + b);b;a {x -> b, y -> a}&";
+
+fn write_entry(sig: &Signature, entry: &Entry, sink: &mut MemorySink) -> bool {
+    for (i, term) in entry.terms.as_slice().iter().enumerate() {
+        if (i > 0 && put(sink, b" ").is_err()) || write_term(sig, term, sink).is_err() {
+            return false;
+        }
+    }
+    !entry.collapsed || put(sink, b"!").is_ok()
+}
+
+fn write_item(sig: &Signature, item: &Item, sink: &mut MemorySink) -> bool {
+    for (i, entry) in item.takes.as_slice().iter().enumerate() {
+        if (i > 0 && put(sink, b";").is_err()) || !write_entry(sig, entry, sink) {
+            return false;
+        }
+    }
+    put(sink, b" ").is_ok()
+        && write_subst(sig, &item.subst, sink).is_ok()
+        && put(sink, b"&").is_ok()
+}
+
+fn write_items(sig: &Signature, items: &Items, sink: &mut MemorySink) -> bool {
+    for item in items.as_slice() {
+        if !write_item(sig, item, sink) {
+            return false;
+        }
+    }
+    true
+}
+
+// What the rule admits on the subject, if they are as `eager_list` asks and there is memory.
+fn items(alloc: Global, sig: &Signature, rule: &Rule, subject: &Term) -> Option<Items> {
+    if !is_sound(sig, &rule.pattern) || !has_small_defaults(&rule.pattern) {
+        return None;
+    }
+    if rule.condition.is_some() || !is_normal(sig, subject) || node_count(subject) > 100_000 {
+        return None;
+    }
+    let plan = Plan::compile(alloc, sig, &rule.pattern).ok()?;
+    eager_list(alloc, sig, rule, &plan, subject).ok()
+}
+
+// Writes the items of the file's first rule on its first subject.
+fn write_first(alloc: Global, file: &File, sink: &mut MemorySink) -> bool {
+    match (file.rules.get(0), file.subjects.get(0)) {
+        (Some(rule), Some(subject)) => match items(alloc, &file.sig, rule, &subject.term) {
+            Some(items) => write_items(&file.sig, &items, sink),
+            None => false,
+        },
+        _ => false,
+    }
+}
+
+fn write_file_items(alloc: Global, text: &[u8], sink: &mut MemorySink) -> bool {
+    if text.len() > 1000 {
+        return false;
+    }
+    match read_file(alloc, text) {
+        Ok(file) => write_first(alloc, &file, sink),
+        Err(_) => false,
+    }
+}
+
+// Whether the file of the line has the items of the line.
+fn is_listed(alloc: Global, line: &str) -> Result<bool, Fail> {
+    let (text, items) = halves(line)?;
+    let Ok(mut sink) = MemorySink::new(alloc, 200, Vec::new(alloc)) else {
+        return Err("memory ran out".into());
+    };
+    Ok(write_file_items(alloc, text.as_bytes(), &mut sink) && sink.content() == items.as_bytes())
+}
+
+#[test]
+fn each_substitution_has_its_least_table(rt: HostRuntime) -> Result<(), Fail> {
+    for line in FILES.split('\n') {
+        assert!(rt; is_listed(rt.alloc(), line)?, "{line}");
+    }
+    Ok(())
+}

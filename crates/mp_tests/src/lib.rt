@@ -1,0 +1,24 @@
+//! Tests of the libraries' public calls over texts: what is read as which trees, which faults are told, what is printed, and which take tables and items
+//! a pattern has.
+#![tactic(auto)]
+
+#[cfg(test)]
+mod alone;
+#[cfg(test)]
+mod case;
+#[cfg(test)]
+mod condition_trees;
+#[cfg(test)]
+mod faults;
+#[cfg(test)]
+mod items;
+#[cfg(test)]
+mod lists;
+#[cfg(test)]
+mod printed;
+#[cfg(test)]
+mod syntax_faults;
+#[cfg(test)]
+mod syntax_trees;
+#[cfg(test)]
+mod takes;

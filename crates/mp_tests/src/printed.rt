@@ -1,0 +1,156 @@
+// What is printed of terms, patterns, conditions, signatures and files.
+use crate::alone::signature;
+use crate::case::{halves, with_line_feeds};
+use mp_io::MemorySink;
+use mp_term::Signature;
+use mp_text::{
+    printed_file_is_its_statements, printed_file_is_read, read_file, read_loose_cond, read_pattern,
+    read_term, write_cond, write_file, write_pattern, write_signature, write_term,
+};
+use std::alloc::Global;
+use std::test::Fail;
+
+// In each table a line is a text and, behind `|`, what is printed of what it is read as.
+
+// Terms are put into normal form.
+const TERMS: &str = "\
+(c + (p(b) + a))|(a + b + c)\n\
+f(a,f( 0,b))|f(a, f(0, b))\n\
+s(b,g(),a)|s(a, b, g())\n\
+p(a)|a";
+
+// Patterns alone are printed as they were written.
+const PATTERNS: &str = "\
+g((b+a),x_,y_v,z__ ,w___)|g((b + a), x_, y_v, z__, w___)\n\
+s(__,_,_v,___)|s(__, _, _v, ___)\n\
+f(_:p(b, a), x_:(p(a) + b))|f(_:(a + b), x_:(a + b))\n\
+p(x_)|p(x_)";
+
+// Each atom.
+const ATOMS: &str = "\
+count($x)>=02|count($x) >= 2\n\
+1000000!=size((a + b))|1000000 != size((a + b))\n\
+same($x,p(b,a))|same($x, (a + b))\n\
+less((b + a),$y)|less((a + b), $y)\n\
+free($x,$y)|free($x, $y)\n\
+kind($z,v)|kind($z, v)\n\
+head($x,p)|head($x, p)\n\
+[count(p(b, (a + p(c)))) <= 0012]|count((a + b + c)) <= 12";
+
+// Brackets stand where a part needs them, and nowhere else.
+const BRACKETS: &str = "\
+[kind($x,v) and kind($y,v)] or kind($z,v)|kind($x, v) and kind($y, v) or kind($z, v)\n\
+kind($x,v) and [kind($y,v) or kind($z,v)]|kind($x, v) and [kind($y, v) or kind($z, v)]\n\
+kind($x,v) and [[kind($y,v)] and kind($z,v)]|kind($x, v) and [kind($y, v) and kind($z, v)]\n\
+[kind($x,v) or kind($y,v)] or kind($z,v)|[kind($x, v) or kind($y, v)] or kind($z, v)\n\
+[not [kind($x,v)]] and kind($y,v)|not kind($x, v) and kind($y, v)\n\
+not [kind($x,v) and kind($y,v)]|not [kind($x, v) and kind($y, v)]\n\
+not [kind($x,v) or kind($y,v)]|not [kind($x, v) or kind($y, v)]\n\
+not [not [[kind($x,v)]]]|not [not kind($x, v)]";
+
+// Files; `&` stands for the end of a line.
+const FILES: &str = "\
+subject s: f(a,0);rule r :f( x_,a ); op f 02;|op f 2;&rule r: f(x_, a);&subject s: f(a, 0);&\n\
+op s 0+ comm; rule r: s(__, _, x_); subject t: s(a, b, c);|op s 0+ comm;&rule r: s(x_, _, __);&subject t: s(a, b, c);&\n\
+op p 1+ assoc comm one infix +; rule r: p(x_, y_:0); subject s: a;|op p 1+ assoc comm one infix +;&rule r: (x_ + y_:0);&subject s: a;&\n\
+op p 1+ assoc comm one infix +; rule r: p(x_:0, y_:0); subject s: 0;|op p 1+ assoc comm one infix +;&rule r: (x_:0 + y_:0);&subject s: 0;&\n\
+op p 1+ assoc comm one infix +; rule r: p(x_:0, y_, z___); subject s: a;|op p 1+ assoc comm one infix +;&rule r: (y_ + x_:0 + z___);&subject s: a;&\n\
+op f 3; op p 1+ comm one infix +; rule r: f(_:p(b, a), x_:(p(a) + b), ___);|op f 3;&op p 1+ comm one infix +;&rule r: f(_:(a + b), x_:(a + b), ___);&\n\
+op p 1+ assoc comm one infix +; kind v: b a; subject s: (c + p(p(b)) + (a + b));|op p 1+ assoc comm one infix +;&kind v: a b;&subject s: (a + b + b + c);&\n\
+rule r: x_ if [[count($x)==01]];|rule r: x_ if count($x) == 1;&\n\
+kind v: a; op f 1; rule r: x_ if not [kind($x,v) or not head($x,f)] and 1<2;|op f 1;&kind v: a;&rule r: x_ if not [kind($x, v) or not head($x, f)] and 1 < 2;&\n\
+rule r: x_ if [same($x, a) and less($x, b)] or not [not free($x, a)];|rule r: x_ if same($x, a) and less($x, b) or not [not free($x, a)];&\n\
+op s 0+ comm; rule r: s(x__) if [size($x) >= 2 and [1 != 2 and 2 <= 3]];|op s 0+ comm;&rule r: s(x__) if size($x) >= 2 and [1 != 2 and 2 <= 3];&";
+
+// What a text is read as.
+#[derive(Clone, Copy)]
+enum Sort {
+    Term,
+    Pattern,
+    Condition,
+    File,
+}
+
+fn sink(alloc: Global) -> Result<MemorySink, Fail> {
+    match MemorySink::new(alloc, 200, Vec::new(alloc)) {
+        Ok(sink) => Ok(sink),
+        Err(_) => Err("memory ran out".into()),
+    }
+}
+
+// Reads the text and prints it. Answers whether both could be done.
+fn print(alloc: Global, sig: &Signature, sort: Sort, text: &[u8], sink: &mut MemorySink) -> bool {
+    if text.len() > 1000 {
+        return false;
+    }
+    match sort {
+        Sort::Term => match read_term(alloc, sig, text) {
+            Ok(term) => write_term(sig, &term, sink).is_ok(),
+            Err(_) => false,
+        },
+        Sort::Pattern => match read_pattern(alloc, sig, text) {
+            Ok(pattern) => write_pattern(sig, &pattern, sink).is_ok(),
+            Err(_) => false,
+        },
+        Sort::Condition => match read_loose_cond(alloc, sig, text) {
+            Ok(cond) => write_cond(sig, &cond, sink).is_ok(),
+            Err(_) => false,
+        },
+        Sort::File => match read_file(alloc, text) {
+            Ok(file) => write_file(&file, sink).is_ok(),
+            Err(_) => false,
+        },
+    }
+}
+
+// Whether the wanted text is printed of the text.
+fn is_printed(
+    alloc: Global,
+    sig: &Signature,
+    sort: Sort,
+    text: &[u8],
+    wanted: &[u8],
+) -> Result<bool, Fail> {
+    let mut sink = sink(alloc)?;
+    Ok(print(alloc, sig, sort, text, &mut sink) && sink.content() == wanted)
+}
+
+// Whether the line's second text is printed of its first, and of itself.
+fn is_printed_twice(alloc: Global, sig: &Signature, sort: Sort, line: &str) -> Result<bool, Fail> {
+    let (text, printed) = halves(line)?;
+    let wanted = with_line_feeds(alloc, printed)?;
+    Ok(
+        is_printed(alloc, sig, sort, text.as_bytes(), &wanted)?
+            && is_printed(alloc, sig, sort, &wanted, &wanted)?,
+    )
+}
+
+#[test]
+fn what_is_printed_is_read_again_and_printed_so(rt: HostRuntime) -> Result<(), Fail> {
+    printed_file_is_its_statements();
+    printed_file_is_read();
+    let alloc = rt.alloc();
+    let sig = signature(alloc)?;
+    for (sort, table) in [
+        (Sort::Term, TERMS),
+        (Sort::Pattern, PATTERNS),
+        (Sort::Condition, ATOMS),
+        (Sort::Condition, BRACKETS),
+        (Sort::File, FILES),
+    ] {
+        for line in table.split('\n') {
+            assert!(rt; is_printed_twice(alloc, &sig, sort, line)?, "{line}");
+        }
+    }
+    Ok(())
+}
+
+#[test]
+fn a_signature_is_printed_a_declaration_a_line(rt: HostRuntime) -> Result<(), Fail> {
+    let sig = signature(rt.alloc())?;
+    let mut sink = sink(rt.alloc())?;
+    assert!(rt; write_signature(&sig, &mut sink).is_ok());
+    let text = b"op f 2;\nop g 0+;\nop s 0+ comm;\nop p 1+ assoc comm one infix +;\nkind v: a b;\n";
+    assert_eq!(rt; sink.content(), text.as_slice());
+    Ok(())
+}

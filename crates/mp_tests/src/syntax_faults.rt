@@ -1,0 +1,273 @@
+// The first faults of texts, by tokens and grammar.
+use crate::case::{halves, with_line_feeds};
+use mp_syntax::{
+    Fault, Place, SyntaxError, first_token_place, read_condition, read_expression, read_statements,
+};
+use std::alloc::Global;
+use std::test::Fail;
+
+// In each table a line is a text and, behind `|`, its first fault: the kind, the line and the column. Nothing stands there where it has none. `&` stands
+// for a line feed.
+
+// Statements.
+const STATEMENTS: &str = "\
+|\n\
+\x20\t\r&# a comment # and more, to the end|\n\
+op f 2;|\n\
+op op 00;rule rule:subject;subject subject:rule();|\n\
+rule r: f(x_, g(x_, a), b());&subject s: f(f(a), 12);|\n\
+# {&op f 2; # é&subject s: a;|\n\
+subject s: é;|BadByte 1 12\n\
+op f 2|Syntax 1 7\n\
+op f 2;&&op|Syntax 3 3\n\
+op f x;|Syntax 1 6\n\
+op f_ 2;|Syntax 1 4\n\
+Op f 2;|Syntax 1 1\n\
+rule r: ;|Syntax 1 9\n\
+rule r f;|Syntax 1 8\n\
+rule r: f(a,);|Syntax 1 13\n\
+rule r: f(a b);|Syntax 1 13\n\
+rule r: f(a;|Syntax 1 12\n\
+rule r: x____;|Syntax 1 13\n\
+rule r: x_ _;|Syntax 1 12\n\
+rule r: x_K;subject s: 1_2;|\n\
+rule r: f(x__, (x___ + x_K + y__));|\n\
+rule r: x__K;|Syntax 1 12\n\
+rule r: x_K_;|Syntax 1 12\n\
+rule r: x_(a);|Syntax 1 11\n\
+rule r: f(_, (_K * ___), __);|\n\
+rule r: f(x_:a, _:(b * c), y_:g(z_:h(a)), _:x_:y_K);|\n\
+subject s: x_:_:y_:z_:a;|\n\
+rule r: f(x_K:a);|Syntax 1 14\n\
+rule r: f(x__:a);|Syntax 1 14\n\
+rule r: x_:y_K:a;|Syntax 1 15\n\
+rule r: a:b;|Syntax 1 10\n\
+rule r: f(a):b;|Syntax 1 13\n\
+rule r: x_:;|Syntax 1 12\n\
+rule r: x_::a;|Syntax 1 12\n\
+rule r: x_:y_:|Syntax 1 15\n\
+rule r: x_:(a);|Syntax 1 14\n\
+rule r: f(x_) -> a;|Syntax 1 15\n\
+rule r: f(x_)\r&\t[a];|Syntax 2 2\n\
+op f 2+; op g 0 + assoc comm one infix *;|\n\
+op assoc 1 comm; op infix 1 infix ++ infix -;|\n\
+op op 1 comm; kind kind: kind;|\n\
+op f 2 ++;|Syntax 1 8\n\
+op f 2 assoc +;|Syntax 1 14\n\
+op f 2 assoc 3;|Syntax 1 14\n\
+op f 2 infix;|Syntax 1 13\n\
+op f 2 infix ->;|Syntax 1 14\n\
+kind k: a b 1;|\n\
+kind k: ;|Syntax 1 9\n\
+kind k: a, b;|Syntax 1 10\n\
+kind k: a|Syntax 1 10\n\
+subject s: (a + (b * c * f((d - e))) + g());|\n\
+rule r: (x_ + (y_ - x_));|\n\
+subject s: (a);|Syntax 1 14\n\
+subject s: ();|Syntax 1 13\n\
+subject s: (a +);|Syntax 1 16\n\
+subject s: (a + b * c);|Syntax 1 19\n\
+subject s: (a ++ b + c);|Syntax 1 20\n\
+subject s: (a + b, c);|Syntax 1 18\n\
+subject s: (a -> b);|Syntax 1 15\n\
+subject s: (a + b|Syntax 1 18\n\
+subject s: f(a + b);|Syntax 1 16\n\
+subject s: a + b;|Syntax 1 14";
+
+// Rules with conditions.
+const RULES: &str = "\
+rule if: if if count(if) == 1;|\n\
+rule r: f(x_) if [not kind($x, v)];subject s: $x;|\n\
+rule r: $x if 1 == 1;|\n\
+subject s: f(a, $b);|\n\
+rule r: x_ if;|Syntax 1 14\n\
+rule r: x_ when 1 == 1;|Syntax 1 12\n\
+rule r: x_ if 1 == 1|Syntax 1 21\n\
+rule r: x_ if 1 == 1 if 1 == 1;|Syntax 1 22\n\
+rule r: x_ if [1 == 1;|Syntax 1 22\n\
+subject s: a if 1 == 1;|Syntax 1 14\n\
+subject s: $;|Syntax 1 13\n\
+rule r: $x(a);|Syntax 1 11";
+
+// Expressions alone.
+const EXPRESSIONS: &str = "\
+a|\n\
+\x20f(x_, y_K, (a + z___))&# the end|\n\
+x__|\n\
+|Syntax 1 1\n\
+# a&|Syntax 2 1\n\
+a;|Syntax 1 2\n\
+a b|Syntax 1 3\n\
+f(a|Syntax 1 4\n\
+f(a))|Syntax 1 5\n\
+(a + b|Syntax 1 7\n\
+x_:a|\n\
+_|\n\
+subject s: a;|Syntax 1 9\n\
+a \\|BadByte 1 3";
+
+// Conditions alone.
+const CONDITIONS: &str = "\
+1 == 2|\n\
+count($x) >= 2 and not same($x, a) or kind($x,v)|\n\
+not [ size(f($x, b)) < 10 or [less(a, $y)] ] and head($x, f)|\n\
+count(a) <= count(b)|\n\
+1 < 2 and 1 <= 2 and 2 > 1 and 2 >= 1 and 1 != 2|\n\
+same(count, size) or free(not, $if)|\n\
+same($ x, (a + $y))|\n\
+|Syntax 1 1\n\
+not|Syntax 1 4\n\
+not not 1 == 1|Syntax 1 5\n\
+[1 == 1|Syntax 1 8\n\
+[]|Syntax 1 2\n\
+1|Syntax 1 2\n\
+1 = 2|Syntax 1 3\n\
+1 -> 2|Syntax 1 3\n\
+1 == x|Syntax 1 6\n\
+1x == 1|Syntax 1 1\n\
+1 == 2 == 3|Syntax 1 8\n\
+1 == same(a, b)|Syntax 1 6\n\
+1 == not 2|Syntax 1 6\n\
+count == 1|Syntax 1 7\n\
+count() == 1|Syntax 1 7\n\
+count(a, b) == 1|Syntax 1 8\n\
+same(a)|Syntax 1 7\n\
+same(a, b, c)|Syntax 1 10\n\
+same(a, b) == 1|Syntax 1 12\n\
+kind(a, $b)|Syntax 1 9\n\
+kind(a, b_)|Syntax 1 9\n\
+head(a)|Syntax 1 7\n\
+less $x, a)|Syntax 1 6\n\
+same($, a)|Syntax 1 7\n\
+same($x_, a)|Syntax 1 7\n\
+kind(f(a, b), v|Syntax 1 16\n\
+1 == 1 and|Syntax 1 11\n\
+1 == 1 or or|Syntax 1 11\n\
+1 == 1 not 2 == 2|Syntax 1 8\n\
+1 == 1]|Syntax 1 7\n\
+1 == 1;|Syntax 1 7\n\
+(1 == 1)|Syntax 1 1\n\
+if 1 == 1|Syntax 1 1";
+
+// What a text is read as.
+#[derive(Clone, Copy)]
+enum Sort {
+    Statements,
+    Expression,
+    Condition,
+}
+
+fn error(alloc: Global, sort: Sort, text: &[u8]) -> Result<Option<SyntaxError>, Fail> {
+    if text.len() > 5000 {
+        return Err("the text is too long".into());
+    }
+    match sort {
+        Sort::Statements => Ok(read_statements(alloc, text).err()),
+        Sort::Expression => Ok(read_expression(alloc, text).err()),
+        Sort::Condition => Ok(read_condition(alloc, text).err()),
+    }
+}
+
+fn fault_text(alloc: Global, fault: &Fault) -> Result<String, Fail> {
+    let Fault { kind, place } = fault;
+    Ok(format!(in alloc; "{:?} {} {}", kind, place.line, place.column)?)
+}
+
+// The first fault of the text; nothing where there is none.
+fn first_fault(alloc: Global, sort: Sort, text: &[u8]) -> Result<String, Fail> {
+    match error(alloc, sort, text)? {
+        None => Ok(String::new(alloc)),
+        Some(SyntaxError::Fault(fault)) => fault_text(alloc, &fault),
+        Some(SyntaxError::Memory) => Err("memory ran out".into()),
+    }
+}
+
+// Whether the text of the line has the fault of the line.
+fn is_first(alloc: Global, sort: Sort, line: &str) -> Result<bool, Fail> {
+    let (text, fault) = halves(line)?;
+    let text = with_line_feeds(alloc, text)?;
+    Ok(first_fault(alloc, sort, &text)?.as_str() == fault)
+}
+
+#[test]
+fn the_first_fault_of_a_text_stands_at_its_token(rt: HostRuntime) -> Result<(), Fail> {
+    for (sort, table) in [
+        (Sort::Statements, STATEMENTS),
+        (Sort::Statements, RULES),
+        (Sort::Expression, EXPRESSIONS),
+        (Sort::Condition, CONDITIONS),
+    ] {
+        for line in table.split('\n') {
+            assert!(rt; is_first(rt.alloc(), sort, line)?, "{line}");
+        }
+    }
+    Ok(())
+}
+
+// So many times the text.
+fn push_times(text: &mut Vec<u8>, times: usize, part: &str) -> Result<(), Fail> {
+    for _ in 0..times {
+        text.extend_from_slice(part.as_bytes())?;
+    }
+    Ok(())
+}
+
+// The front, so many times what opens, the middle, as many times what closes, and the back.
+fn nested(alloc: Global, times: usize, parts: [&str; 5]) -> Result<Vec<u8>, Fail> {
+    let [front, open, middle, close, back] = parts;
+    let mut text = Vec::new(alloc);
+    push_times(&mut text, 1, front)?;
+    push_times(&mut text, times, open)?;
+    push_times(&mut text, 1, middle)?;
+    push_times(&mut text, times, close)?;
+    push_times(&mut text, 1, back)?;
+    Ok(text)
+}
+
+#[test]
+fn limits_are_met_exactly(rt: HostRuntime) -> Result<(), Fail> {
+    for (times, parts, fault) in [
+        (100, ["subject s: ", "u(", "a", ")", ";"], ""),
+        (101, ["subject s: ", "u(", "a", ")", ";"], "TooDeep 1 213"),
+        (100, ["subject s: ", "(", "a", "+b)", ";"], ""),
+        (101, ["subject s: ", "(", "a", "+b)", ";"], "TooDeep 1 112"),
+        (64, ["op ", "f", " 2;", "", ""], ""),
+        (65, ["op ", "f", " 2;", "", ""], "TooMany 1 4"),
+    ] {
+        let text = nested(rt.alloc(), times, parts)?;
+        assert_eq!(rt;
+            first_fault(rt.alloc(), Sort::Statements, &text)?.as_str(),
+            fault
+        );
+    }
+    Ok(())
+}
+
+#[test]
+fn brackets_of_all_sorts_are_counted_together(rt: HostRuntime) -> Result<(), Fail> {
+    for (times, middle, fault) in [
+        (100, "1 == 1", ""),
+        (101, "1 == 1", "TooDeep 1 101"),
+        (99, "same(a, b)", ""),
+        (99, "same(a, f(b))", "TooDeep 1 109"),
+        (98, "1 < count((a + b))", ""),
+        (98, "1 < count(f((a + b)))", "TooDeep 1 111"),
+    ] {
+        let text = nested(rt.alloc(), times, ["", "[", middle, "]", ""])?;
+        assert_eq!(rt;
+            first_fault(rt.alloc(), Sort::Condition, &text)?.as_str(),
+            fault
+        );
+    }
+    Ok(())
+}
+
+#[test]
+fn a_text_begins_at_its_first_token(rt: HostRuntime) -> Result<(), Fail> {
+    assert_eq!(rt;
+        first_token_place(b"# a\n  not"),
+        Place { line: 2, column: 3 }
+    );
+    assert_eq!(rt; first_token_place(b" "), Place { line: 1, column: 2 });
+    Ok(())
+}

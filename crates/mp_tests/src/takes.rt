@@ -1,0 +1,147 @@
+// Take tables that fit, and others.
+use mp_one::{check_takes, is_sound};
+use mp_pattern::{Entries, Entry, Pattern, Plan};
+use mp_term::{Signature, Term, Terms, is_normal};
+use mp_text::{read_file, read_pattern, read_term};
+use std::alloc::Global;
+use std::test::Fail;
+
+const DECLARED: &[u8] =
+    b"op f 2; op g 0+; op s 0+ comm; op p 0+ assoc; op u 0+ assoc comm one; kind v: a b;";
+
+// In each table a line is a pattern, a subject and a take table. A `;` stands between the entries of the table, and a blank between the terms of
+// an entry; the entry of a collapsed application ends with `!`.
+
+const FITTING: &str = "\
+u(x_,y_)|u(a,b,c)|u(a,b,c);a;b c\n\
+f(x_,y_)|f(a,b)|f(a,b);a;b\n\
+f(a,b)|f(a,b)|f(a,b);a;b\n\
+u(x_,y_:0)|a|a!;a;\n\
+u(x_,y_:0)|u(a,b)|u(a,b);a;b\n\
+u(x_:0,x_:0)|0|0!;;0\n\
+f(x_v,n_num)|f(b,7)|f(b,7);b;7\n\
+f(s(x__),g(x__))|f(s(a,b),g(b,a))|f(s(a,b),g(b,a));s(a,b);a b;g(b,a);b a\n\
+p(_,x_)|p(a,b,c)|p(a,b,c);a b;c";
+
+const OTHERS: &str = "\
+u(x_,y_)|u(a,b,c)|u(a,b,c);a;b\n\
+u(x_,y_)|u(a,b,c)|u(a,b,c);a;c b\n\
+f(x_,y_)|f(a,b)|f(a,b);a\n\
+f(x_,y_)|f(a,b)|f(a,b);a;b;b\n\
+f(x_,y_)|f(a,b)|f(b,b);b;b\n\
+f(x_,y_)|f(a,b)|f(a,b);b;b\n\
+u(x_,y_)|u(a,b,c)|u(a,b,c);a;u(b,c)\n\
+f(a,b)|f(a,b)|f(a,b);a!;b\n\
+u(x_,y_:0)|a|a;a;\n\
+u(x_,y_:0)|u(a,b)|u(a,b)!;a;b\n\
+u(y_,x_:0,z___)|a|a!;a;;\n\
+u(x_,y_)|a|a!;a;\n\
+u(x_:0,x_:0)|a|a!;;a\n\
+f(x_v,n_num)|f(c,7)|f(c,7);c;7\n\
+f(x_,x_)|f(a,b)|f(a,b);a;b\n\
+s(x__)|s(a,b)|s(a,b);b a\n\
+f(s(x__),g(x__))|f(s(a,b),g(b,b))|f(s(a,b),g(b,b));s(a,b);a b;g(b,b);b b\n\
+g(_,x_)|g(a,b,c)|g(a,b,c);a b;c\n\
+g(__,x_)|g(a)|g(a);;a";
+
+fn signature(alloc: Global) -> Result<Signature, Fail> {
+    match read_file(alloc, DECLARED) {
+        Ok(file) => Ok(file.sig),
+        Err(_) => Err("the declarations have a fault".into()),
+    }
+}
+
+fn term(alloc: Global, sig: &Signature, text: &str) -> Result<Term, Fail> {
+    if text.len() > 1000 {
+        return Err("the term is too long".into());
+    }
+    match read_term(alloc, sig, text.as_bytes()) {
+        Ok(term) => Ok(term),
+        Err(_) => Err("the term has a fault".into()),
+    }
+}
+
+fn pattern(alloc: Global, sig: &Signature, text: &str) -> Result<Pattern, Fail> {
+    if text.len() > 1000 {
+        return Err("the pattern is too long".into());
+    }
+    match read_pattern(alloc, sig, text.as_bytes()) {
+        Ok(pattern) => Ok(pattern),
+        Err(_) => Err("the pattern has a fault".into()),
+    }
+}
+
+fn entry(alloc: Global, sig: &Signature, text: &str) -> Result<Entry, Fail> {
+    let mut terms = Terms::new(alloc);
+    let collapsed = text.ends_with('!');
+    for word in text.trim_end_matches('!').split(' ') {
+        if !word.is_empty() {
+            terms.push(term(alloc, sig, word)?)?;
+        }
+    }
+    Ok(Entry { terms, collapsed })
+}
+
+fn table(alloc: Global, sig: &Signature, text: &str) -> Result<Entries, Fail> {
+    let mut takes = Entries::new(alloc);
+    for word in text.split(';') {
+        takes.push(entry(alloc, sig, word)?)?;
+    }
+    Ok(takes)
+}
+
+// Whether the table fits the plan's pattern and the subject.
+fn fits(
+    alloc: Global,
+    sig: &Signature,
+    plan: &Plan,
+    subject: &Term,
+    takes: &Entries,
+) -> Result<bool, Fail> {
+    if !is_normal(sig, subject) {
+        return Err("the subject isn't normal".into());
+    }
+    match check_takes(alloc, sig, plan, subject, takes) {
+        Ok(fits) => Ok(fits),
+        Err(_) => Err("memory ran out".into()),
+    }
+}
+
+fn plan(alloc: Global, sig: &Signature, text: &str) -> Result<Plan, Fail> {
+    let pattern = pattern(alloc, sig, text)?;
+    if !is_sound(sig, &pattern) {
+        return Err("a default isn't normal".into());
+    }
+    match Plan::compile(alloc, sig, &pattern) {
+        Ok(plan) => Ok(plan),
+        Err(_) => Err("the pattern has no plan".into()),
+    }
+}
+
+// Whether the table of the line fits its pattern and its subject.
+fn line_fits(alloc: Global, sig: &Signature, line: &str) -> Result<bool, Fail> {
+    let mut parts = line.split('|');
+    match (parts.next(), parts.next(), parts.next()) {
+        (Some(pattern), Some(subject), Some(takes)) => fits(
+            alloc,
+            sig,
+            &plan(alloc, sig, pattern)?,
+            &term(alloc, sig, subject)?,
+            &table(alloc, sig, takes)?,
+        ),
+        _ => Err("the line has fewer than three parts".into()),
+    }
+}
+
+#[test]
+fn a_table_fits_where_each_node_obeys_its_line(rt: HostRuntime) -> Result<(), Fail> {
+    let alloc = rt.alloc();
+    let sig = signature(alloc)?;
+    for line in FITTING.split('\n') {
+        assert!(rt; line_fits(alloc, &sig, line)?, "{line}");
+    }
+    for line in OTHERS.split('\n') {
+        assert!(rt; !line_fits(alloc, &sig, line)?, "{line}");
+    }
+    Ok(())
+}
