@@ -41,6 +41,136 @@ op f 2; rule r: f(x_, x_) if not [not same($x, a) or size($x) > 1]; subject s: f
 op plus 1+ assoc comm one infix +; rule r: plus(x_, y_:0) if not same($y, 0) and less($x, $y); subject s: a; subject t: (a + b + c);|t r {x -> a, y -> (b + c)}&t r {x -> b, y -> (a + c)}&t r {x -> c, y -> (a + b)}\n\
 op g 0+; rule if: g(if__) if count($if) == 1; subject if: g(if); subject or: g(if, if);|if if {if -> (if)}";
 
+// The example files of the language's page: their statements and, behind `|`, the lines of their matches, with `&` between each two.
+const EXAMPLES: &str = "\
+op and 2; \
+op or 2; \
+op not 1; \
+rule idempotent: and(x_, x_); \
+rule absorption: or(x_, and(x_, y_)); \
+rule doubleNegation: not(not(x_)); \
+rule deMorgan: not(and(x_, y_)); \
+subject both: and(p, p); \
+subject mixed: and(p, q); \
+subject absorbed: or(not(p), and(not(p), q)); \
+subject twice: not(not(and(p, q))); \
+subject negated: not(and(not(p), q));|\
+both idempotent {x -> p}&\
+absorbed absorption {x -> not(p), y -> q}&\
+twice doubleNegation {x -> and(p, q)}&\
+negated deMorgan {x -> not(p), y -> q}\n\
+op word 0+; \
+op join 1+ assoc infix ~; \
+kind vowel: a e i o u; \
+rule initialVowel: word(first_vowel, rest___); \
+rule sameEnds: word(end_, middle___, end_); \
+rule halves: word(half__, half__); \
+rule numbered: word(letters__, number_num); \
+rule cut: (front_ ~ back_); \
+rule doubled: (part_ ~ part_); \
+subject otto: word(o, t, t, o); \
+subject papa: word(p, a, p, a); \
+subject version: word(a, b, 7); \
+subject abc: (a ~ (b ~ c)); \
+subject abab: ((a ~ b) ~ (a ~ b));|\
+otto initialVowel {first -> o, rest -> (t, t, o)}&\
+otto sameEnds {end -> o, middle -> (t, t)}&\
+papa halves {half -> (p, a)}&\
+version initialVowel {first -> a, rest -> (b, 7)}&\
+version numbered {letters -> (a, b), number -> 7}&\
+abc cut {front -> a, back -> (b ~ c)}&\
+abc cut {front -> (a ~ b), back -> c}&\
+abab cut {front -> a, back -> (b ~ a ~ b)}&\
+abab cut {front -> (a ~ b), back -> (a ~ b)}&\
+abab cut {front -> (a ~ b ~ a), back -> b}&\
+abab doubled {part -> (a ~ b)}\n\
+op set 0+ comm; \
+op plus 1+ assoc comm one infix +; \
+rule member: set(a, rest___); \
+rule pair: set(x_, y_); \
+rule parts: (x_ + y_); \
+subject abc: set(b, a, c); \
+subject ab: set(a, b); \
+subject aa: set(a, a); \
+subject sum: (a + b + c);|\
+abc member {rest -> {b, c}}&\
+ab member {rest -> {b}}&\
+ab pair {x -> a, y -> b}&\
+ab pair {x -> b, y -> a}&\
+aa member {rest -> {a}}&\
+aa pair {x -> a, y -> a}&\
+sum parts {x -> a, y -> (b + c)}&\
+sum parts {x -> b, y -> (a + c)}&\
+sum parts {x -> c, y -> (a + b)}&\
+sum parts {x -> (a + b), y -> c}&\
+sum parts {x -> (a + c), y -> b}&\
+sum parts {x -> (b + c), y -> a}\n\
+op plus 1+ assoc comm one infix +; \
+op times 1+ assoc comm one infix *; \
+op power 1+ one infix ^; \
+op pair 2; \
+rule power: times(factor_num, power(base_, exponent_:1)); \
+rule monomial: times(factor_:1, power(base_, exponent_:1)); \
+subject cube: (5 * (x ^ 3)); \
+subject linear: (5 * x); \
+subject bare: x; \
+rule offset: plus(by_:0, x_); \
+subject sum: (a + b); \
+rule nothing: plus(x_:0); \
+rule firsts: pair(first_, _); \
+rule numbers: pair(_num, _num); \
+subject both: pair(1, 2);|\
+cube power {base -> x, exponent -> 3, factor -> 5}&\
+cube power {base -> (x ^ 3), exponent -> 1, factor -> 5}&\
+cube monomial {base -> 5, exponent -> 1, factor -> (x ^ 3)}&\
+cube monomial {base -> x, exponent -> 3, factor -> 5}&\
+cube monomial {base -> (x ^ 3), exponent -> 1, factor -> 5}&\
+cube monomial {base -> (5 * (x ^ 3)), exponent -> 1, factor -> 1}&\
+cube offset {x -> (5 * (x ^ 3)), by -> 0}&\
+linear power {base -> x, exponent -> 1, factor -> 5}&\
+linear monomial {base -> 5, exponent -> 1, factor -> x}&\
+linear monomial {base -> x, exponent -> 1, factor -> 5}&\
+linear monomial {base -> (5 * x), exponent -> 1, factor -> 1}&\
+linear offset {x -> (5 * x), by -> 0}&\
+bare monomial {base -> x, exponent -> 1, factor -> 1}&\
+bare offset {x -> x, by -> 0}&\
+sum monomial {base -> (a + b), exponent -> 1, factor -> 1}&\
+sum offset {x -> a, by -> b}&\
+sum offset {x -> b, by -> a}&\
+sum offset {x -> (a + b), by -> 0}&\
+sum nothing {x -> (a + b)}&\
+both monomial {base -> pair(1, 2), exponent -> 1, factor -> 1}&\
+both offset {x -> pair(1, 2), by -> 0}&\
+both firsts {first -> 1}&\
+both numbers {}\n\
+op f 2; \
+op set 0+ comm; \
+op list 0+; \
+op plus 1+ assoc comm one infix +; \
+kind v: x y z; \
+rule ordered: f(a_, b_) if less($a, $b); \
+subject ab: f(a, b); \
+subject ba: f(b, a); \
+rule several: set(left__, right___) if count($left) >= 2; \
+subject three: set(a, b, c); \
+rule constant: f(sum_, var_v) if free($var, $sum) and not same($sum, 0); \
+subject linear: f((a + (x + 1)), x); \
+subject number: f((a + 1), x); \
+subject zero: f(0, x); \
+rule either: list(all__) if [count($all) == 1 and head($all, plus) and size($all) <= 3] or kind($all, num) and count($all) == 2; \
+subject sum: list((a + b)); \
+subject long: list((a + b + c)); \
+subject numbers: list(3, 7);|\
+ab ordered {a -> a, b -> b}&\
+three several {left -> {a, b}, right -> {c}}&\
+three several {left -> {a, c}, right -> {b}}&\
+three several {left -> {b, c}, right -> {a}}&\
+three several {left -> {a, b, c}, right -> {}}&\
+number constant {sum -> (1 + a), var -> x}&\
+zero ordered {a -> 0, b -> x}&\
+sum either {all -> ((a + b))}&\
+numbers either {all -> (3, 7)}";
+
 // Which calls fail: of the shelf, of the sink for lines, and of the sink for errors. Numbers from 0.
 #[derive(Clone, Copy)]
 struct Fails<'a> {
@@ -72,8 +202,8 @@ fn ran(
         return Err("memory".into());
     }
     match (
-        MemorySink::new(alloc, 200, fails.out.to_vec(alloc)?),
-        MemorySink::new(alloc, 200, fails.err.to_vec(alloc)?),
+        MemorySink::new(alloc, 2000, fails.out.to_vec(alloc)?),
+        MemorySink::new(alloc, 2000, fails.err.to_vec(alloc)?),
     ) {
         (Ok(mut out), Ok(mut err)) => {
             let status = run(alloc, owned.as_slice(), &mut shelf, &mut out, &mut err);
@@ -115,8 +245,10 @@ fn is_matched(rt: &HostRuntime, case: &str) -> Result<bool, Fail> {
 
 #[test]
 fn each_match_is_printed_once_in_order(rt: HostRuntime) -> Result<(), Fail> {
-    for case in MATCHES.split('\n') {
-        assert!(rt; is_matched(&rt, case)?, "{case}");
+    for table in [MATCHES, EXAMPLES] {
+        for case in table.split('\n') {
+            assert!(rt; is_matched(&rt, case)?, "{case}");
+        }
     }
     Ok(())
 }
