@@ -13,13 +13,9 @@ mod order;
 mod outline;
 mod pattern;
 mod plan;
-#[cfg(test)]
-mod plan_tests;
 mod rule;
 mod syntactic;
 mod template;
-#[cfg(test)]
-mod tests;
 
 pub use compile::PlanFault;
 pub use condition::{Amount, BoxedCond, Cond, Conds, Operand, Sense};

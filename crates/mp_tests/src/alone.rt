@@ -1,14 +1,15 @@
 // Terms, patterns and conditions that stand alone: their first faults.
 use crate::case::{halves, told};
+use crate::reading::{pattern, plan, signature};
 use mp_pattern::Plan;
 use mp_term::Signature;
-use mp_text::{TextError, read_cond, read_file, read_loose_cond, read_pattern, read_term};
+use mp_text::{TextError, read_cond, read_loose_cond, read_pattern, read_term};
 use std::alloc::Global;
 use std::test::Fail;
 
 /// The operations and kinds of the tests.
-pub const DECLARED: &[u8] =
-    b"op f 2; op g 0+; op s 0+ comm; op p 1+ assoc comm one infix +; kind v: a b;";
+pub const DECLARED: &str =
+    "op f 2; op g 0+; op s 0+ comm; op p 1+ assoc comm one infix +; kind v: a b;";
 
 // In each table a line is a text and, behind `|`, its first fault: the kind, the line and the column. Nothing stands there where it has none.
 
@@ -51,28 +52,6 @@ less($x, $z)|\n\
 kind(a, q) and less($x, x_)|UnknownKind 1 9\n\
 head($x, s) or free(y_, $x)|WildcardInTerm 1 21\n\
 not [less($x, f)]|BareOperation 1 15";
-
-/// The signature of `DECLARED`.
-pub fn signature(alloc: Global) -> Result<Signature, Fail> {
-    match read_file(alloc, DECLARED) {
-        Ok(file) => Ok(file.sig),
-        Err(_) => Err("the declarations have a fault".into()),
-    }
-}
-
-/// The plan of a pattern.
-pub fn plan(alloc: Global, sig: &Signature, text: &str) -> Result<Plan, Fail> {
-    if text.len() > 1000 {
-        return Err("the text is too long".into());
-    }
-    let Ok(pattern) = read_pattern(alloc, sig, text.as_bytes()) else {
-        return Err("the pattern has a fault".into());
-    };
-    match Plan::compile(alloc, sig, &pattern) {
-        Ok(plan) => Ok(plan),
-        Err(_) => Err("the pattern has no plan".into()),
-    }
-}
 
 // What a text is read as.
 #[derive(Clone, Copy)]
@@ -118,8 +97,8 @@ fn is_first(
 #[test]
 fn the_first_fault_of_a_text_stands_at_its_token(rt: HostRuntime) -> Result<(), Fail> {
     let alloc = rt.alloc();
-    let sig = signature(alloc)?;
-    let plan = plan(alloc, &sig, "s(x__, y___)")?;
+    let sig = signature(alloc, DECLARED)?;
+    let plan = plan(alloc, &sig, &pattern(alloc, &sig, "s(x__, y___)")?)?;
     for (sort, table) in [
         (Sort::Term, TERMS),
         (Sort::Pattern, PATTERNS),
@@ -148,8 +127,8 @@ fn applied(alloc: Global, name: u8, count: usize) -> Result<Vec<u8>, Fail> {
 #[test]
 fn a_pattern_has_at_most_64_nodes(rt: HostRuntime) -> Result<(), Fail> {
     let alloc = rt.alloc();
-    let sig = signature(alloc)?;
-    let plan = plan(alloc, &sig, "a")?;
+    let sig = signature(alloc, DECLARED)?;
+    let plan = plan(alloc, &sig, &pattern(alloc, &sig, "a")?)?;
     for (name, count, fault) in [(b'g', 63, ""), (b'q', 64, "TooMany 1 1")] {
         let text = applied(alloc, name, count)?;
         let error = error(alloc, &sig, &plan, Sort::Pattern, &text)?;

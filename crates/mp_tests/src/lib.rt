@@ -1,5 +1,5 @@
-//! Tests of the libraries' public calls over texts: what is read as which trees, which faults are told, what is printed, and which take tables and items
-//! a pattern has.
+//! Tests of the libraries' public calls over texts: what is read as which trees, which faults are told, what is printed, and what a
+//! pattern is: its order, its plan, its take tables and its items.
 #![tactic(auto)]
 
 #[cfg(test)]
@@ -15,7 +15,13 @@ mod items;
 #[cfg(test)]
 mod lists;
 #[cfg(test)]
+mod patterns;
+#[cfg(test)]
+mod plans;
+#[cfg(test)]
 mod printed;
+#[cfg(test)]
+mod reading;
 #[cfg(test)]
 mod syntax_faults;
 #[cfg(test)]

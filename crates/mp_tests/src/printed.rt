@@ -1,6 +1,7 @@
 // What is printed of terms, patterns, conditions, signatures and files.
-use crate::alone::signature;
+use crate::alone::DECLARED;
 use crate::case::{halves, with_line_feeds};
+use crate::reading::signature;
 use mp_io::MemorySink;
 use mp_term::Signature;
 use mp_text::{
@@ -130,7 +131,7 @@ fn what_is_printed_is_read_again_and_printed_so(rt: HostRuntime) -> Result<(), F
     printed_file_is_its_statements();
     printed_file_is_read();
     let alloc = rt.alloc();
-    let sig = signature(alloc)?;
+    let sig = signature(alloc, DECLARED)?;
     for (sort, table) in [
         (Sort::Term, TERMS),
         (Sort::Pattern, PATTERNS),
@@ -147,7 +148,7 @@ fn what_is_printed_is_read_again_and_printed_so(rt: HostRuntime) -> Result<(), F
 
 #[test]
 fn a_signature_is_printed_a_declaration_a_line(rt: HostRuntime) -> Result<(), Fail> {
-    let sig = signature(rt.alloc())?;
+    let sig = signature(rt.alloc(), DECLARED)?;
     let mut sink = sink(rt.alloc())?;
     assert!(rt; write_signature(&sig, &mut sink).is_ok());
     let text = b"op f 2;\nop g 0+;\nop s 0+ comm;\nop p 1+ assoc comm one infix +;\nkind v: a b;\n";

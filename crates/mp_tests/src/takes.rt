@@ -1,13 +1,13 @@
 // Take tables that fit, and others.
+use crate::reading::{pattern, plan, signature, term};
 use mp_one::{check_takes, is_sound};
-use mp_pattern::{Entries, Entry, Pattern, Plan};
+use mp_pattern::{Entries, Entry, Plan};
 use mp_term::{Signature, Term, Terms, is_normal};
-use mp_text::{read_file, read_pattern, read_term};
 use std::alloc::Global;
 use std::test::Fail;
 
-const DECLARED: &[u8] =
-    b"op f 2; op g 0+; op s 0+ comm; op p 0+ assoc; op u 0+ assoc comm one; kind v: a b;";
+const DECLARED: &str =
+    "op f 2; op g 0+; op s 0+ comm; op p 0+ assoc; op u 0+ assoc comm one; kind v: a b;";
 
 // In each table a line is a pattern, a subject and a take table. A `;` stands between the entries of the table, and a blank between the terms of
 // an entry; the entry of a collapsed application ends with `!`.
@@ -43,33 +43,6 @@ s(x__)|s(a,b)|s(a,b);b a\n\
 f(s(x__),g(x__))|f(s(a,b),g(b,b))|f(s(a,b),g(b,b));s(a,b);a b;g(b,b);b b\n\
 g(_,x_)|g(a,b,c)|g(a,b,c);a b;c\n\
 g(__,x_)|g(a)|g(a);;a";
-
-fn signature(alloc: Global) -> Result<Signature, Fail> {
-    match read_file(alloc, DECLARED) {
-        Ok(file) => Ok(file.sig),
-        Err(_) => Err("the declarations have a fault".into()),
-    }
-}
-
-fn term(alloc: Global, sig: &Signature, text: &str) -> Result<Term, Fail> {
-    if text.len() > 1000 {
-        return Err("the term is too long".into());
-    }
-    match read_term(alloc, sig, text.as_bytes()) {
-        Ok(term) => Ok(term),
-        Err(_) => Err("the term has a fault".into()),
-    }
-}
-
-fn pattern(alloc: Global, sig: &Signature, text: &str) -> Result<Pattern, Fail> {
-    if text.len() > 1000 {
-        return Err("the pattern is too long".into());
-    }
-    match read_pattern(alloc, sig, text.as_bytes()) {
-        Ok(pattern) => Ok(pattern),
-        Err(_) => Err("the pattern has a fault".into()),
-    }
-}
 
 fn entry(alloc: Global, sig: &Signature, text: &str) -> Result<Entry, Fail> {
     let mut terms = Terms::new(alloc);
@@ -107,15 +80,13 @@ fn fits(
     }
 }
 
-fn plan(alloc: Global, sig: &Signature, text: &str) -> Result<Plan, Fail> {
+// The plan of the text's pattern, whose defaults are normal.
+fn sound_plan(alloc: Global, sig: &Signature, text: &str) -> Result<Plan, Fail> {
     let pattern = pattern(alloc, sig, text)?;
     if !is_sound(sig, &pattern) {
         return Err("a default isn't normal".into());
     }
-    match Plan::compile(alloc, sig, &pattern) {
-        Ok(plan) => Ok(plan),
-        Err(_) => Err("the pattern has no plan".into()),
-    }
+    plan(alloc, sig, &pattern)
 }
 
 // Whether the table of the line fits its pattern and its subject.
@@ -125,7 +96,7 @@ fn line_fits(alloc: Global, sig: &Signature, line: &str) -> Result<bool, Fail> {
         (Some(pattern), Some(subject), Some(takes)) => fits(
             alloc,
             sig,
-            &plan(alloc, sig, pattern)?,
+            &sound_plan(alloc, sig, pattern)?,
             &term(alloc, sig, subject)?,
             &table(alloc, sig, takes)?,
         ),
@@ -136,7 +107,7 @@ fn line_fits(alloc: Global, sig: &Signature, line: &str) -> Result<bool, Fail> {
 #[test]
 fn a_table_fits_where_each_node_obeys_its_line(rt: HostRuntime) -> Result<(), Fail> {
     let alloc = rt.alloc();
-    let sig = signature(alloc)?;
+    let sig = signature(alloc, DECLARED)?;
     for line in FITTING.split('\n') {
         assert!(rt; line_fits(alloc, &sig, line)?, "{line}");
     }

@@ -1,10 +1,16 @@
-// Each public call once, with ample memory.
+// Patterns: their lists, their order, their copies and their normal form.
 ghost use Rattle.std.specs.Prelude.{◌≡◌, IfOk, true};
 ghost use Rattle.mp_pattern.specs.View.{pattern_tree};
 ghost use Rattle.mp_pattern.specs.Sound.{holds_ops, DefaultsAreNormal};
 
-use super::*;
-use mp_term::{KindId, Name, OpDecl, OpId, Signature, Term, Terms};
+use crate::case::halves;
+use crate::reading::{pattern, signature};
+use mp_pattern::{
+    Amount, BoxedCond, Cond, Conds, Entries, Entry, Operand, Pattern, Patterns, Rule, Rules, Sense,
+    Shape, Template, Templates, copy_cond, copy_pattern, is_fully_named, is_syntactic,
+    normalise_pattern, pattern_compare,
+};
+use mp_term::{KindId, Name, OpId, Signature, Term, Terms};
 use std::alloc::Global;
 use std::cmp::Ordering;
 use std::test::Fail;
@@ -103,84 +109,79 @@ fn take_tables_hold_what_was_pushed(rt: HostRuntime) -> Result<(), Fail> {
     Ok(())
 }
 
-// The pattern of a wildcard with a variable of that name, or with none where the name is empty.
-pub(crate) fn wildcard(alloc: Global, shape: Shape, text: &[u8]) -> Result<Pattern, Fail> {
-    if text.is_empty() {
-        return Ok(Pattern::Wild(shape, None));
+/// An operation with all flags, one of three arguments and one of any number.
+pub const DECLARED: &str = "op sum 1+ assoc comm one; op f 3; op g 0+; kind v: a b;";
+
+// Ascending arguments of `g`, each with `n` where it is fully named and `s` where it is syntactic.
+const ASCENDING: &str = "\
+b|ns\n\
+sum(a)|n\n\
+f(a, b, c)|ns\n\
+f(a, x_, c)|ns\n\
+x_num|ns\n\
+x_v|ns\n\
+_num|s\n\
+x_|ns\n\
+y_|ns\n\
+_|s\n\
+x_:0|n\n\
+x_:1|n\n\
+x__|n\n\
+___|";
+
+// The text as the only argument of `g`.
+fn argument(alloc: Global, sig: &Signature, text: &str) -> Result<Pattern, Fail> {
+    let applied = format!(in alloc; "g({text})")?;
+    match pattern(alloc, sig, &applied)? {
+        Pattern::App(_, args) => match args.get(0) {
+            Some(argument) => Ok(copy_pattern(alloc, argument)?),
+            None => Err("no argument".into()),
+        },
+        _ => Err("no application".into()),
     }
-    Ok(Pattern::Wild(shape, Some(Name::new(alloc, text)?)))
 }
 
-// The operation applied to the argument.
-fn applied(alloc: Global, op: OpId, arg: Pattern) -> Result<Pattern, Fail> {
-    let mut args = Patterns::new(alloc);
-    args.push(arg)?;
-    Ok(Pattern::App(op, args))
+// `n` where the pattern is fully named, and `s` where it is syntactic.
+fn marks(sig: &Signature, pattern: &Pattern) -> &'static str {
+    match (is_fully_named(pattern), is_syntactic(sig, pattern)) {
+        (true, true) => "ns",
+        (true, false) => "n",
+        (false, true) => "s",
+        (false, false) => "",
+    }
 }
 
-// Declares an operation of one argument or more with all flags, or of one argument with none.
-fn declare(alloc: Global, sig: &mut Signature, text: &[u8], flags: bool) -> Result<(), Fail> {
-    sig.add_op(OpDecl {
-        name: Name::new(alloc, text)?,
-        least: 1,
-        fixed: !flags,
-        assoc: flags,
-        comm: flags,
-        one: flags,
-        sign: None,
-    })?;
-    Ok(())
-}
-
-// sum, which has all flags, and f of one argument.
-pub(crate) fn signature(alloc: Global) -> Result<Signature, Fail> {
-    let mut sig = Signature::new(alloc)?;
-    declare(alloc, &mut sig, b"sum", true)?;
-    declare(alloc, &mut sig, b"f", false)?;
-    Ok(sig)
-}
-
-// Ascending patterns, each with whether it is fully named and whether it is syntactic.
-fn ascending(alloc: Global) -> Result<Vec<(Pattern, bool, bool)>, Fail> {
-    let mut rows = Vec::new(alloc);
-    rows.push((Pattern::Sym(Name::new(alloc, b"b")?), true, true))?;
-    let a = Pattern::Sym(Name::new(alloc, b"a")?);
-    rows.push((applied(alloc, OpId(0), a)?, true, false))?;
-    let a = Pattern::Sym(Name::new(alloc, b"a")?);
-    rows.push((applied(alloc, OpId(1), a)?, true, true))?;
-    let x = wildcard(alloc, Shape::Dot, b"x")?;
-    rows.push((applied(alloc, OpId(1), x)?, true, true))?;
-    rows.push((wildcard(alloc, Shape::Kind(KindId(0)), b"x")?, true, true))?;
-    rows.push((wildcard(alloc, Shape::Kind(KindId(1)), b"x")?, true, true))?;
-    rows.push((wildcard(alloc, Shape::Kind(KindId(0)), b"")?, false, true))?;
-    rows.push((wildcard(alloc, Shape::Dot, b"x")?, true, true))?;
-    rows.push((wildcard(alloc, Shape::Dot, b"y")?, true, true))?;
-    rows.push((wildcard(alloc, Shape::Dot, b"")?, false, true))?;
-    let nought = Term::Sym(Name::new(alloc, b"0")?);
-    rows.push((wildcard(alloc, Shape::Opt(nought), b"x")?, true, false))?;
-    let one = Term::Sym(Name::new(alloc, b"1")?);
-    rows.push((wildcard(alloc, Shape::Opt(one), b"x")?, true, false))?;
-    rows.push((wildcard(alloc, Shape::Plus, b"x")?, true, false))?;
-    rows.push((wildcard(alloc, Shape::Star, b"")?, false, false))?;
-    Ok(rows)
+// The patterns of the table.
+fn ascending(alloc: Global, sig: &Signature) -> Result<Vec<Pattern>, Fail> {
+    let mut patterns = Vec::new(alloc);
+    for line in ASCENDING.split('\n') {
+        let (text, _) = halves(line)?;
+        patterns.push(argument(alloc, sig, text)?)?;
+    }
+    Ok(patterns)
 }
 
 #[test]
-fn patterns_ascend_and_are_copied(rt: HostRuntime) -> Result<(), Fail> {
+fn patterns_ascend(rt: HostRuntime) -> Result<(), Fail> {
+    let sig = signature(rt.alloc(), DECLARED)?;
+    let patterns = ascending(rt.alloc(), &sig)?;
+    for i in 1..patterns.len() {
+        assert!(rt; patterns[i - 1] < patterns[i]);
+        assert!(rt; pattern_compare(&patterns[i], &patterns[i - 1]).is_gt());
+    }
+    Ok(())
+}
+
+#[test]
+fn patterns_are_named_syntactic_and_copied(rt: HostRuntime) -> Result<(), Fail> {
     let alloc = rt.alloc();
-    let sig = signature(alloc)?;
-    let rows = ascending(alloc)?;
-    for (i, (pattern, named, syntactic)) in rows.iter().enumerate() {
-        assert_eq!(rt; is_fully_named(pattern), *named);
-        assert_eq!(rt; is_syntactic(&sig, pattern), *syntactic);
-        assert_eq!(rt;
-            pattern_compare(pattern, &copy_pattern(alloc, pattern)?),
-            Ordering::Equal
-        );
-        if i + 1 < rows.len() {
-            assert!(rt; *pattern < rows[i + 1].0);
-            assert!(rt; pattern_compare(&rows[i + 1].0, pattern).is_gt());
-        }
+    let sig = signature(alloc, DECLARED)?;
+    for line in ASCENDING.split('\n') {
+        let (text, wanted) = halves(line)?;
+        let pattern = argument(alloc, &sig, text)?;
+        assert_eq!(rt; marks(&sig, &pattern), wanted);
+        let copy = copy_pattern(alloc, &pattern)?;
+        assert_eq!(rt; pattern_compare(&pattern, &copy), Ordering::Equal);
     }
     Ok(())
 }
@@ -214,15 +215,15 @@ fn is_flat_sum(alloc: Global, pattern: &Pattern) -> Result<bool, Fail> {
     let mut args = Patterns::new(alloc);
     args.push(Pattern::Sym(Name::new(alloc, b"a")?))?;
     args.push(Pattern::Sym(Name::new(alloc, b"b")?))?;
-    args.push(wildcard(alloc, Shape::Dot, b"y")?)?;
-    args.push(wildcard(alloc, Shape::Star, b"x")?)?;
+    args.push(Pattern::Wild(Shape::Dot, Some(Name::new(alloc, b"y")?)))?;
+    args.push(Pattern::Wild(Shape::Star, Some(Name::new(alloc, b"x")?)))?;
     Ok(*pattern == Pattern::App(OpId(0), args))
 }
 
 #[test]
 fn sums_are_flattened_and_sorted(rt: HostRuntime) -> Result<(), Fail> {
     let alloc = rt.alloc();
-    let sig = signature(alloc)?;
+    let sig = signature(alloc, DECLARED)?;
     let normal = normal_sum(alloc, &sig)?;
     assert!(rt; is_flat_sum(alloc, &normal)?);
     Ok(())

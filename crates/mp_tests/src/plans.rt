@@ -1,6 +1,7 @@
 // Plans, read node by node and variable by variable, and the refusals.
-use crate::tests::{signature, wildcard};
-use crate::{Form, Pattern, Patterns, Plan, PlanFault, PlanNode, Shape};
+use crate::patterns::DECLARED;
+use crate::reading::{pattern, plan, signature};
+use mp_pattern::{Form, Pattern, Patterns, Plan, PlanFault, PlanNode, Shape};
 use mp_term::{KindId, Name, OpId, Signature};
 use std::alloc::Global;
 use std::test::Fail;
@@ -22,33 +23,9 @@ fn described(node: Option<PlanNode<'_>>) -> (u8, u32) {
     }
 }
 
-// sum(x__, w___)
-fn sequences(alloc: Global) -> Result<Pattern, Fail> {
-    let mut args = Patterns::new(alloc);
-    args.push(wildcard(alloc, Shape::Plus, b"x")?)?;
-    args.push(wildcard(alloc, Shape::Star, b"w")?)?;
-    Ok(Pattern::App(OpId(0), args))
-}
+const MIXED: &str = "f(sum(x__, w___), f(a, x__, _), z_num)";
 
-// f(a, x__, _)
-fn ordered(alloc: Global) -> Result<Pattern, Fail> {
-    let mut args = Patterns::new(alloc);
-    args.push(Pattern::Sym(Name::new(alloc, b"a")?))?;
-    args.push(wildcard(alloc, Shape::Plus, b"x")?)?;
-    args.push(wildcard(alloc, Shape::Dot, b"")?)?;
-    Ok(Pattern::App(OpId(1), args))
-}
-
-// f(sum(x__, w___), f(a, x__, _), z_num)
-fn mixed(alloc: Global) -> Result<Pattern, Fail> {
-    let mut args = Patterns::new(alloc);
-    args.push(sequences(alloc)?)?;
-    args.push(ordered(alloc)?)?;
-    args.push(wildcard(alloc, Shape::Kind(KindId(0)), b"z")?)?;
-    Ok(Pattern::App(OpId(1), args))
-}
-
-// The nodes of `mixed`: what stands there, the number of the node after, and the number of the parent; and behind the last one.
+// The nodes of `MIXED`: what stands there, the number of the node after, and the number of the parent; and behind the last one.
 const NODES: [((u8, u32), Option<u32>, Option<u32>); 10] = [
     ((2, 1), Some(9), None),
     ((2, 0), Some(4), Some(0)),
@@ -65,9 +42,9 @@ const NODES: [((u8, u32), Option<u32>, Option<u32>); 10] = [
 #[test]
 fn nodes_have_the_numbers_of_the_preorder(rt: HostRuntime) -> Result<(), Fail> {
     let alloc = rt.alloc();
-    let sig = signature(alloc)?;
-    let pattern = mixed(alloc)?;
-    let plan = Plan::compile(alloc, &sig, &pattern)?;
+    let sig = signature(alloc, DECLARED)?;
+    let pattern = pattern(alloc, &sig, MIXED)?;
+    let plan = plan(alloc, &sig, &pattern)?;
     assert_eq!(rt; plan.len(), 9);
     for (i, (what, end, parent)) in NODES.iter().enumerate() {
         let number = i as u32;
@@ -81,9 +58,9 @@ fn nodes_have_the_numbers_of_the_preorder(rt: HostRuntime) -> Result<(), Fail> {
 #[test]
 fn variables_have_their_forms(rt: HostRuntime) -> Result<(), Fail> {
     let alloc = rt.alloc();
-    let sig = signature(alloc)?;
-    let pattern = mixed(alloc)?;
-    let plan = Plan::compile(alloc, &sig, &pattern)?;
+    let sig = signature(alloc, DECLARED)?;
+    let pattern = pattern(alloc, &sig, MIXED)?;
+    let plan = plan(alloc, &sig, &pattern)?;
     assert_eq!(rt; plan.vars(), 3);
     for (i, (letter, form)) in [(b'x', Form::Seq), (b'w', Form::Bag), (b'z', Form::One)]
         .iter()
@@ -116,11 +93,16 @@ fn answer(alloc: Global, sig: &Signature, pattern: &Pattern) -> (u8, u32) {
     }
 }
 
+// A wildcard with the name.
+fn named(alloc: Global, shape: Shape, text: &[u8]) -> Result<Pattern, Fail> {
+    Ok(Pattern::Wild(shape, Some(Name::new(alloc, text)?)))
+}
+
 // sum of that many dots, with different names or without.
-fn dots(alloc: Global, count: u8, named: bool) -> Result<Pattern, Fail> {
+fn dots(alloc: Global, count: u8, has_names: bool) -> Result<Pattern, Fail> {
     let mut args = Patterns::new(alloc);
     for i in 0..count {
-        let name = if named {
+        let name = if has_names {
             Some(Name::new(alloc, &[b'a' + i % 16, b'a' + i / 16])?)
         } else {
             None
@@ -133,16 +115,16 @@ fn dots(alloc: Global, count: u8, named: bool) -> Result<Pattern, Fail> {
 // sum(x_num, y_, x), the last with this shape
 fn twice(alloc: Global, shape: Shape) -> Result<Pattern, Fail> {
     let mut args = Patterns::new(alloc);
-    args.push(wildcard(alloc, Shape::Kind(KindId(0)), b"x")?)?;
-    args.push(wildcard(alloc, Shape::Dot, b"y")?)?;
-    args.push(wildcard(alloc, shape, b"x")?)?;
+    args.push(named(alloc, Shape::Kind(KindId(0)), b"x")?)?;
+    args.push(named(alloc, Shape::Dot, b"y")?)?;
+    args.push(named(alloc, shape, b"x")?)?;
     Ok(Pattern::App(OpId(0), args))
 }
 
 // The pattern of a case, with the answer of `compile`.
 fn case(alloc: Global, number: u8) -> Result<(Pattern, (u8, u32)), Fail> {
     match number {
-        0 => Ok((wildcard(alloc, Shape::Plus, b"x")?, (1, 0))),
+        0 => Ok((named(alloc, Shape::Plus, b"x")?, (1, 0))),
         1 => Ok((dots(alloc, 64, true)?, (2, 65))),
         2 => Ok((dots(alloc, 63, false)?, (0, 0))),
         3 => Ok((dots(alloc, 33, true)?, (3, 33))),
@@ -156,7 +138,7 @@ fn case(alloc: Global, number: u8) -> Result<(Pattern, (u8, u32)), Fail> {
 #[test]
 fn refusals_come_in_order(rt: HostRuntime) -> Result<(), Fail> {
     let alloc = rt.alloc();
-    let sig = signature(alloc)?;
+    let sig = signature(alloc, DECLARED)?;
     for number in 0..8 {
         let (pattern, expected) = case(alloc, number)?;
         assert_eq!(rt; answer(alloc, &sig, &pattern), expected);
