@@ -227,10 +227,18 @@ fn nested(alloc: Global, times: usize, parts: [&str; 5]) -> Result<Vec<u8>, Fail
 #[test]
 fn limits_are_met_exactly(rt: HostRuntime) -> Result<(), Fail> {
     for (times, parts, fault) in [
-        (100, ["subject s: ", "u(", "a", ")", ";"], ""),
-        (101, ["subject s: ", "u(", "a", ")", ";"], "TooDeep 1 213"),
-        (100, ["subject s: ", "(", "a", "+b)", ";"], ""),
-        (101, ["subject s: ", "(", "a", "+b)", ";"], "TooDeep 1 112"),
+        (100, ["op u 1; subject s: ", "u(", "a", ")", ";"], ""),
+        (
+            101,
+            ["op u 1; subject s: ", "u(", "a", ")", ";"],
+            "TooDeep 1 221",
+        ),
+        (100, ["op u 1; subject s: ", "(", "a", "+b)", ";"], ""),
+        (
+            101,
+            ["op u 1; subject s: ", "(", "a", "+b)", ";"],
+            "TooDeep 1 120",
+        ),
         (64, ["op ", "f", " 2;", "", ""], ""),
         (65, ["op ", "f", " 2;", "", ""], "TooMany 1 4"),
     ] {
