@@ -10,7 +10,7 @@ use Rattle.mp_theory.specs.OneList as one
 use Rattle.mp_one.specs.Items.{item_of}
 use Rattle.mp_one.specs.declared.item.Item.{Item}
 use Rattle.mp_text.specs.File.{Subject}
-use Rattle.mp_text.specs.Printing.{subst_text}
+use Rattle.mp_print.specs.Printing.{subst_text}
 use Rattle.std.specs.List.{AllByRecursion}
 use Rattle.std.specs.Io.KnownBytes.{Appends}
 use Rattle.mp_io.specs.Devices.{Rose, Text}

@@ -15,7 +15,7 @@ use Rattle.mp_pattern.specs.PlanFault.{plan_fault}
 use Rattle.mp_theory.specs.Sound.{IsSound}
 use Rattle.mp_theory.specs.OneList.{one_list}
 use Rattle.mp_text.specs.File.{FileTree, Subject}
-use Rattle.mp_text.specs.Printing.{subst_text}
+use Rattle.mp_print.specs.Printing.{subst_text}
 
 -- the text is one part after another, a part for each item
 abbrev pub IsJoinedBy : {X : Type 0} → (X → Text → Type 0) → List X → Text → Type 0

@@ -1,5 +1,4 @@
 mod Numbers
-mod Loops
 mod Applied
 mod Variables
 mod Fails
@@ -9,9 +8,7 @@ mod OpLaws
 mod Built
 mod Clashes
 mod Declared
-mod Separated
-mod Parts
-mod PatternSize
+mod Items
 mod PatternDepth
 mod Defaults
 mod Spelled
@@ -20,7 +17,6 @@ mod Places
 mod PlacedFaults
 pub mod Whole
 pub mod SoundLaws
-mod CondTexts
 mod BoundNames
 mod SoundConditionLaws
 pub mod SoundFile

@@ -20,9 +20,11 @@ use Rattle.mp_syntax.specs.Printed.{literal_text, literals_text, alternatives_te
 use Rattle.mp_syntax.proofs.Printed.{printed-again}
 use Rattle.mp_text.specs.Subject.{Subject}
 use Rattle.mp_text.specs.File.{FileTree}
-use Rattle.mp_text.specs.PrintedCond.{sense_text, measure_text, relation_text, operand_text, amount_text, comparison_text, op_name_text, part_text, part_texts, cond_text}
-use Rattle.mp_text.specs.Printing.{kind_name_text, separated, preceded, prefix_text, infix_text, application_text, held_text, term_text, term_texts}
-use Rattle.mp_text.specs.PrintedFile.{shape_text, pattern_text, pattern_texts, text_if, op_text, head_text, kind_text, ending_text, rule_text, subject_text, file_text}
+use Rattle.mp_print.specs.PrintedCond.{sense_text, measure_text, relation_text, operand_text, amount_text, comparison_text, op_name_text, part_text, part_texts, cond_text}
+use Rattle.mp_print.specs.Printing.{kind_name_text, separated, preceded, prefix_text, infix_text, application_text, held_text, term_text, term_texts}
+use Rattle.mp_print.specs.PrintedPattern.{shape_text, pattern_text, pattern_texts}
+use Rattle.mp_print.specs.PrintedSignature.{text_if, op_text, head_text, kind_text}
+use Rattle.mp_text.specs.PrintedFile.{ending_text, rule_text, subject_text, file_text}
 use Rattle.mp_text.specs.Spelled.{piece, wildcard_piece, application_spelling, held_spelling, term_spelling, term_spellings, wildcard_spelling, pattern_spelling, pattern_spellings, sense_spelling, single_literal, single_alternative, negated_spelling, bracket_content, first_alternative, alternative_part, whole_condition, operand_spelling, amount_spelling, literal_spelling, literal_spellings, alternative_spellings, cond_spelling, flag_if, sign_flags, op_flags, op_spelling, kind_spelling, rule_spelling, subject_spelling, file_spelling}
 
 -- ---- applications

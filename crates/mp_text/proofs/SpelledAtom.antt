@@ -32,8 +32,8 @@ use Rattle.mp_text.specs.Scope.{Scope, is_bound, is_bound_sequence}
 use Rattle.mp_text.specs.Conditions.{amount_operands, measured, sense_of, related, tested, operand_of, amount_of, atom_of}
 use Rattle.mp_text.specs.ConditionChecks.{has_large_amount, has_large_operand, single_faults, property_faults, operand_faults, related_faults, amount_faults, atom_faults}
 use Rattle.mp_text.specs.Names.{number_of}
-use Rattle.mp_text.specs.PrintedCond.{op_name_text}
-use Rattle.mp_text.specs.Printing.{kind_name_text}
+use Rattle.mp_print.specs.PrintedCond.{op_name_text}
+use Rattle.mp_print.specs.Printing.{kind_name_text}
 use Rattle.mp_text.specs.Spelled.{piece, term_spelling, term_spellings, sense_spelling, operand_spelling, amount_spelling, literal_spelling}
 use Rattle.mp_text.proofs.Faultless.{nil-append, nil-both, nil-fault_if, none-fault_if, or-second, within}
 use Rattle.mp_text.proofs.SoundLaws.{well_formed-term_of, node_count-term_of, depth-term_of}

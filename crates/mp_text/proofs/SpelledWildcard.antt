@@ -23,7 +23,7 @@ use Rattle.mp_syntax.proofs.Trees.{wild-fits, optional-fits}
 use Rattle.mp_text.specs.Depth.{wildcard_depth}
 use Rattle.mp_io.specs.Devices.{Text}
 use Rattle.mp_text.specs.declared.fault.TextKind.TheVariants.{UnknownKind, KindClash}
-use Rattle.mp_text.specs.Printing.{kind_name_text}
+use Rattle.mp_print.specs.Printing.{kind_name_text}
 use Rattle.mp_text.specs.Spelled.{wildcard_piece, term_spelling, wildcard_spelling}
 use Rattle.mp_text.proofs.Words.{both}
 use Rattle.mp_text.proofs.Faultless.{nil-both, none-fault_if}

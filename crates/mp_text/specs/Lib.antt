@@ -15,8 +15,6 @@ pub mod ConditionChecks
 pub mod FileChecks
 pub mod Answers
 pub mod Reading
-pub mod Printing
-pub mod PrintedCond
 pub mod PrintedFile
 pub mod Spelled
 pub mod Depth

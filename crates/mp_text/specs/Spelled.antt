@@ -17,8 +17,8 @@ use Rattle.mp_syntax.specs.Syntax as syntax
 use Rattle.mp_syntax.specs.Syntax.{Spot, Tree, Symbol, Apply, InfixOf, Wild, Optional, Variable, Trees, no_trees, more_trees, tree_list, Flag, Assoc, Comm, One, Infixed, Amount, Number, Measured, Atom, Compare, Relate, Test, Literal, AtomOf, Bracketed, Literals, no_literals, more_literals, Condition, no_alternatives, more_alternatives, Statement, OpOf, KindOf, RuleOf, SubjectOf}
 use Rattle.mp_text.specs.Subject.{Subject}
 use Rattle.mp_text.specs.File.{FileTree}
-use Rattle.mp_text.specs.Printing.{kind_name_text}
-use Rattle.mp_text.specs.PrintedCond.{op_name_text}
+use Rattle.mp_print.specs.Printing.{kind_name_text}
+use Rattle.mp_print.specs.PrintedCond.{op_name_text}
 
 -- ---- expressions
 

@@ -12,13 +12,10 @@ ghost use Rattle.mp_text.specs.PrintedFile.{ending_text, rule_text, subject_text
 ghost use Rattle.mp_text.specs.Reading.{IsFileOf};
 ghost use Rattle.mp_text.specs.Spelled.{file_spelling};
 
-use crate::cond_printer::write_cond;
 use crate::file::{File, Subject};
-use crate::pattern_printer::write_pattern;
-use crate::printer::write_term;
-use crate::signature_printer::{write_head, write_signature};
 use mp_io::{Failed, Sink, put};
 use mp_pattern::{Cond, Rule};
+use mp_print::{write_cond, write_head, write_pattern, write_signature, write_term};
 use mp_term::Signature;
 
 /// Appends the text of a file to the sink, one statement a line: the operations, the declared kinds, the rules and the subjects,

@@ -1,6 +1,6 @@
 use Rattle.std.specs.Prelude.{[], ◌∷◌, ◌++◌}
 use Rattle.mp_io.proofs.Written.{prints_cut, prints_then}
-use Rattle.mp_text.specs.Printing.{subst_text}
+use Rattle.mp_print.specs.Printing.{subst_text}
 use Rattle.mp_subst.specs.View.{subst_of}
 use Rattle.matchpy.proofs.Parts.{match_parts}
 use Rattle.matchpy.proofs.matches.write_match.Goals as goal

@@ -3,7 +3,7 @@ use Rattle.std.specs.Prelude.{codes}
 use Rattle.std.proofs.lemmas.Result.{err_from_is_err_and}
 use Rattle.mp_io.proofs.Written.{prints_then, prints_cut}
 use Rattle.mp_pattern.specs.CondView.{cond_tree}
-use Rattle.mp_text.specs.PrintedCond.{cond_text}
+use Rattle.mp_print.specs.PrintedCond.{cond_text}
 use Rattle.mp_text.proofs.file_printer.write_condition.Goals as goal
 
 pub returns-in_err-put : goal.returns-in_err-put

@@ -2,7 +2,8 @@ use Rattle.std.proofs.Common.{◌++◌}
 use Rattle.std.specs.List.{flat_map}
 use Rattle.std.proofs.lemmas.Result.{err_from_is_err_and}
 use Rattle.mp_io.proofs.Written.{prints_then, prints_cut}
-use Rattle.mp_text.specs.PrintedFile.{signature_text, rule_text, subject_text}
+use Rattle.mp_print.specs.PrintedSignature.{signature_text}
+use Rattle.mp_text.specs.PrintedFile.{rule_text, subject_text}
 use Rattle.mp_text.proofs.file_printer.write_file.Goals as goal
 
 pub returns-in_err-write_signature : goal.returns-in_err-write_signature

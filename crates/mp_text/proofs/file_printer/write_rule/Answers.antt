@@ -4,7 +4,9 @@ use Rattle.std.proofs.lemmas.Result.{err_from_is_err_and}
 use Rattle.mp_io.proofs.Written.{prints_then, prints_cut}
 use Rattle.mp_pattern.specs.View.{pattern_tree}
 use Rattle.mp_pattern.specs.CondView.{cond_tree}
-use Rattle.mp_text.specs.PrintedFile.{pattern_text, head_text, ending_text}
+use Rattle.mp_print.specs.PrintedPattern.{pattern_text}
+use Rattle.mp_print.specs.PrintedSignature.{head_text}
+use Rattle.mp_text.specs.PrintedFile.{ending_text}
 use Rattle.mp_text.proofs.file_printer.write_rule.Goals as goal
 
 pub returns-in_err-write_head : goal.returns-in_err-write_head

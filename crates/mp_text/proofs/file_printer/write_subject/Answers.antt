@@ -3,8 +3,8 @@ use Rattle.std.specs.Prelude.{codes}
 use Rattle.std.proofs.lemmas.Result.{err_from_is_err_and}
 use Rattle.mp_io.proofs.Written.{prints_then, prints_cut}
 use Rattle.mp_term.specs.View.{tree}
-use Rattle.mp_text.specs.Printing.{term_text}
-use Rattle.mp_text.specs.PrintedFile.{head_text}
+use Rattle.mp_print.specs.Printing.{term_text}
+use Rattle.mp_print.specs.PrintedSignature.{head_text}
 use Rattle.mp_text.proofs.file_printer.write_subject.Goals as goal
 
 pub returns-in_err-write_head : goal.returns-in_err-write_head

@@ -3,7 +3,7 @@ use Rattle.std.specs.List.{flat_map}
 use Rattle.std.proofs.lemmas.Result.{err_from_is_err_and}
 use Rattle.mp_text.specs.File.{subject_tree}
 use Rattle.mp_text.specs.PrintedFile.{subject_text}
-use Rattle.mp_text.proofs.Parts.{item_written, prints_item_cut}
+use Rattle.mp_text.proofs.Items.{item_written, prints_item_cut}
 use Rattle.mp_text.proofs.file_printer.write_subjects.Goals as goal
 
 pub returns-in_err-write_subject : goal.returns-in_err-write_subject

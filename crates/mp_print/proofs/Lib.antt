@@ -1,0 +1,6 @@
+pub mod Loops
+mod Separated
+mod Parts
+mod PatternSize
+mod CondTexts
+mod Examples

@@ -1,0 +1,4 @@
+pub mod Printing
+pub mod PrintedPattern
+pub mod PrintedCond
+pub mod PrintedSignature
