@@ -3,6 +3,7 @@ pub mod PieceSteps
 pub mod SameLaws
 pub mod BindLaws
 pub mod ChoiceLaws
+pub mod LengthLaws
 pub mod WalkLaws
 pub mod SoundLaws
 pub mod FoundLaws

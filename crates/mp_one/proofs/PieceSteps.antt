@@ -1,23 +1,22 @@
 -- The steps of the loops over the terms that are left.
-use Rattle.std.proofs.Common.{inl, inr, ◌≡◌, ℕ, zero, suc, ◌+◌, ◌-◌, ◌<◌, ◌≤◌, List, [], ◌∷◌, ◌++◌, map, length, take, drop, get_or, Bool, false, refl, ap, sym, ◌∙◌, subst, append-nil, append_assoc, add-one, length-drop, eqb-true, eq-eqb, arith}
+use Rattle.std.proofs.Common.{inl, inr, ◌≡◌, ℕ, zero, suc, ◌+◌, ◌-◌, ◌<◌, ◌≤◌, List, [], ◌∷◌, ◌++◌, map, length, take, drop, get_or, Bool, true, false, refl, ap, sym, ◌∙◌, subst, append-nil, append_assoc, add-one, length-drop, eqb-true, eq-eqb, arith}
 use Rattle.std.specs.Prelude.{if◌then◌else◌, flat_map, nat_eq}
 use Rattle.std.specs.List.{range_with_len}
 use Rattle.std.specs.declared.cmp.Ordering.{Ordering}
 use Rattle.std.specs.declared.cmp.Ordering.TheVariants.{Less, Equal}
 use Rattle.std.proofs.Math.ListN.{drop_of_length-le}
 use Rattle.std.proofs.Math.Seq.{drop-cons}
-use Rattle.mp_term.specs.Order.{tree_cmp}
+use Rattle.std.specs.List.Sorted.{IsStrictlySortedBy}
+use Rattle.mp_term.specs.Order.{tree_cmp, shortlex}
 use Rattle.mp_term.specs.OrderLaws.{tree_cmp_total, tree_same}
 use Rattle.mp_term.specs.Tree.{Tree}
 use Rattle.mp_theory.specs.Search.{In}
 use Rattle.mp_theory.proofs.SearchLaws.{in-left}
-use Rattle.mp_theory.proofs.PiecesLaws.{pieces_among-exact, length-without, sublist-from_piece}
-use Rattle.mp_theory.specs.Pieces.{pieces_among, without, insert_new, distinct, after, first, pieces_of, count_to, is_sublist}
+use Rattle.mp_theory.proofs.PiecesLaws.{pieces_among-exact, pieces_among-ascending, length-without, same-sound, same-itself, sublist-from_piece}
+use Rattle.mp_theory.proofs.Tables.{shortlex_total}
+use Rattle.mp_theory.proofs.Bounds.{same_members}
+use Rattle.mp_theory.specs.Pieces.{pieces_among, same, without, insert_new, distinct, after, first, pieces_of, is_sublist, is_piece}
 use Rattle.mp_one.proofs.ListLaws.{bool_same}
-
-pub count_to-range : (k n : ℕ) → range_with_len k (suc n) ≡ count_to k n
-count_to-range k zero = refl
-count_to-range k (suc n) = ap (λ ns. k ∷ ns) (ap (λ j. range_with_len j (suc n)) (add-one k) ∙ count_to-range (suc k) n)
 
 module _ {X Y : Type 0} (cmp : Y → Y → Ordering) (f : X → Y) where
   without-nil : (l : List Y) → without cmp l [] ≡ []
@@ -65,16 +64,11 @@ pub flat_map-step : {X Y Z : Type 0} (f : X → Y) (g : Y → List Z) (zs ws : L
 flat_map-step f g zs ws i xs x h e q =
     ap (λ us. us ++ flat_map g (map f (drop (i + 1) xs))) q ∙ append_assoc zs (g (f x)) (flat_map g (map f (drop (i + 1) xs))) ∙ ap (λ ys. zs ++ flat_map g (map f ys)) (sym (drop-next i xs x h e))
 
-module _ {Z : Type 0} (g : ℕ → List Z) where
-  -- from the least to the greatest number
-  pub flat_map-count_to : (k n : ℕ) → k ≤ n → flat_map g (range_with_len k (n + 1 - k)) ≡ flat_map g (count_to k (n - k))
-  flat_map-count_to k n h = let e : n + 1 - k ≡ suc (n - k) = omega arith in ap (λ m. flat_map g (range_with_len k m)) e ∙ ap (flat_map g) (count_to-range k (n - k))
-
-  -- one more number
-  pub flat_map-next : (zs ws : List Z) (k n : ℕ) → k ≤ n → ws ≡ zs ++ g k → ws ++ flat_map g (range_with_len (k + 1) (n + 1 - (k + 1))) ≡ zs ++ flat_map g (range_with_len k (n + 1 - k))
-  flat_map-next zs ws k n h q =
-      let e : n + 1 - k ≡ suc (n + 1 - (k + 1)) = omega arith in
-      ap (λ us. us ++ flat_map g (range_with_len (k + 1) (n + 1 - (k + 1)))) q ∙ append_assoc zs (g k) (flat_map g (range_with_len (k + 1) (n + 1 - (k + 1)))) ∙ ap (λ m. zs ++ flat_map g (range_with_len k m)) (sym e)
+-- one more number of a range
+pub flat_map-next : {Z : Type 0} (g : ℕ → List Z) (zs ws : List Z) (k n : ℕ) → k < n → ws ≡ zs ++ g k → ws ++ flat_map g (range_with_len (k + 1) (n - (k + 1))) ≡ zs ++ flat_map g (range_with_len k (n - k))
+flat_map-next g zs ws k n h q =
+    let e : n - k ≡ suc (n - (k + 1)) = omega arith in
+    ap (λ us. us ++ flat_map g (range_with_len (k + 1) (n - (k + 1)))) q ∙ append_assoc zs (g k) (flat_map g (range_with_len (k + 1) (n - (k + 1)))) ∙ ap (λ m. zs ++ flat_map g (range_with_len k m)) (sym e)
 
 -- all elements of a list gone over
 pub flat_map-end : {X Y Z : Type 0} (f : X → Y) (g : Y → List Z) (zs : List Z) (i : ℕ) (xs : List X) → length xs ≤ i → zs ++ flat_map g (map f (drop i xs)) ≡ zs
@@ -91,3 +85,36 @@ pieces_of-short anywhere n ts h = sym (at (pieces_of tree_cmp anywhere n ts) ref
         let k = (pieces_among-exact tree_cmp tree_cmp_total tree_same anywhere (n ∷ []) l ts).0 i in
         let q : length l ≡ n = elim k.0 [ inl p ↦ p | inr a ↦ absurd a ] in
         absurd (omega (arith, q, length-without tree_cmp tree_cmp_total tree_same l ts (sublist-from_piece tree_cmp tree_cmp_total tree_same anywhere l ts k.1)))
+
+-- a sublist as long as the list is the list
+whole_sublist : (l ts : List Tree) → is_sublist tree_cmp l ts ≡ true → length l ≡ length ts → l ≡ ts
+whole_sublist [] [] h e = refl
+whole_sublist [] (t ∷ ts) h e = cc
+whole_sublist (u ∷ l) [] h e = cc
+whole_sublist (u ∷ l) (t ∷ ts) h e =
+    elim (same tree_cmp t u) as (λ b. same tree_cmp t u ≡ b → (if b then is_sublist tree_cmp l ts else is_sublist tree_cmp (u ∷ l) ts) ≡ true → u ∷ l ≡ t ∷ ts) [
+      | true ↦ λ q k. ap (λ x. x ∷ l) (sym (same-sound tree_cmp tree_cmp_total tree_same t u q)) ∙ ap (λ xs. t ∷ xs) (whole_sublist l ts k (omega (arith, e)))
+      | false ↦ λ q k. absurd (omega (arith, e, length-without tree_cmp tree_cmp_total tree_same (u ∷ l) ts k))
+    ] refl h
+
+whole_piece : (anywhere : Bool) (ts : List Tree) → is_piece tree_cmp anywhere ts ts ≡ true
+whole_piece true [] = refl
+whole_piece false [] = refl
+whole_piece true (t ∷ ts) = rw (same-itself tree_cmp tree_cmp_total tree_same t) (whole_piece true ts)
+whole_piece false (t ∷ ts) = rw (same-itself tree_cmp tree_cmp_total tree_same t) (whole_piece false ts)
+
+-- the piece that is as long as the list is the list
+pub pieces_of-whole : (anywhere : Bool) (ts : List Tree) → pieces_of tree_cmp anywhere (length ts) ts ≡ ts ∷ []
+unfolding IsStrictlySortedBy
+pieces_of-whole anywhere ts =
+    let ns : List ℕ = length ts ∷ [] in
+    let ls : List (List Tree) = pieces_among tree_cmp anywhere ns ts in
+    sym (append-nil (pieces_of tree_cmp anywhere (length ts) ts))
+    ∙ same_members (shortlex tree_cmp) shortlex_total ls (ts ∷ []) (pieces_among-ascending tree_cmp tree_cmp_total tree_same anywhere ns ts (tt, tt)) (tt, tt)
+    (λ l i.
+    let k = (pieces_among-exact tree_cmp tree_cmp_total tree_same anywhere ns l ts).0 i in
+    let e : length l ≡ length ts = elim k.0 [ inl p ↦ p | inr a ↦ absurd a ] in
+    inl (whole_sublist l ts (sublist-from_piece tree_cmp tree_cmp_total tree_same anywhere l ts k.1) e))
+    (λ l i.
+    let e : l ≡ ts = elim i [ inl p ↦ p | inr a ↦ absurd a ] in
+    (pieces_among-exact tree_cmp tree_cmp_total tree_same anywhere ns l ts).1 (inl (ap length e), subst (λ m. is_piece tree_cmp anywhere m ts ≡ true) (sym e) (whole_piece anywhere ts)))

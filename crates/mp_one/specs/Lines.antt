@@ -1,5 +1,5 @@
--- Kinds of patterns, and how many terms they take.
-use Rattle.std.specs.Prelude.{ℕ, Bool, false, Option, option_map, max, if◌then◌else◌}
+-- Kinds of patterns, and the operation above them.
+use Rattle.std.specs.Prelude.{ℕ, Bool, false, Option, option_map}
 use Rattle.mp_term.specs.declared.term.OpId.{OpId}
 use Rattle.mp_pattern.specs.PatternTree.{Pattern, wild_pattern}
 use Rattle.mp_pattern.specs.Variables as variables
@@ -12,7 +12,3 @@ above f = option_map (λ g. g.0) f
 abbrev pub is_sequence : Pattern → Bool
 is_sequence (wild_pattern w x) = variables.is_sequence w
 is_sequence p = false
-
--- the greatest number of n terms that a node takes, which is short or not; at least 1
-abbrev pub most_of : Bool → ℕ → ℕ
-most_of short n = if short then 1 else max n 1

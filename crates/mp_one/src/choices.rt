@@ -1,13 +1,12 @@
-// The entries that may stand next, ascending.
-ghost use Rattle.std.specs.Prelude.{◌≡◌, ◌++◌, ◌∷◌, [], map, filter, length, OnOk, IfOk};
-ghost use Rattle.mp_pattern.specs.View.{pattern_tree};
+// The entries that may stand next and lead on.
+ghost use Rattle.std.specs.Prelude.{◌≡◌, ◌++◌, ◌∷◌, [], map, filter, OnOk, IfOk};
 ghost use Rattle.mp_theory.specs.Machine as machine;
-ghost use Rattle.mp_theory.specs.Bounds as bounds;
-ghost use Rattle.mp_one.specs.Lines.{above, most_of};
+ghost use Rattle.mp_theory.specs.Within as within;
 ghost use Rattle.mp_one.specs.Lists.{trees_of, lists_of};
 ghost use Rattle.mp_one.specs.Stack.{child_of, entry_of, reads_at};
 
-use crate::lines::{comm_above, is_short, least, reads};
+use crate::lengths::{fewest, too_many};
+use crate::lines::{comm_above, reads};
 use crate::pieces::pieces_between;
 use crate::stack::{Entry, Place};
 use crate::terms::{copied, push};
@@ -37,42 +36,32 @@ fn push_entry<'a>(
     )
 }
 
-// The greatest number of terms that the child may take.
-fn most(sig: &Signature, place: &Place<'_>) -> usize
-    ensures { result ≡ most_of (bounds.is_short sig.now (above place.now.under) (pattern_tree place.now.child.now)) (length place.now.left.now) }
-{
-    if is_short(sig, place.under, place.child) {
-        return 1;
-    }
-    place.left.len().max(1)
-}
-
 // The pieces of the lengths that the child may take.
 fn pieces<'a>(
     alloc: Global,
     sig: &Signature,
     place: &Place<'a>,
 ) -> Result<Vec<Vec<&'a Term>>, Memory>
-    ensures { IfOk result (λ v. filter (reads_at sig.now place.now) (machine.entries (lists_of v.items)) ≡ machine.choices sig.now (child_of place.now)) }
+    ensures { IfOk result (λ v. filter (reads_at sig.now place.now) (machine.entries (lists_of v.items)) ≡ within.choices_within sig.now (child_of place.now)) }
 {
     let anywhere = comm_above(sig, place.under);
     let found = pieces_between(
         alloc,
         anywhere,
-        least(place.child),
-        most(sig, place),
+        fewest(sig, place),
+        too_many(sig, place),
         place.left,
     )?;
     Ok(found)
 }
 
-/// The entries that may stand next, ascending.
+/// The entries that may stand next and leave the later children what they can take, ascending.
 pub fn choices<'a>(
     alloc: Global,
     sig: &Signature,
     place: &Place<'a>,
 ) -> Result<Vec<Entry<'a>>, Memory>
-    ensures { IfOk result (λ v. map entry_of v.items ≡ machine.choices sig.now (child_of place.now)) }
+    ensures { IfOk result (λ v. map entry_of v.items ≡ within.choices_within sig.now (child_of place.now)) }
 {
     let mut found = Vec::new(alloc);
     for piece in &pieces(alloc, sig, place)? {

@@ -7,6 +7,7 @@ mod choices;
 mod found;
 mod held;
 mod item;
+mod lengths;
 mod lines;
 mod path;
 mod pieces;

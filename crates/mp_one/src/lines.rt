@@ -54,7 +54,7 @@ pub fn comm_above(sig: &Signature, under: Option<OpId>) -> bool
 }
 
 /// Whether the operation above is associative.
-fn assoc_above(sig: &Signature, under: Option<OpId>) -> bool
+pub fn assoc_above(sig: &Signature, under: Option<OpId>) -> bool
     ensures { result ≡ bounds.assoc_above sig.now (above under) }
 {
     match under {
@@ -197,26 +197,5 @@ pub fn reads(
                 is_application(*op, terms)
             }
         }
-    }
-}
-
-/// The least number of terms that the node takes.
-pub fn least(child: &Pattern) -> usize
-    ensures { result ≡ bounds.least (pattern_tree child.now) }
-{
-    match child {
-        Pattern::Wild(Shape::Star, _) | Pattern::Wild(Shape::Opt(_), _) => 0,
-        _ => 1,
-    }
-}
-
-/// Whether the node takes at most one term.
-pub fn is_short(sig: &Signature, under: Option<OpId>, child: &Pattern) -> bool
-    ensures { result ≡ bounds.is_short sig.now (above under) (pattern_tree child.now) }
-{
-    match child {
-        Pattern::Wild(Shape::Plus, _) | Pattern::Wild(Shape::Star, _) => false,
-        Pattern::Wild(Shape::Dot, _) | Pattern::Wild(Shape::Opt(_), _) => !assoc_above(sig, under),
-        _ => true,
     }
 }

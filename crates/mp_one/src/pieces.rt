@@ -1,5 +1,6 @@
 // What a child may take out of the terms that are left.
-ghost use Rattle.std.specs.Prelude.{◌≡◌, ◌-◌, ◌≤◌, ◌++◌, ◌∷◌, map, OnOk, IfOk, if◌then◌else◌};
+ghost use Rattle.std.specs.Prelude.{◌≡◌, ◌-◌, ◌++◌, ◌∷◌, map, OnOk, IfOk, if◌then◌else◌};
+ghost use Rattle.std.specs.List.{range_with_len};
 ghost use Rattle.mp_term.specs.View.{tree};
 ghost use Rattle.mp_term.specs.Order.{tree_cmp};
 ghost use Rattle.mp_theory.specs.Pieces as pieces;
@@ -171,6 +172,10 @@ fn pieces_of<'a>(
         push(&mut all, Vec::new(alloc))?;
         return Ok(all);
     }
+    if length == list.len() {
+        push(&mut all, copied(alloc, list)?)?;
+        return Ok(all);
+    }
     for first in &beginnings(alloc, anywhere, list)? {
         let rests = pieces_of(alloc, anywhere, length - 1, after(list, first))?;
         push_behind(alloc, &mut all, *first, &rests)?;
@@ -178,19 +183,18 @@ fn pieces_of<'a>(
     Ok(all)
 }
 
-/// The pieces of at least and at most so many terms, by shortlex: sublists, or prefixes.
+/// The pieces of at least so many terms and fewer than the limit, by shortlex: sublists, or prefixes.
 pub fn pieces_between<'a>(
     alloc: Global,
     anywhere: bool,
     least: usize,
-    most: usize,
+    limit: usize,
     list: &[&'a Term],
 ) -> Result<Vec<Vec<&'a Term>>, Memory>
-    requires { least ≤ most }
-    ensures { IfOk result (λ v. lists_of v.items ≡ pieces.pieces_among tree_cmp anywhere (pieces.count_to least (most - least)) (trees_of list.now)) }
+    ensures { IfOk result (λ v. lists_of v.items ≡ pieces.pieces_among tree_cmp anywhere (range_with_len least (limit - least)) (trees_of list.now)) }
 {
     let mut all = Vec::new(alloc);
-    for length in least..=most {
+    for length in least..limit {
         let mut some = pieces_of(alloc, anywhere, length, list)?;
         match all.append(&mut some) {
             Ok(()) => {}

@@ -1,6 +1,6 @@
 -- What may be left out: a place from which no table is accepted has no solutions, and one where too few terms are left is such a place.
-use Rattle.std.proofs.Common.{◌≡◌, ℕ, ◌≤◌, ◌+◌, List, [], ◌∷◌, length, true, false, refl, ap, ◌∙◌, inl, arith, sym, subst, Bool}
-use Rattle.std.specs.Prelude.{Option, Some, None, if◌then◌else◌, filter_map, option_map, option_and_then, ⊤}
+use Rattle.std.proofs.Common.{◌≡◌, ℕ, suc, ◌≤◌, ◌+◌, List, [], ◌∷◌, ◌++◌, length, true, false, refl, ap, ◌∙◌, inl, arith, sym, subst, Bool}
+use Rattle.std.specs.Prelude.{Option, Some, None, if◌then◌else◌, flat_map, filter_map, option_map, option_and_then, ⊤}
 use Rattle.std.specs.List.{AllByRecursion}
 use Rattle.mp_term.specs.Tree.{Tree}
 use Rattle.mp_term.specs.Order.{tree_cmp}
@@ -18,17 +18,19 @@ use Rattle.mp_theory.specs.Frames.{Frame, Next, ended, refused, child, is_done, 
 use Rattle.mp_theory.specs.Search.{In, words, Accepts}
 use Rattle.mp_theory.specs.Pieces.{without}
 use Rattle.mp_theory.specs.Machine.{is_ended, entered, taken_out, onward, takes, choices, said}
-use Rattle.mp_theory.specs.Trail.{listed_by, solutions}
+use Rattle.mp_theory.specs.Trail.{listed_by, solutions, derivations, derivations_by}
 use Rattle.mp_theory.specs.Cursor.{branch}
 use Rattle.mp_theory.specs.Bounds.{least, is_short, all_least, child_count, all_short}
+use Rattle.mp_theory.specs.Within.{leaves_within, choices_within}
 use Rattle.mp_theory.proofs.SearchLaws.{words-sound}
 use Rattle.mp_theory.proofs.PiecesLaws.{length-without, sublist-from_piece}
 use Rattle.mp_theory.proofs.Walk.{choices-exact}
-use Rattle.mp_theory.proofs.TrailLaws.{solutions-is}
+use Rattle.mp_theory.proofs.TrailLaws.{solutions-is, derivations-is}
 use Rattle.mp_theory.proofs.Cuts.{put}
 use Rattle.mp_theory.proofs.Wildcards.{contributor-contributes, takes-given}
 use Rattle.mp_theory.proofs.Solving.{then_some}
-use Rattle.mp_theory.proofs.Bounds.{within}
+use Rattle.mp_theory.proofs.Bounds.{IsWithin, within, within-tested}
+use Rattle.mp_theory.proofs.CursorLaws.{pruned}
 
 -- a list without members
 none_in : {X : Type 0} (xs : List X) → ((x : X) → In x xs → ⊥) → xs ≡ []
@@ -36,31 +38,26 @@ none_in [] h = refl
 none_in (x ∷ xs) h = absurd (h x (inl refl))
 
 module _ (sig : Sig) where
-  -- the number of terms is within the bounds of the children
-  pub record IsWithin (f : Option ℕ) (ps : Patterns) (n : ℕ) : Type 0 where
-    pub enough : all_least ps ≤ n
-    pub room : all_short sig f ps ≡ true → n ≤ child_count ps
-
   -- what is left to the frame is within the bounds of its children
   abbrev pub FrameIsWithin : Frame → Type 0
-  FrameIsWithin f = IsWithin f.under f.children (length f.left)
+  FrameIsWithin f = IsWithin sig f.under f.children (length f.left)
 
   -- so it is at the place that comes next and in the frames around
   abbrev WithinAt : Next → Type 0
   WithinAt ended = ⊤
   WithinAt refused = ⊥
-  WithinAt (child p f fs) = IsWithin f.under (more_patterns p f.children) (length f.left) × AllByRecursion FrameIsWithin fs
+  WithinAt (child p f fs) = IsWithin sig f.under (more_patterns p f.children) (length f.left) × AllByRecursion FrameIsWithin fs
 
   -- frames that settle are within their bounds
-  done_within : (f : Option ℕ) (ts : List Tree) (b : Bool) → is_done ts b ≡ true → IsWithin f no_patterns (length ts)
+  done_within : (f : Option ℕ) (ts : List Tree) (b : Bool) → is_done ts b ≡ true → IsWithin sig f no_patterns (length ts)
   done_within f [] b e = record { enough = omega arith; room = λ _. omega arith }
   done_within f (t ∷ ts) b e = cc
 
   within_settled : (fs : List Frame) → WithinAt (settle fs) → AllByRecursion FrameIsWithin fs
   within_settled [] h = tt
   within_settled (f ∷ fs) h =
-      elim f.children as (λ c. WithinAt (elim c [ no_patterns ↦ if is_done f.left f.owes then settle fs else refused | more_patterns p ps ↦ child p (record f { children = ps }) fs ]) → IsWithin f.under c (length f.left) × AllByRecursion FrameIsWithin fs) [
-        | no_patterns ↦ elim (is_done f.left f.owes) as (λ b. is_done f.left f.owes ≡ b → WithinAt (if b then settle fs else refused) → IsWithin f.under no_patterns (length f.left) × AllByRecursion FrameIsWithin fs) [
+      elim f.children as (λ c. WithinAt (elim c [ no_patterns ↦ if is_done f.left f.owes then settle fs else refused | more_patterns p ps ↦ child p (record f { children = ps }) fs ]) → IsWithin sig f.under c (length f.left) × AllByRecursion FrameIsWithin fs) [
+        | no_patterns ↦ elim (is_done f.left f.owes) as (λ b. is_done f.left f.owes ≡ b → WithinAt (if b then settle fs else refused) → IsWithin sig f.under no_patterns (length f.left) × AllByRecursion FrameIsWithin fs) [
           | true ↦ λ e k. (done_within f.under f.left f.owes e, within_settled fs k)
           | false ↦ λ e k. absurd k
         ] refl
@@ -68,7 +65,7 @@ module _ (sig : Sig) where
       ] h
 
   -- one child more
-  one_more : (p : Pattern) (f : Option ℕ) (ps : Patterns) (l rest n : ℕ) → l + rest ≡ n → (least p ≤ l) × (is_short sig f p ≡ true → l ≤ 1) → IsWithin f ps rest → IsWithin f (more_patterns p ps) n
+  one_more : (p : Pattern) (f : Option ℕ) (ps : Patterns) (l rest n : ℕ) → l + rest ≡ n → (least p ≤ l) × (is_short sig f p ≡ true → l ≤ 1) → IsWithin sig f ps rest → IsWithin sig f (more_patterns p ps) n
   one_more p f ps l rest n e w h =
       let enough : all_least ps ≤ rest = h.enough in
       let least_taken : least p ≤ l = w.0 in
@@ -81,6 +78,12 @@ module _ (sig : Sig) where
             omega arith;
       }
 
+  -- behind an entry the frame that it was taken from is within its bounds
+  within_entered : (p : Pattern) (e : Entry) (f : Frame) (fs : List Frame) → AllByRecursion FrameIsWithin (entered p e (taken_out p e f ∷ fs)) → FrameIsWithin (taken_out p e f) × AllByRecursion FrameIsWithin fs
+  within_entered (symbol_pattern n) e f fs h = h
+  within_entered (wild_pattern w x) e f fs h = h
+  within_entered (app_pattern g ps) e f fs h = h.1
+
   -- from a place that a table is accepted from, each frame is within its bounds
   within_at : (n : Next) (T : Table) → Accepts (choices sig) onward is_ended n T → WithinAt n
   within_at ended T a = tt
@@ -90,13 +93,8 @@ module _ (sig : Sig) where
   within_at (child p f fs) (e ∷ T) a =
       let k = (choices-exact sig p f fs e.terms e.collapsed).0 a.0 in
       let sum = length-without tree_cmp tree_cmp_total tree_same e.terms f.left (sublist-from_piece tree_cmp tree_cmp_total tree_same (comm_above sig f.under) e.terms f.left k.0) in
-      let rest = outer p (within_settled (entered p e (taken_out p e f ∷ fs)) (within_at (onward (child p f fs) e) T a.1)) in
+      let rest = within_entered p e f fs (within_settled (entered p e (taken_out p e f ∷ fs)) (within_at (onward (child p f fs) e) T a.1)) in
       (one_more p f.under f.children (length e.terms) (length (without tree_cmp e.terms f.left)) (length f.left) sum (within sig p f.under e.terms e.collapsed k.1) rest.0, rest.1)
-    where
-      outer : (q : Pattern) → AllByRecursion FrameIsWithin (entered q e (taken_out p e f ∷ fs)) → FrameIsWithin (taken_out p e f) × AllByRecursion FrameIsWithin fs
-      outer (symbol_pattern n) h = h
-      outer (wild_pattern w x) h = h
-      outer (app_pattern g ps) h = h.1
 
   -- so each frame is, wherever a table is accepted
   pub frames-within : (fs : List Frame) (T : Table) → Accepts (choices sig) onward is_ended (settle fs) T → AllByRecursion FrameIsWithin fs
@@ -114,6 +112,30 @@ module _ (sig : Sig) where
         | None ↦ refl
         | Some r ↦ solutions-none k (onward n e) r (λ T a. h (frames-within gs T (subst (λ m. Accepts (choices sig) onward is_ended m T) q a)))
       ]
+
+  -- the same of derivations
+  pub derivations-none : (k : ℕ) (n : Next) (T : Table) (s : Subst) → ((W : Table) → Accepts (choices sig) onward is_ended n W → ⊥) → derivations sig k n T s ≡ []
+  derivations-none k n T s h =
+      derivations-is sig k n T s
+      ∙ ap (filter_map (λ W. option_map (λ r. (T ++ W, r)) (solve sig s (takes n W)))) (none_in (words (choices sig) onward is_ended k n) (λ W i. h W (words-sound (choices sig) onward is_ended k n W i).1))
+
+  -- a choice that leaves the later children too few terms or too many leads nowhere
+  pub derivations_by-outside : (k : ℕ) (p : Pattern) (f : Frame) (fs : List Frame) (T : Table) (s : Subst) (e : Entry) → leaves_within sig f e ≡ false → derivations_by sig k (child p f fs) T s e ≡ []
+  derivations_by-outside k p f fs T s e h =
+      elim (solve sig s (said (child p f fs) e)) as (λ o. listed_by (λ r. derivations sig k (onward (child p f fs) e) (T ++ e ∷ []) r) o ≡ []) [
+        | None ↦ refl
+        | Some r ↦
+            derivations-none k (onward (child p f fs) e) (T ++ e ∷ []) r (λ W a.
+            let w = (within_entered p e f fs (frames-within (entered p e (taken_out p e f ∷ fs)) W a)).0 in
+            let q : false ≡ true = sym h ∙ (within-tested sig f.under f.children (length (without tree_cmp e.terms f.left))).0 w in
+            cc)
+      ]
+
+  -- so the choices that leave them what they can take give all derivations
+  pub derivations-within : (k : ℕ) (n : Next) (T : Table) (s : Subst) → derivations sig (suc k) n T s ≡ flat_map (derivations_by sig k n T s) (choices_within sig n)
+  derivations-within k ended T s = refl
+  derivations-within k refused T s = refl
+  derivations-within k (child p f fs) T s = sym (pruned (leaves_within sig f) (derivations_by sig k (child p f fs) T s) (choices sig (child p f fs)) (λ e i. derivations_by-outside k p f fs T s e))
 
 -- a variable that is bound, and not to a multiset, has one value from then on
 bound_merges : (s : Subst) (x : List ℕ) (v w : Value) (r : Subst) → value_of s x ≡ Some v → bind s x w ≡ Some r → (u : Value) × (merge v w ≡ Some u)

@@ -8,4 +8,5 @@ pub mod OneList
 pub mod Trail
 pub mod Cursor
 pub mod Bounds
+pub mod Within
 pub mod ValueSizes

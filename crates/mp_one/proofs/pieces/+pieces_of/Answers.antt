@@ -1,11 +1,11 @@
-use Rattle.std.proofs.Common.{arith, ◌∷◌, ◌++◌, ◌-◌, map, sym, ap, ◌∙◌}
+use Rattle.std.proofs.Common.{arith, [], ◌∷◌, ◌++◌, ◌-◌, map, sym, ap, ◌∙◌}
 use Rattle.std.specs.Prelude.{flat_map}
 use Rattle.std.proofs.Math.ListN.{length-map}
 use Rattle.mp_term.specs.View.{tree}
 use Rattle.mp_term.specs.Order.{tree_cmp}
 use Rattle.mp_theory.specs.Pieces as pieces
 use Rattle.mp_one.specs.Lists.{trees_of, lists_of}
-use Rattle.mp_one.proofs.PieceSteps.{begun, pieces_of-longer, flat_map-step, flat_map-end, pieces_of-short}
+use Rattle.mp_one.proofs.PieceSteps.{begun, pieces_of-longer, flat_map-step, flat_map-end, pieces_of-short, pieces_of-whole}
 use Rattle.mp_one.proofs.pieces.+pieces_of.Goals as goal
 
 pub loop-first-preserved : goal.loop-first-preserved
@@ -30,3 +30,10 @@ pub returns-then-list-length : goal.returns-then-list-length
 returns-then-list-length t c =
     let ts = trees_of c.args.list.now in
     ap lists_of c.new-all.ensures.items ∙ pieces_of-short c.args.anywhere c.args.length ts (omega (arith, length-map c.args.list.now (λ t. tree t.now), c.if-list-length.true))
+
+pub returns-then-length-list : goal.returns-then-length-list
+returns-then-length-list t c =
+    let ts = trees_of c.args.list.now in
+    ap lists_of (c.in_ok-push-2.ensures ∙ ap (λ ls. ls ++ c.in_ok-copied.field-0 ∷ []) c.new-all.ensures.items)
+    ∙ ap (λ l. trees_of l ∷ []) c.in_ok-copied.ensures
+    ∙ sym (ap (λ n. pieces.pieces_of tree_cmp c.args.anywhere n ts) (c.if-length-list.true ∙ sym (length-map c.args.list.now (λ t. tree t.now))) ∙ pieces_of-whole c.args.anywhere ts)
