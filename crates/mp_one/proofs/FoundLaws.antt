@@ -1,18 +1,11 @@
 -- What the search adds to the items found before.
-use Rattle.std.proofs.Common.{◌≡◌, Bool, true, false, List, [], ◌∷◌, ◌++◌, refl, sym, ap, ◌∙◌, subst, append-nil, append_assoc}
-use Rattle.std.specs.Prelude.{◌↔◌, ◌||◌, IsTrue, filter, if◌then◌else◌}
+use Rattle.std.proofs.Common.{◌≡◌, Bool, true, false, List, [], ◌∷◌, ◌++◌, refl, sym, ap, ◌∙◌, append-nil, append_assoc}
+use Rattle.std.specs.Prelude.{◌||◌, filter, if◌then◌else◌}
 use Rattle.std.proofs.lemmas.List.Elements.{filter-append}
 use Rattle.mp_pattern.specs.Firsts.{is_known, firsts_after}
-use Rattle.mp_pattern.specs.Value.{Subst}
 use Rattle.mp_theory.specs.OneList.{Item, same_subst, same_item, item_substs}
 use Rattle.mp_theory.proofs.FirstsLaws.{firsts_after-append}
-use Rattle.mp_theory.proofs.OneListLaws.{same_subst-itself, same_subst-sound}
 use Rattle.mp_one.specs.Found.{collected}
-use Rattle.mp_one.proofs.ListLaws.{bool_same}
-
--- a test of equality is that of the definition
-pub same_subst-test : (r s : Subst) (b : Bool) → (IsTrue b ↔ (r ≡ s)) → b ≡ same_subst r s
-same_subst-test r s b h = bool_same b (same_subst r s) (λ e. subst (λ u. same_subst r u ≡ true) (h.0 e) (same_subst-itself r)) (λ e. h.1 (same_subst-sound r s e))
 
 is_known-item : (is : List Item) (i : Item) → is_known same_item is i ≡ is_known same_subst (item_substs is) i.1
 is_known-item [] i = refl

@@ -7,6 +7,8 @@ pub mod LengthLaws
 pub mod WalkLaws
 pub mod SoundLaws
 pub mod FoundLaws
+pub mod NamedOrderLaws
+pub mod FindsLaws
 pub mod ItemLaws
 pub mod ReadyItems
 pub mod ConditionLaws

@@ -7,5 +7,7 @@ pub mod Trail
 pub mod Items
 pub mod ItemCode
 pub mod Found
+pub mod NamedOrder
+pub mod Finds
 pub mod PlanPattern
 pub mod Check

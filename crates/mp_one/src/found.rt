@@ -1,23 +1,21 @@
 // The items found so far, each substitution once.
-ghost use Rattle.std.specs.Prelude.{◌≡◌, [], ◌∷◌, OnOk, map, option_map};
-ghost use Rattle.mp_pattern.specs.Firsts as firsts;
+ghost use Rattle.std.specs.Prelude.{◌≡◌, [], ◌∷◌, OnOk, option_map};
 ghost use Rattle.mp_pattern.specs.CondView.{cond_tree};
 ghost use Rattle.mp_pattern.specs.Admission as admission;
 ghost use Rattle.mp_subst.specs.View.{subst_of};
-ghost use Rattle.mp_theory.specs.OneList as one;
 ghost use Rattle.mp_one.specs.Found.{IsReadyFor, condition_of, added};
-ghost use Rattle.mp_one.specs.Items.{item_of};
 ghost use Rattle.mp_one.specs.Path.{table_of};
 ghost use Rattle.mp_one.specs.Trail.{trail_of};
 
 use crate::bind::Bound;
-use crate::item::{Item, Items};
+use crate::finds::Finds;
+use crate::item::Item;
 use crate::path::{Path, own_table};
 use crate::query::Query;
 use crate::value::own_subst;
 use mp_cond::holds;
 use mp_pattern::Cond;
-use mp_subst::{Subst, same_subst};
+use mp_subst::Subst;
 use mp_term::{Memory, Signature};
 use std::alloc::Global;
 
@@ -32,25 +30,13 @@ fn meets(sig: &Signature, condition: &Option<Cond>, subst: &Subst) -> bool
     }
 }
 
-// Whether an item has the substitution.
-fn is_known(found: &[Item], subst: &Subst) -> bool
-    ensures { result ≡ firsts.is_known one.same_subst (one.item_substs (map item_of found.now)) (subst_of subst.now) }
-{
-    for item in found {
-        if same_subst(&item.subst, subst) {
-            return true;
-        }
-    }
-    false
-}
-
 /// Adds the substitution with its table at the end, if it meets the condition, unless it was found before.
 pub fn add_new(
     alloc: Global,
     query: &Query<'_>,
     path: &Path<'_>,
     trail: &[Bound<'_>],
-    found: &mut Items,
+    found: &mut Finds,
 ) -> Result<(), Memory>
     requires { IsReadyFor (condition_of query.now) (trail_of trail.now) }
     ensures { OnOk result (found.new ≡ added query.now found.old ((table_of path.now, trail_of trail.now) ∷ [])) }
@@ -59,7 +45,7 @@ pub fn add_new(
     if !meets(query.sig, query.condition, &subst) {
         return Ok(());
     }
-    if !query.one_table && is_known(found.as_slice(), &subst) {
+    if !query.one_table && found.has(&subst)? {
         return Ok(());
     }
     let takes = own_table(alloc, path)?;

@@ -4,11 +4,13 @@
 mod bind;
 mod check;
 mod choices;
+mod finds;
 mod found;
 mod held;
 mod item;
 mod lengths;
 mod lines;
+mod named_order;
 mod path;
 mod pieces;
 mod plan_pattern;

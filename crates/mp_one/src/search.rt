@@ -24,6 +24,7 @@ ghost use Rattle.mp_one.specs.Found.{AreReadyFor, condition_of, added};
 
 use crate::bind::{Bound, Extended, extend};
 use crate::choices::choices;
+use crate::finds::Finds;
 use crate::found::add_new;
 use crate::item::Items;
 use crate::path::Path;
@@ -43,7 +44,7 @@ fn descend<'a>(
     entry: &Entry<'a>,
     trail: &[Bound<'a>],
     path: &'a Path<'a>,
-    found: &mut Items,
+    found: &mut Finds,
 ) -> Result<(), Memory>
     requires { AreReadyFor (condition_of query.now) (trails.derivations query.now.sig.now (entries_behind place.now) (machine.onward (child_of place.now) (entry_of entry.now)) (table_of path.now ++ entry_of entry.now ∷ []) (trail_of trail.now)) }
     ensures { OnOk result (found.new ≡ added query.now found.old (trails.derivations query.now.sig.now (entries_behind place.now) (machine.onward (child_of place.now) (entry_of entry.now)) (table_of path.now ++ entry_of entry.now ∷ []) (trail_of trail.now))) }
@@ -68,7 +69,7 @@ fn follow<'a>(
     entry: &Entry<'a>,
     trail: &[Bound<'a>],
     path: &'a Path<'a>,
-    found: &mut Items,
+    found: &mut Finds,
 ) -> Result<(), Memory>
     requires { AreReadyFor (condition_of query.now) (trails.derivations_by query.now.sig.now (entries_behind place.now) (child_of place.now) (table_of path.now) (trail_of trail.now) (entry_of entry.now)) }
     ensures { OnOk result (found.new ≡ added query.now found.old (trails.derivations_by query.now.sig.now (entries_behind place.now) (child_of place.now) (table_of path.now) (trail_of trail.now) (entry_of entry.now))) }
@@ -88,7 +89,7 @@ fn search<'a>(
     stack: &'a Stack<'a>,
     trail: &'a [Bound<'a>],
     path: &'a Path<'a>,
-    found: &mut Items,
+    found: &mut Finds,
 ) -> Result<(), Memory>
     requires { AreReadyFor (condition_of query.now) (trails.derivations query.now.sig.now (entries_left (stack_frames stack.now)) (walk.settle (stack_frames stack.now)) (table_of path.now) (trail_of trail.now)) }
     ensures { OnOk result (found.new ≡ added query.now found.old (trails.derivations query.now.sig.now (entries_left (stack_frames stack.now)) (walk.settle (stack_frames stack.now)) (table_of path.now) (trail_of trail.now))) }
@@ -110,7 +111,7 @@ fn search_from(
     alloc: Global,
     query: &Query<'_>,
     frame: Frame<'_>,
-    found: &mut Items,
+    found: &mut Finds,
 ) -> Result<(), Memory>
     requires { AreReadyFor (condition_of query.now) (trails.derivations query.now.sig.now (entries_left (frame_of frame ∷ [])) (walk.settle (frame_of frame ∷ [])) [] []) }
     ensures { OnOk result (found.new ≡ added query.now found.old (trails.derivations query.now.sig.now (entries_left (frame_of frame.entry ∷ [])) (walk.settle (frame_of frame.entry ∷ [])) [] [])) }
@@ -162,12 +163,12 @@ pub fn eager_list(
         condition: &rule.condition,
         one_table: decides_table(pattern),
     };
-    let mut found = Items::new(alloc);
+    let mut found = Finds::new(alloc);
     search_from(
         alloc,
         &query,
         root_frame(alloc, pattern, subject)?,
         &mut found,
     )?;
-    Ok(found)
+    Ok(found.into_items())
 }

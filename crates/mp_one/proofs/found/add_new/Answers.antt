@@ -7,16 +7,16 @@ use Rattle.mp_one.specs.Path.{table_of}
 use Rattle.mp_one.specs.Trail.{trail_of}
 use Rattle.mp_one.proofs.FoundLaws.{collected-known, collected-new}
 use Rattle.mp_one.proofs.found.add_new.Goals as goal
-use Rattle.mp_one.proofs.found.add_new.Goals.{else-not-query-via-then-not-query+else-is_known, else-not-query-via-else-not-query}
+use Rattle.mp_one.proofs.found.add_new.Goals.{else-not-query-via-then-not-query+in_ok-has+else-branch, else-not-query-via-else-not-query}
 
-pub returns-then-is_known : goal.returns-then-is_known
-returns-then-is_known c =
+pub returns-then-branch : goal.returns-then-branch
+returns-then-branch c =
     let q = c.args.query.now in
     let test : Item → Bool = λ i. meets q.sig.now (condition_of q) i.1 in
     let here : Item = (table_of c.args.path.now, trail_of c.args.trail.now) in
     let passes : test here ≡ true = sym (c.meets.ensures ∙ ap (meets q.sig.now (condition_of q)) c.in_ok-subst.ensures) ∙ c.if-not-meets.false in
-    let known : is_known same_subst (item_substs c.args.found.now) here.1 ≡ true = sym (c.is_known.ensures ∙ (λ k. is_known same_subst (item_substs (c.as_slice.ensures k)) (c.in_ok-subst.ensures k))) ∙ c.if-is_known.true in
-    subst (λ b. c.args.found.now ≡ collected b test c.args.found.now (here ∷ [])) (sym c.if-not-query.true) (collected-known test c.args.found.now here passes known)
+    let known : is_known same_subst (item_substs c.args.found.now) here.1 ≡ true = sym (c.in_ok-has.ensures.known ∙ ap (is_known same_subst (item_substs c.args.found.now)) c.in_ok-subst.ensures) ∙ c.if-branch.true in
+    c.in_ok-has.ensures.same ∙ subst (λ b. c.args.found.now ≡ collected b test c.args.found.now (here ∷ [])) (sym c.if-not-query.true) (collected-known test c.args.found.now here passes known)
 
 pub returns : goal.returns
 returns c =
@@ -24,11 +24,15 @@ returns c =
     let test : Item → Bool = λ i. meets q.sig.now (condition_of q) i.1 in
     let here : Item = (table_of c.args.path.now, trail_of c.args.trail.now) in
     let passes : test here ≡ true = sym (c.meets.ensures ∙ ap (meets q.sig.now (condition_of q)) c.in_ok-subst.ensures) ∙ c.if-not-meets.false in
+    let same : c.else-not-query.found ≡ c.args.found.now = elim c.else-not-query.branch [
+      | else-not-query-via-then-not-query+in_ok-has+else-branch w ↦ w.found-is ∙ w.in_ok-has.ensures.same
+      | else-not-query-via-else-not-query w ↦ w.found-is
+    ] in
     let new : q.one_table ≡ false → is_known same_subst (item_substs c.args.found.now) here.1 ≡ false =
     λ m. elim c.else-not-query.branch [
-      | else-not-query-via-then-not-query+else-is_known w ↦ sym (w.is_known.ensures ∙ (λ k. is_known same_subst (item_substs (w.as_slice.ensures k)) (c.in_ok-subst.ensures k))) ∙ w.if-is_known.false
+      | else-not-query-via-then-not-query+in_ok-has+else-branch w ↦ sym (w.in_ok-has.ensures.known ∙ ap (is_known same_subst (item_substs c.args.found.now)) c.in_ok-subst.ensures) ∙ w.if-branch.false
       | else-not-query-via-else-not-query w ↦ (let e : false ≡ true = sym m ∙ w.if-not-query.false in cc)
     ] in
     subst (λ is. OnOk c.push.result (c.push.new.self ≡ is))
-    ((λ k. c.args.found.now ++ ((c.in_ok-takes.ensures k, c.in_ok-subst.ensures k) ∷ [])) ∙ collected-new q.one_table test c.args.found.now here passes new)
-    c.push.ensures.ok
+    ((λ k. same k ++ ((c.in_ok-takes.ensures k, c.in_ok-subst.ensures k) ∷ [])) ∙ collected-new q.one_table test c.args.found.now here passes new)
+    c.push.ensures

@@ -21,6 +21,7 @@ use Rattle.mp_one.proofs.WalkLaws.{derivations-root, collected-item_list}
 use Rattle.mp_one.proofs.ReadyItems.{items-ready}
 use Rattle.mp_one.proofs.ItemLaws.{IsItemOf-plan_of}
 use Rattle.mp_one.proofs.search.eager_list.Goals as goal
+use Rattle.mp_one.proofs.search.eager_list.Goals.{After-into_items}
 
 pub search_from-requires : goal.search_from-requires
 search_from-requires c =
@@ -30,14 +31,15 @@ search_from-requires c =
     subst (AreReadyFor condition) (sym (derivations-root c.args.sig.now (frame_of c.in_ok-root_frame.field-0 ∷ []) p t c.in_ok-root_frame.ensures)) (items-ready c.args.sig.now p t c.requires.small c.requires.few condition (derivations c.args.sig.now (pattern_nodes p) (settle (start p t)) [] []) c.requires.condition (derivations-fit c.args.sig.now p t c.requires.sound c.requires.normal))
 
 -- what was found is the list of items
-listed : (c : goal.In_ok-search_from) → c.search_from.new.found ≡ item_list c.args.sig.now (rule_tree c.args.rule.now) (tree c.args.subject.now)
+listed : (c : After-into_items) → c.into_items.result ≡ item_list c.args.sig.now (rule_tree c.args.rule.now) (tree c.args.subject.now)
 listed c =
     let sig = c.args.sig.now in
     let r = rule_tree c.args.rule.now in
     let t = tree c.args.subject.now in
     let b = c.decides_table.result in
     let all = derivations sig (pattern_nodes r.pattern) (settle (start r.pattern t)) [] [] in
-    c.in_ok-search_from.ensures
+    c.into_items.ensures
+    ∙ c.in_ok-search_from.ensures
     ∙ ap (λ is. collected b (λ i. meets sig r.condition i.1) c.new-found.result is) (derivations-root sig (frame_of c.in_ok-root_frame.field-0 ∷ []) r.pattern t c.in_ok-root_frame.ensures)
     ∙ ap (λ is. collected b (λ i. meets sig r.condition i.1) is all) c.new-found.ensures
     ∙ collected-item_list sig b r t all refl (λ e. let k = c.decides_table.ensures.0 e in distinct-derivations sig r.pattern t k.0 k.1 c.requires.sound c.requires.normal)
@@ -49,7 +51,7 @@ pub returns-clause-items : goal.returns-clause-items
 returns-clause-items c = subst (AreItems c.args.sig.now (rule_tree c.args.rule.now) (tree c.args.subject.now)) (sym (listed c)) (item_list-are c.args.sig.now (rule_tree c.args.rule.now) (tree c.args.subject.now) c.requires.sound c.requires.normal)
 
 -- and its substitutions are the one-list
-substs : (c : goal.In_ok-search_from) → IsSound c.args.sig.now (rule_tree c.args.rule.now).pattern → IsNormal c.args.sig.now (tree c.args.subject.now) → item_substs c.search_from.new.found ≡ one_list c.args.sig.now (rule_tree c.args.rule.now) (tree c.args.subject.now)
+substs : (c : After-into_items) → IsSound c.args.sig.now (rule_tree c.args.rule.now).pattern → IsNormal c.args.sig.now (tree c.args.subject.now) → item_substs c.into_items.result ≡ one_list c.args.sig.now (rule_tree c.args.rule.now) (tree c.args.subject.now)
 substs c sound normal = ap item_substs (listed c) ∙ item_substs-item_list c.args.sig.now (rule_tree c.args.rule.now) (tree c.args.subject.now) sound normal
 
 pub returns-clause-substs : goal.returns-clause-substs
