@@ -2,15 +2,12 @@
 use Rattle.std.proofs.Common.{◌≡◌, ℕ, true, false, [], ◌∷◌, Option, Some, None, refl}
 use Rattle.std.specs.Prelude.{codes}
 use Rattle.mp_term.specs.Tree.{symbol, app, trees}
-use Rattle.mp_term.specs.Signature.{Sig}
 use Rattle.mp_pattern.specs.PatternTree.{dot, kind, plus, star, symbol_pattern, app_pattern, wild_pattern, patterns}
-use Rattle.mp_pattern.specs.Value.{one, seq, bag}
 use Rattle.mp_syntax.specs.Lexing.{lexemes}
 use Rattle.mp_text.specs.declared.fault.TextKind.{TextKind}
 use Rattle.mp_text.specs.declared.fault.TextKind.TheVariants.{DuplicateName, TooMany, BadFlags, UnknownOp, BareOperation, UnknownKind, Arity, KindClash, LooseSequence, WildcardInTerm, Unread}
 use Rattle.mp_text.specs.declared.fault.TextFault.{TextFault}
 use Rattle.mp_text.specs.Reading.{file_of, fault_of}
-use Rattle.mp_print.specs.Printing.{term_text, subst_text}
 
 -- a fault of this kind, in line 1
 abbrev at : TextKind → ℕ → Option TextFault
