@@ -4,6 +4,7 @@ use Rattle.std.specs.Prelude.{flat_map}
 use Rattle.std.specs.List.{AllByRecursion}
 use Rattle.mp_io.specs.Devices.{Text}
 use Rattle.mp_term.specs.Signature.{Sig}
+use Rattle.mp_term.proofs.ListLaws.{all-also}
 use Rattle.mp_pattern.specs.Admission.{Rule}
 use Rattle.mp_theory.specs.OneList.{one_list}
 use Rattle.mp_theory.proofs.OneListLaws.{one_list-is}
@@ -12,10 +13,6 @@ use Rattle.mp_text.specs.File.{FileTree, Subject}
 use Rattle.matchpy.specs.Matches.{IsJoinedBy, IsMatchText, IsMatchable, IsMatchableFile, IsMatchableSubject, IsRuleText, match_line, match_text, rule_text, subject_text}
 
 -- ---- texts of items
-
-AllByRecursion-each : {X : Type 0} {P Q : X → Type 0} → ((x : X) → P x → Q x) → (xs : List X) → AllByRecursion P xs → AllByRecursion Q xs
-AllByRecursion-each f [] h = tt
-AllByRecursion-each f (x ∷ xs) h = (f x h.0, AllByRecursion-each f xs h.1)
 
 AllByRecursion-any : {X : Type 0} {Q : X → Type 0} → ((x : X) → Q x) → (xs : List X) → AllByRecursion Q xs
 AllByRecursion-any f [] = tt
@@ -44,7 +41,7 @@ module _ (sig : Sig) (subject : Subject) (matchable : IsMatchableSubject sig sub
       h.lines ∙ ap (flat_map (match_line sig subject rule)) (IsOneList-unique sig subject.term rule matchable.normal h.matches k.matches h.listed k.listed) ∙ sym k.lines
 
   subject_text-is : (rules : List Rule) → AllByRecursion (IsMatchable sig) rules → IsJoinedBy (IsRuleText sig subject) rules (subject_text sig rules subject)
-  subject_text-is rules m = IsJoinedBy-flat_map (IsRuleText sig subject) (rule_text sig subject) rules (AllByRecursion-each rule_text-is rules m)
+  subject_text-is rules m = IsJoinedBy-flat_map (IsRuleText sig subject) (rule_text sig subject) rules (all-also _ _ rule_text-is rules m)
 
   IsSubjectText-unique : (rules : List Rule) → IsDetermined (λ (s : Subject). IsJoinedBy (IsRuleText sig s) rules) subject
   IsSubjectText-unique rules = IsJoinedBy-unique (IsRuleText sig subject) rules (AllByRecursion-any IsRuleText-unique rules)
@@ -54,9 +51,9 @@ module _ (sig : Sig) (subject : Subject) (matchable : IsMatchableSubject sig sub
 pub match_text-is : (file : FileTree) → IsMatchableFile file → IsMatchText file (match_text file)
 match_text-is file m =
     IsJoinedBy-flat_map (λ subject. IsJoinedBy (IsRuleText file.sig subject) file.rules) (subject_text file.sig file.rules) file.subjects
-    (AllByRecursion-each (λ subject matchable. subject_text-is file.sig subject matchable file.rules m.rules) file.subjects m.subjects)
+    (all-also _ _ (λ subject matchable. subject_text-is file.sig subject matchable file.rules m.rules) file.subjects m.subjects)
 
 pub IsMatchText-unique : (file : FileTree) → IsMatchableFile file → (a b : Text) → IsMatchText file a → IsMatchText file b → a ≡ b
 IsMatchText-unique file m =
     IsJoinedBy-unique (λ subject. IsJoinedBy (IsRuleText file.sig subject) file.rules) file.subjects
-    (AllByRecursion-each (λ subject matchable. IsSubjectText-unique file.sig subject matchable file.rules) file.subjects m.subjects)
+    (all-also _ _ (λ subject matchable. IsSubjectText-unique file.sig subject matchable file.rules) file.subjects m.subjects)

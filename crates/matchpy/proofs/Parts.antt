@@ -1,8 +1,9 @@
 -- The text of items, part by part.
-use Rattle.std.proofs.Common.{◌≡◌, ℕ, suc, ◌+◌, ◌<◌, ◌≤◌, Bool, true, false, List, [], ◌∷◌, ◌++◌, length, map, drop, get_or, refl, sym, ap, ◌∙◌, subst, append_assoc, drop-cons, add-one, length-append, arith}
+use Rattle.std.proofs.Common.{◌≡◌, ℕ, ◌+◌, ◌<◌, ◌≤◌, Bool, true, false, List, [], ◌∷◌, ◌++◌, length, map, drop, get_or, refl, sym, ap, ◌∙◌, subst, append_assoc, length-append, arith}
 use Rattle.std.specs.Prelude.{Option, Err, flat_map, ◌||◌, ◌==◌, not}
 use Rattle.std.proofs.lemmas.Bool.Decides.{nat_tests}
 use Rattle.mp_term.specs.Signature.{Sig}
+use Rattle.mp_term.proofs.ListLaws.{drop-item}
 use Rattle.mp_pattern.specs.Admission.{Rule}
 use Rattle.mp_pattern.specs.Value.{Subst}
 use Rattle.mp_subst.specs.View.{subst_of}
@@ -20,10 +21,6 @@ use Rattle.matchpy.specs.Printed.{PrintsMatches}
 use Rattle.matchpy.specs.Matches.{has_some, match_line, rule_text}
 use Rattle.matchpy.specs.declared.matches.Stop.{Stop}
 use Rattle.matchpy.specs.declared.matches.Stop.TheVariants.{Memory, CannotWrite}
-
--- the items from an index on are the one there and those after it
-pub drop-item : {A : Type 0} (xs : List A) (i : ℕ) (x : A) → i < length xs → x ≡ get_or xs i x → drop i xs ≡ x ∷ drop (i + 1) xs
-drop-item xs i x h is = drop-cons xs i x h ∙ ap (λ y. y ∷ drop (suc i) xs) (sym is) ∙ ap (λ k. x ∷ drop k xs) (sym (add-one i))
 
 module _ {A X : Type 0} (view : A → X) where
   -- the text of the items from an index on

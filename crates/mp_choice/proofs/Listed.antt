@@ -9,11 +9,11 @@ use Rattle.std.specs.List.{AllByRecursion}
 use Rattle.std.specs.List.Sorted.{IsStrictlySortedBy}
 use Rattle.std.proofs.lemmas.Cmp.{tied_itself}
 use Rattle.mp_term.specs.Listing.{IsListing}
+use Rattle.mp_term.proofs.ListingLaws.{less_than_all, all_in, one_way, contains-from_in, in-from_contains}
 use Rattle.mp_theory.specs.Search.{In, Accepts}
 use Rattle.mp_theory.specs.Pieces.{count_to, distinct}
-use Rattle.mp_theory.proofs.SearchLaws.{all_in, in-filter, from_in-filter, one_way, words-complete}
+use Rattle.mp_theory.proofs.SearchLaws.{in-filter, from_in-filter, words-complete}
 use Rattle.mp_theory.proofs.PiecesLaws.{in-count_to, in-distinct, from_in-distinct, ascending-distinct}
-use Rattle.mp_theory.proofs.FirstsLaws.{contains-from_in, in-from_contains}
 use Rattle.mp_choice.specs.declared.stage.Stage.{Stage}
 use Rattle.mp_choice.specs.declared.stage.Stage.TheVariants.{Before, Standing}
 use Rattle.mp_choice.specs.Listed.{number_lists, above, Reaches, IsExhausted, IsFirst, HasNone, IsNext, IsLast}
@@ -31,10 +31,6 @@ module _ {X : Type 0} (cmp : X → X → Ordering) (o : IsTotalOrder cmp) where
   not_lt Less h = absurd (h refl)
   not_lt Equal h = refl
   not_lt Greater h = refl
-
-  less_than_all : (x y : X) (ys : List X) → cmp x y ≡ Less → AllByRecursion (λ z. cmp y z ≡ Less) ys → AllByRecursion (λ z. cmp x z ≡ Less) ys
-  less_than_all x y [] p h = tt
-  less_than_all x y (z ∷ zs) p h = (o.trans x y z p h.0, less_than_all x y zs p h.1)
 
   above-all : (x : X) (ys : List X) → AllByRecursion (λ y. cmp x y ≡ Less) ys → above cmp x ys ≡ ys
   above-all x [] h = refl
@@ -61,7 +57,7 @@ module _ {X : Type 0} (cmp : X → X → Ordering) (o : IsTotalOrder cmp) where
   above-next w x (y ∷ ys) s (inl e) l h =
       let P : X → Type 0 = λ z. above cmp w (y ∷ ys) ≡ z ∷ above cmp z (y ∷ ys) in
       let m : cmp w y ≡ Less = subst (λ z. cmp w z ≡ Less) e l in
-      subst P (sym e) (rw m (ap (λ zs. y ∷ zs) (above-all w ys (less_than_all w y ys m s.0) ∙ sym (above-head y ys s.0))))
+      subst P (sym e) (rw m (ap (λ zs. y ∷ zs) (above-all w ys (less_than_all cmp o w y ys m s.0) ∙ sym (above-head y ys s.0))))
   above-next w x (y ∷ ys) s (inr i) l h =
       let m : cmp y x ≡ Less = all_in (λ z. cmp y z ≡ Less) ys x s.0 i in
       let a : is_lt (cmp w y) ≡ false = not_lt (cmp w y) (λ p. h y (inl refl) p m) in

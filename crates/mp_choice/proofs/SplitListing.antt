@@ -5,8 +5,8 @@ use Rattle.std.specs.List.{AllZip}
 use Rattle.std.proofs.lemmas.Bool.Decides.{nat_tests}
 use Rattle.std.proofs.lemmas.Cmp.{nat_list_cmp_total}
 use Rattle.std.proofs.lemmas.Slice.Zip.{AllZip-long}
+use Rattle.std.proofs.lemmas.Bool.{and_parts, and_from}
 use Rattle.mp_term.specs.OrderLaws.{nats_same}
-use Rattle.mp_term.proofs.NormalTestLaws.{both, joined_tests}
 use Rattle.mp_choice.specs.declared.splits.Part.{Part}
 use Rattle.mp_choice.specs.Listed.{number_lists, IsNext, IsLast}
 use Rattle.mp_choice.specs.Splits.{Allows, IsSplit, AreSplits}
@@ -33,15 +33,15 @@ within_test : (ps : List Part) (ns : List ℕ) → AllZip Allows ps ns → are_w
 within_test [] [] w = refl
 within_test [] (n ∷ ns) w = absurd w
 within_test (p ∷ ps) [] w = absurd w
-within_test (p ∷ ps) (n ∷ ns) w = joined_tests _ _ (joined_tests _ _ (nat_le-from p.least n w.0.least) (most_test p.most n w.0.most)) (within_test ps ns w.1)
+within_test (p ∷ ps) (n ∷ ns) w = and_from _ _ (and_from _ _ (nat_le-from p.least n w.0.least) (most_test p.most n w.0.most)) (within_test ps ns w.1)
 
 within_from : (ps : List Part) (ns : List ℕ) → are_within ps ns ≡ true → AllZip Allows ps ns
 within_from [] [] h = tt
 within_from [] (n ∷ ns) h = cc
 within_from (p ∷ ps) [] h = cc
 within_from (p ∷ ps) (n ∷ ns) h =
-    let a = both (nat_le p.least n && at_most p.most n) (are_within ps ns) h in
-    let b = both (nat_le p.least n) (at_most p.most n) a.0 in
+    let a = and_parts (nat_le p.least n && at_most p.most n) (are_within ps ns) h in
+    let b = and_parts (nat_le p.least n) (at_most p.most n) a.0 in
     (record { least = le_from-nat_le p.least n b.0; most = most_from p.most n b.1 }, within_from ps ns a.1)
 
 eq_test : (m n : ℕ) → m ≡ n → (m == n) ≡ true
@@ -54,8 +54,8 @@ pub splits_of-listing : (total : ℕ) (ps : List Part) → AreSplits total ps (s
 unfolding splits_of
 splits_of-listing total ps =
     listing-distinct lex nat_list_cmp_total (IsSplit total ps) (λ ns. are_within ps ns && (sum ns == total)) (number_lists total (length ps)) nats_same
-    (λ ns s. joined_tests _ _ (within_test ps ns s.within) (eq_test (sum ns) total s.adds_up))
-    (λ ns t. let r = both (are_within ps ns) (sum ns == total) t in record { within = within_from ps ns r.0; adds_up = eq_from (sum ns) total r.1 })
+    (λ ns s. and_from _ _ (within_test ps ns s.within) (eq_test (sum ns) total s.adds_up))
+    (λ ns t. let r = and_parts (are_within ps ns) (sum ns == total) t in record { within = within_from ps ns r.0; adds_up = eq_from (sum ns) total r.1 })
     (λ ns s. in-number_lists total (length ps) ns (AllZip-long Allows ps ns s.within) (each-sum ns total (omega (arith, s.adds_up))))
 
 -- the list by the parts that a generator holds

@@ -1,28 +1,24 @@
 -- The sub-multisets of counts, as lists of class numbers, are the sublists of the class numbers of the counts.
-use Rattle.std.proofs.Common.{◌≡◌, ℕ, zero, suc, ◌≤◌, ◌<◌, ◌+◌, List, [], ◌∷◌, ◌++◌, map, true, false, refl, ap, sym, ◌∙◌, subst, length, replicate, arith}
+use Rattle.std.proofs.Common.{◌≡◌, ℕ, zero, suc, ◌≤◌, ◌<◌, ◌+◌, List, [], ◌∷◌, ◌++◌, map, true, false, refl, ap, sym, ◌∙◌, subst, replicate, arith}
 use Rattle.std.specs.Prelude.{if◌then◌else◌}
 use Rattle.std.specs.declared.cmp.Ordering.TheVariants.{Less}
 use Rattle.std.specs.Ordering.{nat_cmp}
 use Rattle.std.specs.Cmp.{IsTotalOrder}
 use Rattle.std.specs.List.{AllByRecursion}
 use Rattle.std.specs.List.Sorted.{IsStrictlySortedBy}
-use Rattle.std.proofs.lemmas.Cmp.{nat_cmp_total, nat_list_cmp_total, on_total, then_total}
+use Rattle.std.proofs.lemmas.Cmp.{nat_cmp_total, on_total}
 use Rattle.mp_term.specs.Listing.{IsListing}
 use Rattle.mp_term.specs.Order.{shortlex}
-use Rattle.mp_term.specs.OrderLaws.{nat_same}
-use Rattle.mp_term.proofs.ListingLaws.{unique_listing}
+use Rattle.mp_term.specs.OrderLaws.{nat_same, shortlex_total}
+use Rattle.mp_term.proofs.ListingLaws.{unique_listing, contains-from_in, in-from_contains}
 use Rattle.mp_theory.specs.Search.{In}
 use Rattle.mp_theory.specs.Pieces.{same, is_sublist, sub_bags}
 use Rattle.mp_theory.proofs.SearchLaws.{in-map, from_in-map}
 use Rattle.mp_theory.proofs.PiecesLaws.{same-sound, same-itself, pieces-exact, pieces-ascending}
-use Rattle.mp_theory.proofs.FirstsLaws.{contains-from_in, in-from_contains}
 use Rattle.mp_choice.specs.SubBags.{classes_from, classes, bag_order, IsSubBag, AreSubBags}
 
-shortlex_total : IsTotalOrder (shortlex nat_cmp)
-shortlex_total = then_total (on_total length nat_cmp_total) nat_list_cmp_total
-
 pub bag_order_total : IsTotalOrder bag_order
-bag_order_total = on_total classes shortlex_total
+bag_order_total = on_total classes (shortlex_total nat_cmp_total)
 
 -- a number is not the same as a lesser one
 same-less : (k x : ℕ) → k < x → same nat_cmp k x ≡ false
@@ -115,7 +111,7 @@ listing-classes cs bags h = record {
 
 -- they are the sub-multisets of the theory
 pub map-classes : (cs : List ℕ) (bags : List (List ℕ)) → AreSubBags cs bags → map classes bags ≡ sub_bags nat_cmp (classes cs)
-map-classes cs bags h = unique_listing (shortlex nat_cmp) shortlex_total (λ l. is_sublist nat_cmp l (classes cs) ≡ true) (map classes bags) (sub_bags nat_cmp (classes cs))
+map-classes cs bags h = unique_listing (shortlex nat_cmp) (shortlex_total nat_cmp_total) (λ l. is_sublist nat_cmp l (classes cs) ≡ true) (map classes bags) (sub_bags nat_cmp (classes cs))
     (listing-classes cs bags h)
     (record {
       exactly = λ l. (

@@ -2,10 +2,10 @@
 use Rattle.std.proofs.Common.{◌≡◌, ℕ, ◌<◌, ◌+◌, List, [], ◌∷◌, true, refl, sym, ◌∙◌, ◌⊎◌, inl, inr, sum, length, arith, subst}
 use Rattle.std.specs.Prelude.{nat_le}
 use Rattle.std.specs.declared.cmp.Ordering.TheVariants.{Less}
+use Rattle.std.proofs.lemmas.Bool.{and_parts, and_from}
 use Rattle.mp_term.specs.Listing.{IsListing}
-use Rattle.mp_term.proofs.NormalTestLaws.{both, joined_tests}
+use Rattle.mp_term.proofs.ListingLaws.{contains-from_in}
 use Rattle.mp_theory.proofs.SearchLaws.{all-from_in}
-use Rattle.mp_theory.proofs.FirstsLaws.{contains-from_in}
 use Rattle.mp_choice.specs.Listed.{number_lists, IsFirst, IsNext, IsLast}
 use Rattle.mp_choice.specs.SubBags.{IsSubBag, AreSubBags}
 use Rattle.mp_choice.specs.SubBagSteps.{IsFilled, IsLastOfSize, IsNextOfSize}
@@ -20,13 +20,13 @@ at_most_test : (cs ns : List ℕ) → IsSubBag cs ns → all_at_most cs ns ≡ t
 at_most_test [] [] w = refl
 at_most_test [] (n ∷ ns) w = absurd w
 at_most_test (c ∷ cs) [] w = absurd w
-at_most_test (c ∷ cs) (n ∷ ns) w = joined_tests _ _ (nat_le-from n c w.0) (at_most_test cs ns w.1)
+at_most_test (c ∷ cs) (n ∷ ns) w = and_from _ _ (nat_le-from n c w.0) (at_most_test cs ns w.1)
 
 at_most_from : (cs ns : List ℕ) → all_at_most cs ns ≡ true → IsSubBag cs ns
 at_most_from [] [] h = tt
 at_most_from [] (n ∷ ns) h = cc
 at_most_from (c ∷ cs) [] h = cc
-at_most_from (c ∷ cs) (n ∷ ns) h = let r = both (nat_le n c) (all_at_most cs ns) h in (le_from-nat_le n c r.0, at_most_from cs ns r.1)
+at_most_from (c ∷ cs) (n ∷ ns) h = let r = and_parts (nat_le n c) (all_at_most cs ns) h in (le_from-nat_le n c r.0, at_most_from cs ns r.1)
 
 -- in the order of the counts
 pub sub_bags_of-listing : (cs : List ℕ) → IsListing counts_order (IsSubBag cs) (sub_bags_of cs)

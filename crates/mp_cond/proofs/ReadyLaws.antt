@@ -1,17 +1,12 @@
 -- A substitution is ready for the conditions over its variables.
 use Rattle.std.proofs.Common.{◌≡◌, ℕ, true, false, ◌||◌, List, [], ◌∷◌, map, arith}
 use Rattle.std.specs.Prelude.{Some, IsSomeAnd, if◌then◌else◌}
-use Rattle.std.specs.List.{AllByRecursion}
+use Rattle.mp_term.proofs.ListLaws.{all-also}
 use Rattle.mp_pattern.specs.CondTree.{Operand, var, ground, Cond}
 use Rattle.mp_pattern.specs.Value.{Subst, same_name, value_of}
 use Rattle.mp_pattern.specs.Firsts.{is_known}
 use Rattle.mp_pattern.specs.Operands.{operands, IsOperandOver, IsConditionOver}
 use Rattle.mp_cond.specs.Ready.{IsCountable, IsOperandReady, IsReady, AreCountable}
-
--- what follows for each element
-AllByRecursion-map : {X : Type 0} (P Q : X → Type 0) → ((x : X) → P x → Q x) → (xs : List X) → AllByRecursion P xs → AllByRecursion Q xs
-AllByRecursion-map P Q f [] h = tt
-AllByRecursion-map P Q f (x ∷ xs) h = (f x h.0, AllByRecursion-map P Q f xs h.1)
 
 -- a bound variable
 value_of-bound : (s : Subst) (x : List ℕ) → is_known same_name (map (λ b. b.name) s) x ≡ true → AreCountable s → IsSomeAnd (value_of s x) IsCountable
@@ -27,4 +22,4 @@ IsOperandReady-over s all (ground t) h = omega (arith, h)
 
 -- a condition over them
 pub IsReady-over : (s : Subst) (c : Cond) → IsConditionOver (map (λ b. b.name) s) c → AreCountable s → IsReady s c
-IsReady-over s c h all = AllByRecursion-map (IsOperandOver (map (λ b. b.name) s)) (IsOperandReady s) (IsOperandReady-over s all) (operands c) h
+IsReady-over s c h all = all-also (IsOperandOver (map (λ b. b.name) s)) (IsOperandReady s) (IsOperandReady-over s all) (operands c) h

@@ -6,7 +6,7 @@ ghost use Rattle.mp_term.specs.NormalTest.{has_head};
 ghost use Rattle.mp_pattern.specs.Holds.{every, occurs};
 
 use crate::subterm::occurs;
-use mp_term::{KindId, OpId, Signature, Term};
+use mp_term::{KindId, OpId, Signature, Term, has_head, in_kind};
 
 // Whether the term is neither equal to, nor a subterm of, a term of the list.
 fn is_free(term: &Term, others: &[Term]) -> bool
@@ -22,16 +22,6 @@ pub(crate) fn are_free(terms: &[Term], others: &[Term]) -> bool
     terms.iter().all(|term| is_free(term, others))
 }
 
-// Whether the term is a symbol of the kind.
-fn in_kind(sig: &Signature, kind: KindId, term: &Term) -> bool
-    ensures { result ≡ in_kind sig.now kind.0 (tree term.now) }
-{
-    match term {
-        Term::Sym(name) => sig.kind_has(kind, name.bytes()),
-        Term::App(_, _) => false,
-    }
-}
-
 // Whether each term is a symbol of the kind.
 pub(crate) fn are_in_kind(sig: &Signature, kind: KindId, terms: &[Term]) -> bool
     ensures { result ≡ every (in_kind sig.now kind.0) (map tree terms.now) }
@@ -39,19 +29,9 @@ pub(crate) fn are_in_kind(sig: &Signature, kind: KindId, terms: &[Term]) -> bool
     terms.iter().all(|term| in_kind(sig, kind, term))
 }
 
-// Whether the term is an application of the operation.
-fn has_head(op: OpId, term: &Term) -> bool
-    ensures { result ≡ has_head op.0 (tree term.now) }
-{
-    match term {
-        Term::Sym(_) => false,
-        Term::App(head, _) => op == *head,
-    }
-}
-
 // Whether each term is an application of the operation.
 pub(crate) fn have_head(op: OpId, terms: &[Term]) -> bool
     ensures { result ≡ every (has_head op.0) (map tree terms.now) }
 {
-    terms.iter().all(|term| has_head(op, term))
+    terms.iter().all(|term| has_head(term, op))
 }

@@ -1,10 +1,10 @@
 -- The check of a take table, entry by entry, and that it tells which tables fit.
 use Rattle.std.proofs.Common.{◌≡◌, Bool, true, false, [], ◌∷◌, refl, ap, sym, ◌∙◌}
 use Rattle.std.specs.Prelude.{◌↔◌, ◌&&◌, Option, Some, None, is_some, option_and_then, if◌then◌else◌}
+use Rattle.std.proofs.Math.Bool.{and-false}
 use Rattle.mp_term.specs.Signature.{Sig}
 use Rattle.mp_term.specs.Tree.{Tree}
 use Rattle.mp_term.specs.Normal.{IsNormal}
-use Rattle.mp_term.proofs.NormalTestLaws.{and_false}
 use Rattle.mp_pattern.specs.PatternTree.{Pattern}
 use Rattle.mp_pattern.specs.Value.{Subst}
 use Rattle.mp_pattern.specs.Fits.{Entry, Table, Fits}
@@ -21,7 +21,7 @@ module _ (sig : Sig) where
   pub goes_on-clash : (n : Next) (e : Entry) (T : Table) (s : Subst) → solve sig s (said n e) ≡ None → false ≡ goes_on sig n s (e ∷ T)
   goes_on-clash n e T s h =
       let none : solve sig s (takes n (e ∷ T)) ≡ None = solve-append sig s (said n e) (takes (onward n e) T) ∙ ap (option_and_then (λ r. solve sig r (takes (onward n e) T))) h in
-      sym (ap (λ o. has_shape sig n (e ∷ T) && is_some o) none ∙ and_false (has_shape sig n (e ∷ T)))
+      sym (ap (λ o. has_shape sig n (e ∷ T) && is_some o) none ∙ and-false (has_shape sig n (e ∷ T)))
 
   -- from the start on a table goes on exactly where some substitution fits with it
   pub goes_on-fits : (p : Pattern) (t : Tree) (T : Table) → IsSound sig p → IsNormal sig t → (goes_on sig (settle (start p t)) [] T ≡ true) ↔ ((s : Subst) × Fits sig p t s T)

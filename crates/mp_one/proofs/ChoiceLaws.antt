@@ -2,10 +2,10 @@
 use Rattle.std.proofs.Common.{◌≡◌, ℕ, ◌+◌, ◌<◌, List, [], ◌∷◌, ◌++◌, length, map, drop, get_or, Bool, true, false, ap, sym, ◌∙◌, append_assoc}
 use Rattle.std.specs.Prelude.{filter}
 use Rattle.mp_term.specs.Tree.{Tree}
+use Rattle.mp_term.proofs.ListLaws.{drop-item}
 use Rattle.mp_pattern.specs.Fits.{Entry}
 use Rattle.mp_theory.specs.Machine.{entries}
 use Rattle.mp_one.proofs.ListLaws.{filter-front}
-use Rattle.mp_one.proofs.PieceSteps.{drop-next}
 
 -- both entries of a list in front
 pub entries-front : (p : Entry → Bool) (l : List Tree) (ls : List (List Tree)) → filter p (entries (l ∷ ls)) ≡ filter p (record { terms = l; collapsed = false } ∷ []) ++ filter p (record { terms = l; collapsed = true } ∷ []) ++ filter p (entries ls)
@@ -21,4 +21,4 @@ entries-step p f zs ys ws i xs x h e q r =
     let a : List Entry = filter p (record { terms = f x; collapsed = false } ∷ []) in
     let b : List Entry = filter p (record { terms = f x; collapsed = true } ∷ []) in
     let c : List Entry = filter p (entries (map f (drop (i + 1) xs))) in
-    ap (λ us. us ++ c) (r ∙ ap (λ us. us ++ b) q ∙ append_assoc zs a b) ∙ append_assoc zs (a ++ b) c ∙ ap (λ us. zs ++ us) (sym (entries-front p (f x) (map f (drop (i + 1) xs)))) ∙ ap (λ us. zs ++ filter p (entries (map f us))) (sym (drop-next i xs x h e))
+    ap (λ us. us ++ c) (r ∙ ap (λ us. us ++ b) q ∙ append_assoc zs a b) ∙ append_assoc zs (a ++ b) c ∙ ap (λ us. zs ++ us) (sym (entries-front p (f x) (map f (drop (i + 1) xs)))) ∙ ap (λ us. zs ++ filter p (entries (map f us))) (sym (drop-item xs i x h e))

@@ -3,8 +3,8 @@ use Rattle.std.proofs.Common.{◌≡◌, Bool, true, false, List, [], ◌∷◌,
 use Rattle.std.specs.Prelude.{◌||◌, filter, if◌then◌else◌}
 use Rattle.std.proofs.lemmas.List.Elements.{filter-append}
 use Rattle.mp_pattern.specs.Firsts.{is_known, firsts_after}
+use Rattle.mp_pattern.proofs.PlanLaws.{firsts_after-append}
 use Rattle.mp_theory.specs.OneList.{Item, same_subst, same_item, item_substs}
-use Rattle.mp_theory.proofs.FirstsLaws.{firsts_after-append}
 use Rattle.mp_one.specs.Found.{collected}
 
 is_known-item : (is : List Item) (i : Item) → is_known same_item is i ≡ is_known same_subst (item_substs is) i.1

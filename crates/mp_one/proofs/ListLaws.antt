@@ -1,17 +1,8 @@
 -- Lists and their images.
 use Rattle.std.proofs.Common.{◌≡◌, ℕ, suc, ◌+◌, ◌-◌, ◌<◌, List, [], ◌∷◌, ◌++◌, map, length, take, drop, get_or, Bool, true, false, refl, ap, sym, ◌∙◌, arith}
 use Rattle.std.specs.Prelude.{if◌then◌else◌, filter}
-use Rattle.std.specs.declared.cmp.Ordering.{Ordering}
-use Rattle.std.specs.Ordering.{ordering_then}
-use Rattle.std.specs.Cmp.Lexicographic.{slice_cmp}
 use Rattle.std.proofs.lemmas.List.{map-append, take-map, drop-map}
 use Rattle.std.proofs.Math.Seq.{drop-cons}
-
-pub slice_cmp-map : {X Y : Type 0} (cmp : Y → Y → Ordering) (f : X → Y) (xs ys : List X) → slice_cmp cmp (map f xs) (map f ys) ≡ slice_cmp (λ a b. cmp (f a) (f b)) xs ys
-slice_cmp-map cmp f [] [] = refl
-slice_cmp-map cmp f [] (y ∷ ys) = refl
-slice_cmp-map cmp f (x ∷ xs) [] = refl
-slice_cmp-map cmp f (x ∷ xs) (y ∷ ys) = ap (ordering_then (cmp (f x) (f y))) (slice_cmp-map cmp f xs ys)
 
 pub map-insert : {X Y : Type 0} (f : X → Y) (i : ℕ) (xs : List X) (x : X) → map f (take i xs ++ (x ∷ drop i xs)) ≡ take i (map f xs) ++ (f x ∷ drop i (map f xs))
 map-insert f i xs x = map-append f (take i xs) (x ∷ drop i xs) ∙ ap (λ ys. ys ++ (f x ∷ map f (drop i xs))) (sym (take-map f i xs)) ∙ ap (λ ys. take i (map f xs) ++ (f x ∷ ys)) (sym (drop-map f i xs))

@@ -5,16 +5,15 @@ use Rattle.std.specs.List.{range_with_len}
 use Rattle.std.specs.declared.cmp.Ordering.{Ordering}
 use Rattle.std.specs.declared.cmp.Ordering.TheVariants.{Less, Equal}
 use Rattle.std.proofs.Math.ListN.{drop_of_length-le}
-use Rattle.std.proofs.Math.Seq.{drop-cons}
 use Rattle.std.specs.List.Sorted.{IsStrictlySortedBy}
 use Rattle.mp_term.specs.Order.{tree_cmp, shortlex}
-use Rattle.mp_term.specs.OrderLaws.{tree_cmp_total, tree_same}
+use Rattle.mp_term.specs.OrderLaws.{tree_cmp_total, tree_same, shortlex_total}
 use Rattle.mp_term.specs.Tree.{Tree}
+use Rattle.mp_term.proofs.ListLaws.{drop-item}
+use Rattle.mp_term.proofs.ListingLaws.{same_members}
 use Rattle.mp_theory.specs.Search.{In}
 use Rattle.mp_theory.proofs.SearchLaws.{in-left}
 use Rattle.mp_theory.proofs.PiecesLaws.{pieces_among-exact, pieces_among-ascending, length-without, same-sound, same-itself, sublist-from_piece}
-use Rattle.mp_theory.proofs.Tables.{shortlex_total}
-use Rattle.mp_theory.proofs.Bounds.{same_members}
 use Rattle.mp_theory.specs.Pieces.{pieces_among, same, without, insert_new, distinct, after, first, pieces_of, is_sublist, is_piece}
 use Rattle.mp_one.proofs.ListLaws.{bool_same}
 
@@ -56,13 +55,10 @@ pub pieces_of-longer : {Y : Type 0} (cmp : Y → Y → Ordering) (anywhere : Boo
 pieces_of-longer cmp anywhere zero ts h = absurd (h refl)
 pieces_of-longer cmp anywhere (suc n) ts h = let e : suc n - 1 ≡ n = omega arith in ap (λ m. flat_map (begun cmp anywhere m ts) (if anywhere then distinct cmp ts else first cmp ts)) e
 
-pub drop-next : {X : Type 0} (i : ℕ) (xs : List X) (x : X) → i < length xs → x ≡ get_or xs i x → drop i xs ≡ x ∷ drop (i + 1) xs
-drop-next i xs x h e = drop-cons xs i x h ∙ ap (λ y. y ∷ drop (suc i) xs) (sym e) ∙ ap (λ n. x ∷ drop n xs) (sym (add-one i))
-
 -- one more element of a list gone over
 pub flat_map-step : {X Y Z : Type 0} (f : X → Y) (g : Y → List Z) (zs ws : List Z) (i : ℕ) (xs : List X) (x : X) → i < length xs → x ≡ get_or xs i x → ws ≡ zs ++ g (f x) → ws ++ flat_map g (map f (drop (i + 1) xs)) ≡ zs ++ flat_map g (map f (drop i xs))
 flat_map-step f g zs ws i xs x h e q =
-    ap (λ us. us ++ flat_map g (map f (drop (i + 1) xs))) q ∙ append_assoc zs (g (f x)) (flat_map g (map f (drop (i + 1) xs))) ∙ ap (λ ys. zs ++ flat_map g (map f ys)) (sym (drop-next i xs x h e))
+    ap (λ us. us ++ flat_map g (map f (drop (i + 1) xs))) q ∙ append_assoc zs (g (f x)) (flat_map g (map f (drop (i + 1) xs))) ∙ ap (λ ys. zs ++ flat_map g (map f ys)) (sym (drop-item xs i x h e))
 
 -- one more number of a range
 pub flat_map-next : {Z : Type 0} (g : ℕ → List Z) (zs ws : List Z) (k n : ℕ) → k < n → ws ≡ zs ++ g k → ws ++ flat_map g (range_with_len (k + 1) (n - (k + 1))) ≡ zs ++ flat_map g (range_with_len k (n - k))
@@ -110,7 +106,7 @@ pieces_of-whole anywhere ts =
     let ns : List ℕ = length ts ∷ [] in
     let ls : List (List Tree) = pieces_among tree_cmp anywhere ns ts in
     sym (append-nil (pieces_of tree_cmp anywhere (length ts) ts))
-    ∙ same_members (shortlex tree_cmp) shortlex_total ls (ts ∷ []) (pieces_among-ascending tree_cmp tree_cmp_total tree_same anywhere ns ts (tt, tt)) (tt, tt)
+    ∙ same_members (shortlex tree_cmp) (shortlex_total tree_cmp_total) ls (ts ∷ []) (pieces_among-ascending tree_cmp tree_cmp_total tree_same anywhere ns ts (tt, tt)) (tt, tt)
     (λ l i.
     let k = (pieces_among-exact tree_cmp tree_cmp_total tree_same anywhere ns l ts).0 i in
     let e : length l ≡ length ts = elim k.0 [ inl p ↦ p | inr a ↦ absurd a ] in

@@ -13,11 +13,11 @@ use Rattle.mp_pattern.specs.Firsts.{is_known, add_new, firsts_after}
 use Rattle.mp_pattern.specs.Value.{Form, same_name}
 use Rattle.mp_pattern.specs.Variables.{Use, uses, all_uses, variables, variable_form}
 use Rattle.mp_term.specs.Signature.{Sig}
+use Rattle.mp_term.proofs.ListLaws.{all-split}
 use Rattle.mp_pattern.specs.Plan.{Node, Variable, nodes, all_nodes, Plan, plan_of}
+use Rattle.mp_pattern.proofs.NameLaws.{same_name-is, same_name-itself}
 use Rattle.mp_theory.specs.Search.{In}
-use Rattle.mp_theory.proofs.SearchLaws.{in-left, in-right, from_all-append}
-use Rattle.mp_theory.proofs.Merging.{name_same}
-use Rattle.mp_theory.proofs.Solving.{same_name-itself}
+use Rattle.mp_theory.proofs.SearchLaws.{in-left, in-right}
 use Rattle.mp_one.specs.PlanPattern.{Numbered, standing_of, before, from, variable_name, pattern_at, behind}
 use Rattle.mp_one.proofs.WalkLaws.{pattern_nodes-below}
 use Rattle.mp_one.specs.declared.plan_pattern.Standing.{Standing}
@@ -38,7 +38,7 @@ known-in : (x : List ℕ) (ys : List (List ℕ)) → is_known same_name ys x ≡
 known-in x [] e = cc
 known-in x (y ∷ ys) e =
     elim (same_name y x) as (λ b. same_name y x ≡ b → In x (y ∷ ys)) [
-      | true ↦ λ q. inl (sym (name_same y x q))
+      | true ↦ λ q. inl (sym (same_name-is y x q))
       | false ↦ λ q. inr (known-in x ys (rw q at e))
     ] refl
 
@@ -74,7 +74,7 @@ variable_name-position g x [] i = absurd i
 variable_name-position g x (y ∷ ys) i =
     let v : Variable = record { name = y; form = g y } in
     elim (same_name x y) as (λ b. same_name x y ≡ b → variable_name (named g (y ∷ ys)) (position (same_name x) (y ∷ ys)) ≡ Some x) [
-      | true ↦ λ e. ap (variable_name (named g (y ∷ ys))) (position-first (same_name x) y ys e) ∙ ap Some (sym (name_same x y e))
+      | true ↦ λ e. ap (variable_name (named g (y ∷ ys))) (position-first (same_name x) y ys e) ∙ ap Some (sym (same_name-is x y e))
       | false ↦ λ e.
           let further : In x ys = elim i [ inl q ↦ absurd (let k : same_name x y ≡ true = subst (λ z. same_name x z ≡ true) q (same_name-itself x) in cc) | inr j ↦ j ] in
           ap (variable_name (named g (y ∷ ys))) (position-behind (same_name x) y ys e) ∙ variable_name-next v (named g ys) (position (same_name x) ys) ∙ variable_name-position g x ys further
@@ -135,7 +135,7 @@ module _ (g : List ℕ → Form) (xs : List (List ℕ)) where
     standing-all_nodes : (f : Option ℕ) (m n : ℕ) (ps : Patterns) (ms : List Node) → AllIn (all_uses f ps) → standing (named g xs) n (all_nodes xs m n ps ++ ms) ≡ numbered n ps (standing (named g xs) (n + all_pattern_nodes ps) ms)
     standing-all_nodes f m n no_patterns ms h = ap (λ i. standing (named g xs) i ms) (omega arith)
     standing-all_nodes f m n (more_patterns p ps) ms h =
-        let k = from_all-append (λ u. In u.name xs) (uses f p) (all_uses f ps) h in
+        let k = all-split (λ u. In u.name xs) (uses f p) (all_uses f ps) h in
         let i : n + pattern_nodes p + all_pattern_nodes ps ≡ n + all_pattern_nodes (more_patterns p ps) = omega arith in
         ap (standing (named g xs) n) (append_assoc (nodes xs (Some m) n p) (all_nodes xs m (n + pattern_nodes p) ps) ms)
         ∙ standing-nodes f (Some m) n p (all_nodes xs m (n + pattern_nodes p) ps ++ ms) k.0

@@ -5,12 +5,12 @@ use Rattle.mp_term.specs.Tree.{Tree, app, trees, tree_list}
 use Rattle.mp_term.specs.TreeLists.{tree_list-trees}
 use Rattle.mp_term.specs.Order.{tree_cmp}
 use Rattle.mp_term.specs.OrderLaws.{tree_cmp_total, tree_same}
-use Rattle.mp_term.proofs.NormalTestLaws.{both, joined_tests}
 use Rattle.mp_pattern.specs.Value.{same_terms}
 use Rattle.mp_theory.specs.Pieces.{same}
 use Rattle.mp_theory.specs.Machine.{arguments}
 use Rattle.std.specs.declared.cmp.Ordering.TheVariants.{Less, Equal, Greater}
 use Rattle.std.specs.Ordering.{is_eq, ordering_then}
+use Rattle.std.proofs.lemmas.Bool.{and_parts, and_from}
 use Rattle.mp_theory.proofs.PiecesLaws.{same-sound, same-itself}
 use Rattle.mp_theory.proofs.Merging.{same_terms-sound, same_terms-complete}
 use Rattle.mp_one.proofs.ListLaws.{bool_same}
@@ -31,13 +31,13 @@ pub same-app : (f g : ℕ) (xs ys : List Tree) → (nat_eq f g && same_terms xs 
 same-app f g xs ys =
     bool_same (nat_eq f g && same_terms xs ys) (same tree_cmp (app f (trees xs)) (app g (trees ys)))
     (λ e.
-    let k = both (nat_eq f g) (same_terms xs ys) e in
+    let k = and_parts (nat_eq f g) (same_terms xs ys) e in
     tree_itself (app f (trees xs)) (app g (trees ys)) (ap (λ h. app h (trees xs)) (eqb-true f g k.0) ∙ ap (λ zs. app g (trees zs)) (same_terms-sound xs ys k.1)))
     (λ e.
     let q = tree_sound (app f (trees xs)) (app g (trees ys)) e in
     let i : f ≡ g = cc in
     let j : trees xs ≡ trees ys = cc in
-    joined_tests _ _ (eq-eqb f g i) (same_terms-complete xs ys (trees-injective xs ys j)))
+    and_from _ _ (eq-eqb f g i) (same_terms-complete xs ys (trees-injective xs ys j)))
 
 -- a list that isn't of one term
 pub same_terms-single : {X : Type 0} (f : X → Tree) (ts : List X) (u : Tree) → (length ts ≡ 1 → ⊥) → false ≡ same_terms (map f ts) (u ∷ [])

@@ -5,6 +5,7 @@ use Rattle.std.specs.List.{AllByRecursion}
 use Rattle.std.proofs.Math.ListN.{drop_of_length-le}
 use Rattle.mp_term.specs.Tree.{Tree}
 use Rattle.mp_term.specs.Signature.{Sig}
+use Rattle.mp_term.proofs.ListLaws.{all-split, drop-item}
 use Rattle.mp_pattern.specs.PatternTree.{Pattern, symbol_pattern, app_pattern, wild_pattern, Patterns, no_patterns, more_patterns}
 use Rattle.mp_pattern.specs.Size.{pattern_nodes, all_pattern_nodes}
 use Rattle.mp_pattern.specs.Value.{Subst}
@@ -16,14 +17,12 @@ use Rattle.mp_theory.specs.Machine.{onward, entered, taken_out}
 use Rattle.mp_theory.specs.Within.{choices_within}
 use Rattle.mp_theory.specs.Trail.{derivations, derivations_by}
 use Rattle.mp_theory.specs.OneList.{Item, same_item, item_list}
-use Rattle.mp_theory.proofs.SearchLaws.{from_all-append}
 use Rattle.mp_theory.proofs.FirstsLaws.{Distinct, distinct-filter, firsts_after-distinct}
 use Rattle.mp_theory.proofs.TrailLaws.{item_list-by_derivations}
 use Rattle.mp_theory.proofs.Pruning.{derivations-within}
 use Rattle.mp_one.specs.Stack.{nodes_below, entries_left}
 use Rattle.mp_one.specs.Found.{collected}
 use Rattle.mp_one.proofs.FoundLaws.{collected-none, collected-append}
-use Rattle.mp_one.proofs.PieceSteps.{drop-next}
 
 pub pattern_nodes-below : (p : Pattern) → pattern_nodes p ≡ suc (nodes_below p)
 pattern_nodes-below (symbol_pattern n) = refl
@@ -98,7 +97,7 @@ pub collected-step : {X : Type 0} (b : Bool) (test : Item → Bool) (f : X → E
 collected-step b test f g ys zs i xs x h e q =
     ap (λ us. collected b test us (flat_map g (map f (drop (i + 1) xs)))) q
     ∙ sym (collected-append b test ys (g (f x)) (flat_map g (map f (drop (i + 1) xs))))
-    ∙ ap (λ us. collected b test ys (flat_map g (map f us))) (sym (drop-next i xs x h e))
+    ∙ ap (λ us. collected b test ys (flat_map g (map f us))) (sym (drop-item xs i x h e))
 
 pub collected-end : {X : Type 0} (b : Bool) (test : Item → Bool) (f : X → Entry) (g : Entry → List Item) (zs : List Item) (i : ℕ) (xs : List X) → length xs ≤ i → collected b test zs (flat_map g (map f (drop i xs))) ≡ zs
 collected-end b test f g zs i xs h = rw (drop_of_length-le xs {i = i} h) (collected-none b test zs)
@@ -106,8 +105,8 @@ collected-end b test f g zs i xs h = rw (drop_of_length-le xs {i = i} h) (collec
 -- what holds of each item that entries give holds of those that one of them gives
 pub all-flat_map_at : {X : Type 0} (P : Item → Type 0) (f : X → Entry) (g : Entry → List Item) (i : ℕ) (xs : List X) (x : X) → i < length xs → x ≡ get_or xs i x → AllByRecursion P (flat_map g (map f xs)) → AllByRecursion P (g (f x))
 all-flat_map_at P f g i [] x h e k = absurd (omega arith)
-all-flat_map_at P f g zero (y ∷ xs) x h e k = subst (λ z. AllByRecursion P (g (f z))) (sym e) (from_all-append P (g (f y)) (flat_map g (map f xs)) k).0
-all-flat_map_at P f g (suc i) (y ∷ xs) x h e k = all-flat_map_at P f g i xs x (omega arith) e (from_all-append P (g (f y)) (flat_map g (map f xs)) k).1
+all-flat_map_at P f g zero (y ∷ xs) x h e k = subst (λ z. AllByRecursion P (g (f z))) (sym e) (all-split P (g (f y)) (flat_map g (map f xs)) k).0
+all-flat_map_at P f g (suc i) (y ∷ xs) x h e k = all-flat_map_at P f g i xs x (omega arith) e (all-split P (g (f y)) (flat_map g (map f xs)) k).1
 
 pub entries_left-child : (fs : List Frame) (p : Pattern) (f : Frame) (gs : List Frame) → settle fs ≡ child p f gs → entries_left fs ≡ suc (nodes_below p + (all_pattern_nodes f.children + entries_left gs))
 entries_left-child fs p f gs e = subst (Comes fs) e (comes fs)

@@ -29,13 +29,6 @@ pub enum Extended<'a> {
     Changed(Vec<Bound<'a>>),
 }
 
-// Whether the names are equal.
-pub fn same_name(name: &Name, other: &Name) -> bool
-    ensures { result ≡ values.same_name name.now other.now }
-{
-    name.bytes().cmp(&other.bytes()).is_eq()
-}
-
 // The binding with the value of both uses.
 fn rebound<'a>(
     alloc: Global,
@@ -67,7 +60,7 @@ fn bind<'a>(
     let mut after = Vec::new(alloc);
     let mut is_bound = false;
     for bound in trail {
-        if !is_bound && same_name(bound.name, name) {
+        if !is_bound && *bound.name == *name {
             is_bound = true;
             match rebound(alloc, bound, value)? {
                 None => return Ok(None),

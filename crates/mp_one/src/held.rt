@@ -11,7 +11,7 @@ ghost use Rattle.mp_one.specs.Lines.{above};
 ghost use Rattle.mp_one.specs.Lists.{trees_of};
 ghost use Rattle.mp_one.specs.Held.{held_value, merged, is_same_one};
 
-use crate::lines::{comm_above, is_alone, is_assoc, is_of_kind};
+use crate::lines::{comm_above, is_alone, is_of_kind};
 use crate::terms::{copied, references, same_multiset, same_references};
 use mp_pattern::Shape;
 use mp_term::{Memory, OpId, Signature, Term, compare};
@@ -129,7 +129,7 @@ fn contributor<'a>(
         }
         (_, None) => Ok(None),
         (_, Some(op)) => {
-            if is_assoc(sig, op) {
+            if sig.is_assoc(op) {
                 Ok(Some(Held::Joined(op, copied(alloc, terms)?)))
             } else {
                 Ok(None)

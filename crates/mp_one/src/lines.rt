@@ -2,8 +2,6 @@
 ghost use Rattle.std.specs.Prelude.{◌≡◌, ◌∷◌, [], map, is_some};
 ghost use Rattle.mp_term.specs.View.{tree};
 ghost use Rattle.mp_term.specs.Tree.{symbol};
-ghost use Rattle.mp_term.specs.NormalTest.{has_head};
-ghost use Rattle.mp_term.specs.Signature as signature;
 ghost use Rattle.mp_pattern.specs.PatternTree.{patterns};
 ghost use Rattle.mp_pattern.specs.View.{pattern_tree, wildcard};
 ghost use Rattle.mp_pattern.specs.Value as values;
@@ -18,37 +16,14 @@ ghost use Rattle.mp_one.specs.Lists.{trees_of};
 ghost use Rattle.mp_one.specs.Lines.{above, is_sequence};
 
 use mp_pattern::{Pattern, Shape};
-use mp_term::{KindId, OpId, Signature, Term};
-
-/// Whether the operation is associative.
-pub fn is_assoc(sig: &Signature, op: OpId) -> bool
-    ensures { result ≡ signature.is_assoc sig.now op.0 }
-{
-    match sig.op(op) {
-        Some(decl) => decl.assoc,
-        None => false,
-    }
-}
-
-/// Whether the operation has a one-identity.
-fn is_one(sig: &Signature, op: OpId) -> bool
-    ensures { result ≡ signature.is_one sig.now op.0 }
-{
-    match sig.op(op) {
-        Some(decl) => decl.one,
-        None => false,
-    }
-}
+use mp_term::{KindId, OpId, Signature, Term, has_head, in_kind};
 
 /// Whether the operation above is commutative.
 pub fn comm_above(sig: &Signature, under: Option<OpId>) -> bool
     ensures { result ≡ variables.comm_above sig.now (above under) }
 {
-    let Some(op) = under else {
-        return false;
-    };
-    match sig.op(op) {
-        Some(decl) => decl.comm,
+    match under {
+        Some(op) => sig.is_comm(op),
         None => false,
     }
 }
@@ -58,17 +33,8 @@ pub fn assoc_above(sig: &Signature, under: Option<OpId>) -> bool
     ensures { result ≡ bounds.assoc_above sig.now (above under) }
 {
     match under {
-        Some(op) => is_assoc(sig, op),
+        Some(op) => sig.is_assoc(op),
         None => false,
-    }
-}
-
-fn is_headed(op: OpId, term: &Term) -> bool
-    ensures { result ≡ has_head op.0 (tree term.now) }
-{
-    match term {
-        Term::Sym(_) => false,
-        Term::App(head, _) => op.0 == head.0,
     }
 }
 
@@ -78,17 +44,7 @@ pub fn is_alone(sig: &Signature, under: Option<OpId>, term: &Term) -> bool
 {
     match under {
         None => true,
-        Some(op) => !(is_assoc(sig, op) && is_headed(op, term)),
-    }
-}
-
-// Whether the term is a symbol of the kind.
-fn in_kind(sig: &Signature, kind: KindId, term: &Term) -> bool
-    ensures { result ≡ signature.in_kind sig.now kind.0 (tree term.now) }
-{
-    match term {
-        Term::Sym(name) => sig.kind_has(kind, name.bytes()),
-        Term::App(_, _) => false,
+        Some(op) => !(sig.is_assoc(op) && has_head(term, op)),
     }
 }
 
@@ -172,7 +128,7 @@ fn is_application(op: OpId, terms: &[&Term]) -> bool
     ensures { result ≡ machine.is_headed op.0 (trees_of terms.now) }
 {
     match terms {
-        [only] => is_headed(op, only),
+        [only] => has_head(only, op),
         _ => false,
     }
 }
@@ -192,7 +148,7 @@ pub fn reads(
         Pattern::Wild(shape, _) => !collapsed && is_given(sig, under, shape, terms),
         Pattern::App(op, children) => {
             if collapsed {
-                terms.len() == 1 && is_one(sig, *op) && no_sequence(children.as_slice())
+                terms.len() == 1 && sig.is_one(*op) && no_sequence(children.as_slice())
             } else {
                 is_application(*op, terms)
             }

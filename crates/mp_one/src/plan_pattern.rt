@@ -2,15 +2,14 @@
 ghost use Rattle.std.specs.Prelude.{◌≡◌, ◌<◌, Some, length, slice_get, option_map, OnOk, IfOk};
 ghost use Rattle.mp_term.specs.Signature.{Sig};
 ghost use Rattle.mp_pattern.specs.PatternTree as plain;
-ghost use Rattle.mp_pattern.specs.View.{pattern_tree, wildcard};
+ghost use Rattle.mp_pattern.specs.View.{pattern_tree};
 ghost use Rattle.mp_pattern.specs.Plan as plain_plan;
 ghost use Rattle.mp_pattern.specs.Plan.{IsPlanOf};
 ghost use Rattle.mp_one.specs.PlanPattern.{standing_of, variable_name, before, from, pattern_at, behind};
 
 use crate::terms::push;
-use crate::value::own_name;
-use mp_pattern::{Pattern, Patterns, Plan, PlanNode, Shape};
-use mp_term::{Memory, Name, copy_term};
+use mp_pattern::{Pattern, Patterns, Plan, PlanNode, copy_shape};
+use mp_term::{Memory, Name};
 use std::alloc::Global;
 
 /// A pattern with the number of its node.
@@ -18,18 +17,6 @@ use std::alloc::Global;
 pub struct Standing {
     pub node: u32,
     pub pattern: Pattern,
-}
-
-fn own_shape(alloc: Global, shape: &Shape) -> Result<Shape, Memory>
-    ensures { IfOk result (λ w. wildcard w ≡ wildcard shape.now) }
-{
-    match shape {
-        Shape::Dot => Ok(Shape::Dot),
-        Shape::Kind(kind) => Ok(Shape::Kind(*kind)),
-        Shape::Plus => Ok(Shape::Plus),
-        Shape::Star => Ok(Shape::Star),
-        Shape::Opt(default) => Ok(Shape::Opt(copy_term(alloc, default)?)),
-    }
 }
 
 // The name of the variable of that number.
@@ -41,7 +28,7 @@ fn variable_name(alloc: Global, plan: &Plan, variable: Option<u32>) -> Result<Op
     };
     match plan.var_name(number) {
         None => Ok(None),
-        Some(name) => Ok(Some(own_name(alloc, name)?)),
+        Some(name) => Ok(Some(name.copy(alloc)?)),
     }
 }
 
@@ -73,12 +60,12 @@ fn pattern_at(
     ensures behind { OnOk result ((m : plain_plan.Node) → slice_get plan.now.nodes node ≡ Some m → standing_of standing.new.items ≡ behind m (standing_of standing.old.items)) }
 {
     match (plan.node(node), plan.end(node)) {
-        (Some(PlanNode::Sym(name)), _) => Ok(Pattern::Sym(own_name(alloc, name)?)),
+        (Some(PlanNode::Sym(name)), _) => Ok(Pattern::Sym(name.copy(alloc)?)),
         (Some(PlanNode::App(op)), Some(end)) => {
             Ok(Pattern::App(op, take_before(alloc, end, standing)?))
         }
         (Some(PlanNode::Wild(shape, variable)), _) => Ok(Pattern::Wild(
-            own_shape(alloc, shape)?,
+            copy_shape(alloc, shape)?,
             variable_name(alloc, plan, variable)?,
         )),
         _ => unreachable!(),

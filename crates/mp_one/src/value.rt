@@ -8,7 +8,7 @@ use crate::bind::Bound;
 use crate::held::Held;
 use crate::terms::copies;
 use mp_subst::{Binding, Bindings, Subst, Value};
-use mp_term::{Memory, Name, Term, copy_term};
+use mp_term::{Memory, Term, copy_term};
 use std::alloc::Global;
 
 fn own_value(alloc: Global, held: &Held<'_>) -> Result<Value, Memory>
@@ -22,23 +22,13 @@ fn own_value(alloc: Global, held: &Held<'_>) -> Result<Value, Memory>
     }
 }
 
-/// The same name.
-pub fn own_name(alloc: Global, name: &Name) -> Result<Name, Memory>
-    ensures { IfOk result (λ n. n ≡ name.now) }
-{
-    match Name::new(alloc, name.bytes()) {
-        Ok(copy) => Ok(copy),
-        Err(_) => Err(Memory),
-    }
-}
-
 /// The substitution with terms of its own.
 pub fn own_subst(alloc: Global, trail: &[Bound<'_>]) -> Result<Subst, Memory>
     ensures { IfOk result (λ s. subst_of s ≡ trail_of trail.now) }
 {
     let mut bindings = Bindings::new(alloc);
     for bound in trail {
-        let name = own_name(alloc, bound.name)?;
+        let name = bound.name.copy(alloc)?;
         let value = own_value(alloc, &bound.value)?;
         bindings.push(Binding { name, value })?;
     }

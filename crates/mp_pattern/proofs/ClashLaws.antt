@@ -1,34 +1,28 @@
 -- Patterns without clashes: any two wildcards of one variable are the same, in whatever order they stand, so that the normal form has no clash either.
-use Rattle.std.proofs.Common.{◌≡◌, ℕ, Bool, true, false, ◌&&◌, ◌||◌, not, List, [], ◌∷◌, ◌++◌, length, Option, Some, None, refl, sym, ap, subst, ◌∙◌, eqb-true}
-use Rattle.std.specs.Prelude.{nat_eq, if◌then◌else◌}
-use Rattle.std.specs.declared.cmp.Ordering.{Ordering}
-use Rattle.std.specs.declared.cmp.Ordering.TheVariants.{Less, Equal, Greater}
+use Rattle.std.proofs.Common.{◌≡◌, ℕ, Bool, true, false, ◌&&◌, ◌||◌, not, List, [], ◌∷◌, ◌++◌, length, Some, None, refl, sym, ap, ◌∙◌}
+use Rattle.std.specs.Prelude.{if◌then◌else◌}
 use Rattle.std.specs.Ordering.{nat_cmp, is_eq}
-use Rattle.std.specs.Cmp.Lexicographic.{slice_cmp}
+use Rattle.std.specs.Cmp.{Equal-is}
 use Rattle.std.specs.List.{list_any, AllByRecursion}
-use Rattle.std.proofs.lemmas.Cmp.{tied_itself, nat_cmp_total, nat_list_cmp_total}
+use Rattle.std.proofs.lemmas.Cmp.{tied_itself, nat_cmp_total}
+use Rattle.std.proofs.lemmas.Bool.{not-false}
 use Rattle.mp_term.specs.Signature.{Sig}
-use Rattle.mp_term.specs.OrderLaws.{nat_same, nats_same, tree_same, tree_cmp_total}
+use Rattle.mp_term.specs.OrderLaws.{nat_same, tree_same, tree_cmp_total}
+use Rattle.mp_term.proofs.ListLaws.{all-append, all-split}
 use Rattle.mp_pattern.specs.PatternTree.{Wildcard, dot, kind, plus, star, optional, Pattern, symbol_pattern, app_pattern, wild_pattern, Patterns, no_patterns, more_patterns, pattern_list, patterns}
-use Rattle.mp_pattern.specs.Order.{wildcard_class, wildcard_cmp}
 use Rattle.mp_pattern.specs.Normal.{normal_pattern}
 use Rattle.mp_pattern.specs.Subpatterns.{subpatterns, all_subpatterns}
 use Rattle.mp_pattern.specs.Value.{same_name}
 use Rattle.mp_pattern.specs.Clash.{same_shape, clashes, first_clash_after, first_clash}
-use Rattle.mp_pattern.proofs.SortedLaws.{all-append}
+use Rattle.mp_pattern.proofs.NameLaws.{same_name-is, same_name-itself}
 use Rattle.mp_pattern.proofs.Preserved.{of_normal_pattern}
 
 -- ---- two wildcards
 
-is_equal : (r : Ordering) → is_eq r ≡ true → r ≡ Equal
-is_equal Equal h = refl
-is_equal Less h = cc
-is_equal Greater h = cc
-
 -- wildcards of one shape are the same
 pub same_shape-same : (v w : Wildcard) → same_shape v w ≡ true → v ≡ w
-same_shape-same (kind k) (kind l) h = ap kind (nat_same k l (is_equal (nat_cmp k l) h))
-same_shape-same (optional t) (optional u) h = ap optional (tree_same t u (is_equal _ h))
+same_shape-same (kind k) (kind l) h = ap kind (nat_same k l ((Equal-is (nat_cmp k l)).0 h))
+same_shape-same (optional t) (optional u) h = ap optional (tree_same t u ((Equal-is _).0 h))
 same_shape-same dot dot h = refl
 same_shape-same plus plus h = refl
 same_shape-same star star h = refl
@@ -41,10 +35,6 @@ same_shape-itself (optional t) = ap is_eq (tied_itself tree_cmp_total t)
 same_shape-itself dot = refl
 same_shape-itself plus = refl
 same_shape-itself star = refl
-
--- a name is the same as itself
-pub same_name-is : (x y : List ℕ) → same_name x y ≡ true → x ≡ y
-same_name-is x y h = nats_same x y (is_equal (slice_cmp nat_cmp x y) h)
 
 -- wildcards of one variable are the same
 abbrev pub Agree : Pattern → Pattern → Type 0
@@ -76,7 +66,7 @@ agree-swap (app_pattern g qs) (symbol_pattern n) h = tt
 agree-swap (app_pattern g qs) (app_pattern f ps) h = tt
 
 -- every pattern agrees with an application
-agree-app : (p : Pattern) (f : ℕ) (ps : Patterns) → Agree p (app_pattern f ps)
+pub agree-app : (p : Pattern) (f : ℕ) (ps : Patterns) → Agree p (app_pattern f ps)
 agree-app (symbol_pattern n) f ps = tt
 agree-app (app_pattern g qs) f ps = tt
 agree-app (wild_pattern v None) f ps = tt
@@ -85,12 +75,8 @@ agree-app (wild_pattern v (Some x)) f ps = tt
 -- patterns that don't clash agree
 pub agree-clashes : (p q : Pattern) → clashes p q ≡ false → Agree p q
 agree-clashes (wild_pattern v (Some x)) (wild_pattern w (Some y)) h = λ e.
-    let same : same_name x y ≡ true = ap is_eq (ap (slice_cmp nat_cmp x) (sym e) ∙ tied_itself nat_list_cmp_total x) in
-    same_shape-same v w (unnegated (same_shape v w) (sym (ap (λ b. b && not (same_shape v w)) same) ∙ h))
-  where
-    unnegated : (b : Bool) → not b ≡ false → b ≡ true
-    unnegated true h = refl
-    unnegated false h = cc
+    let same : same_name x y ≡ true = ap (same_name x) (sym e) ∙ same_name-itself x in
+    same_shape-same v w (not-false (same_shape v w) (sym (ap (λ b. b && not (same_shape v w)) same) ∙ h))
 agree-clashes (wild_pattern v (Some x)) (wild_pattern w None) h = tt
 agree-clashes (wild_pattern v (Some x)) (symbol_pattern n) h = tt
 agree-clashes (wild_pattern v (Some x)) (app_pattern f ps) h = tt
@@ -159,10 +145,6 @@ first_clash_after-InOrder before (p ∷ ps) h =
 -- any two patterns of two lists agree
 abbrev AllAgree : List Pattern → List Pattern → Type 0
 AllAgree ps qs = AllByRecursion (λ p. AgreesWith p qs) ps
-
-pub all-split : {X : Type 0} (P : X → Type 0) (xs ys : List X) → AllByRecursion P (xs ++ ys) → AllByRecursion P xs × AllByRecursion P ys
-all-split P [] ys h = (tt, h)
-all-split P (x ∷ xs) ys h = let r = all-split P xs ys h.1 in ((h.0, r.0), r.1)
 
 -- patterns in order agree with those before them
 agree-before : (before ps : List Pattern) → InOrder before ps → AllAgree ps before

@@ -2,13 +2,14 @@
 use Rattle.std.proofs.Common.{◌≡◌, ℕ, true, false, List, [], ◌∷◌, ◌++◌, length, map, suc, refl, ap, sym, ◌∙◌, subst}
 use Rattle.std.specs.Prelude.{nat_eq, if◌then◌else◌, ◌↔◌}
 use Rattle.std.proofs.lemmas.List.{map-append}
+use Rattle.std.proofs.Math.Bool.{and-true}
+use Rattle.std.proofs.lemmas.Bool.{and_parts}
 use Rattle.mp_term.specs.Tree.{Tree, symbol, app, Trees, no_trees, more_trees, tree_list, trees}
 use Rattle.mp_term.specs.Order.{tree_cmp, trees_cmp}
 use Rattle.mp_term.specs.Sorting.{sorted}
 use Rattle.mp_term.specs.Signature.{Sig, is_assoc, is_comm, is_one}
 use Rattle.mp_term.specs.Normal as term
 use Rattle.mp_term.specs.Normal.{normal, normals}
-use Rattle.mp_term.proofs.NormalTestLaws.{both, and_true}
 use Rattle.mp_pattern.specs.PatternTree.{Pattern, symbol_pattern, app_pattern, wild_pattern, Patterns, no_patterns, more_patterns, pattern_list, patterns}
 use Rattle.mp_pattern.specs.Order.{is_ground, all_ground, pattern_cmp, patterns_cmp}
 use Rattle.mp_pattern.specs.Normal.{is_loose, unwrapped, parts, flattened, in_order, collapsed, normal_pattern, normal_patterns}
@@ -33,7 +34,7 @@ mutual
   terms_of : (ps : Patterns) → all_ground ps ≡ true → (ts : Trees) × (ps ≡ term_patterns ts)
   terms_of no_patterns g = (no_trees, refl)
   terms_of (more_patterns p ps) g =
-      let h = both (is_ground p) (all_ground ps) g in
+      let h = and_parts (is_ground p) (all_ground ps) g in
       let one = term_of p h.0 in
       let rest = terms_of ps h.1 in
       (more_trees one.0 rest.0, λ i. more_patterns (one.1 i) (rest.1 i))
@@ -103,7 +104,7 @@ module _ (sig : Sig) where
   collapsed-map : (f : ℕ) (ts : List Tree) → collapsed sig f (map term_pattern ts) ≡ term_pattern (term.collapsed sig f ts)
   collapsed-map f [] = refl
   collapsed-map f (t ∷ []) =
-      rw (is_loose-term_pattern t, and_true (is_one sig f)) (elim (is_one sig f) as (λ b. (if b then term_pattern t else app_pattern f (more_patterns (term_pattern t) no_patterns)) ≡ term_pattern (if b then t else app f (more_trees t no_trees))) [
+      rw (is_loose-term_pattern t, and-true (is_one sig f)) (elim (is_one sig f) as (λ b. (if b then term_pattern t else app_pattern f (more_patterns (term_pattern t) no_patterns)) ≡ term_pattern (if b then t else app f (more_trees t no_trees))) [
         | true ↦ refl
         | false ↦ refl
       ])

@@ -2,13 +2,13 @@
 use Rattle.std.proofs.Common.{◌≡◌, ℕ, Bool, true, false, ◌&&◌, not, List, [], ◌∷◌, refl, ap, sym, ◌∙◌, subst, eqb-true}
 use Rattle.std.specs.Prelude.{nat_eq, ⊤}
 use Rattle.std.specs.List.{AllByRecursion}
+use Rattle.std.proofs.Math.Bool.{and-false}
 use Rattle.mp_term.specs.Signature.{Sig, is_assoc, is_one}
-use Rattle.mp_term.proofs.NormalTestLaws.{and_false}
+use Rattle.mp_term.proofs.ListLaws.{all-append, all-flat_map}
 use Rattle.mp_pattern.specs.PatternTree.{Pattern, symbol_pattern, app_pattern, wild_pattern, Patterns, no_patterns, more_patterns, pattern_list, patterns}
 use Rattle.mp_pattern.specs.PatternLists.{pattern_list-patterns}
 use Rattle.mp_pattern.specs.Normal.{is_loose, parts, flattened, in_order, collapsed, normal_pattern, normal_patterns, IsNormalPattern}
 use Rattle.mp_pattern.specs.Subpatterns.{subpatterns, all_subpatterns}
-use Rattle.mp_pattern.proofs.SortedLaws.{all-append, all-flat_map}
 use Rattle.mp_pattern.proofs.NormalLaws.{all-in_order, in_order-in_order}
 
 -- p is an application of f
@@ -66,9 +66,9 @@ module _ (sig : Sig) where
 
   -- what an argument that stays gives to f stays
   parts_stay : (f : ℕ) (p : Pattern) → Stays p → AllByRecursion (StaysUnder f) (parts sig f p)
-  parts_stay f (symbol_pattern n) h = alone f (symbol_pattern n) h (and_false (is_assoc sig f))
+  parts_stay f (symbol_pattern n) h = alone f (symbol_pattern n) h (and-false (is_assoc sig f))
   parts_stay f (app_pattern g ps) h = app_parts_stay f g ps (is_assoc sig f) (nat_eq f g) refl refl h
-  parts_stay f (wild_pattern w x) h = alone f (wild_pattern w x) h (and_false (is_assoc sig f))
+  parts_stay f (wild_pattern w x) h = alone f (wild_pattern w x) h (and-false (is_assoc sig f))
 
   one_stays : (f : ℕ) (p : Pattern) (b : Bool) → (is_one sig f && not (is_loose p)) ≡ b → in_order sig f (p ∷ []) ≡ p ∷ [] → StaysUnder f p → Stays (collapsed sig f (p ∷ []))
   one_stays f p true e h k = rw e k.0

@@ -2,14 +2,9 @@
 use Rattle.std.proofs.Common.{◌≡◌, ℕ, ◌+◌, ◌<◌, Bool, true, false, ◌||◌, List, [], ◌∷◌, ◌++◌, map, get_or, refl, ap, sym, ◌∙◌, subst, arith, append_assoc, append-nil}
 use Rattle.std.specs.Prelude.{Option, Some, None, if◌then◌else◌, is_some}
 use Rattle.std.specs.List.{AllByRecursion, list_any, position}
-use Rattle.std.specs.Ordering.{nat_cmp, is_eq}
-use Rattle.std.specs.declared.cmp.Ordering.{Ordering}
-use Rattle.std.specs.declared.cmp.Ordering.TheVariants.{Less, Equal, Greater}
-use Rattle.std.specs.Cmp.Lexicographic.{slice_cmp}
-use Rattle.std.proofs.lemmas.Cmp.{nat_list_cmp_total, tied_itself}
+use Rattle.std.proofs.Math.Bool.{or-true}
 use Rattle.std.proofs.lemmas.List.Folds.{list_any-append}
 use Rattle.std.proofs.lemmas.List.Quantifiers.{position-Some}
-use Rattle.mp_term.specs.OrderLaws.{nats_same}
 use Rattle.mp_term.specs.Signature.{Sig}
 use Rattle.mp_term.proofs.SignatureLaws.{is_some-position}
 use Rattle.mp_pattern.specs.PatternTree.{Wildcard, Pattern, symbol_pattern, app_pattern, wild_pattern, Patterns, no_patterns, more_patterns}
@@ -18,22 +13,7 @@ use Rattle.mp_pattern.specs.Firsts.{is_known, add_new, firsts_after}
 use Rattle.mp_pattern.specs.Value.{same_name}
 use Rattle.mp_pattern.specs.Variables.{Use, uses, all_uses, variables, variable_form}
 use Rattle.mp_pattern.specs.Plan.{symbol_label, app_label, wild_label, Node, Variable, variable_number, nodes, all_nodes, Plan, plan_of}
-
--- equal names are one
-one_name : (x y : List ℕ) → same_name x y ≡ true → x ≡ y
-one_name x y e = by_order (slice_cmp nat_cmp x y) refl e
-  where
-    by_order : (o : Ordering) → slice_cmp nat_cmp x y ≡ o → is_eq o ≡ true → x ≡ y
-    by_order Less q h = cc
-    by_order Equal q h = nats_same x y q
-    by_order Greater q h = cc
-
-same_itself : (x : List ℕ) → same_name x x ≡ true
-same_itself x = ap is_eq (tied_itself nat_list_cmp_total x)
-
-or-true : (b : Bool) → (b || true) ≡ true
-or-true true = refl
-or-true false = refl
+use Rattle.mp_pattern.proofs.NameLaws.{same_name-is, same_name-itself}
 
 -- the name is one of xs
 abbrev IsAmong : List (List ℕ) → List ℕ → Type 0
@@ -44,7 +24,7 @@ among-is_known x [] e = cc
 among-is_known x (y ∷ ys) e = by_test (same_name y x) refl e (among-is_known x ys)
   where
     by_test : (b : Bool) → same_name y x ≡ b → (b || is_known same_name ys x) ≡ true → (is_known same_name ys x ≡ true → IsAmong ys x) → (same_name x y || list_any (same_name x) ys) ≡ true
-    by_test true q h further = let s : y ≡ x = one_name y x q in ap (λ b. b || list_any (same_name x) ys) (ap (same_name x) s ∙ same_itself x)
+    by_test true q h further = let s : y ≡ x = same_name-is y x q in ap (λ b. b || list_any (same_name x) ys) (ap (same_name x) s ∙ same_name-itself x)
     by_test false q h further = ap (λ b. same_name x y || b) (further h) ∙ or-true (same_name x y)
 
 -- what is among some names is among more
@@ -59,7 +39,7 @@ added x xs = by_known (is_known same_name xs x) refl
   where
     by_known : (b : Bool) → is_known same_name xs x ≡ b → IsAmong (if b then xs else (xs ++ (x ∷ []))) x
     by_known true q = among-is_known x xs q
-    by_known false q = list_any-append (same_name x) xs (x ∷ []) ∙ ap (λ b. list_any (same_name x) xs || (b || false)) (same_itself x) ∙ or-true (list_any (same_name x) xs)
+    by_known false q = list_any-append (same_name x) xs (x ∷ []) ∙ ap (λ b. list_any (same_name x) xs || (b || false)) (same_name-itself x) ∙ or-true (list_any (same_name x) xs)
 
 among-firsts_after : (x : List ℕ) (ys xs : List (List ℕ)) → IsAmong ys x → IsAmong (firsts_after same_name ys xs) x
 among-firsts_after x ys [] h = h
@@ -88,8 +68,8 @@ numbered xs x h = from_some (position (same_name x) xs) (is_some-position (same_
 one_numbered : (xs : List (List ℕ)) (x y : List ℕ) → IsAmong xs x → position (same_name x) xs ≡ position (same_name y) xs → x ≡ y
 one_numbered xs x y h e =
     let k = numbered xs x h in
-    let first = one_name x (get_or xs k.0 []) (position-Some (same_name x) xs k.0 [] k.1).1 in
-    let second = one_name y (get_or xs k.0 []) (position-Some (same_name y) xs k.0 [] (sym e ∙ k.1)).1 in
+    let first = same_name-is x (get_or xs k.0 []) (position-Some (same_name x) xs k.0 [] k.1).1 in
+    let second = same_name-is y (get_or xs k.0 []) (position-Some (same_name y) xs k.0 [] (sym e ∙ k.1)).1 in
     first ∙ sym second
 
 -- a pattern has a node

@@ -1,5 +1,5 @@
 -- How many nodes, occurrences and variables a pattern has, and what a search for a clash has found.
-use Rattle.std.proofs.Common.{◌≡◌, ℕ, ◌+◌, ◌<◌, ◌≤◌, true, false, List, [], ◌∷◌, ◌++◌, length, map, take, drop, get_or, refl, ap, sym, ◌∙◌, arith, length-append}
+use Rattle.std.proofs.Common.{◌≡◌, ℕ, ◌+◌, ◌<◌, ◌≤◌, Bool, true, false, List, [], ◌∷◌, ◌++◌, length, map, take, drop, get_or, refl, ap, sym, ◌∙◌, arith, length-append}
 use Rattle.std.specs.Prelude.{Option, Some, None, if◌then◌else◌}
 use Rattle.std.specs.List.{list_any}
 use Rattle.std.proofs.lemmas.List.{drop_more, map_more, length-map, length-take-le}
@@ -36,6 +36,11 @@ mutual
 
 length-add_new : (ys : List (List ℕ)) (x : List ℕ) → length (add_new same_name ys x) ≤ length ys + 1
 length-add_new ys x = elim (is_known same_name ys x) as (λ b. length (if b then ys else (ys ++ (x ∷ []))) ≤ length ys + 1) [ true ↦ omega arith | false ↦ omega (arith, length-append ys (x ∷ [])) ]
+
+-- the first items of two lists, one after the other
+pub firsts_after-append : {X : Type 0} (same : X → X → Bool) (known first second : List X) → firsts_after same known (first ++ second) ≡ firsts_after same (firsts_after same known first) second
+firsts_after-append same known [] second = refl
+firsts_after-append same known (x ∷ xs) second = firsts_after-append same (add_new same known x) xs second
 
 length-firsts_after : (ys xs : List (List ℕ)) → length (firsts_after same_name ys xs) ≤ length ys + length xs
 length-firsts_after ys [] = omega arith

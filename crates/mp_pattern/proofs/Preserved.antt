@@ -2,12 +2,12 @@
 use Rattle.std.proofs.Common.{◌≡◌, ℕ, true, false, ◌&&◌, not, List, [], ◌∷◌, refl}
 use Rattle.std.specs.Prelude.{nat_eq, is_some, slice_get, if◌then◌else◌}
 use Rattle.std.specs.List.{AllByRecursion}
+use Rattle.std.proofs.lemmas.Bool.{and_parts, and_from}
 use Rattle.mp_term.specs.Signature.{Sig, is_assoc, is_one}
-use Rattle.mp_term.proofs.NormalTestLaws.{both, joined_tests}
+use Rattle.mp_term.proofs.ListLaws.{all-flat_map}
 use Rattle.mp_pattern.specs.PatternTree.{Pattern, symbol_pattern, app_pattern, wild_pattern, Patterns, no_patterns, more_patterns, pattern_list, patterns}
 use Rattle.mp_pattern.specs.Normal.{is_loose, unwrapped, parts, flattened, in_order, collapsed, normal_pattern, normal_patterns}
 use Rattle.mp_pattern.specs.Sound.{DefaultsAreNormal, AllDefaultsAreNormal, holds_ops, all_hold_ops}
-use Rattle.mp_pattern.proofs.SortedLaws.{all-flat_map}
 use Rattle.mp_pattern.proofs.NormalLaws.{all-in_order}
 
 -- Q holds of the arguments of each application of which it holds
@@ -67,15 +67,15 @@ module _ (sig : Sig) where
 
   each_held : (ps : Patterns) → all_hold_ops sig ps ≡ true → AllByRecursion (λ p. holds_ops sig p ≡ true) (pattern_list ps)
   each_held no_patterns h = tt
-  each_held (more_patterns p ps) h = let k = both (holds_ops sig p) (all_hold_ops sig ps) h in (k.0, each_held ps k.1)
+  each_held (more_patterns p ps) h = let k = and_parts (holds_ops sig p) (all_hold_ops sig ps) h in (k.0, each_held ps k.1)
 
   all_held : (qs : List Pattern) → AllByRecursion (λ p. holds_ops sig p ≡ true) qs → all_hold_ops sig (patterns qs) ≡ true
   all_held [] h = refl
-  all_held (q ∷ qs) h = joined_tests (holds_ops sig q) (all_hold_ops sig (patterns qs)) h.0 (all_held qs h.1)
+  all_held (q ∷ qs) h = and_from (holds_ops sig q) (all_hold_ops sig (patterns qs)) h.0 (all_held qs h.1)
 
   -- the operations of a normal form are held where those of the pattern are
   pub holds_ops-normal_pattern : (p : Pattern) → holds_ops sig p ≡ true → holds_ops sig (normal_pattern sig p) ≡ true
   holds_ops-normal_pattern =
       of_normal_pattern sig (λ p. holds_ops sig p ≡ true)
-      (λ f ps h. each_held ps (both (is_some (slice_get sig.ops f)) (all_hold_ops sig ps) h).1)
-      (λ f ps qs h k. joined_tests (is_some (slice_get sig.ops f)) (all_hold_ops sig (patterns qs)) (both (is_some (slice_get sig.ops f)) (all_hold_ops sig ps) h).0 (all_held qs k))
+      (λ f ps h. each_held ps (and_parts (is_some (slice_get sig.ops f)) (all_hold_ops sig ps) h).1)
+      (λ f ps qs h k. and_from (is_some (slice_get sig.ops f)) (all_hold_ops sig (patterns qs)) (and_parts (is_some (slice_get sig.ops f)) (all_hold_ops sig ps) h).0 (all_held qs k))

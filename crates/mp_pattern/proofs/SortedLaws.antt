@@ -1,20 +1,13 @@
 -- Facts about each item of a list, and sums over a list, where lists are joined or sorted.
 use Rattle.std.proofs.Common.{◌≡◌, ℕ, ◌+◌, true, false, List, [], ◌∷◌, ◌++◌, map, refl, ap, ◌∙◌, arith}
-use Rattle.std.specs.Prelude.{if◌then◌else◌, flat_map}
+use Rattle.std.specs.Prelude.{if◌then◌else◌}
 use Rattle.std.specs.declared.cmp.Ordering.{Ordering}
 use Rattle.std.specs.Ordering.{is_gt}
 use Rattle.std.specs.List.{AllByRecursion}
 use Rattle.mp_term.specs.Sorting.{insert_sorted, sorted}
+use Rattle.mp_term.proofs.SortedMeasures.{measure-sorted}
 
 module _ {X : Type 0} (P : X → Type 0) where
-  pub all-append : (xs ys : List X) → AllByRecursion P xs → AllByRecursion P ys → AllByRecursion P (xs ++ ys)
-  all-append [] ys h k = k
-  all-append (x ∷ xs) ys h k = (h.0, all-append xs ys h.1 k)
-
-  pub all-flat_map : {Y : Type 0} (Q : Y → Type 0) (f : Y → List X) → ((y : Y) → Q y → AllByRecursion P (f y)) → (ys : List Y) → AllByRecursion Q ys → AllByRecursion P (flat_map f ys)
-  all-flat_map Q f r [] h = tt
-  all-flat_map Q f r (y ∷ ys) h = all-append (f y) (flat_map f ys) (r y h.0) (all-flat_map Q f r ys h.1)
-
   all-insert_sorted : (cmp : X → X → Ordering) (x : X) (ys : List X) → P x → AllByRecursion P ys → AllByRecursion P (insert_sorted cmp x ys)
   all-insert_sorted cmp x [] h k = (h, tt)
   all-insert_sorted cmp x (y ∷ ys) h k =
@@ -37,17 +30,8 @@ module _ {X : Type 0} (m : X → ℕ) where
   total-append [] ys = omega arith
   total-append (x ∷ xs) ys = omega (arith, total-append xs ys)
 
-  total-insert_sorted : (cmp : X → X → Ordering) (x : X) (ys : List X) → total (insert_sorted cmp x ys) ≡ total (x ∷ ys)
-  total-insert_sorted cmp x [] = refl
-  total-insert_sorted cmp x (y ∷ ys) =
-      elim (is_gt (cmp x y)) as (λ b. total (if b then y ∷ insert_sorted cmp x ys else (x ∷ y ∷ ys)) ≡ total (x ∷ y ∷ ys)) [
-        | true ↦ omega (arith, total-insert_sorted cmp x ys)
-        | false ↦ refl
-      ]
-
   pub total-sorted : (cmp : X → X → Ordering) (xs : List X) → total (sorted cmp xs) ≡ total xs
-  total-sorted cmp [] = refl
-  total-sorted cmp (x ∷ xs) = total-insert_sorted cmp x (sorted cmp xs) ∙ ap (λ n. m x + n) (total-sorted cmp xs)
+  total-sorted = measure-sorted (λ x n. m x + n) (λ x y n. omega arith) total (λ x xs. refl)
 
 -- where the orders of X and of Y agree on what f gives
 module _ {X Y : Type 0} (f : Y → X) (cmp : X → X → Ordering) (own : Y → Y → Ordering) (same : (y z : Y) → cmp (f y) (f z) ≡ own y z) where

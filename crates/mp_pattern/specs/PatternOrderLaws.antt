@@ -9,7 +9,7 @@ use Rattle.std.specs.Cmp.Lexicographic.{slice_cmp}
 use Rattle.std.proofs.lemmas.Cmp.{nat_cmp_total, nat_list_cmp_total}
 use Rattle.mp_term.specs.Tree.{Tree, symbol}
 use Rattle.mp_term.specs.Order.{tree_cmp, shortlex}
-use Rattle.mp_term.specs.OrderLaws.{Chain, chain_of, chain_then, both_equal, nat_same, nats_same, tree_cmp_total, tree_same}
+use Rattle.mp_term.specs.OrderLaws.{Chain, chain_of, chain_then, ordering_then-equal, both_equal, nat_same, nats_same, tree_cmp_total, tree_same}
 use Rattle.mp_pattern.specs.PatternTree.{Wildcard, dot, kind, plus, star, optional, Pattern, symbol_pattern, app_pattern, wild_pattern, Patterns, no_patterns, more_patterns, pattern_list, patterns}
 use Rattle.mp_pattern.specs.PatternLists.{pattern_list-patterns}
 use Rattle.mp_pattern.specs.Order.{class, wildcard_class, name_cmp, wildcard_cmp, pattern_cmp, patterns_cmp}
@@ -19,11 +19,6 @@ reversed_then : (a b c d : Ordering) → a ≡ ordering_reverse b → c ≡ orde
 reversed_then a Less c d p q = rw p refl
 reversed_then a Equal c d p q = rw p q
 reversed_then a Greater c d p q = rw p refl
-
-then_equal : (a : Ordering) → ordering_then a Equal ≡ a
-then_equal Less = refl
-then_equal Equal = refl
-then_equal Greater = refl
 
 -- the names of variables are in a total order
 
@@ -65,7 +60,7 @@ by_parts v x w y = ordering_then (nat_cmp (wildcard_class v) (wildcard_class w))
 
 -- this is the pattern order, since kinds and defaults count within a class only
 wild_by_parts : (v : Wildcard) (x : Option (List ℕ)) (w : Wildcard) (y : Option (List ℕ)) → pattern_cmp (wild_pattern v x) (wild_pattern w y) ≡ by_parts v x w y
-wild_by_parts (kind k) x (kind l) y = ap (ordering_then (name_cmp x y)) (sym (then_equal (nat_cmp k l)))
+wild_by_parts (kind k) x (kind l) y = ap (ordering_then (name_cmp x y)) (sym (ordering_then-equal (nat_cmp k l)))
 wild_by_parts (optional t) x (optional u) y = refl
 wild_by_parts dot x dot y = refl
 wild_by_parts plus x plus y = refl

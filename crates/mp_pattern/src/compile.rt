@@ -12,9 +12,8 @@ ghost use Rattle.mp_pattern.specs.PlanView.{form, label, node, variable};
 ghost use Rattle.mp_pattern.specs.UseView.{occurrence};
 ghost use Rattle.mp_pattern.specs.PlanFault.{plan_fault, IsCompiled, OrMemory};
 
-use crate::copy::{copy_name, copy_shape};
+use crate::copy::copy_shape;
 use crate::entry::Form;
-use crate::flags::is_comm;
 use crate::normal::is_loose;
 use crate::outline::{Occurrence, Outline, first_clash, node_count, outline_of};
 use crate::pattern::{Pattern, Shape};
@@ -105,7 +104,7 @@ fn push_nodes(
     let number = out.len() as u32;
     match pattern {
         Pattern::Sym(name) => {
-            let what = Label::Sym(copy_name(alloc, name)?);
+            let what = Label::Sym(name.copy(alloc)?);
             push_node(out, what, number + 1, parent)
         }
         Pattern::App(op, args) => {
@@ -135,7 +134,7 @@ fn is_comm_above(sig: &Signature, under: Option<OpId>) -> bool
 {
     match under {
         None => false,
-        Some(op) => is_comm(sig, op),
+        Some(op) => sig.is_comm(op),
     }
 }
 
@@ -191,7 +190,7 @@ fn variables_of(
     let mut variables = Vec::new(alloc);
     for name in names {
         let form = form_among(sig, occurrences, name);
-        let name = copy_name(alloc, name)?;
+        let name = name.copy(alloc)?;
         if variables.push(Variable { name, form }).is_err() {
             return Err(Memory);
         }

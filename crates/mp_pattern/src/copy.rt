@@ -8,8 +8,8 @@ use crate::pattern::{Pattern, Patterns, Shape};
 use mp_term::{Memory, Name, copy_term};
 use std::alloc::Global;
 
-// An equal wildcard.
-pub(crate) fn copy_shape(alloc: Global, shape: &Shape) -> Result<Shape, Memory>
+/// An equal wildcard: one that takes the same. `Memory` comes where there is no room for its default.
+pub fn copy_shape(alloc: Global, shape: &Shape) -> Result<Shape, Memory>
     ensures { IfOk result (λ s. wildcard s ≡ wildcard shape.now) }
 {
     match shape {
@@ -21,23 +21,13 @@ pub(crate) fn copy_shape(alloc: Global, shape: &Shape) -> Result<Shape, Memory>
     }
 }
 
-// An equal name. Its bytes are spelt as a name is, so only memory can lack.
-pub(crate) fn copy_name(alloc: Global, name: &Name) -> Result<Name, Memory>
-    ensures { IfOk result (λ n. n ≡ name.now) }
-{
-    match Name::new(alloc, name.bytes()) {
-        Ok(copy) => Ok(copy),
-        Err(_) => Err(Memory),
-    }
-}
-
 // An equal name of a variable, where there is one.
 fn copy_variable(alloc: Global, variable: &Option<Name>) -> Result<Option<Name>, Memory>
     ensures { IfOk result (λ x. x ≡ variable.now) }
 {
     match variable {
         None => Ok(None),
-        Some(name) => Ok(Some(copy_name(alloc, name)?)),
+        Some(name) => Ok(Some(name.copy(alloc)?)),
     }
 }
 
@@ -46,7 +36,7 @@ pub fn copy_pattern(alloc: Global, pattern: &Pattern) -> Result<Pattern, Memory>
     ensures { IfOk result (λ p. pattern_tree p ≡ pattern_tree pattern.now) }
 {
     match pattern {
-        Pattern::Sym(name) => Ok(Pattern::Sym(copy_name(alloc, name)?)),
+        Pattern::Sym(name) => Ok(Pattern::Sym(name.copy(alloc)?)),
         Pattern::App(op, args) => {
             let mut copies = Patterns::new(alloc);
             for arg in &args.items {
@@ -66,7 +56,7 @@ fn copy_operand(alloc: Global, source: &Operand) -> Result<Operand, Memory>
     ensures { IfOk result (λ a. operand a ≡ operand source.now) }
 {
     match source {
-        Operand::Var(name) => Ok(Operand::Var(copy_name(alloc, name)?)),
+        Operand::Var(name) => Ok(Operand::Var(name.copy(alloc)?)),
         Operand::Ground(term) => Ok(Operand::Ground(copy_term(alloc, term)?)),
     }
 }

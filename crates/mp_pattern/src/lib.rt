@@ -5,7 +5,6 @@ mod compile;
 mod condition;
 mod copy;
 mod entry;
-mod flags;
 mod laws;
 mod named;
 mod normal;
@@ -19,7 +18,7 @@ mod template;
 
 pub use compile::PlanFault;
 pub use condition::{Amount, BoxedCond, Cond, Conds, Operand, Sense};
-pub use copy::{copy_cond, copy_pattern};
+pub use copy::{copy_cond, copy_pattern, copy_shape};
 pub use entry::{Entries, Entry, Form};
 pub use laws::{
     a_plan_has_one_pattern, ground_patterns_are_terms, normal_pattern_is_idempotent,

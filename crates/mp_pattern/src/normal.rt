@@ -6,7 +6,6 @@ ghost use Rattle.mp_pattern.specs.Order.{pattern_cmp};
 ghost use Rattle.mp_pattern.specs.Normal.{is_loose, is_collapsible, parts, collapsed, normal_pattern};
 ghost use Rattle.mp_pattern.specs.Sound.{holds_ops, DefaultsAreNormal};
 
-use crate::flags::{is_assoc, is_comm, is_one};
 use crate::pattern::{Pattern, Patterns, Shape};
 use mp_term::{Memory, OpId, Signature};
 use std::alloc::Global;
@@ -26,7 +25,7 @@ fn push_parts(out: &mut Patterns, sig: &Signature, op: OpId, pattern: Pattern) -
         Pattern::Sym(name) => out.push(Pattern::Sym(name)),
         Pattern::Wild(shape, name) => out.push(Pattern::Wild(shape, name)),
         Pattern::App(inner, mut args) => {
-            if inner.0 != op.0 || !is_assoc(sig, op) {
+            if inner.0 != op.0 || !sig.is_assoc(op) {
                 return out.push(Pattern::App(inner, args));
             }
             match out.items.append(&mut args.items) {
@@ -61,7 +60,7 @@ fn is_collapsible(args: &[Pattern]) -> bool
 fn collapse(sig: &Signature, op: OpId, mut args: Patterns) -> Pattern
     ensures { pattern_tree result ≡ collapsed sig.now op.0 args }
 {
-    if is_one(sig, op)
+    if sig.is_one(op)
         && is_collapsible(&args.items)
         && let Some(only) = args.items.pop()
     {
@@ -82,7 +81,7 @@ fn normal_form(alloc: Global, sig: &Signature, pattern: Pattern) -> Result<Patte
             for arg in args.items {
                 push_parts(&mut flat, sig, op, normal_form(alloc, sig, arg)?)?;
             }
-            if is_comm(sig, op) {
+            if sig.is_comm(op) {
                 sort(&mut flat);
             }
             Ok(collapse(sig, op, flat))

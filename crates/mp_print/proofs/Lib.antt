@@ -1,4 +1,3 @@
-pub mod Loops
 mod Separated
 mod Parts
 mod PatternSize

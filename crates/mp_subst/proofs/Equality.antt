@@ -4,9 +4,9 @@ use Rattle.std.specs.Prelude.{Some, None, ◌↔◌, if◌then◌else◌}
 use Rattle.std.specs.declared.cmp.Ordering.{Ordering}
 use Rattle.std.specs.declared.cmp.Ordering.TheVariants.{Equal}
 use Rattle.std.specs.Ordering.{is_eq, eq_by_cmp, nat_cmp}
+use Rattle.std.specs.FinMap.{slice_cmp-IsAntisymmetric}
 use Rattle.std.specs.Cmp.Lexicographic.{slice_cmp}
 use Rattle.std.proofs.lemmas.Cmp.{tied_itself, lists_total, nat_cmp_total, nat_list_cmp_total}
-use Rattle.std.proofs.lemmas.List.{length-map}
 use Rattle.std.proofs.lemmas.Map.Lookups.{CmpEqualImpliesEq}
 use Rattle.std.proofs.lemmas.Map.Views.{tells_apart}
 use Rattle.mp_term.specs.Tree.{Tree}
@@ -17,28 +17,15 @@ use Rattle.mp_pattern.specs.Lists.{value_cmp, subst_cmp}
 use Rattle.mp_subst.specs.Choice.{chosen}
 use Rattle.mp_subst.specs.declared.merging.Choice.TheVariants.{Old, Neither}
 
--- lists whose items tell equality apart
-slice_cmp-same : {X : Type 0} {R : X → X → Ordering} → CmpEqualImpliesEq R → CmpEqualImpliesEq (slice_cmp R)
-slice_cmp-same same [] [] e = refl
-slice_cmp-same same [] (y ∷ ys) e = cc
-slice_cmp-same same (x ∷ xs) [] e = cc
-slice_cmp-same same (x ∷ xs) (y ∷ ys) e =
-    let h = both_equal _ _ e in
-    ap (λ z. z ∷ xs) (same x y h.0) ∙ ap (λ zs. y ∷ zs) (slice_cmp-same same xs ys h.1)
-
 -- lists of terms
 pub terms_same : CmpEqualImpliesEq (slice_cmp tree_cmp)
-terms_same = slice_cmp-same tree_same
+terms_same = slice_cmp-IsAntisymmetric tree_same
 
 shortlex-itself : (ts : List Tree) → shortlex tree_cmp ts ts ≡ Equal
 shortlex-itself ts = rw (tied_itself nat_cmp_total (length ts)) (tied_itself (lists_total tree_cmp_total) ts)
 
 shortlex-same : (ts us : List Tree) → shortlex tree_cmp ts us ≡ Equal → ts ≡ us
 shortlex-same ts us e = terms_same ts us (both_equal _ _ e).1
-
--- lists of one length
-pub shortlex-same_length : {X : Type 0} (f : X → Tree) (xs ys : List X) → length xs ≡ length ys → shortlex tree_cmp (map f xs) (map f ys) ≡ slice_cmp tree_cmp (map f xs) (map f ys)
-shortlex-same_length f xs ys e = rw (length-map xs f, length-map ys f, e, tied_itself nat_cmp_total (length ys)) refl
 
 -- values
 pub value_cmp-itself : (v : Value) → value_cmp v v ≡ Equal
@@ -122,7 +109,7 @@ subst_cmp-itself (b ∷ s) = rw (value_cmp-itself b.value) (subst_cmp-itself s)
 
 pub equal-subst_cmp : (r s : Subst) (o : Ordering) → map (λ b. b.name) r ≡ map (λ b. b.name) s → o ≡ subst_cmp r s → (o ≡ Equal) ↔ (r ≡ s)
 equal-subst_cmp r s o n p = (
-  λ e. bindings_same r s n (slice_cmp-same value_cmp-same (map (λ b. b.value) r) (map (λ b. b.value) s) (sym p ∙ e)),
+  λ e. bindings_same r s n (slice_cmp-IsAntisymmetric value_cmp-same (map (λ b. b.value) r) (map (λ b. b.value) s) (sym p ∙ e)),
   λ e. p ∙ subst (λ t. subst_cmp r t ≡ Equal) e (subst_cmp-itself r),
 )
 

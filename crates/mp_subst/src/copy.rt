@@ -4,29 +4,8 @@ ghost use Rattle.mp_subst.specs.View.{value_of, subst_of};
 
 use crate::subst::{Binding, Bindings, Subst};
 use crate::value::Value;
-use mp_term::{Memory, Name, Terms, copy_term};
+use mp_term::{Memory, copy_term, copy_terms};
 use std::alloc::Global;
-
-// An equal list of terms.
-fn copy_terms(alloc: Global, terms: &Terms) -> Result<Terms, Memory>
-    ensures { IfOk result (λ ts. ts ≡ terms.now) }
-{
-    let mut copies = Terms::new(alloc);
-    for term in terms.as_slice() {
-        copies.push(copy_term(alloc, term)?)?;
-    }
-    Ok(copies)
-}
-
-// An equal name. Its bytes are spelt as a name is, so only memory can lack.
-fn copy_name(alloc: Global, name: &Name) -> Result<Name, Memory>
-    ensures { IfOk result (λ n. n ≡ name.now) }
-{
-    match Name::new(alloc, name.bytes()) {
-        Ok(copy) => Ok(copy),
-        Err(_) => Err(Memory),
-    }
-}
 
 /// An equal value. `Memory` comes where there is no room for it.
 pub fn copy_value(alloc: Global, value: &Value) -> Result<Value, Memory>
@@ -45,7 +24,7 @@ pub fn copy_subst(alloc: Global, subst: &Subst) -> Result<Subst, Memory>
 {
     let mut bindings = Bindings::new(alloc);
     for binding in subst.bindings.as_slice() {
-        let name = copy_name(alloc, &binding.name)?;
+        let name = binding.name.copy(alloc)?;
         let value = copy_value(alloc, &binding.value)?;
         bindings.push(Binding { name, value })?;
     }

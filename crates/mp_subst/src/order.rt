@@ -1,25 +1,13 @@
 // The order of values and of substitutions, and their equality.
 ghost use Rattle.std.specs.Prelude.{◌≡◌, ◌↔◌, map, length, IsTrue};
 ghost use Rattle.std.specs.declared.cmp.Ordering.TheVariants.{Equal};
-ghost use Rattle.mp_term.specs.View.{tree};
-ghost use Rattle.mp_term.specs.Order.{tree_cmp, shortlex};
 ghost use Rattle.mp_pattern.specs.Lists.{value_cmp, subst_cmp};
 ghost use Rattle.mp_subst.specs.View.{value_of, binding_of, subst_of};
 
 use crate::subst::{Binding, Subst};
 use crate::value::Value;
-use mp_term::{Term, compare};
+use mp_term::{compare, compare_all};
 use std::cmp::Ordering;
-
-// Shortlex by the term order.
-fn compare_terms(terms: &[Term], others: &[Term]) -> Ordering
-    ensures { result ≡ shortlex tree_cmp (map tree terms.now) (map tree others.now) }
-{
-    if terms.len() != others.len() {
-        return terms.len().cmp(&others.len());
-    }
-    terms.cmp(&others)
-}
 
 /// The order of values (`value_cmp` of mp_pattern's `specs/Lists`): One comes before Seq, and Seq before Bag. Two One compare by
 /// the term order, two Seq and two Bag by shortlex. Equal values alone are `Equal`. It takes no memory.
@@ -30,10 +18,10 @@ pub fn compare_value(a: &Value, b: &Value) -> Ordering
     match (a, b) {
         (Value::One(term), Value::One(other)) => compare(term, other),
         (Value::Seq(terms), Value::Seq(others)) => {
-            compare_terms(terms.as_slice(), others.as_slice())
+            compare_all(terms.as_slice(), others.as_slice())
         }
         (Value::Bag(terms), Value::Bag(others)) => {
-            compare_terms(terms.as_slice(), others.as_slice())
+            compare_all(terms.as_slice(), others.as_slice())
         }
         (Value::One(_), _) => Ordering::Less,
         (_, Value::One(_)) => Ordering::Greater,

@@ -1,52 +1,54 @@
--- A total order in which equal items are the same has one listing of a fact.
-use Rattle.std.proofs.Common.{◌≡◌, zero, suc, ◌<◌, ℕ, List, [], ◌∷◌, refl, sym, ap, ◌∙◌, ◌⊎◌, inl, inr, subst, length, get_or, arith}
+-- Members of lists, and ascending lists: a fact has one listing in a total order.
+use Rattle.std.proofs.Common.{◌≡◌, zero, suc, ◌<◌, ℕ, List, [], ◌∷◌, refl, sym, ap, ◌∙◌, inl, inr, subst, length, get_or, arith}
 use Rattle.std.specs.Prelude.{Contains}
 use Rattle.std.specs.declared.cmp.Ordering.{Ordering}
-use Rattle.std.specs.declared.cmp.Ordering.TheVariants.{Less, Greater}
+use Rattle.std.specs.declared.cmp.Ordering.TheVariants.{Less, Equal}
 use Rattle.std.specs.Cmp.{IsTotalOrder}
 use Rattle.std.specs.List.{AllByRecursion}
 use Rattle.std.specs.List.Sorted.{IsStrictlySortedBy}
-use Rattle.mp_term.specs.Listing.{IsListing}
+use Rattle.std.proofs.lemmas.Cmp.{tied_itself}
+use Rattle.mp_term.specs.Listing.{In, IsListing}
 
--- x is the same as some item of a list
-abbrev pub In : {X : Type 0} → X → List X → Type 0
-In x [] = ⊥
-In x (y ∷ ys) = (x ≡ y) ⊎ In x ys
+-- membership by recursion and by index are one
+pub contains-from_in : {X : Type 0} (x : X) (xs : List X) → In x xs → Contains xs x
+contains-from_in x [] h = absurd h
+contains-from_in x (y ∷ ys) (inl e) = (0, omega arith, sym e)
+contains-from_in x (y ∷ ys) (inr h) = let r = contains-from_in x ys h in (suc r.0, omega (arith, r.1), r.2)
 
-in-from_place : {X : Type 0} (xs : List X) (x : X) (k : ℕ) → k < length xs → get_or xs k x ≡ x → In x xs
-in-from_place [] x k h e = absurd (omega arith)
-in-from_place (y ∷ ys) x zero h e = inl (sym e)
-in-from_place (y ∷ ys) x (suc k) h e = inr (in-from_place ys x k (omega arith) e)
+in-at : {X : Type 0} (x : X) (xs : List X) (k : ℕ) → k < length xs → get_or xs k x ≡ x → In x xs
+in-at x [] k h e = absurd (omega arith)
+in-at x (y ∷ ys) zero h e = inl (sym e)
+in-at x (y ∷ ys) (suc k) h e = inr (in-at x ys k (omega arith) e)
 
-pub in-from_Contains : {X : Type 0} (xs : List X) (x : X) → Contains xs x → In x xs
-in-from_Contains xs x h = in-from_place xs x h.0 h.1 h.2
+pub in-from_contains : {X : Type 0} (x : X) (xs : List X) → Contains xs x → In x xs
+in-from_contains x xs h = in-at x xs h.0 h.1 h.2
 
-pub Contains-from_in : {X : Type 0} (xs : List X) (x : X) → In x xs → Contains xs x
-Contains-from_in [] x h = absurd h
-Contains-from_in (y ∷ ys) x (inl e) = (0, omega arith, sym e)
-Contains-from_in (y ∷ ys) x (inr h) = let r = Contains-from_in ys x h in (suc r.0, omega (arith, r.1), r.2)
-
+-- what holds of each item holds of a member
 pub all_in : {X : Type 0} (P : X → Type 0) (xs : List X) (x : X) → AllByRecursion P xs → In x xs → P x
 all_in P [] x h i = absurd i
 all_in P (y ∷ ys) x h (inl e) = subst P (sym e) h.0
 all_in P (y ∷ ys) x h (inr i) = all_in P ys x h.1 i
 
 module _ {X : Type 0} (cmp : X → X → Ordering) (o : IsTotalOrder cmp) where
-  less_not_back : (x y : X) → cmp x y ≡ Less → cmp y x ≡ Less → ⊥
-  less_not_back x y p q =
-      let b : cmp x y ≡ Greater = rw q at (o.antisymm x y) in
-      let c : Less ≡ Greater = sym p ∙ b in
-      cc
+  -- nothing is less than itself, nor less both ways
+  pub irreflexive : (x : X) → cmp x x ≡ Less → ⊥
+  irreflexive x e = let q : Less ≡ Equal = sym e ∙ tied_itself o x in cc
+
+  pub one_way : (x y : X) → cmp x y ≡ Less → cmp y x ≡ Less → ⊥
+  one_way x y p q = irreflexive x (o.trans x y x p q)
+
+  -- what is less than an item is less than those that the item is less than
+  pub less_than_all : (x y : X) (ys : List X) → cmp x y ≡ Less → AllByRecursion (λ z. cmp y z ≡ Less) ys → AllByRecursion (λ z. cmp x z ≡ Less) ys
+  less_than_all x y [] e h = tt
+  less_than_all x y (z ∷ ys) e h = (o.trans x y z e h.0, less_than_all x y ys e h.1)
 
   heads_same : (x y : X) (xs ys : List X) → AllByRecursion (λ z. cmp x z ≡ Less) xs → AllByRecursion (λ z. cmp y z ≡ Less) ys → In x (y ∷ ys) → In y (x ∷ xs) → x ≡ y
   heads_same x y xs ys h k (inl e) j = e
   heads_same x y xs ys h k (inr i) (inl e) = sym e
-  heads_same x y xs ys h k (inr i) (inr j) = absurd (less_not_back x y (all_in (λ z. cmp x z ≡ Less) xs y h j) (all_in (λ z. cmp y z ≡ Less) ys x k i))
+  heads_same x y xs ys h k (inr i) (inr j) = absurd (one_way x y (all_in (λ z. cmp x z ≡ Less) xs y h j) (all_in (λ z. cmp y z ≡ Less) ys x k i))
 
   behind_head : (x z : X) (xs ys : List X) → AllByRecursion (λ w. cmp x w ≡ Less) xs → In z xs → In z (x ∷ ys) → In z ys
-  behind_head x z xs ys h i (inl e) =
-      let l : cmp x x ≡ Less = subst (λ w. cmp x w ≡ Less) e (all_in (λ w. cmp x w ≡ Less) xs z h i) in
-      absurd (less_not_back x x l l)
+  behind_head x z xs ys h i (inl e) = absurd (irreflexive x (subst (λ w. cmp x w ≡ Less) e (all_in (λ w. cmp x w ≡ Less) xs z h i)))
   behind_head x z xs ys h i (inr j) = j
 
   -- two strictly ascending lists with the same members are the same
@@ -67,5 +69,5 @@ module _ {X : Type 0} (cmp : X → X → Ordering) (o : IsTotalOrder cmp) where
   pub unique_listing : (P : X → Type 0) (xs ys : List X) → IsListing cmp P xs → IsListing cmp P ys → xs ≡ ys
   unique_listing P xs ys h k =
       same_members xs ys h.ascending k.ascending
-      (λ x i. in-from_Contains ys x ((k.exactly x).1 ((h.exactly x).0 (Contains-from_in xs x i))))
-      (λ x i. in-from_Contains xs x ((h.exactly x).1 ((k.exactly x).0 (Contains-from_in ys x i))))
+      (λ x i. in-from_contains x ys ((k.exactly x).1 ((h.exactly x).0 (contains-from_in x xs i))))
+      (λ x i. in-from_contains x xs ((h.exactly x).1 ((k.exactly x).0 (contains-from_in x ys i))))

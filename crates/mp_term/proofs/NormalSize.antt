@@ -1,14 +1,14 @@
 -- Normalising raises neither the number of nodes nor the depth, and a normal form is its own normal form.
-use Rattle.std.proofs.Common.{◌≡◌, ℕ, ◌+◌, ◌≤◌, max, true, false, List, [], ◌∷◌, ◌++◌, refl, ap, ◌∙◌, arith}
+use Rattle.std.proofs.Common.{◌≡◌, ℕ, ◌+◌, ◌≤◌, max, true, false, List, [], ◌∷◌, ◌++◌, refl, arith}
 use Rattle.std.specs.Prelude.{nat_eq, if◌then◌else◌}
-use Rattle.std.specs.Ordering.{is_gt}
 use Rattle.mp_term.specs.Tree.{Tree, symbol, app, Trees, no_trees, more_trees, tree_list, trees}
 use Rattle.mp_term.specs.TreeLists.{trees-tree_list}
 use Rattle.mp_term.specs.Size.{node_count, node_counts, all_nodes, depth, greatest_depth}
 use Rattle.mp_term.specs.Order.{tree_cmp}
-use Rattle.mp_term.specs.Sorting.{insert_sorted, sorted}
+use Rattle.mp_term.specs.Sorting.{sorted}
 use Rattle.mp_term.specs.Signature.{Sig, is_assoc, is_comm, is_one}
 use Rattle.mp_term.specs.Normal.{unwrapped, parts, flattened, in_order, collapsed, normal, normals}
+use Rattle.mp_term.proofs.SortedMeasures.{measure-sorted}
 use Rattle.mp_term.proofs.NormalTestLaws.{passes-normal, normal-passes}
 
 -- the greatest depth of the trees of a list
@@ -23,29 +23,11 @@ deepest-append : (ts us : List Tree) → deepest (ts ++ us) ≡ max (deepest ts)
 deepest-append [] us = omega arith
 deepest-append (t ∷ ts) us = omega (arith, deepest-append ts us)
 
-all_nodes-insert_sorted : (t : Tree) (us : List Tree) → all_nodes (insert_sorted tree_cmp t us) ≡ node_count t + all_nodes us
-all_nodes-insert_sorted t [] = refl
-all_nodes-insert_sorted t (u ∷ us) =
-    elim (is_gt (tree_cmp t u)) as (λ b. all_nodes (if b then u ∷ insert_sorted tree_cmp t us else (t ∷ u ∷ us)) ≡ node_count t + all_nodes (u ∷ us)) [
-      | true ↦ omega (arith, all_nodes-insert_sorted t us)
-      | false ↦ refl
-    ]
-
-deepest-insert_sorted : (t : Tree) (us : List Tree) → deepest (insert_sorted tree_cmp t us) ≡ max (depth t) (deepest us)
-deepest-insert_sorted t [] = refl
-deepest-insert_sorted t (u ∷ us) =
-    elim (is_gt (tree_cmp t u)) as (λ b. deepest (if b then u ∷ insert_sorted tree_cmp t us else (t ∷ u ∷ us)) ≡ max (depth t) (deepest (u ∷ us))) [
-      | true ↦ omega (arith, deepest-insert_sorted t us)
-      | false ↦ refl
-    ]
-
 pub all_nodes-sorted : (ts : List Tree) → all_nodes (sorted tree_cmp ts) ≡ all_nodes ts
-all_nodes-sorted [] = refl
-all_nodes-sorted (t ∷ ts) = all_nodes-insert_sorted t (sorted tree_cmp ts) ∙ ap (λ n. node_count t + n) (all_nodes-sorted ts)
+all_nodes-sorted = measure-sorted (λ t n. node_count t + n) (λ t u n. omega arith) all_nodes (λ t ts. refl) tree_cmp
 
 deepest-sorted : (ts : List Tree) → deepest (sorted tree_cmp ts) ≡ deepest ts
-deepest-sorted [] = refl
-deepest-sorted (t ∷ ts) = deepest-insert_sorted t (sorted tree_cmp ts) ∙ ap (max (depth t)) (deepest-sorted ts)
+deepest-sorted = measure-sorted (λ t n. max (depth t) n) (λ t u n. omega arith) deepest (λ t ts. refl) tree_cmp
 
 all_nodes-unwrapped : (f : ℕ) (t : Tree) → all_nodes (unwrapped f t) ≤ node_count t
 all_nodes-unwrapped f (symbol n) = omega arith

@@ -7,13 +7,13 @@ use Rattle.std.proofs.lemmas.List.{length-map, map-append}
 use Rattle.std.proofs.lemmas.Simd.{map-map}
 use Rattle.std.proofs.lemmas.Option.{slice_get-map}
 use Rattle.std.proofs.lemmas.List.Folds.{list_all-append}
+use Rattle.std.proofs.lemmas.Bool.{and_parts, and_from, or_parts}
 use Rattle.std.proofs.lemmas.Bool.Decides.{nat_tests}
 use Rattle.mp_term.specs.declared.signature.OpDecl.{OpDecl}
 use Rattle.mp_term.specs.declared.signature.SigFault.TheVariants.{DuplicateName, TooManyOps, TooManyKinds, BadFlags}
 use Rattle.mp_term.specs.Tree.{symbol}
 use Rattle.mp_term.specs.Names.{are_distinct, names_ascend, name_set}
 use Rattle.mp_term.specs.Signature.{Sig, Kind, in_order, all_in_order, shares_sign, clashes, none_clash, op_fault, kind_fault, kind_names, kind_members, in_kind, is_member, IsSignature}
-use Rattle.mp_term.proofs.NormalTestLaws.{both, joined_tests}
 use Rattle.mp_term.proofs.NameSets.{names_ascend-name_set}
 
 module _ {X : Type 0} (p : X → Bool) where
@@ -100,29 +100,25 @@ in_kind-members sig i n h = in_kind-declared sig i n h ∙ members_of n sig.kind
 
 -- what an added operation must keep
 all_in_order-append : (ds : List OpDecl) (d : OpDecl) → all_in_order ds ≡ true → in_order d ≡ true → all_in_order (ds ++ d ∷ []) ≡ true
-all_in_order-append [] d h e = joined_tests _ _ e refl
-all_in_order-append (c ∷ ds) d h e = let k = both _ _ h in joined_tests _ _ k.0 (all_in_order-append ds d k.1 e)
+all_in_order-append [] d h e = and_from _ _ e refl
+all_in_order-append (c ∷ ds) d h e = let k = and_parts _ _ h in and_from _ _ k.0 (all_in_order-append ds d k.1 e)
 
 all_with : {X : Type 0} (p : X → Bool) (xs : List X) (x : X) → list_all p xs ≡ true → p x ≡ true → list_all p (xs ++ x ∷ []) ≡ true
-all_with p xs x h e = list_all-append p xs (x ∷ []) ∙ joined_tests _ _ h (joined_tests _ _ e refl)
-
-neither : (a b : Bool) → (a || b) ≡ false → (a ≡ false) × (b ≡ false)
-neither true b e = cc
-neither false b e = (refl, e)
+all_with p xs x h e = list_all-append p xs (x ∷ []) ∙ and_from _ _ h (and_from _ _ e refl)
 
 none_clash-append : (ds : List OpDecl) (d : OpDecl) → none_clash ds ≡ true → list_any (clashes d) ds ≡ false → none_clash (ds ++ d ∷ []) ≡ true
 none_clash-append [] d h e = refl
 none_clash-append (c ∷ ds) d h e =
-    let k = both _ _ h in
-    let f = neither _ _ e in
-    joined_tests _ _ (all_with (λ x. not (clashes x c)) ds d k.0 (ap not f.0)) (none_clash-append ds d k.1 f.1)
+    let k = and_parts _ _ h in
+    let f = or_parts _ _ e in
+    and_from _ _ (all_with (λ x. not (clashes x c)) ds d k.0 (ap not f.0)) (none_clash-append ds d k.1 f.1)
 
 are_distinct-append : (ns : List (List ℕ)) (n : List ℕ) → are_distinct ns ≡ true → list_any (bytes_eq n) ns ≡ false → are_distinct (ns ++ n ∷ []) ≡ true
 are_distinct-append [] n h e = refl
 are_distinct-append (m ∷ ns) n h e =
-    let k = both _ _ h in
-    let f = neither _ _ e in
-    joined_tests _ _ (all_with (λ x. not (bytes_eq x m)) ns n k.0 (ap not f.0)) (are_distinct-append ns n k.1 f.1)
+    let k = and_parts _ _ h in
+    let f = or_parts _ _ e in
+    and_from _ _ (all_with (λ x. not (bytes_eq x m)) ns n k.0 (ap not f.0)) (are_distinct-append ns n k.1 f.1)
 
 no_op_fault : (a b c : Bool) → (if a then Some DuplicateName else if b then Some TooManyOps else if c then None else Some BadFlags) ≡ None → (a ≡ false) × (b ≡ false) × (c ≡ true)
 no_op_fault true b c e = cc
@@ -142,8 +138,8 @@ new_kind_name sig n e = (no_kind_fault (list_any (bytes_eq n) (kind_names sig)) 
 no_name_clashes : (d : OpDecl) (ds : List OpDecl) → list_any (clashes d) ds ≡ false → list_any (bytes_eq d.name) (map (λ c. c.name) ds) ≡ false
 no_name_clashes d [] h = refl
 no_name_clashes d (c ∷ ds) h =
-    let k = neither (clashes d c) (list_any (clashes d) ds) h in
-    let n = neither (bytes_eq d.name c.name) (shares_sign d.sign c) k.0 in
+    let k = or_parts (clashes d c) (list_any (clashes d) ds) h in
+    let n = or_parts (bytes_eq d.name c.name) (shares_sign d.sign c) k.0 in
     rw n.0 (no_name_clashes d ds k.1)
 
 pub new_op_name : (sig : Sig) (d : OpDecl) → op_fault sig d ≡ None → list_any (bytes_eq d.name) (map (λ c. c.name) sig.ops) ≡ false

@@ -4,8 +4,9 @@ use Rattle.std.specs.declared.cmp.Ordering.{Ordering}
 use Rattle.std.specs.declared.cmp.Ordering.TheVariants.{Less, Equal, Greater}
 use Rattle.std.specs.Ordering.{ordering_then, ordering_reverse, nat_cmp}
 use Rattle.std.specs.Cmp.{IsTotalOrder}
+use Rattle.std.specs.FinMap.{nat_cmp-IsAntisymmetric, slice_cmp-IsAntisymmetric}
 use Rattle.std.specs.Cmp.Lexicographic.{slice_cmp}
-use Rattle.std.proofs.lemmas.Cmp.{nat_cmp_total, nat_list_cmp_total, tied_itself, alike_right, by_ranked, ranked}
+use Rattle.std.proofs.lemmas.Cmp.{nat_cmp_total, nat_list_cmp_total, tied_itself, alike_right, lists_total, on_total, then_total}
 use Rattle.mp_term.specs.Tree.{Tree, symbol, app, Trees, no_trees, more_trees, tree_list, trees}
 use Rattle.mp_term.specs.Order.{tree_cmp, trees_cmp, shortlex}
 use Rattle.mp_term.specs.TreeLists.{tree_list-trees}
@@ -31,6 +32,11 @@ chain_then Equal Greater c d e f p q = let h = p.left refl in record { less = λ
 chain_then Greater Less c d e f p q = record { less = λ i j. cc; left = λ i. cc; right = λ i. cc }
 chain_then Greater Equal c d e f p q = let h = p.right refl in record { less = λ i j. cc; left = λ i. cc; right = λ _. rw h }
 chain_then Greater Greater c d e f p q = record { less = λ i j. cc; left = λ i. cc; right = λ i. cc }
+
+pub ordering_then-equal : (a : Ordering) → ordering_then a Equal ≡ a
+ordering_then-equal Less = refl
+ordering_then-equal Equal = refl
+ordering_then-equal Greater = refl
 
 pub reverse_then : (a b : Ordering) → ordering_reverse (ordering_then a b) ≡ ordering_then (ordering_reverse a) (ordering_reverse b)
 reverse_then Less b = refl
@@ -79,6 +85,10 @@ tree_cmp_total = record {
   congr = λ x y z. (tree_chain x y z).left;
 }
 
+-- and so is shortlex by a total order
+pub shortlex_total : {X : Type 0} {cmp : X → X → Ordering} → IsTotalOrder cmp → IsTotalOrder (shortlex cmp)
+shortlex_total o = then_total (on_total length nat_cmp_total) (lists_total o)
+
 -- two comparisons in turn are equal where both are
 pub both_equal : (a b : Ordering) → ordering_then a b ≡ Equal → (a ≡ Equal) × (b ≡ Equal)
 both_equal Less b e = cc
@@ -86,13 +96,10 @@ both_equal Equal b e = (refl, e)
 both_equal Greater b e = cc
 
 pub nat_same : (m n : ℕ) → nat_cmp m n ≡ Equal → m ≡ n
-nat_same m n e = by_ranked _ _ _ (nat_cmp m n) (ranked m n _ refl) (λ i _. cc) (λ _ h. h) (λ i _. cc)
+nat_same = nat_cmp-IsAntisymmetric
 
 pub nats_same : (xs ys : List ℕ) → slice_cmp nat_cmp xs ys ≡ Equal → xs ≡ ys
-nats_same [] [] e = refl
-nats_same [] (y ∷ ys) e = cc
-nats_same (x ∷ xs) [] e = cc
-nats_same (x ∷ xs) (y ∷ ys) e = let h = both_equal _ _ e in cc (nat_same x y h.0, nats_same xs ys h.1)
+nats_same = slice_cmp-IsAntisymmetric nat_cmp-IsAntisymmetric
 
 mutual
   pub tree_same : (x y : Tree) → tree_cmp x y ≡ Equal → x ≡ y

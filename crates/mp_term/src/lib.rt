@@ -18,11 +18,11 @@ pub use edit::{Edit, Edits};
 pub use memory::Memory;
 pub use name::{Name, NameFault, Names};
 pub use normal::{
-    is_normal, normal_form, normal_is_idempotent, normal_is_no_larger, normal_is_well_formed,
-    normalise,
+    has_head, is_normal, normal_form, normal_is_idempotent, normal_is_no_larger,
+    normal_is_well_formed, normalise,
 };
-pub use order::compare;
+pub use order::{compare, compare_all};
 pub use position::Position;
 pub use sign::Sign;
-pub use signature::{KindId, OpDecl, SigFault, Signature, well_formed};
-pub use term::{OpId, Term, Terms, at, copy_term, depth, node_count};
+pub use signature::{KindId, OpDecl, SigFault, Signature, in_kind, well_formed};
+pub use term::{OpId, Term, Terms, at, copy_term, copy_terms, depth, node_count};

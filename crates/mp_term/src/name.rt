@@ -86,8 +86,8 @@ impl Name {
         &self.bytes
     }
 
-    // An equal name.
-    pub(crate) fn copy(&self, alloc: Global) -> Result<Name, Memory>
+    /// An equal name. `Memory` comes where there is no room for it.
+    pub fn copy(&self, alloc: Global) -> Result<Name, Memory>
         ensures { IfOk result (λ n. n ≡ self.now) }
     {
         let mut bytes = Vec::new(alloc);

@@ -100,8 +100,8 @@ fn is_ascending(terms: &[Term]) -> bool
     true
 }
 
-// The term is headed by the operation.
-fn has_head(term: &Term, op: OpId) -> bool
+/// The term is an application of the operation (`has_head` of specs/NormalTest.antt). It takes no memory.
+pub fn has_head(term: &Term, op: OpId) -> bool
     ensures { result ≡ has_head op.0 (tree term.now) }
 {
     match term {

@@ -29,9 +29,10 @@ pub fn compare(a: &Term, b: &Term) -> Ordering
     }
 }
 
-// Shortlex by the term order.
+/// Shortlex by the term order (`shortlex` of specs/Order.antt): a list of fewer terms comes first, and lists of one length
+/// compare term by term from the left. Equal lists alone are `Equal`. It takes no memory.
 #[cycle(compare)]
-fn compare_all(ts: &[Term], us: &[Term]) -> Ordering
+pub fn compare_all(ts: &[Term], us: &[Term]) -> Ordering
     ensures { result ≡ shortlex tree_cmp (map tree ts.now) (map tree us.now) }
 {
     if ts.len() != us.len() {

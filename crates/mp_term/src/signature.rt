@@ -386,8 +386,8 @@ impl Signature {
         }
     }
 
-    // The operation is associative.
-    pub(crate) fn is_assoc(&self, id: OpId) -> bool
+    /// The operation is associative (`is_assoc` of specs/Signature.antt). One that isn't held has no flag. It takes no memory.
+    pub fn is_assoc(&self, id: OpId) -> bool
         ensures { result ≡ is_assoc self.now id.0 }
     {
         match self.op(id) {
@@ -396,8 +396,8 @@ impl Signature {
         }
     }
 
-    // The operation is commutative.
-    pub(crate) fn is_comm(&self, id: OpId) -> bool
+    /// The operation is commutative (`is_comm` of specs/Signature.antt). One that isn't held has no flag. It takes no memory.
+    pub fn is_comm(&self, id: OpId) -> bool
         ensures { result ≡ is_comm self.now id.0 }
     {
         match self.op(id) {
@@ -406,14 +406,24 @@ impl Signature {
         }
     }
 
-    // The operation is one-identity.
-    pub(crate) fn is_one(&self, id: OpId) -> bool
+    /// The operation is one-identity (`is_one` of specs/Signature.antt). One that isn't held has no flag. It takes no memory.
+    pub fn is_one(&self, id: OpId) -> bool
         ensures { result ≡ is_one self.now id.0 }
     {
         match self.op(id) {
             None => false,
             Some(decl) => decl.one,
         }
+    }
+}
+
+/// The term is a symbol of the kind (`in_kind` of specs/Signature.antt). No symbol is of a kind that isn't held. It takes no memory.
+pub fn in_kind(sig: &Signature, kind: KindId, term: &Term) -> bool
+    ensures { result ≡ in_kind sig.now kind.0 (tree term.now) }
+{
+    match term {
+        Term::Sym(name) => sig.kind_has(kind, name.bytes()),
+        Term::App(_, _) => false,
     }
 }
 

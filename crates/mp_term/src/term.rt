@@ -149,17 +149,24 @@ pub fn at<'a>(term: &'a Term, position: &[u32]) -> Option<&'a Term>
 }
 
 /// An equal term. `Memory` comes where there is no room for it.
+#[cycle(copy_term)]
 pub fn copy_term(alloc: Global, term: &Term) -> Result<Term, Memory>
     ensures { IfOk result (λ t. tree t ≡ tree term.now) }
 {
     match term {
         Term::Sym(name) => Ok(Term::Sym(name.copy(alloc)?)),
-        Term::App(op, args) => {
-            let mut copies = Terms::new(alloc);
-            for arg in &args.items {
-                copies.push(copy_term(alloc, arg)?)?;
-            }
-            Ok(Term::App(*op, copies))
-        }
+        Term::App(op, args) => Ok(Term::App(*op, copy_terms(alloc, args)?)),
     }
+}
+
+/// An equal list of terms. `Memory` comes where there is no room for it.
+#[cycle(copy_term)]
+pub fn copy_terms(alloc: Global, terms: &Terms) -> Result<Terms, Memory>
+    ensures { IfOk result (λ ts. ts ≡ terms.now) }
+{
+    let mut copies = Terms::new(alloc);
+    for term in &terms.items {
+        copies.push(copy_term(alloc, term)?)?;
+    }
+    Ok(copies)
 }

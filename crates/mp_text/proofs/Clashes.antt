@@ -9,7 +9,7 @@ use Rattle.mp_pattern.specs.PatternTree as pattern
 use Rattle.mp_pattern.specs.PatternTree.{Pattern, symbol_pattern, app_pattern, wild_pattern, Patterns, no_patterns, more_patterns}
 use Rattle.mp_pattern.specs.Subpatterns.{subpatterns, all_subpatterns}
 use Rattle.mp_pattern.specs.Clash.{first_clash}
-use Rattle.mp_pattern.proofs.ClashLaws.{Agree, AgreesWith, InOrder, InOrder-first_clash_after, first_clash_after-InOrder, same_shape-same}
+use Rattle.mp_pattern.proofs.ClashLaws.{Agree, agree-app, AgreesWith, InOrder, InOrder-first_clash_after, first_clash_after-InOrder, same_shape-same}
 use Rattle.mp_syntax.specs.Syntax.{Wildcard, Tree, Symbol, Apply, InfixOf, Wild, Variable, Trees, no_trees, more_trees, tree_list, Optional}
 use Rattle.mp_text.specs.declared.fault.TextFault.{TextFault}
 use Rattle.mp_text.specs.Names.{is_same_variable}
@@ -100,18 +100,12 @@ wilds-agree p (symbol_pattern n ∷ qs) h = wilds-agree p qs h.1
 wilds-agree p (app_pattern f rs ∷ qs) h = wilds-agree p qs h.1
 wilds-agree p (wild_pattern w x ∷ qs) h = (h.0, wilds-agree p qs h.1)
 
--- a symbol or an application agrees with every pattern
+-- a symbol agrees with every pattern
 agree-symbol : (p : Pattern) (n : List ℕ) → Agree p (symbol_pattern n)
 agree-symbol (symbol_pattern m) n = tt
 agree-symbol (app_pattern f ps) n = tt
 agree-symbol (wild_pattern w None) n = tt
 agree-symbol (wild_pattern w (Some x)) n = tt
-
-agree-application : (p : Pattern) (f : ℕ) (ps : Patterns) → Agree p (app_pattern f ps)
-agree-application (symbol_pattern m) f ps = tt
-agree-application (app_pattern g qs) f ps = tt
-agree-application (wild_pattern w None) f ps = tt
-agree-application (wild_pattern w (Some x)) f ps = tt
 
 each-agrees : (p : Pattern) → ((q : Pattern) → Agree q p) → (qs : List Pattern) → AgreesWith p qs
 each-agrees p each [] = tt
@@ -126,7 +120,7 @@ InOrder-wilds before [] h = tt
 InOrder-wilds before (symbol_pattern n ∷ ps) h =
     (each-agrees (symbol_pattern n) (λ q. agree-symbol q n) before, InOrder-wilds (before ++ symbol_pattern n ∷ []) ps (subst (λ l. InOrder l (wilds ps)) (sym (wilds-push before (symbol_pattern n) refl)) h))
 InOrder-wilds before (app_pattern f qs ∷ ps) h =
-    (each-agrees (app_pattern f qs) (λ q. agree-application q f qs) before, InOrder-wilds (before ++ app_pattern f qs ∷ []) ps (subst (λ l. InOrder l (wilds ps)) (sym (wilds-push before (app_pattern f qs) refl)) h))
+    (each-agrees (app_pattern f qs) (λ q. agree-app q f qs) before, InOrder-wilds (before ++ app_pattern f qs ∷ []) ps (subst (λ l. InOrder l (wilds ps)) (sym (wilds-push before (app_pattern f qs) refl)) h))
 InOrder-wilds before (wild_pattern w x ∷ ps) h =
     (agrees-wilds (wild_pattern w x) before h.0, InOrder-wilds (before ++ wild_pattern w x ∷ []) ps (subst (λ l. InOrder l (wilds ps)) (sym (wilds-append before (wild_pattern w x ∷ []))) h.1))
 

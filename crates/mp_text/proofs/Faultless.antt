@@ -1,5 +1,6 @@
 -- Lists without faults, and what tests that give no fault say.
-use Rattle.std.proofs.Common.{◌≡◌, ◌≤◌, ◌<◌, ℕ, Bool, true, false, ◌||◌, not, leb, ltb, List, [], ◌∷◌, ◌++◌, ap, refl, ◌∙◌, rules}
+use Rattle.std.proofs.Common.{◌≡◌, ◌≤◌, ◌<◌, ℕ, Bool, true, false, leb, ltb, List, [], ◌∷◌, ◌++◌, ap, refl, ◌∙◌, rules}
+pub use Rattle.std.proofs.lemmas.Bool.{or_parts as or-second, not-false}
 use Rattle.mp_syntax.specs.declared.place.Place.{Place}
 use Rattle.mp_text.specs.declared.fault.TextKind.{TextKind}
 use Rattle.mp_text.specs.Checks.{fault_if}
@@ -23,11 +24,6 @@ pub nil-fault_if : (test : Bool) (kind : TextKind) (place : Place) → fault_if 
 nil-fault_if true kind place h = cc
 nil-fault_if false kind place h = refl
 
--- the second test fails where one of the two would do
-pub or-second : (a b : Bool) → (a || b) ≡ false → (a ≡ false) × (b ≡ false)
-or-second true b h = cc
-or-second false b h = (refl, h)
-
 -- a number that isn't above the bound
 pub within : (bound n : ℕ) → ltb bound n ≡ false → n ≤ bound
 within bound n h = search (rules, h)
@@ -35,11 +31,6 @@ within bound n h = search (rules, h)
 -- a number that doesn't reach the bound
 pub below : (bound n : ℕ) → leb bound n ≡ false → n < bound
 below bound n h = search (rules, h)
-
--- a test of which the negation fails holds
-pub not-false : (b : Bool) → not b ≡ false → b ≡ true
-not-false true h = refl
-not-false false h = cc
 
 -- a test that doesn't hold gives no fault
 pub none-fault_if : (test : Bool) (kind : TextKind) (place : Place) → test ≡ false → fault_if test kind place ≡ []

@@ -6,7 +6,7 @@ use Rattle.std.specs.Io.KnownBytes.{Appends}
 use Rattle.mp_io.specs.Devices.{Text, Rose}
 use Rattle.mp_io.specs.Printing.{IsCut, Prints}
 use Rattle.mp_io.proofs.Written.{Written, part_written, prints_part_cut}
-use Rattle.mp_print.proofs.Loops.{drop-item}
+use Rattle.mp_term.proofs.ListLaws.{drop-item}
 
 module _ {A X : Type 0} (f : X → Text) (view : A → X) (xs : List A) (i : ℕ) (x : A) (within : i < length xs) (is : x ≡ get_or xs i x) (a b c : Option Text) (whole : Text) where
   -- the texts from an index on begin with the text of the item there

@@ -1,6 +1,5 @@
 mod Numbers
 mod Applied
-mod Variables
 mod Fails
 mod Words
 mod Faultless
@@ -12,7 +11,6 @@ mod Items
 mod PatternDepth
 mod Defaults
 mod Spelled
-mod Pass
 mod Places
 mod PlacedFaults
 pub mod Whole

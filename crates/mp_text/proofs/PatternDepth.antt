@@ -1,9 +1,9 @@
 -- Normalising a pattern doesn't make it deeper.
-use Rattle.std.proofs.Common.{◌≡◌, ℕ, ◌+◌, ◌≤◌, max, true, false, ◌&&◌, not, List, [], ◌∷◌, ◌++◌, refl, ap, ◌∙◌, arith}
+use Rattle.std.proofs.Common.{◌≡◌, ℕ, ◌+◌, ◌≤◌, max, true, false, ◌&&◌, not, List, [], ◌∷◌, ◌++◌, refl, arith}
 use Rattle.std.specs.Prelude.{nat_eq, if◌then◌else◌}
-use Rattle.std.specs.Ordering.{is_gt}
-use Rattle.mp_term.specs.Sorting.{insert_sorted, sorted}
+use Rattle.mp_term.specs.Sorting.{sorted}
 use Rattle.mp_term.specs.Signature.{Sig, is_assoc, is_comm, is_one}
+use Rattle.mp_term.proofs.SortedMeasures.{measure-sorted}
 use Rattle.mp_pattern.specs.PatternTree.{Pattern, symbol_pattern, app_pattern, wild_pattern, Patterns, no_patterns, more_patterns, pattern_list, patterns}
 use Rattle.mp_pattern.specs.PatternLists.{patterns-pattern_list}
 use Rattle.mp_pattern.specs.Order.{pattern_cmp}
@@ -18,17 +18,8 @@ deepest-append : (ps qs : List Pattern) → deepest (ps ++ qs) ≡ max (deepest 
 deepest-append [] qs = omega arith
 deepest-append (p ∷ ps) qs = omega (arith, deepest-append ps qs)
 
-deepest-insert_sorted : (p : Pattern) (qs : List Pattern) → deepest (insert_sorted pattern_cmp p qs) ≡ max (pattern_depth p) (deepest qs)
-deepest-insert_sorted p [] = refl
-deepest-insert_sorted p (q ∷ qs) =
-    elim (is_gt (pattern_cmp p q)) as (λ b. deepest (if b then q ∷ insert_sorted pattern_cmp p qs else (p ∷ q ∷ qs)) ≡ max (pattern_depth p) (deepest (q ∷ qs))) [
-      | true ↦ omega (arith, deepest-insert_sorted p qs)
-      | false ↦ refl
-    ]
-
 deepest-sorted : (ps : List Pattern) → deepest (sorted pattern_cmp ps) ≡ deepest ps
-deepest-sorted [] = refl
-deepest-sorted (p ∷ ps) = deepest-insert_sorted p (sorted pattern_cmp ps) ∙ ap (max (pattern_depth p)) (deepest-sorted ps)
+deepest-sorted = measure-sorted (λ p n. max (pattern_depth p) n) (λ p q n. omega arith) deepest (λ p ps. refl) pattern_cmp
 
 deepest-unwrapped : (f : ℕ) (p : Pattern) → deepest (unwrapped f p) ≤ pattern_depth p
 deepest-unwrapped f (symbol_pattern n) = omega arith

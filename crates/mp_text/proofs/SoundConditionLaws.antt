@@ -8,12 +8,12 @@ use Rattle.mp_term.specs.Signature.{Sig, all_in_order, has_name, kind_names}
 use Rattle.mp_term.specs.Normal.{normal}
 use Rattle.mp_term.proofs.NormalSize.{normal-normal, node_count-normal}
 use Rattle.mp_term.proofs.WellFormedNormal.{wf-normal}
+use Rattle.mp_term.proofs.ListLaws.{all-append}
 use Rattle.mp_pattern.specs.CondTree as held
 use Rattle.mp_pattern.specs.CondTree.{Operand, Cond, Conds, no_conds, more_conds, all_of, any_of, negation}
 use Rattle.mp_pattern.specs.Firsts.{is_known}
 use Rattle.mp_pattern.specs.Operands.{amount_operands, operands, all_operands, IsOperandOver, IsConditionOver}
 use Rattle.mp_pattern.specs.Value.{same_name}
-use Rattle.mp_pattern.proofs.SortedLaws.{all-append}
 use Rattle.mp_syntax.specs.declared.condition_tree.Measure.TheVariants.{Count, Size}
 use Rattle.mp_syntax.specs.declared.condition_tree.Relation.TheVariants.{Same, Less, Free}
 use Rattle.mp_syntax.specs.declared.condition_tree.Property.TheVariants as properties

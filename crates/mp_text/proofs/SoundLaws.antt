@@ -9,12 +9,12 @@ use Rattle.std.specs.Str.{bytes_eq}
 use Rattle.std.proofs.lemmas.List.{map-append}
 use Rattle.std.proofs.lemmas.List.Sorted.{length_permutation}
 use Rattle.std.proofs.lemmas.Map.Text.{is_eq-slice_cmp}
+use Rattle.std.proofs.lemmas.Bool.{not-true}
 use Rattle.mp_term.specs.declared.signature.OpDecl.{OpDecl}
 use Rattle.mp_term.specs.Tree.{tree_list}
 use Rattle.mp_term.specs.Size.{node_count, node_counts, depth, greatest_depth}
 use Rattle.mp_term.specs.Signature.{Sig, is_one, allows, all_in_order, well_formed, all_well_formed}
 use Rattle.mp_term.specs.Normal.{normal}
-use Rattle.mp_term.proofs.NormalTestLaws.{not_false}
 use Rattle.mp_term.proofs.NormalSize.{normal-normal, node_count-normal, depth-normal}
 use Rattle.mp_term.proofs.WellFormedNormal.{wf-normal}
 use Rattle.mp_term.specs.Names.{are_distinct}
@@ -244,7 +244,7 @@ module _ (sig : Sig) where
   is_loose-collapsed f (p ∷ []) = go (is_one sig f && not (is_loose p)) refl
     where
       go : (b : Bool) → (is_one sig f && not (is_loose p)) ≡ b → is_loose (if b then p else pattern.app_pattern f (pattern.more_patterns p pattern.no_patterns)) ≡ false
-      go true e = not_false (is_loose p) (second-of (is_one sig f) (not (is_loose p)) e)
+      go true e = not-true (is_loose p) (second-of (is_one sig f) (not (is_loose p)) e)
       go false e = refl
   is_loose-collapsed f (p ∷ q ∷ ps) = refl
 

@@ -3,9 +3,8 @@ use Rattle.std.proofs.Common.{◌≡◌, ◌≤◌, ℕ, zero, suc, Bool, true, 
 use Rattle.std.specs.List.{list_any, AllByRecursion}
 use Rattle.std.proofs.lemmas.List.{length-map, map-append}
 use Rattle.mp_term.specs.Signature.{Sig, all_in_order}
+use Rattle.mp_term.proofs.ListLaws.{all-split, all-append, all-map, all-also}
 use Rattle.mp_pattern.specs.CondTree.{Cond, amounts, same, less, free, of_kind, headed, negation, all_of, any_of, Conds, no_conds, more_conds}
-use Rattle.mp_pattern.proofs.ClashLaws.{all-split}
-use Rattle.mp_pattern.proofs.SortedLaws.{all-append}
 use Rattle.mp_syntax.specs.Syntax.{Tree, Symbol, Apply, InfixOf, Wild, Optional, Variable, Trees, no_trees, more_trees, Amount, Number, Measured, Atom, Compare, Relate, Test, Literal, AtomOf, Bracketed, Literals, no_literals, more_literals, Condition, no_alternatives, more_alternatives, Fits, AreFit, FitsAmount, FitsAtom, HasLiteral, HasAlternative, FitsLiteral, LiteralsFit, AlternativesFit, FitsCondition, AtomHasNames, LiteralHasNames, LiteralsHaveNames, ConditionHasNames, FitsIf, IfHasNames}
 use Rattle.mp_syntax.proofs.Trees.{fits-optional}
 use Rattle.mp_text.specs.Scope as scope
@@ -14,7 +13,7 @@ use Rattle.mp_text.specs.Conditions.{literal_atoms, literals_atoms, atoms, negat
 use Rattle.mp_text.specs.ConditionChecks.{has_large_operand, has_large_condition, if_faults, atom_faults, literal_faults, literals_faults, condition_faults}
 use Rattle.mp_text.specs.Spelled.{single_literal, single_alternative, negated_spelling, alternative_part, literal_spelling, literal_spellings, alternative_spellings, cond_spelling}
 use Rattle.mp_text.proofs.Faultless.{nil-append, nil-both, or-second, within}
-use Rattle.mp_text.proofs.SpelledHead.{all-map, all-also, HasOps}
+use Rattle.mp_text.proofs.SpelledHead.{HasOps}
 use Rattle.mp_text.proofs.SpelledAtom.{again_atom, literal_spelling-atom_of, AgainAtom, again-atom}
 
 -- ---- facts of atoms

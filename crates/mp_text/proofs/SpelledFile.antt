@@ -4,16 +4,16 @@ use Rattle.std.specs.Prelude.{Option, option_map, codes}
 use Rattle.std.specs.List.{list_all, list_any, AllByRecursion}
 use Rattle.std.specs.Str.{bytes_eq}
 use Rattle.std.proofs.lemmas.List.{map-id, map-append, length-map}
+use Rattle.std.proofs.lemmas.Bool.{not-true}
 use Rattle.mp_io.specs.Devices.{Text}
 use Rattle.mp_term.specs.declared.signature.OpDecl.{OpDecl}
 use Rattle.mp_term.specs.Names.{are_distinct}
 use Rattle.mp_term.specs.Signature.{Sig, Kind, all_in_order, clashes, none_clash, kind_names, IsSignature}
 use Rattle.mp_term.specs.Normal.{normal}
-use Rattle.mp_term.proofs.NormalTestLaws.{not_false}
+use Rattle.mp_term.proofs.ListLaws.{all-append, all-map, all-also}
 use Rattle.mp_pattern.specs.Normal.{normal_pattern}
 use Rattle.mp_pattern.specs.CondTree.{Cond}
 use Rattle.mp_pattern.specs.Admission.{Rule}
-use Rattle.mp_pattern.proofs.SortedLaws.{all-append}
 use Rattle.mp_syntax.specs.Syntax.{Spot, Tree, Condition, Statement, RuleOf, AreStatements, IsName, StatementsHaveNames}
 use Rattle.mp_syntax.proofs.Whole.{syntax-names}
 use Rattle.mp_text.specs.declared.fault.TextFault.{TextFault}
@@ -36,7 +36,7 @@ use Rattle.mp_text.proofs.Words.{first-of, second-of}
 use Rattle.mp_text.proofs.Spelled.{file-again}
 use Rattle.mp_text.proofs.SoundLaws.{sound-pattern}
 use Rattle.mp_text.proofs.SoundFile.{sound-file, rule_names-append, subject_names-append}
-use Rattle.mp_text.proofs.SpelledHead.{all-map, all-also, HasOpNames, HasOps}
+use Rattle.mp_text.proofs.SpelledHead.{HasOpNames, HasOps}
 use Rattle.mp_text.proofs.SpelledTerm.{has_large_default-term_spelling, HasSymbols, HasSymbols-term_of, HasSymbols-normal, term_of-term_spelling, term_faults-term_spelling, HasNames-term_spelling, Fits-term_spelling, nodes-term_spelling}
 use Rattle.mp_text.proofs.SpelledPattern.{IsSpelled, IsSpelled-pattern_of, IsSpelled-normal_pattern, pattern_of-pattern_spelling, whole_pattern_faults-pattern_spelling, HasNames-pattern_spelling, Fits-pattern_spelling, has_large_default-pattern_spelling, nodes-pattern_spelling, variable_names-pattern_spelling}
 use Rattle.mp_text.proofs.PlacedFaults.{no_faults-unplaced}
@@ -61,7 +61,7 @@ new-name : (ns : List Text) (n : Text) (ms : List Text) → are_distinct (ns ++ 
 new-name [] n ms h = refl
 new-name (m ∷ ns) n ms h =
     let apart = list_all-middle (λ x. not (bytes_eq x m)) ns n ms (first-of (list_all (λ x. not (bytes_eq x m)) (ns ++ n ∷ ms)) (are_distinct (ns ++ n ∷ ms)) h) in
-    let other : bytes_eq m n ≡ false = bytes_eq_comm m n ∙ not_false (bytes_eq n m) apart in
+    let other : bytes_eq m n ≡ false = bytes_eq_comm m n ∙ not-true (bytes_eq n m) apart in
     rw other (new-name ns n ms (second-of (list_all (λ x. not (bytes_eq x m)) (ns ++ n ∷ ms)) (are_distinct (ns ++ n ∷ ms)) h))
 
 -- an operation clashes with none before it, where none clash
@@ -69,7 +69,7 @@ new-op : (ds : List OpDecl) (d : OpDecl) (es : List OpDecl) → none_clash (ds +
 new-op [] d es h = refl
 new-op (c ∷ ds) d es h =
     let apart = list_all-middle (λ x. not (clashes x c)) ds d es (first-of (list_all (λ x. not (clashes x c)) (ds ++ d ∷ es)) (none_clash (ds ++ d ∷ es)) h) in
-    let other : clashes d c ≡ false = not_false (clashes d c) apart in
+    let other : clashes d c ≡ false = not-true (clashes d c) apart in
     rw other (new-op ds d es (second-of (list_all (λ x. not (clashes x c)) (ds ++ d ∷ es)) (none_clash (ds ++ d ∷ es)) h))
 
 -- ---- what spelled items give

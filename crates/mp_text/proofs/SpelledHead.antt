@@ -1,15 +1,14 @@
 -- An operation that is held is found by its name and by its sign, so that an application of it is read as it is spelled.
-use Rattle.std.proofs.Common.{◌≡◌, ℕ, zero, suc, ◌+◌, Bool, true, false, cond, leb, not, List, [], ◌∷◌, ◌++◌, length, map, Option, Some, None, refl, sym, ap, subst, ◌∙◌, arith, add-one}
+use Rattle.std.proofs.Common.{◌≡◌, ℕ, zero, suc, ◌+◌, Bool, true, false, cond, leb, not, List, [], ◌∷◌, ◌++◌, length, Option, Some, None, refl, sym, ap, subst, ◌∙◌, arith, add-one}
 use Rattle.std.specs.Prelude.{slice_get, option_map, position, is_some}
 use Rattle.std.specs.List.{list_all, AllByRecursion}
 use Rattle.std.specs.Str.{bytes_eq}
-use Rattle.std.proofs.lemmas.Bool.{leb-true}
+use Rattle.std.proofs.lemmas.Bool.{leb-true, not-true}
 use Rattle.std.proofs.lemmas.Slice.Eq.{bytes_eq-Decides}
 use Rattle.mp_io.specs.Devices.{Text}
 use Rattle.mp_term.specs.declared.signature.OpDecl.{OpDecl}
 use Rattle.mp_term.specs.Tree as term
 use Rattle.mp_term.specs.Signature.{Sig, allows, has_name, is_that_sign, has_sign, shares_sign, clashes, none_clash}
-use Rattle.mp_term.proofs.NormalTestLaws.{not_false}
 use Rattle.mp_term.proofs.SignatureLaws.{position-behind, position-first}
 use Rattle.mp_pattern.specs.PatternTree as pattern
 use Rattle.mp_syntax.specs.Tokens.{first_place}
@@ -30,16 +29,6 @@ all-at P [] i x all here = cc
 all-at P (y ∷ xs) zero x all here = let same : y ≡ x = cc in subst P same all.0
 all-at P (y ∷ xs) (suc i) x all here = all-at P xs i x all.1 here
 
--- what holds of each item gives what holds of each image
-pub all-map : {X Y : Type 0} (P : X → Type 0) (Q : Y → Type 0) (f : X → Y) → ((x : X) → P x → Q (f x)) → (xs : List X) → AllByRecursion P xs → AllByRecursion Q (map f xs)
-all-map P Q f each [] h = tt
-all-map P Q f each (x ∷ xs) h = (each x h.0, all-map P Q f each xs h.1)
-
--- what holds of each item gives another fact of it
-pub all-also : {X : Type 0} (P Q : X → Type 0) → ((x : X) → P x → Q x) → (xs : List X) → AllByRecursion P xs → AllByRecursion Q xs
-all-also P Q each [] h = tt
-all-also P Q each (x ∷ xs) h = (each x h.0, all-also P Q each xs h.1)
-
 -- ---- operations that don't clash
 
 -- a test that an operation passes, and no operation that doesn't clash with it
@@ -49,7 +38,7 @@ module _ (test : OpDecl → Bool) (d : OpDecl) (passes : test d ≡ true) (other
   apart-at e [] i h here = cc
   apart-at e (c ∷ ds) zero h here =
       let same : c ≡ d = cc in
-      subst (λ x. clashes x e ≡ false) same (not_false (clashes c e) (first-of (not (clashes c e)) (list_all (λ c. not (clashes c e)) ds) h))
+      subst (λ x. clashes x e ≡ false) same (not-true (clashes c e) (first-of (not (clashes c e)) (list_all (λ c. not (clashes c e)) ds) h))
   apart-at e (c ∷ ds) (suc i) h here = apart-at e ds i (second-of (not (clashes c e)) (list_all (λ c. not (clashes c e)) ds) h) here
 
   -- it is the first one that passes, where none clash

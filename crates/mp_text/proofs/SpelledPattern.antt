@@ -1,22 +1,21 @@
 -- A pattern is read again as it is spelled, where its operations allow as many arguments as it may take, and so is its normal form.
 use Rattle.std.proofs.Common.{◌≡◌, ◌⊎◌, inl, inr, ℕ, zero, suc, ◌+◌, ◌≤◌, Bool, true, false, ◌&&◌, ◌||◌, not, cond, leb, List, [], ◌∷◌, ◌++◌, map, length, Option, Some, None, unwrap_or, refl, sym, ap, subst, ◌∙◌, arith, length-append, eqb-true}
 use Rattle.std.specs.Prelude.{flat_map, slice_get, nat_eq, if◌then◌else◌}
-use Rattle.std.specs.Ordering.{is_gt}
 use Rattle.std.specs.declared.cmp.Ordering.{Ordering}
 use Rattle.std.specs.List.{list_any, AllByRecursion}
 use Rattle.std.proofs.Math.Nat.{add_left_comm}
-use Rattle.std.proofs.lemmas.Bool.{false≢true, leb-true, le-leb, or_cases, or_left, or_right}
+use Rattle.std.proofs.lemmas.Bool.{false≢true, leb-true, le-leb, or_cases, or_left, or_right, not-true}
 use Rattle.std.proofs.lemmas.List.{length-map, map-append}
 use Rattle.std.proofs.lemmas.List.Folds.{list_any-append}
 use Rattle.mp_term.specs.declared.signature.OpDecl.{OpDecl}
-use Rattle.mp_term.specs.Sorting.{insert_sorted, sorted}
-use Rattle.mp_term.specs.Signature as signature
-use Rattle.mp_term.specs.Signature.{Sig, kind_names, holds_of, all_in_order, is_assoc, is_comm, is_one}
+use Rattle.mp_term.specs.Sorting.{sorted}
+use Rattle.mp_term.specs.Signature.{Sig, holds_of, all_in_order, is_assoc, is_comm, is_one}
+use Rattle.mp_term.proofs.SortedMeasures.{measure-sorted}
 use Rattle.mp_term.proofs.Sorting.{length-sorted}
-use Rattle.mp_term.proofs.NormalTestLaws.{not_false}
 use Rattle.mp_term.specs.Normal.{normal}
 use Rattle.mp_term.proofs.NormalSize.{normal-normal}
-use Rattle.mp_term.proofs.WellFormedNormal.{wf-normal}
+use Rattle.mp_term.proofs.WellFormedNormal.{wf-normal, in_order-at, assoc-not_fixed}
+use Rattle.mp_term.proofs.ListLaws.{all-flat_map}
 use Rattle.mp_pattern.specs.Limits.{DefaultsAreSmall, AllDefaultsAreSmall}
 use Rattle.mp_pattern.specs.PatternTree as pattern
 use Rattle.mp_pattern.specs.PatternTree.{Pattern, symbol_pattern, app_pattern, wild_pattern, Patterns, no_patterns, more_patterns, pattern_list, patterns}
@@ -27,7 +26,6 @@ use Rattle.mp_pattern.specs.Normal.{unwrapped, is_loose, parts, flattened, in_or
 use Rattle.mp_pattern.specs.Subpatterns.{subpatterns, all_subpatterns}
 use Rattle.mp_pattern.specs.Clash.{first_clash}
 use Rattle.mp_pattern.specs.Variables.{variables}
-use Rattle.mp_pattern.proofs.SortedLaws.{all-flat_map}
 use Rattle.mp_pattern.proofs.NormalLaws.{all-in_order}
 use Rattle.mp_syntax.specs.Syntax.{Tree, Symbol, Apply, InfixOf, Wild, Variable, Trees, no_trees, more_trees, tree_list, Fits, AreFit, HasNames, HaveNames, Optional}
 use Rattle.mp_text.specs.Names.{variable_names}
@@ -86,21 +84,6 @@ may_take_none-held_spelling (Some d) ts = held_spelling-cases (λ t. may_take_no
 may_take_more-held_spelling : (assoc : Bool) (o : Option OpDecl) (ts : Trees) → may_take_more assoc (held_spelling o ts) ≡ false
 may_take_more-held_spelling assoc None ts = refl
 may_take_more-held_spelling assoc (Some d) ts = held_spelling-cases (λ t. may_take_more assoc t ≡ false) (Some d) d ts refl refl (λ sign e some. refl)
-
--- a declaration at a number is in order where all are
-in_order-at : (ds : List OpDecl) (f : ℕ) (d : OpDecl) → all_in_order ds ≡ true → slice_get ds f ≡ Some d → signature.in_order d ≡ true
-in_order-at [] f d o e = cc
-in_order-at (c ∷ ds) zero d o e = let same : c ≡ d = cc in subst (λ x. signature.in_order x ≡ true) same (first-of (signature.in_order c) (all_in_order ds) o)
-in_order-at (c ∷ ds) (suc f) d o e = in_order-at ds f d (second-of (signature.in_order c) (all_in_order ds) o) e
-
--- an associative declaration in order has no fixed count
-assoc-not_fixed : (d : OpDecl) → signature.in_order d ≡ true → d.assoc ≡ true → d.fixed ≡ false
-assoc-not_fixed d o a = go d.assoc d.fixed a (first-of (not d.assoc || (not d.fixed && leb d.least 2)) _ o)
-  where
-    go : (assoc fixed : Bool) → assoc ≡ true → (not assoc || (not fixed && leb d.least 2)) ≡ true → fixed ≡ false
-    go true true a h = cc
-    go true false a h = refl
-    go false fixed a h = cc
 
 or-swap : (a b c : Bool) → (a || (b || c)) ≡ (b || (a || c))
 or-swap true true c = refl
@@ -251,7 +234,7 @@ module _ (sig : Sig) where
   may_take_none-collapsed f (p ∷ []) = go (is_one sig f && not (is_loose p)) refl
     where
       go : (b : Bool) → (is_one sig f && not (is_loose p)) ≡ b → may_take_none (pattern_spelling sig (if b then p else app_pattern f (more_patterns p no_patterns))) ≡ false
-      go true e = may_take_none-is_loose p (not_false (is_loose p) (second-of (is_one sig f) (not (is_loose p)) e))
+      go true e = may_take_none-is_loose p (not-true (is_loose p) (second-of (is_one sig f) (not (is_loose p)) e))
       go false e = may_take_none-held_spelling (slice_get sig.ops f) (pattern_spellings sig (more_patterns p no_patterns))
   may_take_none-collapsed f (p ∷ q ∷ ps) = may_take_none-held_spelling (slice_get sig.ops f) (pattern_spellings sig (patterns (p ∷ q ∷ ps)))
 
@@ -297,37 +280,13 @@ module _ (sig : Sig) where
     abbrev own : Pattern → ℕ
     own p = cond (not (may_take_none (pattern_spelling sig p))) 1 0
 
-    fewest-two : (p q : Pattern) (ts : List Tree) → fewest (pattern_spelling sig p ∷ pattern_spelling sig q ∷ ts) ≡ own p + (own q + fewest ts)
-    fewest-two p q ts = fewest-cons (pattern_spelling sig p) (pattern_spelling sig q ∷ ts) ∙ ap (λ n. own p + n) (fewest-cons (pattern_spelling sig q) ts)
-
-    fewest-insert_sorted : (p : Pattern) (ps : List Pattern) → fewest (spelled (insert_sorted cmp p ps)) ≡ fewest (spelled (p ∷ ps))
-    fewest-insert_sorted p [] = refl
-    fewest-insert_sorted p (q ∷ ps) =
-        elim (is_gt (cmp p q)) as (λ v. fewest (spelled (if v then q ∷ insert_sorted cmp p ps else (p ∷ q ∷ ps))) ≡ fewest (spelled (p ∷ q ∷ ps))) [
-          | true ↦
-              fewest-cons (pattern_spelling sig q) (spelled (insert_sorted cmp p ps)) ∙ ap (λ n. own q + n) (fewest-insert_sorted p ps ∙ fewest-cons (pattern_spelling sig p) (spelled ps))
-              ∙ add_left_comm (own q) (own p) (fewest (spelled ps)) ∙ sym (fewest-two p q (spelled ps))
-          | false ↦ refl
-        ]
-
     fewest-sorted : (ps : List Pattern) → fewest (spelled (sorted cmp ps)) ≡ fewest (spelled ps)
-    fewest-sorted [] = refl
-    fewest-sorted (p ∷ ps) =
-        fewest-insert_sorted p (sorted cmp ps) ∙ fewest-cons (pattern_spelling sig p) (spelled (sorted cmp ps)) ∙ ap (λ n. own p + n) (fewest-sorted ps) ∙ sym (fewest-cons (pattern_spelling sig p) (spelled ps))
-
-    some-insert_sorted : (assoc : Bool) (p : Pattern) (ps : List Pattern) → list_any (may_take_more assoc) (spelled (insert_sorted cmp p ps)) ≡ list_any (may_take_more assoc) (spelled (p ∷ ps))
-    some-insert_sorted assoc p [] = refl
-    some-insert_sorted assoc p (q ∷ ps) =
-        elim (is_gt (cmp p q)) as (λ v. list_any (may_take_more assoc) (spelled (if v then q ∷ insert_sorted cmp p ps else (p ∷ q ∷ ps))) ≡ list_any (may_take_more assoc) (spelled (p ∷ q ∷ ps))) [
-          | true ↦
-              ap (λ b. may_take_more assoc (pattern_spelling sig q) || b) (some-insert_sorted assoc p ps)
-              ∙ or-swap (may_take_more assoc (pattern_spelling sig q)) (may_take_more assoc (pattern_spelling sig p)) (list_any (may_take_more assoc) (spelled ps))
-          | false ↦ refl
-        ]
+    fewest-sorted = measure-sorted (λ p n. own p + n) (λ p q n. add_left_comm (own p) (own q) n) (λ ps. fewest (spelled ps)) (λ p ps. fewest-cons (pattern_spelling sig p) (spelled ps)) cmp
 
     some-sorted : (assoc : Bool) (ps : List Pattern) → list_any (may_take_more assoc) (spelled (sorted cmp ps)) ≡ list_any (may_take_more assoc) (spelled ps)
-    some-sorted assoc [] = refl
-    some-sorted assoc (p ∷ ps) = some-insert_sorted assoc p (sorted cmp ps) ∙ ap (λ b. may_take_more assoc (pattern_spelling sig p) || b) (some-sorted assoc ps)
+    some-sorted assoc =
+        measure-sorted (λ p b. may_take_more assoc (pattern_spelling sig p) || b) (λ p q b. or-swap (may_take_more assoc (pattern_spelling sig p)) (may_take_more assoc (pattern_spelling sig q)) b)
+        (λ ps. list_any (may_take_more assoc) (spelled ps)) (λ p ps. refl) cmp
 
     length-spelled_sorted : (ps : List Pattern) → length (spelled (sorted cmp ps)) ≡ length (spelled ps)
     length-spelled_sorted ps = length-map (sorted cmp ps) (pattern_spelling sig) ∙ length-sorted cmp ps ∙ sym (length-map ps (pattern_spelling sig))

@@ -2,6 +2,7 @@
 use Rattle.std.proofs.Common.{◌≡◌, ℕ, zero, suc, ◌≤◌, true, false, List, [], ◌∷◌, ◌++◌, ◌||◌, length, Option, Some, None, refl, sym, ap, ◌∙◌, arith}
 use Rattle.std.specs.Prelude.{slice_get, nat_eq, if◌then◌else◌}
 use Rattle.std.specs.List.{AllByRecursion}
+use Rattle.std.proofs.lemmas.Bool.{and_parts}
 use Rattle.mp_term.specs.declared.signature.OpDecl.{OpDecl}
 use Rattle.mp_term.specs.Tree as term
 use Rattle.mp_term.specs.Tree.{symbol, app, trees}
@@ -10,8 +11,8 @@ use Rattle.mp_term.specs.Sorting.{sorted}
 use Rattle.mp_term.specs.Size.{node_count, depth, greatest_depth}
 use Rattle.mp_term.specs.Signature.{Sig, holds_of, allows, is_assoc, is_comm, is_one, well_formed, all_well_formed}
 use Rattle.mp_term.specs.Normal.{unwrapped, parts, flattened, in_order, collapsed, normal, normals}
-use Rattle.mp_term.proofs.NormalTestLaws.{both}
-use Rattle.mp_pattern.proofs.SortedLaws.{all-flat_map, all-sorted}
+use Rattle.mp_term.proofs.ListLaws.{all-flat_map}
+use Rattle.mp_pattern.proofs.SortedLaws.{all-sorted}
 use Rattle.mp_syntax.specs.Syntax.{Tree, Symbol, Apply, InfixOf, Wild, Variable, Trees, no_trees, more_trees, tree_list, Fits, AreFit, HasNames, HaveNames, Optional, HasNoDefault}
 use Rattle.mp_text.specs.Build.{term_of, terms_of}
 use Rattle.mp_text.specs.Checks.{fault_if, kind_unknown, nodes, has_large_default, some_large_default, op_named, op_signed, head_faults, arity_faults, sign_faults, term_faults, term_operand_faults, all_term_faults}
@@ -119,7 +120,7 @@ module _ (sig : Sig) where
   module _ (h : HasOps sig) where
     -- the operation of a well formed application
     op-of : (f : ℕ) (ts : term.Trees) → well_formed sig (app f ts) ≡ true → Found sig (Some f) (allows (length (term.tree_list ts)))
-    op-of f ts w = by_decl (slice_get sig.ops f) refl (both _ _ w).0
+    op-of f ts w = by_decl (slice_get sig.ops f) refl (and_parts _ _ w).0
       where
         by_decl : (o : Option OpDecl) → slice_get sig.ops f ≡ o → holds_of (allows (length (term.tree_list ts))) o ≡ true → Found sig (Some f) (allows (length (term.tree_list ts)))
         by_decl None e p = cc
@@ -131,12 +132,12 @@ module _ (sig : Sig) where
       term_of-term_spelling (symbol n) w = refl
       term_of-term_spelling (app f ts) w =
           let d = op-of f ts w in
-          term_of-held sig h f d.decl d.held (term_spellings sig ts) ∙ ap (app f) (terms_of-term_spellings ts (both _ _ w).1)
+          term_of-held sig h f d.decl d.held (term_spellings sig ts) ∙ ap (app f) (terms_of-term_spellings ts (and_parts _ _ w).1)
 
       terms_of-term_spellings : (ts : term.Trees) → all_well_formed sig ts ≡ true → terms_of sig (term_spellings sig ts) ≡ ts
       terms_of-term_spellings term.no_trees w = refl
       terms_of-term_spellings (term.more_trees t ts) w =
-          let p = both _ _ w in
+          let p = and_parts _ _ w in
           λ i. term.more_trees (term_of-term_spelling t p.0 i) (terms_of-term_spellings ts p.1 i)
 
     mutual
@@ -145,12 +146,12 @@ module _ (sig : Sig) where
       term_faults-term_spelling (symbol n) w s = symbol_faults-IsSymbolOf sig n s
       term_faults-term_spelling (app f ts) w s =
           let d = op-of f ts w in
-          term_faults-held sig h f d.decl d.held (term_spellings sig ts) (ap (λ n. allows n d.decl) (length-term_spellings ts) ∙ d.passed) (all_term_faults-term_spellings ts (both _ _ w).1 s)
+          term_faults-held sig h f d.decl d.held (term_spellings sig ts) (ap (λ n. allows n d.decl) (length-term_spellings ts) ∙ d.passed) (all_term_faults-term_spellings ts (and_parts _ _ w).1 s)
 
       all_term_faults-term_spellings : (ts : term.Trees) → all_well_formed sig ts ≡ true → HaveSymbols sig ts → all_term_faults sig (term_spellings sig ts) ≡ []
       all_term_faults-term_spellings term.no_trees w s = refl
       all_term_faults-term_spellings (term.more_trees t ts) w s =
-          let p = both _ _ w in
+          let p = and_parts _ _ w in
           ap (λ l. l ++ all_term_faults sig (term_spellings sig ts)) (term_faults-term_spelling t p.0 s.0) ∙ all_term_faults-term_spellings ts p.1 s.1
 
     mutual
@@ -159,12 +160,12 @@ module _ (sig : Sig) where
       HasNames-term_spelling (symbol n) w s = s.name
       HasNames-term_spelling (app f ts) w s =
           let d = op-of f ts w in
-          HasNames-held sig h f d.decl d.held (term_spellings sig ts) (HaveNames-term_spellings ts (both _ _ w).1 s)
+          HasNames-held sig h f d.decl d.held (term_spellings sig ts) (HaveNames-term_spellings ts (and_parts _ _ w).1 s)
 
       HaveNames-term_spellings : (ts : term.Trees) → all_well_formed sig ts ≡ true → HaveSymbols sig ts → HaveNames (term_spellings sig ts)
       HaveNames-term_spellings term.no_trees w s = tt
       HaveNames-term_spellings (term.more_trees t ts) w s =
-          let p = both _ _ w in
+          let p = and_parts _ _ w in
           (HasNames-term_spelling t p.0 s.0, HaveNames-term_spellings ts p.1 s.1)
 
     mutual
@@ -175,12 +176,12 @@ module _ (sig : Sig) where
       Fits-term_spelling (app f ts) zero w few = absurd (omega arith)
       Fits-term_spelling (app f ts) (suc room) w few =
           let d = op-of f ts w in
-          Fits-held sig h f d.decl d.held room (term_spellings sig ts) (AreFit-term_spellings ts room (both _ _ w).1 (omega arith))
+          Fits-held sig h f d.decl d.held room (term_spellings sig ts) (AreFit-term_spellings ts room (and_parts _ _ w).1 (omega arith))
 
       AreFit-term_spellings : (ts : term.Trees) (room : ℕ) → all_well_formed sig ts ≡ true → greatest_depth ts ≤ room → AreFit room (term_spellings sig ts)
       AreFit-term_spellings term.no_trees room w few = tt
       AreFit-term_spellings (term.more_trees t ts) room w few =
-          let p = both _ _ w in
+          let p = and_parts _ _ w in
           (Fits-term_spelling t room p.0 (omega arith), AreFit-term_spellings ts room p.1 (omega arith))
 
     -- it has as many nodes

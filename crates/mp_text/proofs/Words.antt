@@ -3,6 +3,7 @@ use Rattle.std.proofs.Common.{◌≡◌, ◌≢◌, ℕ, ◌≤◌, Bool, true, 
 use Rattle.std.specs.List.{list_all}
 use Rattle.std.specs.Prelude.{not, codes}
 use Rattle.std.proofs.lemmas.Slice.Eq.{bytes_eq-Decides}
+pub use Rattle.std.proofs.lemmas.Bool.{and_from as both}
 use Rattle.mp_term.specs.Names.{is_name, is_name_byte, all_name_bytes, is_arrow, is_sign, is_sign_byte, all_sign_bytes}
 use Rattle.mp_syntax.specs.Tokens as tokens
 use Rattle.mp_syntax.specs.Tokens.{AreWordBytes, is_word_byte}
@@ -12,11 +13,6 @@ use Rattle.mp_syntax.specs.Syntax.{IsName, IsInfixSign}
 or-grouped : (a b c : Bool) → ((a || b) || c) ≡ (a || (b || c))
 or-grouped true b c = refl
 or-grouped false b c = refl
-
--- both tests hold
-pub both : (a b : Bool) → a ≡ true → b ≡ true → (a && b) ≡ true
-both true b h k = k
-both false b h k = h
 
 -- the first test holds where both do
 pub first-of : (a b : Bool) → (a && b) ≡ true → a ≡ true

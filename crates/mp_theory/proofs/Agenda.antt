@@ -1,11 +1,11 @@
 -- Takes in preorder: a table is read entry by entry, over a stack of what is still to be taken.
 use Rattle.std.proofs.Common.{◌≡◌, ℕ, Bool, subst, List, [], ◌∷◌, ◌++◌, true, false, refl, inl, inr, ◌⊎◌, sym, ◌∙◌, ap, append_assoc, append-nil, ◌&&◌, not}
 use Rattle.std.specs.Prelude.{None, Some, Option, ◌||◌, if◌then◌else◌}
+use Rattle.std.proofs.lemmas.Bool.{not-false}
 use Rattle.mp_term.specs.Tree.{Tree, symbol, app, trees}
 use Rattle.mp_term.specs.Order.{tree_cmp}
 use Rattle.mp_term.specs.OrderLaws.{tree_cmp_total, tree_same}
 use Rattle.mp_term.proofs.Sorting.{sorted-append_sorted, sorted-single}
-use Rattle.mp_term.proofs.NormalTestLaws.{not_not}
 use mathlib.Core.Bool.{true≢false}
 use Rattle.mp_term.specs.Sorting.{sorted}
 use Rattle.mp_term.specs.Signature.{Sig, is_one}
@@ -175,7 +175,7 @@ module _ (sig : Sig) (line : Option ℕ → Wildcard → Option (List ℕ) → L
       children = r.takes;
       identity = one;
       plain = none;
-      left_out = not_not (some_left_out qs r.lists) r.owed;
+      left_out = not-false (some_left_out qs r.lists) r.owed;
       term = t;
       node = ap (λ d. d.terms) q;
       together = from_arranged_one (Some g) (joined r.lists) t r.together;

@@ -1,19 +1,16 @@
 -- There is one all-list, since pairs are totally ordered.
 use Rattle.std.proofs.Common.{◌≡◌, ℕ, List, map, refl, ap, sym, ◌∙◌}
-use Rattle.std.specs.declared.cmp.Ordering.{Ordering}
-use Rattle.std.specs.declared.cmp.Ordering.TheVariants.{Less, Equal, Greater}
 use Rattle.std.specs.Ordering.{ordering_then, ordering_reverse, nat_cmp}
 use Rattle.std.specs.Cmp.{IsTotalOrder}
 use Rattle.std.proofs.lemmas.Cmp.{lists_total, nat_cmp_total, on_total, then_total}
 use Rattle.mp_term.specs.Tree.{Tree}
 use Rattle.mp_term.specs.Order.{tree_cmp, shortlex}
+use Rattle.mp_term.specs.OrderLaws.{tree_cmp_total, ordering_then-equal, shortlex_total}
 use Rattle.mp_term.specs.Signature.{Sig}
+use Rattle.mp_term.proofs.ListingLaws.{same_members, contains-from_in, in-from_contains}
 use Rattle.mp_pattern.specs.Value.{Value, one, seq, bag, terms_of}
 use Rattle.mp_pattern.specs.Admission.{Rule}
 use Rattle.mp_pattern.specs.Lists.{value_cmp, subst_cmp, Pair, pair_cmp, IsAllList}
-use Rattle.mp_theory.proofs.Tables.{shortlex_total}
-use Rattle.mp_theory.proofs.Bounds.{same_members}
-use Rattle.mp_theory.proofs.FirstsLaws.{contains-from_in, in-from_contains}
 
 -- the place of a value's form: terms before tuples before multisets
 abbrev rank : Value → ℕ
@@ -22,11 +19,6 @@ rank (seq ts) = 1
 rank (bag ts) = 2
 
 -- values compare by form, and then by shortlex of their terms
-ordering_then-equal : (o : Ordering) → ordering_then o Equal ≡ o
-ordering_then-equal Less = refl
-ordering_then-equal Equal = refl
-ordering_then-equal Greater = refl
-
 value_cmp-is : (v w : Value) → value_cmp v w ≡ ordering_then (nat_cmp (rank v) (rank w)) (shortlex tree_cmp (terms_of v) (terms_of w))
 value_cmp-is (one t) (one u) = sym (ordering_then-equal (tree_cmp t u))
 value_cmp-is (one t) (seq us) = refl
@@ -41,7 +33,7 @@ value_cmp-is (bag ts) (bag us) = refl
 -- so values, substitutions and pairs are totally ordered
 value_cmp_total : IsTotalOrder value_cmp
 value_cmp_total =
-    let o = then_total (on_total rank nat_cmp_total) (on_total terms_of shortlex_total) in
+    let o = then_total (on_total rank nat_cmp_total) (on_total terms_of (shortlex_total tree_cmp_total)) in
     record {
       antisymm = λ v w. value_cmp-is v w ∙ o.antisymm v w ∙ ap ordering_reverse (sym (value_cmp-is w v));
       trans = λ v w x p q. value_cmp-is v x ∙ o.trans v w x (sym (value_cmp-is v w) ∙ p) (sym (value_cmp-is w x) ∙ q);

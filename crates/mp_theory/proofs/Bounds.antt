@@ -1,11 +1,8 @@
--- An ascending list is known by its members; so the choices may be listed by lengths, within the bounds of the node and of the later children.
-use Rattle.std.proofs.Common.{◌≡◌, ℕ, ◌≤◌, ◌<◌, ◌+◌, ◌-◌, List, [], ◌∷◌, length, Bool, true, false, refl, ap, sym, ◌∙◌, inl, inr, subst, arith}
+-- The choices may be listed by lengths, within the bounds of the node and of the later children.
+use Rattle.std.proofs.Common.{◌≡◌, ℕ, ◌≤◌, ◌<◌, ◌+◌, ◌-◌, List, [], ◌∷◌, length, Bool, true, false, refl, ap, arith}
+use Rattle.std.proofs.lemmas.Bool.{and_parts, not-true}
 use Rattle.std.proofs.lemmas.Bool.Decides.{nat_tests}
 use Rattle.std.specs.Prelude.{Option, Some, None, ◌↔◌, ◌&&◌, not, min, max, nat_lt, if◌then◌else◌, filter, is_some}
-use Rattle.std.specs.declared.cmp.Ordering.{Ordering}
-use Rattle.std.specs.declared.cmp.Ordering.TheVariants.{Less}
-use Rattle.std.specs.Cmp.{IsTotalOrder}
-use Rattle.std.specs.List.{AllByRecursion}
 use Rattle.std.specs.List.Sorted.{IsStrictlySortedBy}
 use Rattle.std.specs.Ordering.{nat_cmp}
 use Rattle.std.proofs.lemmas.List.Kept.{IsStrictlySortedBy-filter}
@@ -13,7 +10,7 @@ use Rattle.mp_term.specs.Order.{tree_cmp}
 use Rattle.mp_term.specs.OrderLaws.{tree_cmp_total, tree_same}
 use Rattle.mp_term.specs.Tree.{Tree, symbol, app, trees}
 use Rattle.mp_term.specs.Signature.{Sig, is_assoc}
-use Rattle.mp_term.proofs.NormalTestLaws.{both, not_false}
+use Rattle.mp_term.proofs.ListingLaws.{same_members}
 use Rattle.mp_pattern.specs.PatternTree.{dot, kind, plus, star, optional, Pattern, symbol_pattern, app_pattern, wild_pattern, Patterns}
 use Rattle.mp_pattern.specs.Value.{one}
 use Rattle.mp_pattern.specs.Variables.{comm_above}
@@ -27,35 +24,10 @@ use Rattle.mp_theory.specs.Pieces.{without, pieces_among, is_piece}
 use Rattle.mp_theory.specs.Machine.{entries, reads, choices}
 use Rattle.mp_theory.specs.Bounds.{least, assoc_above, is_short, all_least, child_count, all_short}
 use Rattle.mp_theory.specs.Within.{is_within, leaves_within, choices_within, fewest, too_many, lengths}
-use Rattle.mp_theory.proofs.SearchLaws.{in-filter, from_in-filter, all_in, irreflexive, one_way}
+use Rattle.mp_theory.proofs.SearchLaws.{in-filter, from_in-filter}
 use Rattle.mp_theory.proofs.PiecesLaws.{length-without, sublist-from_piece, pieces_among-exact, pieces_among-ascending, in-range_with_len, from_in-range_with_len, ascending-range_with_len}
 use Rattle.mp_theory.proofs.Walk.{in-entries, from_in-entries, choices-exact}
 use Rattle.mp_theory.proofs.Tables.{entries-ascending, entry_cmp_total, choices-ascending}
-
-module _ {X : Type 0} (cmp : X → X → Ordering) (o : IsTotalOrder cmp) where
-  -- the first of two ascending lists with the same members
-  heads_same : (x y : X) (xs ys : List X) → AllByRecursion (λ z. cmp x z ≡ Less) xs → AllByRecursion (λ z. cmp y z ≡ Less) ys → In x (y ∷ ys) → In y (x ∷ xs) → x ≡ y
-  heads_same x y xs ys h k (inl e) j = e
-  heads_same x y xs ys h k (inr i) (inl e) = sym e
-  heads_same x y xs ys h k (inr i) (inr j) = absurd (one_way cmp o x y (all_in (λ z. cmp x z ≡ Less) xs y h j) (all_in (λ z. cmp y z ≡ Less) ys x k i))
-
-  member_behind : (x z : X) (xs ys : List X) → AllByRecursion (λ w. cmp x w ≡ Less) xs → In z xs → In z (x ∷ ys) → In z ys
-  member_behind x z xs ys h i (inl e) = absurd (irreflexive cmp o x (subst (λ w. cmp x w ≡ Less) e (all_in (λ w. cmp x w ≡ Less) xs z h i)))
-  member_behind x z xs ys h i (inr j) = j
-
-  -- two strictly ascending lists with the same members are the same
-  pub same_members : (xs ys : List X) → IsStrictlySortedBy cmp xs → IsStrictlySortedBy cmp ys → ((x : X) → In x xs → In x ys) → ((x : X) → In x ys → In x xs) → xs ≡ ys
-  unfolding IsStrictlySortedBy
-  same_members [] [] h k f g = refl
-  same_members [] (y ∷ ys) h k f g = absurd (g y (inl refl))
-  same_members (x ∷ xs) [] h k f g = absurd (f x (inl refl))
-  same_members (x ∷ xs) (y ∷ ys) h k f g =
-      let e : x ≡ y = heads_same x y xs ys h.0 k.0 (f x (inl refl)) (g y (inl refl)) in
-      let later : AllByRecursion (λ w. cmp x w ≡ Less) ys = subst (λ z. AllByRecursion (λ w. cmp z w ≡ Less) ys) (sym e) k.0 in
-      let r : xs ≡ ys = same_members xs ys h.1 k.1
-      (λ z i. member_behind x z xs ys h.0 i (subst (λ w. In z (w ∷ ys)) (sym e) (f z (inr i))))
-      (λ z i. member_behind x z ys xs later i (g z (inr i))) in
-      ap (λ z. z ∷ xs) e ∙ ap (λ zs. y ∷ zs) r
 
 -- the test of a number against bounds, of which the upper one may not be asked
 tested : (b : Bool) (low high n : ℕ) → low ≤ n → (b ≡ true → n ≤ high) → not (nat_lt n low) && not (b && nat_lt high n) ≡ true
@@ -63,7 +35,7 @@ tested true low high n h k = let i : n ≤ high = k refl in grind (arith, nat_te
 tested false low high n h k = grind (arith, nat_tests, h)
 
 from_tested : (b : Bool) (low high n : ℕ) → not (nat_lt n low) && not (b && nat_lt high n) ≡ true → (low ≤ n) × (b ≡ true → n ≤ high)
-from_tested b low high n h = let k = both (not (nat_lt n low)) (not (b && nat_lt high n)) h in (grind (arith, nat_tests, k.0), λ e. grind (arith, nat_tests, e, k.1))
+from_tested b low high n h = let k = and_parts (not (nat_lt n low)) (not (b && nat_lt high n)) h in (grind (arith, nat_tests, k.0), λ e. grind (arith, nat_tests, e, k.1))
 
 -- l of n terms, with the m others, against the least and the first too great number
 fewest-least : (b : Bool) (least room l m n : ℕ) → l + m ≡ n → least ≤ l → (b ≡ true → m ≤ room) → (if b then max least (n - room) else least) ≤ l
@@ -129,7 +101,7 @@ module _ (sig : Sig) where
   within (app_pattern g ps) f [] false h = cc
   within (app_pattern g ps) f (t ∷ u ∷ l) false h = cc
   within (wild_pattern w x) f l true h = cc
-  within (wild_pattern dot x) f l false h = let k = some_contributor f l h in (k.0, λ s. k.1 (not_false _ s))
+  within (wild_pattern dot x) f l false h = let k = some_contributor f l h in (k.0, λ s. k.1 (not-true _ s))
   within (wild_pattern (kind k) x) f [] false h = cc
   within (wild_pattern (kind k) x) f (t ∷ []) false h = (omega arith, λ _. omega arith)
   within (wild_pattern (kind k) x) f (t ∷ u ∷ l) false h = cc
@@ -137,7 +109,7 @@ module _ (sig : Sig) where
   within (wild_pattern plus x) f (t ∷ l) false h = (omega arith, λ s. cc)
   within (wild_pattern star x) f l false h = (omega arith, λ s. cc)
   within (wild_pattern (optional d) x) f [] false h = (omega arith, λ _. omega arith)
-  within (wild_pattern (optional d) x) f (t ∷ l) false h = let k = some_contributor f (t ∷ l) h in (omega arith, λ s. k.1 (not_false _ s))
+  within (wild_pattern (optional d) x) f (t ∷ l) false h = let k = some_contributor f (t ∷ l) h in (omega arith, λ s. k.1 (not-true _ s))
 
   -- the number of terms is within the bounds of the children
   pub record IsWithin (f : Option ℕ) (ps : Patterns) (n : ℕ) : Type 0 where

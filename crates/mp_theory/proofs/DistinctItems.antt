@@ -8,6 +8,7 @@ use Rattle.std.proofs.lemmas.Cmp.{lists_total}
 use Rattle.mp_term.specs.Tree.{Tree}
 use Rattle.mp_term.specs.Signature.{Sig}
 use Rattle.mp_term.specs.Normal.{IsNormal}
+use Rattle.mp_term.proofs.ListingLaws.{all_in, irreflexive}
 use Rattle.mp_pattern.specs.PatternTree.{Pattern}
 use Rattle.mp_pattern.specs.Size.{pattern_nodes}
 use Rattle.mp_pattern.specs.Fits.{Table, Fits}
@@ -19,7 +20,6 @@ use Rattle.mp_theory.specs.Frames.{settle, start}
 use Rattle.mp_theory.specs.Machine.{tables}
 use Rattle.mp_theory.specs.OneList.{Item, same_item}
 use Rattle.mp_theory.specs.Trail.{derivations}
-use Rattle.mp_theory.proofs.SearchLaws.{all_in, irreflexive}
 use Rattle.mp_theory.proofs.FirstsLaws.{Distinct}
 use Rattle.mp_theory.proofs.Tables.{tables-ascending, entry_cmp_total}
 use Rattle.mp_theory.proofs.OneListLaws.{same_subst-sound}

@@ -6,31 +6,32 @@ use Rattle.mp_term.specs.Order.{tree_cmp}
 use Rattle.mp_term.specs.Tree.{Tree}
 use Rattle.mp_term.specs.Signature.{Sig}
 use Rattle.mp_term.specs.Normal.{IsNormal}
+use Rattle.mp_term.proofs.ListLaws.{all-append, all-split}
 use Rattle.mp_pattern.specs.PatternTree.{Wildcard, Pattern, symbol_pattern, app_pattern, wild_pattern, Patterns, no_patterns, more_patterns}
 use Rattle.mp_pattern.specs.Value.{Value, seq_form, form_of, one, seq, bag, IsFinal, Subst, value_of, same_name}
 use Rattle.mp_pattern.specs.Variables.{Use, uses, all_uses, comm_above, is_sequence, form_among, variable_form, IsSubstOf}
 use Rattle.mp_pattern.specs.Fits.{Table, Fits, ByValue}
 use Rattle.mp_pattern.specs.Holds.{is_bag}
+use Rattle.mp_pattern.proofs.NameLaws.{same_name-is, same_name-itself}
 use Rattle.mp_theory.specs.Solve.{solve}
 use Rattle.mp_theory.specs.Frames.{Next, ended, refused, child, settle, start}
 use Rattle.mp_theory.proofs.Agenda.{run-takes, takes-run}
-use Rattle.mp_theory.proofs.Merging.{name_same}
 use Rattle.mp_theory.specs.Search.{In, Accepts}
 use Rattle.mp_theory.specs.Pieces.{is_piece}
 use Rattle.mp_theory.specs.Sound.{Each, AllEach, IsSound}
 use Rattle.mp_theory.specs.Machine.{is_ended, onward, said, takes, choices, HasShape}
-use Rattle.mp_theory.proofs.SearchLaws.{all-append, from_all-append, all-from_in}
+use Rattle.mp_theory.proofs.SearchLaws.{all-from_in}
 use Rattle.mp_theory.proofs.Wildcards.{final-passes, given-final}
 use Rattle.mp_theory.proofs.Walk.{choices-exact, IsSoundAt, sound-onward, sound-settle, fine-piece, fine-single, FormHolds, DefaultHolds, run_at, at_run, accepted, valued}
 use Rattle.mp_theory.proofs.Tables.{shape-accounts}
-use Rattle.mp_theory.proofs.Solving.{same_name-itself, join, join_seq, use_form, form_among-cons, GivesFinal, solved-by, solution}
+use Rattle.mp_theory.proofs.Solving.{join, join_seq, use_form, form_among-cons, GivesFinal, solved-by, solution}
 
 -- what holds of the bindings holds of the value of a variable
 pub at_value : (R : List ℕ → Value → Type 0) (s : Subst) (x : List ℕ) (v : Value) → AllByRecursion (λ b. R b.name b.value) s → value_of s x ≡ Some v → R x v
 at_value R [] x v h e = cc
 at_value R (b ∷ s) x v h e =
     elim (same_name b.name x) as (λ c. same_name b.name x ≡ c → (if c then Some b.value else value_of s x) ≡ Some v → R x v) [
-      | true ↦ λ q p. let i : b.value ≡ v = cc in subst (λ y. R y v) (name_same b.name x q) (subst (R b.name) i h.0)
+      | true ↦ λ q p. let i : b.value ≡ v = cc in subst (λ y. R y v) (same_name-is b.name x q) (subst (R b.name) i h.0)
       | false ↦ λ q p. at_value R s x v h.1 p
     ] refl e
 
@@ -45,7 +46,7 @@ module _ (P : Use → Type 0) (Q : Option ℕ → Wildcard → Option (List ℕ)
 
     all_each-from_uses : (f : Option ℕ) (ps : Patterns) → AllByRecursion P (all_uses f ps) → AllEach Q f ps
     all_each-from_uses f no_patterns h = tt
-    all_each-from_uses f (more_patterns p ps) h = let k = from_all-append P (uses f p) (all_uses f ps) h in (each-from_uses f p k.0, all_each-from_uses f ps k.1)
+    all_each-from_uses f (more_patterns p ps) h = let k = all-split P (uses f p) (all_uses f ps) h in (each-from_uses f p k.0, all_each-from_uses f ps k.1)
 
 module _ (sig : Sig) where
   -- a use of a sequence wildcard under an operation that isn't commutative makes the form a tuple

@@ -2,9 +2,9 @@
 use Rattle.std.proofs.Common.{◌≡◌, ℕ, List, [], ◌∷◌, ◌++◌, true, false, refl, ap, sym, ◌∙◌, inl, inr}
 use Rattle.std.specs.Prelude.{Option, Some, ⊤}
 use Rattle.std.specs.List.{AllByRecursion}
+use Rattle.std.proofs.lemmas.Bool.{and_parts}
 use Rattle.mp_term.specs.Tree.{Tree, app, trees}
 use Rattle.mp_term.specs.Signature.{Sig}
-use Rattle.mp_term.proofs.NormalTestLaws.{both}
 use Rattle.mp_pattern.specs.PatternTree.{Wildcard, Pattern, symbol_pattern, app_pattern, wild_pattern, Patterns, no_patterns, more_patterns}
 use Rattle.mp_pattern.specs.Order.{is_ground, all_ground}
 use Rattle.mp_pattern.specs.Fits.{Entry, Table, joined, some_left_out, arranged, TakesBy, AllTakeBy}
@@ -21,7 +21,7 @@ none_left_out : (ps : Patterns) (ls : List (List Tree)) → all_ground ps ≡ tr
 none_left_out no_patterns ls g = refl
 none_left_out (more_patterns p ps) [] g = refl
 none_left_out (more_patterns (symbol_pattern n) ps) (l ∷ ls) g = none_left_out ps ls g
-none_left_out (more_patterns (app_pattern f qs) ps) (l ∷ ls) g = none_left_out ps ls (both (all_ground qs) (all_ground ps) g).1
+none_left_out (more_patterns (app_pattern f qs) ps) (l ∷ ls) g = none_left_out ps ls (and_parts (all_ground qs) (all_ground ps) g).1
 none_left_out (more_patterns (wild_pattern w x) ps) (l ∷ ls) g = cc
 
 -- the list of the first entry
@@ -45,7 +45,7 @@ module _ (sig : Sig) (line : Option ℕ → Wildcard → Option (List ℕ) → L
     all_ground_take (more_patterns p ps) k [] Ts g h = absurd h
     all_ground_take (more_patterns p ps) k (l ∷ ls) [] g h = absurd h
     all_ground_take (more_patterns p ps) k (l ∷ ls) (T ∷ Ts) g h =
-        let b = both (is_ground p) (all_ground ps) g in
+        let b = and_parts (is_ground p) (all_ground ps) g in
         ap (λ m. m ++ joined ls) (ground_takes p (Some k) l T b.0 h.0) ∙ ap (λ ts. ground_tree sig p ∷ ts) (all_ground_take ps k ls Ts b.1 h.1)
 
   -- what a node takes stands in its first entry

@@ -5,6 +5,7 @@ use Rattle.std.specs.List.{AllByRecursion}
 use Rattle.std.specs.Ordering.{is_gt}
 use Rattle.std.proofs.lemmas.List.{map-append}
 use Rattle.std.proofs.lemmas.Grind.{flat_map-append}
+use Rattle.std.proofs.lemmas.Bool.{and_parts, not-true}
 use Rattle.mp_term.specs.Tree.{Tree, symbol, app, tree_list, trees}
 use Rattle.mp_term.specs.TreeLists.{tree_list-trees}
 use Rattle.mp_term.specs.Order.{tree_cmp}
@@ -14,7 +15,8 @@ use Rattle.mp_term.specs.Signature.{Sig, is_assoc, is_comm, is_one}
 use Rattle.mp_term.specs.Normal.{unwrapped, parts, flattened, collapsed, normal, normals, IsNormal}
 use Rattle.mp_term.specs.NormalTest.{has_head, is_single, ascending, passes, all_pass}
 use Rattle.mp_term.proofs.Sorting.{tally-sorted, ascends-sorted}
-use Rattle.mp_term.proofs.NormalTestLaws.{both, normal-passes, not_false}
+use Rattle.mp_term.proofs.NormalTestLaws.{normal-passes}
+use Rattle.mp_term.proofs.ListLaws.{all-split}
 use Rattle.mp_pattern.specs.PatternTree.{Wildcard, dot, kind, plus, star, optional, Pattern, symbol_pattern, app_pattern, wild_pattern, Patterns, no_patterns, more_patterns}
 use Rattle.mp_pattern.specs.Value.{Value, one, seq, bag, IsFinal, Subst, value_of}
 use Rattle.mp_pattern.specs.Contribution.{contribution, spread, if_several}
@@ -23,7 +25,6 @@ use Rattle.mp_pattern.specs.Holds.{listed}
 use Rattle.mp_pattern.specs.Instance.{is_fully_named, all_fully_named, pattern_instances, all_pattern_instances, IsPatternApplied}
 use Rattle.mp_theory.specs.Solve.{is_alone}
 use Rattle.mp_theory.specs.Sound.{Each, AllEach, IsNotOptional, HasNoOptional}
-use Rattle.mp_theory.proofs.SearchLaws.{from_all-append}
 use Rattle.mp_theory.proofs.Cuts.{put, count, count-append, same_counts}
 use Rattle.mp_theory.proofs.Wildcards.{if_several-some, put-put, final-passes}
 use Rattle.mp_theory.proofs.Walk.{all_pass-each}
@@ -75,7 +76,7 @@ module _ (sig : Sig) where
   parts-alone : (g : ℕ) (t : Tree) → is_alone sig (Some g) t ≡ true → parts sig g t ≡ t ∷ []
   parts-alone g t h =
       elim (is_assoc sig g) as (λ b. not (b && has_head g t) ≡ true → (if b then unwrapped g t else (t ∷ [])) ≡ t ∷ []) [
-        | true ↦ λ e. unwrapped-alone t (not_false _ e)
+        | true ↦ λ e. unwrapped-alone t (not-true _ e)
         | false ↦ λ e. refl
       ] h
     where
@@ -106,12 +107,12 @@ module _ (sig : Sig) where
   -- an application in normal form doesn't collapse, and its arguments are apart
   collapsed-passes : (h : ℕ) (ts : List Tree) → passes sig (app h (trees ts)) ≡ true → collapsed sig h ts ≡ app h (trees ts)
   collapsed-passes h [] e = refl
-  collapsed-passes h (t ∷ []) e = elim (is_one sig h) as (λ b. not (b && true) ≡ true → (if b then t else app h (trees (t ∷ []))) ≡ app h (trees (t ∷ []))) [ true ↦ λ q. cc | false ↦ λ q. refl ] (both (not (is_one sig h && true)) _ e).0
+  collapsed-passes h (t ∷ []) e = elim (is_one sig h) as (λ b. not (b && true) ≡ true → (if b then t else app h (trees (t ∷ []))) ≡ app h (trees (t ∷ []))) [ true ↦ λ q. cc | false ↦ λ q. refl ] (and_parts (not (is_one sig h && true)) _ e).0
   collapsed-passes h (t ∷ u ∷ ts) e = refl
 
   apart-arguments : (h : ℕ) (ts : List Tree) → passes sig (app h (trees ts)) ≡ true → AreApart h ts
   apart-arguments h ts e =
-      let k = (both (not (is_comm sig h && not (ascending (tree_list (trees ts))))) (all_pass sig h (trees ts)) (both (not (is_one sig h && is_single (tree_list (trees ts)))) _ e).1).1 in
+      let k = (and_parts (not (is_comm sig h && not (ascending (tree_list (trees ts))))) (all_pass sig h (trees ts)) (and_parts (not (is_one sig h && is_single (tree_list (trees ts)))) _ e).1).1 in
       let i = all_pass-each sig (λ f w x. IsNotOptional w) h (trees ts) k in
       subst (AreApart h) (tree_list-trees ts) (pairs (tree_list (trees ts)) i.0 i.1)
     where
@@ -177,8 +178,8 @@ module _ (sig : Sig) where
       children_instances (more_patterns p ps) g [] Ts n o a h = absurd h
       children_instances (more_patterns p ps) g (l ∷ ls) [] n o a h = absurd h
       children_instances (more_patterns p ps) g (l ∷ ls) (T ∷ Ts) n o a h =
-          let m = both (is_fully_named p) (all_fully_named ps) n in
-          let b = from_all-append (λ t. (passes sig t ≡ true) × (is_alone sig (Some g) t ≡ true)) l (joined ls) a in
+          let m = and_parts (is_fully_named p) (all_fully_named ps) n in
+          let b = all-split (λ t. (passes sig t ≡ true) × (is_alone sig (Some g) t ≡ true)) l (joined ls) a in
           ap (λ us. arranged sig (Some g) (flattened sig g us)) (map-append (normal sig) (pattern_instances s p) (all_pattern_instances s ps))
           ∙ ap (arranged sig (Some g)) (flat_map-append (parts sig g) (map (normal sig) (pattern_instances s p)) (map (normal sig) (all_pattern_instances s ps)))
           ∙ put-append (is_comm sig g) (flattened sig g (map (normal sig) (pattern_instances s p))) (flattened sig g (map (normal sig) (all_pattern_instances s ps))) l (joined ls) (child_instance p g l T m.0 o.0 b.0 h.0) (children_instances ps g ls Ts m.1 o.1 b.1 h.1)

@@ -1,19 +1,20 @@
 -- Values that are merged in turn: a provisional value is refined by a final one.
 use Rattle.std.proofs.Common.{◌≡◌, ℕ, Bool, true, false, List, [], ◌∷◌, refl, ap, sym, ◌∙◌, subst, inl, inr, ◌⊎◌}
 use Rattle.std.specs.Prelude.{Some, None, if◌then◌else◌, Option, option_map}
-use Rattle.std.specs.declared.cmp.Ordering.{Ordering}
-use Rattle.std.specs.declared.cmp.Ordering.TheVariants.{Less, Equal, Greater}
 use Rattle.std.specs.Ordering.{is_eq}
+use Rattle.std.specs.Cmp.{Equal-is}
+use Rattle.std.specs.FinMap.{slice_cmp-IsAntisymmetric}
 use Rattle.std.specs.Cmp.Lexicographic.{slice_cmp}
 use Rattle.std.specs.List.{AllByRecursion}
 use Rattle.std.proofs.lemmas.Cmp.{tied_itself, lists_total}
 use Rattle.std.proofs.lemmas.Option.{none-some}
 use Rattle.mp_term.specs.Tree.{Tree}
 use Rattle.mp_term.specs.Order.{tree_cmp}
-use Rattle.mp_term.specs.OrderLaws.{tree_cmp_total, tree_same, both_equal, nats_same}
+use Rattle.mp_term.specs.OrderLaws.{tree_cmp_total, tree_same}
 use Rattle.mp_term.specs.Sorting.{sorted}
 use Rattle.mp_term.proofs.Sorting.{sorted_again}
 use Rattle.mp_pattern.specs.Value.{Value, one, seq, bag, Subst, value_of, same_name, same_terms, merge}
+use Rattle.mp_pattern.proofs.NameLaws.{same_name-is}
 use Rattle.mp_theory.specs.Solve.{bind}
 
 -- the final value v agrees with the provisional value w: a multiset may turn out to be a tuple
@@ -30,23 +31,8 @@ IsArranged (bag ts) = sorted tree_cmp ts ≡ ts
 IsArranged _ = Unit {0}
 
 -- equality tests are sound and complete
-pub from_is_eq : (o : Ordering) → is_eq o ≡ true → o ≡ Equal
-from_is_eq Less e = cc
-from_is_eq Equal e = refl
-from_is_eq Greater e = cc
-
-terms_same : (ts us : List Tree) → slice_cmp tree_cmp ts us ≡ Equal → ts ≡ us
-terms_same [] [] e = refl
-terms_same [] (u ∷ us) e = cc
-terms_same (t ∷ ts) [] e = cc
-terms_same (t ∷ ts) (u ∷ us) e =
-    let h = both_equal _ _ e in
-    let p : t ≡ u = tree_same t u h.0 in
-    let q : ts ≡ us = terms_same ts us h.1 in
-    cc
-
 pub same_terms-sound : (ts us : List Tree) → same_terms ts us ≡ true → ts ≡ us
-same_terms-sound ts us e = terms_same ts us (from_is_eq _ e)
+same_terms-sound ts us e = slice_cmp-IsAntisymmetric tree_same ts us ((Equal-is (slice_cmp tree_cmp ts us)).0 e)
 
 pub same_terms-complete : (ts us : List Tree) → ts ≡ us → same_terms ts us ≡ true
 same_terms-complete ts us e = rw (← e, tied_itself (lists_total tree_cmp_total) ts) refl
@@ -95,7 +81,7 @@ pub merge-sound : (w x u v : Value) → IsArranged w → IsArranged x → merge 
 merge-sound (one t) (one u) m v a b e r =
     let h = from_if (is_eq (tree_cmp t u)) (one t) m e in
     let k = subst (λ n. Refines n v) (sym h.1) r in
-    (k, subst (λ n. Refines (one n) v) (tree_same t u (from_is_eq _ h.0)) k)
+    (k, subst (λ n. Refines (one n) v) (tree_same t u ((Equal-is (tree_cmp t u)).0 h.0)) k)
 merge-sound (seq ts) (seq us) m v a b e r =
     let h = from_if (same_terms ts us) (seq ts) m e in
     let k = subst (λ n. Refines n v) (sym h.1) r in
@@ -141,17 +127,13 @@ pub record Bound (env s : Subst) (x : List ℕ) (w : Value) : Type 0 where
   pub is : bind env x w ≡ Some env_after
   pub extends : Extends env_after s
 
--- names that test equal are equal
-pub name_same : (x y : List ℕ) → same_name x y ≡ true → x ≡ y
-name_same x y e = nats_same x y (from_is_eq _ e)
-
 -- a value that s agrees with can be bound, and s still agrees
 pub bind-complete : (env s : Subst) (x : List ℕ) (w v : Value) → Extends env s → value_of s x ≡ Some v → Refines w v → Bound env s x w
 bind-complete [] s x w v h e r = record { env_after = record { name = x; value = w } ∷ []; is = refl; extends = ((v, e, r), tt) }
 bind-complete (b ∷ env) s x w v h e r =
     elim (same_name b.name x) as (λ t. same_name b.name x ≡ t → Bound (b ∷ env) s x w) [
       | true ↦ λ q.
-          let same : Some h.0.0 ≡ Some v = sym h.0.1 ∙ ap (value_of s) (name_same b.name x q) ∙ e in
+          let same : Some h.0.0 ≡ Some v = sym h.0.1 ∙ ap (value_of s) (same_name-is b.name x q) ∙ e in
           let m = merge-complete b.value w v (subst (Refines b.value) (let i : h.0.0 ≡ v = cc in i) h.0.2) r in
           record {
             env_after = record { name = b.name; value = m.value } ∷ env;
@@ -184,7 +166,7 @@ bind-sound (c ∷ env) s x w after a b e h =
           let m = mapped (λ u. record { name = c.name; value = u } ∷ env) (merge c.value w) after q.1 in
           let k = subst (λ r. Extends r s) (sym m.2) h in
           let both = merge-sound c.value w m.0 k.0.0 a.0 b m.1 k.0.2 in
-          (((k.0.0, k.0.1, both.0), k.1), (k.0.0, ap (value_of s) (sym (name_same c.name x q.0)) ∙ k.0.1, both.1))
+          (((k.0.0, k.0.1, both.0), k.1), (k.0.0, ap (value_of s) (sym (same_name-is c.name x q.0)) ∙ k.0.1, both.1))
       | inr q ↦
           let m = mapped (λ r. c ∷ r) (bind env x w) after q.1 in
           let k = subst (λ r. Extends r s) (sym m.2) h in

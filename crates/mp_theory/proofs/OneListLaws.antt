@@ -4,12 +4,13 @@ use Rattle.std.specs.Prelude.{Some, None, ◌↔◌, if◌then◌else◌, zip, C
 use Rattle.std.specs.List.{AllByRecursion}
 use Rattle.std.specs.List.Sorted.{IsStrictlySortedBy}
 use Rattle.std.proofs.lemmas.Cmp.{lists_total}
+use Rattle.std.proofs.lemmas.Bool.{and_parts, and_from}
 use Rattle.mp_term.specs.Order.{tree_cmp}
 use Rattle.mp_term.specs.OrderLaws.{tree_cmp_total, tree_same}
 use Rattle.mp_term.specs.Tree.{Tree}
 use Rattle.mp_term.specs.Signature.{Sig}
 use Rattle.mp_term.specs.Normal.{IsNormal}
-use Rattle.mp_term.proofs.NormalTestLaws.{both, joined_tests}
+use Rattle.mp_term.proofs.ListingLaws.{contains-from_in, in-from_contains}
 use Rattle.mp_pattern.specs.PatternTree.{Pattern}
 use Rattle.mp_pattern.specs.Size.{pattern_nodes}
 use Rattle.mp_pattern.specs.Variables.{variables}
@@ -18,18 +19,19 @@ use Rattle.mp_pattern.specs.Fits.{Table, Fits}
 use Rattle.mp_pattern.specs.DerivationOrder.{table_cmp}
 use Rattle.mp_pattern.specs.Admission.{Rule, meets, Admits, IsLeast, AreLeast}
 use Rattle.mp_pattern.specs.Lists.{IsOneList}
+use Rattle.mp_pattern.proofs.NameLaws.{same_name-is, same_name-itself}
 use Rattle.mp_theory.specs.Solve.{solve}
 use Rattle.mp_theory.specs.Frames.{settle, start}
-use Rattle.mp_theory.proofs.Merging.{name_same, same_terms-sound, same_terms-complete}
+use Rattle.mp_theory.proofs.Merging.{same_terms-sound, same_terms-complete}
 use Rattle.mp_theory.specs.Search.{In}
 use Rattle.mp_theory.specs.Sound.{IsSound}
 use Rattle.mp_theory.specs.Machine.{takes, tables}
 use Rattle.mp_theory.specs.OneList.{Item, same_value, same_subst, admitted, one_list, item_tables, item_substs, item_list, AreItems}
 use Rattle.mp_theory.proofs.PiecesLaws.{same-sound, same-itself}
 use Rattle.mp_theory.proofs.Tables.{tables-exact, tables-ascending, shape-accounts, entry_cmp_total}
-use Rattle.mp_theory.proofs.Solving.{same_name-itself, then_some}
+use Rattle.mp_theory.proofs.Solving.{then_some}
 use Rattle.mp_theory.proofs.FitsSolves.{fits-solves, solves-fits}
-use Rattle.mp_theory.proofs.FirstsLaws.{contains-from_in, in-from_contains, Both, from_both, IsFirst, Added, added}
+use Rattle.mp_theory.proofs.FirstsLaws.{Both, from_both, IsFirst, Added, added}
 
 -- the test of values is sound and complete
 same_value-itself : (v : Value) → same_value v v ≡ true
@@ -51,16 +53,16 @@ same_value-sound (bag ts) (seq us) e = cc
 -- so is the test of substitutions
 pub same_subst-itself : (s : Subst) → same_subst s s ≡ true
 same_subst-itself [] = refl
-same_subst-itself (b ∷ s) = joined_tests _ _ (same_name-itself b.name) (joined_tests _ _ (same_value-itself b.value) (same_subst-itself s))
+same_subst-itself (b ∷ s) = and_from _ _ (same_name-itself b.name) (and_from _ _ (same_value-itself b.value) (same_subst-itself s))
 
 pub same_subst-sound : (r s : Subst) → same_subst r s ≡ true → r ≡ s
 same_subst-sound [] [] e = refl
 same_subst-sound [] (c ∷ s) e = cc
 same_subst-sound (b ∷ r) [] e = cc
 same_subst-sound (b ∷ r) (c ∷ s) e =
-    let h = both (same_name b.name c.name) (same_value b.value c.value && same_subst r s) e in
-    let k = both (same_value b.value c.value) (same_subst r s) h.1 in
-    ap (λ m. record { name = m; value = b.value } ∷ r) (name_same b.name c.name h.0) ∙ ap (λ m. record { name = c.name; value = m } ∷ r) (same_value-sound b.value c.value k.0) ∙ ap (λ m. c ∷ m) (same_subst-sound r s k.1)
+    let h = and_parts (same_name b.name c.name) (same_value b.value c.value && same_subst r s) e in
+    let k = and_parts (same_value b.value c.value) (same_subst r s) h.1 in
+    ap (λ m. record { name = m; value = b.value } ∷ r) (same_name-is b.name c.name h.0) ∙ ap (λ m. record { name = c.name; value = m } ∷ r) (same_value-sound b.value c.value k.0) ∙ ap (λ m. c ∷ m) (same_subst-sound r s k.1)
 
 module _ (sig : Sig) (r : Rule) (t : Tree) where
   -- s solves the takes of the table

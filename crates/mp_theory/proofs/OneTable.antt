@@ -1,9 +1,9 @@
 -- Where each wildcard has a name and none is optional, one table at most fits with a substitution.
 use Rattle.std.proofs.Common.{◌≡◌, ℕ, List, [], ◌∷◌, true, false, refl, ap, sym, ◌∙◌, inl, inr, subst}
 use Rattle.std.specs.Prelude.{Option, Some, None}
+use Rattle.std.proofs.lemmas.Bool.{and_parts}
 use Rattle.mp_term.specs.Tree.{Tree, app, trees}
 use Rattle.mp_term.specs.Signature.{Sig}
-use Rattle.mp_term.proofs.NormalTestLaws.{both}
 use Rattle.mp_pattern.specs.PatternTree.{Wildcard, dot, kind, plus, star, optional, Pattern, symbol_pattern, app_pattern, wild_pattern, Patterns, no_patterns, more_patterns}
 use Rattle.mp_pattern.specs.Value.{Value, one, seq, bag, Subst}
 use Rattle.mp_pattern.specs.Fits.{Table, joined, arranged, WildTakes, ByValue, TakesBy, AllTakeBy, Fits}
@@ -59,7 +59,7 @@ module _ (sig : Sig) where
       all_take_same (more_patterns p ps) g (l ∷ ls) [] (T ∷ Ts) Us a o h k = absurd k
       all_take_same (more_patterns p ps) g (l ∷ ls) (m ∷ ms) (T ∷ Ts) [] a o h k = absurd k
       all_take_same (more_patterns p ps) g (l ∷ ls) (m ∷ ms) (T ∷ Ts) (U ∷ Us) a o h k =
-          let b = both (is_fully_named p) (all_fully_named ps) a in
+          let b = and_parts (is_fully_named p) (all_fully_named ps) a in
           let i = takes_same p (Some g) l m T U b.0 o.0 h.0 k.0 in
           let j = all_take_same ps g ls ms Ts Us b.1 o.1 h.1 k.1 in
           (ap (λ x. x ∷ ls) i.0 ∙ ap (λ xs. m ∷ xs) j.0, ap (λ V. V ∷ Ts) i.1 ∙ ap (λ Vs. U ∷ Vs) j.1)

@@ -2,18 +2,19 @@
 use Rattle.std.proofs.Common.{◌≡◌, ℕ, suc, ◌≤◌, ◌+◌, List, [], ◌∷◌, ◌++◌, length, true, false, refl, ap, ◌∙◌, inl, arith, sym, subst, Bool}
 use Rattle.std.specs.Prelude.{Option, Some, None, if◌then◌else◌, flat_map, filter_map, option_map, option_and_then, ⊤}
 use Rattle.std.specs.List.{AllByRecursion}
+use Rattle.std.specs.Cmp.{Equal-is}
+use Rattle.std.proofs.lemmas.Bool.{and_parts}
 use Rattle.mp_term.specs.Tree.{Tree}
 use Rattle.mp_term.specs.Order.{tree_cmp}
 use Rattle.mp_term.specs.OrderLaws.{tree_cmp_total, tree_same}
 use Rattle.mp_term.specs.Signature.{Sig, in_kind}
-use Rattle.mp_term.proofs.NormalTestLaws.{both}
 use Rattle.mp_pattern.specs.PatternTree.{Wildcard, dot, kind, plus, star, optional, Pattern, symbol_pattern, app_pattern, wild_pattern, no_patterns, more_patterns, Patterns}
 use Rattle.mp_pattern.specs.Value.{Value, one, seq, bag, Subst, value_of, same_name, merge}
 use Rattle.mp_pattern.specs.Holds.{is_bag}
 use Rattle.mp_pattern.specs.Variables.{comm_above}
 use Rattle.mp_pattern.specs.Fits.{Entry, Table, WildTakes}
 use Rattle.mp_theory.specs.Solve.{bind, given, sequence, solve}
-use Rattle.mp_theory.proofs.Merging.{Refines, IsArranged, from_is_eq, from_if, mapped, same_terms-sound}
+use Rattle.mp_theory.proofs.Merging.{Refines, IsArranged, from_if, mapped, same_terms-sound}
 use Rattle.mp_theory.specs.Frames.{Frame, Next, ended, refused, child, is_done, settle}
 use Rattle.mp_theory.specs.Search.{In, words, Accepts}
 use Rattle.mp_theory.specs.Pieces.{without}
@@ -72,7 +73,7 @@ module _ (sig : Sig) where
       record {
         enough = omega arith;
         room = λ s.
-            let k = both (is_short sig f p) (all_short sig f ps) s in
+            let k = and_parts (is_short sig f p) (all_short sig f ps) s in
             let a : l ≤ 1 = w.1 k.0 in
             let b : rest ≤ child_count ps = h.room k.1 in
             omega arith;
@@ -148,7 +149,7 @@ bound_merges (b ∷ s) x v w r e h =
 
 -- a value that merges with a bound one agrees with it
 merged_refines : (v w u : Value) → is_bag (Some v) ≡ false → IsArranged w → merge v w ≡ Some u → Refines w v
-merged_refines (one t) (one s) u n a e = sym (tree_same t s (from_is_eq _ (from_if _ _ u e).0))
+merged_refines (one t) (one s) u n a e = sym (tree_same t s ((Equal-is (tree_cmp t s)).0 (from_if _ _ u e).0))
 merged_refines (one t) (seq us) u n a e = cc
 merged_refines (one t) (bag us) u n a e = cc
 merged_refines (seq ts) (one s) u n a e = cc

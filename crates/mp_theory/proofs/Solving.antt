@@ -2,15 +2,15 @@
 use Rattle.std.proofs.Common.{◌≡◌, ℕ, List, [], ◌∷◌, ◌++◌, map, Bool, true, false, ◌&&◌, not, refl, ap, sym, ◌∙◌, inl, inr, subst}
 use Rattle.std.specs.Prelude.{Option, Some, None, ◌||◌, filter, option_and_then, if◌then◌else◌}
 use Rattle.std.specs.List.{AllByRecursion, list_any}
-use Rattle.std.proofs.lemmas.Cmp.{tied_itself, nat_list_cmp_total}
 use Rattle.mp_term.specs.Tree.{Tree}
 use Rattle.mp_term.specs.Signature.{Sig, in_kind}
 use Rattle.mp_pattern.specs.PatternTree.{Wildcard, dot, kind, plus, star, optional, Pattern}
 use Rattle.mp_pattern.specs.Value.{Value, one, seq, bag, Form, one_form, seq_form, bag_form, form_of, IsFinal, Subst, Binding, value_of, same_name, merge}
 use Rattle.mp_pattern.specs.Firsts.{is_known, add_new, firsts_after}
 use Rattle.mp_pattern.specs.Variables.{Use, uses, variables, comm_above, is_sequence, form_among, variable_form, IsSubstOf}
+use Rattle.mp_pattern.proofs.NameLaws.{same_name-is, same_name-itself}
 use Rattle.mp_theory.specs.Solve.{Taken, bind, given, solve, sequence}
-use Rattle.mp_theory.proofs.Merging.{Refines, IsArranged, Extends, AllArranged, bind-sound, from_if, if_either, mapped, name_same}
+use Rattle.mp_theory.proofs.Merging.{Refines, IsArranged, Extends, AllArranged, bind-sound, from_if, if_either, mapped}
 use Rattle.mp_theory.proofs.SolveLaws.{Obeys, solve-complete}
 use Rattle.mp_theory.proofs.FirstsLaws.{Distinct, distinct-firsts}
 use Rattle.mp_theory.proofs.Wildcards.{contributor-contributes, refines-itself}
@@ -19,17 +19,14 @@ use Rattle.mp_theory.proofs.Wildcards.{contributor-contributes, refines-itself}
 abbrev pub names : Subst → List (List ℕ)
 names s = map (λ b. b.name) s
 
--- the test of names is reflexive and symmetric
-pub same_name-itself : (x : List ℕ) → same_name x x ≡ true
-same_name-itself x = rw (tied_itself nat_list_cmp_total x) refl
-
+-- the test of names is symmetric
 same_name-swap : (x y : List ℕ) → same_name x y ≡ same_name y x
 same_name-swap x y =
     elim (same_name x y) as (λ b. same_name x y ≡ b → b ≡ same_name y x) [
-      | true ↦ λ e. sym (subst (λ z. same_name y z ≡ true) (sym (name_same x y e)) (same_name-itself y))
+      | true ↦ λ e. sym (subst (λ z. same_name y z ≡ true) (sym (same_name-is x y e)) (same_name-itself y))
       | false ↦ λ e.
           elim (same_name y x) as (λ c. same_name y x ≡ c → false ≡ c) [
-            | true ↦ λ q. sym e ∙ subst (λ z. same_name x z ≡ true) (sym (name_same y x q)) (same_name-itself x)
+            | true ↦ λ q. sym e ∙ subst (λ z. same_name x z ≡ true) (sym (same_name-is y x q)) (same_name-itself x)
             | false ↦ λ q. refl
           ] refl
     ] refl
@@ -108,7 +105,7 @@ bind-forms (b ∷ env) x w r e y =
     elim (if_either (same_name b.name x) _ _ r e) [
       | inl q ↦
           let m = mapped (λ u. record { name = b.name; value = u } ∷ env) (merge b.value w) r q.1 in
-          ap (λ s. held_form (value_of s y)) (sym m.2) ∙ same m.0 m.1 (name_same b.name x q.0)
+          ap (λ s. held_form (value_of s y)) (sym m.2) ∙ same m.0 m.1 (same_name-is b.name x q.0)
       | inr q ↦
           let m = mapped (λ u. b ∷ u) (bind env x w) r q.1 in
           ap (λ s. held_form (value_of s y)) (sym m.2) ∙ other m.0 (bind-forms env x w m.0 m.1 y) q.0
@@ -123,7 +120,7 @@ bind-forms (b ∷ env) x w r e y =
         → held_form (if same_name b.name y then Some b.value else value_of s y) ≡ joined_at (same_name x y) (held_form (if same_name b.name y then Some b.value else value_of env y)) (form_of w)
     other s i n =
         elim (same_name b.name y) as (λ c. same_name b.name y ≡ c → held_form (if c then Some b.value else value_of s y) ≡ joined_at (same_name x y) (held_form (if c then Some b.value else value_of env y)) (form_of w)) [
-          | true ↦ λ q. let apart : same_name x y ≡ false = same_name-swap x y ∙ ap (λ z. same_name z x) (sym (name_same b.name y q)) ∙ n in rw apart refl
+          | true ↦ λ q. let apart : same_name x y ≡ false = same_name-swap x y ∙ ap (λ z. same_name z x) (sym (same_name-is b.name y q)) ∙ n in rw apart refl
           | false ↦ λ q. i
         ] refl
 

@@ -12,10 +12,11 @@ use Rattle.mp_term.specs.Order.{tree_cmp}
 use Rattle.mp_term.specs.OrderLaws.{tree_cmp_total, tree_same}
 use Rattle.mp_term.specs.Sorting.{sorted}
 use Rattle.mp_term.proofs.Sorting.{sorted-append_sorted}
+use Rattle.mp_term.proofs.ListingLaws.{all_in}
 use Rattle.mp_theory.proofs.Merging.{sorted-sorted}
 use Rattle.mp_theory.specs.Search.{In}
 use Rattle.mp_theory.specs.Pieces.{count_to, same, insert_new, distinct, after, first, pieces_of, pieces, sub_bags}
-use Rattle.mp_theory.proofs.SearchLaws.{all_in, flat_map-same}
+use Rattle.mp_theory.proofs.SearchLaws.{flat_map-same}
 use Rattle.mp_theory.proofs.PiecesLaws.{pieces-exact}
 use Rattle.mp_theory.proofs.Cuts.{piece-from_apart, apart-from_piece}
 

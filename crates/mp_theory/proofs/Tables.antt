@@ -5,11 +5,11 @@ use Rattle.std.specs.declared.cmp.Ordering.TheVariants.{Less}
 use Rattle.std.specs.Cmp.{IsTotalOrder, bool_cmp_total}
 use Rattle.std.specs.Ordering.{ordering_then, bool_cmp}
 use Rattle.std.specs.List.Sorted.{IsStrictlySortedBy}
-use Rattle.std.proofs.lemmas.Cmp.{tied_itself, lists_total, nat_cmp_total, on_total, then_total}
+use Rattle.std.proofs.lemmas.Cmp.{tied_itself, on_total, then_total}
 use Rattle.std.proofs.lemmas.List.Kept.{IsStrictlySortedBy-filter}
 use Rattle.mp_term.specs.Tree.{Tree}
 use Rattle.mp_term.specs.Order.{tree_cmp, shortlex}
-use Rattle.mp_term.specs.OrderLaws.{tree_cmp_total, tree_same}
+use Rattle.mp_term.specs.OrderLaws.{tree_cmp_total, tree_same, shortlex_total}
 use Rattle.mp_term.specs.Signature.{Sig}
 use Rattle.mp_pattern.specs.PatternTree.{Pattern, symbol_pattern, app_pattern, wild_pattern, no_patterns, more_patterns}
 use Rattle.mp_pattern.specs.Size.{pattern_nodes, all_pattern_nodes}
@@ -24,11 +24,8 @@ use Rattle.mp_theory.proofs.SearchLaws.{ascending-flat, words-complete, words-so
 use Rattle.mp_theory.proofs.PiecesLaws.{pieces-ascending}
 
 -- the derivation order is total on entries
-pub shortlex_total : IsTotalOrder (shortlex tree_cmp)
-shortlex_total = then_total (on_total length nat_cmp_total) (lists_total tree_cmp_total)
-
 pub entry_cmp_total : IsTotalOrder entry_cmp
-entry_cmp_total = then_total (on_total (λ e. e.terms) shortlex_total) (on_total (λ e. e.collapsed) bool_cmp_total)
+entry_cmp_total = then_total (on_total (λ e. e.terms) (shortlex_total tree_cmp_total)) (on_total (λ e. e.collapsed) bool_cmp_total)
 
 -- the nodes and the uses of variables that are still to come
 abbrev nodes_in : List Frame → ℕ
@@ -129,7 +126,7 @@ module _ (sig : Sig) where
       (λ l m e. ((before l m false false e, (before l m false true e, tt)), ((before l m true false e, (before l m true true e, tt)), tt)))
     where
       marked : (l : List Tree) → entry_cmp (record { terms = l; collapsed = false }) (record { terms = l; collapsed = true }) ≡ Less
-      marked l = ap (λ o. ordering_then o (bool_cmp false true)) (tied_itself shortlex_total l)
+      marked l = ap (λ o. ordering_then o (bool_cmp false true)) (tied_itself (shortlex_total tree_cmp_total) l)
 
       before : (l m : List Tree) (b c : Bool) → shortlex tree_cmp l m ≡ Less → entry_cmp (record { terms = l; collapsed = b }) (record { terms = m; collapsed = c }) ≡ Less
       before l m b c e = ap (λ o. ordering_then o (bool_cmp b c)) e

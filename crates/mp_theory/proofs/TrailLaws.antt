@@ -3,11 +3,11 @@ use Rattle.std.proofs.Common.{◌≡◌, ℕ, zero, suc, List, [], ◌∷◌, �
 use Rattle.std.specs.Prelude.{Option, Some, None, ◌↔◌, if◌then◌else◌, filter, filter_map, flat_map, option_map, option_and_then}
 use Rattle.std.specs.List.{AllByRecursion, cons_option}
 use Rattle.std.proofs.lemmas.List.Elements.{filter_map-append}
+use Rattle.std.proofs.lemmas.Bool.{and_parts, and_from}
 use Rattle.mp_term.specs.Order.{tree_cmp}
 use Rattle.mp_term.specs.Tree.{Tree}
 use Rattle.mp_term.specs.Signature.{Sig}
 use Rattle.mp_term.specs.Normal.{IsNormal}
-use Rattle.mp_term.proofs.NormalTestLaws.{both, joined_tests}
 use Rattle.mp_pattern.specs.PatternTree.{Pattern}
 use Rattle.mp_pattern.specs.Size.{pattern_nodes}
 use Rattle.mp_pattern.specs.Value.{Subst}
@@ -156,7 +156,7 @@ module _ (sig : Sig) where
   choice-allowed refused e = (λ h. absurd h, λ h. cc)
   choice-allowed (child p f fs) e =
       let c = choices-exact sig p f fs e.terms e.collapsed in
-      (λ h. let k = c.0 h in joined_tests _ _ k.0 k.1, λ h. c.1 (both (is_piece tree_cmp (comm_above sig f.under) e.terms f.left) (reads sig p f.under e) h))
+      (λ h. let k = c.0 h in and_from _ _ k.0 k.1, λ h. c.1 (and_parts (is_piece tree_cmp (comm_above sig f.under) e.terms f.left) (reads sig p f.under e) h))
 
   -- a table has the shape exactly where the test passes
   pub shape-tested : (n : Next) (T : Table) → Accepts (choices sig) onward is_ended n T ↔ (has_shape sig n T ≡ true)
@@ -164,7 +164,7 @@ module _ (sig : Sig) where
   shape-tested n (e ∷ T) =
       let i = shape-tested (onward n e) T in
       let c = choice-allowed n e in
-      (λ h. joined_tests _ _ (c.0 h.0) (i.0 h.1), λ h. let k = both (allows sig n e) (has_shape sig (onward n e) T) h in (c.1 k.0, i.1 k.1))
+      (λ h. and_from _ _ (c.0 h.0) (i.0 h.1), λ h. let k = and_parts (allows sig n e) (has_shape sig (onward n e) T) h in (c.1 k.0, i.1 k.1))
 
   -- a table fits with one substitution at most, which the test finds
   pub fits-fitted : (p : Pattern) (t : Tree) (s : Subst) (T : Table) → IsSound sig p → IsNormal sig t → Fits sig p t s T ↔ (fitted sig p t T ≡ Some s)

@@ -8,6 +8,7 @@ use Rattle.mp_term.specs.Tree.{Tree}
 use Rattle.mp_term.specs.OrderLaws.{both_equal}
 use Rattle.mp_term.specs.Signature.{Sig}
 use Rattle.mp_term.specs.Normal.{IsNormal}
+use Rattle.mp_term.proofs.ListingLaws.{same_members, contains-from_in, in-from_contains}
 use Rattle.mp_pattern.specs.PatternTree.{Pattern}
 use Rattle.mp_pattern.specs.Value.{Subst}
 use Rattle.mp_pattern.specs.Fits.{Entry, Table}
@@ -17,9 +18,7 @@ use Rattle.mp_pattern.specs.Lists.{IsOneList}
 use Rattle.mp_theory.proofs.Merging.{same_terms-sound}
 use Rattle.mp_theory.specs.Search.{In}
 use Rattle.mp_theory.proofs.Tables.{entry_cmp_total}
-use Rattle.mp_theory.proofs.Bounds.{same_members}
 use Rattle.mp_theory.proofs.FitsSolves.{fits-solves}
-use Rattle.mp_theory.proofs.FirstsLaws.{contains-from_in, in-from_contains}
 
 -- entries and tables that compare equal are equal
 same_mark : (a b : Bool) → bool_cmp a b ≡ Equal → a ≡ b

@@ -9,6 +9,7 @@ use Rattle.mp_term.specs.Order.{tree_cmp}
 use Rattle.mp_term.specs.Sorting.{sorted}
 use Rattle.mp_term.specs.Signature.{Sig, is_assoc}
 use Rattle.mp_term.proofs.NormalSize.{all_nodes-append, all_nodes-sorted}
+use Rattle.mp_term.proofs.ListLaws.{all-append}
 use Rattle.mp_pattern.specs.PatternTree.{Wildcard, dot, kind, plus, star, optional, Pattern, symbol_pattern, app_pattern, wild_pattern, Patterns, no_patterns, more_patterns}
 use Rattle.mp_pattern.specs.Value.{Value, one, seq, bag, Subst, value_of, same_name}
 use Rattle.mp_pattern.specs.Variables.{Use, uses, all_uses, comm_above}
@@ -17,7 +18,6 @@ use Rattle.mp_pattern.specs.Limits.{DefaultIsSmall, DefaultsAreSmall, AllDefault
 use Rattle.mp_pattern.specs.Fits.{Table, joined, arranged, ByValue, WildTakes, TakesBy, AllTakeBy, Fits}
 use Rattle.mp_theory.specs.Search.{In}
 use Rattle.mp_theory.specs.ValueSizes.{HasAtMost, HaveAtMost}
-use Rattle.mp_theory.proofs.SearchLaws.{all-append}
 use Rattle.mp_theory.proofs.FirstsLaws.{from_in-firsts_after}
 use Rattle.mp_theory.proofs.Solving.{names, IsFound, found-IsSubstOf}
 use Rattle.mp_theory.proofs.Wildcards.{if_several-some}

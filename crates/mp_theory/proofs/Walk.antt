@@ -2,13 +2,14 @@
 use Rattle.std.proofs.Common.{◌≡◌, ℕ, List, [], ◌∷◌, Bool, true, false, ◌&&◌, not, refl, ap, sym, ◌∙◌, inl, inr, subst, eqb-true, eq-eqb, arith}
 use Rattle.std.specs.Prelude.{Option, Some, None, is_some, ◌↔◌, if◌then◌else◌, ⊤}
 use Rattle.std.specs.List.{AllByRecursion}
+use Rattle.std.proofs.lemmas.Bool.{and_parts, and_from}
 use Rattle.mp_term.specs.Order.{tree_cmp}
 use Rattle.mp_term.specs.OrderLaws.{tree_cmp_total, tree_same}
 use Rattle.mp_term.specs.Tree.{Tree, symbol, app, Trees, tree_list, trees, no_trees, more_trees}
 use Rattle.mp_term.specs.TreeLists.{trees-tree_list, tree_list-trees}
 use Rattle.mp_term.specs.Signature.{Sig, is_comm, is_one}
 use Rattle.mp_term.specs.NormalTest.{is_single, ascending, passes, all_pass}
-use Rattle.mp_term.proofs.NormalTestLaws.{both, joined_tests}
+use Rattle.mp_term.proofs.ListLaws.{all-append, all-split}
 use Rattle.mp_pattern.specs.PatternTree.{Wildcard, Pattern, symbol_pattern, app_pattern, wild_pattern, Patterns, no_patterns, more_patterns}
 use Rattle.mp_pattern.specs.Value.{Value, IsFinal, Subst, value_of}
 use Rattle.mp_pattern.specs.Variables.{comm_above, is_sequence}
@@ -23,7 +24,7 @@ use Rattle.mp_theory.specs.Search.{In, Accepts}
 use Rattle.mp_theory.specs.Pieces.{without, pieces, is_piece}
 use Rattle.mp_theory.specs.Sound.{Each, AllEach, DefaultNormal}
 use Rattle.mp_theory.specs.Machine.{entries, is_ended, entered, taken_out, onward, said, takes, reads, choices}
-use Rattle.mp_theory.proofs.SearchLaws.{in-flat, from_in-flat, in-filter, from_in-filter, all-append, from_all-append}
+use Rattle.mp_theory.proofs.SearchLaws.{in-flat, from_in-flat, in-filter, from_in-filter}
 use Rattle.mp_theory.proofs.PiecesLaws.{sublist-from_piece, length-without, all-piece, all-without, pieces-exact}
 use Rattle.mp_theory.proofs.Cuts.{put, piece-from_apart, apart-from_piece}
 use Rattle.mp_theory.proofs.Wildcards.{put-single, arguments-in_order, Gives, gives, takes-given, IsFine, given-final, refines-itself}
@@ -94,15 +95,15 @@ module _ (sig : Sig) where
     pub all_pass-each : (g : ℕ) (ts : Trees) → all_pass sig g ts ≡ true → AllByRecursion (λ t. passes sig t ≡ true) (tree_list ts) × AllByRecursion (λ t. is_alone sig (Some g) t ≡ true) (tree_list ts)
     all_pass-each g no_trees h = (tt, tt)
     all_pass-each g (more_trees t ts) h =
-        let k = both (passes sig t && is_alone sig (Some g) t) (all_pass sig g ts) h in
-        let m = both (passes sig t) (is_alone sig (Some g) t) k.0 in
+        let k = and_parts (passes sig t && is_alone sig (Some g) t) (all_pass sig g ts) h in
+        let m = and_parts (passes sig t) (is_alone sig (Some g) t) k.0 in
         let i = all_pass-each g ts k.1 in
         ((m.0, i.0), (m.1, i.1))
 
     -- the arguments of a term that passes are fine
     pub fine-arguments : (g : ℕ) (ts : Trees) → passes sig (app g ts) ≡ true → IsFine sig (Some g) (tree_list ts)
     fine-arguments g ts h =
-        let k = both (not (is_comm sig g && not (ascending (tree_list ts)))) (all_pass sig g ts) (both (not (is_one sig g && is_single (tree_list ts))) _ h).1 in
+        let k = and_parts (not (is_comm sig g && not (ascending (tree_list ts)))) (all_pass sig g ts) (and_parts (not (is_one sig g && is_single (tree_list ts))) _ h).1 in
         let i = all_pass-each g ts k.1 in
         record { pass = i.0; alone = λ _. i.1; in_order = arguments-in_order sig g ts h }
 
@@ -166,7 +167,7 @@ module _ (sig : Sig) where
         (without tree_cmp l f.left, piece-cut line f.under f.left l h.1.0.in_order i, (wild_takes w x f fs (entry l false) h.0 (fine-piece Q f.under l f.left i h.1.0) r o, refl, at_run line (taken_out (wild_pattern w x) (entry l false) f ∷ fs) T k))
     step-walked (app_pattern g ps) f fs [] true T h i r o k = cc
     step-walked (app_pattern g ps) f fs (t ∷ []) true T h i r o k =
-        let b = both (is_one sig g) (no_sequence ps) r in (
+        let b = and_parts (is_one sig g) (no_sequence ps) r in (
           without tree_cmp (t ∷ []) f.left,
           piece-cut line f.under f.left (t ∷ []) h.1.0.in_order i,
           inr (t, refl, b.0, b.1, at_run line (entered (app_pattern g ps) (entry (t ∷ []) true) (taken_out (app_pattern g ps) (entry (t ∷ []) true) f ∷ fs)) T k),
@@ -195,7 +196,7 @@ module _ (sig : Sig) where
     walked refused (e ∷ T) h a o = absurd a.0
     walked (child p f fs) (e ∷ T) h a o =
         let c = (choices-exact p f fs e.terms e.collapsed).0 a.0 in
-        let os = from_all-append P (said (child p f fs) e) (takes (onward (child p f fs) e) T) o in
+        let os = all-split P (said (child p f fs) e) (takes (onward (child p f fs) e) T) o in
         step-walked p f fs e.terms e.collapsed T h c.0 c.1 os.0 (walked (onward (child p f fs) e) T (sound-onward Q p f fs e.terms e.collapsed h c.0 c.1) a.1 os.1)
 
   module _ (s : Subst) where
@@ -251,7 +252,7 @@ module _ (sig : Sig) where
         → IsChosen (child (app_pattern g ps) f fs) (entry (t ∷ []) true) T
     chosen-collapsed g ps f fs rest t T h cut one plain k =
         let c = cut-piece Values f.under f.left (t ∷ []) rest cut (put-single (comm_above sig f.under) t) in
-        chosen (app_pattern g ps) f fs (entry (t ∷ []) true) T (entered (app_pattern g ps) (entry (t ∷ []) true) (taken_out (app_pattern g ps) (entry (t ∷ []) true) f ∷ fs)) h c.0 (joined_tests _ _ one plain) tt refl
+        chosen (app_pattern g ps) f fs (entry (t ∷ []) true) T (entered (app_pattern g ps) (entry (t ∷ []) true) (taken_out (app_pattern g ps) (entry (t ∷ []) true) f ∷ fs)) h c.0 (and_from _ _ one plain) tt refl
         (subst (λ m. Run sig Values (record { under = Some g; children = ps; left = t ∷ []; owes = true } ∷ record { under = f.under; children = f.children; left = m; owes = f.owes && not false } ∷ fs) T) c.1 k)
 
     module _ (finals : (x : List ℕ) (v : Value) → value_of s x ≡ Some v → IsFinal sig v) where
@@ -270,7 +271,7 @@ module _ (sig : Sig) where
       chosen-wild w x f fs e rest T v h cut has takes mark k =
           let g = gives sig f.under w v e.terms (held-final x v has) takes in
           let c = cut-piece Values f.under f.left e.terms rest cut g.in_order in
-          chosen (wild_pattern w x) f fs e T (taken_out (wild_pattern w x) e f ∷ fs) h c.0 (joined_tests _ _ (ap not mark) (ap is_some g.is)) (wild-obeys w x f fs e v h.0 has g) refl
+          chosen (wild_pattern w x) f fs e T (taken_out (wild_pattern w x) e f ∷ fs) h c.0 (and_from _ _ (ap not mark) (ap is_some g.is)) (wild-obeys w x f fs e v h.0 has g) refl
           (subst (λ m. Run sig Values (record { under = f.under; children = f.children; left = m; owes = f.owes && not (is_left_out (wild_pattern w x) e.terms) } ∷ fs) T) c.1 k)
 
       step-chosen : (n : Next) (e : Entry) (T : Table) → IsSoundAt FormHolds n → RunAt Values n (e ∷ T) → IsChosen n e T

@@ -2,6 +2,8 @@
 use Rattle.std.proofs.Common.{◌≡◌, ℕ, ◌≤◌, List, [], ◌∷◌, Bool, true, false, ◌&&◌, not, refl, ap, sym, ◌∙◌, subst, length, ◌⊎◌, inl, inr, eqb-true, eq-eqb, arith}
 use Rattle.std.specs.Prelude.{Option, Some, None, if◌then◌else◌, nat_eq}
 use Rattle.std.specs.List.{AllByRecursion}
+use Rattle.std.proofs.lemmas.Bool.{and_parts, and_from, not-true, not-false}
+use Rattle.std.proofs.Math.Bool.{and-false}
 use Rattle.mp_term.specs.Tree.{Tree, symbol, app, Trees, tree_list, trees}
 use Rattle.mp_term.specs.Order.{tree_cmp}
 use Rattle.mp_term.specs.Sorting.{sorted}
@@ -10,7 +12,7 @@ use Rattle.mp_term.specs.Signature.{Sig, is_assoc, is_comm, is_one, in_kind}
 use Rattle.mp_term.specs.Normal.{IsNormal}
 use Rattle.mp_term.specs.NormalTest.{has_head, ascending, passes, all_pass}
 use Rattle.mp_term.proofs.Sorting.{ascends-sorted}
-use Rattle.mp_term.proofs.NormalTestLaws.{both, joined_tests, normal-passes, passes-normal, sorted-ascending, ascending-from, and_false, not_false, not_not}
+use Rattle.mp_term.proofs.NormalTestLaws.{normal-passes, passes-normal, sorted-ascending, ascending-from}
 use Rattle.mp_term.specs.OrderLaws.{tree_cmp_total}
 use Rattle.mp_pattern.specs.PatternTree.{Wildcard, dot, kind, plus, star, optional}
 use Rattle.mp_pattern.specs.Value.{Value, one, seq, bag, IsFinal}
@@ -47,9 +49,9 @@ module _ (sig : Sig) where
   -- the arguments of a term that passes are in order
   pub arguments-in_order : (g : ℕ) (ts : Trees) → passes sig (app g ts) ≡ true → put (is_comm sig g) (tree_list ts) ≡ tree_list ts
   arguments-in_order g ts h =
-      let k = both (not (is_comm sig g && not (ascending (tree_list ts)))) (all_pass sig g ts) (both _ _ h).1 in
+      let k = and_parts (not (is_comm sig g && not (ascending (tree_list ts)))) (all_pass sig g ts) (and_parts _ _ h).1 in
       elim (is_comm sig g) as (λ b. not (b && not (ascending (tree_list ts))) ≡ true → put b (tree_list ts) ≡ tree_list ts) [
-        | true ↦ λ e. sorted-ascending (tree_list ts) (not_not _ (not_false _ e))
+        | true ↦ λ e. sorted-ascending (tree_list ts) (not-false _ (not-true _ e))
         | false ↦ λ e. refl
       ] k.0
 
@@ -141,7 +143,7 @@ module _ (sig : Sig) where
   alone-contributes : (g : ℕ) (t : Tree) → is_alone sig (Some g) t ≡ true → contribution sig (Some g) t ≡ Some (t ∷ [])
   alone-contributes g t h =
       elim (is_assoc sig g) as (λ b. not (b && has_head g t) ≡ true → (if b then spread g t else Some (t ∷ [])) ≡ Some (t ∷ [])) [
-        | true ↦ λ e. spread_alone t (not_false _ e)
+        | true ↦ λ e. spread_alone t (not-true _ e)
         | false ↦ λ e. refl
       ] h
     where
@@ -227,14 +229,14 @@ module _ (sig : Sig) where
 
   all_pass-from : (g : ℕ) (ts : List Tree) → AllByRecursion (λ t. passes sig t ≡ true) ts → AllByRecursion (λ t. is_alone sig (Some g) t ≡ true) ts → all_pass sig g (trees ts) ≡ true
   all_pass-from g [] h k = refl
-  all_pass-from g (t ∷ ts) h k = joined_tests _ _ (joined_tests _ _ h.0 k.0) (all_pass-from g ts h.1 k.1)
+  all_pass-from g (t ∷ ts) h k = and_from _ _ (and_from _ _ h.0 k.0) (all_pass-from g ts h.1 k.1)
 
   -- several such terms make up a normal term
   several-normal : (g : ℕ) (t u : Tree) (ts : List Tree) → IsFine (Some g) (t ∷ u ∷ ts) → IsNormal sig (app g (trees (t ∷ u ∷ ts)))
   several-normal g t u ts h =
       let order : not (is_comm sig g && not (ascending (t ∷ u ∷ ts))) ≡ true = ordered (is_comm sig g) h.in_order in
       let all : all_pass sig g (trees (t ∷ u ∷ ts)) ≡ true = all_pass-from g (t ∷ u ∷ ts) h.pass (h.alone (omega arith)) in
-      normal-passes sig (app g (trees (t ∷ u ∷ ts))) (rw (and_false (is_one sig g), tree_list-trees ts) (joined_tests _ _ order all))
+      normal-passes sig (app g (trees (t ∷ u ∷ ts))) (rw (and-false (is_one sig g), tree_list-trees ts) (and_from _ _ order all))
     where
       ordered : (b : Bool) → put b (t ∷ u ∷ ts) ≡ t ∷ u ∷ ts → not (b && not (ascending (t ∷ u ∷ ts))) ≡ true
       ordered true e = ap (λ b. not (true && not b)) (subst (λ m. ascending m ≡ true) e (ascending-from (sorted tree_cmp (t ∷ u ∷ ts)) (ascends-sorted tree_cmp tree_cmp_total (t ∷ u ∷ ts))))

@@ -1,9 +1,9 @@
 use Rattle.std.proofs.Common.{ap, sym, ◌∙◌}
 use Rattle.std.specs.Ordering.{is_eq}
+use Rattle.std.specs.Cmp.Derive.Mapped.{lex_map}
 use Rattle.mp_term.specs.View.{tree}
 use Rattle.mp_term.specs.Order.{tree_cmp}
-use Rattle.mp_one.proofs.ListLaws.{slice_cmp-map}
 use Rattle.mp_one.proofs.terms.same_references.Goals as goal
 
 pub returns : goal.returns
-returns c = c.is_eq.ensures ∙ ap is_eq c.cmp.ensures ∙ ap is_eq (sym (slice_cmp-map tree_cmp (λ t. tree t.now) c.args.terms.now c.args.others.now))
+returns c = c.is_eq.ensures ∙ ap is_eq c.cmp.ensures ∙ ap is_eq (sym (lex_map (λ t. tree t.now) tree_cmp c.args.terms.now c.args.others.now))

@@ -7,7 +7,7 @@ use Rattle.mp_pattern.specs.CondSize.{cond_list_nodes}
 use Rattle.mp_pattern.specs.CondView.{cond_tree}
 use Rattle.mp_print.specs.Printing.{gap_text}
 use Rattle.mp_print.specs.PrintedCond.{part_text, cond_text}
-use Rattle.mp_print.proofs.Loops.{drop-item}
+use Rattle.mp_term.proofs.ListLaws.{drop-item}
 use Rattle.mp_print.proofs.Separated.{remaining-here}
 use Rattle.mp_print.proofs.CondTexts.{part_texts-conds, part_text-loose}
 use Rattle.mp_print.proofs.cond_printer.+write_cond.Goals as goal

@@ -8,7 +8,7 @@ use Rattle.mp_pattern.specs.View.{pattern_tree}
 use Rattle.mp_pattern.specs.Size.{pattern_nodes, list_nodes}
 use Rattle.mp_print.specs.PrintedPattern.{pattern_text}
 use Rattle.mp_print.specs.Printing.{bracketed, separated, gap_text}
-use Rattle.mp_print.proofs.Loops.{drop-item}
+use Rattle.mp_term.proofs.ListLaws.{drop-item}
 use Rattle.mp_print.proofs.Separated.{remaining-here}
 use Rattle.mp_print.proofs.PatternSize.{pattern_nodes-element, pattern_text-app}
 use Rattle.mp_print.proofs.pattern_printer.+write_pattern.Goals as goal

@@ -8,7 +8,7 @@ use Rattle.mp_term.specs.View.{tree}
 use Rattle.mp_term.specs.Size.{node_count, all_nodes}
 use Rattle.mp_term.proofs.SizeLaws.{node_count-element}
 use Rattle.mp_print.specs.Printing.{term_text, bracketed, separated, gap_text}
-use Rattle.mp_print.proofs.Loops.{drop-item}
+use Rattle.mp_term.proofs.ListLaws.{drop-item}
 use Rattle.mp_print.proofs.Separated.{remaining-here, term_text-app}
 use Rattle.mp_print.proofs.printer.+write_term.Goals as goal
 

@@ -4,7 +4,7 @@ use Rattle.std.proofs.lemmas.Result.{err_from_is_err_and}
 use Rattle.mp_io.proofs.Written.{prints_part_cut, part_written}
 use Rattle.mp_subst.specs.View.{binding_of}
 use Rattle.mp_print.specs.Printing.{binding_text, gap_text}
-use Rattle.mp_print.proofs.Loops.{drop-item}
+use Rattle.mp_term.proofs.ListLaws.{drop-item}
 use Rattle.mp_print.proofs.Separated.{remaining-here}
 use Rattle.mp_print.proofs.subst_printer.write_bindings.Goals as goal
 

@@ -11,10 +11,10 @@ returns-in-One-One-clause-equal c =
 
 pub returns-in-Seq-Seq-clause-equal : goal.returns-in-Seq-Seq-clause-equal
 returns-in-Seq-Seq-clause-equal c =
-    let order : c.compare_terms.result ≡ shortlex tree_cmp c.in-Seq-Seq.terms c.in-Seq-Seq.others = cc in
-    rw (c.in-Seq-Seq.is-0, c.in-Seq-Seq.is-1) (equal-value_cmp (seq c.in-Seq-Seq.terms) (seq c.in-Seq-Seq.others) c.compare_terms.result order)
+    let order : c.compare_all.result ≡ shortlex tree_cmp c.in-Seq-Seq.terms c.in-Seq-Seq.others = cc in
+    rw (c.in-Seq-Seq.is-0, c.in-Seq-Seq.is-1) (equal-value_cmp (seq c.in-Seq-Seq.terms) (seq c.in-Seq-Seq.others) c.compare_all.result order)
 
 pub returns-in-Bag-Bag-clause-equal : goal.returns-in-Bag-Bag-clause-equal
 returns-in-Bag-Bag-clause-equal c =
-    let order : c.compare_terms-in-Bag-Bag.result ≡ shortlex tree_cmp c.in-Bag-Bag.terms c.in-Bag-Bag.others = cc in
-    rw (c.in-Bag-Bag.is-0, c.in-Bag-Bag.is-1) (equal-value_cmp (bag c.in-Bag-Bag.terms) (bag c.in-Bag-Bag.others) c.compare_terms-in-Bag-Bag.result order)
+    let order : c.compare_all-in-Bag-Bag.result ≡ shortlex tree_cmp c.in-Bag-Bag.terms c.in-Bag-Bag.others = cc in
+    rw (c.in-Bag-Bag.is-0, c.in-Bag-Bag.is-1) (equal-value_cmp (bag c.in-Bag-Bag.terms) (bag c.in-Bag-Bag.others) c.compare_all-in-Bag-Bag.result order)

@@ -11,7 +11,7 @@ use Rattle.mp_text.specs.Checks.{nodes, all_nodes, op_signed, sign_faults, patte
 use Rattle.mp_text.specs.Build.{head_number, sign_number, pattern_of}
 use Rattle.mp_pattern.specs.PatternTree as pattern
 use Rattle.mp_text.proofs.Applied.{nodes-Apply, nodes-Infix, nodes-item, pattern_wildcards-Apply}
-use Rattle.mp_print.proofs.Loops.{drop-item}
+use Rattle.mp_term.proofs.ListLaws.{drop-item}
 use Rattle.mp_text.proofs.Fails.{fails-front, fails-behind, fails-along, none-append}
 use Rattle.mp_text.proofs.Words.{is_name-IsName}
 use Rattle.mp_text.proofs.Built.{HaveNames-Apply, HaveNames-Infix, none-unknown, pattern_of-Apply, pattern_faults-Apply, pattern_of-operands, pattern_faults-operands, pattern_operand_faults-known}

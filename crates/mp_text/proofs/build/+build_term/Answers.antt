@@ -9,7 +9,7 @@ use Rattle.mp_text.specs.Checks.{nodes, all_nodes, op_signed, sign_faults, term_
 use Rattle.mp_text.specs.Build.{head_number, sign_number, term_of}
 use Rattle.mp_term.specs.Tree as term
 use Rattle.mp_text.proofs.Applied.{nodes-Apply, nodes-Infix, nodes-item}
-use Rattle.mp_print.proofs.Loops.{drop-item}
+use Rattle.mp_term.proofs.ListLaws.{drop-item}
 use Rattle.mp_text.proofs.Fails.{fails-front, fails-behind, fails-along, none-append}
 use Rattle.mp_text.proofs.Words.{is_name-IsName}
 use Rattle.mp_text.proofs.Built.{HaveNames-Apply, HaveNames-Infix, none-unknown, term_of-Apply, term_faults-Apply, term_of-operands, term_faults-operands, term_operand_faults-known}

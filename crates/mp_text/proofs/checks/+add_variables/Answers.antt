@@ -1,10 +1,10 @@
 use Rattle.std.proofs.Common.{◌≡◌, ◌+◌, map, arith}
+use Rattle.mp_pattern.proofs.PlanLaws.{firsts_after-append}
 use Rattle.mp_syntax.specs.Syntax.{trees}
 use Rattle.mp_syntax.specs.View.{expr_tree}
 use Rattle.mp_text.specs.Checks.{nodes, all_nodes}
 use Rattle.mp_text.proofs.Applied.{nodes-Apply, nodes-Infix, nodes-item, wildcard_names-Apply, wildcard_names-Infix}
-use Rattle.mp_text.proofs.Variables.{firsts_after-append}
-use Rattle.mp_print.proofs.Loops.{drop-item}
+use Rattle.mp_term.proofs.ListLaws.{drop-item}
 use Rattle.mp_text.proofs.checks.+add_variables.Goals as goal
 
 pub add_all_variables-add_variables-requires : goal.add_all_variables-add_variables-requires

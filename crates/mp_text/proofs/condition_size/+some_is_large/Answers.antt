@@ -7,7 +7,7 @@ use Rattle.mp_syntax.specs.Syntax.{condition}
 use Rattle.mp_syntax.specs.View.{alternative_tree}
 use Rattle.mp_text.specs.Conditions.{literals_atoms, atoms}
 use Rattle.mp_text.specs.ConditionChecks.{has_large_operand}
-use Rattle.mp_print.proofs.Loops.{drop-item}
+use Rattle.mp_term.proofs.ListLaws.{drop-item}
 use Rattle.mp_text.proofs.ConditionTrees.{condition_tree-slice}
 use Rattle.mp_text.proofs.condition_size.+some_is_large.Goals as goal
 

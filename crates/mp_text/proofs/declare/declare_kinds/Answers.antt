@@ -2,7 +2,7 @@ use Rattle.std.proofs.Common.{map, take, arith, sym, ap, ◌∙◌}
 use Rattle.std.proofs.lemmas.Result.{err_from_is_err_and}
 use Rattle.mp_syntax.specs.View.{statement_tree}
 use Rattle.mp_text.specs.Checks.{kind_statement_faults, faults_by}
-use Rattle.mp_print.proofs.Loops.{drop-item}
+use Rattle.mp_term.proofs.ListLaws.{drop-item}
 use Rattle.mp_text.proofs.Fails.{fails-front, fails-along}
 use Rattle.mp_text.proofs.declare.declare_kinds.Goals as goal
 

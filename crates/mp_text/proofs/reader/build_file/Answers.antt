@@ -4,7 +4,7 @@ use Rattle.mp_syntax.specs.View.{statement_tree}
 use Rattle.mp_text.specs.Build.{sig_of}
 use Rattle.mp_text.specs.Checks.{faults_by}
 use Rattle.mp_text.specs.FileChecks.{statement_faults}
-use Rattle.mp_print.proofs.Loops.{drop-item}
+use Rattle.mp_term.proofs.ListLaws.{drop-item}
 use Rattle.mp_text.proofs.Fails.{fails-front, fails-behind, fails-along}
 use Rattle.mp_text.proofs.reader.build_file.Goals as goal
 

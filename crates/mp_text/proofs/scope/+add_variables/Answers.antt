@@ -4,7 +4,7 @@ use Rattle.mp_syntax.specs.Syntax.{trees}
 use Rattle.mp_syntax.specs.View.{expr_tree}
 use Rattle.mp_text.specs.Checks.{nodes, all_nodes}
 use Rattle.mp_text.proofs.Applied.{nodes-Apply, nodes-Infix, nodes-item, wildcards-Apply, wildcards-Infix}
-use Rattle.mp_print.proofs.Loops.{drop-item}
+use Rattle.mp_term.proofs.ListLaws.{drop-item}
 use Rattle.mp_text.proofs.scope.+add_variables.Goals as goal
 
 pub add_all_variables-add_variables-requires : goal.add_all_variables-add_variables-requires
