@@ -171,6 +171,94 @@ zero ordered {a -> 0, b -> x}&\
 sum either {all -> ((a + b))}&\
 numbers either {all -> (3, 7)}";
 
+// A rule on single terms, tuples and multisets, and its subject: what stands before the condition, and behind it.
+const CONDITIONED: [&str; 2] = [
+    "op h 10; op l 0+; op s 0+ comm; op f 2; op g 1; kind v: a b; kind w: c; \
+    rule r: h(x_, n_, t_, l(y__), l(p__), l(q__), l(e___), s(m__), s(z__), s(o___)) if ",
+    "; subject s: h(a, 7, f(g(a), b), l(a), l(b, a), l(f(a, b), g(b)), l(), s(a), s(a, b), s());",
+];
+
+// Conditions of that rule and, behind `|`, the status: 0 where they hold of {x -> a, n -> 7, t -> f(g(a), b), y -> (a), p -> (b, a),
+// q -> (f(a, b), g(b)), e -> (), m -> {a}, z -> {a, b}, o -> {}}, and 1 where they don't.
+const CONDITIONS: &str = "\
+same($x, a)|0\n\
+same($y, a)|0\n\
+same($m, a)|0\n\
+same($x, b)|1\n\
+same($p, a)|1\n\
+same($p, $z)|0\n\
+same($z, $p)|0\n\
+same($z, $m)|1\n\
+same($e, $o)|0\n\
+same($e, $y)|1\n\
+less($x, b)|0\n\
+less(b, $x)|1\n\
+less(a, $x)|1\n\
+less(b, $t)|0\n\
+free(a, $t)|1\n\
+free(b, $t)|1\n\
+free(g(a), $t)|1\n\
+free(g(b), $t)|0\n\
+free(f(g(a), b), $t)|1\n\
+free($t, g(a))|0\n\
+free($p, g(b))|1\n\
+free(a, $q)|1\n\
+free($y, g(b))|0\n\
+free($e, a)|0\n\
+free(a, $o)|0\n\
+kind($n, num)|0\n\
+kind($e, num)|0\n\
+kind($x, num)|1\n\
+kind($z, v)|0\n\
+kind(c, v)|1\n\
+kind(g(a), v)|1\n\
+kind($o, w)|0\n\
+kind(a, w)|1\n\
+head($t, f)|0\n\
+head($q, f)|1\n\
+head($x, f)|1\n\
+head(g(b), g)|0\n\
+head($e, g)|0\n\
+head($t, g)|1\n\
+count($x) == 1 and size($x) == 1|0\n\
+count($t) == 1 and size($t) == 4|0\n\
+count(g(g(a))) == 1 and size(g(g(a))) == 3|0\n\
+count($q) == 2 and size($q) == 5|0\n\
+count($z) == 2 and size($z) == 2|0\n\
+count($e) == 0 and size($e) == 0|0\n\
+1 < 2|0\n\
+2 < 2|1\n\
+3 < 2|1\n\
+1 <= 2|0\n\
+2 <= 2|0\n\
+3 <= 2|1\n\
+1 > 2|1\n\
+2 > 2|1\n\
+3 > 2|0\n\
+1 >= 2|1\n\
+2 >= 2|0\n\
+3 >= 2|0\n\
+1 == 2|1\n\
+2 == 2|0\n\
+3 == 2|1\n\
+1 != 2|0\n\
+2 != 2|1\n\
+3 != 2|0\n\
+0 == 1 and 0 == 1|1\n\
+0 == 1 or 0 == 1|1\n\
+0 == 1 and 1 == 1|1\n\
+0 == 1 or 1 == 1|0\n\
+1 == 1 and 0 == 1|1\n\
+1 == 1 or 0 == 1|0\n\
+1 == 1 and 1 == 1|0\n\
+1 == 1 or 1 == 1|0\n\
+not 0 == 1|0\n\
+not 1 == 1|1\n\
+not [0 == 1 or 1 == 1]|1\n\
+[0 == 1 or 1 == 1] and not [1 == 1 and 0 == 1]|0\n\
+1 == 1 or 1 == 1 and 0 == 1|0\n\
+[1 == 1 or 1 == 1] and 0 == 1|1";
+
 // Which calls fail: of the shelf, of the sink for lines, and of the sink for errors. Numbers from 0.
 #[derive(Clone, Copy)]
 struct Fails<'a> {
@@ -249,6 +337,28 @@ fn each_match_is_printed_once_in_order(rt: HostRuntime) -> Result<(), Fail> {
         for case in table.split('\n') {
             assert!(rt; is_matched(&rt, case)?, "{case}");
         }
+    }
+    Ok(())
+}
+
+// Whether the run over the rule with the condition has the status behind it.
+fn has_status(rt: &HostRuntime, case: &str) -> Result<bool, Fail> {
+    let Some((condition, wanted)) = case.split_once('|') else {
+        return Err("no case".into());
+    };
+    let [before, behind] = CONDITIONED;
+    let file = format!(in rt.alloc(); "{before}{condition}{behind}")?;
+    match ran(rt, &["match", "t"], file.as_bytes(), &NONE)? {
+        (0, _, _) => Ok(wanted == "0"),
+        (1, _, _) => Ok(wanted == "1"),
+        _ => Err("a fault".into()),
+    }
+}
+
+#[test]
+fn rules_match_where_their_conditions_hold(rt: HostRuntime) -> Result<(), Fail> {
+    for case in CONDITIONS.split('\n') {
+        assert!(rt; has_status(&rt, case)?, "{case}");
     }
     Ok(())
 }

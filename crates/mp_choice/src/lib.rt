@@ -6,8 +6,6 @@ mod room;
 mod splits;
 mod stage;
 mod sub_bags;
-#[cfg(test)]
-mod tests;
 
 pub use laws::{
     list_of_splits_is_unique, list_of_sub_bags_is_unique, steps_give_the_items_in_turn,

@@ -13,6 +13,3 @@ pub use memory_shelf::MemoryShelf;
 pub use memory_sink::MemorySink;
 pub use real::{RealShelf, RealSink};
 pub use whole::{ReadFault, put, put_all, read_whole};
-
-#[cfg(test)]
-mod tests;

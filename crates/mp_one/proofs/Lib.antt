@@ -2,6 +2,7 @@ pub mod ListLaws
 pub mod PieceSteps
 pub mod SameLaws
 pub mod BindLaws
+pub mod BoundLaws
 pub mod ChoiceLaws
 pub mod LengthLaws
 pub mod WalkLaws

@@ -14,12 +14,10 @@ use Rattle.mp_pattern.specs.Admission.{Rule, meets}
 use Rattle.mp_pattern.specs.Firsts.{firsts_after}
 use Rattle.mp_theory.specs.Frames.{Frame, Next, ended, refused, child, is_done, settle, start}
 use Rattle.mp_theory.specs.Machine.{onward, entered, taken_out}
-use Rattle.mp_theory.specs.Within.{choices_within}
-use Rattle.mp_theory.specs.Trail.{derivations, derivations_by}
+use Rattle.mp_theory.specs.Trail.{derivations}
 use Rattle.mp_theory.specs.OneList.{Item, same_item, item_list}
 use Rattle.mp_theory.proofs.FirstsLaws.{Distinct, distinct-filter, firsts_after-distinct}
 use Rattle.mp_theory.proofs.TrailLaws.{item_list-by_derivations}
-use Rattle.mp_theory.proofs.Pruning.{derivations-within}
 use Rattle.mp_one.specs.Stack.{nodes_below, entries_left}
 use Rattle.mp_one.specs.Found.{collected}
 use Rattle.mp_one.proofs.FoundLaws.{collected-none, collected-append}
@@ -68,10 +66,10 @@ module _ (sig : Sig) where
   derivations-refused (suc k) T s = refl
 
   -- a child is next
-  pub derivations-child : (fs : List Frame) (T : Table) (s : Subst) (p : Pattern) (f : Frame) (gs : List Frame) → settle fs ≡ child p f gs → derivations sig (entries_left fs) (settle fs) T s ≡ flat_map (derivations_by sig (nodes_below p + (all_pattern_nodes f.children + entries_left gs)) (child p f gs) T s) (choices_within sig (child p f gs))
+  pub derivations-child : (fs : List Frame) (T : Table) (s : Subst) (p : Pattern) (f : Frame) (gs : List Frame) → settle fs ≡ child p f gs → derivations sig (entries_left fs) (settle fs) T s ≡ derivations sig (suc (nodes_below p + (all_pattern_nodes f.children + entries_left gs))) (child p f gs) T s
   derivations-child fs T s p f gs e =
       let k : entries_left fs ≡ suc (nodes_below p + (all_pattern_nodes f.children + entries_left gs)) = subst (Comes fs) e (comes fs) in
-      ap (λ n. derivations sig (entries_left fs) n T s) e ∙ ap (λ n. derivations sig n (child p f gs) T s) k ∙ derivations-within sig (nodes_below p + (all_pattern_nodes f.children + entries_left gs)) (child p f gs) T s
+      ap (λ n. derivations sig (entries_left fs) n T s) e ∙ ap (λ n. derivations sig n (child p f gs) T s) k
 
   -- behind an entry
   pub derivations-onward : (p : Pattern) (f : Frame) (gs hs : List Frame) (e : Entry) (T : Table) (s : Subst) → hs ≡ entered p e (taken_out p e f ∷ gs) → derivations sig (entries_left hs) (settle hs) T s ≡ derivations sig (nodes_below p + (all_pattern_nodes f.children + entries_left gs)) (onward (child p f gs) e) T s

@@ -4,6 +4,7 @@ pub mod Stack
 pub mod Path
 pub mod Held
 pub mod Trail
+pub mod Bound
 pub mod Items
 pub mod ItemCode
 pub mod Found

@@ -10,14 +10,12 @@ ghost use Rattle.mp_pattern.specs.Fits.{Fits};
 ghost use Rattle.mp_theory.specs.Sound.{IsSound};
 ghost use Rattle.mp_theory.specs.Frames as walk;
 ghost use Rattle.mp_theory.specs.Machine as machine;
-ghost use Rattle.mp_theory.specs.Trail as trails;
 ghost use Rattle.mp_one.specs.Stack.{frame_of, stack_frames, child_of, entry_of};
 ghost use Rattle.mp_one.specs.Trail.{trail_of};
 ghost use Rattle.mp_one.specs.Check.{goes_on};
 
 use crate::bind::{Bound, Extended, extend};
-use crate::lines::{comm_above, reads};
-use crate::pieces::is_piece;
+use crate::choices::allows;
 use crate::plan_pattern::pattern_of;
 use crate::stack::{self, Frame, Next, Place, Stack, entered, root_frame, settle, taken_out};
 use crate::terms::references;
@@ -33,14 +31,6 @@ fn borrowed(alloc: Global, entry: &Entry) -> Result<stack::Entry<'_>, Memory>
         terms: references(alloc, entry.terms.as_slice())?,
         collapsed: entry.collapsed,
     })
-}
-
-// Whether the entry may stand next.
-fn allows(sig: &Signature, place: &Place<'_>, entry: &stack::Entry<'_>) -> bool
-    ensures { result ≡ trails.allows sig.now (child_of place.now) (entry_of entry.now) }
-{
-    is_piece(comm_above(sig, place.under), &entry.terms, place.left)
-        && reads(sig, place.child, place.under, &entry.terms, entry.collapsed)
 }
 
 // Whether the walk has come to its end.

@@ -1,13 +1,17 @@
 // The entries that may stand next and lead on.
-ghost use Rattle.std.specs.Prelude.{◌≡◌, ◌++◌, ◌∷◌, [], map, filter, OnOk, IfOk};
+ghost use Rattle.std.specs.Prelude.{◌≡◌, ◌++◌, ◌∷◌, [], false, map, filter, OnOk, IfOk};
 ghost use Rattle.mp_theory.specs.Machine as machine;
 ghost use Rattle.mp_theory.specs.Within as within;
+ghost use Rattle.mp_theory.specs.Trail as trails;
 ghost use Rattle.mp_one.specs.Lists.{trees_of, lists_of};
 ghost use Rattle.mp_one.specs.Stack.{child_of, entry_of, reads_at};
+ghost use Rattle.mp_one.specs.Trail.{trail_of};
 
+use crate::bind::Bound;
+use crate::bound::{Only, only_list};
 use crate::lengths::{fewest, too_many};
 use crate::lines::{comm_above, reads};
-use crate::pieces::pieces_between;
+use crate::pieces::{is_piece, pieces_between};
 use crate::stack::{Entry, Place};
 use crate::terms::{copied, push};
 use mp_term::{Memory, Signature, Term};
@@ -55,8 +59,8 @@ fn pieces<'a>(
     Ok(found)
 }
 
-/// The entries that may stand next and leave the later children what they can take, ascending.
-pub fn choices<'a>(
+// The entries that may stand next and leave the later children what they can take, ascending.
+fn open_choices<'a>(
     alloc: Global,
     sig: &Signature,
     place: &Place<'a>,
@@ -69,4 +73,51 @@ pub fn choices<'a>(
         push_entry(alloc, sig, place, piece, true, &mut found)?;
     }
     Ok(found)
+}
+
+/// Whether the entry may stand next.
+pub fn allows(sig: &Signature, place: &Place<'_>, entry: &Entry<'_>) -> bool
+    ensures { result ≡ trails.allows sig.now (child_of place.now) (entry_of entry.now) }
+{
+    is_piece(comm_above(sig, place.under), &entry.terms, place.left)
+        && reads(sig, place.child, place.under, &entry.terms, entry.collapsed)
+}
+
+// The entry with the list, if it may stand next.
+fn only_choice<'a>(
+    alloc: Global,
+    sig: &Signature,
+    place: &Place<'a>,
+    terms: Vec<&'a Term>,
+) -> Result<Vec<Entry<'a>>, Memory>
+    ensures { IfOk result (λ v. map entry_of v.items ≡ filter (trails.allows sig.now (child_of place.now)) (record { terms = trees_of terms.entry.items; collapsed = false } ∷ [])) }
+{
+    let mut found = Vec::new(alloc);
+    let entry = Entry {
+        terms,
+        collapsed: false,
+    };
+    if allows(sig, place, &entry) {
+        push(&mut found, entry)?;
+    }
+    Ok(found)
+}
+
+/// Entries that may stand next and lead to all that comes, ascending.
+pub fn choices<'a>(
+    alloc: Global,
+    sig: &Signature,
+    place: &Place<'a>,
+    trail: &[Bound<'a>],
+) -> Result<Vec<Entry<'a>>, Memory>
+    ensures { IfOk result (λ v. trails.LeadOn sig.now (child_of place.now) (trail_of trail.now) (map entry_of v.items)) }
+{
+    match only_list(alloc, sig, place, trail)? {
+        Only::Open => {
+            let all = open_choices(alloc, sig, place)?;
+            Ok(all)
+        }
+        Only::Nothing => Ok(Vec::new(alloc)),
+        Only::Terms(terms) => only_choice(alloc, sig, place, terms),
+    }
 }

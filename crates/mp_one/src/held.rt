@@ -46,8 +46,8 @@ pub fn copy_held<'a>(alloc: Global, held: &Held<'a>) -> Result<Held<'a>, Memory>
     }
 }
 
-// Whether the term is that operation on those terms.
-fn is_joined(alloc: Global, term: &Term, op: OpId, terms: &[&Term]) -> Result<bool, Memory>
+/// Whether the term is that operation on those terms.
+pub fn is_joined(alloc: Global, term: &Term, op: OpId, terms: &[&Term]) -> Result<bool, Memory>
     ensures { IfOk result (λ b. b ≡ same tree_cmp (tree term.now) (app op.0 (trees (trees_of terms.now)))) }
 {
     match term {

@@ -2,6 +2,7 @@
 #![tactic(auto)]
 
 mod bind;
+mod bound;
 mod check;
 mod choices;
 mod finds;

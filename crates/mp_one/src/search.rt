@@ -98,7 +98,7 @@ fn search<'a>(
         Next::Ended => add_new(alloc, query, path, trail, found),
         Next::Refused => Ok(()),
         Next::Child(place) => {
-            for entry in &choices(alloc, query.sig, &place)? {
+            for entry in &choices(alloc, query.sig, &place, trail)? {
                 follow(alloc, query, &place, entry, trail, path, found)?;
             }
             Ok(())

@@ -111,8 +111,8 @@ pub fn taken_out<'a>(
     })
 }
 
-// The arguments of the term.
-fn arguments_of<'a>(alloc: Global, term: &'a Term) -> Result<Vec<&'a Term>, Memory>
+/// The arguments of the term.
+pub fn arguments_of<'a>(alloc: Global, term: &'a Term) -> Result<Vec<&'a Term>, Memory>
     ensures { IfOk result (λ v. trees_of v.items ≡ machine.arguments (tree term.now ∷ [])) }
 {
     match term {

@@ -7,8 +7,6 @@ mod multiset;
 mod order;
 mod pair;
 mod subst;
-#[cfg(test)]
-mod tests;
 mod value;
 
 pub use copy::{copy_subst, copy_value};

@@ -11,8 +11,6 @@ mod position;
 mod sign;
 mod signature;
 mod term;
-#[cfg(test)]
-mod tests;
 
 pub use edit::{Edit, Edits};
 pub use memory::Memory;

@@ -7,7 +7,11 @@ mod alone;
 #[cfg(test)]
 mod case;
 #[cfg(test)]
+mod choices;
+#[cfg(test)]
 mod condition_trees;
+#[cfg(test)]
+mod devices;
 #[cfg(test)]
 mod faults;
 #[cfg(test)]
@@ -23,8 +27,12 @@ mod printed;
 #[cfg(test)]
 mod reading;
 #[cfg(test)]
+mod substitutions;
+#[cfg(test)]
 mod syntax_faults;
 #[cfg(test)]
 mod syntax_trees;
 #[cfg(test)]
 mod takes;
+#[cfg(test)]
+mod terms;

@@ -15,6 +15,7 @@ pub mod TrailLaws
 pub mod CursorLaws
 pub mod Bounds
 pub mod Pruning
+pub mod BoundChoices
 mod OneListExamples
 pub mod SubBags
 pub mod Unique

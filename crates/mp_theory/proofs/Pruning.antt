@@ -139,7 +139,7 @@ module _ (sig : Sig) where
   derivations-within k (child p f fs) T s = sym (pruned (leaves_within sig f) (derivations_by sig k (child p f fs) T s) (choices sig (child p f fs)) (λ e i. derivations_by-outside k p f fs T s e))
 
 -- a variable that is bound, and not to a multiset, has one value from then on
-bound_merges : (s : Subst) (x : List ℕ) (v w : Value) (r : Subst) → value_of s x ≡ Some v → bind s x w ≡ Some r → (u : Value) × (merge v w ≡ Some u)
+pub bound_merges : (s : Subst) (x : List ℕ) (v w : Value) (r : Subst) → value_of s x ≡ Some v → bind s x w ≡ Some r → (u : Value) × (merge v w ≡ Some u)
 bound_merges [] x v w r e h = cc
 bound_merges (b ∷ s) x v w r e h =
     elim (same_name b.name x) as (λ c. (if c then Some b.value else value_of s x) ≡ Some v → (if c then option_map (λ u. record { name = b.name; value = u } ∷ s) (merge b.value w) else option_map (λ q. b ∷ q) (bind s x w)) ≡ Some r → (u : Value) × (merge v w ≡ Some u)) [

@@ -1,5 +1,5 @@
 -- The search that binds as it goes: the trail is the substitution so far.
-use Rattle.std.specs.Prelude.{ℕ, zero, suc, Bool, false, ◌&&◌, List, [], ◌∷◌, ◌++◌, flat_map, Option, Some, None, if◌then◌else◌}
+use Rattle.std.specs.Prelude.{◌≡◌, ℕ, zero, suc, Bool, false, ◌&&◌, List, [], ◌∷◌, ◌++◌, flat_map, Option, Some, None, if◌then◌else◌}
 use Rattle.mp_term.specs.Order.{tree_cmp}
 use Rattle.mp_term.specs.Tree.{Tree}
 use Rattle.mp_term.specs.Signature.{Sig}
@@ -32,6 +32,10 @@ module _ (sig : Sig) where
   -- those that go on with the entry
   abbrev pub derivations_by : ℕ → Next → Table → Subst → Entry → List Item
   derivations_by k n T s e = listed_by (λ r. derivations k (onward n e) (T ++ e ∷ []) r) (solve sig s (said n e))
+
+  -- the entries lead to all that comes at the place
+  abbrev pub LeadOn : Next → Subst → List Entry → Type 0
+  LeadOn n s es = (k : ℕ) (T : Table) → flat_map (derivations_by k n T s) es ≡ derivations (suc k) n T s
 
   -- the entry may stand next: its list is a piece of what is left, and the node may have it
   abbrev pub allows : Next → Entry → Bool

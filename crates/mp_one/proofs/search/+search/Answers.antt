@@ -37,8 +37,7 @@ search-returns-after-loop-entry t c =
     sym (collected-end q.one_table test entry_of b c.loop-entry.found c.loop-entry.entry-index c.deref-entry-items.result.now c.loop-entry-test.false)
     ∙ c.loop-entry.invariant
     ∙ ap (λ es. added q ys (flat_map b (map entry_of es))) c.deref-entry-items.ensures.value
-    ∙ ap (λ es. added q ys (flat_map b es)) c.in_ok-choices-in-Child.ensures
-    ∙ ap (added q ys) (sym (derivations-child q.sig.now (stack_frames c.args.stack.now) (table_of c.args.path.now) (trail_of c.args.trail.now) (pattern_tree p.child.now) (inner_frame p) (stack_frames p.outer.now) c.in-Child.ensures))
+    ∙ ap (added q ys) (c.in_ok-choices-in-Child.ensures (entries_behind p) (table_of c.args.path.now) ∙ sym (derivations-child q.sig.now (stack_frames c.args.stack.now) (table_of c.args.path.now) (trail_of c.args.trail.now) (pattern_tree p.child.now) (inner_frame p) (stack_frames p.outer.now) c.in-Child.ensures))
 
 pub search-follow-requires : goal.search-follow-requires
 search-follow-requires t c =
@@ -48,7 +47,7 @@ search-follow-requires t c =
     let b = derivations_by q.sig.now (entries_behind p) (child_of p) (table_of c.args.path.now) (trail_of c.args.trail.now) in
     let all = subst (AreReadyFor (condition_of q)) (
     derivations-child q.sig.now (stack_frames c.args.stack.now) (table_of c.args.path.now) (trail_of c.args.trail.now) (pattern_tree p.child.now) (inner_frame p) (stack_frames p.outer.now) c.in-Child.ensures
-    ∙ ap (flat_map b) (sym c.in_ok-choices-in-Child.ensures)
+    ∙ sym (c.in_ok-choices-in-Child.ensures (entries_behind p) (table_of c.args.path.now))
     ∙ ap (λ es. flat_map b (map entry_of es)) (sym c.deref-entry-items.ensures.value)
     ) c.requires in
     (omega (arith, e, c.decreases), all-flat_map_at (λ i. IsReadyFor (condition_of q) i.1) entry_of b c.loop-entry.entry-index c.deref-entry-items.result.now c.entry-item.result c.loop-entry-test.true c.entry-item.is all)

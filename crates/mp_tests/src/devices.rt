@@ -1,4 +1,5 @@
-use crate::{
+// The devices, real and in memory.
+use mp_io::{
     Failed, MemoryShelf, MemorySink, ReadFault, RealShelf, RealSink, put, put_all, read_whole,
 };
 use std::fs;

@@ -1,8 +1,11 @@
-//! Merging, the order and the equality of substitutions on cases worked out by hand.
+// Merging, the order and the equality of substitutions on cases worked out by hand.
 ghost use Rattle.std.specs.Prelude.{◌≡◌, [], ◌∷◌, map, codes, IfOk};
 ghost use Rattle.mp_subst.specs.View.{subst_of};
 
-use super::*;
+use mp_subst::{
+    Binding, Bindings, Pair, Subst, Value, compare_subst, compare_value, copy_subst, copy_value,
+    merge, same_multiset, same_subst,
+};
 use mp_term::{Name, Term, Terms};
 use std::alloc::Global;
 use std::test::Fail;

@@ -1,6 +1,9 @@
-//! Each public call once with memory at hand, and the spellings of names and signs.
+// Each public call of terms once with memory at hand, and the spellings of names and signs.
 
-use crate::*;
+use mp_term::{
+    Edit, Edits, KindId, Name, Names, OpDecl, OpId, Position, Sign, Signature, Term, Terms,
+    copy_term, node_count, normalise, well_formed,
+};
 use std::alloc::Global;
 use std::process::Abort;
 

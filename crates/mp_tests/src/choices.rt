@@ -1,7 +1,7 @@
-//! The items of both generators on small cases worked out by hand, begun anew after the end and in the middle.
+// The items of both generators on small cases worked out by hand, begun anew after the end and in the middle.
 ghost use Rattle.std.specs.Prelude.{◌≡◌};
 
-use super::*;
+use mp_choice::{Part, Splits, SubBags};
 use std::process::Abort;
 use std::test::Fail;
 
