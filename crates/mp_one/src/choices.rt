@@ -1,4 +1,4 @@
-// The entries that may stand next and lead on.
+// The entries that are tried next.
 ghost use Rattle.std.specs.Prelude.{◌≡◌, ◌++◌, ◌∷◌, [], false, map, filter, OnOk, IfOk};
 ghost use Rattle.mp_theory.specs.Machine as machine;
 ghost use Rattle.mp_theory.specs.Within as within;
@@ -103,7 +103,7 @@ fn only_choice<'a>(
     Ok(found)
 }
 
-/// Entries that may stand next and lead to all that comes, ascending.
+/// Entries that lead to all that comes at the place.
 pub fn choices<'a>(
     alloc: Global,
     sig: &Signature,
