@@ -1,5 +1,7 @@
 // The syntax trees of conditions.
-use mp_syntax::{Amount, Atom, Expr, Literal, Measure, Property, Relation, Sense, read_condition};
+use mp_syntax::{
+    Amount, Atom, Condition, Expr, Literal, Measure, Property, Relation, Sense, read_condition,
+};
 use std::test::Fail;
 
 // The name of a variable and its column.
@@ -47,28 +49,37 @@ fn alternatives_of(literal: &Literal) -> usize {
     }
 }
 
+// Whether the alternative is `not kind($x, ..)`, with the name in column 10, and `1 <= size($y)`, with the name in column 31.
+fn are_first(literals: &[Literal<'_>]) -> bool {
+    match literals {
+        [one, other] => {
+            told_of(one, true, "kind") == (true, b"x", 10)
+                && told_of(other, false, "<= size") == (true, b"y", 31)
+        }
+        _ => false,
+    }
+}
+
+// Whether the alternative is a condition of one alternative in brackets.
+fn is_bracketed(literals: &[Literal<'_>]) -> bool {
+    match literals {
+        [one] => alternatives_of(one) == 1,
+        _ => false,
+    }
+}
+
+// Whether the condition has these two alternatives.
+fn are_both(condition: &Condition<'_>) -> bool {
+    match condition.alternatives.as_slice() {
+        [first, second] => are_first(&first.literals) && is_bracketed(&second.literals),
+        _ => false,
+    }
+}
+
 #[test]
 fn conditions_keep_their_parts(rt: HostRuntime) -> Result<(), Fail> {
     let text = b"not kind($x, v) and 1 <= size($y) or [less($z, a)]";
     let condition = read_condition(rt.alloc(), text)?;
-    match condition.alternatives.as_slice() {
-        [first, second] => {
-            match first.literals.as_slice() {
-                [one, other] => {
-                    assert_eq!(rt; told_of(one, true, "kind"), (true, b"x".as_slice(), 10));
-                    assert_eq!(rt;
-                        told_of(other, false, "<= size"),
-                        (true, b"y".as_slice(), 31)
-                    );
-                }
-                _ => Err("not two literals")?,
-            }
-            match second.literals.as_slice() {
-                [one] => assert_eq!(rt; alternatives_of(one), 1),
-                _ => Err("not one literal")?,
-            }
-        }
-        _ => Err("not two alternatives")?,
-    }
+    assert!(rt; are_both(&condition));
     Ok(())
 }

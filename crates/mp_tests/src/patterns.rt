@@ -1,113 +1,14 @@
-// Patterns: their lists, their order, their copies and their normal form.
-ghost use Rattle.std.specs.Prelude.{◌≡◌, IfOk, true};
-ghost use Rattle.mp_pattern.specs.View.{pattern_tree};
-ghost use Rattle.mp_pattern.specs.Sound.{holds_ops, DefaultsAreNormal};
-
+// Patterns, templates, conditions and rules: their lists, their order and their copies.
 use crate::case::halves;
 use crate::reading::{pattern, signature};
 use mp_pattern::{
-    Amount, BoxedCond, Cond, Conds, Entries, Entry, Operand, Pattern, Patterns, Rule, Rules, Sense,
-    Shape, Template, Templates, copy_cond, copy_pattern, is_fully_named, is_syntactic,
-    normalise_pattern, pattern_compare,
+    Amount, Cond, Conds, Entries, Entry, Operand, Pattern, Patterns, Rule, Rules, Sense, Shape,
+    Template, Templates, copy_cond, copy_pattern, is_fully_named, is_syntactic, pattern_compare,
 };
-use mp_term::{KindId, Name, OpId, Signature, Term, Terms};
+use mp_term::{KindId, Name, OpId, Signature, Terms};
+use mp_text::{read_file, read_loose_cond};
 use std::alloc::Global;
-use std::cmp::Ordering;
 use std::test::Fail;
-
-fn name(alloc: Global) -> Result<Name, Fail> {
-    Ok(Name::new(alloc, b"x")?)
-}
-
-#[test]
-fn patterns_hold_what_was_pushed(rt: HostRuntime) -> Result<(), Fail> {
-    let alloc = rt.alloc();
-    let mut patterns = Patterns::new(alloc);
-    patterns.push(Pattern::Sym(name(alloc)?))?;
-    patterns.push(Pattern::Wild(Shape::Kind(KindId(1)), Some(name(alloc)?)))?;
-    patterns.push(Pattern::Wild(Shape::Opt(Term::Sym(name(alloc)?)), None))?;
-    assert_eq!(rt; (patterns.len(), patterns.as_slice().len()), (3, 3));
-    assert!(rt;
-        matches!(
-            patterns.get(1),
-            Some(Pattern::Wild(Shape::Kind(KindId(1)), Some(_)))
-        )
-    );
-    assert!(rt; patterns.get(3).is_none());
-    Ok(())
-}
-
-#[test]
-fn templates_hold_what_was_pushed(rt: HostRuntime) -> Result<(), Fail> {
-    let alloc = rt.alloc();
-    let mut templates = Templates::new(alloc);
-    templates.push(Template::Sym(name(alloc)?))?;
-    templates.push(Template::Var(name(alloc)?))?;
-    assert_eq!(rt; (templates.len(), templates.as_slice().len()), (2, 2));
-    assert!(rt; matches!(templates.get(1), Some(Template::Var(_))));
-    assert!(rt; templates.get(2).is_none());
-    Ok(())
-}
-
-#[test]
-fn conditions_hold_what_was_pushed(rt: HostRuntime) -> Result<(), Fail> {
-    let alloc = rt.alloc();
-    let mut conds = Conds::new(alloc);
-    let headed = Cond::Headed(Operand::Var(name(alloc)?), OpId(0));
-    conds.push(Cond::Not(BoxedCond::new(alloc, headed)?))?;
-    assert_eq!(rt; (conds.len(), conds.as_slice().len()), (1, 1));
-    assert!(rt;
-        matches!(conds.get(0), Some(Cond::Not(boxed)) if matches!(boxed.get(), Cond::Headed(_, OpId(0))))
-    );
-    assert!(rt; conds.get(1).is_none());
-    Ok(())
-}
-
-#[test]
-fn rules_hold_what_was_pushed(rt: HostRuntime) -> Result<(), Fail> {
-    let alloc = rt.alloc();
-    let mut rules = Rules::new(alloc);
-    rules.push(Rule {
-        name: name(alloc)?,
-        pattern: Pattern::Sym(name(alloc)?),
-        template: None,
-        condition: None,
-    })?;
-    assert_eq!(rt; (rules.len(), rules.as_slice().len()), (1, 1));
-    assert!(rt;
-        matches!(
-            rules.get(0),
-            Some(Rule {
-                pattern: Pattern::Sym(_),
-                ..
-            })
-        )
-    );
-    assert!(rt; rules.get(1).is_none());
-    Ok(())
-}
-
-#[test]
-fn take_tables_hold_what_was_pushed(rt: HostRuntime) -> Result<(), Fail> {
-    let alloc = rt.alloc();
-    let mut entries = Entries::new(alloc);
-    entries.push(Entry {
-        terms: Terms::new(alloc),
-        collapsed: true,
-    })?;
-    assert_eq!(rt; (entries.len(), entries.as_slice().len()), (1, 1));
-    assert!(rt;
-        matches!(
-            entries.get(0),
-            Some(Entry {
-                collapsed: true,
-                ..
-            })
-        )
-    );
-    assert!(rt; entries.get(1).is_none());
-    Ok(())
-}
 
 /// An operation with all flags, one of three arguments and one of any number.
 pub const DECLARED: &str = "op sum 1+ assoc comm one; op f 3; op g 0+; kind v: a b;";
@@ -161,96 +62,158 @@ fn ascending(alloc: Global, sig: &Signature) -> Result<Vec<Pattern>, Fail> {
     Ok(patterns)
 }
 
+// Whether each pattern comes before the next.
+fn are_ascending(patterns: &[Pattern]) -> bool {
+    for i in 1..patterns.len() {
+        let (first, second) = (&patterns[i - 1], &patterns[i]);
+        if !(first < second) || !pattern_compare(second, first).is_gt() {
+            return false;
+        }
+    }
+    true
+}
+
 #[test]
 fn patterns_ascend(rt: HostRuntime) -> Result<(), Fail> {
     let sig = signature(rt.alloc(), DECLARED)?;
     let patterns = ascending(rt.alloc(), &sig)?;
-    for i in 1..patterns.len() {
-        assert!(rt; patterns[i - 1] < patterns[i]);
-        assert!(rt; pattern_compare(&patterns[i], &patterns[i - 1]).is_gt());
-    }
+    assert_eq!(rt; patterns.len(), 14);
+    assert!(rt; are_ascending(&patterns));
     Ok(())
+}
+
+// Whether the pattern of the line has its marks, and its copy is equal to it.
+fn is_marked(alloc: Global, sig: &Signature, line: &str) -> Result<bool, Fail> {
+    let (text, wanted) = halves(line)?;
+    let pattern = argument(alloc, sig, text)?;
+    let copy = copy_pattern(alloc, &pattern)?;
+    Ok(marks(sig, &pattern) == wanted && pattern_compare(&pattern, &copy).is_eq())
+}
+
+// The first line whose pattern has other marks, or another copy.
+fn wrong_line(alloc: Global, sig: &Signature) -> Result<Option<&'static str>, Fail> {
+    for line in ASCENDING.split('\n') {
+        if !is_marked(alloc, sig, line)? {
+            return Ok(Some(line));
+        }
+    }
+    Ok(None)
 }
 
 #[test]
 fn patterns_are_named_syntactic_and_copied(rt: HostRuntime) -> Result<(), Fail> {
-    let alloc = rt.alloc();
-    let sig = signature(alloc, DECLARED)?;
-    for line in ASCENDING.split('\n') {
-        let (text, wanted) = halves(line)?;
-        let pattern = argument(alloc, &sig, text)?;
-        assert_eq!(rt; marks(&sig, &pattern), wanted);
-        let copy = copy_pattern(alloc, &pattern)?;
-        assert_eq!(rt; pattern_compare(&pattern, &copy), Ordering::Equal);
-    }
+    let sig = signature(rt.alloc(), DECLARED)?;
+    assert_eq!(rt; wrong_line(rt.alloc(), &sig)?, None);
     Ok(())
 }
 
-// sum(x___, a, sum(y_, b)), where sum is held
-fn nested_sum(alloc: Global, sig: &Signature) -> Result<Pattern, Fail>
-    ensures held { IfOk result (λ p. holds_ops sig.now (pattern_tree p) ≡ true) }
-    ensures defaults { IfOk result (λ p. DefaultsAreNormal sig.now (pattern_tree p)) }
-{
-    let mut inner = Patterns::new(alloc);
-    inner.push(Pattern::Wild(Shape::Dot, Some(Name::new(alloc, b"y")?)))?;
-    inner.push(Pattern::Sym(Name::new(alloc, b"b")?))?;
-    let mut args = Patterns::new(alloc);
-    args.push(Pattern::Wild(Shape::Star, Some(Name::new(alloc, b"x")?)))?;
-    args.push(Pattern::Sym(Name::new(alloc, b"a")?))?;
-    args.push(Pattern::App(OpId(0), inner))?;
-    match sig.op(OpId(0)) {
-        None => Err("sum isn't held".into()),
-        Some(_) => Ok(Pattern::App(OpId(0), args)),
-    }
-}
-
-// The normal form of that pattern.
-fn normal_sum(alloc: Global, sig: &Signature) -> Result<Pattern, Fail> {
-    let pattern = nested_sum(alloc, sig)?;
-    Ok(normalise_pattern(alloc, sig, pattern)?)
-}
-
-// The pattern is sum(a, b, y_, x___).
-fn is_flat_sum(alloc: Global, pattern: &Pattern) -> Result<bool, Fail> {
-    let mut args = Patterns::new(alloc);
-    args.push(Pattern::Sym(Name::new(alloc, b"a")?))?;
-    args.push(Pattern::Sym(Name::new(alloc, b"b")?))?;
-    args.push(Pattern::Wild(Shape::Dot, Some(Name::new(alloc, b"y")?)))?;
-    args.push(Pattern::Wild(Shape::Star, Some(Name::new(alloc, b"x")?)))?;
-    Ok(*pattern == Pattern::App(OpId(0), args))
+// Whether the list has a symbol, a wildcard of the kind 1 with a name, and one with a default and no name.
+fn are_three(patterns: &Patterns) -> bool {
+    patterns.as_slice().len() == 3
+        && matches!(patterns.get(0), Some(Pattern::Sym(_)))
+        && matches!(
+            patterns.get(1),
+            Some(Pattern::Wild(Shape::Kind(KindId(1)), Some(_)))
+        )
+        && matches!(patterns.get(2), Some(Pattern::Wild(Shape::Opt(_), None)))
 }
 
 #[test]
-fn sums_are_flattened_and_sorted(rt: HostRuntime) -> Result<(), Fail> {
-    let alloc = rt.alloc();
-    let sig = signature(alloc, DECLARED)?;
-    let normal = normal_sum(alloc, &sig)?;
-    assert!(rt; is_flat_sum(alloc, &normal)?);
+fn patterns_hold_what_was_pushed(rt: HostRuntime) -> Result<(), Fail> {
+    let sig = signature(rt.alloc(), DECLARED)?;
+    match &pattern(rt.alloc(), &sig, "g(b, x_v, _:a)")? {
+        Pattern::App(_, args) => {
+            assert!(rt; are_three(args));
+            assert_eq!(rt; args.len(), 3);
+            assert!(rt; args.get(3).is_none());
+        }
+        _ => return Err("no application".into()),
+    }
     Ok(())
+}
+
+fn name(alloc: Global) -> Result<Name, Fail> {
+    Ok(Name::new(alloc, b"x")?)
+}
+
+#[test]
+fn templates_hold_what_was_pushed(rt: HostRuntime) -> Result<(), Fail> {
+    let symbol = Template::Sym(name(rt.alloc())?);
+    let variable = Template::Var(name(rt.alloc())?);
+    let mut templates = Templates::new(rt.alloc());
+    assert!(rt; templates.push(symbol).is_ok() && templates.push(variable).is_ok());
+    assert_eq!(rt; (templates.len(), templates.as_slice().len()), (2, 2));
+    assert!(rt; matches!(templates.get(1), Some(Template::Var(_))));
+    assert!(rt; templates.get(2).is_none());
+    Ok(())
+}
+
+// Whether the parts are `head($x, f)` and `count($x) >= 2`.
+fn are_both(parts: &Conds) -> bool {
+    (parts.len(), parts.as_slice().len()) == (2, 2)
+        && matches!(parts.get(0), Some(Cond::Headed(Operand::Var(_), OpId(1))))
+        && matches!(
+            parts.get(1),
+            Some(Cond::Amounts(Amount::Count(_), Sense::Ge, Amount::Fixed(2)))
+        )
+        && parts.get(2).is_none()
+}
+
+// Whether the condition is `not [head($x, f) or count($x) >= 2]`.
+fn is_neither(cond: &Cond) -> bool {
+    match cond {
+        Cond::Not(part) => match part.get() {
+            Cond::Any(parts) => are_both(parts),
+            _ => false,
+        },
+        _ => false,
+    }
 }
 
 #[test]
 fn conditions_are_copied(rt: HostRuntime) -> Result<(), Fail> {
-    let alloc = rt.alloc();
-    let mut parts = Conds::new(alloc);
-    parts.push(Cond::Headed(Operand::Var(name(alloc)?), OpId(3)))?;
-    let number = Amount::Count(Operand::Ground(Term::Sym(name(alloc)?)));
-    parts.push(Cond::Amounts(number, Sense::Ge, Amount::Fixed(2)))?;
-    let cond = Cond::Not(BoxedCond::new(alloc, Cond::Any(parts))?);
-    let copy = copy_cond(alloc, &cond)?;
-    let Cond::Not(boxed) = &copy else {
-        return Err("no negation".into());
-    };
-    let Cond::Any(copies) = boxed.get() else {
-        return Err("no disjunction".into());
-    };
-    assert_eq!(rt; copies.len(), 2);
-    assert!(rt; matches!(copies.get(0), Some(Cond::Headed(Operand::Var(_), OpId(3)))));
-    assert!(rt;
-        matches!(
-            copies.get(1),
-            Some(Cond::Amounts(Amount::Count(_), Sense::Ge, Amount::Fixed(2)))
+    let sig = signature(rt.alloc(), DECLARED)?;
+    let text = b"not [head($x, f) or count($x) >= 2]";
+    match read_loose_cond(rt.alloc(), &sig, text) {
+        Ok(cond) => assert!(rt; is_neither(&copy_cond(rt.alloc(), &cond)?)),
+        Err(_) => return Err("the condition has a fault".into()),
+    }
+    Ok(())
+}
+
+// Whether the list has one rule of a symbol.
+fn is_one_symbol(rules: &Rules) -> bool {
+    (rules.len(), rules.as_slice().len()) == (1, 1)
+        && matches!(
+            rules.get(0),
+            Some(Rule {
+                pattern: Pattern::Sym(_),
+                ..
+            })
         )
-    );
+        && rules.get(1).is_none()
+}
+
+#[test]
+fn rules_hold_what_was_pushed(rt: HostRuntime) -> Result<(), Fail> {
+    match read_file(rt.alloc(), b"rule r: a;") {
+        Ok(file) => assert!(rt; is_one_symbol(&file.rules)),
+        Err(_) => return Err("the file has a fault".into()),
+    }
+    Ok(())
+}
+
+#[test]
+fn take_tables_hold_what_was_pushed(rt: HostRuntime) -> Result<(), Fail> {
+    let terms = Terms::new(rt.alloc());
+    let mut entries = Entries::new(rt.alloc());
+    let entry = Entry {
+        terms,
+        collapsed: true,
+    };
+    assert!(rt; entries.push(entry).is_ok());
+    assert_eq!(rt; (entries.len(), entries.as_slice().len()), (1, 1));
+    assert!(rt; entries.get(0).is_some_and(|entry| entry.collapsed));
+    assert!(rt; entries.get(1).is_none());
     Ok(())
 }

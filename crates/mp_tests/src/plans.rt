@@ -1,6 +1,6 @@
 // Plans, read node by node and variable by variable, and the refusals.
 use crate::patterns::DECLARED;
-use crate::reading::{pattern, plan, signature};
+use crate::reading::{plan, signature};
 use mp_pattern::{Form, Pattern, Patterns, Plan, PlanFault, PlanNode, Shape};
 use mp_term::{KindId, Name, OpId, Signature};
 use std::alloc::Global;
@@ -25,8 +25,11 @@ fn described(node: Option<PlanNode<'_>>) -> (u8, u32) {
 
 const MIXED: &str = "f(sum(x__, w___), f(a, x__, _), z_num)";
 
-// The nodes of `MIXED`: what stands there, the number of the node after, and the number of the parent; and behind the last one.
-const NODES: [((u8, u32), Option<u32>, Option<u32>); 10] = [
+// What stands at a node, the number of the node after it, and the number of its parent.
+type Row = ((u8, u32), Option<u32>, Option<u32>);
+
+// The nodes of `MIXED`, and behind the last one.
+const NODES: [Row; 10] = [
     ((2, 1), Some(9), None),
     ((2, 0), Some(4), Some(0)),
     ((5, 0), Some(3), Some(1)),
@@ -39,45 +42,59 @@ const NODES: [((u8, u32), Option<u32>, Option<u32>); 10] = [
     ((0, 0), None, None),
 ];
 
+fn row(plan: &Plan, number: u32) -> Row {
+    (
+        described(plan.node(number)),
+        plan.end(number),
+        plan.parent(number),
+    )
+}
+
+// The number of the first node that is another one.
+fn wrong_node(plan: &Plan) -> Option<u32> {
+    for (number, wanted) in (0..10).zip(&NODES) {
+        if row(plan, number) != *wanted {
+            return Some(number);
+        }
+    }
+    None
+}
+
 #[test]
 fn nodes_have_the_numbers_of_the_preorder(rt: HostRuntime) -> Result<(), Fail> {
-    let alloc = rt.alloc();
-    let sig = signature(alloc, DECLARED)?;
-    let pattern = pattern(alloc, &sig, MIXED)?;
-    let plan = plan(alloc, &sig, &pattern)?;
+    let sig = signature(rt.alloc(), DECLARED)?;
+    let plan = plan(rt.alloc(), &sig, MIXED)?;
     assert_eq!(rt; plan.len(), 9);
-    for (i, (what, end, parent)) in NODES.iter().enumerate() {
-        let number = i as u32;
-        assert_eq!(rt; described(plan.node(number)), *what);
-        assert_eq!(rt; plan.end(number), *end);
-        assert_eq!(rt; plan.parent(number), *parent);
-    }
+    assert_eq!(rt; wrong_node(&plan), None);
     Ok(())
+}
+
+// The variables of `MIXED`.
+const VARIABLES: [(&[u8], Form); 3] = [(b"x", Form::Seq), (b"w", Form::Bag), (b"z", Form::One)];
+
+fn is_variable(plan: &Plan, number: u32, name: &[u8], form: Form) -> bool {
+    plan.var_name(number).is_some_and(|it| it.bytes() == name)
+        && plan.var_form(number) == Some(form)
+        && plan.find_var(name) == Some(number)
+}
+
+// The number of the first variable that is another one.
+fn wrong_variable(plan: &Plan) -> Option<u32> {
+    for (number, (name, form)) in (0..3).zip(&VARIABLES) {
+        if !is_variable(plan, number, name, *form) {
+            return Some(number);
+        }
+    }
+    None
 }
 
 #[test]
 fn variables_have_their_forms(rt: HostRuntime) -> Result<(), Fail> {
-    let alloc = rt.alloc();
-    let sig = signature(alloc, DECLARED)?;
-    let pattern = pattern(alloc, &sig, MIXED)?;
-    let plan = plan(alloc, &sig, &pattern)?;
+    let sig = signature(rt.alloc(), DECLARED)?;
+    let plan = plan(rt.alloc(), &sig, MIXED)?;
     assert_eq!(rt; plan.vars(), 3);
-    for (i, (letter, form)) in [(b'x', Form::Seq), (b'w', Form::Bag), (b'z', Form::One)]
-        .iter()
-        .enumerate()
-    {
-        let number = i as u32;
-        let name = [*letter];
-        assert!(rt;
-            plan.var_name(number)
-                .is_some_and(|n| n.bytes() == name.as_slice())
-        );
-        assert_eq!(rt; plan.var_form(number), Some(*form));
-        assert_eq!(rt; plan.find_var(&name), Some(number));
-    }
-    assert!(rt;
-        plan.var_name(3).is_none() && plan.var_form(3).is_none() && plan.find_var(b"a").is_none()
-    );
+    assert_eq!(rt; wrong_variable(&plan), None);
+    assert!(rt; plan.var_name(3).is_none() && plan.find_var(b"a").is_none());
     Ok(())
 }
 
@@ -121,27 +138,40 @@ fn twice(alloc: Global, shape: Shape) -> Result<Pattern, Fail> {
     Ok(Pattern::App(OpId(0), args))
 }
 
-// The pattern of a case, with the answer of `compile`.
-fn case(alloc: Global, number: u8) -> Result<(Pattern, (u8, u32)), Fail> {
+// The pattern of a case.
+fn case(alloc: Global, number: u8) -> Result<Pattern, Fail> {
     match number {
-        0 => Ok((named(alloc, Shape::Plus, b"x")?, (1, 0))),
-        1 => Ok((dots(alloc, 64, true)?, (2, 65))),
-        2 => Ok((dots(alloc, 63, false)?, (0, 0))),
-        3 => Ok((dots(alloc, 33, true)?, (3, 33))),
-        4 => Ok((dots(alloc, 32, true)?, (0, 0))),
-        5 => Ok((twice(alloc, Shape::Kind(KindId(0)))?, (0, 0))),
-        6 => Ok((twice(alloc, Shape::Kind(KindId(1)))?, (4, 3))),
-        _ => Ok((twice(alloc, Shape::Star)?, (4, 3))),
+        0 => named(alloc, Shape::Plus, b"x"),
+        1 => dots(alloc, 64, true),
+        2 => dots(alloc, 63, false),
+        3 => dots(alloc, 33, true),
+        4 => dots(alloc, 32, true),
+        5 => twice(alloc, Shape::Kind(KindId(0))),
+        6 => twice(alloc, Shape::Kind(KindId(1))),
+        _ => twice(alloc, Shape::Star),
     }
+}
+
+// The answer to a case.
+fn answer_to(alloc: Global, sig: &Signature, number: u8) -> Result<(u8, u32), Fail> {
+    let pattern = case(alloc, number)?;
+    Ok(answer(alloc, sig, &pattern))
 }
 
 #[test]
 fn refusals_come_in_order(rt: HostRuntime) -> Result<(), Fail> {
-    let alloc = rt.alloc();
-    let sig = signature(alloc, DECLARED)?;
-    for number in 0..8 {
-        let (pattern, expected) = case(alloc, number)?;
-        assert_eq!(rt; answer(alloc, &sig, &pattern), expected);
+    let sig = signature(rt.alloc(), DECLARED)?;
+    for (number, wanted) in [
+        (0, (1, 0)),
+        (1, (2, 65)),
+        (2, (0, 0)),
+        (3, (3, 33)),
+        (4, (0, 0)),
+        (5, (0, 0)),
+        (6, (4, 3)),
+        (7, (4, 3)),
+    ] {
+        assert_eq!(rt; answer_to(rt.alloc(), &sig, number)?, wanted);
     }
     Ok(())
 }

@@ -38,9 +38,10 @@ pub fn pattern(alloc: Global, sig: &Signature, text: &str) -> Result<Pattern, Fa
     }
 }
 
-/// The plan of a pattern.
-pub fn plan(alloc: Global, sig: &Signature, pattern: &Pattern) -> Result<Plan, Fail> {
-    match Plan::compile(alloc, sig, pattern) {
+/// The plan of the pattern of a text.
+pub fn plan(alloc: Global, sig: &Signature, text: &str) -> Result<Plan, Fail> {
+    let pattern = pattern(alloc, sig, text)?;
+    match Plan::compile(alloc, sig, &pattern) {
         Ok(plan) => Ok(plan),
         Err(_) => Err("the pattern has no plan".into()),
     }

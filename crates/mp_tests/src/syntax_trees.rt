@@ -2,8 +2,8 @@
 use mp_syntax::statement::{printed_statements_are_read, syntax_has_names, syntax_is_a_function};
 use mp_syntax::token::{tokens_are_total, tokens_are_unique};
 use mp_syntax::{
-    Expr, Flag, Statement, condition_is_a_function, expression_is_a_function, read_expression,
-    read_statements,
+    Expr, Flag, Spot, Statement, Wildcard, condition_is_a_function, expression_is_a_function,
+    read_expression, read_statements,
 };
 use std::alloc::Global;
 use std::test::Fail;
@@ -19,10 +19,15 @@ fn chained(alloc: Global, length: usize) -> Result<Vec<u8>, Fail> {
     Ok(text)
 }
 
-// How many wildcards an expression with a default has behind the first, or 0.
-fn other_wildcards(expr: &Expr) -> usize {
-    match expr {
-        Expr::Optional { others, .. } => others.len(),
+// How many wildcards the subject has before its default, behind the first.
+fn other_wildcards(statement: Option<&Statement<'_>>) -> usize {
+    match statement {
+        Some(
+            Statement::Subject {
+                term: Expr::Optional { others, .. },
+                ..
+            },
+        ) => others.len(),
         _ => 0,
     }
 }
@@ -31,40 +36,10 @@ fn other_wildcards(expr: &Expr) -> usize {
 fn chains_of_any_length_are_read(rt: HostRuntime) -> Result<(), Fail> {
     let text = chained(rt.alloc(), 1000)?;
     if text.len() > 5000 {
-        Err("the text is too long")?
+        return Err("the text is too long".into());
     }
     let file = read_statements(rt.alloc(), &text)?;
-    match file.get(0) {
-        Some(Statement::Subject { name: _, term }) => assert_eq!(rt; other_wildcards(term), 999),
-        _ => Err("not the subject")?,
-    }
-    Ok(())
-}
-
-#[test]
-fn defaults_are_kept(rt: HostRuntime) -> Result<(), Fail> {
-    let read = read_expression(rt.alloc(), b" x_:_:y_:(a + b)")?;
-    match &read {
-        Expr::Optional {
-            wildcard,
-            others,
-            default,
-        } => {
-            assert_eq!(rt;
-                (wildcard.name, wildcard.place.column),
-                (b"x".as_slice(), 2)
-            );
-            assert_eq!(rt; first_word(default), (b"+".as_slice(), 1, 13));
-            match others.as_slice() {
-                [first, second] => {
-                    assert_eq!(rt; (first.name, first.place.column), (b"".as_slice(), 5));
-                    assert_eq!(rt; (second.name, second.place.column), (b"y".as_slice(), 7));
-                }
-                _ => Err("not two other wildcards")?,
-            }
-        }
-        _ => Err("no wildcard with a default")?,
-    }
+    assert_eq!(rt; other_wildcards(file.get(0)), 999);
     Ok(())
 }
 
@@ -84,11 +59,76 @@ fn first_word<'a>(expr: &Expr<'a>) -> (&'a [u8], u32, u32) {
     }
 }
 
+// Whether the other wildcards are `_`, in column 5, and `y_`, in column 7.
+fn are_others(others: &[Wildcard<'_>]) -> bool {
+    match others {
+        [first, second] => {
+            (first.name, first.place.column) == (b"", 5)
+                && (second.name, second.place.column) == (b"y", 7)
+        }
+        _ => false,
+    }
+}
+
+// Whether the expression is ` x_:_:y_:(a + b)`.
+fn is_chain(expr: &Expr<'_>) -> bool {
+    match expr {
+        Expr::Optional {
+            wildcard,
+            others,
+            default,
+        } => {
+            (wildcard.name, wildcard.place.column) == (b"x", 2)
+                && first_word(default) == (b"+", 1, 13)
+                && are_others(others)
+        }
+        _ => false,
+    }
+}
+
+#[test]
+fn defaults_are_kept(rt: HostRuntime) -> Result<(), Fail> {
+    let read = read_expression(rt.alloc(), b" x_:_:y_:(a + b)")?;
+    assert!(rt; is_chain(&read));
+    Ok(())
+}
+
 // The number of underscores of a wildcard and its kind, or 0 and nothing.
 fn marks_and_kind<'a>(expr: &Expr<'a>) -> (usize, &'a [u8]) {
     match expr {
         Expr::Wild(wildcard) => (wildcard.marks, wildcard.kind),
-        _ => (0, b"".as_slice()),
+        _ => (0, b""),
+    }
+}
+
+// Whether the arguments are `x_K`, in column 5, and `y___`, in column 10, of the third line.
+fn are_wildcards(args: &[Expr<'_>]) -> bool {
+    match args {
+        [first, second] => {
+            first_word(first) == (b"x", 3, 5)
+                && marks_and_kind(first) == (1, b"K")
+                && first_word(second) == (b"y", 3, 10)
+                && marks_and_kind(second) == (3, b"")
+        }
+        _ => false,
+    }
+}
+
+// Whether the statement is a rule `r` of `f` on these arguments.
+fn is_rule(statement: Option<&Statement<'_>>) -> bool {
+    match statement {
+        Some(
+            Statement::Rule {
+                name,
+                pattern: Expr::Apply(op, args),
+                ..
+            },
+        ) => {
+            name.text == b"r".as_slice()
+                && (op.text, op.place.line, op.place.column) == (b"f", 3, 3)
+                && are_wildcards(args)
+        }
+        _ => false,
     }
 }
 
@@ -96,40 +136,21 @@ fn marks_and_kind<'a>(expr: &Expr<'a>) -> (usize, &'a [u8]) {
 fn trees_keep_words_and_places(rt: HostRuntime) -> Result<(), Fail> {
     let file = read_statements(rt.alloc(), b"op f 2;\nrule r:\n  f(x_K, y___);")?;
     assert_eq!(rt; file.len(), 2);
-    match file.get(1) {
-        Some(Statement::Rule { name, pattern, .. }) => {
-            assert_eq!(rt; name.text, b"r".as_slice());
-            assert_eq!(rt; first_word(pattern), (b"f".as_slice(), 3, 3));
-            match pattern {
-                Expr::Apply(_, args) => match args.as_slice() {
-                    [first, second] => {
-                        assert_eq!(rt; first_word(first), (b"x".as_slice(), 3, 5));
-                        assert_eq!(rt; marks_and_kind(first), (1, b"K".as_slice()));
-                        assert_eq!(rt; first_word(second), (b"y".as_slice(), 3, 10));
-                        assert_eq!(rt; marks_and_kind(second), (3, b"".as_slice()));
-                    }
-                    _ => Err("not two arguments")?,
-                },
-                _ => Err("no application")?,
-            }
-        }
-        _ => Err("not the rule")?,
-    }
+    assert!(rt; is_rule(file.get(1)));
     Ok(())
 }
 
-// The column of the sign of a flag, or 0.
-fn sign_column(flag: Flag) -> u32 {
-    match flag {
-        Flag::Infix(sign) => sign.place.column,
-        _ => 0,
+// Whether the flags are `comm` and a sign in column 20.
+fn are_flags(flags: &[Flag<'_>]) -> bool {
+    match flags {
+        [Flag::Comm, Flag::Infix(sign)] => sign.place.column == 20,
+        _ => false,
     }
 }
 
-#[test]
-fn declarations_keep_their_order(rt: HostRuntime) -> Result<(), Fail> {
-    let file = read_statements(rt.alloc(), b"op f 2+ comm infix *;\nkind k: b a;")?;
-    match file.get(0) {
+// Whether the statement is `op f 2+` with these flags.
+fn is_operation(statement: Option<&Statement<'_>>) -> bool {
+    match statement {
         Some(
             Statement::Op {
                 name,
@@ -137,58 +158,63 @@ fn declarations_keep_their_order(rt: HostRuntime) -> Result<(), Fail> {
                 open,
                 flags,
             },
-        ) => {
-            assert_eq!(rt; name.text, b"f".as_slice());
-            assert_eq!(rt; least.place.column, 6);
-            assert!(rt; *open);
-            match flags.as_slice() {
-                [Flag::Comm, second] => assert_eq!(rt; sign_column(*second), 20),
-                _ => Err("not the flags")?,
-            }
-        }
-        _ => Err("not the operation")?,
+        ) => name.text == b"f".as_slice() && least.place.column == 6 && *open && are_flags(flags),
+        _ => false,
     }
-    match file.get(1) {
-        Some(Statement::Kind { name, members }) => {
-            assert_eq!(rt; name.place.column, 6);
-            match members.as_slice() {
-                [first, second] => {
-                    assert_eq!(rt; first.text, b"b".as_slice());
-                    assert_eq!(rt; second.place.column, 11);
-                }
-                _ => Err("not two members")?,
-            }
-        }
-        _ => Err("not the kind")?,
+}
+
+// Whether the symbols are `b`, and one in column 11.
+fn are_members(members: &[Spot<'_>]) -> bool {
+    match members {
+        [first, second] => first.text == b"b".as_slice() && second.place.column == 11,
+        _ => false,
     }
+}
+
+// Whether the statement is a kind with a name in column 6 and these symbols.
+fn is_kind(statement: Option<&Statement<'_>>) -> bool {
+    match statement {
+        Some(Statement::Kind { name, members }) => name.place.column == 6 && are_members(members),
+        _ => false,
+    }
+}
+
+#[test]
+fn declarations_keep_their_order(rt: HostRuntime) -> Result<(), Fail> {
+    let file = read_statements(rt.alloc(), b"op f 2+ comm infix *;\nkind k: b a;")?;
+    assert!(rt; is_operation(file.get(0)));
+    assert!(rt; is_kind(file.get(1)));
     Ok(())
+}
+
+// Whether the statement is a subject that begins in column 12, of three operands with a sign in column 15.
+fn is_product(statement: Option<&Statement<'_>>) -> bool {
+    match statement {
+        Some(
+            Statement::Subject {
+                term: Expr::Infix {
+                    open,
+                    sign,
+                    operands,
+                },
+                ..
+            },
+        ) => {
+            open.column == 12 && (sign.text, sign.place.column) == (b"*", 15) && operands.len() == 3
+        }
+        _ => false,
+    }
 }
 
 #[test]
 fn operands_keep_their_order(rt: HostRuntime) -> Result<(), Fail> {
     let file = read_statements(rt.alloc(), b"subject s: (a * b * c);")?;
-    match file.get(0) {
-        Some(Statement::Subject { name: _, term }) => {
-            assert_eq!(rt; first_word(term), (b"*".as_slice(), 1, 15));
-            match term {
-                Expr::Infix {
-                    open,
-                    sign: _,
-                    operands,
-                } => {
-                    assert_eq!(rt; open.column, 12);
-                    assert_eq!(rt; operands.len(), 3);
-                }
-                _ => Err("no infix expression")?,
-            }
-        }
-        _ => Err("not the subject")?,
-    }
+    assert!(rt; is_product(file.get(0)));
     Ok(())
 }
 
 #[test]
-fn laws_do_nothing(_rt: HostRuntime) -> Result<(), Fail> {
+fn laws_do_nothing(_rt: HostRuntime) {
     syntax_is_a_function();
     expression_is_a_function();
     condition_is_a_function();
@@ -196,5 +222,4 @@ fn laws_do_nothing(_rt: HostRuntime) -> Result<(), Fail> {
     syntax_has_names();
     tokens_are_unique();
     tokens_are_total();
-    Ok(())
 }

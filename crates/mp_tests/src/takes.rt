@@ -82,37 +82,68 @@ fn fits(
 
 // The plan of the text's pattern, whose defaults are normal.
 fn sound_plan(alloc: Global, sig: &Signature, text: &str) -> Result<Plan, Fail> {
-    let pattern = pattern(alloc, sig, text)?;
-    if !is_sound(sig, &pattern) {
+    if !is_sound(sig, &pattern(alloc, sig, text)?) {
         return Err("a default isn't normal".into());
     }
-    plan(alloc, sig, &pattern)
+    plan(alloc, sig, text)
+}
+
+// Whether the table of the text fits.
+fn table_fits(
+    alloc: Global,
+    sig: &Signature,
+    plan: &Plan,
+    subject: &Term,
+    text: &str,
+) -> Result<bool, Fail> {
+    let takes = table(alloc, sig, text)?;
+    fits(alloc, sig, plan, subject, &takes)
+}
+
+// Whether the table of the text fits the subject of the text.
+fn texts_fit(
+    alloc: Global,
+    sig: &Signature,
+    plan: &Plan,
+    subject: &str,
+    takes: &str,
+) -> Result<bool, Fail> {
+    let subject = term(alloc, sig, subject)?;
+    table_fits(alloc, sig, plan, &subject, takes)
 }
 
 // Whether the table of the line fits its pattern and its subject.
 fn line_fits(alloc: Global, sig: &Signature, line: &str) -> Result<bool, Fail> {
     let mut parts = line.split('|');
     match (parts.next(), parts.next(), parts.next()) {
-        (Some(pattern), Some(subject), Some(takes)) => fits(
-            alloc,
-            sig,
-            &sound_plan(alloc, sig, pattern)?,
-            &term(alloc, sig, subject)?,
-            &table(alloc, sig, takes)?,
-        ),
+        (Some(pattern), Some(subject), Some(takes)) => {
+            let plan = sound_plan(alloc, sig, pattern)?;
+            texts_fit(alloc, sig, &plan, subject, takes)
+        }
         _ => Err("the line has fewer than three parts".into()),
     }
 }
 
+// The first line whose table doesn't fit, where it should, or fits.
+fn wrong_line(
+    alloc: Global,
+    sig: &Signature,
+    table: &'static str,
+    fits: bool,
+) -> Result<Option<&'static str>, Fail> {
+    for line in table.split('\n') {
+        if line_fits(alloc, sig, line)? != fits {
+            return Ok(Some(line));
+        }
+    }
+    Ok(None)
+}
+
 #[test]
 fn a_table_fits_where_each_node_obeys_its_line(rt: HostRuntime) -> Result<(), Fail> {
-    let alloc = rt.alloc();
-    let sig = signature(alloc, DECLARED)?;
-    for line in FITTING.split('\n') {
-        assert!(rt; line_fits(alloc, &sig, line)?, "{line}");
-    }
-    for line in OTHERS.split('\n') {
-        assert!(rt; !line_fits(alloc, &sig, line)?, "{line}");
+    let sig = signature(rt.alloc(), DECLARED)?;
+    for (table, fits) in [(FITTING, true), (OTHERS, false)] {
+        assert_eq!(rt; wrong_line(rt.alloc(), &sig, table, fits)?, None);
     }
     Ok(())
 }
