@@ -140,10 +140,18 @@ fn trees_keep_words_and_places(rt: HostRuntime) -> Result<(), Fail> {
     Ok(())
 }
 
+// The column of the sign of a flag, or 0.
+fn sign_column(flag: Flag) -> u32 {
+    match flag {
+        Flag::Infix(sign) => sign.place.column,
+        _ => 0,
+    }
+}
+
 // Whether the flags are `comm` and a sign in column 20.
 fn are_flags(flags: &[Flag<'_>]) -> bool {
     match flags {
-        [Flag::Comm, Flag::Infix(sign)] => sign.place.column == 20,
+        [Flag::Comm, second] => sign_column(*second) == 20,
         _ => false,
     }
 }
