@@ -23,12 +23,3 @@ pub fn told(alloc: Global, error: Option<TextError>) -> Result<String, Fail> {
         Some(TextError::Memory) => Err("memory ran out".into()),
     }
 }
-
-/// The text, with a line feed for each `&`.
-pub fn with_line_feeds(alloc: Global, text: &str) -> Result<Vec<u8>, Fail> {
-    let mut bytes = Vec::new(alloc);
-    for byte in text.as_bytes() {
-        bytes.push(if *byte == b'&' { b'\n' } else { *byte })?;
-    }
-    Ok(bytes)
-}

@@ -1,4 +1,4 @@
-//! Tests of the libraries' public calls over texts: what is read as which trees, which faults are told, what is printed, and what a
+//! Tests of the public calls of the libraries on patterns and files, over texts: which faults are told, what is printed, and what a
 //! pattern is: its order, its plan, its take tables and its items.
 #![tactic(auto)]
 
@@ -6,12 +6,6 @@
 mod alone;
 #[cfg(test)]
 mod case;
-#[cfg(test)]
-mod choices;
-#[cfg(test)]
-mod condition_trees;
-#[cfg(test)]
-mod devices;
 #[cfg(test)]
 mod faults;
 #[cfg(test)]
@@ -27,12 +21,4 @@ mod printed;
 #[cfg(test)]
 mod reading;
 #[cfg(test)]
-mod substitutions;
-#[cfg(test)]
-mod syntax_faults;
-#[cfg(test)]
-mod syntax_trees;
-#[cfg(test)]
 mod takes;
-#[cfg(test)]
-mod terms;

@@ -2,7 +2,7 @@
 ghost use Rattle.std.specs.Prelude.{◌<◌, ◌-◌, ◌^◌, length};
 
 use crate::alone::DECLARED;
-use crate::case::{halves, with_line_feeds};
+use crate::case::halves;
 use crate::reading::signature;
 use mp_io::MemorySink;
 use mp_term::Signature;
@@ -129,6 +129,15 @@ fn print(alloc: Global, sig: &Signature, sort: Sort, text: &[u8], sink: &mut Mem
         Sort::Condition => print_condition(alloc, sig, text, sink),
         Sort::File => print_file(alloc, text, sink),
     }
+}
+
+// The text, with a line feed for each `&`.
+fn with_line_feeds(alloc: Global, text: &str) -> Result<Vec<u8>, Fail> {
+    let mut bytes = Vec::new(alloc);
+    for byte in text.as_bytes() {
+        bytes.push(if *byte == b'&' { b'\n' } else { *byte })?;
+    }
+    Ok(bytes)
 }
 
 // Whether the wanted text is printed of the text.

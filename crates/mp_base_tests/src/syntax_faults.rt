@@ -1,5 +1,4 @@
 // The first faults of texts, by tokens and grammar.
-use crate::case::{halves, with_line_feeds};
 use mp_syntax::{
     Fault, Place, SyntaxError, first_token_place, read_condition, read_expression, read_statements,
 };
@@ -182,9 +181,20 @@ fn first_fault(alloc: Global, sort: Sort, text: &[u8]) -> Result<String, Fail> {
     }
 }
 
+// The text, with a line feed for each `&`.
+fn with_line_feeds(alloc: Global, text: &str) -> Result<Vec<u8>, Fail> {
+    let mut bytes = Vec::new(alloc);
+    for byte in text.as_bytes() {
+        bytes.push(if *byte == b'&' { b'\n' } else { *byte })?;
+    }
+    Ok(bytes)
+}
+
 // Whether the text of the line has the fault of the line.
 fn is_first(alloc: Global, sort: Sort, line: &str) -> Result<bool, Fail> {
-    let (text, fault) = halves(line)?;
+    let Some((text, fault)) = line.split_once('|') else {
+        return Err("the line has no bar".into());
+    };
     let text = with_line_feeds(alloc, text)?;
     Ok(first_fault(alloc, sort, &text)?.as_str() == fault)
 }

@@ -1,0 +1,17 @@
+//! Tests of the lowest libraries' public calls: devices, terms, substitutions, choices, and what texts are read as by tokens and grammar.
+#![tactic(auto)]
+
+#[cfg(test)]
+mod choices;
+#[cfg(test)]
+mod condition_trees;
+#[cfg(test)]
+mod devices;
+#[cfg(test)]
+mod substitutions;
+#[cfg(test)]
+mod syntax_faults;
+#[cfg(test)]
+mod syntax_trees;
+#[cfg(test)]
+mod terms;
