@@ -6,11 +6,13 @@ use Rattle.mp_syntax.specs.declared.condition_tree.Condition.{Condition, Conditi
 use Rattle.mp_syntax.specs.Syntax.{more_literals, literals, more_alternatives, condition}
 use Rattle.mp_syntax.specs.View.{literal_tree, row_literals, row_alternatives, alternative_tree, condition_tree}
 
+-- the literals of a row, as a list of them
 row_literals-row : (n : _) (row : Row_of-Literal n) → row_literals row ≡ literals (map literal_tree (items-the_row-Literal n row))
 row_literals-row n end_of-Literal = refl
 row_literals-row n (more_of-Literal l row) = ap (more_literals (literal_tree l)) (row_literals-row _ row)
 
-row_alternatives-row : (n : _) (row : Row_of-Alternative n) → row_alternatives row ≡ condition (map alternative_tree (items-the_row-Alternative n row))
+-- the alternatives of a row, as a list of them
+pub row_alternatives-row : (n : _) (row : Row_of-Alternative n) → row_alternatives row ≡ condition (map alternative_tree (items-the_row-Alternative n row))
 row_alternatives-row n end_of-Alternative = refl
 row_alternatives-row n (more_of-Alternative shape ls row) =
     λ i. more_alternatives ((row_literals-row _ ls ∙ ap (λ l. literals (map literal_tree l)) (sym (items_shown-the_row-Literal-0 shape ls))) i) (row_alternatives-row _ row i)

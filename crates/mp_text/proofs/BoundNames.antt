@@ -10,6 +10,7 @@ use Rattle.std.proofs.lemmas.List.Folds.{list_any-append}
 use Rattle.std.proofs.lemmas.List.Sorted.{IsPermutation-sym, All-permutation}
 use Rattle.std.proofs.lemmas.Map.Text.{is_eq-slice_cmp}
 use Rattle.std.proofs.lemmas.Slice.Eq.{bytes_eq-Decides}
+use Rattle.std.proofs.lemmas.Bool.{or_parts}
 use Rattle.mp_term.specs.Signature.{Sig}
 use Rattle.mp_pattern.specs.Firsts.{firsts_after, is_known, add_new}
 use Rattle.mp_pattern.specs.Normal.{normal_pattern}
@@ -21,7 +22,6 @@ use Rattle.mp_text.specs.Build.{pattern_of}
 use Rattle.mp_text.specs.Names.{named, wildcard_names, all_wildcard_names, wildcards, all_wildcards}
 use Rattle.mp_text.specs.Scope.{wildcard_variable, pattern_variables, is_bound}
 use Rattle.mp_text.proofs.Declared.{bytes_eq_comm}
-use Rattle.mp_text.proofs.Faultless.{or-second}
 use Rattle.mp_text.proofs.SoundLaws.{is_known-alike, variables-pattern_of}
 
 differ : true ≡ false → ⊥
@@ -81,7 +81,7 @@ module _ (x : List ℕ) where
   all-unknown : (ys : List (List ℕ)) → is_known same_name ys x ≡ false → AllByRecursion (λ y. same_name y x ≡ false) ys
   all-unknown [] h = tt
   all-unknown (y ∷ ys) h =
-      let p = or-second (same_name y x) (is_known same_name ys x) h in
+      let p = or_parts (same_name y x) (is_known same_name ys x) h in
       (p.0, all-unknown ys p.1)
 
   none-known : (ys : List (List ℕ)) → AllByRecursion (λ y. same_name y x ≡ false) ys → is_known same_name ys x ≡ false

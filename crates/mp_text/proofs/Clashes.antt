@@ -4,6 +4,7 @@ use Rattle.std.specs.List.{list_any}
 use Rattle.std.specs.Str.{bytes_eq}
 use Rattle.std.proofs.lemmas.List.{map-append}
 use Rattle.std.proofs.lemmas.Slice.Eq.{bytes_eq-Decides}
+use Rattle.std.proofs.lemmas.Bool.{not-false}
 use Rattle.mp_term.specs.Signature.{Sig}
 use Rattle.mp_pattern.specs.PatternTree as pattern
 use Rattle.mp_pattern.specs.PatternTree.{Pattern, symbol_pattern, app_pattern, wild_pattern, Patterns, no_patterns, more_patterns}
@@ -17,7 +18,7 @@ use Rattle.mp_text.specs.Wildcards.{DefaultForm, absent, normal_form, unknown, P
 use Rattle.mp_text.specs.Build.{kind_shape, shape_of, variable_of, pattern_of, patterns_of}
 use Rattle.mp_text.specs.Checks.{fault_if, head_faults, arity_faults, sign_faults, allows_patterns, op_named, op_signed, kind_unknown, default_faults, wildcard_faults, pattern_faults, pattern_operand_faults, all_pattern_faults}
 use Rattle.mp_text.proofs.Words.{first-of, second-of}
-use Rattle.mp_text.proofs.Faultless.{nil-append, nil-fault_if, not-false}
+use Rattle.mp_text.proofs.Faultless.{nil-append, nil-fault_if}
 use Rattle.mp_text.proofs.Defaults.{default_form-default_faults}
 
 -- ---- wildcards of syntax trees

@@ -1,20 +1,11 @@
 -- The trees of conditions, whose parts the code holds in vectors.
-use Rattle.std.proofs.Common.{◌≡◌, ◌≤◌, ◌<◌, List, [], ◌∷◌, map, length, get_or, refl, sym, ap, ◌∙◌, arith}
-use Rattle.mp_syntax.specs.declared.condition_tree.Alternative.{Alternative, Row_of-Literal, end_of-Literal, more_of-Literal, items-the_row-Literal, items_shown-the_row-Literal-0}
-use Rattle.mp_syntax.specs.declared.condition_tree.Condition.{Condition, Condition', Row_of-Alternative, end_of-Alternative, more_of-Alternative, items-the_row-Alternative, items_shown-the_row-Alternative-1, out-Condition}
+use Rattle.std.proofs.Common.{◌≡◌, ◌≤◌, ◌<◌, List, [], ◌∷◌, map, length, get_or, sym, ap, ◌∙◌, arith}
+use Rattle.mp_syntax.specs.declared.condition_tree.Alternative.{Alternative}
+use Rattle.mp_syntax.specs.declared.condition_tree.Condition.{Condition, Condition', items_shown-the_row-Alternative-1, out-Condition}
 use Rattle.mp_syntax.specs.declared.condition_tree.Literal.TheViews.{outs-struct-Condition}
-use Rattle.mp_syntax.specs.Syntax.{literals, condition, more_literals, no_alternatives, more_alternatives}
-use Rattle.mp_syntax.specs.View.{literal_tree, row_literals, row_alternatives, alternative_tree, condition_tree}
-
-row_literals-row : (n : _) (row : Row_of-Literal n) → row_literals row ≡ literals (map literal_tree (items-the_row-Literal n row))
-row_literals-row n end_of-Literal = refl
-row_literals-row n (more_of-Literal l row) = ap (more_literals (literal_tree l)) (row_literals-row _ row)
-
-row_alternatives-row : (n : _) (row : Row_of-Alternative n) → row_alternatives row ≡ condition (map alternative_tree (items-the_row-Alternative n row))
-row_alternatives-row n end_of-Alternative = refl
-row_alternatives-row n (more_of-Alternative shape ls row) =
-    (λ i. more_alternatives (row_literals-row _ ls i) (row_alternatives-row _ row i))
-    ∙ ap (λ l. more_alternatives (literals (map literal_tree l)) (condition (map alternative_tree (items-the_row-Alternative _ row)))) (sym (items_shown-the_row-Literal-0 shape ls))
+use Rattle.mp_syntax.specs.Syntax.{condition, no_alternatives, more_alternatives}
+use Rattle.mp_syntax.specs.View.{alternative_tree, condition_tree}
+use Rattle.mp_syntax.proofs.ConditionTrees.{row_alternatives-row}
 
 -- a condition is its alternatives
 condition_tree-alternatives : (c : Condition) → condition_tree c ≡ condition (map alternative_tree (out-Condition c).alternatives.items)

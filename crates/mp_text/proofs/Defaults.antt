@@ -2,6 +2,7 @@
 use Rattle.std.proofs.Common.{◌≡◌, true, List, [], ◌∷◌, ◌++◌, length, ℕ, Bool, Option, Some, None, refl, ap, ◌∙◌}
 use Rattle.std.specs.Prelude.{is_some, flat_map, if◌then◌else◌}
 use Rattle.std.specs.List.{AllByRecursion}
+use Rattle.std.proofs.lemmas.Bool.{and_from}
 use Rattle.mp_term.specs.declared.signature.OpDecl.{OpDecl}
 use Rattle.mp_term.specs.Signature.{Sig, allows}
 use Rattle.mp_term.specs.Normal.{normal}
@@ -15,7 +16,6 @@ use Rattle.mp_text.specs.Build.{op_number, sign_number, term_of, has_term, all_h
 use Rattle.mp_text.specs.Wildcards.{DefaultForm, normal_form, unknown, default_form}
 use Rattle.mp_text.specs.Checks.{fault_if, kind_unknown, op_at, op_named, op_signed, head_faults, arity_faults, sign_faults, term_wildcard_faults, term_faults, term_operand_faults, all_term_faults, default_faults}
 use Rattle.mp_text.specs.Sound.{DefaultsAreFormed, AllDefaultsAreFormed}
-use Rattle.mp_text.proofs.Words.{both}
 use Rattle.mp_text.proofs.Faultless.{nil-append, some-behind}
 
 -- ---- normal forms
@@ -77,12 +77,12 @@ module _ (sig : Sig) where
     has_term-term_faults (Apply f args) h =
         let passes = allows (length (tree_list args)) in
         let p = nil-append (head_faults passes f (op_named sig f.text)) (all_term_faults sig args) h in
-        both (is_some (op_number sig f.text)) (all_have_terms sig args) (known-head passes f (op_number sig f.text) p.0) (all_have_terms-term_faults args p.1)
+        and_from (is_some (op_number sig f.text)) (all_have_terms sig args) (known-head passes f (op_number sig f.text) p.0) (all_have_terms-term_faults args p.1)
     has_term-term_faults (InfixOf opened sign operands) h =
         let at_sign = sign_faults sign (op_signed sig sign.text) in
         let p = nil-append (arity_faults (allows (length (tree_list operands))) opened (op_signed sig sign.text)) (term_operand_faults sig at_sign operands) h in
         let q = nil-term_operands at_sign operands p.1 in
-        both (is_some (sign_number sig sign.text)) (all_have_terms sig operands) (known-sign sign (sign_number sig sign.text) q.0) (all_have_terms-term_faults operands q.1)
+        and_from (is_some (sign_number sig sign.text)) (all_have_terms sig operands) (known-sign sign (sign_number sig sign.text) q.0) (all_have_terms-term_faults operands q.1)
     has_term-term_faults (Wild w) h = absurd (some-behind (fault_if (kind_unknown sig w.kind) _ w.place) _ h)
     has_term-term_faults (Optional w others default) h = absurd (no-optional_term w others default h)
     has_term-term_faults (Variable x) h = cc
@@ -91,7 +91,7 @@ module _ (sig : Sig) where
     all_have_terms-term_faults no_trees h = refl
     all_have_terms-term_faults (more_trees t ts) h =
         let p = nil-append (term_faults sig t) (all_term_faults sig ts) h in
-        both (has_term sig t) (all_have_terms sig ts) (has_term-term_faults t p.0) (all_have_terms-term_faults ts p.1)
+        and_from (has_term sig t) (all_have_terms sig ts) (has_term-term_faults t p.0) (all_have_terms-term_faults ts p.1)
 
   -- a default without faults has a normal form
   pub default_form-default_faults : (others : List Wildcard) (default : Tree) → default_faults sig others default ≡ [] → default_form sig others default ≡ normal_form (normal sig (term_of sig default))

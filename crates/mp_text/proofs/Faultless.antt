@@ -1,6 +1,5 @@
 -- Lists without faults, and what tests that give no fault say.
-use Rattle.std.proofs.Common.{◌≡◌, ◌≤◌, ◌<◌, ℕ, Bool, true, false, leb, ltb, List, [], ◌∷◌, ◌++◌, ap, refl, ◌∙◌, rules}
-pub use Rattle.std.proofs.lemmas.Bool.{or_parts as or-second, not-false}
+use Rattle.std.proofs.Common.{◌≡◌, Bool, true, false, List, [], ◌∷◌, ◌++◌, ap, refl, ◌∙◌}
 use Rattle.mp_syntax.specs.declared.place.Place.{Place}
 use Rattle.mp_text.specs.declared.fault.TextKind.{TextKind}
 use Rattle.mp_text.specs.Checks.{fault_if}
@@ -23,14 +22,6 @@ some-behind (y ∷ a) x h = cc
 pub nil-fault_if : (test : Bool) (kind : TextKind) (place : Place) → fault_if test kind place ≡ [] → test ≡ false
 nil-fault_if true kind place h = cc
 nil-fault_if false kind place h = refl
-
--- a number that isn't above the bound
-pub within : (bound n : ℕ) → ltb bound n ≡ false → n ≤ bound
-within bound n h = search (rules, h)
-
--- a number that doesn't reach the bound
-pub below : (bound n : ℕ) → leb bound n ≡ false → n < bound
-below bound n h = search (rules, h)
 
 -- a test that doesn't hold gives no fault
 pub none-fault_if : (test : Bool) (kind : TextKind) (place : Place) → test ≡ false → fault_if test kind place ≡ []

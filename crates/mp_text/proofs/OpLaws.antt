@@ -1,5 +1,6 @@
 -- What the checks of a declaration say where they find no fault.
 use Rattle.std.proofs.Common.{◌≡◌, ◌≤◌, Bool, true, false, ◌||◌, not, ltb, List, [], ◌∷◌, ◌++◌, length, map}
+use Rattle.std.proofs.lemmas.Bool.{ltb-false, not-false, or_parts}
 use Rattle.mp_term.specs.declared.signature.OpDecl.{OpDecl}
 use Rattle.mp_term.specs.Signature.{in_order}
 use Rattle.mp_syntax.specs.Syntax.{Spot, Flag, Assoc, Comm, One, Infixed, HaveSigns}
@@ -8,7 +9,7 @@ use Rattle.mp_text.specs.Build.{op_decl}
 use Rattle.mp_text.specs.Checks.{fault_if, name_faults, has_bad_flags, held_sign_faults, op_faults}
 use Rattle.mp_text.specs.Flags.{some_flag_twice, sign_spot, is_long_sign, IsSpelledSign}
 use Rattle.mp_text.specs.Names.{number_of}
-use Rattle.mp_text.proofs.Faultless.{nil-append, nil-fault_if, or-second, within, not-false}
+use Rattle.mp_text.proofs.Faultless.{nil-append, nil-fault_if}
 use Rattle.mp_text.proofs.Words.{is_sign-IsInfixSign}
 
 -- a declaration without faults: its flags and its sign are in order, and its number is small
@@ -24,12 +25,12 @@ declarable-op_faults ds name least more flags h =
     let p = nil-append (name_faults 256 (map (λ d. d.name) ds) false name) (bad ++ (large ++ held_sign_faults ds (sign_spot flags))) h in
     let q = nil-append bad (large ++ held_sign_faults ds (sign_spot flags)) p.1 in
     let r = nil-append large (held_sign_faults ds (sign_spot flags)) q.1 in
-    let o = or-second (some_flag_twice flags) (is_long_sign (sign_spot flags) || not (in_order (op_decl name least more flags))) (nil-fault_if (has_bad_flags name least more flags) BadFlags name.place q.0) in
-    let s = or-second (is_long_sign (sign_spot flags)) (not (in_order (op_decl name least more flags))) o.1 in
+    let o = or_parts (some_flag_twice flags) (is_long_sign (sign_spot flags) || not (in_order (op_decl name least more flags))) (nil-fault_if (has_bad_flags name least more flags) BadFlags name.place q.0) in
+    let s = or_parts (is_long_sign (sign_spot flags)) (not (in_order (op_decl name least more flags))) o.1 in
     record {
       ordered = not-false (in_order (op_decl name least more flags)) s.1;
       short = s.0;
-      small = within 1000 (number_of least.text) (nil-fault_if (ltb 1000 (number_of least.text)) TooMany least.place r.0);
+      small = ltb-false 1000 (number_of least.text) (nil-fault_if (ltb 1000 (number_of least.text)) TooMany least.place r.0);
     }
 
 -- the sign of flags whose signs are signs, where it isn't long
@@ -38,7 +39,7 @@ IsSpelledSign-HaveSigns [] h short = tt
 IsSpelledSign-HaveSigns (Assoc ∷ flags) h short = IsSpelledSign-HaveSigns flags h.1 short
 IsSpelledSign-HaveSigns (Comm ∷ flags) h short = IsSpelledSign-HaveSigns flags h.1 short
 IsSpelledSign-HaveSigns (One ∷ flags) h short = IsSpelledSign-HaveSigns flags h.1 short
-IsSpelledSign-HaveSigns (Infixed sign ∷ flags) h short = is_sign-IsInfixSign sign.text h.0 (within 4 (length sign.text) short)
+IsSpelledSign-HaveSigns (Infixed sign ∷ flags) h short = is_sign-IsInfixSign sign.text h.0 (ltb-false 4 (length sign.text) short)
 
 -- the last of three tests decides where the others fail
 pub third-of : (a b d r : Bool) → a ≡ false → b ≡ false → r ≡ d → r ≡ (a || (b || d))

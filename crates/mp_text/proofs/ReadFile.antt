@@ -4,6 +4,7 @@ use Rattle.std.specs.Prelude.{option_map, flat_map}
 use Rattle.std.specs.List.{list_any, AllByRecursion}
 use Rattle.std.specs.Str.{bytes_eq}
 use Rattle.std.proofs.lemmas.List.{length-map}
+use Rattle.std.proofs.lemmas.Bool.{ltb-false, or_parts}
 use Rattle.mp_term.specs.declared.signature.OpDecl.{OpDecl}
 use Rattle.mp_term.specs.Signature.{Sig, Kind, has_name, has_sign, shares_sign, clashes, op_fault, kind_fault, kind_names, IsSignature}
 use Rattle.mp_term.proofs.NameSets.{names_ascend-name_set}
@@ -22,7 +23,7 @@ use Rattle.mp_text.specs.Flags.{sign_spot, is_long_sign}
 use Rattle.mp_text.specs.Names.{rule_names, subject_names, number_of}
 use Rattle.mp_text.specs.Spelled.{piece}
 use Rattle.mp_text.proofs.Declared.{is_among-has_name, is_among-list_any, op_decls-append, op_decls-other, kind_decls-append, kind_decls-other, rules_of-append, subjects_of-append}
-use Rattle.mp_text.proofs.Faultless.{nil-append, nil-fault_if, or-second, within}
+use Rattle.mp_text.proofs.Faultless.{nil-append, nil-fault_if}
 use Rattle.mp_text.proofs.OpLaws.{declarable-op_faults}
 use Rattle.mp_text.proofs.SoundLaws.{named-by}
 use Rattle.mp_text.proofs.SpelledHead.{IsSomeSign, IsSymbolOf, IsSymbolOf-symbol_faults}
@@ -63,8 +64,8 @@ other-sign ds (Some sign) h = nil-fault_if (list_any (has_sign sign.text) ds) _ 
 none-clashes : (d : OpDecl) (ds : List OpDecl) → list_any (has_name d.name) ds ≡ false → list_any (shares_sign d.sign) ds ≡ false → list_any (clashes d) ds ≡ false
 none-clashes d [] h k = refl
 none-clashes d (e ∷ ds) h k =
-    let o = or-second (has_name d.name e) (list_any (has_name d.name) ds) h in
-    let p = or-second (shares_sign d.sign e) (list_any (shares_sign d.sign) ds) k in
+    let o = or_parts (has_name d.name e) (list_any (has_name d.name) ds) h in
+    let p = or_parts (shares_sign d.sign e) (list_any (shares_sign d.sign) ds) k in
     rw (o.0, p.0) (none-clashes d ds o.1 p.1)
 
 -- an operation whose declaration has no faults may be added
@@ -161,7 +162,7 @@ module _ (ds : List OpDecl) where
       let room : leb 256 (length (kind_names sig)) ≡ false = search (rules, n.few) in
       let new : list_any (bytes_eq name.text) (kind_names sig) ≡ false = is_among-list_any name.text (kind_names sig) ∙ n.other in
       let addable : kind_fault sig name.text ≡ None = rw (new, room) refl in
-      let few : length members ≤ 10000 = within 10000 (length members) n.small in
+      let few : length members ≤ 10000 = ltb-false 10000 (length members) n.small in
       let own : IsDeclaredKind ds k = record {
         name = read.names.0;
         members = all-name_set (IsSymbolOf (sig_with ds [])) written (symbols-of ds earlier members read.names.1 p.1);

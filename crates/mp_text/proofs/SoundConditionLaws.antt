@@ -4,6 +4,7 @@ use Rattle.std.specs.Prelude.{◌≢◌, ◌&&◌, is_some, is_none, slice_get, 
 use Rattle.std.specs.List.{position_or_len, list_any, AllByRecursion}
 use Rattle.std.specs.Str.{bytes_eq}
 use Rattle.std.proofs.lemmas.List.Folds.{list_any-append}
+use Rattle.std.proofs.lemmas.Bool.{and_from, ltb-false, not-false, or_parts}
 use Rattle.mp_term.specs.Signature.{Sig, all_in_order, has_name, kind_names}
 use Rattle.mp_term.specs.Normal.{normal}
 use Rattle.mp_term.proofs.NormalSize.{normal-normal, node_count-normal}
@@ -27,8 +28,7 @@ use Rattle.mp_text.specs.Conditions as conditions
 use Rattle.mp_text.specs.Conditions.{literal_atoms, literals_atoms, atoms, joined, negated_if, operand_of, amount_of, atom_of, literal_of, literals_of, alternatives_of, alternative_of, cond_of}
 use Rattle.mp_text.specs.ConditionChecks.{has_large_amount, has_large_operand, single_faults, property_faults, operand_faults, amount_faults, atom_faults, literal_faults, literals_faults, condition_faults}
 use Rattle.mp_text.specs.SoundCondition.{IsSoundOperand, holds_names, all_hold_names, IsJoined, AreJoined, IsSoundCondition}
-use Rattle.mp_text.proofs.Faultless.{nil-append, nil-fault_if, or-second, within, not-false}
-use Rattle.mp_text.proofs.Words.{both}
+use Rattle.mp_text.proofs.Faultless.{nil-append, nil-fault_if}
 use Rattle.mp_text.proofs.SoundLaws.{well_formed-term_of, node_count-term_of}
 
 -- ---- names
@@ -74,7 +74,7 @@ module _ (sig : Sig) (ordered : all_in_order sig.ops ≡ true) (vs : List scope.
 
   good-term : (t : Tree) → term_faults sig t ≡ [] → is_large_operand t ≡ false → GoodOperand (held.ground (normal sig (term_of sig t)))
   good-term t none small =
-      let few : nodes t ≤ 64 = within 64 (nodes t) (or-second (ltb 64 (nodes t)) (has_large_default t) small).0 in
+      let few : nodes t ≤ 64 = ltb-false 64 (nodes t) (or_parts (ltb 64 (nodes t)) (has_large_default t) small).0 in
       record { over = omega (arith, node_count-normal sig (term_of sig t), node_count-term_of sig t, few); sound = (normal-normal sig (term_of sig t), wf-normal sig ordered (term_of sig t) (well_formed-term_of sig t none)) }
 
   good-operand : (t : Tree) → HasNames t → operand_faults sig (Some vs) t ≡ [] → is_large_operand t ≡ false → GoodOperand (operand_of sig t)
@@ -87,46 +87,46 @@ module _ (sig : Sig) (ordered : all_in_order sig.ops ≡ true) (vs : List scope.
 
   good-amount : (m : Amount) → AmountHasNames m → amount_faults sig (Some vs) m ≡ [] → has_large_amount m ≡ false → AllByRecursion GoodOperand (amount_operands (amount_of sig m))
   good-amount (Number n) names none small = tt
-  good-amount (Measured Count t) names none small = (good-operand t names none (or-second (is_large_operand t) false small).0, tt)
-  good-amount (Measured Size t) names none small = (good-operand t names none (or-second (is_large_operand t) false small).0, tt)
+  good-amount (Measured Count t) names none small = (good-operand t names none (or_parts (is_large_operand t) false small).0, tt)
+  good-amount (Measured Size t) names none small = (good-operand t names none (or_parts (is_large_operand t) false small).0, tt)
 
   good-atom : (a : Atom) → AtomHasNames a → atom_faults sig (Some vs) a ≡ [] → has_large_operand a ≡ false → Good (atom_of sig a)
   good-atom (Compare m s n) names none small =
       let p = nil-append (amount_faults sig (Some vs) m) (amount_faults sig (Some vs) n) none in
-      let o = or-second (has_large_amount m) (has_large_amount n) (sym (list_any-append is_large_operand (conditions.amount_operands m) (conditions.amount_operands n)) ∙ small) in
+      let o = or_parts (has_large_amount m) (has_large_amount n) (sym (list_any-append is_large_operand (conditions.amount_operands m) (conditions.amount_operands n)) ∙ small) in
       record { each = all-append GoodOperand (amount_operands (amount_of sig m)) (amount_operands (amount_of sig n)) (good-amount m names.0 p.0 o.0) (good-amount n names.1 p.1 o.1); named = refl; parts = tt }
   good-atom (Relate Same t u) names none small =
       let p = nil-append (operand_faults sig (Some vs) t) (operand_faults sig (Some vs) u) none in
-      let o = or-second (is_large_operand t) (is_large_operand u || false) small in
-      record { each = (good-operand t names.0 p.0 o.0, (good-operand u names.1 p.1 (or-second (is_large_operand u) false o.1).0, tt)); named = refl; parts = tt }
+      let o = or_parts (is_large_operand t) (is_large_operand u || false) small in
+      record { each = (good-operand t names.0 p.0 o.0, (good-operand u names.1 p.1 (or_parts (is_large_operand u) false o.1).0, tt)); named = refl; parts = tt }
   good-atom (Relate Less t u) names none small =
       let p = nil-append (operand_faults sig (Some vs) t ++ single_faults (Some vs) t) (operand_faults sig (Some vs) u ++ single_faults (Some vs) u) none in
-      let o = or-second (is_large_operand t) (is_large_operand u || false) small in
+      let o = or_parts (is_large_operand t) (is_large_operand u || false) small in
       record {
         each = (
           good-operand t names.0 (nil-append (operand_faults sig (Some vs) t) (single_faults (Some vs) t) p.0).0 o.0,
-          (good-operand u names.1 (nil-append (operand_faults sig (Some vs) u) (single_faults (Some vs) u) p.1).0 (or-second (is_large_operand u) false o.1).0, tt),
+          (good-operand u names.1 (nil-append (operand_faults sig (Some vs) u) (single_faults (Some vs) u) p.1).0 (or_parts (is_large_operand u) false o.1).0, tt),
         );
         named = refl;
         parts = tt;
       }
   good-atom (Relate Free t u) names none small =
       let p = nil-append (operand_faults sig (Some vs) t) (operand_faults sig (Some vs) u) none in
-      let o = or-second (is_large_operand t) (is_large_operand u || false) small in
-      record { each = (good-operand t names.0 p.0 o.0, (good-operand u names.1 p.1 (or-second (is_large_operand u) false o.1).0, tt)); named = refl; parts = tt }
+      let o = or_parts (is_large_operand t) (is_large_operand u || false) small in
+      record { each = (good-operand t names.0 p.0 o.0, (good-operand u names.1 p.1 (or_parts (is_large_operand u) false o.1).0, tt)); named = refl; parts = tt }
   good-atom (Test properties.Kind t n) names none small =
       let p = nil-append (operand_faults sig (Some vs) t) (property_faults sig properties.Kind n) none in
-      record { each = (good-operand t names.0 p.0 (or-second (is_large_operand t) false small).0, tt); named = held-position (bytes_eq n.text) (kind_names sig) (nil-fault_if (is_none (kind_number sig n.text)) kinds.UnknownKind n.place p.1); parts = tt }
+      record { each = (good-operand t names.0 p.0 (or_parts (is_large_operand t) false small).0, tt); named = held-position (bytes_eq n.text) (kind_names sig) (nil-fault_if (is_none (kind_number sig n.text)) kinds.UnknownKind n.place p.1); parts = tt }
   good-atom (Test properties.Head t n) names none small =
       let p = nil-append (operand_faults sig (Some vs) t) (property_faults sig properties.Head n) none in
-      record { each = (good-operand t names.0 p.0 (or-second (is_large_operand t) false small).0, tt); named = held-position (has_name n.text) sig.ops (nil-fault_if (is_none (op_number sig n.text)) kinds.UnknownOp n.place p.1); parts = tt }
+      record { each = (good-operand t names.0 p.0 (or_parts (is_large_operand t) false small).0, tt); named = held-position (has_name n.text) sig.ops (nil-fault_if (is_none (op_number sig n.text)) kinds.UnknownOp n.place p.1); parts = tt }
 
   good-negated_if : (negated : Bool) (c : Cond) → Good c → Good (negated_if negated c)
   good-negated_if true c g = record { each = g.each; named = g.named; parts = g.parts }
   good-negated_if false c g = g
 
   good-more : (c : Cond) (cs : Conds) → Good c → AllGood cs → AllGood (more_conds c cs)
-  good-more c cs g h = record { each = all-append GoodOperand (operands c) (all_operands cs) g.each h.each; named = both (holds_names sig c) (all_hold_names sig cs) g.named h.named; parts = (g.parts, h.parts) }
+  good-more c cs g h = record { each = all-append GoodOperand (operands c) (all_operands cs) g.each h.each; named = and_from (holds_names sig c) (all_hold_names sig cs) g.named h.named; parts = (g.parts, h.parts) }
 
   -- there is a condition
   abbrev HasCond : Conds → Type 0
@@ -160,7 +160,7 @@ module _ (sig : Sig) (ordered : all_in_order sig.ops ≡ true) (vs : List scope.
 
   mutual
     good-literal_of : (room : ℕ) (l : Literal) → FitsLiteral room l → LiteralHasNames l → literal_faults sig (Some vs) l ≡ [] → list_any has_large_operand (literal_atoms l) ≡ false → Good (literal_of sig l)
-    good-literal_of room (AtomOf negated a) fit names none small = good-negated_if negated (atom_of sig a) (good-atom a names none (or-second (has_large_operand a) false small).0)
+    good-literal_of room (AtomOf negated a) fit names none small = good-negated_if negated (atom_of sig a) (good-atom a names none (or_parts (has_large_operand a) false small).0)
     good-literal_of zero (Bracketed negated c) fit names none small = absurd fit
     good-literal_of (suc room) (Bracketed negated c) fit names none small =
         good-negated_if negated (cond_of sig c) (good-any_of (alternatives_of sig c) (some-alternatives_of c fit.0) (good-alternatives_of room c fit.1 names none small))
@@ -169,14 +169,14 @@ module _ (sig : Sig) (ordered : all_in_order sig.ops ≡ true) (vs : List scope.
     good-literals_of room no_literals fit names none small = record { each = tt; named = refl; parts = tt }
     good-literals_of room (more_literals l ls) fit names none small =
         let p = nil-append (literal_faults sig (Some vs) l) (literals_faults sig (Some vs) ls) none in
-        let o = or-second (list_any has_large_operand (literal_atoms l)) (list_any has_large_operand (literals_atoms ls)) (sym (list_any-append has_large_operand (literal_atoms l) (literals_atoms ls)) ∙ small) in
+        let o = or_parts (list_any has_large_operand (literal_atoms l)) (list_any has_large_operand (literals_atoms ls)) (sym (list_any-append has_large_operand (literal_atoms l) (literals_atoms ls)) ∙ small) in
         good-more (literal_of sig l) (literals_of sig ls) (good-literal_of room l fit.0 names.0 p.0 o.0) (good-literals_of room ls fit.1 names.1 p.1 o.1)
 
     good-alternatives_of : (room : ℕ) (c : Condition) → AlternativesFit room c → ConditionHasNames c → condition_faults sig (Some vs) c ≡ [] → list_any has_large_operand (atoms c) ≡ false → AllGood (alternatives_of sig c)
     good-alternatives_of room no_alternatives fit names none small = record { each = tt; named = refl; parts = tt }
     good-alternatives_of room (more_alternatives a c) fit names none small =
         let p = nil-append (literals_faults sig (Some vs) a) (condition_faults sig (Some vs) c) none in
-        let o = or-second (list_any has_large_operand (literals_atoms a)) (list_any has_large_operand (atoms c)) (sym (list_any-append has_large_operand (literals_atoms a) (atoms c)) ∙ small) in
+        let o = or_parts (list_any has_large_operand (literals_atoms a)) (list_any has_large_operand (atoms c)) (sym (list_any-append has_large_operand (literals_atoms a) (atoms c)) ∙ small) in
         good-more (alternative_of sig a) (alternatives_of sig c)
         (good-all_of (literals_of sig a) (some-literals_of a fit.0) (good-literals_of room a fit.1 names.0 p.0 o.0)) (good-alternatives_of room c fit.2 names.1 p.1 o.1)
 

@@ -1,7 +1,6 @@
 -- A file that is read is sound.
-use Rattle.mp_text.proofs.Words.{both}
 use Rattle.mp_text.proofs.OpLaws.{declarable-op_faults}
-use Rattle.mp_text.proofs.Faultless.{nil-append, or-second}
+use Rattle.mp_text.proofs.Faultless.{nil-append}
 use Rattle.std.proofs.Common.{◌≡◌, ◌≤◌, ◌<◌, ℕ, true, false, ◌||◌, ltb, List, [], ◌∷◌, ◌++◌, length, Option, Some, None, append-nil, append_assoc, length-append, refl, sym, ap, ◌∙◌, subst, arith}
 use Rattle.std.specs.Prelude.{Result, Ok, Err, IfOk}
 use Rattle.std.specs.List.{AllByRecursion}
@@ -15,6 +14,7 @@ use Rattle.mp_syntax.specs.Syntax.{Condition, FitsIf, IfHasNames, StatementsHave
 use Rattle.mp_syntax.proofs.Whole.{syntax-names}
 use Rattle.mp_pattern.specs.Admission.{Rule}
 use Rattle.std.specs.List.{list_any}
+use Rattle.std.proofs.lemmas.Bool.{and_from, or_parts}
 use Rattle.mp_pattern.specs.Operands.{HasConditionOver}
 use Rattle.mp_text.specs.Conditions.{atoms}
 use Rattle.mp_text.specs.ConditionChecks.{has_large_operand}
@@ -45,7 +45,7 @@ all_in_order-op_decls : (earlier ss : List Statement) → faults_by op_statement
 all_in_order-op_decls earlier [] h = refl
 all_in_order-op_decls earlier (OpOf name least more flags ∷ ss) h =
     let p = nil-append (op_faults (op_decls earlier) name least more flags) (faults_by op_statement_faults (earlier ++ OpOf name least more flags ∷ []) ss) h in
-    both (signature.in_order (op_decl name least more flags)) (all_in_order (op_decls ss)) (declarable-op_faults (op_decls earlier) name least more flags p.0).ordered (all_in_order-op_decls (earlier ++ OpOf name least more flags ∷ []) ss p.1)
+    and_from (signature.in_order (op_decl name least more flags)) (all_in_order (op_decls ss)) (declarable-op_faults (op_decls earlier) name least more flags p.0).ordered (all_in_order-op_decls (earlier ++ OpOf name least more flags ∷ []) ss p.1)
 all_in_order-op_decls earlier (KindOf name members ∷ ss) h = all_in_order-op_decls (earlier ++ KindOf name members ∷ []) ss h
 all_in_order-op_decls earlier (RuleOf name p c ∷ ss) h = all_in_order-op_decls (earlier ++ RuleOf name p c ∷ []) ss h
 all_in_order-op_decls earlier (SubjectOf name t ∷ ss) h = all_in_order-op_decls (earlier ++ SubjectOf name t ∷ []) ss h
@@ -62,7 +62,7 @@ module _ (sig : Sig) where
       let q = nil-append (statement_faults sig earlier (RuleOf name p c)) (faults_by (statement_faults sig) (earlier ++ RuleOf name p c ∷ []) ss) h in
       let large = is_large_pattern p || has_large_condition c in
       let r = nil-append (name_faults 1000 (rule_names earlier) large name) (rule_faults sig p c) q.0 in
-      let small = or-second (is_large_pattern p) (has_large_condition c) (named-by 1000 (rule_names earlier) large name r.0).small in
+      let small = or_parts (is_large_pattern p) (has_large_condition c) (named-by 1000 (rule_names earlier) large name r.0).small in
       (sound-pattern sig ordered p small.0 (nil-append (whole_pattern_faults sig p) (if_faults sig (Some (pattern_variables p)) c) r.1).0 fit.0.0, sound-rules ordered (earlier ++ RuleOf name p c ∷ []) ss fit.1 q.1)
   sound-rules ordered earlier (SubjectOf name t ∷ ss) fit h =
       sound-rules ordered (earlier ++ SubjectOf name t ∷ []) ss fit.1 (nil-append (statement_faults sig earlier (SubjectOf name t)) (faults_by (statement_faults sig) (earlier ++ SubjectOf name t ∷ []) ss) h).1
@@ -75,7 +75,7 @@ module _ (sig : Sig) where
   sound-if : all_in_order sig.ops ≡ true → (name : Spot) (p : Tree) (c : Option Condition) → FitsIf c → IfHasNames c → if_faults sig (Some (pattern_variables p)) c ≡ [] → has_large_condition c ≡ false → SoundIf (rule_of sig name p c)
   sound-if ordered name p None fit names none small = record { over = tt; sound = tt }
   sound-if ordered name p (Some c) fit names none small =
-      let o = or-second (ltb 64 (length (atoms c))) (list_any has_large_operand (atoms c)) small in
+      let o = or_parts (ltb 64 (length (atoms c))) (list_any has_large_operand (atoms c)) small in
       let xs = variables (normal_pattern sig (pattern_of sig p)) in
       let s = sound-cond_of sig ordered (pattern_variables p) xs (λ x some h. known-variables x some sig p h) 100 c fit names none o.1 in
       record { over = s.0; sound = s.1 }
@@ -89,7 +89,7 @@ module _ (sig : Sig) where
       let q = nil-append (statement_faults sig earlier (RuleOf name p c)) (faults_by (statement_faults sig) (earlier ++ RuleOf name p c ∷ []) ss) h in
       let large = is_large_pattern p || has_large_condition c in
       let r = nil-append (name_faults 1000 (rule_names earlier) large name) (rule_faults sig p c) q.0 in
-      let small = or-second (is_large_pattern p) (has_large_condition c) (named-by 1000 (rule_names earlier) large name r.0).small in
+      let small = or_parts (is_large_pattern p) (has_large_condition c) (named-by 1000 (rule_names earlier) large name r.0).small in
       (sound-if ordered name p c fit.0.1 names.0.2 (nil-append (whole_pattern_faults sig p) (if_faults sig (Some (pattern_variables p)) c) r.1).1 small.1, sound-conditions ordered (earlier ++ RuleOf name p c ∷ []) ss names.1 fit.1 q.1)
   sound-conditions ordered earlier (SubjectOf name t ∷ ss) names fit h =
       sound-conditions ordered (earlier ++ SubjectOf name t ∷ []) ss names.1 fit.1 (nil-append (statement_faults sig earlier (SubjectOf name t)) (faults_by (statement_faults sig) (earlier ++ SubjectOf name t ∷ []) ss) h).1

@@ -1,7 +1,7 @@
 -- What the checks let through is sound.
 use Rattle.std.specs.Prelude.{if◌then◌else◌}
-use Rattle.mp_text.proofs.Words.{both, first-of, second-of}
-use Rattle.mp_text.proofs.Faultless.{nil-append, nil-fault_if, or-second, within, below, not-false, some-behind}
+use Rattle.mp_text.proofs.Words.{first-of, second-of}
+use Rattle.mp_text.proofs.Faultless.{nil-append, nil-fault_if, some-behind}
 use Rattle.std.proofs.Common.{eqb, ◌≡◌, ◌≤◌, ◌<◌, ◌+◌, ℕ, zero, suc, Bool, true, false, ◌||◌, ◌&&◌, leb, ltb, rules, List, [], ◌∷◌, ◌++◌, map, length, Option, Some, None, refl, ap, ◌∙◌, arith}
 use Rattle.std.specs.Prelude.{not, flat_map, slice_get}
 use Rattle.std.specs.List.{list_all}
@@ -9,7 +9,7 @@ use Rattle.std.specs.Str.{bytes_eq}
 use Rattle.std.proofs.lemmas.List.{map-append}
 use Rattle.std.proofs.lemmas.List.Sorted.{length_permutation}
 use Rattle.std.proofs.lemmas.Map.Text.{is_eq-slice_cmp}
-use Rattle.std.proofs.lemmas.Bool.{not-true}
+use Rattle.std.proofs.lemmas.Bool.{not-true, and_from, leb-false, ltb-false, not-false, or_parts}
 use Rattle.mp_term.specs.declared.signature.OpDecl.{OpDecl}
 use Rattle.mp_term.specs.Tree.{tree_list}
 use Rattle.mp_term.specs.Size.{node_count, node_counts, depth, greatest_depth}
@@ -168,14 +168,14 @@ module _ (sig : Sig) where
     small-pattern_of (InfixOf opened sign operands) h = small-patterns_of operands h
     small-pattern_of (Wild w) h = each-kind_shape DefaultIsSmall tt tt tt (λ k. tt) w.kind w.marks
     small-pattern_of (Optional w others default) h =
-        let few : nodes default ≤ 64 = within 64 (nodes default) (or-second (ltb 64 (nodes default)) (has_large_default default) h).0 in
+        let few : nodes default ≤ 64 = ltb-false 64 (nodes default) (or_parts (ltb 64 (nodes default)) (has_large_default default) h).0 in
         omega (arith, node_count-normal sig (term_of sig default), node_count-term_of default)
     small-pattern_of (Variable x) h = tt
 
     small-patterns_of : (ps : Trees) → some_large_default ps ≡ false → AllDefaultsAreSmall (patterns_of sig ps)
     small-patterns_of no_trees h = tt
     small-patterns_of (more_trees p ps) h =
-        let o = or-second (has_large_default p) (some_large_default ps) h in
+        let o = or_parts (has_large_default p) (some_large_default ps) h in
         (small-pattern_of p o.0, small-patterns_of ps o.1)
 
   mutual
@@ -260,7 +260,7 @@ module _ (sig : Sig) where
   is_loose-loose_faults (InfixOf opened sign operands) h = refl
   is_loose-loose_faults (Optional w others default) h = cc
   is_loose-loose_faults (Variable x) h = refl
-  is_loose-loose_faults (Wild w) h = go w.kind w.marks (within 1 w.marks (nil-fault_if (ltb 1 w.marks) _ w.place h))
+  is_loose-loose_faults (Wild w) h = go w.kind w.marks (ltb-false 1 w.marks (nil-fault_if (ltb 1 w.marks) _ w.place h))
     where
       by_tests : (three two : Bool) → three ≡ false → two ≡ false → is_loose (pattern.wild_pattern (if three then pattern.star else (if two then pattern.plus else pattern.dot)) (variable_of w.name)) ≡ false
       by_tests false false e k = refl
@@ -328,16 +328,16 @@ variables-pattern_of sig p = ap (firsts_after same_name []) (names-uses sig None
 -- another name behind all of them
 list_all-push : (p : List ℕ → Bool) (ns : List (List ℕ)) (n : List ℕ) → list_all p ns ≡ true → p n ≡ true → list_all p (ns ++ n ∷ []) ≡ true
 list_all-push p [] n h k = rw k refl
-list_all-push p (m ∷ ns) n h k = both (p m) (list_all p (ns ++ n ∷ [])) (first-of (p m) (list_all p ns) h) (list_all-push p ns n (second-of (p m) (list_all p ns) h) k)
+list_all-push p (m ∷ ns) n h k = and_from (p m) (list_all p (ns ++ n ∷ [])) (first-of (p m) (list_all p ns) h) (list_all-push p ns n (second-of (p m) (list_all p ns) h) k)
 
 -- a name that is none of the names, which differ
 pub are_distinct-push : (ns : List (List ℕ)) (n : List ℕ) → are_distinct ns ≡ true → is_among n ns ≡ false → are_distinct (ns ++ n ∷ []) ≡ true
 are_distinct-push [] n h k = refl
 are_distinct-push (m ∷ ns) n h k =
-    let o = or-second (bytes_eq m n) (is_among n ns) k in
+    let o = or_parts (bytes_eq m n) (is_among n ns) k in
     let p = first-of (list_all (λ x. not (bytes_eq x m)) ns) (are_distinct ns) h in
     let q = second-of (list_all (λ x. not (bytes_eq x m)) ns) (are_distinct ns) h in
-    both (list_all (λ x. not (bytes_eq x m)) (ns ++ n ∷ [])) (are_distinct (ns ++ n ∷ []))
+    and_from (list_all (λ x. not (bytes_eq x m)) (ns ++ n ∷ [])) (are_distinct (ns ++ n ∷ []))
     (list_all-push (λ x. not (bytes_eq x m)) ns n p (ap not (bytes_eq_comm n m ∙ o.0))) (are_distinct-push ns n q o.1)
 
 -- ---- statements
@@ -352,17 +352,17 @@ pub record Named (most : ℕ) (earlier : List (List ℕ)) (large : Bool) (name :
 pub named-by : (most : ℕ) (earlier : List (List ℕ)) (large : Bool) (name : Spot) → name_faults most earlier large name ≡ [] → Named most earlier large name
 named-by most earlier large name h =
     let p = nil-append (fault_if (is_among name.text earlier) _ name.place) (fault_if (leb most (length earlier) || large) _ name.place) h in
-    let o = or-second (leb most (length earlier)) large (nil-fault_if (leb most (length earlier) || large) _ name.place p.1) in
-    record { other = nil-fault_if (is_among name.text earlier) _ name.place p.0; few = below most (length earlier) o.0; small = o.1 }
+    let o = or_parts (leb most (length earlier)) large (nil-fault_if (leb most (length earlier) || large) _ name.place p.1) in
+    record { other = nil-fault_if (is_among name.text earlier) _ name.place p.0; few = leb-false most (length earlier) o.0; small = o.1 }
 
 -- the normal form of a pattern without faults
 pub sound-pattern : (sig : Sig) → all_in_order sig.ops ≡ true → (p : Tree) → is_large_pattern p ≡ false → whole_pattern_faults sig p ≡ [] → Fits 100 p → IsSoundPattern sig (normal_pattern sig (pattern_of sig p))
 sound-pattern sig ordered p small none fits =
-    let o = or-second (ltb 64 (nodes p)) (ltb 32 (length (variable_names p)) || has_large_default p) small in
-    let l = or-second (ltb 32 (length (variable_names p))) (has_large_default p) o.1 in
+    let o = or_parts (ltb 64 (nodes p)) (ltb 32 (length (variable_names p)) || has_large_default p) small in
+    let l = or_parts (ltb 32 (length (variable_names p))) (has_large_default p) o.1 in
     let q = nil-append (loose_faults p) (pattern_faults sig [] p) none in
-    let nodes_few : nodes p ≤ 64 = within 64 (nodes p) o.0 in
-    let names_few : length (variable_names p) ≤ 32 = within 32 (length (variable_names p)) l.0 in
+    let nodes_few : nodes p ≤ 64 = ltb-false 64 (nodes p) o.0 in
+    let names_few : length (variable_names p) ≤ 32 = ltb-false 32 (length (variable_names p)) l.0 in
     record {
       normal = normal_pattern-normal_pattern sig (pattern_of sig p);
       defaults = defaults-normal_pattern sig (pattern_of sig p) (defaults-pattern_of sig p);
@@ -379,7 +379,7 @@ sound-pattern sig ordered p small none fits =
 -- the normal form of a term without faults
 pub sound-term : (sig : Sig) → all_in_order sig.ops ≡ true → (t : Tree) → is_large_term t ≡ false → term_faults sig t ≡ [] → Fits 100 t → IsSoundTerm sig (normal sig (term_of sig t))
 sound-term sig ordered t small none fits =
-    let few : nodes t ≤ 100000 = within 100000 (nodes t) (or-second (ltb 100000 (nodes t)) (has_large_default t) small).0 in
+    let few : nodes t ≤ 100000 = ltb-false 100000 (nodes t) (or_parts (ltb 100000 (nodes t)) (has_large_default t) small).0 in
     record {
       normal = normal-normal sig (term_of sig t);
       formed = wf-normal sig ordered (term_of sig t) (well_formed-term_of sig t none);

@@ -6,6 +6,7 @@ use Rattle.std.specs.Char.{is_ascii_digit}
 use Rattle.std.specs.List.{list_all}
 use Rattle.std.specs.Str.{bytes_eq}
 use Rattle.std.proofs.lemmas.List.Folds.{list_any-append}
+use Rattle.std.proofs.lemmas.Bool.{ltb-false, or_parts}
 use Rattle.mp_io.specs.Devices.{Text}
 use Rattle.mp_term.specs.Tree as term
 use Rattle.mp_term.specs.Signature.{Sig, all_in_order}
@@ -35,7 +36,7 @@ use Rattle.mp_text.specs.Names.{number_of}
 use Rattle.mp_print.specs.PrintedCond.{op_name_text}
 use Rattle.mp_print.specs.Printing.{kind_name_text}
 use Rattle.mp_text.specs.Spelled.{piece, term_spelling, term_spellings, sense_spelling, operand_spelling, amount_spelling, literal_spelling}
-use Rattle.mp_text.proofs.Faultless.{nil-append, nil-both, nil-fault_if, none-fault_if, or-second, within}
+use Rattle.mp_text.proofs.Faultless.{nil-append, nil-both, nil-fault_if, none-fault_if}
 use Rattle.mp_text.proofs.SoundLaws.{well_formed-term_of, node_count-term_of, depth-term_of}
 use Rattle.mp_text.proofs.SpelledHead.{HasOps, each-held_spelling}
 use Rattle.mp_text.proofs.SpelledTerm.{HasSymbols-term_of, HasSymbols-normal, has_large_default-term_spelling, term_of-term_spelling, term_faults-term_spelling, HasNames-term_spelling, Fits-term_spelling, nodes-term_spelling}
@@ -133,7 +134,7 @@ module _ (sig : Sig) (h : HasOps sig) (ordered : all_in_order sig.ops ≡ true) 
       let u = term_spelling sig v in
       let formed = wf-normal sig ordered (term_of sig t) (well_formed-term_of sig t none) in
       let symbols = HasSymbols-normal sig (term_of sig t) (HasSymbols-term_of sig t names none) in
-      let few : nodes t ≤ 64 = within 64 (nodes t) (or-second (ltb 64 (nodes t)) (has_large_default t) small).0 in
+      let few : nodes t ≤ 64 = ltb-false 64 (nodes t) (or_parts (ltb 64 (nodes t)) (has_large_default t) small).0 in
       let few_again : nodes u ≤ 64 = omega (arith, nodes-term_spelling sig h v formed, node_count-normal sig (term_of sig t), node_count-term_of sig t, few) in
       let test : ltb 64 (nodes u) ≡ false = search (rules, few_again) in
       record {
@@ -177,7 +178,7 @@ module _ (sig : Sig) (h : HasOps sig) (ordered : all_in_order sig.ops ≡ true) 
   again-number : (n : Spot) → amount_faults sig (Some vs) (Number n) ≡ [] → AgainAmount (Number n) (again_amount sig (Number n))
   again-number n none =
       let number = number_of n.text in
-      let few : number ≤ 1000000 = within 1000000 number (nil-fault_if (ltb 1000000 number) _ n.place none) in
+      let few : number ≤ 1000000 = ltb-false 1000000 number (nil-fault_if (ltb 1000000 number) _ n.place none) in
       let w = number-written number few in
       let same = w.writes.value in
       let few_again : number_of (decimal number) ≤ 1000000 = subst (λ k. k ≤ 1000000) (sym same) few in
@@ -203,8 +204,8 @@ module _ (sig : Sig) (h : HasOps sig) (ordered : all_in_order sig.ops ≡ true) 
 
   again-amount : (m : Amount) → AmountHasNames m → amount_faults sig (Some vs) m ≡ [] → has_large_amount m ≡ false → AgainAmount m (again_amount sig m)
   again-amount (Number n) names none small = again-number n none
-  again-amount (Measured Count t) names none small = again-measured Count t (again-operand t names none (or-second (is_large_operand t) false small).0)
-  again-amount (Measured Size t) names none small = again-measured Size t (again-operand t names none (or-second (is_large_operand t) false small).0)
+  again-amount (Measured Count t) names none small = again-measured Count t (again-operand t names none (or_parts (is_large_operand t) false small).0)
+  again-amount (Measured Size t) names none small = again-measured Size t (again-operand t names none (or_parts (is_large_operand t) false small).0)
 
   -- the same of an atom
   pub record AgainAtom (a b : Atom) : Type 0 where
@@ -267,23 +268,23 @@ module _ (sig : Sig) (h : HasOps sig) (ordered : all_in_order sig.ops ≡ true) 
   pub again-atom : (a : Atom) → AtomHasNames a → atom_faults sig (Some vs) a ≡ [] → has_large_operand a ≡ false → AgainAtom a (again_atom sig a)
   again-atom (Compare m s n) names none small =
       let p = nil-append (amount_faults sig (Some vs) m) (amount_faults sig (Some vs) n) none in
-      let o = or-second (has_large_amount m) (has_large_amount n) (sym (list_any-append is_large_operand (amount_operands m) (amount_operands n)) ∙ small) in
+      let o = or_parts (has_large_amount m) (has_large_amount n) (sym (list_any-append is_large_operand (amount_operands m) (amount_operands n)) ∙ small) in
       again-compare m n s (again-amount m names.0 p.0 o.0) (again-amount n names.1 p.1 o.1)
   again-atom (Relate k t u) names none small =
       let p = nil-append (related_faults sig (Some vs) k t) (related_faults sig (Some vs) k u) none in
-      let o = or-second (is_large_operand t) (is_large_operand u || false) small in
+      let o = or_parts (is_large_operand t) (is_large_operand u || false) small in
       let a = again-operand t names.0 (operand-related k t p.0) o.0 in
-      let b = again-operand u names.1 (operand-related k u p.1) (or-second (is_large_operand u) false o.1).0 in
+      let b = again-operand u names.1 (operand-related k u p.1) (or_parts (is_large_operand u) false o.1).0 in
       again-relate k t u a b (again-related k t p.0 a.faultless) (again-related k u p.1 b.faultless)
   again-atom (Test properties.Kind t n) names none small =
       let p = nil-append (operand_faults sig (Some vs) t) (property_faults sig properties.Kind n) none in
       let known = nil-fault_if (is_none (kind_number sig n.text)) kinds.UnknownKind n.place p.1 in
       let e = kind_name_text-number sig n.text known in
-      again-test properties.Kind t n (kind_name_text sig (head_number (kind_number sig n.text))) (again-operand t names.0 p.0 (or-second (is_large_operand t) false small).0) names.1 e
+      again-test properties.Kind t n (kind_name_text sig (head_number (kind_number sig n.text))) (again-operand t names.0 p.0 (or_parts (is_large_operand t) false small).0) names.1 e
       (none-fault_if (is_none (kind_number sig (kind_name_text sig (head_number (kind_number sig n.text))))) kinds.UnknownKind first_place (ap (λ x. is_none (kind_number sig x)) e ∙ known))
   again-atom (Test properties.Head t n) names none small =
       let p = nil-append (operand_faults sig (Some vs) t) (property_faults sig properties.Head n) none in
       let known = nil-fault_if (is_none (op_number sig n.text)) kinds.UnknownOp n.place p.1 in
       let e = op_name_text-number sig n.text known in
-      again-test properties.Head t n (op_name_text sig (head_number (op_number sig n.text))) (again-operand t names.0 p.0 (or-second (is_large_operand t) false small).0) names.1 e
+      again-test properties.Head t n (op_name_text sig (head_number (op_number sig n.text))) (again-operand t names.0 p.0 (or_parts (is_large_operand t) false small).0) names.1 e
       (none-fault_if (is_none (op_number sig (op_name_text sig (head_number (op_number sig n.text))))) kinds.UnknownOp first_place (ap (λ x. is_none (op_number sig x)) e ∙ known))

@@ -2,6 +2,7 @@
 use Rattle.std.proofs.Common.{◌≡◌, ◌≤◌, ℕ, zero, suc, Bool, true, false, ◌||◌, ltb, List, [], ◌∷◌, ◌++◌, map, length, Option, Some, None, option_map, refl, sym, ap, subst, ◌∙◌, arith, rules, append-nil}
 use Rattle.std.specs.List.{list_any, AllByRecursion}
 use Rattle.std.proofs.lemmas.List.{length-map, map-append}
+use Rattle.std.proofs.lemmas.Bool.{ltb-false, or_parts}
 use Rattle.mp_term.specs.Signature.{Sig, all_in_order}
 use Rattle.mp_term.proofs.ListLaws.{all-split, all-append, all-map, all-also}
 use Rattle.mp_pattern.specs.CondTree.{Cond, amounts, same, less, free, of_kind, headed, negation, all_of, any_of, Conds, no_conds, more_conds}
@@ -12,7 +13,7 @@ use Rattle.mp_text.specs.Scope.{Scope, is_bound, is_bound_sequence}
 use Rattle.mp_text.specs.Conditions.{literal_atoms, literals_atoms, atoms, negated_if, joined, atom_of, literal_of, literals_of, alternatives_of, alternative_of, cond_of, condition_of}
 use Rattle.mp_text.specs.ConditionChecks.{has_large_operand, has_large_condition, if_faults, atom_faults, literal_faults, literals_faults, condition_faults}
 use Rattle.mp_text.specs.Spelled.{single_literal, single_alternative, negated_spelling, alternative_part, literal_spelling, literal_spellings, alternative_spellings, cond_spelling}
-use Rattle.mp_text.proofs.Faultless.{nil-append, nil-both, or-second, within}
+use Rattle.mp_text.proofs.Faultless.{nil-append, nil-both}
 use Rattle.mp_text.proofs.SpelledHead.{HasOps}
 use Rattle.mp_text.proofs.SpelledAtom.{again_atom, literal_spelling-atom_of, AgainAtom, again-atom}
 
@@ -90,7 +91,7 @@ module _ (sig : Sig) (s : Scope) where
 -- no operand of these atoms is large
 small-each : (list : List Atom) → list_any has_large_operand list ≡ false → AllByRecursion (λ a. has_large_operand a ≡ false) list
 small-each [] h = tt
-small-each (a ∷ list) h = let o = or-second (has_large_operand a) (list_any has_large_operand list) h in (o.0, small-each list o.1)
+small-each (a ∷ list) h = let o = or_parts (has_large_operand a) (list_any has_large_operand list) h in (o.0, small-each list o.1)
 
 each-small : (list : List Atom) → AllByRecursion (λ a. has_large_operand a ≡ false) list → list_any has_large_operand list ≡ false
 each-small [] h = refl
@@ -452,12 +453,12 @@ module _ (sig : Sig) (h : HasOps sig) (ordered : all_in_order sig.ops ≡ true) 
   pub IsReadCondition-condition_of : (o : Option Condition) → IfHasNames o → FitsIf o → if_faults sig (Some vs) o ≡ [] → has_large_condition o ≡ false → IsReadCondition sig us (condition_of sig o)
   IsReadCondition-condition_of None names fits none small = record { again = refl; names = tt; fits = tt; faultless = refl; small = refl }
   IsReadCondition-condition_of (Some c) names fits none small =
-      let o = or-second (ltb 64 (length (atoms c))) (list_any has_large_operand (atoms c)) small in
+      let o = or_parts (ltb 64 (length (atoms c))) (list_any has_large_operand (atoms c)) small in
       let all = all-again (atoms c) (names-atoms c names) (faultless-atoms sig (Some vs) c none) (small-each (atoms c) o.1) in
       let d = cond_spelling sig (cond_of sig c) in
       let e : atoms d ≡ map (again_atom sig) (atoms c) = atoms-cond_of sig c in
       let each = λ (P : Atom → Type 0) (own : (a : Atom) → Again a → P (again_atom sig a)). subst (AllByRecursion P) (sym e) (all-map Again P (again_atom sig) own (atoms c) all) in
-      let few : length (atoms c) ≤ 64 = within 64 (length (atoms c)) o.0 in
+      let few : length (atoms c) ≤ 64 = ltb-false 64 (length (atoms c)) o.0 in
       let few_again : length (atoms d) ≤ 64 = omega (arith, ap length e, length-map (atoms c) (again_atom sig), few) in
       let test : ltb 64 (length (atoms d)) ≡ false = search (rules, few_again) in
       record {

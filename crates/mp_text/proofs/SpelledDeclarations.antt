@@ -11,6 +11,7 @@ use Rattle.std.proofs.lemmas.Cmp.{nat_list_cmp_total}
 use Rattle.std.proofs.lemmas.Fmt.{decimal_by_steps, length-decimal-le}
 use Rattle.std.proofs.lemmas.List.{length-map}
 use Rattle.std.proofs.lemmas.List.Folds.{list_all-append}
+use Rattle.std.proofs.lemmas.Bool.{or_parts}
 use Rattle.mp_io.specs.Devices.{Text}
 use Rattle.mp_term.specs.declared.signature.OpDecl.{OpDecl}
 use Rattle.mp_term.specs.Names.{name_set, names_ascend}
@@ -27,7 +28,7 @@ use Rattle.mp_text.specs.Flags.{says_assoc, says_comm, says_one, is_said, some_f
 use Rattle.mp_text.specs.Names.{is_among, number_after, number_of}
 use Rattle.mp_text.specs.Spelled.{piece, flag_if, sign_flags, op_flags, op_spelling, kind_spelling}
 use Rattle.mp_text.proofs.Declared.{is_among-has_name}
-use Rattle.mp_text.proofs.Faultless.{nil-append, nil-both, or-second, none-fault_if}
+use Rattle.mp_text.proofs.Faultless.{nil-append, nil-both, none-fault_if}
 use Rattle.mp_text.proofs.Words.{first-of, second-of}
 use Rattle.mp_text.proofs.SpelledHead.{HasOpNames, IsSomeSign, IsSymbolOf, symbol_faults-IsSymbolOf}
 
@@ -162,7 +163,7 @@ FitsStatement-op_spelling d h = (number-written d.least (omega (arith, h.small))
 none-also : {X : Type 0} (p q : X → Bool) → ((x : X) → p x ≡ false → q x ≡ false) → (xs : List X) → list_any p xs ≡ false → list_any q xs ≡ false
 none-also p q also [] h = refl
 none-also p q also (x ∷ xs) h =
-    let o = or-second (p x) (list_any p xs) h in
+    let o = or_parts (p x) (list_any p xs) h in
     rw (also x o.0) (none-also p q also xs o.1)
 
 -- the faults at a name that is new among few
@@ -177,7 +178,7 @@ none-held_sign_faults : (ds : List OpDecl) (d : OpDecl) (sign : Option Text) →
 none-held_sign_faults ds d None e h = refl
 none-held_sign_faults ds d (Some sign) e h =
     none-fault_if (list_any (has_sign sign) ds) _ first_place
-    (none-also (clashes d) (has_sign sign) (λ c apart. ap (λ o. shares_sign o c) (sym e) ∙ (or-second (has_name d.name c) (shares_sign d.sign c) apart).1) ds h)
+    (none-also (clashes d) (has_sign sign) (λ c apart. ap (λ o. shares_sign o c) (sym e) ∙ (or_parts (has_name d.name c) (shares_sign d.sign c) apart).1) ds h)
 
 -- behind operations that it doesn't clash with, its declaration has no faults
 pub none-op_faults : (ds : List OpDecl) (d : OpDecl) → IsDeclaredOp d → list_any (clashes d) ds ≡ false → length ds < 256 → op_faults ds (piece d.name) (piece (decimal d.least)) (not d.fixed) (op_flags d) ≡ []
@@ -185,7 +186,7 @@ none-op_faults ds d h apart few =
     let flags = say-flags d.assoc d.comm d.one d.sign in
     let name = piece d.name in
     let least = piece (decimal d.least) in
-    let others : is_among d.name (map (λ c. c.name) ds) ≡ false = sym (is_among-has_name d.name ds) ∙ none-also (clashes d) (has_name d.name) (λ c a. (or-second (has_name d.name c) (shares_sign d.sign c) a).0) ds apart in
+    let others : is_among d.name (map (λ c. c.name) ds) ≡ false = sym (is_among-has_name d.name ds) ∙ none-also (clashes d) (has_name d.name) (λ c a. (or_parts (has_name d.name c) (shares_sign d.sign c) a).0) ds apart in
     let count : number_of (decimal d.least) ≡ d.least = (number-written d.least (omega (arith, h.small))).writes.value in
     let room : length (map (λ c. c.name) ds) < 256 = omega (arith, length-map ds (λ c. c.name)) in
     let bound : number_of (decimal d.least) ≤ 1000 = omega (arith, count, h.small) in

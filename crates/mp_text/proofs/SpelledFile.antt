@@ -4,7 +4,7 @@ use Rattle.std.specs.Prelude.{Option, option_map, codes}
 use Rattle.std.specs.List.{list_all, list_any, AllByRecursion}
 use Rattle.std.specs.Str.{bytes_eq}
 use Rattle.std.proofs.lemmas.List.{map-id, map-append, length-map}
-use Rattle.std.proofs.lemmas.Bool.{not-true}
+use Rattle.std.proofs.lemmas.Bool.{not-true, or_parts}
 use Rattle.mp_io.specs.Devices.{Text}
 use Rattle.mp_term.specs.declared.signature.OpDecl.{OpDecl}
 use Rattle.mp_term.specs.Names.{are_distinct}
@@ -31,7 +31,7 @@ use Rattle.mp_text.specs.Reading.{IsFileOf}
 use Rattle.mp_text.specs.Sound.{IsSoundPattern, IsSoundTerm, IsSoundFile}
 use Rattle.mp_text.specs.Spelled.{piece, term_spelling, pattern_spelling, cond_spelling, op_spelling, kind_spelling, rule_spelling, subject_spelling, file_spelling}
 use Rattle.mp_text.proofs.Declared.{bytes_eq_comm, op_decls-append, kind_decls-append, rules_of-append, subjects_of-append}
-use Rattle.mp_text.proofs.Faultless.{nil-append, nil-both, or-second}
+use Rattle.mp_text.proofs.Faultless.{nil-append, nil-both}
 use Rattle.mp_text.proofs.Words.{first-of, second-of}
 use Rattle.mp_text.proofs.Spelled.{file-again}
 use Rattle.mp_text.proofs.SoundLaws.{sound-pattern}
@@ -156,7 +156,7 @@ HasOps-IsSignature sig h ops = record { apart = h.ops_distinct; named = all-also
 read-rule_of : (sig : Sig) → HasOps sig → all_in_order sig.ops ≡ true → (name : Spot) (p : Tree) (c : Option Condition) → IsRead (RuleOf name p c) → (is_large_pattern p || has_large_condition c) ≡ false → rule_faults sig p c ≡ []
     → IsReadRule sig (rule_of sig name p c)
 read-rule_of sig has ordered name p c read small none =
-    let o = or-second (is_large_pattern p) (has_large_condition c) small in
+    let o = or_parts (is_large_pattern p) (has_large_condition c) small in
     let vs = pattern_variables p in
     let q = nil-append (whole_pattern_faults sig p) (if_faults sig (Some vs) c) none in
     let again = normal_pattern sig (pattern_of sig p) in

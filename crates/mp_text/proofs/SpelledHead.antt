@@ -3,7 +3,7 @@ use Rattle.std.proofs.Common.{◌≡◌, ℕ, zero, suc, ◌+◌, Bool, true, fa
 use Rattle.std.specs.Prelude.{slice_get, option_map, position, is_some}
 use Rattle.std.specs.List.{list_all, AllByRecursion}
 use Rattle.std.specs.Str.{bytes_eq}
-use Rattle.std.proofs.lemmas.Bool.{leb-true, not-true}
+use Rattle.std.proofs.lemmas.Bool.{leb-true, not-true, or_parts}
 use Rattle.std.proofs.lemmas.Slice.Eq.{bytes_eq-Decides}
 use Rattle.mp_io.specs.Devices.{Text}
 use Rattle.mp_term.specs.declared.signature.OpDecl.{OpDecl}
@@ -18,7 +18,7 @@ use Rattle.mp_text.specs.Wildcards.{PatternWildcard}
 use Rattle.mp_text.specs.Checks.{op_at, op_named, op_signed, head_faults, arity_faults, sign_faults, allows_patterns, symbol_faults, term_faults, term_operand_faults, all_term_faults, pattern_faults, pattern_operand_faults, all_pattern_faults}
 use Rattle.mp_text.specs.Spelled.{piece, application_spelling, held_spelling}
 use Rattle.mp_text.proofs.Words.{first-of, second-of}
-use Rattle.mp_text.proofs.Faultless.{or-second, nil-fault_if, none-fault_if}
+use Rattle.mp_text.proofs.Faultless.{nil-fault_if, none-fault_if}
 use Rattle.mp_text.proofs.Built.{term_operand_faults-known, pattern_operand_faults-known}
 
 -- ---- items of a list
@@ -57,13 +57,13 @@ bytes_eq-itself bytes = (bytes_eq-Decides bytes bytes).1 refl
 
 -- the first operation of the name of one is that one
 pub position-has_name : (ds : List OpDecl) (i : ℕ) (d : OpDecl) → none_clash ds ≡ true → slice_get ds i ≡ Some d → position (has_name d.name) ds ≡ Some i
-position-has_name ds i d h here = position-held (has_name d.name) d (bytes_eq-itself d.name) (λ e apart. (or-second (has_name d.name e) (shares_sign d.sign e) apart).0) ds i h here
+position-has_name ds i d h here = position-held (has_name d.name) d (bytes_eq-itself d.name) (λ e apart. (or_parts (has_name d.name e) (shares_sign d.sign e) apart).0) ds i h here
 
 -- the first operation of the sign of one is that one
 pub position-has_sign : (ds : List OpDecl) (i : ℕ) (d : OpDecl) (sign : Text) → none_clash ds ≡ true → slice_get ds i ≡ Some d → d.sign ≡ Some sign → position (has_sign sign) ds ≡ Some i
 position-has_sign ds i d sign h here e =
     position-held (has_sign sign) d (ap (is_that_sign sign) e ∙ bytes_eq-itself sign)
-    (λ c apart. ap (λ o. shares_sign o c) (sym e) ∙ (or-second (has_name d.name c) (shares_sign d.sign c) apart).1) ds i h here
+    (λ c apart. ap (λ o. shares_sign o c) (sym e) ∙ (or_parts (has_name d.name c) (shares_sign d.sign c) apart).1) ds i h here
 
 -- ---- signatures and symbols that have a spelling
 

@@ -4,7 +4,7 @@ use Rattle.std.specs.Prelude.{flat_map, slice_get, nat_eq, if◌then◌else◌}
 use Rattle.std.specs.declared.cmp.Ordering.{Ordering}
 use Rattle.std.specs.List.{list_any, AllByRecursion}
 use Rattle.std.proofs.Math.Nat.{add_left_comm}
-use Rattle.std.proofs.lemmas.Bool.{false≢true, leb-true, le-leb, or_cases, or_left, or_right, not-true}
+use Rattle.std.proofs.lemmas.Bool.{false≢true, leb-true, le-leb, or_cases, or_left, or_right, not-true, and_from}
 use Rattle.std.proofs.lemmas.List.{length-map, map-append}
 use Rattle.std.proofs.lemmas.List.Folds.{list_any-append}
 use Rattle.mp_term.specs.declared.signature.OpDecl.{OpDecl}
@@ -34,7 +34,7 @@ use Rattle.mp_text.specs.Checks.{fault_if, nodes, loose_faults, may_take_more, f
 use Rattle.mp_text.specs.Wildcards.{PatternWildcard, without_default, with_default_form, pattern_wildcards, all_pattern_wildcards, differs}
 use Rattle.mp_text.specs.Depth.{pattern_depth, greatest_pattern_depth}
 use Rattle.mp_text.specs.Spelled.{held_spelling, pattern_spelling, pattern_spellings}
-use Rattle.mp_text.proofs.Words.{both, first-of, second-of}
+use Rattle.mp_text.proofs.Words.{first-of, second-of}
 use Rattle.mp_text.proofs.Faultless.{nil-append, nil-both, nil-fault_if}
 use Rattle.mp_text.proofs.Clashes.{Apart, Apart-split, Apart-first_clash, wilds, wilds-append, nil-pattern_operands}
 use Rattle.mp_text.proofs.PlacedFaults.{fewest-cons}
@@ -70,7 +70,7 @@ Reaches-less assoc ts n m le (inr h) = inr (omega arith)
 -- an operation allows other patterns that reach as much, and take as few
 allows_patterns-alike : (ts us : List Tree) (d : OpDecl) → (Reaches d.assoc ts d.least → Reaches d.assoc us d.least) → fewest us ≡ fewest ts → allows_patterns ts d ≡ true → allows_patterns us d ≡ true
 allows_patterns-alike ts us d reach few h =
-    both (may_reach d.assoc us d.least) (not d.fixed || leb (fewest us) d.least)
+    and_from (may_reach d.assoc us d.least) (not d.fixed || leb (fewest us) d.least)
     (may_reach-Reaches d.assoc us d.least (reach (Reaches-may_reach d.assoc ts d.least (first-of (may_reach d.assoc ts d.least) (not d.fixed || leb (fewest ts) d.least) h))))
     (ap (λ n. not d.fixed || leb n d.least) few ∙ second-of (may_reach d.assoc ts d.least) (not d.fixed || leb (fewest ts) d.least) h)
 
@@ -376,7 +376,7 @@ module _ (sig : Sig) where
         let reach : (b : Bool) → d.assoc ≡ b → b ≡ true → may_reach b (spelled ps) d.least ≡ true → may_reach b (spelled (flattened sig f ps)) d.least ≡ true = λ b e q r.
         subst (λ b. may_reach b (spelled (flattened sig f ps)) d.least ≡ true) (sym q)
         (may_reach-Reaches true (spelled (flattened sig f ps)) d.least (reaches-least d.least refl ps h (Reaches-may_reach true (spelled ps) d.least (subst (λ b. may_reach b (spelled ps) d.least ≡ true) q r)))) in
-        both (may_reach d.assoc (spelled (flattened sig f ps)) d.least) (not d.fixed || leb (fewest (spelled (flattened sig f ps))) d.least)
+        and_from (may_reach d.assoc (spelled (flattened sig f ps)) d.least) (not d.fixed || leb (fewest (spelled (flattened sig f ps))) d.least)
         (reach d.assoc refl is_assoc-held (first-of (may_reach d.assoc (spelled ps) d.least) (not d.fixed || leb (fewest (spelled ps)) d.least) a))
         (ap (λ b. not b || leb (fewest (spelled (flattened sig f ps))) d.least) free)
 

@@ -4,7 +4,7 @@ use Rattle.std.specs.Prelude.{slice_get, position, is_none, if◌then◌else◌}
 use Rattle.std.specs.List.{list_any}
 use Rattle.std.specs.Str.{bytes_eq}
 use Rattle.std.proofs.lemmas.Slice.Eq.{bytes_eq-Decides}
-use Rattle.std.proofs.lemmas.Bool.{eq-eqb}
+use Rattle.std.proofs.lemmas.Bool.{eq-eqb, and_from}
 use Rattle.mp_term.specs.Tree as term
 use Rattle.mp_term.specs.Normal.{normal, IsNormal}
 use Rattle.mp_term.specs.Signature.{Sig, kind_names, well_formed}
@@ -25,7 +25,6 @@ use Rattle.mp_io.specs.Devices.{Text}
 use Rattle.mp_text.specs.declared.fault.TextKind.TheVariants.{UnknownKind, KindClash}
 use Rattle.mp_print.specs.Printing.{kind_name_text}
 use Rattle.mp_text.specs.Spelled.{wildcard_piece, term_spelling, wildcard_spelling}
-use Rattle.mp_text.proofs.Words.{both}
 use Rattle.mp_text.proofs.Faultless.{nil-both, none-fault_if}
 use Rattle.mp_text.proofs.Clashes.{Apart}
 use Rattle.mp_text.proofs.Defaults.{default_form-default_faults}
@@ -168,8 +167,8 @@ module _ (sig : Sig) where
     where
       same : (u : pattern.Wildcard) → not (same_class (mark_with u (Some x)) (mark_with u (Some (b ∷ y)))) ≡ false
       same u = ap not
-          (both (eqb (marks_of u) (marks_of u)) (bytes_eq (kind_of u) (kind_of u) && same_default (default_of u) (default_of u)) (eq-eqb (marks_of u) (marks_of u) refl)
-          (both (bytes_eq (kind_of u) (kind_of u)) (same_default (default_of u) (default_of u)) ((bytes_eq-Decides (kind_of u) (kind_of u)).1 refl) (same_default-itself u)))
+          (and_from (eqb (marks_of u) (marks_of u)) (bytes_eq (kind_of u) (kind_of u) && same_default (default_of u) (default_of u)) (eq-eqb (marks_of u) (marks_of u) refl)
+          (and_from (bytes_eq (kind_of u) (kind_of u)) (same_default (default_of u) (default_of u)) ((bytes_eq-Decides (kind_of u) (kind_of u)).1 refl) (same_default-itself u)))
 
       go : (c : Bool) → bytes_eq (b ∷ y) x ≡ c → (c && not (same_class (mark_with v (Some x)) (mark_with w (Some (b ∷ y))))) ≡ false
       go false e = refl
