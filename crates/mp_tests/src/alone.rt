@@ -1,5 +1,5 @@
 // Terms, patterns and conditions that stand alone: their first faults.
-use crate::case::{halves, told};
+use crate::case::{arguments, halves, told};
 use crate::reading::{plan, signature};
 use mp_pattern::Plan;
 use mp_term::Signature;
@@ -138,37 +138,25 @@ fn the_first_fault_of_a_text_stands_at_its_token(rt: HostRuntime) -> Result<(), 
     Ok(())
 }
 
-// A name, and in brackets so many arguments `a`.
-fn applied(alloc: Global, name: u8, count: usize) -> Result<Vec<u8>, Fail> {
-    let mut text = Vec::new(alloc);
-    text.push(name)?;
-    text.extend_from_slice(b"(a")?;
-    for _ in 1..count {
-        text.extend_from_slice(b",a")?;
-    }
-    text.push(b')')?;
-    Ok(text)
-}
-
 // Whether the pattern of the name on so many symbols has the fault.
 fn has_fault(
     alloc: Global,
     sig: &Signature,
-    name: u8,
+    name: &str,
     count: usize,
     fault: &str,
 ) -> Result<bool, Fail> {
-    let text = applied(alloc, name, count)?;
+    let text = format!(in alloc; "{name}({})", arguments(alloc, count)?)?;
     if text.len() > 1000 {
         return Err("the text is too long".into());
     }
-    Ok(told(alloc, read_pattern(alloc, sig, &text).err())?.as_str() == fault)
+    Ok(told(alloc, read_pattern(alloc, sig, text.as_bytes()).err())?.as_str() == fault)
 }
 
 #[test]
 fn a_pattern_has_at_most_64_nodes(rt: HostRuntime) -> Result<(), Fail> {
     let sig = signature(rt.alloc(), DECLARED)?;
-    for (name, count, fault) in [(b'g', 63, ""), (b'q', 64, "TooMany 1 1")] {
+    for (name, count, fault) in [("g", 63, ""), ("q", 64, "TooMany 1 1")] {
         assert!(rt; has_fault(rt.alloc(), &sig, name, count, fault)?);
     }
     Ok(())

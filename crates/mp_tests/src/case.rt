@@ -11,6 +11,14 @@ pub fn halves<'a>(line: &'a str) -> Result<(&'a str, &'a str), Fail> {
     }
 }
 
+/// So many arguments `a`, at most 70.
+pub fn arguments(alloc: Global, count: usize) -> Result<String, Fail> {
+    match ["a"; 70].get(..count) {
+        Some(all) => Ok(all.join(alloc, ",")?),
+        None => Err("too many arguments".into()),
+    }
+}
+
 fn fault_text(alloc: Global, fault: &TextFault) -> Result<String, Fail> {
     Ok(format!(in alloc; "{:?} {} {}", fault.kind, fault.line, fault.column)?)
 }

@@ -1,5 +1,5 @@
 // The first faults of rule files.
-use crate::case::{halves, told};
+use crate::case::{arguments, halves, told};
 use mp_text::{fault_is_computed, file_is_computed, read_file};
 use std::alloc::Global;
 use std::test::Fail;
@@ -156,17 +156,22 @@ fn is_first(alloc: Global, before: &[u8], line: &str) -> Result<bool, Fail> {
     Ok(first_fault(alloc, &text)?.as_str() == fault)
 }
 
-// A statement with a default of as many nodes, and what stands before and behind it.
-fn with_default(alloc: Global, before: &str, nodes: usize, behind: &str) -> Result<Vec<u8>, Fail> {
-    let mut text = Vec::new(alloc);
-    text.extend_from_slice(b"op p 0+; ")?;
-    text.extend_from_slice(before.as_bytes())?;
-    text.extend_from_slice(b"p(a")?;
-    for _ in 2..nodes {
-        text.extend_from_slice(b",a")?;
-    }
-    text.extend_from_slice(behind.as_bytes())?;
-    Ok(text)
+// A statement with so many arguments between its parts.
+fn with_arguments(alloc: Global, before: &str, count: usize, behind: &str) -> Result<String, Fail> {
+    let all = arguments(alloc, count)?;
+    Ok(format!(in alloc; "op p 0+; {before}{all}{behind}")?)
+}
+
+// Whether that statement has the fault.
+fn has_fault(
+    alloc: Global,
+    before: &str,
+    count: usize,
+    behind: &str,
+    fault: &str,
+) -> Result<bool, Fail> {
+    let text = with_arguments(alloc, before, count, behind)?;
+    Ok(first_fault(alloc, text.as_bytes())?.as_str() == fault)
 }
 
 #[test]
@@ -196,14 +201,13 @@ fn a_place_is_a_line_and_a_byte_of_it(rt: HostRuntime) -> Result<(), Fail> {
 
 #[test]
 fn defaults_have_at_most_64_nodes(rt: HostRuntime) -> Result<(), Fail> {
-    for (before, nodes, behind, fault) in [
-        ("rule r: p(x_:", 64, "));", ""),
-        ("rule r: p(x_:", 65, "));", "TooMany 1 15"),
-        ("rule r: p(x_:p(y_:", 65, ")));", "TooMany 1 15"),
-        ("subject s: x_:", 65, ");", "TooMany 1 18"),
+    for (before, count, behind, fault) in [
+        ("rule r: p(x_:p(", 63, "));", ""),
+        ("rule r: p(x_:p(", 64, "));", "TooMany 1 15"),
+        ("rule r: p(x_:p(y_:p(", 64, ")));", "TooMany 1 15"),
+        ("subject s: x_:p(", 64, ");", "TooMany 1 18"),
     ] {
-        let text = with_default(rt.alloc(), before, nodes, behind)?;
-        assert_eq!(rt; first_fault(rt.alloc(), &text)?.as_str(), fault);
+        assert!(rt; has_fault(rt.alloc(), before, count, behind, fault)?);
     }
     Ok(())
 }

@@ -159,13 +159,18 @@ fn are_both(parts: &Conds) -> bool {
         && parts.get(2).is_none()
 }
 
+// Whether the condition is `head($x, f) or count($x) >= 2`.
+fn is_either(cond: &Cond) -> bool {
+    match cond {
+        Cond::Any(parts) => are_both(parts),
+        _ => false,
+    }
+}
+
 // Whether the condition is `not [head($x, f) or count($x) >= 2]`.
 fn is_neither(cond: &Cond) -> bool {
     match cond {
-        Cond::Not(part) => match part.get() {
-            Cond::Any(parts) => are_both(parts),
-            _ => false,
-        },
+        Cond::Not(part) => is_either(part.get()),
         _ => false,
     }
 }

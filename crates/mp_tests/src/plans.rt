@@ -6,20 +6,32 @@ use mp_term::{KindId, Name, OpId, Signature};
 use std::alloc::Global;
 use std::test::Fail;
 
+// The class of a wildcard.
+fn class(shape: &Shape) -> u8 {
+    match shape {
+        Shape::Dot => 3,
+        Shape::Kind(_) => 4,
+        Shape::Plus => 5,
+        Shape::Star => 6,
+        Shape::Opt(_) => 7,
+    }
+}
+
+// The first byte of a name.
+fn first_byte(name: &Name) -> u32 {
+    match name.bytes() {
+        [] => 0,
+        [first, ..] => u32::from(*first),
+    }
+}
+
 // A node as its class and a number: the first letter of a symbol, the number of an operation, or that of a variable, 9 for none.
 fn described(node: Option<PlanNode<'_>>) -> (u8, u32) {
     match node {
         None => (0, 0),
-        Some(PlanNode::Sym(name)) => match name.bytes() {
-            [] => (1, 0),
-            [first, ..] => (1, u32::from(*first)),
-        },
+        Some(PlanNode::Sym(name)) => (1, first_byte(name)),
         Some(PlanNode::App(op)) => (2, op.0),
-        Some(PlanNode::Wild(Shape::Dot, variable)) => (3, variable.unwrap_or(9)),
-        Some(PlanNode::Wild(Shape::Kind(_), variable)) => (4, variable.unwrap_or(9)),
-        Some(PlanNode::Wild(Shape::Plus, variable)) => (5, variable.unwrap_or(9)),
-        Some(PlanNode::Wild(Shape::Star, variable)) => (6, variable.unwrap_or(9)),
-        Some(PlanNode::Wild(Shape::Opt(_), variable)) => (7, variable.unwrap_or(9)),
+        Some(PlanNode::Wild(shape, variable)) => (class(shape), variable.unwrap_or(9)),
     }
 }
 
@@ -88,13 +100,19 @@ fn wrong_variable(plan: &Plan) -> Option<u32> {
     None
 }
 
+// Whether the plan has a variable behind the last one, or one that the pattern hasn't.
+fn has_others(plan: &Plan) -> bool {
+    plan.var_name(3).is_some() || plan.find_var(b"a").is_some()
+}
+
 #[test]
 fn variables_have_their_forms(rt: HostRuntime) -> Result<(), Fail> {
     let sig = signature(rt.alloc(), DECLARED)?;
     let plan = plan(rt.alloc(), &sig, MIXED)?;
-    assert_eq!(rt; plan.vars(), 3);
-    assert_eq!(rt; wrong_variable(&plan), None);
-    assert!(rt; plan.var_name(3).is_none() && plan.find_var(b"a").is_none());
+    assert_eq!(rt;
+        (plan.vars(), wrong_variable(&plan), has_others(&plan)),
+        (3, None, false)
+    );
     Ok(())
 }
 
