@@ -46,6 +46,16 @@ abbrev pub application_text : OpDecl → Option Text → List Text → Text
 application_text d None args = prefix_text d args
 application_text d (Some sign) args = if nat_le 2 (length args) then infix_text sign args else prefix_text d args
 
+-- what stands before so many arguments
+abbrev pub front_text : OpDecl → Option Text → ℕ → Text
+front_text d None n = d.name ++ codes "("
+front_text d (Some sign) n = if nat_le 2 n then codes "(" else d.name ++ codes "("
+
+-- what stands between each two of so many arguments
+abbrev pub separator_text : Option Text → ℕ → Text
+separator_text None n = codes ", "
+separator_text (Some sign) n = if nat_le 2 n then codes " " ++ (sign ++ (codes " " ++ [])) else codes ", "
+
 -- the text of an application; an operation that isn't held has none
 abbrev pub held_text : Option OpDecl → List Text → Text
 held_text None args = []

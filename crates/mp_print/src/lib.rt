@@ -1,6 +1,7 @@
 //! Values to text: the printed text of terms, patterns, conditions, substitutions and signatures.
 #![tactic(auto)]
 
+mod application;
 mod cond_printer;
 mod pattern_printer;
 mod printer;

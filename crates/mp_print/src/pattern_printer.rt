@@ -4,9 +4,10 @@ ghost use Rattle.std.specs.Prelude.{◌≡◌, ◌++◌, map, codes};
 ghost use Rattle.mp_io.specs.Printing.{Prints, joined};
 ghost use Rattle.mp_term.specs.View.{tree};
 ghost use Rattle.mp_pattern.specs.View.{pattern_tree, wildcard};
-ghost use Rattle.mp_print.specs.Printing.{kind_name_text, application_text, prefix_text, bracketed, separated, term_text};
+ghost use Rattle.mp_print.specs.Printing.{kind_name_text, application_text, separated, term_text};
 ghost use Rattle.mp_print.specs.PrintedPattern.{pattern_text, wildcard_text, shape_text};
 
+use crate::application::{separator, write_front};
 use crate::printer::{write_gap, write_term};
 use mp_io::{Failed, Sink, put};
 use mp_pattern::{Pattern, Shape};
@@ -46,46 +47,8 @@ fn write_application<K: Sink>(
     ensures { Prints (K.contents sink.old) (K.contents sink.new) (K.faults sink.old) (K.faults sink.new)
         (application_text decl.now decl.now.sign (map (λ p. pattern_text sig.now (pattern_tree p)) args.now)) result }
 {
-    match &decl.sign {
-        None => write_prefix(sig, decl, args, sink),
-        Some(sign) => {
-            if args.len() < 2 {
-                return write_prefix(sig, decl, args, sink);
-            }
-            let separator = [b" ".as_slice(), sign.bytes(), b" ".as_slice()];
-            write_bracketed(sig, &separator, args, sink)
-        }
-    }
-}
-
-/// Appends an operation before its arguments.
-#[cycle(write_pattern)]
-fn write_prefix<K: Sink>(
-    sig: &Signature,
-    decl: &OpDecl,
-    args: &[Pattern],
-    sink: &mut K,
-) -> Result<(), Failed>
-    ensures { Prints (K.contents sink.old) (K.contents sink.new) (K.faults sink.old) (K.faults sink.new)
-        (prefix_text decl.now (map (λ p. pattern_text sig.now (pattern_tree p)) args.now)) result }
-{
-    put(sink, decl.name.bytes())?;
-    write_bracketed(sig, &[b", ".as_slice()], args, sink)
-}
-
-/// Appends the patterns in round brackets, with the separator between each two.
-#[cycle(write_pattern)]
-fn write_bracketed<K: Sink>(
-    sig: &Signature,
-    separator: &[&[u8]],
-    patterns: &[Pattern],
-    sink: &mut K,
-) -> Result<(), Failed>
-    ensures { Prints (K.contents sink.old) (K.contents sink.new) (K.faults sink.old) (K.faults sink.new)
-        (bracketed (joined separator.now) (map (λ p. pattern_text sig.now (pattern_tree p)) patterns.now)) result }
-{
-    put(sink, b"(")?;
-    write_separated(sig, separator, patterns, sink)?;
+    write_front(decl, args.len(), sink)?;
+    write_separated(sig, &separator(decl, args.len()), args, sink)?;
     put(sink, b")")
 }
 

@@ -3,8 +3,9 @@
 ghost use Rattle.std.specs.Prelude.{◌≡◌, map};
 ghost use Rattle.mp_io.specs.Printing.{Prints, joined};
 ghost use Rattle.mp_term.specs.View.{tree};
-ghost use Rattle.mp_print.specs.Printing.{term_text, application_text, prefix_text, bracketed, separated, gap_text};
+ghost use Rattle.mp_print.specs.Printing.{term_text, application_text, separated, gap_text};
 
+use crate::application::{separator, write_front};
 use mp_io::{Failed, Sink, put, put_all};
 use mp_term::{OpDecl, Signature, Term};
 
@@ -37,46 +38,8 @@ fn write_application<K: Sink>(
     ensures { Prints (K.contents sink.old) (K.contents sink.new) (K.faults sink.old) (K.faults sink.new)
         (application_text decl.now decl.now.sign (map (λ t. term_text sig.now (tree t)) args.now)) result }
 {
-    match &decl.sign {
-        None => write_prefix(sig, decl, args, sink),
-        Some(sign) => {
-            if args.len() < 2 {
-                return write_prefix(sig, decl, args, sink);
-            }
-            let separator = [b" ".as_slice(), sign.bytes(), b" ".as_slice()];
-            write_bracketed(sig, &separator, args, sink)
-        }
-    }
-}
-
-/// Appends an operation before its arguments.
-#[cycle(write_term)]
-fn write_prefix<K: Sink>(
-    sig: &Signature,
-    decl: &OpDecl,
-    args: &[Term],
-    sink: &mut K,
-) -> Result<(), Failed>
-    ensures { Prints (K.contents sink.old) (K.contents sink.new) (K.faults sink.old) (K.faults sink.new)
-        (prefix_text decl.now (map (λ t. term_text sig.now (tree t)) args.now)) result }
-{
-    put(sink, decl.name.bytes())?;
-    write_bracketed(sig, &[b", ".as_slice()], args, sink)
-}
-
-/// Appends the terms in round brackets, with the separator between each two.
-#[cycle(write_term)]
-pub(crate) fn write_bracketed<K: Sink>(
-    sig: &Signature,
-    separator: &[&[u8]],
-    terms: &[Term],
-    sink: &mut K,
-) -> Result<(), Failed>
-    ensures { Prints (K.contents sink.old) (K.contents sink.new) (K.faults sink.old) (K.faults sink.new)
-        (bracketed (joined separator.now) (map (λ t. term_text sig.now (tree t)) terms.now)) result }
-{
-    put(sink, b"(")?;
-    write_separated(sig, separator, terms, sink)?;
+    write_front(decl, args.len(), sink)?;
+    write_separated(sig, &separator(decl, args.len()), args, sink)?;
     put(sink, b")")
 }
 

@@ -6,7 +6,7 @@ ghost use Rattle.mp_term.specs.View.{tree};
 ghost use Rattle.mp_subst.specs.View.{value_of, binding_of, subst_of};
 ghost use Rattle.mp_print.specs.Printing.{separated, term_text, value_text, binding_text, subst_text};
 
-use crate::printer::{write_bracketed, write_gap, write_separated, write_term};
+use crate::printer::{write_gap, write_separated, write_term};
 use mp_io::{Failed, Sink, put, put_all};
 use mp_subst::{Binding, Subst, Value};
 use mp_term::{Signature, Term};
@@ -53,17 +53,23 @@ fn write_value<K: Sink>(sig: &Signature, value: &Value, sink: &mut K) -> Result<
 {
     match value {
         Value::One(term) => write_term(sig, term, sink),
-        Value::Seq(terms) => write_bracketed(sig, &[b", ".as_slice()], terms.as_slice(), sink),
-        Value::Bag(terms) => write_braced(sig, terms.as_slice(), sink),
+        Value::Seq(terms) => write_enclosed(sig, b"(", terms.as_slice(), b")", sink),
+        Value::Bag(terms) => write_enclosed(sig, b"{", terms.as_slice(), b"}", sink),
     }
 }
 
-/// Appends the terms in curly brackets, with a comma between each two.
-fn write_braced<K: Sink>(sig: &Signature, terms: &[Term], sink: &mut K) -> Result<(), Failed>
+/// Appends the terms between an opening and a closing, with a comma between each two.
+fn write_enclosed<K: Sink>(
+    sig: &Signature,
+    opening: &[u8],
+    terms: &[Term],
+    closing: &[u8],
+    sink: &mut K,
+) -> Result<(), Failed>
     ensures { Prints (K.contents sink.old) (K.contents sink.new) (K.faults sink.old) (K.faults sink.new)
-        (codes "{" ++ (separated (codes ", ") (map (λ t. term_text sig.now (tree t)) terms.now) ++ codes "}")) result }
+        (opening.now ++ (separated (codes ", ") (map (λ t. term_text sig.now (tree t)) terms.now) ++ closing.now)) result }
 {
-    put(sink, b"{")?;
+    put(sink, opening)?;
     write_separated(sig, &[b", ".as_slice()], terms, sink)?;
-    put(sink, b"}")
+    put(sink, closing)
 }

@@ -18,16 +18,10 @@ invariant-write_separated-loop-index g l = record {
 
 -- each function of the cycle is nearer to the patterns than the one before it
 abbrev pub decreases-write_pattern : goal.decreases-write_pattern
-decreases-write_pattern g l = 5 * pattern_nodes (pattern_tree l.pattern.now)
+decreases-write_pattern g l = 3 * pattern_nodes (pattern_tree l.pattern.now)
 
 abbrev pub decreases-write_application : goal.decreases-write_application
-decreases-write_application g l = 5 * list_nodes (map pattern_tree l.args.now) + 4
-
-abbrev pub decreases-write_prefix : goal.decreases-write_prefix
-decreases-write_prefix g l = 5 * list_nodes (map pattern_tree l.args.now) + 3
-
-abbrev pub decreases-write_bracketed : goal.decreases-write_bracketed
-decreases-write_bracketed g l = 5 * list_nodes (map pattern_tree l.patterns.now) + 2
+decreases-write_application g l = 3 * list_nodes (map pattern_tree l.args.now) + 2
 
 abbrev pub decreases-write_separated : goal.decreases-write_separated
-decreases-write_separated g l = 5 * list_nodes (map pattern_tree l.patterns.now) + 1
+decreases-write_separated g l = 3 * list_nodes (map pattern_tree l.patterns.now) + 1

@@ -1,4 +1,4 @@
-use Rattle.std.proofs.Common.{◌≡◌, ◌≤◌, ◌++◌, map, get_or, ap, arith}
+use Rattle.std.proofs.Common.{◌≡◌, ◌≤◌, ◌++◌, map, length, get_or, refl, ap, arith}
 use Rattle.std.specs.Prelude.{codes}
 use Rattle.std.proofs.lemmas.Result.{err_from_is_err_and}
 use Rattle.mp_io.specs.Printing.{joined}
@@ -7,40 +7,41 @@ use Rattle.mp_term.specs.declared.term.Term.{Term}
 use Rattle.mp_term.specs.View.{tree}
 use Rattle.mp_term.specs.Size.{node_count, all_nodes}
 use Rattle.mp_term.proofs.SizeLaws.{node_count-element}
-use Rattle.mp_print.specs.Printing.{term_text, bracketed, separated, gap_text}
+use Rattle.mp_print.specs.Printing.{term_text, front_text, separator_text, separated, gap_text}
 use Rattle.mp_term.proofs.ListLaws.{drop-item}
-use Rattle.mp_print.proofs.Separated.{remaining-here, term_text-app}
+use Rattle.mp_print.proofs.Separated.{application_text-parts, remaining-here, term_text-app}
 use Rattle.mp_print.proofs.printer.+write_term.Goals as goal
 
-pub write_bracketed-returns-in_err-put : goal.write_bracketed-returns-in_err-put
-write_bracketed-returns-in_err-put g t c =
+pub write_application-returns-in_err-write_front : goal.write_application-returns-in_err-write_front
+write_application-returns-in_err-write_front g t c =
     let p = err_from_is_err_and c.from_residual.result c.from_residual.ensures.1 in
-    let texts = map (λ x. term_text c.args.sig.now (tree x)) c.args.terms.now in
-    rw p.1 (prints_cut _ _ _ _ (codes "(") (separated (joined c.args.separator.now) texts ++ codes ")") _ c.in_err-put.ensures.front c.put.ensures.cause.later c.in_err-put.ensures.cause.failed)
+    let d = c.args.decl.now in
+    let n = length c.args.args.now in
+    let texts = map (λ x. term_text c.args.sig.now (tree x)) c.args.args.now in
+    let parts = application_text-parts (λ x. term_text c.args.sig.now (tree x)) d d.sign c.args.args.now n refl in
+    let behind = separated (separator_text d.sign n) texts ++ codes ")" in
+    rw (p.1, parts) (prints_cut _ _ _ _ (front_text d d.sign n) behind _ c.in_err-write_front.ensures.front c.write_front.ensures.cause.later c.in_err-write_front.ensures.cause.failed)
 
-pub write_bracketed-returns-in_err-write_separated : goal.write_bracketed-returns-in_err-write_separated
-write_bracketed-returns-in_err-write_separated g t c =
+pub write_application-returns-in_err-write_separated : goal.write_application-returns-in_err-write_separated
+write_application-returns-in_err-write_separated g t c =
     let p = err_from_is_err_and c.from_residual-in_err-write_separated.result c.from_residual-in_err-write_separated.ensures.1 in
-    let texts = map (λ x. term_text c.args.sig.now (tree x)) c.args.terms.now in
-    rw p.1 (prints_then _ _ _ _ _ _ (codes "(") (separated (joined c.args.separator.now) texts ++ codes ")") _ c.in_ok-put.ensures.whole c.put.ensures.cause.later
-    (prints_cut _ _ _ _ (separated (joined c.args.separator.now) texts) (codes ")") _ c.in_err-write_separated.ensures.front c.write_separated.ensures.cause.later c.in_err-write_separated.ensures.cause.failed))
-
-pub write_bracketed-returns : goal.write_bracketed-returns
-write_bracketed-returns g t c =
-    let texts = map (λ x. term_text c.args.sig.now (tree x)) c.args.terms.now in
-    prints_then _ _ _ _ _ _ (codes "(") (separated (joined c.args.separator.now) texts ++ codes ")") c.put-2.result c.in_ok-put.ensures.whole c.put.ensures.cause.later
-    (prints_then _ _ _ _ _ _ (separated (joined c.args.separator.now) texts) (codes ")") c.put-2.result c.in_ok-write_separated.ensures.whole c.write_separated.ensures.cause.later c.put-2.ensures)
-
-pub write_prefix-returns-in_err-put : goal.write_prefix-returns-in_err-put
-write_prefix-returns-in_err-put g t c =
-    let p = err_from_is_err_and c.from_residual.result c.from_residual.ensures.1 in
+    let d = c.args.decl.now in
+    let n = length c.args.args.now in
     let texts = map (λ x. term_text c.args.sig.now (tree x)) c.args.args.now in
-    rw p.1 (prints_cut _ _ _ _ c.args.decl.now.name (bracketed (codes ", ") texts) _ (rw c.bytes.ensures.bytes at c.in_err-put.ensures.front) c.put.ensures.cause.later c.in_err-put.ensures.cause.failed)
+    let parts = application_text-parts (λ x. term_text c.args.sig.now (tree x)) d d.sign c.args.args.now n refl in
+    let behind = separated (separator_text d.sign n) texts ++ codes ")" in
+    rw (p.1, parts) (prints_then _ _ _ _ _ _ (front_text d d.sign n) behind _ c.in_ok-write_front.ensures.whole c.write_front.ensures.cause.later
+    (prints_cut _ _ _ _ (separated (separator_text d.sign n) texts) (codes ")") _ (rw c.separator.ensures at c.in_err-write_separated.ensures.front) c.write_separated.ensures.cause.later c.in_err-write_separated.ensures.cause.failed))
 
-pub write_prefix-returns : goal.write_prefix-returns
-write_prefix-returns g t c =
+pub write_application-returns : goal.write_application-returns
+write_application-returns g t c =
+    let d = c.args.decl.now in
+    let n = length c.args.args.now in
     let texts = map (λ x. term_text c.args.sig.now (tree x)) c.args.args.now in
-    prints_then _ _ _ _ _ _ c.args.decl.now.name (bracketed (codes ", ") texts) c.write_bracketed.result (rw c.bytes.ensures.bytes at c.in_ok-put.ensures.whole) c.put.ensures.cause.later (rw c.as_slice.ensures at c.write_bracketed.ensures)
+    let parts = application_text-parts (λ x. term_text c.args.sig.now (tree x)) d d.sign c.args.args.now n refl in
+    let behind = separated (separator_text d.sign n) texts ++ codes ")" in
+    rw parts (prints_then _ _ _ _ _ _ (front_text d d.sign n) behind c.put.result c.in_ok-write_front.ensures.whole c.write_front.ensures.cause.later
+    (prints_then _ _ _ _ _ _ (separated (separator_text d.sign n) texts) (codes ")") c.put.result (rw c.separator.ensures at c.in_ok-write_separated.ensures.whole) c.write_separated.ensures.cause.later c.put.ensures))
 
 pub write_separated-returns-in_err-write_gap : goal.write_separated-returns-in_err-write_gap
 write_separated-returns-in_err-write_gap g t c =

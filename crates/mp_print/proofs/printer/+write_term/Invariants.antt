@@ -17,16 +17,10 @@ invariant-write_separated-loop-index g l = record {
 
 -- each function of the cycle is nearer to the terms than the one before it
 abbrev pub decreases-write_term : goal.decreases-write_term
-decreases-write_term g l = 5 * node_count (tree l.term.now)
+decreases-write_term g l = 3 * node_count (tree l.term.now)
 
 abbrev pub decreases-write_application : goal.decreases-write_application
-decreases-write_application g l = 5 * all_nodes (map tree l.args.now) + 4
-
-abbrev pub decreases-write_prefix : goal.decreases-write_prefix
-decreases-write_prefix g l = 5 * all_nodes (map tree l.args.now) + 3
-
-abbrev pub decreases-write_bracketed : goal.decreases-write_bracketed
-decreases-write_bracketed g l = 5 * all_nodes (map tree l.terms.now) + 2
+decreases-write_application g l = 3 * all_nodes (map tree l.args.now) + 2
 
 abbrev pub decreases-write_separated : goal.decreases-write_separated
-decreases-write_separated g l = 5 * all_nodes (map tree l.terms.now) + 1
+decreases-write_separated g l = 3 * all_nodes (map tree l.terms.now) + 1
