@@ -7,6 +7,7 @@ use Rattle.matchpy.specs.declared.ending.Told.TheVariants as told
 use Rattle.matchpy.specs.declared.ending.Ending.{Ending}
 use Rattle.matchpy.specs.declared.ending.Ending.TheVariants as ending
 
+-- the status of what is told of the words or of a file
 abbrev pub told_status : Told → ℕ
 told_status told.Done = 0
 told_status told.Empty = 1
@@ -14,6 +15,7 @@ told_status told.Usage = 2
 told_status (told.BadText name fault) = 3
 told_status (told.TooLong name) = 4
 
+-- the line of what is told, and none where all went well
 abbrev pub told_line : Told → Text
 told_line told.Done = []
 told_line told.Empty = []
@@ -21,6 +23,7 @@ told_line told.Usage = usage_line
 told_line (told.BadText name fault) = fault_line name.now fault
 told_line (told.TooLong name) = long_line name.now
 
+-- the status of an ending
 abbrev pub status_of : Ending → ℕ
 status_of (ending.Told t) = told_status t
 status_of ending.Memory = 8
@@ -28,6 +31,7 @@ status_of ending.CannotWrite = 5
 status_of (ending.CannotOpen name) = 4
 status_of (ending.CannotRead name) = 4
 
+-- the line of an ending
 abbrev pub line_of : Ending → Text
 line_of (ending.Told t) = told_line t
 line_of ending.Memory = memory_line

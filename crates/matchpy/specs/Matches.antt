@@ -38,12 +38,15 @@ IsMatchText file = IsJoinedBy (λ subject. IsJoinedBy (IsRuleText file.sig subje
 
 -- ---- the same, by the search for the one-list
 
+-- a line for each substitution of the one-list of a rule on a subject
 abbrev pub rule_text : Sig → Subject → Rule → Text
 rule_text sig subject rule = flat_map (match_line sig subject rule) (one_list sig rule subject.term)
 
+-- the lines of all rules on a subject, in order
 abbrev pub subject_text : Sig → List Rule → Subject → Text
 subject_text sig rules subject = flat_map (rule_text sig subject) rules
 
+-- the lines of all subjects, in order
 abbrev pub match_text : FileTree → Text
 match_text file = flat_map (subject_text file.sig file.rules) file.subjects
 

@@ -13,21 +13,27 @@ told text = codes "matchpy: " ++ (text ++ 10 ∷ [])
 abbrev pub said_of : Text → Text → Text
 said_of name text = codes "matchpy: " ++ (name ++ (text ++ 10 ∷ []))
 
+-- the words are no request
 abbrev pub usage_line : Text
 usage_line = codes "usage: matchpy ACTION [FILE ..] [--engine E] [--limit N] [--resume TOKEN] [--max N]" ++ 10 ∷ []
 
+-- there wasn't enough memory
 abbrev pub memory_line : Text
 memory_line = told (codes "want of memory")
 
+-- standard output failed
 abbrev pub write_line : Text
 write_line = told (codes "cannot write")
 
+-- the file can't be opened
 abbrev pub open_line : Text → Text
 open_line name = said_of name (codes ": cannot open")
 
+-- the file can't be read
 abbrev pub read_line : Text → Text
 read_line name = said_of name (codes ": cannot read")
 
+-- the file has more bytes than its limit
 abbrev pub long_line : Text → Text
 long_line name = said_of name (codes ": too long")
 

@@ -9,6 +9,7 @@ use Rattle.matchpy.specs.Messages.{fault_line, long_line, open_line, usage_line}
 use Rattle.matchpy.specs.Matches.{IsMatchText, has_some, match_text}
 use Rattle.matchpy.specs.Words.{Request, Match, Show, named_file, request_of}
 
+-- what a run writes, and what it answers
 pub record Outcome : Type 0 where
   -- the text for standard output, the text for standard error, and the status
   pub out : Text
@@ -57,6 +58,7 @@ abbrev pub IsOutcomeOver : Request → Text → Outcome → Type 0
 IsOutcomeOver (Match name) = IsFileOutcome AreMatches name
 IsOutcomeOver (Show name) = IsFileOutcome IsShown name
 
+-- words that make no request are refused; else the outcome is that of the request over the file that it names
 abbrev pub IsOutcomeAt : Files → Option Request → Outcome → Type 0
 IsOutcomeAt files None o = o ≡ refused 2 usage_line
 IsOutcomeAt files (Some request) o = IsOver file_limit (named_file request) (IsOutcomeOver request) (held files (named_file request)) o
@@ -77,9 +79,11 @@ over_file over name None None = refused 3 (fault_line name unread_fault)
 abbrev pub file_outcome : (FileTree → Outcome) → Text → Text → Outcome
 file_outcome over name bytes = over_file over name (fault_of bytes) (file_of bytes)
 
+-- the outcome of `match` over the bytes of a named file
 abbrev pub match_outcome : Text → Text → Outcome
 match_outcome = file_outcome (λ file. matched (match_text file))
 
+-- the outcome of `show` over the bytes of a named file
 abbrev pub show_outcome : Text → Text → Outcome
 show_outcome = file_outcome shown
 
@@ -93,6 +97,7 @@ abbrev pub outcome_over : Request → Text → Outcome
 outcome_over (Match name) = match_outcome name
 outcome_over (Show name) = show_outcome name
 
+-- the outcome of a request over the files, and of no request
 abbrev pub outcome_at : Files → Option Request → Outcome
 outcome_at files None = refused 2 usage_line
 outcome_at files (Some request) = given file_limit (named_file request) (outcome_over request) (held files (named_file request))
