@@ -5,9 +5,10 @@ use Rattle.std.specs.List.{AllByRecursion}
 use Rattle.std.proofs.lemmas.Bool.{and_parts, and_from}
 use Rattle.mp_term.specs.Signature.{Sig, is_assoc, is_one}
 use Rattle.mp_term.proofs.ListLaws.{all-flat_map}
-use Rattle.mp_pattern.specs.PatternTree.{Pattern, symbol_pattern, app_pattern, wild_pattern, Patterns, no_patterns, more_patterns, pattern_list, patterns}
+use Rattle.mp_pattern.specs.PatternTree.{Wildcard, Pattern, symbol_pattern, app_pattern, wild_pattern, Patterns, no_patterns, more_patterns, pattern_list, patterns}
 use Rattle.mp_pattern.specs.Normal.{is_loose, unwrapped, parts, flattened, in_order, collapsed, normal_pattern, normal_patterns}
-use Rattle.mp_pattern.specs.Sound.{DefaultsAreNormal, AllDefaultsAreNormal, holds_ops, all_hold_ops}
+use Rattle.mp_pattern.specs.EachWildcard.{EachWildcard, AllEachWildcard}
+use Rattle.mp_pattern.specs.Sound.{holds_ops, all_hold_ops}
 use Rattle.mp_pattern.proofs.NormalLaws.{all-in_order}
 
 -- Q holds of the arguments of each application of which it holds
@@ -52,19 +53,20 @@ module _ (sig : Sig) (Q : Pattern → Type 0) (of_arguments : GoesDown Q) (with_
     all-normal_patterns no_patterns h = tt
     all-normal_patterns (more_patterns p ps) h = (of_normal_pattern p h.0, all-normal_patterns ps h.1)
 
+-- what holds of each wildcard of a pattern holds of each wildcard of its normal form
+module _ (sig : Sig) (Q : Wildcard → Type 0) where
+  each_wildcard : (ps : Patterns) → AllEachWildcard Q ps → AllByRecursion (EachWildcard Q) (pattern_list ps)
+  each_wildcard no_patterns h = tt
+  each_wildcard (more_patterns p ps) h = (h.0, each_wildcard ps h.1)
+
+  all_wildcards : (qs : List Pattern) → AllByRecursion (EachWildcard Q) qs → AllEachWildcard Q (patterns qs)
+  all_wildcards [] h = tt
+  all_wildcards (q ∷ qs) h = (h.0, all_wildcards qs h.1)
+
+  pub each_wildcard-normal_pattern : (p : Pattern) → EachWildcard Q p → EachWildcard Q (normal_pattern sig p)
+  each_wildcard-normal_pattern = of_normal_pattern sig (EachWildcard Q) (λ f ps h. each_wildcard ps h) (λ f ps qs h k. all_wildcards qs k)
+
 module _ (sig : Sig) where
-  each_default : (ps : Patterns) → AllDefaultsAreNormal sig ps → AllByRecursion (DefaultsAreNormal sig) (pattern_list ps)
-  each_default no_patterns h = tt
-  each_default (more_patterns p ps) h = (h.0, each_default ps h.1)
-
-  all_defaults : (qs : List Pattern) → AllByRecursion (DefaultsAreNormal sig) qs → AllDefaultsAreNormal sig (patterns qs)
-  all_defaults [] h = tt
-  all_defaults (q ∷ qs) h = (h.0, all_defaults qs h.1)
-
-  -- the defaults of a normal form are normal where those of the pattern are
-  pub defaults-normal_pattern : (p : Pattern) → DefaultsAreNormal sig p → DefaultsAreNormal sig (normal_pattern sig p)
-  defaults-normal_pattern = of_normal_pattern sig (DefaultsAreNormal sig) (λ f ps h. each_default ps h) (λ f ps qs h k. all_defaults qs k)
-
   each_held : (ps : Patterns) → all_hold_ops sig ps ≡ true → AllByRecursion (λ p. holds_ops sig p ≡ true) (pattern_list ps)
   each_held no_patterns h = tt
   each_held (more_patterns p ps) h = let k = and_parts (holds_ops sig p) (all_hold_ops sig ps) h in (k.0, each_held ps k.1)

@@ -4,9 +4,9 @@ use Rattle.mp_term.specs.Tree.{Tree, symbol, app, trees}
 use Rattle.mp_term.specs.Order.{tree_cmp}
 use Rattle.mp_term.specs.Sorting.{sorted}
 use Rattle.mp_term.specs.Signature.{Sig, is_one, in_kind}
-use Rattle.mp_pattern.specs.PatternTree.{Wildcard, dot, kind, plus, star, optional, Pattern, symbol_pattern, app_pattern, wild_pattern, Patterns, no_patterns, more_patterns}
+use Rattle.mp_pattern.specs.PatternTree.{Wildcard, dot, kind, plus, star, optional, is_sequence, Pattern, symbol_pattern, app_pattern, wild_pattern, Patterns, no_patterns, more_patterns}
 use Rattle.mp_pattern.specs.Value.{Value, one, seq, bag, IsFinal, Subst, value_of}
-use Rattle.mp_pattern.specs.Variables.{IsSubstOf, comm_above, is_sequence}
+use Rattle.mp_pattern.specs.Variables.{IsSubstOf, comm_above}
 use Rattle.mp_pattern.specs.Contribution.{contribution}
 
 -- what a node takes, and of an application whether it is collapsed

@@ -5,6 +5,7 @@ pub mod CondTree
 pub mod Order
 pub mod PatternOrderLaws
 pub mod Normal
+pub mod EachWildcard
 pub mod Sound
 pub mod Limits
 pub mod Syntactic

@@ -2,7 +2,8 @@
 use Rattle.std.specs.Prelude.{◌≡◌, ℕ, Bool, true, false, ◌&&◌, not, List, [], ◌∷◌, flat_map, nat_eq, if◌then◌else◌}
 use Rattle.mp_term.specs.Sorting.{sorted}
 use Rattle.mp_term.specs.Signature.{Sig, is_assoc, is_comm, is_one}
-use Rattle.mp_pattern.specs.PatternTree.{plus, star, optional, Pattern, symbol_pattern, app_pattern, wild_pattern, Patterns, no_patterns, more_patterns, pattern_list, patterns}
+use Rattle.mp_pattern.specs.PatternTree as plain
+use Rattle.mp_pattern.specs.PatternTree.{Pattern, symbol_pattern, app_pattern, wild_pattern, Patterns, no_patterns, more_patterns, pattern_list, patterns}
 use Rattle.mp_pattern.specs.Order.{pattern_cmp}
 
 -- the arguments of p, where f is its head, and else p alone
@@ -11,11 +12,9 @@ unwrapped f (symbol_pattern n) = symbol_pattern n ∷ []
 unwrapped f (app_pattern g ps) = if nat_eq f g then pattern_list ps else (app_pattern g ps ∷ [])
 unwrapped f (wild_pattern w x) = wild_pattern w x ∷ []
 
--- it may take no argument or several: a plus, star or optional wildcard
+-- a wildcard that may take no argument or several: plus, star or optional
 abbrev pub is_loose : Pattern → Bool
-is_loose (wild_pattern plus x) = true
-is_loose (wild_pattern star x) = true
-is_loose (wild_pattern (optional t) x) = true
+is_loose (wild_pattern w x) = plain.is_loose w
 is_loose _ = false
 
 -- one pattern, which isn't loose

@@ -1,14 +1,39 @@
 -- The plain trees that contracts see in place of patterns.
-use Rattle.std.specs.Prelude.{ℕ, List, [], ◌∷◌, Option}
+use Rattle.std.specs.Prelude.{ℕ, nat_eq, Bool, true, false, ◌||◌, List, [], ◌∷◌, Option, Some, None, if◌then◌else◌}
 use Rattle.mp_term.specs.Tree.{Tree}
 
--- what a wildcard takes: one argument; one symbol of the kind; one argument or more; any number of them; one argument, or none and then its variable has the default
+-- what a wildcard takes: one argument; one symbol of the kind; one argument or more; any number of them; one argument, or
+-- none and then its variable has the default
 pub data Wildcard : Type 0 where
   dot : Wildcard
   kind : ℕ → Wildcard
   plus : Wildcard
   star : Wildcard
   optional : Tree → Wildcard
+
+-- its variable stands for a list of terms: a plus or star wildcard
+abbrev pub is_sequence : Wildcard → Bool
+is_sequence plus = true
+is_sequence star = true
+is_sequence _ = false
+
+-- how many arguments it takes at least
+abbrev pub least : Wildcard → ℕ
+least star = 0
+least (optional t) = 0
+least _ = 1
+
+-- how many it takes at most, if there is a bound; under an associative operation one term may stand for several arguments
+abbrev pub most : Bool → Wildcard → Option ℕ
+most assoc dot = if assoc then None else Some 1
+most assoc (kind k) = Some 1
+most assoc plus = None
+most assoc star = None
+most assoc (optional t) = if assoc then None else Some 1
+
+-- it may take no argument, or as a sequence several
+abbrev pub is_loose : Wildcard → Bool
+is_loose w = is_sequence w || nat_eq (least w) 0
 
 mutual
   -- a symbol, an operation's number with its arguments, or a wildcard with its variable

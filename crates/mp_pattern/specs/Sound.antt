@@ -2,6 +2,7 @@
 use Rattle.std.specs.Prelude.{Bool, true, ◌&&◌, is_some, slice_get, ⊤}
 use Rattle.mp_term.specs.Signature.{Sig}
 use Rattle.mp_term.specs.Normal.{IsNormal}
+use Rattle.mp_pattern.specs.EachWildcard.{EachWildcard}
 use Rattle.mp_pattern.specs.PatternTree.{Wildcard, optional, Pattern, symbol_pattern, app_pattern, wild_pattern, Patterns, no_patterns, more_patterns}
 
 module _ (sig : Sig) where
@@ -10,17 +11,9 @@ module _ (sig : Sig) where
   DefaultIsNormal (optional t) = IsNormal sig t
   DefaultIsNormal _ = ⊤
 
-  abbrev mutual
-    -- the defaults of a pattern are normal
-    pub DefaultsAreNormal : Pattern → Type 0
-    DefaultsAreNormal (symbol_pattern n) = ⊤
-    DefaultsAreNormal (app_pattern f ps) = AllDefaultsAreNormal ps
-    DefaultsAreNormal (wild_pattern w x) = DefaultIsNormal w
-
-    -- so are those of each pattern of a list
-    pub AllDefaultsAreNormal : Patterns → Type 0
-    AllDefaultsAreNormal no_patterns = ⊤
-    AllDefaultsAreNormal (more_patterns p ps) = DefaultsAreNormal p × AllDefaultsAreNormal ps
+  -- the defaults of a pattern are normal
+  abbrev pub DefaultsAreNormal : Pattern → Type 0
+  DefaultsAreNormal = EachWildcard DefaultIsNormal
 
   abbrev mutual
     -- the signature holds each operation of a pattern

@@ -2,7 +2,7 @@
 use Rattle.std.specs.Prelude.{◌≡◌, ℕ, Bool, true, false, ◌&&◌, not, List, [], ◌∷◌, ◌++◌, map, filter, Option, Some, None, if◌then◌else◌}
 use Rattle.std.specs.List.{AllByRecursion, list_any}
 use Rattle.mp_term.specs.Signature.{Sig, is_comm}
-use Rattle.mp_pattern.specs.PatternTree.{Wildcard, plus, star, Pattern, symbol_pattern, app_pattern, wild_pattern, Patterns, no_patterns, more_patterns}
+use Rattle.mp_pattern.specs.PatternTree.{Wildcard, is_sequence, Pattern, symbol_pattern, app_pattern, wild_pattern, Patterns, no_patterns, more_patterns}
 use Rattle.mp_pattern.specs.Firsts.{firsts_after}
 use Rattle.mp_pattern.specs.Value.{Form, one_form, seq_form, bag_form, form_of, IsFinal, Subst, same_name}
 
@@ -28,12 +28,6 @@ abbrev mutual
 -- the variables in order of first occurrence
 abbrev pub variables : Pattern → List (List ℕ)
 variables p = firsts_after same_name [] (map (λ u. u.name) (uses None p))
-
--- a plus or star wildcard
-abbrev pub is_sequence : Wildcard → Bool
-is_sequence plus = true
-is_sequence star = true
-is_sequence _ = false
 
 module _ (sig : Sig) where
   -- the operation is commutative; at the root there is none

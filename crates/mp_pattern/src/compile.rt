@@ -5,7 +5,8 @@ ghost use Rattle.mp_pattern.specs.View.{pattern_tree, wildcard};
 ghost use Rattle.mp_pattern.specs.Size.{pattern_nodes};
 ghost use Rattle.mp_pattern.specs.Subpatterns.{subpatterns};
 ghost use Rattle.mp_pattern.specs.Value.{same_name};
-ghost use Rattle.mp_pattern.specs.Variables.{uses, variables, is_sequence, comm_above, form_among};
+ghost use Rattle.mp_pattern.specs.PatternTree.{is_sequence};
+ghost use Rattle.mp_pattern.specs.Variables.{uses, variables, comm_above, form_among};
 ghost use Rattle.mp_pattern.specs.Clash.{first_clash_after};
 ghost use Rattle.mp_pattern.specs.Plan.{nodes, variable_number, IsPlanOf};
 ghost use Rattle.mp_pattern.specs.PlanView.{form, label, node, variable};
@@ -121,13 +122,6 @@ fn push_nodes(
     }
 }
 
-// A plus or star wildcard.
-fn is_sequence(shape: &Shape) -> bool
-    ensures { result ≡ is_sequence (wildcard shape.now) }
-{
-    matches!(shape, Shape::Plus | Shape::Star)
-}
-
 // The operation is commutative; at the root there is none.
 fn is_comm_above(sig: &Signature, under: Option<OpId>) -> bool
     ensures { result ≡ comm_above sig.now (option_map (λ f. f.0) under) }
@@ -143,7 +137,7 @@ fn has_sequence(occurrences: &[Occurrence<'_>], name: &Name) -> bool
     ensures { result ≡ list_any (λ _. true) (filter (λ u. same_name name.now u.name && is_sequence u.wildcard) (map occurrence occurrences.now)) }
 {
     for occurrence in occurrences {
-        if *name == *occurrence.name && is_sequence(occurrence.shape) {
+        if *name == *occurrence.name && occurrence.shape.is_sequence() {
             return true;
         }
     }
@@ -156,7 +150,7 @@ fn has_ordered_sequence(sig: &Signature, occurrences: &[Occurrence<'_>], name: &
 {
     for occurrence in occurrences {
         if *name == *occurrence.name
-            && is_sequence(occurrence.shape)
+            && occurrence.shape.is_sequence()
             && !is_comm_above(sig, occurrence.under)
         {
             return true;

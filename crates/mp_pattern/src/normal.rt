@@ -6,7 +6,7 @@ ghost use Rattle.mp_pattern.specs.Order.{pattern_cmp};
 ghost use Rattle.mp_pattern.specs.Normal.{is_loose, is_collapsible, parts, collapsed, normal_pattern};
 ghost use Rattle.mp_pattern.specs.Sound.{holds_ops, DefaultsAreNormal};
 
-use crate::pattern::{Pattern, Patterns, Shape};
+use crate::pattern::{Pattern, Patterns};
 use mp_term::{Memory, OpId, Signature};
 use std::alloc::Global;
 
@@ -36,12 +36,12 @@ fn push_parts(out: &mut Patterns, sig: &Signature, op: OpId, pattern: Pattern) -
     }
 }
 
-// The pattern may take no argument or several.
+// The pattern is a wildcard that may take no argument or several.
 pub(crate) fn is_loose(pattern: &Pattern) -> bool
     ensures { result ≡ is_loose (pattern_tree pattern.now) }
 {
     match pattern {
-        Pattern::Wild(Shape::Plus | Shape::Star | Shape::Opt(_), _) => true,
+        Pattern::Wild(shape, _) => shape.is_loose(),
         _ => false,
     }
 }

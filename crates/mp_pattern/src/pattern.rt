@@ -1,6 +1,7 @@
 // Patterns: terms with wildcards.
 ghost use Rattle.std.specs.Prelude.{◌≡◌, [], ◌∷◌, ◌++◌, length, map, slice_get, OnOk, OnErr, option_map};
-ghost use Rattle.mp_pattern.specs.View.{pattern_tree};
+ghost use Rattle.mp_pattern.specs.PatternTree.{is_sequence, least, most, is_loose};
+ghost use Rattle.mp_pattern.specs.View.{wildcard, pattern_tree};
 
 use mp_term::{KindId, Memory, Name, OpId, Term};
 use std::alloc::Global;
@@ -19,6 +20,43 @@ pub enum Shape {
     Star,
     /// As a dot does, or nothing, and then its variable has this default.
     Opt(Term),
+}
+
+impl Shape {
+    /// Its variable stands for a list of terms: a plus or star wildcard.
+    pub fn is_sequence(&self) -> bool
+        ensures { result ≡ is_sequence (wildcard self.now) }
+    {
+        matches!(self, Shape::Plus | Shape::Star)
+    }
+
+    /// How many arguments it takes at least.
+    pub fn least(&self) -> usize
+        ensures { result ≡ least (wildcard self.now) }
+    {
+        match self {
+            Shape::Star | Shape::Opt(_) => 0,
+            Shape::Dot | Shape::Kind(_) | Shape::Plus => 1,
+        }
+    }
+
+    /// How many arguments it takes at most, where the operation above is associative or isn't. None: there is no bound.
+    pub fn most(&self, assoc: bool) -> Option<usize>
+        ensures { result ≡ most assoc (wildcard self.now) }
+    {
+        match self {
+            Shape::Plus | Shape::Star => None,
+            Shape::Dot | Shape::Opt(_) if assoc => None,
+            Shape::Dot | Shape::Opt(_) | Shape::Kind(_) => Some(1),
+        }
+    }
+
+    /// It may take no argument, or as a sequence several.
+    pub fn is_loose(&self) -> bool
+        ensures { result ≡ is_loose (wildcard self.now) }
+    {
+        self.is_sequence() || self.least() == 0
+    }
 }
 
 /// A term with wildcards. Contracts see it as the tree `pattern_tree` of `specs/View`; `specs/Fits` says what it matches.

@@ -3,7 +3,6 @@ ghost use Rattle.std.specs.Prelude.{◌≡◌};
 ghost use Rattle.mp_pattern.specs.View.{pattern_tree};
 ghost use Rattle.mp_pattern.specs.Syntactic.{is_plain, is_syntactic};
 
-use crate::normal::is_loose;
 use crate::pattern::Pattern;
 use mp_term::{OpId, Signature};
 
@@ -35,6 +34,6 @@ pub fn is_syntactic(sig: &Signature, pattern: &Pattern) -> bool
             }
             true
         }
-        Pattern::Wild(_, _) => !is_loose(pattern),
+        Pattern::Wild(shape, _) => !shape.is_loose(),
     }
 }

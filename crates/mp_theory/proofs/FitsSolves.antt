@@ -9,7 +9,7 @@ use Rattle.mp_term.specs.Normal.{IsNormal}
 use Rattle.mp_term.proofs.ListLaws.{all-append, all-split}
 use Rattle.mp_pattern.specs.PatternTree.{Wildcard, Pattern, symbol_pattern, app_pattern, wild_pattern, Patterns, no_patterns, more_patterns}
 use Rattle.mp_pattern.specs.Value.{Value, seq_form, form_of, one, seq, bag, IsFinal, Subst, value_of, same_name}
-use Rattle.mp_pattern.specs.Variables.{Use, uses, all_uses, comm_above, is_sequence, form_among, variable_form, IsSubstOf}
+use Rattle.mp_pattern.specs.Variables.{Use, uses, all_uses, comm_above, form_among, variable_form, IsSubstOf}
 use Rattle.mp_pattern.specs.Fits.{Table, Fits, ByValue}
 use Rattle.mp_pattern.specs.Holds.{is_bag}
 use Rattle.mp_pattern.proofs.NameLaws.{same_name-is, same_name-itself}

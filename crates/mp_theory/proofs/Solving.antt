@@ -4,10 +4,10 @@ use Rattle.std.specs.Prelude.{Option, Some, None, ◌||◌, filter, option_and_t
 use Rattle.std.specs.List.{AllByRecursion, list_any}
 use Rattle.mp_term.specs.Tree.{Tree}
 use Rattle.mp_term.specs.Signature.{Sig, in_kind}
-use Rattle.mp_pattern.specs.PatternTree.{Wildcard, dot, kind, plus, star, optional, Pattern}
+use Rattle.mp_pattern.specs.PatternTree.{Wildcard, dot, kind, plus, star, optional, is_sequence, Pattern}
 use Rattle.mp_pattern.specs.Value.{Value, one, seq, bag, Form, one_form, seq_form, bag_form, form_of, IsFinal, Subst, Binding, value_of, same_name, merge}
 use Rattle.mp_pattern.specs.Firsts.{is_known, add_new, firsts_after}
-use Rattle.mp_pattern.specs.Variables.{Use, uses, variables, comm_above, is_sequence, form_among, variable_form, IsSubstOf}
+use Rattle.mp_pattern.specs.Variables.{Use, uses, variables, comm_above, form_among, variable_form, IsSubstOf}
 use Rattle.mp_pattern.proofs.NameLaws.{same_name-is, same_name-itself}
 use Rattle.mp_theory.specs.Solve.{Taken, bind, given, solve, sequence}
 use Rattle.mp_theory.proofs.Merging.{Refines, IsArranged, Extends, AllArranged, bind-sound, from_if, if_either, mapped}

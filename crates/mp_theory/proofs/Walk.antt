@@ -12,7 +12,7 @@ use Rattle.mp_term.specs.NormalTest.{is_single, ascending, passes, all_pass}
 use Rattle.mp_term.proofs.ListLaws.{all-append, all-split}
 use Rattle.mp_pattern.specs.PatternTree.{Wildcard, Pattern, symbol_pattern, app_pattern, wild_pattern, Patterns, no_patterns, more_patterns}
 use Rattle.mp_pattern.specs.Value.{Value, IsFinal, Subst, value_of}
-use Rattle.mp_pattern.specs.Variables.{comm_above, is_sequence}
+use Rattle.mp_pattern.specs.Variables.{comm_above}
 use Rattle.mp_pattern.specs.Fits.{Entry, Table, is_left_out, no_sequence, ByValue, HasValue, WildTakes}
 use Rattle.mp_pattern.specs.Holds.{is_bag}
 use Rattle.mp_theory.specs.Solve.{Taken, is_alone, given}

@@ -14,9 +14,9 @@ use Rattle.mp_term.specs.NormalTest.{has_head, ascending, passes, all_pass}
 use Rattle.mp_term.proofs.Sorting.{ascends-sorted}
 use Rattle.mp_term.proofs.NormalTestLaws.{normal-passes, passes-normal, sorted-ascending, ascending-from}
 use Rattle.mp_term.specs.OrderLaws.{tree_cmp_total}
-use Rattle.mp_pattern.specs.PatternTree.{Wildcard, dot, kind, plus, star, optional}
+use Rattle.mp_pattern.specs.PatternTree.{Wildcard, dot, kind, plus, star, optional, is_sequence}
 use Rattle.mp_pattern.specs.Value.{Value, one, seq, bag, IsFinal}
-use Rattle.mp_pattern.specs.Variables.{comm_above, is_sequence}
+use Rattle.mp_pattern.specs.Variables.{comm_above}
 use Rattle.mp_pattern.specs.Contribution.{contribution, spread, if_several}
 use Rattle.mp_pattern.specs.Fits.{WildTakes}
 use Rattle.mp_pattern.specs.Holds.{is_bag}

@@ -2,7 +2,7 @@ use Rattle.std.proofs.Common.{◌≡◌, ◌&&◌, drop, map, true}
 use Rattle.std.specs.Prelude.{filter}
 use Rattle.std.specs.List.{list_any}
 use Rattle.mp_pattern.specs.Value.{same_name}
-use Rattle.mp_pattern.specs.Variables.{is_sequence}
+use Rattle.mp_pattern.specs.PatternTree.{is_sequence}
 use Rattle.mp_pattern.specs.UseView.{occurrence}
 use Rattle.mp_pattern.proofs.compile.has_sequence.Given as goal
 
