@@ -1,4 +1,5 @@
 pub mod Devices
+pub mod Moments
 pub mod Printing
 pub mod MemoryShelf
 pub mod MemoryShelfView

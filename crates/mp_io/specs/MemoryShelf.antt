@@ -12,7 +12,8 @@ pub record ShelfState : Type 0 where
   -- the calls of `start` and `read` so far, and the numbers of those that fail
   pub calls : ℕ
   pub fails : List ℕ
-  -- the calls of `read` so far
+  -- the calls of `start` and those of `read` so far
+  pub starts : ℕ
   pub reads : ℕ
   pub start_faults : ℕ
   pub read_faults : ℕ
@@ -32,6 +33,7 @@ after_start s name = record s {
   rest = unwrap_or (bytes_found s name) [];
   given = 0;
   calls = saturating_add s.calls 1;
+  starts = saturating_add s.starts 1;
   start_faults = count_faults (is_fault s) s.start_faults;
 }
 

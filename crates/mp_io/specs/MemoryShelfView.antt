@@ -43,6 +43,7 @@ shelf_state s = record {
   given = given_at s.started;
   calls = s.calls;
   fails = s.fails.items;
+  starts = s.starts;
   reads = s.reads;
   start_faults = s.start_faults;
   read_faults = s.read_faults;

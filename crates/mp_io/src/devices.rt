@@ -1,4 +1,5 @@
-// The two devices that everything above is generic over, and how their calls fail.
+//! The two devices that everything above is generic over, and how their calls fail.
+
 ghost use Rattle.std.specs.Prelude.{◌≡◌, ◌⊎◌, ◌<◌, ◌≤◌, ℕ, Bool, true, List, [], Option, length, Ok, OnErr, OnOk, IfOk, IsErr, is_ok, MatchResult};
 ghost use Rattle.std.specs.Io.{ReadsAtMost, WritesAtMost};
 ghost use Rattle.std.specs.Io.KnownBytes.{ReadConsumes, WriteAppends};
@@ -29,6 +30,9 @@ pub trait Shelf {
     /// How many bytes were given since the last start, a number that stops at its greatest.
     ghost given: { Self → ℕ };
 
+    /// How many calls of `start` were made, a number that stops at its greatest.
+    ghost starts: { Self → ℕ };
+
     /// How many calls of `read` were made, a number that stops at its greatest.
     ghost reads: { Self → ℕ };
 
@@ -40,7 +44,7 @@ pub trait Shelf {
 
     /// Makes the named file the started one, with all its bytes left.
     ///
-    /// `Failed`: the count of starts rose, or the files are told and none has the name, which alone
+    /// `Failed`: the count of the faults of starts rose, or the files are told and none has the name, which alone
     /// is no fault and always fails. Nothing is started then. No answer changes the files.
     fn start(&mut self, name: &str) -> Result<(), Failed>
         ensures files { files self.new ≡ files self.old }
@@ -56,6 +60,7 @@ pub trait Shelf {
             (Rose (start_faults self.old) (start_faults self.new) ⊎ IsMissing (files self.old) name.now) }
 
         // the counts
+        ensures starts { starts self.new ≡ saturating_add (starts self.old) 1 }
         ensures reads { reads self.new ≡ reads self.old }
         ensures start_faults { start_faults self.old ≤ start_faults self.new }
         ensures read_faults { read_faults self.old ≤ read_faults self.new };
@@ -63,8 +68,8 @@ pub trait Shelf {
     /// Fills a front of the room with the next bytes of the started file, which loses them, and
     /// answers how many they are. None into room that isn't empty means that none is left.
     ///
-    /// `Failed`: the count of reads rose, and no byte was given. Every answer leaves the file
-    /// started and the files as they were.
+    /// `Failed`: the count of the faults of reads rose, and no byte was given; at `Ok` it stays. Every
+    /// answer leaves the file started and the files as they were.
     fn read(&mut self, room: &mut [u8]) -> Result<usize, Failed>
         requires { is_started self.old ≡ true }
         ensures files { files self.new ≡ files self.old }
@@ -79,6 +84,7 @@ pub trait Shelf {
 
         // when it fails, and the counts
         ensures cause { HasCause (read_faults self.old) (read_faults self.new) result }
+        ensures starts { starts self.new ≡ starts self.old }
         ensures reads { reads self.new ≡ saturating_add (reads self.old) 1 }
         ensures start_faults { start_faults self.old ≤ start_faults self.new };
 }
@@ -96,7 +102,8 @@ pub trait Sink {
     /// Appends a front of the piece, of at least one byte where the piece has one, and answers how
     /// many bytes that is.
     ///
-    /// `Failed`: the count of faults rose, and nothing was appended. An empty piece never fails.
+    /// `Failed`: the count of faults rose, and nothing was appended; at `Ok` it stays. An empty piece
+    /// never fails.
     fn write(&mut self, piece: &[u8]) -> Result<usize, Failed>
         ensures bound { WritesAtMost result piece.now }
         ensures some { IfOk result (λ count. 0 < length piece.now → 0 < count) }

@@ -1,4 +1,5 @@
-// A shelf of files in memory, whose calls fail at the numbers that it was made with.
+//! A shelf of files in memory, whose calls fail at the numbers that it was made with.
+
 ghost use Rattle.std.specs.Prelude.{◌≡◌, ◌⊎◌, ◌<◌, ◌≤◌, ◌+◌, ◌++◌, ◌∷◌, not, min, true, false, [], Option, Some, length, take, OnOk, OnErr, IfOk, IfSome, IsErr, is_ok, is_some, MatchResult, option_and_then, if◌then◌else◌, string_bytes};
 ghost use Rattle.std.specs.Io.{ReadsAtMost};
 ghost use Rattle.std.specs.Io.KnownBytes.{ReadConsumes};
@@ -35,6 +36,7 @@ pub struct MemoryShelf {
     started: Option<Place>,
     calls: u64,
     fails: Vec<u64>,
+    starts: u64,
     reads: u64,
     start_faults: u64,
     read_faults: u64,
@@ -106,6 +108,7 @@ impl MemoryShelf {
           given = 0;
           calls = 0;
           fails = fails.items;
+          starts = 0;
           reads = 0;
           start_faults = 0;
           read_faults = 0;
@@ -117,6 +120,7 @@ impl MemoryShelf {
             started: None,
             calls: 0,
             fails,
+            starts: 0,
             reads: 0,
             start_faults: 0,
             read_faults: 0,
@@ -163,6 +167,8 @@ impl Shelf for MemoryShelf {
 
     ghost given = { λ s. s.given };
 
+    ghost starts = { λ s. s.starts };
+
     ghost reads = { λ s. s.reads };
 
     ghost start_faults = { λ s. s.start_faults };
@@ -181,6 +187,7 @@ impl Shelf for MemoryShelf {
         ensures missing { IsMissing (Some self.old.files) name.now → IsErr result }
         ensures cause { OnErr result
             (Rose self.old.start_faults self.new.start_faults ⊎ IsMissing (Some self.old.files) name.now) }
+        ensures starts { self.new.starts ≡ saturating_add self.old.starts 1 }
         ensures reads { self.new.reads ≡ self.old.reads }
         ensures start_faults { self.old.start_faults ≤ self.new.start_faults }
         ensures read_faults { self.old.read_faults ≤ self.new.read_faults }
@@ -191,6 +198,7 @@ impl Shelf for MemoryShelf {
     {
         let fault = self.fails.contains(&self.calls);
         self.calls = self.calls.saturating_add(1);
+        self.starts = self.starts.saturating_add(1);
         self.started = None;
         if fault {
             self.start_faults = self.start_faults.saturating_add(1);
@@ -218,6 +226,7 @@ impl Shelf for MemoryShelf {
             (λ count. self.new.given ≡ saturating_add self.old.given count)
             (λ _. self.new.given ≡ self.old.given) }
         ensures cause { HasCause self.old.read_faults self.new.read_faults result }
+        ensures starts { self.new.starts ≡ self.old.starts }
         ensures reads { self.new.reads ≡ saturating_add self.old.reads 1 }
         ensures start_faults { self.old.start_faults ≤ self.new.start_faults }
 

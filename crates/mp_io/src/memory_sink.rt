@@ -1,4 +1,5 @@
-// A sink in memory, whose writes fail at the numbers that it was made with and where its room ends.
+//! A sink in memory, whose writes fail at the numbers that it was made with and where its room ends.
+
 ghost use Rattle.std.specs.Prelude.{◌≡◌, ◌<◌, not, [], Some, length, Ok, IfOk, is_ok};
 ghost use Rattle.std.specs.Io.{WritesAtMost};
 ghost use Rattle.std.specs.Io.KnownBytes.{WriteAppends};

@@ -1,4 +1,5 @@
-// The system's files and streams as devices. They tell no bytes: what they pass on is trusted.
+//! The system's files and streams as devices. They tell no bytes: what they pass on is trusted.
+
 ghost use Rattle.std.specs.Prelude.{◌≡◌, ◌⊎◌, ◌<◌, ◌≤◌, ℕ, true, false, not, None, Ok, length, OnErr, OnOk, IfOk, IsErr, IsOk, [], codes, is_ok, MatchResult};
 ghost use Rattle.std.specs.Io.{ReadsAtMost, WritesAtMost};
 ghost use Rattle.std.specs.Io.KnownBytes.{ReadConsumes, WriteAppends};
@@ -26,6 +27,7 @@ pub struct RealShelf<'a, R: Files + Input> {
     rt: &'a R,
     started: Started<R::File, R::Reader>,
     given: u64,
+    starts: u64,
     reads: u64,
     start_faults: u64,
     read_faults: u64,
@@ -41,6 +43,7 @@ impl<'a, R: Files + Input> Model for RealShelf<'a, R> {
     ghost view = { λ s. record {
       is_started = is_open s.started;
       given = s.given;
+      starts = s.starts;
       reads = s.reads;
       start_faults = s.start_faults;
       read_faults = s.read_faults;
@@ -53,6 +56,7 @@ impl<'a, R: Files + Input> RealShelf<'a, R> {
         ensures { result ≡ record {
           is_started = false;
           given = 0;
+          starts = 0;
           reads = 0;
           start_faults = 0;
           read_faults = 0;
@@ -62,6 +66,7 @@ impl<'a, R: Files + Input> RealShelf<'a, R> {
             rt,
             started: Started::Nothing,
             given: 0,
+            starts: 0,
             reads: 0,
             start_faults: 0,
             read_faults: 0,
@@ -77,6 +82,8 @@ impl<'a, R: Files + Input> Shelf for RealShelf<'a, R> {
     ghost rest = { λ _. None };
 
     ghost given = { λ s. s.given };
+
+    ghost starts = { λ s. s.starts };
 
     ghost reads = { λ s. s.reads };
 
@@ -95,6 +102,7 @@ impl<'a, R: Files + Input> Shelf for RealShelf<'a, R> {
         ensures missing { IsMissing None name.now → IsErr result }
         ensures cause { OnErr result
             (Rose self.old.start_faults self.new.start_faults ⊎ IsMissing None name.now) }
+        ensures starts { self.new.starts ≡ saturating_add self.old.starts 1 }
         ensures reads { self.new.reads ≡ self.old.reads }
         ensures start_faults { self.old.start_faults ≤ self.new.start_faults }
         ensures read_faults { self.old.read_faults ≤ self.new.read_faults }
@@ -104,9 +112,11 @@ impl<'a, R: Files + Input> Shelf for RealShelf<'a, R> {
         ensures after { self.new ≡ record self.old {
           is_started = is_ok result;
           given = 0;
+          starts = self.new.starts;
           start_faults = count_faults (not (is_ok result)) self.old.start_faults;
         } }
     {
+        self.starts = self.starts.saturating_add(1);
         self.started = Started::Nothing;
         self.given = 0;
         if name == "-" {
@@ -137,6 +147,7 @@ impl<'a, R: Files + Input> Shelf for RealShelf<'a, R> {
             (λ count. self.new.given ≡ saturating_add self.old.given count)
             (λ _. self.new.given ≡ self.old.given) }
         ensures cause { HasCause self.old.read_faults self.new.read_faults result }
+        ensures starts { self.new.starts ≡ self.old.starts }
         ensures reads { self.new.reads ≡ saturating_add self.old.reads 1 }
         ensures start_faults { self.old.start_faults ≤ self.new.start_faults }
 

@@ -1,6 +1,7 @@
-// A file read whole, and a text written whole.
+//! A file read whole, and a text written whole.
+
 ghost use Rattle.std.specs.Prelude.{◌≡◌, ◌⊎◌, ◌<◌, ◌≤◌, ◌+◌, ◌↔◌, length, IfOk, IfSome, IsErr, IsErrOf};
-ghost use Rattle.mp_io.specs.Devices.{HoldsBytes, IsLonger, IsMissing, Rose, held};
+ghost use Rattle.mp_io.specs.Devices.{HoldsBytes, IsLonger, IsMissing, Rose, held, saturating_add};
 ghost use Rattle.mp_io.specs.Printing.{Prints, joined};
 
 use crate::{Failed, Shelf, Sink};
@@ -26,7 +27,7 @@ pub enum ReadFault {
 
 /// The bytes of the named file to its end, where it has at most `limit` of them.
 ///
-/// It makes at most `limit + 2` reads. No answer changes the shelf's files; which file is started
+/// It starts the file once, and makes at most `limit + 2` reads. No answer changes the shelf's files; which file is started
 /// after it isn't said.
 ///
 /// - `Start`: only where the count of starts rose, or the files are told and none has the name, which
@@ -63,6 +64,7 @@ pub fn read_whole<S: Shelf>(
     ensures files { S.files shelf.new ≡ S.files shelf.old }
     ensures start_faults { S.start_faults shelf.old ≤ S.start_faults shelf.new }
     ensures read_faults { S.read_faults shelf.old ≤ S.read_faults shelf.new }
+    ensures starts { S.starts shelf.new ≡ saturating_add (S.starts shelf.old) 1 }
     ensures reads { S.reads shelf.new ≤ S.reads shelf.old + limit + 2 }
 {
     if shelf.start(name).is_err() {
