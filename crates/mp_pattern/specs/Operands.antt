@@ -2,6 +2,7 @@
 use Rattle.std.specs.Prelude.{◌≡◌, ◌≤◌, ℕ, true, List, [], ◌∷◌, ◌++◌, Option, Some, None, ⊤}
 use Rattle.std.specs.List.{AllByRecursion}
 use Rattle.mp_term.specs.Size.{node_count}
+use Rattle.mp_pattern.specs.declared.limits.TheConstants.{MAX_OPERAND_NODES}
 use Rattle.mp_pattern.specs.CondTree.{Operand, var, ground, Amount, fixed, count, size, Cond, amounts, same, less, free, of_kind, headed, negation, all_of, any_of, Conds, no_conds, more_conds}
 use Rattle.mp_pattern.specs.Value.{same_name}
 use Rattle.mp_pattern.specs.Firsts.{is_known}
@@ -30,12 +31,12 @@ abbrev mutual
   all_operands no_conds = []
   all_operands (more_conds c cs) = operands c ++ all_operands cs
 
--- the operand is one of the variables xs, or a ground term of at most 64 nodes
+-- the operand is one of the variables xs, or a ground term of at most MAX_OPERAND_NODES nodes
 abbrev pub IsOperandOver : List (List ℕ) → Operand → Type 0
 IsOperandOver xs (var x) = is_known same_name xs x ≡ true
-IsOperandOver xs (ground t) = node_count t ≤ 64
+IsOperandOver xs (ground t) = node_count t ≤ MAX_OPERAND_NODES
 
--- each operand of the condition is one of the variables xs, or a ground term of at most 64 nodes
+-- each operand of the condition is one of the variables xs, or a ground term of at most MAX_OPERAND_NODES nodes
 abbrev pub IsConditionOver : List (List ℕ) → Cond → Type 0
 IsConditionOver xs c = AllByRecursion (IsOperandOver xs) (operands c)
 

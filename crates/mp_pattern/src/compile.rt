@@ -15,6 +15,7 @@ ghost use Rattle.mp_pattern.specs.PlanFault.{plan_fault, IsCompiled, OrMemory};
 
 use crate::copy::copy_shape;
 use crate::entry::Form;
+use crate::limits::{MAX_PATTERN_NODES, MAX_VARIABLES};
 use crate::normal::is_loose;
 use crate::outline::{Occurrence, Outline, first_clash, node_count, outline_of};
 use crate::pattern::{Pattern, Shape};
@@ -23,21 +24,16 @@ use mp_term::{Memory, Name, OpId, Signature};
 use std::alloc::Global;
 use thiserror::Error;
 
-// How many nodes and how many variables a pattern with a plan has at most.
-const MAX_NODES: u32 = 64;
-
-const MAX_VARIABLES: usize = 32;
-
 /// Why a pattern has no plan.
 #[derive(Debug, Drop, Error)]
 pub enum PlanFault {
     /// The root is a plus, star or optional wildcard.
     #[error("the whole pattern is a plus, star or optional wildcard")]
     LooseSequence,
-    /// The pattern has more than 64 nodes: so many, or the greatest `u32` where there are more.
+    /// The pattern has more than `MAX_PATTERN_NODES` nodes: so many, or the greatest `u32` where there are more.
     #[error("too many nodes: {count}")]
     TooManyNodes { count: u32 },
-    /// The pattern has more than 32 variables: so many.
+    /// The pattern has more than `MAX_VARIABLES` variables: so many.
     #[error("too many variables: {count}")]
     TooManyVars { count: u32 },
     /// The wildcard at this node is of another class, kind or default than one of the same variable before it.
@@ -63,7 +59,7 @@ fn index_of(names: &[&Name], name: &Name) -> Option<usize>
 
 // The number of the variable among the names, from 0.
 fn variable_number(names: &[&Name], variable: &Option<Name>) -> Option<u32>
-    requires { length names.now ≤ 32 }
+    requires { length names.now ≤ MAX_VARIABLES }
     ensures { result ≡ variable_number (map (λ n. n.now) names.now) variable.now }
 {
     match variable {
@@ -97,8 +93,8 @@ fn push_nodes(
     pattern: &Pattern,
     parent: Option<u32>,
 ) -> Result<(), Memory>
-    requires variables { length names.now ≤ 32 }
-    requires room { length out.old.items + pattern_nodes (pattern_tree pattern.now) ≤ 64 }
+    requires variables { length names.now ≤ MAX_VARIABLES }
+    requires room { length out.old.items + pattern_nodes (pattern_tree pattern.now) ≤ MAX_PATTERN_NODES }
     ensures nodes { OnOk result (map node out.new.items ≡ map node out.old.items ++ nodes (map (λ n. n.now) names.now) parent (length out.old.items) (pattern_tree pattern.now)) }
     ensures count { OnOk result (length out.new.items ≡ length out.old.items + pattern_nodes (pattern_tree pattern.now)) }
 {
@@ -194,9 +190,9 @@ fn variables_of(
 
 // What the pattern's variables and wildcards have against a plan.
 fn fault(outline: &Outline<'_>) -> Option<PlanFault>
-    requires names { length outline.now.names.items ≤ 64 }
-    requires patterns { length outline.now.patterns.items ≤ 64 }
-    ensures { result ≡ (if nat_lt 32 (length outline.now.names.items) then Some (PlanFault.TooManyVars (length outline.now.names.items))
+    requires names { length outline.now.names.items ≤ MAX_PATTERN_NODES }
+    requires patterns { length outline.now.patterns.items ≤ MAX_PATTERN_NODES }
+    ensures { result ≡ (if nat_lt MAX_VARIABLES (length outline.now.names.items) then Some (PlanFault.TooManyVars (length outline.now.names.items))
         else option_map PlanFault.KindClash (first_clash_after [] (map (λ p. pattern_tree p.now) outline.now.patterns.items))) }
 {
     let count = outline.names.len();
@@ -218,8 +214,8 @@ fn build(
     pattern: &Pattern,
     outline: &Outline<'_>,
 ) -> Result<Plan, Memory>
-    requires nodes { pattern_nodes (pattern_tree pattern.now) ≤ 64 }
-    requires few { length outline.now.names.items ≤ 32 }
+    requires nodes { pattern_nodes (pattern_tree pattern.now) ≤ MAX_PATTERN_NODES }
+    requires few { length outline.now.names.items ≤ MAX_VARIABLES }
     requires occurrences { map occurrence outline.now.occurrences.items ≡ uses None (pattern_tree pattern.now) }
     requires names { map (λ n. n.now) outline.now.names.items ≡ variables (pattern_tree pattern.now) }
     ensures { IfOk result (λ plan. IsPlanOf sig.now (pattern_tree pattern.now) plan) }
@@ -238,7 +234,7 @@ fn compiled(alloc: Global, sig: &Signature, pattern: &Pattern) -> Result<Plan, P
         return Err(PlanFault::LooseSequence);
     }
     let count = node_count(pattern);
-    if MAX_NODES < count {
+    if MAX_PATTERN_NODES < count {
         return Err(PlanFault::TooManyNodes { count });
     }
     let Ok(outline) = outline_of(alloc, pattern) else {
@@ -258,9 +254,9 @@ impl Plan {
     /// stands, normal or not. An operation that isn't held would count as one that isn't commutative.
     ///
     /// The refusals come in this order (`plan_fault` of `specs/PlanFault`), and leave nothing. `LooseSequence` comes exactly where the
-    /// root is a plus, star or optional wildcard. `TooManyNodes` comes exactly where the pattern has more than 64 nodes, a wildcard
+    /// root is a plus, star or optional wildcard. `TooManyNodes` comes exactly where the pattern has more than `MAX_PATTERN_NODES` nodes, a wildcard
     /// with its default being one, with their number, or the greatest `u32` where there are more. `TooManyVars` comes exactly where it
-    /// has more than 32 variables, with their number. `KindClash` comes exactly where the wildcard at some node has the variable
+    /// has more than `MAX_VARIABLES` variables, with their number. `KindClash` comes exactly where the wildcard at some node has the variable
     /// of one before it and another class, kind or default, with the least such node (`first_clash` of `specs/Clash`). `Memory` comes
     /// where there is no room for the plan, also in place of the last two.
     pub fn compile(alloc: Global, sig: &Signature, pattern: &Pattern) -> Result<Plan, PlanFault>

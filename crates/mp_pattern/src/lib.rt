@@ -6,6 +6,7 @@ mod condition;
 mod copy;
 mod entry;
 mod laws;
+mod limits;
 mod named;
 mod normal;
 mod order;
@@ -24,6 +25,10 @@ pub use laws::{
     a_plan_has_one_pattern, ground_patterns_are_terms, normal_pattern_is_idempotent,
     normal_pattern_is_no_larger, normal_pattern_keeps_no_clash, normal_pattern_keeps_variables,
     pattern_order_is_total, subpatterns_are_normal,
+};
+pub use limits::{
+    MAX_ATOMS, MAX_DEFAULT_NODES, MAX_DEPTH, MAX_NUMBER, MAX_OPERAND_NODES, MAX_PATTERN_NODES,
+    MAX_RULES, MAX_SUBJECTS, MAX_TERM_NODES, MAX_VARIABLES,
 };
 pub use named::is_fully_named;
 pub use normal::normalise_pattern;

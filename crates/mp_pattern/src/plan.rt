@@ -5,6 +5,7 @@ ghost use Rattle.mp_pattern.specs.Value.{same_name};
 ghost use Rattle.mp_pattern.specs.PlanView.{form, label, shown_label};
 
 use crate::entry::Form;
+use crate::limits::{MAX_PATTERN_NODES, MAX_VARIABLES};
 use crate::pattern::Shape;
 use mp_term::{Name, OpId};
 use std::marker::Model;
@@ -55,6 +56,7 @@ impl Model for Plan {
     ghost use Rattle.std.specs.Prelude.{◌≤◌, length, map};
     ghost use Rattle.mp_pattern.specs.Plan as plain;
     ghost use Rattle.mp_pattern.specs.PlanCode.{coded_plan};
+    ghost use Rattle.mp_pattern.specs.declared.limits.TheConstants.{MAX_PATTERN_NODES, MAX_VARIABLES};
 
     ghost Value = { plain.Plan };
 
@@ -64,7 +66,7 @@ impl Model for Plan {
 
     ghost view = { λ p. record { nodes = map node p.nodes.items; variables = map variable p.variables.items } };
 
-    ghost invariant = { λ p. (length p.nodes.items ≤ 64) × (length p.variables.items ≤ 32) };
+    ghost invariant = { λ p. (length p.nodes.items ≤ MAX_PATTERN_NODES) × (length p.variables.items ≤ MAX_VARIABLES) };
 }
 
 // What a reader is shown of a label.
@@ -96,10 +98,10 @@ fn index_of_name(variables: &[Variable], name: &[u8]) -> Option<usize>
 }
 
 impl Plan {
-    /// How many nodes the pattern has, which are at most 64.
+    /// How many nodes the pattern has, which are at most `MAX_PATTERN_NODES`.
     pub fn len(&self) -> u32
         ensures count { result ≡ length self.now.nodes }
-        ensures most { result ≤ 64 }
+        ensures most { result ≤ MAX_PATTERN_NODES }
     {
         self.nodes.len() as u32
     }
@@ -136,10 +138,10 @@ impl Plan {
         }
     }
 
-    /// How many variables the pattern has, which are at most 32.
+    /// How many variables the pattern has, which are at most `MAX_VARIABLES`.
     pub fn vars(&self) -> u32
         ensures count { result ≡ length self.now.variables }
-        ensures most { result ≤ 32 }
+        ensures most { result ≤ MAX_VARIABLES }
     {
         self.variables.len() as u32
     }

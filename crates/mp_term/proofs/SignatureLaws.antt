@@ -9,6 +9,7 @@ use Rattle.std.proofs.lemmas.Option.{slice_get-map}
 use Rattle.std.proofs.lemmas.List.Folds.{list_all-append}
 use Rattle.std.proofs.lemmas.Bool.{and_parts, and_from, or_parts}
 use Rattle.std.proofs.lemmas.Bool.Decides.{nat_tests}
+use Rattle.mp_term.specs.declared.limits.TheConstants.{MAX_ARITY, MAX_OPS, MAX_KINDS}
 use Rattle.mp_term.specs.declared.signature.OpDecl.{OpDecl}
 use Rattle.mp_term.specs.declared.signature.SigFault.TheVariants.{DuplicateName, TooManyOps, TooManyKinds, BadFlags}
 use Rattle.mp_term.specs.Tree.{symbol}
@@ -133,7 +134,7 @@ no_kind_fault false false e = (refl, refl)
 
 -- a name that may be added is new
 pub new_kind_name : (sig : Sig) (n : List ℕ) → kind_fault sig n ≡ None → list_any (bytes_eq n) (kind_names sig) ≡ false
-new_kind_name sig n e = (no_kind_fault (list_any (bytes_eq n) (kind_names sig)) (nat_le 256 (length (kind_names sig))) e).0
+new_kind_name sig n e = (no_kind_fault (list_any (bytes_eq n) (kind_names sig)) (nat_le MAX_KINDS (length (kind_names sig))) e).0
 
 no_name_clashes : (d : OpDecl) (ds : List OpDecl) → list_any (clashes d) ds ≡ false → list_any (bytes_eq d.name) (map (λ c. c.name) ds) ≡ false
 no_name_clashes d [] h = refl
@@ -143,16 +144,16 @@ no_name_clashes d (c ∷ ds) h =
     rw n.0 (no_name_clashes d ds k.1)
 
 pub new_op_name : (sig : Sig) (d : OpDecl) → op_fault sig d ≡ None → list_any (bytes_eq d.name) (map (λ c. c.name) sig.ops) ≡ false
-new_op_name sig d e = no_name_clashes d sig.ops (no_op_fault (list_any (clashes d) sig.ops) (nat_le 256 (length sig.ops)) (in_order d) e).0
+new_op_name sig d e = no_name_clashes d sig.ops (no_op_fault (list_any (clashes d) sig.ops) (nat_le MAX_OPS (length sig.ops)) (in_order d) e).0
 
-pub IsSignature-add_op : (sig : Sig) (d : OpDecl) → IsSignature sig → op_fault sig d ≡ None → d.least ≤ 1000 → IsSignature (record { ops = sig.ops ++ d ∷ []; kinds = sig.kinds })
+pub IsSignature-add_op : (sig : Sig) (d : OpDecl) → IsSignature sig → op_fault sig d ≡ None → d.least ≤ MAX_ARITY → IsSignature (record { ops = sig.ops ++ d ∷ []; kinds = sig.kinds })
 IsSignature-add_op sig d h e l =
-    let f = no_op_fault (list_any (clashes d) sig.ops) (nat_le 256 (length sig.ops)) (in_order d) e in
-    let few : nat_le 256 (length sig.ops) ≡ false = f.1 in
-    let few_enough : nat_le d.least 1000 ≡ true = grind (arith, nat_tests) in
+    let f = no_op_fault (list_any (clashes d) sig.ops) (nat_le MAX_OPS (length sig.ops)) (in_order d) e in
+    let few : nat_le MAX_OPS (length sig.ops) ≡ false = f.1 in
+    let few_enough : nat_le d.least MAX_ARITY ≡ true = grind (arith, nat_tests) in
     record {
       ops_in_order = all_in_order-append sig.ops d h.ops_in_order f.2;
-      least_counts = all_with (λ c. nat_le c.least 1000) sig.ops d h.least_counts few_enough;
+      least_counts = all_with (λ c. nat_le c.least MAX_ARITY) sig.ops d h.least_counts few_enough;
       ops_distinct = none_clash-append sig.ops d h.ops_distinct f.0;
       at_most_ops = rw (length-append sig.ops (d ∷ [])) (grind (arith, nat_tests));
       kinds_distinct = h.kinds_distinct;
@@ -162,8 +163,8 @@ IsSignature-add_op sig d h e l =
 
 pub IsSignature-add_kind : (sig : Sig) (n : List ℕ) (ms : List (List ℕ)) → IsSignature sig → kind_fault sig n ≡ None → IsSignature (record { ops = sig.ops; kinds = sig.kinds ++ record { name = n; members = name_set ms } ∷ [] })
 IsSignature-add_kind sig n ms h e =
-    let f = no_kind_fault (list_any (bytes_eq n) (kind_names sig)) (nat_le 256 (length (kind_names sig))) e in
-    let few : nat_le 256 (length (kind_names sig)) ≡ false = f.1 in
+    let f = no_kind_fault (list_any (bytes_eq n) (kind_names sig)) (nat_le MAX_KINDS (length (kind_names sig))) e in
+    let few : nat_le MAX_KINDS (length (kind_names sig)) ≡ false = f.1 in
     let k : Kind = record { name = n; members = name_set ms } in
     record {
       ops_in_order = h.ops_in_order;

@@ -2,6 +2,7 @@
 use Rattle.std.specs.Prelude.{◌≡◌, ℕ, zero, suc, Bool, true, false, List, [], ◌∷◌, ◌≤◌, ◌==◌, Option, Some, None, slice_get, map, nat_eq, nat_le, ◌&&◌, length, if◌then◌else◌, ◌||◌, not, is_none, codes, bytes_eq}
 use Rattle.std.specs.List.{list_any, list_all}
 use Rattle.mp_term.specs.declared.signature.OpDecl.{OpDecl}
+use Rattle.mp_term.specs.declared.limits.TheConstants.{MAX_ARITY, MAX_OPS, MAX_KINDS}
 use Rattle.mp_term.specs.declared.signature.SigFault.{SigFault}
 use Rattle.mp_term.specs.declared.signature.SigFault.TheVariants.{DuplicateName, TooManyOps, TooManyKinds, BadFlags}
 use Rattle.mp_term.specs.Tree.{Tree, symbol, app, Trees, no_trees, more_trees, tree_list}
@@ -64,7 +65,7 @@ none_clash (d ∷ ds) = list_all (λ e. not (clashes e d)) ds && none_clash ds
 
 -- why an operation isn't added: the first of the three that applies
 abbrev pub op_fault : Sig → OpDecl → Option SigFault
-op_fault sig d = if list_any (clashes d) sig.ops then Some DuplicateName else if nat_le 256 (length sig.ops) then Some TooManyOps else if in_order d then None else Some BadFlags
+op_fault sig d = if list_any (clashes d) sig.ops then Some DuplicateName else if nat_le MAX_OPS (length sig.ops) then Some TooManyOps else if in_order d then None else Some BadFlags
 
 -- a digit
 abbrev pub is_digit : ℕ → Bool
@@ -84,16 +85,16 @@ kind_members sig = [] ∷ map (λ k. k.members) sig.kinds
 
 -- why a kind isn't added: the first of the two that applies
 abbrev pub kind_fault : Sig → List ℕ → Option SigFault
-kind_fault sig n = if list_any (bytes_eq n) (kind_names sig) then Some DuplicateName else if nat_le 256 (length (kind_names sig)) then Some TooManyKinds else None
+kind_fault sig n = if list_any (bytes_eq n) (kind_names sig) then Some DuplicateName else if nat_le MAX_KINDS (length (kind_names sig)) then Some TooManyKinds else None
 
 -- what holds of every signature
 pub record IsSignature (sig : Sig) : Type 0 where
   pub ops_in_order : all_in_order sig.ops ≡ true
-  pub least_counts : list_all (λ d. nat_le d.least 1000) sig.ops ≡ true
+  pub least_counts : list_all (λ d. nat_le d.least MAX_ARITY) sig.ops ≡ true
   pub ops_distinct : none_clash sig.ops ≡ true
-  pub at_most_ops : length sig.ops ≤ 256
+  pub at_most_ops : length sig.ops ≤ MAX_OPS
   pub kinds_distinct : are_distinct (kind_names sig) ≡ true
-  pub at_most_kinds : length (kind_names sig) ≤ 256
+  pub at_most_kinds : length (kind_names sig) ≤ MAX_KINDS
   pub members_ascend : list_all names_ascend (kind_members sig) ≡ true
 
 -- the name is a member of the declared kind, where there is one

@@ -2,6 +2,7 @@
 #![tactic(auto)]
 
 mod edit;
+mod limits;
 mod memory;
 mod name;
 mod name_table;
@@ -13,6 +14,7 @@ mod signature;
 mod term;
 
 pub use edit::{Edit, Edits};
+pub use limits::{MAX_ARITY, MAX_KIND_SYMBOLS, MAX_KINDS, MAX_NAME_BYTES, MAX_OPS, MAX_SIGN_BYTES};
 pub use memory::Memory;
 pub use name::{Name, NameFault, Names};
 pub use normal::{

@@ -7,6 +7,7 @@ ghost use Rattle.std.proofs.lemmas.Cmp.{nat_list_cmp_total};
 ghost use Rattle.std.specs.List.{list_any};
 ghost use Rattle.mp_term.specs.Names.{is_name, is_name_byte, name_set};
 
+use crate::limits::MAX_NAME_BYTES;
 use crate::memory::Memory;
 use std::alloc::Global;
 use std::cmp::Ordering;
@@ -50,7 +51,7 @@ fn is_name_byte(byte: u8) -> bool
 fn is_name(bytes: &[u8]) -> bool
     ensures { result ≡ is_name bytes.now }
 {
-    if bytes.is_empty() || 64 < bytes.len() {
+    if bytes.is_empty() || MAX_NAME_BYTES < bytes.len() {
         return false;
     }
     for byte in bytes {

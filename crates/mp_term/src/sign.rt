@@ -2,6 +2,7 @@
 ghost use Rattle.std.specs.Prelude.{◌≡◌, IfOk, Err, true, false, ◌↔◌};
 ghost use Rattle.mp_term.specs.Names.{is_arrow, is_sign, is_sign_byte};
 
+use crate::limits::MAX_SIGN_BYTES;
 use crate::name::NameFault;
 use std::alloc::Global;
 use std::marker::Model;
@@ -58,7 +59,7 @@ fn is_arrow(bytes: &[u8]) -> bool
 fn is_sign(bytes: &[u8]) -> bool
     ensures { result ≡ is_sign bytes.now }
 {
-    if bytes.is_empty() || 4 < bytes.len() || is_arrow(bytes) {
+    if bytes.is_empty() || MAX_SIGN_BYTES < bytes.len() || is_arrow(bytes) {
         return false;
     }
     for byte in bytes {

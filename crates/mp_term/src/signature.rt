@@ -6,6 +6,7 @@ ghost use Rattle.mp_term.specs.View.{tree};
 ghost use Rattle.mp_term.specs.Names.{name_set};
 ghost use Rattle.mp_term.specs.Signature.{holds_of, allows, has_name, has_sign, clashes, in_order, op_fault, kind_fault, kind_names, kind_members, in_kind, is_number, is_digit, well_formed, is_assoc, is_comm, is_one, IsSignature};
 
+use crate::limits::{MAX_ARITY, MAX_KINDS, MAX_OPS};
 use crate::memory::Memory;
 use crate::name::{Name, Names};
 use crate::name_table::NameTable;
@@ -45,10 +46,10 @@ pub enum SigFault {
     /// The name, or an operation's sign, is held already.
     #[error("the name is held already")]
     DuplicateName,
-    /// There are 256 operations.
+    /// There are `MAX_OPS` operations.
     #[error("too many operations")]
     TooManyOps,
-    /// There are 256 kinds.
+    /// There are `MAX_KINDS` kinds.
     #[error("too many kinds")]
     TooManyKinds,
     /// The flags and the number of arguments don't go together.
@@ -192,7 +193,7 @@ impl Signature {
     {
         if is_held(&self.ops, decl) {
             Some(SigFault::DuplicateName)
-        } else if 256 <= self.ops.len() {
+        } else if MAX_OPS <= self.op_count() {
             Some(SigFault::TooManyOps)
         } else if in_order(decl) {
             None
@@ -201,13 +202,15 @@ impl Signature {
         }
     }
 
-    /// Adds an operation, and gives its number: the count of operations before. The least count of arguments must be at most 1,000.
+    /// Adds an operation, and gives its number: the count of operations before. The least count of arguments must be at most
+    /// `MAX_ARITY`.
     ///
     /// The refusals come in this order (`op_fault` of specs/Signature.antt), and leave the signature as it was; the declaration is
-    /// dropped. `DuplicateName` comes exactly where an operation has the name or the sign, `TooManyOps` exactly where 256 are held,
+    /// dropped. `DuplicateName` comes exactly where an operation has the name or the sign, `TooManyOps` exactly where `MAX_OPS` are
+    /// held,
     /// `BadFlags` exactly where the declaration isn't in order, and `Memory` where there is no room for it.
     pub fn add_op(&mut self, decl: OpDecl) -> Result<OpId, SigFault>
-        requires { decl.least ≤ 1000 }
+        requires { decl.least ≤ MAX_ARITY }
         ensures number { IfOk result (λ id. id.0 ≡ length self.old.ops) }
         ensures ok { OnOk result (self.new ≡ record self.old { ops = self.old.ops ++ decl ∷ [] }) }
         ensures err { OnErr result (self.new ≡ self.old) }
@@ -236,7 +239,7 @@ impl Signature {
         self.ops.get(id.0 as usize)
     }
 
-    /// The number of operations, at most 256. The clause `valid` says what holds of every signature.
+    /// The number of operations, at most `MAX_OPS`. The clause `valid` says what holds of every signature.
     pub fn op_count(&self) -> u32
         ensures count { result ≡ length self.now.ops }
         ensures valid { IsSignature self.now }
@@ -281,7 +284,7 @@ impl Signature {
     {
         if self.find_kind(name.bytes()).is_some() {
             Some(SigFault::DuplicateName)
-        } else if 256 <= self.kind_count() {
+        } else if MAX_KINDS <= self.kind_count() {
             Some(SigFault::TooManyKinds)
         } else {
             None
@@ -292,7 +295,7 @@ impl Signature {
     ///
     /// The refusals come in this order (`kind_fault` of specs/Signature.antt), and leave the signature as it was; the name and the
     /// members are dropped. `DuplicateName` comes exactly where a kind has the name, `num` among them, `TooManyKinds` exactly where
-    /// 256 are held, and `Memory` where there is no room for it.
+    /// `MAX_KINDS` are held, and `Memory` where there is no room for it.
     pub fn add_kind(&mut self, name: Name, members: Names) -> Result<KindId, SigFault>
         ensures number { IfOk result (λ id. id.0 ≡ length self.old.kinds + 1) }
         ensures ok { OnOk result (self.new ≡ record self.old { kinds = self.old.kinds ++ record { name = name; members = name_set members } ∷ [] }) }
@@ -362,7 +365,7 @@ impl Signature {
         }
     }
 
-    /// The number of kinds, with `num`: at most 256.
+    /// The number of kinds, with `num`: at most `MAX_KINDS`.
     pub fn kind_count(&self) -> u32
         ensures count { result ≡ length (kind_names self.now) }
     {

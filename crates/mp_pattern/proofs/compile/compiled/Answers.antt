@@ -1,5 +1,6 @@
 use Rattle.std.proofs.Common.{◌≤◌, ap, length, arith}
 use Rattle.std.proofs.lemmas.List.{length-map}
+use Rattle.mp_pattern.specs.declared.limits.TheConstants.{MAX_PATTERN_NODES}
 use Rattle.mp_pattern.specs.View.{pattern_tree}
 use Rattle.mp_pattern.specs.Size.{pattern_nodes}
 use Rattle.mp_pattern.proofs.PlanLaws.{length-subpatterns, length-variables}
@@ -8,11 +9,11 @@ use Rattle.mp_pattern.proofs.compile.compiled.Goals as goal
 pub fault-requires-clause-names : goal.fault-requires-clause-names
 fault-requires-clause-names c =
     let names = simp length-map at (ap length c.in-Ok.ensures.names) in
-    let few : pattern_nodes (pattern_tree c.args.pattern.now) ≤ 64 = omega (arith, c.node_count-count.ensures) in
+    let few : pattern_nodes (pattern_tree c.args.pattern.now) ≤ MAX_PATTERN_NODES = omega (arith, c.node_count-count.ensures) in
     omega (arith, names, few, length-variables (pattern_tree c.args.pattern.now))
 
 pub fault-requires-clause-patterns : goal.fault-requires-clause-patterns
 fault-requires-clause-patterns c =
     let patterns = simp length-map at (ap length c.in-Ok.ensures.patterns) in
-    let few : pattern_nodes (pattern_tree c.args.pattern.now) ≤ 64 = omega (arith, c.node_count-count.ensures) in
+    let few : pattern_nodes (pattern_tree c.args.pattern.now) ≤ MAX_PATTERN_NODES = omega (arith, c.node_count-count.ensures) in
     omega (arith, patterns, few, length-subpatterns (pattern_tree c.args.pattern.now))

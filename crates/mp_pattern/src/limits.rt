@@ -1,0 +1,31 @@
+//! The limits of rules, conditions and subjects, each said once: code, contracts and specs name these constants.
+
+/// The greatest number of nodes of a pattern, a wildcard with its default being one node.
+pub const MAX_PATTERN_NODES: u32 = 64;
+
+/// The greatest number of nodes of the default of an optional wildcard.
+pub const MAX_DEFAULT_NODES: u64 = 64;
+
+/// The greatest number of variables of a pattern.
+pub const MAX_VARIABLES: usize = 32;
+
+/// The greatest number of nodes of a ground operand of a condition.
+pub const MAX_OPERAND_NODES: u64 = 64;
+
+/// The greatest number of atoms of a condition.
+pub const MAX_ATOMS: u64 = 64;
+
+/// The greatest number that is written in a condition.
+pub const MAX_NUMBER: u32 = 1_000_000;
+
+/// The greatest number of nodes of a subject.
+pub const MAX_TERM_NODES: u64 = 100_000;
+
+/// The greatest depth of a pattern and of a term, that of a symbol being 0.
+pub const MAX_DEPTH: u64 = 100;
+
+/// The greatest number of rules.
+pub const MAX_RULES: usize = 1_000;
+
+/// The greatest number of subjects.
+pub const MAX_SUBJECTS: usize = 1_000;
