@@ -15,6 +15,7 @@ mixed = pattern f (pattern set (x_ plus ∷ y_ star ∷ []) ∷ pattern list (a_
 
 -- nine nodes and three variables: x is a tuple by its use under list, y a multiset, z one term
 plan_of_mixed : plan_of sig mixed ≡ record {
+  pattern = mixed;
   nodes =
       record { label = app_label f; end = 9; parent = None }
       ∷ record { label = app_label set; end = 4; parent = Some 0 }
@@ -37,6 +38,7 @@ plan_of_mixed = refl
 
 -- the pattern is taken as it stands: sum(sum(x_)) has three nodes
 plan_of_a_nested_sum : plan_of sig (pattern sum (pattern sum (x_ dot ∷ []) ∷ [])) ≡ record {
+  pattern = pattern sum (pattern sum (x_ dot ∷ []) ∷ []);
   nodes =
       record { label = app_label sum; end = 3; parent = None }
       ∷ record { label = app_label sum; end = 3; parent = Some 0 }

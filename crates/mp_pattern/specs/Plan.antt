@@ -1,4 +1,4 @@
--- Plans: the nodes of a pattern and its variables, each by its number.
+-- Plans: a pattern with its nodes and its variables, each by its number.
 use Rattle.std.specs.Prelude.{◌≡◌, ℕ, ◌+◌, List, [], ◌∷◌, ◌++◌, map, position, Option, Some, None}
 use Rattle.mp_term.specs.Signature.{Sig}
 use Rattle.mp_pattern.specs.PatternTree.{Wildcard, Pattern, symbol_pattern, app_pattern, wild_pattern, Patterns, no_patterns, more_patterns}
@@ -23,8 +23,9 @@ pub record Variable : Type 0 where
   pub name : List ℕ
   pub form : Form
 
--- the nodes and the variables, each at its number
+-- a pattern, and its nodes and its variables, each at its number
 pub record Plan : Type 0 where
+  pub pattern : Pattern
   pub nodes : List Node
   pub variables : List Variable
 
@@ -46,9 +47,10 @@ module _ (xs : List (List ℕ)) where
     all_nodes m n no_patterns = []
     all_nodes m n (more_patterns p ps) = nodes (Some m) n p ++ all_nodes m (n + pattern_nodes p) ps
 
--- the nodes in preorder from 0, and the variables in order of first occurrence, with their forms over the signature
+-- the pattern with its nodes in preorder from 0, and the variables in order of first occurrence, with their forms over the signature
 abbrev pub plan_of : Sig → Pattern → Plan
 plan_of sig p = record {
+  pattern = p;
   nodes = nodes (variables p) None 0 p;
   variables = map (λ x. record { name = x; form = variable_form sig p x }) (variables p);
 }

@@ -1,9 +1,9 @@
--- A plan as pairs of lists that give it back.
+-- A plan as pairs of its pattern and lists that give it back.
 use Rattle.std.specs.Prelude.{◌≡◌, ℕ, zero, suc, ◌⊎◌, List, Option, refl}
 use Rattle.std.proofs.Common.{inl, inr}
 use Rattle.std.specs.Coded.{Coded, code_by, coded×, coded⊎, coded_ℕ, coded_list, coded_option}
-use Rattle.mp_pattern.specs.PatternTree.{Wildcard}
-use Rattle.mp_pattern.specs.Code.{coded_wildcard}
+use Rattle.mp_pattern.specs.PatternTree.{Wildcard, Pattern}
+use Rattle.mp_pattern.specs.Code.{coded_wildcard, coded_pattern}
 use Rattle.mp_pattern.specs.Value.{Form, one_form, seq_form, bag_form}
 use Rattle.mp_pattern.specs.Plan.{Label, symbol_label, app_label, wild_label, Node, Variable, Plan}
 
@@ -59,4 +59,9 @@ coded_variable = code_by (List ℕ × Form) (coded× (coded_list coded_ℕ) code
 
 -- the code of plans
 abbrev pub coded_plan : Coded Plan
-coded_plan = code_by (List Node × List Variable) (coded× (coded_list coded_node) (coded_list coded_variable)) (λ p. (p.nodes, p.variables)) (λ p. record { nodes = p.0; variables = p.1 }) (λ _. refl)
+coded_plan =
+    code_by (Pattern × (List Node × List Variable))
+    (coded× coded_pattern (coded× (coded_list coded_node) (coded_list coded_variable)))
+    (λ p. (p.pattern, (p.nodes, p.variables)))
+    (λ p. record { pattern = p.0; nodes = p.1.0; variables = p.1.1 })
+    (λ _. refl)

@@ -13,7 +13,7 @@ ghost use Rattle.mp_pattern.specs.PlanView.{form, label, node, variable};
 ghost use Rattle.mp_pattern.specs.UseView.{occurrence};
 ghost use Rattle.mp_pattern.specs.PlanFault.{plan_fault, IsCompiled, OrMemory};
 
-use crate::copy::copy_shape;
+use crate::copy::{copy_pattern, copy_shape};
 use crate::entry::Form;
 use crate::limits::{MAX_PATTERN_NODES, MAX_VARIABLES};
 use crate::normal::is_loose;
@@ -223,7 +223,12 @@ fn build(
     let mut nodes = Vec::new(alloc);
     push_nodes(alloc, &mut nodes, &outline.names, pattern, None)?;
     let variables = variables_of(alloc, sig, &outline.occurrences, &outline.names)?;
-    Ok(Plan { nodes, variables })
+    let pattern = copy_pattern(alloc, pattern)?;
+    Ok(Plan {
+        pattern,
+        nodes,
+        variables,
+    })
 }
 
 // The plan of the pattern, or the first fault that it has.

@@ -1,12 +1,13 @@
-// Plans: the nodes and the variables of a pattern, each by its number.
+// Plans: a pattern with its nodes and its variables, each by its number.
 ghost use Rattle.std.specs.Prelude.{◌≡◌, ◌<◌, ◌≤◌, IfSome, length, slice_get, position, option_map};
 ghost use Rattle.std.specs.Option.{option_and_then};
 ghost use Rattle.mp_pattern.specs.Value.{same_name};
+ghost use Rattle.mp_pattern.specs.View.{pattern_tree};
 ghost use Rattle.mp_pattern.specs.PlanView.{form, label, shown_label};
 
 use crate::entry::Form;
 use crate::limits::{MAX_PATTERN_NODES, MAX_VARIABLES};
-use crate::pattern::Shape;
+use crate::pattern::{Pattern, Shape};
 use mp_term::{Name, OpId};
 use std::marker::Model;
 
@@ -44,10 +45,11 @@ pub(crate) struct Variable {
     pub(crate) form: Form,
 }
 
-/// A pattern cut into its nodes, which have the numbers of the preorder from 0, and its variables, which are numbered from 0 by
+/// A pattern with its nodes, which have the numbers of the preorder from 0, and its variables, which are numbered from 0 by
 /// first occurrence. Contracts see it as the record `Plan` of `specs/Plan`, where `IsPlanOf` says of which pattern it is.
 #[derive(Drop)]
 pub struct Plan {
+    pub(crate) pattern: Pattern,
     pub(crate) nodes: Vec<Node>,
     pub(crate) variables: Vec<Variable>,
 }
@@ -62,9 +64,10 @@ impl Model for Plan {
 
     ghost coded = { coded_plan };
 
+    ghost use Rattle.mp_pattern.specs.View.{pattern_tree};
     ghost use Rattle.mp_pattern.specs.PlanView.{node, variable};
 
-    ghost view = { λ p. record { nodes = map node p.nodes.items; variables = map variable p.variables.items } };
+    ghost view = { λ p. record { pattern = pattern_tree p.pattern; nodes = map node p.nodes.items; variables = map variable p.variables.items } };
 
     ghost invariant = { λ p. (length p.nodes.items ≤ MAX_PATTERN_NODES) × (length p.variables.items ≤ MAX_VARIABLES) };
 }
@@ -98,6 +101,13 @@ fn index_of_name(variables: &[Variable], name: &[u8]) -> Option<usize>
 }
 
 impl Plan {
+    /// The pattern that the plan was made of, as it stood.
+    pub fn pattern(&self) -> &Pattern
+        ensures { pattern_tree result.now ≡ self.now.pattern }
+    {
+        &self.pattern
+    }
+
     /// How many nodes the pattern has, which are at most `MAX_PATTERN_NODES`.
     pub fn len(&self) -> u32
         ensures count { result ≡ length self.now.nodes }
