@@ -27,6 +27,7 @@ pub mod Plan
 pub mod View
 pub mod Code
 pub mod Size
+pub mod Depth
 pub mod Falls
 pub mod TemplateView
 pub mod TemplateCode
@@ -44,3 +45,4 @@ pub mod PlanView
 pub mod PlanCode
 pub mod UseView
 pub mod PlanFault
+pub mod SoundRule

@@ -8,7 +8,6 @@ mod Built
 mod Clashes
 mod Declared
 mod Items
-mod PatternDepth
 mod Defaults
 mod Spelled
 mod Places

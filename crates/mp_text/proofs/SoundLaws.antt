@@ -41,9 +41,9 @@ use Rattle.mp_pattern.proofs.VariableLaws.{IsPermutation-variables}
 use Rattle.mp_syntax.proofs.Trees.{fits-optional}
 use Rattle.mp_text.proofs.Clashes.{nil-pattern_operands, first_clash-pattern_of}
 use Rattle.mp_text.proofs.Defaults.{small-normal_pattern, formed-normal_pattern, nil-term_operands, no-optional_term}
-use Rattle.mp_text.proofs.PatternDepth.{pattern_depth-normal_pattern}
+use Rattle.mp_pattern.proofs.NormalDepth.{pattern_depth-normal_pattern}
 use Rattle.mp_text.specs.Sound.{DefaultIsFormed, DefaultsAreFormed, AllDefaultsAreFormed, IsSoundPattern, IsSoundTerm}
-use Rattle.mp_text.specs.Depth.{wildcard_depth, pattern_depth, greatest_pattern_depth}
+use Rattle.mp_pattern.specs.Depth.{wildcard_depth, pattern_depth, greatest_pattern_depth}
 use Rattle.mp_text.proofs.Declared.{bytes_eq_comm}
 
 -- ---- operations that are found

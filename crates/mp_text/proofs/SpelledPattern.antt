@@ -32,7 +32,7 @@ use Rattle.mp_text.specs.Names.{variable_names}
 use Rattle.mp_text.specs.Build.{op_number, sign_number, head_number, variable_of, pattern_of, patterns_of, term_of}
 use Rattle.mp_text.specs.Checks.{fault_if, nodes, loose_faults, may_take_more, fewest, may_reach, allows_patterns, op_named, op_signed, head_faults, arity_faults, sign_faults, kind_unknown, wildcard_faults, pattern_faults, pattern_operand_faults, all_pattern_faults, whole_pattern_faults, has_large_default, some_large_default, may_take_none, term_wildcard_faults, term_faults, default_faults}
 use Rattle.mp_text.specs.Wildcards.{PatternWildcard, without_default, with_default_form, pattern_wildcards, all_pattern_wildcards, differs}
-use Rattle.mp_text.specs.Depth.{pattern_depth, greatest_pattern_depth}
+use Rattle.mp_pattern.specs.Depth.{pattern_depth, greatest_pattern_depth}
 use Rattle.mp_text.specs.Spelled.{held_spelling, pattern_spelling, pattern_spellings}
 use Rattle.mp_text.proofs.Words.{first-of, second-of}
 use Rattle.mp_text.proofs.Faultless.{nil-append, nil-both, nil-fault_if}

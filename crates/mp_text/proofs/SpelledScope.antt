@@ -12,7 +12,7 @@ use Rattle.mp_pattern.proofs.SortedLaws.{total}
 use Rattle.mp_pattern.proofs.NormalMeasures.{within-normal_pattern}
 use Rattle.mp_syntax.specs.Syntax.{Tree, Symbol, Apply, InfixOf, Wild, Optional, Variable, Trees, no_trees, more_trees, Fits, AreFit, HasNames, HaveNames}
 use Rattle.mp_text.specs.Build.{kind_shape, variable_of, pattern_of, patterns_of}
-use Rattle.mp_text.specs.Depth.{pattern_depth}
+use Rattle.mp_pattern.specs.Depth.{pattern_depth}
 use Rattle.mp_text.specs.Names.{wildcards, all_wildcards}
 use Rattle.mp_text.specs.Scope as scope
 use Rattle.mp_text.specs.Scope.{wildcard_variable, pattern_variables}

@@ -20,7 +20,7 @@ use Rattle.mp_text.specs.Build.{head_number, kind_number, kind_shape, variable_o
 use Rattle.mp_text.specs.Wildcards.{DefaultForm, absent, normal_form, PatternWildcard, without_default, default_form, with_default_form, pattern_wildcards, same_default, same_class, differs}
 use Rattle.mp_text.specs.Checks.{fault_if, nodes, has_large_default, may_take_none, may_take_more, kind_unknown, default_faults, wildcard_faults, pattern_faults}
 use Rattle.mp_syntax.proofs.Trees.{wild-fits, optional-fits}
-use Rattle.mp_text.specs.Depth.{wildcard_depth}
+use Rattle.mp_pattern.specs.Depth.{wildcard_depth}
 use Rattle.mp_io.specs.Devices.{Text}
 use Rattle.mp_text.specs.declared.fault.TextKind.TheVariants.{UnknownKind, KindClash}
 use Rattle.mp_print.specs.Printing.{kind_name_text}

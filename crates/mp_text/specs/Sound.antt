@@ -14,7 +14,7 @@ use Rattle.mp_pattern.specs.Limits.{DefaultsAreSmall}
 use Rattle.mp_pattern.specs.Variables.{variables}
 use Rattle.mp_pattern.specs.Clash.{first_clash}
 use Rattle.mp_pattern.specs.Operands.{HasConditionOver}
-use Rattle.mp_text.specs.Depth.{pattern_depth}
+use Rattle.mp_pattern.specs.Depth.{pattern_depth}
 use Rattle.mp_text.specs.SoundCondition.{HasSoundCondition}
 use Rattle.mp_text.specs.File.{FileTree}
 

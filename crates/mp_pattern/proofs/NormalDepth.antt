@@ -8,7 +8,7 @@ use Rattle.mp_pattern.specs.PatternTree.{Pattern, symbol_pattern, app_pattern, w
 use Rattle.mp_pattern.specs.PatternLists.{patterns-pattern_list}
 use Rattle.mp_pattern.specs.Order.{pattern_cmp}
 use Rattle.mp_pattern.specs.Normal.{is_loose, unwrapped, parts, flattened, in_order, collapsed, normal_pattern, normal_patterns}
-use Rattle.mp_text.specs.Depth.{pattern_depth, greatest_pattern_depth}
+use Rattle.mp_pattern.specs.Depth.{pattern_depth, greatest_pattern_depth}
 
 -- the greatest depth of the patterns of a list
 abbrev deepest : List Pattern → ℕ
