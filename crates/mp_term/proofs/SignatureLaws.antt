@@ -1,6 +1,6 @@
 -- Look-ups in a signature, and what stays true of it when a declaration is added.
-use Rattle.std.proofs.Common.{◌≡◌, ℕ, zero, suc, ◌+◌, ◌-◌, ◌<◌, ◌≤◌, Bool, true, false, ◌||◌, not, cond, List, [], ◌∷◌, ◌++◌, length, map, refl, ap, sym, ◌∙◌, arith, length-append}
-use Rattle.std.specs.Prelude.{Option, Some, None, option_map, is_some, slice_get, position, nat_le, nat_lt, bytes_eq, codes, if◌then◌else◌}
+use Rattle.std.proofs.Common.{◌≡◌, ℕ, zero, suc, ◌+◌, ◌-◌, ◌<◌, ◌≤◌, Bool, true, false, ◌||◌, not, cond, List, [], ◌∷◌, ◌++◌, length, map, refl, ap, sym, subst, ◌∙◌, arith, length-append}
+use Rattle.std.specs.Prelude.{Option, Some, None, option_map, is_some, IfSome, slice_get, position, nat_le, nat_lt, bytes_eq, codes, if◌then◌else◌}
 use Rattle.std.specs.Option.{option_map_or}
 use Rattle.std.specs.List.{list_any, list_all, position_or_len}
 use Rattle.std.proofs.lemmas.List.{length-map, map-append}
@@ -85,6 +85,13 @@ module _ {K : Type 0} (f : K → Kind) (ks : List K) (sig : Sig) (same : map f k
 
   pub slice_get-kind_members : {B : Type 0} (now : B → K) (i : ℕ) (r : Option B) → (i ≡ 0 → ⊥) → slice_get ks (i - 1) ≡ option_map now r → slice_get (kind_members sig) i ≡ option_map (λ b. (f (now b)).members) r
   slice_get-kind_members now i r n e = slice_get-behind [] (map (λ k. k.members) sig.kinds) i (omega arith) ∙ at_kind now (λ k. k.members) (i - 1) r e
+
+-- the members of a kind ascend
+pub ascend-found : {B : Type 0} (now : B → List (List ℕ)) (mss : List (List (List ℕ))) (i : ℕ) (r : Option B) → list_all names_ascend mss ≡ true → slice_get mss i ≡ option_map now r → IfSome r (λ b. names_ascend (now b) ≡ true)
+ascend-found now mss i None h e = tt
+ascend-found now [] i (Some b) h e = cc
+ascend-found now (ms ∷ mss) zero (Some b) h e = subst (λ o. option_map_or names_ascend o false ≡ true) e (and_parts _ _ h).0
+ascend-found now (ms ∷ mss) (suc i) (Some b) h e = ascend-found now mss i (Some b) (and_parts _ _ h).1 e
 
 -- the kinds but for the first are those with declared members
 in_kind-declared : (sig : Sig) (i : ℕ) (n : List ℕ) → 0 < i → in_kind sig i (symbol n) ≡ is_member n (slice_get sig.kinds (i - 1))

@@ -5,7 +5,7 @@ ghost use Rattle.std.specs.Cmp.{partial_equiv_from_equiv, po, eq_by_cmp_equiv};
 ghost use Rattle.std.specs.Cmp.Lexicographic.{slice_cmp};
 ghost use Rattle.std.proofs.lemmas.Cmp.{nat_list_cmp_total};
 ghost use Rattle.std.specs.List.{list_any};
-ghost use Rattle.mp_term.specs.Names.{is_name, is_name_byte, name_set};
+ghost use Rattle.mp_term.specs.Names.{is_name, is_name_byte, name_set, names_ascend};
 
 use crate::limits::MAX_NAME_BYTES;
 use crate::memory::Memory;
@@ -92,10 +92,8 @@ impl Name {
         ensures { IfOk result (λ n. n ≡ self.now) }
     {
         let mut bytes = Vec::new(alloc);
-        match bytes.extend_from_slice(&self.bytes) {
-            Ok(()) => Ok(Name { bytes }),
-            Err(_) => Err(Memory),
-        }
+        bytes.extend_from_slice(&self.bytes)?;
+        Ok(Name { bytes })
     }
 }
 
@@ -166,10 +164,8 @@ impl Names {
         ensures ok { OnOk result (self.new ≡ self.old ++ item ∷ []) }
         ensures err { OnErr result (self.new ≡ self.old) }
     {
-        match self.items.push(item) {
-            Ok(()) => Ok(()),
-            Err(_) => Err(Memory),
-        }
+        self.items.push(item)?;
+        Ok(())
     }
 
     /// The number of names.
@@ -186,11 +182,13 @@ impl Names {
         self.items.get(index)
     }
 
-    // The name of these bytes is in the list.
+    // The name of these bytes is in the list, whose names ascend.
     pub(crate) fn contains(&self, bytes: &[u8]) -> bool
+        requires { names_ascend self.now ≡ true }
         ensures { result ≡ list_any (bytes_eq bytes.now) self.now }
     {
-        self.items.iter().any(|name| bytes == name.bytes())
+        let found = self.items.binary_search_by(|name| name.bytes().cmp(bytes));
+        found.is_ok()
     }
 
     // Sorts the names and leaves each once.

@@ -48,12 +48,8 @@ impl NameTable {
         ensures err { OnErr result (self.new ≡ self.old) }
     {
         let mut copy = Vec::new(self.alloc);
-        let Ok(()) = copy.extend_from_slice(name) else {
-            return Err(Memory);
-        };
-        let Ok(_) = self.names.insert(copy) else {
-            return Err(Memory);
-        };
+        copy.extend_from_slice(name)?;
+        self.names.insert(copy)?;
         Ok(())
     }
 }

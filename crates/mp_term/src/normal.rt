@@ -32,10 +32,8 @@ fn push_parts(out: &mut Terms, sig: &Signature, op: OpId, term: Term) -> Result<
             if inner.0 != op.0 || !sig.is_assoc(op) {
                 return out.push(Term::App(inner, args));
             }
-            match out.items.append(&mut args.items) {
-                Ok(()) => Ok(()),
-                Err(_) => Err(Memory),
-            }
+            out.items.append(&mut args.items)?;
+            Ok(())
         }
     }
 }

@@ -26,10 +26,8 @@ impl Position {
         ensures { IfOk result (λ p. p ≡ indexes.now) }
     {
         let mut copy = Vec::new(alloc);
-        match copy.extend_from_slice(indexes) {
-            Ok(()) => Ok(Position { indexes: copy }),
-            Err(_) => Err(Memory),
-        }
+        copy.extend_from_slice(indexes)?;
+        Ok(Position { indexes: copy })
     }
 
     /// The indexes, from the root down.

@@ -3,7 +3,7 @@ ghost use Rattle.std.specs.Prelude.{◌≡◌, ◌<◌, ◌≤◌, ◌+◌, Some
 ghost use Rattle.std.specs.List.{list_any, list_all};
 ghost use Rattle.mp_term.specs.Tree.{symbol as symbol_of};
 ghost use Rattle.mp_term.specs.View.{tree};
-ghost use Rattle.mp_term.specs.Names.{name_set};
+ghost use Rattle.mp_term.specs.Names.{name_set, names_ascend};
 ghost use Rattle.mp_term.specs.Signature.{holds_of, allows, has_name, has_sign, clashes, in_order, op_fault, kind_fault, kind_names, kind_members, in_kind, is_number, is_digit, well_formed, is_assoc, is_comm, is_one, IsSignature};
 
 use crate::limits::{MAX_ARITY, MAX_KINDS, MAX_OPS};
@@ -12,7 +12,7 @@ use crate::name::{Name, Names};
 use crate::name_table::NameTable;
 use crate::sign::Sign;
 use crate::term::{OpId, Term};
-use std::alloc::Global;
+use std::alloc::{AllocError, Global};
 use std::marker::Model;
 use thiserror::Error;
 
@@ -58,6 +58,26 @@ pub enum SigFault {
     /// There was no memory.
     #[error("want of memory")]
     Memory,
+}
+
+impl From<Memory> for SigFault {
+    ghost use Rattle.mp_term.specs.declared.signature.SigFault.TheVariants as fault;
+
+    ghost from_gives = { λ _ e. e ≡ fault.Memory };
+
+    fn from(_memory: Memory) -> SigFault {
+        SigFault::Memory
+    }
+}
+
+impl From<AllocError> for SigFault {
+    ghost use Rattle.mp_term.specs.declared.signature.SigFault.TheVariants as fault;
+
+    ghost from_gives = { λ _ e. e ≡ fault.Memory };
+
+    fn from(_error: AllocError) -> SigFault {
+        SigFault::Memory
+    }
 }
 
 // A kind: its name, and its members, which ascend.
@@ -221,12 +241,8 @@ impl Signature {
             return Err(fault);
         }
         let number = self.ops.len() as u32;
-        let Ok(()) = self.ops.reserve(1) else {
-            return Err(SigFault::Memory);
-        };
-        let Ok(()) = self.op_table.push(decl.name.bytes()) else {
-            return Err(SigFault::Memory);
-        };
+        self.ops.reserve(1)?;
+        self.op_table.push(decl.name.bytes())?;
         // There is room for it.
         let _ = self.ops.push(decl);
         Ok(OpId(number))
@@ -271,6 +287,7 @@ impl Signature {
     fn kind(&self, id: KindId) -> Option<&Kind>
         ensures name { slice_get (kind_names self.now) id.0 ≡ option_map (λ k. k.now.name) result }
         ensures members { slice_get (kind_members self.now) id.0 ≡ option_map (λ k. k.now.members) result }
+        ensures ascend { IfSome result (λ k. names_ascend k.now.members ≡ true) }
     {
         if id.0 == 0 {
             return Some(&self.num);
@@ -309,12 +326,8 @@ impl Signature {
         let mut members = members;
         members.make_set();
         let number = self.kinds.len() as u32 + 1;
-        let Ok(()) = self.kinds.reserve(1) else {
-            return Err(SigFault::Memory);
-        };
-        let Ok(()) = self.kind_table.push(name.bytes()) else {
-            return Err(SigFault::Memory);
-        };
+        self.kinds.reserve(1)?;
+        self.kind_table.push(name.bytes())?;
         // There is room for it.
         let _ = self.kinds.push(Kind { name, members });
         Ok(KindId(number))

@@ -68,10 +68,8 @@ impl Terms {
         ensures ok { OnOk result (self.new ≡ self.old ++ tree item ∷ []) }
         ensures err { OnErr result (self.new ≡ self.old) }
     {
-        match self.items.push(item) {
-            Ok(()) => Ok(()),
-            Err(_) => Err(Memory),
-        }
+        self.items.push(item)?;
+        Ok(())
     }
 
     /// The number of terms.

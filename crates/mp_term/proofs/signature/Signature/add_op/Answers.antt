@@ -19,8 +19,8 @@ invariant_of-self-2 c =
     let items = c.self.inside.ops.items in
     let none : op_fault c.args.self.now c.args.decl ≡ None = sym c.op_fault.ensures ∙ c.in_default.is in
     let before = subst (λ (s : Sig). op_fault s c.args.decl ≡ None) (sym c.self.view_is) none in
-    let room : is_ok c.push-2.result ≡ true = c.push-2.ensures.succeeds (omega (arith, c.in-Ok.ensures.ok)) in
-    let pushed : c.push-2.new.self.items ≡ items ++ c.args.decl ∷ [] = items-pushed (is_ok c.push-2.result) _ _ _ c.args.decl c.push-2.ensures.items room c.in-Ok.ensures.items in
+    let room : is_ok c.push-2.result ≡ true = c.push-2.ensures.succeeds (omega (arith, c.in_ok-reserve.ensures.ok)) in
+    let pushed : c.push-2.new.self.items ≡ items ++ c.args.decl ∷ [] = items-pushed (is_ok c.push-2.result) _ _ _ c.args.decl c.push-2.ensures.items room c.in_ok-reserve.ensures.items in
     let named : c.push.new.self ≡ map (λ (d : OpDecl). d.name) (items ++ c.args.decl ∷ []) =
-    c.in-Ok-push.ensures.ok ∙ ap (λ (ns : List (List ℕ)). ns ++ c.bytes.result.now ∷ []) c.self.invariant.1 ∙ ap (λ (n : List ℕ). map (λ (d : OpDecl). d.name) items ++ n ∷ []) c.bytes.ensures.bytes ∙ sym (map-append (λ (d : OpDecl). d.name) items (c.args.decl ∷ [])) in
+    c.in_ok-push.ensures.ok ∙ ap (λ (ns : List (List ℕ)). ns ++ c.bytes.result.now ∷ []) c.self.invariant.1 ∙ ap (λ (n : List ℕ). map (λ (d : OpDecl). d.name) items ++ n ∷ []) c.bytes.ensures.bytes ∙ sym (map-append (λ (d : OpDecl). d.name) items (c.args.decl ∷ [])) in
     rw pushed (IsSignature-add_op _ c.args.decl c.self.invariant.0 before c.requires, named, c.self.invariant.2, c.self.invariant.3, c.self.invariant.4)
