@@ -4,8 +4,9 @@ use Rattle.mp_term.specs.Tree.{Tree, symbol, app, trees}
 use Rattle.mp_term.specs.Order.{tree_cmp}
 use Rattle.mp_term.specs.Sorting.{sorted}
 use Rattle.mp_term.specs.Signature.{Sig, is_one, in_kind}
+use Rattle.mp_term.specs.Normal.{IsNormal}
 use Rattle.mp_pattern.specs.PatternTree.{Wildcard, dot, kind, plus, star, optional, is_sequence, Pattern, symbol_pattern, app_pattern, wild_pattern, Patterns, no_patterns, more_patterns}
-use Rattle.mp_pattern.specs.Value.{Value, one, seq, bag, IsFinal, Subst, value_of}
+use Rattle.mp_pattern.specs.Value.{Value, one, seq, bag, Subst, value_of}
 use Rattle.mp_pattern.specs.Variables.{IsSubstOf, comm_above}
 use Rattle.mp_pattern.specs.Contribution.{contribution}
 
@@ -54,10 +55,17 @@ module _ (sig : Sig) where
   WildTakes f (optional d) (one v) l = (contribution sig f v ≡ Some l) ⊎ ((l ≡ []) × (v ≡ d))
   WildTakes _ _ _ _ = ⊥
 
-  -- the value of a variable, and of an unnamed wildcard any final value
-  abbrev pub HasValue : Subst → Option (List ℕ) → Value → Type 0
-  HasValue s (Some x) v = value_of s x ≡ Some v
-  HasValue s None v = IsFinal sig v
+  -- some normal term contributes l under f
+  abbrev pub IsContributed : Option ℕ → List Tree → Type 0
+  IsContributed f l = (v : Tree) × IsNormal sig v × (contribution sig f v ≡ Some l)
+
+  -- an unnamed wildcard under f takes l
+  abbrev pub UnnamedTakes : Option ℕ → Wildcard → List Tree → Type 0
+  UnnamedTakes f dot l = IsContributed f l
+  UnnamedTakes f (kind k) l = (v : Tree) × (l ≡ v ∷ []) × (in_kind sig k v ≡ true)
+  UnnamedTakes f plus l = (arranged f l ≡ l) × (l ≡ [] → ⊥)
+  UnnamedTakes f star l = arranged f l ≡ l
+  UnnamedTakes f (optional d) l = IsContributed f l ⊎ (l ≡ [])
 
   -- an application of g to what its children take together; `fit` says that the children fit with the takes and the tables
   pub record ByArguments (g : ℕ) (l : List Tree) (T : Table) (fit : List (List Tree) → List Table → Type 0) : Type 0 where
@@ -80,9 +88,10 @@ module _ (sig : Sig) where
     pub together : joined takes ≡ term ∷ []
     pub table : T ≡ record { terms = l; collapsed = true } ∷ joined tables
 
-  -- a wildcard under f takes l, where its variable has its value in s
+  -- a wildcard under f takes l, where its variable, if it has one, has its value in s
   abbrev pub ByValue : Subst → Option ℕ → Wildcard → Option (List ℕ) → List Tree → Type 0
-  ByValue s f w x l = (v : Value) × HasValue s x v × WildTakes f w v l
+  ByValue s f w (Some x) l = (v : Value) × (value_of s x ≡ Some v) × WildTakes f w v l
+  ByValue s f w None l = UnnamedTakes f w l
 
   -- the lines of the table, where `line` is that of the wildcards
   module _ (line : Option ℕ → Wildcard → Option (List ℕ) → List Tree → Type 0) where

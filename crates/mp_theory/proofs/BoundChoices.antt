@@ -17,7 +17,7 @@ use Rattle.mp_pattern.specs.Contribution.{contribution}
 use Rattle.mp_pattern.specs.Fits.{Entry, Table}
 use Rattle.mp_pattern.specs.DerivationOrder.{entry_cmp}
 use Rattle.mp_theory.specs.Solve.{bind, given, sequence, solve}
-use Rattle.mp_theory.specs.Sound.{IsNotOptional}
+use Rattle.mp_theory.specs.NoOptional.{IsNotOptional}
 use Rattle.mp_theory.specs.Frames.{Frame, Next, child}
 use Rattle.mp_theory.specs.Search.{In}
 use Rattle.mp_theory.specs.Pieces.{is_piece}
@@ -145,9 +145,9 @@ module _ (sig : Sig) where
         let q : e ≡ only = same_entry e (h e.terms t.0 t.2.0 t.1 t.2.1) (and_parts (is_piece tree_cmp (comm_above sig f.under) e.terms f.left) (reads sig (wild_pattern w (Some x)) f.under e) a).1 in
         in-filter (allows sig at) e (only ∷ []) (inl q) a)
       where
-        same_entry : (e : Entry) → e.terms ≡ m → not e.collapsed && is_some (given sig f.under w e.terms) ≡ true → e ≡ record { terms = m; collapsed = false }
+        same_entry : (e : Entry) → e.terms ≡ m → reads sig (wild_pattern w (Some x)) f.under e ≡ true → e ≡ record { terms = m; collapsed = false }
         same_entry e i j =
-            let c : e.collapsed ≡ false = not-true e.collapsed (and_parts (not e.collapsed) (is_some (given sig f.under w e.terms)) j).0 in
+            let c : e.collapsed ≡ false = not-true e.collapsed (and_parts (not e.collapsed) _ j).0 in
             ap (λ l. record { terms = l; collapsed = e.collapsed }) i ∙ ap (λ b. record { terms = m; collapsed = b }) c
 
     -- one term: its contribution

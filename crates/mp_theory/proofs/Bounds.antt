@@ -101,7 +101,7 @@ module _ (sig : Sig) where
   within (app_pattern g ps) f [] false h = cc
   within (app_pattern g ps) f (t ∷ u ∷ l) false h = cc
   within (wild_pattern w x) f l true h = cc
-  within (wild_pattern dot x) f l false h = let k = some_contributor f l h in (k.0, λ s. k.1 (not-true _ s))
+  within (wild_pattern dot x) f l false h = let k = some_contributor f l (and_parts _ _ h).0 in (k.0, λ s. k.1 (not-true _ s))
   within (wild_pattern (kind k) x) f [] false h = cc
   within (wild_pattern (kind k) x) f (t ∷ []) false h = (omega arith, λ _. omega arith)
   within (wild_pattern (kind k) x) f (t ∷ u ∷ l) false h = cc
@@ -109,7 +109,7 @@ module _ (sig : Sig) where
   within (wild_pattern plus x) f (t ∷ l) false h = (omega arith, λ s. cc)
   within (wild_pattern star x) f l false h = (omega arith, λ s. cc)
   within (wild_pattern (optional d) x) f [] false h = (omega arith, λ _. omega arith)
-  within (wild_pattern (optional d) x) f (t ∷ l) false h = let k = some_contributor f (t ∷ l) h in (omega arith, λ s. k.1 (not-true _ s))
+  within (wild_pattern (optional d) x) f (t ∷ l) false h = let k = some_contributor f (t ∷ l) (and_parts _ _ h).0 in (omega arith, λ s. k.1 (not-true _ s))
 
   -- the number of terms is within the bounds of the children
   pub record IsWithin (f : Option ℕ) (ps : Patterns) (n : ℕ) : Type 0 where

@@ -15,7 +15,7 @@ use Rattle.mp_pattern.specs.Fits.{Table, Fits}
 use Rattle.mp_pattern.specs.DerivationOrder.{table_cmp}
 use Rattle.mp_pattern.specs.Instance.{is_fully_named}
 use Rattle.mp_theory.specs.Search.{In}
-use Rattle.mp_theory.specs.Sound.{IsSound, HasNoOptional}
+use Rattle.mp_theory.specs.NoOptional.{HasNoOptional}
 use Rattle.mp_theory.specs.Frames.{settle, start}
 use Rattle.mp_theory.specs.Machine.{tables}
 use Rattle.mp_theory.specs.OneList.{Item, same_item}
@@ -26,7 +26,7 @@ use Rattle.mp_theory.proofs.OneListLaws.{same_subst-sound}
 use Rattle.mp_theory.proofs.OneTable.{fits-same}
 use Rattle.mp_theory.proofs.TrailLaws.{all-filter_map, table_item, table_item-fits, derivations-start}
 
-module _ (sig : Sig) (p : Pattern) (t : Tree) (named : is_fully_named p ≡ true) (plain : HasNoOptional p) (sound : IsSound sig p) (normal : IsNormal sig t) where
+module _ (sig : Sig) (p : Pattern) (t : Tree) (named : is_fully_named p ≡ true) (plain : HasNoOptional p) (normal : IsNormal sig t) where
   -- two tables that fit in order have different substitutions
   same_item-later : (T U : Table) (i j : Item) → Fits sig p t i.1 T → Fits sig p t j.1 U → table_cmp T U ≡ Less → same_item i j ≡ false
   same_item-later T U i j h k less =
@@ -46,7 +46,7 @@ module _ (sig : Sig) (p : Pattern) (t : Tree) (named : is_fully_named p ≡ true
         | None ↦ λ e. rest
         | Some i ↦ λ e. (
           all-filter_map (λ j. same_item i j ≡ false) (table_item sig p t) Ts (λ U j m g.
-              same_item-later T U i j (table_item-fits sig p t T i sound normal (among T (inl refl)) e).1 (table_item-fits sig p t U j sound normal (among U (inr m)) g).1 (all_in (λ V. table_cmp T V ≡ Less) Ts U up.0 m)),
+              same_item-later T U i j (table_item-fits sig p t T i normal (among T (inl refl)) e).1 (table_item-fits sig p t U j normal (among U (inr m)) g).1 (all_in (λ V. table_cmp T V ≡ Less) Ts U up.0 m)),
           rest,
         )
       ] refl

@@ -14,7 +14,7 @@ use Rattle.mp_theory.proofs.Agenda.{backward}
 use Rattle.mp_theory.specs.Search.{Accepts}
 use Rattle.mp_theory.specs.Machine.{is_ended, onward, takes, choices}
 use Rattle.mp_theory.specs.Bounds.{ground_tree, ground_trees}
-use Rattle.mp_theory.proofs.Walk.{IsSoundAt, at_run, walked}
+use Rattle.mp_theory.proofs.Walk.{IsFineAt, at_run, walked}
 
 -- no ground child is left out
 none_left_out : (ps : Patterns) (ls : List (List Tree)) → all_ground ps ≡ true → some_left_out ps ls ≡ false
@@ -65,8 +65,8 @@ module _ (sig : Sig) where
   nothing_said (t ∷ ts) = (tt, nothing_said ts)
 
   -- a ground node that goes on to a table has taken its own term
-  pub ground-own : (Q : Option ℕ → Wildcard → Option (List ℕ) → Type 0) (p : Pattern) (f : Frame) (fs : List Frame) (e : Entry) (T : Table) → is_ground p ≡ true → IsSoundAt sig Q (child p f fs) → Accepts (choices sig) onward is_ended (child p f fs) (e ∷ T) → e.terms ≡ ground_tree sig p ∷ []
-  ground-own Q p f fs e T g s a =
-      let run = walked sig Any Q (λ t. ⊤) (λ w x h hs d q i r o. tt) (child p f fs) (e ∷ T) s a (nothing_said (takes (child p f fs) (e ∷ T))) in
+  pub ground-own : (p : Pattern) (f : Frame) (fs : List Frame) (e : Entry) (T : Table) → is_ground p ≡ true → IsFineAt sig (child p f fs) → Accepts (choices sig) onward is_ended (child p f fs) (e ∷ T) → e.terms ≡ ground_tree sig p ∷ []
+  ground-own p f fs e T g s a =
+      let run = walked sig Any (λ t. ⊤) (λ w x h hs d i r o. tt) (child p f fs) (e ∷ T) s a (nothing_said (takes (child p f fs) (e ∷ T))) in
       let r = backward sig Any p f.under f.children f.left f.owes fs (e ∷ T) (at_run sig Any (record { under = f.under; children = more_patterns p f.children; left = f.left; owes = f.owes } ∷ fs) (e ∷ T) run) in
       ap first_terms r.table ∙ first_entry sig Any p f.under r.list r.mine r.after r.takes ∙ ground_takes sig Any p f.under r.list r.mine g r.takes

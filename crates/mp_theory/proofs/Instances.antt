@@ -24,7 +24,8 @@ use Rattle.mp_pattern.specs.Fits.{Table, joined, some_left_out, arranged, ByValu
 use Rattle.mp_pattern.specs.Holds.{listed}
 use Rattle.mp_pattern.specs.Instance.{is_fully_named, all_fully_named, pattern_instances, all_pattern_instances, IsPatternApplied}
 use Rattle.mp_theory.specs.Solve.{is_alone}
-use Rattle.mp_theory.specs.Sound.{Each, AllEach, IsNotOptional, HasNoOptional}
+use Rattle.mp_pattern.specs.EachWildcard.{EachWildcard, AllEachWildcard}
+use Rattle.mp_theory.specs.NoOptional.{IsNotOptional, HasNoOptional}
 use Rattle.mp_theory.proofs.Cuts.{put, count, count-append, same_counts}
 use Rattle.mp_theory.proofs.Wildcards.{if_several-some, put-put, final-passes}
 use Rattle.mp_theory.proofs.Walk.{all_pass-each}
@@ -56,16 +57,16 @@ put-append true xs ys us vs p q =
 put-append false xs ys us vs p q = ap (λ ts. ts ++ ys) p ∙ ap (λ ts. us ++ ts) q
 
 -- no child that isn't optional is left out
-pub none_left_out : (g : ℕ) (ps : Patterns) (ls : List (List Tree)) → AllEach (λ f w x. IsNotOptional w) (Some g) ps → some_left_out ps ls ≡ false
-none_left_out g no_patterns ls h = refl
-none_left_out g (more_patterns p ps) [] h = refl
-none_left_out g (more_patterns (symbol_pattern n) ps) (l ∷ ls) h = none_left_out g ps ls h.1
-none_left_out g (more_patterns (app_pattern k qs) ps) (l ∷ ls) h = none_left_out g ps ls h.1
-none_left_out g (more_patterns (wild_pattern dot x) ps) (l ∷ ls) h = none_left_out g ps ls h.1
-none_left_out g (more_patterns (wild_pattern (kind k) x) ps) (l ∷ ls) h = none_left_out g ps ls h.1
-none_left_out g (more_patterns (wild_pattern plus x) ps) (l ∷ ls) h = none_left_out g ps ls h.1
-none_left_out g (more_patterns (wild_pattern star x) ps) (l ∷ ls) h = none_left_out g ps ls h.1
-none_left_out g (more_patterns (wild_pattern (optional d) x) ps) (l ∷ ls) h = absurd h.0
+pub none_left_out : (ps : Patterns) (ls : List (List Tree)) → AllEachWildcard IsNotOptional ps → some_left_out ps ls ≡ false
+none_left_out no_patterns ls h = refl
+none_left_out (more_patterns p ps) [] h = refl
+none_left_out (more_patterns (symbol_pattern n) ps) (l ∷ ls) h = none_left_out ps ls h.1
+none_left_out (more_patterns (app_pattern k qs) ps) (l ∷ ls) h = none_left_out ps ls h.1
+none_left_out (more_patterns (wild_pattern dot x) ps) (l ∷ ls) h = none_left_out ps ls h.1
+none_left_out (more_patterns (wild_pattern (kind k) x) ps) (l ∷ ls) h = none_left_out ps ls h.1
+none_left_out (more_patterns (wild_pattern plus x) ps) (l ∷ ls) h = none_left_out ps ls h.1
+none_left_out (more_patterns (wild_pattern star x) ps) (l ∷ ls) h = none_left_out ps ls h.1
+none_left_out (more_patterns (wild_pattern (optional d) x) ps) (l ∷ ls) h = absurd h.0
 
 module _ (sig : Sig) where
   -- terms in normal form that g doesn't open
@@ -113,7 +114,7 @@ module _ (sig : Sig) where
   apart-arguments : (h : ℕ) (ts : List Tree) → passes sig (app h (trees ts)) ≡ true → AreApart h ts
   apart-arguments h ts e =
       let k = (and_parts (not (is_comm sig h && not (ascending (tree_list (trees ts))))) (all_pass sig h (trees ts)) (and_parts (not (is_one sig h && is_single (tree_list (trees ts)))) _ e).1).1 in
-      let i = all_pass-each sig (λ f w x. IsNotOptional w) h (trees ts) k in
+      let i = all_pass-each sig h (trees ts) k in
       subst (AreApart h) (tree_list-trees ts) (pairs (tree_list (trees ts)) i.0 i.1)
     where
       pairs : (us : List Tree) → AllByRecursion (λ t. passes sig t ≡ true) us → AllByRecursion (λ t. is_alone sig (Some h) t ≡ true) us → AreApart h us
@@ -158,7 +159,7 @@ module _ (sig : Sig) where
     app_instance h us ts e k = ap (λ ns. collapsed sig h (arranged sig (Some h) (flattened sig h ns))) (normals-trees us) ∙ ap (collapsed sig h) k ∙ collapsed-passes h (arranged sig (Some h) ts) e
 
     mutual
-      child_instance : (p : Pattern) (g : ℕ) (l : List Tree) (T : Table) → is_fully_named p ≡ true → Each (λ f w x. IsNotOptional w) (Some g) p → AreApart g l → TakesBy sig (ByValue sig s) (Some g) p l T → Opened g (pattern_instances s p) ≡ arranged sig (Some g) l
+      child_instance : (p : Pattern) (g : ℕ) (l : List Tree) (T : Table) → is_fully_named p ≡ true → EachWildcard IsNotOptional p → AreApart g l → TakesBy sig (ByValue sig s) (Some g) p l T → Opened g (pattern_instances s p) ≡ arranged sig (Some g) l
       child_instance (symbol_pattern n) g l T m o a h = same_instance g (symbol n ∷ []) l a h.0
       child_instance (wild_pattern w None) g l T n o a h = cc
       child_instance (wild_pattern w (Some x)) g l T n o a h =
@@ -169,9 +170,9 @@ module _ (sig : Sig) where
           let args : AreApart k ts = all-from_put (λ t. (passes sig t ≡ true) × (is_alone sig (Some k) t ≡ true)) (is_comm sig k) ts (apart-arguments k (arranged sig (Some k) ts) b.0.0) in
           let e = app_instance k (all_pattern_instances s qs) ts b.0.0 (children_instances qs k h.takes h.tables n o args h.children) in
           ap (λ u. arranged sig (Some g) (parts sig g u ++ [])) e ∙ ap (λ us. arranged sig (Some g) (us ++ [])) (parts-alone g (app k (trees (arranged sig (Some k) ts))) b.0.1) ∙ ap (arranged sig (Some g)) (sym h.node)
-      child_instance (app_pattern k qs) g l T n o a (inr h) = let e : true ≡ false = sym h.left_out ∙ none_left_out k qs h.takes o in cc
+      child_instance (app_pattern k qs) g l T n o a (inr h) = let e : true ≡ false = sym h.left_out ∙ none_left_out qs h.takes o in cc
 
-      children_instances : (ps : Patterns) (g : ℕ) (ls : List (List Tree)) (Ts : List Table) → all_fully_named ps ≡ true → AllEach (λ f w x. IsNotOptional w) (Some g) ps → AreApart g (joined ls) → AllTakeBy sig (ByValue sig s) g ps ls Ts → Opened g (all_pattern_instances s ps) ≡ arranged sig (Some g) (joined ls)
+      children_instances : (ps : Patterns) (g : ℕ) (ls : List (List Tree)) (Ts : List Table) → all_fully_named ps ≡ true → AllEachWildcard IsNotOptional ps → AreApart g (joined ls) → AllTakeBy sig (ByValue sig s) g ps ls Ts → Opened g (all_pattern_instances s ps) ≡ arranged sig (Some g) (joined ls)
       children_instances no_patterns g [] [] n o a h = refl
       children_instances no_patterns g [] (T ∷ Ts) n o a h = absurd h
       children_instances no_patterns g (l ∷ ls) Ts n o a h = absurd h
@@ -215,7 +216,7 @@ module _ (sig : Sig) where
           instance = record { named = m; instance = refl };
           result = same ∙ sym (app_instance g (all_pattern_instances s qs) ts pass (children_instances qs g h.takes h.tables m o args h.children));
         }
-    root_instance (app_pattern g qs) t T m o k (inr h) = let e : true ≡ false = sym h.left_out ∙ none_left_out g qs h.takes o in cc
+    root_instance (app_pattern g qs) t T m o k (inr h) = let e : true ≡ false = sym h.left_out ∙ none_left_out qs h.takes o in cc
 
   pub fits-applied : (p : Pattern) (t : Tree) (s : Subst) (T : Table) → is_fully_named p ≡ true → HasNoOptional p → IsNormal sig t → Fits sig p t s T → IsPatternApplied sig p s t
   fits-applied p t s T m o k h = root_instance s (λ x v e. at_value (λ y w. IsFinal sig w) s x v h.subst_of.final e) p t T m o k h.takes

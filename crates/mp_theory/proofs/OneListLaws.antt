@@ -24,7 +24,6 @@ use Rattle.mp_theory.specs.Solve.{solve}
 use Rattle.mp_theory.specs.Frames.{settle, start}
 use Rattle.mp_theory.proofs.Merging.{same_terms-sound, same_terms-complete}
 use Rattle.mp_theory.specs.Search.{In}
-use Rattle.mp_theory.specs.Sound.{IsSound}
 use Rattle.mp_theory.specs.Machine.{takes, tables}
 use Rattle.mp_theory.specs.OneList.{Item, same_value, same_subst, admitted, one_list, item_tables, item_substs, item_list, AreItems}
 use Rattle.mp_theory.proofs.PiecesLaws.{same-sound, same-itself}
@@ -81,7 +80,7 @@ module _ (sig : Sig) (r : Rule) (t : Tree) where
   to_admitted : (T : Table) (s : Subst) → Solves T s → meets sig r.condition s ≡ true → admitted sig r t T ≡ Some s
   to_admitted T s e m = rw (e, m) refl
 
-  module _ (sound : IsSound sig r.pattern) (normal : IsNormal sig t) where
+  module _ (normal : IsNormal sig t) where
     -- the first tables and what they give
     abbrev Found : Added same_subst same_subst-itself same_subst-sound (admitted sig r t) table_cmp (lists_total entry_cmp_total) [] (tables sig r.pattern t)
     Found = added same_subst same_subst-itself same_subst-sound (admitted sig r t) table_cmp (lists_total entry_cmp_total) [] (tables sig r.pattern t) (tables-ascending sig r.pattern t)
@@ -95,7 +94,7 @@ module _ (sig : Sig) (r : Rule) (t : Tree) where
     fits-admitted s T h m = let k = fits-solves sig r.pattern t s T normal h in ((tables-exact sig r.pattern t T).1 k.0, to_admitted T s k.1 m)
 
     admitted-fits : (s : Subst) (T : Table) → In T (tables sig r.pattern t) → admitted sig r t T ≡ Some s → Fits sig r.pattern t s T × (meets sig r.condition s ≡ true)
-    admitted-fits s T i e = let k = from_admitted T s e in (solves-fits sig r.pattern t s T sound normal ((tables-exact sig r.pattern t T).0 i) k.0, k.1)
+    admitted-fits s T i e = let k = from_admitted T s e in (solves-fits sig r.pattern t s T normal ((tables-exact sig r.pattern t T).0 i) k.0, k.1)
 
     -- so the first table that gives s is the least that fits with it
     first-least : (s : Subst) (T : Table) → First s T → IsLeast sig r.pattern t s T

@@ -8,7 +8,8 @@ use Rattle.mp_pattern.specs.PatternTree.{Wildcard, dot, kind, plus, star, option
 use Rattle.mp_pattern.specs.Value.{Value, one, seq, bag, Subst}
 use Rattle.mp_pattern.specs.Fits.{Table, joined, arranged, WildTakes, ByValue, TakesBy, AllTakeBy, Fits}
 use Rattle.mp_pattern.specs.Instance.{is_fully_named, all_fully_named}
-use Rattle.mp_theory.specs.Sound.{Each, AllEach, IsNotOptional, HasNoOptional}
+use Rattle.mp_pattern.specs.EachWildcard.{EachWildcard, AllEachWildcard}
+use Rattle.mp_theory.specs.NoOptional.{IsNotOptional, HasNoOptional}
 use Rattle.mp_theory.proofs.Instances.{none_left_out}
 
 module _ (sig : Sig) where
@@ -31,7 +32,7 @@ module _ (sig : Sig) where
   module _ (s : Subst) where
     mutual
       -- so does a pattern, with one table
-      takes_same : (p : Pattern) (f : Option ℕ) (l m : List Tree) (T U : Table) → is_fully_named p ≡ true → Each (λ f w x. IsNotOptional w) f p → TakesBy sig (ByValue sig s) f p l T → TakesBy sig (ByValue sig s) f p m U → (l ≡ m) × (T ≡ U)
+      takes_same : (p : Pattern) (f : Option ℕ) (l m : List Tree) (T U : Table) → is_fully_named p ≡ true → EachWildcard IsNotOptional p → TakesBy sig (ByValue sig s) f p l T → TakesBy sig (ByValue sig s) f p m U → (l ≡ m) × (T ≡ U)
       takes_same (symbol_pattern n) f l m T U a o h k =
           let e : l ≡ m = h.0 ∙ sym k.0 in
           (e, h.1 ∙ ap (λ ts. record { terms = ts; collapsed = false } ∷ []) e ∙ sym k.1)
@@ -45,10 +46,10 @@ module _ (sig : Sig) where
           let i = all_take_same ps g h.takes k.takes h.tables k.tables a o h.children k.children in
           let e : l ≡ m = h.node ∙ ap (λ ls. app g (trees (arranged sig (Some g) (joined ls))) ∷ []) i.0 ∙ sym k.node in
           (e, h.table ∙ ap (λ ts. record { terms = ts; collapsed = false } ∷ joined h.tables) e ∙ ap (λ Ts. record { terms = m; collapsed = false } ∷ joined Ts) i.1 ∙ sym k.table)
-      takes_same (app_pattern g ps) f l m T U a o (inl h) (inr k) = let e : true ≡ false = sym k.left_out ∙ none_left_out g ps k.takes o in cc
-      takes_same (app_pattern g ps) f l m T U a o (inr h) k = let e : true ≡ false = sym h.left_out ∙ none_left_out g ps h.takes o in cc
+      takes_same (app_pattern g ps) f l m T U a o (inl h) (inr k) = let e : true ≡ false = sym k.left_out ∙ none_left_out ps k.takes o in cc
+      takes_same (app_pattern g ps) f l m T U a o (inr h) k = let e : true ≡ false = sym h.left_out ∙ none_left_out ps h.takes o in cc
 
-      all_take_same : (ps : Patterns) (g : ℕ) (ls ms : List (List Tree)) (Ts Us : List Table) → all_fully_named ps ≡ true → AllEach (λ f w x. IsNotOptional w) (Some g) ps → AllTakeBy sig (ByValue sig s) g ps ls Ts → AllTakeBy sig (ByValue sig s) g ps ms Us → (ls ≡ ms) × (Ts ≡ Us)
+      all_take_same : (ps : Patterns) (g : ℕ) (ls ms : List (List Tree)) (Ts Us : List Table) → all_fully_named ps ≡ true → AllEachWildcard IsNotOptional ps → AllTakeBy sig (ByValue sig s) g ps ls Ts → AllTakeBy sig (ByValue sig s) g ps ms Us → (ls ≡ ms) × (Ts ≡ Us)
       all_take_same no_patterns g [] [] [] [] a o h k = (refl, refl)
       all_take_same no_patterns g [] [] [] (U ∷ Us) a o h k = absurd k
       all_take_same no_patterns g [] (m ∷ ms) [] Us a o h k = absurd k

@@ -18,7 +18,6 @@ use Rattle.mp_pattern.specs.Firsts.{firsts_after}
 use Rattle.mp_theory.specs.Solve.{Taken, given, bind, solve}
 use Rattle.mp_theory.specs.Frames.{Next, ended, refused, child, settle, start}
 use Rattle.mp_theory.specs.Search.{In, words, Accepts}
-use Rattle.mp_theory.specs.Sound.{IsSound}
 use Rattle.mp_theory.specs.Pieces.{is_piece}
 use Rattle.mp_theory.specs.Machine.{is_ended, onward, said, takes, reads, choices, tables}
 use Rattle.mp_theory.specs.OneList.{Item, same_subst, same_item, one_list, item_list}
@@ -135,20 +134,20 @@ module _ (sig : Sig) where
   abbrev pub table_item : Pattern → Tree → Table → Option Item
   table_item p t T = option_map (item T) (solve sig [] (takes (settle (start p t)) T))
 
-  pub table_item-fits : (p : Pattern) (t : Tree) (T : Table) (i : Item) → IsSound sig p → IsNormal sig t → In T (tables sig p t) → table_item p t T ≡ Some i → (T ≡ i.0) × Fits sig p t i.1 T
-  table_item-fits p t T i d n m e =
+  pub table_item-fits : (p : Pattern) (t : Tree) (T : Table) (i : Item) → IsNormal sig t → In T (tables sig p t) → table_item p t T ≡ Some i → (T ≡ i.0) × Fits sig p t i.1 T
+  table_item-fits p t T i n m e =
       let a = mapped (item T) (solve sig [] (takes (settle (start p t)) T)) i e in
-      (ap (λ j. j.0) a.2, subst (λ j. Fits sig p t j.1 T) a.2 (solves-fits sig p t a.0 T d n ((tables-exact sig p t T).0 m) a.1))
+      (ap (λ j. j.0) a.2, subst (λ j. Fits sig p t j.1 T) a.2 (solves-fits sig p t a.0 T n ((tables-exact sig p t T).0 m) a.1))
 
   -- the derivations from the start are these items
   pub derivations-start : (p : Pattern) (t : Tree) → derivations sig (pattern_nodes p) (settle (start p t)) [] [] ≡ filter_map (table_item p t) (tables sig p t)
   derivations-start p t = derivations-is (pattern_nodes p) (settle (start p t)) [] []
 
   -- so each of them is a table that fits, with its substitution
-  pub derivations-fit : (p : Pattern) (t : Tree) → IsSound sig p → IsNormal sig t → AllByRecursion (λ i. Fits sig p t i.1 i.0) (derivations sig (pattern_nodes p) (settle (start p t)) [] [])
-  derivations-fit p t d n =
+  pub derivations-fit : (p : Pattern) (t : Tree) → IsNormal sig t → AllByRecursion (λ i. Fits sig p t i.1 i.0) (derivations sig (pattern_nodes p) (settle (start p t)) [] [])
+  derivations-fit p t n =
       subst (AllByRecursion (λ i. Fits sig p t i.1 i.0)) (sym (derivations-start p t))
-      (all-filter_map (λ i. Fits sig p t i.1 i.0) (table_item p t) (tables sig p t) (λ T i m e. let k = table_item-fits p t T i d n m e in subst (Fits sig p t i.1) k.0 k.1))
+      (all-filter_map (λ i. Fits sig p t i.1 i.0) (table_item p t) (tables sig p t) (λ T i m e. let k = table_item-fits p t T i n m e in subst (Fits sig p t i.1) k.0 k.1))
 
   -- a choice is an entry that is allowed
   pub choice-allowed : (n : Next) (e : Entry) → In e (choices sig n) ↔ (allows sig n e ≡ true)
@@ -167,12 +166,12 @@ module _ (sig : Sig) where
       (λ h. and_from _ _ (c.0 h.0) (i.0 h.1), λ h. let k = and_parts (allows sig n e) (has_shape sig (onward n e) T) h in (c.1 k.0, i.1 k.1))
 
   -- a table fits with one substitution at most, which the test finds
-  pub fits-fitted : (p : Pattern) (t : Tree) (s : Subst) (T : Table) → IsSound sig p → IsNormal sig t → Fits sig p t s T ↔ (fitted sig p t T ≡ Some s)
-  fits-fitted p t s T d n = (
+  pub fits-fitted : (p : Pattern) (t : Tree) (s : Subst) (T : Table) → IsNormal sig t → Fits sig p t s T ↔ (fitted sig p t T ≡ Some s)
+  fits-fitted p t s T n = (
     λ h. let k = fits-solves sig p t s T n h in rw ((shape-tested (settle (start p t)) T).0 k.0) k.1,
     λ h.
         elim (has_shape sig (settle (start p t)) T) as (λ b. has_shape sig (settle (start p t)) T ≡ b → (if b then solve sig [] (takes (settle (start p t)) T) else None) ≡ Some s → Fits sig p t s T) [
-          | true ↦ λ e k. solves-fits sig p t s T d n ((shape-tested (settle (start p t)) T).1 e) k
+          | true ↦ λ e k. solves-fits sig p t s T n ((shape-tested (settle (start p t)) T).1 e) k
           | false ↦ λ e k. cc
         ] refl h,
   )

@@ -14,7 +14,8 @@ use Rattle.mp_pattern.specs.PatternTree.{Wildcard, dot, kind, plus, star, option
 use Rattle.mp_pattern.specs.Value.{Value, one, seq, bag, Subst, value_of, same_name}
 use Rattle.mp_pattern.specs.Variables.{Use, uses, all_uses, comm_above}
 use Rattle.mp_pattern.specs.Contribution.{contribution, spread, if_several}
-use Rattle.mp_pattern.specs.Limits.{DefaultIsSmall, DefaultsAreSmall, AllDefaultsAreSmall}
+use Rattle.mp_pattern.specs.EachWildcard.{AllEachWildcard}
+use Rattle.mp_pattern.specs.Limits.{DefaultIsSmall, DefaultsAreSmall}
 use Rattle.mp_pattern.specs.Fits.{Table, joined, arranged, ByValue, WildTakes, TakesBy, AllTakeBy, Fits}
 use Rattle.mp_theory.specs.Search.{In}
 use Rattle.mp_theory.specs.ValueSizes.{HasAtMost, HaveAtMost}
@@ -89,7 +90,7 @@ module _ (sig : Sig) where
         uses-within (app_pattern g ps) f l T d few (inr h) =
             all_uses-within ps g h.takes h.tables d (omega (arith, few, ap all_nodes h.node, ap all_nodes h.together)) h.children
 
-        all_uses-within : (ps : Patterns) (g : ℕ) (ls : List (List Tree)) (Ts : List Table) → AllDefaultsAreSmall ps → all_nodes (joined ls) < n → AllTakeBy sig (ByValue sig s) g ps ls Ts → AllByRecursion IsUseWithin (all_uses (Some g) ps)
+        all_uses-within : (ps : Patterns) (g : ℕ) (ls : List (List Tree)) (Ts : List Table) → AllEachWildcard DefaultIsSmall ps → all_nodes (joined ls) < n → AllTakeBy sig (ByValue sig s) g ps ls Ts → AllByRecursion IsUseWithin (all_uses (Some g) ps)
         all_uses-within no_patterns g ls Ts d few h = tt
         all_uses-within (more_patterns p ps) g [] Ts d few h = absurd h
         all_uses-within (more_patterns p ps) g (l ∷ ls) [] d few h = absurd h

@@ -13,8 +13,7 @@ use Rattle.mp_term.proofs.ListLaws.{all-append, all-split}
 use Rattle.mp_pattern.specs.PatternTree.{Wildcard, Pattern, symbol_pattern, app_pattern, wild_pattern, Patterns, no_patterns, more_patterns}
 use Rattle.mp_pattern.specs.Value.{Value, IsFinal, Subst, value_of}
 use Rattle.mp_pattern.specs.Variables.{comm_above}
-use Rattle.mp_pattern.specs.Fits.{Entry, Table, is_left_out, no_sequence, ByValue, HasValue, WildTakes}
-use Rattle.mp_pattern.specs.Holds.{is_bag}
+use Rattle.mp_pattern.specs.Fits.{Entry, Table, is_left_out, no_sequence, ByValue}
 use Rattle.mp_theory.specs.Solve.{Taken, is_alone, given}
 use Rattle.mp_theory.specs.Frames.{Frame, Next, ended, refused, child, is_done, settle}
 use Rattle.mp_theory.proofs.Agenda.{Step, Run, IsCut}
@@ -22,12 +21,11 @@ use Rattle.mp_theory.proofs.Merging.{same_terms-sound, same_terms-complete}
 use Rattle.mp_theory.proofs.SolveLaws.{Obeys}
 use Rattle.mp_theory.specs.Search.{In, Accepts}
 use Rattle.mp_theory.specs.Pieces.{without, pieces, is_piece}
-use Rattle.mp_theory.specs.Sound.{Each, AllEach, DefaultNormal}
-use Rattle.mp_theory.specs.Machine.{entries, is_ended, entered, taken_out, onward, said, takes, reads, choices}
+use Rattle.mp_theory.specs.Machine.{entries, default_passes, is_ended, entered, taken_out, onward, said, takes, reads, choices}
 use Rattle.mp_theory.proofs.SearchLaws.{in-flat, from_in-flat, in-filter, from_in-filter}
 use Rattle.mp_theory.proofs.PiecesLaws.{sublist-from_piece, length-without, all-piece, all-without, pieces-exact}
 use Rattle.mp_theory.proofs.Cuts.{put, piece-from_apart, apart-from_piece}
-use Rattle.mp_theory.proofs.Wildcards.{put-single, arguments-in_order, Gives, gives, takes-given, IsFine, given-final, refines-itself}
+use Rattle.mp_theory.proofs.Wildcards.{put-single, arguments-in_order, Gives, gives, takes-given, IsFine, taken-passes, unnamed-gives, unnamed-takes}
 
 -- the entry of the list, by arguments or collapsed
 abbrev entry : List Tree → Bool → Entry
@@ -53,79 +51,77 @@ module _ (sig : Sig) where
     λ h. in-filter (reads sig p f.under) (entry l c) (entries (pieces tree_cmp (comm_above sig f.under) f.left)) (in-entries l c (pieces tree_cmp (comm_above sig f.under) f.left) ((pieces-exact tree_cmp tree_cmp_total tree_same (comm_above sig f.under) l f.left).1 h.0)) h.1,
   )
 
-  -- Q is a property of wildcards
-  module _ (Q : Option ℕ → Wildcard → Option (List ℕ) → Type 0) where
-    -- what is left to the frame is fine, and Q holds of its wildcards
-    abbrev pub IsSoundFrame : Frame → Type 0
-    IsSoundFrame f = IsFine sig f.under f.left × AllEach Q f.under f.children
+  -- what is left to the frame is fine
+  abbrev pub IsFineFrame : Frame → Type 0
+  IsFineFrame f = IsFine sig f.under f.left
 
-    -- what is left is fine, and Q holds of the wildcards still to come
-    abbrev pub IsSoundAt : Next → Type 0
-    IsSoundAt (child p f fs) = Each Q f.under p × IsSoundFrame f × AllByRecursion IsSoundFrame fs
-    IsSoundAt _ = ⊤
+  -- so it is at the place, and in the frames around
+  abbrev pub IsFineAt : Next → Type 0
+  IsFineAt (child p f fs) = IsFineFrame f × AllByRecursion IsFineFrame fs
+  IsFineAt _ = ⊤
 
-    -- soundness is kept where the frames settle
-    pub sound-settle : (fs : List Frame) → AllByRecursion IsSoundFrame fs → IsSoundAt (settle fs)
-    sound-settle [] h = tt
-    sound-settle (f ∷ fs) h =
-        elim f.children as (λ c. AllEach Q f.under c → IsSoundAt (elim c [ no_patterns ↦ if is_done f.left f.owes then settle fs else refused | more_patterns p ps ↦ child p (record f { children = ps }) fs ])) [
-          | no_patterns ↦ λ k. elim (is_done f.left f.owes) as (λ b. IsSoundAt (if b then settle fs else refused)) [ true ↦ sound-settle fs h.1 | false ↦ tt ]
-          | more_patterns p ps ↦ λ k. (k.0, (h.0.0, k.1), h.1)
-        ] h.0.1
+  -- it stays so where the frames settle
+  pub fine-settle : (fs : List Frame) → AllByRecursion IsFineFrame fs → IsFineAt (settle fs)
+  fine-settle [] h = tt
+  fine-settle (f ∷ fs) h =
+      elim f.children as (λ c. IsFineAt (elim c [ no_patterns ↦ if is_done f.left f.owes then settle fs else refused | more_patterns p ps ↦ child p (record f { children = ps }) fs ])) [
+        | no_patterns ↦ elim (is_done f.left f.owes) as (λ b. IsFineAt (if b then settle fs else refused)) [ true ↦ fine-settle fs h.1 | false ↦ tt ]
+        | more_patterns p ps ↦ h
+      ]
 
-    -- a piece of fine terms, the rest, and the arguments of one of them are fine
-    pub fine-piece : (f : Option ℕ) (l ts : List Tree) → is_piece tree_cmp (comm_above sig f) l ts ≡ true → IsFine sig f ts → IsFine sig f l
-    fine-piece f l ts h k =
-        let s = sublist-from_piece tree_cmp tree_cmp_total tree_same (comm_above sig f) l ts h in
-        record {
-          pass = all-piece tree_cmp tree_cmp_total tree_same (λ t. passes sig t ≡ true) l ts s k.pass;
-          alone = λ n. all-piece tree_cmp tree_cmp_total tree_same (λ t. is_alone sig f t ≡ true) l ts s (k.alone (omega (arith, length-without tree_cmp tree_cmp_total tree_same l ts s)));
-          in_order = (apart-from_piece (comm_above sig f) l ts k.in_order h).piece_in_order;
-        }
+  -- a piece of fine terms, the rest, and the arguments of one of them are fine
+  pub fine-piece : (f : Option ℕ) (l ts : List Tree) → is_piece tree_cmp (comm_above sig f) l ts ≡ true → IsFine sig f ts → IsFine sig f l
+  fine-piece f l ts h k =
+      let s = sublist-from_piece tree_cmp tree_cmp_total tree_same (comm_above sig f) l ts h in
+      record {
+        pass = all-piece tree_cmp tree_cmp_total tree_same (λ t. passes sig t ≡ true) l ts s k.pass;
+        alone = λ n. all-piece tree_cmp tree_cmp_total tree_same (λ t. is_alone sig f t ≡ true) l ts s (k.alone (omega (arith, length-without tree_cmp tree_cmp_total tree_same l ts s)));
+        in_order = (apart-from_piece (comm_above sig f) l ts k.in_order h).piece_in_order;
+      }
 
-    pub fine-without : (f : Option ℕ) (l ts : List Tree) → is_piece tree_cmp (comm_above sig f) l ts ≡ true → IsFine sig f ts → IsFine sig f (without tree_cmp l ts)
-    fine-without f l ts h k =
-        let s = sublist-from_piece tree_cmp tree_cmp_total tree_same (comm_above sig f) l ts h in
-        record {
-          pass = all-without tree_cmp tree_cmp_total tree_same (λ t. passes sig t ≡ true) l ts k.pass;
-          alone = λ n. all-without tree_cmp tree_cmp_total tree_same (λ t. is_alone sig f t ≡ true) l ts (k.alone (omega (arith, length-without tree_cmp tree_cmp_total tree_same l ts s)));
-          in_order = (apart-from_piece (comm_above sig f) l ts k.in_order h).rest_in_order;
-        }
+  pub fine-without : (f : Option ℕ) (l ts : List Tree) → is_piece tree_cmp (comm_above sig f) l ts ≡ true → IsFine sig f ts → IsFine sig f (without tree_cmp l ts)
+  fine-without f l ts h k =
+      let s = sublist-from_piece tree_cmp tree_cmp_total tree_same (comm_above sig f) l ts h in
+      record {
+        pass = all-without tree_cmp tree_cmp_total tree_same (λ t. passes sig t ≡ true) l ts k.pass;
+        alone = λ n. all-without tree_cmp tree_cmp_total tree_same (λ t. is_alone sig f t ≡ true) l ts (k.alone (omega (arith, length-without tree_cmp tree_cmp_total tree_same l ts s)));
+        in_order = (apart-from_piece (comm_above sig f) l ts k.in_order h).rest_in_order;
+      }
 
-    pub all_pass-each : (g : ℕ) (ts : Trees) → all_pass sig g ts ≡ true → AllByRecursion (λ t. passes sig t ≡ true) (tree_list ts) × AllByRecursion (λ t. is_alone sig (Some g) t ≡ true) (tree_list ts)
-    all_pass-each g no_trees h = (tt, tt)
-    all_pass-each g (more_trees t ts) h =
-        let k = and_parts (passes sig t && is_alone sig (Some g) t) (all_pass sig g ts) h in
-        let m = and_parts (passes sig t) (is_alone sig (Some g) t) k.0 in
-        let i = all_pass-each g ts k.1 in
-        ((m.0, i.0), (m.1, i.1))
+  pub all_pass-each : (g : ℕ) (ts : Trees) → all_pass sig g ts ≡ true → AllByRecursion (λ t. passes sig t ≡ true) (tree_list ts) × AllByRecursion (λ t. is_alone sig (Some g) t ≡ true) (tree_list ts)
+  all_pass-each g no_trees h = (tt, tt)
+  all_pass-each g (more_trees t ts) h =
+      let k = and_parts (passes sig t && is_alone sig (Some g) t) (all_pass sig g ts) h in
+      let m = and_parts (passes sig t) (is_alone sig (Some g) t) k.0 in
+      let i = all_pass-each g ts k.1 in
+      ((m.0, i.0), (m.1, i.1))
 
-    -- the arguments of a term that passes are fine
-    pub fine-arguments : (g : ℕ) (ts : Trees) → passes sig (app g ts) ≡ true → IsFine sig (Some g) (tree_list ts)
-    fine-arguments g ts h =
-        let k = and_parts (not (is_comm sig g && not (ascending (tree_list ts)))) (all_pass sig g ts) (and_parts (not (is_one sig g && is_single (tree_list ts))) _ h).1 in
-        let i = all_pass-each g ts k.1 in
-        record { pass = i.0; alone = λ _. i.1; in_order = arguments-in_order sig g ts h }
+  -- the arguments of a term that passes are fine
+  pub fine-arguments : (g : ℕ) (ts : Trees) → passes sig (app g ts) ≡ true → IsFine sig (Some g) (tree_list ts)
+  fine-arguments g ts h =
+      let k = and_parts (not (is_comm sig g && not (ascending (tree_list ts)))) (all_pass sig g ts) (and_parts (not (is_one sig g && is_single (tree_list ts))) _ h).1 in
+      let i = all_pass-each g ts k.1 in
+      record { pass = i.0; alone = λ _. i.1; in_order = arguments-in_order sig g ts h }
 
-    pub fine-single : (f : Option ℕ) (t : Tree) → passes sig t ≡ true → IsFine sig f (t ∷ [])
-    fine-single f t h = record { pass = (h, tt); alone = λ n. absurd (omega arith); in_order = put-single (comm_above sig f) t }
+  pub fine-single : (f : Option ℕ) (t : Tree) → passes sig t ≡ true → IsFine sig f (t ∷ [])
+  fine-single f t h = record { pass = (h, tt); alone = λ n. absurd (omega arith); in_order = put-single (comm_above sig f) t }
 
-    -- and soundness is kept by each choice
-    pub sound-onward : (p : Pattern) (f : Frame) (fs : List Frame) (l : List Tree) (c : Bool) → IsSoundAt (child p f fs) → is_piece tree_cmp (comm_above sig f.under) l f.left ≡ true → reads sig p f.under (entry l c) ≡ true → IsSoundAt (onward (child p f fs) (entry l c))
-    sound-onward (symbol_pattern n) f fs l c h i r = sound-settle (taken_out (symbol_pattern n) (entry l c) f ∷ fs) ((fine-without f.under l f.left i h.1.0, h.1.1), h.2)
-    sound-onward (wild_pattern w x) f fs l c h i r = sound-settle (taken_out (wild_pattern w x) (entry l c) f ∷ fs) ((fine-without f.under l f.left i h.1.0, h.1.1), h.2)
-    sound-onward (app_pattern g ps) f fs [] true h i r = cc
-    sound-onward (app_pattern g ps) f fs (t ∷ []) true h i r =
-        sound-settle (entered (app_pattern g ps) (entry (t ∷ []) true) (taken_out (app_pattern g ps) (entry (t ∷ []) true) f ∷ fs))
-        ((fine-single (Some g) t (fine-piece f.under (t ∷ []) f.left i h.1.0).pass.0, h.0), ((fine-without f.under (t ∷ []) f.left i h.1.0, h.1.1), h.2))
-    sound-onward (app_pattern g ps) f fs (t ∷ u ∷ l) true h i r = cc
-    sound-onward (app_pattern g ps) f fs [] false h i r = cc
-    sound-onward (app_pattern g ps) f fs (symbol n ∷ []) false h i r = cc
-    sound-onward (app_pattern g ps) f fs (app k ts ∷ []) false h i r =
-        let pass : passes sig (app k ts) ≡ true = (fine-piece f.under (app k ts ∷ []) f.left i h.1.0).pass.0 in
-        sound-settle (entered (app_pattern g ps) (entry (app k ts ∷ []) false) (taken_out (app_pattern g ps) (entry (app k ts ∷ []) false) f ∷ fs))
-        ((subst (λ m. IsFine sig (Some m) (tree_list ts)) (sym (eqb-true g k r)) (fine-arguments k ts pass), h.0), ((fine-without f.under (app k ts ∷ []) f.left i h.1.0, h.1.1), h.2))
-    sound-onward (app_pattern g ps) f fs (t ∷ u ∷ l) false h i r = cc
+  -- and what is left stays fine behind each choice
+  pub fine-onward : (p : Pattern) (f : Frame) (fs : List Frame) (l : List Tree) (c : Bool) → IsFineAt (child p f fs) → is_piece tree_cmp (comm_above sig f.under) l f.left ≡ true → reads sig p f.under (entry l c) ≡ true → IsFineAt (onward (child p f fs) (entry l c))
+  fine-onward (symbol_pattern n) f fs l c h i r = fine-settle (taken_out (symbol_pattern n) (entry l c) f ∷ fs) (fine-without f.under l f.left i h.0, h.1)
+  fine-onward (wild_pattern w x) f fs l c h i r = fine-settle (taken_out (wild_pattern w x) (entry l c) f ∷ fs) (fine-without f.under l f.left i h.0, h.1)
+  fine-onward (app_pattern g ps) f fs [] true h i r = cc
+  fine-onward (app_pattern g ps) f fs (t ∷ []) true h i r =
+      fine-settle (entered (app_pattern g ps) (entry (t ∷ []) true) (taken_out (app_pattern g ps) (entry (t ∷ []) true) f ∷ fs))
+      (fine-single (Some g) t (fine-piece f.under (t ∷ []) f.left i h.0).pass.0, (fine-without f.under (t ∷ []) f.left i h.0, h.1))
+  fine-onward (app_pattern g ps) f fs (t ∷ u ∷ l) true h i r = cc
+  fine-onward (app_pattern g ps) f fs [] false h i r = cc
+  fine-onward (app_pattern g ps) f fs (symbol n ∷ []) false h i r = cc
+  fine-onward (app_pattern g ps) f fs (app k ts ∷ []) false h i r =
+      let pass : passes sig (app k ts) ≡ true = (fine-piece f.under (app k ts ∷ []) f.left i h.0).pass.0 in
+      fine-settle (entered (app_pattern g ps) (entry (app k ts ∷ []) false) (taken_out (app_pattern g ps) (entry (app k ts ∷ []) false) f ∷ fs))
+      (subst (λ m. IsFine sig (Some m) (tree_list ts)) (sym (eqb-true g k r)) (fine-arguments k ts pass), (fine-without f.under (app k ts ∷ []) f.left i h.0, h.1))
+  fine-onward (app_pattern g ps) f fs (t ∷ u ∷ l) false h i r = cc
 
   module _ (line : Option ℕ → Wildcard → Option (List ℕ) → List Tree → Type 0) where
     -- the walk from a place on
@@ -150,26 +146,22 @@ module _ (sig : Sig) where
     piece-cut f left l e h = let a = apart-from_piece (comm_above sig f) l left e h in record { together = a.together; in_order = a.rest_in_order }
 
   -- a walk of the search is a walk by the wildcards' line, if what the takes are known to be gives the line
-  module _ (line : Option ℕ → Wildcard → Option (List ℕ) → List Tree → Type 0) (Q : Option ℕ → Wildcard → Option (List ℕ) → Type 0) (P : Taken → Type 0)
-      (wild_takes : (w : Wildcard) (x : Option (List ℕ)) (f : Frame) (fs : List Frame) (e : Entry) → Q f.under w x → IsFine sig f.under e.terms → is_some (given sig f.under w e.terms) ≡ true → AllByRecursion P (said (child (wild_pattern w x) f fs) e) → line f.under w x e.terms) where
-    -- P holds of each take
-    abbrev AllTold : List Taken → Type 0
-    AllTold = AllByRecursion P
-
+  module _ (line : Option ℕ → Wildcard → Option (List ℕ) → List Tree → Type 0) (P : Taken → Type 0)
+      (wild_takes : (w : Wildcard) (x : Option (List ℕ)) (f : Frame) (fs : List Frame) (e : Entry) → IsFine sig f.under e.terms → is_some (given sig f.under w e.terms) ≡ true → AllByRecursion P (said (child (wild_pattern w x) f fs) e) → line f.under w x e.terms) where
     -- one choice
-    step-walked : (p : Pattern) (f : Frame) (fs : List Frame) (l : List Tree) (c : Bool) (T : Table) → IsSoundAt Q (child p f fs) → is_piece tree_cmp (comm_above sig f.under) l f.left ≡ true → reads sig p f.under (entry l c) ≡ true → AllTold (said (child p f fs) (entry l c))
+    step-walked : (p : Pattern) (f : Frame) (fs : List Frame) (l : List Tree) (c : Bool) (T : Table) → IsFineAt (child p f fs) → is_piece tree_cmp (comm_above sig f.under) l f.left ≡ true → reads sig p f.under (entry l c) ≡ true → AllByRecursion P (said (child p f fs) (entry l c))
         → RunAt line (onward (child p f fs) (entry l c)) T → RunAt line (child p f fs) (entry l c ∷ T)
     step-walked (symbol_pattern n) f fs l true T h i r o k = cc
     step-walked (symbol_pattern n) f fs l false T h i r o k =
-        (without tree_cmp l f.left, piece-cut line f.under f.left l h.1.0.in_order i, (ap (λ m. entry m false) (same_terms-sound l (symbol n ∷ []) r), at_run line (taken_out (symbol_pattern n) (entry l false) f ∷ fs) T k))
+        (without tree_cmp l f.left, piece-cut line f.under f.left l h.0.in_order i, (ap (λ m. entry m false) (same_terms-sound l (symbol n ∷ []) r), at_run line (taken_out (symbol_pattern n) (entry l false) f ∷ fs) T k))
     step-walked (wild_pattern w x) f fs l true T h i r o k = cc
     step-walked (wild_pattern w x) f fs l false T h i r o k =
-        (without tree_cmp l f.left, piece-cut line f.under f.left l h.1.0.in_order i, (wild_takes w x f fs (entry l false) h.0 (fine-piece Q f.under l f.left i h.1.0) r o, refl, at_run line (taken_out (wild_pattern w x) (entry l false) f ∷ fs) T k))
+        (without tree_cmp l f.left, piece-cut line f.under f.left l h.0.in_order i, (wild_takes w x f fs (entry l false) (fine-piece f.under l f.left i h.0) (and_parts _ _ r).0 o, refl, at_run line (taken_out (wild_pattern w x) (entry l false) f ∷ fs) T k))
     step-walked (app_pattern g ps) f fs [] true T h i r o k = cc
     step-walked (app_pattern g ps) f fs (t ∷ []) true T h i r o k =
         let b = and_parts (is_one sig g) (no_sequence ps) r in (
           without tree_cmp (t ∷ []) f.left,
-          piece-cut line f.under f.left (t ∷ []) h.1.0.in_order i,
+          piece-cut line f.under f.left (t ∷ []) h.0.in_order i,
           inr (t, refl, b.0, b.1, at_run line (entered (app_pattern g ps) (entry (t ∷ []) true) (taken_out (app_pattern g ps) (entry (t ∷ []) true) f ∷ fs)) T k),
         )
     step-walked (app_pattern g ps) f fs (t ∷ u ∷ l) true T h i r o k = cc
@@ -178,7 +170,7 @@ module _ (sig : Sig) where
     step-walked (app_pattern g ps) f fs (app m ts ∷ []) false T h i r o k =
         let q : m ≡ g = sym (eqb-true g m r) in (
           without tree_cmp (app m ts ∷ []) f.left,
-          piece-cut line f.under f.left (app m ts ∷ []) h.1.0.in_order i,
+          piece-cut line f.under f.left (app m ts ∷ []) h.0.in_order i,
           inl (
             tree_list ts,
             ap (λ a. entry (app a ts ∷ []) false) q ∙ ap (λ us. entry (app g us ∷ []) false) (sym (trees-tree_list ts)),
@@ -188,7 +180,7 @@ module _ (sig : Sig) where
     step-walked (app_pattern g ps) f fs (t ∷ u ∷ l) false T h i r o k = cc
 
     -- a table with the shape is a walk
-    pub walked : (n : Next) (T : Table) → IsSoundAt Q n → Accepts (choices sig) onward is_ended n T → AllTold (takes n T) → RunAt line n T
+    pub walked : (n : Next) (T : Table) → IsFineAt n → Accepts (choices sig) onward is_ended n T → AllByRecursion P (takes n T) → RunAt line n T
     walked ended [] h a o = refl
     walked refused [] h a o = cc
     walked (child p f fs) [] h a o = cc
@@ -197,47 +189,48 @@ module _ (sig : Sig) where
     walked (child p f fs) (e ∷ T) h a o =
         let c = (choices-exact p f fs e.terms e.collapsed).0 a.0 in
         let os = all-split P (said (child p f fs) e) (takes (onward (child p f fs) e) T) o in
-        step-walked p f fs e.terms e.collapsed T h c.0 c.1 os.0 (walked (onward (child p f fs) e) T (sound-onward Q p f fs e.terms e.collapsed h c.0 c.1) a.1 os.1)
+        step-walked p f fs e.terms e.collapsed T h c.0 c.1 os.0 (walked (onward (child p f fs) e) T (fine-onward p f fs e.terms e.collapsed h c.0 c.1) a.1 os.1)
 
   module _ (s : Subst) where
-    -- a sequence variable that stands under an operation that isn't commutative has no multiset
-    abbrev pub FormHolds : Option ℕ → Wildcard → Option (List ℕ) → Type 0
-    FormHolds f w None = ⊤
-    FormHolds f w (Some x) = is_sequence w ≡ true → comm_above sig f ≡ false → is_bag (value_of s x) ≡ false
-
     -- the wildcards' line by the values of s
     abbrev Values : Option ℕ → Wildcard → Option (List ℕ) → List Tree → Type 0
     Values = ByValue sig s
 
-    -- s obeys each take
-    abbrev AllObeyed : List Taken → Type 0
-    AllObeyed = AllByRecursion (Obeys sig s)
+    -- the take gives a value, which the variable's value in s agrees with
+    pub record Told (t : Taken) : Type 0 where
+      pub value : Value
+      pub held : value_of s t.by.name ≡ Some value
+      pub gives : Gives sig t.by.under t.by.wildcard value t.terms
 
-    -- a step with values is a choice that s obeys
+    -- so does each take
+    abbrev pub AllTold : List Taken → Type 0
+    AllTold = AllByRecursion Told
+
+    -- a step with values is a choice whose take is told
     record IsChosen (n : Next) (e : Entry) (T : Table) : Type 0 where
       choice : In e (choices sig n)
-      obeys : AllObeyed (said n e)
-      sound : IsSoundAt FormHolds (onward n e)
+      told : AllTold (said n e)
+      fine : IsFineAt (onward n e)
       go : RunAt Values (onward n e) T
 
     -- a step with values is a choice, case by case of the node
-    chosen : (p : Pattern) (f : Frame) (fs : List Frame) (e : Entry) (T : Table) (gs : List Frame) → IsSoundAt FormHolds (child p f fs) → is_piece tree_cmp (comm_above sig f.under) e.terms f.left ≡ true → reads sig p f.under e ≡ true
-        → AllObeyed (said (child p f fs) e) → settle gs ≡ onward (child p f fs) e → Run sig Values gs T → IsChosen (child p f fs) e T
+    chosen : (p : Pattern) (f : Frame) (fs : List Frame) (e : Entry) (T : Table) (gs : List Frame) → IsFineAt (child p f fs) → is_piece tree_cmp (comm_above sig f.under) e.terms f.left ≡ true → reads sig p f.under e ≡ true
+        → AllTold (said (child p f fs) e) → settle gs ≡ onward (child p f fs) e → Run sig Values gs T → IsChosen (child p f fs) e T
     chosen p f fs e T gs h i r o q k = record {
       choice = (choices-exact p f fs e.terms e.collapsed).1 (i, r);
-      obeys = o;
-      sound = sound-onward FormHolds p f fs e.terms e.collapsed h i r;
+      told = o;
+      fine = fine-onward p f fs e.terms e.collapsed h i r;
       go = subst (λ n. RunAt Values n T) q (run_at Values gs T k);
     }
 
-    chosen-symbol : (n : List ℕ) (f : Frame) (fs : List Frame) (rest : List Tree) (T : Table) → IsSoundAt FormHolds (child (symbol_pattern n) f fs) → IsCut sig Values f.under f.left (symbol n ∷ []) rest
+    chosen-symbol : (n : List ℕ) (f : Frame) (fs : List Frame) (rest : List Tree) (T : Table) → IsFineAt (child (symbol_pattern n) f fs) → IsCut sig Values f.under f.left (symbol n ∷ []) rest
         → Run sig Values (record { under = f.under; children = f.children; left = rest; owes = f.owes && not (is_left_out (symbol_pattern n) (symbol n ∷ [])) } ∷ fs) T → IsChosen (child (symbol_pattern n) f fs) (entry (symbol n ∷ []) false) T
     chosen-symbol n f fs rest T h cut k =
         let c = cut-piece Values f.under f.left (symbol n ∷ []) rest cut (put-single (comm_above sig f.under) (symbol n)) in
         chosen (symbol_pattern n) f fs (entry (symbol n ∷ []) false) T (taken_out (symbol_pattern n) (entry (symbol n ∷ []) false) f ∷ fs) h c.0 (same_terms-complete (symbol n ∷ []) (symbol n ∷ []) refl) tt refl
         (subst (λ m. Run sig Values (record { under = f.under; children = f.children; left = m; owes = f.owes && not false } ∷ fs) T) c.1 k)
 
-    chosen-arguments : (g : ℕ) (ps : Patterns) (f : Frame) (fs : List Frame) (rest args : List Tree) (T : Table) → IsSoundAt FormHolds (child (app_pattern g ps) f fs) → IsCut sig Values f.under f.left (app g (trees args) ∷ []) rest
+    chosen-arguments : (g : ℕ) (ps : Patterns) (f : Frame) (fs : List Frame) (rest args : List Tree) (T : Table) → IsFineAt (child (app_pattern g ps) f fs) → IsCut sig Values f.under f.left (app g (trees args) ∷ []) rest
         → Run sig Values (record { under = Some g; children = ps; left = args; owes = false } ∷ record { under = f.under; children = f.children; left = rest; owes = f.owes && not false } ∷ fs) T
         → IsChosen (child (app_pattern g ps) f fs) (entry (app g (trees args) ∷ []) false) T
     chosen-arguments g ps f fs rest args T h cut k =
@@ -247,7 +240,7 @@ module _ (sig : Sig) where
         (subst (λ a. Run sig Values (record { under = Some g; children = ps; left = a; owes = false } ∷ record { under = f.under; children = f.children; left = without tree_cmp (app g (trees args) ∷ []) f.left; owes = f.owes && not false } ∷ fs) T) (sym (tree_list-trees args))
         (subst (λ m. Run sig Values (record { under = Some g; children = ps; left = args; owes = false } ∷ record { under = f.under; children = f.children; left = m; owes = f.owes && not false } ∷ fs) T) c.1 k))
 
-    chosen-collapsed : (g : ℕ) (ps : Patterns) (f : Frame) (fs : List Frame) (rest : List Tree) (t : Tree) (T : Table) → IsSoundAt FormHolds (child (app_pattern g ps) f fs) → IsCut sig Values f.under f.left (t ∷ []) rest → is_one sig g ≡ true → no_sequence ps ≡ true
+    chosen-collapsed : (g : ℕ) (ps : Patterns) (f : Frame) (fs : List Frame) (rest : List Tree) (t : Tree) (T : Table) → IsFineAt (child (app_pattern g ps) f fs) → IsCut sig Values f.under f.left (t ∷ []) rest → is_one sig g ≡ true → no_sequence ps ≡ true
         → Run sig Values (record { under = Some g; children = ps; left = t ∷ []; owes = true } ∷ record { under = f.under; children = f.children; left = rest; owes = f.owes && not false } ∷ fs) T
         → IsChosen (child (app_pattern g ps) f fs) (entry (t ∷ []) true) T
     chosen-collapsed g ps f fs rest t T h cut one plain k =
@@ -256,62 +249,57 @@ module _ (sig : Sig) where
         (subst (λ m. Run sig Values (record { under = Some g; children = ps; left = t ∷ []; owes = true } ∷ record { under = f.under; children = f.children; left = m; owes = f.owes && not false } ∷ fs) T) c.1 k)
 
     module _ (finals : (x : List ℕ) (v : Value) → value_of s x ≡ Some v → IsFinal sig v) where
-      -- the values of s are final
-      held-final : (x : Option (List ℕ)) (v : Value) → HasValue sig s x v → IsFinal sig v
-      held-final None v h = h
-      held-final (Some x) v h = finals x v h
+      -- what a wildcard takes by the values is read, in order and told
+      record IsTaken (w : Wildcard) (x : Option (List ℕ)) (f : Frame) (fs : List Frame) (e : Entry) : Type 0 where
+        read : is_some (given sig f.under w e.terms) && default_passes sig x w e.terms ≡ true
+        in_order : put (comm_above sig f.under) e.terms ≡ e.terms
+        told : AllTold (said (child (wild_pattern w x) f fs) e)
 
-      wild-obeys : (w : Wildcard) (x : Option (List ℕ)) (f : Frame) (fs : List Frame) (e : Entry) (v : Value) → FormHolds f.under w x → HasValue sig s x v → Gives sig f.under w v e.terms → AllObeyed (said (child (wild_pattern w x) f fs) e)
-      wild-obeys w None f fs e v q h g = tt
-      wild-obeys w (Some x) f fs e v q h g = (record { value = g.value; is = g.is; final = v; held = h; refines = g.refines (λ i j. ap is_bag (sym h) ∙ q i j) }, tt)
+      taken : (w : Wildcard) (x : Option (List ℕ)) (f : Frame) (fs : List Frame) (e : Entry) → Values f.under w x e.terms → IsTaken w x f fs e
+      taken w None f fs e h = let g = unnamed-gives sig f.under w e.terms h in record { read = and_from _ _ g.0 refl; in_order = g.1; told = tt }
+      taken w (Some x) f fs e h =
+          let g = gives sig f.under w h.0 e.terms (finals x h.0 h.1) h.2 in
+          record {
+            read = and_from _ _ (ap is_some g.is) (taken-passes sig f.under w x h.0 e.terms (finals x h.0 h.1) h.2);
+            in_order = g.in_order;
+            told = (record { value = h.0; held = h.1; gives = g }, tt);
+          }
 
-      chosen-wild : (w : Wildcard) (x : Option (List ℕ)) (f : Frame) (fs : List Frame) (e : Entry) (rest : List Tree) (T : Table) (v : Value) → IsSoundAt FormHolds (child (wild_pattern w x) f fs) → IsCut sig Values f.under f.left e.terms rest
-          → HasValue sig s x v → WildTakes sig f.under w v e.terms → e.collapsed ≡ false
+      chosen-wild : (w : Wildcard) (x : Option (List ℕ)) (f : Frame) (fs : List Frame) (e : Entry) (rest : List Tree) (T : Table) → IsFineAt (child (wild_pattern w x) f fs) → IsCut sig Values f.under f.left e.terms rest
+          → Values f.under w x e.terms → e.collapsed ≡ false
           → Run sig Values (record { under = f.under; children = f.children; left = rest; owes = f.owes && not (is_left_out (wild_pattern w x) e.terms) } ∷ fs) T → IsChosen (child (wild_pattern w x) f fs) e T
-      chosen-wild w x f fs e rest T v h cut has takes mark k =
-          let g = gives sig f.under w v e.terms (held-final x v has) takes in
+      chosen-wild w x f fs e rest T h cut takes mark k =
+          let g = taken w x f fs e takes in
           let c = cut-piece Values f.under f.left e.terms rest cut g.in_order in
-          chosen (wild_pattern w x) f fs e T (taken_out (wild_pattern w x) e f ∷ fs) h c.0 (and_from _ _ (ap not mark) (ap is_some g.is)) (wild-obeys w x f fs e v h.0 has g) refl
+          chosen (wild_pattern w x) f fs e T (taken_out (wild_pattern w x) e f ∷ fs) h c.0 (and_from _ _ (ap not mark) g.read) g.told refl
           (subst (λ m. Run sig Values (record { under = f.under; children = f.children; left = m; owes = f.owes && not (is_left_out (wild_pattern w x) e.terms) } ∷ fs) T) c.1 k)
 
-      step-chosen : (n : Next) (e : Entry) (T : Table) → IsSoundAt FormHolds n → RunAt Values n (e ∷ T) → IsChosen n e T
+      step-chosen : (n : Next) (e : Entry) (T : Table) → IsFineAt n → RunAt Values n (e ∷ T) → IsChosen n e T
       step-chosen ended e T h k = absurd k
       step-chosen refused e T h k = absurd k
       step-chosen (child (symbol_pattern n) f fs) e T h k =
           let q : e.terms ≡ symbol n ∷ [] = ap (λ d. d.terms) k.2.0 in
           subst (λ d. IsChosen (child (symbol_pattern n) f fs) d T) (sym k.2.0) (chosen-symbol n f fs k.0 T h (subst (λ l. IsCut sig Values f.under f.left l k.0) q k.1) k.2.1)
-      step-chosen (child (wild_pattern w x) f fs) e T h k = chosen-wild w x f fs e k.0 T k.2.0.0 h k.1 k.2.0.1 k.2.0.2 k.2.1 k.2.2
+      step-chosen (child (wild_pattern w x) f fs) e T h k = chosen-wild w x f fs e k.0 T h k.1 k.2.0 k.2.1 k.2.2
       step-chosen (child (app_pattern g ps) f fs) e T h k =
           elim k.2 [
             | inl i ↦ subst (λ d. IsChosen (child (app_pattern g ps) f fs) d T) (sym i.1) (chosen-arguments g ps f fs k.0 i.0 T h (subst (λ l. IsCut sig Values f.under f.left l k.0) (ap (λ d. d.terms) i.1) k.1) i.2)
             | inr i ↦ subst (λ d. IsChosen (child (app_pattern g ps) f fs) d T) (sym i.1) (chosen-collapsed g ps f fs k.0 i.0 T h (subst (λ l. IsCut sig Values f.under f.left l k.0) (ap (λ d. d.terms) i.1) k.1) i.2 i.3 i.4)
           ]
 
-      -- a walk with the values of s has the shape, and s obeys its takes
-      pub accepted : (n : Next) (T : Table) → IsSoundAt FormHolds n → RunAt Values n T → Accepts (choices sig) onward is_ended n T × AllObeyed (takes n T)
+      -- a walk with the values of s has the shape, and its takes are told
+      pub accepted : (n : Next) (T : Table) → IsFineAt n → RunAt Values n T → Accepts (choices sig) onward is_ended n T × AllTold (takes n T)
       accepted n [] h k = (ap is_ended k, tt)
       accepted n (e ∷ T) h k =
           let c = step-chosen n e T h k in
-          let i = accepted (onward n e) T c.sound c.go in
-          ((c.choice, i.0), all-append (Obeys sig s) (said n e) (takes (onward n e) T) c.obeys i.1)
-
-    -- the wildcard's default, if it has one, is normal
-    abbrev pub DefaultHolds : Option ℕ → Wildcard → Option (List ℕ) → Type 0
-    DefaultHolds f w x = DefaultNormal sig w
-
-    -- an option that has a value
-    some_from : {A : Type 0} (o : Option A) → is_some o ≡ true → (v : A) × (o ≡ Some v)
-    some_from None e = cc
-    some_from (Some v) e = (v, refl)
+          let i = accepted (onward n e) T c.fine c.go in
+          ((c.choice, i.0), all-append Told (said n e) (takes (onward n e) T) c.told i.1)
 
     -- a take that s obeys gives the wildcard's line
-    wild-valued : (w : Wildcard) (x : Option (List ℕ)) (f : Frame) (fs : List Frame) (e : Entry) → DefaultNormal sig w → IsFine sig f.under e.terms → is_some (given sig f.under w e.terms) ≡ true → AllObeyed (said (child (wild_pattern w x) f fs) e)
-        → (v : Value) × HasValue sig s x v × WildTakes sig f.under w v e.terms
-    wild-valued w None f fs e d fine r o =
-        let g = some_from (given sig f.under w e.terms) r in
-        (g.0, given-final sig f.under w e.terms g.0 g.1 d fine, takes-given sig f.under w g.0 g.0 e.terms g.1 fine.in_order (refines-itself g.0))
-    wild-valued w (Some x) f fs e d fine r o = (o.0.final, o.0.held, takes-given sig f.under w o.0.value o.0.final e.terms o.0.is fine.in_order o.0.refines)
+    wild-valued : (w : Wildcard) (x : Option (List ℕ)) (f : Frame) (fs : List Frame) (e : Entry) → IsFine sig f.under e.terms → is_some (given sig f.under w e.terms) ≡ true → AllByRecursion (Obeys sig s) (said (child (wild_pattern w x) f fs) e) → Values f.under w x e.terms
+    wild-valued w None f fs e fine r o = unnamed-takes sig f.under w e.terms r fine
+    wild-valued w (Some x) f fs e fine r o = (o.0.final, o.0.held, takes-given sig f.under w o.0.value o.0.final e.terms o.0.is fine.in_order o.0.refines)
 
     -- a table with the shape, whose takes s obeys, is a walk with the values of s
-    pub valued : (n : Next) (T : Table) → IsSoundAt DefaultHolds n → Accepts (choices sig) onward is_ended n T → AllObeyed (takes n T) → RunAt Values n T
-    valued = walked Values DefaultHolds (Obeys sig s) wild-valued
+    pub valued : (n : Next) (T : Table) → IsFineAt n → Accepts (choices sig) onward is_ended n T → AllByRecursion (Obeys sig s) (takes n T) → RunAt Values n T
+    valued = walked Values (Obeys sig s) wild-valued

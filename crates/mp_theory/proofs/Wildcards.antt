@@ -1,6 +1,6 @@
 -- A wildcard takes a list at a final value of its variable exactly where the list gives a value that the final one agrees with.
 use Rattle.std.proofs.Common.{◌≡◌, ℕ, ◌≤◌, List, [], ◌∷◌, Bool, true, false, ◌&&◌, not, refl, ap, sym, ◌∙◌, subst, length, ◌⊎◌, inl, inr, eqb-true, eq-eqb, arith}
-use Rattle.std.specs.Prelude.{Option, Some, None, if◌then◌else◌, nat_eq}
+use Rattle.std.specs.Prelude.{Option, Some, None, is_some, if◌then◌else◌, nat_eq}
 use Rattle.std.specs.List.{AllByRecursion}
 use Rattle.std.proofs.lemmas.Bool.{and_parts, and_from, not-true, not-false}
 use Rattle.std.proofs.Math.Bool.{and-false}
@@ -18,13 +18,18 @@ use Rattle.mp_pattern.specs.PatternTree.{Wildcard, dot, kind, plus, star, option
 use Rattle.mp_pattern.specs.Value.{Value, one, seq, bag, IsFinal}
 use Rattle.mp_pattern.specs.Variables.{comm_above}
 use Rattle.mp_pattern.specs.Contribution.{contribution, spread, if_several}
-use Rattle.mp_pattern.specs.Fits.{WildTakes}
+use Rattle.mp_pattern.specs.Fits.{WildTakes, IsContributed, UnnamedTakes}
 use Rattle.mp_pattern.specs.Holds.{is_bag}
 use Rattle.mp_theory.specs.Solve.{is_alone, contributor, sequence, of_kind, given}
 use Rattle.mp_theory.proofs.Merging.{Refines, sorted-sorted}
 use Rattle.mp_theory.proofs.SolveLaws.{contribution-found}
-use Rattle.mp_theory.specs.Sound.{DefaultNormal}
+use Rattle.mp_theory.specs.Machine.{default_passes}
 use Rattle.mp_theory.proofs.Cuts.{put}
+
+-- an option that has a value
+some_from : {A : Type 0} (o : Option A) → is_some o ≡ true → (v : A) × (o ≡ Some v)
+some_from None e = cc
+some_from (Some v) e = (v, refl)
 
 -- a list that has several items is that list
 pub if_several-some : (us l : List Tree) → if_several us ≡ Some l → us ≡ l
@@ -261,21 +266,65 @@ module _ (sig : Sig) where
   sequence-final f l h =
       elim (comm_above sig f) as (λ b. put b l ≡ l → IsFinal sig (if b then bag l else seq l)) [ true ↦ λ e. (all_normal l h.pass, e) | false ↦ λ e. all_normal l h.pass ] h.in_order
 
-  -- what such terms give is final
-  pub given-final : (f : Option ℕ) (w : Wildcard) (l : List Tree) (g : Value) → given sig f w l ≡ Some g → DefaultNormal sig w → IsFine f l → IsFinal sig g
-  given-final f dot l g e d h = contributor-final f l g e h
-  given-final f (kind k) [] g e d h = cc
-  given-final f (kind k) (t ∷ []) g e d h =
+  -- what such terms give a variable is final
+  pub given-final : (f : Option ℕ) (w : Wildcard) (x : List ℕ) (l : List Tree) (g : Value) → given sig f w l ≡ Some g → default_passes sig (Some x) w l ≡ true → IsFine f l → IsFinal sig g
+  given-final f dot x l g e d h = contributor-final f l g e h
+  given-final f (kind k) x [] g e d h = cc
+  given-final f (kind k) x (t ∷ []) g e d h =
       elim (in_kind sig k t) as (λ b. (if b then Some (one t) else None) ≡ Some g → IsFinal sig g) [
         | true ↦ λ p. let i : one t ≡ g = cc in subst (IsFinal sig) i (normal-passes sig t h.pass.0)
         | false ↦ λ p. cc
       ] e
-  given-final f (kind k) (t ∷ u ∷ l) g e d h = cc
-  given-final f plus [] g e d h = cc
-  given-final f plus (t ∷ l) g e d h = let i : sequence sig f (t ∷ l) ≡ g = cc in subst (IsFinal sig) i (sequence-final f (t ∷ l) h)
-  given-final f star l g e d h = let i : sequence sig f l ≡ g = cc in subst (IsFinal sig) i (sequence-final f l h)
-  given-final f (optional u) [] g e d h = let i : one u ≡ g = cc in subst (IsFinal sig) i d
-  given-final f (optional u) (t ∷ l) g e d h = contributor-final f (t ∷ l) g e h
+  given-final f (kind k) x (t ∷ u ∷ l) g e d h = cc
+  given-final f plus x [] g e d h = cc
+  given-final f plus x (t ∷ l) g e d h = let i : sequence sig f (t ∷ l) ≡ g = cc in subst (IsFinal sig) i (sequence-final f (t ∷ l) h)
+  given-final f star x l g e d h = let i : sequence sig f l ≡ g = cc in subst (IsFinal sig) i (sequence-final f l h)
+  given-final f (optional u) x [] g e d h = let i : one u ≡ g = cc in subst (IsFinal sig) i (normal-passes sig u d)
+  given-final f (optional u) x (t ∷ l) g e d h = contributor-final f (t ∷ l) g e h
+
+  -- the value that a list is taken at has passed as a default
+  pub taken-passes : (f : Option ℕ) (w : Wildcard) (x : List ℕ) (v : Value) (l : List Tree) → IsFinal sig v → WildTakes sig f w v l → default_passes sig (Some x) w l ≡ true
+  taken-passes f dot x v l h e = refl
+  taken-passes f (kind k) x v l h e = refl
+  taken-passes f plus x v l h e = refl
+  taken-passes f star x v l h e = refl
+  taken-passes f (optional d) x v (t ∷ l) h e = refl
+  taken-passes f (optional d) x (one v) [] h (inl e) = absurd (contributor_some f (one v) [] (contribution-found sig f v [] e) refl)
+  taken-passes f (optional d) x (one v) [] h (inr e) = final-passes d (subst (IsNormal sig) e.1 h)
+  taken-passes f (optional d) x (seq m) [] h e = absurd e
+  taken-passes f (optional d) x (bag m) [] h e = absurd e
+
+  -- what an unnamed wildcard takes gives a value, and is in order
+  contributed : (f : Option ℕ) (l : List Tree) → IsContributed sig f l → (is_some (contributor sig f l) ≡ true) × (put (comm_above sig f) l ≡ l)
+  contributed f l h = (ap is_some (contribution-found sig f h.0 l h.2), contribution-in_order f h.0 l h.1 h.2)
+
+  pub unnamed-gives : (f : Option ℕ) (w : Wildcard) (l : List Tree) → UnnamedTakes sig f w l → (is_some (given sig f w l) ≡ true) × (put (comm_above sig f) l ≡ l)
+  unnamed-gives f dot l h = contributed f l h
+  unnamed-gives f (kind k) l h = subst (λ m. (is_some (of_kind sig k m) ≡ true) × (put (comm_above sig f) m ≡ m)) (sym h.1) (rw h.2 refl, put-single (comm_above sig f) h.0)
+  unnamed-gives f plus [] h = absurd (h.1 refl)
+  unnamed-gives f plus (t ∷ l) h = (refl, h.0)
+  unnamed-gives f star l h = (refl, h)
+  unnamed-gives f (optional d) [] h = (refl, put-none (comm_above sig f))
+  unnamed-gives f (optional d) (t ∷ l) (inl h) = contributed f (t ∷ l) h
+  unnamed-gives f (optional d) (t ∷ l) (inr q) = cc
+
+  -- and back, where the terms are fine
+  is_contributed : (f : Option ℕ) (l : List Tree) → is_some (contributor sig f l) ≡ true → IsFine f l → IsContributed sig f l
+  is_contributed f l e h =
+      let g = some_from (contributor sig f l) e in
+      let c = contributor-contributes f l g.0 g.1 in
+      (c.term, subst (IsFinal sig) c.is (contributor-final f l g.0 g.1 h), c.contributes)
+
+  pub unnamed-takes : (f : Option ℕ) (w : Wildcard) (l : List Tree) → is_some (given sig f w l) ≡ true → IsFine f l → UnnamedTakes sig f w l
+  unnamed-takes f dot l e h = is_contributed f l e h
+  unnamed-takes f (kind k) [] e h = cc
+  unnamed-takes f (kind k) (t ∷ []) e h = (t, refl, elim (in_kind sig k t) as (λ b. is_some (if b then Some (one t) else None) ≡ true → b ≡ true) [ true ↦ λ p. refl | false ↦ λ p. p ] e)
+  unnamed-takes f (kind k) (t ∷ u ∷ l) e h = cc
+  unnamed-takes f plus [] e h = cc
+  unnamed-takes f plus (t ∷ l) e h = (h.in_order, λ q. cc)
+  unnamed-takes f star l e h = h.in_order
+  unnamed-takes f (optional d) [] e h = inr refl
+  unnamed-takes f (optional d) (t ∷ l) e h = inl (is_contributed f (t ∷ l) e h)
 
 -- a value agrees with itself
 pub refines-itself : (v : Value) → Refines v v

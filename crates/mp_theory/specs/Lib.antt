@@ -3,7 +3,7 @@ pub mod Pieces
 pub mod Frames
 pub mod Solve
 pub mod Machine
-pub mod Sound
+pub mod NoOptional
 pub mod OneList
 pub mod Trail
 pub mod Cursor

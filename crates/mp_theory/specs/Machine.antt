@@ -2,9 +2,9 @@
 use Rattle.std.specs.Prelude.{ℕ, Bool, true, false, ◌&&◌, not, List, [], ◌∷◌, ◌++◌, filter, flat_map, Option, Some, is_some, if◌then◌else◌}
 use Rattle.mp_term.specs.Order.{tree_cmp}
 use Rattle.mp_term.specs.Tree.{Tree, symbol, app, tree_list}
-use Rattle.mp_term.specs.NormalTest.{has_head, is_single}
+use Rattle.mp_term.specs.NormalTest.{has_head, is_single, passes}
 use Rattle.mp_term.specs.Signature.{Sig, is_one}
-use Rattle.mp_pattern.specs.PatternTree.{Pattern, symbol_pattern, app_pattern, wild_pattern}
+use Rattle.mp_pattern.specs.PatternTree.{Wildcard, optional, Pattern, symbol_pattern, app_pattern, wild_pattern}
 use Rattle.mp_pattern.specs.Size.{pattern_nodes}
 use Rattle.mp_pattern.specs.Value.{same_terms}
 use Rattle.mp_pattern.specs.Variables.{comm_above}
@@ -58,10 +58,15 @@ takes n [] = []
 takes n (e ∷ T) = said n e ++ takes (onward n e) T
 
 module _ (sig : Sig) where
+  -- a variable that is left out has its default as its value, so that this is normal; an unnamed wildcard has no value
+  abbrev pub default_passes : Option (List ℕ) → Wildcard → List Tree → Bool
+  default_passes (Some x) (optional d) [] = passes sig d
+  default_passes _ _ _ = true
+
   -- the node under f may have the entry, whatever was taken before
   abbrev pub reads : Pattern → Option ℕ → Entry → Bool
   reads (symbol_pattern n) f e = not e.collapsed && same_terms e.terms (symbol n ∷ [])
-  reads (wild_pattern w x) f e = not e.collapsed && is_some (given sig f w e.terms)
+  reads (wild_pattern w x) f e = not e.collapsed && (is_some (given sig f w e.terms) && default_passes x w e.terms)
   reads (app_pattern g ps) f e = if e.collapsed then is_single e.terms && (is_one sig g && no_sequence ps) else is_headed g e.terms
 
   -- the entries that may stand next, ascending: of each piece of what is left, those that the node may have

@@ -18,25 +18,25 @@ ghost use Rattle.mp_pattern.specs.Admission.{Rule};
 ghost use Rattle.mp_pattern.specs.Lists.{Pair, IsOneList, IsAllList};
 ghost use Rattle.mp_theory.specs.Search.{In};
 ghost use Rattle.mp_theory.specs.Machine.{HasShape, tables};
-ghost use Rattle.mp_theory.specs.Sound.{IsSound, HasNoOptional};
+ghost use Rattle.mp_theory.specs.NoOptional.{HasNoOptional};
 ghost use Rattle.mp_theory.specs.OneList.{AreItems, Item, item_list, item_substs, one_list};
 ghost use Rattle.mp_theory.specs.Trail.{fitted};
 ghost use Rattle.mp_theory.specs.ValueSizes.{HaveAtMost};
 
-/// What the search finds is the one-list: for a pattern whose defaults are normal and a normal subject, `one_list` of
+/// What the search finds is the one-list: for a normal subject, `one_list` of
 /// `specs/OneList` holds exactly the substitutions that the rule admits, strictly ascending by least take table.
 pub fn one_list_is_the_one_list()
-    ensures { (sig : Sig) (r : Rule) (t : Tree) → IsSound sig r.pattern → IsNormal sig t →
+    ensures { (sig : Sig) (r : Rule) (t : Tree) → IsNormal sig t →
         IsOneList sig r t (one_list sig r t) }
 {}
 
-/// The items that the search finds are those of the rule: for a pattern whose defaults are normal and a normal subject,
+/// The items that the search finds are those of the rule: for a normal subject,
 /// `item_list` of `specs/OneList` has exactly the substitutions that the rule admits, each with its least take table,
 /// strictly ascending by these. Its substitutions are `one_list`.
 pub fn the_item_list_is_the_one_list()
-    ensures items { (sig : Sig) (r : Rule) (t : Tree) → IsSound sig r.pattern → IsNormal sig t →
+    ensures items { (sig : Sig) (r : Rule) (t : Tree) → IsNormal sig t →
         AreItems sig r t (item_list sig r t) }
-    ensures substs { (sig : Sig) (r : Rule) (t : Tree) → IsSound sig r.pattern → IsNormal sig t →
+    ensures substs { (sig : Sig) (r : Rule) (t : Tree) → IsNormal sig t →
         item_substs (item_list sig r t) ≡ one_list sig r t }
 {}
 
@@ -70,12 +70,12 @@ pub fn tables_are_exact()
     ensures ascending { (sig : Sig) (p : Pattern) (t : Tree) → IsStrictlySortedBy table_cmp (tables sig p t) }
 {}
 
-/// At most one substitution fits with a take table, and for a pattern whose defaults are normal and a normal subject
+/// At most one substitution fits with a take table, and for a normal subject
 /// `fitted` of `specs/Trail` finds it: it is None exactly where no substitution fits.
 pub fn a_table_decides_its_substitution()
     ensures unique { (sig : Sig) (p : Pattern) (t : Tree) (T : Table) (r s : Subst) → IsNormal sig t →
         Fits sig p t r T → Fits sig p t s T → r ≡ s }
-    ensures found { (sig : Sig) (p : Pattern) (t : Tree) (s : Subst) (T : Table) → IsSound sig p →
+    ensures found { (sig : Sig) (p : Pattern) (t : Tree) (s : Subst) (T : Table) → 
         IsNormal sig t → Fits sig p t s T ↔ (fitted sig p t T ≡ Some s) }
 {}
 

@@ -10,4 +10,4 @@ returns-clause-unique c = λ sig p t T r s normal h k.
     cc
 
 pub returns-clause-found : goal.returns-clause-found
-returns-clause-found c = λ sig p t s T sound normal. fits-fitted sig p t s T sound normal
+returns-clause-found c = λ sig p t s T normal. fits-fitted sig p t s T normal
