@@ -11,7 +11,7 @@ use Rattle.mp_pattern.specs.Contribution.{if_several, spread, contribution}
 use Rattle.mp_pattern.specs.PatternTree.{Wildcard, wild_pattern}
 use Rattle.mp_pattern.specs.Value.{one, Subst, value_of}
 use Rattle.mp_theory.specs.Frames.{Frame, child}
-use Rattle.mp_theory.specs.Sound.{IsNotOptional}
+use Rattle.mp_theory.specs.NoOptional.{IsNotOptional}
 use Rattle.mp_theory.specs.Solve.{is_alone}
 use Rattle.mp_theory.specs.Machine.{arguments}
 use Rattle.mp_theory.specs.Pieces.{is_sublist, is_piece}

@@ -8,7 +8,6 @@ use Rattle.mp_term.specs.Normal.{IsNormal}
 use Rattle.mp_pattern.specs.PatternTree.{Pattern}
 use Rattle.mp_pattern.specs.Value.{Subst}
 use Rattle.mp_pattern.specs.Fits.{Entry, Table, Fits}
-use Rattle.mp_theory.specs.Sound.{IsSound}
 use Rattle.mp_theory.specs.Frames.{Next, settle, start}
 use Rattle.mp_theory.specs.Machine.{onward, said, takes}
 use Rattle.mp_theory.specs.Solve.{solve}
@@ -24,10 +23,10 @@ module _ (sig : Sig) where
       sym (ap (λ o. has_shape sig n (e ∷ T) && is_some o) none ∙ and-false (has_shape sig n (e ∷ T)))
 
   -- from the start on a table goes on exactly where some substitution fits with it
-  pub goes_on-fits : (p : Pattern) (t : Tree) (T : Table) → IsSound sig p → IsNormal sig t → (goes_on sig (settle (start p t)) [] T ≡ true) ↔ ((s : Subst) × Fits sig p t s T)
-  goes_on-fits p t T d n =
+  pub goes_on-fits : (p : Pattern) (t : Tree) (T : Table) → IsNormal sig t → (goes_on sig (settle (start p t)) [] T ≡ true) ↔ ((s : Subst) × Fits sig p t s T)
+  goes_on-fits p t T n =
       let o : Option Subst = solve sig [] (takes (settle (start p t)) T) in
-      (λ h. let k = found (has_shape sig (settle (start p t)) T) o h in (k.0, (fits-fitted sig p t k.0 T d n).1 k.1), λ h. solved (has_shape sig (settle (start p t)) T) o h.0 ((fits-fitted sig p t h.0 T d n).0 h.1))
+      (λ h. let k = found (has_shape sig (settle (start p t)) T) o h in (k.0, (fits-fitted sig p t k.0 T n).1 k.1), λ h. solved (has_shape sig (settle (start p t)) T) o h.0 ((fits-fitted sig p t h.0 T n).0 h.1))
     where
       found : (b : Bool) (o : Option Subst) → (b && is_some o) ≡ true → (s : Subst) × ((if b then o else None) ≡ Some s)
       found false o h = cc

@@ -6,7 +6,6 @@ pub mod BoundLaws
 pub mod ChoiceLaws
 pub mod LengthLaws
 pub mod WalkLaws
-pub mod SoundLaws
 pub mod FoundLaws
 pub mod NamedOrderLaws
 pub mod FindsLaws
@@ -14,4 +13,3 @@ pub mod ItemLaws
 pub mod ReadyItems
 pub mod ConditionLaws
 pub mod CheckLaws
-pub mod PlanPatternLaws

@@ -10,5 +10,4 @@ pub mod ItemCode
 pub mod Found
 pub mod NamedOrder
 pub mod Finds
-pub mod PlanPattern
 pub mod Check

@@ -5,7 +5,7 @@ ghost use Rattle.mp_term.specs.View.{tree};
 ghost use Rattle.mp_pattern.specs.PatternTree as plain;
 ghost use Rattle.mp_pattern.specs.View.{pattern_tree};
 ghost use Rattle.mp_pattern.specs.Value as values;
-ghost use Rattle.mp_theory.specs.Sound.{IsNotOptional};
+ghost use Rattle.mp_theory.specs.NoOptional.{IsNotOptional};
 ghost use Rattle.mp_one.specs.Lines.{above};
 ghost use Rattle.mp_one.specs.Lists.{trees_of};
 ghost use Rattle.mp_one.specs.Held.{held_value};

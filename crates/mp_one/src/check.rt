@@ -7,7 +7,6 @@ ghost use Rattle.mp_pattern.specs.EntryView.{table_entry};
 ghost use Rattle.mp_pattern.specs.Plan.{IsPlanOf};
 ghost use Rattle.mp_pattern.specs.Value.{Subst};
 ghost use Rattle.mp_pattern.specs.Fits.{Fits};
-ghost use Rattle.mp_theory.specs.Sound.{IsSound};
 ghost use Rattle.mp_theory.specs.Frames as walk;
 ghost use Rattle.mp_theory.specs.Machine as machine;
 ghost use Rattle.mp_one.specs.Stack.{frame_of, stack_frames, child_of, entry_of};
@@ -16,7 +15,6 @@ ghost use Rattle.mp_one.specs.Check.{goes_on};
 
 use crate::bind::{Bound, Extended, extend};
 use crate::choices::allows;
-use crate::plan_pattern::pattern_of;
 use crate::stack::{self, Frame, Next, Place, Stack, entered, root_frame, settle, taken_out};
 use crate::terms::references;
 use mp_pattern::{Entries, Entry, Pattern, Plan};
@@ -125,11 +123,11 @@ fn goes_on_from<'a>(
 
 /// Whether the take table fits the plan's pattern and the subject with some substitution, by `Fits` of mp_pattern's `specs/Fits.antt`.
 ///
-/// The plan is that of a pattern over the signature whose defaults are normal, as `is_sound` tells, and the subject is normal. The table may be
-/// any list of entries. One that is too short or too long, that marks as collapsed what doesn't collapse, or that has a term which the subject
-/// doesn't have there, fits nothing.
+/// The plan is that of a pattern over the signature, and the subject is normal. The table may be any list of entries. One that
+/// is too short or too long, that marks as collapsed what doesn't collapse, that has a term which the subject doesn't have
+/// there, or that leaves out a variable whose default isn't normal, fits nothing.
 ///
-/// `Memory`: memory ran out, and nothing is left. The call searches nothing: it makes the pattern from the plan and takes the entries in turn, up
+/// `Memory`: memory ran out, and nothing is left. The call searches nothing: it takes the entries in turn, up
 /// to the first that can't stand where it stands. At each node it goes a few times over the entry's terms, over what is left of the arguments
 /// there, and over the values so far. So it takes at most some multiple of as many steps as there are nodes times terms, of the table and of the
 /// subject's longest list of arguments, where to compare two terms is one step; a tuple that meets a multiset is sorted besides.
@@ -141,15 +139,10 @@ pub fn check_takes(
     takes: &Entries,
 ) -> Result<bool, Memory>
     requires { IsNormal sig.now (tree subject.now) }
-    ensures { IfOk result (λ b. (p : plain.Pattern) → IsPlanOf sig.now p plan.now → IsSound sig.now p →
+    ensures { IfOk result (λ b. (p : plain.Pattern) → IsPlanOf sig.now p plan.now →
         (IsTrue b ↔ ((s : Subst) × Fits sig.now p (tree subject.now) s takes.now))) }
 {
-    match pattern_of(alloc, plan)? {
-        None => Ok(false),
-        Some(pattern) => {
-            let frame = root_frame(alloc, &pattern, subject)?;
-            let fits = goes_on_from(alloc, sig, frame, takes.as_slice())?;
-            Ok(fits)
-        }
-    }
+    let frame = root_frame(alloc, plan.pattern(), subject)?;
+    let fits = goes_on_from(alloc, sig, frame, takes.as_slice())?;
+    Ok(fits)
 }

@@ -14,15 +14,14 @@ mod lines;
 mod named_order;
 mod path;
 mod pieces;
-mod plan_pattern;
 mod query;
 mod search;
-mod sound;
 mod stack;
 mod terms;
 mod value;
+mod wildcards;
 
 pub use check::check_takes;
 pub use item::{Item, Items};
 pub use search::eager_list;
-pub use sound::{has_small_defaults, is_sound};
+pub use wildcards::has_small_defaults;

@@ -13,10 +13,10 @@ ghost use Rattle.mp_theory.specs.Solve as solve;
 ghost use Rattle.mp_theory.specs.Machine as machine;
 ghost use Rattle.mp_theory.specs.Bounds as bounds;
 ghost use Rattle.mp_one.specs.Lists.{trees_of};
-ghost use Rattle.mp_one.specs.Lines.{above, is_sequence};
+ghost use Rattle.mp_one.specs.Lines.{above};
 
 use mp_pattern::{Pattern, Shape};
-use mp_term::{KindId, OpId, Signature, Term, has_head, in_kind};
+use mp_term::{KindId, Name, OpId, Signature, Term, has_head, in_kind, is_normal};
 
 /// Whether the operation above is commutative.
 pub fn comm_above(sig: &Signature, under: Option<OpId>) -> bool
@@ -82,12 +82,18 @@ fn is_given(sig: &Signature, under: Option<OpId>, shape: &Shape, terms: &[&Term]
     }
 }
 
-fn is_sequence(child: &Pattern) -> bool
-    ensures { result ≡ is_sequence (pattern_tree child.now) }
+// Whether the default may be the value of the variable, where the wildcard takes nothing: it is normal.
+fn default_passes(
+    sig: &Signature,
+    variable: &Option<Name>,
+    shape: &Shape,
+    terms: &[&Term],
+) -> bool
+    ensures { result ≡ machine.default_passes sig.now variable.now (wildcard shape.now) (trees_of terms.now) }
 {
-    match child {
-        Pattern::Wild(Shape::Plus, _) | Pattern::Wild(Shape::Star, _) => true,
-        _ => false,
+    match (variable, shape, terms) {
+        (Some(_), Shape::Opt(default), []) => is_normal(sig, default),
+        _ => true,
     }
 }
 
@@ -96,7 +102,9 @@ fn no_sequence(children: &[Pattern]) -> bool
     ensures { result ≡ fits.no_sequence (patterns (map pattern_tree children.now)) }
 {
     for child in children {
-        if is_sequence(child) {
+        if let Pattern::Wild(shape, _) = child
+            && shape.is_sequence()
+        {
             return false;
         }
     }
@@ -145,7 +153,11 @@ pub fn reads(
 {
     match child {
         Pattern::Sym(name) => !collapsed && is_one_symbol(name.bytes(), terms),
-        Pattern::Wild(shape, _) => !collapsed && is_given(sig, under, shape, terms),
+        Pattern::Wild(shape, variable) => {
+            !collapsed
+                && is_given(sig, under, shape, terms)
+                && default_passes(sig, variable, shape, terms)
+        }
         Pattern::App(op, children) => {
             if collapsed {
                 terms.len() == 1 && sig.is_one(*op) && no_sequence(children.as_slice())

@@ -11,7 +11,6 @@ ghost use Rattle.mp_pattern.specs.Limits.{DefaultsAreSmall};
 ghost use Rattle.mp_pattern.specs.Operands.{HasConditionOver};
 ghost use Rattle.mp_pattern.specs.Variables.{variables};
 ghost use Rattle.mp_pattern.specs.Lists.{IsOneList};
-ghost use Rattle.mp_theory.specs.Sound.{IsSound};
 ghost use Rattle.mp_theory.specs.Frames as walk;
 ghost use Rattle.mp_theory.specs.Machine as machine;
 ghost use Rattle.mp_theory.specs.Trail as trails;
@@ -29,7 +28,7 @@ use crate::found::add_new;
 use crate::item::Items;
 use crate::path::Path;
 use crate::query::Query;
-use crate::sound::decides_table;
+use crate::wildcards::decides_table;
 use crate::stack::{Entry, Frame, Next, Place, Stack, entered, root_frame, settle, taken_out};
 use mp_pattern::{Pattern, Plan, Rule};
 use mp_term::{Memory, Signature, Term};
@@ -133,7 +132,7 @@ fn search_from(
 /// `IsOneList` of mp_pattern's `specs/Lists.antt` describes.
 ///
 /// The plan is that of the rule's pattern; an item has an entry for each of its nodes and a value for each of its variables. The pattern is taken
-/// as it stands, with whatever operations and wildcards it has; its defaults are normal, as `is_sound` tells, and have at most 64 nodes each. The
+/// as it stands, with whatever operations and wildcards it has; its defaults have at most 64 nodes each, as `has_small_defaults` tells. The
 /// rule's condition, if it has one, speaks of the pattern's variables and of ground terms of at most 64 nodes each (`HasConditionOver` of mp_pattern's
 /// `specs/Operands.antt`). The subject is normal and has at most 100,000 nodes.
 ///
@@ -146,7 +145,6 @@ pub fn eager_list(
     subject: &Term,
 ) -> Result<Items, Memory>
     requires plan { IsPlanOf sig.now (pattern_tree rule.now.pattern) plan.now }
-    requires sound { IsSound sig.now (pattern_tree rule.now.pattern) }
     requires small { DefaultsAreSmall (pattern_tree rule.now.pattern) }
     requires condition { HasConditionOver (variables (pattern_tree rule.now.pattern)) (rule_tree rule.now).condition }
     requires normal { IsNormal sig.now (tree subject.now) }
@@ -157,7 +155,7 @@ pub fn eager_list(
     ensures substs { IfOk result (λ is. one.item_substs is ≡ one.one_list sig.now (rule_tree rule.now) (tree subject.now)) }
     ensures exact { IfOk result (λ is. IsOneList sig.now (rule_tree rule.now) (tree subject.now) (one.item_substs is)) }
 {
-    let pattern = &rule.pattern;
+    let pattern = plan.pattern();
     let query = Query {
         sig,
         condition: &rule.condition,

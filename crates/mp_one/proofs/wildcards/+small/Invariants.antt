@@ -1,7 +1,7 @@
 use Rattle.std.proofs.Common.{◌+◌, ◌*◌, map}
 use Rattle.mp_pattern.specs.Size.{pattern_nodes, list_nodes}
 use Rattle.mp_pattern.specs.View.{pattern_tree}
-use Rattle.mp_one.proofs.sound.+small.Given as goal
+use Rattle.mp_one.proofs.wildcards.+small.Given as goal
 
 abbrev pub decreases-has_small_defaults : goal.decreases-has_small_defaults
 decreases-has_small_defaults l = 2 * pattern_nodes (pattern_tree l.pattern.now)
