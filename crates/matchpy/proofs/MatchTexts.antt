@@ -34,7 +34,7 @@ IsJoinedBy-unique P (x ∷ xs) d a b h k = h.2 ∙ ap₂ (λ (front rest : Text)
 
 module _ (sig : Sig) (subject : Subject) (matchable : IsMatchableSubject sig subject) where
   rule_text-is : (rule : Rule) → IsMatchable sig rule → IsRuleText sig subject rule (rule_text sig subject rule)
-  rule_text-is rule m = record { matches = one_list sig rule subject.term; listed = one_list-is sig rule subject.term m.sound matchable.normal; lines = refl }
+  rule_text-is rule m = record { matches = one_list sig rule subject.term; listed = one_list-is sig rule subject.term matchable.normal; lines = refl }
 
   IsRuleText-unique : (rule : Rule) → IsDetermined (IsRuleText sig subject) rule
   IsRuleText-unique rule a b h k =

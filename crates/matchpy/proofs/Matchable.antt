@@ -1,44 +1,23 @@
--- A file that is read can be matched: its rules and its subjects are within the limits, and its subjects and its defaults are normal.
-use Rattle.std.proofs.Common.{◌≡◌, ℕ, false, List, [], ◌∷◌, length, refl, arith}
-use Rattle.std.specs.Prelude.{Option, Some, None, nat_lt}
+-- A file that is read can be matched: its rules and its subjects are within the limits, and its subjects are normal.
+use Rattle.std.proofs.Common.{◌≡◌, false, List, [], ◌∷◌, length, refl, arith}
+use Rattle.std.specs.Prelude.{None, nat_lt}
 use Rattle.std.proofs.lemmas.Bool.Decides.{nat_tests}
 use Rattle.std.specs.List.{AllByRecursion}
 use Rattle.mp_io.specs.Devices.{Text}
 use Rattle.mp_term.specs.Signature.{Sig}
-use Rattle.mp_pattern.specs.PatternTree.{Wildcard, dot, kind, plus, star, optional, Pattern, symbol_pattern, app_pattern, wild_pattern, Patterns, no_patterns, more_patterns}
+use Rattle.mp_pattern.specs.PatternTree.{Pattern}
 use Rattle.mp_pattern.specs.Size.{pattern_nodes}
 use Rattle.mp_pattern.specs.Operands.{HasConditionOver}
 use Rattle.mp_pattern.specs.Variables.{variables}
 use Rattle.mp_pattern.specs.PlanFault.{plan_fault}
 use Rattle.mp_pattern.specs.Admission.{Rule}
-use Rattle.mp_theory.specs.Sound.{AllEach, DefaultNormal, Each}
 use Rattle.mp_text.specs.File.{FileTree, Subject}
 use Rattle.mp_text.specs.Reading.{IsFileOf}
-use Rattle.mp_pattern.specs.Sound.{AllDefaultsAreNormal, DefaultIsNormal, DefaultsAreNormal}
 use Rattle.mp_text.specs.Sound.{IsSoundFile, IsSoundPattern, IsSoundTerm}
 use Rattle.mp_text.proofs.SoundFile.{IsSoundFile-IsFileOf}
 use Rattle.matchpy.specs.Matches.{IsMatchable, IsMatchableFile, IsMatchableSubject}
 
 module _ (sig : Sig) where
-  -- ---- defaults
-
-  DefaultNormal-read : (w : Wildcard) → DefaultIsNormal sig w → DefaultNormal sig w
-  DefaultNormal-read dot h = tt
-  DefaultNormal-read (kind k) h = tt
-  DefaultNormal-read plus h = tt
-  DefaultNormal-read star h = tt
-  DefaultNormal-read (optional t) h = h
-
-  mutual
-    Each-read : (under : Option ℕ) (p : Pattern) → DefaultsAreNormal sig p → Each (λ f w x. DefaultNormal sig w) under p
-    Each-read under (symbol_pattern n) h = tt
-    Each-read under (app_pattern f ps) h = AllEach-read (Some f) ps h
-    Each-read under (wild_pattern w x) h = DefaultNormal-read w h
-
-    AllEach-read : (under : Option ℕ) (ps : Patterns) → AllDefaultsAreNormal sig ps → AllEach (λ f w x. DefaultNormal sig w) under ps
-    AllEach-read under no_patterns h = tt
-    AllEach-read under (more_patterns p ps) h = (Each-read under p h.0, AllEach-read under ps h.1)
-
   -- ---- plans
 
   plan_fault-read : (p : Pattern) → IsSoundPattern sig p → plan_fault p ≡ None
@@ -52,7 +31,7 @@ module _ (sig : Sig) where
   IsMatchable-read : (rs : List Rule) → AllByRecursion (λ r. IsSoundPattern sig r.pattern) rs → AllByRecursion (λ r. HasConditionOver (variables r.pattern) r.condition) rs → AllByRecursion (IsMatchable sig) rs
   IsMatchable-read [] h k = tt
   IsMatchable-read (r ∷ rs) h k = (
-    record { sound = record { defaults = Each-read None r.pattern h.0.defaults }; small = h.0.small_defaults; condition = k.0; planned = plan_fault-read r.pattern h.0 },
+    record { small = h.0.small_defaults; condition = k.0; planned = plan_fault-read r.pattern h.0 },
     IsMatchable-read rs h.1 k.1,
   )
 

@@ -12,7 +12,6 @@ use Rattle.mp_pattern.specs.Operands.{HasConditionOver}
 use Rattle.mp_pattern.specs.Admission.{Rule}
 use Rattle.mp_pattern.specs.Lists.{IsOneList}
 use Rattle.mp_pattern.specs.PlanFault.{plan_fault}
-use Rattle.mp_theory.specs.Sound.{IsSound}
 use Rattle.mp_theory.specs.OneList.{one_list}
 use Rattle.mp_text.specs.File.{FileTree, Subject}
 use Rattle.mp_print.specs.Printing.{subst_text}
@@ -57,9 +56,8 @@ has_some (b ∷ text) = true
 
 -- ---- what is asked of a file that is matched
 
--- the rule's defaults are normal and small, its condition speaks of the pattern's variables and of small ground terms, and the pattern has a plan
+-- the rule's defaults are small, its condition speaks of the pattern's variables and of small ground terms, and the pattern has a plan
 pub record IsMatchable (sig : Sig) (rule : Rule) : Type 0 where
-  pub sound : IsSound sig rule.pattern
   pub small : DefaultsAreSmall rule.pattern
   pub condition : HasConditionOver (variables rule.pattern) rule.condition
   pub planned : plan_fault rule.pattern ≡ None

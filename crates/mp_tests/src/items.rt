@@ -1,7 +1,7 @@
 // The items of the one-list: each substitution with its least take table.
 use crate::case::halves;
 use mp_io::{MemorySink, Sink, put};
-use mp_one::{Item, Items, eager_list, has_small_defaults, is_sound};
+use mp_one::{Item, Items, eager_list, has_small_defaults};
 use mp_pattern::{Entry, Plan, Rule};
 use mp_term::{Signature, Term, is_normal, node_count};
 use mp_text::{File, read_file, write_subst, write_term};
@@ -52,7 +52,7 @@ fn write_items(sig: &Signature, items: &Items, sink: &mut MemorySink) -> bool {
 
 // What the rule admits on the subject, if they are as `eager_list` asks and there is memory.
 fn items(alloc: Global, sig: &Signature, rule: &Rule, subject: &Term) -> Option<Items> {
-    if !is_sound(sig, &rule.pattern) || !has_small_defaults(&rule.pattern) {
+    if !has_small_defaults(&rule.pattern) {
         return None;
     }
     if rule.condition.is_some() || !is_normal(sig, subject) || node_count(subject) > 100_000 {

@@ -1,8 +1,8 @@
 // Take tables that fit, and others.
-use crate::reading::{pattern, plan, signature, term};
-use mp_one::{check_takes, is_sound};
-use mp_pattern::{Entries, Entry, Plan};
-use mp_term::{Signature, Term, Terms, is_normal};
+use crate::reading::{plan, signature, term};
+use mp_one::check_takes;
+use mp_pattern::{Entries, Entry, Pattern, Patterns, Plan, Shape};
+use mp_term::{Name, OpId, Signature, Term, Terms, is_normal};
 use std::alloc::Global;
 use std::test::Fail;
 
@@ -80,14 +80,6 @@ fn fits(
     }
 }
 
-// The plan of the text's pattern, whose defaults are normal.
-fn sound_plan(alloc: Global, sig: &Signature, text: &str) -> Result<Plan, Fail> {
-    if !is_sound(sig, &pattern(alloc, sig, text)?) {
-        return Err("a default isn't normal".into());
-    }
-    plan(alloc, sig, text)
-}
-
 // Whether the table of the text fits.
 fn table_fits(
     alloc: Global,
@@ -117,7 +109,7 @@ fn line_fits(alloc: Global, sig: &Signature, line: &str) -> Result<bool, Fail> {
     let mut parts = line.split('|');
     match (parts.next(), parts.next(), parts.next()) {
         (Some(pattern), Some(subject), Some(takes)) => {
-            let plan = sound_plan(alloc, sig, pattern)?;
+            let plan = plan(alloc, sig, pattern)?;
             texts_fit(alloc, sig, &plan, subject, takes)
         }
         _ => Err("the line has fewer than three parts".into()),
@@ -145,5 +137,42 @@ fn a_table_fits_where_each_node_obeys_its_line(rt: HostRuntime) -> Result<(), Fa
     for (table, fits) in [(FITTING, true), (OTHERS, false)] {
         assert_eq!(rt; wrong_line(rt.alloc(), &sig, table, fits)?, None);
     }
+    Ok(())
+}
+
+// An application of the operation to one term.
+fn of_one(alloc: Global, op: OpId, term: Term) -> Result<Term, Fail> {
+    let mut args = Terms::new(alloc);
+    args.push(term)?;
+    Ok(Term::App(op, args))
+}
+
+// `u(x_:DEFAULT, y_)`, or without the name of the first variable, where the default is `p(p(a))`, which isn't normal.
+fn with_default(alloc: Global, sig: &Signature, name: Option<Name>) -> Result<Pattern, Fail> {
+    let inner = of_one(alloc, OpId(3), term(alloc, sig, "a")?)?;
+    let default = of_one(alloc, OpId(3), inner)?;
+    let mut args = Patterns::new(alloc);
+    args.push(Pattern::Wild(Shape::Opt(default), name))?;
+    args.push(Pattern::Wild(Shape::Dot, None))?;
+    Ok(Pattern::App(OpId(4), args))
+}
+
+// Whether the table that leaves out the first variable fits.
+fn left_out_fits(alloc: Global, sig: &Signature, name: Option<Name>) -> Result<bool, Fail> {
+    let pattern = with_default(alloc, sig, name)?;
+    match Plan::compile(alloc, sig, &pattern) {
+        Ok(plan) => texts_fit(alloc, sig, &plan, "a", "a!;;a"),
+        Err(_) => Err("the pattern has no plan".into()),
+    }
+}
+
+#[test]
+fn a_variable_is_left_out_where_its_default_is_normal(rt: HostRuntime) -> Result<(), Fail> {
+    let sig = signature(rt.alloc(), DECLARED)?;
+    match Name::new(rt.alloc(), b"x") {
+        Ok(name) => assert!(rt; !left_out_fits(rt.alloc(), &sig, Some(name))?),
+        Err(_) => return Err("the name has a fault".into()),
+    }
+    assert!(rt; left_out_fits(rt.alloc(), &sig, None)?);
     Ok(())
 }
