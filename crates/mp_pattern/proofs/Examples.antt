@@ -9,7 +9,8 @@ use Rattle.mp_term.specs.Sorting.{sorted}
 use Rattle.mp_term.specs.Normal.{normal}
 use Rattle.mp_pattern.specs.PatternTree.{dot, kind, plus, star, optional, Pattern, symbol_pattern, patterns}
 use Rattle.mp_pattern.specs.TemplateTree.{app_template, variable_template, templates}
-use Rattle.mp_pattern.specs.CondTree.{var, ground, fixed, count, size, lt, ge, amounts, same, less, free, of_kind, headed, negation, all_of, any_of, conds}
+use Rattle.mp_pattern.specs.declared.condition.Sense.TheVariants.{Lt, Ge}
+use Rattle.mp_pattern.specs.CondTree.{var, ground, fixed, count, size, amounts, same, less, free, of_kind, headed, negation, all_of, any_of, conds}
 use Rattle.mp_pattern.specs.Order.{pattern_cmp}
 use Rattle.mp_pattern.specs.Normal.{normal_pattern}
 use Rattle.mp_pattern.specs.Value.{one, seq, bag, one_form, seq_form, bag_form, Subst, merge}
@@ -266,7 +267,7 @@ unfolding three
 tuple_is_not_less = refl
 
 -- count is the number of terms, size their nodes together
-two_terms_of_three_nodes : holds sig (x→ (seq (a ∷ term f (b ∷ []) ∷ [])) ∷ []) (all_of (conds (amounts (count (var (codes "x"))) lt (fixed 3) ∷ amounts (size (var (codes "x"))) ge (fixed 3) ∷ []))) ≡ true
+two_terms_of_three_nodes : holds sig (x→ (seq (a ∷ term f (b ∷ []) ∷ [])) ∷ []) (all_of (conds (amounts (count (var (codes "x"))) Lt (fixed 3) ∷ amounts (size (var (codes "x"))) Ge (fixed 3) ∷ []))) ≡ true
 two_terms_of_three_nodes = refl
 
 some_part_is_enough : holds sig three (any_of (conds (same (var (codes "z")) (ground b) ∷ negation (same (var (codes "z")) (ground b)) ∷ []))) ≡ true

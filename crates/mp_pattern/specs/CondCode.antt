@@ -4,7 +4,9 @@ use Rattle.std.proofs.Common.{◌∙◌, ap, inl, inr, append-nil}
 use Rattle.std.specs.Coded.{Coded, code_by, coded×, coded⊎, coded_ℕ, coded_list}
 use Rattle.mp_term.specs.Tree.{Tree}
 use Rattle.mp_term.specs.Code.{Token, step, parse, first, coded_tree}
-use Rattle.mp_pattern.specs.CondTree.{Operand, var, ground, Amount, fixed, count, size, Sense, lt, le, gt, ge, eq, ne, Cond, amounts, same, less, free, of_kind, headed, negation, all_of, any_of, Conds, no_conds, more_conds, cond_list, conds}
+use Rattle.mp_pattern.specs.declared.condition.Sense.{Sense}
+use Rattle.mp_pattern.specs.declared.condition.Sense.TheVariants.{Lt, Le, Gt, Ge, Eq, Ne}
+use Rattle.mp_pattern.specs.CondTree.{Operand, var, ground, Amount, fixed, count, size, Cond, amounts, same, less, free, of_kind, headed, negation, all_of, any_of, Conds, no_conds, more_conds, cond_list, conds}
 
 -- an operand as a name or a term
 abbrev pub from_operand : Operand → List ℕ ⊎ Tree
@@ -49,30 +51,30 @@ coded_amount = code_by (ℕ ⊎ (Operand ⊎ Operand)) (coded⊎ coded_ℕ (code
 
 -- a sense as a number from 0
 abbrev pub from_sense : Sense → ℕ
-from_sense lt = 0
-from_sense le = 1
-from_sense gt = 2
-from_sense ge = 3
-from_sense eq = 4
-from_sense ne = 5
+from_sense Lt = 0
+from_sense Le = 1
+from_sense Gt = 2
+from_sense Ge = 3
+from_sense Eq = 4
+from_sense Ne = 5
 
 -- and back
 abbrev pub to_sense : ℕ → Sense
-to_sense zero = lt
-to_sense (suc zero) = le
-to_sense (suc (suc zero)) = gt
-to_sense (suc (suc (suc zero))) = ge
-to_sense (suc (suc (suc (suc zero)))) = eq
-to_sense (suc (suc (suc (suc (suc _))))) = ne
+to_sense zero = Lt
+to_sense (suc zero) = Le
+to_sense (suc (suc zero)) = Gt
+to_sense (suc (suc (suc zero))) = Ge
+to_sense (suc (suc (suc (suc zero)))) = Eq
+to_sense (suc (suc (suc (suc (suc _))))) = Ne
 
 -- the second undoes the first
 pub to_sense-from_sense : (c : Sense) → to_sense (from_sense c) ≡ c
-to_sense-from_sense lt = refl
-to_sense-from_sense le = refl
-to_sense-from_sense gt = refl
-to_sense-from_sense ge = refl
-to_sense-from_sense eq = refl
-to_sense-from_sense ne = refl
+to_sense-from_sense Lt = refl
+to_sense-from_sense Le = refl
+to_sense-from_sense Gt = refl
+to_sense-from_sense Ge = refl
+to_sense-from_sense Eq = refl
+to_sense-from_sense Ne = refl
 
 -- the code of senses
 abbrev pub coded_sense : Coded Sense

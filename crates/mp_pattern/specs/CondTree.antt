@@ -1,6 +1,7 @@
 -- The plain trees that contracts see in place of conditions.
 use Rattle.std.specs.Prelude.{ℕ, List, [], ◌∷◌}
 use Rattle.mp_term.specs.Tree.{Tree}
+use Rattle.mp_pattern.specs.declared.condition.Sense.{Sense}
 
 -- a variable by its name, or a ground term
 pub data Operand : Type 0 where
@@ -12,15 +13,6 @@ pub data Amount : Type 0 where
   fixed : ℕ → Amount
   count : Operand → Amount
   size : Operand → Amount
-
--- how two amounts are compared: `<`, `<=`, `>`, `>=`, `==` or `!=`
-pub data Sense : Type 0 where
-  lt : Sense
-  le : Sense
-  gt : Sense
-  ge : Sense
-  eq : Sense
-  ne : Sense
 
 mutual
   -- an atom: two amounts compared, two operands that are the same, in order, or free of one another, an operand of a kind, or one headed by an operation; or a negation, a conjunction or a disjunction

@@ -6,8 +6,6 @@ use Rattle.mp_pattern.specs.declared.condition.Operand.{Operand}
 use Rattle.mp_pattern.specs.declared.condition.Operand.TheVariants.{Var, Ground}
 use Rattle.mp_pattern.specs.declared.condition.Amount.{Amount}
 use Rattle.mp_pattern.specs.declared.condition.Amount.TheVariants.{Fixed, Count, Size}
-use Rattle.mp_pattern.specs.declared.condition.Sense.{Sense}
-use Rattle.mp_pattern.specs.declared.condition.Sense.TheVariants.{Lt, Le, Gt, Ge, Eq, Ne}
 use Rattle.mp_pattern.specs.declared.condition.Cond.{Cond}
 use Rattle.mp_pattern.specs.declared.condition.Cond.TheVariants.{Amounts, Same, Less, Free, OfKind, Headed, Not, All, Any}
 
@@ -22,18 +20,9 @@ amount (Fixed n) = plain.fixed n
 amount (Count a) = plain.count (operand a)
 amount (Size a) = plain.size (operand a)
 
--- a sense
-abbrev pub sense : Sense → plain.Sense
-sense Lt = plain.lt
-sense Le = plain.le
-sense Gt = plain.gt
-sense Ge = plain.ge
-sense Eq = plain.eq
-sense Ne = plain.ne
-
 -- a condition with the numbers of its kinds and operations and the trees of its parts
 abbrev pub cond_tree : Cond → plain.Cond
-cond_tree (Amounts m c n) = plain.amounts (amount m) (sense c) (amount n)
+cond_tree (Amounts m c n) = plain.amounts (amount m) c (amount n)
 cond_tree (Same a b) = plain.same (operand a) (operand b)
 cond_tree (Less a b) = plain.less (operand a) (operand b)
 cond_tree (Free a b) = plain.free (operand a) (operand b)

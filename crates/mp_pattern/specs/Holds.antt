@@ -8,7 +8,9 @@ use Rattle.mp_term.specs.Size.{node_count}
 use Rattle.mp_term.specs.Sorting.{sorted}
 use Rattle.mp_term.specs.Signature.{Sig, in_kind}
 use Rattle.mp_term.specs.NormalTest.{has_head}
-use Rattle.mp_pattern.specs.CondTree.{Operand, var, ground, Amount, fixed, count, size, Sense, lt, le, gt, ge, eq, ne, Cond, amounts, same, less, free, of_kind, headed, negation, all_of, any_of, Conds, no_conds, more_conds}
+use Rattle.mp_pattern.specs.declared.condition.Sense.{Sense}
+use Rattle.mp_pattern.specs.declared.condition.Sense.TheVariants.{Lt, Le, Gt, Ge, Eq, Ne}
+use Rattle.mp_pattern.specs.CondTree.{Operand, var, ground, Amount, fixed, count, size, Cond, amounts, same, less, free, of_kind, headed, negation, all_of, any_of, Conds, no_conds, more_conds}
 use Rattle.mp_pattern.specs.Value.{Value, one, bag, terms_of, Subst, value_of, same_terms}
 
 -- the value of an operand: that of the variable, or the ground term
@@ -43,12 +45,12 @@ amount_of s (size a) = sum_by node_count (list_of s a)
 
 -- the comparison of two numbers
 abbrev pub compares : Sense → ℕ → ℕ → Bool
-compares lt m n = nat_lt m n
-compares le m n = nat_le m n
-compares gt m n = nat_lt n m
-compares ge m n = nat_le n m
-compares eq m n = nat_eq m n
-compares ne m n = not (nat_eq m n)
+compares Lt m n = nat_lt m n
+compares Le m n = nat_le m n
+compares Gt m n = nat_lt n m
+compares Ge m n = nat_le n m
+compares Eq m n = nat_eq m n
+compares Ne m n = not (nat_eq m n)
 
 -- the terms are equal
 abbrev pub same_term : Tree → Tree → Bool

@@ -21,7 +21,7 @@ use crate::outline::{Occurrence, Outline, first_clash, node_count, outline_of};
 use crate::pattern::{Pattern, Shape};
 use crate::plan::{Label, Node, Plan, Variable};
 use mp_term::{Memory, Name, OpId, Signature};
-use std::alloc::Global;
+use std::alloc::{AllocError, Global};
 use thiserror::Error;
 
 /// Why a pattern has no plan.
@@ -42,6 +42,26 @@ pub enum PlanFault {
     /// There was no memory.
     #[error("want of memory")]
     Memory,
+}
+
+impl From<Memory> for PlanFault {
+    ghost use Rattle.mp_pattern.specs.declared.compile.PlanFault.TheVariants as fault;
+
+    ghost from_gives = { λ _ e. e ≡ fault.Memory };
+
+    fn from(_memory: Memory) -> PlanFault {
+        PlanFault::Memory
+    }
+}
+
+impl From<AllocError> for PlanFault {
+    ghost use Rattle.mp_pattern.specs.declared.compile.PlanFault.TheVariants as fault;
+
+    ghost from_gives = { λ _ e. e ≡ fault.Memory };
+
+    fn from(_error: AllocError) -> PlanFault {
+        PlanFault::Memory
+    }
 }
 
 // The place of the name among the names, from 0.
@@ -75,14 +95,9 @@ fn variable_number(names: &[&Name], variable: &Option<Name>) -> Option<u32>
 fn push_node(out: &mut Vec<Node>, what: Label, end: u32, parent: Option<u32>) -> Result<(), Memory>
     ensures { OnOk result (map node out.new.items ≡ map node out.old.items ++ record { label = label what; end = end; parent = parent } ∷ []) }
 {
-    match out.push(Node {
-        label: what,
-        end,
-        parent,
-    }) {
-        Ok(()) => Ok(()),
-        Err(_) => Err(Memory),
-    }
+    let label = what;
+    out.push(Node { label, end, parent })?;
+    Ok(())
 }
 
 // Adds the nodes of the pattern in preorder, the root with this parent, as the names number its variables.
@@ -118,8 +133,8 @@ fn push_nodes(
     }
 }
 
-// The operation is commutative; at the root there is none.
-fn is_comm_above(sig: &Signature, under: Option<OpId>) -> bool
+/// The operation above is commutative (`comm_above` of `specs/Variables.antt`); at the root there is none. It takes no memory.
+pub fn is_comm_above(sig: &Signature, under: Option<OpId>) -> bool
     ensures { result ≡ comm_above sig.now (option_map (λ f. f.0) under) }
 {
     match under {
@@ -181,9 +196,7 @@ fn variables_of(
     for name in names {
         let form = form_among(sig, occurrences, name);
         let name = name.copy(alloc)?;
-        if variables.push(Variable { name, form }).is_err() {
-            return Err(Memory);
-        }
+        variables.push(Variable { name, form })?;
     }
     Ok(variables)
 }
@@ -242,16 +255,12 @@ fn compiled(alloc: Global, sig: &Signature, pattern: &Pattern) -> Result<Plan, P
     if MAX_PATTERN_NODES < count {
         return Err(PlanFault::TooManyNodes { count });
     }
-    let Ok(outline) = outline_of(alloc, pattern) else {
-        return Err(PlanFault::Memory);
-    };
+    let outline = outline_of(alloc, pattern)?;
     if let Some(fault) = fault(&outline) {
         return Err(fault);
     }
-    match build(alloc, sig, pattern, &outline) {
-        Ok(plan) => Ok(plan),
-        Err(Memory) => Err(PlanFault::Memory),
-    }
+    let plan = build(alloc, sig, pattern, &outline)?;
+    Ok(plan)
 }
 
 impl Plan {
@@ -272,7 +281,6 @@ impl Plan {
         ensures vars { (n : ℕ) → OrMemory result ((result ≡ Err (PlanFault.TooManyVars n)) ↔ (plan_fault (pattern_tree pattern.now) ≡ Some (PlanFault.TooManyVars n))) }
         ensures clash { (n : ℕ) → OrMemory result ((result ≡ Err (PlanFault.KindClash n)) ↔ (plan_fault (pattern_tree pattern.now) ≡ Some (PlanFault.KindClash n))) }
     {
-        let plan = compiled(alloc, sig, pattern);
-        plan
+        compiled(alloc, sig, pattern)
     }
 }

@@ -95,10 +95,8 @@ impl BoxedCond {
     pub fn new(alloc: Global, cond: Cond) -> Result<Self, Memory>
         ensures { IfOk result (λ b. b ≡ cond_tree cond) }
     {
-        match Box::new(alloc, cond) {
-            Ok(cond) => Ok(BoxedCond { cond }),
-            Err(_) => Err(Memory),
-        }
+        let cond = Box::new(alloc, cond)?;
+        Ok(BoxedCond { cond })
     }
 
     /// The condition in the box.
@@ -154,10 +152,8 @@ impl Conds {
         ensures ok { OnOk result (self.new ≡ self.old ++ cond_tree item ∷ []) }
         ensures err { OnErr result (self.new ≡ self.old) }
     {
-        match self.items.push(item) {
-            Ok(()) => Ok(()),
-            Err(_) => Err(Memory),
-        }
+        self.items.push(item)?;
+        Ok(())
     }
 
     /// How many conditions there are.

@@ -51,10 +51,8 @@ impl Entries {
         ensures ok { OnOk result (self.new ≡ self.old ++ table_entry item ∷ []) }
         ensures err { OnErr result (self.new ≡ self.old) }
     {
-        match self.items.push(item) {
-            Ok(()) => Ok(()),
-            Err(_) => Err(Memory),
-        }
+        self.items.push(item)?;
+        Ok(())
     }
 
     /// How many entries there are.

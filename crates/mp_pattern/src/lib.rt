@@ -17,7 +17,7 @@ mod rule;
 mod syntactic;
 mod template;
 
-pub use compile::PlanFault;
+pub use compile::{PlanFault, is_comm_above};
 pub use condition::{Amount, BoxedCond, Cond, Conds, Operand, Sense};
 pub use copy::{copy_cond, copy_pattern, copy_shape};
 pub use entry::{Entries, Entry, Form};

@@ -28,10 +28,8 @@ fn push_parts(out: &mut Patterns, sig: &Signature, op: OpId, pattern: Pattern) -
             if inner.0 != op.0 || !sig.is_assoc(op) {
                 return out.push(Pattern::App(inner, args));
             }
-            match out.items.append(&mut args.items) {
-                Ok(()) => Ok(()),
-                Err(_) => Err(Memory),
-            }
+            out.items.append(&mut args.items)?;
+            Ok(())
         }
     }
 }

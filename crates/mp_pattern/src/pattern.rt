@@ -116,10 +116,8 @@ impl Patterns {
         ensures ok { OnOk result (self.new ≡ self.old ++ pattern_tree item ∷ []) }
         ensures err { OnErr result (self.new ≡ self.old) }
     {
-        match self.items.push(item) {
-            Ok(()) => Ok(()),
-            Err(_) => Err(Memory),
-        }
+        self.items.push(item)?;
+        Ok(())
     }
 
     /// How many patterns there are.

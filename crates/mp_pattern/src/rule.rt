@@ -53,10 +53,8 @@ impl Rules {
         ensures ok { OnOk result (self.new ≡ self.old ++ rule_tree item ∷ []) }
         ensures err { OnErr result (self.new ≡ self.old) }
     {
-        match self.items.push(item) {
-            Ok(()) => Ok(()),
-            Err(_) => Err(Memory),
-        }
+        self.items.push(item)?;
+        Ok(())
     }
 
     /// How many rules there are.

@@ -64,10 +64,8 @@ impl Templates {
         ensures ok { OnOk result (self.new ≡ self.old ++ template_tree item ∷ []) }
         ensures err { OnErr result (self.new ≡ self.old) }
     {
-        match self.items.push(item) {
-            Ok(()) => Ok(()),
-            Err(_) => Err(Memory),
-        }
+        self.items.push(item)?;
+        Ok(())
     }
 
     /// How many templates there are.
