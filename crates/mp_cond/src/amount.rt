@@ -3,7 +3,7 @@ ghost use Rattle.std.specs.Prelude.{◌≡◌, ◌-◌, ◌^◌, map, min};
 ghost use Rattle.std.specs.List.{AllByRecursion};
 ghost use Rattle.mp_term.specs.View.{tree};
 ghost use Rattle.mp_term.specs.Size.{all_nodes};
-ghost use Rattle.mp_pattern.specs.CondView.{amount, sense};
+ghost use Rattle.mp_pattern.specs.CondView.{amount};
 ghost use Rattle.mp_pattern.specs.Holds.{amount_of, compares};
 ghost use Rattle.mp_pattern.specs.Operands.{amount_operands};
 ghost use Rattle.mp_subst.specs.View.{subst_of};
@@ -39,7 +39,7 @@ pub(crate) fn total_nodes(terms: &[Term]) -> u64
 
 // Whether the numbers compare so.
 pub(crate) fn compares(m: u64, by: Sense, n: u64) -> bool
-    ensures { result ≡ compares (sense by) m n }
+    ensures { result ≡ compares by m n }
 {
     match by {
         Sense::Lt => m < n,

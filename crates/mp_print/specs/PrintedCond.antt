@@ -3,19 +3,21 @@ use Rattle.std.specs.Prelude.{ℕ, List, [], ◌∷◌, ◌++◌, slice_get, nat
 use Rattle.std.specs.Option.{option_map_or}
 use Rattle.mp_io.specs.Devices.{Text}
 use Rattle.mp_term.specs.Signature.{Sig}
-use Rattle.mp_pattern.specs.CondTree.{Operand, var, ground, Amount, fixed, count, size, Sense, lt, le, gt, ge, eq, ne, Cond, amounts, same, less, free, of_kind, headed, negation, all_of, any_of, Conds, no_conds, more_conds}
+use Rattle.mp_pattern.specs.declared.condition.Sense.{Sense}
+use Rattle.mp_pattern.specs.declared.condition.Sense.TheVariants.{Lt, Le, Gt, Ge, Eq, Ne}
+use Rattle.mp_pattern.specs.CondTree.{Operand, var, ground, Amount, fixed, count, size, Cond, amounts, same, less, free, of_kind, headed, negation, all_of, any_of, Conds, no_conds, more_conds}
 use Rattle.mp_print.specs.Printing.{separated, kind_name_text, term_text}
 
 -- ---- atoms
 
 -- the sign of a comparison
 abbrev pub sense_text : Sense → Text
-sense_text lt = codes "<"
-sense_text le = codes "<="
-sense_text gt = codes ">"
-sense_text ge = codes ">="
-sense_text eq = codes "=="
-sense_text ne = codes "!="
+sense_text Lt = codes "<"
+sense_text Le = codes "<="
+sense_text Gt = codes ">"
+sense_text Ge = codes ">="
+sense_text Eq = codes "=="
+sense_text Ne = codes "!="
 
 -- WORD(A)
 abbrev pub measure_text : Text → Text → Text

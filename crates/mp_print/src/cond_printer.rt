@@ -2,7 +2,7 @@
 
 ghost use Rattle.std.specs.Prelude.{◌≡◌, ◌++◌, map, codes};
 ghost use Rattle.mp_io.specs.Printing.{Prints};
-ghost use Rattle.mp_pattern.specs.CondView.{operand, amount, sense, cond_tree};
+ghost use Rattle.mp_pattern.specs.CondView.{operand, amount, cond_tree};
 ghost use Rattle.mp_print.specs.Printing.{separated, kind_name_text};
 ghost use Rattle.mp_print.specs.PrintedCond.{sense_text, measure_text, relation_text, operand_text, amount_text, comparison_text, op_name_text, tightness, part_text, cond_text};
 
@@ -132,7 +132,7 @@ fn write_comparison<K: Sink>(
     sink: &mut K,
 ) -> Result<(), Failed>
     ensures { Prints (K.contents sink.old) (K.contents sink.new) (K.faults sink.old) (K.faults sink.new)
-        (comparison_text sig.now (amount m.now) (sense by) (amount n.now)) result }
+        (comparison_text sig.now (amount m.now) by (amount n.now)) result }
 {
     write_amount(sig, m, sink)?;
     put_all(sink, &[b" ".as_slice(), sense_sign(by), b" "])?;
@@ -191,7 +191,7 @@ fn write_operand<K: Sink>(sig: &Signature, a: &Operand, sink: &mut K) -> Result<
 
 /// The sign of a comparison.
 fn sense_sign(by: Sense) -> &'static [u8]
-    ensures { result.now ≡ sense_text (sense by) }
+    ensures { result.now ≡ sense_text by }
 {
     match by {
         Sense::Lt => b"<",

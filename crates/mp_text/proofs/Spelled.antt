@@ -8,6 +8,8 @@ use Rattle.mp_term.specs.declared.signature.OpDecl.{OpDecl}
 use Rattle.mp_term.specs.Tree as term
 use Rattle.mp_term.specs.Signature.{Sig, Kind}
 use Rattle.mp_pattern.specs.PatternTree as pattern
+use Rattle.mp_pattern.specs.declared.condition.Sense as compared
+use Rattle.mp_pattern.specs.declared.condition.Sense.TheVariants as way
 use Rattle.mp_pattern.specs.CondTree as cond
 use Rattle.mp_pattern.specs.Admission.{Rule}
 use Rattle.mp_syntax.specs.declared.condition_tree.Measure.TheVariants.{Count, Size}
@@ -99,18 +101,18 @@ amount_text-spelling sig (cond.fixed n) = refl
 amount_text-spelling sig (cond.count a) = ap (measure_text (codes "count")) (operand_text-spelling sig a)
 amount_text-spelling sig (cond.size a) = ap (measure_text (codes "size")) (operand_text-spelling sig a)
 
-sense_text-spelling : (c : cond.Sense) → sense_text c ≡ sense_sign (sense_spelling c)
-sense_text-spelling cond.lt = refl
-sense_text-spelling cond.le = refl
-sense_text-spelling cond.gt = refl
-sense_text-spelling cond.ge = refl
-sense_text-spelling cond.eq = refl
-sense_text-spelling cond.ne = refl
+sense_text-spelling : (c : compared.Sense) → sense_text c ≡ sense_sign (sense_spelling c)
+sense_text-spelling way.Lt = refl
+sense_text-spelling way.Le = refl
+sense_text-spelling way.Gt = refl
+sense_text-spelling way.Ge = refl
+sense_text-spelling way.Eq = refl
+sense_text-spelling way.Ne = refl
 
 relation_text-spelling : (sig : Sig) (word : Text) (a b : cond.Operand) → relation_text word (operand_text sig a) (operand_text sig b) ≡ relation_text word (tree_text (operand_spelling sig a)) (tree_text (operand_spelling sig b))
 relation_text-spelling sig word a b = λ i. relation_text word (operand_text-spelling sig a i) (operand_text-spelling sig b i)
 
-comparison_text-spelling : (sig : Sig) (m : cond.Amount) (c : cond.Sense) (n : cond.Amount) → comparison_text sig m c n ≡ literal_text (literal_spelling sig (cond.amounts m c n))
+comparison_text-spelling : (sig : Sig) (m : cond.Amount) (c : compared.Sense) (n : cond.Amount) → comparison_text sig m c n ≡ literal_text (literal_spelling sig (cond.amounts m c n))
 comparison_text-spelling sig m c n = λ i. amount_text-spelling sig m i ++ (codes " " ++ (sense_text-spelling c i ++ (codes " " ++ amount_text-spelling sig n i)))
 
 property_text-spelling : (sig : Sig) (word : Text) (a : cond.Operand) (name : Text) → relation_text word (operand_text sig a) name ≡ relation_text word (tree_text (operand_spelling sig a)) name

@@ -2,6 +2,8 @@
 use Rattle.std.specs.Prelude.{ℕ, Bool, true, false, List, [], ◌∷◌, ◌++◌, Option, option_map}
 use Rattle.mp_term.specs.Signature.{Sig}
 use Rattle.mp_term.specs.Normal.{normal}
+use Rattle.mp_pattern.specs.declared.condition.Sense as compared
+use Rattle.mp_pattern.specs.declared.condition.Sense.TheVariants as way
 use Rattle.mp_pattern.specs.CondTree as cond
 use Rattle.mp_syntax.specs.declared.condition_tree.Measure.{Measure}
 use Rattle.mp_syntax.specs.declared.condition_tree.Measure.TheVariants.{Count, Size}
@@ -50,13 +52,13 @@ measured Count a = cond.count a
 measured Size a = cond.size a
 
 -- < <= > >= == !=
-abbrev pub sense_of : Sense → cond.Sense
-sense_of Lt = cond.lt
-sense_of Le = cond.le
-sense_of Gt = cond.gt
-sense_of Ge = cond.ge
-sense_of Eq = cond.eq
-sense_of Ne = cond.ne
+abbrev pub sense_of : Sense → compared.Sense
+sense_of Lt = way.Lt
+sense_of Le = way.Le
+sense_of Gt = way.Gt
+sense_of Ge = way.Ge
+sense_of Eq = way.Eq
+sense_of Ne = way.Ne
 
 -- same(OPERAND, OPERAND), less(OPERAND, OPERAND) or free(OPERAND, OPERAND)
 abbrev pub related : Relation → cond.Operand → cond.Operand → cond.Cond

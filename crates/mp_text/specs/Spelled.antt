@@ -5,6 +5,8 @@ use Rattle.mp_term.specs.declared.signature.OpDecl.{OpDecl}
 use Rattle.mp_term.specs.Tree as term
 use Rattle.mp_term.specs.Signature.{Sig, Kind}
 use Rattle.mp_pattern.specs.PatternTree as pattern
+use Rattle.mp_pattern.specs.declared.condition.Sense as compared
+use Rattle.mp_pattern.specs.declared.condition.Sense.TheVariants as way
 use Rattle.mp_pattern.specs.CondTree as cond
 use Rattle.mp_pattern.specs.Admission.{Rule}
 use Rattle.mp_syntax.specs.declared.condition_tree.Measure.TheVariants.{Count, Size}
@@ -73,13 +75,13 @@ module _ (sig : Sig) where
 -- ---- conditions
 
 -- the sign of a comparison
-abbrev pub sense_spelling : cond.Sense → Sense
-sense_spelling cond.lt = Lt
-sense_spelling cond.le = Le
-sense_spelling cond.gt = Gt
-sense_spelling cond.ge = Ge
-sense_spelling cond.eq = Eq
-sense_spelling cond.ne = Ne
+abbrev pub sense_spelling : compared.Sense → Sense
+sense_spelling way.Lt = Lt
+sense_spelling way.Le = Le
+sense_spelling way.Gt = Gt
+sense_spelling way.Ge = Ge
+sense_spelling way.Eq = Eq
+sense_spelling way.Ne = Ne
 
 -- a literal alone, as an alternative and as a condition
 abbrev pub single_literal : Literal → Literals

@@ -1,7 +1,7 @@
 //! Makes the atoms of conditions of syntax trees, and checks them on the way.
 
 ghost use Rattle.std.specs.Prelude.{◌≡◌};
-ghost use Rattle.mp_pattern.specs.CondView.{operand, amount, sense, cond_tree};
+ghost use Rattle.mp_pattern.specs.CondView.{operand, amount, cond_tree};
 ghost use Rattle.mp_syntax.specs.Syntax.{HasNames, AmountHasNames, AtomHasNames};
 ghost use Rattle.mp_syntax.specs.View.{spot_of, expr_tree, amount_tree, atom_tree};
 ghost use Rattle.mp_text.specs.Answers.{Gives};
@@ -142,7 +142,7 @@ fn measured(measure: Measure, of: Operand) -> Amount
 
 /// The sense of a comparison.
 fn sense(way: syntax::Sense) -> Sense
-    ensures { sense result ≡ sense_of way }
+    ensures { result ≡ sense_of way }
 {
     match way {
         syntax::Sense::Lt => Sense::Lt,
