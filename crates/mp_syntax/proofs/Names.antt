@@ -1,11 +1,14 @@
 -- The words and signs of what is read are those of tokens: 1 to 64 letters and digits, and sign bytes but the arrow.
-use Rattle.std.proofs.Common.{ℕ, zero, suc, List, [], ◌∷◌, ◌++◌, Option, Some, None, map, subst}
+use Rattle.std.proofs.Common.{ℕ, zero, suc, List, [], ◌∷◌, ◌++◌, Option, Some, None, map, subst, take, sym, ◌≡◌}
 use Rattle.std.specs.List.{flat_map}
 use Rattle.mp_syntax.specs.declared.place.Place.{Place}
 use Rattle.mp_syntax.specs.Tokens as tokens
 use Rattle.mp_syntax.specs.Tokens.{Token, Word, Sign, Placed, Spells, place_after, Tokens}
-use Rattle.mp_syntax.specs.Syntax.{Spot, Wildcard, Tree, Symbol, Apply, InfixOf, Wild, Optional, Variable, Trees, no_trees, more_trees, Flag, Assoc, Comm, One, Infixed, Amount, Number, Measured, Atom, Compare, Relate, Test, Literal, AtomOf, Bracketed, Literals, no_literals, more_literals, Condition, no_alternatives, more_alternatives, Statement, OpOf, KindOf, RuleOf, SubjectOf, Expected, Said, Stands, AllMatch, spelled_word, spelled_sign, another, comma, semicolon, spell, spell_first, spell_others, spell_with_colon, spell_plus, spell_amount, spell_atom, spell_not, spell_literal, spell_literals, spell_alternatives, spell_condition, spell_if, spell_flag, spell_statement, spell_file, Fits, AreFit, FitsAmount, FitsAtom, FitsLiteral, LiteralsFit, AlternativesFit, FitsCondition, FitsIf, FitsStatement, AreStatements, IsName, IsInfixSign, HasParts, HaveParts, HasNames, HaveNames, AmountHasNames, AtomHasNames, LiteralHasNames, LiteralsHaveNames, ConditionHasNames, IfHasNames, HaveSigns, AreNames, StatementHasNames, StatementsHaveNames}
+use Rattle.mp_syntax.specs.Syntax.{Spot, Wildcard, Tree, Symbol, Apply, InfixOf, Wild, Optional, Variable, Trees, no_trees, more_trees, Flag, Assoc, Comm, One, Infixed, Amount, Number, Measured, Atom, Compare, Relate, Test, Literal, AtomOf, Bracketed, Literals, no_literals, more_literals, Condition, no_alternatives, more_alternatives, Statement, OpOf, KindOf, RuleOf, SubjectOf, Expected, Said, Stands, AllMatch, spelled_word, spelled_sign, another, comma, semicolon, spell, spell_first, spell_others, spell_with_colon, spell_plus, spell_amount, spell_atom, spell_not, spell_literal, spell_literals, spell_alternatives, spell_condition, spell_if, spell_flag, spell_statement, spell_file, Fits, AreFit, FitsAmount, FitsAtom, FitsLiteral, LiteralsFit, AlternativesFit, FitsCondition, FitsIf, FitsStatement, AreStatements, IsName, IsInfixSign, HasParts, IsSpelled, HaveParts, HasNames, HaveNames, AmountHasNames, AtomHasNames, LiteralHasNames, LiteralsHaveNames, ConditionHasNames, IfHasNames, HaveSigns, AreNames, StatementHasNames, StatementsHaveNames}
+use Rattle.mp_syntax.specs.Lexing.{kind_at}
 use Rattle.mp_syntax.proofs.Trees.{fits-optional}
+use Rattle.mp_syntax.proofs.Longest.{IsToken}
+use Rattle.mp_syntax.proofs.Spelling.{kind_at-spells}
 
 -- a text is this token
 abbrev pub HasText : Token → Type 0
@@ -61,6 +64,17 @@ chain-parts (w ∷ ws) h = (wildcard-parts w h.0, chain-parts ws h.1.1)
 
 sign-name : (s : List ℕ) → HasText (Sign s) → IsInfixSign s
 sign-name s h = record { is_sign = h.1.1; no_arrow = h.1.2 }
+
+-- the token at the front of bytes is spelled
+pub kind_at-spelled : (bytes : List ℕ) → IsSpelled (kind_at bytes).0
+kind_at-spelled bytes = record {
+  word = λ w e. word-name w (text (Word w) e tt);
+  wildcard = λ w e. wildcard-parts w (text (tokens.Wildcard w.name w.marks w.kind) e tt);
+  sign = λ s e. sign-name s (text (Sign s) e tt);
+}
+  where
+    text : (t : Token) → (kind_at bytes).0 ≡ t → IsToken t → HasText t
+    text t e h = (take (kind_at bytes).1 bytes, subst (λ u. Spells (take (kind_at bytes).1 bytes) u) e (kind_at-spells bytes (subst IsToken (sym e) h)))
 
 mutual
   pub tree-names : (t : Tree) (room : ℕ) → Fits room t → ExpectTexts (spell t) → HasNames t

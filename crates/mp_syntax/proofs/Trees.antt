@@ -4,14 +4,15 @@ use Rattle.std.specs.Prelude.{◌&&◌, ◌==◌}
 use Rattle.std.proofs.lemmas.Bool.{and_parts, eqb-true}
 use mathlib.Core.Former.{Count}
 use Rattle.mp_syntax.specs.declared.place.Place.{Place}
-use Rattle.mp_syntax.specs.declared.place.Spot as code_spot
+use Rattle.mp_syntax.specs.declared.word.Word as code_word
+use Rattle.mp_syntax.specs.declared.word.InfixSign as code_sign
 use Rattle.mp_syntax.specs.declared.tree.Expr as code
 use Rattle.mp_syntax.specs.declared.tree.Expr.{Expr, Apply', Infix, Infix', Row_of-Expr, end_of-Expr, more_of-Expr, items-the_row-Expr, items_hidden-the_row-Expr-0}
 use Rattle.mp_syntax.specs.Syntax as syntax
 use Rattle.mp_syntax.specs.Syntax.{Spot, Wildcard, Tree, Symbol, Apply, InfixOf, Wild, Optional, Variable, Trees, trees, tree_list, no_trees, more_trees, IsDot, AreDots, HasNoDefault, Fits, spell, spell_with_colon}
 use Rattle.mp_syntax.specs.Machine.{is_dot, with_default}
 use Rattle.mp_syntax.proofs.Fronts.{empty-length}
-use Rattle.mp_syntax.specs.View.{spot_of, expr_tree, row_trees}
+use Rattle.mp_syntax.specs.View.{spot_of, spot_of_sign, expr_tree, row_trees}
 
 -- the trees of the list of trees
 pub trees-tree_list : (ts : Trees) → trees (tree_list ts) ≡ ts
@@ -33,16 +34,16 @@ row_trees-row n end_of-Expr = refl
 row_trees-row n (more_of-Expr e row) = ap (more_trees (expr_tree e)) (row_trees-row _ row)
 
 -- an application is its name and the trees of its arguments
-pub expr_tree-Apply : (f : code_spot.Spot) (v : Vec Expr Global) → expr_tree (code.Apply f v) ≡ syntax.Apply (spot_of f) (trees (map expr_tree v.items))
+pub expr_tree-Apply : (f : code_word.Word) (v : Vec Expr Global) → expr_tree (code.Apply f v) ≡ syntax.Apply (spot_of f) (trees (map expr_tree v.items))
 expr_tree-Apply f v =
     let row = row_of (code.Apply f v) in
     ap (syntax.Apply (spot_of f)) (row_trees-row row.0 row.1 ∙ ap (λ l. trees (map expr_tree l)) (items_hidden-the_row-Expr-0 v))
 
 -- an infix expression is its bracket, its sign and the trees of its operands
-pub expr_tree-Infix : (place : Place) (sign : code_spot.Spot) (v : Vec Expr Global) → expr_tree (Infix place sign v) ≡ syntax.InfixOf place (spot_of sign) (trees (map expr_tree v.items))
+pub expr_tree-Infix : (place : Place) (sign : code_sign.InfixSign) (v : Vec Expr Global) → expr_tree (Infix place sign v) ≡ syntax.InfixOf place (spot_of_sign sign) (trees (map expr_tree v.items))
 expr_tree-Infix place sign v =
     let row = row_of (Infix place sign v) in
-    ap (syntax.InfixOf place (spot_of sign)) (row_trees-row row.0 row.1 ∙ ap (λ l. trees (map expr_tree l)) (items_hidden-the_row-Expr-0 v))
+    ap (syntax.InfixOf place (spot_of_sign sign)) (row_trees-row row.0 row.1 ∙ ap (λ l. trees (map expr_tree l)) (items_hidden-the_row-Expr-0 v))
 
 -- a wildcard with one underscore and no kind
 pub is_dot-true : (w : Wildcard) → is_dot w ≡ true → IsDot w

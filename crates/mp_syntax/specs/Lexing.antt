@@ -6,7 +6,6 @@ use Rattle.mp_syntax.specs.declared.place.Place.{Place}
 use Rattle.mp_syntax.specs.declared.token.Punct.TheVariants.{Open, Close, OpenSquare, CloseSquare, OpenBrace, CloseBrace, Comma, Semicolon, Colon, Dot, Dollar}
 use Rattle.mp_syntax.specs.declared.token.Kind.{Kind}
 use Rattle.mp_syntax.specs.declared.token.Kind.TheVariants as kinds
-use Rattle.mp_syntax.specs.declared.token.Token as code
 use Rattle.mp_syntax.specs.Tokens.{Token, Word, Wildcard, Sign, Arrow, Punctuation, Long, Bad, End, Placed, is_word_byte, is_sign_byte, is_blank, after_byte, first_place}
 
 -- ---- views
@@ -21,10 +20,6 @@ token_of (kinds.Punct p) = Punctuation p
 token_of kinds.Long = Long
 token_of kinds.Bad = Bad
 token_of kinds.End = End
-
--- the token with its place
-abbrev pub placed : code.Token → Placed
-placed t = record { token = token_of t.kind; place = t.place }
 
 -- ---- the token at the front
 

@@ -2,7 +2,7 @@
 use Rattle.std.specs.Prelude.{◌≡◌, ℕ, ◌+◌, Bool, List, [], ◌∷◌, ◌++◌, map, Option, Some, None, Result, Ok, Err}
 use Rattle.std.specs.Global.{Vec}
 use Rattle.mp_syntax.specs.declared.place.Place.{Place}
-use Rattle.mp_syntax.specs.declared.place.Spot as code_spot
+use Rattle.mp_syntax.specs.declared.word.Word as code_word
 use Rattle.mp_syntax.specs.declared.token.Punct.{Punct}
 use Rattle.mp_syntax.specs.declared.fault.Fault.{Fault}
 use Rattle.mp_syntax.specs.declared.fault.FaultKind.TheVariants.{Syntax}
@@ -18,9 +18,9 @@ use Rattle.mp_syntax.specs.declared.tree.Flag as code_flag
 use Rattle.mp_syntax.specs.declared.tree.Wildcard as code_wildcard
 use Rattle.mp_syntax.specs.declared.tree.Statement as code
 use Rattle.mp_syntax.specs.Tokens.{Token, Placed}
-use Rattle.mp_syntax.specs.Lexing.{placed, behind, lexemes, token_of}
+use Rattle.mp_syntax.specs.Lexing.{behind, lexemes, token_of}
 use Rattle.mp_syntax.specs.Syntax.{Spot, Wildcard, Tree, Apply, Wild, InfixOf, Assoc, Comm, One, OpOf, KindOf, Statement, trees}
-use Rattle.mp_syntax.specs.View.{spot_of, wildcard_of, flag_of, expr_tree, statement_tree}
+use Rattle.mp_syntax.specs.View.{placed, spot_of, wildcard_of, flag_of, expr_tree, statement_tree}
 use Rattle.mp_syntax.specs.Machine.{State, Top, AfterOp, AfterOpName, AfterLeast, AfterFlags, AfterInfix, AfterKind, BeforeMember, AfterRole, BeforeExpr, AfterWord, AfterWildcard, AfterExpr, AfterDollar, Step, Go, Refuse, Role, OfRule, OfSubject, heading, Within, InStatement, SingleExpr, Parsed, parsed, Frame, Arguments, Operands, Default, open_count, Declared, declared, with_flag, on_punct, on_text, step, after_step, run}
 
 -- the tokens from the one held on
@@ -50,12 +50,12 @@ abbrev pub WantsText : (Token → Option (List ℕ)) → State → (Spot → Sta
 WantsText text_of at next = (t : Placed) → step at t ≡ on_text t (λ w. Go (next w)) (text_of t.token)
 
 -- a token with a text is passed, or refused
-abbrev pub TextGives : (Token → Option (List ℕ)) → Result code_spot.Spot SyntaxError → List Placed → List Placed → Type 0
-TextGives text_of (Ok w) old new = (done : List Statement) (at : State) (next : Spot → State) → WantsText text_of at next → run done at old ≡ run done (next (spot_of w)) new
-TextGives text_of (Err e) old new = (done : List Statement) (at : State) (next : Spot → State) → WantsText text_of at next → Fails e (run done at old)
+abbrev pub TextGives : {A : Type 0} → (A → Spot) → (Token → Option (List ℕ)) → Result A SyntaxError → List Placed → List Placed → Type 0
+TextGives view text_of (Ok w) old new = (done : List Statement) (at : State) (next : Spot → State) → WantsText text_of at next → run done at old ≡ run done (next (view w)) new
+TextGives view text_of (Err e) old new = (done : List Statement) (at : State) (next : Spot → State) → WantsText text_of at next → Fails e (run done at old)
 
 -- the number of an operation is passed, or refused
-abbrev pub NumberGives : Result code_spot.Spot SyntaxError → List Placed → List Placed → Type 0
+abbrev pub NumberGives : Result code_word.Word SyntaxError → List Placed → List Placed → Type 0
 NumberGives (Ok w) old new = (done : List Statement) (name : Spot) → run done (AfterOpName name) old ≡ run done (AfterLeast name (spot_of w)) new
 NumberGives (Err e) old new = (done : List Statement) (name : Spot) → Fails e (run done (AfterOpName name) old)
 
@@ -91,7 +91,7 @@ FlagsGive (Ok fs) old new = (done : List Statement) (name least : Spot) (more : 
 FlagsGive (Err e) old new = (done : List Statement) (name least : Spot) (more : Bool) → Fails e (run done (AfterFlags (declared name least more [])) old)
 
 -- the members of a kind and the semicolon are passed, or the first fault is given
-abbrev pub MembersGive : Result (List code_spot.Spot) SyntaxError → List Placed → List Placed → Type 0
+abbrev pub MembersGive : Result (List code_word.Word) SyntaxError → List Placed → List Placed → Type 0
 MembersGive (Ok ws) old new = (done : List Statement) (name : Spot) → run done (BeforeMember name []) old ≡ run (done ++ KindOf name (map spot_of ws) ∷ []) Top new
 MembersGive (Err e) old new = (done : List Statement) (name : Spot) → Fails e (run done (BeforeMember name []) old)
 
@@ -177,7 +177,7 @@ StatementFrom at (Ok x) old new = (done : List Statement) → run done at old �
 StatementFrom at (Err e) old new = (done : List Statement) → Fails e (run done at old)
 
 -- what follows the keyword of a rule or subject is passed up to the end of its expression, or the first fault is given
-abbrev pub NamedExprGives : Result (code_spot.Spot × Expr) SyntaxError → List Placed → List Placed → Type 0
+abbrev pub NamedExprGives : Result (code_word.Word × Expr) SyntaxError → List Placed → List Placed → Type 0
 NamedExprGives (Ok x) old new = (done : List Statement) (role : Role) → run done (AfterRole role) old ≡ run done (AfterExpr (InStatement (heading role (spot_of x.0))) [] (expr_tree x.1)) new
 NamedExprGives (Err e) old new = (done : List Statement) (role : Role) → Fails e (run done (AfterRole role) old)
 

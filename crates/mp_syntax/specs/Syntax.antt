@@ -412,6 +412,12 @@ pub record HasParts (w : Wildcard) : Type 0 where
   pub kind : w.kind ≢ [] → IsName w.kind
   pub kind_behind_one : w.kind ≢ [] → w.marks ≡ 1
 
+-- the token is a word, a wildcard or a sign as they are spelled, where it is one of these
+pub record IsSpelled (t : Token) : Type 0 where
+  pub word : (word : List ℕ) → t ≡ Word word → IsName word
+  pub wildcard : (w : Wildcard) → t ≡ tokens.Wildcard w.name w.marks w.kind → HasParts w
+  pub sign : (sign : List ℕ) → t ≡ Sign sign → IsInfixSign sign
+
 -- the same of each wildcard
 abbrev pub HaveParts : List Wildcard → Type 0
 HaveParts [] = Unit {0}

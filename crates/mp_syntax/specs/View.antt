@@ -1,6 +1,8 @@
 -- The Rust types of the syntax as plain data.
 use Rattle.std.specs.Prelude.{map, Option, Some, None}
-use Rattle.mp_syntax.specs.declared.place.Spot as code_spot
+use Rattle.mp_syntax.specs.declared.word.Word as code_word
+use Rattle.mp_syntax.specs.declared.word.InfixSign as code_sign
+use Rattle.mp_syntax.specs.declared.token.Token as code_token
 use Rattle.mp_syntax.specs.declared.tree.Wildcard as code_wildcard
 use Rattle.mp_syntax.specs.declared.tree.Expr.{Expr, Symbol, Apply', Infix', Wild, Optional', Variable, Row_of-Expr, end_of-Expr, more_of-Expr}
 use Rattle.mp_syntax.specs.declared.tree.Flag as code_flag
@@ -16,12 +18,22 @@ use Rattle.mp_syntax.specs.declared.condition_tree.Alternative as code_alternati
 use Rattle.mp_syntax.specs.declared.condition_tree.Alternative.{Row_of-Literal, end_of-Literal, more_of-Literal}
 use Rattle.mp_syntax.specs.declared.condition_tree.Condition as code_condition
 use Rattle.mp_syntax.specs.declared.condition_tree.Condition.{Condition', Row_of-Alternative, end_of-Alternative, more_of-Alternative}
+use Rattle.mp_syntax.specs.Tokens.{Placed}
+use Rattle.mp_syntax.specs.Lexing.{token_of}
 use Rattle.mp_syntax.specs.Syntax as syntax
 use Rattle.mp_syntax.specs.Syntax.{Spot, Wildcard, Tree, Trees, Flag, Amount, Atom, Literal, Literals, Condition, Statement, no_trees, more_trees, no_literals, more_literals, literals, no_alternatives, more_alternatives}
 
--- the spot as plain data
-abbrev pub spot_of : code_spot.Spot → Spot
-spot_of s = record { text = s.text.now; place = s.place }
+-- the token with its place
+abbrev pub placed : code_token.Token → Placed
+placed t = record { token = token_of t.kind; place = t.place }
+
+-- the word as plain data
+abbrev pub spot_of : code_word.Word → Spot
+spot_of w = record { text = w.text.now; place = w.place }
+
+-- the sign as plain data
+abbrev pub spot_of_sign : code_sign.InfixSign → Spot
+spot_of_sign s = record { text = s.text.now; place = s.place }
 
 -- the wildcard as plain data
 abbrev pub wildcard_of : code_wildcard.Wildcard → Wildcard
@@ -32,7 +44,7 @@ abbrev mutual
   pub expr_tree : Expr → Tree
   expr_tree (Symbol w) = syntax.Symbol (spot_of w)
   expr_tree (Apply' f shape row) = syntax.Apply (spot_of f) (row_trees row)
-  expr_tree (Infix' opened sign shape row) = syntax.InfixOf opened (spot_of sign) (row_trees row)
+  expr_tree (Infix' opened sign shape row) = syntax.InfixOf opened (spot_of_sign sign) (row_trees row)
   expr_tree (Wild w) = syntax.Wild (wildcard_of w)
   expr_tree (Optional' w others p default) = syntax.Optional (wildcard_of w) (map wildcard_of others.items) (expr_tree default)
   expr_tree (Variable w) = syntax.Variable (spot_of w)
@@ -46,7 +58,7 @@ abbrev pub flag_of : code_flag.Flag → Flag
 flag_of code_flags.Assoc = syntax.Assoc
 flag_of code_flags.Comm = syntax.Comm
 flag_of code_flags.One = syntax.One
-flag_of (code_flags.Infix sign) = syntax.Infixed (spot_of sign)
+flag_of (code_flags.Infix sign) = syntax.Infixed (spot_of_sign sign)
 
 -- the amount as plain data
 abbrev pub amount_tree : code_amount.Amount → Amount

@@ -1,16 +1,16 @@
 //! Reads the atoms of conditions.
 
 ghost use Rattle.std.specs.Prelude.{◌≡◌, ◌<◌, ◌≤◌, false, length, OnOk};
-ghost use Rattle.mp_syntax.specs.Lexing.{placed, token_of};
+ghost use Rattle.mp_syntax.specs.Lexing.{token_of};
 ghost use Rattle.mp_syntax.specs.Machine.{is_punct, relation_of, property_of, measure_of, sense_of, relation_held, property_held};
-ghost use Rattle.mp_syntax.specs.View.{spot_of};
+ghost use Rattle.mp_syntax.specs.View.{placed};
 ghost use Rattle.mp_syntax.specs.Parsing.{ahead};
 ghost use Rattle.mp_syntax.specs.ConditionParsing.{AtomGives, RelationGives, PropertyGives, AmountGives, MeasureGives, OperandGives, SenseGives};
 
 use crate::condition_tree::{Amount, Atom, Measure, Property, Relation, Sense};
 use crate::fault::{FaultKind, SyntaxError};
 use crate::parser::{Parser, is_number};
-use crate::place::Spot;
+use crate::word::Word;
 use crate::token::{Kind, Punct};
 use crate::tree::Expr;
 use std::alloc::Global;
@@ -101,7 +101,7 @@ impl<'a> Parser<'a> {
         if is_number(text) {
             let place = self.token.place;
             self.advance();
-            return Ok(Amount::Number(Spot { text, place }));
+            return Ok(Amount::Number(Word { text, place }));
         }
         let Some(measure) = measure_of(text) else {
             return Err(self.refused());

@@ -1,6 +1,6 @@
 //! The syntax trees of conditions. Their words lie in the bytes of the file.
 
-use crate::place::Spot;
+use crate::word::Word;
 use crate::tree::Expr;
 
 /// What is counted of an operand.
@@ -55,7 +55,7 @@ pub enum Property {
 #[derive(Debug, Drop)]
 pub enum Amount<'a> {
     /// A number, in digits.
-    Number(Spot<'a>),
+    Number(Word<'a>),
     /// `count(OPERAND)` or `size(OPERAND)`
     Measured(Measure, Expr<'a>),
 }
@@ -70,7 +70,7 @@ pub enum Atom<'a> {
     /// `same(OPERAND, OPERAND)`, `less(..)` or `free(..)`
     Relate(Relation, Expr<'a>, Expr<'a>),
     /// `kind(OPERAND, NAME)` or `head(..)`
-    Test(Property, Expr<'a>, Spot<'a>),
+    Test(Property, Expr<'a>, Word<'a>),
 }
 
 /// A literal of a condition: an atom or a condition in square brackets, perhaps behind `not`.

@@ -7,7 +7,7 @@ ghost use Rattle.mp_syntax.specs.Parsing.{ahead, StatementFrom, PlusGives, Flags
 
 use crate::fault::SyntaxError;
 use crate::parser::Parser;
-use crate::place::Spot;
+use crate::word::Word;
 use crate::token::{Kind, Punct};
 use crate::tree::{Flag, Statement};
 use std::alloc::Global;
@@ -116,7 +116,7 @@ impl<'a> Parser<'a> {
     }
 
     /// Reads words, at least one, up to the semicolon, and passes it.
-    fn members(&mut self, alloc: Global) -> Result<Vec<Spot<'a>>, SyntaxError>
+    fn members(&mut self, alloc: Global) -> Result<Vec<Word<'a>>, SyntaxError>
         ensures read { MembersGive (items_of result) (ahead self.old) (ahead self.new) }
         ensures shorter { OnOk result (length (ahead self.new) ≤ length (ahead self.old)) }
     {

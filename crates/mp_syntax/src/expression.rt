@@ -3,14 +3,15 @@
 ghost use Rattle.std.specs.Prelude.{◌≡◌, ◌<◌, ◌≤◌, ◌-◌, ◌^◌, ◌↔◌, ℕ, List, Some, None, Err, true, length, OnOk, IfOk, IfErr, IfNone};
 ghost use Rattle.mp_syntax.specs.Lexing.{token_of};
 ghost use Rattle.mp_syntax.specs.Machine.{is_punct, wildcard_at};
-ghost use Rattle.mp_syntax.specs.View.{spot_of, wildcard_of, expr_tree};
+ghost use Rattle.mp_syntax.specs.View.{spot_of, spot_of_sign, wildcard_of, expr_tree};
 ghost use Rattle.mp_syntax.specs.Syntax.{Tree, IsExprOf, HasNames, HasNoDefault};
 ghost use Rattle.mp_syntax.specs.Reading.{parsed_expr, expr_reading, expr_of, IfFault, IsExprOrMemory};
 ghost use Rattle.mp_syntax.specs.Parsing.{ahead, AloneGives, ExprGives, WordLeads, DollarLeads, WildcardLeads, ChainGives, ArgumentsGive, OperandsGive, items_of};
 
 use crate::fault::{FaultKind, SyntaxError};
 use crate::parser::Parser;
-use crate::place::{Place, Spot};
+use crate::place::Place;
+use crate::word::{InfixSign, Word};
 use crate::statement::MAX_OPEN;
 use crate::token::{Kind, Punct};
 use crate::tree::{Expr, Wildcard};
@@ -139,7 +140,7 @@ impl<'a> Parser<'a> {
         match self.token.kind {
             Kind::Word(text) => {
                 self.advance();
-                self.behind_word(alloc, Spot { text, place }, room)
+                self.behind_word(alloc, Word { text, place }, room)
             }
             Kind::Punct(Punct::Dollar) => {
                 self.advance();
@@ -154,7 +155,7 @@ impl<'a> Parser<'a> {
     fn behind_word(
         &mut self,
         alloc: Global,
-        name: Spot<'a>,
+        name: Word<'a>,
         room: usize,
     ) -> Result<Expr<'a>, SyntaxError>
         ensures read { WordLeads room (spot_of name.entry) result (ahead self.old) (ahead self.new) }
@@ -184,7 +185,7 @@ impl<'a> Parser<'a> {
     {
         let name = self.word()?;
         let text = name.text;
-        Ok(Expr::Variable(Spot { text, place }))
+        Ok(Expr::Variable(Word { text, place }))
     }
 
     /// Reads the arguments of an application, at least one, and the bracket that closes it.
@@ -234,10 +235,10 @@ impl<'a> Parser<'a> {
         &mut self,
         alloc: Global,
         first: Expr<'a>,
-        sign: Spot<'a>,
+        sign: InfixSign<'a>,
         room: usize,
     ) -> Result<Vec<Expr<'a>>, SyntaxError>
-        ensures read { OperandsGive room (expr_tree first.entry) (spot_of sign.entry) (items_of result) (ahead self.old) (ahead self.new) }
+        ensures read { OperandsGive room (expr_tree first.entry) (spot_of_sign sign.entry) (items_of result) (ahead self.old) (ahead self.new) }
         ensures shorter { OnOk result (length (ahead self.new) ≤ length (ahead self.old)) }
     {
         let mut operands = Vec::new(alloc);

@@ -13,6 +13,7 @@ pub mod place;
 pub mod statement;
 pub mod token;
 pub mod tree;
+pub mod word;
 
 pub use crate::condition::{condition_is_a_function, read_condition};
 pub use crate::condition_tree::{
@@ -21,6 +22,7 @@ pub use crate::condition_tree::{
 pub use crate::expression::{expression_is_a_function, read_expression};
 pub use crate::fault::{Fault, FaultKind, SyntaxError};
 pub use crate::lexer::first_token_place;
-pub use crate::place::{Place, Spot};
+pub use crate::place::Place;
 pub use crate::statement::read_statements;
 pub use crate::tree::{Expr, Flag, Statement, Wildcard};
+pub use crate::word::{InfixSign, Word};

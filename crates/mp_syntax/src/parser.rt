@@ -2,14 +2,14 @@
 
 ghost use Rattle.std.specs.Prelude.{◌≡◌, ◌<◌, ◌≤◌, ◌-◌, ◌^◌, ◌∷◌, ◌&&◌, None, length, OnOk, IfSome, IfNone};
 ghost use Rattle.mp_syntax.specs.Tokens.{first_place};
-ghost use Rattle.mp_syntax.specs.Lexing.{placed, token_of, behind, lexemes};
+ghost use Rattle.mp_syntax.specs.Lexing.{token_of, behind, lexemes};
 ghost use Rattle.mp_syntax.specs.Machine.{is_punct, is_sign, is_word, is_end, is_number, word_of, sign_of, wildcard_at, is_dot, refusal};
-ghost use Rattle.mp_syntax.specs.View.{wildcard_of};
+ghost use Rattle.mp_syntax.specs.View.{placed, spot_of, spot_of_sign, wildcard_of};
 ghost use Rattle.mp_syntax.specs.Parsing.{ahead, PunctGives, TextGives, NumberGives, WildcardGives};
 
 use crate::fault::{Fault, FaultKind, SyntaxError};
 use crate::lexer::Lexer;
-use crate::place::Spot;
+use crate::word::{InfixSign, Word};
 use crate::token::{Kind, Punct, Token};
 use crate::tree::Wildcard;
 
@@ -114,15 +114,15 @@ impl<'a> Parser<'a> {
     }
 
     /// Passes a word and gives it, or refuses the token that is held.
-    pub fn word(&mut self) -> Result<Spot<'a>, SyntaxError>
-        ensures read { TextGives word_of result (ahead self.old) (ahead self.new) }
+    pub fn word(&mut self) -> Result<Word<'a>, SyntaxError>
+        ensures read { TextGives spot_of word_of result (ahead self.old) (ahead self.new) }
         ensures shorter { OnOk result (length (ahead self.new) < length (ahead self.old)) }
     {
         match self.token.kind {
             Kind::Word(text) => {
                 let place = self.token.place;
                 self.advance();
-                Ok(Spot { text, place })
+                Ok(Word { text, place })
             }
             _ => Err(self.refused()),
         }
@@ -151,22 +151,22 @@ impl<'a> Parser<'a> {
     }
 
     /// Passes a sign other than the arrow and gives it, or refuses the token that is held.
-    pub fn sign(&mut self) -> Result<Spot<'a>, SyntaxError>
-        ensures read { TextGives sign_of result (ahead self.old) (ahead self.new) }
+    pub fn sign(&mut self) -> Result<InfixSign<'a>, SyntaxError>
+        ensures read { TextGives spot_of_sign sign_of result (ahead self.old) (ahead self.new) }
         ensures shorter { OnOk result (length (ahead self.new) < length (ahead self.old)) }
     {
         match self.token.kind {
             Kind::Sign(text) => {
                 let place = self.token.place;
                 self.advance();
-                Ok(Spot { text, place })
+                Ok(InfixSign { text, place })
             }
             _ => Err(self.refused()),
         }
     }
 
     /// Passes a word of digits alone and gives it, or refuses the token that is held.
-    pub fn number(&mut self) -> Result<Spot<'a>, SyntaxError>
+    pub fn number(&mut self) -> Result<Word<'a>, SyntaxError>
         ensures read { NumberGives result (ahead self.old) (ahead self.new) }
         ensures shorter { OnOk result (length (ahead self.new) < length (ahead self.old)) }
     {
@@ -174,7 +174,7 @@ impl<'a> Parser<'a> {
             Kind::Word(text) if is_number(text) => {
                 let place = self.token.place;
                 self.advance();
-                Ok(Spot { text, place })
+                Ok(Word { text, place })
             }
             _ => Err(self.refused()),
         }

@@ -10,14 +10,3 @@ pub struct Place {
     /// The number of the byte in the line, from 1.
     pub column: u32,
 }
-
-/// A piece of the file and where it stands.
-///
-/// As plain data it is a `Spot` of `specs/Syntax.antt`.
-#[derive(Clone, Copy, Debug)]
-pub struct Spot<'a> {
-    /// The bytes of the piece, in the file.
-    pub text: &'a [u8],
-    /// The place of its first byte.
-    pub place: Place,
-}

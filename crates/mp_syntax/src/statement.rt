@@ -15,7 +15,7 @@ ghost use Rattle.mp_syntax.specs.Reading.{parsed_file, reading, syntax_of, IfFau
 use crate::condition_tree::Condition;
 use crate::fault::SyntaxError;
 use crate::parser::Parser;
-use crate::place::Spot;
+use crate::word::Word;
 use crate::token::{Kind, Punct};
 use crate::tree::{Expr, Statement};
 use std::alloc::Global;
@@ -159,7 +159,7 @@ impl<'a> Parser<'a> {
     }
 
     /// Reads a name, a colon and an expression.
-    fn named_expr(&mut self, alloc: Global) -> Result<(Spot<'a>, Expr<'a>), SyntaxError>
+    fn named_expr(&mut self, alloc: Global) -> Result<(Word<'a>, Expr<'a>), SyntaxError>
         ensures read { NamedExprGives result (ahead self.old) (ahead self.new) }
         ensures shorter { OnOk result (length (ahead self.new) ≤ length (ahead self.old)) }
     {

@@ -3,6 +3,8 @@
 ghost use Rattle.std.specs.Prelude.{◌≡◌, ◌⊎◌, ℕ, List};
 ghost use Rattle.mp_syntax.specs.declared.place.Place as places;
 ghost use Rattle.mp_syntax.specs.Tokens.{Placed, Tokens, StopsEarly};
+ghost use Rattle.mp_syntax.specs.Syntax.{IsSpelled};
+ghost use Rattle.mp_syntax.specs.Lexing.{token_of};
 
 use crate::place::Place;
 
@@ -70,6 +72,7 @@ pub struct Token<'a> {
     pub kind: Kind<'a>,
     /// The place of its first byte; at the end of the file the place just after the last byte.
     pub place: Place,
+    pub ghost spelled: { IsSpelled (token_of kind) },
 }
 
 /// Law: bytes have at most one list of tokens, by `Tokens` of `specs/Tokens.antt`.

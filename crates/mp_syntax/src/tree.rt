@@ -1,9 +1,11 @@
 //! The syntax trees of a rule file. Their words lie in the bytes of the file.
 
 ghost use Rattle.std.specs.Prelude.{◌≡◌};
+ghost use Rattle.mp_syntax.specs.Syntax.{HasParts};
 
 use crate::condition_tree::Condition;
-use crate::place::{Place, Spot};
+use crate::place::Place;
+use crate::word::{InfixSign, Word};
 
 /// A wildcard as it is written.
 ///
@@ -18,6 +20,7 @@ pub struct Wildcard<'a> {
     pub kind: &'a [u8],
     /// The place of its first byte.
     pub place: Place,
+    pub ghost parts: { HasParts (record { name = name.now; marks = marks; kind = kind.now; place = place }) },
 }
 
 impl Wildcard<'_> {
@@ -38,15 +41,15 @@ impl Wildcard<'_> {
 #[derive(Debug, Drop)]
 pub enum Expr<'a> {
     /// A word alone.
-    Symbol(Spot<'a>),
+    Symbol(Word<'a>),
     /// A word, and in brackets behind it any number of arguments.
-    Apply(Spot<'a>, Vec<Expr<'a>>),
+    Apply(Word<'a>, Vec<Expr<'a>>),
     /// In brackets two operands or more, with one sign between each two of them.
     Infix {
         /// The place of the opening bracket.
         open: Place,
         /// The sign, at the place where it stands first.
-        sign: Spot<'a>,
+        sign: InfixSign<'a>,
         /// The operands, in order; what is read has two or more.
         operands: Vec<Expr<'a>>,
     },
@@ -62,7 +65,7 @@ pub enum Expr<'a> {
         default: Box<Expr<'a>>,
     },
     /// `$NAME`: the name, at the place of the `$`.
-    Variable(Spot<'a>),
+    Variable(Word<'a>),
 }
 
 /// A flag of an operation.
@@ -77,7 +80,7 @@ pub enum Flag<'a> {
     /// `one`
     One,
     /// `infix SIGN`, with the sign.
-    Infix(Spot<'a>),
+    Infix(InfixSign<'a>),
 }
 
 /// A statement.
@@ -88,9 +91,9 @@ pub enum Statement<'a> {
     /// `op NAME LEAST FLAG ..;` or `op NAME LEAST+ FLAG ..;`
     Op {
         /// The name of the operation.
-        name: Spot<'a>,
+        name: Word<'a>,
         /// Its least number of arguments, in digits.
-        least: Spot<'a>,
+        least: Word<'a>,
         /// Whether it takes more arguments: a `+` stands behind the number.
         open: bool,
         /// Its flags as they are written, in order.
@@ -99,14 +102,14 @@ pub enum Statement<'a> {
     /// `kind NAME: MEMBER ..;`
     Kind {
         /// The name of the kind.
-        name: Spot<'a>,
+        name: Word<'a>,
         /// The words behind the colon, in order; what is read has one or more.
-        members: Vec<Spot<'a>>,
+        members: Vec<Word<'a>>,
     },
     /// `rule NAME: PATTERN;` or `rule NAME: PATTERN if CONDITION;`
     Rule {
         /// The name of the rule.
-        name: Spot<'a>,
+        name: Word<'a>,
         /// The expression behind the colon.
         pattern: Expr<'a>,
         /// The condition behind `if`, where there is one.
@@ -115,7 +118,7 @@ pub enum Statement<'a> {
     /// `subject NAME: TERM;`
     Subject {
         /// The name of the subject.
-        name: Spot<'a>,
+        name: Word<'a>,
         /// The expression behind the colon.
         term: Expr<'a>,
     },

@@ -3,7 +3,8 @@ use Rattle.std.proofs.Common.{◌≡◌, ℕ, zero, suc, ◌+◌, ◌≤◌, ◌
 use Rattle.std.specs.Prelude.{◌&&◌, is_some}
 use Rattle.mp_term.specs.Signature.{Sig}
 use Rattle.mp_syntax.specs.declared.place.Place.{Place}
-use Rattle.mp_syntax.specs.declared.place.Spot as code
+use Rattle.mp_syntax.specs.declared.word.Word as code
+use Rattle.mp_syntax.specs.declared.word.InfixSign as code_sign
 use Rattle.mp_syntax.specs.declared.tree.Expr.{Expr, Apply, Infix}
 use Rattle.mp_syntax.specs.Syntax.{trees}
 use Rattle.mp_syntax.specs.View.{expr_tree}
@@ -17,47 +18,47 @@ use Rattle.mp_text.specs.Names.{wildcards, all_wildcards, wildcard_names, all_wi
 use Rattle.mp_text.specs.Wildcards.{pattern_wildcards, all_pattern_wildcards}
 
 -- the nodes of an application
-pub nodes-Apply : (f : code.Spot) (v : Vec Expr Global) → nodes (expr_tree (Apply f v)) ≡ 1 + all_nodes (trees (map expr_tree v.items))
+pub nodes-Apply : (f : code.Word) (v : Vec Expr Global) → nodes (expr_tree (Apply f v)) ≡ 1 + all_nodes (trees (map expr_tree v.items))
 nodes-Apply f v = ap nodes (expr_tree-Apply f v) ∙ omega arith
 
 -- whether a default of an application is large
-pub has_large_default-Apply : (f : code.Spot) (v : Vec Expr Global) → has_large_default (expr_tree (Apply f v)) ≡ some_large_default (trees (map expr_tree v.items))
+pub has_large_default-Apply : (f : code.Word) (v : Vec Expr Global) → has_large_default (expr_tree (Apply f v)) ≡ some_large_default (trees (map expr_tree v.items))
 has_large_default-Apply f v = ap has_large_default (expr_tree-Apply f v)
 
 -- the same of an infix expression
-pub has_large_default-Infix : (place : Place) (sign : code.Spot) (v : Vec Expr Global) → has_large_default (expr_tree (Infix place sign v)) ≡ some_large_default (trees (map expr_tree v.items))
+pub has_large_default-Infix : (place : Place) (sign : code_sign.InfixSign) (v : Vec Expr Global) → has_large_default (expr_tree (Infix place sign v)) ≡ some_large_default (trees (map expr_tree v.items))
 has_large_default-Infix place sign v = ap has_large_default (expr_tree-Infix place sign v)
 
 -- whether an application is a term
-pub has_term-Apply : (sig : Sig) (f : code.Spot) (v : Vec Expr Global) → has_term sig (expr_tree (Apply f v)) ≡ (is_some (op_number sig f.text.now) && all_have_terms sig (trees (map expr_tree v.items)))
+pub has_term-Apply : (sig : Sig) (f : code.Word) (v : Vec Expr Global) → has_term sig (expr_tree (Apply f v)) ≡ (is_some (op_number sig f.text.now) && all_have_terms sig (trees (map expr_tree v.items)))
 has_term-Apply sig f v = ap (has_term sig) (expr_tree-Apply f v)
 
 -- the same of an infix expression
-pub has_term-Infix : (sig : Sig) (place : Place) (sign : code.Spot) (v : Vec Expr Global) → has_term sig (expr_tree (Infix place sign v)) ≡ (is_some (sign_number sig sign.text.now) && all_have_terms sig (trees (map expr_tree v.items)))
+pub has_term-Infix : (sig : Sig) (place : Place) (sign : code_sign.InfixSign) (v : Vec Expr Global) → has_term sig (expr_tree (Infix place sign v)) ≡ (is_some (sign_number sig sign.text.now) && all_have_terms sig (trees (map expr_tree v.items)))
 has_term-Infix sig place sign v = ap (has_term sig) (expr_tree-Infix place sign v)
 
 -- the names of the wildcards of an application
-pub wildcard_names-Apply : (f : code.Spot) (v : Vec Expr Global) → wildcard_names (expr_tree (Apply f v)) ≡ all_wildcard_names (trees (map expr_tree v.items))
+pub wildcard_names-Apply : (f : code.Word) (v : Vec Expr Global) → wildcard_names (expr_tree (Apply f v)) ≡ all_wildcard_names (trees (map expr_tree v.items))
 wildcard_names-Apply f v = ap wildcard_names (expr_tree-Apply f v)
 
 -- the wildcards of an application
-pub pattern_wildcards-Apply : (sig : Sig) (f : code.Spot) (v : Vec Expr Global) → pattern_wildcards sig (expr_tree (Apply f v)) ≡ all_pattern_wildcards sig (trees (map expr_tree v.items))
+pub pattern_wildcards-Apply : (sig : Sig) (f : code.Word) (v : Vec Expr Global) → pattern_wildcards sig (expr_tree (Apply f v)) ≡ all_pattern_wildcards sig (trees (map expr_tree v.items))
 pattern_wildcards-Apply sig f v = ap (pattern_wildcards sig) (expr_tree-Apply f v)
 
 -- the nodes of an infix expression
-pub nodes-Infix : (place : Place) (sign : code.Spot) (v : Vec Expr Global) → nodes (expr_tree (Infix place sign v)) ≡ 1 + all_nodes (trees (map expr_tree v.items))
+pub nodes-Infix : (place : Place) (sign : code_sign.InfixSign) (v : Vec Expr Global) → nodes (expr_tree (Infix place sign v)) ≡ 1 + all_nodes (trees (map expr_tree v.items))
 nodes-Infix place sign v = ap nodes (expr_tree-Infix place sign v) ∙ omega arith
 
 -- the names of the wildcards of an infix expression
-pub wildcard_names-Infix : (place : Place) (sign : code.Spot) (v : Vec Expr Global) → wildcard_names (expr_tree (Infix place sign v)) ≡ all_wildcard_names (trees (map expr_tree v.items))
+pub wildcard_names-Infix : (place : Place) (sign : code_sign.InfixSign) (v : Vec Expr Global) → wildcard_names (expr_tree (Infix place sign v)) ≡ all_wildcard_names (trees (map expr_tree v.items))
 wildcard_names-Infix place sign v = ap wildcard_names (expr_tree-Infix place sign v)
 
 -- the wildcards of an application
-pub wildcards-Apply : (f : code.Spot) (v : Vec Expr Global) → wildcards (expr_tree (Apply f v)) ≡ all_wildcards (trees (map expr_tree v.items))
+pub wildcards-Apply : (f : code.Word) (v : Vec Expr Global) → wildcards (expr_tree (Apply f v)) ≡ all_wildcards (trees (map expr_tree v.items))
 wildcards-Apply f v = ap wildcards (expr_tree-Apply f v)
 
 -- the wildcards of an infix expression
-pub wildcards-Infix : (place : Place) (sign : code.Spot) (v : Vec Expr Global) → wildcards (expr_tree (Infix place sign v)) ≡ all_wildcards (trees (map expr_tree v.items))
+pub wildcards-Infix : (place : Place) (sign : code_sign.InfixSign) (v : Vec Expr Global) → wildcards (expr_tree (Infix place sign v)) ≡ all_wildcards (trees (map expr_tree v.items))
 wildcards-Infix place sign v = ap wildcards (expr_tree-Infix place sign v)
 
 -- an item has no more nodes than the list

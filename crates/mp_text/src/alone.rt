@@ -5,7 +5,6 @@ ghost use Rattle.mp_term.specs.Tree as term;
 ghost use Rattle.mp_term.specs.View.{tree};
 ghost use Rattle.mp_pattern.specs.PatternTree as pattern;
 ghost use Rattle.mp_pattern.specs.View.{pattern_tree};
-ghost use Rattle.mp_syntax.specs.Syntax.{HasNames};
 ghost use Rattle.mp_syntax.specs.Reading.{expr_reading};
 ghost use Rattle.mp_syntax.specs.View.{expr_tree};
 ghost use Rattle.mp_text.specs.declared.fault.TextFault as plain;
@@ -102,7 +101,6 @@ fn pattern_of_text(alloc: Global, sig: &Signature, bytes: &[u8]) -> Result<Patte
 
 /// The normal form of the term of an expression alone, or its first fault.
 fn term_alone(alloc: Global, sig: &Signature, expr: &Expr<'_>) -> Result<Term, TextError>
-    requires { HasNames (expr_tree expr.now) }
     ensures { Gives result (term_alone_faults sig.now (expr_tree expr.now)) (λ t. tree t ≡ normal_term_of sig.now (expr_tree expr.now)) }
 {
     if is_large_term(expr) {
@@ -113,7 +111,6 @@ fn term_alone(alloc: Global, sig: &Signature, expr: &Expr<'_>) -> Result<Term, T
 
 /// The pattern of an expression alone as it is written, or its first fault.
 fn pattern_alone(alloc: Global, sig: &Signature, expr: &Expr<'_>) -> Result<Pattern, TextError>
-    requires { HasNames (expr_tree expr.now) }
     ensures { Gives result (pattern_alone_faults sig.now (expr_tree expr.now)) (λ p. pattern_tree p ≡ pattern_of sig.now (expr_tree expr.now)) }
 {
     if is_large_pattern(alloc, expr)? {

@@ -2,7 +2,6 @@
 
 ghost use Rattle.std.specs.Prelude.{◌≡◌};
 ghost use Rattle.mp_pattern.specs.CondView.{operand, amount, cond_tree};
-ghost use Rattle.mp_syntax.specs.Syntax.{HasNames, AmountHasNames, AtomHasNames};
 ghost use Rattle.mp_syntax.specs.View.{spot_of, expr_tree, amount_tree, atom_tree};
 ghost use Rattle.mp_text.specs.Answers.{Gives};
 ghost use Rattle.mp_text.specs.Build.{op_number, kind_number, head_number};
@@ -17,7 +16,7 @@ use crate::reader::subject_term;
 use crate::scope::{Scope, is_bound, is_bound_sequence};
 use mp_pattern::{Amount, Cond, Operand, Sense};
 use mp_syntax as syntax;
-use mp_syntax::{Atom, Expr, Measure, Property, Relation, Spot};
+use mp_syntax::{Atom, Expr, Measure, Property, Relation, Word};
 use mp_term::{KindId, OpId, Signature};
 use std::alloc::Global;
 
@@ -25,7 +24,7 @@ use std::alloc::Global;
 const MAX_NUMBER: u32 = 1_000_000;
 
 /// A variable that is named is one of those that may be.
-fn check_bound(scope: &Scope<'_>, name: Spot<'_>) -> Result<(), TextError>
+fn check_bound(scope: &Scope<'_>, name: Word<'_>) -> Result<(), TextError>
     ensures { Gives result (unbound_faults (scope_of scope.now) (spot_of name.entry)) (λ _. Unit {0}) }
 {
     match scope {
@@ -40,7 +39,7 @@ fn check_bound(scope: &Scope<'_>, name: Spot<'_>) -> Result<(), TextError>
 }
 
 /// A variable that is named stands for one term.
-fn check_single(scope: &Scope<'_>, name: Spot<'_>) -> Result<(), TextError>
+fn check_single(scope: &Scope<'_>, name: Word<'_>) -> Result<(), TextError>
     ensures { Gives result (sequence_faults (scope_of scope.now) (spot_of name.entry)) (λ _. Unit {0}) }
 {
     match scope {
@@ -71,13 +70,12 @@ fn build_operand(
     scope: &Scope<'_>,
     expr: &Expr<'_>,
 ) -> Result<Operand, TextError>
-    requires { HasNames (expr_tree expr.now) }
     ensures { Gives result (operand_faults sig.now (scope_of scope.now) (expr_tree expr.now)) (λ a. operand a ≡ operand_of sig.now (expr_tree expr.now)) }
 {
     match expr {
         Expr::Variable(name) => {
             check_bound(scope, *name)?;
-            let name = new_name(alloc, name.text)?;
+            let name = new_name(alloc, *name)?;
             Ok(Operand::Var(name))
         }
         _ => {
@@ -95,7 +93,6 @@ fn build_related(
     relation: Relation,
     expr: &Expr<'_>,
 ) -> Result<Operand, TextError>
-    requires { HasNames (expr_tree expr.now) }
     ensures { Gives result (related_faults sig.now (scope_of scope.now) relation (expr_tree expr.now)) (λ a. operand a ≡ operand_of sig.now (expr_tree expr.now)) }
 {
     let operand = build_operand(alloc, sig, scope, expr)?;
@@ -112,7 +109,6 @@ fn build_amount(
     scope: &Scope<'_>,
     side: &syntax::Amount<'_>,
 ) -> Result<Amount, TextError>
-    requires { AmountHasNames (amount_tree side.now) }
     ensures { Gives result (amount_faults sig.now (scope_of scope.now) (amount_tree side.now)) (λ a. amount a ≡ amount_of sig.now (amount_tree side.now)) }
 {
     match side {
@@ -166,7 +162,7 @@ fn related(relation: Relation, left: Operand, right: Operand) -> Cond
 }
 
 /// The kind of that name.
-fn kind_named(sig: &Signature, name: Spot<'_>) -> Result<KindId, TextError>
+fn kind_named(sig: &Signature, name: Word<'_>) -> Result<KindId, TextError>
     ensures { Gives result (property_faults sig.now Property.Kind (spot_of name.entry)) (λ k. k.0 ≡ head_number (kind_number sig.now name.entry.text.now)) }
 {
     match sig.find_kind(name.text) {
@@ -176,7 +172,7 @@ fn kind_named(sig: &Signature, name: Spot<'_>) -> Result<KindId, TextError>
 }
 
 /// The operation of that name.
-fn op_named(sig: &Signature, name: Spot<'_>) -> Result<OpId, TextError>
+fn op_named(sig: &Signature, name: Word<'_>) -> Result<OpId, TextError>
     ensures { Gives result (property_faults sig.now Property.Head (spot_of name.entry)) (λ f. f.0 ≡ head_number (op_number sig.now name.entry.text.now)) }
 {
     match sig.find_op(name.text) {
@@ -190,7 +186,7 @@ fn tested(
     sig: &Signature,
     property: Property,
     of: Operand,
-    name: Spot<'_>,
+    name: Word<'_>,
 ) -> Result<Cond, TextError>
     ensures { Gives result (property_faults sig.now property (spot_of name.entry)) (λ c. cond_tree c ≡ tested sig.now property (operand of) name.entry.text.now) }
 {
@@ -213,7 +209,6 @@ pub fn build_atom(
     scope: &Scope<'_>,
     atom: &Atom<'_>,
 ) -> Result<Cond, TextError>
-    requires { AtomHasNames (atom_tree atom.now) }
     ensures { Gives result (atom_faults sig.now (scope_of scope.now) (atom_tree atom.now)) (λ c. cond_tree c ≡ atom_of sig.now (atom_tree atom.now)) }
 {
     match atom {

@@ -1,8 +1,7 @@
 //! Makes terms and patterns of expressions, and checks them on the way.
 
-ghost use Rattle.std.specs.Prelude.{◌≡◌, ◌≢◌, [], ◌∷◌, ◌++◌, length, map, true, None, is_some, option_map};
+ghost use Rattle.std.specs.Prelude.{◌≡◌, [], ◌∷◌, ◌++◌, length, map, None, is_some, option_map};
 ghost use Rattle.std.specs.List.{list_any};
-ghost use Rattle.mp_term.specs.Names.{is_name};
 ghost use Rattle.mp_term.specs.Signature.{allows};
 ghost use Rattle.mp_term.specs.Tree as term;
 ghost use Rattle.mp_term.specs.View.{tree};
@@ -10,8 +9,8 @@ ghost use Rattle.mp_pattern.specs.PatternTree as pattern;
 ghost use Rattle.mp_pattern.specs.PatternTree.{wild_pattern};
 ghost use Rattle.mp_text.specs.declared.fault.TextKind.TheVariants.{UnknownKind};
 ghost use Rattle.mp_pattern.specs.View.{pattern_tree, wildcard};
-ghost use Rattle.mp_syntax.specs.Syntax.{trees, tree_list, InfixOf, HasParts, HasNames, HaveNames};
-ghost use Rattle.mp_syntax.specs.View.{spot_of, wildcard_of, expr_tree};
+ghost use Rattle.mp_syntax.specs.Syntax.{trees, tree_list, InfixOf};
+ghost use Rattle.mp_syntax.specs.View.{spot_of, wildcard_of, expr_tree, spot_of_sign};
 ghost use Rattle.mp_text.specs.Answers.{Gives, Fails};
 ghost use Rattle.mp_text.specs.Build.{op_number, sign_number, head_number, marked_shape, shape_of, variable_of, term_of, terms_of, pattern_of, patterns_of};
 ghost use Rattle.mp_text.specs.Wildcards.{pattern_wildcards, all_pattern_wildcards};
@@ -22,16 +21,15 @@ use crate::checks::allows_patterns;
 use crate::fault::{TextError, TextKind, error_at};
 use crate::wildcard::{PatternWildcard, build_optional, build_wildcard};
 use mp_pattern::{Pattern, Patterns, Shape};
-use mp_syntax::{Expr, Place, Spot, Wildcard};
+use mp_syntax::{Expr, InfixSign, Place, Wildcard, Word};
 use mp_term::{Name, NameFault, OpDecl, OpId, Signature, Term, Terms};
 use std::alloc::Global;
 
-/// The name of these bytes, which are the spelling of one. `Memory` comes where there is no room for it.
-pub fn new_name(alloc: Global, bytes: &[u8]) -> Result<Name, TextError>
-    requires { is_name bytes.now ≡ true }
-    ensures { Gives result [] (λ n. n ≡ bytes.now) }
+/// The name that a word is. `Memory` comes where there is no room for it.
+pub fn new_name(alloc: Global, word: Word<'_>) -> Result<Name, TextError>
+    ensures { Gives result [] (λ n. n ≡ word.entry.text.now) }
 {
-    match Name::new(alloc, bytes) {
+    match Name::new(alloc, word.text) {
         Ok(name) => Ok(name),
         Err(NameFault::Memory) => Err(TextError::Memory),
         Err(NameFault::Spelling) => unreachable!(),
@@ -70,19 +68,18 @@ fn allows(decl: &OpDecl, count: usize) -> bool
     }
 }
 
-/// The symbol of a word, which has the spelling of a name and isn't the name of an operation.
-pub fn symbol(alloc: Global, sig: &Signature, word: Spot<'_>) -> Result<Name, TextError>
-    requires { is_name word.text.now ≡ true }
+/// The symbol of a word, which isn't the name of an operation.
+pub fn symbol(alloc: Global, sig: &Signature, word: Word<'_>) -> Result<Name, TextError>
     ensures { Gives result (symbol_faults sig.now (spot_of word.entry)) (λ n. n ≡ word.entry.text.now) }
 {
     if sig.find_op(word.text).is_some() {
         return Err(error_at(TextKind::BareOperation, word.place));
     }
-    new_name(alloc, word.text)
+    new_name(alloc, word)
 }
 
 /// The operation that is applied to these terms.
-fn term_head(sig: &Signature, name: Spot<'_>, args: &[Expr<'_>]) -> Result<OpId, TextError>
+fn term_head(sig: &Signature, name: Word<'_>, args: &[Expr<'_>]) -> Result<OpId, TextError>
     ensures { Gives result (head_faults (allows (length args.now)) (spot_of name.entry) (op_named sig.now name.entry.text.now)) (λ id. id.0 ≡ head_number (op_number sig.now name.entry.text.now)) }
 {
     match find_decl(sig, name.text) {
@@ -100,7 +97,7 @@ fn term_head(sig: &Signature, name: Spot<'_>, args: &[Expr<'_>]) -> Result<OpId,
 fn term_sign(
     sig: &Signature,
     place: Place,
-    sign: Spot<'_>,
+    sign: InfixSign<'_>,
     count: usize,
 ) -> Result<Option<OpId>, TextError>
     ensures { Gives result (arity_faults (allows count) place (op_signed sig.now sign.entry.text.now))
@@ -118,7 +115,7 @@ fn term_sign(
 }
 
 /// The operation that is applied to these patterns.
-fn pattern_head(sig: &Signature, name: Spot<'_>, args: &[Expr<'_>]) -> Result<OpId, TextError>
+fn pattern_head(sig: &Signature, name: Word<'_>, args: &[Expr<'_>]) -> Result<OpId, TextError>
     ensures { Gives result (head_faults (allows_patterns (map expr_tree args.now)) (spot_of name.entry) (op_named sig.now name.entry.text.now)) (λ id. id.0 ≡ head_number (op_number sig.now name.entry.text.now)) }
 {
     match find_decl(sig, name.text) {
@@ -136,7 +133,7 @@ fn pattern_head(sig: &Signature, name: Spot<'_>, args: &[Expr<'_>]) -> Result<Op
 fn pattern_sign(
     sig: &Signature,
     place: Place,
-    sign: Spot<'_>,
+    sign: InfixSign<'_>,
     operands: &[Expr<'_>],
 ) -> Result<Option<OpId>, TextError>
     ensures { Gives result (arity_faults (allows_patterns (map expr_tree operands.now)) place (op_signed sig.now sign.entry.text.now))
@@ -156,7 +153,6 @@ fn pattern_sign(
 /// The term of an expression as it is written, or its first fault.
 #[cycle(build_term)]
 pub fn build_term(alloc: Global, sig: &Signature, expr: &Expr<'_>) -> Result<Term, TextError>
-    requires { HasNames (expr_tree expr.now) }
     ensures { Gives result (term_faults sig.now (expr_tree expr.now)) (λ t. tree t ≡ term_of sig.now (expr_tree expr.now)) }
 {
     match expr {
@@ -196,11 +192,10 @@ fn infix_term(
     alloc: Global,
     sig: &Signature,
     place: Place,
-    sign: Spot<'_>,
+    sign: InfixSign<'_>,
     operands: &[Expr<'_>],
 ) -> Result<Term, TextError>
-    requires { HaveNames (trees (map expr_tree operands.now)) }
-    ensures { Gives result (term_faults sig.now (InfixOf place (spot_of sign.entry) (trees (map expr_tree operands.now)))) (λ t. tree t ≡ term_of sig.now (InfixOf place (spot_of sign.entry) (trees (map expr_tree operands.now)))) }
+    ensures { Gives result (term_faults sig.now (InfixOf place (spot_of_sign sign.entry) (trees (map expr_tree operands.now)))) (λ t. tree t ≡ term_of sig.now (InfixOf place (spot_of_sign sign.entry) (trees (map expr_tree operands.now)))) }
 {
     match term_sign(sig, place, sign, operands.len())? {
         None => Err(unknown_term_sign(alloc, sig, sign, operands)),
@@ -216,11 +211,10 @@ fn infix_term(
 fn unknown_term_sign(
     alloc: Global,
     sig: &Signature,
-    sign: Spot<'_>,
+    sign: InfixSign<'_>,
     operands: &[Expr<'_>],
 ) -> TextError
-    requires { HaveNames (trees (map expr_tree operands.now)) }
-    ensures { Fails result (term_operand_faults sig.now (sign_faults (spot_of sign.entry) None) (trees (map expr_tree operands.now))) }
+    ensures { Fails result (term_operand_faults sig.now (sign_faults (spot_of_sign sign.entry) None) (trees (map expr_tree operands.now))) }
 {
     if let [first, ..] = operands {
         if let Err(error) = build_term(alloc, sig, first) {
@@ -233,7 +227,6 @@ fn unknown_term_sign(
 /// The terms of expressions, or their first fault.
 #[cycle(build_term)]
 fn build_terms(alloc: Global, sig: &Signature, exprs: &[Expr<'_>]) -> Result<Terms, TextError>
-    requires { HaveNames (trees (map expr_tree exprs.now)) }
     ensures { Gives result (all_term_faults sig.now (trees (map expr_tree exprs.now))) (λ ts. ts ≡ map (term_of sig.now) (map expr_tree exprs.now)) }
 {
     let mut terms = Terms::new(alloc);
@@ -254,7 +247,6 @@ fn build_pattern<'a>(
     expr: &Expr<'a>,
     before: &mut Vec<PatternWildcard<'a>>,
 ) -> Result<Pattern, TextError>
-    requires { HasNames (expr_tree expr.now) }
     ensures { Gives result (pattern_faults sig.now (map wildcard_view before.old.items) (expr_tree expr.now))
         (λ p. (pattern_tree p ≡ pattern_of sig.now (expr_tree expr.now)) × (map wildcard_view before.new.items ≡ map wildcard_view before.old.items ++ pattern_wildcards sig.now (expr_tree expr.now))) }
 {
@@ -289,13 +281,12 @@ fn infix_pattern<'a>(
     alloc: Global,
     sig: &Signature,
     place: Place,
-    sign: Spot<'a>,
+    sign: InfixSign<'a>,
     operands: &[Expr<'a>],
     before: &mut Vec<PatternWildcard<'a>>,
 ) -> Result<Pattern, TextError>
-    requires { HaveNames (trees (map expr_tree operands.now)) }
-    ensures { Gives result (pattern_faults sig.now (map wildcard_view before.old.items) (InfixOf place (spot_of sign.entry) (trees (map expr_tree operands.now))))
-        (λ p. (pattern_tree p ≡ pattern_of sig.now (InfixOf place (spot_of sign.entry) (trees (map expr_tree operands.now)))) × (map wildcard_view before.new.items ≡ map wildcard_view before.old.items ++ all_pattern_wildcards sig.now (trees (map expr_tree operands.now)))) }
+    ensures { Gives result (pattern_faults sig.now (map wildcard_view before.old.items) (InfixOf place (spot_of_sign sign.entry) (trees (map expr_tree operands.now))))
+        (λ p. (pattern_tree p ≡ pattern_of sig.now (InfixOf place (spot_of_sign sign.entry) (trees (map expr_tree operands.now)))) × (map wildcard_view before.new.items ≡ map wildcard_view before.old.items ++ all_pattern_wildcards sig.now (trees (map expr_tree operands.now)))) }
 {
     match pattern_sign(sig, place, sign, operands)? {
         None => Err(unknown_pattern_sign(alloc, sig, sign, operands, before)),
@@ -311,12 +302,11 @@ fn infix_pattern<'a>(
 fn unknown_pattern_sign<'a>(
     alloc: Global,
     sig: &Signature,
-    sign: Spot<'a>,
+    sign: InfixSign<'a>,
     operands: &[Expr<'a>],
     before: &mut Vec<PatternWildcard<'a>>,
 ) -> TextError
-    requires { HaveNames (trees (map expr_tree operands.now)) }
-    ensures { Fails result (pattern_operand_faults sig.now (map wildcard_view before.old.items) (sign_faults (spot_of sign.entry) None) (trees (map expr_tree operands.now))) }
+    ensures { Fails result (pattern_operand_faults sig.now (map wildcard_view before.old.items) (sign_faults (spot_of_sign sign.entry) None) (trees (map expr_tree operands.now))) }
 {
     if let [first, ..] = operands {
         if let Err(error) = build_pattern(alloc, sig, first, before) {
@@ -334,7 +324,6 @@ fn build_patterns<'a>(
     exprs: &[Expr<'a>],
     before: &mut Vec<PatternWildcard<'a>>,
 ) -> Result<Patterns, TextError>
-    requires { HaveNames (trees (map expr_tree exprs.now)) }
     ensures { Gives result (all_pattern_faults sig.now (map wildcard_view before.old.items) (trees (map expr_tree exprs.now)))
         (λ ps. (ps ≡ map (pattern_of sig.now) (map expr_tree exprs.now)) × (map wildcard_view before.new.items ≡ map wildcard_view before.old.items ++ all_pattern_wildcards sig.now (trees (map expr_tree exprs.now)))) }
 {
@@ -372,21 +361,23 @@ fn marked_shape(marks: usize) -> Shape
     }
 }
 
-/// The variable of a wildcard, whose name has the spelling of one where it isn't empty.
+/// The variable of a wildcard, where it has a name.
 pub fn variable(alloc: Global, wild: Wildcard<'_>) -> Result<Option<Name>, TextError>
-    requires { wild.name.now ≢ [] → is_name wild.name.now ≡ true }
     ensures { Gives result [] (λ v. v ≡ variable_of wild.entry.name.now) }
 {
     if wild.name.is_empty() {
         return Ok(None);
     }
-    let name = new_name(alloc, wild.name)?;
+    let word = Word {
+        text: wild.name,
+        place: wild.place,
+    };
+    let name = new_name(alloc, word)?;
     Ok(Some(name))
 }
 
 /// The pattern of a whole expression as it is written, or its first fault.
 pub fn whole_pattern(alloc: Global, sig: &Signature, expr: &Expr<'_>) -> Result<Pattern, TextError>
-    requires { HasNames (expr_tree expr.now) }
     ensures { Gives result (whole_pattern_faults sig.now (expr_tree expr.now)) (λ p. pattern_tree p ≡ pattern_of sig.now (expr_tree expr.now)) }
 {
     check_root(expr)?;

@@ -4,7 +4,6 @@ ghost use Rattle.std.specs.Prelude.{◌≡◌, ◌<◌, ◌-◌, ◌^◌, length
 ghost use Rattle.mp_pattern.specs.CondTree as cond;
 ghost use Rattle.mp_pattern.specs.CondView.{cond_tree};
 ghost use Rattle.mp_syntax.specs.Lexing.{first_token_place};
-ghost use Rattle.mp_syntax.specs.Syntax.{ConditionHasNames};
 ghost use Rattle.mp_syntax.specs.Reading.{condition_reading};
 ghost use Rattle.mp_syntax.specs.View.{condition_tree};
 ghost use Rattle.mp_text.specs.declared.fault.TextFault as plain;
@@ -109,7 +108,6 @@ fn cond_alone(
     start: Place,
     condition: &Condition<'_>,
 ) -> Result<Cond, TextError>
-    requires { ConditionHasNames (condition_tree condition.now) }
     ensures { Gives result (condition_alone_faults sig.now (scope_of scope.now) start (condition_tree condition.now)) (λ c. cond_tree c ≡ cond_of sig.now (condition_tree condition.now)) }
 {
     if is_large_condition(condition) {

@@ -2,7 +2,7 @@
 
 ghost use Rattle.std.specs.Prelude.{◌≡◌, [], map};
 ghost use Rattle.mp_pattern.specs.CondView.{cond_tree};
-ghost use Rattle.mp_syntax.specs.Syntax.{condition, literals, ConditionHasNames, LiteralHasNames, LiteralsHaveNames};
+ghost use Rattle.mp_syntax.specs.Syntax.{condition, literals};
 ghost use Rattle.mp_syntax.specs.View.{literal_tree, alternative_tree, condition_tree};
 ghost use Rattle.mp_text.specs.Answers.{Gives};
 ghost use Rattle.mp_text.specs.Conditions.{negated_if, literal_of, alternative_of, cond_of};
@@ -36,7 +36,6 @@ pub fn build_condition(
     scope: &Scope<'_>,
     condition: &Condition<'_>,
 ) -> Result<Cond, TextError>
-    requires { ConditionHasNames (condition_tree condition.now) }
     ensures { Gives result (condition_faults sig.now (scope_of scope.now) (condition_tree condition.now)) (λ c. cond_tree c ≡ cond_of sig.now (condition_tree condition.now)) }
 {
     let alternatives = condition.alternatives.as_slice();
@@ -55,7 +54,6 @@ fn build_alternatives(
     scope: &Scope<'_>,
     alternatives: &[Alternative<'_>],
 ) -> Result<Conds, TextError>
-    requires { ConditionHasNames (condition (map alternative_tree alternatives.now)) }
     ensures { Gives result (condition_faults sig.now (scope_of scope.now) (condition (map alternative_tree alternatives.now))) (λ cs. cs ≡ map (alternative_of sig.now) (map alternative_tree alternatives.now)) }
 {
     let mut conds = Conds::new(alloc);
@@ -74,7 +72,6 @@ fn build_alternative(
     scope: &Scope<'_>,
     alternative: &Alternative<'_>,
 ) -> Result<Cond, TextError>
-    requires { LiteralsHaveNames (alternative_tree alternative.now) }
     ensures { Gives result (literals_faults sig.now (scope_of scope.now) (alternative_tree alternative.now)) (λ c. cond_tree c ≡ alternative_of sig.now (alternative_tree alternative.now)) }
 {
     let literals = alternative.literals.as_slice();
@@ -93,7 +90,6 @@ fn build_literals(
     scope: &Scope<'_>,
     parts: &[Literal<'_>],
 ) -> Result<Conds, TextError>
-    requires { LiteralsHaveNames (literals (map literal_tree parts.now)) }
     ensures { Gives result (literals_faults sig.now (scope_of scope.now) (literals (map literal_tree parts.now))) (λ cs. cs ≡ map (literal_of sig.now) (map literal_tree parts.now)) }
 {
     let mut conds = Conds::new(alloc);
@@ -112,7 +108,6 @@ fn build_literal(
     scope: &Scope<'_>,
     literal: &Literal<'_>,
 ) -> Result<Cond, TextError>
-    requires { LiteralHasNames (literal_tree literal.now) }
     ensures { Gives result (literal_faults sig.now (scope_of scope.now) (literal_tree literal.now)) (λ c. cond_tree c ≡ literal_of sig.now (literal_tree literal.now)) }
 {
     match literal {

@@ -5,19 +5,18 @@ ghost use Rattle.mp_term.specs.declared.signature.OpDecl as decl;
 ghost use Rattle.mp_term.specs.Names.{is_name};
 ghost use Rattle.mp_term.specs.Signature.{in_order};
 ghost use Rattle.mp_syntax.specs.Syntax as syntax;
-ghost use Rattle.mp_syntax.specs.Syntax.{AreNames, HaveSigns, StatementHasNames, StatementsHaveNames};
-ghost use Rattle.mp_syntax.specs.View.{spot_of, flag_of, statement_tree};
+ghost use Rattle.mp_syntax.specs.View.{spot_of, flag_of, statement_tree, spot_of_sign};
 ghost use Rattle.mp_text.specs.Answers.{Gives};
 ghost use Rattle.mp_text.specs.Build.{op_decl, op_decls, kind_decl, sig_with, sig_of};
 ghost use Rattle.mp_text.specs.Checks.{symbol_faults, name_faults, has_bad_flags, held_sign_faults, op_faults, kind_faults, op_statement_faults, kind_statement_faults, declaration_faults, faults_by};
-ghost use Rattle.mp_text.specs.Flags.{sign_spot, IsSpelledSign};
+ghost use Rattle.mp_text.specs.Flags.{sign_spot, is_long_sign};
 ghost use Rattle.mp_text.specs.Names.{is_among, number_of};
 
 use crate::build::{new_name, symbol};
 use crate::checks::{MAX_ARITY, number_of};
 use crate::fault::{TextError, TextKind, error_at};
 use crate::flags::{has_bad_flags, is_said_assoc, is_said_comm, is_said_one, sign_spot};
-use mp_syntax::{Flag, Spot, Statement};
+use mp_syntax::{Flag, InfixSign, Statement, Word};
 use mp_term::{NameFault, Names, OpDecl, Sign, Signature};
 use std::alloc::Global;
 
@@ -30,7 +29,7 @@ const MAX_MEMBERS: usize = 10_000;
 
 /// Checks the name of a statement: whether an earlier one of its sort has it, how many there are, and whether this one is too large.
 pub fn check_name(
-    name: Spot<'_>,
+    name: Word<'_>,
     is_held: bool,
     count: usize,
     most: usize,
@@ -49,8 +48,8 @@ pub fn check_name(
 }
 
 /// Checks that no operation of the signature has the sign.
-fn check_sign(sig: &Signature, sign: Option<Spot<'_>>) -> Result<(), TextError>
-    ensures { Gives result (held_sign_faults sig.now.ops (option_map (λ s. spot_of s) sign.entry)) (λ _. Unit {0}) }
+fn check_sign(sig: &Signature, sign: Option<InfixSign<'_>>) -> Result<(), TextError>
+    ensures { Gives result (held_sign_faults sig.now.ops (option_map spot_of_sign sign.entry)) (λ _. Unit {0}) }
 {
     match sign {
         None => Ok(()),
@@ -66,8 +65,8 @@ fn check_sign(sig: &Signature, sign: Option<Spot<'_>>) -> Result<(), TextError>
 /// Checks the declaration of an operation.
 fn check_op(
     sig: &Signature,
-    name: Spot<'_>,
-    least: Spot<'_>,
+    name: Word<'_>,
+    least: Word<'_>,
     is_open: bool,
     flags: &[Flag<'_>],
 ) -> Result<(), TextError>
@@ -85,9 +84,9 @@ fn check_op(
     check_sign(sig, sign_spot(flags))
 }
 
-/// The sign of a flag, where there is one. It has the spelling of a sign.
-fn new_sign(alloc: Global, sign: Option<Spot<'_>>) -> Result<Option<Sign>, TextError>
-    requires { IsSpelledSign (option_map (λ s. spot_of s) sign) }
+/// The sign of a flag, where there is one. It has 4 bytes at most.
+fn new_sign(alloc: Global, sign: Option<InfixSign<'_>>) -> Result<Option<Sign>, TextError>
+    requires { is_long_sign (option_map spot_of_sign sign) ≡ false }
     ensures { Gives result [] (λ s. s ≡ option_map (λ s. s.text.now) sign.entry) }
 {
     match sign {
@@ -103,18 +102,17 @@ fn new_sign(alloc: Global, sign: Option<Spot<'_>>) -> Result<Option<Sign>, TextE
 /// The declaration of an operation, which has no fault.
 fn new_decl(
     alloc: Global,
-    name: Spot<'_>,
-    least: Spot<'_>,
+    name: Word<'_>,
+    least: Word<'_>,
     is_open: bool,
     flags: &[Flag<'_>],
 ) -> Result<OpDecl, TextError>
-    requires name { is_name name.text.now ≡ true }
     requires least { number_of least.text.now ≤ 1000 }
-    requires sign { IsSpelledSign (sign_spot (map flag_of flags.now)) }
+    requires sign { is_long_sign (sign_spot (map flag_of flags.now)) ≡ false }
     ensures { Gives result [] (λ d. d ≡ op_decl (spot_of name.entry) (spot_of least.entry) is_open (map flag_of flags.now)) }
 {
     Ok(OpDecl {
-        name: new_name(alloc, name.text)?,
+        name: new_name(alloc, name)?,
         least: number_of(least.text, MAX_ARITY),
         fixed: !is_open,
         assoc: is_said_assoc(flags),
@@ -124,17 +122,15 @@ fn new_decl(
     })
 }
 
-/// Declares an operation, whose name and sign have the spelling of such.
+/// Declares an operation.
 fn declare_op(
     alloc: Global,
     sig: &mut Signature,
-    name: Spot<'_>,
-    least: Spot<'_>,
+    name: Word<'_>,
+    least: Word<'_>,
     is_open: bool,
     flags: &[Flag<'_>],
 ) -> Result<(), TextError>
-    requires name { is_name name.text.now ≡ true }
-    requires signs { HaveSigns (map flag_of flags.now) }
     ensures { Gives result (op_faults sig.old.ops (spot_of name.entry) (spot_of least.entry) is_open (map flag_of flags.now))
         (λ _. sig.new ≡ record sig.old { ops = sig.old.ops ++ op_decl (spot_of name.entry) (spot_of least.entry) is_open (map flag_of flags.now) ∷ [] }) }
 {
@@ -146,9 +142,8 @@ fn declare_op(
     }
 }
 
-/// The members of a kind, which have the spelling of names, or the first fault.
-fn new_members(alloc: Global, sig: &Signature, members: &[Spot<'_>]) -> Result<Names, TextError>
-    requires { AreNames (map spot_of members.now) }
+/// The members of a kind, or the first fault.
+fn new_members(alloc: Global, sig: &Signature, members: &[Word<'_>]) -> Result<Names, TextError>
     ensures { Gives result (flat_map (symbol_faults sig.now) (map spot_of members.now)) (λ ns. ns ≡ map (λ m. m.text) (map spot_of members.now)) }
 {
     let mut names = Names::new(alloc);
@@ -159,15 +154,13 @@ fn new_members(alloc: Global, sig: &Signature, members: &[Spot<'_>]) -> Result<N
     Ok(names)
 }
 
-/// Declares a kind, whose name and members have the spelling of names.
+/// Declares a kind.
 fn declare_kind(
     alloc: Global,
     sig: &mut Signature,
-    name: Spot<'_>,
-    members: &[Spot<'_>],
+    name: Word<'_>,
+    members: &[Word<'_>],
 ) -> Result<(), TextError>
-    requires name { is_name name.text.now ≡ true }
-    requires members { AreNames (map spot_of members.now) }
     ensures { Gives result (kind_faults sig.old (spot_of name.entry) (map spot_of members.now))
         (λ _. sig.new ≡ record sig.old { kinds = sig.old.kinds ++ kind_decl (spot_of name.entry) (map spot_of members.now) ∷ [] }) }
 {
@@ -181,7 +174,7 @@ fn declare_kind(
         is_large,
     )?;
     let members = new_members(alloc, sig, members)?;
-    let name = new_name(alloc, name.text)?;
+    let name = new_name(alloc, name)?;
     match sig.add_kind(name, members) {
         Ok(_) => Ok(()),
         Err(_) => Err(TextError::Memory),
@@ -194,7 +187,6 @@ fn declare_op_of(
     sig: &mut Signature,
     statement: &Statement<'_>,
 ) -> Result<(), TextError>
-    requires { StatementHasNames (statement_tree statement.now) }
     ensures { (earlier : List syntax.Statement) → sig.old ≡ sig_with (op_decls earlier) []
         → Gives result (op_statement_faults earlier (statement_tree statement.now)) (λ _. sig.new ≡ sig_with (op_decls (earlier ++ statement_tree statement.now ∷ [])) []) }
 {
@@ -217,7 +209,6 @@ fn declare_kind_of(
     sig: &mut Signature,
     statement: &Statement<'_>,
 ) -> Result<(), TextError>
-    requires { StatementHasNames (statement_tree statement.now) }
     ensures { (ds : List decl.OpDecl) (earlier : List syntax.Statement) → sig.old ≡ sig_with ds earlier
         → Gives result (kind_statement_faults ds earlier (statement_tree statement.now)) (λ _. sig.new ≡ sig_with ds (earlier ++ statement_tree statement.now ∷ [])) }
 {
@@ -231,7 +222,6 @@ fn declare_kind_of(
 
 /// The signature of the operations that the statements declare, or the first fault of such a declaration.
 fn declare_ops(alloc: Global, statements: &[Statement<'_>]) -> Result<Signature, TextError>
-    requires { StatementsHaveNames (map statement_tree statements.now) }
     ensures { Gives result (faults_by op_statement_faults [] (map statement_tree statements.now)) (λ sig. sig ≡ sig_with (op_decls (map statement_tree statements.now)) []) }
 {
     let mut sig = Signature::new(alloc)?;
@@ -247,7 +237,6 @@ fn declare_kinds(
     sig: &mut Signature,
     statements: &[Statement<'_>],
 ) -> Result<(), TextError>
-    requires names { StatementsHaveNames (map statement_tree statements.now) }
     requires no_kinds { sig.old ≡ sig_with sig.old.ops [] }
     ensures { Gives result (faults_by (kind_statement_faults sig.old.ops) [] (map statement_tree statements.now)) (λ _. sig.new ≡ sig_with sig.old.ops (map statement_tree statements.now)) }
 {
@@ -259,7 +248,6 @@ fn declare_kinds(
 
 /// The signature that the statements declare, or the first fault of a declaration.
 pub fn declare(alloc: Global, statements: &[Statement<'_>]) -> Result<Signature, TextError>
-    requires { StatementsHaveNames (map statement_tree statements.now) }
     ensures { Gives result (declaration_faults (map statement_tree statements.now)) (λ sig. sig ≡ sig_of (map statement_tree statements.now)) }
 {
     let mut sig = declare_ops(alloc, statements)?;

@@ -3,13 +3,13 @@
 ghost use Rattle.std.specs.Prelude.{◌≡◌, ◌||◌, ℕ, List, map, min, not, option_map, count_by};
 ghost use Rattle.mp_term.specs.Signature.{in_order};
 ghost use Rattle.mp_syntax.specs.Syntax as syntax;
-ghost use Rattle.mp_syntax.specs.View.{flag_of, spot_of};
+ghost use Rattle.mp_syntax.specs.View.{flag_of, spot_of_sign};
 ghost use Rattle.mp_text.specs.Build.{op_decl};
 ghost use Rattle.mp_text.specs.Checks.{has_bad_flags};
 ghost use Rattle.mp_text.specs.Flags.{says_assoc, says_comm, says_one, says_infix, is_said, some_flag_twice, sign_spot, is_long_sign};
 ghost use Rattle.mp_text.specs.Names.{number_of};
 
-use mp_syntax::{Flag, Spot};
+use mp_syntax::{Flag, InfixSign};
 
 /// How many bytes a sign may have.
 const MAX_SIGN: usize = 4;
@@ -102,8 +102,8 @@ fn some_flag_twice(flags: &[Flag<'_>]) -> bool
 }
 
 /// The first sign of the flags.
-pub fn sign_spot<'a>(flags: &[Flag<'a>]) -> Option<Spot<'a>>
-    ensures { option_map (λ s. spot_of s) result ≡ sign_spot (map flag_of flags.now) }
+pub fn sign_spot<'a>(flags: &[Flag<'a>]) -> Option<InfixSign<'a>>
+    ensures { option_map spot_of_sign result ≡ sign_spot (map flag_of flags.now) }
 {
     for flag in flags {
         if let Flag::Infix(sign) = flag {
@@ -114,8 +114,8 @@ pub fn sign_spot<'a>(flags: &[Flag<'a>]) -> Option<Spot<'a>>
 }
 
 /// The sign has more than 4 bytes.
-fn is_long_sign(sign: Option<Spot<'_>>) -> bool
-    ensures { result ≡ is_long_sign (option_map (λ s. spot_of s) sign.entry) }
+fn is_long_sign(sign: Option<InfixSign<'_>>) -> bool
+    ensures { result ≡ is_long_sign (option_map spot_of_sign sign.entry) }
 {
     match sign {
         None => false,

@@ -4,7 +4,7 @@ ghost use Rattle.std.specs.Prelude.{◌≡◌, ◌<◌, ◌-◌, ◌^◌, ◌↔
 ghost use Rattle.mp_term.specs.Names.{is_name};
 ghost use Rattle.mp_term.specs.Signature.{Sig};
 ghost use Rattle.mp_syntax.specs.Syntax as syntax;
-ghost use Rattle.mp_syntax.specs.Syntax.{RuleOf, SubjectOf, HasNames, IfHasNames, StatementHasNames, StatementsHaveNames};
+ghost use Rattle.mp_syntax.specs.Syntax.{RuleOf, SubjectOf};
 ghost use Rattle.mp_syntax.specs.View.{spot_of, expr_tree, if_tree, statement_tree};
 ghost use Rattle.mp_term.specs.Normal.{normal};
 ghost use Rattle.mp_term.specs.View.{tree};
@@ -27,7 +27,7 @@ use crate::fault::{TextError, TextFault, TextKind};
 use crate::file::{EditSets, File, Subject, Subjects};
 use crate::rule::{build_rule, is_large_rule};
 use mp_pattern::Rules;
-use mp_syntax::{Condition, Expr, Spot, Statement, SyntaxError, read_statements};
+use mp_syntax::{Condition, Expr, Statement, SyntaxError, Word, read_statements};
 use mp_term::{Signature, Term, normalise};
 use std::alloc::Global;
 
@@ -131,7 +131,6 @@ pub(crate) fn subject_term(
     sig: &Signature,
     expr: &Expr<'_>,
 ) -> Result<Term, TextError>
-    requires { HasNames (expr_tree expr.now) }
     ensures { Gives result (term_faults sig.now (expr_tree expr.now)) (λ t. tree t ≡ normal sig.now (term_of sig.now (expr_tree expr.now))) }
 {
     let term = build_term(alloc, sig, expr)?;
@@ -144,13 +143,10 @@ fn add_rule(
     alloc: Global,
     sig: &Signature,
     rules: &mut Rules,
-    name: Spot<'_>,
+    name: Word<'_>,
     pattern: &Expr<'_>,
     condition: &Option<Condition<'_>>,
 ) -> Result<(), TextError>
-    requires name { is_name name.text.now ≡ true }
-    requires pattern { HasNames (expr_tree pattern.now) }
-    requires condition { IfHasNames (if_tree condition.now) }
     ensures { (earlier : List syntax.Statement) → rules.old ≡ rules_of sig.now earlier
         → Gives result (statement_faults sig.now earlier (RuleOf (spot_of name.entry) (expr_tree pattern.now) (if_tree condition.now)))
         (λ _. rules.new ≡ rules_of sig.now (earlier ++ RuleOf (spot_of name.entry) (expr_tree pattern.now) (if_tree condition.now) ∷ [])) }
@@ -168,11 +164,9 @@ fn add_subject(
     alloc: Global,
     sig: &Signature,
     subjects: &mut Subjects,
-    name: Spot<'_>,
+    name: Word<'_>,
     term: &Expr<'_>,
 ) -> Result<(), TextError>
-    requires name { is_name name.text.now ≡ true }
-    requires names { HasNames (expr_tree term.now) }
     ensures { (earlier : List syntax.Statement) → subjects.old ≡ subjects_of sig.now earlier
         → Gives result (statement_faults sig.now earlier (SubjectOf (spot_of name.entry) (expr_tree term.now)))
         (λ _. subjects.new ≡ subjects_of sig.now (earlier ++ SubjectOf (spot_of name.entry) (expr_tree term.now) ∷ [])) }
@@ -181,14 +175,13 @@ fn add_subject(
     let is_held = has_subject(subjects, name.text);
     check_name(name, is_held, subjects.len(), MAX_STATEMENTS, is_large)?;
     let term = subject_term(alloc, sig, term)?;
-    let name = new_name(alloc, name.text)?;
+    let name = new_name(alloc, name)?;
     subjects.push(Subject { name, term })?;
     Ok(())
 }
 
 /// Adds what a statement gives to the file.
 fn add_statement(alloc: Global, file: &mut File, statement: &Statement<'_>) -> Result<(), TextError>
-    requires { StatementHasNames (statement_tree statement.now) }
     ensures { (sig : Sig) (earlier : List syntax.Statement) → file_tree file.old ≡ file_over sig earlier
         → Gives result (statement_faults sig earlier (statement_tree statement.now)) (λ _. file_tree file.new ≡ file_over sig (earlier ++ statement_tree statement.now ∷ [])) }
 {
@@ -212,7 +205,6 @@ fn add_statement(alloc: Global, file: &mut File, statement: &Statement<'_>) -> R
 
 /// The file that the statements stand for, or their first fault.
 fn build_file(alloc: Global, statements: &[Statement<'_>]) -> Result<File, TextError>
-    requires { StatementsHaveNames (map statement_tree statements.now) }
     ensures { Gives result (faults (map statement_tree statements.now)) (λ f. file_tree f ≡ file_tree_of (map statement_tree statements.now)) }
 {
     let sig = declare(alloc, statements)?;

@@ -6,7 +6,6 @@ ghost use Rattle.mp_pattern.specs.Normal.{normal_pattern};
 ghost use Rattle.mp_pattern.specs.View.{pattern_tree};
 ghost use Rattle.mp_pattern.specs.CondView.{cond_tree};
 ghost use Rattle.mp_pattern.specs.RuleView.{rule_tree};
-ghost use Rattle.mp_syntax.specs.Syntax.{HasNames, IfHasNames};
 ghost use Rattle.mp_syntax.specs.View.{spot_of, expr_tree, if_tree};
 ghost use Rattle.mp_text.specs.Answers.{Gives};
 ghost use Rattle.mp_text.specs.Build.{pattern_of};
@@ -24,13 +23,12 @@ use crate::condition_size::is_large_condition;
 use crate::fault::TextError;
 use crate::scope::{Scope, pattern_variables};
 use mp_pattern::{Cond, Pattern, Rule, normalise_pattern};
-use mp_syntax::{Condition, Expr, Spot};
+use mp_syntax::{Condition, Expr, Word};
 use mp_term::Signature;
 use std::alloc::{AllocError, Global};
 
 /// The pattern of an expression in normal form, or its first fault.
 fn rule_pattern(alloc: Global, sig: &Signature, expr: &Expr<'_>) -> Result<Pattern, TextError>
-    requires { HasNames (expr_tree expr.now) }
     ensures { Gives result (whole_pattern_faults sig.now (expr_tree expr.now)) (λ p. pattern_tree p ≡ normal_pattern sig.now (pattern_of sig.now (expr_tree expr.now))) }
 {
     let pattern = whole_pattern(alloc, sig, expr)?;
@@ -45,7 +43,6 @@ fn rule_condition(
     pattern: &Expr<'_>,
     condition: &Option<Condition<'_>>,
 ) -> Result<Option<Cond>, TextError>
-    requires { IfHasNames (if_tree condition.now) }
     ensures { Gives result (if_faults sig.now (Some (pattern_variables (expr_tree pattern.now))) (if_tree condition.now)) (λ c. option_map cond_tree c ≡ condition_of sig.now (if_tree condition.now)) }
 {
     match condition {
@@ -86,18 +83,15 @@ pub fn is_large_rule(
 pub fn build_rule(
     alloc: Global,
     sig: &Signature,
-    name: Spot<'_>,
+    name: Word<'_>,
     pattern: &Expr<'_>,
     condition: &Option<Condition<'_>>,
 ) -> Result<Rule, TextError>
-    requires name { is_name name.text.now ≡ true }
-    requires pattern { HasNames (expr_tree pattern.now) }
-    requires condition { IfHasNames (if_tree condition.now) }
     ensures { Gives result (rule_faults sig.now (expr_tree pattern.now) (if_tree condition.now)) (λ r. rule_tree r ≡ rule_of sig.now (spot_of name.entry) (expr_tree pattern.now) (if_tree condition.now)) }
 {
     let normal = rule_pattern(alloc, sig, pattern)?;
     let condition = rule_condition(alloc, sig, pattern, condition)?;
-    let name = new_name(alloc, name.text)?;
+    let name = new_name(alloc, name)?;
     Ok(Rule {
         name,
         pattern: normal,

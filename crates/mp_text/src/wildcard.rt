@@ -6,7 +6,6 @@ ghost use Rattle.mp_term.specs.View.{tree};
 ghost use Rattle.mp_term.specs.Normal.{normal};
 ghost use Rattle.mp_pattern.specs.PatternTree.{optional, wild_pattern};
 ghost use Rattle.mp_pattern.specs.View.{pattern_tree, wildcard};
-ghost use Rattle.mp_syntax.specs.Syntax.{HasParts, HasNames};
 ghost use Rattle.mp_syntax.specs.View.{wildcard_of, expr_tree};
 ghost use Rattle.mp_text.specs.Answers.{Gives};
 ghost use Rattle.mp_text.specs.Build.{shape_of, variable_of, term_of};
@@ -53,7 +52,6 @@ pub fn build_wildcard<'a>(
     wild: Wildcard<'a>,
     before: &mut Vec<PatternWildcard<'a>>,
 ) -> Result<Pattern, TextError>
-    requires { HasParts (wildcard_of wild) }
     ensures { Gives result (wildcard_faults sig.now (map wildcard_view before.old.items) (without_default (wildcard_of wild.entry)))
         (λ p. (pattern_tree p ≡ wild_pattern (shape_of sig.now (wildcard_of wild.entry)) (variable_of wild.entry.name.now)) × (map wildcard_view before.new.items ≡ map wildcard_view before.old.items ++ without_default (wildcard_of wild.entry) ∷ [])) }
 {
@@ -74,8 +72,6 @@ pub fn build_optional<'a>(
     default: &Expr<'a>,
     before: &mut Vec<PatternWildcard<'a>>,
 ) -> Result<Pattern, TextError>
-    requires parts { HasParts (wildcard_of wild) }
-    requires names { HasNames (expr_tree default.now) }
     ensures { Gives result (wildcard_faults sig.now (map wildcard_view before.old.items) (with_default_form sig.now (wildcard_of wild.entry) (map wildcard_of others.now) (expr_tree default.now)) ++ default_faults sig.now (map wildcard_of others.now) (expr_tree default.now))
         (λ p. (pattern_tree p ≡ wild_pattern (optional (normal sig.now (term_of sig.now (expr_tree default.now)))) (variable_of wild.entry.name.now)) × (map wildcard_view before.new.items ≡ map wildcard_view before.old.items ++ with_default_form sig.now (wildcard_of wild.entry) (map wildcard_of others.now) (expr_tree default.now) ∷ [])) }
 {
@@ -97,7 +93,6 @@ fn add_wildcard<'a>(
     new: PatternWildcard<'a>,
     before: &mut Vec<PatternWildcard<'a>>,
 ) -> Result<(Shape, Option<Name>), TextError>
-    requires { HasParts (wildcard_of new.wildcard) }
     ensures { Gives result (wildcard_faults sig.now (map wildcard_view before.old.items) (wildcard_view new.entry))
         (λ r. (wildcard r.0 ≡ shape_of sig.now (wildcard_of new.entry.wildcard)) × (r.1 ≡ variable_of new.entry.wildcard.name.now) × (map wildcard_view before.new.items ≡ map wildcard_view before.old.items ++ wildcard_view new.entry ∷ [])) }
 {
@@ -117,7 +112,6 @@ fn default_form(
     others: &[Wildcard<'_>],
     default: &Expr<'_>,
 ) -> Result<DefaultForm, TextError>
-    requires { HasNames (expr_tree default.now) }
     ensures { Gives result [] (λ f. default_view f ≡ default_form sig.now (map wildcard_of others.now) (expr_tree default.now)) }
 {
     if !others.is_empty() {
@@ -139,7 +133,6 @@ fn default_term(
     others: &[Wildcard<'_>],
     default: &Expr<'_>,
 ) -> Result<Term, TextError>
-    requires { HasNames (expr_tree default.now) }
     ensures { Gives result (default_faults sig.now (map wildcard_of others.now) (expr_tree default.now)) (λ t. tree t ≡ normal sig.now (term_of sig.now (expr_tree default.now))) }
 {
     if let [other, ..] = others {

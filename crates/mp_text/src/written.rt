@@ -3,7 +3,7 @@
 ghost use Rattle.std.specs.Prelude.{◌≡◌, Option, Some, None, [], map, option_map, if◌then◌else◌};
 ghost use Rattle.mp_term.specs.Tree as term;
 ghost use Rattle.mp_term.specs.View.{tree};
-ghost use Rattle.mp_syntax.specs.Syntax.{trees, HasNames, HaveNames};
+ghost use Rattle.mp_syntax.specs.Syntax.{trees};
 ghost use Rattle.mp_syntax.specs.View.{expr_tree};
 ghost use Rattle.mp_text.specs.Answers.{Gives};
 ghost use Rattle.mp_text.specs.Build.{has_term, all_have_terms, term_of};
@@ -22,12 +22,11 @@ pub fn written_term(
     sig: &Signature,
     expr: &Expr<'_>,
 ) -> Result<Option<Term>, TextError>
-    requires { HasNames (expr_tree expr.now) }
     ensures { Gives result [] (λ o. option_map tree o ≡ (if has_term sig.now (expr_tree expr.now) then Some (term_of sig.now (expr_tree expr.now)) else None)) }
 {
     match expr {
         Expr::Symbol(word) => {
-            let name = new_name(alloc, word.text)?;
+            let name = new_name(alloc, *word)?;
             Ok(Some(Term::Sym(name)))
         }
         Expr::Apply(name, args) => match sig.find_op(name.text) {
@@ -52,7 +51,6 @@ fn written_application(
     op: OpId,
     args: &[Expr<'_>],
 ) -> Result<Option<Term>, TextError>
-    requires { HaveNames (trees (map expr_tree args.now)) }
     ensures { Gives result [] (λ o. option_map tree o ≡ (if all_have_terms sig.now (trees (map expr_tree args.now)) then Some (term.app op.0 (term.trees (map (term_of sig.now) (map expr_tree args.now)))) else None)) }
 {
     match written_terms(alloc, sig, args)? {
@@ -68,7 +66,6 @@ fn written_terms(
     sig: &Signature,
     exprs: &[Expr<'_>],
 ) -> Result<Option<Terms>, TextError>
-    requires { HaveNames (trees (map expr_tree exprs.now)) }
     ensures { Gives result [] (λ o. o ≡ (if all_have_terms sig.now (trees (map expr_tree exprs.now)) then Some (map (term_of sig.now) (map expr_tree exprs.now)) else None)) }
 {
     let mut terms = Terms::new(alloc);

@@ -2,7 +2,7 @@ use Rattle.std.proofs.Common.{◌≡◌, ◌+◌, ◌∷◌, ◌++◌, map, drop
 use Rattle.std.proofs.lemmas.Result.{err_from_is_err_and}
 use Rattle.mp_syntax.specs.Syntax.{Tree, InfixOf, trees, HaveNames}
 use Rattle.mp_pattern.specs.View.{pattern_tree}
-use Rattle.mp_syntax.specs.View.{spot_of, expr_tree}
+use Rattle.mp_syntax.specs.View.{spot_of_sign, expr_tree}
 use Rattle.mp_text.specs.WildcardView.{wildcard_view}
 use Rattle.mp_text.specs.Wildcards.{pattern_wildcards}
 use Rattle.mp_syntax.proofs.Trees.{expr_tree-Infix}
@@ -13,12 +13,8 @@ use Rattle.mp_pattern.specs.PatternTree as pattern
 use Rattle.mp_text.proofs.Applied.{nodes-Apply, nodes-Infix, nodes-item, pattern_wildcards-Apply}
 use Rattle.mp_term.proofs.ListLaws.{drop-item}
 use Rattle.mp_text.proofs.Fails.{fails-front, fails-behind, fails-along, none-append}
-use Rattle.mp_text.proofs.Words.{is_name-IsName}
 use Rattle.mp_text.proofs.Built.{HaveNames-Apply, HaveNames-Infix, none-unknown, pattern_of-Apply, pattern_faults-Apply, pattern_of-operands, pattern_faults-operands, pattern_operand_faults-known}
 use Rattle.mp_text.proofs.build.+build_pattern.Goals as goal
-
-pub build_pattern-symbol-requires : goal.build_pattern-symbol-requires
-build_pattern-symbol-requires t c = is_name-IsName c.in-Symbol.word.text.now (rw c.in-Symbol.is at c.requires)
 
 pub build_pattern-returns-in_err-op-in-Apply : goal.build_pattern-returns-in_err-op-in-Apply
 build_pattern-returns-in_err-op-in-Apply t c =
@@ -45,39 +41,37 @@ pub build_pattern-build_patterns-requires : goal.build_pattern-build_patterns-re
 build_pattern-build_patterns-requires t c =
     let args : nodes (expr_tree c.args.expr.now) ≡ 1 + all_nodes (trees (map expr_tree c.deref-in-Apply.result.now)) =
     rw (c.in-Apply.is, c.deref-in-Apply.ensures.value) (nodes-Apply c.in-Apply.name c.in-Apply.args) in
-    (omega (arith, args, c.decreases), rw c.deref-in-Apply.ensures.value (HaveNames-Apply c.in-Apply.name c.in-Apply.args (rw c.in-Apply.is at c.requires)))
+    omega (arith, args, c.decreases)
 
 pub build_patterns-build_pattern-requires : goal.build_patterns-build_pattern-requires
 build_patterns-build_pattern-requires t c =
-    let here = drop-item c.args.exprs.now c.loop-expr.expr-index c.expr-item.result (omega arith) c.expr-item.is in
-    let named : HaveNames (trees (map expr_tree (c.expr-item.result ∷ drop (c.loop-expr.expr-index + 1) c.args.exprs.now))) = rw here at c.loop-expr.invariant.named in
-    (omega (arith, nodes-item c.args.exprs.now c.loop-expr.expr-index c.expr-item.result (omega arith) c.expr-item.is, c.decreases), named.0)
+    omega (arith, nodes-item c.args.exprs.now c.loop-expr.expr-index c.expr-item.result (omega arith) c.expr-item.is, c.decreases)
 
 pub build_pattern-infix_pattern-requires : goal.build_pattern-infix_pattern-requires
 build_pattern-infix_pattern-requires t c =
     let args : nodes (expr_tree c.args.expr.now) ≡ 1 + all_nodes (trees (map expr_tree c.deref-in-Infix.result.now)) =
     rw (c.in-Infix.is, c.deref-in-Infix.ensures.value) (nodes-Infix c.in-Infix.place c.in-Infix.sign c.in-Infix.operands) in
-    (omega (arith, args, c.decreases), rw c.deref-in-Infix.ensures.value (HaveNames-Infix c.in-Infix.place c.in-Infix.sign c.in-Infix.operands (rw c.in-Infix.is at c.requires)))
+    omega (arith, args, c.decreases)
 
 pub build_pattern-returns-in-Infix : goal.build_pattern-returns-in-Infix
 build_pattern-returns-in-Infix t c =
     let Q : Tree → Type 0 = λ e. Gives c.infix_pattern.result (pattern_faults c.args.sig.now (map wildcard_view c.args.before.now.items) e)
     (λ v. (pattern_tree v ≡ pattern_of c.args.sig.now e) × (map wildcard_view c.infix_pattern.new.before.items ≡ map wildcard_view c.args.before.now.items ++ pattern_wildcards c.args.sig.now e)) in
     let same = ap expr_tree c.in-Infix.is ∙ expr_tree-Infix c.in-Infix.place c.in-Infix.sign c.in-Infix.operands
-    ∙ ap (λ l. InfixOf c.in-Infix.place (spot_of c.in-Infix.sign) (trees (map expr_tree l))) (sym c.deref-in-Infix.ensures.value) in
+    ∙ ap (λ l. InfixOf c.in-Infix.place (spot_of_sign c.in-Infix.sign) (trees (map expr_tree l))) (sym c.deref-in-Infix.ensures.value) in
     subst Q (sym same) c.infix_pattern.ensures
 
 pub infix_pattern-returns-in_err-pattern_sign : goal.infix_pattern-returns-in_err-pattern_sign
 infix_pattern-returns-in_err-pattern_sign t c =
     let p = err_from_is_err_and c.from_residual.result c.from_residual.ensures.1 in
     let e = c.in_err-pattern_sign.field-0.0 in
-    rw (p.1, p.2) (fails-along e _ _ (sym (pattern_faults-operands c.args.sig.now (map wildcard_view c.args.before.now.items) c.args.place (spot_of c.args.sign) c.args.operands.now)) (fails-front e _ _ c.in_err-pattern_sign.ensures))
+    rw (p.1, p.2) (fails-along e _ _ (sym (pattern_faults-operands c.args.sig.now (map wildcard_view c.args.before.now.items) c.args.place (spot_of_sign c.args.sign) c.args.operands.now)) (fails-front e _ _ c.in_err-pattern_sign.ensures))
 
 pub infix_pattern-returns-in-None : goal.infix_pattern-returns-in-None
 infix_pattern-returns-in-None t c =
     let e = c.unknown_pattern_sign.result in
     let sig = c.args.sig.now in
-    let sign = spot_of c.args.sign in
+    let sign = spot_of_sign c.args.sign in
     let none = none-unknown (op_signed sig sign.text) (rw c.in-None.is at c.in_ok-pattern_sign.ensures.1.1) in
     fails-along e _ _ (sym (pattern_faults-operands sig (map wildcard_view c.args.before.now.items) c.args.place sign c.args.operands.now))
     (fails-behind e _ _ c.in_ok-pattern_sign.ensures.0
@@ -88,7 +82,7 @@ infix_pattern-returns-in_err-patterns-in-Some t c =
     let p = err_from_is_err_and c.from_residual-in_err-patterns-in-Some.result c.from_residual-in_err-patterns-in-Some.ensures.1 in
     let e = c.in_err-patterns-in-Some.field-0.0 in
     let sig = c.args.sig.now in
-    let sign = spot_of c.args.sign in
+    let sign = spot_of_sign c.args.sign in
     rw (p.1, p.2)
     (fails-along e _ _ (sym (pattern_faults-operands sig (map wildcard_view c.args.before.now.items) c.args.place sign c.args.operands.now))
     (fails-behind e _ _ c.in_ok-pattern_sign.ensures.0
@@ -97,7 +91,7 @@ infix_pattern-returns-in_err-patterns-in-Some t c =
 pub infix_pattern-returns-in_ok-patterns-in-Some : goal.infix_pattern-returns-in_ok-patterns-in-Some
 infix_pattern-returns-in_ok-patterns-in-Some t c =
     let sig = c.args.sig.now in
-    let sign = spot_of c.args.sign in
+    let sign = spot_of_sign c.args.sign in
     let ts = trees (map expr_tree c.args.operands.now) in (
       pattern_faults-operands sig (map wildcard_view c.args.before.now.items) c.args.place sign c.args.operands.now ∙ none-append _ _ c.in_ok-pattern_sign.ensures.0
           ∙ pattern_operand_faults-known sig (map wildcard_view c.args.before.now.items) sign (op_signed sig sign.text) ts (rw c.in-Some.is at c.in_ok-pattern_sign.ensures.1.1) ∙ c.in_ok-patterns-in-Some.ensures.0,

@@ -2,7 +2,7 @@ use Rattle.std.proofs.Common.{◌≡◌, ◌+◌, ◌∷◌, map, drop, arith, �
 use Rattle.std.proofs.lemmas.Result.{err_from_is_err_and}
 use Rattle.mp_syntax.specs.Syntax.{Tree, InfixOf, trees, HaveNames}
 use Rattle.mp_term.specs.View.{tree}
-use Rattle.mp_syntax.specs.View.{spot_of, expr_tree}
+use Rattle.mp_syntax.specs.View.{spot_of_sign, expr_tree}
 use Rattle.mp_syntax.proofs.Trees.{expr_tree-Infix}
 use Rattle.mp_text.specs.Answers.{Gives}
 use Rattle.mp_text.specs.Checks.{nodes, all_nodes, op_signed, sign_faults, term_faults, term_operand_faults}
@@ -11,12 +11,8 @@ use Rattle.mp_term.specs.Tree as term
 use Rattle.mp_text.proofs.Applied.{nodes-Apply, nodes-Infix, nodes-item}
 use Rattle.mp_term.proofs.ListLaws.{drop-item}
 use Rattle.mp_text.proofs.Fails.{fails-front, fails-behind, fails-along, none-append}
-use Rattle.mp_text.proofs.Words.{is_name-IsName}
 use Rattle.mp_text.proofs.Built.{HaveNames-Apply, HaveNames-Infix, none-unknown, term_of-Apply, term_faults-Apply, term_of-operands, term_faults-operands, term_operand_faults-known}
 use Rattle.mp_text.proofs.build.+build_term.Goals as goal
-
-pub build_term-symbol-requires : goal.build_term-symbol-requires
-build_term-symbol-requires t c = is_name-IsName c.in-Symbol.word.text.now (rw c.in-Symbol.is at c.requires)
 
 pub build_term-returns-in_err-op-in-Apply : goal.build_term-returns-in_err-op-in-Apply
 build_term-returns-in_err-op-in-Apply t c =
@@ -40,38 +36,36 @@ pub build_term-build_terms-requires : goal.build_term-build_terms-requires
 build_term-build_terms-requires t c =
     let args : nodes (expr_tree c.args.expr.now) ≡ 1 + all_nodes (trees (map expr_tree c.deref-in-Apply.result.now)) =
     rw (c.in-Apply.is, c.deref-in-Apply.ensures.value) (nodes-Apply c.in-Apply.name c.in-Apply.args) in
-    (omega (arith, args, c.decreases), rw c.deref-in-Apply.ensures.value (HaveNames-Apply c.in-Apply.name c.in-Apply.args (rw c.in-Apply.is at c.requires)))
+    omega (arith, args, c.decreases)
 
 pub build_terms-build_term-requires : goal.build_terms-build_term-requires
 build_terms-build_term-requires t c =
-    let here = drop-item c.args.exprs.now c.loop-expr.expr-index c.expr-item.result (omega arith) c.expr-item.is in
-    let named : HaveNames (trees (map expr_tree (c.expr-item.result ∷ drop (c.loop-expr.expr-index + 1) c.args.exprs.now))) = rw here at c.loop-expr.invariant.named in
-    (omega (arith, nodes-item c.args.exprs.now c.loop-expr.expr-index c.expr-item.result (omega arith) c.expr-item.is, c.decreases), named.0)
+    omega (arith, nodes-item c.args.exprs.now c.loop-expr.expr-index c.expr-item.result (omega arith) c.expr-item.is, c.decreases)
 
 pub build_term-infix_term-requires : goal.build_term-infix_term-requires
 build_term-infix_term-requires t c =
     let args : nodes (expr_tree c.args.expr.now) ≡ 1 + all_nodes (trees (map expr_tree c.deref-in-Infix.result.now)) =
     rw (c.in-Infix.is, c.deref-in-Infix.ensures.value) (nodes-Infix c.in-Infix.place c.in-Infix.sign c.in-Infix.operands) in
-    (omega (arith, args, c.decreases), rw c.deref-in-Infix.ensures.value (HaveNames-Infix c.in-Infix.place c.in-Infix.sign c.in-Infix.operands (rw c.in-Infix.is at c.requires)))
+    omega (arith, args, c.decreases)
 
 pub build_term-returns-in-Infix : goal.build_term-returns-in-Infix
 build_term-returns-in-Infix t c =
     let Q : Tree → Type 0 = λ e. Gives c.infix_term.result (term_faults c.args.sig.now e) (λ v. tree v ≡ term_of c.args.sig.now e) in
     let same = ap expr_tree c.in-Infix.is ∙ expr_tree-Infix c.in-Infix.place c.in-Infix.sign c.in-Infix.operands
-    ∙ ap (λ l. InfixOf c.in-Infix.place (spot_of c.in-Infix.sign) (trees (map expr_tree l))) (sym c.deref-in-Infix.ensures.value) in
+    ∙ ap (λ l. InfixOf c.in-Infix.place (spot_of_sign c.in-Infix.sign) (trees (map expr_tree l))) (sym c.deref-in-Infix.ensures.value) in
     subst Q (sym same) c.infix_term.ensures
 
 pub infix_term-returns-in_err-term_sign : goal.infix_term-returns-in_err-term_sign
 infix_term-returns-in_err-term_sign t c =
     let p = err_from_is_err_and c.from_residual.result c.from_residual.ensures.1 in
     let e = c.in_err-term_sign.field-0.0 in
-    rw (p.1, p.2) (fails-along e _ _ (sym (term_faults-operands c.args.sig.now c.args.place (spot_of c.args.sign) c.args.operands.now)) (fails-front e _ _ c.in_err-term_sign.ensures))
+    rw (p.1, p.2) (fails-along e _ _ (sym (term_faults-operands c.args.sig.now c.args.place (spot_of_sign c.args.sign) c.args.operands.now)) (fails-front e _ _ c.in_err-term_sign.ensures))
 
 pub infix_term-returns-in-None : goal.infix_term-returns-in-None
 infix_term-returns-in-None t c =
     let e = c.unknown_term_sign.result in
     let sig = c.args.sig.now in
-    let sign = spot_of c.args.sign in
+    let sign = spot_of_sign c.args.sign in
     let none = none-unknown (op_signed sig sign.text) (rw c.in-None.is at c.in_ok-term_sign.ensures.1.1) in
     fails-along e _ _ (sym (term_faults-operands sig c.args.place sign c.args.operands.now))
     (fails-behind e _ _ c.in_ok-term_sign.ensures.0
@@ -82,7 +76,7 @@ infix_term-returns-in_err-terms-in-Some t c =
     let p = err_from_is_err_and c.from_residual-in_err-terms-in-Some.result c.from_residual-in_err-terms-in-Some.ensures.1 in
     let e = c.in_err-terms-in-Some.field-0.0 in
     let sig = c.args.sig.now in
-    let sign = spot_of c.args.sign in
+    let sign = spot_of_sign c.args.sign in
     rw (p.1, p.2)
     (fails-along e _ _ (sym (term_faults-operands sig c.args.place sign c.args.operands.now))
     (fails-behind e _ _ c.in_ok-term_sign.ensures.0
@@ -91,7 +85,7 @@ infix_term-returns-in_err-terms-in-Some t c =
 pub infix_term-returns-in_ok-terms-in-Some : goal.infix_term-returns-in_ok-terms-in-Some
 infix_term-returns-in_ok-terms-in-Some t c =
     let sig = c.args.sig.now in
-    let sign = spot_of c.args.sign in
+    let sign = spot_of_sign c.args.sign in
     let ts = trees (map expr_tree c.args.operands.now) in (
       term_faults-operands sig c.args.place sign c.args.operands.now ∙ none-append _ _ c.in_ok-term_sign.ensures.0
           ∙ term_operand_faults-known sig sign (op_signed sig sign.text) ts (rw c.in-Some.is at c.in_ok-term_sign.ensures.1.1) ∙ c.in_ok-terms-in-Some.ensures.0,

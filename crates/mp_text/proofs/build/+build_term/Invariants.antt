@@ -12,7 +12,6 @@ invariant-build_terms-loop-expr l =
     record {
       built : l.terms ++ map (term_of l.sig) rest ≡ map (term_of l.sig) (map expr_tree l.exprs);
       faults : all_term_faults l.sig (trees rest) ≡ all_term_faults l.sig (trees (map expr_tree l.exprs));
-      named : HaveNames (trees rest);
     }
 
 -- each function of the cycle is nearer to the expressions than the one before it

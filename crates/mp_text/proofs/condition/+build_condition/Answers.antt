@@ -25,8 +25,7 @@ build_alternative-returns t c =
 
 pub build_condition-build_alternative-requires : goal.build_condition-build_alternative-requires
 build_condition-build_alternative-requires t c =
-    let only = condition_tree-only c.args.condition.now c.as_slice-alternatives.result.now c.index-alternatives-0.result c.as_slice-alternatives.ensures.value (omega arith) (omega arith) c.index-alternatives-0.is in
-    (search (rules, the_lemmas), (subst ConditionHasNames only c.requires).0)
+    search (rules, the_lemmas)
 
 pub build_condition-returns-then-alternatives-eq1 : goal.build_condition-returns-then-alternatives-eq1
 build_condition-returns-then-alternatives-eq1 t c =
@@ -39,7 +38,7 @@ build_condition-returns-then-alternatives-eq1 t c =
 
 pub build_condition-build_alternatives-requires : goal.build_condition-build_alternatives-requires
 build_condition-build_alternatives-requires t c =
-    (search (rules, the_lemmas), subst ConditionHasNames (condition_tree-slice c.args.condition.now c.as_slice-alternatives.result.now c.as_slice-alternatives.ensures.value) c.requires)
+    search (rules, the_lemmas)
 
 pub build_condition-returns-in_err-conds : goal.build_condition-returns-in_err-conds
 build_condition-returns-in_err-conds t c =

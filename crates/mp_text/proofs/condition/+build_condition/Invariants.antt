@@ -13,7 +13,6 @@ invariant-build_alternatives-loop-alternative l =
     record {
       built : l.conds ++ map (alternative_of l.sig) rest ≡ map (alternative_of l.sig) (map alternative_tree l.alternatives);
       faults : condition_faults l.sig (scope_of l.scope) (condition rest) ≡ condition_faults l.sig (scope_of l.scope) (condition (map alternative_tree l.alternatives));
-      named : ConditionHasNames (condition rest);
     }
 
 -- the same of literals
@@ -23,5 +22,4 @@ invariant-build_literals-loop-literal l =
     record {
       built : l.conds ++ map (literal_of l.sig) rest ≡ map (literal_of l.sig) (map literal_tree l.parts);
       faults : literals_faults l.sig (scope_of l.scope) (literals rest) ≡ literals_faults l.sig (scope_of l.scope) (literals (map literal_tree l.parts));
-      named : LiteralsHaveNames (literals rest);
     }

@@ -4,7 +4,7 @@ use Rattle.std.proofs.lemmas.List.{length-map}
 use Rattle.std.specs.Prelude.{flat_map}
 use Rattle.mp_term.specs.declared.signature.KindId.{KindId}
 use Rattle.mp_term.specs.Signature.{Sig, kind_names}
-use Rattle.mp_syntax.specs.declared.place.Spot as code
+use Rattle.mp_syntax.specs.declared.word.Word as code
 use Rattle.mp_syntax.specs.Syntax.{Spot}
 use Rattle.mp_syntax.specs.View.{spot_of}
 use Rattle.mp_text.specs.Checks.{symbol_faults, name_faults, kind_faults}
@@ -13,7 +13,7 @@ use Rattle.mp_text.proofs.Declared.{is_some-found_kind, kind_added}
 use Rattle.mp_text.proofs.declare.declare_kind.Goals as goal
 
 -- the faults of a kind whose members the code holds in a list
-kind_faults-members : (sig : Sig) (name : Spot) (members : List code.Spot)
+kind_faults-members : (sig : Sig) (name : Spot) (members : List code.Word)
     → name_faults 256 (kind_names sig) (ltb 10000 (length members)) name ++ flat_map (symbol_faults sig) (map spot_of members) ≡ kind_faults sig name (map spot_of members)
 kind_faults-members sig name members = ap (λ n. name_faults 256 (kind_names sig) (ltb 10000 n) name ++ flat_map (symbol_faults sig) (map spot_of members)) (sym (length-map members spot_of))
 

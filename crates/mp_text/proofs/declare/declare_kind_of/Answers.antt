@@ -1,11 +1,7 @@
 use Rattle.std.proofs.Common.{map, refl}
 use Rattle.mp_syntax.specs.View.{spot_of, statement_tree}
-use Rattle.mp_text.proofs.Words.{is_name-IsName}
 use Rattle.mp_text.proofs.Declared.{gives-KindOf, sig_with-other_kind}
 use Rattle.mp_text.proofs.declare.declare_kind_of.Goals as goal
-
-pub declare_kind-requires-clause-name : goal.declare_kind-requires-clause-name
-declare_kind-requires-clause-name c = is_name-IsName c.in-Kind.name.text.now (rw c.in-Kind.is at c.requires).0
 
 pub returns-in-Kind : goal.returns-in-Kind
 returns-in-Kind c = λ ds earlier h.

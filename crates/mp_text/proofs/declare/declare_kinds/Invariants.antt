@@ -13,5 +13,4 @@ invariant-loop-statement l =
     record {
       declared : l.sig ≡ sig_with l.fn.sig.ops before;
       faults : faults_by (kind_statement_faults l.fn.sig.ops) before rest ≡ faults_by (kind_statement_faults l.fn.sig.ops) [] (map statement_tree l.statements);
-      named : StatementsHaveNames rest;
     }

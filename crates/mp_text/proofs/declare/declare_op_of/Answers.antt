@@ -1,11 +1,7 @@
 use Rattle.std.proofs.Common.{map, refl}
 use Rattle.mp_syntax.specs.View.{spot_of, flag_of, statement_tree}
-use Rattle.mp_text.proofs.Words.{is_name-IsName}
 use Rattle.mp_text.proofs.Declared.{gives-OpOf, sig_with-other_op}
 use Rattle.mp_text.proofs.declare.declare_op_of.Goals as goal
-
-pub declare_op-requires-clause-name : goal.declare_op-requires-clause-name
-declare_op-requires-clause-name c = is_name-IsName c.in-Op.name.text.now (rw c.in-Op.is at c.requires).0
 
 pub returns-in-Op : goal.returns-in-Op
 returns-in-Op c = λ earlier h.

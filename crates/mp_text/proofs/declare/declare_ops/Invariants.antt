@@ -13,5 +13,4 @@ invariant-loop-statement l =
     record {
       declared : l.sig ≡ sig_with (op_decls before) [];
       faults : faults_by op_statement_faults before rest ≡ faults_by op_statement_faults [] (map statement_tree l.statements);
-      named : StatementsHaveNames rest;
     }

@@ -2,22 +2,16 @@ use Rattle.std.proofs.Common.{◌+◌, ◌++◌, ◌∷◌, [], map, drop, get_o
 use Rattle.std.proofs.lemmas.Result.{err_from_is_err_and}
 use Rattle.std.proofs.lemmas.List.{drop_more}
 use Rattle.std.specs.Prelude.{flat_map}
-use Rattle.mp_syntax.specs.declared.place.Spot as code
+use Rattle.mp_syntax.specs.declared.word.Word as code
 use Rattle.mp_syntax.specs.Syntax.{Spot}
 use Rattle.mp_syntax.specs.View.{spot_of}
 use Rattle.mp_text.specs.Checks.{symbol_faults}
 use Rattle.mp_text.proofs.Fails.{fails-front, fails-along, none-append}
-use Rattle.mp_text.proofs.Words.{is_name-IsName}
 use Rattle.mp_text.proofs.declare.new_members.Goals as goal
 
 -- no spot
-abbrev nowhere : code.Spot
+abbrev nowhere : code.Word
 nowhere = record { text = record { ref_ptr = (0, 0); now = [] }; place = record { line = 0; column = 0 } }
-
-pub symbol-requires : goal.symbol-requires
-symbol-requires c =
-    let here = drop_more c.args.members.now c.loop-member.member-index nowhere (omega arith) in
-    is_name-IsName (get_or c.args.members.now c.loop-member.member-index nowhere).text.now (rw here at c.loop-member.invariant.named).0
 
 pub returns-in_err-name : goal.returns-in_err-name
 returns-in_err-name c =
@@ -34,5 +28,4 @@ loop-member-preserved c =
     record {
       built = ap (λ l. l ++ rest) (c.in_ok-push.ensures.ok ∙ ap (λ n. c.loop-member.names ++ n ∷ []) c.in_ok-name.ensures.1) ∙ append_assoc c.loop-member.names (x.text.now ∷ []) rest ∙ (rw here at c.loop-member.invariant.built);
       faults = sym (none-append _ _ c.in_ok-name.ensures.0) ∙ (rw here at c.loop-member.invariant.faults);
-      named = (rw here at c.loop-member.invariant.named).1;
     }

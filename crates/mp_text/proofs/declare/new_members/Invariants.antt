@@ -12,5 +12,4 @@ invariant-loop-member l =
     record {
       built : l.names ++ map (λ m. m.text) rest ≡ map (λ m. m.text) (map spot_of l.members);
       faults : flat_map (symbol_faults l.sig) rest ≡ flat_map (symbol_faults l.sig) (map spot_of l.members);
-      named : AreNames rest;
     }

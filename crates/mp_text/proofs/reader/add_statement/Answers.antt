@@ -1,15 +1,8 @@
 use Rattle.std.proofs.Common.{refl, sym, ◌∙◌}
 use Rattle.mp_syntax.specs.View.{spot_of, expr_tree, if_tree, statement_tree}
 use Rattle.mp_text.specs.File.{file_tree}
-use Rattle.mp_text.proofs.Words.{is_name-IsName}
 use Rattle.mp_text.proofs.Declared.{file_over-declaration, gives-RuleOf, gives-SubjectOf}
 use Rattle.mp_text.proofs.reader.add_statement.Goals as goal
-
-pub add_rule-requires-clause-name : goal.add_rule-requires-clause-name
-add_rule-requires-clause-name c = is_name-IsName c.in-Rule.name.text.now (rw c.in-Rule.is at c.requires).0
-
-pub add_subject-requires-clause-name : goal.add_subject-requires-clause-name
-add_subject-requires-clause-name c = is_name-IsName c.in-Subject.name.text.now (rw c.in-Subject.is at c.requires).0
 
 pub returns-in-Op : goal.returns-in-Op
 returns-in-Op c = λ sig earlier h. (rw c.in-Op.is refl, h ∙ sym (file_over-declaration sig earlier (statement_tree c.args.statement.now) (rw c.in-Op.is refl) (rw c.in-Op.is refl)))

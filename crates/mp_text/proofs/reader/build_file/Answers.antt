@@ -12,7 +12,6 @@ pub loop-statement-init : goal.loop-statement-init
 loop-statement-init c = record {
   built = rw (c.in_ok-sig.ensures.1, c.new.ensures, c.new-2.ensures, c.new-3.ensures) refl;
   faults = refl;
-  named = c.requires;
 }
 
 pub returns-in_err-add_statement : goal.returns-in_err-add_statement

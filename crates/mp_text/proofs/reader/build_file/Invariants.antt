@@ -17,5 +17,4 @@ invariant-loop-statement l =
     record {
       built : file_tree l.file ≡ file_over sig before;
       faults : faults_by (statement_faults sig) before rest ≡ faults_by (statement_faults sig) [] (map statement_tree l.statements);
-      named : StatementsHaveNames rest;
     }

@@ -3,7 +3,7 @@ use Rattle.std.specs.Prelude.{◌&&◌, is_some, option_map, if◌then◌else◌
 use Rattle.mp_term.specs.Tree as term
 use Rattle.mp_term.specs.View.{tree}
 use Rattle.mp_syntax.specs.Syntax.{trees, HaveNames}
-use Rattle.mp_syntax.specs.View.{spot_of, expr_tree}
+use Rattle.mp_syntax.specs.View.{spot_of_sign, expr_tree}
 use Rattle.mp_syntax.proofs.Trees.{expr_tree-Infix}
 use Rattle.mp_text.specs.Answers.{Gives}
 use Rattle.mp_text.specs.Build.{op_number, sign_number, head_number, has_term, all_have_terms, term_of}
@@ -11,23 +11,19 @@ use Rattle.mp_text.specs.Checks.{nodes, all_nodes}
 use Rattle.mp_text.proofs.Applied.{nodes-Apply, nodes-Infix, nodes-item, has_term-Apply, has_term-Infix}
 use Rattle.mp_text.proofs.Built.{HaveNames-Apply, HaveNames-Infix, term_of-Apply, term_of-operands}
 use Rattle.mp_term.proofs.ListLaws.{drop-item}
-use Rattle.mp_text.proofs.Words.{is_name-IsName}
 use Rattle.mp_text.proofs.written.+written_term.Goals as goal
-
-pub written_term-new_name-requires : goal.written_term-new_name-requires
-written_term-new_name-requires t c = is_name-IsName c.in-Symbol.word.text.now (rw c.in-Symbol.is at c.requires)
 
 pub written_term-written_application-requires : goal.written_term-written_application-requires
 written_term-written_application-requires t c =
     let args : nodes (expr_tree c.args.expr.now) ≡ 1 + all_nodes (trees (map expr_tree c.deref.result.now)) =
     rw (c.in-Apply.is, c.deref.ensures.value) (nodes-Apply c.in-Apply.name c.in-Apply.args) in
-    (omega (arith, args, c.decreases), rw c.deref.ensures.value (HaveNames-Apply c.in-Apply.name c.in-Apply.args (rw c.in-Apply.is at c.requires)))
+    omega (arith, args, c.decreases)
 
 pub written_term-written_application-requires-in-Some-find_sign : goal.written_term-written_application-requires-in-Some-find_sign
 written_term-written_application-requires-in-Some-find_sign t c =
     let args : nodes (expr_tree c.args.expr.now) ≡ 1 + all_nodes (trees (map expr_tree c.deref-in-Some-find_sign.result.now)) =
     rw (c.in-Infix.is, c.deref-in-Some-find_sign.ensures.value) (nodes-Infix c.in-Infix.«open» c.in-Infix.sign c.in-Infix.operands) in
-    (omega (arith, args, c.decreases), rw c.deref-in-Some-find_sign.ensures.value (HaveNames-Infix c.in-Infix.«open» c.in-Infix.sign c.in-Infix.operands (rw c.in-Infix.is at c.requires)))
+    omega (arith, args, c.decreases)
 
 pub written_term-returns-in-Some : goal.written_term-returns-in-Some
 written_term-returns-in-Some t c =
@@ -53,7 +49,7 @@ written_term-returns-in-Some-find_sign t c =
     ap (λ e. has_term sig (expr_tree e)) c.in-Infix.is ∙ has_term-Infix sig c.in-Infix.«open» sign c.in-Infix.operands
     ∙ ap (λ n. is_some n && all_have_terms sig (trees (map expr_tree c.in-Infix.operands.items))) (sym found) ∙ ap (λ l. all_have_terms sig (trees l)) items in
     let made : term_of sig (expr_tree c.args.expr.now) ≡ term.app c.in-Some-find_sign.op.0 (term.trees (map (term_of sig) (map expr_tree c.deref-in-Some-find_sign.result.now))) =
-    ap (λ e. term_of sig (expr_tree e)) c.in-Infix.is ∙ ap (term_of sig) (expr_tree-Infix c.in-Infix.«open» sign c.in-Infix.operands) ∙ term_of-operands sig c.in-Infix.«open» (spot_of sign) c.in-Infix.operands.items
+    ap (λ e. term_of sig (expr_tree e)) c.in-Infix.is ∙ ap (term_of sig) (expr_tree-Infix c.in-Infix.«open» sign c.in-Infix.operands) ∙ term_of-operands sig c.in-Infix.«open» (spot_of_sign sign) c.in-Infix.operands.items
     ∙ ap (λ n. term.app (head_number n) (term.trees (map (term_of sig) (map expr_tree c.in-Infix.operands.items)))) (sym found)
     ∙ ap (λ l. term.app c.in-Some-find_sign.op.0 (term.trees (map (term_of sig) l))) items in
     let Q : Option term.Tree → Type 0 = λ o. Gives c.written_application-in-Some-find_sign.result [] (λ r. option_map tree r ≡ o) in
@@ -61,6 +57,4 @@ written_term-returns-in-Some-find_sign t c =
 
 pub written_terms-written_term-requires : goal.written_terms-written_term-requires
 written_terms-written_term-requires t c =
-    let here = drop-item c.args.exprs.now c.loop-expr.expr-index c.expr-item.result (omega arith) c.expr-item.is in
-    let named : HaveNames (trees (map expr_tree (c.expr-item.result ∷ drop (c.loop-expr.expr-index + 1) c.args.exprs.now))) = rw here at c.loop-expr.invariant.named in
-    (omega (arith, nodes-item c.args.exprs.now c.loop-expr.expr-index c.expr-item.result (omega arith) c.expr-item.is, c.decreases), named.0)
+    omega (arith, nodes-item c.args.exprs.now c.loop-expr.expr-index c.expr-item.result (omega arith) c.expr-item.is, c.decreases)

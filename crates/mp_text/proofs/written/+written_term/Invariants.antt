@@ -12,7 +12,6 @@ invariant-written_terms-loop-expr l =
     record {
       made : l.terms ++ map (term_of l.sig) rest ≡ map (term_of l.sig) (map expr_tree l.exprs);
       have : all_have_terms l.sig (trees rest) ≡ all_have_terms l.sig (trees (map expr_tree l.exprs));
-      named : HaveNames (trees rest);
     }
 
 -- each function of the cycle is nearer to the expressions than the one before it

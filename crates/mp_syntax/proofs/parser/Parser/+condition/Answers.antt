@@ -3,10 +3,9 @@ use Rattle.std.specs.Prelude.{codes}
 use Rattle.std.proofs.lemmas.Result.{err_from_is_err_and}
 use Rattle.std.proofs.lemmas.List.{map_push}
 use Rattle.mp_syntax.specs.declared.token.Punct.TheVariants.{OpenSquare}
-use Rattle.mp_syntax.specs.Lexing.{placed}
 use Rattle.mp_syntax.specs.Syntax.{Bracketed, literals, condition}
 use Rattle.mp_syntax.specs.Machine.{Go, BeforeLiteral, BeforeBody, AfterLiteral, Square, no_level, next_literal, all_alternatives, run}
-use Rattle.mp_syntax.specs.View.{literal_tree, alternative_tree}
+use Rattle.mp_syntax.specs.View.{placed, literal_tree, alternative_tree}
 use Rattle.mp_syntax.specs.Parsing.{ahead}
 use Rattle.mp_syntax.specs.ConditionParsing.{level}
 use Rattle.mp_syntax.proofs.Runs.{over-punct, fails-along}

@@ -2,15 +2,18 @@ use Rattle.std.proofs.Common.{◌≡◌, ◌+◌, [], ◌∷◌, ◌++◌, map, 
 use Rattle.std.proofs.lemmas.Result.{err_from_is_err_and}
 use Rattle.std.proofs.lemmas.List.{map_push}
 use Rattle.mp_syntax.specs.declared.token.Punct.TheVariants.{Open, Close}
-use Rattle.mp_syntax.specs.Lexing.{placed}
 use Rattle.mp_syntax.specs.Machine.{Go, Default, BeforeExpr, AfterExpr, AfterWord, AfterOpen, Arguments, Bracket, Operands, run}
+use Rattle.mp_syntax.specs.Lexing.{token_of}
 use Rattle.mp_syntax.specs.Syntax.{Apply, InfixOf, Optional, trees, HasNoDefault}
-use Rattle.mp_syntax.specs.View.{spot_of, wildcard_of, expr_tree}
+use Rattle.mp_syntax.specs.View.{placed, spot_of, spot_of_sign, wildcard_of, expr_tree}
 use Rattle.mp_syntax.specs.Parsing.{ahead, behind_chain, within_defaults}
 use Rattle.mp_syntax.proofs.Runs.{expr-closes, operand-closes, fails-along, word-opens, open-closes, open-expr, bracket-opens, over-punct, length-passed_sign, over-sign, operand-again, over-default, defaults-behind, chained-optional, open_count-within_defaults}
 use Rattle.mp_syntax.proofs.Trees.{expr_tree-Apply, expr_tree-Infix}
 use Rattle.mp_syntax.proofs.parser.Parser.+expression.Goals as goal
 use Rattle.mp_syntax.proofs.parser.Parser.+expression.Goals.{behind_wildcard-in-Some, behind_wildcard-in-None+in_ok-default-in-None}
+
+pub word_or_bracket-invariant_of-behind_word : goal.word_or_bracket-invariant_of-behind_word
+word_or_bracket-invariant_of-behind_word t c = record { named = c.args.self.now.token.spelled.word _ (ap token_of c.in-Word.is) }
 
 pub arguments-returns-in_err-expect-clause-read : goal.arguments-returns-in_err-expect-clause-read
 arguments-returns-in_err-expect-clause-read t c =
@@ -83,7 +86,7 @@ pub operands-returns-in_err-expect-clause-read : goal.operands-returns-in_err-ex
 operands-returns-in_err-expect-clause-read t c =
     let p = err_from_is_err_and c.from_residual-in_err-expect.result c.from_residual-in_err-expect.ensures.1 in
     rw (p.1, p.2) (λ done h k place len.
-    let sign = spot_of c.args.sign in
+    let sign = spot_of_sign c.args.sign in
     let first = expr_tree c.args.first in
     let others = map expr_tree c.loop-operands.invariant.others in
     let e = expr_tree c.in_ok-expr.field-0 in
@@ -93,7 +96,7 @@ operands-returns-in_err-expect-clause-read t c =
 
 pub operands-returns-clause-read : goal.operands-returns-clause-read
 operands-returns-clause-read t c = λ done h k place len.
-    let sign = spot_of c.args.sign in
+    let sign = spot_of_sign c.args.sign in
     let first = expr_tree c.args.first in
     let others = map expr_tree c.loop-operands.invariant.others in
     let e = expr_tree c.in_ok-expr.field-0 in
@@ -141,7 +144,7 @@ behind_wildcard-returns-clause-read t c = λ done x k len.
 
 pub operands-loop-operands-preserved : goal.operands-loop-operands-preserved
 operands-loop-operands-preserved t c =
-    let sign = spot_of c.args.sign in
+    let sign = spot_of_sign c.args.sign in
     let first = expr_tree c.args.first in
     let others = map expr_tree c.loop-operands.invariant.others in
     let e = expr_tree c.in_ok-expr.field-0 in

@@ -1,6 +1,7 @@
 use Rattle.std.proofs.Common.{ap, ◌∷◌}
-use Rattle.mp_syntax.specs.Lexing.{placed, token_of, behind}
+use Rattle.mp_syntax.specs.Lexing.{token_of, behind}
 use Rattle.mp_syntax.proofs.Fuel.{lexemes-next}
+use Rattle.mp_syntax.specs.View.{placed}
 use Rattle.mp_syntax.proofs.parser.Parser.advance.Goals as goal
 
 pub returns : goal.returns

@@ -1,8 +1,7 @@
 use Rattle.std.proofs.Common.{sym, refl, ◌∙◌}
 use Rattle.std.proofs.lemmas.Result.{err_from_is_err_and}
-use Rattle.mp_syntax.specs.Lexing.{placed}
 use Rattle.mp_syntax.specs.Machine.{BeforeBody, AfterSense, OnLeft, OnRight}
-use Rattle.mp_syntax.specs.View.{amount_tree}
+use Rattle.mp_syntax.specs.View.{placed, amount_tree}
 use Rattle.mp_syntax.proofs.Runs.{fails-along}
 use Rattle.mp_syntax.proofs.ConditionRuns.{amount-wanted}
 use Rattle.mp_syntax.proofs.parser.Parser.atom.Goals as goal

@@ -3,9 +3,9 @@ use Rattle.std.specs.Prelude.{◌≡◌, IfNone}
 use Rattle.std.proofs.lemmas.Bool.{and_parts}
 use Rattle.std.proofs.lemmas.List.{map_push}
 use Rattle.mp_syntax.specs.declared.token.Punct.TheVariants.{Colon}
-use Rattle.mp_syntax.specs.Lexing.{placed, token_of}
+use Rattle.mp_syntax.specs.Lexing.{token_of}
 use Rattle.mp_syntax.specs.Machine.{BeforeExpr, is_punct, is_dot, wildcard_at, run}
-use Rattle.mp_syntax.specs.View.{wildcard_of}
+use Rattle.mp_syntax.specs.View.{placed, wildcard_of}
 use Rattle.mp_syntax.specs.Parsing.{ahead, behind_wildcard, within_defaults}
 use Rattle.mp_syntax.proofs.Runs.{length-passed, over-default, within_defaults-push}
 use Rattle.mp_syntax.proofs.parser.Parser.chain.Goals as goal

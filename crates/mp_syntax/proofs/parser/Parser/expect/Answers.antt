@@ -1,6 +1,6 @@
 use Rattle.std.proofs.Common.{sym, ◌∙◌, arith}
-use Rattle.mp_syntax.specs.Lexing.{placed}
 use Rattle.mp_syntax.proofs.Runs.{passes-punct, length-passed}
+use Rattle.mp_syntax.specs.View.{placed}
 use Rattle.mp_syntax.proofs.parser.Parser.expect.Goals as goal
 
 pub returns-clause-read : goal.returns-clause-read

@@ -2,10 +2,9 @@ use Rattle.std.proofs.Common.{[], ◌∷◌, ◌++◌, map, refl, sym, ap, ◌�
 use Rattle.std.proofs.lemmas.Result.{err_from_is_err_and}
 use Rattle.std.proofs.lemmas.List.{map_push}
 use Rattle.mp_syntax.specs.declared.token.Punct.TheVariants.{Semicolon}
-use Rattle.mp_syntax.specs.Lexing.{placed}
 use Rattle.mp_syntax.specs.Syntax.{KindOf}
 use Rattle.mp_syntax.specs.Machine.{BeforeMember, AfterMember, Emit, run}
-use Rattle.mp_syntax.specs.View.{spot_of}
+use Rattle.mp_syntax.specs.View.{placed, spot_of}
 use Rattle.mp_syntax.specs.Parsing.{ahead}
 use Rattle.mp_syntax.proofs.Runs.{fails-along, member-again, members-end, over-punct}
 use Rattle.mp_syntax.proofs.parser.Parser.members.Goals as goal

@@ -1,9 +1,9 @@
 use Rattle.std.proofs.Common.{sym, ◌∙◌, arith, ◌∷◌}
 use Rattle.mp_syntax.specs.declared.token.Punct.TheVariants.{Open}
-use Rattle.mp_syntax.specs.Lexing.{placed}
 use Rattle.mp_syntax.specs.Machine.{Go, BeforeOperand, BeforeExpr, Operand}
 use Rattle.mp_syntax.proofs.Runs.{over-punct}
 use Rattle.mp_syntax.proofs.ConditionRuns.{open-step, operand-gives}
+use Rattle.mp_syntax.specs.View.{placed}
 use Rattle.mp_syntax.proofs.parser.Parser.operand.Goals as goal
 
 pub returns-clause-read : goal.returns-clause-read

@@ -1,8 +1,7 @@
 use Rattle.std.proofs.Common.{◌∙◌}
 use Rattle.std.proofs.lemmas.Result.{err_from_is_err_and}
-use Rattle.mp_syntax.specs.Lexing.{placed}
 use Rattle.mp_syntax.specs.Machine.{OfRule}
-use Rattle.mp_syntax.specs.View.{spot_of, expr_tree}
+use Rattle.mp_syntax.specs.View.{placed, spot_of, expr_tree}
 use Rattle.mp_syntax.proofs.Runs.{fails-along}
 use Rattle.mp_syntax.proofs.ConditionRuns.{behind-if}
 use Rattle.mp_syntax.proofs.parser.Parser.rule.Goals as goal
