@@ -1,16 +1,15 @@
 -- What the checks of a declaration say where they find no fault.
-use Rattle.std.proofs.Common.{◌≡◌, ◌≤◌, Bool, true, false, ◌||◌, not, ltb, List, [], ◌∷◌, ◌++◌, length, map}
+use Rattle.std.proofs.Common.{◌≡◌, ◌≤◌, Bool, true, false, ◌||◌, not, ltb, List, [], ◌++◌, map}
 use Rattle.std.proofs.lemmas.Bool.{ltb-false, not-false, or_parts}
 use Rattle.mp_term.specs.declared.signature.OpDecl.{OpDecl}
 use Rattle.mp_term.specs.Signature.{in_order}
-use Rattle.mp_syntax.specs.Syntax.{Spot, Flag, Assoc, Comm, One, Infixed, HaveSigns}
+use Rattle.mp_syntax.specs.Syntax.{Spot, Flag}
 use Rattle.mp_text.specs.declared.fault.TextKind.TheVariants.{BadFlags, TooMany}
 use Rattle.mp_text.specs.Build.{op_decl}
 use Rattle.mp_text.specs.Checks.{fault_if, name_faults, has_bad_flags, held_sign_faults, op_faults}
-use Rattle.mp_text.specs.Flags.{some_flag_twice, sign_spot, is_long_sign, IsSpelledSign}
+use Rattle.mp_text.specs.Flags.{some_flag_twice, sign_spot, is_long_sign}
 use Rattle.mp_text.specs.Names.{number_of}
 use Rattle.mp_text.proofs.Faultless.{nil-append, nil-fault_if}
-use Rattle.mp_text.proofs.Words.{is_sign-IsInfixSign}
 
 -- a declaration without faults: its flags and its sign are in order, and its number is small
 pub record Declarable (name least : Spot) (more : Bool) (flags : List Flag) : Type 0 where
@@ -32,14 +31,6 @@ declarable-op_faults ds name least more flags h =
       short = s.0;
       small = ltb-false 1000 (number_of least.text) (nil-fault_if (ltb 1000 (number_of least.text)) TooMany least.place r.0);
     }
-
--- the sign of flags whose signs are signs, where it isn't long
-pub IsSpelledSign-HaveSigns : (flags : List Flag) → HaveSigns flags → is_long_sign (sign_spot flags) ≡ false → IsSpelledSign (sign_spot flags)
-IsSpelledSign-HaveSigns [] h short = tt
-IsSpelledSign-HaveSigns (Assoc ∷ flags) h short = IsSpelledSign-HaveSigns flags h.1 short
-IsSpelledSign-HaveSigns (Comm ∷ flags) h short = IsSpelledSign-HaveSigns flags h.1 short
-IsSpelledSign-HaveSigns (One ∷ flags) h short = IsSpelledSign-HaveSigns flags h.1 short
-IsSpelledSign-HaveSigns (Infixed sign ∷ flags) h short = is_sign-IsInfixSign sign.text h.0 (ltb-false 4 (length sign.text) short)
 
 -- the last of three tests decides where the others fail
 pub third-of : (a b d r : Bool) → a ≡ false → b ≡ false → r ≡ d → r ≡ (a || (b || d))

@@ -1,6 +1,5 @@
 -- The flags of an operation, as they are written.
 use Rattle.std.specs.Prelude.{◌≡◌, Bool, true, false, ◌||◌, List, [], ◌∷◌, length, Option, Some, None, nat_lt, count_by}
-use Rattle.mp_term.specs.Names.{is_sign}
 use Rattle.mp_syntax.specs.Syntax.{Spot, Flag, Assoc, Comm, One, Infixed}
 
 -- the flag is assoc
@@ -47,8 +46,3 @@ sign_spot (Infixed sign ∷ flags) = Some sign
 abbrev pub is_long_sign : Option Spot → Bool
 is_long_sign None = false
 is_long_sign (Some sign) = nat_lt 4 (length sign.text)
-
--- the sign, where there is one, is the spelling of one
-abbrev pub IsSpelledSign : Option Spot → Type 0
-IsSpelledSign None = Unit {0}
-IsSpelledSign (Some sign) = is_sign sign.text ≡ true

@@ -13,7 +13,7 @@ use Rattle.mp_pattern.specs.PatternTree as pattern
 use Rattle.mp_text.proofs.Applied.{nodes-Apply, nodes-Infix, nodes-item, pattern_wildcards-Apply}
 use Rattle.mp_term.proofs.ListLaws.{drop-item}
 use Rattle.mp_text.proofs.Fails.{fails-front, fails-behind, fails-along, none-append}
-use Rattle.mp_text.proofs.Built.{HaveNames-Apply, HaveNames-Infix, none-unknown, pattern_of-Apply, pattern_faults-Apply, pattern_of-operands, pattern_faults-operands, pattern_operand_faults-known}
+use Rattle.mp_text.proofs.Built.{none-unknown, pattern_of-Apply, pattern_faults-Apply, pattern_of-operands, pattern_faults-operands, pattern_operand_faults-known}
 use Rattle.mp_text.proofs.build.+build_pattern.Goals as goal
 
 pub build_pattern-returns-in_err-op-in-Apply : goal.build_pattern-returns-in_err-op-in-Apply

@@ -11,7 +11,7 @@ use Rattle.mp_term.specs.Tree as term
 use Rattle.mp_text.proofs.Applied.{nodes-Apply, nodes-Infix, nodes-item}
 use Rattle.mp_term.proofs.ListLaws.{drop-item}
 use Rattle.mp_text.proofs.Fails.{fails-front, fails-behind, fails-along, none-append}
-use Rattle.mp_text.proofs.Built.{HaveNames-Apply, HaveNames-Infix, none-unknown, term_of-Apply, term_faults-Apply, term_of-operands, term_faults-operands, term_operand_faults-known}
+use Rattle.mp_text.proofs.Built.{none-unknown, term_of-Apply, term_faults-Apply, term_of-operands, term_faults-operands, term_operand_faults-known}
 use Rattle.mp_text.proofs.build.+build_term.Goals as goal
 
 pub build_term-returns-in_err-op-in-Apply : goal.build_term-returns-in_err-op-in-Apply

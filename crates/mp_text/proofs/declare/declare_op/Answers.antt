@@ -1,14 +1,13 @@
 use Rattle.std.proofs.Common.{map, arith, ap}
 use Rattle.mp_syntax.specs.View.{spot_of, flag_of}
-use Rattle.mp_text.proofs.OpLaws.{declarable-op_faults, IsSpelledSign-HaveSigns}
+use Rattle.mp_text.proofs.OpLaws.{declarable-op_faults}
 use Rattle.mp_text.proofs.declare.declare_op.Goals as goal
 
 pub new_decl-requires-clause-least : goal.new_decl-requires-clause-least
 new_decl-requires-clause-least c = (declarable-op_faults c.args.sig.now.ops (spot_of c.args.name) (spot_of c.args.least) c.args.is_open (map flag_of c.args.flags.now) c.in_ok-check_op.ensures.0).small
 
 pub new_decl-requires-clause-sign : goal.new_decl-requires-clause-sign
-new_decl-requires-clause-sign c =
-    IsSpelledSign-HaveSigns (map flag_of c.args.flags.now) c.requires.signs (declarable-op_faults c.args.sig.now.ops (spot_of c.args.name) (spot_of c.args.least) c.args.is_open (map flag_of c.args.flags.now) c.in_ok-check_op.ensures.0).short
+new_decl-requires-clause-sign c = (declarable-op_faults c.args.sig.now.ops (spot_of c.args.name) (spot_of c.args.least) c.args.is_open (map flag_of c.args.flags.now) c.in_ok-check_op.ensures.0).short
 
 pub add_op-requires : goal.add_op-requires
 add_op-requires c =

@@ -9,7 +9,7 @@ use Rattle.mp_text.specs.Answers.{Gives}
 use Rattle.mp_text.specs.Build.{op_number, sign_number, head_number, has_term, all_have_terms, term_of}
 use Rattle.mp_text.specs.Checks.{nodes, all_nodes}
 use Rattle.mp_text.proofs.Applied.{nodes-Apply, nodes-Infix, nodes-item, has_term-Apply, has_term-Infix}
-use Rattle.mp_text.proofs.Built.{HaveNames-Apply, HaveNames-Infix, term_of-Apply, term_of-operands}
+use Rattle.mp_text.proofs.Built.{term_of-Apply, term_of-operands}
 use Rattle.mp_term.proofs.ListLaws.{drop-item}
 use Rattle.mp_text.proofs.written.+written_term.Goals as goal
 
