@@ -8,11 +8,10 @@ use Rattle.mp_term.specs.Signature.{Sig, allows}
 use Rattle.mp_pattern.specs.PatternTree as pattern
 use Rattle.mp_syntax.specs.declared.place.Place.{Place}
 use Rattle.mp_syntax.specs.declared.word.Word as code
-use Rattle.mp_syntax.specs.declared.word.InfixSign as code_sign
-use Rattle.mp_syntax.specs.declared.tree.Expr.{Expr, Apply, Infix}
+use Rattle.mp_syntax.specs.declared.tree.Expr.{Expr, Apply}
 use Rattle.mp_syntax.specs.Syntax.{Spot, Tree, InfixOf, Trees, no_trees, more_trees, trees, tree_list}
 use Rattle.mp_syntax.specs.View.{spot_of, expr_tree}
-use Rattle.mp_syntax.proofs.Trees.{expr_tree-Apply, expr_tree-Infix, tree_list-trees}
+use Rattle.mp_syntax.proofs.Trees.{expr_tree-Apply, tree_list-trees}
 use Rattle.mp_text.specs.Build.{op_number, sign_number, head_number, term_of, terms_of, pattern_of, patterns_of}
 use Rattle.mp_text.specs.Wildcards.{PatternWildcard}
 use Rattle.mp_text.specs.Checks.{op_named, op_signed, head_faults, arity_faults, sign_faults, allows_patterns, term_faults, term_operand_faults, all_term_faults, pattern_faults, pattern_operand_faults, all_pattern_faults}

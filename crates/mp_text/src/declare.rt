@@ -2,7 +2,6 @@
 
 ghost use Rattle.std.specs.Prelude.{◌≡◌, ◌≤◌, ◌+◌, ℕ, List, [], ◌∷◌, ◌++◌, length, map, flat_map, min, true, false, not, option_map};
 ghost use Rattle.mp_term.specs.declared.signature.OpDecl as decl;
-ghost use Rattle.mp_term.specs.Names.{is_name};
 ghost use Rattle.mp_term.specs.Signature.{in_order};
 ghost use Rattle.mp_syntax.specs.Syntax as syntax;
 ghost use Rattle.mp_syntax.specs.View.{spot_of, flag_of, statement_tree, spot_of_sign};

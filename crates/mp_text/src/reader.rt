@@ -1,7 +1,6 @@
 //! Reads rule files.
 
 ghost use Rattle.std.specs.Prelude.{◌≡◌, ◌<◌, ◌-◌, ◌^◌, ◌↔◌, ℕ, List, ◌++◌, ◌∷◌, [], length, map, true, Some, IfOk};
-ghost use Rattle.mp_term.specs.Names.{is_name};
 ghost use Rattle.mp_term.specs.Signature.{Sig};
 ghost use Rattle.mp_syntax.specs.Syntax as syntax;
 ghost use Rattle.mp_syntax.specs.Syntax.{RuleOf, SubjectOf};

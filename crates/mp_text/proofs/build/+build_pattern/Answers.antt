@@ -1,6 +1,6 @@
-use Rattle.std.proofs.Common.{◌≡◌, ◌+◌, ◌∷◌, ◌++◌, map, drop, arith, ◌∙◌, sym, ap, subst, refl}
+use Rattle.std.proofs.Common.{◌≡◌, ◌+◌, ◌++◌, map, arith, ◌∙◌, sym, ap, subst, refl}
 use Rattle.std.proofs.lemmas.Result.{err_from_is_err_and}
-use Rattle.mp_syntax.specs.Syntax.{Tree, InfixOf, trees, HaveNames}
+use Rattle.mp_syntax.specs.Syntax.{Tree, InfixOf, trees}
 use Rattle.mp_pattern.specs.View.{pattern_tree}
 use Rattle.mp_syntax.specs.View.{spot_of_sign, expr_tree}
 use Rattle.mp_text.specs.WildcardView.{wildcard_view}
@@ -11,7 +11,6 @@ use Rattle.mp_text.specs.Checks.{nodes, all_nodes, op_signed, sign_faults, patte
 use Rattle.mp_text.specs.Build.{head_number, sign_number, pattern_of}
 use Rattle.mp_pattern.specs.PatternTree as pattern
 use Rattle.mp_text.proofs.Applied.{nodes-Apply, nodes-Infix, nodes-item, pattern_wildcards-Apply}
-use Rattle.mp_term.proofs.ListLaws.{drop-item}
 use Rattle.mp_text.proofs.Fails.{fails-front, fails-behind, fails-along, none-append}
 use Rattle.mp_text.proofs.Built.{none-unknown, pattern_of-Apply, pattern_faults-Apply, pattern_of-operands, pattern_faults-operands, pattern_operand_faults-known}
 use Rattle.mp_text.proofs.build.+build_pattern.Goals as goal

@@ -1,6 +1,6 @@
-use Rattle.std.proofs.Common.{◌≡◌, ◌+◌, ◌∷◌, map, drop, arith, ◌∙◌, sym, ap, subst, refl}
+use Rattle.std.proofs.Common.{◌≡◌, ◌+◌, map, arith, ◌∙◌, sym, ap, subst, refl}
 use Rattle.std.proofs.lemmas.Result.{err_from_is_err_and}
-use Rattle.mp_syntax.specs.Syntax.{Tree, InfixOf, trees, HaveNames}
+use Rattle.mp_syntax.specs.Syntax.{Tree, InfixOf, trees}
 use Rattle.mp_term.specs.View.{tree}
 use Rattle.mp_syntax.specs.View.{spot_of_sign, expr_tree}
 use Rattle.mp_syntax.proofs.Trees.{expr_tree-Infix}
@@ -9,7 +9,6 @@ use Rattle.mp_text.specs.Checks.{nodes, all_nodes, op_signed, sign_faults, term_
 use Rattle.mp_text.specs.Build.{head_number, sign_number, term_of}
 use Rattle.mp_term.specs.Tree as term
 use Rattle.mp_text.proofs.Applied.{nodes-Apply, nodes-Infix, nodes-item}
-use Rattle.mp_term.proofs.ListLaws.{drop-item}
 use Rattle.mp_text.proofs.Fails.{fails-front, fails-behind, fails-along, none-append}
 use Rattle.mp_text.proofs.Built.{none-unknown, term_of-Apply, term_faults-Apply, term_of-operands, term_faults-operands, term_operand_faults-known}
 use Rattle.mp_text.proofs.build.+build_term.Goals as goal

@@ -1,5 +1,5 @@
 use Rattle.std.proofs.Common.{◌≡◌, ◌++◌, ◌+◌, ◌*◌, drop, map}
-use Rattle.mp_syntax.specs.Syntax.{trees, HaveNames}
+use Rattle.mp_syntax.specs.Syntax.{trees}
 use Rattle.mp_syntax.specs.View.{expr_tree}
 use Rattle.mp_text.specs.Build.{term_of}
 use Rattle.mp_text.specs.Checks.{nodes, all_nodes, all_term_faults}

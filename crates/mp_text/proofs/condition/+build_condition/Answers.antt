@@ -3,7 +3,7 @@ use Rattle.std.proofs.lemmas.List.{length-map}
 use Rattle.std.proofs.lemmas.Result.{err_from_is_err_and}
 use Rattle.mp_pattern.specs.CondTree.{all_of, any_of, conds}
 use Rattle.mp_pattern.specs.CondView.{cond_tree}
-use Rattle.mp_syntax.specs.Syntax.{Condition, ConditionHasNames}
+use Rattle.mp_syntax.specs.Syntax.{Condition}
 use Rattle.mp_syntax.specs.View.{literal_tree, alternative_tree}
 use Rattle.mp_syntax.specs.declared.condition_tree.Literal.TheViews.{the_lemmas}
 use Rattle.mp_text.specs.Answers.{Gives}

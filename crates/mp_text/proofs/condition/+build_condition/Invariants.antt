@@ -1,5 +1,5 @@
 use Rattle.std.proofs.Common.{◌≡◌, ◌++◌, drop, map}
-use Rattle.mp_syntax.specs.Syntax.{literals, condition, LiteralsHaveNames, ConditionHasNames}
+use Rattle.mp_syntax.specs.Syntax.{literals, condition}
 use Rattle.mp_syntax.specs.View.{literal_tree, alternative_tree}
 use Rattle.mp_text.specs.Conditions.{literal_of, alternative_of}
 use Rattle.mp_text.specs.ConditionChecks.{literals_faults, condition_faults}

@@ -1,5 +1,4 @@
 use Rattle.std.proofs.Common.{◌≡◌, [], drop, take, map}
-use Rattle.mp_syntax.specs.Syntax.{StatementsHaveNames}
 use Rattle.mp_syntax.specs.View.{statement_tree}
 use Rattle.mp_text.specs.Build.{sig_with}
 use Rattle.mp_text.specs.Checks.{kind_statement_faults, faults_by}

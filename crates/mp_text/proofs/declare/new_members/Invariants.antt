@@ -1,6 +1,5 @@
 use Rattle.std.proofs.Common.{◌≡◌, ◌++◌, drop, map}
 use Rattle.std.specs.Prelude.{flat_map}
-use Rattle.mp_syntax.specs.Syntax.{AreNames}
 use Rattle.mp_syntax.specs.View.{spot_of}
 use Rattle.mp_text.specs.Checks.{symbol_faults}
 use Rattle.mp_text.proofs.declare.new_members.Given as goal

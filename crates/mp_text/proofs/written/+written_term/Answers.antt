@@ -1,8 +1,8 @@
-use Rattle.std.proofs.Common.{◌≡◌, ◌+◌, [], ◌∷◌, Option, Some, None, map, drop, arith, ◌∙◌, sym, ap, subst}
+use Rattle.std.proofs.Common.{◌≡◌, ◌+◌, [], Option, Some, None, map, arith, ◌∙◌, sym, ap, subst}
 use Rattle.std.specs.Prelude.{◌&&◌, is_some, option_map, if◌then◌else◌}
 use Rattle.mp_term.specs.Tree as term
 use Rattle.mp_term.specs.View.{tree}
-use Rattle.mp_syntax.specs.Syntax.{trees, HaveNames}
+use Rattle.mp_syntax.specs.Syntax.{trees}
 use Rattle.mp_syntax.specs.View.{spot_of_sign, expr_tree}
 use Rattle.mp_syntax.proofs.Trees.{expr_tree-Infix}
 use Rattle.mp_text.specs.Answers.{Gives}
@@ -10,7 +10,6 @@ use Rattle.mp_text.specs.Build.{op_number, sign_number, head_number, has_term, a
 use Rattle.mp_text.specs.Checks.{nodes, all_nodes}
 use Rattle.mp_text.proofs.Applied.{nodes-Apply, nodes-Infix, nodes-item, has_term-Apply, has_term-Infix}
 use Rattle.mp_text.proofs.Built.{term_of-Apply, term_of-operands}
-use Rattle.mp_term.proofs.ListLaws.{drop-item}
 use Rattle.mp_text.proofs.written.+written_term.Goals as goal
 
 pub written_term-written_application-requires : goal.written_term-written_application-requires
