@@ -2,7 +2,7 @@
 use mp_syntax::statement::{printed_statements_are_read, syntax_has_names, syntax_is_a_function};
 use mp_syntax::token::{tokens_are_total, tokens_are_unique};
 use mp_syntax::{
-    Expr, Flag, Spot, Statement, Wildcard, condition_is_a_function, expression_is_a_function,
+    Expr, Flag, Word, Statement, Wildcard, condition_is_a_function, expression_is_a_function,
     read_expression, read_statements,
 };
 use std::alloc::Global;
@@ -172,7 +172,7 @@ fn is_operation(statement: Option<&Statement<'_>>) -> bool {
 }
 
 // Whether the symbols are `b`, and one in column 11.
-fn are_members(members: &[Spot<'_>]) -> bool {
+fn are_members(members: &[Word<'_>]) -> bool {
     match members {
         [first, second] => first.text == b"b".as_slice() && second.place.column == 11,
         _ => false,
