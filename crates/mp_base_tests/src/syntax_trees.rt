@@ -2,7 +2,7 @@
 use mp_syntax::statement::{printed_statements_are_read, syntax_has_names, syntax_is_a_function};
 use mp_syntax::token::{tokens_are_total, tokens_are_unique};
 use mp_syntax::{
-    Expr, Flag, Word, Statement, Wildcard, condition_is_a_function, expression_is_a_function,
+    Expr, Flag, Statement, Wildcard, Word, condition_is_a_function, expression_is_a_function,
     read_expression, read_statements,
 };
 use std::alloc::Global;

@@ -18,7 +18,7 @@ pub struct Word<'a> {
 
 /// A sign of the file: one or more of the bytes `+ - * / = < > & | ^ ~ ! % @ ?`, other than `->`.
 ///
-/// As plain data it is a `Spot` of `specs/Syntax.antt`, by `sign_spot` of `specs/View.antt`.
+/// As plain data it is a `Spot` of `specs/Syntax.antt`, by `spot_of_sign` of `specs/View.antt`.
 #[derive(Clone, Copy, Debug)]
 pub struct InfixSign<'a> {
     /// Its bytes, in the file.
