@@ -6,9 +6,11 @@ use Rattle.std.specs.Io.KnownBytes.{Appends, Keeps}
 use Rattle.std.proofs.KnownBytes.{Keeps-refl, Appends-nil}
 use Rattle.mp_io.specs.Devices.{Files, HoldsBytes, IsLonger, IsMissing, Text, held}
 use Rattle.mp_io.specs.Printing.{AppendsFront}
-use Rattle.matchpy.specs.Answers.{Acts, Answers, HasCauses, IsReached, Loads, Shelved, Sunk}
+use Rattle.mp_io.specs.Moments.{Shelved, Sunk}
+use Rattle.matchpy.specs.Answers.{Acts, Answers, HasCauses, IsReached, IsUnopened, Loads}
+use Rattle.matchpy.specs.Computed.{given}
 use Rattle.matchpy.specs.Messages.{long_line, open_line}
-use Rattle.matchpy.specs.Outcome.{Outcome, given, refused}
+use Rattle.matchpy.specs.Outcome.{Outcome, refused}
 use Rattle.matchpy.specs.declared.ending.Ending.{Ending}
 use Rattle.matchpy.specs.declared.ending.Ending.TheVariants as ending
 
@@ -71,9 +73,6 @@ Answers-loaded limit name bytes over shelf out (ending.CannotRead n) h l act = a
 
 -- ---- a file that wasn't loaded
 
-abbrev IsUnopened : Text → Outcome → Type 0
-IsUnopened name o = (o.status ≡ 4) × (open_line name ≡ o.err) × (o.out ≡ [])
-
 pub Answers-unloaded : (limit : ℕ) (name : Text) (over : Text → Outcome) (shelf : Shelved) (out : Sunk) (e : Ending)
     → Loads name limit shelf (Err e) → out.new ≡ out.old
     → Answers (name ∷ []) (λ fs. given limit name over (held fs name)) shelf out e
@@ -87,7 +86,7 @@ Answers-unloaded limit name over shelf out (ending.CannotOpen n) h same = (
   inl (sym h.0),
   elim h.1 [
     | inl rose ↦ inl rose
-    | inr m ↦ inr (subst (IsMissing shelf.files) (sym h.0) m, given-missing (IsUnopened n.now) limit name over shelf.files m (refl, ap open_line h.0, refl))
+    | inr m ↦ inr (subst (IsMissing shelf.files) (sym h.0) m, given-missing (IsUnopened (open_line n.now)) limit name over shelf.files m (refl, ap open_line h.0, refl))
   ],
 )
 Answers-unloaded limit name over shelf out (ending.CannotRead n) h same =

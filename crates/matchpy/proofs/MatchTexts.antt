@@ -1,6 +1,6 @@
--- The text of the matches, by the search, is the text of the one-lists, and there is no other.
+-- A text is that of the matches exactly where it is the one that the search gives.
 use Rattle.std.proofs.Common.{◌≡◌, List, [], ◌∷◌, ◌++◌, refl, sym, ap, ap₂, ◌∙◌}
-use Rattle.std.specs.Prelude.{flat_map}
+use Rattle.std.specs.Prelude.{◌↔◌, flat_map}
 use Rattle.std.specs.List.{AllByRecursion}
 use Rattle.mp_io.specs.Devices.{Text}
 use Rattle.mp_term.specs.Signature.{Sig}
@@ -10,50 +10,37 @@ use Rattle.mp_theory.specs.OneList.{one_list}
 use Rattle.mp_theory.proofs.OneListLaws.{one_list-is}
 use Rattle.mp_theory.proofs.Unique.{IsOneList-unique}
 use Rattle.mp_text.specs.File.{FileTree, Subject}
-use Rattle.matchpy.specs.Matches.{IsJoinedBy, IsMatchText, IsMatchable, IsMatchableFile, IsMatchableSubject, IsRuleText, match_line, match_text, rule_text, subject_text}
+use Rattle.matchpy.specs.Computed.{file_lines, rule_lines, subject_lines}
+use Rattle.matchpy.specs.Matchable.{IsMatchable, IsMatchableFile, IsMatchableSubject}
+use Rattle.matchpy.specs.Matches.{IsJoinedBy, IsMatchText, IsRuleText, match_line}
 
--- ---- texts of items
+-- the item has this text, and no other
+abbrev IsTextOf : {X : Type 0} → (X → Text → Type 0) → (X → Text) → X → Type 0
+IsTextOf P text x = (t : Text) → P x t ↔ (t ≡ text x)
 
-AllByRecursion-any : {X : Type 0} {Q : X → Type 0} → ((x : X) → Q x) → (xs : List X) → AllByRecursion Q xs
-AllByRecursion-any f [] = tt
-AllByRecursion-any f (x ∷ xs) = (f x, AllByRecursion-any f xs)
-
-IsJoinedBy-flat_map : {X : Type 0} (P : X → Text → Type 0) (text : X → Text) (xs : List X) → AllByRecursion (λ x. P x (text x)) xs → IsJoinedBy P xs (flat_map text xs)
-IsJoinedBy-flat_map P text [] h = refl
-IsJoinedBy-flat_map P text (x ∷ xs) h = (text x, flat_map text xs, refl, h.0, IsJoinedBy-flat_map P text xs h.1)
-
--- an item has one text at most
-abbrev IsDetermined : {X : Type 0} → (X → Text → Type 0) → X → Type 0
-IsDetermined P x = (a b : Text) → P x a → P x b → a ≡ b
-
-IsJoinedBy-unique : {X : Type 0} (P : X → Text → Type 0) (xs : List X) → AllByRecursion (IsDetermined P) xs → (a b : Text) → IsJoinedBy P xs a → IsJoinedBy P xs b → a ≡ b
-IsJoinedBy-unique P [] d a b h k = h ∙ sym k
-IsJoinedBy-unique P (x ∷ xs) d a b h k = h.2 ∙ ap₂ (λ (front rest : Text). front ++ rest) (d.0 h.0 k.0 h.3 k.3) (IsJoinedBy-unique P xs d.1 h.1 k.1 h.4 k.4) ∙ sym k.2
-
--- ---- texts of rules and subjects
+joined-exact : {X : Type 0} (P : X → Text → Type 0) (text : X → Text) (xs : List X) → AllByRecursion (IsTextOf P text) xs
+    → (t : Text) → IsJoinedBy P xs t ↔ (t ≡ flat_map text xs)
+joined-exact P text [] each t = (λ e. e, λ e. e)
+joined-exact P text (x ∷ xs) each t =
+    let after = joined-exact P text xs each.1 in (
+      λ h. h.2 ∙ ap₂ (λ (front rest : Text). front ++ rest) ((each.0 h.0).0 h.3) ((after h.1).0 h.4),
+      λ e. (text x, flat_map text xs, e, (each.0 (text x)).1 refl, (after (flat_map text xs)).1 refl),
+    )
 
 module _ (sig : Sig) (subject : Subject) (matchable : IsMatchableSubject sig subject) where
-  rule_text-is : (rule : Rule) → IsMatchable sig rule → IsRuleText sig subject rule (rule_text sig subject rule)
-  rule_text-is rule m = record { matches = one_list sig rule subject.term; listed = one_list-is sig rule subject.term matchable.normal; lines = refl }
+  rule_lines-exact : (rule : Rule) → IsMatchable sig rule → IsTextOf (IsRuleText sig subject) (rule_lines sig subject) rule
+  rule_lines-exact rule m t =
+      let list = one_list sig rule subject.term in
+      let listed = one_list-is sig rule subject.term matchable.normal in (
+        λ h. h.lines ∙ ap (flat_map (match_line sig subject rule)) (IsOneList-unique sig subject.term rule matchable.normal h.matches list h.listed listed),
+        λ e. record { matches = list; listed = listed; lines = e },
+      )
 
-  IsRuleText-unique : (rule : Rule) → IsDetermined (IsRuleText sig subject) rule
-  IsRuleText-unique rule a b h k =
-      h.lines ∙ ap (flat_map (match_line sig subject rule)) (IsOneList-unique sig subject.term rule matchable.normal h.matches k.matches h.listed k.listed) ∙ sym k.lines
+  subject_lines-exact : (rules : List Rule) → AllByRecursion (IsMatchable sig) rules
+      → IsTextOf (λ s. IsJoinedBy (IsRuleText sig s) rules) (subject_lines sig rules) subject
+  subject_lines-exact rules m = joined-exact (IsRuleText sig subject) (rule_lines sig subject) rules (all-also _ _ rule_lines-exact rules m)
 
-  subject_text-is : (rules : List Rule) → AllByRecursion (IsMatchable sig) rules → IsJoinedBy (IsRuleText sig subject) rules (subject_text sig rules subject)
-  subject_text-is rules m = IsJoinedBy-flat_map (IsRuleText sig subject) (rule_text sig subject) rules (all-also _ _ rule_text-is rules m)
-
-  IsSubjectText-unique : (rules : List Rule) → IsDetermined (λ (s : Subject). IsJoinedBy (IsRuleText sig s) rules) subject
-  IsSubjectText-unique rules = IsJoinedBy-unique (IsRuleText sig subject) rules (AllByRecursion-any IsRuleText-unique rules)
-
--- ---- texts of files
-
-pub match_text-is : (file : FileTree) → IsMatchableFile file → IsMatchText file (match_text file)
-match_text-is file m =
-    IsJoinedBy-flat_map (λ subject. IsJoinedBy (IsRuleText file.sig subject) file.rules) (subject_text file.sig file.rules) file.subjects
-    (all-also _ _ (λ subject matchable. subject_text-is file.sig subject matchable file.rules m.rules) file.subjects m.subjects)
-
-pub IsMatchText-unique : (file : FileTree) → IsMatchableFile file → (a b : Text) → IsMatchText file a → IsMatchText file b → a ≡ b
-IsMatchText-unique file m =
-    IsJoinedBy-unique (λ subject. IsJoinedBy (IsRuleText file.sig subject) file.rules) file.subjects
-    (all-also _ _ (λ subject matchable. IsSubjectText-unique file.sig subject matchable file.rules) file.subjects m.subjects)
+pub file_lines-exact : (file : FileTree) → IsMatchableFile file → (t : Text) → IsMatchText file t ↔ (t ≡ file_lines file)
+file_lines-exact file m =
+    joined-exact (λ subject. IsJoinedBy (IsRuleText file.sig subject) file.rules) (subject_lines file.sig file.rules) file.subjects
+    (all-also _ _ (λ subject matchable. subject_lines-exact file.sig subject matchable file.rules m.rules) file.subjects m.subjects)

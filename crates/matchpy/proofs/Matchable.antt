@@ -15,7 +15,7 @@ use Rattle.mp_text.specs.File.{FileTree, Subject}
 use Rattle.mp_text.specs.Reading.{IsFileOf}
 use Rattle.mp_text.specs.Sound.{IsSoundFile, IsSoundPattern, IsSoundTerm}
 use Rattle.mp_text.proofs.SoundFile.{IsSoundFile-IsFileOf}
-use Rattle.matchpy.specs.Matches.{IsMatchable, IsMatchableFile, IsMatchableSubject}
+use Rattle.matchpy.specs.Matchable.{IsMatchable, IsMatchableFile, IsMatchableSubject}
 
 module _ (sig : Sig) where
   -- ---- plans

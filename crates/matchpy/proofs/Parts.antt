@@ -18,7 +18,8 @@ use Rattle.mp_io.specs.Devices.{Rose, Text}
 use Rattle.mp_io.specs.Printing.{AppendsFront, IsCut, Prints}
 use Rattle.mp_io.proofs.Written.{Written, part_front, part_written, prints_part_cut}
 use Rattle.matchpy.specs.Printed.{PrintsMatches}
-use Rattle.matchpy.specs.Matches.{has_some, match_line, rule_text}
+use Rattle.matchpy.specs.Computed.{rule_lines}
+use Rattle.matchpy.specs.Matches.{has_some, match_line}
 use Rattle.matchpy.specs.declared.matches.Stop.{Stop}
 use Rattle.matchpy.specs.declared.matches.Stop.TheVariants.{Memory, CannotWrite}
 
@@ -129,7 +130,7 @@ substs-items [] = refl
 substs-items (i ∷ items) = ap (λ ss. subst_of i.subst ∷ ss) (substs-items items)
 
 -- the lines of the items of a rule are its text
-pub rule_text-items : (sig : Sig) (subject : Subject) (rule : Rule) (items : List Item) (list : List one.Item) → map item_of items ≡ list → one.item_substs list ≡ one.one_list sig rule subject.term
-    → flat_map (match_line sig subject rule) (map (λ i. subst_of i.subst) items) ≡ rule_text sig subject rule
-rule_text-items sig subject rule items list e is =
+pub rule_lines-items : (sig : Sig) (subject : Subject) (rule : Rule) (items : List Item) (list : List one.Item) → map item_of items ≡ list → one.item_substs list ≡ one.one_list sig rule subject.term
+    → flat_map (match_line sig subject rule) (map (λ i. subst_of i.subst) items) ≡ rule_lines sig subject rule
+rule_lines-items sig subject rule items list e is =
     ap (flat_map (match_line sig subject rule)) (substs-items items ∙ ap one.item_substs e ∙ is)

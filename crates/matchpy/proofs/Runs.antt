@@ -1,25 +1,28 @@
 -- From the answer of a run to the clause of the command.
-use Rattle.std.proofs.Common.{◌≡◌, ◌⊎◌, inl, inr, ℕ, ◌<◌, List, [], ◌∷◌, length, Bool, true, false, refl, sym, ap, ◌∙◌, subst, arith, append-nil}
+use Rattle.std.proofs.Common.{◌≡◌, ◌⊎◌, inl, inr, ℕ, ◌<◌, ◌≤◌, List, [], ◌∷◌, ◌++◌, length, Bool, true, false, refl, sym, ap, ◌∙◌, subst, arith, append-nil}
 use Rattle.std.specs.Prelude.{Option, Some, None, IfSome, if◌then◌else◌, nat_lt}
+use Rattle.std.specs.List.{Contains}
 use Rattle.std.specs.Io.KnownBytes.{Appends, Keeps}
-use Rattle.mp_io.specs.Devices.{Files, Rose, Text, held}
+use Rattle.mp_io.specs.Devices.{Files, IsMissing, Rose, Text, held}
+use Rattle.mp_io.specs.Moments.{Shelved, Sunk}
 use Rattle.mp_io.specs.Printing.{AppendsFront}
 use Rattle.mp_io.proofs.Written.{whole_front}
 use Rattle.mp_text.specs.File.{FileTree}
 use Rattle.mp_text.specs.Reading.{fault_of, file_of}
 use Rattle.mp_text.specs.declared.fault.TextFault.{TextFault}
-use Rattle.matchpy.specs.Answers.{Answers, IsReached, IsTurnOf, Shelved, Sunk}
+use Rattle.matchpy.specs.Answers.{Answers, IsReached, IsUnopened}
+use Rattle.matchpy.specs.Computed.{given, outcome_at, outcome_of, outcome_over, over_file}
 use Rattle.matchpy.specs.Endings.{line_of, status_of, told_line, told_status}
 use Rattle.matchpy.specs.Messages.{long_line, memory_line, open_line, read_line, write_line}
-use Rattle.matchpy.specs.Matches.{has_some, match_text}
-use Rattle.matchpy.specs.Outcome.{Outcome, file_limit, given, match_outcome, matched, outcome_at, over_file, refused, show_outcome, shown}
-use Rattle.matchpy.specs.Run.{HasOutcome, IsSomeMissing, Runs, Says, names_of}
-use Rattle.matchpy.specs.Words.{Request, Match, Show, request_of}
+use Rattle.matchpy.specs.Outcome.{Outcome, file_limit, refused}
+use Rattle.matchpy.specs.Run.{HasOutcome, IsSomeMissing, IsTurnOf, Runs, Says, names_of, statuses}
+use Rattle.matchpy.specs.Words.{Request, request_of}
 use Rattle.matchpy.specs.declared.ending.Told.{Told}
 use Rattle.matchpy.specs.declared.ending.Told.TheVariants as told
 use Rattle.matchpy.specs.declared.ending.Ending.{Ending}
 use Rattle.matchpy.specs.declared.ending.Ending.TheVariants as ending
-use Rattle.matchpy.proofs.Outcomes.{outcome_at-is}
+use Rattle.matchpy.proofs.Actions.{action_law}
+use Rattle.matchpy.proofs.Outcomes.{outcome_at-exact}
 
 -- ---- laws of the outcome
 
@@ -31,47 +34,34 @@ IsSilent o = o.status ≡ 4 → o.out ≡ []
 abbrev IsUnheld : Outcome → Type 0
 IsUnheld o = (o.status ≡ 4) × (o.out ≡ [])
 
-given-silent : (limit : ℕ) (name : Text) (over : Text → Outcome) (found : Option Text) → ((bytes : Text) → IsSilent (over bytes)) → IsSilent (given limit name over found)
+given-silent : (limit : ℕ) (name : Text) (over : Text → Outcome) (found : Option Text)
+    → ((bytes : Text) → IsSilent (over bytes)) → IsSilent (given limit name over found)
 given-silent limit name over None h = λ e. refl
-given-silent limit name over (Some bytes) h = go (nat_lt limit (length bytes))
+given-silent limit name over (Some bytes) h = by_length (nat_lt limit (length bytes))
   where
-    go : (b : Bool) → IsSilent (if b then refused 4 (long_line name) else over bytes)
-    go true = λ e. refl
-    go false = h bytes
+    by_length : (long : Bool) → IsSilent (if long then refused 4 (long_line name) else over bytes)
+    by_length true = λ e. refl
+    by_length false = h bytes
 
 -- over the bytes of a file the status isn't 4
-over_file-read : (over : FileTree → Outcome) → ((file : FileTree) → (over file).status ≡ 4 → ⊥) → (name : Text) (fault : Option TextFault) (found : Option FileTree) → (over_file over name fault found).status ≡ 4 → ⊥
-over_file-read over h name (Some fault) found = λ e. absurd (omega arith)
-over_file-read over h name None None = λ e. absurd (omega arith)
-over_file-read over h name None (Some file) = h file
-
-matched-read : (file : FileTree) → (matched (match_text file)).status ≡ 4 → ⊥
-matched-read file = of_text (has_some (match_text file))
-  where
-    of_text : (b : Bool) → (let n : ℕ = if b then 0 else 1 in n ≡ 4) → ⊥
-    of_text true = λ e. absurd (omega arith)
-    of_text false = λ e. absurd (omega arith)
-
-shown-read : (file : FileTree) → (shown file).status ≡ 4 → ⊥
-shown-read file = λ e. absurd (omega arith)
-
-pub match_outcome-read : (name bytes : Text) → (match_outcome name bytes).status ≡ 4 → ⊥
-match_outcome-read name bytes = over_file-read (λ file. matched (match_text file)) matched-read name (fault_of bytes) (file_of bytes)
-
-pub show_outcome-read : (name bytes : Text) → (show_outcome name bytes).status ≡ 4 → ⊥
-show_outcome-read name bytes = over_file-read shown shown-read name (fault_of bytes) (file_of bytes)
+over_file-read : (request : Request) (fault : Option TextFault) (found : Option FileTree)
+    → (over_file (outcome_of request.action) request.file fault found).status ≡ 4 → ⊥
+over_file-read request (Some fault) found = λ e. absurd (omega arith)
+over_file-read request None None = λ e. absurd (omega arith)
+over_file-read request None (Some file) = (action_law request.action).read file
 
 outcome_at-silent : (files : Files) (request : Option Request) → IsSilent (outcome_at files request)
 outcome_at-silent files None = λ e. refl
-outcome_at-silent files (Some (Match name)) = given-silent file_limit name (match_outcome name) (held files name) (λ bytes e. absurd (match_outcome-read name bytes e))
-outcome_at-silent files (Some (Show name)) = given-silent file_limit name (show_outcome name) (held files name) (λ bytes e. absurd (show_outcome-read name bytes e))
+outcome_at-silent files (Some request) =
+    given-silent file_limit request.file (outcome_over request) (held files request.file)
+    (λ bytes e. absurd (over_file-read request (fault_of bytes) (file_of bytes) e))
 
-outcome_at-missing : (files : Files) (request : Option Request) → IsSomeMissing files (names_of request) → IsUnheld (outcome_at files request)
+outcome_at-missing : (files : Files) (request : Option Request) → IsSomeMissing files (names_of request)
+    → IsUnheld (outcome_at files request)
 outcome_at-missing files None h = absurd h
-outcome_at-missing files (Some (Match name)) (inl m) = subst (λ found. IsUnheld (given file_limit name (match_outcome name) found)) (sym m) (refl, refl)
-outcome_at-missing files (Some (Match name)) (inr h) = absurd h
-outcome_at-missing files (Some (Show name)) (inl m) = subst (λ found. IsUnheld (given file_limit name (show_outcome name) found)) (sym m) (refl, refl)
-outcome_at-missing files (Some (Show name)) (inr h) = absurd h
+outcome_at-missing files (Some request) (inl m) =
+    subst (λ found. IsUnheld (given file_limit request.file (outcome_over request) found)) (sym m) (refl, refl)
+outcome_at-missing files (Some request) (inr h) = absurd h
 
 -- ---- what is kept and what is appended
 
@@ -100,12 +90,52 @@ told_status-settled told.Usage = (λ e. absurd (omega arith), λ e. absurd (omeg
 told_status-settled (told.BadText name fault) = (λ e. absurd (omega arith), λ e. absurd (omega arith))
 told_status-settled (told.TooLong name) = (λ e. absurd (omega arith), λ e. absurd (omega arith))
 
--- ---- the clause
+-- ---- the clauses that speak of every shelf
 
-module _ (files : Files) (request : Option Request) (s0 s1 r0 r1 g : ℕ) (out err : Sunk) where
-  abbrev shelf : Shelved
-  shelf = record { files = Some files; starts = s0; starts_after = s1; reads = r0; reads_after = r1; given_after = g }
+-- the status is one of those that are told
+pub status_of-listed : (e : Ending) → Contains statuses (status_of e)
+status_of-listed (ending.Told told.Done) = (0, omega arith, refl)
+status_of-listed (ending.Told told.Empty) = (1, omega arith, refl)
+status_of-listed (ending.Told told.Usage) = (2, omega arith, refl)
+status_of-listed (ending.Told (told.BadText name fault)) = (3, omega arith, refl)
+status_of-listed (ending.Told (told.TooLong name)) = (4, omega arith, refl)
+status_of-listed ending.Memory = (6, omega arith, refl)
+status_of-listed ending.CannotWrite = (5, omega arith, refl)
+status_of-listed (ending.CannotOpen name) = (4, omega arith, refl)
+status_of-listed (ending.CannotRead name) = (4, omega arith, refl)
 
+front-nil : (front rest : Text) → [] ≡ front ++ rest → front ≡ []
+front-nil [] rest e = refl
+front-nil (b ∷ front) rest e = absurd cc
+
+-- a line that is empty leaves the sink as it was
+Says-nothing : (err : Sunk) → Says err [] → Keeps err.old err.new
+Says-nothing err says =
+    let cut = says.front in
+    Keeps-appends err.old err.new (subst (λ (x : Text). Appends err.old err.new x) (front-nil cut.front cut.rest cut.split) cut.written)
+
+-- where all went well nothing is said
+pub Says-done : (err : Sunk) (e : Ending) → Says err (line_of e) → status_of e ≤ 1 → Keeps err.old err.new
+Says-done err (ending.Told told.Done) says few = Says-nothing err says
+Says-done err (ending.Told told.Empty) says few = Says-nothing err says
+Says-done err (ending.Told told.Usage) says few = absurd (omega arith)
+Says-done err (ending.Told (told.BadText name fault)) says few = absurd (omega arith)
+Says-done err (ending.Told (told.TooLong name)) says few = absurd (omega arith)
+Says-done err ending.Memory says few = absurd (omega arith)
+Says-done err ending.CannotWrite says few = absurd (omega arith)
+Says-done err (ending.CannotOpen name) says few = absurd (omega arith)
+Says-done err (ending.CannotRead name) says few = absurd (omega arith)
+
+-- ---- the clause over files that are told
+
+IfSome-told : {P : Files → Type 0} (found : Option Files) → ((files : Files) → found ≡ Some files → P files) → IfSome found P
+IfSome-told None h = tt
+IfSome-told (Some files) h = h files refl
+
+told-here : (P : Files → Type 0) (found : Option Files) (files : Files) → found ≡ Some files → IfSome found P → P files
+told-here P found files e h = subst (λ x. IfSome x P) e h
+
+module _ (files : Files) (request : Option Request) (shelf : Shelved) (told_files : shelf.files ≡ Some files) (out err : Sunk) where
   abbrev o : Outcome
   o = outcome_at files request
 
@@ -170,15 +200,15 @@ module _ (files : Files) (request : Option Request) (s0 s1 r0 r1 g : ℕ) (out e
     );
   }
 
-  Runs-open : (name : Text) → Keeps out.old out.new → IsTurnOf (Some files) (names_of request) name
-      → Rose s0 s1 ⊎ ((held files name ≡ None) × ((o.status ≡ 4) × (open_line name ≡ o.err) × (o.out ≡ [])))
+  Runs-open : (name : Text) → Keeps out.old out.new → IsTurnOf shelf.files (names_of request) name
+      → Rose shelf.start_faults shelf.start_faults_after ⊎ IsUnopened (open_line name) o
       → Says err (open_line name) → Runs o (names_of request) files shelf out err 4
   Runs-open name kept turn why says = record {
-    unread = λ _. elim why [ inl rose ↦ inr (IsTurnOf-some (Some files) (names_of request) name turn, inl rose) | inr m ↦ inl m.1.0 ];
+    unread = λ _. elim why [ inl rose ↦ inr (IsTurnOf-some shelf.files (names_of request) name turn, inl rose) | inr m ↦ inl m.0 ];
     missing = λ m. inl refl;
     settled = λ _ _ calm. elim why [
       | inl rose ↦ absurd (calm refl (inl rose))
-      | inr m ↦ (sym m.1.0, subst (λ (x : Text). Appends out.old out.new x) (sym m.1.2) (Appends-keeps out.old out.new kept))
+      | inr m ↦ (sym m.0, subst (λ (x : Text). Appends out.old out.new x) (sym m.2) (Appends-keeps out.old out.new kept))
     ];
     front = AppendsFront-keeps out o.out kept;
     nothing = λ _. kept;
@@ -188,17 +218,18 @@ module _ (files : Files) (request : Option Request) (s0 s1 r0 r1 g : ℕ) (out e
       record {
         write = λ e. absurd (omega arith);
         memory = λ e. absurd (omega arith);
-        unread = λ _. elim why [ inl rose ↦ inr (name, turn, inl (refl, rose)) | inr m ↦ inl (m.1.0, m.1.1) ];
+        unread = λ _. elim why [ inl rose ↦ inr (name, turn, inl (refl, rose)) | inr m ↦ inl (m.0, m.1) ];
         other = λ _ _ not4. absurd (not4 refl);
       },
       says,
     );
   }
 
-  Runs-read : (name : Text) → Keeps out.old out.new → IsTurnOf (Some files) (names_of request) name → (held files name ≡ None → ⊥) → Rose r0 r1
+  Runs-read : (name : Text) → Keeps out.old out.new → IsTurnOf shelf.files (names_of request) name → (IsMissing shelf.files name → ⊥)
+      → Rose shelf.read_faults shelf.read_faults_after
       → Says err (read_line name) → Runs o (names_of request) files shelf out err 4
   Runs-read name kept turn there rose says = record {
-    unread = λ _. inr (IsTurnOf-some (Some files) (names_of request) name turn, inr rose);
+    unread = λ _. inr (IsTurnOf-some shelf.files (names_of request) name turn, inr rose);
     missing = λ m. inl refl;
     settled = λ _ _ calm. absurd (calm refl (inr rose));
     front = AppendsFront-keeps out o.out kept;
@@ -216,24 +247,30 @@ module _ (files : Files) (request : Option Request) (s0 s1 r0 r1 g : ℕ) (out e
     );
   }
 
-  Runs-answers : (e : Ending) → Answers (names_of request) (λ fs. outcome_at fs request) shelf out e → Says err (line_of e) → Runs o (names_of request) files shelf out err (status_of e)
-  Runs-answers (ending.Told t) h says = Runs-told t h says (told_status-settled t).0 (told_status-settled t).1
-  Runs-answers ending.Memory h says = Runs-memory h says
-  Runs-answers ending.CannotWrite h says = Runs-write h.0 h.1.0 h.1.1 says
-  Runs-answers (ending.CannotOpen name) h says = Runs-open name.now h.0 h.1 h.2 says
+  Runs-answers : (e : Ending) → Answers (names_of request) (λ fs. outcome_at fs request) shelf out e → Says err (line_of e)
+      → Runs o (names_of request) files shelf out err (status_of e)
+  Runs-answers (ending.Told t) h says =
+      Runs-told t (told-here _ shelf.files files told_files h) says (told_status-settled t).0 (told_status-settled t).1
+  Runs-answers ending.Memory h says = Runs-memory (told-here _ shelf.files files told_files h) says
+  Runs-answers ending.CannotWrite h says =
+      let cut = told-here _ shelf.files files told_files h.1 in
+      Runs-write h.0 cut.0 cut.1 says
+  Runs-answers (ending.CannotOpen name) h says =
+      Runs-open name.now h.0 h.1 (elim h.2 [ inl rose ↦ inl rose | inr m ↦ inr (told-here _ shelf.files files told_files m.1) ]) says
   Runs-answers (ending.CannotRead name) h says = Runs-read name.now h.0 h.1 h.2 h.3 says
 
 -- the clause, of the request that the words make
-pub HasOutcome-answers : (told_files : Option Files) (words : List Text) (asked_for : Option Request) (s0 s1 r0 r1 g : ℕ) (out err : Sunk) (e : Ending) (status : ℕ) → asked_for ≡ request_of words → status ≡ status_of e
-    → Answers (names_of asked_for) (λ fs. outcome_at fs asked_for) (record { files = told_files; starts = s0; starts_after = s1; reads = r0; reads_after = r1; given_after = g }) out e
-    → Says err (line_of e)
-    → IfSome told_files (λ files. HasOutcome words files (record { files = told_files; starts = s0; starts_after = s1; reads = r0; reads_after = r1; given_after = g }) out err status)
-HasOutcome-answers None words asked_for s0 s1 r0 r1 g out err e status asked_is status_is h says = tt
-HasOutcome-answers (Some files) words asked_for s0 s1 r0 r1 g out err e status asked_is status_is h says =
-    let shelf : Shelved = record { files = Some files; starts = s0; starts_after = s1; reads = r0; reads_after = r1; given_after = g } in
-    let whole : HasOutcome words files shelf out err (status_of e) = record {
-      outcome = outcome_at files (request_of words);
-      is_outcome = outcome_at-is files (request_of words);
-      runs = subst (λ r. Runs (outcome_at files r) (names_of r) files shelf out err (status_of e)) asked_is (Runs-answers files asked_for s0 s1 r0 r1 g out err e h says);
-    } in
-    subst (HasOutcome words files shelf out err) (sym status_is) whole
+pub HasOutcome-answers : (shelf : Shelved) (words : List Text) (asked_for : Option Request) (out err : Sunk) (e : Ending) (status : ℕ)
+    → asked_for ≡ request_of words → status ≡ status_of e
+    → Answers (names_of asked_for) (λ fs. outcome_at fs asked_for) shelf out e → Says err (line_of e)
+    → IfSome shelf.files (λ files. HasOutcome words files shelf out err status)
+HasOutcome-answers shelf words asked_for out err e status asked_is status_is h says =
+    IfSome-told shelf.files (λ files told_files.
+      let o = outcome_at files (request_of words) in
+      let whole : HasOutcome words files shelf out err (status_of e) = record {
+        outcome = o;
+        is_outcome = (outcome_at-exact files (request_of words) o).1 refl;
+        runs = subst (λ r. Runs (outcome_at files r) (names_of r) files shelf out err (status_of e)) asked_is
+            (Runs-answers files asked_for shelf told_files out err e h says);
+      } in
+      subst (HasOutcome words files shelf out err) (sym status_is) whole)

@@ -1,31 +1,19 @@
 -- What an ending says: of an action over bytes, and of a run over a shelf.
-use Rattle.std.specs.Prelude.{◌≡◌, ◌⊎◌, ◌<◌, ◌≤◌, ℕ, List, [], ◌∷◌, length, Option, IfSome, Result, Ok, Err, Vec, ⊤}
+use Rattle.std.specs.Prelude.{◌≡◌, ◌⊎◌, ◌<◌, ◌≤◌, ℕ, List, [], length, Option, IfSome, Result, Ok, Err, Vec, ⊤}
 use Rattle.std.specs.Global.{Global}
 use Rattle.std.specs.Io.KnownBytes.{Appends, Keeps}
 use Rattle.mp_io.specs.Devices.{Files, HoldsBytes, IsLonger, IsMissing, Rose, Text}
+use Rattle.mp_io.specs.Moments.{Shelved, Sunk}
 use Rattle.mp_io.specs.Printing.{AppendsFront}
 use Rattle.matchpy.specs.Endings.{line_of, status_of, told_line, told_status}
-use Rattle.matchpy.specs.Messages.{long_line, open_line, read_line}
+use Rattle.matchpy.specs.Messages.{long_line}
 use Rattle.matchpy.specs.Outcome.{Outcome}
+use Rattle.matchpy.specs.Run.{IsTurnOf, IsUnreadLine}
 use Rattle.matchpy.specs.declared.ending.Told.{Told}
 use Rattle.matchpy.specs.declared.ending.Ending.{Ending}
 use Rattle.matchpy.specs.declared.ending.Ending.TheVariants as ending
 
--- a shelf before and after: its files, its counts of faults, and how much of the started file was given
-pub record Shelved : Type 0 where
-  pub files : Option Files
-  pub starts : ℕ
-  pub starts_after : ℕ
-  pub reads : ℕ
-  pub reads_after : ℕ
-  pub given_after : ℕ
-
--- a sink before and after: its bytes and its count of faults
-pub record Sunk : Type 0 where
-  pub old : Option Text
-  pub new : Option Text
-  pub faults : ℕ
-  pub faults_after : ℕ
+-- ---- an action
 
 -- the ending is the outcome's, and its text was written
 pub record IsReached (o : Outcome) (out : Sunk) (told : Told) : Type 0 where
@@ -33,31 +21,16 @@ pub record IsReached (o : Outcome) (out : Sunk) (told : Told) : Type 0 where
   pub line : told_line told ≡ o.err
   pub text : Appends out.old out.new o.out
 
--- an action over bytes, whose outcome is this one, ends so
+-- an action over bytes or over a file, of which this is the outcome, ends so
 abbrev pub Acts : Outcome → Sunk → Ending → Type 0
 Acts o out (ending.Told t) = IsReached o out t
 Acts o out ending.Memory = AppendsFront out.old out.new o.out
-Acts o out ending.CannotWrite = AppendsFront out.old out.new o.out × Rose out.faults out.faults_after × (0 < length o.out)
+Acts o out ending.CannotWrite =
+    AppendsFront out.old out.new o.out × Rose out.faults out.faults_after × (0 < length o.out)
 Acts o out (ending.CannotOpen name) = ⊥
 Acts o out (ending.CannotRead name) = ⊥
 
--- the name is one of these, and those before it are held
-abbrev pub IsTurnOf : Option Files → List Text → Text → Type 0
-IsTurnOf files [] name = ⊥
-IsTurnOf files (n ∷ names) name = (n ≡ name) ⊎ ((IsMissing files n → ⊥) × IsTurnOf files names name)
-
--- a run, of which the files with these names are read in turn, ends so
-abbrev pub Answers : List Text → (Files → Outcome) → Shelved → Sunk → Ending → Type 0
-Answers names over shelf out (ending.Told t) = IfSome shelf.files (λ files. IsReached (over files) out t)
-Answers names over shelf out ending.Memory = IfSome shelf.files (λ files. AppendsFront out.old out.new (over files).out)
-Answers names over shelf out ending.CannotWrite =
-    Rose out.faults out.faults_after × IfSome shelf.files (λ files. AppendsFront out.old out.new (over files).out × (0 < length (over files).out))
-Answers names over shelf out (ending.CannotOpen name) =
-    Keeps out.old out.new × IsTurnOf shelf.files names name.now
-    × (Rose shelf.starts shelf.starts_after
-    ⊎ (IsMissing shelf.files name.now × IfSome shelf.files (λ files. ((over files).status ≡ 4) × (line_of (ending.CannotOpen name) ≡ (over files).err) × ((over files).out ≡ []))))
-Answers names over shelf out (ending.CannotRead name) =
-    Keeps out.old out.new × IsTurnOf shelf.files names name.now × (IsMissing shelf.files name.now → ⊥) × Rose shelf.reads shelf.reads_after
+-- ---- a file
 
 -- the bytes of a `Vec`, where there is one
 abbrev pub items_in : {E : Type 0} → Result (Vec ℕ Global) E → Result Text E
@@ -67,19 +40,38 @@ items_in (Err e) = Err e
 -- the loading of a file ends so
 abbrev pub Loads : Text → ℕ → Shelved → Result Text Ending → Type 0
 Loads name limit shelf (Ok bytes) = HoldsBytes shelf.files name bytes × (length bytes ≤ limit)
-Loads name limit shelf (Err (ending.Told t)) = (told_status t ≡ 4) × (told_line t ≡ long_line name) × IsLonger shelf.files name limit × (limit < shelf.given_after)
+Loads name limit shelf (Err (ending.Told t)) =
+    (told_status t ≡ 4) × (told_line t ≡ long_line name)
+    × IsLonger shelf.files name limit × (limit < shelf.given_after)
 Loads name limit shelf (Err ending.Memory) = ⊤
 Loads name limit shelf (Err ending.CannotWrite) = ⊥
-Loads name limit shelf (Err (ending.CannotOpen n)) = (n.now ≡ name) × (Rose shelf.starts shelf.starts_after ⊎ IsMissing shelf.files name)
-Loads name limit shelf (Err (ending.CannotRead n)) = (n.now ≡ name) × (IsMissing shelf.files name → ⊥) × Rose shelf.reads shelf.reads_after
+Loads name limit shelf (Err (ending.CannotOpen n)) =
+    (n.now ≡ name) × (Rose shelf.start_faults shelf.start_faults_after ⊎ IsMissing shelf.files name)
+Loads name limit shelf (Err (ending.CannotRead n)) =
+    (n.now ≡ name) × (IsMissing shelf.files name → ⊥) × Rose shelf.read_faults shelf.read_faults_after
 
--- a file was refused by this line: one that was to be read now couldn't be opened, couldn't be read, or gave more bytes than the limit
-abbrev pub IsUnreadLine : ℕ → List Text → Shelved → Text → Type 0
-IsUnreadLine limit names shelf line =
-    (name : Text) × IsTurnOf shelf.files names name
-    × (((line ≡ open_line name) × (Rose shelf.starts shelf.starts_after ⊎ IsMissing shelf.files name))
-    ⊎ ((line ≡ read_line name) × Rose shelf.reads shelf.reads_after)
-    ⊎ ((line ≡ long_line name) × (limit < shelf.given_after)))
+-- ---- a run
+
+-- this is the outcome where a file can't be opened
+abbrev pub IsUnopened : Text → Outcome → Type 0
+IsUnopened line o = (o.status ≡ 4) × (line ≡ o.err) × (o.out ≡ [])
+
+-- a run, of which the files with these names are read in turn, ends so
+abbrev pub Answers : List Text → (Files → Outcome) → Shelved → Sunk → Ending → Type 0
+Answers names over shelf out (ending.Told t) = IfSome shelf.files (λ files. IsReached (over files) out t)
+Answers names over shelf out ending.Memory =
+    IfSome shelf.files (λ files. AppendsFront out.old out.new (over files).out)
+Answers names over shelf out ending.CannotWrite =
+    Rose out.faults out.faults_after
+    × IfSome shelf.files (λ files. AppendsFront out.old out.new (over files).out × (0 < length (over files).out))
+Answers names over shelf out (ending.CannotOpen name) =
+    Keeps out.old out.new × IsTurnOf shelf.files names name.now
+    × (Rose shelf.start_faults shelf.start_faults_after
+    ⊎ (IsMissing shelf.files name.now
+    × IfSome shelf.files (λ files. IsUnopened (line_of (ending.CannotOpen name)) (over files))))
+Answers names over shelf out (ending.CannotRead name) =
+    Keeps out.old out.new × IsTurnOf shelf.files names name.now
+    × (IsMissing shelf.files name.now → ⊥) × Rose shelf.read_faults shelf.read_faults_after
 
 -- an ending with status 4 has its cause, whether or not the shelf tells its files
 abbrev pub HasCauses : ℕ → List Text → Shelved → Ending → Type 0

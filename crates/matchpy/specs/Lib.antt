@@ -1,10 +1,12 @@
 pub mod Words
 pub mod Requests
-pub mod Matches
-pub mod Planned
 pub mod Messages
+pub mod Matches
 pub mod Outcome
+pub mod Run
+pub mod Matchable
+pub mod Computed
+pub mod Planned
 pub mod Endings
 pub mod Answers
 pub mod Printed
-pub mod Run

@@ -1,18 +1,10 @@
 -- The text of the matches of a file: a line for each subject, rule and admitted substitution.
-use Rattle.std.specs.Prelude.{◌≡◌, ◌≤◌, Bool, true, false, List, [], ◌∷◌, ◌++◌, flat_map, None}
-use Rattle.std.specs.List.{AllByRecursion}
+use Rattle.std.specs.Prelude.{◌≡◌, Bool, true, false, List, [], ◌∷◌, ◌++◌, flat_map}
 use Rattle.mp_io.specs.Devices.{Text}
-use Rattle.mp_term.specs.Size.{node_count}
 use Rattle.mp_term.specs.Signature.{Sig}
-use Rattle.mp_term.specs.Normal.{IsNormal}
 use Rattle.mp_pattern.specs.Value.{Subst}
-use Rattle.mp_pattern.specs.Variables.{variables}
-use Rattle.mp_pattern.specs.Limits.{DefaultsAreSmall}
-use Rattle.mp_pattern.specs.Operands.{HasConditionOver}
 use Rattle.mp_pattern.specs.Admission.{Rule}
 use Rattle.mp_pattern.specs.Lists.{IsOneList}
-use Rattle.mp_pattern.specs.PlanFault.{plan_fault}
-use Rattle.mp_theory.specs.OneList.{one_list}
 use Rattle.mp_text.specs.File.{FileTree, Subject}
 use Rattle.mp_print.specs.Printing.{subst_text}
 
@@ -35,39 +27,7 @@ pub record IsRuleText (sig : Sig) (subject : Subject) (rule : Rule) (text : Text
 abbrev pub IsMatchText : FileTree → Text → Type 0
 IsMatchText file = IsJoinedBy (λ subject. IsJoinedBy (IsRuleText file.sig subject) file.rules) file.subjects
 
--- ---- the same, by the search for the one-list
-
--- a line for each substitution of the one-list of a rule on a subject
-abbrev pub rule_text : Sig → Subject → Rule → Text
-rule_text sig subject rule = flat_map (match_line sig subject rule) (one_list sig rule subject.term)
-
--- the lines of all rules on a subject, in order
-abbrev pub subject_text : Sig → List Rule → Subject → Text
-subject_text sig rules subject = flat_map (rule_text sig subject) rules
-
--- the lines of all subjects, in order
-abbrev pub match_text : FileTree → Text
-match_text file = flat_map (subject_text file.sig file.rules) file.subjects
-
 -- the text has a byte
 abbrev pub has_some : Text → Bool
 has_some [] = false
 has_some (b ∷ text) = true
-
--- ---- what is asked of a file that is matched
-
--- the rule's defaults are small, its condition speaks of the pattern's variables and of small ground terms, and the pattern has a plan
-pub record IsMatchable (sig : Sig) (rule : Rule) : Type 0 where
-  pub small : DefaultsAreSmall rule.pattern
-  pub condition : HasConditionOver (variables rule.pattern) rule.condition
-  pub planned : plan_fault rule.pattern ≡ None
-
--- the subject's term is normal, and has at most 100,000 nodes
-pub record IsMatchableSubject (sig : Sig) (subject : Subject) : Type 0 where
-  pub normal : IsNormal sig subject.term
-  pub few : node_count subject.term ≤ 100000
-
--- so are all rules and all subjects
-pub record IsMatchableFile (file : FileTree) : Type 0 where
-  pub rules : AllByRecursion (IsMatchable file.sig) file.rules
-  pub subjects : AllByRecursion (IsMatchableSubject file.sig) file.subjects

@@ -3,7 +3,7 @@ use Rattle.mp_term.specs.Signature.{Sig}
 use Rattle.mp_pattern.specs.Admission.{Rule}
 use Rattle.mp_pattern.specs.RuleView.{rule_tree}
 use Rattle.mp_pattern.specs.Plan.{Plan, IsPlanOf}
-use Rattle.matchpy.specs.Matches.{IsMatchable}
+use Rattle.matchpy.specs.Matchable.{IsMatchable}
 use Rattle.matchpy.specs.declared.matches.Planned.{Planned}
 
 -- a rule and a plan

@@ -2,8 +2,8 @@
 use Rattle.std.specs.Prelude.{◌≡◌, ◌≤◌, ◌<◌, Bool, length, Result, Ok, Err}
 use Rattle.std.specs.Io.KnownBytes.{Appends}
 use Rattle.mp_io.specs.Devices.{Rose, Text}
+use Rattle.mp_io.specs.Moments.{Sunk}
 use Rattle.mp_io.specs.Printing.{AppendsFront}
-use Rattle.matchpy.specs.Answers.{Sunk}
 use Rattle.matchpy.specs.Matches.{has_some}
 use Rattle.matchpy.specs.declared.matches.Stop.{Stop}
 use Rattle.matchpy.specs.declared.matches.Stop.TheVariants.{Memory, CannotWrite}

@@ -1,18 +1,23 @@
 //! The answer to a request, over a shelf.
 
-ghost use Rattle.std.specs.Prelude.{◌≡◌, ◌≤◌, ◌∷◌, [], length, IfErr};
+ghost use Rattle.std.specs.Prelude.{◌≡◌, ◌≤◌, ◌+◌, ◌∷◌, [], length, IfErr};
 ghost use Rattle.mp_io.specs.Devices.{held};
+ghost use Rattle.mp_io.specs.Moments.{shelved, sunk};
+ghost use Rattle.mp_text.specs.File.{file_tree};
 ghost use Rattle.matchpy.specs.Answers.{Acts, Answers, HasCauses, Loads, items_in};
+ghost use Rattle.matchpy.specs.Computed.{given, outcome_of, outcome_over};
 ghost use Rattle.matchpy.specs.Endings.{status_of};
-ghost use Rattle.matchpy.specs.Outcome.{file_limit, given, outcome_over};
+ghost use Rattle.matchpy.specs.Matchable.{IsMatchableFile};
+ghost use Rattle.matchpy.specs.Outcome.{file_limit};
 ghost use Rattle.matchpy.specs.Requests.{asked};
-ghost use Rattle.matchpy.specs.Words.{named_file};
+ghost use Rattle.matchpy.specs.Run.{IsReadOnce};
 
 use crate::ending::{Ending, Told};
 use crate::matches::match_file;
 use crate::show::show_file;
-use crate::words::Request;
+use crate::words::{Action, Request};
 use mp_io::{ReadFault, Shelf, Sink, read_whole};
+use mp_text::{File, TextError, read_file};
 use std::alloc::Global;
 
 // A file of rules has at most so many bytes.
@@ -25,17 +30,9 @@ fn load<'a, S: Shelf>(
     name: &'a str,
     limit: usize,
 ) -> Result<Vec<u8>, Ending<'a>>
-    ensures loads { Loads name.entry.now limit (record {
-      files = S.files shelf.old;
-      starts = S.start_faults shelf.old;
-      starts_after = S.start_faults shelf.new;
-      reads = S.read_faults shelf.old;
-      reads_after = S.read_faults shelf.new;
-      given_after = S.given shelf.new;
-    }) (items_in result) }
+    ensures loads { Loads name.entry.now limit (shelved S.Shelf shelf.old shelf.new) (items_in result) }
     ensures files { S.files shelf.new ≡ S.files shelf.old }
-    ensures starts { S.start_faults shelf.old ≤ S.start_faults shelf.new }
-    ensures reads { S.read_faults shelf.old ≤ S.read_faults shelf.new }
+    ensures once { IsReadOnce limit (name.entry.now ∷ []) (shelved S.Shelf shelf.old shelf.new) }
     ensures used { IfErr result (λ e. status_of e ≡ 2 → ⊥) }
 {
     match read_whole(alloc, shelf, name, limit) {
@@ -47,52 +44,58 @@ fn load<'a, S: Shelf>(
     }
 }
 
-// Does what the request asks for, over the bytes of its file.
-fn act<'a, O: Sink>(alloc: Global, request: Request<'a>, bytes: &[u8], out: &mut O) -> Ending<'a>
-    requires { length bytes.now ≤ file_limit }
-    ensures acts { Acts (outcome_over (asked request.entry) bytes.now) (record { old = O.contents out.old; new = O.contents out.new; faults = O.faults out.old; faults_after = O.faults out.new }) result }
+// Does the action, over a file that was read.
+fn act<'a, O: Sink>(alloc: Global, action: Action, file: &File, out: &mut O) -> Ending<'a>
+    requires { IsMatchableFile (file_tree file.now) }
+    ensures acts { Acts (outcome_of action (file_tree file.now)) (sunk O.Sink out.old out.new) result }
     ensures used { status_of result ≡ 2 → ⊥ }
     ensures read { status_of result ≡ 4 → ⊥ }
 {
-    match request {
-        Request::Match(name) => match_file(alloc, name, bytes, out),
-        Request::Show(name) => show_file(alloc, name, bytes, out),
+    match action {
+        Action::Match => match_file(alloc, file, out),
+        Action::Show => show_file(file, out),
     }
 }
 
-/// Reads the file that the request names and does what it asks for: prints the matches of its rules, or the file.
+// Does what the request asks for, over the bytes of its file.
+fn act_over<'a, O: Sink>(
+    alloc: Global,
+    request: Request<'a>,
+    bytes: &[u8],
+    out: &mut O,
+) -> Ending<'a>
+    requires { length bytes.now ≤ file_limit }
+    ensures acts { Acts (outcome_over (asked request.entry) bytes.now) (sunk O.Sink out.old out.new) result }
+    ensures used { status_of result ≡ 2 → ⊥ }
+    ensures read { status_of result ≡ 4 → ⊥ }
+{
+    match read_file(alloc, bytes) {
+        Ok(file) => act(alloc, request.action, &file, out),
+        Err(TextError::Text(fault)) => Ending::Told(Told::BadText(request.file, fault)),
+        Err(TextError::Memory) => Ending::Memory,
+    }
+}
+
+/// Reads the file that the request names, and does its action over it.
 ///
-/// The ending is that of `outcome_over` of `specs/Outcome.antt` over the file's bytes, or a file that isn't held, is too
-/// long, or whose start or read failed, or want of memory, or a write that failed.
+/// The ending is that of `outcome_over` of `specs/Computed.antt` over the file's bytes, or a file that isn't held, is too
+/// long, or whose start or read failed, or want of memory, or a write that failed. The file is started once, and no
+/// other is.
 pub fn answer_file<'a, S: Shelf, O: Sink>(
     alloc: Global,
     request: Request<'a>,
     shelf: &mut S,
     out: &mut O,
 ) -> Ending<'a>
-    ensures answers { let name = named_file (asked request.entry) in
-        Answers (name ∷ []) (λ files. given file_limit name (outcome_over (asked request.entry)) (held files name))
-        (record {
-          files = S.files shelf.old;
-          starts = S.start_faults shelf.old;
-          starts_after = S.start_faults shelf.new;
-          reads = S.read_faults shelf.old;
-          reads_after = S.read_faults shelf.new;
-          given_after = S.given shelf.new;
-        })
-        (record { old = O.contents out.old; new = O.contents out.new; faults = O.faults out.old; faults_after = O.faults out.new }) result }
-    ensures causes { HasCauses file_limit (named_file (asked request.entry) ∷ []) (record {
-      files = S.files shelf.old;
-      starts = S.start_faults shelf.old;
-      starts_after = S.start_faults shelf.new;
-      reads = S.read_faults shelf.old;
-      reads_after = S.read_faults shelf.new;
-      given_after = S.given shelf.new;
-    }) result }
+    ensures answers { let asked_for = asked request.entry in
+        Answers (asked_for.file ∷ []) (λ files. given file_limit asked_for.file (outcome_over asked_for) (held files asked_for.file))
+        (shelved S.Shelf shelf.old shelf.new) (sunk O.Sink out.old out.new) result }
+    ensures causes { HasCauses file_limit ((asked request.entry).file ∷ []) (shelved S.Shelf shelf.old shelf.new) result }
+    ensures once { IsReadOnce file_limit ((asked request.entry).file ∷ []) (shelved S.Shelf shelf.old shelf.new) }
     ensures used { status_of result ≡ 2 → ⊥ }
 {
-    match load(alloc, shelf, request.file(), FILE_LIMIT) {
-        Ok(bytes) => act(alloc, request, &bytes, out),
+    match load(alloc, shelf, request.file, FILE_LIMIT) {
+        Ok(bytes) => act_over(alloc, request, &bytes, out),
         Err(ending) => ending,
     }
 }

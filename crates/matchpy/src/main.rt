@@ -7,6 +7,8 @@ mod laws;
 mod matches;
 mod run;
 mod show;
+#[cfg(test)]
+mod tests;
 mod words;
 
 use mp_io::{RealShelf, RealSink};
@@ -49,6 +51,3 @@ fn main(rt: HostRuntime) -> ExitCode {
     let status = run::run(rt.alloc(), words.as_slice(), &mut shelf, &mut out, &mut err);
     ExitCode::from(status)
 }
-
-#[cfg(test)]
-mod tests;

@@ -1,16 +1,19 @@
-//! The action `match`, over a file's bytes.
+//! The action `match`: the matches of a file's rules on its subjects, a line each.
 
 ghost use Rattle.std.specs.Prelude.{◌≡◌, ◌≤◌, ◌<◌, length, map, flat_map, IfOk, OnErr};
 ghost use Rattle.std.specs.List.{AllByRecursion};
+ghost use Rattle.mp_io.specs.Moments.{sunk};
 ghost use Rattle.mp_io.specs.Printing.{Prints};
 ghost use Rattle.mp_pattern.specs.RuleView.{rule_tree};
 ghost use Rattle.mp_subst.specs.View.{subst_of};
 ghost use Rattle.mp_text.specs.File.{file_tree, subject_tree};
 ghost use Rattle.matchpy.specs.Answers.{Acts};
+ghost use Rattle.matchpy.specs.Computed.{file_lines, rule_lines, subject_lines};
 ghost use Rattle.matchpy.specs.Endings.{status_of};
 ghost use Rattle.matchpy.specs.Printed.{PrintsMatches};
-ghost use Rattle.matchpy.specs.Matches.{IsMatchable, IsMatchableFile, IsMatchableSubject, match_line, match_text, rule_text, subject_text};
-ghost use Rattle.matchpy.specs.Outcome.{file_limit, match_outcome, matched};
+ghost use Rattle.matchpy.specs.Matchable.{IsMatchable, IsMatchableFile, IsMatchableSubject};
+ghost use Rattle.matchpy.specs.Matches.{match_line};
+ghost use Rattle.matchpy.specs.Outcome.{matched};
 ghost use Rattle.matchpy.specs.Planned.{IsPlanned, planned_rule, rule_plan};
 
 use crate::ending::{Ending, Told};
@@ -19,7 +22,7 @@ use mp_one::{Item, eager_list};
 use mp_pattern::{Plan, PlanFault, Rule};
 use mp_subst::Subst;
 use mp_term::{Memory, Signature};
-use mp_text::{File, Subject, TextError, read_file, write_subst};
+use mp_text::{File, Subject, write_subst};
 use std::alloc::Global;
 
 // Why the printing of matches stopped.
@@ -124,7 +127,7 @@ fn write_rule<O: Sink>(
 ) -> Result<bool, Stop>
     requires planned { IsPlanned sig.now (rule_plan planned.now) }
     requires matchable { IsMatchableSubject sig.now (subject_tree subject.now) }
-    ensures { PrintsMatches (rule_text sig.now (subject_tree subject.now) (planned_rule planned.now)) (record { old = O.contents out.old; new = O.contents out.new; faults = O.faults out.old; faults_after = O.faults out.new }) result }
+    ensures { PrintsMatches (rule_lines sig.now (subject_tree subject.now) (planned_rule planned.now)) (sunk O.Sink out.old out.new) result }
 {
     let rule = planned.rule;
     let list = match eager_list(alloc, sig, rule, &planned.plan, &subject.term) {
@@ -148,7 +151,7 @@ fn write_subject<O: Sink>(
 ) -> Result<bool, Stop>
     requires planned { AllByRecursion (IsPlanned sig.now) (map rule_plan rules.now) }
     requires matchable { IsMatchableSubject sig.now (subject_tree subject.now) }
-    ensures { PrintsMatches (subject_text sig.now (map planned_rule rules.now) (subject_tree subject.now)) (record { old = O.contents out.old; new = O.contents out.new; faults = O.faults out.old; faults_after = O.faults out.new }) result }
+    ensures { PrintsMatches (subject_lines sig.now (map planned_rule rules.now) (subject_tree subject.now)) (sunk O.Sink out.old out.new) result }
 {
     let mut any = false;
     for rule in rules {
@@ -170,7 +173,7 @@ fn write_subjects<O: Sink>(
 ) -> Result<bool, Stop>
     requires planned { AllByRecursion (IsPlanned sig.now) (map rule_plan rules.now) }
     requires matchable { AllByRecursion (IsMatchableSubject sig.now) (map subject_tree subjects.now) }
-    ensures { PrintsMatches (flat_map (subject_text sig.now (map planned_rule rules.now)) (map subject_tree subjects.now)) (record { old = O.contents out.old; new = O.contents out.new; faults = O.faults out.old; faults_after = O.faults out.new }) result }
+    ensures { PrintsMatches (flat_map (subject_lines sig.now (map planned_rule rules.now)) (map subject_tree subjects.now)) (sunk O.Sink out.old out.new) result }
 {
     let mut any = false;
     for subject in subjects {
@@ -182,10 +185,13 @@ fn write_subjects<O: Sink>(
     Ok(any)
 }
 
-// Writes the matches of a file.
-fn write_file<'a, O: Sink>(alloc: Global, file: &File, out: &mut O) -> Ending<'a>
+/// Prints a line for each subject, rule and admitted substitution of the file.
+///
+/// The ending is that of `matched` of `specs/Outcome.antt` over the lines `file_lines` of `specs/Computed.antt`, or want of
+/// memory, or a write that failed; a front of the lines was written then.
+pub fn match_file<'a, O: Sink>(alloc: Global, file: &File, out: &mut O) -> Ending<'a>
     requires { IsMatchableFile (file_tree file.now) }
-    ensures acts { Acts (matched (match_text (file_tree file.now))) (record { old = O.contents out.old; new = O.contents out.new; faults = O.faults out.old; faults_after = O.faults out.new }) result }
+    ensures acts { Acts (matched (file_lines (file_tree file.now))) (sunk O.Sink out.old out.new) result }
     ensures used { status_of result ≡ 2 → ⊥ }
     ensures read { status_of result ≡ 4 → ⊥ }
 {
@@ -199,27 +205,5 @@ fn write_file<'a, O: Sink>(alloc: Global, file: &File, out: &mut O) -> Ending<'a
         Ok(false) => Ending::Told(Told::Empty),
         Err(Stop::Memory) => Ending::Memory,
         Err(Stop::CannotWrite) => Ending::CannotWrite,
-    }
-}
-
-/// Prints a line for each subject, rule and admitted substitution of the file that the bytes stand for.
-///
-/// The ending is that of `match_outcome` of `specs/Outcome.antt`, or want of memory, or a write that failed; a front
-/// of its text was written then. The name is said of a fault of the text.
-pub fn match_file<'a, O: Sink>(
-    alloc: Global,
-    name: &'a str,
-    bytes: &[u8],
-    out: &mut O,
-) -> Ending<'a>
-    requires { length bytes.now ≤ file_limit }
-    ensures acts { Acts (match_outcome name.entry.now bytes.now) (record { old = O.contents out.old; new = O.contents out.new; faults = O.faults out.old; faults_after = O.faults out.new }) result }
-    ensures used { status_of result ≡ 2 → ⊥ }
-    ensures read { status_of result ≡ 4 → ⊥ }
-{
-    match read_file(alloc, bytes) {
-        Ok(file) => write_file(alloc, &file, out),
-        Err(TextError::Text(fault)) => Ending::Told(Told::BadText(name, fault)),
-        Err(TextError::Memory) => Ending::Memory,
     }
 }

@@ -1,13 +1,15 @@
 //! The whole command, over a shelf and two sinks.
 
-ghost use Rattle.std.specs.Prelude.{◌≡◌, ◌⊎◌, None, Some, IfSome, option_map, is_none, true};
-ghost use Rattle.mp_io.specs.Devices.{Rose};
-ghost use Rattle.matchpy.specs.Words.{request_of};
-ghost use Rattle.matchpy.specs.Requests.{asked};
+ghost use Rattle.std.specs.Prelude.{◌≡◌, ◌⊎◌, None, IfSome, option_map, is_none, true};
+ghost use Rattle.std.specs.List.{Contains};
+ghost use Rattle.mp_io.specs.Moments.{shelved, sunk};
 ghost use Rattle.matchpy.specs.Answers.{Answers, HasCauses};
+ghost use Rattle.matchpy.specs.Computed.{outcome_at};
 ghost use Rattle.matchpy.specs.Endings.{line_of, status_of};
-ghost use Rattle.matchpy.specs.Outcome.{file_limit, outcome_at};
-ghost use Rattle.matchpy.specs.Run.{HasOutcome, Says, Tells, names_of, words_of};
+ghost use Rattle.matchpy.specs.Outcome.{file_limit};
+ghost use Rattle.matchpy.specs.Requests.{asked};
+ghost use Rattle.matchpy.specs.Run.{HasOutcome, IsReadOnce, Says, Tells, names_of, statuses, words_of};
+ghost use Rattle.matchpy.specs.Words.{request_of};
 
 use crate::answer::answer_file;
 use crate::ending::{Ending, Told, say, status};
@@ -22,24 +24,11 @@ fn answer<'a, S: Shelf, O: Sink>(
     shelf: &mut S,
     out: &mut O,
 ) -> Ending<'a>
-    ensures answers { Answers (names_of (option_map asked request.entry)) (λ files. outcome_at files (option_map asked request.entry))
-        (record {
-          files = S.files shelf.old;
-          starts = S.start_faults shelf.old;
-          starts_after = S.start_faults shelf.new;
-          reads = S.read_faults shelf.old;
-          reads_after = S.read_faults shelf.new;
-          given_after = S.given shelf.new;
-        })
-        (record { old = O.contents out.old; new = O.contents out.new; faults = O.faults out.old; faults_after = O.faults out.new }) result }
-    ensures causes { HasCauses file_limit (names_of (option_map asked request.entry)) (record {
-      files = S.files shelf.old;
-      starts = S.start_faults shelf.old;
-      starts_after = S.start_faults shelf.new;
-      reads = S.read_faults shelf.old;
-      reads_after = S.read_faults shelf.new;
-      given_after = S.given shelf.new;
-    }) result }
+    ensures answers { let asked_for = option_map asked request.entry in
+        Answers (names_of asked_for) (λ files. outcome_at files asked_for)
+        (shelved S.Shelf shelf.old shelf.new) (sunk O.Sink out.old out.new) result }
+    ensures causes { HasCauses file_limit (names_of (option_map asked request.entry)) (shelved S.Shelf shelf.old shelf.new) result }
+    ensures once { IsReadOnce file_limit (names_of (option_map asked request.entry)) (shelved S.Shelf shelf.old shelf.new) }
     ensures usage { status_of result ≡ 2 → is_none request.entry ≡ true }
     ensures no_usage { is_none request.entry ≡ true → status_of result ≡ 2 }
 {
@@ -52,7 +41,7 @@ fn answer<'a, S: Shelf, O: Sink>(
 // Says how it ended.
 fn finish<E: Sink>(err: &mut E, ending: Ending<'_>) -> u8
     ensures status { result ≡ status_of ending.entry }
-    ensures says { Says (record { old = E.contents err.old; new = E.contents err.new; faults = E.faults err.old; faults_after = E.faults err.new }) (line_of ending.entry) }
+    ensures says { Says (sunk E.Sink err.old err.new) (line_of ending.entry) }
 {
     match say(err, ending) {
         Ok(()) => status(ending),
@@ -73,35 +62,25 @@ pub fn run<S: Shelf, O: Sink, E: Sink>(
     out: &mut O,
     err: &mut E,
 ) -> u8
-    // The status is 2 exactly where the words make no request, or it is 8.
+    // The status is one of these.
+    ensures statuses { Contains statuses result }
+
+    // It is 2 exactly where the words make no request, but for want of memory, which is 8.
     ensures usage { result ≡ 2 → request_of (words_of words.now) ≡ None }
     ensures no_usage { request_of (words_of words.now) ≡ None → (result ≡ 2) ⊎ (result ≡ 8) }
 
-    // Where the shelf tells its files, there is an outcome, and all that is written and answered is as it says, but for memory and faults.
+    // Where the shelf tells its files, there is an outcome, and all that is written and answered is as it says, but for
+    // memory and faults.
     ensures outcome { IfSome (S.files shelf.old) (λ files. HasOutcome (words_of words.now) files
-        (record {
-          files = S.files shelf.old;
-          starts = S.start_faults shelf.old;
-          starts_after = S.start_faults shelf.new;
-          reads = S.read_faults shelf.old;
-          reads_after = S.read_faults shelf.new;
-          given_after = S.given shelf.new;
-        })
-        (record { old = O.contents out.old; new = O.contents out.new; faults = O.faults out.old; faults_after = O.faults out.new })
-        (record { old = E.contents err.old; new = E.contents err.new; faults = E.faults err.old; faults_after = E.faults err.new }) result) }
+        (shelved S.Shelf shelf.old shelf.new) (sunk O.Sink out.old out.new) (sunk E.Sink err.old err.new) result) }
 
-    // Where it doesn't tell them, statuses 2, 4, 5 and 8 still have their causes and their lines.
+    // Where it doesn't tell them, statuses 4 and 5 still have their causes, 2, 4, 5 and 8 their lines, and 0 and 1 none.
     ensures tells { Tells (words_of words.now)
-        (record {
-          files = S.files shelf.old;
-          starts = S.start_faults shelf.old;
-          starts_after = S.start_faults shelf.new;
-          reads = S.read_faults shelf.old;
-          reads_after = S.read_faults shelf.new;
-          given_after = S.given shelf.new;
-        })
-        (record { old = O.contents out.old; new = O.contents out.new; faults = O.faults out.old; faults_after = O.faults out.new })
-        (record { old = E.contents err.old; new = E.contents err.new; faults = E.faults err.old; faults_after = E.faults err.new }) result }
+        (shelved S.Shelf shelf.old shelf.new) (sunk O.Sink out.old out.new) (sunk E.Sink err.old err.new) result }
+
+    // No file is started but those that the request names, and each of these once at most.
+    ensures once { IsReadOnce file_limit (names_of (request_of (words_of words.now)))
+        (shelved S.Shelf shelf.old shelf.new) }
 {
     let ending = answer(alloc, read_words(words), shelf, out);
     finish(err, ending)

@@ -1,31 +1,26 @@
-//! The action `show`, over a file's bytes.
+//! The action `show`: a file, printed.
 
-ghost use Rattle.std.specs.Prelude.{◌≡◌, ◌≤◌, length};
+ghost use Rattle.std.specs.Prelude.{◌≡◌};
+ghost use Rattle.mp_io.specs.Moments.{sunk};
+ghost use Rattle.mp_text.specs.File.{file_tree};
 ghost use Rattle.matchpy.specs.Answers.{Acts};
 ghost use Rattle.matchpy.specs.Endings.{status_of};
-ghost use Rattle.matchpy.specs.Outcome.{file_limit, show_outcome};
+ghost use Rattle.matchpy.specs.Outcome.{shown};
 
 use crate::ending::{Ending, Told};
 use mp_io::{Failed, Sink};
-use mp_text::{TextError, read_file, write_file};
-use std::alloc::Global;
+use mp_text::{File, write_file};
 
-/// Prints the file that the bytes stand for.
+/// Prints the file.
 ///
-/// The ending is that of `show_outcome` of `specs/Outcome.antt`, or want of memory, or a write that failed; a front
-/// of its text was written then. The name is said of a fault of the text.
-pub fn show_file<'a, O: Sink>(alloc: Global, name: &'a str, bytes: &[u8], out: &mut O) -> Ending<'a>
-    requires { length bytes.now ≤ file_limit }
-    ensures acts { Acts (show_outcome name.entry.now bytes.now) (record { old = O.contents out.old; new = O.contents out.new; faults = O.faults out.old; faults_after = O.faults out.new }) result }
+/// The ending is that of `shown` of `specs/Outcome.antt`, or a write that failed; a front of its text was written then.
+pub fn show_file<'a, O: Sink>(file: &File, out: &mut O) -> Ending<'a>
+    ensures acts { Acts (shown (file_tree file.now)) (sunk O.Sink out.old out.new) result }
     ensures used { status_of result ≡ 2 → ⊥ }
     ensures read { status_of result ≡ 4 → ⊥ }
 {
-    match read_file(alloc, bytes) {
-        Ok(file) => match write_file(&file, out) {
-            Ok(()) => Ending::Told(Told::Done),
-            Err(Failed) => Ending::CannotWrite,
-        },
-        Err(TextError::Text(fault)) => Ending::Told(Told::BadText(name, fault)),
-        Err(TextError::Memory) => Ending::Memory,
+    match write_file(file, out) {
+        Ok(()) => Ending::Told(Told::Done),
+        Err(Failed) => Ending::CannotWrite,
     }
 }

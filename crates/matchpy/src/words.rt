@@ -1,28 +1,37 @@
 //! Which request the words of the command line make.
 
 ghost use Rattle.std.specs.Prelude.{◌≡◌, option_map};
-ghost use Rattle.matchpy.specs.Words.{is_file_name, named_file, request_of};
+ghost use Rattle.matchpy.specs.Words.{actions, find_action, is_file_name, request_of};
 ghost use Rattle.matchpy.specs.Requests.{asked};
 ghost use Rattle.matchpy.specs.Run.{words_of};
 
-/// What the command is asked to do.
+/// What the command does with a file of rules and subjects.
 #[derive(Clone, Copy)]
-pub enum Request<'a> {
-    /// The matches of the rules of a file.
-    Match(&'a str),
-    /// The file, printed.
-    Show(&'a str),
+pub enum Action {
+    /// The matches of its rules are printed.
+    Match,
+    /// The file is printed.
+    Show,
 }
 
-impl<'a> Request<'a> {
-    /// The name of the file that is asked about: `named_file` of `specs/Words.antt`.
-    pub fn file(&self) -> &'a str
-        ensures { result.now ≡ named_file (asked self.now) }
-    {
-        match self {
-            Request::Match(file) => file,
-            Request::Show(file) => file,
-        }
+/// What the command is asked to do.
+#[derive(Clone, Copy)]
+pub struct Request<'a> {
+    pub action: Action,
+    /// The name of the file, `-` for standard input.
+    pub file: &'a str,
+}
+
+// The action of that name, if there is one.
+fn named_action(name: &str) -> Option<Action>
+    ensures { result ≡ find_action name.now actions }
+{
+    if name == "match" {
+        Some(Action::Match)
+    } else if name == "show" {
+        Some(Action::Show)
+    } else {
+        None
     }
 }
 
@@ -37,24 +46,23 @@ fn is_file_name(name: &str) -> bool
     }
 }
 
-/// The request that the words make, if they make one: `match` or `show`, and a file's name.
+/// The request that the words make, if they make one: the name of an action, and that of a file.
 ///
-/// A file's name is `-` or a text that isn't empty and doesn't begin with `-`.
-/// It meets `request_of` of `specs/Words.antt`.
+/// A file's name is `-` or a text that isn't empty and doesn't begin with `-`. It meets `request_of` of
+/// `specs/Words.antt`.
 pub fn read_words(words: &[String]) -> Option<Request<'_>>
     ensures { option_map asked result ≡ request_of (words_of words.now) }
 {
     match words {
-        [action, file] => {
+        [name, file] => {
             if !is_file_name(file.as_str()) {
-                None
-            } else if action.as_str() == "match" {
-                Some(Request::Match(file.as_str()))
-            } else if action.as_str() == "show" {
-                Some(Request::Show(file.as_str()))
-            } else {
-                None
+                return None;
             }
+            let action = named_action(name.as_str())?;
+            Some(Request {
+                action,
+                file: file.as_str(),
+            })
         }
         _ => None,
     }

@@ -1,7 +1,7 @@
 use Rattle.std.proofs.Common.{◌≡◌, ◌++◌, drop, map}
 use Rattle.std.specs.List.{AllByRecursion}
 use Rattle.mp_pattern.specs.RuleView.{rule_tree}
-use Rattle.matchpy.specs.Matches.{IsMatchable}
+use Rattle.matchpy.specs.Matchable.{IsMatchable}
 use Rattle.matchpy.specs.Planned.{IsPlanned, planned_rule, rule_plan}
 use Rattle.matchpy.proofs.matches.plan_rules.Given as goal
 

@@ -1,7 +1,7 @@
 use Rattle.std.proofs.Common.{arith, map}
 use Rattle.mp_text.specs.File.{subject_tree}
 use Rattle.matchpy.specs.Planned.{IsPlanned, planned_rule, rule_plan}
-use Rattle.matchpy.specs.Matches.{rule_text, subject_text}
+use Rattle.matchpy.specs.Computed.{rule_lines, subject_lines}
 use Rattle.matchpy.proofs.Parts.{AllByRecursion-drop, has_some-drop, lists_stopped, parts_written}
 use Rattle.matchpy.proofs.matches.write_subject.Goals as goal
 
@@ -14,14 +14,14 @@ write_rule-requires g c = record {
 pub returns-in-Err : goal.returns-in-Err
 returns-in-Err g c =
     let subject = subject_tree c.args.subject.now in
-    lists_stopped planned_rule (rule_text c.args.sig.now subject) c.args.rules.now c.loop-rule.rule-index c.rule-item.result _ _ _ _ _ _ (subject_text c.args.sig.now (map planned_rule c.args.rules.now) subject) (omega arith) c.rule-item.is
+    lists_stopped planned_rule (rule_lines c.args.sig.now subject) c.args.rules.now c.loop-rule.rule-index c.rule-item.result _ _ _ _ _ _ (subject_lines c.args.sig.now (map planned_rule c.args.rules.now) subject) (omega arith) c.rule-item.is
     c.in-Err.stop c.loop-rule.invariant.written c.loop-rule.invariant.faults c.in-Err.ensures
 
 pub loop-rule-preserved : goal.loop-rule-preserved
 loop-rule-preserved g c =
     let subject = subject_tree c.args.subject.now in
-    let text = rule_text c.args.sig.now subject in
-    let whole = subject_text c.args.sig.now (map planned_rule c.args.rules.now) subject in
+    let text = rule_lines c.args.sig.now subject in
+    let whole = subject_lines c.args.sig.now (map planned_rule c.args.rules.now) subject in
     let printed = c.in-Ok.ensures in
     record {
       written = parts_written planned_rule text c.args.rules.now c.loop-rule.rule-index c.rule-item.result _ _ _ whole (omega arith) c.rule-item.is c.loop-rule.invariant.written printed.0;

@@ -2,7 +2,8 @@ use Rattle.std.proofs.Common.{arith, map}
 use Rattle.std.specs.Prelude.{flat_map}
 use Rattle.mp_text.specs.File.{subject_tree}
 use Rattle.matchpy.specs.Planned.{planned_rule}
-use Rattle.matchpy.specs.Matches.{IsMatchableSubject, subject_text}
+use Rattle.matchpy.specs.Computed.{subject_lines}
+use Rattle.matchpy.specs.Matchable.{IsMatchableSubject}
 use Rattle.matchpy.proofs.Parts.{AllByRecursion-drop, has_some-drop, lists_stopped, parts_written}
 use Rattle.matchpy.proofs.matches.write_subjects.Goals as goal
 
@@ -14,13 +15,13 @@ write_subject-requires g c = record {
 
 pub returns-in-Err : goal.returns-in-Err
 returns-in-Err g c =
-    let text = subject_text c.args.sig.now (map planned_rule c.args.rules.now) in
+    let text = subject_lines c.args.sig.now (map planned_rule c.args.rules.now) in
     lists_stopped subject_tree text c.args.subjects.now c.loop-subject.subject-index c.subject-item.result _ _ _ _ _ _ (flat_map text (map subject_tree c.args.subjects.now)) (omega arith) c.subject-item.is
     c.in-Err.stop c.loop-subject.invariant.written c.loop-subject.invariant.faults c.in-Err.ensures
 
 pub loop-subject-preserved : goal.loop-subject-preserved
 loop-subject-preserved g c =
-    let text = subject_text c.args.sig.now (map planned_rule c.args.rules.now) in
+    let text = subject_lines c.args.sig.now (map planned_rule c.args.rules.now) in
     let whole = flat_map text (map subject_tree c.args.subjects.now) in
     let printed = c.in-Ok.ensures in
     record {

@@ -1,0 +1,58 @@
+-- The outcome as a function: by the search for the one-list, and by the reading of the bytes as it is computed.
+use Rattle.std.specs.Prelude.{ℕ, List, length, flat_map, Option, Some, None, if◌then◌else◌, nat_lt}
+use Rattle.mp_io.specs.Devices.{Files, Text, held}
+use Rattle.mp_term.specs.Signature.{Sig}
+use Rattle.mp_pattern.specs.Admission.{Rule}
+use Rattle.mp_theory.specs.OneList.{one_list}
+use Rattle.mp_text.specs.File.{FileTree, Subject}
+use Rattle.mp_text.specs.Reading.{fault_of, file_of, unread_fault}
+use Rattle.mp_text.specs.declared.fault.TextFault.{TextFault}
+use Rattle.matchpy.specs.Messages.{fault_line, long_line, open_line, usage_line}
+use Rattle.matchpy.specs.Matches.{match_line}
+use Rattle.matchpy.specs.Outcome.{Outcome, file_limit, matched, refused, shown}
+use Rattle.matchpy.specs.Words.{Request}
+use Rattle.matchpy.specs.declared.words.Action.{Action}
+use Rattle.matchpy.specs.declared.words.Action.TheVariants.{Match, Show}
+
+-- ---- the lines of the matches
+
+-- a line for each substitution of the one-list of a rule on a subject
+abbrev pub rule_lines : Sig → Subject → Rule → Text
+rule_lines sig subject rule = flat_map (match_line sig subject rule) (one_list sig rule subject.term)
+
+-- the lines of all rules on a subject, in order
+abbrev pub subject_lines : Sig → List Rule → Subject → Text
+subject_lines sig rules subject = flat_map (rule_lines sig subject) rules
+
+-- the lines of all subjects, in order
+abbrev pub file_lines : FileTree → Text
+file_lines file = flat_map (subject_lines file.sig file.rules) file.subjects
+
+-- ---- the actions
+
+-- what an action over a file comes to
+abbrev pub outcome_of : Action → FileTree → Outcome
+outcome_of Match file = matched (file_lines file)
+outcome_of Show file = shown file
+
+-- ---- the run
+
+-- as told of the file, where there is no fault
+abbrev pub over_file : (FileTree → Outcome) → Text → Option TextFault → Option FileTree → Outcome
+over_file over name (Some fault) found = refused 3 (fault_line name fault)
+over_file over name None (Some file) = over file
+over_file over name None None = refused 3 (fault_line name unread_fault)
+
+-- what the request asks for, over the bytes of its file
+abbrev pub outcome_over : Request → Text → Outcome
+outcome_over request bytes = over_file (outcome_of request.action) request.file (fault_of bytes) (file_of bytes)
+
+-- the outcome over a named file's bytes, where it is held and not too long
+abbrev pub given : ℕ → Text → (Text → Outcome) → Option Text → Outcome
+given limit name over None = refused 4 (open_line name)
+given limit name over (Some bytes) = if nat_lt limit (length bytes) then refused 4 (long_line name) else over bytes
+
+-- the outcome of a request over the files, and of no request
+abbrev pub outcome_at : Files → Option Request → Outcome
+outcome_at files None = refused 2 usage_line
+outcome_at files (Some request) = given file_limit request.file (outcome_over request) (held files request.file)
