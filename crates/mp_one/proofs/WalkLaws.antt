@@ -1,6 +1,6 @@
 -- How many entries are still to come, and the derivations that are.
 use Rattle.std.proofs.Common.{◌≡◌, ℕ, zero, suc, ◌+◌, List, [], ◌∷◌, ◌++◌, map, length, drop, get_or, true, false, refl, ap, sym, ◌∙◌, subst, ◌<◌, ◌≤◌, zero-add, arith}
-use Rattle.std.specs.Prelude.{Bool, flat_map, filter, if◌then◌else◌}
+use Rattle.std.specs.Prelude.{Bool, flat_map, filter, Option, Some, None, if◌then◌else◌}
 use Rattle.std.specs.List.{AllByRecursion}
 use Rattle.std.proofs.Math.ListN.{drop_of_length-le}
 use Rattle.mp_term.specs.Tree.{Tree}
@@ -19,8 +19,8 @@ use Rattle.mp_theory.specs.OneList.{Item, same_item, item_list}
 use Rattle.mp_theory.proofs.FirstsLaws.{Distinct, distinct-filter, firsts_after-distinct}
 use Rattle.mp_theory.proofs.TrailLaws.{item_list-by_derivations}
 use Rattle.mp_one.specs.Stack.{nodes_below, entries_left}
-use Rattle.mp_one.specs.Found.{collected}
-use Rattle.mp_one.proofs.FoundLaws.{collected-none, collected-append}
+use Rattle.mp_one.specs.Found.{kept, collected}
+use Rattle.mp_one.proofs.FoundLaws.{collected-none, collected-append, filter_map-kept, firsts_after-kept}
 
 pub pattern_nodes-below : (p : Pattern) → pattern_nodes p ≡ suc (nodes_below p)
 pattern_nodes-below (symbol_pattern n) = refl
@@ -81,24 +81,25 @@ module _ (sig : Sig) where
       let k : entries_left (start p t) ≡ pattern_nodes p = omega arith in
       ap (λ gs. derivations sig (entries_left gs) (settle gs) [] []) e ∙ ap (λ n. derivations sig n (settle (start p t)) [] []) k
 
-  -- what is collected of all derivations is the list of items, also where distinct ones aren't compared
-  pub collected-item_list : (b : Bool) (r : Rule) (t : Tree) (is : List Item) → is ≡ derivations sig (pattern_nodes r.pattern) (settle (start r.pattern t)) [] [] → (b ≡ true → Distinct same_item is) → collected b (λ i. meets sig r.condition i.1) [] is ≡ item_list sig r t
-  collected-item_list b r t is e h =
-      first_each b h ∙ ap (λ js. firsts_after same_item [] (filter (λ i. meets sig r.condition i.1) js)) e ∙ sym (item_list-by_derivations sig r t)
+  -- what is collected of all derivations is the list of items as they are kept, also where distinct ones aren't compared
+  pub collected-item_list : (b tables : Bool) (r : Rule) (t : Tree) (is : List Item) → is ≡ derivations sig (pattern_nodes r.pattern) (settle (start r.pattern t)) [] [] → (b ≡ true → Distinct same_item is)
+      → collected b (λ i. if meets sig r.condition i.1 then Some (kept tables i) else None) [] is ≡ map (kept tables) (item_list sig r t)
+  collected-item_list b tables r t is e h =
+      first_each b h ∙ ap (λ js. map (kept tables) (firsts_after same_item [] (filter (λ i. meets sig r.condition i.1) js))) e ∙ sym (ap (map (kept tables)) (item_list-by_derivations sig r t))
     where
-      first_each : (b : Bool) → (b ≡ true → Distinct same_item is) → collected b (λ i. meets sig r.condition i.1) [] is ≡ firsts_after same_item [] (filter (λ i. meets sig r.condition i.1) is)
-      first_each true h = sym (firsts_after-distinct same_item (filter (λ i. meets sig r.condition i.1) is) (distinct-filter same_item (λ i. meets sig r.condition i.1) is (h refl)))
-      first_each false h = refl
+      first_each : (b : Bool) → (b ≡ true → Distinct same_item is) → collected b (λ i. if meets sig r.condition i.1 then Some (kept tables i) else None) [] is ≡ map (kept tables) (firsts_after same_item [] (filter (λ i. meets sig r.condition i.1) is))
+      first_each true h = filter_map-kept tables (λ i. meets sig r.condition i.1) is ∙ ap (map (kept tables)) (sym (firsts_after-distinct same_item (filter (λ i. meets sig r.condition i.1) is) (distinct-filter same_item (λ i. meets sig r.condition i.1) is (h refl))))
+      first_each false h = ap (firsts_after same_item []) (filter_map-kept tables (λ i. meets sig r.condition i.1) is) ∙ firsts_after-kept tables [] (filter (λ i. meets sig r.condition i.1) is)
 
 -- the entries that a list gives, one more gone over
-pub collected-step : {X : Type 0} (b : Bool) (test : Item → Bool) (f : X → Entry) (g : Entry → List Item) (ys zs : List Item) (i : ℕ) (xs : List X) (x : X) → i < length xs → x ≡ get_or xs i x → zs ≡ collected b test ys (g (f x)) → collected b test zs (flat_map g (map f (drop (i + 1) xs))) ≡ collected b test ys (flat_map g (map f (drop i xs)))
-collected-step b test f g ys zs i xs x h e q =
-    ap (λ us. collected b test us (flat_map g (map f (drop (i + 1) xs)))) q
-    ∙ sym (collected-append b test ys (g (f x)) (flat_map g (map f (drop (i + 1) xs))))
-    ∙ ap (λ us. collected b test ys (flat_map g (map f us))) (sym (drop-item xs i x h e))
+pub collected-step : {X : Type 0} (b : Bool) (keep : Item → Option Item) (f : X → Entry) (g : Entry → List Item) (ys zs : List Item) (i : ℕ) (xs : List X) (x : X) → i < length xs → x ≡ get_or xs i x → zs ≡ collected b keep ys (g (f x)) → collected b keep zs (flat_map g (map f (drop (i + 1) xs))) ≡ collected b keep ys (flat_map g (map f (drop i xs)))
+collected-step b keep f g ys zs i xs x h e q =
+    ap (λ us. collected b keep us (flat_map g (map f (drop (i + 1) xs)))) q
+    ∙ sym (collected-append b keep ys (g (f x)) (flat_map g (map f (drop (i + 1) xs))))
+    ∙ ap (λ us. collected b keep ys (flat_map g (map f us))) (sym (drop-item xs i x h e))
 
-pub collected-end : {X : Type 0} (b : Bool) (test : Item → Bool) (f : X → Entry) (g : Entry → List Item) (zs : List Item) (i : ℕ) (xs : List X) → length xs ≤ i → collected b test zs (flat_map g (map f (drop i xs))) ≡ zs
-collected-end b test f g zs i xs h = rw (drop_of_length-le xs {i = i} h) (collected-none b test zs)
+pub collected-end : {X : Type 0} (b : Bool) (keep : Item → Option Item) (f : X → Entry) (g : Entry → List Item) (zs : List Item) (i : ℕ) (xs : List X) → length xs ≤ i → collected b keep zs (flat_map g (map f (drop i xs))) ≡ zs
+collected-end b keep f g zs i xs h = rw (drop_of_length-le xs {i = i} h) (collected-none b keep zs)
 
 -- what holds of each item that entries give holds of those that one of them gives
 pub all-flat_map_at : {X : Type 0} (P : Item → Type 0) (f : X → Entry) (g : Entry → List Item) (i : ℕ) (xs : List X) (x : X) → i < length xs → x ≡ get_or xs i x → AllByRecursion P (flat_map g (map f xs)) → AllByRecursion P (g (f x))

@@ -10,7 +10,7 @@ ghost use Rattle.mp_one.specs.Trail.{trail_of};
 use crate::bind::Bound;
 use crate::finds::Finds;
 use crate::item::Item;
-use crate::path::{Path, own_table};
+use crate::path::{Path, kept_table};
 use crate::query::Query;
 use crate::value::own_subst;
 use mp_cond::holds;
@@ -30,7 +30,7 @@ fn meets(sig: &Signature, condition: &Option<Cond>, subst: &Subst) -> bool
     }
 }
 
-/// Adds the substitution with its table at the end, if it meets the condition, unless it was found before.
+/// Adds the substitution at the end, with its table where tables are kept, if it meets the condition, unless it was found before.
 pub fn add_new(
     alloc: Global,
     query: &Query<'_>,
@@ -48,6 +48,6 @@ pub fn add_new(
     if !query.one_table && found.has(&subst)? {
         return Ok(());
     }
-    let takes = own_table(alloc, path)?;
+    let takes = kept_table(alloc, query.tables, path)?;
     found.push(Item { takes, subst })
 }

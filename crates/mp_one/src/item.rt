@@ -1,7 +1,10 @@
 // The items of a one-list.
-ghost use Rattle.std.specs.Prelude.{◌≡◌, [], ◌∷◌, ◌++◌, length, map, slice_get, OnOk, OnErr, option_map};
+ghost use Rattle.std.specs.Prelude.{◌≡◌, [], ◌∷◌, ◌++◌, length, map, slice_get, IfOk, OnOk, OnErr, option_map};
+ghost use Rattle.mp_subst.specs.View.{subst_of};
+ghost use Rattle.mp_theory.specs.OneList.{item_substs};
 ghost use Rattle.mp_one.specs.Items.{item_of};
 
+use crate::terms::push;
 use mp_pattern::Entries;
 use mp_subst::Subst;
 use mp_term::Memory;
@@ -70,6 +73,17 @@ impl Items {
         ensures { slice_get self.now index ≡ option_map (λ i. item_of i.now) result }
     {
         self.items.get(index)
+    }
+
+    /// Their substitutions, without the tables.
+    pub(crate) fn into_substs(self, alloc: Global) -> Result<Vec<Subst>, Memory>
+        ensures { IfOk result (λ v. map subst_of v.items ≡ item_substs self) }
+    {
+        let mut substs = Vec::new(alloc);
+        for item in self.items {
+            push(&mut substs, item.subst)?;
+        }
+        Ok(substs)
     }
 
     /// The items in order.

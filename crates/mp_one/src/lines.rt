@@ -83,12 +83,7 @@ fn is_given(sig: &Signature, under: Option<OpId>, shape: &Shape, terms: &[&Term]
 }
 
 // Whether the default may be the value of the variable, where the wildcard takes nothing: it is normal.
-fn default_passes(
-    sig: &Signature,
-    variable: &Option<Name>,
-    shape: &Shape,
-    terms: &[&Term],
-) -> bool
+fn default_passes(sig: &Signature, variable: &Option<Name>, shape: &Shape, terms: &[&Term]) -> bool
     ensures { result ≡ machine.default_passes sig.now variable.now (wildcard shape.now) (trees_of terms.now) }
 {
     match (variable, shape, terms) {

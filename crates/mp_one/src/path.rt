@@ -1,5 +1,5 @@
 // The take table so far.
-ghost use Rattle.std.specs.Prelude.{◌≡◌, IfOk};
+ghost use Rattle.std.specs.Prelude.{◌≡◌, [], IfOk, if◌then◌else◌};
 ghost use Rattle.mp_pattern.specs.EntryView.{table_entry};
 ghost use Rattle.mp_one.specs.Stack.{entry_of};
 ghost use Rattle.mp_one.specs.Path.{table_of};
@@ -27,8 +27,8 @@ fn own_entry(alloc: Global, entry: &stack::Entry<'_>) -> Result<Entry, Memory>
     })
 }
 
-/// The entries in order, with terms of their own.
-pub fn own_table(alloc: Global, path: &Path<'_>) -> Result<Entries, Memory>
+// The entries in order, with terms of their own.
+fn own_table(alloc: Global, path: &Path<'_>) -> Result<Entries, Memory>
     ensures { IfOk result (λ es. es ≡ table_of path.now) }
 {
     match path {
@@ -39,4 +39,14 @@ pub fn own_table(alloc: Global, path: &Path<'_>) -> Result<Entries, Memory>
             Ok(table)
         }
     }
+}
+
+/// The entries in order, with terms of their own, where they are kept, and else none.
+pub fn kept_table(alloc: Global, kept: bool, path: &Path<'_>) -> Result<Entries, Memory>
+    ensures { IfOk result (λ es. es ≡ (if kept then table_of path.now else [])) }
+{
+    if kept {
+        return own_table(alloc, path);
+    }
+    Ok(Entries::new(alloc))
 }

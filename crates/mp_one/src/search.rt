@@ -1,5 +1,5 @@
 // The search for items: entry by entry, in the order of the take tables.
-ghost use Rattle.std.specs.Prelude.{◌≡◌, ◌≤◌, ◌∷◌, [], ◌++◌, OnOk, IfOk};
+ghost use Rattle.std.specs.Prelude.{◌≡◌, ◌≤◌, ◌∷◌, [], ◌++◌, map, OnOk, IfOk};
 ghost use Rattle.std.specs.List.{AllByRecursion};
 ghost use Rattle.mp_term.specs.View.{tree};
 ghost use Rattle.mp_term.specs.Normal.{IsNormal};
@@ -15,11 +15,12 @@ ghost use Rattle.mp_theory.specs.Frames as walk;
 ghost use Rattle.mp_theory.specs.Machine as machine;
 ghost use Rattle.mp_theory.specs.Trail as trails;
 ghost use Rattle.mp_theory.specs.OneList as one;
+ghost use Rattle.mp_subst.specs.View.{subst_of};
 ghost use Rattle.mp_one.specs.Stack.{frame_of, stack_frames, child_of, entry_of, entries_left, entries_behind};
 ghost use Rattle.mp_one.specs.Trail.{trail_of};
 ghost use Rattle.mp_one.specs.Items.{IsItemOf};
 ghost use Rattle.mp_one.specs.Path.{table_of};
-ghost use Rattle.mp_one.specs.Found.{AreReadyFor, condition_of, added};
+ghost use Rattle.mp_one.specs.Found.{AreReadyFor, condition_of, added, kept};
 
 use crate::bind::{Bound, Extended, extend};
 use crate::choices::choices;
@@ -28,9 +29,10 @@ use crate::found::add_new;
 use crate::item::Items;
 use crate::path::Path;
 use crate::query::Query;
-use crate::wildcards::decides_table;
 use crate::stack::{Entry, Frame, Next, Place, Stack, entered, root_frame, settle, taken_out};
-use mp_pattern::{Pattern, Plan, Rule};
+use crate::wildcards::decides_table;
+use mp_pattern::{MAX_TERM_NODES, Pattern, Plan, Rule};
+use mp_subst::Subst;
 use mp_term::{Memory, Signature, Term};
 use std::alloc::Global;
 
@@ -127,6 +129,39 @@ fn search_from(
     )
 }
 
+// All that is found on the subject, with the tables or without.
+fn search_all(
+    alloc: Global,
+    sig: &Signature,
+    rule: &Rule,
+    plan: &Plan,
+    subject: &Term,
+    tables: bool,
+) -> Result<Finds, Memory>
+    requires plan { IsPlanOf sig.now (pattern_tree rule.now.pattern) plan.now }
+    requires small { DefaultsAreSmall (pattern_tree rule.now.pattern) }
+    requires condition { HasConditionOver (variables (pattern_tree rule.now.pattern)) (rule_tree rule.now).condition }
+    requires normal { IsNormal sig.now (tree subject.now) }
+    requires few { node_count (tree subject.now) ≤ MAX_TERM_NODES }
+    ensures { IfOk result (λ is. is ≡ map (kept tables) (one.item_list sig.now (rule_tree rule.now) (tree subject.now))) }
+{
+    let pattern = plan.pattern();
+    let query = Query {
+        sig,
+        condition: &rule.condition,
+        one_table: decides_table(pattern),
+        tables,
+    };
+    let mut found = Finds::new(alloc);
+    search_from(
+        alloc,
+        &query,
+        root_frame(alloc, pattern, subject)?,
+        &mut found,
+    )?;
+    Ok(found)
+}
+
 /// The one-list of a rule and a subject: the substitutions that the rule admits, each once, strictly ascending by least take table,
 /// and with each its least take table. It is `item_list` of mp_theory's `specs/OneList.antt`, whose substitutions are the list that
 /// `IsOneList` of mp_pattern's `specs/Lists.antt` describes.
@@ -148,25 +183,37 @@ pub fn eager_list(
     requires small { DefaultsAreSmall (pattern_tree rule.now.pattern) }
     requires condition { HasConditionOver (variables (pattern_tree rule.now.pattern)) (rule_tree rule.now).condition }
     requires normal { IsNormal sig.now (tree subject.now) }
-    requires few { node_count (tree subject.now) ≤ 100000 }
+    requires few { node_count (tree subject.now) ≤ MAX_TERM_NODES }
     ensures list { IfOk result (λ is. is ≡ one.item_list sig.now (rule_tree rule.now) (tree subject.now)) }
     ensures items { IfOk result (λ is. one.AreItems sig.now (rule_tree rule.now) (tree subject.now) is) }
     ensures sizes { IfOk result (λ is. AllByRecursion (IsItemOf plan.now) is) }
     ensures substs { IfOk result (λ is. one.item_substs is ≡ one.one_list sig.now (rule_tree rule.now) (tree subject.now)) }
     ensures exact { IfOk result (λ is. IsOneList sig.now (rule_tree rule.now) (tree subject.now) (one.item_substs is)) }
 {
-    let pattern = plan.pattern();
-    let query = Query {
-        sig,
-        condition: &rule.condition,
-        one_table: decides_table(pattern),
-    };
-    let mut found = Finds::new(alloc);
-    search_from(
-        alloc,
-        &query,
-        root_frame(alloc, pattern, subject)?,
-        &mut found,
-    )?;
-    Ok(found.into_items())
+    Ok(search_all(alloc, sig, rule, plan, subject, true)?.into_items())
+}
+
+/// The substitutions of the one-list alone: those that the rule admits on the subject, each once, strictly ascending by least take
+/// table (`IsOneList` of mp_pattern's `specs/Lists.antt`).
+///
+/// Its conditions are those of `eager_list`, and so is its time but for the tables, which it doesn't keep. `Memory`: memory ran
+/// out, and nothing is left.
+pub fn eager_substs(
+    alloc: Global,
+    sig: &Signature,
+    rule: &Rule,
+    plan: &Plan,
+    subject: &Term,
+) -> Result<Vec<Subst>, Memory>
+    requires plan { IsPlanOf sig.now (pattern_tree rule.now.pattern) plan.now }
+    requires small { DefaultsAreSmall (pattern_tree rule.now.pattern) }
+    requires condition { HasConditionOver (variables (pattern_tree rule.now.pattern)) (rule_tree rule.now).condition }
+    requires normal { IsNormal sig.now (tree subject.now) }
+    requires few { node_count (tree subject.now) ≤ MAX_TERM_NODES }
+    ensures substs { IfOk result (λ v. map subst_of v.items ≡ one.one_list sig.now (rule_tree rule.now) (tree subject.now)) }
+    ensures exact { IfOk result (λ v. IsOneList sig.now (rule_tree rule.now) (tree subject.now) (map subst_of v.items)) }
+{
+    let found = search_all(alloc, sig, rule, plan, subject, false)?;
+    let substs = found.into_items().into_substs(alloc)?;
+    Ok(substs)
 }

@@ -1,13 +1,11 @@
 use Rattle.std.proofs.Common.{◌≡◌, Bool, map, ap, ◌∙◌, sym, subst, arith}
 use Rattle.std.specs.Prelude.{flat_map, OnOk}
 use Rattle.mp_pattern.specs.View.{pattern_tree}
-use Rattle.mp_pattern.specs.Admission.{meets}
 use Rattle.mp_theory.specs.Trail.{derivations_by}
-use Rattle.mp_theory.specs.OneList.{Item}
 use Rattle.mp_one.specs.Stack.{stack_frames, inner_frame, child_of, entry_of, entries_behind}
 use Rattle.mp_one.specs.Trail.{trail_of}
 use Rattle.mp_one.specs.Path.{table_of}
-use Rattle.mp_one.specs.Found.{IsReadyFor, AreReadyFor, condition_of, added}
+use Rattle.mp_one.specs.Found.{IsReadyFor, AreReadyFor, condition_of, keep, added}
 use Rattle.mp_one.proofs.WalkLaws.{derivations-ended, derivations-child, entries_left-child, collected-step, collected-end, all-flat_map_at}
 use Rattle.mp_one.proofs.search.+search.Goals as goal
 
@@ -23,18 +21,16 @@ search-returns-in-Ended t c =
 pub search-loop-entry-preserved : goal.search-loop-entry-preserved
 search-loop-entry-preserved t c =
     let q = c.args.query.now in
-    let test : Item → Bool = λ i. meets q.sig.now (condition_of q) i.1 in
-    collected-step q.one_table test entry_of (derivations_by q.sig.now (entries_behind c.in-Child.place) (child_of c.in-Child.place) (table_of c.args.path.now) (trail_of c.args.trail.now)) c.loop-entry.found c.follow.new.found c.loop-entry.entry-index c.deref-entry-items.result.now c.entry-item.result c.loop-entry-test.true c.entry-item.is c.in_ok-follow-in-Child.ensures
+    collected-step q.one_table (keep q) entry_of (derivations_by q.sig.now (entries_behind c.in-Child.place) (child_of c.in-Child.place) (table_of c.args.path.now) (trail_of c.args.trail.now)) c.loop-entry.found c.follow.new.found c.loop-entry.entry-index c.deref-entry-items.result.now c.entry-item.result c.loop-entry-test.true c.entry-item.is c.in_ok-follow-in-Child.ensures
     ∙ c.loop-entry.invariant
 
 pub search-returns-after-loop-entry : goal.search-returns-after-loop-entry
 search-returns-after-loop-entry t c =
     let q = c.args.query.now in
-    let test : Item → Bool = λ i. meets q.sig.now (condition_of q) i.1 in
     let p = c.in-Child.place in
     let ys = c.args.found.now in
     let b = derivations_by q.sig.now (entries_behind p) (child_of p) (table_of c.args.path.now) (trail_of c.args.trail.now) in
-    sym (collected-end q.one_table test entry_of b c.loop-entry.found c.loop-entry.entry-index c.deref-entry-items.result.now c.loop-entry-test.false)
+    sym (collected-end q.one_table (keep q) entry_of b c.loop-entry.found c.loop-entry.entry-index c.deref-entry-items.result.now c.loop-entry-test.false)
     ∙ c.loop-entry.invariant
     ∙ ap (λ es. added q ys (flat_map b (map entry_of es))) c.deref-entry-items.ensures.value
     ∙ ap (added q ys) (c.in_ok-choices-in-Child.ensures (entries_behind p) (table_of c.args.path.now) ∙ sym (derivations-child q.sig.now (stack_frames c.args.stack.now) (table_of c.args.path.now) (trail_of c.args.trail.now) (pattern_tree p.child.now) (inner_frame p) (stack_frames p.outer.now) c.in-Child.ensures))
