@@ -1,82 +1,81 @@
--- A pattern as a list of tokens that gives it back.
-use Rattle.std.specs.Prelude.{◌≡◌, ℕ, zero, suc, ◌⊎◌, List, [], ◌∷◌, ◌++◌, Option, refl}
-use Rattle.std.proofs.Common.{◌∙◌, ap, inl, inr, append-nil}
-use Rattle.std.specs.Coded.{Coded, code_by, coded×, coded⊎, coded_ℕ, coded_list, coded_option}
-use Rattle.mp_term.specs.Tree.{Tree, symbol}
-use Rattle.mp_term.specs.Code.{Token, step, parse, first, coded_tree}
-use Rattle.mp_pattern.specs.PatternLists.{patterns-pattern_list}
-use Rattle.mp_pattern.specs.PatternTree.{Wildcard, dot, kind, plus, star, optional, Pattern, symbol_pattern, app_pattern, wild_pattern, Patterns, no_patterns, more_patterns, pattern_list, patterns}
+-- A pattern as a term that gives it back, and that compares as the pattern does.
+use Rattle.std.specs.Prelude.{◌≡◌, ℕ, [], List, Option, Some, None, refl, nat_eq, if◌then◌else◌}
+use Rattle.std.proofs.Common.{ap}
+use Rattle.std.specs.Coded.{Coded, code_by, coded×, coded_ℕ}
+use Rattle.mp_term.specs.Tree.{Tree, symbol, app, Trees, no_trees, more_trees}
+use Rattle.mp_term.specs.Code.{coded_tree}
+use Rattle.mp_pattern.specs.PatternTree.{Wildcard, dot, kind, plus, star, optional, Pattern, symbol_pattern, app_pattern, wild_pattern, Patterns, no_patterns, more_patterns}
+use Rattle.mp_pattern.specs.Order.{class, wildcard_class}
 
--- a wildcard as its class, with the number of its kind and its default where it has them
-abbrev numbered : Wildcard → ℕ × (ℕ × Tree)
-numbered dot = (0, (0, symbol []))
-numbered plus = (1, (0, symbol []))
-numbered star = (2, (0, symbol []))
-numbered (kind k) = (3, (k, symbol []))
-numbered (optional t) = (4, (0, t))
+-- the variable of a wildcard
+abbrev pub name_tree : Option (List ℕ) → Tree
+name_tree (Some x) = symbol x
+name_tree None = app 0 no_trees
 
--- the wildcard of a class
-abbrev by_number : ℕ → ℕ → Tree → Wildcard
-by_number zero k t = dot
-by_number (suc zero) k t = plus
-by_number (suc (suc zero)) k t = star
-by_number (suc (suc (suc zero))) k t = kind k
-by_number (suc (suc (suc (suc _)))) k t = optional t
-
--- the class, kind and default of a wildcard give it back
-pub by_number-numbered : (w : Wildcard) → by_number (numbered w).0 (numbered w).1.0 (numbered w).1.1 ≡ w
-by_number-numbered dot = refl
-by_number-numbered (kind k) = refl
-by_number-numbered plus = refl
-by_number-numbered star = refl
-by_number-numbered (optional t) = refl
-
--- the code of wildcards
-abbrev pub coded_wildcard : Coded Wildcard
-coded_wildcard = code_by (ℕ × (ℕ × Tree)) (coded× coded_ℕ (coded× coded_ℕ coded_tree)) numbered (λ c. by_number c.0 c.1.0 c.1.1) by_number-numbered
-
--- a symbol, or a wildcard with its variable
-abbrev pub Leaf : Type 0
-Leaf = List ℕ ⊎ (Wildcard × Option (List ℕ))
-
--- the pattern of a leaf
-abbrev of_leaf : Leaf → Pattern
-of_leaf (inl n) = symbol_pattern n
-of_leaf (inr p) = wild_pattern p.0 p.1
+-- the kind or the default of a wildcard, where it has one
+abbrev pub part_tree : Wildcard → Tree
+part_tree (kind k) = app k no_trees
+part_tree (optional t) = t
+part_tree _ = symbol []
 
 abbrev mutual
-  -- the tokens of a pattern, before those that follow
-  tokens : Pattern → List (Token Leaf) → List (Token Leaf)
-  tokens (symbol_pattern n) rest = inl (inl n) ∷ rest
-  tokens (app_pattern f ps) rest = inr (inl f) ∷ all_tokens ps (inr (inr 0) ∷ rest)
-  tokens (wild_pattern w x) rest = inl (inr (w, x)) ∷ rest
+  -- a symbol, or an application of the pattern's class to the parts of the pattern
+  pub as_tree : Pattern → Tree
+  as_tree (symbol_pattern n) = symbol n
+  as_tree (app_pattern f ps) = app (class (app_pattern f ps)) (more_trees (app f (as_trees ps)) no_trees)
+  as_tree (wild_pattern w x) = app (wildcard_class w) (more_trees (name_tree x) (more_trees (part_tree w) no_trees))
 
-  -- those of each pattern of a list
-  all_tokens : Patterns → List (Token Leaf) → List (Token Leaf)
-  all_tokens no_patterns rest = rest
-  all_tokens (more_patterns p ps) rest = tokens p (all_tokens ps rest)
+  -- those of a list
+  pub as_trees : Patterns → Trees
+  as_trees no_patterns = no_trees
+  as_trees (more_patterns p ps) = more_trees (as_tree p) (as_trees ps)
 
--- the patterns that tokens stand for
-abbrev parsed : List (Token Leaf) → List Pattern × List (List Pattern)
-parsed = parse of_leaf (λ f ps. app_pattern f (patterns ps))
+-- the number of an application
+abbrev head_number : Tree → ℕ
+head_number (symbol n) = 0
+head_number (app k ts) = k
+
+-- the wildcard of a class
+abbrev to_wildcard : ℕ → Tree → Wildcard
+to_wildcard c t =
+    if nat_eq c 2 then kind (head_number t)
+    else if nat_eq c 3 then dot
+    else if nat_eq c 4 then optional t
+    else if nat_eq c 5 then plus
+    else star
+
+abbrev mutual
+  -- the pattern of a term
+  pub to_pattern : Tree → Pattern
+  to_pattern (symbol n) = symbol_pattern n
+  to_pattern (app c (more_trees (app f ts) no_trees)) = app_pattern f (to_patterns ts)
+  to_pattern (app c (more_trees (symbol x) (more_trees t ts))) = wild_pattern (to_wildcard c t) (Some x)
+  to_pattern (app c (more_trees x (more_trees t ts))) = wild_pattern (to_wildcard c t) None
+  to_pattern _ = symbol_pattern []
+
+  -- those of a list
+  to_patterns : Trees → Patterns
+  to_patterns no_trees = no_patterns
+  to_patterns (more_trees t ts) = more_patterns (to_pattern t) (to_patterns ts)
+
+pub to_wildcard-part : (w : Wildcard) → to_wildcard (wildcard_class w) (part_tree w) ≡ w
+to_wildcard-part dot = refl
+to_wildcard-part w = refl
 
 mutual
-  -- the tokens of a pattern are parsed to it
-  parse-tokens : (p : Pattern) (rest : List (Token Leaf)) → parsed (tokens p rest) ≡ (p ∷ (parsed rest).0, (parsed rest).1)
-  parse-tokens (symbol_pattern n) rest = refl
-  parse-tokens (app_pattern f ps) rest =
-      ap (step of_leaf (λ g qs. app_pattern g (patterns qs)) (inr (inl f))) (parse-all ps (inr (inr 0) ∷ rest)) ∙ rw (append-nil (pattern_list ps), patterns-pattern_list ps) refl
-  parse-tokens (wild_pattern w x) rest = refl
+  pub to_pattern-as_tree : (p : Pattern) → to_pattern (as_tree p) ≡ p
+  to_pattern-as_tree (symbol_pattern n) = refl
+  to_pattern-as_tree (app_pattern f ps) = ap (app_pattern f) (to_patterns-as_trees ps)
+  to_pattern-as_tree (wild_pattern w (Some x)) = ap (λ v. wild_pattern v (Some x)) (to_wildcard-part w)
+  to_pattern-as_tree (wild_pattern w None) = ap (λ v. wild_pattern v None) (to_wildcard-part w)
 
-  -- and those of a list to the list
-  parse-all : (ps : Patterns) (rest : List (Token Leaf)) → parsed (all_tokens ps rest) ≡ (pattern_list ps ++ (parsed rest).0, (parsed rest).1)
-  parse-all no_patterns rest = refl
-  parse-all (more_patterns p ps) rest = parse-tokens p (all_tokens ps rest) ∙ ap (λ s. (p ∷ s.0, s.1)) (parse-all ps rest)
+  to_patterns-as_trees : (ps : Patterns) → to_patterns (as_trees ps) ≡ ps
+  to_patterns-as_trees no_patterns = refl
+  to_patterns-as_trees (more_patterns p ps) = λ i. more_patterns (to_pattern-as_tree p i) (to_patterns-as_trees ps i)
 
--- so the tokens of a pattern give it back
-pub of_tokens-tokens : (p : Pattern) → first (symbol_pattern []) (parsed (tokens p [])).0 ≡ p
-of_tokens-tokens p = ap (λ s. first (symbol_pattern []) s.0) (parse-tokens p [])
+-- the codes of wildcards and of patterns
+abbrev pub coded_wildcard : Coded Wildcard
+coded_wildcard = code_by (ℕ × Tree) (coded× coded_ℕ coded_tree) (λ w. (wildcard_class w, part_tree w)) (λ c. to_wildcard c.0 c.1) to_wildcard-part
 
--- the code of patterns
 abbrev pub coded_pattern : Coded Pattern
-coded_pattern = code_by (List (Token Leaf)) (coded_list (coded⊎ (coded⊎ (coded_list coded_ℕ) (coded× coded_wildcard (coded_option (coded_list coded_ℕ)))) (coded⊎ coded_ℕ coded_ℕ))) (λ p. tokens p []) (λ ts. first (symbol_pattern []) (parsed ts).0) of_tokens-tokens
+coded_pattern = code_by Tree coded_tree as_tree to_pattern to_pattern-as_tree

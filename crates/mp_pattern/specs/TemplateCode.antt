@@ -1,57 +1,46 @@
--- A template as a list of tokens that gives it back.
-use Rattle.std.specs.Prelude.{◌≡◌, ℕ, ◌⊎◌, List, [], ◌∷◌, ◌++◌, refl}
-use Rattle.std.proofs.Common.{◌∙◌, ap, inl, inr, append-nil}
-use Rattle.std.specs.Coded.{Coded, code_by, coded⊎, coded_ℕ, coded_list}
-use Rattle.mp_term.specs.Code.{Token, step, parse, first}
-use Rattle.mp_pattern.specs.TemplateTree.{Template, symbol_template, app_template, variable_template, Templates, no_templates, more_templates, template_list, templates}
-
--- a symbol, or a variable
-abbrev pub Leaf : Type 0
-Leaf = List ℕ ⊎ List ℕ
-
--- the template of a leaf
-abbrev of_leaf : Leaf → Template
-of_leaf (inl n) = symbol_template n
-of_leaf (inr x) = variable_template x
+-- A template as a term that gives it back.
+use Rattle.std.specs.Prelude.{◌≡◌, ℕ, zero, suc, [], List, refl}
+use Rattle.std.proofs.Common.{ap}
+use Rattle.std.specs.Coded.{Coded, code_by}
+use Rattle.mp_term.specs.Tree.{Tree, symbol, app, Trees, no_trees, more_trees}
+use Rattle.mp_term.specs.Code.{coded_tree}
+use Rattle.mp_pattern.specs.TemplateTree.{Template, symbol_template, app_template, variable_template, Templates, no_templates, more_templates}
 
 abbrev mutual
-  -- the tokens of a template, before those that follow
-  tokens : Template → List (Token Leaf) → List (Token Leaf)
-  tokens (symbol_template n) rest = inl (inl n) ∷ rest
-  tokens (app_template f xs) rest = inr (inl f) ∷ all_tokens xs (inr (inr 0) ∷ rest)
-  tokens (variable_template x) rest = inl (inr x) ∷ rest
+  -- a symbol, an application whose number is one greater, or an application of 0 to a variable
+  as_tree : Template → Tree
+  as_tree (symbol_template n) = symbol n
+  as_tree (app_template f xs) = app (suc f) (as_trees xs)
+  as_tree (variable_template x) = app 0 (more_trees (symbol x) no_trees)
 
-  -- those of each template of a list
-  all_tokens : Templates → List (Token Leaf) → List (Token Leaf)
-  all_tokens no_templates rest = rest
-  all_tokens (more_templates x xs) rest = tokens x (all_tokens xs rest)
+  -- those of a list
+  as_trees : Templates → Trees
+  as_trees no_templates = no_trees
+  as_trees (more_templates x xs) = more_trees (as_tree x) (as_trees xs)
 
--- the templates that tokens stand for
-abbrev parsed : List (Token Leaf) → List Template × List (List Template)
-parsed = parse of_leaf (λ f xs. app_template f (templates xs))
+abbrev mutual
+  -- the template of a term
+  to_template : Tree → Template
+  to_template (symbol n) = symbol_template n
+  to_template (app (suc f) ts) = app_template f (to_templates ts)
+  to_template (app zero (more_trees (symbol x) ts)) = variable_template x
+  to_template _ = symbol_template []
 
--- `templates` undoes `template_list`
-templates-template_list : (xs : Templates) → templates (template_list xs) ≡ xs
-templates-template_list no_templates = refl
-templates-template_list (more_templates x xs) = ap (more_templates x) (templates-template_list xs)
+  -- those of a list
+  to_templates : Trees → Templates
+  to_templates no_trees = no_templates
+  to_templates (more_trees t ts) = more_templates (to_template t) (to_templates ts)
 
 mutual
-  -- the tokens of a template are parsed to it
-  parse-tokens : (x : Template) (rest : List (Token Leaf)) → parsed (tokens x rest) ≡ (x ∷ (parsed rest).0, (parsed rest).1)
-  parse-tokens (symbol_template n) rest = refl
-  parse-tokens (app_template f xs) rest =
-      ap (step of_leaf (λ g ys. app_template g (templates ys)) (inr (inl f))) (parse-all xs (inr (inr 0) ∷ rest)) ∙ rw (append-nil (template_list xs), templates-template_list xs) refl
-  parse-tokens (variable_template x) rest = refl
+  pub to_template-as_tree : (x : Template) → to_template (as_tree x) ≡ x
+  to_template-as_tree (symbol_template n) = refl
+  to_template-as_tree (app_template f xs) = ap (app_template f) (to_templates-as_trees xs)
+  to_template-as_tree (variable_template x) = refl
 
-  -- and those of a list to the list
-  parse-all : (xs : Templates) (rest : List (Token Leaf)) → parsed (all_tokens xs rest) ≡ (template_list xs ++ (parsed rest).0, (parsed rest).1)
-  parse-all no_templates rest = refl
-  parse-all (more_templates x xs) rest = parse-tokens x (all_tokens xs rest) ∙ ap (λ s. (x ∷ s.0, s.1)) (parse-all xs rest)
-
--- so the tokens of a template give it back
-pub of_tokens-tokens : (x : Template) → first (symbol_template []) (parsed (tokens x [])).0 ≡ x
-of_tokens-tokens x = ap (λ s. first (symbol_template []) s.0) (parse-tokens x [])
+  to_templates-as_trees : (xs : Templates) → to_templates (as_trees xs) ≡ xs
+  to_templates-as_trees no_templates = refl
+  to_templates-as_trees (more_templates x xs) = λ i. more_templates (to_template-as_tree x i) (to_templates-as_trees xs i)
 
 -- the code of templates
 abbrev pub coded_template : Coded Template
-coded_template = code_by (List (Token Leaf)) (coded_list (coded⊎ (coded⊎ (coded_list coded_ℕ) (coded_list coded_ℕ)) (coded⊎ coded_ℕ coded_ℕ))) (λ x. tokens x []) (λ ts. first (symbol_template []) (parsed ts).0) of_tokens-tokens
+coded_template = code_by Tree coded_tree as_tree to_template to_template-as_tree
