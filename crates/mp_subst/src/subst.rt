@@ -52,10 +52,8 @@ impl Bindings {
         ensures ok { OnOk result (self.new ≡ self.old ++ binding_of item ∷ []) }
         ensures err { OnErr result (self.new ≡ self.old) }
     {
-        match self.items.push(item) {
-            Ok(()) => Ok(()),
-            Err(_) => Err(Memory),
-        }
+        self.items.push(item)?;
+        Ok(())
     }
 
     /// How many bindings there are.
