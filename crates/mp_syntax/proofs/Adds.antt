@@ -4,6 +4,7 @@ use Rattle.std.proofs.lemmas.List.{flat_map_more}
 use Rattle.std.specs.List.{flat_map}
 use Rattle.std.specs.Str.{bytes_eq}
 use Rattle.std.proofs.lemmas.Slice.Eq.{bytes_eq-Decides}
+use Rattle.mp_syntax.specs.declared.limits.TheConstants.{MAX_OPEN}
 use Rattle.mp_syntax.specs.declared.place.Place.{Place}
 use Rattle.mp_syntax.specs.declared.token.Punct.{Punct}
 use Rattle.mp_syntax.specs.declared.token.Punct.TheVariants.{Open, Close, OpenSquare, CloseSquare, OpenBrace, CloseBrace, Comma, Semicolon, Colon, Dot, Dollar}
@@ -135,8 +136,8 @@ adds-fixed v t w a b before h f g = go (bytes_eq w v) refl
     go true e = f (h ∙ ap Word ((bytes_eq-Decides w v).0 e))
     go false e = g
 
-pub adds-open : (k : List Frame) (next : State) (before : List Expected) (t : Placed) → Adds (Go next) before t → Adds (step_open 100 k next) before t
-adds-open k next before t h = go (leb 100 (open_count k))
+pub adds-open : (k : List Frame) (next : State) (before : List Expected) (t : Placed) → Adds (Go next) before t → Adds (step_open MAX_OPEN k next) before t
+adds-open k next before t h = go (leb MAX_OPEN (open_count k))
   where
     go : (b : Bool) → Adds (cond b (Refuse TooDeep) (Go next)) before t
     go true = tt

@@ -1,7 +1,8 @@
 -- Steps of the machine over conditions.
-use Rattle.std.proofs.Common.{◌≡◌, ℕ, ◌+◌, ◌-◌, ◌<◌, cond, List, [], ◌∷◌, Option, Some, None, Result, Ok, Err, true, false, refl, ap, ◌∙◌, arith}
+use Rattle.std.proofs.Common.{◌≡◌, ℕ, ◌<◌, cond, List, [], ◌∷◌, Option, Some, None, Ok, true, false, refl, ap, sym, ◌∙◌, arith}
 use Rattle.std.specs.Prelude.{codes}
 use Rattle.std.proofs.lemmas.Bool.{lt-leb}
+use Rattle.mp_syntax.specs.declared.limits.TheConstants.{MAX_OPEN}
 use Rattle.mp_syntax.specs.declared.token.Punct.TheVariants.{Open, OpenSquare, Semicolon}
 use Rattle.mp_syntax.specs.declared.fault.FaultKind.TheVariants.{TooDeep}
 use Rattle.mp_syntax.specs.declared.condition_tree.Measure.{Measure}
@@ -12,17 +13,15 @@ use Rattle.mp_syntax.specs.declared.condition_tree.Relation.{Relation}
 use Rattle.mp_syntax.specs.declared.condition_tree.Relation.TheVariants.{Same, Less, Free}
 use Rattle.mp_syntax.specs.declared.condition_tree.Property.{Property}
 use Rattle.mp_syntax.specs.declared.condition_tree.Property.TheVariants as properties
-use Rattle.mp_syntax.specs.declared.fault.SyntaxError.{SyntaxError}
-use Rattle.mp_syntax.specs.declared.tree.Expr.{Expr}
 use Rattle.mp_syntax.specs.declared.condition_tree.Condition as code
 use Rattle.mp_syntax.specs.View.{if_tree}
 use Rattle.mp_syntax.specs.Tokens.{Token, Word, End, Placed}
 use Rattle.mp_syntax.specs.Lexing.{behind}
 use Rattle.mp_syntax.specs.Syntax.{Spot, Tree, Literal, condition, Statement, RuleOf, measure_word, sense_sign, relation_word, property_word}
 use Rattle.mp_syntax.specs.Machine.{heading, OfRule, Within, InStatement, InCondition, Frame, Operand, Square, open_count, Level, no_level, next_literal, next_alternative, all_alternatives, Site, OnLeft, Lead, OfRelation, OfProperty, State, BeforeExpr, BeforeLiteral, BeforeBody, BeforeOperand, AfterExpr, AfterLiteral, Step, Go, Emit, Refuse, is_punct, is_word, measure_of, sense_of, relation_of, property_of, relation_held, property_held, refuse, on_punct, on_text, on_found, spot, word_of, step, step_open, step_amount, step_atom, step_body, step_whole, run}
-use Rattle.mp_syntax.specs.Parsing.{onward, WantsPunct, ExprGives}
-use Rattle.mp_syntax.specs.ConditionParsing.{EndsCondition, EndsIf, IfGives, WantsAmount, OperandGives}
-use Rattle.mp_syntax.proofs.Runs.{one-step, fails-along}
+use Rattle.mp_syntax.specs.Parsing.{onward, WantsPunct, HasRoom}
+use Rattle.mp_syntax.specs.ConditionParsing.{EndsCondition, EndsIf, IfGives, WantsAmount}
+use Rattle.mp_syntax.proofs.Runs.{one-step}
 
 -- ---- words and signs
 
@@ -50,20 +49,20 @@ property_of-word properties.Head = refl
 -- ---- steps
 
 -- the bracket of an operand, where there is room
-pub open-step : (x : Within) (k : List Frame) (s : Site) (lead : Lead) (t : Placed) (room : ℕ) → open_count k + room ≡ 100 → 0 < room → is_punct Open t.token ≡ true → step (BeforeOperand x k s lead) t ≡ Go (BeforeExpr x (Operand s lead ∷ k))
+pub open-step : (x : Within) (k : List Frame) (s : Site) (lead : Lead) (t : Placed) (room : ℕ) → HasRoom k room → 0 < room → is_punct Open t.token ≡ true → step (BeforeOperand x k s lead) t ≡ Go (BeforeExpr x (Operand s lead ∷ k))
 open-step x k s lead t room len some e =
-    ap (λ b. cond b (step_open 100 k (BeforeExpr x (Operand s lead ∷ k))) (refuse t.token)) e
-    ∙ ap (λ b. cond b (Refuse TooDeep) (Go (BeforeExpr x (Operand s lead ∷ k)))) (lt-leb 100 (open_count k) (omega (arith, len, some)))
+    ap (λ b. cond b (step_open MAX_OPEN k (BeforeExpr x (Operand s lead ∷ k))) (refuse t.token)) e
+    ∙ ap (λ b. cond b (Refuse TooDeep) (Go (BeforeExpr x (Operand s lead ∷ k)))) (lt-leb MAX_OPEN (open_count k) (omega (arith, len, some)))
 
 -- a square bracket, where there is room
-pub square-step : (x : Within) (k : List Frame) (s : Site) (t : Placed) (room : ℕ) → open_count k + room ≡ 100 → 0 < room → is_punct OpenSquare t.token ≡ true → step (BeforeBody x k s) t ≡ Go (BeforeLiteral x (Square s ∷ k) no_level)
+pub square-step : (x : Within) (k : List Frame) (s : Site) (t : Placed) (room : ℕ) → HasRoom k room → 0 < room → is_punct OpenSquare t.token ≡ true → step (BeforeBody x k s) t ≡ Go (BeforeLiteral x (Square s ∷ k) no_level)
 square-step x k s t room len some e =
-    ap (λ b. cond b (step_open 100 k (BeforeLiteral x (Square s ∷ k) no_level)) (on_text t (λ w. step_atom x k s w) (word_of t.token))) e
-    ∙ ap (λ b. cond b (Refuse TooDeep) (Go (BeforeLiteral x (Square s ∷ k) no_level))) (lt-leb 100 (open_count k) (omega (arith, len, some)))
+    ap (λ b. cond b (step_open MAX_OPEN k (BeforeLiteral x (Square s ∷ k) no_level)) (on_text t (λ w. step_atom x k s w) (word_of t.token))) e
+    ∙ ap (λ b. cond b (Refuse TooDeep) (Go (BeforeLiteral x (Square s ∷ k) no_level))) (lt-leb MAX_OPEN (open_count k) (omega (arith, len, some)))
 
 -- a word that begins an atom
 pub plain-step : (x : Within) (k : List Frame) (s : Site) (t : Placed) (w : Spot) → t.token ≡ Word w.text → t.place ≡ w.place → step (BeforeBody x k s) t ≡ step_atom x k s w
-plain-step x k s t w h p = λ i. step_body 100 x k s (record { token = h i; place = p i })
+plain-step x k s t w h p = λ i. step_body MAX_OPEN x k s (record { token = h i; place = p i })
 
 -- ---- runs over one token
 
@@ -77,17 +76,43 @@ behind-word text _ ts h = absurd cc
 pub over-word : (text : List ℕ) (t : Placed) (old new : List Placed) → old ≡ t ∷ behind t.token new → is_word text t.token ≡ true → (done : List Statement) (at : State) (next : Step) → step at t ≡ next → run done at old ≡ onward t.place done next new
 over-word text t old new e h done at next f = ap (run done at) e ∙ one-step done at t new next (behind-word text t.token new h) f
 
+-- what a word that is no relation does before an atom
+abbrev without_relation : Within → List Frame → Site → Spot → Step
+without_relation x k s w = on_found (λ p. Go (BeforeOperand x k s (OfProperty p))) (step_amount x k s OnLeft w) (property_of w.text)
+
 -- a token that is no square bracket and no word of a relation or a property can only begin an amount
 pub amount-wanted : (x : Within) (k : List Frame) (s : Site) (t : Placed) → is_punct OpenSquare t.token ≡ false → relation_held t.token ≡ None → property_held t.token ≡ None → WantsAmount t (BeforeBody x k s) x k s OnLeft
 amount-wanted x k s t square relation property =
-    ap (λ b. cond b (step_open 100 k (BeforeLiteral x (Square s ∷ k) no_level)) (on_text t (λ w. step_atom x k s w) (word_of t.token))) square
+    ap (λ b. cond b (step_open MAX_OPEN k (BeforeLiteral x (Square s ∷ k) no_level)) (on_text t (λ w. step_atom x k s w) (word_of t.token))) square
     ∙ go t.token relation property
   where
     go : (u : Token) → relation_held u ≡ None → property_held u ≡ None → on_text t (λ w. step_atom x k s w) (word_of u) ≡ on_text t (λ w. step_amount x k s OnLeft w) (word_of u)
     go (Word w) relation property =
-        ap (on_found (λ r. Go (BeforeOperand x k s (OfRelation r))) (on_found (λ p. Go (BeforeOperand x k s (OfProperty p))) (step_amount x k s OnLeft (spot w t.place)) (property_of w))) relation
+        ap (on_found (λ r. Go (BeforeOperand x k s (OfRelation r))) (without_relation x k s (spot w t.place))) relation
         ∙ ap (on_found (λ p. Go (BeforeOperand x k s (OfProperty p))) (step_amount x k s OnLeft (spot w t.place))) property
     go _ relation property = refl
+
+-- the word of a relation leads to its first operand
+pub relation-begins : (done : List Statement) (x : Within) (k : List Frame) (s : Site) (t : Placed) (r : Relation) (old new : List Placed)
+    → old ≡ t ∷ behind t.token new → Some r ≡ relation_held t.token
+    → run done (BeforeBody x k s) old ≡ run done (BeforeOperand x k s (OfRelation r)) new
+relation-begins done x k s t r old new e h = ap (run done (BeforeBody x k s)) e ∙ go t.token h
+  where
+    go : (u : Token) → Some r ≡ relation_held u → run done (BeforeBody x k s) (record { token = u; place = t.place } ∷ behind u new) ≡ run done (BeforeOperand x k s (OfRelation r)) new
+    go (Word w) h = ap (λ o. onward t.place done (on_found (λ q. Go (BeforeOperand x k s (OfRelation q))) (without_relation x k s (spot w t.place)) o) new) (sym h)
+    go _ h = absurd cc
+
+-- the word of a property leads to its operand
+pub property-begins : (done : List Statement) (x : Within) (k : List Frame) (s : Site) (t : Placed) (p : Property) (old new : List Placed)
+    → old ≡ t ∷ behind t.token new → relation_held t.token ≡ None → Some p ≡ property_held t.token
+    → run done (BeforeBody x k s) old ≡ run done (BeforeOperand x k s (OfProperty p)) new
+property-begins done x k s t p old new e none h = ap (run done (BeforeBody x k s)) e ∙ go t.token none h
+  where
+    go : (u : Token) → relation_held u ≡ None → Some p ≡ property_held u → run done (BeforeBody x k s) (record { token = u; place = t.place } ∷ behind u new) ≡ run done (BeforeOperand x k s (OfProperty p)) new
+    go (Word w) none h =
+        ap (λ o. onward t.place done (on_found (λ q. Go (BeforeOperand x k s (OfRelation q))) (without_relation x k s (spot w t.place)) o) new) none
+        ∙ ap (λ o. onward t.place done (on_found (λ q. Go (BeforeOperand x k s (OfProperty q))) (step_amount x k s OnLeft (spot w t.place)) o) new) (sym h)
+    go _ none h = absurd cc
 
 -- what a token that is no `and` does behind a literal
 abbrev step_behind_and : Within → List Frame → Level → Literal → Placed → Step
@@ -104,11 +129,6 @@ whole-step x k v l t h =
     ∙ ap (λ b. cond b (Go (BeforeLiteral x k (next_alternative v l))) (step_whole x k (condition (all_alternatives v l)) t)) h.1
 
 -- ---- what calls give
-
--- an operand behind its bracket
-pub operand-gives : (room : ℕ) (r : Result Expr SyntaxError) (old mid new : List Placed) → 0 < room → ((done : List Statement) (x : Within) (k : List Frame) (s : Site) (lead : Lead) → open_count k + room ≡ 100 → run done (BeforeOperand x k s lead) old ≡ run done (BeforeExpr x (Operand s lead ∷ k)) mid) → ExprGives (room - 1) r mid new → OperandGives room r old new
-operand-gives room (Ok e) old mid new some opens read = λ done x k s lead len. opens done x k s lead len ∙ read done x (Operand s lead ∷ k) (omega (arith, len, some))
-operand-gives room (Err e) old mid new some opens read = λ done x k s lead len. fails-along e _ _ (opens done x k s lead len) (read done x (Operand s lead ∷ k) (omega (arith, len, some)))
 
 -- behind the pattern of a rule, and its condition where it has one, only the semicolon stands
 pub behind-if : (o : Option code.Condition) (old new : List Placed) (t : Placed) → IfGives (Ok o) old new → EndsIf o t.token → (done : List Statement) (name : Spot) (e : Tree)

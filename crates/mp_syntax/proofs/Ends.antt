@@ -4,11 +4,11 @@ use Rattle.std.specs.Prelude.{◌⊎◌, ◌||◌, ◌&&◌}
 use Rattle.std.specs.List.{prefix_len, list_all}
 use Rattle.std.proofs.lemmas.Bool.{and_parts, or_left}
 use Rattle.std.proofs.lemmas.List.Folds.{list_all-append}
+use Rattle.std.proofs.lemmas.List.{nil_from_length}
 use Rattle.mp_syntax.specs.declared.token.Punct.{Punct}
 use Rattle.mp_syntax.specs.declared.token.Punct.TheVariants.{Open, Close, OpenSquare, CloseSquare, OpenBrace, CloseBrace, Comma, Semicolon, Colon, Dot, Dollar}
 use Rattle.mp_syntax.specs.Tokens.{Token, Word, Wildcard, Sign, Arrow, Punctuation, Long, Bad, End, byte_of, is_word_byte, is_sign_byte, AreWordBytes, underscores, IsWildcard, Spells}
 use Rattle.mp_syntax.specs.Lexing.{kind_at, is_underscore}
-use Rattle.mp_syntax.proofs.Fronts.{empty-length}
 use Rattle.mp_syntax.proofs.Longest.{IsRun, IsLongestRun, sign-begins}
 use Rattle.mp_syntax.proofs.Spelling.{spells-settles, kind_at-longest}
 
@@ -70,7 +70,7 @@ none-more p (b ∷ more) after rest e ends all =
     absurd (omega (arith, len, ends))
 
 no-more : (text more : List ℕ) → 0 < length text → length (text ++ more) ≡ 1 → more ≡ []
-no-more text more some one = empty-length more (omega (arith, length-append text more, one))
+no-more text more some one = nil_from_length more (omega (arith, length-append text more, one))
 
 -- a word or wildcard ends where no letter, digit or underscore follows
 pub longest-marks : (text rest : List ℕ) → 0 < length text → list_all is_mark_byte text ≡ true → prefix_len is_mark_byte rest ≡ 0 → IsLongestRun text rest

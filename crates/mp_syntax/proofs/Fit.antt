@@ -3,6 +3,7 @@ use Rattle.std.proofs.Common.{◌≡◌, ℕ, zero, suc, ◌-◌, ◌<◌, Bool,
 use Rattle.std.specs.Prelude.{◌≢◌, ◌&&◌, codes}
 use Rattle.std.specs.Str.{bytes_eq}
 use Rattle.std.proofs.lemmas.Bool.{leb-false}
+use Rattle.mp_syntax.specs.declared.limits.TheConstants.{MAX_OPEN}
 use Rattle.mp_syntax.specs.declared.token.Punct.TheVariants.{Open, Close, OpenSquare, CloseSquare, Comma, Colon, Semicolon, Dollar}
 use Rattle.mp_syntax.specs.declared.fault.FaultKind.TheVariants.{Syntax, TooDeep}
 use Rattle.mp_syntax.specs.declared.condition_tree.Sense.{Sense}
@@ -42,18 +43,18 @@ FrameFits room (Square s) = LevelFits (suc room) s.level
 abbrev pub WithinFits : Within → Type 0
 WithinFits (InStatement h) = Unit {0}
 WithinFits Alone = Unit {0}
-WithinFits (InCondition name pattern) = Fits 100 pattern
+WithinFits (InCondition name pattern) = Fits MAX_OPEN pattern
 WithinFits ConditionAlone = Unit {0}
 
 -- what open brackets hold fits, the wildcards before a default have one underscore and no kind, and so does what stands before all of them
 abbrev pub FramesFit : Within → List Frame → Type 0
 FramesFit x [] = WithinFits x
 FramesFit x (Default w ∷ k) = IsDot w × FramesFit x k
-FramesFit x (f ∷ k) = (open_count k < 100) × FrameFits (99 - open_count k) f × FramesFit x k
+FramesFit x (f ∷ k) = (open_count k < MAX_OPEN) × FrameFits (MAX_OPEN - 1 - open_count k) f × FramesFit x k
 
 -- the brackets that may still be opened
 abbrev pub room_in : List Frame → ℕ
-room_in k = 100 - open_count k
+room_in k = MAX_OPEN - open_count k
 
 -- what a state has read fits
 abbrev pub StateFits : State → Type 0
@@ -63,14 +64,14 @@ StateFits (AfterInfix d) = is_number d.least.text ≡ true
 StateFits (AfterMember name members) = members ≢ []
 StateFits (BeforeExpr x k) = FramesFit x k
 StateFits (AfterWord x k w) = FramesFit x k
-StateFits (AfterOpen x k w) = (open_count k < 100) × FramesFit x k
+StateFits (AfterOpen x k w) = (open_count k < MAX_OPEN) × FramesFit x k
 StateFits (AfterWildcard x k w) = FramesFit x k
-StateFits (AfterExpr x k e) = FramesFit x k × Fits (100 - open_count k) e
+StateFits (AfterExpr x k e) = FramesFit x k × Fits (MAX_OPEN - open_count k) e
 StateFits (AfterDollar x k place) = FramesFit x k
 StateFits (BeforeLiteral x k v) = FramesFit x k × LevelFits (room_in k) v
 StateFits (BeforeBody x k s) = FramesFit x k × LevelFits (room_in k) s.level
 StateFits (BeforeOperand x k s lead) = FramesFit x k × LevelFits (room_in k) s.level × LeadFits (room_in k) lead
-StateFits (BeforeName x k s p e) = FramesFit x k × LevelFits (room_in k) s.level × (open_count k < 100) × Fits (99 - open_count k) e
+StateFits (BeforeName x k s p e) = FramesFit x k × LevelFits (room_in k) s.level × (open_count k < MAX_OPEN) × Fits (MAX_OPEN - 1 - open_count k) e
 StateFits (BehindName x k s p e w) = FramesFit x k × LevelFits (room_in k) s.level × FitsAtom (room_in k) (Test p e w)
 StateFits (AfterAmount x k s a) = FramesFit x k × LevelFits (room_in k) s.level × FitsAmount (room_in k) a
 StateFits (AfterSense x k s a sense) = FramesFit x k × LevelFits (room_in k) s.level × FitsAmount (room_in k) a
@@ -79,8 +80,8 @@ StateFits _ = Unit {0}
 
 -- an expression or a condition that is the whole text fits
 abbrev pub SingleFits : Single → Type 0
-SingleFits (SingleExpr t) = Fits 100 t
-SingleFits (SingleCondition c) = FitsCondition 100 c
+SingleFits (SingleExpr t) = Fits MAX_OPEN t
+SingleFits (SingleCondition c) = FitsCondition MAX_OPEN c
 
 -- what a step leads to fits
 abbrev pub StepFits : Step → Type 0
@@ -101,21 +102,21 @@ AreFit-push : (room : ℕ) (args : List Tree) (e : Tree) → AreFit room (trees 
 AreFit-push room [] e h k = (k, tt)
 AreFit-push room (a ∷ args) e h k = (h.0, AreFit-push room args e h.1 k)
 
-open-fits : (k : List Frame) (next : State) → (open_count k < 100 → StateFits next) → StepFits (step_open 100 k next)
-open-fits k next h = go (leb 100 (open_count k)) refl
+open-fits : (k : List Frame) (next : State) → (open_count k < MAX_OPEN → StateFits next) → StepFits (step_open MAX_OPEN k next)
+open-fits k next h = go (leb MAX_OPEN (open_count k)) refl
   where
-    go : (b : Bool) → leb 100 (open_count k) ≡ b → StepFits (cond b (Refuse TooDeep) (Go next))
+    go : (b : Bool) → leb MAX_OPEN (open_count k) ≡ b → StepFits (cond b (Refuse TooDeep) (Go next))
     go true e = tt
-    go false e = h (leb-false 100 (open_count k) e)
+    go false e = h (leb-false MAX_OPEN (open_count k) e)
 
-expr-fits : (x : Within) (k : List Frame) (t : Placed) → FramesFit x k → StepFits (step_expr 100 x k t (word_of t.token))
+expr-fits : (x : Within) (k : List Frame) (t : Placed) → FramesFit x k → StepFits (step_expr MAX_OPEN x k t (word_of t.token))
 expr-fits x k t fits = go (word_of t.token)
   where
     wildcard : (o : Option Wildcard) → StepFits (step_wildcard x k t o)
     wildcard (Some w) = fits
     wildcard None = if-fits (is_punct Dollar t.token) (Go (AfterDollar x k t.place)) (refuse t.token) fits tt
 
-    go : (o : Option (List ℕ)) → StepFits (step_expr 100 x k t o)
+    go : (o : Option (List ℕ)) → StepFits (step_expr MAX_OPEN x k t o)
     go (Some w) = fits
     go None = if-fits (is_punct Open t.token) _ _ (open-fits k (BeforeExpr x (Bracket t.place ∷ k)) (λ lt. (lt, tt, fits))) (wildcard (wildcard_at t.token t.place))
 
@@ -126,13 +127,13 @@ several-push first (a ∷ others) e = tt
 -- ---- conditions
 
 -- the room in a bracket
-frame-room : (k : List Frame) → 100 - suc (open_count k) ≡ 99 - open_count k
+frame-room : (k : List Frame) → MAX_OPEN - suc (open_count k) ≡ MAX_OPEN - 1 - open_count k
 frame-room k = omega arith
 
-room-suc : (k : List Frame) → open_count k < 100 → room_in k ≡ suc (99 - open_count k)
+room-suc : (k : List Frame) → open_count k < MAX_OPEN → room_in k ≡ suc (MAX_OPEN - 1 - open_count k)
 room-suc k lt = omega arith
 
-suc-room : (k : List Frame) → open_count k < 100 → suc (99 - open_count k) ≡ room_in k
+suc-room : (k : List Frame) → open_count k < MAX_OPEN → suc (MAX_OPEN - 1 - open_count k) ≡ room_in k
 suc-room k lt = omega arith
 
 found-fits : {A : Type 0} (next : A → Step) (other : Step) (o : Option A) → ((a : A) → StepFits (next a)) → StepFits other → StepFits (on_found next other o)
@@ -163,12 +164,12 @@ amount-fits x k s side w fits v h = go (is_number w.text) refl
     go true e = with_amount-fits x k s side (Number w) fits v h (number-fits (room_in k) w e)
     go false e = found-fits _ (Refuse Syntax) (measure_of w.text) (λ m. (fits, v, h)) tt
 
-body-fits : (x : Within) (k : List Frame) (s : Site) (t : Placed) → FramesFit x k → LevelFits (room_in k) s.level → StepFits (step_body 100 x k s t)
+body-fits : (x : Within) (k : List Frame) (s : Site) (t : Placed) → FramesFit x k → LevelFits (room_in k) s.level → StepFits (step_body MAX_OPEN x k s t)
 body-fits x k s t fits v =
     if-fits (is_punct OpenSquare t.token) _ _ (open-fits k (BeforeLiteral x (Square s ∷ k) no_level) (λ lt. ((lt, subst (λ n. LevelFits n s.level) (room-suc k lt) v, fits), (tt, tt))))
     (text-fits t (λ w. step_atom x k s w) (word_of t.token) (λ w. found-fits _ _ (relation_of w.text) (λ r. (fits, v, tt)) (found-fits _ _ (property_of w.text) (λ p. (fits, v, tt)) (amount-fits x k s OnLeft w fits v tt))))
 
-bracket-fits : (x : Within) (k : List Frame) (s : Site) (lead : Lead) → open_count k < 100 → StateFits (BeforeOperand x k s lead) → FramesFit x (Operand s lead ∷ k)
+bracket-fits : (x : Within) (k : List Frame) (s : Site) (lead : Lead) → open_count k < MAX_OPEN → StateFits (BeforeOperand x k s lead) → FramesFit x (Operand s lead ∷ k)
 bracket-fits x k s lead lt h = (lt, (subst (λ n. LevelFits n s.level) (room-suc k lt) h.1, subst (λ n. LeadFits n lead) (room-suc k lt) h.2), h.0)
 
 operand-fits : (x : Within) (k : List Frame) (s : Site) (lead : Lead) (e : Tree) (t : Token) → FramesFit x (Operand s lead ∷ k) → Fits (room_in (Operand s lead ∷ k)) e → StepFits (step_operand x k s lead e t)
@@ -206,7 +207,7 @@ all-fit : (room : ℕ) (v : Level) (l : Literal) → LevelFits room v → FitsLi
 all-fit room v l h f =
     (push-alternative v.alternatives (literals (v.literals ++ l ∷ [])), AlternativesFit-push room v.alternatives (literals (v.literals ++ l ∷ [])) h.0 (push-literal v.literals l) (LiteralsFit-push room v.literals l h.1 f))
 
-last-fits : (x : Within) (c : Condition) (t : Placed) → WithinFits x → FitsCondition 100 c → StepFits (step_last x c t)
+last-fits : (x : Within) (c : Condition) (t : Placed) → WithinFits x → FitsCondition MAX_OPEN c → StepFits (step_last x c t)
 last-fits (InStatement h) c t fits c-fits = tt
 last-fits Alone c t fits c-fits = tt
 last-fits (InCondition name pattern) c t fits c-fits = if-fits (is_punct Semicolon t.token) (Emit (RuleOf name pattern (Some c))) (refuse t.token) (fits, c-fits) tt
@@ -223,14 +224,14 @@ whole-fits x (Second s r e ∷ k) c t fits c-fits = tt
 whole-fits x (Square s ∷ k) c t fits c-fits =
     if-fits (is_punct CloseSquare t.token) (Go (AfterLiteral x k s.level (Bracketed s.negated c))) (refuse t.token) (fits.2, subst (λ n. LevelFits n s.level) (suc-room k fits.0) fits.1, subst (λ n. FitsLiteral n (Bracketed s.negated c)) (suc-room k fits.0) (subst (λ n. FitsCondition n c) (frame-room k) c-fits)) tt
 
-literal-fits : (x : Within) (k : List Frame) (v : Level) (l : Literal) (t : Placed) → FramesFit x k → LevelFits (room_in k) v → FitsLiteral (room_in k) l → StepFits (step_in 100 (AfterLiteral x k v l) t)
+literal-fits : (x : Within) (k : List Frame) (v : Level) (l : Literal) (t : Placed) → FramesFit x k → LevelFits (room_in k) v → FitsLiteral (room_in k) l → StepFits (step_in MAX_OPEN (AfterLiteral x k v l) t)
 literal-fits x k v l t fits h f =
     if-fits (is_word (codes "and") t.token) (Go (BeforeLiteral x k (next_literal v l))) _ (fits, (h.0, LiteralsFit-push (room_in k) v.literals l h.1 f))
     (if-fits (is_word (codes "or") t.token) (Go (BeforeLiteral x k (next_alternative v l))) _ (fits, ((all-fit (room_in k) v l h f).1, tt)) (whole-fits x k (condition (all_alternatives v l)) t fits (all-fit (room_in k) v l h f)))
 
 -- ---- behind expressions
 
-behind-fits : (x : Within) (k : List Frame) (e : Tree) (t : Placed) → FramesFit x k → Fits (100 - open_count k) e → StepFits (step_behind x k e t)
+behind-fits : (x : Within) (k : List Frame) (e : Tree) (t : Placed) → FramesFit x k → Fits (MAX_OPEN - open_count k) e → StepFits (step_behind x k e t)
 behind-fits (InStatement h) [] e t fits e-fits = at h.role
   where
     at : (role : Role) → StepFits (step_role role h.name e t.token)
@@ -240,20 +241,20 @@ behind-fits Alone [] e t fits e-fits = if-fits (is_end t.token) (Ends (SingleExp
 behind-fits (InCondition name pattern) [] e t fits e-fits = tt
 behind-fits ConditionAlone [] e t fits e-fits = tt
 behind-fits x (Arguments name args ∷ k) e t fits e-fits =
-    let pushed : AreFit (99 - open_count k) (trees (args ++ e ∷ [])) = AreFit-push (99 - open_count k) args e fits.1 (subst (λ n. Fits n e) (omega arith) e-fits) in
+    let pushed : AreFit (MAX_OPEN - 1 - open_count k) (trees (args ++ e ∷ [])) = AreFit-push (MAX_OPEN - 1 - open_count k) args e fits.1 (subst (λ n. Fits n e) (omega arith) e-fits) in
     let lt = fits.0 in
-    let room : suc (99 - open_count k) ≡ 100 - open_count k = omega arith in
+    let room : suc (MAX_OPEN - 1 - open_count k) ≡ MAX_OPEN - open_count k = omega arith in
     if-fits (is_punct Comma t.token) _ _ (fits.0, pushed, fits.2)
     (if-fits (is_punct Close t.token) _ (refuse t.token) (fits.2, subst (λ n. Fits n (Apply name (trees (args ++ e ∷ [])))) room pushed) tt)
 behind-fits x (Bracket place ∷ k) e t fits e-fits =
     text-fits t (λ sign. Go (BeforeExpr x (Operands place sign e [] ∷ k))) (sign_of t.token) (λ sign. (fits.0, (subst (λ n. Fits n e) (omega arith) e-fits, tt), fits.2))
 behind-fits x (Operands place sign first others ∷ k) e t fits e-fits =
-    let pushed : AreFit (99 - open_count k) (trees (others ++ e ∷ [])) = AreFit-push (99 - open_count k) others e fits.1.1 (subst (λ n. Fits n e) (omega arith) e-fits) in
+    let pushed : AreFit (MAX_OPEN - 1 - open_count k) (trees (others ++ e ∷ [])) = AreFit-push (MAX_OPEN - 1 - open_count k) others e fits.1.1 (subst (λ n. Fits n e) (omega arith) e-fits) in
     let lt = fits.0 in
-    let room : suc (99 - open_count k) ≡ 100 - open_count k = omega arith in
+    let room : suc (MAX_OPEN - 1 - open_count k) ≡ MAX_OPEN - open_count k = omega arith in
     if-fits (is_sign sign.text t.token) _ _ (fits.0, (fits.1.0, pushed), fits.2)
     (if-fits (is_punct Close t.token) _ (refuse t.token) (fits.2, subst (λ n. Fits n (InfixOf place sign (more_trees first (trees (others ++ e ∷ []))))) room (several-push first others e, (fits.1.0, pushed))) tt)
-behind-fits x (Default w ∷ k) e t fits e-fits = behind-fits x k (with_default w e) t fits.1 (with_default-fits (100 - open_count k) w e fits.0 e-fits)
+behind-fits x (Default w ∷ k) e t fits e-fits = behind-fits x k (with_default w e) t fits.1 (with_default-fits (MAX_OPEN - open_count k) w e fits.0 e-fits)
 behind-fits x (Operand s lead ∷ k) e t fits e-fits = operand-fits x k s lead e t.token fits e-fits
 behind-fits x (Second s r d ∷ k) e t fits e-fits = second-fits x k s r d e t.token fits e-fits
 behind-fits x (Square s ∷ k) e t fits e-fits = tt
@@ -294,15 +295,15 @@ step-fits (AfterRole role) t h = text-fits t (λ w. Go (AfterName (record { role
 step-fits (AfterName x) t h = if-fits (is_punct Colon t.token) _ (refuse t.token) tt tt
 step-fits (BeforeExpr x k) t h = expr-fits x k t h
 step-fits (AfterWord x k w) t h = if-fits (is_punct Open t.token) _ _ (open-fits k (AfterOpen x k w) (λ lt. (lt, h))) (behind-fits x k (Symbol w) t h tt)
-step-fits (AfterOpen x k w) t h = if-fits (is_punct Close t.token) _ _ (h.1, let lt = h.0 in let room : suc (99 - open_count k) ≡ 100 - open_count k = omega arith in subst (λ n. Fits n (Apply w (trees []))) room tt) (expr-fits x (Arguments w [] ∷ k) t (h.0, tt, h.1))
+step-fits (AfterOpen x k w) t h = if-fits (is_punct Close t.token) _ _ (h.1, let lt = h.0 in let room : suc (MAX_OPEN - 1 - open_count k) ≡ MAX_OPEN - open_count k = omega arith in subst (λ n. Fits n (Apply w (trees []))) room tt) (expr-fits x (Arguments w [] ∷ k) t (h.0, tt, h.1))
 step-fits (AfterWildcard x k w) t h = go (is_punct Colon t.token) (is_dot w) refl
   where
     go : (v d : Bool) → is_dot w ≡ d → StepFits (cond (v && d) (Go (BeforeExpr x (Default w ∷ k))) (step_behind x k (Wild w) t))
     go true true e = (is_dot-true w e, h)
-    go true false e = behind-fits x k (Wild w) t h (wild-fits (100 - open_count k) w)
-    go false d e = behind-fits x k (Wild w) t h (wild-fits (100 - open_count k) w)
+    go true false e = behind-fits x k (Wild w) t h (wild-fits (MAX_OPEN - open_count k) w)
+    go false d e = behind-fits x k (Wild w) t h (wild-fits (MAX_OPEN - open_count k) w)
 step-fits (AfterExpr x k e) t h = behind-fits x k e t h.0 h.1
-step-fits (AfterDollar x k place) t h = text-fits t (λ w. Go (AfterExpr x k (Variable (spot w.text place)))) (word_of t.token) (λ w. (h, variable-fits (100 - open_count k) (spot w.text place)))
+step-fits (AfterDollar x k place) t h = text-fits t (λ w. Go (AfterExpr x k (Variable (spot w.text place)))) (word_of t.token) (λ w. (h, variable-fits (MAX_OPEN - open_count k) (spot w.text place)))
 step-fits (BeforeLiteral x k v) t h = if-fits (is_word (codes "not") t.token) (Go (BeforeBody x k (site v true))) _ h (body-fits x k (site v false) t h.0 h.1)
 step-fits (BeforeBody x k s) t h = body-fits x k s t h.0 h.1
 step-fits (BeforeOperand x k s lead) t h = if-fits (is_punct Open t.token) _ (refuse t.token) (open-fits k (BeforeExpr x (Operand s lead ∷ k)) (λ lt. bracket-fits x k s lead lt h)) tt

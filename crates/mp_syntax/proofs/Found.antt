@@ -3,6 +3,7 @@ use Rattle.std.proofs.Common.{◌≡◌, ℕ, Bool, true, false, cond, List, [],
 use Rattle.std.proofs.lemmas.List.{map_push}
 use Rattle.std.specs.Prelude.{◌&&◌, codes}
 use Rattle.std.specs.List.{flat_map}
+use Rattle.mp_syntax.specs.declared.limits.TheConstants.{MAX_OPEN}
 use Rattle.mp_syntax.specs.declared.token.Punct.TheVariants.{Open, Close, Comma, Semicolon, Colon, Dollar}
 use Rattle.mp_syntax.specs.declared.fault.Fault.{Fault}
 use Rattle.mp_syntax.specs.declared.fault.FaultKind.TheVariants.{Syntax}
@@ -56,17 +57,17 @@ adds-member name members t = adds-word (λ w. Go (AfterMember name (members ++ w
 
 -- ---- expressions
 
-adds-expr : (x : Within) (k : List Frame) (t : Placed) → Adds (step_expr 100 x k t (word_of t.token)) (so_far (BeforeExpr x k)) t
+adds-expr : (x : Within) (k : List Frame) (t : Placed) → Adds (step_expr MAX_OPEN x k t (word_of t.token)) (so_far (BeforeExpr x k)) t
 adds-expr x k t = go (word_of t.token) refl
   where
     wildcard : (o : Option Wildcard) → wildcard_at t.token t.place ≡ o → Adds (step_wildcard x k t o) (so_far (BeforeExpr x k)) t
     wildcard (Some w) f = (spelled_wildcard w, wildcard-is t.token t.place w f, simp append_assoc)
     wildcard None f = adds-punct Dollar t _ (refuse t.token) (so_far (BeforeExpr x k)) (λ is. (Stands (Punctuation Dollar) t.place, (is, refl), simp append_assoc)) tt
 
-    bracket : Matches t (Said (Punctuation Open)) → Adds (step_open 100 k (BeforeExpr x (Bracket t.place ∷ k))) (so_far (BeforeExpr x k)) t
+    bracket : Matches t (Said (Punctuation Open)) → Adds (step_open MAX_OPEN k (BeforeExpr x (Bracket t.place ∷ k))) (so_far (BeforeExpr x k)) t
     bracket is = adds-open k (BeforeExpr x (Bracket t.place ∷ k)) (so_far (BeforeExpr x k)) t (Stands (Punctuation Open) t.place, (is, refl), simp append_assoc)
 
-    go : (o : Option (List ℕ)) → word_of t.token ≡ o → Adds (step_expr 100 x k t o) (so_far (BeforeExpr x k)) t
+    go : (o : Option (List ℕ)) → word_of t.token ≡ o → Adds (step_expr MAX_OPEN x k t o) (so_far (BeforeExpr x k)) t
     go (Some w) e = (spelled_word (spot w t.place), (word-is t.token w e, refl), simp append_assoc)
     go None e = adds-punct Open t _ _ (so_far (BeforeExpr x k)) bracket (wildcard (wildcard_at t.token t.place) refl)
 

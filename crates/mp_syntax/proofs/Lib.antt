@@ -8,8 +8,8 @@ pub mod Ends
 mod Examples
 pub mod Fit
 pub mod Found
-pub mod Fronts
 pub mod Fuel
+pub mod ListLaws
 pub mod Longest
 pub mod Names
 pub mod Printed

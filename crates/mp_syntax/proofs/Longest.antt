@@ -4,7 +4,7 @@ use Rattle.std.specs.Prelude.{◌⊎◌, ◌||◌, ◌≢◌, ◌==◌}
 use Rattle.std.specs.List.{prefix_len, list_all}
 use Rattle.std.proofs.lemmas.Bool.{eqb-true, and_parts, not-true}
 use Rattle.std.proofs.lemmas.Bool.Decides.{leb_tells}
-use Rattle.std.proofs.lemmas.List.{take_at, drop_at}
+use Rattle.std.proofs.lemmas.List.{take_at, drop_at, nil_from_length}
 use Rattle.std.proofs.lemmas.List.Folds.{length-prefix_len}
 use Rattle.std.proofs.lemmas.List.Sums.{prefix_len-le-length}
 use Rattle.mp_syntax.specs.declared.token.Punct.{Punct}
@@ -12,7 +12,7 @@ use Rattle.mp_syntax.specs.declared.token.Punct.TheVariants.{Open, Close, OpenSq
 use Rattle.mp_syntax.specs.Tokens.{Token, Word, Wildcard, Sign, Arrow, Punctuation, Long, Bad, End, byte_of, is_word_byte, sign_bytes, is_sign_byte, AreWordBytes, underscores, IsWord, IsWildcard, IsSign}
 use Rattle.mp_syntax.specs.Lexing.{run_at, with_underscores, word_or_wildcard_at, sign_at, punct_at, least, is_underscore}
 use Rattle.mp_syntax.proofs.Fuel.{front-positive}
-use Rattle.mp_syntax.proofs.Fronts.{prefix_len-pass, list_all-front, take-add, take-past, empty-length, one-passes}
+use Rattle.mp_syntax.proofs.ListLaws.{prefix_len-pass, list_all-front, take-add, take-past, one-passes}
 
 -- the texts of a run, where words have any length and the arrow is a sign
 abbrev pub IsRun : List ℕ → Token → Type 0
@@ -366,4 +366,4 @@ run_at-is_longest bytes more after t e h =
     let text = take n bytes in
     let whole : (text ++ more) ++ after ≡ bytes = append_assoc text more after ∙ ap (λ l. text ++ l) (sym e) ∙ take-append-drop n bytes in
     let enough : length (text ++ more) ≤ n = subst (λ l. length (text ++ more) ≤ (run_at l).1) whole (takes (text ++ more) after t h).enough in
-    empty-length more (omega (arith, enough, length-append text more, length-take-le n bytes (run_at-within bytes).0))
+    nil_from_length more (omega (arith, enough, length-append text more, length-take-le n bytes (run_at-within bytes).0))

@@ -1,6 +1,7 @@
 -- The words and signs of what is read are those of tokens: 1 to 64 letters and digits, and sign bytes but the arrow.
 use Rattle.std.proofs.Common.{ℕ, zero, suc, List, [], ◌∷◌, ◌++◌, Option, Some, None, map, subst, take, sym, ◌≡◌}
 use Rattle.std.specs.List.{flat_map}
+use Rattle.mp_syntax.specs.declared.limits.TheConstants.{MAX_OPEN}
 use Rattle.mp_syntax.specs.declared.place.Place.{Place}
 use Rattle.mp_syntax.specs.Tokens as tokens
 use Rattle.mp_syntax.specs.Tokens.{Token, Word, Sign, Placed, Spells, place_after, Tokens}
@@ -158,8 +159,8 @@ mutual
       (literals-names room [] a fits.1 r.0, alternatives-names room _ c fits.2 r.1)
 
 -- a condition that is spelled by tokens with texts has names
-pub condition-names : (c : Condition) → FitsCondition 100 c → ExpectTexts (spell_condition c) → ConditionHasNames c
-condition-names c fits h = alternatives-names 100 [] c fits.1 h
+pub condition-names : (c : Condition) → FitsCondition MAX_OPEN c → ExpectTexts (spell_condition c) → ConditionHasNames c
+condition-names c fits h = alternatives-names MAX_OPEN [] c fits.1 h
 
 if-names : (o : Option Condition) → FitsIf o → ExpectTexts (spell_if o) → IfHasNames o
 if-names None fits h = tt
@@ -174,8 +175,8 @@ statement-names (OpOf name least more flags) fits h =
 statement-names (KindOf name members) fits h = (word-name name.text h.1.0, members-names members h.1.1.1)
 statement-names (RuleOf name e o) fits h =
     let r = texts-append (spell e) (spell_if o ++ semicolon ∷ []) h.1.1.1 in
-    (word-name name.text h.1.0, tree-names e 100 fits.0 r.0, if-names o fits.1 (texts-append (spell_if o) _ r.1).0)
-statement-names (SubjectOf name e) fits h = (word-name name.text h.1.0, tree-names e 100 fits (texts-append (spell e) _ h.1.1.1).0)
+    (word-name name.text h.1.0, tree-names e MAX_OPEN fits.0 r.0, if-names o fits.1 (texts-append (spell_if o) _ r.1).0)
+statement-names (SubjectOf name e) fits h = (word-name name.text h.1.0, tree-names e MAX_OPEN fits (texts-append (spell e) _ h.1.1.1).0)
 
 -- statements that are spelled by tokens with texts have names
 pub file-names : (file : List Statement) → AreStatements file → ExpectTexts (spell_file file) → StatementsHaveNames file

@@ -1,7 +1,8 @@
 -- Steps of the machine, and runs over one token.
-use Rattle.std.proofs.Common.{◌≡◌, ℕ, suc, ◌+◌, ◌<◌, true, false, cond, List, [], ◌∷◌, ◌++◌, length, Some, None, Result, refl, ap, ◌∙◌, arith}
-use Rattle.std.specs.Prelude.{◌&&◌}
+use Rattle.std.proofs.Common.{◌≡◌, ℕ, suc, ◌<◌, true, false, cond, List, [], ◌∷◌, ◌++◌, length, Some, None, Result, Ok, Err, refl, ap, sym, subst, ◌∙◌, arith}
+use Rattle.std.specs.Prelude.{◌&&◌, IsErrAnd}
 use Rattle.std.proofs.lemmas.Bool.{lt-leb, and_parts}
+use Rattle.mp_syntax.specs.declared.limits.TheConstants.{MAX_OPEN}
 use Rattle.mp_syntax.specs.declared.place.Place.{Place}
 use Rattle.mp_syntax.specs.declared.token.Punct.{Punct}
 use Rattle.mp_syntax.specs.declared.token.Punct.TheVariants.{Open, Close, Comma, Colon, Semicolon, Dollar}
@@ -13,8 +14,8 @@ use Rattle.mp_syntax.specs.Tokens as tokens
 use Rattle.mp_syntax.specs.Tokens.{Token, Word, Sign, Arrow, Punctuation, Long, Bad, End, Placed}
 use Rattle.mp_syntax.specs.Lexing.{behind}
 use Rattle.mp_syntax.specs.Syntax.{Spot, Wildcard, Tree, Apply, InfixOf, Symbol, Wild, Optional, Variable, more_trees, trees, HasNoDefault, KindOf, Statement}
-use Rattle.mp_syntax.specs.Machine.{State, Step, Go, Emit, Refuse, Within, Parsed, Frame, Arguments, Bracket, Operands, Default, open_count, BeforeMember, AfterMember, BeforeExpr, AfterWord, AfterOpen, AfterWildcard, AfterExpr, AfterDollar, is_punct, is_sign, word_of, wildcard_at, is_dot, with_default, refuse, on_punct, on_word, step, step_open, step_wildcard, step_expr, step_behind, run}
-use Rattle.mp_syntax.specs.Parsing.{onward, WantsPunct, Fails, within_defaults}
+use Rattle.mp_syntax.specs.Machine.{spot, State, Step, Go, Emit, Refuse, Within, Parsed, Frame, Arguments, Bracket, Operands, Default, open_count, BeforeMember, AfterMember, BeforeExpr, AfterWord, AfterOpen, AfterWildcard, AfterExpr, AfterDollar, is_punct, is_sign, word_of, wildcard_at, is_dot, with_default, refuse, on_punct, on_word, step, step_open, step_wildcard, step_expr, step_behind, run}
+use Rattle.mp_syntax.specs.Parsing.{onward, WantsPunct, Fails, Reading, Passes, HasRoom, within_defaults}
 
 -- behind a punctuation character lie the other tokens
 pub behind-punct : (p : Punct) (t : Token) (ts : List Placed) → is_punct p t ≡ true → behind t ts ≡ ts
@@ -73,9 +74,21 @@ pub fails-along : (e : SyntaxError) (a b : Result Parsed Fault) → a ≡ b → 
 fails-along errors.Memory a b p h = tt
 fails-along (errors.Fault f) a b p h = p ∙ h
 
+-- what is passed from a later state on is passed from the one that leads to it
+pub passes-along : {A : Type 0} (from mid : Reading) (to : A → Reading) (r : Result A SyntaxError) (old here new : List Placed)
+    → from old ≡ mid here → Passes mid to r here new → Passes from to r old new
+passes-along from mid to (Ok a) old here new e h = e ∙ h
+passes-along from mid to (Err f) old here new e h = fails-along f _ _ e h
+
+-- a `?` hands on a fault that is the one that is read
+pub breaks : {A : Type 0} (from : Reading) (to : A → Reading) (r : Result A SyntaxError) (e : SyntaxError) (read : Result Parsed Fault) (old new : List Placed)
+    → IsErrAnd r (λ f. f ≡ e) → from old ≡ read → Fails e read → Passes from to r old new
+breaks from to (Ok a) e read old new h p q = absurd h
+breaks from to (Err f) e read old new h p q = subst (λ g. Fails g (from old)) (sym h) (fails-along e (from old) read p q)
+
 -- the bracket of an application, where there is room
-pub word-opens : (x : Within) (k : List Frame) (w : Spot) (t : Placed) (room : ℕ) → open_count k + room ≡ 100 → 0 < room → is_punct Open t.token ≡ true → step (AfterWord x k w) t ≡ Go (AfterOpen x k w)
-word-opens x k w t room len some e = rw (e, lt-leb 100 (open_count k) (omega (arith, len, some))) refl
+pub word-opens : (x : Within) (k : List Frame) (w : Spot) (t : Placed) (room : ℕ) → HasRoom k room → 0 < room → is_punct Open t.token ≡ true → step (AfterWord x k w) t ≡ Go (AfterOpen x k w)
+word-opens x k w t room len some e = rw (e, lt-leb MAX_OPEN (open_count k) (omega (arith, len, some))) refl
 
 -- an application without arguments
 pub open-closes : (x : Within) (k : List Frame) (w : Spot) (t : Placed) → is_punct Close t.token ≡ true → step (AfterOpen x k w) t ≡ Go (AfterExpr x k (Apply w (trees [])))
@@ -83,7 +96,17 @@ open-closes x k w t e = rw e refl
 
 -- an application that is not closed at once has an argument
 pub open-expr : (done : List Statement) (x : Within) (k : List Frame) (w : Spot) (t : Placed) (ts : List Placed) → is_punct Close t.token ≡ false → run done (AfterOpen x k w) (t ∷ ts) ≡ run done (BeforeExpr x (Arguments w [] ∷ k)) (t ∷ ts)
-open-expr done x k w t ts e = ap (λ b. onward t.place done (cond b (Go (AfterExpr x k (Apply w (trees [])))) (step_expr 100 x (Arguments w [] ∷ k) t (word_of t.token))) ts) e
+open-expr done x k w t ts e = ap (λ b. onward t.place done (cond b (Go (AfterExpr x k (Apply w (trees [])))) (step_expr MAX_OPEN x (Arguments w [] ∷ k) t (word_of t.token))) ts) e
+
+-- a word begins an expression
+pub word-begins : (done : List Statement) (x : Within) (k : List Frame) (t : Placed) (w : List ℕ) (old new : List Placed)
+    → old ≡ t ∷ behind t.token new → t.token ≡ Word w → run done (BeforeExpr x k) old ≡ run done (AfterWord x k (spot w t.place)) new
+word-begins done x k t w old new e h = ap (run done (BeforeExpr x k)) e ∙ (λ i. run done (BeforeExpr x k) (record { token = h i; place = t.place } ∷ behind (h i) new))
+
+-- the `$` begins a variable
+pub dollar-begins : (done : List Statement) (x : Within) (k : List Frame) (t : Placed) (old new : List Placed)
+    → old ≡ t ∷ behind t.token new → t.token ≡ Punctuation Dollar → run done (BeforeExpr x k) old ≡ run done (AfterDollar x k t.place) new
+dollar-begins done x k t old new e h = ap (run done (BeforeExpr x k)) e ∙ (λ i. run done (BeforeExpr x k) (record { token = h i; place = t.place } ∷ behind (h i) new))
 
 -- a bracket is no word
 pub bracket-no_word : (t : Token) → is_punct Open t ≡ true → word_of t ≡ None
@@ -101,18 +124,18 @@ no_word (tokens.Wildcard name marks kind) place w h = refl
 no_word _ place w h = absurd cc
 
 -- the bracket of an infix expression
-pub bracket-step : (x : Within) (k : List Frame) (t : Placed) → is_punct Open t.token ≡ true → step (BeforeExpr x k) t ≡ step_open 100 k (BeforeExpr x (Bracket t.place ∷ k))
-bracket-step x k t e = ap (step_expr 100 x k t) (bracket-no_word t.token e) ∙ ap (λ b. cond b (step_open 100 k (BeforeExpr x (Bracket t.place ∷ k))) (step_wildcard x k t (wildcard_at t.token t.place))) e
+pub bracket-step : (x : Within) (k : List Frame) (t : Placed) → is_punct Open t.token ≡ true → step (BeforeExpr x k) t ≡ step_open MAX_OPEN k (BeforeExpr x (Bracket t.place ∷ k))
+bracket-step x k t e = ap (step_expr MAX_OPEN x k t) (bracket-no_word t.token e) ∙ ap (λ b. cond b (step_open MAX_OPEN k (BeforeExpr x (Bracket t.place ∷ k))) (step_wildcard x k t (wildcard_at t.token t.place))) e
 
 -- the same where there is room
-pub bracket-opens : (x : Within) (k : List Frame) (t : Placed) (room : ℕ) → open_count k + room ≡ 100 → 0 < room → is_punct Open t.token ≡ true → step (BeforeExpr x k) t ≡ Go (BeforeExpr x (Bracket t.place ∷ k))
-bracket-opens x k t room len some e = bracket-step x k t e ∙ ap (λ b. cond b (Refuse TooDeep) (Go (BeforeExpr x (Bracket t.place ∷ k)))) (lt-leb 100 (open_count k) (omega (arith, len, some)))
+pub bracket-opens : (x : Within) (k : List Frame) (t : Placed) (room : ℕ) → HasRoom k room → 0 < room → is_punct Open t.token ≡ true → step (BeforeExpr x k) t ≡ Go (BeforeExpr x (Bracket t.place ∷ k))
+bracket-opens x k t room len some e = bracket-step x k t e ∙ ap (λ b. cond b (Refuse TooDeep) (Go (BeforeExpr x (Bracket t.place ∷ k)))) (lt-leb MAX_OPEN (open_count k) (omega (arith, len, some)))
 
 -- a wildcard leads to what may stand behind it
 pub wildcard-step : (x : Within) (k : List Frame) (t : Placed) (w : Wildcard) → wildcard_at t.token t.place ≡ Some w → step (BeforeExpr x k) t ≡ Go (AfterWildcard x k w)
 wildcard-step x k t w e =
-    ap (step_expr 100 x k t) (no_word t.token t.place w e)
-    ∙ ap (λ b. cond b (step_open 100 k (BeforeExpr x (Bracket t.place ∷ k))) (step_wildcard x k t (wildcard_at t.token t.place))) (no_bracket t.token t.place w e)
+    ap (step_expr MAX_OPEN x k t) (no_word t.token t.place w e)
+    ∙ ap (λ b. cond b (step_open MAX_OPEN k (BeforeExpr x (Bracket t.place ∷ k))) (step_wildcard x k t (wildcard_at t.token t.place))) (no_bracket t.token t.place w e)
     ∙ ap (step_wildcard x k t) e
 
 -- a colon behind a wildcard with one underscore and no kind leads to its default
@@ -164,7 +187,7 @@ within_defaults-push (v ∷ ws) w k = within_defaults-push ws w (Default v ∷ k
 
 -- the `$` of a variable
 pub dollar-step : (x : Within) (k : List Frame) (t : Placed) → t.token ≡ Punctuation Dollar → step (BeforeExpr x k) t ≡ Go (AfterDollar x k t.place)
-dollar-step x k t h = ap (λ u. step_expr 100 x k (record { token = u; place = t.place }) (word_of u)) h
+dollar-step x k t h = ap (λ u. step_expr MAX_OPEN x k (record { token = u; place = t.place }) (word_of u)) h
 
 -- behind a member of a kind, where no semicolon follows, there is another member
 pub member-again : (done : List Statement) (name : Spot) (members : List Spot) (t : Placed) (ts : List Placed) → is_punct Semicolon t.token ≡ false → run done (AfterMember name members) (t ∷ ts) ≡ run done (BeforeMember name members) (t ∷ ts)

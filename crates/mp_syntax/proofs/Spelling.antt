@@ -4,6 +4,7 @@ use Rattle.std.specs.Prelude.{◌⊎◌, ◌&&◌, codes}
 use Rattle.std.specs.Str.{bytes_eq}
 use Rattle.std.proofs.lemmas.Bool.{le-leb, leb-true, leb-false, lt-leb}
 use Rattle.std.proofs.lemmas.Slice.Eq.{bytes_eq-Decides}
+use Rattle.mp_syntax.specs.declared.limits.TheConstants.{MAX_WORD_BYTES}
 use Rattle.mp_syntax.specs.Tokens.{Token, Word, Wildcard, Sign, Arrow, Punctuation, Long, Bad, End, IsWord, Spells, IsLongest}
 use Rattle.mp_syntax.specs.Lexing.{run_at, kind_at, settled}
 use Rattle.mp_syntax.proofs.Longest.{IsRun, IsToken, run_at-run, run_at-within, run-some, run_at-longest, run_at-is_longest}
@@ -24,8 +25,8 @@ settled-long-kind false b e t = refl
 
 -- a text of a token is a run that settles as it
 pub spells-settles : (text : List ℕ) (t : Token) → Spells text t → Settles text t
-spells-settles text (Word w) h = record { run = Word w; is_run = (h.0, h.1); is = rw (le-leb (length w) 64 h.2) refl }
-spells-settles text (Wildcard name marks kind) h = record { run = Wildcard name marks kind; is_run = h.0; is = rw (le-leb (length name) 64 h.1, le-leb (length kind) 64 h.2) refl }
+spells-settles text (Word w) h = record { run = Word w; is_run = (h.0, h.1); is = rw (le-leb (length w) MAX_WORD_BYTES h.2) refl }
+spells-settles text (Wildcard name marks kind) h = record { run = Wildcard name marks kind; is_run = h.0; is = rw (le-leb (length name) MAX_WORD_BYTES h.1, le-leb (length kind) MAX_WORD_BYTES h.2) refl }
 spells-settles text (Sign s) h = record { run = Sign s; is_run = (h.0, h.1); is = go (bytes_eq s (codes "->")) refl }
   where
     go : (v : Bool) → bytes_eq s (codes "->") ≡ v → Sign s ≡ cond v Arrow (Sign s)
@@ -33,28 +34,28 @@ spells-settles text (Sign s) h = record { run = Sign s; is_run = (h.0, h.1); is 
     go false e = refl
 spells-settles text Arrow h = record { run = Sign (codes "->"); is_run = (h, record { some = λ e. absurd cc; bytes = refl }); is = refl }
 spells-settles text (Punctuation p) h = record { run = Punctuation p; is_run = h; is = refl }
-spells-settles text Long (inl h) = record { run = Word text; is_run = (refl, h.0); is = rw (lt-leb (length text) 64 h.1) refl }
+spells-settles text Long (inl h) = record { run = Word text; is_run = (refl, h.0); is = rw (lt-leb (length text) MAX_WORD_BYTES h.1) refl }
 spells-settles text Long (inr h) = record { run = Wildcard h.name h.marks h.kind; is_run = h.wildcard; is = go h.long }
   where
-    go : (64 < length h.name) ⊎ (64 < length h.kind) → Long ≡ settled (Wildcard h.name h.marks h.kind)
-    go (inl e) = settled-long-name (leb (length h.name) 64) (leb (length h.kind) 64) (lt-leb (length h.name) 64 e) (Wildcard h.name h.marks h.kind)
-    go (inr e) = settled-long-kind (leb (length h.name) 64) (leb (length h.kind) 64) (lt-leb (length h.kind) 64 e) (Wildcard h.name h.marks h.kind)
+    go : (MAX_WORD_BYTES < length h.name) ⊎ (MAX_WORD_BYTES < length h.kind) → Long ≡ settled (Wildcard h.name h.marks h.kind)
+    go (inl e) = settled-long-name (leb (length h.name) MAX_WORD_BYTES) (leb (length h.kind) MAX_WORD_BYTES) (lt-leb (length h.name) MAX_WORD_BYTES e) (Wildcard h.name h.marks h.kind)
+    go (inr e) = settled-long-kind (leb (length h.name) MAX_WORD_BYTES) (leb (length h.kind) MAX_WORD_BYTES) (lt-leb (length h.kind) MAX_WORD_BYTES e) (Wildcard h.name h.marks h.kind)
 spells-settles text Bad h = absurd h
 spells-settles text End h = absurd h
 
 -- a run is a text of what it settles as
 pub run-spells : (text : List ℕ) (t : Token) → IsRun text t → Spells text (settled t)
-run-spells text (Word w) h = go (leb (length w) 64) refl
+run-spells text (Word w) h = go (leb (length w) MAX_WORD_BYTES) refl
   where
-    go : (v : Bool) → leb (length w) 64 ≡ v → Spells text (cond v (Word w) Long)
-    go true e = (h.0, h.1, leb-true (length w) 64 e)
-    go false e = inl (subst (λ l. IsWord l × (64 < length l)) (sym h.0) (h.1, leb-false (length w) 64 e))
-run-spells text (Wildcard name marks kind) h = go (leb (length name) 64) (leb (length kind) 64) refl refl
+    go : (v : Bool) → leb (length w) MAX_WORD_BYTES ≡ v → Spells text (cond v (Word w) Long)
+    go true e = (h.0, h.1, leb-true (length w) MAX_WORD_BYTES e)
+    go false e = inl (subst (λ l. IsWord l × (MAX_WORD_BYTES < length l)) (sym h.0) (h.1, leb-false (length w) MAX_WORD_BYTES e))
+run-spells text (Wildcard name marks kind) h = go (leb (length name) MAX_WORD_BYTES) (leb (length kind) MAX_WORD_BYTES) refl refl
   where
-    go : (v w : Bool) → leb (length name) 64 ≡ v → leb (length kind) 64 ≡ w → Spells text (cond (v && w) (Wildcard name marks kind) Long)
-    go true true e f = (h, leb-true (length name) 64 e, leb-true (length kind) 64 f)
-    go true false e f = inr (record { name = name; marks = marks; kind = kind; wildcard = h; long = inr (leb-false (length kind) 64 f) })
-    go false w e f = inr (record { name = name; marks = marks; kind = kind; wildcard = h; long = inl (leb-false (length name) 64 e) })
+    go : (v w : Bool) → leb (length name) MAX_WORD_BYTES ≡ v → leb (length kind) MAX_WORD_BYTES ≡ w → Spells text (cond (v && w) (Wildcard name marks kind) Long)
+    go true true e f = (h, leb-true (length name) MAX_WORD_BYTES e, leb-true (length kind) MAX_WORD_BYTES f)
+    go true false e f = inr (record { name = name; marks = marks; kind = kind; wildcard = h; long = inr (leb-false (length kind) MAX_WORD_BYTES f) })
+    go false w e f = inr (record { name = name; marks = marks; kind = kind; wildcard = h; long = inl (leb-false (length name) MAX_WORD_BYTES e) })
 run-spells text (Sign s) h = go (bytes_eq s (codes "->")) refl
   where
     go : (v : Bool) → bytes_eq s (codes "->") ≡ v → Spells text (cond v Arrow (Sign s))

@@ -3,13 +3,13 @@ use Rattle.std.proofs.Common.{◌≡◌, ℕ, zero, suc, ◌+◌, ◌<◌, Bool,
 use Rattle.std.specs.Prelude.{◌⊎◌, ◌||◌, ◌==◌}
 use Rattle.std.specs.List.{list_all}
 use Rattle.std.proofs.lemmas.Bool.{eqb-true, eq-eqb, and_parts}
-use Rattle.std.proofs.lemmas.List.{drop_at}
+use Rattle.std.proofs.lemmas.List.{drop_at, nil_from_length}
 use Rattle.mp_syntax.specs.declared.place.Place.{Place}
 use Rattle.mp_syntax.specs.declared.token.Punct.{Punct}
 use Rattle.mp_syntax.specs.declared.token.Punct.TheVariants.{Open, Close, OpenSquare, CloseSquare, OpenBrace, CloseBrace, Comma, Semicolon, Colon, Dot, Dollar}
 use Rattle.mp_syntax.specs.Tokens.{Token, Word, Wildcard, Sign, Arrow, Punctuation, Long, Bad, End, Placed, byte_of, is_blank, is_word_byte, sign_bytes, is_sign_byte, AreWordBytes, underscores, Spells, Passes, after_byte, place_after, First, Tokens}
 use Rattle.mp_syntax.specs.Lexing.{token_at, behind, lexemes, after_blanks, run_at, kind_at, settled, is_underscore, with_underscores, word_or_wildcard_at, sign_at, punct_at}
-use Rattle.mp_syntax.proofs.Fronts.{empty-length, one-passes}
+use Rattle.mp_syntax.proofs.ListLaws.{one-passes}
 use Rattle.mp_syntax.proofs.Longest.{IsRun, IsToken}
 use Rattle.mp_syntax.proofs.Spelling.{spells-settles, spells-token, spells-some, kind_at-longest, kind_at-is_longest, kind_at-spells, kind_at-within}
 use Rattle.mp_syntax.proofs.Fuel.{lexemes-step, lexemes-next}
@@ -296,7 +296,7 @@ lexemes-tokens [] bytes place p h e =
     let r = blanks-passed bytes false place in
     let ends : (token_at bytes place).0.token ≡ End = ap (λ (t : Placed). t.token) (head-is _ _ _ _ (sym (lexemes-step bytes place) ∙ e)) in
     let none : length (after_blanks false bytes place).0 ≡ 0 = at-end (after_blanks false bytes place).0 ends in
-    (r.inside, subst (λ l. Passes false l r.inside) (sym (r.parts ∙ ap (λ l. r.gap ++ l) (empty-length _ none) ∙ append-nil r.gap)) r.passes)
+    (r.inside, subst (λ l. Passes false l r.inside) (sym (r.parts ∙ ap (λ l. r.gap ++ l) (nil_from_length _ none) ∙ append-nil r.gap)) r.passes)
 lexemes-tokens (t ∷ ts) bytes place p h e =
     let next = token_at bytes place in
     let step = sym (lexemes-step bytes place) ∙ e in

@@ -2,6 +2,7 @@
 use Rattle.std.proofs.Common.{◌≡◌, ℕ, zero, suc, ◌<◌, ◌≤◌, Bool, true, false, cond, List, [], ◌∷◌, ◌++◌, length, refl, sym, ap, subst, ◌∙◌, arith, length-append, leb, inl, inr}
 use Rattle.std.specs.Prelude.{◌⊎◌, ◌&&◌, ◌==◌, codes}
 use Rattle.std.specs.Str.{bytes_eq}
+use Rattle.mp_syntax.specs.declared.limits.TheConstants.{MAX_WORD_BYTES}
 use Rattle.mp_syntax.specs.declared.place.Place.{Place}
 use Rattle.mp_syntax.specs.Tokens.{Token, Word, Wildcard, Sign, Arrow, Punctuation, Long, Bad, End, Placed, is_blank, Spells, Passes, after_byte, Tokens, BeginsNoToken, TokensUntil, StopsEarly}
 use Rattle.mp_syntax.specs.Lexing.{token_at, behind, lexemes, after_blanks, run_at, kind_at, settled}
@@ -42,12 +43,12 @@ after_blanks-starts (b ∷ bytes) false place = go (b == 35) (is_blank b) refl r
 
 -- a token settles as one
 settled-token : (t : Token) → IsToken t → IsToken (settled t)
-settled-token (Word w) h = go (leb (length w) 64)
+settled-token (Word w) h = go (leb (length w) MAX_WORD_BYTES)
   where
     go : (v : Bool) → IsToken (cond v (Word w) Long)
     go true = tt
     go false = tt
-settled-token (Wildcard name marks kind) h = go (leb (length name) 64 && leb (length kind) 64)
+settled-token (Wildcard name marks kind) h = go (leb (length name) MAX_WORD_BYTES && leb (length kind) MAX_WORD_BYTES)
   where
     go : (v : Bool) → IsToken (cond v (Wildcard name marks kind) Long)
     go true = tt

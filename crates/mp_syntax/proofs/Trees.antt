@@ -3,6 +3,7 @@ use Rattle.std.proofs.Common.{◌≡◌, ℕ, zero, suc, true, List, [], ◌∷�
 use Rattle.std.specs.Prelude.{◌&&◌, ◌==◌}
 use Rattle.std.proofs.lemmas.Bool.{and_parts, eqb-true}
 use mathlib.Core.Former.{Count}
+use Rattle.std.proofs.lemmas.List.{nil_from_length}
 use Rattle.mp_syntax.specs.declared.place.Place.{Place}
 use Rattle.mp_syntax.specs.declared.word.Word as code_word
 use Rattle.mp_syntax.specs.declared.word.InfixSign as code_sign
@@ -11,7 +12,6 @@ use Rattle.mp_syntax.specs.declared.tree.Expr.{Expr, Apply', Infix, Infix', Row_
 use Rattle.mp_syntax.specs.Syntax as syntax
 use Rattle.mp_syntax.specs.Syntax.{Spot, Wildcard, Tree, Symbol, Apply, InfixOf, Wild, Optional, Variable, Trees, trees, tree_list, no_trees, more_trees, IsDot, AreDots, HasNoDefault, Fits, spell, spell_with_colon}
 use Rattle.mp_syntax.specs.Machine.{is_dot, with_default}
-use Rattle.mp_syntax.proofs.Fronts.{empty-length}
 use Rattle.mp_syntax.specs.View.{spot_of, spot_of_sign, expr_tree, row_trees}
 
 -- the trees of the list of trees
@@ -49,7 +49,7 @@ expr_tree-Infix place sign v =
 pub is_dot-true : (w : Wildcard) → is_dot w ≡ true → IsDot w
 is_dot-true w h =
     let p = and_parts (w.marks == 1) (length w.kind == 0) h in
-    record { one_mark = eqb-true w.marks 1 p.0; no_kind = empty-length w.kind (eqb-true (length w.kind) 0 p.1) }
+    record { one_mark = eqb-true w.marks 1 p.0; no_kind = nil_from_length w.kind (eqb-true (length w.kind) 0 p.1) }
 
 pub true-is_dot : (w : Wildcard) → IsDot w → is_dot w ≡ true
 true-is_dot w h = ap (λ n. (n == 1) && (length w.kind == 0)) h.one_mark ∙ ap (λ (l : List ℕ). length l == 0) h.no_kind

@@ -2,6 +2,7 @@
 use Rattle.std.proofs.Common.{◌≡◌, ℕ, Bool, true, false, List, [], ◌∷◌, ◌++◌, map, Option, Some, None, Result, Ok, Err, Vec, Global, append-nil, refl, sym, ap, subst, ◌∙◌}
 use Rattle.std.specs.Prelude.{◌↔◌, IfOk, IfErr}
 use Rattle.std.specs.List.{flat_map}
+use Rattle.mp_syntax.specs.declared.limits.TheConstants.{MAX_OPEN}
 use Rattle.mp_syntax.specs.declared.place.Place.{Place}
 use Rattle.mp_syntax.specs.declared.fault.Fault.{Fault}
 use Rattle.mp_syntax.specs.declared.fault.SyntaxError.{SyntaxError}
@@ -286,7 +287,7 @@ syntax-names bytes file f = file-names file f.fits (match-texts f.tokens (spell_
 
 -- each word of the expression of bytes is one of at most 64 bytes
 pub expr-names : (bytes : List ℕ) (t : Tree) → IsExprOf bytes t → HasNames t
-expr-names bytes t f = tree-names t 100 f.fits (match-texts f.tokens (spell t) f.spelled (tokens-texts f.tokens bytes first_place f.lie))
+expr-names bytes t f = tree-names t MAX_OPEN f.fits (match-texts f.tokens (spell t) f.spelled (tokens-texts f.tokens bytes first_place f.lie))
 
 -- each word of the condition of bytes is one of at most 64 bytes
 pub condition_bytes-names : (bytes : List ℕ) (c : Condition) → IsConditionOf bytes c → ConditionHasNames c

@@ -1,5 +1,5 @@
 -- What each function of the parser gives that reads conditions, as an equation between two runs of the machine.
-use Rattle.std.specs.Prelude.{◌≡◌, ℕ, ◌+◌, Bool, false, List, [], ◌∷◌, ◌++◌, Option, Some, None, Result, Ok, Err, codes}
+use Rattle.std.specs.Prelude.{◌≡◌, ℕ, Bool, false, List, [], ◌∷◌, ◌++◌, Option, Some, None, Result, Ok, Err, codes}
 use Rattle.mp_syntax.specs.declared.fault.Fault.{Fault}
 use Rattle.mp_syntax.specs.declared.fault.SyntaxError.{SyntaxError}
 use Rattle.mp_syntax.specs.declared.tree.Expr.{Expr}
@@ -15,8 +15,8 @@ use Rattle.mp_syntax.specs.declared.condition_tree.Condition as code
 use Rattle.mp_syntax.specs.Tokens.{Token, Placed}
 use Rattle.mp_syntax.specs.Syntax.{Spot, Tree, Amount, Measured, Bracketed, Literal, Literals, literals, condition, Statement}
 use Rattle.mp_syntax.specs.View.{expr_tree, amount_tree, atom_tree, literal_tree, alternative_tree, condition_tree}
-use Rattle.mp_syntax.specs.Machine.{State, OfRule, heading, Within, InStatement, InCondition, Frame, Operand, Level, no_level, all_alternatives, Site, site, Side, Lead, OfMeasure, OfRelation, OfProperty, with_atom, with_amount, open_count, BeforeLiteral, BeforeBody, BeforeOperand, AfterAmount, AfterSense, AfterLiteral, AfterExpr, SingleCondition, Parsed, parsed, is_word, on_word, step, step_amount, run}
-use Rattle.mp_syntax.specs.Parsing.{Fails}
+use Rattle.mp_syntax.specs.Machine.{State, OfRule, heading, Within, InStatement, InCondition, Frame, Operand, Level, no_level, all_alternatives, Site, site, Side, Lead, OfMeasure, OfRelation, OfProperty, with_atom, with_amount, BeforeLiteral, BeforeBody, BeforeOperand, AfterAmount, AfterSense, AfterLiteral, AfterExpr, SingleCondition, Parsed, parsed, is_word, on_word, step, step_amount, run}
+use Rattle.mp_syntax.specs.Parsing.{Fails, Passes, HasRoom, Gives}
 
 -- the token is no `and`
 abbrev pub EndsAlternative : Token → Type 0
@@ -33,8 +33,10 @@ EndsIf (Some c) t = EndsCondition t
 
 -- a condition is passed, with room brackets more to open, or the first fault is given
 abbrev pub ConditionGives : ℕ → Result code.Condition SyntaxError → List Placed → List Placed → Type 0
-ConditionGives room (Ok c) old new = (v : Level) × (l : Literal) × (condition (all_alternatives v l) ≡ condition_tree c) × ((done : List Statement) (x : Within) (k : List Frame) → open_count k + room ≡ 100 → run done (BeforeLiteral x k no_level) old ≡ run done (AfterLiteral x k v l) new)
-ConditionGives room (Err e) old new = (done : List Statement) (x : Within) (k : List Frame) → open_count k + room ≡ 100 → Fails e (run done (BeforeLiteral x k no_level) old)
+ConditionGives room (Ok c) old new = (v : Level) × (l : Literal) × (condition (all_alternatives v l) ≡ condition_tree c)
+    × ((done : List Statement) (x : Within) (k : List Frame) → HasRoom k room
+    → run done (BeforeLiteral x k no_level) old ≡ run done (AfterLiteral x k v l) new)
+ConditionGives room (Err e) old new = (done : List Statement) (x : Within) (k : List Frame) → HasRoom k room → Fails e (run done (BeforeLiteral x k no_level) old)
 
 -- in an alternative behind these, and behind these literals of it
 abbrev pub level : List Literals → List Literal → Level
@@ -42,27 +44,31 @@ level alternatives literals = record { alternatives = alternatives; literals = l
 
 -- the literals of an alternative are passed, or the first fault is given
 abbrev pub AlternativeGives : ℕ → Result code_alternative.Alternative SyntaxError → List Placed → List Placed → Type 0
-AlternativeGives room (Ok a) old new = (ls : List Literal) × (l : Literal) × (literals (ls ++ l ∷ []) ≡ alternative_tree a) × ((done : List Statement) (x : Within) (k : List Frame) (before : List Literals) → open_count k + room ≡ 100 → run done (BeforeLiteral x k (level before [])) old ≡ run done (AfterLiteral x k (level before ls) l) new)
-AlternativeGives room (Err e) old new = (done : List Statement) (x : Within) (k : List Frame) (before : List Literals) → open_count k + room ≡ 100 → Fails e (run done (BeforeLiteral x k (level before [])) old)
+AlternativeGives room (Ok a) old new = (ls : List Literal) × (l : Literal) × (literals (ls ++ l ∷ []) ≡ alternative_tree a)
+    × ((done : List Statement) (x : Within) (k : List Frame) (before : List Literals) → HasRoom k room
+    → run done (BeforeLiteral x k (level before [])) old ≡ run done (AfterLiteral x k (level before ls) l) new)
+AlternativeGives room (Err e) old new = (done : List Statement) (x : Within) (k : List Frame) (before : List Literals) → HasRoom k room
+    → Fails e (run done (BeforeLiteral x k (level before [])) old)
 
 -- a literal is passed, or the first fault is given
 abbrev pub LiteralGives : ℕ → Result code_literal.Literal SyntaxError → List Placed → List Placed → Type 0
-LiteralGives room (Ok l) old new = (done : List Statement) (x : Within) (k : List Frame) (v : Level) → open_count k + room ≡ 100 → run done (BeforeLiteral x k v) old ≡ run done (AfterLiteral x k v (literal_tree l)) new
-LiteralGives room (Err e) old new = (done : List Statement) (x : Within) (k : List Frame) (v : Level) → open_count k + room ≡ 100 → Fails e (run done (BeforeLiteral x k v) old)
+LiteralGives room result old new = (done : List Statement) (x : Within) (k : List Frame) (v : Level) → HasRoom k room
+    → Passes (run done (BeforeLiteral x k v)) (λ l. run done (AfterLiteral x k v (literal_tree l))) result old new
 
 -- `not` is passed, where it stands there
 abbrev pub NegationGives : Bool → List Placed → List Placed → Type 0
-NegationGives negated old new = (done : List Statement) (x : Within) (k : List Frame) (v : Level) → run done (BeforeLiteral x k v) old ≡ run done (BeforeBody x k (site v negated)) new
+NegationGives negated old new = (done : List Statement) (x : Within) (k : List Frame) (v : Level)
+    → run done (BeforeLiteral x k v) old ≡ run done (BeforeBody x k (site v negated)) new
 
 -- a condition in square brackets is passed, or the first fault is given
 abbrev pub BracketedGives : ℕ → Result code.Condition SyntaxError → List Placed → List Placed → Type 0
-BracketedGives room (Ok c) old new = (done : List Statement) (x : Within) (k : List Frame) (s : Site) → open_count k + room ≡ 100 → run done (BeforeBody x k s) old ≡ run done (AfterLiteral x k s.level (Bracketed s.negated (condition_tree c))) new
-BracketedGives room (Err e) old new = (done : List Statement) (x : Within) (k : List Frame) (s : Site) → open_count k + room ≡ 100 → Fails e (run done (BeforeBody x k s) old)
+BracketedGives room result old new = (done : List Statement) (x : Within) (k : List Frame) (s : Site) → HasRoom k room
+    → Passes (run done (BeforeBody x k s)) (λ c. run done (AfterLiteral x k s.level (Bracketed s.negated (condition_tree c)))) result old new
 
 -- from this state of a site on an atom is passed, or the first fault is given
 abbrev pub AtomFrom : (Within → List Frame → Site → State) → ℕ → Result code_atom.Atom SyntaxError → List Placed → List Placed → Type 0
-AtomFrom at room (Ok a) old new = (done : List Statement) (x : Within) (k : List Frame) (s : Site) → open_count k + room ≡ 100 → run done (at x k s) old ≡ run done (with_atom x k s (atom_tree a)) new
-AtomFrom at room (Err e) old new = (done : List Statement) (x : Within) (k : List Frame) (s : Site) → open_count k + room ≡ 100 → Fails e (run done (at x k s) old)
+AtomFrom at room result old new = (done : List Statement) (x : Within) (k : List Frame) (s : Site) → HasRoom k room
+    → Passes (run done (at x k s)) (λ a. run done (with_atom x k s (atom_tree a))) result old new
 
 -- an atom is passed, or the first fault is given
 abbrev pub AtomGives : ℕ → Result code_atom.Atom SyntaxError → List Placed → List Placed → Type 0
@@ -82,31 +88,33 @@ WantsAmount t at x k s side = step at t ≡ on_word t (λ w. step_amount x k s s
 
 -- an amount is passed, or the first fault is given
 abbrev pub AmountGives : ℕ → Placed → Result code_amount.Amount SyntaxError → List Placed → List Placed → Type 0
-AmountGives room t (Ok a) old new = (done : List Statement) (at : State) (x : Within) (k : List Frame) (s : Site) (side : Side) → WantsAmount t at x k s side → open_count k + room ≡ 100 → run done at old ≡ run done (with_amount x k s side (amount_tree a)) new
-AmountGives room t (Err e) old new = (done : List Statement) (at : State) (x : Within) (k : List Frame) (s : Site) (side : Side) → WantsAmount t at x k s side → open_count k + room ≡ 100 → Fails e (run done at old)
+AmountGives room t result old new = (done : List Statement) (at : State) (x : Within) (k : List Frame) (s : Site) (side : Side)
+    → WantsAmount t at x k s side → HasRoom k room
+    → Passes (run done at) (λ a. run done (with_amount x k s side (amount_tree a))) result old new
 
 -- the operand of a measure is passed in its brackets, or the first fault is given
 abbrev pub MeasureGives : ℕ → Result Expr SyntaxError → List Placed → List Placed → Type 0
-MeasureGives room (Ok e) old new = (done : List Statement) (x : Within) (k : List Frame) (s : Site) (side : Side) (m : Measure) → open_count k + room ≡ 100 → run done (BeforeOperand x k s (OfMeasure side m)) old ≡ run done (with_amount x k s side (Measured m (expr_tree e))) new
-MeasureGives room (Err e) old new = (done : List Statement) (x : Within) (k : List Frame) (s : Site) (side : Side) (m : Measure) → open_count k + room ≡ 100 → Fails e (run done (BeforeOperand x k s (OfMeasure side m)) old)
+MeasureGives room result old new = (done : List Statement) (x : Within) (k : List Frame) (s : Site) (side : Side) (m : Measure) → HasRoom k room
+    → Passes (run done (BeforeOperand x k s (OfMeasure side m))) (λ e. run done (with_amount x k s side (Measured m (expr_tree e)))) result old new
 
 -- an operand is passed behind the opening bracket, or the first fault is given
 abbrev pub OperandGives : ℕ → Result Expr SyntaxError → List Placed → List Placed → Type 0
-OperandGives room (Ok e) old new = (done : List Statement) (x : Within) (k : List Frame) (s : Site) (lead : Lead) → open_count k + room ≡ 100 → run done (BeforeOperand x k s lead) old ≡ run done (AfterExpr x (Operand s lead ∷ k) (expr_tree e)) new
-OperandGives room (Err e) old new = (done : List Statement) (x : Within) (k : List Frame) (s : Site) (lead : Lead) → open_count k + room ≡ 100 → Fails e (run done (BeforeOperand x k s lead) old)
+OperandGives room result old new = (done : List Statement) (x : Within) (k : List Frame) (s : Site) (lead : Lead) → HasRoom k room
+    → Passes (run done (BeforeOperand x k s lead)) (λ e. run done (AfterExpr x (Operand s lead ∷ k) (expr_tree e))) result old new
 
 -- the sign of a comparison is passed, or refused
 abbrev pub SenseGives : Result Sense SyntaxError → List Placed → List Placed → Type 0
-SenseGives (Ok sense) old new = (done : List Statement) (x : Within) (k : List Frame) (s : Site) (a : Amount) → run done (AfterAmount x k s a) old ≡ run done (AfterSense x k s a sense) new
-SenseGives (Err e) old new = (done : List Statement) (x : Within) (k : List Frame) (s : Site) (a : Amount) → Fails e (run done (AfterAmount x k s a) old)
+SenseGives result old new = (done : List Statement) (x : Within) (k : List Frame) (s : Site) (a : Amount)
+    → Passes (run done (AfterAmount x k s a)) (λ sense. run done (AfterSense x k s a sense)) result old new
 
 -- `if` and the condition of a rule are passed, where `if` stands there, or the first fault is given
 abbrev pub IfGives : Result (Option code.Condition) SyntaxError → List Placed → List Placed → Type 0
 IfGives (Ok None) old new = old ≡ new
-IfGives (Ok (Some c)) old new = (v : Level) × (l : Literal) × (condition (all_alternatives v l) ≡ condition_tree c) × ((done : List Statement) (name : Spot) (e : Tree) → run done (AfterExpr (InStatement (heading OfRule name)) [] e) old ≡ run done (AfterLiteral (InCondition name e) [] v l) new)
+IfGives (Ok (Some c)) old new = (v : Level) × (l : Literal) × (condition (all_alternatives v l) ≡ condition_tree c)
+    × ((done : List Statement) (name : Spot) (e : Tree)
+    → run done (AfterExpr (InStatement (heading OfRule name)) [] e) old ≡ run done (AfterLiteral (InCondition name e) [] v l) new)
 IfGives (Err err) old new = (done : List Statement) (name : Spot) (e : Tree) → Fails err (run done (AfterExpr (InStatement (heading OfRule name)) [] e) old)
 
 -- the condition is the one that is read alone, or the fault is the one that is read
 abbrev pub ConditionAloneGives : Result code.Condition SyntaxError → Result Parsed Fault → Type 0
-ConditionAloneGives (Ok c) read = read ≡ Ok (parsed [] (Some (SingleCondition (condition_tree c))))
-ConditionAloneGives (Err e) read = Fails e read
+ConditionAloneGives = Gives (λ c. parsed [] (Some (SingleCondition (condition_tree c))))

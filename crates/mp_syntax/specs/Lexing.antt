@@ -2,6 +2,7 @@
 use Rattle.std.specs.Prelude.{ℕ, zero, suc, ◌+◌, Bool, true, false, List, [], ◌∷◌, length, take, drop, ◌==◌, ◌||◌, ◌&&◌, nat_le, if◌then◌else◌, codes}
 use Rattle.std.specs.List.{prefix_len}
 use Rattle.std.specs.Str.{bytes_eq}
+use Rattle.mp_syntax.specs.declared.limits.TheConstants.{MAX_WORD_BYTES}
 use Rattle.mp_syntax.specs.declared.place.Place.{Place}
 use Rattle.mp_syntax.specs.declared.token.Punct.TheVariants.{Open, Close, OpenSquare, CloseSquare, OpenBrace, CloseBrace, Comma, Semicolon, Colon, Dot, Dollar}
 use Rattle.mp_syntax.specs.declared.token.Kind.{Kind}
@@ -74,8 +75,8 @@ run_at (b ∷ bytes) =
 
 -- the token of a run: `->` is the arrow, and a word of more than 64 bytes is too long
 abbrev pub settled : Token → Token
-settled (Word w) = if nat_le (length w) 64 then Word w else Long
-settled (Wildcard name marks kind) = if nat_le (length name) 64 && nat_le (length kind) 64 then Wildcard name marks kind else Long
+settled (Word w) = if nat_le (length w) MAX_WORD_BYTES then Word w else Long
+settled (Wildcard name marks kind) = if nat_le (length name) MAX_WORD_BYTES && nat_le (length kind) MAX_WORD_BYTES then Wildcard name marks kind else Long
 settled (Sign s) = if bytes_eq s (codes "->") then Arrow else Sign s
 settled t = t
 

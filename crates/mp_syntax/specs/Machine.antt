@@ -3,6 +3,7 @@ use Rattle.std.specs.Prelude.{ℕ, suc, Bool, true, false, ◌&&◌, ◌==◌, L
 use Rattle.std.specs.Str.{bytes_eq}
 use Rattle.std.specs.List.{list_all}
 use Rattle.std.specs.Char.{is_ascii_digit}
+use Rattle.mp_syntax.specs.declared.limits.TheConstants.{MAX_OPEN}
 use Rattle.mp_syntax.specs.declared.place.Place.{Place}
 use Rattle.mp_syntax.specs.declared.token.Punct.{Punct}
 use Rattle.mp_syntax.specs.declared.token.Punct.TheVariants.{Open, Close, OpenSquare, CloseSquare, OpenBrace, CloseBrace, Comma, Semicolon, Colon, Dot, Dollar}
@@ -488,7 +489,7 @@ step_in limit (AfterLiteral x k v l) t =
 
 -- what a token does, where at most 100 brackets may stand open
 abbrev pub step : State → Placed → Step
-step = step_in 100
+step = step_in MAX_OPEN
 
 -- ---- runs
 
@@ -520,4 +521,4 @@ run_in limit done at (t ∷ ts) = after_step done t.place (λ d a. run_in limit 
 
 -- the same, where at most 100 brackets may stand open
 abbrev pub run : List Statement → State → List Placed → Result Parsed Fault
-run = run_in 100
+run = run_in MAX_OPEN

@@ -2,6 +2,7 @@
 use Rattle.std.specs.Prelude.{◌≡◌, ◌≢◌, ◌<◌, ◌≤◌, Bool, true, false, ℕ, zero, suc, List, [], ◌∷◌, ◌++◌, Option, Some, None, map, codes}
 use Rattle.std.specs.Char.{is_ascii_digit}
 use Rattle.std.specs.List.{flat_map, list_all}
+use Rattle.mp_syntax.specs.declared.limits.TheConstants.{MAX_OPEN}
 use Rattle.mp_syntax.specs.declared.place.Place.{Place}
 use Rattle.mp_syntax.specs.declared.token.Punct.TheVariants.{Open, Close, OpenSquare, CloseSquare, Comma, Semicolon, Colon, Dollar}
 use Rattle.mp_syntax.specs.declared.condition_tree.Measure.{Measure}
@@ -378,14 +379,14 @@ FitsCondition room c = HasAlternative c × AlternativesFit room c
 -- the condition of a rule fits, where there is one
 abbrev pub FitsIf : Option Condition → Type 0
 FitsIf None = Unit {0}
-FitsIf (Some c) = FitsCondition 100 c
+FitsIf (Some c) = FitsCondition MAX_OPEN c
 
 -- the number of an operation is of digits alone, a kind has a member, and expressions and conditions have at most 100 brackets open at once
 abbrev pub FitsStatement : Statement → Type 0
 FitsStatement (OpOf name least more flags) = list_all is_ascii_digit least.text ≡ true
 FitsStatement (KindOf name members) = members ≢ []
-FitsStatement (RuleOf name t o) = Fits 100 t × FitsIf o
-FitsStatement (SubjectOf name t) = Fits 100 t
+FitsStatement (RuleOf name t o) = Fits MAX_OPEN t × FitsIf o
+FitsStatement (SubjectOf name t) = Fits MAX_OPEN t
 
 -- each statement fits
 abbrev pub AreStatements : List Statement → Type 0
@@ -503,14 +504,14 @@ pub record IsExprOf (bytes : List ℕ) (t : Tree) : Type 0 where
   pub tokens : List Placed
   pub lie : Tokens bytes first_place tokens
   pub spelled : AllMatch tokens (spell t)
-  pub fits : Fits 100 t
+  pub fits : Fits MAX_OPEN t
 
 -- the bytes are this condition: they have tokens, and these spell the condition, which fits
 pub record IsConditionOf (bytes : List ℕ) (c : Condition) : Type 0 where
   pub tokens : List Placed
   pub lie : Tokens bytes first_place tokens
   pub spelled : AllMatch tokens (spell_condition c)
-  pub fits : FitsCondition 100 c
+  pub fits : FitsCondition MAX_OPEN c
 
 -- the bytes are these statements: they have tokens, and these spell the statements, which fit
 pub record IsSyntaxOf (bytes : List ℕ) (file : List Statement) : Type 0 where

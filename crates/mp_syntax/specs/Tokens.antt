@@ -2,6 +2,7 @@
 use Rattle.std.specs.Prelude.{◌≡◌, ℕ, zero, suc, ◌+◌, ◌<◌, ◌≤◌, ◌≢◌, Bool, true, false, List, [], ◌∷◌, ◌++◌, length, ◌==◌, ◌||◌, if◌then◌else◌, ◌⊎◌, codes}
 use Rattle.std.specs.List.{list_all, list_any}
 use Rattle.std.specs.Char.{is_ascii_alphanumeric}
+use Rattle.mp_syntax.specs.declared.limits.TheConstants.{MAX_WORD_BYTES}
 use Rattle.mp_syntax.specs.declared.place.Place.{Place}
 use Rattle.mp_syntax.specs.declared.token.Punct.{Punct}
 use Rattle.mp_syntax.specs.declared.token.Punct.TheVariants.{Open, Close, OpenSquare, CloseSquare, OpenBrace, CloseBrace, Comma, Semicolon, Colon, Dot, Dollar}
@@ -74,7 +75,7 @@ pub record IsWord (text : List ℕ) : Type 0 where
 
 -- at most 64 bytes
 abbrev pub IsShort : List ℕ → Type 0
-IsShort word = length word ≤ 64
+IsShort word = length word ≤ MAX_WORD_BYTES
 
 -- perhaps a word, then one, two or three underscores, and behind a single one perhaps a word
 pub record IsWildcard (text name : List ℕ) (marks : ℕ) (kind : List ℕ) : Type 0 where
@@ -96,7 +97,7 @@ pub record IsLongWildcard (text : List ℕ) : Type 0 where
   pub marks : ℕ
   pub kind : List ℕ
   pub wildcard : IsWildcard text name marks kind
-  pub long : (64 < length name) ⊎ (64 < length kind)
+  pub long : (MAX_WORD_BYTES < length name) ⊎ (MAX_WORD_BYTES < length kind)
 
 -- the texts that are a token; no text is a bad byte or the end
 abbrev pub Spells : List ℕ → Token → Type 0
@@ -105,7 +106,7 @@ Spells text (Wildcard name marks kind) = IsWildcard text name marks kind × IsSh
 Spells text (Sign s) = (text ≡ s) × IsSign s × (s ≢ codes "->")
 Spells text Arrow = text ≡ codes "->"
 Spells text (Punctuation p) = text ≡ byte_of p ∷ []
-Spells text Long = (IsWord text × (64 < length text)) ⊎ IsLongWildcard text
+Spells text Long = (IsWord text × (MAX_WORD_BYTES < length text)) ⊎ IsLongWildcard text
 Spells text Bad = ⊥
 Spells text End = ⊥
 

@@ -10,9 +10,9 @@ ghost use Rattle.mp_syntax.specs.ConditionParsing.{AtomGives, RelationGives, Pro
 use crate::condition_tree::{Amount, Atom, Measure, Property, Relation, Sense};
 use crate::fault::{FaultKind, SyntaxError};
 use crate::parser::{Parser, is_number};
-use crate::word::Word;
 use crate::token::{Kind, Punct};
 use crate::tree::Expr;
+use crate::word::Word;
 use std::alloc::Global;
 
 impl<'a> Parser<'a> {
@@ -36,7 +36,7 @@ impl<'a> Parser<'a> {
         Ok(Atom::Compare(first, sense, second))
     }
 
-    /// The relation whose word is held.
+    // The relation whose word is held.
     fn sees_relation(&self) -> Option<Relation>
         ensures { result ≡ relation_held (token_of self.now.token.kind) }
     {
@@ -46,7 +46,7 @@ impl<'a> Parser<'a> {
         }
     }
 
-    /// The property whose word is held.
+    // The property whose word is held.
     fn sees_property(&self) -> Option<Property>
         ensures { result ≡ property_held (token_of self.now.token.kind) }
     {
@@ -56,7 +56,7 @@ impl<'a> Parser<'a> {
         }
     }
 
-    /// Reads two operands in brackets behind the word of this relation.
+    // Reads two operands in brackets behind the word of this relation.
     fn relation(
         &mut self,
         alloc: Global,
@@ -73,7 +73,7 @@ impl<'a> Parser<'a> {
         Ok(Atom::Relate(relation, first, second))
     }
 
-    /// Reads an operand and a name in brackets behind the word of this property.
+    // Reads an operand and a name in brackets behind the word of this property.
     fn property(
         &mut self,
         alloc: Global,
@@ -90,7 +90,7 @@ impl<'a> Parser<'a> {
         Ok(Atom::Test(property, operand, name))
     }
 
-    /// Reads an amount: a number, or the word of a measure and an operand in brackets.
+    // Reads an amount: a number, or the word of a measure and an operand in brackets.
     fn amount(&mut self, alloc: Global, room: usize) -> Result<Amount<'a>, SyntaxError>
         ensures read { AmountGives room (placed self.old.token) result (ahead self.old) (ahead self.new) }
         ensures shorter { OnOk result (length (ahead self.new) < length (ahead self.old)) }
@@ -111,7 +111,7 @@ impl<'a> Parser<'a> {
         Ok(Amount::Measured(measure, operand))
     }
 
-    /// Reads an operand in brackets behind the word of a measure.
+    // Reads an operand in brackets behind the word of a measure.
     fn measured(&mut self, alloc: Global, room: usize) -> Result<Expr<'a>, SyntaxError>
         ensures read { MeasureGives room result (ahead self.old) (ahead self.new) }
         ensures shorter { OnOk result (length (ahead self.new) ≤ length (ahead self.old)) }
@@ -121,7 +121,7 @@ impl<'a> Parser<'a> {
         Ok(operand)
     }
 
-    /// Reads the bracket behind the word of an atom, and the expression behind it.
+    // Reads the bracket behind the word of an atom, and the expression behind it.
     fn operand(&mut self, alloc: Global, room: usize) -> Result<Expr<'a>, SyntaxError>
         ensures read { OperandGives room result (ahead self.old) (ahead self.new) }
         ensures some { OnOk result (0 < room) }
@@ -137,7 +137,7 @@ impl<'a> Parser<'a> {
         self.expr(alloc, room - 1)
     }
 
-    /// Reads the sign of a comparison.
+    // Reads the sign of a comparison.
     fn sense(&mut self) -> Result<Sense, SyntaxError>
         ensures read { SenseGives result (ahead self.old) (ahead self.new) }
         ensures shorter { OnOk result (length (ahead self.new) < length (ahead self.old)) }
@@ -156,7 +156,7 @@ impl<'a> Parser<'a> {
     }
 }
 
-/// The relation of this word.
+// The relation of this word.
 fn relation_of(word: &[u8]) -> Option<Relation>
     ensures { result ≡ relation_of word.now }
 {
@@ -171,7 +171,7 @@ fn relation_of(word: &[u8]) -> Option<Relation>
     }
 }
 
-/// The property of this word.
+// The property of this word.
 fn property_of(word: &[u8]) -> Option<Property>
     ensures { result ≡ property_of word.now }
 {
@@ -184,7 +184,7 @@ fn property_of(word: &[u8]) -> Option<Property>
     }
 }
 
-/// The measure of this word.
+// The measure of this word.
 fn measure_of(word: &[u8]) -> Option<Measure>
     ensures { result ≡ measure_of word.now }
 {
@@ -197,7 +197,7 @@ fn measure_of(word: &[u8]) -> Option<Measure>
     }
 }
 
-/// The comparison of this sign.
+// The comparison of this sign.
 fn sense_of(sign: &[u8]) -> Option<Sense>
     ensures { result ≡ sense_of sign.now }
 {

@@ -12,8 +12,8 @@ ghost use Rattle.mp_syntax.specs.ConditionParsing.{ConditionAloneGives, Conditio
 
 use crate::condition_tree::{Alternative, Condition, Literal};
 use crate::fault::{FaultKind, SyntaxError};
+use crate::limits::MAX_OPEN;
 use crate::parser::Parser;
-use crate::statement::MAX_OPEN;
 use crate::token::Punct;
 use std::alloc::Global;
 
@@ -50,7 +50,7 @@ pub fn condition_is_a_function()
     ensures { (bytes : List ℕ) (c : syntax.Condition) → IsConditionOf bytes c ↔ (condition_of_bytes bytes ≡ Some c) }
 {}
 
-/// Reads a condition up to the end, or the first fault.
+// Reads a condition up to the end, or the first fault.
 fn alone<'a>(alloc: Global, bytes: &'a [u8]) -> Result<Condition<'a>, SyntaxError>
     requires { length bytes.now < 2 ^ 32 - 1 }
     ensures { ConditionAloneGives result (parsed_condition bytes.now) }
@@ -82,7 +82,7 @@ impl<'a> Parser<'a> {
         Ok(Condition { alternatives })
     }
 
-    /// Reads literals with `and` between each two, in which at most `room` brackets stand open at once.
+    // Reads literals with `and` between each two, in which at most `room` brackets stand open at once.
     #[cycle(condition)]
     fn alternative(&mut self, alloc: Global, room: usize) -> Result<Alternative<'a>, SyntaxError>
         ensures read { AlternativeGives room result (ahead self.old) (ahead self.new) }
@@ -100,7 +100,7 @@ impl<'a> Parser<'a> {
         Ok(Alternative { literals })
     }
 
-    /// Reads a literal, in which at most `room` brackets stand open at once.
+    // Reads a literal, in which at most `room` brackets stand open at once.
     #[cycle(condition)]
     fn literal(&mut self, alloc: Global, room: usize) -> Result<Literal<'a>, SyntaxError>
         ensures read { LiteralGives room result (ahead self.old) (ahead self.new) }
@@ -115,7 +115,7 @@ impl<'a> Parser<'a> {
         Ok(Literal::Atom { negated, atom })
     }
 
-    /// Passes the word `not` where it is held, and says whether it was.
+    // Passes the word `not` where it is held, and says whether it was.
     fn negation(&mut self) -> bool
         ensures read { NegationGives result (ahead self.old) (ahead self.new) }
         ensures shorter { length (ahead self.new) ≤ length (ahead self.old) }
@@ -127,7 +127,7 @@ impl<'a> Parser<'a> {
         negated
     }
 
-    /// Reads a condition in square brackets, of which the opening one is held.
+    // Reads a condition in square brackets, of which the opening one is held.
     #[cycle(condition)]
     fn bracketed(&mut self, alloc: Global, room: usize) -> Result<Condition<'a>, SyntaxError>
         requires { is_punct Punct.OpenSquare (token_of self.old.token.kind) ≡ true }

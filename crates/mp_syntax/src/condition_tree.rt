@@ -1,7 +1,7 @@
 //! The syntax trees of conditions. Their words lie in the bytes of the file.
 
-use crate::word::Word;
 use crate::tree::Expr;
+use crate::word::Word;
 
 /// What is counted of an operand.
 #[derive(Clone, Copy, Debug, PartialEq, Eq)]

@@ -3,25 +3,25 @@
 ghost use Rattle.std.specs.Prelude.{◌≡◌, ◌<◌, ◌≤◌, ℕ, false, length, OnOk};
 ghost use Rattle.mp_syntax.specs.Lexing.{token_of};
 ghost use Rattle.mp_syntax.specs.Machine.{AfterOp, AfterKind, Declared, is_punct, step_flag};
-ghost use Rattle.mp_syntax.specs.Parsing.{ahead, StatementFrom, PlusGives, FlagsGive, FlagGives, FlagWordGives, MembersGive, flag_step, items_of};
+ghost use Rattle.mp_syntax.specs.Parsing.{ahead, StatementFrom, PlusGives, FlagsGive, FlagGives, FlagWordGives, MembersGive, flag_step};
 
 use crate::fault::SyntaxError;
 use crate::parser::Parser;
-use crate::word::Word;
 use crate::token::{Kind, Punct};
 use crate::tree::{Flag, Statement};
+use crate::word::Word;
 use std::alloc::Global;
 
-/// What a flag is, by the word that it begins with.
+// What a flag is, by the word that it begins with.
 #[derive(Clone, Copy, Debug)]
 enum FlagWord {
-    /// `assoc`
+    // `assoc`
     Assoc,
-    /// `comm`
+    // `comm`
     Comm,
-    /// `one`
+    // `one`
     One,
-    /// `infix`
+    // `infix`
     Infix,
 }
 
@@ -43,7 +43,7 @@ impl<'a> Parser<'a> {
         })
     }
 
-    /// Passes the sign `+` where it is held, and says whether it was.
+    // Passes the sign `+` where it is held, and says whether it was.
     fn plus(&mut self) -> bool
         ensures read { PlusGives result (ahead self.old) (ahead self.new) }
         ensures shorter { length (ahead self.new) ≤ length (ahead self.old) }
@@ -55,9 +55,9 @@ impl<'a> Parser<'a> {
         plus
     }
 
-    /// Reads flags up to the semicolon, and passes it.
+    // Reads flags up to the semicolon, and passes it.
     fn flags(&mut self, alloc: Global) -> Result<Vec<Flag<'a>>, SyntaxError>
-        ensures read { FlagsGive (items_of result) (ahead self.old) (ahead self.new) }
+        ensures read { FlagsGive result (ahead self.old) (ahead self.new) }
         ensures shorter { OnOk result (length (ahead self.new) ≤ length (ahead self.old)) }
     {
         let mut flags = Vec::new(alloc);
@@ -68,7 +68,7 @@ impl<'a> Parser<'a> {
         Ok(flags)
     }
 
-    /// Reads a flag, where no semicolon is held.
+    // Reads a flag, where no semicolon is held.
     fn flag(&mut self) -> Result<Flag<'a>, SyntaxError>
         requires { is_punct Punct.Semicolon (token_of self.old.token.kind) ≡ false }
         ensures read { FlagGives result (ahead self.old) (ahead self.new) }
@@ -85,7 +85,7 @@ impl<'a> Parser<'a> {
         }
     }
 
-    /// Reads the word that a flag begins with, where no semicolon is held.
+    // Reads the word that a flag begins with, where no semicolon is held.
     fn flag_word(&mut self) -> Result<FlagWord, SyntaxError>
         requires { is_punct Punct.Semicolon (token_of self.old.token.kind) ≡ false }
         ensures read { FlagWordGives result (ahead self.old) (ahead self.new) }
@@ -115,9 +115,9 @@ impl<'a> Parser<'a> {
         Ok(Statement::Kind { name, members })
     }
 
-    /// Reads words, at least one, up to the semicolon, and passes it.
+    // Reads words, at least one, up to the semicolon, and passes it.
     fn members(&mut self, alloc: Global) -> Result<Vec<Word<'a>>, SyntaxError>
-        ensures read { MembersGive (items_of result) (ahead self.old) (ahead self.new) }
+        ensures read { MembersGive result (ahead self.old) (ahead self.new) }
         ensures shorter { OnOk result (length (ahead self.new) ≤ length (ahead self.old)) }
     {
         let mut members = Vec::new(alloc);
@@ -132,7 +132,7 @@ impl<'a> Parser<'a> {
     }
 }
 
-/// The flag that begins with a word.
+// The flag that begins with a word.
 fn flag_word_of(word: &[u8]) -> Option<FlagWord>
     ensures { (d : Declared) → flag_step d result ≡ step_flag d word.now }
 {

@@ -6,15 +6,15 @@ ghost use Rattle.mp_syntax.specs.Machine.{is_punct, wildcard_at};
 ghost use Rattle.mp_syntax.specs.View.{spot_of, spot_of_sign, wildcard_of, expr_tree};
 ghost use Rattle.mp_syntax.specs.Syntax.{Tree, IsExprOf, HasNames, HasNoDefault};
 ghost use Rattle.mp_syntax.specs.Reading.{parsed_expr, expr_reading, expr_of, IfFault, IsExprOrMemory};
-ghost use Rattle.mp_syntax.specs.Parsing.{ahead, AloneGives, ExprGives, WordLeads, DollarLeads, WildcardLeads, ChainGives, ArgumentsGive, OperandsGive, items_of};
+ghost use Rattle.mp_syntax.specs.Parsing.{ahead, AloneGives, ExprGives, WordLeads, DollarLeads, WildcardLeads, ChainGives, ArgumentsGive, OperandsGive};
 
 use crate::fault::{FaultKind, SyntaxError};
+use crate::limits::MAX_OPEN;
 use crate::parser::Parser;
 use crate::place::Place;
-use crate::word::{InfixSign, Word};
-use crate::statement::MAX_OPEN;
 use crate::token::{Kind, Punct};
 use crate::tree::{Expr, Wildcard};
+use crate::word::{InfixSign, Word};
 use std::alloc::Global;
 
 /// The expression that a text is, as a syntax tree whose words lie in the text's bytes.
@@ -50,7 +50,7 @@ pub fn expression_is_a_function()
     ensures { (bytes : List ℕ) (t : Tree) → IsExprOf bytes t ↔ (expr_of bytes ≡ Some t) }
 {}
 
-/// Reads an expression up to the end, or the first fault.
+// Reads an expression up to the end, or the first fault.
 fn alone<'a>(alloc: Global, bytes: &'a [u8]) -> Result<Expr<'a>, SyntaxError>
     requires { length bytes.now < 2 ^ 32 - 1 }
     ensures { AloneGives result (parsed_expr bytes.now) }
@@ -76,7 +76,7 @@ impl<'a> Parser<'a> {
         }
     }
 
-    /// Reads what begins with this wildcard: one with a default, where a colon follows, or the wildcard alone.
+    // Reads what begins with this wildcard: one with a default, where a colon follows, or the wildcard alone.
     #[cycle(expression)]
     fn behind_wildcard(
         &mut self,
@@ -103,7 +103,7 @@ impl<'a> Parser<'a> {
         })
     }
 
-    /// Reads wildcards with a colon behind each, and behind them the wildcard that is the default, where it is one.
+    // Reads wildcards with a colon behind each, and behind them the wildcard that is the default, where it is one.
     fn chain(
         &mut self,
         alloc: Global,
@@ -125,7 +125,7 @@ impl<'a> Parser<'a> {
         Ok((others, last))
     }
 
-    /// Reads an expression that begins with a word or a bracket, where no wildcard is held.
+    // Reads an expression that begins with a word or a bracket, where no wildcard is held.
     #[cycle(expression)]
     fn word_or_bracket(&mut self, alloc: Global, room: usize) -> Result<Expr<'a>, SyntaxError>
         requires { wildcard_at (token_of self.old.token.kind) self.old.token.place ≡ None }
@@ -150,7 +150,7 @@ impl<'a> Parser<'a> {
         }
     }
 
-    /// Reads what begins with this word: an application, or a symbol.
+    // Reads what begins with this word: an application, or a symbol.
     #[cycle(expression)]
     fn behind_word(
         &mut self,
@@ -177,7 +177,7 @@ impl<'a> Parser<'a> {
         Ok(Expr::Apply(name, args))
     }
 
-    /// Reads the word behind a `$` at this place.
+    // Reads the word behind a `$` at this place.
     fn behind_dollar(&mut self, place: Place) -> Result<Expr<'a>, SyntaxError>
         ensures read { DollarLeads place result (ahead self.old) (ahead self.new) }
         ensures plain { IfOk result (λ e. HasNoDefault (expr_tree e)) }
@@ -188,10 +188,10 @@ impl<'a> Parser<'a> {
         Ok(Expr::Variable(Word { text, place }))
     }
 
-    /// Reads the arguments of an application, at least one, and the bracket that closes it.
+    // Reads the arguments of an application, at least one, and the bracket that closes it.
     #[cycle(expression)]
     fn arguments(&mut self, alloc: Global, room: usize) -> Result<Vec<Expr<'a>>, SyntaxError>
-        ensures read { ArgumentsGive room (items_of result) (ahead self.old) (ahead self.new) }
+        ensures read { ArgumentsGive room result (ahead self.old) (ahead self.new) }
         ensures shorter { OnOk result (length (ahead self.new) ≤ length (ahead self.old)) }
     {
         let mut args = Vec::new(alloc);
@@ -206,7 +206,7 @@ impl<'a> Parser<'a> {
         Ok(args)
     }
 
-    /// Reads operands with one sign between them, in brackets of which the opening one is held.
+    // Reads operands with one sign between them, in brackets of which the opening one is held.
     #[cycle(expression)]
     fn infix(&mut self, alloc: Global, room: usize) -> Result<Expr<'a>, SyntaxError>
         requires { is_punct Punct.Open (token_of self.old.token.kind) ≡ true }
@@ -229,7 +229,7 @@ impl<'a> Parser<'a> {
         })
     }
 
-    /// Reads the operands behind the first sign, at least one, and the bracket that closes them.
+    // Reads the operands behind the first sign, at least one, and the bracket that closes them.
     #[cycle(expression)]
     fn operands(
         &mut self,
@@ -238,7 +238,7 @@ impl<'a> Parser<'a> {
         sign: InfixSign<'a>,
         room: usize,
     ) -> Result<Vec<Expr<'a>>, SyntaxError>
-        ensures read { OperandsGive room (expr_tree first.entry) (spot_of_sign sign.entry) (items_of result) (ahead self.old) (ahead self.new) }
+        ensures read { OperandsGive room (expr_tree first.entry) (spot_of_sign sign.entry) result (ahead self.old) (ahead self.new) }
         ensures shorter { OnOk result (length (ahead self.new) ≤ length (ahead self.old)) }
     {
         let mut operands = Vec::new(alloc);

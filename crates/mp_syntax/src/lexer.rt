@@ -6,6 +6,7 @@ ghost use Rattle.mp_syntax.specs.Tokens.{is_word_byte, is_sign_byte, is_blank, a
 ghost use Rattle.mp_syntax.specs.Lexing.{first_token_place, is_underscore, least, run_at, settled, word_or_wildcard_at, punct_at, after_blanks, token_of, token_at};
 ghost use Rattle.mp_syntax.specs.View.{placed};
 
+use crate::limits::MAX_WORD_BYTES;
 use crate::place::Place;
 use crate::token::{Kind, Punct, Token};
 
@@ -59,7 +60,7 @@ impl<'a> Lexer<'a> {
         Token { kind, place }
     }
 
-    /// Passes the blanks and comments at the front.
+    // Passes the blanks and comments at the front.
     fn skip_blanks(&mut self)
         ensures { (self.new.rest.now, self.new.place) ≡ after_blanks false self.old.rest.now self.old.place }
     {
@@ -78,7 +79,7 @@ impl<'a> Lexer<'a> {
     }
 }
 
-/// The place behind a byte.
+// The place behind a byte.
 fn after_byte(place: Place, byte: u8) -> Place
     requires line_fits { place.line + 1 < 2 ^ 32 }
     requires column_fits { place.column + 1 < 2 ^ 32 }
@@ -97,8 +98,8 @@ fn after_byte(place: Place, byte: u8) -> Place
     }
 }
 
-/// The longest run at the front that is one token, with words of any length and the arrow as a
-/// sign, and how many bytes it has.
+// The longest run at the front that is one token, with words of any length and the arrow as a
+// sign, and how many bytes it has.
 fn longest<'a>(bytes: &'a [u8]) -> (Kind<'a>, usize)
     ensures value { (token_of result.0, result.1) ≡ run_at bytes.now }
     ensures within { result.1 ≤ length bytes.now }
@@ -118,24 +119,20 @@ fn longest<'a>(bytes: &'a [u8]) -> (Kind<'a>, usize)
     }
 }
 
-/// The token of a run: `->` is the arrow, and a word of more than 64 bytes is too long.
+// The token of a run: `->` is the arrow, and a word of more than 64 bytes is too long.
 fn settled<'a>(run: Kind<'a>) -> Kind<'a>
     ensures { token_of result ≡ settled (token_of run.entry) }
 {
     match run {
-        Kind::Word(word) if word.len() > MAX_WORD => Kind::Long,
-        Kind::Wildcard { name, kind, .. } if name.len() > MAX_WORD || kind.len() > MAX_WORD => {
-            Kind::Long
-        }
+        Kind::Word(word) if word.len() > MAX_WORD_BYTES => Kind::Long,
+        Kind::Wildcard { name, kind, .. }
+            if name.len() > MAX_WORD_BYTES || kind.len() > MAX_WORD_BYTES => { Kind::Long }
         Kind::Sign(sign) if sign == b"->".as_slice() => Kind::Arrow,
         _ => run,
     }
 }
 
-/// How many bytes a word has at most.
-const MAX_WORD: usize = 64;
-
-/// The word or wildcard at the front, and how many bytes it has.
+// The word or wildcard at the front, and how many bytes it has.
 fn word_or_wildcard<'a>(bytes: &'a [u8]) -> (Kind<'a>, usize)
     ensures value { (token_of result.0, result.1) ≡ word_or_wildcard_at bytes.now }
     ensures within { result.1 ≤ length bytes.now }
@@ -152,7 +149,7 @@ fn word_or_wildcard<'a>(bytes: &'a [u8]) -> (Kind<'a>, usize)
     (wildcard, name.len() + marks + kind_len)
 }
 
-/// How many letters and digits stand at the front.
+// How many letters and digits stand at the front.
 fn word_len(bytes: &[u8]) -> usize
     ensures value { result ≡ prefix_len is_word_byte bytes.now }
     ensures within { result ≤ length bytes.now }
@@ -160,7 +157,7 @@ fn word_len(bytes: &[u8]) -> usize
     bytes.iter().take_while(|byte| is_word_byte(**byte)).count()
 }
 
-/// How many sign bytes stand at the front.
+// How many sign bytes stand at the front.
 fn sign_len(bytes: &[u8]) -> usize
     ensures value { result ≡ prefix_len is_sign_byte bytes.now }
     ensures within { result ≤ length bytes.now }
@@ -168,7 +165,7 @@ fn sign_len(bytes: &[u8]) -> usize
     bytes.iter().take_while(|byte| is_sign_byte(**byte)).count()
 }
 
-/// How many underscores stand at the front, but at most three.
+// How many underscores stand at the front, but at most three.
 fn mark_count(bytes: &[u8]) -> usize
     ensures value { result ≡ least 3 (prefix_len is_underscore bytes.now) }
     ensures within { result ≤ length bytes.now }
@@ -181,7 +178,7 @@ fn mark_count(bytes: &[u8]) -> usize
     }
 }
 
-/// The punctuation character that a byte is, or `Bad`.
+// The punctuation character that a byte is, or `Bad`.
 fn punct(byte: u8) -> Kind<'static>
     ensures { token_of result ≡ punct_at byte }
 {
@@ -201,21 +198,21 @@ fn punct(byte: u8) -> Kind<'static>
     }
 }
 
-/// Whether a byte is a letter or a digit.
+// Whether a byte is a letter or a digit.
 fn is_word_byte(byte: u8) -> bool
     ensures { result ≡ is_word_byte byte }
 {
     byte.is_ascii_alphanumeric()
 }
 
-/// Whether a byte is one of `+ - * / = < > & | ^ ~ ! % @ ?`.
+// Whether a byte is one of `+ - * / = < > & | ^ ~ ! % @ ?`.
 fn is_sign_byte(byte: u8) -> bool
     ensures { result ≡ is_sign_byte byte }
 {
     b"+-*/=<>&|^~!%@?".iter().any(|sign| byte == *sign)
 }
 
-/// Whether a byte is a space, a tab, a carriage return or a line feed.
+// Whether a byte is a space, a tab, a carriage return or a line feed.
 fn is_blank(byte: u8) -> bool
     ensures { result ≡ is_blank byte }
 {

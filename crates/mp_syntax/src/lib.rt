@@ -8,6 +8,7 @@ mod declaration;
 mod expression;
 pub mod fault;
 mod lexer;
+pub mod limits;
 mod parser;
 pub mod place;
 pub mod statement;
@@ -22,6 +23,7 @@ pub use crate::condition_tree::{
 pub use crate::expression::{expression_is_a_function, read_expression};
 pub use crate::fault::{Fault, FaultKind, SyntaxError};
 pub use crate::lexer::first_token_place;
+pub use crate::limits::{MAX_OPEN, MAX_WORD_BYTES};
 pub use crate::place::Place;
 pub use crate::statement::read_statements;
 pub use crate::tree::{Expr, Flag, Statement, Wildcard};

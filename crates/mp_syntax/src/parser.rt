@@ -9,9 +9,9 @@ ghost use Rattle.mp_syntax.specs.Parsing.{ahead, PunctGives, TextGives, NumberGi
 
 use crate::fault::{Fault, FaultKind, SyntaxError};
 use crate::lexer::Lexer;
-use crate::word::{InfixSign, Word};
 use crate::token::{Kind, Punct, Token};
 use crate::tree::Wildcard;
+use crate::word::{InfixSign, Word};
 
 /// The token held, and what lies behind it.
 #[derive(Clone, Copy, Debug)]
@@ -42,8 +42,10 @@ impl<'a> Parser<'a> {
     pub fn fault(&self, kind: FaultKind) -> SyntaxError
         ensures { result ≡ SyntaxError.Fault (record { kind = kind; place = self.now.token.place }) }
     {
-        let place = self.token.place;
-        SyntaxError::Fault(Fault { kind, place })
+        SyntaxError::Fault(Fault {
+            kind,
+            place: self.token.place,
+        })
     }
 
     /// The fault that the grammar has another token than the one that is held.

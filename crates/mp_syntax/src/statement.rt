@@ -14,25 +14,23 @@ ghost use Rattle.mp_syntax.specs.Reading.{parsed_file, reading, syntax_of, IfFau
 
 use crate::condition_tree::Condition;
 use crate::fault::SyntaxError;
+use crate::limits::MAX_OPEN;
 use crate::parser::Parser;
-use crate::word::Word;
 use crate::token::{Kind, Punct};
 use crate::tree::{Expr, Statement};
+use crate::word::Word;
 use std::alloc::Global;
 
-/// How many brackets may stand open at once.
-pub(crate) const MAX_OPEN: usize = 100;
-
-/// What a statement is, by the word that it begins with.
+// What a statement is, by the word that it begins with.
 #[derive(Clone, Copy, Debug)]
 enum Keyword {
-    /// `op`
+    // `op`
     Op,
-    /// `kind`
+    // `kind`
     Kind,
-    /// `rule`
+    // `rule`
     Rule,
-    /// `subject`
+    // `subject`
     Subject,
 }
 
@@ -90,7 +88,7 @@ pub fn printed_statements_are_read()
     ensures { (file : List syntax.Statement) → StatementsHaveNames file → AreStatements file → (read : List syntax.Statement) × IsSyntaxOf (statements_text file) read × (map unplaced read ≡ map unplaced file) }
 {}
 
-/// Reads all statements, or the first fault.
+// Reads all statements, or the first fault.
 fn statements<'a>(alloc: Global, bytes: &'a [u8]) -> Result<Vec<Statement<'a>>, SyntaxError>
     requires { length bytes.now < 2 ^ 32 - 1 }
     ensures { FileGives result (parsed_file bytes.now) }
@@ -105,7 +103,7 @@ fn statements<'a>(alloc: Global, bytes: &'a [u8]) -> Result<Vec<Statement<'a>>, 
 }
 
 impl<'a> Parser<'a> {
-    /// Reads one statement, where the end is not held.
+    // Reads one statement, where the end is not held.
     fn statement(&mut self, alloc: Global) -> Result<Statement<'a>, SyntaxError>
         requires { is_end (token_of self.old.token.kind) ≡ false }
         ensures read { StatementFrom Top result (ahead self.old) (ahead self.new) }
@@ -119,7 +117,7 @@ impl<'a> Parser<'a> {
         }
     }
 
-    /// Reads what follows `rule`: a name, a colon, an expression, perhaps `if` and a condition, and the semicolon.
+    // Reads what follows `rule`: a name, a colon, an expression, perhaps `if` and a condition, and the semicolon.
     fn rule(&mut self, alloc: Global) -> Result<Statement<'a>, SyntaxError>
         ensures read { StatementFrom (AfterRole OfRule) result (ahead self.old) (ahead self.new) }
         ensures shorter { OnOk result (length (ahead self.new) ≤ length (ahead self.old)) }
@@ -134,7 +132,7 @@ impl<'a> Parser<'a> {
         })
     }
 
-    /// Reads `if` and a condition, where `if` is held.
+    // Reads `if` and a condition, where `if` is held.
     fn rule_condition(&mut self, alloc: Global) -> Result<Option<Condition<'a>>, SyntaxError>
         ensures read { IfGives result (ahead self.old) (ahead self.new) }
         ensures ends { IfOk result (λ o. EndsIf o (token_of self.new.token.kind)) }
@@ -148,7 +146,7 @@ impl<'a> Parser<'a> {
         Ok(Some(condition))
     }
 
-    /// Reads what follows `subject`: a name, a colon, an expression and the semicolon.
+    // Reads what follows `subject`: a name, a colon, an expression and the semicolon.
     fn subject(&mut self, alloc: Global) -> Result<Statement<'a>, SyntaxError>
         ensures read { StatementFrom (AfterRole OfSubject) result (ahead self.old) (ahead self.new) }
         ensures shorter { OnOk result (length (ahead self.new) ≤ length (ahead self.old)) }
@@ -158,7 +156,7 @@ impl<'a> Parser<'a> {
         Ok(Statement::Subject { name, term })
     }
 
-    /// Reads a name, a colon and an expression.
+    // Reads a name, a colon and an expression.
     fn named_expr(&mut self, alloc: Global) -> Result<(Word<'a>, Expr<'a>), SyntaxError>
         ensures read { NamedExprGives result (ahead self.old) (ahead self.new) }
         ensures shorter { OnOk result (length (ahead self.new) ≤ length (ahead self.old)) }
@@ -169,7 +167,7 @@ impl<'a> Parser<'a> {
         Ok((name, expr))
     }
 
-    /// Reads the word that a statement begins with, where the end is not held.
+    // Reads the word that a statement begins with, where the end is not held.
     fn keyword(&mut self) -> Result<Keyword, SyntaxError>
         requires { is_end (token_of self.old.token.kind) ≡ false }
         ensures read { KeywordGives result (ahead self.old) (ahead self.new) }
@@ -189,7 +187,7 @@ impl<'a> Parser<'a> {
     }
 }
 
-/// The keyword that a word is.
+// The keyword that a word is.
 fn keyword_of(word: &[u8]) -> Option<Keyword>
     ensures { keyword_step result ≡ keyword word.now }
 {

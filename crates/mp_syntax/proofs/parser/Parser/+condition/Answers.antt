@@ -1,6 +1,5 @@
 use Rattle.std.proofs.Common.{rules, [], ◌∷◌, ◌++◌, map, sym, ap, ◌∙◌, arith}
 use Rattle.std.specs.Prelude.{codes}
-use Rattle.std.proofs.lemmas.Result.{err_from_is_err_and}
 use Rattle.std.proofs.lemmas.List.{map_push}
 use Rattle.mp_syntax.specs.declared.token.Punct.TheVariants.{OpenSquare}
 use Rattle.mp_syntax.specs.Syntax.{Bracketed, literals, condition}
@@ -8,7 +7,7 @@ use Rattle.mp_syntax.specs.Machine.{Go, BeforeLiteral, BeforeBody, AfterLiteral,
 use Rattle.mp_syntax.specs.View.{placed, literal_tree, alternative_tree}
 use Rattle.mp_syntax.specs.Parsing.{ahead}
 use Rattle.mp_syntax.specs.ConditionParsing.{level}
-use Rattle.mp_syntax.proofs.Runs.{over-punct, fails-along}
+use Rattle.mp_syntax.proofs.Runs.{over-punct, breaks}
 use Rattle.mp_syntax.proofs.ConditionRuns.{over-word, square-step, and-step, whole-step}
 use Rattle.mp_syntax.proofs.ConditionTrees.{condition_tree-Condition}
 use Rattle.mp_syntax.proofs.parser.Parser.+condition.Goals as goal
@@ -36,20 +35,18 @@ alternative-returns-clause-read t c = (
 )
 
 pub bracketed-returns-in_err-condition-clause-read : goal.bracketed-returns-in_err-condition-clause-read
-bracketed-returns-in_err-condition-clause-read t c =
-    let p = err_from_is_err_and c.from_residual.result c.from_residual.ensures.1 in
-    rw (p.1, p.2) (λ done x k s len. fails-along _ _ _
+bracketed-returns-in_err-condition-clause-read t c = λ done x k s len.
+    breaks _ _ _ _ _ _ _ c.from_residual.ensures.1
     (over-punct OpenSquare (placed c.args.self.now.token) _ _ c.advance.ensures c.requires done (BeforeBody x k s) (Go (BeforeLiteral x (Square s ∷ k) no_level)) (square-step x k s (placed c.args.self.now.token) c.args.room len (omega arith) c.requires))
-    (c.in_err-condition.ensures.read done x (Square s ∷ k) (omega (arith, len))))
+    (c.in_err-condition.ensures.read done x (Square s ∷ k) (omega (arith, len)))
 
 pub bracketed-returns-in_err-expect-clause-read : goal.bracketed-returns-in_err-expect-clause-read
-bracketed-returns-in_err-expect-clause-read t c =
-    let p = err_from_is_err_and c.from_residual-in_err-expect.result c.from_residual-in_err-expect.ensures.1 in
+bracketed-returns-in_err-expect-clause-read t c = λ done x k s len.
     let r = c.in_ok-condition.ensures.read in
-    rw (p.1, p.2) (λ done x k s len. fails-along _ _ _
+    breaks _ _ _ _ _ _ _ c.from_residual-in_err-expect.ensures.1
     (over-punct OpenSquare (placed c.args.self.now.token) _ _ c.advance.ensures c.requires done (BeforeBody x k s) (Go (BeforeLiteral x (Square s ∷ k) no_level)) (square-step x k s (placed c.args.self.now.token) c.args.room len (omega arith) c.requires)
     ∙ r.3 done x (Square s ∷ k) (omega (arith, len)))
-    (c.in_err-expect.ensures.read done (AfterLiteral x (Square s ∷ k) r.0 r.1) (Go (AfterLiteral x k s.level (Bracketed s.negated (condition (all_alternatives r.0 r.1))))) (whole-step x (Square s ∷ k) r.0 r.1 (placed c.condition.new.self.token) c.in_ok-condition.ensures.ends)))
+    (c.in_err-expect.ensures.read done (AfterLiteral x (Square s ∷ k) r.0 r.1) (Go (AfterLiteral x k s.level (Bracketed s.negated (condition (all_alternatives r.0 r.1))))) (whole-step x (Square s ∷ k) r.0 r.1 (placed c.condition.new.self.token) c.in_ok-condition.ensures.ends))
 
 pub bracketed-returns-clause-read : goal.bracketed-returns-clause-read
 bracketed-returns-clause-read t c = λ done x k s len.

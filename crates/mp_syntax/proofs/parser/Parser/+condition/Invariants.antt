@@ -1,8 +1,8 @@
 use Rattle.std.proofs.Common.{◌≡◌, ◌≤◌, ◌+◌, ◌*◌, List, [], length, map}
 use Rattle.mp_syntax.specs.Syntax.{Literals, Statement}
-use Rattle.mp_syntax.specs.Machine.{Within, Frame, no_level, open_count, BeforeLiteral, run}
+use Rattle.mp_syntax.specs.Machine.{Within, Frame, no_level, BeforeLiteral, run}
 use Rattle.mp_syntax.specs.View.{literal_tree, alternative_tree}
-use Rattle.mp_syntax.specs.Parsing.{ahead}
+use Rattle.mp_syntax.specs.Parsing.{ahead, HasRoom}
 use Rattle.mp_syntax.specs.ConditionParsing.{level}
 use Rattle.mp_syntax.proofs.parser.Parser.+condition.Given as goal
 
@@ -21,7 +21,7 @@ decreases-bracketed l = 4 * l.room
 -- the alternatives so far stand before the next one
 abbrev pub invariant-condition-loop-alternatives : goal.invariant-condition-loop-alternatives
 invariant-condition-loop-alternatives l = record {
-  read : (done : List Statement) (x : Within) (k : List Frame) → open_count k + l.room ≡ 100 → run done (BeforeLiteral x k no_level) (ahead l.fn.self) ≡ run done (BeforeLiteral x k (level (map alternative_tree l.alternatives.items) [])) (ahead l.self);
+  read : (done : List Statement) (x : Within) (k : List Frame) → HasRoom k l.room → run done (BeforeLiteral x k no_level) (ahead l.fn.self) ≡ run done (BeforeLiteral x k (level (map alternative_tree l.alternatives.items) [])) (ahead l.self);
   shorter : length (ahead l.self) ≤ length (ahead l.fn.self);
 }
 
@@ -31,7 +31,7 @@ decreases-condition-loop-alternatives l = length (ahead l.self)
 -- the literals so far stand before the next one
 abbrev pub invariant-alternative-loop-literals : goal.invariant-alternative-loop-literals
 invariant-alternative-loop-literals l = record {
-  read : (done : List Statement) (x : Within) (k : List Frame) (before : List Literals) → open_count k + l.room ≡ 100 → run done (BeforeLiteral x k (level before [])) (ahead l.fn.self) ≡ run done (BeforeLiteral x k (level before (map literal_tree l.literals.items))) (ahead l.self);
+  read : (done : List Statement) (x : Within) (k : List Frame) (before : List Literals) → HasRoom k l.room → run done (BeforeLiteral x k (level before [])) (ahead l.fn.self) ≡ run done (BeforeLiteral x k (level before (map literal_tree l.literals.items))) (ahead l.self);
   shorter : length (ahead l.self) ≤ length (ahead l.fn.self);
 }
 

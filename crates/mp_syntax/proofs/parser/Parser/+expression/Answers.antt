@@ -1,29 +1,43 @@
 use Rattle.std.proofs.Common.{◌≡◌, ◌+◌, [], ◌∷◌, ◌++◌, map, refl, sym, ap, subst, ◌∙◌, arith}
-use Rattle.std.proofs.lemmas.Result.{err_from_is_err_and}
 use Rattle.std.proofs.lemmas.List.{map_push}
 use Rattle.mp_syntax.specs.declared.token.Punct.TheVariants.{Open, Close}
 use Rattle.mp_syntax.specs.Machine.{Go, Default, BeforeExpr, AfterExpr, AfterWord, AfterOpen, Arguments, Bracket, Operands, run}
+use Rattle.mp_syntax.specs.Tokens.{Punctuation}
 use Rattle.mp_syntax.specs.Lexing.{token_of}
 use Rattle.mp_syntax.specs.Syntax.{Apply, InfixOf, Optional, trees, HasNoDefault}
 use Rattle.mp_syntax.specs.View.{placed, spot_of, spot_of_sign, wildcard_of, expr_tree}
 use Rattle.mp_syntax.specs.Parsing.{ahead, behind_chain, within_defaults}
-use Rattle.mp_syntax.proofs.Runs.{expr-closes, operand-closes, fails-along, word-opens, open-closes, open-expr, bracket-opens, over-punct, length-passed_sign, over-sign, operand-again, over-default, defaults-behind, chained-optional, open_count-within_defaults}
+use Rattle.mp_syntax.proofs.Runs.{expr-closes, operand-closes, word-opens, open-closes, open-expr, bracket-opens, over-punct, length-passed_sign, over-sign, operand-again, over-default, defaults-behind, chained-optional, open_count-within_defaults, breaks, passes-along, word-begins, dollar-begins}
 use Rattle.mp_syntax.proofs.Trees.{expr_tree-Apply, expr_tree-Infix}
 use Rattle.mp_syntax.proofs.parser.Parser.+expression.Goals as goal
 use Rattle.mp_syntax.proofs.parser.Parser.+expression.Goals.{behind_wildcard-in-Some, behind_wildcard-in-None+in_ok-default-in-None}
+
+pub expr-returns-in-Some-clause-read : goal.expr-returns-in-Some-clause-read
+expr-returns-in-Some-clause-read t c = λ done x k len.
+    passes-along _ _ _ c.behind_wildcard.result _ _ _ (c.in-Some.ensures.read done x k) (c.behind_wildcard.ensures.read done x k len)
+
+pub word_or_bracket-returns-in-Word-clause-read : goal.word_or_bracket-returns-in-Word-clause-read
+word_or_bracket-returns-in-Word-clause-read t c = λ done x k len.
+    passes-along _ _ _ c.behind_word.result _ _ _
+    (word-begins done x k (placed c.args.self.now.token) _ _ _ c.advance.ensures (ap token_of c.in-Word.is))
+    (c.behind_word.ensures.read done x k len)
+
+pub word_or_bracket-returns-in-Punct-Dollar-clause-read : goal.word_or_bracket-returns-in-Punct-Dollar-clause-read
+word_or_bracket-returns-in-Punct-Dollar-clause-read t c = λ done x k len.
+    passes-along _ _ _ c.behind_dollar.result _ _ _
+    (dollar-begins done x k (placed c.args.self.now.token) _ _ c.advance-in-Punct-Dollar.ensures (ap token_of c.in-Punct-Dollar.is ∙ ap Punctuation (rw c.in-Punct-Dollar.is at c.in-Punct-Dollar.field-0-is)))
+    (c.behind_dollar.ensures.read done x k)
 
 pub word_or_bracket-invariant_of-behind_word : goal.word_or_bracket-invariant_of-behind_word
 word_or_bracket-invariant_of-behind_word t c = record { named = c.args.self.now.token.spelled.word _ (ap token_of c.in-Word.is) }
 
 pub arguments-returns-in_err-expect-clause-read : goal.arguments-returns-in_err-expect-clause-read
-arguments-returns-in_err-expect-clause-read t c =
-    let p = err_from_is_err_and c.from_residual-in_err-expect.result c.from_residual-in_err-expect.ensures.1 in
-    rw (p.1, p.2) (λ done h k w len.
+arguments-returns-in_err-expect-clause-read t c = λ done h k w len.
     let args = map expr_tree c.loop-args.args.items in
     let e = expr_tree c.in_ok-expr.field-0 in
-    fails-along _ _ _
+    breaks _ _ _ _ _ _ _ c.from_residual-in_err-expect.ensures.1
     (c.loop-args.invariant.read done h k w len ∙ c.in_ok-expr.ensures.read done h (Arguments w args ∷ k) (omega (arith, len)))
-    (c.in_err-expect.ensures.read done (AfterExpr h (Arguments w args ∷ k) e) _ (expr-closes h w args k e (placed c.expr.new.self.token) (sym c.sees.ensures ∙ c.if-not-sees.true))))
+    (c.in_err-expect.ensures.read done (AfterExpr h (Arguments w args ∷ k) e) _ (expr-closes h w args k e (placed c.expr.new.self.token) (sym c.sees.ensures ∙ c.if-not-sees.true)))
 
 pub arguments-returns-clause-read : goal.arguments-returns-clause-read
 arguments-returns-clause-read t c = λ done h k w len.
@@ -50,27 +64,23 @@ behind_word-returns-clause-read t c = λ done h k len.
     ∙ ap (λ x. run done (AfterExpr h k x) (ahead c.arguments.new.self)) (sym (expr_tree-Apply c.args.name c.in_ok-args.args))
 
 pub infix-returns-in_err-sign-clause-read : goal.infix-returns-in_err-sign-clause-read
-infix-returns-in_err-sign-clause-read t c =
-    let p = err_from_is_err_and c.from_residual-in_err-sign.result c.from_residual-in_err-sign.ensures.1 in
-    rw (p.1, p.2) (λ done h k len.
+infix-returns-in_err-sign-clause-read t c = λ done h k len.
     let place = c.args.self.now.token.place in
     let first = expr_tree c.in_ok-first.first in
-    fails-along _ _ _
+    breaks _ _ _ _ _ _ _ c.from_residual-in_err-sign.ensures.1
     (over-punct Open (placed c.args.self.now.token) _ _ c.advance.ensures c.requires done (BeforeExpr h k) (Go (BeforeExpr h (Bracket place ∷ k))) (bracket-opens h k (placed c.args.self.now.token) c.args.room len (omega arith) c.requires)
     ∙ c.in_ok-first.ensures.read done h (Bracket place ∷ k) (omega (arith, len)))
-    (c.in_err-sign.ensures.read done (AfterExpr h (Bracket place ∷ k) first) (λ s. BeforeExpr h (Operands place s first [] ∷ k)) (λ t. refl)))
+    (c.in_err-sign.ensures.read done (AfterExpr h (Bracket place ∷ k) first) (λ s. BeforeExpr h (Operands place s first [] ∷ k)) (λ t. refl))
 
 pub infix-returns-in_err-operands-clause-read : goal.infix-returns-in_err-operands-clause-read
-infix-returns-in_err-operands-clause-read t c =
-    let p = err_from_is_err_and c.from_residual-in_err-operands.result c.from_residual-in_err-operands.ensures.1 in
-    rw (p.1, p.2) (λ done h k len.
+infix-returns-in_err-operands-clause-read t c = λ done h k len.
     let place = c.args.self.now.token.place in
     let first = expr_tree c.in_ok-first.first in
-    fails-along _ _ _
+    breaks _ _ _ _ _ _ _ c.from_residual-in_err-operands.ensures.1
     (over-punct Open (placed c.args.self.now.token) _ _ c.advance.ensures c.requires done (BeforeExpr h k) (Go (BeforeExpr h (Bracket place ∷ k))) (bracket-opens h k (placed c.args.self.now.token) c.args.room len (omega arith) c.requires)
     ∙ c.in_ok-first.ensures.read done h (Bracket place ∷ k) (omega (arith, len))
     ∙ c.in_ok-sign.ensures.read done (AfterExpr h (Bracket place ∷ k) first) (λ s. BeforeExpr h (Operands place s first [] ∷ k)) (λ t. refl))
-    (c.in_err-operands.ensures.read done h k place (omega (arith, len))))
+    (c.in_err-operands.ensures.read done h k place (omega (arith, len)))
 
 pub infix-returns-clause-read : goal.infix-returns-clause-read
 infix-returns-clause-read t c = λ done h k len.
@@ -83,16 +93,14 @@ infix-returns-clause-read t c = λ done h k len.
     ∙ ap (λ x. run done (AfterExpr h k x) (ahead c.operands.new.self)) (sym (expr_tree-Infix place c.in_ok-sign.sign c.in_ok-operands.operands))
 
 pub operands-returns-in_err-expect-clause-read : goal.operands-returns-in_err-expect-clause-read
-operands-returns-in_err-expect-clause-read t c =
-    let p = err_from_is_err_and c.from_residual-in_err-expect.result c.from_residual-in_err-expect.ensures.1 in
-    rw (p.1, p.2) (λ done h k place len.
+operands-returns-in_err-expect-clause-read t c = λ done h k place len.
     let sign = spot_of_sign c.args.sign in
     let first = expr_tree c.args.first in
     let others = map expr_tree c.loop-operands.invariant.others in
     let e = expr_tree c.in_ok-expr.field-0 in
-    fails-along _ _ _
+    breaks _ _ _ _ _ _ _ c.from_residual-in_err-expect.ensures.1
     (c.loop-operands.invariant.read done h k place len ∙ c.in_ok-expr.ensures.read done h (Operands place sign first others ∷ k) (omega (arith, len)))
-    (c.in_err-expect.ensures.read done (AfterExpr h (Operands place sign first others ∷ k) e) _ (operand-closes h place sign first others k e (placed c.expr.new.self.token) (sym c.sees_sign.ensures ∙ c.if-not-sees_sign.true))))
+    (c.in_err-expect.ensures.read done (AfterExpr h (Operands place sign first others ∷ k) e) _ (operand-closes h place sign first others k e (placed c.expr.new.self.token) (sym c.sees_sign.ensures ∙ c.if-not-sees_sign.true)))
 
 pub operands-returns-clause-read : goal.operands-returns-clause-read
 operands-returns-clause-read t c = λ done h k place len.
@@ -106,17 +114,15 @@ operands-returns-clause-read t c = λ done h k place len.
     ∙ ap (λ l. run done (AfterExpr h k (InfixOf place sign (trees l))) (ahead c.expect.new.self)) (sym (ap (map expr_tree) (c.in_ok-push-2.ensures.items ∙ ap (λ l. l ++ c.in_ok-expr.field-0 ∷ []) c.loop-operands.invariant.items) ∙ ap (λ l. first ∷ l) (map_push expr_tree c.loop-operands.invariant.others c.in_ok-expr.field-0)))
 
 pub behind_wildcard-returns-in_err-default-in-None-clause-read : goal.behind_wildcard-returns-in_err-default-in-None-clause-read
-behind_wildcard-returns-in_err-default-in-None-clause-read t c =
-    let p = err_from_is_err_and c.from_residual-in_err-default-in-None.result c.from_residual-in_err-default-in-None.ensures.1 in
-    rw (p.1, p.2) (λ done x k len.
+behind_wildcard-returns-in_err-default-in-None-clause-read t c = λ done x k len.
     let w = wildcard_of c.args.wildcard in
     let ws = w ∷ map wildcard_of c.in_ok-others.others.items in
     let test = sym c.sees_default.ensures ∙ c.if-not-sees_default.false in
-    fails-along _ _ _
+    breaks _ _ _ _ _ _ _ c.from_residual-in_err-default-in-None.ensures.1
     (over-default (placed c.args.self.now.token) _ _ c.advance.ensures done x k w test
     ∙ c.in_ok-others.ensures.read done x (Default w ∷ k)
     ∙ ap (λ o. run done (behind_chain x (within_defaults ws k) o) (ahead c.chain.new.self)) c.in-None.is)
-    (c.in_err-default-in-None.ensures.read done x (within_defaults ws k) (ap (λ n. n + c.args.room) (open_count-within_defaults ws k) ∙ len)))
+    (c.in_err-default-in-None.ensures.read done x (within_defaults ws k) (ap (λ n. n + c.args.room) (open_count-within_defaults ws k) ∙ len))
 
 pub behind_wildcard-returns-clause-read : goal.behind_wildcard-returns-clause-read
 behind_wildcard-returns-clause-read t c = λ done x k len.

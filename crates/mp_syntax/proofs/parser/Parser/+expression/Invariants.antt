@@ -2,9 +2,9 @@ use Rattle.std.proofs.Common.{◌≡◌, ◌≤◌, ◌+◌, ◌*◌, List, [], 
 use Rattle.mp_syntax.specs.declared.place.Place.{Place}
 use Rattle.mp_syntax.specs.declared.tree.Expr.{Expr}
 use Rattle.mp_syntax.specs.Syntax.{Spot, Statement}
-use Rattle.mp_syntax.specs.Machine.{Within, Frame, Arguments, Operands, open_count, BeforeExpr, run}
+use Rattle.mp_syntax.specs.Machine.{Within, Frame, Arguments, Operands, BeforeExpr, run}
 use Rattle.mp_syntax.specs.View.{spot_of_sign, expr_tree}
-use Rattle.mp_syntax.specs.Parsing.{ahead}
+use Rattle.mp_syntax.specs.Parsing.{ahead, HasRoom}
 use Rattle.mp_syntax.proofs.parser.Parser.+expression.Given as goal
 
 abbrev pub decreases-arguments : goal.decreases-arguments
@@ -31,7 +31,7 @@ decreases-operands l = 5 * l.room + 5
 -- the arguments so far are those that the open application holds
 abbrev pub invariant-arguments-loop-args : goal.invariant-arguments-loop-args
 invariant-arguments-loop-args l = record {
-  read : (done : List Statement) (x : Within) (k : List Frame) (w : Spot) → open_count k + l.room ≡ 99 → run done (BeforeExpr x (Arguments w [] ∷ k)) (ahead l.fn.self) ≡ run done (BeforeExpr x (Arguments w (map expr_tree l.args.items) ∷ k)) (ahead l.self);
+  read : (done : List Statement) (x : Within) (k : List Frame) (w : Spot) → HasRoom (Arguments w [] ∷ k) l.room → run done (BeforeExpr x (Arguments w [] ∷ k)) (ahead l.fn.self) ≡ run done (BeforeExpr x (Arguments w (map expr_tree l.args.items) ∷ k)) (ahead l.self);
   shorter : length (ahead l.self) ≤ length (ahead l.fn.self);
 }
 
@@ -43,7 +43,7 @@ abbrev pub invariant-operands-loop-operands : goal.invariant-operands-loop-opera
 invariant-operands-loop-operands l = record {
   others : List Expr;
   items : l.operands.items ≡ l.fn.first ∷ others;
-  read : (done : List Statement) (x : Within) (k : List Frame) (place : Place) → open_count k + l.room ≡ 99 → run done (BeforeExpr x (Operands place (spot_of_sign l.sign) (expr_tree l.fn.first) [] ∷ k)) (ahead l.fn.self) ≡ run done (BeforeExpr x (Operands place (spot_of_sign l.sign) (expr_tree l.fn.first) (map expr_tree others) ∷ k)) (ahead l.self);
+  read : (done : List Statement) (x : Within) (k : List Frame) (place : Place) → HasRoom (Operands place (spot_of_sign l.sign) (expr_tree l.fn.first) [] ∷ k) l.room → run done (BeforeExpr x (Operands place (spot_of_sign l.sign) (expr_tree l.fn.first) [] ∷ k)) (ahead l.fn.self) ≡ run done (BeforeExpr x (Operands place (spot_of_sign l.sign) (expr_tree l.fn.first) (map expr_tree others) ∷ k)) (ahead l.self);
   shorter : length (ahead l.self) ≤ length (ahead l.fn.self);
 }
 

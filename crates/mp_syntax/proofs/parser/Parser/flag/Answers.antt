@@ -1,16 +1,14 @@
 use Rattle.std.proofs.Common.{refl, ◌∙◌}
-use Rattle.std.proofs.lemmas.Result.{err_from_is_err_and}
 use Rattle.mp_syntax.specs.Syntax.{Infixed}
 use Rattle.mp_syntax.specs.Machine.{AfterFlags, AfterInfix, with_flag}
-use Rattle.mp_syntax.proofs.Runs.{fails-along}
+use Rattle.mp_syntax.proofs.Runs.{breaks}
 use Rattle.mp_syntax.proofs.parser.Parser.flag.Goals as goal
 
 pub returns-in_err-sign-in-Infix-clause-read : goal.returns-in_err-sign-in-Infix-clause-read
-returns-in_err-sign-in-Infix-clause-read c =
-    let p = err_from_is_err_and c.from_residual-in_err-sign-in-Infix.result c.from_residual-in_err-sign-in-Infix.ensures.1 in
-    rw (p.1, p.2) (λ done d. fails-along _ _ _
+returns-in_err-sign-in-Infix-clause-read c = λ done d.
+    breaks _ _ _ _ _ _ _ c.from_residual-in_err-sign-in-Infix.ensures.1
     (rw c.in-Infix.is at (c.in_ok-flag_word.ensures.read done d))
-    (c.in_err-sign-in-Infix.ensures.read done (AfterInfix d) (λ s. AfterFlags (with_flag d (Infixed s))) (λ t. refl)))
+    (c.in_err-sign-in-Infix.ensures.read done (AfterInfix d) (λ s. AfterFlags (with_flag d (Infixed s))) (λ t. refl))
 
 pub returns-in_ok-sign-in-Infix-clause-read : goal.returns-in_ok-sign-in-Infix-clause-read
 returns-in_ok-sign-in-Infix-clause-read c = λ done d.

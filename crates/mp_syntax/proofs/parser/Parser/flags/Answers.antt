@@ -1,18 +1,16 @@
 use Rattle.std.proofs.Common.{map, sym, ap, ◌∙◌, arith}
-use Rattle.std.proofs.lemmas.Result.{err_from_is_err_and}
 use Rattle.std.proofs.lemmas.List.{map_push}
 use Rattle.mp_syntax.specs.Machine.{AfterFlags, declared, run}
 use Rattle.mp_syntax.specs.View.{flag_of}
 use Rattle.mp_syntax.specs.Parsing.{ahead}
-use Rattle.mp_syntax.proofs.Runs.{fails-along}
+use Rattle.mp_syntax.proofs.Runs.{breaks}
 use Rattle.mp_syntax.proofs.parser.Parser.flags.Goals as goal
 
 pub returns-in_err-flag-clause-read : goal.returns-in_err-flag-clause-read
-returns-in_err-flag-clause-read c =
-    let p = err_from_is_err_and c.from_residual.result c.from_residual.ensures.1 in
-    rw (p.1, p.2) (λ done name least more. fails-along _ _ _
+returns-in_err-flag-clause-read c = λ done name least more.
+    breaks _ _ _ _ _ _ _ c.from_residual.ensures.1
     (c.loop-flags.invariant.read done name least more)
-    (c.in_err-flag.ensures.read done (declared name least more (map flag_of c.loop-flags.flags.items))))
+    (c.in_err-flag.ensures.read done (declared name least more (map flag_of c.loop-flags.flags.items)))
 
 pub loop-flags-preserved : goal.loop-flags-preserved
 loop-flags-preserved c = record {

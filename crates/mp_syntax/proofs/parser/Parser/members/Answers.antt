@@ -1,22 +1,19 @@
 use Rattle.std.proofs.Common.{[], ◌∷◌, ◌++◌, map, refl, sym, ap, ◌∙◌, arith}
-use Rattle.std.proofs.lemmas.Result.{err_from_is_err_and}
 use Rattle.std.proofs.lemmas.List.{map_push}
 use Rattle.mp_syntax.specs.declared.token.Punct.TheVariants.{Semicolon}
 use Rattle.mp_syntax.specs.Syntax.{KindOf}
 use Rattle.mp_syntax.specs.Machine.{BeforeMember, AfterMember, Emit, run}
 use Rattle.mp_syntax.specs.View.{placed, spot_of}
 use Rattle.mp_syntax.specs.Parsing.{ahead}
-use Rattle.mp_syntax.proofs.Runs.{fails-along, member-again, members-end, over-punct}
+use Rattle.mp_syntax.proofs.Runs.{member-again, members-end, over-punct, breaks}
 use Rattle.mp_syntax.proofs.parser.Parser.members.Goals as goal
 
 pub returns-in_err-word-clause-read : goal.returns-in_err-word-clause-read
-returns-in_err-word-clause-read c =
-    let p = err_from_is_err_and c.from_residual.result c.from_residual.ensures.1 in
-    rw (p.1, p.2) (λ done name.
+returns-in_err-word-clause-read c = λ done name.
     let members = map spot_of c.loop-members.members.items in
-    fails-along _ _ _
+    breaks _ _ _ _ _ _ _ c.from_residual.ensures.1
     (c.loop-members.invariant.read done name)
-    (c.in_err-word.ensures.read done (BeforeMember name members) (λ w. AfterMember name (members ++ w ∷ [])) (λ t. refl)))
+    (c.in_err-word.ensures.read done (BeforeMember name members) (λ w. AfterMember name (members ++ w ∷ [])) (λ t. refl))
 
 pub loop-members-preserved : goal.loop-members-preserved
 loop-members-preserved c = record {

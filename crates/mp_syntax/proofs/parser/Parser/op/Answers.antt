@@ -1,30 +1,26 @@
 use Rattle.std.proofs.Common.{refl, ◌∙◌}
-use Rattle.std.proofs.lemmas.Result.{err_from_is_err_and}
 use Rattle.mp_syntax.specs.Machine.{AfterOp, AfterOpName}
 use Rattle.mp_syntax.specs.View.{spot_of}
-use Rattle.mp_syntax.proofs.Runs.{fails-along}
+use Rattle.mp_syntax.proofs.Runs.{breaks}
 use Rattle.mp_syntax.proofs.parser.Parser.op.Goals as goal
 
 pub returns-in_err-name-clause-read : goal.returns-in_err-name-clause-read
-returns-in_err-name-clause-read c =
-    let p = err_from_is_err_and c.from_residual.result c.from_residual.ensures.1 in
-    rw (p.1, p.2) (λ done. c.in_err-name.ensures.read done AfterOp AfterOpName (λ t. refl))
+returns-in_err-name-clause-read c = λ done.
+    breaks _ _ _ _ _ _ _ c.from_residual.ensures.1 refl (c.in_err-name.ensures.read done AfterOp AfterOpName (λ t. refl))
 
 pub returns-in_err-least-clause-read : goal.returns-in_err-least-clause-read
-returns-in_err-least-clause-read c =
-    let p = err_from_is_err_and c.from_residual-in_err-least.result c.from_residual-in_err-least.ensures.1 in
-    rw (p.1, p.2) (λ done. fails-along _ _ _
+returns-in_err-least-clause-read c = λ done.
+    breaks _ _ _ _ _ _ _ c.from_residual-in_err-least.ensures.1
     (c.in_ok-name.ensures.read done AfterOp AfterOpName (λ t. refl))
-    (c.in_err-least.ensures.read done (spot_of c.in_ok-name.name)))
+    (c.in_err-least.ensures.read done (spot_of c.in_ok-name.name))
 
 pub returns-in_err-flags-clause-read : goal.returns-in_err-flags-clause-read
-returns-in_err-flags-clause-read c =
-    let p = err_from_is_err_and c.from_residual-in_err-flags.result c.from_residual-in_err-flags.ensures.1 in
-    rw (p.1, p.2) (λ done. fails-along _ _ _
+returns-in_err-flags-clause-read c = λ done.
+    breaks _ _ _ _ _ _ _ c.from_residual-in_err-flags.ensures.1
     (c.in_ok-name.ensures.read done AfterOp AfterOpName (λ t. refl)
     ∙ c.in_ok-least.ensures.read done (spot_of c.in_ok-name.name)
     ∙ c.plus-open.ensures.read done (spot_of c.in_ok-name.name) (spot_of c.in_ok-least.least))
-    (c.in_err-flags.ensures.read done (spot_of c.in_ok-name.name) (spot_of c.in_ok-least.least) c.plus-open.result))
+    (c.in_err-flags.ensures.read done (spot_of c.in_ok-name.name) (spot_of c.in_ok-least.least) c.plus-open.result)
 
 pub returns-clause-read : goal.returns-clause-read
 returns-clause-read c = λ done.

@@ -1,17 +1,15 @@
 use Rattle.std.proofs.Common.{◌∙◌}
-use Rattle.std.proofs.lemmas.Result.{err_from_is_err_and}
 use Rattle.mp_syntax.specs.Machine.{OfRule}
 use Rattle.mp_syntax.specs.View.{placed, spot_of, expr_tree}
-use Rattle.mp_syntax.proofs.Runs.{fails-along}
+use Rattle.mp_syntax.proofs.Runs.{breaks}
 use Rattle.mp_syntax.proofs.ConditionRuns.{behind-if}
 use Rattle.mp_syntax.proofs.parser.Parser.rule.Goals as goal
 
 pub returns-in_err-expect-clause-read : goal.returns-in_err-expect-clause-read
-returns-in_err-expect-clause-read c =
-    let p = err_from_is_err_and c.from_residual-in_err-expect.result c.from_residual-in_err-expect.ensures.1 in
-    rw (p.1, p.2) (λ done.
+returns-in_err-expect-clause-read c = λ done.
     let r = behind-if c.in_ok-condition.condition _ _ (placed c.rule_condition.new.self.token) c.in_ok-condition.ensures.read c.in_ok-condition.ensures.ends done (spot_of c.in_ok-name.name) (expr_tree c.in_ok-name.pattern) in
-    fails-along _ _ _ (c.in_ok-name.ensures.read done OfRule ∙ r.1) (c.in_err-expect.ensures.read done r.0 _ r.2))
+    breaks _ _ _ _ _ _ _ c.from_residual-in_err-expect.ensures.1
+    (c.in_ok-name.ensures.read done OfRule ∙ r.1) (c.in_err-expect.ensures.read done r.0 _ r.2)
 
 pub returns-clause-read : goal.returns-clause-read
 returns-clause-read c = λ done.

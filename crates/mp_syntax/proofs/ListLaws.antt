@@ -1,4 +1,4 @@
--- Fronts of a list whose elements pass a test.
+-- Lists: fronts whose elements pass a test, and the tests of elements.
 use Rattle.std.proofs.Common.{◌≡◌, ℕ, zero, suc, ◌+◌, Bool, true, false, cond, List, [], ◌∷◌, ◌++◌, length, take, drop, refl, sym, ap, ◌∙◌, arith, inl, inr}
 use Rattle.std.specs.Prelude.{◌⊎◌, ◌==◌}
 use Rattle.std.specs.List.{prefix_len, list_all, list_any}
@@ -34,11 +34,6 @@ take-add (suc a) b (x ∷ xs) = let e : suc a + b ≡ suc (a + b) = omega arith 
 -- more elements than the first list has
 pub take-past : (a b : List ℕ) (n : ℕ) → take (length a + n) (a ++ b) ≡ a ++ take n b
 take-past a b n = take-add (length a) n (a ++ b) ∙ (λ i. take_at a b (length a) refl i ++ take n (drop_at a b (length a) refl i))
-
--- a list without length is empty
-pub empty-length : {X : Type 0} (l : List X) → length l ≡ 0 → l ≡ []
-empty-length [] e = refl
-empty-length (x ∷ l) e = absurd (omega (arith, e))
 
 -- one of these numbers passes a test that they all pass
 pub one-passes : (q : ℕ → Bool) (b : ℕ) (ns : List ℕ) → list_any (λ n. b == n) ns ≡ true → list_all q ns ≡ true → q b ≡ true
