@@ -1,4 +1,4 @@
-// Numbers that conditions compare.
+//! Numbers that conditions compare.
 ghost use Rattle.std.specs.Prelude.{◌≡◌, ◌-◌, ◌^◌, map, min};
 ghost use Rattle.std.specs.List.{AllByRecursion};
 ghost use Rattle.mp_term.specs.View.{tree};

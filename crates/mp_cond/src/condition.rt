@@ -1,4 +1,4 @@
-// Conditions decided.
+//! Conditions decided.
 ghost use Rattle.std.specs.Prelude.{◌≡◌, ◌||◌, map, if◌then◌else◌};
 ghost use Rattle.std.specs.List.{AllByRecursion};
 ghost use Rattle.mp_term.specs.Order.{tree_cmp};
@@ -47,8 +47,8 @@ fn comes_before(a: &Operand, b: &Operand, subst: &Subst) -> bool
     }
 }
 
-/// Whether the condition holds of the substitution (`holds` of mp_pattern's `specs/Holds`). Each variable of the condition is bound,
-/// and the terms of its value, and likewise each ground term, have fewer than 2 ^ 64 nodes together (`IsReady` of `specs/Ready`).
+/// Whether the condition holds of the substitution (`holds` of mp_pattern's `specs/Holds.antt`). Each variable of the condition is bound,
+/// and the terms of its value, and likewise each ground term, have fewer than 2 ^ 64 nodes together (`IsReady` of `specs/Ready.antt`).
 /// It takes no memory.
 #[cycle(holds)]
 pub fn holds(sig: &Signature, cond: &Cond, subst: &Subst) -> bool

@@ -1,4 +1,4 @@
-// Tests of each term of a list.
+//! Tests of each term of a list.
 ghost use Rattle.std.specs.Prelude.{◌≡◌, map, not};
 ghost use Rattle.mp_term.specs.View.{tree};
 ghost use Rattle.mp_term.specs.Signature.{in_kind};

@@ -1,4 +1,4 @@
-// What operands stand for.
+//! What operands stand for.
 ghost use Rattle.std.specs.Prelude.{◌≡◌, map, option_map};
 ghost use Rattle.mp_term.specs.View.{tree};
 ghost use Rattle.mp_pattern.specs.CondView.{operand};

@@ -1,4 +1,4 @@
-// Subterms.
+//! Subterms.
 ghost use Rattle.std.specs.Prelude.{◌≡◌};
 ghost use Rattle.mp_term.specs.View.{tree};
 ghost use Rattle.mp_pattern.specs.Holds.{occurs};

@@ -1,4 +1,4 @@
-// How a pattern becomes a plan.
+//! How a pattern becomes a plan.
 ghost use Rattle.std.specs.Prelude.{◌≡◌, ◌↔◌, ◌⊎◌, ◌+◌, ◌<◌, ◌≤◌, ◌++◌, ◌∷◌, ◌&&◌, ℕ, Some, None, true, not, [], map, filter, length, OnOk, IfOk, IfSome, IsOk, Err, position, option_map, nat_lt, if◌then◌else◌};
 ghost use Rattle.std.specs.List.{list_any};
 ghost use Rattle.mp_pattern.specs.View.{pattern_tree, wildcard};
@@ -264,14 +264,14 @@ fn compiled(alloc: Global, sig: &Signature, pattern: &Pattern) -> Result<Plan, P
 }
 
 impl Plan {
-    /// The plan of a pattern over a signature that holds its operations (`IsPlanOf` of `specs/Plan`). The pattern is taken as it
+    /// The plan of a pattern over a signature that holds its operations (`IsPlanOf` of `specs/Plan.antt`). The pattern is taken as it
     /// stands, normal or not. An operation that isn't held would count as one that isn't commutative.
     ///
-    /// The refusals come in this order (`plan_fault` of `specs/PlanFault`), and leave nothing. `LooseSequence` comes exactly where the
+    /// The refusals come in this order (`plan_fault` of `specs/PlanFault.antt`), and leave nothing. `LooseSequence` comes exactly where the
     /// root is a plus, star or optional wildcard. `TooManyNodes` comes exactly where the pattern has more than `MAX_PATTERN_NODES` nodes, a wildcard
     /// with its default being one, with their number, or the greatest `u32` where there are more. `TooManyVars` comes exactly where it
     /// has more than `MAX_VARIABLES` variables, with their number. `KindClash` comes exactly where the wildcard at some node has the variable
-    /// of one before it and another class, kind or default, with the least such node (`first_clash` of `specs/Clash`). `Memory` comes
+    /// of one before it and another class, kind or default, with the least such node (`first_clash` of `specs/Clash.antt`). `Memory` comes
     /// where there is no room for the plan, also in place of the last two.
     pub fn compile(alloc: Global, sig: &Signature, pattern: &Pattern) -> Result<Plan, PlanFault>
         ensures plan { IfOk result (λ plan. IsPlanOf sig.now (pattern_tree pattern.now) plan) }

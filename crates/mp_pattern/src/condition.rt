@@ -1,4 +1,4 @@
-// Conditions: what a substitution must meet beside the pattern.
+//! Conditions: what a substitution must meet beside the pattern.
 ghost use Rattle.std.specs.Prelude.{◌≡◌, [], ◌∷◌, ◌++◌, length, map, slice_get, OnOk, OnErr, IfOk, option_map};
 ghost use Rattle.mp_pattern.specs.CondView.{cond_tree};
 
@@ -6,7 +6,7 @@ use mp_term::{KindId, Memory, Name, OpId, Term};
 use std::alloc::Global;
 use std::marker::Model;
 
-/// What an atom speaks of. Its list is `list_of` of `specs/Holds`.
+/// What an atom speaks of. Its list is `list_of` of `specs/Holds.antt`.
 #[derive(Drop)]
 pub enum Operand {
     /// The terms of the value of a variable.
@@ -15,7 +15,7 @@ pub enum Operand {
     Ground(Term),
 }
 
-/// A number that an atom compares: `amount_of` of `specs/Holds`.
+/// A number that an atom compares: `amount_of` of `specs/Holds.antt`.
 #[derive(Drop)]
 pub enum Amount {
     /// The number as written.
@@ -37,7 +37,7 @@ pub enum Sense {
     Ne,
 }
 
-/// A condition on a substitution. Contracts see it as the tree `cond_tree` of `specs/CondView`; `holds` of `specs/Holds` says
+/// A condition on a substitution. Contracts see it as the tree `cond_tree` of `specs/CondView.antt`; `holds` of `specs/Holds.antt` says
 /// when it holds.
 #[cycle(condition)]
 #[derive(Drop)]

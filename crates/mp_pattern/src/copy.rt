@@ -1,4 +1,4 @@
-// Copies of patterns and conditions.
+//! Copies of patterns and conditions.
 ghost use Rattle.std.specs.Prelude.{◌≡◌, IfOk};
 ghost use Rattle.mp_pattern.specs.View.{wildcard, pattern_tree};
 ghost use Rattle.mp_pattern.specs.CondView.{operand, amount, cond_tree};

@@ -1,4 +1,4 @@
-// Take tables, entry by entry, and the forms of variables.
+//! Take tables, entry by entry, and the forms of variables.
 ghost use Rattle.std.specs.Prelude.{◌≡◌, [], ◌∷◌, ◌++◌, length, map, slice_get, OnOk, OnErr, option_map};
 ghost use Rattle.mp_pattern.specs.EntryView.{table_entry};
 
@@ -7,7 +7,7 @@ use std::alloc::Global;
 use std::marker::Model;
 
 /// What a node of a pattern takes, and of an application whether it is collapsed.
-/// Contracts see it as the record `table_entry` of `specs/EntryView`.
+/// Contracts see it as the record `table_entry` of `specs/EntryView.antt`.
 #[derive(Drop)]
 pub struct Entry {
     pub terms: Terms,
@@ -15,7 +15,7 @@ pub struct Entry {
 }
 
 /// A take table: one entry for each node of a pattern, in preorder. Contracts see it as the list of its entries' records;
-/// `specs/Fits` says when it fits.
+/// `specs/Fits.antt` says when it fits.
 #[derive(Drop)]
 pub struct Entries {
     items: Vec<Entry>,
@@ -78,7 +78,7 @@ impl Entries {
 }
 
 /// What a variable stands for: one term, a tuple of terms, or a multiset of terms, kept as its sorted list.
-/// `specs/Variables` says which form a variable of a pattern has.
+/// `specs/Variables.antt` says which form a variable of a pattern has.
 #[derive(Debug, Drop, Clone, Copy, PartialEq, Eq)]
 pub enum Form {
     One,

@@ -1,4 +1,4 @@
-// Laws of the pattern order and of normal forms, each as the contract of a function that does nothing.
+//! Laws of the pattern order and of normal forms, each as the contract of a function that does nothing.
 ghost use Rattle.std.specs.Prelude.{◌≡◌, ◌≤◌, ◌↔◌, map, None, true};
 ghost use Rattle.std.specs.declared.cmp.Ordering.TheVariants.{Equal};
 ghost use Rattle.std.specs.Cmp.{IsTotalOrder};

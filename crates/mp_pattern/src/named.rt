@@ -1,11 +1,11 @@
-// Whether each wildcard has a name.
+//! Whether each wildcard has a name.
 ghost use Rattle.std.specs.Prelude.{◌≡◌};
 ghost use Rattle.mp_pattern.specs.View.{pattern_tree};
 ghost use Rattle.mp_pattern.specs.Instance.{is_fully_named};
 
 use crate::pattern::Pattern;
 
-/// Each wildcard of the pattern has a name (`is_fully_named` of `specs/Instance`). It takes no memory.
+/// Each wildcard of the pattern has a name (`is_fully_named` of `specs/Instance.antt`). It takes no memory.
 pub fn is_fully_named(pattern: &Pattern) -> bool
     ensures { result ≡ is_fully_named (pattern_tree pattern.now) }
 {

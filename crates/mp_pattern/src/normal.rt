@@ -1,4 +1,4 @@
-// Normal forms of patterns.
+//! Normal forms of patterns.
 ghost use Rattle.std.specs.Prelude.{◌≡◌, ◌++◌, map, OnOk, IfOk, true};
 ghost use Rattle.mp_term.specs.Sorting.{sorted};
 ghost use Rattle.mp_pattern.specs.View.{pattern_tree};
@@ -87,7 +87,7 @@ fn normal_form(alloc: Global, sig: &Signature, pattern: Pattern) -> Result<Patte
     }
 }
 
-/// The normal form of a pattern (`normal_pattern` of `specs/Normal`): the arguments are normalised, those of an associative
+/// The normal form of a pattern (`normal_pattern` of `specs/Normal.antt`): the arguments are normalised, those of an associative
 /// operation that are headed by it are replaced by their arguments, those of a commutative operation are sorted by the pattern
 /// order, and a one-identity operation of one argument is replaced by that argument, unless it is a plus, star or optional
 /// wildcard. Its operations are held and its defaults normal, as before. `Memory` comes where there is no room for the flattened

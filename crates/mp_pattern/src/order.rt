@@ -1,4 +1,4 @@
-// The pattern order.
+//! The pattern order.
 ghost use Rattle.std.specs.Prelude.{◌≡◌, map, Some, refl};
 ghost use Rattle.std.specs.Ordering.{is_eq, nat_cmp, ordering_then};
 ghost use Rattle.std.specs.Cmp.{on_equiv, on_per, on_po, on_total, partial_equiv_from_equiv, po, eq_by_cmp_equiv};
@@ -84,7 +84,7 @@ pub(crate) fn compare_shapes(v: &Shape, w: &Shape) -> Ordering
     }
 }
 
-/// The pattern order (`pattern_cmp` of `specs/Order`): patterns without a wildcard come first, as their terms do in the term
+/// The pattern order (`pattern_cmp` of `specs/Order.antt`): patterns without a wildcard come first, as their terms do in the term
 /// order, then applications that hold a wildcard, then kind, dot, optional, plus and star wildcards. Those applications
 /// compare by the numbers of their operations, then by how many arguments they have, then argument by argument from the left;
 /// wildcards of one class by the bytes of their names, unnamed ones last, then by the number of the kind or by the default.

@@ -1,4 +1,4 @@
-// The subpatterns, the occurrences of variables and the variables of a pattern, as a plan is made of them.
+//! The subpatterns, the occurrences of variables and the variables of a pattern, as a plan is made of them.
 ghost use Rattle.std.specs.Prelude.{◌≡◌, ◌+◌, ◌-◌, ◌^◌, ◌≤◌, ◌<◌, ◌++◌, None, [], map, length, min, OnOk, IfOk, IfSome, option_map};
 ghost use Rattle.std.specs.List.{list_any};
 ghost use Rattle.mp_pattern.specs.View.{wildcard, pattern_tree};

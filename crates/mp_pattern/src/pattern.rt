@@ -1,4 +1,4 @@
-// Patterns: terms with wildcards.
+//! Patterns: terms with wildcards.
 ghost use Rattle.std.specs.Prelude.{◌≡◌, [], ◌∷◌, ◌++◌, length, map, slice_get, OnOk, OnErr, option_map};
 ghost use Rattle.mp_pattern.specs.PatternTree.{is_sequence, least, most, is_loose};
 ghost use Rattle.mp_pattern.specs.View.{wildcard, pattern_tree};
@@ -7,7 +7,7 @@ use mp_term::{KindId, Memory, Name, OpId, Term};
 use std::alloc::Global;
 use std::marker::Model;
 
-/// What a wildcard takes of the arguments around it. `WildTakes` of `specs/Fits` says it for each value of its variable.
+/// What a wildcard takes of the arguments around it. `WildTakes` of `specs/Fits.antt` says it for each value of its variable.
 #[derive(Drop)]
 pub enum Shape {
     /// One argument, or under an associative operation the arguments that its value contributes.
@@ -59,7 +59,7 @@ impl Shape {
     }
 }
 
-/// A term with wildcards. Contracts see it as the tree `pattern_tree` of `specs/View`; `specs/Fits` says what it matches.
+/// A term with wildcards. Contracts see it as the tree `pattern_tree` of `specs/View.antt`; `specs/Fits.antt` says what it matches.
 #[cycle(pattern)]
 #[derive(Drop)]
 pub enum Pattern {

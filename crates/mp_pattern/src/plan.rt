@@ -1,4 +1,4 @@
-// Plans: a pattern with its nodes and its variables, each by its number.
+//! Plans: a pattern with its nodes and its variables, each by its number.
 ghost use Rattle.std.specs.Prelude.{◌≡◌, ◌<◌, ◌≤◌, IfSome, length, slice_get, position, option_map};
 ghost use Rattle.std.specs.Option.{option_and_then};
 ghost use Rattle.mp_pattern.specs.Value.{same_name};
@@ -11,7 +11,7 @@ use crate::pattern::{Pattern, Shape};
 use mp_term::{Name, OpId};
 use std::marker::Model;
 
-/// What stands at a node of a plan. Contracts see it as the label `shown_label` of `specs/PlanView`.
+/// What stands at a node of a plan. Contracts see it as the label `shown_label` of `specs/PlanView.antt`.
 #[derive(Drop)]
 pub enum PlanNode<'a> {
     /// A symbol.
@@ -46,7 +46,7 @@ pub(crate) struct Variable {
 }
 
 /// A pattern with its nodes, which have the numbers of the preorder from 0, and its variables, which are numbered from 0 by
-/// first occurrence. Contracts see it as the record `Plan` of `specs/Plan`, where `IsPlanOf` says of which pattern it is.
+/// first occurrence. Contracts see it as the record `Plan` of `specs/Plan.antt`, where `IsPlanOf` says of which pattern it is.
 #[derive(Drop)]
 pub struct Plan {
     pub(crate) pattern: Pattern,
@@ -166,7 +166,7 @@ impl Plan {
         }
     }
 
-    /// The form of the variable of that number (`variable_form` of `specs/Variables`). It is None exactly where no variable has the
+    /// The form of the variable of that number (`variable_form` of `specs/Variables.antt`). It is None exactly where no variable has the
     /// number.
     pub fn var_form(&self, var: u32) -> Option<Form>
         ensures { option_map form result ≡ option_map (λ v. v.form) (slice_get self.now.variables var) }

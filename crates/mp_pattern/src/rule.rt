@@ -1,4 +1,4 @@
-// Rules: what is matched, under which condition, and what is made of it.
+//! Rules: what is matched, under which condition, and what is made of it.
 ghost use Rattle.std.specs.Prelude.{◌≡◌, [], ◌∷◌, ◌++◌, length, map, slice_get, OnOk, OnErr, option_map};
 ghost use Rattle.mp_pattern.specs.RuleView.{rule_tree};
 
@@ -8,7 +8,7 @@ use std::alloc::Global;
 use std::marker::Model;
 
 /// A named pattern with perhaps a template and a condition.
-/// Contracts see it as the record `rule_tree` of `specs/RuleView`; `specs/Admission` says what it admits on a subject.
+/// Contracts see it as the record `rule_tree` of `specs/RuleView.antt`; `specs/Admission.antt` says what it admits on a subject.
 #[derive(Drop)]
 pub struct Rule {
     pub name: Name,

@@ -1,4 +1,4 @@
-// Syntactic patterns.
+//! Syntactic patterns.
 ghost use Rattle.std.specs.Prelude.{◌≡◌};
 ghost use Rattle.mp_pattern.specs.View.{pattern_tree};
 ghost use Rattle.mp_pattern.specs.Syntactic.{is_plain, is_syntactic};
@@ -16,7 +16,7 @@ fn is_plain(sig: &Signature, op: OpId) -> bool
     }
 }
 
-/// The pattern is syntactic (`is_syntactic` of `specs/Syntactic`): it holds no plus, star or optional wildcard, and each of its
+/// The pattern is syntactic (`is_syntactic` of `specs/Syntactic.antt`): it holds no plus, star or optional wildcard, and each of its
 /// operations is held, has a fixed count of arguments, and is neither associative nor commutative. It takes no memory.
 pub fn is_syntactic(sig: &Signature, pattern: &Pattern) -> bool
     ensures { result ≡ is_syntactic sig.now (pattern_tree pattern.now) }

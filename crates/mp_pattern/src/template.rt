@@ -1,4 +1,4 @@
-// Templates: terms with variables, from which a rule makes its result.
+//! Templates: terms with variables, from which a rule makes its result.
 ghost use Rattle.std.specs.Prelude.{◌≡◌, [], ◌∷◌, ◌++◌, length, map, slice_get, OnOk, OnErr, option_map};
 ghost use Rattle.mp_pattern.specs.TemplateView.{template_tree};
 
@@ -6,7 +6,7 @@ use mp_term::{Memory, Name, OpId};
 use std::alloc::Global;
 use std::marker::Model;
 
-/// A term with variables. Contracts see it as the tree `template_tree` of `specs/TemplateView`; `specs/Instance` says what it
+/// A term with variables. Contracts see it as the tree `template_tree` of `specs/TemplateView.antt`; `specs/Instance.antt` says what it
 /// becomes under a substitution.
 #[cycle(template)]
 #[derive(Drop)]

@@ -1,4 +1,4 @@
-// Copies of values and substitutions.
+//! Copies of values and substitutions.
 ghost use Rattle.std.specs.Prelude.{◌≡◌, IfOk};
 ghost use Rattle.mp_subst.specs.View.{value_of, subst_of};
 

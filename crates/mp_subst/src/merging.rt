@@ -1,4 +1,4 @@
-// The common value of two uses of a variable.
+//! The common value of two uses of a variable.
 ghost use Rattle.std.specs.Prelude.{◌≡◌, Some, None, IfOk, IfErr, if◌then◌else◌};
 ghost use Rattle.mp_pattern.specs.Value.{merge};
 ghost use Rattle.mp_subst.specs.View.{value_of};
@@ -42,7 +42,7 @@ fn choose(old: &Value, new: &Value) -> Choice
     }
 }
 
-/// The common value of two uses of a variable (`merge` of mp_pattern's `specs/Value`): of equal values of one form that value, and
+/// The common value of two uses of a variable (`merge` of mp_pattern's `specs/Value.antt`): of equal values of one form that value, and
 /// of a tuple and a multiset with the same terms, each as often, the tuple. Exactly in every other case both values come back as they
 /// were, the old one first. A multiset needn't be sorted. It takes no memory.
 pub fn merge(old: Value, new: Value) -> Result<Value, (Value, Value)>

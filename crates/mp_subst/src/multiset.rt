@@ -1,4 +1,4 @@
-// Lists of terms as multisets.
+//! Lists of terms as multisets.
 ghost use Rattle.std.specs.Prelude.{◌≡◌, map, count_by};
 ghost use Rattle.std.specs.Ordering.{eq_by_cmp};
 ghost use Rattle.mp_term.specs.View.{tree};
@@ -22,7 +22,7 @@ fn occurrences(term: &Term, terms: &[Term]) -> usize
 }
 
 /// Whether the lists have the same terms, each as often: whether their sorted lists are equal (`same_terms` of mp_pattern's
-/// `specs/Value`). It takes no memory.
+/// `specs/Value.antt`). It takes no memory.
 pub fn same_multiset(terms: &[Term], others: &[Term]) -> bool
     ensures { result ≡ same_terms (sorted tree_cmp (map tree terms.now)) (sorted tree_cmp (map tree others.now)) }
 {

@@ -1,4 +1,4 @@
-// The order of values and of substitutions, and their equality.
+//! The order of values and of substitutions, and their equality.
 ghost use Rattle.std.specs.Prelude.{◌≡◌, ◌↔◌, map, length, IsTrue};
 ghost use Rattle.std.specs.declared.cmp.Ordering.TheVariants.{Equal};
 ghost use Rattle.mp_pattern.specs.Lists.{value_cmp, subst_cmp};
@@ -9,7 +9,7 @@ use crate::value::Value;
 use mp_term::{compare, compare_all};
 use std::cmp::Ordering;
 
-/// The order of values (`value_cmp` of mp_pattern's `specs/Lists`): One comes before Seq, and Seq before Bag. Two One compare by
+/// The order of values (`value_cmp` of mp_pattern's `specs/Lists.antt`): One comes before Seq, and Seq before Bag. Two One compare by
 /// the term order, two Seq and two Bag by shortlex. Equal values alone are `Equal`. It takes no memory.
 pub fn compare_value(a: &Value, b: &Value) -> Ordering
     ensures order { result ≡ value_cmp (value_of a.now) (value_of b.now) }
@@ -44,7 +44,7 @@ fn compare_bindings(bindings: &[Binding], others: &[Binding]) -> Ordering
     Ordering::Equal
 }
 
-/// The order of substitutions (`subst_cmp` of mp_pattern's `specs/Lists`): variable by variable in order, by `compare_value`.
+/// The order of substitutions (`subst_cmp` of mp_pattern's `specs/Lists.antt`): variable by variable in order, by `compare_value`.
 /// Both have the same names in the same order. Equal substitutions alone are `Equal`. It takes no memory.
 pub fn compare_subst(a: &Subst, b: &Subst) -> Ordering
     requires { map (λ x. x.name) (subst_of a.now) ≡ map (λ x. x.name) (subst_of b.now) }

@@ -1,4 +1,4 @@
-// Substitutions, and lists of bindings.
+//! Substitutions, and lists of bindings.
 ghost use Rattle.std.specs.Prelude.{◌≡◌, [], ◌∷◌, ◌++◌, length, map, slice_get, OnOk, OnErr, option_map};
 ghost use Rattle.mp_pattern.specs.Value as plain;
 ghost use Rattle.mp_subst.specs.View.{binding_of, value_of, subst_of};
@@ -8,7 +8,7 @@ use mp_term::{Memory, Name};
 use std::alloc::Global;
 use std::marker::Model;
 
-/// A variable and its value. Contracts see it as the record `binding_of` of `specs/View`.
+/// A variable and its value. Contracts see it as the record `binding_of` of `specs/View.antt`.
 #[derive(Drop)]
 pub struct Binding {
     pub name: Name,
@@ -79,14 +79,14 @@ impl Bindings {
 }
 
 /// The variables of a pattern in order of first occurrence, each with its value. Contracts see it as the plain substitution
-/// `subst_of` of `specs/View`.
+/// `subst_of` of `specs/View.antt`.
 #[derive(Drop)]
 pub struct Subst {
     pub bindings: Bindings,
 }
 
 impl Subst {
-    /// The value of a variable (`value_of` of mp_pattern's `specs/Value`). It is None exactly where the substitution doesn't bind the
+    /// The value of a variable (`value_of` of mp_pattern's `specs/Value.antt`). It is None exactly where the substitution doesn't bind the
     /// variable. It takes no memory.
     pub fn value_of(&self, name: &Name) -> Option<&Value>
         ensures { option_map (λ v. value_of v.now) result ≡ plain.value_of (subst_of self.now) name.now }

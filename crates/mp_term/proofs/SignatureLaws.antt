@@ -107,10 +107,6 @@ pub in_kind-members : (sig : Sig) (i : ℕ) (n : List ℕ) → 0 < i → in_kind
 in_kind-members sig i n h = in_kind-declared sig i n h ∙ members_of n sig.kinds (i - 1) ∙ ap (λ o. option_map_or (list_any (bytes_eq n)) o false) (sym (slice_get-behind [] (map (λ k. k.members) sig.kinds) i h))
 
 -- what an added operation must keep
-all_in_order-append : (ds : List OpDecl) (d : OpDecl) → all_in_order ds ≡ true → in_order d ≡ true → all_in_order (ds ++ d ∷ []) ≡ true
-all_in_order-append [] d h e = and_from _ _ e refl
-all_in_order-append (c ∷ ds) d h e = let k = and_parts _ _ h in and_from _ _ k.0 (all_in_order-append ds d k.1 e)
-
 all_with : {X : Type 0} (p : X → Bool) (xs : List X) (x : X) → list_all p xs ≡ true → p x ≡ true → list_all p (xs ++ x ∷ []) ≡ true
 all_with p xs x h e = list_all-append p xs (x ∷ []) ∙ and_from _ _ h (and_from _ _ e refl)
 
@@ -159,7 +155,7 @@ IsSignature-add_op sig d h e l =
     let few : nat_le MAX_OPS (length sig.ops) ≡ false = f.1 in
     let few_enough : nat_le d.least MAX_ARITY ≡ true = grind (arith, nat_tests) in
     record {
-      ops_in_order = all_in_order-append sig.ops d h.ops_in_order f.2;
+      ops_in_order = all_with in_order sig.ops d h.ops_in_order f.2;
       least_counts = all_with (λ c. nat_le c.least MAX_ARITY) sig.ops d h.least_counts few_enough;
       ops_distinct = none_clash-append sig.ops d h.ops_distinct f.0;
       at_most_ops = rw (length-append sig.ops (d ∷ [])) (grind (arith, nat_tests));

@@ -33,8 +33,7 @@ in_order d = (not d.assoc || (not d.fixed && nat_le d.least 2)) && ((not d.one |
 
 -- each declaration is in order
 abbrev pub all_in_order : List OpDecl → Bool
-all_in_order [] = true
-all_in_order (d ∷ ds) = in_order d && all_in_order ds
+all_in_order = list_all in_order
 
 -- the declaration has this name
 abbrev pub has_name : List ℕ → OpDecl → Bool

@@ -1,4 +1,4 @@
-// Edits of a term, and lists of them.
+//! Edits of a term, and lists of them.
 ghost use Rattle.std.specs.Prelude.{◌≡◌, [], ◌∷◌, ◌++◌, length, slice_get, option_map, OnOk, OnErr};
 
 use crate::memory::Memory;

@@ -1,15 +1,15 @@
-// Names of symbols, operations, kinds and variables, and lists of them.
+//! Names of symbols, operations, kinds and variables, and lists of them.
 ghost use Rattle.std.specs.Prelude.{◌≡◌, [], ◌∷◌, ◌++◌, length, slice_get, option_map, bytes_eq, OnOk, OnErr, IfOk, Err, Some, true, false, refl, ◌↔◌};
 ghost use Rattle.std.specs.Ordering.{is_eq, nat_cmp, eq_by_cmp};
 ghost use Rattle.std.specs.Cmp.{partial_equiv_from_equiv, po, eq_by_cmp_equiv};
 ghost use Rattle.std.specs.Cmp.Lexicographic.{slice_cmp};
 ghost use Rattle.std.proofs.lemmas.Cmp.{nat_list_cmp_total};
-ghost use Rattle.std.specs.List.{list_any};
+ghost use Rattle.std.specs.List.{list_any, list_all};
 ghost use Rattle.mp_term.specs.Names.{is_name, is_name_byte, name_set, names_ascend};
 
 use crate::limits::MAX_NAME_BYTES;
 use crate::memory::Memory;
-use std::alloc::Global;
+use std::alloc::{AllocError, Global};
 use std::cmp::Ordering;
 use std::marker::Model;
 
@@ -40,11 +40,28 @@ pub enum NameFault {
     Memory,
 }
 
+impl From<AllocError> for NameFault {
+    ghost use Rattle.mp_term.specs.declared.name.NameFault.TheVariants as fault;
+
+    ghost from_gives = { λ _ e. e ≡ fault.Memory };
+
+    fn from(_error: AllocError) -> NameFault {
+        NameFault::Memory
+    }
+}
+
 // The byte is an ASCII letter or digit.
 fn is_name_byte(byte: u8) -> bool
     ensures { result ≡ is_name_byte byte }
 {
     byte.is_ascii_alphanumeric()
+}
+
+// The bytes are ASCII letters and digits.
+fn are_name_bytes(bytes: &[u8]) -> bool
+    ensures { result ≡ list_all is_name_byte bytes.now }
+{
+    bytes.iter().all(|byte| is_name_byte(*byte))
 }
 
 // The bytes are the spelling of a name.
@@ -54,16 +71,11 @@ fn is_name(bytes: &[u8]) -> bool
     if bytes.is_empty() || MAX_NAME_BYTES < bytes.len() {
         return false;
     }
-    for byte in bytes {
-        if !is_name_byte(*byte) {
-            return false;
-        }
-    }
-    true
+    are_name_bytes(bytes)
 }
 
 impl Name {
-    /// The name that is spelt by the bytes, which are copied (`is_name` of specs/Names.antt).
+    /// The name that is spelt by the bytes, which are copied (`is_name` of `specs/Names.antt`).
     /// `Spelling` comes exactly where they are no name, `Memory` where there is no room for the copy.
     pub fn new(alloc: Global, bytes: &[u8]) -> Result<Name, NameFault>
         ensures ok { IfOk result (λ n. n ≡ bytes.now) }
@@ -73,10 +85,8 @@ impl Name {
             return Err(NameFault::Spelling);
         }
         let mut copy = Vec::new(alloc);
-        match copy.extend_from_slice(bytes) {
-            Ok(()) => Ok(Name { bytes: copy }),
-            Err(_) => Err(NameFault::Memory),
-        }
+        copy.extend_from_slice(bytes)?;
+        Ok(Name { bytes: copy })
     }
 
     /// The bytes of the name, which are the spelling of one.

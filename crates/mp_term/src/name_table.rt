@@ -1,4 +1,4 @@
-// The index of each of a list of distinct names.
+//! The index of each of a list of distinct names.
 ghost use Rattle.std.specs.Prelude.{◌≡◌, ◌<◌, ◌++◌, ◌∷◌, [], length, position, bytes_eq, IfSome, OnOk, OnErr, false};
 ghost use Rattle.std.specs.List.{list_any};
 

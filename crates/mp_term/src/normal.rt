@@ -1,4 +1,4 @@
-// Normal forms.
+//! Normal forms.
 ghost use Rattle.std.specs.Prelude.{◌≡◌, ◌≤◌, ◌++◌, map, OnOk, IfOk, true, IsTrue, ◌↔◌, ◌&&◌, not};
 ghost use Rattle.mp_term.specs.View.{tree};
 ghost use Rattle.mp_term.specs.Order.{tree_cmp};
@@ -51,7 +51,7 @@ fn collapse(sig: &Signature, op: OpId, mut args: Terms) -> Term
     Term::App(op, args)
 }
 
-/// The normal form of any term, in one pass from the leaves up (`normal` of specs/Normal.antt), whatever operations it has and
+/// The normal form of any term, in one pass from the leaves up (`normal` of `specs/Normal.antt`), whatever operations it has and
 /// however many arguments they have. `Memory` comes where there is no room for the flattened lists; the term is then dropped.
 pub fn normal_form(alloc: Global, sig: &Signature, term: Term) -> Result<Term, Memory>
     ensures { IfOk result (λ t. tree t ≡ normal sig.now (tree term)) }
@@ -71,7 +71,7 @@ pub fn normal_form(alloc: Global, sig: &Signature, term: Term) -> Result<Term, M
     }
 }
 
-/// The normal form of a term (`normal` of specs/Normal.antt): the arguments are normalised, those of an associative operation
+/// The normal form of a term (`normal` of `specs/Normal.antt`): the arguments are normalised, those of an associative operation
 /// that are headed by it are replaced by their arguments, those of a commutative operation are sorted by the term order, and
 /// a one-identity operation of one argument is replaced by that argument. It is well formed. `Memory` comes where there is
 /// no room for the flattened lists; the term is then dropped.
@@ -98,7 +98,7 @@ fn is_ascending(terms: &[Term]) -> bool
     true
 }
 
-/// The term is an application of the operation (`has_head` of specs/NormalTest.antt). It takes no memory.
+/// The term is an application of the operation (`has_head` of `specs/NormalTest.antt`). It takes no memory.
 pub fn has_head(term: &Term, op: OpId) -> bool
     ensures { result ≡ has_head op.0 (tree term.now) }
 {
@@ -139,7 +139,7 @@ fn passes(sig: &Signature, term: &Term) -> bool
     }
 }
 
-/// The term is its own normal form (`IsNormal` of specs/Normal.antt). It takes no memory.
+/// The term is its own normal form (`IsNormal` of `specs/Normal.antt`). It takes no memory.
 pub fn is_normal(sig: &Signature, term: &Term) -> bool
     ensures { IsTrue result ↔ IsNormal sig.now (tree term.now) }
 {

@@ -1,4 +1,4 @@
-// The term order.
+//! The term order.
 ghost use Rattle.std.specs.Prelude.{◌≡◌, map, Some, refl};
 ghost use Rattle.std.specs.Ordering.{is_eq};
 ghost use Rattle.std.specs.Cmp.{on_equiv, on_per, on_po, on_total, partial_equiv_from_equiv, po, eq_by_cmp_equiv};
@@ -9,7 +9,7 @@ ghost use Rattle.mp_term.specs.OrderLaws.{tree_cmp_total};
 use crate::term::Term;
 use std::cmp::Ordering;
 
-/// The term order (`tree_cmp` of specs/Order.antt): symbols come before applications, and compare by the bytes of their
+/// The term order (`tree_cmp` of `specs/Order.antt`): symbols come before applications, and compare by the bytes of their
 /// names. Applications compare by the numbers of their operations, then by how many arguments they have, then argument by
 /// argument from the left. Equal terms alone are `Equal`. It takes no memory.
 #[cycle(compare)]
@@ -29,7 +29,7 @@ pub fn compare(a: &Term, b: &Term) -> Ordering
     }
 }
 
-/// Shortlex by the term order (`shortlex` of specs/Order.antt): a list of fewer terms comes first, and lists of one length
+/// Shortlex by the term order (`shortlex` of `specs/Order.antt`): a list of fewer terms comes first, and lists of one length
 /// compare term by term from the left. Equal lists alone are `Equal`. It takes no memory.
 #[cycle(compare)]
 pub fn compare_all(ts: &[Term], us: &[Term]) -> Ordering

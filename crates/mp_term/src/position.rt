@@ -1,4 +1,4 @@
-// Positions of subterms.
+//! Positions of subterms.
 ghost use Rattle.std.specs.Prelude.{◌≡◌, IfOk};
 
 use crate::memory::Memory;

@@ -1,5 +1,6 @@
-// Infix signs.
+//! Infix signs.
 ghost use Rattle.std.specs.Prelude.{◌≡◌, IfOk, Err, true, false, ◌↔◌};
+ghost use Rattle.std.specs.List.{list_all};
 ghost use Rattle.mp_term.specs.Names.{is_arrow, is_sign, is_sign_byte};
 
 use crate::limits::MAX_SIGN_BYTES;
@@ -16,7 +17,8 @@ pub struct Sign {
 impl Model for Sign {
     ghost use Rattle.std.specs.Prelude.{ℕ, List};
     ghost use Rattle.std.specs.Prelude.{◌≡◌, true};
-    ghost use Rattle.mp_term.specs.Names.{is_sign};
+    ghost use Rattle.std.specs.List.{list_all};
+ghost use Rattle.mp_term.specs.Names.{is_sign};
 
     ghost Value = { List ℕ };
 
@@ -55,6 +57,13 @@ fn is_arrow(bytes: &[u8]) -> bool
     bytes == b"->".as_slice()
 }
 
+// The bytes are sign characters.
+fn are_sign_bytes(bytes: &[u8]) -> bool
+    ensures { result ≡ list_all is_sign_byte bytes.now }
+{
+    bytes.iter().all(|byte| is_sign_byte(*byte))
+}
+
 // The bytes are the spelling of a sign.
 fn is_sign(bytes: &[u8]) -> bool
     ensures { result ≡ is_sign bytes.now }
@@ -62,16 +71,11 @@ fn is_sign(bytes: &[u8]) -> bool
     if bytes.is_empty() || MAX_SIGN_BYTES < bytes.len() || is_arrow(bytes) {
         return false;
     }
-    for byte in bytes {
-        if !is_sign_byte(*byte) {
-            return false;
-        }
-    }
-    true
+    are_sign_bytes(bytes)
 }
 
 impl Sign {
-    /// The sign that is spelt by the bytes, which are copied (`is_sign` of specs/Names.antt).
+    /// The sign that is spelt by the bytes, which are copied (`is_sign` of `specs/Names.antt`).
     /// `Spelling` comes exactly where they are no sign, `Memory` where there is no room for the copy.
     pub fn new(alloc: Global, bytes: &[u8]) -> Result<Sign, NameFault>
         ensures ok { IfOk result (λ s. s ≡ bytes.now) }
@@ -81,10 +85,8 @@ impl Sign {
             return Err(NameFault::Spelling);
         }
         let mut copy = Vec::new(alloc);
-        match copy.extend_from_slice(bytes) {
-            Ok(()) => Ok(Sign { bytes: copy }),
-            Err(_) => Err(NameFault::Memory),
-        }
+        copy.extend_from_slice(bytes)?;
+        Ok(Sign { bytes: copy })
     }
 
     /// The bytes of the sign, which are the spelling of one.

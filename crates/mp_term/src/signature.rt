@@ -1,4 +1,4 @@
-// Signatures: the declared operations and kinds.
+//! Signatures: the declared operations and kinds.
 ghost use Rattle.std.specs.Prelude.{◌≡◌, ◌<◌, ◌≤◌, ◌+◌, Some, ◌++◌, ◌∷◌, [], ◌⊎◌, length, slice_get, option_map, position, bytes_eq, codes, OnOk, OnErr, IfOk, IfErr, IfSome, Err, true};
 ghost use Rattle.std.specs.List.{list_any, list_all};
 ghost use Rattle.mp_term.specs.Tree.{symbol as symbol_of};
@@ -88,7 +88,7 @@ struct Kind {
 }
 
 /// The declared operations, and the kinds, the built-in kind `num` among them, each by its number. Contracts see the record `Sig`
-/// of specs/Signature.antt, which holds the operations and the declared kinds, and `IsSignature` says what holds of each.
+/// of `specs/Signature.antt`, which holds the operations and the declared kinds, and `IsSignature` says what holds of each.
 #[derive(Drop)]
 pub struct Signature {
     pub(crate) ops: Vec<OpDecl>,
@@ -225,7 +225,7 @@ impl Signature {
     /// Adds an operation, and gives its number: the count of operations before. The least count of arguments must be at most
     /// `MAX_ARITY`.
     ///
-    /// The refusals come in this order (`op_fault` of specs/Signature.antt), and leave the signature as it was; the declaration is
+    /// The refusals come in this order (`op_fault` of `specs/Signature.antt`), and leave the signature as it was; the declaration is
     /// dropped. `DuplicateName` comes exactly where an operation has the name or the sign, `TooManyOps` exactly where `MAX_OPS` are
     /// held,
     /// `BadFlags` exactly where the declaration isn't in order, and `Memory` where there is no room for it.
@@ -310,7 +310,7 @@ impl Signature {
 
     /// Adds a kind of these members, kept as a set, and gives its number: the count of kinds before.
     ///
-    /// The refusals come in this order (`kind_fault` of specs/Signature.antt), and leave the signature as it was; the name and the
+    /// The refusals come in this order (`kind_fault` of `specs/Signature.antt`), and leave the signature as it was; the name and the
     /// members are dropped. `DuplicateName` comes exactly where a kind has the name, `num` among them, `TooManyKinds` exactly where
     /// `MAX_KINDS` are held, and `Memory` where there is no room for it.
     pub fn add_kind(&mut self, name: Name, members: Names) -> Result<KindId, SigFault>
@@ -365,7 +365,7 @@ impl Signature {
     }
 
     /// The symbol of that name is of the kind: of `num` where it is a number, and of a declared kind where it is a member. No symbol
-    /// is of a kind that isn't held (`in_kind` of specs/Signature.antt). It takes no memory.
+    /// is of a kind that isn't held (`in_kind` of `specs/Signature.antt`). It takes no memory.
     pub fn kind_has(&self, id: KindId, symbol: &[u8]) -> bool
         ensures { result ≡ in_kind self.now id.0 (symbol_of symbol.now) }
     {
@@ -402,7 +402,7 @@ impl Signature {
         }
     }
 
-    /// The operation is associative (`is_assoc` of specs/Signature.antt). One that isn't held has no flag. It takes no memory.
+    /// The operation is associative (`is_assoc` of `specs/Signature.antt`). One that isn't held has no flag. It takes no memory.
     pub fn is_assoc(&self, id: OpId) -> bool
         ensures { result ≡ is_assoc self.now id.0 }
     {
@@ -412,7 +412,7 @@ impl Signature {
         }
     }
 
-    /// The operation is commutative (`is_comm` of specs/Signature.antt). One that isn't held has no flag. It takes no memory.
+    /// The operation is commutative (`is_comm` of `specs/Signature.antt`). One that isn't held has no flag. It takes no memory.
     pub fn is_comm(&self, id: OpId) -> bool
         ensures { result ≡ is_comm self.now id.0 }
     {
@@ -422,7 +422,7 @@ impl Signature {
         }
     }
 
-    /// The operation is one-identity (`is_one` of specs/Signature.antt). One that isn't held has no flag. It takes no memory.
+    /// The operation is one-identity (`is_one` of `specs/Signature.antt`). One that isn't held has no flag. It takes no memory.
     pub fn is_one(&self, id: OpId) -> bool
         ensures { result ≡ is_one self.now id.0 }
     {
@@ -433,7 +433,7 @@ impl Signature {
     }
 }
 
-/// The term is a symbol of the kind (`in_kind` of specs/Signature.antt). No symbol is of a kind that isn't held. It takes no memory.
+/// The term is a symbol of the kind (`in_kind` of `specs/Signature.antt`). No symbol is of a kind that isn't held. It takes no memory.
 pub fn in_kind(sig: &Signature, kind: KindId, term: &Term) -> bool
     ensures { result ≡ in_kind sig.now kind.0 (tree term.now) }
 {
@@ -443,7 +443,7 @@ pub fn in_kind(sig: &Signature, kind: KindId, term: &Term) -> bool
     }
 }
 
-/// Each operation is held, and each count of arguments is allowed (`well_formed` of specs/Signature.antt). It takes no memory.
+/// Each operation is held, and each count of arguments is allowed (`well_formed` of `specs/Signature.antt`). It takes no memory.
 pub fn well_formed(sig: &Signature, term: &Term) -> bool
     ensures { result ≡ well_formed sig.now (tree term.now) }
 {

@@ -1,4 +1,4 @@
-// Terms, and lists of them.
+//! Terms, and lists of them.
 ghost use Rattle.std.specs.Prelude.{◌≡◌, ◌-◌, ◌^◌, [], ◌∷◌, ◌++◌, length, map, slice_get, OnOk, OnErr, IfOk, min, option_map};
 ghost use Rattle.mp_term.specs.View.{tree};
 ghost use Rattle.mp_term.specs.Size.{node_count, depth};
@@ -13,7 +13,7 @@ use std::marker::Model;
 #[derive(Debug, Drop, Clone, Copy, PartialEq, Eq, PartialOrd, Ord)]
 pub struct OpId(pub u32);
 
-/// A term. Contracts see it as a plain tree (`tree` of specs/View.antt). Terms compare by the term order.
+/// A term. Contracts see it as a plain tree (`tree` of `specs/View.antt`). Terms compare by the term order.
 #[cycle(term)]
 #[derive(Drop)]
 pub enum Term {
@@ -94,7 +94,7 @@ impl Terms {
     }
 }
 
-/// The number of nodes, symbols and applications together (`node_count` of specs/Size.antt), or the greatest `u64` where the
+/// The number of nodes, symbols and applications together (`node_count` of `specs/Size.antt`), or the greatest `u64` where the
 /// number passes it.
 pub fn node_count(term: &Term) -> u64
     ensures { result ≡ min (node_count (tree term.now)) (2 ^ 64 - 1) }
@@ -112,7 +112,7 @@ pub fn node_count(term: &Term) -> u64
 }
 
 /// The depth: 0 for a symbol, and one more than the greatest depth of the arguments for an application (`depth` of
-/// specs/Size.antt), or the greatest `u64` where the number passes it.
+/// `specs/Size.antt`), or the greatest `u64` where the number passes it.
 pub fn depth(term: &Term) -> u64
     ensures { result ≡ min (depth (tree term.now)) (2 ^ 64 - 1) }
 {
@@ -129,7 +129,7 @@ pub fn depth(term: &Term) -> u64
 }
 
 /// The subterm at a position, given by its argument indexes from 0, and None exactly where the position names no subterm
-/// (`subterm` of specs/Positions.antt).
+/// (`subterm` of `specs/Positions.antt`).
 pub fn at<'a>(term: &'a Term, position: &[u32]) -> Option<&'a Term>
     ensures { option_map (λ t. tree t.now) result ≡ subterm (tree term.now) position.now }
 {

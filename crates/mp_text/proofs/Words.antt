@@ -4,7 +4,7 @@ use Rattle.std.specs.List.{list_all}
 use Rattle.std.specs.Prelude.{not, codes}
 use Rattle.std.proofs.lemmas.Slice.Eq.{bytes_eq-Decides}
 use Rattle.std.proofs.lemmas.Bool.{and_from}
-use Rattle.mp_term.specs.Names.{is_name, is_name_byte, all_name_bytes, is_arrow, is_sign, is_sign_byte, all_sign_bytes}
+use Rattle.mp_term.specs.Names.{is_name, is_name_byte, is_arrow, is_sign, is_sign_byte}
 use Rattle.mp_syntax.specs.Tokens as tokens
 use Rattle.mp_syntax.specs.Tokens.{AreWordBytes, is_word_byte}
 use Rattle.mp_syntax.specs.Syntax.{IsName, IsInfixSign}
@@ -28,11 +28,11 @@ second-of false b h = cc
 is_name_byte-word : (b : ℕ) → is_word_byte b ≡ true → is_name_byte b ≡ true
 is_name_byte-word b h = sym (or-grouped (leb 48 b && leb b 57) (leb 65 b && leb b 90) (leb 97 b && leb b 122)) ∙ h
 
--- the bytes of words are the bytes of names
-all_name_bytes-word : (word : List ℕ) → AreWordBytes word → all_name_bytes word ≡ true
-all_name_bytes-word [] h = refl
-all_name_bytes-word (b ∷ bs) h =
-    and_from (is_name_byte b) (all_name_bytes bs) (is_name_byte-word b (first-of (is_word_byte b) (list_all is_word_byte bs) h)) (all_name_bytes-word bs (second-of (is_word_byte b) (list_all is_word_byte bs) h))
+-- where each byte passes a test that implies another, each passes that other
+all-implied : (p q : ℕ → Bool) → ((b : ℕ) → p b ≡ true → q b ≡ true) → (bs : List ℕ) → list_all p bs ≡ true → list_all q bs ≡ true
+all-implied p q each [] h = refl
+all-implied p q each (b ∷ bs) h =
+    and_from (q b) (list_all q bs) (each b (first-of (p b) (list_all p bs) h)) (all-implied p q each bs (second-of (p b) (list_all p bs) h))
 
 -- a list that isn't empty has one item at least
 some-item : (word : List ℕ) → word ≢ [] → leb 1 (length word) ≡ true
@@ -43,13 +43,7 @@ some-item (b ∷ bs) h = search rules
 pub is_name-IsName : (word : List ℕ) → IsName word → is_name word ≡ true
 is_name-IsName word h =
     let small : length word ≤ 64 = h.is_short in
-    and_from (leb 1 (length word) && leb (length word) 64) (all_name_bytes word) (and_from (leb 1 (length word)) (leb (length word) 64) (some-item word h.is_word.some) (search (rules, small))) (all_name_bytes-word word h.is_word.bytes)
-
--- the bytes of signs
-all_sign_bytes-sign : (sign : List ℕ) → list_all tokens.is_sign_byte sign ≡ true → all_sign_bytes sign ≡ true
-all_sign_bytes-sign [] h = refl
-all_sign_bytes-sign (b ∷ bs) h =
-    and_from (is_sign_byte b) (all_sign_bytes bs) (first-of (tokens.is_sign_byte b) (list_all tokens.is_sign_byte bs) h) (all_sign_bytes-sign bs (second-of (tokens.is_sign_byte b) (list_all tokens.is_sign_byte bs) h))
+    and_from (leb 1 (length word) && leb (length word) 64) (list_all is_name_byte word) (and_from (leb 1 (length word)) (leb (length word) 64) (some-item word h.is_word.some) (search (rules, small))) (all-implied is_word_byte is_name_byte is_name_byte-word word h.is_word.bytes)
 
 -- another text than the arrow
 not_arrow : (sign : List ℕ) → sign ≢ codes "->" → not (is_arrow sign) ≡ true
@@ -62,6 +56,6 @@ not_arrow sign h = go (is_arrow sign) refl
 -- a sign that isn't long is the spelling of one
 pub is_sign-IsInfixSign : (sign : List ℕ) → IsInfixSign sign → length sign ≤ 4 → is_sign sign ≡ true
 is_sign-IsInfixSign sign h short =
-    and_from ((leb 1 (length sign) && leb (length sign) 4) && not (is_arrow sign)) (all_sign_bytes sign)
+    and_from ((leb 1 (length sign) && leb (length sign) 4) && not (is_arrow sign)) (list_all is_sign_byte sign)
     (and_from (leb 1 (length sign) && leb (length sign) 4) (not (is_arrow sign)) (and_from (leb 1 (length sign)) (leb (length sign) 4) (some-item sign h.is_sign.some) (search (rules, short))) (not_arrow sign h.no_arrow))
-    (all_sign_bytes-sign sign h.is_sign.bytes)
+    (all-implied tokens.is_sign_byte is_sign_byte (λ _ e. e) sign h.is_sign.bytes)
