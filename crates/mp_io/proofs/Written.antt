@@ -1,10 +1,12 @@
 -- A text that is written part by part, and what its printer's answer says in the end.
-use Rattle.std.proofs.Common.{◌≡◌, ℕ, ◌≤◌, ◌<◌, [], ◌++◌, length, refl, sym, ap, ◌∙◌, subst, append_assoc, append-nil, arith, Result, Ok, Err}
-use Rattle.std.specs.Prelude.{Option}
+use Rattle.std.proofs.Common.{◌≡◌, ◌<◌, [], ◌++◌, length, refl, sym, ap, ◌∙◌, subst, append_assoc, append-nil, arith, Result, Ok, Err, true≢false}
+use Rattle.std.specs.Prelude.{Option, is_err}
 use Rattle.std.proofs.lemmas.List.{length-append}
 use Rattle.std.specs.Io.KnownBytes.{Appends}
 use Rattle.std.proofs.KnownBytes.{Appends-nil, Appends-trans}
-use Rattle.mp_io.specs.Devices.{Rose, Text}
+use Rattle.mp_io.specs.Devices.{Text}
+use Rattle.mp_io.specs.Moments.{sunk}
+use Rattle.mp_io.specs.declared.devices.Sink.{Ghosts as SinkWords}
 use Rattle.mp_io.specs.Printing.{AppendsFront, IsCut, Prints}
 
 -- the contents grew by the front of the text, and the rest is still to come
@@ -73,42 +75,45 @@ front_then a b first second h =
 
 -- ---- what a printer answers
 
--- a printer of nothing
-pub prints_nothing : {T E : Type 0} (a : Option Text) (m : ℕ) (value : T) → Prints {E = E} a a m m [] (Ok value)
-prints_nothing a m value = record { whole = Appends-nil a; front = tt; cause = record { later = omega arith; failed = tt } }
+module _ {K : Type 0} (words : SinkWords K) where
+  -- a printer of nothing
+  pub prints_nothing : {T E : Type 0} (a : K) (value : T) → Prints {E = E} (sunk words a a) [] (Ok value)
+  prints_nothing a value =
+      record { whole = Appends-nil (words.contents a); front = tt; cause = record { later = omega arith; stays = refl; failed = tt } }
 
--- a printer whose text is written to its end
-pub prints_ended : {T E : Type 0} (a b : Option Text) (m n : ℕ) (text : Text) (value : T) → Written a b text [] → m ≤ n → Prints {E = E} a b m n text (Ok value)
-prints_ended a b m n text value w h = record { whole = ended a b text w; front = tt; cause = record { later = h; failed = tt } }
+  -- a text was printed, and then a printer prints another
+  pub prints_then : {U F T E : Type 0} (a b c : K) (first second : Text) (value : U) (result : Result T E)
+      → Prints {E = F} (sunk words a b) first (Ok value) → Prints (sunk words b c) second result → Prints (sunk words a c) (first ++ second) result
+  prints_then a b c first second value (Ok _) p q = record {
+    whole = Appends-trans (words.contents a) (words.contents b) (words.contents c) first second p.whole q.whole;
+    front = tt;
+    cause = record { later = omega (arith, p.cause.later, q.cause.later); stays = q.cause.stays ∙ p.cause.stays; failed = tt };
+  }
+  prints_then a b c first second value (Err _) p q =
+      let cut = q.front.front in
+      record {
+        whole = tt;
+        front = record {
+          front = record {
+            front = first ++ cut.front;
+            rest = cut.rest;
+            split = ap (λ l. first ++ l) cut.split ∙ sym (append_assoc first cut.front cut.rest);
+            written = Appends-trans (words.contents a) (words.contents b) (words.contents c) first cut.front p.whole cut.written;
+          };
+          some = omega (arith, length-append first second, q.front.some);
+        };
+        cause = record { later = omega (arith, p.cause.later, q.cause.later); stays = tt; failed = omega (arith, p.cause.later, q.cause.failed) };
+      }
 
--- a printer that fails within the next part
-pub prints_part_cut : {T E : Type 0} (a b c : Option Text) (m n k : ℕ) (text part rest : Text) (error : E)
-    → Written a b text (part ++ rest) → m ≤ n → IsCut b c part → n ≤ k → Rose n k → Prints {T = T} a c m k text (Err error)
-prints_part_cut a b c m n k text part rest error w h cut later rose = record {
-  whole = tt;
-  front = part_cut a b c text part rest w cut;
-  cause = record { later = omega arith; failed = omega arith };
-}
+  -- a printer that failed within a text has failed within the text and more
+  pub prints_cut : {T E : Type 0} (a b : K) (first second : Text) (error : E)
+      → Prints {T = T} (sunk words a b) first (Err error) → Prints {T = T} (sunk words a b) (first ++ second) (Err error)
+  prints_cut a b first second error p =
+      record { whole = tt; front = front_then (words.contents a) (words.contents b) first second p.front; cause = p.cause }
 
--- a printer that ends with the answer of another, which prints what is still to come
-pub prints_rest : {T E : Type 0} (a b c : Option Text) (m n k : ℕ) (text rest : Text) (result : Result T E)
-    → Written a b text rest → m ≤ n → Prints b c n k rest result → Prints a c m k text result
-prints_rest a b c m n k text rest (Ok value) w h p = record {
-  whole = ended a c text (part_written a b c text rest [] (subst (Written a b text) (sym (append-nil rest)) w) p.whole);
-  front = tt;
-  cause = record { later = omega (arith, p.cause.later); failed = tt };
-}
-prints_rest a b c m n k text rest (Err error) w h p =
-    prints_part_cut a b c m n k text rest [] error (subst (Written a b text) (sym (append-nil rest)) w) h p.front p.cause.later p.cause.failed
-
--- a text is written, and then a printer prints another
-pub prints_then : {T E : Type 0} (a b c : Option Text) (m n k : ℕ) (first second : Text) (result : Result T E)
-    → Appends a b first → m ≤ n → Prints b c n k second result → Prints a c m k (first ++ second) result
-prints_then a b c m n k first second result written h p =
-    prints_rest a b c m n k (first ++ second) second result (record { front = first; split = refl; written = written }) h p
-
--- a printer that fails within the first of two texts
-pub prints_cut : {T E : Type 0} (a b : Option Text) (m n : ℕ) (first second : Text) (error : E)
-    → IsCut a b first → m ≤ n → Rose m n → Prints {T = T} a b m n (first ++ second) (Err error)
-prints_cut a b m n first second error cut later rose =
-    record { whole = tt; front = front_then a b first second cut; cause = record { later = later; failed = rose } }
+  -- what is printed says whether the answer is an error, and nothing of its value
+  pub prints_as : {U F T E : Type 0} (a b : K) (text : Text) (one : Result U F) (other : Result T E) → is_err other ≡ is_err one → Prints (sunk words a b) text one → Prints (sunk words a b) text other
+  prints_as a b text (Ok _) (Ok _) e p = record { whole = p.whole; front = tt; cause = record { later = p.cause.later; stays = p.cause.stays; failed = tt } }
+  prints_as a b text (Err _) (Err _) e p = record { whole = tt; front = p.front; cause = record { later = p.cause.later; stays = tt; failed = p.cause.failed } }
+  prints_as a b text (Ok _) (Err _) e p = absurd (true≢false e)
+  prints_as a b text (Err _) (Ok _) e p = absurd (true≢false (sym e))

@@ -1,6 +1,6 @@
 -- Files by name, what was read of one, and counts of calls and faults.
 use Rattle.std.specs.Prelude.{◌≡◌, ℕ, ◌+◌, ◌-◌, ◌^◌, ◌==◌, ◌≤◌, ◌<◌, ◌++◌, min, Bool, List, [], ◌∷◌, length, Option, Some, None, Result, ⊤}
-use Rattle.std.specs.Prelude.{OnErr, IsSomeAnd, if◌then◌else◌}
+use Rattle.std.specs.Prelude.{OnErr, OnOk, IsSomeAnd, if◌then◌else◌}
 use Rattle.std.specs.List.{list_any}
 use Rattle.std.specs.Option.{option_or}
 use Rattle.std.specs.Str.{bytes_eq}
@@ -46,9 +46,10 @@ saturating_add count more = min (count + more) (2 ^ 64 - 1)
 abbrev pub Rose : ℕ → ℕ → Type 0
 Rose before after = saturating_add before 1 ≤ after
 
--- the count of faults doesn't fall, and an error comes only where it rose
+-- the count of faults doesn't fall; at `Ok` it stays, and an error comes only where it rose
 pub record HasCause {T E : Type 0} (before after : ℕ) (result : Result T E) : Type 0 where
   pub later : before ≤ after
+  pub stays : OnOk result (after ≡ before)
   pub failed : OnErr result (Rose before after)
 
 -- the call of this number is one of those that fail

@@ -1,6 +1,7 @@
 pub mod Devices
 pub mod Moments
 pub mod Printing
+pub mod Writing
 pub mod MemoryShelf
 pub mod MemoryShelfView
 pub mod MemorySink

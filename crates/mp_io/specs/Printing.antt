@@ -1,8 +1,10 @@
 -- What the answer of a call that writes a text means.
-use Rattle.std.specs.Prelude.{◌≡◌, ◌<◌, ℕ, ◌++◌, List, [], ◌∷◌, length, Option, Result, OnErr, OnOk}
+use Rattle.std.specs.Prelude.{◌≡◌, ◌<◌, ◌++◌, List, length, Option, Result, OnErr, OnOk}
+use Rattle.std.specs.List.{flat_map}
 use Rattle.std.specs.Borrow.{Bor}
 use Rattle.std.specs.Io.KnownBytes.{Appends}
 use Rattle.mp_io.specs.Devices.{HasCause, Text}
+use Rattle.mp_io.specs.Moments.{Sunk}
 
 -- told contents grow by a front of the text
 pub record AppendsFront (old new : Option Text) (text : Text) : Type 0 where
@@ -16,13 +18,12 @@ pub record IsCut (old new : Option Text) (text : Text) : Type 0 where
   pub front : AppendsFront old new text
   pub some : 0 < length text
 
--- at `Ok` the whole text was appended; at `Err` there was one, a front of it was appended, and the count of faults rose
-pub record Prints {T E : Type 0} (old new : Option Text) (before after : ℕ) (text : Text) (result : Result T E) : Type 0 where
-  pub whole : OnOk result (Appends old new text)
-  pub front : OnErr result (IsCut old new text)
-  pub cause : HasCause before after result
+-- at `Ok` the whole text was appended, and no write failed; at `Err` there was one, a front of it was appended, and the count of faults rose
+pub record Prints {T E : Type 0} (sink : Sunk) (text : Text) (result : Result T E) : Type 0 where
+  pub whole : OnOk result (Appends sink.old sink.new text)
+  pub front : OnErr result (IsCut sink.old sink.new text)
+  pub cause : HasCause sink.faults sink.faults_after result
 
 -- the parts, one after another
 abbrev pub joined : List (Bor Text) → Text
-joined [] = []
-joined (part ∷ parts) = part.now ++ joined parts
+joined parts = flat_map (λ (part : Bor Text). part.now) parts

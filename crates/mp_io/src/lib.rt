@@ -6,10 +6,13 @@ mod devices;
 mod memory_shelf;
 mod memory_sink;
 mod real;
+mod room;
 mod whole;
+mod writer;
 
 pub use devices::{Failed, Memory, Shelf, Sink};
 pub use memory_shelf::MemoryShelf;
 pub use memory_sink::MemorySink;
 pub use real::{RealShelf, RealSink};
 pub use whole::{ReadFault, put, put_all, read_whole};
+pub use writer::Writer;

@@ -2,9 +2,10 @@
 
 ghost use Rattle.std.specs.Prelude.{◌≡◌, ◌⊎◌, ◌<◌, ◌≤◌, ◌+◌, ◌↔◌, length, IfOk, IfSome, IsErr, IsErrOf};
 ghost use Rattle.mp_io.specs.Devices.{HoldsBytes, IsLonger, IsMissing, Rose, held, saturating_add};
+ghost use Rattle.mp_io.specs.Moments.{sunk};
 ghost use Rattle.mp_io.specs.Printing.{Prints, joined};
 
-use crate::{Failed, Shelf, Sink};
+use crate::{Failed, Shelf, Sink, Writer};
 use std::alloc::Global;
 use thiserror::Error;
 
@@ -94,8 +95,7 @@ pub fn read_whole<S: Shelf>(
 /// `Failed`: the sink's count of faults rose, and a front of the piece was appended. The contract is
 /// `Prints` of `specs/Printing.antt`.
 pub fn put<K: Sink>(sink: &mut K, piece: &[u8]) -> Result<(), Failed>
-    ensures { Prints (K.contents sink.old) (K.contents sink.new)
-        (K.faults sink.old) (K.faults sink.new) piece.now result }
+    ensures { Prints (sunk K.Sink sink.old sink.new) piece.now result }
 {
     let mut rest = piece;
     while !rest.is_empty() {
@@ -107,19 +107,15 @@ pub fn put<K: Sink>(sink: &mut K, piece: &[u8]) -> Result<(), Failed>
     Ok(())
 }
 
-/// Appends the parts to the sink, one after another. It takes no memory.
+/// Appends the parts to the sink, one after another, in one write where they have at most 4,096 bytes together and the
+/// sink takes them at once. It takes no memory.
 ///
 /// `Failed`: the sink's count of faults rose, and a front of the joined parts was appended. The
 /// contract is `Prints` of `specs/Printing.antt`, over the text `joined`.
 pub fn put_all<K: Sink>(sink: &mut K, parts: &[&[u8]]) -> Result<(), Failed>
-    ensures { Prints (K.contents sink.old) (K.contents sink.new)
-        (K.faults sink.old) (K.faults sink.new) (joined parts.now) result }
+    ensures { Prints (sunk K.Sink sink.old sink.new) (joined parts.now) result }
 {
-    for part in parts {
-        match put(sink, part) {
-            Ok(()) => {}
-            Err(Failed) => return Err(Failed),
-        }
-    }
-    Ok(())
+    let mut out = Writer::new(sink);
+    out.put_all(parts);
+    out.finish()
 }

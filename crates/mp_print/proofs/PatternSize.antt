@@ -1,12 +1,11 @@
 -- The nodes and the text of the arguments of a pattern.
-use Rattle.std.proofs.Common.{◌≡◌, ℕ, zero, suc, ◌<◌, ◌≤◌, List, [], ◌∷◌, length, get_or, map, Some, refl, sym, ap, ◌∙◌, arith}
+use Rattle.std.proofs.Common.{◌≡◌, ℕ, zero, suc, ◌<◌, ◌≤◌, List, [], ◌∷◌, length, get_or, map, refl, sym, ap, ◌∙◌, arith}
 use Rattle.std.specs.Prelude.{slice_get}
 use Rattle.std.proofs.lemmas.Simd.{map-map}
-use Rattle.mp_term.specs.declared.signature.OpDecl.{OpDecl}
 use Rattle.mp_term.specs.Signature.{Sig}
 use Rattle.mp_pattern.specs.PatternTree.{Pattern, app_pattern, patterns}
 use Rattle.mp_pattern.specs.Size.{pattern_nodes, list_nodes}
-use Rattle.mp_print.specs.Printing.{application_text, held_text}
+use Rattle.mp_print.specs.Printing.{held_text}
 use Rattle.mp_print.specs.PrintedPattern.{pattern_text, pattern_texts}
 
 -- an argument has no more nodes than all arguments
@@ -20,9 +19,8 @@ pattern_texts-patterns : (sig : Sig) (ps : List Pattern) → pattern_texts sig (
 pattern_texts-patterns sig [] = refl
 pattern_texts-patterns sig (p ∷ ps) = ap (λ l. pattern_text sig p ∷ l) (pattern_texts-patterns sig ps)
 
--- the text of an application of an operation that is held
-pub pattern_text-app : {X : Type 0} (view : X → Pattern) (sig : Sig) (f : ℕ) (ps : List Pattern) (items : List X) (d : OpDecl) → slice_get sig.ops f ≡ Some d → map view items ≡ ps
-    → pattern_text sig (app_pattern f (patterns ps)) ≡ application_text d d.sign (map (λ x. pattern_text sig (view x)) items)
-pattern_text-app view sig f ps items d held same =
-    ap (λ o. held_text o (pattern_texts sig (patterns ps))) held
-    ∙ ap (application_text d d.sign) (pattern_texts-patterns sig ps ∙ ap (map (pattern_text sig)) (sym same) ∙ map-map (pattern_text sig) view items)
+-- the text of an application of patterns that are seen as plain ones
+pub pattern_text-app : {X : Type 0} (view : X → Pattern) (sig : Sig) (f : ℕ) (ps : List Pattern) (items : List X) → map view items ≡ ps
+    → pattern_text sig (app_pattern f (patterns ps)) ≡ held_text (slice_get sig.ops f) (map (λ x. pattern_text sig (view x)) items)
+pattern_text-app view sig f ps items same =
+    ap (held_text (slice_get sig.ops f)) (pattern_texts-patterns sig ps ∙ ap (map (pattern_text sig)) (sym same) ∙ map-map (pattern_text sig) view items)

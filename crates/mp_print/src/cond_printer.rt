@@ -1,82 +1,88 @@
 //! Prints conditions.
 
 ghost use Rattle.std.specs.Prelude.{◌≡◌, ◌++◌, map, codes};
+ghost use Rattle.mp_io.specs.Moments.{sunk};
 ghost use Rattle.mp_io.specs.Printing.{Prints};
+ghost use Rattle.mp_io.specs.Writing.{Puts};
+ghost use Rattle.mp_pattern.specs.CondTree.{conds};
 ghost use Rattle.mp_pattern.specs.CondView.{operand, amount, cond_tree};
-ghost use Rattle.mp_print.specs.Printing.{separated, kind_name_text};
-ghost use Rattle.mp_print.specs.PrintedCond.{sense_text, measure_text, relation_text, operand_text, amount_text, comparison_text, op_name_text, tightness, part_text, cond_text};
+ghost use Rattle.mp_print.specs.Printing.{separated};
+ghost use Rattle.mp_print.specs.PrintedCond.{sense_text, measure_text, relation_text, operand_text, amount_text, comparison_text, op_name_text, tightness, part_text, part_texts, cond_text};
 
-use crate::printer::{write_gap, write_term};
+use crate::pattern_printer::kind_name;
+use crate::printer::put_term;
+use crate::tree_printer::put_gap;
 use itoa::Buffer;
-use mp_io::{Failed, Sink, put, put_all};
+use mp_io::{Failed, Sink, Writer};
 use mp_pattern::{Amount, Cond, Operand, Sense};
-use mp_term::{KindId, OpId, Signature};
+use mp_term::{OpId, Signature};
 
 /// Appends the text of a condition to the sink: `cond_text` of `specs/PrintedCond.antt`. It takes no memory.
 ///
-/// Square brackets stand round a disjunction that is a part of a condition, round a conjunction that is a part of a conjunction or
-/// of a negation, and round a negation that is the part of a negation. An operation and a kind that the signature doesn't hold have
-/// no text.
+/// Square brackets stand round a disjunction that is a part of a condition, round a conjunction that is a part of a
+/// conjunction or of a negation, and round a negation that is the part of a negation. An operation and a kind that the
+/// signature doesn't hold have no text.
 ///
 /// `Failed`: the sink's count of faults rose, and a front of the text was appended.
-#[cycle(write_cond)]
 pub fn write_cond<K: Sink>(sig: &Signature, cond: &Cond, sink: &mut K) -> Result<(), Failed>
-    ensures { Prints (K.contents sink.old) (K.contents sink.new) (K.faults sink.old) (K.faults sink.new) (cond_text sig.now (cond_tree cond.now)) result }
+    ensures { Prints (sunk K.Sink sink.old sink.new) (cond_text sig.now (cond_tree cond.now)) result }
+{
+    let mut out = Writer::new(sink);
+    put_cond(sig, cond, &mut out);
+    out.finish()
+}
+
+/// Puts the text of a condition, as `write_cond` writes it.
+#[cycle(put_cond)]
+pub fn put_cond<K: Sink>(sig: &Signature, cond: &Cond, out: &mut Writer<'_, K>)
+    ensures { Puts K.Sink out.old out.new (cond_text sig.now (cond_tree cond.now)) }
 {
     match cond {
-        Cond::Amounts(m, by, n) => write_comparison(sig, m, *by, n, sink),
-        Cond::Same(a, b) => write_relation(sig, b"same", a, b, sink),
-        Cond::Less(a, b) => write_relation(sig, b"less", a, b, sink),
-        Cond::Free(a, b) => write_relation(sig, b"free", a, b, sink),
-        Cond::OfKind(a, kind) => write_property(sig, b"kind", a, kind_name(sig, *kind), sink),
-        Cond::Headed(a, op) => write_property(sig, b"head", a, op_name(sig, *op), sink),
-        Cond::Not(part) => write_negation(sig, part.get(), sink),
-        Cond::All(parts) => write_parts(sig, b" and ", 2, parts.as_slice(), sink),
-        Cond::Any(parts) => write_parts(sig, b" or ", 1, parts.as_slice(), sink),
+        Cond::Amounts(m, by, n) => put_comparison(sig, m, *by, n, out),
+        Cond::Same(a, b) => put_relation(sig, b"same", a, b, out),
+        Cond::Less(a, b) => put_relation(sig, b"less", a, b, out),
+        Cond::Free(a, b) => put_relation(sig, b"free", a, b, out),
+        Cond::OfKind(a, kind) => put_property(sig, b"kind", a, kind_name(sig, *kind), out),
+        Cond::Headed(a, op) => put_property(sig, b"head", a, op_name(sig, *op), out),
+        Cond::Not(part) => {
+            out.put(b"not ");
+            put_part(sig, 3, part.get(), out);
+        }
+        Cond::All(parts) => put_parts(sig, b" and ", 2, parts.as_slice(), out),
+        Cond::Any(parts) => put_parts(sig, b" or ", 1, parts.as_slice(), out),
     }
 }
 
-/// Appends a negation.
-#[cycle(write_cond)]
-fn write_negation<K: Sink>(sig: &Signature, part: &Cond, sink: &mut K) -> Result<(), Failed>
-    ensures { Prints (K.contents sink.old) (K.contents sink.new) (K.faults sink.old) (K.faults sink.new)
-        (codes "not " ++ part_text 3 (cond_tree part.now) (cond_text sig.now (cond_tree part.now))) result }
-{
-    put(sink, b"not ")?;
-    write_part(sig, 3, part, sink)
-}
-
-/// Appends the parts, with the separator between each two.
-#[cycle(write_cond)]
-fn write_parts<K: Sink>(
+/// Puts the parts, with the separator between each two.
+#[cycle(put_cond)]
+fn put_parts<K: Sink>(
     sig: &Signature,
     separator: &[u8],
     least: u8,
     parts: &[Cond],
-    sink: &mut K,
-) -> Result<(), Failed>
-    ensures { Prints (K.contents sink.old) (K.contents sink.new) (K.faults sink.old) (K.faults sink.new)
-        (separated separator.now (map (λ c. part_text least (cond_tree c) (cond_text sig.now (cond_tree c))) parts.now)) result }
+    out: &mut Writer<'_, K>,
+)
+    ensures { Puts K.Sink out.old out.new
+        (separated separator.now (part_texts sig.now least (conds (map cond_tree parts.now)))) }
 {
     for (index, part) in parts.iter().enumerate() {
-        write_gap(index, &[separator], sink)?;
-        write_part(sig, least, part, sink)?;
+        put_gap(index, &[separator], out);
+        put_part(sig, least, part, out);
     }
-    Ok(())
 }
 
-/// Appends a part, in square brackets where it holds together less tightly than is asked.
-#[cycle(write_cond)]
-fn write_part<K: Sink>(sig: &Signature, least: u8, part: &Cond, sink: &mut K) -> Result<(), Failed>
-    ensures { Prints (K.contents sink.old) (K.contents sink.new) (K.faults sink.old) (K.faults sink.new)
-        (part_text least (cond_tree part.now) (cond_text sig.now (cond_tree part.now))) result }
+/// Puts a part, in square brackets where it holds together less tightly than is asked.
+#[cycle(put_cond)]
+fn put_part<K: Sink>(sig: &Signature, least: u8, part: &Cond, out: &mut Writer<'_, K>)
+    ensures { Puts K.Sink out.old out.new (part_text least (cond_tree part.now) (cond_text sig.now (cond_tree part.now))) }
 {
     if tightness(part) >= least {
-        return write_cond(sig, part, sink);
+        put_cond(sig, part, out);
+        return;
     }
-    put(sink, b"[")?;
-    write_cond(sig, part, sink)?;
-    put(sink, b"]")
+    out.put(b"[");
+    put_cond(sig, part, out);
+    out.put(b"]");
 }
 
 /// How tightly the parts of a condition hold together.
@@ -91,101 +97,87 @@ fn tightness(cond: &Cond) -> u8
     }
 }
 
-/// Appends a relation of two operands.
-fn write_relation<K: Sink>(
+/// Puts a relation of two operands.
+fn put_relation<K: Sink>(
     sig: &Signature,
     word: &[u8],
     a: &Operand,
     b: &Operand,
-    sink: &mut K,
-) -> Result<(), Failed>
-    ensures { Prints (K.contents sink.old) (K.contents sink.new) (K.faults sink.old) (K.faults sink.new)
-        (relation_text word.now (operand_text sig.now (operand a.now)) (operand_text sig.now (operand b.now))) result }
+    out: &mut Writer<'_, K>,
+)
+    ensures { Puts K.Sink out.old out.new
+        (relation_text word.now (operand_text sig.now (operand a.now)) (operand_text sig.now (operand b.now))) }
 {
-    write_opening(sig, word, a, sink)?;
-    put(sink, b", ")?;
-    write_operand(sig, b, sink)?;
-    put(sink, b")")
+    put_opening(sig, word, a, out);
+    out.put(b", ");
+    put_operand(sig, b, out);
+    out.put(b")");
 }
 
-/// Appends a property of an operand: that of a name.
-fn write_property<K: Sink>(
+/// Puts a property of an operand: that of a name.
+fn put_property<K: Sink>(
     sig: &Signature,
     word: &[u8],
     a: &Operand,
     name: &[u8],
-    sink: &mut K,
-) -> Result<(), Failed>
-    ensures { Prints (K.contents sink.old) (K.contents sink.new) (K.faults sink.old) (K.faults sink.new)
-        (relation_text word.now (operand_text sig.now (operand a.now)) name.now) result }
+    out: &mut Writer<'_, K>,
+)
+    ensures { Puts K.Sink out.old out.new (relation_text word.now (operand_text sig.now (operand a.now)) name.now) }
 {
-    write_opening(sig, word, a, sink)?;
-    put_all(sink, &[b", ".as_slice(), name, b")"])
+    put_opening(sig, word, a, out);
+    out.put_all(&[b", ".as_slice(), name, b")"]);
 }
 
-/// Appends the comparison of two numbers.
-fn write_comparison<K: Sink>(
+/// Puts the comparison of two numbers.
+fn put_comparison<K: Sink>(
     sig: &Signature,
     m: &Amount,
     by: Sense,
     n: &Amount,
-    sink: &mut K,
-) -> Result<(), Failed>
-    ensures { Prints (K.contents sink.old) (K.contents sink.new) (K.faults sink.old) (K.faults sink.new)
-        (comparison_text sig.now (amount m.now) by (amount n.now)) result }
+    out: &mut Writer<'_, K>,
+)
+    ensures { Puts K.Sink out.old out.new (comparison_text sig.now (amount m.now) by (amount n.now)) }
 {
-    write_amount(sig, m, sink)?;
-    put_all(sink, &[b" ".as_slice(), sense_sign(by), b" "])?;
-    write_amount(sig, n, sink)
+    put_amount(sig, m, out);
+    out.put_all(&[b" ".as_slice(), sense_sign(by), b" "]);
+    put_amount(sig, n, out);
 }
 
-/// Appends a number, or what counts it.
-fn write_amount<K: Sink>(sig: &Signature, m: &Amount, sink: &mut K) -> Result<(), Failed>
-    ensures { Prints (K.contents sink.old) (K.contents sink.new) (K.faults sink.old) (K.faults sink.new) (amount_text sig.now (amount m.now)) result }
+/// Puts a number, or what counts it.
+fn put_amount<K: Sink>(sig: &Signature, m: &Amount, out: &mut Writer<'_, K>)
+    ensures { Puts K.Sink out.old out.new (amount_text sig.now (amount m.now)) }
 {
     match m {
-        Amount::Fixed(number) => put(sink, Buffer::new().format(*number).as_bytes()),
-        Amount::Count(a) => write_measure(sig, b"count", a, sink),
-        Amount::Size(a) => write_measure(sig, b"size", a, sink),
+        Amount::Fixed(number) => out.put(Buffer::new().format(*number).as_bytes()),
+        Amount::Count(a) => put_measure(sig, b"count", a, out),
+        Amount::Size(a) => put_measure(sig, b"size", a, out),
     }
 }
 
-/// Appends a measure of an operand.
-fn write_measure<K: Sink>(
-    sig: &Signature,
-    word: &[u8],
-    a: &Operand,
-    sink: &mut K,
-) -> Result<(), Failed>
-    ensures { Prints (K.contents sink.old) (K.contents sink.new) (K.faults sink.old) (K.faults sink.new)
-        (measure_text word.now (operand_text sig.now (operand a.now))) result }
+/// Puts a measure of an operand.
+fn put_measure<K: Sink>(sig: &Signature, word: &[u8], a: &Operand, out: &mut Writer<'_, K>)
+    ensures { Puts K.Sink out.old out.new (measure_text word.now (operand_text sig.now (operand a.now))) }
 {
-    write_opening(sig, word, a, sink)?;
-    put(sink, b")")
+    put_opening(sig, word, a, out);
+    out.put(b")");
 }
 
-/// Appends a word, a round bracket and an operand.
-fn write_opening<K: Sink>(
-    sig: &Signature,
-    word: &[u8],
-    a: &Operand,
-    sink: &mut K,
-) -> Result<(), Failed>
-    ensures { Prints (K.contents sink.old) (K.contents sink.new) (K.faults sink.old) (K.faults sink.new)
-        (word.now ++ (codes "(" ++ operand_text sig.now (operand a.now))) result }
+/// Puts a word, a round bracket and an operand.
+fn put_opening<K: Sink>(sig: &Signature, word: &[u8], a: &Operand, out: &mut Writer<'_, K>)
+    ensures { Puts K.Sink out.old out.new (word.now ++ (codes "(" ++ operand_text sig.now (operand a.now))) }
 {
-    put(sink, word)?;
-    put(sink, b"(")?;
-    write_operand(sig, a, sink)
+    out.put(word);
+    out.put(b"(");
+    put_operand(sig, a, out);
 }
 
-/// Appends an operand.
-fn write_operand<K: Sink>(sig: &Signature, a: &Operand, sink: &mut K) -> Result<(), Failed>
-    ensures { Prints (K.contents sink.old) (K.contents sink.new) (K.faults sink.old) (K.faults sink.new) (operand_text sig.now (operand a.now)) result }
+/// Puts an operand.
+fn put_operand<K: Sink>(sig: &Signature, a: &Operand, out: &mut Writer<'_, K>)
+    ensures { Puts K.Sink out.old out.new (operand_text sig.now (operand a.now)) }
 {
     match a {
-        Operand::Var(name) => put_all(sink, &[b"$".as_slice(), name.bytes()]),
-        Operand::Ground(term) => write_term(sig, term, sink),
+        Operand::Var(name) => out.put_all(&[b"$".as_slice(), name.bytes()]),
+        Operand::Ground(term) => put_term(sig, term, out),
     }
 }
 
@@ -200,16 +192,6 @@ fn sense_sign(by: Sense) -> &'static [u8]
         Sense::Ge => b">=",
         Sense::Eq => b"==",
         Sense::Ne => b"!=",
-    }
-}
-
-/// The name of a kind, and nothing where none is held.
-fn kind_name(sig: &Signature, kind: KindId) -> &[u8]
-    ensures { result.now ≡ kind_name_text sig.now kind.0 }
-{
-    match sig.kind_name(kind) {
-        Some(name) => name.bytes(),
-        None => b"",
     }
 }
 

@@ -1,121 +1,105 @@
 //! Prints patterns.
 
-ghost use Rattle.std.specs.Prelude.{◌≡◌, ◌++◌, map, codes};
-ghost use Rattle.mp_io.specs.Printing.{Prints, joined};
-ghost use Rattle.mp_term.specs.View.{tree};
+ghost use Rattle.std.specs.Prelude.{◌≡◌, ◌++◌, codes};
+ghost use Rattle.mp_io.specs.Moments.{sunk};
+ghost use Rattle.mp_io.specs.Printing.{Prints};
+ghost use Rattle.mp_io.specs.Writing.{Puts};
+ghost use Rattle.mp_pattern.specs.Size.{pattern_nodes};
 ghost use Rattle.mp_pattern.specs.View.{pattern_tree, wildcard};
-ghost use Rattle.mp_print.specs.Printing.{kind_name_text, application_text, separated, term_text};
-ghost use Rattle.mp_print.specs.PrintedPattern.{pattern_text, wildcard_text, shape_text};
+ghost use Rattle.mp_print.specs.Printing.{kind_name_text};
+ghost use Rattle.mp_print.specs.PrintedPattern.{pattern_text, shape_text, wildcard_text};
 
-use crate::application::{separator, write_front};
-use crate::printer::{write_gap, write_term};
-use mp_io::{Failed, Sink, put};
+use crate::printer::put_term;
+use crate::tree_printer::{PrintedTree, put_tree};
+use mp_io::{Failed, Sink, Writer};
 use mp_pattern::{Pattern, Shape};
-use mp_term::{KindId, Name, OpDecl, Signature, Term};
+use mp_term::{KindId, Name, OpId, Signature};
 
 /// Appends the text of a pattern to the sink: `pattern_text` of `specs/PrintedPattern.antt`. It takes no memory.
 ///
 /// An operation that the signature doesn't hold has no text, and a kind that it doesn't hold has no name.
 ///
 /// `Failed`: the sink's count of faults rose, and a front of the text was appended.
-#[cycle(write_pattern)]
 pub fn write_pattern<K: Sink>(
     sig: &Signature,
     pattern: &Pattern,
     sink: &mut K,
 ) -> Result<(), Failed>
-    ensures { Prints (K.contents sink.old) (K.contents sink.new) (K.faults sink.old) (K.faults sink.new) (pattern_text sig.now (pattern_tree pattern.now)) result }
+    ensures { Prints (sunk K.Sink sink.old sink.new) (pattern_text sig.now (pattern_tree pattern.now)) result }
 {
-    match pattern {
-        Pattern::Sym(name) => put(sink, name.bytes()),
-        Pattern::App(op, args) => match sig.op(*op) {
-            Some(decl) => write_application(sig, decl, args.as_slice(), sink),
-            None => Ok(()),
-        },
-        Pattern::Wild(shape, name) => write_wildcard(sig, shape, name, sink),
-    }
+    let mut out = Writer::new(sink);
+    put_pattern(sig, pattern, &mut out);
+    out.finish()
 }
 
-/// Appends an operation with its arguments.
-#[cycle(write_pattern)]
-fn write_application<K: Sink>(
-    sig: &Signature,
-    decl: &OpDecl,
-    args: &[Pattern],
-    sink: &mut K,
-) -> Result<(), Failed>
-    ensures { Prints (K.contents sink.old) (K.contents sink.new) (K.faults sink.old) (K.faults sink.new)
-        (application_text decl.now decl.now.sign (map (λ p. pattern_text sig.now (pattern_tree p)) args.now)) result }
+/// Puts the text of a pattern, as `write_pattern` writes it.
+pub fn put_pattern<K: Sink>(sig: &Signature, pattern: &Pattern, out: &mut Writer<'_, K>)
+    ensures { Puts K.Sink out.old out.new (pattern_text sig.now (pattern_tree pattern.now)) }
 {
-    write_front(decl, args.len(), sink)?;
-    write_separated(sig, &separator(decl, args.len()), args, sink)?;
-    put(sink, b")")
+    put_tree(sig, pattern, out);
 }
 
-/// Appends the patterns, with the separator between each two.
-#[cycle(write_pattern)]
-fn write_separated<K: Sink>(
-    sig: &Signature,
-    separator: &[&[u8]],
-    patterns: &[Pattern],
-    sink: &mut K,
-) -> Result<(), Failed>
-    ensures { Prints (K.contents sink.old) (K.contents sink.new) (K.faults sink.old) (K.faults sink.new)
-        (separated (joined separator.now) (map (λ p. pattern_text sig.now (pattern_tree p)) patterns.now)) result }
-{
-    for (index, pattern) in patterns.iter().enumerate() {
-        write_gap(index, separator, sink)?;
-        write_pattern(sig, pattern, sink)?;
-    }
-    Ok(())
-}
+impl PrintedTree for Pattern {
+    ghost text = { λ sig p. pattern_text sig (pattern_tree p) };
 
-/// Appends a wildcard: the name of its variable, where it has one, and its shape.
-fn write_wildcard<K: Sink>(
-    sig: &Signature,
-    shape: &Shape,
-    name: &Option<Name>,
-    sink: &mut K,
-) -> Result<(), Failed>
-    ensures { Prints (K.contents sink.old) (K.contents sink.new) (K.faults sink.old) (K.faults sink.new) (wildcard_text sig.now (wildcard shape.now) name.now) result }
-{
-    match name {
-        None => write_shape(sig, shape, sink),
-        Some(name) => {
-            put(sink, name.bytes())?;
-            write_shape(sig, shape, sink)
+    ghost size = { λ p. pattern_nodes (pattern_tree p) };
+
+    fn put_leaf<'t, K: Sink>(
+        &'t self,
+        sig: &Signature,
+        out: &mut Writer<'_, K>,
+    ) -> Option<(OpId, &'t [Pattern])> {
+        match self {
+            Pattern::Sym(name) => {
+                out.put(name.bytes());
+                None
+            }
+            Pattern::App(op, args) => Some((*op, args.as_slice())),
+            Pattern::Wild(shape, name) => {
+                put_wildcard(sig, shape, name, out);
+                None
+            }
         }
     }
 }
 
-/// Appends what stands behind the name of a wildcard.
-fn write_shape<K: Sink>(sig: &Signature, shape: &Shape, sink: &mut K) -> Result<(), Failed>
-    ensures { Prints (K.contents sink.old) (K.contents sink.new) (K.faults sink.old) (K.faults sink.new) (shape_text sig.now (wildcard shape.now)) result }
+/// Puts a wildcard: the name of its variable, where it has one, and its shape.
+fn put_wildcard<K: Sink>(
+    sig: &Signature,
+    shape: &Shape,
+    name: &Option<Name>,
+    out: &mut Writer<'_, K>,
+)
+    ensures { Puts K.Sink out.old out.new (wildcard_text sig.now (wildcard shape.now) name.now) }
+{
+    if let Some(name) = name {
+        out.put(name.bytes());
+    }
+    put_shape(sig, shape, out);
+}
+
+/// Puts what stands behind the name of a wildcard.
+fn put_shape<K: Sink>(sig: &Signature, shape: &Shape, out: &mut Writer<'_, K>)
+    ensures { Puts K.Sink out.old out.new (shape_text sig.now (wildcard shape.now)) }
 {
     match shape {
-        Shape::Dot => put(sink, b"_"),
-        Shape::Kind(kind) => write_kind_mark(sig, *kind, sink),
-        Shape::Plus => put(sink, b"__"),
-        Shape::Star => put(sink, b"___"),
-        Shape::Opt(default) => write_default(sig, default, sink),
+        Shape::Dot => out.put(b"_"),
+        Shape::Kind(kind) => out.put_all(&[b"_", kind_name(sig, *kind)]),
+        Shape::Plus => out.put(b"__"),
+        Shape::Star => out.put(b"___"),
+        Shape::Opt(default) => {
+            out.put(b"_:");
+            put_term(sig, default, out);
+        }
     }
 }
 
-/// Appends an underscore and the name of a kind.
-fn write_kind_mark<K: Sink>(sig: &Signature, kind: KindId, sink: &mut K) -> Result<(), Failed>
-    ensures { Prints (K.contents sink.old) (K.contents sink.new) (K.faults sink.old) (K.faults sink.new) (codes "_" ++ kind_name_text sig.now kind.0) result }
+/// The name of a kind, and nothing where none is held.
+pub(crate) fn kind_name(sig: &Signature, kind: KindId) -> &[u8]
+    ensures { result.now ≡ kind_name_text sig.now kind.0 }
 {
-    put(sink, b"_")?;
     match sig.kind_name(kind) {
-        Some(name) => put(sink, name.bytes()),
-        None => Ok(()),
+        Some(name) => name.bytes(),
+        None => b"",
     }
-}
-
-/// Appends an underscore, a colon and a default.
-fn write_default<K: Sink>(sig: &Signature, default: &Term, sink: &mut K) -> Result<(), Failed>
-    ensures { Prints (K.contents sink.old) (K.contents sink.new) (K.faults sink.old) (K.faults sink.new) (codes "_:" ++ term_text sig.now (tree default.now)) result }
-{
-    put(sink, b"_:")?;
-    write_term(sig, default, sink)
 }

@@ -3,50 +3,52 @@
 ghost use Rattle.std.specs.Prelude.{◌≡◌, ◌++◌, [], slice_get, unwrap_or, codes};
 ghost use Rattle.std.specs.List.{flat_map};
 ghost use Rattle.std.specs.Option.{option_map_or};
+ghost use Rattle.mp_io.specs.Moments.{sunk};
 ghost use Rattle.mp_io.specs.Printing.{Prints};
+ghost use Rattle.mp_io.specs.Writing.{Puts};
 ghost use Rattle.mp_term.specs.Signature.{kind_names, kind_members};
 ghost use Rattle.mp_print.specs.Printing.{separated};
 ghost use Rattle.mp_print.specs.PrintedSignature.{text_if, op_text, head_text, kind_text, held_kind_text, signature_text};
 
-use crate::printer::write_gap;
+use crate::tree_printer::put_gap;
 use itoa::Buffer;
-use mp_io::{Failed, Sink, put, put_all};
+use mp_io::{Failed, Sink, Writer};
 use mp_term::{KindId, Name, Names, OpDecl, OpId, Sign, Signature};
 
-/// Appends the declarations of a signature to the sink, the operations and then the declared kinds, each on a line of its own:
-/// `signature_text` of `specs/PrintedSignature.antt`. It takes no memory.
+/// Appends the declarations of a signature to the sink, the operations and then the declared kinds, each on a line of
+/// its own: `signature_text` of `specs/PrintedSignature.antt`. It takes no memory.
 ///
 /// `Failed`: the sink's count of faults rose, and a front of the text was appended.
 pub fn write_signature<K: Sink>(sig: &Signature, sink: &mut K) -> Result<(), Failed>
-    ensures { Prints (K.contents sink.old) (K.contents sink.new) (K.faults sink.old) (K.faults sink.new) (signature_text sig.now) result }
+    ensures { Prints (sunk K.Sink sink.old sink.new) (signature_text sig.now) result }
 {
-    write_ops(sig, sink)?;
-    write_kinds(sig, sink)
+    let mut out = Writer::new(sink);
+    put_ops(sig, &mut out);
+    put_kinds(sig, &mut out);
+    out.finish()
 }
 
-/// Appends the declarations of the operations.
-fn write_ops<K: Sink>(sig: &Signature, sink: &mut K) -> Result<(), Failed>
-    ensures { Prints (K.contents sink.old) (K.contents sink.new) (K.faults sink.old) (K.faults sink.new) (flat_map op_text sig.now.ops) result }
+/// Puts the declarations of the operations.
+fn put_ops<K: Sink>(sig: &Signature, out: &mut Writer<'_, K>)
+    ensures { Puts K.Sink out.old out.new (flat_map op_text sig.now.ops) }
 {
     for number in 0..sig.op_count() {
-        write_op_of(sig, OpId(number), sink)?;
+        put_op_of(sig, OpId(number), out);
     }
-    Ok(())
 }
 
-/// Appends the declaration of the operation of a number, and nothing where none is held.
-fn write_op_of<K: Sink>(sig: &Signature, id: OpId, sink: &mut K) -> Result<(), Failed>
-    ensures { Prints (K.contents sink.old) (K.contents sink.new) (K.faults sink.old) (K.faults sink.new) (option_map_or op_text (slice_get sig.now.ops id.0) []) result }
+/// Puts the declaration of the operation of a number, and nothing where none is held.
+fn put_op_of<K: Sink>(sig: &Signature, id: OpId, out: &mut Writer<'_, K>)
+    ensures { Puts K.Sink out.old out.new (option_map_or op_text (slice_get sig.now.ops id.0) []) }
 {
-    match sig.op(id) {
-        Some(decl) => write_op(decl, sink),
-        None => Ok(()),
+    if let Some(decl) = sig.op(id) {
+        put_op(decl, out);
     }
 }
 
-/// Appends the declaration of an operation.
-fn write_op<K: Sink>(decl: &OpDecl, sink: &mut K) -> Result<(), Failed>
-    ensures { Prints (K.contents sink.old) (K.contents sink.new) (K.faults sink.old) (K.faults sink.new) (op_text decl.now) result }
+/// Puts the declaration of an operation.
+fn put_op<K: Sink>(decl: &OpDecl, out: &mut Writer<'_, K>)
+    ensures { Puts K.Sink out.old out.new (op_text decl.now) }
 {
     let mut least = Buffer::new();
     let parts = [
@@ -62,7 +64,7 @@ fn write_op<K: Sink>(decl: &OpDecl, sink: &mut K) -> Result<(), Failed>
         sign_bytes(&decl.sign),
         b";\n",
     ];
-    put_all(sink, &parts)
+    out.put_all(&parts);
 }
 
 /// The text, where the test holds, and else none.
@@ -82,64 +84,70 @@ fn sign_bytes(sign: &Option<Sign>) -> &[u8]
     }
 }
 
-/// Appends the declarations of the kinds that are declared.
-fn write_kinds<K: Sink>(sig: &Signature, sink: &mut K) -> Result<(), Failed>
-    ensures { Prints (K.contents sink.old) (K.contents sink.new) (K.faults sink.old) (K.faults sink.new) (flat_map kind_text sig.now.kinds) result }
+/// Puts the declarations of the kinds that are declared.
+fn put_kinds<K: Sink>(sig: &Signature, out: &mut Writer<'_, K>)
+    ensures { Puts K.Sink out.old out.new (flat_map kind_text sig.now.kinds) }
 {
     for number in 1..sig.kind_count() {
-        write_kind_of(sig, KindId(number), sink)?;
-    }
-    Ok(())
-}
-
-/// Appends the declaration of the kind of a number, and nothing where none is held.
-fn write_kind_of<K: Sink>(sig: &Signature, id: KindId, sink: &mut K) -> Result<(), Failed>
-    ensures { Prints (K.contents sink.old) (K.contents sink.new) (K.faults sink.old) (K.faults sink.new) (held_kind_text (slice_get (kind_names sig.now) id.0) (slice_get (kind_members sig.now) id.0)) result }
-{
-    match sig.kind_name(id) {
-        Some(name) => match sig.kind_members(id) {
-            Some(members) => write_kind(name, members, sink),
-            None => Ok(()),
-        },
-        None => Ok(()),
+        put_kind_of(sig, KindId(number), out);
     }
 }
 
-/// Appends the declaration of a kind.
-fn write_kind<K: Sink>(name: &Name, members: &Names, sink: &mut K) -> Result<(), Failed>
-    ensures { Prints (K.contents sink.old) (K.contents sink.new) (K.faults sink.old) (K.faults sink.new) (kind_text (record { name = name.now; members = members.now })) result }
+/// Puts the declaration of the kind of a number, and nothing where none is held.
+fn put_kind_of<K: Sink>(sig: &Signature, id: KindId, out: &mut Writer<'_, K>)
+    ensures { Puts K.Sink out.old out.new
+        (held_kind_text (slice_get (kind_names sig.now) id.0) (slice_get (kind_members sig.now) id.0)) }
 {
-    write_head(b"kind", name, sink)?;
-    write_names(members, sink)?;
-    put(sink, b";\n")
+    if let Some(name) = sig.kind_name(id) {
+        if let Some(members) = sig.kind_members(id) {
+            put_kind(name, members, out);
+        }
+    }
 }
 
-/// Appends what a statement of a keyword and a name begins with: `head_text` of `specs/PrintedSignature.antt`. It takes no memory.
+/// Puts the declaration of a kind.
+fn put_kind<K: Sink>(name: &Name, members: &Names, out: &mut Writer<'_, K>)
+    ensures { Puts K.Sink out.old out.new (kind_text (record { name = name.now; members = members.now })) }
+{
+    put_head(b"kind", name, out);
+    put_names(members, out);
+    out.put(b";\n");
+}
+
+/// Appends what a statement of a keyword and a name begins with: `head_text` of `specs/PrintedSignature.antt`. It takes
+/// no memory.
 ///
 /// `Failed`: the sink's count of faults rose, and a front of the text was appended.
 pub fn write_head<K: Sink>(keyword: &[u8], name: &Name, sink: &mut K) -> Result<(), Failed>
-    ensures { Prints (K.contents sink.old) (K.contents sink.new) (K.faults sink.old) (K.faults sink.new) (head_text keyword.now name.now) result }
+    ensures { Prints (sunk K.Sink sink.old sink.new) (head_text keyword.now name.now) result }
 {
-    put_all(sink, &[keyword, b" ", name.bytes(), b": "])
+    let mut out = Writer::new(sink);
+    put_head(keyword, name, &mut out);
+    out.finish()
 }
 
-/// Appends the names, with a blank between each two.
-fn write_names<K: Sink>(names: &Names, sink: &mut K) -> Result<(), Failed>
-    ensures { Prints (K.contents sink.old) (K.contents sink.new) (K.faults sink.old) (K.faults sink.new) (separated (codes " ") names.now) result }
+/// Puts what a statement of a keyword and a name begins with, as `write_head` writes it.
+pub fn put_head<K: Sink>(keyword: &[u8], name: &Name, out: &mut Writer<'_, K>)
+    ensures { Puts K.Sink out.old out.new (head_text keyword.now name.now) }
+{
+    out.put_all(&[keyword, b" ", name.bytes(), b": "]);
+}
+
+/// Puts the names, with a blank between each two.
+fn put_names<K: Sink>(names: &Names, out: &mut Writer<'_, K>)
+    ensures { Puts K.Sink out.old out.new (separated (codes " ") names.now) }
 {
     for index in 0..names.len() {
-        write_gap(index, &[b" ".as_slice()], sink)?;
-        write_name_of(names, index, sink)?;
+        put_gap(index, &[b" ".as_slice()], out);
+        put_name_of(names, index, out);
     }
-    Ok(())
 }
 
-/// Appends the name at an index, and nothing where none is there.
-fn write_name_of<K: Sink>(names: &Names, index: usize, sink: &mut K) -> Result<(), Failed>
-    ensures { Prints (K.contents sink.old) (K.contents sink.new) (K.faults sink.old) (K.faults sink.new) (unwrap_or (slice_get names.now index) []) result }
+/// Puts the name at an index, and nothing where none is there.
+fn put_name_of<K: Sink>(names: &Names, index: usize, out: &mut Writer<'_, K>)
+    ensures { Puts K.Sink out.old out.new (unwrap_or (slice_get names.now index) []) }
 {
-    match names.get(index) {
-        Some(name) => put(sink, name.bytes()),
-        None => Ok(()),
+    if let Some(name) = names.get(index) {
+        out.put(name.bytes());
     }
 }

@@ -1,13 +1,16 @@
 //! Prints substitutions.
 
 ghost use Rattle.std.specs.Prelude.{◌≡◌, ◌++◌, map, codes};
+ghost use Rattle.mp_io.specs.Moments.{sunk};
 ghost use Rattle.mp_io.specs.Printing.{Prints};
+ghost use Rattle.mp_io.specs.Writing.{Puts};
 ghost use Rattle.mp_term.specs.View.{tree};
 ghost use Rattle.mp_subst.specs.View.{value_of, binding_of, subst_of};
-ghost use Rattle.mp_print.specs.Printing.{separated, term_text, value_text, binding_text, subst_text};
+ghost use Rattle.mp_print.specs.Printing.{binding_text, separated, subst_text, term_text, value_text};
 
-use crate::printer::{write_gap, write_separated, write_term};
-use mp_io::{Failed, Sink, put, put_all};
+use crate::printer::put_term;
+use crate::tree_printer::put_gap;
+use mp_io::{Failed, Sink, Writer};
 use mp_subst::{Binding, Subst, Value};
 use mp_term::{Signature, Term};
 
@@ -15,61 +18,67 @@ use mp_term::{Signature, Term};
 ///
 /// `Failed`: the sink's count of faults rose, and a front of the text was appended.
 pub fn write_subst<K: Sink>(sig: &Signature, subst: &Subst, sink: &mut K) -> Result<(), Failed>
-    ensures { Prints (K.contents sink.old) (K.contents sink.new) (K.faults sink.old) (K.faults sink.new) (subst_text sig.now (subst_of subst.now)) result }
+    ensures { Prints (sunk K.Sink sink.old sink.new) (subst_text sig.now (subst_of subst.now)) result }
 {
-    put(sink, b"{")?;
-    write_bindings(sig, subst.bindings.as_slice(), sink)?;
-    put(sink, b"}")
+    let mut out = Writer::new(sink);
+    put_subst(sig, subst, &mut out);
+    out.finish()
 }
 
-/// Appends the bindings, with a comma between each two.
-fn write_bindings<K: Sink>(
-    sig: &Signature,
-    bindings: &[Binding],
-    sink: &mut K,
-) -> Result<(), Failed>
-    ensures { Prints (K.contents sink.old) (K.contents sink.new) (K.faults sink.old) (K.faults sink.new)
-        (separated (codes ", ") (map (λ b. binding_text sig.now (binding_of b)) bindings.now)) result }
+/// Puts the text of a substitution, as `write_subst` writes it.
+pub fn put_subst<K: Sink>(sig: &Signature, subst: &Subst, out: &mut Writer<'_, K>)
+    ensures { Puts K.Sink out.old out.new (subst_text sig.now (subst_of subst.now)) }
+{
+    out.put(b"{");
+    put_bindings(sig, subst.bindings.as_slice(), out);
+    out.put(b"}");
+}
+
+/// Puts the bindings, with a comma between each two.
+fn put_bindings<K: Sink>(sig: &Signature, bindings: &[Binding], out: &mut Writer<'_, K>)
+    ensures { Puts K.Sink out.old out.new (separated (codes ", ") (map (binding_text sig.now) (map binding_of bindings.now))) }
 {
     for (index, binding) in bindings.iter().enumerate() {
-        write_gap(index, &[b", ".as_slice()], sink)?;
-        write_binding(sig, binding, sink)?;
+        put_gap(index, &[b", ".as_slice()], out);
+        put_binding(sig, binding, out);
     }
-    Ok(())
 }
 
-/// Appends a variable and its value.
-fn write_binding<K: Sink>(sig: &Signature, binding: &Binding, sink: &mut K) -> Result<(), Failed>
-    ensures { Prints (K.contents sink.old) (K.contents sink.new) (K.faults sink.old) (K.faults sink.new) (binding_text sig.now (binding_of binding.now)) result }
+/// Puts a variable and its value.
+fn put_binding<K: Sink>(sig: &Signature, binding: &Binding, out: &mut Writer<'_, K>)
+    ensures { Puts K.Sink out.old out.new (binding_text sig.now (binding_of binding.now)) }
 {
-    put(sink, binding.name.bytes())?;
-    put(sink, b" -> ")?;
-    write_value(sig, &binding.value, sink)
+    out.put(binding.name.bytes());
+    out.put(b" -> ");
+    put_value(sig, &binding.value, out);
 }
 
-/// Appends a value: one term, a tuple in round brackets, or a multiset in curly ones.
-fn write_value<K: Sink>(sig: &Signature, value: &Value, sink: &mut K) -> Result<(), Failed>
-    ensures { Prints (K.contents sink.old) (K.contents sink.new) (K.faults sink.old) (K.faults sink.new) (value_text sig.now (value_of value.now)) result }
+/// Puts a value: one term, a tuple in round brackets, or a multiset in curly ones.
+fn put_value<K: Sink>(sig: &Signature, value: &Value, out: &mut Writer<'_, K>)
+    ensures { Puts K.Sink out.old out.new (value_text sig.now (value_of value.now)) }
 {
     match value {
-        Value::One(term) => write_term(sig, term, sink),
-        Value::Seq(terms) => write_enclosed(sig, b"(", terms.as_slice(), b")", sink),
-        Value::Bag(terms) => write_enclosed(sig, b"{", terms.as_slice(), b"}", sink),
+        Value::One(term) => put_term(sig, term, out),
+        Value::Seq(terms) => put_enclosed(sig, b"(", terms.as_slice(), b")", out),
+        Value::Bag(terms) => put_enclosed(sig, b"{", terms.as_slice(), b"}", out),
     }
 }
 
-/// Appends the terms between an opening and a closing, with a comma between each two.
-fn write_enclosed<K: Sink>(
+/// Puts the terms between an opening and a closing, with a comma between each two.
+fn put_enclosed<K: Sink>(
     sig: &Signature,
     opening: &[u8],
     terms: &[Term],
     closing: &[u8],
-    sink: &mut K,
-) -> Result<(), Failed>
-    ensures { Prints (K.contents sink.old) (K.contents sink.new) (K.faults sink.old) (K.faults sink.new)
-        (opening.now ++ (separated (codes ", ") (map (λ t. term_text sig.now (tree t)) terms.now) ++ closing.now)) result }
+    out: &mut Writer<'_, K>,
+)
+    ensures { Puts K.Sink out.old out.new
+        (opening.now ++ (separated (codes ", ") (map (term_text sig.now) (map tree terms.now)) ++ closing.now)) }
 {
-    put(sink, opening)?;
-    write_separated(sig, &[b", ".as_slice()], terms, sink)?;
-    put(sink, closing)
+    out.put(opening);
+    for (index, term) in terms.iter().enumerate() {
+        put_gap(index, &[b", ".as_slice()], out);
+        put_term(sig, term, out);
+    }
+    out.put(closing);
 }

@@ -1,4 +1,4 @@
-use Rattle.std.proofs.Common.{arith, refl, rules}
+use Rattle.std.proofs.Common.{arith, ◌∙◌, refl, rules}
 use Rattle.mp_io.proofs.Pieces.{front_kept, rest_some, slice_written}
 use Rattle.mp_io.proofs.whole.put.Goals as goal
 
@@ -11,7 +11,7 @@ returns-in-Err g c =
         front = front_kept _ _ _ _ _ c.loop-rest.invariant.written c.in-Err.ensures.bytes;
         some = rest_some _ _ _ _ c.loop-rest.invariant.written (search rules);
       };
-      cause = record { later = omega (arith, cause.later); failed = omega (arith, cause.failed) };
+      cause = record { later = omega (arith, cause.later); stays = tt; failed = omega (arith, cause.failed) };
     }
 
 pub loop-rest-preserved : goal.loop-rest-preserved
@@ -19,5 +19,5 @@ loop-rest-preserved g c =
     let cause = c.in-Ok.ensures.cause in
     record {
       written = slice_written _ _ _ _ _ _ _ c.loop-rest.invariant.written c.in-Ok.ensures.bytes refl;
-      faults = omega (arith, cause.later);
+      faults = c.in-Ok.ensures.cause.stays ∙ c.loop-rest.invariant.faults;
     }

@@ -1,0 +1,64 @@
+//! A room of fixed size for bytes that are held back.
+
+ghost use Rattle.std.specs.Prelude.{◌≡◌, ◌≤◌, ◌<◌, ◌+◌, ◌++◌, [], length, MatchBool};
+
+use std::marker::Model;
+
+/// How many bytes there may be.
+pub(crate) const ROOM: usize = 4096;
+
+/// Bytes in a room of fixed size. It takes no memory. A contract sees it as the list of the bytes.
+#[derive(Drop)]
+pub struct Room {
+    bytes: [u8; 4096],
+    count: usize,
+}
+
+impl Model for Room {
+    ghost use Rattle.std.specs.Prelude.{◌≤◌, ℕ, List, take};
+
+    ghost Value = { List ℕ };
+
+    ghost view = { λ r. take r.count r.bytes };
+
+    ghost invariant = { λ r. r.count ≤ 4096 };
+}
+
+impl Room {
+    /// No bytes.
+    pub(crate) fn new() -> Room
+        ensures { result ≡ [] }
+    {
+        Room {
+            bytes: [0; ROOM],
+            count: 0,
+        }
+    }
+
+    /// The bytes.
+    pub(crate) fn bytes(&self) -> &[u8]
+        ensures { result.now ≡ self.now }
+    {
+        &self.bytes[..self.count]
+    }
+
+    /// Takes the text behind the bytes, where there is room for it, and says whether there is.
+    pub(crate) fn take(&mut self, text: &[u8]) -> bool
+        ensures { MatchBool result (self.new ≡ self.old ++ text.now) (self.new ≡ self.old) }
+    {
+        if text.len() > ROOM - self.count {
+            return false;
+        }
+        let end = self.count + text.len();
+        self.bytes[self.count..end].copy_from_slice(text);
+        self.count = end;
+        true
+    }
+
+    /// Leaves no bytes.
+    pub(crate) fn clear(&mut self)
+        ensures { self.new ≡ [] }
+    {
+        self.count = 0;
+    }
+}

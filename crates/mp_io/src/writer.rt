@@ -1,0 +1,92 @@
+//! A writer that keeps its failure, so that what prints to it needn't look at each write.
+
+ghost use Rattle.std.specs.Prelude.{◌≡◌, false, []};
+ghost use Rattle.mp_io.specs.Moments.{sunk};
+ghost use Rattle.mp_io.specs.Printing.{Prints, joined};
+ghost use Rattle.mp_io.specs.Writing.{HasPut, Puts};
+
+use crate::room::Room;
+use crate::{Failed, Sink, put};
+
+/// Text on its way to a sink: it is gathered in a room of 4,096 bytes, and written when that is full and at the end.
+///
+/// After a write that failed nothing more is written, and `finish`, which has to be called, says so. It takes no
+/// memory. The words of its contracts stand in `specs/Writing.antt`.
+pub struct Writer<'a, K> {
+    sink: &'a mut K,
+    room: Room,
+    failed: bool,
+}
+
+impl<'a, K: Sink> Writer<'a, K> {
+    /// A writer to the sink, to which no text was put.
+    pub fn new(sink: &'a mut K) -> Writer<'a, K>
+        ensures same { result.sink.ghost_name ≡ sink.entry.ghost_name }
+        ensures none { HasPut K.Sink sink.old [] result }
+    {
+        Writer {
+            sink,
+            room: Room::new(),
+            failed: false,
+        }
+    }
+
+    /// Puts the text behind the text so far.
+    pub fn put(&mut self, text: &[u8])
+        ensures { Puts K.Sink self.old self.new text.now }
+    {
+        if self.room.take(text) {
+            return;
+        }
+        self.send();
+        if !self.room.take(text) {
+            self.pass(text);
+        }
+    }
+
+    /// Puts the parts behind the text so far, one after another.
+    pub fn put_all(&mut self, parts: &[&[u8]])
+        ensures { Puts K.Sink self.old self.new (joined parts.now) }
+    {
+        for part in parts {
+            self.put(part);
+        }
+    }
+
+    // Writes the bytes that are held back, unless a write has failed, and holds none.
+    fn send(&mut self)
+        ensures puts { Puts K.Sink self.old self.new [] }
+        ensures none { self.new.failed ≡ false → self.new.room ≡ [] }
+    {
+        if self.failed {
+            return;
+        }
+        self.failed = put(self.sink, self.room.bytes()).is_err();
+        self.room.clear();
+    }
+
+    // Writes the text, unless a write has failed.
+    fn pass(&mut self, text: &[u8])
+        requires { self.old.failed ≡ false → self.old.room ≡ [] }
+        ensures { Puts K.Sink self.old self.new text.now }
+    {
+        if self.failed {
+            return;
+        }
+        self.failed = put(self.sink, text).is_err();
+    }
+
+    /// Writes the bytes that are held back.
+    ///
+    /// `Failed`: a write failed, now or before. The sink's count of faults rose then, and a front of the text was
+    /// appended.
+    pub fn finish(self) -> Result<(), Failed>
+        ensures { (start : _) (text : _) → HasPut K.Sink start text self.entry → Prints (sunk K.Sink start self.exit.0.now) text result }
+    {
+        let Writer { sink, room, failed } = self;
+        if failed {
+            return Err(Failed);
+        }
+        put(sink, room.bytes())
+    }
+}
