@@ -8,7 +8,8 @@ ghost use Rattle.mp_io.specs.Writing.{HasPut, Puts};
 use crate::room::Room;
 use crate::{Failed, Sink, put};
 
-/// Text on its way to a sink: it is gathered in a room of 4,096 bytes, and written when that is full and at the end.
+/// Text on its way to a sink: it is gathered in a room of 4,096 bytes, and written when that is full, at a
+/// `flush` and at the end.
 ///
 /// After a write that failed nothing more is written, and `finish`, which has to be called, says so. It takes no
 /// memory. The words of its contracts stand in `specs/Writing.antt`.
@@ -38,7 +39,7 @@ impl<'a, K: Sink> Writer<'a, K> {
         if self.room.take(text) {
             return;
         }
-        self.send();
+        self.flush();
         if !self.room.take(text) {
             self.pass(text);
         }
@@ -53,8 +54,8 @@ impl<'a, K: Sink> Writer<'a, K> {
         }
     }
 
-    // Writes the bytes that are held back, unless a write has failed, and holds none.
-    fn send(&mut self)
+    /// Writes the bytes that are held back, unless a write has failed.
+    pub fn flush(&mut self)
         ensures puts { Puts K.Sink self.old self.new [] }
         ensures none { self.new.failed ≡ false → self.new.room ≡ [] }
     {

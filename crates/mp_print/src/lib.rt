@@ -11,5 +11,5 @@ mod tree_printer;
 pub use cond_printer::{put_cond, write_cond};
 pub use pattern_printer::{put_pattern, write_pattern};
 pub use printer::{put_term, write_term};
-pub use signature_printer::{put_head, write_head, write_signature};
+pub use signature_printer::{put_head, put_signature, write_head, write_signature};
 pub use subst_printer::{put_subst, write_subst};

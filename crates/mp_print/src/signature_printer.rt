@@ -23,9 +23,16 @@ pub fn write_signature<K: Sink>(sig: &Signature, sink: &mut K) -> Result<(), Fai
     ensures { Prints (sunk K.Sink sink.old sink.new) (signature_text sig.now) result }
 {
     let mut out = Writer::new(sink);
-    put_ops(sig, &mut out);
-    put_kinds(sig, &mut out);
+    put_signature(sig, &mut out);
     out.finish()
+}
+
+/// Puts the declarations of a signature, as `write_signature` writes them, and flushes the writer behind each line.
+pub fn put_signature<K: Sink>(sig: &Signature, out: &mut Writer<'_, K>)
+    ensures { Puts K.Sink out.old out.new (signature_text sig.now) }
+{
+    put_ops(sig, out);
+    put_kinds(sig, out);
 }
 
 /// Puts the declarations of the operations.
@@ -46,7 +53,7 @@ fn put_op_of<K: Sink>(sig: &Signature, id: OpId, out: &mut Writer<'_, K>)
     }
 }
 
-/// Puts the declaration of an operation.
+/// Puts the declaration of an operation, a line.
 fn put_op<K: Sink>(decl: &OpDecl, out: &mut Writer<'_, K>)
     ensures { Puts K.Sink out.old out.new (op_text decl.now) }
 {
@@ -65,6 +72,7 @@ fn put_op<K: Sink>(decl: &OpDecl, out: &mut Writer<'_, K>)
         b";\n",
     ];
     out.put_all(&parts);
+    out.flush();
 }
 
 /// The text, where the test holds, and else none.
@@ -105,13 +113,14 @@ fn put_kind_of<K: Sink>(sig: &Signature, id: KindId, out: &mut Writer<'_, K>)
     }
 }
 
-/// Puts the declaration of a kind.
+/// Puts the declaration of a kind, a line.
 fn put_kind<K: Sink>(name: &Name, members: &Names, out: &mut Writer<'_, K>)
     ensures { Puts K.Sink out.old out.new (kind_text (record { name = name.now; members = members.now })) }
 {
     put_head(b"kind", name, out);
     put_names(members, out);
     out.put(b";\n");
+    out.flush();
 }
 
 /// Appends what a statement of a keyword and a name begins with: `head_text` of `specs/PrintedSignature.antt`. It takes

@@ -7,7 +7,6 @@ mod OpLaws
 mod Built
 mod Clashes
 mod Declared
-mod Items
 mod Defaults
 mod Spelled
 mod Places

@@ -2,7 +2,9 @@
 
 ghost use Rattle.std.specs.Prelude.{◌≡◌, ℕ, List, map, Some, option_map};
 ghost use Rattle.std.specs.List.{flat_map};
+ghost use Rattle.mp_io.specs.Moments.{sunk};
 ghost use Rattle.mp_io.specs.Printing.{Prints};
+ghost use Rattle.mp_io.specs.Writing.{Puts};
 ghost use Rattle.mp_pattern.specs.CondView.{cond_tree};
 ghost use Rattle.mp_pattern.specs.RuleView.{rule_tree};
 ghost use Rattle.mp_syntax.specs.Syntax.{Statement, IsSyntaxOf, AreStatements, StatementsHaveNames};
@@ -13,9 +15,9 @@ ghost use Rattle.mp_text.specs.Reading.{IsFileOf};
 ghost use Rattle.mp_text.specs.Spelled.{file_spelling};
 
 use crate::file::{File, Subject};
-use mp_io::{Failed, Sink, put};
+use mp_io::{Failed, Sink, Writer};
 use mp_pattern::{Cond, Rule};
-use mp_print::{write_cond, write_head, write_pattern, write_signature, write_term};
+use mp_print::{put_cond, put_head, put_pattern, put_signature, put_term};
 use mp_term::Signature;
 
 /// Appends the text of a file to the sink, one statement a line: the operations, the declared kinds, the rules and the subjects,
@@ -25,11 +27,13 @@ use mp_term::Signature;
 ///
 /// `Failed`: the sink's count of faults rose, and a front of the text was appended.
 pub fn write_file<K: Sink>(file: &File, sink: &mut K) -> Result<(), Failed>
-    ensures { Prints (K.contents sink.old) (K.contents sink.new) (K.faults sink.old) (K.faults sink.new) (file_text (file_tree file.now)) result }
+    ensures { Prints (sunk K.Sink sink.old sink.new) (file_text (file_tree file.now)) result }
 {
-    write_signature(&file.sig, sink)?;
-    write_rules(&file.sig, file.rules.as_slice(), sink)?;
-    write_subjects(&file.sig, file.subjects.as_slice(), sink)
+    let mut out = Writer::new(sink);
+    put_signature(&file.sig, &mut out);
+    put_rules(&file.sig, file.rules.as_slice(), &mut out);
+    put_subjects(&file.sig, file.subjects.as_slice(), &mut out);
+    out.finish()
 }
 
 /// Law: the text that a file is printed as, `file_text` of `specs/PrintedFile.antt`, is read as the statements of the file,
@@ -50,67 +54,51 @@ pub fn printed_file_is_read()
     ensures { (bytes : List ℕ) (file : FileTree) → IsFileOf bytes file → IsFileOf (file_text file) file }
 {}
 
-/// Appends the rules.
-fn write_rules<K: Sink>(sig: &Signature, rules: &[Rule], sink: &mut K) -> Result<(), Failed>
-    ensures { Prints (K.contents sink.old) (K.contents sink.new) (K.faults sink.old) (K.faults sink.new) (flat_map (rule_text sig.now) (map rule_tree rules.now)) result }
+/// Puts the rules.
+fn put_rules<K: Sink>(sig: &Signature, rules: &[Rule], out: &mut Writer<'_, K>)
+    ensures { Puts K.Sink out.old out.new (flat_map (rule_text sig.now) (map rule_tree rules.now)) }
 {
     for rule in rules {
-        write_rule(sig, rule, sink)?;
-    }
-    Ok(())
-}
-
-/// Appends a rule.
-fn write_rule<K: Sink>(sig: &Signature, rule: &Rule, sink: &mut K) -> Result<(), Failed>
-    ensures { Prints (K.contents sink.old) (K.contents sink.new) (K.faults sink.old) (K.faults sink.new) (rule_text sig.now (rule_tree rule.now)) result }
-{
-    write_head(b"rule", &rule.name, sink)?;
-    write_pattern(sig, &rule.pattern, sink)?;
-    write_ending(sig, &rule.condition, sink)
-}
-
-/// Appends what stands behind the pattern of a rule: its condition, where there is one, and the end of the statement.
-fn write_ending<K: Sink>(
-    sig: &Signature,
-    condition: &Option<Cond>,
-    sink: &mut K,
-) -> Result<(), Failed>
-    ensures { Prints (K.contents sink.old) (K.contents sink.new) (K.faults sink.old) (K.faults sink.new) (ending_text sig.now (option_map cond_tree condition.now)) result }
-{
-    match condition {
-        None => put(sink, b";\n"),
-        Some(condition) => write_condition(sig, condition, sink),
+        put_rule(sig, rule, out);
     }
 }
 
-/// Appends the condition of a rule behind `if`, and the end of the statement.
-fn write_condition<K: Sink>(sig: &Signature, condition: &Cond, sink: &mut K) -> Result<(), Failed>
-    ensures { Prints (K.contents sink.old) (K.contents sink.new) (K.faults sink.old) (K.faults sink.new) (ending_text sig.now (Some (cond_tree condition.now))) result }
+/// Puts a rule, a line.
+fn put_rule<K: Sink>(sig: &Signature, rule: &Rule, out: &mut Writer<'_, K>)
+    ensures { Puts K.Sink out.old out.new (rule_text sig.now (rule_tree rule.now)) }
 {
-    put(sink, b" if ")?;
-    write_cond(sig, condition, sink)?;
-    put(sink, b";\n")
+    put_head(b"rule", &rule.name, out);
+    put_pattern(sig, &rule.pattern, out);
+    put_ending(sig, &rule.condition, out);
+    out.flush();
 }
 
-/// Appends the subjects.
-fn write_subjects<K: Sink>(
-    sig: &Signature,
-    subjects: &[Subject],
-    sink: &mut K,
-) -> Result<(), Failed>
-    ensures { Prints (K.contents sink.old) (K.contents sink.new) (K.faults sink.old) (K.faults sink.new) (flat_map (subject_text sig.now) (map subject_tree subjects.now)) result }
+/// Puts what stands behind the pattern of a rule: its condition, where there is one, and the end of the statement.
+fn put_ending<K: Sink>(sig: &Signature, condition: &Option<Cond>, out: &mut Writer<'_, K>)
+    ensures { Puts K.Sink out.old out.new (ending_text sig.now (option_map cond_tree condition.now)) }
+{
+    if let Some(condition) = condition {
+        out.put(b" if ");
+        put_cond(sig, condition, out);
+    }
+    out.put(b";\n");
+}
+
+/// Puts the subjects.
+fn put_subjects<K: Sink>(sig: &Signature, subjects: &[Subject], out: &mut Writer<'_, K>)
+    ensures { Puts K.Sink out.old out.new (flat_map (subject_text sig.now) (map subject_tree subjects.now)) }
 {
     for subject in subjects {
-        write_subject(sig, subject, sink)?;
+        put_subject(sig, subject, out);
     }
-    Ok(())
 }
 
-/// Appends a subject.
-fn write_subject<K: Sink>(sig: &Signature, subject: &Subject, sink: &mut K) -> Result<(), Failed>
-    ensures { Prints (K.contents sink.old) (K.contents sink.new) (K.faults sink.old) (K.faults sink.new) (subject_text sig.now (subject_tree subject.now)) result }
+/// Puts a subject, a line.
+fn put_subject<K: Sink>(sig: &Signature, subject: &Subject, out: &mut Writer<'_, K>)
+    ensures { Puts K.Sink out.old out.new (subject_text sig.now (subject_tree subject.now)) }
 {
-    write_head(b"subject", &subject.name, sink)?;
-    write_term(sig, &subject.term, sink)?;
-    put(sink, b";\n")
+    put_head(b"subject", &subject.name, out);
+    put_term(sig, &subject.term, out);
+    out.put(b";\n");
+    out.flush();
 }

@@ -1,6 +1,6 @@
 use Rattle.std.proofs.Common.{refl, append-nil, []}
 use Rattle.mp_io.proofs.WritingLaws.{Puts-written}
-use Rattle.mp_io.proofs.writer.Writer.send.Goals as goal
+use Rattle.mp_io.proofs.writer.Writer.flush.Goals as goal
 
 pub returns-clause-puts : goal.returns-clause-puts
 returns-clause-puts g c =
