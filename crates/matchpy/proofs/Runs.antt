@@ -266,11 +266,11 @@ pub HasOutcome-answers : (shelf : Shelved) (words : List Text) (asked_for : Opti
     → IfSome shelf.files (λ files. HasOutcome words files shelf out err status)
 HasOutcome-answers shelf words asked_for out err e status asked_is status_is h says =
     IfSome-told shelf.files (λ files told_files.
-      let o = outcome_at files (request_of words) in
-      let whole : HasOutcome words files shelf out err (status_of e) = record {
-        outcome = o;
-        is_outcome = (outcome_at-exact files (request_of words) o).1 refl;
-        runs = subst (λ r. Runs (outcome_at files r) (names_of r) files shelf out err (status_of e)) asked_is
-            (Runs-answers files asked_for shelf told_files out err e h says);
-      } in
-      subst (HasOutcome words files shelf out err) (sym status_is) whole)
+    let o = outcome_at files (request_of words) in
+    let whole : HasOutcome words files shelf out err (status_of e) = record {
+      outcome = o;
+      is_outcome = (outcome_at-exact files (request_of words) o).1 refl;
+      runs = subst (λ r. Runs (outcome_at files r) (names_of r) files shelf out err (status_of e)) asked_is
+          (Runs-answers files asked_for shelf told_files out err e h says);
+    } in
+    subst (HasOutcome words files shelf out err) (sym status_is) whole)

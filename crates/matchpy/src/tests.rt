@@ -53,12 +53,7 @@ fn owned(alloc: Global, words: &[&str]) -> Result<Vec<String>, Fail> {
 }
 
 // A run over one file `t`.
-fn ran(
-    alloc: Global,
-    words: &[&str],
-    file: &[u8],
-    devices: &Devices<'_>,
-) -> Result<Outcome, Fail> {
+fn ran(alloc: Global, words: &[&str], file: &[u8], devices: &Devices<'_>) -> Result<Outcome, Fail> {
     let words = owned(alloc, words)?;
     let mut shelf = MemoryShelf::new(alloc, devices.shelf.to_vec(alloc)?);
     if shelf.add("t", file).is_err() {
@@ -122,9 +117,12 @@ fn rules_match_where_their_conditions_hold(rt: HostRuntime) -> Result<(), Fail> 
 // Whether the run of the case writes, says and answers what the case has.
 fn is_run(alloc: Global, case: &str) -> Result<bool, Fail> {
     let mut parts = case.split("----\n");
-    let (Some(line), Some(file), Some(out), Some(err)) =
-        (parts.next(), parts.next(), parts.next(), parts.next())
-    else {
+    let (Some(line), Some(file), Some(out), Some(err)) = (
+        parts.next(),
+        parts.next(),
+        parts.next(),
+        parts.next(),
+    ) else {
         return Err("no case".into());
     };
     let mut words = Vec::new(alloc);

@@ -1,6 +1,7 @@
-// Terms, patterns and conditions that stand alone: their first faults.
-use crate::case::{arguments, halves, told};
-use crate::reading::{plan, signature};
+//! Terms, patterns and conditions that stand alone: their first faults.
+
+use crate::case::{arguments, told};
+use crate::reading::{file, halves, plan};
 use mp_pattern::Plan;
 use mp_term::Signature;
 use mp_text::{TextError, read_cond, read_loose_cond, read_pattern, read_term};
@@ -11,7 +12,8 @@ use std::test::Fail;
 pub const DECLARED: &str =
     "op f 2; op g 0+; op s 0+ comm; op p 1+ assoc comm one infix +; kind v: a b;";
 
-// In each table a line is a text and, behind `|`, its first fault: the kind, the line and the column. Nothing stands there where it has none.
+// In each table a line is a text and, behind `|`, its first fault: the kind, the line and the column. Nothing stands
+// there where it has none.
 
 const TERMS: &str = "\
 f(b, a)|\n\
@@ -132,9 +134,9 @@ fn first_wrong_line(
 
 #[test]
 fn the_first_fault_of_a_text_stands_at_its_token(rt: HostRuntime) -> Result<(), Fail> {
-    let sig = signature(rt.alloc(), DECLARED)?;
-    let plan = plan(rt.alloc(), &sig, "s(x__, y___)")?;
-    assert_eq!(rt; first_wrong_line(rt.alloc(), &sig, &plan)?, None);
+    let file = file(rt.alloc(), DECLARED)?;
+    let plan = plan(rt.alloc(), &file.sig, "s(x__, y___)")?;
+    assert_eq!(rt; first_wrong_line(rt.alloc(), &file.sig, &plan)?, None);
     Ok(())
 }
 
@@ -155,9 +157,9 @@ fn has_fault(
 
 #[test]
 fn a_pattern_has_at_most_64_nodes(rt: HostRuntime) -> Result<(), Fail> {
-    let sig = signature(rt.alloc(), DECLARED)?;
+    let file = file(rt.alloc(), DECLARED)?;
     for (name, count, fault) in [("g", 63, ""), ("q", 64, "TooMany 1 1")] {
-        assert!(rt; has_fault(rt.alloc(), &sig, name, count, fault)?);
+        assert!(rt; has_fault(rt.alloc(), &file.sig, name, count, fault)?);
     }
     Ok(())
 }

@@ -1,15 +1,8 @@
-// Lines of tables, and faults as tables write them.
+//! Arguments in great number, and faults as tables write them.
+
 use mp_text::{TextError, TextFault};
 use std::alloc::Global;
 use std::test::Fail;
-
-/// What stands before and behind the first `|` of the line.
-pub fn halves<'a>(line: &'a str) -> Result<(&'a str, &'a str), Fail> {
-    match line.split_once('|') {
-        Some(both) => Ok(both),
-        None => Err("the line has no bar".into()),
-    }
-}
 
 /// So many arguments `a`, at most 70.
 pub fn arguments(alloc: Global, count: usize) -> Result<String, Fail> {

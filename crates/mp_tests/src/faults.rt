@@ -1,10 +1,13 @@
-// The first faults of rule files.
-use crate::case::{arguments, halves, told};
+//! The first faults of rule files.
+
+use crate::case::{arguments, told};
+use crate::reading::halves;
 use mp_text::{fault_is_computed, file_is_computed, read_file};
 use std::alloc::Global;
 use std::test::Fail;
 
-// In each table a line is a file and, behind `|`, its first fault: the kind, the line and the column. Nothing stands there where it has none.
+// In each table a line is a file and, behind `|`, its first fault: the kind, the line and the column. Nothing stands
+// there where it has none.
 
 // Statements, names, operations and their arguments.
 const STATEMENTS: &str = "\

@@ -1,5 +1,5 @@
-//! Tests of the public calls of the libraries on patterns and files, over texts: which faults are told, what is printed, and what a
-//! pattern is: its order, its plan, its take tables and its items.
+//! Tests of what is read and printed: the first faults of texts, and files, terms, patterns and conditions as they are
+//! printed and read again. How a test reads a text is public, for the tests of what is matched.
 #![tactic(auto)]
 
 #[cfg(test)]
@@ -9,16 +9,9 @@ mod case;
 #[cfg(test)]
 mod faults;
 #[cfg(test)]
-mod items;
-#[cfg(test)]
 mod lists;
 #[cfg(test)]
-mod patterns;
-#[cfg(test)]
-mod plans;
-#[cfg(test)]
 mod printed;
-#[cfg(test)]
 mod reading;
-#[cfg(test)]
-mod takes;
+
+pub use reading::{NotRead, file, halves, pattern, plan, term};

@@ -1,5 +1,6 @@
-// The lists of a file.
-use crate::reading::{signature, term};
+//! The lists of a file.
+
+use crate::reading::{file, term};
 use mp_term::{Edits, Name};
 use mp_text::{EditSet, EditSets, Subject, Subjects};
 use std::alloc::Global;
@@ -8,7 +9,7 @@ use std::test::Fail;
 // The symbol a, named s.
 fn subject(alloc: Global) -> Result<Subject, Fail> {
     let name = Name::new(alloc, b"s")?;
-    let term = term(alloc, &signature(alloc, "")?, "a")?;
+    let term = term(alloc, &file(alloc, "")?.sig, "a")?;
     Ok(Subject { name, term })
 }
 

@@ -1,9 +1,9 @@
-// What is printed of terms, patterns, conditions, signatures and files.
+//! What is printed of terms, patterns, conditions, signatures and files.
+
 ghost use Rattle.std.specs.Prelude.{◌<◌, ◌-◌, ◌^◌, length};
 
 use crate::alone::DECLARED;
-use crate::case::halves;
-use crate::reading::signature;
+use crate::reading::{file, halves};
 use mp_io::MemorySink;
 use mp_term::Signature;
 use mp_text::{
@@ -51,20 +51,74 @@ not [kind($x,v) and kind($y,v)]|not [kind($x, v) and kind($y, v)]\n\
 not [kind($x,v) or kind($y,v)]|not [kind($x, v) or kind($y, v)]\n\
 not [not [[kind($x,v)]]]|not [not kind($x, v)]";
 
-// Files; `&` stands for the end of a line.
+// Files and, behind a line `----`, what is printed of them; a line `====` stands between each two.
 const FILES: &str = "\
-op sum 1+ assoc comm one; rule r: sum(x___, a, sum(y_, b));|op sum 1+ assoc comm one;&rule r: sum(a, b, y_, x___);&\n\
-subject s: f(a,0);rule r :f( x_,a ); op f 02;|op f 2;&rule r: f(x_, a);&subject s: f(a, 0);&\n\
-op s 0+ comm; rule r: s(__, _, x_); subject t: s(a, b, c);|op s 0+ comm;&rule r: s(x_, _, __);&subject t: s(a, b, c);&\n\
-op p 1+ assoc comm one infix +; rule r: p(x_, y_:0); subject s: a;|op p 1+ assoc comm one infix +;&rule r: (x_ + y_:0);&subject s: a;&\n\
-op p 1+ assoc comm one infix +; rule r: p(x_:0, y_:0); subject s: 0;|op p 1+ assoc comm one infix +;&rule r: (x_:0 + y_:0);&subject s: 0;&\n\
-op p 1+ assoc comm one infix +; rule r: p(x_:0, y_, z___); subject s: a;|op p 1+ assoc comm one infix +;&rule r: (y_ + x_:0 + z___);&subject s: a;&\n\
-op f 3; op p 1+ comm one infix +; rule r: f(_:p(b, a), x_:(p(a) + b), ___);|op f 3;&op p 1+ comm one infix +;&rule r: f(_:(a + b), x_:(a + b), ___);&\n\
-op p 1+ assoc comm one infix +; kind v: b a; subject s: (c + p(p(b)) + (a + b));|op p 1+ assoc comm one infix +;&kind v: a b;&subject s: (a + b + b + c);&\n\
-rule r: x_ if [[count($x)==01]];|rule r: x_ if count($x) == 1;&\n\
-kind v: a; op f 1; rule r: x_ if not [kind($x,v) or not head($x,f)] and 1<2;|op f 1;&kind v: a;&rule r: x_ if not [kind($x, v) or not head($x, f)] and 1 < 2;&\n\
-rule r: x_ if [same($x, a) and less($x, b)] or not [not free($x, a)];|rule r: x_ if same($x, a) and less($x, b) or not [not free($x, a)];&\n\
-op s 0+ comm; rule r: s(x__) if [size($x) >= 2 and [1 != 2 and 2 <= 3]];|op s 0+ comm;&rule r: s(x__) if size($x) >= 2 and [1 != 2 and 2 <= 3];&";
+op sum 1+ assoc comm one; rule r: sum(x___, a, sum(y_, b));
+----
+op sum 1+ assoc comm one;
+rule r: sum(a, b, y_, x___);
+====
+subject s: f(a,0);rule r :f( x_,a ); op f 02;
+----
+op f 2;
+rule r: f(x_, a);
+subject s: f(a, 0);
+====
+op s 0+ comm; rule r: s(__, _, x_); subject t: s(a, b, c);
+----
+op s 0+ comm;
+rule r: s(x_, _, __);
+subject t: s(a, b, c);
+====
+op p 1+ assoc comm one infix +; rule r: p(x_, y_:0); subject s: a;
+----
+op p 1+ assoc comm one infix +;
+rule r: (x_ + y_:0);
+subject s: a;
+====
+op p 1+ assoc comm one infix +; rule r: p(x_:0, y_:0); subject s: 0;
+----
+op p 1+ assoc comm one infix +;
+rule r: (x_:0 + y_:0);
+subject s: 0;
+====
+op p 1+ assoc comm one infix +; rule r: p(x_:0, y_, z___); subject s: a;
+----
+op p 1+ assoc comm one infix +;
+rule r: (y_ + x_:0 + z___);
+subject s: a;
+====
+op f 3; op p 1+ comm one infix +; rule r: f(_:p(b, a), x_:(p(a) + b), ___);
+----
+op f 3;
+op p 1+ comm one infix +;
+rule r: f(_:(a + b), x_:(a + b), ___);
+====
+op p 1+ assoc comm one infix +; kind v: b a; subject s: (c + p(p(b)) + (a + b));
+----
+op p 1+ assoc comm one infix +;
+kind v: a b;
+subject s: (a + b + b + c);
+====
+rule r: x_ if [[count($x)==01]];
+----
+rule r: x_ if count($x) == 1;
+====
+kind v: a; op f 1; rule r: x_ if not [kind($x,v) or not head($x,f)] and 1<2;
+----
+op f 1;
+kind v: a;
+rule r: x_ if not [kind($x, v) or not head($x, f)] and 1 < 2;
+====
+rule r: x_ if [same($x, a) and less($x, b)] or not [not free($x, a)];
+----
+rule r: x_ if same($x, a) and less($x, b) or not [not free($x, a)];
+====
+op s 0+ comm; rule r: s(x__) if [size($x) >= 2 and [1 != 2 and 2 <= 3]];
+----
+op s 0+ comm;
+rule r: s(x__) if size($x) >= 2 and [1 != 2 and 2 <= 3];
+";
 
 // What a text is read as.
 #[derive(Clone, Copy)]
@@ -131,15 +185,6 @@ fn print(alloc: Global, sig: &Signature, sort: Sort, text: &[u8], sink: &mut Mem
     }
 }
 
-// The text, with a line feed for each `&`.
-fn with_line_feeds(alloc: Global, text: &str) -> Result<Vec<u8>, Fail> {
-    let mut bytes = Vec::new(alloc);
-    for byte in text.as_bytes() {
-        bytes.push(if *byte == b'&' { b'\n' } else { *byte })?;
-    }
-    Ok(bytes)
-}
-
 // Whether the wanted text is printed of the text.
 fn is_printed(
     alloc: Global,
@@ -152,14 +197,16 @@ fn is_printed(
     Ok(print(alloc, sig, sort, text, &mut sink) && sink.content() == wanted)
 }
 
-// Whether the line's second text is printed of its first, and of itself.
-fn is_printed_twice(alloc: Global, sig: &Signature, sort: Sort, line: &str) -> Result<bool, Fail> {
-    let (text, printed) = halves(line)?;
-    let wanted = with_line_feeds(alloc, printed)?;
-    Ok(
-        is_printed(alloc, sig, sort, text.as_bytes(), &wanted)?
-            && is_printed(alloc, sig, sort, &wanted, &wanted)?,
-    )
+// Whether the wanted text is printed of the text, and of itself.
+fn is_printed_twice(
+    alloc: Global,
+    sig: &Signature,
+    sort: Sort,
+    text: &str,
+    wanted: &str,
+) -> Result<bool, Fail> {
+    let (text, wanted) = (text.as_bytes(), wanted.as_bytes());
+    Ok(is_printed(alloc, sig, sort, text, wanted)? && is_printed(alloc, sig, sort, wanted, wanted)?)
 }
 
 // The first line of the table that is printed otherwise.
@@ -170,25 +217,22 @@ fn wrong_line(
     table: &'static str,
 ) -> Result<Option<&'static str>, Fail> {
     for line in table.split('\n') {
-        if !is_printed_twice(alloc, sig, sort, line)? {
+        let (text, wanted) = halves(line)?;
+        if !is_printed_twice(alloc, sig, sort, text, wanted)? {
             return Ok(Some(line));
         }
     }
     Ok(None)
 }
 
-// The first line of all tables that is printed otherwise.
-fn first_wrong_line(alloc: Global, sig: &Signature) -> Result<Option<&'static str>, Fail> {
-    for (sort, table) in [
-        (Sort::Term, TERMS),
-        (Sort::Pattern, PATTERNS),
-        (Sort::Condition, ATOMS),
-        (Sort::Condition, BRACKETS),
-        (Sort::File, FILES),
-    ] {
-        let wrong = wrong_line(alloc, sig, sort, table)?;
-        if wrong.is_some() {
-            return Ok(wrong);
+// The first file that is printed otherwise.
+fn wrong_file(alloc: Global, sig: &Signature) -> Result<Option<&'static str>, Fail> {
+    for case in FILES.split("====\n") {
+        let Some((text, wanted)) = case.split_once("----\n") else {
+            return Err("the case has no line of bars".into());
+        };
+        if !is_printed_twice(alloc, sig, Sort::File, text, wanted)? {
+            return Ok(Some(case));
         }
     }
     Ok(None)
@@ -198,8 +242,16 @@ fn first_wrong_line(alloc: Global, sig: &Signature) -> Result<Option<&'static st
 fn what_is_printed_is_read_again_and_printed_so(rt: HostRuntime) -> Result<(), Fail> {
     printed_file_is_its_statements();
     printed_file_is_read();
-    let sig = signature(rt.alloc(), DECLARED)?;
-    assert_eq!(rt; first_wrong_line(rt.alloc(), &sig)?, None);
+    let file = file(rt.alloc(), DECLARED)?;
+    for (sort, table) in [
+        (Sort::Term, TERMS),
+        (Sort::Pattern, PATTERNS),
+        (Sort::Condition, ATOMS),
+        (Sort::Condition, BRACKETS),
+    ] {
+        assert_eq!(rt; wrong_line(rt.alloc(), &file.sig, sort, table)?, None);
+    }
+    assert_eq!(rt; wrong_file(rt.alloc(), &file.sig)?, None);
     Ok(())
 }
 
@@ -211,8 +263,8 @@ fn is_signature_text(alloc: Global, sig: &Signature, text: &[u8]) -> Result<bool
 
 #[test]
 fn a_signature_is_printed_a_declaration_a_line(rt: HostRuntime) -> Result<(), Fail> {
-    let sig = signature(rt.alloc(), DECLARED)?;
+    let file = file(rt.alloc(), DECLARED)?;
     let text = b"op f 2;\nop g 0+;\nop s 0+ comm;\nop p 1+ assoc comm one infix +;\nkind v: a b;\n";
-    assert!(rt; is_signature_text(rt.alloc(), &sig, text)?);
+    assert!(rt; is_signature_text(rt.alloc(), &file.sig, text)?);
     Ok(())
 }

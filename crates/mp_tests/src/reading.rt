@@ -1,48 +1,69 @@
-// What texts are read as; a fault of the text is a fault of the test.
+//! What the texts of tests are read as.
+
 use mp_pattern::{Pattern, Plan};
 use mp_term::{Signature, Term};
-use mp_text::{read_file, read_pattern, read_term};
+use mp_text::{File, read_file, read_pattern, read_term};
 use std::alloc::Global;
-use std::test::Fail;
 
-/// The signature of a text of declarations.
-pub fn signature(alloc: Global, text: &str) -> Result<Signature, Fail> {
+/// Why a text of a test isn't read.
+#[derive(Clone, Copy, Debug, PartialEq, Eq)]
+pub enum NotRead {
+    /// It has more than 1,000 bytes.
+    TooLong,
+    /// It has a fault, or memory ran out.
+    Fault,
+    /// The pattern has no plan, or memory ran out.
+    NoPlan,
+    /// A line of a table has no bar.
+    NoBar,
+}
+
+/// What stands before and behind the first `|` of a line of a table.
+pub fn halves(line: &str) -> Result<(&str, &str), NotRead> {
+    match line.split_once('|') {
+        Some(both) => Ok(both),
+        None => Err(NotRead::NoBar),
+    }
+}
+
+/// The file of a text.
+pub fn file(alloc: Global, text: &str) -> Result<File, NotRead> {
     if text.len() > 1000 {
-        return Err("the declarations are too long".into());
+        return Err(NotRead::TooLong);
     }
     match read_file(alloc, text.as_bytes()) {
-        Ok(file) => Ok(file.sig),
-        Err(_) => Err("the declarations have a fault".into()),
+        Ok(file) => Ok(file),
+        Err(_) => Err(NotRead::Fault),
     }
 }
 
 /// The term of a text, in normal form.
-pub fn term(alloc: Global, sig: &Signature, text: &str) -> Result<Term, Fail> {
+pub fn term(alloc: Global, sig: &Signature, text: &str) -> Result<Term, NotRead> {
     if text.len() > 1000 {
-        return Err("the term is too long".into());
+        return Err(NotRead::TooLong);
     }
     match read_term(alloc, sig, text.as_bytes()) {
         Ok(term) => Ok(term),
-        Err(_) => Err("the term has a fault".into()),
+        Err(_) => Err(NotRead::Fault),
     }
 }
 
 /// The pattern of a text, as it is written.
-pub fn pattern(alloc: Global, sig: &Signature, text: &str) -> Result<Pattern, Fail> {
+pub fn pattern(alloc: Global, sig: &Signature, text: &str) -> Result<Pattern, NotRead> {
     if text.len() > 1000 {
-        return Err("the pattern is too long".into());
+        return Err(NotRead::TooLong);
     }
     match read_pattern(alloc, sig, text.as_bytes()) {
         Ok(pattern) => Ok(pattern),
-        Err(_) => Err("the pattern has a fault".into()),
+        Err(_) => Err(NotRead::Fault),
     }
 }
 
 /// The plan of the pattern of a text.
-pub fn plan(alloc: Global, sig: &Signature, text: &str) -> Result<Plan, Fail> {
+pub fn plan(alloc: Global, sig: &Signature, text: &str) -> Result<Plan, NotRead> {
     let pattern = pattern(alloc, sig, text)?;
     match Plan::compile(alloc, sig, &pattern) {
         Ok(plan) => Ok(plan),
-        Err(_) => Err("the pattern has no plan".into()),
+        Err(_) => Err(NotRead::NoPlan),
     }
 }

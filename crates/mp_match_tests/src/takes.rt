@@ -1,16 +1,17 @@
-// Take tables that fit, and others.
-use crate::reading::{plan, signature, term};
+//! Take tables that fit, and others.
+
 use mp_one::check_takes;
 use mp_pattern::{Entries, Entry, Pattern, Patterns, Plan, Shape};
 use mp_term::{Name, OpId, Signature, Term, Terms, is_normal};
+use mp_tests::{file, plan, term};
 use std::alloc::Global;
 use std::test::Fail;
 
 const DECLARED: &str =
     "op f 2; op g 0+; op s 0+ comm; op p 0+ assoc; op u 0+ assoc comm one; kind v: a b;";
 
-// In each table a line is a pattern, a subject and a take table. A `;` stands between the entries of the table, and a blank between the terms of
-// an entry; the entry of a collapsed application ends with `!`.
+// In each table a line is a pattern, a subject and a take table. A `;` stands between the entries of the table, and a
+// blank between the terms of an entry; the entry of a collapsed application ends with `!`.
 
 const FITTING: &str = "\
 u(x_,y_)|u(a,b,c)|u(a,b,c);a;b c\n\
@@ -133,9 +134,9 @@ fn wrong_line(
 
 #[test]
 fn a_table_fits_where_each_node_obeys_its_line(rt: HostRuntime) -> Result<(), Fail> {
-    let sig = signature(rt.alloc(), DECLARED)?;
+    let file = file(rt.alloc(), DECLARED)?;
     for (table, fits) in [(FITTING, true), (OTHERS, false)] {
-        assert_eq!(rt; wrong_line(rt.alloc(), &sig, table, fits)?, None);
+        assert_eq!(rt; wrong_line(rt.alloc(), &file.sig, table, fits)?, None);
     }
     Ok(())
 }
@@ -168,11 +169,11 @@ fn left_out_fits(alloc: Global, sig: &Signature, name: Option<Name>) -> Result<b
 
 #[test]
 fn a_variable_is_left_out_where_its_default_is_normal(rt: HostRuntime) -> Result<(), Fail> {
-    let sig = signature(rt.alloc(), DECLARED)?;
+    let file = file(rt.alloc(), DECLARED)?;
     match Name::new(rt.alloc(), b"x") {
-        Ok(name) => assert!(rt; !left_out_fits(rt.alloc(), &sig, Some(name))?),
+        Ok(name) => assert!(rt; !left_out_fits(rt.alloc(), &file.sig, Some(name))?),
         Err(_) => return Err("the name has a fault".into()),
     }
-    assert!(rt; left_out_fits(rt.alloc(), &sig, None)?);
+    assert!(rt; left_out_fits(rt.alloc(), &file.sig, None)?);
     Ok(())
 }

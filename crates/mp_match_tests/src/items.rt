@@ -1,5 +1,5 @@
-// The items of the one-list: each substitution with its least take table.
-use crate::case::halves;
+//! The items of the one-list: each substitution with its least take table.
+
 use mp_io::{MemorySink, Sink, put};
 use mp_one::{Item, Items, eager_list, has_small_defaults};
 use mp_pattern::{Entry, Plan, Rule};
@@ -8,18 +8,68 @@ use mp_text::{File, read_file, write_subst, write_term};
 use std::alloc::Global;
 use std::test::Fail;
 
-// Files of a rule and a subject and, behind `|`, the items, each with `&` behind it. A `;` stands between the entries of a table, and a blank between the
-// terms of an entry; the entry of a collapsed application ends with `!`.
+// Files of a rule and a subject and, behind a line `----`, the items; a line `====` stands between each two. A `;`
+// stands between the entries of a table, and a blank between the terms of an entry; the entry of a collapsed
+// application ends with `!`.
 const FILES: &str = "\
-op f 2; rule r: f(x_, x_); subject s: f(a, b);|\n\
-op f 2; rule r: f(a, b); subject s: f(a, b);|f(a, b);a;b {}&\n\
-op p 1+ assoc; rule r: p(x_, y_); subject s: p(a, b, c);|p(a, b, c);a;b c {x -> a, y -> p(b, c)}&p(a, b, c);a b;c {x -> p(a, b), y -> c}&\n\
-op s 0+ comm; rule r: s(x__, y___); subject t: s(a, a);|s(a, a);a;a {x -> {a}, y -> {a}}&s(a, a);a a; {x -> {a, a}, y -> {}}&\n\
-op s 0+ comm; rule r: s(x_, _, __); subject t: s(a, b, c);|s(a, b, c);a;b;c {x -> a}&s(a, b, c);b;a;c {x -> b}&s(a, b, c);c;a;b {x -> c}&\n\
-op h 2; op g 0+; op s 0+ comm; rule r: h(s(x__), g(x__)); subject t: h(s(a, b), g(b, a));|h(s(a, b), g(b, a));s(a, b);a b;g(b, a);b a {x -> (b, a)}&\n\
-op u 1+ assoc comm one infix +; rule r: u(x_, y_:0); subject s: a;|a!;a; {x -> a, y -> 0}&\n\
-op u 1+ assoc comm one infix +; rule r: u(x_:0, y_:0); subject s: 0;|0!;;0 {x -> 0, y -> 0}&\n\
-op u 1+ assoc comm one infix +; rule r: u(x_, y_); subject s: (a + b);|(a + b);a;b {x -> a, y -> b}&(a + b);b;a {x -> b, y -> a}&";
+op f 2;
+rule r: f(x_, x_);
+subject s: f(a, b);
+----
+====
+op f 2;
+rule r: f(a, b);
+subject s: f(a, b);
+----
+f(a, b);a;b {}
+====
+op p 1+ assoc;
+rule r: p(x_, y_);
+subject s: p(a, b, c);
+----
+p(a, b, c);a;b c {x -> a, y -> p(b, c)}
+p(a, b, c);a b;c {x -> p(a, b), y -> c}
+====
+op s 0+ comm;
+rule r: s(x__, y___);
+subject t: s(a, a);
+----
+s(a, a);a;a {x -> {a}, y -> {a}}
+s(a, a);a a; {x -> {a, a}, y -> {}}
+====
+op s 0+ comm;
+rule r: s(x_, _, __);
+subject t: s(a, b, c);
+----
+s(a, b, c);a;b;c {x -> a}
+s(a, b, c);b;a;c {x -> b}
+s(a, b, c);c;a;b {x -> c}
+====
+op h 2; op g 0+; op s 0+ comm;
+rule r: h(s(x__), g(x__));
+subject t: h(s(a, b), g(b, a));
+----
+h(s(a, b), g(b, a));s(a, b);a b;g(b, a);b a {x -> (b, a)}
+====
+op u 1+ assoc comm one infix +;
+rule r: u(x_, y_:0);
+subject s: a;
+----
+a!;a; {x -> a, y -> 0}
+====
+op u 1+ assoc comm one infix +;
+rule r: u(x_:0, y_:0);
+subject s: 0;
+----
+0!;;0 {x -> 0, y -> 0}
+====
+op u 1+ assoc comm one infix +;
+rule r: u(x_, y_);
+subject s: (a + b);
+----
+(a + b);a;b {x -> a, y -> b}
+(a + b);b;a {x -> b, y -> a}
+";
 
 fn write_entry(sig: &Signature, entry: &Entry, sink: &mut MemorySink) -> bool {
     for (i, term) in entry.terms.as_slice().iter().enumerate() {
@@ -38,7 +88,7 @@ fn write_item(sig: &Signature, item: &Item, sink: &mut MemorySink) -> bool {
     }
     put(sink, b" ").is_ok()
         && write_subst(sig, &item.subst, sink).is_ok()
-        && put(sink, b"&").is_ok()
+        && put(sink, b"\n").is_ok()
 }
 
 fn write_items(sig: &Signature, items: &Items, sink: &mut MemorySink) -> bool {
@@ -83,9 +133,11 @@ fn write_file_items(alloc: Global, text: &[u8], sink: &mut MemorySink) -> bool {
     }
 }
 
-// Whether the file of the line has the items of the line.
-fn is_listed(alloc: Global, line: &str) -> Result<bool, Fail> {
-    let (text, items) = halves(line)?;
+// Whether the file has the items that stand behind it.
+fn is_listed(alloc: Global, case: &str) -> Result<bool, Fail> {
+    let Some((text, items)) = case.split_once("----\n") else {
+        return Err("no items".into());
+    };
     let Ok(mut sink) = MemorySink::new(alloc, 200, Vec::new(alloc)) else {
         return Err("memory ran out".into());
     };
@@ -94,8 +146,8 @@ fn is_listed(alloc: Global, line: &str) -> Result<bool, Fail> {
 
 #[test]
 fn each_substitution_has_its_least_table(rt: HostRuntime) -> Result<(), Fail> {
-    for line in FILES.split('\n') {
-        assert!(rt; is_listed(rt.alloc(), line)?, "{line}");
+    for case in FILES.split("====\n") {
+        assert!(rt; is_listed(rt.alloc(), case)?, "{case}");
     }
     Ok(())
 }

@@ -1,8 +1,9 @@
-// Plans, read node by node and variable by variable, and the refusals.
+//! Plans, read node by node and variable by variable, and the refusals.
+
 use crate::patterns::DECLARED;
-use crate::reading::{plan, signature};
 use mp_pattern::{Form, Pattern, Patterns, Plan, PlanFault, PlanNode, Shape};
 use mp_term::{KindId, Name, OpId, Signature};
+use mp_tests::{file, plan};
 use std::alloc::Global;
 use std::test::Fail;
 
@@ -25,7 +26,8 @@ fn first_byte(name: &Name) -> u32 {
     }
 }
 
-// A node as its class and a number: the first letter of a symbol, the number of an operation, or that of a variable, 9 for none.
+// A node as its class and a number: the first letter of a symbol, the number of an operation, or that of a variable, 9
+// for none.
 fn described(node: Option<PlanNode<'_>>) -> (u8, u32) {
     match node {
         None => (0, 0),
@@ -74,8 +76,8 @@ fn wrong_node(plan: &Plan) -> Option<u32> {
 
 #[test]
 fn nodes_have_the_numbers_of_the_preorder(rt: HostRuntime) -> Result<(), Fail> {
-    let sig = signature(rt.alloc(), DECLARED)?;
-    let plan = plan(rt.alloc(), &sig, MIXED)?;
+    let file = file(rt.alloc(), DECLARED)?;
+    let plan = plan(rt.alloc(), &file.sig, MIXED)?;
     assert_eq!(rt; plan.len(), 9);
     assert_eq!(rt; wrong_node(&plan), None);
     Ok(())
@@ -107,8 +109,8 @@ fn has_others(plan: &Plan) -> bool {
 
 #[test]
 fn variables_have_their_forms(rt: HostRuntime) -> Result<(), Fail> {
-    let sig = signature(rt.alloc(), DECLARED)?;
-    let plan = plan(rt.alloc(), &sig, MIXED)?;
+    let file = file(rt.alloc(), DECLARED)?;
+    let plan = plan(rt.alloc(), &file.sig, MIXED)?;
     assert_eq!(rt;
         (plan.vars(), wrong_variable(&plan), has_others(&plan)),
         (3, None, false)
@@ -178,7 +180,7 @@ fn answer_to(alloc: Global, sig: &Signature, number: u8) -> Result<(u8, u32), Fa
 
 #[test]
 fn refusals_come_in_order(rt: HostRuntime) -> Result<(), Fail> {
-    let sig = signature(rt.alloc(), DECLARED)?;
+    let file = file(rt.alloc(), DECLARED)?;
     for (number, wanted) in [
         (0, (1, 0)),
         (1, (2, 65)),
@@ -189,7 +191,7 @@ fn refusals_come_in_order(rt: HostRuntime) -> Result<(), Fail> {
         (6, (4, 3)),
         (7, (4, 3)),
     ] {
-        assert_eq!(rt; answer_to(rt.alloc(), &sig, number)?, wanted);
+        assert_eq!(rt; answer_to(rt.alloc(), &file.sig, number)?, wanted);
     }
     Ok(())
 }

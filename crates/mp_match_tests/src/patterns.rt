@@ -1,11 +1,11 @@
-// Patterns, templates, conditions and rules: their lists, their order and their copies.
-use crate::case::halves;
-use crate::reading::{pattern, signature};
+//! Patterns, templates, conditions and rules: their lists, their order and their copies.
+
 use mp_pattern::{
     Amount, Cond, Conds, Entries, Entry, Operand, Pattern, Patterns, Rule, Rules, Sense, Shape,
     Template, Templates, copy_cond, copy_pattern, is_fully_named, is_syntactic, pattern_compare,
 };
 use mp_term::{KindId, Name, OpId, Signature, Terms};
+use mp_tests::{file, halves, pattern};
 use mp_text::{read_file, read_loose_cond};
 use std::alloc::Global;
 use std::test::Fail;
@@ -75,8 +75,8 @@ fn are_ascending(patterns: &[Pattern]) -> bool {
 
 #[test]
 fn patterns_ascend(rt: HostRuntime) -> Result<(), Fail> {
-    let sig = signature(rt.alloc(), DECLARED)?;
-    let patterns = ascending(rt.alloc(), &sig)?;
+    let file = file(rt.alloc(), DECLARED)?;
+    let patterns = ascending(rt.alloc(), &file.sig)?;
     assert_eq!(rt; patterns.len(), 14);
     assert!(rt; are_ascending(&patterns));
     Ok(())
@@ -102,8 +102,8 @@ fn wrong_line(alloc: Global, sig: &Signature) -> Result<Option<&'static str>, Fa
 
 #[test]
 fn patterns_are_named_syntactic_and_copied(rt: HostRuntime) -> Result<(), Fail> {
-    let sig = signature(rt.alloc(), DECLARED)?;
-    assert_eq!(rt; wrong_line(rt.alloc(), &sig)?, None);
+    let file = file(rt.alloc(), DECLARED)?;
+    assert_eq!(rt; wrong_line(rt.alloc(), &file.sig)?, None);
     Ok(())
 }
 
@@ -120,8 +120,8 @@ fn are_three(patterns: &Patterns) -> bool {
 
 #[test]
 fn patterns_hold_what_was_pushed(rt: HostRuntime) -> Result<(), Fail> {
-    let sig = signature(rt.alloc(), DECLARED)?;
-    match &pattern(rt.alloc(), &sig, "g(b, x_v, _:a)")? {
+    let file = file(rt.alloc(), DECLARED)?;
+    match &pattern(rt.alloc(), &file.sig, "g(b, x_v, _:a)")? {
         Pattern::App(_, args) => {
             assert!(rt; are_three(args));
             assert_eq!(rt; args.len(), 3);
@@ -148,21 +148,36 @@ fn templates_hold_what_was_pushed(rt: HostRuntime) -> Result<(), Fail> {
     Ok(())
 }
 
-// Whether the parts are `head($x, f)` and `count($x) >= 2`.
+// Whether the condition is `head($x, f)`.
+fn is_headed(cond: &Cond) -> bool {
+    matches!(cond, Cond::Headed(Operand::Var(_), OpId(1)))
+}
+
+// Whether the condition is `count($x) >= 2`.
+fn is_counted(cond: &Cond) -> bool {
+    matches!(
+        cond,
+        Cond::Amounts(Amount::Count(_), Sense::Ge, Amount::Fixed(2))
+    )
+}
+
+// Whether the parts are these two.
 fn are_both(parts: &Conds) -> bool {
-    (parts.len(), parts.as_slice().len()) == (2, 2)
-        && matches!(parts.get(0), Some(Cond::Headed(Operand::Var(_), OpId(1))))
-        && matches!(
-            parts.get(1),
-            Some(Cond::Amounts(Amount::Count(_), Sense::Ge, Amount::Fixed(2)))
-        )
-        && parts.get(2).is_none()
+    match parts.as_slice() {
+        [first, second] => is_headed(first) && is_counted(second),
+        _ => false,
+    }
+}
+
+// Whether the parts are as many, and are found by their numbers.
+fn are_two(parts: &Conds) -> bool {
+    parts.len() == 2 && parts.get(1).is_some() && parts.get(2).is_none()
 }
 
 // Whether the condition is `head($x, f) or count($x) >= 2`.
 fn is_either(cond: &Cond) -> bool {
     match cond {
-        Cond::Any(parts) => are_both(parts),
+        Cond::Any(parts) => are_both(parts) && are_two(parts),
         _ => false,
     }
 }
@@ -177,9 +192,9 @@ fn is_neither(cond: &Cond) -> bool {
 
 #[test]
 fn conditions_are_copied(rt: HostRuntime) -> Result<(), Fail> {
-    let sig = signature(rt.alloc(), DECLARED)?;
+    let file = file(rt.alloc(), DECLARED)?;
     let text = b"not [head($x, f) or count($x) >= 2]";
-    match read_loose_cond(rt.alloc(), &sig, text) {
+    match read_loose_cond(rt.alloc(), &file.sig, text) {
         Ok(cond) => assert!(rt; is_neither(&copy_cond(rt.alloc(), &cond)?)),
         Err(_) => return Err("the condition has a fault".into()),
     }
