@@ -14,6 +14,7 @@ use Rattle.mp_syntax.specs.Tokens.{Token, Word, Sign, Punctuation, End, Placed}
 use Rattle.mp_syntax.specs.Syntax.{Spot, Wildcard, Expected, Said, Stands, Matches, spell, spell_condition, spell_statement, spelled_word, spelled_wildcard, spelled_sign, fixed_word}
 use Rattle.mp_syntax.specs.Machine.{Frame, open_count, State, Single, SingleExpr, SingleCondition, Step, Go, Emit, Refuse, Finish, Ends, is_punct, same_punct, is_sign, is_word, is_end, word_of, sign_of, wildcard_at, spot, on_text, on_word, on_sign, on_found, step_open}
 use Rattle.mp_syntax.specs.Partial.{so_far}
+use Rattle.mp_syntax.proofs.Longest.{IsToken}
 
 -- ---- what a test on a token says
 
@@ -88,10 +89,15 @@ abbrev pub spell_single : Single → List Expected
 spell_single (SingleExpr t) = spell t
 spell_single (SingleCondition c) = spell_condition c
 
--- the token t is the one that a step has added to the spelling before it
+-- the token that is expected
+abbrev pub expected_token : Expected → Token
+expected_token (Said t) = t
+expected_token (Stands t place) = t
+
+-- the token t is one, and the one that a step has added to the spelling before it
 abbrev pub Adds : Step → List Expected → Placed → Type 0
-Adds (Go at) before t = (m : Expected) × Matches t m × (so_far at ≡ before ++ m ∷ [])
-Adds (Emit s) before t = (m : Expected) × Matches t m × (spell_statement s ≡ before ++ m ∷ [])
+Adds (Go at) before t = (m : Expected) × IsToken (expected_token m) × Matches t m × (so_far at ≡ before ++ m ∷ [])
+Adds (Emit s) before t = (m : Expected) × IsToken (expected_token m) × Matches t m × (spell_statement s ≡ before ++ m ∷ [])
 Adds (Refuse kind) before t = Unit {0}
 Adds Finish before t = (before ≡ []) × (t.token ≡ End)
 Adds (Ends s) before t = (before ≡ spell_single s) × (t.token ≡ End)

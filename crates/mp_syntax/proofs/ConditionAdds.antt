@@ -106,50 +106,50 @@ adds-amount : (x : Within) (k : List Frame) (s : Site) (side : Side) (t : Placed
 adds-amount x k s side t w is = go (is_number w)
   where
     number : (side : Side) → Adds (Go (with_amount x k s side (Number (spot w t.place)))) (before_side x k s side) t
-    number OnLeft = (spelled_word (spot w t.place), is, so_far-with_amount x k s OnLeft (Number (spot w t.place)) ∙ simp append_assoc)
-    number (OnRight b sense) = (spelled_word (spot w t.place), is, so_far-with_amount x k s (OnRight b sense) (Number (spot w t.place)) ∙ simp append_assoc)
+    number OnLeft = (spelled_word (spot w t.place), tt, is, so_far-with_amount x k s OnLeft (Number (spot w t.place)) ∙ simp append_assoc)
+    number (OnRight b sense) = (spelled_word (spot w t.place), tt, is, so_far-with_amount x k s (OnRight b sense) (Number (spot w t.place)) ∙ simp append_assoc)
 
     go : (b : Bool) → Adds (cond b (Go (with_amount x k s side (Number (spot w t.place)))) (on_found (λ m. Go (BeforeOperand x k s (OfMeasure side m))) (Refuse Syntax) (measure_of w))) (before_side x k s side) t
     go true = number side
-    go false = adds-found _ (Refuse Syntax) (measure_of w) (before_side x k s side) t (λ m e. (fixed_word (measure_word m), is.0 ∙ ap Word (measure_of-is w m e), simp append_assoc)) tt
+    go false = adds-found _ (Refuse Syntax) (measure_of w) (before_side x k s side) t (λ m e. (fixed_word (measure_word m), tt, is.0 ∙ ap Word (measure_of-is w m e), simp append_assoc)) tt
 
 adds-atom : (x : Within) (k : List Frame) (s : Site) (t : Placed) (w : List ℕ) → Matches t (spelled_word (spot w t.place)) → Adds (step_atom x k s (spot w t.place)) (so_far (BeforeBody x k s)) t
 adds-atom x k s t w is =
-    adds-found _ _ (relation_of w) (so_far (BeforeBody x k s)) t (λ r e. (fixed_word (relation_word r), is.0 ∙ ap Word (relation_of-is w r e), simp append_assoc))
-    (adds-found _ _ (property_of w) (so_far (BeforeBody x k s)) t (λ p e. (fixed_word (property_word p), is.0 ∙ ap Word (property_of-is w p e), simp append_assoc))
+    adds-found _ _ (relation_of w) (so_far (BeforeBody x k s)) t (λ r e. (fixed_word (relation_word r), tt, is.0 ∙ ap Word (relation_of-is w r e), simp append_assoc))
+    (adds-found _ _ (property_of w) (so_far (BeforeBody x k s)) t (λ p e. (fixed_word (property_word p), tt, is.0 ∙ ap Word (property_of-is w p e), simp append_assoc))
     (subst (λ l. Adds (step_amount x k s OnLeft (spot w t.place)) (spell_within x ++ (spell_frames k ++ l)) t) (append-nil (spell_site s)) (adds-amount x k s OnLeft t w is)))
 
 pub adds-body : (x : Within) (k : List Frame) (s : Site) (t : Placed) → Adds (step_body MAX_OPEN x k s t) (so_far (BeforeBody x k s)) t
 adds-body x k s t =
-    adds-punct OpenSquare t _ _ (so_far (BeforeBody x k s)) (λ is. adds-open k (BeforeLiteral x (Square s ∷ k) no_level) (so_far (BeforeBody x k s)) t (Said (Punctuation OpenSquare), is, simp (append_assoc, append-nil)))
+    adds-punct OpenSquare t _ _ (so_far (BeforeBody x k s)) (λ is. adds-open k (BeforeLiteral x (Square s ∷ k) no_level) (so_far (BeforeBody x k s)) t (Said (Punctuation OpenSquare), tt, is, simp (append_assoc, append-nil)))
     (adds-word (λ w. step_atom x k s w) t (so_far (BeforeBody x k s)) (λ w is. adds-atom x k s t w is))
 
 pub adds-literal : (x : Within) (k : List Frame) (v : Level) (t : Placed) → Adds (step_in MAX_OPEN (BeforeLiteral x k v) t) (so_far (BeforeLiteral x k v)) t
 adds-literal x k v t =
-    adds-fixed_word (codes "not") t _ _ (so_far (BeforeLiteral x k v)) (λ is. (fixed_word (codes "not"), is, simp append_assoc))
+    adds-fixed_word (codes "not") t _ _ (so_far (BeforeLiteral x k v)) (λ is. (fixed_word (codes "not"), tt, is, simp append_assoc))
     (subst (λ l. Adds (step_body MAX_OPEN x k (site v false) t) (spell_within x ++ (spell_frames k ++ l)) t) (append-nil (spell_level v)) (adds-body x k (site v false) t))
 
 pub adds-before_operand : (x : Within) (k : List Frame) (s : Site) (lead : Lead) (t : Placed) → Adds (step_in MAX_OPEN (BeforeOperand x k s lead) t) (so_far (BeforeOperand x k s lead)) t
-adds-before_operand x k s lead t = adds-punct Open t _ (refuse t.token) (so_far (BeforeOperand x k s lead)) (λ is. adds-open k (BeforeExpr x (Operand s lead ∷ k)) (so_far (BeforeOperand x k s lead)) t (opening, is, simp append_assoc)) tt
+adds-before_operand x k s lead t = adds-punct Open t _ (refuse t.token) (so_far (BeforeOperand x k s lead)) (λ is. adds-open k (BeforeExpr x (Operand s lead ∷ k)) (so_far (BeforeOperand x k s lead)) t (opening, tt, is, simp append_assoc)) tt
 
 pub adds-operand : (x : Within) (k : List Frame) (s : Site) (lead : Lead) (e : Tree) (t : Placed) → Adds (step_operand x k s lead e t.token) (spell_within x ++ (spell_frames (Operand s lead ∷ k) ++ spell e)) t
-adds-operand x k s (OfMeasure side m) e t = adds-punct Close t _ (refuse t.token) _ (λ is. (closing, is, so_far-with_amount x k s side (Measured m e) ∙ simp append_assoc)) tt
-adds-operand x k s (OfRelation r) e t = adds-punct Comma t _ (refuse t.token) _ (λ is. (comma, is, simp append_assoc)) tt
-adds-operand x k s (OfProperty p) e t = adds-punct Comma t _ (refuse t.token) _ (λ is. (comma, is, simp append_assoc)) tt
+adds-operand x k s (OfMeasure side m) e t = adds-punct Close t _ (refuse t.token) _ (λ is. (closing, tt, is, so_far-with_amount x k s side (Measured m e) ∙ simp append_assoc)) tt
+adds-operand x k s (OfRelation r) e t = adds-punct Comma t _ (refuse t.token) _ (λ is. (comma, tt, is, simp append_assoc)) tt
+adds-operand x k s (OfProperty p) e t = adds-punct Comma t _ (refuse t.token) _ (λ is. (comma, tt, is, simp append_assoc)) tt
 
 pub adds-second : (x : Within) (k : List Frame) (s : Site) (r : Relation) (d e : Tree) (t : Placed) → Adds (on_punct Close t.token (Go (with_atom x k s (Relate r d e)))) (spell_within x ++ (spell_frames (Second s r d ∷ k) ++ spell e)) t
-adds-second x k s r d e t = adds-punct Close t _ (refuse t.token) _ (λ is. (closing, is, so_far-with_atom x k s (Relate r d e) ∙ simp append_assoc)) tt
+adds-second x k s r d e t = adds-punct Close t _ (refuse t.token) _ (λ is. (closing, tt, is, so_far-with_atom x k s (Relate r d e) ∙ simp append_assoc)) tt
 
 pub adds-name : (x : Within) (k : List Frame) (s : Site) (p : Property) (e : Tree) (t : Placed) → Adds (step_in MAX_OPEN (BeforeName x k s p e) t) (so_far (BeforeName x k s p e)) t
-adds-name x k s p e t = adds-word (λ w. Go (BehindName x k s p e w)) t (so_far (BeforeName x k s p e)) (λ w is. (spelled_word (spot w t.place), is, simp append_assoc))
+adds-name x k s p e t = adds-word (λ w. Go (BehindName x k s p e w)) t (so_far (BeforeName x k s p e)) (λ w is. (spelled_word (spot w t.place), tt, is, simp append_assoc))
 
 pub adds-behind_name : (x : Within) (k : List Frame) (s : Site) (p : Property) (e : Tree) (w : Spot) (t : Placed) → Adds (step_in MAX_OPEN (BehindName x k s p e w) t) (so_far (BehindName x k s p e w)) t
-adds-behind_name x k s p e w t = adds-punct Close t _ (refuse t.token) (so_far (BehindName x k s p e w)) (λ is. (closing, is, so_far-with_atom x k s (Test p e w) ∙ simp append_assoc)) tt
+adds-behind_name x k s p e w t = adds-punct Close t _ (refuse t.token) (so_far (BehindName x k s p e w)) (λ is. (closing, tt, is, so_far-with_atom x k s (Test p e w) ∙ simp append_assoc)) tt
 
 pub adds-amount_behind : (x : Within) (k : List Frame) (s : Site) (a : Amount) (t : Placed) → Adds (step_in MAX_OPEN (AfterAmount x k s a) t) (so_far (AfterAmount x k s a)) t
 adds-amount_behind x k s a t =
     adds-any_sign (λ sign. on_found (λ sense. Go (AfterSense x k s a sense)) (Refuse Syntax) (sense_of sign.text)) t (so_far (AfterAmount x k s a))
-    (λ w is. adds-found _ (Refuse Syntax) (sense_of w) (so_far (AfterAmount x k s a)) t (λ c e. (Said (Sign (sense_sign c)), is.0 ∙ ap Sign (sense_of-is w c e), simp append_assoc)) tt)
+    (λ w is. adds-found _ (Refuse Syntax) (sense_of w) (so_far (AfterAmount x k s a)) t (λ c e. (Said (Sign (sense_sign c)), tt, is.0 ∙ ap Sign (sense_of-is w c e), simp append_assoc)) tt)
 
 pub adds-second_amount : (x : Within) (k : List Frame) (s : Site) (a : Amount) (sense : Sense) (t : Placed) → Adds (step_in MAX_OPEN (AfterSense x k s a sense) t) (so_far (AfterSense x k s a sense)) t
 adds-second_amount x k s a sense t = adds-word (λ w. step_amount x k s (OnRight a sense) w) t (so_far (AfterSense x k s a sense)) (λ w is. adds-amount x k s (OnRight a sense) t w is)
@@ -165,7 +165,7 @@ adds-last : (x : Within) (v : Level) (l : Literal) (t : Placed) → Adds (step_l
 adds-last (InStatement h) v l t = tt
 adds-last Alone v l t = tt
 adds-last (InCondition name pattern) v l t =
-    adds-punct Semicolon t _ (refuse t.token) (so_far (AfterLiteral (InCondition name pattern) [] v l)) (λ is. (semicolon, is, whole)) tt
+    adds-punct Semicolon t _ (refuse t.token) (so_far (AfterLiteral (InCondition name pattern) [] v l)) (λ is. (semicolon, tt, is, whole)) tt
   where
     whole : spell_statement (RuleOf name pattern (Some (condition (all_alternatives v l)))) ≡ so_far (AfterLiteral (InCondition name pattern) [] v l) ++ semicolon ∷ []
     whole =
@@ -186,9 +186,9 @@ adds-whole x (Default w ∷ k) v l t = tt
 adds-whole x (Operand s lead ∷ k) v l t = tt
 adds-whole x (Second s r e ∷ k) v l t = tt
 adds-whole x (Square s ∷ k) v l t =
-    adds-punct CloseSquare t _ (refuse t.token) (so_far (AfterLiteral x (Square s ∷ k) v l)) (λ is. (Said (Punctuation CloseSquare), is, rw (spell_condition-all v l) (simp append_assoc))) tt
+    adds-punct CloseSquare t _ (refuse t.token) (so_far (AfterLiteral x (Square s ∷ k) v l)) (λ is. (Said (Punctuation CloseSquare), tt, is, rw (spell_condition-all v l) (simp append_assoc))) tt
 
 pub adds-literal_behind : (x : Within) (k : List Frame) (v : Level) (l : Literal) (t : Placed) → Adds (step_in MAX_OPEN (AfterLiteral x k v l) t) (so_far (AfterLiteral x k v l)) t
 adds-literal_behind x k v l t =
-    adds-fixed_word (codes "and") t _ _ (so_far (AfterLiteral x k v l)) (λ is. (fixed_word (codes "and"), is, rw (spell_level-next_literal v l) (simp append_assoc)))
-    (adds-fixed_word (codes "or") t _ _ (so_far (AfterLiteral x k v l)) (λ is. (fixed_word (codes "or"), is, rw (spell_level-next_alternative v l) (simp append_assoc))) (adds-whole x k v l t))
+    adds-fixed_word (codes "and") t _ _ (so_far (AfterLiteral x k v l)) (λ is. (fixed_word (codes "and"), tt, is, rw (spell_level-next_literal v l) (simp append_assoc)))
+    (adds-fixed_word (codes "or") t _ _ (so_far (AfterLiteral x k v l)) (λ is. (fixed_word (codes "or"), tt, is, rw (spell_level-next_alternative v l) (simp append_assoc))) (adds-whole x k v l t))

@@ -9,16 +9,12 @@ use Rattle.mp_syntax.specs.Syntax.{Spot, Wildcard, Tree, Symbol, Apply, InfixOf,
 use Rattle.mp_syntax.specs.Lexing.{kind_at}
 use Rattle.mp_syntax.proofs.Trees.{fits-optional}
 use Rattle.mp_syntax.proofs.Longest.{IsToken}
+use Rattle.mp_syntax.proofs.Adds.{expected_token}
 use Rattle.mp_syntax.proofs.Spelling.{kind_at-spells}
 
 -- a text is this token
 abbrev pub HasText : Token → Type 0
 HasText t = (text : List ℕ) × Spells text t
-
--- the token that is expected
-abbrev pub expected_token : Expected → Token
-expected_token (Said t) = t
-expected_token (Stands t place) = t
 
 -- each token has a text
 abbrev pub HaveTexts : List Placed → Type 0

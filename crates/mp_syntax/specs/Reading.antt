@@ -25,35 +25,38 @@ parsed_expr bytes = run [] (BeforeExpr Alone []) (lexemes bytes first_place)
 abbrev pub parsed_condition : List ℕ → Result Parsed Fault
 parsed_condition bytes = run [] (BeforeLiteral ConditionAlone [] no_level) (lexemes bytes first_place)
 
+-- what is asked of the statements that are read and of what is read alone: a value, where they are one
+abbrev pub Pick : Type 0 → Type 0
+Pick A = List Statement → Option Single → Option A
+
 -- statements without an expression or a condition
-abbrev pub statements_alone : List Statement → Option Single → Result (List Statement) Fault
-statements_alone ss None = Ok ss
-statements_alone ss (Some s) = Err no_fault
+abbrev pub statements_alone : Pick (List Statement)
+statements_alone ss None = Some ss
+statements_alone ss (Some s) = None
 
 -- an expression without statements
-abbrev pub expr_alone : List Statement → Option Single → Result Tree Fault
-expr_alone [] (Some (SingleExpr t)) = Ok t
-expr_alone ss o = Err no_fault
+abbrev pub expr_alone : Pick Tree
+expr_alone [] (Some (SingleExpr t)) = Some t
+expr_alone ss o = None
 
 -- a condition without statements
-abbrev pub condition_alone : List Statement → Option Single → Result Condition Fault
-condition_alone [] (Some (SingleCondition c)) = Ok c
-condition_alone ss o = Err no_fault
+abbrev pub condition_alone : Pick Condition
+condition_alone [] (Some (SingleCondition c)) = Some c
+condition_alone ss o = None
+
+-- the value, where there is one
+abbrev pub or_no_fault : {A : Type 0} → Option A → Result A Fault
+or_no_fault (Some v) = Ok v
+or_no_fault None = Err no_fault
+
+-- the value that is picked of what is read, or the fault
+abbrev pub read_by : {A : Type 0} → Pick A → Result Parsed Fault → Result A Fault
+read_by pick (Ok p) = or_no_fault (pick p.statements p.single)
+read_by pick (Err f) = Err f
 
 -- the statements that are read, or the fault
 abbrev pub statements_read : Result Parsed Fault → Result (List Statement) Fault
-statements_read (Ok p) = statements_alone p.statements p.single
-statements_read (Err f) = Err f
-
--- the expression that is read, or the fault
-abbrev pub expr_read : Result Parsed Fault → Result Tree Fault
-expr_read (Ok p) = expr_alone p.statements p.single
-expr_read (Err f) = Err f
-
--- the condition that is read, or the fault
-abbrev pub condition_read : Result Parsed Fault → Result Condition Fault
-condition_read (Ok p) = condition_alone p.statements p.single
-condition_read (Err f) = Err f
+statements_read = read_by statements_alone
 
 -- the statements of a file, or its first fault
 abbrev pub reading : List ℕ → Result (List Statement) Fault
@@ -61,11 +64,11 @@ reading bytes = statements_read (parsed_file bytes)
 
 -- the expression of a text, or its first fault
 abbrev pub expr_reading : List ℕ → Result Tree Fault
-expr_reading bytes = expr_read (parsed_expr bytes)
+expr_reading bytes = read_by expr_alone (parsed_expr bytes)
 
 -- the condition of a text, or its first fault
 abbrev pub condition_reading : List ℕ → Result Condition Fault
-condition_reading bytes = condition_read (parsed_condition bytes)
+condition_reading bytes = read_by condition_alone (parsed_condition bytes)
 
 -- the value of an Ok
 abbrev pub read_value : {A : Type 0} → Result A Fault → Option A
@@ -89,20 +92,20 @@ abbrev pub IfFault : SyntaxError → (Fault → Type 0) → Type 0
 IfFault errors.Memory P = Unit {0}
 IfFault (errors.Fault f) P = P f
 
--- the fact of the statements, where they are answered, and else memory ran out
+-- the fact of the value, where it is answered, and else memory ran out
+abbrev pub IsAnswerOrMemory : {A B : Type 0} → (A → B) → Result A SyntaxError → (B → Type 0) → Type 0
+IsAnswerOrMemory view (Ok a) P = P (view a)
+IsAnswerOrMemory view (Err errors.Memory) P = Unit {0}
+IsAnswerOrMemory view (Err (errors.Fault f)) P = ⊥
+
+-- the same of statements
 abbrev pub IsOkOrMemory : Result (Vec code.Statement) SyntaxError → (List Statement → Type 0) → Type 0
-IsOkOrMemory (Ok v) P = P (map statement_tree v.items)
-IsOkOrMemory (Err errors.Memory) P = Unit {0}
-IsOkOrMemory (Err (errors.Fault f)) P = ⊥
+IsOkOrMemory = IsAnswerOrMemory (λ v. map statement_tree v.items)
 
--- the fact of the expression, where it is answered, and else memory ran out
+-- the same of an expression
 abbrev pub IsExprOrMemory : Result Expr SyntaxError → (Tree → Type 0) → Type 0
-IsExprOrMemory (Ok e) P = P (expr_tree e)
-IsExprOrMemory (Err errors.Memory) P = Unit {0}
-IsExprOrMemory (Err (errors.Fault f)) P = ⊥
+IsExprOrMemory = IsAnswerOrMemory expr_tree
 
--- the fact of the condition, where it is answered, and else memory ran out
+-- the same of a condition
 abbrev pub IsConditionOrMemory : Result code_condition.Condition SyntaxError → (Condition → Type 0) → Type 0
-IsConditionOrMemory (Ok c) P = P (condition_tree c)
-IsConditionOrMemory (Err errors.Memory) P = Unit {0}
-IsConditionOrMemory (Err (errors.Fault f)) P = ⊥
+IsConditionOrMemory = IsAnswerOrMemory condition_tree
