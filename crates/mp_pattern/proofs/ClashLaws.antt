@@ -8,7 +8,7 @@ use Rattle.std.proofs.lemmas.Cmp.{tied_itself, nat_cmp_total}
 use Rattle.std.proofs.lemmas.Bool.{not-false}
 use Rattle.mp_term.specs.Signature.{Sig}
 use Rattle.mp_term.specs.OrderLaws.{nat_same, tree_same, tree_cmp_total}
-use Rattle.mp_term.proofs.ListLaws.{all-append, all-split}
+use Rattle.mp_term.proofs.ListLaws.{all-append, all-split, all-also}
 use Rattle.mp_pattern.specs.PatternTree.{Wildcard, dot, kind, plus, star, optional, Pattern, symbol_pattern, app_pattern, wild_pattern, Patterns, no_patterns, more_patterns, pattern_list, patterns}
 use Rattle.mp_pattern.specs.Normal.{normal_pattern}
 use Rattle.mp_pattern.specs.Subpatterns.{subpatterns, all_subpatterns}
@@ -42,53 +42,28 @@ Agree (wild_pattern v (Some x)) (wild_pattern w (Some y)) = x ≡ y → v ≡ w
 Agree _ _ = Unit {0}
 
 agree-itself : (p : Pattern) → Agree p p
-agree-itself (symbol_pattern n) = tt
-agree-itself (app_pattern f ps) = tt
-agree-itself (wild_pattern w None) = tt
 agree-itself (wild_pattern w (Some x)) = λ e. refl
+agree-itself p = tt
 
 agree-swap : (p q : Pattern) → Agree p q → Agree q p
 agree-swap (wild_pattern v (Some x)) (wild_pattern w (Some y)) h = λ e. sym (h (sym e))
-agree-swap (wild_pattern v (Some x)) (wild_pattern w None) h = tt
-agree-swap (wild_pattern v (Some x)) (symbol_pattern n) h = tt
-agree-swap (wild_pattern v (Some x)) (app_pattern f ps) h = tt
 agree-swap (wild_pattern v None) (wild_pattern w (Some y)) h = tt
-agree-swap (wild_pattern v None) (wild_pattern w None) h = tt
-agree-swap (wild_pattern v None) (symbol_pattern n) h = tt
-agree-swap (wild_pattern v None) (app_pattern f ps) h = tt
 agree-swap (symbol_pattern n) (wild_pattern w (Some y)) h = tt
-agree-swap (symbol_pattern n) (wild_pattern w None) h = tt
-agree-swap (symbol_pattern n) (symbol_pattern m) h = tt
-agree-swap (symbol_pattern n) (app_pattern f ps) h = tt
-agree-swap (app_pattern g qs) (wild_pattern w (Some y)) h = tt
-agree-swap (app_pattern g qs) (wild_pattern w None) h = tt
-agree-swap (app_pattern g qs) (symbol_pattern n) h = tt
-agree-swap (app_pattern g qs) (app_pattern f ps) h = tt
+agree-swap (app_pattern f ps) (wild_pattern w (Some y)) h = tt
+agree-swap p q h = tt
 
 -- every pattern agrees with an application
 pub agree-app : (p : Pattern) (f : ℕ) (ps : Patterns) → Agree p (app_pattern f ps)
-agree-app (symbol_pattern n) f ps = tt
-agree-app (app_pattern g qs) f ps = tt
-agree-app (wild_pattern v None) f ps = tt
 agree-app (wild_pattern v (Some x)) f ps = tt
+agree-app p f ps = tt
 
 -- patterns that don't clash agree
 pub agree-clashes : (p q : Pattern) → clashes p q ≡ false → Agree p q
 agree-clashes (wild_pattern v (Some x)) (wild_pattern w (Some y)) h = λ e.
     let same : same_name x y ≡ true = ap (same_name x) (sym e) ∙ same_name-itself x in
     same_shape-same v w (not-false (same_shape v w) (sym (ap (λ b. b && not (same_shape v w)) same) ∙ h))
-agree-clashes (wild_pattern v (Some x)) (wild_pattern w None) h = tt
-agree-clashes (wild_pattern v (Some x)) (symbol_pattern n) h = tt
-agree-clashes (wild_pattern v (Some x)) (app_pattern f ps) h = tt
-agree-clashes (wild_pattern v None) q h = agree-unnamed v q
-  where
-    agree-unnamed : (v : Wildcard) (q : Pattern) → Agree (wild_pattern v None) q
-    agree-unnamed v (symbol_pattern n) = tt
-    agree-unnamed v (app_pattern f ps) = tt
-    agree-unnamed v (wild_pattern w None) = tt
-    agree-unnamed v (wild_pattern w (Some y)) = tt
-agree-clashes (symbol_pattern n) q h = tt
-agree-clashes (app_pattern f ps) q h = tt
+agree-clashes (wild_pattern v None) (wild_pattern w (Some y)) h = tt
+agree-clashes p q h = tt
 
 -- and those that agree don't clash
 pub clashes-agree : (p q : Pattern) → Agree p q → clashes p q ≡ false
@@ -97,12 +72,8 @@ clashes-agree (wild_pattern v (Some x)) (wild_pattern w (Some y)) h = go (same_n
     go : (b : Bool) → same_name x y ≡ b → (b && not (same_shape v w)) ≡ false
     go false e = refl
     go true e = ap not (ap (same_shape v) (sym (h (same_name-is x y e))) ∙ same_shape-itself v)
-clashes-agree (wild_pattern v (Some x)) (wild_pattern w None) h = refl
-clashes-agree (wild_pattern v (Some x)) (symbol_pattern n) h = refl
-clashes-agree (wild_pattern v (Some x)) (app_pattern f ps) h = refl
-clashes-agree (wild_pattern v None) q h = refl
-clashes-agree (symbol_pattern n) q h = refl
-clashes-agree (app_pattern f ps) q h = refl
+clashes-agree (wild_pattern v None) (wild_pattern w (Some y)) h = refl
+clashes-agree p q h = refl
 
 -- ---- lists of patterns
 
@@ -149,22 +120,16 @@ AllAgree ps qs = AllByRecursion (λ p. AgreesWith p qs) ps
 -- patterns in order agree with those before them
 agree-before : (before ps : List Pattern) → InOrder before ps → AllAgree ps before
 agree-before before [] h = tt
-agree-before before (p ∷ ps) h = (h.0, fewer ps (agree-before (before ++ p ∷ []) ps h.1))
-  where
-    fewer : (qs : List Pattern) → AllAgree qs (before ++ p ∷ []) → AllAgree qs before
-    fewer [] k = tt
-    fewer (q ∷ qs) k = ((all-split (λ r. Agree r q) before (p ∷ []) k.0).0, fewer qs k.1)
+agree-before before (p ∷ ps) h =
+    (h.0, all-also (λ q. AgreesWith q (before ++ p ∷ [])) (λ q. AgreesWith q before)
+      (λ q k. (all-split (λ r. Agree r q) before (p ∷ []) k).0) ps (agree-before (before ++ p ∷ []) ps h.1))
 
 -- the first pattern agrees with all behind it, and they with it
 agree-behind : (p : Pattern) (before ps : List Pattern) → InOrder (before ++ p ∷ []) ps → AgreesWith p ps × AllAgree ps (p ∷ [])
-agree-behind p before ps h = go ps (agree-before (before ++ p ∷ []) ps h)
-  where
-    go : (qs : List Pattern) → AllAgree qs (before ++ p ∷ []) → AgreesWith p qs × AllAgree qs (p ∷ [])
-    go [] k = (tt, tt)
-    go (q ∷ qs) k =
-        let here = (all-split (λ r. Agree r q) before (p ∷ []) k.0).1 in
-        let rest = go qs k.1 in
-        ((agree-swap p q here.0, rest.0), (here, rest.1))
+agree-behind p before ps h =
+    let here : AllAgree ps (p ∷ []) = all-also (λ q. AgreesWith q (before ++ p ∷ [])) (λ q. AgreesWith q (p ∷ []))
+      (λ q k. (all-split (λ r. Agree r q) before (p ∷ []) k).1) ps (agree-before (before ++ p ∷ []) ps h) in
+    (all-also (λ q. AgreesWith q (p ∷ [])) (λ q. Agree q p) (λ q k. agree-swap p q k.0) ps here, here)
 
 all-cons : (p : Pattern) (ps qs : List Pattern) → AllAgree ps (p ∷ []) → AllAgree ps qs → AllAgree ps (p ∷ qs)
 all-cons p [] qs h k = tt
@@ -180,15 +145,12 @@ agree-InOrder before (p ∷ ps) h =
 -- patterns of which any two agree are in order
 InOrder-agree : (before ps : List Pattern) → AllAgree ps before → AllAgree ps ps → InOrder before ps
 InOrder-agree before [] h k = tt
-InOrder-agree before (p ∷ ps) h k = (h.0, InOrder-agree (before ++ p ∷ []) ps (both ps h.1 k.1) (rest ps k.1))
+InOrder-agree before (p ∷ ps) h k =
+    (h.0, InOrder-agree (before ++ p ∷ []) ps (both ps h.1 k.1) (all-also (λ q. AgreesWith q (p ∷ ps)) (λ q. AgreesWith q ps) (λ q a. a.1) ps k.1))
   where
     both : (qs : List Pattern) → AllAgree qs before → AllAgree qs (p ∷ ps) → AllAgree qs (before ++ p ∷ [])
     both [] h k = tt
     both (q ∷ qs) h k = (all-append (λ r. Agree r q) before (p ∷ []) h.0 (k.0.0, tt), both qs h.1 k.1)
-
-    rest : (qs : List Pattern) → AllAgree qs (p ∷ ps) → AllAgree qs ps
-    rest [] k = tt
-    rest (q ∷ qs) k = (k.0.1, rest qs k.1)
 
 -- ---- patterns
 
@@ -208,32 +170,21 @@ module _ (sig : Sig) (P : Pattern → Type 0) (of_app : (f : ℕ) (ps : Patterns
   each-normal_pattern : (p : Pattern) → Each p → Each (normal_pattern sig p)
   each-normal_pattern = of_normal_pattern sig Each (λ f ps h. each-argument ps h.1) (λ f ps qs h k. (of_app f (patterns qs), each-subpattern qs k))
 
+-- what each item has, each item of a list has
+all-always : {X : Type 0} (P : X → Type 0) → ((x : X) → P x) → (xs : List X) → AllByRecursion P xs
+all-always P each [] = tt
+all-always P each (x ∷ xs) = (each x, all-always P each xs)
+
 -- the normal form of a pattern without clashes has none
 pub first_clash-normal_pattern : (sig : Sig) (p : Pattern) → first_clash p ≡ None → first_clash (normal_pattern sig p) ≡ None
 first_clash-normal_pattern sig p h =
-    let n = normal_pattern sig p in
-    let all : AllAgree (subpatterns p) (subpatterns p) = agree-InOrder [] (subpatterns p) (InOrder-first_clash_after [] (subpatterns p) h) in
-    let right : AllAgree (subpatterns p) (subpatterns n) = onto (subpatterns p) all in
-    let both : AllAgree (subpatterns n) (subpatterns n) =
-    each-normal_pattern sig (λ q. AgreesWith q (subpatterns n)) (λ f ps. with_app f ps (subpatterns n)) p right in
-    first_clash_after-InOrder [] (subpatterns n) (InOrder-agree [] (subpatterns n) (nothing (subpatterns n)) both)
+    let own = subpatterns p in
+    let new = subpatterns (normal_pattern sig p) in
+    let right : AllAgree own new = all-also (λ q. AgreesWith q own) (λ q. AgreesWith q new) onto own (agree-InOrder [] own (InOrder-first_clash_after [] own h)) in
+    let both : AllAgree new new = each-normal_pattern sig (λ q. AgreesWith q new) (λ f ps. all-always (λ r. Agree r (app_pattern f ps)) (λ r. agree-app r f ps) new) p right in
+    first_clash_after-InOrder [] new (InOrder-agree [] new (all-always (λ q. AgreesWith q []) (λ q. tt) new) both)
   where
-    swapped : (q : Pattern) (rs : List Pattern) → AllByRecursion (λ r. Agree r q) rs → AllByRecursion (Agree q) rs
-    swapped q [] h = tt
-    swapped q (r ∷ rs) h = (agree-swap r q h.0, swapped q rs h.1)
-
-    back : (q : Pattern) (rs : List Pattern) → AllByRecursion (Agree q) rs → AllByRecursion (λ r. Agree r q) rs
-    back q [] h = tt
-    back q (r ∷ rs) h = (agree-swap q r h.0, back q rs h.1)
-
-    onto : (qs : List Pattern) → AllAgree qs (subpatterns p) → AllAgree qs (subpatterns (normal_pattern sig p))
-    onto [] h = tt
-    onto (q ∷ qs) h = (back q _ (each-normal_pattern sig (Agree q) (agree-app q) p (swapped q (subpatterns p) h.0)), onto qs h.1)
-
-    with_app : (f : ℕ) (ps : Patterns) (rs : List Pattern) → AgreesWith (app_pattern f ps) rs
-    with_app f ps [] = tt
-    with_app f ps (r ∷ rs) = (agree-app r f ps, with_app f ps rs)
-
-    nothing : (qs : List Pattern) → AllAgree qs []
-    nothing [] = tt
-    nothing (q ∷ qs) = (tt, nothing qs)
+    onto : (q : Pattern) → AgreesWith q (subpatterns p) → AgreesWith q (subpatterns (normal_pattern sig p))
+    onto q k =
+        let turned = all-also (λ r. Agree r q) (Agree q) (λ r. agree-swap r q) (subpatterns p) k in
+        all-also (Agree q) (λ r. Agree r q) (agree-swap q) (subpatterns (normal_pattern sig p)) (each-normal_pattern sig (Agree q) (agree-app q) p turned)
