@@ -7,75 +7,86 @@ use Rattle.std.proofs.lemmas.List.{map-append}
 use Rattle.mp_term.specs.Sorting.{sorted}
 use Rattle.mp_term.specs.Signature.{Sig, is_assoc, is_comm, is_one}
 use Rattle.mp_term.proofs.Sorting.{tally}
+use Rattle.mp_term.proofs.SortedMeasures.{IsJoin, sums, joined_all, joined-append, joined-sorted}
 use Rattle.mp_pattern.specs.PatternTree.{Pattern, symbol_pattern, app_pattern, wild_pattern, Patterns, no_patterns, more_patterns, pattern_list, patterns}
 use Rattle.mp_pattern.specs.PatternLists.{patterns-pattern_list}
 use Rattle.mp_pattern.specs.Size.{pattern_nodes, all_pattern_nodes}
 use Rattle.mp_pattern.specs.Order.{pattern_cmp}
 use Rattle.mp_pattern.specs.Normal.{is_loose, unwrapped, parts, flattened, in_order, collapsed, normal_pattern, normal_patterns}
 use Rattle.mp_pattern.specs.Variables.{Use, uses, all_uses}
-use Rattle.mp_pattern.proofs.SortedLaws.{total, total-append, total-sorted}
+use Rattle.mp_pattern.proofs.SortedLaws.{total}
 
 -- x is at most y, and y itself where a is 0
 abbrev pub IsWithin : ℕ → ℕ → ℕ → Type 0
 IsWithin a x y = (x ≤ y) × (a ≡ 0 → x ≡ y)
 
--- m of an application is the sum of m over its arguments, and a for its own node
+-- m of an application is what its arguments give together, and a for its own node
+abbrev pub IsMeasure : (ℕ → ℕ → ℕ) → (Pattern → ℕ) → ℕ → Type 0
+IsMeasure join m a = (f : ℕ) (ps : List Pattern) → m (app_pattern f (patterns ps)) ≡ joined_all join m ps + a
+
+-- it is the sum of m over its arguments
 abbrev pub IsSum : (Pattern → ℕ) → ℕ → Type 0
-IsSum m a = (f : ℕ) (ps : List Pattern) → m (app_pattern f (patterns ps)) ≡ total m ps + a
+IsSum = IsMeasure ◌+◌
 
-module _ (sig : Sig) (m : Pattern → ℕ) (a : ℕ) (sum : IsSum m a) where
-  within-unwrapped : (f : ℕ) (p : Pattern) → IsWithin a (total m (unwrapped f p)) (m p)
-  within-unwrapped f (symbol_pattern n) = (omega arith, λ z. omega arith)
+module _ (sig : Sig) (join : ℕ → ℕ → ℕ) (j : IsJoin join) (m : Pattern → ℕ) (a : ℕ) (measure : IsMeasure join m a) where
+  abbrev all : List Pattern → ℕ
+  all = joined_all join m
+
+  within-single : (p : Pattern) → IsWithin a (all (p ∷ [])) (m p)
+  within-single p = (omega (arith, j.alone (m p)), λ z. j.alone (m p))
+
+  within-unwrapped : (f : ℕ) (p : Pattern) → IsWithin a (all (unwrapped f p)) (m p)
+  within-unwrapped f (symbol_pattern n) = within-single (symbol_pattern n)
   within-unwrapped f (app_pattern g ps) =
-      let own : m (app_pattern g ps) ≡ total m (pattern_list ps) + a = rw patterns-pattern_list at (sum g (pattern_list ps)) in
-      elim (nat_eq f g) as (λ b. IsWithin a (total m (if b then pattern_list ps else (app_pattern g ps ∷ []))) (m (app_pattern g ps))) [
-        | true ↦ (omega arith, λ z. omega arith)
-        | false ↦ (omega arith, λ z. omega arith)
+      let own : m (app_pattern g ps) ≡ all (pattern_list ps) + a = rw patterns-pattern_list at (measure g (pattern_list ps)) in
+      elim (nat_eq f g) as (λ b. IsWithin a (all (if b then pattern_list ps else (app_pattern g ps ∷ []))) (m (app_pattern g ps))) [
+        | true ↦ (omega (arith, own), λ z. omega (arith, own, z))
+        | false ↦ within-single (app_pattern g ps)
       ]
-  within-unwrapped f (wild_pattern w x) = (omega arith, λ z. omega arith)
+  within-unwrapped f (wild_pattern w x) = within-single (wild_pattern w x)
 
-  within-parts : (f : ℕ) (p : Pattern) → IsWithin a (total m (parts sig f p)) (m p)
-  within-parts f p = elim (is_assoc sig f) as (λ b. IsWithin a (total m (if b then unwrapped f p else (p ∷ []))) (m p)) [ true ↦ within-unwrapped f p | false ↦ (omega arith, λ z. omega arith) ]
+  within-parts : (f : ℕ) (p : Pattern) → IsWithin a (all (parts sig f p)) (m p)
+  within-parts f p = elim (is_assoc sig f) as (λ b. IsWithin a (all (if b then unwrapped f p else (p ∷ []))) (m p)) [ true ↦ within-unwrapped f p | false ↦ within-single p ]
 
-  within-flattened : (f : ℕ) (ps : List Pattern) → IsWithin a (total m (flattened sig f ps)) (total m ps)
+  within-joined : (k l n o : ℕ) → IsWithin a k l → IsWithin a n o → IsWithin a (join k n) (join l o)
+  within-joined k l n o g h = (j.rises k l n o g.0 h.0, λ z i. join (g.1 z i) (h.1 z i))
+
+  within-flattened : (f : ℕ) (ps : List Pattern) → IsWithin a (all (flattened sig f ps)) (all ps)
   within-flattened f [] = (omega arith, λ z. refl)
   within-flattened f (p ∷ ps) =
-      let one = within-parts f p in
-      let rest = within-flattened f ps in
-      let all = total-append m (parts sig f p) (flattened sig f ps) in
-      (omega (arith, one.0, rest.0, all), λ z. omega (arith, one.1 z, rest.1 z, all))
+      rw (joined-append join m j (parts sig f p) (flattened sig f ps)) (within-joined _ _ _ _ (within-parts f p) (within-flattened f ps))
 
-  total-in_order : (f : ℕ) (ps : List Pattern) → total m (in_order sig f ps) ≡ total m ps
-  total-in_order f ps = elim (is_comm sig f) as (λ b. total m (if b then sorted pattern_cmp ps else ps) ≡ total m ps) [ true ↦ total-sorted m pattern_cmp ps | false ↦ refl ]
+  all-in_order : (f : ℕ) (ps : List Pattern) → all (in_order sig f ps) ≡ all ps
+  all-in_order f ps = elim (is_comm sig f) as (λ b. all (if b then sorted pattern_cmp ps else ps) ≡ all ps) [ true ↦ joined-sorted join m j pattern_cmp ps | false ↦ refl ]
 
-  within-collapsed : (f : ℕ) (ps : List Pattern) → IsWithin a (m (collapsed sig f ps)) (total m ps + a)
-  within-collapsed f [] = (omega (arith, sum f []), λ z. sum f [])
+  within-collapsed : (f : ℕ) (ps : List Pattern) → IsWithin a (m (collapsed sig f ps)) (all ps + a)
+  within-collapsed f [] = (omega (arith, measure f []), λ z. measure f [])
   within-collapsed f (p ∷ []) =
-      elim (is_one sig f && not (is_loose p)) as (λ b. IsWithin a (m (if b then p else app_pattern f (more_patterns p no_patterns))) (total m (p ∷ []) + a)) [
-        | true ↦ (omega arith, λ z. omega arith)
-        | false ↦ (omega (arith, sum f (p ∷ [])), λ z. sum f (p ∷ []))
+      elim (is_one sig f && not (is_loose p)) as (λ b. IsWithin a (m (if b then p else app_pattern f (more_patterns p no_patterns))) (all (p ∷ []) + a)) [
+        | true ↦ (omega (arith, j.alone (m p)), λ z. omega (arith, j.alone (m p), z))
+        | false ↦ (omega (arith, measure f (p ∷ [])), λ z. measure f (p ∷ []))
       ]
-  within-collapsed f (p ∷ q ∷ ps) = (omega (arith, sum f (p ∷ q ∷ ps)), λ z. sum f (p ∷ q ∷ ps))
+  within-collapsed f (p ∷ q ∷ ps) = (omega (arith, measure f (p ∷ q ∷ ps)), λ z. measure f (p ∷ q ∷ ps))
 
   mutual
-    pub within-normal_pattern : (p : Pattern) → IsWithin a (m (normal_pattern sig p)) (m p)
-    within-normal_pattern (symbol_pattern n) = (omega arith, λ z. refl)
-    within-normal_pattern (app_pattern f ps) =
+    pub within-normal : (p : Pattern) → IsWithin a (m (normal_pattern sig p)) (m p)
+    within-normal (symbol_pattern n) = (omega arith, λ z. refl)
+    within-normal (app_pattern f ps) =
         let l = flattened sig f (normal_patterns sig ps) in
-        let own : m (app_pattern f ps) ≡ total m (pattern_list ps) + a = rw patterns-pattern_list at (sum f (pattern_list ps)) in
+        let own : m (app_pattern f ps) ≡ all (pattern_list ps) + a = rw patterns-pattern_list at (measure f (pattern_list ps)) in
         let made = within-collapsed f (in_order sig f l) in
-        let order = total-in_order f l in
+        let order = all-in_order f l in
         let flat = within-flattened f (normal_patterns sig ps) in
-        let each = within-normal_patterns ps in
+        let each = all-within ps in
         (omega (arith, own, made.0, order, flat.0, each.0), λ z. omega (arith, own, made.1 z, order, flat.1 z, each.1 z))
-    within-normal_pattern (wild_pattern w x) = (omega arith, λ z. refl)
+    within-normal (wild_pattern w x) = (omega arith, λ z. refl)
 
-    within-normal_patterns : (ps : Patterns) → IsWithin a (total m (normal_patterns sig ps)) (total m (pattern_list ps))
-    within-normal_patterns no_patterns = (omega arith, λ z. refl)
-    within-normal_patterns (more_patterns p ps) =
-        let one = within-normal_pattern p in
-        let rest = within-normal_patterns ps in
-        (omega (arith, one.0, rest.0), λ z. omega (arith, one.1 z, rest.1 z))
+    all-within : (ps : Patterns) → IsWithin a (all (normal_patterns sig ps)) (all (pattern_list ps))
+    all-within no_patterns = (omega arith, λ z. refl)
+    all-within (more_patterns p ps) = within-joined _ _ _ _ (within-normal p) (all-within ps)
+
+pub within-normal_pattern : (sig : Sig) (m : Pattern → ℕ) (a : ℕ) → IsSum m a → (p : Pattern) → IsWithin a (m (normal_pattern sig p)) (m p)
+within-normal_pattern sig = within-normal sig ◌+◌ sums
 
 all_pattern_nodes-patterns : (ps : List Pattern) → all_pattern_nodes (patterns ps) ≡ total pattern_nodes ps
 all_pattern_nodes-patterns [] = refl

@@ -5,7 +5,7 @@ use Rattle.std.specs.declared.cmp.Ordering.{Ordering}
 use Rattle.std.specs.Ordering.{is_gt}
 use Rattle.std.specs.List.{AllByRecursion}
 use Rattle.mp_term.specs.Sorting.{insert_sorted, sorted}
-use Rattle.mp_term.proofs.SortedMeasures.{measure-sorted}
+use Rattle.mp_term.proofs.SortedMeasures.{joined_all}
 
 module _ {X : Type 0} (P : X → Type 0) where
   all-insert_sorted : (cmp : X → X → Ordering) (x : X) (ys : List X) → P x → AllByRecursion P ys → AllByRecursion P (insert_sorted cmp x ys)
@@ -20,18 +20,9 @@ module _ {X : Type 0} (P : X → Type 0) where
   all-sorted cmp [] h = tt
   all-sorted cmp (x ∷ xs) h = all-insert_sorted cmp x (sorted cmp xs) h.0 (all-sorted cmp xs h.1)
 
-module _ {X : Type 0} (m : X → ℕ) where
-  -- the sum of m over a list
-  abbrev pub total : List X → ℕ
-  total [] = 0
-  total (x ∷ xs) = m x + total xs
-
-  pub total-append : (xs ys : List X) → total (xs ++ ys) ≡ total xs + total ys
-  total-append [] ys = omega arith
-  total-append (x ∷ xs) ys = omega (arith, total-append xs ys)
-
-  pub total-sorted : (cmp : X → X → Ordering) (xs : List X) → total (sorted cmp xs) ≡ total xs
-  total-sorted = measure-sorted (λ x n. m x + n) (λ x y n. omega arith) total (λ x xs. refl)
+-- the sum of m over a list
+abbrev pub total : {X : Type 0} → (X → ℕ) → List X → ℕ
+total = joined_all ◌+◌
 
 -- where the orders of X and of Y agree on what f gives
 module _ {X Y : Type 0} (f : Y → X) (cmp : X → X → Ordering) (own : Y → Y → Ordering) (same : (y z : Y) → cmp (f y) (f z) ≡ own y z) where
