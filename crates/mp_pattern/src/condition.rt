@@ -29,11 +29,17 @@ pub enum Amount {
 /// How two numbers are compared: `<`, `<=`, `>`, `>=`, `==` or `!=`, in this order.
 #[derive(Debug, Drop, Clone, Copy, PartialEq, Eq)]
 pub enum Sense {
+    /// `<`.
     Lt,
+    /// `<=`.
     Le,
+    /// `>`.
     Gt,
+    /// `>=`.
     Ge,
+    /// `==`.
     Eq,
+    /// `!=`.
     Ne,
 }
 

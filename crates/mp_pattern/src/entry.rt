@@ -10,7 +10,9 @@ use std::marker::Model;
 /// Contracts see it as the record `table_entry` of `specs/EntryView.antt`.
 #[derive(Drop)]
 pub struct Entry {
+    /// The terms that the node takes, in order.
     pub terms: Terms,
+    /// The node is an application that stands for the one term which its arguments take together.
     pub collapsed: bool,
 }
 

@@ -11,9 +11,13 @@ use std::marker::Model;
 /// Contracts see it as the record `rule_tree` of `specs/RuleView.antt`; `specs/Admission.antt` says what it admits on a subject.
 #[derive(Drop)]
 pub struct Rule {
+    /// Its name.
     pub name: Name,
+    /// What it matches.
     pub pattern: Pattern,
+    /// What it makes of a match, where it makes anything.
     pub template: Option<Template>,
+    /// What a match must meet, where it must meet anything.
     pub condition: Option<Cond>,
 }
 

@@ -5,6 +5,8 @@ use crate::subst::Subst;
 /// Contracts see it as the pair `pair_of` of `specs/View.antt`.
 #[derive(Drop)]
 pub struct Pair {
+    /// The rule's index, from 0.
     pub rule: u32,
+    /// What the rule admits.
     pub subst: Subst,
 }

@@ -11,7 +11,9 @@ use std::marker::Model;
 /// A variable and its value. Contracts see it as the record `binding_of` of `specs/View.antt`.
 #[derive(Drop)]
 pub struct Binding {
+    /// The variable's name.
     pub name: Name,
+    /// What it stands for.
     pub value: Value,
 }
 
@@ -82,6 +84,7 @@ impl Bindings {
 /// `subst_of` of `specs/View.antt`.
 #[derive(Drop)]
 pub struct Subst {
+    /// The variables with their values, in order.
     pub bindings: Bindings,
 }
 
