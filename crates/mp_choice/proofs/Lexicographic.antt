@@ -7,7 +7,7 @@ use Rattle.std.specs.Cmp.Lexicographic.{slice_cmp}
 use Rattle.std.specs.List.{AllByRecursion}
 use Rattle.std.proofs.lemmas.Cmp.{ranked, by_ranked, nat_cmp_total, tied_itself}
 use Rattle.std.proofs.lemmas.List.Sums.{sum_by-cons}
-use Rattle.mp_theory.proofs.PiecesLaws.{nat_cmp-less}
+use Rattle.mp_term.proofs.PiecesLaws.{nat_cmp-less}
 
 -- the lexicographic order
 abbrev pub lex : List ℕ → List ℕ → Ordering

@@ -10,10 +10,10 @@ use Rattle.std.specs.List.Sorted.{IsStrictlySortedBy}
 use Rattle.std.proofs.lemmas.Cmp.{tied_itself}
 use Rattle.mp_term.specs.Listing.{IsListing}
 use Rattle.mp_term.proofs.ListingLaws.{less_than_all, all_in, one_way, contains-from_in, in-from_contains}
-use Rattle.mp_theory.specs.Search.{In, Accepts}
-use Rattle.mp_theory.specs.Pieces.{count_to, distinct}
-use Rattle.mp_theory.proofs.SearchLaws.{in-filter, from_in-filter, words-complete}
-use Rattle.mp_theory.proofs.PiecesLaws.{in-count_to, in-distinct, from_in-distinct, ascending-distinct}
+use Rattle.mp_term.specs.Search.{In, Accepts}
+use Rattle.mp_term.specs.Pieces.{count_to, distinct}
+use Rattle.mp_term.proofs.SearchLaws.{in-filter, from_in-filter, words-complete}
+use Rattle.mp_term.proofs.PiecesLaws.{in-count_to, in-distinct, from_in-distinct, ascending-distinct}
 use Rattle.mp_choice.specs.declared.stage.Stage.{Stage}
 use Rattle.mp_choice.specs.declared.stage.Stage.TheVariants.{Before, Standing}
 use Rattle.mp_choice.specs.Listed.{number_lists, above, Reaches, IsExhausted, IsFirst, HasNone, IsNext, IsLast}

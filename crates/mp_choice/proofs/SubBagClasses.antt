@@ -11,10 +11,10 @@ use Rattle.mp_term.specs.Listing.{IsListing}
 use Rattle.mp_term.specs.Order.{shortlex}
 use Rattle.mp_term.specs.OrderLaws.{nat_same, shortlex_total}
 use Rattle.mp_term.proofs.ListingLaws.{unique_listing, contains-from_in, in-from_contains}
-use Rattle.mp_theory.specs.Search.{In}
-use Rattle.mp_theory.specs.Pieces.{same, is_sublist, sub_bags}
-use Rattle.mp_theory.proofs.SearchLaws.{in-map, from_in-map}
-use Rattle.mp_theory.proofs.PiecesLaws.{same-sound, same-itself, pieces-exact, pieces-ascending}
+use Rattle.mp_term.specs.Search.{In}
+use Rattle.mp_term.specs.Pieces.{same, is_sublist, sub_bags}
+use Rattle.mp_term.proofs.SearchLaws.{in-map, from_in-map}
+use Rattle.mp_term.proofs.PiecesLaws.{same-sound, same-itself, pieces-exact, pieces-ascending}
 use Rattle.mp_choice.specs.SubBags.{classes_from, classes, bag_order, IsSubBag, AreSubBags}
 
 pub bag_order_total : IsTotalOrder bag_order

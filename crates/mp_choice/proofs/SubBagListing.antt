@@ -5,7 +5,7 @@ use Rattle.std.specs.declared.cmp.Ordering.TheVariants.{Less}
 use Rattle.std.proofs.lemmas.Bool.{and_parts, and_from}
 use Rattle.mp_term.specs.Listing.{IsListing}
 use Rattle.mp_term.proofs.ListingLaws.{contains-from_in}
-use Rattle.mp_theory.proofs.SearchLaws.{all-from_in}
+use Rattle.mp_term.proofs.SearchLaws.{all-from_in}
 use Rattle.mp_choice.specs.Listed.{number_lists, IsFirst, IsNext, IsLast}
 use Rattle.mp_choice.specs.SubBags.{IsSubBag, AreSubBags}
 use Rattle.mp_choice.specs.SubBagSteps.{IsFilled, IsLastOfSize, IsNextOfSize}

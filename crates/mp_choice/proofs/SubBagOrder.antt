@@ -9,7 +9,7 @@ use Rattle.std.specs.List.Sorted.{IsStrictlySortedBy}
 use Rattle.std.proofs.lemmas.Cmp.{nat_cmp_total, nat_list_cmp_total, tied_itself, then_total, on_total, back_total}
 use Rattle.std.proofs.lemmas.List.{length-replicate}
 use Rattle.mp_term.specs.OrderLaws.{both_equal, nats_same}
-use Rattle.mp_theory.proofs.PiecesLaws.{nat_cmp-less}
+use Rattle.mp_term.proofs.PiecesLaws.{nat_cmp-less}
 use Rattle.mp_choice.specs.SubBags.{classes_from, bag_order}
 use Rattle.mp_choice.specs.SubBagList.{counts_order}
 use Rattle.mp_choice.proofs.Lexicographic.{lex, sum-cons, less_head, less_tail, less_then, less_cases}

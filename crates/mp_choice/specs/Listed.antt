@@ -3,8 +3,8 @@ use Rattle.std.specs.Prelude.{◌≡◌, ℕ, List, ◌∷◌, [], filter, true,
 use Rattle.std.specs.declared.cmp.Ordering.{Ordering}
 use Rattle.std.specs.declared.cmp.Ordering.TheVariants.{Less}
 use Rattle.std.specs.Ordering.{is_lt}
-use Rattle.mp_theory.specs.Search.{words}
-use Rattle.mp_theory.specs.Pieces.{count_to}
+use Rattle.mp_term.specs.Search.{words}
+use Rattle.mp_term.specs.Pieces.{count_to}
 use Rattle.mp_choice.specs.declared.stage.Stage.{Stage}
 use Rattle.mp_choice.specs.declared.stage.Stage.TheVariants.{Before, Standing, Ended}
 

@@ -2,7 +2,7 @@
 use Rattle.std.specs.Prelude.{ℕ, Bool, true, false, ◌&&◌, ◌==◌, nat_le, List, [], ◌∷◌, Option, Some, None, length, sum, filter}
 use Rattle.std.specs.Ordering.{nat_cmp}
 use Rattle.std.specs.Cmp.Lexicographic.{slice_cmp}
-use Rattle.mp_theory.specs.Pieces.{distinct}
+use Rattle.mp_term.specs.Pieces.{distinct}
 use Rattle.mp_choice.specs.declared.splits.Part.{Part}
 use Rattle.mp_choice.specs.Listed.{number_lists}
 

@@ -3,7 +3,7 @@ use Rattle.std.specs.Prelude.{ℕ, Bool, true, false, ◌&&◌, nat_le, List, []
 use Rattle.std.specs.declared.cmp.Ordering.{Ordering}
 use Rattle.std.specs.Ordering.{nat_cmp, ordering_then}
 use Rattle.std.specs.Cmp.Lexicographic.{slice_cmp}
-use Rattle.mp_theory.specs.Pieces.{distinct}
+use Rattle.mp_term.specs.Pieces.{distinct}
 use Rattle.mp_choice.specs.Listed.{number_lists}
 
 -- by size, then the other way round from the lexicographic order: for lists of one length the shortlex order of the class numbers

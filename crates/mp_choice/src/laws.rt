@@ -1,7 +1,7 @@
 // What the lists of the generators are, each fact as the contract of a function that does nothing.
 ghost use Rattle.std.specs.Prelude.{◌≡◌, ℕ, suc, List, map, drop, slice_get};
 ghost use Rattle.std.specs.Ordering.{nat_cmp};
-ghost use Rattle.mp_theory.specs.Pieces.{sub_bags};
+ghost use Rattle.mp_term.specs.Pieces.{sub_bags};
 ghost use Rattle.mp_choice.specs.Choices.{Choices, advanced_by};
 ghost use Rattle.mp_choice.specs.declared.splits.Part.{Part};
 ghost use Rattle.mp_choice.specs.Splits.{AreSplits};
@@ -27,7 +27,7 @@ pub fn list_of_sub_bags_is_unique()
 {}
 
 /// The list of sub-multisets, each as the ascending list of its class numbers, is that of the theory of matching: `sub_bags`
-/// of mp_theory's `specs/Pieces` over the class numbers of the counts.
+/// of mp_term's `specs/Pieces` over the class numbers of the counts.
 pub fn sub_bags_are_those_of_the_theory()
     ensures { (counts : List ℕ) (bags : List (List ℕ)) → AreSubBags counts bags →
         map classes bags ≡ sub_bags nat_cmp (classes counts) }

@@ -5,7 +5,7 @@ use Rattle.mp_term.specs.Tree.{Tree}
 use Rattle.mp_term.proofs.ListLaws.{drop-item}
 use Rattle.mp_pattern.specs.Fits.{Entry}
 use Rattle.mp_theory.specs.Machine.{entries}
-use Rattle.mp_one.proofs.ListLaws.{filter-front}
+use Rattle.mp_term.proofs.ListLaws.{filter-front}
 
 -- both entries of a list in front
 pub entries-front : (p : Entry → Bool) (l : List Tree) (ls : List (List Tree)) → filter p (entries (l ∷ ls)) ≡ filter p (record { terms = l; collapsed = false } ∷ []) ++ filter p (record { terms = l; collapsed = true } ∷ []) ++ filter p (entries ls)

@@ -11,11 +11,11 @@ use Rattle.mp_term.specs.OrderLaws.{tree_cmp_total, tree_same, shortlex_total}
 use Rattle.mp_term.specs.Tree.{Tree}
 use Rattle.mp_term.proofs.ListLaws.{drop-item}
 use Rattle.mp_term.proofs.ListingLaws.{same_members}
-use Rattle.mp_theory.specs.Search.{In}
-use Rattle.mp_theory.proofs.SearchLaws.{in-left}
-use Rattle.mp_theory.proofs.PiecesLaws.{pieces_among-exact, pieces_among-ascending, length-without, same-sound, same-itself, sublist-from_piece}
-use Rattle.mp_theory.specs.Pieces.{pieces_among, same, without, insert_new, distinct, after, first, pieces_of, is_sublist, is_piece}
-use Rattle.mp_one.proofs.ListLaws.{bool_same}
+use Rattle.mp_term.specs.Search.{In}
+use Rattle.mp_term.proofs.SearchLaws.{in-left}
+use Rattle.mp_term.proofs.PiecesLaws.{pieces_among-exact, pieces_among-ascending, length-without, same-sound, same-itself, sublist-from_piece}
+use Rattle.mp_term.specs.Pieces.{pieces_among, same, without, insert_new, distinct, after, first, pieces_of, is_sublist, is_piece}
+use Rattle.mp_term.proofs.ListLaws.{bool_same}
 
 module _ {X Y : Type 0} (cmp : Y → Y → Ordering) (f : X → Y) where
   without-nil : (l : List Y) → without cmp l [] ≡ []

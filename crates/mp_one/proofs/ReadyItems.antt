@@ -17,7 +17,7 @@ use Rattle.mp_theory.specs.ValueSizes.{HaveAtMost}
 use Rattle.mp_theory.proofs.ValueSizes.{fits-within}
 use Rattle.mp_cond.specs.Ready.{AreCountable}
 use Rattle.mp_cond.proofs.ReadyLaws.{IsReady-over}
-use Rattle.mp_one.specs.Found.{IsReadyFor, AreReadyFor}
+use Rattle.mp_one.specs.Collected.{IsReadyFor, AreReadyFor}
 
 countable : (n : ℕ) (s : Subst) → n < 2 ^ 64 → HaveAtMost n s → AreCountable s
 countable n [] h k = tt

@@ -6,14 +6,14 @@ use Rattle.mp_term.specs.TreeLists.{tree_list-trees}
 use Rattle.mp_term.specs.Order.{tree_cmp}
 use Rattle.mp_term.specs.OrderLaws.{tree_cmp_total, tree_same}
 use Rattle.mp_pattern.specs.Value.{same_terms}
-use Rattle.mp_theory.specs.Pieces.{same}
+use Rattle.mp_term.specs.Pieces.{same}
 use Rattle.mp_theory.specs.Machine.{arguments}
 use Rattle.std.specs.declared.cmp.Ordering.TheVariants.{Less, Equal, Greater}
 use Rattle.std.specs.Ordering.{is_eq, ordering_then}
 use Rattle.std.proofs.lemmas.Bool.{and_parts, and_from}
-use Rattle.mp_theory.proofs.PiecesLaws.{same-sound, same-itself}
+use Rattle.mp_term.proofs.PiecesLaws.{same-sound, same-itself}
 use Rattle.mp_theory.proofs.Merging.{same_terms-sound, same_terms-complete}
-use Rattle.mp_one.proofs.ListLaws.{bool_same}
+use Rattle.mp_term.proofs.ListLaws.{bool_same}
 
 tree_sound : (t u : Tree) → same tree_cmp t u ≡ true → t ≡ u
 tree_sound = same-sound tree_cmp tree_cmp_total tree_same

@@ -19,8 +19,8 @@ use Rattle.mp_theory.specs.OneList.{Item, same_item, item_list}
 use Rattle.mp_theory.proofs.FirstsLaws.{Distinct, distinct-filter, firsts_after-distinct}
 use Rattle.mp_theory.proofs.TrailLaws.{item_list-by_derivations}
 use Rattle.mp_one.specs.Stack.{nodes_below, entries_left}
-use Rattle.mp_one.specs.Found.{kept, collected}
-use Rattle.mp_one.proofs.FoundLaws.{collected-none, collected-append, filter_map-kept, firsts_after-kept}
+use Rattle.mp_one.specs.Collected.{kept, collected}
+use Rattle.mp_one.proofs.CollectedLaws.{collected-none, collected-append, filter_map-kept, firsts_after-kept}
 
 pub pattern_nodes-below : (p : Pattern) → pattern_nodes p ≡ suc (nodes_below p)
 pattern_nodes-below (symbol_pattern n) = refl

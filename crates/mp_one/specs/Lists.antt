@@ -6,7 +6,7 @@ use Rattle.mp_term.specs.declared.term.Term.{Term}
 use Rattle.mp_term.specs.Tree.{Tree}
 use Rattle.mp_term.specs.View.{tree}
 use Rattle.mp_term.specs.Order.{tree_cmp}
-use Rattle.mp_theory.specs.Pieces.{insert_new}
+use Rattle.mp_term.specs.Pieces.{insert_new}
 
 -- the terms that a list of references points to
 abbrev pub trees_of : List (Bor Term) → List Tree

@@ -7,7 +7,7 @@ use Rattle.mp_pattern.specs.Fits as fits
 use Rattle.mp_theory.specs.Frames as walk
 use Rattle.mp_term.specs.Signature.{Sig}
 use Rattle.mp_theory.specs.Machine as machine
-use Rattle.mp_one.specs.Lines.{above}
+use Rattle.mp_one.specs.Above.{above}
 use Rattle.mp_one.specs.Lists.{trees_of}
 use Rattle.mp_one.specs.declared.stack.Frame.{Frame}
 use Rattle.mp_one.specs.declared.stack.Stack.{Stack}
@@ -15,7 +15,7 @@ use Rattle.mp_one.specs.declared.stack.Stack.{Root, Within'}
 use Rattle.mp_one.specs.declared.stack.Place.{Place}
 use Rattle.mp_one.specs.declared.stack.Next.{Next}
 use Rattle.mp_one.specs.declared.stack.Next.TheVariants.{Ended, Refused, Child}
-use Rattle.mp_one.specs.declared.stack.Entry.{Entry}
+use Rattle.mp_one.specs.declared.stack.Take.{Take}
 
 -- the frame as the search sees it
 abbrev pub frame_of : Frame → walk.Frame
@@ -41,7 +41,7 @@ next_of Refused = walk.refused
 next_of (Child p) = child_of p
 
 -- the entry as the take table has it
-abbrev pub entry_of : Entry → fits.Entry
+abbrev pub entry_of : Take → fits.Entry
 entry_of e = record { terms = trees_of e.terms.items; collapsed = e.collapsed }
 
 -- the child may have the entry, whatever was taken before

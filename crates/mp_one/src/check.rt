@@ -13,19 +13,19 @@ ghost use Rattle.mp_one.specs.Stack.{frame_of, stack_frames, child_of, entry_of}
 ghost use Rattle.mp_one.specs.Trail.{trail_of};
 ghost use Rattle.mp_one.specs.Check.{goes_on};
 
-use crate::bind::{Bound, Extended, extend};
+use crate::trail::{TrailBinding, Extended, extend};
 use crate::choices::allows;
-use crate::stack::{self, Frame, Next, Place, Stack, entered, root_frame, settle, taken_out};
+use crate::stack::{Frame, Next, Place, Stack, Take, children_frame, root_frame, settle, frame_behind};
 use crate::terms::references;
 use mp_pattern::{Entries, Entry, Pattern, Plan};
 use mp_term::{Memory, Signature, Term};
 use std::alloc::Global;
 
 // The entry, held by reference.
-fn borrowed(alloc: Global, entry: &Entry) -> Result<stack::Entry<'_>, Memory>
+fn borrowed(alloc: Global, entry: &Entry) -> Result<Take<'_>, Memory>
     ensures { IfOk result (λ e. entry_of e ≡ table_entry entry.now) }
 {
-    Ok(stack::Entry {
+    Ok(Take {
         terms: references(alloc, entry.terms.as_slice())?,
         collapsed: entry.collapsed,
     })
@@ -47,16 +47,16 @@ fn goes_on_behind<'a>(
     alloc: Global,
     sig: &Signature,
     place: &Place<'a>,
-    entry: &stack::Entry<'a>,
-    trail: &[Bound<'a>],
+    entry: &Take<'a>,
+    trail: &[TrailBinding<'a>],
     later: &'a [Entry],
 ) -> Result<bool, Memory>
     ensures { IfOk result (λ b. b ≡ goes_on sig.now (machine.onward (child_of place.now) (entry_of entry.now)) (trail_of trail.now) (map table_entry later.now)) }
 {
-    let rest = Stack::Within(taken_out(alloc, place, entry)?, place.outer);
+    let rest = Stack::Within(frame_behind(alloc, place, entry)?, place.outer);
     match place.child {
         Pattern::App(op, children) => {
-            let inner = Stack::Within(entered(alloc, *op, children, entry)?, &rest);
+            let inner = Stack::Within(children_frame(alloc, *op, children, entry)?, &rest);
             goes_on(alloc, sig, &inner, &*trail, later)
         }
         _ => goes_on(alloc, sig, &rest, &*trail, later),
@@ -69,8 +69,8 @@ fn goes_on_with<'a>(
     alloc: Global,
     sig: &Signature,
     place: &Place<'a>,
-    entry: &stack::Entry<'a>,
-    trail: &[Bound<'a>],
+    entry: &Take<'a>,
+    trail: &[TrailBinding<'a>],
     later: &'a [Entry],
 ) -> Result<bool, Memory>
     ensures { IfOk result (λ b. b ≡ goes_on sig.now (child_of place.now) (trail_of trail.now) (entry_of entry.now ∷ map table_entry later.now)) }
@@ -91,7 +91,7 @@ fn goes_on<'a>(
     alloc: Global,
     sig: &Signature,
     stack: &'a Stack<'a>,
-    trail: &'a [Bound<'a>],
+    trail: &'a [TrailBinding<'a>],
     entries: &'a [Entry],
 ) -> Result<bool, Memory>
     ensures { IfOk result (λ b. b ≡ goes_on sig.now (walk.settle (stack_frames stack.now)) (trail_of trail.now) (map table_entry entries.now)) }

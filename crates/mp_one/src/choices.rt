@@ -7,12 +7,12 @@ ghost use Rattle.mp_one.specs.Lists.{trees_of, lists_of};
 ghost use Rattle.mp_one.specs.Stack.{child_of, entry_of, reads_at};
 ghost use Rattle.mp_one.specs.Trail.{trail_of};
 
-use crate::bind::Bound;
-use crate::bound::{Only, only_list};
-use crate::lengths::{fewest, too_many};
-use crate::lines::{comm_above, reads};
+use crate::trail::TrailBinding;
+use crate::known_value::{Candidates, candidates_for};
+use crate::lengths::{fewest, length_limit};
+use crate::node::{comm_above, reads};
 use crate::pieces::{is_piece, pieces_between};
-use crate::stack::{Entry, Place};
+use crate::stack::{Take, Place};
 use crate::terms::{copied, push};
 use mp_term::{Memory, Signature, Term};
 use std::alloc::Global;
@@ -24,7 +24,7 @@ fn push_entry<'a>(
     place: &Place<'_>,
     piece: &[&'a Term],
     collapsed: bool,
-    found: &mut Vec<Entry<'a>>,
+    found: &mut Vec<Take<'a>>,
 ) -> Result<(), Memory>
     ensures { OnOk result (map entry_of found.new.items ≡ map entry_of found.old.items ++ filter (reads_at sig.now place.now) (record { terms = trees_of piece.now; collapsed = collapsed } ∷ [])) }
 {
@@ -33,7 +33,7 @@ fn push_entry<'a>(
     }
     push(
         found,
-        Entry {
+        Take {
             terms: copied(alloc, piece)?,
             collapsed,
         },
@@ -53,7 +53,7 @@ fn pieces<'a>(
         alloc,
         anywhere,
         fewest(sig, place),
-        too_many(sig, place),
+        length_limit(sig, place),
         place.left,
     )?;
     Ok(found)
@@ -64,7 +64,7 @@ fn open_choices<'a>(
     alloc: Global,
     sig: &Signature,
     place: &Place<'a>,
-) -> Result<Vec<Entry<'a>>, Memory>
+) -> Result<Vec<Take<'a>>, Memory>
     ensures { IfOk result (λ v. map entry_of v.items ≡ within.choices_within sig.now (child_of place.now)) }
 {
     let mut found = Vec::new(alloc);
@@ -76,7 +76,7 @@ fn open_choices<'a>(
 }
 
 /// Whether the entry may stand next.
-pub fn allows(sig: &Signature, place: &Place<'_>, entry: &Entry<'_>) -> bool
+pub fn allows(sig: &Signature, place: &Place<'_>, entry: &Take<'_>) -> bool
     ensures { result ≡ trails.allows sig.now (child_of place.now) (entry_of entry.now) }
 {
     is_piece(comm_above(sig, place.under), &entry.terms, place.left)
@@ -89,11 +89,11 @@ fn only_choice<'a>(
     sig: &Signature,
     place: &Place<'a>,
     terms: Vec<&'a Term>,
-) -> Result<Vec<Entry<'a>>, Memory>
+) -> Result<Vec<Take<'a>>, Memory>
     ensures { IfOk result (λ v. map entry_of v.items ≡ filter (trails.allows sig.now (child_of place.now)) (record { terms = trees_of terms.entry.items; collapsed = false } ∷ [])) }
 {
     let mut found = Vec::new(alloc);
-    let entry = Entry {
+    let entry = Take {
         terms,
         collapsed: false,
     };
@@ -108,16 +108,16 @@ pub fn choices<'a>(
     alloc: Global,
     sig: &Signature,
     place: &Place<'a>,
-    trail: &[Bound<'a>],
-) -> Result<Vec<Entry<'a>>, Memory>
+    trail: &[TrailBinding<'a>],
+) -> Result<Vec<Take<'a>>, Memory>
     ensures { IfOk result (λ v. trails.LeadOn sig.now (child_of place.now) (trail_of trail.now) (map entry_of v.items)) }
 {
-    match only_list(alloc, sig, place, trail)? {
-        Only::Open => {
+    match candidates_for(alloc, sig, place, trail)? {
+        Candidates::Any => {
             let all = open_choices(alloc, sig, place)?;
             Ok(all)
         }
-        Only::Nothing => Ok(Vec::new(alloc)),
-        Only::Terms(terms) => only_choice(alloc, sig, place, terms),
+        Candidates::Nothing => Ok(Vec::new(alloc)),
+        Candidates::Only(terms) => only_choice(alloc, sig, place, terms),
     }
 }

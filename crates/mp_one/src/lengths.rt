@@ -1,35 +1,36 @@
 // How many terms a child may take, so that the children behind it have enough and not too many.
-ghost use Rattle.std.specs.Prelude.{◌≡◌, ◌≤◌, map, length};
+ghost use Rattle.std.specs.Prelude.{◌≡◌, ◌≤◌, IfSome, map, length};
 ghost use Rattle.mp_pattern.specs.PatternTree.{patterns};
 ghost use Rattle.mp_pattern.specs.View.{pattern_tree};
 ghost use Rattle.mp_theory.specs.Bounds as bounds;
 ghost use Rattle.mp_theory.specs.Within as within;
-ghost use Rattle.mp_one.specs.Lines.{above};
+ghost use Rattle.mp_one.specs.Above.{above};
 ghost use Rattle.mp_one.specs.Stack.{inner_frame};
 
-use crate::lines::assoc_above;
+use crate::node::assoc_above;
 use crate::stack::Place;
-use mp_pattern::{Pattern, Shape};
+use mp_pattern::Pattern;
 use mp_term::{OpId, Signature};
 
 // The least number of terms that the node takes.
 fn least(child: &Pattern) -> usize
-    ensures { result ≡ bounds.least (pattern_tree child.now) }
+    ensures least { result ≡ bounds.least (pattern_tree child.now) }
+    ensures few { result ≤ 1 }
 {
     match child {
-        Pattern::Wild(Shape::Star, _) | Pattern::Wild(Shape::Opt(_), _) => 0,
+        Pattern::Wild(shape, _) => shape.least(),
         _ => 1,
     }
 }
 
-// Whether the node takes at most one term.
-fn is_short(sig: &Signature, under: Option<OpId>, child: &Pattern) -> bool
-    ensures { result ≡ bounds.is_short sig.now (above under) (pattern_tree child.now) }
+// The greatest number of terms that the node takes, if there is a bound.
+fn most(sig: &Signature, under: Option<OpId>, child: &Pattern) -> Option<usize>
+    ensures most { result ≡ bounds.most sig.now (above under) (pattern_tree child.now) }
+    ensures few { IfSome result (λ m. m ≤ 1) }
 {
     match child {
-        Pattern::Wild(Shape::Plus, _) | Pattern::Wild(Shape::Star, _) => false,
-        Pattern::Wild(Shape::Dot, _) | Pattern::Wild(Shape::Opt(_), _) => !assoc_above(sig, under),
-        _ => true,
+        Pattern::Wild(shape, _) => shape.most(assoc_above(sig, under)),
+        _ => Some(1),
     }
 }
 
@@ -44,34 +45,39 @@ fn all_least(children: &[Pattern]) -> usize
     }
 }
 
-// Whether each child takes at most one term.
-fn all_short(sig: &Signature, under: Option<OpId>, children: &[Pattern]) -> bool
-    ensures { result ≡ bounds.all_short sig.now (above under) (patterns (map pattern_tree children.now)) }
+// The greatest number of terms that they take together, if there is a bound.
+fn all_most(sig: &Signature, under: Option<OpId>, children: &[Pattern]) -> Option<usize>
+    ensures sum { result ≡ bounds.all_most sig.now (above under) (patterns (map pattern_tree children.now)) }
+    ensures few { IfSome result (λ m. m ≤ length children.now) }
 {
     match children {
-        [] => true,
-        [first, rest @ ..] => is_short(sig, under, first) && all_short(sig, under, rest),
+        [] => Some(0),
+        [first, rest @ ..] => {
+            let first = most(sig, under, first)?;
+            let rest = all_most(sig, under, rest)?;
+            Some(first + rest)
+        }
     }
 }
 
-/// The least number of terms that the child may take: the later children take the others.
+/// The least number of terms that the child may take, so that the later children can take the others.
 pub fn fewest(sig: &Signature, place: &Place<'_>) -> usize
     ensures { result ≡ within.fewest sig.now (above place.now.under) (pattern_tree place.now.child.now) (inner_frame place.now).children (length place.now.left.now) }
 {
     let least = least(place.child);
-    if !all_short(sig, place.under, place.later) {
-        return least;
+    match all_most(sig, place.under, place.later) {
+        None => least,
+        Some(most) => least.max(place.left.len().saturating_sub(most)),
     }
-    least.max(place.left.len().saturating_sub(place.later.len()))
 }
 
-/// The least number of terms that is too great: the later children have too few.
-pub fn too_many(sig: &Signature, place: &Place<'_>) -> usize
-    ensures { result ≡ within.too_many sig.now (above place.now.under) (pattern_tree place.now.child.now) (inner_frame place.now).children (length place.now.left.now) }
+/// The first number that is too great for the child: the later children would have too few terms, or the child too many.
+pub fn length_limit(sig: &Signature, place: &Place<'_>) -> usize
+    ensures { result ≡ within.length_limit sig.now (above place.now.under) (pattern_tree place.now.child.now) (inner_frame place.now).children (length place.now.left.now) }
 {
     let limit = (place.left.len() + 1).saturating_sub(all_least(place.later));
-    if is_short(sig, place.under, place.child) {
-        return limit.min(2);
+    match most(sig, place.under, place.child) {
+        None => limit,
+        Some(most) => limit.min(most + 1),
     }
-    limit
 }

@@ -1,16 +1,16 @@
 //! One-to-one matching: what one rule admits on one subject, each substitution once, ascending by least take table.
 #![tactic(auto)]
 
-mod bind;
-mod bound;
+mod trail;
+mod known_value;
 mod check;
 mod choices;
-mod finds;
 mod found;
-mod held;
+mod collect;
+mod trail_value;
 mod item;
 mod lengths;
-mod lines;
+mod node;
 mod named_order;
 mod path;
 mod pieces;
@@ -18,7 +18,7 @@ mod query;
 mod search;
 mod stack;
 mod terms;
-mod value;
+mod owned;
 mod wildcards;
 
 pub use check::check_takes;

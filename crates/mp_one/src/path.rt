@@ -4,7 +4,7 @@ ghost use Rattle.mp_pattern.specs.EntryView.{table_entry};
 ghost use Rattle.mp_one.specs.Stack.{entry_of};
 ghost use Rattle.mp_one.specs.Path.{table_of};
 
-use crate::stack;
+use crate::stack::Take;
 use crate::terms::copies;
 use mp_pattern::{Entries, Entry};
 use mp_term::Memory;
@@ -14,11 +14,11 @@ use std::alloc::Global;
 #[derive(Drop)]
 pub enum Path<'a> {
     Start,
-    Behind(&'a stack::Entry<'a>, &'a Path<'a>),
+    Behind(&'a Take<'a>, &'a Path<'a>),
 }
 
 // The entry with terms of its own.
-fn own_entry(alloc: Global, entry: &stack::Entry<'_>) -> Result<Entry, Memory>
+fn own_entry(alloc: Global, entry: &Take<'_>) -> Result<Entry, Memory>
     ensures { IfOk result (λ e. table_entry e ≡ entry_of entry.now) }
 {
     Ok(Entry {

@@ -3,7 +3,7 @@ ghost use Rattle.std.specs.Prelude.{◌≡◌, ◌-◌, ◌++◌, ◌∷◌, map
 ghost use Rattle.std.specs.List.{range_with_len};
 ghost use Rattle.mp_term.specs.View.{tree};
 ghost use Rattle.mp_term.specs.Order.{tree_cmp};
-ghost use Rattle.mp_theory.specs.Pieces as pieces;
+ghost use Rattle.mp_term.specs.Pieces as pieces;
 ghost use Rattle.mp_one.specs.Lists.{trees_of, lists_of, IsPlace};
 
 use crate::terms::{copied, push};

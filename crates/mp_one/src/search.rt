@@ -20,16 +20,16 @@ ghost use Rattle.mp_one.specs.Stack.{frame_of, stack_frames, child_of, entry_of,
 ghost use Rattle.mp_one.specs.Trail.{trail_of};
 ghost use Rattle.mp_one.specs.Items.{IsItemOf};
 ghost use Rattle.mp_one.specs.Path.{table_of};
-ghost use Rattle.mp_one.specs.Found.{AreReadyFor, condition_of, added, kept};
+ghost use Rattle.mp_one.specs.Collected.{AreReadyFor, condition_of, added, kept};
 
-use crate::bind::{Bound, Extended, extend};
+use crate::trail::{TrailBinding, Extended, extend};
 use crate::choices::choices;
-use crate::finds::Finds;
-use crate::found::add_new;
+use crate::found::Found;
+use crate::collect::collect;
 use crate::item::Items;
 use crate::path::Path;
 use crate::query::Query;
-use crate::stack::{Entry, Frame, Next, Place, Stack, entered, root_frame, settle, taken_out};
+use crate::stack::{Take, Frame, Next, Place, Stack, children_frame, root_frame, settle, frame_behind};
 use crate::wildcards::decides_table;
 use mp_pattern::{MAX_TERM_NODES, Pattern, Plan, Rule};
 use mp_subst::Subst;
@@ -42,19 +42,19 @@ fn descend<'a>(
     alloc: Global,
     query: &Query<'_>,
     place: &Place<'a>,
-    entry: &Entry<'a>,
-    trail: &[Bound<'a>],
+    entry: &Take<'a>,
+    trail: &[TrailBinding<'a>],
     path: &'a Path<'a>,
-    found: &mut Finds,
+    found: &mut Found,
 ) -> Result<(), Memory>
     requires { AreReadyFor (condition_of query.now) (trails.derivations query.now.sig.now (entries_behind place.now) (machine.onward (child_of place.now) (entry_of entry.now)) (table_of path.now ++ entry_of entry.now ∷ []) (trail_of trail.now)) }
     ensures { OnOk result (found.new ≡ added query.now found.old (trails.derivations query.now.sig.now (entries_behind place.now) (machine.onward (child_of place.now) (entry_of entry.now)) (table_of path.now ++ entry_of entry.now ∷ []) (trail_of trail.now))) }
 {
-    let rest = Stack::Within(taken_out(alloc, place, entry)?, place.outer);
+    let rest = Stack::Within(frame_behind(alloc, place, entry)?, place.outer);
     let behind = Path::Behind(entry, path);
     match place.child {
         Pattern::App(op, children) => {
-            let inner = Stack::Within(entered(alloc, *op, children, entry)?, &rest);
+            let inner = Stack::Within(children_frame(alloc, *op, children, entry)?, &rest);
             search(alloc, query, &inner, &*trail, &behind, found)
         }
         _ => search(alloc, query, &rest, &*trail, &behind, found),
@@ -67,10 +67,10 @@ fn follow<'a>(
     alloc: Global,
     query: &Query<'_>,
     place: &Place<'a>,
-    entry: &Entry<'a>,
-    trail: &[Bound<'a>],
+    entry: &Take<'a>,
+    trail: &[TrailBinding<'a>],
     path: &'a Path<'a>,
-    found: &mut Finds,
+    found: &mut Found,
 ) -> Result<(), Memory>
     requires { AreReadyFor (condition_of query.now) (trails.derivations_by query.now.sig.now (entries_behind place.now) (child_of place.now) (table_of path.now) (trail_of trail.now) (entry_of entry.now)) }
     ensures { OnOk result (found.new ≡ added query.now found.old (trails.derivations_by query.now.sig.now (entries_behind place.now) (child_of place.now) (table_of path.now) (trail_of trail.now) (entry_of entry.now))) }
@@ -88,15 +88,15 @@ fn search<'a>(
     alloc: Global,
     query: &Query<'_>,
     stack: &'a Stack<'a>,
-    trail: &'a [Bound<'a>],
+    trail: &'a [TrailBinding<'a>],
     path: &'a Path<'a>,
-    found: &mut Finds,
+    found: &mut Found,
 ) -> Result<(), Memory>
     requires { AreReadyFor (condition_of query.now) (trails.derivations query.now.sig.now (entries_left (stack_frames stack.now)) (walk.settle (stack_frames stack.now)) (table_of path.now) (trail_of trail.now)) }
     ensures { OnOk result (found.new ≡ added query.now found.old (trails.derivations query.now.sig.now (entries_left (stack_frames stack.now)) (walk.settle (stack_frames stack.now)) (table_of path.now) (trail_of trail.now))) }
 {
     match settle(stack) {
-        Next::Ended => add_new(alloc, query, path, trail, found),
+        Next::Ended => collect(alloc, query, path, trail, found),
         Next::Refused => Ok(()),
         Next::Child(place) => {
             for entry in &choices(alloc, query.sig, &place, trail)? {
@@ -112,7 +112,7 @@ fn search_from(
     alloc: Global,
     query: &Query<'_>,
     frame: Frame<'_>,
-    found: &mut Finds,
+    found: &mut Found,
 ) -> Result<(), Memory>
     requires { AreReadyFor (condition_of query.now) (trails.derivations query.now.sig.now (entries_left (frame_of frame ∷ [])) (walk.settle (frame_of frame ∷ [])) [] []) }
     ensures { OnOk result (found.new ≡ added query.now found.old (trails.derivations query.now.sig.now (entries_left (frame_of frame.entry ∷ [])) (walk.settle (frame_of frame.entry ∷ [])) [] [])) }
@@ -137,7 +137,7 @@ fn search_all(
     plan: &Plan,
     subject: &Term,
     tables: bool,
-) -> Result<Finds, Memory>
+) -> Result<Found, Memory>
     requires plan { IsPlanOf sig.now (pattern_tree rule.now.pattern) plan.now }
     requires small { DefaultsAreSmall (pattern_tree rule.now.pattern) }
     requires condition { HasConditionOver (variables (pattern_tree rule.now.pattern)) (rule_tree rule.now).condition }
@@ -152,7 +152,7 @@ fn search_all(
         one_table: decides_table(pattern),
         tables,
     };
-    let mut found = Finds::new(alloc);
+    let mut found = Found::new(alloc);
     search_from(
         alloc,
         &query,

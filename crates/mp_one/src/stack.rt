@@ -54,12 +54,12 @@ pub enum Next<'a> {
 
 /// What a node takes, and of an application whether it is collapsed.
 #[derive(Drop)]
-pub struct Entry<'a> {
+pub struct Take<'a> {
     pub terms: Vec<&'a Term>,
     pub collapsed: bool,
 }
 
-/// Leaves the operations behind whose children have all taken.
+/// What comes next. A frame whose children have all taken is left, if it has no terms over and owes nothing, and else refused.
 pub fn settle<'a>(stack: &'a Stack<'a>) -> Next<'a>
     ensures { walk.settle (stack_frames stack.now) ≡ next_of result }
 {
@@ -96,10 +96,10 @@ fn is_left_out(child: &Pattern, terms: &[&Term]) -> bool
 }
 
 /// What is left for the later children once the child has taken the entry.
-pub fn taken_out<'a>(
+pub fn frame_behind<'a>(
     alloc: Global,
     place: &Place<'a>,
-    entry: &Entry<'_>,
+    entry: &Take<'_>,
 ) -> Result<Frame<'a>, Memory>
     ensures { IfOk result (λ f. frame_of f ≡ machine.taken_out (pattern_tree place.now.child.now) (entry_of entry.now) (inner_frame place.now)) }
 {
@@ -135,11 +135,11 @@ fn arguments<'a>(alloc: Global, terms: &[&'a Term]) -> Result<Vec<&'a Term>, Mem
 }
 
 /// What the children of an application are to take, where it takes the entry.
-pub fn entered<'a>(
+pub fn children_frame<'a>(
     alloc: Global,
     op: OpId,
     children: &'a Patterns,
-    entry: &Entry<'a>,
+    entry: &Take<'a>,
 ) -> Result<Frame<'a>, Memory>
     ensures { IfOk result (λ f. frame_of f ∷ [] ≡ machine.entered (app_pattern op.0 (patterns children.now)) (entry_of entry.now) []) }
 {

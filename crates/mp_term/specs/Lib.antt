@@ -14,3 +14,5 @@ pub mod NormalTest
 pub mod Positions
 pub mod Edits
 pub mod Listing
+pub mod Search
+pub mod Pieces

@@ -19,12 +19,12 @@ use Rattle.mp_pattern.specs.DerivationOrder.{entry_cmp}
 use Rattle.mp_theory.specs.Solve.{bind, given, sequence, solve}
 use Rattle.mp_theory.specs.NoOptional.{IsNotOptional}
 use Rattle.mp_theory.specs.Frames.{Frame, Next, child}
-use Rattle.mp_theory.specs.Search.{In}
-use Rattle.mp_theory.specs.Pieces.{is_piece}
+use Rattle.mp_term.specs.Search.{In}
+use Rattle.mp_term.specs.Pieces.{is_piece}
 use Rattle.mp_theory.specs.Machine.{onward, said, reads, choices}
 use Rattle.mp_theory.specs.Trail.{listed_by, derivations, derivations_by, allows, LeadOn}
 use Rattle.mp_theory.specs.Within.{choices_within}
-use Rattle.mp_theory.proofs.SearchLaws.{in-filter, from_in-filter}
+use Rattle.mp_term.proofs.SearchLaws.{in-filter, from_in-filter}
 use Rattle.mp_theory.proofs.Merging.{from_if, same_terms-sound}
 use Rattle.mp_theory.proofs.Wildcards.{contributor-contributes}
 use Rattle.mp_theory.proofs.Solving.{then_some}

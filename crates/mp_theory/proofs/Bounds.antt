@@ -2,7 +2,7 @@
 use Rattle.std.proofs.Common.{◌≡◌, ℕ, ◌≤◌, ◌<◌, ◌+◌, ◌-◌, List, [], ◌∷◌, length, Bool, true, false, refl, ap, arith}
 use Rattle.std.proofs.lemmas.Bool.{and_parts, not-true}
 use Rattle.std.proofs.lemmas.Bool.Decides.{nat_tests}
-use Rattle.std.specs.Prelude.{Option, Some, None, ◌↔◌, ◌&&◌, not, min, max, nat_lt, if◌then◌else◌, filter, is_some}
+use Rattle.std.specs.Prelude.{Option, Some, None, ◌↔◌, ◌&&◌, not, min, max, nat_lt, if◌then◌else◌, filter, is_some, ⊤}
 use Rattle.std.specs.List.Sorted.{IsStrictlySortedBy}
 use Rattle.std.specs.Ordering.{nat_cmp}
 use Rattle.std.proofs.lemmas.List.Kept.{IsStrictlySortedBy-filter}
@@ -19,40 +19,57 @@ use Rattle.mp_pattern.specs.DerivationOrder.{entry_cmp}
 use Rattle.mp_theory.specs.Solve.{contributor}
 use Rattle.mp_theory.specs.Frames.{Frame, child}
 use Rattle.mp_theory.proofs.Merging.{same_terms-sound}
-use Rattle.mp_theory.specs.Search.{In}
-use Rattle.mp_theory.specs.Pieces.{without, pieces_among, is_piece}
+use Rattle.mp_term.specs.Search.{In}
+use Rattle.mp_term.specs.Pieces.{without, pieces_among, is_piece}
 use Rattle.mp_theory.specs.Machine.{entries, reads, choices}
-use Rattle.mp_theory.specs.Bounds.{least, assoc_above, is_short, all_least, child_count, all_short}
-use Rattle.mp_theory.specs.Within.{is_within, leaves_within, choices_within, fewest, too_many, lengths}
-use Rattle.mp_theory.proofs.SearchLaws.{in-filter, from_in-filter}
-use Rattle.mp_theory.proofs.PiecesLaws.{length-without, sublist-from_piece, pieces_among-exact, pieces_among-ascending, in-range_with_len, from_in-range_with_len, ascending-range_with_len}
+use Rattle.mp_theory.specs.Bounds.{least, most, assoc_above, all_least, all_most, sum_of, is_at_most}
+use Rattle.mp_theory.specs.Within.{is_within, leaves_within, choices_within, fewest, length_limit, lengths}
+use Rattle.mp_term.proofs.SearchLaws.{in-filter, from_in-filter}
+use Rattle.mp_term.proofs.PiecesLaws.{length-without, sublist-from_piece, pieces_among-exact, pieces_among-ascending, in-range_with_len, from_in-range_with_len, ascending-range_with_len}
 use Rattle.mp_theory.proofs.Walk.{in-entries, from_in-entries, choices-exact}
 use Rattle.mp_theory.proofs.Tables.{entries-ascending, entry_cmp_total, choices-ascending}
 
--- the test of a number against bounds, of which the upper one may not be asked
-tested : (b : Bool) (low high n : ℕ) → low ≤ n → (b ≡ true → n ≤ high) → not (nat_lt n low) && not (b && nat_lt high n) ≡ true
-tested true low high n h k = let i : n ≤ high = k refl in grind (arith, nat_tests, h, i)
-tested false low high n h k = grind (arith, nat_tests, h)
+-- n is within the bound, if there is one
+abbrev pub AtMost : ℕ → Option ℕ → Type 0
+AtMost n None = ⊤
+AtMost n (Some m) = n ≤ m
 
-from_tested : (b : Bool) (low high n : ℕ) → not (nat_lt n low) && not (b && nat_lt high n) ≡ true → (low ≤ n) × (b ≡ true → n ≤ high)
-from_tested b low high n h = let k = and_parts (not (nat_lt n low)) (not (b && nat_lt high n)) h in (grind (arith, nat_tests, k.0), λ e. grind (arith, nat_tests, e, k.1))
+-- the test of a number against bounds
+tested : (low : ℕ) (high : Option ℕ) (n : ℕ) → low ≤ n → AtMost n high → not (nat_lt n low) && is_at_most n high ≡ true
+tested low None n h k = grind (arith, nat_tests, h)
+tested low (Some high) n h k = grind (arith, nat_tests, h, k)
 
--- l of n terms, with the m others, against the least and the first too great number
-fewest-least : (b : Bool) (least room l m n : ℕ) → l + m ≡ n → least ≤ l → (b ≡ true → m ≤ room) → (if b then max least (n - room) else least) ≤ l
-fewest-least true least room l m n e h k = let i : m ≤ room = k refl in omega (arith, e, h, i)
-fewest-least false least room l m n e h k = h
+from_tested : (low : ℕ) (high : Option ℕ) (n : ℕ) → not (nat_lt n low) && is_at_most n high ≡ true → (low ≤ n) × AtMost n high
+from_tested low None n h = let k = and_parts (not (nat_lt n low)) _ h in (grind (arith, nat_tests, k.0), tt)
+from_tested low (Some high) n h = let k = and_parts (not (nat_lt n low)) _ h in (grind (arith, nat_tests, k.0), grind (arith, nat_tests, k.1))
 
-room-fewest : (b : Bool) (least room l m n : ℕ) → l + m ≡ n → b ≡ true → (if b then max least (n - room) else least) ≤ l → m ≤ room
-room-fewest true least room l m n e s h = omega (arith, e, h)
-room-fewest false least room l m n e s h = cc
+-- l of n terms, with the m others, against the least number and the first too great one
+fewest-least : (room : Option ℕ) (least l m n : ℕ) → l + m ≡ n → least ≤ l → AtMost m room → elim room [ None ↦ least | Some k ↦ max least (n - k) ] ≤ l
+fewest-least None least l m n e h k = h
+fewest-least (Some room) least l m n e h k = omega (arith, e, h, k)
 
-too_many-more : (b : Bool) (l m n least : ℕ) → l + m ≡ n → (b ≡ true → l ≤ 1) → least ≤ m → l < (if b then min 2 (n + 1 - least) else n + 1 - least)
-too_many-more true l m n least e h k = let i : l ≤ 1 = h refl in omega (arith, e, i, k)
-too_many-more false l m n least e h k = omega (arith, e, k)
+room-fewest : (room : Option ℕ) (least l m n : ℕ) → l + m ≡ n → elim room [ None ↦ least | Some k ↦ max least (n - k) ] ≤ l → AtMost m room
+room-fewest None least l m n e h = tt
+room-fewest (Some room) least l m n e h = omega (arith, e, h)
 
-enough-too_many : (b : Bool) (l m n least : ℕ) → l + m ≡ n → l < (if b then min 2 (n + 1 - least) else n + 1 - least) → least ≤ m
-enough-too_many true l m n least e h = omega (arith, e, h)
-enough-too_many false l m n least e h = omega (arith, e, h)
+limit-more : (most : Option ℕ) (l m n least : ℕ) → l + m ≡ n → AtMost l most → least ≤ m → l < elim most [ None ↦ n + 1 - least | Some k ↦ min (n + 1 - least) (k + 1) ]
+limit-more None l m n least e h k = omega (arith, e, k)
+limit-more (Some most) l m n least e h k = omega (arith, e, h, k)
+
+enough-limit : (most : Option ℕ) (l m n least : ℕ) → l + m ≡ n → l < elim most [ None ↦ n + 1 - least | Some k ↦ min (n + 1 - least) (k + 1) ] → least ≤ m
+enough-limit None l m n least e h = omega (arith, e, h)
+enough-limit (Some most) l m n least e h = omega (arith, e, h)
+
+-- parts within their bounds are together within the sum
+pub at_most-sum : (a b : Option ℕ) (l m n : ℕ) → l + m ≡ n → AtMost l a → AtMost m b → AtMost n (sum_of a b)
+at_most-sum None b l m n e h k = tt
+at_most-sum (Some a) None l m n e h k = tt
+at_most-sum (Some a) (Some b) l m n e h k = omega (arith, e, h, k)
+
+-- a bound that is there unless the operation above is associative
+at_most-unless : (assoc : Bool) (n : ℕ) → (assoc ≡ false → n ≤ 1) → AtMost n (if assoc then None else Some 1)
+at_most-unless true n h = tt
+at_most-unless false n h = h refl
 
 module _ (sig : Sig) where
   -- the choices that leave the later children what they can take, by pieces of the lengths ns, which are those that the node can take and leave so
@@ -92,51 +109,51 @@ module _ (sig : Sig) where
       ] h
 
   -- what a node takes is within its bounds
-  pub within : (p : Pattern) (f : Option ℕ) (l : List Tree) (c : Bool) → reads sig p f (record { terms = l; collapsed = c }) ≡ true → (least p ≤ length l) × (is_short sig f p ≡ true → length l ≤ 1)
+  pub within : (p : Pattern) (f : Option ℕ) (l : List Tree) (c : Bool) → reads sig p f (record { terms = l; collapsed = c }) ≡ true → (least p ≤ length l) × AtMost (length l) (most sig f p)
   within (symbol_pattern n) f l true h = cc
-  within (symbol_pattern n) f l false h = let e : length l ≡ 1 = ap length (same_terms-sound l (symbol n ∷ []) h) in (omega arith, λ _. omega arith)
+  within (symbol_pattern n) f l false h = let e : length l ≡ 1 = ap length (same_terms-sound l (symbol n ∷ []) h) in (omega arith, omega arith)
   within (app_pattern g ps) f [] true h = cc
-  within (app_pattern g ps) f (t ∷ []) c h = (omega arith, λ _. omega arith)
+  within (app_pattern g ps) f (t ∷ []) c h = (omega arith, omega arith)
   within (app_pattern g ps) f (t ∷ u ∷ l) true h = cc
   within (app_pattern g ps) f [] false h = cc
   within (app_pattern g ps) f (t ∷ u ∷ l) false h = cc
   within (wild_pattern w x) f l true h = cc
-  within (wild_pattern dot x) f l false h = let k = some_contributor f l (and_parts _ _ h).0 in (k.0, λ s. k.1 (not-true _ s))
+  within (wild_pattern dot x) f l false h = let k = some_contributor f l (and_parts _ _ h).0 in (k.0, at_most-unless (assoc_above sig f) (length l) k.1)
   within (wild_pattern (kind k) x) f [] false h = cc
-  within (wild_pattern (kind k) x) f (t ∷ []) false h = (omega arith, λ _. omega arith)
+  within (wild_pattern (kind k) x) f (t ∷ []) false h = (omega arith, omega arith)
   within (wild_pattern (kind k) x) f (t ∷ u ∷ l) false h = cc
   within (wild_pattern plus x) f [] false h = cc
-  within (wild_pattern plus x) f (t ∷ l) false h = (omega arith, λ s. cc)
-  within (wild_pattern star x) f l false h = (omega arith, λ s. cc)
-  within (wild_pattern (optional d) x) f [] false h = (omega arith, λ _. omega arith)
-  within (wild_pattern (optional d) x) f (t ∷ l) false h = let k = some_contributor f (t ∷ l) (and_parts _ _ h).0 in (omega arith, λ s. k.1 (not-true _ s))
+  within (wild_pattern plus x) f (t ∷ l) false h = (omega arith, tt)
+  within (wild_pattern star x) f l false h = (omega arith, tt)
+  within (wild_pattern (optional d) x) f [] false h = (omega arith, at_most-unless (assoc_above sig f) 0 (λ _. omega arith))
+  within (wild_pattern (optional d) x) f (t ∷ l) false h = let k = some_contributor f (t ∷ l) (and_parts _ _ h).0 in (omega arith, at_most-unless (assoc_above sig f) (length (t ∷ l)) k.1)
 
   -- the number of terms is within the bounds of the children
   pub record IsWithin (f : Option ℕ) (ps : Patterns) (n : ℕ) : Type 0 where
     pub enough : all_least ps ≤ n
-    pub room : all_short sig f ps ≡ true → n ≤ child_count ps
+    pub room : AtMost n (all_most sig f ps)
 
   pub within-tested : (f : Option ℕ) (ps : Patterns) (n : ℕ) → IsWithin f ps n ↔ (is_within sig f ps n ≡ true)
   within-tested f ps n = (
-    λ h. tested (all_short sig f ps) (all_least ps) (child_count ps) n h.enough h.room,
-    λ h. let k = from_tested (all_short sig f ps) (all_least ps) (child_count ps) n h in record { enough = k.0; room = k.1 },
+    λ h. tested (all_least ps) (all_most sig f ps) n h.enough h.room,
+    λ h. let k = from_tested (all_least ps) (all_most sig f ps) n h in record { enough = k.0; room = k.1 },
   )
 
   -- the lengths of a node's choices are those that it can take and that leave the later children what they can take
-  pub in-lengths : (f : Option ℕ) (p : Pattern) (ps : Patterns) (l m n : ℕ) → (least p ≤ l) × (is_short sig f p ≡ true → l ≤ 1) → l + m ≡ n → In l (lengths sig f p ps n) ↔ (is_within sig f ps m ≡ true)
+  pub in-lengths : (f : Option ℕ) (p : Pattern) (ps : Patterns) (l m n : ℕ) → (least p ≤ l) × AtMost l (most sig f p) → l + m ≡ n → In l (lengths sig f p ps n) ↔ (is_within sig f ps m ≡ true)
   in-lengths f p ps l m n w e =
       let a : ℕ = fewest sig f p ps n in
-      let z : ℕ = too_many sig f p ps n in (
+      let z : ℕ = length_limit sig f p ps n in (
         λ h.
             let k = from_in-range_with_len l a (z - a) h in
             (within-tested f ps m).0 (record {
-              enough = enough-too_many (is_short sig f p) l m n (all_least ps) e (omega (arith, k.0, k.1));
-              room = λ s. room-fewest (all_short sig f ps) (least p) (child_count ps) l m n e s k.0;
+              enough = enough-limit (most sig f p) l m n (all_least ps) e (omega (arith, k.0, k.1));
+              room = room-fewest (all_most sig f ps) (least p) l m n e k.0;
             }),
         λ h.
             let k = (within-tested f ps m).1 h in
-            let low : a ≤ l = fewest-least (all_short sig f ps) (least p) (child_count ps) l m n e w.0 k.room in
-            let high : l < z = too_many-more (is_short sig f p) l m n (all_least ps) e w.1 k.enough in
+            let low : a ≤ l = fewest-least (all_most sig f ps) (least p) l m n e w.0 k.room in
+            let high : l < z = limit-more (most sig f p) l m n (all_least ps) e w.1 k.enough in
             in-range_with_len l a (z - a) low (omega (arith, low, high)),
       )
 
@@ -145,5 +162,5 @@ module _ (sig : Sig) where
       → choices_within sig (child p f fs) ≡ filter (reads sig p f.under) (entries (pieces_among tree_cmp (comm_above sig f.under) (lengths sig f.under p f.children (length f.left)) f.left))
   choices_within-lengths p f fs =
       let n : ℕ = length f.left in
-      choices_within-by_lengths p f fs (lengths sig f.under p f.children n) (ascending-range_with_len (fewest sig f.under p f.children n) (too_many sig f.under p f.children n - fewest sig f.under p f.children n))
+      choices_within-by_lengths p f fs (lengths sig f.under p f.children n) (ascending-range_with_len (fewest sig f.under p f.children n) (length_limit sig f.under p f.children n - fewest sig f.under p f.children n))
       (λ e r m q. in-lengths f.under p f.children (length e.terms) m n (within p f.under e.terms e.collapsed r) q)

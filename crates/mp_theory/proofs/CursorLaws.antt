@@ -6,7 +6,7 @@ use Rattle.mp_pattern.specs.Value.{Subst}
 use Rattle.mp_pattern.specs.Fits.{Entry}
 use Rattle.mp_theory.specs.Solve.{solve}
 use Rattle.mp_theory.specs.Frames.{Next}
-use Rattle.mp_theory.specs.Search.{In}
+use Rattle.mp_term.specs.Search.{In}
 use Rattle.mp_theory.specs.Machine.{is_ended, onward, said, choices}
 use Rattle.mp_theory.specs.Trail.{solutions}
 use Rattle.mp_theory.specs.Cursor.{Level, branch, to_come}

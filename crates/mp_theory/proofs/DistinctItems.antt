@@ -14,7 +14,7 @@ use Rattle.mp_pattern.specs.Size.{pattern_nodes}
 use Rattle.mp_pattern.specs.Fits.{Table, Fits}
 use Rattle.mp_pattern.specs.DerivationOrder.{table_cmp}
 use Rattle.mp_pattern.specs.Instance.{is_fully_named}
-use Rattle.mp_theory.specs.Search.{In}
+use Rattle.mp_term.specs.Search.{In}
 use Rattle.mp_theory.specs.NoOptional.{HasNoOptional}
 use Rattle.mp_theory.specs.Frames.{settle, start}
 use Rattle.mp_theory.specs.Machine.{tables}

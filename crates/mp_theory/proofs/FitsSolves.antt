@@ -17,8 +17,8 @@ use Rattle.mp_pattern.proofs.NameLaws.{same_name-is, same_name-itself}
 use Rattle.mp_theory.specs.Solve.{Taken, solve}
 use Rattle.mp_theory.specs.Frames.{Next, ended, refused, child, settle, start}
 use Rattle.mp_theory.proofs.Agenda.{run-takes, takes-run}
-use Rattle.mp_theory.specs.Search.{In, Accepts}
-use Rattle.mp_theory.specs.Pieces.{is_piece}
+use Rattle.mp_term.specs.Search.{In, Accepts}
+use Rattle.mp_term.specs.Pieces.{is_piece}
 use Rattle.mp_theory.specs.Machine.{is_ended, onward, said, takes, reads, choices, HasShape}
 use Rattle.mp_theory.proofs.SolveLaws.{Obeys}
 use Rattle.mp_theory.proofs.Wildcards.{final-passes, given-final}

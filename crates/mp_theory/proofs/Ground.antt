@@ -11,7 +11,7 @@ use Rattle.mp_pattern.specs.Fits.{Entry, Table, joined, some_left_out, arranged,
 use Rattle.mp_theory.specs.Solve.{Taken}
 use Rattle.mp_theory.specs.Frames.{Frame, child}
 use Rattle.mp_theory.proofs.Agenda.{backward}
-use Rattle.mp_theory.specs.Search.{Accepts}
+use Rattle.mp_term.specs.Search.{Accepts}
 use Rattle.mp_theory.specs.Machine.{is_ended, onward, takes, choices}
 use Rattle.mp_theory.specs.Bounds.{ground_tree, ground_trees}
 use Rattle.mp_theory.proofs.Walk.{IsFineAt, at_run, walked}

@@ -1,8 +1,6 @@
 pub mod Agenda
 pub mod Merging
 pub mod SolveLaws
-pub mod SearchLaws
-pub mod PiecesLaws
 pub mod Cuts
 pub mod Wildcards
 pub mod Walk

@@ -4,11 +4,12 @@ use Rattle.std.specs.Prelude.{None, Some, codes}
 use Rattle.mp_term.specs.Order.{tree_cmp}
 use Rattle.mp_term.specs.Tree.{Tree, symbol}
 use Rattle.mp_pattern.specs.PatternTree.{dot, kind, plus, star, optional, Pattern, wild_pattern}
-use Rattle.mp_pattern.specs.CondTree.{var, fixed, count, size, gt, ge, Cond, amounts, same, free, negation, all_of, conds}
+use Rattle.mp_pattern.specs.CondTree.{var, fixed, count, size, Cond, amounts, same, free, negation, all_of, conds}
+use Rattle.mp_pattern.specs.declared.condition.Sense.TheVariants.{Gt, Ge}
 use Rattle.mp_pattern.specs.Value.{one, seq, bag}
 use Rattle.mp_pattern.specs.Admission.{Rule}
 use Rattle.mp_pattern.proofs.ExampleWords.{sig, f, set, list, sum, product, num, v, term, pattern, a, b, c, d, nought, x_, y_, z_, unnamed, x→, y→, z→, entry, collapsed_entry}
-use Rattle.mp_theory.specs.Pieces.{sub_bags}
+use Rattle.mp_term.specs.Pieces.{sub_bags}
 use Rattle.mp_theory.specs.OneList.{one_list}
 use Rattle.mp_theory.specs.Trail.{fitted}
 
@@ -121,11 +122,11 @@ like_terms = refl
 -- CONDITIONS
 
 -- set(x__, y___) if count($x) >= 2 on set(a, a)
-condition_cuts_the_list : one_list sig (guarded (pattern set (x_ plus ∷ y_ star ∷ [])) (amounts (count (var (codes "x"))) ge (fixed 2))) (term set (a ∷ a ∷ [])) ≡ (x→ (bag (a ∷ a ∷ [])) ∷ y→ (bag []) ∷ []) ∷ []
+condition_cuts_the_list : one_list sig (guarded (pattern set (x_ plus ∷ y_ star ∷ [])) (amounts (count (var (codes "x"))) Ge (fixed 2))) (term set (a ∷ a ∷ [])) ≡ (x→ (bag (a ∷ a ∷ [])) ∷ y→ (bag []) ∷ []) ∷ []
 condition_cuts_the_list = refl
 
 -- f(x__, y__) if free($x, $y) and not size($x) > 1 on f(a, b, c)
-condition_on_nodes : one_list sig (guarded (pattern f (x_ plus ∷ y_ plus ∷ [])) (all_of (conds (free (var (codes "x")) (var (codes "y")) ∷ negation (amounts (size (var (codes "x"))) gt (fixed 1)) ∷ [])))) (term f (a ∷ b ∷ c ∷ []))
+condition_on_nodes : one_list sig (guarded (pattern f (x_ plus ∷ y_ plus ∷ [])) (all_of (conds (free (var (codes "x")) (var (codes "y")) ∷ negation (amounts (size (var (codes "x"))) Gt (fixed 1)) ∷ [])))) (term f (a ∷ b ∷ c ∷ []))
     ≡ (x→ (seq (a ∷ [])) ∷ y→ (seq (b ∷ c ∷ [])) ∷ []) ∷ []
 condition_on_nodes = refl
 

@@ -23,10 +23,10 @@ use Rattle.mp_pattern.proofs.NameLaws.{same_name-is, same_name-itself}
 use Rattle.mp_theory.specs.Solve.{solve}
 use Rattle.mp_theory.specs.Frames.{settle, start}
 use Rattle.mp_theory.proofs.Merging.{same_terms-sound, same_terms-complete}
-use Rattle.mp_theory.specs.Search.{In}
+use Rattle.mp_term.specs.Search.{In}
 use Rattle.mp_theory.specs.Machine.{takes, tables}
 use Rattle.mp_theory.specs.OneList.{Item, same_value, same_subst, admitted, one_list, item_tables, item_substs, item_list, AreItems}
-use Rattle.mp_theory.proofs.PiecesLaws.{same-sound, same-itself}
+use Rattle.mp_term.proofs.PiecesLaws.{same-sound, same-itself}
 use Rattle.mp_theory.proofs.Tables.{tables-exact, tables-ascending, shape-accounts, entry_cmp_total}
 use Rattle.mp_theory.proofs.Solving.{then_some}
 use Rattle.mp_theory.proofs.FitsSolves.{fits-solves, solves-fits}

@@ -16,21 +16,21 @@ use Rattle.mp_pattern.specs.Fits.{Entry, Table, WildTakes}
 use Rattle.mp_theory.specs.Solve.{bind, given, sequence, solve}
 use Rattle.mp_theory.proofs.Merging.{Refines, IsArranged, from_if, mapped, same_terms-sound}
 use Rattle.mp_theory.specs.Frames.{Frame, Next, ended, refused, child, is_done, settle}
-use Rattle.mp_theory.specs.Search.{In, words, Accepts}
-use Rattle.mp_theory.specs.Pieces.{without}
+use Rattle.mp_term.specs.Search.{In, words, Accepts}
+use Rattle.mp_term.specs.Pieces.{without}
 use Rattle.mp_theory.specs.Machine.{is_ended, entered, taken_out, onward, takes, choices, said}
 use Rattle.mp_theory.specs.Trail.{listed_by, solutions, derivations, derivations_by}
 use Rattle.mp_theory.specs.Cursor.{branch}
-use Rattle.mp_theory.specs.Bounds.{least, is_short, all_least, child_count, all_short}
+use Rattle.mp_theory.specs.Bounds.{least, most, all_least, all_most}
 use Rattle.mp_theory.specs.Within.{leaves_within, choices_within}
-use Rattle.mp_theory.proofs.SearchLaws.{words-sound}
-use Rattle.mp_theory.proofs.PiecesLaws.{length-without, sublist-from_piece}
+use Rattle.mp_term.proofs.SearchLaws.{words-sound}
+use Rattle.mp_term.proofs.PiecesLaws.{length-without, sublist-from_piece}
 use Rattle.mp_theory.proofs.Walk.{choices-exact}
 use Rattle.mp_theory.proofs.TrailLaws.{solutions-is, derivations-is}
 use Rattle.mp_theory.proofs.Cuts.{put}
 use Rattle.mp_theory.proofs.Wildcards.{contributor-contributes, takes-given}
 use Rattle.mp_theory.proofs.Solving.{then_some}
-use Rattle.mp_theory.proofs.Bounds.{IsWithin, within, within-tested}
+use Rattle.mp_theory.proofs.Bounds.{AtMost, at_most-sum, IsWithin, within, within-tested}
 use Rattle.mp_theory.proofs.CursorLaws.{pruned}
 
 -- a list without members
@@ -51,7 +51,7 @@ module _ (sig : Sig) where
 
   -- frames that settle are within their bounds
   done_within : (f : Option ℕ) (ts : List Tree) (b : Bool) → is_done ts b ≡ true → IsWithin sig f no_patterns (length ts)
-  done_within f [] b e = record { enough = omega arith; room = λ _. omega arith }
+  done_within f [] b e = record { enough = omega arith; room = omega arith }
   done_within f (t ∷ ts) b e = cc
 
   within_settled : (fs : List Frame) → WithinAt (settle fs) → AllByRecursion FrameIsWithin fs
@@ -66,18 +66,11 @@ module _ (sig : Sig) where
       ] h
 
   -- one child more
-  one_more : (p : Pattern) (f : Option ℕ) (ps : Patterns) (l rest n : ℕ) → l + rest ≡ n → (least p ≤ l) × (is_short sig f p ≡ true → l ≤ 1) → IsWithin sig f ps rest → IsWithin sig f (more_patterns p ps) n
+  one_more : (p : Pattern) (f : Option ℕ) (ps : Patterns) (l rest n : ℕ) → l + rest ≡ n → (least p ≤ l) × AtMost l (most sig f p) → IsWithin sig f ps rest → IsWithin sig f (more_patterns p ps) n
   one_more p f ps l rest n e w h =
       let enough : all_least ps ≤ rest = h.enough in
       let least_taken : least p ≤ l = w.0 in
-      record {
-        enough = omega arith;
-        room = λ s.
-            let k = and_parts (is_short sig f p) (all_short sig f ps) s in
-            let a : l ≤ 1 = w.1 k.0 in
-            let b : rest ≤ child_count ps = h.room k.1 in
-            omega arith;
-      }
+      record { enough = omega arith; room = at_most-sum (most sig f p) (all_most sig f ps) l rest n e w.1 h.room }
 
   -- behind an entry the frame that it was taken from is within its bounds
   within_entered : (p : Pattern) (e : Entry) (f : Frame) (fs : List Frame) → AllByRecursion FrameIsWithin (entered p e (taken_out p e f ∷ fs)) → FrameIsWithin (taken_out p e f) × AllByRecursion FrameIsWithin fs

@@ -14,10 +14,10 @@ use Rattle.mp_term.specs.Sorting.{sorted}
 use Rattle.mp_term.proofs.Sorting.{sorted-append_sorted}
 use Rattle.mp_term.proofs.ListingLaws.{all_in}
 use Rattle.mp_theory.proofs.Merging.{sorted-sorted}
-use Rattle.mp_theory.specs.Search.{In}
-use Rattle.mp_theory.specs.Pieces.{count_to, same, insert_new, distinct, after, first, pieces_of, pieces, sub_bags}
-use Rattle.mp_theory.proofs.SearchLaws.{flat_map-same}
-use Rattle.mp_theory.proofs.PiecesLaws.{pieces-exact}
+use Rattle.mp_term.specs.Search.{In}
+use Rattle.mp_term.specs.Pieces.{count_to, same, insert_new, distinct, after, first, pieces_of, pieces, sub_bags}
+use Rattle.mp_term.proofs.SearchLaws.{flat_map-same}
+use Rattle.mp_term.proofs.PiecesLaws.{pieces-exact}
 use Rattle.mp_theory.proofs.Cuts.{piece-from_apart, apart-from_piece}
 
 -- l in order and some further terms make up ts

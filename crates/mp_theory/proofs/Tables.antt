@@ -17,11 +17,11 @@ use Rattle.mp_pattern.specs.Variables.{Use, uses, all_uses, comm_above}
 use Rattle.mp_pattern.specs.Fits.{Table}
 use Rattle.mp_pattern.specs.DerivationOrder.{entry_cmp, table_cmp}
 use Rattle.mp_theory.specs.Frames.{Frame, Next, ended, refused, child, is_done, settle, start}
-use Rattle.mp_theory.specs.Search.{In, words, Accepts}
-use Rattle.mp_theory.specs.Pieces.{pieces}
+use Rattle.mp_term.specs.Search.{In, words, Accepts}
+use Rattle.mp_term.specs.Pieces.{pieces}
 use Rattle.mp_theory.specs.Machine.{entries, is_ended, entered, taken_out, onward, takes, reads, choices, HasShape, tables}
-use Rattle.mp_theory.proofs.SearchLaws.{ascending-flat, words-complete, words-sound, words-ascending}
-use Rattle.mp_theory.proofs.PiecesLaws.{pieces-ascending}
+use Rattle.mp_term.proofs.SearchLaws.{ascending-flat, words-complete, words-sound, words-ascending}
+use Rattle.mp_term.proofs.PiecesLaws.{pieces-ascending}
 
 -- the derivation order is total on entries
 pub entry_cmp_total : IsTotalOrder entry_cmp

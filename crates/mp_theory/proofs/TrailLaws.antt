@@ -17,12 +17,12 @@ use Rattle.mp_pattern.specs.Admission.{Rule, meets}
 use Rattle.mp_pattern.specs.Firsts.{firsts_after}
 use Rattle.mp_theory.specs.Solve.{Taken, given, bind, solve}
 use Rattle.mp_theory.specs.Frames.{Next, ended, refused, child, settle, start}
-use Rattle.mp_theory.specs.Search.{In, words, Accepts}
-use Rattle.mp_theory.specs.Pieces.{is_piece}
+use Rattle.mp_term.specs.Search.{In, words, Accepts}
+use Rattle.mp_term.specs.Pieces.{is_piece}
 use Rattle.mp_theory.specs.Machine.{is_ended, onward, said, takes, reads, choices, tables}
 use Rattle.mp_theory.specs.OneList.{Item, same_subst, same_item, one_list, item_list}
 use Rattle.mp_theory.specs.Trail.{listed_by, solutions, derivations, allows, has_shape, fitted}
-use Rattle.mp_theory.proofs.SearchLaws.{flat_map-same}
+use Rattle.mp_term.proofs.SearchLaws.{flat_map-same}
 use Rattle.mp_theory.proofs.Merging.{mapped}
 use Rattle.mp_theory.proofs.Walk.{choices-exact}
 use Rattle.mp_theory.proofs.Tables.{tables-exact}

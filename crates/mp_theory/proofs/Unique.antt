@@ -16,7 +16,7 @@ use Rattle.mp_pattern.specs.DerivationOrder.{entry_cmp, table_cmp}
 use Rattle.mp_pattern.specs.Admission.{Rule, IsLeast, AreLeast}
 use Rattle.mp_pattern.specs.Lists.{IsOneList}
 use Rattle.mp_theory.proofs.Merging.{same_terms-sound}
-use Rattle.mp_theory.specs.Search.{In}
+use Rattle.mp_term.specs.Search.{In}
 use Rattle.mp_theory.proofs.Tables.{entry_cmp_total}
 use Rattle.mp_theory.proofs.FitsSolves.{fits-solves}
 

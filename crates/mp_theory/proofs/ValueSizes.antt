@@ -17,7 +17,7 @@ use Rattle.mp_pattern.specs.Contribution.{contribution, spread, if_several}
 use Rattle.mp_pattern.specs.EachWildcard.{AllEachWildcard}
 use Rattle.mp_pattern.specs.Limits.{DefaultIsSmall, DefaultsAreSmall}
 use Rattle.mp_pattern.specs.Fits.{Table, joined, arranged, ByValue, WildTakes, TakesBy, AllTakeBy, Fits}
-use Rattle.mp_theory.specs.Search.{In}
+use Rattle.mp_term.specs.Search.{In}
 use Rattle.mp_theory.specs.ValueSizes.{HasAtMost, HaveAtMost}
 use Rattle.mp_theory.proofs.FirstsLaws.{from_in-firsts_after}
 use Rattle.mp_theory.proofs.Solving.{names, IsFound, found-IsSubstOf}

@@ -19,11 +19,11 @@ use Rattle.mp_theory.specs.Frames.{Frame, Next, ended, refused, child, is_done, 
 use Rattle.mp_theory.proofs.Agenda.{Step, Run, IsCut}
 use Rattle.mp_theory.proofs.Merging.{same_terms-sound, same_terms-complete}
 use Rattle.mp_theory.proofs.SolveLaws.{Obeys}
-use Rattle.mp_theory.specs.Search.{In, Accepts}
-use Rattle.mp_theory.specs.Pieces.{without, pieces, is_piece}
+use Rattle.mp_term.specs.Search.{In, Accepts}
+use Rattle.mp_term.specs.Pieces.{without, pieces, is_piece}
 use Rattle.mp_theory.specs.Machine.{entries, default_passes, is_ended, entered, taken_out, onward, said, takes, reads, choices}
-use Rattle.mp_theory.proofs.SearchLaws.{in-flat, from_in-flat, in-filter, from_in-filter}
-use Rattle.mp_theory.proofs.PiecesLaws.{sublist-from_piece, length-without, all-piece, all-without, pieces-exact}
+use Rattle.mp_term.proofs.SearchLaws.{in-flat, from_in-flat, in-filter, from_in-filter}
+use Rattle.mp_term.proofs.PiecesLaws.{sublist-from_piece, length-without, all-piece, all-without, pieces-exact}
 use Rattle.mp_theory.proofs.Cuts.{put, piece-from_apart, apart-from_piece}
 use Rattle.mp_theory.proofs.Wildcards.{put-single, arguments-in_order, Gives, gives, takes-given, IsFine, taken-passes, unnamed-gives, unnamed-takes}
 

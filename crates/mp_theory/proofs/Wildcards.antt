@@ -1,5 +1,5 @@
 -- A wildcard takes a list at a final value of its variable exactly where the list gives a value that the final one agrees with.
-use Rattle.std.proofs.Common.{◌≡◌, ℕ, ◌≤◌, List, [], ◌∷◌, Bool, true, false, ◌&&◌, not, refl, ap, sym, ◌∙◌, subst, length, ◌⊎◌, inl, inr, eqb-true, eq-eqb, arith}
+use Rattle.std.proofs.Common.{◌≡◌, ℕ, ◌<◌, ◌≤◌, List, [], ◌∷◌, Bool, true, false, ◌&&◌, not, refl, ap, sym, ◌∙◌, subst, length, ◌⊎◌, inl, inr, eqb-true, eq-eqb, arith}
 use Rattle.std.specs.Prelude.{Option, Some, None, is_some, if◌then◌else◌, nat_eq}
 use Rattle.std.specs.List.{AllByRecursion}
 use Rattle.std.proofs.lemmas.Bool.{and_parts, and_from, not-true, not-false}
@@ -36,6 +36,16 @@ pub if_several-some : (us l : List Tree) → if_several us ≡ Some l → us ≡
 if_several-some [] l p = cc
 if_several-some (u ∷ []) l p = cc
 if_several-some (u ∷ w ∷ us) l p = cc
+
+pub if_several-few : (l : List Tree) → length l < 2 → if_several l ≡ None
+if_several-few [] h = refl
+if_several-few (t ∷ []) h = refl
+if_several-few (t ∷ u ∷ l) h = absurd (omega arith)
+
+pub if_several-more : (l : List Tree) → 2 ≤ length l → if_several l ≡ Some l
+if_several-more [] h = absurd (omega arith)
+if_several-more (t ∷ []) h = absurd (omega arith)
+if_several-more (t ∷ u ∷ l) h = refl
 
 -- lists of one term or none are in order, and so is what was put in order
 pub put-single : (b : Bool) (t : Tree) → put b (t ∷ []) ≡ t ∷ []

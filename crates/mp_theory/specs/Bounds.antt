@@ -1,15 +1,30 @@
 -- How many terms a node may take.
-use Rattle.std.specs.Prelude.{List, [], ◌∷◌, ℕ, ◌+◌, Bool, true, false, not, ◌&&◌, Option, Some, None}
+use Rattle.std.specs.Prelude.{List, [], ◌∷◌, ℕ, ◌+◌, nat_lt, Bool, true, false, not, Option, Some, None}
 use Rattle.mp_term.specs.Tree.{Tree, symbol, app, trees}
 use Rattle.mp_term.specs.Signature.{Sig, is_assoc}
-use Rattle.mp_pattern.specs.PatternTree.{dot, plus, star, optional, Pattern, symbol_pattern, app_pattern, wild_pattern, Patterns, no_patterns, more_patterns}
+use Rattle.mp_pattern.specs.PatternTree as plain
+use Rattle.mp_pattern.specs.PatternTree.{Pattern, symbol_pattern, app_pattern, wild_pattern, Patterns, no_patterns, more_patterns}
 use Rattle.mp_pattern.specs.Fits.{arranged}
 
 -- the least number of terms that a node takes
 abbrev pub least : Pattern → ℕ
-least (wild_pattern star x) = 0
-least (wild_pattern (optional d) x) = 0
+least (wild_pattern w x) = plain.least w
 least p = 1
+
+-- the least number of terms that the children take together
+abbrev pub all_least : Patterns → ℕ
+all_least no_patterns = 0
+all_least (more_patterns p ps) = least p + all_least ps
+
+-- the sum of two bounds, if both are there
+abbrev pub sum_of : Option ℕ → Option ℕ → Option ℕ
+sum_of (Some m) (Some n) = Some (m + n)
+sum_of _ _ = None
+
+-- n is within the bound, if there is one
+abbrev pub is_at_most : ℕ → Option ℕ → Bool
+is_at_most n None = true
+is_at_most n (Some m) = not (nat_lt m n)
 
 module _ (sig : Sig) where
   -- the operation above is associative; at the root there is none
@@ -17,28 +32,15 @@ module _ (sig : Sig) where
   assoc_above None = false
   assoc_above (Some f) = is_assoc sig f
 
-  -- the node takes at most one term
-  abbrev pub is_short : Option ℕ → Pattern → Bool
-  is_short f (wild_pattern plus x) = false
-  is_short f (wild_pattern star x) = false
-  is_short f (wild_pattern dot x) = not (assoc_above f)
-  is_short f (wild_pattern (optional d) x) = not (assoc_above f)
-  is_short f p = true
+  -- the greatest number of terms that a node under f takes, if there is a bound
+  abbrev pub most : Option ℕ → Pattern → Option ℕ
+  most f (wild_pattern w x) = plain.most (assoc_above f) w
+  most f p = Some 1
 
--- the least number of terms that the children take together
-abbrev pub all_least : Patterns → ℕ
-all_least no_patterns = 0
-all_least (more_patterns p ps) = least p + all_least ps
-
--- how many children there are
-abbrev pub child_count : Patterns → ℕ
-child_count no_patterns = 0
-child_count (more_patterns p ps) = 1 + child_count ps
-
--- each child takes one term at most
-abbrev pub all_short : Sig → Option ℕ → Patterns → Bool
-all_short sig f no_patterns = true
-all_short sig f (more_patterns p ps) = is_short sig f p && all_short sig f ps
+  -- the greatest number of terms that the children take together
+  abbrev pub all_most : Option ℕ → Patterns → Option ℕ
+  all_most f no_patterns = Some 0
+  all_most f (more_patterns p ps) = sum_of (most f p) (all_most f ps)
 
 abbrev mutual
   -- the term that a pattern without wildcards stands for

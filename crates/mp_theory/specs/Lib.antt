@@ -1,5 +1,3 @@
-pub mod Search
-pub mod Pieces
 pub mod Frames
 pub mod Solve
 pub mod Machine

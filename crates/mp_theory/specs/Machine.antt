@@ -11,8 +11,8 @@ use Rattle.mp_pattern.specs.Variables.{comm_above}
 use Rattle.mp_pattern.specs.Fits.{Entry, Table, is_left_out, no_sequence}
 use Rattle.mp_theory.specs.Solve.{Taken, given}
 use Rattle.mp_theory.specs.Frames.{Frame, Next, ended, refused, child, settle, start}
-use Rattle.mp_theory.specs.Search.{words, Accepts}
-use Rattle.mp_theory.specs.Pieces.{without, pieces}
+use Rattle.mp_term.specs.Search.{words, Accepts}
+use Rattle.mp_term.specs.Pieces.{without, pieces}
 
 -- both entries with each list, by arguments before collapsed
 abbrev pub entries : List (List Tree) → List Entry

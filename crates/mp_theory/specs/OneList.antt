@@ -11,7 +11,7 @@ use Rattle.mp_pattern.specs.Admission.{Rule, meets, Admits, AreLeast}
 use Rattle.mp_pattern.specs.Firsts.{firsts_after}
 use Rattle.mp_theory.specs.Solve.{solve}
 use Rattle.mp_theory.specs.Frames.{settle, start}
-use Rattle.mp_theory.specs.Pieces.{same}
+use Rattle.mp_term.specs.Pieces.{same}
 use Rattle.mp_theory.specs.Machine.{takes, tables}
 
 -- the values are equal

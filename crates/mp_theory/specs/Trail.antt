@@ -9,7 +9,7 @@ use Rattle.mp_pattern.specs.Variables.{comm_above}
 use Rattle.mp_pattern.specs.Fits.{Entry, Table}
 use Rattle.mp_theory.specs.Solve.{solve}
 use Rattle.mp_theory.specs.Frames.{Next, child, settle, start}
-use Rattle.mp_theory.specs.Pieces.{is_piece}
+use Rattle.mp_term.specs.Pieces.{is_piece}
 use Rattle.mp_theory.specs.Machine.{is_ended, onward, said, takes, reads, choices}
 use Rattle.mp_theory.specs.OneList.{Item}
 

@@ -1,19 +1,19 @@
 -- The choices that leave the later children what they can take.
-use Rattle.std.specs.Prelude.{ℕ, ◌+◌, ◌-◌, min, max, nat_lt, Bool, ◌&&◌, not, List, [], length, filter, Option, if◌then◌else◌}
+use Rattle.std.specs.Prelude.{ℕ, ◌+◌, ◌-◌, min, max, nat_lt, Bool, ◌&&◌, not, List, [], length, filter, Option, Some, None}
 use Rattle.std.specs.List.{range_with_len}
 use Rattle.mp_term.specs.Order.{tree_cmp}
 use Rattle.mp_term.specs.Signature.{Sig}
 use Rattle.mp_pattern.specs.PatternTree.{Pattern, Patterns}
 use Rattle.mp_pattern.specs.Fits.{Entry}
 use Rattle.mp_theory.specs.Frames.{Frame, Next, child}
-use Rattle.mp_theory.specs.Pieces.{without}
+use Rattle.mp_term.specs.Pieces.{without}
 use Rattle.mp_theory.specs.Machine.{choices}
-use Rattle.mp_theory.specs.Bounds.{least, is_short, all_least, child_count, all_short}
+use Rattle.mp_theory.specs.Bounds.{least, most, all_least, all_most, is_at_most}
 
 module _ (sig : Sig) where
-  -- n terms are enough for the children, and not too many where each of them takes one at most
+  -- n terms are enough for the children, and not too many
   abbrev pub is_within : Option ℕ → Patterns → ℕ → Bool
-  is_within f ps n = not (nat_lt n (all_least ps)) && not (all_short sig f ps && nat_lt (child_count ps) n)
+  is_within f ps n = not (nat_lt n (all_least ps)) && is_at_most n (all_most sig f ps)
 
   -- so it is with what the entry leaves to the later children
   abbrev pub leaves_within : Frame → Entry → Bool
@@ -26,12 +26,12 @@ module _ (sig : Sig) where
 
   -- the least number of n terms that the child may take, with the others behind it
   abbrev pub fewest : Option ℕ → Pattern → Patterns → ℕ → ℕ
-  fewest f p ps n = if all_short sig f ps then max (least p) (n - child_count ps) else least p
+  fewest f p ps n = elim (all_most sig f ps) [ None ↦ least p | Some m ↦ max (least p) (n - m) ]
 
-  -- the least number that is too great
-  abbrev pub too_many : Option ℕ → Pattern → Patterns → ℕ → ℕ
-  too_many f p ps n = if is_short sig f p then min 2 (n + 1 - all_least ps) else n + 1 - all_least ps
+  -- the first number that is too great
+  abbrev pub length_limit : Option ℕ → Pattern → Patterns → ℕ → ℕ
+  length_limit f p ps n = elim (most sig f p) [ None ↦ n + 1 - all_least ps | Some m ↦ min (n + 1 - all_least ps) (m + 1) ]
 
   -- the numbers of terms that the child may take
   abbrev pub lengths : Option ℕ → Pattern → Patterns → ℕ → List ℕ
-  lengths f p ps n = range_with_len (fewest f p ps n) (too_many f p ps n - fewest f p ps n)
+  lengths f p ps n = range_with_len (fewest f p ps n) (length_limit f p ps n - fewest f p ps n)

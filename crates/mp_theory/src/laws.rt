@@ -16,7 +16,7 @@ ghost use Rattle.mp_pattern.specs.DerivationOrder.{table_cmp};
 ghost use Rattle.mp_pattern.specs.Instance.{is_fully_named, IsPatternApplied};
 ghost use Rattle.mp_pattern.specs.Admission.{Rule};
 ghost use Rattle.mp_pattern.specs.Lists.{Pair, IsOneList, IsAllList};
-ghost use Rattle.mp_theory.specs.Search.{In};
+ghost use Rattle.mp_term.specs.Search.{In};
 ghost use Rattle.mp_theory.specs.Machine.{HasShape, tables};
 ghost use Rattle.mp_theory.specs.NoOptional.{HasNoOptional};
 ghost use Rattle.mp_theory.specs.OneList.{AreItems, Item, item_list, item_substs, one_list};

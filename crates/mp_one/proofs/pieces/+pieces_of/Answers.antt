@@ -3,7 +3,7 @@ use Rattle.std.specs.Prelude.{flat_map}
 use Rattle.std.proofs.Math.ListN.{length-map}
 use Rattle.mp_term.specs.View.{tree}
 use Rattle.mp_term.specs.Order.{tree_cmp}
-use Rattle.mp_theory.specs.Pieces as pieces
+use Rattle.mp_term.specs.Pieces as pieces
 use Rattle.mp_one.specs.Lists.{trees_of, lists_of}
 use Rattle.mp_one.proofs.PieceSteps.{begun, pieces_of-longer, flat_map-step, flat_map-end, pieces_of-short, pieces_of-whole}
 use Rattle.mp_one.proofs.pieces.+pieces_of.Goals as goal

@@ -1,7 +1,7 @@
 use Rattle.std.proofs.Common.{◌≡◌, drop}
 use Rattle.mp_term.specs.View.{tree}
 use Rattle.mp_term.specs.Order.{tree_cmp}
-use Rattle.mp_theory.specs.Pieces as pieces
+use Rattle.mp_term.specs.Pieces as pieces
 use Rattle.mp_one.specs.Lists.{trees_of}
 use Rattle.mp_one.proofs.pieces.after.Given as goal
 

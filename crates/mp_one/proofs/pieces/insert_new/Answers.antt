@@ -1,9 +1,9 @@
 use Rattle.std.proofs.Common.{◌≡◌, ◌++◌, ◌∷◌, sym, ap, subst, ◌∙◌, take, drop}
 use Rattle.mp_term.specs.View.{tree}
 use Rattle.mp_term.specs.Order.{tree_cmp}
-use Rattle.mp_theory.specs.Pieces.{insert_new}
+use Rattle.mp_term.specs.Pieces.{insert_new}
 use Rattle.mp_one.specs.Lists.{trees_of}
-use Rattle.mp_one.proofs.ListLaws.{map-insert}
+use Rattle.mp_term.proofs.ListLaws.{map-insert}
 use Rattle.mp_one.proofs.pieces.insert_new.Goals as goal
 
 pub returns-in-Ok : goal.returns-in-Ok

@@ -1,6 +1,6 @@
 use Rattle.std.proofs.Common.{◌≡◌, drop}
 use Rattle.mp_term.specs.Order.{tree_cmp}
-use Rattle.mp_theory.specs.Pieces as pieces
+use Rattle.mp_term.specs.Pieces as pieces
 use Rattle.mp_one.specs.Lists.{trees_of}
 use Rattle.mp_one.proofs.pieces.is_prefix.Given as goal
 

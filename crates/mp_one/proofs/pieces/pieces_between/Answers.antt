@@ -1,7 +1,7 @@
 use Rattle.std.proofs.Common.{◌++◌, ap, ◌∙◌}
 use Rattle.std.proofs.lemmas.List.{map-append}
 use Rattle.mp_term.specs.Order.{tree_cmp}
-use Rattle.mp_theory.specs.Pieces.{pieces_of}
+use Rattle.mp_term.specs.Pieces.{pieces_of}
 use Rattle.mp_one.specs.Lists.{trees_of, lists_of}
 use Rattle.mp_one.proofs.PieceSteps.{flat_map-next}
 use Rattle.mp_one.proofs.pieces.pieces_between.Goals as goal

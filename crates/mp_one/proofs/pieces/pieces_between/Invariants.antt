@@ -2,7 +2,7 @@ use Rattle.std.proofs.Common.{◌≡◌, ◌++◌, ◌-◌}
 use Rattle.std.specs.Prelude.{flat_map}
 use Rattle.std.specs.List.{range_with_len}
 use Rattle.mp_term.specs.Order.{tree_cmp}
-use Rattle.mp_theory.specs.Pieces.{pieces_of}
+use Rattle.mp_term.specs.Pieces.{pieces_of}
 use Rattle.mp_one.specs.Lists.{trees_of, lists_of}
 use Rattle.mp_one.proofs.pieces.pieces_between.Given as goal
 

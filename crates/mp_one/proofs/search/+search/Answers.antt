@@ -5,18 +5,18 @@ use Rattle.mp_theory.specs.Trail.{derivations_by}
 use Rattle.mp_one.specs.Stack.{stack_frames, inner_frame, child_of, entry_of, entries_behind}
 use Rattle.mp_one.specs.Trail.{trail_of}
 use Rattle.mp_one.specs.Path.{table_of}
-use Rattle.mp_one.specs.Found.{IsReadyFor, AreReadyFor, condition_of, keep, added}
+use Rattle.mp_one.specs.Collected.{IsReadyFor, AreReadyFor, condition_of, keep, added}
 use Rattle.mp_one.proofs.WalkLaws.{derivations-ended, derivations-child, entries_left-child, collected-step, collected-end, all-flat_map_at}
 use Rattle.mp_one.proofs.search.+search.Goals as goal
 
-pub search-add_new-requires : goal.search-add_new-requires
-search-add_new-requires t c =
+pub search-collect-requires : goal.search-collect-requires
+search-collect-requires t c =
     (subst (AreReadyFor (condition_of c.args.query.now)) (derivations-ended c.args.query.now.sig.now (stack_frames c.args.stack.now) (table_of c.args.path.now) (trail_of c.args.trail.now) c.in-Ended.ensures) c.requires).0
 
 pub search-returns-in-Ended : goal.search-returns-in-Ended
 search-returns-in-Ended t c =
     let q = c.args.query.now in
-    subst (λ is. OnOk c.add_new.result (c.add_new.new.found ≡ is)) (ap (added q c.args.found.now) (sym (derivations-ended q.sig.now (stack_frames c.args.stack.now) (table_of c.args.path.now) (trail_of c.args.trail.now) c.in-Ended.ensures))) c.add_new.ensures
+    subst (λ is. OnOk c.collect.result (c.collect.new.found ≡ is)) (ap (added q c.args.found.now) (sym (derivations-ended q.sig.now (stack_frames c.args.stack.now) (table_of c.args.path.now) (trail_of c.args.trail.now) c.in-Ended.ensures))) c.collect.ensures
 
 pub search-loop-entry-preserved : goal.search-loop-entry-preserved
 search-loop-entry-preserved t c =

@@ -4,7 +4,7 @@ use Rattle.mp_theory.specs.Trail as trails
 use Rattle.mp_one.specs.Stack.{stack_frames, child_of, entry_of, entries_left, entries_behind}
 use Rattle.mp_one.specs.Trail.{trail_of}
 use Rattle.mp_one.specs.Path.{table_of}
-use Rattle.mp_one.specs.Found.{added}
+use Rattle.mp_one.specs.Collected.{added}
 use Rattle.mp_one.proofs.search.+search.Given as goal
 
 abbrev pub decreases-descend : goal.decreases-descend

@@ -6,7 +6,7 @@ use Rattle.mp_pattern.specs.Lists.{IsOneList}
 use Rattle.mp_theory.specs.OneList.{item_substs, item_list, one_list, AreItems}
 use Rattle.mp_theory.proofs.OneListLaws.{one_list-is, item_list-are, item_substs-item_list, items-shape}
 use Rattle.mp_one.specs.Items.{IsItemOf}
-use Rattle.mp_one.proofs.FoundLaws.{map-kept}
+use Rattle.mp_one.proofs.CollectedLaws.{map-kept}
 use Rattle.mp_one.proofs.ItemLaws.{IsItemOf-plan_of}
 use Rattle.mp_one.proofs.search.eager_list.Goals as goal
 use Rattle.mp_one.proofs.search.eager_list.Goals.{After-into_items}

@@ -5,7 +5,7 @@ use Rattle.mp_pattern.specs.Lists.{IsOneList}
 use Rattle.mp_subst.specs.View.{subst_of}
 use Rattle.mp_theory.specs.OneList.{item_substs, item_list, one_list}
 use Rattle.mp_theory.proofs.OneListLaws.{one_list-is, item_substs-item_list}
-use Rattle.mp_one.proofs.FoundLaws.{item_substs-kept}
+use Rattle.mp_one.proofs.CollectedLaws.{item_substs-kept}
 use Rattle.mp_one.proofs.search.eager_substs.Goals as goal
 use Rattle.mp_one.proofs.search.eager_substs.Goals.{In_ok-substs}
 

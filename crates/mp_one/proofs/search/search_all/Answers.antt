@@ -14,7 +14,7 @@ use Rattle.mp_theory.specs.OneList.{Item}
 use Rattle.mp_theory.proofs.TrailLaws.{derivations-fit}
 use Rattle.mp_theory.proofs.DistinctItems.{distinct-derivations}
 use Rattle.mp_one.specs.Stack.{frame_of}
-use Rattle.mp_one.specs.Found.{AreReadyFor, kept, collected}
+use Rattle.mp_one.specs.Collected.{AreReadyFor, kept, collected}
 use Rattle.mp_one.proofs.WalkLaws.{derivations-root, collected-item_list}
 use Rattle.mp_one.proofs.ReadyItems.{items-ready}
 use Rattle.mp_one.proofs.search.search_all.Goals as goal
