@@ -6,19 +6,14 @@ use Rattle.mp_term.specs.Signature.{Sig}
 use Rattle.mp_term.proofs.ListLaws.{drop-item}
 use Rattle.mp_pattern.specs.Admission.{Rule}
 use Rattle.mp_pattern.specs.Value.{Subst}
-use Rattle.mp_subst.specs.View.{subst_of}
-use Rattle.mp_theory.specs.OneList as one
-use Rattle.mp_one.specs.Items.{item_of}
-use Rattle.mp_one.specs.declared.item.Item.{Item}
 use Rattle.mp_text.specs.File.{Subject}
 use Rattle.mp_print.specs.Printing.{subst_text}
 use Rattle.std.specs.List.{AllByRecursion}
 use Rattle.std.specs.Io.KnownBytes.{Appends}
 use Rattle.mp_io.specs.Devices.{Rose, Text}
-use Rattle.mp_io.specs.Printing.{AppendsFront, IsCut, Prints}
-use Rattle.mp_io.proofs.Written.{Written, part_front, part_written, prints_part_cut}
+use Rattle.mp_io.specs.Printing.{AppendsFront}
+use Rattle.mp_io.proofs.Written.{Written, part_front, part_written}
 use Rattle.matchpy.specs.Printed.{PrintsMatches}
-use Rattle.matchpy.specs.Computed.{rule_lines}
 use Rattle.matchpy.specs.Matches.{has_some, match_line}
 use Rattle.matchpy.specs.declared.matches.Stop.{Stop}
 use Rattle.matchpy.specs.declared.matches.Stop.TheVariants.{Memory, CannotWrite}
@@ -39,20 +34,6 @@ module _ {A X : Type 0} (view : A → X) where
       → Written a b whole (flat_map text (map view (drop i xs))) → Appends b c (text (view x)) → Written a c whole (flat_map text (map view (drop (i + 1) xs)))
   parts_written text xs i x a b c whole h is w p =
       part_written a b c whole (text (view x)) (flat_map text (map view (drop (i + 1) xs))) (subst (Written a b whole) (flat_map-drop text xs i x h is) w) p
-
-  -- a front of the part at an index is written, and then nothing more
-  pub prints_parts_cut : {T E : Type 0} (text : X → Text) (xs : List A) (i : ℕ) (x : A) (a b c : Option Text) (m n k : ℕ) (whole : Text) (error : E) → i < length xs → x ≡ get_or xs i x
-      → Written a b whole (flat_map text (map view (drop i xs))) → m ≤ n → IsCut b c (text (view x)) → n ≤ k → Rose n k → Prints {T = T} a c m k whole (Err error)
-  prints_parts_cut text xs i x a b c m n k whole error h is w mn cut nk rose =
-      prints_part_cut a b c m n k whole (text (view x)) (flat_map text (map view (drop (i + 1) xs))) error (subst (Written a b whole) (flat_map-drop text xs i x h is) w) mn cut nk rose
-
-  -- a text with a part that isn't empty isn't empty
-  pub parts_some : (text : X → Text) (xs : List A) (i : ℕ) (x : A) (a b : Option Text) (whole : Text) → i < length xs → x ≡ get_or xs i x → 0 < length (text (view x))
-      → Written a b whole (flat_map text (map view (drop i xs))) → 0 < length whole
-  parts_some text xs i x a b whole h is long w =
-      let rest = flat_map text (map view (drop (i + 1) xs)) in
-      let same : length whole ≡ length (w.front ++ (text (view x) ++ rest)) = ap length w.split ∙ ap (λ t. length (w.front ++ t)) (flat_map-drop text xs i x h is) in
-      omega (arith, length-append w.front (text (view x) ++ rest), length-append (text (view x)) rest)
 
 -- ---- the same text
 
@@ -102,10 +83,6 @@ module _ {A X : Type 0} (view : A → X) (text : X → Text) (xs : List A) (i : 
   lists_stopped stop w mn h =
       lists_cut a b c m n k whole (text (view x)) (flat_map text (map view (drop (i + 1) xs))) stop (subst (Written a b whole) (flat_map-drop view text xs i x within is) w) mn h
 
--- the parts of the line of a match
-pub match_parts : (subject rule text : Text) → (subject ++ (32 ∷ (rule ++ 32 ∷ []))) ++ (text ++ 10 ∷ []) ≡ subject ++ (32 ∷ rule ++ (32 ∷ text ++ 10 ∷ []))
-match_parts subject rule text = simp append_assoc
-
 -- a line isn't empty
 pub match_line-some : (sig : Sig) (subject : Subject) (rule : Rule) (s : Subst) → 0 < length (match_line sig subject rule s)
 match_line-some sig subject rule s =
@@ -123,14 +100,3 @@ has_some-lines view sig subject rule (m ∷ ms) =
     let line = match_line sig subject rule (view m) in
     let rest = flat_map (match_line sig subject rule) (map view ms) in
     ap not some ∙ sym (has_some-append line rest ∙ ap (λ b. b || has_some rest) (has_some-length line (match_line-some sig subject rule (view m))))
-
--- the substitutions of items are those of their pairs
-substs-items : (items : List Item) → map (λ i. subst_of i.subst) items ≡ one.item_substs (map item_of items)
-substs-items [] = refl
-substs-items (i ∷ items) = ap (λ ss. subst_of i.subst ∷ ss) (substs-items items)
-
--- the lines of the items of a rule are its text
-pub rule_lines-items : (sig : Sig) (subject : Subject) (rule : Rule) (items : List Item) (list : List one.Item) → map item_of items ≡ list → one.item_substs list ≡ one.one_list sig rule subject.term
-    → flat_map (match_line sig subject rule) (map (λ i. subst_of i.subst) items) ≡ rule_lines sig subject rule
-rule_lines-items sig subject rule items list e is =
-    ap (flat_map (match_line sig subject rule)) (substs-items items ∙ ap one.item_substs e ∙ is)

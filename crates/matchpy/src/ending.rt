@@ -1,6 +1,7 @@
 //! How a run ends, and what is said of it.
 
 ghost use Rattle.std.specs.Prelude.{◌≡◌};
+ghost use Rattle.mp_io.specs.Moments.{sunk};
 ghost use Rattle.mp_io.specs.Printing.{Prints};
 ghost use Rattle.matchpy.specs.Endings.{line_of, status_of, told_line, told_status};
 ghost use Rattle.matchpy.specs.Messages.{fault_line, kind_text, said_at, said_of};
@@ -92,7 +93,7 @@ fn kind_text(kind: TextKind) -> &'static [u8]
 
 // Writes the line that says something of a name.
 fn say_of<E: Sink>(err: &mut E, name: &str, text: &[u8]) -> Result<(), Failed>
-    ensures { Prints (E.contents err.old) (E.contents err.new) (E.faults err.old) (E.faults err.new) (said_of name.now text.now) result }
+    ensures { Prints (sunk E.Sink err.old err.new) (said_of name.now text.now) result }
 {
     put_all(err, &[b"matchpy: ", name.as_bytes(), text, b"\n"])
 }
@@ -105,7 +106,7 @@ fn say_at<E: Sink>(
     column: &str,
     text: &[u8],
 ) -> Result<(), Failed>
-    ensures { Prints (E.contents err.old) (E.contents err.new) (E.faults err.old) (E.faults err.new) (said_at name.now line.now column.now text.now) result }
+    ensures { Prints (sunk E.Sink err.old err.new) (said_at name.now line.now column.now text.now) result }
 {
     let parts = [
         b"matchpy: ",
@@ -123,7 +124,7 @@ fn say_at<E: Sink>(
 
 // Writes the line of a fault of a file's text.
 fn say_fault<E: Sink>(err: &mut E, name: &str, fault: TextFault) -> Result<(), Failed>
-    ensures { Prints (E.contents err.old) (E.contents err.new) (E.faults err.old) (E.faults err.new) (fault_line name.now fault) result }
+    ensures { Prints (sunk E.Sink err.old err.new) (fault_line name.now fault) result }
 {
     let mut line = Buffer::new();
     let mut column = Buffer::new();
@@ -133,7 +134,7 @@ fn say_fault<E: Sink>(err: &mut E, name: &str, fault: TextFault) -> Result<(), F
 }
 
 fn say_told<E: Sink>(err: &mut E, told: Told<'_>) -> Result<(), Failed>
-    ensures { Prints (E.contents err.old) (E.contents err.new) (E.faults err.old) (E.faults err.new) (told_line told.entry) result }
+    ensures { Prints (sunk E.Sink err.old err.new) (told_line told.entry) result }
 {
     match told {
         Told::Done => Ok(()),
@@ -148,7 +149,7 @@ fn say_told<E: Sink>(err: &mut E, told: Told<'_>) -> Result<(), Failed>
 ///
 /// `Failed` comes only where the sink's count rose, and a front of the line was written then.
 pub fn say<E: Sink>(err: &mut E, ending: Ending<'_>) -> Result<(), Failed>
-    ensures { Prints (E.contents err.old) (E.contents err.new) (E.faults err.old) (E.faults err.new) (line_of ending.entry) result }
+    ensures { Prints (sunk E.Sink err.old err.new) (line_of ending.entry) result }
 {
     match ending {
         Ending::Told(told) => say_told(err, told),

@@ -4,6 +4,7 @@ ghost use Rattle.std.specs.Prelude.{◌≡◌, ◌≤◌, ◌<◌, length, map, 
 ghost use Rattle.std.specs.List.{AllByRecursion};
 ghost use Rattle.mp_io.specs.Moments.{sunk};
 ghost use Rattle.mp_io.specs.Printing.{Prints};
+ghost use Rattle.mp_io.specs.Writing.{Puts};
 ghost use Rattle.mp_pattern.specs.RuleView.{rule_tree};
 ghost use Rattle.mp_subst.specs.View.{subst_of};
 ghost use Rattle.mp_text.specs.File.{file_tree, subject_tree};
@@ -17,12 +18,13 @@ ghost use Rattle.matchpy.specs.Outcome.{matched};
 ghost use Rattle.matchpy.specs.Planned.{IsPlanned, planned_rule, rule_plan};
 
 use crate::ending::{Ending, Told};
-use mp_io::{Failed, Sink, put, put_all};
-use mp_one::{Item, eager_list};
+use mp_io::{Failed, Sink, Writer};
+use mp_one::eager_substs;
 use mp_pattern::{Plan, PlanFault, Rule};
+use mp_print::put_subst;
 use mp_subst::Subst;
 use mp_term::{Memory, Signature};
-use mp_text::{File, Subject, write_subst};
+use mp_text::{File, Subject};
 use std::alloc::Global;
 
 // Why the printing of matches stopped.
@@ -66,55 +68,58 @@ fn plan_rules<'a>(
 {
     let mut all = Vec::new(alloc);
     for rule in rules {
-        let planned = plan_rule(alloc, sig, rule)?;
-        match all.push(planned) {
-            Ok(()) => {}
-            Err(_) => return Err(Memory),
-        }
+        all.push(plan_rule(alloc, sig, rule)?)?;
     }
     Ok(all)
 }
 
-// Writes the line of one match.
-fn write_match<O: Sink>(
+// Puts the line of one match.
+fn put_match<O: Sink>(
     sig: &Signature,
     subject: &Subject,
     rule: &Rule,
     subst: &Subst,
-    out: &mut O,
-) -> Result<(), Failed>
-    ensures { Prints (O.contents out.old) (O.contents out.new) (O.faults out.old) (O.faults out.new) (match_line sig.now (subject_tree subject.now) (rule_tree rule.now) (subst_of subst.now)) result }
+    out: &mut Writer<'_, O>,
+)
+    ensures { Puts O.Sink out.old out.new
+        (match_line sig.now (subject_tree subject.now) (rule_tree rule.now) (subst_of subst.now)) }
 {
-    let subject_name = subject.name.bytes();
-    let rule_name = rule.name.bytes();
-    match put_all(out, &[subject_name, b" ", rule_name, b" "]) {
-        Ok(()) => {}
-        Err(Failed) => return Err(Failed),
-    }
-    match write_subst(sig, subst, out) {
-        Ok(()) => put(out, b"\n"),
-        Err(Failed) => Err(Failed),
+    out.put_all(&[subject.name.bytes(), b" ", rule.name.bytes(), b" "]);
+    put_subst(sig, subst, out);
+    out.put(b"\n");
+    out.flush();
+}
+
+// Puts a line for each of the substitutions.
+fn put_matches<O: Sink>(
+    sig: &Signature,
+    subject: &Subject,
+    rule: &Rule,
+    substs: &[Subst],
+    out: &mut Writer<'_, O>,
+)
+    ensures { Puts O.Sink out.old out.new
+        (flat_map (match_line sig.now (subject_tree subject.now) (rule_tree rule.now)) (map subst_of substs.now)) }
+{
+    for subst in substs {
+        put_match(sig, subject, rule, subst, out);
     }
 }
 
-// Writes a line for each of the items.
+// Writes a line for each of the substitutions.
 fn write_matches<O: Sink>(
     sig: &Signature,
     subject: &Subject,
     rule: &Rule,
-    items: &[Item],
+    substs: &[Subst],
     out: &mut O,
 ) -> Result<(), Failed>
-    ensures prints { Prints (O.contents out.old) (O.contents out.new) (O.faults out.old) (O.faults out.new) (flat_map (match_line sig.now (subject_tree subject.now) (rule_tree rule.now)) (map (λ i. subst_of i.subst) items.now)) result }
-    ensures some { OnErr result (0 < length (flat_map (match_line sig.now (subject_tree subject.now) (rule_tree rule.now)) (map (λ i. subst_of i.subst) items.now))) }
+    ensures { Prints (sunk O.Sink out.old out.new)
+        (flat_map (match_line sig.now (subject_tree subject.now) (rule_tree rule.now)) (map subst_of substs.now)) result }
 {
-    for item in items {
-        match write_match(sig, subject, rule, &item.subst, out) {
-            Ok(()) => {}
-            Err(Failed) => return Err(Failed),
-        }
-    }
-    Ok(())
+    let mut out = Writer::new(out);
+    put_matches(sig, subject, rule, substs, &mut out);
+    out.finish()
 }
 
 // Writes the matches of one rule on one subject, and says whether there are any.
@@ -130,13 +135,12 @@ fn write_rule<O: Sink>(
     ensures { PrintsMatches (rule_lines sig.now (subject_tree subject.now) (planned_rule planned.now)) (sunk O.Sink out.old out.new) result }
 {
     let rule = planned.rule;
-    let list = match eager_list(alloc, sig, rule, &planned.plan, &subject.term) {
-        Ok(list) => list,
+    let substs = match eager_substs(alloc, sig, rule, &planned.plan, &subject.term) {
+        Ok(substs) => substs,
         Err(Memory) => return Err(Stop::Memory),
     };
-    let items = list.as_slice();
-    match write_matches(sig, subject, rule, items, out) {
-        Ok(()) => Ok(!items.is_empty()),
+    match write_matches(sig, subject, rule, &substs, out) {
+        Ok(()) => Ok(!substs.is_empty()),
         Err(Failed) => Err(Stop::CannotWrite),
     }
 }

@@ -171,3 +171,70 @@ fn a_file_may_have_so_many_bytes_and_no_more(rt: HostRuntime) -> Result<(), Fail
     assert!(rt; refused.is(4, "", "matchpy: t: too long\n"));
     Ok(())
 }
+
+// Two matches, and the lines of both.
+const TWO: &[u8] = b"op f 2; rule r: f(x_, y_); subject s: f(a, b); subject t: f(c, d);";
+
+const FIRST: &str = "s r {x -> a, y -> b}\n";
+
+const BOTH: &str = "s r {x -> a, y -> b}\nt r {x -> c, y -> d}\n";
+
+#[test]
+fn a_failing_call_of_the_shelf_gives_status_4(rt: HostRuntime) -> Result<(), Fail> {
+    for (shelf, said) in [
+        ([0].as_slice(), "matchpy: t: cannot open\n"),
+        (&[1], "matchpy: t: cannot read\n"),
+        (&[2], "matchpy: t: cannot read\n"),
+    ] {
+        let devices = Devices { shelf, ..SOUND };
+        assert!(rt; ran(rt.alloc(), &["match", "t"], TWO, &devices)?.is(4, "", said));
+    }
+    Ok(())
+}
+
+#[test]
+fn a_failing_write_gives_status_5(rt: HostRuntime) -> Result<(), Fail> {
+    for (out, room, printed) in [
+        ([0].as_slice(), 2000, ""),
+        (&[1], 2000, FIRST),
+        (&[], 21, FIRST),
+        (&[], 30, "s r {x -> a, y -> b}\nt r {x ->"),
+    ] {
+        let devices = Devices { out, room, ..SOUND };
+        let ran = ran(rt.alloc(), &["match", "t"], TWO, &devices)?;
+        assert!(rt; ran.is(5, printed, "matchpy: cannot write\n"));
+    }
+    Ok(())
+}
+
+#[test]
+fn what_cannot_be_said_changes_nothing_else(rt: HostRuntime) -> Result<(), Fail> {
+    let err = [0].as_slice();
+    for (devices, name, status, printed) in [
+        (Devices { err, ..SOUND }, "t", 0, BOTH),
+        (Devices { err, ..SOUND }, "none", 4, ""),
+        (
+            Devices {
+                err,
+                shelf: &[0],
+                ..SOUND
+            },
+            "t",
+            4,
+            "",
+        ),
+        (
+            Devices {
+                err,
+                out: &[1],
+                ..SOUND
+            },
+            "t",
+            5,
+            FIRST,
+        ),
+    ] {
+        assert!(rt; ran(rt.alloc(), &["match", name], TWO, &devices)?.is(status, printed, ""));
+    }
+    Ok(())
+}
