@@ -50,15 +50,11 @@ property_of-word properties.Head = refl
 
 -- the bracket of an operand, where there is room
 pub open-step : (x : Within) (k : List Frame) (s : Site) (lead : Lead) (t : Placed) (room : ℕ) → HasRoom k room → 0 < room → is_punct Open t.token ≡ true → step (BeforeOperand x k s lead) t ≡ Go (BeforeExpr x (Operand s lead ∷ k))
-open-step x k s lead t room len some e =
-    ap (λ b. cond b (step_open MAX_OPEN k (BeforeExpr x (Operand s lead ∷ k))) (refuse t.token)) e
-    ∙ ap (λ b. cond b (Refuse TooDeep) (Go (BeforeExpr x (Operand s lead ∷ k)))) (lt-leb MAX_OPEN (open_count k) (omega (arith, len, some)))
+open-step x k s lead t room len some e = rw (e, lt-leb MAX_OPEN (open_count k) (omega (arith, len, some))) refl
 
 -- a square bracket, where there is room
 pub square-step : (x : Within) (k : List Frame) (s : Site) (t : Placed) (room : ℕ) → HasRoom k room → 0 < room → is_punct OpenSquare t.token ≡ true → step (BeforeBody x k s) t ≡ Go (BeforeLiteral x (Square s ∷ k) no_level)
-square-step x k s t room len some e =
-    ap (λ b. cond b (step_open MAX_OPEN k (BeforeLiteral x (Square s ∷ k) no_level)) (on_text t (λ w. step_atom x k s w) (word_of t.token))) e
-    ∙ ap (λ b. cond b (Refuse TooDeep) (Go (BeforeLiteral x (Square s ∷ k) no_level))) (lt-leb MAX_OPEN (open_count k) (omega (arith, len, some)))
+square-step x k s t room len some e = rw (e, lt-leb MAX_OPEN (open_count k) (omega (arith, len, some))) refl
 
 -- a word that begins an atom
 pub plain-step : (x : Within) (k : List Frame) (s : Site) (t : Placed) (w : Spot) → t.token ≡ Word w.text → t.place ≡ w.place → step (BeforeBody x k s) t ≡ step_atom x k s w
@@ -120,13 +116,11 @@ step_behind_and x k v l t = cond (is_word (codes "or") t.token) (Go (BeforeLiter
 
 -- `and` leads to another literal
 pub and-step : (x : Within) (k : List Frame) (v : Level) (l : Literal) (t : Placed) → is_word (codes "and") t.token ≡ true → step (AfterLiteral x k v l) t ≡ Go (BeforeLiteral x k (next_literal v l))
-and-step x k v l t h = ap (λ b. cond b (Go (BeforeLiteral x k (next_literal v l))) (step_behind_and x k v l t)) h
+and-step x k v l t h = rw h refl
 
 -- any other token stands behind the whole condition
 pub whole-step : (x : Within) (k : List Frame) (v : Level) (l : Literal) (t : Placed) → EndsCondition t.token → step (AfterLiteral x k v l) t ≡ step_whole x k (condition (all_alternatives v l)) t
-whole-step x k v l t h =
-    ap (λ b. cond b (Go (BeforeLiteral x k (next_literal v l))) (step_behind_and x k v l t)) h.0
-    ∙ ap (λ b. cond b (Go (BeforeLiteral x k (next_alternative v l))) (step_whole x k (condition (all_alternatives v l)) t)) h.1
+whole-step x k v l t h = rw (h.0, h.1) refl
 
 -- ---- what calls give
 

@@ -59,15 +59,15 @@ length-passed_sign text t old new e h = ap length (e ∙ ap (λ ts. t ∷ ts) (b
 
 -- behind an argument that is read, where no comma follows, the bracket closes
 pub expr-closes : (x : Within) (name : Spot) (args : List Tree) (k : List Frame) (e : Tree) (t : Placed) → is_punct Comma t.token ≡ false → WantsPunct t (AfterExpr x (Arguments name args ∷ k) e) Close (Go (AfterExpr x k (Apply name (trees (args ++ e ∷ [])))))
-expr-closes x name args k e t no-comma = ap (λ b. cond b (Go (BeforeExpr x (Arguments name (args ++ e ∷ []) ∷ k))) (on_punct Close t.token (Go (AfterExpr x k (Apply name (trees (args ++ e ∷ []))))))) no-comma
+expr-closes x name args k e t no-comma = rw no-comma refl
 
 -- behind an operand that is read, where the sign doesn't follow, the bracket closes
 pub operand-closes : (x : Within) (place : Place) (sign : Spot) (first : Tree) (others : List Tree) (k : List Frame) (e : Tree) (t : Placed) → is_sign sign.text t.token ≡ false → WantsPunct t (AfterExpr x (Operands place sign first others ∷ k) e) Close (Go (AfterExpr x k (InfixOf place sign (more_trees first (trees (others ++ e ∷ []))))))
-operand-closes x place sign first others k e t no-sign = ap (λ b. cond b (Go (BeforeExpr x (Operands place sign first (others ++ e ∷ []) ∷ k))) (on_punct Close t.token (Go (AfterExpr x k (InfixOf place sign (more_trees first (trees (others ++ e ∷ [])))))))) no-sign
+operand-closes x place sign first others k e t no-sign = rw no-sign refl
 
 -- behind an operand the sign leads on
 pub operand-again : (x : Within) (place : Place) (sign : Spot) (first : Tree) (others : List Tree) (k : List Frame) (e : Tree) (t : Placed) → is_sign sign.text t.token ≡ true → step (AfterExpr x (Operands place sign first others ∷ k) e) t ≡ Go (BeforeExpr x (Operands place sign first (others ++ e ∷ []) ∷ k))
-operand-again x place sign first others k e t is = ap (λ b. cond b (Go (BeforeExpr x (Operands place sign first (others ++ e ∷ []) ∷ k))) (on_punct Close t.token (Go (AfterExpr x k (InfixOf place sign (more_trees first (trees (others ++ e ∷ [])))))))) is
+operand-again x place sign first others k e t is = rw is refl
 
 -- a fault stays one along an equation
 pub fails-along : (e : SyntaxError) (a b : Result Parsed Fault) → a ≡ b → Fails e b → Fails e a
@@ -96,7 +96,7 @@ open-closes x k w t e = rw e refl
 
 -- an application that is not closed at once has an argument
 pub open-expr : (done : List Statement) (x : Within) (k : List Frame) (w : Spot) (t : Placed) (ts : List Placed) → is_punct Close t.token ≡ false → run done (AfterOpen x k w) (t ∷ ts) ≡ run done (BeforeExpr x (Arguments w [] ∷ k)) (t ∷ ts)
-open-expr done x k w t ts e = ap (λ b. onward t.place done (cond b (Go (AfterExpr x k (Apply w (trees [])))) (step_expr MAX_OPEN x (Arguments w [] ∷ k) t (word_of t.token))) ts) e
+open-expr done x k w t ts e = rw e refl
 
 -- a word begins an expression
 pub word-begins : (done : List Statement) (x : Within) (k : List Frame) (t : Placed) (w : List ℕ) (old new : List Placed)
@@ -125,22 +125,19 @@ no_word _ place w h = absurd cc
 
 -- the bracket of an infix expression
 pub bracket-step : (x : Within) (k : List Frame) (t : Placed) → is_punct Open t.token ≡ true → step (BeforeExpr x k) t ≡ step_open MAX_OPEN k (BeforeExpr x (Bracket t.place ∷ k))
-bracket-step x k t e = ap (step_expr MAX_OPEN x k t) (bracket-no_word t.token e) ∙ ap (λ b. cond b (step_open MAX_OPEN k (BeforeExpr x (Bracket t.place ∷ k))) (step_wildcard x k t (wildcard_at t.token t.place))) e
+bracket-step x k t e = rw (bracket-no_word t.token e, e) refl
 
 -- the same where there is room
 pub bracket-opens : (x : Within) (k : List Frame) (t : Placed) (room : ℕ) → HasRoom k room → 0 < room → is_punct Open t.token ≡ true → step (BeforeExpr x k) t ≡ Go (BeforeExpr x (Bracket t.place ∷ k))
-bracket-opens x k t room len some e = bracket-step x k t e ∙ ap (λ b. cond b (Refuse TooDeep) (Go (BeforeExpr x (Bracket t.place ∷ k)))) (lt-leb MAX_OPEN (open_count k) (omega (arith, len, some)))
+bracket-opens x k t room len some e = rw (bracket-no_word t.token e, e, lt-leb MAX_OPEN (open_count k) (omega (arith, len, some))) refl
 
 -- a wildcard leads to what may stand behind it
 pub wildcard-step : (x : Within) (k : List Frame) (t : Placed) (w : Wildcard) → wildcard_at t.token t.place ≡ Some w → step (BeforeExpr x k) t ≡ Go (AfterWildcard x k w)
-wildcard-step x k t w e =
-    ap (step_expr MAX_OPEN x k t) (no_word t.token t.place w e)
-    ∙ ap (λ b. cond b (step_open MAX_OPEN k (BeforeExpr x (Bracket t.place ∷ k))) (step_wildcard x k t (wildcard_at t.token t.place))) (no_bracket t.token t.place w e)
-    ∙ ap (step_wildcard x k t) e
+wildcard-step x k t w e = rw (no_word t.token t.place w e, no_bracket t.token t.place w e, e) refl
 
 -- a colon behind a wildcard with one underscore and no kind leads to its default
 pub default-step : (x : Within) (k : List Frame) (w : Wildcard) (t : Placed) → (is_punct Colon t.token && is_dot w) ≡ true → step (AfterWildcard x k w) t ≡ Go (BeforeExpr x (Default w ∷ k))
-default-step x k w t e = ap (λ b. cond b (Go (BeforeExpr x (Default w ∷ k))) (step_behind x k (Wild w) t)) e
+default-step x k w t e = rw e refl
 
 -- a run over that colon
 pub over-default : (t : Placed) (old new : List Placed) → old ≡ t ∷ behind t.token new → (done : List Statement) (x : Within) (k : List Frame) (w : Wildcard) → (is_punct Colon t.token && is_dot w) ≡ true → run done (AfterWildcard x k w) old ≡ run done (BeforeExpr x (Default w ∷ k)) new
@@ -148,7 +145,7 @@ over-default t old new e done x k w h = over-punct Colon t old new e (and_parts 
 
 -- a wildcard that no default follows is the expression
 pub wildcard-alone : (done : List Statement) (x : Within) (k : List Frame) (w : Wildcard) (t : Placed) (ts : List Placed) → (is_punct Colon t.token && is_dot w) ≡ false → run done (AfterWildcard x k w) (t ∷ ts) ≡ run done (AfterExpr x k (Wild w)) (t ∷ ts)
-wildcard-alone done x k w t ts e = ap (λ b. onward t.place done (cond b (Go (BeforeExpr x (Default w ∷ k))) (step_behind x k (Wild w) t)) ts) e
+wildcard-alone done x k w t ts e = rw e refl
 
 -- behind a default the wildcard with it is read
 default-behind : (done : List Statement) (x : Within) (k : List Frame) (w : Wildcard) (e : Tree) (ts : List Placed) → run done (AfterExpr x (Default w ∷ k) e) ts ≡ run done (AfterExpr x k (with_default w e)) ts
@@ -191,8 +188,8 @@ dollar-step x k t h = ap (λ u. step_expr MAX_OPEN x k (record { token = u; plac
 
 -- behind a member of a kind, where no semicolon follows, there is another member
 pub member-again : (done : List Statement) (name : Spot) (members : List Spot) (t : Placed) (ts : List Placed) → is_punct Semicolon t.token ≡ false → run done (AfterMember name members) (t ∷ ts) ≡ run done (BeforeMember name members) (t ∷ ts)
-member-again done name members t ts e = ap (λ b. onward t.place done (cond b (Emit (KindOf name members)) (on_word t (λ w. Go (AfterMember name (members ++ w ∷ []))))) ts) e
+member-again done name members t ts e = rw e refl
 
 -- behind a member of a kind the semicolon ends the statement
 pub members-end : (name : Spot) (members : List Spot) (t : Placed) → is_punct Semicolon t.token ≡ true → step (AfterMember name members) t ≡ Emit (KindOf name members)
-members-end name members t e = ap (λ b. cond b (Emit (KindOf name members)) (on_word t (λ w. Go (AfterMember name (members ++ w ∷ []))))) e
+members-end name members t e = rw e refl
