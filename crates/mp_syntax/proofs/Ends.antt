@@ -3,42 +3,28 @@ use Rattle.std.proofs.Common.{◌≡◌, ℕ, zero, suc, ◌+◌, ◌<◌, Bool,
 use Rattle.std.specs.Prelude.{◌⊎◌, ◌||◌, ◌&&◌}
 use Rattle.std.specs.List.{prefix_len, list_all}
 use Rattle.std.proofs.lemmas.Bool.{and_parts, or_left}
-use Rattle.std.proofs.lemmas.List.Folds.{list_all-append}
 use Rattle.std.proofs.lemmas.List.{nil_from_length}
 use Rattle.mp_syntax.specs.declared.token.Punct.{Punct}
 use Rattle.mp_syntax.specs.declared.token.Punct.TheVariants.{Open, Close, OpenSquare, CloseSquare, OpenBrace, CloseBrace, Comma, Semicolon, Colon, Dot, Dollar}
 use Rattle.mp_syntax.specs.Tokens.{Token, Word, Wildcard, Sign, Arrow, Punctuation, Long, Bad, End, byte_of, is_word_byte, is_sign_byte, AreWordBytes, underscores, IsWildcard, Spells}
-use Rattle.mp_syntax.specs.Lexing.{kind_at, is_underscore}
-use Rattle.mp_syntax.proofs.Longest.{IsRun, IsLongestRun, sign-begins}
+use Rattle.mp_syntax.specs.Lexing.{kind_at, settled, is_underscore}
+use Rattle.mp_syntax.proofs.ListLaws.{all-implied, all-append, all-behind}
+use Rattle.mp_syntax.proofs.Longest.{IsRun, IsLongestRun, sign-begins, run_at-punct}
 use Rattle.mp_syntax.proofs.Spelling.{spells-settles, kind_at-longest}
 
 -- a letter, a digit or an underscore
 abbrev pub is_mark_byte : ℕ → Bool
 is_mark_byte b = is_word_byte b || is_underscore b
 
--- both tests hold
-both : (a b : Bool) → a ≡ true → b ≡ true → (a && b) ≡ true
-both true b h k = k
-both false b h k = h
-
 -- ---- the bytes of a run
 
 -- a word is of letters and digits
 pub marks-word : (w : List ℕ) → AreWordBytes w → list_all is_mark_byte w ≡ true
-marks-word [] h = refl
-marks-word (b ∷ w) h =
-    let p = and_parts (is_word_byte b) (list_all is_word_byte w) h in
-    both (is_mark_byte b) (list_all is_mark_byte w) (or_left (is_word_byte b) (is_underscore b) p.0) (marks-word w p.1)
+marks-word = all-implied is_word_byte is_mark_byte (λ b h. or_left (is_word_byte b) (is_underscore b) h)
 
 marks-underscores : (n : ℕ) → list_all is_mark_byte (underscores n) ≡ true
 marks-underscores zero = refl
 marks-underscores (suc n) = marks-underscores n
-
-all-append : (p : ℕ → Bool) (a b : List ℕ) → list_all p a ≡ true → list_all p b ≡ true → list_all p (a ++ b) ≡ true
-all-append p a b h k = list_all-append p a b ∙ both (list_all p a) (list_all p b) h k
-
-all-behind : (p : ℕ → Bool) (a b : List ℕ) → list_all p (a ++ b) ≡ true → list_all p b ≡ true
-all-behind p a b h = (and_parts (list_all p a) (list_all p b) (sym (list_all-append p a b) ∙ h)).1
 
 -- letters, digits and underscores
 pub marks-wildcard : (text name : List ℕ) (n : ℕ) (kind : List ℕ) → IsWildcard text name n kind → list_all is_mark_byte text ≡ true
@@ -54,10 +40,7 @@ run-uniform text (Word w) h = inl (rw h.0 (marks-word w h.1.bytes))
 run-uniform text (Wildcard name n kind) h = inl (marks-wildcard text name n kind h)
 run-uniform text (Sign s) h = inr (inl (rw h.0 h.1.bytes))
 run-uniform text (Punctuation p) h = inr (inr (ap length h))
-run-uniform text Arrow h = absurd h
-run-uniform text Long h = absurd h
-run-uniform text Bad h = absurd h
-run-uniform text End h = absurd h
+run-uniform text _ h = absurd h
 
 -- ---- where a run ends
 
@@ -107,14 +90,4 @@ kind_at-ends text rest t h longest =
 
 -- a punctuation character is a token whatever follows
 pub kind_at-punct : (p : Punct) (rest : List ℕ) → kind_at (byte_of p ∷ rest) ≡ (Punctuation p, 1)
-kind_at-punct Open rest = refl
-kind_at-punct Close rest = refl
-kind_at-punct OpenSquare rest = refl
-kind_at-punct CloseSquare rest = refl
-kind_at-punct OpenBrace rest = refl
-kind_at-punct CloseBrace rest = refl
-kind_at-punct Comma rest = refl
-kind_at-punct Semicolon rest = refl
-kind_at-punct Colon rest = refl
-kind_at-punct Dot rest = refl
-kind_at-punct Dollar rest = refl
+kind_at-punct p rest = ap (λ (r : Token × ℕ). (settled r.0, r.1)) (run_at-punct p rest)

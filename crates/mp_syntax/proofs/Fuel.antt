@@ -37,14 +37,8 @@ run_at-positive (b ∷ bs) h = go (is_word_byte b || is_underscore b) refl (is_s
     go false e false f = omega arith
 
 is_end-settled : (t : Token) → is_end (settled t) ≡ false → is_end t ≡ false
-is_end-settled (Word w) h = refl
-is_end-settled (Wildcard name marks kind) h = refl
-is_end-settled (Sign s) h = refl
-is_end-settled Arrow h = refl
-is_end-settled (Punctuation p) h = refl
-is_end-settled Long h = refl
-is_end-settled Bad h = refl
 is_end-settled End h = h
+is_end-settled _ h = refl
 
 kind_at-positive : (bytes : List ℕ) → is_end (kind_at bytes).0 ≡ false → 0 < (kind_at bytes).1
 kind_at-positive bytes h = run_at-positive bytes (is_end-settled (run_at bytes).0 h)
@@ -70,14 +64,8 @@ shrinks bytes place h =
     omega (arith, length-drop (kind_at start.0).1 start.0, kind_at-positive start.0 h, kind_at-nonempty start.0 h, after_blanks-le false bytes place)
 
 behind-same : (t : Token) (xs ys : List Placed) → (is_end t ≡ false → xs ≡ ys) → behind t xs ≡ behind t ys
-behind-same (Word w) xs ys h = h refl
-behind-same (Wildcard name marks kind) xs ys h = h refl
-behind-same (Sign s) xs ys h = h refl
-behind-same Arrow xs ys h = h refl
-behind-same (Punctuation p) xs ys h = h refl
-behind-same Long xs ys h = h refl
-behind-same Bad xs ys h = h refl
 behind-same End xs ys h = refl
+behind-same _ xs ys h = h refl
 
 enough : (n m : ℕ) (bytes : List ℕ) (place : Place) → length bytes < n → length bytes < m → first_tokens n bytes place ≡ first_tokens m bytes place
 enough zero m bytes place h k = absurd (omega arith)

@@ -2,7 +2,8 @@
 use Rattle.std.proofs.Common.{◌≡◌, ℕ, zero, suc, ◌+◌, Bool, true, false, cond, List, [], ◌∷◌, ◌++◌, length, take, drop, refl, sym, ap, ◌∙◌, arith, inl, inr}
 use Rattle.std.specs.Prelude.{◌⊎◌, ◌==◌}
 use Rattle.std.specs.List.{prefix_len, list_all, list_any}
-use Rattle.std.proofs.lemmas.Bool.{and_parts, or_cases, eqb-true}
+use Rattle.std.proofs.lemmas.Bool.{and_parts, and_from, or_cases, eqb-true}
+use Rattle.std.proofs.lemmas.List.Folds.{list_all-append}
 use Rattle.std.proofs.lemmas.List.{take_at, drop_at}
 
 -- a front whose elements pass, and then more
@@ -45,3 +46,17 @@ one-passes q b (n ∷ ns) h k =
     go : ((b == n) ≡ true) ⊎ (list_any (λ n. b == n) ns ≡ true) → q n ≡ true → (list_any (λ n. b == n) ns ≡ true → q b ≡ true) → q b ≡ true
     go (inl e) f g = ap q (eqb-true b n e) ∙ f
     go (inr e) f g = g e
+
+-- what a test says of each element, another one says too
+pub all-implied : (p q : ℕ → Bool) → ((b : ℕ) → p b ≡ true → q b ≡ true) → (bs : List ℕ) → list_all p bs ≡ true → list_all q bs ≡ true
+all-implied p q f [] h = refl
+all-implied p q f (b ∷ bs) h =
+    let a = and_parts (p b) (list_all p bs) h in
+    and_from (q b) (list_all q bs) (f b a.0) (all-implied p q f bs a.1)
+
+-- two lists whose elements pass, and the second of them
+pub all-append : (p : ℕ → Bool) (a b : List ℕ) → list_all p a ≡ true → list_all p b ≡ true → list_all p (a ++ b) ≡ true
+all-append p a b h k = list_all-append p a b ∙ and_from (list_all p a) (list_all p b) h k
+
+pub all-behind : (p : ℕ → Bool) (a b : List ℕ) → list_all p (a ++ b) ≡ true → list_all p b ≡ true
+all-behind p a b h = (and_parts (list_all p a) (list_all p b) (sym (list_all-append p a b) ∙ h)).1

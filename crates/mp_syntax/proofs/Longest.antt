@@ -77,18 +77,22 @@ record Parts (bytes : List ℕ) (n : ℕ) (t : Token) : Type 0 where
   enough : n ≤ (word_or_wildcard_at bytes).1
   same : (word_or_wildcard_at bytes).1 ≡ n → (word_or_wildcard_at bytes).0 ≡ t
 
+-- a punctuation character is a run by itself
+pub run_at-punct : (p : Punct) (rest : List ℕ) → run_at (byte_of p ∷ rest) ≡ (Punctuation p, 1)
+run_at-punct Open rest = refl
+run_at-punct Close rest = refl
+run_at-punct OpenSquare rest = refl
+run_at-punct CloseSquare rest = refl
+run_at-punct OpenBrace rest = refl
+run_at-punct CloseBrace rest = refl
+run_at-punct Comma rest = refl
+run_at-punct Semicolon rest = refl
+run_at-punct Colon rest = refl
+run_at-punct Dot rest = refl
+run_at-punct Dollar rest = refl
+
 takes-punct : (p : Punct) (after : List ℕ) → Takes (byte_of p ∷ []) after (Punctuation p)
-takes-punct Open after = record { enough = omega arith; same = λ e. refl }
-takes-punct Close after = record { enough = omega arith; same = λ e. refl }
-takes-punct OpenSquare after = record { enough = omega arith; same = λ e. refl }
-takes-punct CloseSquare after = record { enough = omega arith; same = λ e. refl }
-takes-punct OpenBrace after = record { enough = omega arith; same = λ e. refl }
-takes-punct CloseBrace after = record { enough = omega arith; same = λ e. refl }
-takes-punct Comma after = record { enough = omega arith; same = λ e. refl }
-takes-punct Semicolon after = record { enough = omega arith; same = λ e. refl }
-takes-punct Colon after = record { enough = omega arith; same = λ e. refl }
-takes-punct Dot after = record { enough = omega arith; same = λ e. refl }
-takes-punct Dollar after = record { enough = omega arith; same = λ e. refl }
+takes-punct p after = record { enough = rw (run_at-punct p after) (omega arith); same = λ e. ap (λ (r : Token × ℕ). r.0) (run_at-punct p after) }
 
 -- a sign byte begins no word and no wildcard
 pub sign-begins : (b : ℕ) → is_sign_byte b ≡ true → (is_word_byte b || is_underscore b) ≡ false
@@ -200,16 +204,13 @@ pub takes : (text after : List ℕ) (t : Token) → IsRun text t → Takes text 
 takes text after (Word w) h = rw h.0 (takes-word w after h.1)
 takes text after (Sign s) h = rw h.0 (takes-sign s after h.1)
 takes text after (Punctuation p) h = rw h (takes-punct p after)
-takes text after Arrow h = absurd h
-takes text after Long h = absurd h
-takes text after Bad h = absurd h
-takes text after End h = absurd h
 takes text after (Wildcard name n kind) h = rw h.parts (go n kind h.some_marks h.few_marks h.kind_bytes h.kind_behind_one)
   where
     go : (n : ℕ) (kind : List ℕ) → 0 < n → n ≤ 3 → AreWordBytes kind → (kind ≢ [] → n ≡ 1) → Takes (name ++ (underscores n ++ kind)) after (Wildcard name n kind)
     go zero kind p q r s = absurd (omega arith)
     go (suc n) [] p q r s = rw (append-nil (underscores n)) (takes-plain name after n h.name_bytes q)
     go (suc n) (c ∷ kind) p q r s = let none : n ≡ 0 = omega (arith, s (λ e. absurd cc)) in rw none (takes-kind name after c kind h.name_bytes r)
+takes text after _ h = absurd h
 
 -- ---- what the lexer takes is a run
 
@@ -328,10 +329,7 @@ run-some text (Word w) h = some-length text w h.0 h.1.some
 run-some text (Wildcard name n kind) h = omega (arith, ap length h.parts, length-append name (underscores n ++ kind), length-append (underscores n) kind, length-underscores n, h.some_marks)
 run-some text (Sign s) h = some-length text s h.0 h.1.some
 run-some text (Punctuation p) h = omega (arith, ap length h)
-run-some text Arrow h = absurd h
-run-some text Long h = absurd h
-run-some text Bad h = absurd h
-run-some text End h = absurd h
+run-some text _ h = absurd h
 
 -- ---- the longest run
 

@@ -20,13 +20,7 @@ use Rattle.mp_syntax.specs.Parsing.{onward, WantsPunct, Fails, Reading, Passes, 
 -- behind a punctuation character lie the other tokens
 pub behind-punct : (p : Punct) (t : Token) (ts : List Placed) → is_punct p t ≡ true → behind t ts ≡ ts
 behind-punct p End ts h = absurd cc
-behind-punct p (Word w) ts h = refl
-behind-punct p (tokens.Wildcard name marks kind) ts h = refl
-behind-punct p (Sign s) ts h = refl
-behind-punct p Arrow ts h = refl
-behind-punct p (Punctuation q) ts h = refl
-behind-punct p Long ts h = refl
-behind-punct p Bad ts h = refl
+behind-punct p _ ts h = refl
 
 -- one step over a token that isn't the end
 pub one-step : (done : List Statement) (at : State) (t : Placed) (new : List Placed) (s : Step) → behind t.token new ≡ new → step at t ≡ s → run done at (t ∷ behind t.token new) ≡ onward t.place done s new

@@ -65,21 +65,13 @@ run-spells text (Sign s) h = go (bytes_eq s (codes "->")) refl
         differs : s ≡ codes "->" → bytes_eq s (codes "->") ≡ false → ⊥
         differs is e = let same : bytes_eq s (codes "->") ≡ true = ap (λ l. bytes_eq l (codes "->")) is in absurd cc
 run-spells text (Punctuation p) h = h
-run-spells text Arrow h = absurd h
-run-spells text Long h = absurd h
-run-spells text Bad h = absurd h
-run-spells text End h = absurd h
+run-spells text _ h = absurd h
 
 -- a token settles from one
 pub IsToken-settled : (t : Token) → IsToken (settled t) → IsToken t
-IsToken-settled (Word w) h = tt
-IsToken-settled (Wildcard name marks kind) h = tt
-IsToken-settled (Sign s) h = tt
-IsToken-settled (Punctuation p) h = tt
-IsToken-settled Arrow h = tt
-IsToken-settled Long h = tt
 IsToken-settled Bad h = h
 IsToken-settled End h = h
+IsToken-settled _ h = tt
 
 -- a token's text is no bad byte and no end
 pub spells-token : (text : List ℕ) (t : Token) → Spells text t → IsToken t

@@ -9,7 +9,8 @@ use Rattle.mp_syntax.specs.declared.token.Punct.{Punct}
 use Rattle.mp_syntax.specs.declared.token.Punct.TheVariants.{Open, Close, OpenSquare, CloseSquare, OpenBrace, CloseBrace, Comma, Semicolon, Colon, Dot, Dollar}
 use Rattle.mp_syntax.specs.Tokens.{Token, Word, Wildcard, Sign, Arrow, Punctuation, Long, Bad, End, Placed, byte_of, is_blank, is_word_byte, sign_bytes, is_sign_byte, AreWordBytes, underscores, Spells, Passes, after_byte, place_after, First, Tokens}
 use Rattle.mp_syntax.specs.Lexing.{token_at, behind, lexemes, after_blanks, run_at, kind_at, settled, is_underscore, with_underscores, word_or_wildcard_at, sign_at, punct_at}
-use Rattle.mp_syntax.proofs.ListLaws.{one-passes}
+use Rattle.mp_syntax.specs.Machine.{is_end}
+use Rattle.mp_syntax.proofs.ListLaws.{one-passes, all-append, all-implied}
 use Rattle.mp_syntax.proofs.Longest.{IsRun, IsToken}
 use Rattle.mp_syntax.proofs.Spelling.{spells-settles, spells-token, spells-some, kind_at-longest, kind_at-is_longest, kind_at-spells, kind_at-within}
 use Rattle.mp_syntax.proofs.Fuel.{lexemes-step, lexemes-next}
@@ -87,26 +88,15 @@ word-plain b h = go (is_plain b) refl
     go : (v : Bool) → is_plain b ≡ v → is_plain b ≡ true
     go v e = rw (no 35 refl (b == 35) refl, no 32 refl (b == 32) refl, no 9 refl (b == 9) refl, no 13 refl (b == 13) refl, no 10 refl (b == 10) refl) refl
 
-pub words-plain : (w : List ℕ) → AreWordBytes w → list_all is_plain w ≡ true
-words-plain [] h = refl
-words-plain (b ∷ w) h = let a = and_parts (is_word_byte b) (list_all is_word_byte w) h in rw (word-plain b a.0) (words-plain w a.1)
-
-pub plain-append : (a b : List ℕ) → list_all is_plain a ≡ true → list_all is_plain b ≡ true → list_all is_plain (a ++ b) ≡ true
-plain-append [] b h k = k
-plain-append (x ∷ a) b h k = let p = and_parts (is_plain x) (list_all is_plain a) h in rw p.0 (plain-append a b p.1 k)
-
 underscores-plain : (n : ℕ) → list_all is_plain (underscores n) ≡ true
 underscores-plain zero = refl
 underscores-plain (suc n) = underscores-plain n
 
-signs-plain : (s : List ℕ) → list_all is_sign_byte s ≡ true → list_all is_plain s ≡ true
-signs-plain [] h = refl
-signs-plain (b ∷ s) h = let a = and_parts (is_sign_byte b) (list_all is_sign_byte s) h in rw (one-passes is_plain b sign_bytes a.0 refl) (signs-plain s a.1)
-
 run-plain : (text : List ℕ) (t : Token) → IsRun text t → list_all is_plain text ≡ true
-run-plain text (Word w) h = rw h.0 (words-plain w h.1.bytes)
-run-plain text (Wildcard name n kind) h = rw h.parts (plain-append name _ (words-plain name h.name_bytes) (plain-append (underscores n) kind (underscores-plain n) (words-plain kind h.kind_bytes)))
-run-plain text (Sign s) h = rw h.0 (signs-plain s h.1.bytes)
+run-plain text (Word w) h = rw h.0 (all-implied is_word_byte is_plain word-plain w h.1.bytes)
+run-plain text (Wildcard name n kind) h = rw h.parts (all-append is_plain name _ (all-implied is_word_byte is_plain word-plain name h.name_bytes)
+    (all-append is_plain (underscores n) kind (underscores-plain n) (all-implied is_word_byte is_plain word-plain kind h.kind_bytes)))
+run-plain text (Sign s) h = rw h.0 (all-implied is_sign_byte is_plain (λ b e. one-passes is_plain b sign_bytes e refl) s h.1.bytes)
 run-plain text (Punctuation p) h = rw h (punct p)
   where
     punct : (p : Punct) → list_all is_plain (byte_of p ∷ []) ≡ true
@@ -121,10 +111,7 @@ run-plain text (Punctuation p) h = rw h (punct p)
     punct Colon = refl
     punct Dot = refl
     punct Dollar = refl
-run-plain text Arrow h = absurd h
-run-plain text Long h = absurd h
-run-plain text Bad h = absurd h
-run-plain text End h = absurd h
+run-plain text _ h = absurd h
 
 pub spells-plain : (text : List ℕ) (t : Token) → Spells text t → list_all is_plain text ≡ true
 spells-plain text t h = let r = spells-settles text t h in run-plain text r.run r.is_run
@@ -161,13 +148,8 @@ plain-line (b ∷ text) place h =
 
 pub behind-token : (t : Token) (ts : List Placed) → IsToken t → behind t ts ≡ ts
 behind-token End ts h = absurd h
-behind-token (Word w) ts h = refl
-behind-token (Wildcard name marks kind) ts h = refl
-behind-token (Sign s) ts h = refl
-behind-token Arrow ts h = refl
-behind-token (Punctuation p) ts h = refl
-behind-token Long ts h = refl
 behind-token Bad ts h = absurd h
+behind-token _ ts h = refl
 
 -- the end, at this place
 abbrev pub end_at : Place → Placed
@@ -217,59 +199,30 @@ AreTokens (t ∷ ts) = IsToken t.token × AreTokens ts
 -- the end is found only where nothing is left
 at-end : (bytes : List ℕ) → (kind_at bytes).0 ≡ End → length bytes ≡ 0
 at-end [] h = refl
-at-end (b ∷ bytes) h = absurd (not-end (run_at (b ∷ bytes)).0 (no-end (is_word_byte b || is_underscore b) (is_sign_byte b)) h)
+at-end (b ∷ bytes) h = let no : true ≡ false = ap is_end (sym h) ∙ settles (run_at (b ∷ bytes)).0 (go (is_word_byte b || is_underscore b) (is_sign_byte b)) in absurd cc
   where
-    word-end : (w : List ℕ) → Word w ≡ End → ⊥
-    word-end w e = cc
+    either : (v : Bool) (t u : Token) → is_end t ≡ false → is_end u ≡ false → is_end (cond v t u) ≡ false
+    either true t u e f = e
+    either false t u e f = f
 
-    wildcard-end : (name : List ℕ) (marks : ℕ) (kind : List ℕ) → Wildcard name marks kind ≡ End → ⊥
-    wildcard-end name marks kind e = cc
+    settles : (t : Token) → is_end t ≡ false → is_end (settled t) ≡ false
+    settles (Word w) e = either _ (Word w) Long refl refl
+    settles (Wildcard name marks kind) e = either _ (Wildcard name marks kind) Long refl refl
+    settles (Sign s) e = either _ Arrow (Sign s) refl refl
+    settles _ e = e
 
-    sign-end : (s : List ℕ) → Sign s ≡ End → ⊥
-    sign-end s e = cc
+    marked : (name : List ℕ) (m : ℕ) (after : List ℕ) → is_end (with_underscores name m after).0 ≡ false
+    marked name zero after = refl
+    marked name (suc zero) after = refl
+    marked name (suc (suc n)) after = refl
 
-    punct-end : (x : Punct) → Punctuation x ≡ End → ⊥
-    punct-end x e = cc
+    at : (p : Punct) (other : Token) → is_end other ≡ false → is_end (cond (b == byte_of p) (Punctuation p) other) ≡ false
+    at p other = either (b == byte_of p) (Punctuation p) other refl
 
-    bad-end : Bad ≡ End → ⊥
-    bad-end e = cc
-
-    long-end : Long ≡ End → ⊥
-    long-end e = cc
-
-    arrow-end : Arrow ≡ End → ⊥
-    arrow-end e = cc
-
-    pick : (v : Bool) (x y : Token) → (x ≡ End → ⊥) → (y ≡ End → ⊥) → cond v x y ≡ End → ⊥
-    pick true x y f g e = f e
-    pick false x y f g e = g e
-
-    not-end : (t : Token) → (t ≡ End → ⊥) → settled t ≡ End → ⊥
-    not-end (Word w) f = pick _ (Word w) Long f long-end
-    not-end (Wildcard name marks kind) f = pick _ (Wildcard name marks kind) Long f long-end
-    not-end (Sign s) f = pick _ Arrow (Sign s) arrow-end f
-    not-end Arrow f = f
-    not-end (Punctuation p) f = f
-    not-end Long f = f
-    not-end Bad f = f
-    not-end End f = f
-
-    marked : (name : List ℕ) (m : ℕ) (after : List ℕ) → (with_underscores name m after).0 ≡ End → ⊥
-    marked name zero after e = word-end _ e
-    marked name (suc zero) after e = wildcard-end _ _ _ e
-    marked name (suc (suc n)) after e = wildcard-end _ _ _ e
-
-    punct : punct_at b ≡ End → ⊥
-    punct =
-        at Open _ (at Close _ (at OpenSquare _ (at CloseSquare _ (at OpenBrace _ (at CloseBrace _ (at Comma _ (at Semicolon _ (at Colon _ (at Dot _ (at Dollar Bad bad-end))))))))))
-      where
-        at : (p : Punct) (other : Token) → (other ≡ End → ⊥) → cond (b == byte_of p) (Punctuation p) other ≡ End → ⊥
-        at p other f = pick (b == byte_of p) (Punctuation p) other (punct-end p) f
-
-    no-end : (v w : Bool) → (cond v (word_or_wildcard_at (b ∷ bytes)) (cond w (sign_at (b ∷ bytes)) (punct_at b, 1))).0 ≡ End → ⊥
-    no-end true w e = marked _ _ _ e
-    no-end false true e = sign-end _ e
-    no-end false false e = punct e
+    go : (v w : Bool) → is_end (cond v (word_or_wildcard_at (b ∷ bytes)) (cond w (sign_at (b ∷ bytes)) (punct_at b, 1))).0 ≡ false
+    go true w = marked _ _ _
+    go false true = refl
+    go false false = at Open _ (at Close _ (at OpenSquare _ (at CloseSquare _ (at OpenBrace _ (at CloseBrace _ (at Comma _ (at Semicolon _ (at Colon _ (at Dot _ (at Dollar Bad refl))))))))))
 
 -- the lexer's token is the first token of the relation
 pub is-first : (bytes : List ℕ) (place : Place) → let next = token_at bytes place in IsToken next.0.token → (f : First bytes place next.0 next.1.0) × (place_after f.text next.0.place ≡ next.1.1)

@@ -41,38 +41,21 @@ after_blanks-starts (b ∷ bytes) false place = go (b == 35) (is_blank b) refl r
     go false true e f h k = k
     go false false e f h k = (e, f)
 
+either : (v : Bool) (t u : Token) → IsToken t → IsToken u → IsToken (cond v t u)
+either true t u h k = h
+either false t u h k = k
+
 -- a token settles as one
 settled-token : (t : Token) → IsToken t → IsToken (settled t)
-settled-token (Word w) h = go (leb (length w) MAX_WORD_BYTES)
-  where
-    go : (v : Bool) → IsToken (cond v (Word w) Long)
-    go true = tt
-    go false = tt
-settled-token (Wildcard name marks kind) h = go (leb (length name) MAX_WORD_BYTES && leb (length kind) MAX_WORD_BYTES)
-  where
-    go : (v : Bool) → IsToken (cond v (Wildcard name marks kind) Long)
-    go true = tt
-    go false = tt
-settled-token (Sign s) h = go (bytes_eq s (codes "->"))
-  where
-    go : (v : Bool) → IsToken (cond v Arrow (Sign s))
-    go true = tt
-    go false = tt
-settled-token Arrow h = tt
-settled-token (Punctuation p) h = tt
-settled-token Long h = tt
-settled-token Bad h = h
-settled-token End h = h
+settled-token (Word w) h = either (leb (length w) MAX_WORD_BYTES) (Word w) Long tt tt
+settled-token (Wildcard name marks kind) h = either (leb (length name) MAX_WORD_BYTES && leb (length kind) MAX_WORD_BYTES) (Wildcard name marks kind) Long tt tt
+settled-token (Sign s) h = either (bytes_eq s (codes "->")) Arrow (Sign s) tt tt
+settled-token _ h = h
 
 run-token : (text : List ℕ) (t : Token) → IsRun text t → IsToken t
-run-token text (Word w) h = tt
-run-token text (Wildcard name marks kind) h = tt
-run-token text (Sign s) h = tt
-run-token text (Punctuation p) h = tt
-run-token text Arrow h = tt
-run-token text Long h = tt
 run-token text Bad h = h
 run-token text End h = h
+run-token text _ h = tt
 
 -- where the lexer finds no token, no front is one
 no-token : (bytes : List ℕ) → (IsToken (kind_at bytes).0 → ⊥) → (text rest : List ℕ) (t : Token) → bytes ≡ text ++ rest → Spells text t → ⊥
@@ -98,24 +81,13 @@ pub data Sort (t : Token) : Type 0 where
   the_end : t ≡ End → Sort t
 
 sort_of : (t : Token) → Sort t
-sort_of (Word w) = a_token tt
-sort_of (Wildcard name marks kind) = a_token tt
-sort_of (Sign s) = a_token tt
-sort_of Arrow = a_token tt
-sort_of (Punctuation p) = a_token tt
-sort_of Long = a_token tt
 sort_of Bad = a_bad_byte refl
 sort_of End = the_end refl
+sort_of _ = a_token tt
 
 token-not-end : (t : Token) → IsToken t → is_end t ≡ false
-token-not-end (Word w) h = refl
-token-not-end (Wildcard name marks kind) h = refl
-token-not-end (Sign s) h = refl
-token-not-end Arrow h = refl
-token-not-end (Punctuation p) h = refl
-token-not-end Long h = refl
-token-not-end Bad h = absurd h
 token-not-end End h = absurd h
+token-not-end _ h = refl
 
 no-empty : (kind_at []).0 ≡ Bad → ⊥
 no-empty e = cc
