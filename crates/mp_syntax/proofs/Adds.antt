@@ -14,6 +14,7 @@ use Rattle.mp_syntax.specs.Tokens.{Token, Word, Sign, Punctuation, End, Placed}
 use Rattle.mp_syntax.specs.Syntax.{Spot, Wildcard, Expected, Said, Stands, Matches, spell, spell_condition, spell_statement, spelled_word, spelled_wildcard, spelled_sign, fixed_word}
 use Rattle.mp_syntax.specs.Machine.{Frame, open_count, State, Single, SingleExpr, SingleCondition, Step, Go, Emit, Refuse, Finish, Ends, is_punct, same_punct, is_sign, is_word, is_end, word_of, sign_of, wildcard_at, spot, on_text, on_word, on_sign, on_found, step_open}
 use Rattle.mp_syntax.specs.Partial.{so_far}
+use Rattle.mp_syntax.proofs.ListLaws.{some-is}
 use Rattle.mp_syntax.proofs.Longest.{IsToken}
 
 -- ---- what a test on a token says
@@ -42,12 +43,6 @@ pub word-is : (t : Token) (w : List ℕ) → word_of t ≡ Some w → t ≡ Word
 word-is (Word v) w h = cc
 word-is _ w h = absurd cc
 
-abbrev some : List ℕ → Option (List ℕ)
-some w = Some w
-
-some-is : (v w : List ℕ) → some v ≡ some w → v ≡ w
-some-is v w h = cc
-
 -- the sign of this text
 pub sign-is : (t : Token) (s : List ℕ) → sign_of t ≡ Some s → t ≡ Sign s
 sign-is (Sign r) s h = cc
@@ -58,17 +53,11 @@ pub sign-same : (text : List ℕ) (t : Token) → is_sign text t ≡ true → t 
 sign-same text (Sign s) h = ap Sign ((bytes_eq-Decides s text).0 h)
 sign-same text _ h = absurd cc
 
-abbrev some_wildcard : Wildcard → Option Wildcard
-some_wildcard w = Some w
-
-some_wildcard-is : (v w : Wildcard) → some_wildcard v ≡ some_wildcard w → v ≡ w
-some_wildcard-is v w h = cc
-
 -- the wildcard that the token is
 pub wildcard-is : (k : Token) (place : Place) (w : Wildcard) → wildcard_at k place ≡ Some w → Matches (record { token = k; place = place }) (spelled_wildcard w)
 wildcard-is (tokens.Wildcard name marks kind) place w h =
     let v : Wildcard = record { name = name; marks = marks; kind = kind; place = place } in
-    let same : v ≡ w = some_wildcard-is v w h in
+    let same : v ≡ w = some-is v w h in
     (ap (λ (v : Wildcard). tokens.Wildcard v.name v.marks v.kind) same, ap (λ (v : Wildcard). v.place) same)
 wildcard-is _ place w h = absurd cc
 

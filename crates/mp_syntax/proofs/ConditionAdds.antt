@@ -19,22 +19,17 @@ use Rattle.mp_syntax.specs.Tokens.{Word, Sign, Punctuation, Placed}
 use Rattle.mp_syntax.specs.Syntax.{Spot, Tree, Amount, Number, Measured, Atom, Compare, Relate, Test, Literal, Literals, literals, condition, Expected, Said, Matches, spell, spell_amount, spell_atom, spell_literal, spell_literals, spell_alternatives, spell_condition, spelled_word, fixed_word, opening, closing, colon, comma, semicolon, RuleOf, spell_statement, measure_word, sense_sign, relation_word, property_word}
 use Rattle.mp_syntax.specs.Machine.{Within, InStatement, Alone, InCondition, ConditionAlone, Frame, Arguments, Bracket, Operands, Default, Operand, Second, Square, Level, no_level, next_literal, next_alternative, all_alternatives, Site, site, Side, OnLeft, OnRight, Lead, OfMeasure, OfRelation, OfProperty, BeforeExpr, BeforeLiteral, BeforeBody, BeforeOperand, BeforeName, BehindName, AfterAmount, AfterSense, AfterLiteral, Go, Refuse, Ends, SingleCondition, measure_of, sense_of, relation_of, property_of, is_number, is_end, spot, refuse, on_punct, on_found, with_atom, with_amount, step_operand, step_amount, step_atom, step_body, step_last, step_whole, step_in}
 use Rattle.mp_syntax.specs.Partial.{spell_within, spell_frames, spell_before_and, spell_before_or, spell_level, spell_site, spell_side, so_far}
+use Rattle.mp_syntax.proofs.ListLaws.{some-is}
 use Rattle.mp_syntax.proofs.Adds.{end-is, Adds, adds-punct, adds-fixed_word, adds-found, adds-word, adds-any_sign, adds-open, flat_map-push}
 
 -- ---- words and signs
-
-abbrev found : {A : Type 0} → A → Option A
-found a = Some a
-
-found-is : {A : Type 0} (a b : A) → found a ≡ found b → a ≡ b
-found-is a b h = cc
 
 -- a value that is found by its text has this text
 chosen : {A : Type 0} (text_of : A → List ℕ) (w : List ℕ) (a : A) (other : Option A) (b : A) → (other ≡ Some b → w ≡ text_of b) → cond (bytes_eq w (text_of a)) (Some a) other ≡ Some b → w ≡ text_of b
 chosen text_of w a other b f h = go (bytes_eq w (text_of a)) refl h
   where
     go : (v : Bool) → bytes_eq w (text_of a) ≡ v → cond v (Some a) other ≡ Some b → w ≡ text_of b
-    go true e h = (bytes_eq-Decides w (text_of a)).0 e ∙ ap text_of (found-is a b h)
+    go true e h = (bytes_eq-Decides w (text_of a)).0 e ∙ ap text_of (some-is a b h)
     go false e h = f h
 
 measure_of-is : (w : List ℕ) (m : Measure) → measure_of w ≡ Some m → w ≡ measure_word m

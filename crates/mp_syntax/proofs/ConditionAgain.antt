@@ -17,6 +17,7 @@ use Rattle.mp_syntax.specs.Tokens.{Word, Sign, Punctuation, Placed}
 use Rattle.mp_syntax.specs.Syntax.{Spot, Tree, Amount, Number, Measured, Atom, Compare, Relate, Test, Literal, AtomOf, Bracketed, Literals, no_literals, more_literals, literals, literal_list, Condition, no_alternatives, more_alternatives, condition, alternative_list, Statement, Said, Matches, AllMatch, spell, spell_amount, spell_atom, spell_not, spell_literal, spell_literals, spell_alternatives, spell_condition, spelled_word, fixed_word, opening, closing, comma, measure_word, sense_sign, relation_word, property_word, Fits, FitsAmount, FitsAtom, FitsLiteral, LiteralsFit, AlternativesFit, FitsCondition}
 use Rattle.mp_syntax.specs.Machine.{Within, Frame, Operand, Second, Square, open_count, Level, no_level, next_literal, all_alternatives, Site, site, Side, OnLeft, OnRight, Lead, OfMeasure, OfRelation, OfProperty, State, BeforeExpr, AfterExpr, BeforeLiteral, BeforeBody, BeforeOperand, BeforeName, BehindName, AfterAmount, AfterSense, AfterLiteral, Step, Go, Refuse, Parsed, no_fault, is_punct, is_word, is_number, measure_of, sense_of, relation_of, property_of, spot, on_punct, on_found, with_atom, with_amount, step, step_amount, step_body, step_whole, after_step, run}
 use Rattle.mp_syntax.specs.ConditionParsing.{level, EndsCondition}
+use Rattle.mp_syntax.proofs.Trees.{literal-atom}
 use Rattle.mp_syntax.proofs.Again.{split, led, joined, over, word-taken, sign-taken, EachContinuesNone, nothing, ReadTo, expr-between}
 use Rattle.mp_syntax.proofs.ConditionRuns.{measure_of-word, sense_of-sign, relation_of-word, property_of-word, open-step, square-step, plain-step}
 
@@ -301,13 +302,9 @@ module _ (done : List Statement) (x : Within) where
   mutual
     literal-again : (l : Literal) → ReadsLiteral l
     literal-again (AtomOf negated a) k room v ts us h fits len =
-        negated-again k v negated (spell_atom a) ts us h (AfterLiteral x k v (AtomOf negated a)) (λ t ts m. atom-begins room a t ts m (atom-of room negated a fits)) (some_atom a)
-        (λ s ts e m. atom-again k s room a ts us m (atom-of room negated a fits) len ∙ ap (λ (s : Site). run done (with_atom x k s a) us) e)
+        negated-again k v negated (spell_atom a) ts us h (AfterLiteral x k v (AtomOf negated a)) (λ t ts m. atom-begins room a t ts m (literal-atom room negated a fits)) (some_atom a)
+        (λ s ts e m. atom-again k s room a ts us m (literal-atom room negated a fits) len ∙ ap (λ (s : Site). run done (with_atom x k s a) us) e)
       where
-        atom-of : (room : ℕ) (negated : Bool) (a : Atom) → FitsLiteral room (AtomOf negated a) → FitsAtom room a
-        atom-of zero negated a h = h
-        atom-of (suc room) negated a h = h
-
         some_amount : (a : Amount) (ms : _) → AllMatch [] (spell_amount a ++ ms) → ⊥
         some_amount (Number w) ms h = h
         some_amount (Measured m e) ms h = h

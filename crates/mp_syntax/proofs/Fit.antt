@@ -12,7 +12,7 @@ use Rattle.mp_syntax.specs.Tokens.{Token, Placed}
 use Rattle.mp_syntax.specs.Syntax.{Spot, Wildcard, Tree, Symbol, Apply, InfixOf, Wild, Variable, more_trees, trees, Infixed, KindOf, OpOf, RuleOf, SubjectOf, Statement, Amount, Number, Measured, Atom, Compare, Relate, Test, Literal, AtomOf, Bracketed, Literals, literals, Condition, condition, FitsAmount, FitsAtom, HasLiteral, HasAlternative, FitsLiteral, LiteralsFit, AlternativesFit, FitsCondition, IsDot, Fits, AreFit, AreSeveral, FitsStatement, AreStatements}
 use Rattle.mp_syntax.specs.Machine.{Role, OfRule, OfSubject, Frame, Arguments, Bracket, Operands, Default, Operand, Second, Square, Level, no_level, next_literal, next_alternative, all_alternatives, Site, site, Side, OnLeft, OnRight, Lead, OfMeasure, OfRelation, OfProperty, open_count, with_default, is_dot, Declared, declared, with_flag, Within, InStatement, Alone, InCondition, ConditionAlone, State, Top, AfterOp, AfterOpName, AfterLeast, AfterFlags, AfterInfix, AfterKind, AfterKindName, BeforeMember, AfterMember, AfterRole, AfterName, BeforeExpr, AfterWord, AfterOpen, AfterWildcard, AfterExpr, AfterDollar, BeforeLiteral, BeforeBody, BeforeOperand, BeforeName, BehindName, AfterAmount, AfterSense, AfterLiteral, Single, SingleExpr, SingleCondition, Step, Go, Emit, Refuse, Finish, Ends, Parsed, parsed, is_punct, is_sign, is_word, is_end, is_number, measure_of, sense_of, relation_of, property_of, word_of, sign_of, wildcard_at, keyword, spot, refuse, on_punct, on_text, on_word, on_found, with_atom, with_amount, step, step_in, step_role, step_operand, step_amount, step_atom, step_body, step_last, step_whole, step_number, step_flag, step_flags, step_open, step_expr, step_behind, step_wildcard, after_step, run}
 use Rattle.mp_syntax.proofs.Found.{ok-is}
-use Rattle.mp_syntax.proofs.Trees.{is_dot-true, wild-fits, variable-fits, with_default-fits}
+use Rattle.mp_syntax.proofs.Trees.{is_dot-true, wild-fits, variable-fits, with_default-fits, atom-literal}
 
 -- what is read of a condition before a literal fits, with room brackets more to open
 abbrev pub LevelFits : ℕ → Level → Type 0
@@ -140,10 +140,6 @@ found-fits : {A : Type 0} (next : A → Step) (other : Step) (o : Option A) → 
 found-fits next other (Some a) h k = h a
 found-fits next other None h k = k
 
-atom-fits : (room : ℕ) (negated : Bool) (a : Atom) → FitsAtom room a → FitsLiteral room (AtomOf negated a)
-atom-fits zero negated a h = h
-atom-fits (suc room) negated a h = h
-
 number-fits : (room : ℕ) (w : Spot) → is_number w.text ≡ true → FitsAmount room (Number w)
 number-fits zero w h = h
 number-fits (suc room) w h = h
@@ -151,7 +147,7 @@ number-fits (suc room) w h = h
 -- an amount of this side leads to what fits
 with_amount-fits : (x : Within) (k : List Frame) (s : Site) (side : Side) (a : Amount) → FramesFit x k → LevelFits (room_in k) s.level → SideFits (room_in k) side → FitsAmount (room_in k) a → StateFits (with_amount x k s side a)
 with_amount-fits x k s OnLeft a fits v h f = (fits, v, f)
-with_amount-fits x k s (OnRight b sense) a fits v h f = (fits, v, atom-fits (room_in k) s.negated (Compare b sense a) (compare b sense a (room_in k) h f))
+with_amount-fits x k s (OnRight b sense) a fits v h f = (fits, v, atom-literal (room_in k) s.negated (Compare b sense a) (compare b sense a (room_in k) h f))
   where
     compare : (b : Amount) (sense : Sense) (a : Amount) (room : ℕ) → FitsAmount room b → FitsAmount room a → FitsAtom room (Compare b sense a)
     compare b sense a zero h f = (h, f)
@@ -183,7 +179,7 @@ operand-fits x k s (OfProperty p) e t fits e-fits =
 
 second-fits : (x : Within) (k : List Frame) (s : Site) (r : Relation) (d e : Tree) (t : Token) → FramesFit x (Second s r d ∷ k) → Fits (room_in (Second s r d ∷ k)) e → StepFits (on_punct Close t (Go (with_atom x k s (Relate r d e))))
 second-fits x k s r d e t fits e-fits =
-    if-fits (is_punct Close t) (Go (with_atom x k s (Relate r d e))) (refuse t) (fits.2, subst (λ n. LevelFits n s.level) (suc-room k fits.0) fits.1.0, atom-fits (room_in k) s.negated (Relate r d e) (subst (λ n. FitsAtom n (Relate r d e)) (suc-room k fits.0) (fits.1.1, subst (λ n. Fits n e) (frame-room k) e-fits))) tt
+    if-fits (is_punct Close t) (Go (with_atom x k s (Relate r d e))) (refuse t) (fits.2, subst (λ n. LevelFits n s.level) (suc-room k fits.0) fits.1.0, atom-literal (room_in k) s.negated (Relate r d e) (subst (λ n. FitsAtom n (Relate r d e)) (suc-room k fits.0) (fits.1.1, subst (λ n. Fits n e) (frame-room k) e-fits))) tt
 
 -- literals of which l is the last
 LiteralsFit-push : (room : ℕ) (ls : List Literal) (l : Literal) → LiteralsFit room (literals ls) → FitsLiteral room l → LiteralsFit room (literals (ls ++ l ∷ []))
@@ -308,7 +304,7 @@ step-fits (BeforeLiteral x k v) t h = if-fits (is_word (codes "not") t.token) (G
 step-fits (BeforeBody x k s) t h = body-fits x k s t h.0 h.1
 step-fits (BeforeOperand x k s lead) t h = if-fits (is_punct Open t.token) _ (refuse t.token) (open-fits k (BeforeExpr x (Operand s lead ∷ k)) (λ lt. bracket-fits x k s lead lt h)) tt
 step-fits (BeforeName x k s p e) t h = text-fits t (λ w. Go (BehindName x k s p e w)) (word_of t.token) (λ w. (h.0, h.1, subst (λ n. FitsAtom n (Test p e w)) (suc-room k h.2) h.3))
-step-fits (BehindName x k s p e w) t h = if-fits (is_punct Close t.token) (Go (with_atom x k s (Test p e w))) (refuse t.token) (h.0, h.1, atom-fits (room_in k) s.negated (Test p e w) h.2) tt
+step-fits (BehindName x k s p e w) t h = if-fits (is_punct Close t.token) (Go (with_atom x k s (Test p e w))) (refuse t.token) (h.0, h.1, atom-literal (room_in k) s.negated (Test p e w) h.2) tt
 step-fits (AfterAmount x k s a) t h = text-fits t (λ sign. on_found (λ sense. Go (AfterSense x k s a sense)) (Refuse Syntax) (sense_of sign.text)) (sign_of t.token) (λ sign. found-fits _ (Refuse Syntax) (sense_of sign.text) (λ sense. h) tt)
 step-fits (AfterSense x k s a sense) t h = text-fits t (λ w. step_amount x k s (OnRight a sense) w) (word_of t.token) (λ w. amount-fits x k s (OnRight a sense) w h.0 h.1 h.2)
 step-fits (AfterLiteral x k v l) t h = literal-fits x k v l t h.0 h.1 h.2

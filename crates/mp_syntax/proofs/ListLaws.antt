@@ -1,5 +1,5 @@
--- Lists: fronts whose elements pass a test, and the tests of elements.
-use Rattle.std.proofs.Common.{◌≡◌, ℕ, zero, suc, ◌+◌, Bool, true, false, cond, List, [], ◌∷◌, ◌++◌, length, take, drop, refl, sym, ap, ◌∙◌, arith, inl, inr}
+-- Lists: fronts whose elements pass a test, and the tests of elements; options.
+use Rattle.std.proofs.Common.{◌≡◌, ℕ, zero, suc, ◌+◌, Bool, true, false, cond, List, [], ◌∷◌, ◌++◌, length, take, drop, Option, Some, refl, sym, ap, ◌∙◌, arith, inl, inr}
 use Rattle.std.specs.Prelude.{◌⊎◌, ◌==◌}
 use Rattle.std.specs.List.{prefix_len, list_all, list_any}
 use Rattle.std.proofs.lemmas.Bool.{and_parts, and_from, or_cases, eqb-true}
@@ -60,3 +60,10 @@ all-append p a b h k = list_all-append p a b ∙ and_from (list_all p a) (list_a
 
 pub all-behind : (p : ℕ → Bool) (a b : List ℕ) → list_all p (a ++ b) ≡ true → list_all p b ≡ true
 all-behind p a b h = (and_parts (list_all p a) (list_all p b) (sym (list_all-append p a b) ∙ h)).1
+
+abbrev pub some : {A : Type 0} → A → Option A
+some a = Some a
+
+-- two options with values are the same where these are
+pub some-is : {A : Type 0} (a b : A) → some a ≡ some b → a ≡ b
+some-is a b e = cc

@@ -17,6 +17,7 @@ use Rattle.mp_syntax.specs.Tokens.{Sign, Punctuation}
 use Rattle.mp_syntax.specs.Syntax.{Spot, Amount, Number, Measured, Atom, Compare, Relate, Test, Literal, AtomOf, Bracketed, Literals, no_literals, more_literals, Condition, no_alternatives, more_alternatives, Expected, Said, fixed_word, spelled_word, opening, closing, comma, measure_word, sense_sign, relation_word, property_word, spell, spell_amount, spell_atom, spell_not, spell_literal, spell_literals, spell_alternatives, spell_condition, spell_if, FitsAmount, FitsAtom, HasLiteral, HasAlternative, FitsLiteral, LiteralsFit, AlternativesFit, FitsIf, IsName, IsInfixSign, AmountHasNames, AtomHasNames, LiteralHasNames, LiteralsHaveNames, ConditionHasNames, IfHasNames}
 use Rattle.mp_syntax.specs.Printed.{tree_text, amount_text, atom_text, not_text, literal_text, literals_text, alternatives_text, if_text, unplaced_spot, unplaced_amount, unplaced_atom, unplaced_literal, unplaced_literals, unplaced_condition, unplaced_if}
 use Rattle.mp_syntax.proofs.Ends.{is_mark_byte}
+use Rattle.mp_syntax.proofs.Trees.{atom-literal, literal-atom}
 use Rattle.mp_syntax.proofs.PrintedExpr.{Lexes, lexes-then, lexes-word, lexes-sign, lexes-punct, lexes-blank, lexes-tree, lexes-keyword, lexes-behind}
 
 -- the bytes begin with this value, which then stands at its places, and rest lies behind it
@@ -229,15 +230,6 @@ HasAlternative-unplaced c d e h = without c (subst HasAlternative (sym e) (with_
     without : (c : Condition) → HasAlternative (unplaced_condition c) → HasAlternative c
     without no_alternatives h = h
     without (more_alternatives a c) h = tt
-
--- what fits as an atom fits as a literal, and back
-atom-literal : (room : ℕ) (negated : Bool) (a : Atom) → FitsAtom room a → FitsLiteral room (AtomOf negated a)
-atom-literal zero negated a h = h
-atom-literal (suc room) negated a h = h
-
-literal-atom : (room : ℕ) (negated : Bool) (a : Atom) → FitsLiteral room (AtomOf negated a) → FitsAtom room a
-literal-atom zero negated a h = h
-literal-atom (suc room) negated a h = h
 
 mutual
   lexes-literal : (l : Literal) (room : ℕ) (rest : List ℕ) (place : Place) → LiteralHasNames l → FitsLiteral room l → prefix_len is_mark_byte rest ≡ 0 → LexesAs spell_literal unplaced_literal (λ m. FitsLiteral room m) (literal_text l ++ rest) rest place l

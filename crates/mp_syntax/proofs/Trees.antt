@@ -1,5 +1,5 @@
 -- Trees and lists of trees, the trees of applications and infix expressions, and wildcards, which fit at any number of brackets.
-use Rattle.std.proofs.Common.{◌≡◌, ℕ, zero, suc, true, List, [], ◌∷◌, ◌++◌, length, map, Vec, Global, refl, ap, ◌∙◌}
+use Rattle.std.proofs.Common.{◌≡◌, ℕ, zero, suc, Bool, true, List, [], ◌∷◌, ◌++◌, length, map, Vec, Global, refl, ap, ◌∙◌}
 use Rattle.std.specs.Prelude.{◌&&◌, ◌==◌}
 use Rattle.std.proofs.lemmas.Bool.{and_parts, eqb-true}
 use mathlib.Core.Former.{Count}
@@ -10,7 +10,7 @@ use Rattle.mp_syntax.specs.declared.word.InfixSign as code_sign
 use Rattle.mp_syntax.specs.declared.tree.Expr as code
 use Rattle.mp_syntax.specs.declared.tree.Expr.{Expr, Apply', Infix, Infix', Row_of-Expr, end_of-Expr, more_of-Expr, items-the_row-Expr, items_hidden-the_row-Expr-0}
 use Rattle.mp_syntax.specs.Syntax as syntax
-use Rattle.mp_syntax.specs.Syntax.{Spot, Wildcard, Tree, Symbol, Apply, InfixOf, Wild, Optional, Variable, Trees, trees, tree_list, no_trees, more_trees, IsDot, AreDots, HasNoDefault, Fits, spell, spell_with_colon}
+use Rattle.mp_syntax.specs.Syntax.{Spot, Wildcard, Tree, Symbol, Apply, InfixOf, Wild, Optional, Variable, Trees, trees, tree_list, no_trees, more_trees, IsDot, AreDots, HasNoDefault, Fits, spell, spell_with_colon, Atom, AtomOf, FitsAtom, FitsLiteral}
 use Rattle.mp_syntax.specs.Machine.{is_dot, with_default}
 use Rattle.mp_syntax.specs.View.{spot_of, spot_of_sign, expr_tree, row_trees}
 
@@ -92,3 +92,12 @@ spell-with_default w (InfixOf place sign operands) = refl
 spell-with_default w (Wild v) = refl
 spell-with_default w (Optional v others default) = refl
 spell-with_default w (Variable v) = refl
+
+-- what fits as an atom fits as a literal, and back
+pub atom-literal : (room : ℕ) (negated : Bool) (a : Atom) → FitsAtom room a → FitsLiteral room (AtomOf negated a)
+atom-literal zero negated a h = h
+atom-literal (suc room) negated a h = h
+
+pub literal-atom : (room : ℕ) (negated : Bool) (a : Atom) → FitsLiteral room (AtomOf negated a) → FitsAtom room a
+literal-atom zero negated a h = h
+literal-atom (suc room) negated a h = h

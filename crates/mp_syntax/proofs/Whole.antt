@@ -13,6 +13,7 @@ use Rattle.mp_syntax.specs.Machine.{State, Top, BeforeExpr, BeforeLiteral, Alone
 use Rattle.mp_syntax.specs.Partial.{so_far}
 use Rattle.mp_syntax.specs.Parsing.{Gives}
 use Rattle.mp_syntax.specs.Reading.{Pick, statements_alone, expr_alone, condition_alone, or_no_fault, read_by, reading, expr_reading, condition_reading, read_value, syntax_of, IfFault, IsAnswerOrMemory}
+use Rattle.mp_syntax.proofs.ListLaws.{some-is}
 use Rattle.mp_syntax.proofs.Longest.{IsToken}
 use Rattle.mp_syntax.proofs.Fuel.{lexemes-step}
 use Rattle.mp_syntax.proofs.TokensLaw.{AreTokens, behind-token, end_at, head-is, tail-is, tokens-lexemes, lexemes-tokens}
@@ -20,12 +21,6 @@ use Rattle.mp_syntax.proofs.Found.{spell_parsed, run-found, read_ok, ok-is}
 use Rattle.mp_syntax.proofs.Fit.{run-fits}
 use Rattle.mp_syntax.proofs.StatementAgain.{file-again, alone-again, alone_condition-again}
 use Rattle.mp_syntax.proofs.Names.{tokens-texts, match-texts, tree-names, condition-names, file-names}
-
-abbrev some_value : {A : Type 0} → A → Option A
-some_value v = Some v
-
-some-is : {A : Type 0} (a b : A) → some_value a ≡ some_value b → a ≡ b
-some-is a b e = cc
 
 -- ---- where the end stands
 
@@ -153,7 +148,7 @@ module _ {A : Type 0} {start : State} {pick : Pick A} {whole : A → Parsed} {Is
   pub read-exact : (bytes : List ℕ) (v : A) → Is bytes v ↔ (read_value (read_by pick (run [] start (lexemes bytes first_place))) ≡ Some v)
   read-exact bytes v = (λ f. ap read_value (read-only bytes v f), λ e. read-found bytes v (value (read_by pick (run [] start (lexemes bytes first_place))) e))
     where
-      value : (r : Result A Fault) → read_value r ≡ some_value v → r ≡ Ok v
+      value : (r : Result A Fault) → read_value r ≡ Some v → r ≡ Ok v
       value (Ok a) e = ap ok (some-is a v e)
       value (Err f) e = absurd cc
 
