@@ -1,6 +1,6 @@
 -- The variables that a condition may name are those of its pattern in normal form.
-use Rattle.std.proofs.Common.{◌≡◌, ℕ, Bool, true, false, ◌||◌, List, [], ◌∷◌, ◌++◌, map, refl, sym, ap, ◌∙◌, subst}
-use Rattle.std.specs.Prelude.{◌≢◌, if◌then◌else◌}
+use Rattle.std.proofs.Common.{◌≡◌, ℕ, Bool, true, false, ◌||◌, ◌&&◌, not, Option, Some, None, List, [], ◌∷◌, ◌++◌, map, refl, sym, ap, ◌∙◌, subst}
+use Rattle.std.specs.Prelude.{◌≢◌, filter, if◌then◌else◌}
 use Rattle.std.specs.List.{list_any, AllByRecursion}
 use Rattle.std.specs.List.Sorted.{IsPermutation}
 use Rattle.std.specs.Str.{bytes_eq}
@@ -14,13 +14,19 @@ use Rattle.std.proofs.lemmas.Bool.{or_parts}
 use Rattle.mp_term.specs.Signature.{Sig}
 use Rattle.mp_pattern.specs.Firsts.{firsts_after, is_known, add_new}
 use Rattle.mp_pattern.specs.Normal.{normal_pattern}
-use Rattle.mp_pattern.specs.Value.{same_name}
-use Rattle.mp_pattern.specs.Variables.{variables}
+use Rattle.mp_pattern.specs.PatternTree.{is_sequence, optional, Pattern, symbol_pattern, app_pattern, wild_pattern, Patterns, no_patterns, more_patterns, pattern_list, patterns}
+use Rattle.mp_pattern.specs.Value.{same_name, one_form, seq_form, bag_form}
+use Rattle.mp_pattern.specs.Variables.{Use, uses, all_uses, comm_above, variables, variable_form}
+use Rattle.mp_pattern.proofs.Preserved.{of_normal_pattern}
+use Rattle.mp_term.specs.Tree as term
+use Rattle.mp_term.specs.Normal.{normal}
+use Rattle.mp_term.proofs.ListLaws.{all-append, all-split}
 use Rattle.mp_pattern.proofs.VariableLaws.{IsPermutation-variables}
 use Rattle.mp_syntax.specs.Syntax.{Tree, Symbol, Apply, InfixOf, Wild, Optional, Variable, Trees, no_trees, more_trees}
-use Rattle.mp_text.specs.Build.{pattern_of}
+use Rattle.mp_text.specs.Build.{op_number, sign_number, head_number, marked_shape, kind_shape, variable_of, term_of, pattern_of, patterns_of}
 use Rattle.mp_text.specs.Names.{named, wildcard_names, all_wildcard_names, wildcards, all_wildcards}
-use Rattle.mp_text.specs.Scope.{wildcard_variable, pattern_variables, is_bound}
+use Rattle.mp_text.specs.Scope as scope
+use Rattle.mp_text.specs.Scope.{wildcard_variable, pattern_variables, is_bound, is_bound_sequence}
 use Rattle.mp_text.proofs.Declared.{bytes_eq_comm}
 use Rattle.mp_text.proofs.SoundLaws.{is_known-alike, variables-pattern_of}
 
@@ -137,3 +143,73 @@ module _ (x : List ℕ) where
         let here : is_known same_name (variables (pattern_of sig p)) x ≡ true =
         is_known-alike same_name bytes_eq is_eq-slice_cmp (variables (pattern_of sig p)) x ∙ ap (λ l. is_known bytes_eq l x) (variables-pattern_of sig p) ∙ known-once [] (wildcard_names p) (known-bound p h) in
         known-permutation (variables (pattern_of sig p)) (variables (normal_pattern sig (pattern_of sig p))) (IsPermutation-variables sig (pattern_of sig p)) here
+
+-- ---- variables that stand for one term
+
+module _ (x : List ℕ) where
+  -- the use isn't that of a plus or star wildcard of the name
+  abbrev IsNoSequence : Use → Type 0
+  IsNoSequence u = (same_name x u.name && is_sequence u.wildcard) ≡ false
+
+  -- no use in the pattern is
+  abbrev HasNoSequence : Option ℕ → Pattern → Type 0
+  HasNoSequence f p = AllByRecursion IsNoSequence (uses f p)
+
+  no_sequence-under : (f g : Option ℕ) (p : Pattern) → HasNoSequence f p → HasNoSequence g p
+  no_sequence-under f g (symbol_pattern n) h = tt
+  no_sequence-under f g (app_pattern o ps) h = h
+  no_sequence-under f g (wild_pattern w None) h = tt
+  no_sequence-under f g (wild_pattern w (Some y)) h = (h.0, tt)
+
+  no_sequence-down : (f : ℕ) (ps : Patterns) → HasNoSequence None (app_pattern f ps) → AllByRecursion (HasNoSequence None) (pattern_list ps)
+  no_sequence-down f no_patterns h = tt
+  no_sequence-down f (more_patterns p ps) h =
+      let r = all-split IsNoSequence (uses (Some f) p) (all_uses (Some f) ps) h in
+      (no_sequence-under (Some f) None p r.0, no_sequence-down f ps r.1)
+
+  no_sequence-up : (f : ℕ) (ps : Patterns) (qs : List Pattern) → HasNoSequence None (app_pattern f ps) → AllByRecursion (HasNoSequence None) qs → HasNoSequence None (app_pattern f (patterns qs))
+  no_sequence-up f ps [] h k = tt
+  no_sequence-up f ps (q ∷ qs) h k = all-append IsNoSequence (uses (Some f) q) (all_uses (Some f) (patterns qs)) (no_sequence-under None (Some f) q k.0) (no_sequence-up f ps qs h k.1)
+
+  none-filtered : (us : List Use) → AllByRecursion IsNoSequence us → filter (λ u. same_name x u.name && is_sequence u.wildcard) us ≡ []
+  none-filtered [] h = refl
+  none-filtered (u ∷ us) h = rw h.0 (none-filtered us h.1)
+
+  and-false : (b : Bool) → (b && false) ≡ false
+  and-false true = refl
+  and-false false = refl
+
+  no_sequence-wild : (sig : Sig) (f : Option ℕ) (kind : List ℕ) (marks : ℕ) (name : List ℕ) → (bytes_eq x name && is_sequence (marked_shape marks)) ≡ false → HasNoSequence f (wild_pattern (kind_shape sig kind marks) (variable_of name))
+  no_sequence-wild sig f kind marks [] h = tt
+  no_sequence-wild sig f [] marks (b ∷ bs) h = (ap (λ t. t && is_sequence (marked_shape marks)) (is_eq-slice_cmp x (b ∷ bs)) ∙ h, tt)
+  no_sequence-wild sig f (c ∷ cs) marks (b ∷ bs) h = (and-false (same_name x (b ∷ bs)), tt)
+
+  no_sequence-optional : (f : Option ℕ) (t : term.Tree) (name : List ℕ) → HasNoSequence f (wild_pattern (optional t) (variable_of name))
+  no_sequence-optional f t [] = tt
+  no_sequence-optional f t (b ∷ bs) = (and-false (same_name x (b ∷ bs)), tt)
+
+  module _ (sig : Sig) where
+    mutual
+      no_sequence-pattern_of : (f : Option ℕ) (p : Tree) → is_bound_sequence (map wildcard_variable (wildcards p)) x ≡ false → HasNoSequence f (pattern_of sig p)
+      no_sequence-pattern_of f (Symbol w) h = tt
+      no_sequence-pattern_of f (Apply g args) h = no_sequence-patterns_of (Some (head_number (op_number sig g.text))) args h
+      no_sequence-pattern_of f (InfixOf opened sign operands) h = no_sequence-patterns_of (Some (head_number (sign_number sig sign.text))) operands h
+      no_sequence-pattern_of f (Wild w) h = no_sequence-wild sig f w.kind w.marks w.name (or_parts (bytes_eq x w.name && is_sequence (marked_shape w.marks)) false h).0
+      no_sequence-pattern_of f (Optional w others default) h = no_sequence-optional f (normal sig (term_of sig default)) w.name
+      no_sequence-pattern_of f (Variable w) h = tt
+
+      no_sequence-patterns_of : (f : Option ℕ) (ps : Trees) → is_bound_sequence (map wildcard_variable (all_wildcards ps)) x ≡ false → AllByRecursion IsNoSequence (all_uses f (patterns_of sig ps))
+      no_sequence-patterns_of f no_trees h = tt
+      no_sequence-patterns_of f (more_trees p ps) h =
+          let test = λ (v : scope.Variable). bytes_eq x v.name && v.is_sequence in
+          let front = map wildcard_variable (wildcards p) in
+          let back = map wildcard_variable (all_wildcards ps) in
+          let o = or_parts (list_any test front) (list_any test back) (sym (list_any-append test front back) ∙ sym (ap (list_any test) (map-append wildcard_variable (wildcards p) (all_wildcards ps))) ∙ h) in
+          all-append IsNoSequence (uses f (pattern_of sig p)) (all_uses f (patterns_of sig ps)) (no_sequence-pattern_of f p o.0) (no_sequence-patterns_of f ps o.1)
+
+    -- a variable of no plus or star wildcard stands for one term in the pattern in normal form
+    pub single-variables : (p : Tree) → is_bound_sequence (pattern_variables p) x ≡ false → variable_form sig (normal_pattern sig (pattern_of sig p)) x ≡ one_form
+    single-variables p h =
+        let q = normal_pattern sig (pattern_of sig p) in
+        let none = of_normal_pattern sig (HasNoSequence None) no_sequence-down no_sequence-up (pattern_of sig p) (no_sequence-pattern_of None p h) in
+        ap (λ (mine : List Use). if list_any (λ u. not (comm_above sig u.under)) mine then seq_form else (if list_any (λ _. true) mine then bag_form else one_form)) (none-filtered (uses None q) none)

@@ -13,8 +13,9 @@ use Rattle.mp_syntax.specs.Syntax.{Spot, Tree, InfixOf, Trees, no_trees, more_tr
 use Rattle.mp_syntax.specs.View.{spot_of, expr_tree}
 use Rattle.mp_syntax.proofs.Trees.{expr_tree-Apply, tree_list-trees}
 use Rattle.mp_text.specs.Build.{op_number, sign_number, head_number, term_of, terms_of, pattern_of, patterns_of}
+use Rattle.mp_pattern.specs.SoundRule.{allows_patterns}
 use Rattle.mp_text.specs.Wildcards.{PatternWildcard}
-use Rattle.mp_text.specs.Checks.{op_named, op_signed, head_faults, arity_faults, sign_faults, allows_patterns, term_faults, term_operand_faults, all_term_faults, pattern_faults, pattern_operand_faults, all_pattern_faults}
+use Rattle.mp_text.specs.Checks.{op_named, op_signed, head_faults, arity_faults, sign_faults, term_faults, term_operand_faults, all_term_faults, pattern_faults, pattern_operand_faults, all_pattern_faults}
 
 -- an operation that isn't there
 pub none-unknown : (o : Option OpDecl) → false ≡ is_some o → o ≡ None
@@ -49,9 +50,9 @@ module _ (sig : Sig) where
 
   -- the faults of an application in a pattern
   pub pattern_faults-Apply : (before : List PatternWildcard) (f : code.Word) (v : Vec Expr Global)
-      → pattern_faults sig before (expr_tree (Apply f v)) ≡ head_faults (allows_patterns (map expr_tree v.items)) (spot_of f) (op_named sig f.text.now) ++ all_pattern_faults sig before (trees (map expr_tree v.items))
+      → pattern_faults sig before (expr_tree (Apply f v)) ≡ head_faults (allows_patterns (map (pattern_of sig) (map expr_tree v.items))) (spot_of f) (op_named sig f.text.now) ++ all_pattern_faults sig before (trees (map expr_tree v.items))
   pattern_faults-Apply before f v =
-      ap (pattern_faults sig before) (expr_tree-Apply f v) ∙ ap (λ l. head_faults (allows_patterns l) (spot_of f) (op_named sig f.text.now) ++ all_pattern_faults sig before (trees (map expr_tree v.items))) (tree_list-trees (map expr_tree v.items))
+      ap (pattern_faults sig before) (expr_tree-Apply f v) ∙ ap (λ l. head_faults (allows_patterns (map (pattern_of sig) l)) (spot_of f) (op_named sig f.text.now) ++ all_pattern_faults sig before (trees (map expr_tree v.items))) (tree_list-trees (map expr_tree v.items))
 
   -- the term of operands with a sign between them
   pub term_of-operands : (place : Place) (sign : Spot) (es : List Expr) → term_of sig (InfixOf place sign (trees (map expr_tree es))) ≡ term.app (head_number (sign_number sig sign.text)) (term.trees (map (term_of sig) (map expr_tree es)))
@@ -70,9 +71,9 @@ module _ (sig : Sig) where
 
   -- the faults of operands in a pattern, by their list
   pub pattern_faults-operands : (before : List PatternWildcard) (place : Place) (sign : Spot) (es : List Expr)
-      → pattern_faults sig before (InfixOf place sign (trees (map expr_tree es))) ≡ arity_faults (allows_patterns (map expr_tree es)) place (op_signed sig sign.text) ++ pattern_operand_faults sig before (sign_faults sign (op_signed sig sign.text)) (trees (map expr_tree es))
+      → pattern_faults sig before (InfixOf place sign (trees (map expr_tree es))) ≡ arity_faults (allows_patterns (map (pattern_of sig) (map expr_tree es))) place (op_signed sig sign.text) ++ pattern_operand_faults sig before (sign_faults sign (op_signed sig sign.text)) (trees (map expr_tree es))
   pattern_faults-operands before place sign es =
-      ap (λ l. arity_faults (allows_patterns l) place (op_signed sig sign.text) ++ pattern_operand_faults sig before (sign_faults sign (op_signed sig sign.text)) (trees (map expr_tree es))) (tree_list-trees (map expr_tree es))
+      ap (λ l. arity_faults (allows_patterns (map (pattern_of sig) l)) place (op_signed sig sign.text) ++ pattern_operand_faults sig before (sign_faults sign (op_signed sig sign.text)) (trees (map expr_tree es))) (tree_list-trees (map expr_tree es))
 
   -- a sign that an operation has is no fault between operands
   pub term_operand_faults-known : (sign : Spot) (o : Option OpDecl) (ts : Trees) → true ≡ is_some o → term_operand_faults sig (sign_faults sign o) ts ≡ all_term_faults sig ts

@@ -16,7 +16,7 @@ use Rattle.mp_text.specs.declared.fault.TextFault.{TextFault}
 use Rattle.mp_text.specs.Names.{is_same_variable}
 use Rattle.mp_text.specs.Wildcards.{DefaultForm, absent, normal_form, unknown, PatternWildcard, without_default, with_default_form, pattern_wildcards, all_pattern_wildcards, same_default, same_class, differs}
 use Rattle.mp_text.specs.Build.{kind_shape, shape_of, variable_of, pattern_of, patterns_of}
-use Rattle.mp_text.specs.Checks.{fault_if, head_faults, arity_faults, sign_faults, allows_patterns, op_named, op_signed, kind_unknown, default_faults, wildcard_faults, pattern_faults, pattern_operand_faults, all_pattern_faults}
+use Rattle.mp_text.specs.Checks.{fault_if, head_faults, arity_faults, sign_faults, allows_args, op_named, op_signed, kind_unknown, default_faults, wildcard_faults, pattern_faults, pattern_operand_faults, all_pattern_faults}
 use Rattle.mp_text.proofs.Words.{first-of, second-of}
 use Rattle.mp_text.proofs.Faultless.{nil-append, nil-fault_if}
 use Rattle.mp_text.proofs.Defaults.{default_form-default_faults}
@@ -56,10 +56,10 @@ module _ (sig : Sig) where
     -- the wildcards of a pattern without faults
     pub Apart-pattern_faults : (before : List PatternWildcard) (p : Tree) → pattern_faults sig before p ≡ [] → Apart before (pattern_wildcards sig p)
     Apart-pattern_faults before (Symbol w) h = tt
-    Apart-pattern_faults before (Apply f args) h = Apart-all_pattern_faults before args (nil-append (head_faults (allows_patterns (tree_list args)) f (op_named sig f.text)) (all_pattern_faults sig before args) h).1
+    Apart-pattern_faults before (Apply f args) h = Apart-all_pattern_faults before args (nil-append (head_faults (allows_args sig args) f (op_named sig f.text)) (all_pattern_faults sig before args) h).1
     Apart-pattern_faults before (InfixOf opened sign operands) h =
         let at_sign = sign_faults sign (op_signed sig sign.text) in
-        let p = nil-append (arity_faults (allows_patterns (tree_list operands)) opened (op_signed sig sign.text)) (pattern_operand_faults sig before at_sign operands) h in
+        let p = nil-append (arity_faults (allows_args sig operands) opened (op_signed sig sign.text)) (pattern_operand_faults sig before at_sign operands) h in
         Apart-all_pattern_faults before operands (nil-pattern_operands sig before at_sign operands p.1).1
     Apart-pattern_faults before (Wild w) h = (Apart-wildcard_faults before (without_default w) h, tt)
     Apart-pattern_faults before (Optional w others default) h =
@@ -149,10 +149,10 @@ module _ (sig : Sig) where
     -- its wildcards are those of its syntax tree
     pub wilds-pattern_of : (before : List PatternWildcard) (t : Tree) → pattern_faults sig before t ≡ [] → wilds (subpatterns (pattern_of sig t)) ≡ map wild_of (pattern_wildcards sig t)
     wilds-pattern_of before (Symbol w) h = refl
-    wilds-pattern_of before (Apply f args) h = wilds-patterns_of before args (nil-append (head_faults (allows_patterns (tree_list args)) f (op_named sig f.text)) (all_pattern_faults sig before args) h).1
+    wilds-pattern_of before (Apply f args) h = wilds-patterns_of before args (nil-append (head_faults (allows_args sig args) f (op_named sig f.text)) (all_pattern_faults sig before args) h).1
     wilds-pattern_of before (InfixOf opened sign operands) h =
         let at_sign = sign_faults sign (op_signed sig sign.text) in
-        let p = nil-append (arity_faults (allows_patterns (tree_list operands)) opened (op_signed sig sign.text)) (pattern_operand_faults sig before at_sign operands) h in
+        let p = nil-append (arity_faults (allows_args sig operands) opened (op_signed sig sign.text)) (pattern_operand_faults sig before at_sign operands) h in
         wilds-patterns_of before operands (nil-pattern_operands sig before at_sign operands p.1).1
     wilds-pattern_of before (Wild w) h = refl
     wilds-pattern_of before (Optional w others default) h =

@@ -1,50 +1,18 @@
--- The defaults of a normal form are those of the pattern; and a default without faults has a normal form.
+-- A default without faults has a normal form.
 use Rattle.std.proofs.Common.{◌≡◌, true, List, [], ◌∷◌, ◌++◌, length, ℕ, Bool, Option, Some, None, refl, ap, ◌∙◌}
 use Rattle.std.specs.Prelude.{is_some, flat_map, if◌then◌else◌}
-use Rattle.std.specs.List.{AllByRecursion}
 use Rattle.std.proofs.lemmas.Bool.{and_from}
 use Rattle.mp_term.specs.declared.signature.OpDecl.{OpDecl}
 use Rattle.mp_term.specs.Signature.{Sig, allows}
 use Rattle.mp_term.specs.Normal.{normal}
-use Rattle.mp_pattern.specs.PatternTree.{Pattern, Patterns, no_patterns, more_patterns, pattern_list, patterns}
-use Rattle.mp_pattern.specs.Normal.{normal_pattern}
-use Rattle.mp_pattern.specs.Limits.{DefaultsAreSmall, AllDefaultsAreSmall}
-use Rattle.mp_pattern.proofs.Preserved.{of_normal_pattern}
 use Rattle.mp_syntax.specs.Syntax.{Spot, Wildcard, Tree, Symbol, Apply, InfixOf, Wild, Variable, Optional, Trees, no_trees, more_trees, tree_list}
 use Rattle.mp_text.specs.declared.fault.TextFault.{TextFault}
 use Rattle.mp_text.specs.Build.{op_number, sign_number, term_of, has_term, all_have_terms}
 use Rattle.mp_text.specs.Wildcards.{DefaultForm, normal_form, unknown, default_form}
 use Rattle.mp_text.specs.Checks.{fault_if, kind_unknown, op_at, op_named, op_signed, head_faults, arity_faults, sign_faults, term_wildcard_faults, term_faults, term_operand_faults, all_term_faults, default_faults}
-use Rattle.mp_text.specs.Sound.{DefaultsAreFormed, AllDefaultsAreFormed}
 use Rattle.mp_text.proofs.Faultless.{nil-append, some-behind}
 
--- ---- normal forms
-
-each_small : (ps : Patterns) → AllDefaultsAreSmall ps → AllByRecursion DefaultsAreSmall (pattern_list ps)
-each_small no_patterns h = tt
-each_small (more_patterns p ps) h = (h.0, each_small ps h.1)
-
-all_small : (qs : List Pattern) → AllByRecursion DefaultsAreSmall qs → AllDefaultsAreSmall (patterns qs)
-all_small [] h = tt
-all_small (q ∷ qs) h = (h.0, all_small qs h.1)
-
 module _ (sig : Sig) where
-  -- the defaults of a normal form are small where those of the pattern are
-  pub small-normal_pattern : (p : Pattern) → DefaultsAreSmall p → DefaultsAreSmall (normal_pattern sig p)
-  small-normal_pattern = of_normal_pattern sig DefaultsAreSmall (λ f ps h. each_small ps h) (λ f ps qs h k. all_small qs k)
-
-  each_formed : (ps : Patterns) → AllDefaultsAreFormed sig ps → AllByRecursion (DefaultsAreFormed sig) (pattern_list ps)
-  each_formed no_patterns h = tt
-  each_formed (more_patterns p ps) h = (h.0, each_formed ps h.1)
-
-  all_formed : (qs : List Pattern) → AllByRecursion (DefaultsAreFormed sig) qs → AllDefaultsAreFormed sig (patterns qs)
-  all_formed [] h = tt
-  all_formed (q ∷ qs) h = (h.0, all_formed qs h.1)
-
-  -- and well formed where those are
-  pub formed-normal_pattern : (p : Pattern) → DefaultsAreFormed sig p → DefaultsAreFormed sig (normal_pattern sig p)
-  formed-normal_pattern = of_normal_pattern sig (DefaultsAreFormed sig) (λ f ps h. each_formed ps h) (λ f ps qs h k. all_formed qs k)
-
   -- ---- terms without faults
 
   -- operands without faults, and a sign without faults

@@ -15,13 +15,14 @@ pub mod Whole
 pub mod SoundLaws
 mod BoundNames
 mod SoundConditionLaws
-pub mod SoundFile
 mod SpelledHead
 mod SpelledTerm
 mod SpelledWildcard
 mod SpelledPattern
 mod SpelledDeclarations
+mod Statements
 mod ReadFile
+pub mod SoundFile
 mod SpelledScope
 mod SpelledAtom
 mod SpelledCondition

@@ -19,13 +19,15 @@ use Rattle.mp_text.specs.declared.fault.TextKind.TheVariants.{DuplicateName, Too
 use Rattle.mp_text.specs.declared.fault.TextFault.{TextFault}
 use Rattle.mp_text.specs.Names.{is_among, rule_names, subject_names, number_of}
 use Rattle.mp_text.specs.Flags.{sign_spot, is_long_sign}
-use Rattle.mp_text.specs.Build.{kind_number, op_decls, sig_with, sig_of, op_number}
-use Rattle.mp_text.specs.Checks.{fault_at, fault_if, is_large_pattern, is_large_term, may_take_more, fewest, allows_patterns, head_faults, arity_faults, sign_faults, op_named, op_signed, symbol_faults, term_faults, term_operand_faults, all_term_faults, kind_unknown, wildcard_faults, pattern_faults, pattern_operand_faults, all_pattern_faults, loose_faults, whole_pattern_faults, name_faults, has_bad_flags, held_sign_faults, op_faults, kind_faults, op_statement_faults, kind_statement_faults, faults_by, declaration_faults, may_take_none, term_wildcard_faults, default_faults}
+use Rattle.mp_pattern.specs.SoundRule.{allows_patterns}
+use Rattle.mp_pattern.specs.PatternTree.{is_loose}
+use Rattle.mp_text.specs.Build.{marked_shape, pattern_of, kind_number, op_decls, sig_with, sig_of, op_number}
+use Rattle.mp_text.specs.Checks.{fault_at, fault_if, is_large_pattern, is_large_term, allows_args, head_faults, arity_faults, sign_faults, op_named, op_signed, symbol_faults, term_faults, term_operand_faults, all_term_faults, kind_unknown, wildcard_faults, pattern_faults, pattern_operand_faults, all_pattern_faults, loose_faults, whole_pattern_faults, name_faults, has_bad_flags, held_sign_faults, op_faults, kind_faults, op_statement_faults, kind_statement_faults, faults_by, declaration_faults, term_wildcard_faults, default_faults}
 use Rattle.mp_text.specs.Scope.{Scope, pattern_variables, is_bound, is_bound_sequence}
 use Rattle.mp_text.specs.ConditionChecks.{has_large_condition, unbound_faults, sequence_faults, single_faults, property_faults, operand_faults, related_faults, amount_faults, atom_faults, literal_faults, literals_faults, condition_faults, if_faults}
 use Rattle.mp_text.specs.FileChecks.{rule_faults, statement_faults, faults}
 use Rattle.mp_text.specs.Wildcards.{PatternWildcard, without_default, with_default_form, pattern_wildcards, differs}
-use Rattle.mp_text.proofs.Places.{unplaced_pattern_wildcard, default_form-unplaced_tree, has_large_condition-unplaced, is_large_pattern-unplaced_tree, is_large_term-unplaced_tree, is_long_sign-unplaced_sign, length-unplaced_trees, op_decl-unplaced_flag, op_decls-unplaced, scope-unplaced_tree, sig_of-unplaced, sig_with-unplaced, sign_spot-unplaced_flag, some_flag_twice-unplaced_flag, wildcards-unplaced_tree}
+use Rattle.mp_text.proofs.Places.{pattern_of-unplaced_tree, unplaced_pattern_wildcard, default_form-unplaced_tree, has_large_condition-unplaced, is_large_pattern-unplaced_tree, is_large_term-unplaced_tree, is_long_sign-unplaced_sign, length-unplaced_trees, op_decl-unplaced_flag, op_decls-unplaced, scope-unplaced_tree, sig_of-unplaced, sig_with-unplaced, sign_spot-unplaced_flag, some_flag_twice-unplaced_flag, wildcards-unplaced_tree}
 
 -- ---- faults
 
@@ -59,41 +61,15 @@ sign_faults-unplaced sign (Some d) = refl
 
 -- ---- numbers of arguments
 
-may_take_none-unplaced_tree : (t : Tree) → may_take_none (unplaced_tree t) ≡ may_take_none t
-may_take_none-unplaced_tree (Symbol w) = refl
-may_take_none-unplaced_tree (Apply f args) = refl
-may_take_none-unplaced_tree (InfixOf opened sign operands) = refl
-may_take_none-unplaced_tree (Wild w) = refl
-may_take_none-unplaced_tree (Optional w others default) = refl
-may_take_none-unplaced_tree (Variable x) = refl
-
-may_take_more-unplaced_tree : (assoc : Bool) (t : Tree) → may_take_more assoc (unplaced_tree t) ≡ may_take_more assoc t
-may_take_more-unplaced_tree assoc (Symbol w) = refl
-may_take_more-unplaced_tree assoc (Apply f args) = refl
-may_take_more-unplaced_tree assoc (InfixOf opened sign operands) = refl
-may_take_more-unplaced_tree assoc (Wild w) = refl
-may_take_more-unplaced_tree assoc (Optional w others default) = refl
-may_take_more-unplaced_tree assoc (Variable x) = refl
-
--- how many arguments these patterns take at least, with one pattern before them
-pub fewest-cons : (t : Tree) (ts : List Tree) → fewest (t ∷ ts) ≡ cond (not (may_take_none t)) 1 0 + fewest ts
-fewest-cons t ts = sum_by-cons (λ p. cond (not (may_take_none p)) 1 0) t ts
-
-fewest-unplaced_trees : (ts : Trees) → fewest (tree_list (unplaced_trees ts)) ≡ fewest (tree_list ts)
-fewest-unplaced_trees no_trees = refl
-fewest-unplaced_trees (more_trees t ts) =
-    fewest-cons (unplaced_tree t) (tree_list (unplaced_trees ts)) ∙ (λ i. cond (not (may_take_none-unplaced_tree t i)) 1 0 + fewest-unplaced_trees ts i) ∙ sym (fewest-cons t (tree_list ts))
-
-some-unplaced_trees : (assoc : Bool) (ts : Trees) → list_any (may_take_more assoc) (tree_list (unplaced_trees ts)) ≡ list_any (may_take_more assoc) (tree_list ts)
-some-unplaced_trees assoc no_trees = refl
-some-unplaced_trees assoc (more_trees t ts) = λ i. may_take_more-unplaced_tree assoc t i || some-unplaced_trees assoc ts i
-
 allows-unplaced_trees : (ts : Trees) (d : OpDecl) → allows (length (tree_list (unplaced_trees ts))) d ≡ allows (length (tree_list ts)) d
 allows-unplaced_trees ts d = ap (λ n. allows n d) (length-unplaced_trees ts)
 
-allows_patterns-unplaced_trees : (ts : Trees) (d : OpDecl) → allows_patterns (tree_list (unplaced_trees ts)) d ≡ allows_patterns (tree_list ts) d
-allows_patterns-unplaced_trees ts d = λ i.
-    (some-unplaced_trees d.assoc ts i || leb d.least (length-unplaced_trees ts i)) && (not d.fixed || leb (fewest-unplaced_trees ts i) d.least)
+args-unplaced_trees : (sig : Sig) (ts : Trees) → map (pattern_of sig) (tree_list (unplaced_trees ts)) ≡ map (pattern_of sig) (tree_list ts)
+args-unplaced_trees sig no_trees = refl
+args-unplaced_trees sig (more_trees t ts) = λ i. pattern_of-unplaced_tree sig t i ∷ args-unplaced_trees sig ts i
+
+allows_args-unplaced_trees : (sig : Sig) (ts : Trees) (d : OpDecl) → allows_args sig (unplaced_trees ts) d ≡ allows_args sig ts d
+allows_args-unplaced_trees sig ts d = ap (λ l. allows_patterns l d) (args-unplaced_trees sig ts)
 
 -- ---- faults of expressions
 
@@ -151,12 +127,12 @@ module _ (sig : Sig) where
     pattern_faults-unplaced : (before : List PatternWildcard) (p : Tree) → pattern_faults sig (map unplaced_pattern_wildcard before) (unplaced_tree p) ≡ map unplaced_fault (pattern_faults sig before p)
     pattern_faults-unplaced before (Symbol w) = symbol_faults-unplaced w
     pattern_faults-unplaced before (Apply f args) =
-        joined (head_faults (allows_patterns (tree_list args)) f (op_named sig f.text)) (all_pattern_faults sig before args)
-        (head_faults-unplaced (allows_patterns (tree_list args)) (allows_patterns (tree_list (unplaced_trees args))) (allows_patterns-unplaced_trees args) f (op_named sig f.text))
+        joined (head_faults (allows_args sig args) f (op_named sig f.text)) (all_pattern_faults sig before args)
+        (head_faults-unplaced (allows_args sig args) (allows_args sig (unplaced_trees args)) (allows_args-unplaced_trees sig args) f (op_named sig f.text))
         (all_pattern_faults-unplaced before args)
     pattern_faults-unplaced before (InfixOf opened sign operands) =
-        joined (arity_faults (allows_patterns (tree_list operands)) opened (op_signed sig sign.text)) (pattern_operand_faults sig before (sign_faults sign (op_signed sig sign.text)) operands)
-        (arity_faults-unplaced (allows_patterns (tree_list operands)) (allows_patterns (tree_list (unplaced_trees operands))) (allows_patterns-unplaced_trees operands) opened (op_signed sig sign.text))
+        joined (arity_faults (allows_args sig operands) opened (op_signed sig sign.text)) (pattern_operand_faults sig before (sign_faults sign (op_signed sig sign.text)) operands)
+        (arity_faults-unplaced (allows_args sig operands) (allows_args sig (unplaced_trees operands)) (allows_args-unplaced_trees sig operands) opened (op_signed sig sign.text))
         (pattern_operand_faults-unplaced before (sign_faults sign (op_signed sig sign.text)) (sign_faults (unplaced_spot sign) (op_signed sig sign.text)) operands (sign_faults-unplaced sign (op_signed sig sign.text)))
     pattern_faults-unplaced before (Wild w) = wildcard_faults-unplaced before (without_default w)
     pattern_faults-unplaced before (Optional w others default) =
@@ -183,7 +159,7 @@ module _ (sig : Sig) where
   loose_faults-unplaced (Symbol w) = refl
   loose_faults-unplaced (Apply f args) = refl
   loose_faults-unplaced (InfixOf opened sign operands) = refl
-  loose_faults-unplaced (Wild w) = fault_if-unplaced (ltb 1 w.marks) LooseSequence w.place refl
+  loose_faults-unplaced (Wild w) = fault_if-unplaced (is_loose (marked_shape w.marks)) LooseSequence w.place refl
   loose_faults-unplaced (Optional w others default) = refl
   loose_faults-unplaced (Variable x) = refl
 

@@ -104,7 +104,7 @@ module _ (sig : Sig) where
     terms_of-unplaced_trees (more_trees t ts) = λ i. term.more_trees (term_of-unplaced_tree t i) (terms_of-unplaced_trees ts i)
 
   mutual
-    pattern_of-unplaced_tree : (t : Tree) → pattern_of sig (unplaced_tree t) ≡ pattern_of sig t
+    pub pattern_of-unplaced_tree : (t : Tree) → pattern_of sig (unplaced_tree t) ≡ pattern_of sig t
     pattern_of-unplaced_tree (Symbol w) = refl
     pattern_of-unplaced_tree (Apply f args) = ap (pattern.app_pattern (head_number (op_number sig f.text))) (patterns_of-unplaced_trees args)
     pattern_of-unplaced_tree (InfixOf opened sign operands) = ap (pattern.app_pattern (head_number (sign_number sig sign.text))) (patterns_of-unplaced_trees operands)

@@ -25,29 +25,11 @@ use Rattle.mp_text.specs.Spelled.{piece}
 use Rattle.mp_text.proofs.Declared.{is_among-has_name, is_among-list_any, op_decls-append, op_decls-other, kind_decls-append, kind_decls-other, rules_of-append, subjects_of-append}
 use Rattle.mp_text.proofs.Faultless.{nil-append, nil-fault_if}
 use Rattle.mp_text.proofs.OpLaws.{declarable-op_faults}
-use Rattle.mp_text.proofs.SoundLaws.{named-by}
-use Rattle.mp_text.proofs.SpelledHead.{IsSomeSign, IsSymbolOf, IsSymbolOf-symbol_faults}
+use Rattle.mp_pattern.specs.SoundRule.{IsSymbol}
+use Rattle.mp_text.proofs.SoundLaws.{named-by, IsSymbol-symbol_faults}
+use Rattle.mp_text.proofs.Statements.{IsRead, holds-behind}
+use Rattle.mp_text.proofs.SpelledHead.{IsSomeSign}
 use Rattle.mp_text.proofs.SpelledDeclarations.{IsDeclaredOp, IsDeclaredKind, all-name_set, some-name_set, length-name_set-le}
-
--- ---- statement by statement
-
--- a statement as the grammar has it: its words are names, its signs are signs, and it fits
-pub record IsRead (s : Statement) : Type 0 where
-  pub names : StatementHasNames s
-  pub fits : FitsStatement s
-
--- each statement is so where their words are names and they fit
-pub all-IsRead : (ss : List Statement) → StatementsHaveNames ss → AreStatements ss → AllByRecursion IsRead ss
-all-IsRead [] names fits = tt
-all-IsRead (s ∷ ss) names fits = (record { names = names.0; fits = fits.0 }, all-IsRead ss names.1 fits.1)
-
--- what a statement without faults keeps, and holds before the statements, holds behind them
-module _ (rule : List Statement → Statement → List TextFault) (I : List Statement → Type 0) (step : (earlier : List Statement) (s : Statement) → IsRead s → rule earlier s ≡ [] → I earlier → I (earlier ++ s ∷ [])) where
-  pub holds-behind : (earlier ss : List Statement) → AllByRecursion IsRead ss → faults_by rule earlier ss ≡ [] → I earlier → I (earlier ++ ss)
-  holds-behind earlier [] read h i = subst I (sym (append-nil earlier)) i
-  holds-behind earlier (s ∷ ss) read h i =
-      let p = nil-append (rule earlier s) (faults_by rule (earlier ++ s ∷ []) ss) h in
-      subst I (append_assoc earlier (s ∷ []) ss) (holds-behind (earlier ++ s ∷ []) ss read.1 p.1 (step earlier s read.0 p.0 i))
 
 -- ---- operations
 
@@ -133,11 +115,11 @@ AreDeclaredOps-op_decls ss read h =
 -- ---- kinds
 
 -- members without faults are symbols
-symbols-of : (ds : List OpDecl) (ss : List Statement) (members : List Spot) → AreNames members → flat_map (symbol_faults (sig_with ds ss)) members ≡ [] → AllByRecursion (IsSymbolOf (sig_with ds [])) (map (λ m. m.text) members)
+symbols-of : (ds : List OpDecl) (ss : List Statement) (members : List Spot) → AreNames members → flat_map (symbol_faults (sig_with ds ss)) members ≡ [] → AllByRecursion (IsSymbol (sig_with ds [])) (map (λ m. m.text) members)
 symbols-of ds ss [] names h = tt
 symbols-of ds ss (m ∷ members) names h =
     let p = nil-append (symbol_faults (sig_with ds ss) m) (flat_map (symbol_faults (sig_with ds ss)) members) h in
-    (IsSymbolOf-symbol_faults (sig_with ds []) m names.0 p.0, symbols-of ds ss members names.1 p.1)
+    (IsSymbol-symbol_faults (sig_with ds []) m names.0 p.0, symbols-of ds ss members names.1 p.1)
 
 some-member : (members : List Spot) → members ≢ [] → 0 < length (map (λ m. m.text) members)
 some-member [] some = absurd (some refl)
@@ -165,7 +147,7 @@ module _ (ds : List OpDecl) where
       let few : length members ≤ 10000 = ltb-false 10000 (length members) n.small in
       let own : IsDeclaredKind ds k = record {
         name = read.names.0;
-        members = all-name_set (IsSymbolOf (sig_with ds [])) written (symbols-of ds earlier members read.names.1 p.1);
+        members = all-name_set (IsSymbol (sig_with ds [])) written (symbols-of ds earlier members read.names.1 p.1);
         ascend = names_ascend-name_set written;
         some = some-name_set written (some-member members read.fits);
         few = omega (arith, length-name_set-le written, length-map members (λ m. m.text), few);
@@ -184,39 +166,3 @@ module _ (ds : List OpDecl) where
   -- the kinds of statements without faults
   pub AreDeclaredKinds-kind_decls : (ss : List Statement) → AllByRecursion IsRead ss → faults_by (kind_statement_faults ds) [] ss ≡ [] → AreDeclaredOps ds → AreDeclaredKinds (kind_decls ss)
   AreDeclaredKinds-kind_decls ss read h ops = holds-behind (kind_statement_faults ds) (λ ss. AreDeclaredKinds (kind_decls ss)) declare-kind [] ss read h (record { signature = ops.signature; each = tt })
-
--- ---- rules and subjects
-
-module _ (sig : Sig) (R : Rule → Type 0) (S : Subject → Type 0)
-    (rule-of : (name : Spot) (p : Tree) (c : Option Condition) → IsRead (RuleOf name p c) → (is_large_pattern p || has_large_condition c) ≡ false → rule_faults sig p c ≡ [] → R (rule_of sig name p c))
-    (subject-of : (name : Spot) (t : Tree) → IsName name.text → HasNames t → term_faults sig t ≡ [] → S (subject_of sig name t))
-  where
-    -- rules and subjects of which the facts hold
-    record Hold (rules : List Rule) (subjects : List Subject) : Type 0 where
-      pub rules_hold : AllByRecursion R rules
-      pub subjects_hold : AllByRecursion S subjects
-
-    hold-statement : (earlier : List Statement) (s : Statement) → IsRead s → statement_faults sig earlier s ≡ [] → Hold (rules_of sig (s ∷ [])) (subjects_of sig (s ∷ []))
-    hold-statement earlier (OpOf name least more flags) read h = record { rules_hold = tt; subjects_hold = tt }
-    hold-statement earlier (KindOf name members) read h = record { rules_hold = tt; subjects_hold = tt }
-    hold-statement earlier (RuleOf name p c) read h =
-        let large = is_large_pattern p || has_large_condition c in
-        let q = nil-append (name_faults 1000 (rule_names earlier) large name) (rule_faults sig p c) h in
-        record { rules_hold = (rule-of name p c read (named-by 1000 (rule_names earlier) large name q.0).small q.1, tt); subjects_hold = tt }
-    hold-statement earlier (SubjectOf name t) read h =
-        let q = nil-append (name_faults 1000 (subject_names earlier) (is_large_term t) name) (term_faults sig t) h in
-        record { rules_hold = tt; subjects_hold = (subject-of name t read.names.0 read.names.1 q.1, tt) }
-
-    hold-behind : (earlier : List Statement) (s : Statement) → IsRead s → statement_faults sig earlier s ≡ [] → Hold (rules_of sig earlier) (subjects_of sig earlier) → Hold (rules_of sig (earlier ++ s ∷ [])) (subjects_of sig (earlier ++ s ∷ []))
-    hold-behind earlier s read h i =
-        let own = hold-statement earlier s read h in
-        record {
-          rules_hold = subst (AllByRecursion R) (sym (rules_of-append sig earlier (s ∷ []))) (all-append R (rules_of sig earlier) (rules_of sig (s ∷ [])) i.rules_hold own.rules_hold);
-          subjects_hold = subst (AllByRecursion S) (sym (subjects_of-append sig earlier (s ∷ []))) (all-append S (subjects_of sig earlier) (subjects_of sig (s ∷ [])) i.subjects_hold own.subjects_hold);
-        }
-
-    -- the facts hold of the rules and subjects of statements without faults
-    pub all-rules_of : (ss : List Statement) → AllByRecursion IsRead ss → faults_by (statement_faults sig) [] ss ≡ [] → AllByRecursion R (rules_of sig ss) × AllByRecursion S (subjects_of sig ss)
-    all-rules_of ss read h =
-        let all = holds-behind (statement_faults sig) (λ ss. Hold (rules_of sig ss) (subjects_of sig ss)) hold-behind [] ss read h (record { rules_hold = tt; subjects_hold = tt }) in
-        (all.rules_hold, all.subjects_hold)

@@ -1,10 +1,10 @@
 -- What the checks let through is sound.
 use Rattle.std.specs.Prelude.{if◌then◌else◌}
-use Rattle.mp_text.proofs.Words.{first-of, second-of}
+use Rattle.mp_text.proofs.Words.{first-of, second-of, is_name-IsName}
 use Rattle.mp_text.proofs.Faultless.{nil-append, nil-fault_if, some-behind}
-use Rattle.std.proofs.Common.{eqb, ◌≡◌, ◌≤◌, ◌<◌, ◌+◌, ℕ, zero, suc, Bool, true, false, ◌||◌, ◌&&◌, leb, ltb, rules, List, [], ◌∷◌, ◌++◌, map, length, Option, Some, None, refl, ap, ◌∙◌, arith}
-use Rattle.std.specs.Prelude.{not, flat_map, slice_get}
-use Rattle.std.specs.List.{list_all}
+use Rattle.std.proofs.Common.{cond, sym, eqb, ◌≡◌, ◌≤◌, ◌<◌, ◌+◌, ℕ, zero, suc, Bool, true, false, ◌||◌, ◌&&◌, leb, ltb, rules, List, [], ◌∷◌, ◌++◌, map, length, Option, Some, None, refl, ap, ◌∙◌, arith}
+use Rattle.std.specs.Prelude.{◌≢◌, not, flat_map, slice_get, position, is_some, is_none, nat_lt}
+use Rattle.std.specs.List.{list_all, list_any, position_or_len}
 use Rattle.std.specs.Str.{bytes_eq}
 use Rattle.std.proofs.lemmas.List.{map-append}
 use Rattle.std.proofs.lemmas.List.Sorted.{length_permutation}
@@ -13,7 +13,8 @@ use Rattle.std.proofs.lemmas.Bool.{not-true, and_from, leb-false, ltb-false, not
 use Rattle.mp_term.specs.declared.signature.OpDecl.{OpDecl}
 use Rattle.mp_term.specs.Tree.{tree_list}
 use Rattle.mp_term.specs.Size.{node_count, node_counts, depth, greatest_depth}
-use Rattle.mp_term.specs.Signature.{Sig, is_one, allows, all_in_order, well_formed, all_well_formed}
+use Rattle.mp_term.specs.Signature.{Sig, holds_of, is_one, allows, has_name, kind_names, all_in_order, well_formed, all_well_formed}
+use Rattle.mp_term.proofs.SignatureLaws.{is_some-position}
 use Rattle.mp_term.specs.Normal.{normal}
 use Rattle.mp_term.proofs.NormalSize.{normal-normal, node_count-normal, depth-normal}
 use Rattle.mp_term.proofs.WellFormedNormal.{wf-normal}
@@ -25,26 +26,50 @@ use Rattle.mp_pattern.specs.Size.{pattern_nodes, all_pattern_nodes}
 use Rattle.mp_pattern.specs.Value.{same_name}
 use Rattle.mp_pattern.specs.Variables.{uses, all_uses, variables}
 use Rattle.mp_syntax.specs.Syntax as syntax
-use Rattle.mp_syntax.specs.Syntax.{Spot, Wildcard, Tree, Symbol, Apply, InfixOf, Wild, Variable, Trees, no_trees, more_trees, Flag, Statement, OpOf, KindOf, RuleOf, SubjectOf, Fits, AreFit, AreStatements, Optional}
+use Rattle.mp_syntax.specs.Syntax.{Spot, Wildcard, Tree, Symbol, Apply, InfixOf, Wild, Variable, Trees, no_trees, more_trees, Flag, Statement, OpOf, KindOf, RuleOf, SubjectOf, Fits, AreFit, AreStatements, Optional, IsName, HasNames, HaveNames}
 use Rattle.mp_syntax.specs.declared.place.Place.{Place}
 use Rattle.mp_text.specs.Names.{is_among, named, wildcard_names, all_wildcard_names, variable_names}
-use Rattle.mp_text.specs.Build.{op_number, sign_number, head_number, kind_shape, shape_of, variable_of, term_of, terms_of, pattern_of, patterns_of, kind_number}
-use Rattle.mp_text.specs.Checks.{fault_if, kind_unknown, nodes, all_nodes, is_large_pattern, is_large_term, op_at, op_named, op_signed, head_faults, arity_faults, sign_faults, allows_patterns, term_faults, term_operand_faults, all_term_faults, pattern_faults, pattern_operand_faults, all_pattern_faults, loose_faults, whole_pattern_faults, name_faults, has_large_default, some_large_default, term_wildcard_faults, default_faults, wildcard_faults}
-use Rattle.mp_text.specs.Wildcards.{PatternWildcard, with_default_form, pattern_wildcards}
-use Rattle.mp_pattern.specs.Sound.{DefaultIsNormal, DefaultsAreNormal, AllDefaultsAreNormal, holds_ops, all_hold_ops}
-use Rattle.mp_pattern.specs.Limits.{DefaultIsSmall, DefaultsAreSmall, AllDefaultsAreSmall}
+use Rattle.mp_text.specs.Build.{op_number, sign_number, head_number, marked_shape, kind_shape, shape_of, variable_of, term_of, terms_of, pattern_of, patterns_of, kind_number, subject_of}
+use Rattle.mp_text.specs.Checks.{fault_if, kind_unknown, nodes, all_nodes, is_large_pattern, is_large_term, op_at, op_named, op_signed, head_faults, arity_faults, sign_faults, allows_args, symbol_faults, term_faults, term_operand_faults, all_term_faults, pattern_faults, pattern_operand_faults, all_pattern_faults, loose_faults, whole_pattern_faults, name_faults, has_large_default, some_large_default, term_wildcard_faults, default_faults, wildcard_faults}
+use Rattle.mp_text.specs.Wildcards.{PatternWildcard, without_default, with_default_form, pattern_wildcards, differs}
+use Rattle.mp_pattern.specs.EachWildcard.{AllEachWildcard}
+use Rattle.mp_pattern.specs.Sound.{DefaultIsNormal, DefaultsAreNormal, holds_ops, all_hold_ops}
+use Rattle.mp_pattern.specs.declared.limits.TheConstants.{MAX_PATTERN_NODES, MAX_DEFAULT_NODES, MAX_VARIABLES, MAX_TERM_NODES, MAX_DEPTH}
+use Rattle.mp_pattern.specs.SoundRule.{allows_patterns, IsSymbol, HasSymbols, HaveSymbols, IsSoundTerm, IsSoundWildcard, IsVariable, IsFormed, AreFormed, IsSoundPattern}
+use Rattle.mp_pattern.proofs.Formed.{is_loose-collapsed, IsFormed-normal_pattern, HasSymbols-normal}
 use Rattle.mp_pattern.proofs.ClashLaws.{first_clash-normal_pattern}
-use Rattle.mp_pattern.proofs.Preserved.{defaults-normal_pattern, holds_ops-normal_pattern}
 use Rattle.mp_pattern.proofs.NormalShape.{normal_pattern-normal_pattern}
 use Rattle.mp_pattern.proofs.NormalMeasures.{pattern_nodes-normal_pattern}
 use Rattle.mp_pattern.proofs.VariableLaws.{IsPermutation-variables}
 use Rattle.mp_syntax.proofs.Trees.{fits-optional}
 use Rattle.mp_text.proofs.Clashes.{nil-pattern_operands, first_clash-pattern_of}
-use Rattle.mp_text.proofs.Defaults.{small-normal_pattern, formed-normal_pattern, nil-term_operands, no-optional_term}
+use Rattle.mp_text.proofs.Defaults.{nil-term_operands, no-optional_term}
 use Rattle.mp_pattern.proofs.NormalDepth.{pattern_depth-normal_pattern}
-use Rattle.mp_text.specs.Sound.{DefaultIsFormed, DefaultsAreFormed, AllDefaultsAreFormed, IsSoundPattern, IsSoundTerm}
+use Rattle.mp_text.specs.Sound.{IsSoundSubject}
 use Rattle.mp_pattern.specs.Depth.{wildcard_depth, pattern_depth, greatest_pattern_depth}
 use Rattle.mp_text.proofs.Declared.{bytes_eq_comm}
+
+-- ---- what is found
+
+-- there is an element before the end
+within-get : {X : Type 0} (xs : List X) (k : ℕ) → k < length xs → is_some (slice_get xs k) ≡ true
+within-get [] k h = absurd (omega (arith, h))
+within-get (x ∷ xs) zero h = refl
+within-get (x ∷ xs) (suc k) h = within-get xs k (omega (arith, h))
+
+-- what is found at an index is held there
+pub held-position : {X : Type 0} (p : X → Bool) (xs : List X) → is_none (position p xs) ≡ false → is_some (slice_get xs (head_number (position p xs))) ≡ true
+held-position {X = X} p xs h = go (nat_lt (position_or_len p xs) (length xs)) refl h
+  where
+    lt-from : (a b : ℕ) → ltb a b ≡ true → a < b
+    lt-from a b e = search (rules, e)
+
+    no-none : true ≡ false → ⊥
+    no-none e = cc
+
+    go : (b : Bool) → nat_lt (position_or_len p xs) (length xs) ≡ b → is_none (cond b (Some (position_or_len p xs)) None) ≡ false → is_some (slice_get xs (head_number (cond b (Some (position_or_len p xs)) None))) ≡ true
+    go true e k = within-get xs (position_or_len p xs) (lt-from (position_or_len p xs) (length xs) e)
+    go false e k = absurd (no-none k)
 
 -- ---- operations that are found
 
@@ -53,6 +78,14 @@ pub record Found (sig : Sig) (number : Option ℕ) (passes : OpDecl → Bool) : 
   pub decl : OpDecl
   pub held : slice_get sig.ops (head_number number) ≡ Some decl
   pub passed : passes decl ≡ true
+
+-- an operation that is held and passes the test is found
+pub found-held : (sig : Sig) (f : ℕ) (passes : OpDecl → Bool) → holds_of passes (slice_get sig.ops f) ≡ true → Found sig (Some f) passes
+found-held sig f passes h = by_decl (slice_get sig.ops f) refl h
+  where
+    by_decl : (o : Option OpDecl) → slice_get sig.ops f ≡ o → holds_of passes o ≡ true → Found sig (Some f) passes
+    by_decl None e h = cc
+    by_decl (Some d) e h = record { decl = d; held = e; passed = h }
 
 -- an operation before brackets without faults is found, and passes the test
 pub found-head : (sig : Sig) (passes : OpDecl → Bool) (f : Spot) (number : Option ℕ) → head_faults passes f (op_at sig number) ≡ [] → Found sig number passes
@@ -147,60 +180,6 @@ module _ (sig : Sig) where
       by_tests false false = dot
 
   mutual
-    -- the defaults of a pattern are normal
-    pub defaults-pattern_of : (p : Tree) → DefaultsAreNormal sig (pattern_of sig p)
-    defaults-pattern_of (Symbol w) = tt
-    defaults-pattern_of (Apply f args) = defaults-patterns_of args
-    defaults-pattern_of (InfixOf opened sign operands) = defaults-patterns_of operands
-    defaults-pattern_of (Wild w) = each-kind_shape (DefaultIsNormal sig) tt tt tt (λ k. tt) w.kind w.marks
-    defaults-pattern_of (Optional w others default) = normal-normal sig (term_of sig default)
-    defaults-pattern_of (Variable x) = tt
-
-    defaults-patterns_of : (ps : Trees) → AllDefaultsAreNormal sig (patterns_of sig ps)
-    defaults-patterns_of no_trees = tt
-    defaults-patterns_of (more_trees p ps) = (defaults-pattern_of p, defaults-patterns_of ps)
-
-  mutual
-    -- the defaults of a pattern are small, where none is large as it is written
-    small-pattern_of : (p : Tree) → has_large_default p ≡ false → DefaultsAreSmall (pattern_of sig p)
-    small-pattern_of (Symbol w) h = tt
-    small-pattern_of (Apply f args) h = small-patterns_of args h
-    small-pattern_of (InfixOf opened sign operands) h = small-patterns_of operands h
-    small-pattern_of (Wild w) h = each-kind_shape DefaultIsSmall tt tt tt (λ k. tt) w.kind w.marks
-    small-pattern_of (Optional w others default) h =
-        let few : nodes default ≤ 64 = ltb-false 64 (nodes default) (or_parts (ltb 64 (nodes default)) (has_large_default default) h).0 in
-        omega (arith, node_count-normal sig (term_of sig default), node_count-term_of default)
-    small-pattern_of (Variable x) h = tt
-
-    small-patterns_of : (ps : Trees) → some_large_default ps ≡ false → AllDefaultsAreSmall (patterns_of sig ps)
-    small-patterns_of no_trees h = tt
-    small-patterns_of (more_trees p ps) h =
-        let o = or_parts (has_large_default p) (some_large_default ps) h in
-        (small-pattern_of p o.0, small-patterns_of ps o.1)
-
-  mutual
-    -- the defaults of a pattern without faults are well formed
-    formed-pattern_of : all_in_order sig.ops ≡ true → (before : List PatternWildcard) (p : Tree) → pattern_faults sig before p ≡ [] → DefaultsAreFormed sig (pattern_of sig p)
-    formed-pattern_of ordered before (Symbol w) h = tt
-    formed-pattern_of ordered before (Apply f args) h = formed-patterns_of ordered before args (nil-append (head_faults (allows_patterns (syntax.tree_list args)) f (op_named sig f.text)) (all_pattern_faults sig before args) h).1
-    formed-pattern_of ordered before (InfixOf opened sign operands) h =
-        let at_sign = sign_faults sign (op_signed sig sign.text) in
-        let p = nil-append (arity_faults (allows_patterns (syntax.tree_list operands)) opened (op_signed sig sign.text)) (pattern_operand_faults sig before at_sign operands) h in
-        formed-patterns_of ordered before operands (nil-pattern_operands sig before at_sign operands p.1).1
-    formed-pattern_of ordered before (Wild w) h = each-kind_shape (DefaultIsFormed sig) tt tt tt (λ k. tt) w.kind w.marks
-    formed-pattern_of ordered before (Optional w others default) h =
-        let p = nil-append (wildcard_faults sig before (with_default_form sig w others default)) (default_faults sig others default) h in
-        let q = nil-append (flat_map (term_wildcard_faults sig) others) (term_faults sig default) p.1 in
-        wf-normal sig ordered (term_of sig default) (well_formed-term_of default q.1)
-    formed-pattern_of ordered before (Variable x) h = tt
-
-    formed-patterns_of : all_in_order sig.ops ≡ true → (before : List PatternWildcard) (ps : Trees) → all_pattern_faults sig before ps ≡ [] → AllDefaultsAreFormed sig (patterns_of sig ps)
-    formed-patterns_of ordered before no_trees h = tt
-    formed-patterns_of ordered before (more_trees p ps) h =
-        let q = nil-append (pattern_faults sig before p) (all_pattern_faults sig (before ++ pattern_wildcards sig p) ps) h in
-        (formed-pattern_of ordered before p q.0, formed-patterns_of ordered (before ++ pattern_wildcards sig p) ps q.1)
-
-  mutual
     -- a pattern is no deeper than its brackets, with those of its defaults
     depth-pattern_of : (room : ℕ) (p : Tree) → Fits room p → pattern_depth (pattern_of sig p) ≤ room
     depth-pattern_of room (Symbol w) h = omega arith
@@ -216,18 +195,34 @@ module _ (sig : Sig) where
     depth-patterns_of room no_trees h = omega arith
     depth-patterns_of room (more_trees p ps) h = omega (arith, depth-pattern_of room p h.0, depth-patterns_of room ps h.1)
 
+  -- ---- what normalising asks for
+
+  mutual
+    -- the defaults of a pattern are normal
+    pub defaults-pattern_of : (p : Tree) → DefaultsAreNormal sig (pattern_of sig p)
+    defaults-pattern_of (Symbol w) = tt
+    defaults-pattern_of (Apply f args) = defaults-patterns_of args
+    defaults-pattern_of (InfixOf opened sign operands) = defaults-patterns_of operands
+    defaults-pattern_of (Wild w) = each-kind_shape (DefaultIsNormal sig) tt tt tt (λ k. tt) w.kind w.marks
+    defaults-pattern_of (Optional w others default) = normal-normal sig (term_of sig default)
+    defaults-pattern_of (Variable x) = tt
+
+    defaults-patterns_of : (ps : Trees) → AllEachWildcard (DefaultIsNormal sig) (patterns_of sig ps)
+    defaults-patterns_of no_trees = tt
+    defaults-patterns_of (more_trees p ps) = (defaults-pattern_of p, defaults-patterns_of ps)
+
   mutual
     -- the operations of a pattern without faults are held
     pub holds_ops-pattern_of : (before : List PatternWildcard) (p : Tree) → pattern_faults sig before p ≡ [] → holds_ops sig (pattern_of sig p) ≡ true
     holds_ops-pattern_of before (Symbol w) h = refl
     holds_ops-pattern_of before (Apply f args) h =
-        let p = nil-append (head_faults (allows_patterns (syntax.tree_list args)) f (op_named sig f.text)) (all_pattern_faults sig before args) h in
-        rw ((found-head sig (allows_patterns (syntax.tree_list args)) f (op_number sig f.text) p.0).held) (all_hold_ops-patterns_of before args p.1)
+        let p = nil-append (head_faults (allows_args sig args) f (op_named sig f.text)) (all_pattern_faults sig before args) h in
+        rw ((found-head sig (allows_args sig args) f (op_number sig f.text) p.0).held) (all_hold_ops-patterns_of before args p.1)
     holds_ops-pattern_of before (InfixOf opened sign operands) h =
         let at_sign = sign_faults sign (op_signed sig sign.text) in
-        let p = nil-append (arity_faults (allows_patterns (syntax.tree_list operands)) opened (op_signed sig sign.text)) (pattern_operand_faults sig before at_sign operands) h in
+        let p = nil-append (arity_faults (allows_args sig operands) opened (op_signed sig sign.text)) (pattern_operand_faults sig before at_sign operands) h in
         let q = nil-pattern_operands sig before at_sign operands p.1 in
-        rw ((found-infix sig (allows_patterns (syntax.tree_list operands)) opened sign (sign_number sig sign.text) p.0 q.0).held) (all_hold_ops-patterns_of before operands q.1)
+        rw ((found-infix sig (allows_args sig operands) opened sign (sign_number sig sign.text) p.0 q.0).held) (all_hold_ops-patterns_of before operands q.1)
     holds_ops-pattern_of before (Wild w) h = refl
     holds_ops-pattern_of before (Optional w others default) h = refl
     holds_ops-pattern_of before (Variable x) h = refl
@@ -238,19 +233,103 @@ module _ (sig : Sig) where
         let q = nil-append (pattern_faults sig before p) (all_pattern_faults sig (before ++ pattern_wildcards sig p) ps) h in
         rw (holds_ops-pattern_of before p q.0) (all_hold_ops-patterns_of (before ++ pattern_wildcards sig p) ps q.1)
 
-  -- a pattern that isn't loose doesn't become it in its normal form
-  is_loose-collapsed : (f : ℕ) (ps : List pattern.Pattern) → is_loose (collapsed sig f ps) ≡ false
-  is_loose-collapsed f [] = refl
-  is_loose-collapsed f (p ∷ []) = go (is_one sig f && not (is_loose p)) refl
-    where
-      go : (b : Bool) → (is_one sig f && not (is_loose p)) ≡ b → is_loose (if b then p else pattern.app_pattern f (pattern.more_patterns p pattern.no_patterns)) ≡ false
-      go true e = not-true (is_loose p) (second-of (is_one sig f) (not (is_loose p)) e)
-      go false e = refl
-  is_loose-collapsed f (p ∷ q ∷ ps) = refl
+  -- ---- symbols
 
+  -- a word without faults is a symbol
+  pub IsSymbol-symbol_faults : (w : Spot) → IsName w.text → symbol_faults sig w ≡ [] → IsSymbol sig w.text
+  IsSymbol-symbol_faults w name h = record { name = is_name-IsName w.text name; free = sym (is_some-position (has_name w.text) sig.ops) ∙ nil-fault_if (is_some (op_number sig w.text)) _ w.place h }
+
+  mutual
+    -- the symbols of a term without faults
+    pub HasSymbols-term_of : (t : Tree) → HasNames t → term_faults sig t ≡ [] → HasSymbols sig (term_of sig t)
+    HasSymbols-term_of (Symbol w) names h = IsSymbol-symbol_faults w names h
+    HasSymbols-term_of (Apply f args) names h = HaveSymbols-terms_of args names.1 (nil-append (head_faults (allows (length (syntax.tree_list args))) f (op_named sig f.text)) (all_term_faults sig args) h).1
+    HasSymbols-term_of (InfixOf opened sign operands) names h =
+        let at_sign = sign_faults sign (op_signed sig sign.text) in
+        let p = nil-append (arity_faults (allows (length (syntax.tree_list operands))) opened (op_signed sig sign.text)) (term_operand_faults sig at_sign operands) h in
+        HaveSymbols-terms_of operands names.1 (nil-term_operands sig at_sign operands p.1).1
+    HasSymbols-term_of (Wild w) names h = absurd (some-behind (fault_if (kind_unknown sig w.kind) _ w.place) _ h)
+    HasSymbols-term_of (Optional w others default) names h = absurd (no-optional_term sig w others default h)
+    HasSymbols-term_of (Variable x) names h = cc
+
+    HaveSymbols-terms_of : (ts : Trees) → HaveNames ts → all_term_faults sig ts ≡ [] → HaveSymbols sig (terms_of sig ts)
+    HaveSymbols-terms_of no_trees names h = tt
+    HaveSymbols-terms_of (more_trees t ts) names h =
+        let p = nil-append (term_faults sig t) (all_term_faults sig ts) h in
+        (HasSymbols-term_of t names.0 p.0, HaveSymbols-terms_of ts names.1 p.1)
+
+  -- ---- wildcards
+
+  -- a kind that is known is held
+  sound-kind : (kind : List ℕ) (marks : ℕ) → kind_unknown sig kind ≡ false → IsSoundWildcard sig (kind_shape sig kind marks)
+  sound-kind [] marks h = by_tests (eqb marks 3) (eqb marks 2)
+    where
+      by_tests : (three two : Bool) → IsSoundWildcard sig (if three then pattern.star else (if two then pattern.plus else pattern.dot))
+      by_tests true two = tt
+      by_tests false true = tt
+      by_tests false false = tt
+  sound-kind (b ∷ bs) marks h = held-position (bytes_eq (b ∷ bs)) (kind_names sig) h
+
+  IsVariable-variable_of : (x : List ℕ) → (x ≢ [] → IsName x) → IsVariable sig (variable_of x)
+  IsVariable-variable_of [] h = tt
+  IsVariable-variable_of (b ∷ bs) h = is_name-IsName (b ∷ bs) (h (λ none. cc))
+
+  -- the kind of a wildcard without faults is known
+  known-wildcard_faults : (before : List PatternWildcard) (w : PatternWildcard) → wildcard_faults sig before w ≡ [] → kind_unknown sig w.wildcard.kind ≡ false
+  known-wildcard_faults before w h =
+      nil-fault_if (kind_unknown sig w.wildcard.kind) _ w.wildcard.place (nil-append (fault_if (kind_unknown sig w.wildcard.kind) _ w.wildcard.place) (fault_if (list_any (differs w) before) _ w.wildcard.place) h).0
+
+  pub pattern_list-patterns_of : (ps : Trees) → map (pattern_of sig) (syntax.tree_list ps) ≡ pattern.pattern_list (patterns_of sig ps)
+  pattern_list-patterns_of no_trees = refl
+  pattern_list-patterns_of (more_trees p ps) = ap (λ l. pattern_of sig p ∷ l) (pattern_list-patterns_of ps)
+
+  -- an operation that is found allows the arguments of its pattern
+  allowed-found : (number : Option ℕ) (ps : Trees) → Found sig number (allows_args sig ps) → holds_of (allows_patterns (pattern.pattern_list (patterns_of sig ps))) (slice_get sig.ops (head_number number)) ≡ true
+  allowed-found number ps d = ap (holds_of (allows_patterns (pattern.pattern_list (patterns_of sig ps)))) d.held ∙ ap (λ l. allows_patterns l d.decl) (sym (pattern_list-patterns_of ps)) ∙ d.passed
+
+  -- ---- formed patterns
+
+  module _ (ordered : all_in_order sig.ops ≡ true) where
+    -- the normal form of a term without faults
+    pub sound-term_of : (most : ℕ) (t : Tree) → HasNames t → term_faults sig t ≡ [] → nodes t ≤ most → IsSoundTerm sig most (normal sig (term_of sig t))
+    sound-term_of most t names h few = record {
+      normal = normal-normal sig (term_of sig t);
+      formed = wf-normal sig ordered (term_of sig t) (well_formed-term_of t h);
+      symbols = HasSymbols-normal sig (term_of sig t) (HasSymbols-term_of t names h);
+      few_nodes = omega (arith, node_count-normal sig (term_of sig t), node_count-term_of t);
+    }
+
+    mutual
+      -- the pattern of an expression without faults
+      pub IsFormed-pattern_of : (before : List PatternWildcard) (p : Tree) → HasNames p → has_large_default p ≡ false → pattern_faults sig before p ≡ [] → IsFormed sig (pattern_of sig p)
+      IsFormed-pattern_of before (Symbol w) names small h = IsSymbol-symbol_faults w names h
+      IsFormed-pattern_of before (Apply f args) names small h =
+          let p = nil-append (head_faults (allows_args sig args) f (op_named sig f.text)) (all_pattern_faults sig before args) h in
+          (allowed-found (op_number sig f.text) args (found-head sig (allows_args sig args) f (op_number sig f.text) p.0), AreFormed-patterns_of before args names.1 small p.1)
+      IsFormed-pattern_of before (InfixOf opened sign operands) names small h =
+          let at_sign = sign_faults sign (op_signed sig sign.text) in
+          let p = nil-append (arity_faults (allows_args sig operands) opened (op_signed sig sign.text)) (pattern_operand_faults sig before at_sign operands) h in
+          let q = nil-pattern_operands sig before at_sign operands p.1 in
+          (allowed-found (sign_number sig sign.text) operands (found-infix sig (allows_args sig operands) opened sign (sign_number sig sign.text) p.0 q.0), AreFormed-patterns_of before operands names.1 small q.1)
+      IsFormed-pattern_of before (Wild w) names small h = (sound-kind w.kind w.marks (known-wildcard_faults before (without_default w) h), IsVariable-variable_of w.name names.name)
+      IsFormed-pattern_of before (Optional w others default) names small h =
+          let p = nil-append (wildcard_faults sig before (with_default_form sig w others default)) (default_faults sig others default) h in
+          let q = nil-append (flat_map (term_wildcard_faults sig) others) (term_faults sig default) p.1 in
+          let few : nodes default ≤ MAX_DEFAULT_NODES = ltb-false MAX_DEFAULT_NODES (nodes default) (or_parts (ltb MAX_DEFAULT_NODES (nodes default)) (has_large_default default) small).0 in
+          (sound-term_of MAX_DEFAULT_NODES default names.2 q.1 few, IsVariable-variable_of w.name names.0.name)
+      IsFormed-pattern_of before (Variable x) names small h = cc
+
+      AreFormed-patterns_of : (before : List PatternWildcard) (ps : Trees) → HaveNames ps → some_large_default ps ≡ false → all_pattern_faults sig before ps ≡ [] → AreFormed sig (patterns_of sig ps)
+      AreFormed-patterns_of before no_trees names small h = tt
+      AreFormed-patterns_of before (more_trees p ps) names small h =
+          let q = nil-append (pattern_faults sig before p) (all_pattern_faults sig (before ++ pattern_wildcards sig p) ps) h in
+          let o = or_parts (has_large_default p) (some_large_default ps) small in
+          (IsFormed-pattern_of before p names.0 o.0 q.0, AreFormed-patterns_of (before ++ pattern_wildcards sig p) ps names.1 o.1 q.1)
+
+  -- a pattern that isn't loose doesn't become it in its normal form
   is_loose-normal_pattern : (p : pattern.Pattern) → is_loose p ≡ false → is_loose (normal_pattern sig p) ≡ false
   is_loose-normal_pattern (pattern.symbol_pattern n) h = refl
-  is_loose-normal_pattern (pattern.app_pattern f ps) h = is_loose-collapsed f (in_order sig f (flattened sig f (normal_patterns sig ps)))
+  is_loose-normal_pattern (pattern.app_pattern f ps) h = is_loose-collapsed sig f (in_order sig f (flattened sig f (normal_patterns sig ps)))
   is_loose-normal_pattern (pattern.wild_pattern w x) h = h
 
   -- a pattern that doesn't stand alone as a plus, star or optional wildcard isn't loose
@@ -260,19 +339,11 @@ module _ (sig : Sig) where
   is_loose-loose_faults (InfixOf opened sign operands) h = refl
   is_loose-loose_faults (Optional w others default) h = cc
   is_loose-loose_faults (Variable x) h = refl
-  is_loose-loose_faults (Wild w) h = go w.kind w.marks (ltb-false 1 w.marks (nil-fault_if (ltb 1 w.marks) _ w.place h))
+  is_loose-loose_faults (Wild w) h = plain-kind_shape w.kind (nil-fault_if (pattern.is_loose (marked_shape w.marks)) _ w.place h)
     where
-      by_tests : (three two : Bool) → three ≡ false → two ≡ false → is_loose (pattern.wild_pattern (if three then pattern.star else (if two then pattern.plus else pattern.dot)) (variable_of w.name)) ≡ false
-      by_tests false false e k = refl
-      by_tests true two e k = cc
-      by_tests false true e k = cc
-
-      go : (kind : List ℕ) (marks : ℕ) → marks ≤ 1 → is_loose (pattern.wild_pattern (kind_shape sig kind marks) (variable_of w.name)) ≡ false
-      go (b ∷ bs) marks few = refl
-      go [] marks few =
-          let three : eqb marks 3 ≡ false = search (rules, few) in
-          let two : eqb marks 2 ≡ false = search (rules, few) in
-          by_tests (eqb marks 3) (eqb marks 2) three two
+      plain-kind_shape : (kind : List ℕ) → pattern.is_loose (marked_shape w.marks) ≡ false → pattern.is_loose (kind_shape sig kind w.marks) ≡ false
+      plain-kind_shape [] plain = plain
+      plain-kind_shape (b ∷ bs) plain = refl
 
   mutual
     -- a pattern has as many nodes as its expression
@@ -356,33 +427,25 @@ named-by most earlier large name h =
     record { other = nil-fault_if (is_among name.text earlier) _ name.place p.0; few = leb-false most (length earlier) o.0; small = o.1 }
 
 -- the normal form of a pattern without faults
-pub sound-pattern : (sig : Sig) → all_in_order sig.ops ≡ true → (p : Tree) → is_large_pattern p ≡ false → whole_pattern_faults sig p ≡ [] → Fits 100 p → IsSoundPattern sig (normal_pattern sig (pattern_of sig p))
-sound-pattern sig ordered p small none fits =
-    let o = or_parts (ltb 64 (nodes p)) (ltb 32 (length (variable_names p)) || has_large_default p) small in
-    let l = or_parts (ltb 32 (length (variable_names p))) (has_large_default p) o.1 in
+pub sound-pattern : (sig : Sig) → all_in_order sig.ops ≡ true → (p : Tree) → HasNames p → is_large_pattern p ≡ false → whole_pattern_faults sig p ≡ [] → Fits MAX_DEPTH p → IsSoundPattern sig (normal_pattern sig (pattern_of sig p))
+sound-pattern sig ordered p names small none fits =
+    let o = or_parts (ltb MAX_PATTERN_NODES (nodes p)) (ltb MAX_VARIABLES (length (variable_names p)) || has_large_default p) small in
+    let l = or_parts (ltb MAX_VARIABLES (length (variable_names p))) (has_large_default p) o.1 in
     let q = nil-append (loose_faults p) (pattern_faults sig [] p) none in
-    let nodes_few : nodes p ≤ 64 = ltb-false 64 (nodes p) o.0 in
-    let names_few : length (variable_names p) ≤ 32 = ltb-false 32 (length (variable_names p)) l.0 in
+    let nodes_few : nodes p ≤ MAX_PATTERN_NODES = ltb-false MAX_PATTERN_NODES (nodes p) o.0 in
+    let names_few : length (variable_names p) ≤ MAX_VARIABLES = ltb-false MAX_VARIABLES (length (variable_names p)) l.0 in
     record {
       normal = normal_pattern-normal_pattern sig (pattern_of sig p);
-      defaults = defaults-normal_pattern sig (pattern_of sig p) (defaults-pattern_of sig p);
-      formed_defaults = formed-normal_pattern sig (pattern_of sig p) (formed-pattern_of sig ordered [] p q.1);
-      small_defaults = small-normal_pattern sig (pattern_of sig p) (small-pattern_of sig p l.1);
-      held = holds_ops-normal_pattern sig (pattern_of sig p) (holds_ops-pattern_of sig [] p q.1);
-      nodes = omega (arith, pattern_nodes-normal_pattern sig (pattern_of sig p), pattern_nodes-pattern_of sig p);
-      shallow = omega (arith, pattern_depth-normal_pattern sig (pattern_of sig p), depth-pattern_of sig 100 p fits);
-      few_variables = omega (arith, length_permutation (variables (pattern_of sig p)) (variables (normal_pattern sig (pattern_of sig p))) (IsPermutation-variables sig (pattern_of sig p)), ap length (variables-pattern_of sig p));
+      formed = IsFormed-normal_pattern sig ordered (pattern_of sig p) (IsFormed-pattern_of sig ordered [] p names l.1 q.1);
       plain_root = is_loose-normal_pattern sig (pattern_of sig p) (is_loose-loose_faults sig p q.0);
       no_clash = first_clash-normal_pattern sig (pattern_of sig p) (first_clash-pattern_of sig p q.1);
+      few_nodes = omega (arith, pattern_nodes-normal_pattern sig (pattern_of sig p), pattern_nodes-pattern_of sig p);
+      few_variables = omega (arith, length_permutation (variables (pattern_of sig p)) (variables (normal_pattern sig (pattern_of sig p))) (IsPermutation-variables sig (pattern_of sig p)), ap length (variables-pattern_of sig p));
+      shallow = omega (arith, pattern_depth-normal_pattern sig (pattern_of sig p), depth-pattern_of sig MAX_DEPTH p fits);
     }
 
--- the normal form of a term without faults
-pub sound-term : (sig : Sig) → all_in_order sig.ops ≡ true → (t : Tree) → is_large_term t ≡ false → term_faults sig t ≡ [] → Fits 100 t → IsSoundTerm sig (normal sig (term_of sig t))
-sound-term sig ordered t small none fits =
-    let few : nodes t ≤ 100000 = ltb-false 100000 (nodes t) (or_parts (ltb 100000 (nodes t)) (has_large_default t) small).0 in
-    record {
-      normal = normal-normal sig (term_of sig t);
-      formed = wf-normal sig ordered (term_of sig t) (well_formed-term_of sig t none);
-      nodes = omega (arith, node_count-normal sig (term_of sig t), node_count-term_of sig t);
-      shallow = omega (arith, depth-normal sig (term_of sig t), depth-term_of sig 100 t fits);
-    }
+-- a subject without faults
+pub sound-subject : (sig : Sig) → all_in_order sig.ops ≡ true → (name : Spot) (t : Tree) → IsName name.text → HasNames t → is_large_term t ≡ false → term_faults sig t ≡ [] → Fits MAX_DEPTH t → IsSoundSubject sig (subject_of sig name t)
+sound-subject sig ordered name t named names small none fits =
+    let few : nodes t ≤ MAX_TERM_NODES = ltb-false MAX_TERM_NODES (nodes t) (or_parts (ltb MAX_TERM_NODES (nodes t)) (has_large_default t) small).0 in
+    record { name = is_name-IsName name.text named; term = sound-term_of sig ordered MAX_TERM_NODES t names none few; shallow = omega (arith, depth-normal sig (term_of sig t), depth-term_of sig MAX_DEPTH t fits) }

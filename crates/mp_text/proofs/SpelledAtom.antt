@@ -37,10 +37,10 @@ use Rattle.mp_print.specs.PrintedCond.{op_name_text}
 use Rattle.mp_print.specs.Printing.{kind_name_text}
 use Rattle.mp_text.specs.Spelled.{piece, term_spelling, term_spellings, sense_spelling, operand_spelling, amount_spelling, literal_spelling}
 use Rattle.mp_text.proofs.Faultless.{nil-append, nil-both, nil-fault_if, none-fault_if}
-use Rattle.mp_text.proofs.SoundLaws.{well_formed-term_of, node_count-term_of, depth-term_of}
-use Rattle.mp_text.proofs.SpelledHead.{HasOps, each-held_spelling}
-use Rattle.mp_text.proofs.SpelledTerm.{HasSymbols-term_of, HasSymbols-normal, has_large_default-term_spelling, term_of-term_spelling, term_faults-term_spelling, HasNames-term_spelling, Fits-term_spelling, nodes-term_spelling}
-use Rattle.mp_text.proofs.SpelledWildcard.{position-name, kind_name_text-found}
+use Rattle.mp_text.proofs.SoundLaws.{HasSymbols-term_of, well_formed-term_of, node_count-term_of, depth-term_of}
+use Rattle.mp_text.proofs.SpelledHead.{HasOps, each-held_spelling, position-name, kind_name_text-found}
+use Rattle.mp_pattern.proofs.Formed.{HasSymbols-normal}
+use Rattle.mp_text.proofs.SpelledTerm.{has_large_default-term_spelling, term_of-term_spelling, term_faults-term_spelling, HasNames-term_spelling, Fits-term_spelling, nodes-term_spelling}
 use Rattle.mp_text.proofs.SpelledDeclarations.{number-written}
 
 -- ---- names and signs

@@ -29,8 +29,9 @@ use Rattle.mp_text.specs.Names.{is_among, number_after, number_of}
 use Rattle.mp_text.specs.Spelled.{piece, flag_if, sign_flags, op_flags, op_spelling, kind_spelling}
 use Rattle.mp_text.proofs.Declared.{is_among-has_name}
 use Rattle.mp_text.proofs.Faultless.{nil-append, nil-both, none-fault_if}
-use Rattle.mp_text.proofs.Words.{first-of, second-of}
-use Rattle.mp_text.proofs.SpelledHead.{HasOpNames, IsSomeSign, IsSymbolOf, symbol_faults-IsSymbolOf}
+use Rattle.mp_text.proofs.Words.{first-of, second-of, IsName-is_name}
+use Rattle.mp_pattern.specs.SoundRule.{IsSymbol}
+use Rattle.mp_text.proofs.SpelledHead.{HasOpNames, IsSomeSign, symbol_faults-IsSymbol}
 
 -- ---- numbers
 
@@ -282,7 +283,7 @@ some-name_set ns h = (shorter-dedup (sorted cmp ns)).some (omega (arith, length-
 -- a kind that was declared without faults, over these operations
 pub record IsDeclaredKind (ds : List OpDecl) (k : Kind) : Type 0 where
   pub name : IsName k.name
-  pub members : AllByRecursion (IsSymbolOf (sig_with ds [])) k.members
+  pub members : AllByRecursion (IsSymbol (sig_with ds [])) k.members
   pub ascend : names_ascend k.members ≡ true
   pub some : 0 < length k.members
   pub few : length k.members ≤ 10000
@@ -297,9 +298,9 @@ kind_decl-kind_spelling k ascend =
     let members = ap name_set (texts-pieces k.members) ∙ name_set-names_ascend k.members ascend in
     λ i. record { name = k.name; members = members i }
 
-AreNames-pieces : (ds : List OpDecl) (members : List Text) → AllByRecursion (IsSymbolOf (sig_with ds [])) members → AreNames (map piece members)
+AreNames-pieces : (ds : List OpDecl) (members : List Text) → AllByRecursion (IsSymbol (sig_with ds [])) members → AreNames (map piece members)
 AreNames-pieces ds [] h = tt
-AreNames-pieces ds (m ∷ members) h = (h.0.name, AreNames-pieces ds members h.1)
+AreNames-pieces ds (m ∷ members) h = (IsName-is_name m h.0.name, AreNames-pieces ds members h.1)
 
 -- its words are names
 pub StatementHasNames-kind_spelling : (ds : List OpDecl) (k : Kind) → IsDeclaredKind ds k → StatementHasNames (kind_spelling k)
@@ -309,9 +310,9 @@ StatementHasNames-kind_spelling ds k h = (h.name, AreNames-pieces ds k.members h
 pub FitsStatement-kind_spelling : (ds : List OpDecl) (k : Kind) → IsDeclaredKind ds k → FitsStatement (kind_spelling k)
 FitsStatement-kind_spelling ds k h e = absurd (omega (arith, h.some, length-map k.members piece, ap length e))
 
-none-member_faults : (ds : List OpDecl) (ss : List Statement) (members : List Text) → AllByRecursion (IsSymbolOf (sig_with ds [])) members → flat_map (symbol_faults (sig_with ds ss)) (map piece members) ≡ []
+none-member_faults : (ds : List OpDecl) (ss : List Statement) (members : List Text) → AllByRecursion (IsSymbol (sig_with ds [])) members → flat_map (symbol_faults (sig_with ds ss)) (map piece members) ≡ []
 none-member_faults ds ss [] h = refl
-none-member_faults ds ss (m ∷ members) h = ap (λ l. l ++ flat_map (symbol_faults (sig_with ds ss)) (map piece members)) (symbol_faults-IsSymbolOf (sig_with ds []) m h.0) ∙ none-member_faults ds ss members h.1
+none-member_faults ds ss (m ∷ members) h = ap (λ l. l ++ flat_map (symbol_faults (sig_with ds ss)) (map piece members)) (symbol_faults-IsSymbol (sig_with ds []) m h.0) ∙ none-member_faults ds ss members h.1
 
 -- behind kinds of other names, its declaration has no faults
 pub none-kind_faults : (ds : List OpDecl) (ss : List Statement) (k : Kind) → IsDeclaredKind ds k → is_among k.name (kind_names (sig_with ds ss)) ≡ false → length (kind_names (sig_with ds ss)) < 256

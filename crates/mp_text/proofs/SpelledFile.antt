@@ -28,23 +28,24 @@ use Rattle.mp_text.specs.ConditionChecks.{has_large_condition, if_faults}
 use Rattle.mp_text.specs.Names.{is_among, rule_names, subject_names, variable_names}
 use Rattle.mp_text.specs.PrintedFile.{file_text}
 use Rattle.mp_text.specs.Reading.{IsFileOf}
-use Rattle.mp_text.specs.Sound.{IsSoundPattern, IsSoundTerm, IsSoundFile}
+use Rattle.mp_pattern.specs.SoundRule.{IsSoundRule}
+use Rattle.mp_text.specs.Sound.{IsSoundSubject, IsSoundFile}
 use Rattle.mp_text.specs.Spelled.{piece, term_spelling, pattern_spelling, cond_spelling, op_spelling, kind_spelling, rule_spelling, subject_spelling, file_spelling}
 use Rattle.mp_text.proofs.Declared.{bytes_eq_comm, op_decls-append, kind_decls-append, rules_of-append, subjects_of-append}
 use Rattle.mp_text.proofs.Faultless.{nil-append, nil-both}
-use Rattle.mp_text.proofs.Words.{first-of, second-of}
+use Rattle.mp_text.proofs.Words.{first-of, second-of, IsName-is_name}
 use Rattle.mp_text.proofs.Spelled.{file-again}
-use Rattle.mp_text.proofs.SoundLaws.{sound-pattern}
-use Rattle.mp_text.proofs.SoundFile.{sound-file, rule_names-append, subject_names-append}
+use Rattle.mp_text.proofs.Statements.{IsRead, all-IsRead, all-rules_of, rule_names-append, subject_names-append}
+use Rattle.mp_text.proofs.SoundFile.{sound-rule, sound-file}
 use Rattle.mp_text.proofs.SpelledHead.{HasOpNames, HasOps}
-use Rattle.mp_text.proofs.SpelledTerm.{has_large_default-term_spelling, HasSymbols, HasSymbols-term_of, HasSymbols-normal, term_of-term_spelling, term_faults-term_spelling, HasNames-term_spelling, Fits-term_spelling, nodes-term_spelling}
-use Rattle.mp_text.proofs.SpelledPattern.{IsSpelled, IsSpelled-pattern_of, IsSpelled-normal_pattern, pattern_of-pattern_spelling, whole_pattern_faults-pattern_spelling, HasNames-pattern_spelling, Fits-pattern_spelling, has_large_default-pattern_spelling, nodes-pattern_spelling, variable_names-pattern_spelling}
+use Rattle.mp_text.proofs.SpelledTerm.{has_large_default-term_spelling, term_of-term_spelling, term_faults-term_spelling, HasNames-term_spelling, Fits-term_spelling, nodes-term_spelling}
+use Rattle.mp_text.proofs.SpelledPattern.{pattern_of-pattern_spelling, whole_pattern_faults-pattern_spelling, HasNames-pattern_spelling, Fits-pattern_spelling, has_large_default-pattern_spelling, nodes-pattern_spelling, variable_names-pattern_spelling}
 use Rattle.mp_text.proofs.PlacedFaults.{no_faults-unplaced}
 use Rattle.mp_text.proofs.Places.{file_tree_of-unplaced}
 use Rattle.mp_text.proofs.SpelledScope.{some-pattern_spelling}
 use Rattle.mp_text.proofs.SpelledCondition.{IsReadCondition, IsReadCondition-condition_of}
 use Rattle.mp_text.proofs.SpelledDeclarations.{IsDeclaredOp, IsDeclaredKind, op_decl-op_spelling, kind_decl-kind_spelling, none-name_faults, none-op_faults, none-kind_faults, StatementHasNames-op_spelling, FitsStatement-op_spelling, StatementHasNames-kind_spelling, FitsStatement-kind_spelling}
-use Rattle.mp_text.proofs.ReadFile.{IsRead, all-IsRead, AreDeclaredOps-op_decls, AreDeclaredKinds-kind_decls, all-rules_of}
+use Rattle.mp_text.proofs.ReadFile.{AreDeclaredOps-op_decls, AreDeclaredKinds-kind_decls}
 
 -- ---- lists
 
@@ -126,31 +127,27 @@ module _ {X : Type 0} (rule : List Statement → Statement → List TextFault) (
 
 -- ---- files
 
--- a rule as it is read: its name, its pattern and perhaps a condition
+-- a rule as it is read: it is sound, and its condition is read again
 record IsReadRule (sig : Sig) (r : Rule) : Type 0 where
-  name : IsName r.name
-  pattern : IsSpelled sig r.pattern
-  template : r.template ≡ None
+  sound : IsSoundRule sig r
   condition : IsReadCondition sig (pattern_variables (pattern_spelling sig r.pattern)) r.condition
-
--- a subject as it is read
-record IsReadSubject (sig : Sig) (s : Subject) : Type 0 where
-  name : IsName s.name
-  term : HasSymbols sig s.term
 
 -- a file as it is read
 record IsReadFile (f : FileTree) : Type 0 where
-  signature : IsSignature f.sig
+  sound : IsSoundFile f
   ops : AllByRecursion IsDeclaredOp f.sig.ops
   kinds : AllByRecursion (IsDeclaredKind f.sig.ops) f.sig.kinds
   rules_read : AllByRecursion (IsReadRule f.sig) f.rules
-  subjects_read : AllByRecursion (IsReadSubject f.sig) f.subjects
-  sound : IsSoundFile f
   no_edits : f.edits ≡ []
 
 -- the operations of a signature have names and signs
-HasOps-IsSignature : (sig : Sig) → IsSignature sig → AllByRecursion IsDeclaredOp sig.ops → HasOps sig
-HasOps-IsSignature sig h ops = record { apart = h.ops_distinct; named = all-also IsDeclaredOp HasOpNames (λ d own. own.names) sig.ops ops }
+HasOps-IsSignature : (sig : Sig) → IsSignature sig → AllByRecursion IsDeclaredOp sig.ops → AllByRecursion (IsDeclaredKind sig.ops) sig.kinds → HasOps sig
+HasOps-IsSignature sig h ops kinds = record {
+  apart = h.ops_distinct;
+  named = all-also IsDeclaredOp HasOpNames (λ d own. own.names) sig.ops ops;
+  kinds_apart = h.kinds_distinct;
+  kinds_named = (IsName-is_name (codes "num") refl, all-map (IsDeclaredKind sig.ops) IsName (λ k. k.name) (λ k own. own.name) sig.kinds kinds);
+}
 
 -- a rule without faults
 read-rule_of : (sig : Sig) → HasOps sig → all_in_order sig.ops ≡ true → (name : Spot) (p : Tree) (c : Option Condition) → IsRead (RuleOf name p c) → (is_large_pattern p || has_large_condition c) ≡ false → rule_faults sig p c ≡ []
@@ -160,13 +157,10 @@ read-rule_of sig has ordered name p c read small none =
     let vs = pattern_variables p in
     let q = nil-append (whole_pattern_faults sig p) (if_faults sig (Some vs) c) none in
     let again = normal_pattern sig (pattern_of sig p) in
-    let spelled = IsSpelled-normal_pattern sig ordered (pattern_of sig p) (IsSpelled-pattern_of sig ordered [] p read.names.1 (nil-append (loose_faults p) (pattern_faults sig [] p) q.0).1) in
-    let shallow = (sound-pattern sig ordered p o.0 q.0 read.fits.0).shallow in
-    let alike = λ (test : Variable → Bool). some-pattern_spelling test sig has p read.names.1 read.fits.0 spelled shallow in
+    let sound = sound-rule sig ordered name p c read small none in
+    let alike = λ (test : Variable → Bool). some-pattern_spelling test sig has p read.names.1 read.fits.0 sound.pattern.formed sound.pattern.shallow in
     record {
-      name = read.names.0;
-      pattern = spelled;
-      template = refl;
+      sound = sound;
       condition = IsReadCondition-condition_of sig has ordered vs (pattern_variables (pattern_spelling sig again)) (λ x. alike (λ v. bytes_eq x v.name)) (λ x. alike (λ v. bytes_eq x v.name && v.is_sequence)) c read.names.2 read.fits.1 q.1 o.1;
     }
 
@@ -178,12 +172,9 @@ read-file ss names fits h =
     let q = nil-append (faults_by op_statement_faults [] ss) (faults_by (kind_statement_faults (op_decls ss)) [] ss) p.0 in
     let ops = AreDeclaredOps-op_decls ss read q.0 in
     let kinds = AreDeclaredKinds-kind_decls (op_decls ss) ss read q.1 ops in
-    let ordered : all_in_order sig.ops ≡ true = ops.signature.ops_in_order in
-    let all = all-rules_of sig (IsReadRule sig) (IsReadSubject sig)
-    (read-rule_of sig (HasOps-IsSignature sig kinds.signature ops.each) ordered)
-    (λ name t n names none. record { name = n; term = HasSymbols-normal sig (term_of sig t) (HasSymbols-term_of sig t names none) })
-    ss read p.1 in
-    record { signature = kinds.signature; ops = ops.each; kinds = kinds.each; rules_read = all.0; subjects_read = all.1; sound = sound-file ss names fits h; no_edits = refl }
+    let has = HasOps-IsSignature sig kinds.signature ops.each kinds.each in
+    let all = all-rules_of sig (IsReadRule sig) (λ s. Unit {0}) (read-rule_of sig has kinds.signature.ops_in_order) (λ name t one small none. tt) ss read p.1 in
+    record { sound = sound-file ss names fits h; ops = ops.each; kinds = kinds.each; rules_read = all.0; no_edits = refl }
 
 -- the file of bytes is one that is read
 read-IsFileOf : (bytes : List ℕ) (f : FileTree) → IsFileOf bytes f → IsReadFile f
@@ -193,19 +184,7 @@ read-IsFileOf bytes f h = subst IsReadFile (sym h.file) (read-file h.statements 
 
 module _ (f : FileTree) (h : IsReadFile f) where
   has-ops : HasOps f.sig
-  has-ops = HasOps-IsSignature f.sig h.signature h.ops
-
-  abbrev IsRuleHere : Rule → Type 0
-  IsRuleHere r = IsReadRule f.sig r × IsSoundPattern f.sig r.pattern
-
-  abbrev IsSubjectHere : Subject → Type 0
-  IsSubjectHere s = IsReadSubject f.sig s × IsSoundTerm f.sig s.term
-
-  rules-here : AllByRecursion IsRuleHere f.rules
-  rules-here = all-both (IsReadRule f.sig) (λ r. IsSoundPattern f.sig r.pattern) f.rules h.rules_read h.sound.patterns
-
-  subjects-here : AllByRecursion IsSubjectHere f.subjects
-  subjects-here = all-both (IsReadSubject f.sig) (λ s. IsSoundTerm f.sig s.term) f.subjects h.subjects_read h.sound.terms
+  has-ops = HasOps-IsSignature f.sig h.sound.signature h.ops h.kinds
 
   abbrev ops : List Statement
   ops = map op_spelling f.sig.ops
@@ -231,21 +210,21 @@ module _ (f : FileTree) (h : IsReadFile f) where
   abbrev spelled_condition : Option Cond → Option Condition
   spelled_condition o = option_map (cond_spelling f.sig) o
 
-  rule-again : (r : Rule) → IsRuleHere r → rule_of f.sig (piece r.name) (pattern_spelling f.sig r.pattern) (spelled_condition r.condition) ≡ r
+  rule-again : (r : Rule) → IsReadRule f.sig r → rule_of f.sig (piece r.name) (pattern_spelling f.sig r.pattern) (spelled_condition r.condition) ≡ r
   rule-again r own =
-      let same = ap (normal_pattern f.sig) (pattern_of-pattern_spelling f.sig has-ops r.pattern own.0.pattern) ∙ own.1.normal in
-      λ i. record { name = r.name; pattern = same i; template = sym own.0.template i; condition = own.0.condition.again i }
+      let same = ap (normal_pattern f.sig) (pattern_of-pattern_spelling f.sig has-ops r.pattern own.sound.pattern.formed) ∙ own.sound.pattern.normal in
+      λ i. record { name = r.name; pattern = same i; template = sym own.sound.no_template i; condition = own.condition.again i }
 
-  subject-again : (s : Subject) → IsSubjectHere s → subject_of f.sig (piece s.name) (term_spelling f.sig s.term) ≡ s
+  subject-again : (s : Subject) → IsSoundSubject f.sig s → subject_of f.sig (piece s.name) (term_spelling f.sig s.term) ≡ s
   subject-again s own =
-      let same = ap (normal f.sig) (term_of-term_spelling f.sig has-ops s.term own.1.formed) ∙ own.1.normal in
+      let same = ap (normal f.sig) (term_of-term_spelling f.sig has-ops s.term own.term.formed) ∙ own.term.normal in
       λ i. record { name = s.name; term = same i }
 
   rules-again : rules_of f.sig rule_statements ≡ f.rules
-  rules-again = given-each (rules_of f.sig) (rule_spelling f.sig) refl IsRuleHere (λ r. r) (λ r ss own. ap (λ q. q ∷ rules_of f.sig ss) (rule-again r own)) f.rules rules-here ∙ map-id f.rules
+  rules-again = given-each (rules_of f.sig) (rule_spelling f.sig) refl (IsReadRule f.sig) (λ r. r) (λ r ss own. ap (λ q. q ∷ rules_of f.sig ss) (rule-again r own)) f.rules h.rules_read ∙ map-id f.rules
 
   subjects-again : subjects_of f.sig subject_statements ≡ f.subjects
-  subjects-again = given-each (subjects_of f.sig) (subject_spelling f.sig) refl IsSubjectHere (λ s. s) (λ s ss own. ap (λ q. q ∷ subjects_of f.sig ss) (subject-again s own)) f.subjects subjects-here ∙ map-id f.subjects
+  subjects-again = given-each (subjects_of f.sig) (subject_spelling f.sig) refl (IsSoundSubject f.sig) (λ s. s) (λ s ss own. ap (λ q. q ∷ subjects_of f.sig ss) (subject-again s own)) f.subjects h.sound.subjects ∙ map-id f.subjects
 
   op_decls-file : op_decls (file_spelling f) ≡ f.sig.ops
   op_decls-file =
@@ -287,7 +266,7 @@ module _ (f : FileTree) (h : IsReadFile f) where
       none-parts op_statement_faults ops kinds rule_statements subject_statements
       (none-differing op_statement_faults op_spelling op_decls (λ d. d) 256 (λ ds. none_clash ds ≡ true) IsDeclaredOp
       (λ earlier d own. op_decls-append earlier (op_spelling d ∷ []) ∙ ap (λ e. op_decls earlier ++ e ∷ []) (op_decl-op_spelling d own.small))
-      none-op-here [] f.sig.ops h.ops (subst (λ ds. none_clash ds ≡ true) (sym all) h.signature.ops_distinct) (subst (λ ds. length ds ≤ 256) (sym all) h.signature.at_most_ops))
+      none-op-here [] f.sig.ops h.ops (subst (λ ds. none_clash ds ≡ true) (sym all) h.sound.signature.ops_distinct) (subst (λ ds. length ds ≤ 256) (sym all) h.sound.signature.at_most_ops))
       (none-spelled op_statement_faults kind_spelling (λ earlier k. refl) ops f.sig.kinds)
       (none-spelled op_statement_faults (rule_spelling f.sig) (λ earlier r. refl) (ops ++ kinds) f.rules)
       (none-spelled op_statement_faults (subject_spelling f.sig) (λ earlier s. refl) ((ops ++ kinds) ++ rule_statements) f.subjects)
@@ -309,34 +288,34 @@ module _ (f : FileTree) (h : IsReadFile f) where
       (none-spelled rule op_spelling (λ earlier d. refl) [] f.sig.ops)
       (none-differing rule kind_spelling kinds_before (λ k. k.name) 256 (λ ns. are_distinct ns ≡ true) (IsDeclaredKind f.sig.ops) kinds_before-push
       (λ earlier k ns own differ few. none-kind_faults f.sig.ops earlier k own (new-name (kinds_before earlier) k.name ns differ) few)
-      ops f.sig.kinds h.kinds (subst (λ ns. are_distinct ns ≡ true) (sym all) h.signature.kinds_distinct) (subst (λ ns. length ns ≤ 256) (sym all) h.signature.at_most_kinds))
+      ops f.sig.kinds h.kinds (subst (λ ns. are_distinct ns ≡ true) (sym all) h.sound.signature.kinds_distinct) (subst (λ ns. length ns ≤ 256) (sym all) h.sound.signature.at_most_kinds))
       (none-spelled rule (rule_spelling f.sig) (λ earlier r. refl) (ops ++ kinds) f.rules)
       (none-spelled rule (subject_spelling f.sig) (λ earlier s. refl) ((ops ++ kinds) ++ rule_statements) f.subjects)
 
-  none-rule : (earlier : List Statement) (r : Rule) (ns : List Text) → IsRuleHere r → are_distinct (rule_names earlier ++ r.name ∷ ns) ≡ true → length (rule_names earlier) < 1000 → statement_faults f.sig earlier (rule_spelling f.sig r) ≡ []
+  none-rule : (earlier : List Statement) (r : Rule) (ns : List Text) → IsReadRule f.sig r → are_distinct (rule_names earlier ++ r.name ∷ ns) ≡ true → length (rule_names earlier) < 1000 → statement_faults f.sig earlier (rule_spelling f.sig r) ≡ []
   none-rule earlier r ns own differ few =
       let p = pattern_spelling f.sig r.pattern in
-      let nodes_few : nodes p ≤ 64 = omega (arith, nodes-pattern_spelling f.sig has-ops r.pattern own.0.pattern, own.1.nodes) in
-      let names_few : length (variable_names p) ≤ 32 = omega (arith, ap length (variable_names-pattern_spelling f.sig has-ops r.pattern own.0.pattern), own.1.few_variables) in
+      let nodes_few : nodes p ≤ 64 = omega (arith, nodes-pattern_spelling f.sig has-ops r.pattern own.sound.pattern.formed, own.sound.pattern.few_nodes) in
+      let names_few : length (variable_names p) ≤ 32 = omega (arith, ap length (variable_names-pattern_spelling f.sig has-ops r.pattern own.sound.pattern.formed), own.sound.pattern.few_variables) in
       let nodes_small : ltb 64 (nodes p) ≡ false = search (rules, nodes_few) in
       let names_small : ltb 32 (length (variable_names p)) ≡ false = search (rules, names_few) in
-      let small : is_large_pattern p ≡ false = rw (nodes_small, names_small) (has_large_default-pattern_spelling f.sig has-ops r.pattern own.0.pattern own.1.small_defaults) in
+      let small : is_large_pattern p ≡ false = rw (nodes_small, names_small) (has_large_default-pattern_spelling f.sig has-ops r.pattern own.sound.pattern.formed) in
       let c = spelled_condition r.condition in
       let large = is_large_pattern p || has_large_condition c in
-      let condition_small : has_large_condition c ≡ false = own.0.condition.small in
+      let condition_small : has_large_condition c ≡ false = own.condition.small in
       nil-both (name_faults 1000 (rule_names earlier) large (piece r.name)) (whole_pattern_faults f.sig p ++ if_faults f.sig (Some (pattern_variables p)) c)
       (none-name_faults 1000 (rule_names earlier) large r.name (new-name (rule_names earlier) r.name ns differ) few (rw (small, condition_small) refl))
-      (nil-both (whole_pattern_faults f.sig p) (if_faults f.sig (Some (pattern_variables p)) c) (whole_pattern_faults-pattern_spelling f.sig has-ops r.pattern own.0.pattern own.1.no_clash own.1.plain_root) own.0.condition.faultless)
+      (nil-both (whole_pattern_faults f.sig p) (if_faults f.sig (Some (pattern_variables p)) c) (whole_pattern_faults-pattern_spelling f.sig has-ops r.pattern own.sound.pattern.formed own.sound.pattern.no_clash own.sound.pattern.plain_root) own.condition.faultless)
 
-  none-subject : (earlier : List Statement) (s : Subject) (ns : List Text) → IsSubjectHere s → are_distinct (subject_names earlier ++ s.name ∷ ns) ≡ true → length (subject_names earlier) < 1000 → statement_faults f.sig earlier (subject_spelling f.sig s) ≡ []
+  none-subject : (earlier : List Statement) (s : Subject) (ns : List Text) → IsSoundSubject f.sig s → are_distinct (subject_names earlier ++ s.name ∷ ns) ≡ true → length (subject_names earlier) < 1000 → statement_faults f.sig earlier (subject_spelling f.sig s) ≡ []
   none-subject earlier s ns own differ few =
       let t = term_spelling f.sig s.term in
-      let nodes_few : nodes t ≤ 100000 = omega (arith, nodes-term_spelling f.sig has-ops s.term own.1.formed, own.1.nodes) in
+      let nodes_few : nodes t ≤ 100000 = omega (arith, nodes-term_spelling f.sig has-ops s.term own.term.formed, own.term.few_nodes) in
       let nodes_small : ltb 100000 (nodes t) ≡ false = search (rules, nodes_few) in
       let small : is_large_term t ≡ false = rw nodes_small (has_large_default-term_spelling f.sig s.term) in
       nil-both (name_faults 1000 (subject_names earlier) (is_large_term t) (piece s.name)) (term_faults f.sig t)
       (none-name_faults 1000 (subject_names earlier) (is_large_term t) s.name (new-name (subject_names earlier) s.name ns differ) few small)
-      (term_faults-term_spelling f.sig has-ops s.term own.1.formed own.0.term)
+      (term_faults-term_spelling f.sig has-ops s.term own.term.formed own.term.symbols)
 
   no-rule_names : rule_names (ops ++ kinds) ≡ []
   no-rule_names = rule_names-append ops kinds ∙ nil-both (rule_names ops) (rule_names kinds) (given-none rule_names op_spelling refl (λ d ss. refl) f.sig.ops) (given-none rule_names kind_spelling refl (λ k ss. refl) f.sig.kinds)
@@ -353,15 +332,15 @@ module _ (f : FileTree) (h : IsReadFile f) where
       let rule = statement_faults f.sig in
       let rule_before : map (λ r. r.name) f.rules ≡ rule_names (ops ++ kinds) ++ map (λ r. r.name) f.rules = ap (λ l. l ++ map (λ r. r.name) f.rules) (sym no-rule_names) in
       let subject_before : map (λ s. s.name) f.subjects ≡ subject_names ((ops ++ kinds) ++ rule_statements) ++ map (λ s. s.name) f.subjects = ap (λ l. l ++ map (λ s. s.name) f.subjects) (sym no-subject_names) in
-      let few_rules : length (map (λ r. r.name) f.rules) ≤ 1000 = omega (arith, length-map f.rules (λ r. r.name), h.sound.few_rules) in
+      let few_rules : length (map (λ r. r.name) f.rules) ≤ 1000 = omega (arith, length-map f.rules (λ r. r.name), h.sound.rules.few) in
       let few_subjects : length (map (λ s. s.name) f.subjects) ≤ 1000 = omega (arith, length-map f.subjects (λ s. s.name), h.sound.few_subjects) in
       none-parts rule ops kinds rule_statements subject_statements
       (none-spelled rule op_spelling (λ earlier d. refl) [] f.sig.ops)
       (none-spelled rule kind_spelling (λ earlier k. refl) ops f.sig.kinds)
-      (none-differing rule (rule_spelling f.sig) rule_names (λ r. r.name) 1000 (λ ns. are_distinct ns ≡ true) IsRuleHere (λ earlier r own. rule_names-append earlier (rule_spelling f.sig r ∷ [])) none-rule
-      (ops ++ kinds) f.rules rules-here (subst (λ ns. are_distinct ns ≡ true) rule_before h.sound.rule_names) (subst (λ ns. length ns ≤ 1000) rule_before few_rules))
-      (none-differing rule (subject_spelling f.sig) subject_names (λ s. s.name) 1000 (λ ns. are_distinct ns ≡ true) IsSubjectHere (λ earlier s own. subject_names-append earlier (subject_spelling f.sig s ∷ [])) none-subject
-      ((ops ++ kinds) ++ rule_statements) f.subjects subjects-here (subst (λ ns. are_distinct ns ≡ true) subject_before h.sound.subject_names) (subst (λ ns. length ns ≤ 1000) subject_before few_subjects))
+      (none-differing rule (rule_spelling f.sig) rule_names (λ r. r.name) 1000 (λ ns. are_distinct ns ≡ true) (IsReadRule f.sig) (λ earlier r own. rule_names-append earlier (rule_spelling f.sig r ∷ [])) none-rule
+      (ops ++ kinds) f.rules h.rules_read (subst (λ ns. are_distinct ns ≡ true) rule_before h.sound.rules.names) (subst (λ ns. length ns ≤ 1000) rule_before few_rules))
+      (none-differing rule (subject_spelling f.sig) subject_names (λ s. s.name) 1000 (λ ns. are_distinct ns ≡ true) (IsSoundSubject f.sig) (λ earlier s own. subject_names-append earlier (subject_spelling f.sig s ∷ [])) none-subject
+      ((ops ++ kinds) ++ rule_statements) f.subjects h.sound.subjects (subst (λ ns. are_distinct ns ≡ true) subject_before h.sound.subject_names) (subst (λ ns. length ns ≤ 1000) subject_before few_subjects))
 
   faults-file_spelling : faults (file_spelling f) ≡ []
   faults-file_spelling =
@@ -372,18 +351,26 @@ module _ (f : FileTree) (h : IsReadFile f) where
 
   -- ---- its statements are those of the grammar
 
-  read-rule : (r : Rule) → IsRuleHere r → IsRead (rule_spelling f.sig r)
-  read-rule r own = record { names = (own.0.name, HasNames-pattern_spelling f.sig has-ops r.pattern own.0.pattern, own.0.condition.names); fits = (Fits-pattern_spelling f.sig has-ops r.pattern 100 own.0.pattern own.1.shallow, own.0.condition.fits) }
+  read-rule : (r : Rule) → IsReadRule f.sig r → IsRead (rule_spelling f.sig r)
+  read-rule r own =
+      let p = own.sound.pattern in
+      record {
+        names = (IsName-is_name r.name own.sound.name, HasNames-pattern_spelling f.sig has-ops r.pattern p.formed, own.condition.names);
+        fits = (Fits-pattern_spelling f.sig has-ops r.pattern 100 p.formed p.shallow, own.condition.fits);
+      }
 
-  read-subject : (s : Subject) → IsSubjectHere s → IsRead (subject_spelling f.sig s)
-  read-subject s own = record { names = (own.0.name, HasNames-term_spelling f.sig has-ops s.term own.1.formed own.0.term); fits = Fits-term_spelling f.sig has-ops s.term 100 own.1.formed own.1.shallow }
+  read-subject : (s : Subject) → IsSoundSubject f.sig s → IsRead (subject_spelling f.sig s)
+  read-subject s own = record {
+    names = (IsName-is_name s.name own.name, HasNames-term_spelling f.sig has-ops s.term own.term.formed own.term.symbols);
+    fits = Fits-term_spelling f.sig has-ops s.term 100 own.term.formed own.shallow;
+  }
 
   read-file_spelling : AllByRecursion IsRead (file_spelling f)
   read-file_spelling =
       all-append IsRead ops (kinds ++ (rule_statements ++ subject_statements)) (all-map IsDeclaredOp IsRead op_spelling (λ d own. record { names = StatementHasNames-op_spelling d own; fits = FitsStatement-op_spelling d own }) f.sig.ops h.ops)
       (all-append IsRead kinds (rule_statements ++ subject_statements)
       (all-map (IsDeclaredKind f.sig.ops) IsRead kind_spelling (λ k own. record { names = StatementHasNames-kind_spelling f.sig.ops k own; fits = FitsStatement-kind_spelling f.sig.ops k own }) f.sig.kinds h.kinds)
-      (all-append IsRead rule_statements subject_statements (all-map IsRuleHere IsRead (rule_spelling f.sig) read-rule f.rules rules-here) (all-map IsSubjectHere IsRead (subject_spelling f.sig) read-subject f.subjects subjects-here)))
+      (all-append IsRead rule_statements subject_statements (all-map (IsReadRule f.sig) IsRead (rule_spelling f.sig) read-rule f.rules h.rules_read) (all-map (IsSoundSubject f.sig) IsRead (subject_spelling f.sig) read-subject f.subjects h.sound.subjects)))
 
 names-all : (ss : List Statement) → AllByRecursion IsRead ss → StatementsHaveNames ss
 names-all [] h = tt

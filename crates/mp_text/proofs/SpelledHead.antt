@@ -1,24 +1,27 @@
 -- An operation that is held is found by its name and by its sign, so that an application of it is read as it is spelled.
 use Rattle.std.proofs.Common.{◌≡◌, ℕ, zero, suc, ◌+◌, Bool, true, false, cond, leb, not, List, [], ◌∷◌, ◌++◌, length, Option, Some, None, refl, sym, ap, subst, ◌∙◌, arith, add-one}
-use Rattle.std.specs.Prelude.{slice_get, option_map, position, is_some}
+use Rattle.std.specs.Prelude.{slice_get, option_map, position, is_some, unwrap_or}
 use Rattle.std.specs.List.{list_all, AllByRecursion}
 use Rattle.std.specs.Str.{bytes_eq}
-use Rattle.std.proofs.lemmas.Bool.{leb-true, not-true, or_parts}
+use Rattle.std.proofs.lemmas.Bool.{leb-true, not-true, or_parts, and_parts}
 use Rattle.std.proofs.lemmas.Slice.Eq.{bytes_eq-Decides}
 use Rattle.mp_io.specs.Devices.{Text}
 use Rattle.mp_term.specs.declared.signature.OpDecl.{OpDecl}
 use Rattle.mp_term.specs.Tree as term
-use Rattle.mp_term.specs.Signature.{Sig, allows, has_name, is_that_sign, has_sign, shares_sign, clashes, none_clash}
-use Rattle.mp_term.proofs.SignatureLaws.{position-behind, position-first}
+use Rattle.mp_term.specs.Names.{are_distinct}
+use Rattle.mp_term.specs.Signature.{Sig, allows, has_name, is_that_sign, has_sign, shares_sign, clashes, none_clash, kind_names}
+use Rattle.mp_term.proofs.SignatureLaws.{is_some-position, position-behind, position-first}
+use Rattle.mp_pattern.specs.SoundRule.{IsSymbol, HoldsKind}
+use Rattle.mp_print.specs.Printing.{kind_name_text}
 use Rattle.mp_pattern.specs.PatternTree as pattern
 use Rattle.mp_syntax.specs.Tokens.{first_place}
 use Rattle.mp_syntax.specs.Syntax.{Spot, Tree, Symbol, Apply, InfixOf, Trees, no_trees, more_trees, tree_list, AreSeveral, Fits, AreFit, IsName, IsInfixSign, HasNames, HaveNames}
-use Rattle.mp_text.specs.Build.{op_number, sign_number, head_number, term_of, terms_of, pattern_of, patterns_of}
+use Rattle.mp_text.specs.Build.{kind_number, op_number, sign_number, head_number, term_of, terms_of, pattern_of, patterns_of}
 use Rattle.mp_text.specs.Wildcards.{PatternWildcard}
-use Rattle.mp_text.specs.Checks.{op_at, op_named, op_signed, head_faults, arity_faults, sign_faults, allows_patterns, symbol_faults, term_faults, term_operand_faults, all_term_faults, pattern_faults, pattern_operand_faults, all_pattern_faults}
+use Rattle.mp_text.specs.Checks.{op_at, op_named, op_signed, head_faults, arity_faults, sign_faults, allows_args, symbol_faults, term_faults, term_operand_faults, all_term_faults, pattern_faults, pattern_operand_faults, all_pattern_faults}
 use Rattle.mp_text.specs.Spelled.{piece, application_spelling, held_spelling}
 use Rattle.mp_text.proofs.Words.{first-of, second-of}
-use Rattle.mp_text.proofs.Faultless.{nil-fault_if, none-fault_if}
+use Rattle.mp_text.proofs.Faultless.{none-fault_if}
 use Rattle.mp_text.proofs.Built.{term_operand_faults-known, pattern_operand_faults-known}
 
 -- ---- items of a list
@@ -77,23 +80,71 @@ pub record HasOpNames (d : OpDecl) : Type 0 where
   pub name : IsName d.name
   pub sign : IsSomeSign d.sign
 
--- the operations have names and signs, and no two clash
+-- the operations have names and signs, and no two clash; the kinds have names, and no two have one
 pub record HasOps (sig : Sig) : Type 0 where
   pub apart : none_clash sig.ops ≡ true
   pub named : AllByRecursion HasOpNames sig.ops
+  pub kinds_apart : are_distinct (kind_names sig) ≡ true
+  pub kinds_named : AllByRecursion IsName (kind_names sig)
 
--- the word is a name, and no operation's name
-pub record IsSymbolOf (sig : Sig) (word : Text) : Type 0 where
-  pub name : IsName word
-  pub free : is_some (op_number sig word) ≡ false
+-- a name is the first of its kind among names that differ
+position-distinct : (names : List Text) (i : ℕ) (name : Text) → are_distinct names ≡ true → slice_get names i ≡ Some name → position (bytes_eq name) names ≡ Some i
+position-distinct [] i name h here = cc
+position-distinct (n ∷ names) zero name h here =
+    let same : name ≡ n = cc in
+    position-first (bytes_eq name) n names ((bytes_eq-Decides name n).1 same)
+position-distinct (n ∷ names) (suc i) name h here =
+    let p = and_parts (list_all (λ m. not (bytes_eq m n)) names) (are_distinct names) h in
+    position-behind (bytes_eq name) n names (not-true (bytes_eq name n) (list_all-at (λ m. not (bytes_eq m n)) names i name p.0 here))
+    ∙ ap (option_map (λ k. k + 1)) (position-distinct names i name p.1 here) ∙ ap Some (add-one i)
+  where
+    list_all-at : (test : Text → Bool) (xs : List Text) (i : ℕ) (x : Text) → list_all test xs ≡ true → slice_get xs i ≡ Some x → test x ≡ true
+    list_all-at test [] i x h here = cc
+    list_all-at test (y ∷ xs) zero x h here = let same : y ≡ x = cc in subst (λ z. test z ≡ true) same (and_parts (test y) (list_all test xs) h).0
+    list_all-at test (y ∷ xs) (suc i) x h here = list_all-at test xs i x (and_parts (test y) (list_all test xs) h).1 here
 
--- a word without faults is a symbol
-pub IsSymbolOf-symbol_faults : (sig : Sig) (w : Spot) → IsName w.text → symbol_faults sig w ≡ [] → IsSymbolOf sig w.text
-IsSymbolOf-symbol_faults sig w name h = record { name = name; free = nil-fault_if (is_some (op_number sig w.text)) _ w.place h }
+-- the first name that is this one is this one
+pub position-name : (name : Text) (names : List Text) (k : ℕ) → position (bytes_eq name) names ≡ Some k → slice_get names k ≡ Some name
+position-name name [] k h = cc
+position-name name (n ∷ names) k h = by_test (bytes_eq name n) refl (position-name name names)
+  where
+    some_number : (i j : ℕ) → Some i ≡ Some j → i ≡ j
+    some_number i j e = cc
+
+    at : (o : Option ℕ) → position (bytes_eq name) names ≡ o → option_map (λ i. i + 1) o ≡ Some k → ((j : ℕ) → position (bytes_eq name) names ≡ Some j → slice_get names j ≡ Some name) → slice_get (n ∷ names) k ≡ Some name
+    at None e f ih = cc
+    at (Some j) e f ih = subst (λ i. slice_get (n ∷ names) i ≡ Some name) (sym (add-one j) ∙ some_number (j + 1) k f) (ih j e)
+
+    by_test : (b : Bool) → bytes_eq name n ≡ b → ((j : ℕ) → position (bytes_eq name) names ≡ Some j → slice_get names j ≡ Some name) → slice_get (n ∷ names) k ≡ Some name
+    by_test true e ih =
+        let here : 0 ≡ k = some_number 0 k (sym (position-first (bytes_eq name) n names e) ∙ h) in
+        subst (λ i. slice_get (n ∷ names) i ≡ Some name) here (ap Some (sym ((bytes_eq-Decides name n).0 e)))
+    by_test false e ih = at (position (bytes_eq name) names) refl (sym (position-behind (bytes_eq name) n names e) ∙ h) ih
+
+-- the name of a kind that is found by a name
+pub kind_name_text-found : (sig : Sig) (name : Text) (k : ℕ) → kind_number sig name ≡ Some k → kind_name_text sig k ≡ name
+kind_name_text-found sig name k h = ap (λ o. unwrap_or o []) (position-name name (kind_names sig) k h)
+
+-- a kind with a name, by which it is found
+pub record IsHeldKind (sig : Sig) (k : ℕ) : Type 0 where
+  pub name : IsName (kind_name_text sig k)
+  pub found : kind_number sig (kind_name_text sig k) ≡ Some k
+
+pub held-kind : (sig : Sig) → HasOps sig → (k : ℕ) → HoldsKind sig k → IsHeldKind sig k
+held-kind sig h k held = go (slice_get (kind_names sig) k) refl held
+  where
+    go : (o : Option Text) → slice_get (kind_names sig) k ≡ o → is_some o ≡ true → IsHeldKind sig k
+    go None e s = cc
+    go (Some n) e s =
+        let text : kind_name_text sig k ≡ n = ap (λ o. unwrap_or o []) e in
+        record {
+          name = subst IsName (sym text) (all-at IsName (kind_names sig) k n h.kinds_named e);
+          found = ap (kind_number sig) text ∙ position-distinct (kind_names sig) k n h.kinds_apart e;
+        }
 
 -- a symbol has no faults
-pub symbol_faults-IsSymbolOf : (sig : Sig) (word : Text) → IsSymbolOf sig word → symbol_faults sig (piece word) ≡ []
-symbol_faults-IsSymbolOf sig word h = none-fault_if (is_some (op_number sig word)) _ first_place h.free
+pub symbol_faults-IsSymbol : (sig : Sig) (word : Text) → IsSymbol sig word → symbol_faults sig (piece word) ≡ []
+symbol_faults-IsSymbol sig word h = none-fault_if (is_some (op_number sig word)) _ first_place (is_some-position (has_name word) sig.ops ∙ h.free)
 
 -- ---- applications
 
@@ -181,9 +232,9 @@ module _ (sig : Sig) (h : HasOps sig) (f : ℕ) (d : OpDecl) (here : slice_get s
       ∙ none)
 
   -- it has no faults in a pattern
-  pub pattern_faults-held : (before : List PatternWildcard) (ts : Trees) → allows_patterns (tree_list ts) d ≡ true → all_pattern_faults sig before ts ≡ [] → pattern_faults sig before (held_spelling (slice_get sig.ops f) ts) ≡ []
+  pub pattern_faults-held : (before : List PatternWildcard) (ts : Trees) → allows_args sig ts d ≡ true → all_pattern_faults sig before ts ≡ [] → pattern_faults sig before (held_spelling (slice_get sig.ops f) ts) ≡ []
   pattern_faults-held before ts allowed none =
-      let passes = allows_patterns (tree_list ts) in
+      let passes = allows_args sig ts in
       held_spelling-cases (λ t. pattern_faults sig before t ≡ []) (slice_get sig.ops f) d ts here
       (ap (λ l. l ++ all_pattern_faults sig before ts) (head_faults-held passes allowed) ∙ none)
       (λ sign e some.

@@ -11,7 +11,9 @@ use Rattle.mp_pattern.specs.Normal.{normal_pattern}
 use Rattle.mp_pattern.proofs.SortedLaws.{total}
 use Rattle.mp_pattern.proofs.NormalMeasures.{within-normal_pattern}
 use Rattle.mp_syntax.specs.Syntax.{Tree, Symbol, Apply, InfixOf, Wild, Optional, Variable, Trees, no_trees, more_trees, Fits, AreFit, HasNames, HaveNames}
-use Rattle.mp_text.specs.Build.{kind_shape, variable_of, pattern_of, patterns_of}
+use Rattle.mp_pattern.specs.PatternTree.{is_sequence}
+use Rattle.mp_pattern.specs.SoundRule.{IsFormed}
+use Rattle.mp_text.specs.Build.{marked_shape, kind_shape, variable_of, pattern_of, patterns_of}
 use Rattle.mp_pattern.specs.Depth.{pattern_depth}
 use Rattle.mp_text.specs.Names.{wildcards, all_wildcards}
 use Rattle.mp_text.specs.Scope as scope
@@ -19,26 +21,21 @@ use Rattle.mp_text.specs.Scope.{wildcard_variable, pattern_variables}
 use Rattle.mp_text.specs.Spelled.{pattern_spelling}
 use Rattle.mp_syntax.proofs.Trees.{fits-optional}
 use Rattle.mp_text.proofs.SpelledHead.{HasOps}
-use Rattle.mp_text.proofs.SpelledWildcard.{marks_of}
-use Rattle.mp_text.proofs.SpelledPattern.{IsSpelled, pattern_of-pattern_spelling, HasNames-pattern_spelling, Fits-pattern_spelling}
+use Rattle.mp_text.proofs.SpelledPattern.{pattern_of-pattern_spelling, HasNames-pattern_spelling, Fits-pattern_spelling}
 
 -- ---- wildcards
 
 -- the variable of a wildcard of a pattern
 abbrev variable_at : pattern.Wildcard → Option (List ℕ) → scope.Variable
-variable_at w x = record { name = unwrap_or x []; is_sequence = ltb 1 (marks_of w) }
+variable_at w x = record { name = unwrap_or x []; is_sequence = is_sequence w }
 
 name-variable_of : (name : List ℕ) → name ≡ unwrap_or (variable_of name) []
 name-variable_of [] = refl
 name-variable_of (b ∷ bs) = refl
 
-sequence-kind_shape : (sig : Sig) (kind : List ℕ) (marks : ℕ) → 0 < marks → marks ≤ 3 → (kind ≢ [] → marks ≡ 1) → ltb 1 marks ≡ ltb 1 (marks_of (kind_shape sig kind marks))
-sequence-kind_shape sig [] zero some few one = absurd (omega arith)
-sequence-kind_shape sig [] (suc zero) some few one = refl
-sequence-kind_shape sig [] (suc (suc zero)) some few one = refl
-sequence-kind_shape sig [] (suc (suc (suc zero))) some few one = refl
-sequence-kind_shape sig [] (suc (suc (suc (suc n)))) some few one = absurd (omega arith)
-sequence-kind_shape sig (b ∷ bs) marks some few one = ap (ltb 1) (one (λ none. cc))
+sequence-kind_shape : (sig : Sig) (kind : List ℕ) (marks : ℕ) → (kind ≢ [] → marks ≡ 1) → is_sequence (marked_shape marks) ≡ is_sequence (kind_shape sig kind marks)
+sequence-kind_shape sig [] marks one = refl
+sequence-kind_shape sig (b ∷ bs) marks one = ap (λ n. is_sequence (marked_shape n)) (one (λ none. cc))
 
 -- ---- how many variables pass a test
 
@@ -87,10 +84,10 @@ module _ (test : scope.Variable → Bool) where
       some-pattern_of (suc room) (InfixOf opened sign operands) names fits = some-patterns_of room operands names.1 fits.1
       some-pattern_of room (Wild w) names fits =
           some-one (wildcard_variable w) (variable_at (kind_shape sig w.kind w.marks) (variable_of w.name))
-          (λ i. record { name = name-variable_of w.name i; is_sequence = sequence-kind_shape sig w.kind w.marks names.some_marks names.few_marks names.kind_behind_one i })
+          (λ i. record { name = name-variable_of w.name i; is_sequence = sequence-kind_shape sig w.kind w.marks names.kind_behind_one i })
       some-pattern_of room (Optional w others default) names fits =
           let dot = (fits-optional room w others default fits).0.0.one_mark in
-          some-one (wildcard_variable w) (record { name = unwrap_or (variable_of w.name) []; is_sequence = false }) (λ i. record { name = name-variable_of w.name i; is_sequence = ltb 1 (dot i) })
+          some-one (wildcard_variable w) (record { name = unwrap_or (variable_of w.name) []; is_sequence = false }) (λ i. record { name = name-variable_of w.name i; is_sequence = is_sequence (marked_shape (dot i)) })
       some-pattern_of room (Variable x) names fits = refl
 
       some-patterns_of : (room : ℕ) (ps : Trees) → HaveNames ps → AreFit room ps → list_any test (map wildcard_variable (all_wildcards ps)) ≡ ltb 0 (all_passing (patterns_of sig ps))
@@ -102,7 +99,7 @@ module _ (test : scope.Variable → Bool) where
           ∙ some-two (list_any test front) (list_any test back) (passing (pattern_of sig p)) (all_passing (patterns_of sig ps)) (some-pattern_of room p names.0 fits.0) (some-patterns_of room ps names.1 fits.1)
 
     -- a variable of a pattern passes where one of its normal form does, as that is spelled
-    pub some-pattern_spelling : HasOps sig → (p : Tree) → HasNames p → Fits 100 p → IsSpelled sig (normal_pattern sig (pattern_of sig p)) → pattern_depth (normal_pattern sig (pattern_of sig p)) ≤ 100
+    pub some-pattern_spelling : HasOps sig → (p : Tree) → HasNames p → Fits 100 p → IsFormed sig (normal_pattern sig (pattern_of sig p)) → pattern_depth (normal_pattern sig (pattern_of sig p)) ≤ 100
         → list_any test (pattern_variables p) ≡ list_any test (pattern_variables (pattern_spelling sig (normal_pattern sig (pattern_of sig p))))
     some-pattern_spelling h p names fits s shallow =
         let q = normal_pattern sig (pattern_of sig p) in

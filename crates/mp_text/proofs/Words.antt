@@ -1,10 +1,11 @@
 -- A word of at most 64 bytes is the spelling of a name, and a sign of at most 4 bytes that of a sign.
-use Rattle.std.proofs.Common.{◌≡◌, ◌≢◌, ℕ, ◌≤◌, Bool, true, false, ◌&&◌, ◌||◌, List, [], ◌∷◌, length, leb, refl, ◌∙◌, sym, rules}
+use Rattle.std.proofs.Common.{◌≡◌, ◌≢◌, ℕ, ◌≤◌, Bool, true, false, ◌&&◌, ◌||◌, List, [], ◌∷◌, length, leb, refl, ◌∙◌, sym, arith, rules}
 use Rattle.std.specs.List.{list_all}
 use Rattle.std.specs.Prelude.{not, codes}
 use Rattle.std.proofs.lemmas.Slice.Eq.{bytes_eq-Decides}
-use Rattle.std.proofs.lemmas.Bool.{and_from}
+use Rattle.std.proofs.lemmas.Bool.{and_from, and_parts, leb-true}
 use Rattle.mp_term.specs.Names.{is_name, is_name_byte, is_arrow, is_sign, is_sign_byte}
+use Rattle.mp_term.specs.declared.limits.TheConstants.{MAX_NAME_BYTES}
 use Rattle.mp_syntax.specs.Tokens as tokens
 use Rattle.mp_syntax.specs.Tokens.{AreWordBytes, is_word_byte}
 use Rattle.mp_syntax.specs.Syntax.{IsName, IsInfixSign}
@@ -44,6 +45,24 @@ pub is_name-IsName : (word : List ℕ) → IsName word → is_name word ≡ true
 is_name-IsName word h =
     let small : length word ≤ 64 = h.is_short in
     and_from (leb 1 (length word) && leb (length word) 64) (list_all is_name_byte word) (and_from (leb 1 (length word)) (leb (length word) 64) (some-item word h.is_word.some) (search (rules, small))) (all-implied is_word_byte is_name_byte is_name_byte-word word h.is_word.bytes)
+
+-- a byte of names is a byte of words
+word-is_name_byte : (b : ℕ) → is_name_byte b ≡ true → is_word_byte b ≡ true
+word-is_name_byte b h = or-grouped (leb 48 b && leb b 57) (leb 65 b && leb b 90) (leb 97 b && leb b 122) ∙ h
+
+some-bytes : (word : List ℕ) → leb 1 (length word) ≡ true → word ≢ []
+some-bytes [] h e = absurd (omega (arith, leb-true 1 0 h))
+some-bytes (b ∷ bs) h e = cc
+
+-- and a name is a word
+pub IsName-is_name : (word : List ℕ) → is_name word ≡ true → IsName word
+IsName-is_name word h =
+    let p = and_parts (leb 1 (length word) && leb (length word) MAX_NAME_BYTES) (list_all is_name_byte word) h in
+    let q = and_parts (leb 1 (length word)) (leb (length word) MAX_NAME_BYTES) p.0 in
+    record {
+      is_word = record { some = some-bytes word q.0; bytes = all-implied is_name_byte is_word_byte word-is_name_byte word p.1 };
+      is_short = leb-true (length word) MAX_NAME_BYTES q.1;
+    }
 
 -- another text than the arrow
 not_arrow : (sign : List ℕ) → sign ≢ codes "->" → not (is_arrow sign) ≡ true

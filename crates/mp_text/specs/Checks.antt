@@ -2,7 +2,11 @@
 use Rattle.std.specs.Prelude.{ℕ, ◌+◌, ◌==◌, Bool, true, false, ◌||◌, ◌&&◌, not, List, [], ◌∷◌, ◌++◌, length, map, flat_map, Option, Some, None, is_some, is_none, option_and_then, slice_get, nat_le, nat_lt, count_by, if◌then◌else◌}
 use Rattle.std.specs.List.{list_any}
 use Rattle.mp_term.specs.declared.signature.OpDecl.{OpDecl}
+use Rattle.mp_term.specs.declared.limits.TheConstants.{MAX_ARITY, MAX_OPS, MAX_KINDS, MAX_KIND_SYMBOLS}
 use Rattle.mp_term.specs.Signature.{Sig, allows, in_order, has_sign, kind_names}
+use Rattle.mp_pattern.specs.declared.limits.TheConstants.{MAX_PATTERN_NODES, MAX_DEFAULT_NODES, MAX_VARIABLES, MAX_OPERAND_NODES, MAX_TERM_NODES}
+use Rattle.mp_pattern.specs.PatternTree.{is_loose}
+use Rattle.mp_pattern.specs.SoundRule.{allows_patterns}
 use Rattle.mp_syntax.specs.declared.place.Place.{Place}
 use Rattle.mp_syntax.specs.Syntax.{Spot, Wildcard, Tree, Symbol, Apply, InfixOf, Wild, Variable, Trees, no_trees, more_trees, tree_list, Flag, Statement, OpOf, KindOf, RuleOf, SubjectOf, Optional}
 use Rattle.mp_text.specs.declared.fault.TextKind.{TextKind}
@@ -11,7 +15,7 @@ use Rattle.mp_text.specs.declared.fault.TextFault.{TextFault}
 use Rattle.mp_text.specs.Names.{is_among, number_of, variable_names}
 use Rattle.mp_text.specs.Flags.{some_flag_twice, sign_spot, is_long_sign}
 use Rattle.mp_text.specs.Wildcards.{PatternWildcard, without_default, with_default_form, pattern_wildcards, differs}
-use Rattle.mp_text.specs.Build.{op_number, sign_number, kind_number, op_decl, op_decls, sig_with}
+use Rattle.mp_text.specs.Build.{op_number, sign_number, kind_number, marked_shape, pattern_of, op_decl, op_decls, sig_with}
 
 -- ---- faults
 
@@ -39,63 +43,37 @@ abbrev mutual
   all_nodes no_trees = 0
   all_nodes (more_trees t ts) = nodes t + all_nodes ts
 
--- a default in the expression has more than 64 nodes
+-- a default in the expression has more than MAX_DEFAULT_NODES nodes
 abbrev mutual
   pub has_large_default : Tree → Bool
   has_large_default (Symbol w) = false
   has_large_default (Apply f args) = some_large_default args
   has_large_default (InfixOf opened sign operands) = some_large_default operands
   has_large_default (Wild w) = false
-  has_large_default (Optional w others default) = nat_lt 64 (nodes default) || has_large_default default
+  has_large_default (Optional w others default) = nat_lt MAX_DEFAULT_NODES (nodes default) || has_large_default default
   has_large_default (Variable x) = false
 
   pub some_large_default : Trees → Bool
   some_large_default no_trees = false
   some_large_default (more_trees t ts) = has_large_default t || some_large_default ts
 
--- a pattern has more than 64 nodes or more than 32 variables, or a default in it has more than 64 nodes
+-- a pattern has more than MAX_PATTERN_NODES nodes or more than MAX_VARIABLES variables, or a default in it is large
 abbrev pub is_large_pattern : Tree → Bool
-is_large_pattern p = nat_lt 64 (nodes p) || (nat_lt 32 (length (variable_names p)) || has_large_default p)
+is_large_pattern p = nat_lt MAX_PATTERN_NODES (nodes p) || (nat_lt MAX_VARIABLES (length (variable_names p)) || has_large_default p)
 
--- an operand of a condition has more than 64 nodes, or a default in it has
+-- an operand of a condition has more than MAX_OPERAND_NODES nodes, or a default in it is large
 abbrev pub is_large_operand : Tree → Bool
-is_large_operand t = nat_lt 64 (nodes t) || has_large_default t
+is_large_operand t = nat_lt MAX_OPERAND_NODES (nodes t) || has_large_default t
 
--- a term has more than 100,000 nodes, or a default in it has more than 64 nodes
+-- a term has more than MAX_TERM_NODES nodes, or a default in it is large
 abbrev pub is_large_term : Tree → Bool
-is_large_term t = nat_lt 100000 (nodes t) || has_large_default t
-
--- ---- numbers of arguments
-
--- a wildcard that may take no argument: a star or optional one
-abbrev pub may_take_none : Tree → Bool
-may_take_none (Wild w) = w.marks == 3
-may_take_none (Optional w others default) = true
-may_take_none _ = false
-
--- a wildcard that may take more than one argument: plus and star, and under an associative operation a dot or optional one
-abbrev pub may_take_more : Bool → Tree → Bool
-may_take_more assoc (Wild w) = nat_lt 1 w.marks || (assoc && length w.kind == 0)
-may_take_more assoc (Optional w others default) = assoc
-may_take_more assoc _ = false
-
--- how many arguments these patterns take at least
-abbrev pub fewest : List Tree → ℕ
-fewest args = count_by (λ p. not (may_take_none p)) args
-
--- they may take as many arguments as this number
-abbrev pub may_reach : Bool → List Tree → ℕ → Bool
-may_reach assoc args n = list_any (may_take_more assoc) args || nat_le n (length args)
-
--- the operation allows a number of arguments that these patterns may take
-abbrev pub allows_patterns : List Tree → OpDecl → Bool
-allows_patterns args d = may_reach d.assoc args d.least && (not d.fixed || nat_le (fewest args) d.least)
+is_large_term t = nat_lt MAX_TERM_NODES (nodes t) || has_large_default t
 
 -- ---- wildcards
 
 -- the fault of a plus, star or optional wildcard that stands alone
 abbrev pub loose_faults : Tree → List TextFault
-loose_faults (Wild w) = fault_if (nat_lt 1 w.marks) LooseSequence w.place
+loose_faults (Wild w) = fault_if (is_loose (marked_shape w.marks)) LooseSequence w.place
 loose_faults (Optional w others default) = fault_at LooseSequence w.place ∷ []
 loose_faults _ = []
 
@@ -168,12 +146,16 @@ module _ (sig : Sig) where
   abbrev pub wildcard_faults : List PatternWildcard → PatternWildcard → List TextFault
   wildcard_faults before w = fault_if (kind_unknown w.wildcard.kind) UnknownKind w.wildcard.place ++ fault_if (list_any (differs w) before) KindClash w.wildcard.place
 
+  -- the operation allows a number of arguments that the patterns of these expressions may take
+  abbrev pub allows_args : Trees → OpDecl → Bool
+  allows_args args = allows_patterns (map (pattern_of sig) (tree_list args))
+
   -- the faults of a pattern behind wildcards, by token, in the same way
   abbrev mutual
     pub pattern_faults : List PatternWildcard → Tree → List TextFault
     pattern_faults before (Symbol w) = symbol_faults w
-    pattern_faults before (Apply f args) = head_faults (allows_patterns (tree_list args)) f (op_named f.text) ++ all_pattern_faults before args
-    pattern_faults before (InfixOf opened sign operands) = arity_faults (allows_patterns (tree_list operands)) opened (op_signed sign.text) ++ pattern_operand_faults before (sign_faults sign (op_signed sign.text)) operands
+    pattern_faults before (Apply f args) = head_faults (allows_args args) f (op_named f.text) ++ all_pattern_faults before args
+    pattern_faults before (InfixOf opened sign operands) = arity_faults (allows_args operands) opened (op_signed sign.text) ++ pattern_operand_faults before (sign_faults sign (op_signed sign.text)) operands
     pattern_faults before (Wild w) = wildcard_faults before (without_default w)
     pattern_faults before (Optional w others default) = wildcard_faults before (with_default_form sig w others default) ++ default_faults others default
     pattern_faults before (Variable x) = fault_at WildcardInTerm x.place ∷ []
@@ -196,7 +178,7 @@ module _ (sig : Sig) where
 abbrev pub name_faults : ℕ → List (List ℕ) → Bool → Spot → List TextFault
 name_faults most earlier is_large name = fault_if (is_among name.text earlier) DuplicateName name.place ++ fault_if (nat_le most (length earlier) || is_large) TooMany name.place
 
--- a flag stands twice, the sign has more than 4 bytes, or the declaration isn't in order
+-- a flag stands twice, the sign is too long, or the declaration isn't in order
 abbrev pub has_bad_flags : Spot → Spot → Bool → List Flag → Bool
 has_bad_flags name least more flags = some_flag_twice flags || (is_long_sign (sign_spot flags) || not (in_order (op_decl name least more flags)))
 
@@ -205,16 +187,16 @@ abbrev pub held_sign_faults : List OpDecl → Option Spot → List TextFault
 held_sign_faults earlier None = []
 held_sign_faults earlier (Some sign) = fault_if (list_any (has_sign sign.text) earlier) DuplicateName sign.place
 
--- The faults of a declaration behind earlier operations: at its name, at its number, which is at most 1,000, and at its sign. There are at most 256 operations.
+-- The faults of a declaration behind earlier operations: at its name, at its number, which is at most MAX_ARITY, and at its sign. There are at most MAX_OPS operations.
 abbrev pub op_faults : List OpDecl → Spot → Spot → Bool → List Flag → List TextFault
 op_faults earlier name least more flags =
-    name_faults 256 (map (λ d. d.name) earlier) false name
+    name_faults MAX_OPS (map (λ d. d.name) earlier) false name
     ++ (fault_if (has_bad_flags name least more flags) BadFlags name.place
-    ++ (fault_if (nat_lt 1000 (number_of least.text)) TooMany least.place ++ held_sign_faults earlier (sign_spot flags)))
+    ++ (fault_if (nat_lt MAX_ARITY (number_of least.text)) TooMany least.place ++ held_sign_faults earlier (sign_spot flags)))
 
--- The faults of a kind behind what is declared: at its name, and at each member. There are at most 256 kinds, with the numbers, and at most 10,000 members are written.
+-- The faults of a kind behind what is declared: at its name, and at each member. There are at most MAX_KINDS kinds, with the numbers, and at most MAX_KIND_SYMBOLS members are written.
 abbrev pub kind_faults : Sig → Spot → List Spot → List TextFault
-kind_faults sig name members = name_faults 256 (kind_names sig) (nat_lt 10000 (length members)) name ++ flat_map (symbol_faults sig) members
+kind_faults sig name members = name_faults MAX_KINDS (kind_names sig) (nat_lt MAX_KIND_SYMBOLS (length members)) name ++ flat_map (symbol_faults sig) members
 
 -- the faults of a statement that declares an operation, behind earlier statements
 abbrev pub op_statement_faults : List Statement → Statement → List TextFault

@@ -2,6 +2,7 @@
 use Rattle.std.specs.Prelude.{Bool, false, ◌||◌, not, List, [], ◌++◌, length, Option, Some, None, is_none, nat_lt}
 use Rattle.std.specs.List.{list_any}
 use Rattle.mp_term.specs.Signature.{Sig}
+use Rattle.mp_pattern.specs.declared.limits.TheConstants.{MAX_ATOMS, MAX_NUMBER}
 use Rattle.mp_syntax.specs.declared.condition_tree.Relation.{Relation}
 use Rattle.mp_syntax.specs.declared.condition_tree.Relation.TheVariants.{Same, Less, Free}
 use Rattle.mp_syntax.specs.declared.condition_tree.Property.{Property}
@@ -17,17 +18,17 @@ use Rattle.mp_text.specs.Conditions.{amount_operands, atom_operands, atoms}
 
 -- ---- limits
 
--- the operand, where there is one, has more than 64 nodes, a variable having one
+-- the operand, where there is one, is large
 abbrev pub has_large_amount : Amount → Bool
 has_large_amount m = list_any is_large_operand (amount_operands m)
 
--- one of the operands has more than 64 nodes
+-- one of the operands is large
 abbrev pub has_large_operand : Atom → Bool
 has_large_operand a = list_any is_large_operand (atom_operands a)
 
--- a condition has more than 64 atoms, or an operand of more than 64 nodes
+-- a condition has more than MAX_ATOMS atoms, or a large operand
 abbrev pub is_large_condition : Condition → Bool
-is_large_condition c = nat_lt 64 (length (atoms c)) || list_any has_large_operand (atoms c)
+is_large_condition c = nat_lt MAX_ATOMS (length (atoms c)) || list_any has_large_operand (atoms c)
 
 -- a condition that there is has so
 abbrev pub has_large_condition : Option Condition → Bool
@@ -71,9 +72,9 @@ module _ (sig : Sig) where
     related_faults Less t = operand_faults t ++ single_faults scope t
     related_faults Free t = operand_faults t
 
-    -- the faults of an amount: a number is at most 1,000,000
+    -- the faults of an amount: a number is at most MAX_NUMBER
     abbrev pub amount_faults : Amount → List TextFault
-    amount_faults (Number n) = fault_if (nat_lt 1000000 (number_of n.text)) TooMany n.place
+    amount_faults (Number n) = fault_if (nat_lt MAX_NUMBER (number_of n.text)) TooMany n.place
     amount_faults (Measured m t) = operand_faults t
 
     -- the faults of an atom, by token

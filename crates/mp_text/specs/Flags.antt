@@ -1,5 +1,6 @@
 -- The flags of an operation, as they are written.
 use Rattle.std.specs.Prelude.{Bool, true, false, ◌||◌, List, [], ◌∷◌, length, Option, Some, None, nat_lt, count_by}
+use Rattle.mp_term.specs.declared.limits.TheConstants.{MAX_SIGN_BYTES}
 use Rattle.mp_syntax.specs.Syntax.{Spot, Flag, Assoc, Comm, One, Infixed}
 
 -- the flag is assoc
@@ -42,7 +43,7 @@ sign_spot (Comm ∷ flags) = sign_spot flags
 sign_spot (One ∷ flags) = sign_spot flags
 sign_spot (Infixed sign ∷ flags) = Some sign
 
--- the sign has more than 4 bytes
+-- the sign has more than MAX_SIGN_BYTES bytes
 abbrev pub is_long_sign : Option Spot → Bool
 is_long_sign None = false
-is_long_sign (Some sign) = nat_lt 4 (length sign.text)
+is_long_sign (Some sign) = nat_lt MAX_SIGN_BYTES (length sign.text)

@@ -17,7 +17,6 @@ pub mod Answers
 pub mod Reading
 pub mod PrintedFile
 pub mod Spelled
-pub mod SoundCondition
 pub mod Sound
 pub mod Alone
 pub mod AloneCondition

@@ -1,11 +1,13 @@
 -- The variables that a condition may name.
-use Rattle.std.specs.Prelude.{ℕ, Bool, true, false, ◌&&◌, List, map, Option, nat_lt}
+use Rattle.std.specs.Prelude.{ℕ, Bool, true, false, ◌&&◌, List, map, Option}
 use Rattle.std.specs.List.{list_any}
 use Rattle.std.specs.Str.{bytes_eq}
 use Rattle.mp_pattern.specs.Value.{Form, one_form, seq_form, bag_form}
 use Rattle.mp_pattern.specs.Plan as plan
 use Rattle.mp_syntax.specs.Syntax.{Wildcard, Tree}
 use Rattle.mp_text.specs.Names.{wildcards}
+use Rattle.mp_text.specs.Build.{marked_shape}
+use Rattle.mp_pattern.specs.PatternTree.{is_sequence}
 
 -- a variable: its name, and whether it may stand for several terms
 pub record Variable : Type 0 where
@@ -18,7 +20,7 @@ Scope = Option (List Variable)
 
 -- that of a wildcard; a plus or star wildcard may stand for several terms
 abbrev pub wildcard_variable : Wildcard → Variable
-wildcard_variable w = record { name = w.name; is_sequence = nat_lt 1 w.marks }
+wildcard_variable w = record { name = w.name; is_sequence = is_sequence (marked_shape w.marks) }
 
 -- the variables of a pattern, one for each wildcard
 abbrev pub pattern_variables : Tree → List Variable

@@ -14,14 +14,11 @@ use crate::checks::number_of;
 use crate::fault::{TextError, TextKind, error_at};
 use crate::reader::subject_term;
 use crate::scope::{Scope, is_bound, is_bound_sequence};
-use mp_pattern::{Amount, Cond, Operand, Sense};
+use mp_pattern::{Amount, Cond, MAX_NUMBER, Operand, Sense};
 use mp_syntax as syntax;
 use mp_syntax::{Atom, Expr, Measure, Property, Relation, Word};
 use mp_term::{KindId, OpId, Signature};
 use std::alloc::Global;
-
-/// The greatest number that a condition may have.
-const MAX_NUMBER: u32 = 1_000_000;
 
 /// A variable that is named is one of those that may be.
 fn check_bound(scope: &Scope<'_>, name: Word<'_>) -> Result<(), TextError>

@@ -7,6 +7,7 @@ ghost use Rattle.mp_term.specs.Tree as term;
 ghost use Rattle.mp_term.specs.View.{tree};
 ghost use Rattle.mp_pattern.specs.PatternTree as pattern;
 ghost use Rattle.mp_pattern.specs.PatternTree.{wild_pattern};
+ghost use Rattle.mp_pattern.specs.SoundRule.{allows_patterns};
 ghost use Rattle.mp_text.specs.declared.fault.TextKind.TheVariants.{UnknownKind};
 ghost use Rattle.mp_pattern.specs.View.{pattern_tree, wildcard};
 ghost use Rattle.mp_syntax.specs.Syntax.{trees, tree_list, InfixOf};
@@ -15,7 +16,7 @@ ghost use Rattle.mp_text.specs.Answers.{Gives, Fails};
 ghost use Rattle.mp_text.specs.Build.{op_number, sign_number, head_number, marked_shape, shape_of, variable_of, term_of, terms_of, pattern_of, patterns_of};
 ghost use Rattle.mp_text.specs.Wildcards.{pattern_wildcards, all_pattern_wildcards};
 ghost use Rattle.mp_text.specs.WildcardView.{wildcard_view};
-ghost use Rattle.mp_text.specs.Checks.{fault_if, kind_unknown, term_wildcard_faults, loose_faults, whole_pattern_faults, op_named, op_signed, symbol_faults, head_faults, arity_faults, sign_faults, allows_patterns, term_faults, term_operand_faults, all_term_faults, pattern_faults, pattern_operand_faults, all_pattern_faults};
+ghost use Rattle.mp_text.specs.Checks.{fault_if, kind_unknown, term_wildcard_faults, loose_faults, whole_pattern_faults, op_named, op_signed, symbol_faults, head_faults, arity_faults, sign_faults, term_faults, term_operand_faults, all_term_faults, pattern_faults, pattern_operand_faults, all_pattern_faults};
 
 use crate::checks::allows_patterns;
 use crate::fault::{TextError, TextKind, error_at};
@@ -116,7 +117,7 @@ fn term_sign(
 
 /// The operation that is applied to these patterns.
 fn pattern_head(sig: &Signature, name: Word<'_>, args: &[Expr<'_>]) -> Result<OpId, TextError>
-    ensures { Gives result (head_faults (allows_patterns (map expr_tree args.now)) (spot_of name.entry) (op_named sig.now name.entry.text.now)) (λ id. id.0 ≡ head_number (op_number sig.now name.entry.text.now)) }
+    ensures { Gives result (head_faults (allows_patterns (map (pattern_of sig.now) (map expr_tree args.now))) (spot_of name.entry) (op_named sig.now name.entry.text.now)) (λ id. id.0 ≡ head_number (op_number sig.now name.entry.text.now)) }
 {
     match find_decl(sig, name.text) {
         None => Err(error_at(TextKind::UnknownOp, name.place)),
@@ -136,7 +137,7 @@ fn pattern_sign(
     sign: InfixSign<'_>,
     operands: &[Expr<'_>],
 ) -> Result<Option<OpId>, TextError>
-    ensures { Gives result (arity_faults (allows_patterns (map expr_tree operands.now)) place (op_signed sig.now sign.entry.text.now))
+    ensures { Gives result (arity_faults (allows_patterns (map (pattern_of sig.now) (map expr_tree operands.now))) place (op_signed sig.now sign.entry.text.now))
         (λ o. (option_map (λ id. id.0) o ≡ sign_number sig.now sign.entry.text.now) × (is_some o ≡ is_some (op_signed sig.now sign.entry.text.now))) }
 {
     match find_sign_decl(sig, sign.text) {
@@ -349,7 +350,7 @@ pub fn shape(sig: &Signature, wild: Wildcard<'_>) -> Result<Shape, TextError>
 }
 
 /// What a wildcard without a kind takes, by its number of underscores.
-fn marked_shape(marks: usize) -> Shape
+pub fn marked_shape(marks: usize) -> Shape
     ensures { wildcard result ≡ marked_shape marks }
 {
     if marks == 3 {
@@ -391,7 +392,7 @@ fn check_root(expr: &Expr<'_>) -> Result<(), TextError>
 {
     match expr {
         Expr::Wild(wild) => {
-            if wild.marks > 1 {
+            if marked_shape(wild.marks).is_loose() {
                 return Err(error_at(TextKind::LooseSequence, wild.place));
             }
             Ok(())

@@ -1,34 +1,29 @@
 //! Limits and counts of expressions.
 
-ghost use Rattle.std.specs.Prelude.{◌≡◌, ◌+◌, ◌-◌, ◌^◌, ◌≤◌, ◌||◌, ℕ, List, [], ◌∷◌, length, map, min, nat_lt, IfOk, OnOk};
+ghost use Rattle.std.specs.Prelude.{◌≡◌, ◌+◌, ◌-◌, ◌^◌, ◌≤◌, ◌||◌, ℕ, List, [], ◌∷◌, length, map, min, nat_lt, nat_le, IfOk, OnOk};
 ghost use Rattle.std.specs.List.{list_any};
 ghost use Rattle.std.specs.Str.{bytes_eq};
 ghost use Rattle.mp_pattern.specs.Firsts.{firsts_after};
 ghost use Rattle.mp_syntax.specs.Syntax.{trees};
 ghost use Rattle.mp_syntax.specs.View.{expr_tree};
-ghost use Rattle.mp_text.specs.Checks.{nodes, all_nodes, may_take_more, fewest, may_reach, allows_patterns, is_large_pattern, is_large_operand, is_large_term, has_large_default, some_large_default, may_take_none};
+ghost use Rattle.mp_term.specs.Signature.{Sig};
+ghost use Rattle.mp_pattern.specs.SoundRule.{pattern_least, pattern_most, fewest, greatest, reaches, allows_patterns};
+ghost use Rattle.mp_text.specs.Build.{pattern_of};
+ghost use Rattle.mp_text.specs.Checks.{nodes, all_nodes, is_large_pattern, is_large_operand, is_large_term, has_large_default, some_large_default};
 ghost use Rattle.mp_text.specs.Names.{number_of, wildcard_names, all_wildcard_names, is_among, named};
 
+use crate::build::marked_shape;
+use mp_pattern::{
+    MAX_DEFAULT_NODES, MAX_NUMBER, MAX_OPERAND_NODES, MAX_PATTERN_NODES, MAX_TERM_NODES,
+    MAX_VARIABLES,
+};
 use mp_syntax::Expr;
 use mp_term::OpDecl;
 use std::alloc::{AllocError, Global};
 
-/// How many nodes a pattern may have.
-const MAX_PATTERN_NODES: u64 = 64;
-/// How many variables a pattern may have.
-const MAX_VARIABLES: usize = 32;
-/// How many nodes a default may have.
-const MAX_DEFAULT_NODES: u64 = 64;
-/// How many nodes a term may have.
-const MAX_TERM_NODES: u64 = 100_000;
-/// How many nodes an operand of a condition may have.
-const MAX_OPERAND_NODES: u64 = 64;
-/// The greatest number of arguments that a declaration may say.
-pub const MAX_ARITY: u32 = 1000;
-
 /// The number that decimal digits write, or one more than the limit where it is greater than that.
 pub fn number_of(digits: &[u8], limit: u32) -> u32
-    requires { limit ≤ 1000000 }
+    requires { limit ≤ MAX_NUMBER }
     ensures { result ≡ min (number_of digits.now) (limit + 1) }
 {
     let mut number = 0;
@@ -148,7 +143,7 @@ fn some_large_default(exprs: &[Expr<'_>]) -> bool
 pub fn is_large_pattern(alloc: Global, expr: &Expr<'_>) -> Result<bool, AllocError>
     ensures { IfOk result (λ large. large ≡ is_large_pattern (expr_tree expr.now)) }
 {
-    if node_count(expr) > MAX_PATTERN_NODES {
+    if node_count(expr) > u64::from(MAX_PATTERN_NODES) {
         return Ok(true);
     }
     let mut names = Vec::new(alloc);
@@ -170,51 +165,62 @@ pub fn is_large_operand(expr: &Expr<'_>) -> bool
     node_count(expr) > MAX_OPERAND_NODES || has_large_default(expr)
 }
 
-/// A wildcard that may take no argument: a star or optional one.
-fn may_take_none(expr: &Expr<'_>) -> bool
-    ensures { result ≡ may_take_none (expr_tree expr.now) }
+/// The least number of arguments that an expression of a pattern takes.
+fn least(expr: &Expr<'_>) -> usize
+    ensures { (sig : Sig) → result ≡ pattern_least (pattern_of sig (expr_tree expr.now)) }
 {
     match expr {
-        Expr::Wild(wild) => wild.marks == 3,
-        Expr::Optional { .. } => true,
-        _ => false,
+        Expr::Wild(wild) if wild.kind.is_empty() => marked_shape(wild.marks).least(),
+        Expr::Optional { .. } => 0,
+        _ => 1,
     }
 }
 
-/// A wildcard that may take more than one argument of an operation, which may be associative.
-fn may_take_more(assoc: bool, expr: &Expr<'_>) -> bool
-    ensures { result ≡ may_take_more assoc (expr_tree expr.now) }
+/// The greatest number of arguments that an expression of a pattern takes, of an operation that may be associative. None: there is
+/// no bound.
+fn most(assoc: bool, expr: &Expr<'_>) -> Option<usize>
+    ensures { (sig : Sig) → result ≡ pattern_most assoc (pattern_of sig (expr_tree expr.now)) }
 {
     match expr {
-        Expr::Wild(wild) => wild.marks > 1 || (assoc && wild.kind.is_empty()),
-        Expr::Optional { .. } => assoc,
-        _ => false,
+        Expr::Wild(wild) if wild.kind.is_empty() => marked_shape(wild.marks).most(assoc),
+        Expr::Optional { .. } if assoc => None,
+        _ => Some(1),
     }
 }
 
 /// The patterns may take as many arguments as this number, or more.
 fn may_reach(assoc: bool, args: &[Expr<'_>], count: usize) -> bool
-    ensures { result ≡ may_reach assoc (map expr_tree args.now) count }
+    ensures { (sig : Sig) → result ≡ reaches count (greatest assoc (map (pattern_of sig) (map expr_tree args.now))) }
 {
+    let mut missing = count;
     for arg in args {
-        if may_take_more(assoc, arg) {
-            return true;
+        match most(assoc, arg) {
+            None => return true,
+            Some(most) => missing = missing.saturating_sub(most),
         }
     }
-    count <= args.len()
+    missing == 0
 }
 
-/// How many arguments the patterns take at least.
-fn fewest(args: &[Expr<'_>]) -> usize
-    ensures { result ≡ fewest (map expr_tree args.now) }
+/// The patterns may take as few arguments as this number.
+fn may_take_few(args: &[Expr<'_>], count: usize) -> bool
+    ensures { (sig : Sig) → result ≡ nat_le (fewest (map (pattern_of sig) (map expr_tree args.now))) count }
 {
-    args.iter().filter(|arg| !may_take_none(arg)).count()
+    let mut room = count;
+    for arg in args {
+        let least = least(arg);
+        if room < least {
+            return false;
+        }
+        room -= least;
+    }
+    true
 }
 
 /// The operation allows a number of arguments that the patterns may take.
 pub fn allows_patterns(decl: &OpDecl, args: &[Expr<'_>]) -> bool
-    ensures { result ≡ allows_patterns (map expr_tree args.now) decl.now }
+    ensures { (sig : Sig) → result ≡ allows_patterns (map (pattern_of sig) (map expr_tree args.now)) decl.now }
 {
     let least = decl.least as usize;
-    may_reach(decl.assoc, args, least) && (!decl.fixed || fewest(args) <= least)
+    may_reach(decl.assoc, args, least) && (!decl.fixed || may_take_few(args, least))
 }

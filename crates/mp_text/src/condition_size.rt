@@ -7,10 +7,8 @@ ghost use Rattle.mp_text.specs.Conditions.{literal_atoms, literals_atoms, atoms}
 ghost use Rattle.mp_text.specs.ConditionChecks.{has_large_amount, has_large_operand, is_large_condition};
 
 use crate::checks::is_large_operand;
+use mp_pattern::MAX_ATOMS;
 use mp_syntax::{Alternative, Amount, Atom, Condition, Literal};
-
-/// How many atoms a condition may have.
-const MAX_ATOMS: u64 = 64;
 
 /// The number of atoms of a condition; the greatest `u64` where there are more.
 #[cycle(atom_count)]

@@ -12,19 +12,14 @@ ghost use Rattle.mp_text.specs.Flags.{sign_spot, is_long_sign};
 ghost use Rattle.mp_text.specs.Names.{is_among, number_of};
 
 use crate::build::{new_name, symbol};
-use crate::checks::{MAX_ARITY, number_of};
+use crate::checks::number_of;
 use crate::fault::{TextError, TextKind, error_at};
 use crate::flags::{has_bad_flags, is_said_assoc, is_said_comm, is_said_one, sign_spot};
 use mp_syntax::{Flag, InfixSign, Statement, Word};
-use mp_term::{NameFault, Names, OpDecl, Sign, Signature};
+use mp_term::{
+    MAX_ARITY, MAX_KIND_SYMBOLS, MAX_KINDS, MAX_OPS, NameFault, Names, OpDecl, Sign, Signature,
+};
 use std::alloc::Global;
-
-/// How many operations a file may declare.
-const MAX_OPS: usize = 256;
-/// How many kinds there may be, with the built-in one.
-const MAX_KINDS: usize = 256;
-/// How many members may be written in one kind.
-const MAX_MEMBERS: usize = 10_000;
 
 /// Checks the name of a statement: whether an earlier one of its sort has it, how many there are, and whether this one is too large.
 pub fn check_name(
@@ -72,7 +67,7 @@ fn check_op(
     ensures { Gives result (op_faults sig.now.ops (spot_of name.entry) (spot_of least.entry) is_open (map flag_of flags.now)) (λ _. Unit {0}) }
 {
     let is_held = sig.find_op(name.text).is_some();
-    check_name(name, is_held, sig.op_count() as usize, MAX_OPS, false)?;
+    check_name(name, is_held, sig.op_count() as usize, MAX_OPS as usize, false)?;
     let count = number_of(least.text, MAX_ARITY);
     if has_bad_flags(count, is_open, flags) {
         return Err(error_at(TextKind::BadFlags, name.place));
@@ -106,7 +101,7 @@ fn new_decl(
     is_open: bool,
     flags: &[Flag<'_>],
 ) -> Result<OpDecl, TextError>
-    requires least { number_of least.text.now ≤ 1000 }
+    requires least { number_of least.text.now ≤ MAX_ARITY }
     requires sign { is_long_sign (sign_spot (map flag_of flags.now)) ≡ false }
     ensures { Gives result [] (λ d. d ≡ op_decl (spot_of name.entry) (spot_of least.entry) is_open (map flag_of flags.now)) }
 {
@@ -164,12 +159,12 @@ fn declare_kind(
         (λ _. sig.new ≡ record sig.old { kinds = sig.old.kinds ++ kind_decl (spot_of name.entry) (map spot_of members.now) ∷ [] }) }
 {
     let is_held = sig.find_kind(name.text).is_some();
-    let is_large = members.len() > MAX_MEMBERS;
+    let is_large = members.len() > MAX_KIND_SYMBOLS;
     check_name(
         name,
         is_held,
         sig.kind_count() as usize,
-        MAX_KINDS,
+        MAX_KINDS as usize,
         is_large,
     )?;
     let members = new_members(alloc, sig, members)?;

@@ -10,9 +10,7 @@ ghost use Rattle.mp_text.specs.Flags.{says_assoc, says_comm, says_one, says_infi
 ghost use Rattle.mp_text.specs.Names.{number_of};
 
 use mp_syntax::{Flag, InfixSign};
-
-/// How many bytes a sign may have.
-const MAX_SIGN: usize = 4;
+use mp_term::MAX_SIGN_BYTES;
 
 /// The flag is `assoc`.
 fn says_assoc(flag: &Flag<'_>) -> bool
@@ -113,13 +111,13 @@ pub fn sign_spot<'a>(flags: &[Flag<'a>]) -> Option<InfixSign<'a>>
     None
 }
 
-/// The sign has more than 4 bytes.
+/// The sign has more than `MAX_SIGN_BYTES` bytes.
 fn is_long_sign(sign: Option<InfixSign<'_>>) -> bool
     ensures { result ≡ is_long_sign (option_map spot_of_sign sign.entry) }
 {
     match sign {
         None => false,
-        Some(sign) => sign.text.len() > MAX_SIGN,
+        Some(sign) => sign.text.len() > MAX_SIGN_BYTES,
     }
 }
 

@@ -25,7 +25,7 @@ use crate::declare::{check_name, declare};
 use crate::fault::{TextError, TextFault, TextKind};
 use crate::file::{EditSets, File, Subject, Subjects};
 use crate::rule::{build_rule, is_large_rule};
-use mp_pattern::Rules;
+use mp_pattern::{MAX_RULES, MAX_SUBJECTS, Rules};
 use mp_syntax::{Condition, Expr, Statement, SyntaxError, Word, read_statements};
 use mp_term::{Signature, Term, normalise};
 use std::alloc::Global;
@@ -97,9 +97,6 @@ pub(crate) fn unread() -> TextError
     })
 }
 
-/// How many rules and how many subjects a file may have.
-const MAX_STATEMENTS: usize = 1000;
-
 /// A rule has the name.
 fn has_rule(rules: &Rules, name: &[u8]) -> bool
     ensures { result ≡ is_among name.now (map (λ r. r.name) rules.now) }
@@ -152,7 +149,7 @@ fn add_rule(
 {
     let is_large = is_large_rule(alloc, pattern, condition)?;
     let is_held = has_rule(rules, name.text);
-    check_name(name, is_held, rules.len(), MAX_STATEMENTS, is_large)?;
+    check_name(name, is_held, rules.len(), MAX_RULES, is_large)?;
     let rule = build_rule(alloc, sig, name, pattern, condition)?;
     rules.push(rule)?;
     Ok(())
@@ -172,7 +169,7 @@ fn add_subject(
 {
     let is_large = is_large_term(term);
     let is_held = has_subject(subjects, name.text);
-    check_name(name, is_held, subjects.len(), MAX_STATEMENTS, is_large)?;
+    check_name(name, is_held, subjects.len(), MAX_SUBJECTS, is_large)?;
     let term = subject_term(alloc, sig, term)?;
     let name = new_name(alloc, name)?;
     subjects.push(Subject { name, term })?;

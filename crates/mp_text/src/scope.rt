@@ -8,6 +8,7 @@ ghost use Rattle.mp_text.specs.Names.{all_wildcards};
 ghost use Rattle.mp_text.specs.Scope.{wildcard_variable, pattern_variables, plan_variables, is_sequence_form, is_bound, is_bound_sequence};
 ghost use Rattle.mp_text.specs.ScopeView.{variable_of};
 
+use crate::build::marked_shape;
 use mp_pattern::{Form, Plan};
 use mp_syntax::{Expr, Wildcard};
 use std::alloc::{AllocError, Global};
@@ -69,7 +70,7 @@ fn add_wildcard<'a>(wild: Wildcard<'a>, variables: &mut Vec<Variable<'a>>) -> Re
 {
     variables.push(Variable {
         name: wild.name,
-        is_sequence: wild.marks > 1,
+        is_sequence: marked_shape(wild.marks).is_sequence(),
     })?;
     Ok(())
 }
