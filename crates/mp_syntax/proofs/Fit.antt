@@ -29,15 +29,14 @@ LeadFits room (OfMeasure side m) = SideFits room side
 LeadFits room (OfRelation r) = Unit {0}
 LeadFits room (OfProperty p) = Unit {0}
 
--- what an open bracket holds fits, with room brackets more to open in it
-abbrev pub FrameFits : ℕ → Frame → Type 0
-FrameFits room (Arguments name args) = AreFit room (trees args)
-FrameFits room (Bracket place) = Unit {0}
-FrameFits room (Operands place sign first others) = Fits room first × AreFit room (trees others)
-FrameFits room (Default w) = Unit {0}
-FrameFits room (Operand s lead) = LevelFits (suc room) s.level × LeadFits (suc room) lead
-FrameFits room (Second s r e) = LevelFits (suc room) s.level × Fits room e
-FrameFits room (Square s) = LevelFits (suc room) s.level
+-- what an open bracket holds fits, with so many brackets more to open around it, and room in it
+abbrev pub FrameFits : ℕ → ℕ → Frame → Type 0
+FrameFits around room (Arguments name args) = AreFit room (trees args)
+FrameFits around room (Operands place sign first others) = Fits room first × AreFit room (trees others)
+FrameFits around room (Operand s lead) = LevelFits around s.level × LeadFits around lead
+FrameFits around room (Second s r e) = LevelFits around s.level × Fits room e
+FrameFits around room (Square s) = LevelFits around s.level
+FrameFits around room _ = Unit {0}
 
 -- the pattern before a condition fits
 abbrev pub WithinFits : Within → Type 0
@@ -46,15 +45,15 @@ WithinFits Alone = Unit {0}
 WithinFits (InCondition name pattern) = Fits MAX_OPEN pattern
 WithinFits ConditionAlone = Unit {0}
 
+-- the brackets that may still be opened
+abbrev pub room_in : List Frame → ℕ
+room_in k = MAX_OPEN - open_count k
+
 -- what open brackets hold fits, the wildcards before a default have one underscore and no kind, and so does what stands before all of them
 abbrev pub FramesFit : Within → List Frame → Type 0
 FramesFit x [] = WithinFits x
 FramesFit x (Default w ∷ k) = IsDot w × FramesFit x k
-FramesFit x (f ∷ k) = (open_count k < MAX_OPEN) × FrameFits (MAX_OPEN - 1 - open_count k) f × FramesFit x k
-
--- the brackets that may still be opened
-abbrev pub room_in : List Frame → ℕ
-room_in k = MAX_OPEN - open_count k
+FramesFit x (f ∷ k) = (open_count k < MAX_OPEN) × FrameFits (room_in k) (MAX_OPEN - suc (open_count k)) f × FramesFit x k
 
 -- what a state has read fits
 abbrev pub StateFits : State → Type 0
@@ -66,12 +65,12 @@ StateFits (BeforeExpr x k) = FramesFit x k
 StateFits (AfterWord x k w) = FramesFit x k
 StateFits (AfterOpen x k w) = (open_count k < MAX_OPEN) × FramesFit x k
 StateFits (AfterWildcard x k w) = FramesFit x k
-StateFits (AfterExpr x k e) = FramesFit x k × Fits (MAX_OPEN - open_count k) e
+StateFits (AfterExpr x k e) = FramesFit x k × Fits (room_in k) e
 StateFits (AfterDollar x k place) = FramesFit x k
 StateFits (BeforeLiteral x k v) = FramesFit x k × LevelFits (room_in k) v
 StateFits (BeforeBody x k s) = FramesFit x k × LevelFits (room_in k) s.level
 StateFits (BeforeOperand x k s lead) = FramesFit x k × LevelFits (room_in k) s.level × LeadFits (room_in k) lead
-StateFits (BeforeName x k s p e) = FramesFit x k × LevelFits (room_in k) s.level × (open_count k < MAX_OPEN) × Fits (MAX_OPEN - 1 - open_count k) e
+StateFits (BeforeName x k s p e) = FramesFit x k × LevelFits (room_in k) s.level × (open_count k < MAX_OPEN) × Fits (MAX_OPEN - suc (open_count k)) e
 StateFits (BehindName x k s p e w) = FramesFit x k × LevelFits (room_in k) s.level × FitsAtom (room_in k) (Test p e w)
 StateFits (AfterAmount x k s a) = FramesFit x k × LevelFits (room_in k) s.level × FitsAmount (room_in k) a
 StateFits (AfterSense x k s a sense) = FramesFit x k × LevelFits (room_in k) s.level × FitsAmount (room_in k) a
@@ -126,14 +125,8 @@ several-push first (a ∷ others) e = tt
 
 -- ---- conditions
 
--- the room in a bracket
-frame-room : (k : List Frame) → MAX_OPEN - suc (open_count k) ≡ MAX_OPEN - 1 - open_count k
-frame-room k = omega arith
-
-room-suc : (k : List Frame) → open_count k < MAX_OPEN → room_in k ≡ suc (MAX_OPEN - 1 - open_count k)
-room-suc k lt = omega arith
-
-suc-room : (k : List Frame) → open_count k < MAX_OPEN → suc (MAX_OPEN - 1 - open_count k) ≡ room_in k
+-- the room in a bracket, and the bracket
+suc-room : (k : List Frame) → open_count k < MAX_OPEN → suc (MAX_OPEN - suc (open_count k)) ≡ room_in k
 suc-room k lt = omega arith
 
 found-fits : {A : Type 0} (next : A → Step) (other : Step) (o : Option A) → ((a : A) → StepFits (next a)) → StepFits other → StepFits (on_found next other o)
@@ -162,24 +155,25 @@ amount-fits x k s side w fits v h = go (is_number w.text) refl
 
 body-fits : (x : Within) (k : List Frame) (s : Site) (t : Placed) → FramesFit x k → LevelFits (room_in k) s.level → StepFits (step_body MAX_OPEN x k s t)
 body-fits x k s t fits v =
-    if-fits (is_punct OpenSquare t.token) _ _ (open-fits k (BeforeLiteral x (Square s ∷ k) no_level) (λ lt. ((lt, subst (λ n. LevelFits n s.level) (room-suc k lt) v, fits), (tt, tt))))
+    if-fits (is_punct OpenSquare t.token) _ _ (open-fits k (BeforeLiteral x (Square s ∷ k) no_level) (λ lt. ((lt, v, fits), (tt, tt))))
     (text-fits t (λ w. step_atom x k s w) (word_of t.token) (λ w. found-fits _ _ (relation_of w.text) (λ r. (fits, v, tt)) (found-fits _ _ (property_of w.text) (λ p. (fits, v, tt)) (amount-fits x k s OnLeft w fits v tt))))
 
 bracket-fits : (x : Within) (k : List Frame) (s : Site) (lead : Lead) → open_count k < MAX_OPEN → StateFits (BeforeOperand x k s lead) → FramesFit x (Operand s lead ∷ k)
-bracket-fits x k s lead lt h = (lt, (subst (λ n. LevelFits n s.level) (room-suc k lt) h.1, subst (λ n. LeadFits n lead) (room-suc k lt) h.2), h.0)
+bracket-fits x k s lead lt h = (lt, (h.1, h.2), h.0)
 
 operand-fits : (x : Within) (k : List Frame) (s : Site) (lead : Lead) (e : Tree) (t : Token) → FramesFit x (Operand s lead ∷ k) → Fits (room_in (Operand s lead ∷ k)) e → StepFits (step_operand x k s lead e t)
 operand-fits x k s (OfMeasure side m) e t fits e-fits =
-    if-fits (is_punct Close t) _ (refuse t) (with_amount-fits x k s side (Measured m e) fits.2 (subst (λ n. LevelFits n s.level) (suc-room k fits.0) fits.1.0) (subst (λ n. SideFits n side) (suc-room k fits.0) fits.1.1)
-    (subst (λ n. FitsAmount n (Measured m e)) (suc-room k fits.0) (subst (λ n. Fits n e) (frame-room k) e-fits))) tt
+    if-fits (is_punct Close t) _ (refuse t)
+    (with_amount-fits x k s side (Measured m e) fits.2 fits.1.0 fits.1.1 (subst (λ n. FitsAmount n (Measured m e)) (suc-room k fits.0) e-fits)) tt
 operand-fits x k s (OfRelation r) e t fits e-fits =
-    if-fits (is_punct Comma t) (Go (BeforeExpr x (Second s r e ∷ k))) (refuse t) (fits.0, (fits.1.0, subst (λ n. Fits n e) (frame-room k) e-fits), fits.2) tt
+    if-fits (is_punct Comma t) (Go (BeforeExpr x (Second s r e ∷ k))) (refuse t) (fits.0, (fits.1.0, e-fits), fits.2) tt
 operand-fits x k s (OfProperty p) e t fits e-fits =
-    if-fits (is_punct Comma t) (Go (BeforeName x k s p e)) (refuse t) (fits.2, subst (λ n. LevelFits n s.level) (suc-room k fits.0) fits.1.0, fits.0, subst (λ n. Fits n e) (frame-room k) e-fits) tt
+    if-fits (is_punct Comma t) (Go (BeforeName x k s p e)) (refuse t) (fits.2, fits.1.0, fits.0, e-fits) tt
 
 second-fits : (x : Within) (k : List Frame) (s : Site) (r : Relation) (d e : Tree) (t : Token) → FramesFit x (Second s r d ∷ k) → Fits (room_in (Second s r d ∷ k)) e → StepFits (on_punct Close t (Go (with_atom x k s (Relate r d e))))
 second-fits x k s r d e t fits e-fits =
-    if-fits (is_punct Close t) (Go (with_atom x k s (Relate r d e))) (refuse t) (fits.2, subst (λ n. LevelFits n s.level) (suc-room k fits.0) fits.1.0, atom-literal (room_in k) s.negated (Relate r d e) (subst (λ n. FitsAtom n (Relate r d e)) (suc-room k fits.0) (fits.1.1, subst (λ n. Fits n e) (frame-room k) e-fits))) tt
+    if-fits (is_punct Close t) (Go (with_atom x k s (Relate r d e))) (refuse t)
+    (fits.2, fits.1.0, atom-literal (room_in k) s.negated (Relate r d e) (subst (λ n. FitsAtom n (Relate r d e)) (suc-room k fits.0) (fits.1.1, e-fits))) tt
 
 -- literals of which l is the last
 LiteralsFit-push : (room : ℕ) (ls : List Literal) (l : Literal) → LiteralsFit room (literals ls) → FitsLiteral room l → LiteralsFit room (literals (ls ++ l ∷ []))
@@ -204,21 +198,16 @@ all-fit room v l h f =
     (push-alternative v.alternatives (literals (v.literals ++ l ∷ [])), AlternativesFit-push room v.alternatives (literals (v.literals ++ l ∷ [])) h.0 (push-literal v.literals l) (LiteralsFit-push room v.literals l h.1 f))
 
 last-fits : (x : Within) (c : Condition) (t : Placed) → WithinFits x → FitsCondition MAX_OPEN c → StepFits (step_last x c t)
-last-fits (InStatement h) c t fits c-fits = tt
-last-fits Alone c t fits c-fits = tt
 last-fits (InCondition name pattern) c t fits c-fits = if-fits (is_punct Semicolon t.token) (Emit (RuleOf name pattern (Some c))) (refuse t.token) (fits, c-fits) tt
 last-fits ConditionAlone c t fits c-fits = if-fits (is_end t.token) (Ends (SingleCondition c)) (refuse t.token) c-fits tt
+last-fits _ c t fits c-fits = tt
 
 whole-fits : (x : Within) (k : List Frame) (c : Condition) (t : Placed) → FramesFit x k → FitsCondition (room_in k) c → StepFits (step_whole x k c t)
 whole-fits x [] c t fits c-fits = last-fits x c t fits c-fits
-whole-fits x (Arguments name args ∷ k) c t fits c-fits = tt
-whole-fits x (Bracket place ∷ k) c t fits c-fits = tt
-whole-fits x (Operands place sign first others ∷ k) c t fits c-fits = tt
-whole-fits x (Default w ∷ k) c t fits c-fits = tt
-whole-fits x (Operand s lead ∷ k) c t fits c-fits = tt
-whole-fits x (Second s r e ∷ k) c t fits c-fits = tt
 whole-fits x (Square s ∷ k) c t fits c-fits =
-    if-fits (is_punct CloseSquare t.token) (Go (AfterLiteral x k s.level (Bracketed s.negated c))) (refuse t.token) (fits.2, subst (λ n. LevelFits n s.level) (suc-room k fits.0) fits.1, subst (λ n. FitsLiteral n (Bracketed s.negated c)) (suc-room k fits.0) (subst (λ n. FitsCondition n c) (frame-room k) c-fits)) tt
+    if-fits (is_punct CloseSquare t.token) (Go (AfterLiteral x k s.level (Bracketed s.negated c))) (refuse t.token)
+    (fits.2, fits.1, subst (λ n. FitsLiteral n (Bracketed s.negated c)) (suc-room k fits.0) c-fits) tt
+whole-fits x (_ ∷ k) c t fits c-fits = tt
 
 literal-fits : (x : Within) (k : List Frame) (v : Level) (l : Literal) (t : Placed) → FramesFit x k → LevelFits (room_in k) v → FitsLiteral (room_in k) l → StepFits (step_in MAX_OPEN (AfterLiteral x k v l) t)
 literal-fits x k v l t fits h f =
@@ -227,7 +216,7 @@ literal-fits x k v l t fits h f =
 
 -- ---- behind expressions
 
-behind-fits : (x : Within) (k : List Frame) (e : Tree) (t : Placed) → FramesFit x k → Fits (MAX_OPEN - open_count k) e → StepFits (step_behind x k e t)
+behind-fits : (x : Within) (k : List Frame) (e : Tree) (t : Placed) → FramesFit x k → Fits (room_in k) e → StepFits (step_behind x k e t)
 behind-fits (InStatement h) [] e t fits e-fits = at h.role
   where
     at : (role : Role) → StepFits (step_role role h.name e t.token)
@@ -237,20 +226,18 @@ behind-fits Alone [] e t fits e-fits = if-fits (is_end t.token) (Ends (SingleExp
 behind-fits (InCondition name pattern) [] e t fits e-fits = tt
 behind-fits ConditionAlone [] e t fits e-fits = tt
 behind-fits x (Arguments name args ∷ k) e t fits e-fits =
-    let pushed : AreFit (MAX_OPEN - 1 - open_count k) (trees (args ++ e ∷ [])) = AreFit-push (MAX_OPEN - 1 - open_count k) args e fits.1 (subst (λ n. Fits n e) (omega arith) e-fits) in
-    let lt = fits.0 in
-    let room : suc (MAX_OPEN - 1 - open_count k) ≡ MAX_OPEN - open_count k = omega arith in
+    let pushed = AreFit-push (MAX_OPEN - suc (open_count k)) args e fits.1 e-fits in
     if-fits (is_punct Comma t.token) _ _ (fits.0, pushed, fits.2)
-    (if-fits (is_punct Close t.token) _ (refuse t.token) (fits.2, subst (λ n. Fits n (Apply name (trees (args ++ e ∷ [])))) room pushed) tt)
+    (if-fits (is_punct Close t.token) _ (refuse t.token) (fits.2, subst (λ n. Fits n (Apply name (trees (args ++ e ∷ [])))) (suc-room k fits.0) pushed) tt)
 behind-fits x (Bracket place ∷ k) e t fits e-fits =
-    text-fits t (λ sign. Go (BeforeExpr x (Operands place sign e [] ∷ k))) (sign_of t.token) (λ sign. (fits.0, (subst (λ n. Fits n e) (omega arith) e-fits, tt), fits.2))
+    text-fits t (λ sign. Go (BeforeExpr x (Operands place sign e [] ∷ k))) (sign_of t.token) (λ sign. (fits.0, (e-fits, tt), fits.2))
 behind-fits x (Operands place sign first others ∷ k) e t fits e-fits =
-    let pushed : AreFit (MAX_OPEN - 1 - open_count k) (trees (others ++ e ∷ [])) = AreFit-push (MAX_OPEN - 1 - open_count k) others e fits.1.1 (subst (λ n. Fits n e) (omega arith) e-fits) in
-    let lt = fits.0 in
-    let room : suc (MAX_OPEN - 1 - open_count k) ≡ MAX_OPEN - open_count k = omega arith in
+    let pushed = AreFit-push (MAX_OPEN - suc (open_count k)) others e fits.1.1 e-fits in
+    let whole = more_trees first (trees (others ++ e ∷ [])) in
     if-fits (is_sign sign.text t.token) _ _ (fits.0, (fits.1.0, pushed), fits.2)
-    (if-fits (is_punct Close t.token) _ (refuse t.token) (fits.2, subst (λ n. Fits n (InfixOf place sign (more_trees first (trees (others ++ e ∷ []))))) room (several-push first others e, (fits.1.0, pushed))) tt)
-behind-fits x (Default w ∷ k) e t fits e-fits = behind-fits x k (with_default w e) t fits.1 (with_default-fits (MAX_OPEN - open_count k) w e fits.0 e-fits)
+    (if-fits (is_punct Close t.token) _ (refuse t.token)
+    (fits.2, subst (λ n. Fits n (InfixOf place sign whole)) (suc-room k fits.0) (several-push first others e, (fits.1.0, pushed))) tt)
+behind-fits x (Default w ∷ k) e t fits e-fits = behind-fits x k (with_default w e) t fits.1 (with_default-fits (room_in k) w e fits.0 e-fits)
 behind-fits x (Operand s lead ∷ k) e t fits e-fits = operand-fits x k s lead e t.token fits e-fits
 behind-fits x (Second s r d ∷ k) e t fits e-fits = second-fits x k s r d e t.token fits e-fits
 behind-fits x (Square s ∷ k) e t fits e-fits = tt
@@ -291,15 +278,15 @@ step-fits (AfterRole role) t h = text-fits t (λ w. Go (AfterName (record { role
 step-fits (AfterName x) t h = if-fits (is_punct Colon t.token) _ (refuse t.token) tt tt
 step-fits (BeforeExpr x k) t h = expr-fits x k t h
 step-fits (AfterWord x k w) t h = if-fits (is_punct Open t.token) _ _ (open-fits k (AfterOpen x k w) (λ lt. (lt, h))) (behind-fits x k (Symbol w) t h tt)
-step-fits (AfterOpen x k w) t h = if-fits (is_punct Close t.token) _ _ (h.1, let lt = h.0 in let room : suc (MAX_OPEN - 1 - open_count k) ≡ MAX_OPEN - open_count k = omega arith in subst (λ n. Fits n (Apply w (trees []))) room tt) (expr-fits x (Arguments w [] ∷ k) t (h.0, tt, h.1))
+step-fits (AfterOpen x k w) t h = if-fits (is_punct Close t.token) _ _ (h.1, subst (λ n. Fits n (Apply w (trees []))) (suc-room k h.0) tt) (expr-fits x (Arguments w [] ∷ k) t (h.0, tt, h.1))
 step-fits (AfterWildcard x k w) t h = go (is_punct Colon t.token) (is_dot w) refl
   where
     go : (v d : Bool) → is_dot w ≡ d → StepFits (cond (v && d) (Go (BeforeExpr x (Default w ∷ k))) (step_behind x k (Wild w) t))
     go true true e = (is_dot-true w e, h)
-    go true false e = behind-fits x k (Wild w) t h (wild-fits (MAX_OPEN - open_count k) w)
-    go false d e = behind-fits x k (Wild w) t h (wild-fits (MAX_OPEN - open_count k) w)
+    go true false e = behind-fits x k (Wild w) t h (wild-fits (room_in k) w)
+    go false d e = behind-fits x k (Wild w) t h (wild-fits (room_in k) w)
 step-fits (AfterExpr x k e) t h = behind-fits x k e t h.0 h.1
-step-fits (AfterDollar x k place) t h = text-fits t (λ w. Go (AfterExpr x k (Variable (spot w.text place)))) (word_of t.token) (λ w. (h, variable-fits (MAX_OPEN - open_count k) (spot w.text place)))
+step-fits (AfterDollar x k place) t h = text-fits t (λ w. Go (AfterExpr x k (Variable (spot w.text place)))) (word_of t.token) (λ w. (h, variable-fits (room_in k) (spot w.text place)))
 step-fits (BeforeLiteral x k v) t h = if-fits (is_word (codes "not") t.token) (Go (BeforeBody x k (site v true))) _ h (body-fits x k (site v false) t h.0 h.1)
 step-fits (BeforeBody x k s) t h = body-fits x k s t h.0 h.1
 step-fits (BeforeOperand x k s lead) t h = if-fits (is_punct Open t.token) _ (refuse t.token) (open-fits k (BeforeExpr x (Operand s lead ∷ k)) (λ lt. bracket-fits x k s lead lt h)) tt
