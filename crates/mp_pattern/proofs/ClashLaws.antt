@@ -120,15 +120,17 @@ AllAgree ps qs = AllByRecursion (λ p. AgreesWith p qs) ps
 -- patterns in order agree with those before them
 agree-before : (before ps : List Pattern) → InOrder before ps → AllAgree ps before
 agree-before before [] h = tt
-agree-before before (p ∷ ps) h =
-    (h.0, all-also (λ q. AgreesWith q (before ++ p ∷ [])) (λ q. AgreesWith q before)
-      (λ q k. (all-split (λ r. Agree r q) before (p ∷ []) k).0) ps (agree-before (before ++ p ∷ []) ps h.1))
+agree-before before (p ∷ ps) h = (
+  h.0,
+  all-also (λ q. AgreesWith q (before ++ p ∷ [])) (λ q. AgreesWith q before)
+      (λ q k. (all-split (λ r. Agree r q) before (p ∷ []) k).0) ps (agree-before (before ++ p ∷ []) ps h.1),
+)
 
 -- the first pattern agrees with all behind it, and they with it
 agree-behind : (p : Pattern) (before ps : List Pattern) → InOrder (before ++ p ∷ []) ps → AgreesWith p ps × AllAgree ps (p ∷ [])
 agree-behind p before ps h =
     let here : AllAgree ps (p ∷ []) = all-also (λ q. AgreesWith q (before ++ p ∷ [])) (λ q. AgreesWith q (p ∷ []))
-      (λ q k. (all-split (λ r. Agree r q) before (p ∷ []) k).1) ps (agree-before (before ++ p ∷ []) ps h) in
+    (λ q k. (all-split (λ r. Agree r q) before (p ∷ []) k).1) ps (agree-before (before ++ p ∷ []) ps h) in
     (all-also (λ q. AgreesWith q (p ∷ [])) (λ q. Agree q p) (λ q k. agree-swap p q k.0) ps here, here)
 
 all-cons : (p : Pattern) (ps qs : List Pattern) → AllAgree ps (p ∷ []) → AllAgree ps qs → AllAgree ps (p ∷ qs)

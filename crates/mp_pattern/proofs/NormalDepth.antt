@@ -1,5 +1,5 @@
 -- Normalising a pattern doesn't make it deeper.
-use Rattle.std.proofs.Common.{◌≡◌, ℕ, ◌+◌, ◌≤◌, max, List, [], ◌∷◌, refl, ap}
+use Rattle.std.proofs.Common.{◌≡◌, ◌+◌, ◌≤◌, max, List, [], ◌∷◌, refl, ap}
 use Rattle.mp_term.specs.Signature.{Sig}
 use Rattle.mp_term.proofs.SortedMeasures.{maxima, joined_all}
 use Rattle.mp_pattern.specs.PatternTree.{Pattern, patterns}

@@ -1,5 +1,5 @@
 -- A condition as a term that gives it back.
-use Rattle.std.specs.Prelude.{◌≡◌, ℕ, zero, suc, List, [], ◌∷◌, refl, nat_eq, if◌then◌else◌}
+use Rattle.std.specs.Prelude.{◌≡◌, ℕ, zero, suc, [], ◌∷◌, refl, nat_eq, if◌then◌else◌}
 use Rattle.std.proofs.Common.{ap, get_or}
 use Rattle.std.specs.Coded.{Coded, code_by}
 use Rattle.mp_term.specs.Tree.{Tree, symbol, app, Trees, no_trees, more_trees, tree_list, trees}

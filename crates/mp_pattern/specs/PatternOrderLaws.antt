@@ -52,8 +52,12 @@ mutual
   by_tree (app_pattern f ps) (symbol_pattern n) = refl
   by_tree (app_pattern f ps) (app_pattern g qs) =
       let longer = nat_cmp (length (pattern_list ps)) (length (pattern_list qs)) in
-      rw (length-as_trees ps, length-as_trees qs, all_by_tree ps qs,
-        ordering_then-equal (ordering_then (nat_cmp f g) (ordering_then longer (trees_cmp (as_trees ps) (as_trees qs))))) refl
+      rw (
+        length-as_trees ps,
+        length-as_trees qs,
+        all_by_tree ps qs,
+        ordering_then-equal (ordering_then (nat_cmp f g) (ordering_then longer (trees_cmp (as_trees ps) (as_trees qs)))),
+      ) refl
   by_tree (app_pattern f ps) (wild_pattern w y) = before_wildcard (all_ground ps) w _
   by_tree (wild_pattern v x) (symbol_pattern n) = refl
   by_tree (wild_pattern v x) (app_pattern g qs) = after_application (all_ground qs) v _

@@ -1,5 +1,5 @@
 -- A template as a term that gives it back.
-use Rattle.std.specs.Prelude.{◌≡◌, ℕ, zero, suc, [], List, refl}
+use Rattle.std.specs.Prelude.{◌≡◌, zero, suc, [], refl}
 use Rattle.std.proofs.Common.{ap}
 use Rattle.std.specs.Coded.{Coded, code_by}
 use Rattle.mp_term.specs.Tree.{Tree, symbol, app, Trees, no_trees, more_trees}

@@ -14,11 +14,27 @@ use Rattle.mp_term.specs.Normal.{normal}
 
 -- an operation of one argument or more, associative, commutative and one-identity, with the sign +
 abbrev pub plus_decl : OpDecl
-plus_decl = record { name = codes "plus"; least = 1; fixed = false; assoc = true; comm = true; one = true; sign = Some (codes "+") }
+plus_decl = record {
+  name = codes "plus";
+  least = 1;
+  fixed = false;
+  assoc = true;
+  comm = true;
+  one = true;
+  sign = Some (codes "+");
+}
 
 -- an operation of two arguments
 abbrev pub pair_decl : OpDecl
-pair_decl = record { name = codes "pair"; least = 2; fixed = true; assoc = false; comm = false; one = false; sign = None }
+pair_decl = record {
+  name = codes "pair";
+  least = 2;
+  fixed = true;
+  assoc = false;
+  comm = false;
+  one = false;
+  sign = None;
+}
 
 -- both operations, and a kind of two symbols
 abbrev pub example : Sig
@@ -138,21 +154,44 @@ ascending_once : name_set (codes "b" ∷ codes "a" ∷ codes "b" ∷ []) ≡ cod
 ascending_once = refl
 
 -- a held name is refused first, also where the flags are wrong
-held_name_first : op_fault example (record { name = codes "pair"; least = 2; fixed = true; assoc = true; comm = false; one = false; sign = None }) ≡ Some DuplicateName
+held_name_first : op_fault example
+    (record { name = codes "pair"; least = 2; fixed = true; assoc = true; comm = false; one = false; sign = None })
+    ≡ Some DuplicateName
 held_name_first = refl
 
-held_sign : op_fault example (record { name = codes "sum"; least = 0; fixed = false; assoc = false; comm = false; one = false; sign = Some (codes "+") }) ≡ Some DuplicateName
+held_sign : op_fault example
+    (record {
+      name = codes "sum";
+      least = 0;
+      fixed = false;
+      assoc = false;
+      comm = false;
+      one = false;
+      sign = Some (codes "+");
+    }) ≡ Some DuplicateName
 held_sign = refl
 
 -- a fixed count isn't associative
-fixed_is_not_associative : op_fault example (record { name = codes "f"; least = 2; fixed = true; assoc = true; comm = false; one = false; sign = None }) ≡ Some BadFlags
+fixed_is_not_associative : op_fault example
+    (record { name = codes "f"; least = 2; fixed = true; assoc = true; comm = false; one = false; sign = None })
+    ≡ Some BadFlags
 fixed_is_not_associative = refl
 
 -- a sign needs two arguments, where their count is fixed
-sign_of_one_argument : op_fault example (record { name = codes "f"; least = 1; fixed = true; assoc = false; comm = false; one = false; sign = Some (codes "-") }) ≡ Some BadFlags
+sign_of_one_argument : op_fault example
+    (record {
+      name = codes "f";
+      least = 1;
+      fixed = true;
+      assoc = false;
+      comm = false;
+      one = false;
+      sign = Some (codes "-");
+    }) ≡ Some BadFlags
 sign_of_one_argument = refl
 
-in_order_is_added : op_fault example (record { name = codes "f"; least = 2; fixed = false; assoc = true; comm = false; one = false; sign = None }) ≡ None
+in_order_is_added : op_fault example
+    (record { name = codes "f"; least = 2; fixed = false; assoc = true; comm = false; one = false; sign = None }) ≡ None
 in_order_is_added = refl
 
 -- the kind of numbers is built in

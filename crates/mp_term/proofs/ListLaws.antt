@@ -5,32 +5,38 @@ use Rattle.std.specs.List.{AllByRecursion}
 use Rattle.std.proofs.lemmas.List.{map-append, take-map, drop-map}
 
 -- what holds of the items of two lists holds of those of both
-pub all-append : {X : Type 0} (P : X → Type 0) (xs ys : List X) → AllByRecursion P xs → AllByRecursion P ys → AllByRecursion P (xs ++ ys)
+pub all-append : {X : Type 0} (P : X → Type 0) (xs ys : List X) → AllByRecursion P xs → AllByRecursion P ys
+    → AllByRecursion P (xs ++ ys)
 all-append P [] ys h k = k
 all-append P (x ∷ xs) ys h k = (h.0, all-append P xs ys h.1 k)
 
 -- and back
-pub all-split : {X : Type 0} (P : X → Type 0) (xs ys : List X) → AllByRecursion P (xs ++ ys) → AllByRecursion P xs × AllByRecursion P ys
+pub all-split : {X : Type 0} (P : X → Type 0) (xs ys : List X) → AllByRecursion P (xs ++ ys)
+    → AllByRecursion P xs × AllByRecursion P ys
 all-split P [] ys h = (tt, h)
 all-split P (x ∷ xs) ys h = let r = all-split P xs ys h.1 in ((h.0, r.0), r.1)
 
 -- what holds of each item gives another fact of it
-pub all-also : {X : Type 0} (P Q : X → Type 0) → ((x : X) → P x → Q x) → (xs : List X) → AllByRecursion P xs → AllByRecursion Q xs
+pub all-also : {X : Type 0} (P Q : X → Type 0) → ((x : X) → P x → Q x) → (xs : List X) → AllByRecursion P xs
+    → AllByRecursion Q xs
 all-also P Q each [] h = tt
 all-also P Q each (x ∷ xs) h = (each x h.0, all-also P Q each xs h.1)
 
 -- and a fact of its image
-pub all-map : {X Y : Type 0} (P : X → Type 0) (Q : Y → Type 0) (f : X → Y) → ((x : X) → P x → Q (f x)) → (xs : List X) → AllByRecursion P xs → AllByRecursion Q (map f xs)
+pub all-map : {X Y : Type 0} (P : X → Type 0) (Q : Y → Type 0) (f : X → Y) → ((x : X) → P x → Q (f x)) → (xs : List X)
+    → AllByRecursion P xs → AllByRecursion Q (map f xs)
 all-map P Q f each [] h = tt
 all-map P Q f each (x ∷ xs) h = (each x h.0, all-map P Q f each xs h.1)
 
 -- and a fact of each item that f gives of it
-pub all-flat_map : {X Y : Type 0} (P : X → Type 0) (Q : Y → Type 0) (f : Y → List X) → ((y : Y) → Q y → AllByRecursion P (f y)) → (ys : List Y) → AllByRecursion Q ys → AllByRecursion P (flat_map f ys)
+pub all-flat_map : {X Y : Type 0} (P : X → Type 0) (Q : Y → Type 0) (f : Y → List X)
+    → ((y : Y) → Q y → AllByRecursion P (f y)) → (ys : List Y) → AllByRecursion Q ys → AllByRecursion P (flat_map f ys)
 all-flat_map P Q f each [] h = tt
 all-flat_map P Q f each (y ∷ ys) h = all-append P (f y) (flat_map f ys) (each y h.0) (all-flat_map P Q f each ys h.1)
 
 -- the items from an index on are the item there and those behind it
-pub drop-item : {X : Type 0} (items : List X) (i : ℕ) (x : X) → i < length items → x ≡ get_or items i x → drop i items ≡ x ∷ drop (i + 1) items
+pub drop-item : {X : Type 0} (items : List X) (i : ℕ) (x : X) → i < length items → x ≡ get_or items i x
+    → drop i items ≡ x ∷ drop (i + 1) items
 drop-item items i x within is = drop-cons items i x within ∙ (λ j. sym is j ∷ drop (sym (add-one i) j) items)
 
 -- an item put in at a place, and mapped

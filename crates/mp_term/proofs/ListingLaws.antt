@@ -1,5 +1,6 @@
 -- Members of lists, and ascending lists: a fact has one listing in a total order.
-use Rattle.std.proofs.Common.{◌≡◌, zero, suc, ◌<◌, ℕ, List, [], ◌∷◌, refl, sym, ap, ◌∙◌, inl, inr, subst, length, get_or, arith}
+use Rattle.std.proofs.Common.{◌≡◌, zero, suc, ◌<◌, ℕ, List, [], ◌∷◌, refl, sym, ap, ◌∙◌, inl, inr, subst, length}
+use Rattle.std.proofs.Common.{get_or, arith}
 use Rattle.std.specs.Prelude.{Contains}
 use Rattle.std.specs.declared.cmp.Ordering.{Ordering}
 use Rattle.std.specs.declared.cmp.Ordering.TheVariants.{Less, Equal}
@@ -38,28 +39,34 @@ module _ {X : Type 0} (cmp : X → X → Ordering) (o : IsTotalOrder cmp) where
   one_way x y p q = irreflexive x (o.trans x y x p q)
 
   -- what is less than an item is less than those that the item is less than
-  pub less_than_all : (x y : X) (ys : List X) → cmp x y ≡ Less → AllByRecursion (λ z. cmp y z ≡ Less) ys → AllByRecursion (λ z. cmp x z ≡ Less) ys
+  pub less_than_all : (x y : X) (ys : List X) → cmp x y ≡ Less → AllByRecursion (λ z. cmp y z ≡ Less) ys
+      → AllByRecursion (λ z. cmp x z ≡ Less) ys
   less_than_all x y [] e h = tt
   less_than_all x y (z ∷ ys) e h = (o.trans x y z e h.0, less_than_all x y ys e h.1)
 
-  heads_same : (x y : X) (xs ys : List X) → AllByRecursion (λ z. cmp x z ≡ Less) xs → AllByRecursion (λ z. cmp y z ≡ Less) ys → In x (y ∷ ys) → In y (x ∷ xs) → x ≡ y
+  heads_same : (x y : X) (xs ys : List X) → AllByRecursion (λ z. cmp x z ≡ Less) xs
+      → AllByRecursion (λ z. cmp y z ≡ Less) ys → In x (y ∷ ys) → In y (x ∷ xs) → x ≡ y
   heads_same x y xs ys h k (inl e) j = e
   heads_same x y xs ys h k (inr i) (inl e) = sym e
-  heads_same x y xs ys h k (inr i) (inr j) = absurd (one_way x y (all_in (λ z. cmp x z ≡ Less) xs y h j) (all_in (λ z. cmp y z ≡ Less) ys x k i))
+  heads_same x y xs ys h k (inr i) (inr j) =
+      absurd (one_way x y (all_in (λ z. cmp x z ≡ Less) xs y h j) (all_in (λ z. cmp y z ≡ Less) ys x k i))
 
   behind_head : (x z : X) (xs ys : List X) → AllByRecursion (λ w. cmp x w ≡ Less) xs → In z xs → In z (x ∷ ys) → In z ys
-  behind_head x z xs ys h i (inl e) = absurd (irreflexive x (subst (λ w. cmp x w ≡ Less) e (all_in (λ w. cmp x w ≡ Less) xs z h i)))
+  behind_head x z xs ys h i (inl e) = absurd
+      (irreflexive x (subst (λ w. cmp x w ≡ Less) e (all_in (λ w. cmp x w ≡ Less) xs z h i)))
   behind_head x z xs ys h i (inr j) = j
 
   -- two strictly ascending lists with the same members are the same
-  pub same_members : (xs ys : List X) → IsStrictlySortedBy cmp xs → IsStrictlySortedBy cmp ys → ((x : X) → In x xs → In x ys) → ((x : X) → In x ys → In x xs) → xs ≡ ys
+  pub same_members : (xs ys : List X) → IsStrictlySortedBy cmp xs → IsStrictlySortedBy cmp ys
+      → ((x : X) → In x xs → In x ys) → ((x : X) → In x ys → In x xs) → xs ≡ ys
   unfolding IsStrictlySortedBy
   same_members [] [] h k f g = refl
   same_members [] (y ∷ ys) h k f g = absurd (g y (inl refl))
   same_members (x ∷ xs) [] h k f g = absurd (f x (inl refl))
   same_members (x ∷ xs) (y ∷ ys) h k f g =
       let e : x ≡ y = heads_same x y xs ys h.0 k.0 (f x (inl refl)) (g y (inl refl)) in
-      let later : AllByRecursion (λ w. cmp x w ≡ Less) ys = subst (λ z. AllByRecursion (λ w. cmp z w ≡ Less) ys) (sym e) k.0 in
+      let later : AllByRecursion (λ w. cmp x w ≡ Less) ys =
+      subst (λ z. AllByRecursion (λ w. cmp z w ≡ Less) ys) (sym e) k.0 in
       let r : xs ≡ ys = same_members xs ys h.1 k.1
       (λ z i. behind_head x z xs ys h.0 i (subst (λ w. In z (w ∷ ys)) (sym e) (f z (inr i))))
       (λ z i. behind_head x z ys xs later i (g z (inr i))) in

@@ -8,7 +8,8 @@ use Rattle.mp_term.specs.Order.{tree_cmp}
 use Rattle.mp_term.specs.Sorting.{sorted}
 use Rattle.mp_term.specs.Signature.{Sig, is_assoc, is_comm, is_one}
 use Rattle.mp_term.specs.Normal.{unwrapped, parts, flattened, in_order, collapsed, normal, normals}
-use Rattle.mp_term.proofs.SortedMeasures.{measure-sorted, IsJoin, sums, maxima, joined_all, joined-append, joined-sorted}
+use Rattle.mp_term.proofs.SortedMeasures.{measure-sorted, IsJoin, sums, maxima, joined_all, joined-append}
+use Rattle.mp_term.proofs.SortedMeasures.{joined-sorted}
 use Rattle.mp_term.proofs.NormalTestLaws.{passes-normal, normal-passes}
 
 pub all_nodes-append : (ts us : List Tree) → all_nodes (ts ++ us) ≡ all_nodes ts + all_nodes us
@@ -36,15 +37,21 @@ module _ (sig : Sig) (join : ℕ → ℕ → ℕ) (j : IsJoin join) (m : Tree �
       ]
 
   all-parts : (f : ℕ) (t : Tree) → all (parts sig f t) ≤ m t
-  all-parts f t = elim (is_assoc sig f) as (λ b. all (if b then unwrapped f t else (t ∷ [])) ≤ m t) [ true ↦ all-unwrapped f t | false ↦ omega (arith, j.alone (m t)) ]
+  all-parts f t = elim (is_assoc sig f) as (λ b. all (if b then unwrapped f t else (t ∷ [])) ≤ m t)
+      [ true ↦ all-unwrapped f t | false ↦ omega (arith, j.alone (m t)) ]
 
   all-flattened : (f : ℕ) (ts : List Tree) → all (flattened sig f ts) ≤ all ts
   all-flattened f [] = omega arith
   all-flattened f (t ∷ ts) =
-      omega (arith, joined-append join m j (parts sig f t) (flattened sig f ts), j.rises _ _ _ _ (all-parts f t) (all-flattened f ts))
+      omega (
+        arith,
+        joined-append join m j (parts sig f t) (flattened sig f ts),
+        j.rises _ _ _ _ (all-parts f t) (all-flattened f ts),
+      )
 
   all-in_order : (f : ℕ) (ts : List Tree) → all (in_order sig f ts) ≡ all ts
-  all-in_order f ts = elim (is_comm sig f) as (λ b. all (if b then sorted tree_cmp ts else ts) ≡ all ts) [ true ↦ joined-sorted join m j tree_cmp ts | false ↦ refl ]
+  all-in_order f ts = elim (is_comm sig f) as (λ b. all (if b then sorted tree_cmp ts else ts) ≡ all ts)
+      [ true ↦ joined-sorted join m j tree_cmp ts | false ↦ refl ]
 
   m-collapsed : (f : ℕ) (ts : List Tree) → m (collapsed sig f ts) ≤ all ts + 1
   m-collapsed f [] = omega (arith, measure f [])
@@ -61,7 +68,14 @@ module _ (sig : Sig) (join : ℕ → ℕ → ℕ) (j : IsJoin join) (m : Tree �
     m-normal (app f ts) =
         let l = flattened sig f (normals sig ts) in
         let own : m (app f ts) ≡ all (tree_list ts) + 1 = rw trees-tree_list at (measure f (tree_list ts)) in
-        omega (arith, own, m-collapsed f (in_order sig f l), all-in_order f l, all-flattened f (normals sig ts), all-normals ts)
+        omega (
+          arith,
+          own,
+          m-collapsed f (in_order sig f l),
+          all-in_order f l,
+          all-flattened f (normals sig ts),
+          all-normals ts,
+        )
 
     all-normals : (ts : Trees) → all (normals sig ts) ≤ all (tree_list ts)
     all-normals no_trees = omega arith

@@ -5,8 +5,10 @@ use Rattle.mp_term.specs.Tree.{Tree, app, trees}
 use Rattle.mp_term.specs.Signature.{Sig, holds_of, allows, well_formed, all_well_formed}
 use Rattle.mp_term.specs.TreeLists.{tree_list-trees}
 
-pub well_formed-refused : (s : Sig) (f : ℕ) (ts : List Tree) → holds_of (allows (length ts)) (slice_get s.ops f) ≡ false → false ≡ well_formed s (app f (trees ts))
+pub well_formed-refused : (s : Sig) (f : ℕ) (ts : List Tree) → holds_of (allows (length ts)) (slice_get s.ops f) ≡ false
+    → false ≡ well_formed s (app f (trees ts))
 well_formed-refused s f ts e = rw (tree_list-trees ts, e) refl
 
-pub well_formed-allowed : (s : Sig) (f : ℕ) (ts : List Tree) → holds_of (allows (length ts)) (slice_get s.ops f) ≡ true → all_well_formed s (trees ts) ≡ well_formed s (app f (trees ts))
+pub well_formed-allowed : (s : Sig) (f : ℕ) (ts : List Tree) → holds_of (allows (length ts)) (slice_get s.ops f) ≡ true
+    → all_well_formed s (trees ts) ≡ well_formed s (app f (trees ts))
 well_formed-allowed s f ts e = rw (tree_list-trees ts, e) refl

@@ -1,11 +1,12 @@
 -- A tree as a list of tokens that gives it back: by this, a proof tells trees apart.
-use Rattle.std.specs.Prelude.{◌≡◌, ℕ, zero, suc, List, [], ◌∷◌, ◌++◌, length, refl}
-use Rattle.std.proofs.Common.{◌∙◌, ap, append-nil}
+use Rattle.std.specs.Prelude.{◌≡◌, ℕ, zero, suc, List, [], ◌∷◌, length, refl}
+use Rattle.std.proofs.Common.{◌∙◌, ap}
 use Rattle.std.specs.Coded.{Coded, code_by, coded_ℕ, coded_list}
 use Rattle.mp_term.specs.TreeLists.{trees-tree_list}
 use Rattle.mp_term.specs.Tree.{Tree, symbol, app, Trees, no_trees, more_trees, tree_list, trees}
 
--- the end of a list of arguments is 0, a symbol is 1 with its bytes, and an application is 2 with its operation and how many arguments it has
+-- the end of a list of arguments is 0, a symbol is 1 with its bytes, and an application is 2 with its operation and how
+-- many arguments it has
 abbrev mutual
   -- the tokens of a tree, before the rest
   pub tokens : Tree → List (List ℕ) → List (List ℕ)
@@ -39,9 +40,11 @@ mutual
   parsed-tokens (app f ts) rest =
       ap (step (2 ∷ f ∷ length (tree_list ts) ∷ [])) (parsed-all ts rest) ∙ rw (trees-tree_list ts) refl
 
-  parsed-all : (ts : Trees) (rest : List (List ℕ)) → parsed (all_tokens ts rest) ≡ (tree_list ts, (parsed rest).0 ∷ (parsed rest).1)
+  parsed-all : (ts : Trees) (rest : List (List ℕ))
+      → parsed (all_tokens ts rest) ≡ (tree_list ts, (parsed rest).0 ∷ (parsed rest).1)
   parsed-all no_trees rest = refl
-  parsed-all (more_trees t ts) rest = parsed-tokens t (all_tokens ts rest) ∙ ap (λ s. (t ∷ s.0, s.1)) (parsed-all ts rest)
+  parsed-all (more_trees t ts) rest = parsed-tokens t (all_tokens ts rest)
+      ∙ ap (λ s. (t ∷ s.0, s.1)) (parsed-all ts rest)
 
 -- the first item, or d where there is none
 abbrev pub first : {T : Type 0} → T → List T → T

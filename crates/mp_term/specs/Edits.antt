@@ -7,4 +7,5 @@ use Rattle.mp_term.specs.Code.{coded_tree}
 
 -- an edit as the pair of its position and its terms
 abbrev pub coded_edit : Coded Edit
-coded_edit = code_by (List ℕ × List Tree) (coded× (coded_list coded_ℕ) (coded_list coded_tree)) (λ e. (e.position, e.terms)) (λ p. record { position = p.0; terms = p.1 }) (λ _. refl)
+coded_edit = code_by (List ℕ × List Tree) (coded× (coded_list coded_ℕ) (coded_list coded_tree))
+    (λ e. (e.position, e.terms)) (λ p. record { position = p.0; terms = p.1 }) (λ _. refl)

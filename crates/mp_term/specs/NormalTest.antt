@@ -27,7 +27,8 @@ module _ (sig : Sig) where
   abbrev mutual
     pub passes : Tree → Bool
     passes (symbol n) = true
-    passes (app f ts) = not (is_one sig f && is_single (tree_list ts)) && (not (is_comm sig f && not (ascending (tree_list ts))) && all_pass f ts)
+    passes (app f ts) = not (is_one sig f && is_single (tree_list ts))
+        && (not (is_comm sig f && not (ascending (tree_list ts))) && all_pass f ts)
 
     pub all_pass : ℕ → Trees → Bool
     all_pass f no_trees = true

@@ -10,13 +10,15 @@ use Rattle.mp_term.specs.Tree.{Tree, symbol, app, Trees, no_trees, more_trees, t
 abbrev pub shortlex : {X : Type 0} → (X → X → Ordering) → List X → List X → Ordering
 shortlex cmp xs ys = ordering_then (nat_cmp (length xs) (length ys)) (slice_cmp cmp xs ys)
 
--- Symbols come before applications, and compare by their bytes. Applications compare by declaration number, then by number of arguments, then argument by argument.
+-- Symbols come before applications, and compare by their bytes. Applications compare by declaration number, then by
+-- number of arguments, then argument by argument.
 abbrev mutual
   pub tree_cmp : Tree → Tree → Ordering
   tree_cmp (symbol m) (symbol n) = slice_cmp nat_cmp m n
   tree_cmp (symbol m) (app g us) = Less
   tree_cmp (app f ts) (symbol n) = Greater
-  tree_cmp (app f ts) (app g us) = ordering_then (nat_cmp f g) (ordering_then (nat_cmp (length (tree_list ts)) (length (tree_list us))) (trees_cmp ts us))
+  tree_cmp (app f ts) (app g us) = ordering_then (nat_cmp f g)
+      (ordering_then (nat_cmp (length (tree_list ts)) (length (tree_list us))) (trees_cmp ts us))
 
   -- item by item: `slice_cmp tree_cmp`
   pub trees_cmp : Trees → Trees → Ordering

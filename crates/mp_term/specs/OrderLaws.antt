@@ -36,7 +36,8 @@ pub nats_same : (xs ys : List ℕ) → slice_cmp nat_cmp xs ys ≡ Equal → xs 
 nats_same = slice_cmp-IsAntisymmetric nat_cmp-IsAntisymmetric
 
 -- an order is total where it is that of the keys in a total order
-pub keyed_total : {K J : Type 0} (key : K → J) {R : J → J → Ordering} (cmp : K → K → Ordering) → IsTotalOrder R → ((x y : K) → cmp x y ≡ R (key x) (key y)) → IsTotalOrder cmp
+pub keyed_total : {K J : Type 0} (key : K → J) {R : J → J → Ordering} (cmp : K → K → Ordering) → IsTotalOrder R
+    → ((x y : K) → cmp x y ≡ R (key x) (key y)) → IsTotalOrder cmp
 keyed_total key {R} cmp o h =
     let same : (λ x y. R (key x) (key y)) ≡ cmp = λ i x y. sym (h x y) i in
     subst IsTotalOrder same (on_total key o)
@@ -47,16 +48,23 @@ token_cmp = slice_cmp (slice_cmp nat_cmp)
 
 mutual
   -- trees compare as their tokens do
-  by_tokens : (x y : Tree) (r s : List (List ℕ)) → token_cmp (tokens x r) (tokens y s) ≡ ordering_then (tree_cmp x y) (token_cmp r s)
+  by_tokens : (x y : Tree) (r s : List (List ℕ))
+      → token_cmp (tokens x r) (tokens y s) ≡ ordering_then (tree_cmp x y) (token_cmp r s)
   by_tokens (symbol m) (symbol n) r s = refl
   by_tokens (symbol m) (app g us) r s = refl
   by_tokens (app f ts) (symbol n) r s = refl
   by_tokens (app f ts) (app g us) r s =
       let many = nat_cmp (length (tree_list ts)) (length (tree_list us)) in
-      rw (all_by_tokens ts us r s, ordering_then-equal many, then_then (nat_cmp f g) many (ordering_then (trees_cmp ts us) (token_cmp r s)),
-        then_then (nat_cmp f g) (ordering_then many (trees_cmp ts us)) (token_cmp r s), then_then many (trees_cmp ts us) (token_cmp r s)) refl
+      rw (
+        all_by_tokens ts us r s,
+        ordering_then-equal many,
+        then_then (nat_cmp f g) many (ordering_then (trees_cmp ts us) (token_cmp r s)),
+        then_then (nat_cmp f g) (ordering_then many (trees_cmp ts us)) (token_cmp r s),
+        then_then many (trees_cmp ts us) (token_cmp r s),
+      ) refl
 
-  all_by_tokens : (xs ys : Trees) (r s : List (List ℕ)) → token_cmp (all_tokens xs r) (all_tokens ys s) ≡ ordering_then (trees_cmp xs ys) (token_cmp r s)
+  all_by_tokens : (xs ys : Trees) (r s : List (List ℕ))
+      → token_cmp (all_tokens xs r) (all_tokens ys s) ≡ ordering_then (trees_cmp xs ys) (token_cmp r s)
   all_by_tokens no_trees no_trees r s = refl
   all_by_tokens no_trees (more_trees (symbol n) us) r s = refl
   all_by_tokens no_trees (more_trees (app g vs) us) r s = refl
@@ -91,8 +99,10 @@ trees_cmp-trees (x ∷ xs) [] = refl
 trees_cmp-trees (x ∷ xs) (y ∷ ys) = ap (ordering_then (tree_cmp x y)) (trees_cmp-trees xs ys)
 
 -- two applications, with their arguments as lists
-pub app_cmp : (f g : ℕ) (xs ys : List Tree) → tree_cmp (app f (trees xs)) (app g (trees ys)) ≡ ordering_then (nat_cmp f g) (shortlex tree_cmp xs ys)
+pub app_cmp : (f g : ℕ) (xs ys : List Tree)
+    → tree_cmp (app f (trees xs)) (app g (trees ys)) ≡ ordering_then (nat_cmp f g) (shortlex tree_cmp xs ys)
 app_cmp f g xs ys = rw (tree_list-trees xs, tree_list-trees ys, trees_cmp-trees xs ys) refl
 
-pub app_cmp-same_head : (f g : ℕ) (xs ys : List Tree) → f ≡ g → tree_cmp (app f (trees xs)) (app g (trees ys)) ≡ shortlex tree_cmp xs ys
+pub app_cmp-same_head : (f g : ℕ) (xs ys : List Tree) → f ≡ g
+    → tree_cmp (app f (trees xs)) (app g (trees ys)) ≡ shortlex tree_cmp xs ys
 app_cmp-same_head f g xs ys e = rw (app_cmp f g xs ys, ← e, tied_itself nat_cmp_total f) refl

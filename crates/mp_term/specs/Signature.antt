@@ -1,5 +1,7 @@
 -- What contracts see of a signature: the operations and the kinds, each by its number.
-use Rattle.std.specs.Prelude.{◌≡◌, ℕ, zero, suc, Bool, true, false, List, [], ◌∷◌, ◌≤◌, ◌==◌, Option, Some, None, slice_get, map, nat_eq, nat_le, ◌&&◌, length, if◌then◌else◌, ◌||◌, not, is_none, codes, bytes_eq}
+use Rattle.std.specs.Prelude.{◌≡◌, ℕ, zero, suc, Bool, true, false, List, [], ◌∷◌, ◌≤◌, ◌==◌, Option, Some, None}
+use Rattle.std.specs.Prelude.{slice_get, map, nat_eq, nat_le, ◌&&◌, length, if◌then◌else◌, ◌||◌, not, is_none, codes}
+use Rattle.std.specs.Prelude.{bytes_eq}
 use Rattle.std.specs.List.{list_any, list_all}
 use Rattle.mp_term.specs.declared.signature.OpDecl.{OpDecl}
 use Rattle.mp_term.specs.declared.limits.TheConstants.{MAX_ARITY, MAX_OPS, MAX_KINDS}
@@ -27,9 +29,11 @@ holds_of test (Some d) = test d
 abbrev pub allows : ℕ → OpDecl → Bool
 allows n d = if d.fixed then nat_eq n d.least else nat_le d.least n
 
--- An associative declaration has no fixed count, and a least count of at most 2. A one-identity one has no fixed count, and a least count of at most 1. One with an infix sign has no fixed count, or one of 2 or more.
+-- An associative declaration has no fixed count, and a least count of at most 2. A one-identity one has no fixed count,
+-- and a least count of at most 1. One with an infix sign has no fixed count, or one of 2 or more.
 abbrev pub in_order : OpDecl → Bool
-in_order d = (not d.assoc || (not d.fixed && nat_le d.least 2)) && ((not d.one || (not d.fixed && nat_le d.least 1)) && (is_none d.sign || (not d.fixed || nat_le 2 d.least)))
+in_order d = (not d.assoc || (not d.fixed && nat_le d.least 2))
+    && ((not d.one || (not d.fixed && nat_le d.least 1)) && (is_none d.sign || (not d.fixed || nat_le 2 d.least)))
 
 -- each declaration is in order
 abbrev pub all_in_order : List OpDecl → Bool
@@ -64,7 +68,8 @@ none_clash (d ∷ ds) = list_all (λ e. not (clashes e d)) ds && none_clash ds
 
 -- why an operation isn't added: the first of the three that applies
 abbrev pub op_fault : Sig → OpDecl → Option SigFault
-op_fault sig d = if list_any (clashes d) sig.ops then Some DuplicateName else if nat_le MAX_OPS (length sig.ops) then Some TooManyOps else if in_order d then None else Some BadFlags
+op_fault sig d = if list_any (clashes d) sig.ops then Some DuplicateName else if nat_le MAX_OPS
+    (length sig.ops) then Some TooManyOps else if in_order d then None else Some BadFlags
 
 -- a digit
 abbrev pub is_digit : ℕ → Bool
@@ -78,13 +83,15 @@ is_number n = not (length n == 0) && list_all is_digit n
 abbrev pub kind_names : Sig → List (List ℕ)
 kind_names sig = codes "num" ∷ map (λ k. k.name) sig.kinds
 
--- the kept members of all kinds, each list at the kind's number: none for the numbers, which are a kind by their spelling
+-- the kept members of all kinds, each list at the kind's number: none for the numbers, which are a kind by their
+-- spelling
 abbrev pub kind_members : Sig → List (List (List ℕ))
 kind_members sig = [] ∷ map (λ k. k.members) sig.kinds
 
 -- why a kind isn't added: the first of the two that applies
 abbrev pub kind_fault : Sig → List ℕ → Option SigFault
-kind_fault sig n = if list_any (bytes_eq n) (kind_names sig) then Some DuplicateName else if nat_le MAX_KINDS (length (kind_names sig)) then Some TooManyKinds else None
+kind_fault sig n = if list_any (bytes_eq n) (kind_names sig) then Some DuplicateName else if nat_le MAX_KINDS
+    (length (kind_names sig)) then Some TooManyKinds else None
 
 -- what holds of every signature
 pub record IsSignature (sig : Sig) : Type 0 where

@@ -1,5 +1,6 @@
 //! Names of symbols, operations, kinds and variables, and lists of them.
-ghost use Rattle.std.specs.Prelude.{◌≡◌, [], ◌∷◌, ◌++◌, length, slice_get, option_map, bytes_eq, OnOk, OnErr, IfOk, Err, Some, true, false, refl, ◌↔◌};
+ghost use Rattle.std.specs.Prelude.{◌≡◌, [], ◌∷◌, ◌++◌, length, slice_get, option_map, bytes_eq, OnOk, OnErr, IfOk};
+ghost use Rattle.std.specs.Prelude.{Err, Some, true, false, refl, ◌↔◌};
 ghost use Rattle.std.specs.Ordering.{is_eq, nat_cmp, eq_by_cmp};
 ghost use Rattle.std.specs.Cmp.{partial_equiv_from_equiv, po, eq_by_cmp_equiv};
 ghost use Rattle.std.specs.Cmp.Lexicographic.{slice_cmp};

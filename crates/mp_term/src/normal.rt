@@ -51,8 +51,9 @@ fn collapse(sig: &Signature, op: OpId, mut args: Terms) -> Term
     Term::App(op, args)
 }
 
-/// The normal form of any term, in one pass from the leaves up (`normal` of `specs/Normal.antt`), whatever operations it has and
-/// however many arguments they have. `Memory` comes where there is no room for the flattened lists; the term is then dropped.
+/// The normal form of any term, in one pass from the leaves up (`normal` of `specs/Normal.antt`), whatever operations
+/// it has and however many arguments they have. `Memory` comes where there is no room for the flattened lists; the term
+/// is then dropped.
 pub fn normal_form(alloc: Global, sig: &Signature, term: Term) -> Result<Term, Memory>
     ensures { IfOk result (λ t. tree t ≡ normal sig.now (tree term)) }
 {
@@ -71,10 +72,10 @@ pub fn normal_form(alloc: Global, sig: &Signature, term: Term) -> Result<Term, M
     }
 }
 
-/// The normal form of a term (`normal` of `specs/Normal.antt`): the arguments are normalised, those of an associative operation
-/// that are headed by it are replaced by their arguments, those of a commutative operation are sorted by the term order, and
-/// a one-identity operation of one argument is replaced by that argument. It is well formed. `Memory` comes where there is
-/// no room for the flattened lists; the term is then dropped.
+/// The normal form of a term (`normal` of `specs/Normal.antt`): the arguments are normalised, those of an associative
+/// operation that are headed by it are replaced by their arguments, those of a commutative operation are sorted by the
+/// term order, and a one-identity operation of one argument is replaced by that argument. It is well formed. `Memory`
+/// comes where there is no room for the flattened lists; the term is then dropped.
 pub fn normalise(alloc: Global, sig: &Signature, term: Term) -> Result<Term, Memory>
     requires { well_formed sig.now (tree term) ≡ true }
     ensures normal { IfOk result (λ t. tree t ≡ normal sig.now (tree term)) }
@@ -110,7 +111,8 @@ pub fn has_head(term: &Term, op: OpId) -> bool
 
 // The arguments need neither a collapse nor a sort.
 fn is_arranged(sig: &Signature, op: OpId, args: &Terms) -> bool
-    ensures { result ≡ (not (is_one sig.now op.0 && is_single args.now) && not (is_comm sig.now op.0 && not (ascending args.now))) }
+    ensures { result
+        ≡ (not (is_one sig.now op.0 && is_single args.now) && not (is_comm sig.now op.0 && not (ascending args.now))) }
 {
     if sig.is_one(op) && args.len() == 1 {
         return false;
@@ -153,7 +155,8 @@ pub fn normal_is_idempotent()
 
 /// The normal form of a well formed term is well formed, where each declaration is in order.
 pub fn normal_is_well_formed()
-    ensures { (sig : Sig) (t : Tree) → all_in_order sig.ops ≡ true → well_formed sig t ≡ true → well_formed sig (normal sig t) ≡ true }
+    ensures { (sig : Sig) (t : Tree) → all_in_order sig.ops ≡ true → well_formed sig t ≡ true
+        → well_formed sig (normal sig t) ≡ true }
 {}
 
 /// A normal form has no more nodes than the term, and is no deeper.

@@ -9,9 +9,9 @@ ghost use Rattle.mp_term.specs.OrderLaws.{tree_cmp_total};
 use crate::term::Term;
 use std::cmp::Ordering;
 
-/// The term order (`tree_cmp` of `specs/Order.antt`): symbols come before applications, and compare by the bytes of their
-/// names. Applications compare by the numbers of their operations, then by how many arguments they have, then argument by
-/// argument from the left. Equal terms alone are `Equal`. It takes no memory.
+/// The term order (`tree_cmp` of `specs/Order.antt`): symbols come before applications, and compare by the bytes of
+/// their names. Applications compare by the numbers of their operations, then by how many arguments they have, then
+/// argument by argument from the left. Equal terms alone are `Equal`. It takes no memory.
 #[cycle(compare)]
 pub fn compare(a: &Term, b: &Term) -> Ordering
     ensures { result ≡ tree_cmp (tree a.now) (tree b.now) }
@@ -29,8 +29,8 @@ pub fn compare(a: &Term, b: &Term) -> Ordering
     }
 }
 
-/// Shortlex by the term order (`shortlex` of `specs/Order.antt`): a list of fewer terms comes first, and lists of one length
-/// compare term by term from the left. Equal lists alone are `Equal`. It takes no memory.
+/// Shortlex by the term order (`shortlex` of `specs/Order.antt`): a list of fewer terms comes first, and lists of one
+/// length compare term by term from the left. Equal lists alone are `Equal`. It takes no memory.
 #[cycle(compare)]
 pub fn compare_all(ts: &[Term], us: &[Term]) -> Ordering
     ensures { result ≡ shortlex tree_cmp (map tree ts.now) (map tree us.now) }

@@ -18,7 +18,7 @@ impl Model for Sign {
     ghost use Rattle.std.specs.Prelude.{ℕ, List};
     ghost use Rattle.std.specs.Prelude.{◌≡◌, true};
     ghost use Rattle.std.specs.List.{list_all};
-ghost use Rattle.mp_term.specs.Names.{is_sign};
+    ghost use Rattle.mp_term.specs.Names.{is_sign};
 
     ghost Value = { List ℕ };
 

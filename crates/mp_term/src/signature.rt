@@ -1,10 +1,13 @@
 //! Signatures: the declared operations and kinds.
-ghost use Rattle.std.specs.Prelude.{◌≡◌, ◌<◌, ◌≤◌, ◌+◌, Some, ◌++◌, ◌∷◌, [], ◌⊎◌, length, slice_get, option_map, position, bytes_eq, codes, OnOk, OnErr, IfOk, IfErr, IfSome, Err, true};
+ghost use Rattle.std.specs.Prelude.{◌≡◌, ◌<◌, ◌≤◌, ◌+◌, Some, ◌++◌, ◌∷◌, [], ◌⊎◌, length, slice_get, option_map};
+ghost use Rattle.std.specs.Prelude.{position, bytes_eq, codes, OnOk, OnErr, IfOk, IfErr, IfSome, Err, true};
 ghost use Rattle.std.specs.List.{list_any, list_all};
 ghost use Rattle.mp_term.specs.Tree.{symbol as symbol_of};
 ghost use Rattle.mp_term.specs.View.{tree};
 ghost use Rattle.mp_term.specs.Names.{name_set, names_ascend};
-ghost use Rattle.mp_term.specs.Signature.{holds_of, allows, has_name, has_sign, clashes, in_order, op_fault, kind_fault, kind_names, kind_members, in_kind, is_number, is_digit, well_formed, is_assoc, is_comm, is_one, IsSignature};
+ghost use Rattle.mp_term.specs.Signature.{holds_of, allows, has_name, has_sign, clashes, in_order, op_fault};
+ghost use Rattle.mp_term.specs.Signature.{kind_fault, kind_names, kind_members, in_kind, is_number, is_digit};
+ghost use Rattle.mp_term.specs.Signature.{well_formed, is_assoc, is_comm, is_one, IsSignature};
 
 use crate::limits::{MAX_ARITY, MAX_KINDS, MAX_OPS};
 use crate::memory::Memory;
@@ -16,8 +19,8 @@ use std::alloc::{AllocError, Global};
 use std::marker::Model;
 use thiserror::Error;
 
-/// The number of a kind in its signature. The built-in kind `num` has the number 0, and the declared kinds follow in order of
-/// declaration.
+/// The number of a kind in its signature. The built-in kind `num` has the number 0, and the declared kinds follow in
+/// order of declaration.
 #[derive(Debug, Drop, Clone, Copy, PartialEq, Eq, PartialOrd, Ord)]
 pub struct KindId(pub u32);
 
@@ -87,8 +90,9 @@ struct Kind {
     members: Names,
 }
 
-/// The declared operations, and the kinds, the built-in kind `num` among them, each by its number. Contracts see the record `Sig`
-/// of `specs/Signature.antt`, which holds the operations and the declared kinds, and `IsSignature` says what holds of each.
+/// The declared operations, and the kinds, the built-in kind `num` among them, each by its number. Contracts see the
+/// record `Sig` of `specs/Signature.antt`, which holds the operations and the declared kinds, and `IsSignature` says
+/// what holds of each.
 #[derive(Drop)]
 pub struct Signature {
     pub(crate) ops: Vec<OpDecl>,
@@ -104,10 +108,17 @@ impl Model for Signature {
 
     ghost Value = { Sig };
 
-    ghost view = { λ s. record { ops = s.ops.items; kinds = map (λ k. record { name = k.name; members = k.members }) s.kinds.items } };
+    ghost view = { λ s. record {
+      ops = s.ops.items;
+      kinds = map (λ k. record { name = k.name; members = k.members }) s.kinds.items;
+    } };
 
     ghost invariant = { λ s.
-        let sig : Sig = record { ops = s.ops.items; kinds = map (λ k. record { name = k.name; members = k.members }) s.kinds.items } in
+        let sig : Sig =
+        record {
+          ops = s.ops.items;
+          kinds = map (λ k. record { name = k.name; members = k.members }) s.kinds.items;
+        } in
         IsSignature sig
         × (s.op_table ≡ map (λ d. d.name) sig.ops)
         × (s.kind_table ≡ kind_names sig)
@@ -185,7 +196,8 @@ fn kind_at(kinds: &[Kind], index: usize) -> Option<&Kind>
 }
 
 impl Signature {
-    /// The signature with no operation, and with the kind `num` alone. `Memory` comes where there is no room for its name.
+    /// The signature with no operation, and with the kind `num` alone. `Memory` comes where there is no room for its
+    /// name.
     pub fn new(alloc: Global) -> Result<Signature, Memory>
         ensures { IfOk result (λ s. s ≡ record { ops = []; kinds = [] }) }
     {
@@ -222,13 +234,13 @@ impl Signature {
         }
     }
 
-    /// Adds an operation, and gives its number: the count of operations before. The least count of arguments must be at most
-    /// `MAX_ARITY`.
+    /// Adds an operation, and gives its number: the count of operations before. The least count of arguments must be at
+    /// most `MAX_ARITY`.
     ///
-    /// The refusals come in this order (`op_fault` of `specs/Signature.antt`), and leave the signature as it was; the declaration is
-    /// dropped. `DuplicateName` comes exactly where an operation has the name or the sign, `TooManyOps` exactly where `MAX_OPS` are
-    /// held,
-    /// `BadFlags` exactly where the declaration isn't in order, and `Memory` where there is no room for it.
+    /// The refusals come in this order (`op_fault` of `specs/Signature.antt`), and leave the signature as it was; the
+    /// declaration is dropped. `DuplicateName` comes exactly where an operation has the name or the sign, `TooManyOps`
+    /// exactly where `MAX_OPS` are held, `BadFlags` exactly where the declaration isn't in order, and `Memory` where
+    /// there is no room for it.
     pub fn add_op(&mut self, decl: OpDecl) -> Result<OpId, SigFault>
         requires { decl.least ≤ MAX_ARITY }
         ensures number { IfOk result (λ id. id.0 ≡ length self.old.ops) }
@@ -310,12 +322,14 @@ impl Signature {
 
     /// Adds a kind of these members, kept as a set, and gives its number: the count of kinds before.
     ///
-    /// The refusals come in this order (`kind_fault` of `specs/Signature.antt`), and leave the signature as it was; the name and the
-    /// members are dropped. `DuplicateName` comes exactly where a kind has the name, `num` among them, `TooManyKinds` exactly where
-    /// `MAX_KINDS` are held, and `Memory` where there is no room for it.
+    /// The refusals come in this order (`kind_fault` of `specs/Signature.antt`), and leave the signature as it was; the
+    /// name and the members are dropped. `DuplicateName` comes exactly where a kind has the name, `num` among them,
+    /// `TooManyKinds` exactly where `MAX_KINDS` are held, and `Memory` where there is no room for it.
     pub fn add_kind(&mut self, name: Name, members: Names) -> Result<KindId, SigFault>
         ensures number { IfOk result (λ id. id.0 ≡ length self.old.kinds + 1) }
-        ensures ok { OnOk result (self.new ≡ record self.old { kinds = self.old.kinds ++ record { name = name; members = name_set members } ∷ [] }) }
+        ensures ok { OnOk result
+            (self.new
+            ≡ record self.old { kinds = self.old.kinds ++ record { name = name; members = name_set members } ∷ [] }) }
         ensures err { OnErr result (self.new ≡ self.old) }
         ensures refused { IfSome (kind_fault self.old name) (λ fault. result ≡ Err fault) }
         ensures only_refused { IfErr result (λ e. (kind_fault self.old name ≡ Some e) ⊎ (e ≡ SigFault.Memory)) }
@@ -343,8 +357,8 @@ impl Signature {
         }
     }
 
-    /// The members of a declared kind, ascending by their bytes and each once, the empty list for `num`, and None exactly where the
-    /// signature has no kind of that number.
+    /// The members of a declared kind, ascending by their bytes and each once, the empty list for `num`, and None
+    /// exactly where the signature has no kind of that number.
     pub fn kind_members(&self, id: KindId) -> Option<&Names>
         ensures { slice_get (kind_members self.now) id.0 ≡ option_map (λ ns. ns.now) result }
     {
@@ -364,8 +378,8 @@ impl Signature {
         }
     }
 
-    /// The symbol of that name is of the kind: of `num` where it is a number, and of a declared kind where it is a member. No symbol
-    /// is of a kind that isn't held (`in_kind` of `specs/Signature.antt`). It takes no memory.
+    /// The symbol of that name is of the kind: of `num` where it is a number, and of a declared kind where it is a
+    /// member. No symbol is of a kind that isn't held (`in_kind` of `specs/Signature.antt`). It takes no memory.
     pub fn kind_has(&self, id: KindId, symbol: &[u8]) -> bool
         ensures { result ≡ in_kind self.now id.0 (symbol_of symbol.now) }
     {
@@ -402,7 +416,8 @@ impl Signature {
         }
     }
 
-    /// The operation is associative (`is_assoc` of `specs/Signature.antt`). One that isn't held has no flag. It takes no memory.
+    /// The operation is associative (`is_assoc` of `specs/Signature.antt`). One that isn't held has no flag. It takes
+    /// no memory.
     pub fn is_assoc(&self, id: OpId) -> bool
         ensures { result ≡ is_assoc self.now id.0 }
     {
@@ -412,7 +427,8 @@ impl Signature {
         }
     }
 
-    /// The operation is commutative (`is_comm` of `specs/Signature.antt`). One that isn't held has no flag. It takes no memory.
+    /// The operation is commutative (`is_comm` of `specs/Signature.antt`). One that isn't held has no flag. It takes no
+    /// memory.
     pub fn is_comm(&self, id: OpId) -> bool
         ensures { result ≡ is_comm self.now id.0 }
     {
@@ -422,7 +438,8 @@ impl Signature {
         }
     }
 
-    /// The operation is one-identity (`is_one` of `specs/Signature.antt`). One that isn't held has no flag. It takes no memory.
+    /// The operation is one-identity (`is_one` of `specs/Signature.antt`). One that isn't held has no flag. It takes no
+    /// memory.
     pub fn is_one(&self, id: OpId) -> bool
         ensures { result ≡ is_one self.now id.0 }
     {
@@ -433,7 +450,8 @@ impl Signature {
     }
 }
 
-/// The term is a symbol of the kind (`in_kind` of `specs/Signature.antt`). No symbol is of a kind that isn't held. It takes no memory.
+/// The term is a symbol of the kind (`in_kind` of `specs/Signature.antt`). No symbol is of a kind that isn't held. It
+/// takes no memory.
 pub fn in_kind(sig: &Signature, kind: KindId, term: &Term) -> bool
     ensures { result ≡ in_kind sig.now kind.0 (tree term.now) }
 {
@@ -443,7 +461,8 @@ pub fn in_kind(sig: &Signature, kind: KindId, term: &Term) -> bool
     }
 }
 
-/// Each operation is held, and each count of arguments is allowed (`well_formed` of `specs/Signature.antt`). It takes no memory.
+/// Each operation is held, and each count of arguments is allowed (`well_formed` of `specs/Signature.antt`). It takes
+/// no memory.
 pub fn well_formed(sig: &Signature, term: &Term) -> bool
     ensures { result ≡ well_formed sig.now (tree term.now) }
 {

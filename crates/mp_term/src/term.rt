@@ -1,5 +1,6 @@
 //! Terms, and lists of them.
-ghost use Rattle.std.specs.Prelude.{◌≡◌, ◌-◌, ◌^◌, [], ◌∷◌, ◌++◌, length, map, slice_get, OnOk, OnErr, IfOk, min, option_map};
+ghost use Rattle.std.specs.Prelude.{◌≡◌, ◌-◌, ◌^◌, [], ◌∷◌, ◌++◌, length, map, slice_get, OnOk, OnErr, IfOk, min};
+ghost use Rattle.std.specs.Prelude.{option_map};
 ghost use Rattle.mp_term.specs.View.{tree};
 ghost use Rattle.mp_term.specs.Size.{node_count, depth};
 ghost use Rattle.mp_term.specs.Positions.{subterm};
@@ -94,8 +95,8 @@ impl Terms {
     }
 }
 
-/// The number of nodes, symbols and applications together (`node_count` of `specs/Size.antt`), or the greatest `u64` where the
-/// number passes it.
+/// The number of nodes, symbols and applications together (`node_count` of `specs/Size.antt`), or the greatest `u64`
+/// where the number passes it.
 pub fn node_count(term: &Term) -> u64
     ensures { result ≡ min (node_count (tree term.now)) (2 ^ 64 - 1) }
 {
@@ -128,8 +129,8 @@ pub fn depth(term: &Term) -> u64
     }
 }
 
-/// The subterm at a position, given by its argument indexes from 0, and None exactly where the position names no subterm
-/// (`subterm` of `specs/Positions.antt`).
+/// The subterm at a position, given by its argument indexes from 0, and None exactly where the position names no
+/// subterm (`subterm` of `specs/Positions.antt`).
 pub fn at<'a>(term: &'a Term, position: &[u32]) -> Option<&'a Term>
     ensures { option_map (λ t. tree t.now) result ≡ subterm (tree term.now) position.now }
 {

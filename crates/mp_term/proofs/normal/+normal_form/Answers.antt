@@ -12,5 +12,8 @@ loop-arg-init t c =
     let sig = c.args.sig.now in
     let f = c.in-App.op.0 in
     let rest = into_iter_items c.into_iter-arg-iterator.result in
-    let all : map tree rest ≡ c.in-App.args = ap (map tree) c.into_iter-arg-iterator.ensures.into_iter_gives.0 ∙ c.args-in-App.view_is in
-    rw (c.in-App.is, c.new-flat.ensures) (ap (λ ts. collapsed sig f (in_order sig f (flat_map (parts sig f) ts))) (sym (normals-forest sig tree rest) ∙ ap (λ us. normals sig (trees us)) all))
+    let all : map tree rest ≡ c.in-App.args = ap (map tree) c.into_iter-arg-iterator.ensures.into_iter_gives.0
+    ∙ c.args-in-App.view_is in
+    rw (c.in-App.is, c.new-flat.ensures)
+    (ap (λ ts. collapsed sig f (in_order sig f (flat_map (parts sig f) ts)))
+    (sym (normals-forest sig tree rest) ∙ ap (λ us. normals sig (trees us)) all))

@@ -6,4 +6,7 @@ use Rattle.mp_term.specs.Normal.{parts, in_order, collapsed, normal}
 use Rattle.mp_term.proofs.normal.+normal_form.Given as goal
 
 abbrev pub invariant-loop-arg : goal.invariant-loop-arg
-invariant-loop-arg l = collapsed l.sig l.op.0 (in_order l.sig l.op.0 (l.flat ++ flat_map (parts l.sig l.op.0) (map (λ t. normal l.sig (tree t)) (into_iter_items l.arg-iterator)))) ≡ normal l.sig (tree l.fn.term)
+invariant-loop-arg l = collapsed l.sig l.op.0
+    (in_order l.sig l.op.0
+    (l.flat ++ flat_map (parts l.sig l.op.0) (map (λ t. normal l.sig (tree t)) (into_iter_items l.arg-iterator))))
+    ≡ normal l.sig (tree l.fn.term)

@@ -7,5 +7,6 @@ use Rattle.mp_term.proofs.order.+compare.Given as goal
 abbrev pub invariant-compare_all-loop-i : goal.invariant-compare_all-loop-i
 invariant-compare_all-loop-i l = record {
   lens : length l.ts ≡ length l.us;
-  rest : slice_cmp tree_cmp (map tree (drop l.i l.ts)) (map tree (drop l.i l.us)) ≡ slice_cmp tree_cmp (map tree l.ts) (map tree l.us);
+  rest : slice_cmp tree_cmp (map tree (drop l.i l.ts)) (map tree (drop l.i l.us))
+      ≡ slice_cmp tree_cmp (map tree l.ts) (map tree l.us);
 }

@@ -15,4 +15,5 @@ pub loop-arg-init : goal.loop-arg-init
 loop-arg-init t c =
     let h : holds_of (allows (length c.in-App.args)) (slice_get c.args.sig.now.ops c.in-App.op.0) ≡ true = cc in
     let e : map tree c.deref-arg-items.result.now ≡ c.in-App.args = cc in
-    rw c.in-App.is (ap (λ ts. all_well_formed c.args.sig.now (trees ts)) e ∙ well_formed-allowed c.args.sig.now c.in-App.op.0 c.in-App.args h)
+    rw c.in-App.is (ap (λ ts. all_well_formed c.args.sig.now (trees ts)) e
+    ∙ well_formed-allowed c.args.sig.now c.in-App.op.0 c.in-App.args h)

@@ -4,4 +4,6 @@ use Rattle.mp_term.proofs.SignatureLaws.{position-map}
 use Rattle.mp_term.proofs.name_table.NameTable.index_of.Goals as goal
 
 pub returns-clause-index : goal.returns-clause-index
-returns-clause-index c = c.get_index_of.ensures.index ∙ sym (position-map (bytes_eq c.args.name.now) (λ k. k.items) c.self.inside.names.keys) ∙ ap (position (bytes_eq c.args.name.now)) c.self.view_is
+returns-clause-index c = c.get_index_of.ensures.index
+    ∙ sym (position-map (bytes_eq c.args.name.now) (λ k. k.items) c.self.inside.names.keys)
+    ∙ ap (position (bytes_eq c.args.name.now)) c.self.view_is
