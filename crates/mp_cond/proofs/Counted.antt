@@ -19,5 +19,6 @@ all_nodes-listed None h = absurd h
 all_nodes-listed (Some v) h = h
 
 -- the count is exact
-pub min-all_nodes : (s : Subst) (a : Operand) → IsOperandReady s a → min (all_nodes (list_of s a)) (2 ^ 64 - 1) ≡ sum_by node_count (list_of s a)
+pub min-all_nodes : (s : Subst) (a : Operand) → IsOperandReady s a
+    → min (all_nodes (list_of s a)) (2 ^ 64 - 1) ≡ sum_by node_count (list_of s a)
 min-all_nodes s a h = omega (arith, all_nodes-listed (value_at s a) h, sum_by-node_count (list_of s a))

@@ -9,6 +9,8 @@ not-or true v = refl
 not-or false v = refl
 
 -- as `all` goes through a list of what is seen as terms
-pub list_all-every : {X : Type 0} (view : X → Tree) (test : Tree → Bool) (xs : List X) → list_all (λ x. test (view x)) xs ≡ every test (map view xs)
+pub list_all-every : {X : Type 0} (view : X → Tree) (test : Tree → Bool) (xs : List X)
+    → list_all (λ x. test (view x)) xs ≡ every test (map view xs)
 list_all-every view test [] = refl
-list_all-every view test (x ∷ xs) = ap (λ b. test (view x) && b) (list_all-every view test xs) ∙ sym (not-or (test (view x)) (list_any (λ t. not (test t)) (map view xs)))
+list_all-every view test (x ∷ xs) = ap (λ b. test (view x) && b) (list_all-every view test xs)
+    ∙ sym (not-or (test (view x)) (list_any (λ t. not (test t)) (map view xs)))

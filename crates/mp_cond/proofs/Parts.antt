@@ -24,6 +24,8 @@ module _ {X : Type 0} (view : X → Cond) (s : Subst) (xs : List X) where
 
   pub cut : (i : ℕ) (x : X) → i < length xs → x ≡ get_or xs i x → AreReady i → Cut i x
   cut i x h at ready =
-      let is : behind i ≡ more_conds (view x) (behind (i + 1)) = ap (λ ys. conds (map view ys)) (drop-item xs i x h at) in
-      let parts = all-split (IsOperandReady s) (operands (view x)) _ (subst (λ cs. AllByRecursion (IsOperandReady s) (all_operands cs)) is ready) in
+      let is : behind i ≡ more_conds (view x) (behind (i + 1)) =
+      ap (λ ys. conds (map view ys)) (drop-item xs i x h at) in
+      let parts = all-split (IsOperandReady s) (operands (view x)) _
+      (subst (λ cs. AllByRecursion (IsOperandReady s) (all_operands cs)) is ready) in
       record { is = is; first = parts.0; rest = parts.1 }

@@ -39,7 +39,8 @@ fn same(a: &Operand, b: &Operand, subst: &Subst) -> bool
 
 // Whether both are single terms, and the first comes before the second.
 fn comes_before(a: &Operand, b: &Operand, subst: &Subst) -> bool
-    ensures { result ≡ comes_before (value_at (subst_of subst.now) (operand a.now)) (value_at (subst_of subst.now) (operand b.now)) }
+    ensures { result ≡ comes_before (value_at (subst_of subst.now) (operand a.now))
+        (value_at (subst_of subst.now) (operand b.now)) }
 {
     match (single(a, subst), single(b, subst)) {
         (Some(term), Some(other)) => compare(term, other).is_lt(),
@@ -47,9 +48,9 @@ fn comes_before(a: &Operand, b: &Operand, subst: &Subst) -> bool
     }
 }
 
-/// Whether the condition holds of the substitution (`holds` of mp_pattern's `specs/Holds.antt`). Each variable of the condition is bound,
-/// and the terms of its value, and likewise each ground term, have fewer than 2 ^ 64 nodes together (`IsReady` of `specs/Ready.antt`).
-/// It takes no memory.
+/// Whether the condition holds of the substitution (`holds` of mp_pattern's `specs/Holds.antt`). Each variable of the
+/// condition is bound, and the terms of its value, and likewise each ground term, have fewer than 2 ^ 64 nodes together
+/// (`IsReady` of `specs/Ready.antt`). It takes no memory.
 #[cycle(holds)]
 pub fn holds(sig: &Signature, cond: &Cond, subst: &Subst) -> bool
     requires { IsReady (subst_of subst.now) (cond_tree cond.now) }

@@ -31,7 +31,8 @@ fn popped(stack: &mut Vec<Term>) -> Result<Term, Fail> {
     }
 }
 
-// A term, written behind its arguments: F is f with two of them, G is g with one, and another byte is a symbol. So `aGbF` is f(g(a), b).
+// A term, written behind its arguments: F is f with two of them, G is g with one, and another byte is a symbol. So
+// `aGbF` is f(g(a), b).
 fn term(alloc: Global, text: &[u8]) -> Result<Term, Fail> {
     let mut stack: Vec<Term> = Vec::new(alloc);
     for byte in text {
@@ -72,7 +73,8 @@ fn value(alloc: Global, form: Form, words: &str) -> Result<Value, Fail> {
     }
 }
 
-// {x -> a, n -> 7, t -> f(g(a), b), y -> (a), p -> (b, a), q -> (f(a, b), g(b)), e -> (), m -> {a}, z -> {a, b}, o -> {}}
+// {x -> a, n -> 7, t -> f(g(a), b), y -> (a), p -> (b, a), q -> (f(a, b), g(b)), e -> (), m -> {a}, z -> {a, b}, o ->
+// {}}
 fn subst(alloc: Global) -> Result<Subst, Fail> {
     let rows = [
         ("x", Form::One, "a"),

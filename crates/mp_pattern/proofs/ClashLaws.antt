@@ -1,5 +1,7 @@
--- Patterns without clashes: any two wildcards of one variable are the same, in whatever order they stand, so that the normal form has no clash either.
-use Rattle.std.proofs.Common.{◌≡◌, ℕ, Bool, true, false, ◌&&◌, ◌||◌, not, List, [], ◌∷◌, ◌++◌, length, Some, None, refl, sym, ap, ◌∙◌}
+-- Patterns without clashes: any two wildcards of one variable are the same, in whatever order they stand, so that the
+-- normal form has no clash either.
+use Rattle.std.proofs.Common.{◌≡◌, ℕ, Bool, true, false, ◌&&◌, ◌||◌, not, List, [], ◌∷◌, ◌++◌, length, Some, None, refl}
+use Rattle.std.proofs.Common.{sym, ap, ◌∙◌}
 use Rattle.std.specs.Prelude.{if◌then◌else◌}
 use Rattle.std.specs.Ordering.{nat_cmp, is_eq}
 use Rattle.std.specs.Cmp.{Equal-is}
@@ -9,7 +11,9 @@ use Rattle.std.proofs.lemmas.Bool.{not-false}
 use Rattle.mp_term.specs.Signature.{Sig}
 use Rattle.mp_term.specs.OrderLaws.{nat_same, tree_same, tree_cmp_total}
 use Rattle.mp_term.proofs.ListLaws.{all-append, all-split, all-also}
-use Rattle.mp_pattern.specs.PatternTree.{Wildcard, dot, kind, plus, star, optional, Pattern, symbol_pattern, app_pattern, wild_pattern, Patterns, no_patterns, more_patterns, pattern_list, patterns}
+use Rattle.mp_pattern.specs.PatternTree.{Wildcard, dot, kind, plus, star, optional, Pattern, symbol_pattern}
+use Rattle.mp_pattern.specs.PatternTree.{app_pattern, wild_pattern, Patterns, no_patterns, more_patterns, pattern_list}
+use Rattle.mp_pattern.specs.PatternTree.{patterns}
 use Rattle.mp_pattern.specs.Normal.{normal_pattern}
 use Rattle.mp_pattern.specs.Subpatterns.{subpatterns, all_subpatterns}
 use Rattle.mp_pattern.specs.Value.{same_name}
@@ -85,7 +89,8 @@ agrees-none : (p : Pattern) (qs : List Pattern) → list_any (λ q. clashes q p)
 agrees-none p [] h = tt
 agrees-none p (q ∷ qs) h = go (clashes q p) refl h (agrees-none p qs)
   where
-    go : (b : Bool) → clashes q p ≡ b → (b || list_any (λ q. clashes q p) qs) ≡ false → (list_any (λ q. clashes q p) qs ≡ false → AgreesWith p qs) → AgreesWith p (q ∷ qs)
+    go : (b : Bool) → clashes q p ≡ b → (b || list_any (λ q. clashes q p) qs) ≡ false
+        → (list_any (λ q. clashes q p) qs ≡ false → AgreesWith p qs) → AgreesWith p (q ∷ qs)
     go true e h ih = cc
     go false e h ih = (agree-clashes q p e, ih h)
 
@@ -101,9 +106,11 @@ InOrder before (p ∷ ps) = AgreesWith p before × InOrder (before ++ p ∷ []) 
 -- no clash is found
 pub InOrder-first_clash_after : (before ps : List Pattern) → first_clash_after before ps ≡ None → InOrder before ps
 InOrder-first_clash_after before [] h = tt
-InOrder-first_clash_after before (p ∷ ps) h = go (list_any (λ q. clashes q p) before) refl h (InOrder-first_clash_after (before ++ p ∷ []) ps)
+InOrder-first_clash_after before (p ∷ ps) h =
+    go (list_any (λ q. clashes q p) before) refl h (InOrder-first_clash_after (before ++ p ∷ []) ps)
   where
-    go : (b : Bool) → list_any (λ q. clashes q p) before ≡ b → (if b then Some (length before) else first_clash_after (before ++ p ∷ []) ps) ≡ None
+    go : (b : Bool) → list_any (λ q. clashes q p) before ≡ b
+        → (if b then Some (length before) else first_clash_after (before ++ p ∷ []) ps) ≡ None
         → (first_clash_after (before ++ p ∷ []) ps ≡ None → InOrder (before ++ p ∷ []) ps) → InOrder before (p ∷ ps)
     go true e h ih = cc
     go false e h ih = (agrees-none p before e, ih h)
@@ -111,7 +118,8 @@ InOrder-first_clash_after before (p ∷ ps) h = go (list_any (λ q. clashes q p)
 pub first_clash_after-InOrder : (before ps : List Pattern) → InOrder before ps → first_clash_after before ps ≡ None
 first_clash_after-InOrder before [] h = refl
 first_clash_after-InOrder before (p ∷ ps) h =
-    ap (λ b. if b then Some (length before) else first_clash_after (before ++ p ∷ []) ps) (none-agrees p before h.0) ∙ first_clash_after-InOrder (before ++ p ∷ []) ps h.1
+    ap (λ b. if b then Some (length before) else first_clash_after (before ++ p ∷ []) ps) (none-agrees p before h.0)
+    ∙ first_clash_after-InOrder (before ++ p ∷ []) ps h.1
 
 -- any two patterns of two lists agree
 abbrev AllAgree : List Pattern → List Pattern → Type 0
@@ -127,7 +135,8 @@ agree-before before (p ∷ ps) h = (
 )
 
 -- the first pattern agrees with all behind it, and they with it
-agree-behind : (p : Pattern) (before ps : List Pattern) → InOrder (before ++ p ∷ []) ps → AgreesWith p ps × AllAgree ps (p ∷ [])
+agree-behind : (p : Pattern) (before ps : List Pattern) → InOrder (before ++ p ∷ []) ps
+    → AgreesWith p ps × AllAgree ps (p ∷ [])
 agree-behind p before ps h =
     let here : AllAgree ps (p ∷ []) = all-also (λ q. AgreesWith q (before ++ p ∷ [])) (λ q. AgreesWith q (p ∷ []))
     (λ q k. (all-split (λ r. Agree r q) before (p ∷ []) k).1) ps (agree-before (before ++ p ∷ []) ps h) in
@@ -147,8 +156,11 @@ agree-InOrder before (p ∷ ps) h =
 -- patterns of which any two agree are in order
 InOrder-agree : (before ps : List Pattern) → AllAgree ps before → AllAgree ps ps → InOrder before ps
 InOrder-agree before [] h k = tt
-InOrder-agree before (p ∷ ps) h k =
-    (h.0, InOrder-agree (before ++ p ∷ []) ps (both ps h.1 k.1) (all-also (λ q. AgreesWith q (p ∷ ps)) (λ q. AgreesWith q ps) (λ q a. a.1) ps k.1))
+InOrder-agree before (p ∷ ps) h k = (
+  h.0,
+  InOrder-agree (before ++ p ∷ []) ps (both ps h.1 k.1)
+      (all-also (λ q. AgreesWith q (p ∷ ps)) (λ q. AgreesWith q ps) (λ q a. a.1) ps k.1),
+)
   where
     both : (qs : List Pattern) → AllAgree qs before → AllAgree qs (p ∷ ps) → AllAgree qs (before ++ p ∷ [])
     both [] h k = tt
@@ -162,7 +174,8 @@ module _ (sig : Sig) (P : Pattern → Type 0) (of_app : (f : ℕ) (ps : Patterns
 
   each-argument : (ps : Patterns) → AllByRecursion P (all_subpatterns ps) → AllByRecursion Each (pattern_list ps)
   each-argument no_patterns h = tt
-  each-argument (more_patterns p ps) h = let r = all-split P (subpatterns p) (all_subpatterns ps) h in (r.0, each-argument ps r.1)
+  each-argument (more_patterns p ps) h = let r = all-split P (subpatterns p) (all_subpatterns ps) h in
+      (r.0, each-argument ps r.1)
 
   each-subpattern : (qs : List Pattern) → AllByRecursion Each qs → AllByRecursion P (all_subpatterns (patterns qs))
   each-subpattern [] h = tt
@@ -170,7 +183,8 @@ module _ (sig : Sig) (P : Pattern → Type 0) (of_app : (f : ℕ) (ps : Patterns
 
   -- what holds of each symbol and wildcard of a pattern holds of those of its normal form
   each-normal_pattern : (p : Pattern) → Each p → Each (normal_pattern sig p)
-  each-normal_pattern = of_normal_pattern sig Each (λ f ps h. each-argument ps h.1) (λ f ps qs h k. (of_app f (patterns qs), each-subpattern qs k))
+  each-normal_pattern = of_normal_pattern sig Each (λ f ps h. each-argument ps h.1)
+      (λ f ps qs h k. (of_app f (patterns qs), each-subpattern qs k))
 
 -- what each item has, each item of a list has
 all-always : {X : Type 0} (P : X → Type 0) → ((x : X) → P x) → (xs : List X) → AllByRecursion P xs
@@ -178,15 +192,19 @@ all-always P each [] = tt
 all-always P each (x ∷ xs) = (each x, all-always P each xs)
 
 -- the normal form of a pattern without clashes has none
-pub first_clash-normal_pattern : (sig : Sig) (p : Pattern) → first_clash p ≡ None → first_clash (normal_pattern sig p) ≡ None
+pub first_clash-normal_pattern : (sig : Sig) (p : Pattern) → first_clash p ≡ None
+    → first_clash (normal_pattern sig p) ≡ None
 first_clash-normal_pattern sig p h =
     let own = subpatterns p in
     let new = subpatterns (normal_pattern sig p) in
-    let right : AllAgree own new = all-also (λ q. AgreesWith q own) (λ q. AgreesWith q new) onto own (agree-InOrder [] own (InOrder-first_clash_after [] own h)) in
-    let both : AllAgree new new = each-normal_pattern sig (λ q. AgreesWith q new) (λ f ps. all-always (λ r. Agree r (app_pattern f ps)) (λ r. agree-app r f ps) new) p right in
+    let right : AllAgree own new = all-also (λ q. AgreesWith q own) (λ q. AgreesWith q new) onto own
+    (agree-InOrder [] own (InOrder-first_clash_after [] own h)) in
+    let both : AllAgree new new = each-normal_pattern sig (λ q. AgreesWith q new)
+    (λ f ps. all-always (λ r. Agree r (app_pattern f ps)) (λ r. agree-app r f ps) new) p right in
     first_clash_after-InOrder [] new (InOrder-agree [] new (all-always (λ q. AgreesWith q []) (λ q. tt) new) both)
   where
     onto : (q : Pattern) → AgreesWith q (subpatterns p) → AgreesWith q (subpatterns (normal_pattern sig p))
     onto q k =
         let turned = all-also (λ r. Agree r q) (Agree q) (λ r. agree-swap r q) (subpatterns p) k in
-        all-also (Agree q) (λ r. Agree r q) (agree-swap q) (subpatterns (normal_pattern sig p)) (each-normal_pattern sig (Agree q) (agree-app q) p turned)
+        all-also (Agree q) (λ r. Agree r q) (agree-swap q) (subpatterns (normal_pattern sig p))
+        (each-normal_pattern sig (Agree q) (agree-app q) p turned)

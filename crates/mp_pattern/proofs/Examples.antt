@@ -10,7 +10,8 @@ use Rattle.mp_term.specs.Normal.{normal}
 use Rattle.mp_pattern.specs.PatternTree.{dot, kind, plus, star, optional, Pattern, symbol_pattern, patterns}
 use Rattle.mp_pattern.specs.TemplateTree.{app_template, variable_template, templates}
 use Rattle.mp_pattern.specs.declared.condition.Sense.TheVariants.{Lt, Ge}
-use Rattle.mp_pattern.specs.CondTree.{var, ground, fixed, count, size, amounts, same, less, free, of_kind, headed, negation, all_of, any_of, conds}
+use Rattle.mp_pattern.specs.CondTree.{var, ground, fixed, count, size, amounts, same, less, free, of_kind, headed}
+use Rattle.mp_pattern.specs.CondTree.{negation, all_of, any_of, conds}
 use Rattle.mp_pattern.specs.Order.{pattern_cmp}
 use Rattle.mp_pattern.specs.Normal.{normal_pattern}
 use Rattle.mp_pattern.specs.Value.{one, seq, bag, one_form, seq_form, bag_form, Subst, merge}
@@ -21,12 +22,15 @@ use Rattle.mp_pattern.specs.DerivationOrder.{table_cmp}
 use Rattle.mp_pattern.specs.Holds.{holds}
 use Rattle.mp_pattern.specs.Instance.{instances, pattern_instances}
 use Rattle.mp_pattern.specs.Lists.{subst_cmp}
-use Rattle.mp_pattern.proofs.ExampleWords.{sig, f, set, list, sum, product, num, v, term, pattern, a, b, c, d, nought, a_pattern, x_, y_, z_, unnamed, x→, y→, z→, entry, collapsed_entry}
+use Rattle.mp_pattern.proofs.ExampleWords.{sig, f, set, list, sum, product, num, v, term, pattern, a, b, c, d, nought}
+use Rattle.mp_pattern.proofs.ExampleWords.{a_pattern, x_, y_, z_, unnamed, x→, y→, z→, entry, collapsed_entry}
 
 -- NORMAL FORM AND ORDER OF PATTERNS
 
 -- sum(x___, a, sum(y_, b)) is flattened and sorted: ground patterns, then the dot, then the star
-sum_flattened_and_sorted : normal_pattern sig (pattern sum (x_ star ∷ a_pattern ∷ pattern sum (y_ dot ∷ symbol_pattern (codes "b") ∷ []) ∷ [])) ≡ pattern sum (a_pattern ∷ symbol_pattern (codes "b") ∷ y_ dot ∷ x_ star ∷ [])
+sum_flattened_and_sorted : normal_pattern sig
+    (pattern sum (x_ star ∷ a_pattern ∷ pattern sum (y_ dot ∷ symbol_pattern (codes "b") ∷ []) ∷ []))
+    ≡ pattern sum (a_pattern ∷ symbol_pattern (codes "b") ∷ y_ dot ∷ x_ star ∷ [])
 sum_flattened_and_sorted = refl
 
 -- sum(x_) is x_
@@ -37,16 +41,21 @@ one_dot_collapses = refl
 one_plus_is_kept : normal_pattern sig (pattern sum (x_ plus ∷ [])) ≡ pattern sum (x_ plus ∷ [])
 one_plus_is_kept = refl
 
-one_optional_is_kept : normal_pattern sig (pattern sum (x_ (optional nought) ∷ [])) ≡ pattern sum (x_ (optional nought) ∷ [])
+one_optional_is_kept : normal_pattern sig (pattern sum (x_ (optional nought) ∷ []))
+    ≡ pattern sum (x_ (optional nought) ∷ [])
 one_optional_is_kept = refl
 
 -- product(sum(x__)) is sum(x__): the argument is an application
-kept_application_is_no_wildcard : normal_pattern sig (pattern product (pattern sum (x_ plus ∷ []) ∷ [])) ≡ pattern sum (x_ plus ∷ [])
+kept_application_is_no_wildcard : normal_pattern sig (pattern product (pattern sum (x_ plus ∷ []) ∷ []))
+    ≡ pattern sum (x_ plus ∷ [])
 kept_application_is_no_wildcard = refl
 
 -- b, f(a), f(x_), x_v, _v, x_, y_, _, x_:0, x__, x___ stand in the pattern order
-patterns_in_order : sorted pattern_cmp (x_ star ∷ x_ plus ∷ x_ (optional nought) ∷ unnamed dot ∷ y_ dot ∷ x_ dot ∷ unnamed (kind v) ∷ x_ (kind v) ∷ pattern f (x_ dot ∷ []) ∷ pattern f (a_pattern ∷ []) ∷ symbol_pattern (codes "b") ∷ [])
-    ≡ symbol_pattern (codes "b") ∷ pattern f (a_pattern ∷ []) ∷ pattern f (x_ dot ∷ []) ∷ x_ (kind v) ∷ unnamed (kind v) ∷ x_ dot ∷ y_ dot ∷ unnamed dot ∷ x_ (optional nought) ∷ x_ plus ∷ x_ star ∷ []
+patterns_in_order : sorted pattern_cmp (x_ star ∷ x_ plus ∷ x_ (optional nought) ∷ unnamed dot ∷ y_ dot ∷ x_ dot
+    ∷ unnamed (kind v) ∷ x_ (kind v) ∷ pattern f (x_ dot ∷ []) ∷ pattern f (a_pattern ∷ []) ∷ symbol_pattern (codes "b")
+    ∷ [])
+    ≡ symbol_pattern (codes "b") ∷ pattern f (a_pattern ∷ []) ∷ pattern f (x_ dot ∷ []) ∷ x_ (kind v) ∷ unnamed (kind v)
+    ∷ x_ dot ∷ y_ dot ∷ unnamed dot ∷ x_ (optional nought) ∷ x_ plus ∷ x_ star ∷ []
 patterns_in_order = refl
 
 -- applications that hold a wildcard: f(y_) before f(x_, x_), and that before set(x_)
@@ -75,7 +84,8 @@ a_dot_is_one_term : variable_form sig mixed (codes "z") ≡ one_form
 unfolding mixed
 a_dot_is_one_term = refl
 
-commutative_uses_make_a_multiset : variable_form sig (pattern set (pattern sum (x_ star ∷ []) ∷ x_ star ∷ [])) (codes "x") ≡ bag_form
+commutative_uses_make_a_multiset : variable_form sig (pattern set (pattern sum (x_ star ∷ []) ∷ x_ star ∷ []))
+    (codes "x") ≡ bag_form
 commutative_uses_make_a_multiset = refl
 
 -- MERGING
@@ -137,7 +147,8 @@ abc : Tree
 abc = term sum (a ∷ b ∷ c ∷ [])
 
 -- x takes a, and y takes b and c: x -> a, y -> sum(b, c)
-dot_takes_several : Fits sig two_dots abc (x→ (one a) ∷ y→ (one (term sum (b ∷ c ∷ []))) ∷ []) (entry (abc ∷ []) ∷ entry (a ∷ []) ∷ entry (b ∷ c ∷ []) ∷ [])
+dot_takes_several : Fits sig two_dots abc (x→ (one a) ∷ y→ (one (term sum (b ∷ c ∷ []))) ∷ [])
+    (entry (abc ∷ []) ∷ entry (a ∷ []) ∷ entry (b ∷ c ∷ []) ∷ [])
 unfolding two_dots abc
 dot_takes_several = record {
   subst_of = record { names = refl; forms = (refl, (refl, tt)); final = (refl, (refl, tt)) };
@@ -154,7 +165,9 @@ dot_takes_several = record {
 c_left_over : Table
 c_left_over = entry (abc ∷ []) ∷ entry (a ∷ []) ∷ entry (b ∷ []) ∷ []
 
-joined_takes : (s : Subst) (e : Entry) (ls : List (List Tree)) (Ts : List Table) → AllTakeBy sig (ByValue sig s) sum (patterns (x_ dot ∷ y_ dot ∷ [])) ls Ts → c_left_over ≡ e ∷ joined Ts → joined ls ≡ a ∷ b ∷ []
+joined_takes : (s : Subst) (e : Entry) (ls : List (List Tree)) (Ts : List Table)
+    → AllTakeBy sig (ByValue sig s) sum (patterns (x_ dot ∷ y_ dot ∷ [])) ls Ts → c_left_over ≡ e ∷ joined Ts
+    → joined ls ≡ a ∷ b ∷ []
 unfolding c_left_over abc
 joined_takes s e (l ∷ m ∷ []) (T ∷ U ∷ []) h q =
     let both : T ++ (U ++ []) ≡ entry l ∷ entry m ∷ [] = rw (h.0.1, h.1.0.1) refl in
@@ -178,12 +191,15 @@ left_over_term_does_not_fit : (s : Subst) → Fits sig two_dots abc s c_left_ove
 unfolding two_dots abc c_left_over first_collapsed
 left_over_term_does_not_fit s h =
     elim h.takes [
-      | inl t ↦ let wrong : abc ∷ [] ≡ term sum (a ∷ b ∷ []) ∷ [] = t.node ∙ ap (λ ts. term sum (sorted tree_cmp ts) ∷ []) (joined_takes s _ t.takes t.tables t.children t.table) in cc
+      | inl t ↦ let wrong : abc ∷ [] ≡ term sum (a ∷ b ∷ []) ∷ [] =
+          t.node ∙ ap (λ ts. term sum (sorted tree_cmp ts) ∷ [])
+          (joined_takes s _ t.takes t.tables t.children t.table) in cc
       | inr t ↦ let p : true ≡ false = sym (ap (first_collapsed false) t.table) in absurd (true≢false p)
     ]
 
 -- sum(x_, y_:0) on a, collapsed: x takes a and y is left out
-collapsed_round_an_optional : Fits sig (pattern sum (x_ dot ∷ y_ (optional nought) ∷ [])) a (x→ (one a) ∷ y→ (one nought) ∷ []) (collapsed_entry (a ∷ []) ∷ entry (a ∷ []) ∷ entry [] ∷ [])
+collapsed_round_an_optional : Fits sig (pattern sum (x_ dot ∷ y_ (optional nought) ∷ [])) a
+    (x→ (one a) ∷ y→ (one nought) ∷ []) (collapsed_entry (a ∷ []) ∷ entry (a ∷ []) ∷ entry [] ∷ [])
 collapsed_round_an_optional = record {
   subst_of = record { names = refl; forms = (refl, (refl, tt)); final = (refl, (refl, tt)) };
   takes = inr (record {
@@ -203,17 +219,20 @@ collapsed_round_an_optional = record {
 -- DERIVATION ORDER
 
 -- the first entry that differs decides: the shorter list is less, then the term order
-shorter_take_first : table_cmp (entry (a ∷ []) ∷ entry (b ∷ c ∷ []) ∷ []) (entry (a ∷ b ∷ []) ∷ entry (c ∷ []) ∷ []) ≡ Less
+shorter_take_first : table_cmp (entry (a ∷ []) ∷ entry (b ∷ c ∷ []) ∷ []) (entry (a ∷ b ∷ []) ∷ entry (c ∷ []) ∷ [])
+    ≡ Less
 shorter_take_first = refl
 
 term_order_next : table_cmp (entry (a ∷ []) ∷ entry (d ∷ []) ∷ []) (entry (b ∷ []) ∷ entry (c ∷ []) ∷ []) ≡ Less
 term_order_next = refl
 
-by_arguments_before_collapsed : table_cmp (entry (a ∷ []) ∷ entry (b ∷ []) ∷ []) (collapsed_entry (a ∷ []) ∷ entry (a ∷ []) ∷ []) ≡ Less
+by_arguments_before_collapsed : table_cmp (entry (a ∷ []) ∷ entry (b ∷ []) ∷ [])
+    (collapsed_entry (a ∷ []) ∷ entry (a ∷ []) ∷ []) ≡ Less
 by_arguments_before_collapsed = refl
 
 -- a node before its children: set(set(a, d), ..) comes before set(set(b, c), ..), whatever x takes within
-parent_decides_first : table_cmp (entry (term set (a ∷ d ∷ []) ∷ []) ∷ entry (d ∷ []) ∷ []) (entry (term set (b ∷ c ∷ []) ∷ []) ∷ entry (b ∷ []) ∷ []) ≡ Less
+parent_decides_first : table_cmp (entry (term set (a ∷ d ∷ []) ∷ []) ∷ entry (d ∷ []) ∷ [])
+    (entry (term set (b ∷ c ∷ []) ∷ []) ∷ entry (b ∷ []) ∷ []) ≡ Less
 parent_decides_first = refl
 
 -- substitutions compare variable by variable, a tuple by its length first
@@ -232,7 +251,8 @@ unfolding three
 multiset_beside_tuple_is_same = refl
 
 -- two tuples: equal as lists
-tuples_in_another_order_are_not_same : holds sig (x→ (seq (a ∷ b ∷ [])) ∷ y→ (seq (b ∷ a ∷ [])) ∷ []) (same (var (codes "x")) (var (codes "y"))) ≡ false
+tuples_in_another_order_are_not_same : holds sig (x→ (seq (a ∷ b ∷ [])) ∷ y→ (seq (b ∷ a ∷ [])) ∷ [])
+    (same (var (codes "x")) (var (codes "y"))) ≡ false
 tuples_in_another_order_are_not_same = refl
 
 -- a tuple of one term and the term
@@ -267,26 +287,34 @@ unfolding three
 tuple_is_not_less = refl
 
 -- count is the number of terms, size their nodes together
-two_terms_of_three_nodes : holds sig (x→ (seq (a ∷ term f (b ∷ []) ∷ [])) ∷ []) (all_of (conds (amounts (count (var (codes "x"))) Lt (fixed 3) ∷ amounts (size (var (codes "x"))) Ge (fixed 3) ∷ []))) ≡ true
+two_terms_of_three_nodes : holds sig (x→ (seq (a ∷ term f (b ∷ []) ∷ [])) ∷ [])
+    (all_of (conds (amounts (count (var (codes "x"))) Lt (fixed 3) ∷ amounts (size (var (codes "x"))) Ge (fixed 3)
+    ∷ []))) ≡ true
 two_terms_of_three_nodes = refl
 
-some_part_is_enough : holds sig three (any_of (conds (same (var (codes "z")) (ground b) ∷ negation (same (var (codes "z")) (ground b)) ∷ []))) ≡ true
+some_part_is_enough : holds sig three
+    (any_of (conds (same (var (codes "z")) (ground b) ∷ negation (same (var (codes "z")) (ground b)) ∷ []))) ≡ true
 unfolding three
 some_part_is_enough = refl
 
 -- INSTANCES
 
 -- sum($y, f($x), $z): the values of y and x are spliced in
-spliced : instances three (app_template sum (templates (variable_template (codes "y") ∷ app_template f (templates (variable_template (codes "x") ∷ [])) ∷ variable_template (codes "z") ∷ []))) ≡ term sum (a ∷ b ∷ term f (b ∷ a ∷ []) ∷ a ∷ []) ∷ []
+spliced : instances three
+    (app_template sum
+    (templates (variable_template (codes "y") ∷ app_template f (templates (variable_template (codes "x") ∷ []))
+    ∷ variable_template (codes "z") ∷ []))) ≡ term sum (a ∷ b ∷ term f (b ∷ a ∷ []) ∷ a ∷ []) ∷ []
 unfolding three
 spliced = refl
 
 -- and normalised
-spliced_and_normalised : normal sig (term sum (a ∷ b ∷ term f (b ∷ a ∷ []) ∷ a ∷ [])) ≡ term sum (a ∷ a ∷ b ∷ term f (b ∷ a ∷ []) ∷ [])
+spliced_and_normalised : normal sig (term sum (a ∷ b ∷ term f (b ∷ a ∷ []) ∷ a ∷ []))
+    ≡ term sum (a ∷ a ∷ b ∷ term f (b ∷ a ∷ []) ∷ [])
 spliced_and_normalised = refl
 
 -- sum(x_, y_) at x -> a, y -> sum(b, c), before normalising and after
-pattern_instance : pattern_instances (x→ (one a) ∷ y→ (one (term sum (b ∷ c ∷ []))) ∷ []) (pattern sum (x_ dot ∷ y_ dot ∷ [])) ≡ term sum (a ∷ term sum (b ∷ c ∷ []) ∷ []) ∷ []
+pattern_instance : pattern_instances (x→ (one a) ∷ y→ (one (term sum (b ∷ c ∷ []))) ∷ [])
+    (pattern sum (x_ dot ∷ y_ dot ∷ [])) ≡ term sum (a ∷ term sum (b ∷ c ∷ []) ∷ []) ∷ []
 pattern_instance = refl
 
 pattern_instance_is_the_subject : normal sig (term sum (a ∷ term sum (b ∷ c ∷ []) ∷ [])) ≡ term sum (a ∷ b ∷ c ∷ [])

@@ -10,9 +10,11 @@ use Rattle.mp_term.specs.Sorting.{sorted}
 use Rattle.mp_term.specs.Signature.{Sig, is_assoc, is_comm, is_one}
 use Rattle.mp_term.specs.Normal as term
 use Rattle.mp_term.specs.Normal.{normal, normals}
-use Rattle.mp_pattern.specs.PatternTree.{Pattern, symbol_pattern, app_pattern, wild_pattern, Patterns, no_patterns, more_patterns, pattern_list, patterns}
+use Rattle.mp_pattern.specs.PatternTree.{Pattern, symbol_pattern, app_pattern, wild_pattern, Patterns, no_patterns}
+use Rattle.mp_pattern.specs.PatternTree.{more_patterns, pattern_list, patterns}
 use Rattle.mp_pattern.specs.Order.{is_ground, all_ground, pattern_cmp, patterns_cmp}
-use Rattle.mp_pattern.specs.Normal.{is_loose, unwrapped, parts, flattened, in_order, collapsed, normal_pattern, normal_patterns}
+use Rattle.mp_pattern.specs.Normal.{is_loose, unwrapped, parts, flattened, in_order, collapsed, normal_pattern}
+use Rattle.mp_pattern.specs.Normal.{normal_patterns}
 use Rattle.mp_pattern.specs.Ground.{term_pattern, term_patterns}
 use Rattle.mp_pattern.proofs.SortedLaws.{sorted-map}
 
@@ -53,13 +55,20 @@ mutual
   pattern_cmp-term_pattern (symbol m) (app g us) = refl
   pattern_cmp-term_pattern (app f ts) (symbol n) = refl
   pattern_cmp-term_pattern (app f ts) (app g us) =
-      rw (all_ground-term_patterns ts, all_ground-term_patterns us, length-term_patterns ts, length-term_patterns us, patterns_cmp-term_patterns ts us) refl
+      rw (
+        all_ground-term_patterns ts,
+        all_ground-term_patterns us,
+        length-term_patterns ts,
+        length-term_patterns us,
+        patterns_cmp-term_patterns ts us,
+      ) refl
 
   patterns_cmp-term_patterns : (ts us : Trees) → patterns_cmp (term_patterns ts) (term_patterns us) ≡ trees_cmp ts us
   patterns_cmp-term_patterns no_trees no_trees = refl
   patterns_cmp-term_patterns no_trees (more_trees u us) = refl
   patterns_cmp-term_patterns (more_trees t ts) no_trees = refl
-  patterns_cmp-term_patterns (more_trees t ts) (more_trees u us) = rw (pattern_cmp-term_pattern t u, patterns_cmp-term_patterns ts us) refl
+  patterns_cmp-term_patterns (more_trees t ts) (more_trees u us) =
+      rw (pattern_cmp-term_pattern t u, patterns_cmp-term_patterns ts us) refl
 
 pattern_list-term_patterns : (ts : Trees) → pattern_list (term_patterns ts) ≡ map term_pattern (tree_list ts)
 pattern_list-term_patterns no_trees = refl
@@ -76,7 +85,8 @@ is_loose-term_pattern (app f ts) = refl
 unwrapped-term_pattern : (f : ℕ) (t : Tree) → unwrapped f (term_pattern t) ≡ map term_pattern (term.unwrapped f t)
 unwrapped-term_pattern f (symbol n) = refl
 unwrapped-term_pattern f (app g ts) =
-    elim (nat_eq f g) as (λ b. (if b then pattern_list (term_patterns ts) else (term_pattern (app g ts) ∷ [])) ≡ map term_pattern (if b then tree_list ts else (app g ts ∷ []))) [
+    elim (nat_eq f g) as (λ b. (if b then pattern_list (term_patterns ts) else (term_pattern (app g ts) ∷ []))
+    ≡ map term_pattern (if b then tree_list ts else (app g ts ∷ []))) [
       | true ↦ pattern_list-term_patterns ts
       | false ↦ refl
     ]
@@ -84,27 +94,36 @@ unwrapped-term_pattern f (app g ts) =
 module _ (sig : Sig) where
   parts-term_pattern : (f : ℕ) (t : Tree) → parts sig f (term_pattern t) ≡ map term_pattern (term.parts sig f t)
   parts-term_pattern f t =
-      elim (is_assoc sig f) as (λ b. (if b then unwrapped f (term_pattern t) else (term_pattern t ∷ [])) ≡ map term_pattern (if b then term.unwrapped f t else (t ∷ []))) [
+      elim (is_assoc sig f) as (λ b. (if b then unwrapped f (term_pattern t) else (term_pattern t ∷ []))
+      ≡ map term_pattern (if b then term.unwrapped f t else (t ∷ []))) [
         | true ↦ unwrapped-term_pattern f t
         | false ↦ refl
       ]
 
-  flattened-map : (f : ℕ) (ts : List Tree) → flattened sig f (map term_pattern ts) ≡ map term_pattern (term.flattened sig f ts)
+  flattened-map : (f : ℕ) (ts : List Tree) → flattened sig f (map term_pattern ts)
+      ≡ map term_pattern (term.flattened sig f ts)
   flattened-map f [] = refl
   flattened-map f (t ∷ ts) =
-      (λ i. parts-term_pattern f t i ++ flattened-map f ts i) ∙ sym (map-append term_pattern (term.parts sig f t) (term.flattened sig f ts))
+      (λ i. parts-term_pattern f t i ++ flattened-map f ts i)
+      ∙ sym (map-append term_pattern (term.parts sig f t) (term.flattened sig f ts))
 
-  in_order-map : (f : ℕ) (ts : List Tree) → in_order sig f (map term_pattern ts) ≡ map term_pattern (term.in_order sig f ts)
+  in_order-map : (f : ℕ) (ts : List Tree) → in_order sig f (map term_pattern ts)
+      ≡ map term_pattern (term.in_order sig f ts)
   in_order-map f ts =
-      elim (is_comm sig f) as (λ b. (if b then sorted pattern_cmp (map term_pattern ts) else map term_pattern ts) ≡ map term_pattern (if b then sorted tree_cmp ts else ts)) [
+      elim (is_comm sig f) as (λ b. (if b then sorted pattern_cmp (map term_pattern ts) else map term_pattern ts)
+      ≡ map term_pattern (if b then sorted tree_cmp ts else ts)) [
         | true ↦ sorted-map term_pattern pattern_cmp tree_cmp pattern_cmp-term_pattern ts
         | false ↦ refl
       ]
 
-  collapsed-map : (f : ℕ) (ts : List Tree) → collapsed sig f (map term_pattern ts) ≡ term_pattern (term.collapsed sig f ts)
+  collapsed-map : (f : ℕ) (ts : List Tree) → collapsed sig f (map term_pattern ts)
+      ≡ term_pattern (term.collapsed sig f ts)
   collapsed-map f [] = refl
   collapsed-map f (t ∷ []) =
-      rw (is_loose-term_pattern t, and-true (is_one sig f)) (elim (is_one sig f) as (λ b. (if b then term_pattern t else app_pattern f (more_patterns (term_pattern t) no_patterns)) ≡ term_pattern (if b then t else app f (more_trees t no_trees))) [
+      rw (is_loose-term_pattern t, and-true (is_one sig f))
+      (elim (is_one sig f) as
+      (λ b. (if b then term_pattern t else app_pattern f (more_patterns (term_pattern t) no_patterns))
+      ≡ term_pattern (if b then t else app f (more_trees t no_trees))) [
         | true ↦ refl
         | false ↦ refl
       ])
@@ -119,6 +138,8 @@ module _ (sig : Sig) where
         ∙ ap (collapsed sig f) (in_order-map f (term.flattened sig f (normals sig ts)))
         ∙ collapsed-map f (term.in_order sig f (term.flattened sig f (normals sig ts)))
 
-    normal_patterns-term_patterns : (ts : Trees) → normal_patterns sig (term_patterns ts) ≡ map term_pattern (normals sig ts)
+    normal_patterns-term_patterns : (ts : Trees)
+        → normal_patterns sig (term_patterns ts) ≡ map term_pattern (normals sig ts)
     normal_patterns-term_patterns no_trees = refl
-    normal_patterns-term_patterns (more_trees t ts) = λ i. normal_pattern-term_pattern t i ∷ normal_patterns-term_patterns ts i
+    normal_patterns-term_patterns (more_trees t ts) =
+        λ i. normal_pattern-term_pattern t i ∷ normal_patterns-term_patterns ts i

@@ -12,4 +12,5 @@ greatest_depth-is [] = refl
 greatest_depth-is (p ∷ ps) = ap (max (pattern_depth p)) (greatest_depth-is ps)
 
 pub pattern_depth-normal_pattern : (sig : Sig) (p : Pattern) → pattern_depth (normal_pattern sig p) ≤ pattern_depth p
-pattern_depth-normal_pattern sig p = (within-normal sig max maxima pattern_depth 1 (λ f ps. ap (λ n. n + 1) (greatest_depth-is ps)) p).0
+pattern_depth-normal_pattern sig p =
+    (within-normal sig max maxima pattern_depth 1 (λ f ps. ap (λ n. n + 1) (greatest_depth-is ps)) p).0

@@ -12,19 +12,25 @@ use Rattle.mp_pattern.specs.PatternOrderLaws.{pattern_cmp_total, pattern_same}
 use Rattle.mp_pattern.specs.Normal.{parts, in_order, normal_pattern, normal_patterns}
 use Rattle.mp_pattern.proofs.SortedLaws.{all-sorted}
 
-pub normal_patterns-map : {X : Type 0} (sig : Sig) (f : X → Pattern) (xs : List X) → normal_patterns sig (patterns (map f xs)) ≡ map (λ x. normal_pattern sig (f x)) xs
+pub normal_patterns-map : {X : Type 0} (sig : Sig) (f : X → Pattern) (xs : List X)
+    → normal_patterns sig (patterns (map f xs)) ≡ map (λ x. normal_pattern sig (f x)) xs
 normal_patterns-map sig f [] = refl
 normal_patterns-map sig f (x ∷ xs) = ap (λ ps. normal_pattern sig (f x) ∷ ps) (normal_patterns-map sig f xs)
 
-pub parts_same : (sig : Sig) (f g : ℕ) (ps : List Pattern) → g ≡ f → is_assoc sig f ≡ true → parts sig f (app_pattern g (patterns ps)) ≡ ps
+pub parts_same : (sig : Sig) (f g : ℕ) (ps : List Pattern) → g ≡ f → is_assoc sig f ≡ true
+    → parts sig f (app_pattern g (patterns ps)) ≡ ps
 parts_same sig f g ps e a = rw (a, pattern_list-patterns ps, eq-eqb f g (sym e)) refl
 
-pub all-in_order : (P : Pattern → Type 0) (sig : Sig) (f : ℕ) (ps : List Pattern) → AllByRecursion P ps → AllByRecursion P (in_order sig f ps)
-all-in_order P sig f ps h = elim (is_comm sig f) as (λ b. AllByRecursion P (if b then sorted pattern_cmp ps else ps)) [ true ↦ all-sorted P pattern_cmp ps h | false ↦ h ]
+pub all-in_order : (P : Pattern → Type 0) (sig : Sig) (f : ℕ) (ps : List Pattern) → AllByRecursion P ps
+    → AllByRecursion P (in_order sig f ps)
+all-in_order P sig f ps h = elim (is_comm sig f) as (λ b. AllByRecursion P (if b then sorted pattern_cmp ps else ps))
+    [ true ↦ all-sorted P pattern_cmp ps h | false ↦ h ]
 
 pub in_order-in_order : (sig : Sig) (f : ℕ) (ps : List Pattern) → in_order sig f (in_order sig f ps) ≡ in_order sig f ps
 in_order-in_order sig f ps =
-    elim (is_comm sig f) as (λ b. (if b then sorted pattern_cmp (if b then sorted pattern_cmp ps else ps) else (if b then sorted pattern_cmp ps else ps)) ≡ (if b then sorted pattern_cmp ps else ps)) [
+    elim (is_comm sig f) as
+    (λ b. (if b then sorted pattern_cmp (if b then sorted pattern_cmp ps else ps) else
+    (if b then sorted pattern_cmp ps else ps)) ≡ (if b then sorted pattern_cmp ps else ps)) [
       | true ↦ sorted_again pattern_cmp pattern_cmp_total pattern_same ps
       | false ↦ refl
     ]

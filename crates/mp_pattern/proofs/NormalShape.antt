@@ -5,9 +5,11 @@ use Rattle.std.specs.List.{AllByRecursion}
 use Rattle.std.proofs.Math.Bool.{and-false}
 use Rattle.mp_term.specs.Signature.{Sig, is_assoc, is_one}
 use Rattle.mp_term.proofs.ListLaws.{all-append, all-flat_map}
-use Rattle.mp_pattern.specs.PatternTree.{Pattern, symbol_pattern, app_pattern, wild_pattern, Patterns, no_patterns, more_patterns, pattern_list, patterns}
+use Rattle.mp_pattern.specs.PatternTree.{Pattern, symbol_pattern, app_pattern, wild_pattern, Patterns, no_patterns}
+use Rattle.mp_pattern.specs.PatternTree.{more_patterns, pattern_list, patterns}
 use Rattle.mp_pattern.specs.PatternLists.{pattern_list-patterns}
-use Rattle.mp_pattern.specs.Normal.{is_loose, parts, flattened, in_order, collapsed, normal_pattern, normal_patterns, IsNormalPattern}
+use Rattle.mp_pattern.specs.Normal.{is_loose, parts, flattened, in_order, collapsed, normal_pattern, normal_patterns}
+use Rattle.mp_pattern.specs.Normal.{IsNormalPattern}
 use Rattle.mp_pattern.specs.Subpatterns.{subpatterns, all_subpatterns}
 use Rattle.mp_pattern.proofs.NormalLaws.{all-in_order, in_order-in_order}
 
@@ -26,7 +28,8 @@ module _ (sig : Sig) where
     -- the arguments of each application in p stay, stay in order, and don't collapse
     Stays : Pattern → Type 0
     Stays (symbol_pattern n) = ⊤
-    Stays (app_pattern f ps) = AllStay f ps × (in_order sig f (pattern_list ps) ≡ pattern_list ps) × (collapsed sig f (pattern_list ps) ≡ app_pattern f ps)
+    Stays (app_pattern f ps) = AllStay f ps × (in_order sig f (pattern_list ps) ≡ pattern_list ps)
+        × (collapsed sig f (pattern_list ps) ≡ app_pattern f ps)
     Stays (wild_pattern w x) = ⊤
 
     -- each argument of f stays, and isn't replaced
@@ -47,7 +50,8 @@ module _ (sig : Sig) where
   each_stays f (more_patterns p ps) h = (h.0, each_stays f ps h.1)
 
   -- an argument that isn't replaced is its own part
-  whole_part : (f : ℕ) (p : Pattern) (b : Bool) → is_assoc sig f ≡ b → (b && has_head f p) ≡ false → parts sig f p ≡ p ∷ []
+  whole_part : (f : ℕ) (p : Pattern) (b : Bool) → is_assoc sig f ≡ b → (b && has_head f p) ≡ false
+      → parts sig f p ≡ p ∷ []
   whole_part f (symbol_pattern n) true q e = rw q refl
   whole_part f (app_pattern g ps) true q e = rw (q, e) refl
   whole_part f (wild_pattern w x) true q e = rw q refl
@@ -56,10 +60,12 @@ module _ (sig : Sig) where
   alone : (f : ℕ) (p : Pattern) → Stays p → IsWhole f p → AllByRecursion (StaysUnder f) (parts sig f p)
   alone f p h e = subst (AllByRecursion (StaysUnder f)) (sym (whole_part f p (is_assoc sig f) refl e)) ((h, e), tt)
 
-  app_parts_stay : (f g : ℕ) (ps : Patterns) (b c : Bool) → is_assoc sig f ≡ b → nat_eq f g ≡ c → Stays (app_pattern g ps) → AllByRecursion (StaysUnder f) (parts sig f (app_pattern g ps))
+  app_parts_stay : (f g : ℕ) (ps : Patterns) (b c : Bool) → is_assoc sig f ≡ b → nat_eq f g ≡ c
+      → Stays (app_pattern g ps) → AllByRecursion (StaysUnder f) (parts sig f (app_pattern g ps))
   app_parts_stay f g ps true true q r h =
       let same : f ≡ g = eqb-true f g r in
-      let inner : AllByRecursion (StaysUnder f) (pattern_list ps) = each_stays f ps (subst (λ k. AllStay k ps) (sym same) h.0) in
+      let inner : AllByRecursion (StaysUnder f) (pattern_list ps) =
+      each_stays f ps (subst (λ k. AllStay k ps) (sym same) h.0) in
       rw (q, r) inner
   app_parts_stay f g ps true false q r h = alone f (app_pattern g ps) h (rw (q, r) refl)
   app_parts_stay f g ps false c q r h = alone f (app_pattern g ps) h (rw q refl)
@@ -70,18 +76,24 @@ module _ (sig : Sig) where
   parts_stay f (app_pattern g ps) h = app_parts_stay f g ps (is_assoc sig f) (nat_eq f g) refl refl h
   parts_stay f (wild_pattern w x) h = alone f (wild_pattern w x) h (and-false (is_assoc sig f))
 
-  one_stays : (f : ℕ) (p : Pattern) (b : Bool) → (is_one sig f && not (is_loose p)) ≡ b → in_order sig f (p ∷ []) ≡ p ∷ [] → StaysUnder f p → Stays (collapsed sig f (p ∷ []))
+  one_stays : (f : ℕ) (p : Pattern) (b : Bool) → (is_one sig f && not (is_loose p)) ≡ b
+      → in_order sig f (p ∷ []) ≡ p ∷ [] → StaysUnder f p → Stays (collapsed sig f (p ∷ []))
   one_stays f p true e h k = rw e k.0
   one_stays f p false e h k =
       let kept : collapsed sig f (p ∷ []) ≡ app_pattern f (more_patterns p no_patterns) = rw e refl in
       subst Stays (sym kept) ((k, tt), h, kept)
 
-  collapsed_stays : (f : ℕ) (ps : List Pattern) → in_order sig f ps ≡ ps → AllByRecursion (StaysUnder f) ps → Stays (collapsed sig f ps)
+  collapsed_stays : (f : ℕ) (ps : List Pattern) → in_order sig f ps ≡ ps → AllByRecursion (StaysUnder f) ps
+      → Stays (collapsed sig f ps)
   collapsed_stays f [] h k = (tt, h, refl)
   collapsed_stays f (p ∷ []) h k = one_stays f p (is_one sig f && not (is_loose p)) refl h k.0
   collapsed_stays f (p ∷ q ∷ ps) h k =
-      let same = pattern_list-patterns ps in
-      (all_stay f (p ∷ q ∷ ps) k, rw same h, ap (λ rs. app_pattern f (more_patterns p (more_patterns q (patterns rs)))) same)
+      let same = pattern_list-patterns ps in (
+        all_stay f (p ∷ q ∷ ps) k,
+        rw same h,
+        ap
+            (λ rs. app_pattern f (more_patterns p (more_patterns q (patterns rs)))) same,
+      )
 
   mutual
     -- a normal form stays
@@ -89,7 +101,10 @@ module _ (sig : Sig) where
     normal_stays (symbol_pattern n) = tt
     normal_stays (app_pattern f ps) =
         let l = flattened sig f (normal_patterns sig ps) in
-        collapsed_stays f (in_order sig f l) (in_order-in_order sig f l) (all-in_order (StaysUnder f) sig f l (all-flat_map (StaysUnder f) Stays (parts sig f) (parts_stay f) (normal_patterns sig ps) (normal_patterns_stay ps)))
+        collapsed_stays f (in_order sig f l) (in_order-in_order sig f l)
+        (all-in_order (StaysUnder f) sig f l
+        (all-flat_map (StaysUnder f) Stays (parts sig f) (parts_stay f) (normal_patterns sig ps)
+        (normal_patterns_stay ps)))
     normal_stays (wild_pattern w x) = tt
 
     normal_patterns_stay : (ps : Patterns) → AllByRecursion Stays (normal_patterns sig ps)
@@ -98,7 +113,8 @@ module _ (sig : Sig) where
 
   flattened_same : (f : ℕ) (ps : Patterns) → AllStay f ps → flattened sig f (pattern_list ps) ≡ pattern_list ps
   flattened_same f no_patterns h = refl
-  flattened_same f (more_patterns p ps) h = rw (whole_part f p (is_assoc sig f) refl h.0.1, flattened_same f ps h.1) refl
+  flattened_same f (more_patterns p ps) h =
+      rw (whole_part f p (is_assoc sig f) refl h.0.1, flattened_same f ps h.1) refl
 
   mutual
     -- a pattern that stays is its own normal form
@@ -119,12 +135,16 @@ module _ (sig : Sig) where
   mutual
     subpatterns_normal : (p : Pattern) → Stays p → AllByRecursion (IsNormalPattern sig) (subpatterns p)
     subpatterns_normal (symbol_pattern n) h = (refl, tt)
-    subpatterns_normal (app_pattern f ps) h = (normal_pattern-same (app_pattern f ps) h, all_subpatterns_normal f ps h.0)
+    subpatterns_normal (app_pattern f ps) h =
+        (normal_pattern-same (app_pattern f ps) h, all_subpatterns_normal f ps h.0)
     subpatterns_normal (wild_pattern w x) h = (refl, tt)
 
-    all_subpatterns_normal : (f : ℕ) (ps : Patterns) → AllStay f ps → AllByRecursion (IsNormalPattern sig) (all_subpatterns ps)
+    all_subpatterns_normal : (f : ℕ) (ps : Patterns) → AllStay f ps
+        → AllByRecursion (IsNormalPattern sig) (all_subpatterns ps)
     all_subpatterns_normal f no_patterns h = tt
-    all_subpatterns_normal f (more_patterns p ps) h = all-append (IsNormalPattern sig) (subpatterns p) (all_subpatterns ps) (subpatterns_normal p h.0.0) (all_subpatterns_normal f ps h.1)
+    all_subpatterns_normal f (more_patterns p ps) h =
+        all-append (IsNormalPattern sig) (subpatterns p) (all_subpatterns ps) (subpatterns_normal p h.0.0)
+        (all_subpatterns_normal f ps h.1)
 
   -- the subpatterns of a normal pattern are normal
   pub all-subpatterns : (p : Pattern) → IsNormalPattern sig p → AllByRecursion (IsNormalPattern sig) (subpatterns p)

@@ -7,11 +7,13 @@ use Rattle.mp_pattern.specs.Clash.{first_clash}
 use Rattle.mp_pattern.specs.Plan.{symbol_label, app_label, wild_label, plan_of}
 use Rattle.mp_pattern.specs.declared.compile.PlanFault.TheVariants.{LooseSequence, TooManyNodes, TooManyVars}
 use Rattle.mp_pattern.specs.PlanFault.{plan_fault}
-use Rattle.mp_pattern.proofs.ExampleWords.{sig, f, set, list, sum, num, v, pattern, a, b, nought, a_pattern, x_, y_, z_, unnamed}
+use Rattle.mp_pattern.proofs.ExampleWords.{sig, f, set, list, sum, num, v, pattern, a, b, nought, a_pattern, x_, y_, z_}
+use Rattle.mp_pattern.proofs.ExampleWords.{unnamed}
 
 -- f(set(x__, y___), list(a, x__, _), z_v)
 mixed : Pattern
-mixed = pattern f (pattern set (x_ plus ∷ y_ star ∷ []) ∷ pattern list (a_pattern ∷ x_ plus ∷ unnamed dot ∷ []) ∷ z_ (kind v) ∷ [])
+mixed = pattern f (pattern set (x_ plus ∷ y_ star ∷ []) ∷ pattern list (a_pattern ∷ x_ plus ∷ unnamed dot ∷ [])
+    ∷ z_ (kind v) ∷ [])
 
 -- nine nodes and three variables: x is a tuple by its use under list, y a multiset, z one term
 plan_of_mixed : plan_of sig mixed ≡ record {
@@ -62,7 +64,8 @@ same_default_does_not_clash : first_clash (pattern f (x_ (optional a) ∷ x_ (op
 same_default_does_not_clash = refl
 
 -- wildcards without names, or of two variables, may differ
-other_variables_do_not_clash : first_clash (pattern f (unnamed dot ∷ unnamed plus ∷ x_ star ∷ y_ dot ∷ x_ star ∷ [])) ≡ None
+other_variables_do_not_clash : first_clash (pattern f (unnamed dot ∷ unnamed plus ∷ x_ star ∷ y_ dot ∷ x_ star ∷ []))
+    ≡ None
 other_variables_do_not_clash = refl
 
 -- x__ and x_:0 are loose, _ isn't

@@ -8,7 +8,8 @@ use Rattle.mp_term.specs.Sorting.{insert_sorted, sorted}
 use Rattle.mp_term.proofs.SortedMeasures.{joined_all}
 
 module _ {X : Type 0} (P : X → Type 0) where
-  all-insert_sorted : (cmp : X → X → Ordering) (x : X) (ys : List X) → P x → AllByRecursion P ys → AllByRecursion P (insert_sorted cmp x ys)
+  all-insert_sorted : (cmp : X → X → Ordering) (x : X) (ys : List X) → P x → AllByRecursion P ys
+      → AllByRecursion P (insert_sorted cmp x ys)
   all-insert_sorted cmp x [] h k = (h, tt)
   all-insert_sorted cmp x (y ∷ ys) h k =
       elim (is_gt (cmp x y)) as (λ b. AllByRecursion P (if b then y ∷ insert_sorted cmp x ys else (x ∷ y ∷ ys))) [
@@ -25,11 +26,15 @@ abbrev pub total : {X : Type 0} → (X → ℕ) → List X → ℕ
 total = joined_all ◌+◌
 
 -- where the orders of X and of Y agree on what f gives
-module _ {X Y : Type 0} (f : Y → X) (cmp : X → X → Ordering) (own : Y → Y → Ordering) (same : (y z : Y) → cmp (f y) (f z) ≡ own y z) where
+module _ {X Y : Type 0} (f : Y → X) (cmp : X → X → Ordering) (own : Y → Y → Ordering)
+    (same : (y z : Y) → cmp (f y) (f z) ≡ own y z) where
   insert_sorted-map : (y : Y) (zs : List Y) → insert_sorted cmp (f y) (map f zs) ≡ map f (insert_sorted own y zs)
   insert_sorted-map y [] = refl
   insert_sorted-map y (z ∷ zs) =
-      rw (same y z) (elim (is_gt (own y z)) as (λ b. (if b then f z ∷ insert_sorted cmp (f y) (map f zs) else (f y ∷ f z ∷ map f zs)) ≡ map f (if b then z ∷ insert_sorted own y zs else (y ∷ z ∷ zs))) [
+      rw (same y z)
+      (elim (is_gt (own y z)) as
+      (λ b. (if b then f z ∷ insert_sorted cmp (f y) (map f zs) else (f y ∷ f z ∷ map f zs))
+      ≡ map f (if b then z ∷ insert_sorted own y zs else (y ∷ z ∷ zs))) [
         | true ↦ ap (λ xs. f z ∷ xs) (insert_sorted-map y zs)
         | false ↦ refl
       ])

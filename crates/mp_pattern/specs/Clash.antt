@@ -1,5 +1,6 @@
 -- Wildcards of one variable that aren't the same.
-use Rattle.std.specs.Prelude.{ℕ, Bool, false, ◌&&◌, not, List, [], ◌∷◌, ◌++◌, length, nat_eq, Option, Some, None, if◌then◌else◌}
+use Rattle.std.specs.Prelude.{ℕ, Bool, false, ◌&&◌, not, List, [], ◌∷◌, ◌++◌, length, nat_eq, Option, Some, None}
+use Rattle.std.specs.Prelude.{if◌then◌else◌}
 use Rattle.std.specs.Ordering.{is_eq}
 use Rattle.std.specs.List.{list_any}
 use Rattle.mp_pattern.specs.PatternTree.{Wildcard, Pattern, wild_pattern}
@@ -19,7 +20,8 @@ clashes _ _ = false
 -- the place of the first pattern that clashes with one before it, where `before` stand in front of all
 abbrev pub first_clash_after : List Pattern → List Pattern → Option ℕ
 first_clash_after before [] = None
-first_clash_after before (p ∷ ps) = if list_any (λ q. clashes q p) before then Some (length before) else first_clash_after (before ++ p ∷ []) ps
+first_clash_after before (p ∷ ps) = if list_any (λ q. clashes q p) before then Some
+    (length before) else first_clash_after (before ++ p ∷ []) ps
 
 -- the number of the first node whose wildcard clashes with one before it
 abbrev pub first_clash : Pattern → Option ℕ

@@ -4,7 +4,8 @@ use Rattle.std.proofs.Common.{ap}
 use Rattle.std.specs.Coded.{Coded, code_by, coded×, coded_ℕ}
 use Rattle.mp_term.specs.Tree.{Tree, symbol, app, Trees, no_trees, more_trees}
 use Rattle.mp_term.specs.Code.{coded_tree}
-use Rattle.mp_pattern.specs.PatternTree.{Wildcard, dot, kind, plus, star, optional, Pattern, symbol_pattern, app_pattern, wild_pattern, Patterns, no_patterns, more_patterns}
+use Rattle.mp_pattern.specs.PatternTree.{Wildcard, dot, kind, plus, star, optional, Pattern, symbol_pattern}
+use Rattle.mp_pattern.specs.PatternTree.{app_pattern, wild_pattern, Patterns, no_patterns, more_patterns}
 use Rattle.mp_pattern.specs.Order.{class, wildcard_class}
 
 -- the variable of a wildcard
@@ -75,7 +76,8 @@ mutual
 
 -- the codes of wildcards and of patterns
 abbrev pub coded_wildcard : Coded Wildcard
-coded_wildcard = code_by (ℕ × Tree) (coded× coded_ℕ coded_tree) (λ w. (wildcard_class w, part_tree w)) (λ c. to_wildcard c.0 c.1) to_wildcard-part
+coded_wildcard = code_by (ℕ × Tree) (coded× coded_ℕ coded_tree) (λ w. (wildcard_class w, part_tree w))
+    (λ c. to_wildcard c.0 c.1) to_wildcard-part
 
 abbrev pub coded_pattern : Coded Pattern
 coded_pattern = code_by Tree coded_tree as_tree to_pattern to_pattern-as_tree

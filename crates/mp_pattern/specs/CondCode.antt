@@ -6,7 +6,8 @@ use Rattle.mp_term.specs.Tree.{Tree, symbol, app, Trees, no_trees, more_trees, t
 use Rattle.mp_term.specs.Code.{coded_tree}
 use Rattle.mp_pattern.specs.declared.condition.Sense.{Sense}
 use Rattle.mp_pattern.specs.declared.condition.Sense.TheVariants.{Lt, Le, Gt, Ge, Eq, Ne}
-use Rattle.mp_pattern.specs.CondTree.{Operand, var, ground, Amount, fixed, count, size, Cond, amounts, same, less, free, of_kind, headed, negation, all_of, any_of, Conds, no_conds, more_conds}
+use Rattle.mp_pattern.specs.CondTree.{Operand, var, ground, Amount, fixed, count, size, Cond, amounts, same, less, free}
+use Rattle.mp_pattern.specs.CondTree.{of_kind, headed, negation, all_of, any_of, Conds, no_conds, more_conds}
 
 -- a number as a symbol of one byte
 abbrev number_tree : ℕ → Tree

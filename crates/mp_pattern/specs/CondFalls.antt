@@ -3,7 +3,8 @@ use Rattle.std.specs.Prelude.{◌≤◌, max, List, [], ◌∷◌, map}
 use Rattle.std.proofs.Common.{arith}
 use denote.Param.Weighed.{most}
 use Rattle.mp_pattern.specs.declared.condition.Cond.{Cond}
-use Rattle.mp_pattern.specs.declared.condition.Cond.TheVariants.{Amounts, Same, Less, Free, OfKind, Headed, Not, All, Any}
+use Rattle.mp_pattern.specs.declared.condition.Cond.TheVariants.{Amounts, Same, Less, Free, OfKind, Headed, Not, All}
+use Rattle.mp_pattern.specs.declared.condition.Cond.TheVariants.{Any}
 use Rattle.mp_pattern.specs.declared.condition.BoxedCond.TheDeep.{deep-Cond}
 use Rattle.mp_pattern.specs.CondView.{cond_tree}
 use Rattle.mp_pattern.specs.CondSize.{cond_nodes, cond_list_nodes}

@@ -1,6 +1,7 @@
 -- How many nodes a condition has.
 use Rattle.std.specs.Prelude.{ℕ, ◌+◌, List}
-use Rattle.mp_pattern.specs.CondTree.{Cond, amounts, same, less, free, of_kind, headed, negation, all_of, any_of, Conds, no_conds, more_conds, conds}
+use Rattle.mp_pattern.specs.CondTree.{Cond, amounts, same, less, free, of_kind, headed, negation, all_of, any_of, Conds}
+use Rattle.mp_pattern.specs.CondTree.{no_conds, more_conds, conds}
 
 abbrev mutual
   -- its atoms, negations, conjunctions and disjunctions

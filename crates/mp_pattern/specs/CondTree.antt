@@ -15,7 +15,8 @@ pub data Amount : Type 0 where
   size : Operand → Amount
 
 mutual
-  -- an atom: two amounts compared, two operands that are the same, in order, or free of one another, an operand of a kind, or one headed by an operation; or a negation, a conjunction or a disjunction
+  -- an atom: two amounts compared, two operands that are the same, in order, or free of one another, an operand of a
+  -- kind, or one headed by an operation; or a negation, a conjunction or a disjunction
   pub data Cond : Type 0 where
     amounts : Amount → Sense → Amount → Cond
     same : Operand → Operand → Cond

@@ -7,7 +7,8 @@ use Rattle.mp_pattern.specs.declared.condition.Operand.TheVariants.{Var, Ground}
 use Rattle.mp_pattern.specs.declared.condition.Amount.{Amount}
 use Rattle.mp_pattern.specs.declared.condition.Amount.TheVariants.{Fixed, Count, Size}
 use Rattle.mp_pattern.specs.declared.condition.Cond.{Cond}
-use Rattle.mp_pattern.specs.declared.condition.Cond.TheVariants.{Amounts, Same, Less, Free, OfKind, Headed, Not, All, Any}
+use Rattle.mp_pattern.specs.declared.condition.Cond.TheVariants.{Amounts, Same, Less, Free, OfKind, Headed, Not, All}
+use Rattle.mp_pattern.specs.declared.condition.Cond.TheVariants.{Any}
 
 -- an operand with the tree of its term
 abbrev pub operand : Operand → plain.Operand

@@ -9,7 +9,8 @@ if_several [] = None
 if_several (t ∷ []) = None
 if_several (t ∷ u ∷ ts) = Some (t ∷ u ∷ ts)
 
--- under an associative f: the arguments of a term that is headed by f, of which there must be two or more, and else the term alone
+-- under an associative f: the arguments of a term that is headed by f, of which there must be two or more, and else the
+-- term alone
 abbrev pub spread : ℕ → Tree → Option (List Tree)
 spread f (symbol n) = Some (symbol n ∷ [])
 spread f (app g ts) = if nat_eq f g then if_several (tree_list ts) else Some (app g ts ∷ [])

@@ -1,7 +1,8 @@
 -- How deep a pattern is, with its defaults.
 use Rattle.std.specs.Prelude.{ℕ, ◌+◌, max}
 use Rattle.mp_term.specs.Size.{depth}
-use Rattle.mp_pattern.specs.PatternTree.{Wildcard, optional, Pattern, symbol_pattern, app_pattern, wild_pattern, Patterns, no_patterns, more_patterns}
+use Rattle.mp_pattern.specs.PatternTree.{Wildcard, optional, Pattern, symbol_pattern, app_pattern, wild_pattern}
+use Rattle.mp_pattern.specs.PatternTree.{Patterns, no_patterns, more_patterns}
 
 -- an optional wildcard is as deep as its default, and any other has the depth 0
 abbrev pub wildcard_depth : Wildcard → ℕ

@@ -7,4 +7,5 @@ use Rattle.mp_pattern.specs.Fits.{Entry}
 
 -- the code of entries
 abbrev pub coded_entry : Coded Entry
-coded_entry = code_by (List Tree × Bool) (coded× (coded_list coded_tree) coded_bool) (λ e. (e.terms, e.collapsed)) (λ p. record { terms = p.0; collapsed = p.1 }) (λ _. refl)
+coded_entry = code_by (List Tree × Bool) (coded× (coded_list coded_tree) coded_bool) (λ e. (e.terms, e.collapsed))
+    (λ p. record { terms = p.0; collapsed = p.1 }) (λ _. refl)

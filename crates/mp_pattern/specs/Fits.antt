@@ -1,11 +1,14 @@
 -- When a take table fits a pattern, a subject and a substitution.
-use Rattle.std.specs.Prelude.{◌≡◌, ◌⊎◌, ℕ, Bool, true, false, ◌&&◌, ◌||◌, not, List, [], ◌∷◌, flat_map, Option, Some, None, ⊤, if◌then◌else◌}
+use Rattle.std.specs.Prelude.{◌≡◌, ◌⊎◌, ℕ, Bool, true, false, ◌&&◌, ◌||◌, not, List, [], ◌∷◌, flat_map, Option, Some}
+use Rattle.std.specs.Prelude.{None, ⊤, if◌then◌else◌}
 use Rattle.mp_term.specs.Tree.{Tree, symbol, app, trees}
 use Rattle.mp_term.specs.Order.{tree_cmp}
 use Rattle.mp_term.specs.Sorting.{sorted}
 use Rattle.mp_term.specs.Signature.{Sig, is_one, in_kind}
 use Rattle.mp_term.specs.Normal.{IsNormal}
-use Rattle.mp_pattern.specs.PatternTree.{Wildcard, dot, kind, plus, star, optional, is_sequence, Pattern, symbol_pattern, app_pattern, wild_pattern, Patterns, no_patterns, more_patterns}
+use Rattle.mp_pattern.specs.PatternTree.{Wildcard, dot, kind, plus, star, optional, is_sequence, Pattern}
+use Rattle.mp_pattern.specs.PatternTree.{symbol_pattern, app_pattern, wild_pattern, Patterns, no_patterns}
+use Rattle.mp_pattern.specs.PatternTree.{more_patterns}
 use Rattle.mp_pattern.specs.Value.{Value, one, seq, bag, Subst, value_of}
 use Rattle.mp_pattern.specs.Variables.{IsSubstOf, comm_above}
 use Rattle.mp_pattern.specs.Contribution.{contribution}
@@ -67,8 +70,10 @@ module _ (sig : Sig) where
   UnnamedTakes f star l = arranged f l ≡ l
   UnnamedTakes f (optional d) l = IsContributed f l ⊎ (l ≡ [])
 
-  -- an application of g to what its children take together; `fit` says that the children fit with the takes and the tables
-  pub record ByArguments (g : ℕ) (l : List Tree) (T : Table) (fit : List (List Tree) → List Table → Type 0) : Type 0 where
+  -- an application of g to what its children take together; `fit` says that the children fit with the takes and the
+  -- tables
+  pub record ByArguments (g : ℕ) (l : List Tree) (T : Table)
+      (fit : List (List Tree) → List Table → Type 0) : Type 0 where
     pub takes : List (List Tree)
     pub tables : List Table
     pub children : fit takes tables
@@ -76,7 +81,8 @@ module _ (sig : Sig) where
     pub table : T ≡ record { terms = l; collapsed = false } ∷ joined tables
 
   -- an application of g that stands for the one term which its children take together
-  pub record Collapsed (g : ℕ) (ps : Patterns) (l : List Tree) (T : Table) (fit : List (List Tree) → List Table → Type 0) : Type 0 where
+  pub record Collapsed (g : ℕ) (ps : Patterns) (l : List Tree) (T : Table)
+      (fit : List (List Tree) → List Table → Type 0) : Type 0 where
     pub takes : List (List Tree)
     pub tables : List Table
     pub children : fit takes tables
@@ -100,7 +106,8 @@ module _ (sig : Sig) where
       pub TakesBy : Option ℕ → Pattern → List Tree → Table → Type 0
       TakesBy f (symbol_pattern n) l T = (l ≡ symbol n ∷ []) × (T ≡ record { terms = l; collapsed = false } ∷ [])
       TakesBy f (wild_pattern w x) l T = line f w x l × (T ≡ record { terms = l; collapsed = false } ∷ [])
-      TakesBy f (app_pattern g ps) l T = ByArguments g l T (λ ls Ts. AllTakeBy g ps ls Ts) ⊎ Collapsed g ps l T (λ ls Ts. AllTakeBy g ps ls Ts)
+      TakesBy f (app_pattern g ps) l T = ByArguments g l T (λ ls Ts. AllTakeBy g ps ls Ts)
+          ⊎ Collapsed g ps l T (λ ls Ts. AllTakeBy g ps ls Ts)
 
       -- each child of g takes its list, with its table
       pub AllTakeBy : ℕ → Patterns → List (List Tree) → List Table → Type 0

@@ -1,5 +1,6 @@
 -- When a condition holds of a substitution.
-use Rattle.std.specs.Prelude.{ℕ, Bool, true, false, ◌&&◌, ◌||◌, not, List, [], length, sum_by, Option, Some, None, nat_eq, nat_lt, nat_le, if◌then◌else◌}
+use Rattle.std.specs.Prelude.{ℕ, Bool, true, false, ◌&&◌, ◌||◌, not, List, [], length, sum_by, Option, Some, None}
+use Rattle.std.specs.Prelude.{nat_eq, nat_lt, nat_le, if◌then◌else◌}
 use Rattle.std.specs.Ordering.{is_lt, eq_by_cmp}
 use Rattle.std.specs.List.{list_any}
 use Rattle.mp_term.specs.Tree.{Tree, symbol, app, Trees, no_trees, more_trees}
@@ -10,7 +11,8 @@ use Rattle.mp_term.specs.Signature.{Sig, in_kind}
 use Rattle.mp_term.specs.NormalTest.{has_head}
 use Rattle.mp_pattern.specs.declared.condition.Sense.{Sense}
 use Rattle.mp_pattern.specs.declared.condition.Sense.TheVariants.{Lt, Le, Gt, Ge, Eq, Ne}
-use Rattle.mp_pattern.specs.CondTree.{Operand, var, ground, Amount, fixed, count, size, Cond, amounts, same, less, free, of_kind, headed, negation, all_of, any_of, Conds, no_conds, more_conds}
+use Rattle.mp_pattern.specs.CondTree.{Operand, var, ground, Amount, fixed, count, size, Cond, amounts, same, less, free}
+use Rattle.mp_pattern.specs.CondTree.{of_kind, headed, negation, all_of, any_of, Conds, no_conds, more_conds}
 use Rattle.mp_pattern.specs.Value.{Value, one, bag, terms_of, Subst, value_of, same_terms}
 
 -- the value of an operand: that of the variable, or the ground term
@@ -76,7 +78,9 @@ module _ (sig : Sig) (s : Subst) where
     -- the condition holds of s: each atom by its kind, and the connectives as usual
     pub holds : Cond → Bool
     holds (amounts m c n) = compares c (amount_of s m) (amount_of s n)
-    holds (same a b) = if is_bag (value_at s a) || is_bag (value_at s b) then same_terms (sorted tree_cmp (list_of s a)) (sorted tree_cmp (list_of s b)) else same_terms (list_of s a) (list_of s b)
+    holds (same a b) = if is_bag (value_at s a)
+        || is_bag (value_at s b) then same_terms (sorted tree_cmp (list_of s a))
+        (sorted tree_cmp (list_of s b)) else same_terms (list_of s a) (list_of s b)
     holds (less a b) = comes_before (value_at s a) (value_at s b)
     holds (free a b) = every (λ t. every (λ u. not (occurs t u)) (list_of s b)) (list_of s a)
     holds (of_kind a k) = every (in_kind sig k) (list_of s a)

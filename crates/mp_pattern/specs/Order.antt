@@ -5,7 +5,8 @@ use Rattle.std.specs.declared.cmp.Ordering.TheVariants.{Less, Equal, Greater}
 use Rattle.std.specs.Ordering.{ordering_then, nat_cmp}
 use Rattle.std.specs.Cmp.Lexicographic.{slice_cmp}
 use Rattle.mp_term.specs.Order.{tree_cmp}
-use Rattle.mp_pattern.specs.PatternTree.{Wildcard, dot, kind, plus, star, optional, Pattern, symbol_pattern, app_pattern, wild_pattern, Patterns, no_patterns, more_patterns, pattern_list}
+use Rattle.mp_pattern.specs.PatternTree.{Wildcard, dot, kind, plus, star, optional, Pattern, symbol_pattern}
+use Rattle.mp_pattern.specs.PatternTree.{app_pattern, wild_pattern, Patterns, no_patterns, more_patterns, pattern_list}
 
 abbrev mutual
   -- a pattern without a wildcard
@@ -47,17 +48,22 @@ wildcard_cmp (optional t) (optional u) = tree_cmp t u
 wildcard_cmp v w = Equal
 
 abbrev mutual
-  -- By class first. Within a class: symbols before applications, symbols by their bytes, applications by declaration number, number of arguments and arguments, and wildcards by variable, then by kind or default.
+  -- By class first. Within a class: symbols before applications, symbols by their bytes, applications by declaration
+  -- number, number of arguments and arguments, and wildcards by variable, then by kind or default.
   pub pattern_cmp : Pattern → Pattern → Ordering
   pattern_cmp (symbol_pattern m) (symbol_pattern n) = slice_cmp nat_cmp m n
   pattern_cmp (symbol_pattern m) (app_pattern g qs) = Less
   pattern_cmp (symbol_pattern m) (wild_pattern w y) = Less
   pattern_cmp (app_pattern f ps) (symbol_pattern n) = Greater
-  pattern_cmp (app_pattern f ps) (app_pattern g qs) = ordering_then (nat_cmp (class (app_pattern f ps)) (class (app_pattern g qs))) (ordering_then (nat_cmp f g) (ordering_then (nat_cmp (length (pattern_list ps)) (length (pattern_list qs))) (patterns_cmp ps qs)))
+  pattern_cmp (app_pattern f ps) (app_pattern g qs) =
+      ordering_then (nat_cmp (class (app_pattern f ps)) (class (app_pattern g qs)))
+      (ordering_then (nat_cmp f g) (ordering_then (nat_cmp (length (pattern_list ps)) (length (pattern_list qs)))
+      (patterns_cmp ps qs)))
   pattern_cmp (app_pattern f ps) (wild_pattern w y) = Less
   pattern_cmp (wild_pattern v x) (symbol_pattern n) = Greater
   pattern_cmp (wild_pattern v x) (app_pattern g qs) = Greater
-  pattern_cmp (wild_pattern v x) (wild_pattern w y) = ordering_then (nat_cmp (wildcard_class v) (wildcard_class w)) (ordering_then (name_cmp x y) (wildcard_cmp v w))
+  pattern_cmp (wild_pattern v x) (wild_pattern w y) =
+      ordering_then (nat_cmp (wildcard_class v) (wildcard_class w)) (ordering_then (name_cmp x y) (wildcard_cmp v w))
 
   -- pattern by pattern from the left: `slice_cmp pattern_cmp`
   pub patterns_cmp : Patterns → Patterns → Ordering

@@ -9,18 +9,22 @@ use Rattle.std.specs.Cmp.Lexicographic.{slice_cmp}
 use Rattle.mp_term.specs.Tree.{tree_list}
 use Rattle.mp_term.specs.Order.{tree_cmp, trees_cmp, shortlex}
 use Rattle.mp_term.specs.OrderLaws.{ordering_then-equal, keyed_total, tree_cmp_total, tree_same}
-use Rattle.mp_pattern.specs.PatternTree.{Wildcard, dot, kind, plus, star, optional, Pattern, symbol_pattern, app_pattern, wild_pattern, Patterns, no_patterns, more_patterns, pattern_list, patterns}
+use Rattle.mp_pattern.specs.PatternTree.{Wildcard, dot, kind, plus, star, optional, Pattern, symbol_pattern}
+use Rattle.mp_pattern.specs.PatternTree.{app_pattern, wild_pattern, Patterns, no_patterns, more_patterns, pattern_list}
+use Rattle.mp_pattern.specs.PatternTree.{patterns}
 use Rattle.mp_pattern.specs.PatternLists.{pattern_list-patterns}
 use Rattle.mp_pattern.specs.Order.{all_ground, class, wildcard_class, name_cmp, pattern_cmp, patterns_cmp}
 use Rattle.mp_pattern.specs.Code.{name_tree, as_tree, as_trees, to_pattern, to_pattern-as_tree}
 
 -- an application comes before a wildcard, and a wildcard after an application
-before_wildcard : (ground : Bool) (w : Wildcard) (o : Ordering) → Less ≡ ordering_then (nat_cmp (if ground then 0 else 1) (wildcard_class w)) o
+before_wildcard : (ground : Bool) (w : Wildcard) (o : Ordering)
+    → Less ≡ ordering_then (nat_cmp (if ground then 0 else 1) (wildcard_class w)) o
 before_wildcard true dot o = refl
 before_wildcard false dot o = refl
 before_wildcard b w o = refl
 
-after_application : (ground : Bool) (w : Wildcard) (o : Ordering) → Greater ≡ ordering_then (nat_cmp (wildcard_class w) (if ground then 0 else 1)) o
+after_application : (ground : Bool) (w : Wildcard) (o : Ordering)
+    → Greater ≡ ordering_then (nat_cmp (wildcard_class w) (if ground then 0 else 1)) o
 after_application true dot o = refl
 after_application false dot o = refl
 after_application b w o = refl
@@ -31,8 +35,10 @@ name_by_tree None None = refl
 name_by_tree x y = refl
 
 wild_by_tree : (v : Wildcard) (x : Option (List ℕ)) (w : Wildcard) (y : Option (List ℕ))
-    → pattern_cmp (wild_pattern v x) (wild_pattern w y) ≡ tree_cmp (as_tree (wild_pattern v x)) (as_tree (wild_pattern w y))
-wild_by_tree (kind k) x (kind l) y = rw (name_by_tree x y, ordering_then-equal (nat_cmp k l), ordering_then-equal (nat_cmp k l)) refl
+    → pattern_cmp (wild_pattern v x) (wild_pattern w y)
+    ≡ tree_cmp (as_tree (wild_pattern v x)) (as_tree (wild_pattern w y))
+wild_by_tree (kind k) x (kind l) y =
+    rw (name_by_tree x y, ordering_then-equal (nat_cmp k l), ordering_then-equal (nat_cmp k l)) refl
 wild_by_tree (optional t) x (optional u) y = rw (name_by_tree x y, ordering_then-equal (tree_cmp t u)) refl
 wild_by_tree dot x dot y = rw (name_by_tree x y) refl
 wild_by_tree plus x plus y = rw (name_by_tree x y) refl
@@ -56,7 +62,8 @@ mutual
         length-as_trees ps,
         length-as_trees qs,
         all_by_tree ps qs,
-        ordering_then-equal (ordering_then (nat_cmp f g) (ordering_then longer (trees_cmp (as_trees ps) (as_trees qs)))),
+        ordering_then-equal
+            (ordering_then (nat_cmp f g) (ordering_then longer (trees_cmp (as_trees ps) (as_trees qs)))),
       ) refl
   by_tree (app_pattern f ps) (wild_pattern w y) = before_wildcard (all_ground ps) w _
   by_tree (wild_pattern v x) (symbol_pattern n) = refl
@@ -79,14 +86,18 @@ pattern_same p q e =
     sym (to_pattern-as_tree p) ∙ ap to_pattern same ∙ to_pattern-as_tree q
 
 -- pattern by pattern is `slice_cmp`
-pub patterns_cmp-patterns : (ps qs : List Pattern) → patterns_cmp (patterns ps) (patterns qs) ≡ slice_cmp pattern_cmp ps qs
+pub patterns_cmp-patterns : (ps qs : List Pattern)
+    → patterns_cmp (patterns ps) (patterns qs) ≡ slice_cmp pattern_cmp ps qs
 patterns_cmp-patterns [] [] = refl
 patterns_cmp-patterns [] (q ∷ qs) = refl
 patterns_cmp-patterns (p ∷ ps) [] = refl
 patterns_cmp-patterns (p ∷ ps) (q ∷ qs) = ap (ordering_then (pattern_cmp p q)) (patterns_cmp-patterns ps qs)
 
 -- two applications, with their arguments as lists
-pub app_pattern_cmp : (f g : ℕ) (ps qs : List Pattern) → pattern_cmp (app_pattern f (patterns ps)) (app_pattern g (patterns qs)) ≡ ordering_then (nat_cmp (class (app_pattern f (patterns ps))) (class (app_pattern g (patterns qs)))) (ordering_then (nat_cmp f g) (shortlex pattern_cmp ps qs))
+pub app_pattern_cmp : (f g : ℕ) (ps qs : List Pattern)
+    → pattern_cmp (app_pattern f (patterns ps)) (app_pattern g (patterns qs))
+    ≡ ordering_then (nat_cmp (class (app_pattern f (patterns ps))) (class (app_pattern g (patterns qs))))
+    (ordering_then (nat_cmp f g) (shortlex pattern_cmp ps qs))
 app_pattern_cmp f g ps qs = rw (pattern_list-patterns ps, pattern_list-patterns qs, patterns_cmp-patterns ps qs) refl
 
 after_equal : (a b c : Ordering) → ordering_then a b ≡ Equal → ordering_then a (ordering_then b c) ≡ c
@@ -97,5 +108,9 @@ after_equal Equal Greater c e = cc
 after_equal Greater b c e = cc
 
 -- of one class and one operation
-pub app_pattern_cmp-same_head : (f g : ℕ) (ps qs : List Pattern) → ordering_then (nat_cmp (class (app_pattern f (patterns ps))) (class (app_pattern g (patterns qs)))) (nat_cmp f g) ≡ Equal → pattern_cmp (app_pattern f (patterns ps)) (app_pattern g (patterns qs)) ≡ shortlex pattern_cmp ps qs
-app_pattern_cmp-same_head f g ps qs e = app_pattern_cmp f g ps qs ∙ after_equal (nat_cmp (class (app_pattern f (patterns ps))) (class (app_pattern g (patterns qs)))) (nat_cmp f g) (shortlex pattern_cmp ps qs) e
+pub app_pattern_cmp-same_head : (f g : ℕ) (ps qs : List Pattern)
+    → ordering_then (nat_cmp (class (app_pattern f (patterns ps))) (class (app_pattern g (patterns qs)))) (nat_cmp f g)
+    ≡ Equal → pattern_cmp (app_pattern f (patterns ps)) (app_pattern g (patterns qs)) ≡ shortlex pattern_cmp ps qs
+app_pattern_cmp-same_head f g ps qs e = app_pattern_cmp f g ps qs
+    ∙ after_equal (nat_cmp (class (app_pattern f (patterns ps))) (class (app_pattern g (patterns qs)))) (nat_cmp f g)
+    (shortlex pattern_cmp ps qs) e

@@ -2,7 +2,8 @@
 use Rattle.std.specs.Prelude.{ℕ, nat_eq, Bool, true, false, ◌||◌, List, [], ◌∷◌, Option, Some, None, if◌then◌else◌}
 use Rattle.mp_term.specs.Tree.{Tree}
 
--- what a wildcard takes: one argument; one symbol of the kind; one argument or more; any number of them; one argument, or
+-- what a wildcard takes: one argument; one symbol of the kind; one argument or more; any number of them; one argument,
+-- or
 -- none and then its variable has the default
 pub data Wildcard : Type 0 where
   dot : Wildcard
@@ -23,7 +24,8 @@ least star = 0
 least (optional t) = 0
 least _ = 1
 
--- how many it takes at most, if there is a bound; under an associative operation one term may stand for several arguments
+-- how many it takes at most, if there is a bound; under an associative operation one term may stand for several
+-- arguments
 abbrev pub most : Bool → Wildcard → Option ℕ
 most assoc dot = if assoc then None else Some 1
 most assoc (kind k) = Some 1

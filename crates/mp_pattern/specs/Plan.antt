@@ -1,7 +1,8 @@
 -- Plans: a pattern with its nodes and its variables, each by its number.
 use Rattle.std.specs.Prelude.{◌≡◌, ℕ, ◌+◌, List, [], ◌∷◌, ◌++◌, map, position, Option, Some, None}
 use Rattle.mp_term.specs.Signature.{Sig}
-use Rattle.mp_pattern.specs.PatternTree.{Wildcard, Pattern, symbol_pattern, app_pattern, wild_pattern, Patterns, no_patterns, more_patterns}
+use Rattle.mp_pattern.specs.PatternTree.{Wildcard, Pattern, symbol_pattern, app_pattern, wild_pattern, Patterns}
+use Rattle.mp_pattern.specs.PatternTree.{no_patterns, more_patterns}
 use Rattle.mp_pattern.specs.Size.{pattern_nodes}
 use Rattle.mp_pattern.specs.Value.{Form, same_name}
 use Rattle.mp_pattern.specs.Variables.{variables, variable_form}
@@ -39,15 +40,24 @@ module _ (xs : List (List ℕ)) where
     -- the nodes of p in preorder, where the root has this parent and the number n, and the variables are xs
     pub nodes : Option ℕ → ℕ → Pattern → List Node
     nodes above n (symbol_pattern s) = record { label = symbol_label s; end = n + 1; parent = above } ∷ []
-    nodes above n (app_pattern f ps) = record { label = app_label f; end = n + pattern_nodes (app_pattern f ps); parent = above } ∷ all_nodes n (n + 1) ps
-    nodes above n (wild_pattern w x) = record { label = wild_label w (variable_number xs x); end = n + 1; parent = above } ∷ []
+    nodes above n (app_pattern f ps) = record {
+      label = app_label f;
+      end = n + pattern_nodes (app_pattern f ps);
+      parent = above;
+    } ∷ all_nodes n (n + 1) ps
+    nodes above n (wild_pattern w x) = record {
+      label = wild_label w (variable_number xs x);
+      end = n + 1;
+      parent = above;
+    } ∷ []
 
     -- those of the arguments of the node m, the first of which has the number n
     pub all_nodes : ℕ → ℕ → Patterns → List Node
     all_nodes m n no_patterns = []
     all_nodes m n (more_patterns p ps) = nodes (Some m) n p ++ all_nodes m (n + pattern_nodes p) ps
 
--- the pattern with its nodes in preorder from 0, and the variables in order of first occurrence, with their forms over the signature
+-- the pattern with its nodes in preorder from 0, and the variables in order of first occurrence, with their forms over
+-- the signature
 abbrev pub plan_of : Sig → Pattern → Plan
 plan_of sig p = record {
   pattern = p;

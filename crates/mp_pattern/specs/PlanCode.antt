@@ -46,16 +46,20 @@ label_from-label_parts (wild_label w x) = refl
 
 -- the codes of labels, nodes, forms and variables
 abbrev pub coded_label : Coded Label
-coded_label = code_by Labelled (coded⊎ (coded_list coded_ℕ) (coded⊎ coded_ℕ (coded× coded_wildcard (coded_option coded_ℕ)))) label_parts label_from label_from-label_parts
+coded_label =
+    code_by Labelled (coded⊎ (coded_list coded_ℕ) (coded⊎ coded_ℕ (coded× coded_wildcard (coded_option coded_ℕ))))
+    label_parts label_from label_from-label_parts
 
 abbrev pub coded_node : Coded Node
-coded_node = code_by (Label × (ℕ × Option ℕ)) (coded× coded_label (coded× coded_ℕ (coded_option coded_ℕ))) (λ n. (n.label, (n.end, n.parent))) (λ p. record { label = p.0; end = p.1.0; parent = p.1.1 }) (λ _. refl)
+coded_node = code_by (Label × (ℕ × Option ℕ)) (coded× coded_label (coded× coded_ℕ (coded_option coded_ℕ)))
+    (λ n. (n.label, (n.end, n.parent))) (λ p. record { label = p.0; end = p.1.0; parent = p.1.1 }) (λ _. refl)
 
 abbrev pub coded_form : Coded Form
 coded_form = code_by ℕ coded_ℕ form_number form_at form_at-form_number
 
 abbrev pub coded_variable : Coded Variable
-coded_variable = code_by (List ℕ × Form) (coded× (coded_list coded_ℕ) coded_form) (λ v. (v.name, v.form)) (λ p. record { name = p.0; form = p.1 }) (λ _. refl)
+coded_variable = code_by (List ℕ × Form) (coded× (coded_list coded_ℕ) coded_form) (λ v. (v.name, v.form))
+    (λ p. record { name = p.0; form = p.1 }) (λ _. refl)
 
 -- the code of plans
 abbrev pub coded_plan : Coded Plan

@@ -23,4 +23,8 @@ from_pieces p = record { name = p.0; pattern = p.1.0; template = p.1.1.0; condit
 
 -- the code of rules
 abbrev pub coded_rule : Coded Rule
-coded_rule = code_by Pieces (coded× (coded_list coded_ℕ) (coded× coded_pattern (coded× (coded_option coded_template) (coded_option coded_cond)))) pieces from_pieces (λ _. refl)
+coded_rule =
+    code_by Pieces
+    (coded× (coded_list coded_ℕ)
+    (coded× coded_pattern (coded× (coded_option coded_template) (coded_option coded_cond)))) pieces from_pieces
+    (λ _. refl)

@@ -8,4 +8,9 @@ use Rattle.mp_pattern.specs.declared.rule.Rule.{Rule}
 
 -- a rule with the trees of its pattern, its template and its condition
 abbrev pub rule_tree : Rule → plain.Rule
-rule_tree r = record { name = r.name; pattern = pattern_tree r.pattern; template = option_map template_tree r.template; condition = option_map cond_tree r.condition }
+rule_tree r = record {
+  name = r.name;
+  pattern = pattern_tree r.pattern;
+  template = option_map template_tree r.template;
+  condition = option_map cond_tree r.condition;
+}

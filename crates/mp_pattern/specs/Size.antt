@@ -1,6 +1,7 @@
 -- How many nodes a pattern has: the length of its take tables.
 use Rattle.std.specs.Prelude.{ℕ, ◌+◌, List}
-use Rattle.mp_pattern.specs.PatternTree.{Pattern, symbol_pattern, app_pattern, wild_pattern, Patterns, no_patterns, more_patterns, patterns}
+use Rattle.mp_pattern.specs.PatternTree.{Pattern, symbol_pattern, app_pattern, wild_pattern, Patterns, no_patterns}
+use Rattle.mp_pattern.specs.PatternTree.{more_patterns, patterns}
 
 abbrev mutual
   -- its symbols, applications and wildcards, a wildcard with its default being one node

@@ -3,7 +3,8 @@ use Rattle.std.specs.Prelude.{Bool, true, ◌&&◌, is_some, slice_get, ⊤}
 use Rattle.mp_term.specs.Signature.{Sig}
 use Rattle.mp_term.specs.Normal.{IsNormal}
 use Rattle.mp_pattern.specs.EachWildcard.{EachWildcard}
-use Rattle.mp_pattern.specs.PatternTree.{Wildcard, optional, Pattern, symbol_pattern, app_pattern, wild_pattern, Patterns, no_patterns, more_patterns}
+use Rattle.mp_pattern.specs.PatternTree.{Wildcard, optional, Pattern, symbol_pattern, app_pattern, wild_pattern}
+use Rattle.mp_pattern.specs.PatternTree.{Patterns, no_patterns, more_patterns}
 
 module _ (sig : Sig) where
   -- the default of an optional wildcard is normal

@@ -1,5 +1,6 @@
 -- What holds of rules that are sound over a signature: every check and every limit of a rule, said of plain trees.
-use Rattle.std.specs.Prelude.{◌≡◌, ◌≤◌, ℕ, ◌+◌, Bool, true, false, ◌&&◌, ◌||◌, not, nat_le, is_some, List, [], ◌∷◌, map, length, Option, Some, None, slice_get, ⊤}
+use Rattle.std.specs.Prelude.{◌≡◌, ◌≤◌, ℕ, ◌+◌, Bool, true, false, ◌&&◌, ◌||◌, not, nat_le, is_some, List, [], ◌∷◌, map}
+use Rattle.std.specs.Prelude.{length, Option, Some, None, slice_get, ⊤}
 use Rattle.std.specs.List.{AllByRecursion, list_any}
 use Rattle.mp_term.specs.declared.signature.OpDecl.{OpDecl}
 use Rattle.mp_term.specs.Tree.{Tree, symbol, app, Trees, no_trees, more_trees}
@@ -7,12 +8,16 @@ use Rattle.mp_term.specs.Size.{node_count}
 use Rattle.mp_term.specs.Names.{is_name, are_distinct}
 use Rattle.mp_term.specs.Signature.{Sig, holds_of, has_name, kind_names, well_formed}
 use Rattle.mp_term.specs.Normal.{IsNormal}
-use Rattle.mp_pattern.specs.PatternTree.{Wildcard, kind, optional, least, most, Pattern, symbol_pattern, app_pattern, wild_pattern, Patterns, no_patterns, more_patterns, pattern_list}
-use Rattle.mp_pattern.specs.CondTree.{Operand, var, ground, Amount, fixed, count, size, Cond, amounts, same, less, free, of_kind, headed, negation, all_of, any_of, Conds, no_conds, more_conds}
+use Rattle.mp_pattern.specs.PatternTree.{Wildcard, kind, optional, least, most, Pattern, symbol_pattern, app_pattern}
+use Rattle.mp_pattern.specs.PatternTree.{wild_pattern, Patterns, no_patterns, more_patterns, pattern_list}
+use Rattle.mp_pattern.specs.CondTree.{Operand, var, ground, Amount, fixed, count, size, Cond, amounts, same, less, free}
+use Rattle.mp_pattern.specs.CondTree.{of_kind, headed, negation, all_of, any_of, Conds, no_conds, more_conds}
 use Rattle.mp_pattern.specs.Normal.{is_loose, IsNormalPattern}
 use Rattle.mp_pattern.specs.Size.{pattern_nodes}
 use Rattle.mp_pattern.specs.Depth.{pattern_depth}
-use Rattle.mp_pattern.specs.declared.limits.TheConstants.{MAX_PATTERN_NODES, MAX_DEFAULT_NODES, MAX_VARIABLES, MAX_OPERAND_NODES, MAX_ATOMS, MAX_NUMBER, MAX_DEPTH, MAX_RULES}
+use Rattle.mp_pattern.specs.declared.limits.TheConstants.{MAX_PATTERN_NODES, MAX_DEFAULT_NODES, MAX_VARIABLES}
+use Rattle.mp_pattern.specs.declared.limits.TheConstants.{MAX_OPERAND_NODES, MAX_ATOMS, MAX_NUMBER, MAX_DEPTH}
+use Rattle.mp_pattern.specs.declared.limits.TheConstants.{MAX_RULES}
 use Rattle.mp_pattern.specs.Firsts.{is_known}
 use Rattle.mp_pattern.specs.Value.{same_name, one_form}
 use Rattle.mp_pattern.specs.Variables.{variables, variable_form}
@@ -124,10 +129,12 @@ module _ (sig : Sig) where
   IsVariable (Some x) = is_name x ≡ true
 
   abbrev mutual
-    -- each operation of a pattern is held and allows a number of arguments that its arguments may take, and each symbol and each wildcard is sound
+    -- each operation of a pattern is held and allows a number of arguments that its arguments may take, and each symbol
+    -- and each wildcard is sound
     pub IsFormed : Pattern → Type 0
     IsFormed (symbol_pattern n) = IsSymbol n
-    IsFormed (app_pattern f ps) = (holds_of (allows_patterns (pattern_list ps)) (slice_get sig.ops f) ≡ true) × AreFormed ps
+    IsFormed (app_pattern f ps) = (holds_of (allows_patterns (pattern_list ps)) (slice_get sig.ops f) ≡ true)
+        × AreFormed ps
     IsFormed (wild_pattern w x) = IsSoundWildcard w × IsVariable x
 
     -- so is each pattern of a list
@@ -135,7 +142,8 @@ module _ (sig : Sig) where
     AreFormed no_patterns = ⊤
     AreFormed (more_patterns p ps) = IsFormed p × AreFormed ps
 
-  -- the pattern of a rule: normal, with such operations, symbols and wildcards, no plus, star or optional wildcard, no two wildcards of one variable in it differ, and it is within its limits
+  -- the pattern of a rule: normal, with such operations, symbols and wildcards, no plus, star or optional wildcard, no
+  -- two wildcards of one variable in it differ, and it is within its limits
   pub record IsSoundPattern (p : Pattern) : Type 0 where
     pub normal : IsNormalPattern sig p
     pub formed : IsFormed p
@@ -163,7 +171,8 @@ module _ (sig : Sig) where
     IsSoundAmount (size a) = IsSoundOperand a
 
     abbrev mutual
-      -- a condition over the variables of the pattern: its operands and amounts are sound, those of `less` stand for one term, its kinds and operations are held, and each conjunction and disjunction is of several parts
+      -- a condition over the variables of the pattern: its operands and amounts are sound, those of `less` stand for
+      -- one term, its kinds and operations are held, and each conjunction and disjunction is of several parts
       pub IsChecked : Cond → Type 0
       IsChecked (amounts m c n) = IsSoundAmount m × IsSoundAmount n
       IsChecked (same a b) = IsSoundOperand a × IsSoundOperand b

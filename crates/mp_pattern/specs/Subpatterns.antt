@@ -1,6 +1,7 @@
 -- The parts of a pattern.
 use Rattle.std.specs.Prelude.{List, [], ◌∷◌, ◌++◌}
-use Rattle.mp_pattern.specs.PatternTree.{Pattern, symbol_pattern, app_pattern, wild_pattern, Patterns, no_patterns, more_patterns}
+use Rattle.mp_pattern.specs.PatternTree.{Pattern, symbol_pattern, app_pattern, wild_pattern, Patterns, no_patterns}
+use Rattle.mp_pattern.specs.PatternTree.{more_patterns}
 
 abbrev mutual
   -- the pattern and, for an application, those of its arguments, in preorder

@@ -1,7 +1,8 @@
 -- Syntactic patterns.
 use Rattle.std.specs.Prelude.{ℕ, Bool, true, ◌&&◌, not, slice_get}
 use Rattle.mp_term.specs.Signature.{Sig, holds_of}
-use Rattle.mp_pattern.specs.PatternTree.{Pattern, symbol_pattern, app_pattern, wild_pattern, Patterns, no_patterns, more_patterns}
+use Rattle.mp_pattern.specs.PatternTree.{Pattern, symbol_pattern, app_pattern, wild_pattern, Patterns, no_patterns}
+use Rattle.mp_pattern.specs.PatternTree.{more_patterns}
 use Rattle.mp_pattern.specs.Normal.{is_loose}
 
 module _ (sig : Sig) where

@@ -4,7 +4,8 @@ use Rattle.std.proofs.Common.{ap}
 use Rattle.std.specs.Coded.{Coded, code_by}
 use Rattle.mp_term.specs.Tree.{Tree, symbol, app, Trees, no_trees, more_trees}
 use Rattle.mp_term.specs.Code.{coded_tree}
-use Rattle.mp_pattern.specs.TemplateTree.{Template, symbol_template, app_template, variable_template, Templates, no_templates, more_templates}
+use Rattle.mp_pattern.specs.TemplateTree.{Template, symbol_template, app_template, variable_template, Templates}
+use Rattle.mp_pattern.specs.TemplateTree.{no_templates, more_templates}
 
 abbrev mutual
   -- a symbol, an application whose number is one greater, or an application of 0 to a variable
@@ -39,7 +40,8 @@ mutual
 
   to_templates-as_trees : (xs : Templates) → to_templates (as_trees xs) ≡ xs
   to_templates-as_trees no_templates = refl
-  to_templates-as_trees (more_templates x xs) = λ i. more_templates (to_template-as_tree x i) (to_templates-as_trees xs i)
+  to_templates-as_trees (more_templates x xs) =
+      λ i. more_templates (to_template-as_tree x i) (to_templates-as_trees xs i)
 
 -- the code of templates
 abbrev pub coded_template : Coded Template

@@ -1,6 +1,7 @@
 -- How many nodes a template has.
 use Rattle.std.specs.Prelude.{ℕ, ◌+◌, List}
-use Rattle.mp_pattern.specs.TemplateTree.{Template, symbol_template, app_template, variable_template, Templates, no_templates, more_templates, templates}
+use Rattle.mp_pattern.specs.TemplateTree.{Template, symbol_template, app_template, variable_template, Templates}
+use Rattle.mp_pattern.specs.TemplateTree.{no_templates, more_templates, templates}
 
 abbrev mutual
   -- its symbols, applications and variables

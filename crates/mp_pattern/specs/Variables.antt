@@ -1,8 +1,10 @@
 -- The variables of a pattern, and their forms.
-use Rattle.std.specs.Prelude.{◌≡◌, ℕ, Bool, true, false, ◌&&◌, not, List, [], ◌∷◌, ◌++◌, map, filter, Option, Some, None, if◌then◌else◌}
+use Rattle.std.specs.Prelude.{◌≡◌, ℕ, Bool, true, false, ◌&&◌, not, List, [], ◌∷◌, ◌++◌, map, filter, Option, Some}
+use Rattle.std.specs.Prelude.{None, if◌then◌else◌}
 use Rattle.std.specs.List.{AllByRecursion, list_any}
 use Rattle.mp_term.specs.Signature.{Sig, is_comm}
-use Rattle.mp_pattern.specs.PatternTree.{Wildcard, is_sequence, Pattern, symbol_pattern, app_pattern, wild_pattern, Patterns, no_patterns, more_patterns}
+use Rattle.mp_pattern.specs.PatternTree.{Wildcard, is_sequence, Pattern, symbol_pattern, app_pattern, wild_pattern}
+use Rattle.mp_pattern.specs.PatternTree.{Patterns, no_patterns, more_patterns}
 use Rattle.mp_pattern.specs.Firsts.{firsts_after}
 use Rattle.mp_pattern.specs.Value.{Form, one_form, seq_form, bag_form, form_of, IsFinal, Subst, same_name}
 
@@ -35,11 +37,13 @@ module _ (sig : Sig) where
   comm_above None = false
   comm_above (Some f) = is_comm sig f
 
-  -- a tuple where some sequence wildcard stands directly under an operation that isn't commutative, else a multiset where there is a sequence wildcard
+  -- a tuple where some sequence wildcard stands directly under an operation that isn't commutative, else a multiset
+  -- where there is a sequence wildcard
   abbrev pub form_among : List Use → List ℕ → Form
   form_among us x =
       let mine = filter (λ u. same_name x u.name && is_sequence u.wildcard) us in
-      if list_any (λ u. not (comm_above u.under)) mine then seq_form else (if list_any (λ _. true) mine then bag_form else one_form)
+      if list_any (λ u. not (comm_above u.under)) mine then seq_form else
+      (if list_any (λ _. true) mine then bag_form else one_form)
 
   -- the form of a variable of p
   abbrev pub variable_form : Pattern → List ℕ → Form

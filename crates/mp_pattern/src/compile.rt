@@ -1,5 +1,7 @@
 //! How a pattern becomes a plan.
-ghost use Rattle.std.specs.Prelude.{◌≡◌, ◌↔◌, ◌⊎◌, ◌+◌, ◌<◌, ◌≤◌, ◌++◌, ◌∷◌, ◌&&◌, ℕ, Some, None, true, not, [], map, filter, length, OnOk, IfOk, IfSome, IsOk, Err, position, option_map, nat_lt, if◌then◌else◌};
+ghost use Rattle.std.specs.Prelude.{◌≡◌, ◌↔◌, ◌⊎◌, ◌+◌, ◌<◌, ◌≤◌, ◌++◌, ◌∷◌, ◌&&◌, ℕ, Some, None, true, not, [], map};
+ghost use Rattle.std.specs.Prelude.{filter, length, OnOk, IfOk, IfSome, IsOk, Err, position, option_map, nat_lt};
+ghost use Rattle.std.specs.Prelude.{if◌then◌else◌};
 ghost use Rattle.std.specs.List.{list_any};
 ghost use Rattle.mp_pattern.specs.View.{pattern_tree, wildcard};
 ghost use Rattle.mp_pattern.specs.Size.{pattern_nodes};
@@ -93,7 +95,8 @@ fn variable_number(names: &[&Name], variable: &Option<Name>) -> Option<u32>
 
 // Adds a node.
 fn push_node(out: &mut Vec<Node>, what: Label, end: u32, parent: Option<u32>) -> Result<(), Memory>
-    ensures { OnOk result (map node out.new.items ≡ map node out.old.items ++ record { label = label what; end = end; parent = parent } ∷ []) }
+    ensures { OnOk result (map node out.new.items
+        ≡ map node out.old.items ++ record { label = label what; end = end; parent = parent } ∷ []) }
 {
     let label = what;
     out.push(Node { label, end, parent })?;
@@ -110,8 +113,10 @@ fn push_nodes(
 ) -> Result<(), Memory>
     requires variables { length names.now ≤ MAX_VARIABLES }
     requires room { length out.old.items + pattern_nodes (pattern_tree pattern.now) ≤ MAX_PATTERN_NODES }
-    ensures nodes { OnOk result (map node out.new.items ≡ map node out.old.items ++ nodes (map (λ n. n.now) names.now) parent (length out.old.items) (pattern_tree pattern.now)) }
-    ensures count { OnOk result (length out.new.items ≡ length out.old.items + pattern_nodes (pattern_tree pattern.now)) }
+    ensures nodes { OnOk result (map node out.new.items ≡ map node out.old.items
+        ++ nodes (map (λ n. n.now) names.now) parent (length out.old.items) (pattern_tree pattern.now)) }
+    ensures count { OnOk result
+        (length out.new.items ≡ length out.old.items + pattern_nodes (pattern_tree pattern.now)) }
 {
     let number = out.len() as u32;
     match pattern {
@@ -133,7 +138,8 @@ fn push_nodes(
     }
 }
 
-/// The operation above is commutative (`comm_above` of `specs/Variables.antt`); at the root there is none. It takes no memory.
+/// The operation above is commutative (`comm_above` of `specs/Variables.antt`); at the root there is none. It takes no
+/// memory.
 pub fn is_comm_above(sig: &Signature, under: Option<OpId>) -> bool
     ensures { result ≡ comm_above sig.now (option_map (λ f. f.0) under) }
 {
@@ -145,7 +151,9 @@ pub fn is_comm_above(sig: &Signature, under: Option<OpId>) -> bool
 
 // The variable has a plus or star wildcard.
 fn has_sequence(occurrences: &[Occurrence<'_>], name: &Name) -> bool
-    ensures { result ≡ list_any (λ _. true) (filter (λ u. same_name name.now u.name && is_sequence u.wildcard) (map occurrence occurrences.now)) }
+    ensures { result
+        ≡ list_any (λ _. true)
+        (filter (λ u. same_name name.now u.name && is_sequence u.wildcard) (map occurrence occurrences.now)) }
 {
     for occurrence in occurrences {
         if *name == *occurrence.name && occurrence.shape.is_sequence() {
@@ -157,7 +165,8 @@ fn has_sequence(occurrences: &[Occurrence<'_>], name: &Name) -> bool
 
 // The variable has a plus or star wildcard directly under an operation that isn't commutative.
 fn has_ordered_sequence(sig: &Signature, occurrences: &[Occurrence<'_>], name: &Name) -> bool
-    ensures { result ≡ list_any (λ u. not (comm_above sig.now u.under)) (filter (λ u. same_name name.now u.name && is_sequence u.wildcard) (map occurrence occurrences.now)) }
+    ensures { result ≡ list_any (λ u. not (comm_above sig.now u.under))
+        (filter (λ u. same_name name.now u.name && is_sequence u.wildcard) (map occurrence occurrences.now)) }
 {
     for occurrence in occurrences {
         if *name == *occurrence.name
@@ -190,7 +199,9 @@ fn variables_of(
     occurrences: &[Occurrence<'_>],
     names: &[&Name],
 ) -> Result<Vec<Variable>, Memory>
-    ensures { IfOk result (λ vs. map variable vs.items ≡ map (λ x. record { name = x; form = form_among sig.now (map occurrence occurrences.now) x }) (map (λ n. n.now) names.now)) }
+    ensures { IfOk result (λ vs. map variable vs.items
+        ≡ map (λ x. record { name = x; form = form_among sig.now (map occurrence occurrences.now) x })
+        (map (λ n. n.now) names.now)) }
 {
     let mut variables = Vec::new(alloc);
     for name in names {
@@ -205,8 +216,11 @@ fn variables_of(
 fn fault(outline: &Outline<'_>) -> Option<PlanFault>
     requires names { length outline.now.names.items ≤ MAX_PATTERN_NODES }
     requires patterns { length outline.now.patterns.items ≤ MAX_PATTERN_NODES }
-    ensures { result ≡ (if nat_lt MAX_VARIABLES (length outline.now.names.items) then Some (PlanFault.TooManyVars (length outline.now.names.items))
-        else option_map PlanFault.KindClash (first_clash_after [] (map (λ p. pattern_tree p.now) outline.now.patterns.items))) }
+    ensures { result ≡ (
+        let names = length outline.now.names.items in
+        let patterns = map (λ p. pattern_tree p.now) outline.now.patterns.items in
+        if nat_lt MAX_VARIABLES names then Some (PlanFault.TooManyVars names)
+        else option_map PlanFault.KindClash (first_clash_after [] patterns)) }
 {
     let count = outline.names.len();
     if MAX_VARIABLES < count {
@@ -264,22 +278,29 @@ fn compiled(alloc: Global, sig: &Signature, pattern: &Pattern) -> Result<Plan, P
 }
 
 impl Plan {
-    /// The plan of a pattern over a signature that holds its operations (`IsPlanOf` of `specs/Plan.antt`). The pattern is taken as it
-    /// stands, normal or not. An operation that isn't held would count as one that isn't commutative.
+    /// The plan of a pattern over a signature that holds its operations (`IsPlanOf` of `specs/Plan.antt`). The pattern
+    /// is taken as it stands, normal or not. An operation that isn't held would count as one that isn't commutative.
     ///
-    /// The refusals come in this order (`plan_fault` of `specs/PlanFault.antt`), and leave nothing. `LooseSequence` comes exactly where the
-    /// root is a plus, star or optional wildcard. `TooManyNodes` comes exactly where the pattern has more than `MAX_PATTERN_NODES` nodes, a wildcard
-    /// with its default being one, with their number, or the greatest `u32` where there are more. `TooManyVars` comes exactly where it
-    /// has more than `MAX_VARIABLES` variables, with their number. `KindClash` comes exactly where the wildcard at some node has the variable
-    /// of one before it and another class, kind or default, with the least such node (`first_clash` of `specs/Clash.antt`). `Memory` comes
-    /// where there is no room for the plan, also in place of the last two.
+    /// The refusals come in this order (`plan_fault` of `specs/PlanFault.antt`), and leave nothing. `LooseSequence`
+    /// comes exactly where the root is a plus, star or optional wildcard. `TooManyNodes` comes exactly where the
+    /// pattern has more than `MAX_PATTERN_NODES` nodes, a wildcard with its default being one, with their number, or
+    /// the greatest `u32` where there are more. `TooManyVars` comes exactly where it has more than `MAX_VARIABLES`
+    /// variables, with their number. `KindClash` comes exactly where the wildcard at some node has the variable of one
+    /// before it and another class, kind or default, with the least such node (`first_clash` of `specs/Clash.antt`).
+    /// `Memory` comes where there is no room for the plan, also in place of the last two.
     pub fn compile(alloc: Global, sig: &Signature, pattern: &Pattern) -> Result<Plan, PlanFault>
         ensures plan { IfOk result (λ plan. IsPlanOf sig.now (pattern_tree pattern.now) plan) }
         ensures accepted { OrMemory result (IsOk result ↔ (plan_fault (pattern_tree pattern.now) ≡ None)) }
-        ensures loose { (result ≡ Err PlanFault.LooseSequence) ↔ (plan_fault (pattern_tree pattern.now) ≡ Some PlanFault.LooseSequence) }
-        ensures nodes { (n : ℕ) → (result ≡ Err (PlanFault.TooManyNodes n)) ↔ (plan_fault (pattern_tree pattern.now) ≡ Some (PlanFault.TooManyNodes n)) }
-        ensures vars { (n : ℕ) → OrMemory result ((result ≡ Err (PlanFault.TooManyVars n)) ↔ (plan_fault (pattern_tree pattern.now) ≡ Some (PlanFault.TooManyVars n))) }
-        ensures clash { (n : ℕ) → OrMemory result ((result ≡ Err (PlanFault.KindClash n)) ↔ (plan_fault (pattern_tree pattern.now) ≡ Some (PlanFault.KindClash n))) }
+        ensures loose { (result ≡ Err PlanFault.LooseSequence)
+            ↔ (plan_fault (pattern_tree pattern.now) ≡ Some PlanFault.LooseSequence) }
+        ensures nodes { (n : ℕ) → (result ≡ Err (PlanFault.TooManyNodes n))
+            ↔ (plan_fault (pattern_tree pattern.now) ≡ Some (PlanFault.TooManyNodes n)) }
+        ensures vars { (n : ℕ)
+            → OrMemory result ((result ≡ Err (PlanFault.TooManyVars n))
+            ↔ (plan_fault (pattern_tree pattern.now) ≡ Some (PlanFault.TooManyVars n))) }
+        ensures clash { (n : ℕ)
+            → OrMemory result ((result ≡ Err (PlanFault.KindClash n))
+            ↔ (plan_fault (pattern_tree pattern.now) ≡ Some (PlanFault.KindClash n))) }
     {
         compiled(alloc, sig, pattern)
     }

@@ -43,8 +43,8 @@ pub enum Sense {
     Ne,
 }
 
-/// A condition on a substitution. Contracts see it as the tree `cond_tree` of `specs/CondView.antt`; `holds` of `specs/Holds.antt` says
-/// when it holds.
+/// A condition on a substitution. Contracts see it as the tree `cond_tree` of `specs/CondView.antt`; `holds` of
+/// `specs/Holds.antt` says when it holds.
 #[cycle(condition)]
 #[derive(Drop)]
 pub enum Cond {
@@ -153,7 +153,8 @@ impl Conds {
         }
     }
 
-    /// Adds a condition at the end. For want of memory it answers `Memory`, drops the condition and leaves the list as it was.
+    /// Adds a condition at the end. For want of memory it answers `Memory`, drops the condition and leaves the list as
+    /// it was.
     pub fn push(&mut self, item: Cond) -> Result<(), Memory>
         ensures ok { OnOk result (self.new ≡ self.old ++ cond_tree item ∷ []) }
         ensures err { OnErr result (self.new ≡ self.old) }

@@ -16,8 +16,8 @@ pub struct Entry {
     pub collapsed: bool,
 }
 
-/// A take table: one entry for each node of a pattern, in preorder. Contracts see it as the list of its entries' records;
-/// `specs/Fits.antt` says when it fits.
+/// A take table: one entry for each node of a pattern, in preorder. Contracts see it as the list of its entries'
+/// records; `specs/Fits.antt` says when it fits.
 #[derive(Drop)]
 pub struct Entries {
     items: Vec<Entry>,

@@ -34,7 +34,8 @@ pub fn normal_pattern_is_no_larger()
     ensures { (sig : Sig) (p : Pattern) → pattern_nodes (normal_pattern sig p) ≤ pattern_nodes p }
 {}
 
-/// A pattern and its normal form have the same names of variables, each at as many wildcards, and so the same variables.
+/// A pattern and its normal form have the same names of variables, each at as many wildcards, and so the same
+/// variables.
 pub fn normal_pattern_keeps_variables()
     ensures names { (sig : Sig) (p : Pattern) →
         IsPermutation (map (λ u. u.name) (uses None p)) (map (λ u. u.name) (uses None (normal_pattern sig p))) }
@@ -51,7 +52,8 @@ pub fn subpatterns_are_normal()
     ensures { (sig : Sig) (p : Pattern) → IsNormalPattern sig p → AllByRecursion (IsNormalPattern sig) (subpatterns p) }
 {}
 
-/// A pattern without a wildcard is a term. Such patterns compare as their terms, and the normal form of one is that of its term.
+/// A pattern without a wildcard is a term. Such patterns compare as their terms, and the normal form of one is that of
+/// its term.
 pub fn ground_patterns_are_terms()
     ensures terms { (p : Pattern) → (is_ground p ≡ true) ↔ ((t : Tree) × (p ≡ term_pattern t)) }
     ensures order { (t u : Tree) → pattern_cmp (term_pattern t) (term_pattern u) ≡ tree_cmp t u }

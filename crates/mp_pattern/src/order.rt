@@ -5,7 +5,8 @@ ghost use Rattle.std.specs.Cmp.{on_equiv, on_per, on_po, on_total, partial_equiv
 ghost use Rattle.mp_term.specs.Order.{shortlex};
 ghost use Rattle.mp_pattern.specs.PatternTree.{patterns};
 ghost use Rattle.mp_pattern.specs.View.{wildcard, pattern_tree};
-ghost use Rattle.mp_pattern.specs.Order.{is_ground, all_ground, class, wildcard_class, name_cmp, wildcard_cmp, pattern_cmp};
+ghost use Rattle.mp_pattern.specs.Order.{is_ground, all_ground, class, wildcard_class, name_cmp, wildcard_cmp};
+ghost use Rattle.mp_pattern.specs.Order.{pattern_cmp};
 ghost use Rattle.mp_pattern.specs.PatternOrderLaws.{pattern_cmp_total};
 
 use crate::pattern::{Pattern, Shape};
@@ -84,11 +85,11 @@ pub(crate) fn compare_shapes(v: &Shape, w: &Shape) -> Ordering
     }
 }
 
-/// The pattern order (`pattern_cmp` of `specs/Order.antt`): patterns without a wildcard come first, as their terms do in the term
-/// order, then applications that hold a wildcard, then kind, dot, optional, plus and star wildcards. Those applications
-/// compare by the numbers of their operations, then by how many arguments they have, then argument by argument from the left;
-/// wildcards of one class by the bytes of their names, unnamed ones last, then by the number of the kind or by the default.
-/// Equal patterns alone are `Equal`. It takes no memory.
+/// The pattern order (`pattern_cmp` of `specs/Order.antt`): patterns without a wildcard come first, as their terms do
+/// in the term order, then applications that hold a wildcard, then kind, dot, optional, plus and star wildcards. Those
+/// applications compare by the numbers of their operations, then by how many arguments they have, then argument by
+/// argument from the left; wildcards of one class by the bytes of their names, unnamed ones last, then by the number of
+/// the kind or by the default. Equal patterns alone are `Equal`. It takes no memory.
 #[cycle(pattern_compare)]
 pub fn pattern_compare(a: &Pattern, b: &Pattern) -> Ordering
     ensures { result ≡ pattern_cmp (pattern_tree a.now) (pattern_tree b.now) }

@@ -1,5 +1,6 @@
 //! The subpatterns, the occurrences of variables and the variables of a pattern, as a plan is made of them.
-ghost use Rattle.std.specs.Prelude.{◌≡◌, ◌+◌, ◌-◌, ◌^◌, ◌≤◌, ◌<◌, ◌++◌, None, [], map, length, min, OnOk, IfOk, IfSome, option_map};
+ghost use Rattle.std.specs.Prelude.{◌≡◌, ◌+◌, ◌-◌, ◌^◌, ◌≤◌, ◌<◌, ◌++◌, None, [], map, length, min, OnOk, IfOk, IfSome};
+ghost use Rattle.std.specs.Prelude.{option_map};
 ghost use Rattle.std.specs.List.{list_any};
 ghost use Rattle.mp_pattern.specs.View.{wildcard, pattern_tree};
 ghost use Rattle.mp_pattern.specs.Size.{pattern_nodes};
@@ -50,7 +51,8 @@ pub(crate) fn node_count(pattern: &Pattern) -> u32
 
 // Adds the pattern and, for an application, the subpatterns of its arguments, in preorder.
 fn push_subpatterns<'a>(out: &mut Vec<&'a Pattern>, pattern: &'a Pattern) -> Result<(), AllocError>
-    ensures { OnOk result (map (λ p. pattern_tree p.now) out.new.items ≡ map (λ p. pattern_tree p.now) out.old.items ++ subpatterns (pattern_tree pattern.now)) }
+    ensures { OnOk result (map (λ p. pattern_tree p.now) out.new.items
+        ≡ map (λ p. pattern_tree p.now) out.old.items ++ subpatterns (pattern_tree pattern.now)) }
 {
     out.push(pattern)?;
     if let Pattern::App(_, args) = pattern {
@@ -67,7 +69,8 @@ fn push_occurrences<'a>(
     pattern: &'a Pattern,
     under: Option<OpId>,
 ) -> Result<(), AllocError>
-    ensures { OnOk result (map occurrence out.new.items ≡ map occurrence out.old.items ++ uses (option_map (λ f. f.0) under) (pattern_tree pattern.now)) }
+    ensures { OnOk result (map occurrence out.new.items
+        ≡ map occurrence out.old.items ++ uses (option_map (λ f. f.0) under) (pattern_tree pattern.now)) }
 {
     match pattern {
         Pattern::Sym(_) => Ok(()),
@@ -102,7 +105,8 @@ fn first_names<'a>(
     alloc: Global,
     occurrences: &[Occurrence<'a>],
 ) -> Result<Vec<&'a Name>, AllocError>
-    ensures { IfOk result (λ names. map (λ n. n.now) names.items ≡ firsts_after same_name [] (map (λ u. u.name) (map occurrence occurrences.now))) }
+    ensures { IfOk result (λ names. map (λ n. n.now) names.items
+        ≡ firsts_after same_name [] (map (λ u. u.name) (map occurrence occurrences.now))) }
 {
     let mut names = Vec::new(alloc);
     for occurrence in occurrences {
@@ -159,7 +163,8 @@ pub(crate) fn first_clash(patterns: &[&Pattern]) -> Option<usize>
 pub(crate) fn outline_of<'a>(alloc: Global, pattern: &'a Pattern) -> Result<Outline<'a>, AllocError>
     ensures occurrences { IfOk result (λ o. map occurrence o.occurrences.items ≡ uses None (pattern_tree pattern.now)) }
     ensures names { IfOk result (λ o. map (λ n. n.now) o.names.items ≡ variables (pattern_tree pattern.now)) }
-    ensures patterns { IfOk result (λ o. map (λ p. pattern_tree p.now) o.patterns.items ≡ subpatterns (pattern_tree pattern.now)) }
+    ensures patterns { IfOk result (λ o.
+        map (λ p. pattern_tree p.now) o.patterns.items ≡ subpatterns (pattern_tree pattern.now)) }
 {
     let mut occurrences = Vec::new(alloc);
     push_occurrences(&mut occurrences, pattern, None)?;

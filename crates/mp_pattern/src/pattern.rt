@@ -7,7 +7,8 @@ use mp_term::{KindId, Memory, Name, OpId, Term};
 use std::alloc::Global;
 use std::marker::Model;
 
-/// What a wildcard takes of the arguments around it. `WildTakes` of `specs/Fits.antt` says it for each value of its variable.
+/// What a wildcard takes of the arguments around it. `WildTakes` of `specs/Fits.antt` says it for each value of its
+/// variable.
 #[derive(Drop)]
 pub enum Shape {
     /// One argument, or under an associative operation the arguments that its value contributes.
@@ -59,7 +60,8 @@ impl Shape {
     }
 }
 
-/// A term with wildcards. Contracts see it as the tree `pattern_tree` of `specs/View.antt`; `specs/Fits.antt` says what it matches.
+/// A term with wildcards. Contracts see it as the tree `pattern_tree` of `specs/View.antt`; `specs/Fits.antt` says what
+/// it matches.
 #[cycle(pattern)]
 #[derive(Drop)]
 pub enum Pattern {
@@ -111,7 +113,8 @@ impl Patterns {
         }
     }
 
-    /// Adds a pattern at the end. For want of memory it answers `Memory`, drops the pattern and leaves the list as it was.
+    /// Adds a pattern at the end. For want of memory it answers `Memory`, drops the pattern and leaves the list as it
+    /// was.
     pub fn push(&mut self, item: Pattern) -> Result<(), Memory>
         ensures ok { OnOk result (self.new ≡ self.old ++ pattern_tree item ∷ []) }
         ensures err { OnErr result (self.new ≡ self.old) }

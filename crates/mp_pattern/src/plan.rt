@@ -45,8 +45,9 @@ pub(crate) struct Variable {
     pub(crate) form: Form,
 }
 
-/// A pattern with its nodes, which have the numbers of the preorder from 0, and its variables, which are numbered from 0 by
-/// first occurrence. Contracts see it as the record `Plan` of `specs/Plan.antt`, where `IsPlanOf` says of which pattern it is.
+/// A pattern with its nodes, which have the numbers of the preorder from 0, and its variables, which are numbered from
+/// 0 by first occurrence. Contracts see it as the record `Plan` of `specs/Plan.antt`, where `IsPlanOf` says of which
+/// pattern it is.
 #[derive(Drop)]
 pub struct Plan {
     pub(crate) pattern: Pattern,
@@ -67,7 +68,11 @@ impl Model for Plan {
     ghost use Rattle.mp_pattern.specs.View.{pattern_tree};
     ghost use Rattle.mp_pattern.specs.PlanView.{node, variable};
 
-    ghost view = { λ p. record { pattern = pattern_tree p.pattern; nodes = map node p.nodes.items; variables = map variable p.variables.items } };
+    ghost view = { λ p. record {
+      pattern = pattern_tree p.pattern;
+      nodes = map node p.nodes.items;
+      variables = map variable p.variables.items;
+    } };
 
     ghost invariant = { λ p. (length p.nodes.items ≤ MAX_PATTERN_NODES) × (length p.variables.items ≤ MAX_VARIABLES) };
 }
@@ -126,8 +131,8 @@ impl Plan {
         }
     }
 
-    /// The number of the node after the subpattern at the node of that number; of the last subpatterns it is the number of nodes. It
-    /// is None exactly where no node has the number.
+    /// The number of the node after the subpattern at the node of that number; of the last subpatterns it is the number
+    /// of nodes. It is None exactly where no node has the number.
     pub fn end(&self, node: u32) -> Option<u32>
         ensures { result ≡ option_map (λ n. n.end) (slice_get self.now.nodes node) }
     {
@@ -137,8 +142,8 @@ impl Plan {
         }
     }
 
-    /// The number of the node whose argument the node of that number is. It is None exactly where no node has the number, and for the
-    /// root, which has no parent.
+    /// The number of the node whose argument the node of that number is. It is None exactly where no node has the
+    /// number, and for the root, which has no parent.
     pub fn parent(&self, node: u32) -> Option<u32>
         ensures { result ≡ option_and_then (λ n. n.parent) (slice_get self.now.nodes node) }
     {
@@ -166,8 +171,8 @@ impl Plan {
         }
     }
 
-    /// The form of the variable of that number (`variable_form` of `specs/Variables.antt`). It is None exactly where no variable has the
-    /// number.
+    /// The form of the variable of that number (`variable_form` of `specs/Variables.antt`). It is None exactly where no
+    /// variable has the number.
     pub fn var_form(&self, var: u32) -> Option<Form>
         ensures { option_map form result ≡ option_map (λ v. v.form) (slice_get self.now.variables var) }
     {

@@ -8,7 +8,8 @@ use std::alloc::Global;
 use std::marker::Model;
 
 /// A named pattern with perhaps a template and a condition.
-/// Contracts see it as the record `rule_tree` of `specs/RuleView.antt`; `specs/Admission.antt` says what it admits on a subject.
+/// Contracts see it as the record `rule_tree` of `specs/RuleView.antt`; `specs/Admission.antt` says what it admits on a
+/// subject.
 #[derive(Drop)]
 pub struct Rule {
     /// Its name.

@@ -6,8 +6,8 @@ use mp_term::{Memory, Name, OpId};
 use std::alloc::Global;
 use std::marker::Model;
 
-/// A term with variables. Contracts see it as the tree `template_tree` of `specs/TemplateView.antt`; `specs/Instance.antt` says what it
-/// becomes under a substitution.
+/// A term with variables. Contracts see it as the tree `template_tree` of `specs/TemplateView.antt`;
+/// `specs/Instance.antt` says what it becomes under a substitution.
 #[cycle(template)]
 #[derive(Drop)]
 pub enum Template {
@@ -59,7 +59,8 @@ impl Templates {
         }
     }
 
-    /// Adds a template at the end. For want of memory it answers `Memory`, drops the template and leaves the list as it was.
+    /// Adds a template at the end. For want of memory it answers `Memory`, drops the template and leaves the list as it
+    /// was.
     pub fn push(&mut self, item: Template) -> Result<(), Memory>
         ensures ok { OnOk result (self.new ≡ self.old ++ template_tree item ∷ []) }
         ensures err { OnErr result (self.new ≡ self.old) }

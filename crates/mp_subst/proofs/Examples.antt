@@ -51,8 +51,10 @@ first_variable_decides : subst_cmp (x→ (one a) ∷ y→ (one c) ∷ []) (x→ 
 first_variable_decides = refl
 
 -- {x -> a, y -> (b)} behind {x -> a, y -> (a)}: where it is the same, the second one
-second_variable_decides_next : subst_cmp (x→ (one a) ∷ y→ (seq (b ∷ [])) ∷ []) (x→ (one a) ∷ y→ (seq (a ∷ [])) ∷ []) ≡ Greater
+second_variable_decides_next : subst_cmp (x→ (one a) ∷ y→ (seq (b ∷ [])) ∷ []) (x→ (one a) ∷ y→ (seq (a ∷ [])) ∷ [])
+    ≡ Greater
 second_variable_decides_next = refl
 
-same_substitution : subst_cmp (x→ (one a) ∷ y→ (bag (a ∷ b ∷ [])) ∷ []) (x→ (one a) ∷ y→ (bag (a ∷ b ∷ [])) ∷ []) ≡ Equal
+same_substitution : subst_cmp (x→ (one a) ∷ y→ (bag (a ∷ b ∷ [])) ∷ []) (x→ (one a) ∷ y→ (bag (a ∷ b ∷ [])) ∷ [])
+    ≡ Equal
 same_substitution = refl

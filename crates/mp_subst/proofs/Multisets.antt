@@ -24,7 +24,9 @@ module _ {X : Type 0} (cmp : X → X → Ordering) where
   tally-count_by : (x : X) (ys : List X) → tally cmp x ys ≡ count_by (eq_by_cmp cmp x) ys
   tally-count_by x =
       is_count_by (tally cmp x) (eq_by_cmp cmp x) refl
-      (λ y ys. elim (is_eq (cmp x y)) as (λ b. cond b 1 0 + tally cmp x ys ≡ cond b (1 + tally cmp x ys) (tally cmp x ys)) [ true ↦ refl | false ↦ omega arith ])
+      (λ y ys.
+      elim (is_eq (cmp x y)) as (λ b. cond b 1 0 + tally cmp x ys ≡ cond b (1 + tally cmp x ys) (tally cmp x ys))
+      [ true ↦ refl | false ↦ omega arith ])
 
   -- the list without the first element equal to x
   abbrev without : X → List X → List X
@@ -34,26 +36,32 @@ module _ {X : Type 0} (cmp : X → X → Ordering) where
   length-without : (x : X) (ys : List X) → 0 < tally cmp x ys → length ys ≡ suc (length (without x ys))
   length-without x [] h = absurd (omega (arith, h))
   length-without x (y ∷ ys) h =
-      elim (is_eq (cmp x y)) as (λ b. 0 < cond b 1 0 + tally cmp x ys → suc (length ys) ≡ suc (length (if b then ys else y ∷ without x ys))) [
+      elim (is_eq (cmp x y)) as (λ b. 0 < cond b 1 0 + tally cmp x ys
+      → suc (length ys) ≡ suc (length (if b then ys else y ∷ without x ys))) [
         | true ↦ λ _. refl
         | false ↦ λ k. ap suc (length-without x ys (omega (arith, k)))
       ] h
 
   module _ (same : (x y : X) → cmp x y ≡ Equal → x ≡ y) where
-    tally-without : (z x : X) (ys : List X) → 0 < tally cmp x ys → tally cmp z ys ≡ hit cmp z x + tally cmp z (without x ys)
+    tally-without : (z x : X) (ys : List X) → 0 < tally cmp x ys
+        → tally cmp z ys ≡ hit cmp z x + tally cmp z (without x ys)
     tally-without z x [] h = absurd (omega (arith, h))
     tally-without z x (y ∷ ys) h =
-        elim (is_eq (cmp x y)) as (λ b. is_eq (cmp x y) ≡ b → 0 < cond b 1 0 + tally cmp x ys → hit cmp z y + tally cmp z ys ≡ hit cmp z x + tally cmp z (if b then ys else y ∷ without x ys)) [
+        elim (is_eq (cmp x y)) as (λ b. is_eq (cmp x y) ≡ b → 0 < cond b 1 0 + tally cmp x ys
+        → hit cmp z y + tally cmp z ys ≡ hit cmp z x + tally cmp z (if b then ys else y ∷ without x ys)) [
           | true ↦ λ e _. ap (λ w. hit cmp z w + tally cmp z ys) (sym (tells_apart same x y e))
           | false ↦ λ _ k. omega (arith, tally-without z x ys (omega (arith, k)))
         ] refl h
 
     module _ (o : IsTotalOrder cmp) where
-      alike-without : (x : X) (xs ys zs : List X) → 0 < tally cmp x ys → AllByRecursion (λ z. tally cmp z (x ∷ xs) ≡ tally cmp z ys) zs → AllByRecursion (λ z. tally cmp z xs ≡ tally cmp z (without x ys)) zs
+      alike-without : (x : X) (xs ys zs : List X) → 0 < tally cmp x ys
+          → AllByRecursion (λ z. tally cmp z (x ∷ xs) ≡ tally cmp z ys) zs
+          → AllByRecursion (λ z. tally cmp z xs ≡ tally cmp z (without x ys)) zs
       alike-without x xs ys [] h k = tt
       alike-without x xs ys (z ∷ zs) h k = (omega (arith, k.0, tally-without z x ys h), alike-without x xs ys zs h k.1)
 
-      tally-same : (xs ys : List X) → length xs ≡ length ys → AllByRecursion (λ z. tally cmp z xs ≡ tally cmp z ys) xs → (z : X) → tally cmp z xs ≡ tally cmp z ys
+      tally-same : (xs ys : List X) → length xs ≡ length ys → AllByRecursion (λ z. tally cmp z xs ≡ tally cmp z ys) xs
+          → (z : X) → tally cmp z xs ≡ tally cmp z ys
       tally-same [] [] e h z = refl
       tally-same [] (y ∷ ys) e h z = absurd (omega (arith, e))
       tally-same (x ∷ xs) ys e h z =
@@ -61,11 +69,13 @@ module _ {X : Type 0} (cmp : X → X → Ordering) where
           let l : length xs ≡ length (without x ys) = omega (arith, e, length-without x ys p) in
           omega (arith, tally-without z x ys p, tally-same xs (without x ys) l (alike-without x xs ys xs p h.1) z)
 
-      by_tally : (xs ys zs : List X) → AllByRecursion (Alike xs ys) zs → AllByRecursion (λ z. tally cmp z xs ≡ tally cmp z ys) zs
+      by_tally : (xs ys zs : List X) → AllByRecursion (Alike xs ys) zs
+          → AllByRecursion (λ z. tally cmp z xs ≡ tally cmp z ys) zs
       by_tally xs ys [] h = tt
       by_tally xs ys (z ∷ zs) h = (tally-count_by z xs ∙ h.0 ∙ sym (tally-count_by z ys), by_tally xs ys zs h.1)
 
-      sorted-same : (xs ys : List X) → length xs ≡ length ys → AllByRecursion (Alike xs ys) xs → sorted cmp xs ≡ sorted cmp ys
+      sorted-same : (xs ys : List X) → length xs ≡ length ys → AllByRecursion (Alike xs ys) xs
+          → sorted cmp xs ≡ sorted cmp ys
       sorted-same xs ys e h =
           one_order cmp o same (sorted cmp xs) (sorted cmp ys) (ascends-sorted cmp o xs) (ascends-sorted cmp o ys)
           (λ z. tally-sorted cmp z xs ∙ tally-same xs ys e (by_tally xs ys xs h) z ∙ sym (tally-sorted cmp z ys))
@@ -74,14 +84,21 @@ module _ {X : Type 0} (cmp : X → X → Ordering) where
   length-sorted_same xs ys e = sym (length-sorted cmp xs) ∙ ap length e ∙ length-sorted cmp ys
 
   alike-sorted_same : (xs ys : List X) → sorted cmp xs ≡ sorted cmp ys → (x : X) → Alike xs ys x
-  alike-sorted_same xs ys e x = sym (tally-count_by x xs) ∙ sym (tally-sorted cmp x xs) ∙ ap (tally cmp x) e ∙ tally-sorted cmp x ys ∙ tally-count_by x ys
+  alike-sorted_same xs ys e x = sym (tally-count_by x xs) ∙ sym (tally-sorted cmp x xs) ∙ ap (tally cmp x) e
+      ∙ tally-sorted cmp x ys ∙ tally-count_by x ys
 
 -- lists of terms with the same elements, each as often; with other lengths; and with an element more often in one
-pub same_multisets : (ts us : List Tree) → length ts ≡ length us → AllByRecursion (Alike tree_cmp ts us) ts → true ≡ same_terms (sorted tree_cmp ts) (sorted tree_cmp us)
-same_multisets ts us e h = same_terms-is (sorted tree_cmp ts) (sorted tree_cmp us) true (λ _. sorted-same tree_cmp tree_same tree_cmp_total ts us e h) (λ _. refl)
+pub same_multisets : (ts us : List Tree) → length ts ≡ length us → AllByRecursion (Alike tree_cmp ts us) ts
+    → true ≡ same_terms (sorted tree_cmp ts) (sorted tree_cmp us)
+same_multisets ts us e h = same_terms-is (sorted tree_cmp ts) (sorted tree_cmp us) true
+    (λ _. sorted-same tree_cmp tree_same tree_cmp_total ts us e h) (λ _. refl)
 
-pub other_lengths : (ts us : List Tree) → (length ts ≡ length us → ⊥) → false ≡ same_terms (sorted tree_cmp ts) (sorted tree_cmp us)
-other_lengths ts us h = same_terms-is (sorted tree_cmp ts) (sorted tree_cmp us) false (λ e. cc) (λ e. absurd (h (length-sorted_same tree_cmp ts us e)))
+pub other_lengths : (ts us : List Tree) → (length ts ≡ length us → ⊥)
+    → false ≡ same_terms (sorted tree_cmp ts) (sorted tree_cmp us)
+other_lengths ts us h = same_terms-is (sorted tree_cmp ts) (sorted tree_cmp us) false (λ e. cc)
+    (λ e. absurd (h (length-sorted_same tree_cmp ts us e)))
 
-pub other_multiplicity : (ts us : List Tree) (t : Tree) → (Alike tree_cmp ts us t → ⊥) → false ≡ same_terms (sorted tree_cmp ts) (sorted tree_cmp us)
-other_multiplicity ts us t h = same_terms-is (sorted tree_cmp ts) (sorted tree_cmp us) false (λ e. cc) (λ e. absurd (h (alike-sorted_same tree_cmp ts us e t)))
+pub other_multiplicity : (ts us : List Tree) (t : Tree) → (Alike tree_cmp ts us t → ⊥)
+    → false ≡ same_terms (sorted tree_cmp ts) (sorted tree_cmp us)
+other_multiplicity ts us t h = same_terms-is (sorted tree_cmp ts) (sorted tree_cmp us) false (λ e. cc)
+    (λ e. absurd (h (alike-sorted_same tree_cmp ts us e t)))

@@ -29,8 +29,10 @@ from_pieces-pieces (bag ts) = refl
 
 -- the code of values
 abbrev pub coded_value : Coded Value
-coded_value = code_by Pieces (coded⊎ coded_tree (coded⊎ (coded_list coded_tree) (coded_list coded_tree))) pieces from_pieces from_pieces-pieces
+coded_value = code_by Pieces (coded⊎ coded_tree (coded⊎ (coded_list coded_tree) (coded_list coded_tree))) pieces
+    from_pieces from_pieces-pieces
 
 -- the code of bindings
 abbrev pub coded_binding : Coded Binding
-coded_binding = code_by (List ℕ × Value) (coded× (coded_list coded_ℕ) coded_value) (λ b. (b.name, b.value)) (λ p. record { name = p.0; value = p.1 }) (λ _. refl)
+coded_binding = code_by (List ℕ × Value) (coded× (coded_list coded_ℕ) coded_value) (λ b. (b.name, b.value))
+    (λ p. record { name = p.0; value = p.1 }) (λ _. refl)

@@ -42,9 +42,9 @@ fn choose(old: &Value, new: &Value) -> Choice
     }
 }
 
-/// The common value of two uses of a variable (`merge` of mp_pattern's `specs/Value.antt`): of equal values of one form that value, and
-/// of a tuple and a multiset with the same terms, each as often, the tuple. Exactly in every other case both values come back as they
-/// were, the old one first. A multiset needn't be sorted. It takes no memory.
+/// The common value of two uses of a variable (`merge` of mp_pattern's `specs/Value.antt`): of equal values of one form
+/// that value, and of a tuple and a multiset with the same terms, each as often, the tuple. Exactly in every other case
+/// both values come back as they were, the old one first. A multiset needn't be sorted. It takes no memory.
 pub fn merge(old: Value, new: Value) -> Result<Value, (Value, Value)>
     ensures ok { IfOk result (λ v. merge (value_of old) (value_of new) ≡ Some (value_of v)) }
     ensures err { IfErr result (λ _. merge (value_of old) (value_of new) ≡ None) }

@@ -21,8 +21,8 @@ fn occurrences(term: &Term, terms: &[Term]) -> usize
     count
 }
 
-/// Whether the lists have the same terms, each as often: whether their sorted lists are equal (`same_terms` of mp_pattern's
-/// `specs/Value.antt`). It takes no memory.
+/// Whether the lists have the same terms, each as often: whether their sorted lists are equal (`same_terms` of
+/// mp_pattern's `specs/Value.antt`). It takes no memory.
 pub fn same_multiset(terms: &[Term], others: &[Term]) -> bool
     ensures { result ≡ same_terms (sorted tree_cmp (map tree terms.now)) (sorted tree_cmp (map tree others.now)) }
 {

@@ -9,8 +9,8 @@ use crate::value::Value;
 use mp_term::{compare, compare_all};
 use std::cmp::Ordering;
 
-/// The order of values (`value_cmp` of mp_pattern's `specs/Lists.antt`): One comes before Seq, and Seq before Bag. Two One compare by
-/// the term order, two Seq and two Bag by shortlex. Equal values alone are `Equal`. It takes no memory.
+/// The order of values (`value_cmp` of mp_pattern's `specs/Lists.antt`): One comes before Seq, and Seq before Bag. Two
+/// One compare by the term order, two Seq and two Bag by shortlex. Equal values alone are `Equal`. It takes no memory.
 pub fn compare_value(a: &Value, b: &Value) -> Ordering
     ensures order { result ≡ value_cmp (value_of a.now) (value_of b.now) }
     ensures equal { (result ≡ Equal) ↔ (value_of a.now ≡ value_of b.now) }
@@ -44,8 +44,9 @@ fn compare_bindings(bindings: &[Binding], others: &[Binding]) -> Ordering
     Ordering::Equal
 }
 
-/// The order of substitutions (`subst_cmp` of mp_pattern's `specs/Lists.antt`): variable by variable in order, by `compare_value`.
-/// Both have the same names in the same order. Equal substitutions alone are `Equal`. It takes no memory.
+/// The order of substitutions (`subst_cmp` of mp_pattern's `specs/Lists.antt`): variable by variable in order, by
+/// `compare_value`. Both have the same names in the same order. Equal substitutions alone are `Equal`. It takes no
+/// memory.
 pub fn compare_subst(a: &Subst, b: &Subst) -> Ordering
     requires { map (λ x. x.name) (subst_of a.now) ≡ map (λ x. x.name) (subst_of b.now) }
     ensures order { result ≡ subst_cmp (subst_of a.now) (subst_of b.now) }
@@ -76,8 +77,8 @@ fn same_bindings(bindings: &[Binding], others: &[Binding]) -> bool
     true
 }
 
-/// Whether the substitutions are equal: the same variables in the same order, each with the same value of the same form. It takes
-/// no memory.
+/// Whether the substitutions are equal: the same variables in the same order, each with the same value of the same
+/// form. It takes no memory.
 pub fn same_subst(a: &Subst, b: &Subst) -> bool
     ensures { IsTrue result ↔ (subst_of a.now ≡ subst_of b.now) }
 {

@@ -49,7 +49,8 @@ impl Bindings {
         }
     }
 
-    /// Adds a binding at the end. For want of memory it answers `Memory`, drops the binding and leaves the list as it was.
+    /// Adds a binding at the end. For want of memory it answers `Memory`, drops the binding and leaves the list as it
+    /// was.
     pub fn push(&mut self, item: Binding) -> Result<(), Memory>
         ensures ok { OnOk result (self.new ≡ self.old ++ binding_of item ∷ []) }
         ensures err { OnErr result (self.new ≡ self.old) }
@@ -80,8 +81,8 @@ impl Bindings {
     }
 }
 
-/// The variables of a pattern in order of first occurrence, each with its value. Contracts see it as the plain substitution
-/// `subst_of` of `specs/View.antt`.
+/// The variables of a pattern in order of first occurrence, each with its value. Contracts see it as the plain
+/// substitution `subst_of` of `specs/View.antt`.
 #[derive(Drop)]
 pub struct Subst {
     /// The variables with their values, in order.
@@ -89,8 +90,8 @@ pub struct Subst {
 }
 
 impl Subst {
-    /// The value of a variable (`value_of` of mp_pattern's `specs/Value.antt`). It is None exactly where the substitution doesn't bind the
-    /// variable. It takes no memory.
+    /// The value of a variable (`value_of` of mp_pattern's `specs/Value.antt`). It is None exactly where the
+    /// substitution doesn't bind the variable. It takes no memory.
     pub fn value_of(&self, name: &Name) -> Option<&Value>
         ensures { option_map (λ v. value_of v.now) result ≡ plain.value_of (subst_of self.now) name.now }
     {

@@ -14,7 +14,8 @@ pub enum Value {
     One(Term),
     /// A tuple of terms.
     Seq(Terms),
-    /// A multiset of terms. The list of a final one is sorted by the term order (`IsFinal` of mp_pattern's `specs/Value.antt`).
+    /// A multiset of terms. The list of a final one is sorted by the term order (`IsFinal` of mp_pattern's
+    /// `specs/Value.antt`).
     Bag(Terms),
 }
 

@@ -10,15 +10,19 @@ use Rattle.mp_cond.proofs.condition.+holds.Given as goal
 abbrev pub invariant-all_hold-loop-part : goal.invariant-all_hold-loop-part
 invariant-all_hold-loop-part l = record {
   ready : AreReady cond_tree (subst_of l.subst) l.parts l.part-index;
-  smaller : all_cond_nodes (behind cond_tree (subst_of l.subst) l.parts l.part-index) ≤ cond_list_nodes (map cond_tree l.parts);
-  rest : all_hold l.sig (subst_of l.subst) (behind cond_tree (subst_of l.subst) l.parts l.part-index) ≡ all_hold l.sig (subst_of l.subst) (conds (map cond_tree l.parts));
+  smaller : all_cond_nodes (behind cond_tree (subst_of l.subst) l.parts l.part-index)
+      ≤ cond_list_nodes (map cond_tree l.parts);
+  rest : all_hold l.sig (subst_of l.subst) (behind cond_tree (subst_of l.subst) l.parts l.part-index)
+      ≡ all_hold l.sig (subst_of l.subst) (conds (map cond_tree l.parts));
 }
 
 abbrev pub invariant-some_holds-loop-part : goal.invariant-some_holds-loop-part
 invariant-some_holds-loop-part l = record {
   ready : AreReady cond_tree (subst_of l.subst) l.parts l.part-index;
-  smaller : all_cond_nodes (behind cond_tree (subst_of l.subst) l.parts l.part-index) ≤ cond_list_nodes (map cond_tree l.parts);
-  rest : some_holds l.sig (subst_of l.subst) (behind cond_tree (subst_of l.subst) l.parts l.part-index) ≡ some_holds l.sig (subst_of l.subst) (conds (map cond_tree l.parts));
+  smaller : all_cond_nodes (behind cond_tree (subst_of l.subst) l.parts l.part-index)
+      ≤ cond_list_nodes (map cond_tree l.parts);
+  rest : some_holds l.sig (subst_of l.subst) (behind cond_tree (subst_of l.subst) l.parts l.part-index)
+      ≡ some_holds l.sig (subst_of l.subst) (conds (map cond_tree l.parts));
 }
 
 abbrev pub decreases-holds : goal.decreases-holds

@@ -17,8 +17,10 @@ returns-else-is_bag-2 c =
       | then-is_bag u ↦ cc
       | else-is_bag u ↦ (
           let first : is_bag (value_at s v) ≡ false = sym c.is_bag.ensures ∙ u.if-is_bag.false in
-          let second : is_bag (value_at s w) ≡ false = sym u.is_bag-else-is_bag.ensures ∙ sym u.value-is ∙ c.if-is_bag-2.false in
+          let second : is_bag (value_at s w) ≡ false = sym u.is_bag-else-is_bag.ensures ∙ sym u.value-is
+          ∙ c.if-is_bag-2.false in
           rw (first, second) refl)
     ] in
     let same = pointwise-same_terms tree c.list_of-terms.result.now c.list_of-others.result.now in
-    rw none (c.eq.ensures ∙ same ∙ ap (λ ts. same_terms ts (map tree c.list_of-others.result.now)) c.list_of-terms.ensures ∙ ap (same_terms (list_of s v)) c.list_of-others.ensures)
+    rw none (c.eq.ensures ∙ same ∙ ap (λ ts. same_terms ts (map tree c.list_of-others.result.now))
+    c.list_of-terms.ensures ∙ ap (same_terms (list_of s v)) c.list_of-others.ensures)

@@ -9,5 +9,6 @@ use Rattle.mp_cond.proofs.lists.are_free.Goals as goal
 pub returns : goal.returns
 returns c =
     let us = map tree c.args.others.now in
-    all_from_yields_List (λ t. every (λ u. not (occurs (tree t) u)) us) _ _ _ c.all.ensures.ran (YieldsList-from_slice c.args.terms.now cc) (λ x r q h. search (rules, tests))
+    all_from_yields_List (λ t. every (λ u. not (occurs (tree t) u)) us) _ _ _ c.all.ensures.ran
+    (YieldsList-from_slice c.args.terms.now cc) (λ x r q h. search (rules, tests))
     ∙ list_all-every tree (λ t. every (λ u. not (occurs t u)) us) c.args.terms.now

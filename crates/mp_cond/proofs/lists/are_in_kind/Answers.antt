@@ -10,5 +10,6 @@ pub returns : goal.returns
 returns c =
     let sig = c.args.sig.now in
     let k = c.args.kind.0 in
-    all_from_yields_List (λ t. in_kind sig k (tree t)) _ _ _ c.all.ensures.ran (YieldsList-from_slice c.args.terms.now cc) (λ x r q h. search (rules, tests))
+    all_from_yields_List (λ t. in_kind sig k (tree t)) _ _ _ c.all.ensures.ran
+    (YieldsList-from_slice c.args.terms.now cc) (λ x r q h. search (rules, tests))
     ∙ list_all-every tree (in_kind sig k) c.args.terms.now

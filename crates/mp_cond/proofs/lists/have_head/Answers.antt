@@ -9,5 +9,6 @@ use Rattle.mp_cond.proofs.lists.have_head.Goals as goal
 pub returns : goal.returns
 returns c =
     let f = c.args.op.0 in
-    all_from_yields_List (λ t. has_head f (tree t)) _ _ _ c.all.ensures.ran (YieldsList-from_slice c.args.terms.now cc) (λ x r q h. search (rules, tests))
+    all_from_yields_List (λ t. has_head f (tree t)) _ _ _ c.all.ensures.ran (YieldsList-from_slice c.args.terms.now cc)
+    (λ x r q h. search (rules, tests))
     ∙ list_all-every tree (has_head f) c.args.terms.now

@@ -9,5 +9,6 @@ use Rattle.mp_cond.proofs.lists.is_free.Goals as goal
 pub returns : goal.returns
 returns c =
     let t = tree c.args.term.now in
-    all_from_yields_List (λ u. not (occurs t (tree u))) _ _ _ c.all.ensures.ran (YieldsList-from_slice c.args.others.now cc) (λ x r q h. search (rules, tests))
+    all_from_yields_List (λ u. not (occurs t (tree u))) _ _ _ c.all.ensures.ran
+    (YieldsList-from_slice c.args.others.now cc) (λ x r q h. search (rules, tests))
     ∙ list_all-every tree (λ u. not (occurs t u)) c.args.others.now

@@ -7,7 +7,8 @@ use Rattle.mp_cond.proofs.subterm.+occurs.Given as goal
 
 abbrev pub invariant-loop-arg : goal.invariant-loop-arg
 invariant-loop-arg l = record {
-  rest : occurs_in (tree l.term) (trees (map tree (drop l.arg-index l.arg-items))) ≡ occurs (tree l.term) (tree l.within);
+  rest : occurs_in (tree l.term) (trees (map tree (drop l.arg-index l.arg-items)))
+      ≡ occurs (tree l.term) (tree l.within);
   smaller : all_nodes (map tree (drop l.arg-index l.arg-items)) < node_count (tree l.within);
 }
 

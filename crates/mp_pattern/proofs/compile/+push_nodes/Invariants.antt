@@ -8,6 +8,10 @@ use Rattle.mp_pattern.proofs.compile.+push_nodes.Given as goal
 
 abbrev pub invariant-loop-arg : goal.invariant-loop-arg
 invariant-loop-arg l = record {
-  nodes : map node l.out.items ++ all_nodes (map (λ n. n.now) l.names) l.number (length l.out.items) (patterns (map pattern_tree (drop l.arg-index l.arg-items))) ≡ map node l.fn.out.items ++ nodes (map (λ n. n.now) l.names) l.fn.parent (length l.fn.out.items) (pattern_tree l.pattern);
-  count : length l.out.items + all_pattern_nodes (patterns (map pattern_tree (drop l.arg-index l.arg-items))) ≡ length l.fn.out.items + pattern_nodes (pattern_tree l.pattern);
+  nodes : map node l.out.items ++ all_nodes (map (λ n. n.now) l.names) l.number (length l.out.items)
+      (patterns (map pattern_tree (drop l.arg-index l.arg-items)))
+      ≡ map node l.fn.out.items ++ nodes (map (λ n. n.now) l.names) l.fn.parent (length l.fn.out.items)
+      (pattern_tree l.pattern);
+  count : length l.out.items + all_pattern_nodes (patterns (map pattern_tree (drop l.arg-index l.arg-items)))
+      ≡ length l.fn.out.items + pattern_nodes (pattern_tree l.pattern);
 }

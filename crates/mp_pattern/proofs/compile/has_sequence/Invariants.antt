@@ -8,4 +8,8 @@ use Rattle.mp_pattern.proofs.compile.has_sequence.Given as goal
 
 abbrev pub invariant-loop-occurrence : goal.invariant-loop-occurrence
 invariant-loop-occurrence l =
-    list_any (λ _. true) (filter (λ u. same_name l.name u.name && is_sequence u.wildcard) (map occurrence (drop l.occurrence-index l.occurrences))) ≡ list_any (λ _. true) (filter (λ u. same_name l.name u.name && is_sequence u.wildcard) (map occurrence l.occurrences))
+    list_any (λ _. true)
+    (filter (λ u. same_name l.name u.name && is_sequence u.wildcard)
+    (map occurrence (drop l.occurrence-index l.occurrences)))
+    ≡ list_any (λ _. true)
+    (filter (λ u. same_name l.name u.name && is_sequence u.wildcard) (map occurrence l.occurrences))

@@ -6,4 +6,8 @@ use Rattle.mp_pattern.proofs.compile.variables_of.Given as goal
 
 abbrev pub invariant-loop-name : goal.invariant-loop-name
 invariant-loop-name l =
-    map variable l.variables.items ++ map (λ x. record { name = x; form = form_among l.sig (map occurrence l.occurrences) x }) (map (λ n. n.now) (drop l.name-index l.names)) ≡ map (λ x. record { name = x; form = form_among l.sig (map occurrence l.occurrences) x }) (map (λ n. n.now) l.names)
+    map variable l.variables.items ++ map (λ x.
+    record { name = x; form = form_among l.sig (map occurrence l.occurrences) x })
+    (map (λ n. n.now) (drop l.name-index l.names))
+    ≡ map (λ x. record { name = x; form = form_among l.sig (map occurrence l.occurrences) x })
+    (map (λ n. n.now) l.names)

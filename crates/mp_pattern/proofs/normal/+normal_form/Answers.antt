@@ -12,5 +12,8 @@ loop-arg-init t c =
     let sig = c.args.sig.now in
     let f = c.in-App.op.0 in
     let rest = into_iter_items c.into_iter-arg-iterator.result in
-    let all : map pattern_tree rest ≡ c.in-App.args = ap (map pattern_tree) c.into_iter-arg-iterator.ensures.into_iter_gives.0 ∙ c.args-in-App.view_is in
-    rw (c.in-App.is, c.new-flat.ensures) (ap (λ ps. collapsed sig f (in_order sig f (flat_map (parts sig f) ps))) (sym (normal_patterns-map sig pattern_tree rest) ∙ ap (λ qs. normal_patterns sig (patterns qs)) all))
+    let all : map pattern_tree rest ≡ c.in-App.args =
+    ap (map pattern_tree) c.into_iter-arg-iterator.ensures.into_iter_gives.0 ∙ c.args-in-App.view_is in
+    rw (c.in-App.is, c.new-flat.ensures)
+    (ap (λ ps. collapsed sig f (in_order sig f (flat_map (parts sig f) ps)))
+    (sym (normal_patterns-map sig pattern_tree rest) ∙ ap (λ qs. normal_patterns sig (patterns qs)) all))

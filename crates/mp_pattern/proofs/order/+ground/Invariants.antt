@@ -5,4 +5,5 @@ use Rattle.mp_pattern.specs.Order.{all_ground}
 use Rattle.mp_pattern.proofs.order.+ground.Given as goal
 
 abbrev pub invariant-all_ground-loop-item : goal.invariant-all_ground-loop-item
-invariant-all_ground-loop-item l = all_ground (patterns (map pattern_tree (drop l.item-index l.items))) ≡ all_ground (patterns (map pattern_tree l.items))
+invariant-all_ground-loop-item l = all_ground (patterns (map pattern_tree (drop l.item-index l.items)))
+    ≡ all_ground (patterns (map pattern_tree l.items))

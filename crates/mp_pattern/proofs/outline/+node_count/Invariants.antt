@@ -7,5 +7,6 @@ use Rattle.mp_pattern.proofs.outline.+node_count.Given as goal
 abbrev pub invariant-loop-arg : goal.invariant-loop-arg
 invariant-loop-arg l = record {
   fits : l.count ≤ 2 ^ 32 - 1;
-  rest : min (l.count + all_pattern_nodes (patterns (map pattern_tree (drop l.arg-index l.arg-items)))) (2 ^ 32 - 1) ≡ min (pattern_nodes (pattern_tree l.pattern)) (2 ^ 32 - 1);
+  rest : min (l.count + all_pattern_nodes (patterns (map pattern_tree (drop l.arg-index l.arg-items)))) (2 ^ 32 - 1)
+      ≡ min (pattern_nodes (pattern_tree l.pattern)) (2 ^ 32 - 1);
 }

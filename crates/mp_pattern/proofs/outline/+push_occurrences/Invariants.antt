@@ -8,4 +8,5 @@ use Rattle.mp_pattern.proofs.outline.+push_occurrences.Given as goal
 
 abbrev pub invariant-loop-arg : goal.invariant-loop-arg
 invariant-loop-arg l =
-    map occurrence l.out.items ++ all_uses (Some l.op.0) (patterns (map pattern_tree (drop l.arg-index l.arg-items))) ≡ map occurrence l.fn.out.items ++ uses (option_map (λ f. f.0) l.fn.under) (pattern_tree l.pattern)
+    map occurrence l.out.items ++ all_uses (Some l.op.0) (patterns (map pattern_tree (drop l.arg-index l.arg-items)))
+    ≡ map occurrence l.fn.out.items ++ uses (option_map (λ f. f.0) l.fn.under) (pattern_tree l.pattern)

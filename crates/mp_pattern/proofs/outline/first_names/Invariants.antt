@@ -6,4 +6,6 @@ use Rattle.mp_pattern.proofs.outline.first_names.Given as goal
 
 abbrev pub invariant-loop-occurrence : goal.invariant-loop-occurrence
 invariant-loop-occurrence l =
-    firsts_after same_name (map (λ n. n.now) l.names.items) (map (λ u. u.name) (map occurrence (drop l.occurrence-index l.occurrences))) ≡ firsts_after same_name [] (map (λ u. u.name) (map occurrence l.occurrences))
+    firsts_after same_name (map (λ n. n.now) l.names.items)
+    (map (λ u. u.name) (map occurrence (drop l.occurrence-index l.occurrences)))
+    ≡ firsts_after same_name [] (map (λ u. u.name) (map occurrence l.occurrences))

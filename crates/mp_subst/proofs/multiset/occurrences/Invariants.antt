@@ -8,5 +8,6 @@ use Rattle.mp_subst.proofs.multiset.occurrences.Given as goal
 abbrev pub invariant-loop-other : goal.invariant-loop-other
 invariant-loop-other l = record {
   at_most : l.count ≤ l.other-index;
-  rest : l.count + count_by (eq_by_cmp tree_cmp (tree l.term)) (map tree (drop l.other-index l.terms)) ≡ count_by (eq_by_cmp tree_cmp (tree l.term)) (map tree l.terms);
+  rest : l.count + count_by (eq_by_cmp tree_cmp (tree l.term)) (map tree (drop l.other-index l.terms))
+      ≡ count_by (eq_by_cmp tree_cmp (tree l.term)) (map tree l.terms);
 }

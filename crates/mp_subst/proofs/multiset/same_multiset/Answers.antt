@@ -12,7 +12,8 @@ pub returns-then-terms-others : goal.returns-then-terms-others
 returns-then-terms-others c =
     let ts = c.args.terms.now in
     let us = c.args.others.now in
-    other_lengths (map tree ts) (map tree us) (λ e. omega (arith, c.if-terms-others.true, length-map ts tree, e, length-map us tree))
+    other_lengths (map tree ts) (map tree us)
+    (λ e. omega (arith, c.if-terms-others.true, length-map ts tree, e, length-map us tree))
 
 pub returns-then-occurrences : goal.returns-then-occurrences
 returns-then-occurrences c =
@@ -24,8 +25,10 @@ loop-term-preserved c = λ h.
     let ts = c.args.terms.now in
     let i = c.loop-term.term-index in
     let t = c.term-item.result in
-    let next : drop i ts ≡ t ∷ drop (i + 1) ts = drop-cons ts i t c.loop-term-test.true ∙ ap (λ x. x ∷ drop (suc i) ts) (sym c.term-item.is) ∙ ap (λ n. t ∷ drop n ts) (sym (add-one i)) in
-    let alike : Alike tree_cmp (map tree ts) (map tree c.args.others.now) (tree t) = omega (arith, c.occurrences.ensures, c.if-occurrences.false, c.occurrences-in-loop-term.ensures) in
+    let next : drop i ts ≡ t ∷ drop (i + 1) ts = drop-cons ts i t c.loop-term-test.true
+    ∙ ap (λ x. x ∷ drop (suc i) ts) (sym c.term-item.is) ∙ ap (λ n. t ∷ drop n ts) (sym (add-one i)) in
+    let alike : Alike tree_cmp (map tree ts) (map tree c.args.others.now) (tree t) =
+    omega (arith, c.occurrences.ensures, c.if-occurrences.false, c.occurrences-in-loop-term.ensures) in
     let all = λ (zs : List Tree). AllByRecursion (Alike tree_cmp (map tree ts) (map tree c.args.others.now)) zs in
     c.loop-term.invariant (subst all (ap (map tree) (sym next)) (alike, h))
 
@@ -33,7 +36,9 @@ pub returns : goal.returns
 returns c =
     let ts = c.args.terms.now in
     let us = c.args.others.now in
-    let lengths : length (map tree ts) ≡ length (map tree us) = omega (arith, length-map ts tree, c.if-terms-others.false, length-map us tree) in
-    let none : map tree (drop c.loop-term.term-index ts) ≡ [] = ap (map tree) (drop_all c.loop-term.term-index ts (omega (arith, c.loop-term-test.false))) in
+    let lengths : length (map tree ts) ≡ length (map tree us) =
+    omega (arith, length-map ts tree, c.if-terms-others.false, length-map us tree) in
+    let none : map tree (drop c.loop-term.term-index ts) ≡ [] =
+    ap (map tree) (drop_all c.loop-term.term-index ts (omega (arith, c.loop-term-test.false))) in
     let all = λ (zs : List Tree). AllByRecursion (Alike tree_cmp (map tree ts) (map tree us)) zs in
     same_multisets (map tree ts) (map tree us) lengths (c.loop-term.invariant (subst all (sym none) tt))

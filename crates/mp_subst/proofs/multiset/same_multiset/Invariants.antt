@@ -6,4 +6,6 @@ use Rattle.mp_subst.proofs.Multisets.{Alike}
 use Rattle.mp_subst.proofs.multiset.same_multiset.Given as goal
 
 abbrev pub invariant-loop-term : goal.invariant-loop-term
-invariant-loop-term l = AllByRecursion (Alike tree_cmp (map tree l.terms) (map tree l.others)) (map tree (drop l.term-index l.terms)) → AllByRecursion (Alike tree_cmp (map tree l.terms) (map tree l.others)) (map tree l.terms)
+invariant-loop-term l = AllByRecursion (Alike tree_cmp (map tree l.terms) (map tree l.others))
+    (map tree (drop l.term-index l.terms)) → AllByRecursion (Alike tree_cmp (map tree l.terms) (map tree l.others))
+    (map tree l.terms)
