@@ -7,13 +7,15 @@ use Rattle.mp_term.specs.Signature.{Sig}
 use Rattle.mp_term.proofs.ListLaws.{all-append}
 use Rattle.mp_pattern.specs.declared.limits.TheConstants.{MAX_PATTERN_NODES, MAX_VARIABLES}
 use Rattle.mp_pattern.specs.PatternTree.{Wildcard, dot, kind, plus, star, optional, Pattern}
-use Rattle.mp_pattern.specs.CondTree.{Operand, var, ground, Amount, fixed, count, size, Cond, amounts, same, less, free, of_kind, headed, negation, all_of, any_of, Conds, no_conds, more_conds}
+use Rattle.mp_pattern.specs.CondTree.{Operand, var, ground, Amount, fixed, count, size, Cond, amounts, same, less, free}
+use Rattle.mp_pattern.specs.CondTree.{of_kind, headed, negation, all_of, any_of, Conds, no_conds, more_conds}
 use Rattle.mp_pattern.specs.Size.{pattern_nodes}
 use Rattle.mp_pattern.specs.Limits.{DefaultIsSmall, DefaultsAreSmall}
 use Rattle.mp_pattern.specs.Operands.{amount_operands, operands, all_operands, IsOperandOver, HasConditionOver}
 use Rattle.mp_pattern.specs.Variables.{variables}
 use Rattle.mp_pattern.specs.PlanFault.{plan_fault}
-use Rattle.mp_pattern.specs.SoundRule.{IsSoundWildcard, IsFormed, IsSoundPattern, IsSoundOperand, IsSoundAmount, IsChecked, AreChecked, HasSoundCondition}
+use Rattle.mp_pattern.specs.SoundRule.{IsSoundWildcard, IsFormed, IsSoundPattern, IsSoundOperand, IsSoundAmount}
+use Rattle.mp_pattern.specs.SoundRule.{IsChecked, AreChecked, HasSoundCondition}
 use Rattle.mp_pattern.proofs.Formed.{EachWildcard-IsFormed}
 
 module _ (sig : Sig) where
@@ -54,7 +56,8 @@ module _ (sig : Sig) where
 
     mutual
       over-cond : (c : Cond) → IsChecked sig p c → AllByRecursion IsOver (operands c)
-      over-cond (amounts m s n) h = all-append IsOver (amount_operands m) (amount_operands n) (over-amount m h.0) (over-amount n h.1)
+      over-cond (amounts m s n) h = all-append IsOver (amount_operands m) (amount_operands n) (over-amount m h.0)
+          (over-amount n h.1)
       over-cond (same a b) h = over-two a b h.0 h.1
       over-cond (less a b) h = over-two a b h.0.0 h.1.0
       over-cond (free a b) h = over-two a b h.0 h.1
@@ -66,9 +69,11 @@ module _ (sig : Sig) where
 
       over-conds : (cs : Conds) → AreChecked sig p cs → AllByRecursion IsOver (all_operands cs)
       over-conds no_conds h = tt
-      over-conds (more_conds c cs) h = all-append IsOver (operands c) (all_operands cs) (over-cond c h.0) (over-conds cs h.1)
+      over-conds (more_conds c cs) h = all-append IsOver (operands c) (all_operands cs) (over-cond c h.0)
+          (over-conds cs h.1)
 
     -- a sound condition is over the variables of the pattern
-    pub HasConditionOver-HasSoundCondition : (o : Option Cond) → HasSoundCondition sig p o → HasConditionOver (variables p) o
+    pub HasConditionOver-HasSoundCondition : (o : Option Cond) → HasSoundCondition sig p o
+        → HasConditionOver (variables p) o
     HasConditionOver-HasSoundCondition None h = tt
     HasConditionOver-HasSoundCondition (Some c) h = over-cond c h.checked

@@ -61,7 +61,8 @@ module _ {X : Type 0} (cmp : X → X → Ordering) where
   abbrev pub pieces_among : Bool → List ℕ → List X → List (List X)
   pieces_among anywhere ns ts = flat_map (λ n. pieces_of anywhere n ts) ns
 
-  -- the pieces of a list by shortlex: its distinct sublists, which of an ascending list are its sub-multisets, or its prefixes
+  -- the pieces of a list by shortlex: its distinct sublists, which of an ascending list are its sub-multisets, or its
+  -- prefixes
   abbrev pub pieces : Bool → List X → List (List X)
   pieces anywhere ts = pieces_among anywhere (count_to 0 (length ts)) ts
 
