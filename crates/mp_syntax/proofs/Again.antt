@@ -3,12 +3,13 @@ use Rattle.std.proofs.Common.{◌≡◌, ℕ, zero, suc, ◌+◌, Bool, true, fa
 use Rattle.std.specs.Prelude.{◌&&◌}
 use Rattle.std.specs.List.{flat_map}
 use Rattle.std.proofs.lemmas.Slice.Eq.{bytes_eq-Decides}
+use Rattle.mp_syntax.specs.declared.limits.TheConstants.{MAX_OPEN}
 use Rattle.mp_syntax.specs.declared.place.Place.{Place}
 use Rattle.mp_syntax.specs.declared.token.Punct.TheVariants.{Open, Close, Comma, Colon}
 use Rattle.mp_syntax.specs.Tokens.{Token, Punctuation, Placed}
 use Rattle.mp_syntax.specs.Syntax.{Spot, Wildcard, Tree, Symbol, Apply, InfixOf, Wild, Optional, Variable, Trees, no_trees, more_trees, trees, tree_list, Statement, Expected, Matches, AllMatch, spell, spell_first, spell_others, spell_with_colon, spelled_word, spelled_sign, spelled_wildcard, another, comma, AreDots, Fits, AreFit}
 use Rattle.mp_syntax.specs.Machine.{Frame, Arguments, Bracket, Operands, Default, open_count, Within, State, Top, BeforeExpr, AfterWord, AfterOpen, AfterWildcard, AfterExpr, AfterDollar, Step, Go, Emit, is_punct, is_sign, word_of, sign_of, wildcard_at, is_dot, spot, on_punct, on_text, on_word, step, step_open, step_expr, step_behind, after_step, run}
-use Rattle.mp_syntax.specs.Parsing.{within_defaults}
+use Rattle.mp_syntax.specs.Parsing.{HasRoom, within_defaults}
 use Rattle.mp_syntax.proofs.Runs.{dollar-step, word-opens, bracket-opens, open-expr, operand-again, wildcard-step, default-step, wildcard-alone, defaults-behind, chained-optional, open_count-within_defaults}
 use Rattle.mp_syntax.proofs.Trees.{trees-tree_list, true-is_dot, fits-optional}
 
@@ -68,8 +69,8 @@ word-taken next t w h = text-taken word_of next t w (ap word_of h.0) h.1
 pub sign-taken : (next : Spot → Step) (t : Placed) (s : Spot) → Matches t (spelled_sign s) → on_text t next (sign_of t.token) ≡ next s
 sign-taken next t s h = text-taken sign_of next t s (ap sign_of h.0) h.1
 
-step_expr-word : (x : Within) (k : List Frame) (t : Placed) (w : Spot) → Matches t (spelled_word w) → step_expr 100 x k t (word_of t.token) ≡ Go (AfterWord x k w)
-step_expr-word x k t w h = ap (step_expr 100 x k t) (ap word_of h.0) ∙ ap (λ p. Go (AfterWord x k (spot w.text p))) h.1
+step_expr-word : (x : Within) (k : List Frame) (t : Placed) (w : Spot) → Matches t (spelled_word w) → step_expr MAX_OPEN x k t (word_of t.token) ≡ Go (AfterWord x k w)
+step_expr-word x k t w h = ap (step_expr MAX_OPEN x k t) (ap word_of h.0) ∙ ap (λ p. Go (AfterWord x k (spot w.text p))) h.1
 
 -- a wildcard that matches leads on
 wildcard-taken : (x : Within) (k : List Frame) (t : Placed) (w : Wildcard) → Matches t (spelled_wildcard w) → step (BeforeExpr x k) t ≡ Go (AfterWildcard x k w)
@@ -101,22 +102,14 @@ others-begin between none (more_trees a args) (t ∷ ts) h = record { token = t;
 module _ (done : List Statement) (x : Within) where
   -- a word that no bracket follows
   word-expr : (k : List Frame) (w : Spot) (u : Placed) (us : List Placed) → is_punct Open u.token ≡ false → run done (AfterWord x k w) (u ∷ us) ≡ run done (AfterExpr x k (Symbol w)) (u ∷ us)
-  word-expr k w u us h = ap (λ b. after_step done u.place (λ d a. run d a us) (cond b (step_open 100 k (AfterOpen x k w)) (step_behind x k (Symbol w) u))) h
+  word-expr k w u us h = ap (λ b. after_step done u.place (λ d a. run d a us) (cond b (step_open MAX_OPEN k (AfterOpen x k w)) (step_behind x k (Symbol w) u))) h
 
   -- what spells an expression isn't closed at once
   open-spell : (t : Tree) (k : List Frame) (w : Spot) (ts us : List Placed) → AllMatch ts (spell t) → run done (AfterOpen x k w) (ts ++ us) ≡ run done (BeforeExpr x (Arguments w [] ∷ k)) (ts ++ us)
   open-spell (Symbol v) k w [] us h = absurd h
   open-spell (Symbol v) k w (t ∷ ts) us h = open-expr done x k w t (ts ++ us) (ap (is_punct Close) h.0.0)
-  open-spell (Apply f args) k w [] us h = absurd h
-  open-spell (Apply f args) k w (t ∷ ts) us h = open-expr done x k w t (ts ++ us) (ap (is_punct Close) h.0.0)
-  open-spell (InfixOf place sign operands) k w [] us h = absurd h
-  open-spell (InfixOf place sign operands) k w (t ∷ ts) us h = open-expr done x k w t (ts ++ us) (ap (is_punct Close) h.0.0)
-  open-spell (Optional v others default) k w [] us h = absurd h
-  open-spell (Optional v others default) k w (t ∷ ts) us h = open-expr done x k w t (ts ++ us) (ap (is_punct Close) h.0.0)
-  open-spell (Variable v) k w [] us h = absurd h
-  open-spell (Variable v) k w (t ∷ ts) us h = open-expr done x k w t (ts ++ us) (ap (is_punct Close) h.0.0)
-  open-spell (Wild v) k w [] us h = absurd h
-  open-spell (Wild v) k w (t ∷ ts) us h = open-expr done x k w t (ts ++ us) (ap (is_punct Close) h.0.0)
+  open-spell _ k w [] us h = absurd h
+  open-spell _ k w (t ∷ ts) us h = open-expr done x k w t (ts ++ us) (ap (is_punct Close) h.0.0)
 
   -- expressions in brackets: the token between them, the open bracket with those so far, and the tree that they make
   record IsRow (between : Expected) (frame : List Tree → Frame) (whole : List Tree → Tree) : Type 0 where
@@ -143,14 +136,14 @@ module _ (done : List Statement) (x : Within) where
 
   -- the expression is read, whatever is open
   abbrev pub ReadsExpr : Tree → Type 0
-  ReadsExpr e = (k : List Frame) (room : ℕ) (ts : List Placed) (u : Placed) (us : List Placed) → AllMatch ts (spell e) → Fits room e → open_count k + room ≡ 100 → ContinuesNone u → run done (BeforeExpr x k) (ts ++ u ∷ us) ≡ run done (AfterExpr x k e) (u ∷ us)
+  ReadsExpr e = (k : List Frame) (room : ℕ) (ts : List Placed) (u : Placed) (us : List Placed) → AllMatch ts (spell e) → Fits room e → HasRoom k room → ContinuesNone u → run done (BeforeExpr x k) (ts ++ u ∷ us) ≡ run done (AfterExpr x k e) (u ∷ us)
 
   -- the other expressions in brackets are read behind one
   abbrev ReadsOthers : Trees → Type 0
-  ReadsOthers args = (between : Expected) (frame : List Tree → Frame) (whole : List Tree → Tree) → IsRow between frame whole → (k : List Frame) (room : ℕ) (before : List Tree) (e : Tree) (ts us : List Placed) → AllMatch ts (spell_others between args) → AreFit room args → open_count k + suc room ≡ 100 → run done (AfterExpr x (frame before ∷ k) e) (ts ++ us) ≡ run done (AfterExpr x k (whole (before ++ e ∷ tree_list args))) us
+  ReadsOthers args = (between : Expected) (frame : List Tree → Frame) (whole : List Tree → Tree) → IsRow between frame whole → (k : List Frame) (room : ℕ) (before : List Tree) (e : Tree) (ts us : List Placed) → AllMatch ts (spell_others between args) → AreFit room args → HasRoom k (suc room) → run done (AfterExpr x (frame before ∷ k) e) (ts ++ us) ≡ run done (AfterExpr x k (whole (before ++ e ∷ tree_list args))) us
 
   -- an expression in brackets and the others behind it
-  row-again : (t : Tree) (args : Trees) → ReadsExpr t → ReadsOthers args → (between : Expected) (frame : List Tree → Frame) (whole : List Tree → Tree) → IsRow between frame whole → (k : List Frame) (room : ℕ) (before : List Tree) (ts us : List Placed) → AllMatch ts (spell t ++ spell_others between args) → Fits room t → AreFit room args → open_count k + suc room ≡ 100 → run done (BeforeExpr x (frame before ∷ k)) (ts ++ us) ≡ run done (AfterExpr x k (whole (before ++ t ∷ tree_list args))) us
+  row-again : (t : Tree) (args : Trees) → ReadsExpr t → ReadsOthers args → (between : Expected) (frame : List Tree → Frame) (whole : List Tree → Tree) → IsRow between frame whole → (k : List Frame) (room : ℕ) (before : List Tree) (ts us : List Placed) → AllMatch ts (spell t ++ spell_others between args) → Fits room t → AreFit room args → HasRoom k (suc room) → run done (BeforeExpr x (frame before ∷ k)) (ts ++ us) ≡ run done (AfterExpr x k (whole (before ++ t ∷ tree_list args))) us
   row-again t args read-t read-args between frame whole row k room before ts us h t-fits args-fit len =
       let r = split (spell t) (spell_others between args) ts h in
       let b = others-begin between row.continues_none args r.back r.second in
@@ -160,7 +153,7 @@ module _ (done : List Statement) (x : Within) where
       ∙ read-args between frame whole row k room before t r.back us r.second args-fit len
 
   -- an infix expression, whose operands are read
-  infix-again : (t v : Tree) (vs : Trees) → ReadsExpr t → ReadsExpr v → ReadsOthers vs → (place : Place) (sign : Spot) (k : List Frame) (room : ℕ) (p : Placed) (ts us : List Placed) → AllMatch (p ∷ ts) (spell (InfixOf place sign (more_trees t (more_trees v vs)))) → AreFit room (more_trees t (more_trees v vs)) → open_count k + suc room ≡ 100 → run done (BeforeExpr x k) (p ∷ (ts ++ us)) ≡ run done (AfterExpr x k (InfixOf place sign (more_trees t (more_trees v vs)))) us
+  infix-again : (t v : Tree) (vs : Trees) → ReadsExpr t → ReadsExpr v → ReadsOthers vs → (place : Place) (sign : Spot) (k : List Frame) (room : ℕ) (p : Placed) (ts us : List Placed) → AllMatch (p ∷ ts) (spell (InfixOf place sign (more_trees t (more_trees v vs)))) → AreFit room (more_trees t (more_trees v vs)) → HasRoom k (suc room) → run done (BeforeExpr x k) (p ∷ (ts ++ us)) ≡ run done (AfterExpr x k (InfixOf place sign (more_trees t (more_trees v vs)))) us
   infix-again t v vs read-t read-v read-vs place sign k room p ts us h fits len =
       let r = split (spell t) (spelled_sign sign ∷ (spell v ++ spell_others (another sign) vs)) ts h.1 in
       let s = led (spelled_sign sign) (spell v ++ spell_others (another sign) vs) r.back r.second in
@@ -222,10 +215,10 @@ module _ (done : List Statement) (x : Within) where
     expr-again (Variable w) k room (t ∷ v ∷ y ∷ ts) u us h fits len n = absurd h.1.1
 
     -- arguments are read behind their bracket
-    first-again : (args : Trees) (k : List Frame) (w : Spot) (room : ℕ) (ts us : List Placed) → AllMatch ts (spell_first comma args) → AreFit room args → open_count k + suc room ≡ 100 → run done (AfterOpen x k w) (ts ++ us) ≡ run done (AfterExpr x k (Apply w args)) us
+    first-again : (args : Trees) (k : List Frame) (w : Spot) (room : ℕ) (ts us : List Placed) → AllMatch ts (spell_first comma args) → AreFit room args → HasRoom k (suc room) → run done (AfterOpen x k w) (ts ++ us) ≡ run done (AfterExpr x k (Apply w args)) us
     first-again no_trees k w room [] us h fits len = absurd h
     first-again no_trees k w room (t ∷ []) us h fits len =
-        over done (AfterOpen x k w) (AfterExpr x k (Apply w no_trees)) t us (punct-taken (is_punct Close) t (Punctuation Close) (Go (AfterExpr x k (Apply w no_trees))) (step_expr 100 x (Arguments w [] ∷ k) t (word_of t.token)) h.0 refl)
+        over done (AfterOpen x k w) (AfterExpr x k (Apply w no_trees)) t us (punct-taken (is_punct Close) t (Punctuation Close) (Go (AfterExpr x k (Apply w no_trees))) (step_expr MAX_OPEN x (Arguments w [] ∷ k) t (word_of t.token)) h.0 refl)
     first-again no_trees k w room (t ∷ v ∷ ts) us h fits len = absurd h.1
     first-again (more_trees t args) k w room ts us h fits len =
         let r = split (spell t) (spell_others comma args) ts h in
@@ -260,7 +253,7 @@ pub record ReadTo (done : List Statement) (from to : State) (m : Expected) (ms :
   pub read : run done from (ts ++ us) ≡ run done to (token ∷ (others ++ us))
 
 -- an expression is read up to a token that continues none
-pub expr-between : (done : List Statement) (x : Within) (k : List Frame) (room : ℕ) (e : Tree) (m : Expected) (ms : List Expected) (ts us : List Placed) → AllMatch ts (spell e ++ m ∷ ms) → Fits room e → open_count k + room ≡ 100 → EachContinuesNone m → ReadTo done (BeforeExpr x k) (AfterExpr x k e) m ms ts us
+pub expr-between : (done : List Statement) (x : Within) (k : List Frame) (room : ℕ) (e : Tree) (m : Expected) (ms : List Expected) (ts us : List Placed) → AllMatch ts (spell e ++ m ∷ ms) → Fits room e → HasRoom k room → EachContinuesNone m → ReadTo done (BeforeExpr x k) (AfterExpr x k e) m ms ts us
 expr-between done x k room e m ms ts us h fits len none =
     let r = split (spell e) (m ∷ ms) ts h in
     let s = led m ms r.back r.second in

@@ -174,14 +174,9 @@ adds-last ConditionAlone v l t = go (is_end t.token) refl
 
 adds-whole : (x : Within) (k : List Frame) (v : Level) (l : Literal) (t : Placed) → Adds (step_whole x k (condition (all_alternatives v l)) t) (so_far (AfterLiteral x k v l)) t
 adds-whole x [] v l t = adds-last x v l t
-adds-whole x (Arguments name args ∷ k) v l t = tt
-adds-whole x (Bracket place ∷ k) v l t = tt
-adds-whole x (Operands place sign first others ∷ k) v l t = tt
-adds-whole x (Default w ∷ k) v l t = tt
-adds-whole x (Operand s lead ∷ k) v l t = tt
-adds-whole x (Second s r e ∷ k) v l t = tt
 adds-whole x (Square s ∷ k) v l t =
     adds-punct CloseSquare t _ (refuse t.token) (so_far (AfterLiteral x (Square s ∷ k) v l)) (λ is. (Said (Punctuation CloseSquare), tt, is, rw (spell_condition-all v l) (simp append_assoc))) tt
+adds-whole x (_ ∷ k) v l t = tt
 
 pub adds-literal_behind : (x : Within) (k : List Frame) (v : Level) (l : Literal) (t : Placed) → Adds (step_in MAX_OPEN (AfterLiteral x k v l) t) (so_far (AfterLiteral x k v l)) t
 adds-literal_behind x k v l t =

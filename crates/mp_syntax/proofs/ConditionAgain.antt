@@ -3,6 +3,7 @@ use Rattle.std.proofs.Common.{◌≡◌, ℕ, zero, suc, ◌+◌, Bool, true, fa
 use Rattle.std.specs.Prelude.{codes}
 use Rattle.std.specs.Str.{bytes_eq}
 use Rattle.std.proofs.lemmas.Slice.Eq.{bytes_eq-Decides}
+use Rattle.mp_syntax.specs.declared.limits.TheConstants.{MAX_OPEN}
 use Rattle.mp_syntax.specs.declared.token.Punct.TheVariants.{Open, Close, OpenSquare, CloseSquare, Comma, Colon}
 use Rattle.mp_syntax.specs.declared.fault.Fault.{Fault}
 use Rattle.mp_syntax.specs.declared.fault.FaultKind.TheVariants.{Syntax}
@@ -17,6 +18,7 @@ use Rattle.mp_syntax.specs.Tokens.{Word, Sign, Punctuation, Placed}
 use Rattle.mp_syntax.specs.Syntax.{Spot, Tree, Amount, Number, Measured, Atom, Compare, Relate, Test, Literal, AtomOf, Bracketed, Literals, no_literals, more_literals, literals, literal_list, Condition, no_alternatives, more_alternatives, condition, alternative_list, Statement, Said, Matches, AllMatch, spell, spell_amount, spell_atom, spell_not, spell_literal, spell_literals, spell_alternatives, spell_condition, spelled_word, fixed_word, opening, closing, comma, measure_word, sense_sign, relation_word, property_word, Fits, FitsAmount, FitsAtom, FitsLiteral, LiteralsFit, AlternativesFit, FitsCondition}
 use Rattle.mp_syntax.specs.Machine.{Within, Frame, Operand, Second, Square, open_count, Level, no_level, next_literal, all_alternatives, Site, site, Side, OnLeft, OnRight, Lead, OfMeasure, OfRelation, OfProperty, State, BeforeExpr, AfterExpr, BeforeLiteral, BeforeBody, BeforeOperand, BeforeName, BehindName, AfterAmount, AfterSense, AfterLiteral, Step, Go, Refuse, Parsed, no_fault, is_punct, is_word, is_number, measure_of, sense_of, relation_of, property_of, spot, on_punct, on_found, with_atom, with_amount, step, step_amount, step_body, step_whole, after_step, run}
 use Rattle.mp_syntax.specs.ConditionParsing.{level, EndsCondition}
+use Rattle.mp_syntax.specs.Parsing.{HasRoom}
 use Rattle.mp_syntax.proofs.Trees.{literal-atom}
 use Rattle.mp_syntax.proofs.Again.{split, led, joined, over, word-taken, sign-taken, EachContinuesNone, nothing, ReadTo, expr-between}
 use Rattle.mp_syntax.proofs.ConditionRuns.{measure_of-word, sense_of-sign, relation_of-word, property_of-word, open-step, square-step, plain-step}
@@ -92,7 +94,7 @@ module _ (done : List Statement) (x : Within) where
       ∙ ap (on_found (λ p. Go (BeforeOperand x k s (OfProperty p))) (step_amount x k s OnLeft w)) b.no_property
 
   -- the bracket of an operand, and the operand
-  operand-again : (k : List Frame) (s : Site) (lead : Lead) (room : ℕ) (e : Tree) (m : _) (ms : _) (o : Placed) (ts us : List Placed) → Matches o opening → AllMatch ts (spell e ++ m ∷ ms) → Fits room e → open_count k + suc room ≡ 100 → EachContinuesNone m → ReadTo done (BeforeOperand x k s lead) (AfterExpr x (Operand s lead ∷ k) e) m ms (o ∷ ts) us
+  operand-again : (k : List Frame) (s : Site) (lead : Lead) (room : ℕ) (e : Tree) (m : _) (ms : _) (o : Placed) (ts us : List Placed) → Matches o opening → AllMatch ts (spell e ++ m ∷ ms) → Fits room e → HasRoom k (suc room) → EachContinuesNone m → ReadTo done (BeforeOperand x k s lead) (AfterExpr x (Operand s lead ∷ k) e) m ms (o ∷ ts) us
   operand-again k s lead room e m ms o ts us is h fits len none =
       let r = expr-between done x (Operand s lead ∷ k) room e m ms ts us h fits (omega (arith, len)) none in
       record {
@@ -103,7 +105,7 @@ module _ (done : List Statement) (x : Within) where
         read = over done (BeforeOperand x k s lead) (BeforeExpr x (Operand s lead ∷ k)) o (ts ++ us) (open-step x k s lead o (suc room) len (omega arith) (ap (is_punct Open) is)) ∙ r.read;
       }
 
-  amount-again : (at : State) (k : List Frame) (s : Site) (side : Side) (room : ℕ) (a : Amount) (ts us : List Placed) → StartsAmount at k s side → AllMatch ts (spell_amount a) → FitsAmount room a → open_count k + room ≡ 100 → run done at (ts ++ us) ≡ run done (with_amount x k s side a) us
+  amount-again : (at : State) (k : List Frame) (s : Site) (side : Side) (room : ℕ) (a : Amount) (ts us : List Placed) → StartsAmount at k s side → AllMatch ts (spell_amount a) → FitsAmount room a → HasRoom k room → run done at (ts ++ us) ≡ run done (with_amount x k s side a) us
   amount-again at k s side room (Number w) [] us starts h fits len = absurd h
   amount-again at k s side room (Number w) (t ∷ []) us starts h fits len =
       let digits = number-of room w fits in
@@ -124,7 +126,7 @@ module _ (done : List Statement) (x : Within) where
       ∙ over done (AfterExpr x (Operand s (OfMeasure side m) ∷ k) e) (with_amount x k s side (Measured m e)) r.token (r.others ++ us) (ap (λ u. on_punct Close u (Go (with_amount x k s side (Measured m e)))) r.match)
       ∙ ap (λ l. run done (with_amount x k s side (Measured m e)) (l ++ us)) (nothing r.others r.behind)
 
-  compare-again : (k : List Frame) (s : Site) (room : ℕ) (a : Amount) (sense : Sense) (b : Amount) (ts us : List Placed) → AllMatch ts (spell_atom (Compare a sense b)) → FitsAmount room a → FitsAmount room b → open_count k + room ≡ 100 → run done (BeforeBody x k s) (ts ++ us) ≡ run done (with_atom x k s (Compare a sense b)) us
+  compare-again : (k : List Frame) (s : Site) (room : ℕ) (a : Amount) (sense : Sense) (b : Amount) (ts us : List Placed) → AllMatch ts (spell_atom (Compare a sense b)) → FitsAmount room a → FitsAmount room b → HasRoom k room → run done (BeforeBody x k s) (ts ++ us) ≡ run done (with_atom x k s (Compare a sense b)) us
   compare-again k s room a sense b ts us h a-fits b-fits len =
       let r = split (spell_amount a) (Said (Sign (sense_sign sense)) ∷ spell_amount b) ts h in
       let c = led (Said (Sign (sense_sign sense))) (spell_amount b) r.back r.second in
@@ -135,7 +137,7 @@ module _ (done : List Statement) (x : Within) where
       ∙ ap (on_found (λ sense. Go (AfterSense x k s a sense)) (Refuse Syntax)) (sense_of-sign sense))
       ∙ amount-again (AfterSense x k s a sense) k s (OnRight a sense) room b c.others us (right-starts k s a sense) c.behind b-fits len
 
-  relate-again : (k : List Frame) (s : Site) (room : ℕ) (r : Relation) (d e : Tree) (ts us : List Placed) → AllMatch ts (spell_atom (Relate r d e)) → Fits room d → Fits room e → open_count k + suc room ≡ 100 → run done (BeforeBody x k s) (ts ++ us) ≡ run done (with_atom x k s (Relate r d e)) us
+  relate-again : (k : List Frame) (s : Site) (room : ℕ) (r : Relation) (d e : Tree) (ts us : List Placed) → AllMatch ts (spell_atom (Relate r d e)) → Fits room d → Fits room e → HasRoom k (suc room) → run done (BeforeBody x k s) (ts ++ us) ≡ run done (with_atom x k s (Relate r d e)) us
   relate-again k s room r d e [] us h d-fits e-fits len = absurd h
   relate-again k s room r d e (t ∷ []) us h d-fits e-fits len = absurd h.1
   relate-again k s room r d e (t ∷ o ∷ ts) us h d-fits e-fits len =
@@ -158,7 +160,7 @@ module _ (done : List Statement) (x : Within) where
       ∙ over done (BehindName x k s p e w) (with_atom x k s (Test p e w)) c us (ap (λ u. on_punct Close u (Go (with_atom x k s (Test p e w)))) h.1.0)
   name-again k s p e w (n ∷ c ∷ t ∷ ts) us h = absurd h.1.1
 
-  test-again : (k : List Frame) (s : Site) (room : ℕ) (p : Property) (e : Tree) (w : Spot) (ts us : List Placed) → AllMatch ts (spell_atom (Test p e w)) → Fits room e → open_count k + suc room ≡ 100 → run done (BeforeBody x k s) (ts ++ us) ≡ run done (with_atom x k s (Test p e w)) us
+  test-again : (k : List Frame) (s : Site) (room : ℕ) (p : Property) (e : Tree) (w : Spot) (ts us : List Placed) → AllMatch ts (spell_atom (Test p e w)) → Fits room e → HasRoom k (suc room) → run done (BeforeBody x k s) (ts ++ us) ≡ run done (with_atom x k s (Test p e w)) us
   test-again k s room p e w [] us h fits len = absurd h
   test-again k s room p e w (t ∷ []) us h fits len = absurd h.1
   test-again k s room p e w (t ∷ o ∷ ts) us h fits len =
@@ -176,7 +178,7 @@ module _ (done : List Statement) (x : Within) where
       no_relation properties.Kind = refl
       no_relation properties.Head = refl
 
-  atom-again : (k : List Frame) (s : Site) (room : ℕ) (a : Atom) (ts us : List Placed) → AllMatch ts (spell_atom a) → FitsAtom room a → open_count k + room ≡ 100 → run done (BeforeBody x k s) (ts ++ us) ≡ run done (with_atom x k s a) us
+  atom-again : (k : List Frame) (s : Site) (room : ℕ) (a : Atom) (ts us : List Placed) → AllMatch ts (spell_atom a) → FitsAtom room a → HasRoom k room → run done (BeforeBody x k s) (ts ++ us) ≡ run done (with_atom x k s a) us
   atom-again k s zero (Compare a sense b) ts us h fits len = compare-again k s zero a sense b ts us h fits.0 fits.1 len
   atom-again k s (suc room) (Compare a sense b) ts us h fits len = compare-again k s (suc room) a sense b ts us h fits.0 fits.1 len
   atom-again k s zero (Relate r d e) ts us h fits len = absurd fits
@@ -188,7 +190,7 @@ module _ (done : List Statement) (x : Within) where
 
   -- a token that is no `not` begins the body of a literal
   body-begins : (k : List Frame) (v : Level) (t : Placed) (ts : List Placed) → is_word (codes "not") t.token ≡ false → run done (BeforeLiteral x k v) (t ∷ ts) ≡ run done (BeforeBody x k (site v false)) (t ∷ ts)
-  body-begins k v t ts h = ap (λ b. after_step done t.place (λ d a. run d a ts) (cond b (Go (BeforeBody x k (site v true))) (step_body 100 x k (site v false) t))) h
+  body-begins k v t ts h = ap (λ b. after_step done t.place (λ d a. run d a ts) (cond b (Go (BeforeBody x k (site v true))) (step_body MAX_OPEN x k (site v false) t))) h
 
   -- an atom begins with no `not`
   amount-begins : (room : ℕ) (a : Amount) (ms : _) (t : Placed) (ts : List Placed) → AllMatch (t ∷ ts) (spell_amount a ++ ms) → FitsAmount room a → is_word (codes "not") t.token ≡ false
@@ -202,8 +204,7 @@ module _ (done : List Statement) (x : Within) where
     where
       at : (r : Relation) → bytes_eq (relation_word r) (codes "not") ≡ false
       at Same = refl
-      at Less = refl
-      at Free = refl
+      at _ = refl
   atom-begins room (Test p e w) t ts h fits = ap (is_word (codes "not")) h.0 ∙ at p
     where
       at : (p : Property) → bytes_eq (property_word p) (codes "not") ≡ false
@@ -215,14 +216,14 @@ module _ (done : List Statement) (x : Within) where
       → ((s : Site) (ts : List Placed) → s ≡ site v negated → AllMatch ts ms → run done (BeforeBody x k s) (ts ++ us) ≡ run done next us) → run done (BeforeLiteral x k v) (ts ++ us) ≡ run done next us
   negated-again k v true ms [] us h next begins some read = absurd h
   negated-again k v true ms (t ∷ ts) us h next begins some read =
-      over done (BeforeLiteral x k v) (BeforeBody x k (site v true)) t (ts ++ us) (ap (λ u. cond (is_word (codes "not") u) (Go (BeforeBody x k (site v true))) (step_body 100 x k (site v false) (record { token = u; place = t.place }))) h.0)
+      over done (BeforeLiteral x k v) (BeforeBody x k (site v true)) t (ts ++ us) (ap (λ u. cond (is_word (codes "not") u) (Go (BeforeBody x k (site v true))) (step_body MAX_OPEN x k (site v false) (record { token = u; place = t.place }))) h.0)
       ∙ read (site v true) ts refl h.1
   negated-again k v false ms [] us h next begins some read = absurd (some h)
   negated-again k v false ms (t ∷ ts) us h next begins some read = body-begins k v t (ts ++ us) (begins t ts h) ∙ read (site v false) (t ∷ ts) refl h
 
   -- the literal is read, whatever is open
   abbrev ReadsLiteral : Literal → Type 0
-  ReadsLiteral l = (k : List Frame) (room : ℕ) (v : Level) (ts us : List Placed) → AllMatch ts (spell_literal l) → FitsLiteral room l → open_count k + room ≡ 100 → run done (BeforeLiteral x k v) (ts ++ us) ≡ run done (AfterLiteral x k v l) us
+  ReadsLiteral l = (k : List Frame) (room : ℕ) (v : Level) (ts us : List Placed) → AllMatch ts (spell_literal l) → FitsLiteral room l → HasRoom k room → run done (BeforeLiteral x k v) (ts ++ us) ≡ run done (AfterLiteral x k v l) us
 
   -- the step behind alternatives over a token that is no `and`
   abbrev step_alternatives : List Frame → List Literals → Placed → Step
@@ -240,10 +241,10 @@ module _ (done : List Statement) (x : Within) where
 
   -- the other literals of an alternative are read behind one
   abbrev ReadsLiterals : Literals → Type 0
-  ReadsLiterals ls = (k : List Frame) (room : ℕ) (v : Level) (l : Literal) (ts us : List Placed) → AllMatch ts (spell_literals (fixed_word (codes "and") ∷ []) ls) → LiteralsFit room ls → open_count k + room ≡ 100 → EndsLiterals us → run done (AfterLiteral x k v l) (ts ++ us) ≡ run_alternatives k (v.alternatives ++ literals (v.literals ++ l ∷ literal_list ls) ∷ []) us
+  ReadsLiterals ls = (k : List Frame) (room : ℕ) (v : Level) (l : Literal) (ts us : List Placed) → AllMatch ts (spell_literals (fixed_word (codes "and") ∷ []) ls) → LiteralsFit room ls → HasRoom k room → EndsLiterals us → run done (AfterLiteral x k v l) (ts ++ us) ≡ run_alternatives k (v.alternatives ++ literals (v.literals ++ l ∷ literal_list ls) ∷ []) us
 
   -- an alternative is read
-  alternative-again : (l : Literal) (ls : Literals) → ReadsLiteral l → ReadsLiterals ls → (k : List Frame) (room : ℕ) (v : Level) (ts us : List Placed) → AllMatch ts (spell_literal l ++ spell_literals (fixed_word (codes "and") ∷ []) ls) → FitsLiteral room l → LiteralsFit room ls → open_count k + room ≡ 100 → EndsLiterals us → run done (BeforeLiteral x k v) (ts ++ us) ≡ run_alternatives k (v.alternatives ++ literals (v.literals ++ l ∷ literal_list ls) ∷ []) us
+  alternative-again : (l : Literal) (ls : Literals) → ReadsLiteral l → ReadsLiterals ls → (k : List Frame) (room : ℕ) (v : Level) (ts us : List Placed) → AllMatch ts (spell_literal l ++ spell_literals (fixed_word (codes "and") ∷ []) ls) → FitsLiteral room l → LiteralsFit room ls → HasRoom k room → EndsLiterals us → run done (BeforeLiteral x k v) (ts ++ us) ≡ run_alternatives k (v.alternatives ++ literals (v.literals ++ l ∷ literal_list ls) ∷ []) us
   alternative-again l ls read-l read-ls k room v ts us h l-fits ls-fit len ends =
       let r = split (spell_literal l) (spell_literals (fixed_word (codes "and") ∷ []) ls) ts h in
       ap (run done (BeforeLiteral x k v)) (ap (λ l. l ++ us) r.parts ∙ append_assoc r.front r.back us)
@@ -262,7 +263,7 @@ module _ (done : List Statement) (x : Within) where
 
   -- the other alternatives of a condition are read behind others
   abbrev ReadsAlternatives : Condition → Type 0
-  ReadsAlternatives c = (k : List Frame) (room : ℕ) (before : List Literals) (ts us : List Placed) → AllMatch ts (spell_alternatives (fixed_word (codes "or") ∷ []) c) → AlternativesFit room c → open_count k + room ≡ 100 → EndsAlternatives us → run_alternatives k before (ts ++ us) ≡ run_whole k (condition (before ++ alternative_list c)) us
+  ReadsAlternatives c = (k : List Frame) (room : ℕ) (before : List Literals) (ts us : List Placed) → AllMatch ts (spell_alternatives (fixed_word (codes "or") ∷ []) c) → AlternativesFit room c → HasRoom k room → EndsAlternatives us → run_alternatives k before (ts ++ us) ≡ run_whole k (condition (before ++ alternative_list c)) us
 
   -- alternatives end the literals before them
   alternatives-end : (c : Condition) (ts us : List Placed) → AllMatch ts (spell_alternatives (fixed_word (codes "or") ∷ []) c) → EndsAlternatives us → EndsLiterals (ts ++ us)
@@ -273,7 +274,7 @@ module _ (done : List Statement) (x : Within) where
   alternatives-end (more_alternatives a c) (t ∷ ts) us h ends = ap (is_word (codes "and")) h.0
 
   -- a condition is read behind alternatives of it
-  first-again : (l : Literal) (ls : Literals) (c : Condition) → ReadsLiteral l → ReadsLiterals ls → ReadsAlternatives c → (k : List Frame) (room : ℕ) (before : List Literals) (ts us : List Placed) → AllMatch ts (spell_literals [] (more_literals l ls) ++ spell_alternatives (fixed_word (codes "or") ∷ []) c) → LiteralsFit room (more_literals l ls) → AlternativesFit room c → open_count k + room ≡ 100 → EndsAlternatives us
+  first-again : (l : Literal) (ls : Literals) (c : Condition) → ReadsLiteral l → ReadsLiterals ls → ReadsAlternatives c → (k : List Frame) (room : ℕ) (before : List Literals) (ts us : List Placed) → AllMatch ts (spell_literals [] (more_literals l ls) ++ spell_alternatives (fixed_word (codes "or") ∷ []) c) → LiteralsFit room (more_literals l ls) → AlternativesFit room c → HasRoom k room → EndsAlternatives us
       → run done (BeforeLiteral x k (level before [])) (ts ++ us) ≡ run_whole k (condition (before ++ more_literals l ls ∷ alternative_list c)) us
   first-again l ls c read-l read-ls read-c k room before ts us h ls-fit c-fits len ends =
       let r = split (spell_literals [] (more_literals l ls)) (spell_alternatives (fixed_word (codes "or") ∷ []) c) ts h in
@@ -285,10 +286,10 @@ module _ (done : List Statement) (x : Within) where
 
   -- the condition is read, whatever is open
   abbrev ReadsCondition : Condition → Type 0
-  ReadsCondition c = (k : List Frame) (room : ℕ) (ts us : List Placed) → AllMatch ts (spell_condition c) → FitsCondition room c → open_count k + room ≡ 100 → EndsAlternatives us → run done (BeforeLiteral x k no_level) (ts ++ us) ≡ run_whole k c us
+  ReadsCondition c = (k : List Frame) (room : ℕ) (ts us : List Placed) → AllMatch ts (spell_condition c) → FitsCondition room c → HasRoom k room → EndsAlternatives us → run done (BeforeLiteral x k no_level) (ts ++ us) ≡ run_whole k c us
 
   -- a condition in square brackets is read
-  bracketed-again : (c : Condition) → ReadsCondition c → (k : List Frame) (s : Site) (room : ℕ) (ts us : List Placed) → AllMatch ts (Said (Punctuation OpenSquare) ∷ spell_condition c ++ Said (Punctuation CloseSquare) ∷ []) → FitsCondition room c → open_count k + suc room ≡ 100 → run done (BeforeBody x k s) (ts ++ us) ≡ run done (AfterLiteral x k s.level (Bracketed s.negated c)) us
+  bracketed-again : (c : Condition) → ReadsCondition c → (k : List Frame) (s : Site) (room : ℕ) (ts us : List Placed) → AllMatch ts (Said (Punctuation OpenSquare) ∷ spell_condition c ++ Said (Punctuation CloseSquare) ∷ []) → FitsCondition room c → HasRoom k (suc room) → run done (BeforeBody x k s) (ts ++ us) ≡ run done (AfterLiteral x k s.level (Bracketed s.negated c)) us
   bracketed-again c read-c k s room [] us h fits len = absurd h
   bracketed-again c read-c k s room (o ∷ ts) us h fits len =
       let r = split (spell_condition c) (Said (Punctuation CloseSquare) ∷ []) ts h.1 in
@@ -349,5 +350,5 @@ module _ (done : List Statement) (x : Within) where
         ∙ ap (λ c. run_whole k (more_alternatives (more_literals l ls) c) us) (condition-alternative_list c)
 
 -- a condition is read up to a token that is neither `and` nor `or`
-pub condition-again : (done : List Statement) (x : Within) (c : Condition) (k : List Frame) (room : ℕ) (ts : List Placed) (u : Placed) (us : List Placed) → AllMatch ts (spell_condition c) → FitsCondition room c → open_count k + room ≡ 100 → EndsCondition u.token → run done (BeforeLiteral x k no_level) (ts ++ u ∷ us) ≡ after_step done u.place (λ d a. run d a us) (step_whole x k c u)
+pub condition-again : (done : List Statement) (x : Within) (c : Condition) (k : List Frame) (room : ℕ) (ts : List Placed) (u : Placed) (us : List Placed) → AllMatch ts (spell_condition c) → FitsCondition room c → HasRoom k room → EndsCondition u.token → run done (BeforeLiteral x k no_level) (ts ++ u ∷ us) ≡ after_step done u.place (λ d a. run d a us) (step_whole x k c u)
 condition-again done x c k room ts u us h fits len ends = condition-reads done x c k room ts (u ∷ us) h fits len ends

@@ -31,16 +31,11 @@ measure_of-word Size = refl
 
 pub sense_of-sign : (s : Sense) → sense_of (sense_sign s) ≡ Some s
 sense_of-sign Lt = refl
-sense_of-sign Le = refl
-sense_of-sign Gt = refl
-sense_of-sign Ge = refl
-sense_of-sign Eq = refl
-sense_of-sign Ne = refl
+sense_of-sign _ = refl
 
 pub relation_of-word : (r : Relation) → relation_of (relation_word r) ≡ Some r
 relation_of-word Same = refl
-relation_of-word Less = refl
-relation_of-word Free = refl
+relation_of-word _ = refl
 
 pub property_of-word : (p : Property) → property_of (property_word p) ≡ Some p
 property_of-word properties.Kind = refl

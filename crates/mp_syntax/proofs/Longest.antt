@@ -80,16 +80,7 @@ record Parts (bytes : List ℕ) (n : ℕ) (t : Token) : Type 0 where
 -- a punctuation character is a run by itself
 pub run_at-punct : (p : Punct) (rest : List ℕ) → run_at (byte_of p ∷ rest) ≡ (Punctuation p, 1)
 run_at-punct Open rest = refl
-run_at-punct Close rest = refl
-run_at-punct OpenSquare rest = refl
-run_at-punct CloseSquare rest = refl
-run_at-punct OpenBrace rest = refl
-run_at-punct CloseBrace rest = refl
-run_at-punct Comma rest = refl
-run_at-punct Semicolon rest = refl
-run_at-punct Colon rest = refl
-run_at-punct Dot rest = refl
-run_at-punct Dollar rest = refl
+run_at-punct _ rest = refl
 
 takes-punct : (p : Punct) (after : List ℕ) → Takes (byte_of p ∷ []) after (Punctuation p)
 takes-punct p after = record { enough = rw (run_at-punct p after) (omega arith); same = λ e. ap (λ (r : Token × ℕ). r.0) (run_at-punct p after) }

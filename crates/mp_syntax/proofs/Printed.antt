@@ -2,6 +2,7 @@
 use Rattle.std.proofs.Common.{◌≡◌, ◌≢◌, ℕ, ◌+◌, Bool, true, false, cond, List, [], ◌∷◌, ◌++◌, map, refl, sym, ap, subst, ◌∙◌, arith, append_assoc}
 use Rattle.std.specs.Prelude.{codes}
 use Rattle.std.specs.List.{flat_map, prefix_len}
+use Rattle.mp_syntax.specs.declared.limits.TheConstants.{MAX_OPEN}
 use Rattle.mp_syntax.specs.declared.place.Place.{Place}
 use Rattle.mp_syntax.specs.declared.token.Punct.TheVariants.{Colon}
 use Rattle.mp_syntax.specs.Tokens.{Sign, Punctuation, is_sign_byte, after_byte, first_place}
@@ -38,10 +39,10 @@ record LexesNamed (keyword bytes rest : List ℕ) (place : Place) (name : Spot) 
   tree : Tree
   same_name : here.text ≡ name.text
   same : unplaced_tree tree ≡ unplaced_tree t
-  fits : Fits 100 tree
+  fits : Fits MAX_OPEN tree
   lexes : Lexes bytes place (fixed_word keyword ∷ spell_named here tree) rest
 
-lexes-named : (keyword : List ℕ) (name : Spot) (t : Tree) (rest : List ℕ) (place : Place) → IsName keyword → IsName name.text → HasNames t → Fits 100 t → prefix_len is_mark_byte rest ≡ 0 → LexesNamed keyword (keyword ++ (32 ∷ named_text name t rest)) rest place name t
+lexes-named : (keyword : List ℕ) (name : Spot) (t : Tree) (rest : List ℕ) (place : Place) → IsName keyword → IsName name.text → HasNames t → Fits MAX_OPEN t → prefix_len is_mark_byte rest ≡ 0 → LexesNamed keyword (keyword ++ (32 ∷ named_text name t rest)) rest place name t
 lexes-named keyword name t rest place k n h fits ends =
     let third = tree_text t ++ rest in
     let second = name.text ++ (58 ∷ 32 ∷ third) in
@@ -50,7 +51,7 @@ lexes-named keyword name t rest place k n h fits ends =
     let s = lexes-word name.text (58 ∷ 32 ∷ third) r.after (spelled_word here) n refl (refl, refl) in
     let c = lexes-punct Colon (32 ∷ third) s.after colon refl in
     let b = lexes-blank third c.after in
-    let x = lexes-tree t 100 rest b.after h fits ends in
+    let x = lexes-tree t MAX_OPEN rest b.after h fits ends in
     record {
       here = here;
       tree = x.tree;

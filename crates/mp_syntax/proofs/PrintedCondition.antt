@@ -3,6 +3,7 @@ use Rattle.std.proofs.Common.{◌≡◌, ◌≢◌, ℕ, zero, suc, Bool, true, 
 use Rattle.std.specs.Prelude.{codes}
 use Rattle.std.specs.List.{prefix_len}
 use Rattle.std.specs.Str.{bytes_eq}
+use Rattle.mp_syntax.specs.declared.limits.TheConstants.{MAX_OPEN}
 use Rattle.mp_syntax.specs.declared.place.Place.{Place}
 use Rattle.mp_syntax.specs.declared.token.Punct.TheVariants.{Open, Close, OpenSquare, CloseSquare, Comma}
 use Rattle.mp_syntax.specs.declared.condition_tree.Measure.{Measure}
@@ -35,8 +36,7 @@ measure_word-name Size = record { is_word = record { some = λ e. absurd cc; byt
 
 relation_word-name : (r : Relation) → IsName (relation_word r)
 relation_word-name Same = record { is_word = record { some = λ e. absurd cc; bytes = refl }; is_short = omega arith }
-relation_word-name Less = record { is_word = record { some = λ e. absurd cc; bytes = refl }; is_short = omega arith }
-relation_word-name Free = record { is_word = record { some = λ e. absurd cc; bytes = refl }; is_short = omega arith }
+relation_word-name _ = record { is_word = record { some = λ e. absurd cc; bytes = refl }; is_short = omega arith }
 
 property_word-name : (p : Property) → IsName (property_word p)
 property_word-name properties.Kind = record { is_word = record { some = λ e. absurd cc; bytes = refl }; is_short = omega arith }
@@ -47,11 +47,7 @@ no_arrow-differs s h e = let same : bytes_eq s (codes "->") ≡ true = ap (λ l.
 
 sense_sign-sign : (s : Sense) → IsInfixSign (sense_sign s)
 sense_sign-sign Lt = record { is_sign = record { some = λ e. absurd cc; bytes = refl }; no_arrow = no_arrow-differs _ refl }
-sense_sign-sign Le = record { is_sign = record { some = λ e. absurd cc; bytes = refl }; no_arrow = no_arrow-differs _ refl }
-sense_sign-sign Gt = record { is_sign = record { some = λ e. absurd cc; bytes = refl }; no_arrow = no_arrow-differs _ refl }
-sense_sign-sign Ge = record { is_sign = record { some = λ e. absurd cc; bytes = refl }; no_arrow = no_arrow-differs _ refl }
-sense_sign-sign Eq = record { is_sign = record { some = λ e. absurd cc; bytes = refl }; no_arrow = no_arrow-differs _ refl }
-sense_sign-sign Ne = record { is_sign = record { some = λ e. absurd cc; bytes = refl }; no_arrow = no_arrow-differs _ refl }
+sense_sign-sign _ = record { is_sign = record { some = λ e. absurd cc; bytes = refl }; no_arrow = no_arrow-differs _ refl }
 
 -- ---- atoms
 
@@ -308,7 +304,7 @@ lexes-if None rest place h fits ends = record { value = None; same = refl; fits 
 lexes-if (Some c) rest place h fits ends =
     let second = alternatives_text [] c ++ rest in
     let r = leads-if.lexes second place in
-    let x = lexes-alternatives c [] [] leads-nothing 100 rest r.after h fits.1 ends in
+    let x = lexes-alternatives c [] [] leads-nothing MAX_OPEN rest r.after h fits.1 ends in
     record {
       value = Some x.value;
       same = ap some x.same;

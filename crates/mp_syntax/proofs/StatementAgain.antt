@@ -2,6 +2,7 @@
 use Rattle.std.proofs.Common.{◌≡◌, ℕ, Bool, true, false, cond, List, [], ◌∷◌, ◌++◌, map, Some, None, refl, sym, ap, ◌∙◌, append_assoc, append-nil}
 use Rattle.std.specs.Prelude.{codes}
 use Rattle.std.specs.List.{flat_map}
+use Rattle.mp_syntax.specs.declared.limits.TheConstants.{MAX_OPEN}
 use Rattle.mp_syntax.specs.declared.token.Punct.TheVariants.{Open, Colon, Semicolon}
 use Rattle.mp_syntax.specs.declared.fault.FaultKind.TheVariants.{Syntax}
 use Rattle.mp_syntax.specs.Tokens.{Word, Punctuation, End, Placed}
@@ -14,11 +15,11 @@ use Rattle.mp_syntax.proofs.ConditionAgain.{condition-again}
 -- ---- statements
 
 -- a name, a colon and an expression
-named-again : (done : List Statement) (role : Role) (name : Spot) (e : Tree) (m : Expected) (ms : List Expected) (ts us : List Placed) → AllMatch ts (spelled_word name ∷ colon ∷ (spell e ++ m ∷ ms)) → Fits 100 e → EachContinuesNone m → ReadTo done (AfterRole role) (AfterExpr (InStatement (heading role name)) [] e) m ms ts us
+named-again : (done : List Statement) (role : Role) (name : Spot) (e : Tree) (m : Expected) (ms : List Expected) (ts us : List Placed) → AllMatch ts (spelled_word name ∷ colon ∷ (spell e ++ m ∷ ms)) → Fits MAX_OPEN e → EachContinuesNone m → ReadTo done (AfterRole role) (AfterExpr (InStatement (heading role name)) [] e) m ms ts us
 named-again done role name e m ms [] us h fits none = absurd h
 named-again done role name e m ms (n ∷ []) us h fits none = absurd h.1
 named-again done role name e m ms (n ∷ c ∷ ts) us h fits none =
-    let r = expr-between done (InStatement (heading role name)) [] 100 e m ms ts us h.1.1 fits refl none in
+    let r = expr-between done (InStatement (heading role name)) [] MAX_OPEN e m ms ts us h.1.1 fits refl none in
     record {
       token = r.token;
       others = r.others;
@@ -38,13 +39,13 @@ word-continues_none : (w : List ℕ) → EachContinuesNone (fixed_word w)
 word-continues_none w t h = (ap (is_punct Open) h, ap (is_punct Colon) h)
 
 -- the rest of a rule behind its pattern
-if-again : (done : List Statement) (name : Spot) (e : Tree) (c : Condition) (i : Placed) (ts us : List Placed) → Matches i (fixed_word (codes "if")) → AllMatch ts (spell_condition c ++ semicolon ∷ []) → FitsCondition 100 c → run done (AfterExpr (InStatement (heading OfRule name)) [] e) (i ∷ (ts ++ us)) ≡ run (done ++ RuleOf name e (Some c) ∷ []) Top us
+if-again : (done : List Statement) (name : Spot) (e : Tree) (c : Condition) (i : Placed) (ts us : List Placed) → Matches i (fixed_word (codes "if")) → AllMatch ts (spell_condition c ++ semicolon ∷ []) → FitsCondition MAX_OPEN c → run done (AfterExpr (InStatement (heading OfRule name)) [] e) (i ∷ (ts ++ us)) ≡ run (done ++ RuleOf name e (Some c) ∷ []) Top us
 if-again done name e c i ts us is h fits =
     let r = split (spell_condition c) (semicolon ∷ []) ts h in
     let s = led semicolon [] r.back r.second in
     over done (AfterExpr (InStatement (heading OfRule name)) [] e) (BeforeLiteral (InCondition name e) [] no_level) i (ts ++ us) (ap (step_role OfRule name e) is)
     ∙ ap (run done (BeforeLiteral (InCondition name e) [] no_level)) (joined ts r.front r.back s.token s.others us r.parts s.parts)
-    ∙ condition-again done (InCondition name e) c [] 100 r.front s.token (s.others ++ us) r.first fits refl (ap (is_word (codes "and")) s.match, ap (is_word (codes "or")) s.match)
+    ∙ condition-again done (InCondition name e) c [] MAX_OPEN r.front s.token (s.others ++ us) r.first fits refl (ap (is_word (codes "and")) s.match, ap (is_word (codes "or")) s.match)
     ∙ ap (λ k. after_step done s.token.place (λ d a. run d a (s.others ++ us)) (on_punct Semicolon k (Emit (RuleOf name e (Some c))))) s.match
     ∙ ap (λ l. run (done ++ RuleOf name e (Some c) ∷ []) Top (l ++ us)) (nothing s.others s.behind)
 
@@ -184,13 +185,13 @@ file-again (s ∷ file) done ts us h fits =
     ∙ ap (λ d. run d Top us) (append_assoc done (s ∷ []) file)
 
 -- an expression alone is read
-pub alone-again : (e : Tree) (ts : List Placed) (last : Placed) → AllMatch ts (spell e) → Fits 100 e → last.token ≡ End → run [] (BeforeExpr Alone []) (ts ++ last ∷ []) ≡ read_ok (parsed [] (Some (SingleExpr e)))
+pub alone-again : (e : Tree) (ts : List Placed) (last : Placed) → AllMatch ts (spell e) → Fits MAX_OPEN e → last.token ≡ End → run [] (BeforeExpr Alone []) (ts ++ last ∷ []) ≡ read_ok (parsed [] (Some (SingleExpr e)))
 alone-again e ts last h fits ends =
-    expr-again [] Alone e [] 100 ts last [] h fits refl (ap (is_punct Open) ends, ap (is_punct Colon) ends)
+    expr-again [] Alone e [] MAX_OPEN ts last [] h fits refl (ap (is_punct Open) ends, ap (is_punct Colon) ends)
     ∙ ap (λ k. after_step [] last.place (λ d a. run d a []) (cond (is_end k) (Ends (SingleExpr e)) (Refuse (refusal k)))) ends
 
 -- a condition alone is read
-pub alone_condition-again : (c : Condition) (ts : List Placed) (last : Placed) → AllMatch ts (spell_condition c) → FitsCondition 100 c → last.token ≡ End → run [] (BeforeLiteral ConditionAlone [] no_level) (ts ++ last ∷ []) ≡ read_ok (parsed [] (Some (SingleCondition c)))
+pub alone_condition-again : (c : Condition) (ts : List Placed) (last : Placed) → AllMatch ts (spell_condition c) → FitsCondition MAX_OPEN c → last.token ≡ End → run [] (BeforeLiteral ConditionAlone [] no_level) (ts ++ last ∷ []) ≡ read_ok (parsed [] (Some (SingleCondition c)))
 alone_condition-again c ts last h fits ends =
-    condition-again [] ConditionAlone c [] 100 ts last [] h fits refl (ap (is_word (codes "and")) ends, ap (is_word (codes "or")) ends)
+    condition-again [] ConditionAlone c [] MAX_OPEN ts last [] h fits refl (ap (is_word (codes "and")) ends, ap (is_word (codes "or")) ends)
     ∙ ap (λ k. after_step [] last.place (λ d a. run d a []) (cond (is_end k) (Ends (SingleCondition c)) (Refuse (refusal k)))) ends

@@ -101,16 +101,7 @@ run-plain text (Punctuation p) h = rw h (punct p)
   where
     punct : (p : Punct) → list_all is_plain (byte_of p ∷ []) ≡ true
     punct Open = refl
-    punct Close = refl
-    punct OpenSquare = refl
-    punct CloseSquare = refl
-    punct OpenBrace = refl
-    punct CloseBrace = refl
-    punct Comma = refl
-    punct Semicolon = refl
-    punct Colon = refl
-    punct Dot = refl
-    punct Dollar = refl
+    punct _ = refl
 run-plain text _ h = absurd h
 
 pub spells-plain : (text : List ℕ) (t : Token) → Spells text t → list_all is_plain text ≡ true

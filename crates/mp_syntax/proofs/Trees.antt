@@ -87,11 +87,7 @@ with_default-fits room w (Variable v) h fits = optional-fits room w [] (Variable
 -- a wildcard with a default is the wildcard, a colon and the default
 pub spell-with_default : (w : Wildcard) (e : Tree) → spell (with_default w e) ≡ spell_with_colon w ++ spell e
 spell-with_default w (Symbol s) = refl
-spell-with_default w (Apply f args) = refl
-spell-with_default w (InfixOf place sign operands) = refl
-spell-with_default w (Wild v) = refl
-spell-with_default w (Optional v others default) = refl
-spell-with_default w (Variable v) = refl
+spell-with_default w _ = refl
 
 -- what fits as an atom fits as a literal, and back
 pub atom-literal : (room : ℕ) (negated : Bool) (a : Atom) → FitsAtom room a → FitsLiteral room (AtomOf negated a)
