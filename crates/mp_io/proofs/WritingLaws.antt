@@ -1,78 +1,56 @@
 -- What a writer has done with the text that was put to it, step by step.
-use Rattle.std.proofs.Common.{◌≡◌, ℕ, ◌+◌, ◌<◌, List, [], ◌∷◌, ◌++◌, take, length, get_or, refl, sym, ap, ◌∙◌, subst, append_assoc, append-nil, Bool, true, false, Ok, Err}
-use Rattle.std.specs.Prelude.{MatchBool, Result, is_err, ⊤}
-use Rattle.std.specs.List.{flat_map}
-use Rattle.std.proofs.lemmas.List.{take_more}
-use Rattle.std.proofs.lemmas.Grind.{flat_map-append}
+use Rattle.std.proofs.Common.{◌≡◌, [], ◌++◌, refl, sym, ap, ◌∙◌, subst, append_assoc, append-nil, false, Ok, Err}
+use Rattle.std.specs.Prelude.{Result, is_err, ⊤}
 use Rattle.mp_io.specs.Devices.{Text}
 use Rattle.mp_io.specs.Moments.{sunk}
 use Rattle.mp_io.specs.Printing.{Prints}
 use Rattle.mp_io.specs.Writing.{HasPut, Puts}
 use Rattle.mp_io.specs.declared.devices.Sink.{Ghosts as SinkWords}
 use Rattle.mp_io.specs.declared.writer.Writer.{Writer}
-use Rattle.mp_io.proofs.Written.{prints_as, prints_cut, prints_then}
-
--- the texts of the items before the next index
-pub flat_map-next : {X : Type 0} (f : X → Text) (xs : List X) (i : ℕ) (x : X) → i < length xs → x ≡ get_or xs i x → flat_map f (take (i + 1) xs) ≡ flat_map f (take i xs) ++ f x
-flat_map-next f xs i x within is =
-    ap (flat_map f) (take_more xs i x within ∙ ap (λ y. take i xs ++ y ∷ []) (sym is)) ∙ flat_map-append f (take i xs) (x ∷ []) ∙ ap (λ l. flat_map f (take i xs) ++ l) (append-nil (f x))
+use Rattle.mp_io.proofs.Written.{prints_as, prints_then}
 
 module _ {K : Type 0} (words : SinkWords K) where
-  -- nothing is put
-  pub Puts-nothing : (w : Writer K) → Puts words w w []
-  Puts-nothing w = record { same = refl; behind = λ start before h. subst (λ l. HasPut words start l w) (sym (append-nil before)) h }
-
   -- a text is put, and then another
-  pub Puts-then : (u v w : Writer K) (first second : Text) → Puts words u v first → Puts words v w second → Puts words u w (first ++ second)
+  pub Puts-then : (u v w : Writer K) (first second : Text) → Puts words u v first → Puts words v w second
+      → Puts words u w (first ++ second)
   Puts-then u v w first second p q = record {
     same = q.same ∙ p.same;
-    behind = λ start before h. subst (λ l. HasPut words start l w) (append_assoc before first second) (q.behind start (before ++ first) (p.behind start before h));
+    behind = λ start before h. subst (λ l. HasPut words start l w) (append_assoc before first second)
+        (q.behind start (before ++ first) (p.behind start before h));
   }
 
-  -- the texts of the items before an index are put, and then the text of the item there
-  pub Puts-item : {X : Type 0} (f : X → Text) (xs : List X) (i : ℕ) (x : X) → i < length xs → x ≡ get_or xs i x
-      → (u v w : Writer K) → Puts words u v (flat_map f (take i xs)) → Puts words v w (f x) → Puts words u w (flat_map f (take (i + 1) xs))
-  Puts-item f xs i x within is u v w p q = subst (Puts words u w) (sym (flat_map-next f xs i x within is)) (Puts-then u v w (flat_map f (take i xs)) (f x) p q)
-
   -- the bytes that are held back and the text behind them are written, as far as that goes
-  pub Puts-written : {T E : Type 0} (u w : Writer K) (text : Text) (result : Result T E) → w.sink.ghost_name ≡ u.sink.ghost_name
-      → u.failed ≡ false → w.failed ≡ is_err result → w.room ≡ [] → Prints (sunk words u.sink.now w.sink.now) (u.room ++ text) result → Puts words u w text
-  Puts-written u w text result same going failed none p = record { same = same; behind = λ start before h. go start before (rw going at h) result failed p }
+  pub Puts-written : {T E : Type 0} (u w : Writer K) (text : Text) (result : Result T E)
+      → w.sink.ghost_name ≡ u.sink.ghost_name
+      → u.failed ≡ false → w.failed ≡ is_err result → w.room ≡ []
+      → Prints (sunk words u.sink.now w.sink.now) (u.room ++ text) result → Puts words u w text
+  Puts-written u w text result same going failed none p =
+      record { same = same; behind = λ start before h. go start before (rw going at h) result failed p }
     where
-      go : {T E : Type 0} (start : K) (before : Text) → ((front : Text) × (before ≡ front ++ u.room) × Prints {T = ⊤} {E = ⊤} (sunk words start u.sink.now) front (Ok tt))
-          → (result : Result T E) → w.failed ≡ is_err result → Prints (sunk words u.sink.now w.sink.now) (u.room ++ text) result → HasPut words start (before ++ text) w
+      go : {T E : Type 0} (start : K) (before : Text)
+          → ((front : Text) × (before ≡ front ++ u.room)
+          × Prints {T = ⊤} {E = ⊤} (sunk words start u.sink.now) front (Ok tt))
+          → (result : Result T E) → w.failed ≡ is_err result
+          → Prints (sunk words u.sink.now w.sink.now) (u.room ++ text) result
+          → HasPut words start (before ++ text) w
       go start before h (Ok v) failed p =
           let front = h.0 ++ (u.room ++ text) in
           rw (failed, none) (
             front,
             ap (λ l. l ++ text) h.1 ∙ append_assoc h.0 u.room text ∙ sym (append-nil front),
-            prints_as words start w.sink.now front _ (Ok tt) refl (prints_then words start u.sink.now w.sink.now h.0 (u.room ++ text) tt (Ok v) h.2 p),
+            prints_as words start w.sink.now front _ (Ok tt) refl
+                (prints_then words start u.sink.now w.sink.now h.0 (u.room ++ text) tt (Ok v) h.2 p),
           )
       go start before h (Err e) failed p =
-          rw (failed, h.1, append_assoc h.0 u.room text) (prints_as words start w.sink.now _ _ (Err tt) refl (prints_then words start u.sink.now w.sink.now h.0 (u.room ++ text) tt (Err e) h.2 p))
-
-  -- the text is held back
-  pub Puts-held : (u w : Writer K) (text : Text) → w.sink ≡ u.sink → w.failed ≡ u.failed → w.room ≡ u.room ++ text → Puts words u w text
-  Puts-held u w text sink failed room =
-      record { same = ap (λ s. s.ghost_name) sink; behind = λ start before h. rw (failed, room, sink) (go start before u.failed h) }
-    where
-      go : (start : K) (before : Text) (failed : Bool)
-          → MatchBool failed (Prints {T = ⊤} {E = ⊤} (sunk words start u.sink.now) before (Err tt)) ((front : Text) × (before ≡ front ++ u.room) × Prints {T = ⊤} {E = ⊤} (sunk words start u.sink.now) front (Ok tt))
-          → MatchBool failed (Prints {T = ⊤} {E = ⊤} (sunk words start u.sink.now) (before ++ text) (Err tt))
-          ((front : Text) × (before ++ text ≡ front ++ (u.room ++ text)) × Prints {T = ⊤} {E = ⊤} (sunk words start u.sink.now) front (Ok tt))
-      go start before true h = prints_cut words start u.sink.now before text tt h
-      go start before false h = (h.0, ap (λ l. l ++ text) h.1 ∙ append_assoc h.0 u.room text, h.2)
-
-  -- a write has failed
-  pub Puts-failed : (w : Writer K) (text : Text) → w.failed ≡ true → Puts words w w text
-  Puts-failed w text failed = record {
-    same = refl;
-    behind = λ start before h. rw failed (prints_cut words start w.sink.now before text tt (rw failed at h));
-  }
+          rw (failed, h.1, append_assoc h.0 u.room text)
+          (prints_as words start w.sink.now _ _ (Err tt) refl
+          (prints_then words start u.sink.now w.sink.now h.0 (u.room ++ text) tt (Err e) h.2 p))
 
   -- the rest is written, and with it all the text
-  pub HasPut-ended : {T E : Type 0} (start new : K) (text : Text) (w : Writer K) (result : Result T E) → w.failed ≡ false → HasPut words start text w
+  pub HasPut-ended : {T E : Type 0} (start new : K) (text : Text) (w : Writer K) (result : Result T E)
+      → w.failed ≡ false → HasPut words start text w
       → Prints (sunk words w.sink.now new) w.room result → Prints (sunk words start new) text result
   HasPut-ended start new text w result going h p =
-      let put : (front : Text) × (text ≡ front ++ w.room) × Prints {T = ⊤} {E = ⊤} (sunk words start w.sink.now) front (Ok tt) = rw going at h in
+      let put : (front : Text) × (text ≡ front ++ w.room)
+      × Prints {T = ⊤} {E = ⊤} (sunk words start w.sink.now) front (Ok tt) = rw going at h in
       rw put.1 (prints_then words start w.sink.now new put.0 w.room tt result put.2 p)

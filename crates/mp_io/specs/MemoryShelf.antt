@@ -1,5 +1,6 @@
 -- What contracts see of a shelf in memory, and what its calls do.
-use Rattle.std.specs.Prelude.{ℕ, ◌+◌, min, Bool, List, [], length, drop, Option, None, is_some, unwrap_or, if◌then◌else◌}
+use Rattle.std.specs.Prelude.{ℕ, ◌+◌, min, Bool, List, [], length, drop, Option, None, is_some, unwrap_or}
+use Rattle.std.specs.Prelude.{if◌then◌else◌}
 use Rattle.mp_io.specs.Devices.{Files, Text, count_faults, fails_at, held, saturating_add}
 
 -- a shelf in memory: its files, the started one, and its counts

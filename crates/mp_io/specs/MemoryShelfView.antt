@@ -1,5 +1,6 @@
 -- A shelf in memory, as its fields have it.
-use Rattle.std.specs.Prelude.{ℕ, ◌≤◌, List, [], map, drop, length, Option, Some, None, is_some, slice_get, string_bytes, ⊤, IsSomeAnd}
+use Rattle.std.specs.Prelude.{ℕ, ◌≤◌, List, [], map, drop, length, Option, Some, None, is_some, slice_get, string_bytes}
+use Rattle.std.specs.Prelude.{⊤, IsSomeAnd}
 use Rattle.std.specs.Option.{option_map, option_map_or}
 use Rattle.mp_io.specs.Devices.{Files, Text}
 use Rattle.mp_io.specs.MemoryShelf.{ShelfState}

@@ -5,7 +5,13 @@ use Rattle.mp_io.specs.declared.memory_sink.MemorySink.TheInside.{Inside}
 
 -- what contracts see of the fields
 abbrev pub sink_state : Inside → SinkState
-sink_state s = record { content = s.bytes.items; room = s.room; writes = s.writes; fails = s.fails.items; faults = s.faults }
+sink_state s = record {
+  content = s.bytes.items;
+  room = s.room;
+  writes = s.writes;
+  fails = s.fails.items;
+  faults = s.faults;
+}
 
 -- the bytes are within the room, and the room is reserved
 pub record IsSink (s : Inside) : Type 0 where

@@ -18,7 +18,8 @@ pub record IsCut (old new : Option Text) (text : Text) : Type 0 where
   pub front : AppendsFront old new text
   pub some : 0 < length text
 
--- at `Ok` the whole text was appended, and no write failed; at `Err` there was one, a front of it was appended, and the count of faults rose
+-- at `Ok` the whole text was appended, and no write failed; at `Err` there was one, a front of it was appended, and the
+-- count of faults rose
 pub record Prints {T E : Type 0} (sink : Sunk) (text : Text) (result : Result T E) : Type 0 where
   pub whole : OnOk result (Appends sink.old sink.new text)
   pub front : OnErr result (IsCut sink.old sink.new text)

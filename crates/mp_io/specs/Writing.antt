@@ -6,7 +6,8 @@ use Rattle.mp_io.specs.declared.devices.Sink.{Ghosts as SinkWords}
 use Rattle.mp_io.specs.Printing.{Prints}
 use Rattle.mp_io.specs.declared.writer.Writer.{Writer}
 
--- since the sink was so, the text was put to the writer: a write of it failed, or it is printed but for the bytes that are held back
+-- since the sink was so, the text was put to the writer: a write of it failed, or it is printed but for the bytes that
+-- are held back
 abbrev pub HasPut : {K : Type 0} → SinkWords K → K → Text → Writer K → Type 0
 HasPut words start text w =
     MatchBool w.failed (Prints {T = ⊤} {E = ⊤} (sunk words start w.sink.now) text (Err tt))

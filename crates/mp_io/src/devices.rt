@@ -1,6 +1,7 @@
 //! The two devices that everything above is generic over, and how their calls fail.
 
-ghost use Rattle.std.specs.Prelude.{◌≡◌, ◌⊎◌, ◌<◌, ◌≤◌, ℕ, Bool, true, List, [], Option, length, Ok, OnErr, OnOk, IfOk, IsErr, is_ok, MatchResult};
+ghost use Rattle.std.specs.Prelude.{◌≡◌, ◌⊎◌, ◌<◌, ◌≤◌, ℕ, Bool, true, List, [], Option, length, Ok, OnErr, OnOk, IfOk};
+ghost use Rattle.std.specs.Prelude.{IsErr, is_ok, MatchResult};
 ghost use Rattle.std.specs.Io.{ReadsAtMost, WritesAtMost};
 ghost use Rattle.std.specs.Io.KnownBytes.{ReadConsumes, WriteAppends};
 ghost use Rattle.mp_io.specs.Devices.{Files, HasCause, HasRead, IsMissing, Rose, saturating_add};

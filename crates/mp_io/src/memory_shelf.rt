@@ -1,6 +1,8 @@
 //! A shelf of files in memory, whose calls fail at the numbers that it was made with.
 
-ghost use Rattle.std.specs.Prelude.{◌≡◌, ◌⊎◌, ◌<◌, ◌≤◌, ◌+◌, ◌++◌, ◌∷◌, not, min, true, false, [], Option, Some, length, take, OnOk, OnErr, IfOk, IfSome, IsErr, is_ok, is_some, MatchResult, option_and_then, if◌then◌else◌, string_bytes};
+ghost use Rattle.std.specs.Prelude.{◌≡◌, ◌⊎◌, ◌<◌, ◌≤◌, ◌+◌, ◌++◌, ◌∷◌, not, min, true, false, [], Option, Some};
+ghost use Rattle.std.specs.Prelude.{length, take, OnOk, OnErr, IfOk, IfSome, IsErr, is_ok, is_some, MatchResult};
+ghost use Rattle.std.specs.Prelude.{option_and_then, if◌then◌else◌, string_bytes};
 ghost use Rattle.std.specs.Io.{ReadsAtMost};
 ghost use Rattle.std.specs.Io.KnownBytes.{ReadConsumes};
 ghost use Rattle.std.specs.Str.{bytes_eq};

@@ -1,6 +1,7 @@
 //! The system's files and streams as devices. They tell no bytes: what they pass on is trusted.
 
-ghost use Rattle.std.specs.Prelude.{◌≡◌, ◌⊎◌, ◌<◌, ◌≤◌, ℕ, true, false, not, None, Ok, length, OnErr, OnOk, IfOk, IsErr, IsOk, [], codes, is_ok, MatchResult};
+ghost use Rattle.std.specs.Prelude.{◌≡◌, ◌⊎◌, ◌<◌, ◌≤◌, ℕ, true, false, not, None, Ok, length, OnErr, OnOk, IfOk};
+ghost use Rattle.std.specs.Prelude.{IsErr, IsOk, [], codes, is_ok, MatchResult};
 ghost use Rattle.std.specs.Io.{ReadsAtMost, WritesAtMost};
 ghost use Rattle.std.specs.Io.KnownBytes.{ReadConsumes, WriteAppends};
 ghost use Rattle.mp_io.specs.Devices.{Files, HasCause, HasRead, IsMissing, Rose, count_faults, saturating_add};

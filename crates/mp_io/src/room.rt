@@ -1,16 +1,16 @@
 //! A room of fixed size for bytes that are held back.
 
-ghost use Rattle.std.specs.Prelude.{◌≡◌, ◌≤◌, ◌<◌, ◌+◌, ◌++◌, [], length, MatchBool};
+ghost use Rattle.std.specs.Prelude.{◌≡◌, ◌++◌, [], MatchBool};
 
 use std::marker::Model;
 
-/// How many bytes there may be.
-pub(crate) const ROOM: usize = 4096;
+// How many bytes there may be.
+const ROOM: usize = 4096;
 
 /// Bytes in a room of fixed size. It takes no memory. A contract sees it as the list of the bytes.
 #[derive(Drop)]
 pub struct Room {
-    bytes: [u8; 4096],
+    bytes: [u8; ROOM],
     count: usize,
 }
 
@@ -21,11 +21,13 @@ impl Model for Room {
 
     ghost view = { λ r. take r.count r.bytes };
 
-    ghost invariant = { λ r. r.count ≤ 4096 };
+    ghost use Rattle.mp_io.specs.declared.room.TheConstants.{ROOM};
+
+    ghost invariant = { λ r. r.count ≤ ROOM };
 }
 
 impl Room {
-    /// No bytes.
+    /// A room with no bytes.
     pub(crate) fn new() -> Room
         ensures { result ≡ [] }
     {

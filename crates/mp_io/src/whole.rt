@@ -28,8 +28,8 @@ pub enum ReadFault {
 
 /// The bytes of the named file to its end, where it has at most `limit` of them.
 ///
-/// It starts the file once, and makes at most `limit + 2` reads. No answer changes the shelf's files; which file is started
-/// after it isn't said.
+/// It starts the file once, and makes at most `limit + 2` reads. No answer changes the shelf's files; which file is
+/// started after it isn't said.
 ///
 /// - `Start`: only where the count of starts rose, or the files are told and none has the name, which
 ///   always gets this answer.

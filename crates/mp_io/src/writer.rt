@@ -8,11 +8,11 @@ ghost use Rattle.mp_io.specs.Writing.{HasPut, Puts};
 use crate::room::Room;
 use crate::{Failed, Sink, put};
 
-/// Text on its way to a sink: it is gathered in a room of 4,096 bytes, and written when that is full, at a
-/// `flush` and at the end.
+/// Text on its way to a sink: it is gathered in a room of 4,096 bytes, and written when the room is full, at a `flush`
+/// and at the end.
 ///
-/// After a write that failed nothing more is written, and `finish`, which has to be called, says so. It takes no
-/// memory. The words of its contracts stand in `specs/Writing.antt`.
+/// No call but `finish` fails: after a write that failed nothing more is written, and `finish`, which has to be called,
+/// says so. No call takes memory. The words of the contracts stand in `specs/Writing.antt`.
 pub struct Writer<'a, K> {
     sink: &'a mut K,
     room: Room,
@@ -32,7 +32,7 @@ impl<'a, K: Sink> Writer<'a, K> {
         }
     }
 
-    /// Puts the text behind the text so far.
+    /// Puts the text behind the text so far. Together they are written at once where they fit into the room.
     pub fn put(&mut self, text: &[u8])
         ensures { Puts K.Sink self.old self.new text.now }
     {
@@ -54,7 +54,7 @@ impl<'a, K: Sink> Writer<'a, K> {
         }
     }
 
-    /// Writes the bytes that are held back, unless a write has failed.
+    /// Writes the bytes that are held back, unless a write has failed: what is put next begins a write of its own.
     pub fn flush(&mut self)
         ensures puts { Puts K.Sink self.old self.new [] }
         ensures none { self.new.failed ≡ false → self.new.room ≡ [] }
@@ -82,7 +82,8 @@ impl<'a, K: Sink> Writer<'a, K> {
     /// `Failed`: a write failed, now or before. The sink's count of faults rose then, and a front of the text was
     /// appended.
     pub fn finish(self) -> Result<(), Failed>
-        ensures { (start : _) (text : _) → HasPut K.Sink start text self.entry → Prints (sunk K.Sink start self.exit.0.now) text result }
+        ensures { (start : _) (text : _) → HasPut K.Sink start text self.entry
+            → Prints (sunk K.Sink start self.exit.0.now) text result }
     {
         let Writer { sink, room, failed } = self;
         if failed {

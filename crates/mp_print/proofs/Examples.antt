@@ -10,21 +10,35 @@ use Rattle.mp_print.specs.Printing.{term_text, subst_text}
 abbrev example_sig : Sig
 example_sig = record {
   ops =
-      record { name = codes "plus"; least = 1; fixed = false; assoc = true; comm = true; one = true; sign = Some (codes "+") } ∷
-      record { name = codes "pair"; least = 2; fixed = true; assoc = false; comm = false; one = false; sign = None } ∷ [];
+      record {
+        name = codes "plus";
+        least = 1;
+        fixed = false;
+        assoc = true;
+        comm = true;
+        one = true;
+        sign = Some (codes "+");
+      } ∷
+      record { name = codes "pair"; least = 2; fixed = true; assoc = false; comm = false; one = false; sign = None }
+      ∷ [];
   kinds = [];
 }
 
 -- a sum of three terms is printed with its sign
-term_text-infix : term_text example_sig (app 0 (trees (symbol (codes "a") ∷ symbol (codes "b") ∷ symbol (codes "c") ∷ []))) ≡ codes "(a + b + c)"
+term_text-infix : term_text example_sig
+    (app 0 (trees (symbol (codes "a") ∷ symbol (codes "b") ∷ symbol (codes "c") ∷ []))) ≡ codes "(a + b + c)"
 term_text-infix = refl
 
 -- a sum of one term is printed with its name, as every application without a sign is
-term_text-prefix : term_text example_sig (app 1 (trees (app 0 (trees (symbol (codes "a") ∷ [])) ∷ symbol (codes "b") ∷ []))) ≡ codes "pair(plus(a), b)"
+term_text-prefix : term_text example_sig
+    (app 1 (trees (app 0 (trees (symbol (codes "a") ∷ [])) ∷ symbol (codes "b") ∷ []))) ≡ codes "pair(plus(a), b)"
 term_text-prefix = refl
 
 -- a term, a tuple and a multiset
-subst_text-each_form : subst_text example_sig (record { name = codes "x"; value = one (symbol (codes "a")) } ∷ record { name = codes "y"; value = seq (symbol (codes "b") ∷ symbol (codes "c") ∷ []) } ∷ record { name = codes "z"; value = bag (symbol (codes "d") ∷ []) } ∷ []) ≡ codes "{x -> a, y -> (b, c), z -> {d}}"
+subst_text-each_form : subst_text example_sig
+    (record { name = codes "x"; value = one (symbol (codes "a")) }
+    ∷ record { name = codes "y"; value = seq (symbol (codes "b") ∷ symbol (codes "c") ∷ []) }
+    ∷ record { name = codes "z"; value = bag (symbol (codes "d") ∷ []) } ∷ []) ≡ codes "{x -> a, y -> (b, c), z -> {d}}"
 subst_text-each_form = refl
 
 -- no binding

@@ -1,5 +1,6 @@
 -- Texts of the items of a list that are got by their index, one after another, as a loop puts them.
-use Rattle.std.proofs.Common.{◌≡◌, ℕ, zero, suc, ◌+◌, List, [], ◌∷◌, ◌++◌, take, Some, None, refl, sym, ap, subst, ◌∙◌, add-one, append-nil, append_assoc}
+use Rattle.std.proofs.Common.{◌≡◌, ℕ, zero, suc, ◌+◌, List, [], ◌∷◌, ◌++◌, take, Some, None, refl, sym, ap, subst, ◌∙◌}
+use Rattle.std.proofs.Common.{add-one, append-nil, append_assoc}
 use Rattle.std.specs.Prelude.{Option, slice_get, option_map}
 use Rattle.std.specs.List.{flat_map}
 use Rattle.std.specs.Option.{option_map_or}
@@ -13,27 +14,36 @@ use Rattle.mp_term.specs.Signature.{Sig, Kind, kind_names, kind_members}
 use Rattle.mp_print.specs.PrintedSignature.{kind_text, held_kind_text}
 
 -- the texts before the next index end with the text of the item that is got there, where there is one
-pub flat_map-take : {X : Type 0} (f : X → Text) (xs : List X) (i : ℕ) → flat_map f (take (i + 1) xs) ≡ flat_map f (take i xs) ++ option_map_or f (slice_get xs i) []
+pub flat_map-take : {X : Type 0} (f : X → Text) (xs : List X) (i : ℕ)
+    → flat_map f (take (i + 1) xs) ≡ flat_map f (take i xs) ++ option_map_or f (slice_get xs i) []
 flat_map-take {X = X} f xs i = ap (λ k. flat_map f (take k xs)) (add-one i) ∙ go xs i
   where
-    go : (xs : List X) (i : ℕ) → flat_map f (take (suc i) xs) ≡ flat_map f (take i xs) ++ option_map_or f (slice_get xs i) []
+    go : (xs : List X) (i : ℕ) → flat_map f (take (suc i) xs)
+        ≡ flat_map f (take i xs) ++ option_map_or f (slice_get xs i) []
     go [] zero = refl
     go [] (suc i) = refl
     go (x ∷ xs) zero = append-nil (f x)
-    go (x ∷ xs) (suc i) = ap (λ l. f x ++ l) (go xs i) ∙ sym (append_assoc (f x) (flat_map f (take i xs)) (option_map_or f (slice_get xs i) []))
+    go (x ∷ xs) (suc i) = ap (λ l. f x ++ l) (go xs i)
+        ∙ sym (append_assoc (f x) (flat_map f (take i xs)) (option_map_or f (slice_get xs i) []))
 
 -- the items before an index are put, and then the item that is got there
 pub Puts-got : {K X : Type 0} (words : SinkWords K) (f : X → Text) (xs : List X) (i : ℕ) (t u w : Writer K)
-    → Puts words t u (flat_map f (take i xs)) → Puts words u w (option_map_or f (slice_get xs i) []) → Puts words t w (flat_map f (take (i + 1) xs))
+    → Puts words t u (flat_map f (take i xs)) → Puts words u w (option_map_or f (slice_get xs i) [])
+    → Puts words t w (flat_map f (take (i + 1) xs))
 Puts-got words f xs i t u w before item =
-    subst (Puts words t w) (sym (flat_map-take f xs i)) (Puts-then words t u w (flat_map f (take i xs)) (option_map_or f (slice_get xs i) []) before item)
+    subst (Puts words t w) (sym (flat_map-take f xs i))
+    (Puts-then words t u w (flat_map f (take i xs)) (option_map_or f (slice_get xs i) []) before item)
 
 -- the text of the kind of a number, where that is a declared one
-pub held_kind_text-declared : (sig : Sig) (i j : ℕ) → i ≡ suc j → held_kind_text (slice_get (kind_names sig) i) (slice_get (kind_members sig) i) ≡ option_map_or kind_text (slice_get sig.kinds j) []
+pub held_kind_text-declared : (sig : Sig) (i j : ℕ) → i ≡ suc j
+    → held_kind_text (slice_get (kind_names sig) i) (slice_get (kind_members sig) i)
+    ≡ option_map_or kind_text (slice_get sig.kinds j) []
 held_kind_text-declared sig i j next =
     ap (λ n. held_kind_text (slice_get (kind_names sig) n) (slice_get (kind_members sig) n)) next
-    ∙ (λ k. held_kind_text (slice_get-map (λ (k : Kind). k.name) sig.kinds j k) (slice_get-map (λ (k : Kind). k.members) sig.kinds j k)) ∙ go (slice_get sig.kinds j)
+    ∙ (λ k. held_kind_text (slice_get-map (λ (k : Kind). k.name) sig.kinds j k)
+    (slice_get-map (λ (k : Kind). k.members) sig.kinds j k)) ∙ go (slice_get sig.kinds j)
   where
-    go : (o : Option Kind) → held_kind_text (option_map (λ (k : Kind). k.name) o) (option_map (λ (k : Kind). k.members) o) ≡ option_map_or kind_text o []
+    go : (o : Option Kind) → held_kind_text (option_map (λ (k : Kind). k.name) o)
+        (option_map (λ (k : Kind). k.members) o) ≡ option_map_or kind_text o []
     go None = refl
     go (Some k) = refl

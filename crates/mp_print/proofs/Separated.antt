@@ -1,5 +1,6 @@
 -- Texts with a separator between them, as a loop puts them, and the text of an application.
-use Rattle.std.proofs.Common.{◌≡◌, Bool, true, false, Option, None, append_assoc, append-nil, ℕ, ◌+◌, ◌<◌, ◌≤◌, List, [], ◌∷◌, ◌++◌, map, length, take, get_or, Some, refl, ap, sym, ◌∙◌, subst, arith}
+use Rattle.std.proofs.Common.{◌≡◌, Bool, true, false, Option, None, append_assoc, append-nil, ℕ, ◌+◌, ◌<◌, ◌≤◌, List}
+use Rattle.std.proofs.Common.{[], ◌∷◌, ◌++◌, map, length, take, get_or, Some, refl, ap, sym, ◌∙◌, subst, arith}
 use Rattle.std.specs.Prelude.{slice_get, nat_le, if◌then◌else◌, codes}
 use Rattle.std.proofs.lemmas.List.{length-map, length-take-le, map-append, take-map, take_all, take_more}
 use Rattle.std.proofs.lemmas.Simd.{map-map}
@@ -11,12 +12,16 @@ use Rattle.mp_io.proofs.WritingLaws.{Puts-then}
 use Rattle.mp_term.specs.declared.signature.OpDecl.{OpDecl}
 use Rattle.mp_term.specs.Tree.{Tree, app, trees}
 use Rattle.mp_term.specs.Signature.{Sig}
-use Rattle.mp_print.specs.Printing.{separated, preceded, gap_text, term_text, term_texts, prefix_text, infix_text, application_text, front_text, separator_text, held_text}
+use Rattle.mp_print.specs.Printing.{separated, preceded, gap_text, term_text, term_texts, prefix_text, infix_text}
+use Rattle.mp_print.specs.Printing.{application_text, front_text, separator_text, held_text}
 
 -- the texts and one more behind them
-separated-push : (separator : Text) (texts : List Text) (text : Text) → separated separator (texts ++ text ∷ []) ≡ separated separator texts ++ (gap_text separator (length texts) ++ text)
+separated-push : (separator : Text) (texts : List Text) (text : Text)
+    → separated separator (texts ++ text ∷ [])
+    ≡ separated separator texts ++ (gap_text separator (length texts) ++ text)
 separated-push separator [] text = append-nil text
-separated-push separator (first ∷ texts) text = ap (λ l. first ++ l) (go texts) ∙ sym (append_assoc first (preceded separator texts) (separator ++ text))
+separated-push separator (first ∷ texts) text = ap (λ l. first ++ l) (go texts)
+    ∙ sym (append_assoc first (preceded separator texts) (separator ++ text))
   where
     go : (texts : List Text) → preceded separator (texts ++ text ∷ []) ≡ preceded separator texts ++ (separator ++ text)
     go [] = ap (λ l. separator ++ l) (append-nil text)
@@ -25,37 +30,50 @@ separated-push separator (first ∷ texts) text = ap (λ l. first ++ l) (go text
         ∙ ap (λ l. separator ++ l) (sym (append_assoc next (preceded separator texts) (separator ++ text)))
         ∙ sym (append_assoc separator (next ++ preceded separator texts) (separator ++ text))
 
-module _ {K X : Type 0} (words : SinkWords K) (f : X → Text) (separator : Text) (xs : List X) (texts : List Text) (same : map f xs ≡ texts) where
+module _ {K X : Type 0} (words : SinkWords K) (f : X → Text) (separator : Text) (xs : List X) (texts : List Text)
+    (same : map f xs ≡ texts) where
   -- the texts before the next index
   separated-next : (i : ℕ) (x : X) → i < length xs → x ≡ get_or xs i x
       → separated separator (take (i + 1) texts) ≡ separated separator (take i texts) ++ (gap_text separator i ++ f x)
   separated-next i x within is =
       let next : take (i + 1) texts ≡ take i texts ++ f x ∷ [] =
-      ap (take (i + 1)) (sym same) ∙ take-map f (i + 1) xs ∙ ap (map f) (take_more xs i x within ∙ ap (λ y. take i xs ++ y ∷ []) (sym is))
+      ap (take (i + 1)) (sym same) ∙ take-map f (i + 1) xs
+      ∙ ap (map f) (take_more xs i x within ∙ ap (λ y. take i xs ++ y ∷ []) (sym is))
       ∙ map-append f (take i xs) (x ∷ []) ∙ ap (λ l. l ++ f x ∷ []) (sym (take-map f i xs) ∙ ap (take i) same) in
       let count : length (take i texts) ≡ i = length-take-le i texts (omega (arith, ap length same, length-map xs f)) in
-      ap (separated separator) next ∙ separated-push separator (take i texts) (f x) ∙ ap (λ n. separated separator (take i texts) ++ (gap_text separator n ++ f x)) count
+      ap (separated separator) next ∙ separated-push separator (take i texts) (f x)
+      ∙ ap (λ n. separated separator (take i texts) ++ (gap_text separator n ++ f x)) count
 
   -- the texts of the items before an index are put, then a gap, and then the text of the item there
   pub Puts-separated : (i : ℕ) (x : X) → i < length xs → x ≡ get_or xs i x → (t u v w : Writer K)
-      → Puts words t u (separated separator (take i texts)) → Puts words u v (gap_text separator i) → Puts words v w (f x) → Puts words t w (separated separator (take (i + 1) texts))
+      → Puts words t u (separated separator (take i texts)) → Puts words u v (gap_text separator i)
+      → Puts words v w (f x) → Puts words t w (separated separator (take (i + 1) texts))
   Puts-separated i x within is t u v w before gap item =
       subst (Puts words t w) (sym (separated-next i x within is))
-      (Puts-then words t u w (separated separator (take i texts)) (gap_text separator i ++ f x) before (Puts-then words u v w (gap_text separator i) (f x) gap item))
+      (Puts-then words t u w (separated separator (take i texts)) (gap_text separator i ++ f x) before
+      (Puts-then words u v w (gap_text separator i) (f x) gap item))
 
   -- the texts of all items are put
-  pub Puts-all : (i : ℕ) → length xs ≤ i → (t u : Writer K) → Puts words t u (separated separator (take i texts)) → Puts words t u (separated separator texts)
-  Puts-all i past t u put = subst (λ l. Puts words t u (separated separator l)) (take_all i texts (omega (arith, ap length same, length-map xs f))) put
+  pub Puts-all : (i : ℕ) → length xs ≤ i → (t u : Writer K) → Puts words t u (separated separator (take i texts))
+      → Puts words t u (separated separator texts)
+  Puts-all i past t u put = subst (λ l. Puts words t u (separated separator l))
+      (take_all i texts (omega (arith, ap length same, length-map xs f))) put
 
 -- what stands before the arguments of an application, they with what stands between them, and a bracket
-pub application_text-parts : {X : Type 0} (f : X → Text) (d : OpDecl) (sign : Option Text) (items : List X) (n : ℕ) → n ≡ length items
-    → application_text d sign (map f items) ≡ front_text d sign n ++ (separated (separator_text sign n) (map f items) ++ codes ")")
-application_text-parts f d None items n same = sym (append_assoc d.name (codes "(") (separated (codes ", ") (map f items) ++ codes ")"))
+pub application_text-parts : {X : Type 0} (f : X → Text) (d : OpDecl) (sign : Option Text) (items : List X) (n : ℕ)
+    → n ≡ length items
+    → application_text d sign (map f items) ≡ front_text d sign n
+    ++ (separated (separator_text sign n) (map f items) ++ codes ")")
+application_text-parts f d None items n same =
+    sym (append_assoc d.name (codes "(") (separated (codes ", ") (map f items) ++ codes ")"))
 application_text-parts f d (Some sign) items n same =
-    ap (λ k. if nat_le 2 k then infix_text sign (map f items) else prefix_text d (map f items)) (length-map items f ∙ sym same) ∙ go (nat_le 2 n)
+    ap (λ k. if nat_le 2 k then infix_text sign (map f items) else prefix_text d (map f items))
+    (length-map items f ∙ sym same) ∙ go (nat_le 2 n)
   where
     go : (b : Bool) → (if b then infix_text sign (map f items) else prefix_text d (map f items))
-        ≡ (if b then codes "(" else d.name ++ codes "(") ++ (separated (if b then codes " " ++ (sign ++ (codes " " ++ [])) else codes ", ") (map f items) ++ codes ")")
+        ≡ (if b then codes "(" else d.name ++ codes "(")
+        ++ (separated (if b then codes " " ++ (sign ++ (codes " " ++ [])) else codes ", ")
+        (map f items) ++ codes ")")
     go true = refl
     go false = sym (append_assoc d.name (codes "(") (separated (codes ", ") (map f items) ++ codes ")"))
 
@@ -65,19 +83,27 @@ term_texts-trees sig [] = refl
 term_texts-trees sig (t ∷ ts) = ap (λ l. term_text sig t ∷ l) (term_texts-trees sig ts)
 
 -- the text of an application of terms that are seen as trees
-pub term_text-app : {X : Type 0} (view : X → Tree) (sig : Sig) (f : ℕ) (ts : List Tree) (items : List X) → map view items ≡ ts
+pub term_text-app : {X : Type 0} (view : X → Tree) (sig : Sig) (f : ℕ) (ts : List Tree) (items : List X)
+    → map view items ≡ ts
     → term_text sig (app f (trees ts)) ≡ held_text (slice_get sig.ops f) (map (λ x. term_text sig (view x)) items)
 term_text-app view sig f ts items same =
-    ap (held_text (slice_get sig.ops f)) (term_texts-trees sig ts ∙ ap (map (term_text sig)) (sym same) ∙ map-map (term_text sig) view items)
+    ap (held_text (slice_get sig.ops f)) (term_texts-trees sig ts ∙ ap (map (term_text sig)) (sym same)
+    ∙ map-map (term_text sig) view items)
 
--- an application of an operation that is held: what stands before its arguments is put, then they with what stands between them, and then a bracket
-pub Puts-application : {K X : Type 0} (words : SinkWords K) (f : X → Text) (xs : List X) (held : Option OpDecl) (d : OpDecl) (text separator : Text) (i : ℕ)
-    → text ≡ held_text held (map f xs) → held ≡ Some d → separator ≡ separator_text d.sign (length xs) → length xs ≤ i → (s t u v w : Writer K)
-    → Puts words s t [] → Puts words t u (front_text d d.sign (length xs)) → Puts words u v (separated separator (take i (map f xs))) → Puts words v w (codes ")") → Puts words s w text
+-- an application of an operation that is held: what stands before its arguments is put, then they with what stands
+-- between them, and then a bracket
+pub Puts-application : {K X : Type 0} (words : SinkWords K) (f : X → Text) (xs : List X) (held : Option OpDecl)
+    (d : OpDecl) (text separator : Text) (i : ℕ)
+    → text ≡ held_text held (map f xs) → held ≡ Some d → separator ≡ separator_text d.sign (length xs) → length xs ≤ i
+    → (s t u v w : Writer K)
+    → Puts words s t [] → Puts words t u (front_text d d.sign (length xs))
+    → Puts words u v (separated separator (take i (map f xs))) → Puts words v w (codes ")") → Puts words s w text
 Puts-application words f xs held d text separator i is is_held between past s t u v w none front items bracket =
     let parts : text ≡ front_text d d.sign (length xs) ++ (separated separator (map f xs) ++ codes ")") =
     is ∙ ap (λ o. held_text o (map f xs)) is_held ∙ application_text-parts f d d.sign xs (length xs) refl
     ∙ ap (λ l. front_text d d.sign (length xs) ++ (separated l (map f xs) ++ codes ")")) (sym between) in
     let all = Puts-all words f separator xs (map f xs) refl i past u v items in
     subst (Puts words s w) (sym parts)
-    (Puts-then words s t w [] _ none (Puts-then words t u w _ _ front (Puts-then words u v w (separated separator (map f xs)) (codes ")") all bracket)))
+    (Puts-then words s t w [] _ none
+    (Puts-then words t u w _ _ front
+    (Puts-then words u v w (separated separator (map f xs)) (codes ")") all bracket)))

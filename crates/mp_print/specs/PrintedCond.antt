@@ -5,7 +5,8 @@ use Rattle.mp_io.specs.Devices.{Text}
 use Rattle.mp_term.specs.Signature.{Sig}
 use Rattle.mp_pattern.specs.declared.condition.Sense.{Sense}
 use Rattle.mp_pattern.specs.declared.condition.Sense.TheVariants.{Lt, Le, Gt, Ge, Eq, Ne}
-use Rattle.mp_pattern.specs.CondTree.{Operand, var, ground, Amount, fixed, count, size, Cond, amounts, same, less, free, of_kind, headed, negation, all_of, any_of, Conds, no_conds, more_conds}
+use Rattle.mp_pattern.specs.CondTree.{Operand, var, ground, Amount, fixed, count, size, Cond, amounts, same, less, free}
+use Rattle.mp_pattern.specs.CondTree.{of_kind, headed, negation, all_of, any_of, Conds, no_conds, more_conds}
 use Rattle.mp_print.specs.Printing.{separated, kind_name_text, term_text}
 
 -- ---- atoms
@@ -49,7 +50,8 @@ module _ (sig : Sig) where
 
 -- ---- conditions
 
--- how tightly the parts of a condition hold together: those of a disjunction least, then a conjunction, a negation and an atom
+-- how tightly the parts of a condition hold together: those of a disjunction least, then a conjunction, a negation and
+-- an atom
 abbrev pub tightness : Cond → ℕ
 tightness (any_of cs) = 0
 tightness (all_of cs) = 1

@@ -2,7 +2,8 @@
 use Rattle.std.specs.Prelude.{List, [], ◌∷◌, ◌++◌, Option, unwrap_or, slice_get, codes}
 use Rattle.mp_io.specs.Devices.{Text}
 use Rattle.mp_term.specs.Signature.{Sig}
-use Rattle.mp_pattern.specs.PatternTree.{Wildcard, dot, kind, plus, star, optional, Pattern, symbol_pattern, app_pattern, wild_pattern, Patterns, no_patterns, more_patterns}
+use Rattle.mp_pattern.specs.PatternTree.{Wildcard, dot, kind, plus, star, optional, Pattern, symbol_pattern}
+use Rattle.mp_pattern.specs.PatternTree.{app_pattern, wild_pattern, Patterns, no_patterns, more_patterns}
 use Rattle.mp_print.specs.Printing.{kind_name_text, held_text, term_text}
 
 module _ (sig : Sig) where

@@ -1,5 +1,6 @@
 -- The printed text of signatures.
-use Rattle.std.specs.Prelude.{Bool, not, List, ◌++◌, Option, Some, is_some, unwrap_or, [], if◌then◌else◌, codes, decimal}
+use Rattle.std.specs.Prelude.{Bool, not, List, ◌++◌, Option, Some, is_some, unwrap_or, [], if◌then◌else◌, codes}
+use Rattle.std.specs.Prelude.{decimal}
 use Rattle.std.specs.List.{flat_map}
 use Rattle.mp_io.specs.Devices.{Text}
 use Rattle.mp_term.specs.declared.signature.OpDecl.{OpDecl}

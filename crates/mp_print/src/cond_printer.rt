@@ -7,7 +7,9 @@ ghost use Rattle.mp_io.specs.Writing.{Puts};
 ghost use Rattle.mp_pattern.specs.CondTree.{conds};
 ghost use Rattle.mp_pattern.specs.CondView.{operand, amount, cond_tree};
 ghost use Rattle.mp_print.specs.Printing.{separated};
-ghost use Rattle.mp_print.specs.PrintedCond.{sense_text, measure_text, relation_text, operand_text, amount_text, comparison_text, op_name_text, tightness, part_text, part_texts, cond_text};
+ghost use Rattle.mp_print.specs.PrintedCond.{sense_text, measure_text, relation_text, operand_text, amount_text};
+ghost use Rattle.mp_print.specs.PrintedCond.{comparison_text, op_name_text, tightness, part_text, part_texts};
+ghost use Rattle.mp_print.specs.PrintedCond.{cond_text};
 
 use crate::pattern_printer::kind_name;
 use crate::printer::put_term;
@@ -74,7 +76,8 @@ fn put_parts<K: Sink>(
 /// Puts a part, in square brackets where it holds together less tightly than is asked.
 #[cycle(put_cond)]
 fn put_part<K: Sink>(sig: &Signature, least: u8, part: &Cond, out: &mut Writer<'_, K>)
-    ensures { Puts K.Sink out.old out.new (part_text least (cond_tree part.now) (cond_text sig.now (cond_tree part.now))) }
+    ensures { Puts K.Sink out.old out.new
+        (part_text least (cond_tree part.now) (cond_text sig.now (cond_tree part.now))) }
 {
     if tightness(part) >= least {
         put_cond(sig, part, out);

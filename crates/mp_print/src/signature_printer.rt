@@ -8,7 +8,8 @@ ghost use Rattle.mp_io.specs.Printing.{Prints};
 ghost use Rattle.mp_io.specs.Writing.{Puts};
 ghost use Rattle.mp_term.specs.Signature.{kind_names, kind_members};
 ghost use Rattle.mp_print.specs.Printing.{separated};
-ghost use Rattle.mp_print.specs.PrintedSignature.{text_if, op_text, head_text, kind_text, held_kind_text, signature_text};
+ghost use Rattle.mp_print.specs.PrintedSignature.{text_if, op_text, head_text, kind_text, held_kind_text};
+ghost use Rattle.mp_print.specs.PrintedSignature.{signature_text};
 
 use crate::tree_printer::put_gap;
 use itoa::Buffer;

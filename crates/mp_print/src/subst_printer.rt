@@ -36,7 +36,8 @@ pub fn put_subst<K: Sink>(sig: &Signature, subst: &Subst, out: &mut Writer<'_, K
 
 /// Puts the bindings, with a comma between each two.
 fn put_bindings<K: Sink>(sig: &Signature, bindings: &[Binding], out: &mut Writer<'_, K>)
-    ensures { Puts K.Sink out.old out.new (separated (codes ", ") (map (binding_text sig.now) (map binding_of bindings.now))) }
+    ensures { Puts K.Sink out.old out.new (separated (codes ", ")
+        (map (binding_text sig.now) (map binding_of bindings.now))) }
 {
     for (index, binding) in bindings.iter().enumerate() {
         put_gap(index, &[b", ".as_slice()], out);

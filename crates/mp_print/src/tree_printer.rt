@@ -24,8 +24,10 @@ pub(crate) trait PrintedTree {
         sig: &Signature,
         out: &mut Writer<'_, K>,
     ) -> Option<(OpId, &'t [Self])>
-        ensures puts { MatchOption result (Puts K.Sink out.old out.new (text sig.now self.now)) (λ a. Puts K.Sink out.old out.new []) }
-        ensures text { MatchOption result ⊤ (λ a. text sig.now self.now ≡ held_text (slice_get sig.now.ops a.0.0) (map (text sig.now) a.1.now)) }
+        ensures puts { MatchOption result (Puts K.Sink out.old out.new (text sig.now self.now))
+            (λ a. Puts K.Sink out.old out.new []) }
+        ensures text { MatchOption result ⊤ (λ a. text sig.now self.now
+            ≡ held_text (slice_get sig.now.ops a.0.0) (map (text sig.now) a.1.now)) }
         ensures smaller { MatchOption result ⊤ (λ a. All (λ x. size x < size self.now) a.1.now) };
 }
 

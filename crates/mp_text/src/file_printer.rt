@@ -20,8 +20,8 @@ use mp_pattern::{Cond, Rule};
 use mp_print::{put_cond, put_head, put_pattern, put_signature, put_term};
 use mp_term::Signature;
 
-/// Appends the text of a file to the sink, one statement a line: the operations, the declared kinds, the rules and the subjects,
-/// each in their order. It is `file_text` of `specs/PrintedFile.antt`. It takes no memory.
+/// Appends the text of a file to the sink, one statement a line: the operations, the declared kinds, the rules and the
+/// subjects, each in their order. It is `file_text` of `specs/PrintedFile.antt`. It takes no memory.
 ///
 /// Of a rule the name, the pattern and the condition are printed.
 ///
@@ -36,18 +36,19 @@ pub fn write_file<K: Sink>(file: &File, sink: &mut K) -> Result<(), Failed>
     out.finish()
 }
 
-/// Law: the text that a file is printed as, `file_text` of `specs/PrintedFile.antt`, is read as the statements of the file,
-/// `file_spelling` of `specs/Spelled.antt`, apart from the places where they stand.
+/// Law: the text that a file is printed as, `file_text` of `specs/PrintedFile.antt`, is read as the statements of the
+/// file, `file_spelling` of `specs/Spelled.antt`, apart from the places where they stand.
 ///
-/// It holds for a file whose statements the grammar has: each word is a word of 1 to 64 letters and digits, each sign a sign, each
-/// kind has a member, each wildcard is one that is read, and at most 100 brackets stand open at once. It does nothing when it runs.
+/// It holds for a file whose statements the grammar has: each word is a word of 1 to 64 letters and digits, each sign a
+/// sign, each kind has a member, each wildcard is one that is read, and at most 100 brackets stand open at once. It
+/// does nothing when it runs.
 pub fn printed_file_is_its_statements()
     ensures { (file : FileTree) → StatementsHaveNames (file_spelling file) → AreStatements (file_spelling file)
         → (read : List Statement) × IsSyntaxOf (file_text file) read × (map unplaced read ≡ file_spelling file) }
 {}
 
-/// Law: the text that a file is printed as, `file_text` of `specs/PrintedFile.antt`, is read as that file, for every file that some
-/// bytes are, `IsFileOf` of `specs/Reading.antt`.
+/// Law: the text that a file is printed as, `file_text` of `specs/PrintedFile.antt`, is read as that file, for every
+/// file that some bytes are, `IsFileOf` of `specs/Reading.antt`.
 ///
 /// It does nothing when it runs.
 pub fn printed_file_is_read()

@@ -10,19 +10,25 @@ use Rattle.mp_print.proofs.cond_printer.+put_cond.Goals as goal
 pub put_parts-put_part-requires : goal.put_parts-put_part-requires
 put_parts-put_part-requires g t c κs within =
     let parts = c.args.parts.now in
-    let small : cond_nodes (cond_tree (get_or parts c.loop-index.index c.index-parts-index.result)) ≤ cond_list_nodes (map cond_tree parts) =
+    let small : cond_nodes (cond_tree (get_or parts c.loop-index.index c.index-parts-index.result))
+    ≤ cond_list_nodes (map cond_tree parts) =
     cond_nodes-element cond_tree parts c.loop-index.index c.index-parts-index.result (omega arith) in
-    let same : cond_nodes (cond_tree c.index-parts-index.result) ≡ cond_nodes (cond_tree (get_or parts c.loop-index.index c.index-parts-index.result)) =
+    let same : cond_nodes (cond_tree c.index-parts-index.result)
+    ≡ cond_nodes (cond_tree (get_or parts c.loop-index.index c.index-parts-index.result)) =
     ap (λ (x : Cond). cond_nodes (cond_tree x)) c.index-parts-index.is in
     (omega (arith, c.decreases), within)
 
 pub put_parts-loop-index-preserved : goal.put_parts-loop-index-preserved
 put_parts-loop-index-preserved g t c =
     let parts = c.args.parts.now in
-    Puts-separated g.K.Sink (λ x. part_text c.args.least (cond_tree x) (cond_text c.args.sig.now (cond_tree x))) c.args.separator.now parts _ (sym (part_texts-map cond_tree c.args.sig.now c.args.least parts)) c.loop-index.index c.index-parts-index.result (omega arith) c.index-parts-index.is _ _ _ _
+    Puts-separated g.K.Sink (λ x. part_text c.args.least (cond_tree x) (cond_text c.args.sig.now (cond_tree x)))
+    c.args.separator.now parts _ (sym (part_texts-map cond_tree c.args.sig.now c.args.least parts))
+    c.loop-index.index c.index-parts-index.result (omega arith) c.index-parts-index.is _ _ _ _
     c.loop-index.invariant (rw (append-nil c.args.separator.now) at c.put_gap.ensures) c.put_part.ensures
 
 pub put_parts-returns : goal.put_parts-returns
 put_parts-returns g t c =
     let parts = c.args.parts.now in
-    Puts-all g.K.Sink (λ x. part_text c.args.least (cond_tree x) (cond_text c.args.sig.now (cond_tree x))) c.args.separator.now parts _ (sym (part_texts-map cond_tree c.args.sig.now c.args.least parts)) c.loop-index.index (omega arith) _ _ c.loop-index.invariant
+    Puts-all g.K.Sink (λ x. part_text c.args.least (cond_tree x) (cond_text c.args.sig.now (cond_tree x)))
+    c.args.separator.now parts _ (sym (part_texts-map cond_tree c.args.sig.now c.args.least parts))
+    c.loop-index.index (omega arith) _ _ c.loop-index.invariant

@@ -10,7 +10,8 @@ use Rattle.mp_print.proofs.cond_printer.+put_cond.Given as goal
 -- the parts so far were put, with what stands between them
 abbrev pub invariant-put_parts-loop-index : goal.invariant-put_parts-loop-index
 invariant-put_parts-loop-index g l =
-    Puts g.K.Sink l.fn.out l.out (separated l.separator (take l.index (part_texts l.sig l.least (conds (map cond_tree l.parts)))))
+    Puts g.K.Sink l.fn.out l.out
+    (separated l.separator (take l.index (part_texts l.sig l.least (conds (map cond_tree l.parts)))))
 
 -- each function of the cycle is nearer to the parts than the one before it
 abbrev pub decreases-put_cond : goal.decreases-put_cond

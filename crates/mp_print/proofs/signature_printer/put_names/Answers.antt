@@ -12,6 +12,8 @@ loop-index-preserved g c =
     let index = c.loop-index.index in
     let name = get_or names index [] in
     let within : index < length names = omega arith in
-    let same : unwrap_or (slice_get names index) [] ≡ name = ap (λ o. unwrap_or o []) (slice_get-get_or names index [] within) in
-    Puts-separated g.K.Sink (λ (n : Text). n) (codes " ") names names (map-id names) index name within (get_or_default names index [] name within) _ _ _ _
+    let same : unwrap_or (slice_get names index) [] ≡ name =
+    ap (λ o. unwrap_or o []) (slice_get-get_or names index [] within) in
+    Puts-separated g.K.Sink (λ (n : Text). n) (codes " ") names names (map-id names) index name within
+    (get_or_default names index [] name within) _ _ _ _
     c.loop-index.invariant (rw c.as_slice.ensures at c.put_gap.ensures) (rw same at c.put_name_of.ensures)

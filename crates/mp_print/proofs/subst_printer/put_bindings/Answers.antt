@@ -11,5 +11,7 @@ pub loop-index-preserved : goal.loop-index-preserved
 loop-index-preserved g c =
     let text = binding_text c.args.sig.now in
     let bindings = c.args.bindings.now in
-    Puts-separated g.K.Sink (λ b. text (binding_of b)) (codes ", ") bindings _ (sym (map-map text binding_of bindings)) c.loop-index.index c.index-bindings-index.result (omega arith) c.index-bindings-index.is _ _ _ _
+    Puts-separated g.K.Sink (λ b. text (binding_of b)) (codes ", ")
+    bindings _ (sym (map-map text binding_of bindings)) c.loop-index.index c.index-bindings-index.result
+    (omega arith) c.index-bindings-index.is _ _ _ _
     c.loop-index.invariant (rw c.as_slice.ensures at c.put_gap.ensures) c.put_binding.ensures

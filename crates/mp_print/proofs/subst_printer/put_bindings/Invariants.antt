@@ -7,4 +7,5 @@ use Rattle.mp_print.proofs.subst_printer.put_bindings.Given as goal
 
 -- the bindings so far were put, with what stands between them
 abbrev pub invariant-loop-index : goal.invariant-loop-index
-invariant-loop-index g l = Puts g.K.Sink l.fn.out l.out (separated (codes ", ") (take l.index (map (binding_text l.sig) (map binding_of l.bindings))))
+invariant-loop-index g l = Puts g.K.Sink l.fn.out l.out
+    (separated (codes ", ") (take l.index (map (binding_text l.sig) (map binding_of l.bindings))))

@@ -7,4 +7,5 @@ use Rattle.mp_print.proofs.subst_printer.put_enclosed.Given as goal
 
 -- the terms so far were put, with what stands between them
 abbrev pub invariant-loop-index : goal.invariant-loop-index
-invariant-loop-index g l = Puts g.K.Sink l.initial.out l.out (separated (codes ", ") (take l.index (map (term_text l.sig) (map tree l.terms))))
+invariant-loop-index g l = Puts g.K.Sink l.initial.out l.out
+    (separated (codes ", ") (take l.index (map (term_text l.sig) (map tree l.terms))))

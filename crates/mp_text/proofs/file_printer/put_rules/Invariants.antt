@@ -7,4 +7,5 @@ use Rattle.mp_text.proofs.file_printer.put_rules.Given as goal
 
 -- the rules so far were put
 abbrev pub invariant-loop-rule : goal.invariant-loop-rule
-invariant-loop-rule g l = Puts g.K.Sink l.fn.out l.out (flat_map (rule_text l.sig) (map rule_tree (take l.rule-index l.rules)))
+invariant-loop-rule g l = Puts g.K.Sink l.fn.out l.out
+    (flat_map (rule_text l.sig) (map rule_tree (take l.rule-index l.rules)))

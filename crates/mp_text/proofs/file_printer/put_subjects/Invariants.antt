@@ -7,4 +7,5 @@ use Rattle.mp_text.proofs.file_printer.put_subjects.Given as goal
 
 -- the subjects so far were put
 abbrev pub invariant-loop-subject : goal.invariant-loop-subject
-invariant-loop-subject g l = Puts g.K.Sink l.fn.out l.out (flat_map (subject_text l.sig) (map subject_tree (take l.subject-index l.subjects)))
+invariant-loop-subject g l = Puts g.K.Sink l.fn.out l.out
+    (flat_map (subject_text l.sig) (map subject_tree (take l.subject-index l.subjects)))

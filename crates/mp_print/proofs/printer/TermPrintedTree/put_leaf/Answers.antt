@@ -6,10 +6,12 @@ use Rattle.mp_print.proofs.Separated.{term_text-app}
 use Rattle.mp_print.proofs.printer.TermPrintedTree.put_leaf.Goals as goal
 
 pub returns-in-App-clause-text : goal.returns-in-App-clause-text
-returns-in-App-clause-text g c = rw c.in-App.is (term_text-app tree c.args.sig.now c.in-App.op.0 c.in-App.args c.as_slice.result.now c.as_slice.ensures)
+returns-in-App-clause-text g c = rw c.in-App.is
+    (term_text-app tree c.args.sig.now c.in-App.op.0 c.in-App.args c.as_slice.result.now c.as_slice.ensures)
 
 pub returns-in-App-clause-smaller : goal.returns-in-App-clause-smaller
 returns-in-App-clause-smaller g c = λ k d within.
     let args = c.as_slice.result.now in
-    let small : node_count (tree (get_or args k d)) ≤ all_nodes (map tree args) = node_count-element tree args k d within in
+    let small : node_count (tree (get_or args k d)) ≤ all_nodes (map tree args) =
+    node_count-element tree args k d within in
     rw c.in-App.is (omega (arith, rw c.as_slice.ensures at small))
