@@ -1,3 +1,4 @@
+//! The splits of a length by parts, one at a time.
 ghost use Rattle.std.specs.Prelude.{◌≡◌, ℕ, ◌+◌, ◌^◌, ◌<◌, ◌≤◌, ◌↔◌, length, length as list_length, sum, take, drop, All, IsTrue, IsSome, IfOk, MatchOption, MatchBool};
 ghost use Rattle.std.specs.List.{AllZip};
 ghost use Rattle.std.specs.Ordering.{nat_cmp};
@@ -23,7 +24,7 @@ pub struct Part {
 }
 
 /// The splits of a length by parts: the lists of lengths, one for each part and within its bounds, whose sum is the length, in
-/// lexicographic order, by `AreSplits` of `specs/Splits`. Contracts see a `Splits` as `Choices` of `specs/Choices`: the item at
+/// lexicographic order, by `AreSplits` of `specs/Splits.antt`. Contracts see a `Splits` as `Choices` of `specs/Choices.antt`: the item at
 /// which it stands, the items still to come, and its room.
 #[derive(Drop)]
 pub struct Splits {

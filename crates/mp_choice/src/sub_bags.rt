@@ -1,3 +1,4 @@
+//! The sub-multisets of counts, one at a time.
 ghost use Rattle.std.specs.Prelude.{◌≡◌, ◌^◌, ◌<◌, ◌≤◌, ◌↔◌, length, sum, take, drop, IsTrue, IsSome, IfOk, MatchOption, MatchBool};
 ghost use Rattle.mp_choice.specs.SubBags.{IsSubBag, AreSubBags};
 ghost use Rattle.mp_choice.specs.SubBagSteps.{IsFilled, IsLastOfSize, Falls};
@@ -12,8 +13,8 @@ use std::alloc::Global;
 use std::marker::Model;
 
 /// The sub-multisets of a multiset that has `counts[c]` items of each class `c`, counted from 0: the lists of numbers, one for each
-/// class and at most its count, in shortlex order of their ascending lists of class numbers, by `AreSubBags` of `specs/SubBags`.
-/// Contracts see a `SubBags` as `Choices` of `specs/Choices`: the item at which it stands, the items still to come, and its room.
+/// class and at most its count, in shortlex order of their ascending lists of class numbers, by `AreSubBags` of `specs/SubBags.antt`.
+/// Contracts see a `SubBags` as `Choices` of `specs/Choices.antt`: the item at which it stands, the items still to come, and its room.
 #[derive(Drop)]
 pub struct SubBags {
     counts: Vec<u32>,

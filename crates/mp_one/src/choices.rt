@@ -1,4 +1,4 @@
-// The entries that are tried next.
+//! The entries that are tried next.
 ghost use Rattle.std.specs.Prelude.{◌≡◌, ◌++◌, ◌∷◌, [], false, map, filter, OnOk, IfOk};
 ghost use Rattle.mp_theory.specs.Machine as machine;
 ghost use Rattle.mp_theory.specs.Within as within;

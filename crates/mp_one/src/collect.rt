@@ -1,4 +1,4 @@
-// The items found so far, each substitution once.
+//! The items found so far, each substitution once.
 ghost use Rattle.std.specs.Prelude.{◌≡◌, [], ◌∷◌, OnOk, option_map};
 ghost use Rattle.mp_pattern.specs.CondView.{cond_tree};
 ghost use Rattle.mp_pattern.specs.Admission as admission;

@@ -1,4 +1,4 @@
-// What a search has found so far, where it is looked up.
+//! What a search has found so far, where it is looked up.
 ghost use Rattle.std.specs.Prelude.{◌≡◌, ◌≤◌, [], ◌∷◌, ◌++◌, map, length, true, false, IfOk, OnOk};
 ghost use Rattle.std.specs.List.Sorted.{IsPartitionPoint};
 ghost use Rattle.mp_pattern.specs.Firsts as firsts;

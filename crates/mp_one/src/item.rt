@@ -1,4 +1,4 @@
-// The items of a one-list.
+//! The items of a one-list.
 ghost use Rattle.std.specs.Prelude.{◌≡◌, [], ◌∷◌, ◌++◌, length, map, slice_get, IfOk, OnOk, OnErr, option_map};
 ghost use Rattle.mp_subst.specs.View.{subst_of};
 ghost use Rattle.mp_theory.specs.OneList.{item_substs};
@@ -12,7 +12,7 @@ use std::alloc::Global;
 use std::marker::Model;
 
 /// A substitution that a rule admits on a subject, with its least take table: one entry for each node of the pattern, in preorder.
-/// Contracts see it as the pair `item_of` of `specs/Items`.
+/// Contracts see it as the pair `item_of` of `specs/Items.antt`.
 #[derive(Drop)]
 pub struct Item {
     pub takes: Entries,

@@ -1,4 +1,4 @@
-// The lists that a child may take whose variable has a value.
+//! The lists that a child may take whose variable has a value.
 ghost use Rattle.std.specs.Prelude.{◌≡◌, ℕ, List, Some, IfOk, option_map};
 ghost use Rattle.mp_term.specs.Tree.{app, trees};
 ghost use Rattle.mp_term.specs.View.{tree};

@@ -1,4 +1,4 @@
-// How many terms a child may take, so that the children behind it have enough and not too many.
+//! How many terms a child may take, so that the children behind it have enough and not too many.
 ghost use Rattle.std.specs.Prelude.{◌≡◌, ◌≤◌, IfSome, map, length};
 ghost use Rattle.mp_pattern.specs.PatternTree.{patterns};
 ghost use Rattle.mp_pattern.specs.View.{pattern_tree};

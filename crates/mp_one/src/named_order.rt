@@ -1,4 +1,4 @@
-// The order of substitutions that needn't have the same names.
+//! The order of substitutions that needn't have the same names.
 ghost use Rattle.std.specs.Prelude.{◌≡◌, ◌↔◌, map, length};
 ghost use Rattle.std.specs.declared.cmp.Ordering.TheVariants.{Equal};
 ghost use Rattle.std.specs.Ordering.{nat_cmp};

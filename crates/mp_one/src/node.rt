@@ -1,4 +1,4 @@
-// Which entries a node may have, whatever was taken before.
+//! Which entries a node may have, whatever was taken before.
 ghost use Rattle.std.specs.Prelude.{◌≡◌, ◌∷◌, [], map, is_some};
 ghost use Rattle.mp_term.specs.View.{tree};
 ghost use Rattle.mp_term.specs.Tree.{symbol};

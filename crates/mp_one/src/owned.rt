@@ -1,4 +1,4 @@
-// Substitutions of their own, as they are answered.
+//! Substitutions of their own, as they are answered.
 ghost use Rattle.std.specs.Prelude.{◌≡◌, IfOk};
 ghost use Rattle.mp_subst.specs.View.{value_of, subst_of};
 ghost use Rattle.mp_one.specs.TrailValue.{trail_value};

@@ -1,4 +1,4 @@
-// The take table so far.
+//! The take table so far.
 ghost use Rattle.std.specs.Prelude.{◌≡◌, [], IfOk, if◌then◌else◌};
 ghost use Rattle.mp_pattern.specs.EntryView.{table_entry};
 ghost use Rattle.mp_one.specs.Stack.{entry_of};

@@ -1,4 +1,4 @@
-// What a child may take out of the terms that are left.
+//! What a child may take out of the terms that are left.
 ghost use Rattle.std.specs.Prelude.{◌≡◌, ◌-◌, ◌++◌, ◌∷◌, map, OnOk, IfOk, if◌then◌else◌};
 ghost use Rattle.std.specs.List.{range_with_len};
 ghost use Rattle.mp_term.specs.View.{tree};

@@ -1,4 +1,4 @@
-// What a search is asked.
+//! What a search is asked.
 use mp_pattern::Cond;
 use mp_term::Signature;
 

@@ -1,4 +1,4 @@
-// The search for items: entry by entry, in the order of the take tables.
+//! The search for items: entry by entry, in the order of the take tables.
 ghost use Rattle.std.specs.Prelude.{◌≡◌, ◌≤◌, ◌∷◌, [], ◌++◌, map, OnOk, IfOk};
 ghost use Rattle.std.specs.List.{AllByRecursion};
 ghost use Rattle.mp_term.specs.View.{tree};

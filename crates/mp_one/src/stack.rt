@@ -1,4 +1,4 @@
-// The operations that a walk over a pattern is inside of.
+//! The operations that a walk over a pattern is inside of.
 ghost use Rattle.std.specs.Prelude.{◌≡◌, ◌∷◌, [], IfOk};
 ghost use Rattle.mp_term.specs.View.{tree};
 ghost use Rattle.mp_pattern.specs.PatternTree.{patterns, app_pattern};

@@ -1,4 +1,4 @@
-// Lists of terms that the search holds by reference.
+//! Lists of terms that the search holds by reference.
 ghost use Rattle.std.specs.Prelude.{◌≡◌, ◌∷◌, [], ◌++◌, map, OnOk, IfOk};
 ghost use Rattle.mp_term.specs.View.{tree};
 ghost use Rattle.mp_term.specs.Order.{tree_cmp};

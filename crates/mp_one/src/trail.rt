@@ -1,4 +1,4 @@
-// The substitution so far.
+//! The substitution so far.
 ghost use Rattle.std.specs.Prelude.{◌≡◌, option_map, IfOk};
 ghost use Rattle.mp_theory.specs.Solve as solve;
 ghost use Rattle.mp_theory.specs.Machine as machine;

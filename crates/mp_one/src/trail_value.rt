@@ -1,4 +1,4 @@
-// Values of variables, held by reference while the search goes on.
+//! Values of variables, held by reference while the search goes on.
 ghost use Rattle.std.specs.Prelude.{◌≡◌, option_map, IfOk, if◌then◌else◌};
 ghost use Rattle.mp_term.specs.Tree.{app, trees};
 ghost use Rattle.mp_term.specs.View.{tree};

@@ -1,4 +1,4 @@
-// Tests of the wildcards of a pattern.
+//! Tests of the wildcards of a pattern.
 ghost use Rattle.std.specs.Prelude.{◌≡◌, ◌↔◌, IsTrue, true, map};
 ghost use Rattle.mp_pattern.specs.PatternTree.{patterns};
 ghost use Rattle.mp_pattern.specs.View.{pattern_tree};
@@ -10,7 +10,7 @@ ghost use Rattle.mp_theory.specs.NoOptional.{HasNoOptional, IsNotOptional};
 use mp_pattern::{MAX_DEFAULT_NODES, Pattern, Shape, is_fully_named};
 use mp_term::node_count;
 
-/// Whether the default of each optional wildcard has at most `MAX_DEFAULT_NODES` nodes (`DefaultsAreSmall` of mp_pattern's `specs/Limits`).
+/// Whether the default of each optional wildcard has at most `MAX_DEFAULT_NODES` nodes (`DefaultsAreSmall` of mp_pattern's `specs/Limits.antt`).
 #[cycle(small)]
 pub fn has_small_defaults(pattern: &Pattern) -> bool
     ensures { IsTrue result ↔ DefaultsAreSmall (pattern_tree pattern.now) }

@@ -7,7 +7,7 @@ use Rattle.mp_pattern.specs.PatternTree.{Pattern, symbol_pattern, app_pattern, w
 use Rattle.mp_pattern.specs.PatternTree.{more_patterns}
 use Rattle.mp_pattern.specs.TemplateTree.{Template, symbol_template, app_template, variable_template, Templates}
 use Rattle.mp_pattern.specs.TemplateTree.{no_templates, more_templates}
-use Rattle.mp_pattern.specs.Value.{Subst, value_of}
+use Rattle.mp_pattern.specs.Value.{one, Subst, value_of}
 use Rattle.mp_pattern.specs.Holds.{listed}
 
 abbrev mutual
@@ -49,8 +49,10 @@ module _ (s : Subst) where
     all_pattern_instances no_patterns = []
     all_pattern_instances (more_patterns p ps) = pattern_instances p ++ all_pattern_instances ps
 
--- t is the template with each variable replaced by its term, or its list spliced into the arguments
+-- t is the template with each variable replaced by its term, or its list spliced into the arguments around it; a variable
+-- that is the whole template has no arguments around it, and so stands for one term
 abbrev pub IsInstance : Template → Subst → Tree → Type 0
+IsInstance (variable_template x) s t = value_of s x ≡ Some (one t)
 IsInstance x s t = instances s x ≡ t ∷ []
 
 -- t is the pattern, which has no unnamed wildcard, with each wildcard replaced so

@@ -1,4 +1,4 @@
-// The main theorems, each as the contract of a function that does nothing.
+//! The main theorems, each as the contract of a function that does nothing.
 ghost use Rattle.std.specs.Prelude.{◌≡◌, ◌↔◌, ◌+◌, List, Some, true, map, max, length};
 ghost use Rattle.std.specs.List.{AllByRecursion};
 ghost use Rattle.std.specs.List.Sorted.{IsStrictlySortedBy};
@@ -24,14 +24,14 @@ ghost use Rattle.mp_theory.specs.Trail.{fitted};
 ghost use Rattle.mp_theory.specs.ValueSizes.{HaveAtMost};
 
 /// What the search finds is the one-list: for a normal subject, `one_list` of
-/// `specs/OneList` holds exactly the substitutions that the rule admits, strictly ascending by least take table.
+/// `specs/OneList.antt` holds exactly the substitutions that the rule admits, strictly ascending by least take table.
 pub fn one_list_is_the_one_list()
     ensures { (sig : Sig) (r : Rule) (t : Tree) → IsNormal sig t →
         IsOneList sig r t (one_list sig r t) }
 {}
 
 /// The items that the search finds are those of the rule: for a normal subject,
-/// `item_list` of `specs/OneList` has exactly the substitutions that the rule admits, each with its least take table,
+/// `item_list` of `specs/OneList.antt` has exactly the substitutions that the rule admits, each with its least take table,
 /// strictly ascending by these. Its substitutions are `one_list`.
 pub fn the_item_list_is_the_one_list()
     ensures items { (sig : Sig) (r : Rule) (t : Tree) → IsNormal sig t →
@@ -47,20 +47,20 @@ pub fn items_have_the_shape_of_the_pattern()
         AllByRecursion (λ i. (length i.0 ≡ pattern_nodes r.pattern) × (map (λ b. b.name) i.1 ≡ variables r.pattern)) is }
 {}
 
-/// A rule has one one-list on a normal subject: two lists that meet `IsOneList` of mp_pattern's `specs/Lists` are equal.
+/// A rule has one one-list on a normal subject: two lists that meet `IsOneList` of mp_pattern's `specs/Lists.antt` are equal.
 pub fn one_list_is_unique()
     ensures { (sig : Sig) (r : Rule) (t : Tree) (ss us : List Subst) → IsNormal sig t →
         IsOneList sig r t ss → IsOneList sig r t us → ss ≡ us }
 {}
 
-/// Rules have one all-list on a subject: two lists that meet `IsAllList` of mp_pattern's `specs/Lists` are equal.
+/// Rules have one all-list on a subject: two lists that meet `IsAllList` of mp_pattern's `specs/Lists.antt` are equal.
 pub fn all_list_is_unique()
     ensures { (sig : Sig) (rules : List Rule) (t : Tree) (ps qs : List Pair) →
         IsAllList sig rules t ps → IsAllList sig rules t qs → ps ≡ qs }
 {}
 
 /// Only finitely many take tables fit a pattern and a normal subject: each of them is in the list `tables` of
-/// `specs/Machine`, which holds exactly the tables that have the pattern's shape on the subject, strictly ascending in
+/// `specs/Machine.antt`, which holds exactly the tables that have the pattern's shape on the subject, strictly ascending in
 /// the derivation order.
 pub fn tables_are_exact()
     ensures complete { (sig : Sig) (p : Pattern) (t : Tree) (s : Subst) (T : Table) → IsNormal sig t →
@@ -71,7 +71,7 @@ pub fn tables_are_exact()
 {}
 
 /// At most one substitution fits with a take table, and for a normal subject
-/// `fitted` of `specs/Trail` finds it: it is None exactly where no substitution fits.
+/// `fitted` of `specs/Trail.antt` finds it: it is None exactly where no substitution fits.
 pub fn a_table_decides_its_substitution()
     ensures unique { (sig : Sig) (p : Pattern) (t : Tree) (T : Table) (r s : Subst) → IsNormal sig t →
         Fits sig p t r T → Fits sig p t s T → r ≡ s }
@@ -94,7 +94,7 @@ pub fn a_substitution_is_within_its_subject()
 {}
 
 /// Where each wildcard of the pattern has a name and none is optional, a substitution that fits makes the subject: the
-/// normal form of the pattern's instance, by `IsPatternApplied` of mp_pattern's `specs/Instance`, is the normal subject.
+/// normal form of the pattern's instance, by `IsPatternApplied` of mp_pattern's `specs/Instance.antt`, is the normal subject.
 pub fn an_instance_is_the_subject()
     ensures { (sig : Sig) (p : Pattern) (t : Tree) (s : Subst) (T : Table) →
         is_fully_named p ≡ true → HasNoOptional p → IsNormal sig t →
