@@ -13,7 +13,7 @@ use crate::lengths::{fewest, length_limit};
 use crate::node::{comm_above, reads};
 use crate::pieces::{is_piece, pieces_between};
 use crate::stack::{Take, Place};
-use crate::terms::{copied, push};
+use crate::terms::copied;
 use mp_term::{Memory, Signature, Term};
 use std::alloc::Global;
 
@@ -31,13 +31,11 @@ fn push_entry<'a>(
     if !reads(sig, place.child, place.under, piece, collapsed) {
         return Ok(());
     }
-    push(
-        found,
-        Take {
-            terms: copied(alloc, piece)?,
-            collapsed,
-        },
-    )
+    found.push(Take {
+        terms: copied(alloc, piece)?,
+        collapsed,
+    })?;
+    Ok(())
 }
 
 // The pieces of the lengths that the child may take.
@@ -98,7 +96,7 @@ fn only_choice<'a>(
         collapsed: false,
     };
     if allows(sig, place, &entry) {
-        push(&mut found, entry)?;
+        found.push(entry)?;
     }
     Ok(found)
 }

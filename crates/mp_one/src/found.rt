@@ -57,9 +57,7 @@ fn put_in_order(items: &[Item], numbers: &mut Vec<usize>) -> Result<(), Memory>
     while numbers.len() < items.len() {
         let number = numbers.len();
         let place = place_of(items, numbers, &items[number].subst);
-        if numbers.insert(place, number).is_err() {
-            return Err(Memory);
-        }
+        numbers.insert(place, number)?;
     }
     Ok(())
 }

@@ -4,7 +4,6 @@ ghost use Rattle.mp_subst.specs.View.{subst_of};
 ghost use Rattle.mp_theory.specs.OneList.{item_substs};
 ghost use Rattle.mp_one.specs.Items.{item_of};
 
-use crate::terms::push;
 use mp_pattern::Entries;
 use mp_subst::Subst;
 use mp_term::Memory;
@@ -55,10 +54,8 @@ impl Items {
         ensures ok { OnOk result (self.new ≡ self.old ++ item_of item ∷ []) }
         ensures err { OnErr result (self.new ≡ self.old) }
     {
-        match self.items.push(item) {
-            Ok(()) => Ok(()),
-            Err(_) => Err(Memory),
-        }
+        self.items.push(item)?;
+        Ok(())
     }
 
     /// How many items there are.
@@ -81,7 +78,7 @@ impl Items {
     {
         let mut substs = Vec::new(alloc);
         for item in self.items {
-            push(&mut substs, item.subst)?;
+            substs.push(item.subst)?;
         }
         Ok(substs)
     }

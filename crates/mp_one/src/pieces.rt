@@ -6,7 +6,7 @@ ghost use Rattle.mp_term.specs.Order.{tree_cmp};
 ghost use Rattle.mp_term.specs.Pieces as pieces;
 ghost use Rattle.mp_one.specs.Lists.{trees_of, lists_of, IsPlace};
 
-use crate::terms::{copied, push};
+use crate::terms::copied;
 use mp_term::{Memory, Term, compare};
 use std::alloc::Global;
 use std::cmp::Ordering;
@@ -37,7 +37,7 @@ pub fn without<'a>(
         if taken < terms.len() && compare(term, terms[taken]).is_eq() {
             taken += 1;
         } else {
-            push(&mut rest, *term)?;
+            rest.push(*term)?;
         }
     }
     Ok(rest)
@@ -96,13 +96,10 @@ fn place_of(list: &[&Term], term: &Term) -> Option<usize>
 fn insert_new<'a>(list: &mut Vec<&'a Term>, term: &'a Term) -> Result<(), Memory>
     ensures { OnOk result (trees_of list.new.items ≡ pieces.insert_new tree_cmp (tree term.now) (trees_of list.old.items)) }
 {
-    match place_of(list, term) {
-        None => Ok(()),
-        Some(place) => match list.insert(place, term) {
-            Ok(()) => Ok(()),
-            Err(_) => Err(Memory),
-        },
+    if let Some(place) = place_of(list, term) {
+        list.insert(place, term)?;
     }
+    Ok(())
 }
 
 // Each term once, ascending.
@@ -134,10 +131,8 @@ fn behind<'a>(alloc: Global, first: &'a Term, rest: &[&'a Term]) -> Result<Vec<&
     ensures { IfOk result (λ v. trees_of v.items ≡ tree first.now ∷ trees_of rest.now) }
 {
     let mut piece = copied(alloc, &[first])?;
-    match piece.extend_from_slice(rest) {
-        Ok(()) => Ok(piece),
-        Err(_) => Err(Memory),
-    }
+    piece.extend_from_slice(rest)?;
+    Ok(piece)
 }
 
 // Adds each of the lists with the term in front.
@@ -150,7 +145,7 @@ fn push_behind<'a>(
     ensures { OnOk result (lists_of all.new.items ≡ lists_of all.old.items ++ map (λ w. tree first.now ∷ w) (lists_of rests.now)) }
 {
     for rest in rests {
-        push(all, behind(alloc, first, rest)?)?;
+        all.push(behind(alloc, first, rest)?)?;
     }
     Ok(())
 }
@@ -169,11 +164,11 @@ fn pieces_of<'a>(
         return Ok(all);
     }
     if length == 0 {
-        push(&mut all, Vec::new(alloc))?;
+        all.push(Vec::new(alloc))?;
         return Ok(all);
     }
     if length == list.len() {
-        push(&mut all, copied(alloc, list)?)?;
+        all.push(copied(alloc, list)?)?;
         return Ok(all);
     }
     for first in &beginnings(alloc, anywhere, list)? {
@@ -196,10 +191,7 @@ pub fn pieces_between<'a>(
     let mut all = Vec::new(alloc);
     for length in least..limit {
         let mut some = pieces_of(alloc, anywhere, length, list)?;
-        match all.append(&mut some) {
-            Ok(()) => {}
-            Err(_) => return Err(Memory),
-        }
+        all.append(&mut some)?;
     }
     Ok(all)
 }

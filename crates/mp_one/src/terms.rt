@@ -13,20 +13,15 @@ use std::alloc::Global;
 pub fn push<T: Drop>(list: &mut Vec<T>, item: T) -> Result<(), Memory>
     ensures { OnOk result (list.new.items ≡ list.old.items ++ item ∷ []) }
 {
-    match list.push(item) {
-        Ok(()) => Ok(()),
-        Err(_) => Err(Memory),
-    }
+    list.push(item)?;
+    Ok(())
 }
 
 /// The same references.
 pub fn copied<'a>(alloc: Global, terms: &[&'a Term]) -> Result<Vec<&'a Term>, Memory>
     ensures { IfOk result (λ v. v.items ≡ terms.now) }
 {
-    match Vec::from_slice(alloc, terms) {
-        Ok(copy) => Ok(copy),
-        Err(_) => Err(Memory),
-    }
+    Ok(Vec::from_slice(alloc, terms)?)
 }
 
 /// References to the terms.
@@ -35,7 +30,7 @@ pub fn references<'a>(alloc: Global, terms: &'a [Term]) -> Result<Vec<&'a Term>,
 {
     let mut all = Vec::new(alloc);
     for term in terms {
-        push(&mut all, term)?;
+        all.push(term)?;
     }
     Ok(all)
 }

@@ -1,5 +1,5 @@
 use Rattle.std.proofs.Common.{◌≡◌, map, length, get_or, true, false, ap, sym, ◌∙◌, subst, arith}
-use Rattle.std.specs.Prelude.{◌≤◌, ◌<◌, if◌then◌else◌, is_ok, not}
+use Rattle.std.specs.Prelude.{◌≤◌, ◌<◌}
 use Rattle.std.specs.List.{insert}
 use Rattle.std.specs.List.Sorted.{IsPartitionPoint}
 use Rattle.mp_subst.specs.View.{subst_of}
@@ -15,8 +15,7 @@ loop-numbers-preserved c =
     let numbers = c.loop-numbers.numbers.items in
     let number = c.len-number.result in
     let p = c.place_of-place.result in
-    let done : is_ok c.insert.result ≡ true = c.is_err.ensures.negation ∙ ap not c.if-is_err.false in
-    let after : c.insert.new.self.items ≡ insert numbers p number = subst (λ b. c.insert.new.self.items ≡ (if b then insert numbers p number else numbers)) done c.insert.ensures.items in
+    let after : c.insert.new.self.items ≡ insert numbers p number = c.in_ok-insert.ensures.items in
     let first : number ≡ length numbers = omega (arith, c.len-number.ensures, c.loop-numbers.numbers.ok.0) in
     let below : number < length c.args.items.now = omega (arith, c.len-number.ensures, c.len.ensures, c.loop-numbers-test.true) in
     let x = get_or c.args.items.now number c.index-items-number.result in

@@ -34,6 +34,6 @@ returns-then-list-length t c =
 pub returns-then-length-list : goal.returns-then-length-list
 returns-then-length-list t c =
     let ts = trees_of c.args.list.now in
-    ap lists_of (c.in_ok-push-2.ensures ∙ ap (λ ls. ls ++ c.in_ok-copied.field-0 ∷ []) c.new-all.ensures.items)
+    ap lists_of (c.in_ok-push-2.ensures.items ∙ ap (λ ls. ls ++ c.in_ok-copied.field-0 ∷ []) c.new-all.ensures.items)
     ∙ ap (λ l. trees_of l ∷ []) c.in_ok-copied.ensures
     ∙ sym (ap (λ n. pieces.pieces_of tree_cmp c.args.anywhere n ts) (c.if-length-list.true ∙ sym (length-map c.args.list.now (λ t. tree t.now))) ∙ pieces_of-whole c.args.anywhere ts)
