@@ -6,7 +6,7 @@ ghost use Rattle.mp_pattern.specs.Operands.{IsConditionOver};
 ghost use Rattle.mp_cond.specs.Ready.{IsReady, AreCountable};
 
 /// A substitution whose values have fewer than 2 ^ 64 nodes each is ready, by `IsReady` of `specs/Ready.antt`, for a
-/// condition whose variables it binds and whose ground terms have at most 64 nodes each.
+/// condition whose variables it binds and whose ground terms have at most `MAX_OPERAND_NODES` nodes each.
 pub fn conditions_over_the_bound_variables_are_ready()
     ensures { (s : Subst) (c : Cond) → IsConditionOver (map (λ b. b.name) s) c → AreCountable s → IsReady s c }
 {}

@@ -1,6 +1,6 @@
 -- What holds of each item of a list, the item at which a loop over a list stands, and tests that are the same.
-use Rattle.std.proofs.Common.{◌≡◌, ℕ, suc, ◌+◌, ◌-◌, ◌<◌, List, [], ◌∷◌, ◌++◌, map, length, get_or, take, drop}
-use Rattle.std.proofs.Common.{drop-cons, add-one, Bool, true, false, refl, ap, sym, ◌∙◌, arith}
+use Rattle.std.proofs.Common.{◌≡◌, ℕ, ◌+◌, ◌<◌, List, [], ◌∷◌, ◌++◌, map, length, get_or, take, drop}
+use Rattle.std.proofs.Common.{drop-cons, add-one, Bool, true, false, refl, ap, sym, ◌∙◌}
 use Rattle.std.specs.Prelude.{flat_map, filter, if◌then◌else◌}
 use Rattle.std.specs.List.{AllByRecursion}
 use Rattle.std.proofs.lemmas.List.{map-append, take-map, drop-map}
@@ -46,15 +46,6 @@ pub map-insert : {X Y : Type 0} (f : X → Y) (i : ℕ) (xs : List X) (x : X)
 map-insert f i xs x = map-append f (take i xs) (x ∷ drop i xs)
     ∙ ap (λ ys. ys ++ (f x ∷ map f (drop i xs))) (sym (take-map f i xs))
     ∙ ap (λ ys. take i (map f xs) ++ (f x ∷ ys)) (sym (drop-map f i xs))
-
--- the last but n
-pub drop-before : {X : Type 0} (xs : List X) (i : ℕ) (x : X) → i < length xs → x ≡ get_or xs (length xs - 1 - i) x
-    → drop (length xs - (i + 1)) xs ≡ x ∷ drop (length xs - i) xs
-drop-before xs i x h e =
-    let j : length xs - (i + 1) ≡ length xs - 1 - i = omega arith in
-    let k : suc (length xs - 1 - i) ≡ length xs - i = omega arith in
-    ap (λ n. drop n xs) j ∙ drop-cons xs (length xs - 1 - i) x (omega arith)
-    ∙ ap (λ y. y ∷ drop (suc (length xs - 1 - i)) xs) (sym e) ∙ ap (λ n. x ∷ drop n xs) k
 
 -- a filter goes item by item
 pub filter-front : {X : Type 0} (p : X → Bool) (x : X) (xs : List X)

@@ -171,11 +171,6 @@ no_kind_fault true b e = cc
 no_kind_fault false true e = cc
 no_kind_fault false false e = (refl, refl)
 
--- a name that may be added is new
-pub new_kind_name : (sig : Sig) (n : List ℕ) → kind_fault sig n ≡ None → list_any (bytes_eq n) (kind_names sig) ≡ false
-new_kind_name sig n e =
-    (no_kind_fault (list_any (bytes_eq n) (kind_names sig)) (nat_le MAX_KINDS (length (kind_names sig))) e).0
-
 no_name_clashes : (d : OpDecl) (ds : List OpDecl) → list_any (clashes d) ds ≡ false
     → list_any (bytes_eq d.name) (map (λ c. c.name) ds) ≡ false
 no_name_clashes d [] h = refl
