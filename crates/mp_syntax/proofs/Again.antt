@@ -10,7 +10,7 @@ use Rattle.mp_syntax.specs.Tokens.{Token, Punctuation, Placed}
 use Rattle.mp_syntax.specs.Syntax.{Spot, Wildcard, Tree, Symbol, Apply, InfixOf, Wild, Optional, Variable, Trees, no_trees, more_trees, trees, tree_list, Statement, Expected, Matches, AllMatch, spell, spell_first, spell_others, spell_with_colon, spelled_word, spelled_sign, spelled_wildcard, another, comma, AreDots, Fits, AreFit}
 use Rattle.mp_syntax.specs.Machine.{Frame, Arguments, Bracket, Operands, Default, open_count, Within, State, Top, BeforeExpr, AfterWord, AfterOpen, AfterWildcard, AfterExpr, AfterDollar, Step, Go, Emit, is_punct, is_sign, word_of, sign_of, wildcard_at, is_dot, spot, on_punct, on_text, on_word, step, step_open, step_expr, step_behind, after_step, run}
 use Rattle.mp_syntax.specs.Parsing.{HasRoom, within_defaults}
-use Rattle.mp_syntax.proofs.Runs.{dollar-step, word-opens, bracket-opens, open-expr, operand-again, wildcard-step, default-step, wildcard-alone, defaults-behind, chained-optional, open_count-within_defaults}
+use Rattle.mp_syntax.proofs.Runs.{word-opens, bracket-opens, open-expr, operand-again, wildcard-step, default-step, wildcard-alone, defaults-behind, chained-optional, open_count-within_defaults}
 use Rattle.mp_syntax.proofs.Trees.{trees-tree_list, true-is_dot, fits-optional}
 
 -- what matches two spellings in a row is in two parts
@@ -70,7 +70,7 @@ pub sign-taken : (next : Spot → Step) (t : Placed) (s : Spot) → Matches t (s
 sign-taken next t s h = text-taken sign_of next t s (ap sign_of h.0) h.1
 
 step_expr-word : (x : Within) (k : List Frame) (t : Placed) (w : Spot) → Matches t (spelled_word w) → step_expr MAX_OPEN x k t (word_of t.token) ≡ Go (AfterWord x k w)
-step_expr-word x k t w h = ap (step_expr MAX_OPEN x k t) (ap word_of h.0) ∙ ap (λ p. Go (AfterWord x k (spot w.text p))) h.1
+step_expr-word x k t w h = rw (h.0, h.1) refl
 
 -- a wildcard that matches leads on
 wildcard-taken : (x : Within) (k : List Frame) (t : Placed) (w : Wildcard) → Matches t (spelled_wildcard w) → step (BeforeExpr x k) t ≡ Go (AfterWildcard x k w)
@@ -102,7 +102,7 @@ others-begin between none (more_trees a args) (t ∷ ts) h = record { token = t;
 module _ (done : List Statement) (x : Within) where
   -- a word that no bracket follows
   word-expr : (k : List Frame) (w : Spot) (u : Placed) (us : List Placed) → is_punct Open u.token ≡ false → run done (AfterWord x k w) (u ∷ us) ≡ run done (AfterExpr x k (Symbol w)) (u ∷ us)
-  word-expr k w u us h = ap (λ b. after_step done u.place (λ d a. run d a us) (cond b (step_open MAX_OPEN k (AfterOpen x k w)) (step_behind x k (Symbol w) u))) h
+  word-expr k w u us h = rw h refl
 
   -- what spells an expression isn't closed at once
   open-spell : (t : Tree) (k : List Frame) (w : Spot) (ts us : List Placed) → AllMatch ts (spell t) → run done (AfterOpen x k w) (ts ++ us) ≡ run done (BeforeExpr x (Arguments w [] ∷ k)) (ts ++ us)
@@ -120,15 +120,15 @@ module _ (done : List Statement) (x : Within) where
 
   arguments-row : (name : Spot) → IsRow comma (Arguments name) (λ es. Apply name (trees es))
   arguments-row name = record {
-    closes = λ k es e t h. ap (λ u. cond (is_punct Comma u) (Go (BeforeExpr x (Arguments name (es ++ e ∷ []) ∷ k))) (on_punct Close u (Go (AfterExpr x k (Apply name (trees (es ++ e ∷ []))))))) h;
-    separates = λ k es e t h. ap (λ u. cond (is_punct Comma u) (Go (BeforeExpr x (Arguments name (es ++ e ∷ []) ∷ k))) (on_punct Close u (Go (AfterExpr x k (Apply name (trees (es ++ e ∷ []))))))) h;
+    closes = λ k es e t h. rw h refl;
+    separates = λ k es e t h. rw h refl;
     continues_none = λ t h. (ap (is_punct Open) h, ap (is_punct Colon) h);
     opens = λ k es. refl;
   }
 
   operands-row : (place : Place) (sign : Spot) (first : Tree) → IsRow (another sign) (Operands place sign first) (λ es. InfixOf place sign (more_trees first (trees es)))
   operands-row place sign first = record {
-    closes = λ k es e t h. ap (λ u. cond (is_sign sign.text u) (Go (BeforeExpr x (Operands place sign first (es ++ e ∷ []) ∷ k))) (on_punct Close u (Go (AfterExpr x k (InfixOf place sign (more_trees first (trees (es ++ e ∷ [])))))))) h;
+    closes = λ k es e t h. rw h refl;
     separates = λ k es e t h. operand-again x place sign first es k e t (ap (is_sign sign.text) h ∙ (bytes_eq-Decides sign.text sign.text).1 refl);
     continues_none = λ t h. (ap (is_punct Open) h, ap (is_punct Colon) h);
     opens = λ k es. refl;
@@ -157,7 +157,7 @@ module _ (done : List Statement) (x : Within) where
   infix-again t v vs read-t read-v read-vs place sign k room p ts us h fits len =
       let r = split (spell t) (spelled_sign sign ∷ (spell v ++ spell_others (another sign) vs)) ts h.1 in
       let s = led (spelled_sign sign) (spell v ++ spell_others (another sign) vs) r.back r.second in
-      over done (BeforeExpr x k) (BeforeExpr x (Bracket place ∷ k)) p (ts ++ us) (bracket-opens x k p (suc room) len (omega arith) (ap (is_punct Open) h.0.0) ∙ ap (λ q. Go (BeforeExpr x (Bracket q ∷ k))) h.0.1)
+      over done (BeforeExpr x k) (BeforeExpr x (Bracket place ∷ k)) p (ts ++ us) (bracket-opens x k p (suc room) len (omega arith) (ap (is_punct Open) h.0.0) ∙ rw h.0.1 refl)
       ∙ ap (run done (BeforeExpr x (Bracket place ∷ k))) (joined ts r.front r.back s.token s.others us r.parts s.parts)
       ∙ read-t (Bracket place ∷ k) room r.front s.token (s.others ++ us) r.first fits.0 (omega (arith, len)) (ap (is_punct Open) s.match.0, ap (is_punct Colon) s.match.0)
       ∙ over done (AfterExpr x (Bracket place ∷ k) t) (BeforeExpr x (Operands place sign t [] ∷ k)) s.token (s.others ++ us) (sign-taken (λ w. Go (BeforeExpr x (Operands place w t [] ∷ k))) s.token sign s.match)
@@ -210,15 +210,15 @@ module _ (done : List Statement) (x : Within) where
     expr-again (Variable w) k room [] u us h fits len n = absurd h
     expr-again (Variable w) k room (t ∷ []) u us h fits len n = absurd h.1
     expr-again (Variable w) k room (t ∷ v ∷ []) u us h fits len n =
-        over done (BeforeExpr x k) (AfterDollar x k w.place) t (v ∷ u ∷ us) (dollar-step x k t h.0.0 ∙ ap (λ p. Go (AfterDollar x k p)) h.0.1)
-        ∙ over done (AfterDollar x k w.place) (AfterExpr x k (Variable w)) v (u ∷ us) (ap (on_text v (λ s. Go (AfterExpr x k (Variable (spot s.text w.place))))) (ap word_of h.1.0))
+        over done (BeforeExpr x k) (AfterDollar x k w.place) t (v ∷ u ∷ us) (rw (h.0.0, h.0.1) refl)
+        ∙ over done (AfterDollar x k w.place) (AfterExpr x k (Variable w)) v (u ∷ us) (rw h.1.0 refl)
     expr-again (Variable w) k room (t ∷ v ∷ y ∷ ts) u us h fits len n = absurd h.1.1
 
     -- arguments are read behind their bracket
     first-again : (args : Trees) (k : List Frame) (w : Spot) (room : ℕ) (ts us : List Placed) → AllMatch ts (spell_first comma args) → AreFit room args → HasRoom k (suc room) → run done (AfterOpen x k w) (ts ++ us) ≡ run done (AfterExpr x k (Apply w args)) us
     first-again no_trees k w room [] us h fits len = absurd h
     first-again no_trees k w room (t ∷ []) us h fits len =
-        over done (AfterOpen x k w) (AfterExpr x k (Apply w no_trees)) t us (punct-taken (is_punct Close) t (Punctuation Close) (Go (AfterExpr x k (Apply w no_trees))) (step_expr MAX_OPEN x (Arguments w [] ∷ k) t (word_of t.token)) h.0 refl)
+        over done (AfterOpen x k w) (AfterExpr x k (Apply w no_trees)) t us (rw h.0 refl)
     first-again no_trees k w room (t ∷ v ∷ ts) us h fits len = absurd h.1
     first-again (more_trees t args) k w room ts us h fits len =
         let r = split (spell t) (spell_others comma args) ts h in

@@ -110,7 +110,7 @@ module _ (done : List Statement) (x : Within) where
   amount-again at k s side room (Number w) (t ∷ []) us starts h fits len =
       let digits = number-of room w fits in
       over done at (with_amount x k s side (Number w)) t us
-      (starts t w h.0.0 h.0.1 (number-begins w.text digits) ∙ ap (λ b. cond b (Go (with_amount x k s side (Number w))) (on_found (λ m. Go (BeforeOperand x k s (OfMeasure side m))) (Refuse Syntax) (measure_of w.text))) digits)
+      (starts t w h.0.0 h.0.1 (number-begins w.text digits) ∙ rw digits refl)
   amount-again at k s side room (Number w) (t ∷ v ∷ ts) us starts h fits len = absurd h.1
   amount-again at k s side zero (Measured m e) ts us starts h fits len = absurd fits
   amount-again at k s side (suc room) (Measured m e) [] us starts h fits len = absurd h
@@ -123,7 +123,7 @@ module _ (done : List Statement) (x : Within) where
       ∙ ap (λ b. cond b (Go (with_amount x k s side (Number w))) (on_found (λ m. Go (BeforeOperand x k s (OfMeasure side m))) (Refuse Syntax) (measure_of (measure_word m)))) (measure-no_number m)
       ∙ ap (on_found (λ m. Go (BeforeOperand x k s (OfMeasure side m))) (Refuse Syntax)) (measure_of-word m))
       ∙ r.read
-      ∙ over done (AfterExpr x (Operand s (OfMeasure side m) ∷ k) e) (with_amount x k s side (Measured m e)) r.token (r.others ++ us) (ap (λ u. on_punct Close u (Go (with_amount x k s side (Measured m e)))) r.match)
+      ∙ over done (AfterExpr x (Operand s (OfMeasure side m) ∷ k) e) (with_amount x k s side (Measured m e)) r.token (r.others ++ us) (rw r.match refl)
       ∙ ap (λ l. run done (with_amount x k s side (Measured m e)) (l ++ us)) (nothing r.others r.behind)
 
   compare-again : (k : List Frame) (s : Site) (room : ℕ) (a : Amount) (sense : Sense) (b : Amount) (ts us : List Placed) → AllMatch ts (spell_atom (Compare a sense b)) → FitsAmount room a → FitsAmount room b → HasRoom k room → run done (BeforeBody x k s) (ts ++ us) ≡ run done (with_atom x k s (Compare a sense b)) us
@@ -147,9 +147,9 @@ module _ (done : List Statement) (x : Within) where
       over done (BeforeBody x k s) (BeforeOperand x k s (OfRelation r)) t (o ∷ (ts ++ us))
       (plain-step x k s t w h.0 refl ∙ ap (on_found (λ r. Go (BeforeOperand x k s (OfRelation r))) (on_found (λ p. Go (BeforeOperand x k s (OfProperty p))) (step_amount x k s OnLeft w) (property_of w.text))) (relation_of-word r))
       ∙ f.read
-      ∙ over done (AfterExpr x (Operand s (OfRelation r) ∷ k) d) (BeforeExpr x (Second s r d ∷ k)) f.token (f.others ++ us) (ap (λ u. on_punct Comma u (Go (BeforeExpr x (Second s r d ∷ k)))) f.match)
+      ∙ over done (AfterExpr x (Operand s (OfRelation r) ∷ k) d) (BeforeExpr x (Second s r d ∷ k)) f.token (f.others ++ us) (rw f.match refl)
       ∙ g.read
-      ∙ over done (AfterExpr x (Second s r d ∷ k) e) (with_atom x k s (Relate r d e)) g.token (g.others ++ us) (ap (λ u. on_punct Close u (Go (with_atom x k s (Relate r d e)))) g.match)
+      ∙ over done (AfterExpr x (Second s r d ∷ k) e) (with_atom x k s (Relate r d e)) g.token (g.others ++ us) (rw g.match refl)
       ∙ ap (λ l. run done (with_atom x k s (Relate r d e)) (l ++ us)) (nothing g.others g.behind)
 
   name-again : (k : List Frame) (s : Site) (p : Property) (e : Tree) (w : Spot) (ts us : List Placed) → AllMatch ts (spelled_word w ∷ closing ∷ []) → run done (BeforeName x k s p e) (ts ++ us) ≡ run done (with_atom x k s (Test p e w)) us
@@ -157,7 +157,7 @@ module _ (done : List Statement) (x : Within) where
   name-again k s p e w (n ∷ []) us h = absurd h.1
   name-again k s p e w (n ∷ c ∷ []) us h =
       over done (BeforeName x k s p e) (BehindName x k s p e w) n (c ∷ us) (word-taken (λ w. Go (BehindName x k s p e w)) n w h.0)
-      ∙ over done (BehindName x k s p e w) (with_atom x k s (Test p e w)) c us (ap (λ u. on_punct Close u (Go (with_atom x k s (Test p e w)))) h.1.0)
+      ∙ over done (BehindName x k s p e w) (with_atom x k s (Test p e w)) c us (rw h.1.0 refl)
   name-again k s p e w (n ∷ c ∷ t ∷ ts) us h = absurd h.1.1
 
   test-again : (k : List Frame) (s : Site) (room : ℕ) (p : Property) (e : Tree) (w : Spot) (ts us : List Placed) → AllMatch ts (spell_atom (Test p e w)) → Fits room e → HasRoom k (suc room) → run done (BeforeBody x k s) (ts ++ us) ≡ run done (with_atom x k s (Test p e w)) us
@@ -171,7 +171,7 @@ module _ (done : List Statement) (x : Within) where
       ∙ ap (on_found (λ r. Go (BeforeOperand x k s (OfRelation r))) (on_found (λ p. Go (BeforeOperand x k s (OfProperty p))) (step_amount x k s OnLeft v) (property_of (property_word p)))) (no_relation p)
       ∙ ap (on_found (λ p. Go (BeforeOperand x k s (OfProperty p))) (step_amount x k s OnLeft v)) (property_of-word p))
       ∙ f.read
-      ∙ over done (AfterExpr x (Operand s (OfProperty p) ∷ k) e) (BeforeName x k s p e) f.token (f.others ++ us) (ap (λ u. on_punct Comma u (Go (BeforeName x k s p e))) f.match)
+      ∙ over done (AfterExpr x (Operand s (OfProperty p) ∷ k) e) (BeforeName x k s p e) f.token (f.others ++ us) (rw f.match refl)
       ∙ name-again k s p e w f.others us f.behind
     where
       no_relation : (p : Property) → relation_of (property_word p) ≡ None
@@ -190,7 +190,7 @@ module _ (done : List Statement) (x : Within) where
 
   -- a token that is no `not` begins the body of a literal
   body-begins : (k : List Frame) (v : Level) (t : Placed) (ts : List Placed) → is_word (codes "not") t.token ≡ false → run done (BeforeLiteral x k v) (t ∷ ts) ≡ run done (BeforeBody x k (site v false)) (t ∷ ts)
-  body-begins k v t ts h = ap (λ b. after_step done t.place (λ d a. run d a ts) (cond b (Go (BeforeBody x k (site v true))) (step_body MAX_OPEN x k (site v false) t))) h
+  body-begins k v t ts h = rw h refl
 
   -- an atom begins with no `not`
   amount-begins : (room : ℕ) (a : Amount) (ms : _) (t : Placed) (ts : List Placed) → AllMatch (t ∷ ts) (spell_amount a ++ ms) → FitsAmount room a → is_word (codes "not") t.token ≡ false
@@ -216,7 +216,7 @@ module _ (done : List Statement) (x : Within) where
       → ((s : Site) (ts : List Placed) → s ≡ site v negated → AllMatch ts ms → run done (BeforeBody x k s) (ts ++ us) ≡ run done next us) → run done (BeforeLiteral x k v) (ts ++ us) ≡ run done next us
   negated-again k v true ms [] us h next begins some read = absurd h
   negated-again k v true ms (t ∷ ts) us h next begins some read =
-      over done (BeforeLiteral x k v) (BeforeBody x k (site v true)) t (ts ++ us) (ap (λ u. cond (is_word (codes "not") u) (Go (BeforeBody x k (site v true))) (step_body MAX_OPEN x k (site v false) (record { token = u; place = t.place }))) h.0)
+      over done (BeforeLiteral x k v) (BeforeBody x k (site v true)) t (ts ++ us) (rw h.0 refl)
       ∙ read (site v true) ts refl h.1
   negated-again k v false ms [] us h next begins some read = absurd (some h)
   negated-again k v false ms (t ∷ ts) us h next begins some read = body-begins k v t (ts ++ us) (begins t ts h) ∙ read (site v false) (t ∷ ts) refl h
@@ -297,7 +297,7 @@ module _ (done : List Statement) (x : Within) where
       over done (BeforeBody x k s) (BeforeLiteral x (Square s ∷ k) no_level) o (ts ++ us) (square-step x k s o (suc room) len (omega arith) (ap (is_punct OpenSquare) h.0))
       ∙ ap (run done (BeforeLiteral x (Square s ∷ k) no_level)) (joined ts r.front r.back q.token q.others us r.parts q.parts)
       ∙ read-c (Square s ∷ k) room r.front (q.token ∷ (q.others ++ us)) r.first fits (omega (arith, len)) (ap (is_word (codes "and")) q.match, ap (is_word (codes "or")) q.match)
-      ∙ ap (λ u. after_step done q.token.place (λ d a. run d a (q.others ++ us)) (on_punct CloseSquare u (Go (AfterLiteral x k s.level (Bracketed s.negated c))))) q.match
+      ∙ rw q.match refl
       ∙ ap (λ l. run done (AfterLiteral x k s.level (Bracketed s.negated c)) (l ++ us)) (nothing q.others q.behind)
 
   mutual
@@ -322,24 +322,24 @@ module _ (done : List Statement) (x : Within) where
     literals-again : (ls : Literals) → ReadsLiterals ls
     literals-again no_literals k room v l [] [] h fits len ends = absurd ends
     literals-again no_literals k room v l [] (u ∷ us) h fits len ends =
-        ap (λ b. after_step done u.place (λ d a. run d a us) (cond b (Go (BeforeLiteral x k (next_literal v l))) (step_alternatives k (all_alternatives v l) u))) ends
+        rw ends refl
     literals-again no_literals k room v l (t ∷ ts) us h fits len ends = absurd h
     literals-again (more_literals m ls) k room v l [] us h fits len ends = absurd h
     literals-again (more_literals m ls) k room v l (t ∷ ts) us h fits len ends =
-        over done (AfterLiteral x k v l) (BeforeLiteral x k (next_literal v l)) t (ts ++ us) (ap (λ u. cond (is_word (codes "and") u) (Go (BeforeLiteral x k (next_literal v l))) (step_alternatives k (all_alternatives v l) (record { token = u; place = t.place }))) h.0)
+        over done (AfterLiteral x k v l) (BeforeLiteral x k (next_literal v l)) t (ts ++ us) (rw h.0 refl)
         ∙ alternative-again m ls (literal-again m) (literals-again ls) k room (next_literal v l) ts us h.1 fits.0 fits.1 len ends
         ∙ ap (λ r. run_alternatives k (v.alternatives ++ literals r ∷ []) us) (append_assoc v.literals (l ∷ []) (m ∷ literal_list ls))
 
     alternatives-again : (c : Condition) → ReadsAlternatives c
     alternatives-again no_alternatives k room before [] [] h fits len ends = absurd ends
     alternatives-again no_alternatives k room before [] (u ∷ us) h fits len ends =
-        ap (λ b. after_step done u.place (λ d a. run d a us) (cond b (Go (BeforeLiteral x k (level before []))) (step_whole x k (condition before) u))) ends.1
+        rw ends.1 refl
         ∙ ap (λ l. after_step done u.place (λ d a. run d a us) (step_whole x k (condition l) u)) (sym (append-nil before))
     alternatives-again no_alternatives k room before (t ∷ ts) us h fits len ends = absurd h
     alternatives-again (more_alternatives a c) k room before [] us h fits len ends = absurd h
     alternatives-again (more_alternatives no_literals c) k room before (t ∷ ts) us h fits len ends = absurd fits.0
     alternatives-again (more_alternatives (more_literals l ls) c) k room before (t ∷ ts) us h fits len ends =
-        ap (λ u. after_step done t.place (λ d a. run d a (ts ++ us)) (cond (is_word (codes "or") u) (Go (BeforeLiteral x k (level before []))) (step_whole x k (condition before) (record { token = u; place = t.place })))) h.0
+        rw h.0 refl
         ∙ first-again l ls c (literal-again l) (literals-again ls) (alternatives-again c) k room before ts us h.1 fits.1 fits.2 len ends
 
     condition-reads : (c : Condition) → ReadsCondition c

@@ -176,10 +176,6 @@ pub within_defaults-push : (ws : List Wildcard) (w : Wildcard) (k : List Frame) 
 within_defaults-push [] w k = refl
 within_defaults-push (v ∷ ws) w k = within_defaults-push ws w (Default v ∷ k)
 
--- the `$` of a variable
-pub dollar-step : (x : Within) (k : List Frame) (t : Placed) → t.token ≡ Punctuation Dollar → step (BeforeExpr x k) t ≡ Go (AfterDollar x k t.place)
-dollar-step x k t h = ap (λ u. step_expr MAX_OPEN x k (record { token = u; place = t.place }) (word_of u)) h
-
 -- behind a member of a kind, where no semicolon follows, there is another member
 pub member-again : (done : List Statement) (name : Spot) (members : List Spot) (t : Placed) (ts : List Placed) → is_punct Semicolon t.token ≡ false → run done (AfterMember name members) (t ∷ ts) ≡ run done (BeforeMember name members) (t ∷ ts)
 member-again done name members t ts e = rw e refl

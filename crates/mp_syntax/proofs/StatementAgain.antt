@@ -104,13 +104,13 @@ flags-begin (Infixed sign ∷ flags) (t ∷ ts) h = record { token = t; others =
 
 -- a token that is no plus is the first of the flags
 no-plus : (done : List Statement) (name least : Spot) (t : Placed) (us : List Placed) → is_sign (codes "+") t.token ≡ false → run done (AfterLeast name least) (t ∷ us) ≡ run done (AfterFlags (declared name least false [])) (t ∷ us)
-no-plus done name least t us h = ap (λ b. after_step done t.place (λ d a. run d a us) (cond b (Go (AfterFlags (declared name least true []))) (step_flags (declared name least false []) t))) h
+no-plus done name least t us h = rw h refl
 
 -- what follows the number of an operation is read
 least-again : (done : List Statement) (name least : Spot) (more : Bool) (flags : List Flag) (ts us : List Placed) → AllMatch ts (spell_plus more ++ (flat_map spell_flag flags ++ semicolon ∷ [])) → run done (AfterLeast name least) (ts ++ us) ≡ run (done ++ OpOf name least more flags ∷ []) Top us
 least-again done name least true flags [] us h = absurd h
 least-again done name least true flags (t ∷ ts) us h =
-    over done (AfterLeast name least) (AfterFlags (declared name least true [])) t (ts ++ us) (ap (λ b. cond b (Go (AfterFlags (declared name least true []))) (step_flags (declared name least false []) t)) (ap (is_sign (codes "+")) h.0))
+    over done (AfterLeast name least) (AfterFlags (declared name least true [])) t (ts ++ us) (rw (ap (is_sign (codes "+")) h.0) refl)
     ∙ flags-again done flags (declared name least true []) ts us h.1
 least-again done name least false flags ts us h =
     let b = flags-begin flags ts h in
@@ -140,7 +140,7 @@ statement-again done (OpOf name least more flags) (o ∷ n ∷ []) us h fits = a
 statement-again done (OpOf name least more flags) (o ∷ n ∷ l ∷ ts) us h fits =
     over done Top AfterOp o (n ∷ l ∷ ts ++ us) (top-word o (codes "op") h.0)
     ∙ over done AfterOp (AfterOpName name) n (l ∷ ts ++ us) (word-taken (λ w. Go (AfterOpName w)) n name h.1.0)
-    ∙ over done (AfterOpName name) (AfterLeast name least) l (ts ++ us) (word-taken (λ w. step_number name w) l least h.1.1.0 ∙ ap (λ b. cond b (Go (AfterLeast name least)) (Refuse Syntax)) fits)
+    ∙ over done (AfterOpName name) (AfterLeast name least) l (ts ++ us) (word-taken (λ w. step_number name w) l least h.1.1.0 ∙ rw fits refl)
     ∙ least-again done name least more flags ts us h.1.1.1
 statement-again done (KindOf name members) [] us h fits = absurd h
 statement-again done (KindOf name members) (k ∷ []) us h fits = absurd h.1
