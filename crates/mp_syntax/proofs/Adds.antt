@@ -1,5 +1,6 @@
 -- What a step adds to the spelling of what is read.
-use Rattle.std.proofs.Common.{◌≡◌, ℕ, Bool, true, false, cond, List, [], ◌∷◌, ◌++◌, Option, Some, None, refl, sym, ap, ◌∙◌, leb}
+use Rattle.std.proofs.Common.{◌≡◌, ℕ, Bool, true, false, cond, List, [], ◌∷◌, ◌++◌, Option, Some, None, refl, sym, ap}
+use Rattle.std.proofs.Common.{◌∙◌, leb}
 use Rattle.std.proofs.lemmas.List.{flat_map_more}
 use Rattle.std.specs.List.{flat_map}
 use Rattle.std.specs.Str.{bytes_eq}
@@ -7,12 +8,16 @@ use Rattle.std.proofs.lemmas.Slice.Eq.{bytes_eq-Decides}
 use Rattle.mp_syntax.specs.declared.limits.TheConstants.{MAX_OPEN}
 use Rattle.mp_syntax.specs.declared.place.Place.{Place}
 use Rattle.mp_syntax.specs.declared.token.Punct.{Punct}
-use Rattle.mp_syntax.specs.declared.token.Punct.TheVariants.{Open, Close, OpenSquare, CloseSquare, OpenBrace, CloseBrace, Comma, Semicolon, Colon, Dot, Dollar}
+use Rattle.mp_syntax.specs.declared.token.Punct.TheVariants.{Open, Close, OpenSquare, CloseSquare, OpenBrace}
+use Rattle.mp_syntax.specs.declared.token.Punct.TheVariants.{CloseBrace, Comma, Semicolon, Colon, Dot, Dollar}
 use Rattle.mp_syntax.specs.declared.fault.FaultKind.TheVariants.{TooDeep}
 use Rattle.mp_syntax.specs.Tokens as tokens
 use Rattle.mp_syntax.specs.Tokens.{Token, Word, Sign, Punctuation, End, Placed}
-use Rattle.mp_syntax.specs.Syntax.{Spot, Wildcard, Expected, Said, Stands, Matches, spell, spell_condition, spell_statement, spelled_word, spelled_wildcard, spelled_sign, fixed_word}
-use Rattle.mp_syntax.specs.Machine.{Frame, open_count, State, Single, SingleExpr, SingleCondition, Step, Go, Emit, Refuse, Finish, Ends, is_punct, same_punct, is_sign, is_word, is_end, word_of, sign_of, wildcard_at, spot, on_text, on_word, on_sign, on_found, step_open}
+use Rattle.mp_syntax.specs.Syntax.{Spot, Wildcard, Expected, Said, Stands, Matches, spell, spell_condition}
+use Rattle.mp_syntax.specs.Syntax.{spell_statement, spelled_word, spelled_wildcard, spelled_sign, fixed_word}
+use Rattle.mp_syntax.specs.Machine.{Frame, open_count, State, Single, SingleExpr, SingleCondition, Step, Go, Emit}
+use Rattle.mp_syntax.specs.Machine.{Refuse, Finish, Ends, is_punct, same_punct, is_sign, is_word, is_end, word_of}
+use Rattle.mp_syntax.specs.Machine.{sign_of, wildcard_at, spot, on_text, on_word, on_sign, on_found, step_open}
 use Rattle.mp_syntax.specs.Partial.{so_far}
 use Rattle.mp_syntax.proofs.ListLaws.{some-is}
 use Rattle.mp_syntax.proofs.Longest.{IsToken}
@@ -54,7 +59,8 @@ sign-same text (Sign s) h = ap Sign ((bytes_eq-Decides s text).0 h)
 sign-same text _ h = absurd cc
 
 -- the wildcard that the token is
-pub wildcard-is : (k : Token) (place : Place) (w : Wildcard) → wildcard_at k place ≡ Some w → Matches (record { token = k; place = place }) (spelled_wildcard w)
+pub wildcard-is : (k : Token) (place : Place) (w : Wildcard) → wildcard_at k place ≡ Some w
+    → Matches (record { token = k; place = place }) (spelled_wildcard w)
 wildcard-is (tokens.Wildcard name marks kind) place w h =
     let v : Wildcard = record { name = name; marks = marks; kind = kind; place = place } in
     let same : v ≡ w = some-is v w h in
@@ -86,52 +92,72 @@ expected_token (Stands t place) = t
 -- the token t is one, and the one that a step has added to the spelling before it
 abbrev pub Adds : Step → List Expected → Placed → Type 0
 Adds (Go at) before t = (m : Expected) × IsToken (expected_token m) × Matches t m × (so_far at ≡ before ++ m ∷ [])
-Adds (Emit s) before t = (m : Expected) × IsToken (expected_token m) × Matches t m × (spell_statement s ≡ before ++ m ∷ [])
+Adds (Emit s) before t = (m : Expected) × IsToken (expected_token m) × Matches t m
+    × (spell_statement s ≡ before ++ m ∷ [])
 Adds (Refuse kind) before t = Unit {0}
 Adds Finish before t = (before ≡ []) × (t.token ≡ End)
 Adds (Ends s) before t = (before ≡ spell_single s) × (t.token ≡ End)
 
-pub adds-token : (test : Token → Bool) (k : Token) → ((u : Token) → test u ≡ true → u ≡ k) → (t : Placed) (a b : Step) (before : List Expected) → (Matches t (Said k) → Adds a before t) → Adds b before t → Adds (cond (test t.token) a b) before t
+pub adds-token : (test : Token → Bool) (k : Token) → ((u : Token) → test u ≡ true → u ≡ k)
+    → (t : Placed) (a b : Step) (before : List Expected) → (Matches t (Said k) → Adds a before t) → Adds b before t
+    → Adds (cond (test t.token) a b) before t
 adds-token test k is t a b before f g = go (test t.token) refl
   where
     go : (v : Bool) → test t.token ≡ v → Adds (cond v a b) before t
     go true e = f (is t.token e)
     go false e = g
 
-pub adds-punct : (p : Punct) (t : Placed) (a b : Step) (before : List Expected) → (Matches t (Said (Punctuation p)) → Adds a before t) → Adds b before t → Adds (cond (is_punct p t.token) a b) before t
+pub adds-punct : (p : Punct) (t : Placed) (a b : Step) (before : List Expected)
+    → (Matches t (Said (Punctuation p)) → Adds a before t) → Adds b before t
+    → Adds (cond (is_punct p t.token) a b) before t
 adds-punct p = adds-token (is_punct p) (Punctuation p) (punct-is p)
 
-pub adds-sign : (text : List ℕ) (t : Placed) (a b : Step) (before : List Expected) → (Matches t (Said (Sign text)) → Adds a before t) → Adds b before t → Adds (cond (is_sign text t.token) a b) before t
+pub adds-sign : (text : List ℕ) (t : Placed) (a b : Step) (before : List Expected)
+    → (Matches t (Said (Sign text)) → Adds a before t) → Adds b before t
+    → Adds (cond (is_sign text t.token) a b) before t
 adds-sign text = adds-token (is_sign text) (Sign text) (sign-same text)
 
-pub adds-fixed_word : (text : List ℕ) (t : Placed) (a b : Step) (before : List Expected) → (Matches t (fixed_word text) → Adds a before t) → Adds b before t → Adds (cond (is_word text t.token) a b) before t
+pub adds-fixed_word : (text : List ℕ) (t : Placed) (a b : Step) (before : List Expected)
+    → (Matches t (fixed_word text) → Adds a before t) → Adds b before t
+    → Adds (cond (is_word text t.token) a b) before t
 adds-fixed_word text = adds-token (is_word text) (Word text) (word-same text)
 
-pub adds-found : {A : Type 0} (next : A → Step) (other : Step) (o : Option A) (before : List Expected) (t : Placed) → ((a : A) → o ≡ Some a → Adds (next a) before t) → Adds other before t → Adds (on_found next other o) before t
+pub adds-found : {A : Type 0} (next : A → Step) (other : Step) (o : Option A) (before : List Expected) (t : Placed)
+    → ((a : A) → o ≡ Some a → Adds (next a) before t) → Adds other before t → Adds (on_found next other o) before t
 adds-found next other (Some a) before t f g = f a refl
 adds-found next other None before t f g = g
 
-pub adds-text : (text_of : Token → Option (List ℕ)) (kind : List ℕ → Token) → ((u : Token) (w : List ℕ) → text_of u ≡ Some w → u ≡ kind w) → (next : Spot → Step) (t : Placed) (before : List Expected) → ((w : List ℕ) → Matches t (Stands (kind w) t.place) → Adds (next (spot w t.place)) before t) → Adds (on_text t next (text_of t.token)) before t
+pub adds-text : (text_of : Token → Option (List ℕ)) (kind : List ℕ → Token)
+    → ((u : Token) (w : List ℕ) → text_of u ≡ Some w → u ≡ kind w)
+    → (next : Spot → Step) (t : Placed) (before : List Expected)
+    → ((w : List ℕ) → Matches t (Stands (kind w) t.place) → Adds (next (spot w t.place)) before t)
+    → Adds (on_text t next (text_of t.token)) before t
 adds-text text_of kind is next t before h = go (text_of t.token) refl
   where
     go : (o : Option (List ℕ)) → text_of t.token ≡ o → Adds (on_text t next o) before t
     go (Some w) e = h w (is t.token w e, refl)
     go None e = tt
 
-pub adds-word : (next : Spot → Step) (t : Placed) (before : List Expected) → ((w : List ℕ) → Matches t (spelled_word (spot w t.place)) → Adds (next (spot w t.place)) before t) → Adds (on_word t next) before t
+pub adds-word : (next : Spot → Step) (t : Placed) (before : List Expected)
+    → ((w : List ℕ) → Matches t (spelled_word (spot w t.place)) → Adds (next (spot w t.place)) before t)
+    → Adds (on_word t next) before t
 adds-word = adds-text word_of Word word-is
 
-pub adds-any_sign : (next : Spot → Step) (t : Placed) (before : List Expected) → ((s : List ℕ) → Matches t (spelled_sign (spot s t.place)) → Adds (next (spot s t.place)) before t) → Adds (on_sign t next) before t
+pub adds-any_sign : (next : Spot → Step) (t : Placed) (before : List Expected)
+    → ((s : List ℕ) → Matches t (spelled_sign (spot s t.place)) → Adds (next (spot s t.place)) before t)
+    → Adds (on_sign t next) before t
 adds-any_sign = adds-text sign_of Sign sign-is
 
-pub adds-fixed : (v : List ℕ) (t : Placed) (w : List ℕ) (a b : Step) (before : List Expected) → t.token ≡ Word w → (Matches t (fixed_word v) → Adds a before t) → Adds b before t → Adds (cond (bytes_eq w v) a b) before t
+pub adds-fixed : (v : List ℕ) (t : Placed) (w : List ℕ) (a b : Step) (before : List Expected) → t.token ≡ Word w
+    → (Matches t (fixed_word v) → Adds a before t) → Adds b before t → Adds (cond (bytes_eq w v) a b) before t
 adds-fixed v t w a b before h f g = go (bytes_eq w v) refl
   where
     go : (c : Bool) → bytes_eq w v ≡ c → Adds (cond c a b) before t
     go true e = f (h ∙ ap Word ((bytes_eq-Decides w v).0 e))
     go false e = g
 
-pub adds-open : (k : List Frame) (next : State) (before : List Expected) (t : Placed) → Adds (Go next) before t → Adds (step_open MAX_OPEN k next) before t
+pub adds-open : (k : List Frame) (next : State) (before : List Expected) (t : Placed) → Adds (Go next) before t
+    → Adds (step_open MAX_OPEN k next) before t
 adds-open k next before t h = go (leb MAX_OPEN (open_count k))
   where
     go : (b : Bool) → Adds (cond b (Refuse TooDeep) (Go next)) before t
@@ -139,5 +165,6 @@ adds-open k next before t h = go (leb MAX_OPEN (open_count k))
     go false = h
 
 -- one element more
-pub flat_map-push : {X A : Type 0} (f : X → List A) (xs : List X) (x : X) → flat_map f (xs ++ x ∷ []) ≡ flat_map f xs ++ f x
+pub flat_map-push : {X A : Type 0} (f : X → List A) (xs : List X) (x : X)
+    → flat_map f (xs ++ x ∷ []) ≡ flat_map f xs ++ f x
 flat_map-push f xs x = sym (flat_map_more f [] xs x)

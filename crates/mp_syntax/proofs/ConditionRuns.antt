@@ -1,24 +1,31 @@
 -- Steps of the machine over conditions.
-use Rattle.std.proofs.Common.{◌≡◌, ℕ, ◌<◌, cond, List, [], ◌∷◌, Option, Some, None, Ok, true, false, refl, ap, sym, ◌∙◌, arith}
+use Rattle.std.proofs.Common.{◌≡◌, ℕ, ◌<◌, cond, List, [], ◌∷◌, Option, Some, None, Ok, true, false, refl, ap, sym, ◌∙◌}
+use Rattle.std.proofs.Common.{arith}
 use Rattle.std.specs.Prelude.{codes}
 use Rattle.std.proofs.lemmas.Bool.{lt-leb}
 use Rattle.mp_syntax.specs.declared.limits.TheConstants.{MAX_OPEN}
 use Rattle.mp_syntax.specs.declared.token.Punct.TheVariants.{Open, OpenSquare, Semicolon}
-use Rattle.mp_syntax.specs.declared.fault.FaultKind.TheVariants.{TooDeep}
 use Rattle.mp_syntax.specs.declared.condition_tree.Measure.{Measure}
 use Rattle.mp_syntax.specs.declared.condition_tree.Measure.TheVariants.{Count, Size}
 use Rattle.mp_syntax.specs.declared.condition_tree.Sense.{Sense}
-use Rattle.mp_syntax.specs.declared.condition_tree.Sense.TheVariants.{Lt, Le, Gt, Ge, Eq, Ne}
+use Rattle.mp_syntax.specs.declared.condition_tree.Sense.TheVariants.{Lt}
 use Rattle.mp_syntax.specs.declared.condition_tree.Relation.{Relation}
-use Rattle.mp_syntax.specs.declared.condition_tree.Relation.TheVariants.{Same, Less, Free}
+use Rattle.mp_syntax.specs.declared.condition_tree.Relation.TheVariants.{Same}
 use Rattle.mp_syntax.specs.declared.condition_tree.Property.{Property}
 use Rattle.mp_syntax.specs.declared.condition_tree.Property.TheVariants as properties
 use Rattle.mp_syntax.specs.declared.condition_tree.Condition as code
 use Rattle.mp_syntax.specs.View.{if_tree}
 use Rattle.mp_syntax.specs.Tokens.{Token, Word, End, Placed}
 use Rattle.mp_syntax.specs.Lexing.{behind}
-use Rattle.mp_syntax.specs.Syntax.{Spot, Tree, Literal, condition, Statement, RuleOf, measure_word, sense_sign, relation_word, property_word}
-use Rattle.mp_syntax.specs.Machine.{heading, OfRule, Within, InStatement, InCondition, Frame, Operand, Square, open_count, Level, no_level, next_literal, next_alternative, all_alternatives, Site, OnLeft, Lead, OfRelation, OfProperty, State, BeforeExpr, BeforeLiteral, BeforeBody, BeforeOperand, AfterExpr, AfterLiteral, Step, Go, Emit, Refuse, is_punct, is_word, measure_of, sense_of, relation_of, property_of, relation_held, property_held, refuse, on_punct, on_text, on_found, spot, word_of, step, step_open, step_amount, step_atom, step_body, step_whole, run}
+use Rattle.mp_syntax.specs.Syntax.{Spot, Tree, Literal, condition, Statement, RuleOf, measure_word, sense_sign}
+use Rattle.mp_syntax.specs.Syntax.{relation_word, property_word}
+use Rattle.mp_syntax.specs.Machine.{heading, OfRule, Within, InStatement, InCondition, Frame, Operand, Square}
+use Rattle.mp_syntax.specs.Machine.{open_count, Level, no_level, next_literal, next_alternative, all_alternatives, Site}
+use Rattle.mp_syntax.specs.Machine.{OnLeft, Lead, OfRelation, OfProperty, State, BeforeExpr, BeforeLiteral, BeforeBody}
+use Rattle.mp_syntax.specs.Machine.{BeforeOperand, AfterExpr, AfterLiteral, Step, Go, Emit, is_punct, is_word}
+use Rattle.mp_syntax.specs.Machine.{measure_of, sense_of, relation_of, property_of, relation_held, property_held}
+use Rattle.mp_syntax.specs.Machine.{refuse, on_punct, on_text, on_found, spot, word_of, step, step_open, step_amount}
+use Rattle.mp_syntax.specs.Machine.{step_atom, step_body, step_whole, run}
 use Rattle.mp_syntax.specs.Parsing.{onward, WantsPunct, HasRoom}
 use Rattle.mp_syntax.specs.ConditionParsing.{EndsCondition, EndsIf, IfGives, WantsAmount}
 use Rattle.mp_syntax.proofs.Runs.{one-step}
@@ -44,15 +51,19 @@ property_of-word properties.Head = refl
 -- ---- steps
 
 -- the bracket of an operand, where there is room
-pub open-step : (x : Within) (k : List Frame) (s : Site) (lead : Lead) (t : Placed) (room : ℕ) → HasRoom k room → 0 < room → is_punct Open t.token ≡ true → step (BeforeOperand x k s lead) t ≡ Go (BeforeExpr x (Operand s lead ∷ k))
+pub open-step : (x : Within) (k : List Frame) (s : Site) (lead : Lead) (t : Placed) (room : ℕ) → HasRoom k room
+    → 0 < room → is_punct Open t.token ≡ true
+    → step (BeforeOperand x k s lead) t ≡ Go (BeforeExpr x (Operand s lead ∷ k))
 open-step x k s lead t room len some e = rw (e, lt-leb MAX_OPEN (open_count k) (omega (arith, len, some))) refl
 
 -- a square bracket, where there is room
-pub square-step : (x : Within) (k : List Frame) (s : Site) (t : Placed) (room : ℕ) → HasRoom k room → 0 < room → is_punct OpenSquare t.token ≡ true → step (BeforeBody x k s) t ≡ Go (BeforeLiteral x (Square s ∷ k) no_level)
+pub square-step : (x : Within) (k : List Frame) (s : Site) (t : Placed) (room : ℕ) → HasRoom k room → 0 < room
+    → is_punct OpenSquare t.token ≡ true → step (BeforeBody x k s) t ≡ Go (BeforeLiteral x (Square s ∷ k) no_level)
 square-step x k s t room len some e = rw (e, lt-leb MAX_OPEN (open_count k) (omega (arith, len, some))) refl
 
 -- a word that begins an atom
-pub plain-step : (x : Within) (k : List Frame) (s : Site) (t : Placed) (w : Spot) → t.token ≡ Word w.text → t.place ≡ w.place → step (BeforeBody x k s) t ≡ step_atom x k s w
+pub plain-step : (x : Within) (k : List Frame) (s : Site) (t : Placed) (w : Spot) → t.token ≡ Word w.text
+    → t.place ≡ w.place → step (BeforeBody x k s) t ≡ step_atom x k s w
 plain-step x k s t w h p = λ i. step_body MAX_OPEN x k s (record { token = h i; place = p i })
 
 -- ---- runs over one token
@@ -64,71 +75,102 @@ behind-word text End ts h = absurd cc
 behind-word text _ ts h = absurd cc
 
 -- a step over this word
-pub over-word : (text : List ℕ) (t : Placed) (old new : List Placed) → old ≡ t ∷ behind t.token new → is_word text t.token ≡ true → (done : List Statement) (at : State) (next : Step) → step at t ≡ next → run done at old ≡ onward t.place done next new
-over-word text t old new e h done at next f = ap (run done at) e ∙ one-step done at t new next (behind-word text t.token new h) f
+pub over-word : (text : List ℕ) (t : Placed) (old new : List Placed) → old ≡ t ∷ behind t.token new
+    → is_word text t.token ≡ true → (done : List Statement) (at : State) (next : Step) → step at t ≡ next
+    → run done at old ≡ onward t.place done next new
+over-word text t old new e h done at next f =
+    ap (run done at) e ∙ one-step done at t new next (behind-word text t.token new h) f
 
 -- what a word that is no relation does before an atom
 abbrev without_relation : Within → List Frame → Site → Spot → Step
-without_relation x k s w = on_found (λ p. Go (BeforeOperand x k s (OfProperty p))) (step_amount x k s OnLeft w) (property_of w.text)
+without_relation x k s w = on_found (λ p. Go (BeforeOperand x k s (OfProperty p))) (step_amount x k s OnLeft w)
+    (property_of w.text)
 
 -- a token that is no square bracket and no word of a relation or a property can only begin an amount
-pub amount-wanted : (x : Within) (k : List Frame) (s : Site) (t : Placed) → is_punct OpenSquare t.token ≡ false → relation_held t.token ≡ None → property_held t.token ≡ None → WantsAmount t (BeforeBody x k s) x k s OnLeft
+pub amount-wanted : (x : Within) (k : List Frame) (s : Site) (t : Placed) → is_punct OpenSquare t.token ≡ false
+    → relation_held t.token ≡ None → property_held t.token ≡ None → WantsAmount t (BeforeBody x k s) x k s OnLeft
 amount-wanted x k s t square relation property =
-    ap (λ b. cond b (step_open MAX_OPEN k (BeforeLiteral x (Square s ∷ k) no_level)) (on_text t (λ w. step_atom x k s w) (word_of t.token))) square
+    ap (λ b. cond b (step_open MAX_OPEN k (BeforeLiteral x (Square s ∷ k) no_level))
+    (on_text t (λ w. step_atom x k s w) (word_of t.token))) square
     ∙ go t.token relation property
   where
-    go : (u : Token) → relation_held u ≡ None → property_held u ≡ None → on_text t (λ w. step_atom x k s w) (word_of u) ≡ on_text t (λ w. step_amount x k s OnLeft w) (word_of u)
+    go : (u : Token) → relation_held u ≡ None → property_held u ≡ None
+        → on_text t (λ w. step_atom x k s w) (word_of u) ≡ on_text t (λ w. step_amount x k s OnLeft w) (word_of u)
     go (Word w) relation property =
         ap (on_found (λ r. Go (BeforeOperand x k s (OfRelation r))) (without_relation x k s (spot w t.place))) relation
-        ∙ ap (on_found (λ p. Go (BeforeOperand x k s (OfProperty p))) (step_amount x k s OnLeft (spot w t.place))) property
+        ∙ ap (on_found (λ p. Go (BeforeOperand x k s (OfProperty p))) (step_amount x k s OnLeft (spot w t.place)))
+        property
     go _ relation property = refl
 
 -- the word of a relation leads to its first operand
-pub relation-begins : (done : List Statement) (x : Within) (k : List Frame) (s : Site) (t : Placed) (r : Relation) (old new : List Placed)
+pub relation-begins : (done : List Statement) (x : Within) (k : List Frame) (s : Site) (t : Placed) (r : Relation)
+    (old new : List Placed)
     → old ≡ t ∷ behind t.token new → Some r ≡ relation_held t.token
     → run done (BeforeBody x k s) old ≡ run done (BeforeOperand x k s (OfRelation r)) new
 relation-begins done x k s t r old new e h = ap (run done (BeforeBody x k s)) e ∙ go t.token h
   where
-    go : (u : Token) → Some r ≡ relation_held u → run done (BeforeBody x k s) (record { token = u; place = t.place } ∷ behind u new) ≡ run done (BeforeOperand x k s (OfRelation r)) new
-    go (Word w) h = ap (λ o. onward t.place done (on_found (λ q. Go (BeforeOperand x k s (OfRelation q))) (without_relation x k s (spot w t.place)) o) new) (sym h)
+    go : (u : Token) → Some r ≡ relation_held u
+        → run done (BeforeBody x k s) (record { token = u; place = t.place } ∷ behind u new)
+        ≡ run done (BeforeOperand x k s (OfRelation r)) new
+    go (Word w) h =
+        ap (λ o.
+        onward t.place done
+        (on_found (λ q. Go (BeforeOperand x k s (OfRelation q))) (without_relation x k s (spot w t.place)) o) new)
+        (sym h)
     go _ h = absurd cc
 
 -- the word of a property leads to its operand
-pub property-begins : (done : List Statement) (x : Within) (k : List Frame) (s : Site) (t : Placed) (p : Property) (old new : List Placed)
+pub property-begins : (done : List Statement) (x : Within) (k : List Frame) (s : Site) (t : Placed) (p : Property)
+    (old new : List Placed)
     → old ≡ t ∷ behind t.token new → relation_held t.token ≡ None → Some p ≡ property_held t.token
     → run done (BeforeBody x k s) old ≡ run done (BeforeOperand x k s (OfProperty p)) new
 property-begins done x k s t p old new e none h = ap (run done (BeforeBody x k s)) e ∙ go t.token none h
   where
-    go : (u : Token) → relation_held u ≡ None → Some p ≡ property_held u → run done (BeforeBody x k s) (record { token = u; place = t.place } ∷ behind u new) ≡ run done (BeforeOperand x k s (OfProperty p)) new
+    go : (u : Token) → relation_held u ≡ None → Some p ≡ property_held u
+        → run done (BeforeBody x k s) (record { token = u; place = t.place } ∷ behind u new)
+        ≡ run done (BeforeOperand x k s (OfProperty p)) new
     go (Word w) none h =
-        ap (λ o. onward t.place done (on_found (λ q. Go (BeforeOperand x k s (OfRelation q))) (without_relation x k s (spot w t.place)) o) new) none
-        ∙ ap (λ o. onward t.place done (on_found (λ q. Go (BeforeOperand x k s (OfProperty q))) (step_amount x k s OnLeft (spot w t.place)) o) new) (sym h)
+        ap (λ o.
+        onward t.place done
+        (on_found (λ q. Go (BeforeOperand x k s (OfRelation q))) (without_relation x k s (spot w t.place)) o) new)
+        none
+        ∙ ap (λ o.
+        onward t.place done
+        (on_found (λ q. Go (BeforeOperand x k s (OfProperty q))) (step_amount x k s OnLeft (spot w t.place)) o) new)
+        (sym h)
     go _ none h = absurd cc
 
 -- what a token that is no `and` does behind a literal
 abbrev step_behind_and : Within → List Frame → Level → Literal → Placed → Step
-step_behind_and x k v l t = cond (is_word (codes "or") t.token) (Go (BeforeLiteral x k (next_alternative v l))) (step_whole x k (condition (all_alternatives v l)) t)
+step_behind_and x k v l t = cond (is_word (codes "or") t.token) (Go (BeforeLiteral x k (next_alternative v l)))
+    (step_whole x k (condition (all_alternatives v l)) t)
 
 -- `and` leads to another literal
-pub and-step : (x : Within) (k : List Frame) (v : Level) (l : Literal) (t : Placed) → is_word (codes "and") t.token ≡ true → step (AfterLiteral x k v l) t ≡ Go (BeforeLiteral x k (next_literal v l))
+pub and-step : (x : Within) (k : List Frame) (v : Level) (l : Literal) (t : Placed)
+    → is_word (codes "and") t.token ≡ true → step (AfterLiteral x k v l) t ≡ Go (BeforeLiteral x k (next_literal v l))
 and-step x k v l t h = rw h refl
 
 -- any other token stands behind the whole condition
-pub whole-step : (x : Within) (k : List Frame) (v : Level) (l : Literal) (t : Placed) → EndsCondition t.token → step (AfterLiteral x k v l) t ≡ step_whole x k (condition (all_alternatives v l)) t
+pub whole-step : (x : Within) (k : List Frame) (v : Level) (l : Literal) (t : Placed) → EndsCondition t.token
+    → step (AfterLiteral x k v l) t ≡ step_whole x k (condition (all_alternatives v l)) t
 whole-step x k v l t h = rw (h.0, h.1) refl
 
 -- ---- what calls give
 
 -- behind the pattern of a rule, and its condition where it has one, only the semicolon stands
-pub behind-if : (o : Option code.Condition) (old new : List Placed) (t : Placed) → IfGives (Ok o) old new → EndsIf o t.token → (done : List Statement) (name : Spot) (e : Tree)
-    → (at : State) × (run done (AfterExpr (InStatement (heading OfRule name)) [] e) old ≡ run done at new) × WantsPunct t at Semicolon (Emit (RuleOf name e (if_tree o)))
+pub behind-if : (o : Option code.Condition) (old new : List Placed) (t : Placed) → IfGives (Ok o) old new
+    → EndsIf o t.token → (done : List Statement) (name : Spot) (e : Tree)
+    → (at : State) × (run done (AfterExpr (InStatement (heading OfRule name)) [] e) old ≡ run done at new)
+    × WantsPunct t at Semicolon (Emit (RuleOf name e (if_tree o)))
 behind-if None old new t read ends done name e = (
   AfterExpr (InStatement (heading OfRule name)) [] e,
   ap (run done (AfterExpr (InStatement (heading OfRule name)) [] e)) read,
-  ap (λ b. cond (is_punct Semicolon t.token) (Emit (RuleOf name e None)) (cond b (Go (BeforeLiteral (InCondition name e) [] no_level)) (refuse t.token))) ends,
+  ap (λ b. cond (is_punct Semicolon t.token) (Emit (RuleOf name e None))
+      (cond b (Go (BeforeLiteral (InCondition name e) [] no_level)) (refuse t.token))) ends,
 )
 behind-if (Some c) old new t read ends done name e = (
   AfterLiteral (InCondition name e) [] read.0 read.1,
   read.3 done name e,
-  whole-step (InCondition name e) [] read.0 read.1 t ends ∙ ap (λ d. on_punct Semicolon t.token (Emit (RuleOf name e (Some d)))) read.2,
+  whole-step (InCondition name e) [] read.0 read.1 t ends
+      ∙ ap (λ d. on_punct Semicolon t.token (Emit (RuleOf name e (Some d)))) read.2,
 )

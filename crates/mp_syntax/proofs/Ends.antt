@@ -1,12 +1,13 @@
 -- Where the token at the front ends: a run goes on no further than the bytes of its class.
-use Rattle.std.proofs.Common.{◌≡◌, ℕ, zero, suc, ◌+◌, ◌<◌, Bool, true, false, cond, List, [], ◌∷◌, ◌++◌, length, refl, sym, ap, ◌∙◌, arith, length-append, inl, inr}
-use Rattle.std.specs.Prelude.{◌⊎◌, ◌||◌, ◌&&◌}
+use Rattle.std.proofs.Common.{◌≡◌, ℕ, zero, suc, ◌+◌, ◌<◌, Bool, true, false, cond, List, [], ◌∷◌, ◌++◌, length, refl}
+use Rattle.std.proofs.Common.{ap, ◌∙◌, arith, length-append, inl, inr}
+use Rattle.std.specs.Prelude.{◌⊎◌, ◌||◌}
 use Rattle.std.specs.List.{prefix_len, list_all}
 use Rattle.std.proofs.lemmas.Bool.{and_parts, or_left}
 use Rattle.std.proofs.lemmas.List.{nil_from_length}
 use Rattle.mp_syntax.specs.declared.token.Punct.{Punct}
-use Rattle.mp_syntax.specs.declared.token.Punct.TheVariants.{Open, Close, OpenSquare, CloseSquare, OpenBrace, CloseBrace, Comma, Semicolon, Colon, Dot, Dollar}
-use Rattle.mp_syntax.specs.Tokens.{Token, Word, Wildcard, Sign, Arrow, Punctuation, Long, Bad, End, byte_of, is_word_byte, is_sign_byte, AreWordBytes, underscores, IsWildcard, Spells}
+use Rattle.mp_syntax.specs.Tokens.{Token, Word, Wildcard, Sign, Punctuation, byte_of, is_word_byte, is_sign_byte}
+use Rattle.mp_syntax.specs.Tokens.{AreWordBytes, underscores, IsWildcard, Spells}
 use Rattle.mp_syntax.specs.Lexing.{kind_at, settled, is_underscore}
 use Rattle.mp_syntax.proofs.ListLaws.{all-implied, all-append, all-behind}
 use Rattle.mp_syntax.proofs.Longest.{IsRun, IsLongestRun, sign-begins, run_at-punct}
@@ -27,9 +28,11 @@ marks-underscores zero = refl
 marks-underscores (suc n) = marks-underscores n
 
 -- letters, digits and underscores
-pub marks-wildcard : (text name : List ℕ) (n : ℕ) (kind : List ℕ) → IsWildcard text name n kind → list_all is_mark_byte text ≡ true
+pub marks-wildcard : (text name : List ℕ) (n : ℕ) (kind : List ℕ) → IsWildcard text name n kind
+    → list_all is_mark_byte text ≡ true
 marks-wildcard text name n kind h =
-    rw h.parts (all-append is_mark_byte name (underscores n ++ kind) (marks-word name h.name_bytes) (all-append is_mark_byte (underscores n) kind (marks-underscores n) (marks-word kind h.kind_bytes)))
+    rw h.parts (all-append is_mark_byte name (underscores n ++ kind) (marks-word name h.name_bytes)
+    (all-append is_mark_byte (underscores n) kind (marks-underscores n) (marks-word kind h.kind_bytes)))
 
 -- the bytes of a run are all of words and wildcards, or all of signs, or it is one byte
 abbrev Uniform : List ℕ → Type 0
@@ -45,37 +48,43 @@ run-uniform text _ h = absurd h
 -- ---- where a run ends
 
 -- nothing more passes the test
-none-more : (p : ℕ → Bool) (more after rest : List ℕ) → rest ≡ more ++ after → prefix_len p rest ≡ 0 → list_all p more ≡ true → more ≡ []
+none-more : (p : ℕ → Bool) (more after rest : List ℕ) → rest ≡ more ++ after → prefix_len p rest ≡ 0
+    → list_all p more ≡ true → more ≡ []
 none-more p [] after rest e ends all = refl
 none-more p (b ∷ more) after rest e ends all =
     let here : p b ≡ true = (and_parts (p b) (list_all p more) all).0 in
-    let len : prefix_len p rest ≡ 1 + prefix_len p (more ++ after) = ap (prefix_len p) e ∙ ap (λ v. cond v (1 + prefix_len p (more ++ after)) 0) here in
+    let len : prefix_len p rest ≡ 1 + prefix_len p (more ++ after) =
+    ap (prefix_len p) e ∙ ap (λ v. cond v (1 + prefix_len p (more ++ after)) 0) here in
     absurd (omega (arith, len, ends))
 
 no-more : (text more : List ℕ) → 0 < length text → length (text ++ more) ≡ 1 → more ≡ []
 no-more text more some one = nil_from_length more (omega (arith, length-append text more, one))
 
 -- a word or wildcard ends where no letter, digit or underscore follows
-pub longest-marks : (text rest : List ℕ) → 0 < length text → list_all is_mark_byte text ≡ true → prefix_len is_mark_byte rest ≡ 0 → IsLongestRun text rest
+pub longest-marks : (text rest : List ℕ) → 0 < length text → list_all is_mark_byte text ≡ true
+    → prefix_len is_mark_byte rest ≡ 0 → IsLongestRun text rest
 longest-marks [] rest some all ends more after t e h = absurd (omega arith)
 longest-marks (b ∷ text) rest some all ends more after t e h = go (run-uniform (b ∷ text ++ more) t h)
   where
     go : Uniform (b ∷ text ++ more) → more ≡ []
     go (inl marks) = none-more is_mark_byte more after rest e ends (all-behind is_mark_byte (b ∷ text) more marks)
     go (inr (inl signs)) =
-        let no : is_mark_byte b ≡ false = sign-begins b (and_parts (is_sign_byte b) (list_all is_sign_byte (text ++ more)) signs).0 in
+        let no : is_mark_byte b ≡ false = sign-begins b
+        (and_parts (is_sign_byte b) (list_all is_sign_byte (text ++ more)) signs).0 in
         let yes : is_mark_byte b ≡ true = (and_parts (is_mark_byte b) (list_all is_mark_byte text) all).0 in
         absurd cc
     go (inr (inr one)) = no-more (b ∷ text) more some one
 
 -- a sign ends where no byte of signs follows
-pub longest-signs : (text rest : List ℕ) → 0 < length text → list_all is_sign_byte text ≡ true → prefix_len is_sign_byte rest ≡ 0 → IsLongestRun text rest
+pub longest-signs : (text rest : List ℕ) → 0 < length text → list_all is_sign_byte text ≡ true
+    → prefix_len is_sign_byte rest ≡ 0 → IsLongestRun text rest
 longest-signs [] rest some all ends more after t e h = absurd (omega arith)
 longest-signs (b ∷ text) rest some all ends more after t e h = go (run-uniform (b ∷ text ++ more) t h)
   where
     go : Uniform (b ∷ text ++ more) → more ≡ []
     go (inl marks) =
-        let no : is_mark_byte b ≡ false = sign-begins b (and_parts (is_sign_byte b) (list_all is_sign_byte text) all).0 in
+        let no : is_mark_byte b ≡ false = sign-begins b
+        (and_parts (is_sign_byte b) (list_all is_sign_byte text) all).0 in
         let yes : is_mark_byte b ≡ true = (and_parts (is_mark_byte b) (list_all is_mark_byte (text ++ more)) marks).0 in
         absurd cc
     go (inr (inl signs)) = none-more is_sign_byte more after rest e ends (all-behind is_sign_byte (b ∷ text) more signs)
@@ -84,9 +93,11 @@ longest-signs (b ∷ text) rest some all ends more after t e h = go (run-uniform
 -- ---- the token at the front
 
 -- the text of a token that is the longest run is what the lexer takes
-pub kind_at-ends : (text rest : List ℕ) (t : Token) → Spells text t → IsLongestRun text rest → kind_at (text ++ rest) ≡ (t, length text)
+pub kind_at-ends : (text rest : List ℕ) (t : Token) → Spells text t → IsLongestRun text rest
+    → kind_at (text ++ rest) ≡ (t, length text)
 kind_at-ends text rest t h longest =
-    kind_at-longest text rest t h (λ more after u e is. let r = spells-settles (text ++ more) u is in longest more after r.run e r.is_run)
+    kind_at-longest text rest t h (λ more after u e is. let r = spells-settles (text ++ more) u is in
+    longest more after r.run e r.is_run)
 
 -- a punctuation character is a token whatever follows
 pub kind_at-punct : (p : Punct) (rest : List ℕ) → kind_at (byte_of p ∷ rest) ≡ (Punctuation p, 1)

@@ -13,7 +13,9 @@ use Rattle.mp_syntax.specs.declared.condition_tree.Property.TheVariants as prope
 use Rattle.mp_syntax.specs.Tokens.{Token, Word, Wildcard, Sign, Arrow, Punctuation, Long, End, Placed, first_place}
 use Rattle.mp_syntax.specs.Lexing.{lexemes}
 use Rattle.mp_syntax.specs.Syntax as syntax
-use Rattle.mp_syntax.specs.Syntax.{Spot, Tree, Symbol, Apply, InfixOf, Wild, Optional, Variable, trees, Number, Measured, Compare, Relate, Test, AtomOf, Bracketed, literals, condition, Assoc, Comm, Infixed, Statement, OpOf, KindOf, RuleOf, SubjectOf}
+use Rattle.mp_syntax.specs.Syntax.{Spot, Tree, Symbol, Apply, InfixOf, Wild, Optional, Variable, trees, Number}
+use Rattle.mp_syntax.specs.Syntax.{Measured, Compare, Relate, Test, AtomOf, Bracketed, literals, condition, Assoc, Comm}
+use Rattle.mp_syntax.specs.Syntax.{Infixed, Statement, OpOf, KindOf, RuleOf, SubjectOf}
 use Rattle.mp_syntax.specs.Reading.{reading, expr_reading, condition_reading}
 
 abbrev at : ℕ → ℕ → Place
@@ -36,22 +38,36 @@ abbrev tokens_of : List ℕ → List Token
 tokens_of bytes = map (λ (t : Placed). t.token) (lexemes bytes first_place)
 
 -- a file and its statements
-file-read : reading (codes "op f 2;\nrule r: f(x_, a);") ≡ Ok (OpOf (word (codes "f") 1 4) (word (codes "2") 1 6) false [] ∷ RuleOf (word (codes "r") 2 6) (Apply (word (codes "f") 2 9) (trees (Wild (record { name = codes "x"; marks = 1; kind = []; place = at 2 11 }) ∷ Symbol (word (codes "a") 2 15) ∷ []))) None ∷ [])
+file-read : reading (codes "op f 2;\nrule r: f(x_, a);")
+    ≡ Ok (OpOf (word (codes "f") 1 4) (word (codes "2") 1 6) false []
+    ∷ RuleOf (word (codes "r") 2 6)
+    (Apply (word (codes "f") 2 9)
+    (trees (Wild (record { name = codes "x"; marks = 1; kind = []; place = at 2 11 }) ∷ Symbol (word (codes "a") 2 15)
+    ∷ []))) None ∷ [])
 unfolding lexemes
 file-read = refl
 
 -- a plus and flags, in their order
-op-read : reading (codes "op p 1+ comm infix + assoc;") ≡ Ok (OpOf (word (codes "p") 1 4) (word (codes "1") 1 6) true (Comm ∷ Infixed (word (codes "+") 1 20) ∷ Assoc ∷ []) ∷ [])
+op-read : reading (codes "op p 1+ comm infix + assoc;")
+    ≡ Ok (OpOf (word (codes "p") 1 4) (word (codes "1") 1 6) true (Comm ∷ Infixed (word (codes "+") 1 20) ∷ Assoc ∷ [])
+    ∷ [])
 unfolding lexemes
 op-read = refl
 
 -- words are told by their place alone
-words-read : reading (codes "op op 1 comm;kind kind: kind op;") ≡ Ok (OpOf (word (codes "op") 1 4) (word (codes "1") 1 7) false (Comm ∷ []) ∷ KindOf (word (codes "kind") 1 19) (word (codes "kind") 1 25 ∷ word (codes "op") 1 30 ∷ []) ∷ [])
+words-read : reading (codes "op op 1 comm;kind kind: kind op;")
+    ≡ Ok (OpOf (word (codes "op") 1 4) (word (codes "1") 1 7) false (Comm ∷ [])
+    ∷ KindOf (word (codes "kind") 1 19) (word (codes "kind") 1 25 ∷ word (codes "op") 1 30 ∷ []) ∷ [])
 unfolding lexemes
 words-read = refl
 
 -- operands with one sign, which is kept where it stands first
-infix-read : reading (codes "subject s: (a + (b * c) + d);") ≡ Ok (SubjectOf (word (codes "s") 1 9) (InfixOf (at 1 12) (word (codes "+") 1 15) (trees (Symbol (word (codes "a") 1 13) ∷ InfixOf (at 1 17) (word (codes "*") 1 20) (trees (Symbol (word (codes "b") 1 18) ∷ Symbol (word (codes "c") 1 22) ∷ [])) ∷ Symbol (word (codes "d") 1 27) ∷ []))) ∷ [])
+infix-read : reading (codes "subject s: (a + (b * c) + d);")
+    ≡ Ok (SubjectOf (word (codes "s") 1 9)
+    (InfixOf (at 1 12) (word (codes "+") 1 15)
+    (trees (Symbol (word (codes "a") 1 13) ∷ InfixOf (at 1 17) (word (codes "*") 1 20)
+    (trees (Symbol (word (codes "b") 1 18) ∷ Symbol (word (codes "c") 1 22) ∷ [])) ∷ Symbol (word (codes "d") 1 27)
+    ∷ []))) ∷ [])
 unfolding lexemes
 infix-read = refl
 
@@ -69,12 +85,14 @@ unfolding lexemes
 one-operand-refused = refl
 
 -- a comment runs to the end of its line, whatever stands in it
-comment-read : reading (codes "# a # b;\nsubject s: a; # op") ≡ Ok (SubjectOf (word (codes "s") 2 9) (Symbol (word (codes "a") 2 12)) ∷ [])
+comment-read : reading (codes "# a # b;\nsubject s: a; # op")
+    ≡ Ok (SubjectOf (word (codes "s") 2 9) (Symbol (word (codes "a") 2 12)) ∷ [])
 unfolding lexemes
 comment-read = refl
 
 -- four underscores are two tokens, and a kind stands behind a single one alone
-underscores-lexed : tokens_of (codes "x____y x__K") ≡ Wildcard (codes "x") 3 [] ∷ Wildcard [] 1 (codes "y") ∷ Wildcard (codes "x") 2 [] ∷ Word (codes "K") ∷ End ∷ []
+underscores-lexed : tokens_of (codes "x____y x__K")
+    ≡ Wildcard (codes "x") 3 [] ∷ Wildcard [] 1 (codes "y") ∷ Wildcard (codes "x") 2 [] ∷ Word (codes "K") ∷ End ∷ []
 unfolding lexemes
 underscores-lexed = refl
 
@@ -83,21 +101,31 @@ unfolding lexemes
 underscores-refused = refl
 
 -- a wildcard has one to three underscores, and behind a single one perhaps a kind
-wildcards-read : reading (codes "rule r: f(x_, y_K, x__, 1___);") ≡ Ok (RuleOf (word (codes "r") 1 6) (Apply (word (codes "f") 1 9) (trees (wildcard (codes "x") 1 [] 11 ∷ wildcard (codes "y") 1 (codes "K") 15 ∷ wildcard (codes "x") 2 [] 20 ∷ wildcard (codes "1") 3 [] 25 ∷ []))) None ∷ [])
+wildcards-read : reading (codes "rule r: f(x_, y_K, x__, 1___);")
+    ≡ Ok (RuleOf (word (codes "r") 1 6)
+    (Apply (word (codes "f") 1 9)
+    (trees (wildcard (codes "x") 1 [] 11 ∷ wildcard (codes "y") 1 (codes "K") 15 ∷ wildcard (codes "x") 2 [] 20
+    ∷ wildcard (codes "1") 3 [] 25 ∷ []))) None ∷ [])
 unfolding lexemes
 wildcards-read = refl
 
 -- a wildcard may have no name
-unnamed-read : reading (codes "rule r: f(_K, ___);") ≡ Ok (RuleOf (word (codes "r") 1 6) (Apply (word (codes "f") 1 9) (trees (wildcard [] 1 (codes "K") 11 ∷ wildcard [] 3 [] 15 ∷ []))) None ∷ [])
+unnamed-read : reading (codes "rule r: f(_K, ___);")
+    ≡ Ok (RuleOf (word (codes "r") 1 6)
+    (Apply (word (codes "f") 1 9) (trees (wildcard [] 1 (codes "K") 11 ∷ wildcard [] 3 [] 15 ∷ []))) None ∷ [])
 unfolding lexemes
 unnamed-read = refl
 
--- a colon behind one underscore gives a default; a chain is one expression, and the last wildcard of it may be the default
-default-read : expr_reading (codes "x_:f(a)") ≡ Ok (Optional (wild (codes "x") 1 [] 1) [] (Apply (word (codes "f") 1 4) (trees (Symbol (word (codes "a") 1 6) ∷ []))))
+-- a colon behind one underscore gives a default; a chain is one expression, and the last wildcard of it may be the
+-- default
+default-read : expr_reading (codes "x_:f(a)")
+    ≡ Ok (Optional (wild (codes "x") 1 [] 1) []
+    (Apply (word (codes "f") 1 4) (trees (Symbol (word (codes "a") 1 6) ∷ []))))
 unfolding lexemes
 default-read = refl
 
-chain-read : expr_reading (codes "x_:_:y_K") ≡ Ok (Optional (wild (codes "x") 1 [] 1) (wild [] 1 [] 4 ∷ []) (wildcard (codes "y") 1 (codes "K") 6))
+chain-read : expr_reading (codes "x_:_:y_K")
+    ≡ Ok (Optional (wild (codes "x") 1 [] 1) (wild [] 1 [] 4 ∷ []) (wildcard (codes "y") 1 (codes "K") 6))
 unfolding lexemes
 chain-read = refl
 
@@ -107,12 +135,14 @@ unfolding lexemes
 kind_default-refused = refl
 
 -- a sign is the longest run, and the arrow is a run of its own
-signs-lexed : tokens_of (codes "-> ->> a->b.") ≡ Arrow ∷ Sign (codes "->>") ∷ Word (codes "a") ∷ Arrow ∷ Word (codes "b") ∷ Punctuation Dot ∷ End ∷ []
+signs-lexed : tokens_of (codes "-> ->> a->b.")
+    ≡ Arrow ∷ Sign (codes "->>") ∷ Word (codes "a") ∷ Arrow ∷ Word (codes "b") ∷ Punctuation Dot ∷ End ∷ []
 unfolding lexemes
 signs-lexed = refl
 
 -- a word has at most 64 bytes, also within a wildcard
-words-lexed : tokens_of (replicate 64 97 ++ codes " " ++ replicate 65 97 ++ codes " x_" ++ replicate 65 97) ≡ Word (replicate 64 97) ∷ Long ∷ Long ∷ End ∷ []
+words-lexed : tokens_of (replicate 64 97 ++ codes " " ++ replicate 65 97 ++ codes " x_" ++ replicate 65 97)
+    ≡ Word (replicate 64 97) ∷ Long ∷ Long ∷ End ∷ []
 unfolding lexemes
 words-lexed = refl
 
@@ -121,7 +151,8 @@ unfolding lexemes
 long-refused = refl
 
 -- an expression alone is read up to the end
-expression-read : expr_reading (codes "f(x_)") ≡ Ok (Apply (word (codes "f") 1 1) (trees (wildcard (codes "x") 1 [] 3 ∷ [])))
+expression-read : expr_reading (codes "f(x_)")
+    ≡ Ok (Apply (word (codes "f") 1 1) (trees (wildcard (codes "x") 1 [] 3 ∷ [])))
 unfolding lexemes
 expression-read = refl
 
@@ -139,12 +170,25 @@ unfolding lexemes
 end-refused = refl
 
 -- words are told by their place, those of conditions too
-rule-read : reading (codes "rule if: if if count(if) == 1;") ≡ Ok (RuleOf (word (codes "if") 1 6) (Symbol (word (codes "if") 1 10)) (Some (condition (literals (AtomOf false (Compare (Measured Count (Symbol (word (codes "if") 1 22))) Eq (Number (word (codes "1") 1 29))) ∷ []) ∷ []))) ∷ [])
+rule-read : reading (codes "rule if: if if count(if) == 1;")
+    ≡ Ok (RuleOf (word (codes "if") 1 6) (Symbol (word (codes "if") 1 10))
+    (Some (condition
+    (literals
+    (AtomOf false (Compare (Measured Count (Symbol (word (codes "if") 1 22))) Eq (Number (word (codes "1") 1 29))) ∷ [])
+    ∷ []))) ∷ [])
 unfolding lexemes
 rule-read = refl
 
 -- square brackets are kept, and `and` binds before `or`
-condition-read : condition_reading (codes "not [less($x, a)] and 1 < 2 or kind($x, v)") ≡ Ok (condition (literals (Bracketed true (condition (literals (AtomOf false (Relate Less (Variable (word (codes "x") 1 11)) (Symbol (word (codes "a") 1 15))) ∷ []) ∷ [])) ∷ AtomOf false (Compare (Number (word (codes "1") 1 23)) Lt (Number (word (codes "2") 1 27))) ∷ []) ∷ literals (AtomOf false (Test properties.Kind (Variable (word (codes "x") 1 37)) (word (codes "v") 1 41)) ∷ []) ∷ []))
+condition-read : condition_reading (codes "not [less($x, a)] and 1 < 2 or kind($x, v)")
+    ≡ Ok (condition
+    (literals
+    (Bracketed true
+    (condition
+    (literals (AtomOf false (Relate Less (Variable (word (codes "x") 1 11)) (Symbol (word (codes "a") 1 15))) ∷ [])
+    ∷ [])) ∷ AtomOf false (Compare (Number (word (codes "1") 1 23)) Lt (Number (word (codes "2") 1 27))) ∷ [])
+    ∷ literals (AtomOf false (Test properties.Kind (Variable (word (codes "x") 1 37)) (word (codes "v") 1 41)) ∷ [])
+    ∷ []))
 unfolding lexemes
 condition-read = refl
 

@@ -1,5 +1,6 @@
 -- Lists: fronts whose elements pass a test, and the tests of elements; options.
-use Rattle.std.proofs.Common.{◌≡◌, ℕ, zero, suc, ◌+◌, Bool, true, false, cond, List, [], ◌∷◌, ◌++◌, length, take, drop, Option, Some, refl, sym, ap, ◌∙◌, arith, inl, inr}
+use Rattle.std.proofs.Common.{◌≡◌, ℕ, zero, suc, ◌+◌, Bool, true, false, cond, List, [], ◌∷◌, ◌++◌, length, take, drop}
+use Rattle.std.proofs.Common.{Option, Some, refl, sym, ap, ◌∙◌, arith, inl, inr}
 use Rattle.std.specs.Prelude.{◌⊎◌, ◌==◌}
 use Rattle.std.specs.List.{prefix_len, list_all, list_any}
 use Rattle.std.proofs.lemmas.Bool.{and_parts, and_from, or_cases, eqb-true}
@@ -7,7 +8,8 @@ use Rattle.std.proofs.lemmas.List.Folds.{list_all-append}
 use Rattle.std.proofs.lemmas.List.{take_at, drop_at}
 
 -- a front whose elements pass, and then more
-pub prefix_len-pass : (p : ℕ → Bool) (a b : List ℕ) → list_all p a ≡ true → prefix_len p (a ++ b) ≡ length a + prefix_len p b
+pub prefix_len-pass : (p : ℕ → Bool) (a b : List ℕ) → list_all p a ≡ true
+    → prefix_len p (a ++ b) ≡ length a + prefix_len p b
 prefix_len-pass p [] b h = omega arith
 prefix_len-pass p (x ∷ a) b h =
     let e : p x ≡ true = (and_parts (p x) (list_all p a) h).0 in
@@ -18,7 +20,8 @@ pub list_all-front : (p : ℕ → Bool) (xs : List ℕ) → list_all p (take (pr
 list_all-front p [] = refl
 list_all-front p (x ∷ xs) = go (p x) refl (list_all-front p xs)
   where
-    go : (v : Bool) → p x ≡ v → list_all p (take (prefix_len p xs) xs) ≡ true → list_all p (take (cond v (1 + prefix_len p xs) 0) (x ∷ xs)) ≡ true
+    go : (v : Bool) → p x ≡ v → list_all p (take (prefix_len p xs) xs) ≡ true
+        → list_all p (take (cond v (1 + prefix_len p xs) 0) (x ∷ xs)) ≡ true
     go true e h = let one : 1 + prefix_len p xs ≡ suc (prefix_len p xs) = omega arith in rw (one, e) h
     go false e h = refl
 
@@ -34,21 +37,25 @@ take-add (suc a) b (x ∷ xs) = let e : suc a + b ≡ suc (a + b) = omega arith 
 
 -- more elements than the first list has
 pub take-past : (a b : List ℕ) (n : ℕ) → take (length a + n) (a ++ b) ≡ a ++ take n b
-take-past a b n = take-add (length a) n (a ++ b) ∙ (λ i. take_at a b (length a) refl i ++ take n (drop_at a b (length a) refl i))
+take-past a b n = take-add (length a) n (a ++ b)
+    ∙ (λ i. take_at a b (length a) refl i ++ take n (drop_at a b (length a) refl i))
 
 -- one of these numbers passes a test that they all pass
-pub one-passes : (q : ℕ → Bool) (b : ℕ) (ns : List ℕ) → list_any (λ n. b == n) ns ≡ true → list_all q ns ≡ true → q b ≡ true
+pub one-passes : (q : ℕ → Bool) (b : ℕ) (ns : List ℕ) → list_any (λ n. b == n) ns ≡ true → list_all q ns ≡ true
+    → q b ≡ true
 one-passes q b [] h k = absurd cc
 one-passes q b (n ∷ ns) h k =
     let parts = and_parts (q n) (list_all q ns) k in
     go (or_cases (b == n) (list_any (λ n. b == n) ns) h) parts.0 (λ e. one-passes q b ns e parts.1)
   where
-    go : ((b == n) ≡ true) ⊎ (list_any (λ n. b == n) ns ≡ true) → q n ≡ true → (list_any (λ n. b == n) ns ≡ true → q b ≡ true) → q b ≡ true
+    go : ((b == n) ≡ true) ⊎ (list_any (λ n. b == n) ns ≡ true) → q n ≡ true
+        → (list_any (λ n. b == n) ns ≡ true → q b ≡ true) → q b ≡ true
     go (inl e) f g = ap q (eqb-true b n e) ∙ f
     go (inr e) f g = g e
 
 -- what a test says of each element, another one says too
-pub all-implied : (p q : ℕ → Bool) → ((b : ℕ) → p b ≡ true → q b ≡ true) → (bs : List ℕ) → list_all p bs ≡ true → list_all q bs ≡ true
+pub all-implied : (p q : ℕ → Bool) → ((b : ℕ) → p b ≡ true → q b ≡ true) → (bs : List ℕ) → list_all p bs ≡ true
+    → list_all q bs ≡ true
 all-implied p q f [] h = refl
 all-implied p q f (b ∷ bs) h =
     let a = and_parts (p b) (list_all p bs) h in

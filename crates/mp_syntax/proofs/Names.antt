@@ -5,7 +5,19 @@ use Rattle.mp_syntax.specs.declared.limits.TheConstants.{MAX_OPEN}
 use Rattle.mp_syntax.specs.declared.place.Place.{Place}
 use Rattle.mp_syntax.specs.Tokens as tokens
 use Rattle.mp_syntax.specs.Tokens.{Token, Word, Sign, Placed, Spells, place_after, Tokens}
-use Rattle.mp_syntax.specs.Syntax.{Spot, Wildcard, Tree, Symbol, Apply, InfixOf, Wild, Optional, Variable, Trees, no_trees, more_trees, Flag, Assoc, Comm, One, Infixed, Amount, Number, Measured, Atom, Compare, Relate, Test, Literal, AtomOf, Bracketed, Literals, no_literals, more_literals, Condition, no_alternatives, more_alternatives, Statement, OpOf, KindOf, RuleOf, SubjectOf, Expected, Said, Stands, AllMatch, spelled_word, spelled_sign, another, comma, semicolon, spell, spell_first, spell_others, spell_with_colon, spell_plus, spell_amount, spell_atom, spell_not, spell_literal, spell_literals, spell_alternatives, spell_condition, spell_if, spell_flag, spell_statement, spell_file, Fits, AreFit, FitsAmount, FitsAtom, FitsLiteral, LiteralsFit, AlternativesFit, FitsCondition, FitsIf, FitsStatement, AreStatements, IsName, IsInfixSign, HasParts, IsSpelled, HaveParts, HasNames, HaveNames, AmountHasNames, AtomHasNames, LiteralHasNames, LiteralsHaveNames, ConditionHasNames, IfHasNames, HaveSigns, AreNames, StatementHasNames, StatementsHaveNames}
+use Rattle.mp_syntax.specs.Syntax.{Spot, Wildcard, Tree, Symbol, Apply, InfixOf, Wild, Optional, Variable, Trees}
+use Rattle.mp_syntax.specs.Syntax.{no_trees, more_trees, Flag, Assoc, Comm, One, Infixed, Amount, Number, Measured}
+use Rattle.mp_syntax.specs.Syntax.{Atom, Compare, Relate, Test, Literal, AtomOf, Bracketed, Literals, no_literals}
+use Rattle.mp_syntax.specs.Syntax.{more_literals, Condition, no_alternatives, more_alternatives, Statement, OpOf}
+use Rattle.mp_syntax.specs.Syntax.{KindOf, RuleOf, SubjectOf, Expected, Said, Stands, AllMatch, spelled_word}
+use Rattle.mp_syntax.specs.Syntax.{spelled_sign, another, comma, semicolon, spell, spell_first, spell_others}
+use Rattle.mp_syntax.specs.Syntax.{spell_with_colon, spell_plus, spell_amount, spell_atom, spell_not, spell_literal}
+use Rattle.mp_syntax.specs.Syntax.{spell_literals, spell_alternatives, spell_condition, spell_if, spell_flag}
+use Rattle.mp_syntax.specs.Syntax.{spell_statement, spell_file, Fits, AreFit, FitsAmount, FitsAtom, FitsLiteral}
+use Rattle.mp_syntax.specs.Syntax.{LiteralsFit, AlternativesFit, FitsCondition, FitsIf, FitsStatement, AreStatements}
+use Rattle.mp_syntax.specs.Syntax.{IsName, IsInfixSign, HasParts, IsSpelled, HaveParts, HasNames, HaveNames}
+use Rattle.mp_syntax.specs.Syntax.{AmountHasNames, AtomHasNames, LiteralHasNames, LiteralsHaveNames, ConditionHasNames}
+use Rattle.mp_syntax.specs.Syntax.{IfHasNames, HaveSigns, AreNames, StatementHasNames, StatementsHaveNames}
 use Rattle.mp_syntax.specs.Lexing.{kind_at}
 use Rattle.mp_syntax.proofs.Trees.{fits-optional}
 use Rattle.mp_syntax.proofs.Longest.{IsToken}
@@ -71,7 +83,11 @@ kind_at-spelled bytes = record {
 }
   where
     text : (t : Token) → (kind_at bytes).0 ≡ t → IsToken t → HasText t
-    text t e h = (take (kind_at bytes).1 bytes, subst (λ u. Spells (take (kind_at bytes).1 bytes) u) e (kind_at-spells bytes (subst IsToken (sym e) h)))
+    text t e h = (
+      take (kind_at bytes).1 bytes,
+      subst (λ u. Spells (take (kind_at bytes).1 bytes) u) e
+          (kind_at-spells bytes (subst IsToken (sym e) h)),
+    )
 
 mutual
   pub tree-names : (t : Tree) (room : ℕ) → Fits room t → ExpectTexts (spell t) → HasNames t
@@ -85,17 +101,22 @@ mutual
       (sign-name sign.text r.1.0, (tree-names t room fits.1.0 r.0, first-names (another sign) ts room fits.1.1 r.1.1))
   tree-names (Wild w) room fits h = wildcard-parts w h.0
   tree-names (Optional w others default) room fits h =
-      let r = texts-append (flat_map spell_with_colon others) (spell default) h.1.1 in
-      (wildcard-parts w h.0, chain-parts others r.0, tree-names default room (fits-optional room w others default fits).2 r.1)
+      let r = texts-append (flat_map spell_with_colon others) (spell default) h.1.1 in (
+        wildcard-parts w h.0,
+        chain-parts others r.0,
+        tree-names default room (fits-optional room w others default fits).2 r.1,
+      )
   tree-names (Variable w) room fits h = word-name w.text h.1.0
 
-  first-names : (between : Expected) (ts : Trees) (room : ℕ) → AreFit room ts → ExpectTexts (spell_first between ts) → HaveNames ts
+  first-names : (between : Expected) (ts : Trees) (room : ℕ) → AreFit room ts → ExpectTexts (spell_first between ts)
+      → HaveNames ts
   first-names between no_trees room fits h = tt
   first-names between (more_trees t ts) room fits h =
       let r = texts-append (spell t) (spell_others between ts) h in
       (tree-names t room fits.0 r.0, others-names between ts room fits.1 r.1)
 
-  others-names : (between : Expected) (ts : Trees) (room : ℕ) → AreFit room ts → ExpectTexts (spell_others between ts) → HaveNames ts
+  others-names : (between : Expected) (ts : Trees) (room : ℕ) → AreFit room ts → ExpectTexts (spell_others between ts)
+      → HaveNames ts
   others-names between no_trees room fits h = tt
   others-names between (more_trees t ts) room fits h =
       let r = texts-append (spell t) (spell_others between ts) h.1 in
@@ -138,17 +159,22 @@ atom-names (suc room) (Test p e w) fits h =
 mutual
   literal-names : (room : ℕ) (l : Literal) → FitsLiteral room l → ExpectTexts (spell_literal l) → LiteralHasNames l
   literal-names zero (AtomOf negated a) fits h = atom-names zero a fits (texts-append (spell_not negated) _ h).1
-  literal-names (suc room) (AtomOf negated a) fits h = atom-names (suc room) a fits (texts-append (spell_not negated) _ h).1
+  literal-names (suc room) (AtomOf negated a) fits h =
+      atom-names (suc room) a fits (texts-append (spell_not negated) _ h).1
   literal-names zero (Bracketed negated c) fits h = absurd fits
-  literal-names (suc room) (Bracketed negated c) fits h = alternatives-names room [] c fits.1 (texts-append (spell_condition c) _ (texts-append (spell_not negated) _ h).1.1).0
+  literal-names (suc room) (Bracketed negated c) fits h =
+      alternatives-names room [] c fits.1
+      (texts-append (spell_condition c) _ (texts-append (spell_not negated) _ h).1.1).0
 
-  literals-names : (room : ℕ) (before : List Expected) (ls : Literals) → LiteralsFit room ls → ExpectTexts (spell_literals before ls) → LiteralsHaveNames ls
+  literals-names : (room : ℕ) (before : List Expected) (ls : Literals) → LiteralsFit room ls
+      → ExpectTexts (spell_literals before ls) → LiteralsHaveNames ls
   literals-names room before no_literals fits h = tt
   literals-names room before (more_literals l ls) fits h =
       let r = texts-append (spell_literal l) _ (texts-append before _ h).1 in
       (literal-names room l fits.0 r.0, literals-names room _ ls fits.1 r.1)
 
-  alternatives-names : (room : ℕ) (before : List Expected) (c : Condition) → AlternativesFit room c → ExpectTexts (spell_alternatives before c) → ConditionHasNames c
+  alternatives-names : (room : ℕ) (before : List Expected) (c : Condition) → AlternativesFit room c
+      → ExpectTexts (spell_alternatives before c) → ConditionHasNames c
   alternatives-names room before no_alternatives fits h = tt
   alternatives-names room before (more_alternatives a c) fits h =
       let r = texts-append (spell_literals [] a) _ (texts-append before _ h).1 in
@@ -172,7 +198,8 @@ statement-names (KindOf name members) fits h = (word-name name.text h.1.0, membe
 statement-names (RuleOf name e o) fits h =
     let r = texts-append (spell e) (spell_if o ++ semicolon ∷ []) h.1.1.1 in
     (word-name name.text h.1.0, tree-names e MAX_OPEN fits.0 r.0, if-names o fits.1 (texts-append (spell_if o) _ r.1).0)
-statement-names (SubjectOf name e) fits h = (word-name name.text h.1.0, tree-names e MAX_OPEN fits (texts-append (spell e) _ h.1.1.1).0)
+statement-names (SubjectOf name e) fits h =
+    (word-name name.text h.1.0, tree-names e MAX_OPEN fits (texts-append (spell e) _ h.1.1.1).0)
 
 -- statements that are spelled by tokens with texts have names
 pub file-names : (file : List Statement) → AreStatements file → ExpectTexts (spell_file file) → StatementsHaveNames file

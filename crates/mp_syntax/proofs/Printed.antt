@@ -1,5 +1,6 @@
 -- What is printed of statements is read again as those statements.
-use Rattle.std.proofs.Common.{◌≡◌, ◌≢◌, ℕ, ◌+◌, Bool, true, false, cond, List, [], ◌∷◌, ◌++◌, map, refl, sym, ap, subst, ◌∙◌, arith, append_assoc}
+use Rattle.std.proofs.Common.{◌≡◌, ◌≢◌, ℕ, ◌+◌, Bool, true, false, cond, List, [], ◌∷◌, ◌++◌, map, refl, sym, ap, subst}
+use Rattle.std.proofs.Common.{◌∙◌, arith, append_assoc}
 use Rattle.std.specs.Prelude.{codes}
 use Rattle.std.specs.List.{flat_map, prefix_len}
 use Rattle.mp_syntax.specs.declared.limits.TheConstants.{MAX_OPEN}
@@ -7,16 +8,23 @@ use Rattle.mp_syntax.specs.declared.place.Place.{Place}
 use Rattle.mp_syntax.specs.declared.token.Punct.TheVariants.{Colon}
 use Rattle.mp_syntax.specs.Tokens.{Sign, Punctuation, is_sign_byte, after_byte, first_place}
 use Rattle.mp_syntax.specs.Lexing.{lexemes}
-use Rattle.mp_syntax.specs.Syntax.{Spot, Tree, Flag, Assoc, Comm, One, Infixed, Statement, OpOf, KindOf, RuleOf, SubjectOf, Said, spelled_word, spelled_sign, fixed_word, colon, semicolon, spell, spell_named, spell_if, spell_plus, spell_flag, spell_statement, spell_file, Fits, FitsStatement, AreStatements, IsName, HasNames, HaveSigns, AreNames, StatementHasNames, StatementsHaveNames, IsSyntaxOf}
+use Rattle.mp_syntax.specs.Syntax.{Spot, Tree, Flag, Assoc, Comm, One, Infixed, Statement, OpOf, KindOf, RuleOf}
+use Rattle.mp_syntax.specs.Syntax.{SubjectOf, Said, spelled_word, spelled_sign, fixed_word, colon, semicolon, spell}
+use Rattle.mp_syntax.specs.Syntax.{spell_named, spell_if, spell_plus, spell_flag, spell_statement, spell_file, Fits}
+use Rattle.mp_syntax.specs.Syntax.{FitsStatement, AreStatements, IsName, HasNames, HaveSigns, AreNames}
+use Rattle.mp_syntax.specs.Syntax.{StatementHasNames, StatementsHaveNames, IsSyntaxOf}
 use Rattle.mp_syntax.specs.Machine.{Top, run}
 use Rattle.mp_syntax.specs.Reading.{statements_read}
-use Rattle.mp_syntax.specs.Printed.{tree_text, plus_text, flag_text, member_text, line_end, named_text, if_text, statement_text, statements_text, unplaced_spot, unplaced_tree, unplaced_flag, unplaced}
+use Rattle.mp_syntax.specs.Printed.{tree_text, plus_text, flag_text, member_text, line_end, named_text, if_text}
+use Rattle.mp_syntax.specs.Printed.{statement_text, statements_text, unplaced_spot, unplaced_tree, unplaced_flag}
+use Rattle.mp_syntax.specs.Printed.{unplaced}
 use Rattle.mp_syntax.proofs.Fuel.{lexemes-step}
 use Rattle.mp_syntax.proofs.TokensLaw.{end_at}
 use Rattle.mp_syntax.proofs.StatementAgain.{file-again}
 use Rattle.mp_syntax.proofs.Whole.{reading-found}
 use Rattle.mp_syntax.proofs.Ends.{is_mark_byte}
-use Rattle.mp_syntax.proofs.PrintedExpr.{Lexes, lexes-then, lexes-word, lexes-sign, lexes-punct, lexes-blank, lexes-line_end, lexes-tree, lexes-keyword, lexes-behind}
+use Rattle.mp_syntax.proofs.PrintedExpr.{Lexes, lexes-then, lexes-word, lexes-sign, lexes-punct, lexes-blank}
+use Rattle.mp_syntax.proofs.PrintedExpr.{lexes-line_end, lexes-tree, lexes-keyword, lexes-behind}
 use Rattle.mp_syntax.proofs.PrintedCondition.{lexes-if, if-end}
 
 -- ---- statements
@@ -42,7 +50,9 @@ record LexesNamed (keyword bytes rest : List ℕ) (place : Place) (name : Spot) 
   fits : Fits MAX_OPEN tree
   lexes : Lexes bytes place (fixed_word keyword ∷ spell_named here tree) rest
 
-lexes-named : (keyword : List ℕ) (name : Spot) (t : Tree) (rest : List ℕ) (place : Place) → IsName keyword → IsName name.text → HasNames t → Fits MAX_OPEN t → prefix_len is_mark_byte rest ≡ 0 → LexesNamed keyword (keyword ++ (32 ∷ named_text name t rest)) rest place name t
+lexes-named : (keyword : List ℕ) (name : Spot) (t : Tree) (rest : List ℕ) (place : Place) → IsName keyword
+    → IsName name.text → HasNames t → Fits MAX_OPEN t → prefix_len is_mark_byte rest ≡ 0
+    → LexesNamed keyword (keyword ++ (32 ∷ named_text name t rest)) rest place name t
 lexes-named keyword name t rest place k n h fits ends =
     let third = tree_text t ++ rest in
     let second = name.text ++ (58 ∷ 32 ∷ third) in
@@ -66,26 +76,35 @@ lexes-named keyword name t rest place k n h fits ends =
     }
 
 -- what follows a name and its expression
-named_text-append : (name : Spot) (t : Tree) (behind rest : List ℕ) → named_text name t behind ++ rest ≡ named_text name t (behind ++ rest)
+named_text-append : (name : Spot) (t : Tree) (behind rest : List ℕ)
+    → named_text name t behind ++ rest ≡ named_text name t (behind ++ rest)
 named_text-append name t behind rest = simp append_assoc
 
 -- ---- declarations
 
 -- a plus sign, where there is one
-lexes-plus : (more : Bool) (rest : List ℕ) (place : Place) → prefix_len is_sign_byte rest ≡ 0 → Lexes (plus_text more ++ rest) place (spell_plus more) rest
-lexes-plus true rest place ends = lexes-sign (codes "+") rest place (Said (Sign (codes "+"))) (record { is_sign = record { some = λ e. absurd cc; bytes = refl }; no_arrow = λ e. absurd cc }) ends refl
+lexes-plus : (more : Bool) (rest : List ℕ) (place : Place) → prefix_len is_sign_byte rest ≡ 0
+    → Lexes (plus_text more ++ rest) place (spell_plus more) rest
+lexes-plus true rest place ends = lexes-sign (codes "+") rest place (Said (Sign (codes "+")))
+    (record { is_sign = record { some = λ e. absurd cc; bytes = refl }; no_arrow = λ e. absurd cc }) ends refl
 lexes-plus false rest place ends = record { ts = []; after = place; match = tt; are = refl }
 
 -- a flag and what follows begin with a blank or a semicolon
-flags-end : (p : ℕ → Bool) → p 32 ≡ false → p 59 ≡ false → (flags : List Flag) (rest : List ℕ) → prefix_len p (flat_map flag_text flags ++ (line_end ++ rest)) ≡ 0
+flags-end : (p : ℕ → Bool) → p 32 ≡ false → p 59 ≡ false → (flags : List Flag) (rest : List ℕ)
+    → prefix_len p (flat_map flag_text flags ++ (line_end ++ rest)) ≡ 0
 flags-end p blank semi [] rest = prefix_len-cons p 59 (10 ∷ rest) semi
-flags-end p blank semi (Assoc ∷ flags) rest = prefix_len-cons p 32 (codes "assoc" ++ (flat_map flag_text flags ++ (line_end ++ rest))) blank
-flags-end p blank semi (Comm ∷ flags) rest = prefix_len-cons p 32 (codes "comm" ++ (flat_map flag_text flags ++ (line_end ++ rest))) blank
-flags-end p blank semi (One ∷ flags) rest = prefix_len-cons p 32 (codes "one" ++ (flat_map flag_text flags ++ (line_end ++ rest))) blank
-flags-end p blank semi (Infixed sign ∷ flags) rest = prefix_len-cons p 32 (codes "infix " ++ ((sign.text ++ flat_map flag_text flags) ++ (line_end ++ rest))) blank
+flags-end p blank semi (Assoc ∷ flags) rest =
+    prefix_len-cons p 32 (codes "assoc" ++ (flat_map flag_text flags ++ (line_end ++ rest))) blank
+flags-end p blank semi (Comm ∷ flags) rest =
+    prefix_len-cons p 32 (codes "comm" ++ (flat_map flag_text flags ++ (line_end ++ rest))) blank
+flags-end p blank semi (One ∷ flags) rest =
+    prefix_len-cons p 32 (codes "one" ++ (flat_map flag_text flags ++ (line_end ++ rest))) blank
+flags-end p blank semi (Infixed sign ∷ flags) rest =
+    prefix_len-cons p 32 (codes "infix " ++ ((sign.text ++ flat_map flag_text flags) ++ (line_end ++ rest))) blank
 
 -- the number of an operation ends there
-plus-end : (more : Bool) (flags : List Flag) (rest : List ℕ) → prefix_len is_mark_byte (plus_text more ++ (flat_map flag_text flags ++ (line_end ++ rest))) ≡ 0
+plus-end : (more : Bool) (flags : List Flag) (rest : List ℕ)
+    → prefix_len is_mark_byte (plus_text more ++ (flat_map flag_text flags ++ (line_end ++ rest))) ≡ 0
 plus-end true flags rest = refl
 plus-end false flags rest = flags-end is_mark_byte refl refl flags rest
 
@@ -94,37 +113,62 @@ record LexesFlags (bytes rest : List ℕ) (place : Place) (flags : List Flag) : 
   same : map unplaced_flag all ≡ map unplaced_flag flags
   lexes : Lexes bytes place (flat_map spell_flag all ++ semicolon ∷ []) rest
 
-lexes-flags : (flags : List Flag) (rest : List ℕ) (place : Place) → HaveSigns flags → LexesFlags (flat_map flag_text flags ++ (line_end ++ rest)) rest place flags
+lexes-flags : (flags : List Flag) (rest : List ℕ) (place : Place) → HaveSigns flags
+    → LexesFlags (flat_map flag_text flags ++ (line_end ++ rest)) rest place flags
 lexes-flags [] rest place h = record { all = []; same = refl; lexes = lexes-line_end rest place }
 lexes-flags (Assoc ∷ flags) rest place h =
     let behind = flat_map flag_text flags ++ (line_end ++ rest) in
     let m = fixed_word (codes "assoc") in
-    let r = lexes-behind (codes "assoc") behind place m (record { is_word = record { some = λ e. absurd cc; bytes = refl }; is_short = omega arith }) (flags-end is_mark_byte refl refl flags rest) refl in
+    let r = lexes-behind (codes "assoc") behind place m
+    (record { is_word = record { some = λ e. absurd cc; bytes = refl }; is_short = omega arith })
+    (flags-end is_mark_byte refl refl flags rest) refl in
     let a = lexes-flags flags rest r.after h.1 in
-    record { all = Assoc ∷ a.all; same = ap (λ l. Assoc ∷ l) a.same; lexes = lexes-then (codes " assoc" ++ behind) behind rest place (m ∷ []) (flat_map spell_flag a.all ++ semicolon ∷ []) r a.lexes }
+    record {
+      all = Assoc ∷ a.all;
+      same = ap (λ l. Assoc ∷ l) a.same;
+      lexes = lexes-then (codes " assoc" ++ behind) behind rest place (m ∷ [])
+          (flat_map spell_flag a.all ++ semicolon ∷ []) r a.lexes;
+    }
 lexes-flags (Comm ∷ flags) rest place h =
     let behind = flat_map flag_text flags ++ (line_end ++ rest) in
     let m = fixed_word (codes "comm") in
-    let r = lexes-behind (codes "comm") behind place m (record { is_word = record { some = λ e. absurd cc; bytes = refl }; is_short = omega arith }) (flags-end is_mark_byte refl refl flags rest) refl in
+    let r = lexes-behind (codes "comm") behind place m
+    (record { is_word = record { some = λ e. absurd cc; bytes = refl }; is_short = omega arith })
+    (flags-end is_mark_byte refl refl flags rest) refl in
     let a = lexes-flags flags rest r.after h.1 in
-    record { all = Comm ∷ a.all; same = ap (λ l. Comm ∷ l) a.same; lexes = lexes-then (codes " comm" ++ behind) behind rest place (m ∷ []) (flat_map spell_flag a.all ++ semicolon ∷ []) r a.lexes }
+    record {
+      all = Comm ∷ a.all;
+      same = ap (λ l. Comm ∷ l) a.same;
+      lexes = lexes-then (codes " comm" ++ behind) behind rest place (m ∷ [])
+          (flat_map spell_flag a.all ++ semicolon ∷ []) r a.lexes;
+    }
 lexes-flags (One ∷ flags) rest place h =
     let behind = flat_map flag_text flags ++ (line_end ++ rest) in
     let m = fixed_word (codes "one") in
-    let r = lexes-behind (codes "one") behind place m (record { is_word = record { some = λ e. absurd cc; bytes = refl }; is_short = omega arith }) (flags-end is_mark_byte refl refl flags rest) refl in
+    let r = lexes-behind (codes "one") behind place m
+    (record { is_word = record { some = λ e. absurd cc; bytes = refl }; is_short = omega arith })
+    (flags-end is_mark_byte refl refl flags rest) refl in
     let a = lexes-flags flags rest r.after h.1 in
-    record { all = One ∷ a.all; same = ap (λ l. One ∷ l) a.same; lexes = lexes-then (codes " one" ++ behind) behind rest place (m ∷ []) (flat_map spell_flag a.all ++ semicolon ∷ []) r a.lexes }
+    record {
+      all = One ∷ a.all;
+      same = ap (λ l. One ∷ l) a.same;
+      lexes = lexes-then (codes " one" ++ behind) behind rest place (m ∷ [])
+          (flat_map spell_flag a.all ++ semicolon ∷ []) r a.lexes;
+    }
 lexes-flags (Infixed sign ∷ flags) rest place h =
     let behind = flat_map flag_text flags ++ (line_end ++ rest) in
     let second = sign.text ++ behind in
     let m = fixed_word (codes "infix") in
-    let r = lexes-behind (codes "infix") (32 ∷ second) place m (record { is_word = record { some = λ e. absurd cc; bytes = refl }; is_short = omega arith }) refl refl in
+    let r = lexes-behind (codes "infix") (32 ∷ second) place m
+    (record { is_word = record { some = λ e. absurd cc; bytes = refl }; is_short = omega arith }) refl refl in
     let b = lexes-blank second r.after in
     let here : Spot = record { text = sign.text; place = b.after } in
-    let s = lexes-sign sign.text behind b.after (spelled_sign here) h.0 (flags-end is_sign_byte refl refl flags rest) (refl, refl) in
+    let s = lexes-sign sign.text behind b.after (spelled_sign here) h.0 (flags-end is_sign_byte refl refl flags rest)
+    (refl, refl) in
     let a = lexes-flags flags rest s.after h.1 in
     let others = flat_map spell_flag a.all ++ semicolon ∷ [] in
-    let parts : (sign.text ++ flat_map flag_text flags) ++ (line_end ++ rest) ≡ second = append_assoc sign.text (flat_map flag_text flags) (line_end ++ rest) in
+    let parts : (sign.text ++ flat_map flag_text flags) ++ (line_end ++ rest) ≡ second =
+    append_assoc sign.text (flat_map flag_text flags) (line_end ++ rest) in
     record {
       all = Infixed here ∷ a.all;
       same = ap (λ l. Infixed (unplaced_spot sign) ∷ l) a.same;
@@ -134,14 +178,16 @@ lexes-flags (Infixed sign ∷ flags) rest place h =
           (lexes-then second behind rest b.after (spelled_sign here ∷ []) others s a.lexes)));
     }
 
-lexes-op : (name least : Spot) (more : Bool) (flags : List Flag) (rest : List ℕ) (place : Place) → StatementHasNames (OpOf name least more flags) → FitsStatement (OpOf name least more flags)
+lexes-op : (name least : Spot) (more : Bool) (flags : List Flag) (rest : List ℕ) (place : Place)
+    → StatementHasNames (OpOf name least more flags) → FitsStatement (OpOf name least more flags)
     → LexesStatement (statement_text (OpOf name least more flags) ++ rest) rest place (OpOf name least more flags)
 lexes-op name least more flags rest place h fits =
     let fourth = flat_map flag_text flags ++ (line_end ++ rest) in
     let third = plus_text more ++ fourth in
     let second = least.text ++ third in
     let first = name.text ++ (32 ∷ second) in
-    let r = lexes-keyword (codes "op") first place (record { is_word = record { some = λ e. absurd cc; bytes = refl }; is_short = omega arith }) in
+    let r = lexes-keyword (codes "op") first place
+    (record { is_word = record { some = λ e. absurd cc; bytes = refl }; is_short = omega arith }) in
     let here : Spot = record { text = name.text; place = r.after } in
     let n = lexes-word name.text (32 ∷ second) r.after (spelled_word here) h.0 refl (refl, refl) in
     let b = lexes-blank second n.after in
@@ -156,8 +202,10 @@ lexes-op name least more flags rest place h fits =
       same = ap (OpOf (unplaced_spot name) (unplaced_spot least) more) f.same;
       fits = fits;
       lexes = subst (λ l. Lexes l place (spell_statement (OpOf here number more f.all)) rest) (sym parts)
-          (lexes-then (codes "op " ++ first) first rest place (fixed_word (codes "op") ∷ []) (spelled_word here ∷ spelled_word number ∷ (spell_plus more ++ ending)) r
-          (lexes-then first (32 ∷ second) rest r.after (spelled_word here ∷ []) (spelled_word number ∷ (spell_plus more ++ ending)) n
+          (lexes-then (codes "op " ++ first) first rest place (fixed_word (codes "op") ∷ [])
+          (spelled_word here ∷ spelled_word number ∷ (spell_plus more ++ ending)) r
+          (lexes-then first (32 ∷ second) rest r.after (spelled_word here ∷ [])
+          (spelled_word number ∷ (spell_plus more ++ ending)) n
           (lexes-then (32 ∷ second) second rest n.after [] (spelled_word number ∷ (spell_plus more ++ ending)) b
           (lexes-then second third rest b.after (spelled_word number ∷ []) (spell_plus more ++ ending) l
           (lexes-then third fourth rest l.after (spell_plus more) ending p f.lexes)))));
@@ -169,33 +217,40 @@ record LexesMembers (bytes rest : List ℕ) (place : Place) (members : List Spot
   some : members ≢ [] → all ≢ []
   lexes : Lexes bytes place (map spelled_word all ++ semicolon ∷ []) rest
 
-members-end : (members : List Spot) (rest : List ℕ) → prefix_len is_mark_byte (flat_map member_text members ++ (line_end ++ rest)) ≡ 0
+members-end : (members : List Spot) (rest : List ℕ)
+    → prefix_len is_mark_byte (flat_map member_text members ++ (line_end ++ rest)) ≡ 0
 members-end [] rest = refl
 members-end (m ∷ members) rest = refl
 
-lexes-members : (members : List Spot) (rest : List ℕ) (place : Place) → AreNames members → LexesMembers (flat_map member_text members ++ (line_end ++ rest)) rest place members
+lexes-members : (members : List Spot) (rest : List ℕ) (place : Place) → AreNames members
+    → LexesMembers (flat_map member_text members ++ (line_end ++ rest)) rest place members
 lexes-members [] rest place h = record { all = []; same = refl; some = λ h. h; lexes = lexes-line_end rest place }
 lexes-members (m ∷ members) rest place h =
     let behind = flat_map member_text members ++ (line_end ++ rest) in
     let here : Spot = record { text = m.text; place = after_byte place 32 } in
     let r = lexes-behind m.text behind place (spelled_word here) h.0 (members-end members rest) (refl, refl) in
     let a = lexes-members members rest r.after h.1 in
-    let parts : (m.text ++ flat_map member_text members) ++ (line_end ++ rest) ≡ m.text ++ behind = append_assoc m.text (flat_map member_text members) (line_end ++ rest) in
+    let parts : (m.text ++ flat_map member_text members) ++ (line_end ++ rest) ≡ m.text ++ behind =
+    append_assoc m.text (flat_map member_text members) (line_end ++ rest) in
     record {
       all = here ∷ a.all;
       same = ap (λ l. unplaced_spot m ∷ l) a.same;
       some = λ h e. absurd cc;
-      lexes = subst (λ l. Lexes (32 ∷ l) place (spelled_word here ∷ map spelled_word a.all ++ semicolon ∷ []) rest) (sym parts)
-          (lexes-then (32 ∷ (m.text ++ behind)) behind rest place (spelled_word here ∷ []) (map spelled_word a.all ++ semicolon ∷ []) r a.lexes);
+      lexes = subst (λ l. Lexes (32 ∷ l) place (spelled_word here ∷ map spelled_word a.all ++ semicolon ∷ []) rest)
+          (sym parts)
+          (lexes-then (32 ∷ (m.text ++ behind)) behind rest place (spelled_word here ∷ [])
+          (map spelled_word a.all ++ semicolon ∷ []) r a.lexes);
     }
 
-lexes-declared_kind : (name : Spot) (members : List Spot) (rest : List ℕ) (place : Place) → StatementHasNames (KindOf name members) → FitsStatement (KindOf name members)
+lexes-declared_kind : (name : Spot) (members : List Spot) (rest : List ℕ) (place : Place)
+    → StatementHasNames (KindOf name members) → FitsStatement (KindOf name members)
     → LexesStatement (statement_text (KindOf name members) ++ rest) rest place (KindOf name members)
 lexes-declared_kind name members rest place h fits =
     let second = flat_map member_text members ++ (line_end ++ rest) in
     let first = name.text ++ (58 ∷ second) in
     let colon = Said (Punctuation Colon) in
-    let r = lexes-keyword (codes "kind") first place (record { is_word = record { some = λ e. absurd cc; bytes = refl }; is_short = omega arith }) in
+    let r = lexes-keyword (codes "kind") first place
+    (record { is_word = record { some = λ e. absurd cc; bytes = refl }; is_short = omega arith }) in
     let here : Spot = record { text = name.text; place = r.after } in
     let n = lexes-word name.text (58 ∷ second) r.after (spelled_word here) h.0 refl (refl, refl) in
     let c = lexes-punct Colon second n.after colon refl in
@@ -207,39 +262,52 @@ lexes-declared_kind name members rest place h fits =
       same = ap (KindOf (unplaced_spot name)) a.same;
       fits = a.some fits;
       lexes = subst (λ l. Lexes l place (spell_statement (KindOf here a.all)) rest) (sym parts)
-          (lexes-then (codes "kind " ++ first) first rest place (fixed_word (codes "kind") ∷ []) (spelled_word here ∷ colon ∷ ending) r
+          (lexes-then (codes "kind " ++ first) first rest place (fixed_word (codes "kind") ∷ [])
+          (spelled_word here ∷ colon ∷ ending) r
           (lexes-then first (58 ∷ second) rest r.after (spelled_word here ∷ []) (colon ∷ ending) n
           (lexes-then (58 ∷ second) second rest n.after (colon ∷ []) ending c a.lexes)));
     }
 
-lexes-statement : (s : Statement) (rest : List ℕ) (place : Place) → StatementHasNames s → FitsStatement s → LexesStatement (statement_text s ++ rest) rest place s
+lexes-statement : (s : Statement) (rest : List ℕ) (place : Place) → StatementHasNames s → FitsStatement s
+    → LexesStatement (statement_text s ++ rest) rest place s
 lexes-statement (OpOf name least more flags) rest place h fits = lexes-op name least more flags rest place h fits
 lexes-statement (KindOf name members) rest place h fits = lexes-declared_kind name members rest place h fits
 lexes-statement (RuleOf name t o) rest place h fits =
     let third = line_end ++ rest in
     let second = if_text o ++ third in
-    let x = lexes-named (codes "rule") name t second place (record { is_word = record { some = λ e. absurd cc; bytes = refl }; is_short = omega arith }) h.0 h.1 fits.0 (if-end o third refl) in
+    let x = lexes-named (codes "rule") name t second place
+    (record { is_word = record { some = λ e. absurd cc; bytes = refl }; is_short = omega arith }) h.0 h.1 fits.0
+    (if-end o third refl) in
     let y = lexes-if o third x.lexes.after h.2 fits.1 refl in
     let ending = spell_if y.value ++ semicolon ∷ [] in
-    let parts : statement_text (RuleOf name t o) ++ rest ≡ codes "rule" ++ (32 ∷ named_text name t second) = ap (λ l. codes "rule " ++ l) (named_text-append name t (if_text o ++ line_end) rest ∙ ap (named_text name t) (append_assoc (if_text o) line_end rest)) in
+    let parts : statement_text (RuleOf name t o) ++ rest ≡ codes "rule" ++ (32 ∷ named_text name t second) =
+    ap (λ l. codes "rule " ++ l) (named_text-append name t (if_text o ++ line_end) rest
+    ∙ ap (named_text name t) (append_assoc (if_text o) line_end rest)) in
     record {
       statement = RuleOf x.here x.tree y.value;
       same = λ i. RuleOf (record { text = x.same_name i; place = first_place }) (x.same i) (y.same i);
       fits = (x.fits, y.fits);
       lexes = subst (λ l. Lexes l place (spell_statement (RuleOf x.here x.tree y.value)) rest) (sym parts)
-          (lexes-then (codes "rule" ++ (32 ∷ named_text name t second)) second rest place (fixed_word (codes "rule") ∷ spell_named x.here x.tree) ending x.lexes
-          (lexes-then second third rest x.lexes.after (spell_if y.value) (semicolon ∷ []) y.lexes (lexes-line_end rest y.lexes.after)));
+          (lexes-then (codes "rule" ++ (32 ∷ named_text name t second)) second rest place
+          (fixed_word (codes "rule") ∷ spell_named x.here x.tree) ending x.lexes
+          (lexes-then second third rest x.lexes.after (spell_if y.value) (semicolon ∷ []) y.lexes
+          (lexes-line_end rest y.lexes.after)));
     }
 lexes-statement (SubjectOf name t) rest place h fits =
     let second = line_end ++ rest in
-    let x = lexes-named (codes "subject") name t second place (record { is_word = record { some = λ e. absurd cc; bytes = refl }; is_short = omega arith }) h.0 h.1 fits refl in
-    let parts : statement_text (SubjectOf name t) ++ rest ≡ codes "subject" ++ (32 ∷ named_text name t second) = ap (λ l. codes "subject " ++ l) (named_text-append name t line_end rest) in
+    let x = lexes-named (codes "subject") name t second place
+    (record { is_word = record { some = λ e. absurd cc; bytes = refl }; is_short = omega arith }) h.0 h.1 fits
+    refl in
+    let parts : statement_text (SubjectOf name t) ++ rest ≡ codes "subject" ++ (32 ∷ named_text name t second) =
+    ap (λ l. codes "subject " ++ l) (named_text-append name t line_end rest) in
     record {
       statement = SubjectOf x.here x.tree;
       same = λ i. SubjectOf (record { text = x.same_name i; place = first_place }) (x.same i);
       fits = x.fits;
       lexes = subst (λ l. Lexes l place (spell_statement (SubjectOf x.here x.tree)) rest) (sym parts)
-          (lexes-then (codes "subject" ++ (32 ∷ named_text name t second)) second rest place (fixed_word (codes "subject") ∷ spell_named x.here x.tree) (semicolon ∷ []) x.lexes (lexes-line_end rest x.lexes.after));
+          (lexes-then (codes "subject" ++ (32 ∷ named_text name t second)) second rest place
+          (fixed_word (codes "subject") ∷ spell_named x.here x.tree) (semicolon ∷ []) x.lexes
+          (lexes-line_end rest x.lexes.after));
     }
 
 -- ---- files
@@ -250,8 +318,10 @@ record LexesFile (bytes : List ℕ) (place : Place) (file : List Statement) : Ty
   fits : AreStatements all
   lexes : Lexes bytes place (spell_file all) []
 
-lexes-file : (file : List Statement) (place : Place) → StatementsHaveNames file → AreStatements file → LexesFile (statements_text file) place file
-lexes-file [] place h fits = record { all = []; same = refl; fits = tt; lexes = record { ts = []; after = place; match = tt; are = refl } }
+lexes-file : (file : List Statement) (place : Place) → StatementsHaveNames file → AreStatements file
+    → LexesFile (statements_text file) place file
+lexes-file [] place h fits =
+    record { all = []; same = refl; fits = tt; lexes = record { ts = []; after = place; match = tt; are = refl } }
 lexes-file (s ∷ file) place h fits =
     let x = lexes-statement s (statements_text file) place h.0 fits.0 in
     let a = lexes-file file x.lexes.after h.1 fits.1 in
@@ -259,13 +329,21 @@ lexes-file (s ∷ file) place h fits =
       all = x.statement ∷ a.all;
       same = λ i. x.same i ∷ a.same i;
       fits = (x.fits, a.fits);
-      lexes = lexes-then (statement_text s ++ statements_text file) (statements_text file) [] place (spell_statement x.statement) (spell_file a.all) x.lexes a.lexes;
+      lexes = lexes-then (statement_text s ++ statements_text file) (statements_text file) [] place
+          (spell_statement x.statement) (spell_file a.all) x.lexes a.lexes;
     }
 
 -- the text of statements is those statements, apart from their places
-pub printed-again : (file : List Statement) → StatementsHaveNames file → AreStatements file → (read : List Statement) × IsSyntaxOf (statements_text file) read × (map unplaced read ≡ map unplaced file)
+pub printed-again : (file : List Statement) → StatementsHaveNames file → AreStatements file
+    → (read : List Statement) × IsSyntaxOf (statements_text file) read × (map unplaced read ≡ map unplaced file)
 printed-again file names fits =
     let x = lexes-file file first_place names fits in
     let bytes = statements_text file in
-    let all : lexemes bytes first_place ≡ x.lexes.ts ++ end_at x.lexes.after ∷ [] = x.lexes.are ∙ ap (λ l. x.lexes.ts ++ l) (lexemes-step [] x.lexes.after) in
-    (x.all, reading-found bytes x.all (ap statements_read (ap (run [] Top) all ∙ file-again x.all [] x.lexes.ts (end_at x.lexes.after ∷ []) x.lexes.match x.fits)), x.same)
+    let all : lexemes bytes first_place ≡ x.lexes.ts ++ end_at x.lexes.after ∷ [] =
+    x.lexes.are ∙ ap (λ l. x.lexes.ts ++ l) (lexemes-step [] x.lexes.after) in (
+      x.all,
+      reading-found bytes x.all
+          (ap statements_read (ap (run [] Top) all
+          ∙ file-again x.all [] x.lexes.ts (end_at x.lexes.after ∷ []) x.lexes.match x.fits)),
+      x.same,
+    )

@@ -1,5 +1,6 @@
 -- What is printed of an expression is read again as that expression.
-use Rattle.std.proofs.Common.{◌≡◌, ◌≢◌, ℕ, zero, suc, ◌+◌, false, List, [], ◌∷◌, ◌++◌, length, map, drop, refl, sym, ap, subst, ◌∙◌, arith, append_assoc, append-nil}
+use Rattle.std.proofs.Common.{◌≡◌, ◌≢◌, ℕ, zero, suc, ◌+◌, false, List, [], ◌∷◌, ◌++◌, length, map, drop, refl, sym, ap}
+use Rattle.std.proofs.Common.{subst, ◌∙◌, arith, append_assoc, append-nil}
 use Rattle.std.specs.Prelude.{codes}
 use Rattle.std.specs.List.{flat_map, prefix_len}
 use Rattle.std.proofs.lemmas.List.{drop_at}
@@ -7,15 +8,23 @@ use Rattle.mp_syntax.specs.declared.place.Place.{Place}
 use Rattle.mp_syntax.specs.declared.token.Punct.{Punct}
 use Rattle.mp_syntax.specs.declared.token.Punct.TheVariants.{Open, Close, Comma, Colon, Semicolon, Dollar}
 use Rattle.mp_syntax.specs.Tokens as tokens
-use Rattle.mp_syntax.specs.Tokens.{Token, Word, Sign, Punctuation, Placed, byte_of, is_sign_byte, AreWordBytes, IsShort, Spells, IsWildcard, after_byte, first_place}
+use Rattle.mp_syntax.specs.Tokens.{Token, Word, Sign, Punctuation, Placed, byte_of, is_sign_byte, AreWordBytes, IsShort}
+use Rattle.mp_syntax.specs.Tokens.{Spells, IsWildcard, after_byte, first_place}
 use Rattle.mp_syntax.specs.Lexing.{kind_at, token_at, after_blanks, lexemes}
-use Rattle.mp_syntax.specs.Syntax.{Spot, Wildcard, Tree, Symbol, Apply, InfixOf, Wild, Optional, Variable, Trees, no_trees, more_trees, Expected, Said, Stands, Matches, AllMatch, spelled_word, spelled_wildcard, spelled_sign, another, fixed_word, comma, colon, closing, semicolon, spell_with_colon, spell, spell_first, spell_others, spell_operands, AreSeveral, AreDots, HasNoDefault, Fits, AreFit, IsName, IsInfixSign, HasParts, HaveParts, HasNames, HaveNames}
-use Rattle.mp_syntax.specs.Printed.{wildcard_text, text_with_colon, tree_text, first_text, others_text, line_end, unplaced_spot, unplaced_wildcard, unplaced_tree, unplaced_trees}
+use Rattle.mp_syntax.specs.Syntax.{Spot, Wildcard, Tree, Symbol, Apply, InfixOf, Wild, Optional, Variable, Trees}
+use Rattle.mp_syntax.specs.Syntax.{no_trees, more_trees, Expected, Said, Stands, Matches, AllMatch, spelled_word}
+use Rattle.mp_syntax.specs.Syntax.{spelled_wildcard, spelled_sign, another, fixed_word, comma, colon, closing}
+use Rattle.mp_syntax.specs.Syntax.{semicolon, spell_with_colon, spell, spell_first, spell_others, spell_operands}
+use Rattle.mp_syntax.specs.Syntax.{AreSeveral, AreDots, HasNoDefault, Fits, AreFit, IsName, IsInfixSign, HasParts}
+use Rattle.mp_syntax.specs.Syntax.{HaveParts, HasNames, HaveNames}
+use Rattle.mp_syntax.specs.Printed.{wildcard_text, text_with_colon, tree_text, first_text, others_text, line_end}
+use Rattle.mp_syntax.specs.Printed.{unplaced_spot, unplaced_wildcard, unplaced_tree, unplaced_trees}
 use Rattle.mp_syntax.proofs.Trees.{wild-fits, variable-fits, fits-optional, optional-fits}
 use Rattle.mp_syntax.proofs.Spelling.{spells-some, spells-token}
 use Rattle.mp_syntax.proofs.Fuel.{lexemes-step, lexemes-next}
 use Rattle.mp_syntax.proofs.TokensLaw.{starts-stay, plain-starts, spells-plain, behind-token}
-use Rattle.mp_syntax.proofs.Ends.{is_mark_byte, marks-wildcard, longest-marks, longest-signs, kind_at-ends, kind_at-punct, marks-word}
+use Rattle.mp_syntax.proofs.Ends.{is_mark_byte, marks-wildcard, longest-marks, longest-signs, kind_at-ends}
+use Rattle.mp_syntax.proofs.Ends.{kind_at-punct, marks-word}
 
 -- ---- the tokens at the front
 
@@ -26,14 +35,16 @@ pub record Lexes (bytes : List ℕ) (place : Place) (ms : List Expected) (rest :
   pub match : AllMatch ts ms
   pub are : lexemes bytes place ≡ ts ++ lexemes rest after
 
-match-append : (ts us : List Placed) (ms ns : List Expected) → AllMatch ts ms → AllMatch us ns → AllMatch (ts ++ us) (ms ++ ns)
+match-append : (ts us : List Placed) (ms ns : List Expected) → AllMatch ts ms → AllMatch us ns
+    → AllMatch (ts ++ us) (ms ++ ns)
 match-append [] us [] ns h k = k
 match-append [] us (m ∷ ms) ns h k = absurd h
 match-append (t ∷ ts) us [] ns h k = absurd h
 match-append (t ∷ ts) us (m ∷ ms) ns h k = (h.0, match-append ts us ms ns h.1 k)
 
 -- tokens behind tokens
-pub lexes-then : (a b c : List ℕ) (place : Place) (ms ns : List Expected) (r : Lexes a place ms b) → Lexes b r.after ns c → Lexes a place (ms ++ ns) c
+pub lexes-then : (a b c : List ℕ) (place : Place) (ms ns : List Expected) (r : Lexes a place ms b)
+    → Lexes b r.after ns c → Lexes a place (ms ++ ns) c
 lexes-then a b c place ms ns r s = record {
   ts = r.ts ++ s.ts;
   after = s.after;
@@ -42,55 +53,86 @@ lexes-then a b c place ms ns r s = record {
 }
 
 -- a token by its text
-lexes-kind : (text rest : List ℕ) (t : Token) (place : Place) (m : Expected) → Spells text t → kind_at (text ++ rest) ≡ (t, length text) → Matches (record { token = t; place = place }) m → Lexes (text ++ rest) place (m ∷ []) rest
+lexes-kind : (text rest : List ℕ) (t : Token) (place : Place) (m : Expected) → Spells text t
+    → kind_at (text ++ rest) ≡ (t, length text) → Matches (record { token = t; place = place }) m
+    → Lexes (text ++ rest) place (m ∷ []) rest
 lexes-kind text rest t place m h kind match =
-    let start : after_blanks false (text ++ rest) place ≡ (text ++ rest, place) = starts-stay (text ++ rest) place (plain-starts text rest (spells-some text t h) (spells-plain text t h)) in
+    let start : after_blanks false (text ++ rest) place ≡ (text ++ rest, place) =
+    starts-stay (text ++ rest) place (plain-starts text rest (spells-some text t h) (spells-plain text t h)) in
     let after : Place = record { line = place.line; column = place.column + length text } in
     let here : Placed = record { token = t; place = place } in
     let is : token_at (text ++ rest) place ≡ (here, (rest, after)) =
-    ap (λ (x : List ℕ × Place). let k = kind_at x.0 in (record { token = k.0; place = x.1 }, (drop k.1 x.0, record { line = x.1.line; column = x.1.column + k.1 }))) start
-    ∙ ap (λ (k : Token × ℕ). (record { token = k.0; place = place }, (drop k.1 (text ++ rest), record { line = place.line; column = place.column + k.1 }))) kind
+    ap (λ (x : List ℕ × Place). let k = kind_at x.0 in
+    (record { token = k.0; place = x.1 }, (drop k.1 x.0, record { line = x.1.line; column = x.1.column + k.1 })))
+    start
+    ∙ ap (λ (k : Token × ℕ). (
+      record { token = k.0; place = place },
+      (drop k.1 (text ++ rest), record { line = place.line; column = place.column + k.1 }),
+    )) kind
     ∙ ap (λ l. (here, (l, after))) (drop_at text rest (length text) refl) in
     record {
       ts = here ∷ [];
       after = after;
       match = (match, tt);
-      are = lexemes-next (text ++ rest) place here rest after is ∙ ap (λ l. here ∷ l) (behind-token t (lexemes rest after) (spells-token text t h));
+      are = lexemes-next (text ++ rest) place here rest after is
+          ∙ ap (λ l. here ∷ l) (behind-token t (lexemes rest after) (spells-token text t h));
     }
 
 -- a word that no letter, digit or underscore follows
-pub lexes-word : (w rest : List ℕ) (place : Place) (m : Expected) → IsName w → prefix_len is_mark_byte rest ≡ 0 → Matches (record { token = Word w; place = place }) m → Lexes (w ++ rest) place (m ∷ []) rest
+pub lexes-word : (w rest : List ℕ) (place : Place) (m : Expected) → IsName w → prefix_len is_mark_byte rest ≡ 0
+    → Matches (record { token = Word w; place = place }) m → Lexes (w ++ rest) place (m ∷ []) rest
 lexes-word w rest place m h ends match =
     let spelled : Spells w (Word w) = (refl, h.is_word, h.is_short) in
-    lexes-kind w rest (Word w) place m spelled (kind_at-ends w rest (Word w) spelled (longest-marks w rest (spells-some w (Word w) spelled) (marks-word w h.is_word.bytes) ends)) match
+    lexes-kind w rest (Word w) place m spelled
+    (kind_at-ends w rest (Word w) spelled
+    (longest-marks w rest (spells-some w (Word w) spelled) (marks-word w h.is_word.bytes) ends)) match
 
 -- a wildcard that no letter, digit or underscore follows
-lexes-wildcard : (text name : List ℕ) (n : ℕ) (kind rest : List ℕ) (place : Place) (m : Expected) → Spells text (tokens.Wildcard name n kind) → prefix_len is_mark_byte rest ≡ 0
-    → Matches (record { token = tokens.Wildcard name n kind; place = place }) m → Lexes (text ++ rest) place (m ∷ []) rest
+lexes-wildcard : (text name : List ℕ) (n : ℕ) (kind rest : List ℕ) (place : Place) (m : Expected)
+    → Spells text (tokens.Wildcard name n kind) → prefix_len is_mark_byte rest ≡ 0
+    → Matches (record { token = tokens.Wildcard name n kind; place = place }) m
+    → Lexes (text ++ rest) place (m ∷ []) rest
 lexes-wildcard text name n kind rest place m h ends match =
     let t = tokens.Wildcard name n kind in
-    lexes-kind text rest t place m h (kind_at-ends text rest t h (longest-marks text rest (spells-some text t h) (marks-wildcard text name n kind h.0) ends)) match
+    lexes-kind text rest t place m h
+    (kind_at-ends text rest t h
+    (longest-marks text rest (spells-some text t h) (marks-wildcard text name n kind h.0) ends)) match
 
 -- a sign that no byte of signs follows
-pub lexes-sign : (s rest : List ℕ) (place : Place) (m : Expected) → IsInfixSign s → prefix_len is_sign_byte rest ≡ 0 → Matches (record { token = Sign s; place = place }) m → Lexes (s ++ rest) place (m ∷ []) rest
+pub lexes-sign : (s rest : List ℕ) (place : Place) (m : Expected) → IsInfixSign s → prefix_len is_sign_byte rest ≡ 0
+    → Matches (record { token = Sign s; place = place }) m → Lexes (s ++ rest) place (m ∷ []) rest
 lexes-sign s rest place m h ends match =
     let spelled : Spells s (Sign s) = (refl, h.is_sign, h.no_arrow) in
-    lexes-kind s rest (Sign s) place m spelled (kind_at-ends s rest (Sign s) spelled (longest-signs s rest (spells-some s (Sign s) spelled) h.is_sign.bytes ends)) match
+    lexes-kind s rest (Sign s) place m spelled
+    (kind_at-ends s rest (Sign s) spelled
+    (longest-signs s rest (spells-some s (Sign s) spelled) h.is_sign.bytes ends)) match
 
 -- a punctuation character
-pub lexes-punct : (p : Punct) (rest : List ℕ) (place : Place) (m : Expected) → Matches (record { token = Punctuation p; place = place }) m → Lexes (byte_of p ∷ rest) place (m ∷ []) rest
-lexes-punct p rest place m match = lexes-kind (byte_of p ∷ []) rest (Punctuation p) place m refl (kind_at-punct p rest) match
+pub lexes-punct : (p : Punct) (rest : List ℕ) (place : Place) (m : Expected)
+    → Matches (record { token = Punctuation p; place = place }) m → Lexes (byte_of p ∷ rest) place (m ∷ []) rest
+lexes-punct p rest place m match = lexes-kind (byte_of p ∷ []) rest (Punctuation p) place m refl
+    (kind_at-punct p rest) match
 
 -- a blank
 pub lexes-blank : (rest : List ℕ) (place : Place) → Lexes (32 ∷ rest) place [] rest
-lexes-blank rest place = record { ts = []; after = after_byte place 32; match = tt; are = lexemes-step (32 ∷ rest) place ∙ sym (lexemes-step rest (after_byte place 32)) }
+lexes-blank rest place = record {
+  ts = [];
+  after = after_byte place 32;
+  match = tt;
+  are = lexemes-step (32 ∷ rest) place ∙ sym (lexemes-step rest (after_byte place 32));
+}
 
 -- a semicolon and the end of the line
 pub lexes-line_end : (rest : List ℕ) (place : Place) → Lexes (line_end ++ rest) place (semicolon ∷ []) rest
 lexes-line_end rest place =
     let r = lexes-punct Semicolon (10 ∷ rest) place semicolon refl in
     lexes-then (59 ∷ 10 ∷ rest) (10 ∷ rest) rest place (semicolon ∷ []) [] r
-    (record { ts = []; after = after_byte r.after 10; match = tt; are = lexemes-step (10 ∷ rest) r.after ∙ sym (lexemes-step rest (after_byte r.after 10)) })
+    (record {
+      ts = [];
+      after = after_byte r.after 10;
+      match = tt;
+      are = lexemes-step (10 ∷ rest) r.after ∙ sym (lexemes-step rest (after_byte r.after 10));
+    })
 
 -- ---- expressions
 
@@ -102,7 +144,8 @@ pub record LexesTree (room : ℕ) (bytes rest : List ℕ) (place : Place) (t : T
   pub lexes : Lexes bytes place (spell tree) rest
 
 -- the same of expressions by a spelling of them
-record LexesTrees (spelling : Trees → List Expected) (room : ℕ) (bytes rest : List ℕ) (place : Place) (ts : Trees) : Type 0 where
+record LexesTrees (spelling : Trees → List Expected) (room : ℕ) (bytes rest : List ℕ) (place : Place)
+    (ts : Trees) : Type 0 where
   all : Trees
   same : unplaced_trees all ≡ unplaced_trees ts
   fits : AreFit room all
@@ -133,22 +176,28 @@ separates-comma = record {
 }
 
 -- a sign between blanks
-separates-sign : (sign : Spot) → IsInfixSign sign.text → Separates (another sign) (codes " " ++ (sign.text ++ codes " "))
+separates-sign : (sign : Spot) → IsInfixSign sign.text
+    → Separates (another sign) (codes " " ++ (sign.text ++ codes " "))
 separates-sign sign h = record {
   lexes = λ rest place.
       let r = lexes-blank (sign.text ++ (32 ∷ rest)) place in
       let s = lexes-sign sign.text (32 ∷ rest) r.after (another sign) h refl refl in
-      let whole = lexes-then (32 ∷ (sign.text ++ (32 ∷ rest))) (sign.text ++ (32 ∷ rest)) rest place [] (another sign ∷ []) r
-      (lexes-then (sign.text ++ (32 ∷ rest)) (32 ∷ rest) rest r.after (another sign ∷ []) [] s (lexes-blank rest s.after)) in
+      let whole = lexes-then (32 ∷ (sign.text ++ (32 ∷ rest))) (sign.text ++ (32 ∷ rest)) rest place []
+      (another sign ∷ []) r
+      (lexes-then (sign.text ++ (32 ∷ rest)) (32 ∷ rest) rest r.after (another sign ∷ []) [] s
+      (lexes-blank rest s.after)) in
       subst (λ l. Lexes (32 ∷ l) place (another sign ∷ []) rest) (sym (append_assoc sign.text (32 ∷ []) rest)) whole;
   ends = λ rest. refl;
 }
 
 -- the text behind an expression ends a word
-others-end : (between : Expected) (separator : List ℕ) → Separates between separator → (ts : Trees) (rest : List ℕ) → prefix_len is_mark_byte (others_text separator ts ++ rest) ≡ 0
+others-end : (between : Expected) (separator : List ℕ) → Separates between separator → (ts : Trees) (rest : List ℕ)
+    → prefix_len is_mark_byte (others_text separator ts ++ rest) ≡ 0
 others-end between separator s no_trees rest = refl
 others-end between separator s (more_trees t ts) rest =
-    subst (λ l. prefix_len is_mark_byte l ≡ 0) (sym (append_assoc separator (tree_text t ++ others_text separator ts) rest)) (s.ends ((tree_text t ++ others_text separator ts) ++ rest))
+    subst (λ l. prefix_len is_mark_byte l ≡ 0)
+    (sym (append_assoc separator (tree_text t ++ others_text separator ts) rest))
+    (s.ends ((tree_text t ++ others_text separator ts) ++ rest))
 
 -- a word that may be missing has letters and digits alone, and at most 64 of them
 part-bytes : (w : List ℕ) → (w ≢ [] → IsName w) → AreWordBytes w × IsShort w
@@ -178,7 +227,8 @@ symbol-fits : (room : ℕ) (w : Spot) → Fits room (Symbol w)
 symbol-fits zero w = tt
 symbol-fits (suc room) w = tt
 
--- the bytes begin with these wildcards, each with a colon behind it, which then stand at their places, and rest lies behind them
+-- the bytes begin with these wildcards, each with a colon behind it, which then stand at their places, and rest lies
+-- behind them
 record LexesChain (bytes rest : List ℕ) (place : Place) (w : Wildcard) (others : List Wildcard) : Type 0 where
   first : Wildcard
   all : List Wildcard
@@ -188,14 +238,18 @@ record LexesChain (bytes rest : List ℕ) (place : Place) (w : Wildcard) (others
   lexes : Lexes bytes place (flat_map spell_with_colon (first ∷ all)) rest
 
 -- a wildcard and a colon
-lexes-with_colon : (w : Wildcard) (rest : List ℕ) (place : Place) → HasParts w → Lexes (text_with_colon w ++ rest) place (spell_with_colon (placed_wildcard w place)) rest
+lexes-with_colon : (w : Wildcard) (rest : List ℕ) (place : Place) → HasParts w
+    → Lexes (text_with_colon w ++ rest) place (spell_with_colon (placed_wildcard w place)) rest
 lexes-with_colon w rest place h =
     let here = placed_wildcard w place in
-    let r = lexes-wildcard (wildcard_text w) w.name w.marks w.kind (58 ∷ rest) place (spelled_wildcard here) (wildcard-spells w h) refl (refl, refl) in
+    let r = lexes-wildcard (wildcard_text w) w.name w.marks w.kind (58 ∷ rest) place (spelled_wildcard here)
+    (wildcard-spells w h) refl (refl, refl) in
     subst (λ l. Lexes l place (spell_with_colon here) rest) (sym (append_assoc (wildcard_text w) (58 ∷ []) rest))
-    (lexes-then (wildcard_text w ++ (58 ∷ rest)) (58 ∷ rest) rest place (spelled_wildcard here ∷ []) (colon ∷ []) r (lexes-punct Colon rest r.after colon refl))
+    (lexes-then (wildcard_text w ++ (58 ∷ rest)) (58 ∷ rest) rest place (spelled_wildcard here ∷ []) (colon ∷ []) r
+    (lexes-punct Colon rest r.after colon refl))
 
-lexes-chain : (w : Wildcard) (others : List Wildcard) (rest : List ℕ) (place : Place) → HaveParts (w ∷ others) → AreDots (w ∷ others) → LexesChain (flat_map text_with_colon (w ∷ others) ++ rest) rest place w others
+lexes-chain : (w : Wildcard) (others : List Wildcard) (rest : List ℕ) (place : Place) → HaveParts (w ∷ others)
+    → AreDots (w ∷ others) → LexesChain (flat_map text_with_colon (w ∷ others) ++ rest) rest place w others
 lexes-chain w [] rest place h dots =
     let here = placed_wildcard w place in
     record {
@@ -204,7 +258,8 @@ lexes-chain w [] rest place h dots =
       same_first = refl;
       same = refl;
       dots = (record { one_mark = dots.0.one_mark; no_kind = dots.0.no_kind }, tt);
-      lexes = subst (λ l. Lexes l place (spell_with_colon here) rest) (ap (λ l. l ++ rest) (sym (append-nil (text_with_colon w)))) (lexes-with_colon w rest place h.0);
+      lexes = subst (λ l. Lexes l place (spell_with_colon here) rest)
+          (ap (λ l. l ++ rest) (sym (append-nil (text_with_colon w)))) (lexes-with_colon w rest place h.0);
     }
 lexes-chain w (v ∷ others) rest place h dots =
     let here = placed_wildcard w place in
@@ -217,8 +272,10 @@ lexes-chain w (v ∷ others) rest place h dots =
       same_first = refl;
       same = λ i. a.same_first i ∷ a.same i;
       dots = (record { one_mark = dots.0.one_mark; no_kind = dots.0.no_kind }, a.dots);
-      lexes = subst (λ l. Lexes l place (flat_map spell_with_colon (here ∷ a.first ∷ a.all)) rest) (sym (append_assoc (text_with_colon w) (flat_map text_with_colon (v ∷ others)) rest))
-          (lexes-then (text_with_colon w ++ behind) behind rest place (spell_with_colon here) (flat_map spell_with_colon (a.first ∷ a.all)) r a.lexes);
+      lexes = subst (λ l. Lexes l place (flat_map spell_with_colon (here ∷ a.first ∷ a.all)) rest)
+          (sym (append_assoc (text_with_colon w) (flat_map text_with_colon (v ∷ others)) rest))
+          (lexes-then (text_with_colon w ++ behind) behind rest place (spell_with_colon here)
+          (flat_map spell_with_colon (a.first ∷ a.all)) r a.lexes);
     }
 
 -- whether an expression has a default is told apart from its places
@@ -242,7 +299,8 @@ HasNoDefault-unplaced t u e h = without t (subst HasNoDefault (sym e) (with_plac
     without (Variable w) h = tt
 
 mutual
-  pub lexes-tree : (t : Tree) (room : ℕ) (rest : List ℕ) (place : Place) → HasNames t → Fits room t → prefix_len is_mark_byte rest ≡ 0 → LexesTree room (tree_text t ++ rest) rest place t
+  pub lexes-tree : (t : Tree) (room : ℕ) (rest : List ℕ) (place : Place) → HasNames t → Fits room t
+      → prefix_len is_mark_byte rest ≡ 0 → LexesTree room (tree_text t ++ rest) rest place t
   lexes-tree (Symbol w) room rest place h fits ends = record {
     tree = Symbol (record { text = w.text; place = place });
     same = refl;
@@ -255,7 +313,8 @@ mutual
         tree = Wild here;
         same = refl;
         fits = wild-fits room here;
-        lexes = lexes-wildcard (wildcard_text w) w.name w.marks w.kind rest place (spelled_wildcard here) (wildcard-spells w h) ends (refl, refl);
+        lexes = lexes-wildcard (wildcard_text w) w.name w.marks w.kind rest place (spelled_wildcard here)
+            (wildcard-spells w h) ends (refl, refl);
       }
   lexes-tree (Optional w others default) room rest place h fits ends =
       let f = fits-optional room w others default fits in
@@ -266,8 +325,10 @@ mutual
         tree = Optional a.first a.all r.tree;
         same = λ i. Optional (a.same_first i) (a.same i) (r.same i);
         fits = optional-fits room a.first a.all r.tree a.dots (HasNoDefault-unplaced r.tree default r.same f.1) r.fits;
-        lexes = subst (λ l. Lexes l place (spell (Optional a.first a.all r.tree)) rest) (sym (append_assoc (flat_map text_with_colon (w ∷ others)) (tree_text default) rest))
-            (lexes-then (flat_map text_with_colon (w ∷ others) ++ behind) behind rest place (flat_map spell_with_colon (a.first ∷ a.all)) (spell r.tree) a.lexes r.lexes);
+        lexes = subst (λ l. Lexes l place (spell (Optional a.first a.all r.tree)) rest)
+            (sym (append_assoc (flat_map text_with_colon (w ∷ others)) (tree_text default) rest))
+            (lexes-then (flat_map text_with_colon (w ∷ others) ++ behind) behind rest place
+            (flat_map spell_with_colon (a.first ∷ a.all)) (spell r.tree) a.lexes r.lexes);
       }
   lexes-tree (Apply f args) zero rest place h fits ends = absurd fits
   lexes-tree (Apply f args) (suc room) rest place h fits ends =
@@ -277,13 +338,15 @@ mutual
       let r = lexes-word f.text (40 ∷ behind) place (spelled_word name) h.0 refl (refl, refl) in
       let s = lexes-punct Open behind r.after opening refl in
       let a = lexes-first args comma (codes ", ") separates-comma room rest s.after h.1 fits in
-      let whole = lexes-then (f.text ++ (40 ∷ behind)) (40 ∷ behind) rest place (spelled_word name ∷ []) (opening ∷ spell_first comma a.all) r
+      let whole = lexes-then (f.text ++ (40 ∷ behind)) (40 ∷ behind) rest place (spelled_word name ∷ [])
+      (opening ∷ spell_first comma a.all) r
       (lexes-then (40 ∷ behind) behind rest r.after (opening ∷ []) (spell_first comma a.all) s a.lexes) in
       record {
         tree = Apply name a.all;
         same = ap (Apply (unplaced_spot f)) a.same;
         fits = a.fits;
-        lexes = subst (λ l. Lexes l place (spell (Apply name a.all)) rest) (sym (append_assoc f.text (codes "(" ++ first_text (codes ", ") args) rest)) whole;
+        lexes = subst (λ l. Lexes l place (spell (Apply name a.all)) rest)
+            (sym (append_assoc f.text (codes "(" ++ first_text (codes ", ") args) rest)) whole;
       }
   lexes-tree (InfixOf opened sign operands) zero rest place h fits ends = absurd fits
   lexes-tree (InfixOf opened sign operands) (suc room) rest place h fits ends =
@@ -305,12 +368,15 @@ mutual
         tree = Variable (record { text = w.text; place = place });
         same = refl;
         fits = variable-fits room (record { text = w.text; place = place });
-        lexes = lexes-then (36 ∷ (w.text ++ rest)) (w.text ++ rest) rest place (dollar ∷ []) (fixed_word w.text ∷ []) r (lexes-word w.text rest r.after (fixed_word w.text) h ends refl);
+        lexes = lexes-then (36 ∷ (w.text ++ rest)) (w.text ++ rest) rest place (dollar ∷ []) (fixed_word w.text ∷ []) r
+            (lexes-word w.text rest r.after (fixed_word w.text) h ends refl);
       }
 
-  lexes-first : (ts : Trees) (between : Expected) (separator : List ℕ) → Separates between separator → (room : ℕ) (rest : List ℕ) (place : Place) → HaveNames ts → AreFit room ts
+  lexes-first : (ts : Trees) (between : Expected) (separator : List ℕ) → Separates between separator
+      → (room : ℕ) (rest : List ℕ) (place : Place) → HaveNames ts → AreFit room ts
       → LexesTrees (spell_first between) room (first_text separator ts ++ rest) rest place ts
-  lexes-first no_trees between separator s room rest place h fits = record { all = no_trees; same = refl; fits = tt; lexes = lexes-punct Close rest place closing refl }
+  lexes-first no_trees between separator s room rest place h fits =
+      record { all = no_trees; same = refl; fits = tt; lexes = lexes-punct Close rest place closing refl }
   lexes-first (more_trees t ts) between separator s room rest place h fits =
       let behind = others_text separator ts ++ rest in
       let r = lexes-tree t room behind place h.0 fits.0 (others-end between separator s ts rest) in
@@ -319,29 +385,38 @@ mutual
         all = more_trees r.tree a.all;
         same = λ i. more_trees (r.same i) (a.same i);
         fits = (r.fits, a.fits);
-        lexes = subst (λ l. Lexes l place (spell r.tree ++ spell_others between a.all) rest) (sym (append_assoc (tree_text t) (others_text separator ts) rest))
-            (lexes-then (tree_text t ++ behind) behind rest place (spell r.tree) (spell_others between a.all) r.lexes a.lexes);
+        lexes = subst (λ l. Lexes l place (spell r.tree ++ spell_others between a.all) rest)
+            (sym (append_assoc (tree_text t) (others_text separator ts) rest))
+            (lexes-then (tree_text t ++ behind) behind rest place (spell r.tree)
+            (spell_others between a.all) r.lexes a.lexes);
       }
 
-  lexes-others : (ts : Trees) (between : Expected) (separator : List ℕ) → Separates between separator → (room : ℕ) (rest : List ℕ) (place : Place) → HaveNames ts → AreFit room ts
+  lexes-others : (ts : Trees) (between : Expected) (separator : List ℕ) → Separates between separator
+      → (room : ℕ) (rest : List ℕ) (place : Place) → HaveNames ts → AreFit room ts
       → LexesTrees (spell_others between) room (others_text separator ts ++ rest) rest place ts
-  lexes-others no_trees between separator s room rest place h fits = record { all = no_trees; same = refl; fits = tt; lexes = lexes-punct Close rest place closing refl }
+  lexes-others no_trees between separator s room rest place h fits =
+      record { all = no_trees; same = refl; fits = tt; lexes = lexes-punct Close rest place closing refl }
   lexes-others (more_trees t ts) between separator s room rest place h fits =
       let behind = others_text separator ts ++ rest in
       let q = s.lexes (tree_text t ++ behind) place in
       let r = lexes-tree t room behind q.after h.0 fits.0 (others-end between separator s ts rest) in
       let a = lexes-others ts between separator s room rest r.lexes.after h.1 fits.1 in
-      let parts : separator ++ (tree_text t ++ others_text separator ts) ++ rest ≡ separator ++ (tree_text t ++ behind) = append_assoc separator (tree_text t ++ others_text separator ts) rest ∙ ap (λ l. separator ++ l) (append_assoc (tree_text t) (others_text separator ts) rest) in
+      let parts : separator ++ (tree_text t ++ others_text separator ts) ++ rest
+      ≡ separator ++ (tree_text t ++ behind) = append_assoc separator (tree_text t ++ others_text separator ts) rest
+      ∙ ap (λ l. separator ++ l) (append_assoc (tree_text t) (others_text separator ts) rest) in
       record {
         all = more_trees r.tree a.all;
         same = λ i. more_trees (r.same i) (a.same i);
         fits = (r.fits, a.fits);
         lexes = subst (λ l. Lexes l place (between ∷ spell r.tree ++ spell_others between a.all) rest) (sym parts)
-            (lexes-then (separator ++ (tree_text t ++ behind)) (tree_text t ++ behind) rest place (between ∷ []) (spell r.tree ++ spell_others between a.all) q
-            (lexes-then (tree_text t ++ behind) behind rest q.after (spell r.tree) (spell_others between a.all) r.lexes a.lexes));
+            (lexes-then (separator ++ (tree_text t ++ behind)) (tree_text t ++ behind) rest place (between ∷ [])
+            (spell r.tree ++ spell_others between a.all) q
+            (lexes-then (tree_text t ++ behind) behind rest q.after (spell r.tree)
+            (spell_others between a.all) r.lexes a.lexes));
       }
 
-  lexes-operands : (ts : Trees) (sign : Spot) (room : ℕ) (rest : List ℕ) (place : Place) → IsInfixSign sign.text → HaveNames ts → AreSeveral ts → AreFit room ts
+  lexes-operands : (ts : Trees) (sign : Spot) (room : ℕ) (rest : List ℕ) (place : Place) → IsInfixSign sign.text
+      → HaveNames ts → AreSeveral ts → AreFit room ts
       → LexesOperands sign room (first_text (codes " " ++ (sign.text ++ codes " ")) ts ++ rest) rest place ts
   lexes-operands no_trees sign room rest place h names several fits = absurd several
   lexes-operands (more_trees t no_trees) sign room rest place h names several fits = absurd several
@@ -357,10 +432,12 @@ mutual
       let s = lexes-sign sign.text (32 ∷ third) b.after (spelled_sign here) h refl (refl, refl) in
       let c = lexes-blank third s.after in
       let between = another here in
-      let x = lexes-tree u room last c.after names.1.0 fits.1.0 (others-end between separator (separates-sign here h) us rest) in
+      let x = lexes-tree u room last c.after names.1.0 fits.1.0
+      (others-end between separator (separates-sign here h) us rest) in
       let a = lexes-others us between separator (separates-sign here h) room rest x.lexes.after names.1.1 fits.1.1 in
       let others = spell x.tree ++ spell_others between a.all in
-      let parts : (tree_text t ++ (separator ++ (tree_text u ++ others_text separator us))) ++ rest ≡ first = simp append_assoc in
+      let parts : (tree_text t ++ (separator ++ (tree_text u ++ others_text separator us))) ++ rest ≡ first =
+      simp append_assoc in
       record {
         all = more_trees r.tree (more_trees x.tree a.all);
         same = λ i. more_trees (r.same i) (more_trees (x.same i) (a.same i));
@@ -379,13 +456,17 @@ mutual
 -- ---- words between blanks
 
 -- a word that a statement has by its form, and a blank
-pub lexes-keyword : (w rest : List ℕ) (place : Place) → IsName w → Lexes (w ++ (32 ∷ rest)) place (fixed_word w ∷ []) rest
+pub lexes-keyword : (w rest : List ℕ) (place : Place) → IsName w
+    → Lexes (w ++ (32 ∷ rest)) place (fixed_word w ∷ []) rest
 lexes-keyword w rest place h =
     let r = lexes-word w (32 ∷ rest) place (fixed_word w) h refl refl in
     lexes-then (w ++ (32 ∷ rest)) (32 ∷ rest) rest place (fixed_word w ∷ []) [] r (lexes-blank rest r.after)
 
 -- a word behind a blank, and what follows
-pub lexes-behind : (w behind : List ℕ) (place : Place) (m : Expected) → IsName w → prefix_len is_mark_byte behind ≡ 0 → Matches (record { token = Word w; place = after_byte place 32 }) m → Lexes (32 ∷ (w ++ behind)) place (m ∷ []) behind
+pub lexes-behind : (w behind : List ℕ) (place : Place) (m : Expected) → IsName w → prefix_len is_mark_byte behind ≡ 0
+    → Matches (record { token = Word w; place = after_byte place 32 }) m
+    → Lexes (32 ∷ (w ++ behind)) place (m ∷ []) behind
 unfolding lexes-blank
 lexes-behind w behind place m h ends match =
-    lexes-then (32 ∷ (w ++ behind)) (w ++ behind) behind place [] (m ∷ []) (lexes-blank (w ++ behind) place) (lexes-word w behind (after_byte place 32) m h ends match)
+    lexes-then (32 ∷ (w ++ behind)) (w ++ behind) behind place [] (m ∷ []) (lexes-blank (w ++ behind) place)
+    (lexes-word w behind (after_byte place 32) m h ends match)

@@ -1,5 +1,7 @@
--- Trees and lists of trees, the trees of applications and infix expressions, and wildcards, which fit at any number of brackets.
-use Rattle.std.proofs.Common.{◌≡◌, ℕ, zero, suc, Bool, true, List, [], ◌∷◌, ◌++◌, length, map, Vec, Global, refl, ap, ◌∙◌}
+-- Trees and lists of trees, the trees of applications and infix expressions, and wildcards, which fit at any number of
+-- brackets.
+use Rattle.std.proofs.Common.{◌≡◌, ℕ, zero, suc, Bool, true, List, [], ◌∷◌, ◌++◌, length, map, Vec, Global, refl, ap}
+use Rattle.std.proofs.Common.{◌∙◌}
 use Rattle.std.specs.Prelude.{◌&&◌, ◌==◌}
 use Rattle.std.proofs.lemmas.Bool.{and_parts, eqb-true}
 use mathlib.Core.Former.{Count}
@@ -8,9 +10,12 @@ use Rattle.mp_syntax.specs.declared.place.Place.{Place}
 use Rattle.mp_syntax.specs.declared.word.Word as code_word
 use Rattle.mp_syntax.specs.declared.word.InfixSign as code_sign
 use Rattle.mp_syntax.specs.declared.tree.Expr as code
-use Rattle.mp_syntax.specs.declared.tree.Expr.{Expr, Apply', Infix, Infix', Row_of-Expr, end_of-Expr, more_of-Expr, items-the_row-Expr, items_hidden-the_row-Expr-0}
+use Rattle.mp_syntax.specs.declared.tree.Expr.{Expr, Apply', Infix, Infix', Row_of-Expr, end_of-Expr, more_of-Expr}
+use Rattle.mp_syntax.specs.declared.tree.Expr.{items-the_row-Expr, items_hidden-the_row-Expr-0}
 use Rattle.mp_syntax.specs.Syntax as syntax
-use Rattle.mp_syntax.specs.Syntax.{Spot, Wildcard, Tree, Symbol, Apply, InfixOf, Wild, Optional, Variable, Trees, trees, tree_list, no_trees, more_trees, IsDot, AreDots, HasNoDefault, Fits, spell, spell_with_colon, Atom, AtomOf, FitsAtom, FitsLiteral}
+use Rattle.mp_syntax.specs.Syntax.{Spot, Wildcard, Tree, Symbol, Apply, InfixOf, Wild, Optional, Variable, Trees, trees}
+use Rattle.mp_syntax.specs.Syntax.{tree_list, no_trees, more_trees, IsDot, AreDots, HasNoDefault, Fits, spell}
+use Rattle.mp_syntax.specs.Syntax.{spell_with_colon, Atom, AtomOf, FitsAtom, FitsLiteral}
 use Rattle.mp_syntax.specs.Machine.{is_dot, with_default}
 use Rattle.mp_syntax.specs.View.{spot_of, spot_of_sign, expr_tree, row_trees}
 
@@ -34,16 +39,20 @@ row_trees-row n end_of-Expr = refl
 row_trees-row n (more_of-Expr e row) = ap (more_trees (expr_tree e)) (row_trees-row _ row)
 
 -- an application is its name and the trees of its arguments
-pub expr_tree-Apply : (f : code_word.Word) (v : Vec Expr Global) → expr_tree (code.Apply f v) ≡ syntax.Apply (spot_of f) (trees (map expr_tree v.items))
+pub expr_tree-Apply : (f : code_word.Word) (v : Vec Expr Global)
+    → expr_tree (code.Apply f v) ≡ syntax.Apply (spot_of f) (trees (map expr_tree v.items))
 expr_tree-Apply f v =
     let row = row_of (code.Apply f v) in
-    ap (syntax.Apply (spot_of f)) (row_trees-row row.0 row.1 ∙ ap (λ l. trees (map expr_tree l)) (items_hidden-the_row-Expr-0 v))
+    ap (syntax.Apply (spot_of f)) (row_trees-row row.0 row.1
+    ∙ ap (λ l. trees (map expr_tree l)) (items_hidden-the_row-Expr-0 v))
 
 -- an infix expression is its bracket, its sign and the trees of its operands
-pub expr_tree-Infix : (place : Place) (sign : code_sign.InfixSign) (v : Vec Expr Global) → expr_tree (Infix place sign v) ≡ syntax.InfixOf place (spot_of_sign sign) (trees (map expr_tree v.items))
+pub expr_tree-Infix : (place : Place) (sign : code_sign.InfixSign) (v : Vec Expr Global)
+    → expr_tree (Infix place sign v) ≡ syntax.InfixOf place (spot_of_sign sign) (trees (map expr_tree v.items))
 expr_tree-Infix place sign v =
     let row = row_of (Infix place sign v) in
-    ap (syntax.InfixOf place (spot_of_sign sign)) (row_trees-row row.0 row.1 ∙ ap (λ l. trees (map expr_tree l)) (items_hidden-the_row-Expr-0 v))
+    ap (syntax.InfixOf place (spot_of_sign sign))
+    (row_trees-row row.0 row.1 ∙ ap (λ l. trees (map expr_tree l)) (items_hidden-the_row-Expr-0 v))
 
 -- a wildcard with one underscore and no kind
 pub is_dot-true : (w : Wildcard) → is_dot w ≡ true → IsDot w
@@ -65,11 +74,13 @@ variable-fits zero w = tt
 variable-fits (suc room) w = tt
 
 -- what a wildcard with a default has to be to fit
-pub fits-optional : (room : ℕ) (w : Wildcard) (others : List Wildcard) (default : Tree) → Fits room (Optional w others default) → AreDots (w ∷ others) × HasNoDefault default × Fits room default
+pub fits-optional : (room : ℕ) (w : Wildcard) (others : List Wildcard) (default : Tree)
+    → Fits room (Optional w others default) → AreDots (w ∷ others) × HasNoDefault default × Fits room default
 fits-optional zero w others default h = h
 fits-optional (suc room) w others default h = h
 
-pub optional-fits : (room : ℕ) (w : Wildcard) (others : List Wildcard) (default : Tree) → AreDots (w ∷ others) → HasNoDefault default → Fits room default → Fits room (Optional w others default)
+pub optional-fits : (room : ℕ) (w : Wildcard) (others : List Wildcard) (default : Tree) → AreDots (w ∷ others)
+    → HasNoDefault default → Fits room default → Fits room (Optional w others default)
 optional-fits zero w others default h k f = (h, k, f)
 optional-fits (suc room) w others default h k f = (h, k, f)
 
@@ -77,7 +88,8 @@ optional-fits (suc room) w others default h k f = (h, k, f)
 pub with_default-fits : (room : ℕ) (w : Wildcard) (e : Tree) → IsDot w → Fits room e → Fits room (with_default w e)
 with_default-fits room w (Symbol s) h fits = optional-fits room w [] (Symbol s) (h, tt) tt fits
 with_default-fits room w (Apply f args) h fits = optional-fits room w [] (Apply f args) (h, tt) tt fits
-with_default-fits room w (InfixOf place sign operands) h fits = optional-fits room w [] (InfixOf place sign operands) (h, tt) tt fits
+with_default-fits room w (InfixOf place sign operands) h fits =
+    optional-fits room w [] (InfixOf place sign operands) (h, tt) tt fits
 with_default-fits room w (Wild v) h fits = optional-fits room w [] (Wild v) (h, tt) tt fits
 with_default-fits room w (Optional v others default) h fits =
     let r = fits-optional room v others default fits in

@@ -13,9 +13,14 @@ use Rattle.mp_syntax.specs.declared.condition_tree.Literal as code_literal
 use Rattle.mp_syntax.specs.declared.condition_tree.Alternative as code_alternative
 use Rattle.mp_syntax.specs.declared.condition_tree.Condition as code
 use Rattle.mp_syntax.specs.Tokens.{Token, Placed}
-use Rattle.mp_syntax.specs.Syntax.{Spot, Tree, Amount, Measured, Bracketed, Literal, Literals, literals, condition, Statement}
+use Rattle.mp_syntax.specs.Syntax.{Spot, Tree, Amount, Measured, Bracketed, Literal, Literals, literals, condition}
+use Rattle.mp_syntax.specs.Syntax.{Statement}
 use Rattle.mp_syntax.specs.View.{expr_tree, amount_tree, atom_tree, literal_tree, alternative_tree, condition_tree}
-use Rattle.mp_syntax.specs.Machine.{State, OfRule, heading, Within, InStatement, InCondition, Frame, Operand, Level, no_level, all_alternatives, Site, site, Side, Lead, OfMeasure, OfRelation, OfProperty, with_atom, with_amount, BeforeLiteral, BeforeBody, BeforeOperand, AfterAmount, AfterSense, AfterLiteral, AfterExpr, SingleCondition, Parsed, parsed, is_word, on_word, step, step_amount, run}
+use Rattle.mp_syntax.specs.Machine.{State, OfRule, heading, Within, InStatement, InCondition, Frame, Operand, Level}
+use Rattle.mp_syntax.specs.Machine.{no_level, all_alternatives, Site, site, Side, Lead, OfMeasure, OfRelation}
+use Rattle.mp_syntax.specs.Machine.{OfProperty, with_atom, with_amount, BeforeLiteral, BeforeBody, BeforeOperand}
+use Rattle.mp_syntax.specs.Machine.{AfterAmount, AfterSense, AfterLiteral, AfterExpr, SingleCondition, Parsed, parsed}
+use Rattle.mp_syntax.specs.Machine.{is_word, on_word, step, step_amount, run}
 use Rattle.mp_syntax.specs.Parsing.{Fails, Passes, HasRoom, Gives}
 
 -- the token is no `and`
@@ -36,7 +41,8 @@ abbrev pub ConditionGives : ℕ → Result code.Condition SyntaxError → List P
 ConditionGives room (Ok c) old new = (v : Level) × (l : Literal) × (condition (all_alternatives v l) ≡ condition_tree c)
     × ((done : List Statement) (x : Within) (k : List Frame) → HasRoom k room
     → run done (BeforeLiteral x k no_level) old ≡ run done (AfterLiteral x k v l) new)
-ConditionGives room (Err e) old new = (done : List Statement) (x : Within) (k : List Frame) → HasRoom k room → Fails e (run done (BeforeLiteral x k no_level) old)
+ConditionGives room (Err e) old new = (done : List Statement) (x : Within) (k : List Frame) → HasRoom k room
+    → Fails e (run done (BeforeLiteral x k no_level) old)
 
 -- in an alternative behind these, and behind these literals of it
 abbrev pub level : List Literals → List Literal → Level
@@ -44,10 +50,12 @@ level alternatives literals = record { alternatives = alternatives; literals = l
 
 -- the literals of an alternative are passed, or the first fault is given
 abbrev pub AlternativeGives : ℕ → Result code_alternative.Alternative SyntaxError → List Placed → List Placed → Type 0
-AlternativeGives room (Ok a) old new = (ls : List Literal) × (l : Literal) × (literals (ls ++ l ∷ []) ≡ alternative_tree a)
+AlternativeGives room (Ok a) old new = (ls : List Literal) × (l : Literal)
+    × (literals (ls ++ l ∷ []) ≡ alternative_tree a)
     × ((done : List Statement) (x : Within) (k : List Frame) (before : List Literals) → HasRoom k room
     → run done (BeforeLiteral x k (level before [])) old ≡ run done (AfterLiteral x k (level before ls) l) new)
-AlternativeGives room (Err e) old new = (done : List Statement) (x : Within) (k : List Frame) (before : List Literals) → HasRoom k room
+AlternativeGives room (Err e) old new = (done : List Statement) (x : Within) (k : List Frame) (before : List Literals)
+    → HasRoom k room
     → Fails e (run done (BeforeLiteral x k (level before [])) old)
 
 -- a literal is passed, or the first fault is given
@@ -63,10 +71,12 @@ NegationGives negated old new = (done : List Statement) (x : Within) (k : List F
 -- a condition in square brackets is passed, or the first fault is given
 abbrev pub BracketedGives : ℕ → Result code.Condition SyntaxError → List Placed → List Placed → Type 0
 BracketedGives room result old new = (done : List Statement) (x : Within) (k : List Frame) (s : Site) → HasRoom k room
-    → Passes (run done (BeforeBody x k s)) (λ c. run done (AfterLiteral x k s.level (Bracketed s.negated (condition_tree c)))) result old new
+    → Passes (run done (BeforeBody x k s)) (λ c.
+    run done (AfterLiteral x k s.level (Bracketed s.negated (condition_tree c)))) result old new
 
 -- from this state of a site on an atom is passed, or the first fault is given
-abbrev pub AtomFrom : (Within → List Frame → Site → State) → ℕ → Result code_atom.Atom SyntaxError → List Placed → List Placed → Type 0
+abbrev pub AtomFrom : (Within → List Frame → Site → State) → ℕ → Result code_atom.Atom SyntaxError → List Placed
+    → List Placed → Type 0
 AtomFrom at room result old new = (done : List Statement) (x : Within) (k : List Frame) (s : Site) → HasRoom k room
     → Passes (run done (at x k s)) (λ a. run done (with_atom x k s (atom_tree a))) result old new
 
@@ -88,19 +98,24 @@ WantsAmount t at x k s side = step at t ≡ on_word t (λ w. step_amount x k s s
 
 -- an amount is passed, or the first fault is given
 abbrev pub AmountGives : ℕ → Placed → Result code_amount.Amount SyntaxError → List Placed → List Placed → Type 0
-AmountGives room t result old new = (done : List Statement) (at : State) (x : Within) (k : List Frame) (s : Site) (side : Side)
+AmountGives room t result old new = (done : List Statement) (at : State) (x : Within) (k : List Frame) (s : Site)
+    (side : Side)
     → WantsAmount t at x k s side → HasRoom k room
     → Passes (run done at) (λ a. run done (with_amount x k s side (amount_tree a))) result old new
 
 -- the operand of a measure is passed in its brackets, or the first fault is given
 abbrev pub MeasureGives : ℕ → Result Expr SyntaxError → List Placed → List Placed → Type 0
-MeasureGives room result old new = (done : List Statement) (x : Within) (k : List Frame) (s : Site) (side : Side) (m : Measure) → HasRoom k room
-    → Passes (run done (BeforeOperand x k s (OfMeasure side m))) (λ e. run done (with_amount x k s side (Measured m (expr_tree e)))) result old new
+MeasureGives room result old new = (done : List Statement) (x : Within) (k : List Frame) (s : Site) (side : Side)
+    (m : Measure) → HasRoom k room
+    → Passes (run done (BeforeOperand x k s (OfMeasure side m)))
+    (λ e. run done (with_amount x k s side (Measured m (expr_tree e)))) result old new
 
 -- an operand is passed behind the opening bracket, or the first fault is given
 abbrev pub OperandGives : ℕ → Result Expr SyntaxError → List Placed → List Placed → Type 0
-OperandGives room result old new = (done : List Statement) (x : Within) (k : List Frame) (s : Site) (lead : Lead) → HasRoom k room
-    → Passes (run done (BeforeOperand x k s lead)) (λ e. run done (AfterExpr x (Operand s lead ∷ k) (expr_tree e))) result old new
+OperandGives room result old new = (done : List Statement) (x : Within) (k : List Frame) (s : Site) (lead : Lead)
+    → HasRoom k room
+    → Passes (run done (BeforeOperand x k s lead))
+    (λ e. run done (AfterExpr x (Operand s lead ∷ k) (expr_tree e))) result old new
 
 -- the sign of a comparison is passed, or refused
 abbrev pub SenseGives : Result Sense SyntaxError → List Placed → List Placed → Type 0
@@ -112,8 +127,10 @@ abbrev pub IfGives : Result (Option code.Condition) SyntaxError → List Placed 
 IfGives (Ok None) old new = old ≡ new
 IfGives (Ok (Some c)) old new = (v : Level) × (l : Literal) × (condition (all_alternatives v l) ≡ condition_tree c)
     × ((done : List Statement) (name : Spot) (e : Tree)
-    → run done (AfterExpr (InStatement (heading OfRule name)) [] e) old ≡ run done (AfterLiteral (InCondition name e) [] v l) new)
-IfGives (Err err) old new = (done : List Statement) (name : Spot) (e : Tree) → Fails err (run done (AfterExpr (InStatement (heading OfRule name)) [] e) old)
+    → run done (AfterExpr (InStatement (heading OfRule name)) [] e) old
+    ≡ run done (AfterLiteral (InCondition name e) [] v l) new)
+IfGives (Err err) old new = (done : List Statement) (name : Spot) (e : Tree)
+    → Fails err (run done (AfterExpr (InStatement (heading OfRule name)) [] e) old)
 
 -- the condition is the one that is read alone, or the fault is the one that is read
 abbrev pub ConditionAloneGives : Result code.Condition SyntaxError → Result Parsed Fault → Type 0

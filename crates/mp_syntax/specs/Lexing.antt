@@ -1,13 +1,16 @@
 -- What the lexer takes from the front of the bytes, as total functions.
-use Rattle.std.specs.Prelude.{ℕ, zero, suc, ◌+◌, Bool, true, false, List, [], ◌∷◌, length, take, drop, ◌==◌, ◌||◌, ◌&&◌, nat_le, if◌then◌else◌, codes}
+use Rattle.std.specs.Prelude.{ℕ, zero, suc, ◌+◌, Bool, true, false, List, [], ◌∷◌, length, take, drop, ◌==◌, ◌||◌, ◌&&◌}
+use Rattle.std.specs.Prelude.{nat_le, if◌then◌else◌, codes}
 use Rattle.std.specs.List.{prefix_len}
 use Rattle.std.specs.Str.{bytes_eq}
 use Rattle.mp_syntax.specs.declared.limits.TheConstants.{MAX_WORD_BYTES}
 use Rattle.mp_syntax.specs.declared.place.Place.{Place}
-use Rattle.mp_syntax.specs.declared.token.Punct.TheVariants.{Open, Close, OpenSquare, CloseSquare, OpenBrace, CloseBrace, Comma, Semicolon, Colon, Dot, Dollar}
+use Rattle.mp_syntax.specs.declared.token.Punct.TheVariants.{Open, Close, OpenSquare, CloseSquare, OpenBrace}
+use Rattle.mp_syntax.specs.declared.token.Punct.TheVariants.{CloseBrace, Comma, Semicolon, Colon, Dot, Dollar}
 use Rattle.mp_syntax.specs.declared.token.Kind.{Kind}
 use Rattle.mp_syntax.specs.declared.token.Kind.TheVariants as kinds
-use Rattle.mp_syntax.specs.Tokens.{Token, Word, Wildcard, Sign, Arrow, Punctuation, Long, Bad, End, Placed, is_word_byte, is_sign_byte, is_blank, after_byte, first_place}
+use Rattle.mp_syntax.specs.Tokens.{Token, Word, Wildcard, Sign, Arrow, Punctuation, Long, Bad, End, Placed}
+use Rattle.mp_syntax.specs.Tokens.{is_word_byte, is_sign_byte, is_blank, after_byte, first_place}
 
 -- ---- views
 
@@ -35,7 +38,8 @@ least m n = if nat_le m n then m else n
 -- what a name, a number of underscores and the bytes behind them are, and its length
 abbrev pub with_underscores : List ℕ → ℕ → List ℕ → Token × ℕ
 with_underscores name zero after = (Word name, length name)
-with_underscores name (suc zero) after = (Wildcard name 1 (take (prefix_len is_word_byte after) after), length name + 1 + prefix_len is_word_byte after)
+with_underscores name (suc zero) after =
+    (Wildcard name 1 (take (prefix_len is_word_byte after) after), length name + 1 + prefix_len is_word_byte after)
 with_underscores name (suc (suc n)) after = (Wildcard name (suc (suc n)) [], length name + suc (suc n))
 
 -- the word or wildcard at the front, and its length
@@ -76,7 +80,8 @@ run_at (b ∷ bytes) =
 -- the token of a run: `->` is the arrow, and a word of more than 64 bytes is too long
 abbrev pub settled : Token → Token
 settled (Word w) = if nat_le (length w) MAX_WORD_BYTES then Word w else Long
-settled (Wildcard name marks kind) = if nat_le (length name) MAX_WORD_BYTES && nat_le (length kind) MAX_WORD_BYTES then Wildcard name marks kind else Long
+settled (Wildcard name marks kind) = if nat_le (length name) MAX_WORD_BYTES
+    && nat_le (length kind) MAX_WORD_BYTES then Wildcard name marks kind else Long
 settled (Sign s) = if bytes_eq s (codes "->") then Arrow else Sign s
 settled t = t
 
@@ -99,8 +104,10 @@ after_blanks false (b ∷ bytes) place =
 abbrev pub token_at : List ℕ → Place → Placed × (List ℕ × Place)
 token_at bytes place =
     let start = after_blanks false bytes place in
-    let found = kind_at start.0 in
-    (record { token = found.0; place = start.1 }, (drop found.1 start.0, record { line = start.1.line; column = start.1.column + found.1 }))
+    let found = kind_at start.0 in (
+      record { token = found.0; place = start.1 },
+      (drop found.1 start.0, record { line = start.1.line; column = start.1.column + found.1 }),
+    )
 
 -- the place of the first token, or of the end where there is none
 abbrev pub first_token_place : List ℕ → Place

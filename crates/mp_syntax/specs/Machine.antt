@@ -1,12 +1,14 @@
 -- Reading token by token: a state is what is read of a statement, and each token leads on or is refused.
-use Rattle.std.specs.Prelude.{ℕ, suc, Bool, true, false, ◌&&◌, ◌==◌, List, [], ◌∷◌, ◌++◌, length, Option, Some, None, Result, Ok, Err, nat_le, if◌then◌else◌, codes}
+use Rattle.std.specs.Prelude.{ℕ, suc, Bool, true, false, ◌&&◌, ◌==◌, List, [], ◌∷◌, ◌++◌, length, Option, Some, None}
+use Rattle.std.specs.Prelude.{Result, Ok, Err, nat_le, if◌then◌else◌, codes}
 use Rattle.std.specs.Str.{bytes_eq}
 use Rattle.std.specs.List.{list_all}
 use Rattle.std.specs.Char.{is_ascii_digit}
 use Rattle.mp_syntax.specs.declared.limits.TheConstants.{MAX_OPEN}
 use Rattle.mp_syntax.specs.declared.place.Place.{Place}
 use Rattle.mp_syntax.specs.declared.token.Punct.{Punct}
-use Rattle.mp_syntax.specs.declared.token.Punct.TheVariants.{Open, Close, OpenSquare, CloseSquare, OpenBrace, CloseBrace, Comma, Semicolon, Colon, Dot, Dollar}
+use Rattle.mp_syntax.specs.declared.token.Punct.TheVariants.{Open, Close, OpenSquare, CloseSquare, OpenBrace}
+use Rattle.mp_syntax.specs.declared.token.Punct.TheVariants.{CloseBrace, Comma, Semicolon, Colon, Dot, Dollar}
 use Rattle.mp_syntax.specs.declared.fault.FaultKind.{FaultKind}
 use Rattle.mp_syntax.specs.declared.fault.FaultKind.TheVariants.{Syntax, TooDeep, BadByte, TooMany}
 use Rattle.mp_syntax.specs.declared.fault.Fault.{Fault}
@@ -20,7 +22,11 @@ use Rattle.mp_syntax.specs.declared.condition_tree.Relation.{Relation}
 use Rattle.mp_syntax.specs.declared.condition_tree.Relation.TheVariants.{Same, Less, Free}
 use Rattle.mp_syntax.specs.declared.condition_tree.Property.{Property}
 use Rattle.mp_syntax.specs.declared.condition_tree.Property.TheVariants as properties
-use Rattle.mp_syntax.specs.Syntax.{Spot, Wildcard, Tree, Symbol, Apply, InfixOf, Wild, Optional, Variable, more_trees, trees, Amount, Number, Measured, Atom, Compare, Relate, Test, Literal, AtomOf, Bracketed, Literals, literals, Condition, condition, Flag, Assoc, Comm, One, Infixed, Statement, OpOf, KindOf, RuleOf, SubjectOf, measure_word, sense_sign, relation_word, property_word}
+use Rattle.mp_syntax.specs.Syntax.{Spot, Wildcard, Tree, Symbol, Apply, InfixOf, Wild, Optional, Variable, more_trees}
+use Rattle.mp_syntax.specs.Syntax.{trees, Amount, Number, Measured, Atom, Compare, Relate, Test, Literal, AtomOf}
+use Rattle.mp_syntax.specs.Syntax.{Bracketed, Literals, literals, Condition, condition, Flag, Assoc, Comm, One, Infixed}
+use Rattle.mp_syntax.specs.Syntax.{Statement, OpOf, KindOf, RuleOf, SubjectOf, measure_word, sense_sign, relation_word}
+use Rattle.mp_syntax.specs.Syntax.{property_word}
 
 -- ---- tests on tokens
 
@@ -71,7 +77,8 @@ is_word text _ = false
 
 -- the wildcard that a token at this place is
 abbrev pub wildcard_at : Token → Place → Option Wildcard
-wildcard_at (tokens.Wildcard name marks kind) place = Some (record { name = name; marks = marks; kind = kind; place = place })
+wildcard_at (tokens.Wildcard name marks kind) place =
+    Some (record { name = name; marks = marks; kind = kind; place = place })
 wildcard_at _ place = None
 
 -- the wildcard has one underscore and no kind
@@ -155,7 +162,11 @@ pub data Lead : Type 0 where
   OfRelation : Relation → Lead
   OfProperty : Property → Lead
 
--- what an expression or a condition stands in: an open bracket of an application, with its name and arguments so far; one of an infix expression, before its first sign, or behind it with the sign, the first operand and the others so far; a wildcard whose default it is, which opens no bracket; an open bracket of an atom, with the site and the word of the atom, or before the second operand of a relation also with the first one; or an open square bracket, with its site
+-- what an expression or a condition stands in: an open bracket of an application, with its name and arguments so far;
+-- one of an infix expression, before its first sign, or behind it with the sign, the first operand and the others so
+-- far; a wildcard whose default it is, which opens no bracket; an open bracket of an atom, with the site and the word
+-- of the atom, or before the second operand of a relation also with the first one; or an open square bracket, with its
+-- site
 pub data Frame : Type 0 where
   Arguments : Spot → List Tree → Frame
   Bracket : Place → Frame
@@ -181,14 +192,16 @@ pub record Heading : Type 0 where
 abbrev pub heading : Role → Spot → Heading
 heading role name = record { role = role; name = name }
 
--- what an expression or a condition is in: an expression of a statement, an expression that is the whole text, the condition of a rule with its name and pattern, or a condition that is the whole text
+-- what an expression or a condition is in: an expression of a statement, an expression that is the whole text, the
+-- condition of a rule with its name and pattern, or a condition that is the whole text
 pub data Within : Type 0 where
   InStatement : Heading → Within
   Alone : Within
   InCondition : Spot → Tree → Within
   ConditionAlone : Within
 
--- what is read of a statement, or of an expression or a condition alone; the innermost of what an expression or a condition stands in comes first
+-- what is read of a statement, or of an expression or a condition alone; the innermost of what an expression or a
+-- condition stands in comes first
 pub data State : Type 0 where
   Top : State
   AfterOp : State
@@ -222,7 +235,8 @@ pub data Single : Type 0 where
   SingleExpr : Tree → Single
   SingleCondition : Condition → Single
 
--- what a token does: it leads on, ends a statement, is refused, ends the file, or ends an expression or a condition alone
+-- what a token does: it leads on, ends a statement, is refused, ends the file, or ends an expression or a condition
+-- alone
 pub data Step : Type 0 where
   Go : State → Step
   Emit : Statement → Step
@@ -507,7 +521,8 @@ abbrev pub no_fault : Fault
 no_fault = record { kind = Syntax; place = record { line = 0; column = 0 } }
 
 -- what comes of a step, where others reads the tokens behind it
-abbrev pub after_step : List Statement → Place → (List Statement → State → Result Parsed Fault) → Step → Result Parsed Fault
+abbrev pub after_step : List Statement → Place → (List Statement → State → Result Parsed Fault) → Step
+    → Result Parsed Fault
 after_step done place others (Go at) = others done at
 after_step done place others (Emit s) = others (done ++ s ∷ []) Top
 after_step done place others (Refuse kind) = Err (record { kind = kind; place = place })

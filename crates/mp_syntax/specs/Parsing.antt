@@ -20,9 +20,14 @@ use Rattle.mp_syntax.specs.declared.tree.Wildcard as code_wildcard
 use Rattle.mp_syntax.specs.declared.tree.Statement as code
 use Rattle.mp_syntax.specs.Tokens.{Token, Placed}
 use Rattle.mp_syntax.specs.Lexing.{behind, lexemes, token_of}
-use Rattle.mp_syntax.specs.Syntax.{Spot, Wildcard, Tree, Apply, Wild, InfixOf, Assoc, Comm, One, OpOf, KindOf, Statement, trees}
+use Rattle.mp_syntax.specs.Syntax.{Spot, Wildcard, Tree, Apply, Wild, InfixOf, Assoc, Comm, One, OpOf, KindOf}
+use Rattle.mp_syntax.specs.Syntax.{Statement, trees}
 use Rattle.mp_syntax.specs.View.{placed, spot_of, wildcard_of, flag_of, expr_tree, statement_tree}
-use Rattle.mp_syntax.specs.Machine.{State, Top, AfterOp, AfterOpName, AfterLeast, AfterFlags, AfterInfix, AfterKind, BeforeMember, AfterRole, BeforeExpr, AfterWord, AfterWildcard, AfterExpr, AfterDollar, Step, Go, Refuse, Role, OfRule, OfSubject, heading, Within, InStatement, SingleExpr, Parsed, parsed, Frame, Arguments, Operands, Default, open_count, Declared, declared, with_flag, on_punct, on_text, step, after_step, run}
+use Rattle.mp_syntax.specs.Machine.{State, Top, AfterOp, AfterOpName, AfterLeast, AfterFlags, AfterInfix, AfterKind}
+use Rattle.mp_syntax.specs.Machine.{BeforeMember, AfterRole, BeforeExpr, AfterWord, AfterWildcard, AfterExpr}
+use Rattle.mp_syntax.specs.Machine.{AfterDollar, Step, Go, Refuse, Role, OfRule, OfSubject, heading, Within}
+use Rattle.mp_syntax.specs.Machine.{InStatement, SingleExpr, Parsed, parsed, Frame, Arguments, Operands, Default}
+use Rattle.mp_syntax.specs.Machine.{open_count, Declared, declared, with_flag, on_punct, on_text, step, after_step, run}
 
 -- the tokens from the one held on
 abbrev pub ahead : Parser → List Placed
@@ -37,7 +42,8 @@ Fails (errors.Fault f) read = read ≡ Err f
 abbrev pub Reading : Type 0
 Reading = List Placed → Result Parsed Fault
 
--- from the old tokens the first reads what behind a value the second reads from the new ones; or the first fault is given
+-- from the old tokens the first reads what behind a value the second reads from the new ones; or the first fault is
+-- given
 abbrev pub Passes : {A : Type 0} → Reading → (A → Reading) → Result A SyntaxError → List Placed → List Placed → Type 0
 Passes from to (Ok a) old new = from old ≡ to a new
 Passes from to (Err e) old new = Fails e (from old)
@@ -60,8 +66,10 @@ abbrev pub WantsText : (Token → Option (List ℕ)) → State → (Spot → Sta
 WantsText text_of at next = (t : Placed) → step at t ≡ on_text t (λ w. Go (next w)) (text_of t.token)
 
 -- a token with a text is passed, or refused
-abbrev pub TextGives : {A : Type 0} → (A → Spot) → (Token → Option (List ℕ)) → Result A SyntaxError → List Placed → List Placed → Type 0
-TextGives view text_of result old new = (done : List Statement) (at : State) (next : Spot → State) → WantsText text_of at next
+abbrev pub TextGives : {A : Type 0} → (A → Spot) → (Token → Option (List ℕ)) → Result A SyntaxError → List Placed
+    → List Placed → Type 0
+TextGives view text_of result old new = (done : List Statement) (at : State) (next : Spot → State)
+    → WantsText text_of at next
     → Passes (run done at) (λ w. run done (next (view w))) result old new
 
 -- the number of an operation is passed, or refused
@@ -105,7 +113,8 @@ FlagsGive result old new = (done : List Statement) (name least : Spot) (more : B
 -- the members of a kind and the semicolon are passed, or the first fault is given
 abbrev pub MembersGive : Result (Vec code_word.Word) SyntaxError → List Placed → List Placed → Type 0
 MembersGive result old new = (done : List Statement) (name : Spot)
-    → Passes (run done (BeforeMember name [])) (λ ws. run (done ++ KindOf name (map spot_of ws.items) ∷ []) Top) result old new
+    → Passes (run done (BeforeMember name []))
+    (λ ws. run (done ++ KindOf name (map spot_of ws.items) ∷ []) Top) result old new
 
 -- room brackets more may stand open than these frames have open
 abbrev pub HasRoom : List Frame → ℕ → Type 0
@@ -153,16 +162,20 @@ abbrev pub behind_chain : Within → List Frame → Option code_wildcard.Wildcar
 behind_chain x k (Some w) = AfterExpr x k (Wild (wildcard_of w))
 behind_chain x k None = BeforeExpr x k
 
--- wildcards with a colon behind each are passed, and behind them a wildcard that is the default, where it is one; only memory can run out
-abbrev pub ChainGives : Result (Vec code_wildcard.Wildcard × Option code_wildcard.Wildcard) SyntaxError → List Placed → List Placed → Type 0
+-- wildcards with a colon behind each are passed, and behind them a wildcard that is the default, where it is one; only
+-- memory can run out
+abbrev pub ChainGives : Result (Vec code_wildcard.Wildcard × Option code_wildcard.Wildcard) SyntaxError → List Placed
+    → List Placed → Type 0
 ChainGives (Ok r) old new = (done : List Statement) (x : Within) (k : List Frame)
     → run done (BeforeExpr x k) old ≡ run done (behind_chain x (within_defaults (map wildcard_of r.0.items) k) r.1) new
 ChainGives (Err e) old new = e ≡ errors.Memory
 
 -- arguments are passed up to the closing bracket, or the first fault is given
 abbrev pub ArgumentsGive : ℕ → Result (Vec Expr) SyntaxError → List Placed → List Placed → Type 0
-ArgumentsGive room result old new = (done : List Statement) (x : Within) (k : List Frame) (w : Spot) → HasRoom (Arguments w [] ∷ k) room
-    → Passes (run done (BeforeExpr x (Arguments w [] ∷ k))) (λ es. run done (AfterExpr x k (Apply w (trees (map expr_tree es.items))))) result old new
+ArgumentsGive room result old new = (done : List Statement) (x : Within) (k : List Frame) (w : Spot)
+    → HasRoom (Arguments w [] ∷ k) room
+    → Passes (run done (BeforeExpr x (Arguments w [] ∷ k)))
+    (λ es. run done (AfterExpr x k (Apply w (trees (map expr_tree es.items))))) result old new
 
 -- operands behind the first sign are passed up to the closing bracket, or the first fault is given
 abbrev pub OperandsGive : ℕ → Tree → Spot → Result (Vec Expr) SyntaxError → List Placed → List Placed → Type 0
@@ -185,11 +198,13 @@ keyword_step None = Refuse Syntax
 
 -- a keyword is passed, or refused
 abbrev pub KeywordGives : Result Keyword SyntaxError → List Placed → List Placed → Type 0
-KeywordGives result old new = (done : List Statement) → Passes (run done Top) (λ k. run done (start_of k)) result old new
+KeywordGives result old new = (done : List Statement)
+    → Passes (run done Top) (λ k. run done (start_of k)) result old new
 
 -- from this state on a statement is passed, or the first fault is given
 abbrev pub StatementFrom : State → Result code.Statement SyntaxError → List Placed → List Placed → Type 0
-StatementFrom at result old new = (done : List Statement) → Passes (run done at) (λ x. run (done ++ statement_tree x ∷ []) Top) result old new
+StatementFrom at result old new = (done : List Statement)
+    → Passes (run done at) (λ x. run (done ++ statement_tree x ∷ []) Top) result old new
 
 -- what follows the keyword of a rule or subject is passed up to the end of its expression, or the first fault is given
 abbrev pub NamedExprGives : Result (code_word.Word × Expr) SyntaxError → List Placed → List Placed → Type 0

@@ -3,8 +3,18 @@ use Rattle.std.specs.Prelude.{List, [], ◌∷◌, ◌++◌, map, codes}
 use Rattle.std.specs.List.{flat_map}
 use Rattle.mp_syntax.specs.declared.token.Punct.TheVariants.{Open, OpenSquare, Colon, Dollar}
 use Rattle.mp_syntax.specs.Tokens.{Sign, Punctuation}
-use Rattle.mp_syntax.specs.Syntax.{Spot, Tree, Expected, Said, Stands, spell, spell_with_colon, spell_plus, spell_flag, spelled_word, spelled_wildcard, spelled_sign, another, fixed_word, opening, comma, Literal, Literals, spell_literal, spell_literals, spell_amount, spell_not, measure_word, sense_sign, relation_word, property_word}
-use Rattle.mp_syntax.specs.Machine.{Role, OfRule, OfSubject, Frame, Arguments, Bracket, Operands, Default, Operand, Second, Square, Level, Site, Side, OnLeft, OnRight, Lead, OfMeasure, OfRelation, OfProperty, Declared, Within, InStatement, Alone, InCondition, ConditionAlone, State, Top, AfterOp, AfterOpName, AfterLeast, AfterFlags, AfterInfix, AfterKind, AfterKindName, BeforeMember, AfterMember, AfterRole, AfterName, BeforeExpr, AfterWord, AfterOpen, AfterWildcard, AfterExpr, AfterDollar, BeforeLiteral, BeforeBody, BeforeOperand, BeforeName, BehindName, AfterAmount, AfterSense, AfterLiteral}
+use Rattle.mp_syntax.specs.Syntax.{Spot, Tree, Expected, Said, Stands, spell, spell_with_colon, spell_plus, spell_flag}
+use Rattle.mp_syntax.specs.Syntax.{spelled_word, spelled_wildcard, spelled_sign, another, fixed_word, opening, comma}
+use Rattle.mp_syntax.specs.Syntax.{Literal, Literals, spell_literal, spell_literals, spell_amount, spell_not}
+use Rattle.mp_syntax.specs.Syntax.{measure_word, sense_sign, relation_word, property_word}
+use Rattle.mp_syntax.specs.Machine.{Role, OfRule, OfSubject, Frame, Arguments, Bracket, Operands, Default, Operand}
+use Rattle.mp_syntax.specs.Machine.{Second, Square, Level, Site, Side, OnLeft, OnRight, Lead, OfMeasure, OfRelation}
+use Rattle.mp_syntax.specs.Machine.{OfProperty, Declared, Within, InStatement, Alone, InCondition, ConditionAlone}
+use Rattle.mp_syntax.specs.Machine.{State, Top, AfterOp, AfterOpName, AfterLeast, AfterFlags, AfterInfix, AfterKind}
+use Rattle.mp_syntax.specs.Machine.{AfterKindName, BeforeMember, AfterMember, AfterRole, AfterName, BeforeExpr}
+use Rattle.mp_syntax.specs.Machine.{AfterWord, AfterOpen, AfterWildcard, AfterExpr, AfterDollar, BeforeLiteral}
+use Rattle.mp_syntax.specs.Machine.{BeforeBody, BeforeOperand, BeforeName, BehindName, AfterAmount, AfterSense}
+use Rattle.mp_syntax.specs.Machine.{AfterLiteral}
 
 -- the word that a statement of this role begins with
 abbrev pub role_word : Role → Expected
@@ -17,17 +27,21 @@ spell_before between e = spell e ++ between ∷ []
 
 -- an operation up to its flags
 abbrev pub spell_declared : Declared → List Expected
-spell_declared d = fixed_word (codes "op") ∷ spelled_word d.name ∷ spelled_word d.least ∷ (spell_plus d.more ++ flat_map spell_flag d.flags)
+spell_declared d = fixed_word (codes "op") ∷ spelled_word d.name ∷ spelled_word d.least
+    ∷ (spell_plus d.more ++ flat_map spell_flag d.flags)
 
 -- a kind up to its members
 abbrev pub spell_members : Spot → List Spot → List Expected
-spell_members name members = fixed_word (codes "kind") ∷ spelled_word name ∷ Said (Punctuation Colon) ∷ map spelled_word members
+spell_members name members = fixed_word (codes "kind") ∷ spelled_word name ∷ Said (Punctuation Colon)
+    ∷ map spelled_word members
 
 -- the tokens of the statement before an expression or a condition; one alone has none before it
 abbrev pub spell_within : Within → List Expected
 spell_within (InStatement h) = role_word h.role ∷ spelled_word h.name ∷ Said (Punctuation Colon) ∷ []
 spell_within Alone = []
-spell_within (InCondition name pattern) = fixed_word (codes "rule") ∷ spelled_word name ∷ Said (Punctuation Colon) ∷ spell pattern ++ fixed_word (codes "if") ∷ []
+spell_within (InCondition name pattern) =
+    fixed_word (codes "rule") ∷ spelled_word name ∷ Said (Punctuation Colon) ∷ spell pattern ++ fixed_word (codes "if")
+    ∷ []
 spell_within ConditionAlone = []
 
 -- a literal and `and`
@@ -61,7 +75,8 @@ spell_lead (OfProperty p) = fixed_word (property_word p) ∷ []
 abbrev pub spell_frame : Frame → List Expected
 spell_frame (Arguments name args) = spelled_word name ∷ Said (Punctuation Open) ∷ flat_map (spell_before comma) args
 spell_frame (Bracket place) = Stands (Punctuation Open) place ∷ []
-spell_frame (Operands place sign first others) = Stands (Punctuation Open) place ∷ spell first ++ spelled_sign sign ∷ flat_map (spell_before (another sign)) others
+spell_frame (Operands place sign first others) =
+    Stands (Punctuation Open) place ∷ spell first ++ spelled_sign sign ∷ flat_map (spell_before (another sign)) others
 spell_frame (Default w) = spell_with_colon w
 spell_frame (Operand s lead) = spell_site s ++ (spell_lead lead ++ opening ∷ [])
 spell_frame (Second s r e) = spell_site s ++ fixed_word (relation_word r) ∷ opening ∷ spell e ++ comma ∷ []
@@ -95,8 +110,11 @@ so_far (AfterDollar x k place) = spell_within x ++ (spell_frames k ++ Stands (Pu
 so_far (BeforeLiteral x k v) = spell_within x ++ (spell_frames k ++ spell_level v)
 so_far (BeforeBody x k s) = spell_within x ++ (spell_frames k ++ spell_site s)
 so_far (BeforeOperand x k s lead) = spell_within x ++ (spell_frames k ++ (spell_site s ++ spell_lead lead))
-so_far (BeforeName x k s p e) = spell_within x ++ (spell_frames k ++ (spell_site s ++ fixed_word (property_word p) ∷ opening ∷ spell e ++ comma ∷ []))
-so_far (BehindName x k s p e w) = spell_within x ++ (spell_frames k ++ (spell_site s ++ fixed_word (property_word p) ∷ opening ∷ spell e ++ comma ∷ spelled_word w ∷ []))
+so_far (BeforeName x k s p e) = spell_within x
+    ++ (spell_frames k ++ (spell_site s ++ fixed_word (property_word p) ∷ opening ∷ spell e ++ comma ∷ []))
+so_far (BehindName x k s p e w) = spell_within x
+    ++ (spell_frames k ++ (spell_site s ++ fixed_word (property_word p) ∷ opening ∷ spell e ++ comma ∷ spelled_word w
+    ∷ []))
 so_far (AfterAmount x k s a) = spell_within x ++ (spell_frames k ++ (spell_site s ++ spell_amount a))
 so_far (AfterSense x k s a sense) = spell_within x ++ (spell_frames k ++ (spell_site s ++ spell_side (OnRight a sense)))
 so_far (AfterLiteral x k v l) = spell_within x ++ (spell_frames k ++ (spell_level v ++ spell_literal l))

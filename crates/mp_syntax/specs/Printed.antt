@@ -2,7 +2,11 @@
 use Rattle.std.specs.Prelude.{ℕ, Bool, true, false, List, [], ◌∷◌, ◌++◌, Option, Some, None, map, codes}
 use Rattle.std.specs.List.{flat_map}
 use Rattle.mp_syntax.specs.Tokens.{first_place, underscores}
-use Rattle.mp_syntax.specs.Syntax.{Spot, Wildcard, Tree, Symbol, Apply, InfixOf, Wild, Optional, Variable, Trees, no_trees, more_trees, Flag, Assoc, Comm, One, Infixed, Amount, Number, Measured, Atom, Compare, Relate, Test, Literal, AtomOf, Bracketed, Literals, no_literals, more_literals, Condition, no_alternatives, more_alternatives, measure_word, sense_sign, relation_word, property_word, Statement, OpOf, KindOf, RuleOf, SubjectOf}
+use Rattle.mp_syntax.specs.Syntax.{Spot, Wildcard, Tree, Symbol, Apply, InfixOf, Wild, Optional, Variable, Trees}
+use Rattle.mp_syntax.specs.Syntax.{no_trees, more_trees, Flag, Assoc, Comm, One, Infixed, Amount, Number, Measured}
+use Rattle.mp_syntax.specs.Syntax.{Atom, Compare, Relate, Test, Literal, AtomOf, Bracketed, Literals, no_literals}
+use Rattle.mp_syntax.specs.Syntax.{more_literals, Condition, no_alternatives, more_alternatives, measure_word}
+use Rattle.mp_syntax.specs.Syntax.{sense_sign, relation_word, property_word, Statement, OpOf, KindOf, RuleOf, SubjectOf}
 
 -- ---- text
 
@@ -80,7 +84,8 @@ abbrev mutual
   -- alternatives, the first behind this text and each other one behind ` or `
   pub alternatives_text : List ℕ → Condition → List ℕ
   alternatives_text before no_alternatives = []
-  alternatives_text before (more_alternatives a c) = before ++ (literals_text [] a ++ alternatives_text (codes " or ") c)
+  alternatives_text before (more_alternatives a c) =
+      before ++ (literals_text [] a ++ alternatives_text (codes " or ") c)
 
 -- a condition
 abbrev pub condition_text : Condition → List ℕ
@@ -101,8 +106,11 @@ named_text name t behind = name.text ++ (codes ": " ++ (tree_text t ++ behind))
 
 -- a statement on a line of its own
 abbrev pub statement_text : Statement → List ℕ
-statement_text (OpOf name least more flags) = codes "op " ++ (name.text ++ (codes " " ++ (least.text ++ (plus_text more ++ (flat_map flag_text flags ++ line_end)))))
-statement_text (KindOf name members) = codes "kind " ++ (name.text ++ (codes ":" ++ (flat_map member_text members ++ line_end)))
+statement_text (OpOf name least more flags) =
+    codes "op "
+    ++ (name.text ++ (codes " " ++ (least.text ++ (plus_text more ++ (flat_map flag_text flags ++ line_end)))))
+statement_text (KindOf name members) = codes "kind "
+    ++ (name.text ++ (codes ":" ++ (flat_map member_text members ++ line_end)))
 statement_text (RuleOf name t o) = codes "rule " ++ named_text name t (if_text o ++ line_end)
 statement_text (SubjectOf name t) = codes "subject " ++ named_text name t line_end
 
@@ -127,7 +135,8 @@ abbrev mutual
   unplaced_tree (Apply f args) = Apply (unplaced_spot f) (unplaced_trees args)
   unplaced_tree (InfixOf opened sign operands) = InfixOf first_place (unplaced_spot sign) (unplaced_trees operands)
   unplaced_tree (Wild w) = Wild (unplaced_wildcard w)
-  unplaced_tree (Optional w others default) = Optional (unplaced_wildcard w) (map unplaced_wildcard others) (unplaced_tree default)
+  unplaced_tree (Optional w others default) =
+      Optional (unplaced_wildcard w) (map unplaced_wildcard others) (unplaced_tree default)
   unplaced_tree (Variable w) = Variable (unplaced_spot w)
 
   pub unplaced_trees : Trees → Trees

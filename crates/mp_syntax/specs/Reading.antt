@@ -11,7 +11,8 @@ use Rattle.mp_syntax.specs.Tokens.{first_place}
 use Rattle.mp_syntax.specs.Lexing.{lexemes}
 use Rattle.mp_syntax.specs.Syntax.{Tree, Condition, Statement}
 use Rattle.mp_syntax.specs.View.{expr_tree, condition_tree, statement_tree}
-use Rattle.mp_syntax.specs.Machine.{Top, BeforeExpr, BeforeLiteral, Alone, ConditionAlone, no_level, Single, SingleExpr, SingleCondition, Parsed, no_fault, run}
+use Rattle.mp_syntax.specs.Machine.{Top, BeforeExpr, BeforeLiteral, Alone, ConditionAlone, no_level, Single, SingleExpr}
+use Rattle.mp_syntax.specs.Machine.{SingleCondition, Parsed, no_fault, run}
 
 -- what the machine reads of a file
 abbrev pub parsed_file : List ℕ → Result Parsed Fault

@@ -1,10 +1,12 @@
 -- The syntax trees of a rule file, and the grammar: how statements are spelled by tokens.
-use Rattle.std.specs.Prelude.{◌≡◌, ◌≢◌, ◌<◌, ◌≤◌, Bool, true, false, ℕ, zero, suc, List, [], ◌∷◌, ◌++◌, Option, Some, None, map, codes}
+use Rattle.std.specs.Prelude.{◌≡◌, ◌≢◌, ◌<◌, ◌≤◌, Bool, true, false, ℕ, zero, suc, List, [], ◌∷◌, ◌++◌, Option, Some}
+use Rattle.std.specs.Prelude.{None, map, codes}
 use Rattle.std.specs.Char.{is_ascii_digit}
 use Rattle.std.specs.List.{flat_map, list_all}
 use Rattle.mp_syntax.specs.declared.limits.TheConstants.{MAX_OPEN}
 use Rattle.mp_syntax.specs.declared.place.Place.{Place}
-use Rattle.mp_syntax.specs.declared.token.Punct.TheVariants.{Open, Close, OpenSquare, CloseSquare, Comma, Semicolon, Colon, Dollar}
+use Rattle.mp_syntax.specs.declared.token.Punct.TheVariants.{Open, Close, OpenSquare, CloseSquare, Comma, Semicolon}
+use Rattle.mp_syntax.specs.declared.token.Punct.TheVariants.{Colon, Dollar}
 use Rattle.mp_syntax.specs.declared.condition_tree.Measure.{Measure}
 use Rattle.mp_syntax.specs.declared.condition_tree.Measure.TheVariants.{Count, Size}
 use Rattle.mp_syntax.specs.declared.condition_tree.Sense.{Sense}
@@ -30,7 +32,9 @@ pub record Wildcard : Type 0 where
   pub kind : List ℕ
   pub place : Place
 
--- expressions and lists of them; an infix one has the place of its bracket, its sign at the first place, and all operands; an optional one has its wildcard, further wildcards where several stand in a chain, and the default of the last; a variable has the place of its `$`
+-- expressions and lists of them; an infix one has the place of its bracket, its sign at the first place, and all
+-- operands; an optional one has its wildcard, further wildcards where several stand in a chain, and the default of the
+-- last; a variable has the place of its `$`
 mutual
   pub data Tree : Type 0 where
     Symbol : Spot → Tree
@@ -72,7 +76,8 @@ pub data Atom : Type 0 where
   Relate : Relation → Tree → Tree → Atom
   Test : Property → Tree → Spot → Atom
 
--- a literal is an atom or a condition in square brackets, each perhaps negated; a condition is a list of alternatives, each a list of literals
+-- a literal is an atom or a condition in square brackets, each perhaps negated; a condition is a list of alternatives,
+-- each a list of literals
 mutual
   pub data Literal : Type 0 where
     AtomOf : Bool → Atom → Literal
@@ -176,7 +181,8 @@ spell_with_colon w = spelled_wildcard w ∷ colon ∷ []
 abbrev pub opening : Expected
 opening = Said (Punctuation Open)
 
--- expr = WORD | WORD "(" [expr ("," expr)*] ")" | "(" expr s expr (s expr)* ")" with one SIGN s | wildcard | dot-wildcard ":" expr | "$" WORD
+-- expr = WORD | WORD "(" [expr ("," expr)*] ")" | "(" expr s expr (s expr)* ")" with one SIGN s | wildcard |
+-- dot-wildcard ":" expr | "$" WORD
 abbrev mutual
   pub spell : Tree → List Expected
   spell (Symbol w) = spelled_word w ∷ []
@@ -246,17 +252,20 @@ spell_not false = []
 abbrev mutual
   pub spell_literal : Literal → List Expected
   spell_literal (AtomOf negated a) = spell_not negated ++ spell_atom a
-  spell_literal (Bracketed negated c) = spell_not negated ++ Said (Punctuation OpenSquare) ∷ (spell_alternatives [] c ++ Said (Punctuation CloseSquare) ∷ [])
+  spell_literal (Bracketed negated c) = spell_not negated ++ Said (Punctuation OpenSquare)
+      ∷ (spell_alternatives [] c ++ Said (Punctuation CloseSquare) ∷ [])
 
   -- literals, the first behind these tokens and each other one behind `and`
   pub spell_literals : List Expected → Literals → List Expected
   spell_literals before no_literals = []
-  spell_literals before (more_literals l ls) = before ++ (spell_literal l ++ spell_literals (fixed_word (codes "and") ∷ []) ls)
+  spell_literals before (more_literals l ls) =
+      before ++ (spell_literal l ++ spell_literals (fixed_word (codes "and") ∷ []) ls)
 
   -- alternatives, the first behind these tokens and each other one behind `or`
   pub spell_alternatives : List Expected → Condition → List Expected
   spell_alternatives before no_alternatives = []
-  spell_alternatives before (more_alternatives a c) = before ++ (spell_literals [] a ++ spell_alternatives (fixed_word (codes "or") ∷ []) c)
+  spell_alternatives before (more_alternatives a c) =
+      before ++ (spell_literals [] a ++ spell_alternatives (fixed_word (codes "or") ∷ []) c)
 
 -- a condition
 abbrev pub spell_condition : Condition → List Expected
@@ -283,10 +292,14 @@ spell_flag Comm = fixed_word (codes "comm") ∷ []
 spell_flag One = fixed_word (codes "one") ∷ []
 spell_flag (Infixed sign) = fixed_word (codes "infix") ∷ spelled_sign sign ∷ []
 
--- statement = "op" WORD NUM ["+"] flag* ";" | "kind" WORD ":" WORD WORD* ";" | "rule" WORD ":" expr ["if" cond] ";" | "subject" WORD ":" expr ";"
+-- statement = "op" WORD NUM ["+"] flag* ";" | "kind" WORD ":" WORD WORD* ";" | "rule" WORD ":" expr ["if" cond] ";" |
+-- "subject" WORD ":" expr ";"
 abbrev pub spell_statement : Statement → List Expected
-spell_statement (OpOf name least more flags) = fixed_word (codes "op") ∷ spelled_word name ∷ spelled_word least ∷ (spell_plus more ++ (flat_map spell_flag flags ++ semicolon ∷ []))
-spell_statement (KindOf name members) = fixed_word (codes "kind") ∷ spelled_word name ∷ colon ∷ (map spelled_word members ++ semicolon ∷ [])
+spell_statement (OpOf name least more flags) =
+    fixed_word (codes "op") ∷ spelled_word name ∷ spelled_word least
+    ∷ (spell_plus more ++ (flat_map spell_flag flags ++ semicolon ∷ []))
+spell_statement (KindOf name members) = fixed_word (codes "kind") ∷ spelled_word name ∷ colon
+    ∷ (map spelled_word members ++ semicolon ∷ [])
 spell_statement (RuleOf name t o) = fixed_word (codes "rule") ∷ spell_named name t ++ (spell_if o ++ semicolon ∷ [])
 spell_statement (SubjectOf name t) = fixed_word (codes "subject") ∷ spell_named name t ++ semicolon ∷ []
 
@@ -317,7 +330,8 @@ AreSeveral no_trees = ⊥
 AreSeveral (more_trees t no_trees) = ⊥
 AreSeveral (more_trees t (more_trees u us)) = Unit {0}
 
--- wildcards with a default have one underscore and no kind, the default behind a whole chain of them is none itself, infix expressions have two operands or more, and at most room brackets stand open at once
+-- wildcards with a default have one underscore and no kind, the default behind a whole chain of them is none itself,
+-- infix expressions have two operands or more, and at most room brackets stand open at once
 abbrev mutual
   pub Fits : ℕ → Tree → Type 0
   Fits room (Symbol w) = Unit {0}
@@ -357,7 +371,8 @@ abbrev pub HasAlternative : Condition → Type 0
 HasAlternative no_alternatives = ⊥
 HasAlternative (more_alternatives a c) = Unit {0}
 
--- each condition has an alternative and each alternative a literal, numbers are of digits alone, and at most room brackets stand open at once
+-- each condition has an alternative and each alternative a literal, numbers are of digits alone, and at most room
+-- brackets stand open at once
 abbrev mutual
   pub FitsLiteral : ℕ → Literal → Type 0
   FitsLiteral room (AtomOf negated a) = FitsAtom room a
@@ -381,7 +396,8 @@ abbrev pub FitsIf : Option Condition → Type 0
 FitsIf None = Unit {0}
 FitsIf (Some c) = FitsCondition MAX_OPEN c
 
--- the number of an operation is of digits alone, a kind has a member, and expressions and conditions have at most 100 brackets open at once
+-- the number of an operation is of digits alone, a kind has a member, and expressions and conditions have at most 100
+-- brackets open at once
 abbrev pub FitsStatement : Statement → Type 0
 FitsStatement (OpOf name least more flags) = list_all is_ascii_digit least.text ≡ true
 FitsStatement (KindOf name members) = members ≢ []
@@ -405,7 +421,8 @@ pub record IsInfixSign (sign : List ℕ) : Type 0 where
   pub is_sign : IsSign sign
   pub no_arrow : sign ≢ codes "->"
 
--- 1 to 3 underscores, behind a single one perhaps a kind; the name and the kind, where there are any, are words of at most 64 bytes
+-- 1 to 3 underscores, behind a single one perhaps a kind; the name and the kind, where there are any, are words of at
+-- most 64 bytes
 pub record HasParts (w : Wildcard) : Type 0 where
   pub name : w.name ≢ [] → IsName w.name
   pub some_marks : 0 < w.marks
@@ -424,7 +441,8 @@ abbrev pub HaveParts : List Wildcard → Type 0
 HaveParts [] = Unit {0}
 HaveParts (w ∷ ws) = HasParts w × HaveParts ws
 
--- each symbol, each name before a bracket and each name and kind of a wildcard is a word of at most 64 bytes, and each wildcard and sign is one
+-- each symbol, each name before a bracket and each name and kind of a wildcard is a word of at most 64 bytes, and each
+-- wildcard and sign is one
 abbrev mutual
   pub HasNames : Tree → Type 0
   HasNames (Symbol w) = IsName w.text

@@ -1,11 +1,13 @@
 -- The tokens of a rule file: which texts they are, and how they lie in the bytes.
-use Rattle.std.specs.Prelude.{◌≡◌, ℕ, zero, suc, ◌+◌, ◌<◌, ◌≤◌, ◌≢◌, Bool, true, false, List, [], ◌∷◌, ◌++◌, length, ◌==◌, ◌||◌, if◌then◌else◌, ◌⊎◌, codes}
+use Rattle.std.specs.Prelude.{◌≡◌, ℕ, zero, suc, ◌+◌, ◌<◌, ◌≤◌, ◌≢◌, Bool, true, false, List, [], ◌∷◌, ◌++◌, length}
+use Rattle.std.specs.Prelude.{◌==◌, ◌||◌, if◌then◌else◌, ◌⊎◌, codes}
 use Rattle.std.specs.List.{list_all, list_any}
 use Rattle.std.specs.Char.{is_ascii_alphanumeric}
 use Rattle.mp_syntax.specs.declared.limits.TheConstants.{MAX_WORD_BYTES}
 use Rattle.mp_syntax.specs.declared.place.Place.{Place}
 use Rattle.mp_syntax.specs.declared.token.Punct.{Punct}
-use Rattle.mp_syntax.specs.declared.token.Punct.TheVariants.{Open, Close, OpenSquare, CloseSquare, OpenBrace, CloseBrace, Comma, Semicolon, Colon, Dot, Dollar}
+use Rattle.mp_syntax.specs.declared.token.Punct.TheVariants.{Open, Close, OpenSquare, CloseSquare, OpenBrace}
+use Rattle.mp_syntax.specs.declared.token.Punct.TheVariants.{CloseBrace, Comma, Semicolon, Colon, Dot, Dollar}
 
 -- ---- tokens
 
@@ -128,7 +130,10 @@ first_place = record { line = 1; column = 1 }
 
 -- the place behind a byte
 abbrev pub after_byte : Place → ℕ → Place
-after_byte place b = if b == 10 then record { line = place.line + 1; column = 1 } else record { line = place.line; column = place.column + 1 }
+after_byte place b = if b == 10 then record { line = place.line + 1; column = 1 } else record {
+  line = place.line;
+  column = place.column + 1;
+}
 
 -- the place behind bytes
 abbrev pub place_after : List ℕ → Place → Place
@@ -150,7 +155,8 @@ pub record First (bytes : List ℕ) (place : Place) (t : Placed) (rest : List �
 -- the bytes, which begin at this place, are these tokens with blanks and comments between them
 abbrev pub Tokens : List ℕ → Place → List Placed → Type 0
 Tokens bytes place [] = (inside : Bool) × Passes false bytes inside
-Tokens bytes place (t ∷ ts) = (rest : List ℕ) × (f : First bytes place t rest) × Tokens rest (place_after f.text t.place) ts
+Tokens bytes place (t ∷ ts) = (rest : List ℕ) × (f : First bytes place t rest)
+    × Tokens rest (place_after f.text t.place) ts
 
 -- ---- bytes that are no tokens
 
@@ -165,8 +171,10 @@ pub record BeginsNoToken (bytes : List ℕ) : Type 0 where
 
 -- the bytes are these tokens with blanks and comments between them, and then a byte at this place that begins none
 abbrev pub TokensUntil : List ℕ → Place → List Placed → Place → Type 0
-TokensUntil bytes place [] stop = (gap rest : List ℕ) × (bytes ≡ gap ++ rest) × Passes false gap false × BeginsNoToken rest × (stop ≡ place_after gap place)
-TokensUntil bytes place (t ∷ ts) stop = (rest : List ℕ) × (f : First bytes place t rest) × TokensUntil rest (place_after f.text t.place) ts stop
+TokensUntil bytes place [] stop = (gap rest : List ℕ) × (bytes ≡ gap ++ rest) × Passes false gap false
+    × BeginsNoToken rest × (stop ≡ place_after gap place)
+TokensUntil bytes place (t ∷ ts) stop = (rest : List ℕ) × (f : First bytes place t rest)
+    × TokensUntil rest (place_after f.text t.place) ts stop
 
 -- the bytes are tokens up to a byte that begins none
 pub record StopsEarly (bytes : List ℕ) (place : Place) : Type 0 where

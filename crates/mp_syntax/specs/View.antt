@@ -4,7 +4,8 @@ use Rattle.mp_syntax.specs.declared.word.Word as code_word
 use Rattle.mp_syntax.specs.declared.word.InfixSign as code_sign
 use Rattle.mp_syntax.specs.declared.token.Token as code_token
 use Rattle.mp_syntax.specs.declared.tree.Wildcard as code_wildcard
-use Rattle.mp_syntax.specs.declared.tree.Expr.{Expr, Symbol, Apply', Infix', Wild, Optional', Variable, Row_of-Expr, end_of-Expr, more_of-Expr}
+use Rattle.mp_syntax.specs.declared.tree.Expr.{Expr, Symbol, Apply', Infix', Wild, Optional', Variable, Row_of-Expr}
+use Rattle.mp_syntax.specs.declared.tree.Expr.{end_of-Expr, more_of-Expr}
 use Rattle.mp_syntax.specs.declared.tree.Flag as code_flag
 use Rattle.mp_syntax.specs.declared.tree.Flag.TheVariants as code_flags
 use Rattle.mp_syntax.specs.declared.tree.Statement as code_statement
@@ -17,11 +18,14 @@ use Rattle.mp_syntax.specs.declared.condition_tree.Literal as code_literal
 use Rattle.mp_syntax.specs.declared.condition_tree.Alternative as code_alternative
 use Rattle.mp_syntax.specs.declared.condition_tree.Alternative.{Row_of-Literal, end_of-Literal, more_of-Literal}
 use Rattle.mp_syntax.specs.declared.condition_tree.Condition as code_condition
-use Rattle.mp_syntax.specs.declared.condition_tree.Condition.{Condition', Row_of-Alternative, end_of-Alternative, more_of-Alternative}
+use Rattle.mp_syntax.specs.declared.condition_tree.Condition.{Condition', Row_of-Alternative, end_of-Alternative}
+use Rattle.mp_syntax.specs.declared.condition_tree.Condition.{more_of-Alternative}
 use Rattle.mp_syntax.specs.Tokens.{Placed}
 use Rattle.mp_syntax.specs.Lexing.{token_of}
 use Rattle.mp_syntax.specs.Syntax as syntax
-use Rattle.mp_syntax.specs.Syntax.{Spot, Wildcard, Tree, Trees, Flag, Amount, Atom, Literal, Literals, Condition, Statement, no_trees, more_trees, no_literals, more_literals, literals, no_alternatives, more_alternatives}
+use Rattle.mp_syntax.specs.Syntax.{Spot, Wildcard, Tree, Trees, Flag, Amount, Atom, Literal, Literals, Condition}
+use Rattle.mp_syntax.specs.Syntax.{Statement, no_trees, more_trees, no_literals, more_literals, literals}
+use Rattle.mp_syntax.specs.Syntax.{no_alternatives, more_alternatives}
 
 -- the token with its place
 abbrev pub placed : code_token.Token → Placed
@@ -46,7 +50,8 @@ abbrev mutual
   expr_tree (Apply' f shape row) = syntax.Apply (spot_of f) (row_trees row)
   expr_tree (Infix' opened sign shape row) = syntax.InfixOf opened (spot_of_sign sign) (row_trees row)
   expr_tree (Wild w) = syntax.Wild (wildcard_of w)
-  expr_tree (Optional' w others p default) = syntax.Optional (wildcard_of w) (map wildcard_of others.items) (expr_tree default)
+  expr_tree (Optional' w others p default) =
+      syntax.Optional (wildcard_of w) (map wildcard_of others.items) (expr_tree default)
   expr_tree (Variable w) = syntax.Variable (spot_of w)
 
   pub row_trees : {n : _} → Row_of-Expr n → Trees
@@ -99,7 +104,9 @@ if_tree (Some c) = Some (condition_tree c)
 
 -- the statement as plain data
 abbrev pub statement_tree : code_statement.Statement → Statement
-statement_tree (code_statements.Op name least more flags) = syntax.OpOf (spot_of name) (spot_of least) more (map flag_of flags.items)
+statement_tree (code_statements.Op name least more flags) =
+    syntax.OpOf (spot_of name) (spot_of least) more (map flag_of flags.items)
 statement_tree (code_statements.Kind name members) = syntax.KindOf (spot_of name) (map spot_of members.items)
-statement_tree (code_statements.Rule name pattern condition) = syntax.RuleOf (spot_of name) (expr_tree pattern) (if_tree condition)
+statement_tree (code_statements.Rule name pattern condition) =
+    syntax.RuleOf (spot_of name) (expr_tree pattern) (if_tree condition)
 statement_tree (code_statements.Subject name term) = syntax.SubjectOf (spot_of name) (expr_tree term)

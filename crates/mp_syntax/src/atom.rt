@@ -2,10 +2,12 @@
 
 ghost use Rattle.std.specs.Prelude.{◌≡◌, ◌<◌, ◌≤◌, false, length, OnOk};
 ghost use Rattle.mp_syntax.specs.Lexing.{token_of};
-ghost use Rattle.mp_syntax.specs.Machine.{is_punct, relation_of, property_of, measure_of, sense_of, relation_held, property_held};
+ghost use Rattle.mp_syntax.specs.Machine.{is_punct, relation_of, property_of, measure_of, sense_of, relation_held};
+ghost use Rattle.mp_syntax.specs.Machine.{property_held};
 ghost use Rattle.mp_syntax.specs.View.{placed};
 ghost use Rattle.mp_syntax.specs.Parsing.{ahead};
-ghost use Rattle.mp_syntax.specs.ConditionParsing.{AtomGives, RelationGives, PropertyGives, AmountGives, MeasureGives, OperandGives, SenseGives};
+ghost use Rattle.mp_syntax.specs.ConditionParsing.{AtomGives, RelationGives, PropertyGives, AmountGives, MeasureGives};
+ghost use Rattle.mp_syntax.specs.ConditionParsing.{OperandGives, SenseGives};
 
 use crate::condition_tree::{Amount, Atom, Measure, Property, Relation, Sense};
 use crate::fault::{FaultKind, SyntaxError};

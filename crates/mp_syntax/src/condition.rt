@@ -6,9 +6,11 @@ ghost use Rattle.mp_syntax.specs.Machine.{is_punct};
 ghost use Rattle.mp_syntax.specs.View.{condition_tree};
 ghost use Rattle.mp_syntax.specs.Syntax as syntax;
 ghost use Rattle.mp_syntax.specs.Syntax.{IsConditionOf, ConditionHasNames};
-ghost use Rattle.mp_syntax.specs.Reading.{parsed_condition, condition_reading, condition_of_bytes, IfFault, IsConditionOrMemory};
+ghost use Rattle.mp_syntax.specs.Reading.{parsed_condition, condition_reading, condition_of_bytes, IfFault};
+ghost use Rattle.mp_syntax.specs.Reading.{IsConditionOrMemory};
 ghost use Rattle.mp_syntax.specs.Parsing.{ahead};
-ghost use Rattle.mp_syntax.specs.ConditionParsing.{ConditionAloneGives, ConditionGives, AlternativeGives, LiteralGives, NegationGives, BracketedGives, EndsCondition, EndsAlternative};
+ghost use Rattle.mp_syntax.specs.ConditionParsing.{ConditionAloneGives, ConditionGives, AlternativeGives, LiteralGives};
+ghost use Rattle.mp_syntax.specs.ConditionParsing.{NegationGives, BracketedGives, EndsCondition, EndsAlternative};
 
 use crate::condition_tree::{Alternative, Condition, Literal};
 use crate::fault::{FaultKind, SyntaxError};

@@ -3,7 +3,8 @@
 ghost use Rattle.std.specs.Prelude.{◌≡◌, ◌<◌, ◌≤◌, ℕ, false, length, OnOk};
 ghost use Rattle.mp_syntax.specs.Lexing.{token_of};
 ghost use Rattle.mp_syntax.specs.Machine.{AfterOp, AfterKind, Declared, is_punct, step_flag};
-ghost use Rattle.mp_syntax.specs.Parsing.{ahead, StatementFrom, PlusGives, FlagsGive, FlagGives, FlagWordGives, MembersGive, flag_step};
+ghost use Rattle.mp_syntax.specs.Parsing.{ahead, StatementFrom, PlusGives, FlagsGive, FlagGives, FlagWordGives};
+ghost use Rattle.mp_syntax.specs.Parsing.{MembersGive, flag_step};
 
 use crate::fault::SyntaxError;
 use crate::parser::Parser;

@@ -1,12 +1,14 @@
 //! Reads expressions.
 
-ghost use Rattle.std.specs.Prelude.{◌≡◌, ◌<◌, ◌≤◌, ◌-◌, ◌^◌, ◌↔◌, ℕ, List, Some, None, Err, true, length, OnOk, IfOk, IfErr, IfNone};
+ghost use Rattle.std.specs.Prelude.{◌≡◌, ◌<◌, ◌≤◌, ◌-◌, ◌^◌, ◌↔◌, ℕ, List, Some, None, Err, true, length, OnOk, IfOk};
+ghost use Rattle.std.specs.Prelude.{IfErr, IfNone};
 ghost use Rattle.mp_syntax.specs.Lexing.{token_of};
 ghost use Rattle.mp_syntax.specs.Machine.{is_punct, wildcard_at};
 ghost use Rattle.mp_syntax.specs.View.{spot_of, spot_of_sign, wildcard_of, expr_tree};
 ghost use Rattle.mp_syntax.specs.Syntax.{Tree, IsExprOf, HasNames, HasNoDefault};
 ghost use Rattle.mp_syntax.specs.Reading.{parsed_expr, expr_reading, expr_of, IfFault, IsExprOrMemory};
-ghost use Rattle.mp_syntax.specs.Parsing.{ahead, AloneGives, ExprGives, WordLeads, DollarLeads, WildcardLeads, ChainGives, ArgumentsGive, OperandsGive};
+ghost use Rattle.mp_syntax.specs.Parsing.{ahead, AloneGives, ExprGives, WordLeads, DollarLeads, WildcardLeads};
+ghost use Rattle.mp_syntax.specs.Parsing.{ChainGives, ArgumentsGive, OperandsGive};
 
 use crate::fault::{FaultKind, SyntaxError};
 use crate::limits::MAX_OPEN;
@@ -238,7 +240,8 @@ impl<'a> Parser<'a> {
         sign: InfixSign<'a>,
         room: usize,
     ) -> Result<Vec<Expr<'a>>, SyntaxError>
-        ensures read { OperandsGive room (expr_tree first.entry) (spot_of_sign sign.entry) result (ahead self.old) (ahead self.new) }
+        ensures read { OperandsGive room (expr_tree first.entry) (spot_of_sign sign.entry) result (ahead self.old)
+            (ahead self.new) }
         ensures shorter { OnOk result (length (ahead self.new) ≤ length (ahead self.old)) }
     {
         let mut operands = Vec::new(alloc);

@@ -3,7 +3,8 @@
 ghost use Rattle.std.specs.Prelude.{◌≡◌, ◌≤◌, ◌<◌, ◌+◌, ◌-◌, ◌^◌, length, false};
 ghost use Rattle.std.specs.List.{prefix_len};
 ghost use Rattle.mp_syntax.specs.Tokens.{is_word_byte, is_sign_byte, is_blank, after_byte, first_place};
-ghost use Rattle.mp_syntax.specs.Lexing.{first_token_place, is_underscore, least, run_at, settled, word_or_wildcard_at, punct_at, after_blanks, token_of, token_at};
+ghost use Rattle.mp_syntax.specs.Lexing.{first_token_place, is_underscore, least, run_at, settled, word_or_wildcard_at};
+ghost use Rattle.mp_syntax.specs.Lexing.{punct_at, after_blanks, token_of, token_at};
 ghost use Rattle.mp_syntax.specs.View.{placed};
 
 use crate::limits::MAX_WORD_BYTES;

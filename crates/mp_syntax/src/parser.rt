@@ -3,7 +3,8 @@
 ghost use Rattle.std.specs.Prelude.{◌≡◌, ◌<◌, ◌≤◌, ◌-◌, ◌^◌, ◌∷◌, ◌&&◌, None, length, OnOk, IfSome, IfNone};
 ghost use Rattle.mp_syntax.specs.Tokens.{first_place};
 ghost use Rattle.mp_syntax.specs.Lexing.{token_of, behind, lexemes};
-ghost use Rattle.mp_syntax.specs.Machine.{is_punct, is_sign, is_word, is_end, is_number, word_of, sign_of, wildcard_at, is_dot, refusal};
+ghost use Rattle.mp_syntax.specs.Machine.{is_punct, is_sign, is_word, is_end, is_number, word_of, sign_of, wildcard_at};
+ghost use Rattle.mp_syntax.specs.Machine.{is_dot, refusal};
 ghost use Rattle.mp_syntax.specs.View.{placed, spot_of, spot_of_sign, wildcard_of};
 ghost use Rattle.mp_syntax.specs.Parsing.{ahead, PunctGives, TextGives, NumberGives, WildcardGives};
 
@@ -50,7 +51,9 @@ impl<'a> Parser<'a> {
 
     /// The fault that the grammar has another token than the one that is held.
     pub fn refused(&self) -> SyntaxError
-        ensures { result ≡ SyntaxError.Fault (record { kind = refusal (token_of self.now.token.kind); place = self.now.token.place }) }
+        ensures { result
+            ≡ SyntaxError.Fault
+            (record { kind = refusal (token_of self.now.token.kind); place = self.now.token.place }) }
     {
         match self.token.kind {
             Kind::Bad => self.fault(FaultKind::BadByte),

@@ -1,6 +1,7 @@
 //! Reads statements and whole files.
 
-ghost use Rattle.std.specs.Prelude.{◌≡◌, ◌<◌, ◌≤◌, ◌-◌, ◌^◌, ◌↔◌, ℕ, List, Some, Err, false, length, map, OnOk, IfOk, IfErr};
+ghost use Rattle.std.specs.Prelude.{◌≡◌, ◌<◌, ◌≤◌, ◌-◌, ◌^◌, ◌↔◌, ℕ, List, Some, Err, false, length, map, OnOk, IfOk};
+ghost use Rattle.std.specs.Prelude.{IfErr};
 ghost use Rattle.mp_syntax.specs.Tokens.{first_place};
 ghost use Rattle.mp_syntax.specs.Lexing.{token_of, lexemes};
 ghost use Rattle.mp_syntax.specs.Machine.{is_end, keyword, OfRule, OfSubject, Top, AfterRole};
@@ -58,7 +59,8 @@ pub fn read_statements<'a>(
     // Each word of it is 1 to 64 letters and digits, and each sign is of sign bytes and not the arrow.
     ensures names { IfOk result (λ v. StatementsHaveNames (map statement_tree v.items)) }
     // What the bytes are is answered, unless memory runs out.
-    ensures only { (file : List syntax.Statement) → IsSyntaxOf bytes.now file → IsOkOrMemory result (λ read. read ≡ file) }
+    ensures only { (file : List syntax.Statement) → IsSyntaxOf bytes.now file
+        → IsOkOrMemory result (λ read. read ≡ file) }
     // A fault is the one that reading token by token meets.
     ensures fault { IfErr result (λ e. IfFault e (λ f. reading bytes.now ≡ Err f)) }
 {
@@ -80,12 +82,15 @@ pub fn syntax_has_names()
     ensures { (bytes : List ℕ) (file : List syntax.Statement) → IsSyntaxOf bytes file → StatementsHaveNames file }
 {}
 
-/// Law: the text that statements are printed as, `statements_text` of `specs/Printed.antt`, is read as those statements, apart from
-/// the places where they stand.
+/// Law: the text that statements are printed as, `statements_text` of `specs/Printed.antt`, is read as those
+/// statements, apart from the places where they stand.
 ///
-/// Of the statements each word is a word and each expression fits, as of all that are read. It does nothing when it runs.
+/// Of the statements each word is a word and each expression fits, as of all that are read. It does nothing when it
+/// runs.
 pub fn printed_statements_are_read()
-    ensures { (file : List syntax.Statement) → StatementsHaveNames file → AreStatements file → (read : List syntax.Statement) × IsSyntaxOf (statements_text file) read × (map unplaced read ≡ map unplaced file) }
+    ensures { (file : List syntax.Statement) → StatementsHaveNames file → AreStatements file
+        → (read : List syntax.Statement) × IsSyntaxOf (statements_text file) read
+        × (map unplaced read ≡ map unplaced file) }
 {}
 
 // Reads all statements, or the first fault.

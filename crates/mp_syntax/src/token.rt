@@ -79,12 +79,14 @@ pub struct Token<'a> {
 ///
 /// It does nothing when it runs.
 pub fn tokens_are_unique()
-    ensures { (bytes : List ℕ) (place : places.Place) (ts us : List Placed) → Tokens bytes place ts → Tokens bytes place us → ts ≡ us }
+    ensures { (bytes : List ℕ) (place : places.Place) (ts us : List Placed) → Tokens bytes place ts
+        → Tokens bytes place us → ts ≡ us }
 {}
 
 /// Law: bytes have tokens, or tokens up to a byte that begins none, by `StopsEarly` of `specs/Tokens.antt`.
 ///
 /// It does nothing when it runs.
 pub fn tokens_are_total()
-    ensures { (bytes : List ℕ) (place : places.Place) → ((ts : List Placed) × Tokens bytes place ts) ⊎ StopsEarly bytes place }
+    ensures { (bytes : List ℕ) (place : places.Place)
+        → ((ts : List Placed) × Tokens bytes place ts) ⊎ StopsEarly bytes place }
 {}

@@ -55,7 +55,8 @@ pub enum Expr<'a> {
     },
     /// A wildcard.
     Wild(Wildcard<'a>),
-    /// A wildcard, a colon and its default; or several wildcards, each with a colon behind it, and then the default of the last.
+    /// A wildcard, a colon and its default; or several wildcards, each with a colon behind it, and then the default of
+    /// the last.
     Optional {
         /// The first wildcard.
         wildcard: Wildcard<'a>,

@@ -4,10 +4,12 @@ use Rattle.mp_syntax.proofs.Whole.{condition_is_read, answer-holds, answer-only,
 use Rattle.mp_syntax.proofs.condition.read_condition.Goals as goal
 
 pub returns-clause-found : goal.returns-clause-found
-returns-clause-found c = answer-holds condition_is_read condition_tree c.args.bytes.now c.alone.result (IsConditionOf c.args.bytes.now) (λ v f. f) c.alone.ensures
+returns-clause-found c = answer-holds condition_is_read condition_tree c.args.bytes.now c.alone.result
+    (IsConditionOf c.args.bytes.now) (λ v f. f) c.alone.ensures
 
 pub returns-clause-names : goal.returns-clause-names
-returns-clause-names c = answer-holds condition_is_read condition_tree c.args.bytes.now c.alone.result ConditionHasNames (condition_bytes-names c.args.bytes.now) c.alone.ensures
+returns-clause-names c = answer-holds condition_is_read condition_tree c.args.bytes.now c.alone.result ConditionHasNames
+    (condition_bytes-names c.args.bytes.now) c.alone.ensures
 
 pub returns-clause-only : goal.returns-clause-only
 returns-clause-only c = answer-only condition_is_read condition_tree c.args.bytes.now c.alone.result c.alone.ensures

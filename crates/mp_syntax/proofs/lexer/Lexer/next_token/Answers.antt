@@ -5,4 +5,9 @@ use Rattle.mp_syntax.proofs.Names.{kind_at-spelled}
 use Rattle.mp_syntax.proofs.lexer.Lexer.next_token.Goals as goal
 
 pub invariant_of-result : goal.invariant_of-result
-invariant_of-result c = record { spelled = subst IsSpelled (sym (c.settled-kind.ensures ∙ ap (λ r. settled r.0) c.longest-len.ensures.value)) (kind_at-spelled c.skip_blanks.new.self.rest.now) }
+invariant_of-result c =
+    record {
+      spelled = subst IsSpelled
+          (sym (c.settled-kind.ensures ∙ ap (λ r. settled r.0) c.longest-len.ensures.value))
+          (kind_at-spelled c.skip_blanks.new.self.rest.now);
+    }

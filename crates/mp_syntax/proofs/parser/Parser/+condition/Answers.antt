@@ -3,7 +3,8 @@ use Rattle.std.specs.Prelude.{codes}
 use Rattle.std.proofs.lemmas.List.{map_push}
 use Rattle.mp_syntax.specs.declared.token.Punct.TheVariants.{OpenSquare}
 use Rattle.mp_syntax.specs.Syntax.{Bracketed, literals, condition}
-use Rattle.mp_syntax.specs.Machine.{Go, BeforeLiteral, BeforeBody, AfterLiteral, Square, no_level, next_literal, all_alternatives, run}
+use Rattle.mp_syntax.specs.Machine.{Go, BeforeLiteral, BeforeBody, AfterLiteral, Square, no_level, next_literal}
+use Rattle.mp_syntax.specs.Machine.{all_alternatives, run}
 use Rattle.mp_syntax.specs.View.{placed, literal_tree, alternative_tree}
 use Rattle.mp_syntax.specs.Parsing.{ahead}
 use Rattle.mp_syntax.specs.ConditionParsing.{level}
@@ -21,8 +22,11 @@ alternative-loop-literals-preserved t c =
           let l = literal_tree c.in_ok-literal.field-0 in
           c.loop-literals.invariant.read done x k before len
           ∙ c.in_ok-literal.ensures.read done x k (level before ls) len
-          ∙ over-word (codes "and") (placed c.literal.new.self.token) _ _ c.advance.ensures held done (AfterLiteral x k (level before ls) l) (Go (BeforeLiteral x k (next_literal (level before ls) l))) (and-step x k (level before ls) l (placed c.literal.new.self.token) held)
-          ∙ ap (λ r. run done (BeforeLiteral x k (level before r)) (ahead c.advance.new.self)) (sym (ap (map literal_tree) c.in_ok-push.ensures.items ∙ map_push literal_tree _ _));
+          ∙ over-word (codes "and") (placed c.literal.new.self.token) _ _ c.advance.ensures held done
+          (AfterLiteral x k (level before ls) l) (Go (BeforeLiteral x k (next_literal (level before ls) l)))
+          (and-step x k (level before ls) l (placed c.literal.new.self.token) held)
+          ∙ ap (λ r. run done (BeforeLiteral x k (level before r)) (ahead c.advance.new.self))
+          (sym (ap (map literal_tree) c.in_ok-push.ensures.items ∙ map_push literal_tree _ _));
       shorter = search rules;
     }
 
@@ -31,29 +35,40 @@ alternative-returns-clause-read t c = (
   map literal_tree c.loop-literals.literals.items,
   literal_tree c.in_ok-literal.field-0,
   ap literals (sym (ap (map literal_tree) c.in_ok-push.ensures.items ∙ map_push literal_tree _ _)),
-  λ done x k before len. c.loop-literals.invariant.read done x k before len ∙ c.in_ok-literal.ensures.read done x k (level before (map literal_tree c.loop-literals.literals.items)) len,
+  λ done x k before len. c.loop-literals.invariant.read done x k before len
+      ∙ c.in_ok-literal.ensures.read done x k (level before (map literal_tree c.loop-literals.literals.items)) len,
 )
 
 pub bracketed-returns-in_err-condition-clause-read : goal.bracketed-returns-in_err-condition-clause-read
 bracketed-returns-in_err-condition-clause-read t c = λ done x k s len.
     breaks _ _ _ _ _ _ _ c.from_residual.ensures.1
-    (over-punct OpenSquare (placed c.args.self.now.token) _ _ c.advance.ensures c.requires done (BeforeBody x k s) (Go (BeforeLiteral x (Square s ∷ k) no_level)) (square-step x k s (placed c.args.self.now.token) c.args.room len (omega arith) c.requires))
+    (over-punct OpenSquare (placed c.args.self.now.token) _ _ c.advance.ensures c.requires done (BeforeBody x k s)
+    (Go (BeforeLiteral x (Square s ∷ k) no_level))
+    (square-step x k s (placed c.args.self.now.token) c.args.room len (omega arith) c.requires))
     (c.in_err-condition.ensures.read done x (Square s ∷ k) (omega (arith, len)))
 
 pub bracketed-returns-in_err-expect-clause-read : goal.bracketed-returns-in_err-expect-clause-read
 bracketed-returns-in_err-expect-clause-read t c = λ done x k s len.
     let r = c.in_ok-condition.ensures.read in
     breaks _ _ _ _ _ _ _ c.from_residual-in_err-expect.ensures.1
-    (over-punct OpenSquare (placed c.args.self.now.token) _ _ c.advance.ensures c.requires done (BeforeBody x k s) (Go (BeforeLiteral x (Square s ∷ k) no_level)) (square-step x k s (placed c.args.self.now.token) c.args.room len (omega arith) c.requires)
+    (over-punct OpenSquare (placed c.args.self.now.token) _ _ c.advance.ensures c.requires done (BeforeBody x k s)
+    (Go (BeforeLiteral x (Square s ∷ k) no_level))
+    (square-step x k s (placed c.args.self.now.token) c.args.room len (omega arith) c.requires)
     ∙ r.3 done x (Square s ∷ k) (omega (arith, len)))
-    (c.in_err-expect.ensures.read done (AfterLiteral x (Square s ∷ k) r.0 r.1) (Go (AfterLiteral x k s.level (Bracketed s.negated (condition (all_alternatives r.0 r.1))))) (whole-step x (Square s ∷ k) r.0 r.1 (placed c.condition.new.self.token) c.in_ok-condition.ensures.ends))
+    (c.in_err-expect.ensures.read done (AfterLiteral x (Square s ∷ k) r.0 r.1)
+    (Go (AfterLiteral x k s.level (Bracketed s.negated (condition (all_alternatives r.0 r.1)))))
+    (whole-step x (Square s ∷ k) r.0 r.1 (placed c.condition.new.self.token) c.in_ok-condition.ensures.ends))
 
 pub bracketed-returns-clause-read : goal.bracketed-returns-clause-read
 bracketed-returns-clause-read t c = λ done x k s len.
     let r = c.in_ok-condition.ensures.read in
-    over-punct OpenSquare (placed c.args.self.now.token) _ _ c.advance.ensures c.requires done (BeforeBody x k s) (Go (BeforeLiteral x (Square s ∷ k) no_level)) (square-step x k s (placed c.args.self.now.token) c.args.room len (omega arith) c.requires)
+    over-punct OpenSquare (placed c.args.self.now.token) _ _ c.advance.ensures c.requires done (BeforeBody x k s)
+    (Go (BeforeLiteral x (Square s ∷ k) no_level))
+    (square-step x k s (placed c.args.self.now.token) c.args.room len (omega arith) c.requires)
     ∙ r.3 done x (Square s ∷ k) (omega (arith, len))
-    ∙ c.in_ok-expect.ensures.read done (AfterLiteral x (Square s ∷ k) r.0 r.1) (Go (AfterLiteral x k s.level (Bracketed s.negated (condition (all_alternatives r.0 r.1))))) (whole-step x (Square s ∷ k) r.0 r.1 (placed c.condition.new.self.token) c.in_ok-condition.ensures.ends)
+    ∙ c.in_ok-expect.ensures.read done (AfterLiteral x (Square s ∷ k) r.0 r.1)
+    (Go (AfterLiteral x k s.level (Bracketed s.negated (condition (all_alternatives r.0 r.1)))))
+    (whole-step x (Square s ∷ k) r.0 r.1 (placed c.condition.new.self.token) c.in_ok-condition.ensures.ends)
     ∙ ap (λ d. run done (AfterLiteral x k s.level (Bracketed s.negated d)) (ahead c.expect.new.self)) r.2
 
 pub condition-returns-clause-read : goal.condition-returns-clause-read
@@ -62,6 +77,8 @@ condition-returns-clause-read t c =
     let before = map alternative_tree c.loop-alternatives.alternatives.items in (
       level before r.0,
       r.1,
-      ap (λ a. condition (before ++ a ∷ [])) r.2 ∙ ap condition (sym (ap (map alternative_tree) c.in_ok-push.ensures.items ∙ map_push alternative_tree _ _)) ∙ sym (condition_tree-Condition _),
+      ap (λ a. condition (before ++ a ∷ [])) r.2
+          ∙ ap condition (sym (ap (map alternative_tree) c.in_ok-push.ensures.items ∙ map_push alternative_tree _ _))
+          ∙ sym (condition_tree-Condition _),
       λ done x k len. c.loop-alternatives.invariant.read done x k len ∙ r.3 done x k before len,
     )

@@ -21,7 +21,9 @@ decreases-bracketed l = 4 * l.room
 -- the alternatives so far stand before the next one
 abbrev pub invariant-condition-loop-alternatives : goal.invariant-condition-loop-alternatives
 invariant-condition-loop-alternatives l = record {
-  read : (done : List Statement) (x : Within) (k : List Frame) → HasRoom k l.room → run done (BeforeLiteral x k no_level) (ahead l.fn.self) ≡ run done (BeforeLiteral x k (level (map alternative_tree l.alternatives.items) [])) (ahead l.self);
+  read : (done : List Statement) (x : Within) (k : List Frame) → HasRoom k l.room
+      → run done (BeforeLiteral x k no_level) (ahead l.fn.self)
+      ≡ run done (BeforeLiteral x k (level (map alternative_tree l.alternatives.items) [])) (ahead l.self);
   shorter : length (ahead l.self) ≤ length (ahead l.fn.self);
 }
 
@@ -31,7 +33,9 @@ decreases-condition-loop-alternatives l = length (ahead l.self)
 -- the literals so far stand before the next one
 abbrev pub invariant-alternative-loop-literals : goal.invariant-alternative-loop-literals
 invariant-alternative-loop-literals l = record {
-  read : (done : List Statement) (x : Within) (k : List Frame) (before : List Literals) → HasRoom k l.room → run done (BeforeLiteral x k (level before [])) (ahead l.fn.self) ≡ run done (BeforeLiteral x k (level before (map literal_tree l.literals.items))) (ahead l.self);
+  read : (done : List Statement) (x : Within) (k : List Frame) (before : List Literals) → HasRoom k l.room
+      → run done (BeforeLiteral x k (level before [])) (ahead l.fn.self)
+      ≡ run done (BeforeLiteral x k (level before (map literal_tree l.literals.items))) (ahead l.self);
   shorter : length (ahead l.self) ≤ length (ahead l.fn.self);
 }
 

@@ -1,20 +1,26 @@
 use Rattle.std.proofs.Common.{◌≡◌, ◌+◌, [], ◌∷◌, ◌++◌, map, refl, sym, ap, subst, ◌∙◌, arith}
 use Rattle.std.proofs.lemmas.List.{map_push}
 use Rattle.mp_syntax.specs.declared.token.Punct.TheVariants.{Open, Close}
-use Rattle.mp_syntax.specs.Machine.{Go, Default, BeforeExpr, AfterExpr, AfterWord, AfterOpen, Arguments, Bracket, Operands, run}
+use Rattle.mp_syntax.specs.Machine.{Go, Default, BeforeExpr, AfterExpr, AfterWord, AfterOpen, Arguments, Bracket}
+use Rattle.mp_syntax.specs.Machine.{Operands, run}
 use Rattle.mp_syntax.specs.Tokens.{Punctuation}
 use Rattle.mp_syntax.specs.Lexing.{token_of}
 use Rattle.mp_syntax.specs.Syntax.{Apply, InfixOf, Optional, trees, HasNoDefault}
 use Rattle.mp_syntax.specs.View.{placed, spot_of, spot_of_sign, wildcard_of, expr_tree}
 use Rattle.mp_syntax.specs.Parsing.{ahead, behind_chain, within_defaults}
-use Rattle.mp_syntax.proofs.Runs.{expr-closes, operand-closes, word-opens, open-closes, open-expr, bracket-opens, over-punct, length-passed_sign, over-sign, operand-again, over-default, defaults-behind, chained-optional, open_count-within_defaults, breaks, passes-along, word-begins, dollar-begins}
+use Rattle.mp_syntax.proofs.Runs.{expr-closes, operand-closes, word-opens, open-closes, open-expr, bracket-opens}
+use Rattle.mp_syntax.proofs.Runs.{over-punct, length-passed_sign, over-sign, operand-again, over-default}
+use Rattle.mp_syntax.proofs.Runs.{defaults-behind, chained-optional, open_count-within_defaults, breaks, passes-along}
+use Rattle.mp_syntax.proofs.Runs.{word-begins, dollar-begins}
 use Rattle.mp_syntax.proofs.Trees.{expr_tree-Apply, expr_tree-Infix}
 use Rattle.mp_syntax.proofs.parser.Parser.+expression.Goals as goal
-use Rattle.mp_syntax.proofs.parser.Parser.+expression.Goals.{behind_wildcard-in-Some, behind_wildcard-in-None+in_ok-default-in-None}
+use Rattle.mp_syntax.proofs.parser.Parser.+expression.Goals.{behind_wildcard-in-Some}
+use Rattle.mp_syntax.proofs.parser.Parser.+expression.Goals.{behind_wildcard-in-None+in_ok-default-in-None}
 
 pub expr-returns-in-Some-clause-read : goal.expr-returns-in-Some-clause-read
 expr-returns-in-Some-clause-read t c = λ done x k len.
-    passes-along _ _ _ c.behind_wildcard.result _ _ _ (c.in-Some.ensures.read done x k) (c.behind_wildcard.ensures.read done x k len)
+    passes-along _ _ _ c.behind_wildcard.result _ _ _ (c.in-Some.ensures.read done x k)
+    (c.behind_wildcard.ensures.read done x k len)
 
 pub word_or_bracket-returns-in-Word-clause-read : goal.word_or_bracket-returns-in-Word-clause-read
 word_or_bracket-returns-in-Word-clause-read t c = λ done x k len.
@@ -25,19 +31,23 @@ word_or_bracket-returns-in-Word-clause-read t c = λ done x k len.
 pub word_or_bracket-returns-in-Punct-Dollar-clause-read : goal.word_or_bracket-returns-in-Punct-Dollar-clause-read
 word_or_bracket-returns-in-Punct-Dollar-clause-read t c = λ done x k len.
     passes-along _ _ _ c.behind_dollar.result _ _ _
-    (dollar-begins done x k (placed c.args.self.now.token) _ _ c.advance-in-Punct-Dollar.ensures (ap token_of c.in-Punct-Dollar.is ∙ ap Punctuation (rw c.in-Punct-Dollar.is at c.in-Punct-Dollar.field-0-is)))
+    (dollar-begins done x k (placed c.args.self.now.token) _ _ c.advance-in-Punct-Dollar.ensures
+    (ap token_of c.in-Punct-Dollar.is ∙ ap Punctuation (rw c.in-Punct-Dollar.is at c.in-Punct-Dollar.field-0-is)))
     (c.behind_dollar.ensures.read done x k)
 
 pub word_or_bracket-invariant_of-behind_word : goal.word_or_bracket-invariant_of-behind_word
-word_or_bracket-invariant_of-behind_word t c = record { named = c.args.self.now.token.spelled.word _ (ap token_of c.in-Word.is) }
+word_or_bracket-invariant_of-behind_word t c =
+    record { named = c.args.self.now.token.spelled.word _ (ap token_of c.in-Word.is) }
 
 pub arguments-returns-in_err-expect-clause-read : goal.arguments-returns-in_err-expect-clause-read
 arguments-returns-in_err-expect-clause-read t c = λ done h k w len.
     let args = map expr_tree c.loop-args.args.items in
     let e = expr_tree c.in_ok-expr.field-0 in
     breaks _ _ _ _ _ _ _ c.from_residual-in_err-expect.ensures.1
-    (c.loop-args.invariant.read done h k w len ∙ c.in_ok-expr.ensures.read done h (Arguments w args ∷ k) (omega (arith, len)))
-    (c.in_err-expect.ensures.read done (AfterExpr h (Arguments w args ∷ k) e) _ (expr-closes h w args k e (placed c.expr.new.self.token) (sym c.sees.ensures ∙ c.if-not-sees.true)))
+    (c.loop-args.invariant.read done h k w len
+    ∙ c.in_ok-expr.ensures.read done h (Arguments w args ∷ k) (omega (arith, len)))
+    (c.in_err-expect.ensures.read done (AfterExpr h (Arguments w args ∷ k) e) _
+    (expr-closes h w args k e (placed c.expr.new.self.token) (sym c.sees.ensures ∙ c.if-not-sees.true)))
 
 pub arguments-returns-clause-read : goal.arguments-returns-clause-read
 arguments-returns-clause-read t c = λ done h k w len.
@@ -45,52 +55,75 @@ arguments-returns-clause-read t c = λ done h k w len.
     let e = expr_tree c.in_ok-expr.field-0 in
     c.loop-args.invariant.read done h k w len
     ∙ c.in_ok-expr.ensures.read done h (Arguments w args ∷ k) (omega (arith, len))
-    ∙ c.in_ok-expect.ensures.read done (AfterExpr h (Arguments w args ∷ k) e) _ (expr-closes h w args k e (placed c.expr.new.self.token) (sym c.sees.ensures ∙ c.if-not-sees.true))
-    ∙ ap (λ l. run done (AfterExpr h k (Apply w (trees l))) (ahead c.expect.new.self)) (sym (ap (map expr_tree) c.in_ok-push.ensures.items ∙ map_push expr_tree _ _))
+    ∙ c.in_ok-expect.ensures.read done (AfterExpr h (Arguments w args ∷ k) e) _
+    (expr-closes h w args k e (placed c.expr.new.self.token) (sym c.sees.ensures ∙ c.if-not-sees.true))
+    ∙ ap (λ l. run done (AfterExpr h k (Apply w (trees l))) (ahead c.expect.new.self))
+    (sym (ap (map expr_tree) c.in_ok-push.ensures.items ∙ map_push expr_tree _ _))
 
 pub behind_word-returns-then-sees-clause-read : goal.behind_word-returns-then-sees-clause-read
 behind_word-returns-then-sees-clause-read t c = λ done h k len.
     let name = spot_of c.args.name in
-    over-punct Open (placed c.args.self.now.token) _ _ c.advance.ensures (sym c.sees.ensures ∙ c.if-not-sees.false) done (AfterWord h k name) (Go (AfterOpen h k name)) (word-opens h k name (placed c.args.self.now.token) c.args.room len (omega arith) (sym c.sees.ensures ∙ c.if-not-sees.false))
-    ∙ over-punct Close (placed c.advance.new.self.token) _ _ c.advance-then-sees.ensures (sym c.sees-2.ensures ∙ c.if-sees.true) done (AfterOpen h k name) (Go (AfterExpr h k (Apply name (trees [])))) (open-closes h k name (placed c.advance.new.self.token) (sym c.sees-2.ensures ∙ c.if-sees.true))
-    ∙ ap (λ x. run done (AfterExpr h k x) (ahead c.advance-then-sees.new.self)) (sym (expr_tree-Apply c.args.name c.new.result ∙ ap (λ l. Apply name (trees (map expr_tree l))) c.new.ensures.items))
+    over-punct Open (placed c.args.self.now.token) _ _ c.advance.ensures (sym c.sees.ensures ∙ c.if-not-sees.false) done
+    (AfterWord h k name) (Go (AfterOpen h k name))
+    (word-opens h k name (placed c.args.self.now.token) c.args.room len (omega arith)
+    (sym c.sees.ensures ∙ c.if-not-sees.false))
+    ∙ over-punct Close (placed c.advance.new.self.token) _ _ c.advance-then-sees.ensures
+    (sym c.sees-2.ensures ∙ c.if-sees.true) done (AfterOpen h k name) (Go (AfterExpr h k (Apply name (trees []))))
+    (open-closes h k name (placed c.advance.new.self.token) (sym c.sees-2.ensures ∙ c.if-sees.true))
+    ∙ ap (λ x. run done (AfterExpr h k x) (ahead c.advance-then-sees.new.self))
+    (sym (expr_tree-Apply c.args.name c.new.result
+    ∙ ap (λ l. Apply name (trees (map expr_tree l))) c.new.ensures.items))
 
 pub behind_word-returns-clause-read : goal.behind_word-returns-clause-read
 behind_word-returns-clause-read t c = λ done h k len.
     let name = spot_of c.args.name in
-    over-punct Open (placed c.args.self.now.token) _ _ c.advance.ensures (sym c.sees.ensures ∙ c.if-not-sees.false) done (AfterWord h k name) (Go (AfterOpen h k name)) (word-opens h k name (placed c.args.self.now.token) c.args.room len (omega arith) (sym c.sees.ensures ∙ c.if-not-sees.false))
+    over-punct Open (placed c.args.self.now.token) _ _ c.advance.ensures (sym c.sees.ensures ∙ c.if-not-sees.false) done
+    (AfterWord h k name) (Go (AfterOpen h k name))
+    (word-opens h k name (placed c.args.self.now.token) c.args.room len (omega arith)
+    (sym c.sees.ensures ∙ c.if-not-sees.false))
     ∙ open-expr done h k name (placed c.advance.new.self.token) _ (sym c.sees-2.ensures ∙ c.if-sees.false)
     ∙ c.in_ok-args.ensures.read done h k name (omega (arith, len))
-    ∙ ap (λ x. run done (AfterExpr h k x) (ahead c.arguments.new.self)) (sym (expr_tree-Apply c.args.name c.in_ok-args.args))
+    ∙ ap (λ x. run done (AfterExpr h k x) (ahead c.arguments.new.self))
+    (sym (expr_tree-Apply c.args.name c.in_ok-args.args))
 
 pub infix-returns-in_err-sign-clause-read : goal.infix-returns-in_err-sign-clause-read
 infix-returns-in_err-sign-clause-read t c = λ done h k len.
     let place = c.args.self.now.token.place in
     let first = expr_tree c.in_ok-first.first in
     breaks _ _ _ _ _ _ _ c.from_residual-in_err-sign.ensures.1
-    (over-punct Open (placed c.args.self.now.token) _ _ c.advance.ensures c.requires done (BeforeExpr h k) (Go (BeforeExpr h (Bracket place ∷ k))) (bracket-opens h k (placed c.args.self.now.token) c.args.room len (omega arith) c.requires)
+    (over-punct Open (placed c.args.self.now.token) _ _ c.advance.ensures c.requires done (BeforeExpr h k)
+    (Go (BeforeExpr h (Bracket place ∷ k)))
+    (bracket-opens h k (placed c.args.self.now.token) c.args.room len (omega arith) c.requires)
     ∙ c.in_ok-first.ensures.read done h (Bracket place ∷ k) (omega (arith, len)))
-    (c.in_err-sign.ensures.read done (AfterExpr h (Bracket place ∷ k) first) (λ s. BeforeExpr h (Operands place s first [] ∷ k)) (λ t. refl))
+    (c.in_err-sign.ensures.read done (AfterExpr h (Bracket place ∷ k) first)
+    (λ s. BeforeExpr h (Operands place s first [] ∷ k)) (λ t. refl))
 
 pub infix-returns-in_err-operands-clause-read : goal.infix-returns-in_err-operands-clause-read
 infix-returns-in_err-operands-clause-read t c = λ done h k len.
     let place = c.args.self.now.token.place in
     let first = expr_tree c.in_ok-first.first in
     breaks _ _ _ _ _ _ _ c.from_residual-in_err-operands.ensures.1
-    (over-punct Open (placed c.args.self.now.token) _ _ c.advance.ensures c.requires done (BeforeExpr h k) (Go (BeforeExpr h (Bracket place ∷ k))) (bracket-opens h k (placed c.args.self.now.token) c.args.room len (omega arith) c.requires)
+    (over-punct Open (placed c.args.self.now.token) _ _ c.advance.ensures c.requires done (BeforeExpr h k)
+    (Go (BeforeExpr h (Bracket place ∷ k)))
+    (bracket-opens h k (placed c.args.self.now.token) c.args.room len (omega arith) c.requires)
     ∙ c.in_ok-first.ensures.read done h (Bracket place ∷ k) (omega (arith, len))
-    ∙ c.in_ok-sign.ensures.read done (AfterExpr h (Bracket place ∷ k) first) (λ s. BeforeExpr h (Operands place s first [] ∷ k)) (λ t. refl))
+    ∙ c.in_ok-sign.ensures.read done (AfterExpr h (Bracket place ∷ k) first)
+    (λ s. BeforeExpr h (Operands place s first [] ∷ k)) (λ t. refl))
     (c.in_err-operands.ensures.read done h k place (omega (arith, len)))
 
 pub infix-returns-clause-read : goal.infix-returns-clause-read
 infix-returns-clause-read t c = λ done h k len.
     let place = c.args.self.now.token.place in
     let first = expr_tree c.in_ok-first.first in
-    over-punct Open (placed c.args.self.now.token) _ _ c.advance.ensures c.requires done (BeforeExpr h k) (Go (BeforeExpr h (Bracket place ∷ k))) (bracket-opens h k (placed c.args.self.now.token) c.args.room len (omega arith) c.requires)
+    over-punct Open (placed c.args.self.now.token) _ _ c.advance.ensures c.requires done (BeforeExpr h k)
+    (Go (BeforeExpr h (Bracket place ∷ k)))
+    (bracket-opens h k (placed c.args.self.now.token) c.args.room len (omega arith) c.requires)
     ∙ c.in_ok-first.ensures.read done h (Bracket place ∷ k) (omega (arith, len))
-    ∙ c.in_ok-sign.ensures.read done (AfterExpr h (Bracket place ∷ k) first) (λ s. BeforeExpr h (Operands place s first [] ∷ k)) (λ t. refl)
+    ∙ c.in_ok-sign.ensures.read done (AfterExpr h (Bracket place ∷ k) first)
+    (λ s. BeforeExpr h (Operands place s first [] ∷ k)) (λ t. refl)
     ∙ c.in_ok-operands.ensures.read done h k place (omega (arith, len))
-    ∙ ap (λ x. run done (AfterExpr h k x) (ahead c.operands.new.self)) (sym (expr_tree-Infix place c.in_ok-sign.sign c.in_ok-operands.operands))
+    ∙ ap (λ x. run done (AfterExpr h k x) (ahead c.operands.new.self))
+    (sym (expr_tree-Infix place c.in_ok-sign.sign c.in_ok-operands.operands))
 
 pub operands-returns-in_err-expect-clause-read : goal.operands-returns-in_err-expect-clause-read
 operands-returns-in_err-expect-clause-read t c = λ done h k place len.
@@ -99,8 +132,11 @@ operands-returns-in_err-expect-clause-read t c = λ done h k place len.
     let others = map expr_tree c.loop-operands.invariant.others in
     let e = expr_tree c.in_ok-expr.field-0 in
     breaks _ _ _ _ _ _ _ c.from_residual-in_err-expect.ensures.1
-    (c.loop-operands.invariant.read done h k place len ∙ c.in_ok-expr.ensures.read done h (Operands place sign first others ∷ k) (omega (arith, len)))
-    (c.in_err-expect.ensures.read done (AfterExpr h (Operands place sign first others ∷ k) e) _ (operand-closes h place sign first others k e (placed c.expr.new.self.token) (sym c.sees_sign.ensures ∙ c.if-not-sees_sign.true)))
+    (c.loop-operands.invariant.read done h k place len
+    ∙ c.in_ok-expr.ensures.read done h (Operands place sign first others ∷ k) (omega (arith, len)))
+    (c.in_err-expect.ensures.read done (AfterExpr h (Operands place sign first others ∷ k) e) _
+    (operand-closes h place sign first others k e (placed c.expr.new.self.token)
+    (sym c.sees_sign.ensures ∙ c.if-not-sees_sign.true)))
 
 pub operands-returns-clause-read : goal.operands-returns-clause-read
 operands-returns-clause-read t c = λ done h k place len.
@@ -110,10 +146,16 @@ operands-returns-clause-read t c = λ done h k place len.
     let e = expr_tree c.in_ok-expr.field-0 in
     c.loop-operands.invariant.read done h k place len
     ∙ c.in_ok-expr.ensures.read done h (Operands place sign first others ∷ k) (omega (arith, len))
-    ∙ c.in_ok-expect.ensures.read done (AfterExpr h (Operands place sign first others ∷ k) e) _ (operand-closes h place sign first others k e (placed c.expr.new.self.token) (sym c.sees_sign.ensures ∙ c.if-not-sees_sign.true))
-    ∙ ap (λ l. run done (AfterExpr h k (InfixOf place sign (trees l))) (ahead c.expect.new.self)) (sym (ap (map expr_tree) (c.in_ok-push-2.ensures.items ∙ ap (λ l. l ++ c.in_ok-expr.field-0 ∷ []) c.loop-operands.invariant.items) ∙ ap (λ l. first ∷ l) (map_push expr_tree c.loop-operands.invariant.others c.in_ok-expr.field-0)))
+    ∙ c.in_ok-expect.ensures.read done (AfterExpr h (Operands place sign first others ∷ k) e) _
+    (operand-closes h place sign first others k e (placed c.expr.new.self.token)
+    (sym c.sees_sign.ensures ∙ c.if-not-sees_sign.true))
+    ∙ ap (λ l. run done (AfterExpr h k (InfixOf place sign (trees l))) (ahead c.expect.new.self))
+    (sym (ap (map expr_tree) (c.in_ok-push-2.ensures.items
+    ∙ ap (λ l. l ++ c.in_ok-expr.field-0 ∷ []) c.loop-operands.invariant.items)
+    ∙ ap (λ l. first ∷ l) (map_push expr_tree c.loop-operands.invariant.others c.in_ok-expr.field-0)))
 
-pub behind_wildcard-returns-in_err-default-in-None-clause-read : goal.behind_wildcard-returns-in_err-default-in-None-clause-read
+pub behind_wildcard-returns-in_err-default-in-None-clause-read :
+    goal.behind_wildcard-returns-in_err-default-in-None-clause-read
 behind_wildcard-returns-in_err-default-in-None-clause-read t c = λ done x k len.
     let w = wildcard_of c.args.wildcard in
     let ws = w ∷ map wildcard_of c.in_ok-others.others.items in
@@ -122,7 +164,8 @@ behind_wildcard-returns-in_err-default-in-None-clause-read t c = λ done x k len
     (over-default (placed c.args.self.now.token) _ _ c.advance.ensures done x k w test
     ∙ c.in_ok-others.ensures.read done x (Default w ∷ k)
     ∙ ap (λ o. run done (behind_chain x (within_defaults ws k) o) (ahead c.chain.new.self)) c.in-None.is)
-    (c.in_err-default-in-None.ensures.read done x (within_defaults ws k) (ap (λ n. n + c.args.room) (open_count-within_defaults ws k) ∙ len))
+    (c.in_err-default-in-None.ensures.read done x (within_defaults ws k)
+    (ap (λ n. n + c.args.room) (open_count-within_defaults ws k) ∙ len))
 
 pub behind_wildcard-returns-clause-read : goal.behind_wildcard-returns-clause-read
 behind_wildcard-returns-clause-read t c = λ done x k len.
@@ -133,20 +176,28 @@ behind_wildcard-returns-clause-read t c = λ done x k len.
     let test = sym c.sees_default.ensures ∙ c.if-not-sees_default.false in
     let plain : HasNoDefault e = elim c.match-last.branch [
       | behind_wildcard-in-Some v ↦ subst (λ d. HasNoDefault (expr_tree d)) (sym v.default-is) tt
-      | behind_wildcard-in-None+in_ok-default-in-None v ↦ subst (λ d. HasNoDefault (expr_tree d)) (sym v.default-is) v.in_ok-default-in-None.ensures.plain
+      | behind_wildcard-in-None+in_ok-default-in-None v ↦
+          subst (λ d. HasNoDefault (expr_tree d)) (sym v.default-is) v.in_ok-default-in-None.ensures.plain
     ] in
-    let last : run done (behind_chain x (within_defaults ws k) c.in_ok-others.last) (ahead c.chain.new.self) ≡ run done (AfterExpr x (within_defaults ws k) e) (ahead c.match-last.self) = elim c.match-last.branch [
-      | behind_wildcard-in-Some v ↦ ap (λ o. run done (behind_chain x (within_defaults ws k) o) (ahead c.chain.new.self)) v.in-Some.is ∙ (λ i. run done (AfterExpr x (within_defaults ws k) (expr_tree (sym v.default-is i))) (ahead (sym v.self-is i)))
+    let last : run done (behind_chain x (within_defaults ws k) c.in_ok-others.last) (ahead c.chain.new.self)
+    ≡ run done (AfterExpr x (within_defaults ws k) e) (ahead c.match-last.self) = elim c.match-last.branch [
+      | behind_wildcard-in-Some v ↦
+          ap (λ o. run done (behind_chain x (within_defaults ws k) o) (ahead c.chain.new.self)) v.in-Some.is
+          ∙ (λ i. run done (AfterExpr x (within_defaults ws k) (expr_tree (sym v.default-is i)))
+          (ahead (sym v.self-is i)))
       | behind_wildcard-in-None+in_ok-default-in-None v ↦
           ap (λ o. run done (behind_chain x (within_defaults ws k) o) (ahead c.chain.new.self)) v.in-None.is
-          ∙ v.in_ok-default-in-None.ensures.read done x (within_defaults ws k) (ap (λ n. n + c.args.room) (open_count-within_defaults ws k) ∙ len)
-          ∙ (λ i. run done (AfterExpr x (within_defaults ws k) (expr_tree (sym v.default-is i))) (ahead (sym v.self-is i)))
+          ∙ v.in_ok-default-in-None.ensures.read done x (within_defaults ws k)
+          (ap (λ n. n + c.args.room) (open_count-within_defaults ws k) ∙ len)
+          ∙ (λ i. run done (AfterExpr x (within_defaults ws k) (expr_tree (sym v.default-is i)))
+          (ahead (sym v.self-is i)))
     ] in
     over-default (placed c.args.self.now.token) _ _ c.advance.ensures done x k w test
     ∙ c.in_ok-others.ensures.read done x (Default w ∷ k)
     ∙ last
     ∙ defaults-behind done x ws k e (ahead c.match-last.self)
-    ∙ ap (λ t. run done (AfterExpr x k t) (ahead c.match-last.self)) (chained-optional w others e plain ∙ ap (λ d. Optional w others (expr_tree d)) (sym c.in_ok-new.ensures.ok))
+    ∙ ap (λ t. run done (AfterExpr x k t) (ahead c.match-last.self))
+    (chained-optional w others e plain ∙ ap (λ d. Optional w others (expr_tree d)) (sym c.in_ok-new.ensures.ok))
 
 pub operands-loop-operands-preserved : goal.operands-loop-operands-preserved
 operands-loop-operands-preserved t c =
@@ -161,7 +212,13 @@ operands-loop-operands-preserved t c =
       read = λ done x k place len.
           c.loop-operands.invariant.read done x k place len
           ∙ c.in_ok-expr.ensures.read done x (Operands place sign first others ∷ k) (omega (arith, len))
-          ∙ over-sign c.args.sign.text.now (placed c.expr.new.self.token) _ _ c.advance.ensures held done (AfterExpr x (Operands place sign first others ∷ k) e) (Go (BeforeExpr x (Operands place sign first (others ++ e ∷ []) ∷ k))) (operand-again x place sign first others k e (placed c.expr.new.self.token) held)
-          ∙ ap (λ l. run done (BeforeExpr x (Operands place sign first l ∷ k)) (ahead c.advance.new.self)) (sym (map_push expr_tree c.loop-operands.invariant.others c.in_ok-expr.field-0));
-      shorter = let passed = length-passed_sign c.args.sign.text.now (placed c.expr.new.self.token) _ _ c.advance.ensures held in omega (arith, passed, c.in_ok-expr.ensures.shorter, c.loop-operands.invariant.shorter);
+          ∙ over-sign c.args.sign.text.now (placed c.expr.new.self.token) _ _ c.advance.ensures held done
+          (AfterExpr x (Operands place sign first others ∷ k) e)
+          (Go (BeforeExpr x (Operands place sign first (others ++ e ∷ []) ∷ k)))
+          (operand-again x place sign first others k e (placed c.expr.new.self.token) held)
+          ∙ ap (λ l. run done (BeforeExpr x (Operands place sign first l ∷ k)) (ahead c.advance.new.self))
+          (sym (map_push expr_tree c.loop-operands.invariant.others c.in_ok-expr.field-0));
+      shorter = let passed = length-passed_sign c.args.sign.text.now
+          (placed c.expr.new.self.token) _ _ c.advance.ensures held in
+          omega (arith, passed, c.in_ok-expr.ensures.shorter, c.loop-operands.invariant.shorter);
     }

@@ -31,7 +31,9 @@ decreases-operands l = 5 * l.room + 5
 -- the arguments so far are those that the open application holds
 abbrev pub invariant-arguments-loop-args : goal.invariant-arguments-loop-args
 invariant-arguments-loop-args l = record {
-  read : (done : List Statement) (x : Within) (k : List Frame) (w : Spot) → HasRoom (Arguments w [] ∷ k) l.room → run done (BeforeExpr x (Arguments w [] ∷ k)) (ahead l.fn.self) ≡ run done (BeforeExpr x (Arguments w (map expr_tree l.args.items) ∷ k)) (ahead l.self);
+  read : (done : List Statement) (x : Within) (k : List Frame) (w : Spot) → HasRoom (Arguments w [] ∷ k) l.room
+      → run done (BeforeExpr x (Arguments w [] ∷ k)) (ahead l.fn.self)
+      ≡ run done (BeforeExpr x (Arguments w (map expr_tree l.args.items) ∷ k)) (ahead l.self);
   shorter : length (ahead l.self) ≤ length (ahead l.fn.self);
 }
 
@@ -43,7 +45,11 @@ abbrev pub invariant-operands-loop-operands : goal.invariant-operands-loop-opera
 invariant-operands-loop-operands l = record {
   others : List Expr;
   items : l.operands.items ≡ l.fn.first ∷ others;
-  read : (done : List Statement) (x : Within) (k : List Frame) (place : Place) → HasRoom (Operands place (spot_of_sign l.sign) (expr_tree l.fn.first) [] ∷ k) l.room → run done (BeforeExpr x (Operands place (spot_of_sign l.sign) (expr_tree l.fn.first) [] ∷ k)) (ahead l.fn.self) ≡ run done (BeforeExpr x (Operands place (spot_of_sign l.sign) (expr_tree l.fn.first) (map expr_tree others) ∷ k)) (ahead l.self);
+  read : (done : List Statement) (x : Within) (k : List Frame) (place : Place)
+      → HasRoom (Operands place (spot_of_sign l.sign) (expr_tree l.fn.first) [] ∷ k) l.room
+      → run done (BeforeExpr x (Operands place (spot_of_sign l.sign) (expr_tree l.fn.first) [] ∷ k)) (ahead l.fn.self)
+      ≡ run done (BeforeExpr x (Operands place (spot_of_sign l.sign) (expr_tree l.fn.first) (map expr_tree others) ∷ k))
+      (ahead l.self);
   shorter : length (ahead l.self) ≤ length (ahead l.fn.self);
 }
 

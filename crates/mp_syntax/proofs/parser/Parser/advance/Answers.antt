@@ -5,4 +5,5 @@ use Rattle.mp_syntax.specs.View.{placed}
 use Rattle.mp_syntax.proofs.parser.Parser.advance.Goals as goal
 
 pub returns : goal.returns
-returns c = ap (λ ts. placed c.args.self.now.token ∷ behind (token_of c.args.self.now.token.kind) ts) (lexemes-next _ _ _ _ _ c.next_token-self.ensures)
+returns c = ap (λ ts. placed c.args.self.now.token ∷ behind (token_of c.args.self.now.token.kind) ts)
+    (lexemes-next _ _ _ _ _ c.next_token-self.ensures)

@@ -24,14 +24,17 @@ pub returns-in_err-first-clause-read : goal.returns-in_err-first-clause-read
 returns-in_err-first-clause-read c = λ done x k s len.
     let relation = sym c.sees_relation.ensures ∙ c.in_default.is in
     let property = sym c.sees_property.ensures ∙ c.in_default-sees_property.is in
-    breaks _ _ _ _ _ _ _ c.from_residual.ensures.1 refl (c.in_err-first.ensures.read done (BeforeBody x k s) x k s OnLeft (amount-wanted x k s (placed c.args.self.now.token) c.requires relation property) len)
+    breaks _ _ _ _ _ _ _ c.from_residual.ensures.1 refl
+    (c.in_err-first.ensures.read done (BeforeBody x k s) x k s OnLeft
+    (amount-wanted x k s (placed c.args.self.now.token) c.requires relation property) len)
 
 pub returns-in_err-sense-clause-read : goal.returns-in_err-sense-clause-read
 returns-in_err-sense-clause-read c = λ done x k s len.
     let relation = sym c.sees_relation.ensures ∙ c.in_default.is in
     let property = sym c.sees_property.ensures ∙ c.in_default-sees_property.is in
     breaks _ _ _ _ _ _ _ c.from_residual-in_err-sense.ensures.1
-    (c.in_ok-first.ensures.read done (BeforeBody x k s) x k s OnLeft (amount-wanted x k s (placed c.args.self.now.token) c.requires relation property) len)
+    (c.in_ok-first.ensures.read done (BeforeBody x k s) x k s OnLeft
+    (amount-wanted x k s (placed c.args.self.now.token) c.requires relation property) len)
     (c.in_err-sense.ensures.read done x k s (amount_tree c.in_ok-first.first))
 
 pub returns-in_err-second-clause-read : goal.returns-in_err-second-clause-read
@@ -39,14 +42,18 @@ returns-in_err-second-clause-read c = λ done x k s len.
     let relation = sym c.sees_relation.ensures ∙ c.in_default.is in
     let property = sym c.sees_property.ensures ∙ c.in_default-sees_property.is in
     breaks _ _ _ _ _ _ _ c.from_residual-in_err-second.ensures.1
-    (c.in_ok-first.ensures.read done (BeforeBody x k s) x k s OnLeft (amount-wanted x k s (placed c.args.self.now.token) c.requires relation property) len
+    (c.in_ok-first.ensures.read done (BeforeBody x k s) x k s OnLeft
+    (amount-wanted x k s (placed c.args.self.now.token) c.requires relation property) len
     ∙ c.in_ok-sense.ensures.read done x k s (amount_tree c.in_ok-first.first))
-    (c.in_err-second.ensures.read done (AfterSense x k s (amount_tree c.in_ok-first.first) c.in_ok-sense.sense) x k s (OnRight (amount_tree c.in_ok-first.first) c.in_ok-sense.sense) refl len)
+    (c.in_err-second.ensures.read done (AfterSense x k s (amount_tree c.in_ok-first.first) c.in_ok-sense.sense) x k s
+    (OnRight (amount_tree c.in_ok-first.first) c.in_ok-sense.sense) refl len)
 
 pub returns-clause-read : goal.returns-clause-read
 returns-clause-read c = λ done x k s len.
     let relation = sym c.sees_relation.ensures ∙ c.in_default.is in
     let property = sym c.sees_property.ensures ∙ c.in_default-sees_property.is in
-    c.in_ok-first.ensures.read done (BeforeBody x k s) x k s OnLeft (amount-wanted x k s (placed c.args.self.now.token) c.requires relation property) len
+    c.in_ok-first.ensures.read done (BeforeBody x k s) x k s OnLeft
+    (amount-wanted x k s (placed c.args.self.now.token) c.requires relation property) len
     ∙ c.in_ok-sense.ensures.read done x k s (amount_tree c.in_ok-first.first)
-    ∙ c.in_ok-second.ensures.read done (AfterSense x k s (amount_tree c.in_ok-first.first) c.in_ok-sense.sense) x k s (OnRight (amount_tree c.in_ok-first.first) c.in_ok-sense.sense) refl len
+    ∙ c.in_ok-second.ensures.read done (AfterSense x k s (amount_tree c.in_ok-first.first) c.in_ok-sense.sense) x k s
+    (OnRight (amount_tree c.in_ok-first.first) c.in_ok-sense.sense) refl len

@@ -21,8 +21,15 @@ loop-last-preserved c =
           c.loop-last.invariant.read done x k
           ∙ ap (λ o. run done (behind_wildcard x (within_defaults ws k) o) (ahead c.loop-last.self)) c.in-Some.is
           ∙ over-default (placed c.loop-last.self.token) _ _ c.advance.ensures done x (within_defaults ws k) w test
-          ∙ ap (λ f. run done (BeforeExpr x f) (ahead c.advance.new.self)) (sym (within_defaults-push ws w k) ∙ ap (λ l. within_defaults l k) (sym (ap (map wildcard_of) c.in_ok-push.ensures.items ∙ map_push wildcard_of _ _)))
+          ∙ ap (λ f. run done (BeforeExpr x f) (ahead c.advance.new.self))
+          (sym (within_defaults-push ws w k) ∙ ap (λ l. within_defaults l k)
+          (sym (ap (map wildcard_of) c.in_ok-push.ensures.items ∙ map_push wildcard_of _ _)))
           ∙ c.wildcard-last-in-Some.ensures.read done x _;
-      held = λ e. subst (λ o. IfNone o (wildcard_at (token_of c.wildcard-last-in-Some.new.self.token.kind) c.wildcard-last-in-Some.new.self.token.place ≡ None)) e c.wildcard-last-in-Some.ensures.none;
-      shorter = let passed = length-passed Colon (placed c.loop-last.self.token) _ _ c.advance.ensures colon in omega (arith, passed, c.wildcard-last-in-Some.ensures.no_longer, c.loop-last.invariant.shorter);
+      held = λ e.
+          subst (λ o.
+          IfNone o
+          (wildcard_at (token_of c.wildcard-last-in-Some.new.self.token.kind)
+          c.wildcard-last-in-Some.new.self.token.place ≡ None)) e c.wildcard-last-in-Some.ensures.none;
+      shorter = let passed = length-passed Colon (placed c.loop-last.self.token) _ _ c.advance.ensures colon in
+          omega (arith, passed, c.wildcard-last-in-Some.ensures.no_longer, c.loop-last.invariant.shorter);
     }

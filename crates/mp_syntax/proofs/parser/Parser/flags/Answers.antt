@@ -17,6 +17,7 @@ loop-flags-preserved c = record {
   read = λ done name least more.
       c.loop-flags.invariant.read done name least more
       ∙ c.in_ok-flag.ensures.read done (declared name least more (map flag_of c.loop-flags.flags.items))
-      ∙ ap (λ l. run done (AfterFlags (declared name least more l)) (ahead c.flag.new.self)) (sym (ap (map flag_of) c.in_ok-push.ensures.items ∙ map_push flag_of _ _));
+      ∙ ap (λ l. run done (AfterFlags (declared name least more l)) (ahead c.flag.new.self))
+      (sym (ap (map flag_of) c.in_ok-push.ensures.items ∙ map_push flag_of _ _));
   shorter = omega (arith, c.loop-flags.invariant.shorter, c.in_ok-flag.ensures.shorter);
 }

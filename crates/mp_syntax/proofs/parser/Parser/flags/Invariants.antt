@@ -8,7 +8,9 @@ use Rattle.mp_syntax.proofs.parser.Parser.flags.Given as goal
 -- the flags so far are those that the declaration holds
 abbrev pub invariant-loop-flags : goal.invariant-loop-flags
 invariant-loop-flags l = record {
-  read : (done : List Statement) (name least : Spot) (more : Bool) → run done (AfterFlags (declared name least more [])) (ahead l.fn.self) ≡ run done (AfterFlags (declared name least more (map flag_of l.flags.items))) (ahead l.self);
+  read : (done : List Statement) (name least : Spot) (more : Bool)
+      → run done (AfterFlags (declared name least more [])) (ahead l.fn.self)
+      ≡ run done (AfterFlags (declared name least more (map flag_of l.flags.items))) (ahead l.self);
   shorter : length (ahead l.self) ≤ length (ahead l.fn.self);
 }
 

@@ -13,16 +13,20 @@ returns-in_err-word-clause-read c = λ done name.
     let members = map spot_of c.loop-members.members.items in
     breaks _ _ _ _ _ _ _ c.from_residual.ensures.1
     (c.loop-members.invariant.read done name)
-    (c.in_err-word.ensures.read done (BeforeMember name members) (λ w. AfterMember name (members ++ w ∷ [])) (λ t. refl))
+    (c.in_err-word.ensures.read done (BeforeMember name members) (λ w. AfterMember name (members ++ w ∷ []))
+    (λ t. refl))
 
 pub loop-members-preserved : goal.loop-members-preserved
 loop-members-preserved c = record {
   read = λ done name.
       let members = map spot_of c.loop-members.members.items in
       c.loop-members.invariant.read done name
-      ∙ c.in_ok-word.ensures.read done (BeforeMember name members) (λ w. AfterMember name (members ++ w ∷ [])) (λ t. refl)
-      ∙ ap (λ l. run done (AfterMember name l) (ahead c.word.new.self)) (sym (ap (map spot_of) c.in_ok-push.ensures.items ∙ map_push spot_of _ _))
-      ∙ member-again done name (map spot_of c.push.new.self.items) (placed c.word.new.self.token) _ (sym c.sees.ensures ∙ c.if-sees.false);
+      ∙ c.in_ok-word.ensures.read done (BeforeMember name members) (λ w. AfterMember name (members ++ w ∷ []))
+      (λ t. refl)
+      ∙ ap (λ l. run done (AfterMember name l) (ahead c.word.new.self))
+      (sym (ap (map spot_of) c.in_ok-push.ensures.items ∙ map_push spot_of _ _))
+      ∙ member-again done name (map spot_of c.push.new.self.items) (placed c.word.new.self.token) _
+      (sym c.sees.ensures ∙ c.if-sees.false);
   shorter = omega (arith, c.loop-members.invariant.shorter, c.in_ok-word.ensures.shorter);
 }
 
@@ -31,5 +35,10 @@ returns-clause-read c = λ done name.
     let members = map spot_of c.loop-members.members.items in
     c.loop-members.invariant.read done name
     ∙ c.in_ok-word.ensures.read done (BeforeMember name members) (λ w. AfterMember name (members ++ w ∷ [])) (λ t. refl)
-    ∙ ap (λ l. run done (AfterMember name l) (ahead c.word.new.self)) (sym (ap (map spot_of) c.in_ok-push.ensures.items ∙ map_push spot_of _ _))
-    ∙ over-punct Semicolon (placed c.word.new.self.token) _ _ c.advance.ensures (sym c.sees.ensures ∙ c.if-sees.true) done (AfterMember name (map spot_of c.push.new.self.items)) (Emit (KindOf name (map spot_of c.push.new.self.items))) (members-end name (map spot_of c.push.new.self.items) (placed c.word.new.self.token) (sym c.sees.ensures ∙ c.if-sees.true))
+    ∙ ap (λ l. run done (AfterMember name l) (ahead c.word.new.self))
+    (sym (ap (map spot_of) c.in_ok-push.ensures.items ∙ map_push spot_of _ _))
+    ∙ over-punct Semicolon (placed c.word.new.self.token) _ _ c.advance.ensures
+    (sym c.sees.ensures ∙ c.if-sees.true) done (AfterMember name (map spot_of c.push.new.self.items))
+    (Emit (KindOf name (map spot_of c.push.new.self.items)))
+    (members-end name (map spot_of c.push.new.self.items) (placed c.word.new.self.token)
+    (sym c.sees.ensures ∙ c.if-sees.true))

@@ -8,7 +8,9 @@ use Rattle.mp_syntax.proofs.parser.Parser.members.Given as goal
 -- the members so far are those that the declaration holds
 abbrev pub invariant-loop-members : goal.invariant-loop-members
 invariant-loop-members l = record {
-  read : (done : List Statement) (name : Spot) → run done (BeforeMember name []) (ahead l.fn.self) ≡ run done (BeforeMember name (map spot_of l.members.items)) (ahead l.self);
+  read : (done : List Statement) (name : Spot)
+      → run done (BeforeMember name []) (ahead l.fn.self)
+      ≡ run done (BeforeMember name (map spot_of l.members.items)) (ahead l.self);
   shorter : length (ahead l.self) ≤ length (ahead l.fn.self);
 }
 

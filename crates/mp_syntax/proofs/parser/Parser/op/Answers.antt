@@ -6,7 +6,8 @@ use Rattle.mp_syntax.proofs.parser.Parser.op.Goals as goal
 
 pub returns-in_err-name-clause-read : goal.returns-in_err-name-clause-read
 returns-in_err-name-clause-read c = λ done.
-    breaks _ _ _ _ _ _ _ c.from_residual.ensures.1 refl (c.in_err-name.ensures.read done AfterOp AfterOpName (λ t. refl))
+    breaks _ _ _ _ _ _ _ c.from_residual.ensures.1 refl
+    (c.in_err-name.ensures.read done AfterOp AfterOpName (λ t. refl))
 
 pub returns-in_err-least-clause-read : goal.returns-in_err-least-clause-read
 returns-in_err-least-clause-read c = λ done.

@@ -12,6 +12,7 @@ returns-clause-read c = λ done x k s lead len.
     let t = placed c.args.self.now.token in
     let some : 0 < c.args.room = omega arith in
     passes-along _ _ _ c.expr.result _ _ _
-    (over-punct Open t _ _ c.advance.ensures held done (BeforeOperand x k s lead) (Go (BeforeExpr x (Operand s lead ∷ k)))
+    (over-punct Open t _ _ c.advance.ensures held done (BeforeOperand x k s lead)
+    (Go (BeforeExpr x (Operand s lead ∷ k)))
     (open-step x k s lead t c.args.room len some held))
     (c.expr.ensures.read done x (Operand s lead ∷ k) (omega (arith, len, some)))
