@@ -180,7 +180,7 @@ adds (AfterInfix d) t = adds-any_sign (λ sign. Go (AfterFlags (with_flag d (Inf
       tt,
       is,
       spell_declared-with_flag d (Infixed (spot s t.place))
-          ∙ sym (append_assoc (spell_declared d) (fixed_word (codes "infix") ∷ []) (spelled_sign (spot s t.place) ∷ [])),
+          ∙ sym (append_assoc (spell_declared d) (fixed_word (codes "infix") ∷ []) _),
     ))
 adds AfterKind t = adds-word (λ w. Go (AfterKindName w)) t (so_far AfterKind)
     (λ w is. (spelled_word (spot w t.place), tt, is, refl))

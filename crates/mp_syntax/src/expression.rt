@@ -111,7 +111,8 @@ impl<'a> Parser<'a> {
         alloc: Global,
     ) -> Result<(Vec<Wildcard<'a>>, Option<Wildcard<'a>>), SyntaxError>
         ensures read { ChainGives result (ahead self.old) (ahead self.new) }
-        ensures held { IfOk result (λ r. IfNone r.1 (wildcard_at (token_of self.new.token.kind) self.new.token.place ≡ None)) }
+        ensures held { IfOk result (λ r. IfNone r.1
+            (wildcard_at (token_of self.new.token.kind) self.new.token.place ≡ None)) }
         ensures shorter { OnOk result (length (ahead self.new) ≤ length (ahead self.old)) }
     {
         let mut others = Vec::new(alloc);
