@@ -13,7 +13,8 @@ use Rattle.matchpy.proofs.MatchTexts.{file_lines-exact}
 -- what the proofs know of an action
 pub record IsLawful (action : Action) : Type 0 where
   -- over a file that can be matched it comes to what its function gives, and to nothing else
-  pub exact : (file : FileTree) (o : Outcome) → IsMatchableFile file → IsDone action file o ↔ (o ≡ outcome_of action file)
+  pub exact : (file : FileTree) (o : Outcome) → IsMatchableFile file
+      → IsDone action file o ↔ (o ≡ outcome_of action file)
   -- its status isn't that of a file that isn't read
   pub read : (file : FileTree) → (outcome_of action file).status ≡ 4 → ⊥
 

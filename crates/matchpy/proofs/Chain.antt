@@ -1,5 +1,6 @@
 -- How the answer of a run is made of the loading of its file and of an action over the file's bytes.
-use Rattle.std.proofs.Common.{◌≡◌, inl, inr, ℕ, ◌≤◌, ◌<◌, [], ◌∷◌, length, true, false, refl, sym, ap, ◌∙◌, subst, arith}
+use Rattle.std.proofs.Common.{◌≡◌, inl, inr, ℕ, ◌≤◌, ◌<◌, [], ◌∷◌, length, true, false, refl, sym, ap, ◌∙◌, subst}
+use Rattle.std.proofs.Common.{arith}
 use Rattle.std.specs.Prelude.{Option, Some, None, IfSome, IsSomeAnd, Err, if◌then◌else◌, nat_lt}
 use Rattle.std.proofs.lemmas.Bool.Decides.{nat_tests}
 use Rattle.std.specs.Io.KnownBytes.{Appends, Keeps}
@@ -23,22 +24,28 @@ nat_lt-below : (m n : ℕ) → m < n → nat_lt m n ≡ true
 nat_lt-below m n h = grind (arith, nat_tests)
 
 -- what holds of the outcome over the bytes holds of the outcome over the file
-given-loaded : (P : Outcome → Type 0) (limit : ℕ) (name bytes : Text) (over : Text → Outcome) (files : Option Files) → HoldsBytes files name bytes → length bytes ≤ limit → P (over bytes)
+given-loaded : (P : Outcome → Type 0) (limit : ℕ) (name bytes : Text) (over : Text → Outcome) (files : Option Files)
+    → HoldsBytes files name bytes → length bytes ≤ limit → P (over bytes)
     → IfSome files (λ fs. P (given limit name over (held fs name)))
 given-loaded P limit name bytes over None h l p = tt
 given-loaded P limit name bytes over (Some fs) h l p =
-    subst P (sym (ap (given limit name over) h ∙ ap (λ b. if b then refused 4 (long_line name) else over bytes) (nat_lt-above limit (length bytes) l))) p
+    subst P (sym (ap (given limit name over) h
+    ∙ ap (λ b. if b then refused 4 (long_line name) else over bytes) (nat_lt-above limit (length bytes) l))) p
 
-given-long : (P : Outcome → Type 0) (limit : ℕ) (name : Text) (over : Text → Outcome) (files : Option Files) → IsLonger files name limit → P (refused 4 (long_line name))
+given-long : (P : Outcome → Type 0) (limit : ℕ) (name : Text) (over : Text → Outcome) (files : Option Files)
+    → IsLonger files name limit → P (refused 4 (long_line name))
     → IfSome files (λ fs. P (given limit name over (held fs name)))
 given-long P limit name over None h p = tt
 given-long P limit name over (Some fs) h p = go (held fs name) h
   where
     go : (found : Option Text) → IsSomeAnd found (λ bytes. limit < length bytes) → P (given limit name over found)
     go None i = absurd i
-    go (Some bytes) i = subst P (sym (ap (λ b. if b then refused 4 (long_line name) else over bytes) (nat_lt-below limit (length bytes) i))) p
+    go (Some bytes) i =
+        subst P (sym
+        (ap (λ b. if b then refused 4 (long_line name) else over bytes) (nat_lt-below limit (length bytes) i))) p
 
-given-missing : (P : Outcome → Type 0) (limit : ℕ) (name : Text) (over : Text → Outcome) (files : Option Files) → IsMissing files name → P (refused 4 (open_line name))
+given-missing : (P : Outcome → Type 0) (limit : ℕ) (name : Text) (over : Text → Outcome) (files : Option Files)
+    → IsMissing files name → P (refused 4 (open_line name))
     → IfSome files (λ fs. P (given limit name over (held fs name)))
 given-missing P limit name over None h p = tt
 given-missing P limit name over (Some fs) h p = subst P (sym (ap (given limit name over) h)) p
@@ -56,18 +63,23 @@ pub Keeps-nothing : (out : Sunk) → out.new ≡ out.old → Keeps out.old out.n
 Keeps-nothing out same = subst (λ n. Keeps out.old n) (sym same) (Keeps-refl out.old)
 
 pub AppendsFront-nothing : (out : Sunk) (text : Text) → out.new ≡ out.old → AppendsFront out.old out.new text
-AppendsFront-nothing out text same = record { front = []; rest = text; split = refl; written = Appends-nothing out same }
+AppendsFront-nothing out text same =
+    record { front = []; rest = text; split = refl; written = Appends-nothing out same }
 
 -- ---- a file that was loaded, and then the action
 
 pub Answers-loaded : (limit : ℕ) (name bytes : Text) (over : Text → Outcome) (shelf : Shelved) (out : Sunk) (e : Ending)
     → HoldsBytes shelf.files name bytes → length bytes ≤ limit → Acts (over bytes) out e
     → Answers (name ∷ []) (λ fs. given limit name over (held fs name)) shelf out e
-Answers-loaded limit name bytes over shelf out (ending.Told t) h l act = given-loaded (λ o. IsReached o out t) limit name bytes over shelf.files h l act
+Answers-loaded limit name bytes over shelf out (ending.Told t) h l act =
+    given-loaded (λ o. IsReached o out t) limit name bytes over shelf.files h l act
 Answers-loaded limit name bytes over shelf out ending.Memory h l act =
     given-loaded (λ (o : Outcome). AppendsFront out.old out.new o.out) limit name bytes over shelf.files h l act
-Answers-loaded limit name bytes over shelf out ending.CannotWrite h l act =
-    (act.1, given-loaded (λ (o : Outcome). AppendsFront out.old out.new o.out × (0 < length o.out)) limit name bytes over shelf.files h l (act.0, act.2))
+Answers-loaded limit name bytes over shelf out ending.CannotWrite h l act = (
+  act.1,
+  given-loaded (λ (o : Outcome). AppendsFront out.old out.new o.out × (0 < length o.out)) limit name bytes
+      over shelf.files h l (act.0, act.2),
+)
 Answers-loaded limit name bytes over shelf out (ending.CannotOpen n) h l act = absurd act
 Answers-loaded limit name bytes over shelf out (ending.CannotRead n) h l act = absurd act
 
@@ -77,7 +89,8 @@ pub Answers-unloaded : (limit : ℕ) (name : Text) (over : Text → Outcome) (sh
     → Loads name limit shelf (Err e) → out.new ≡ out.old
     → Answers (name ∷ []) (λ fs. given limit name over (held fs name)) shelf out e
 Answers-unloaded limit name over shelf out (ending.Told t) h same =
-    given-long (λ o. IsReached o out t) limit name over shelf.files h.2 (record { status = h.0; line = h.1; text = Appends-nothing out same })
+    given-long (λ o. IsReached o out t) limit name over shelf.files h.2
+    (record { status = h.0; line = h.1; text = Appends-nothing out same })
 Answers-unloaded limit name over shelf out ending.Memory h same =
     IfSome-all shelf.files (λ fs. AppendsFront-nothing out (given limit name over (held fs name)).out same)
 Answers-unloaded limit name over shelf out ending.CannotWrite h same = absurd h
@@ -86,17 +99,26 @@ Answers-unloaded limit name over shelf out (ending.CannotOpen n) h same = (
   inl (sym h.0),
   elim h.1 [
     | inl rose ↦ inl rose
-    | inr m ↦ inr (subst (IsMissing shelf.files) (sym h.0) m, given-missing (IsUnopened (open_line n.now)) limit name over shelf.files m (refl, ap open_line h.0, refl))
+    | inr m ↦
+        inr (
+          subst (IsMissing shelf.files) (sym h.0) m,
+          given-missing (IsUnopened (open_line n.now)) limit name over shelf.files m (refl, ap open_line h.0, refl),
+        )
   ],
 )
 Answers-unloaded limit name over shelf out (ending.CannotRead n) h same =
     (Keeps-nothing out same, inl (sym h.0), λ m. h.1 (subst (IsMissing shelf.files) h.0 m), h.2)
 
 -- and why, whether or not the files are told
-pub HasCauses-unloaded : (limit : ℕ) (name : Text) (shelf : Shelved) (e : Ending) → Loads name limit shelf (Err e) → HasCauses limit (name ∷ []) shelf e
+pub HasCauses-unloaded : (limit : ℕ) (name : Text) (shelf : Shelved) (e : Ending) → Loads name limit shelf (Err e)
+    → HasCauses limit (name ∷ []) shelf e
 HasCauses-unloaded limit name shelf (ending.Told t) h = λ _. (name, inl refl, inr (inr (h.1, h.3)))
 HasCauses-unloaded limit name shelf ending.Memory h = λ s. absurd (omega arith)
 HasCauses-unloaded limit name shelf ending.CannotWrite h = absurd h
 HasCauses-unloaded limit name shelf (ending.CannotOpen n) h =
-    λ _. (n.now, inl (sym h.0), inl (refl, elim h.1 [ inl rose ↦ inl rose | inr m ↦ inr (subst (IsMissing shelf.files) (sym h.0) m) ]))
+    λ _. (
+      n.now,
+      inl (sym h.0),
+      inl (refl, elim h.1 [ inl rose ↦ inl rose | inr m ↦ inr (subst (IsMissing shelf.files) (sym h.0) m) ]),
+    )
 HasCauses-unloaded limit name shelf (ending.CannotRead n) h = λ _. (n.now, inl (sym h.0), inr (inl (refl, h.2)))

@@ -26,7 +26,8 @@ module _ (request : Request) (bytes : Text) where
       absurd cc
   over_file-is None (Some file) f e =
       let read : IsFileOf bytes file = (file_of-exact bytes file).1 e in
-      let done = (action_law request.action).exact file (outcome_of request.action file) (IsFileOf-matchable bytes file read) in
+      let done = (action_law request.action).exact file (outcome_of request.action file)
+      (IsFileOf-matchable bytes file read) in
       inl (file, read, done.1 refl)
 
   over_file-only : (o : Outcome) → IsOutcomeOver request bytes o → o ≡ outcome_over request bytes
@@ -36,8 +37,11 @@ module _ (request : Request) (bytes : Text) where
   over_file-only o (inr h) = rw ((fault_of-exact bytes h.0).0 h.1) h.2
 
   outcome_over-exact : (o : Outcome) → IsOutcomeOver request bytes o ↔ (o ≡ outcome_over request bytes)
-  outcome_over-exact o =
-      (over_file-only o, λ e. subst (IsOutcomeOver request bytes) (sym e) (over_file-is (fault_of bytes) (file_of bytes) refl refl))
+  outcome_over-exact o = (
+    over_file-only o,
+    λ e. subst (IsOutcomeOver request bytes) (sym e)
+        (over_file-is (fault_of bytes) (file_of bytes) refl refl),
+  )
 
 -- ---- over the files
 
@@ -49,13 +53,19 @@ given-exact limit name over Over exact (Some bytes) o = by_length (nat_lt limit 
   where
     by_length : (long : Bool) → nat_lt limit (length bytes) ≡ long
         → IsOver limit name Over (Some bytes) o ↔ (o ≡ (if long then refused 4 (long_line name) else over bytes))
-    by_length true e = (λ h. elim h [ inl l ↦ l.1 | inr s ↦ absurd (grind (arith, nat_tests, s.0)) ], λ is. inl (grind (arith, nat_tests), is))
+    by_length true e = (
+      λ h. elim h [ inl l ↦ l.1 | inr s ↦ absurd (grind (arith, nat_tests, s.0)) ],
+      λ is.
+          inl (grind (arith, nat_tests), is),
+    )
     by_length false e = (
       λ h. elim h [ inl l ↦ absurd (grind (arith, nat_tests, l.0)) | inr s ↦ (exact bytes o).0 s.1 ],
       λ is. inr (grind (arith, nat_tests), (exact bytes o).1 is),
     )
 
-pub outcome_at-exact : (files : Files) (request : Option Request) (o : Outcome) → IsOutcomeAt files request o ↔ (o ≡ outcome_at files request)
+pub outcome_at-exact : (files : Files) (request : Option Request) (o : Outcome)
+    → IsOutcomeAt files request o ↔ (o ≡ outcome_at files request)
 outcome_at-exact files None o = (λ e. e, λ e. e)
 outcome_at-exact files (Some request) o =
-    given-exact file_limit request.file (outcome_over request) (IsOutcomeOver request) (outcome_over-exact request) (held files request.file) o
+    given-exact file_limit request.file (outcome_over request) (IsOutcomeOver request) (outcome_over-exact request)
+    (held files request.file) o

@@ -1,5 +1,6 @@
 -- From the answer of a run to the clause of the command.
-use Rattle.std.proofs.Common.{◌≡◌, ◌⊎◌, inl, inr, ℕ, ◌<◌, ◌≤◌, List, [], ◌∷◌, ◌++◌, length, Bool, true, false, refl, sym, ap, ◌∙◌, subst, arith, append-nil}
+use Rattle.std.proofs.Common.{◌≡◌, ◌⊎◌, inl, inr, ℕ, ◌<◌, ◌≤◌, List, [], ◌∷◌, ◌++◌, length, Bool, true, false, refl}
+use Rattle.std.proofs.Common.{sym, ap, ◌∙◌, subst, arith, append-nil}
 use Rattle.std.specs.Prelude.{Option, Some, None, IfSome, if◌then◌else◌, nat_lt}
 use Rattle.std.specs.List.{Contains}
 use Rattle.std.specs.Io.KnownBytes.{Appends, Keeps}
@@ -76,7 +77,8 @@ Keeps-appends (Some x) None h = absurd h
 Keeps-appends (Some x) (Some y) h = h ∙ append-nil x
 
 AppendsFront-keeps : (out : Sunk) (text : Text) → Keeps out.old out.new → AppendsFront out.old out.new text
-AppendsFront-keeps out text k = record { front = []; rest = text; split = refl; written = Appends-keeps out.old out.new k }
+AppendsFront-keeps out text k =
+    record { front = []; rest = text; split = refl; written = Appends-keeps out.old out.new k }
 
 IsTurnOf-some : (files : Option Files) (names : List Text) (name : Text) → IsTurnOf files names name → 0 < length names
 IsTurnOf-some files [] name h = absurd h
@@ -112,7 +114,8 @@ front-nil (b ∷ front) rest e = absurd cc
 Says-nothing : (err : Sunk) → Says err [] → Keeps err.old err.new
 Says-nothing err says =
     let cut = says.front in
-    Keeps-appends err.old err.new (subst (λ (x : Text). Appends err.old err.new x) (front-nil cut.front cut.rest cut.split) cut.written)
+    Keeps-appends err.old err.new
+    (subst (λ (x : Text). Appends err.old err.new x) (front-nil cut.front cut.rest cut.split) cut.written)
 
 -- where all went well nothing is said
 pub Says-done : (err : Sunk) (e : Ending) → Says err (line_of e) → status_of e ≤ 1 → Keeps err.old err.new
@@ -128,25 +131,29 @@ Says-done err (ending.CannotRead name) says few = absurd (omega arith)
 
 -- ---- the clause over files that are told
 
-IfSome-told : {P : Files → Type 0} (found : Option Files) → ((files : Files) → found ≡ Some files → P files) → IfSome found P
+IfSome-told : {P : Files → Type 0} (found : Option Files) → ((files : Files) → found ≡ Some files → P files)
+    → IfSome found P
 IfSome-told None h = tt
 IfSome-told (Some files) h = h files refl
 
 told-here : (P : Files → Type 0) (found : Option Files) (files : Files) → found ≡ Some files → IfSome found P → P files
 told-here P found files e h = subst (λ x. IfSome x P) e h
 
-module _ (files : Files) (request : Option Request) (shelf : Shelved) (told_files : shelf.files ≡ Some files) (out err : Sunk) where
+module _ (files : Files) (request : Option Request) (shelf : Shelved) (told_files : shelf.files ≡ Some files)
+    (out err : Sunk) where
   abbrev o : Outcome
   o = outcome_at files request
 
-  Runs-told : (t : Told) → IsReached o out t → Says err (told_line t) → (told_status t ≡ 5 → ⊥) → (told_status t ≡ 8 → ⊥)
+  Runs-told : (t : Told) → IsReached o out t → Says err (told_line t) → (told_status t ≡ 5 → ⊥)
+      → (told_status t ≡ 8 → ⊥)
       → Runs o (names_of request) files shelf out err (told_status t)
   Runs-told t h says not5 not8 = record {
     unread = λ e. inl (sym h.status ∙ e);
     missing = λ m. inl (h.status ∙ (outcome_at-missing files request m).0);
     settled = λ _ _ _. (h.status, h.text);
     front = whole_front out.old out.new o.out h.text;
-    nothing = λ e. Keeps-appends out.old out.new (subst (λ (x : Text). Appends out.old out.new x) (outcome_at-silent files request (sym h.status ∙ e)) h.text);
+    nothing = λ e. Keeps-appends out.old out.new
+        (subst (λ (x : Text). Appends out.old out.new x) (outcome_at-silent files request (sym h.status ∙ e)) h.text);
     write = λ e. absurd (not5 e);
     line = (
       told_line t,
@@ -160,7 +167,8 @@ module _ (files : Files) (request : Option Request) (shelf : Shelved) (told_file
     );
   }
 
-  Runs-memory : AppendsFront out.old out.new o.out → Says err memory_line → Runs o (names_of request) files shelf out err 8
+  Runs-memory : AppendsFront out.old out.new o.out → Says err memory_line
+      → Runs o (names_of request) files shelf out err 8
   Runs-memory h says = record {
     unread = λ e. absurd (omega arith);
     missing = λ m. inr refl;
@@ -180,10 +188,12 @@ module _ (files : Files) (request : Option Request) (shelf : Shelved) (told_file
     );
   }
 
-  Runs-write : Rose out.faults out.faults_after → AppendsFront out.old out.new o.out → 0 < length o.out → Says err write_line → Runs o (names_of request) files shelf out err 5
+  Runs-write : Rose out.faults out.faults_after → AppendsFront out.old out.new o.out → 0 < length o.out
+      → Says err write_line → Runs o (names_of request) files shelf out err 5
   Runs-write rose h long says = record {
     unread = λ e. absurd (omega arith);
-    missing = λ m. let none : 0 ≡ length o.out = sym (ap length (outcome_at-missing files request m).1) in absurd (omega arith);
+    missing = λ m. let none : 0 ≡ length o.out = sym (ap length (outcome_at-missing files request m).1) in
+        absurd (omega arith);
     settled = λ not5 _ _. absurd (not5 refl);
     front = h;
     nothing = λ e. absurd (omega arith);
@@ -204,11 +214,15 @@ module _ (files : Files) (request : Option Request) (shelf : Shelved) (told_file
       → Rose shelf.start_faults shelf.start_faults_after ⊎ IsUnopened (open_line name) o
       → Says err (open_line name) → Runs o (names_of request) files shelf out err 4
   Runs-open name kept turn why says = record {
-    unread = λ _. elim why [ inl rose ↦ inr (IsTurnOf-some shelf.files (names_of request) name turn, inl rose) | inr m ↦ inl m.0 ];
+    unread = λ _. elim why [
+      | inl rose ↦ inr (IsTurnOf-some shelf.files (names_of request) name turn, inl rose)
+      | inr m ↦ inl m.0
+    ];
     missing = λ m. inl refl;
     settled = λ _ _ calm. elim why [
       | inl rose ↦ absurd (calm refl (inl rose))
-      | inr m ↦ (sym m.0, subst (λ (x : Text). Appends out.old out.new x) (sym m.2) (Appends-keeps out.old out.new kept))
+      | inr m ↦
+          (sym m.0, subst (λ (x : Text). Appends out.old out.new x) (sym m.2) (Appends-keeps out.old out.new kept))
     ];
     front = AppendsFront-keeps out o.out kept;
     nothing = λ _. kept;
@@ -225,7 +239,8 @@ module _ (files : Files) (request : Option Request) (shelf : Shelved) (told_file
     );
   }
 
-  Runs-read : (name : Text) → Keeps out.old out.new → IsTurnOf shelf.files (names_of request) name → (IsMissing shelf.files name → ⊥)
+  Runs-read : (name : Text) → Keeps out.old out.new → IsTurnOf shelf.files (names_of request) name
+      → (IsMissing shelf.files name → ⊥)
       → Rose shelf.read_faults shelf.read_faults_after
       → Says err (read_line name) → Runs o (names_of request) files shelf out err 4
   Runs-read name kept turn there rose says = record {
@@ -247,7 +262,8 @@ module _ (files : Files) (request : Option Request) (shelf : Shelved) (told_file
     );
   }
 
-  Runs-answers : (e : Ending) → Answers (names_of request) (λ fs. outcome_at fs request) shelf out e → Says err (line_of e)
+  Runs-answers : (e : Ending) → Answers (names_of request) (λ fs. outcome_at fs request) shelf out e
+      → Says err (line_of e)
       → Runs o (names_of request) files shelf out err (status_of e)
   Runs-answers (ending.Told t) h says =
       Runs-told t (told-here _ shelf.files files told_files h) says (told_status-settled t).0 (told_status-settled t).1
@@ -256,11 +272,13 @@ module _ (files : Files) (request : Option Request) (shelf : Shelved) (told_file
       let cut = told-here _ shelf.files files told_files h.1 in
       Runs-write h.0 cut.0 cut.1 says
   Runs-answers (ending.CannotOpen name) h says =
-      Runs-open name.now h.0 h.1 (elim h.2 [ inl rose ↦ inl rose | inr m ↦ inr (told-here _ shelf.files files told_files m.1) ]) says
+      Runs-open name.now h.0 h.1
+      (elim h.2 [ inl rose ↦ inl rose | inr m ↦ inr (told-here _ shelf.files files told_files m.1) ]) says
   Runs-answers (ending.CannotRead name) h says = Runs-read name.now h.0 h.1 h.2 h.3 says
 
 -- the clause, of the request that the words make
-pub HasOutcome-answers : (shelf : Shelved) (words : List Text) (asked_for : Option Request) (out err : Sunk) (e : Ending) (status : ℕ)
+pub HasOutcome-answers : (shelf : Shelved) (words : List Text) (asked_for : Option Request) (out err : Sunk)
+    (e : Ending) (status : ℕ)
     → asked_for ≡ request_of words → status ≡ status_of e
     → Answers (names_of asked_for) (λ fs. outcome_at fs asked_for) shelf out e → Says err (line_of e)
     → IfSome shelf.files (λ files. HasOutcome words files shelf out err status)

@@ -3,7 +3,11 @@ use Rattle.std.specs.Prelude.{[], ◌∷◌, ◌++◌, codes, decimal}
 use Rattle.mp_io.specs.Devices.{Text}
 use Rattle.mp_text.specs.declared.fault.TextFault.{TextFault}
 use Rattle.mp_text.specs.declared.fault.TextKind.{TextKind}
-use Rattle.mp_text.specs.declared.fault.TextKind.TheVariants.{BadByte, Syntax, TooDeep, DuplicateName, TooMany, BadFlags, UnknownOp, BareOperation, UnknownKind, Arity, KindClash, LooseSequence, WildcardInTerm, UnboundVariable, ConditionKind, UnknownSubject, BadPosition, Overlap, Unread}
+use Rattle.mp_text.specs.declared.fault.TextKind.TheVariants.{BadByte, Syntax, TooDeep, DuplicateName, TooMany}
+use Rattle.mp_text.specs.declared.fault.TextKind.TheVariants.{BadFlags, UnknownOp, BareOperation, UnknownKind, Arity}
+use Rattle.mp_text.specs.declared.fault.TextKind.TheVariants.{KindClash, LooseSequence, WildcardInTerm, UnboundVariable}
+use Rattle.mp_text.specs.declared.fault.TextKind.TheVariants.{ConditionKind, UnknownSubject, BadPosition, Overlap}
+use Rattle.mp_text.specs.declared.fault.TextKind.TheVariants.{Unread}
 
 -- what is said after the program's name, as a line
 abbrev pub told : Text → Text
@@ -61,7 +65,8 @@ kind_text Unread = codes "Unread"
 
 -- the line that says at which line and column of a named file what stands
 abbrev pub said_at : Text → Text → Text → Text → Text
-said_at name line column text = codes "matchpy: " ++ (name ++ (codes ":" ++ (line ++ (codes ":" ++ (column ++ (codes ": " ++ (text ++ 10 ∷ [])))))))
+said_at name line column text = codes "matchpy: "
+    ++ (name ++ (codes ":" ++ (line ++ (codes ":" ++ (column ++ (codes ": " ++ (text ++ 10 ∷ [])))))))
 
 -- a fault of a file's text
 abbrev pub fault_line : Text → TextFault → Text

@@ -12,4 +12,5 @@ use Rattle.matchpy.specs.declared.matches.Stop.TheVariants.{Memory, CannotWrite}
 abbrev pub PrintsMatches : Text → Sunk → Result Bool Stop → Type 0
 PrintsMatches text out (Ok any) = Appends out.old out.new text × (any ≡ has_some text) × (out.faults ≤ out.faults_after)
 PrintsMatches text out (Err Memory) = AppendsFront out.old out.new text
-PrintsMatches text out (Err CannotWrite) = AppendsFront out.old out.new text × Rose out.faults out.faults_after × (0 < length text)
+PrintsMatches text out (Err CannotWrite) = AppendsFront out.old out.new text × Rose out.faults out.faults_after
+    × (0 < length text)

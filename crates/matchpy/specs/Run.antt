@@ -1,5 +1,6 @@
 -- What the whole command promises.
-use Rattle.std.specs.Prelude.{◌≡◌, ◌⊎◌, ◌<◌, ◌≤◌, ◌+◌, ◌*◌, ℕ, List, [], ◌∷◌, length, map, Option, Some, None, string_bytes}
+use Rattle.std.specs.Prelude.{◌≡◌, ◌⊎◌, ◌<◌, ◌≤◌, ◌+◌, ◌*◌, ℕ, List, [], ◌∷◌, length, map, Option, Some, None}
+use Rattle.std.specs.Prelude.{string_bytes}
 use Rattle.std.specs.Io.KnownBytes.{Appends, Keeps}
 use Rattle.std.specs.declared.string.String.{String}
 use Rattle.std.specs.Global.{Global}
@@ -75,7 +76,8 @@ pub record Says (err : Sunk) (line : Text) : Type 0 where
 -- ---- a run
 
 -- a run over files that are told is as this outcome says
-pub record Runs (o : Outcome) (names : List Text) (files : Files) (shelf : Shelved) (out err : Sunk) (status : ℕ) : Type 0 where
+pub record Runs (o : Outcome) (names : List Text) (files : Files) (shelf : Shelved) (out err : Sunk)
+    (status : ℕ) : Type 0 where
   -- status 4 comes only where the outcome has it, or at a fault of the shelf
   pub unread : status ≡ 4 → (o.status ≡ 4) ⊎ ((0 < length names) × ShelfRose shelf)
   -- and always, but for want of memory, where a file isn't held

@@ -32,5 +32,6 @@ request_for file action = record { action = action; file = file }
 
 -- the request that the words make, if they make one: the name of an action, and that of a file
 abbrev pub request_of : List Text → Option Request
-request_of (name ∷ file ∷ []) = if is_file_name file then option_map (request_for file) (find_action name actions) else None
+request_of (name ∷ file ∷ []) = if is_file_name file then option_map (request_for file)
+    (find_action name actions) else None
 request_of _ = None

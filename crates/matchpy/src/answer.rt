@@ -78,8 +78,8 @@ fn act_over<'a, O: Sink>(
 
 /// Reads the file that the request names, and does its action over it.
 ///
-/// The ending is that of `outcome_over` of `specs/Computed.antt` over the file's bytes, or a file that isn't held, is too
-/// long, or whose start or read failed, or want of memory, or a write that failed. The file is started once, and no
+/// The ending is that of `outcome_over` of `specs/Computed.antt` over the file's bytes, or a file that isn't held, is
+/// too long, or whose start or read failed, or want of memory, or a write that failed. The file is started once, and no
 /// other is.
 pub fn answer_file<'a, S: Shelf, O: Sink>(
     alloc: Global,
@@ -88,7 +88,8 @@ pub fn answer_file<'a, S: Shelf, O: Sink>(
     out: &mut O,
 ) -> Ending<'a>
     ensures answers { let asked_for = asked request.entry in
-        Answers (asked_for.file ∷ []) (λ files. given file_limit asked_for.file (outcome_over asked_for) (held files asked_for.file))
+        Answers (asked_for.file ∷ []) (λ files.
+        given file_limit asked_for.file (outcome_over asked_for) (held files asked_for.file))
         (shelved S.Shelf shelf.old shelf.new) (sunk O.Sink out.old out.new) result }
     ensures causes { HasCauses file_limit ((asked request.entry).file ∷ []) (shelved S.Shelf shelf.old shelf.new) result }
     ensures once { IsReadOnce file_limit ((asked request.entry).file ∷ []) (shelved S.Shelf shelf.old shelf.new) }

@@ -6,7 +6,8 @@ ghost use Rattle.matchpy.specs.Outcome.{IsOutcome, Outcome};
 
 /// These words over these files have one outcome at most, by `IsOutcome` of `specs/Outcome.antt`.
 pub fn an_outcome_is_unique()
-    ensures { (words : List Text) (files : Files) (o p : Outcome) → IsOutcome words files o → IsOutcome words files p → o ≡ p }
+    ensures { (words : List Text) (files : Files) (o p : Outcome) → IsOutcome words files o → IsOutcome words files p
+        → o ≡ p }
 {}
 
 /// These words over these files have an outcome.

@@ -115,7 +115,8 @@ fn write_matches<O: Sink>(
     out: &mut O,
 ) -> Result<(), Failed>
     ensures { Prints (sunk O.Sink out.old out.new)
-        (flat_map (match_line sig.now (subject_tree subject.now) (rule_tree rule.now)) (map subst_of substs.now)) result }
+        (flat_map (match_line sig.now (subject_tree subject.now) (rule_tree rule.now)) (map subst_of substs.now))
+        result }
 {
     let mut out = Writer::new(out);
     put_matches(sig, subject, rule, substs, &mut out);
@@ -132,7 +133,8 @@ fn write_rule<O: Sink>(
 ) -> Result<bool, Stop>
     requires planned { IsPlanned sig.now (rule_plan planned.now) }
     requires matchable { IsMatchableSubject sig.now (subject_tree subject.now) }
-    ensures { PrintsMatches (rule_lines sig.now (subject_tree subject.now) (planned_rule planned.now)) (sunk O.Sink out.old out.new) result }
+    ensures { PrintsMatches (rule_lines sig.now (subject_tree subject.now) (planned_rule planned.now))
+        (sunk O.Sink out.old out.new) result }
 {
     let rule = planned.rule;
     let substs = match eager_substs(alloc, sig, rule, &planned.plan, &subject.term) {
@@ -155,7 +157,8 @@ fn write_subject<O: Sink>(
 ) -> Result<bool, Stop>
     requires planned { AllByRecursion (IsPlanned sig.now) (map rule_plan rules.now) }
     requires matchable { IsMatchableSubject sig.now (subject_tree subject.now) }
-    ensures { PrintsMatches (subject_lines sig.now (map planned_rule rules.now) (subject_tree subject.now)) (sunk O.Sink out.old out.new) result }
+    ensures { PrintsMatches (subject_lines sig.now (map planned_rule rules.now) (subject_tree subject.now))
+        (sunk O.Sink out.old out.new) result }
 {
     let mut any = false;
     for rule in rules {
@@ -177,7 +180,9 @@ fn write_subjects<O: Sink>(
 ) -> Result<bool, Stop>
     requires planned { AllByRecursion (IsPlanned sig.now) (map rule_plan rules.now) }
     requires matchable { AllByRecursion (IsMatchableSubject sig.now) (map subject_tree subjects.now) }
-    ensures { PrintsMatches (flat_map (subject_lines sig.now (map planned_rule rules.now)) (map subject_tree subjects.now)) (sunk O.Sink out.old out.new) result }
+    ensures { PrintsMatches
+        (flat_map (subject_lines sig.now (map planned_rule rules.now)) (map subject_tree subjects.now))
+        (sunk O.Sink out.old out.new) result }
 {
     let mut any = false;
     for subject in subjects {
@@ -191,8 +196,8 @@ fn write_subjects<O: Sink>(
 
 /// Prints a line for each subject, rule and admitted substitution of the file.
 ///
-/// The ending is that of `matched` of `specs/Outcome.antt` over the lines `file_lines` of `specs/Computed.antt`, or want of
-/// memory, or a write that failed; a front of the lines was written then.
+/// The ending is that of `matched` of `specs/Outcome.antt` over the lines `file_lines` of `specs/Computed.antt`, or
+/// want of memory, or a write that failed; a front of the lines was written then.
 pub fn match_file<'a, O: Sink>(alloc: Global, file: &File, out: &mut O) -> Ending<'a>
     requires { IsMatchableFile (file_tree file.now) }
     ensures acts { Acts (matched (file_lines (file_tree file.now))) (sunk O.Sink out.old out.new) result }

@@ -27,7 +27,8 @@ fn answer<'a, S: Shelf, O: Sink>(
     ensures answers { let asked_for = option_map asked request.entry in
         Answers (names_of asked_for) (λ files. outcome_at files asked_for)
         (shelved S.Shelf shelf.old shelf.new) (sunk O.Sink out.old out.new) result }
-    ensures causes { HasCauses file_limit (names_of (option_map asked request.entry)) (shelved S.Shelf shelf.old shelf.new) result }
+    ensures causes { HasCauses file_limit (names_of (option_map asked request.entry))
+        (shelved S.Shelf shelf.old shelf.new) result }
     ensures once { IsReadOnce file_limit (names_of (option_map asked request.entry)) (shelved S.Shelf shelf.old shelf.new) }
     ensures usage { status_of result ≡ 2 → is_none request.entry ≡ true }
     ensures no_usage { is_none request.entry ≡ true → status_of result ≡ 2 }
@@ -74,7 +75,8 @@ pub fn run<S: Shelf, O: Sink, E: Sink>(
     ensures outcome { IfSome (S.files shelf.old) (λ files. HasOutcome (words_of words.now) files
         (shelved S.Shelf shelf.old shelf.new) (sunk O.Sink out.old out.new) (sunk E.Sink err.old err.new) result) }
 
-    // Where it doesn't tell them, statuses 4 and 5 still have their causes, 2, 4, 5 and 8 their lines, and 0 and 1 none.
+    // Where it doesn't tell them, statuses 4 and 5 still have their causes, 2, 4, 5 and 8 their lines, and 0 and 1
+    // none.
     ensures tells { Tells (words_of words.now)
         (shelved S.Shelf shelf.old shelf.new) (sunk O.Sink out.old out.new) (sunk E.Sink err.old err.new) result }
 

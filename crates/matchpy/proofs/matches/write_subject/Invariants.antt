@@ -10,10 +10,13 @@ use Rattle.matchpy.proofs.matches.write_subject.Given as goal
 
 abbrev pub invariant-loop-rule : goal.invariant-loop-rule
 invariant-loop-rule g l = record {
-  written : Written (g.O.Sink.contents l.fn.out) (g.O.Sink.contents l.out) (subject_lines l.sig (map planned_rule l.rules) (subject_tree l.subject))
+  written : Written (g.O.Sink.contents l.fn.out) (g.O.Sink.contents l.out)
+      (subject_lines l.sig (map planned_rule l.rules) (subject_tree l.subject))
       (flat_map (rule_lines l.sig (subject_tree l.subject)) (map planned_rule (drop l.rule-index l.rules)));
   any : has_some (subject_lines l.sig (map planned_rule l.rules) (subject_tree l.subject))
-      ≡ (l.any || has_some (flat_map (rule_lines l.sig (subject_tree l.subject)) (map planned_rule (drop l.rule-index l.rules))));
+      ≡ (l.any
+      || has_some
+      (flat_map (rule_lines l.sig (subject_tree l.subject)) (map planned_rule (drop l.rule-index l.rules))));
   faults : g.O.Sink.faults l.fn.out ≤ g.O.Sink.faults l.out;
   planned : AllByRecursion (IsPlanned l.sig) (map rule_plan (drop l.rule-index l.rules));
 }

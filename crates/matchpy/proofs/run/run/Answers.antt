@@ -5,11 +5,13 @@ use Rattle.matchpy.proofs.Runs.{HasOutcome-answers, Says-done, status_of-listed}
 use Rattle.matchpy.proofs.run.run.Goals as goal
 
 pub returns-clause-statuses : goal.returns-clause-statuses
-returns-clause-statuses g c = subst (Contains statuses) (sym c.finish.ensures.status) (status_of-listed c.answer-ending.result)
+returns-clause-statuses g c = subst (Contains statuses) (sym c.finish.ensures.status)
+    (status_of-listed c.answer-ending.result)
 
 pub returns-clause-outcome : goal.returns-clause-outcome
 returns-clause-outcome g c =
-    HasOutcome-answers _ _ _ _ _ c.answer-ending.result _ c.read_words.ensures c.finish.ensures.status c.answer-ending.ensures.answers c.finish.ensures.says
+    HasOutcome-answers _ _ _ _ _ c.answer-ending.result _ c.read_words.ensures c.finish.ensures.status
+    c.answer-ending.ensures.answers c.finish.ensures.says
 
 pub returns-clause-tells : goal.returns-clause-tells
 returns-clause-tells g c = record {
@@ -17,7 +19,8 @@ returns-clause-tells g c = record {
   unread = search rules;
   write = search rules;
   memory = search rules;
-  done = λ few. Says-done _ c.answer-ending.result c.finish.ensures.says (subst (λ n. n ≤ 1) c.finish.ensures.status few);
+  done = λ few. Says-done _ c.answer-ending.result c.finish.ensures.says
+      (subst (λ n. n ≤ 1) c.finish.ensures.status few);
 }
 
 pub returns-clause-once : goal.returns-clause-once
