@@ -345,8 +345,8 @@ subject s: h(a, 7, f(g(a), b), l(a), l(b, a), l(f(a, b), g(b)), l(), s(a), s(a, 
 
 /// Conditions of that rule and, behind `|`, the status: 0 where they hold of these values, and 1 where they don't.
 ///
-/// x -> a, n -> 7, t -> f(g(a), b), y -> (a), p -> (b, a), q -> (f(a, b), g(b)), e -> (), m -> {a}, z -> {a, b}, o ->
-/// {}
+/// x -> a, n -> 7, t -> f(g(a), b), y -> (a), p -> (b, a), q -> (f(a, b), g(b)), e -> (), m -> {a}, z -> {a, b},
+/// o -> {}
 pub const CONDITIONS: &str = "\
 same($x, a)|0
 same($y, a)|0
