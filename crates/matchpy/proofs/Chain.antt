@@ -86,15 +86,15 @@ Answers-loaded limit name bytes over shelf out (ending.CannotRead n) h l act = a
 -- ---- a file that wasn't loaded
 
 pub Answers-unloaded : (limit : ℕ) (name : Text) (over : Text → Outcome) (shelf : Shelved) (out : Sunk) (e : Ending)
-    → Loads name limit shelf (Err e) → out.new ≡ out.old
+    → Loads name limit shelf (Err e) → out.new ≡ out.old → out.faults_after ≡ out.faults
     → Answers (name ∷ []) (λ fs. given limit name over (held fs name)) shelf out e
-Answers-unloaded limit name over shelf out (ending.Told t) h same =
+Answers-unloaded limit name over shelf out (ending.Told t) h same stays =
     given-long (λ o. IsReached o out t) limit name over shelf.files h.2
-    (record { status = h.0; line = h.1; text = Appends-nothing out same })
-Answers-unloaded limit name over shelf out ending.Memory h same =
+    (record { status = h.0; line = h.1; text = Appends-nothing out same; stays = stays })
+Answers-unloaded limit name over shelf out ending.Memory h same stays =
     IfSome-all shelf.files (λ fs. AppendsFront-nothing out (given limit name over (held fs name)).out same)
-Answers-unloaded limit name over shelf out ending.CannotWrite h same = absurd h
-Answers-unloaded limit name over shelf out (ending.CannotOpen n) h same = (
+Answers-unloaded limit name over shelf out ending.CannotWrite h same stays = absurd h
+Answers-unloaded limit name over shelf out (ending.CannotOpen n) h same stays = (
   Keeps-nothing out same,
   inl (sym h.0),
   elim h.1 [
@@ -106,7 +106,7 @@ Answers-unloaded limit name over shelf out (ending.CannotOpen n) h same = (
         )
   ],
 )
-Answers-unloaded limit name over shelf out (ending.CannotRead n) h same =
+Answers-unloaded limit name over shelf out (ending.CannotRead n) h same stays =
     (Keeps-nothing out same, inl (sym h.0), λ m. h.1 (subst (IsMissing shelf.files) h.0 m), h.2)
 
 -- and why, whether or not the files are told

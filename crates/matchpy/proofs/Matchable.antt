@@ -5,7 +5,8 @@ use Rattle.mp_io.specs.Devices.{Text}
 use Rattle.mp_term.specs.Signature.{Sig}
 use Rattle.mp_pattern.specs.Admission.{Rule}
 use Rattle.mp_pattern.specs.SoundRule.{IsSoundRule}
-use Rattle.mp_pattern.proofs.SoundRules.{DefaultsAreSmall-IsFormed, HasConditionOver-HasSoundCondition, plan_fault-IsSoundPattern}
+use Rattle.mp_pattern.proofs.SoundRules.{DefaultsAreSmall-IsFormed, HasConditionOver-HasSoundCondition}
+use Rattle.mp_pattern.proofs.SoundRules.{plan_fault-IsSoundPattern}
 use Rattle.mp_text.specs.File.{FileTree, Subject}
 use Rattle.mp_text.specs.Reading.{IsFileOf}
 use Rattle.mp_text.specs.Sound.{IsSoundSubject, IsSoundFile}
@@ -25,9 +26,11 @@ module _ (sig : Sig) where
         IsMatchable-sound rs h.1,
       )
 
-  IsMatchableSubject-sound : (ss : List Subject) → AllByRecursion (IsSoundSubject sig) ss → AllByRecursion (IsMatchableSubject sig) ss
+  IsMatchableSubject-sound : (ss : List Subject) → AllByRecursion (IsSoundSubject sig) ss
+      → AllByRecursion (IsMatchableSubject sig) ss
   IsMatchableSubject-sound [] h = tt
-  IsMatchableSubject-sound (s ∷ ss) h = (record { normal = h.0.term.normal; few = h.0.term.few_nodes }, IsMatchableSubject-sound ss h.1)
+  IsMatchableSubject-sound (s ∷ ss) h =
+      (record { normal = h.0.term.normal; few = h.0.term.few_nodes }, IsMatchableSubject-sound ss h.1)
 
 pub IsFileOf-matchable : (bytes : Text) (file : FileTree) → IsFileOf bytes file → IsMatchableFile file
 IsFileOf-matchable bytes file h =

@@ -72,11 +72,11 @@ has_some-drop view text xs i x whole any some within is h e =
 -- ---- calls that print some of the matches
 
 lists_cut : (a b c : Option Text) (m n k : ℕ) (whole part rest : Text) (stop : Stop) → Written a b whole (part ++ rest)
-    → m ≤ n
+    → n ≡ m
     → PrintsMatches part (record { old = b; new = c; faults = n; faults_after = k }) (Err stop)
     → PrintsMatches whole (record { old = a; new = c; faults = m; faults_after = k }) (Err stop)
-lists_cut a b c m n k whole part rest Memory w mn h = part_front a b c whole part rest w h
-lists_cut a b c m n k whole part rest CannotWrite w mn h =
+lists_cut a b c m n k whole part rest Memory w nm h = part_front a b c whole part rest w h
+lists_cut a b c m n k whole part rest CannotWrite w nm h =
     let rose = h.1 in
     let long = h.2 in
     let same : length whole ≡ length (w.front ++ (part ++ rest)) = ap length w.split in (
@@ -88,12 +88,12 @@ lists_cut a b c m n k whole part rest CannotWrite w mn h =
 module _ {A X : Type 0} (view : A → X) (text : X → Text) (xs : List A) (i : ℕ) (x : A) (a b c : Option Text) (m n k : ℕ)
     (whole : Text) (within : i < length xs) (is : x ≡ get_or xs i x) where
   -- the call for the item at an index stopped
-  pub lists_stopped : (stop : Stop) → Written a b whole (flat_map text (map view (drop i xs))) → m ≤ n
+  pub lists_stopped : (stop : Stop) → Written a b whole (flat_map text (map view (drop i xs))) → n ≡ m
       → PrintsMatches (text (view x)) (record { old = b; new = c; faults = n; faults_after = k }) (Err stop)
       → PrintsMatches whole (record { old = a; new = c; faults = m; faults_after = k }) (Err stop)
-  lists_stopped stop w mn h =
+  lists_stopped stop w nm h =
       lists_cut a b c m n k whole (text (view x)) (flat_map text (map view (drop (i + 1) xs))) stop
-      (subst (Written a b whole) (flat_map-drop view text xs i x within is) w) mn h
+      (subst (Written a b whole) (flat_map-drop view text xs i x within is) w) nm h
 
 -- a line isn't empty
 pub match_line-some : (sig : Sig) (subject : Subject) (rule : Rule) (s : Subst)

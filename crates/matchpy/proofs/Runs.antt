@@ -155,6 +155,7 @@ module _ (files : Files) (request : Option Request) (shelf : Shelved) (told_file
     nothing = λ e. Keeps-appends out.old out.new
         (subst (λ (x : Text). Appends out.old out.new x) (outcome_at-silent files request (sym h.status ∙ e)) h.text);
     write = λ e. absurd (not5 e);
+    unfailed = λ _. h.stays;
     line = (
       told_line t,
       record {
@@ -176,6 +177,7 @@ module _ (files : Files) (request : Option Request) (shelf : Shelved) (told_file
     front = h;
     nothing = λ e. absurd (omega arith);
     write = λ e. absurd (omega arith);
+    unfailed = λ few. absurd (omega arith);
     line = (
       memory_line,
       record {
@@ -198,6 +200,7 @@ module _ (files : Files) (request : Option Request) (shelf : Shelved) (told_file
     front = h;
     nothing = λ e. absurd (omega arith);
     write = λ _. (long, rose);
+    unfailed = λ few. absurd (omega arith);
     line = (
       write_line,
       record {
@@ -227,6 +230,7 @@ module _ (files : Files) (request : Option Request) (shelf : Shelved) (told_file
     front = AppendsFront-keeps out o.out kept;
     nothing = λ _. kept;
     write = λ e. absurd (omega arith);
+    unfailed = λ few. absurd (omega arith);
     line = (
       open_line name,
       record {
@@ -250,6 +254,7 @@ module _ (files : Files) (request : Option Request) (shelf : Shelved) (told_file
     front = AppendsFront-keeps out o.out kept;
     nothing = λ _. kept;
     write = λ e. absurd (omega arith);
+    unfailed = λ few. absurd (omega arith);
     line = (
       read_line name,
       record {

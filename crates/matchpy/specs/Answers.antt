@@ -15,11 +15,12 @@ use Rattle.matchpy.specs.declared.ending.Ending.TheVariants as ending
 
 -- ---- an action
 
--- the ending is the outcome's, and its text was written
+-- the ending is the outcome's, and its text was written without a failed write
 pub record IsReached (o : Outcome) (out : Sunk) (told : Told) : Type 0 where
   pub status : told_status told ≡ o.status
   pub line : told_line told ≡ o.err
   pub text : Appends out.old out.new o.out
+  pub stays : out.faults_after ≡ out.faults
 
 -- an action over bytes or over a file, of which this is the outcome, ends so
 abbrev pub Acts : Outcome → Sunk → Ending → Type 0

@@ -88,8 +88,9 @@ pub record Runs (o : Outcome) (names : List Text) (files : Files) (shelf : Shelv
   -- in any case a front of its text was written, and nothing at status 4
   pub front : AppendsFront out.old out.new o.out
   pub nothing : status ≡ 4 → Keeps out.old out.new
-  -- a write that failed is told only where something was to be written and the count rose
+  -- a write that failed is told only where something was to be written and the count rose, and isn't tried again
   pub write : status ≡ 5 → (0 < length o.out) × Rose out.faults out.faults_after
+  pub unfailed : status ≤ 3 → out.faults_after ≡ out.faults
   -- what is said
   pub line : (text : Text) × IsLine o names shelf status text × Says err text
 

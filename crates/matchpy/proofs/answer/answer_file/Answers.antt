@@ -10,7 +10,8 @@ pub returns-in-Err-clause-answers : goal.returns-in-Err-clause-answers
 returns-in-Err-clause-answers g c =
     let request = asked c.args.request in
     let shelf = shelved g.S.Shelf c.args.shelf.now c.load.new.shelf in
-    Answers-unloaded file_limit request.file (outcome_over request) shelf _ c.in-Err.ending c.in-Err.ensures.loads refl
+    Answers-unloaded file_limit request.file
+    (outcome_over request) shelf _ c.in-Err.ending c.in-Err.ensures.loads refl refl
 
 pub returns-in-Err-clause-causes : goal.returns-in-Err-clause-causes
 returns-in-Err-clause-causes g c =

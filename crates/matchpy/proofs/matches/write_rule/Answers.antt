@@ -15,7 +15,7 @@ returns-in-Ok-write_matches g c =
     let printed = c.in-Ok-write_matches.ensures in (
       Appends-same _ _ _ _ same printed.whole,
       ap not c.is_empty.ensures ∙ has_some-lines subst_of _ _ _ _ ∙ ap has_some same,
-      printed.cause.later,
+      printed.cause.stays,
     )
 
 pub returns : goal.returns

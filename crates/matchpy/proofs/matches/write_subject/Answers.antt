@@ -1,4 +1,4 @@
-use Rattle.std.proofs.Common.{arith, map}
+use Rattle.std.proofs.Common.{◌∙◌, arith, map}
 use Rattle.mp_text.specs.File.{subject_tree}
 use Rattle.matchpy.specs.Planned.{IsPlanned, planned_rule, rule_plan}
 use Rattle.matchpy.specs.Computed.{rule_lines, subject_lines}
@@ -32,7 +32,7 @@ loop-rule-preserved g c =
           (omega arith) c.rule-item.is c.loop-rule.invariant.written printed.0;
       any = has_some-drop planned_rule text c.args.rules.now c.loop-rule.rule-index c.rule-item.result whole
           c.loop-rule.any c.in-Ok.some (omega arith) c.rule-item.is c.loop-rule.invariant.any printed.1;
-      faults = omega (arith, printed.2);
+      faults = printed.2 ∙ c.loop-rule.invariant.faults;
       planned =
           (AllByRecursion-drop rule_plan (IsPlanned c.args.sig.now) c.args.rules.now c.loop-rule.rule-index
           c.rule-item.result (omega arith) c.rule-item.is c.loop-rule.invariant.planned).1;

@@ -1,4 +1,4 @@
-use Rattle.std.proofs.Common.{◌≡◌, ◌≤◌, drop, map}
+use Rattle.std.proofs.Common.{◌≡◌, drop, map}
 use Rattle.std.specs.Prelude.{flat_map, ◌||◌}
 use Rattle.std.specs.List.{AllByRecursion}
 use Rattle.mp_io.proofs.Written.{Written}
@@ -17,6 +17,6 @@ invariant-loop-rule g l = record {
       ≡ (l.any
       || has_some
       (flat_map (rule_lines l.sig (subject_tree l.subject)) (map planned_rule (drop l.rule-index l.rules))));
-  faults : g.O.Sink.faults l.fn.out ≤ g.O.Sink.faults l.out;
+  faults : g.O.Sink.faults l.out ≡ g.O.Sink.faults l.fn.out;
   planned : AllByRecursion (IsPlanned l.sig) (map rule_plan (drop l.rule-index l.rules));
 }

@@ -1,4 +1,4 @@
-use Rattle.std.proofs.Common.{arith, map}
+use Rattle.std.proofs.Common.{◌∙◌, arith, map}
 use Rattle.std.specs.Prelude.{flat_map}
 use Rattle.mp_text.specs.File.{subject_tree}
 use Rattle.matchpy.specs.Planned.{planned_rule}
@@ -33,7 +33,7 @@ loop-subject-preserved g c =
           _ _ whole (omega arith) c.subject-item.is c.loop-subject.invariant.written printed.0;
       any = has_some-drop subject_tree text c.args.subjects.now c.loop-subject.subject-index c.subject-item.result whole
           c.loop-subject.any c.in-Ok.some (omega arith) c.subject-item.is c.loop-subject.invariant.any printed.1;
-      faults = omega (arith, printed.2);
+      faults = printed.2 ∙ c.loop-subject.invariant.faults;
       matchable =
           (AllByRecursion-drop subject_tree (IsMatchableSubject c.args.sig.now) c.args.subjects.now
           c.loop-subject.subject-index c.subject-item.result

@@ -1,4 +1,4 @@
-use Rattle.std.proofs.Common.{◌≡◌, ◌≤◌, drop, map}
+use Rattle.std.proofs.Common.{◌≡◌, drop, map}
 use Rattle.std.specs.Prelude.{flat_map, ◌||◌}
 use Rattle.std.specs.List.{AllByRecursion}
 use Rattle.mp_io.proofs.Written.{Written}
@@ -19,6 +19,6 @@ invariant-loop-subject g l = record {
       || has_some
       (flat_map (subject_lines l.sig (map planned_rule l.rules))
       (map subject_tree (drop l.subject-index l.subjects))));
-  faults : g.O.Sink.faults l.fn.out ≤ g.O.Sink.faults l.out;
+  faults : g.O.Sink.faults l.out ≡ g.O.Sink.faults l.fn.out;
   matchable : AllByRecursion (IsMatchableSubject l.sig) (map subject_tree (drop l.subject-index l.subjects));
 }
