@@ -1,6 +1,6 @@
 //! The answer to a request, over a shelf.
 
-ghost use Rattle.std.specs.Prelude.{◌≡◌, ◌≤◌, ◌+◌, ◌∷◌, [], length, IfErr};
+ghost use Rattle.std.specs.Prelude.{◌≡◌, ◌≤◌, ◌∷◌, length, IfErr};
 ghost use Rattle.mp_io.specs.Devices.{held};
 ghost use Rattle.mp_io.specs.Moments.{shelved, sunk};
 ghost use Rattle.mp_text.specs.File.{file_tree};
@@ -91,8 +91,10 @@ pub fn answer_file<'a, S: Shelf, O: Sink>(
         Answers (asked_for.file ∷ []) (λ files.
         given file_limit asked_for.file (outcome_over asked_for) (held files asked_for.file))
         (shelved S.Shelf shelf.old shelf.new) (sunk O.Sink out.old out.new) result }
-    ensures causes { HasCauses file_limit ((asked request.entry).file ∷ []) (shelved S.Shelf shelf.old shelf.new) result }
-    ensures once { IsReadOnce file_limit ((asked request.entry).file ∷ []) (shelved S.Shelf shelf.old shelf.new) }
+    ensures causes { let name = request.entry.file.now in
+        HasCauses file_limit (name ∷ []) (shelved S.Shelf shelf.old shelf.new) result }
+    ensures once { let name = request.entry.file.now in
+        IsReadOnce file_limit (name ∷ []) (shelved S.Shelf shelf.old shelf.new) }
     ensures used { status_of result ≡ 2 → ⊥ }
 {
     match load(alloc, shelf, request.file, FILE_LIMIT) {

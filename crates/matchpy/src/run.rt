@@ -27,9 +27,10 @@ fn answer<'a, S: Shelf, O: Sink>(
     ensures answers { let asked_for = option_map asked request.entry in
         Answers (names_of asked_for) (λ files. outcome_at files asked_for)
         (shelved S.Shelf shelf.old shelf.new) (sunk O.Sink out.old out.new) result }
-    ensures causes { HasCauses file_limit (names_of (option_map asked request.entry))
-        (shelved S.Shelf shelf.old shelf.new) result }
-    ensures once { IsReadOnce file_limit (names_of (option_map asked request.entry)) (shelved S.Shelf shelf.old shelf.new) }
+    ensures causes { let names = names_of (option_map asked request.entry) in
+        HasCauses file_limit names (shelved S.Shelf shelf.old shelf.new) result }
+    ensures once { let names = names_of (option_map asked request.entry) in
+        IsReadOnce file_limit names (shelved S.Shelf shelf.old shelf.new) }
     ensures usage { status_of result ≡ 2 → is_none request.entry ≡ true }
     ensures no_usage { is_none request.entry ≡ true → status_of result ≡ 2 }
 {
@@ -63,7 +64,7 @@ pub fn run<S: Shelf, O: Sink, E: Sink>(
     out: &mut O,
     err: &mut E,
 ) -> u8
-    // The status is one of these.
+    // The status is one of those that are told.
     ensures statuses { Contains statuses result }
 
     // It is 2 exactly where the words make no request, but for want of memory, which is 8.

@@ -49,7 +49,8 @@ fn alternatives_of(literal: &Literal) -> usize {
     }
 }
 
-// Whether the alternative is `not kind($x, ..)`, with the name in column 10, and `1 <= size($y)`, with the name in column 31.
+// Whether the alternative is `not kind($x, ..)`, with the name in column 10, and `1 <= size($y)`, with the name in
+// column 31.
 fn are_first(literals: &[Literal<'_>]) -> bool {
     match literals {
         [one, other] => {

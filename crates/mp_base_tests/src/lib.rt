@@ -1,4 +1,5 @@
-//! Tests of the lowest libraries' public calls: devices, terms, substitutions, choices, and what texts are read as by tokens and grammar.
+//! Tests of the lowest libraries' public calls: devices, terms, substitutions, choices, and what texts are read as by
+//! tokens and grammar.
 #![tactic(auto)]
 
 #[cfg(test)]

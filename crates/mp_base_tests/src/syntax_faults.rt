@@ -5,8 +5,8 @@ use mp_syntax::{
 use std::alloc::Global;
 use std::test::Fail;
 
-// In each table a line is a text and, behind `|`, its first fault: the kind, the line and the column. Nothing stands there where it has none. `&` stands
-// for a line feed.
+// In each table a line is a text and, behind `|`, its first fault: the kind, the line and the column. Nothing stands
+// there where it has none. `&` stands for a line feed.
 
 // Statements.
 const STATEMENTS: &str = "\
