@@ -1,4 +1,5 @@
-// The items of both generators on small cases worked out by hand, begun anew after the end and in the middle.
+//! The items of both generators on small cases worked out by hand, begun anew after the end and in the middle.
+
 ghost use Rattle.std.specs.Prelude.{◌≡◌};
 
 use mp_choice::{Part, Splits, SubBags};

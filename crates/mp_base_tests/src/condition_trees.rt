@@ -1,4 +1,5 @@
-// The syntax trees of conditions.
+//! The syntax trees of conditions.
+
 use mp_syntax::{
     Amount, Atom, Condition, Expr, Literal, Measure, Property, Relation, Sense, read_condition,
 };

@@ -1,4 +1,5 @@
-// Merging, the order and the equality of substitutions on cases worked out by hand.
+//! Merging, the order and the equality of substitutions on cases worked out by hand.
+
 ghost use Rattle.std.specs.Prelude.{◌≡◌, [], ◌∷◌, map, codes, IfOk};
 ghost use Rattle.mp_subst.specs.View.{subst_of};
 

@@ -1,4 +1,5 @@
-// The first faults of texts, by tokens and grammar.
+//! The first faults of texts, by tokens and grammar.
+
 use mp_syntax::{
     Fault, Place, SyntaxError, first_token_place, read_condition, read_expression, read_statements,
 };

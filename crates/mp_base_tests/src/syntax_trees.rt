@@ -1,4 +1,5 @@
-// The syntax trees of statements and expressions.
+//! The syntax trees of statements and expressions.
+
 use mp_syntax::statement::{printed_statements_are_read, syntax_has_names, syntax_is_a_function};
 use mp_syntax::token::{tokens_are_total, tokens_are_unique};
 use mp_syntax::{

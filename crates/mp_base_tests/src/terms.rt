@@ -1,4 +1,4 @@
-// Each public call of terms once with memory at hand, and the spellings of names and signs.
+//! Each public call of terms once with memory at hand, and the spellings of names and signs.
 
 use mp_term::{
     Edit, Edits, KindId, Name, Names, OpDecl, OpId, Position, Sign, Signature, Term, Terms,
