@@ -1,5 +1,6 @@
 -- The value of a listing, and the steps of a generator through it.
-use Rattle.std.proofs.Common.{◌≡◌, ℕ, ◌≤◌, List, [], ◌∷◌, Bool, true, false, refl, sym, ap, ◌∙◌, inl, inr, subst, length, filter, arith}
+use Rattle.std.proofs.Common.{◌≡◌, ℕ, ◌≤◌, List, [], ◌∷◌, Bool, true, false, refl, sym, ap, ◌∙◌, inl, inr, subst}
+use Rattle.std.proofs.Common.{length, filter, arith}
 use Rattle.std.specs.Prelude.{MatchBool}
 use Rattle.std.specs.declared.cmp.Ordering.{Ordering}
 use Rattle.std.specs.declared.cmp.Ordering.TheVariants.{Less, Equal, Greater}
@@ -18,13 +19,16 @@ use Rattle.mp_choice.specs.declared.stage.Stage.{Stage}
 use Rattle.mp_choice.specs.declared.stage.Stage.TheVariants.{Before, Standing}
 use Rattle.mp_choice.specs.Listed.{number_lists, above, Reaches, IsExhausted, IsFirst, HasNone, IsNext, IsLast}
 
-accepts-numbers : (most : ℕ) (ns : List ℕ) → AllByRecursion (λ n. n ≤ most) ns → Accepts (λ m. count_to 0 m) (λ m n. m) (λ m. true) most ns
+accepts-numbers : (most : ℕ) (ns : List ℕ) → AllByRecursion (λ n. n ≤ most) ns
+    → Accepts (λ m. count_to 0 m) (λ m n. m) (λ m. true) most ns
 accepts-numbers most [] h = refl
 accepts-numbers most (n ∷ ns) h = (in-count_to n 0 most (omega arith) (omega (arith, h.0)), accepts-numbers most ns h.1)
 
 -- each list of numbers that are at most the bound is among those of its length
-pub in-number_lists : (most length_of : ℕ) (ns : List ℕ) → length ns ≡ length_of → AllByRecursion (λ n. n ≤ most) ns → In ns (number_lists most length_of)
-in-number_lists most length_of ns e h = subst (λ k. In ns (number_lists most k)) e (words-complete (λ m. count_to 0 m) (λ m n. m) (λ m. true) most ns (accepts-numbers most ns h))
+pub in-number_lists : (most length_of : ℕ) (ns : List ℕ) → length ns ≡ length_of → AllByRecursion (λ n. n ≤ most) ns
+    → In ns (number_lists most length_of)
+in-number_lists most length_of ns e h = subst (λ k. In ns (number_lists most k)) e
+    (words-complete (λ m. count_to 0 m) (λ m n. m) (λ m. true) most ns (accepts-numbers most ns h))
 
 module _ {X : Type 0} (cmp : X → X → Ordering) (o : IsTotalOrder cmp) where
   not_lt : (r : Ordering) → (r ≡ Less → ⊥) → is_lt r ≡ false
@@ -44,20 +48,24 @@ module _ {X : Type 0} (cmp : X → X → Ordering) (o : IsTotalOrder cmp) where
   above-head x xs h = rw (tied_itself o x) (above-all x xs h)
 
   -- the least is the head
-  least-head : (x : X) (xs : List X) → IsStrictlySortedBy cmp xs → In x xs → ((y : X) → In y xs → cmp y x ≡ Less → ⊥) → xs ≡ x ∷ above cmp x xs
+  least-head : (x : X) (xs : List X) → IsStrictlySortedBy cmp xs → In x xs → ((y : X) → In y xs → cmp y x ≡ Less → ⊥)
+      → xs ≡ x ∷ above cmp x xs
   unfolding IsStrictlySortedBy
   least-head x [] s i h = absurd i
-  least-head x (y ∷ ys) s (inl e) h = subst (λ w. y ∷ ys ≡ w ∷ above cmp w (y ∷ ys)) (sym e) (ap (λ zs. y ∷ zs) (sym (above-head y ys s.0)))
+  least-head x (y ∷ ys) s (inl e) h = subst (λ w. y ∷ ys ≡ w ∷ above cmp w (y ∷ ys)) (sym e)
+      (ap (λ zs. y ∷ zs) (sym (above-head y ys s.0)))
   least-head x (y ∷ ys) s (inr i) h = absurd (h y (inl refl) (all_in (λ z. cmp y z ≡ Less) ys x s.0 i))
 
   -- the least above w is the head of those above w
-  above-next : (w x : X) (xs : List X) → IsStrictlySortedBy cmp xs → In x xs → cmp w x ≡ Less → ((y : X) → In y xs → cmp w y ≡ Less → cmp y x ≡ Less → ⊥) → above cmp w xs ≡ x ∷ above cmp x xs
+  above-next : (w x : X) (xs : List X) → IsStrictlySortedBy cmp xs → In x xs → cmp w x ≡ Less
+      → ((y : X) → In y xs → cmp w y ≡ Less → cmp y x ≡ Less → ⊥) → above cmp w xs ≡ x ∷ above cmp x xs
   unfolding IsStrictlySortedBy
   above-next w x [] s i l h = absurd i
   above-next w x (y ∷ ys) s (inl e) l h =
       let P : X → Type 0 = λ z. above cmp w (y ∷ ys) ≡ z ∷ above cmp z (y ∷ ys) in
       let m : cmp w y ≡ Less = subst (λ z. cmp w z ≡ Less) e l in
-      subst P (sym e) (rw m (ap (λ zs. y ∷ zs) (above-all w ys (less_than_all cmp o w y ys m s.0) ∙ sym (above-head y ys s.0))))
+      subst P (sym e)
+      (rw m (ap (λ zs. y ∷ zs) (above-all w ys (less_than_all cmp o w y ys m s.0) ∙ sym (above-head y ys s.0))))
   above-next w x (y ∷ ys) s (inr i) l h =
       let m : cmp y x ≡ Less = all_in (λ z. cmp y z ≡ Less) ys x s.0 i in
       let a : is_lt (cmp w y) ≡ false = not_lt (cmp w y) (λ p. h y (inl refl) p m) in
@@ -65,11 +73,17 @@ module _ {X : Type 0} (cmp : X → X → Ordering) (o : IsTotalOrder cmp) where
       rw (a, b) (above-next w x ys s.1 i l (λ z j. h z (inr j)))
 
   -- where the test decides P and each x with P is in the universe, those that pass, in order, are the listing
-  pub listing-distinct : (P : X → Type 0) (test : X → Bool) (universe : List X) → ((x y : X) → cmp x y ≡ Equal → x ≡ y) → ((x : X) → P x → test x ≡ true) → ((x : X) → test x ≡ true → P x) → ((x : X) → P x → In x universe) → IsListing cmp P (distinct cmp (filter test universe))
+  pub listing-distinct : (P : X → Type 0) (test : X → Bool) (universe : List X) → ((x y : X) → cmp x y ≡ Equal → x ≡ y)
+      → ((x : X) → P x → test x ≡ true) → ((x : X) → test x ≡ true → P x) → ((x : X) → P x → In x universe)
+      → IsListing cmp P (distinct cmp (filter test universe))
   listing-distinct P test universe same passes sound all = record {
     exactly = λ x. (
-      λ c. sound x (from_in-filter test x universe (from_in-distinct cmp o same x (filter test universe) (in-from_contains x (distinct cmp (filter test universe)) c))).1,
-      λ p. contains-from_in x (distinct cmp (filter test universe)) (in-distinct cmp o same x (filter test universe) (in-filter test x universe (all x p) (passes x p))),
+      λ c. sound x
+          (from_in-filter test x universe
+          (from_in-distinct cmp o same x (filter test universe)
+          (in-from_contains x (distinct cmp (filter test universe)) c))).1,
+      λ p. contains-from_in x (distinct cmp (filter test universe))
+          (in-distinct cmp o same x (filter test universe) (in-filter test x universe (all x p) (passes x p))),
     );
     ascending = ascending-distinct cmp o same (filter test universe);
   }
@@ -83,21 +97,39 @@ module _ {X : Type 0} (cmp : X → X → Ordering) (o : IsTotalOrder cmp) where
     has x i = (l.exactly x).0 (contains-from_in x xs i)
 
     -- the first step
-    pub after-first : (found : Bool) (stage : Stage) (old new : X) → stage ≡ Before → MatchBool found (IsFirst cmp P new) (HasNone P) → MatchBool found (Reaches cmp P xs stage old new) (IsExhausted cmp xs stage old)
-    after-first found stage old new e h = subst (λ s. MatchBool found (Reaches cmp P xs s old new) (IsExhausted cmp xs s old)) (sym e) (by_answer found h)
+    pub after-first : (found : Bool) (stage : Stage) (old new : X) → stage ≡ Before
+        → MatchBool found (IsFirst cmp P new) (HasNone P)
+        → MatchBool found (Reaches cmp P xs stage old new) (IsExhausted cmp xs stage old)
+    after-first found stage old new e h = subst
+        (λ s. MatchBool found (Reaches cmp P xs s old new) (IsExhausted cmp xs s old)) (sym e) (by_answer found h)
       where
         none : (ys : List X) → ((y : X) → In y ys → ⊥) → ys ≡ []
         none [] f = refl
         none (y ∷ ys) f = absurd (f y (inl refl))
 
-        by_answer : (found : Bool) → MatchBool found (IsFirst cmp P new) (HasNone P) → MatchBool found (Reaches cmp P xs Before old new) (IsExhausted cmp xs Before old)
-        by_answer true h = record { item = h.item; to_come = least-head new xs l.ascending (listed new h.item) (λ y i. h.none_below y (has y i)) }
+        by_answer : (found : Bool) → MatchBool found (IsFirst cmp P new) (HasNone P)
+            → MatchBool found (Reaches cmp P xs Before old new) (IsExhausted cmp xs Before old)
+        by_answer true h =
+            record {
+              item = h.item;
+              to_come = least-head new xs l.ascending (listed new h.item)
+                  (λ y i. h.none_below y (has y i));
+            }
         by_answer false h = none xs (λ y i. h y (has y i))
 
     -- a step from an item
-    pub after-next : (found : Bool) (stage : Stage) (old new : X) → stage ≡ Standing → MatchBool found (IsNext cmp P old new) (IsLast cmp P old) → MatchBool found (Reaches cmp P xs stage old new) (IsExhausted cmp xs stage old)
-    after-next found stage old new e h = subst (λ s. MatchBool found (Reaches cmp P xs s old new) (IsExhausted cmp xs s old)) (sym e) (by_answer found h)
+    pub after-next : (found : Bool) (stage : Stage) (old new : X) → stage ≡ Standing
+        → MatchBool found (IsNext cmp P old new) (IsLast cmp P old)
+        → MatchBool found (Reaches cmp P xs stage old new) (IsExhausted cmp xs stage old)
+    after-next found stage old new e h = subst
+        (λ s. MatchBool found (Reaches cmp P xs s old new) (IsExhausted cmp xs s old)) (sym e) (by_answer found h)
       where
-        by_answer : (found : Bool) → MatchBool found (IsNext cmp P old new) (IsLast cmp P old) → MatchBool found (Reaches cmp P xs Standing old new) (IsExhausted cmp xs Standing old)
-        by_answer true h = record { item = h.item; to_come = above-next old new xs l.ascending (listed new h.item) h.above (λ y i. h.none_between y (has y i)) }
+        by_answer : (found : Bool) → MatchBool found (IsNext cmp P old new) (IsLast cmp P old)
+            → MatchBool found (Reaches cmp P xs Standing old new) (IsExhausted cmp xs Standing old)
+        by_answer true h =
+            record {
+              item = h.item;
+              to_come = above-next old new xs l.ascending (listed new h.item) h.above
+                  (λ y i. h.none_between y (has y i));
+            }
         by_answer false h = above-none old xs (λ y i. h y (has y i))

@@ -1,5 +1,6 @@
 -- The value of the list of splits is that list, and the steps of a `Splits` walk through it.
-use Rattle.std.proofs.Common.{◌≡◌, ℕ, ◌≤◌, List, [], ◌∷◌, Bool, true, false, sym, ◌∙◌, sum, length, arith, Some, None, Option, subst, refl}
+use Rattle.std.proofs.Common.{◌≡◌, ℕ, ◌≤◌, List, [], ◌∷◌, Bool, true, false, sym, ◌∙◌, sum, length, arith, Some, None}
+use Rattle.std.proofs.Common.{Option, subst, refl}
 use Rattle.std.specs.Prelude.{◌&&◌, ◌==◌, nat_le, IfSome, MatchBool}
 use Rattle.std.specs.List.{AllZip}
 use Rattle.std.proofs.lemmas.Bool.Decides.{nat_tests}
@@ -33,7 +34,8 @@ within_test : (ps : List Part) (ns : List ℕ) → AllZip Allows ps ns → are_w
 within_test [] [] w = refl
 within_test [] (n ∷ ns) w = absurd w
 within_test (p ∷ ps) [] w = absurd w
-within_test (p ∷ ps) (n ∷ ns) w = and_from _ _ (and_from _ _ (nat_le-from p.least n w.0.least) (most_test p.most n w.0.most)) (within_test ps ns w.1)
+within_test (p ∷ ps) (n ∷ ns) w = and_from _ _
+    (and_from _ _ (nat_le-from p.least n w.0.least) (most_test p.most n w.0.most)) (within_test ps ns w.1)
 
 within_from : (ps : List Part) (ns : List ℕ) → are_within ps ns ≡ true → AllZip Allows ps ns
 within_from [] [] h = tt
@@ -53,17 +55,23 @@ eq_from m n h = grind (arith, nat_tests)
 pub splits_of-listing : (total : ℕ) (ps : List Part) → AreSplits total ps (splits_of total ps)
 unfolding splits_of
 splits_of-listing total ps =
-    listing-distinct lex nat_list_cmp_total (IsSplit total ps) (λ ns. are_within ps ns && (sum ns == total)) (number_lists total (length ps)) nats_same
+    listing-distinct lex nat_list_cmp_total (IsSplit total ps) (λ ns. are_within ps ns && (sum ns == total))
+    (number_lists total (length ps)) nats_same
     (λ ns s. and_from _ _ (within_test ps ns s.within) (eq_test (sum ns) total s.adds_up))
-    (λ ns t. let r = and_parts (are_within ps ns) (sum ns == total) t in record { within = within_from ps ns r.0; adds_up = eq_from (sum ns) total r.1 })
-    (λ ns s. in-number_lists total (length ps) ns (AllZip-long Allows ps ns s.within) (each-sum ns total (omega (arith, s.adds_up))))
+    (λ ns t. let r = and_parts (are_within ps ns) (sum ns == total) t in
+    record { within = within_from ps ns r.0; adds_up = eq_from (sum ns) total r.1 })
+    (λ ns s. in-number_lists total (length ps) ns (AllZip-long Allows ps ns s.within)
+    (each-sum ns total (omega (arith, s.adds_up))))
 
 -- the list by the parts that a generator holds
 pub listing_held : (total : ℕ) (ps held : List Part) → held ≡ ps → AreSplits total ps (splits_of total held)
-listing_held total ps held e = subst (λ qs. AreSplits total ps (splits_of total qs)) (sym e) (splits_of-listing total ps)
+listing_held total ps held e = subst (λ qs. AreSplits total ps (splits_of total qs)) (sym e)
+    (splits_of-listing total ps)
 
 -- the next lengths with the same sum are the next split
-pub next_split : (found : Bool) (total : ℕ) (ps : List Part) (old new : List ℕ) → IsSplit total ps old → MatchBool found (IsNextOfSum ps old new) (IsLastOfSum ps old) → MatchBool found (IsNext lex (IsSplit total ps) old new) (IsLast lex (IsSplit total ps) old)
+pub next_split : (found : Bool) (total : ℕ) (ps : List Part) (old new : List ℕ) → IsSplit total ps old
+    → MatchBool found (IsNextOfSum ps old new) (IsLastOfSum ps old)
+    → MatchBool found (IsNext lex (IsSplit total ps) old new) (IsLast lex (IsSplit total ps) old)
 next_split true total ps old new s h = record {
   item = record { within = h.within; adds_up = h.adds_up ∙ s.adds_up };
   above = h.above;

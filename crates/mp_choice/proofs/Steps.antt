@@ -10,7 +10,8 @@ slice_get-drop k (x ∷ xs) = refl
 
 pub to_come-advanced_by : (k : ℕ) (c : Choices) → (advanced_by k c).to_come ≡ drop k c.to_come
 to_come-advanced_by zero c = refl
-to_come-advanced_by (suc k) c = to_come-advanced_by k (advanced c) ∙ (drop-drop k 1 c.to_come ∙ let e : 1 + k ≡ suc k = omega arith in ap (λ n. drop n c.to_come) e)
+to_come-advanced_by (suc k) c = to_come-advanced_by k (advanced c)
+    ∙ (drop-drop k 1 c.to_come ∙ let e : 1 + k ≡ suc k = omega arith in ap (λ n. drop n c.to_come) e)
 
 pub item-advanced_by : (k : ℕ) (c : Choices) → (advanced_by (suc k) c).item ≡ slice_get c.to_come k
 item-advanced_by zero c = refl

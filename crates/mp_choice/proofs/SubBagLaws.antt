@@ -1,5 +1,6 @@
 -- The steps of a `SubBags`, class by class.
-use Rattle.std.proofs.Common.{◌≡◌, ℕ, zero, suc, ◌<◌, ◌≤◌, ◌+◌, ◌-◌, min, List, [], ◌∷◌, refl, sym, ◌∙◌, inl, inr, sum, arith, length, take, drop, subst}
+use Rattle.std.proofs.Common.{◌≡◌, ℕ, zero, suc, ◌<◌, ◌≤◌, ◌+◌, ◌-◌, min, List, [], ◌∷◌, refl, sym, ◌∙◌, inl, inr, sum}
+use Rattle.std.proofs.Common.{arith, length, take, drop, subst}
 use Rattle.std.specs.declared.cmp.Ordering.TheVariants.{Less}
 use Rattle.std.proofs.lemmas.Slice.Zip.{AllZip-long}
 use Rattle.mp_choice.specs.SubBags.{IsSubBag}
@@ -28,25 +29,29 @@ filled-is [] size h = record { within = tt; adds_up = omega arith; greatest = λ
     none (y ∷ ys) w l = w
 filled-is (c ∷ cs) size h = made (filled-is cs (size - min c size) (omega (arith, sum-cons c cs)))
   where
-    made : IsFilled cs (filled (size - min c size) cs) (size - min c size) → IsFilled (c ∷ cs) (min c size ∷ filled (size - min c size) cs) size
+    made : IsFilled cs (filled (size - min c size) cs) (size - min c size)
+        → IsFilled (c ∷ cs) (min c size ∷ filled (size - min c size) cs) size
     made p = record {
       within = (omega arith, p.within);
       adds_up = omega (arith, p.adds_up, sum-cons (min c size) (filled (size - min c size) cs));
       greatest = λ others w s l. none others w s l;
     }
       where
-        none : (others : List ℕ) → IsSubBag (c ∷ cs) others → sum others ≡ size → lex (min c size ∷ filled (size - min c size) cs) others ≡ Less → ⊥
+        none : (others : List ℕ) → IsSubBag (c ∷ cs) others → sum others ≡ size
+            → lex (min c size ∷ filled (size - min c size) cs) others ≡ Less → ⊥
         none [] w s l = absurd w
         none (y ∷ ys) w s l =
             let s' : y + sum ys ≡ size = sym (sum-cons y ys) ∙ s in
-            elim (less_cases (min c size) y (filled (size - min c size) cs) ys l) [ inl q ↦ omega (arith, w.0) | inr q ↦ p.greatest ys w.1 (omega (arith, q.0)) q.1 ]
+            elim (less_cases (min c size) y (filled (size - min c size) cs) ys l)
+            [ inl q ↦ omega (arith, w.0) | inr q ↦ p.greatest ys w.1 (omega (arith, q.0)) q.1 ]
 
 pub last-nil : IsLastOfSize [] []
 last-nil [] w s l = cc
 last-nil (y ∷ ys) w s l = absurd w
 
 -- a class that holds none, or behind which there is no room
-pub last-cons : (c n : ℕ) (cs ns : List ℕ) → IsLastOfSize cs ns → (0 < n → sum cs ≤ sum ns) → IsLastOfSize (c ∷ cs) (n ∷ ns)
+pub last-cons : (c n : ℕ) (cs ns : List ℕ) → IsLastOfSize cs ns → (0 < n → sum cs ≤ sum ns)
+    → IsLastOfSize (c ∷ cs) (n ∷ ns)
 last-cons c n cs ns h stuck [] w s l = absurd w
 last-cons c n cs ns h stuck (y ∷ ys) w s l =
     let s' : y + sum ys ≡ n + sum ns = sym (sum-cons y ys) ∙ (s ∙ sum-cons n ns) in
@@ -63,17 +68,20 @@ next-cons c n cs ns ms a h = record {
   none_between = λ others w s l m. none others w s l m;
 }
   where
-    none : (others : List ℕ) → IsSubBag (c ∷ cs) others → sum others ≡ sum (n ∷ ns) → lex others (n ∷ ns) ≡ Less → lex (n ∷ ms) others ≡ Less → ⊥
+    none : (others : List ℕ) → IsSubBag (c ∷ cs) others → sum others ≡ sum (n ∷ ns) → lex others (n ∷ ns) ≡ Less
+        → lex (n ∷ ms) others ≡ Less → ⊥
     none [] w s l m = absurd w
     none (y ∷ ys) w s l m =
         let s' : y + sum ys ≡ n + sum ns = sym (sum-cons y ys) ∙ (s ∙ sum-cons n ns) in
         elim (less_cases y n ys ns l) [
           | inl q ↦ elim (less_cases n y ms ys m) [ inl r ↦ omega arith | inr r ↦ omega (arith, r.0) ]
-          | inr q ↦ elim (less_cases n y ms ys m) [ inl r ↦ omega (arith, q.0) | inr r ↦ h.none_between ys w.1 (omega (arith, q.0)) q.1 r.1 ]
+          | inr q ↦ elim (less_cases n y ms ys m)
+              [ inl r ↦ omega (arith, q.0) | inr r ↦ h.none_between ys w.1 (omega (arith, q.0)) q.1 r.1 ]
         ]
 
 -- the class gives one up, and what comes after it is filled anew
-pub next-fall : (c n : ℕ) (cs ns ms : List ℕ) → n ≤ c → 0 < n → IsLastOfSize cs ns → IsFilled cs ms (sum ns + 1) → IsNextOfSize (c ∷ cs) (n ∷ ns) ((n - 1) ∷ ms)
+pub next-fall : (c n : ℕ) (cs ns ms : List ℕ) → n ≤ c → 0 < n → IsLastOfSize cs ns → IsFilled cs ms (sum ns + 1)
+    → IsNextOfSize (c ∷ cs) (n ∷ ns) ((n - 1) ∷ ms)
 next-fall c n cs ns ms a some last p = record {
   within = (omega arith, p.within);
   adds_up = omega (arith, p.adds_up, sum-cons n ns, sum-cons (n - 1) ms);
@@ -81,17 +89,20 @@ next-fall c n cs ns ms a some last p = record {
   none_between = λ others w s l m. none others w s l m;
 }
   where
-    none : (others : List ℕ) → IsSubBag (c ∷ cs) others → sum others ≡ sum (n ∷ ns) → lex others (n ∷ ns) ≡ Less → lex ((n - 1) ∷ ms) others ≡ Less → ⊥
+    none : (others : List ℕ) → IsSubBag (c ∷ cs) others → sum others ≡ sum (n ∷ ns) → lex others (n ∷ ns) ≡ Less
+        → lex ((n - 1) ∷ ms) others ≡ Less → ⊥
     none [] w s l m = absurd w
     none (y ∷ ys) w s l m =
         let s' : y + sum ys ≡ n + sum ns = sym (sum-cons y ys) ∙ (s ∙ sum-cons n ns) in
         elim (less_cases y n ys ns l) [
-          | inl q ↦ elim (less_cases (n - 1) y ms ys m) [ inl r ↦ omega arith | inr r ↦ p.greatest ys w.1 (omega (arith, r.0)) r.1 ]
+          | inl q ↦ elim (less_cases (n - 1) y ms ys m)
+              [ inl r ↦ omega arith | inr r ↦ p.greatest ys w.1 (omega (arith, r.0)) r.1 ]
           | inr q ↦ last ys w.1 (omega (arith, q.0)) q.1
         ]
 
 -- the counts before i stay
-pub next-from : (i : ℕ) (cs ns ms : List ℕ) → IsSubBag cs ns → take i ms ≡ take i ns → i < length ns → i < length ms → IsNextOfSize (drop i cs) (drop i ns) (drop i ms) → IsNextOfSize cs ns ms
+pub next-from : (i : ℕ) (cs ns ms : List ℕ) → IsSubBag cs ns → take i ms ≡ take i ns → i < length ns → i < length ms
+    → IsNextOfSize (drop i cs) (drop i ns) (drop i ms) → IsNextOfSize cs ns ms
 next-from zero cs ns ms w e l m h = h
 next-from (suc i) [] [] ms w e l m h = absurd (omega arith)
 next-from (suc i) [] (n ∷ ns) ms w e l m h = absurd w

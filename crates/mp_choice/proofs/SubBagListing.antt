@@ -1,5 +1,6 @@
 -- The value of the list of sub-multisets is that list, and the steps of a `SubBags` walk through it.
-use Rattle.std.proofs.Common.{◌≡◌, ℕ, ◌<◌, ◌+◌, List, [], ◌∷◌, true, refl, sym, ◌∙◌, ◌⊎◌, inl, inr, sum, length, arith, subst}
+use Rattle.std.proofs.Common.{◌≡◌, ℕ, ◌<◌, ◌+◌, List, [], ◌∷◌, true, refl, sym, ◌∙◌, ◌⊎◌, inl, inr, sum, length, arith}
+use Rattle.std.proofs.Common.{subst}
 use Rattle.std.specs.Prelude.{nat_le}
 use Rattle.std.specs.declared.cmp.Ordering.TheVariants.{Less}
 use Rattle.std.proofs.lemmas.Bool.{and_parts, and_from}
@@ -26,13 +27,15 @@ at_most_from : (cs ns : List ℕ) → all_at_most cs ns ≡ true → IsSubBag cs
 at_most_from [] [] h = tt
 at_most_from [] (n ∷ ns) h = cc
 at_most_from (c ∷ cs) [] h = cc
-at_most_from (c ∷ cs) (n ∷ ns) h = let r = and_parts (nat_le n c) (all_at_most cs ns) h in (le_from-nat_le n c r.0, at_most_from cs ns r.1)
+at_most_from (c ∷ cs) (n ∷ ns) h = let r = and_parts (nat_le n c) (all_at_most cs ns) h in
+    (le_from-nat_le n c r.0, at_most_from cs ns r.1)
 
 -- in the order of the counts
 pub sub_bags_of-listing : (cs : List ℕ) → IsListing counts_order (IsSubBag cs) (sub_bags_of cs)
 unfolding sub_bags_of
 sub_bags_of-listing cs =
-    listing-distinct counts_order counts_order_total (IsSubBag cs) (all_at_most cs) (number_lists (sum cs) (length cs)) counts_order_same
+    listing-distinct counts_order counts_order_total (IsSubBag cs) (all_at_most cs)
+    (number_lists (sum cs) (length cs)) counts_order_same
     (λ ns w. at_most_test cs ns w) (λ ns t. at_most_from cs ns t)
     (λ ns w. in-number_lists (sum cs) (length cs) ns (length-sub_bag cs ns w) (each-sum ns (sum cs) (bag_le cs ns w)))
 
@@ -43,7 +46,8 @@ are_sub_bags cs =
     record {
       exactly = l.exactly;
       ascending = ascends_too (length cs) (sub_bags_of cs)
-          (all-from_in (λ x. length x ≡ length cs) (sub_bags_of cs) (λ x i. length-sub_bag cs x ((l.exactly x).0 (contains-from_in x (sub_bags_of cs) i))))
+          (all-from_in (λ x. length x ≡ length cs) (sub_bags_of cs)
+          (λ x i. length-sub_bag cs x ((l.exactly x).0 (contains-from_in x (sub_bags_of cs) i))))
           l.ascending;
     }
 
@@ -58,7 +62,8 @@ first_bag cs new h = record {
   none_below = λ others w l. none others w (less_then (sum others) (sum new) (lex new others) l);
 }
   where
-    none : (others : List ℕ) → IsSubBag cs others → (sum others < sum new) ⊎ ((sum others ≡ sum new) × (lex new others ≡ Less)) → ⊥
+    none : (others : List ℕ) → IsSubBag cs others
+        → (sum others < sum new) ⊎ ((sum others ≡ sum new) × (lex new others ≡ Less)) → ⊥
     none others w (inl p) = omega (arith, h.adds_up)
     none others w (inr p) = h.greatest others w (p.0 ∙ h.adds_up) p.1
 
@@ -67,24 +72,31 @@ pub next-same_size : (cs old new : List ℕ) → IsNextOfSize cs old new → IsN
 next-same_size cs old new h = record {
   item = h.within;
   above = order_second (sum old) (sum new) (lex new old) (sym h.adds_up) h.below;
-  none_between = λ others w l m. none others w (less_then (sum old) (sum others) (lex others old) l) (less_then (sum others) (sum new) (lex new others) m);
+  none_between = λ others w l m. none others w (less_then (sum old) (sum others) (lex others old) l)
+      (less_then (sum others) (sum new) (lex new others) m);
 }
   where
-    none : (others : List ℕ) → IsSubBag cs others → (sum old < sum others) ⊎ ((sum old ≡ sum others) × (lex others old ≡ Less)) → (sum others < sum new) ⊎ ((sum others ≡ sum new) × (lex new others ≡ Less)) → ⊥
+    none : (others : List ℕ) → IsSubBag cs others
+        → (sum old < sum others) ⊎ ((sum old ≡ sum others) × (lex others old ≡ Less))
+        → (sum others < sum new) ⊎ ((sum others ≡ sum new) × (lex new others ≡ Less)) → ⊥
     none others w (inl p) (inl q) = omega (arith, h.adds_up)
     none others w (inl p) (inr q) = omega (arith, h.adds_up, q.0)
     none others w (inr p) (inl q) = omega (arith, h.adds_up, p.0)
     none others w (inr p) (inr q) = h.none_between others w (sym p.0) p.1 q.1
 
 -- after the last of a size comes the first of the next size
-pub next-larger : (cs old new : List ℕ) → IsLastOfSize cs old → IsFilled cs new (sum old + 1) → IsNext counts_order (IsSubBag cs) old new
+pub next-larger : (cs old new : List ℕ) → IsLastOfSize cs old → IsFilled cs new (sum old + 1)
+    → IsNext counts_order (IsSubBag cs) old new
 next-larger cs old new last h = record {
   item = h.within;
   above = order_first (sum old) (sum new) (lex new old) (omega (arith, h.adds_up));
-  none_between = λ others w l m. none others w (less_then (sum old) (sum others) (lex others old) l) (less_then (sum others) (sum new) (lex new others) m);
+  none_between = λ others w l m. none others w (less_then (sum old) (sum others) (lex others old) l)
+      (less_then (sum others) (sum new) (lex new others) m);
 }
   where
-    none : (others : List ℕ) → IsSubBag cs others → (sum old < sum others) ⊎ ((sum old ≡ sum others) × (lex others old ≡ Less)) → (sum others < sum new) ⊎ ((sum others ≡ sum new) × (lex new others ≡ Less)) → ⊥
+    none : (others : List ℕ) → IsSubBag cs others
+        → (sum old < sum others) ⊎ ((sum old ≡ sum others) × (lex others old ≡ Less))
+        → (sum others < sum new) ⊎ ((sum others ≡ sum new) × (lex new others ≡ Less)) → ⊥
     none others w (inl p) (inl q) = omega (arith, h.adds_up)
     none others w (inl p) (inr q) = h.greatest others w (q.0 ∙ h.adds_up) q.1
     none others w (inr p) q = last others w (sym p.0) p.1

@@ -1,7 +1,8 @@
 -- What callers see of a generator.
 use Rattle.std.specs.Prelude.{ℕ, zero, suc, List, Option, slice_get, drop}
 
--- the item at which it stands, if it stands at one; the items still to come; and the length of the longest list that it can begin anew with
+-- the item at which it stands, if it stands at one; the items still to come; and the length of the longest list that it
+-- can begin anew with
 pub record Choices : Type 0 where
   pub item : Option (List ℕ)
   pub to_come : List (List ℕ)

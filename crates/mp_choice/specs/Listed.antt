@@ -36,7 +36,8 @@ module _ {X : Type 0} (cmp : X → X → Ordering) where
   to_come_at Ended x all = []
 
 -- from the place at `old` a step came to the item `new`, and what is above it is still to come
-pub record Reaches {X : Type 0} (cmp : X → X → Ordering) (P : X → Type 0) (all : List X) (stage : Stage) (old new : X) : Type 0 where
+pub record Reaches {X : Type 0} (cmp : X → X → Ordering) (P : X → Type 0) (all : List X) (stage : Stage)
+    (old new : X) : Type 0 where
   pub item : P new
   pub to_come : to_come_at cmp stage old all ≡ new ∷ above cmp new all
 

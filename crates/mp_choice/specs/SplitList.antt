@@ -1,5 +1,7 @@
--- The list of all splits as a value: of the lists of numbers that are at most the length, those that are splits, in order.
-use Rattle.std.specs.Prelude.{ℕ, Bool, true, false, ◌&&◌, ◌==◌, nat_le, List, [], ◌∷◌, Option, Some, None, length, sum, filter}
+-- The list of all splits as a value: of the lists of numbers that are at most the length, those that are splits, in
+-- order.
+use Rattle.std.specs.Prelude.{ℕ, Bool, true, false, ◌&&◌, ◌==◌, nat_le, List, [], ◌∷◌, Option, Some, None, length, sum}
+use Rattle.std.specs.Prelude.{filter}
 use Rattle.std.specs.Ordering.{nat_cmp}
 use Rattle.std.specs.Cmp.Lexicographic.{slice_cmp}
 use Rattle.mp_term.specs.Pieces.{distinct}
@@ -19,4 +21,5 @@ are_within _ _ = false
 
 -- the splits of a length by parts, lexicographically
 unfoldable pub splits_of : ℕ → List Part → List (List ℕ)
-splits_of total parts = distinct (slice_cmp nat_cmp) (filter (λ ns. are_within parts ns && (sum ns == total)) (number_lists total (length parts)))
+splits_of total parts = distinct (slice_cmp nat_cmp)
+    (filter (λ ns. are_within parts ns && (sum ns == total)) (number_lists total (length parts)))

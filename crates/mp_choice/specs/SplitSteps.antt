@@ -11,23 +11,27 @@ use Rattle.mp_choice.specs.Splits.{Allows, leasts}
 abbrev pub IsPossible : Part → Type 0
 IsPossible p = IfSome p.most (λ most. p.least ≤ most)
 
--- the least lengths and the extra, but for what is left, lie in the lengths; no more fits, and of the lengths with this sum they are the least
+-- the least lengths and the extra, but for what is left, lie in the lengths; no more fits, and of the lengths with this
+-- sum they are the least
 pub record IsPacked (parts : List Part) (lengths : List ℕ) (extra left : ℕ) : Type 0 where
   pub within : AllZip Allows parts lengths
   pub adds_up : sum lengths + left ≡ leasts parts + extra
   pub full : 0 < left → (others : List ℕ) → AllZip Allows parts others → sum others ≤ sum lengths
-  pub least : (others : List ℕ) → AllZip Allows parts others → sum others ≡ sum lengths → slice_cmp nat_cmp others lengths ≡ Less → ⊥
+  pub least : (others : List ℕ) → AllZip Allows parts others → sum others ≡ sum lengths
+      → slice_cmp nat_cmp others lengths ≡ Less → ⊥
 
 -- no lengths with this sum come later
 abbrev pub IsLastOfSum : List Part → List ℕ → Type 0
-IsLastOfSum parts lengths = (others : List ℕ) → AllZip Allows parts others → sum others ≡ sum lengths → slice_cmp nat_cmp lengths others ≡ Less → ⊥
+IsLastOfSum parts lengths = (others : List ℕ) → AllZip Allows parts others → sum others ≡ sum lengths
+    → slice_cmp nat_cmp lengths others ≡ Less → ⊥
 
 -- the next lengths with the same sum
 pub record IsNextOfSum (parts : List Part) (old new : List ℕ) : Type 0 where
   pub within : AllZip Allows parts new
   pub adds_up : sum new ≡ sum old
   pub above : slice_cmp nat_cmp old new ≡ Less
-  pub none_between : (others : List ℕ) → AllZip Allows parts others → sum others ≡ sum old → slice_cmp nat_cmp old others ≡ Less → slice_cmp nat_cmp others new ≡ Less → ⊥
+  pub none_between : (others : List ℕ) → AllZip Allows parts others → sum others ≡ sum old
+      → slice_cmp nat_cmp old others ≡ Less → slice_cmp nat_cmp others new ≡ Less → ⊥
 
 -- the length at i can rise, taken from the spare beyond the least lengths after it, where nothing can rise
 pub record Rises (parts : List Part) (lengths : List ℕ) (i spare : ℕ) : Type 0 where

@@ -9,20 +9,24 @@ use Rattle.mp_choice.specs.SubBags.{IsSubBag}
 pub record IsFilled (counts bag : List ℕ) (size : ℕ) : Type 0 where
   pub within : IsSubBag counts bag
   pub adds_up : sum bag ≡ size
-  pub greatest : (others : List ℕ) → IsSubBag counts others → sum others ≡ size → slice_cmp nat_cmp bag others ≡ Less → ⊥
+  pub greatest : (others : List ℕ) → IsSubBag counts others → sum others ≡ size → slice_cmp nat_cmp bag others ≡ Less
+      → ⊥
 
 -- no sub-multiset of this size has lesser numbers
 abbrev pub IsLastOfSize : List ℕ → List ℕ → Type 0
-IsLastOfSize counts bag = (others : List ℕ) → IsSubBag counts others → sum others ≡ sum bag → slice_cmp nat_cmp others bag ≡ Less → ⊥
+IsLastOfSize counts bag = (others : List ℕ) → IsSubBag counts others → sum others ≡ sum bag
+    → slice_cmp nat_cmp others bag ≡ Less → ⊥
 
 -- the sub-multiset of the same size with the next lesser numbers
 pub record IsNextOfSize (counts old new : List ℕ) : Type 0 where
   pub within : IsSubBag counts new
   pub adds_up : sum new ≡ sum old
   pub below : slice_cmp nat_cmp new old ≡ Less
-  pub none_between : (others : List ℕ) → IsSubBag counts others → sum others ≡ sum old → slice_cmp nat_cmp others old ≡ Less → slice_cmp nat_cmp new others ≡ Less → ⊥
+  pub none_between : (others : List ℕ) → IsSubBag counts others → sum others ≡ sum old
+      → slice_cmp nat_cmp others old ≡ Less → slice_cmp nat_cmp new others ≡ Less → ⊥
 
--- the number at i can fall, since the classes after it, where nothing can fall, have room for more than the `size` that they hold
+-- the number at i can fall, since the classes after it, where nothing can fall, have room for more than the `size` that
+-- they hold
 pub record Falls (counts bag : List ℕ) (i size : ℕ) : Type 0 where
   pub inside : i < length bag
   pub some : 0 < slice_index bag i

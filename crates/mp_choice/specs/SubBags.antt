@@ -1,4 +1,5 @@
--- The sub-multisets of counts. A multiset of classes is a list of numbers, one for each class: how often the class is in it.
+-- The sub-multisets of counts. A multiset of classes is a list of numbers, one for each class: how often the class is
+-- in it.
 use Rattle.std.specs.Prelude.{◌≤◌, ◌+◌, ℕ, List, [], ◌∷◌, ◌++◌, replicate}
 use Rattle.std.specs.declared.cmp.Ordering.{Ordering}
 use Rattle.std.specs.List.{AllZip}

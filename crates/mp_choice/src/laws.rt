@@ -7,8 +7,8 @@ ghost use Rattle.mp_choice.specs.declared.splits.Part.{Part};
 ghost use Rattle.mp_choice.specs.Splits.{AreSplits};
 ghost use Rattle.mp_choice.specs.SubBags.{classes, AreSubBags};
 
-/// Steps give the items in turn: k steps leave all but the first k of the items still to come, and one step more stands at
-/// the item with index k, counted from 0, exactly where there is one. By `advanced_by` of `specs/Choices.antt`.
+/// Steps give the items in turn: k steps leave all but the first k of the items still to come, and one step more stands
+/// at the item with index k, counted from 0, exactly where there is one. By `advanced_by` of `specs/Choices.antt`.
 pub fn steps_give_the_items_in_turn()
     ensures rest { (c : Choices) (k : ℕ) → (advanced_by k c).to_come ≡ drop k c.to_come }
     ensures item { (c : Choices) (k : ℕ) → (advanced_by (suc k) c).item ≡ slice_get c.to_come k }

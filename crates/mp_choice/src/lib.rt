@@ -1,4 +1,5 @@
-//! Generators of choices. Each goes through all of its items, one at a time, in a fixed order, and keeps one item at a time.
+//! Generators of choices. Each goes through all of its items, one at a time, in a fixed order, and keeps one item at a
+//! time.
 #![tactic(auto)]
 
 mod laws;

@@ -1,5 +1,6 @@
 //! The splits of a length by parts, one at a time.
-ghost use Rattle.std.specs.Prelude.{◌≡◌, ℕ, ◌+◌, ◌^◌, ◌<◌, ◌≤◌, ◌↔◌, length, length as list_length, sum, take, drop, All, IsTrue, IsSome, IfOk, MatchOption, MatchBool};
+ghost use Rattle.std.specs.Prelude.{◌≡◌, ℕ, ◌+◌, ◌^◌, ◌<◌, ◌≤◌, ◌↔◌, length, length as list_length, sum, take, drop};
+ghost use Rattle.std.specs.Prelude.{All, IsTrue, IsSome, IfOk, MatchOption, MatchBool};
 ghost use Rattle.std.specs.List.{AllZip};
 ghost use Rattle.std.specs.Ordering.{nat_cmp};
 ghost use Rattle.std.specs.Cmp.Lexicographic.{slice_cmp};
@@ -15,17 +16,17 @@ use mp_term::Memory;
 use std::alloc::Global;
 use std::marker::Model;
 
-/// A part of a split: the least length that it may have, and the greatest, if it has one. A part whose `most` is below its `least`
-/// may have no length.
+/// A part of a split: the least length that it may have, and the greatest, if it has one. A part whose `most` is below
+/// its `least` may have no length.
 #[derive(Clone, Copy)]
 pub struct Part {
     pub least: u32,
     pub most: Option<u32>,
 }
 
-/// The splits of a length by parts: the lists of lengths, one for each part and within its bounds, whose sum is the length, in
-/// lexicographic order, by `AreSplits` of `specs/Splits.antt`. Contracts see a `Splits` as `Choices` of `specs/Choices.antt`: the item at
-/// which it stands, the items still to come, and its room.
+/// The splits of a length by parts: the lists of lengths, one for each part and within its bounds, whose sum is the
+/// length, in lexicographic order, by `AreSplits` of `specs/Splits.antt`. Contracts see a `Splits` as `Choices` of
+/// `specs/Choices.antt`: the item at which it stands, the items still to come, and its room.
 #[derive(Drop)]
 pub struct Splits {
     parts: Vec<Part>,
@@ -48,8 +49,9 @@ impl Model for Splits {
 }
 
 impl Splits {
-    /// The generator of the splits of `length` by `parts`, before its first item, with room for as many parts. The length and the
-    /// sum of the least lengths are at most 1,000,000. `Memory` comes where there is no room for the parts and one item.
+    /// The generator of the splits of `length` by `parts`, before its first item, with room for as many parts. The
+    /// length and the sum of the least lengths are at most 1,000,000. `Memory` comes where there is no room for the
+    /// parts and one item.
     pub fn begin(alloc: Global, length: u32, parts: &[Part]) -> Result<Splits, Memory>
         requires length_bound { length ≤ 1000000 }
         requires least_bound { leasts parts.now ≤ 1000000 }
@@ -73,8 +75,9 @@ impl Splits {
         })
     }
 
-    /// Makes it the generator of the splits of `length` by `parts`, before its first item, wherever it stood. There are no more
-    /// parts than its room, which stays; the length and the sum of the least lengths are at most 1,000,000. It takes no memory.
+    /// Makes it the generator of the splits of `length` by `parts`, before its first item, wherever it stood. There are
+    /// no more parts than its room, which stays; the length and the sum of the least lengths are at most 1,000,000. It
+    /// takes no memory.
     pub fn restart(&mut self, length: u32, parts: &[Part])
         requires length_bound { length ≤ 1000000 }
         requires least_bound { leasts parts.now ≤ 1000000 }
@@ -89,8 +92,8 @@ impl Splits {
         self.stage = Stage::Before;
     }
 
-    /// Moves to the next item and answers true. Where no item is left it answers false and stands at none, and so does every later
-    /// call. It takes no memory.
+    /// Moves to the next item and answers true. Where no item is left it answers false and stands at none, and so does
+    /// every later call. It takes no memory.
     pub fn next(&mut self) -> bool
         ensures moved { self.new ≡ advanced self.old }
         ensures answer { IsTrue result ↔ IsSome self.new.item }
@@ -143,7 +146,8 @@ fn taken(part: &Part, left: u32) -> u32
     }
 }
 
-// Gives the parts from `from` on their least lengths and lays `extra` over them, the last parts first. What is left over is returned.
+// Gives the parts from `from` on their least lengths and lays `extra` over them, the last parts first. What is left
+// over is returned.
 fn pack(parts: &[Part], lengths: &mut [u32], from: usize, extra: u32) -> u32
     requires same_length { length lengths.old ≡ length parts.now }
     requires within { from ≤ length parts.now }
@@ -161,7 +165,8 @@ fn pack(parts: &[Part], lengths: &mut [u32], from: usize, extra: u32) -> u32
     left
 }
 
-// The last place whose length can rise by one, taken from what lies beyond the least lengths after it, and how much lies there.
+// The last place whose length can rise by one, taken from what lies beyond the least lengths after it, and how much
+// lies there.
 fn rise(parts: &[Part], lengths: &[u32]) -> Option<(usize, u32)>
     requires within { AllZip Allows parts.now lengths.now }
     requires fits { sum lengths.now < 2 ^ 32 }
@@ -182,7 +187,8 @@ fn first(total: u32, parts: &[Part], lengths: &mut [u32]) -> bool
     requires same_length { length lengths.old ≡ length parts.now }
     requires total_bound { total ≤ 1000000 }
     requires least_bound { leasts parts.now ≤ 1000000 }
-    ensures { MatchBool result (IsFirst (slice_cmp nat_cmp) (IsSplit total parts.now) lengths.new) (HasNone (IsSplit total parts.now)) }
+    ensures { MatchBool result (IsFirst (slice_cmp nat_cmp) (IsSplit total parts.now) lengths.new)
+        (HasNone (IsSplit total parts.now)) }
 {
     let mut least = 0;
     for part in parts {
@@ -219,7 +225,9 @@ fn step(stage: Stage, total: u32, parts: &[Part], lengths: &mut [u32]) -> bool
     requires total_bound { total ≤ 1000000 }
     requires least_bound { leasts parts.now ≤ 1000000 }
     requires stands { StandsAt (IsSplit total parts.now) stage lengths.old }
-    ensures { MatchBool result (Reaches (slice_cmp nat_cmp) (IsSplit total parts.now) (splits_of total parts.now) stage lengths.old lengths.new)
+    ensures { MatchBool result
+        (Reaches (slice_cmp nat_cmp) (IsSplit total parts.now)
+        (splits_of total parts.now) stage lengths.old lengths.new)
         (IsExhausted (slice_cmp nat_cmp) (splits_of total parts.now) stage lengths.old) }
 {
     match stage {

@@ -1,5 +1,6 @@
 //! The sub-multisets of counts, one at a time.
-ghost use Rattle.std.specs.Prelude.{◌≡◌, ◌^◌, ◌<◌, ◌≤◌, ◌↔◌, length, sum, take, drop, IsTrue, IsSome, IfOk, MatchOption, MatchBool};
+ghost use Rattle.std.specs.Prelude.{◌≡◌, ◌^◌, ◌<◌, ◌≤◌, ◌↔◌, length, sum, take, drop, IsTrue, IsSome, IfOk};
+ghost use Rattle.std.specs.Prelude.{MatchOption, MatchBool};
 ghost use Rattle.mp_choice.specs.SubBags.{IsSubBag, AreSubBags};
 ghost use Rattle.mp_choice.specs.SubBagSteps.{IsFilled, IsLastOfSize, Falls};
 ghost use Rattle.mp_choice.specs.SubBagList.{counts_order, sub_bags_of};
@@ -12,9 +13,10 @@ use mp_term::Memory;
 use std::alloc::Global;
 use std::marker::Model;
 
-/// The sub-multisets of a multiset that has `counts[c]` items of each class `c`, counted from 0: the lists of numbers, one for each
-/// class and at most its count, in shortlex order of their ascending lists of class numbers, by `AreSubBags` of `specs/SubBags.antt`.
-/// Contracts see a `SubBags` as `Choices` of `specs/Choices.antt`: the item at which it stands, the items still to come, and its room.
+/// The sub-multisets of a multiset that has `counts[c]` items of each class `c`, counted from 0: the lists of numbers,
+/// one for each class and at most its count, in shortlex order of their ascending lists of class numbers, by
+/// `AreSubBags` of `specs/SubBags.antt`. Contracts see a `SubBags` as `Choices` of `specs/Choices.antt`: the item at
+/// which it stands, the items still to come, and its room.
 #[derive(Drop)]
 pub struct SubBags {
     counts: Vec<u32>,
@@ -36,8 +38,8 @@ impl Model for SubBags {
 }
 
 impl SubBags {
-    /// The generator of the sub-multisets of `counts`, before its first item, with room for as many classes. The sum of the counts
-    /// is at most 1,000,000. `Memory` comes where there is no room for the counts and one item.
+    /// The generator of the sub-multisets of `counts`, before its first item, with room for as many classes. The sum of
+    /// the counts is at most 1,000,000. `Memory` comes where there is no room for the counts and one item.
     pub fn begin(alloc: Global, counts: &[u32]) -> Result<SubBags, Memory>
         requires bound { sum counts.now ≤ 1000000 }
         ensures list { IfOk result (λ bags. AreSubBags counts.now bags.to_come) }
@@ -59,8 +61,8 @@ impl SubBags {
         })
     }
 
-    /// Makes it the generator of the sub-multisets of `counts`, before its first item, wherever it stood. There are no more counts
-    /// than its room, which stays; their sum is at most 1,000,000. It takes no memory.
+    /// Makes it the generator of the sub-multisets of `counts`, before its first item, wherever it stood. There are no
+    /// more counts than its room, which stays; their sum is at most 1,000,000. It takes no memory.
     pub fn restart(&mut self, counts: &[u32])
         requires bound { sum counts.now ≤ 1000000 }
         requires within_room { length counts.now ≤ self.old.room }
@@ -73,8 +75,8 @@ impl SubBags {
         self.stage = Stage::Before;
     }
 
-    /// Moves to the next item and answers true. Where no item is left it answers false and stands at none, and so does every later
-    /// call. It takes no memory.
+    /// Moves to the next item and answers true. Where no item is left it answers false and stands at none, and so does
+    /// every later call. It takes no memory.
     pub fn next(&mut self) -> bool
         ensures moved { self.new ≡ advanced self.old }
         ensures answer { IsTrue result ↔ IsSome self.new.item }
@@ -140,7 +142,8 @@ fn step(stage: Stage, counts: &[u32], bag: &mut [u32]) -> bool
     requires same_length { length bag.old ≡ length counts.now }
     requires bound { sum counts.now ≤ 1000000 }
     requires stands { StandsAt (IsSubBag counts.now) stage bag.old }
-    ensures { MatchBool result (Reaches counts_order (IsSubBag counts.now) (sub_bags_of counts.now) stage bag.old bag.new)
+    ensures { MatchBool result
+        (Reaches counts_order (IsSubBag counts.now) (sub_bags_of counts.now) stage bag.old bag.new)
         (IsExhausted counts_order (sub_bags_of counts.now) stage bag.old) }
 {
     match stage {
@@ -157,7 +160,8 @@ fn step(stage: Stage, counts: &[u32], bag: &mut [u32]) -> bool
 fn following(counts: &[u32], bag: &mut [u32]) -> bool
     requires within { IsSubBag counts.now bag.old }
     requires bound { sum counts.now ≤ 1000000 }
-    ensures { MatchBool result (IsNext counts_order (IsSubBag counts.now) bag.old bag.new) (IsLast counts_order (IsSubBag counts.now) bag.old) }
+    ensures { MatchBool result (IsNext counts_order (IsSubBag counts.now) bag.old bag.new)
+        (IsLast counts_order (IsSubBag counts.now) bag.old) }
 {
     match fall(counts, bag) {
         Some((i, size)) => {

@@ -1,5 +1,6 @@
 -- What the search adds to the items found before.
-use Rattle.std.proofs.Common.{◌≡◌, Bool, map, true, false, List, [], ◌∷◌, ◌++◌, refl, sym, ap, ◌∙◌, append-nil, append_assoc}
+use Rattle.std.proofs.Common.{◌≡◌, Bool, map, true, false, List, [], ◌∷◌, ◌++◌, refl, sym, ap, ◌∙◌, append-nil}
+use Rattle.std.proofs.Common.{append_assoc}
 use Rattle.std.specs.Prelude.{◌||◌, filter, filter_map, Option, Some, None, if◌then◌else◌}
 use Rattle.std.specs.List.{cons_option}
 use Rattle.std.proofs.lemmas.List.{map-append}
@@ -14,10 +15,12 @@ is_known-item [] i = refl
 is_known-item (j ∷ is) i = ap (λ b. same_subst j.1 i.1 || b) (is_known-item is i)
 
 -- what one item adds of which something is kept: it is known, or it is new
-pub collected-known : (f : Item → Option Item) (is : List Item) (i j : Item) → f i ≡ Some j → is_known same_subst (item_substs is) j.1 ≡ true → is ≡ collected false f is (i ∷ [])
+pub collected-known : (f : Item → Option Item) (is : List Item) (i j : Item) → f i ≡ Some j
+    → is_known same_subst (item_substs is) j.1 ≡ true → is ≡ collected false f is (i ∷ [])
 collected-known f is i j e k = rw e (sym (ap (λ b. if b then is else is ++ (j ∷ [])) (is_known-item is j ∙ k)))
 
-pub collected-new : (b : Bool) (f : Item → Option Item) (is : List Item) (i j : Item) → f i ≡ Some j → (b ≡ false → is_known same_subst (item_substs is) j.1 ≡ false) → is ++ (j ∷ []) ≡ collected b f is (i ∷ [])
+pub collected-new : (b : Bool) (f : Item → Option Item) (is : List Item) (i j : Item) → f i ≡ Some j
+    → (b ≡ false → is_known same_subst (item_substs is) j.1 ≡ false) → is ++ (j ∷ []) ≡ collected b f is (i ∷ [])
 collected-new true f is i j e k = rw e refl
 collected-new false f is i j e k = rw e (sym (ap (λ b. if b then is else is ++ (j ∷ [])) (is_known-item is j ∙ k refl)))
 
@@ -26,29 +29,41 @@ pub collected-none : (b : Bool) (f : Item → Option Item) (is : List Item) → 
 collected-none true f is = append-nil is
 collected-none false f is = refl
 
-pub collected-append : (b : Bool) (f : Item → Option Item) (is js ks : List Item) → collected b f is (js ++ ks) ≡ collected b f (collected b f is js) ks
-collected-append true f is js ks = ap (λ ls. is ++ ls) (filter_map-append f js ks) ∙ sym (append_assoc is (filter_map f js) (filter_map f ks))
-collected-append false f is js ks = ap (firsts_after same_item is) (filter_map-append f js ks) ∙ firsts_after-append same_item is (filter_map f js) (filter_map f ks)
+pub collected-append : (b : Bool) (f : Item → Option Item) (is js ks : List Item)
+    → collected b f is (js ++ ks) ≡ collected b f (collected b f is js) ks
+collected-append true f is js ks = ap (λ ls. is ++ ls) (filter_map-append f js ks)
+    ∙ sym (append_assoc is (filter_map f js) (filter_map f ks))
+collected-append false f is js ks = ap (firsts_after same_item is) (filter_map-append f js ks)
+    ∙ firsts_after-append same_item is (filter_map f js) (filter_map f ks)
 
 -- what is kept of items that meet the condition, item by item and all at once
-pub filter_map-kept : (b : Bool) (test : Item → Bool) (is : List Item) → filter_map (λ i. if test i then Some (kept b i) else None) is ≡ map (kept b) (filter test is)
+pub filter_map-kept : (b : Bool) (test : Item → Bool) (is : List Item)
+    → filter_map (λ i. if test i then Some (kept b i) else None) is ≡ map (kept b) (filter test is)
 filter_map-kept b test [] = refl
 filter_map-kept b test (i ∷ is) =
-    elim (test i) as (λ t. cons_option (if t then Some (kept b i) else None) (filter_map (λ i. if test i then Some (kept b i) else None) is) ≡ map (kept b) (if t then i ∷ filter test is else filter test is)) [
+    elim (test i) as
+    (λ t. cons_option (if t then Some (kept b i) else None)
+    (filter_map (λ i. if test i then Some (kept b i) else None) is)
+    ≡ map (kept b) (if t then i ∷ filter test is else filter test is)) [
       | true ↦ ap (λ js. kept b i ∷ js) (filter_map-kept b test is)
       | false ↦ filter_map-kept b test is
     ]
 
 -- the tables don't matter to which items are known
-is_known-kept : (b : Bool) (is : List Item) (i : Item) → is_known same_item (map (kept b) is) (kept b i) ≡ is_known same_item is i
+is_known-kept : (b : Bool) (is : List Item) (i : Item)
+    → is_known same_item (map (kept b) is) (kept b i) ≡ is_known same_item is i
 is_known-kept b [] i = refl
 is_known-kept b (j ∷ is) i = ap (λ c. same_subst j.1 i.1 || c) (is_known-kept b is i)
 
-pub firsts_after-kept : (b : Bool) (is js : List Item) → firsts_after same_item (map (kept b) is) (map (kept b) js) ≡ map (kept b) (firsts_after same_item is js)
+pub firsts_after-kept : (b : Bool) (is js : List Item)
+    → firsts_after same_item (map (kept b) is) (map (kept b) js) ≡ map (kept b) (firsts_after same_item is js)
 firsts_after-kept b is [] = refl
-firsts_after-kept b is (j ∷ js) = ap (λ ks. firsts_after same_item ks (map (kept b) js)) (one (is_known same_item is j) (is_known-kept b is j)) ∙ firsts_after-kept b (add_new same_item is j) js
+firsts_after-kept b is (j ∷ js) = ap (λ ks. firsts_after same_item ks (map (kept b) js))
+    (one (is_known same_item is j) (is_known-kept b is j)) ∙ firsts_after-kept b (add_new same_item is j) js
   where
-    one : (c : Bool) → is_known same_item (map (kept b) is) (kept b j) ≡ c → (if is_known same_item (map (kept b) is) (kept b j) then map (kept b) is else map (kept b) is ++ (kept b j ∷ [])) ≡ map (kept b) (if c then is else is ++ (j ∷ []))
+    one : (c : Bool) → is_known same_item (map (kept b) is) (kept b j) ≡ c
+        → (if is_known same_item (map (kept b) is) (kept b j) then map (kept b) is else map (kept b) is
+        ++ (kept b j ∷ [])) ≡ map (kept b) (if c then is else is ++ (j ∷ []))
     one true e = rw e refl
     one false e = rw e (sym (map-append (kept b) is (j ∷ [])))
 

@@ -8,13 +8,16 @@ use Rattle.mp_pattern.specs.Firsts.{is_known}
 use Rattle.mp_pattern.specs.Plan.{Variable}
 use Rattle.mp_pattern.proofs.NameLaws.{same_name-is, same_name-itself}
 
-known-at : (vs : List Variable) (i : ℕ) (d : Variable) (x : List ℕ) → i < length vs → same_name x (get_or vs i d).name ≡ true → is_known same_name (map (λ v. v.name) vs) x ≡ true
+known-at : (vs : List Variable) (i : ℕ) (d : Variable) (x : List ℕ) → i < length vs
+    → same_name x (get_or vs i d).name ≡ true → is_known same_name (map (λ v. v.name) vs) x ≡ true
 known-at [] i d x h e = absurd (omega arith)
-known-at (v ∷ vs) zero d x h e = rw (subst (λ y. same_name y x ≡ true) (same_name-is x v.name e) (same_name-itself x)) refl
+known-at (v ∷ vs) zero d x h e = rw (subst (λ y. same_name y x ≡ true) (same_name-is x v.name e) (same_name-itself x))
+    refl
 known-at (v ∷ vs) (suc i) d x h e = rw (known-at vs i d x (omega arith) e) (or-true (same_name v.name x))
 
 -- a variable that is found is known
-pub known-found : (vs : List Variable) (x : List ℕ) (i : ℕ) → position (λ v. same_name x v.name) vs ≡ Some i → is_known same_name (map (λ v. v.name) vs) x ≡ true
+pub known-found : (vs : List Variable) (x : List ℕ) (i : ℕ) → position (λ v. same_name x v.name) vs ≡ Some i
+    → is_known same_name (map (λ v. v.name) vs) x ≡ true
 known-found vs x i e =
     let d : Variable = record { name = []; form = one_form } in
     let k = position-Some (λ v. same_name x v.name) vs i d e in

@@ -25,13 +25,15 @@ countable n (b ∷ s) h k = (omega (arith, k.0), countable n s h k.1)
 
 module _ (sig : Sig) (p : Pattern) (t : Tree) (small : DefaultsAreSmall p) (few : node_count t ≤ 100000) where
   -- a substitution that fits is ready
-  fits-ready : (c : Option Cond) (s : Subst) (T : Table) → HasConditionOver (variables p) c → Fits sig p t s T → IsReadyFor c s
+  fits-ready : (c : Option Cond) (s : Subst) (T : Table) → HasConditionOver (variables p) c → Fits sig p t s T
+      → IsReadyFor c s
   fits-ready None s T over h = tt
   fits-ready (Some c) s T over h =
       IsReady-over s c (subst (λ xs. IsConditionOver xs c) (sym h.subst_of.names) over)
       (countable 100001 s (omega arith) (fits-within sig 100001 (omega arith) p t s T small (omega arith) h))
 
   -- so are items that fit
-  pub items-ready : (c : Option Cond) (is : List Item) → HasConditionOver (variables p) c → AllByRecursion (λ i. Fits sig p t i.1 i.0) is → AreReadyFor c is
+  pub items-ready : (c : Option Cond) (is : List Item) → HasConditionOver (variables p) c
+      → AllByRecursion (λ i. Fits sig p t i.1 i.0) is → AreReadyFor c is
   items-ready c [] over h = tt
   items-ready c (i ∷ is) over h = (fits-ready c i.1 i.0 over h.0, items-ready c is over h.1)

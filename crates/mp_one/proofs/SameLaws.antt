@@ -1,5 +1,6 @@
 -- The tests of equality.
-use Rattle.std.proofs.Common.{◌≡◌, ℕ, List, [], ◌∷◌, map, length, Bool, true, false, refl, ap, sym, ◌∙◌, subst, eqb-true, eq-eqb}
+use Rattle.std.proofs.Common.{◌≡◌, ℕ, List, [], ◌∷◌, map, length, Bool, true, false, refl, ap, sym, ◌∙◌, subst}
+use Rattle.std.proofs.Common.{eqb-true, eq-eqb}
 use Rattle.std.specs.Prelude.{nat_eq, ◌&&◌}
 use Rattle.mp_term.specs.Tree.{Tree, app, trees, tree_list}
 use Rattle.mp_term.specs.TreeLists.{tree_list-trees}
@@ -22,17 +23,20 @@ tree_itself : (t u : Tree) → t ≡ u → same tree_cmp t u ≡ true
 tree_itself t u e = subst (λ v. same tree_cmp t v ≡ true) e (same-itself tree_cmp tree_cmp_total tree_same t)
 
 pub same-swapped : (t u : Tree) → same tree_cmp t u ≡ same tree_cmp u t
-same-swapped t u = bool_same (same tree_cmp t u) (same tree_cmp u t) (λ e. tree_itself u t (sym (tree_sound t u e))) (λ e. tree_itself t u (sym (tree_sound u t e)))
+same-swapped t u = bool_same (same tree_cmp t u) (same tree_cmp u t) (λ e. tree_itself u t (sym (tree_sound t u e)))
+    (λ e. tree_itself t u (sym (tree_sound u t e)))
 
 trees-injective : (xs ys : List Tree) → trees xs ≡ trees ys → xs ≡ ys
 trees-injective xs ys e = sym (tree_list-trees xs) ∙ ap tree_list e ∙ tree_list-trees ys
 
-pub same-app : (f g : ℕ) (xs ys : List Tree) → (nat_eq f g && same_terms xs ys) ≡ same tree_cmp (app f (trees xs)) (app g (trees ys))
+pub same-app : (f g : ℕ) (xs ys : List Tree)
+    → (nat_eq f g && same_terms xs ys) ≡ same tree_cmp (app f (trees xs)) (app g (trees ys))
 same-app f g xs ys =
     bool_same (nat_eq f g && same_terms xs ys) (same tree_cmp (app f (trees xs)) (app g (trees ys)))
     (λ e.
     let k = and_parts (nat_eq f g) (same_terms xs ys) e in
-    tree_itself (app f (trees xs)) (app g (trees ys)) (ap (λ h. app h (trees xs)) (eqb-true f g k.0) ∙ ap (λ zs. app g (trees zs)) (same_terms-sound xs ys k.1)))
+    tree_itself (app f (trees xs)) (app g (trees ys))
+    (ap (λ h. app h (trees xs)) (eqb-true f g k.0) ∙ ap (λ zs. app g (trees zs)) (same_terms-sound xs ys k.1)))
     (λ e.
     let q = tree_sound (app f (trees xs)) (app g (trees ys)) e in
     let i : f ≡ g = cc in
@@ -40,19 +44,23 @@ same-app f g xs ys =
     and_from _ _ (eq-eqb f g i) (same_terms-complete xs ys (trees-injective xs ys j)))
 
 -- a list that isn't of one term
-pub same_terms-single : {X : Type 0} (f : X → Tree) (ts : List X) (u : Tree) → (length ts ≡ 1 → ⊥) → false ≡ same_terms (map f ts) (u ∷ [])
+pub same_terms-single : {X : Type 0} (f : X → Tree) (ts : List X) (u : Tree) → (length ts ≡ 1 → ⊥)
+    → false ≡ same_terms (map f ts) (u ∷ [])
 same_terms-single f [] u h = refl
 same_terms-single f (t ∷ []) u h = absurd (h refl)
-same_terms-single f (t ∷ s ∷ ts) u h = elim (tree_cmp (f t) u) as (λ o. false ≡ is_eq (ordering_then o Greater)) [ Less ↦ refl | Equal ↦ refl | Greater ↦ refl ]
+same_terms-single f (t ∷ s ∷ ts) u h = elim (tree_cmp (f t) u) as (λ o. false ≡ is_eq (ordering_then o Greater))
+    [ Less ↦ refl | Equal ↦ refl | Greater ↦ refl ]
 
-pub same-other_head : (f g : ℕ) (xs ys : List Tree) → (f ≡ g → ⊥) → false ≡ same tree_cmp (app f (trees xs)) (app g (trees ys))
+pub same-other_head : (f g : ℕ) (xs ys : List Tree) → (f ≡ g → ⊥)
+    → false ≡ same tree_cmp (app f (trees xs)) (app g (trees ys))
 same-other_head f g xs ys h = ap (λ b. b && same_terms xs ys) (sym (other (nat_eq f g) refl)) ∙ same-app f g xs ys
   where
     other : (b : Bool) → nat_eq f g ≡ b → nat_eq f g ≡ false
     other true e = absurd (h (eqb-true f g e))
     other false e = e
 
-pub same-same_head : (f g : ℕ) (xs ys : List Tree) → f ≡ g → same_terms xs ys ≡ same tree_cmp (app f (trees xs)) (app g (trees ys))
+pub same-same_head : (f g : ℕ) (xs ys : List Tree) → f ≡ g
+    → same_terms xs ys ≡ same tree_cmp (app f (trees xs)) (app g (trees ys))
 same-same_head f g xs ys h = ap (λ b. b && same_terms xs ys) (sym (eq-eqb f g h)) ∙ same-app f g xs ys
 
 pub arguments-app : (f : ℕ) (xs : List Tree) → xs ≡ arguments (app f (trees xs) ∷ [])

@@ -1,12 +1,14 @@
 -- How many entries are still to come, and the derivations that are.
-use Rattle.std.proofs.Common.{◌≡◌, ℕ, zero, suc, ◌+◌, List, [], ◌∷◌, ◌++◌, map, length, drop, get_or, true, false, refl, ap, sym, ◌∙◌, subst, ◌<◌, ◌≤◌, zero-add, arith}
+use Rattle.std.proofs.Common.{◌≡◌, ℕ, zero, suc, ◌+◌, List, [], ◌∷◌, ◌++◌, map, length, drop, get_or, true, false, refl}
+use Rattle.std.proofs.Common.{ap, sym, ◌∙◌, subst, ◌<◌, ◌≤◌, zero-add, arith}
 use Rattle.std.specs.Prelude.{Bool, flat_map, filter, Option, Some, None, if◌then◌else◌}
 use Rattle.std.specs.List.{AllByRecursion}
 use Rattle.std.proofs.Math.ListN.{drop_of_length-le}
 use Rattle.mp_term.specs.Tree.{Tree}
 use Rattle.mp_term.specs.Signature.{Sig}
 use Rattle.mp_term.proofs.ListLaws.{all-split, drop-item}
-use Rattle.mp_pattern.specs.PatternTree.{Pattern, symbol_pattern, app_pattern, wild_pattern, Patterns, no_patterns, more_patterns}
+use Rattle.mp_pattern.specs.PatternTree.{Pattern, symbol_pattern, app_pattern, wild_pattern, Patterns, no_patterns}
+use Rattle.mp_pattern.specs.PatternTree.{more_patterns}
 use Rattle.mp_pattern.specs.Size.{pattern_nodes, all_pattern_nodes}
 use Rattle.mp_pattern.specs.Value.{Subst}
 use Rattle.mp_pattern.specs.Fits.{Entry, Table}
@@ -33,7 +35,8 @@ Comes fs ended = entries_left fs ≡ 0
 Comes fs refused = Unit {0}
 Comes fs (child p f gs) = entries_left fs ≡ suc (nodes_below p + (all_pattern_nodes f.children + entries_left gs))
 
-comes-behind : (f : Frame) (fs : List Frame) (n : Next) → all_pattern_nodes f.children ≡ 0 → Comes fs n → Comes (f ∷ fs) n
+comes-behind : (f : Frame) (fs : List Frame) (n : Next) → all_pattern_nodes f.children ≡ 0 → Comes fs n
+    → Comes (f ∷ fs) n
 comes-behind f fs ended e h = omega (arith, e, h)
 comes-behind f fs refused e h = tt
 comes-behind f fs (child p g gs) e h = omega (arith, e, h)
@@ -42,21 +45,27 @@ comes : (fs : List Frame) → Comes fs (settle fs)
 comes [] = refl
 comes (f ∷ fs) =
     elim f.children as (λ c. Comes (record f { children = c } ∷ fs) (settle (record f { children = c } ∷ fs))) [
-      | no_patterns ↦ elim (is_done f.left f.owes) as (λ b. Comes (record f { children = no_patterns } ∷ fs) (if b then settle fs else refused)) [ true ↦ comes-behind (record f { children = no_patterns }) fs (settle fs) refl (comes fs) | false ↦ tt ]
+      | no_patterns ↦ elim (is_done f.left f.owes) as
+          (λ b. Comes (record f { children = no_patterns } ∷ fs) (if b then settle fs else refused))
+          [ true ↦ comes-behind (record f { children = no_patterns }) fs (settle fs) refl (comes fs) | false ↦ tt ]
       | more_patterns p ps ↦ omega (arith, pattern_nodes-below p)
     ]
 
-entries_left-entered : (p : Pattern) (e : Entry) (f : Frame) (fs : List Frame) → entries_left (entered p e (taken_out p e f ∷ fs)) ≡ nodes_below p + (all_pattern_nodes f.children + entries_left fs)
+entries_left-entered : (p : Pattern) (e : Entry) (f : Frame) (fs : List Frame)
+    → entries_left (entered p e (taken_out p e f ∷ fs))
+    ≡ nodes_below p + (all_pattern_nodes f.children + entries_left fs)
 entries_left-entered (symbol_pattern n) e f fs = sym (zero-add _)
 entries_left-entered (app_pattern g ps) e f fs = refl
 entries_left-entered (wild_pattern w x) e f fs = sym (zero-add _)
 
-pub entered-front : (g : ℕ) (ps : Patterns) (e : Entry) (x : Frame) (fs : List Frame) → x ∷ [] ≡ entered (app_pattern g ps) e [] → x ∷ fs ≡ entered (app_pattern g ps) e fs
+pub entered-front : (g : ℕ) (ps : Patterns) (e : Entry) (x : Frame) (fs : List Frame)
+    → x ∷ [] ≡ entered (app_pattern g ps) e [] → x ∷ fs ≡ entered (app_pattern g ps) e fs
 entered-front g ps e x fs h = ap (λ l. l ++ fs) h
 
 module _ (sig : Sig) where
   -- the walk has ended
-  pub derivations-ended : (fs : List Frame) (T : Table) (s : Subst) → settle fs ≡ ended → derivations sig (entries_left fs) (settle fs) T s ≡ (T, s) ∷ []
+  pub derivations-ended : (fs : List Frame) (T : Table) (s : Subst) → settle fs ≡ ended
+      → derivations sig (entries_left fs) (settle fs) T s ≡ (T, s) ∷ []
   derivations-ended fs T s e =
       let k : entries_left fs ≡ 0 = subst (Comes fs) e (comes fs) in
       ap (λ n. derivations sig (entries_left fs) n T s) e ∙ ap (λ n. derivations sig n ended T s) k
@@ -66,46 +75,76 @@ module _ (sig : Sig) where
   derivations-refused (suc k) T s = refl
 
   -- a child is next
-  pub derivations-child : (fs : List Frame) (T : Table) (s : Subst) (p : Pattern) (f : Frame) (gs : List Frame) → settle fs ≡ child p f gs → derivations sig (entries_left fs) (settle fs) T s ≡ derivations sig (suc (nodes_below p + (all_pattern_nodes f.children + entries_left gs))) (child p f gs) T s
+  pub derivations-child : (fs : List Frame) (T : Table) (s : Subst) (p : Pattern) (f : Frame) (gs : List Frame)
+      → settle fs ≡ child p f gs → derivations sig (entries_left fs) (settle fs) T s
+      ≡ derivations sig (suc (nodes_below p + (all_pattern_nodes f.children + entries_left gs))) (child p f gs) T s
   derivations-child fs T s p f gs e =
-      let k : entries_left fs ≡ suc (nodes_below p + (all_pattern_nodes f.children + entries_left gs)) = subst (Comes fs) e (comes fs) in
+      let k : entries_left fs ≡ suc (nodes_below p + (all_pattern_nodes f.children + entries_left gs)) =
+      subst (Comes fs) e (comes fs) in
       ap (λ n. derivations sig (entries_left fs) n T s) e ∙ ap (λ n. derivations sig n (child p f gs) T s) k
 
   -- behind an entry
-  pub derivations-onward : (p : Pattern) (f : Frame) (gs hs : List Frame) (e : Entry) (T : Table) (s : Subst) → hs ≡ entered p e (taken_out p e f ∷ gs) → derivations sig (entries_left hs) (settle hs) T s ≡ derivations sig (nodes_below p + (all_pattern_nodes f.children + entries_left gs)) (onward (child p f gs) e) T s
-  derivations-onward p f gs hs e T s h = ap (λ fs. derivations sig (entries_left fs) (settle fs) T s) h ∙ ap (λ k. derivations sig k (settle (entered p e (taken_out p e f ∷ gs))) T s) (entries_left-entered p e f gs)
+  pub derivations-onward : (p : Pattern) (f : Frame) (gs hs : List Frame) (e : Entry) (T : Table) (s : Subst)
+      → hs ≡ entered p e (taken_out p e f ∷ gs)
+      → derivations sig (entries_left hs) (settle hs) T s
+      ≡ derivations sig (nodes_below p + (all_pattern_nodes f.children + entries_left gs)) (onward (child p f gs) e) T s
+  derivations-onward p f gs hs e T s h = ap (λ fs. derivations sig (entries_left fs) (settle fs) T s) h
+      ∙ ap (λ k. derivations sig k (settle (entered p e (taken_out p e f ∷ gs))) T s) (entries_left-entered p e f gs)
 
   -- from the root on as many entries are to come as the pattern has nodes
-  pub derivations-root : (fs : List Frame) (p : Pattern) (t : Tree) → fs ≡ start p t → derivations sig (entries_left fs) (settle fs) [] [] ≡ derivations sig (pattern_nodes p) (settle (start p t)) [] []
+  pub derivations-root : (fs : List Frame) (p : Pattern) (t : Tree) → fs ≡ start p t
+      → derivations sig (entries_left fs) (settle fs) [] []
+      ≡ derivations sig (pattern_nodes p) (settle (start p t)) [] []
   derivations-root fs p t e =
       let k : entries_left (start p t) ≡ pattern_nodes p = omega arith in
-      ap (λ gs. derivations sig (entries_left gs) (settle gs) [] []) e ∙ ap (λ n. derivations sig n (settle (start p t)) [] []) k
+      ap (λ gs. derivations sig (entries_left gs) (settle gs) [] []) e
+      ∙ ap (λ n. derivations sig n (settle (start p t)) [] []) k
 
-  -- what is collected of all derivations is the list of items as they are kept, also where distinct ones aren't compared
-  pub collected-item_list : (b tables : Bool) (r : Rule) (t : Tree) (is : List Item) → is ≡ derivations sig (pattern_nodes r.pattern) (settle (start r.pattern t)) [] [] → (b ≡ true → Distinct same_item is)
-      → collected b (λ i. if meets sig r.condition i.1 then Some (kept tables i) else None) [] is ≡ map (kept tables) (item_list sig r t)
+  -- what is collected of all derivations is the list of items as they are kept, also where distinct ones aren't
+  -- compared
+  pub collected-item_list : (b tables : Bool) (r : Rule) (t : Tree) (is : List Item)
+      → is ≡ derivations sig (pattern_nodes r.pattern) (settle (start r.pattern t)) [] []
+      → (b ≡ true → Distinct same_item is)
+      → collected b (λ i. if meets sig r.condition i.1 then Some (kept tables i) else None) [] is
+      ≡ map (kept tables) (item_list sig r t)
   collected-item_list b tables r t is e h =
-      first_each b h ∙ ap (λ js. map (kept tables) (firsts_after same_item [] (filter (λ i. meets sig r.condition i.1) js))) e ∙ sym (ap (map (kept tables)) (item_list-by_derivations sig r t))
+      first_each b h
+      ∙ ap (λ js. map (kept tables) (firsts_after same_item [] (filter (λ i. meets sig r.condition i.1) js))) e
+      ∙ sym (ap (map (kept tables)) (item_list-by_derivations sig r t))
     where
-      first_each : (b : Bool) → (b ≡ true → Distinct same_item is) → collected b (λ i. if meets sig r.condition i.1 then Some (kept tables i) else None) [] is ≡ map (kept tables) (firsts_after same_item [] (filter (λ i. meets sig r.condition i.1) is))
-      first_each true h = filter_map-kept tables (λ i. meets sig r.condition i.1) is ∙ ap (map (kept tables)) (sym (firsts_after-distinct same_item (filter (λ i. meets sig r.condition i.1) is) (distinct-filter same_item (λ i. meets sig r.condition i.1) is (h refl))))
-      first_each false h = ap (firsts_after same_item []) (filter_map-kept tables (λ i. meets sig r.condition i.1) is) ∙ firsts_after-kept tables [] (filter (λ i. meets sig r.condition i.1) is)
+      first_each : (b : Bool) → (b ≡ true → Distinct same_item is)
+          → collected b (λ i. if meets sig r.condition i.1 then Some (kept tables i) else None) [] is
+          ≡ map (kept tables) (firsts_after same_item [] (filter (λ i. meets sig r.condition i.1) is))
+      first_each true h = filter_map-kept tables (λ i. meets sig r.condition i.1) is
+          ∙ ap (map (kept tables))
+          (sym (firsts_after-distinct same_item (filter (λ i. meets sig r.condition i.1) is)
+          (distinct-filter same_item (λ i. meets sig r.condition i.1) is (h refl))))
+      first_each false h = ap (firsts_after same_item []) (filter_map-kept tables (λ i. meets sig r.condition i.1) is)
+          ∙ firsts_after-kept tables [] (filter (λ i. meets sig r.condition i.1) is)
 
 -- the entries that a list gives, one more gone over
-pub collected-step : {X : Type 0} (b : Bool) (keep : Item → Option Item) (f : X → Entry) (g : Entry → List Item) (ys zs : List Item) (i : ℕ) (xs : List X) (x : X) → i < length xs → x ≡ get_or xs i x → zs ≡ collected b keep ys (g (f x)) → collected b keep zs (flat_map g (map f (drop (i + 1) xs))) ≡ collected b keep ys (flat_map g (map f (drop i xs)))
+pub collected-step : {X : Type 0} (b : Bool) (keep : Item → Option Item) (f : X → Entry) (g : Entry → List Item)
+    (ys zs : List Item) (i : ℕ) (xs : List X) (x : X) → i < length xs → x ≡ get_or xs i x
+    → zs ≡ collected b keep ys (g (f x)) → collected b keep zs (flat_map g (map f (drop (i + 1) xs)))
+    ≡ collected b keep ys (flat_map g (map f (drop i xs)))
 collected-step b keep f g ys zs i xs x h e q =
     ap (λ us. collected b keep us (flat_map g (map f (drop (i + 1) xs)))) q
     ∙ sym (collected-append b keep ys (g (f x)) (flat_map g (map f (drop (i + 1) xs))))
     ∙ ap (λ us. collected b keep ys (flat_map g (map f us))) (sym (drop-item xs i x h e))
 
-pub collected-end : {X : Type 0} (b : Bool) (keep : Item → Option Item) (f : X → Entry) (g : Entry → List Item) (zs : List Item) (i : ℕ) (xs : List X) → length xs ≤ i → collected b keep zs (flat_map g (map f (drop i xs))) ≡ zs
+pub collected-end : {X : Type 0} (b : Bool) (keep : Item → Option Item) (f : X → Entry) (g : Entry → List Item)
+    (zs : List Item) (i : ℕ) (xs : List X) → length xs ≤ i → collected b keep zs (flat_map g (map f (drop i xs))) ≡ zs
 collected-end b keep f g zs i xs h = rw (drop_of_length-le xs {i = i} h) (collected-none b keep zs)
 
 -- what holds of each item that entries give holds of those that one of them gives
-pub all-flat_map_at : {X : Type 0} (P : Item → Type 0) (f : X → Entry) (g : Entry → List Item) (i : ℕ) (xs : List X) (x : X) → i < length xs → x ≡ get_or xs i x → AllByRecursion P (flat_map g (map f xs)) → AllByRecursion P (g (f x))
+pub all-flat_map_at : {X : Type 0} (P : Item → Type 0) (f : X → Entry) (g : Entry → List Item) (i : ℕ) (xs : List X)
+    (x : X) → i < length xs → x ≡ get_or xs i x → AllByRecursion P (flat_map g (map f xs)) → AllByRecursion P (g (f x))
 all-flat_map_at P f g i [] x h e k = absurd (omega arith)
-all-flat_map_at P f g zero (y ∷ xs) x h e k = subst (λ z. AllByRecursion P (g (f z))) (sym e) (all-split P (g (f y)) (flat_map g (map f xs)) k).0
-all-flat_map_at P f g (suc i) (y ∷ xs) x h e k = all-flat_map_at P f g i xs x (omega arith) e (all-split P (g (f y)) (flat_map g (map f xs)) k).1
+all-flat_map_at P f g zero (y ∷ xs) x h e k =
+    subst (λ z. AllByRecursion P (g (f z))) (sym e) (all-split P (g (f y)) (flat_map g (map f xs)) k).0
+all-flat_map_at P f g (suc i) (y ∷ xs) x h e k =
+    all-flat_map_at P f g i xs x (omega arith) e (all-split P (g (f y)) (flat_map g (map f xs)) k).1
 
-pub entries_left-child : (fs : List Frame) (p : Pattern) (f : Frame) (gs : List Frame) → settle fs ≡ child p f gs → entries_left fs ≡ suc (nodes_below p + (all_pattern_nodes f.children + entries_left gs))
+pub entries_left-child : (fs : List Frame) (p : Pattern) (f : Frame) (gs : List Frame) → settle fs ≡ child p f gs
+    → entries_left fs ≡ suc (nodes_below p + (all_pattern_nodes f.children + entries_left gs))
 entries_left-child fs p f gs e = subst (Comes fs) e (comes fs)

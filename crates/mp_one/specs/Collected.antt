@@ -1,5 +1,6 @@
 -- What a search makes of what it finds.
-use Rattle.std.specs.Prelude.{Bool, true, false, List, [], ◌++◌, filter_map, Option, Some, None, option_map, ⊤, if◌then◌else◌}
+use Rattle.std.specs.Prelude.{Bool, true, false, List, [], ◌++◌, filter_map, Option, Some, None, option_map, ⊤}
+use Rattle.std.specs.Prelude.{if◌then◌else◌}
 use Rattle.std.specs.List.{AllByRecursion}
 use Rattle.mp_pattern.specs.CondTree.{Cond}
 use Rattle.mp_pattern.specs.CondView.{cond_tree}

@@ -29,11 +29,13 @@ is_opened sig (Some f) g = is_assoc sig f && nat_eq f g
 -- the list contributes the term under f, or there is none that could be taken of what is left
 abbrev pub IsContribution : Sig → Option ℕ → List Tree → Tree → Candidates → Type 0
 IsContribution sig f left t Any = ⊥
-IsContribution sig f left t Nothing = (m : List Tree) → contribution sig f t ≡ Some m → is_piece tree_cmp (comm_above sig f) m left ≡ false
+IsContribution sig f left t Nothing = (m : List Tree) → contribution sig f t ≡ Some m
+    → is_piece tree_cmp (comm_above sig f) m left ≡ false
 IsContribution sig f left t (Only l) = contribution sig f t ≡ Some (trees_of l.items)
 
 -- as far as it is known, what may stand at the place leads to all that comes
 abbrev pub LeadsOn : Sig → Next → Subst → Candidates → Type 0
 LeadsOn sig n s Any = ⊤
 LeadsOn sig n s Nothing = LeadOn sig n s []
-LeadsOn sig n s (Only l) = LeadOn sig n s (filter (allows sig n) (record { terms = trees_of l.items; collapsed = false } ∷ []))
+LeadsOn sig n s (Only l) = LeadOn sig n s
+    (filter (allows sig n) (record { terms = trees_of l.items; collapsed = false } ∷ []))

@@ -19,7 +19,12 @@ use Rattle.mp_one.specs.declared.stack.Take.{Take}
 
 -- the frame as the search sees it
 abbrev pub frame_of : Frame → walk.Frame
-frame_of f = record { under = above f.under; children = patterns (map pattern_tree f.children.now); left = trees_of f.left.items; owes = f.owes }
+frame_of f = record {
+  under = above f.under;
+  children = patterns (map pattern_tree f.children.now);
+  left = trees_of f.left.items;
+  owes = f.owes;
+}
 
 -- the frames, the innermost first
 abbrev pub stack_frames : Stack → List walk.Frame
@@ -28,7 +33,12 @@ stack_frames (Within' f p s) = frame_of f ∷ stack_frames s
 
 -- the innermost frame, without the child that is to take next
 abbrev pub inner_frame : Place → walk.Frame
-inner_frame p = record { under = above p.under; children = patterns (map pattern_tree p.later.now); left = trees_of p.left.now; owes = p.owes }
+inner_frame p = record {
+  under = above p.under;
+  children = patterns (map pattern_tree p.later.now);
+  left = trees_of p.left.now;
+  owes = p.owes;
+}
 
 -- the place as the search sees it
 abbrev pub child_of : Place → walk.Next
@@ -60,4 +70,5 @@ entries_left (f ∷ fs) = all_pattern_nodes f.children + entries_left fs
 
 -- how many are to come behind the entry of the child
 abbrev pub entries_behind : Place → ℕ
-entries_behind p = nodes_below (pattern_tree p.child.now) + (list_nodes (map pattern_tree p.later.now) + entries_left (stack_frames p.outer.now))
+entries_behind p = nodes_below (pattern_tree p.child.now)
+    + (list_nodes (map pattern_tree p.later.now) + entries_left (stack_frames p.outer.now))

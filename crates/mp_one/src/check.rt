@@ -13,10 +13,12 @@ ghost use Rattle.mp_one.specs.Stack.{frame_of, stack_frames, child_of, entry_of}
 ghost use Rattle.mp_one.specs.Trail.{trail_of};
 ghost use Rattle.mp_one.specs.Check.{goes_on};
 
-use crate::trail::{TrailBinding, Extended, extend};
 use crate::choices::allows;
-use crate::stack::{Frame, Next, Place, Stack, Take, children_frame, root_frame, settle, frame_behind};
+use crate::stack::{
+    Frame, Next, Place, Stack, Take, children_frame, frame_behind, root_frame, settle,
+};
 use crate::terms::references;
+use crate::trail::{Extended, TrailBinding, extend};
 use mp_pattern::{Entries, Entry, Pattern, Plan};
 use mp_term::{Memory, Signature, Term};
 use std::alloc::Global;
@@ -51,7 +53,8 @@ fn goes_on_behind<'a>(
     trail: &[TrailBinding<'a>],
     later: &'a [Entry],
 ) -> Result<bool, Memory>
-    ensures { IfOk result (λ b. b ≡ goes_on sig.now (machine.onward (child_of place.now) (entry_of entry.now)) (trail_of trail.now) (map table_entry later.now)) }
+    ensures { IfOk result (λ b. b ≡ goes_on sig.now (machine.onward (child_of place.now) (entry_of entry.now))
+        (trail_of trail.now) (map table_entry later.now)) }
 {
     let rest = Stack::Within(frame_behind(alloc, place, entry)?, place.outer);
     match place.child {
@@ -73,7 +76,9 @@ fn goes_on_with<'a>(
     trail: &[TrailBinding<'a>],
     later: &'a [Entry],
 ) -> Result<bool, Memory>
-    ensures { IfOk result (λ b. b ≡ goes_on sig.now (child_of place.now) (trail_of trail.now) (entry_of entry.now ∷ map table_entry later.now)) }
+    ensures { IfOk result
+        (λ b. b ≡ goes_on sig.now (child_of place.now) (trail_of trail.now)
+        (entry_of entry.now ∷ map table_entry later.now)) }
 {
     if !allows(sig, place, entry) {
         return Ok(false);
@@ -94,7 +99,8 @@ fn goes_on<'a>(
     trail: &'a [TrailBinding<'a>],
     entries: &'a [Entry],
 ) -> Result<bool, Memory>
-    ensures { IfOk result (λ b. b ≡ goes_on sig.now (walk.settle (stack_frames stack.now)) (trail_of trail.now) (map table_entry entries.now)) }
+    ensures { IfOk result (λ b. b ≡ goes_on sig.now (walk.settle (stack_frames stack.now)) (trail_of trail.now)
+        (map table_entry entries.now)) }
 {
     let [entry, later @ ..] = entries else {
         return Ok(is_ended(stack));
@@ -115,22 +121,25 @@ fn goes_on_from<'a>(
     frame: Frame<'a>,
     entries: &'a [Entry],
 ) -> Result<bool, Memory>
-    ensures { IfOk result (λ b. b ≡ goes_on sig.now (walk.settle (frame_of frame.entry ∷ [])) [] (map table_entry entries.now)) }
+    ensures { IfOk result
+        (λ b. b ≡ goes_on sig.now (walk.settle (frame_of frame.entry ∷ [])) [] (map table_entry entries.now)) }
 {
     let root = Stack::Root;
     goes_on(alloc, sig, &Stack::Within(frame, &root), &[], entries)
 }
 
-/// Whether the take table fits the plan's pattern and the subject with some substitution, by `Fits` of mp_pattern's `specs/Fits.antt`.
+/// Whether the take table fits the plan's pattern and the subject with some substitution, by `Fits` of mp_pattern's
+/// `specs/Fits.antt`.
 ///
-/// The plan is that of a pattern over the signature, and the subject is normal. The table may be any list of entries. One that
-/// is too short or too long, that marks as collapsed what doesn't collapse, that has a term which the subject doesn't have
-/// there, or that leaves out a variable whose default isn't normal, fits nothing.
+/// The plan is that of a pattern over the signature, and the subject is normal. The table may be any list of entries.
+/// One that is too short or too long, that marks as collapsed what doesn't collapse, that has a term which the subject
+/// doesn't have there, or that leaves out a variable whose default isn't normal, fits nothing.
 ///
 /// `Memory`: memory ran out, and nothing is left. The call searches nothing: it takes the entries in turn, up
-/// to the first that can't stand where it stands. At each node it goes a few times over the entry's terms, over what is left of the arguments
-/// there, and over the values so far. So it takes at most some multiple of as many steps as there are nodes times terms, of the table and of the
-/// subject's longest list of arguments, where to compare two terms is one step; a tuple that meets a multiset is sorted besides.
+/// to the first that can't stand where it stands. At each node it goes a few times over the entry's terms, over what is
+/// left of the arguments there, and over the values so far. So it takes at most some multiple of as many steps as there
+/// are nodes times terms, of the table and of the subject's longest list of arguments, where to compare two terms is
+/// one step; a tuple that meets a multiset is sorted besides.
 pub fn check_takes(
     alloc: Global,
     sig: &Signature,

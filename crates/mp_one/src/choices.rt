@@ -7,13 +7,13 @@ ghost use Rattle.mp_one.specs.Lists.{trees_of, lists_of};
 ghost use Rattle.mp_one.specs.Stack.{child_of, entry_of, reads_at};
 ghost use Rattle.mp_one.specs.Trail.{trail_of};
 
-use crate::trail::TrailBinding;
 use crate::known_value::{Candidates, candidates_for};
 use crate::lengths::{fewest, length_limit};
 use crate::node::{comm_above, reads};
 use crate::pieces::{is_piece, pieces_between};
-use crate::stack::{Take, Place};
+use crate::stack::{Place, Take};
 use crate::terms::copied;
+use crate::trail::TrailBinding;
 use mp_term::{Memory, Signature, Term};
 use std::alloc::Global;
 
@@ -26,7 +26,9 @@ fn push_entry<'a>(
     collapsed: bool,
     found: &mut Vec<Take<'a>>,
 ) -> Result<(), Memory>
-    ensures { OnOk result (map entry_of found.new.items ≡ map entry_of found.old.items ++ filter (reads_at sig.now place.now) (record { terms = trees_of piece.now; collapsed = collapsed } ∷ [])) }
+    ensures { OnOk result (map entry_of found.new.items
+        ≡ map entry_of found.old.items ++ filter (reads_at sig.now place.now)
+        (record { terms = trees_of piece.now; collapsed = collapsed } ∷ [])) }
 {
     if !reads(sig, place.child, place.under, piece, collapsed) {
         return Ok(());
@@ -44,7 +46,8 @@ fn pieces<'a>(
     sig: &Signature,
     place: &Place<'a>,
 ) -> Result<Vec<Vec<&'a Term>>, Memory>
-    ensures { IfOk result (λ v. filter (reads_at sig.now place.now) (machine.entries (lists_of v.items)) ≡ within.choices_within sig.now (child_of place.now)) }
+    ensures { IfOk result (λ v. filter (reads_at sig.now place.now) (machine.entries (lists_of v.items))
+        ≡ within.choices_within sig.now (child_of place.now)) }
 {
     let anywhere = comm_above(sig, place.under);
     let found = pieces_between(
@@ -88,7 +91,9 @@ fn only_choice<'a>(
     place: &Place<'a>,
     terms: Vec<&'a Term>,
 ) -> Result<Vec<Take<'a>>, Memory>
-    ensures { IfOk result (λ v. map entry_of v.items ≡ filter (trails.allows sig.now (child_of place.now)) (record { terms = trees_of terms.entry.items; collapsed = false } ∷ [])) }
+    ensures { IfOk result (λ v. map entry_of v.items
+        ≡ filter (trails.allows sig.now (child_of place.now))
+        (record { terms = trees_of terms.entry.items; collapsed = false } ∷ [])) }
 {
     let mut found = Vec::new(alloc);
     let entry = Take {
@@ -108,7 +113,8 @@ pub fn choices<'a>(
     place: &Place<'a>,
     trail: &[TrailBinding<'a>],
 ) -> Result<Vec<Take<'a>>, Memory>
-    ensures { IfOk result (λ v. trails.LeadOn sig.now (child_of place.now) (trail_of trail.now) (map entry_of v.items)) }
+    ensures { IfOk result
+        (λ v. trails.LeadOn sig.now (child_of place.now) (trail_of trail.now) (map entry_of v.items)) }
 {
     match candidates_for(alloc, sig, place, trail)? {
         Candidates::Any => {

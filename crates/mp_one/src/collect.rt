@@ -7,12 +7,12 @@ ghost use Rattle.mp_one.specs.Collected.{IsReadyFor, condition_of, added};
 ghost use Rattle.mp_one.specs.Path.{table_of};
 ghost use Rattle.mp_one.specs.Trail.{trail_of};
 
-use crate::trail::TrailBinding;
 use crate::found::Found;
 use crate::item::Item;
+use crate::owned::own_subst;
 use crate::path::{Path, kept_table};
 use crate::query::Query;
-use crate::owned::own_subst;
+use crate::trail::TrailBinding;
 use mp_cond::holds;
 use mp_pattern::Cond;
 use mp_subst::Subst;
@@ -30,7 +30,8 @@ fn meets(sig: &Signature, condition: &Option<Cond>, subst: &Subst) -> bool
     }
 }
 
-/// Adds the substitution at the end, with its table where tables are kept, if it meets the condition, unless it was found before.
+/// Adds the substitution at the end, with its table where tables are kept, if it meets the condition, unless it was
+/// found before.
 pub fn collect(
     alloc: Global,
     query: &Query<'_>,

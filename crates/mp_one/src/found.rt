@@ -18,7 +18,8 @@ use std::marker::Model;
 fn place_of(items: &[Item], numbers: &[usize], subst: &Subst) -> usize
     requires { IsInOrder (one.item_substs (map item_of items.now)) numbers.now }
     ensures bound { result ≤ length numbers.now }
-    ensures place { let before = comes_before (one.item_substs (map item_of items.now)) (subst_of subst.now) in IsPartitionPoint (λ n. before n ≡ true) (λ n. before n ≡ false) numbers.now result }
+    ensures place { let before = comes_before (one.item_substs (map item_of items.now)) (subst_of subst.now) in
+        IsPartitionPoint (λ n. before n ≡ true) (λ n. before n ≡ false) numbers.now result }
 {
     let mut low = 0;
     let mut high = numbers.len();
@@ -62,8 +63,8 @@ fn put_in_order(items: &[Item], numbers: &mut Vec<usize>) -> Result<(), Memory>
     Ok(())
 }
 
-/// The items in the order in which they were found, and the numbers of those that were there when one was last looked up, in the order
-/// of their substitutions. Contracts see it as the list of the items.
+/// The items in the order in which they were found, and the numbers of those that were there when one was last looked
+/// up, in the order of their substitutions. Contracts see it as the list of the items.
 #[derive(Drop)]
 pub struct Found {
     items: Items,
@@ -98,8 +99,8 @@ impl Found {
         }
     }
 
-    /// Whether an item has the substitution, which takes logarithmically many comparisons for each item that was added since the last
-    /// call, and for this one. The items stay as they are.
+    /// Whether an item has the substitution, which takes logarithmically many comparisons for each item that was added
+    /// since the last call, and for this one. The items stay as they are.
     pub fn has(&mut self, subst: &Subst) -> Result<bool, Memory>
         ensures known { IfOk result (λ b. b ≡ firsts.is_known one.same_subst (one.item_substs self.old) (subst_of subst.now)) }
         ensures same { self.new ≡ self.old }

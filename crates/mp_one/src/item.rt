@@ -10,8 +10,8 @@ use mp_term::Memory;
 use std::alloc::Global;
 use std::marker::Model;
 
-/// A substitution that a rule admits on a subject, with its least take table: one entry for each node of the pattern, in preorder.
-/// Contracts see it as the pair `item_of` of `specs/Items.antt`.
+/// A substitution that a rule admits on a subject, with its least take table: one entry for each node of the pattern,
+/// in preorder. Contracts see it as the pair `item_of` of `specs/Items.antt`.
 #[derive(Drop)]
 pub struct Item {
     pub takes: Entries,

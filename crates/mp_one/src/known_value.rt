@@ -13,17 +13,17 @@ ghost use Rattle.mp_one.specs.Trail.{trail_of};
 ghost use Rattle.mp_one.specs.Stack.{child_of};
 ghost use Rattle.mp_one.specs.KnownValue.{IsFoundAs, is_opened, IsContribution, LeadsOn};
 
-use crate::trail::TrailBinding;
-use crate::trail_value::{TrailValue, is_joined};
 use crate::node::{comm_above, is_alone};
 use crate::stack::{Place, arguments_of};
 use crate::terms::copied;
+use crate::trail::TrailBinding;
+use crate::trail_value::{TrailValue, is_joined};
 use mp_pattern::{Pattern, Shape};
 use mp_term::{Memory, Name, OpId, Signature, Term};
 use std::alloc::Global;
 
-/// The lists that a child may take without a clash with the value of its variable: any, where the value leaves it open, none, or
-/// this one alone.
+/// The lists that a child may take without a clash with the value of its variable: any, where the value leaves it open,
+/// none, or this one alone.
 #[derive(Drop)]
 pub enum Candidates<'a> {
     Any,
@@ -50,7 +50,8 @@ fn contribution<'a>(
     place: &Place<'a>,
     term: &'a Term,
 ) -> Result<Candidates<'a>, Memory>
-    ensures { IfOk result (IsContribution sig.now (above place.now.under) (trees_of place.now.left.now) (tree term.now)) }
+    ensures { IfOk result (IsContribution sig.now (above place.now.under) (trees_of place.now.left.now)
+        (tree term.now)) }
 {
     if is_alone(sig, place.under, term) {
         return Ok(Candidates::Only(copied(alloc, &[term])?));
@@ -97,7 +98,8 @@ fn joined_contribution<'a>(
     op: OpId,
     terms: &[&'a Term],
 ) -> Result<Candidates<'a>, Memory>
-    ensures { IfOk result (IsContribution sig.now (above place.now.under) (trees_of place.now.left.now) (app op.0 (trees (trees_of terms.now)))) }
+    ensures { IfOk result (IsContribution sig.now (above place.now.under) (trees_of place.now.left.now)
+        (app op.0 (trees (trees_of terms.now)))) }
 {
     if is_opened(sig, place.under, op) {
         if terms.len() < 2 {
@@ -118,7 +120,8 @@ fn candidates_at<'a>(
     place: &Place<'a>,
     value: &TrailValue<'a>,
 ) -> Result<Candidates<'a>, Memory>
-    ensures { IfOk result (λ o. (w : plain.Wildcard) → (x : List ℕ) → (s : values.Subst) → pattern_tree place.now.child.now ≡ plain.wild_pattern w (Some x) → IsNotOptional w →
+    ensures { IfOk result (λ o. (w : plain.Wildcard) → (x : List ℕ) → (s : values.Subst)
+        → pattern_tree place.now.child.now ≡ plain.wild_pattern w (Some x) → IsNotOptional w →
         values.value_of s x ≡ Some (trail_value value.now) → LeadsOn sig.now (child_of place.now) s o) }
 {
     match value {
@@ -130,8 +133,12 @@ fn candidates_at<'a>(
             let only = joined_contribution(alloc, sig, place, *op, terms)?;
             Ok(only)
         }
-        TrailValue::Seq(terms) if !comm_above(sig, place.under) => Ok(Candidates::Only(copied(alloc, terms)?)),
-        TrailValue::Bag(terms) if comm_above(sig, place.under) => Ok(Candidates::Only(copied(alloc, terms)?)),
+        TrailValue::Seq(terms) if !comm_above(sig, place.under) => Ok(Candidates::Only(copied(
+            alloc, terms,
+        )?)),
+        TrailValue::Bag(terms) if comm_above(sig, place.under) => Ok(Candidates::Only(copied(
+            alloc, terms,
+        )?)),
         _ => Ok(Candidates::Any),
     }
 }

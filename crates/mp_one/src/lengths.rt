@@ -62,7 +62,8 @@ fn all_most(sig: &Signature, under: Option<OpId>, children: &[Pattern]) -> Optio
 
 /// The least number of terms that the child may take, so that the later children can take the others.
 pub fn fewest(sig: &Signature, place: &Place<'_>) -> usize
-    ensures { result ≡ within.fewest sig.now (above place.now.under) (pattern_tree place.now.child.now) (inner_frame place.now).children (length place.now.left.now) }
+    ensures { result ≡ within.fewest sig.now (above place.now.under) (pattern_tree place.now.child.now)
+        (inner_frame place.now).children (length place.now.left.now) }
 {
     let least = least(place.child);
     match all_most(sig, place.under, place.later) {
@@ -71,9 +72,11 @@ pub fn fewest(sig: &Signature, place: &Place<'_>) -> usize
     }
 }
 
-/// The first number that is too great for the child: the later children would have too few terms, or the child too many.
+/// The first number that is too great for the child: the later children would have too few terms, or the child too
+/// many.
 pub fn length_limit(sig: &Signature, place: &Place<'_>) -> usize
-    ensures { result ≡ within.length_limit sig.now (above place.now.under) (pattern_tree place.now.child.now) (inner_frame place.now).children (length place.now.left.now) }
+    ensures { result ≡ within.length_limit sig.now (above place.now.under) (pattern_tree place.now.child.now)
+        (inner_frame place.now).children (length place.now.left.now) }
 {
     let limit = (place.left.len() + 1).saturating_sub(all_least(place.later));
     match most(sig, place.under, place.child) {

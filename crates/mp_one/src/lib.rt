@@ -1,24 +1,24 @@
 //! One-to-one matching: what one rule admits on one subject, each substitution once, ascending by least take table.
 #![tactic(auto)]
 
-mod trail;
-mod known_value;
 mod check;
 mod choices;
-mod found;
 mod collect;
-mod trail_value;
+mod found;
 mod item;
+mod known_value;
 mod lengths;
-mod node;
 mod named_order;
+mod node;
+mod owned;
 mod path;
 mod pieces;
 mod query;
 mod search;
 mod stack;
 mod terms;
-mod owned;
+mod trail;
+mod trail_value;
 mod wildcards;
 
 pub use check::check_takes;

@@ -12,7 +12,8 @@ use std::cmp::Ordering;
 // The order of the names, binding by binding.
 fn compare_each_name(bindings: &[Binding], others: &[Binding]) -> Ordering
     requires { length bindings.now ≡ length others.now }
-    ensures { result ≡ slice_cmp (slice_cmp nat_cmp) (names_of (map binding_of bindings.now)) (names_of (map binding_of others.now)) }
+    ensures { result ≡ slice_cmp (slice_cmp nat_cmp) (names_of (map binding_of bindings.now))
+        (names_of (map binding_of others.now)) }
 {
     for (i, binding) in bindings.iter().enumerate() {
         let order = binding.name.cmp(&others[i].name);

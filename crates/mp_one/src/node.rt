@@ -144,7 +144,8 @@ pub fn reads(
     terms: &[&Term],
     collapsed: bool,
 ) -> bool
-    ensures { result ≡ machine.reads sig.now (pattern_tree child.now) (above under) (record { terms = trees_of terms.now; collapsed = collapsed }) }
+    ensures { result ≡ machine.reads sig.now (pattern_tree child.now) (above under)
+        (record { terms = trees_of terms.now; collapsed = collapsed }) }
 {
     match child {
         Pattern::Sym(name) => !collapsed && is_one_symbol(name.bytes(), terms),

@@ -4,9 +4,9 @@ ghost use Rattle.mp_subst.specs.View.{value_of, subst_of};
 ghost use Rattle.mp_one.specs.TrailValue.{trail_value};
 ghost use Rattle.mp_one.specs.Trail.{trail_of};
 
+use crate::terms::copies;
 use crate::trail::TrailBinding;
 use crate::trail_value::TrailValue;
-use crate::terms::copies;
 use mp_subst::{Binding, Bindings, Subst, Value};
 use mp_term::{Memory, Term, copy_term};
 use std::alloc::Global;

@@ -94,7 +94,8 @@ fn place_of(list: &[&Term], term: &Term) -> Option<usize>
 }
 
 fn insert_new<'a>(list: &mut Vec<&'a Term>, term: &'a Term) -> Result<(), Memory>
-    ensures { OnOk result (trees_of list.new.items ≡ pieces.insert_new tree_cmp (tree term.now) (trees_of list.old.items)) }
+    ensures { OnOk result (trees_of list.new.items
+        ≡ pieces.insert_new tree_cmp (tree term.now) (trees_of list.old.items)) }
 {
     if let Some(place) = place_of(list, term) {
         list.insert(place, term)?;
@@ -115,7 +116,9 @@ fn distinct<'a>(alloc: Global, list: &[&'a Term]) -> Result<Vec<&'a Term>, Memor
 
 // The terms that a piece may begin with: anywhere in the list, or at its front.
 fn beginnings<'a>(alloc: Global, anywhere: bool, list: &[&'a Term]) -> Result<Vec<&'a Term>, Memory>
-    ensures { IfOk result (λ v. trees_of v.items ≡ (if anywhere then pieces.distinct tree_cmp (trees_of list.now) else pieces.first tree_cmp (trees_of list.now))) }
+    ensures { IfOk result (λ v. trees_of v.items
+        ≡ (if anywhere then pieces.distinct tree_cmp (trees_of list.now) else pieces.first tree_cmp
+        (trees_of list.now))) }
 {
     if anywhere {
         return distinct(alloc, list);
@@ -142,7 +145,8 @@ fn push_behind<'a>(
     first: &'a Term,
     rests: &[Vec<&'a Term>],
 ) -> Result<(), Memory>
-    ensures { OnOk result (lists_of all.new.items ≡ lists_of all.old.items ++ map (λ w. tree first.now ∷ w) (lists_of rests.now)) }
+    ensures { OnOk result (lists_of all.new.items
+        ≡ lists_of all.old.items ++ map (λ w. tree first.now ∷ w) (lists_of rests.now)) }
 {
     for rest in rests {
         all.push(behind(alloc, first, rest)?)?;
@@ -186,7 +190,8 @@ pub fn pieces_between<'a>(
     limit: usize,
     list: &[&'a Term],
 ) -> Result<Vec<Vec<&'a Term>>, Memory>
-    ensures { IfOk result (λ v. lists_of v.items ≡ pieces.pieces_among tree_cmp anywhere (range_with_len least (limit - least)) (trees_of list.now)) }
+    ensures { IfOk result (λ v. lists_of v.items
+        ≡ pieces.pieces_among tree_cmp anywhere (range_with_len least (limit - least)) (trees_of list.now)) }
 {
     let mut all = Vec::new(alloc);
     for length in least..limit {

@@ -22,14 +22,16 @@ ghost use Rattle.mp_one.specs.Items.{IsItemOf};
 ghost use Rattle.mp_one.specs.Path.{table_of};
 ghost use Rattle.mp_one.specs.Collected.{AreReadyFor, condition_of, added, kept};
 
-use crate::trail::{TrailBinding, Extended, extend};
 use crate::choices::choices;
-use crate::found::Found;
 use crate::collect::collect;
+use crate::found::Found;
 use crate::item::Items;
 use crate::path::Path;
 use crate::query::Query;
-use crate::stack::{Take, Frame, Next, Place, Stack, children_frame, root_frame, settle, frame_behind};
+use crate::stack::{
+    Frame, Next, Place, Stack, Take, children_frame, frame_behind, root_frame, settle,
+};
+use crate::trail::{Extended, TrailBinding, extend};
 use crate::wildcards::decides_table;
 use mp_pattern::{MAX_TERM_NODES, Pattern, Plan, Rule};
 use mp_subst::Subst;
@@ -47,8 +49,16 @@ fn descend<'a>(
     path: &'a Path<'a>,
     found: &mut Found,
 ) -> Result<(), Memory>
-    requires { AreReadyFor (condition_of query.now) (trails.derivations query.now.sig.now (entries_behind place.now) (machine.onward (child_of place.now) (entry_of entry.now)) (table_of path.now ++ entry_of entry.now ∷ []) (trail_of trail.now)) }
-    ensures { OnOk result (found.new ≡ added query.now found.old (trails.derivations query.now.sig.now (entries_behind place.now) (machine.onward (child_of place.now) (entry_of entry.now)) (table_of path.now ++ entry_of entry.now ∷ []) (trail_of trail.now))) }
+    requires { AreReadyFor (condition_of query.now)
+        (trails.derivations query.now.sig.now (entries_behind place.now)
+        (machine.onward (child_of place.now) (entry_of entry.now)) (table_of path.now ++ entry_of entry.now ∷ [])
+        (trail_of trail.now)) }
+    ensures { OnOk result
+        (found.new
+        ≡ added query.now found.old
+        (trails.derivations query.now.sig.now (entries_behind place.now)
+        (machine.onward (child_of place.now) (entry_of entry.now)) (table_of path.now ++ entry_of entry.now ∷ [])
+        (trail_of trail.now))) }
 {
     let rest = Stack::Within(frame_behind(alloc, place, entry)?, place.outer);
     let behind = Path::Behind(entry, path);
@@ -72,8 +82,14 @@ fn follow<'a>(
     path: &'a Path<'a>,
     found: &mut Found,
 ) -> Result<(), Memory>
-    requires { AreReadyFor (condition_of query.now) (trails.derivations_by query.now.sig.now (entries_behind place.now) (child_of place.now) (table_of path.now) (trail_of trail.now) (entry_of entry.now)) }
-    ensures { OnOk result (found.new ≡ added query.now found.old (trails.derivations_by query.now.sig.now (entries_behind place.now) (child_of place.now) (table_of path.now) (trail_of trail.now) (entry_of entry.now))) }
+    requires { AreReadyFor (condition_of query.now)
+        (trails.derivations_by query.now.sig.now (entries_behind place.now) (child_of place.now) (table_of path.now)
+        (trail_of trail.now) (entry_of entry.now)) }
+    ensures { OnOk result
+        (found.new
+        ≡ added query.now found.old
+        (trails.derivations_by query.now.sig.now (entries_behind place.now) (child_of place.now) (table_of path.now)
+        (trail_of trail.now) (entry_of entry.now))) }
 {
     match extend(alloc, query.sig, place, entry, trail)? {
         Extended::Clash => Ok(()),
@@ -92,8 +108,13 @@ fn search<'a>(
     path: &'a Path<'a>,
     found: &mut Found,
 ) -> Result<(), Memory>
-    requires { AreReadyFor (condition_of query.now) (trails.derivations query.now.sig.now (entries_left (stack_frames stack.now)) (walk.settle (stack_frames stack.now)) (table_of path.now) (trail_of trail.now)) }
-    ensures { OnOk result (found.new ≡ added query.now found.old (trails.derivations query.now.sig.now (entries_left (stack_frames stack.now)) (walk.settle (stack_frames stack.now)) (table_of path.now) (trail_of trail.now))) }
+    requires { AreReadyFor (condition_of query.now)
+        (trails.derivations query.now.sig.now (entries_left (stack_frames stack.now))
+        (walk.settle (stack_frames stack.now)) (table_of path.now) (trail_of trail.now)) }
+    ensures { OnOk result
+        (found.new
+        ≡ added query.now found.old (trails.derivations query.now.sig.now (entries_left (stack_frames stack.now))
+        (walk.settle (stack_frames stack.now)) (table_of path.now) (trail_of trail.now))) }
 {
     match settle(stack) {
         Next::Ended => collect(alloc, query, path, trail, found),
@@ -114,8 +135,13 @@ fn search_from(
     frame: Frame<'_>,
     found: &mut Found,
 ) -> Result<(), Memory>
-    requires { AreReadyFor (condition_of query.now) (trails.derivations query.now.sig.now (entries_left (frame_of frame ∷ [])) (walk.settle (frame_of frame ∷ [])) [] []) }
-    ensures { OnOk result (found.new ≡ added query.now found.old (trails.derivations query.now.sig.now (entries_left (frame_of frame.entry ∷ [])) (walk.settle (frame_of frame.entry ∷ [])) [] [])) }
+    requires { AreReadyFor (condition_of query.now)
+        (trails.derivations query.now.sig.now (entries_left (frame_of frame ∷ [])) (walk.settle (frame_of frame ∷ []))
+        [] []) }
+    ensures { OnOk result
+        (found.new
+        ≡ added query.now found.old (trails.derivations query.now.sig.now (entries_left (frame_of frame.entry ∷ []))
+        (walk.settle (frame_of frame.entry ∷ [])) [] [])) }
 {
     let root = Stack::Root;
     let start = Path::Start;
@@ -143,7 +169,8 @@ fn search_all(
     requires condition { HasConditionOver (variables (pattern_tree rule.now.pattern)) (rule_tree rule.now).condition }
     requires normal { IsNormal sig.now (tree subject.now) }
     requires few { node_count (tree subject.now) ≤ MAX_TERM_NODES }
-    ensures { IfOk result (λ is. is ≡ map (kept tables) (one.item_list sig.now (rule_tree rule.now) (tree subject.now))) }
+    ensures { IfOk result
+        (λ is. is ≡ map (kept tables) (one.item_list sig.now (rule_tree rule.now) (tree subject.now))) }
 {
     let pattern = plan.pattern();
     let query = Query {
@@ -162,16 +189,18 @@ fn search_all(
     Ok(found)
 }
 
-/// The one-list of a rule and a subject: the substitutions that the rule admits, each once, strictly ascending by least take table,
-/// and with each its least take table. It is `item_list` of mp_theory's `specs/OneList.antt`, whose substitutions are the list that
-/// `IsOneList` of mp_pattern's `specs/Lists.antt` describes.
+/// The one-list of a rule and a subject: the substitutions that the rule admits, each once, strictly ascending by least
+/// take table, and with each its least take table. It is `item_list` of mp_theory's `specs/OneList.antt`, whose
+/// substitutions are the list that `IsOneList` of mp_pattern's `specs/Lists.antt` describes.
 ///
-/// The plan is that of the rule's pattern; an item has an entry for each of its nodes and a value for each of its variables. The pattern is taken
-/// as it stands, with whatever operations and wildcards it has; its defaults have at most 64 nodes each, as `has_small_defaults` tells. The
-/// rule's condition, if it has one, speaks of the pattern's variables and of ground terms of at most 64 nodes each (`HasConditionOver` of mp_pattern's
-/// `specs/Operands.antt`). The subject is normal and has at most 100,000 nodes.
+/// The plan is that of the rule's pattern; an item has an entry for each of its nodes and a value for each of its
+/// variables. The pattern is taken as it stands, with whatever operations and wildcards it has; its defaults have at
+/// most 64 nodes each, as `has_small_defaults` tells. The rule's condition, if it has one, speaks of the pattern's
+/// variables and of ground terms of at most 64 nodes each (`HasConditionOver` of mp_pattern's `specs/Operands.antt`).
+/// The subject is normal and has at most 100,000 nodes.
 ///
-/// `Memory`: memory ran out, and nothing is left. The call takes as long as the whole list, which can grow exponentially in the subject.
+/// `Memory`: memory ran out, and nothing is left. The call takes as long as the whole list, which can grow
+/// exponentially in the subject.
 pub fn eager_list(
     alloc: Global,
     sig: &Signature,
@@ -193,11 +222,11 @@ pub fn eager_list(
     Ok(search_all(alloc, sig, rule, plan, subject, true)?.into_items())
 }
 
-/// The substitutions of the one-list alone: those that the rule admits on the subject, each once, strictly ascending by least take
-/// table (`IsOneList` of mp_pattern's `specs/Lists.antt`).
+/// The substitutions of the one-list alone: those that the rule admits on the subject, each once, strictly ascending by
+/// least take table (`IsOneList` of mp_pattern's `specs/Lists.antt`).
 ///
-/// Its conditions are those of `eager_list`, and so is its time but for the tables, which it doesn't keep. `Memory`: memory ran
-/// out, and nothing is left.
+/// Its conditions are those of `eager_list`, and so is its time but for the tables, which it doesn't keep. `Memory`:
+/// memory ran out, and nothing is left.
 pub fn eager_substs(
     alloc: Global,
     sig: &Signature,

@@ -59,7 +59,8 @@ pub struct Take<'a> {
     pub collapsed: bool,
 }
 
-/// What comes next. A frame whose children have all taken is left, if it has no terms over and owes nothing, and else refused.
+/// What comes next. A frame whose children have all taken is left, if it has no terms over and owes nothing, and else
+/// refused.
 pub fn settle<'a>(stack: &'a Stack<'a>) -> Next<'a>
     ensures { walk.settle (stack_frames stack.now) ≡ next_of result }
 {
@@ -101,7 +102,8 @@ pub fn frame_behind<'a>(
     place: &Place<'a>,
     entry: &Take<'_>,
 ) -> Result<Frame<'a>, Memory>
-    ensures { IfOk result (λ f. frame_of f ≡ machine.taken_out (pattern_tree place.now.child.now) (entry_of entry.now) (inner_frame place.now)) }
+    ensures { IfOk result (λ f. frame_of f ≡ machine.taken_out (pattern_tree place.now.child.now) (entry_of entry.now)
+        (inner_frame place.now)) }
 {
     Ok(Frame {
         under: place.under,
@@ -141,7 +143,8 @@ pub fn children_frame<'a>(
     children: &'a Patterns,
     entry: &Take<'a>,
 ) -> Result<Frame<'a>, Memory>
-    ensures { IfOk result (λ f. frame_of f ∷ [] ≡ machine.entered (app_pattern op.0 (patterns children.now)) (entry_of entry.now) []) }
+    ensures { IfOk result (λ f. frame_of f ∷ []
+        ≡ machine.entered (app_pattern op.0 (patterns children.now)) (entry_of entry.now) []) }
 {
     let left = if entry.collapsed {
         copied(alloc, &entry.terms)?

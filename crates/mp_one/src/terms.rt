@@ -70,7 +70,8 @@ fn in_order<'a>(alloc: Global, terms: &[&'a Term]) -> Result<Vec<&'a Term>, Memo
 
 /// Whether the lists have the same terms, each as often.
 pub fn same_multiset(alloc: Global, terms: &[&Term], others: &[&Term]) -> Result<bool, Memory>
-    ensures { IfOk result (λ b. b ≡ values.same_terms (sorted tree_cmp (trees_of terms.now)) (sorted tree_cmp (trees_of others.now))) }
+    ensures { IfOk result
+        (λ b. b ≡ values.same_terms (sorted tree_cmp (trees_of terms.now)) (sorted tree_cmp (trees_of others.now))) }
 {
     let first = in_order(alloc, terms)?;
     let second = in_order(alloc, others)?;

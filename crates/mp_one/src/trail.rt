@@ -7,9 +7,9 @@ ghost use Rattle.mp_pattern.specs.Value as values;
 ghost use Rattle.mp_one.specs.Trail.{trail_binding, trail_of, outcome};
 ghost use Rattle.mp_one.specs.TrailValue.{trail_value};
 
-use crate::trail_value::{Merged, TrailValue, copy_value, merge, value_by_take};
 use crate::stack::{Place, Take};
 use crate::terms::push;
+use crate::trail_value::{Merged, TrailValue, copy_value, merge, value_by_take};
 use mp_pattern::Pattern;
 use mp_term::{Memory, Name, Signature};
 use std::alloc::Global;
@@ -35,7 +35,9 @@ fn rebound<'a>(
     bound: &TrailBinding<'a>,
     value: &TrailValue<'a>,
 ) -> Result<Option<TrailBinding<'a>>, Memory>
-    ensures { IfOk result (λ o. option_map trail_binding o ≡ option_map (λ u. record { name = bound.now.name.now; value = u }) (values.merge (trail_value bound.now.value) (trail_value value.now))) }
+    ensures { IfOk result (λ o. option_map trail_binding o
+        ≡ option_map (λ u. record { name = bound.now.name.now; value = u })
+        (values.merge (trail_value bound.now.value) (trail_value value.now))) }
 {
     let held = match merge(alloc, &bound.value, value)? {
         Merged::Clash => return Ok(None),
@@ -55,7 +57,8 @@ fn bind<'a>(
     name: &'a Name,
     value: &TrailValue<'a>,
 ) -> Result<Option<Vec<TrailBinding<'a>>>, Memory>
-    ensures { IfOk result (λ o. option_map (λ t. trail_of t.items) o ≡ solve.bind (trail_of trail.now) name.now (trail_value value.now)) }
+    ensures { IfOk result (λ o. option_map (λ t. trail_of t.items) o
+        ≡ solve.bind (trail_of trail.now) name.now (trail_value value.now)) }
 {
     let mut after = Vec::new(alloc);
     let mut is_bound = false;
@@ -96,7 +99,8 @@ pub fn extend<'a>(
     entry: &Take<'a>,
     trail: &[TrailBinding<'a>],
 ) -> Result<Extended<'a>, Memory>
-    ensures { IfOk result (λ o. outcome (trail_of trail.now) o ≡ solve.solve sig.now (trail_of trail.now) (machine.said (child_of place.now) (entry_of entry.now))) }
+    ensures { IfOk result (λ o. outcome (trail_of trail.now) o
+        ≡ solve.solve sig.now (trail_of trail.now) (machine.said (child_of place.now) (entry_of entry.now))) }
 {
     let Pattern::Wild(shape, Some(name)) = place.child else {
         return Ok(Extended::Same);

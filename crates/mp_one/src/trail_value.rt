@@ -68,7 +68,9 @@ fn same_term(alloc: Global, first: &TrailValue<'_>, second: &TrailValue<'_>) -> 
 {
     match (first, second) {
         (TrailValue::Whole(term), TrailValue::Whole(other)) => Ok(compare(term, other).is_eq()),
-        (TrailValue::Whole(term), TrailValue::Joined(op, terms)) => is_joined(alloc, term, *op, terms),
+        (TrailValue::Whole(term), TrailValue::Joined(op, terms)) => is_joined(
+            alloc, term, *op, terms,
+        ),
         (TrailValue::Joined(op, terms), TrailValue::Whole(term)) => {
             let same = is_joined(alloc, term, *op, terms)?;
             Ok(same)
@@ -91,13 +93,24 @@ fn first_if(same: bool) -> Merged
 }
 
 /// The common value of two uses of a variable, if there is one.
-pub fn merge(alloc: Global, first: &TrailValue<'_>, second: &TrailValue<'_>) -> Result<Merged, Memory>
-    ensures { IfOk result (λ m. merged (trail_value first.now) (trail_value second.now) m ≡ values.merge (trail_value first.now) (trail_value second.now)) }
+pub fn merge(
+    alloc: Global,
+    first: &TrailValue<'_>,
+    second: &TrailValue<'_>,
+) -> Result<Merged, Memory>
+    ensures { IfOk result (λ m. merged (trail_value first.now) (trail_value second.now) m
+        ≡ values.merge (trail_value first.now) (trail_value second.now)) }
 {
     match (first, second) {
-        (TrailValue::Seq(terms), TrailValue::Seq(others)) => Ok(first_if(same_references(terms, others))),
-        (TrailValue::Bag(terms), TrailValue::Bag(others)) => Ok(first_if(same_references(terms, others))),
-        (TrailValue::Seq(terms), TrailValue::Bag(others)) => Ok(first_if(same_multiset(alloc, terms, others)?)),
+        (TrailValue::Seq(terms), TrailValue::Seq(others)) => Ok(first_if(same_references(
+            terms, others,
+        ))),
+        (TrailValue::Bag(terms), TrailValue::Bag(others)) => Ok(first_if(same_references(
+            terms, others,
+        ))),
+        (TrailValue::Seq(terms), TrailValue::Bag(others)) => Ok(first_if(same_multiset(
+            alloc, terms, others,
+        )?)),
         (TrailValue::Bag(terms), TrailValue::Seq(others)) => {
             if same_multiset(alloc, terms, others)? {
                 Ok(Merged::Second)
@@ -116,7 +129,8 @@ fn contributor<'a>(
     under: Option<OpId>,
     terms: &[&'a Term],
 ) -> Result<Option<TrailValue<'a>>, Memory>
-    ensures { IfOk result (λ o. option_map trail_value o ≡ solve.contributor sig.now (above under) (trees_of terms.now)) }
+    ensures { IfOk result (λ o. option_map trail_value o
+        ≡ solve.contributor sig.now (above under) (trees_of terms.now)) }
 {
     match (terms, under) {
         ([], _) => Ok(None),
@@ -163,11 +177,14 @@ pub fn value_by_take<'a>(
     shape: &'a Shape,
     terms: &[&'a Term],
 ) -> Result<Option<TrailValue<'a>>, Memory>
-    ensures { IfOk result (λ o. option_map trail_value o ≡ solve.given sig.now (above under) (wildcard shape.now) (trees_of terms.now)) }
+    ensures { IfOk result (λ o. option_map trail_value o
+        ≡ solve.given sig.now (above under) (wildcard shape.now) (trees_of terms.now)) }
 {
     match (shape, terms) {
         (Shape::Dot, _) => contributor(alloc, sig, under, terms),
-        (Shape::Kind(kind), [only]) if is_of_kind(sig, *kind, terms) => Ok(Some(TrailValue::Whole(only))),
+        (Shape::Kind(kind), [only]) if is_of_kind(sig, *kind, terms) => Ok(Some(TrailValue::Whole(
+            only,
+        ))),
         (Shape::Kind(_), _) => Ok(None),
         (Shape::Plus, []) => Ok(None),
         (Shape::Plus | Shape::Star, _) => Ok(Some(sequence(alloc, sig, under, terms)?)),

@@ -10,7 +10,8 @@ ghost use Rattle.mp_theory.specs.NoOptional.{HasNoOptional, IsNotOptional};
 use mp_pattern::{MAX_DEFAULT_NODES, Pattern, Shape, is_fully_named};
 use mp_term::node_count;
 
-/// Whether the default of each optional wildcard has at most `MAX_DEFAULT_NODES` nodes (`DefaultsAreSmall` of mp_pattern's `specs/Limits.antt`).
+/// Whether the default of each optional wildcard has at most `MAX_DEFAULT_NODES` nodes (`DefaultsAreSmall` of
+/// mp_pattern's `specs/Limits.antt`).
 #[cycle(small)]
 pub fn has_small_defaults(pattern: &Pattern) -> bool
     ensures { IsTrue result ↔ DefaultsAreSmall (pattern_tree pattern.now) }
@@ -58,7 +59,8 @@ fn none_optional(children: &[Pattern]) -> bool
 
 /// Whether a substitution that fits decides its take table: each wildcard has a name, and none is optional.
 pub fn decides_table(pattern: &Pattern) -> bool
-    ensures { IsTrue result ↔ ((is_fully_named (pattern_tree pattern.now) ≡ true) × HasNoOptional (pattern_tree pattern.now)) }
+    ensures { IsTrue result
+        ↔ ((is_fully_named (pattern_tree pattern.now) ≡ true) × HasNoOptional (pattern_tree pattern.now)) }
 {
     is_fully_named(pattern) && has_no_optional(pattern)
 }

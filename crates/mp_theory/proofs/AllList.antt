@@ -19,7 +19,8 @@ rank (seq ts) = 1
 rank (bag ts) = 2
 
 -- values compare by form, and then by shortlex of their terms
-value_cmp-is : (v w : Value) → value_cmp v w ≡ ordering_then (nat_cmp (rank v) (rank w)) (shortlex tree_cmp (terms_of v) (terms_of w))
+value_cmp-is : (v w : Value) → value_cmp v w
+    ≡ ordering_then (nat_cmp (rank v) (rank w)) (shortlex tree_cmp (terms_of v) (terms_of w))
 value_cmp-is (one t) (one u) = sym (ordering_then-equal (tree_cmp t u))
 value_cmp-is (one t) (seq us) = refl
 value_cmp-is (one t) (bag us) = refl
@@ -47,7 +48,8 @@ pub pair_cmp_total : IsTotalOrder pair_cmp
 pair_cmp_total = then_total (on_total (λ p. p.0) nat_cmp_total) (on_total (λ p. p.1) subst_cmp_total)
 
 -- two lists of exactly the admitted pairs in order are one
-pub IsAllList-unique : (sig : Sig) (rules : List Rule) (t : Tree) (ps qs : List Pair) → IsAllList sig rules t ps → IsAllList sig rules t qs → ps ≡ qs
+pub IsAllList-unique : (sig : Sig) (rules : List Rule) (t : Tree) (ps qs : List Pair) → IsAllList sig rules t ps
+    → IsAllList sig rules t qs → ps ≡ qs
 IsAllList-unique sig rules t ps qs h k =
     same_members pair_cmp pair_cmp_total ps qs h.ascending k.ascending
     (λ p i. in-from_contains p qs ((k.exactly p).1 ((h.exactly p).0 (contains-from_in p ps i))))

@@ -49,16 +49,30 @@ pub record Merged (w x v : Value) : Type 0 where
 
 -- values that agree with one final value have a merge
 pub merge-complete : (w x v : Value) → Refines w v → Refines x v → Merged w x v
-merge-complete (one t) (one u) (one v) p q = record { value = one t; is = rw (q ∙ sym p, tied_itself tree_cmp_total t) refl; refines = p }
-merge-complete (seq ts) (seq us) (seq vs) p q = record { value = seq ts; is = rw (same_terms-complete ts us (p ∙ sym q)) refl; refines = p }
-merge-complete (bag ts) (bag us) (bag vs) p q = record { value = bag ts; is = rw (same_terms-complete ts us (p ∙ sym q)) refl; refines = p }
-merge-complete (bag ts) (bag us) (seq vs) p q = record { value = bag ts; is = rw (same_terms-complete ts us (p ∙ sym q)) refl; refines = p }
+merge-complete (one t) (one u) (one v) p q =
+    record { value = one t; is = rw (q ∙ sym p, tied_itself tree_cmp_total t) refl; refines = p }
+merge-complete (seq ts) (seq us) (seq vs) p q =
+    record { value = seq ts; is = rw (same_terms-complete ts us (p ∙ sym q)) refl; refines = p }
+merge-complete (bag ts) (bag us) (bag vs) p q =
+    record { value = bag ts; is = rw (same_terms-complete ts us (p ∙ sym q)) refl; refines = p }
+merge-complete (bag ts) (bag us) (seq vs) p q =
+    record { value = bag ts; is = rw (same_terms-complete ts us (p ∙ sym q)) refl; refines = p }
 merge-complete (seq ts) (bag us) (seq vs) p q =
-    let e : sorted tree_cmp ts ≡ sorted tree_cmp us = ap (sorted tree_cmp) p ∙ sym (sorted-sorted vs) ∙ ap (sorted tree_cmp) (sym q) in
-    record { value = seq ts; is = rw (same_terms-complete (sorted tree_cmp ts) (sorted tree_cmp us) e) refl; refines = p }
+    let e : sorted tree_cmp ts ≡ sorted tree_cmp us = ap (sorted tree_cmp) p ∙ sym (sorted-sorted vs)
+    ∙ ap (sorted tree_cmp) (sym q) in
+    record {
+      value = seq ts;
+      is = rw (same_terms-complete (sorted tree_cmp ts) (sorted tree_cmp us) e) refl;
+      refines = p;
+    }
 merge-complete (bag ts) (seq us) (seq vs) p q =
-    let e : sorted tree_cmp ts ≡ sorted tree_cmp us = ap (sorted tree_cmp) p ∙ sorted-sorted vs ∙ ap (sorted tree_cmp) (sym q) in
-    record { value = seq us; is = rw (same_terms-complete (sorted tree_cmp ts) (sorted tree_cmp us) e) refl; refines = q }
+    let e : sorted tree_cmp ts ≡ sorted tree_cmp us = ap (sorted tree_cmp) p ∙ sorted-sorted vs
+    ∙ ap (sorted tree_cmp) (sym q) in
+    record {
+      value = seq us;
+      is = rw (same_terms-complete (sorted tree_cmp ts) (sorted tree_cmp us) e) refl;
+      refines = q;
+    }
 merge-complete (one t) x (seq vs) p q = absurd p
 merge-complete (one t) x (bag vs) p q = absurd p
 merge-complete (one t) (seq us) (one v) p q = absurd q
@@ -77,7 +91,8 @@ from_if true a u e = (refl, cc)
 from_if false a u e = cc
 
 -- what agrees with a merge agrees with both
-pub merge-sound : (w x u v : Value) → IsArranged w → IsArranged x → merge w x ≡ Some u → Refines u v → Refines w v × Refines x v
+pub merge-sound : (w x u v : Value) → IsArranged w → IsArranged x → merge w x ≡ Some u → Refines u v
+    → Refines w v × Refines x v
 merge-sound (one t) (one u) m v a b e r =
     let h = from_if (is_eq (tree_cmp t u)) (one t) m e in
     let k = subst (λ n. Refines n v) (sym h.1) r in
@@ -95,7 +110,8 @@ merge-sound (seq ts) (bag us) m v a b e r =
     let k = subst (λ n. Refines n v) (sym h.1) r in
     (k, bag_from ts us v b (same_terms-sound _ _ h.0) k)
   where
-    bag_from : (ts us : List Tree) (v : Value) → sorted tree_cmp us ≡ us → sorted tree_cmp ts ≡ sorted tree_cmp us → Refines (seq ts) v → Refines (bag us) v
+    bag_from : (ts us : List Tree) (v : Value) → sorted tree_cmp us ≡ us → sorted tree_cmp ts ≡ sorted tree_cmp us
+        → Refines (seq ts) v → Refines (bag us) v
     bag_from ts us (one v) b p k = absurd k
     bag_from ts us (seq vs) b p k = sym b ∙ sym p ∙ ap (sorted tree_cmp) k
     bag_from ts us (bag vs) b p k = absurd k
@@ -104,7 +120,8 @@ merge-sound (bag ts) (seq us) m v a b e r =
     let k = subst (λ n. Refines n v) (sym h.1) r in
     (bag_to ts us v a (same_terms-sound _ _ h.0) k, k)
   where
-    bag_to : (ts us : List Tree) (v : Value) → sorted tree_cmp ts ≡ ts → sorted tree_cmp ts ≡ sorted tree_cmp us → Refines (seq us) v → Refines (bag ts) v
+    bag_to : (ts us : List Tree) (v : Value) → sorted tree_cmp ts ≡ ts → sorted tree_cmp ts ≡ sorted tree_cmp us
+        → Refines (seq us) v → Refines (bag ts) v
     bag_to ts us (one v) b p k = absurd k
     bag_to ts us (seq vs) b p k = sym b ∙ p ∙ ap (sorted tree_cmp) k
     bag_to ts us (bag vs) b p k = absurd k
@@ -128,8 +145,13 @@ pub record Bound (env s : Subst) (x : List ℕ) (w : Value) : Type 0 where
   pub extends : Extends env_after s
 
 -- a value that s agrees with can be bound, and s still agrees
-pub bind-complete : (env s : Subst) (x : List ℕ) (w v : Value) → Extends env s → value_of s x ≡ Some v → Refines w v → Bound env s x w
-bind-complete [] s x w v h e r = record { env_after = record { name = x; value = w } ∷ []; is = refl; extends = ((v, e, r), tt) }
+pub bind-complete : (env s : Subst) (x : List ℕ) (w v : Value) → Extends env s → value_of s x ≡ Some v → Refines w v
+    → Bound env s x w
+bind-complete [] s x w v h e r = record {
+  env_after = record { name = x; value = w } ∷ [];
+  is = refl;
+  extends = ((v, e, r), tt);
+}
 bind-complete (b ∷ env) s x w v h e r =
     elim (same_name b.name x) as (λ t. same_name b.name x ≡ t → Bound (b ∷ env) s x w) [
       | true ↦ λ q.
@@ -146,17 +168,21 @@ bind-complete (b ∷ env) s x w v h e r =
     ] refl
 
 -- what an `if` that gave a substitution went through
-pub if_either : (t : Bool) (a b : Option Subst) (r : Subst) → (if t then a else b) ≡ Some r → ((t ≡ true) × (a ≡ Some r)) ⊎ ((t ≡ false) × (b ≡ Some r))
+pub if_either : (t : Bool) (a b : Option Subst) (r : Subst) → (if t then a else b) ≡ Some r
+    → ((t ≡ true) × (a ≡ Some r)) ⊎ ((t ≡ false) × (b ≡ Some r))
 if_either true a b r e = inl (refl, e)
 if_either false a b r e = inr (refl, e)
 
 -- an `option_map` that gave a value
-pub mapped : {A B : Type 0} (f : A → B) (a : Option A) (r : B) → option_map f a ≡ Some r → (x : A) × (a ≡ Some x) × (f x ≡ r)
+pub mapped : {A B : Type 0} (f : A → B) (a : Option A) (r : B) → option_map f a ≡ Some r
+    → (x : A) × (a ≡ Some x) × (f x ≡ r)
 mapped f None r e = absurd (none-some r e)
 mapped f (Some x) r e = (x, refl, cc)
 
 -- a binding that succeeded: what agrees with the result agreed with all before, and with the new value
-pub bind-sound : (env s : Subst) (x : List ℕ) (w : Value) (after : Subst) → AllArranged env → IsArranged w → bind env x w ≡ Some after → Extends after s → Extends env s × ((v : Value) × (value_of s x ≡ Some v) × Refines w v)
+pub bind-sound : (env s : Subst) (x : List ℕ) (w : Value) (after : Subst) → AllArranged env → IsArranged w
+    → bind env x w ≡ Some after → Extends after s
+    → Extends env s × ((v : Value) × (value_of s x ≡ Some v) × Refines w v)
 bind-sound [] s x w after a b e h =
     let k = subst (λ r. Extends r s) (let i : after ≡ record { name = x; value = w } ∷ [] = cc in i) h in
     (tt, k.0)

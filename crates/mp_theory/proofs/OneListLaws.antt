@@ -25,7 +25,8 @@ use Rattle.mp_theory.specs.Frames.{settle, start}
 use Rattle.mp_theory.proofs.Merging.{same_terms-sound, same_terms-complete}
 use Rattle.mp_term.specs.Search.{In}
 use Rattle.mp_theory.specs.Machine.{takes, tables}
-use Rattle.mp_theory.specs.OneList.{Item, same_value, same_subst, admitted, one_list, item_tables, item_substs, item_list, AreItems}
+use Rattle.mp_theory.specs.OneList.{Item, same_value, same_subst, admitted, one_list, item_tables, item_substs}
+use Rattle.mp_theory.specs.OneList.{item_list, AreItems}
 use Rattle.mp_term.proofs.PiecesLaws.{same-sound, same-itself}
 use Rattle.mp_theory.proofs.Tables.{tables-exact, tables-ascending, shape-accounts, entry_cmp_total}
 use Rattle.mp_theory.proofs.Solving.{then_some}
@@ -52,7 +53,8 @@ same_value-sound (bag ts) (seq us) e = cc
 -- so is the test of substitutions
 pub same_subst-itself : (s : Subst) → same_subst s s ≡ true
 same_subst-itself [] = refl
-same_subst-itself (b ∷ s) = and_from _ _ (same_name-itself b.name) (and_from _ _ (same_value-itself b.value) (same_subst-itself s))
+same_subst-itself (b ∷ s) = and_from _ _ (same_name-itself b.name)
+    (and_from _ _ (same_value-itself b.value) (same_subst-itself s))
 
 pub same_subst-sound : (r s : Subst) → same_subst r s ≡ true → r ≡ s
 same_subst-sound [] [] e = refl
@@ -61,7 +63,9 @@ same_subst-sound (b ∷ r) [] e = cc
 same_subst-sound (b ∷ r) (c ∷ s) e =
     let h = and_parts (same_name b.name c.name) (same_value b.value c.value && same_subst r s) e in
     let k = and_parts (same_value b.value c.value) (same_subst r s) h.1 in
-    ap (λ m. record { name = m; value = b.value } ∷ r) (same_name-is b.name c.name h.0) ∙ ap (λ m. record { name = c.name; value = m } ∷ r) (same_value-sound b.value c.value k.0) ∙ ap (λ m. c ∷ m) (same_subst-sound r s k.1)
+    ap (λ m. record { name = m; value = b.value } ∷ r) (same_name-is b.name c.name h.0)
+    ∙ ap (λ m. record { name = c.name; value = m } ∷ r) (same_value-sound b.value c.value k.0)
+    ∙ ap (λ m. c ∷ m) (same_subst-sound r s k.1)
 
 module _ (sig : Sig) (r : Rule) (t : Tree) where
   -- s solves the takes of the table
@@ -71,8 +75,10 @@ module _ (sig : Sig) (r : Rule) (t : Tree) where
   -- a table gives s exactly where s solves its takes and meets the condition
   from_admitted : (T : Table) (s : Subst) → admitted sig r t T ≡ Some s → Solves T s × (meets sig r.condition s ≡ true)
   from_admitted T s e =
-      let a = then_some (λ u. if meets sig r.condition u then Some u else None) (solve sig [] (takes (settle (start r.pattern t)) T)) s e in
-      elim (meets sig r.condition a.0) as (λ b. meets sig r.condition a.0 ≡ b → (if b then Some a.0 else None) ≡ Some s → Solves T s × (meets sig r.condition s ≡ true)) [
+      let a = then_some (λ u. if meets sig r.condition u then Some u else None)
+      (solve sig [] (takes (settle (start r.pattern t)) T)) s e in
+      elim (meets sig r.condition a.0) as (λ b. meets sig r.condition a.0 ≡ b → (if b then Some a.0 else None) ≡ Some s
+      → Solves T s × (meets sig r.condition s ≡ true)) [
         | true ↦ λ m p. let q : a.0 ≡ s = cc in (a.1 ∙ ap Some q, subst (λ u. meets sig r.condition u ≡ true) q m)
         | false ↦ λ m p. cc
       ] refl a.2
@@ -82,19 +88,26 @@ module _ (sig : Sig) (r : Rule) (t : Tree) where
 
   module _ (normal : IsNormal sig t) where
     -- the first tables and what they give
-    abbrev Found : Added same_subst same_subst-itself same_subst-sound (admitted sig r t) table_cmp (lists_total entry_cmp_total) [] (tables sig r.pattern t)
-    Found = added same_subst same_subst-itself same_subst-sound (admitted sig r t) table_cmp (lists_total entry_cmp_total) [] (tables sig r.pattern t) (tables-ascending sig r.pattern t)
+    abbrev Found : Added same_subst same_subst-itself same_subst-sound (admitted sig r t) table_cmp
+        (lists_total entry_cmp_total) [] (tables sig r.pattern t)
+    Found = added same_subst same_subst-itself same_subst-sound (admitted sig r t) table_cmp
+        (lists_total entry_cmp_total) [] (tables sig r.pattern t) (tables-ascending sig r.pattern t)
 
     -- the table is the first that gives s
     abbrev First : Subst → Table → Type 0
-    First = IsFirst same_subst same_subst-itself same_subst-sound (admitted sig r t) table_cmp (lists_total entry_cmp_total) (tables sig r.pattern t)
+    First = IsFirst same_subst same_subst-itself same_subst-sound (admitted sig r t) table_cmp
+        (lists_total entry_cmp_total) (tables sig r.pattern t)
 
     -- a table gives s exactly where it fits with s
-    fits-admitted : (s : Subst) (T : Table) → Fits sig r.pattern t s T → meets sig r.condition s ≡ true → In T (tables sig r.pattern t) × (admitted sig r t T ≡ Some s)
-    fits-admitted s T h m = let k = fits-solves sig r.pattern t s T normal h in ((tables-exact sig r.pattern t T).1 k.0, to_admitted T s k.1 m)
+    fits-admitted : (s : Subst) (T : Table) → Fits sig r.pattern t s T → meets sig r.condition s ≡ true
+        → In T (tables sig r.pattern t) × (admitted sig r t T ≡ Some s)
+    fits-admitted s T h m = let k = fits-solves sig r.pattern t s T normal h in
+        ((tables-exact sig r.pattern t T).1 k.0, to_admitted T s k.1 m)
 
-    admitted-fits : (s : Subst) (T : Table) → In T (tables sig r.pattern t) → admitted sig r t T ≡ Some s → Fits sig r.pattern t s T × (meets sig r.condition s ≡ true)
-    admitted-fits s T i e = let k = from_admitted T s e in (solves-fits sig r.pattern t s T normal ((tables-exact sig r.pattern t T).0 i) k.0, k.1)
+    admitted-fits : (s : Subst) (T : Table) → In T (tables sig r.pattern t) → admitted sig r t T ≡ Some s
+        → Fits sig r.pattern t s T × (meets sig r.condition s ≡ true)
+    admitted-fits s T i e = let k = from_admitted T s e in
+        (solves-fits sig r.pattern t s T normal ((tables-exact sig r.pattern t T).0 i) k.0, k.1)
 
     -- so the first table that gives s is the least that fits with it
     first-least : (s : Subst) (T : Table) → First s T → IsLeast sig r.pattern t s T
@@ -115,12 +128,19 @@ module _ (sig : Sig) (r : Rule) (t : Tree) where
           let f = from_both First Found.items Found.firsts s Found.least (in-from_contains s Found.items c) in
           let k = admitted-fits s f.0 f.1.stands f.1.gives in
           record { table = f.0; fits = k.0; condition = k.1 },
-      λ a. let k = fits-admitted s a.table a.fits a.condition in contains-from_in s Found.items (Found.complete a.table s k.0 k.1),
+      λ a. let k = fits-admitted s a.table a.fits a.condition in
+          contains-from_in s Found.items (Found.complete a.table s k.0 k.1),
     )
 
     -- the list of the search is the one-list
     pub one_list-is : IsOneList sig r t (one_list sig r t)
-    one_list-is = subst (IsOneList sig r t) (sym Found.is) (record { exactly = found-exactly; tables = Found.firsts; least = are-least Found.items Found.firsts Found.least; ascending = Found.ascending })
+    one_list-is = subst (IsOneList sig r t) (sym Found.is)
+        (record {
+          exactly = found-exactly;
+          tables = Found.firsts;
+          least = are-least Found.items Found.firsts Found.least;
+          ascending = Found.ascending;
+        })
 
     -- of lists with a fact for each place, the pairs give back both
     firsts-zip : (ss : List Subst) (Ts : List Table) → Both First ss Ts → item_tables (zip Ts ss) ≡ Ts
@@ -141,7 +161,8 @@ module _ (sig : Sig) (r : Rule) (t : Tree) where
 
     -- the substitutions of the items are the one-list
     pub item_substs-item_list : item_substs (item_list sig r t) ≡ one_list sig r t
-    item_substs-item_list = ap item_substs item_list-zip ∙ seconds-zip Found.items Found.firsts Found.least ∙ sym Found.is
+    item_substs-item_list = ap item_substs item_list-zip ∙ seconds-zip Found.items Found.firsts Found.least
+        ∙ sym Found.is
 
     -- so the items are exactly those of the rule
     pub item_list-are : AreItems sig r t (item_list sig r t)
@@ -150,16 +171,20 @@ module _ (sig : Sig) (r : Rule) (t : Tree) where
         let ss = seconds-zip Found.items Found.firsts Found.least in
         subst (AreItems sig r t) (sym item_list-zip) (record {
           exactly = λ s. subst (λ us. Contains us s ↔ Admits sig r t s) (sym ss) (found-exactly s);
-          least = subst (λ us. AreLeast sig r.pattern t us (item_tables (zip Found.firsts Found.items))) (sym ss) (subst (AreLeast sig r.pattern t Found.items) (sym ts) (are-least Found.items Found.firsts Found.least));
+          least = subst (λ us. AreLeast sig r.pattern t us (item_tables (zip Found.firsts Found.items))) (sym ss)
+              (subst (AreLeast sig r.pattern t Found.items) (sym ts) (are-least Found.items Found.firsts Found.least));
           ascending = subst (IsStrictlySortedBy table_cmp) (sym ts) Found.ascending;
         })
 
 -- a table that fits has an entry for each node, and its substitution a value for each variable
-fits-shape : (sig : Sig) (p : Pattern) (t : Tree) (s : Subst) (T : Table) → IsNormal sig t → Fits sig p t s T → (length T ≡ pattern_nodes p) × (map (λ b. b.name) s ≡ variables p)
+fits-shape : (sig : Sig) (p : Pattern) (t : Tree) (s : Subst) (T : Table) → IsNormal sig t → Fits sig p t s T
+    → (length T ≡ pattern_nodes p) × (map (λ b. b.name) s ≡ variables p)
 fits-shape sig p t s T normal h = ((shape-accounts sig p t T (fits-solves sig p t s T normal h).0).0, h.subst_of.names)
 
 -- so has each item
-pub items-shape : (sig : Sig) (r : Rule) (t : Tree) (is : List Item) → IsNormal sig t → AreLeast sig r.pattern t (item_substs is) (item_tables is)
+pub items-shape : (sig : Sig) (r : Rule) (t : Tree) (is : List Item) → IsNormal sig t
+    → AreLeast sig r.pattern t (item_substs is) (item_tables is)
     → AllByRecursion (λ i. (length i.0 ≡ pattern_nodes r.pattern) × (map (λ b. b.name) i.1 ≡ variables r.pattern)) is
 items-shape sig r t [] normal h = tt
-items-shape sig r t (i ∷ is) normal h = (fits-shape sig r.pattern t i.1 i.0 normal h.0.fits, items-shape sig r t is normal h.1)
+items-shape sig r t (i ∷ is) normal h =
+    (fits-shape sig r.pattern t i.1 i.0 normal h.0.fits, items-shape sig r t is normal h.1)

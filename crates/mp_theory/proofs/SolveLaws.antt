@@ -34,33 +34,43 @@ module _ (sig : Sig) where
       record { after = i.after; is = rw (k.0.is, b.is) i.is; extends = i.extends }
 
   -- the term that contributes a list is found from the list
-  several : (g : ℕ) (us : Trees) (l : List Tree) → is_assoc sig g ≡ true → if_several (tree_list us) ≡ Some l → contributor sig (Some g) l ≡ Some (one (app g us))
+  several : (g : ℕ) (us : Trees) (l : List Tree) → is_assoc sig g ≡ true → if_several (tree_list us) ≡ Some l
+      → contributor sig (Some g) l ≡ Some (one (app g us))
   several g no_trees l a e = cc
   several g (more_trees t no_trees) l a e = cc
   several g (more_trees t (more_trees u us)) l a e =
       let q : t ∷ u ∷ tree_list us ≡ l = cc in
-      subst (λ m. contributor sig (Some g) m ≡ Some (one (app g (more_trees t (more_trees u us))))) q (rw (a, trees-tree_list us) refl)
+      subst (λ m. contributor sig (Some g) m ≡ Some (one (app g (more_trees t (more_trees u us))))) q
+      (rw (a, trees-tree_list us) refl)
 
-  single : (f : Option ℕ) (v : Tree) (l : List Tree) → is_alone sig f v ≡ true → Some (v ∷ []) ≡ Some l → contributor sig f l ≡ Some (one v)
+  single : (f : Option ℕ) (v : Tree) (l : List Tree) → is_alone sig f v ≡ true → Some (v ∷ []) ≡ Some l
+      → contributor sig f l ≡ Some (one v)
   single f v l a e = let q : v ∷ [] ≡ l = cc in subst (λ m. contributor sig f m ≡ Some (one v)) q (rw a refl)
 
-  spread_found : (g : ℕ) (v : Tree) (l : List Tree) → is_assoc sig g ≡ true → spread g v ≡ Some l → contributor sig (Some g) l ≡ Some (one v)
+  spread_found : (g : ℕ) (v : Tree) (l : List Tree) → is_assoc sig g ≡ true → spread g v ≡ Some l
+      → contributor sig (Some g) l ≡ Some (one v)
   spread_found g (symbol n) l a e = single (Some g) (symbol n) l (rw a refl) e
   spread_found g (app h us) l a e =
-      elim (nat_eq g h) as (λ b. nat_eq g h ≡ b → (if b then if_several (tree_list us) else Some (app h us ∷ [])) ≡ Some l → contributor sig (Some g) l ≡ Some (one (app h us))) [
+      elim (nat_eq g h) as (λ b. nat_eq g h ≡ b
+      → (if b then if_several (tree_list us) else Some (app h us ∷ [])) ≡ Some l
+      → contributor sig (Some g) l ≡ Some (one (app h us))) [
         | true ↦ λ q p. several g us l a p ∙ ap (λ k. Some (one (app k us))) (eqb-true g h q)
         | false ↦ λ q p. single (Some g) (app h us) l (rw (a, q) refl) p
       ] refl e
 
   -- the term that contributes a list is found from the list
-  pub contribution-found : (f : Option ℕ) (v : Tree) (l : List Tree) → contribution sig f v ≡ Some l → contributor sig f l ≡ Some (one v)
+  pub contribution-found : (f : Option ℕ) (v : Tree) (l : List Tree) → contribution sig f v ≡ Some l
+      → contributor sig f l ≡ Some (one v)
   contribution-found None v l e = single None v l refl e
   contribution-found (Some g) v l e =
-      elim (is_assoc sig g) as (λ b. is_assoc sig g ≡ b → (if b then spread g v else Some (v ∷ [])) ≡ Some l → contributor sig (Some g) l ≡ Some (one v)) [
+      elim (is_assoc sig g) as (λ b. is_assoc sig g ≡ b → (if b then spread g v else Some (v ∷ [])) ≡ Some l
+      → contributor sig (Some g) l ≡ Some (one v)) [
         | true ↦ λ q p. spread_found g v l q p
         | false ↦ λ q p. single (Some g) v l (rw q refl) p
       ] refl e
 
   -- so a list is contributed by one term at most
-  pub contribution-injective : (f : Option ℕ) (v w : Tree) (l : List Tree) → contribution sig f v ≡ Some l → contribution sig f w ≡ Some l → v ≡ w
-  contribution-injective f v w l p q = let e : Some (one v) ≡ Some (one w) = sym (contribution-found f v l p) ∙ contribution-found f w l q in cc
+  pub contribution-injective : (f : Option ℕ) (v w : Tree) (l : List Tree) → contribution sig f v ≡ Some l
+      → contribution sig f w ≡ Some l → v ≡ w
+  contribution-injective f v w l p q = let e : Some (one v) ≡ Some (one w) = sym (contribution-found f v l p)
+      ∙ contribution-found f w l q in cc

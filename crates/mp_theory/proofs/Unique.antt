@@ -38,7 +38,8 @@ same_table : (T U : Table) → table_cmp T U ≡ Equal → T ≡ U
 same_table [] [] h = refl
 same_table [] (e ∷ U) h = cc
 same_table (d ∷ T) [] h = cc
-same_table (d ∷ T) (e ∷ U) h = let k = both_equal _ _ h in ap (λ x. x ∷ T) (same_entry d e k.0) ∙ ap (λ x. e ∷ x) (same_table T U k.1)
+same_table (d ∷ T) (e ∷ U) h = let k = both_equal _ _ h in ap (λ x. x ∷ T) (same_entry d e k.0)
+    ∙ ap (λ x. e ∷ x) (same_table T U k.1)
 
 module _ (sig : Sig) (t : Tree) where
   -- a substitution has one least table
@@ -51,13 +52,15 @@ module _ (sig : Sig) (t : Tree) where
       ] refl
 
   -- the table of a substitution, and the substitution of a table
-  table_for : (p : Pattern) (ss : List Subst) (Ts : List Table) (s : Subst) → AreLeast sig p t ss Ts → In s ss → (T : Table) × In T Ts × IsLeast sig p t s T
+  table_for : (p : Pattern) (ss : List Subst) (Ts : List Table) (s : Subst) → AreLeast sig p t ss Ts → In s ss
+      → (T : Table) × In T Ts × IsLeast sig p t s T
   table_for p [] Ts s h i = absurd i
   table_for p (u ∷ ss) [] s h i = absurd h
   table_for p (u ∷ ss) (T ∷ Ts) s h (inl e) = (T, inl refl, subst (λ r. IsLeast sig p t r T) (sym e) h.0)
   table_for p (u ∷ ss) (T ∷ Ts) s h (inr i) = let k = table_for p ss Ts s h.1 i in (k.0, inr k.1, k.2)
 
-  subst_for : (p : Pattern) (ss : List Subst) (Ts : List Table) (T : Table) → AreLeast sig p t ss Ts → In T Ts → (s : Subst) × In s ss × IsLeast sig p t s T
+  subst_for : (p : Pattern) (ss : List Subst) (Ts : List Table) (T : Table) → AreLeast sig p t ss Ts → In T Ts
+      → (s : Subst) × In s ss × IsLeast sig p t s T
   subst_for p ss [] T h i = absurd i
   subst_for p [] (U ∷ Ts) T h i = absurd h
   subst_for p (s ∷ ss) (U ∷ Ts) T h (inl e) = (s, inl refl, subst (λ V. IsLeast sig p t s V) (sym e) h.0)
@@ -65,14 +68,17 @@ module _ (sig : Sig) (t : Tree) where
 
   module _ (r : Rule) (normal : IsNormal sig t) where
     -- the least tables of two one-lists are the same
-    table_moves : (ss us : List Subst) (h : IsOneList sig r t ss) (k : IsOneList sig r t us) (T : Table) → In T h.tables → In T k.tables
+    table_moves : (ss us : List Subst) (h : IsOneList sig r t ss) (k : IsOneList sig r t us) (T : Table) → In T h.tables
+        → In T k.tables
     table_moves ss us h k T i =
         let a = subst_for r.pattern ss h.tables T h.least i in
-        let b = table_for r.pattern us k.tables a.0 k.least (in-from_contains a.0 us ((k.exactly a.0).1 ((h.exactly a.0).0 (contains-from_in a.0 ss a.1)))) in
+        let b = table_for r.pattern us k.tables a.0 k.least
+        (in-from_contains a.0 us ((k.exactly a.0).1 ((h.exactly a.0).0 (contains-from_in a.0 ss a.1)))) in
         subst (λ V. In V k.tables) (one_least r.pattern a.0 b.0 T b.2 a.2) b.1
 
     -- and each decides its substitution
-    decided : (ss us : List Subst) (Ts : List Table) → AreLeast sig r.pattern t ss Ts → AreLeast sig r.pattern t us Ts → ss ≡ us
+    decided : (ss us : List Subst) (Ts : List Table) → AreLeast sig r.pattern t ss Ts → AreLeast sig r.pattern t us Ts
+        → ss ≡ us
     decided [] [] [] h k = refl
     decided [] [] (T ∷ Ts) h k = absurd h
     decided [] (u ∷ us) [] h k = absurd k
@@ -89,5 +95,7 @@ module _ (sig : Sig) (t : Tree) where
     -- so the lists are one
     pub IsOneList-unique : (ss us : List Subst) → IsOneList sig r t ss → IsOneList sig r t us → ss ≡ us
     IsOneList-unique ss us h k =
-        let e : h.tables ≡ k.tables = same_members table_cmp (lists_total entry_cmp_total) h.tables k.tables h.ascending k.ascending (table_moves ss us h k) (table_moves us ss k h) in
+        let e : h.tables ≡ k.tables = same_members table_cmp
+        (lists_total entry_cmp_total) h.tables k.tables h.ascending k.ascending (table_moves ss us h k)
+        (table_moves us ss k h) in
         decided ss us k.tables (subst (AreLeast sig r.pattern t ss) e h.least) k.least

@@ -1,30 +1,19 @@
 -- How many terms a node may take.
-use Rattle.std.specs.Prelude.{List, [], ◌∷◌, ℕ, ◌+◌, nat_lt, Bool, true, false, not, Option, Some, None}
+use Rattle.std.specs.Prelude.{List, [], ◌∷◌, ℕ, Bool, false, Option, Some, None}
 use Rattle.mp_term.specs.Tree.{Tree, symbol, app, trees}
 use Rattle.mp_term.specs.Signature.{Sig, is_assoc}
-use Rattle.mp_pattern.specs.PatternTree as plain
-use Rattle.mp_pattern.specs.PatternTree.{Pattern, symbol_pattern, app_pattern, wild_pattern, Patterns, no_patterns, more_patterns}
+use Rattle.mp_pattern.specs.PatternTree.{Pattern, symbol_pattern, app_pattern, wild_pattern, Patterns, no_patterns}
+use Rattle.mp_pattern.specs.PatternTree.{more_patterns, pattern_list}
+use Rattle.mp_pattern.specs.SoundRule.{pattern_least, pattern_most, fewest, greatest}
 use Rattle.mp_pattern.specs.Fits.{arranged}
 
 -- the least number of terms that a node takes
 abbrev pub least : Pattern → ℕ
-least (wild_pattern w x) = plain.least w
-least p = 1
+least = pattern_least
 
 -- the least number of terms that the children take together
 abbrev pub all_least : Patterns → ℕ
-all_least no_patterns = 0
-all_least (more_patterns p ps) = least p + all_least ps
-
--- the sum of two bounds, if both are there
-abbrev pub sum_of : Option ℕ → Option ℕ → Option ℕ
-sum_of (Some m) (Some n) = Some (m + n)
-sum_of _ _ = None
-
--- n is within the bound, if there is one
-abbrev pub is_at_most : ℕ → Option ℕ → Bool
-is_at_most n None = true
-is_at_most n (Some m) = not (nat_lt m n)
+all_least ps = fewest (pattern_list ps)
 
 module _ (sig : Sig) where
   -- the operation above is associative; at the root there is none
@@ -34,13 +23,11 @@ module _ (sig : Sig) where
 
   -- the greatest number of terms that a node under f takes, if there is a bound
   abbrev pub most : Option ℕ → Pattern → Option ℕ
-  most f (wild_pattern w x) = plain.most (assoc_above f) w
-  most f p = Some 1
+  most f = pattern_most (assoc_above f)
 
   -- the greatest number of terms that the children take together
   abbrev pub all_most : Option ℕ → Patterns → Option ℕ
-  all_most f no_patterns = Some 0
-  all_most f (more_patterns p ps) = sum_of (most f p) (all_most f ps)
+  all_most f ps = greatest (assoc_above f) (pattern_list ps)
 
 abbrev mutual
   -- the term that a pattern without wildcards stands for

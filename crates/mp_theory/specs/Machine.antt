@@ -1,5 +1,6 @@
 -- The search for take tables: the entries that may stand next, and where each leads.
-use Rattle.std.specs.Prelude.{ℕ, Bool, true, false, ◌&&◌, not, List, [], ◌∷◌, ◌++◌, filter, flat_map, Option, Some, is_some, if◌then◌else◌}
+use Rattle.std.specs.Prelude.{ℕ, Bool, true, false, ◌&&◌, not, List, [], ◌∷◌, ◌++◌, filter, flat_map, Option, Some}
+use Rattle.std.specs.Prelude.{is_some, if◌then◌else◌}
 use Rattle.mp_term.specs.Order.{tree_cmp}
 use Rattle.mp_term.specs.Tree.{Tree, symbol, app, tree_list}
 use Rattle.mp_term.specs.NormalTest.{has_head, is_single, passes}
@@ -35,12 +36,23 @@ is_ended _ = false
 
 -- the frame of an application's children on top of the others
 abbrev pub entered : Pattern → Entry → List Frame → List Frame
-entered (app_pattern g ps) e fs = record { under = Some g; children = ps; left = if e.collapsed then e.terms else arguments e.terms; owes = e.collapsed } ∷ fs
+entered (app_pattern g ps) e fs =
+    record {
+      under = Some g;
+      children = ps;
+      left = if e.collapsed then e.terms else arguments e.terms;
+      owes = e.collapsed;
+    } ∷ fs
 entered _ e fs = fs
 
 -- what is left once the node has taken the entry's list
 abbrev pub taken_out : Pattern → Entry → Frame → Frame
-taken_out p e f = record { under = f.under; children = f.children; left = without tree_cmp e.terms f.left; owes = f.owes && not (is_left_out p e.terms) }
+taken_out p e f = record {
+  under = f.under;
+  children = f.children;
+  left = without tree_cmp e.terms f.left;
+  owes = f.owes && not (is_left_out p e.terms);
+}
 
 -- the place after the entry
 abbrev pub onward : Next → Entry → Next
@@ -49,7 +61,8 @@ onward _ e = refused
 
 -- what the entry says of a variable
 abbrev pub said : Next → Entry → List Taken
-said (child (wild_pattern w (Some x)) f fs) e = record { by = record { name = x; wildcard = w; under = f.under }; terms = e.terms } ∷ []
+said (child (wild_pattern w (Some x)) f fs) e =
+    record { by = record { name = x; wildcard = w; under = f.under }; terms = e.terms } ∷ []
 said _ e = []
 
 -- the takes of the variables in the table, read from the place on
@@ -67,14 +80,16 @@ module _ (sig : Sig) where
   abbrev pub reads : Pattern → Option ℕ → Entry → Bool
   reads (symbol_pattern n) f e = not e.collapsed && same_terms e.terms (symbol n ∷ [])
   reads (wild_pattern w x) f e = not e.collapsed && (is_some (given sig f w e.terms) && default_passes x w e.terms)
-  reads (app_pattern g ps) f e = if e.collapsed then is_single e.terms && (is_one sig g && no_sequence ps) else is_headed g e.terms
+  reads (app_pattern g ps) f e = if e.collapsed then is_single e.terms
+      && (is_one sig g && no_sequence ps) else is_headed g e.terms
 
   -- the entries that may stand next, ascending: of each piece of what is left, those that the node may have
   abbrev pub choices : Next → List Entry
   choices (child p f fs) = filter (reads p f.under) (entries (pieces tree_cmp (comm_above sig f.under) f.left))
   choices _ = []
 
-  -- the table has the shape of the pattern on the subject: each entry may stand where it stands, and nothing is missing at its end
+  -- the table has the shape of the pattern on the subject: each entry may stand where it stands, and nothing is missing
+  -- at its end
   abbrev pub HasShape : Pattern → Tree → Table → Type 0
   HasShape p t T = Accepts choices onward is_ended (settle (start p t)) T
 

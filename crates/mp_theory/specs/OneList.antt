@@ -1,5 +1,6 @@
 -- The one-list, as the search finds it.
-use Rattle.std.specs.Prelude.{Bool, true, false, ◌&&◌, ◌↔◌, List, [], ◌∷◌, map, Contains, Option, Some, None, filter_map, option_map, option_and_then, if◌then◌else◌}
+use Rattle.std.specs.Prelude.{Bool, true, false, ◌&&◌, ◌↔◌, List, [], ◌∷◌, map, Contains, Option, Some, None}
+use Rattle.std.specs.Prelude.{filter_map, option_map, option_and_then, if◌then◌else◌}
 use Rattle.std.specs.List.Sorted.{IsStrictlySortedBy}
 use Rattle.mp_term.specs.Order.{tree_cmp}
 use Rattle.mp_term.specs.Tree.{Tree}
@@ -45,7 +46,8 @@ item_substs is = map (λ i. i.1) is
 module _ (sig : Sig) (r : Rule) (t : Tree) where
   -- the substitution that solves the table's takes, where the condition holds of it
   abbrev pub admitted : Table → Option Subst
-  admitted T = option_and_then (λ s. if meets sig r.condition s then Some s else None) (solve sig [] (takes (settle (start r.pattern t)) T))
+  admitted T = option_and_then (λ s. if meets sig r.condition s then Some s else None)
+      (solve sig [] (takes (settle (start r.pattern t)) T))
 
   -- of the tables in order, each substitution once
   abbrev pub one_list : List Subst
@@ -59,7 +61,8 @@ module _ (sig : Sig) (r : Rule) (t : Tree) where
   abbrev pub item_list : List Item
   item_list = firsts_after same_item [] (filter_map admitted_item (tables sig r.pattern t))
 
-  -- the items have exactly the substitutions that the rule admits, each with its least table, and ascend strictly by these
+  -- the items have exactly the substitutions that the rule admits, each with its least table, and ascend strictly by
+  -- these
   pub record AreItems (is : List Item) : Type 0 where
     pub exactly : (s : Subst) → Contains (item_substs is) s ↔ Admits sig r t s
     pub least : AreLeast sig r.pattern t (item_substs is) (item_tables is)

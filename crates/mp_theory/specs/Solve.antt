@@ -1,5 +1,7 @@
--- The substitution that a list of takes gives: each use of a variable gives a value, and the values of one variable are merged in turn.
-use Rattle.std.specs.Prelude.{ℕ, Bool, true, not, ◌&&◌, List, [], ◌∷◌, Option, Some, None, if◌then◌else◌, option_map, option_and_then}
+-- The substitution that a list of takes gives: each use of a variable gives a value, and the values of one variable are
+-- merged in turn.
+use Rattle.std.specs.Prelude.{ℕ, Bool, true, not, ◌&&◌, List, [], ◌∷◌, Option, Some, None, if◌then◌else◌, option_map}
+use Rattle.std.specs.Prelude.{option_and_then}
 use Rattle.mp_term.specs.Tree.{Tree, app, trees}
 use Rattle.mp_term.specs.NormalTest.{has_head}
 use Rattle.mp_term.specs.Signature.{Sig, in_kind, is_assoc}
@@ -16,7 +18,8 @@ pub record Taken : Type 0 where
 abbrev pub bind : Subst → List ℕ → Value → Option Subst
 bind [] x w = Some (record { name = x; value = w } ∷ [])
 bind (b ∷ s) x w =
-    if same_name b.name x then option_map (λ u. record { name = b.name; value = u } ∷ s) (merge b.value w) else option_map (λ r. b ∷ r) (bind s x w)
+    if same_name b.name x then option_map (λ u. record { name = b.name; value = u } ∷ s)
+    (merge b.value w) else option_map (λ r. b ∷ r) (bind s x w)
 
 module _ (sig : Sig) where
   -- under f the term alone is a contribution: it isn't headed by f, where f is associative
@@ -53,4 +56,5 @@ module _ (sig : Sig) where
   -- the takes in turn over a substitution: each gives a value, which is bound
   abbrev pub solve : Subst → List Taken → Option Subst
   solve s [] = Some s
-  solve s (t ∷ ts) = option_and_then (λ w. option_and_then (λ r. solve r ts) (bind s t.by.name w)) (given t.by.under t.by.wildcard t.terms)
+  solve s (t ∷ ts) = option_and_then (λ w. option_and_then (λ r. solve r ts) (bind s t.by.name w))
+      (given t.by.under t.by.wildcard t.terms)

@@ -1,5 +1,6 @@
 -- The search that binds as it goes: the trail is the substitution so far.
-use Rattle.std.specs.Prelude.{◌≡◌, ℕ, zero, suc, Bool, false, ◌&&◌, List, [], ◌∷◌, ◌++◌, flat_map, Option, Some, None, if◌then◌else◌}
+use Rattle.std.specs.Prelude.{◌≡◌, ℕ, zero, suc, Bool, false, ◌&&◌, List, [], ◌∷◌, ◌++◌, flat_map, Option, Some, None}
+use Rattle.std.specs.Prelude.{if◌then◌else◌}
 use Rattle.mp_term.specs.Order.{tree_cmp}
 use Rattle.mp_term.specs.Tree.{Tree}
 use Rattle.mp_term.specs.Signature.{Sig}
@@ -22,12 +23,15 @@ module _ (sig : Sig) where
   -- the substitutions that solve what k entries from a place on say, over the trail, table by table
   abbrev pub solutions : ℕ → Next → Subst → List Subst
   solutions zero n s = if is_ended n then s ∷ [] else []
-  solutions (suc k) n s = flat_map (λ e. listed_by (λ r. solutions k (onward n e) r) (solve sig s (said n e))) (choices sig n)
+  solutions (suc k) n s = flat_map (λ e. listed_by (λ r. solutions k (onward n e) r) (solve sig s (said n e)))
+      (choices sig n)
 
   -- the same with the tables: the table so far and the entries that lead to a solution, with that
   abbrev pub derivations : ℕ → Next → Table → Subst → List Item
   derivations zero n T s = if is_ended n then (T, s) ∷ [] else []
-  derivations (suc k) n T s = flat_map (λ e. listed_by (λ r. derivations k (onward n e) (T ++ e ∷ []) r) (solve sig s (said n e))) (choices sig n)
+  derivations (suc k) n T s =
+      flat_map (λ e. listed_by (λ r. derivations k (onward n e) (T ++ e ∷ []) r) (solve sig s (said n e)))
+      (choices sig n)
 
   -- those that go on with the entry
   abbrev pub derivations_by : ℕ → Next → Table → Subst → Entry → List Item

@@ -1,5 +1,6 @@
 -- The choices that leave the later children what they can take.
-use Rattle.std.specs.Prelude.{ℕ, ◌+◌, ◌-◌, min, max, nat_lt, Bool, ◌&&◌, not, List, [], length, filter, Option, Some, None}
+use Rattle.std.specs.Prelude.{ℕ, ◌+◌, ◌-◌, min, max, nat_lt, Bool, ◌&&◌, not, List, [], length, filter, Option, Some}
+use Rattle.std.specs.Prelude.{None}
 use Rattle.std.specs.List.{range_with_len}
 use Rattle.mp_term.specs.Order.{tree_cmp}
 use Rattle.mp_term.specs.Signature.{Sig}
@@ -8,12 +9,13 @@ use Rattle.mp_pattern.specs.Fits.{Entry}
 use Rattle.mp_theory.specs.Frames.{Frame, Next, child}
 use Rattle.mp_term.specs.Pieces.{without}
 use Rattle.mp_theory.specs.Machine.{choices}
-use Rattle.mp_theory.specs.Bounds.{least, most, all_least, all_most, is_at_most}
+use Rattle.mp_theory.specs.Bounds.{least, most, all_least, all_most}
+use Rattle.mp_pattern.specs.SoundRule.{reaches}
 
 module _ (sig : Sig) where
   -- n terms are enough for the children, and not too many
   abbrev pub is_within : Option ℕ → Patterns → ℕ → Bool
-  is_within f ps n = not (nat_lt n (all_least ps)) && is_at_most n (all_most sig f ps)
+  is_within f ps n = not (nat_lt n (all_least ps)) && reaches n (all_most sig f ps)
 
   -- so it is with what the entry leaves to the later children
   abbrev pub leaves_within : Frame → Entry → Bool
@@ -30,7 +32,8 @@ module _ (sig : Sig) where
 
   -- the first number that is too great
   abbrev pub length_limit : Option ℕ → Pattern → Patterns → ℕ → ℕ
-  length_limit f p ps n = elim (most sig f p) [ None ↦ n + 1 - all_least ps | Some m ↦ min (n + 1 - all_least ps) (m + 1) ]
+  length_limit f p ps n = elim (most sig f p)
+      [ None ↦ n + 1 - all_least ps | Some m ↦ min (n + 1 - all_least ps) (m + 1) ]
 
   -- the numbers of terms that the child may take
   abbrev pub lengths : Option ℕ → Pattern → Patterns → ℕ → List ℕ

@@ -31,8 +31,8 @@ pub fn one_list_is_the_one_list()
 {}
 
 /// The items that the search finds are those of the rule: for a normal subject,
-/// `item_list` of `specs/OneList.antt` has exactly the substitutions that the rule admits, each with its least take table,
-/// strictly ascending by these. Its substitutions are `one_list`.
+/// `item_list` of `specs/OneList.antt` has exactly the substitutions that the rule admits, each with its least take
+/// table, strictly ascending by these. Its substitutions are `one_list`.
 pub fn the_item_list_is_the_one_list()
     ensures items { (sig : Sig) (r : Rule) (t : Tree) → IsNormal sig t →
         AreItems sig r t (item_list sig r t) }
@@ -40,14 +40,16 @@ pub fn the_item_list_is_the_one_list()
         item_substs (item_list sig r t) ≡ one_list sig r t }
 {}
 
-/// Each item of a rule on a normal subject has an entry for each node of the pattern, and a value for each of its variables, in
-/// order of first occurrence.
+/// Each item of a rule on a normal subject has an entry for each node of the pattern, and a value for each of its
+/// variables, in order of first occurrence.
 pub fn items_have_the_shape_of_the_pattern()
     ensures { (sig : Sig) (r : Rule) (t : Tree) (is : List Item) → IsNormal sig t → AreItems sig r t is →
-        AllByRecursion (λ i. (length i.0 ≡ pattern_nodes r.pattern) × (map (λ b. b.name) i.1 ≡ variables r.pattern)) is }
+        AllByRecursion (λ i. (length i.0 ≡ pattern_nodes r.pattern) × (map (λ b. b.name) i.1 ≡ variables r.pattern))
+        is }
 {}
 
-/// A rule has one one-list on a normal subject: two lists that meet `IsOneList` of mp_pattern's `specs/Lists.antt` are equal.
+/// A rule has one one-list on a normal subject: two lists that meet `IsOneList` of mp_pattern's `specs/Lists.antt` are
+/// equal.
 pub fn one_list_is_unique()
     ensures { (sig : Sig) (r : Rule) (t : Tree) (ss us : List Subst) → IsNormal sig t →
         IsOneList sig r t ss → IsOneList sig r t us → ss ≡ us }
@@ -60,8 +62,8 @@ pub fn all_list_is_unique()
 {}
 
 /// Only finitely many take tables fit a pattern and a normal subject: each of them is in the list `tables` of
-/// `specs/Machine.antt`, which holds exactly the tables that have the pattern's shape on the subject, strictly ascending in
-/// the derivation order.
+/// `specs/Machine.antt`, which holds exactly the tables that have the pattern's shape on the subject, strictly
+/// ascending in the derivation order.
 pub fn tables_are_exact()
     ensures complete { (sig : Sig) (p : Pattern) (t : Tree) (s : Subst) (T : Table) → IsNormal sig t →
         Fits sig p t s T → In T (tables sig p t) }
@@ -75,7 +77,7 @@ pub fn tables_are_exact()
 pub fn a_table_decides_its_substitution()
     ensures unique { (sig : Sig) (p : Pattern) (t : Tree) (T : Table) (r s : Subst) → IsNormal sig t →
         Fits sig p t r T → Fits sig p t s T → r ≡ s }
-    ensures found { (sig : Sig) (p : Pattern) (t : Tree) (s : Subst) (T : Table) → 
+    ensures found { (sig : Sig) (p : Pattern) (t : Tree) (s : Subst) (T : Table) →
         IsNormal sig t → Fits sig p t s T ↔ (fitted sig p t T ≡ Some s) }
 {}
 
@@ -86,15 +88,16 @@ pub fn a_substitution_decides_its_table()
         Fits sig p t s T → Fits sig p t s U → T ≡ U }
 {}
 
-/// The values of a substitution that fits are no larger than the subject and the defaults: where each default of the pattern has at
-/// most 64 nodes, each value has at most 64 nodes, or one node more than the subject.
+/// The values of a substitution that fits are no larger than the subject and the defaults: where each default of the
+/// pattern has at most 64 nodes, each value has at most 64 nodes, or one node more than the subject.
 pub fn a_substitution_is_within_its_subject()
     ensures { (sig : Sig) (p : Pattern) (t : Tree) (s : Subst) (T : Table) → DefaultsAreSmall p →
         Fits sig p t s T → HaveAtMost (max 64 (node_count t + 1)) s }
 {}
 
 /// Where each wildcard of the pattern has a name and none is optional, a substitution that fits makes the subject: the
-/// normal form of the pattern's instance, by `IsPatternApplied` of mp_pattern's `specs/Instance.antt`, is the normal subject.
+/// normal form of the pattern's instance, by `IsPatternApplied` of mp_pattern's `specs/Instance.antt`, is the normal
+/// subject.
 pub fn an_instance_is_the_subject()
     ensures { (sig : Sig) (p : Pattern) (t : Tree) (s : Subst) (T : Table) →
         is_fully_named p ≡ true → HasNoOptional p → IsNormal sig t →

@@ -19,11 +19,22 @@ pub overflow_sub-room : goal.overflow_sub-room
 overflow_sub-room c = bag_at c.args.counts.now c.args.bag.now (c.loop-i.i - 1) c.requires.within
 
 pub overflow_add-size : goal.overflow_add-size
-overflow_add-size c = omega (arith, bag_bounds c.args.counts.now c.args.bag.now c.loop-i.i (c.loop-i.i - 1) c.loop-i.size c.loop-i.room (omega arith) (omega arith) c.requires.within c.loop-i.invariant)
+overflow_add-size c =
+    omega (
+      arith,
+      bag_bounds c.args.counts.now c.args.bag.now c.loop-i.i (c.loop-i.i - 1) c.loop-i.size c.loop-i.room
+          (omega arith) (omega arith) c.requires.within c.loop-i.invariant,
+    )
 
 pub overflow_add-room : goal.overflow_add-room
-overflow_add-room c = omega (arith, bag_bounds c.args.counts.now c.args.bag.now c.loop-i.i (c.loop-i.i - 1) c.loop-i.size c.loop-i.room (omega arith) (omega arith) c.requires.within c.loop-i.invariant)
+overflow_add-room c =
+    omega (
+      arith,
+      bag_bounds c.args.counts.now c.args.bag.now c.loop-i.i (c.loop-i.i - 1) c.loop-i.size c.loop-i.room
+          (omega arith) (omega arith) c.requires.within c.loop-i.invariant,
+    )
 
 pub loop-i-preserved : goal.loop-i-preserved
-loop-i-preserved c = stuck-more c.args.counts.now c.args.bag.now c.loop-i.i (c.loop-i.i - 1) c.loop-i.size c.loop-i.room (omega arith) (omega arith) c.requires.within c.loop-i.invariant
+loop-i-preserved c = stuck-more c.args.counts.now c.args.bag.now c.loop-i.i (c.loop-i.i - 1) c.loop-i.size c.loop-i.room
+    (omega arith) (omega arith) c.requires.within c.loop-i.invariant
     (λ some. elim c.else-bag-i-gt0.either [ inl w ↦ omega arith | inr w ↦ omega arith ])

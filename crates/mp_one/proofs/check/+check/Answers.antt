@@ -23,9 +23,12 @@ goes_on-returns-in_ok-entry-in-Child t c =
     ap (λ e. e ∷ map table_entry later) c.in_ok-entry-in-Child.ensures
     ∙ ap (λ ds. map table_entry (c.entry-item.result ∷ ds)) whole
     ∙ ap (map table_entry) (sym (drop-item es 0 c.entry-item.result c.in-len1-up.len_at_least c.entry-item.is)) in
-    subst (at (settle (stack_frames c.args.stack.now))) table (subst (λ n. at n (entry_of c.in_ok-entry-in-Child.entry ∷ map table_entry later)) (sym c.in-Child.ensures) c.goes_on_with.ensures)
+    subst (at (settle (stack_frames c.args.stack.now))) table
+    (subst (λ n. at n (entry_of c.in_ok-entry-in-Child.entry ∷ map table_entry later))
+    (sym c.in-Child.ensures) c.goes_on_with.ensures)
 
 pub goes_on_with-returns-in-Clash : goal.goes_on_with-returns-in-Clash
 goes_on_with-returns-in-Clash t c =
     let s = trail_of c.args.trail.now in
-    goes_on-clash c.args.sig.now (child_of c.args.place.now) (entry_of c.args.entry.now) (map table_entry c.args.later.now) s (sym c.in_ok-extend.ensures ∙ ap (outcome s) c.in-Clash.is)
+    goes_on-clash c.args.sig.now (child_of c.args.place.now) (entry_of c.args.entry.now)
+    (map table_entry c.args.later.now) s (sym c.in_ok-extend.ensures ∙ ap (outcome s) c.in-Clash.is)

@@ -16,5 +16,6 @@ pub returns-in-Nothing : goal.returns-in-Nothing
 returns-in-Nothing c =
     let n = child_of c.args.place.now in
     let s = trail_of c.args.trail.now in
-    let none : LeadOn c.args.sig.now n s [] = subst (LeadsOn c.args.sig.now n s) c.in-Nothing.is c.in_ok-candidates_for.ensures in
+    let none : LeadOn c.args.sig.now n s [] =
+    subst (LeadsOn c.args.sig.now n s) c.in-Nothing.is c.in_ok-candidates_for.ensures in
     subst (λ es. LeadOn c.args.sig.now n s (map entry_of es)) (sym c.new.ensures.items) none

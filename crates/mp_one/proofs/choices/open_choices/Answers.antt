@@ -10,7 +10,14 @@ use Rattle.mp_one.proofs.choices.open_choices.Goals as goal
 pub loop-piece-preserved : goal.loop-piece-preserved
 loop-piece-preserved c =
     let r = reads c.args.sig.now (pattern_tree c.args.place.now.child.now) (inner_frame c.args.place.now).under in
-    entries-step r (λ l. trees_of l.items) (map entry_of c.loop-piece.found.items) (map entry_of c.push_entry.new.found.items) (map entry_of c.push_entry-in-loop-piece.new.found.items) c.loop-piece.piece-index c.deref-piece-items.result.now c.piece-item.result c.loop-piece-test.true c.piece-item.is
-    (c.in_ok-push_entry.ensures ∙ ap (λ ts. map entry_of c.loop-piece.found.items ++ filter r (record { terms = trees_of ts; collapsed = false } ∷ [])) c.deref.ensures.value)
-    (c.in_ok-push_entry-2.ensures ∙ ap (λ ts. map entry_of c.push_entry.new.found.items ++ filter r (record { terms = trees_of ts; collapsed = true } ∷ [])) c.deref-in-loop-piece.ensures.value)
+    entries-step r (λ l. trees_of l.items) (map entry_of c.loop-piece.found.items)
+    (map entry_of c.push_entry.new.found.items)
+    (map entry_of c.push_entry-in-loop-piece.new.found.items) c.loop-piece.piece-index
+    c.deref-piece-items.result.now c.piece-item.result c.loop-piece-test.true c.piece-item.is
+    (c.in_ok-push_entry.ensures
+    ∙ ap (λ ts. map entry_of c.loop-piece.found.items
+    ++ filter r (record { terms = trees_of ts; collapsed = false } ∷ [])) c.deref.ensures.value)
+    (c.in_ok-push_entry-2.ensures
+    ∙ ap (λ ts. map entry_of c.push_entry.new.found.items
+    ++ filter r (record { terms = trees_of ts; collapsed = true } ∷ [])) c.deref-in-loop-piece.ensures.value)
     ∙ c.loop-piece.invariant

@@ -8,5 +8,8 @@ use Rattle.mp_one.proofs.choices.open_choices.Given as goal
 
 abbrev pub invariant-loop-piece : goal.invariant-loop-piece
 invariant-loop-piece l =
-    map entry_of l.found.items ++ filter (machine.reads l.sig (pattern_tree l.place.child.now) (option_map (λ g. g.0) l.place.under)) (machine.entries (lists_of (drop l.piece-index l.piece-items)))
-    ≡ filter (machine.reads l.sig (pattern_tree l.place.child.now) (option_map (λ g. g.0) l.place.under)) (machine.entries (lists_of l.piece-items))
+    map entry_of l.found.items
+    ++ filter (machine.reads l.sig (pattern_tree l.place.child.now) (option_map (λ g. g.0) l.place.under))
+    (machine.entries (lists_of (drop l.piece-index l.piece-items)))
+    ≡ filter (machine.reads l.sig (pattern_tree l.place.child.now) (option_map (λ g. g.0) l.place.under))
+    (machine.entries (lists_of l.piece-items))

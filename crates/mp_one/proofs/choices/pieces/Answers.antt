@@ -22,8 +22,20 @@ returns c =
     let all = length c.args.place.now.left.now in
     let low = fewest sig f.under p f.children all in
     ap (λ ls. filter r (entries ls)) c.in_ok-found.ensures
-    ∙ ap (λ b. filter r (entries (pieces_among tree_cmp b (range_with_len c.fewest.result (c.length_limit.result - c.fewest.result)) f.left))) c.comm_above-anywhere.ensures
-    ∙ ap (λ n. filter r (entries (pieces_among tree_cmp (comm_above sig f.under) (range_with_len n (c.length_limit.result - n)) f.left))) c.fewest.ensures
-    ∙ ap (λ n. filter r (entries (pieces_among tree_cmp (comm_above sig f.under) (range_with_len low (n - low)) f.left))) c.length_limit.ensures
-    ∙ ap (λ n. filter r (entries (pieces_among tree_cmp (comm_above sig f.under) (lengths sig f.under p f.children n) f.left))) (sym (length-map c.args.place.now.left.now (λ t. tree t.now)))
+    ∙ ap (λ b.
+    filter r
+    (entries
+    (pieces_among tree_cmp b (range_with_len c.fewest.result (c.length_limit.result - c.fewest.result)) f.left)))
+    c.comm_above-anywhere.ensures
+    ∙ ap (λ n.
+    filter r
+    (entries
+    (pieces_among tree_cmp (comm_above sig f.under) (range_with_len n (c.length_limit.result - n)) f.left)))
+    c.fewest.ensures
+    ∙ ap (λ n.
+    filter r (entries (pieces_among tree_cmp (comm_above sig f.under) (range_with_len low (n - low)) f.left)))
+    c.length_limit.ensures
+    ∙ ap (λ n.
+    filter r (entries (pieces_among tree_cmp (comm_above sig f.under) (lengths sig f.under p f.children n) f.left)))
+    (sym (length-map c.args.place.now.left.now (λ t. tree t.now)))
     ∙ sym (choices_within-lengths sig p f (stack_frames c.args.place.now.outer.now))

@@ -17,8 +17,10 @@ loop-low-preserved-then-is_lt c =
     let l : m < length c.args.numbers.now = omega (arith, c.loop-low-test.true, c.loop-low.invariant.bound) in
     let is : n ≡ get_or c.args.numbers.now m n = sym (get_or_default_zero c.args.numbers.now m n l) in
     let x = get_or items n c.index-items-number.result in
-    let order = compared items c.args.numbers.now c.requires s m n x l is (ap (get_or items n) c.index-items-number.is) c.compare_named.result c.compare_named.ensures.order in
-    let test : comes_before (item_substs (map item_of items)) s n ≡ true = ap is_lt (sym order) ∙ sym c.is_lt.ensures ∙ c.if-is_lt.true in
+    let order = compared items c.args.numbers.now c.requires s m n x l is
+    (ap (get_or items n) c.index-items-number.is) c.compare_named.result c.compare_named.ensures.order in
+    let test : comes_before (item_substs (map item_of items)) s n ≡ true = ap is_lt (sym order) ∙ sym c.is_lt.ensures
+    ∙ c.if-is_lt.true in
     record {
       apart = omega (arith, c.loop-low-test.true);
       bound = c.loop-low.invariant.bound;
@@ -35,8 +37,10 @@ loop-low-preserved c =
     let l : m < length c.args.numbers.now = omega (arith, c.loop-low-test.true, c.loop-low.invariant.bound) in
     let is : n ≡ get_or c.args.numbers.now m n = sym (get_or_default_zero c.args.numbers.now m n l) in
     let x = get_or items n c.index-items-number.result in
-    let order = compared items c.args.numbers.now c.requires s m n x l is (ap (get_or items n) c.index-items-number.is) c.compare_named.result c.compare_named.ensures.order in
-    let test : comes_before (item_substs (map item_of items)) s n ≡ false = ap is_lt (sym order) ∙ sym c.is_lt.ensures ∙ c.if-is_lt.false in
+    let order = compared items c.args.numbers.now c.requires s m n x l is
+    (ap (get_or items n) c.index-items-number.is) c.compare_named.result c.compare_named.ensures.order in
+    let test : comes_before (item_substs (map item_of items)) s n ≡ false = ap is_lt (sym order) ∙ sym c.is_lt.ensures
+    ∙ c.if-is_lt.false in
     record {
       apart = omega arith;
       bound = omega (arith, c.loop-low-test.true, c.loop-low.invariant.bound);

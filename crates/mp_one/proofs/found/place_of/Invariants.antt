@@ -10,8 +10,10 @@ abbrev pub invariant-loop-low : goal.invariant-loop-low
 invariant-loop-low l = record {
   apart : l.low ≤ l.high;
   bound : l.high ≤ length l.numbers;
-  before : AllWithin (λ n. comes_before (item_substs (map item_of l.items)) (subst_of l.subst) n ≡ true) l.numbers 0 l.low;
-  behind : AllWithin (λ n. comes_before (item_substs (map item_of l.items)) (subst_of l.subst) n ≡ false) l.numbers l.high (length l.numbers);
+  before : AllWithin (λ n. comes_before (item_substs (map item_of l.items)) (subst_of l.subst) n ≡ true) l.numbers 0
+      l.low;
+  behind : AllWithin (λ n. comes_before (item_substs (map item_of l.items)) (subst_of l.subst) n ≡ false) l.numbers
+      l.high (length l.numbers);
 }
 
 abbrev pub decreases-loop-low : goal.decreases-loop-low

@@ -19,7 +19,9 @@ returns-in_ok-only-in-Whole c w x s p n b =
     let f = inner_frame c.args.place.now in
     let fs = stack_frames c.args.place.now.outer.now in
     let o = c.in_ok-only-in-Whole.only in
-    subst (λ q. LeadsOn sig (child q f fs) s o) (sym p) (leads_on-contribution sig w x f fs s (tree c.in-Whole.term.now) o c.in_ok-only-in-Whole.ensures n (b ∙ ap (λ h. Some (trail_value h)) c.in-Whole.is))
+    subst (λ q. LeadsOn sig (child q f fs) s o) (sym p)
+    (leads_on-contribution sig w x f fs s (tree c.in-Whole.term.now) o c.in_ok-only-in-Whole.ensures n
+    (b ∙ ap (λ h. Some (trail_value h)) c.in-Whole.is))
 
 pub returns-in_ok-only-in-Joined : goal.returns-in_ok-only-in-Joined
 returns-in_ok-only-in-Joined c w x s p n b =
@@ -29,8 +31,12 @@ returns-in_ok-only-in-Joined c w x s p n b =
     let o = c.in_ok-only-in-Joined.only in
     let op = c.in-Joined.op.0 in
     let ts = trees_of c.in-Joined.terms.items in
-    let h : IsContribution sig f.under f.left (app op (trees ts)) o = subst (λ us. IsContribution sig f.under f.left (app op (trees (trees_of us))) o) c.deref.ensures.value c.in_ok-only-in-Joined.ensures in
-    subst (λ q. LeadsOn sig (child q f fs) s o) (sym p) (leads_on-contribution sig w x f fs s (app op (trees ts)) o h n (b ∙ ap (λ v. Some (trail_value v)) c.in-Joined.is))
+    let h : IsContribution sig f.under f.left (app op (trees ts)) o =
+    subst (λ us. IsContribution sig f.under f.left (app op (trees (trees_of us))) o) c.deref.ensures.value
+    c.in_ok-only-in-Joined.ensures in
+    subst (λ q. LeadsOn sig (child q f fs) s o) (sym p)
+    (leads_on-contribution sig w x f fs s (app op (trees ts)) o h n
+    (b ∙ ap (λ v. Some (trail_value v)) c.in-Joined.is))
 
 pub returns-in_ok-copied-in-Seq : goal.returns-in_ok-copied-in-Seq
 returns-in_ok-copied-in-Seq c w x s p n b =
@@ -38,9 +44,14 @@ returns-in_ok-copied-in-Seq c w x s p n b =
     let f = inner_frame c.args.place.now in
     let fs = stack_frames c.args.place.now.outer.now in
     let e = ap trees_of (sym (c.in_ok-copied-in-Seq.ensures ∙ c.deref-in-Seq.ensures.value)) in
-    subst (λ q. LeadOn sig (child q f fs) s (filter (allows sig (child q f fs)) (record { terms = trees_of c.in_ok-copied-in-Seq.field-0.items; collapsed = false } ∷ []))) (sym p)
-    (subst (λ m. LeadOn sig (child (wild_pattern w (Some x)) f fs) s (filter (allows sig (child (wild_pattern w (Some x)) f fs)) (record { terms = m; collapsed = false } ∷ []))) e
-    (lead_on-seq sig w x f fs s (trees_of c.in-Seq.terms.items) (sym c.comm_above.ensures ∙ c.if-not-comm_above.true) (b ∙ ap (λ v. Some (trail_value v)) c.in-Seq.is)))
+    subst (λ q.
+    LeadOn sig (child q f fs) s
+    (filter (allows sig (child q f fs))
+    (record { terms = trees_of c.in_ok-copied-in-Seq.field-0.items; collapsed = false } ∷ []))) (sym p)
+    (subst (λ m. LeadOn sig (child (wild_pattern w (Some x)) f fs) s
+    (filter (allows sig (child (wild_pattern w (Some x)) f fs)) (record { terms = m; collapsed = false } ∷ []))) e
+    (lead_on-seq sig w x f fs s (trees_of c.in-Seq.terms.items) (sym c.comm_above.ensures ∙ c.if-not-comm_above.true)
+    (b ∙ ap (λ v. Some (trail_value v)) c.in-Seq.is)))
 
 pub returns-in_ok-copied-in-Bag : goal.returns-in_ok-copied-in-Bag
 returns-in_ok-copied-in-Bag c w x s p n b =
@@ -48,6 +59,11 @@ returns-in_ok-copied-in-Bag c w x s p n b =
     let f = inner_frame c.args.place.now in
     let fs = stack_frames c.args.place.now.outer.now in
     let e = ap trees_of (sym (c.in_ok-copied-in-Bag.ensures ∙ c.deref-in-Bag.ensures.value)) in
-    subst (λ q. LeadOn sig (child q f fs) s (filter (allows sig (child q f fs)) (record { terms = trees_of c.in_ok-copied-in-Bag.field-0.items; collapsed = false } ∷ []))) (sym p)
-    (subst (λ m. LeadOn sig (child (wild_pattern w (Some x)) f fs) s (filter (allows sig (child (wild_pattern w (Some x)) f fs)) (record { terms = m; collapsed = false } ∷ []))) e
-    (lead_on-bag sig w x f fs s (trees_of c.in-Bag.terms.items) (sym c.if-comm_above.ensures) (b ∙ ap (λ v. Some (trail_value v)) c.in-Bag.is)))
+    subst (λ q.
+    LeadOn sig (child q f fs) s
+    (filter (allows sig (child q f fs))
+    (record { terms = trees_of c.in_ok-copied-in-Bag.field-0.items; collapsed = false } ∷ []))) (sym p)
+    (subst (λ m. LeadOn sig (child (wild_pattern w (Some x)) f fs) s
+    (filter (allows sig (child (wild_pattern w (Some x)) f fs)) (record { terms = m; collapsed = false } ∷ []))) e
+    (lead_on-bag sig w x f fs s (trees_of c.in-Bag.terms.items) (sym c.if-comm_above.ensures)
+    (b ∙ ap (λ v. Some (trail_value v)) c.in-Bag.is)))

@@ -13,6 +13,11 @@ pub returns-in_default : goal.returns-in_default
 returns-in_default c =
     let order = c.compare_names.ensures ∙ (λ k. names_cmp (c.as_slice.ensures k) (c.as_slice-2.ensures k)) in
     record {
-      order = named_cmp-names (subst_of c.args.a.now) (subst_of c.args.b.now) c.compare_names.result order c.in_default.not-Equal;
-      equal = (λ e. absurd (c.in_default.not-Equal e), λ e. absurd (c.in_default.not-Equal (order ∙ names_cmp-equal (subst_of c.args.a.now) (subst_of c.args.b.now) e)));
+      order = named_cmp-names (subst_of c.args.a.now)
+          (subst_of c.args.b.now) c.compare_names.result order c.in_default.not-Equal;
+      equal = (
+        λ e. absurd (c.in_default.not-Equal e),
+        λ e.
+            absurd (c.in_default.not-Equal (order ∙ names_cmp-equal (subst_of c.args.a.now) (subst_of c.args.b.now) e)),
+      );
     }

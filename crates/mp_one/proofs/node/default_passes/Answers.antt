@@ -1,4 +1,4 @@
-use Rattle.std.proofs.Common.{◌≡◌, ℕ, ◌<◌, List, [], ◌∷◌, length, refl, sym, ◌∙◌, arith}
+use Rattle.std.proofs.Common.{◌≡◌, ℕ, ◌<◌, List, [], ◌∷◌, length, refl, ◌∙◌, arith}
 use Rattle.std.specs.Prelude.{Some}
 use Rattle.std.specs.Borrow.{Bor}
 use Rattle.mp_term.specs.Tree.{Tree}
@@ -15,7 +15,8 @@ use Rattle.mp_term.proofs.ListLaws.{bool_same}
 use Rattle.mp_one.proofs.node.default_passes.Goals as goal
 
 -- a variable that takes nothing
-left_out : (sig : Sig) (x : List ℕ) (d : Tree) (ts : List (Bor Term)) → length ts < 1 → passes sig d ≡ default_passes sig (Some x) (optional d) (trees_of ts)
+left_out : (sig : Sig) (x : List ℕ) (d : Tree) (ts : List (Bor Term)) → length ts < 1
+    → passes sig d ≡ default_passes sig (Some x) (optional d) (trees_of ts)
 left_out sig x d [] h = refl
 left_out sig x d (t ∷ ts) h = absurd (omega (arith, h))
 
@@ -24,4 +25,6 @@ returns-in-Some-Opt-empty c =
     let sig = c.args.sig.now in
     let m = c.in-Some-Opt-empty in
     let d = tree m.default in
-    rw (m.is-0, m.is-1) (bool_same _ _ (λ e. final-passes sig d (c.is_normal.ensures.0 e)) (λ e. c.is_normal.ensures.1 (normal-passes sig d e)) ∙ left_out sig m.field-0-0 d c.args.terms.now m.len_below)
+    rw (m.is-0, m.is-1)
+    (bool_same _ _ (λ e. final-passes sig d (c.is_normal.ensures.0 e))
+    (λ e. c.is_normal.ensures.1 (normal-passes sig d e)) ∙ left_out sig m.field-0-0 d c.args.terms.now m.len_below)

@@ -5,4 +5,5 @@ use Rattle.mp_one.proofs.SameLaws.{same_terms-single}
 use Rattle.mp_one.proofs.node.is_one_symbol.Goals as goal
 
 pub returns-in_default-2 : goal.returns-in_default-2
-returns-in_default-2 c = same_terms-single (λ t. tree t.now) c.args.terms.now (symbol c.args.name.now) (λ e. omega (arith, c.in_default.len_at_least))
+returns-in_default-2 c = same_terms-single (λ t. tree t.now) c.args.terms.now (symbol c.args.name.now)
+    (λ e. omega (arith, c.in_default.len_at_least))

@@ -10,5 +10,6 @@ decreases-pieces_of l = l.length
 
 abbrev pub invariant-loop-first : goal.invariant-loop-first
 invariant-loop-first l =
-    lists_of l.all.items ++ flat_map (begun tree_cmp l.anywhere (l.length - 1) (trees_of l.list)) (trees_of (drop l.first-index l.first-items))
+    lists_of l.all.items ++ flat_map (begun tree_cmp l.anywhere (l.length - 1) (trees_of l.list))
+    (trees_of (drop l.first-index l.first-items))
     ≡ flat_map (begun tree_cmp l.anywhere (l.length - 1) (trees_of l.list)) (trees_of l.first-items)

@@ -6,4 +6,5 @@ use Rattle.mp_one.specs.Lists.{trees_of}
 use Rattle.mp_one.proofs.pieces.after.Given as goal
 
 abbrev pub invariant-loop-i : goal.invariant-loop-i
-invariant-loop-i l = pieces.after tree_cmp (trees_of (drop l.i l.list)) (tree l.term) ≡ pieces.after tree_cmp (trees_of l.list) (tree l.term)
+invariant-loop-i l = pieces.after tree_cmp (trees_of (drop l.i l.list)) (tree l.term)
+    ≡ pieces.after tree_cmp (trees_of l.list) (tree l.term)

@@ -9,5 +9,7 @@ use Rattle.mp_one.proofs.pieces.insert_new.Goals as goal
 pub returns-in_ok-insert : goal.returns-in_ok-insert
 returns-in_ok-insert c =
     let t = tree c.args.term.now in
-    ap trees_of c.in_ok-insert.ensures.items ∙ map-insert (λ t. tree t.now) c.in-Some.place c.args.list.now.items c.args.term
-    ∙ subst (λ ts. take c.in-Some.place (trees_of ts) ++ (t ∷ drop c.in-Some.place (trees_of ts)) ≡ insert_new tree_cmp t (trees_of ts)) c.deref.ensures.value (sym c.in-Some.ensures.1)
+    ap trees_of c.in_ok-insert.ensures.items
+    ∙ map-insert (λ t. tree t.now) c.in-Some.place c.args.list.now.items c.args.term
+    ∙ subst (λ ts. take c.in-Some.place (trees_of ts) ++ (t ∷ drop c.in-Some.place (trees_of ts))
+    ≡ insert_new tree_cmp t (trees_of ts)) c.deref.ensures.value (sym c.in-Some.ensures.1)

@@ -7,5 +7,6 @@ use Rattle.mp_one.proofs.pieces.is_sublist.Given as goal
 abbrev pub invariant-loop-term : goal.invariant-loop-term
 invariant-loop-term l = record {
   within : l.found ≤ length l.terms;
-  rest : pieces.is_sublist tree_cmp (trees_of (drop l.found l.terms)) (trees_of (drop l.term-index l.list)) ≡ pieces.is_sublist tree_cmp (trees_of l.terms) (trees_of l.list);
+  rest : pieces.is_sublist tree_cmp (trees_of (drop l.found l.terms)) (trees_of (drop l.term-index l.list))
+      ≡ pieces.is_sublist tree_cmp (trees_of l.terms) (trees_of l.list);
 }

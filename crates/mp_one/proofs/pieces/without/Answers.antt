@@ -6,4 +6,7 @@ use Rattle.mp_one.proofs.PieceSteps.{without-end}
 use Rattle.mp_one.proofs.pieces.without.Goals as goal
 
 pub returns : goal.returns
-returns c = sym (without-end tree_cmp (λ t. tree t.now) (trees_of c.loop-term.rest.items) (trees_of (drop c.loop-term.taken c.args.terms.now)) c.loop-term.term-index c.args.list.now c.loop-term-test.false) ∙ c.loop-term.invariant.rest
+returns c =
+    sym (without-end tree_cmp (λ t. tree t.now) (trees_of c.loop-term.rest.items)
+    (trees_of (drop c.loop-term.taken c.args.terms.now)) c.loop-term.term-index c.args.list.now c.loop-term-test.false)
+    ∙ c.loop-term.invariant.rest

@@ -7,5 +7,6 @@ use Rattle.mp_one.proofs.pieces.without.Given as goal
 abbrev pub invariant-loop-term : goal.invariant-loop-term
 invariant-loop-term l = record {
   within : l.taken ≤ length l.terms;
-  rest : trees_of l.rest.items ++ pieces.without tree_cmp (trees_of (drop l.taken l.terms)) (trees_of (drop l.term-index l.list)) ≡ pieces.without tree_cmp (trees_of l.terms) (trees_of l.list);
+  rest : trees_of l.rest.items ++ pieces.without tree_cmp (trees_of (drop l.taken l.terms))
+      (trees_of (drop l.term-index l.list)) ≡ pieces.without tree_cmp (trees_of l.terms) (trees_of l.list);
 }

@@ -18,5 +18,9 @@ decreases-search l = 3 * entries_left (stack_frames l.stack.now)
 
 abbrev pub invariant-search-loop-entry : goal.invariant-search-loop-entry
 invariant-search-loop-entry l =
-    added l.query l.found (flat_map (trails.derivations_by l.query.sig.now (entries_behind l.place) (child_of l.place) (table_of l.path) (trail_of l.trail)) (map entry_of (drop l.entry-index l.entry-items)))
-    ≡ added l.query l.initial.found (flat_map (trails.derivations_by l.query.sig.now (entries_behind l.place) (child_of l.place) (table_of l.path) (trail_of l.trail)) (map entry_of l.entry-items))
+    added l.query l.found
+    (flat_map (trails.derivations_by l.query.sig.now (entries_behind l.place) (child_of l.place) (table_of l.path)
+    (trail_of l.trail)) (map entry_of (drop l.entry-index l.entry-items)))
+    ≡ added l.query l.initial.found
+    (flat_map (trails.derivations_by l.query.sig.now (entries_behind l.place) (child_of l.place) (table_of l.path)
+    (trail_of l.trail)) (map entry_of l.entry-items))

@@ -10,10 +10,12 @@ use Rattle.mp_one.proofs.search.eager_substs.Goals as goal
 use Rattle.mp_one.proofs.search.eager_substs.Goals.{In_ok-substs}
 
 -- what was found has the substitutions of the one-list
-listed : (c : In_ok-substs) → map subst_of c.in_ok-substs.substs.items ≡ one_list c.args.sig.now (rule_tree c.args.rule.now) (tree c.args.subject.now)
+listed : (c : In_ok-substs) → map subst_of c.in_ok-substs.substs.items
+    ≡ one_list c.args.sig.now (rule_tree c.args.rule.now) (tree c.args.subject.now)
 listed c =
     let list = item_list c.args.sig.now (rule_tree c.args.rule.now) (tree c.args.subject.now) in
-    c.in_ok-substs.ensures ∙ ap item_substs (c.into_items.ensures ∙ c.in_ok-found.ensures) ∙ item_substs-kept false list ∙ item_substs-item_list c.args.sig.now (rule_tree c.args.rule.now) (tree c.args.subject.now) c.requires.normal
+    c.in_ok-substs.ensures ∙ ap item_substs (c.into_items.ensures ∙ c.in_ok-found.ensures) ∙ item_substs-kept false list
+    ∙ item_substs-item_list c.args.sig.now (rule_tree c.args.rule.now) (tree c.args.subject.now) c.requires.normal
 
 pub returns-clause-substs : goal.returns-clause-substs
 returns-clause-substs c = listed c

@@ -24,8 +24,13 @@ search_from-requires c =
     let p = pattern_tree c.args.rule.now.pattern in
     let t = tree c.args.subject.now in
     let condition = (rule_tree c.args.rule.now).condition in
-    let root = c.in_ok-root_frame.ensures ∙ ap (λ q. start q t) (c.pattern-pattern.ensures ∙ ap (λ (l : Plan). l.pattern) c.requires.plan) in
-    subst (AreReadyFor condition) (sym (derivations-root c.args.sig.now (frame_of c.in_ok-root_frame.field-0 ∷ []) p t root)) (items-ready c.args.sig.now p t c.requires.small c.requires.few condition (derivations c.args.sig.now (pattern_nodes p) (settle (start p t)) [] []) c.requires.condition (derivations-fit c.args.sig.now p t c.requires.normal))
+    let root = c.in_ok-root_frame.ensures ∙ ap (λ q. start q t)
+    (c.pattern-pattern.ensures ∙ ap (λ (l : Plan). l.pattern) c.requires.plan) in
+    subst (AreReadyFor condition)
+    (sym (derivations-root c.args.sig.now (frame_of c.in_ok-root_frame.field-0 ∷ []) p t root))
+    (items-ready c.args.sig.now p t c.requires.small c.requires.few condition
+    (derivations c.args.sig.now (pattern_nodes p) (settle (start p t)) [] []) c.requires.condition
+    (derivations-fit c.args.sig.now p t c.requires.normal))
 
 pub returns : goal.returns
 returns c =
@@ -34,10 +39,15 @@ returns c =
     let t = tree c.args.subject.now in
     let b = c.decides_table.result in
     let keep : Item → Option Item = λ i. if meets sig r.condition i.1 then Some (kept c.args.tables i) else None in
-    let same : pattern_tree c.pattern-pattern.result.now ≡ r.pattern = c.pattern-pattern.ensures ∙ ap (λ (l : Plan). l.pattern) c.requires.plan in
+    let same : pattern_tree c.pattern-pattern.result.now ≡ r.pattern =
+    c.pattern-pattern.ensures ∙ ap (λ (l : Plan). l.pattern) c.requires.plan in
     let root = c.in_ok-root_frame.ensures ∙ ap (λ q. start q t) same in
     let all = derivations sig (pattern_nodes r.pattern) (settle (start r.pattern t)) [] [] in
     c.in_ok-search_from.ensures
-    ∙ ap (collected b keep c.new-found.result) (derivations-root sig (frame_of c.in_ok-root_frame.field-0 ∷ []) r.pattern t root)
+    ∙ ap (collected b keep c.new-found.result)
+    (derivations-root sig (frame_of c.in_ok-root_frame.field-0 ∷ []) r.pattern t root)
     ∙ ap (λ is. collected b keep is all) c.new-found.ensures
-    ∙ collected-item_list sig b c.args.tables r t all refl (λ e. let k = c.decides_table.ensures.0 e in distinct-derivations sig r.pattern t (ap is_fully_named (sym same) ∙ k.0) (subst HasNoOptional same k.1) c.requires.normal)
+    ∙ collected-item_list sig b c.args.tables r t all refl
+    (λ e. let k = c.decides_table.ensures.0 e in
+    distinct-derivations sig r.pattern t (ap is_fully_named (sym same) ∙ k.0)
+    (subst HasNoOptional same k.1) c.requires.normal)

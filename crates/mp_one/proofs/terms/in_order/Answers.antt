@@ -8,4 +8,6 @@ use Rattle.mp_one.specs.Lists.{trees_of}
 use Rattle.mp_one.proofs.terms.in_order.Goals as goal
 
 pub returns : goal.returns
-returns c = sorted_is tree_cmp tree_cmp_total tree_same (λ t. tree t.now) _ _ c.sort_unstable.ensures.permutation c.sort_unstable.ensures.sorted ∙ ap (λ ts. sorted tree_cmp (trees_of ts)) c.in_ok-copy.ensures
+returns c = sorted_is tree_cmp tree_cmp_total tree_same
+    (λ t. tree t.now) _ _ c.sort_unstable.ensures.permutation c.sort_unstable.ensures.sorted
+    ∙ ap (λ ts. sorted tree_cmp (trees_of ts)) c.in_ok-copy.ensures

@@ -6,4 +6,5 @@ use Rattle.mp_term.specs.Order.{tree_cmp}
 use Rattle.mp_one.proofs.terms.same_terms.Goals as goal
 
 pub returns : goal.returns
-returns c = c.is_eq.ensures ∙ ap is_eq c.cmp.ensures ∙ ap is_eq (sym (lex_map tree tree_cmp c.args.terms.now c.args.others.now))
+returns c = c.is_eq.ensures ∙ ap is_eq c.cmp.ensures
+    ∙ ap is_eq (sym (lex_map tree tree_cmp c.args.terms.now c.args.others.now))
