@@ -1,5 +1,5 @@
 -- A sound rule can be planned and matched.
-use Rattle.std.proofs.Common.{◌≡◌, ℕ, false, List, length, Option, Some, None, refl, arith}
+use Rattle.std.proofs.Common.{◌≡◌, false, length, Option, Some, None, refl, arith}
 use Rattle.std.specs.Prelude.{nat_lt}
 use Rattle.std.specs.List.{AllByRecursion}
 use Rattle.std.proofs.lemmas.Bool.Decides.{nat_tests}

@@ -49,8 +49,8 @@ module _ (s : Subst) where
     all_pattern_instances no_patterns = []
     all_pattern_instances (more_patterns p ps) = pattern_instances p ++ all_pattern_instances ps
 
--- t is the template with each variable replaced by its term, or its list spliced into the arguments around it; a variable
--- that is the whole template has no arguments around it, and so stands for one term
+-- t is the template with each variable replaced by its term, or its list spliced into the arguments around it; a
+-- variable that is the whole template has no arguments around it, and so stands for one term
 abbrev pub IsInstance : Template → Subst → Tree → Type 0
 IsInstance (variable_template x) s t = value_of s x ≡ Some (one t)
 IsInstance x s t = instances s x ≡ t ∷ []
