@@ -102,7 +102,8 @@ impl Found {
     /// Whether an item has the substitution, which takes logarithmically many comparisons for each item that was added
     /// since the last call, and for this one. The items stay as they are.
     pub fn has(&mut self, subst: &Subst) -> Result<bool, Memory>
-        ensures known { IfOk result (λ b. b ≡ firsts.is_known one.same_subst (one.item_substs self.old) (subst_of subst.now)) }
+        ensures known { IfOk result (λ b.
+            b ≡ firsts.is_known one.same_subst (one.item_substs self.old) (subst_of subst.now)) }
         ensures same { self.new ≡ self.old }
     {
         let items = self.items.as_slice();

@@ -216,7 +216,8 @@ pub fn eager_list(
     ensures list { IfOk result (λ is. is ≡ one.item_list sig.now (rule_tree rule.now) (tree subject.now)) }
     ensures items { IfOk result (λ is. one.AreItems sig.now (rule_tree rule.now) (tree subject.now) is) }
     ensures sizes { IfOk result (λ is. AllByRecursion (IsItemOf plan.now) is) }
-    ensures substs { IfOk result (λ is. one.item_substs is ≡ one.one_list sig.now (rule_tree rule.now) (tree subject.now)) }
+    ensures substs { IfOk result (λ is.
+        one.item_substs is ≡ one.one_list sig.now (rule_tree rule.now) (tree subject.now)) }
     ensures exact { IfOk result (λ is. IsOneList sig.now (rule_tree rule.now) (tree subject.now) (one.item_substs is)) }
 {
     Ok(search_all(alloc, sig, rule, plan, subject, true)?.into_items())
@@ -239,8 +240,10 @@ pub fn eager_substs(
     requires condition { HasConditionOver (variables (pattern_tree rule.now.pattern)) (rule_tree rule.now).condition }
     requires normal { IsNormal sig.now (tree subject.now) }
     requires few { node_count (tree subject.now) ≤ MAX_TERM_NODES }
-    ensures substs { IfOk result (λ v. map subst_of v.items ≡ one.one_list sig.now (rule_tree rule.now) (tree subject.now)) }
-    ensures exact { IfOk result (λ v. IsOneList sig.now (rule_tree rule.now) (tree subject.now) (map subst_of v.items)) }
+    ensures substs { IfOk result (λ v.
+        map subst_of v.items ≡ one.one_list sig.now (rule_tree rule.now) (tree subject.now)) }
+    ensures exact { IfOk result (λ v.
+        IsOneList sig.now (rule_tree rule.now) (tree subject.now) (map subst_of v.items)) }
 {
     let found = search_all(alloc, sig, rule, plan, subject, false)?;
     let substs = found.into_items().into_substs(alloc)?;

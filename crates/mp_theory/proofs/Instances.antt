@@ -87,7 +87,8 @@ module _ (sig : Sig) where
   -- normalising and flattening leaves them as they are
   parts-alone : (g : ℕ) (t : Tree) → is_alone sig (Some g) t ≡ true → parts sig g t ≡ t ∷ []
   parts-alone g t h =
-      elim (is_assoc sig g) as (λ b. not (b && has_head g t) ≡ true → (if b then unwrapped g t else (t ∷ [])) ≡ t ∷ []) [
+      elim (is_assoc sig g) as
+      (λ b. not (b && has_head g t) ≡ true → (if b then unwrapped g t else (t ∷ [])) ≡ t ∷ []) [
         | true ↦ λ e. unwrapped-alone t (not-true _ e)
         | false ↦ λ e. refl
       ] h

@@ -48,7 +48,8 @@ module _ (sig : Sig) where
           (e, h.1 ∙ ap (λ ts. record { terms = ts; collapsed = false } ∷ []) e ∙ sym k.1)
       takes_same (app_pattern g ps) f l m T U a o (inl h) (inl k) =
           let i = all_take_same ps g h.takes k.takes h.tables k.tables a o h.children k.children in
-          let e : l ≡ m = h.node ∙ ap (λ ls. app g (trees (arranged sig (Some g) (joined ls))) ∷ []) i.0 ∙ sym k.node in (
+          let e : l ≡ m =
+          h.node ∙ ap (λ ls. app g (trees (arranged sig (Some g) (joined ls))) ∷ []) i.0 ∙ sym k.node in (
             e,
             h.table ∙ ap (λ ts. record { terms = ts; collapsed = false } ∷ joined h.tables) e
                 ∙ ap (λ Ts. record { terms = m; collapsed = false } ∷ joined Ts) i.1 ∙ sym k.table,
