@@ -1,5 +1,6 @@
 //! Devices: a shelf that gives the bytes of named files and a sink that takes bytes, in memory and
-//! real, with counts of their faults; files read whole, and texts written whole.
+//! real, with counts of their calls and faults; files read whole, texts written whole, and a writer
+//! that gathers text and keeps its failure.
 #![tactic(auto)]
 
 mod devices;

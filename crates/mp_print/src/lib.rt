@@ -1,4 +1,7 @@
 //! Values to text: the printed text of terms, patterns, conditions, substitutions and signatures.
+//!
+//! A call `write_..` writes a text to a sink, in one write where the text has at most 4,096 bytes. A call `put_..` puts
+//! it to a writer, behind what was put before, so that a line of several texts is one write.
 #![tactic(auto)]
 
 mod cond_printer;
