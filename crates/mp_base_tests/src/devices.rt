@@ -169,13 +169,16 @@ fn a_sink_in_memory_takes_what_fits(rt: HostRuntime) -> Result<(), Fail> {
 fn parts_of_at_most_4096_bytes_are_one_write(rt: HostRuntime) -> Result<(), Fail> {
     let alloc = rt.alloc();
     let long = [b'a'; 4000];
-    for (count, want, written) in [(96, Ok(()), 4096), (97, Err(Failed), 4000)] {
+    for (more, want, written) in [
+        (&long[..96], Ok(()), 4096),
+        (&long[..97], Err(Failed), 4000),
+    ] {
         let mut sink = match MemorySink::new(alloc, 5000, [1].to_vec(alloc)?) {
             Ok(sink) => sink,
             Err(_) => return Err("memory".into()),
         };
-        assert_eq!(rt; put_all(&mut sink, &[&long, &long[..count]]), want, "{count}");
-        assert_eq!(rt; sink.content().len(), written, "{count}");
+        assert_eq!(rt; put_all(&mut sink, &[&long, more]), want, "{written}");
+        assert_eq!(rt; sink.content().len(), written, "{written}");
     }
     Ok(())
 }
