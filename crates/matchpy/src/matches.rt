@@ -137,11 +137,12 @@ fn write_rule<O: Sink>(
         (sunk O.Sink out.old out.new) result }
 {
     let rule = planned.rule;
-    let substs = match eager_substs(alloc, sig, rule, &planned.plan, &subject.term) {
-        Ok(substs) => substs,
+    let found = match eager_substs(alloc, sig, rule, &planned.plan, &subject.term) {
+        Ok(found) => found,
         Err(Memory) => return Err(Stop::Memory),
     };
-    match write_matches(sig, subject, rule, &substs, out) {
+    let substs = found.as_slice();
+    match write_matches(sig, subject, rule, substs, out) {
         Ok(()) => Ok(!substs.is_empty()),
         Err(Failed) => Err(Stop::CannotWrite),
     }
