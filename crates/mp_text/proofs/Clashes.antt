@@ -1,5 +1,5 @@
 -- Wildcards of a pattern of which none differs from an earlier one of its name, in syntax trees and in patterns.
-use Rattle.std.proofs.Common.{◌≡◌, ℕ, Bool, true, false, ◌&&◌, ◌||◌, not, eqb, List, [], ◌∷◌, ◌++◌, map, Option, Some, None, refl, sym, ap, subst, ◌∙◌, eqb-true, append_assoc, append-nil}
+use Rattle.std.proofs.Common.{◌≡◌, ℕ, Bool, true, false, ◌&&◌, ◌||◌, not, eqb, List, [], ◌∷◌, ◌++◌, map, Some, None, refl, sym, ap, subst, ◌∙◌, eqb-true, append_assoc, append-nil}
 use Rattle.std.specs.List.{list_any}
 use Rattle.std.specs.Str.{bytes_eq}
 use Rattle.std.proofs.lemmas.List.{map-append}
@@ -10,8 +10,8 @@ use Rattle.mp_pattern.specs.PatternTree as pattern
 use Rattle.mp_pattern.specs.PatternTree.{Pattern, symbol_pattern, app_pattern, wild_pattern, Patterns, no_patterns, more_patterns}
 use Rattle.mp_pattern.specs.Subpatterns.{subpatterns, all_subpatterns}
 use Rattle.mp_pattern.specs.Clash.{first_clash}
-use Rattle.mp_pattern.proofs.ClashLaws.{Agree, agree-app, AgreesWith, InOrder, InOrder-first_clash_after, first_clash_after-InOrder, same_shape-same}
-use Rattle.mp_syntax.specs.Syntax.{Wildcard, Tree, Symbol, Apply, InfixOf, Wild, Variable, Trees, no_trees, more_trees, tree_list, Optional}
+use Rattle.mp_pattern.proofs.ClashLaws.{Agree, agree-app, AgreesWith, InOrder, first_clash_after-InOrder, same_shape-same}
+use Rattle.mp_syntax.specs.Syntax.{Wildcard, Tree, Symbol, Apply, InfixOf, Wild, Variable, Trees, no_trees, more_trees, Optional}
 use Rattle.mp_text.specs.declared.fault.TextFault.{TextFault}
 use Rattle.mp_text.specs.Names.{is_same_variable}
 use Rattle.mp_text.specs.Wildcards.{DefaultForm, absent, normal_form, unknown, PatternWildcard, without_default, with_default_form, pattern_wildcards, all_pattern_wildcards, same_default, same_class, differs}
@@ -125,7 +125,7 @@ InOrder-wilds before (app_pattern f qs ∷ ps) h =
 InOrder-wilds before (wild_pattern w x ∷ ps) h =
     (agrees-wilds (wild_pattern w x) before h.0, InOrder-wilds (before ++ wild_pattern w x ∷ []) ps (subst (λ l. InOrder l (wilds ps)) (sym (wilds-append before (wild_pattern w x ∷ []))) h.1))
 
-wilds-InOrder : (before ps : List Pattern) → InOrder before ps → InOrder (wilds before) (wilds ps)
+pub wilds-InOrder : (before ps : List Pattern) → InOrder before ps → InOrder (wilds before) (wilds ps)
 wilds-InOrder before [] h = tt
 wilds-InOrder before (symbol_pattern n ∷ ps) h = subst (λ l. InOrder l (wilds ps)) (wilds-push before (symbol_pattern n) refl) (wilds-InOrder (before ++ symbol_pattern n ∷ []) ps h.1)
 wilds-InOrder before (app_pattern f qs ∷ ps) h = subst (λ l. InOrder l (wilds ps)) (wilds-push before (app_pattern f qs) refl) (wilds-InOrder (before ++ app_pattern f qs ∷ []) ps h.1)
@@ -210,29 +210,3 @@ module _ (sig : Sig) where
   first_clash-pattern_of p h =
       first_clash_after-InOrder [] (subpatterns (pattern_of sig p))
       (InOrder-wilds [] (subpatterns (pattern_of sig p)) (subst (InOrder []) (sym (wilds-pattern_of [] p h)) (InOrder-Apart [] (pattern_wildcards sig p) (Apart-pattern_faults sig [] p h))))
-
--- ---- a pattern as it is spelled
-
--- wildcards as they are spelled, where those of one name and one shape are spelled as one
-module _ (mark : Pattern → PatternWildcard)
-    (apart : (v w : pattern.Wildcard) (x y : Option (List ℕ)) → Agree (wild_pattern v x) (wild_pattern w y) → differs (mark (wild_pattern w y)) (mark (wild_pattern v x)) ≡ false)
-  where
-    none-agrees : (w : pattern.Wildcard) (y : Option (List ℕ)) (qs : List Pattern) → AgreesWith (wild_pattern w y) (wilds qs) → list_any (differs (mark (wild_pattern w y))) (map mark (wilds qs)) ≡ false
-    none-agrees w y [] h = refl
-    none-agrees w y (symbol_pattern n ∷ qs) h = none-agrees w y qs h
-    none-agrees w y (app_pattern f rs ∷ qs) h = none-agrees w y qs h
-    none-agrees w y (wild_pattern v x ∷ qs) h = ap (λ b. b || list_any (differs (mark (wild_pattern w y))) (map mark (wilds qs))) (apart v w x y h.0) ∙ none-agrees w y qs h.1
-
-    Apart-wilds : (before ps : List Pattern) → InOrder (wilds before) (wilds ps) → Apart (map mark (wilds before)) (map mark (wilds ps))
-    Apart-wilds before [] h = tt
-    Apart-wilds before (symbol_pattern n ∷ ps) h = Apart-wilds before ps h
-    Apart-wilds before (app_pattern f qs ∷ ps) h = Apart-wilds before ps h
-    Apart-wilds before (wild_pattern w x ∷ ps) h =
-        let more = wilds-append before (wild_pattern w x ∷ []) in (
-          none-agrees w x before h.0,
-          subst (λ l. Apart l (map mark (wilds ps))) (ap (map mark) more ∙ map-append mark (wilds before) (wild_pattern w x ∷ [])) (Apart-wilds (before ++ wild_pattern w x ∷ []) ps (subst (λ l. InOrder l (wilds ps)) (sym more) h.1)),
-        )
-
-    -- the wildcards of a pattern without clashes
-    pub Apart-first_clash : (p : Pattern) → first_clash p ≡ None → Apart [] (map mark (wilds (subpatterns p)))
-    Apart-first_clash p h = Apart-wilds [] (subpatterns p) (wilds-InOrder [] (subpatterns p) (InOrder-first_clash_after [] (subpatterns p) h))

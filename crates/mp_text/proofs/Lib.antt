@@ -9,24 +9,25 @@ mod Clashes
 mod Declared
 mod Defaults
 mod Spelled
-mod Places
-mod PlacedFaults
 pub mod Whole
 pub mod SoundLaws
 mod BoundNames
 mod SoundConditionLaws
+pub mod SoundFile
+mod Spells
+mod TermAgain
+mod PatternAgain
+mod ScopeAgain
+mod ConditionAgain
+mod Unplaced
 mod SpelledHead
 mod SpelledTerm
-mod SpelledWildcard
 mod SpelledPattern
 mod SpelledDeclarations
 mod Statements
 mod ReadFile
-pub mod SoundFile
-mod SpelledScope
-mod SpelledAtom
 mod SpelledCondition
-mod SpelledFile
+mod FileAgain
 mod Examples
 mod AloneLaws
 mod Joined

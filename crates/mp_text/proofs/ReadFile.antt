@@ -1,5 +1,5 @@
 -- What statements without faults give: declarations in order, and rules and subjects of which a fact holds.
-use Rattle.std.proofs.Common.{◌≡◌, ◌≢◌, ◌≤◌, ◌<◌, Bool, false, ◌||◌, leb, ltb, List, [], ◌∷◌, ◌++◌, map, length, Option, Some, None, refl, sym, subst, ◌∙◌, arith, append-nil, append_assoc, rules}
+use Rattle.std.proofs.Common.{◌≡◌, ◌≢◌, ◌≤◌, ◌<◌, Bool, false, leb, ltb, List, [], ◌∷◌, ◌++◌, map, length, Option, Some, None, refl, sym, subst, ◌∙◌, arith, rules}
 use Rattle.std.specs.Prelude.{option_map, flat_map}
 use Rattle.std.specs.List.{list_any, AllByRecursion}
 use Rattle.std.specs.Str.{bytes_eq}
@@ -10,26 +10,19 @@ use Rattle.mp_term.specs.Signature.{Sig, Kind, has_name, has_sign, shares_sign, 
 use Rattle.mp_term.proofs.NameSets.{names_ascend-name_set}
 use Rattle.mp_term.proofs.SignatureLaws.{IsSignature-add_op, IsSignature-add_kind}
 use Rattle.mp_term.proofs.ListLaws.{all-append}
-use Rattle.mp_pattern.specs.Admission.{Rule}
-use Rattle.mp_syntax.specs.Syntax.{Spot, Tree, Condition, Flag, Assoc, Comm, One, Infixed, Statement, OpOf, KindOf, RuleOf, SubjectOf, FitsStatement, AreStatements, IsName, HasNames, HaveSigns, AreNames, StatementHasNames, StatementsHaveNames}
-use Rattle.mp_text.specs.declared.fault.TextFault.{TextFault}
-use Rattle.mp_text.specs.Subject.{Subject}
-use Rattle.mp_text.specs.Build.{op_decl, op_decls, kind_decl, kind_decls, sig_with, subject_of, subjects_of}
-use Rattle.mp_text.specs.FileBuild.{rule_of, rules_of}
-use Rattle.mp_text.specs.Checks.{fault_if, is_large_pattern, is_large_term, symbol_faults, term_faults, name_faults, has_bad_flags, held_sign_faults, op_faults, kind_faults, op_statement_faults, kind_statement_faults, faults_by}
-use Rattle.mp_text.specs.ConditionChecks.{has_large_condition}
-use Rattle.mp_text.specs.FileChecks.{rule_faults, statement_faults}
-use Rattle.mp_text.specs.Flags.{sign_spot, is_long_sign}
-use Rattle.mp_text.specs.Names.{rule_names, subject_names, number_of}
-use Rattle.mp_text.specs.Spelled.{piece}
-use Rattle.mp_text.proofs.Declared.{is_among-has_name, is_among-list_any, op_decls-append, op_decls-other, kind_decls-append, kind_decls-other, rules_of-append, subjects_of-append}
+use Rattle.mp_syntax.specs.Syntax.{Spot, Flag, Assoc, Comm, One, Infixed, Statement, OpOf, KindOf, RuleOf, SubjectOf, HaveSigns, AreNames, StatementHasNames}
+use Rattle.mp_text.specs.Build.{op_decl, op_decls, kind_decl, kind_decls, sig_with}
+use Rattle.mp_text.specs.Checks.{fault_if, symbol_faults, name_faults, has_bad_flags, held_sign_faults, op_faults, kind_faults, op_statement_faults, kind_statement_faults, faults_by}
+use Rattle.mp_text.specs.Flags.{sign_spot}
+use Rattle.mp_text.specs.Names.{number_of}
+use Rattle.mp_text.proofs.Declared.{is_among-has_name, is_among-list_any, op_decls-append, op_decls-other, kind_decls-append, kind_decls-other}
 use Rattle.mp_text.proofs.Faultless.{nil-append, nil-fault_if}
 use Rattle.mp_text.proofs.OpLaws.{declarable-op_faults}
 use Rattle.mp_pattern.specs.SoundRule.{IsSymbol}
 use Rattle.mp_text.proofs.SoundLaws.{named-by, IsSymbol-symbol_faults}
 use Rattle.mp_text.proofs.Statements.{IsRead, holds-behind}
 use Rattle.mp_text.proofs.SpelledHead.{IsSomeSign}
-use Rattle.mp_text.proofs.SpelledDeclarations.{IsDeclaredOp, IsDeclaredKind, all-name_set, some-name_set, length-name_set-le}
+use Rattle.mp_text.proofs.SpelledDeclarations.{short-sign, IsDeclaredOp, IsDeclaredKind, all-name_set, some-name_set, length-name_set-le}
 
 -- ---- operations
 
@@ -72,10 +65,6 @@ sign-of (Assoc ∷ flags) h = sign-of flags h.1
 sign-of (Comm ∷ flags) h = sign-of flags h.1
 sign-of (One ∷ flags) h = sign-of flags h.1
 sign-of (Infixed sign ∷ flags) h = h.0
-
-short-sign : (sign : Option Spot) → is_long_sign (option_map piece (option_map (λ s. s.text) sign)) ≡ is_long_sign sign
-short-sign None = refl
-short-sign (Some sign) = refl
 
 -- operations that statements declare
 pub record AreDeclaredOps (ds : List OpDecl) : Type 0 where

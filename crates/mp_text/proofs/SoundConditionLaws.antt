@@ -1,5 +1,5 @@
 -- A condition that the checks let through is sound over the normal form of its pattern.
-use Rattle.std.proofs.Common.{length, ◌+◌, ◌≡◌, ◌≤◌, ℕ, zero, suc, Bool, true, false, ◌||◌, not, ltb, List, [], ◌∷◌, ◌++◌, Some, refl, sym, ◌∙◌, arith, length-append}
+use Rattle.std.proofs.Common.{length, ◌≡◌, ◌≤◌, ℕ, zero, suc, Bool, true, false, ◌||◌, not, ltb, List, [], ◌++◌, Some, refl, sym, ◌∙◌, arith, length-append}
 use Rattle.std.specs.Prelude.{◌≢◌, is_none}
 use Rattle.std.specs.List.{list_any}
 use Rattle.std.specs.Str.{bytes_eq}
@@ -8,7 +8,6 @@ use Rattle.std.proofs.lemmas.Bool.{ltb-false, not-false, or_parts}
 use Rattle.mp_term.specs.Signature.{Sig, all_in_order, has_name, kind_names}
 use Rattle.mp_term.specs.Normal.{normal}
 use Rattle.mp_pattern.specs.declared.limits.TheConstants.{MAX_OPERAND_NODES, MAX_ATOMS, MAX_NUMBER}
-use Rattle.mp_pattern.specs.CondTree as held
 use Rattle.mp_pattern.specs.CondTree.{Cond, Conds, no_conds, more_conds, all_of, any_of}
 use Rattle.mp_pattern.specs.PatternTree.{Pattern}
 use Rattle.mp_pattern.specs.Firsts.{is_known}
@@ -37,18 +36,18 @@ atom_count-negated_if : (negated : Bool) (c : Cond) → atom_count (negated_if n
 atom_count-negated_if true c = refl
 atom_count-negated_if false c = refl
 
-atom_count-all_of : (cs : Conds) → atom_count (joined all_of cs) ≡ atom_counts cs
+pub atom_count-all_of : (cs : Conds) → atom_count (joined all_of cs) ≡ atom_counts cs
 atom_count-all_of no_conds = refl
 atom_count-all_of (more_conds c no_conds) = omega arith
 atom_count-all_of (more_conds c (more_conds d cs)) = refl
 
-atom_count-any_of : (cs : Conds) → atom_count (joined any_of cs) ≡ atom_counts cs
+pub atom_count-any_of : (cs : Conds) → atom_count (joined any_of cs) ≡ atom_counts cs
 atom_count-any_of no_conds = refl
 atom_count-any_of (more_conds c no_conds) = omega arith
 atom_count-any_of (more_conds c (more_conds d cs)) = refl
 
 module _ (sig : Sig) where
-  atom_count-atom_of : (a : Atom) → atom_count (atom_of sig a) ≡ 1
+  pub atom_count-atom_of : (a : Atom) → atom_count (atom_of sig a) ≡ 1
   atom_count-atom_of (Compare m s n) = refl
   atom_count-atom_of (Relate Same t u) = refl
   atom_count-atom_of (Relate Less t u) = refl

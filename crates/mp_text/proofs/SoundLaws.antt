@@ -2,18 +2,18 @@
 use Rattle.std.specs.Prelude.{if◌then◌else◌}
 use Rattle.mp_text.proofs.Words.{first-of, second-of, is_name-IsName}
 use Rattle.mp_text.proofs.Faultless.{nil-append, nil-fault_if, some-behind}
-use Rattle.std.proofs.Common.{cond, sym, eqb, ◌≡◌, ◌≤◌, ◌<◌, ◌+◌, ℕ, zero, suc, Bool, true, false, ◌||◌, ◌&&◌, leb, ltb, rules, List, [], ◌∷◌, ◌++◌, map, length, Option, Some, None, refl, ap, ◌∙◌, arith}
+use Rattle.std.proofs.Common.{cond, sym, eqb, ◌≡◌, ◌≤◌, ◌<◌, ◌+◌, ℕ, zero, suc, Bool, true, false, ◌||◌, leb, ltb, rules, List, [], ◌∷◌, ◌++◌, map, length, Option, Some, None, refl, ap, ◌∙◌, arith}
 use Rattle.std.specs.Prelude.{◌≢◌, not, flat_map, slice_get, position, is_some, is_none, nat_lt}
 use Rattle.std.specs.List.{list_all, list_any, position_or_len}
 use Rattle.std.specs.Str.{bytes_eq}
 use Rattle.std.proofs.lemmas.List.{map-append}
 use Rattle.std.proofs.lemmas.List.Sorted.{length_permutation}
 use Rattle.std.proofs.lemmas.Map.Text.{is_eq-slice_cmp}
-use Rattle.std.proofs.lemmas.Bool.{not-true, and_from, leb-false, ltb-false, not-false, or_parts}
+use Rattle.std.proofs.lemmas.Bool.{and_from, leb-false, ltb-false, not-false, or_parts}
 use Rattle.mp_term.specs.declared.signature.OpDecl.{OpDecl}
 use Rattle.mp_term.specs.Tree.{tree_list}
 use Rattle.mp_term.specs.Size.{node_count, node_counts, depth, greatest_depth}
-use Rattle.mp_term.specs.Signature.{Sig, holds_of, is_one, allows, has_name, kind_names, all_in_order, well_formed, all_well_formed}
+use Rattle.mp_term.specs.Signature.{Sig, holds_of, allows, has_name, kind_names, all_in_order, well_formed, all_well_formed}
 use Rattle.mp_term.proofs.SignatureLaws.{is_some-position}
 use Rattle.mp_term.specs.Normal.{normal}
 use Rattle.mp_term.proofs.NormalSize.{normal-normal, node_count-normal, depth-normal}
@@ -21,7 +21,7 @@ use Rattle.mp_term.proofs.WellFormedNormal.{wf-normal}
 use Rattle.mp_term.specs.Names.{are_distinct}
 use Rattle.mp_pattern.specs.PatternTree as pattern
 use Rattle.mp_pattern.specs.Firsts.{firsts_after, is_known, add_new}
-use Rattle.mp_pattern.specs.Normal.{is_loose, flattened, in_order, collapsed, normal_pattern, normal_patterns}
+use Rattle.mp_pattern.specs.Normal.{is_loose, flattened, in_order, normal_pattern, normal_patterns}
 use Rattle.mp_pattern.specs.Size.{pattern_nodes, all_pattern_nodes}
 use Rattle.mp_pattern.specs.Value.{same_name}
 use Rattle.mp_pattern.specs.Variables.{uses, all_uses, variables}

@@ -12,22 +12,19 @@ use Rattle.mp_pattern.specs.declared.condition.Sense as compared
 use Rattle.mp_pattern.specs.declared.condition.Sense.TheVariants as way
 use Rattle.mp_pattern.specs.CondTree as cond
 use Rattle.mp_pattern.specs.Admission.{Rule}
-use Rattle.mp_syntax.specs.declared.condition_tree.Measure.TheVariants.{Count, Size}
-use Rattle.mp_syntax.specs.declared.condition_tree.Relation.TheVariants.{Same, Less, Free}
-use Rattle.mp_syntax.specs.declared.condition_tree.Property.TheVariants as properties
 use Rattle.mp_syntax.specs.Tokens.{first_place}
-use Rattle.mp_syntax.specs.Syntax.{Apply, InfixOf, Optional, Trees, no_trees, more_trees, tree_list, Flag, Assoc, Comm, One, Measured, Compare, Relate, Test, Literal, AtomOf, Bracketed, more_literals, Condition, no_alternatives, more_alternatives, sense_sign, Statement, OpOf, KindOf, RuleOf, SubjectOf, IsSyntaxOf, FitsStatement, AreStatements, StatementHasNames, StatementsHaveNames}
+use Rattle.mp_syntax.specs.Syntax.{Apply, InfixOf, Trees, no_trees, more_trees, tree_list, Flag, Assoc, Comm, One, Literal, AtomOf, Bracketed, sense_sign, Statement, IsSyntaxOf, FitsStatement, AreStatements, StatementHasNames, StatementsHaveNames}
 use Rattle.mp_syntax.specs.Printed as syntax
 use Rattle.mp_syntax.specs.Printed.{literal_text, literals_text, alternatives_text, condition_text, if_text, unplaced_amount, unplaced_literal, unplaced_literals, unplaced_condition, unplaced_if, tree_text, first_text, others_text, plus_text, flag_text, member_text, line_end, statement_text, statements_text, unplaced_spot, unplaced_tree, unplaced_trees, unplaced_flag, unplaced}
 use Rattle.mp_syntax.proofs.Printed.{printed-again}
 use Rattle.mp_text.specs.Subject.{Subject}
 use Rattle.mp_text.specs.File.{FileTree}
-use Rattle.mp_print.specs.PrintedCond.{sense_text, measure_text, relation_text, operand_text, amount_text, comparison_text, op_name_text, part_text, part_texts, cond_text}
+use Rattle.mp_print.specs.PrintedCond.{sense_text, measure_text, relation_text, operand_text, amount_text, op_name_text, part_text, part_texts, cond_text}
 use Rattle.mp_print.specs.Printing.{kind_name_text, separated, preceded, prefix_text, infix_text, application_text, held_text, term_text, term_texts}
 use Rattle.mp_print.specs.PrintedPattern.{shape_text, pattern_text, pattern_texts}
 use Rattle.mp_print.specs.PrintedSignature.{text_if, op_text, head_text, kind_text}
 use Rattle.mp_text.specs.PrintedFile.{ending_text, rule_text, subject_text, file_text}
-use Rattle.mp_text.specs.Spelled.{piece, wildcard_piece, application_spelling, held_spelling, term_spelling, term_spellings, wildcard_spelling, pattern_spelling, pattern_spellings, sense_spelling, single_literal, single_alternative, negated_spelling, bracket_content, first_alternative, alternative_part, whole_condition, operand_spelling, amount_spelling, literal_spelling, literal_spellings, alternative_spellings, cond_spelling, flag_if, sign_flags, op_flags, op_spelling, kind_spelling, rule_spelling, subject_spelling, file_spelling}
+use Rattle.mp_text.specs.Spelled.{piece, application_spelling, held_spelling, term_spelling, term_spellings, wildcard_spelling, pattern_spelling, pattern_spellings, sense_spelling, single_literal, single_alternative, negated_spelling, alternative_part, operand_spelling, amount_spelling, literal_spelling, literal_spellings, alternative_spellings, cond_spelling, flag_if, sign_flags, op_flags, op_spelling, kind_spelling, rule_spelling, subject_spelling, file_spelling}
 
 -- ---- applications
 
@@ -112,18 +109,32 @@ sense_text-spelling way.Ne = refl
 relation_text-spelling : (sig : Sig) (word : Text) (a b : cond.Operand) → relation_text word (operand_text sig a) (operand_text sig b) ≡ relation_text word (tree_text (operand_spelling sig a)) (tree_text (operand_spelling sig b))
 relation_text-spelling sig word a b = λ i. relation_text word (operand_text-spelling sig a i) (operand_text-spelling sig b i)
 
-comparison_text-spelling : (sig : Sig) (m : cond.Amount) (c : compared.Sense) (n : cond.Amount) → comparison_text sig m c n ≡ literal_text (literal_spelling sig (cond.amounts m c n))
-comparison_text-spelling sig m c n = λ i. amount_text-spelling sig m i ++ (codes " " ++ (sense_text-spelling c i ++ (codes " " ++ amount_text-spelling sig n i)))
-
 property_text-spelling : (sig : Sig) (word : Text) (a : cond.Operand) (name : Text) → relation_text word (operand_text sig a) name ≡ relation_text word (tree_text (operand_spelling sig a)) name
 property_text-spelling sig word a name = ap (λ l. relation_text word l name) (operand_text-spelling sig a)
+
+-- the condition isn't made of others
+abbrev IsAtom : cond.Cond → Type 0
+IsAtom (cond.negation c) = ⊥
+IsAtom (cond.all_of cs) = ⊥
+IsAtom (cond.any_of cs) = ⊥
+IsAtom _ = Unit {0}
+
+-- such a condition is printed as its literal
+atom_text-spelling : (sig : Sig) (c : cond.Cond) → IsAtom c → cond_text sig c ≡ literal_text (literal_spelling sig c)
+atom_text-spelling sig (cond.amounts m c n) h = λ i. amount_text-spelling sig m i ++ (codes " " ++ (sense_text-spelling c i ++ (codes " " ++ amount_text-spelling sig n i)))
+atom_text-spelling sig (cond.same a b) h = relation_text-spelling sig (codes "same") a b
+atom_text-spelling sig (cond.less a b) h = relation_text-spelling sig (codes "less") a b
+atom_text-spelling sig (cond.free a b) h = relation_text-spelling sig (codes "free") a b
+atom_text-spelling sig (cond.of_kind a k) h = property_text-spelling sig (codes "kind") a (kind_name_text sig k)
+atom_text-spelling sig (cond.headed a f) h = property_text-spelling sig (codes "head") a (op_name_text sig f)
+atom_text-spelling sig _ h = absurd h
 
 -- a literal alone
 single-text : (l : Literal) → alternatives_text [] (single_alternative (single_literal l)) ≡ literal_text l
 single-text l = append-nil (literals_text [] (single_literal l)) ∙ append-nil (literal_text l)
 
 -- a second `not` stands before square brackets
-negated-twice : (l : Literal) → negated_spelling (negated_spelling l) ≡ Bracketed true (single_alternative (single_literal (negated_spelling l)))
+pub negated-twice : (l : Literal) → negated_spelling (negated_spelling l) ≡ Bracketed true (single_alternative (single_literal (negated_spelling l)))
 negated-twice (AtomOf true a) = refl
 negated-twice (AtomOf false a) = refl
 negated-twice (Bracketed true c) = refl
@@ -136,27 +147,17 @@ bracketed text = codes "[" ++ (text ++ codes "]")
 mutual
   -- a part of a conjunction is printed as its literal
   literal_text-spelling : (sig : Sig) (c : cond.Cond) → part_text 2 c (cond_text sig c) ≡ literal_text (literal_spelling sig c)
-  literal_text-spelling sig (cond.amounts m c n) = comparison_text-spelling sig m c n
-  literal_text-spelling sig (cond.same a b) = relation_text-spelling sig (codes "same") a b
-  literal_text-spelling sig (cond.less a b) = relation_text-spelling sig (codes "less") a b
-  literal_text-spelling sig (cond.free a b) = relation_text-spelling sig (codes "free") a b
-  literal_text-spelling sig (cond.of_kind a k) = property_text-spelling sig (codes "kind") a (kind_name_text sig k)
-  literal_text-spelling sig (cond.headed a f) = property_text-spelling sig (codes "head") a (op_name_text sig f)
   literal_text-spelling sig (cond.negation c) = negation_text-spelling sig c
   literal_text-spelling sig (cond.all_of cs) = ap bracketed (all_text-spelling sig cs)
   literal_text-spelling sig (cond.any_of cs) = ap bracketed (any_text-spelling sig cs)
+  literal_text-spelling sig c = atom_text-spelling sig c tt
 
   -- a negation is printed as its literal
   negation_text-spelling : (sig : Sig) (c : cond.Cond) → codes "not " ++ part_text 3 c (cond_text sig c) ≡ literal_text (negated_spelling (literal_spelling sig c))
-  negation_text-spelling sig (cond.amounts m c n) = ap (λ l. codes "not " ++ l) (comparison_text-spelling sig m c n)
-  negation_text-spelling sig (cond.same a b) = ap (λ l. codes "not " ++ l) (relation_text-spelling sig (codes "same") a b)
-  negation_text-spelling sig (cond.less a b) = ap (λ l. codes "not " ++ l) (relation_text-spelling sig (codes "less") a b)
-  negation_text-spelling sig (cond.free a b) = ap (λ l. codes "not " ++ l) (relation_text-spelling sig (codes "free") a b)
-  negation_text-spelling sig (cond.of_kind a k) = ap (λ l. codes "not " ++ l) (property_text-spelling sig (codes "kind") a (kind_name_text sig k))
-  negation_text-spelling sig (cond.headed a f) = ap (λ l. codes "not " ++ l) (property_text-spelling sig (codes "head") a (op_name_text sig f))
   negation_text-spelling sig (cond.negation c) = ap (λ l. codes "not " ++ bracketed l) (negation_text-spelling sig c ∙ sym (single-text (negated_spelling (literal_spelling sig c)))) ∙ sym (ap literal_text (negated-twice (literal_spelling sig c)))
   negation_text-spelling sig (cond.all_of cs) = ap (λ l. codes "not " ++ bracketed l) (all_text-spelling sig cs)
   negation_text-spelling sig (cond.any_of cs) = ap (λ l. codes "not " ++ bracketed l) (any_text-spelling sig cs)
+  negation_text-spelling sig c = ap (λ l. codes "not " ++ l) (atom_text-spelling sig c tt)
 
   -- a conjunction is printed as an alternative of its literals
   all_text-spelling : (sig : Sig) (cs : cond.Conds) → separated (codes " and ") (part_texts sig 2 cs) ≡ alternatives_text [] (single_alternative (literal_spellings sig cs))
@@ -178,27 +179,17 @@ mutual
 
   -- a part of a disjunction is printed as its alternative
   alternative_text-spelling : (sig : Sig) (c : cond.Cond) → part_text 1 c (cond_text sig c) ≡ literals_text [] (alternative_part c (literal_spelling sig c))
-  alternative_text-spelling sig (cond.amounts m c n) = comparison_text-spelling sig m c n ∙ sym (append-nil _)
-  alternative_text-spelling sig (cond.same a b) = relation_text-spelling sig (codes "same") a b ∙ sym (append-nil _)
-  alternative_text-spelling sig (cond.less a b) = relation_text-spelling sig (codes "less") a b ∙ sym (append-nil _)
-  alternative_text-spelling sig (cond.free a b) = relation_text-spelling sig (codes "free") a b ∙ sym (append-nil _)
-  alternative_text-spelling sig (cond.of_kind a k) = property_text-spelling sig (codes "kind") a (kind_name_text sig k) ∙ sym (append-nil _)
-  alternative_text-spelling sig (cond.headed a f) = property_text-spelling sig (codes "head") a (op_name_text sig f) ∙ sym (append-nil _)
   alternative_text-spelling sig (cond.negation c) = negation_text-spelling sig c ∙ sym (append-nil _)
   alternative_text-spelling sig (cond.all_of cs) = all_text-spelling sig cs ∙ append-nil _
   alternative_text-spelling sig (cond.any_of cs) = ap bracketed (any_text-spelling sig cs) ∙ sym (append-nil _)
+  alternative_text-spelling sig c = atom_text-spelling sig c tt ∙ sym (append-nil _)
 
 -- a condition is printed as it is spelled
 cond_text-spelling : (sig : Sig) (c : cond.Cond) → cond_text sig c ≡ condition_text (cond_spelling sig c)
-cond_text-spelling sig (cond.amounts m c n) = comparison_text-spelling sig m c n ∙ sym (single-text (literal_spelling sig (cond.amounts m c n)))
-cond_text-spelling sig (cond.same a b) = relation_text-spelling sig (codes "same") a b ∙ sym (single-text (literal_spelling sig (cond.same a b)))
-cond_text-spelling sig (cond.less a b) = relation_text-spelling sig (codes "less") a b ∙ sym (single-text (literal_spelling sig (cond.less a b)))
-cond_text-spelling sig (cond.free a b) = relation_text-spelling sig (codes "free") a b ∙ sym (single-text (literal_spelling sig (cond.free a b)))
-cond_text-spelling sig (cond.of_kind a k) = property_text-spelling sig (codes "kind") a (kind_name_text sig k) ∙ sym (single-text (literal_spelling sig (cond.of_kind a k)))
-cond_text-spelling sig (cond.headed a f) = property_text-spelling sig (codes "head") a (op_name_text sig f) ∙ sym (single-text (literal_spelling sig (cond.headed a f)))
 cond_text-spelling sig (cond.negation c) = negation_text-spelling sig c ∙ sym (single-text (negated_spelling (literal_spelling sig c)))
 cond_text-spelling sig (cond.all_of cs) = all_text-spelling sig cs
 cond_text-spelling sig (cond.any_of cs) = any_text-spelling sig cs
+cond_text-spelling sig c = atom_text-spelling sig c tt ∙ sym (single-text (literal_spelling sig c))
 
 -- ---- statements
 
@@ -276,154 +267,11 @@ file_text-spelling f n h =
     ∙ texts-spellings (subject_text f.sig) (subject_spelling f.sig) (λ s names fits. subject_text-spelling f.sig s) f.subjects [] [] (subst StatementsHaveNames (sym (append-nil subjects)) n) (subst AreStatements (sym (append-nil subjects)) h) (λ n h. refl)
     ∙ ap statements_text (append-nil subjects))))
 
--- ---- places
-
-unplaced-application : (d : OpDecl) (sign : Option Text) (ts : Trees) → unplaced_trees ts ≡ ts → unplaced_tree (application_spelling d sign ts) ≡ application_spelling d sign ts
-unplaced-application d None ts e = ap (Apply (piece d.name)) e
-unplaced-application d (Some sign) ts e = go (leb 2 (length (tree_list ts)))
-  where
-    go : (v : Bool) → unplaced_tree (cond v (InfixOf first_place (piece sign) ts) (Apply (piece d.name) ts)) ≡ cond v (InfixOf first_place (piece sign) ts) (Apply (piece d.name) ts)
-    go true = ap (InfixOf first_place (piece sign)) e
-    go false = ap (Apply (piece d.name)) e
-
-unplaced-held : (o : Option OpDecl) (ts : Trees) → unplaced_trees ts ≡ ts → unplaced_tree (held_spelling o ts) ≡ held_spelling o ts
-unplaced-held None ts e = refl
-unplaced-held (Some d) ts e = unplaced-application d d.sign ts e
-
-mutual
-  unplaced-term : (sig : Sig) (t : term.Tree) → unplaced_tree (term_spelling sig t) ≡ term_spelling sig t
-  unplaced-term sig (term.symbol n) = refl
-  unplaced-term sig (term.app f ts) = unplaced-held (slice_get sig.ops f) (term_spellings sig ts) (unplaced-terms sig ts)
-
-  unplaced-terms : (sig : Sig) (ts : term.Trees) → unplaced_trees (term_spellings sig ts) ≡ term_spellings sig ts
-  unplaced-terms sig term.no_trees = refl
-  unplaced-terms sig (term.more_trees t ts) = λ i. more_trees (unplaced-term sig t i) (unplaced-terms sig ts i)
-
-unplaced-wildcard : (sig : Sig) (w : pattern.Wildcard) (x : Text) → unplaced_tree (wildcard_spelling sig w x) ≡ wildcard_spelling sig w x
-unplaced-wildcard sig pattern.dot x = refl
-unplaced-wildcard sig (pattern.kind k) x = refl
-unplaced-wildcard sig pattern.plus x = refl
-unplaced-wildcard sig pattern.star x = refl
-unplaced-wildcard sig (pattern.optional t) x = ap (Optional (wildcard_piece x 1 []) []) (unplaced-term sig t)
-
-mutual
-  unplaced-pattern : (sig : Sig) (p : pattern.Pattern) → unplaced_tree (pattern_spelling sig p) ≡ pattern_spelling sig p
-  unplaced-pattern sig (pattern.symbol_pattern n) = refl
-  unplaced-pattern sig (pattern.app_pattern f ps) = unplaced-held (slice_get sig.ops f) (pattern_spellings sig ps) (unplaced-patterns sig ps)
-  unplaced-pattern sig (pattern.wild_pattern w x) = unplaced-wildcard sig w (unwrap_or x [])
-
-  unplaced-patterns : (sig : Sig) (ps : pattern.Patterns) → unplaced_trees (pattern_spellings sig ps) ≡ pattern_spellings sig ps
-  unplaced-patterns sig pattern.no_patterns = refl
-  unplaced-patterns sig (pattern.more_patterns p ps) = λ i. more_trees (unplaced-pattern sig p i) (unplaced-patterns sig ps i)
-
-unplaced-operand : (sig : Sig) (a : cond.Operand) → unplaced_tree (operand_spelling sig a) ≡ operand_spelling sig a
-unplaced-operand sig (cond.var x) = refl
-unplaced-operand sig (cond.ground t) = unplaced-term sig t
-
-unplaced-amount : (sig : Sig) (m : cond.Amount) → unplaced_amount (amount_spelling sig m) ≡ amount_spelling sig m
-unplaced-amount sig (cond.fixed n) = refl
-unplaced-amount sig (cond.count a) = ap (Measured Count) (unplaced-operand sig a)
-unplaced-amount sig (cond.size a) = ap (Measured Size) (unplaced-operand sig a)
-
-unplaced-negated : (l : Literal) → unplaced_literal l ≡ l → unplaced_literal (negated_spelling l) ≡ negated_spelling l
-unplaced-negated (AtomOf false a) e = ap negated_spelling e
-unplaced-negated (AtomOf true a) e = ap (λ l. Bracketed true (single_alternative (single_literal l))) e
-unplaced-negated (Bracketed false c) e = ap negated_spelling e
-unplaced-negated (Bracketed true c) e = ap (λ l. Bracketed true (single_alternative (single_literal l))) e
-
-unplaced-content : (l : Literal) → unplaced_literal l ≡ l → unplaced_condition (bracket_content l) ≡ bracket_content l
-unplaced-content (AtomOf negated a) e = ap (λ l. single_alternative (single_literal l)) e
-unplaced-content (Bracketed negated c) e = ap bracket_content e
-
-unplaced-first : (c : Condition) → unplaced_condition c ≡ c → unplaced_literals (first_alternative c) ≡ first_alternative c
-unplaced-first no_alternatives e = refl
-unplaced-first (more_alternatives ls c) e = ap first_alternative e
-
-unplaced-part : (c : cond.Cond) (l : Literal) → unplaced_literal l ≡ l → unplaced_literals (alternative_part c l) ≡ alternative_part c l
-unplaced-part (cond.all_of cs) l e = unplaced-first (bracket_content l) (unplaced-content l e)
-unplaced-part (cond.amounts m c n) l e = ap single_literal e
-unplaced-part (cond.same a b) l e = ap single_literal e
-unplaced-part (cond.less a b) l e = ap single_literal e
-unplaced-part (cond.free a b) l e = ap single_literal e
-unplaced-part (cond.of_kind a k) l e = ap single_literal e
-unplaced-part (cond.headed a f) l e = ap single_literal e
-unplaced-part (cond.negation c) l e = ap single_literal e
-unplaced-part (cond.any_of cs) l e = ap single_literal e
-
-unplaced-whole : (c : cond.Cond) (l : Literal) → unplaced_literal l ≡ l → unplaced_condition (whole_condition c l) ≡ whole_condition c l
-unplaced-whole (cond.all_of cs) l e = unplaced-content l e
-unplaced-whole (cond.any_of cs) l e = unplaced-content l e
-unplaced-whole (cond.amounts m c n) l e = ap (λ l. single_alternative (single_literal l)) e
-unplaced-whole (cond.same a b) l e = ap (λ l. single_alternative (single_literal l)) e
-unplaced-whole (cond.less a b) l e = ap (λ l. single_alternative (single_literal l)) e
-unplaced-whole (cond.free a b) l e = ap (λ l. single_alternative (single_literal l)) e
-unplaced-whole (cond.of_kind a k) l e = ap (λ l. single_alternative (single_literal l)) e
-unplaced-whole (cond.headed a f) l e = ap (λ l. single_alternative (single_literal l)) e
-unplaced-whole (cond.negation c) l e = ap (λ l. single_alternative (single_literal l)) e
-
-mutual
-  unplaced-literal : (sig : Sig) (c : cond.Cond) → unplaced_literal (literal_spelling sig c) ≡ literal_spelling sig c
-  unplaced-literal sig (cond.amounts m c n) = λ i. AtomOf false (Compare (unplaced-amount sig m i) (sense_spelling c) (unplaced-amount sig n i))
-  unplaced-literal sig (cond.same a b) = λ i. AtomOf false (Relate Same (unplaced-operand sig a i) (unplaced-operand sig b i))
-  unplaced-literal sig (cond.less a b) = λ i. AtomOf false (Relate Less (unplaced-operand sig a i) (unplaced-operand sig b i))
-  unplaced-literal sig (cond.free a b) = λ i. AtomOf false (Relate Free (unplaced-operand sig a i) (unplaced-operand sig b i))
-  unplaced-literal sig (cond.of_kind a k) = ap (λ e. AtomOf false (Test properties.Kind e (piece (kind_name_text sig k)))) (unplaced-operand sig a)
-  unplaced-literal sig (cond.headed a f) = ap (λ e. AtomOf false (Test properties.Head e (piece (op_name_text sig f)))) (unplaced-operand sig a)
-  unplaced-literal sig (cond.negation c) = unplaced-negated (literal_spelling sig c) (unplaced-literal sig c)
-  unplaced-literal sig (cond.all_of cs) = ap (λ ls. Bracketed false (single_alternative ls)) (unplaced-literals sig cs)
-  unplaced-literal sig (cond.any_of cs) = ap (Bracketed false) (unplaced-alternatives sig cs)
-
-  unplaced-literals : (sig : Sig) (cs : cond.Conds) → unplaced_literals (literal_spellings sig cs) ≡ literal_spellings sig cs
-  unplaced-literals sig cond.no_conds = refl
-  unplaced-literals sig (cond.more_conds c cs) = λ i. more_literals (unplaced-literal sig c i) (unplaced-literals sig cs i)
-
-  unplaced-alternatives : (sig : Sig) (cs : cond.Conds) → unplaced_condition (alternative_spellings sig cs) ≡ alternative_spellings sig cs
-  unplaced-alternatives sig cond.no_conds = refl
-  unplaced-alternatives sig (cond.more_conds c cs) = λ i. more_alternatives (unplaced-part c (literal_spelling sig c) (unplaced-literal sig c) i) (unplaced-alternatives sig cs i)
-
--- the condition of a rule stands at the first place
-unplaced-if : (sig : Sig) (o : Option cond.Cond) → unplaced_if (option_map (cond_spelling sig) o) ≡ option_map (cond_spelling sig) o
-unplaced-if sig None = refl
-unplaced-if sig (Some c) = ap some_condition (unplaced-whole c (literal_spelling sig c) (unplaced-literal sig c))
-  where
-    some_condition : Condition → Option Condition
-    some_condition c = Some c
-
-unplaced-flag_if : (v : Bool) (flag : Flag) (flags : List Flag) → unplaced_flag flag ≡ flag → map unplaced_flag flags ≡ flags → map unplaced_flag (flag_if v flag ++ flags) ≡ flag_if v flag ++ flags
-unplaced-flag_if true flag flags e h = λ i. e i ∷ h i
-unplaced-flag_if false flag flags e h = h
-
-unplaced-sign : (sign : Option Text) → map unplaced_flag (sign_flags sign) ≡ sign_flags sign
-unplaced-sign None = refl
-unplaced-sign (Some sign) = refl
-
-unplaced-op : (d : OpDecl) → unplaced (op_spelling d) ≡ op_spelling d
-unplaced-op d =
-    ap (OpOf (piece d.name) (piece (decimal d.least)) (not d.fixed))
-    (unplaced-flag_if d.assoc Assoc _ refl (unplaced-flag_if d.comm Comm _ refl (unplaced-flag_if d.one One _ refl (unplaced-sign d.sign))))
-
-unplaced-pieces : (texts : List Text) → map unplaced_spot (map piece texts) ≡ map piece texts
-unplaced-pieces [] = refl
-unplaced-pieces (text ∷ texts) = ap (λ l. piece text ∷ l) (unplaced-pieces texts)
-
-module _ {X : Type 0} (spelling : X → Statement) (each : (x : X) → unplaced (spelling x) ≡ spelling x) where
-  unplaced-spellings : (xs : List X) (rest : List Statement) → map unplaced rest ≡ rest → map unplaced (map spelling xs ++ rest) ≡ map spelling xs ++ rest
-  unplaced-spellings [] rest h = h
-  unplaced-spellings (x ∷ xs) rest h = λ i. each x i ∷ unplaced-spellings xs rest h i
-
--- the statements of a file stand at the first place
-unplaced-file : (f : FileTree) → map unplaced (file_spelling f) ≡ file_spelling f
-unplaced-file f =
-    let subjects = map (subject_spelling f.sig) f.subjects in
-    let last : map unplaced subjects ≡ subjects = subst (λ l. map unplaced l ≡ l) (append-nil subjects) (unplaced-spellings (subject_spelling f.sig) (λ s. ap (SubjectOf (piece s.name)) (unplaced-term f.sig s.term)) f.subjects [] refl) in
-    unplaced-spellings op_spelling unplaced-op f.sig.ops _
-    (unplaced-spellings kind_spelling (λ k. ap (KindOf (piece k.name)) (unplaced-pieces k.members)) f.sig.kinds _
-    (unplaced-spellings (rule_spelling f.sig) (λ r. λ i. RuleOf (piece r.name) (unplaced-pattern f.sig r.pattern i) (unplaced-if f.sig r.condition i)) f.rules _ last))
-
 -- ---- the printed file is read
 
 -- what is printed of a file is read as the statements of the file, apart from their places
-pub file-again : (f : FileTree) → StatementsHaveNames (file_spelling f) → AreStatements (file_spelling f) → (read : List Statement) × IsSyntaxOf (file_text f) read × (map unplaced read ≡ file_spelling f)
+pub file-again : (f : FileTree) → StatementsHaveNames (file_spelling f) → AreStatements (file_spelling f)
+    → (read : List Statement) × IsSyntaxOf (file_text f) read × (map unplaced read ≡ map unplaced (file_spelling f))
 file-again f names fits =
     let r = printed-again (file_spelling f) names fits in
-    (r.0, subst (λ l. IsSyntaxOf l r.0) (sym (file_text-spelling f names fits)) r.1, r.2 ∙ unplaced-file f)
+    (r.0, subst (λ l. IsSyntaxOf l r.0) (sym (file_text-spelling f names fits)) r.1, r.2)

@@ -1,5 +1,5 @@
 -- The declarations of operations and kinds are read again as they are spelled, and have no faults.
-use Rattle.std.proofs.Common.{◌≡◌, ◌≢◌, ◌≤◌, ◌<◌, ◌+◌, ◌-◌, ◌*◌, ◌/◌, ◌%◌, ◌^◌, ℕ, Bool, true, false, ◌||◌, cond, not, leb, ltb, List, [], ◌∷◌, ◌++◌, map, length, Option, Some, None, refl, sym, ap, ◌∙◌, arith, rules}
+use Rattle.std.proofs.Common.{◌≡◌, ◌≢◌, ◌≤◌, ◌<◌, ◌+◌, ◌-◌, ◌*◌, ◌/◌, ◌%◌, ◌^◌, ℕ, Bool, true, false, ◌||◌, cond, not, leb, ltb, List, [], ◌∷◌, ◌++◌, map, length, count_by, Option, Some, None, refl, sym, ap, subst, ◌∙◌, arith, rules}
 use Rattle.std.specs.Prelude.{option_map, decimal, flat_map}
 use Rattle.std.specs.List.{list_all, list_any, AllByRecursion, dedup, dedup_from}
 use Rattle.std.specs.Char.{is_ascii_digit}
@@ -10,28 +10,34 @@ use Rattle.std.specs.Ordering.{nat_cmp, eq_by_cmp, is_lt, is_gt, is_eq, ordering
 use Rattle.std.proofs.lemmas.Cmp.{nat_list_cmp_total}
 use Rattle.std.proofs.lemmas.Fmt.{decimal_by_steps, length-decimal-le}
 use Rattle.std.proofs.lemmas.List.{length-map}
+use Rattle.std.proofs.lemmas.List.Sums.{sum_by-cons}
 use Rattle.std.proofs.lemmas.List.Folds.{list_all-append}
 use Rattle.std.proofs.lemmas.Bool.{or_parts}
 use Rattle.mp_io.specs.Devices.{Text}
+use Rattle.mp_syntax.specs.declared.limits.TheConstants.{MAX_WORD_BYTES}
+use Rattle.mp_pattern.specs.declared.limits.TheConstants.{MAX_NUMBER}
+use Rattle.mp_term.specs.declared.limits.TheConstants.{MAX_ARITY, MAX_OPS, MAX_KINDS, MAX_KIND_SYMBOLS}
 use Rattle.mp_term.specs.declared.signature.OpDecl.{OpDecl}
 use Rattle.mp_term.specs.Names.{name_set, names_ascend}
 use Rattle.mp_term.specs.Sorting.{insert_sorted, sorted}
 use Rattle.mp_term.specs.Signature.{Kind, in_order, has_name, has_sign, shares_sign, clashes, kind_names}
 use Rattle.mp_term.proofs.Sorting.{length-sorted}
 use Rattle.mp_pattern.proofs.SortedLaws.{all-sorted}
-use Rattle.mp_syntax.specs.Tokens.{first_place, AreWordBytes, is_word_byte}
-use Rattle.mp_syntax.specs.Syntax.{Flag, Assoc, Comm, One, Statement, FitsStatement, IsName, HasSign, HaveSigns, AreNames, StatementHasNames}
+use Rattle.mp_syntax.specs.Tokens.{AreWordBytes, is_word_byte}
+use Rattle.mp_syntax.specs.Printed.{unplaced_spot, unplaced_flag, unplaced}
+use Rattle.mp_syntax.specs.Syntax.{Spot, Flag, Assoc, Comm, One, Infixed, Statement, OpOf, KindOf, FitsStatement, IsName, HasSign, HaveSigns, AreNames, StatementHasNames}
 use Rattle.mp_text.specs.declared.fault.TextKind.TheVariants.{DuplicateName, TooMany, BadFlags}
-use Rattle.mp_text.specs.Build.{op_decl, kind_decl, sig_with}
+use Rattle.mp_text.specs.Build.{op_decl, sig_with}
 use Rattle.mp_text.specs.Checks.{fault_if, symbol_faults, name_faults, has_bad_flags, held_sign_faults, op_faults, kind_faults}
-use Rattle.mp_text.specs.Flags.{says_assoc, says_comm, says_one, is_said, some_flag_twice, sign_spot, is_long_sign}
+use Rattle.mp_text.specs.Flags.{says_assoc, says_comm, says_one, says_infix, is_said, some_flag_twice, sign_spot, is_long_sign}
 use Rattle.mp_text.specs.Names.{is_among, number_after, number_of}
 use Rattle.mp_text.specs.Spelled.{piece, flag_if, sign_flags, op_flags, op_spelling, kind_spelling}
 use Rattle.mp_text.proofs.Declared.{is_among-has_name}
 use Rattle.mp_text.proofs.Faultless.{nil-append, nil-both, none-fault_if}
 use Rattle.mp_text.proofs.Words.{first-of, second-of, IsName-is_name}
 use Rattle.mp_pattern.specs.SoundRule.{IsSymbol}
-use Rattle.mp_text.proofs.SpelledHead.{HasOpNames, IsSomeSign, symbol_faults-IsSymbol}
+use Rattle.mp_text.proofs.SpelledHead.{HasOpNames, IsSomeSign}
+use Rattle.mp_text.proofs.TermAgain.{none-symbol}
 
 -- ---- numbers
 
@@ -78,45 +84,105 @@ writes-decimal = decimal_by_steps Writes one more
 -- a number as it is written
 pub record IsWrittenNumber (n : ℕ) : Type 0 where
   pub writes : Writes n (decimal n)
-  pub short : length (decimal n) ≤ 64
+  pub short : length (decimal n) ≤ MAX_WORD_BYTES
 
-pub number-written : (n : ℕ) → n ≤ 1000000 → IsWrittenNumber n
+pub number-written : (n : ℕ) → n ≤ MAX_NUMBER → IsWrittenNumber n
 number-written n small =
     let few : n < 2 ^ 64 = omega arith in
     let short : length (decimal n) ≤ 7 = length-decimal-le 7 n (omega arith) (omega arith) few in
     record { writes = writes-decimal n few; short = omega arith }
 
+-- its digits are a name
+pub name-written : (n : ℕ) → n ≤ MAX_NUMBER → IsName (decimal n)
+name-written n small = let w = number-written n small in record { is_word = record { some = w.writes.some; bytes = w.writes.word }; is_short = w.short }
+
 -- ---- flags
 
+-- the flag of a sign, where there is one
+abbrev infix_flags : Option Spot → List Flag
+infix_flags None = []
+infix_flags (Some w) = Infixed w ∷ []
+
+-- what begins with a flag apart from places begins with it, where the flag has no place
+front-alike : (v : Bool) (flag : Flag) → ((f : Flag) → unplaced_flag f ≡ unplaced_flag flag → f ≡ flag) → (rest flags : List Flag) → map unplaced_flag flags ≡ map unplaced_flag (flag_if v flag ++ rest)
+    → (gs : List Flag) × (flags ≡ flag_if v flag ++ gs) × (map unplaced_flag gs ≡ map unplaced_flag rest)
+front-alike false flag plain rest flags e = (flags, refl, e)
+front-alike true flag plain rest [] e = absurd cc
+front-alike true flag plain rest (f ∷ fs) e = (fs, ap (λ g. g ∷ fs) (plain f cc), cc)
+
+last-alike : (sign : Option Text) (flags : List Flag) → map unplaced_flag flags ≡ map unplaced_flag (sign_flags sign) → (w : Option Spot) × (flags ≡ infix_flags w) × (option_map (λ s. s.text) w ≡ sign)
+last-alike None [] e = (None, refl, refl)
+last-alike (Some sign) (Infixed w ∷ []) e =
+    let spot : unplaced_spot w ≡ unplaced_spot (piece sign) = cc in
+    (Some w, refl, ap (λ (s : Spot). Some s.text) spot)
+last-alike _ _ e = absurd cc
+
+plain-assoc : (f : Flag) → unplaced_flag f ≡ Assoc → f ≡ Assoc
+plain-assoc Assoc e = refl
+plain-assoc _ e = absurd cc
+
+plain-comm : (f : Flag) → unplaced_flag f ≡ Comm → f ≡ Comm
+plain-comm Comm e = refl
+plain-comm _ e = absurd cc
+
+plain-one : (f : Flag) → unplaced_flag f ≡ One → f ≡ One
+plain-one One e = refl
+plain-one _ e = absurd cc
+
+-- how often a test holds of a flag that may be there and of those behind it
+count-if : (says : Flag → Bool) (v : Bool) (flag : Flag) (rest : List Flag) → count_by says (flag_if v flag ++ rest) ≡ cond (says flag) (cond v 1 0) 0 + count_by says rest
+count-if says true flag rest = sum_by-cons (λ f. cond (says f) 1 0) flag rest
+count-if says false flag rest = elim (says flag) as (λ b. count_by says rest ≡ cond b 0 0 + count_by says rest) [ true ↦ omega arith | false ↦ omega arith ]
+
+-- what is said once or not at all
+said : (v : Bool) (n : ℕ) → n ≡ cond v 1 0 → (ltb 0 n ≡ v) × (ltb 1 n ≡ false)
+said true n e = (ap (ltb 0) e, ap (ltb 1) e)
+said false n e = (ap (ltb 0) e, ap (ltb 1) e)
+
+-- the sign stands behind a flag without one
+behind-flag : (v : Bool) (flag : Flag) → ((rest : List Flag) → sign_spot (flag ∷ rest) ≡ sign_spot rest) → (rest : List Flag) → sign_spot (flag_if v flag ++ rest) ≡ sign_spot rest
+behind-flag true flag each rest = each rest
+behind-flag false flag each rest = refl
+
 -- flags that say just this
-record Say (a c o : Bool) (s : Option Text) (flags : List Flag) : Type 0 where
-  assoc : is_said says_assoc flags ≡ a
-  comm : is_said says_comm flags ≡ c
-  one : is_said says_one flags ≡ o
-  sign : sign_spot flags ≡ option_map piece s
-  once : some_flag_twice flags ≡ false
+pub record Say (d : OpDecl) (flags : List Flag) : Type 0 where
+  pub assoc : is_said says_assoc flags ≡ d.assoc
+  pub comm : is_said says_comm flags ≡ d.comm
+  pub one : is_said says_one flags ≡ d.one
+  pub sign : option_map (λ s. s.text) (sign_spot flags) ≡ d.sign
+  pub once : some_flag_twice flags ≡ false
 
-say-flags : (a c o : Bool) (s : Option Text) → Say a c o s (flag_if a Assoc ++ (flag_if c Comm ++ (flag_if o One ++ sign_flags s)))
-say-flags true true true None = record { assoc = refl; comm = refl; one = refl; sign = refl; once = refl }
-say-flags true true true (Some s) = record { assoc = refl; comm = refl; one = refl; sign = refl; once = refl }
-say-flags true true false None = record { assoc = refl; comm = refl; one = refl; sign = refl; once = refl }
-say-flags true true false (Some s) = record { assoc = refl; comm = refl; one = refl; sign = refl; once = refl }
-say-flags true false true None = record { assoc = refl; comm = refl; one = refl; sign = refl; once = refl }
-say-flags true false true (Some s) = record { assoc = refl; comm = refl; one = refl; sign = refl; once = refl }
-say-flags true false false None = record { assoc = refl; comm = refl; one = refl; sign = refl; once = refl }
-say-flags true false false (Some s) = record { assoc = refl; comm = refl; one = refl; sign = refl; once = refl }
-say-flags false true true None = record { assoc = refl; comm = refl; one = refl; sign = refl; once = refl }
-say-flags false true true (Some s) = record { assoc = refl; comm = refl; one = refl; sign = refl; once = refl }
-say-flags false true false None = record { assoc = refl; comm = refl; one = refl; sign = refl; once = refl }
-say-flags false true false (Some s) = record { assoc = refl; comm = refl; one = refl; sign = refl; once = refl }
-say-flags false false true None = record { assoc = refl; comm = refl; one = refl; sign = refl; once = refl }
-say-flags false false true (Some s) = record { assoc = refl; comm = refl; one = refl; sign = refl; once = refl }
-say-flags false false false None = record { assoc = refl; comm = refl; one = refl; sign = refl; once = refl }
-say-flags false false false (Some s) = record { assoc = refl; comm = refl; one = refl; sign = refl; once = refl }
+say-front : (d : OpDecl) (last : List Flag) (infixed : Bool) → count_by says_assoc last ≡ 0 → count_by says_comm last ≡ 0 → count_by says_one last ≡ 0 → count_by says_infix last ≡ cond infixed 1 0 → option_map (λ s. s.text) (sign_spot last) ≡ d.sign
+    → Say d (flag_if d.assoc Assoc ++ (flag_if d.comm Comm ++ (flag_if d.one One ++ last)))
+say-front d last infixed a c o i sign =
+    let third = flag_if d.one One ++ last in
+    let second = flag_if d.comm Comm ++ third in
+    let total : (says : Flag → Bool) → count_by says (flag_if d.assoc Assoc ++ second) ≡ cond (says Assoc) (cond d.assoc 1 0) 0 + (cond (says Comm) (cond d.comm 1 0) 0 + (cond (says One) (cond d.one 1 0) 0 + count_by says last)) = λ says.
+    count-if says d.assoc Assoc second ∙ ap (λ n. cond (says Assoc) (cond d.assoc 1 0) 0 + n) (count-if says d.comm Comm third ∙ ap (λ n. cond (says Comm) (cond d.comm 1 0) 0 + n) (count-if says d.one One last)) in
+    let x = said d.assoc (count_by says_assoc (flag_if d.assoc Assoc ++ second)) (omega (arith, total says_assoc, a)) in
+    let y = said d.comm (count_by says_comm (flag_if d.assoc Assoc ++ second)) (omega (arith, total says_comm, c)) in
+    let z = said d.one (count_by says_one (flag_if d.assoc Assoc ++ second)) (omega (arith, total says_one, o)) in
+    let w = said infixed (count_by says_infix (flag_if d.assoc Assoc ++ second)) (omega (arith, total says_infix, i)) in
+    record {
+      assoc = x.0;
+      comm = y.0;
+      one = z.0;
+      sign = ap (option_map (λ s. s.text)) (behind-flag d.assoc Assoc (λ rest. refl) second ∙ behind-flag d.comm Comm (λ rest. refl) third ∙ behind-flag d.one One (λ rest. refl) last) ∙ sign;
+      once = rw (x.1, y.1, z.1, w.1) refl;
+    }
 
-text-piece : (sign : Option Text) → option_map (λ s. s.text) (option_map piece sign) ≡ sign
-text-piece None = refl
-text-piece (Some s) = refl
+say-last : (d : OpDecl) (w : Option Spot) → option_map (λ s. s.text) w ≡ d.sign → Say d (flag_if d.assoc Assoc ++ (flag_if d.comm Comm ++ (flag_if d.one One ++ infix_flags w)))
+say-last d None e = say-front d [] false refl refl refl refl e
+say-last d (Some w) e = say-front d (Infixed w ∷ []) true refl refl refl refl e
+
+-- what are the flags of an operation apart from places say them
+pub say-alike : (d : OpDecl) (flags : List Flag) → map unplaced_flag flags ≡ map unplaced_flag (op_flags d) → Say d flags
+say-alike d flags e =
+    let a = front-alike d.assoc Assoc plain-assoc _ flags e in
+    let c = front-alike d.comm Comm plain-comm _ a.0 a.2 in
+    let o = front-alike d.one One plain-one _ c.0 c.2 in
+    let w = last-alike d.sign o.0 o.2 in
+    subst (Say d) (sym (a.1 ∙ ap (λ l. flag_if d.assoc Assoc ++ l) (c.1 ∙ ap (λ l. flag_if d.comm Comm ++ l) (o.1 ∙ ap (λ l. flag_if d.one One ++ l) w.1)))) (say-last d w.0 w.2)
 
 not-not : (b : Bool) → not (not b) ≡ b
 not-not true = refl
@@ -128,16 +194,24 @@ not-not false = refl
 pub record IsDeclaredOp (d : OpDecl) : Type 0 where
   pub names : HasOpNames d
   pub ordered : in_order d ≡ true
-  pub small : d.least ≤ 1000
+  pub small : d.least ≤ MAX_ARITY
   pub short : is_long_sign (option_map piece d.sign) ≡ false
 
--- it is read as it is spelled
-pub op_decl-op_spelling : (d : OpDecl) → d.least ≤ 1000 → op_decl (piece d.name) (piece (decimal d.least)) (not d.fixed) (op_flags d) ≡ d
-op_decl-op_spelling d small =
-    let flags = say-flags d.assoc d.comm d.one d.sign in
-    let count = (number-written d.least (omega arith)).writes.value in
-    let signs = ap (option_map (λ s. s.text)) flags.sign ∙ text-piece d.sign in
-    λ i. record { name = d.name; least = count i; fixed = not-not d.fixed i; assoc = flags.assoc i; comm = flags.comm i; one = flags.one i; sign = signs i }
+-- a sign is as long as one of its text
+pub short-sign : (sign : Option Spot) → is_long_sign (option_map piece (option_map (λ s. s.text) sign)) ≡ is_long_sign sign
+short-sign None = refl
+short-sign (Some sign) = refl
+
+-- what is the declaration of an operation apart from places declares it
+pub op_decl-alike : (d : OpDecl) → d.least ≤ MAX_ARITY → (name least : Spot) (more : Bool) (flags : List Flag) → unplaced (OpOf name least more flags) ≡ unplaced (op_spelling d) → (op_decl name least more flags ≡ d) × (some_flag_twice flags ≡ false)
+op_decl-alike d small name least more flags e =
+    let names : unplaced_spot name ≡ unplaced_spot (piece d.name) = cc in
+    let numbers : unplaced_spot least ≡ unplaced_spot (piece (decimal d.least)) = cc in
+    let free : more ≡ not d.fixed = cc in
+    let own : map unplaced_flag flags ≡ map unplaced_flag (op_flags d) = cc in
+    let say = say-alike d flags own in
+    let count = ap (λ (s : Spot). number_of s.text) numbers ∙ (number-written d.least (omega arith)).writes.value in
+    (λ i. record { name = ap (λ (s : Spot). s.text) names i; least = count i; fixed = (ap not free ∙ not-not d.fixed) i; assoc = say.assoc i; comm = say.comm i; one = say.one i; sign = say.sign i }, say.once)
 
 HaveSigns-flag_if : (v : Bool) (flag : Flag) (flags : List Flag) → HasSign flag → HaveSigns flags → HaveSigns (flag_if v flag ++ flags)
 HaveSigns-flag_if true flag flags h k = (h, k)
@@ -152,9 +226,7 @@ HaveSigns-op_flags d h = HaveSigns-flag_if d.assoc Assoc _ tt (HaveSigns-flag_if
 
 -- its words are names and its sign is one
 pub StatementHasNames-op_spelling : (d : OpDecl) → IsDeclaredOp d → StatementHasNames (op_spelling d)
-StatementHasNames-op_spelling d h =
-    let count = number-written d.least (omega (arith, h.small)) in
-    (h.names.name, record { is_word = record { some = count.writes.some; bytes = count.writes.word }; is_short = count.short }, HaveSigns-op_flags d h.names.sign)
+StatementHasNames-op_spelling d h = (h.names.name, name-written d.least (omega (arith, h.small)), HaveSigns-op_flags d h.names.sign)
 
 -- its number is of digits
 pub FitsStatement-op_spelling : (d : OpDecl) → IsDeclaredOp d → FitsStatement (op_spelling d)
@@ -168,37 +240,33 @@ none-also p q also (x ∷ xs) h =
     rw (also x o.0) (none-also p q also xs o.1)
 
 -- the faults at a name that is new among few
-pub none-name_faults : (most : ℕ) (earlier : List Text) (large : Bool) (name : Text) → is_among name earlier ≡ false → length earlier < most → large ≡ false → name_faults most earlier large (piece name) ≡ []
+pub none-name_faults : (most : ℕ) (earlier : List Text) (large : Bool) (name : Spot) → is_among name.text earlier ≡ false → length earlier < most → large ≡ false → name_faults most earlier large name ≡ []
 none-name_faults most earlier large name new few small =
     let test : leb most (length earlier) ≡ false = search (rules, few) in
     let room : (leb most (length earlier) || large) ≡ false = rw (test, small) refl in
-    nil-both (fault_if (is_among name earlier) DuplicateName first_place) (fault_if (leb most (length earlier) || large) TooMany first_place)
-    (none-fault_if (is_among name earlier) DuplicateName first_place new) (none-fault_if (leb most (length earlier) || large) TooMany first_place room)
+    nil-both (fault_if (is_among name.text earlier) DuplicateName name.place) (fault_if (leb most (length earlier) || large) TooMany name.place)
+    (none-fault_if (is_among name.text earlier) DuplicateName name.place new) (none-fault_if (leb most (length earlier) || large) TooMany name.place room)
 
-none-held_sign_faults : (ds : List OpDecl) (d : OpDecl) (sign : Option Text) → d.sign ≡ sign → list_any (clashes d) ds ≡ false → held_sign_faults ds (option_map piece sign) ≡ []
+none-held_sign_faults : (ds : List OpDecl) (d : OpDecl) (sign : Option Spot) → d.sign ≡ option_map (λ s. s.text) sign → list_any (clashes d) ds ≡ false → held_sign_faults ds sign ≡ []
 none-held_sign_faults ds d None e h = refl
 none-held_sign_faults ds d (Some sign) e h =
-    none-fault_if (list_any (has_sign sign) ds) _ first_place
-    (none-also (clashes d) (has_sign sign) (λ c apart. ap (λ o. shares_sign o c) (sym e) ∙ (or_parts (has_name d.name c) (shares_sign d.sign c) apart).1) ds h)
+    none-fault_if (list_any (has_sign sign.text) ds) _ sign.place
+    (none-also (clashes d) (has_sign sign.text) (λ c apart. ap (λ o. shares_sign o c) (sym e) ∙ (or_parts (has_name d.name c) (shares_sign d.sign c) apart).1) ds h)
 
--- behind operations that it doesn't clash with, its declaration has no faults
-pub none-op_faults : (ds : List OpDecl) (d : OpDecl) → IsDeclaredOp d → list_any (clashes d) ds ≡ false → length ds < 256 → op_faults ds (piece d.name) (piece (decimal d.least)) (not d.fixed) (op_flags d) ≡ []
-none-op_faults ds d h apart few =
-    let flags = say-flags d.assoc d.comm d.one d.sign in
-    let name = piece d.name in
-    let least = piece (decimal d.least) in
+-- behind operations that it doesn't clash with, a declaration has no faults
+pub none-op_faults : (ds : List OpDecl) (name least : Spot) (more : Bool) (flags : List Flag) → IsDeclaredOp (op_decl name least more flags) → some_flag_twice flags ≡ false → list_any (clashes (op_decl name least more flags)) ds ≡ false → length ds < MAX_OPS
+    → op_faults ds name least more flags ≡ []
+none-op_faults ds name least more flags h once apart few =
+    let d = op_decl name least more flags in
     let others : is_among d.name (map (λ c. c.name) ds) ≡ false = sym (is_among-has_name d.name ds) ∙ none-also (clashes d) (has_name d.name) (λ c a. (or_parts (has_name d.name c) (shares_sign d.sign c) a).0) ds apart in
-    let count : number_of (decimal d.least) ≡ d.least = (number-written d.least (omega (arith, h.small))).writes.value in
-    let room : length (map (λ c. c.name) ds) < 256 = omega (arith, length-map ds (λ c. c.name)) in
-    let bound : number_of (decimal d.least) ≤ 1000 = omega (arith, count, h.small) in
-    let large : ltb 1000 (number_of (decimal d.least)) ≡ false = search (rules, bound) in
-    let long : is_long_sign (sign_spot (op_flags d)) ≡ false = ap is_long_sign flags.sign ∙ h.short in
-    let ordered : in_order (op_decl name least (not d.fixed) (op_flags d)) ≡ true = ap in_order (op_decl-op_spelling d h.small) ∙ h.ordered in
-    let bad : has_bad_flags name least (not d.fixed) (op_flags d) ≡ false = rw (flags.once, long, ordered) refl in
-    let signs : held_sign_faults ds (sign_spot (op_flags d)) ≡ [] = ap (held_sign_faults ds) flags.sign ∙ none-held_sign_faults ds d d.sign refl apart in
-    nil-both (name_faults 256 (map (λ c. c.name) ds) false name) _ (none-name_faults 256 (map (λ c. c.name) ds) false d.name others room refl)
-    (nil-both (fault_if (has_bad_flags name least (not d.fixed) (op_flags d)) BadFlags first_place) _ (none-fault_if (has_bad_flags name least (not d.fixed) (op_flags d)) BadFlags first_place bad)
-    (nil-both (fault_if (ltb 1000 (number_of (decimal d.least))) TooMany first_place) _ (none-fault_if (ltb 1000 (number_of (decimal d.least))) TooMany first_place large) signs))
+    let room : length (map (λ c. c.name) ds) < MAX_OPS = omega (arith, length-map ds (λ c. c.name)) in
+    let bound : number_of least.text ≤ MAX_ARITY = h.small in
+    let large : ltb MAX_ARITY (number_of least.text) ≡ false = search (rules, bound) in
+    let long : is_long_sign (sign_spot flags) ≡ false = sym (short-sign (sign_spot flags)) ∙ h.short in
+    let bad : has_bad_flags name least more flags ≡ false = rw (once, long, h.ordered) refl in
+    nil-both (name_faults MAX_OPS (map (λ c. c.name) ds) false name) _ (none-name_faults MAX_OPS (map (λ c. c.name) ds) false name others room refl)
+    (nil-both (fault_if (has_bad_flags name least more flags) BadFlags name.place) _ (none-fault_if (has_bad_flags name least more flags) BadFlags name.place bad)
+    (nil-both (fault_if (ltb MAX_ARITY (number_of least.text)) TooMany least.place) _ (none-fault_if (ltb MAX_ARITY (number_of least.text)) TooMany least.place large) (none-held_sign_faults ds d (sign_spot flags) refl apart)))
 
 -- ---- kinds
 
@@ -286,17 +354,21 @@ pub record IsDeclaredKind (ds : List OpDecl) (k : Kind) : Type 0 where
   pub members : AllByRecursion (IsSymbol (sig_with ds [])) k.members
   pub ascend : names_ascend k.members ≡ true
   pub some : 0 < length k.members
-  pub few : length k.members ≤ 10000
+  pub few : length k.members ≤ MAX_KIND_SYMBOLS
 
-texts-pieces : (texts : List Text) → map (λ s. s.text) (map piece texts) ≡ texts
-texts-pieces [] = refl
-texts-pieces (text ∷ texts) = ap (λ l. text ∷ l) (texts-pieces texts)
+texts-alike : (members : List Spot) (texts : List Text) → map unplaced_spot members ≡ map unplaced_spot (map piece texts) → map (λ s. s.text) members ≡ texts
+texts-alike [] [] e = refl
+texts-alike (m ∷ members) (text ∷ texts) e =
+    let spot : unplaced_spot m ≡ unplaced_spot (piece text) = cc in
+    let rest : map unplaced_spot members ≡ map unplaced_spot (map piece texts) = cc in
+    λ i. ap (λ (s : Spot). s.text) spot i ∷ texts-alike members texts rest i
+texts-alike _ _ e = absurd cc
 
--- it is read as it is spelled
-pub kind_decl-kind_spelling : (k : Kind) → names_ascend k.members ≡ true → kind_decl (piece k.name) (map piece k.members) ≡ k
-kind_decl-kind_spelling k ascend =
-    let members = ap name_set (texts-pieces k.members) ∙ name_set-names_ascend k.members ascend in
-    λ i. record { name = k.name; members = members i }
+-- what is the declaration of a kind apart from places has its name and its members
+pub kind_decl-alike : (k : Kind) (name : Spot) (members : List Spot) → unplaced (KindOf name members) ≡ unplaced (kind_spelling k) → (name.text ≡ k.name) × (map (λ s. s.text) members ≡ k.members)
+kind_decl-alike k name members e =
+    let spot : unplaced_spot name ≡ unplaced_spot (piece k.name) = cc in
+    (ap (λ (s : Spot). s.text) spot, texts-alike members k.members cc)
 
 AreNames-pieces : (ds : List OpDecl) (members : List Text) → AllByRecursion (IsSymbol (sig_with ds [])) members → AreNames (map piece members)
 AreNames-pieces ds [] h = tt
@@ -310,15 +382,15 @@ StatementHasNames-kind_spelling ds k h = (h.name, AreNames-pieces ds k.members h
 pub FitsStatement-kind_spelling : (ds : List OpDecl) (k : Kind) → IsDeclaredKind ds k → FitsStatement (kind_spelling k)
 FitsStatement-kind_spelling ds k h e = absurd (omega (arith, h.some, length-map k.members piece, ap length e))
 
-none-member_faults : (ds : List OpDecl) (ss : List Statement) (members : List Text) → AllByRecursion (IsSymbol (sig_with ds [])) members → flat_map (symbol_faults (sig_with ds ss)) (map piece members) ≡ []
+none-member_faults : (ds : List OpDecl) (ss : List Statement) (members : List Spot) → AllByRecursion (IsSymbol (sig_with ds [])) (map (λ s. s.text) members) → flat_map (symbol_faults (sig_with ds ss)) members ≡ []
 none-member_faults ds ss [] h = refl
-none-member_faults ds ss (m ∷ members) h = ap (λ l. l ++ flat_map (symbol_faults (sig_with ds ss)) (map piece members)) (symbol_faults-IsSymbol (sig_with ds []) m h.0) ∙ none-member_faults ds ss members h.1
+none-member_faults ds ss (m ∷ members) h =
+    nil-both (symbol_faults (sig_with ds ss) m) (flat_map (symbol_faults (sig_with ds ss)) members) (none-symbol (sig_with ds []) m m.text refl h.0) (none-member_faults ds ss members h.1)
 
--- behind kinds of other names, its declaration has no faults
-pub none-kind_faults : (ds : List OpDecl) (ss : List Statement) (k : Kind) → IsDeclaredKind ds k → is_among k.name (kind_names (sig_with ds ss)) ≡ false → length (kind_names (sig_with ds ss)) < 256
-    → kind_faults (sig_with ds ss) (piece k.name) (map piece k.members) ≡ []
-none-kind_faults ds ss k h new few =
-    let count : length (map piece k.members) ≤ 10000 = omega (arith, h.few, length-map k.members piece) in
-    let large : ltb 10000 (length (map piece k.members)) ≡ false = search (rules, count) in
-    ap (λ l. l ++ flat_map (symbol_faults (sig_with ds ss)) (map piece k.members)) (none-name_faults 256 (kind_names (sig_with ds ss)) (ltb 10000 (length (map piece k.members))) k.name new few large)
-    ∙ none-member_faults ds ss k.members h.members
+-- behind kinds of other names, a declaration has no faults
+pub none-kind_faults : (ds : List OpDecl) (ss : List Statement) (name : Spot) (members : List Spot) → AllByRecursion (IsSymbol (sig_with ds [])) (map (λ s. s.text) members) → length (map (λ s. s.text) members) ≤ MAX_KIND_SYMBOLS
+    → is_among name.text (kind_names (sig_with ds ss)) ≡ false → length (kind_names (sig_with ds ss)) < MAX_KINDS → kind_faults (sig_with ds ss) name members ≡ []
+none-kind_faults ds ss name members symbols few new room =
+    let count : length members ≤ MAX_KIND_SYMBOLS = omega (arith, few, length-map members (λ s. s.text)) in
+    let large : ltb MAX_KIND_SYMBOLS (length members) ≡ false = search (rules, count) in
+    nil-both (name_faults MAX_KINDS (kind_names (sig_with ds ss)) (ltb MAX_KIND_SYMBOLS (length members)) name) _ (none-name_faults MAX_KINDS (kind_names (sig_with ds ss)) (ltb MAX_KIND_SYMBOLS (length members)) name new room large) (none-member_faults ds ss members symbols)

@@ -1,28 +1,24 @@
 -- An operation that is held is found by its name and by its sign, so that an application of it is read as it is spelled.
-use Rattle.std.proofs.Common.{◌≡◌, ℕ, zero, suc, ◌+◌, Bool, true, false, cond, leb, not, List, [], ◌∷◌, ◌++◌, length, Option, Some, None, refl, sym, ap, subst, ◌∙◌, arith, add-one}
+use Rattle.std.proofs.Common.{◌≡◌, ℕ, zero, suc, ◌+◌, Bool, true, false, cond, leb, not, List, [], ◌∷◌, length, Option, Some, None, refl, sym, ap, subst, ◌∙◌, arith, add-one}
 use Rattle.std.specs.Prelude.{slice_get, option_map, position, is_some, unwrap_or}
 use Rattle.std.specs.List.{list_all, AllByRecursion}
+use Rattle.std.specs.Option.{option_map_or}
 use Rattle.std.specs.Str.{bytes_eq}
 use Rattle.std.proofs.lemmas.Bool.{leb-true, not-true, or_parts, and_parts}
 use Rattle.std.proofs.lemmas.Slice.Eq.{bytes_eq-Decides}
 use Rattle.mp_io.specs.Devices.{Text}
 use Rattle.mp_term.specs.declared.signature.OpDecl.{OpDecl}
-use Rattle.mp_term.specs.Tree as term
 use Rattle.mp_term.specs.Names.{are_distinct}
-use Rattle.mp_term.specs.Signature.{Sig, allows, has_name, is_that_sign, has_sign, shares_sign, clashes, none_clash, kind_names}
-use Rattle.mp_term.proofs.SignatureLaws.{is_some-position, position-behind, position-first}
-use Rattle.mp_pattern.specs.SoundRule.{IsSymbol, HoldsKind}
+use Rattle.mp_term.specs.Signature.{Sig, has_name, is_that_sign, has_sign, shares_sign, clashes, none_clash, kind_names}
+use Rattle.mp_term.proofs.SignatureLaws.{position-behind, position-first}
+use Rattle.mp_pattern.specs.SoundRule.{HoldsOp, HoldsKind}
 use Rattle.mp_print.specs.Printing.{kind_name_text}
-use Rattle.mp_pattern.specs.PatternTree as pattern
+use Rattle.mp_print.specs.PrintedCond.{op_name_text}
 use Rattle.mp_syntax.specs.Tokens.{first_place}
-use Rattle.mp_syntax.specs.Syntax.{Spot, Tree, Symbol, Apply, InfixOf, Trees, no_trees, more_trees, tree_list, AreSeveral, Fits, AreFit, IsName, IsInfixSign, HasNames, HaveNames}
-use Rattle.mp_text.specs.Build.{kind_number, op_number, sign_number, head_number, term_of, terms_of, pattern_of, patterns_of}
-use Rattle.mp_text.specs.Wildcards.{PatternWildcard}
-use Rattle.mp_text.specs.Checks.{op_at, op_named, op_signed, head_faults, arity_faults, sign_faults, allows_args, symbol_faults, term_faults, term_operand_faults, all_term_faults, pattern_faults, pattern_operand_faults, all_pattern_faults}
+use Rattle.mp_syntax.specs.Syntax.{Tree, Apply, InfixOf, Trees, no_trees, more_trees, tree_list, AreSeveral, Fits, AreFit, IsName, IsInfixSign, HasNames, HaveNames}
+use Rattle.mp_text.specs.Build.{kind_number, op_number, sign_number}
 use Rattle.mp_text.specs.Spelled.{piece, application_spelling, held_spelling}
 use Rattle.mp_text.proofs.Words.{first-of, second-of}
-use Rattle.mp_text.proofs.Faultless.{none-fault_if}
-use Rattle.mp_text.proofs.Built.{term_operand_faults-known, pattern_operand_faults-known}
 
 -- ---- items of a list
 
@@ -142,9 +138,19 @@ held-kind sig h k held = go (slice_get (kind_names sig) k) refl held
           found = ap (kind_number sig) text ∙ position-distinct (kind_names sig) k n h.kinds_apart e;
         }
 
--- a symbol has no faults
-pub symbol_faults-IsSymbol : (sig : Sig) (word : Text) → IsSymbol sig word → symbol_faults sig (piece word) ≡ []
-symbol_faults-IsSymbol sig word h = none-fault_if (is_some (op_number sig word)) _ first_place (is_some-position (has_name word) sig.ops ∙ h.free)
+-- the operation of a number that is held has a name, by which it is found
+pub record IsHeldOp (sig : Sig) (f : ℕ) : Type 0 where
+  pub name : IsName (op_name_text sig f)
+  pub found : op_number sig (op_name_text sig f) ≡ Some f
+
+pub held-op : (sig : Sig) → HasOps sig → (f : ℕ) → HoldsOp sig f → IsHeldOp sig f
+held-op sig h f held = go (slice_get sig.ops f) refl held
+  where
+    go : (o : Option OpDecl) → slice_get sig.ops f ≡ o → is_some o ≡ true → IsHeldOp sig f
+    go None e s = cc
+    go (Some d) e s =
+        let text : op_name_text sig f ≡ d.name = ap (λ o. option_map_or (λ d. d.name) o []) e in
+        record { name = subst IsName (sym text) (all-at HasOpNames sig.ops f d h.named e).name; found = ap (op_number sig) text ∙ position-has_name sig.ops f d h.apart e }
 
 -- ---- applications
 
@@ -167,11 +173,6 @@ held_spelling-cases P o d ts here before between = subst (λ o. P (held_spelling
     by_sign None e = before
     by_sign (Some sign) e = by_count sign (leb 2 (length (tree_list ts))) e refl
 
--- what holds of an operation without a name, before any arguments and between any, holds of an application as it is spelled
-pub each-held_spelling : (P : Tree → Type 0) (o : Option OpDecl) (ts : Trees) → P (Symbol (piece [])) → ((name : Spot) → P (Apply name ts)) → ((sign : Spot) → P (InfixOf first_place sign ts)) → P (held_spelling o ts)
-each-held_spelling P None ts none before between = none
-each-held_spelling P (Some d) ts none before between = held_spelling-cases P (Some d) d ts refl (before (piece d.name)) (λ sign e some. between (piece sign))
-
 -- an application of an operation that is held, as it is spelled
 module _ (sig : Sig) (h : HasOps sig) (f : ℕ) (d : OpDecl) (here : slice_get sig.ops f ≡ Some d) where
   -- the operation is found by its name
@@ -182,26 +183,6 @@ module _ (sig : Sig) (h : HasOps sig) (f : ℕ) (d : OpDecl) (here : slice_get s
   pub sign_number-held : (sign : Text) → d.sign ≡ Some sign → sign_number sig sign ≡ Some f
   sign_number-held sign e = position-has_sign sig.ops f d sign h.apart here e
 
-  op_named-held : op_named sig d.name ≡ Some d
-  op_named-held = ap (op_at sig) op_number-held ∙ here
-
-  op_signed-held : (sign : Text) → d.sign ≡ Some sign → op_signed sig sign ≡ Some d
-  op_signed-held sign e = ap (op_at sig) (sign_number-held sign e) ∙ here
-
-  -- its term
-  pub term_of-held : (ts : Trees) → term_of sig (held_spelling (slice_get sig.ops f) ts) ≡ term.app f (terms_of sig ts)
-  term_of-held ts =
-      held_spelling-cases (λ t. term_of sig t ≡ term.app f (terms_of sig ts)) (slice_get sig.ops f) d ts here
-      (ap (λ n. term.app (head_number n) (terms_of sig ts)) op_number-held)
-      (λ sign e some. ap (λ n. term.app (head_number n) (terms_of sig ts)) (sign_number-held sign e))
-
-  -- its pattern
-  pub pattern_of-held : (ts : Trees) → pattern_of sig (held_spelling (slice_get sig.ops f) ts) ≡ pattern.app_pattern f (patterns_of sig ts)
-  pattern_of-held ts =
-      held_spelling-cases (λ t. pattern_of sig t ≡ pattern.app_pattern f (patterns_of sig ts)) (slice_get sig.ops f) d ts here
-      (ap (λ n. pattern.app_pattern (head_number n) (patterns_of sig ts)) op_number-held)
-      (λ sign e some. ap (λ n. pattern.app_pattern (head_number n) (patterns_of sig ts)) (sign_number-held sign e))
-
   -- its names and signs
   pub HasNames-held : (ts : Trees) → HaveNames ts → HasNames (held_spelling (slice_get sig.ops f) ts)
   HasNames-held ts names =
@@ -211,33 +192,3 @@ module _ (sig : Sig) (h : HasOps sig) (f : ℕ) (d : OpDecl) (here : slice_get s
   -- its brackets
   pub Fits-held : (room : ℕ) (ts : Trees) → AreFit room ts → Fits (suc room) (held_spelling (slice_get sig.ops f) ts)
   Fits-held room ts fit = held_spelling-cases (Fits (suc room)) (slice_get sig.ops f) d ts here fit (λ sign e some. (some, fit))
-
-  -- an operation that passes the test on its arguments has no faults at its name
-  head_faults-held : (passes : OpDecl → Bool) → passes d ≡ true → head_faults passes (piece d.name) (op_named sig d.name) ≡ []
-  head_faults-held passes p = ap (head_faults passes (piece d.name)) op_named-held ∙ none-fault_if (not (passes d)) _ first_place (ap not p)
-
-  -- and none at its bracket
-  arity_faults-held : (passes : OpDecl → Bool) (sign : Text) → d.sign ≡ Some sign → passes d ≡ true → arity_faults passes first_place (op_signed sig sign) ≡ []
-  arity_faults-held passes sign e p = ap (arity_faults passes first_place) (op_signed-held sign e) ∙ none-fault_if (not (passes d)) _ first_place (ap not p)
-
-  -- it has no faults in a term
-  pub term_faults-held : (ts : Trees) → allows (length (tree_list ts)) d ≡ true → all_term_faults sig ts ≡ [] → term_faults sig (held_spelling (slice_get sig.ops f) ts) ≡ []
-  term_faults-held ts allowed none =
-      let passes = allows (length (tree_list ts)) in
-      held_spelling-cases (λ t. term_faults sig t ≡ []) (slice_get sig.ops f) d ts here
-      (ap (λ l. l ++ all_term_faults sig ts) (head_faults-held passes allowed) ∙ none)
-      (λ sign e some.
-      ap (λ l. l ++ term_operand_faults sig (sign_faults (piece sign) (op_signed sig sign)) ts) (arity_faults-held passes sign e allowed)
-      ∙ term_operand_faults-known sig (piece sign) (op_signed sig sign) ts (ap is_some (sym (op_signed-held sign e)))
-      ∙ none)
-
-  -- it has no faults in a pattern
-  pub pattern_faults-held : (before : List PatternWildcard) (ts : Trees) → allows_args sig ts d ≡ true → all_pattern_faults sig before ts ≡ [] → pattern_faults sig before (held_spelling (slice_get sig.ops f) ts) ≡ []
-  pattern_faults-held before ts allowed none =
-      let passes = allows_args sig ts in
-      held_spelling-cases (λ t. pattern_faults sig before t ≡ []) (slice_get sig.ops f) d ts here
-      (ap (λ l. l ++ all_pattern_faults sig before ts) (head_faults-held passes allowed) ∙ none)
-      (λ sign e some.
-      ap (λ l. l ++ pattern_operand_faults sig before (sign_faults (piece sign) (op_signed sig sign)) ts) (arity_faults-held passes sign e allowed)
-      ∙ pattern_operand_faults-known sig before (piece sign) (op_signed sig sign) ts (ap is_some (sym (op_signed-held sign e)))
-      ∙ none)

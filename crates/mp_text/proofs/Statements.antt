@@ -1,5 +1,5 @@
 -- What holds of statements without faults, statement by statement: their rules, their subjects and the names of both.
-use Rattle.std.proofs.Common.{◌≡◌, ◌≤◌, ◌<◌, ℕ, true, false, ◌||◌, List, [], ◌∷◌, ◌++◌, length, Option, append-nil, append_assoc, length-append, refl, sym, ap, ◌∙◌, subst, arith}
+use Rattle.std.proofs.Common.{◌≡◌, ◌≤◌, ◌<◌, ℕ, true, false, ◌||◌, List, [], ◌∷◌, ◌++◌, length, Option, append-nil, append_assoc, length-append, refl, sym, ap, subst, arith}
 use Rattle.std.specs.List.{AllByRecursion}
 use Rattle.mp_term.specs.Signature.{Sig}
 use Rattle.mp_term.specs.Names.{are_distinct}
