@@ -1,6 +1,6 @@
 //! The answer to a request, over a shelf.
 
-ghost use Rattle.std.specs.Prelude.{◌≡◌, ◌≤◌, ◌∷◌, length, IfErr};
+ghost use Rattle.std.specs.Prelude.{◌≡◌, ◌≤◌, ◌∷◌, [], length, IfErr};
 ghost use Rattle.mp_io.specs.Devices.{held};
 ghost use Rattle.mp_io.specs.Moments.{shelved, sunk};
 ghost use Rattle.mp_text.specs.File.{file_tree};
