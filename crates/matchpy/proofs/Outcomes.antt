@@ -4,7 +4,8 @@ use Rattle.std.specs.Prelude.{◌↔◌, Option, Some, None, if◌then◌else◌
 use Rattle.std.proofs.lemmas.Bool.Decides.{nat_tests}
 use Rattle.mp_io.specs.Devices.{Files, Text, held}
 use Rattle.mp_text.specs.File.{FileTree}
-use Rattle.mp_text.specs.Reading.{IsFileOf, fault_of, file_of}
+use Rattle.mp_text.specs.Reading.{IsFileOf}
+use Rattle.mp_text.specs.Computed.{fault_of, file_of}
 use Rattle.mp_text.specs.declared.fault.TextFault.{TextFault}
 use Rattle.mp_text.proofs.Whole.{fault_of-exact, file_of-exact, file-no_fault, no_fault-of}
 use Rattle.matchpy.specs.Computed.{given, outcome_at, outcome_of, outcome_over, over_file}

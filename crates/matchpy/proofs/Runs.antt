@@ -9,7 +9,7 @@ use Rattle.mp_io.specs.Moments.{Shelved, Sunk}
 use Rattle.mp_io.specs.Printing.{AppendsFront}
 use Rattle.mp_io.proofs.Written.{whole_front}
 use Rattle.mp_text.specs.File.{FileTree}
-use Rattle.mp_text.specs.Reading.{fault_of, file_of}
+use Rattle.mp_text.specs.Computed.{fault_of, file_of}
 use Rattle.mp_text.specs.declared.fault.TextFault.{TextFault}
 use Rattle.matchpy.specs.Answers.{Answers, IsReached, IsUnopened}
 use Rattle.matchpy.specs.Computed.{given, outcome_at, outcome_of, outcome_over, over_file}

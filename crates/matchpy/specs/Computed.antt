@@ -5,7 +5,8 @@ use Rattle.mp_term.specs.Signature.{Sig}
 use Rattle.mp_pattern.specs.Admission.{Rule}
 use Rattle.mp_theory.specs.OneList.{one_list}
 use Rattle.mp_text.specs.File.{FileTree, Subject}
-use Rattle.mp_text.specs.Reading.{fault_of, file_of, unread_fault}
+use Rattle.mp_text.specs.Reading.{unread_fault}
+use Rattle.mp_text.specs.Computed.{fault_of, file_of}
 use Rattle.mp_text.specs.declared.fault.TextFault.{TextFault}
 use Rattle.matchpy.specs.Messages.{fault_line, long_line, open_line, usage_line}
 use Rattle.matchpy.specs.Matches.{match_line}

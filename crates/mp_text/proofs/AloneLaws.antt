@@ -2,9 +2,9 @@
 use Rattle.std.proofs.Common.{◌≡◌, inl, inr, ℕ, List, [], ◌∷◌, Option, Some, Result, Ok, Err, refl, sym, subst, ◌∙◌}
 use Rattle.std.specs.Prelude.{IfOk}
 use Rattle.mp_syntax.specs.declared.fault.Fault.{Fault}
-use Rattle.mp_syntax.specs.Syntax.{IsExprOf, IsConditionOf}
-use Rattle.mp_syntax.specs.Reading.{expr_reading, condition_reading}
-use Rattle.mp_syntax.proofs.Whole.{expr_reading-found, expr_reading-only, condition_reading-found, condition_reading-only}
+use Rattle.mp_syntax.specs.Syntax.{IsExprOf}
+use Rattle.mp_syntax.specs.Reading.{expr_reading}
+use Rattle.mp_syntax.proofs.Whole.{expr_reading-found, expr_reading-only}
 use Rattle.mp_text.specs.declared.fault.TextFault.{TextFault}
 use Rattle.mp_text.specs.declared.fault.TextError.{TextError}
 use Rattle.mp_text.specs.declared.fault.TextError.TheVariants.{Text, Memory}
@@ -31,10 +31,6 @@ pub record IsReading {S : Type 0} (IsSyntax : List ℕ → S → Type 0) (readin
 -- that of expressions
 pub IsReading-expr_reading : IsReading IsExprOf expr_reading
 IsReading-expr_reading = record { found = expr_reading-found; only = expr_reading-only }
-
--- that of conditions
-pub IsReading-condition_reading : IsReading IsConditionOf condition_reading
-IsReading-condition_reading = record { found = condition_reading-found; only = condition_reading-only }
 
 module _ {S T A : Type 0} (IsSyntax : List ℕ → S → Type 0) (reading : List ℕ → Result S Fault) (exact : IsReading IsSyntax reading) (faults : S → List TextFault) (value : S → A) (view : T → A) (bytes : List ℕ) where
   ok-no_err : (s : S) (f : Fault) → reading bytes ≡ Ok s → reading bytes ≡ Err f → ⊥

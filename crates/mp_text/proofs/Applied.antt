@@ -14,7 +14,7 @@ use Rattle.mp_pattern.specs.Size.{pattern_nodes, list_nodes}
 use Rattle.mp_pattern.specs.View.{pattern_tree}
 use Rattle.mp_text.specs.Checks.{nodes, all_nodes, has_large_default, some_large_default}
 use Rattle.mp_text.specs.Build.{op_number, sign_number, has_term, all_have_terms}
-use Rattle.mp_text.specs.Names.{wildcards, all_wildcards, wildcard_names, all_wildcard_names}
+use Rattle.mp_text.specs.Names.{wildcards, all_wildcards}
 use Rattle.mp_text.specs.Wildcards.{pattern_wildcards, all_pattern_wildcards}
 
 -- the nodes of an application
@@ -37,10 +37,6 @@ has_term-Apply sig f v = ap (has_term sig) (expr_tree-Apply f v)
 pub has_term-Infix : (sig : Sig) (place : Place) (sign : code_sign.InfixSign) (v : Vec Expr Global) → has_term sig (expr_tree (Infix place sign v)) ≡ (is_some (sign_number sig sign.text.now) && all_have_terms sig (trees (map expr_tree v.items)))
 has_term-Infix sig place sign v = ap (has_term sig) (expr_tree-Infix place sign v)
 
--- the names of the wildcards of an application
-pub wildcard_names-Apply : (f : code.Word) (v : Vec Expr Global) → wildcard_names (expr_tree (Apply f v)) ≡ all_wildcard_names (trees (map expr_tree v.items))
-wildcard_names-Apply f v = ap wildcard_names (expr_tree-Apply f v)
-
 -- the wildcards of an application
 pub pattern_wildcards-Apply : (sig : Sig) (f : code.Word) (v : Vec Expr Global) → pattern_wildcards sig (expr_tree (Apply f v)) ≡ all_pattern_wildcards sig (trees (map expr_tree v.items))
 pattern_wildcards-Apply sig f v = ap (pattern_wildcards sig) (expr_tree-Apply f v)
@@ -48,10 +44,6 @@ pattern_wildcards-Apply sig f v = ap (pattern_wildcards sig) (expr_tree-Apply f 
 -- the nodes of an infix expression
 pub nodes-Infix : (place : Place) (sign : code_sign.InfixSign) (v : Vec Expr Global) → nodes (expr_tree (Infix place sign v)) ≡ 1 + all_nodes (trees (map expr_tree v.items))
 nodes-Infix place sign v = ap nodes (expr_tree-Infix place sign v) ∙ omega arith
-
--- the names of the wildcards of an infix expression
-pub wildcard_names-Infix : (place : Place) (sign : code_sign.InfixSign) (v : Vec Expr Global) → wildcard_names (expr_tree (Infix place sign v)) ≡ all_wildcard_names (trees (map expr_tree v.items))
-wildcard_names-Infix place sign v = ap wildcard_names (expr_tree-Infix place sign v)
 
 -- the wildcards of an application
 pub wildcards-Apply : (f : code.Word) (v : Vec Expr Global) → wildcards (expr_tree (Apply f v)) ≡ all_wildcards (trees (map expr_tree v.items))

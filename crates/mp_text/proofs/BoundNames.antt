@@ -22,9 +22,9 @@ use Rattle.mp_term.specs.Tree as term
 use Rattle.mp_term.specs.Normal.{normal}
 use Rattle.mp_term.proofs.ListLaws.{all-append, all-split}
 use Rattle.mp_pattern.proofs.VariableLaws.{IsPermutation-variables}
-use Rattle.mp_syntax.specs.Syntax.{Tree, Symbol, Apply, InfixOf, Wild, Optional, Variable, Trees, no_trees, more_trees}
+use Rattle.mp_syntax.specs.Syntax.{Wildcard, Tree, Symbol, Apply, InfixOf, Wild, Optional, Variable, Trees, no_trees, more_trees}
 use Rattle.mp_text.specs.Build.{op_number, sign_number, head_number, marked_shape, kind_shape, variable_of, term_of, pattern_of, patterns_of}
-use Rattle.mp_text.specs.Names.{named, wildcard_names, all_wildcard_names, wildcards, all_wildcards}
+use Rattle.mp_text.specs.Names.{named, names_of, wildcards, all_wildcards}
 use Rattle.mp_text.specs.Scope as scope
 use Rattle.mp_text.specs.Scope.{wildcard_variable, pattern_variables, is_bound, is_bound_sequence}
 use Rattle.mp_text.proofs.Declared.{bytes_eq_comm}
@@ -112,36 +112,19 @@ module _ (x : List ℕ) where
   -- ---- the names of wildcards
 
   module _ (some : x ≢ []) where
-    known-wild : (name : List ℕ) → (bytes_eq x name || false) ≡ true → is_known bytes_eq (named name) x ≡ true
-    known-wild [] h = absurd (some ((bytes_eq-Decides x []).0 (or-only (bytes_eq x []) h)))
-      where
-        or-only : (b : Bool) → (b || false) ≡ true → b ≡ true
-        or-only true h = refl
-        or-only false h = h
-    known-wild (b ∷ bs) h = ap (λ t. t || false) (bytes_eq_comm (b ∷ bs) x) ∙ h
+    known-wild : (name : List ℕ) → bytes_eq x name ≡ true → is_known bytes_eq (named name) x ≡ true
+    known-wild [] h = absurd (some ((bytes_eq-Decides x []).0 h))
+    known-wild (b ∷ bs) h = ap (λ t. t || false) (bytes_eq_comm (b ∷ bs) x ∙ h)
 
-    mutual
-      known-bound : (p : Tree) → is_bound (map wildcard_variable (wildcards p)) x ≡ true → is_known bytes_eq (wildcard_names p) x ≡ true
-      known-bound (Symbol w) h = cc
-      known-bound (Apply f args) h = known-all_bound args h
-      known-bound (InfixOf opened sign operands) h = known-all_bound operands h
-      known-bound (Wild w) h = known-wild w.name h
-      known-bound (Optional w others default) h = known-wild w.name h
-      known-bound (Variable w) h = cc
-
-      known-all_bound : (ts : Trees) → is_bound (map wildcard_variable (all_wildcards ts)) x ≡ true → is_known bytes_eq (all_wildcard_names ts) x ≡ true
-      known-all_bound no_trees h = cc
-      known-all_bound (more_trees t ts) h =
-          let front = map wildcard_variable (wildcards t) in
-          let back = map wildcard_variable (all_wildcards ts) in
-          known-either (wildcard_names t) (all_wildcard_names ts) (is_bound front x) (is_bound back x) (known-bound t) (known-all_bound ts)
-          (sym (list_any-append (λ v. bytes_eq x v.name) front back) ∙ sym (ap (list_any (λ v. bytes_eq x v.name)) (map-append wildcard_variable (wildcards t) (all_wildcards ts))) ∙ h)
+    known-bound : (ws : List Wildcard) → is_bound (map wildcard_variable ws) x ≡ true → is_known bytes_eq (names_of ws) x ≡ true
+    known-bound [] h = cc
+    known-bound (w ∷ ws) h = known-either (named w.name) (names_of ws) (bytes_eq x w.name) (is_bound (map wildcard_variable ws) x) (known-wild w.name) (known-bound ws) h
 
     -- a variable that a condition may name is one of the pattern in normal form
     pub known-variables : (sig : Sig) (p : Tree) → is_bound (pattern_variables p) x ≡ true → is_known same_name (variables (normal_pattern sig (pattern_of sig p))) x ≡ true
     known-variables sig p h =
         let here : is_known same_name (variables (pattern_of sig p)) x ≡ true =
-        is_known-alike same_name bytes_eq is_eq-slice_cmp (variables (pattern_of sig p)) x ∙ ap (λ l. is_known bytes_eq l x) (variables-pattern_of sig p) ∙ known-once [] (wildcard_names p) (known-bound p h) in
+        is_known-alike same_name bytes_eq is_eq-slice_cmp (variables (pattern_of sig p)) x ∙ ap (λ l. is_known bytes_eq l x) (variables-pattern_of sig p) ∙ known-once [] (names_of (wildcards p)) (known-bound (wildcards p) h) in
         known-permutation (variables (pattern_of sig p)) (variables (normal_pattern sig (pattern_of sig p))) (IsPermutation-variables sig (pattern_of sig p)) here
 
 -- ---- variables that stand for one term

@@ -7,7 +7,7 @@ use Rattle.mp_syntax.specs.Lexing.{lexemes}
 use Rattle.mp_text.specs.declared.fault.TextKind.{TextKind}
 use Rattle.mp_text.specs.declared.fault.TextKind.TheVariants.{DuplicateName, TooMany, BadFlags, UnknownOp, BareOperation, UnknownKind, Arity, KindClash, LooseSequence, WildcardInTerm, Unread}
 use Rattle.mp_text.specs.declared.fault.TextFault.{TextFault}
-use Rattle.mp_text.specs.Reading.{file_of, fault_of}
+use Rattle.mp_text.specs.Computed.{file_of, fault_of}
 
 -- a fault of this kind, in line 1
 abbrev at : TextKind → ℕ → Option TextFault

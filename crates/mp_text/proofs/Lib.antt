@@ -30,5 +30,6 @@ mod SpelledCondition
 mod FileAgain
 mod Examples
 mod AloneLaws
+mod FirstToken
 mod Joined
 mod ConditionTrees

@@ -1,4 +1,5 @@
 -- What the checks of a declaration say where they find no fault.
+use Rattle.mp_term.specs.declared.limits.TheConstants.{MAX_ARITY, MAX_OPS}
 use Rattle.std.proofs.Common.{◌≡◌, ◌≤◌, Bool, true, false, ◌||◌, not, ltb, List, [], ◌++◌, map}
 use Rattle.std.proofs.lemmas.Bool.{ltb-false, not-false, or_parts}
 use Rattle.mp_term.specs.declared.signature.OpDecl.{OpDecl}
@@ -15,13 +16,13 @@ use Rattle.mp_text.proofs.Faultless.{nil-append, nil-fault_if}
 pub record Declarable (name least : Spot) (more : Bool) (flags : List Flag) : Type 0 where
   pub ordered : in_order (op_decl name least more flags) ≡ true
   pub short : is_long_sign (sign_spot flags) ≡ false
-  pub small : number_of least.text ≤ 1000
+  pub small : number_of least.text ≤ MAX_ARITY
 
 pub declarable-op_faults : (ds : List OpDecl) (name least : Spot) (more : Bool) (flags : List Flag) → op_faults ds name least more flags ≡ [] → Declarable name least more flags
 declarable-op_faults ds name least more flags h =
-    let large = fault_if (ltb 1000 (number_of least.text)) TooMany least.place in
+    let large = fault_if (ltb MAX_ARITY (number_of least.text)) TooMany least.place in
     let bad = fault_if (has_bad_flags name least more flags) BadFlags name.place in
-    let p = nil-append (name_faults 256 (map (λ d. d.name) ds) false name) (bad ++ (large ++ held_sign_faults ds (sign_spot flags))) h in
+    let p = nil-append (name_faults MAX_OPS (map (λ d. d.name) ds) false name) (bad ++ (large ++ held_sign_faults ds (sign_spot flags))) h in
     let q = nil-append bad (large ++ held_sign_faults ds (sign_spot flags)) p.1 in
     let r = nil-append large (held_sign_faults ds (sign_spot flags)) q.1 in
     let o = or_parts (some_flag_twice flags) (is_long_sign (sign_spot flags) || not (in_order (op_decl name least more flags))) (nil-fault_if (has_bad_flags name least more flags) BadFlags name.place q.0) in
@@ -29,7 +30,7 @@ declarable-op_faults ds name least more flags h =
     record {
       ordered = not-false (in_order (op_decl name least more flags)) s.1;
       short = s.0;
-      small = ltb-false 1000 (number_of least.text) (nil-fault_if (ltb 1000 (number_of least.text)) TooMany least.place r.0);
+      small = ltb-false MAX_ARITY (number_of least.text) (nil-fault_if (ltb MAX_ARITY (number_of least.text)) TooMany least.place r.0);
     }
 
 -- the last of three tests decides where the others fail

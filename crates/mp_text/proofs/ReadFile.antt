@@ -1,4 +1,5 @@
 -- What statements without faults give: declarations in order, and rules and subjects of which a fact holds.
+use Rattle.mp_term.specs.declared.limits.TheConstants.{MAX_ARITY, MAX_OPS, MAX_KINDS, MAX_KIND_SYMBOLS}
 use Rattle.std.proofs.Common.{◌≡◌, ◌≢◌, ◌≤◌, ◌<◌, Bool, false, leb, ltb, List, [], ◌∷◌, ◌++◌, map, length, Option, Some, None, refl, sym, subst, ◌∙◌, arith, rules}
 use Rattle.std.specs.Prelude.{option_map, flat_map}
 use Rattle.std.specs.List.{list_any, AllByRecursion}
@@ -47,16 +48,16 @@ none-clashes d (e ∷ ds) h k =
 op_fault-op_faults : (ds : List OpDecl) (name least : Spot) (more : Bool) (flags : List Flag) → op_faults ds name least more flags ≡ [] → op_fault (sig_with ds []) (op_decl name least more flags) ≡ None
 op_fault-op_faults ds name least more flags h =
     let d = op_decl name least more flags in
-    let names = name_faults 256 (map (λ d. d.name) ds) false name in
+    let names = name_faults MAX_OPS (map (λ d. d.name) ds) false name in
     let bad = fault_if (has_bad_flags name least more flags) _ name.place in
-    let large = fault_if (ltb 1000 (number_of least.text)) _ least.place in
+    let large = fault_if (ltb MAX_ARITY (number_of least.text)) _ least.place in
     let signs = held_sign_faults ds (sign_spot flags) in
     let p = nil-append names (bad ++ (large ++ signs)) h in
     let q = nil-append large signs (nil-append bad (large ++ signs) p.1).1 in
-    let n = named-by 256 (map (λ d. d.name) ds) false name p.0 in
+    let n = named-by MAX_OPS (map (λ d. d.name) ds) false name p.0 in
     let apart : list_any (clashes d) ds ≡ false = none-clashes d ds (is_among-has_name name.text ds ∙ n.other) (other-sign ds (sign_spot flags) q.1) in
-    let few : length ds < 256 = omega (arith, n.few, length-map ds (λ d. d.name)) in
-    let room : leb 256 (length ds) ≡ false = search (rules, few) in
+    let few : length ds < MAX_OPS = omega (arith, n.few, length-map ds (λ d. d.name)) in
+    let room : leb MAX_OPS (length ds) ≡ false = search (rules, few) in
     rw (apart, room, (declarable-op_faults ds name least more flags h).ordered) refl
 
 sign-of : (flags : List Flag) → HaveSigns flags → IsSomeSign (option_map (λ s. s.text) (sign_spot flags))
@@ -128,12 +129,12 @@ module _ (ds : List OpDecl) where
       let sig = sig_with ds earlier in
       let k = kind_decl name members in
       let written = map (λ m. m.text) members in
-      let p = nil-append (name_faults 256 (kind_names sig) (ltb 10000 (length members)) name) (flat_map (symbol_faults sig) members) h in
-      let n = named-by 256 (kind_names sig) (ltb 10000 (length members)) name p.0 in
-      let room : leb 256 (length (kind_names sig)) ≡ false = search (rules, n.few) in
+      let p = nil-append (name_faults MAX_KINDS (kind_names sig) (ltb MAX_KIND_SYMBOLS (length members)) name) (flat_map (symbol_faults sig) members) h in
+      let n = named-by MAX_KINDS (kind_names sig) (ltb MAX_KIND_SYMBOLS (length members)) name p.0 in
+      let room : leb MAX_KINDS (length (kind_names sig)) ≡ false = search (rules, n.few) in
       let new : list_any (bytes_eq name.text) (kind_names sig) ≡ false = is_among-list_any name.text (kind_names sig) ∙ n.other in
       let addable : kind_fault sig name.text ≡ None = rw (new, room) refl in
-      let few : length members ≤ 10000 = ltb-false 10000 (length members) n.small in
+      let few : length members ≤ MAX_KIND_SYMBOLS = ltb-false MAX_KIND_SYMBOLS (length members) n.small in
       let own : IsDeclaredKind ds k = record {
         name = read.names.0;
         members = all-name_set (IsSymbol (sig_with ds [])) written (symbols-of ds earlier members read.names.1 p.1);

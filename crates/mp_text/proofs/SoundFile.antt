@@ -20,7 +20,8 @@ use Rattle.mp_text.specs.Sound.{IsSoundSubject, IsSoundFile}
 use Rattle.mp_text.specs.declared.fault.TextError.{TextError}
 use Rattle.mp_text.specs.declared.file.File as code_file
 use Rattle.mp_text.specs.File.{FileTree, file_tree}
-use Rattle.mp_text.specs.Reading.{IsFileOf, ReadGives}
+use Rattle.mp_text.specs.Reading.{IsFileOf}
+use Rattle.mp_text.specs.Computed.{ReadGives}
 use Rattle.mp_text.proofs.Faultless.{nil-append}
 use Rattle.mp_text.proofs.Words.{is_name-IsName}
 use Rattle.mp_text.proofs.Declared.{names-rules_of, names-subjects_of}

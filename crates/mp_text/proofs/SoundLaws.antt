@@ -2,11 +2,12 @@
 use Rattle.std.specs.Prelude.{if◌then◌else◌}
 use Rattle.mp_text.proofs.Words.{first-of, second-of, is_name-IsName}
 use Rattle.mp_text.proofs.Faultless.{nil-append, nil-fault_if, some-behind}
-use Rattle.std.proofs.Common.{cond, sym, eqb, ◌≡◌, ◌≤◌, ◌<◌, ◌+◌, ℕ, zero, suc, Bool, true, false, ◌||◌, leb, ltb, rules, List, [], ◌∷◌, ◌++◌, map, length, Option, Some, None, refl, ap, ◌∙◌, arith}
+use Rattle.std.proofs.Common.{append-nil, cond, sym, eqb, ◌≡◌, ◌≤◌, ◌<◌, ◌+◌, ℕ, zero, suc, Bool, true, false, ◌||◌, leb, ltb, rules, List, [], ◌∷◌, ◌++◌, map, length, Option, Some, None, refl, ap, ◌∙◌, arith}
 use Rattle.std.specs.Prelude.{◌≢◌, not, flat_map, slice_get, position, is_some, is_none, nat_lt}
 use Rattle.std.specs.List.{list_all, list_any, position_or_len}
 use Rattle.std.specs.Str.{bytes_eq}
 use Rattle.std.proofs.lemmas.List.{map-append}
+use Rattle.std.proofs.lemmas.List.Concat.{flat_map-append}
 use Rattle.std.proofs.lemmas.List.Sorted.{length_permutation}
 use Rattle.std.proofs.lemmas.Map.Text.{is_eq-slice_cmp}
 use Rattle.std.proofs.lemmas.Bool.{and_from, leb-false, ltb-false, not-false, or_parts}
@@ -28,7 +29,7 @@ use Rattle.mp_pattern.specs.Variables.{uses, all_uses, variables}
 use Rattle.mp_syntax.specs.Syntax as syntax
 use Rattle.mp_syntax.specs.Syntax.{Spot, Wildcard, Tree, Symbol, Apply, InfixOf, Wild, Variable, Trees, no_trees, more_trees, Flag, Statement, OpOf, KindOf, RuleOf, SubjectOf, Fits, AreFit, AreStatements, Optional, IsName, HasNames, HaveNames}
 use Rattle.mp_syntax.specs.declared.place.Place.{Place}
-use Rattle.mp_text.specs.Names.{is_among, named, wildcard_names, all_wildcard_names, variable_names}
+use Rattle.mp_text.specs.Names.{is_among, named, names_of, wildcards, all_wildcards, variable_names}
 use Rattle.mp_text.specs.Build.{op_number, sign_number, head_number, marked_shape, kind_shape, shape_of, variable_of, term_of, terms_of, pattern_of, patterns_of, kind_number, subject_of}
 use Rattle.mp_text.specs.Checks.{fault_if, kind_unknown, nodes, all_nodes, is_large_pattern, is_large_term, op_at, op_named, op_signed, head_faults, arity_faults, sign_faults, allows_args, symbol_faults, term_faults, term_operand_faults, all_term_faults, pattern_faults, pattern_operand_faults, all_pattern_faults, loose_faults, whole_pattern_faults, name_faults, has_large_default, some_large_default, term_wildcard_faults, default_faults, wildcard_faults}
 use Rattle.mp_text.specs.Wildcards.{PatternWildcard, without_default, with_default_form, pattern_wildcards, differs}
@@ -366,18 +367,19 @@ module _ (sig : Sig) where
 
   mutual
     -- the variables that a pattern uses are the names of its wildcards
-    names-uses : (f : Option ℕ) (p : Tree) → map (λ u. u.name) (uses f (pattern_of sig p)) ≡ wildcard_names p
+    names-uses : (f : Option ℕ) (p : Tree) → map (λ u. u.name) (uses f (pattern_of sig p)) ≡ names_of (wildcards p)
     names-uses f (Symbol w) = refl
     names-uses f (Apply g args) = names-all_uses (Some (head_number (op_number sig g.text))) args
     names-uses f (InfixOf opened sign operands) = names-all_uses (Some (head_number (sign_number sig sign.text))) operands
-    names-uses f (Wild w) = names-wild f (shape_of sig w) w.name
-    names-uses f (Optional w others default) = names-wild f (pattern.optional (normal sig (term_of sig default))) w.name
+    names-uses f (Wild w) = names-wild f (shape_of sig w) w.name ∙ sym (append-nil (named w.name))
+    names-uses f (Optional w others default) = names-wild f (pattern.optional (normal sig (term_of sig default))) w.name ∙ sym (append-nil (named w.name))
     names-uses f (Variable x) = refl
 
-    names-all_uses : (f : Option ℕ) (ps : Trees) → map (λ u. u.name) (all_uses f (patterns_of sig ps)) ≡ all_wildcard_names ps
+    names-all_uses : (f : Option ℕ) (ps : Trees) → map (λ u. u.name) (all_uses f (patterns_of sig ps)) ≡ names_of (all_wildcards ps)
     names-all_uses f no_trees = refl
     names-all_uses f (more_trees p ps) =
         map-append (λ u. u.name) (uses f (pattern_of sig p)) (all_uses f (patterns_of sig ps)) ∙ (λ i. names-uses f p i ++ names-all_uses f ps i)
+        ∙ sym (flat_map-append (λ (w : Wildcard). named w.name) (wildcards p) (all_wildcards ps))
 
 -- ---- names that differ
 
@@ -394,7 +396,7 @@ firsts_after-alike p q same ys (x ∷ xs) =
 
 -- the variables of a pattern are those of its expression
 pub variables-pattern_of : (sig : Sig) (p : Tree) → variables (pattern_of sig p) ≡ variable_names p
-variables-pattern_of sig p = ap (firsts_after same_name []) (names-uses sig None p) ∙ firsts_after-alike same_name bytes_eq is_eq-slice_cmp [] (wildcard_names p)
+variables-pattern_of sig p = ap (firsts_after same_name []) (names-uses sig None p) ∙ firsts_after-alike same_name bytes_eq is_eq-slice_cmp [] (names_of (wildcards p))
 
 -- another name behind all of them
 list_all-push : (p : List ℕ → Bool) (ns : List (List ℕ)) (n : List ℕ) → list_all p ns ≡ true → p n ≡ true → list_all p (ns ++ n ∷ []) ≡ true

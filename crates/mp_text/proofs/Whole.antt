@@ -13,7 +13,8 @@ use Rattle.mp_text.specs.File.{FileTree, file_tree}
 use Rattle.mp_text.specs.FileBuild.{file_tree_of}
 use Rattle.mp_text.specs.FileChecks.{faults}
 use Rattle.mp_text.specs.Answers.{first, Gives}
-use Rattle.mp_text.specs.Reading.{IsFileOf, file_without, checked_file, file_of, unread_fault, IsRefused, IsFaultOf, fault_in, fault_of, ReadGives, IfText, IsFileOrMemory, IsFaultOrMemory, IsComputed}
+use Rattle.mp_text.specs.Reading.{IsFileOf, unread_fault, IsRefused, IsFaultOf, IfText, IsFileOrMemory, IsFaultOrMemory}
+use Rattle.mp_text.specs.Computed.{file_without, checked_file, file_of, fault_in, fault_of, ReadGives, IsComputed}
 
 some_same : {X : Type 0} (a b : X) → Some a ≡ Some b → a ≡ b
 some_same a b e = cc

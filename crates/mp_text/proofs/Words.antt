@@ -1,4 +1,4 @@
--- A word of at most 64 bytes is the spelling of a name, and a sign of at most 4 bytes that of a sign.
+-- A word that isn't long is the spelling of a name, and back, and a sign that isn't long that of a sign.
 use Rattle.std.proofs.Common.{◌≡◌, ◌≢◌, ℕ, ◌≤◌, Bool, true, false, ◌&&◌, ◌||◌, List, [], ◌∷◌, length, leb, refl, ◌∙◌, sym, arith, rules}
 use Rattle.std.specs.List.{list_all}
 use Rattle.std.specs.Prelude.{not, codes}
@@ -9,6 +9,7 @@ use Rattle.mp_term.specs.declared.limits.TheConstants.{MAX_NAME_BYTES}
 use Rattle.mp_syntax.specs.Tokens as tokens
 use Rattle.mp_syntax.specs.Tokens.{AreWordBytes, is_word_byte}
 use Rattle.mp_syntax.specs.Syntax.{IsName, IsInfixSign}
+use Rattle.mp_syntax.proofs.ListLaws.{all-implied}
 
 -- the three ranges in either grouping
 or-grouped : (a b c : Bool) → ((a || b) || c) ≡ (a || (b || c))
@@ -29,12 +30,6 @@ second-of false b h = cc
 is_name_byte-word : (b : ℕ) → is_word_byte b ≡ true → is_name_byte b ≡ true
 is_name_byte-word b h = sym (or-grouped (leb 48 b && leb b 57) (leb 65 b && leb b 90) (leb 97 b && leb b 122)) ∙ h
 
--- where each byte passes a test that implies another, each passes that other
-all-implied : (p q : ℕ → Bool) → ((b : ℕ) → p b ≡ true → q b ≡ true) → (bs : List ℕ) → list_all p bs ≡ true → list_all q bs ≡ true
-all-implied p q each [] h = refl
-all-implied p q each (b ∷ bs) h =
-    and_from (q b) (list_all q bs) (each b (first-of (p b) (list_all p bs) h)) (all-implied p q each bs (second-of (p b) (list_all p bs) h))
-
 -- a list that isn't empty has one item at least
 some-item : (word : List ℕ) → word ≢ [] → leb 1 (length word) ≡ true
 some-item [] h = absurd (h refl)
@@ -43,8 +38,8 @@ some-item (b ∷ bs) h = search rules
 -- a word is a name
 pub is_name-IsName : (word : List ℕ) → IsName word → is_name word ≡ true
 is_name-IsName word h =
-    let small : length word ≤ 64 = h.is_short in
-    and_from (leb 1 (length word) && leb (length word) 64) (list_all is_name_byte word) (and_from (leb 1 (length word)) (leb (length word) 64) (some-item word h.is_word.some) (search (rules, small))) (all-implied is_word_byte is_name_byte is_name_byte-word word h.is_word.bytes)
+    let small : length word ≤ MAX_NAME_BYTES = h.is_short in
+    and_from (leb 1 (length word) && leb (length word) MAX_NAME_BYTES) (list_all is_name_byte word) (and_from (leb 1 (length word)) (leb (length word) MAX_NAME_BYTES) (some-item word h.is_word.some) (search (rules, small))) (all-implied is_word_byte is_name_byte is_name_byte-word word h.is_word.bytes)
 
 -- a byte of names is a byte of words
 word-is_name_byte : (b : ℕ) → is_name_byte b ≡ true → is_word_byte b ≡ true

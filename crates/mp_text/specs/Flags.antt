@@ -1,6 +1,8 @@
 -- The flags of an operation, as they are written.
 use Rattle.std.specs.Prelude.{Bool, true, false, ◌||◌, List, [], ◌∷◌, length, Option, Some, None, nat_lt, count_by}
 use Rattle.mp_term.specs.declared.limits.TheConstants.{MAX_SIGN_BYTES}
+use Rattle.mp_text.specs.declared.flags.FlagSort.{FlagSort}
+use Rattle.mp_text.specs.declared.flags.FlagSort.TheVariants as sorts
 use Rattle.mp_syntax.specs.Syntax.{Spot, Flag, Assoc, Comm, One, Infixed}
 
 -- the flag is assoc
@@ -22,6 +24,13 @@ says_one _ = false
 abbrev pub says_infix : Flag → Bool
 says_infix (Infixed sign) = true
 says_infix _ = false
+
+-- the flag is of the sort
+abbrev pub says : FlagSort → Flag → Bool
+says sorts.Assoc = says_assoc
+says sorts.Comm = says_comm
+says sorts.One = says_one
+says sorts.Infix = says_infix
 
 -- a flag of which the test holds is among the flags
 abbrev pub is_said : (Flag → Bool) → List Flag → Bool

@@ -20,3 +20,4 @@ pub mod Spelled
 pub mod Sound
 pub mod Alone
 pub mod AloneCondition
+pub mod Computed

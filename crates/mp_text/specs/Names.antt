@@ -1,5 +1,5 @@
 -- The names and numbers that the statements of a file give.
-use Rattle.std.specs.Prelude.{ℕ, ◌+◌, ◌-◌, ◌*◌, Bool, false, List, [], ◌∷◌, ◌++◌}
+use Rattle.std.specs.Prelude.{ℕ, ◌+◌, ◌-◌, ◌*◌, Bool, false, List, [], ◌∷◌, ◌++◌, flat_map}
 use Rattle.std.specs.Str.{bytes_eq}
 use Rattle.mp_pattern.specs.Firsts.{is_known, firsts_after}
 use Rattle.mp_syntax.specs.Syntax.{Wildcard, Tree, Symbol, Apply, InfixOf, Wild, Variable, Trees, no_trees, more_trees, Statement, OpOf, KindOf, RuleOf, SubjectOf, Optional}
@@ -43,21 +43,7 @@ abbrev pub is_same_variable : List ℕ → List ℕ → Bool
 is_same_variable [] y = false
 is_same_variable (byte ∷ bytes) y = bytes_eq (byte ∷ bytes) y
 
--- the names of the wildcards of a pattern, in order; those within defaults aren't among them
-abbrev mutual
-  pub wildcard_names : Tree → List (List ℕ)
-  wildcard_names (Symbol w) = []
-  wildcard_names (Apply f args) = all_wildcard_names args
-  wildcard_names (InfixOf opened sign operands) = all_wildcard_names operands
-  wildcard_names (Wild w) = named w.name
-  wildcard_names (Optional w others default) = named w.name
-  wildcard_names (Variable x) = []
-
-  pub all_wildcard_names : Trees → List (List ℕ)
-  all_wildcard_names no_trees = []
-  all_wildcard_names (more_trees t ts) = wildcard_names t ++ all_wildcard_names ts
-
--- the wildcards of a pattern, in order, in the same way
+-- the wildcards of a pattern, in order; those within defaults aren't among them
 abbrev mutual
   pub wildcards : Tree → List Wildcard
   wildcards (Symbol w) = []
@@ -71,6 +57,10 @@ abbrev mutual
   all_wildcards no_trees = []
   all_wildcards (more_trees t ts) = wildcards t ++ all_wildcards ts
 
+-- the names of wildcards, in order
+abbrev pub names_of : List Wildcard → List (List ℕ)
+names_of ws = flat_map (λ w. named w.name) ws
+
 -- the variables of a pattern, each once, at its first place
 abbrev pub variable_names : Tree → List (List ℕ)
-variable_names p = firsts_after bytes_eq [] (wildcard_names p)
+variable_names p = firsts_after bytes_eq [] (names_of (wildcards p))

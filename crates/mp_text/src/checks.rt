@@ -1,6 +1,6 @@
 //! Limits and counts of expressions.
 
-ghost use Rattle.std.specs.Prelude.{◌≡◌, ◌+◌, ◌-◌, ◌^◌, ◌≤◌, ◌||◌, ℕ, List, [], ◌∷◌, length, map, min, nat_lt, nat_le, IfOk, OnOk};
+ghost use Rattle.std.specs.Prelude.{◌≡◌, ◌+◌, ◌-◌, ◌^◌, ◌≤◌, ◌||◌, ℕ, List, [], ◌∷◌, length, map, flat_map, min, nat_lt, nat_le, IfOk, OnOk};
 ghost use Rattle.std.specs.List.{list_any};
 ghost use Rattle.std.specs.Str.{bytes_eq};
 ghost use Rattle.mp_pattern.specs.Firsts.{firsts_after};
@@ -10,9 +10,11 @@ ghost use Rattle.mp_term.specs.Signature.{Sig};
 ghost use Rattle.mp_pattern.specs.SoundRule.{pattern_least, pattern_most, fewest, greatest, reaches, allows_patterns};
 ghost use Rattle.mp_text.specs.Build.{pattern_of};
 ghost use Rattle.mp_text.specs.Checks.{nodes, all_nodes, is_large_pattern, is_large_operand, is_large_term, has_large_default, some_large_default};
-ghost use Rattle.mp_text.specs.Names.{number_of, wildcard_names, all_wildcard_names, is_among, named};
+ghost use Rattle.mp_text.specs.Names.{number_of, is_among, named, variable_names};
+ghost use Rattle.mp_text.specs.ScopeView.{variable_of};
 
 use crate::build::marked_shape;
+use crate::scope::{Variable, pattern_variables};
 use mp_pattern::{
     MAX_DEFAULT_NODES, MAX_NUMBER, MAX_OPERAND_NODES, MAX_PATTERN_NODES, MAX_TERM_NODES,
     MAX_VARIABLES,
@@ -60,30 +62,23 @@ fn node_counts(exprs: &[Expr<'_>]) -> u64
     count
 }
 
-/// Adds the names of the wildcards that aren't among the names yet.
-#[cycle(add_variables)]
-fn add_variables<'a>(expr: &Expr<'a>, names: &mut Vec<&'a [u8]>) -> Result<(), AllocError>
-    ensures { OnOk result (map (λ n. n.now) names.new.items ≡ firsts_after bytes_eq (map (λ n. n.now) names.old.items) (wildcard_names (expr_tree expr.now))) }
+/// How many names the variables have; a wildcard without a name has none.
+fn name_count(alloc: Global, variables: &[Variable<'_>]) -> Result<usize, AllocError>
+    ensures { IfOk result (λ n. n ≡ length (firsts_after bytes_eq [] (flat_map (λ v. named v.name) (map variable_of variables.now)))) }
 {
-    match expr {
-        Expr::Symbol(_) => Ok(()),
-        Expr::Apply(_, args) => add_all_variables(args, names),
-        Expr::Infix { operands, .. } => add_all_variables(operands, names),
-        Expr::Wild(wild) => add_name(wild.name, names),
-        Expr::Optional { wildcard, .. } => add_name(wildcard.name, names),
-        Expr::Variable(_) => Ok(()),
+    let mut names = Vec::new(alloc);
+    for variable in variables {
+        add_name(variable.name, &mut names)?;
     }
+    Ok(names.len())
 }
 
-/// Adds the names of the wildcards of all expressions that aren't among the names yet.
-#[cycle(add_variables)]
-fn add_all_variables<'a>(exprs: &[Expr<'a>], names: &mut Vec<&'a [u8]>) -> Result<(), AllocError>
-    ensures { OnOk result (map (λ n. n.now) names.new.items ≡ firsts_after bytes_eq (map (λ n. n.now) names.old.items) (all_wildcard_names (trees (map expr_tree exprs.now)))) }
+/// How many variables a pattern has.
+fn variable_count(alloc: Global, expr: &Expr<'_>) -> Result<usize, AllocError>
+    ensures { IfOk result (λ n. n ≡ length (variable_names (expr_tree expr.now))) }
 {
-    for expr in exprs {
-        add_variables(expr, names)?;
-    }
-    Ok(())
+    let variables = pattern_variables(alloc, expr)?;
+    name_count(alloc, &variables)
 }
 
 /// Adds the name where it isn't empty and not among the names yet.
@@ -146,9 +141,8 @@ pub fn is_large_pattern(alloc: Global, expr: &Expr<'_>) -> Result<bool, AllocErr
     if node_count(expr) > u64::from(MAX_PATTERN_NODES) {
         return Ok(true);
     }
-    let mut names = Vec::new(alloc);
-    add_variables(expr, &mut names)?;
-    Ok(names.len() > MAX_VARIABLES || has_large_default(expr))
+    let count = variable_count(alloc, expr)?;
+    Ok(count > MAX_VARIABLES || has_large_default(expr))
 }
 
 /// The term has more nodes than a term may have, or a default in it has more than a default may have.

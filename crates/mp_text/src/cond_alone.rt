@@ -3,15 +3,14 @@
 ghost use Rattle.std.specs.Prelude.{◌≡◌, ◌<◌, ◌-◌, ◌^◌, length, None, Some, IfOk};
 ghost use Rattle.mp_pattern.specs.CondTree as cond;
 ghost use Rattle.mp_pattern.specs.CondView.{cond_tree};
-ghost use Rattle.mp_syntax.specs.Lexing.{first_token_place};
-ghost use Rattle.mp_syntax.specs.Reading.{condition_reading};
 ghost use Rattle.mp_syntax.specs.View.{condition_tree};
 ghost use Rattle.mp_text.specs.declared.fault.TextFault as plain;
 ghost use Rattle.mp_text.specs.Answers.{Gives};
 ghost use Rattle.mp_text.specs.Conditions.{cond_of};
 ghost use Rattle.mp_text.specs.Reading.{IfText, IsFaultOrMemory};
 ghost use Rattle.mp_text.specs.Alone.{Answers, IsValueOrMemory};
-ghost use Rattle.mp_text.specs.AloneCondition.{condition_alone_faults, IsCondOf, IsCondFaultOf};
+ghost use Rattle.mp_text.specs.AloneCondition.{condition_alone_faults, placed_cond_of, IsCondOf, IsCondFaultOf};
+ghost use Rattle.mp_text.specs.Computed.{placed_reading};
 ghost use Rattle.mp_text.specs.Scope.{plan_variables};
 ghost use Rattle.mp_text.specs.ScopeView.{scope_of};
 
@@ -90,7 +89,7 @@ fn cond_of_text(
     bytes: &[u8],
 ) -> Result<Cond, TextError>
     requires { length bytes.now < 2 ^ 32 - 1 }
-    ensures { Answers (condition_alone_faults sig.now (scope_of scope.now) (first_token_place bytes.now)) (cond_of sig.now) cond_tree (condition_reading bytes.now) result }
+    ensures { Answers (condition_alone_faults sig.now (scope_of scope.now)) (placed_cond_of sig.now) cond_tree (placed_reading bytes.now) result }
 {
     let start = first_token_place(bytes);
     match read_condition(alloc, bytes) {
@@ -108,7 +107,7 @@ fn cond_alone(
     start: Place,
     condition: &Condition<'_>,
 ) -> Result<Cond, TextError>
-    ensures { Gives result (condition_alone_faults sig.now (scope_of scope.now) start (condition_tree condition.now)) (λ c. cond_tree c ≡ cond_of sig.now (condition_tree condition.now)) }
+    ensures { Gives result (condition_alone_faults sig.now (scope_of scope.now) (record { start = start; condition = condition_tree condition.now })) (λ c. cond_tree c ≡ cond_of sig.now (condition_tree condition.now)) }
 {
     if is_large_condition(condition) {
         return Err(error_at(TextKind::TooMany, start));

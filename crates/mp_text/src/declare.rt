@@ -14,7 +14,7 @@ ghost use Rattle.mp_text.specs.Names.{is_among, number_of};
 use crate::build::{new_name, symbol};
 use crate::checks::number_of;
 use crate::fault::{TextError, TextKind, error_at};
-use crate::flags::{has_bad_flags, is_said_assoc, is_said_comm, is_said_one, sign_spot};
+use crate::flags::{FlagSort, has_bad_flags, is_said, sign_spot};
 use mp_syntax::{Flag, InfixSign, Statement, Word};
 use mp_term::{
     MAX_ARITY, MAX_KIND_SYMBOLS, MAX_KINDS, MAX_OPS, NameFault, Names, OpDecl, Sign, Signature,
@@ -109,9 +109,9 @@ fn new_decl(
         name: new_name(alloc, name)?,
         least: number_of(least.text, MAX_ARITY),
         fixed: !is_open,
-        assoc: is_said_assoc(flags),
-        comm: is_said_comm(flags),
-        one: is_said_one(flags),
+        assoc: is_said(flags, FlagSort::Assoc),
+        comm: is_said(flags, FlagSort::Comm),
+        one: is_said(flags, FlagSort::One),
         sign: new_sign(alloc, sign_spot(flags))?,
     })
 }

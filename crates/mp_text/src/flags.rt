@@ -6,97 +6,59 @@ ghost use Rattle.mp_syntax.specs.Syntax as syntax;
 ghost use Rattle.mp_syntax.specs.View.{flag_of, spot_of_sign};
 ghost use Rattle.mp_text.specs.Build.{op_decl};
 ghost use Rattle.mp_text.specs.Checks.{has_bad_flags};
-ghost use Rattle.mp_text.specs.Flags.{says_assoc, says_comm, says_one, says_infix, is_said, some_flag_twice, sign_spot, is_long_sign};
+ghost use Rattle.mp_text.specs.Flags.{says, is_said, some_flag_twice, sign_spot, is_long_sign};
 ghost use Rattle.mp_text.specs.Names.{number_of};
 
 use mp_syntax::{Flag, InfixSign};
 use mp_term::MAX_SIGN_BYTES;
 
-/// The flag is `assoc`.
-fn says_assoc(flag: &Flag<'_>) -> bool
-    ensures { result ≡ says_assoc (flag_of flag.now) }
-{
-    matches!(flag, Flag::Assoc)
+/// What a flag says, without its sign.
+#[derive(Clone, Copy)]
+pub enum FlagSort {
+    /// `assoc`
+    Assoc,
+    /// `comm`
+    Comm,
+    /// `one`
+    One,
+    /// `infix`
+    Infix,
 }
 
-/// How often `assoc` stands among the flags.
-fn count_assoc(flags: &[Flag<'_>]) -> usize
-    ensures { result ≡ count_by says_assoc (map flag_of flags.now) }
+/// The flag is of the sort.
+fn says(flag: &Flag<'_>, sort: FlagSort) -> bool
+    ensures { result ≡ says sort (flag_of flag.now) }
 {
-    flags.iter().filter(|flag| says_assoc(flag)).count()
+    match sort {
+        FlagSort::Assoc => matches!(flag, Flag::Assoc),
+        FlagSort::Comm => matches!(flag, Flag::Comm),
+        FlagSort::One => matches!(flag, Flag::One),
+        FlagSort::Infix => matches!(flag, Flag::Infix(_)),
+    }
 }
 
-/// The flag is `comm`.
-fn says_comm(flag: &Flag<'_>) -> bool
-    ensures { result ≡ says_comm (flag_of flag.now) }
+/// How many of the flags are of the sort.
+fn count(flags: &[Flag<'_>], sort: FlagSort) -> usize
+    ensures { result ≡ count_by (says sort) (map flag_of flags.now) }
 {
-    matches!(flag, Flag::Comm)
+    flags.iter().filter(|flag| says(flag, sort)).count()
 }
 
-/// How often `comm` stands among the flags.
-fn count_comm(flags: &[Flag<'_>]) -> usize
-    ensures { result ≡ count_by says_comm (map flag_of flags.now) }
+/// One of the flags is of the sort.
+pub fn is_said(flags: &[Flag<'_>], sort: FlagSort) -> bool
+    ensures { result ≡ is_said (says sort) (map flag_of flags.now) }
 {
-    flags.iter().filter(|flag| says_comm(flag)).count()
+    count(flags, sort) > 0
 }
 
-/// The flag is `one`.
-fn says_one(flag: &Flag<'_>) -> bool
-    ensures { result ≡ says_one (flag_of flag.now) }
-{
-    matches!(flag, Flag::One)
-}
-
-/// How often `one` stands among the flags.
-fn count_one(flags: &[Flag<'_>]) -> usize
-    ensures { result ≡ count_by says_one (map flag_of flags.now) }
-{
-    flags.iter().filter(|flag| says_one(flag)).count()
-}
-
-/// The flag is `infix`.
-fn says_infix(flag: &Flag<'_>) -> bool
-    ensures { result ≡ says_infix (flag_of flag.now) }
-{
-    matches!(flag, Flag::Infix(_))
-}
-
-/// How often `infix` stands among the flags.
-fn count_infix(flags: &[Flag<'_>]) -> usize
-    ensures { result ≡ count_by says_infix (map flag_of flags.now) }
-{
-    flags.iter().filter(|flag| says_infix(flag)).count()
-}
-
-/// `assoc` is among the flags.
-pub fn is_said_assoc(flags: &[Flag<'_>]) -> bool
-    ensures { result ≡ is_said says_assoc (map flag_of flags.now) }
-{
-    count_assoc(flags) > 0
-}
-
-/// `comm` is among the flags.
-pub fn is_said_comm(flags: &[Flag<'_>]) -> bool
-    ensures { result ≡ is_said says_comm (map flag_of flags.now) }
-{
-    count_comm(flags) > 0
-}
-
-/// `one` is among the flags.
-pub fn is_said_one(flags: &[Flag<'_>]) -> bool
-    ensures { result ≡ is_said says_one (map flag_of flags.now) }
-{
-    count_one(flags) > 0
-}
-
-/// A flag stands twice.
+/// Two of the flags are of one sort.
 fn some_flag_twice(flags: &[Flag<'_>]) -> bool
     ensures { result ≡ some_flag_twice (map flag_of flags.now) }
 {
-    count_assoc(flags) > 1
-        || count_comm(flags) > 1
-        || count_one(flags) > 1
-        || count_infix(flags) > 1
+    count(flags, FlagSort::Assoc) > 1
+        || count(flags, FlagSort::Comm) > 1
+        || count(flags, FlagSort::One) > 1
+        || count(flags, FlagSort::Infix) > 1
 }
 
 /// The first sign of the flags.
@@ -125,8 +87,8 @@ fn is_long_sign(sign: Option<InfixSign<'_>>) -> bool
 fn is_in_order(least: u32, is_open: bool, flags: &[Flag<'_>]) -> bool
     ensures { (name number : syntax.Spot) → least ≡ min (number_of number.text) 1001 → result ≡ in_order (op_decl name number is_open (map flag_of flags.now)) }
 {
-    let assoc = !is_said_assoc(flags) || (is_open && least <= 2);
-    let one = !is_said_one(flags) || (is_open && least <= 1);
+    let assoc = !is_said(flags, FlagSort::Assoc) || (is_open && least <= 2);
+    let one = !is_said(flags, FlagSort::One) || (is_open && least <= 1);
     let infix = sign_spot(flags).is_none() || is_open || 2 <= least;
     assoc && one && infix
 }

@@ -17,7 +17,8 @@ ghost use Rattle.mp_text.specs.FileChecks.{statement_faults, faults};
 ghost use Rattle.mp_text.specs.File.{FileTree, file_tree};
 ghost use Rattle.mp_text.specs.Names.{is_among};
 ghost use Rattle.mp_text.specs.Sound.{IsSoundFile};
-ghost use Rattle.mp_text.specs.Reading.{IsFileOf, file_of, IsFaultOf, fault_of, unread_fault, ReadGives, IfText, IsFileOrMemory, IsFaultOrMemory, IsComputed};
+ghost use Rattle.mp_text.specs.Reading.{IsFileOf, IsFaultOf, unread_fault, IfText, IsFileOrMemory, IsFaultOrMemory};
+ghost use Rattle.mp_text.specs.Computed.{file_of, fault_of, ReadGives, IsComputed};
 
 use crate::build::{build_term, new_name};
 use crate::checks::is_large_term;
@@ -33,8 +34,8 @@ use std::alloc::Global;
 /// Reads a rule file: the operations, kinds, rules and subjects that its statements stand for.
 ///
 /// The text is a file exactly where its tokens spell statements (`IsSyntaxOf` of mp_syntax's `specs/Syntax.antt`) in which no
-/// check finds a fault (`faults` of `specs/Checks.antt`); the file is then `file_tree_of` of `specs/Build.antt`, its terms and patterns
-/// in normal form.
+/// check finds a fault (`faults` of `specs/FileChecks.antt`); the file is then `file_tree_of` of `specs/FileBuild.antt`, its terms and
+/// patterns in normal form. Its rules are sound (`AreSoundRules` of mp_pattern's `specs/SoundRule.antt`) and so are its subjects.
 ///
 /// - `Text`: the text has this fault, by `IsFaultOf` of `specs/Reading.antt`: where it is statements, the first that the checks find, with
 ///   its line and column, from 1; where it is no statements, `Unread` at line 1, column 1.

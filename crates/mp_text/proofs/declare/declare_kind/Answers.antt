@@ -1,3 +1,4 @@
+use Rattle.mp_term.specs.declared.limits.TheConstants.{MAX_KINDS, MAX_KIND_SYMBOLS}
 use Rattle.std.proofs.Common.{◌≡◌, ◌++◌, List, length, map, ltb, sym, ap, ◌∙◌}
 use Rattle.std.proofs.lemmas.Result.{err_from_is_err_and}
 use Rattle.std.proofs.lemmas.List.{length-map}
@@ -14,8 +15,8 @@ use Rattle.mp_text.proofs.declare.declare_kind.Goals as goal
 
 -- the faults of a kind whose members the code holds in a list
 kind_faults-members : (sig : Sig) (name : Spot) (members : List code.Word)
-    → name_faults 256 (kind_names sig) (ltb 10000 (length members)) name ++ flat_map (symbol_faults sig) (map spot_of members) ≡ kind_faults sig name (map spot_of members)
-kind_faults-members sig name members = ap (λ n. name_faults 256 (kind_names sig) (ltb 10000 n) name ++ flat_map (symbol_faults sig) (map spot_of members)) (sym (length-map members spot_of))
+    → name_faults MAX_KINDS (kind_names sig) (ltb MAX_KIND_SYMBOLS (length members)) name ++ flat_map (symbol_faults sig) (map spot_of members) ≡ kind_faults sig name (map spot_of members)
+kind_faults-members sig name members = ap (λ n. name_faults MAX_KINDS (kind_names sig) (ltb MAX_KIND_SYMBOLS n) name ++ flat_map (symbol_faults sig) (map spot_of members)) (sym (length-map members spot_of))
 
 pub returns-in_err-check_name : goal.returns-in_err-check_name
 returns-in_err-check_name c =

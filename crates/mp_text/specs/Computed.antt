@@ -1,0 +1,60 @@
+-- The file and the fault of bytes, and the condition that they are alone, as functions over the reader's machine.
+use Rattle.std.specs.Prelude.{◌≡◌, ℕ, List, [], ◌∷◌, Option, Some, None, option_and_then, Result, Ok, Err}
+use Rattle.mp_syntax.specs.declared.fault.Fault.{Fault}
+use Rattle.mp_syntax.specs.declared.place.Place.{Place}
+use Rattle.mp_syntax.specs.Lexing.{first_token_place}
+use Rattle.mp_syntax.specs.Syntax.{Condition, Statement}
+use Rattle.mp_syntax.specs.Reading.{reading, condition_reading, syntax_of}
+use Rattle.mp_text.specs.declared.fault.TextFault.{TextFault}
+use Rattle.mp_text.specs.declared.fault.TextError.{TextError}
+use Rattle.mp_text.specs.declared.fault.TextError.TheVariants.{Text, Memory}
+use Rattle.mp_text.specs.declared.file.File as code
+use Rattle.mp_text.specs.File.{FileTree, file_tree}
+use Rattle.mp_text.specs.FileBuild.{file_tree_of}
+use Rattle.mp_text.specs.FileChecks.{faults}
+use Rattle.mp_text.specs.Answers.{first}
+use Rattle.mp_text.specs.Reading.{IsFileOf, unread_fault}
+use Rattle.mp_text.specs.AloneCondition.{PlacedCondition}
+
+-- the file, where there is no fault
+abbrev pub file_without : List TextFault → FileTree → Option FileTree
+file_without [] f = Some f
+file_without (fault ∷ others) f = None
+
+-- the file that the statements stand for, where no check finds a fault
+abbrev pub checked_file : List Statement → Option FileTree
+checked_file ss = file_without (faults ss) (file_tree_of ss)
+
+-- the file of the bytes, where they are one
+abbrev pub file_of : List ℕ → Option FileTree
+file_of bytes = option_and_then checked_file (syntax_of bytes)
+
+-- the fault of what was read
+abbrev pub fault_in : Result (List Statement) Fault → Option TextFault
+fault_in (Ok ss) = first (faults ss)
+fault_in (Err f) = Some unread_fault
+
+-- the fault of the bytes, where they have one
+abbrev pub fault_of : List ℕ → Option TextFault
+fault_of bytes = fault_in (reading bytes)
+
+-- the file of the bytes, or their fault, or memory ran out
+abbrev pub ReadGives : List ℕ → Result code.File TextError → Type 0
+ReadGives bytes (Ok f) = IsFileOf bytes (file_tree f)
+ReadGives bytes (Err (Text t)) = fault_of bytes ≡ Some t
+ReadGives bytes (Err Memory) = Unit {0}
+
+-- the answer is this file where there is no fault, or else this fault, or memory ran out
+abbrev pub IsComputed : Result code.File TextError → Option FileTree → Option TextFault → Type 0
+IsComputed (Ok f) file fault = (file ≡ Some (file_tree f)) × (fault ≡ None)
+IsComputed (Err (Text t)) file fault = fault ≡ Some t
+IsComputed (Err Memory) file fault = Unit {0}
+
+-- the condition that is read, at this place
+abbrev pub at_place : Place → Result Condition Fault → Result PlacedCondition Fault
+at_place start (Ok c) = Ok (record { start = start; condition = c })
+at_place start (Err f) = Err f
+
+-- the condition of a text and the place of its first token, or its first fault
+abbrev pub placed_reading : List ℕ → Result PlacedCondition Fault
+placed_reading bytes = at_place (first_token_place bytes) (condition_reading bytes)
