@@ -32,55 +32,69 @@ pub record IsReading {S : Type 0} (IsSyntax : List ℕ → S → Type 0) (readin
 pub IsReading-expr_reading : IsReading IsExprOf expr_reading
 IsReading-expr_reading = record { found = expr_reading-found; only = expr_reading-only }
 
-module _ {S T A : Type 0} (IsSyntax : List ℕ → S → Type 0) (reading : List ℕ → Result S Fault) (exact : IsReading IsSyntax reading) (faults : S → List TextFault) (value : S → A) (view : T → A) (bytes : List ℕ) where
+module _ {S T A : Type 0} (IsSyntax : List ℕ → S → Type 0) (reading : List ℕ → Result S Fault)
+    (exact : IsReading IsSyntax reading) (faults : S → List TextFault) (value : S → A) (view : T → A)
+    (bytes : List ℕ) where
   ok-no_err : (s : S) (f : Fault) → reading bytes ≡ Ok s → reading bytes ≡ Err f → ⊥
   ok-no_err s f e h = cc
 
   -- an answer to what is read is one to the syntax tree that the bytes are
-  to-syntax : (r : Result T TextError) (s : S) → IsSyntax bytes s → Answers faults value view (reading bytes) r → Gives r (faults s) (λ v. view v ≡ value s)
+  to-syntax : (r : Result T TextError) (s : S) → IsSyntax bytes s → Answers faults value view (reading bytes) r
+      → Gives r (faults s) (λ v. view v ≡ value s)
   to-syntax r s h a = subst (λ o. Answers faults value view o r) (exact.only bytes s h) a
 
   -- and back
-  pub answers-syntax : (r : Result T TextError) (s : S) → IsSyntax bytes s → Gives r (faults s) (λ v. view v ≡ value s) → Answers faults value view (reading bytes) r
+  pub answers-syntax : (r : Result T TextError) (s : S) → IsSyntax bytes s → Gives r (faults s) (λ v. view v ≡ value s)
+      → Answers faults value view (reading bytes) r
   answers-syntax r s h g = subst (λ o. Answers faults value view o r) (sym (exact.only bytes s h)) g
 
-  found-in : (o : Result S Fault) (v : T) → reading bytes ≡ o → Answers faults value view o (Ok v) → IsValueOf IsSyntax faults value bytes (view v)
+  found-in : (o : Result S Fault) (v : T) → reading bytes ≡ o → Answers faults value view o (Ok v)
+      → IsValueOf IsSyntax faults value bytes (view v)
   found-in (Ok s) v e h = record { syntax_tree = s; syntax = exact.found bytes s e; faultless = h.0; is = h.1 }
   found-in (Err f) v e h = absurd h
 
   -- a value that is answered is that of the bytes
-  pub answers-found : (r : Result T TextError) → Answers faults value view (reading bytes) r → IfOk r (λ v. IsValueOf IsSyntax faults value bytes (view v))
+  pub answers-found : (r : Result T TextError) → Answers faults value view (reading bytes) r
+      → IfOk r (λ v. IsValueOf IsSyntax faults value bytes (view v))
   answers-found (Ok v) h = found-in (reading bytes) v refl h
   answers-found (Err e) h = tt
 
   -- the value of the bytes is answered
-  pub answers-only : (r : Result T TextError) → Answers faults value view (reading bytes) r → (v : A) → IsValueOf IsSyntax faults value bytes v → IsValueOrMemory r (λ u. view u ≡ v)
+  pub answers-only : (r : Result T TextError) → Answers faults value view (reading bytes) r → (v : A)
+      → IsValueOf IsSyntax faults value bytes v → IsValueOrMemory r (λ u. view u ≡ v)
   answers-only (Ok u) h v is = (to-syntax (Ok u) is.syntax_tree is.syntax h).1 ∙ sym is.is
-  answers-only (Err (Text f)) h v is = first-some (faults is.syntax_tree) f is.faultless (to-syntax (Err (Text f)) is.syntax_tree is.syntax h)
+  answers-only (Err (Text f)) h v is = first-some (faults is.syntax_tree) f is.faultless
+      (to-syntax (Err (Text f)) is.syntax_tree is.syntax h)
   answers-only (Err Memory) h v is = tt
 
-  fault-in : (o : Result S Fault) (f : TextFault) → reading bytes ≡ o → Answers faults value view o (Err (Text f)) → IsFaultBy IsSyntax faults bytes f
+  fault-in : (o : Result S Fault) (f : TextFault) → reading bytes ≡ o → Answers faults value view o (Err (Text f))
+      → IsFaultBy IsSyntax faults bytes f
   fault-in (Ok s) f e h = inl (s, exact.found bytes s e, h)
   fault-in (Err g) f e h = inr (λ s is. ok-no_err s g (exact.only bytes s is) e, h)
 
   -- a fault that is answered is that of the bytes
-  pub answers-fault : (r : Result T TextError) → Answers faults value view (reading bytes) r → IfText r (λ f. IsFaultBy IsSyntax faults bytes f)
+  pub answers-fault : (r : Result T TextError) → Answers faults value view (reading bytes) r
+      → IfText r (λ f. IsFaultBy IsSyntax faults bytes f)
   answers-fault (Ok v) h = tt
   answers-fault (Err (Text f)) h = fault-in (reading bytes) f refl h
   answers-fault (Err Memory) h = tt
 
-  only_fault-in : (o : Result S Fault) (r : Result T TextError) (f : TextFault) → reading bytes ≡ o → ((s : S) → IsSyntax bytes s → ⊥) → Answers faults value view o r → IsFaultOrMemory r (λ g. g ≡ unread_fault)
+  only_fault-in : (o : Result S Fault) (r : Result T TextError) (f : TextFault) → reading bytes ≡ o
+      → ((s : S) → IsSyntax bytes s → ⊥) → Answers faults value view o r → IsFaultOrMemory r (λ g. g ≡ unread_fault)
   only_fault-in (Ok s) r f e none h = absurd (none s (exact.found bytes s e))
   only_fault-in (Err g) (Ok v) f e none h = absurd h
   only_fault-in (Err g) (Err (Text u)) f e none h = h
   only_fault-in (Err g) (Err Memory) f e none h = tt
 
-  along : (r : Result T TextError) (f g : TextFault) → f ≡ g → IsFaultOrMemory r (λ u. u ≡ f) → IsFaultOrMemory r (λ u. u ≡ g)
+  along : (r : Result T TextError) (f g : TextFault) → f ≡ g → IsFaultOrMemory r (λ u. u ≡ f)
+      → IsFaultOrMemory r (λ u. u ≡ g)
   along r f g e h = subst (λ x. IsFaultOrMemory r (λ u. u ≡ x)) e h
 
   -- the fault of the bytes is answered
-  pub answers-only_fault : (r : Result T TextError) → Answers faults value view (reading bytes) r → (f : TextFault) → IsFaultBy IsSyntax faults bytes f → IsFaultOrMemory r (λ g. g ≡ f)
+  pub answers-only_fault : (r : Result T TextError) → Answers faults value view (reading bytes) r → (f : TextFault)
+      → IsFaultBy IsSyntax faults bytes f → IsFaultOrMemory r (λ g. g ≡ f)
   answers-only_fault (Ok v) h f (inl (s, is, k)) = absurd (first-some (faults s) f (to-syntax (Ok v) s is h).0 k)
   answers-only_fault (Err (Text g)) h f (inl (s, is, k)) = some-is g f (sym (to-syntax (Err (Text g)) s is h) ∙ k)
   answers-only_fault (Err Memory) h f (inl (s, is, k)) = tt
-  answers-only_fault r h f (inr (none, e)) = along r unread_fault f (sym e) (only_fault-in (reading bytes) r f refl none h)
+  answers-only_fault r h f (inr (none, e)) =
+      along r unread_fault f (sym e) (only_fault-in (reading bytes) r f refl none h)

@@ -1,5 +1,6 @@
 -- The variables that a condition may name are those of its pattern in normal form.
-use Rattle.std.proofs.Common.{◌≡◌, ℕ, Bool, true, false, ◌||◌, ◌&&◌, not, Option, Some, None, List, [], ◌∷◌, ◌++◌, map, refl, sym, ap, ◌∙◌, subst}
+use Rattle.std.proofs.Common.{◌≡◌, ℕ, Bool, true, false, ◌||◌, ◌&&◌, not, Option, Some, None, List, [], ◌∷◌, ◌++◌, map}
+use Rattle.std.proofs.Common.{refl, sym, ap, ◌∙◌, subst}
 use Rattle.std.specs.Prelude.{◌≢◌, filter, if◌then◌else◌}
 use Rattle.std.specs.List.{list_any, AllByRecursion}
 use Rattle.std.specs.List.Sorted.{IsPermutation}
@@ -14,7 +15,8 @@ use Rattle.std.proofs.lemmas.Bool.{or_parts}
 use Rattle.mp_term.specs.Signature.{Sig}
 use Rattle.mp_pattern.specs.Firsts.{firsts_after, is_known, add_new}
 use Rattle.mp_pattern.specs.Normal.{normal_pattern}
-use Rattle.mp_pattern.specs.PatternTree.{is_sequence, optional, Pattern, symbol_pattern, app_pattern, wild_pattern, Patterns, no_patterns, more_patterns, pattern_list, patterns}
+use Rattle.mp_pattern.specs.PatternTree.{is_sequence, optional, Pattern, symbol_pattern, app_pattern, wild_pattern}
+use Rattle.mp_pattern.specs.PatternTree.{Patterns, no_patterns, more_patterns, pattern_list, patterns}
 use Rattle.mp_pattern.specs.Value.{same_name, one_form, seq_form, bag_form}
 use Rattle.mp_pattern.specs.Variables.{Use, uses, all_uses, comm_above, variables, variable_form}
 use Rattle.mp_pattern.proofs.Preserved.{of_normal_pattern}
@@ -22,8 +24,10 @@ use Rattle.mp_term.specs.Tree as term
 use Rattle.mp_term.specs.Normal.{normal}
 use Rattle.mp_term.proofs.ListLaws.{all-append, all-split}
 use Rattle.mp_pattern.proofs.VariableLaws.{IsPermutation-variables}
-use Rattle.mp_syntax.specs.Syntax.{Wildcard, Tree, Symbol, Apply, InfixOf, Wild, Optional, Variable, Trees, no_trees, more_trees}
-use Rattle.mp_text.specs.Build.{op_number, sign_number, head_number, marked_shape, kind_shape, variable_of, term_of, pattern_of, patterns_of}
+use Rattle.mp_syntax.specs.Syntax.{Wildcard, Tree, Symbol, Apply, InfixOf, Wild, Optional, Variable, Trees, no_trees}
+use Rattle.mp_syntax.specs.Syntax.{more_trees}
+use Rattle.mp_text.specs.Build.{op_number, sign_number, head_number, marked_shape, kind_shape, variable_of, term_of}
+use Rattle.mp_text.specs.Build.{pattern_of, patterns_of}
 use Rattle.mp_text.specs.Names.{named, names_of, wildcards, all_wildcards}
 use Rattle.mp_text.specs.Scope as scope
 use Rattle.mp_text.specs.Scope.{wildcard_variable, pattern_variables, is_bound, is_bound_sequence}
@@ -41,7 +45,8 @@ module _ (x : List ℕ) where
   known-append [] zs h = cc
   known-append (y ∷ ys) zs h = go (bytes_eq y x) (known-append ys zs) h
     where
-      go : (b : Bool) → (is_known bytes_eq ys x ≡ true → is_known bytes_eq (ys ++ zs) x ≡ true) → (b || is_known bytes_eq ys x) ≡ true → (b || is_known bytes_eq (ys ++ zs) x) ≡ true
+      go : (b : Bool) → (is_known bytes_eq ys x ≡ true → is_known bytes_eq (ys ++ zs) x ≡ true)
+          → (b || is_known bytes_eq ys x) ≡ true → (b || is_known bytes_eq (ys ++ zs) x) ≡ true
       go true rest k = refl
       go false rest k = rest k
 
@@ -54,7 +59,8 @@ module _ (x : List ℕ) where
       go true rest = refl
       go false rest = rest
 
-  known-add_new : (y : List ℕ) (ys : List (List ℕ)) → is_known bytes_eq ys x ≡ true → is_known bytes_eq (add_new bytes_eq ys y) x ≡ true
+  known-add_new : (y : List ℕ) (ys : List (List ℕ)) → is_known bytes_eq ys x ≡ true
+      → is_known bytes_eq (add_new bytes_eq ys y) x ≡ true
   known-add_new y ys h = go (is_known bytes_eq ys y)
     where
       go : (b : Bool) → is_known bytes_eq (if b then ys else (ys ++ (y ∷ []))) x ≡ true
@@ -69,17 +75,24 @@ module _ (x : List ℕ) where
       go true e = e
       go false e = known-behind ys (x ∷ []) (ap (λ b. b || false) ((bytes_eq-Decides x x).1 refl))
 
-  known-firsts_after : (ys zs : List (List ℕ)) → is_known bytes_eq ys x ≡ true → is_known bytes_eq (firsts_after bytes_eq ys zs) x ≡ true
+  known-firsts_after : (ys zs : List (List ℕ)) → is_known bytes_eq ys x ≡ true
+      → is_known bytes_eq (firsts_after bytes_eq ys zs) x ≡ true
   known-firsts_after ys [] h = h
   known-firsts_after ys (z ∷ zs) h = known-firsts_after (add_new bytes_eq ys z) zs (known-add_new z ys h)
 
   -- each name is among those that stand once
-  known-once : (ys zs : List (List ℕ)) → is_known bytes_eq zs x ≡ true → is_known bytes_eq (firsts_after bytes_eq ys zs) x ≡ true
+  known-once : (ys zs : List (List ℕ)) → is_known bytes_eq zs x ≡ true
+      → is_known bytes_eq (firsts_after bytes_eq ys zs) x ≡ true
   known-once ys [] h = cc
   known-once ys (z ∷ zs) h = go (bytes_eq z x) (known-once (add_new bytes_eq ys z) zs) refl h
     where
-      go : (b : Bool) → (is_known bytes_eq zs x ≡ true → is_known bytes_eq (firsts_after bytes_eq (add_new bytes_eq ys z) zs) x ≡ true) → bytes_eq z x ≡ b → (b || is_known bytes_eq zs x) ≡ true → is_known bytes_eq (firsts_after bytes_eq (add_new bytes_eq ys z) zs) x ≡ true
-      go true rest e k = known-firsts_after (add_new bytes_eq ys z) zs (subst (λ y. is_known bytes_eq (add_new bytes_eq ys y) x ≡ true) (sym ((bytes_eq-Decides z x).0 e)) (known-added ys))
+      go : (b : Bool)
+          → (is_known bytes_eq zs x ≡ true → is_known bytes_eq (firsts_after bytes_eq (add_new bytes_eq ys z) zs) x
+          ≡ true) → bytes_eq z x ≡ b → (b || is_known bytes_eq zs x) ≡ true
+          → is_known bytes_eq (firsts_after bytes_eq (add_new bytes_eq ys z) zs) x ≡ true
+      go true rest e k = known-firsts_after (add_new bytes_eq ys z) zs
+          (subst (λ y. is_known bytes_eq (add_new bytes_eq ys y) x ≡ true) (sym ((bytes_eq-Decides z x).0 e))
+          (known-added ys))
       go false rest e k = rest k
 
   -- ---- names in another order
@@ -94,7 +107,8 @@ module _ (x : List ℕ) where
   none-known [] h = refl
   none-known (y ∷ ys) h = ap (λ b. b || is_known same_name ys x) h.0 ∙ none-known ys h.1
 
-  known-permutation : (ys zs : List (List ℕ)) → IsPermutation ys zs → is_known same_name ys x ≡ true → is_known same_name zs x ≡ true
+  known-permutation : (ys zs : List (List ℕ)) → IsPermutation ys zs → is_known same_name ys x ≡ true
+      → is_known same_name zs x ≡ true
   known-permutation ys zs s h = go (is_known same_name zs x) refl
     where
       P : List ℕ → Type 0
@@ -102,10 +116,15 @@ module _ (x : List ℕ) where
 
       go : (b : Bool) → is_known same_name zs x ≡ b → b ≡ true
       go true e = refl
-      go false e = absurd (differ (sym h ∙ none-known ys (recursion_from_All P ys (All-permutation P zs ys (IsPermutation-sym ys zs s) (All-from_recursion P zs (all-unknown zs e))))))
+      go false e =
+          absurd (differ
+          (sym h ∙ none-known ys
+          (recursion_from_All P ys
+          (All-permutation P zs ys (IsPermutation-sym ys zs s) (All-from_recursion P zs (all-unknown zs e))))))
 
   -- a name that one of two tests finds is known among the names of both
-  known-either : (ys zs : List (List ℕ)) (b c : Bool) → (b ≡ true → is_known bytes_eq ys x ≡ true) → (c ≡ true → is_known bytes_eq zs x ≡ true) → (b || c) ≡ true → is_known bytes_eq (ys ++ zs) x ≡ true
+  known-either : (ys zs : List (List ℕ)) (b c : Bool) → (b ≡ true → is_known bytes_eq ys x ≡ true)
+      → (c ≡ true → is_known bytes_eq zs x ≡ true) → (b || c) ≡ true → is_known bytes_eq (ys ++ zs) x ≡ true
   known-either ys zs true c f g h = known-append ys zs (f refl)
   known-either ys zs false c f g h = known-behind ys zs (g h)
 
@@ -116,16 +135,22 @@ module _ (x : List ℕ) where
     known-wild [] h = absurd (some ((bytes_eq-Decides x []).0 h))
     known-wild (b ∷ bs) h = ap (λ t. t || false) (bytes_eq_comm (b ∷ bs) x ∙ h)
 
-    known-bound : (ws : List Wildcard) → is_bound (map wildcard_variable ws) x ≡ true → is_known bytes_eq (names_of ws) x ≡ true
+    known-bound : (ws : List Wildcard) → is_bound (map wildcard_variable ws) x ≡ true
+        → is_known bytes_eq (names_of ws) x ≡ true
     known-bound [] h = cc
-    known-bound (w ∷ ws) h = known-either (named w.name) (names_of ws) (bytes_eq x w.name) (is_bound (map wildcard_variable ws) x) (known-wild w.name) (known-bound ws) h
+    known-bound (w ∷ ws) h = known-either (named w.name) (names_of ws) (bytes_eq x w.name)
+        (is_bound (map wildcard_variable ws) x) (known-wild w.name) (known-bound ws) h
 
     -- a variable that a condition may name is one of the pattern in normal form
-    pub known-variables : (sig : Sig) (p : Tree) → is_bound (pattern_variables p) x ≡ true → is_known same_name (variables (normal_pattern sig (pattern_of sig p))) x ≡ true
+    pub known-variables : (sig : Sig) (p : Tree) → is_bound (pattern_variables p) x ≡ true
+        → is_known same_name (variables (normal_pattern sig (pattern_of sig p))) x ≡ true
     known-variables sig p h =
         let here : is_known same_name (variables (pattern_of sig p)) x ≡ true =
-        is_known-alike same_name bytes_eq is_eq-slice_cmp (variables (pattern_of sig p)) x ∙ ap (λ l. is_known bytes_eq l x) (variables-pattern_of sig p) ∙ known-once [] (names_of (wildcards p)) (known-bound (wildcards p) h) in
-        known-permutation (variables (pattern_of sig p)) (variables (normal_pattern sig (pattern_of sig p))) (IsPermutation-variables sig (pattern_of sig p)) here
+        is_known-alike same_name bytes_eq is_eq-slice_cmp (variables (pattern_of sig p)) x
+        ∙ ap (λ l. is_known bytes_eq l x) (variables-pattern_of sig p)
+        ∙ known-once [] (names_of (wildcards p)) (known-bound (wildcards p) h) in
+        known-permutation (variables (pattern_of sig p)) (variables (normal_pattern sig (pattern_of sig p)))
+        (IsPermutation-variables sig (pattern_of sig p)) here
 
 -- ---- variables that stand for one term
 
@@ -144,17 +169,21 @@ module _ (x : List ℕ) where
   no_sequence-under f g (wild_pattern w None) h = tt
   no_sequence-under f g (wild_pattern w (Some y)) h = (h.0, tt)
 
-  no_sequence-down : (f : ℕ) (ps : Patterns) → HasNoSequence None (app_pattern f ps) → AllByRecursion (HasNoSequence None) (pattern_list ps)
+  no_sequence-down : (f : ℕ) (ps : Patterns) → HasNoSequence None (app_pattern f ps)
+      → AllByRecursion (HasNoSequence None) (pattern_list ps)
   no_sequence-down f no_patterns h = tt
   no_sequence-down f (more_patterns p ps) h =
       let r = all-split IsNoSequence (uses (Some f) p) (all_uses (Some f) ps) h in
       (no_sequence-under (Some f) None p r.0, no_sequence-down f ps r.1)
 
-  no_sequence-up : (f : ℕ) (ps : Patterns) (qs : List Pattern) → HasNoSequence None (app_pattern f ps) → AllByRecursion (HasNoSequence None) qs → HasNoSequence None (app_pattern f (patterns qs))
+  no_sequence-up : (f : ℕ) (ps : Patterns) (qs : List Pattern) → HasNoSequence None (app_pattern f ps)
+      → AllByRecursion (HasNoSequence None) qs → HasNoSequence None (app_pattern f (patterns qs))
   no_sequence-up f ps [] h k = tt
-  no_sequence-up f ps (q ∷ qs) h k = all-append IsNoSequence (uses (Some f) q) (all_uses (Some f) (patterns qs)) (no_sequence-under None (Some f) q k.0) (no_sequence-up f ps qs h k.1)
+  no_sequence-up f ps (q ∷ qs) h k = all-append IsNoSequence (uses (Some f) q) (all_uses (Some f) (patterns qs))
+      (no_sequence-under None (Some f) q k.0) (no_sequence-up f ps qs h k.1)
 
-  none-filtered : (us : List Use) → AllByRecursion IsNoSequence us → filter (λ u. same_name x u.name && is_sequence u.wildcard) us ≡ []
+  none-filtered : (us : List Use) → AllByRecursion IsNoSequence us
+      → filter (λ u. same_name x u.name && is_sequence u.wildcard) us ≡ []
   none-filtered [] h = refl
   none-filtered (u ∷ us) h = rw h.0 (none-filtered us h.1)
 
@@ -162,37 +191,54 @@ module _ (x : List ℕ) where
   and-false true = refl
   and-false false = refl
 
-  no_sequence-wild : (sig : Sig) (f : Option ℕ) (kind : List ℕ) (marks : ℕ) (name : List ℕ) → (bytes_eq x name && is_sequence (marked_shape marks)) ≡ false → HasNoSequence f (wild_pattern (kind_shape sig kind marks) (variable_of name))
+  no_sequence-wild : (sig : Sig) (f : Option ℕ) (kind : List ℕ) (marks : ℕ) (name : List ℕ)
+      → (bytes_eq x name && is_sequence (marked_shape marks)) ≡ false
+      → HasNoSequence f (wild_pattern (kind_shape sig kind marks) (variable_of name))
   no_sequence-wild sig f kind marks [] h = tt
-  no_sequence-wild sig f [] marks (b ∷ bs) h = (ap (λ t. t && is_sequence (marked_shape marks)) (is_eq-slice_cmp x (b ∷ bs)) ∙ h, tt)
+  no_sequence-wild sig f [] marks (b ∷ bs) h =
+      (ap (λ t. t && is_sequence (marked_shape marks)) (is_eq-slice_cmp x (b ∷ bs)) ∙ h, tt)
   no_sequence-wild sig f (c ∷ cs) marks (b ∷ bs) h = (and-false (same_name x (b ∷ bs)), tt)
 
-  no_sequence-optional : (f : Option ℕ) (t : term.Tree) (name : List ℕ) → HasNoSequence f (wild_pattern (optional t) (variable_of name))
+  no_sequence-optional : (f : Option ℕ) (t : term.Tree) (name : List ℕ)
+      → HasNoSequence f (wild_pattern (optional t) (variable_of name))
   no_sequence-optional f t [] = tt
   no_sequence-optional f t (b ∷ bs) = (and-false (same_name x (b ∷ bs)), tt)
 
   module _ (sig : Sig) where
     mutual
-      no_sequence-pattern_of : (f : Option ℕ) (p : Tree) → is_bound_sequence (map wildcard_variable (wildcards p)) x ≡ false → HasNoSequence f (pattern_of sig p)
+      no_sequence-pattern_of : (f : Option ℕ) (p : Tree)
+          → is_bound_sequence (map wildcard_variable (wildcards p)) x ≡ false → HasNoSequence f (pattern_of sig p)
       no_sequence-pattern_of f (Symbol w) h = tt
-      no_sequence-pattern_of f (Apply g args) h = no_sequence-patterns_of (Some (head_number (op_number sig g.text))) args h
-      no_sequence-pattern_of f (InfixOf opened sign operands) h = no_sequence-patterns_of (Some (head_number (sign_number sig sign.text))) operands h
-      no_sequence-pattern_of f (Wild w) h = no_sequence-wild sig f w.kind w.marks w.name (or_parts (bytes_eq x w.name && is_sequence (marked_shape w.marks)) false h).0
-      no_sequence-pattern_of f (Optional w others default) h = no_sequence-optional f (normal sig (term_of sig default)) w.name
+      no_sequence-pattern_of f (Apply g args) h =
+          no_sequence-patterns_of (Some (head_number (op_number sig g.text))) args h
+      no_sequence-pattern_of f (InfixOf opened sign operands) h =
+          no_sequence-patterns_of (Some (head_number (sign_number sig sign.text))) operands h
+      no_sequence-pattern_of f (Wild w) h = no_sequence-wild sig f w.kind w.marks w.name
+          (or_parts (bytes_eq x w.name && is_sequence (marked_shape w.marks)) false h).0
+      no_sequence-pattern_of f (Optional w others default) h =
+          no_sequence-optional f (normal sig (term_of sig default)) w.name
       no_sequence-pattern_of f (Variable w) h = tt
 
-      no_sequence-patterns_of : (f : Option ℕ) (ps : Trees) → is_bound_sequence (map wildcard_variable (all_wildcards ps)) x ≡ false → AllByRecursion IsNoSequence (all_uses f (patterns_of sig ps))
+      no_sequence-patterns_of : (f : Option ℕ) (ps : Trees)
+          → is_bound_sequence (map wildcard_variable (all_wildcards ps)) x ≡ false
+          → AllByRecursion IsNoSequence (all_uses f (patterns_of sig ps))
       no_sequence-patterns_of f no_trees h = tt
       no_sequence-patterns_of f (more_trees p ps) h =
           let test = λ (v : scope.Variable). bytes_eq x v.name && v.is_sequence in
           let front = map wildcard_variable (wildcards p) in
           let back = map wildcard_variable (all_wildcards ps) in
-          let o = or_parts (list_any test front) (list_any test back) (sym (list_any-append test front back) ∙ sym (ap (list_any test) (map-append wildcard_variable (wildcards p) (all_wildcards ps))) ∙ h) in
-          all-append IsNoSequence (uses f (pattern_of sig p)) (all_uses f (patterns_of sig ps)) (no_sequence-pattern_of f p o.0) (no_sequence-patterns_of f ps o.1)
+          let o = or_parts (list_any test front) (list_any test back)
+          (sym (list_any-append test front back)
+          ∙ sym (ap (list_any test) (map-append wildcard_variable (wildcards p) (all_wildcards ps))) ∙ h) in
+          all-append IsNoSequence (uses f (pattern_of sig p)) (all_uses f (patterns_of sig ps))
+          (no_sequence-pattern_of f p o.0) (no_sequence-patterns_of f ps o.1)
 
     -- a variable of no plus or star wildcard stands for one term in the pattern in normal form
-    pub single-variables : (p : Tree) → is_bound_sequence (pattern_variables p) x ≡ false → variable_form sig (normal_pattern sig (pattern_of sig p)) x ≡ one_form
+    pub single-variables : (p : Tree) → is_bound_sequence (pattern_variables p) x ≡ false
+        → variable_form sig (normal_pattern sig (pattern_of sig p)) x ≡ one_form
     single-variables p h =
         let q = normal_pattern sig (pattern_of sig p) in
-        let none = of_normal_pattern sig (HasNoSequence None) no_sequence-down no_sequence-up (pattern_of sig p) (no_sequence-pattern_of None p h) in
-        ap (λ (mine : List Use). if list_any (λ u. not (comm_above sig u.under)) mine then seq_form else (if list_any (λ _. true) mine then bag_form else one_form)) (none-filtered (uses None q) none)
+        let none = of_normal_pattern sig (HasNoSequence None) no_sequence-down no_sequence-up (pattern_of sig p)
+        (no_sequence-pattern_of None p h) in
+        ap (λ (mine : List Use). if list_any (λ u. not (comm_above sig u.under)) mine then seq_form else
+        (if list_any (λ _. true) mine then bag_form else one_form)) (none-filtered (uses None q) none)

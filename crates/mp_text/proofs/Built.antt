@@ -15,7 +15,9 @@ use Rattle.mp_syntax.proofs.Trees.{expr_tree-Apply, tree_list-trees}
 use Rattle.mp_text.specs.Build.{op_number, sign_number, head_number, term_of, terms_of, pattern_of, patterns_of}
 use Rattle.mp_pattern.specs.SoundRule.{allows_patterns}
 use Rattle.mp_text.specs.Wildcards.{PatternWildcard}
-use Rattle.mp_text.specs.Checks.{op_named, op_signed, head_faults, arity_faults, sign_faults, term_faults, term_operand_faults, all_term_faults, pattern_faults, pattern_operand_faults, all_pattern_faults}
+use Rattle.mp_text.specs.Checks.{op_named, op_signed, head_faults, arity_faults, sign_faults, term_faults}
+use Rattle.mp_text.specs.Checks.{term_operand_faults, all_term_faults, pattern_faults, pattern_operand_faults}
+use Rattle.mp_text.specs.Checks.{all_pattern_faults}
 
 -- an operation that isn't there
 pub none-unknown : (o : Option OpDecl) → false ≡ is_some o → o ≡ None
@@ -34,55 +36,88 @@ module _ (sig : Sig) where
   patterns_of-trees (t ∷ ts) = ap (pattern.more_patterns (pattern_of sig t)) (patterns_of-trees ts)
 
   -- the term of an application
-  pub term_of-Apply : (f : code.Word) (v : Vec Expr Global) → term_of sig (expr_tree (Apply f v)) ≡ term.app (head_number (op_number sig f.text.now)) (term.trees (map (term_of sig) (map expr_tree v.items)))
-  term_of-Apply f v = ap (term_of sig) (expr_tree-Apply f v) ∙ ap (term.app (head_number (op_number sig f.text.now))) (terms_of-trees (map expr_tree v.items))
+  pub term_of-Apply : (f : code.Word) (v : Vec Expr Global)
+      → term_of sig (expr_tree (Apply f v)) ≡ term.app (head_number (op_number sig f.text.now))
+      (term.trees (map (term_of sig) (map expr_tree v.items)))
+  term_of-Apply f v = ap (term_of sig) (expr_tree-Apply f v)
+      ∙ ap (term.app (head_number (op_number sig f.text.now))) (terms_of-trees (map expr_tree v.items))
 
   -- the pattern of an application
-  pub pattern_of-Apply : (f : code.Word) (v : Vec Expr Global) → pattern_of sig (expr_tree (Apply f v)) ≡ pattern.app_pattern (head_number (op_number sig f.text.now)) (pattern.patterns (map (pattern_of sig) (map expr_tree v.items)))
-  pattern_of-Apply f v = ap (pattern_of sig) (expr_tree-Apply f v) ∙ ap (pattern.app_pattern (head_number (op_number sig f.text.now))) (patterns_of-trees (map expr_tree v.items))
+  pub pattern_of-Apply : (f : code.Word) (v : Vec Expr Global)
+      → pattern_of sig (expr_tree (Apply f v))
+      ≡ pattern.app_pattern (head_number (op_number sig f.text.now))
+      (pattern.patterns (map (pattern_of sig) (map expr_tree v.items)))
+  pattern_of-Apply f v = ap (pattern_of sig) (expr_tree-Apply f v)
+      ∙ ap (pattern.app_pattern (head_number (op_number sig f.text.now))) (patterns_of-trees (map expr_tree v.items))
 
   -- the faults of an application in a term
   pub term_faults-Apply : (f : code.Word) (v : Vec Expr Global)
-      → term_faults sig (expr_tree (Apply f v)) ≡ head_faults (allows (length v.items)) (spot_of f) (op_named sig f.text.now) ++ all_term_faults sig (trees (map expr_tree v.items))
+      → term_faults sig (expr_tree (Apply f v))
+      ≡ head_faults (allows (length v.items)) (spot_of f) (op_named sig f.text.now)
+      ++ all_term_faults sig (trees (map expr_tree v.items))
   term_faults-Apply f v =
-      let count : length (tree_list (trees (map expr_tree v.items))) ≡ length v.items = ap length (tree_list-trees (map expr_tree v.items)) ∙ length-map v.items expr_tree in
-      ap (term_faults sig) (expr_tree-Apply f v) ∙ ap (λ n. head_faults (allows n) (spot_of f) (op_named sig f.text.now) ++ all_term_faults sig (trees (map expr_tree v.items))) count
+      let count : length (tree_list (trees (map expr_tree v.items))) ≡ length v.items =
+      ap length (tree_list-trees (map expr_tree v.items)) ∙ length-map v.items expr_tree in
+      ap (term_faults sig) (expr_tree-Apply f v)
+      ∙ ap (λ n. head_faults (allows n) (spot_of f) (op_named sig f.text.now)
+      ++ all_term_faults sig (trees (map expr_tree v.items))) count
 
   -- the faults of an application in a pattern
   pub pattern_faults-Apply : (before : List PatternWildcard) (f : code.Word) (v : Vec Expr Global)
-      → pattern_faults sig before (expr_tree (Apply f v)) ≡ head_faults (allows_patterns (map (pattern_of sig) (map expr_tree v.items))) (spot_of f) (op_named sig f.text.now) ++ all_pattern_faults sig before (trees (map expr_tree v.items))
+      → pattern_faults sig before (expr_tree (Apply f v))
+      ≡ head_faults (allows_patterns (map (pattern_of sig) (map expr_tree v.items))) (spot_of f)
+      (op_named sig f.text.now) ++ all_pattern_faults sig before (trees (map expr_tree v.items))
   pattern_faults-Apply before f v =
-      ap (pattern_faults sig before) (expr_tree-Apply f v) ∙ ap (λ l. head_faults (allows_patterns (map (pattern_of sig) l)) (spot_of f) (op_named sig f.text.now) ++ all_pattern_faults sig before (trees (map expr_tree v.items))) (tree_list-trees (map expr_tree v.items))
+      ap (pattern_faults sig before) (expr_tree-Apply f v)
+      ∙ ap (λ l. head_faults (allows_patterns (map (pattern_of sig) l)) (spot_of f) (op_named sig f.text.now)
+      ++ all_pattern_faults sig before (trees (map expr_tree v.items))) (tree_list-trees (map expr_tree v.items))
 
   -- the term of operands with a sign between them
-  pub term_of-operands : (place : Place) (sign : Spot) (es : List Expr) → term_of sig (InfixOf place sign (trees (map expr_tree es))) ≡ term.app (head_number (sign_number sig sign.text)) (term.trees (map (term_of sig) (map expr_tree es)))
-  term_of-operands place sign es = ap (term.app (head_number (sign_number sig sign.text))) (terms_of-trees (map expr_tree es))
+  pub term_of-operands : (place : Place) (sign : Spot) (es : List Expr)
+      → term_of sig (InfixOf place sign (trees (map expr_tree es)))
+      ≡ term.app (head_number (sign_number sig sign.text)) (term.trees (map (term_of sig) (map expr_tree es)))
+  term_of-operands place sign es = ap (term.app (head_number (sign_number sig sign.text)))
+      (terms_of-trees (map expr_tree es))
 
   -- the pattern of operands with a sign between them
-  pub pattern_of-operands : (place : Place) (sign : Spot) (es : List Expr) → pattern_of sig (InfixOf place sign (trees (map expr_tree es))) ≡ pattern.app_pattern (head_number (sign_number sig sign.text)) (pattern.patterns (map (pattern_of sig) (map expr_tree es)))
-  pattern_of-operands place sign es = ap (pattern.app_pattern (head_number (sign_number sig sign.text))) (patterns_of-trees (map expr_tree es))
+  pub pattern_of-operands : (place : Place) (sign : Spot) (es : List Expr)
+      → pattern_of sig (InfixOf place sign (trees (map expr_tree es)))
+      ≡ pattern.app_pattern (head_number (sign_number sig sign.text))
+      (pattern.patterns (map (pattern_of sig) (map expr_tree es)))
+  pattern_of-operands place sign es = ap (pattern.app_pattern (head_number (sign_number sig sign.text)))
+      (patterns_of-trees (map expr_tree es))
 
   -- the faults of operands in a term, by their number
   pub term_faults-operands : (place : Place) (sign : Spot) (es : List Expr)
-      → term_faults sig (InfixOf place sign (trees (map expr_tree es))) ≡ arity_faults (allows (length es)) place (op_signed sig sign.text) ++ term_operand_faults sig (sign_faults sign (op_signed sig sign.text)) (trees (map expr_tree es))
+      → term_faults sig (InfixOf place sign (trees (map expr_tree es)))
+      ≡ arity_faults (allows (length es)) place (op_signed sig sign.text)
+      ++ term_operand_faults sig (sign_faults sign (op_signed sig sign.text)) (trees (map expr_tree es))
   term_faults-operands place sign es =
-      let count : length (tree_list (trees (map expr_tree es))) ≡ length es = ap length (tree_list-trees (map expr_tree es)) ∙ length-map es expr_tree in
-      ap (λ n. arity_faults (allows n) place (op_signed sig sign.text) ++ term_operand_faults sig (sign_faults sign (op_signed sig sign.text)) (trees (map expr_tree es))) count
+      let count : length (tree_list (trees (map expr_tree es))) ≡ length es =
+      ap length (tree_list-trees (map expr_tree es)) ∙ length-map es expr_tree in
+      ap (λ n. arity_faults (allows n) place (op_signed sig sign.text)
+      ++ term_operand_faults sig (sign_faults sign (op_signed sig sign.text)) (trees (map expr_tree es))) count
 
   -- the faults of operands in a pattern, by their list
   pub pattern_faults-operands : (before : List PatternWildcard) (place : Place) (sign : Spot) (es : List Expr)
-      → pattern_faults sig before (InfixOf place sign (trees (map expr_tree es))) ≡ arity_faults (allows_patterns (map (pattern_of sig) (map expr_tree es))) place (op_signed sig sign.text) ++ pattern_operand_faults sig before (sign_faults sign (op_signed sig sign.text)) (trees (map expr_tree es))
+      → pattern_faults sig before (InfixOf place sign (trees (map expr_tree es)))
+      ≡ arity_faults (allows_patterns (map (pattern_of sig) (map expr_tree es))) place (op_signed sig sign.text)
+      ++ pattern_operand_faults sig before (sign_faults sign (op_signed sig sign.text)) (trees (map expr_tree es))
   pattern_faults-operands before place sign es =
-      ap (λ l. arity_faults (allows_patterns (map (pattern_of sig) l)) place (op_signed sig sign.text) ++ pattern_operand_faults sig before (sign_faults sign (op_signed sig sign.text)) (trees (map expr_tree es))) (tree_list-trees (map expr_tree es))
+      ap (λ l. arity_faults (allows_patterns (map (pattern_of sig) l)) place (op_signed sig sign.text)
+      ++ pattern_operand_faults sig before (sign_faults sign (op_signed sig sign.text)) (trees (map expr_tree es)))
+      (tree_list-trees (map expr_tree es))
 
   -- a sign that an operation has is no fault between operands
-  pub term_operand_faults-known : (sign : Spot) (o : Option OpDecl) (ts : Trees) → true ≡ is_some o → term_operand_faults sig (sign_faults sign o) ts ≡ all_term_faults sig ts
+  pub term_operand_faults-known : (sign : Spot) (o : Option OpDecl) (ts : Trees) → true ≡ is_some o
+      → term_operand_faults sig (sign_faults sign o) ts ≡ all_term_faults sig ts
   term_operand_faults-known sign None ts h = cc
   term_operand_faults-known sign (Some d) no_trees h = refl
   term_operand_faults-known sign (Some d) (more_trees t ts) h = refl
 
   -- the same in a pattern
-  pub pattern_operand_faults-known : (before : List PatternWildcard) (sign : Spot) (o : Option OpDecl) (ts : Trees) → true ≡ is_some o → pattern_operand_faults sig before (sign_faults sign o) ts ≡ all_pattern_faults sig before ts
+  pub pattern_operand_faults-known : (before : List PatternWildcard) (sign : Spot) (o : Option OpDecl) (ts : Trees)
+      → true ≡ is_some o → pattern_operand_faults sig before (sign_faults sign o) ts ≡ all_pattern_faults sig before ts
   pattern_operand_faults-known before sign None ts h = cc
   pattern_operand_faults-known before sign (Some d) no_trees h = refl
   pattern_operand_faults-known before sign (Some d) (more_trees t ts) h = refl

@@ -1,5 +1,6 @@
 -- Wildcards of a pattern of which none differs from an earlier one of its name, in syntax trees and in patterns.
-use Rattle.std.proofs.Common.{◌≡◌, ℕ, Bool, true, false, ◌&&◌, ◌||◌, not, eqb, List, [], ◌∷◌, ◌++◌, map, Some, None, refl, sym, ap, subst, ◌∙◌, eqb-true, append_assoc, append-nil}
+use Rattle.std.proofs.Common.{◌≡◌, ℕ, Bool, true, false, ◌&&◌, ◌||◌, not, eqb, List, [], ◌∷◌, ◌++◌, map, Some, None}
+use Rattle.std.proofs.Common.{refl, sym, ap, subst, ◌∙◌, eqb-true, append_assoc, append-nil}
 use Rattle.std.specs.List.{list_any}
 use Rattle.std.specs.Str.{bytes_eq}
 use Rattle.std.proofs.lemmas.List.{map-append}
@@ -7,16 +8,23 @@ use Rattle.std.proofs.lemmas.Slice.Eq.{bytes_eq-Decides}
 use Rattle.std.proofs.lemmas.Bool.{not-false}
 use Rattle.mp_term.specs.Signature.{Sig}
 use Rattle.mp_pattern.specs.PatternTree as pattern
-use Rattle.mp_pattern.specs.PatternTree.{Pattern, symbol_pattern, app_pattern, wild_pattern, Patterns, no_patterns, more_patterns}
+use Rattle.mp_pattern.specs.PatternTree.{Pattern, symbol_pattern, app_pattern, wild_pattern, Patterns, no_patterns}
+use Rattle.mp_pattern.specs.PatternTree.{more_patterns}
 use Rattle.mp_pattern.specs.Subpatterns.{subpatterns, all_subpatterns}
 use Rattle.mp_pattern.specs.Clash.{first_clash}
-use Rattle.mp_pattern.proofs.ClashLaws.{Agree, agree-app, AgreesWith, InOrder, first_clash_after-InOrder, same_shape-same}
-use Rattle.mp_syntax.specs.Syntax.{Wildcard, Tree, Symbol, Apply, InfixOf, Wild, Variable, Trees, no_trees, more_trees, Optional}
+use Rattle.mp_pattern.proofs.ClashLaws.{Agree, agree-app, AgreesWith, InOrder, first_clash_after-InOrder}
+use Rattle.mp_pattern.proofs.ClashLaws.{same_shape-same}
+use Rattle.mp_syntax.specs.Syntax.{Wildcard, Tree, Symbol, Apply, InfixOf, Wild, Variable, Trees, no_trees, more_trees}
+use Rattle.mp_syntax.specs.Syntax.{Optional}
 use Rattle.mp_text.specs.declared.fault.TextFault.{TextFault}
 use Rattle.mp_text.specs.Names.{is_same_variable}
-use Rattle.mp_text.specs.Wildcards.{DefaultForm, absent, normal_form, unknown, PatternWildcard, without_default, with_default_form, pattern_wildcards, all_pattern_wildcards, same_default, same_class, differs}
+use Rattle.mp_text.specs.Wildcards.{DefaultForm, absent, normal_form, unknown, PatternWildcard, without_default}
+use Rattle.mp_text.specs.Wildcards.{with_default_form, pattern_wildcards, all_pattern_wildcards, same_default}
+use Rattle.mp_text.specs.Wildcards.{same_class, differs}
 use Rattle.mp_text.specs.Build.{kind_shape, shape_of, variable_of, pattern_of, patterns_of}
-use Rattle.mp_text.specs.Checks.{fault_if, head_faults, arity_faults, sign_faults, allows_args, op_named, op_signed, kind_unknown, default_faults, wildcard_faults, pattern_faults, pattern_operand_faults, all_pattern_faults}
+use Rattle.mp_text.specs.Checks.{fault_if, head_faults, arity_faults, sign_faults, allows_args, op_named, op_signed}
+use Rattle.mp_text.specs.Checks.{kind_unknown, default_faults, wildcard_faults, pattern_faults, pattern_operand_faults}
+use Rattle.mp_text.specs.Checks.{all_pattern_faults}
 use Rattle.mp_text.proofs.Words.{first-of, second-of}
 use Rattle.mp_text.proofs.Faultless.{nil-append, nil-fault_if}
 use Rattle.mp_text.proofs.Defaults.{default_form-default_faults}
@@ -30,7 +38,8 @@ Apart before (w ∷ ws) = (list_any (differs w) before ≡ false) × Apart (befo
 
 pub Apart-append : (before a b : List PatternWildcard) → Apart before a → Apart (before ++ a) b → Apart before (a ++ b)
 Apart-append before [] b h k = subst (λ l. Apart l b) (append-nil before) k
-Apart-append before (w ∷ a) b h k = (h.0, Apart-append (before ++ w ∷ []) a b h.1 (subst (λ l. Apart l b) (sym (append_assoc before (w ∷ []) a)) k))
+Apart-append before (w ∷ a) b h k =
+    (h.0, Apart-append (before ++ w ∷ []) a b h.1 (subst (λ l. Apart l b) (sym (append_assoc before (w ∷ []) a)) k))
 
 pub Apart-split : (before a b : List PatternWildcard) → Apart before (a ++ b) → Apart before a × Apart (before ++ a) b
 Apart-split before [] b h = (tt, subst (λ l. Apart l b) (sym (append-nil before)) h)
@@ -39,39 +48,55 @@ Apart-split before (w ∷ a) b h =
     ((h.0, r.0), subst (λ l. Apart l b) (append_assoc before (w ∷ []) a) r.1)
 
 -- operands without faults, and a sign without faults, in a pattern
-pub nil-pattern_operands : (sig : Sig) (before : List PatternWildcard) (at_sign : List TextFault) (ps : Trees) → pattern_operand_faults sig before at_sign ps ≡ [] → (at_sign ≡ []) × (all_pattern_faults sig before ps ≡ [])
+pub nil-pattern_operands : (sig : Sig) (before : List PatternWildcard) (at_sign : List TextFault) (ps : Trees)
+    → pattern_operand_faults sig before at_sign ps ≡ [] → (at_sign ≡ []) × (all_pattern_faults sig before ps ≡ [])
 nil-pattern_operands sig before at_sign no_trees h = (h, refl)
 nil-pattern_operands sig before at_sign (more_trees p ps) h =
-    let q = nil-append (pattern_faults sig before p) (at_sign ++ all_pattern_faults sig (before ++ pattern_wildcards sig p) ps) h in
+    let q = nil-append (pattern_faults sig before p)
+    (at_sign ++ all_pattern_faults sig (before ++ pattern_wildcards sig p) ps) h in
     let r = nil-append at_sign (all_pattern_faults sig (before ++ pattern_wildcards sig p) ps) q.1 in
     (r.0, ap (λ l. l ++ all_pattern_faults sig (before ++ pattern_wildcards sig p) ps) q.0 ∙ r.1)
 
 module _ (sig : Sig) where
   -- a wildcard without faults
-  Apart-wildcard_faults : (before : List PatternWildcard) (w : PatternWildcard) → wildcard_faults sig before w ≡ [] → list_any (differs w) before ≡ false
+  Apart-wildcard_faults : (before : List PatternWildcard) (w : PatternWildcard) → wildcard_faults sig before w ≡ []
+      → list_any (differs w) before ≡ false
   Apart-wildcard_faults before w h =
-      nil-fault_if (list_any (differs w) before) _ w.wildcard.place (nil-append (fault_if (kind_unknown sig w.wildcard.kind) _ w.wildcard.place) (fault_if (list_any (differs w) before) _ w.wildcard.place) h).1
+      nil-fault_if (list_any (differs w) before) _ w.wildcard.place
+      (nil-append (fault_if (kind_unknown sig w.wildcard.kind) _ w.wildcard.place)
+      (fault_if (list_any (differs w) before) _ w.wildcard.place) h).1
 
   mutual
     -- the wildcards of a pattern without faults
-    pub Apart-pattern_faults : (before : List PatternWildcard) (p : Tree) → pattern_faults sig before p ≡ [] → Apart before (pattern_wildcards sig p)
+    pub Apart-pattern_faults : (before : List PatternWildcard) (p : Tree) → pattern_faults sig before p ≡ []
+        → Apart before (pattern_wildcards sig p)
     Apart-pattern_faults before (Symbol w) h = tt
-    Apart-pattern_faults before (Apply f args) h = Apart-all_pattern_faults before args (nil-append (head_faults (allows_args sig args) f (op_named sig f.text)) (all_pattern_faults sig before args) h).1
+    Apart-pattern_faults before (Apply f args) h =
+        Apart-all_pattern_faults before args
+        (nil-append (head_faults (allows_args sig args) f (op_named sig f.text))
+        (all_pattern_faults sig before args) h).1
     Apart-pattern_faults before (InfixOf opened sign operands) h =
         let at_sign = sign_faults sign (op_signed sig sign.text) in
-        let p = nil-append (arity_faults (allows_args sig operands) opened (op_signed sig sign.text)) (pattern_operand_faults sig before at_sign operands) h in
+        let p = nil-append (arity_faults (allows_args sig operands) opened (op_signed sig sign.text))
+        (pattern_operand_faults sig before at_sign operands) h in
         Apart-all_pattern_faults before operands (nil-pattern_operands sig before at_sign operands p.1).1
     Apart-pattern_faults before (Wild w) h = (Apart-wildcard_faults before (without_default w) h, tt)
     Apart-pattern_faults before (Optional w others default) h =
-        let v = with_default_form sig w others default in
-        (Apart-wildcard_faults before v (nil-append (wildcard_faults sig before v) (default_faults sig others default) h).0, tt)
+        let v = with_default_form sig w others default in (
+          Apart-wildcard_faults before v
+              (nil-append (wildcard_faults sig before v) (default_faults sig others default) h).0,
+          tt,
+        )
     Apart-pattern_faults before (Variable x) h = tt
 
-    Apart-all_pattern_faults : (before : List PatternWildcard) (ps : Trees) → all_pattern_faults sig before ps ≡ [] → Apart before (all_pattern_wildcards sig ps)
+    Apart-all_pattern_faults : (before : List PatternWildcard) (ps : Trees) → all_pattern_faults sig before ps ≡ []
+        → Apart before (all_pattern_wildcards sig ps)
     Apart-all_pattern_faults before no_trees h = tt
     Apart-all_pattern_faults before (more_trees p ps) h =
-        let q = nil-append (pattern_faults sig before p) (all_pattern_faults sig (before ++ pattern_wildcards sig p) ps) h in
-        Apart-append before (pattern_wildcards sig p) (all_pattern_wildcards sig ps) (Apart-pattern_faults before p q.0) (Apart-all_pattern_faults (before ++ pattern_wildcards sig p) ps q.1)
+        let q = nil-append (pattern_faults sig before p)
+        (all_pattern_faults sig (before ++ pattern_wildcards sig p) ps) h in
+        Apart-append before (pattern_wildcards sig p) (all_pattern_wildcards sig ps) (Apart-pattern_faults before p q.0)
+        (Apart-all_pattern_faults (before ++ pattern_wildcards sig p) ps q.1)
 
 -- ---- the wildcards among patterns
 
@@ -118,19 +143,35 @@ wilds-push before p e = wilds-append before (p ∷ []) ∙ ap (λ l. wilds befor
 -- patterns are in order where their wildcards are
 InOrder-wilds : (before ps : List Pattern) → InOrder (wilds before) (wilds ps) → InOrder before ps
 InOrder-wilds before [] h = tt
-InOrder-wilds before (symbol_pattern n ∷ ps) h =
-    (each-agrees (symbol_pattern n) (λ q. agree-symbol q n) before, InOrder-wilds (before ++ symbol_pattern n ∷ []) ps (subst (λ l. InOrder l (wilds ps)) (sym (wilds-push before (symbol_pattern n) refl)) h))
-InOrder-wilds before (app_pattern f qs ∷ ps) h =
-    (each-agrees (app_pattern f qs) (λ q. agree-app q f qs) before, InOrder-wilds (before ++ app_pattern f qs ∷ []) ps (subst (λ l. InOrder l (wilds ps)) (sym (wilds-push before (app_pattern f qs) refl)) h))
-InOrder-wilds before (wild_pattern w x ∷ ps) h =
-    (agrees-wilds (wild_pattern w x) before h.0, InOrder-wilds (before ++ wild_pattern w x ∷ []) ps (subst (λ l. InOrder l (wilds ps)) (sym (wilds-append before (wild_pattern w x ∷ []))) h.1))
+InOrder-wilds before (symbol_pattern n ∷ ps) h = (
+  each-agrees (symbol_pattern n) (λ q. agree-symbol q n) before,
+  InOrder-wilds (before ++ symbol_pattern n ∷ []) ps
+      (subst (λ l. InOrder l (wilds ps)) (sym (wilds-push before (symbol_pattern n) refl)) h),
+)
+InOrder-wilds before (app_pattern f qs ∷ ps) h = (
+  each-agrees (app_pattern f qs) (λ q. agree-app q f qs) before,
+  InOrder-wilds (before ++ app_pattern f qs ∷ []) ps
+      (subst (λ l. InOrder l (wilds ps)) (sym (wilds-push before (app_pattern f qs) refl)) h),
+)
+InOrder-wilds before (wild_pattern w x ∷ ps) h = (
+  agrees-wilds (wild_pattern w x) before h.0,
+  InOrder-wilds (before ++ wild_pattern w x ∷ []) ps
+      (subst (λ l. InOrder l (wilds ps)) (sym (wilds-append before (wild_pattern w x ∷ []))) h.1),
+)
 
 pub wilds-InOrder : (before ps : List Pattern) → InOrder before ps → InOrder (wilds before) (wilds ps)
 wilds-InOrder before [] h = tt
-wilds-InOrder before (symbol_pattern n ∷ ps) h = subst (λ l. InOrder l (wilds ps)) (wilds-push before (symbol_pattern n) refl) (wilds-InOrder (before ++ symbol_pattern n ∷ []) ps h.1)
-wilds-InOrder before (app_pattern f qs ∷ ps) h = subst (λ l. InOrder l (wilds ps)) (wilds-push before (app_pattern f qs) refl) (wilds-InOrder (before ++ app_pattern f qs ∷ []) ps h.1)
-wilds-InOrder before (wild_pattern w x ∷ ps) h =
-    (wilds-agree (wild_pattern w x) before h.0, subst (λ l. InOrder l (wilds ps)) (wilds-append before (wild_pattern w x ∷ [])) (wilds-InOrder (before ++ wild_pattern w x ∷ []) ps h.1))
+wilds-InOrder before (symbol_pattern n ∷ ps) h =
+    subst (λ l. InOrder l (wilds ps)) (wilds-push before (symbol_pattern n) refl)
+    (wilds-InOrder (before ++ symbol_pattern n ∷ []) ps h.1)
+wilds-InOrder before (app_pattern f qs ∷ ps) h =
+    subst (λ l. InOrder l (wilds ps)) (wilds-push before (app_pattern f qs) refl)
+    (wilds-InOrder (before ++ app_pattern f qs ∷ []) ps h.1)
+wilds-InOrder before (wild_pattern w x ∷ ps) h = (
+  wilds-agree (wild_pattern w x) before h.0,
+  subst (λ l. InOrder l (wilds ps))
+      (wilds-append before (wild_pattern w x ∷ [])) (wilds-InOrder (before ++ wild_pattern w x ∷ []) ps h.1),
+)
 
 -- ---- a pattern that is read
 
@@ -147,66 +188,94 @@ module _ (sig : Sig) where
 
   mutual
     -- its wildcards are those of its syntax tree
-    pub wilds-pattern_of : (before : List PatternWildcard) (t : Tree) → pattern_faults sig before t ≡ [] → wilds (subpatterns (pattern_of sig t)) ≡ map wild_of (pattern_wildcards sig t)
+    pub wilds-pattern_of : (before : List PatternWildcard) (t : Tree) → pattern_faults sig before t ≡ []
+        → wilds (subpatterns (pattern_of sig t)) ≡ map wild_of (pattern_wildcards sig t)
     wilds-pattern_of before (Symbol w) h = refl
-    wilds-pattern_of before (Apply f args) h = wilds-patterns_of before args (nil-append (head_faults (allows_args sig args) f (op_named sig f.text)) (all_pattern_faults sig before args) h).1
+    wilds-pattern_of before (Apply f args) h =
+        wilds-patterns_of before args
+        (nil-append (head_faults (allows_args sig args) f (op_named sig f.text))
+        (all_pattern_faults sig before args) h).1
     wilds-pattern_of before (InfixOf opened sign operands) h =
         let at_sign = sign_faults sign (op_signed sig sign.text) in
-        let p = nil-append (arity_faults (allows_args sig operands) opened (op_signed sig sign.text)) (pattern_operand_faults sig before at_sign operands) h in
+        let p = nil-append (arity_faults (allows_args sig operands) opened (op_signed sig sign.text))
+        (pattern_operand_faults sig before at_sign operands) h in
         wilds-patterns_of before operands (nil-pattern_operands sig before at_sign operands p.1).1
     wilds-pattern_of before (Wild w) h = refl
     wilds-pattern_of before (Optional w others default) h =
-        let p = nil-append (wildcard_faults sig before (with_default_form sig w others default)) (default_faults sig others default) h in
-        ap (λ f. wild_pattern (form_shape f w) (variable_of w.name) ∷ []) (sym (default_form-default_faults sig others default p.1))
+        let p = nil-append (wildcard_faults sig before (with_default_form sig w others default))
+        (default_faults sig others default) h in
+        ap (λ f. wild_pattern (form_shape f w) (variable_of w.name) ∷ [])
+        (sym (default_form-default_faults sig others default p.1))
     wilds-pattern_of before (Variable x) h = refl
 
-    wilds-patterns_of : (before : List PatternWildcard) (ts : Trees) → all_pattern_faults sig before ts ≡ [] → wilds (all_subpatterns (patterns_of sig ts)) ≡ map wild_of (all_pattern_wildcards sig ts)
+    wilds-patterns_of : (before : List PatternWildcard) (ts : Trees) → all_pattern_faults sig before ts ≡ []
+        → wilds (all_subpatterns (patterns_of sig ts)) ≡ map wild_of (all_pattern_wildcards sig ts)
     wilds-patterns_of before no_trees h = refl
     wilds-patterns_of before (more_trees t ts) h =
-        let p = nil-append (pattern_faults sig before t) (all_pattern_faults sig (before ++ pattern_wildcards sig t) ts) h in
-        wilds-append (subpatterns (pattern_of sig t)) (all_subpatterns (patterns_of sig ts)) ∙ (λ i. wilds-pattern_of before t p.0 i ++ wilds-patterns_of (before ++ pattern_wildcards sig t) ts p.1 i)
+        let p = nil-append (pattern_faults sig before t)
+        (all_pattern_faults sig (before ++ pattern_wildcards sig t) ts) h in
+        wilds-append (subpatterns (pattern_of sig t)) (all_subpatterns (patterns_of sig ts))
+        ∙ (λ i. wilds-pattern_of before t p.0 i ++ wilds-patterns_of (before ++ pattern_wildcards sig t) ts p.1 i)
         ∙ sym (map-append wild_of (pattern_wildcards sig t) (all_pattern_wildcards sig ts))
 
   -- wildcards of one class, kind and default take the same
-  form_shape-same : (a b : DefaultForm) (v w : Wildcard) → same_default a b ≡ true → v.marks ≡ w.marks → v.kind ≡ w.kind → form_shape a v ≡ form_shape b w
+  form_shape-same : (a b : DefaultForm) (v w : Wildcard) → same_default a b ≡ true → v.marks ≡ w.marks → v.kind ≡ w.kind
+      → form_shape a v ≡ form_shape b w
   form_shape-same absent absent v w h marks kinds = λ i. kind_shape sig (kinds i) (marks i)
-  form_shape-same (normal_form t) (normal_form u) v w h marks kinds = same_shape-same (pattern.optional t) (pattern.optional u) h
+  form_shape-same (normal_form t) (normal_form u) v w h marks kinds =
+      same_shape-same (pattern.optional t) (pattern.optional u) h
   form_shape-same _ _ v w h marks kinds = cc
 
   -- wildcards that don't differ agree
   agree-differs : (v w : PatternWildcard) → differs w v ≡ false → Agree (wild_of v) (wild_of w)
   agree-differs v w h = go v.wildcard.name w.wildcard.name h
     where
-      same : (b : Bool) → b ≡ true → (b && not (same_class v w)) ≡ false → form_shape v.default v.wildcard ≡ form_shape w.default w.wildcard
+      same : (b : Bool) → b ≡ true → (b && not (same_class v w)) ≡ false
+          → form_shape v.default v.wildcard ≡ form_shape w.default w.wildcard
       same true e h =
           let alike = bytes_eq v.wildcard.kind w.wildcard.kind && same_default v.default w.default in
           let k = not-false (same_class v w) h in
-          let marks : v.wildcard.marks ≡ w.wildcard.marks = eqb-true v.wildcard.marks w.wildcard.marks (first-of (eqb v.wildcard.marks w.wildcard.marks) alike k) in
+          let marks : v.wildcard.marks ≡ w.wildcard.marks =
+          eqb-true v.wildcard.marks w.wildcard.marks (first-of (eqb v.wildcard.marks w.wildcard.marks) alike k) in
           let l = second-of (eqb v.wildcard.marks w.wildcard.marks) alike k in
-          let kinds : v.wildcard.kind ≡ w.wildcard.kind = (bytes_eq-Decides v.wildcard.kind w.wildcard.kind).0 (first-of (bytes_eq v.wildcard.kind w.wildcard.kind) (same_default v.default w.default) l) in
-          form_shape-same v.default w.default v.wildcard w.wildcard (second-of (bytes_eq v.wildcard.kind w.wildcard.kind) (same_default v.default w.default) l) marks kinds
+          let kinds : v.wildcard.kind ≡ w.wildcard.kind =
+          (bytes_eq-Decides v.wildcard.kind w.wildcard.kind).0
+          (first-of (bytes_eq v.wildcard.kind w.wildcard.kind) (same_default v.default w.default) l) in
+          form_shape-same v.default w.default v.wildcard w.wildcard
+          (second-of (bytes_eq v.wildcard.kind w.wildcard.kind) (same_default v.default w.default) l) marks kinds
       same false e h = cc
 
-      go : (x y : List ℕ) → (is_same_variable y x && not (same_class v w)) ≡ false → Agree (wild_pattern (form_shape v.default v.wildcard) (variable_of x)) (wild_pattern (form_shape w.default w.wildcard) (variable_of y))
+      go : (x y : List ℕ) → (is_same_variable y x && not (same_class v w)) ≡ false
+          → Agree (wild_pattern (form_shape v.default v.wildcard) (variable_of x))
+          (wild_pattern (form_shape w.default w.wildcard) (variable_of y))
       go [] [] h = tt
       go [] (b ∷ y) h = tt
       go (a ∷ x) [] h = tt
       go (a ∷ x) (b ∷ y) h = λ e. same (bytes_eq (b ∷ y) (a ∷ x)) ((bytes_eq-Decides (b ∷ y) (a ∷ x)).1 (sym e)) h
 
-  agrees-none : (w : PatternWildcard) (before : List PatternWildcard) → list_any (differs w) before ≡ false → AgreesWith (wild_of w) (map wild_of before)
+  agrees-none : (w : PatternWildcard) (before : List PatternWildcard) → list_any (differs w) before ≡ false
+      → AgreesWith (wild_of w) (map wild_of before)
   agrees-none w [] h = tt
   agrees-none w (v ∷ before) h = go (differs w v) refl h (agrees-none w before)
     where
-      go : (b : Bool) → differs w v ≡ b → (b || list_any (differs w) before) ≡ false → (list_any (differs w) before ≡ false → AgreesWith (wild_of w) (map wild_of before)) → AgreesWith (wild_of w) (map wild_of (v ∷ before))
+      go : (b : Bool) → differs w v ≡ b → (b || list_any (differs w) before) ≡ false
+          → (list_any (differs w) before ≡ false → AgreesWith (wild_of w) (map wild_of before))
+          → AgreesWith (wild_of w) (map wild_of (v ∷ before))
       go true e h ih = cc
       go false e h ih = (agree-differs v w e, ih h)
 
   InOrder-Apart : (before ws : List PatternWildcard) → Apart before ws → InOrder (map wild_of before) (map wild_of ws)
   InOrder-Apart before [] h = tt
-  InOrder-Apart before (w ∷ ws) h = (agrees-none w before h.0, subst (λ l. InOrder l (map wild_of ws)) (map-append wild_of before (w ∷ [])) (InOrder-Apart (before ++ w ∷ []) ws h.1))
+  InOrder-Apart before (w ∷ ws) h = (
+    agrees-none w before h.0,
+    subst (λ l. InOrder l (map wild_of ws)) (map-append wild_of before (w ∷ []))
+        (InOrder-Apart (before ++ w ∷ []) ws h.1),
+  )
 
   -- a pattern without faults has no clash
   pub first_clash-pattern_of : (p : Tree) → pattern_faults sig [] p ≡ [] → first_clash (pattern_of sig p) ≡ None
   first_clash-pattern_of p h =
       first_clash_after-InOrder [] (subpatterns (pattern_of sig p))
-      (InOrder-wilds [] (subpatterns (pattern_of sig p)) (subst (InOrder []) (sym (wilds-pattern_of [] p h)) (InOrder-Apart [] (pattern_wildcards sig p) (Apart-pattern_faults sig [] p h))))
+      (InOrder-wilds [] (subpatterns (pattern_of sig p))
+      (subst (InOrder []) (sym (wilds-pattern_of [] p h))
+      (InOrder-Apart [] (pattern_wildcards sig p) (Apart-pattern_faults sig [] p h))))

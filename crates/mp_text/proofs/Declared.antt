@@ -1,5 +1,6 @@
 -- What the statements declare: names and counts of operations, rules and subjects, statement by statement.
-use Rattle.std.proofs.Common.{◌≡◌, ℕ, Bool, ◌||◌, List, [], ◌∷◌, ◌++◌, map, length, append-nil, Result, Ok, Err, refl, sym, ap, ◌∙◌, subst}
+use Rattle.std.proofs.Common.{◌≡◌, ℕ, Bool, ◌||◌, List, [], ◌∷◌, ◌++◌, map, length, append-nil, Result, Ok, Err, refl}
+use Rattle.std.proofs.Common.{sym, ap, ◌∙◌, subst}
 use Rattle.std.specs.Prelude.{Option, position, is_some, option_map}
 use Rattle.std.specs.List.{list_any}
 use Rattle.std.specs.Str.{bytes_eq}
@@ -38,24 +39,33 @@ bytes_eq_comm a b =
 -- a name that equals one of the names is among them
 pub is_among-list_any : (name : List ℕ) (names : List (List ℕ)) → list_any (bytes_eq name) names ≡ is_among name names
 is_among-list_any name [] = refl
-is_among-list_any name (n ∷ ns) = ap (λ b. b || list_any (bytes_eq name) ns) (bytes_eq_comm name n) ∙ ap (λ b. bytes_eq n name || b) (is_among-list_any name ns)
+is_among-list_any name (n ∷ ns) = ap (λ b. b || list_any (bytes_eq name) ns) (bytes_eq_comm name n)
+    ∙ ap (λ b. bytes_eq n name || b) (is_among-list_any name ns)
 
 -- an operation has the name exactly where that is among the operations' names
-pub is_among-has_name : (name : List ℕ) (ds : List OpDecl) → list_any (has_name name) ds ≡ is_among name (map (λ d. d.name) ds)
+pub is_among-has_name : (name : List ℕ) (ds : List OpDecl)
+    → list_any (has_name name) ds ≡ is_among name (map (λ d. d.name) ds)
 is_among-has_name name [] = refl
-is_among-has_name name (d ∷ ds) = ap (λ b. b || list_any (has_name name) ds) (bytes_eq_comm name d.name) ∙ ap (λ b. bytes_eq d.name name || b) (is_among-has_name name ds)
+is_among-has_name name (d ∷ ds) = ap (λ b. b || list_any (has_name name) ds) (bytes_eq_comm name d.name)
+    ∙ ap (λ b. bytes_eq d.name name || b) (is_among-has_name name ds)
 
 -- an operation is found exactly where its name is held
-pub is_some-found_op : {X : Type 0} (f : X → ℕ) (found : Option X) (name : List ℕ) (ds : List OpDecl) → option_map f found ≡ position (has_name name) ds → is_some found ≡ is_among name (map (λ d. d.name) ds)
-is_some-found_op f found name ds h = sym (is_some-option_map f found) ∙ ap is_some h ∙ is_some-position (has_name name) ds ∙ is_among-has_name name ds
+pub is_some-found_op : {X : Type 0} (f : X → ℕ) (found : Option X) (name : List ℕ) (ds : List OpDecl)
+    → option_map f found ≡ position (has_name name) ds → is_some found ≡ is_among name (map (λ d. d.name) ds)
+is_some-found_op f found name ds h = sym (is_some-option_map f found) ∙ ap is_some h
+    ∙ is_some-position (has_name name) ds ∙ is_among-has_name name ds
 
 -- an operation is found exactly where its sign is held
-pub is_some-found_sign : {X : Type 0} (f : X → ℕ) (found : Option X) (sign : List ℕ) (ds : List OpDecl) → option_map f found ≡ position (has_sign sign) ds → is_some found ≡ list_any (has_sign sign) ds
-is_some-found_sign f found sign ds h = sym (is_some-option_map f found) ∙ ap is_some h ∙ is_some-position (has_sign sign) ds
+pub is_some-found_sign : {X : Type 0} (f : X → ℕ) (found : Option X) (sign : List ℕ) (ds : List OpDecl)
+    → option_map f found ≡ position (has_sign sign) ds → is_some found ≡ list_any (has_sign sign) ds
+is_some-found_sign f found sign ds h = sym (is_some-option_map f found) ∙ ap is_some h
+    ∙ is_some-position (has_sign sign) ds
 
 -- a kind is found exactly where its name is held
-pub is_some-found_kind : {X : Type 0} (f : X → ℕ) (found : Option X) (name : List ℕ) (names : List (List ℕ)) → option_map f found ≡ position (bytes_eq name) names → is_some found ≡ is_among name names
-is_some-found_kind f found name names h = sym (is_some-option_map f found) ∙ ap is_some h ∙ is_some-position (bytes_eq name) names ∙ is_among-list_any name names
+pub is_some-found_kind : {X : Type 0} (f : X → ℕ) (found : Option X) (name : List ℕ) (names : List (List ℕ))
+    → option_map f found ≡ position (bytes_eq name) names → is_some found ≡ is_among name names
+is_some-found_kind f found name names h = sym (is_some-option_map f found) ∙ ap is_some h
+    ∙ is_some-position (bytes_eq name) names ∙ is_among-list_any name names
 
 -- ---- operations and kinds
 
@@ -76,11 +86,13 @@ kind_decls-append (RuleOf name p c ∷ ss) b = kind_decls-append ss b
 kind_decls-append (SubjectOf name t ∷ ss) b = kind_decls-append ss b
 
 -- a statement that declares no operation adds none
-pub op_decls-other : (ss : List Statement) (s : Statement) → op_decls (s ∷ []) ≡ [] → op_decls (ss ++ s ∷ []) ≡ op_decls ss
+pub op_decls-other : (ss : List Statement) (s : Statement) → op_decls (s ∷ []) ≡ []
+    → op_decls (ss ++ s ∷ []) ≡ op_decls ss
 op_decls-other ss s h = op_decls-append ss (s ∷ []) ∙ ap (λ l. op_decls ss ++ l) h ∙ append-nil (op_decls ss)
 
 -- a statement that declares no kind adds none
-pub kind_decls-other : (ss : List Statement) (s : Statement) → kind_decls (s ∷ []) ≡ [] → kind_decls (ss ++ s ∷ []) ≡ kind_decls ss
+pub kind_decls-other : (ss : List Statement) (s : Statement) → kind_decls (s ∷ []) ≡ []
+    → kind_decls (ss ++ s ∷ []) ≡ kind_decls ss
 kind_decls-other ss s h = kind_decls-append ss (s ∷ []) ∙ ap (λ l. kind_decls ss ++ l) h ∙ append-nil (kind_decls ss)
 
 -- the kinds of this signature
@@ -88,11 +100,13 @@ abbrev with_kinds : List OpDecl → List Kind → Sig
 with_kinds ds ks = record { ops = ds; kinds = ks }
 
 -- the signature behind a statement that declares no operation
-pub sig_with-other_op : (sig : Sig) (ss : List Statement) (s : Statement) → op_decls (s ∷ []) ≡ [] → sig ≡ sig_with (op_decls ss) [] → sig ≡ sig_with (op_decls (ss ++ s ∷ [])) []
+pub sig_with-other_op : (sig : Sig) (ss : List Statement) (s : Statement) → op_decls (s ∷ []) ≡ []
+    → sig ≡ sig_with (op_decls ss) [] → sig ≡ sig_with (op_decls (ss ++ s ∷ [])) []
 sig_with-other_op sig ss s none h = h ∙ ap (λ l. sig_with l []) (sym (op_decls-other ss s none))
 
 -- the signature behind a statement that declares no kind
-pub sig_with-other_kind : (sig : Sig) (ds : List OpDecl) (ss : List Statement) (s : Statement) → kind_decls (s ∷ []) ≡ [] → sig ≡ sig_with ds ss → sig ≡ sig_with ds (ss ++ s ∷ [])
+pub sig_with-other_kind : (sig : Sig) (ds : List OpDecl) (ss : List Statement) (s : Statement)
+    → kind_decls (s ∷ []) ≡ [] → sig ≡ sig_with ds ss → sig ≡ sig_with ds (ss ++ s ∷ [])
 sig_with-other_kind sig ds ss s none h = h ∙ ap (with_kinds ds) (sym (kind_decls-other ss s none))
 
 -- ---- rules and subjects
@@ -122,7 +136,8 @@ rules_of-append sig (RuleOf n p c ∷ ss) b = ap (λ l. rule_of sig n p c ∷ l)
 rules_of-append sig (SubjectOf n t ∷ ss) b = rules_of-append sig ss b
 
 -- the subjects of statements in two parts
-pub subjects_of-append : (sig : Sig) (a b : List Statement) → subjects_of sig (a ++ b) ≡ subjects_of sig a ++ subjects_of sig b
+pub subjects_of-append : (sig : Sig) (a b : List Statement)
+    → subjects_of sig (a ++ b) ≡ subjects_of sig a ++ subjects_of sig b
 subjects_of-append sig [] b = refl
 subjects_of-append sig (OpOf n least more flags ∷ ss) b = subjects_of-append sig ss b
 subjects_of-append sig (KindOf n members ∷ ss) b = subjects_of-append sig ss b
@@ -132,106 +147,160 @@ subjects_of-append sig (SubjectOf n t ∷ ss) b = ap (λ l. subject_of sig n t �
 -- ---- rules, statement by statement
 
 -- a rule has the name exactly where a statement gave it
-pub is_among-held_rules : (name : List ℕ) (sig : Sig) (rules : List Rule) (ss : List Statement) → rules ≡ rules_of sig ss → is_among name (map (λ r. r.name) rules) ≡ is_among name (rule_names ss)
+pub is_among-held_rules : (name : List ℕ) (sig : Sig) (rules : List Rule) (ss : List Statement)
+    → rules ≡ rules_of sig ss → is_among name (map (λ r. r.name) rules) ≡ is_among name (rule_names ss)
 is_among-held_rules name sig rules ss h = ap (is_among name) (ap (map (λ r. r.name)) h ∙ names-rules_of sig ss)
 
 -- as many rules are held as were given
-pub length-held_rules : (sig : Sig) (rules : List Rule) (ss : List Statement) → rules ≡ rules_of sig ss → length rules ≡ length (rule_names ss)
-length-held_rules sig rules ss h = sym (length-map rules (λ r. r.name)) ∙ ap length (ap (map (λ r. r.name)) h ∙ names-rules_of sig ss)
+pub length-held_rules : (sig : Sig) (rules : List Rule) (ss : List Statement) → rules ≡ rules_of sig ss
+    → length rules ≡ length (rule_names ss)
+length-held_rules sig rules ss h = sym (length-map rules (λ r. r.name))
+    ∙ ap length (ap (map (λ r. r.name)) h ∙ names-rules_of sig ss)
 
 -- the rules with one rule more
-pub rules_of-RuleOf : (sig : Sig) (old new : List Rule) (r : Rule) (ss : List Statement) (name : Spot) (p : Tree) (c : Option Condition)
-    → new ≡ old ++ r ∷ [] → old ≡ rules_of sig ss → r ≡ rule_of sig name p c → new ≡ rules_of sig (ss ++ RuleOf name p c ∷ [])
+pub rules_of-RuleOf : (sig : Sig) (old new : List Rule) (r : Rule) (ss : List Statement) (name : Spot) (p : Tree)
+    (c : Option Condition)
+    → new ≡ old ++ r ∷ [] → old ≡ rules_of sig ss → r ≡ rule_of sig name p c
+    → new ≡ rules_of sig (ss ++ RuleOf name p c ∷ [])
 rules_of-RuleOf sig old new r ss name p c added e h =
-    added ∙ ap (λ l. l ++ r ∷ []) e ∙ ap (λ x. rules_of sig ss ++ x ∷ []) h ∙ sym (rules_of-append sig ss (RuleOf name p c ∷ []))
+    added ∙ ap (λ l. l ++ r ∷ []) e ∙ ap (λ x. rules_of sig ss ++ x ∷ []) h
+    ∙ sym (rules_of-append sig ss (RuleOf name p c ∷ []))
 
 -- ---- subjects, statement by statement
 
 -- a subject has the name exactly where a statement gave it
-pub is_among-held_subjects : (name : List ℕ) (sig : Sig) (subjects : List Subject) (ss : List Statement) → subjects ≡ subjects_of sig ss → is_among name (map (λ s. s.name) subjects) ≡ is_among name (subject_names ss)
+pub is_among-held_subjects : (name : List ℕ) (sig : Sig) (subjects : List Subject) (ss : List Statement)
+    → subjects ≡ subjects_of sig ss → is_among name (map (λ s. s.name) subjects) ≡ is_among name (subject_names ss)
 is_among-held_subjects name sig subjects ss h = ap (is_among name) (ap (map (λ s. s.name)) h ∙ names-subjects_of sig ss)
 
 -- as many subjects are held as were given
-pub length-held_subjects : (sig : Sig) (subjects : List Subject) (ss : List Statement) → subjects ≡ subjects_of sig ss → length subjects ≡ length (subject_names ss)
-length-held_subjects sig subjects ss h = sym (length-map subjects (λ s. s.name)) ∙ ap length (ap (map (λ s. s.name)) h ∙ names-subjects_of sig ss)
+pub length-held_subjects : (sig : Sig) (subjects : List Subject) (ss : List Statement) → subjects ≡ subjects_of sig ss
+    → length subjects ≡ length (subject_names ss)
+length-held_subjects sig subjects ss h = sym (length-map subjects (λ s. s.name))
+    ∙ ap length (ap (map (λ s. s.name)) h ∙ names-subjects_of sig ss)
 
 -- the subjects with one subject more
-pub subjects_of-SubjectOf : (sig : Sig) (old new : List Subject) (word : List ℕ) (u : term.Tree) (ss : List Statement) (name : Spot) (t : Tree)
+pub subjects_of-SubjectOf : (sig : Sig) (old new : List Subject) (word : List ℕ) (u : term.Tree) (ss : List Statement)
+    (name : Spot) (t : Tree)
     → new ≡ old ++ record { name = word; term = u } ∷ []
-    → old ≡ subjects_of sig ss → word ≡ name.text → u ≡ normal sig (term_of sig t) → new ≡ subjects_of sig (ss ++ SubjectOf name t ∷ [])
+    → old ≡ subjects_of sig ss → word ≡ name.text → u ≡ normal sig (term_of sig t)
+    → new ≡ subjects_of sig (ss ++ SubjectOf name t ∷ [])
 subjects_of-SubjectOf sig old new word u ss name t added e w n =
     let subject : List ℕ → term.Tree → Subject = λ x y. record { name = x; term = y } in
-    added ∙ ap (λ l. l ++ subject word u ∷ []) e ∙ ap (λ x. subjects_of sig ss ++ subject x u ∷ []) w ∙ ap (λ y. subjects_of sig ss ++ subject name.text y ∷ []) n ∙ sym (subjects_of-append sig ss (SubjectOf name t ∷ []))
+    added ∙ ap (λ l. l ++ subject word u ∷ []) e ∙ ap (λ x. subjects_of sig ss ++ subject x u ∷ []) w
+    ∙ ap (λ y. subjects_of sig ss ++ subject name.text y ∷ []) n
+    ∙ sym (subjects_of-append sig ss (SubjectOf name t ∷ []))
 
 -- ---- files, statement by statement
 
 -- a declaration adds neither a rule nor a subject
-pub file_over-declaration : (sig : Sig) (ss : List Statement) (s : Statement) → rules_of sig (s ∷ []) ≡ [] → subjects_of sig (s ∷ []) ≡ [] → file_over sig (ss ++ s ∷ []) ≡ file_over sig ss
+pub file_over-declaration : (sig : Sig) (ss : List Statement) (s : Statement) → rules_of sig (s ∷ []) ≡ []
+    → subjects_of sig (s ∷ []) ≡ [] → file_over sig (ss ++ s ∷ []) ≡ file_over sig ss
 file_over-declaration sig ss s no_rule no_subject =
     let file : List Rule → List Subject → FileTree = λ r s. record { sig = sig; rules = r; subjects = s; edits = [] } in
-    ap (λ r. file r (subjects_of sig (ss ++ s ∷ []))) (rules_of-append sig ss (s ∷ []) ∙ ap (λ l. rules_of sig ss ++ l) no_rule ∙ append-nil (rules_of sig ss))
-    ∙ ap (file (rules_of sig ss)) (subjects_of-append sig ss (s ∷ []) ∙ ap (λ l. subjects_of sig ss ++ l) no_subject ∙ append-nil (subjects_of sig ss))
+    ap (λ r. file r (subjects_of sig (ss ++ s ∷ [])))
+    (rules_of-append sig ss (s ∷ []) ∙ ap (λ l. rules_of sig ss ++ l) no_rule ∙ append-nil (rules_of sig ss))
+    ∙ ap (file (rules_of sig ss)) (subjects_of-append sig ss (s ∷ []) ∙ ap (λ l. subjects_of sig ss ++ l) no_subject
+    ∙ append-nil (subjects_of sig ss))
 
 -- a file with one rule more
-file_over-RuleOf : (sig : Sig) (ss : List Statement) (name : Spot) (p : Tree) (c : Option Condition) (new : List Rule) → new ≡ rules_of sig (ss ++ RuleOf name p c ∷ []) → record (file_over sig ss) { rules = new } ≡ file_over sig (ss ++ RuleOf name p c ∷ [])
+file_over-RuleOf : (sig : Sig) (ss : List Statement) (name : Spot) (p : Tree) (c : Option Condition) (new : List Rule)
+    → new ≡ rules_of sig (ss ++ RuleOf name p c ∷ [])
+    → record (file_over sig ss) { rules = new } ≡ file_over sig (ss ++ RuleOf name p c ∷ [])
 file_over-RuleOf sig ss name p c new h =
     let file : List Rule → List Subject → FileTree = λ r s. record { sig = sig; rules = r; subjects = s; edits = [] } in
-    ap (λ r. file r (subjects_of sig ss)) h ∙ ap (file (rules_of sig (ss ++ RuleOf name p c ∷ []))) (sym (subjects_of-append sig ss (RuleOf name p c ∷ []) ∙ append-nil (subjects_of sig ss)))
+    ap (λ r. file r (subjects_of sig ss)) h ∙ ap (file (rules_of sig (ss ++ RuleOf name p c ∷ [])))
+    (sym (subjects_of-append sig ss (RuleOf name p c ∷ []) ∙ append-nil (subjects_of sig ss)))
 
 -- a file with one subject more
-file_over-SubjectOf : (sig : Sig) (ss : List Statement) (name : Spot) (t : Tree) (new : List Subject) → new ≡ subjects_of sig (ss ++ SubjectOf name t ∷ []) → record (file_over sig ss) { subjects = new } ≡ file_over sig (ss ++ SubjectOf name t ∷ [])
+file_over-SubjectOf : (sig : Sig) (ss : List Statement) (name : Spot) (t : Tree) (new : List Subject)
+    → new ≡ subjects_of sig (ss ++ SubjectOf name t ∷ [])
+    → record (file_over sig ss) { subjects = new } ≡ file_over sig (ss ++ SubjectOf name t ∷ [])
 file_over-SubjectOf sig ss name t new h =
     let file : List Rule → List Subject → FileTree = λ r s. record { sig = sig; rules = r; subjects = s; edits = [] } in
-    ap (file (rules_of sig ss)) h ∙ ap (λ r. file r (subjects_of sig (ss ++ SubjectOf name t ∷ []))) (sym (rules_of-append sig ss (SubjectOf name t ∷ []) ∙ append-nil (rules_of sig ss)))
+    ap (file (rules_of sig ss)) h ∙ ap (λ r. file r (subjects_of sig (ss ++ SubjectOf name t ∷ [])))
+    (sym (rules_of-append sig ss (SubjectOf name t ∷ []) ∙ append-nil (rules_of sig ss)))
 
 -- another fact of the value
-gives-map : {T : Type 0} (r : Result T TextError) (fs : List TextFault) (P Q : T → Type 0) → ((v : T) → P v → Q v) → Gives r fs P → Gives r fs Q
+gives-map : {T : Type 0} (r : Result T TextError) (fs : List TextFault) (P Q : T → Type 0) → ((v : T) → P v → Q v)
+    → Gives r fs P → Gives r fs Q
 gives-map (Ok v) fs P Q step g = (g.0, step v g.1)
 gives-map (Err e) fs P Q step g = g
 
 -- what adding a rule to the rules gives is what adding it to the file gives
-pub gives-RuleOf : (file : FileTree) (sig : Sig) (ss : List Statement) (name : Spot) (p : Tree) (c : Option Condition) (new : List Rule) (r : Result (Unit {0}) TextError) → file ≡ file_over sig ss
-    → ((before : List Statement) → file.rules ≡ rules_of file.sig before → Gives r (statement_faults file.sig before (RuleOf name p c)) (λ _. new ≡ rules_of file.sig (before ++ RuleOf name p c ∷ [])))
-    → Gives r (statement_faults sig ss (RuleOf name p c)) (λ _. record file { rules = new } ≡ file_over sig (ss ++ RuleOf name p c ∷ []))
+pub gives-RuleOf : (file : FileTree) (sig : Sig) (ss : List Statement) (name : Spot) (p : Tree) (c : Option Condition)
+    (new : List Rule) (r : Result (Unit {0}) TextError) → file ≡ file_over sig ss
+    → ((before : List Statement) → file.rules ≡ rules_of file.sig before
+    → Gives r (statement_faults file.sig before (RuleOf name p c))
+    (λ _. new ≡ rules_of file.sig (before ++ RuleOf name p c ∷ [])))
+    → Gives r (statement_faults sig ss (RuleOf name p c))
+    (λ _. record file { rules = new } ≡ file_over sig (ss ++ RuleOf name p c ∷ []))
 gives-RuleOf file sig ss name p c new r h g =
     let P : FileTree → Type 0 = λ f.
-    ((before : List Statement) → f.rules ≡ rules_of f.sig before → Gives r (statement_faults f.sig before (RuleOf name p c)) (λ _. new ≡ rules_of f.sig (before ++ RuleOf name p c ∷ [])))
-    → Gives r (statement_faults sig ss (RuleOf name p c)) (λ _. record f { rules = new } ≡ file_over sig (ss ++ RuleOf name p c ∷ [])) in
-    let base : P (file_over sig ss) = λ k. gives-map r _ (λ _. new ≡ rules_of sig (ss ++ RuleOf name p c ∷ [])) (λ _. record (file_over sig ss) { rules = new } ≡ file_over sig (ss ++ RuleOf name p c ∷ [])) (λ _ e. file_over-RuleOf sig ss name p c new e) (k ss refl) in
+    ((before : List Statement) → f.rules ≡ rules_of f.sig before
+    → Gives r (statement_faults f.sig before (RuleOf name p c))
+    (λ _. new ≡ rules_of f.sig (before ++ RuleOf name p c ∷ [])))
+    → Gives r (statement_faults sig ss (RuleOf name p c))
+    (λ _. record f { rules = new } ≡ file_over sig (ss ++ RuleOf name p c ∷ [])) in
+    let base : P (file_over sig ss) = λ k. gives-map r _ (λ _. new ≡ rules_of sig (ss ++ RuleOf name p c ∷ []))
+    (λ _. record (file_over sig ss) { rules = new } ≡ file_over sig (ss ++ RuleOf name p c ∷ []))
+    (λ _ e. file_over-RuleOf sig ss name p c new e) (k ss refl) in
     subst P (sym h) base g
 
 -- what adding a subject to the subjects gives is what adding it to the file gives
-pub gives-SubjectOf : (file : FileTree) (sig : Sig) (ss : List Statement) (name : Spot) (t : Tree) (new : List Subject) (r : Result (Unit {0}) TextError) → file ≡ file_over sig ss
-    → ((before : List Statement) → file.subjects ≡ subjects_of file.sig before → Gives r (statement_faults file.sig before (SubjectOf name t)) (λ _. new ≡ subjects_of file.sig (before ++ SubjectOf name t ∷ [])))
-    → Gives r (statement_faults sig ss (SubjectOf name t)) (λ _. record file { subjects = new } ≡ file_over sig (ss ++ SubjectOf name t ∷ []))
+pub gives-SubjectOf : (file : FileTree) (sig : Sig) (ss : List Statement) (name : Spot) (t : Tree) (new : List Subject)
+    (r : Result (Unit {0}) TextError) → file ≡ file_over sig ss
+    → ((before : List Statement) → file.subjects ≡ subjects_of file.sig before
+    → Gives r (statement_faults file.sig before (SubjectOf name t))
+    (λ _. new ≡ subjects_of file.sig (before ++ SubjectOf name t ∷ [])))
+    → Gives r (statement_faults sig ss (SubjectOf name t))
+    (λ _. record file { subjects = new } ≡ file_over sig (ss ++ SubjectOf name t ∷ []))
 gives-SubjectOf file sig ss name t new r h g =
     let P : FileTree → Type 0 = λ f.
-    ((before : List Statement) → f.subjects ≡ subjects_of f.sig before → Gives r (statement_faults f.sig before (SubjectOf name t)) (λ _. new ≡ subjects_of f.sig (before ++ SubjectOf name t ∷ [])))
-    → Gives r (statement_faults sig ss (SubjectOf name t)) (λ _. record f { subjects = new } ≡ file_over sig (ss ++ SubjectOf name t ∷ [])) in
-    let base : P (file_over sig ss) = λ k. gives-map r _ (λ _. new ≡ subjects_of sig (ss ++ SubjectOf name t ∷ [])) (λ _. record (file_over sig ss) { subjects = new } ≡ file_over sig (ss ++ SubjectOf name t ∷ [])) (λ _ e. file_over-SubjectOf sig ss name t new e) (k ss refl) in
+    ((before : List Statement) → f.subjects ≡ subjects_of f.sig before
+    → Gives r (statement_faults f.sig before (SubjectOf name t))
+    (λ _. new ≡ subjects_of f.sig (before ++ SubjectOf name t ∷ [])))
+    → Gives r (statement_faults sig ss (SubjectOf name t))
+    (λ _. record f { subjects = new } ≡ file_over sig (ss ++ SubjectOf name t ∷ [])) in
+    let base : P (file_over sig ss) = λ k. gives-map r _ (λ _. new ≡ subjects_of sig (ss ++ SubjectOf name t ∷ []))
+    (λ _. record (file_over sig ss) { subjects = new } ≡ file_over sig (ss ++ SubjectOf name t ∷ []))
+    (λ _ e. file_over-SubjectOf sig ss name t new e) (k ss refl) in
     subst P (sym h) base g
 
 -- what declaring an operation gives, over the signature of the statements before
-pub gives-OpOf : (sig new : Sig) (ss : List Statement) (name least : Spot) (more : Bool) (flags : List Flag) (r : Result (Unit {0}) TextError) → sig ≡ sig_with (op_decls ss) []
-    → Gives r (op_faults sig.ops name least more flags) (λ _. new ≡ record sig { ops = sig.ops ++ op_decl name least more flags ∷ [] })
-    → Gives r (op_faults (op_decls ss) name least more flags) (λ _. new ≡ sig_with (op_decls (ss ++ OpOf name least more flags ∷ [])) [])
+pub gives-OpOf : (sig new : Sig) (ss : List Statement) (name least : Spot) (more : Bool) (flags : List Flag)
+    (r : Result (Unit {0}) TextError) → sig ≡ sig_with (op_decls ss) []
+    → Gives r (op_faults sig.ops name least more flags)
+    (λ _. new ≡ record sig { ops = sig.ops ++ op_decl name least more flags ∷ [] })
+    → Gives r (op_faults (op_decls ss) name least more flags)
+    (λ _. new ≡ sig_with (op_decls (ss ++ OpOf name least more flags ∷ [])) [])
 gives-OpOf sig new ss name least more flags r h g =
-    let P : Sig → Type 0 = λ s. Gives r (op_faults s.ops name least more flags) (λ _. new ≡ record s { ops = s.ops ++ op_decl name least more flags ∷ [] }) in
-    gives-map r (op_faults (op_decls ss) name least more flags) (λ _. new ≡ with_kinds (op_decls ss ++ op_decl name least more flags ∷ []) []) (λ _. new ≡ sig_with (op_decls (ss ++ OpOf name least more flags ∷ [])) [])
+    let P : Sig → Type 0 = λ s. Gives r (op_faults s.ops name least more flags)
+    (λ _. new ≡ record s { ops = s.ops ++ op_decl name least more flags ∷ [] }) in
+    gives-map r (op_faults (op_decls ss) name least more flags)
+    (λ _. new ≡ with_kinds (op_decls ss ++ op_decl name least more flags ∷ []) [])
+    (λ _. new ≡ sig_with (op_decls (ss ++ OpOf name least more flags ∷ [])) [])
     (λ _ e. e ∙ ap (λ l. sig_with l []) (sym (op_decls-append ss (OpOf name least more flags ∷ [])))) (subst P h g)
 
 -- what declaring a kind gives, over the signature of the operations and of the statements before
-pub gives-KindOf : (sig new : Sig) (ds : List OpDecl) (ss : List Statement) (name : Spot) (members : List Spot) (r : Result (Unit {0}) TextError) → sig ≡ sig_with ds ss
-    → Gives r (kind_faults sig name members) (λ _. new ≡ record sig { kinds = sig.kinds ++ kind_decl name members ∷ [] })
+pub gives-KindOf : (sig new : Sig) (ds : List OpDecl) (ss : List Statement) (name : Spot) (members : List Spot)
+    (r : Result (Unit {0}) TextError) → sig ≡ sig_with ds ss
+    → Gives r (kind_faults sig name members)
+    (λ _. new ≡ record sig { kinds = sig.kinds ++ kind_decl name members ∷ [] })
     → Gives r (kind_faults (sig_with ds ss) name members) (λ _. new ≡ sig_with ds (ss ++ KindOf name members ∷ []))
 gives-KindOf sig new ds ss name members r h g =
-    let P : Sig → Type 0 = λ s. Gives r (kind_faults s name members) (λ _. new ≡ record s { kinds = s.kinds ++ kind_decl name members ∷ [] }) in
-    gives-map r (kind_faults (sig_with ds ss) name members) (λ _. new ≡ with_kinds ds (kind_decls ss ++ kind_decl name members ∷ [])) (λ _. new ≡ sig_with ds (ss ++ KindOf name members ∷ []))
+    let P : Sig → Type 0 = λ s. Gives r (kind_faults s name members)
+    (λ _. new ≡ record s { kinds = s.kinds ++ kind_decl name members ∷ [] }) in
+    gives-map r (kind_faults (sig_with ds ss) name members)
+    (λ _. new ≡ with_kinds ds (kind_decls ss ++ kind_decl name members ∷ []))
+    (λ _. new ≡ sig_with ds (ss ++ KindOf name members ∷ []))
     (λ _ e. e ∙ ap (with_kinds ds) (sym (kind_decls-append ss (KindOf name members ∷ [])))) (subst P h g)
 
 -- the kind that is added
-pub kind_added : (sig new : Sig) (word : List ℕ) (names : List (List ℕ)) (name : Spot) (members : List Spot) → new ≡ record sig { kinds = sig.kinds ++ record { name = word; members = name_set names } ∷ [] }
-    → word ≡ name.text → names ≡ map (λ m. m.text) members → new ≡ record sig { kinds = sig.kinds ++ kind_decl name members ∷ [] }
+pub kind_added : (sig new : Sig) (word : List ℕ) (names : List (List ℕ)) (name : Spot) (members : List Spot)
+    → new ≡ record sig { kinds = sig.kinds ++ record { name = word; members = name_set names } ∷ [] }
+    → word ≡ name.text → names ≡ map (λ m. m.text) members
+    → new ≡ record sig { kinds = sig.kinds ++ kind_decl name members ∷ [] }
 kind_added sig new word names name members added w m =
     let kind : List ℕ → List (List ℕ) → Kind = λ x y. record { name = x; members = name_set y } in
     let with_kind : Kind → Sig = λ k. record sig { kinds = sig.kinds ++ k ∷ [] } in

@@ -5,7 +5,9 @@ use Rattle.mp_term.specs.Tree.{symbol, app, trees}
 use Rattle.mp_pattern.specs.PatternTree.{dot, kind, plus, star, symbol_pattern, app_pattern, wild_pattern, patterns}
 use Rattle.mp_syntax.specs.Lexing.{lexemes}
 use Rattle.mp_text.specs.declared.fault.TextKind.{TextKind}
-use Rattle.mp_text.specs.declared.fault.TextKind.TheVariants.{DuplicateName, TooMany, BadFlags, UnknownOp, BareOperation, UnknownKind, Arity, KindClash, LooseSequence, WildcardInTerm, Unread}
+use Rattle.mp_text.specs.declared.fault.TextKind.TheVariants.{DuplicateName, TooMany, BadFlags, UnknownOp}
+use Rattle.mp_text.specs.declared.fault.TextKind.TheVariants.{BareOperation, UnknownKind, Arity, KindClash}
+use Rattle.mp_text.specs.declared.fault.TextKind.TheVariants.{LooseSequence, WildcardInTerm, Unread}
 use Rattle.mp_text.specs.declared.fault.TextFault.{TextFault}
 use Rattle.mp_text.specs.Computed.{file_of, fault_of}
 
@@ -15,8 +17,24 @@ at what column = Some (record { kind = what; line = 1; column = column })
 
 -- an operation, a rule and a subject
 file_of-one_of_each : file_of (codes "op f 2; rule r: f(x_, a); subject s: f(0, b);") ≡ Some (record {
-  sig = record { ops = record { name = codes "f"; least = 2; fixed = true; assoc = false; comm = false; one = false; sign = None } ∷ []; kinds = [] };
-  rules = record { name = codes "r"; pattern = app_pattern 0 (patterns (wild_pattern dot (Some (codes "x")) ∷ symbol_pattern (codes "a") ∷ [])); template = None; condition = None } ∷ [];
+  sig = record {
+    ops = record {
+      name = codes "f";
+      least = 2;
+      fixed = true;
+      assoc = false;
+      comm = false;
+      one = false;
+      sign = None;
+    } ∷ [];
+    kinds = [];
+  };
+  rules = record {
+    name = codes "r";
+    pattern = app_pattern 0 (patterns (wild_pattern dot (Some (codes "x")) ∷ symbol_pattern (codes "a") ∷ []));
+    template = None;
+    condition = None;
+  } ∷ [];
   subjects = record { name = codes "s"; term = app 0 (trees (symbol (codes "0") ∷ symbol (codes "b") ∷ [])) } ∷ [];
   edits = [];
 })
@@ -26,7 +44,15 @@ file_of-one_of_each = refl
 -- flags, a sign, a kind with its members as a set, and a subject in normal form
 file_of-flags : file_of (codes "op p 1+ assoc comm one infix +; kind v: b a b; subject s: (b + p(a));") ≡ Some (record {
   sig = record {
-    ops = record { name = codes "p"; least = 1; fixed = false; assoc = true; comm = true; one = true; sign = Some (codes "+") } ∷ [];
+    ops = record {
+      name = codes "p";
+      least = 1;
+      fixed = false;
+      assoc = true;
+      comm = true;
+      one = true;
+      sign = Some (codes "+");
+    } ∷ [];
     kinds = record { name = codes "v"; members = codes "a" ∷ codes "b" ∷ [] } ∷ [];
   };
   rules = [];
@@ -158,8 +184,28 @@ fault_of-sequences = refl
 
 -- a wildcard of each class
 file_of-wildcards : file_of (codes "op g 0+; kind v: a; rule r: g(x_, y_v, z__, x_, w___);") ≡ Some (record {
-  sig = record { ops = record { name = codes "g"; least = 0; fixed = false; assoc = false; comm = false; one = false; sign = None } ∷ []; kinds = record { name = codes "v"; members = codes "a" ∷ [] } ∷ [] };
-  rules = record { name = codes "r"; pattern = app_pattern 0 (patterns (wild_pattern dot (Some (codes "x")) ∷ wild_pattern (kind 1) (Some (codes "y")) ∷ wild_pattern plus (Some (codes "z")) ∷ wild_pattern dot (Some (codes "x")) ∷ wild_pattern star (Some (codes "w")) ∷ [])); template = None; condition = None } ∷ [];
+  sig = record {
+    ops = record {
+      name = codes "g";
+      least = 0;
+      fixed = false;
+      assoc = false;
+      comm = false;
+      one = false;
+      sign = None;
+    } ∷ [];
+    kinds = record { name = codes "v"; members = codes "a" ∷ [] } ∷ [];
+  };
+  rules = record {
+    name = codes "r";
+    pattern =
+        app_pattern 0
+        (patterns (wild_pattern dot (Some (codes "x")) ∷ wild_pattern (kind 1) (Some (codes "y"))
+        ∷ wild_pattern plus (Some (codes "z")) ∷ wild_pattern dot (Some (codes "x"))
+        ∷ wild_pattern star (Some (codes "w")) ∷ []));
+    template = None;
+    condition = None;
+  } ∷ [];
   subjects = [];
   edits = [];
 })

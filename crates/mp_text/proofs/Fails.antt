@@ -31,9 +31,11 @@ pub fails-behind : (e : TextError) (fs gs : List TextFault) → fs ≡ [] → Fa
 fails-behind e fs gs p h = subst (Fails e) (sym (none-append fs gs p)) h
 
 -- the error is the fault of a test that holds
-pub fails-fault_if : (e : TextError) (test : Bool) (kind : TextKind) (place : Place) → e ≡ Text (fault_at kind place) → test ≡ true → Fails e (fault_if test kind place)
+pub fails-fault_if : (e : TextError) (test : Bool) (kind : TextKind) (place : Place) → e ≡ Text (fault_at kind place)
+    → test ≡ true → Fails e (fault_if test kind place)
 fails-fault_if e test kind place h holds = rw (h, holds) refl
 
 -- what is given behind a front without faults
-pub gives-behind : {T : Type 0} (r : Result T TextError) (fs gs : List TextFault) (P : T → Type 0) → fs ≡ [] → Gives r gs P → Gives r (fs ++ gs) P
+pub gives-behind : {T : Type 0} (r : Result T TextError) (fs gs : List TextFault) (P : T → Type 0) → fs ≡ []
+    → Gives r gs P → Gives r (fs ++ gs) P
 gives-behind r fs gs P p g = subst (λ l. Gives r l P) (sym (none-append fs gs p)) g

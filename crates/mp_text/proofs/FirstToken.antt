@@ -1,10 +1,14 @@
 -- A condition that is read begins at the first token of its text.
-use Rattle.std.proofs.Common.{◌≡◌, ℕ, Bool, true, false, List, [], ◌∷◌, ◌++◌, Result, Ok, Err, refl, sym, ap, subst, ◌∙◌}
+use Rattle.std.proofs.Common.{◌≡◌, ℕ, Bool, true, false, List, [], ◌∷◌, ◌++◌, Result, Ok, Err, refl, sym, ap, subst}
+use Rattle.std.proofs.Common.{◌∙◌}
 use Rattle.mp_syntax.specs.declared.fault.Fault.{Fault}
 use Rattle.mp_syntax.specs.declared.place.Place.{Place}
 use Rattle.mp_syntax.specs.Tokens.{Placed, Tokens, first_place}
 use Rattle.mp_syntax.specs.Lexing.{token_at, behind, lexemes, first_token_place}
-use Rattle.mp_syntax.specs.Syntax.{Expected, AllMatch, Number, Measured, Compare, Relate, Test, Literal, AtomOf, Bracketed, Literals, no_literals, more_literals, Condition, no_alternatives, more_alternatives, HasLiteral, HasAlternative, FitsCondition, spell_literal, spell_literals, spell_condition, IsConditionOf}
+use Rattle.mp_syntax.specs.Syntax.{Expected, AllMatch, Number, Measured, Compare, Relate, Test, Literal, AtomOf}
+use Rattle.mp_syntax.specs.Syntax.{Bracketed, Literals, no_literals, more_literals, Condition, no_alternatives}
+use Rattle.mp_syntax.specs.Syntax.{more_alternatives, HasLiteral, HasAlternative, FitsCondition, spell_literal}
+use Rattle.mp_syntax.specs.Syntax.{spell_literals, spell_condition, IsConditionOf}
 use Rattle.mp_syntax.specs.Reading.{condition_reading}
 use Rattle.mp_syntax.proofs.Fuel.{lexemes-step}
 use Rattle.mp_syntax.proofs.TokensLaw.{tokens-lexemes, head-is, end_at}
@@ -14,11 +18,14 @@ use Rattle.mp_text.specs.Computed.{at_place, placed_reading}
 use Rattle.mp_text.proofs.AloneLaws.{IsReading}
 
 -- the first of the tokens is the one that is found first
-first-is : (bytes : List ℕ) (t : Placed) (ts : List Placed) → Tokens bytes first_place (t ∷ ts) → t.place ≡ first_token_place bytes
+first-is : (bytes : List ℕ) (t : Placed) (ts : List Placed) → Tokens bytes first_place (t ∷ ts)
+    → t.place ≡ first_token_place bytes
 first-is bytes t ts h =
     let next = token_at bytes first_place in
     let all = tokens-lexemes (t ∷ ts) bytes first_place h in
-    ap (λ (p : Placed). p.place) (sym (head-is next.0 t (behind next.0.token (lexemes next.1.0 next.1.1)) (ts ++ end_at all.0 ∷ []) (sym (lexemes-step bytes first_place) ∙ all.1)))
+    ap (λ (p : Placed). p.place)
+    (sym (head-is next.0 t (behind next.0.token (lexemes next.1.0 next.1.1)) (ts ++ end_at all.0 ∷ [])
+    (sym (lexemes-step bytes first_place) ∙ all.1)))
 
 -- there is a token
 abbrev HasToken : List Expected → Type 0
@@ -48,7 +55,8 @@ token-condition : (room : ℕ) (c : Condition) → FitsCondition room c → HasT
 token-condition room no_alternatives h = absurd h.0
 token-condition room (more_alternatives a c) h = token-append (spell_literals [] a) _ (token-literals a h.1.0)
 
-starts : (bytes : List ℕ) (ts : List Placed) (ms : List Expected) → AllMatch ts ms → HasToken ms → Tokens bytes first_place ts → StartsAt bytes (first_token_place bytes)
+starts : (bytes : List ℕ) (ts : List Placed) (ms : List Expected) → AllMatch ts ms → HasToken ms
+    → Tokens bytes first_place ts → StartsAt bytes (first_token_place bytes)
 starts bytes [] [] h some lie = absurd some
 starts bytes [] (m ∷ ms) h some lie = absurd h
 starts bytes (t ∷ ts) ms h some lie = (t, ts, lie, first-is bytes t ts lie)
@@ -57,7 +65,8 @@ starts bytes (t ∷ ts) ms h some lie = (t, ts, lie, first-is bytes t ts lie)
 condition-starts : (bytes : List ℕ) (c : Condition) → IsConditionOf bytes c → StartsAt bytes (first_token_place bytes)
 condition-starts bytes c h = starts bytes h.tokens (spell_condition c) h.spelled (token-condition 100 c h.fits) h.lie
 
-found : (bytes : List ℕ) (r : Result Condition Fault) (s : PlacedCondition) → condition_reading bytes ≡ r → at_place (first_token_place bytes) r ≡ Ok s → IsPlacedConditionOf bytes s
+found : (bytes : List ℕ) (r : Result Condition Fault) (s : PlacedCondition) → condition_reading bytes ≡ r
+    → at_place (first_token_place bytes) r ≡ Ok s → IsPlacedConditionOf bytes s
 found bytes (Err f) s e h = cc
 found bytes (Ok c) s e h =
     let is = condition_reading-found bytes c e in
@@ -67,7 +76,8 @@ found bytes (Ok c) s e h =
 only : (bytes : List ℕ) (s : PlacedCondition) → IsPlacedConditionOf bytes s → placed_reading bytes ≡ Ok s
 only bytes s h =
     let place : first_token_place bytes ≡ s.start = sym (first-is bytes h.1.0 h.1.1 h.1.2) ∙ h.1.3 in
-    ap (at_place (first_token_place bytes)) (condition_reading-only bytes s.condition h.0) ∙ (λ i. Ok (record { start = place i; condition = s.condition }))
+    ap (at_place (first_token_place bytes)) (condition_reading-only bytes s.condition h.0)
+    ∙ (λ i. Ok (record { start = place i; condition = s.condition }))
 
 -- what is read of a condition with its place is what the bytes are
 pub IsReading-placed_reading : IsReading IsPlacedConditionOf placed_reading

@@ -6,7 +6,8 @@ use Rattle.mp_syntax.specs.Syntax.{Literal, Literals, literals, condition}
 use Rattle.mp_text.specs.Conditions.{joined, literal_of, literals_of, alternatives_of, alternative_of}
 
 -- none or several are joined
-pub joined-several : (join : Conds → Cond) (cs : List Cond) → (length cs ≡ 1 → ⊥) → joined join (conds cs) ≡ join (conds cs)
+pub joined-several : (join : Conds → Cond) (cs : List Cond) → (length cs ≡ 1 → ⊥)
+    → joined join (conds cs) ≡ join (conds cs)
 joined-several join [] h = refl
 joined-several join (c ∷ []) h = absurd (h refl)
 joined-several join (c ∷ d ∷ cs) h = refl
@@ -18,6 +19,7 @@ module _ (sig : Sig) where
   literals_of-literals (l ∷ ls) = ap (more_conds (literal_of sig l)) (literals_of-literals ls)
 
   -- the conditions of a list of alternatives
-  pub alternatives_of-condition : (parts : List Literals) → alternatives_of sig (condition parts) ≡ conds (map (alternative_of sig) parts)
+  pub alternatives_of-condition : (parts : List Literals)
+      → alternatives_of sig (condition parts) ≡ conds (map (alternative_of sig) parts)
   alternatives_of-condition [] = refl
   alternatives_of-condition (a ∷ parts) = ap (more_conds (alternative_of sig a)) (alternatives_of-condition parts)

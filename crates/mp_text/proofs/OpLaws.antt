@@ -18,19 +18,24 @@ pub record Declarable (name least : Spot) (more : Bool) (flags : List Flag) : Ty
   pub short : is_long_sign (sign_spot flags) ≡ false
   pub small : number_of least.text ≤ MAX_ARITY
 
-pub declarable-op_faults : (ds : List OpDecl) (name least : Spot) (more : Bool) (flags : List Flag) → op_faults ds name least more flags ≡ [] → Declarable name least more flags
+pub declarable-op_faults : (ds : List OpDecl) (name least : Spot) (more : Bool) (flags : List Flag)
+    → op_faults ds name least more flags ≡ [] → Declarable name least more flags
 declarable-op_faults ds name least more flags h =
     let large = fault_if (ltb MAX_ARITY (number_of least.text)) TooMany least.place in
     let bad = fault_if (has_bad_flags name least more flags) BadFlags name.place in
-    let p = nil-append (name_faults MAX_OPS (map (λ d. d.name) ds) false name) (bad ++ (large ++ held_sign_faults ds (sign_spot flags))) h in
+    let p = nil-append (name_faults MAX_OPS (map (λ d. d.name) ds) false name)
+    (bad ++ (large ++ held_sign_faults ds (sign_spot flags))) h in
     let q = nil-append bad (large ++ held_sign_faults ds (sign_spot flags)) p.1 in
     let r = nil-append large (held_sign_faults ds (sign_spot flags)) q.1 in
-    let o = or_parts (some_flag_twice flags) (is_long_sign (sign_spot flags) || not (in_order (op_decl name least more flags))) (nil-fault_if (has_bad_flags name least more flags) BadFlags name.place q.0) in
+    let o = or_parts (some_flag_twice flags)
+    (is_long_sign (sign_spot flags) || not (in_order (op_decl name least more flags)))
+    (nil-fault_if (has_bad_flags name least more flags) BadFlags name.place q.0) in
     let s = or_parts (is_long_sign (sign_spot flags)) (not (in_order (op_decl name least more flags))) o.1 in
     record {
       ordered = not-false (in_order (op_decl name least more flags)) s.1;
       short = s.0;
-      small = ltb-false MAX_ARITY (number_of least.text) (nil-fault_if (ltb MAX_ARITY (number_of least.text)) TooMany least.place r.0);
+      small = ltb-false MAX_ARITY (number_of least.text)
+          (nil-fault_if (ltb MAX_ARITY (number_of least.text)) TooMany least.place r.0);
     }
 
 -- the last of three tests decides where the others fail

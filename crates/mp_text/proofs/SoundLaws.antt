@@ -2,7 +2,9 @@
 use Rattle.std.specs.Prelude.{if◌then◌else◌}
 use Rattle.mp_text.proofs.Words.{first-of, second-of, is_name-IsName}
 use Rattle.mp_text.proofs.Faultless.{nil-append, nil-fault_if, some-behind}
-use Rattle.std.proofs.Common.{append-nil, cond, sym, eqb, ◌≡◌, ◌≤◌, ◌<◌, ◌+◌, ℕ, zero, suc, Bool, true, false, ◌||◌, leb, ltb, rules, List, [], ◌∷◌, ◌++◌, map, length, Option, Some, None, refl, ap, ◌∙◌, arith}
+use Rattle.std.proofs.Common.{append-nil, cond, sym, eqb, ◌≡◌, ◌≤◌, ◌<◌, ◌+◌, ℕ, zero, suc, Bool, true, false, ◌||◌}
+use Rattle.std.proofs.Common.{leb, ltb, rules, List, [], ◌∷◌, ◌++◌, map, length, Option, Some, None, refl, ap, ◌∙◌}
+use Rattle.std.proofs.Common.{arith}
 use Rattle.std.specs.Prelude.{◌≢◌, not, flat_map, slice_get, position, is_some, is_none, nat_lt}
 use Rattle.std.specs.List.{list_all, list_any, position_or_len}
 use Rattle.std.specs.Str.{bytes_eq}
@@ -14,7 +16,8 @@ use Rattle.std.proofs.lemmas.Bool.{and_from, leb-false, ltb-false, not-false, or
 use Rattle.mp_term.specs.declared.signature.OpDecl.{OpDecl}
 use Rattle.mp_term.specs.Tree.{tree_list}
 use Rattle.mp_term.specs.Size.{node_count, node_counts, depth, greatest_depth}
-use Rattle.mp_term.specs.Signature.{Sig, holds_of, allows, has_name, kind_names, all_in_order, well_formed, all_well_formed}
+use Rattle.mp_term.specs.Signature.{Sig, holds_of, allows, has_name, kind_names, all_in_order, well_formed}
+use Rattle.mp_term.specs.Signature.{all_well_formed}
 use Rattle.mp_term.proofs.SignatureLaws.{is_some-position}
 use Rattle.mp_term.specs.Normal.{normal}
 use Rattle.mp_term.proofs.NormalSize.{normal-normal, node_count-normal, depth-normal}
@@ -27,16 +30,26 @@ use Rattle.mp_pattern.specs.Size.{pattern_nodes, all_pattern_nodes}
 use Rattle.mp_pattern.specs.Value.{same_name}
 use Rattle.mp_pattern.specs.Variables.{uses, all_uses, variables}
 use Rattle.mp_syntax.specs.Syntax as syntax
-use Rattle.mp_syntax.specs.Syntax.{Spot, Wildcard, Tree, Symbol, Apply, InfixOf, Wild, Variable, Trees, no_trees, more_trees, Flag, Statement, OpOf, KindOf, RuleOf, SubjectOf, Fits, AreFit, AreStatements, Optional, IsName, HasNames, HaveNames}
+use Rattle.mp_syntax.specs.Syntax.{Spot, Wildcard, Tree, Symbol, Apply, InfixOf, Wild, Variable, Trees, no_trees}
+use Rattle.mp_syntax.specs.Syntax.{more_trees, Flag, Statement, OpOf, KindOf, RuleOf, SubjectOf, Fits, AreFit}
+use Rattle.mp_syntax.specs.Syntax.{AreStatements, Optional, IsName, HasNames, HaveNames}
 use Rattle.mp_syntax.specs.declared.place.Place.{Place}
 use Rattle.mp_text.specs.Names.{is_among, named, names_of, wildcards, all_wildcards, variable_names}
-use Rattle.mp_text.specs.Build.{op_number, sign_number, head_number, marked_shape, kind_shape, shape_of, variable_of, term_of, terms_of, pattern_of, patterns_of, kind_number, subject_of}
-use Rattle.mp_text.specs.Checks.{fault_if, kind_unknown, nodes, all_nodes, is_large_pattern, is_large_term, op_at, op_named, op_signed, head_faults, arity_faults, sign_faults, allows_args, symbol_faults, term_faults, term_operand_faults, all_term_faults, pattern_faults, pattern_operand_faults, all_pattern_faults, loose_faults, whole_pattern_faults, name_faults, has_large_default, some_large_default, term_wildcard_faults, default_faults, wildcard_faults}
+use Rattle.mp_text.specs.Build.{op_number, sign_number, head_number, marked_shape, kind_shape, shape_of, variable_of}
+use Rattle.mp_text.specs.Build.{term_of, terms_of, pattern_of, patterns_of, kind_number, subject_of}
+use Rattle.mp_text.specs.Checks.{fault_if, kind_unknown, nodes, all_nodes, is_large_pattern, is_large_term, op_at}
+use Rattle.mp_text.specs.Checks.{op_named, op_signed, head_faults, arity_faults, sign_faults, allows_args}
+use Rattle.mp_text.specs.Checks.{symbol_faults, term_faults, term_operand_faults, all_term_faults, pattern_faults}
+use Rattle.mp_text.specs.Checks.{pattern_operand_faults, all_pattern_faults, loose_faults, whole_pattern_faults}
+use Rattle.mp_text.specs.Checks.{name_faults, has_large_default, some_large_default, term_wildcard_faults}
+use Rattle.mp_text.specs.Checks.{default_faults, wildcard_faults}
 use Rattle.mp_text.specs.Wildcards.{PatternWildcard, without_default, with_default_form, pattern_wildcards, differs}
 use Rattle.mp_pattern.specs.EachWildcard.{AllEachWildcard}
 use Rattle.mp_pattern.specs.Sound.{DefaultIsNormal, DefaultsAreNormal, holds_ops, all_hold_ops}
-use Rattle.mp_pattern.specs.declared.limits.TheConstants.{MAX_PATTERN_NODES, MAX_DEFAULT_NODES, MAX_VARIABLES, MAX_TERM_NODES, MAX_DEPTH}
-use Rattle.mp_pattern.specs.SoundRule.{allows_patterns, IsSymbol, HasSymbols, HaveSymbols, IsSoundTerm, IsSoundWildcard, IsVariable, IsFormed, AreFormed, IsSoundPattern}
+use Rattle.mp_pattern.specs.declared.limits.TheConstants.{MAX_PATTERN_NODES, MAX_DEFAULT_NODES, MAX_VARIABLES}
+use Rattle.mp_pattern.specs.declared.limits.TheConstants.{MAX_TERM_NODES, MAX_DEPTH}
+use Rattle.mp_pattern.specs.SoundRule.{allows_patterns, IsSymbol, HasSymbols, HaveSymbols, IsSoundTerm, IsSoundWildcard}
+use Rattle.mp_pattern.specs.SoundRule.{IsVariable, IsFormed, AreFormed, IsSoundPattern}
 use Rattle.mp_pattern.proofs.Formed.{is_loose-collapsed, IsFormed-normal_pattern, HasSymbols-normal}
 use Rattle.mp_pattern.proofs.ClashLaws.{first_clash-normal_pattern}
 use Rattle.mp_pattern.proofs.NormalShape.{normal_pattern-normal_pattern}
@@ -59,7 +72,8 @@ within-get (x ∷ xs) zero h = refl
 within-get (x ∷ xs) (suc k) h = within-get xs k (omega (arith, h))
 
 -- what is found at an index is held there
-pub held-position : {X : Type 0} (p : X → Bool) (xs : List X) → is_none (position p xs) ≡ false → is_some (slice_get xs (head_number (position p xs))) ≡ true
+pub held-position : {X : Type 0} (p : X → Bool) (xs : List X) → is_none (position p xs) ≡ false
+    → is_some (slice_get xs (head_number (position p xs))) ≡ true
 held-position {X = X} p xs h = go (nat_lt (position_or_len p xs) (length xs)) refl h
   where
     lt-from : (a b : ℕ) → ltb a b ≡ true → a < b
@@ -68,7 +82,9 @@ held-position {X = X} p xs h = go (nat_lt (position_or_len p xs) (length xs)) re
     no-none : true ≡ false → ⊥
     no-none e = cc
 
-    go : (b : Bool) → nat_lt (position_or_len p xs) (length xs) ≡ b → is_none (cond b (Some (position_or_len p xs)) None) ≡ false → is_some (slice_get xs (head_number (cond b (Some (position_or_len p xs)) None))) ≡ true
+    go : (b : Bool) → nat_lt (position_or_len p xs) (length xs) ≡ b
+        → is_none (cond b (Some (position_or_len p xs)) None) ≡ false
+        → is_some (slice_get xs (head_number (cond b (Some (position_or_len p xs)) None))) ≡ true
     go true e k = within-get xs (position_or_len p xs) (lt-from (position_or_len p xs) (length xs) e)
     go false e k = absurd (no-none k)
 
@@ -81,7 +97,8 @@ pub record Found (sig : Sig) (number : Option ℕ) (passes : OpDecl → Bool) : 
   pub passed : passes decl ≡ true
 
 -- an operation that is held and passes the test is found
-pub found-held : (sig : Sig) (f : ℕ) (passes : OpDecl → Bool) → holds_of passes (slice_get sig.ops f) ≡ true → Found sig (Some f) passes
+pub found-held : (sig : Sig) (f : ℕ) (passes : OpDecl → Bool) → holds_of passes (slice_get sig.ops f) ≡ true
+    → Found sig (Some f) passes
 found-held sig f passes h = by_decl (slice_get sig.ops f) refl h
   where
     by_decl : (o : Option OpDecl) → slice_get sig.ops f ≡ o → holds_of passes o ≡ true → Found sig (Some f) passes
@@ -89,22 +106,28 @@ found-held sig f passes h = by_decl (slice_get sig.ops f) refl h
     by_decl (Some d) e h = record { decl = d; held = e; passed = h }
 
 -- an operation before brackets without faults is found, and passes the test
-pub found-head : (sig : Sig) (passes : OpDecl → Bool) (f : Spot) (number : Option ℕ) → head_faults passes f (op_at sig number) ≡ [] → Found sig number passes
+pub found-head : (sig : Sig) (passes : OpDecl → Bool) (f : Spot) (number : Option ℕ)
+    → head_faults passes f (op_at sig number) ≡ [] → Found sig number passes
 found-head sig passes f None h = cc
 found-head sig passes f (Some n) h = by_decl (slice_get sig.ops n) refl h
   where
     by_decl : (o : Option OpDecl) → slice_get sig.ops n ≡ o → head_faults passes f o ≡ [] → Found sig (Some n) passes
     by_decl None e h = cc
-    by_decl (Some d) e h = record { decl = d; held = e; passed = not-false (passes d) (nil-fault_if (not (passes d)) _ f.place h) }
+    by_decl (Some d) e h =
+        record { decl = d; held = e; passed = not-false (passes d) (nil-fault_if (not (passes d)) _ f.place h) }
 
 -- an operation between operands without faults is found, and passes the test
-pub found-infix : (sig : Sig) (passes : OpDecl → Bool) (opened : Place) (sign : Spot) (number : Option ℕ) → arity_faults passes opened (op_at sig number) ≡ [] → sign_faults sign (op_at sig number) ≡ [] → Found sig number passes
+pub found-infix : (sig : Sig) (passes : OpDecl → Bool) (opened : Place) (sign : Spot) (number : Option ℕ)
+    → arity_faults passes opened (op_at sig number) ≡ [] → sign_faults sign (op_at sig number) ≡ []
+    → Found sig number passes
 found-infix sig passes opened sign None h k = cc
 found-infix sig passes opened sign (Some n) h k = by_decl (slice_get sig.ops n) refl h k
   where
-    by_decl : (o : Option OpDecl) → slice_get sig.ops n ≡ o → arity_faults passes opened o ≡ [] → sign_faults sign o ≡ [] → Found sig (Some n) passes
+    by_decl : (o : Option OpDecl) → slice_get sig.ops n ≡ o → arity_faults passes opened o ≡ []
+        → sign_faults sign o ≡ [] → Found sig (Some n) passes
     by_decl None e h k = cc
-    by_decl (Some d) e h k = record { decl = d; held = e; passed = not-false (passes d) (nil-fault_if (not (passes d)) _ opened h) }
+    by_decl (Some d) e h k =
+        record { decl = d; held = e; passed = not-false (passes d) (nil-fault_if (not (passes d)) _ opened h) }
 
 -- ---- terms
 
@@ -119,14 +142,17 @@ module _ (sig : Sig) where
     pub well_formed-term_of : (t : Tree) → term_faults sig t ≡ [] → well_formed sig (term_of sig t) ≡ true
     well_formed-term_of (Symbol w) h = refl
     well_formed-term_of (Apply f args) h =
-        let p = nil-append (head_faults (allows (length (syntax.tree_list args))) f (op_named sig f.text)) (all_term_faults sig args) h in
+        let p = nil-append (head_faults (allows (length (syntax.tree_list args))) f (op_named sig f.text))
+        (all_term_faults sig args) h in
         let d = found-head sig (allows (length (syntax.tree_list args))) f (op_number sig f.text) p.0 in
         rw (d.held, length-terms_of args, d.passed) (all_well_formed-terms_of args p.1)
     well_formed-term_of (InfixOf opened sign operands) h =
         let at_sign = sign_faults sign (op_signed sig sign.text) in
-        let p = nil-append (arity_faults (allows (length (syntax.tree_list operands))) opened (op_signed sig sign.text)) (term_operand_faults sig at_sign operands) h in
+        let p = nil-append (arity_faults (allows (length (syntax.tree_list operands))) opened (op_signed sig sign.text))
+        (term_operand_faults sig at_sign operands) h in
         let q = nil-term_operands sig at_sign operands p.1 in
-        let d = found-infix sig (allows (length (syntax.tree_list operands))) opened sign (sign_number sig sign.text) p.0 q.0 in
+        let d = found-infix sig (allows (length (syntax.tree_list operands))) opened sign
+        (sign_number sig sign.text) p.0 q.0 in
         rw (d.held, length-terms_of operands, d.passed) (all_well_formed-terms_of operands q.1)
     well_formed-term_of (Wild w) h = absurd (some-behind (fault_if (kind_unknown sig w.kind) _ w.place) _ h)
     well_formed-term_of (Optional w others default) h = absurd (no-optional_term sig w others default h)
@@ -171,7 +197,8 @@ module _ (sig : Sig) where
   -- ---- patterns
 
   -- what holds of each wildcard without a default holds of what a wildcard without one takes
-  each-kind_shape : (P : pattern.Wildcard → Type 0) → P pattern.dot → P pattern.plus → P pattern.star → ((k : ℕ) → P (pattern.kind k)) → (kind : List ℕ) (marks : ℕ) → P (kind_shape sig kind marks)
+  each-kind_shape : (P : pattern.Wildcard → Type 0) → P pattern.dot → P pattern.plus → P pattern.star
+      → ((k : ℕ) → P (pattern.kind k)) → (kind : List ℕ) (marks : ℕ) → P (kind_shape sig kind marks)
   each-kind_shape P dot plus star of_kind (b ∷ bs) marks = of_kind (head_number (kind_number sig (b ∷ bs)))
   each-kind_shape P dot plus star of_kind [] marks = by_tests (eqb marks 3) (eqb marks 2)
     where
@@ -188,13 +215,21 @@ module _ (sig : Sig) where
     depth-pattern_of (suc room) (Apply f args) h = omega (arith, depth-patterns_of room args h)
     depth-pattern_of zero (InfixOf opened sign operands) h = absurd h
     depth-pattern_of (suc room) (InfixOf opened sign operands) h = omega (arith, depth-patterns_of room operands h.1)
-    depth-pattern_of room (Wild w) h = each-kind_shape (λ v. wildcard_depth v ≤ room) (omega arith) (omega arith) (omega arith) (λ k. omega arith) w.kind w.marks
-    depth-pattern_of room (Optional w others default) h = omega (arith, depth-normal sig (term_of sig default), depth-term_of room default (fits-optional room w others default h).2)
+    depth-pattern_of room (Wild w) h = each-kind_shape (λ v. wildcard_depth v ≤ room) (omega arith) (omega arith)
+        (omega arith) (λ k. omega arith) w.kind w.marks
+    depth-pattern_of room (Optional w others default) h =
+        omega (
+          arith,
+          depth-normal sig (term_of sig default),
+          depth-term_of room default
+              (fits-optional room w others default h).2,
+        )
     depth-pattern_of room (Variable x) h = omega arith
 
     depth-patterns_of : (room : ℕ) (ps : Trees) → AreFit room ps → greatest_pattern_depth (patterns_of sig ps) ≤ room
     depth-patterns_of room no_trees h = omega arith
-    depth-patterns_of room (more_trees p ps) h = omega (arith, depth-pattern_of room p h.0, depth-patterns_of room ps h.1)
+    depth-patterns_of room (more_trees p ps) h =
+        omega (arith, depth-pattern_of room p h.0, depth-patterns_of room ps h.1)
 
   -- ---- what normalising asks for
 
@@ -214,40 +249,56 @@ module _ (sig : Sig) where
 
   mutual
     -- the operations of a pattern without faults are held
-    pub holds_ops-pattern_of : (before : List PatternWildcard) (p : Tree) → pattern_faults sig before p ≡ [] → holds_ops sig (pattern_of sig p) ≡ true
+    pub holds_ops-pattern_of : (before : List PatternWildcard) (p : Tree) → pattern_faults sig before p ≡ []
+        → holds_ops sig (pattern_of sig p) ≡ true
     holds_ops-pattern_of before (Symbol w) h = refl
     holds_ops-pattern_of before (Apply f args) h =
-        let p = nil-append (head_faults (allows_args sig args) f (op_named sig f.text)) (all_pattern_faults sig before args) h in
-        rw ((found-head sig (allows_args sig args) f (op_number sig f.text) p.0).held) (all_hold_ops-patterns_of before args p.1)
+        let p = nil-append (head_faults (allows_args sig args) f (op_named sig f.text))
+        (all_pattern_faults sig before args) h in
+        rw ((found-head sig (allows_args sig args) f (op_number sig f.text) p.0).held)
+        (all_hold_ops-patterns_of before args p.1)
     holds_ops-pattern_of before (InfixOf opened sign operands) h =
         let at_sign = sign_faults sign (op_signed sig sign.text) in
-        let p = nil-append (arity_faults (allows_args sig operands) opened (op_signed sig sign.text)) (pattern_operand_faults sig before at_sign operands) h in
+        let p = nil-append (arity_faults (allows_args sig operands) opened (op_signed sig sign.text))
+        (pattern_operand_faults sig before at_sign operands) h in
         let q = nil-pattern_operands sig before at_sign operands p.1 in
-        rw ((found-infix sig (allows_args sig operands) opened sign (sign_number sig sign.text) p.0 q.0).held) (all_hold_ops-patterns_of before operands q.1)
+        rw ((found-infix sig (allows_args sig operands) opened sign (sign_number sig sign.text) p.0 q.0).held)
+        (all_hold_ops-patterns_of before operands q.1)
     holds_ops-pattern_of before (Wild w) h = refl
     holds_ops-pattern_of before (Optional w others default) h = refl
     holds_ops-pattern_of before (Variable x) h = refl
 
-    all_hold_ops-patterns_of : (before : List PatternWildcard) (ps : Trees) → all_pattern_faults sig before ps ≡ [] → all_hold_ops sig (patterns_of sig ps) ≡ true
+    all_hold_ops-patterns_of : (before : List PatternWildcard) (ps : Trees) → all_pattern_faults sig before ps ≡ []
+        → all_hold_ops sig (patterns_of sig ps) ≡ true
     all_hold_ops-patterns_of before no_trees h = refl
     all_hold_ops-patterns_of before (more_trees p ps) h =
-        let q = nil-append (pattern_faults sig before p) (all_pattern_faults sig (before ++ pattern_wildcards sig p) ps) h in
+        let q = nil-append (pattern_faults sig before p)
+        (all_pattern_faults sig (before ++ pattern_wildcards sig p) ps) h in
         rw (holds_ops-pattern_of before p q.0) (all_hold_ops-patterns_of (before ++ pattern_wildcards sig p) ps q.1)
 
   -- ---- symbols
 
   -- a word without faults is a symbol
   pub IsSymbol-symbol_faults : (w : Spot) → IsName w.text → symbol_faults sig w ≡ [] → IsSymbol sig w.text
-  IsSymbol-symbol_faults w name h = record { name = is_name-IsName w.text name; free = sym (is_some-position (has_name w.text) sig.ops) ∙ nil-fault_if (is_some (op_number sig w.text)) _ w.place h }
+  IsSymbol-symbol_faults w name h =
+      record {
+        name = is_name-IsName w.text name;
+        free = sym (is_some-position (has_name w.text) sig.ops)
+            ∙ nil-fault_if (is_some (op_number sig w.text)) _ w.place h;
+      }
 
   mutual
     -- the symbols of a term without faults
     pub HasSymbols-term_of : (t : Tree) → HasNames t → term_faults sig t ≡ [] → HasSymbols sig (term_of sig t)
     HasSymbols-term_of (Symbol w) names h = IsSymbol-symbol_faults w names h
-    HasSymbols-term_of (Apply f args) names h = HaveSymbols-terms_of args names.1 (nil-append (head_faults (allows (length (syntax.tree_list args))) f (op_named sig f.text)) (all_term_faults sig args) h).1
+    HasSymbols-term_of (Apply f args) names h =
+        HaveSymbols-terms_of args names.1
+        (nil-append (head_faults (allows (length (syntax.tree_list args))) f (op_named sig f.text))
+        (all_term_faults sig args) h).1
     HasSymbols-term_of (InfixOf opened sign operands) names h =
         let at_sign = sign_faults sign (op_signed sig sign.text) in
-        let p = nil-append (arity_faults (allows (length (syntax.tree_list operands))) opened (op_signed sig sign.text)) (term_operand_faults sig at_sign operands) h in
+        let p = nil-append (arity_faults (allows (length (syntax.tree_list operands))) opened (op_signed sig sign.text))
+        (term_operand_faults sig at_sign operands) h in
         HaveSymbols-terms_of operands names.1 (nil-term_operands sig at_sign operands p.1).1
     HasSymbols-term_of (Wild w) names h = absurd (some-behind (fault_if (kind_unknown sig w.kind) _ w.place) _ h)
     HasSymbols-term_of (Optional w others default) names h = absurd (no-optional_term sig w others default h)
@@ -262,10 +313,12 @@ module _ (sig : Sig) where
   -- ---- wildcards
 
   -- a kind that is known is held
-  sound-kind : (kind : List ℕ) (marks : ℕ) → kind_unknown sig kind ≡ false → IsSoundWildcard sig (kind_shape sig kind marks)
+  sound-kind : (kind : List ℕ) (marks : ℕ) → kind_unknown sig kind ≡ false
+      → IsSoundWildcard sig (kind_shape sig kind marks)
   sound-kind [] marks h = by_tests (eqb marks 3) (eqb marks 2)
     where
-      by_tests : (three two : Bool) → IsSoundWildcard sig (if three then pattern.star else (if two then pattern.plus else pattern.dot))
+      by_tests : (three two : Bool)
+          → IsSoundWildcard sig (if three then pattern.star else (if two then pattern.plus else pattern.dot))
       by_tests true two = tt
       by_tests false true = tt
       by_tests false false = tt
@@ -276,23 +329,31 @@ module _ (sig : Sig) where
   IsVariable-variable_of (b ∷ bs) h = is_name-IsName (b ∷ bs) (h (λ none. cc))
 
   -- the kind of a wildcard without faults is known
-  known-wildcard_faults : (before : List PatternWildcard) (w : PatternWildcard) → wildcard_faults sig before w ≡ [] → kind_unknown sig w.wildcard.kind ≡ false
+  known-wildcard_faults : (before : List PatternWildcard) (w : PatternWildcard) → wildcard_faults sig before w ≡ []
+      → kind_unknown sig w.wildcard.kind ≡ false
   known-wildcard_faults before w h =
-      nil-fault_if (kind_unknown sig w.wildcard.kind) _ w.wildcard.place (nil-append (fault_if (kind_unknown sig w.wildcard.kind) _ w.wildcard.place) (fault_if (list_any (differs w) before) _ w.wildcard.place) h).0
+      nil-fault_if (kind_unknown sig w.wildcard.kind) _ w.wildcard.place
+      (nil-append (fault_if (kind_unknown sig w.wildcard.kind) _ w.wildcard.place)
+      (fault_if (list_any (differs w) before) _ w.wildcard.place) h).0
 
-  pub pattern_list-patterns_of : (ps : Trees) → map (pattern_of sig) (syntax.tree_list ps) ≡ pattern.pattern_list (patterns_of sig ps)
+  pub pattern_list-patterns_of : (ps : Trees)
+      → map (pattern_of sig) (syntax.tree_list ps) ≡ pattern.pattern_list (patterns_of sig ps)
   pattern_list-patterns_of no_trees = refl
   pattern_list-patterns_of (more_trees p ps) = ap (λ l. pattern_of sig p ∷ l) (pattern_list-patterns_of ps)
 
   -- an operation that is found allows the arguments of its pattern
-  allowed-found : (number : Option ℕ) (ps : Trees) → Found sig number (allows_args sig ps) → holds_of (allows_patterns (pattern.pattern_list (patterns_of sig ps))) (slice_get sig.ops (head_number number)) ≡ true
-  allowed-found number ps d = ap (holds_of (allows_patterns (pattern.pattern_list (patterns_of sig ps)))) d.held ∙ ap (λ l. allows_patterns l d.decl) (sym (pattern_list-patterns_of ps)) ∙ d.passed
+  allowed-found : (number : Option ℕ) (ps : Trees) → Found sig number (allows_args sig ps)
+      → holds_of (allows_patterns (pattern.pattern_list (patterns_of sig ps))) (slice_get sig.ops (head_number number))
+      ≡ true
+  allowed-found number ps d = ap (holds_of (allows_patterns (pattern.pattern_list (patterns_of sig ps)))) d.held
+      ∙ ap (λ l. allows_patterns l d.decl) (sym (pattern_list-patterns_of ps)) ∙ d.passed
 
   -- ---- formed patterns
 
   module _ (ordered : all_in_order sig.ops ≡ true) where
     -- the normal form of a term without faults
-    pub sound-term_of : (most : ℕ) (t : Tree) → HasNames t → term_faults sig t ≡ [] → nodes t ≤ most → IsSoundTerm sig most (normal sig (term_of sig t))
+    pub sound-term_of : (most : ℕ) (t : Tree) → HasNames t → term_faults sig t ≡ [] → nodes t ≤ most
+        → IsSoundTerm sig most (normal sig (term_of sig t))
     sound-term_of most t names h few = record {
       normal = normal-normal sig (term_of sig t);
       formed = wf-normal sig ordered (term_of sig t) (well_formed-term_of t h);
@@ -302,35 +363,58 @@ module _ (sig : Sig) where
 
     mutual
       -- the pattern of an expression without faults
-      pub IsFormed-pattern_of : (before : List PatternWildcard) (p : Tree) → HasNames p → has_large_default p ≡ false → pattern_faults sig before p ≡ [] → IsFormed sig (pattern_of sig p)
+      pub IsFormed-pattern_of : (before : List PatternWildcard) (p : Tree) → HasNames p → has_large_default p ≡ false
+          → pattern_faults sig before p ≡ [] → IsFormed sig (pattern_of sig p)
       IsFormed-pattern_of before (Symbol w) names small h = IsSymbol-symbol_faults w names h
       IsFormed-pattern_of before (Apply f args) names small h =
-          let p = nil-append (head_faults (allows_args sig args) f (op_named sig f.text)) (all_pattern_faults sig before args) h in
-          (allowed-found (op_number sig f.text) args (found-head sig (allows_args sig args) f (op_number sig f.text) p.0), AreFormed-patterns_of before args names.1 small p.1)
+          let p = nil-append (head_faults (allows_args sig args) f (op_named sig f.text))
+          (all_pattern_faults sig before args) h in (
+            allowed-found (op_number sig f.text) args
+                (found-head sig (allows_args sig args) f (op_number sig f.text) p.0),
+            AreFormed-patterns_of before args
+                names.1 small p.1,
+          )
       IsFormed-pattern_of before (InfixOf opened sign operands) names small h =
           let at_sign = sign_faults sign (op_signed sig sign.text) in
-          let p = nil-append (arity_faults (allows_args sig operands) opened (op_signed sig sign.text)) (pattern_operand_faults sig before at_sign operands) h in
-          let q = nil-pattern_operands sig before at_sign operands p.1 in
-          (allowed-found (sign_number sig sign.text) operands (found-infix sig (allows_args sig operands) opened sign (sign_number sig sign.text) p.0 q.0), AreFormed-patterns_of before operands names.1 small q.1)
-      IsFormed-pattern_of before (Wild w) names small h = (sound-kind w.kind w.marks (known-wildcard_faults before (without_default w) h), IsVariable-variable_of w.name names.name)
+          let p = nil-append (arity_faults (allows_args sig operands) opened (op_signed sig sign.text))
+          (pattern_operand_faults sig before at_sign operands) h in
+          let q = nil-pattern_operands sig before at_sign operands p.1 in (
+            allowed-found (sign_number sig sign.text) operands
+                (found-infix sig (allows_args sig operands) opened sign (sign_number sig sign.text) p.0 q.0),
+            AreFormed-patterns_of before operands names.1 small q.1,
+          )
+      IsFormed-pattern_of before (Wild w) names small h = (
+        sound-kind w.kind w.marks (known-wildcard_faults before (without_default w) h),
+        IsVariable-variable_of w.name
+            names.name,
+      )
       IsFormed-pattern_of before (Optional w others default) names small h =
-          let p = nil-append (wildcard_faults sig before (with_default_form sig w others default)) (default_faults sig others default) h in
+          let p = nil-append (wildcard_faults sig before (with_default_form sig w others default))
+          (default_faults sig others default) h in
           let q = nil-append (flat_map (term_wildcard_faults sig) others) (term_faults sig default) p.1 in
-          let few : nodes default ≤ MAX_DEFAULT_NODES = ltb-false MAX_DEFAULT_NODES (nodes default) (or_parts (ltb MAX_DEFAULT_NODES (nodes default)) (has_large_default default) small).0 in
+          let few : nodes default ≤ MAX_DEFAULT_NODES =
+          ltb-false MAX_DEFAULT_NODES (nodes default)
+          (or_parts (ltb MAX_DEFAULT_NODES (nodes default)) (has_large_default default) small).0 in
           (sound-term_of MAX_DEFAULT_NODES default names.2 q.1 few, IsVariable-variable_of w.name names.0.name)
       IsFormed-pattern_of before (Variable x) names small h = cc
 
-      AreFormed-patterns_of : (before : List PatternWildcard) (ps : Trees) → HaveNames ps → some_large_default ps ≡ false → all_pattern_faults sig before ps ≡ [] → AreFormed sig (patterns_of sig ps)
+      AreFormed-patterns_of : (before : List PatternWildcard) (ps : Trees) → HaveNames ps
+          → some_large_default ps ≡ false → all_pattern_faults sig before ps ≡ [] → AreFormed sig (patterns_of sig ps)
       AreFormed-patterns_of before no_trees names small h = tt
       AreFormed-patterns_of before (more_trees p ps) names small h =
-          let q = nil-append (pattern_faults sig before p) (all_pattern_faults sig (before ++ pattern_wildcards sig p) ps) h in
-          let o = or_parts (has_large_default p) (some_large_default ps) small in
-          (IsFormed-pattern_of before p names.0 o.0 q.0, AreFormed-patterns_of (before ++ pattern_wildcards sig p) ps names.1 o.1 q.1)
+          let q = nil-append (pattern_faults sig before p)
+          (all_pattern_faults sig (before ++ pattern_wildcards sig p) ps) h in
+          let o = or_parts (has_large_default p) (some_large_default ps) small in (
+            IsFormed-pattern_of before p names.0 o.0 q.0,
+            AreFormed-patterns_of
+                (before ++ pattern_wildcards sig p) ps names.1 o.1 q.1,
+          )
 
   -- a pattern that isn't loose doesn't become it in its normal form
   is_loose-normal_pattern : (p : pattern.Pattern) → is_loose p ≡ false → is_loose (normal_pattern sig p) ≡ false
   is_loose-normal_pattern (pattern.symbol_pattern n) h = refl
-  is_loose-normal_pattern (pattern.app_pattern f ps) h = is_loose-collapsed sig f (in_order sig f (flattened sig f (normal_patterns sig ps)))
+  is_loose-normal_pattern (pattern.app_pattern f ps) h =
+      is_loose-collapsed sig f (in_order sig f (flattened sig f (normal_patterns sig ps)))
   is_loose-normal_pattern (pattern.wild_pattern w x) h = h
 
   -- a pattern that doesn't stand alone as a plus, star or optional wildcard isn't loose
@@ -340,9 +424,11 @@ module _ (sig : Sig) where
   is_loose-loose_faults (InfixOf opened sign operands) h = refl
   is_loose-loose_faults (Optional w others default) h = cc
   is_loose-loose_faults (Variable x) h = refl
-  is_loose-loose_faults (Wild w) h = plain-kind_shape w.kind (nil-fault_if (pattern.is_loose (marked_shape w.marks)) _ w.place h)
+  is_loose-loose_faults (Wild w) h = plain-kind_shape w.kind
+      (nil-fault_if (pattern.is_loose (marked_shape w.marks)) _ w.place h)
     where
-      plain-kind_shape : (kind : List ℕ) → pattern.is_loose (marked_shape w.marks) ≡ false → pattern.is_loose (kind_shape sig kind w.marks) ≡ false
+      plain-kind_shape : (kind : List ℕ) → pattern.is_loose (marked_shape w.marks) ≡ false
+          → pattern.is_loose (kind_shape sig kind w.marks) ≡ false
       plain-kind_shape [] plain = plain
       plain-kind_shape (b ∷ bs) plain = refl
 
@@ -358,10 +444,12 @@ module _ (sig : Sig) where
 
     all_pattern_nodes-patterns_of : (ps : Trees) → all_pattern_nodes (patterns_of sig ps) ≡ all_nodes ps
     all_pattern_nodes-patterns_of no_trees = refl
-    all_pattern_nodes-patterns_of (more_trees p ps) = omega (arith, pattern_nodes-pattern_of p, all_pattern_nodes-patterns_of ps)
+    all_pattern_nodes-patterns_of (more_trees p ps) =
+        omega (arith, pattern_nodes-pattern_of p, all_pattern_nodes-patterns_of ps)
 
   -- the names of the uses of one wildcard
-  names-wild : (f : Option ℕ) (w : pattern.Wildcard) (name : List ℕ) → map (λ u. u.name) (uses f (pattern.wild_pattern w (variable_of name))) ≡ named name
+  names-wild : (f : Option ℕ) (w : pattern.Wildcard) (name : List ℕ)
+      → map (λ u. u.name) (uses f (pattern.wild_pattern w (variable_of name))) ≡ named name
   names-wild f w [] = refl
   names-wild f w (b ∷ bs) = refl
 
@@ -370,41 +458,52 @@ module _ (sig : Sig) where
     names-uses : (f : Option ℕ) (p : Tree) → map (λ u. u.name) (uses f (pattern_of sig p)) ≡ names_of (wildcards p)
     names-uses f (Symbol w) = refl
     names-uses f (Apply g args) = names-all_uses (Some (head_number (op_number sig g.text))) args
-    names-uses f (InfixOf opened sign operands) = names-all_uses (Some (head_number (sign_number sig sign.text))) operands
+    names-uses f (InfixOf opened sign operands) =
+        names-all_uses (Some (head_number (sign_number sig sign.text))) operands
     names-uses f (Wild w) = names-wild f (shape_of sig w) w.name ∙ sym (append-nil (named w.name))
-    names-uses f (Optional w others default) = names-wild f (pattern.optional (normal sig (term_of sig default))) w.name ∙ sym (append-nil (named w.name))
+    names-uses f (Optional w others default) = names-wild f (pattern.optional (normal sig (term_of sig default))) w.name
+        ∙ sym (append-nil (named w.name))
     names-uses f (Variable x) = refl
 
-    names-all_uses : (f : Option ℕ) (ps : Trees) → map (λ u. u.name) (all_uses f (patterns_of sig ps)) ≡ names_of (all_wildcards ps)
+    names-all_uses : (f : Option ℕ) (ps : Trees)
+        → map (λ u. u.name) (all_uses f (patterns_of sig ps)) ≡ names_of (all_wildcards ps)
     names-all_uses f no_trees = refl
     names-all_uses f (more_trees p ps) =
-        map-append (λ u. u.name) (uses f (pattern_of sig p)) (all_uses f (patterns_of sig ps)) ∙ (λ i. names-uses f p i ++ names-all_uses f ps i)
+        map-append (λ u. u.name) (uses f (pattern_of sig p)) (all_uses f (patterns_of sig ps))
+        ∙ (λ i. names-uses f p i ++ names-all_uses f ps i)
         ∙ sym (flat_map-append (λ (w : Wildcard). named w.name) (wildcards p) (all_wildcards ps))
 
 -- ---- names that differ
 
 -- the same test knows the same items
-pub is_known-alike : (p q : List ℕ → List ℕ → Bool) → ((a b : List ℕ) → p a b ≡ q a b) → (ys : List (List ℕ)) (x : List ℕ) → is_known p ys x ≡ is_known q ys x
+pub is_known-alike : (p q : List ℕ → List ℕ → Bool) → ((a b : List ℕ) → p a b ≡ q a b)
+    → (ys : List (List ℕ)) (x : List ℕ) → is_known p ys x ≡ is_known q ys x
 is_known-alike p q same [] x = refl
 is_known-alike p q same (y ∷ ys) x = λ i. same y x i || is_known-alike p q same ys x i
 
 -- the same test finds the same first items
-firsts_after-alike : (p q : List ℕ → List ℕ → Bool) → ((a b : List ℕ) → p a b ≡ q a b) → (ys xs : List (List ℕ)) → firsts_after p ys xs ≡ firsts_after q ys xs
+firsts_after-alike : (p q : List ℕ → List ℕ → Bool) → ((a b : List ℕ) → p a b ≡ q a b) → (ys xs : List (List ℕ))
+    → firsts_after p ys xs ≡ firsts_after q ys xs
 firsts_after-alike p q same ys [] = refl
 firsts_after-alike p q same ys (x ∷ xs) =
-    ap (λ l. firsts_after p l xs) (ap (λ b. if b then ys else ys ++ x ∷ []) (is_known-alike p q same ys x)) ∙ firsts_after-alike p q same (add_new q ys x) xs
+    ap (λ l. firsts_after p l xs) (ap (λ b. if b then ys else ys ++ x ∷ []) (is_known-alike p q same ys x))
+    ∙ firsts_after-alike p q same (add_new q ys x) xs
 
 -- the variables of a pattern are those of its expression
 pub variables-pattern_of : (sig : Sig) (p : Tree) → variables (pattern_of sig p) ≡ variable_names p
-variables-pattern_of sig p = ap (firsts_after same_name []) (names-uses sig None p) ∙ firsts_after-alike same_name bytes_eq is_eq-slice_cmp [] (names_of (wildcards p))
+variables-pattern_of sig p = ap (firsts_after same_name []) (names-uses sig None p)
+    ∙ firsts_after-alike same_name bytes_eq is_eq-slice_cmp [] (names_of (wildcards p))
 
 -- another name behind all of them
-list_all-push : (p : List ℕ → Bool) (ns : List (List ℕ)) (n : List ℕ) → list_all p ns ≡ true → p n ≡ true → list_all p (ns ++ n ∷ []) ≡ true
+list_all-push : (p : List ℕ → Bool) (ns : List (List ℕ)) (n : List ℕ) → list_all p ns ≡ true → p n ≡ true
+    → list_all p (ns ++ n ∷ []) ≡ true
 list_all-push p [] n h k = rw k refl
-list_all-push p (m ∷ ns) n h k = and_from (p m) (list_all p (ns ++ n ∷ [])) (first-of (p m) (list_all p ns) h) (list_all-push p ns n (second-of (p m) (list_all p ns) h) k)
+list_all-push p (m ∷ ns) n h k = and_from (p m) (list_all p (ns ++ n ∷ [])) (first-of (p m) (list_all p ns) h)
+    (list_all-push p ns n (second-of (p m) (list_all p ns) h) k)
 
 -- a name that is none of the names, which differ
-pub are_distinct-push : (ns : List (List ℕ)) (n : List ℕ) → are_distinct ns ≡ true → is_among n ns ≡ false → are_distinct (ns ++ n ∷ []) ≡ true
+pub are_distinct-push : (ns : List (List ℕ)) (n : List ℕ) → are_distinct ns ≡ true → is_among n ns ≡ false
+    → are_distinct (ns ++ n ∷ []) ≡ true
 are_distinct-push [] n h k = refl
 are_distinct-push (m ∷ ns) n h k =
     let o = or_parts (bytes_eq m n) (is_among n ns) k in
@@ -422,32 +521,57 @@ pub record Named (most : ℕ) (earlier : List (List ℕ)) (large : Bool) (name :
   pub small : large ≡ false
 
 -- a name without faults
-pub named-by : (most : ℕ) (earlier : List (List ℕ)) (large : Bool) (name : Spot) → name_faults most earlier large name ≡ [] → Named most earlier large name
+pub named-by : (most : ℕ) (earlier : List (List ℕ)) (large : Bool) (name : Spot)
+    → name_faults most earlier large name ≡ [] → Named most earlier large name
 named-by most earlier large name h =
-    let p = nil-append (fault_if (is_among name.text earlier) _ name.place) (fault_if (leb most (length earlier) || large) _ name.place) h in
-    let o = or_parts (leb most (length earlier)) large (nil-fault_if (leb most (length earlier) || large) _ name.place p.1) in
-    record { other = nil-fault_if (is_among name.text earlier) _ name.place p.0; few = leb-false most (length earlier) o.0; small = o.1 }
+    let p = nil-append (fault_if (is_among name.text earlier) _ name.place)
+    (fault_if (leb most (length earlier) || large) _ name.place) h in
+    let o = or_parts (leb most (length earlier)) large
+    (nil-fault_if (leb most (length earlier) || large) _ name.place p.1) in
+    record {
+      other = nil-fault_if (is_among name.text earlier) _ name.place p.0;
+      few = leb-false most (length earlier) o.0;
+      small = o.1;
+    }
 
 -- the normal form of a pattern without faults
-pub sound-pattern : (sig : Sig) → all_in_order sig.ops ≡ true → (p : Tree) → HasNames p → is_large_pattern p ≡ false → whole_pattern_faults sig p ≡ [] → Fits MAX_DEPTH p → IsSoundPattern sig (normal_pattern sig (pattern_of sig p))
+pub sound-pattern : (sig : Sig) → all_in_order sig.ops ≡ true → (p : Tree) → HasNames p → is_large_pattern p ≡ false
+    → whole_pattern_faults sig p ≡ [] → Fits MAX_DEPTH p → IsSoundPattern sig (normal_pattern sig (pattern_of sig p))
 sound-pattern sig ordered p names small none fits =
-    let o = or_parts (ltb MAX_PATTERN_NODES (nodes p)) (ltb MAX_VARIABLES (length (variable_names p)) || has_large_default p) small in
+    let o = or_parts (ltb MAX_PATTERN_NODES (nodes p))
+    (ltb MAX_VARIABLES (length (variable_names p)) || has_large_default p) small in
     let l = or_parts (ltb MAX_VARIABLES (length (variable_names p))) (has_large_default p) o.1 in
     let q = nil-append (loose_faults p) (pattern_faults sig [] p) none in
     let nodes_few : nodes p ≤ MAX_PATTERN_NODES = ltb-false MAX_PATTERN_NODES (nodes p) o.0 in
-    let names_few : length (variable_names p) ≤ MAX_VARIABLES = ltb-false MAX_VARIABLES (length (variable_names p)) l.0 in
+    let names_few : length (variable_names p) ≤ MAX_VARIABLES =
+    ltb-false MAX_VARIABLES (length (variable_names p)) l.0 in
     record {
       normal = normal_pattern-normal_pattern sig (pattern_of sig p);
-      formed = IsFormed-normal_pattern sig ordered (pattern_of sig p) (IsFormed-pattern_of sig ordered [] p names l.1 q.1);
+      formed = IsFormed-normal_pattern sig ordered (pattern_of sig p)
+          (IsFormed-pattern_of sig ordered [] p names l.1 q.1);
       plain_root = is_loose-normal_pattern sig (pattern_of sig p) (is_loose-loose_faults sig p q.0);
       no_clash = first_clash-normal_pattern sig (pattern_of sig p) (first_clash-pattern_of sig p q.1);
       few_nodes = omega (arith, pattern_nodes-normal_pattern sig (pattern_of sig p), pattern_nodes-pattern_of sig p);
-      few_variables = omega (arith, length_permutation (variables (pattern_of sig p)) (variables (normal_pattern sig (pattern_of sig p))) (IsPermutation-variables sig (pattern_of sig p)), ap length (variables-pattern_of sig p));
-      shallow = omega (arith, pattern_depth-normal_pattern sig (pattern_of sig p), depth-pattern_of sig MAX_DEPTH p fits);
+      few_variables =
+          omega (
+            arith,
+            length_permutation (variables (pattern_of sig p))
+                (variables (normal_pattern sig (pattern_of sig p)))
+                (IsPermutation-variables sig (pattern_of sig p)),
+            ap length (variables-pattern_of sig p),
+          );
+      shallow =
+          omega (arith, pattern_depth-normal_pattern sig (pattern_of sig p), depth-pattern_of sig MAX_DEPTH p fits);
     }
 
 -- a subject without faults
-pub sound-subject : (sig : Sig) → all_in_order sig.ops ≡ true → (name : Spot) (t : Tree) → IsName name.text → HasNames t → is_large_term t ≡ false → term_faults sig t ≡ [] → Fits MAX_DEPTH t → IsSoundSubject sig (subject_of sig name t)
+pub sound-subject : (sig : Sig) → all_in_order sig.ops ≡ true → (name : Spot) (t : Tree) → IsName name.text → HasNames t
+    → is_large_term t ≡ false → term_faults sig t ≡ [] → Fits MAX_DEPTH t → IsSoundSubject sig (subject_of sig name t)
 sound-subject sig ordered name t named names small none fits =
-    let few : nodes t ≤ MAX_TERM_NODES = ltb-false MAX_TERM_NODES (nodes t) (or_parts (ltb MAX_TERM_NODES (nodes t)) (has_large_default t) small).0 in
-    record { name = is_name-IsName name.text named; term = sound-term_of sig ordered MAX_TERM_NODES t names none few; shallow = omega (arith, depth-normal sig (term_of sig t), depth-term_of sig MAX_DEPTH t fits) }
+    let few : nodes t ≤ MAX_TERM_NODES = ltb-false MAX_TERM_NODES (nodes t)
+    (or_parts (ltb MAX_TERM_NODES (nodes t)) (has_large_default t) small).0 in
+    record {
+      name = is_name-IsName name.text named;
+      term = sound-term_of sig ordered MAX_TERM_NODES t names none few;
+      shallow = omega (arith, depth-normal sig (term_of sig t), depth-term_of sig MAX_DEPTH t fits);
+    }

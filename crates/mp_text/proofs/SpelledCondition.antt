@@ -1,22 +1,31 @@
 -- A sound condition is spelled in names, and in no more brackets than the condition that was read stood in.
-use Rattle.std.proofs.Common.{◌≡◌, ◌≤◌, ℕ, zero, suc, true, false, Option, Some, None, option_map, refl, sym, subst, arith}
+use Rattle.std.proofs.Common.{◌≡◌, ◌≤◌, ℕ, zero, suc, true, false, Option, Some, None, option_map, refl, sym, subst}
+use Rattle.std.proofs.Common.{arith}
 use Rattle.std.specs.Prelude.{max}
 use Rattle.mp_pattern.specs.declared.limits.TheConstants.{MAX_DEPTH}
 use Rattle.mp_term.specs.Size.{depth}
 use Rattle.mp_term.specs.Signature.{Sig}
 use Rattle.mp_term.proofs.NormalSize.{depth-normal}
 use Rattle.mp_pattern.specs.PatternTree.{Pattern}
-use Rattle.mp_pattern.specs.CondTree.{Operand, var, ground, fixed, count, size, Cond, amounts, less, free, of_kind, headed, negation, all_of, any_of, Conds, no_conds, more_conds}
+use Rattle.mp_pattern.specs.CondTree.{Operand, var, ground, fixed, count, size, Cond, amounts, less, free, of_kind}
+use Rattle.mp_pattern.specs.CondTree.{headed, negation, all_of, any_of, Conds, no_conds, more_conds}
 use Rattle.mp_pattern.specs.CondTree as cond
-use Rattle.mp_pattern.specs.SoundRule.{IsFormed, IsSoundOperand, IsSoundAmount, AreSeveral, IsChecked, AreChecked, HasSoundCondition}
+use Rattle.mp_pattern.specs.SoundRule.{IsFormed, IsSoundOperand, IsSoundAmount, AreSeveral, IsChecked, AreChecked}
+use Rattle.mp_pattern.specs.SoundRule.{HasSoundCondition}
 use Rattle.mp_syntax.specs.declared.condition_tree.Measure.TheVariants.{Count, Size}
 use Rattle.mp_syntax.specs.declared.condition_tree.Relation.TheVariants.{Same, Less, Free}
 use Rattle.mp_syntax.specs.declared.condition_tree.Property.TheVariants.{Kind, Head}
-use Rattle.mp_syntax.specs.Syntax.{Tree, Variable, Amount, Number, Measured, Atom, Compare, Relate, Test, Literal, AtomOf, Bracketed, Literals, no_literals, more_literals, Condition, no_alternatives, more_alternatives, Fits, FitsAmount, FitsAtom, HasLiteral, HasAlternative, FitsLiteral, LiteralsFit, AlternativesFit, FitsIf, HasNames, AmountHasNames, LiteralHasNames, LiteralsHaveNames, ConditionHasNames, IfHasNames}
+use Rattle.mp_syntax.specs.Syntax.{Tree, Variable, Amount, Number, Measured, Atom, Compare, Relate, Test, Literal}
+use Rattle.mp_syntax.specs.Syntax.{AtomOf, Bracketed, Literals, no_literals, more_literals, Condition, no_alternatives}
+use Rattle.mp_syntax.specs.Syntax.{more_alternatives, Fits, FitsAmount, FitsAtom, HasLiteral, HasAlternative}
+use Rattle.mp_syntax.specs.Syntax.{FitsLiteral, LiteralsFit, AlternativesFit, FitsIf, HasNames, AmountHasNames}
+use Rattle.mp_syntax.specs.Syntax.{LiteralHasNames, LiteralsHaveNames, ConditionHasNames, IfHasNames}
 use Rattle.mp_syntax.proofs.Trees.{variable-fits}
 use Rattle.mp_text.specs.Build.{term_of}
-use Rattle.mp_text.specs.Conditions.{joined, operand_of, amount_of, atom_of, literal_of, literals_of, alternatives_of, cond_of, condition_of}
-use Rattle.mp_text.specs.Spelled.{piece, negated_spelling, operand_spelling, amount_spelling, literal_spelling, literal_spellings, alternative_spellings, cond_spelling}
+use Rattle.mp_text.specs.Conditions.{joined, operand_of, amount_of, atom_of, literal_of, literals_of, alternatives_of}
+use Rattle.mp_text.specs.Conditions.{cond_of, condition_of}
+use Rattle.mp_text.specs.Spelled.{piece, negated_spelling, operand_spelling, amount_spelling, literal_spelling}
+use Rattle.mp_text.specs.Spelled.{literal_spellings, alternative_spellings, cond_spelling}
 use Rattle.mp_text.proofs.Words.{IsName-is_name}
 use Rattle.mp_text.proofs.SoundLaws.{depth-term_of}
 use Rattle.mp_text.proofs.Spelled.{negated-twice}
@@ -96,7 +105,8 @@ joined-any (more_conds (any_of bs) no_conds) room h = omega arith
 joined-any (more_conds c no_conds) room h = omega arith
 joined-any (more_conds c (more_conds d cs)) room h = h
 
-joined-all : (bs cs : Conds) (room : ℕ) → literals_depth bs ≤ room → alternatives_depth cs ≤ room → alternatives_depth (more_conds (joined all_of bs) cs) ≤ room
+joined-all : (bs cs : Conds) (room : ℕ) → literals_depth bs ≤ room → alternatives_depth cs ≤ room
+    → alternatives_depth (more_conds (joined all_of bs) cs) ≤ room
 joined-all no_conds cs room h k = omega arith
 joined-all (more_conds (all_of bs) no_conds) cs room h k = omega arith
 joined-all (more_conds b no_conds) cs room h k = omega arith
@@ -135,18 +145,25 @@ module _ (sig : Sig) where
   mutual
     shallow-literal : (room : ℕ) (l : Literal) → FitsLiteral room l → literal_depth (literal_of sig l) ≤ room
     shallow-literal room (AtomOf false a) h = shallow-atom room a h
-    shallow-literal room (AtomOf true a) h = omega (arith, plain-atom a (literal_depth (atom_of sig a)), shallow-atom room a h)
+    shallow-literal room (AtomOf true a) h =
+        omega (arith, plain-atom a (literal_depth (atom_of sig a)), shallow-atom room a h)
     shallow-literal zero (Bracketed negated d) h = absurd h
-    shallow-literal (suc room) (Bracketed false d) h = lift (cond_of sig d) room (joined-any (alternatives_of sig d) room (shallow-alternatives room d h.1))
-    shallow-literal (suc room) (Bracketed true d) h = lift-negated (cond_of sig d) room (joined-any (alternatives_of sig d) room (shallow-alternatives room d h.1))
+    shallow-literal (suc room) (Bracketed false d) h =
+        lift (cond_of sig d) room (joined-any (alternatives_of sig d) room (shallow-alternatives room d h.1))
+    shallow-literal (suc room) (Bracketed true d) h =
+        lift-negated (cond_of sig d) room (joined-any (alternatives_of sig d) room (shallow-alternatives room d h.1))
 
     shallow-literals : (room : ℕ) (ls : Literals) → LiteralsFit room ls → literals_depth (literals_of sig ls) ≤ room
     shallow-literals room no_literals h = omega arith
-    shallow-literals room (more_literals l ls) h = omega (arith, shallow-literal room l h.0, shallow-literals room ls h.1)
+    shallow-literals room (more_literals l ls) h =
+        omega (arith, shallow-literal room l h.0, shallow-literals room ls h.1)
 
-    shallow-alternatives : (room : ℕ) (d : Condition) → AlternativesFit room d → alternatives_depth (alternatives_of sig d) ≤ room
+    shallow-alternatives : (room : ℕ) (d : Condition) → AlternativesFit room d
+        → alternatives_depth (alternatives_of sig d) ≤ room
     shallow-alternatives room no_alternatives h = omega arith
-    shallow-alternatives room (more_alternatives ls d) h = joined-all (literals_of sig ls) (alternatives_of sig d) room (shallow-literals room ls h.1) (shallow-alternatives room d h.2)
+    shallow-alternatives room (more_alternatives ls d) h =
+        joined-all (literals_of sig ls) (alternatives_of sig d) room (shallow-literals room ls h.1)
+        (shallow-alternatives room d h.2)
 
   -- a condition is no deeper than its brackets
   pub shallow-condition_of : (o : Option Condition) → FitsIf o → IsShallowIf (condition_of sig o)
@@ -175,7 +192,8 @@ fits-negated room (AtomOf true a) plain h = absurd cc
 fits-negated room (Bracketed true d) plain h = absurd cc
 
 -- a second `not`
-fits-twice : (room : ℕ) (l : Literal) → FitsLiteral room (negated_spelling l) → FitsLiteral (suc room) (negated_spelling (negated_spelling l))
+fits-twice : (room : ℕ) (l : Literal) → FitsLiteral room (negated_spelling l)
+    → FitsLiteral (suc room) (negated_spelling (negated_spelling l))
 fits-twice room l h = subst (FitsLiteral (suc room)) (sym (negated-twice l)) (tt, (tt, (h, tt), tt))
 
 module _ (sig : Sig) (has : HasOps sig) (p : Pattern) (formed : IsFormed sig p) where
@@ -212,7 +230,8 @@ module _ (sig : Sig) (has : HasOps sig) (p : Pattern) (formed : IsFormed sig p) 
     names-alternatives (more_conds c cs) h = ((names-literal c h.0, tt), names-alternatives cs h.1)
 
   -- its words are names
-  pub HasNames-if_spelling : (o : Option Cond) → HasSoundCondition sig p o → IfHasNames (option_map (cond_spelling sig) o)
+  pub HasNames-if_spelling : (o : Option Cond) → HasSoundCondition sig p o
+      → IfHasNames (option_map (cond_spelling sig) o)
   HasNames-if_spelling None h = tt
   HasNames-if_spelling (Some (all_of cs)) h = (names-literals cs h.checked.1, tt)
   HasNames-if_spelling (Some (any_of cs)) h = names-alternatives cs h.checked.1
@@ -220,11 +239,13 @@ module _ (sig : Sig) (has : HasOps sig) (p : Pattern) (formed : IsFormed sig p) 
 
   -- ---- brackets
 
-  fits-operand : (room : ℕ) (a : Operand) → IsSoundOperand sig p a → operand_depth a ≤ room → Fits room (operand_spelling sig a)
+  fits-operand : (room : ℕ) (a : Operand) → IsSoundOperand sig p a → operand_depth a ≤ room
+      → Fits room (operand_spelling sig a)
   fits-operand room (var x) h few = variable-fits room (piece x)
   fits-operand room (ground t) h few = Fits-term_spelling sig has t room h.formed few
 
-  fits-amount : (room : ℕ) (m : cond.Amount) → IsSoundAmount sig p m → amount_depth m ≤ room → FitsAmount room (amount_spelling sig m)
+  fits-amount : (room : ℕ) (m : cond.Amount) → IsSoundAmount sig p m → amount_depth m ≤ room
+      → FitsAmount room (amount_spelling sig m)
   fits-amount room (fixed n) h few = (number-written n h).writes.are_digits
   fits-amount zero (count a) h few = absurd (omega arith)
   fits-amount (suc room) (count a) h few = fits-operand room a h (omega arith)
@@ -240,32 +261,46 @@ module _ (sig : Sig) (has : HasOps sig) (p : Pattern) (formed : IsFormed sig p) 
   some-alternative (more_conds c cs) h = tt
 
   mutual
-    fits-literal : (room : ℕ) (c : Cond) → IsChecked sig p c → literal_depth c ≤ room → FitsLiteral room (literal_spelling sig c)
-    fits-literal room (amounts m s n) h few = (fits-amount room m h.0 (omega arith), fits-amount room n h.1 (omega arith))
-    fits-literal (suc room) (cond.same a b) h few = (fits-operand room a h.0 (omega arith), fits-operand room b h.1 (omega arith))
-    fits-literal (suc room) (less a b) h few = (fits-operand room a h.0.0 (omega arith), fits-operand room b h.1.0 (omega arith))
-    fits-literal (suc room) (free a b) h few = (fits-operand room a h.0 (omega arith), fits-operand room b h.1 (omega arith))
+    fits-literal : (room : ℕ) (c : Cond) → IsChecked sig p c → literal_depth c ≤ room
+        → FitsLiteral room (literal_spelling sig c)
+    fits-literal room (amounts m s n) h few =
+        (fits-amount room m h.0 (omega arith), fits-amount room n h.1 (omega arith))
+    fits-literal (suc room) (cond.same a b) h few =
+        (fits-operand room a h.0 (omega arith), fits-operand room b h.1 (omega arith))
+    fits-literal (suc room) (less a b) h few =
+        (fits-operand room a h.0.0 (omega arith), fits-operand room b h.1.0 (omega arith))
+    fits-literal (suc room) (free a b) h few =
+        (fits-operand room a h.0 (omega arith), fits-operand room b h.1 (omega arith))
     fits-literal (suc room) (of_kind a k) h few = fits-operand room a h.0 (omega arith)
     fits-literal (suc room) (headed a f) h few = fits-operand room a h.0 (omega arith)
-    fits-literal (suc room) (negation (negation c)) h few = fits-twice room (literal_spelling sig c) (fits-literal room (negation c) h (omega arith))
+    fits-literal (suc room) (negation (negation c)) h few =
+        fits-twice room (literal_spelling sig c) (fits-literal room (negation c) h (omega arith))
     fits-literal zero (negation (negation c)) h few = absurd (omega arith)
     fits-literal room (negation c) h few = fits-negated room (literal_spelling sig c) refl (fits-literal room c h few)
     fits-literal (suc room) (all_of cs) h few = (tt, (some-literal cs h.0, fits-literals room cs h.1 (omega arith), tt))
     fits-literal (suc room) (any_of cs) h few = (some-alternative cs h.0, fits-alternatives room cs h.1 (omega arith))
     fits-literal zero _ h few = absurd (omega arith)
 
-    fits-literals : (room : ℕ) (cs : Conds) → AreChecked sig p cs → literals_depth cs ≤ room → LiteralsFit room (literal_spellings sig cs)
+    fits-literals : (room : ℕ) (cs : Conds) → AreChecked sig p cs → literals_depth cs ≤ room
+        → LiteralsFit room (literal_spellings sig cs)
     fits-literals room no_conds h few = tt
-    fits-literals room (more_conds c cs) h few = (fits-literal room c h.0 (omega arith), fits-literals room cs h.1 (omega arith))
+    fits-literals room (more_conds c cs) h few =
+        (fits-literal room c h.0 (omega arith), fits-literals room cs h.1 (omega arith))
 
-    fits-alternatives : (room : ℕ) (cs : Conds) → AreChecked sig p cs → alternatives_depth cs ≤ room → AlternativesFit room (alternative_spellings sig cs)
+    fits-alternatives : (room : ℕ) (cs : Conds) → AreChecked sig p cs → alternatives_depth cs ≤ room
+        → AlternativesFit room (alternative_spellings sig cs)
     fits-alternatives room no_conds h few = tt
-    fits-alternatives room (more_conds (all_of bs) cs) h few = (some-literal bs h.0.0, fits-literals room bs h.0.1 (omega arith), fits-alternatives room cs h.1 (omega arith))
-    fits-alternatives room (more_conds c cs) h few = (tt, (fits-literal room c h.0 (omega arith), tt), fits-alternatives room cs h.1 (omega arith))
+    fits-alternatives room (more_conds (all_of bs) cs) h few =
+        (some-literal bs h.0.0, fits-literals room bs h.0.1 (omega arith), fits-alternatives room cs h.1 (omega arith))
+    fits-alternatives room (more_conds c cs) h few =
+        (tt, (fits-literal room c h.0 (omega arith), tt), fits-alternatives room cs h.1 (omega arith))
 
   -- no more brackets stand open in it at once than it is deep
-  pub Fits-if_spelling : (o : Option Cond) → HasSoundCondition sig p o → IsShallowIf o → FitsIf (option_map (cond_spelling sig) o)
+  pub Fits-if_spelling : (o : Option Cond) → HasSoundCondition sig p o → IsShallowIf o
+      → FitsIf (option_map (cond_spelling sig) o)
   Fits-if_spelling None h few = tt
-  Fits-if_spelling (Some (all_of cs)) h few = (tt, (some-literal cs h.checked.0, fits-literals MAX_DEPTH cs h.checked.1 few, tt))
-  Fits-if_spelling (Some (any_of cs)) h few = (some-alternative cs h.checked.0, fits-alternatives MAX_DEPTH cs h.checked.1 few)
+  Fits-if_spelling (Some (all_of cs)) h few =
+      (tt, (some-literal cs h.checked.0, fits-literals MAX_DEPTH cs h.checked.1 few, tt))
+  Fits-if_spelling (Some (any_of cs)) h few =
+      (some-alternative cs h.checked.0, fits-alternatives MAX_DEPTH cs h.checked.1 few)
   Fits-if_spelling (Some c) h few = (tt, (tt, (fits-literal MAX_DEPTH c h.checked few, tt), tt))

@@ -8,7 +8,10 @@ use Rattle.mp_pattern.specs.CondTree as cond
 use Rattle.mp_syntax.specs.declared.condition_tree.Measure.TheVariants.{Count, Size}
 use Rattle.mp_syntax.specs.declared.condition_tree.Relation.TheVariants.{Same, Less, Free}
 use Rattle.mp_syntax.specs.declared.condition_tree.Property.TheVariants.{Kind, Head}
-use Rattle.mp_syntax.specs.Syntax.{Wildcard, Tree, Symbol, Apply, InfixOf, Wild, Optional, Variable, Trees, no_trees, more_trees, Amount, Number, Measured, Atom, Compare, Relate, Test, Literal, AtomOf, Bracketed, Literals, no_literals, more_literals, Condition, no_alternatives, more_alternatives}
+use Rattle.mp_syntax.specs.Syntax.{Wildcard, Tree, Symbol, Apply, InfixOf, Wild, Optional, Variable, Trees, no_trees}
+use Rattle.mp_syntax.specs.Syntax.{more_trees, Amount, Number, Measured, Atom, Compare, Relate, Test, Literal, AtomOf}
+use Rattle.mp_syntax.specs.Syntax.{Bracketed, Literals, no_literals, more_literals, Condition, no_alternatives}
+use Rattle.mp_syntax.specs.Syntax.{more_alternatives}
 use Rattle.mp_text.specs.Names.{number_of}
 use Rattle.mp_text.specs.Build.{op_number, sign_number, kind_number, variable_of}
 use Rattle.mp_text.specs.Conditions.{sense_of, joined}
@@ -27,7 +30,8 @@ module _ (sig : Sig) where
     pub SpellsTerm : Tree → term.Tree → Type 0
     SpellsTerm (Symbol w) (term.symbol n) = w.text ≡ n
     SpellsTerm (Apply g args) (term.app f ts) = (op_number sig g.text ≡ Some f) × SpellTerms args ts
-    SpellsTerm (InfixOf opened sign operands) (term.app f ts) = (sign_number sig sign.text ≡ Some f) × SpellTerms operands ts
+    SpellsTerm (InfixOf opened sign operands) (term.app f ts) =
+        (sign_number sig sign.text ≡ Some f) × SpellTerms operands ts
     SpellsTerm _ _ = ⊥
 
     pub SpellTerms : Trees → term.Trees → Type 0
@@ -49,10 +53,12 @@ module _ (sig : Sig) where
     pub SpellsPattern : Tree → pattern.Pattern → Type 0
     SpellsPattern (Symbol w) (pattern.symbol_pattern n) = w.text ≡ n
     SpellsPattern (Apply g args) (pattern.app_pattern f ps) = (op_number sig g.text ≡ Some f) × SpellPatterns args ps
-    SpellsPattern (InfixOf opened sign operands) (pattern.app_pattern f ps) = (sign_number sig sign.text ≡ Some f) × SpellPatterns operands ps
+    SpellsPattern (InfixOf opened sign operands) (pattern.app_pattern f ps) =
+        (sign_number sig sign.text ≡ Some f) × SpellPatterns operands ps
     SpellsPattern (Wild w) (pattern.wild_pattern (pattern.optional t) x) = ⊥
     SpellsPattern (Wild w) (pattern.wild_pattern v x) = SpellsWildcard w v x
-    SpellsPattern (Optional w [] e) (pattern.wild_pattern (pattern.optional t) x) = SpellsWildcard w (pattern.optional t) x × SpellsTerm e t
+    SpellsPattern (Optional w [] e) (pattern.wild_pattern (pattern.optional t) x) =
+        SpellsWildcard w (pattern.optional t) x × SpellsTerm e t
     SpellsPattern _ _ = ⊥
 
     pub SpellPatterns : Trees → pattern.Patterns → Type 0
@@ -91,7 +97,8 @@ module _ (sig : Sig) where
     SpellsLiteral (AtomOf false a) c = SpellsAtom a c
     SpellsLiteral (AtomOf true a) (cond.negation c) = SpellsAtom a c
     SpellsLiteral (Bracketed false d) c = (cs : cond.Conds) × (joined cond.any_of cs ≡ c) × SpellAlternatives d cs
-    SpellsLiteral (Bracketed true d) (cond.negation c) = (cs : cond.Conds) × (joined cond.any_of cs ≡ c) × SpellAlternatives d cs
+    SpellsLiteral (Bracketed true d) (cond.negation c) =
+        (cs : cond.Conds) × (joined cond.any_of cs ≡ c) × SpellAlternatives d cs
     SpellsLiteral _ _ = ⊥
 
     pub SpellLiterals : Literals → cond.Conds → Type 0
@@ -101,7 +108,8 @@ module _ (sig : Sig) where
 
     pub SpellAlternatives : Condition → cond.Conds → Type 0
     SpellAlternatives no_alternatives cond.no_conds = Unit {0}
-    SpellAlternatives (more_alternatives ls d) (cond.more_conds c cs) = ((bs : cond.Conds) × (joined cond.all_of bs ≡ c) × SpellLiterals ls bs) × SpellAlternatives d cs
+    SpellAlternatives (more_alternatives ls d) (cond.more_conds c cs) =
+        ((bs : cond.Conds) × (joined cond.all_of bs ≡ c) × SpellLiterals ls bs) × SpellAlternatives d cs
     SpellAlternatives _ _ = ⊥
 
   -- a whole condition

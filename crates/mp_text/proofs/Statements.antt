@@ -1,12 +1,14 @@
 -- What holds of statements without faults, statement by statement: their rules, their subjects and the names of both.
-use Rattle.std.proofs.Common.{◌≡◌, ◌≤◌, ◌<◌, ℕ, true, false, ◌||◌, List, [], ◌∷◌, ◌++◌, length, Option, append-nil, append_assoc, length-append, refl, sym, ap, subst, arith}
+use Rattle.std.proofs.Common.{◌≡◌, ◌≤◌, ◌<◌, ℕ, true, false, ◌||◌, List, [], ◌∷◌, ◌++◌, length, Option, append-nil}
+use Rattle.std.proofs.Common.{append_assoc, length-append, refl, sym, ap, subst, arith}
 use Rattle.std.specs.List.{AllByRecursion}
 use Rattle.mp_term.specs.Signature.{Sig}
 use Rattle.mp_term.specs.Names.{are_distinct}
 use Rattle.mp_term.proofs.ListLaws.{all-append}
 use Rattle.mp_pattern.specs.declared.limits.TheConstants.{MAX_RULES, MAX_SUBJECTS}
 use Rattle.mp_pattern.specs.Admission.{Rule}
-use Rattle.mp_syntax.specs.Syntax.{Spot, Tree, Condition, Statement, OpOf, KindOf, RuleOf, SubjectOf, FitsStatement, AreStatements, StatementHasNames, StatementsHaveNames}
+use Rattle.mp_syntax.specs.Syntax.{Spot, Tree, Condition, Statement, OpOf, KindOf, RuleOf, SubjectOf, FitsStatement}
+use Rattle.mp_syntax.specs.Syntax.{AreStatements, StatementHasNames, StatementsHaveNames}
 use Rattle.mp_text.specs.declared.fault.TextFault.{TextFault}
 use Rattle.mp_text.specs.Subject.{Subject}
 use Rattle.mp_text.specs.Names.{is_among, rule_names, subject_names}
@@ -32,47 +34,75 @@ all-IsRead [] names fits = tt
 all-IsRead (s ∷ ss) names fits = (record { names = names.0; fits = fits.0 }, all-IsRead ss names.1 fits.1)
 
 -- what a statement without faults keeps, and holds before the statements, holds behind them
-module _ (rule : List Statement → Statement → List TextFault) (I : List Statement → Type 0) (step : (earlier : List Statement) (s : Statement) → IsRead s → rule earlier s ≡ [] → I earlier → I (earlier ++ s ∷ [])) where
-  pub holds-behind : (earlier ss : List Statement) → AllByRecursion IsRead ss → faults_by rule earlier ss ≡ [] → I earlier → I (earlier ++ ss)
+module _ (rule : List Statement → Statement → List TextFault) (I : List Statement → Type 0)
+    (step : (earlier : List Statement) (s : Statement) → IsRead s → rule earlier s ≡ [] → I earlier
+    → I (earlier ++ s ∷ [])) where
+  pub holds-behind : (earlier ss : List Statement) → AllByRecursion IsRead ss → faults_by rule earlier ss ≡ []
+      → I earlier → I (earlier ++ ss)
   holds-behind earlier [] read h i = subst I (sym (append-nil earlier)) i
   holds-behind earlier (s ∷ ss) read h i =
       let p = nil-append (rule earlier s) (faults_by rule (earlier ++ s ∷ []) ss) h in
-      subst I (append_assoc earlier (s ∷ []) ss) (holds-behind (earlier ++ s ∷ []) ss read.1 p.1 (step earlier s read.0 p.0 i))
+      subst I (append_assoc earlier (s ∷ []) ss)
+      (holds-behind (earlier ++ s ∷ []) ss read.1 p.1 (step earlier s read.0 p.0 i))
 
 -- ---- rules and subjects
 
 module _ (sig : Sig) (R : Rule → Type 0) (S : Subject → Type 0)
-    (rule-of : (name : Spot) (p : Tree) (c : Option Condition) → IsRead (RuleOf name p c) → (is_large_pattern p || has_large_condition c) ≡ false → rule_faults sig p c ≡ [] → R (rule_of sig name p c))
-    (subject-of : (name : Spot) (t : Tree) → IsRead (SubjectOf name t) → is_large_term t ≡ false → term_faults sig t ≡ [] → S (subject_of sig name t))
+    (rule-of : (name : Spot) (p : Tree) (c : Option Condition) → IsRead (RuleOf name p c)
+    → (is_large_pattern p || has_large_condition c) ≡ false → rule_faults sig p c ≡ [] → R (rule_of sig name p c))
+    (subject-of : (name : Spot) (t : Tree) → IsRead (SubjectOf name t) → is_large_term t ≡ false
+    → term_faults sig t ≡ [] → S (subject_of sig name t))
   where
     -- rules and subjects of which the facts hold
     record Hold (rules : List Rule) (subjects : List Subject) : Type 0 where
       pub rules_hold : AllByRecursion R rules
       pub subjects_hold : AllByRecursion S subjects
 
-    hold-statement : (earlier : List Statement) (s : Statement) → IsRead s → statement_faults sig earlier s ≡ [] → Hold (rules_of sig (s ∷ [])) (subjects_of sig (s ∷ []))
+    hold-statement : (earlier : List Statement) (s : Statement) → IsRead s → statement_faults sig earlier s ≡ []
+        → Hold (rules_of sig (s ∷ [])) (subjects_of sig (s ∷ []))
     hold-statement earlier (OpOf name least more flags) read h = record { rules_hold = tt; subjects_hold = tt }
     hold-statement earlier (KindOf name members) read h = record { rules_hold = tt; subjects_hold = tt }
     hold-statement earlier (RuleOf name p c) read h =
         let large = is_large_pattern p || has_large_condition c in
         let q = nil-append (name_faults MAX_RULES (rule_names earlier) large name) (rule_faults sig p c) h in
-        record { rules_hold = (rule-of name p c read (named-by MAX_RULES (rule_names earlier) large name q.0).small q.1, tt); subjects_hold = tt }
+        record {
+          rules_hold = (
+            rule-of name p c read
+                (named-by MAX_RULES (rule_names earlier) large name q.0).small q.1,
+            tt,
+          );
+          subjects_hold = tt;
+        }
     hold-statement earlier (SubjectOf name t) read h =
-        let q = nil-append (name_faults MAX_SUBJECTS (subject_names earlier) (is_large_term t) name) (term_faults sig t) h in
-        record { rules_hold = tt; subjects_hold = (subject-of name t read (named-by MAX_SUBJECTS (subject_names earlier) (is_large_term t) name q.0).small q.1, tt) }
+        let q = nil-append (name_faults MAX_SUBJECTS (subject_names earlier) (is_large_term t) name)
+        (term_faults sig t) h in
+        record {
+          rules_hold = tt;
+          subjects_hold = (
+            subject-of name t read (named-by MAX_SUBJECTS (subject_names earlier) (is_large_term t) name q.0).small
+                q.1,
+            tt,
+          );
+        }
 
-    hold-behind : (earlier : List Statement) (s : Statement) → IsRead s → statement_faults sig earlier s ≡ [] → Hold (rules_of sig earlier) (subjects_of sig earlier) → Hold (rules_of sig (earlier ++ s ∷ [])) (subjects_of sig (earlier ++ s ∷ []))
+    hold-behind : (earlier : List Statement) (s : Statement) → IsRead s → statement_faults sig earlier s ≡ []
+        → Hold (rules_of sig earlier) (subjects_of sig earlier)
+        → Hold (rules_of sig (earlier ++ s ∷ [])) (subjects_of sig (earlier ++ s ∷ []))
     hold-behind earlier s read h i =
         let own = hold-statement earlier s read h in
         record {
-          rules_hold = subst (AllByRecursion R) (sym (rules_of-append sig earlier (s ∷ []))) (all-append R (rules_of sig earlier) (rules_of sig (s ∷ [])) i.rules_hold own.rules_hold);
-          subjects_hold = subst (AllByRecursion S) (sym (subjects_of-append sig earlier (s ∷ []))) (all-append S (subjects_of sig earlier) (subjects_of sig (s ∷ [])) i.subjects_hold own.subjects_hold);
+          rules_hold = subst (AllByRecursion R) (sym (rules_of-append sig earlier (s ∷ [])))
+              (all-append R (rules_of sig earlier) (rules_of sig (s ∷ [])) i.rules_hold own.rules_hold);
+          subjects_hold = subst (AllByRecursion S) (sym (subjects_of-append sig earlier (s ∷ [])))
+              (all-append S (subjects_of sig earlier) (subjects_of sig (s ∷ [])) i.subjects_hold own.subjects_hold);
         }
 
     -- the facts hold of the rules and subjects of statements without faults
-    pub all-rules_of : (ss : List Statement) → AllByRecursion IsRead ss → faults_by (statement_faults sig) [] ss ≡ [] → AllByRecursion R (rules_of sig ss) × AllByRecursion S (subjects_of sig ss)
+    pub all-rules_of : (ss : List Statement) → AllByRecursion IsRead ss → faults_by (statement_faults sig) [] ss ≡ []
+        → AllByRecursion R (rules_of sig ss) × AllByRecursion S (subjects_of sig ss)
     all-rules_of ss read h =
-        let all = holds-behind (statement_faults sig) (λ ss. Hold (rules_of sig ss) (subjects_of sig ss)) hold-behind [] ss read h (record { rules_hold = tt; subjects_hold = tt }) in
+        let all = holds-behind (statement_faults sig) (λ ss. Hold (rules_of sig ss) (subjects_of sig ss)) hold-behind
+        [] ss read h (record { rules_hold = tt; subjects_hold = tt }) in
         (all.rules_hold, all.subjects_hold)
 
 -- ---- the names of statements
@@ -98,43 +128,60 @@ pub record Good (most : ℕ) (names : List (List ℕ)) : Type 0 where
   pub distinct : are_distinct names ≡ true
   pub few : length names ≤ most
 
-good-push : (most : ℕ) (names : List (List ℕ)) (name : List ℕ) → Good most names → is_among name names ≡ false → length names < most → Good most (names ++ name ∷ [])
-good-push most names name g other few = record { distinct = are_distinct-push names name g.distinct other; few = omega (arith, length-append names (name ∷ [])) }
+good-push : (most : ℕ) (names : List (List ℕ)) (name : List ℕ) → Good most names → is_among name names ≡ false
+    → length names < most → Good most (names ++ name ∷ [])
+good-push most names name g other few = record {
+  distinct = are_distinct-push names name g.distinct other;
+  few = omega (arith, length-append names (name ∷ []));
+}
 
 module _ (sig : Sig) where
-  good-rule : (earlier : List Statement) (s : Statement) → IsRead s → statement_faults sig earlier s ≡ [] → Good MAX_RULES (rule_names earlier) → Good MAX_RULES (rule_names (earlier ++ s ∷ []))
+  good-rule : (earlier : List Statement) (s : Statement) → IsRead s → statement_faults sig earlier s ≡ []
+      → Good MAX_RULES (rule_names earlier) → Good MAX_RULES (rule_names (earlier ++ s ∷ []))
   good-rule earlier s read h g = subst (Good MAX_RULES) (sym (rule_names-append earlier (s ∷ []))) (by_sort s h)
     where
       same : Good MAX_RULES (rule_names earlier ++ [])
       same = subst (Good MAX_RULES) (sym (append-nil (rule_names earlier))) g
 
-      by_sort : (s : Statement) → statement_faults sig earlier s ≡ [] → Good MAX_RULES (rule_names earlier ++ rule_names (s ∷ []))
+      by_sort : (s : Statement) → statement_faults sig earlier s ≡ []
+          → Good MAX_RULES (rule_names earlier ++ rule_names (s ∷ []))
       by_sort (OpOf name least more flags) h = same
       by_sort (KindOf name members) h = same
       by_sort (RuleOf name p c) h =
           let large = is_large_pattern p || has_large_condition c in
-          let n = named-by MAX_RULES (rule_names earlier) large name (nil-append (name_faults MAX_RULES (rule_names earlier) large name) (rule_faults sig p c) h).0 in
+          let n = named-by MAX_RULES (rule_names earlier) large name
+          (nil-append (name_faults MAX_RULES (rule_names earlier) large name) (rule_faults sig p c) h).0 in
           good-push MAX_RULES (rule_names earlier) name.text g n.other n.few
       by_sort (SubjectOf name t) h = same
 
-  good-subject : (earlier : List Statement) (s : Statement) → IsRead s → statement_faults sig earlier s ≡ [] → Good MAX_SUBJECTS (subject_names earlier) → Good MAX_SUBJECTS (subject_names (earlier ++ s ∷ []))
-  good-subject earlier s read h g = subst (Good MAX_SUBJECTS) (sym (subject_names-append earlier (s ∷ []))) (by_sort s h)
+  good-subject : (earlier : List Statement) (s : Statement) → IsRead s → statement_faults sig earlier s ≡ []
+      → Good MAX_SUBJECTS (subject_names earlier) → Good MAX_SUBJECTS (subject_names (earlier ++ s ∷ []))
+  good-subject earlier s read h g = subst (Good MAX_SUBJECTS) (sym (subject_names-append earlier (s ∷ [])))
+      (by_sort s h)
     where
       same : Good MAX_SUBJECTS (subject_names earlier ++ [])
       same = subst (Good MAX_SUBJECTS) (sym (append-nil (subject_names earlier))) g
 
-      by_sort : (s : Statement) → statement_faults sig earlier s ≡ [] → Good MAX_SUBJECTS (subject_names earlier ++ subject_names (s ∷ []))
+      by_sort : (s : Statement) → statement_faults sig earlier s ≡ []
+          → Good MAX_SUBJECTS (subject_names earlier ++ subject_names (s ∷ []))
       by_sort (OpOf name least more flags) h = same
       by_sort (KindOf name members) h = same
       by_sort (RuleOf name p c) h = same
       by_sort (SubjectOf name t) h =
-          let n = named-by MAX_SUBJECTS (subject_names earlier) (is_large_term t) name (nil-append (name_faults MAX_SUBJECTS (subject_names earlier) (is_large_term t) name) (term_faults sig t) h).0 in
+          let n = named-by MAX_SUBJECTS (subject_names earlier) (is_large_term t) name
+          (nil-append (name_faults MAX_SUBJECTS (subject_names earlier) (is_large_term t) name)
+          (term_faults sig t) h).0 in
           good-push MAX_SUBJECTS (subject_names earlier) name.text g n.other n.few
 
   -- the names of the rules of statements without faults
-  pub good-rules : (ss : List Statement) → AllByRecursion IsRead ss → faults_by (statement_faults sig) [] ss ≡ [] → Good MAX_RULES (rule_names ss)
-  good-rules ss read h = holds-behind (statement_faults sig) (λ ss. Good MAX_RULES (rule_names ss)) good-rule [] ss read h (record { distinct = refl; few = omega arith })
+  pub good-rules : (ss : List Statement) → AllByRecursion IsRead ss → faults_by (statement_faults sig) [] ss ≡ []
+      → Good MAX_RULES (rule_names ss)
+  good-rules ss read h = holds-behind (statement_faults sig) (λ ss. Good MAX_RULES (rule_names ss)) good-rule
+      [] ss read h (record { distinct = refl; few = omega arith })
 
   -- and those of the subjects
-  pub good-subjects : (ss : List Statement) → AllByRecursion IsRead ss → faults_by (statement_faults sig) [] ss ≡ [] → Good MAX_SUBJECTS (subject_names ss)
-  good-subjects ss read h = holds-behind (statement_faults sig) (λ ss. Good MAX_SUBJECTS (subject_names ss)) good-subject [] ss read h (record { distinct = refl; few = omega arith })
+  pub good-subjects : (ss : List Statement) → AllByRecursion IsRead ss → faults_by (statement_faults sig) [] ss ≡ []
+      → Good MAX_SUBJECTS (subject_names ss)
+  good-subjects ss read h = holds-behind (statement_faults sig)
+      (λ ss. Good MAX_SUBJECTS (subject_names ss)) good-subject [] ss read h
+      (record { distinct = refl; few = omega arith })

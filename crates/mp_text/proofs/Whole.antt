@@ -34,7 +34,8 @@ file_without-some [] f g h = (refl, cc)
 file_without-some (x ∷ xs) f g h = cc
 
 -- what is computed of some statements is their file
-computed-is : (bytes : List ℕ) (o : Option (List Statement)) (f : FileTree) → syntax_of bytes ≡ o → option_and_then checked_file o ≡ Some f → IsFileOf bytes f
+computed-is : (bytes : List ℕ) (o : Option (List Statement)) (f : FileTree) → syntax_of bytes ≡ o
+    → option_and_then checked_file o ≡ Some f → IsFileOf bytes f
 computed-is bytes None f e h = cc
 computed-is bytes (Some ss) f e h =
     let p = file_without-some (faults ss) (file_tree_of ss) f h in
@@ -43,7 +44,8 @@ computed-is bytes (Some ss) f e h =
 -- the file of the bytes is the one that is computed
 computed-of : (bytes : List ℕ) (f : FileTree) → IsFileOf bytes f → file_of bytes ≡ Some f
 computed-of bytes f h =
-    ap (option_and_then checked_file) ((syntax_of-exact bytes h.statements).0 h.syntax) ∙ checked_file-faultless h.statements h.faultless ∙ ap Some (sym h.file)
+    ap (option_and_then checked_file) ((syntax_of-exact bytes h.statements).0 h.syntax)
+    ∙ checked_file-faultless h.statements h.faultless ∙ ap Some (sym h.file)
 
 -- the bytes are a file exactly where it is computed from them
 pub file_of-exact : (bytes : List ℕ) (f : FileTree) → IsFileOf bytes f ↔ (file_of bytes ≡ Some f)
@@ -59,15 +61,18 @@ abbrev ok_statements : List Statement → Result (List Statement) Fault
 ok_statements ss = Ok ss
 
 -- what is computed is the fault
-fault-is : (bytes : List ℕ) (r : Result (List Statement) Fault) (t : TextFault) → reading bytes ≡ r → fault_in r ≡ Some t → IsFaultOf bytes t
-fault-is bytes (Err f) t e h = inr (λ ss k. ok_err ss f (sym (reading-only bytes ss k) ∙ e), some_same t unread_fault (sym h))
+fault-is : (bytes : List ℕ) (r : Result (List Statement) Fault) (t : TextFault) → reading bytes ≡ r
+    → fault_in r ≡ Some t → IsFaultOf bytes t
+fault-is bytes (Err f) t e h =
+    inr (λ ss k. ok_err ss f (sym (reading-only bytes ss k) ∙ e), some_same t unread_fault (sym h))
   where
     ok_err : (ss : List Statement) (f : Fault) → ok_statements ss ≡ Err f → ⊥
     ok_err ss f e = cc
 fault-is bytes (Ok ss) t e h = inl (ss, reading-found bytes ss e, h)
 
 -- the fault of no statements
-refused-in : (bytes : List ℕ) (r : Result (List Statement) Fault) → reading bytes ≡ r → IsRefused bytes → fault_in r ≡ Some unread_fault
+refused-in : (bytes : List ℕ) (r : Result (List Statement) Fault) → reading bytes ≡ r → IsRefused bytes
+    → fault_in r ≡ Some unread_fault
 refused-in bytes (Ok ss) e h = absurd (h ss (reading-found bytes ss e))
 refused-in bytes (Err f) e h = refl
 
@@ -90,9 +95,18 @@ first-none [] h = refl
 first-none (x ∷ xs) h = absurd (none_some x (sym h))
 
 -- what is read without a fault is a file
-no_fault-in : (bytes : List ℕ) (r : Result (List Statement) Fault) → reading bytes ≡ r → fault_in r ≡ None → (f : FileTree) × IsFileOf bytes f
+no_fault-in : (bytes : List ℕ) (r : Result (List Statement) Fault) → reading bytes ≡ r → fault_in r ≡ None
+    → (f : FileTree) × IsFileOf bytes f
 no_fault-in bytes (Err f) e h = absurd (none_some unread_fault (sym h))
-no_fault-in bytes (Ok ss) e h = (file_tree_of ss, record { statements = ss; syntax = reading-found bytes ss e; faultless = first-none (faults ss) h; file = refl })
+no_fault-in bytes (Ok ss) e h = (
+  file_tree_of ss,
+  record {
+    statements = ss;
+    syntax = reading-found bytes ss e;
+    faultless = first-none (faults ss) h;
+    file = refl;
+  },
+)
 
 -- bytes without a fault are a file
 pub no_fault-of : (bytes : List ℕ) → fault_of bytes ≡ None → (f : FileTree) × IsFileOf bytes f
@@ -101,31 +115,36 @@ no_fault-of bytes h = no_fault-in bytes (reading bytes) refl h
 -- ---- what reading answers
 
 -- the file of the bytes is answered
-pub ReadGives-only : (bytes : List ℕ) (r : Result code.File TextError) → ReadGives bytes r → (f : FileTree) → IsFileOf bytes f → IsFileOrMemory r (λ g. g ≡ f)
+pub ReadGives-only : (bytes : List ℕ) (r : Result code.File TextError) → ReadGives bytes r → (f : FileTree)
+    → IsFileOf bytes f → IsFileOrMemory r (λ g. g ≡ f)
 ReadGives-only bytes (Ok g) h f file = same_file bytes (file_tree g) f h file
 ReadGives-only bytes (Err (Text t)) h f file = none_some t (sym (file-no_fault bytes f file) ∙ h)
 ReadGives-only bytes (Err Memory) h f file = tt
 
 -- a fault that is answered is the fault of the bytes
-pub ReadGives-fault : (bytes : List ℕ) (r : Result code.File TextError) → ReadGives bytes r → IfText r (λ t. IsFaultOf bytes t)
+pub ReadGives-fault : (bytes : List ℕ) (r : Result code.File TextError) → ReadGives bytes r
+    → IfText r (λ t. IsFaultOf bytes t)
 ReadGives-fault bytes (Ok f) h = tt
 ReadGives-fault bytes (Err (Text t)) h = fault-is bytes (reading bytes) t refl h
 ReadGives-fault bytes (Err Memory) h = tt
 
 -- the fault of the bytes is answered
-pub ReadGives-only_fault : (bytes : List ℕ) (r : Result code.File TextError) → ReadGives bytes r → (t : TextFault) → IsFaultOf bytes t → IsFaultOrMemory r (λ u. u ≡ t)
+pub ReadGives-only_fault : (bytes : List ℕ) (r : Result code.File TextError) → ReadGives bytes r → (t : TextFault)
+    → IsFaultOf bytes t → IsFaultOrMemory r (λ u. u ≡ t)
 ReadGives-only_fault bytes (Ok f) h t k = none_some t (sym (file-no_fault bytes (file_tree f) h) ∙ fault-of bytes t k)
 ReadGives-only_fault bytes (Err (Text u)) h t k = some_same u t (sym h ∙ fault-of bytes t k)
 ReadGives-only_fault bytes (Err Memory) h t k = tt
 
 -- the answer is the one that is computed
-pub ReadGives-computed : (bytes : List ℕ) (r : Result code.File TextError) → ReadGives bytes r → IsComputed r (file_of bytes) (fault_of bytes)
+pub ReadGives-computed : (bytes : List ℕ) (r : Result code.File TextError) → ReadGives bytes r
+    → IsComputed r (file_of bytes) (fault_of bytes)
 ReadGives-computed bytes (Ok f) h = (computed-of bytes (file_tree f) h, file-no_fault bytes (file_tree f) h)
 ReadGives-computed bytes (Err (Text t)) h = h
 ReadGives-computed bytes (Err Memory) h = tt
 
 -- what the statements give is what reading the bytes gives
-pub ReadGives-statements : (bytes : List ℕ) (ss : List Statement) (r : Result code.File TextError) → IsSyntaxOf bytes ss → Gives r (faults ss) (λ f. file_tree f ≡ file_tree_of ss) → ReadGives bytes r
+pub ReadGives-statements : (bytes : List ℕ) (ss : List Statement) (r : Result code.File TextError) → IsSyntaxOf bytes ss
+    → Gives r (faults ss) (λ f. file_tree f ≡ file_tree_of ss) → ReadGives bytes r
 ReadGives-statements bytes ss (Ok f) h g = record { statements = ss; syntax = h; faultless = g.0; file = g.1 }
 ReadGives-statements bytes ss (Err (Text t)) h g = ap fault_in (reading-only bytes ss h) ∙ g
 ReadGives-statements bytes ss (Err Memory) h g = tt

@@ -1,5 +1,6 @@
 -- A word that isn't long is the spelling of a name, and back, and a sign that isn't long that of a sign.
-use Rattle.std.proofs.Common.{◌≡◌, ◌≢◌, ℕ, ◌≤◌, Bool, true, false, ◌&&◌, ◌||◌, List, [], ◌∷◌, length, leb, refl, ◌∙◌, sym, arith, rules}
+use Rattle.std.proofs.Common.{◌≡◌, ◌≢◌, ℕ, ◌≤◌, Bool, true, false, ◌&&◌, ◌||◌, List, [], ◌∷◌, length, leb, refl, ◌∙◌}
+use Rattle.std.proofs.Common.{sym, arith, rules}
 use Rattle.std.specs.List.{list_all}
 use Rattle.std.specs.Prelude.{not, codes}
 use Rattle.std.proofs.lemmas.Slice.Eq.{bytes_eq-Decides}
@@ -39,7 +40,9 @@ some-item (b ∷ bs) h = search rules
 pub is_name-IsName : (word : List ℕ) → IsName word → is_name word ≡ true
 is_name-IsName word h =
     let small : length word ≤ MAX_NAME_BYTES = h.is_short in
-    and_from (leb 1 (length word) && leb (length word) MAX_NAME_BYTES) (list_all is_name_byte word) (and_from (leb 1 (length word)) (leb (length word) MAX_NAME_BYTES) (some-item word h.is_word.some) (search (rules, small))) (all-implied is_word_byte is_name_byte is_name_byte-word word h.is_word.bytes)
+    and_from (leb 1 (length word) && leb (length word) MAX_NAME_BYTES) (list_all is_name_byte word)
+    (and_from (leb 1 (length word)) (leb (length word) MAX_NAME_BYTES) (some-item word h.is_word.some)
+    (search (rules, small))) (all-implied is_word_byte is_name_byte is_name_byte-word word h.is_word.bytes)
 
 -- a byte of names is a byte of words
 word-is_name_byte : (b : ℕ) → is_name_byte b ≡ true → is_word_byte b ≡ true
@@ -55,7 +58,11 @@ IsName-is_name word h =
     let p = and_parts (leb 1 (length word) && leb (length word) MAX_NAME_BYTES) (list_all is_name_byte word) h in
     let q = and_parts (leb 1 (length word)) (leb (length word) MAX_NAME_BYTES) p.0 in
     record {
-      is_word = record { some = some-bytes word q.0; bytes = all-implied is_name_byte is_word_byte word-is_name_byte word p.1 };
+      is_word =
+          record {
+            some = some-bytes word q.0;
+            bytes = all-implied is_name_byte is_word_byte word-is_name_byte word p.1;
+          };
       is_short = leb-true (length word) MAX_NAME_BYTES q.1;
     }
 
@@ -71,5 +78,7 @@ not_arrow sign h = go (is_arrow sign) refl
 pub is_sign-IsInfixSign : (sign : List ℕ) → IsInfixSign sign → length sign ≤ 4 → is_sign sign ≡ true
 is_sign-IsInfixSign sign h short =
     and_from ((leb 1 (length sign) && leb (length sign) 4) && not (is_arrow sign)) (list_all is_sign_byte sign)
-    (and_from (leb 1 (length sign) && leb (length sign) 4) (not (is_arrow sign)) (and_from (leb 1 (length sign)) (leb (length sign) 4) (some-item sign h.is_sign.some) (search (rules, short))) (not_arrow sign h.no_arrow))
+    (and_from (leb 1 (length sign) && leb (length sign) 4) (not (is_arrow sign))
+    (and_from (leb 1 (length sign)) (leb (length sign) 4) (some-item sign h.is_sign.some) (search (rules, short)))
+    (not_arrow sign h.no_arrow))
     (all-implied tokens.is_sign_byte is_sign_byte (λ _ e. e) sign h.is_sign.bytes)

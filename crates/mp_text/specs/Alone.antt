@@ -38,7 +38,8 @@ pattern_alone_faults sig p = fault_if (is_large_pattern p) TooMany (start p) ++ 
 -- ---- values
 
 -- the bytes are a syntax tree without faults, which has this value
-pub record IsValueOf {S A : Type 0} (IsSyntax : List ℕ → S → Type 0) (faults : S → List TextFault) (value : S → A) (bytes : List ℕ) (v : A) : Type 0 where
+pub record IsValueOf {S A : Type 0} (IsSyntax : List ℕ → S → Type 0) (faults : S → List TextFault) (value : S → A)
+    (bytes : List ℕ) (v : A) : Type 0 where
   pub syntax_tree : S
   pub syntax : IsSyntax bytes syntax_tree
   pub faultless : faults syntax_tree ≡ []
@@ -58,7 +59,8 @@ IsPatternOf sig = IsValueOf IsExprOf (pattern_alone_faults sig) (pattern_of sig)
 
 -- the fault of the bytes: the first of the syntax tree that they are, or Unread where they are none
 abbrev pub IsFaultBy : {S : Type 0} → (List ℕ → S → Type 0) → (S → List TextFault) → List ℕ → TextFault → Type 0
-IsFaultBy {S = S} IsSyntax faults bytes f = ((s : S) × IsSyntax bytes s × (first (faults s) ≡ Some f)) ⊎ (((s : S) → IsSyntax bytes s → ⊥) × (f ≡ unread_fault))
+IsFaultBy {S = S} IsSyntax faults bytes f = ((s : S) × IsSyntax bytes s × (first (faults s) ≡ Some f))
+    ⊎ (((s : S) → IsSyntax bytes s → ⊥) × (f ≡ unread_fault))
 
 -- the bytes are no term, for this fault
 abbrev pub IsTermFaultOf : Sig → List ℕ → TextFault → Type 0
@@ -77,7 +79,8 @@ IsUnread (Err (Text f)) = f ≡ unread_fault
 IsUnread (Err Memory) = Unit {0}
 
 -- what is answered to the syntax tree that is read, or to its fault
-abbrev pub Answers : {S T A : Type 0} → (S → List TextFault) → (S → A) → (T → A) → Result S Fault → Result T TextError → Type 0
+abbrev pub Answers : {S T A : Type 0} → (S → List TextFault) → (S → A) → (T → A) → Result S Fault → Result T TextError
+    → Type 0
 Answers faults value view (Ok s) r = Gives r (faults s) (λ v. view v ≡ value s)
 Answers faults value view (Err f) r = IsUnread r
 

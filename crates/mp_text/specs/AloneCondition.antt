@@ -28,7 +28,8 @@ IsPlacedConditionOf bytes p = IsConditionOf bytes p.condition × StartsAt bytes 
 
 -- the faults of a condition alone: it is too large, at its first token; and its faults by token
 abbrev pub condition_alone_faults : Sig → Scope → PlacedCondition → List TextFault
-condition_alone_faults sig scope p = fault_if (is_large_condition p.condition) TooMany p.start ++ condition_faults sig scope p.condition
+condition_alone_faults sig scope p = fault_if (is_large_condition p.condition) TooMany p.start
+    ++ condition_faults sig scope p.condition
 
 -- what a condition stands for
 abbrev pub placed_cond_of : Sig → PlacedCondition → cond.Cond

@@ -1,5 +1,6 @@
 -- What the declarations of a file stand for, and its terms and patterns over a signature.
-use Rattle.std.specs.Prelude.{ℕ, ◌==◌, Bool, true, false, ◌&&◌, not, is_some, List, [], ◌∷◌, map, Option, Some, None, option_map, unwrap_or, position, if◌then◌else◌}
+use Rattle.std.specs.Prelude.{ℕ, ◌==◌, Bool, true, false, ◌&&◌, not, is_some, List, [], ◌∷◌, map, Option, Some, None}
+use Rattle.std.specs.Prelude.{option_map, unwrap_or, position, if◌then◌else◌}
 use Rattle.std.specs.Str.{bytes_eq}
 use Rattle.mp_term.specs.declared.signature.OpDecl.{OpDecl}
 use Rattle.mp_term.specs.Tree as term
@@ -7,14 +8,16 @@ use Rattle.mp_term.specs.Names.{name_set}
 use Rattle.mp_term.specs.Signature.{Sig, Kind, has_name, has_sign, kind_names}
 use Rattle.mp_term.specs.Normal.{normal}
 use Rattle.mp_pattern.specs.PatternTree as pattern
-use Rattle.mp_syntax.specs.Syntax.{Spot, Wildcard, Tree, Symbol, Apply, InfixOf, Wild, Variable, Trees, no_trees, more_trees, Flag, Statement, OpOf, KindOf, RuleOf, SubjectOf, Optional}
+use Rattle.mp_syntax.specs.Syntax.{Spot, Wildcard, Tree, Symbol, Apply, InfixOf, Wild, Variable, Trees, no_trees}
+use Rattle.mp_syntax.specs.Syntax.{more_trees, Flag, Statement, OpOf, KindOf, RuleOf, SubjectOf, Optional}
 use Rattle.mp_text.specs.Subject.{Subject}
 use Rattle.mp_text.specs.Flags.{says_assoc, says_comm, says_one, is_said, sign_spot}
 use Rattle.mp_text.specs.Names.{number_of}
 
 -- ---- signatures
 
--- op NAME LEAST FLAG ..; declares an operation of a fixed count, and op NAME LEAST+ FLAG ..; one that takes more arguments too
+-- op NAME LEAST FLAG ..; declares an operation of a fixed count, and op NAME LEAST+ FLAG ..; one that takes more
+-- arguments too
 abbrev pub op_decl : Spot → Spot → Bool → List Flag → OpDecl
 op_decl name least more flags = record {
   name = name.text;
@@ -91,7 +94,8 @@ module _ (sig : Sig) where
   abbrev pub shape_of : Wildcard → pattern.Wildcard
   shape_of w = kind_shape w.kind w.marks
 
-  -- A word is a symbol, a word before brackets the operation of that name, and a sign the operation of that sign. No checked term has a wildcard or a variable.
+  -- A word is a symbol, a word before brackets the operation of that name, and a sign the operation of that sign. No
+  -- checked term has a wildcard or a variable.
   abbrev mutual
     pub term_of : Tree → term.Tree
     term_of (Symbol w) = term.symbol w.text
@@ -105,7 +109,8 @@ module _ (sig : Sig) where
     terms_of no_trees = term.no_trees
     terms_of (more_trees t ts) = term.more_trees (term_of t) (terms_of ts)
 
-  -- the expression is a term, whose operations may have any number of arguments: it holds neither a wildcard nor a variable, and each of its operations is one of the signature's
+  -- the expression is a term, whose operations may have any number of arguments: it holds neither a wildcard nor a
+  -- variable, and each of its operations is one of the signature's
   abbrev mutual
     pub has_term : Tree → Bool
     has_term (Symbol w) = true
@@ -119,14 +124,17 @@ module _ (sig : Sig) where
     all_have_terms no_trees = true
     all_have_terms (more_trees t ts) = has_term t && all_have_terms ts
 
-  -- A word is a symbol, and an application that of its operation, as in a term. A wildcard has its variable, and a default its normal form. No checked pattern has a variable by itself.
+  -- A word is a symbol, and an application that of its operation, as in a term. A wildcard has its variable, and a
+  -- default its normal form. No checked pattern has a variable by itself.
   abbrev mutual
     pub pattern_of : Tree → pattern.Pattern
     pattern_of (Symbol w) = pattern.symbol_pattern w.text
     pattern_of (Apply f args) = pattern.app_pattern (head_number (op_number f.text)) (patterns_of args)
-    pattern_of (InfixOf opened sign operands) = pattern.app_pattern (head_number (sign_number sign.text)) (patterns_of operands)
+    pattern_of (InfixOf opened sign operands) =
+        pattern.app_pattern (head_number (sign_number sign.text)) (patterns_of operands)
     pattern_of (Wild w) = pattern.wild_pattern (shape_of w) (variable_of w.name)
-    pattern_of (Optional w others default) = pattern.wild_pattern (pattern.optional (normal sig (term_of default))) (variable_of w.name)
+    pattern_of (Optional w others default) =
+        pattern.wild_pattern (pattern.optional (normal sig (term_of default))) (variable_of w.name)
     pattern_of (Variable x) = pattern.symbol_pattern x.text
 
     pub patterns_of : Trees → pattern.Patterns

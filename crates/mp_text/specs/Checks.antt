@@ -1,21 +1,27 @@
 -- The checks of expressions and declarations: all faults that they find, in the order in which they count.
-use Rattle.std.specs.Prelude.{ℕ, ◌+◌, Bool, false, ◌||◌, not, List, [], ◌∷◌, ◌++◌, length, map, flat_map, Option, Some, None, is_some, is_none, option_and_then, slice_get, nat_le, nat_lt, if◌then◌else◌}
+use Rattle.std.specs.Prelude.{ℕ, ◌+◌, Bool, false, ◌||◌, not, List, [], ◌∷◌, ◌++◌, length, map, flat_map, Option, Some}
+use Rattle.std.specs.Prelude.{None, is_some, is_none, option_and_then, slice_get, nat_le, nat_lt, if◌then◌else◌}
 use Rattle.std.specs.List.{list_any}
 use Rattle.mp_term.specs.declared.signature.OpDecl.{OpDecl}
 use Rattle.mp_term.specs.declared.limits.TheConstants.{MAX_ARITY, MAX_OPS, MAX_KINDS, MAX_KIND_SYMBOLS}
 use Rattle.mp_term.specs.Signature.{Sig, allows, in_order, has_sign, kind_names}
-use Rattle.mp_pattern.specs.declared.limits.TheConstants.{MAX_PATTERN_NODES, MAX_DEFAULT_NODES, MAX_VARIABLES, MAX_OPERAND_NODES, MAX_TERM_NODES}
+use Rattle.mp_pattern.specs.declared.limits.TheConstants.{MAX_PATTERN_NODES, MAX_DEFAULT_NODES, MAX_VARIABLES}
+use Rattle.mp_pattern.specs.declared.limits.TheConstants.{MAX_OPERAND_NODES, MAX_TERM_NODES}
 use Rattle.mp_pattern.specs.PatternTree.{is_loose}
 use Rattle.mp_pattern.specs.SoundRule.{allows_patterns}
 use Rattle.mp_syntax.specs.declared.place.Place.{Place}
-use Rattle.mp_syntax.specs.Syntax.{Spot, Wildcard, Tree, Symbol, Apply, InfixOf, Wild, Variable, Trees, no_trees, more_trees, tree_list, Flag, Statement, OpOf, KindOf, RuleOf, SubjectOf, Optional}
+use Rattle.mp_syntax.specs.Syntax.{Spot, Wildcard, Tree, Symbol, Apply, InfixOf, Wild, Variable, Trees, no_trees}
+use Rattle.mp_syntax.specs.Syntax.{more_trees, tree_list, Flag, Statement, OpOf, KindOf, RuleOf, SubjectOf, Optional}
 use Rattle.mp_text.specs.declared.fault.TextKind.{TextKind}
-use Rattle.mp_text.specs.declared.fault.TextKind.TheVariants.{DuplicateName, TooMany, BadFlags, UnknownOp, BareOperation, UnknownKind, Arity, KindClash, LooseSequence, WildcardInTerm}
+use Rattle.mp_text.specs.declared.fault.TextKind.TheVariants.{DuplicateName, TooMany, BadFlags, UnknownOp}
+use Rattle.mp_text.specs.declared.fault.TextKind.TheVariants.{BareOperation, UnknownKind, Arity, KindClash}
+use Rattle.mp_text.specs.declared.fault.TextKind.TheVariants.{LooseSequence, WildcardInTerm}
 use Rattle.mp_text.specs.declared.fault.TextFault.{TextFault}
 use Rattle.mp_text.specs.Names.{is_among, number_of, variable_names}
 use Rattle.mp_text.specs.Flags.{some_flag_twice, sign_spot, is_long_sign}
 use Rattle.mp_text.specs.Wildcards.{PatternWildcard, without_default, with_default_form, pattern_wildcards, differs}
-use Rattle.mp_text.specs.Build.{op_number, sign_number, kind_number, marked_shape, pattern_of, op_decl, op_decls, sig_with}
+use Rattle.mp_text.specs.Build.{op_number, sign_number, kind_number, marked_shape, pattern_of, op_decl, op_decls}
+use Rattle.mp_text.specs.Build.{sig_with}
 
 -- ---- faults
 
@@ -59,7 +65,8 @@ abbrev mutual
 
 -- a pattern has more than MAX_PATTERN_NODES nodes or more than MAX_VARIABLES variables, or a default in it is large
 abbrev pub is_large_pattern : Tree → Bool
-is_large_pattern p = nat_lt MAX_PATTERN_NODES (nodes p) || (nat_lt MAX_VARIABLES (length (variable_names p)) || has_large_default p)
+is_large_pattern p = nat_lt MAX_PATTERN_NODES (nodes p)
+    || (nat_lt MAX_VARIABLES (length (variable_names p)) || has_large_default p)
 
 -- an operand of a condition has more than MAX_OPERAND_NODES nodes, or a default in it is large
 abbrev pub is_large_operand : Tree → Bool
@@ -120,12 +127,16 @@ module _ (sig : Sig) where
   abbrev pub term_wildcard_faults : Wildcard → List TextFault
   term_wildcard_faults w = fault_if (kind_unknown w.kind) UnknownKind w.place ++ fault_at WildcardInTerm w.place ∷ []
 
-  -- the faults of a term, by token: a variable stands in none; where a sign stands between operands, the first one stands before it
+  -- the faults of a term, by token: a variable stands in none; where a sign stands between operands, the first one
+  -- stands before it
   abbrev mutual
     pub term_faults : Tree → List TextFault
     term_faults (Symbol w) = symbol_faults w
-    term_faults (Apply f args) = head_faults (allows (length (tree_list args))) f (op_named f.text) ++ all_term_faults args
-    term_faults (InfixOf opened sign operands) = arity_faults (allows (length (tree_list operands))) opened (op_signed sign.text) ++ term_operand_faults (sign_faults sign (op_signed sign.text)) operands
+    term_faults (Apply f args) = head_faults (allows (length (tree_list args))) f (op_named f.text)
+        ++ all_term_faults args
+    term_faults (InfixOf opened sign operands) =
+        arity_faults (allows (length (tree_list operands))) opened (op_signed sign.text)
+        ++ term_operand_faults (sign_faults sign (op_signed sign.text)) operands
     term_faults (Wild w) = term_wildcard_faults w
     term_faults (Optional w others default) = flat_map term_wildcard_faults (w ∷ others) ++ term_faults default
     term_faults (Variable x) = fault_at WildcardInTerm x.place ∷ []
@@ -138,13 +149,16 @@ module _ (sig : Sig) where
     all_term_faults no_trees = []
     all_term_faults (more_trees t ts) = term_faults t ++ all_term_faults ts
 
-  -- the faults of a default, by token: each further wildcard of its chain stands in a term, and so does what stands behind them
+  -- the faults of a default, by token: each further wildcard of its chain stands in a term, and so does what stands
+  -- behind them
   abbrev pub default_faults : List Wildcard → Tree → List TextFault
   default_faults others default = flat_map term_wildcard_faults others ++ term_faults default
 
-  -- the faults of a wildcard behind others: no kind has its kind's name; one of the others has its name, and another class, kind or default
+  -- the faults of a wildcard behind others: no kind has its kind's name; one of the others has its name, and another
+  -- class, kind or default
   abbrev pub wildcard_faults : List PatternWildcard → PatternWildcard → List TextFault
-  wildcard_faults before w = fault_if (kind_unknown w.wildcard.kind) UnknownKind w.wildcard.place ++ fault_if (list_any (differs w) before) KindClash w.wildcard.place
+  wildcard_faults before w = fault_if (kind_unknown w.wildcard.kind) UnknownKind w.wildcard.place
+      ++ fault_if (list_any (differs w) before) KindClash w.wildcard.place
 
   -- the operation allows a number of arguments that the patterns of these expressions may take
   abbrev pub allows_args : Trees → OpDecl → Bool
@@ -154,49 +168,63 @@ module _ (sig : Sig) where
   abbrev mutual
     pub pattern_faults : List PatternWildcard → Tree → List TextFault
     pattern_faults before (Symbol w) = symbol_faults w
-    pattern_faults before (Apply f args) = head_faults (allows_args args) f (op_named f.text) ++ all_pattern_faults before args
-    pattern_faults before (InfixOf opened sign operands) = arity_faults (allows_args operands) opened (op_signed sign.text) ++ pattern_operand_faults before (sign_faults sign (op_signed sign.text)) operands
+    pattern_faults before (Apply f args) = head_faults (allows_args args) f (op_named f.text)
+        ++ all_pattern_faults before args
+    pattern_faults before (InfixOf opened sign operands) =
+        arity_faults (allows_args operands) opened (op_signed sign.text)
+        ++ pattern_operand_faults before (sign_faults sign (op_signed sign.text)) operands
     pattern_faults before (Wild w) = wildcard_faults before (without_default w)
-    pattern_faults before (Optional w others default) = wildcard_faults before (with_default_form sig w others default) ++ default_faults others default
+    pattern_faults before (Optional w others default) =
+        wildcard_faults before (with_default_form sig w others default) ++ default_faults others default
     pattern_faults before (Variable x) = fault_at WildcardInTerm x.place ∷ []
 
     pub pattern_operand_faults : List PatternWildcard → List TextFault → Trees → List TextFault
     pattern_operand_faults before at_sign no_trees = at_sign
-    pattern_operand_faults before at_sign (more_trees t ts) = pattern_faults before t ++ (at_sign ++ all_pattern_faults (before ++ pattern_wildcards sig t) ts)
+    pattern_operand_faults before at_sign (more_trees t ts) =
+        pattern_faults before t ++ (at_sign ++ all_pattern_faults (before ++ pattern_wildcards sig t) ts)
 
     pub all_pattern_faults : List PatternWildcard → Trees → List TextFault
     all_pattern_faults before no_trees = []
-    all_pattern_faults before (more_trees t ts) = pattern_faults before t ++ all_pattern_faults (before ++ pattern_wildcards sig t) ts
+    all_pattern_faults before (more_trees t ts) =
+        pattern_faults before t ++ all_pattern_faults (before ++ pattern_wildcards sig t) ts
 
-  -- The faults of a whole pattern, which is no plus, star or optional wildcard. One that is has no other fault at its token: it has no kind, and stands behind no other.
+  -- The faults of a whole pattern, which is no plus, star or optional wildcard. One that is has no other fault at its
+  -- token: it has no kind, and stands behind no other.
   abbrev pub whole_pattern_faults : Tree → List TextFault
   whole_pattern_faults p = loose_faults p ++ pattern_faults [] p
 
 -- ---- statements
 
--- The faults at the name of a statement: an earlier one of its sort has the name; there are as many earlier ones as may be; the statement is too large.
+-- The faults at the name of a statement: an earlier one of its sort has the name; there are as many earlier ones as may
+-- be; the statement is too large.
 abbrev pub name_faults : ℕ → List (List ℕ) → Bool → Spot → List TextFault
-name_faults most earlier is_large name = fault_if (is_among name.text earlier) DuplicateName name.place ++ fault_if (nat_le most (length earlier) || is_large) TooMany name.place
+name_faults most earlier is_large name = fault_if (is_among name.text earlier) DuplicateName name.place
+    ++ fault_if (nat_le most (length earlier) || is_large) TooMany name.place
 
 -- a flag stands twice, the sign is too long, or the declaration isn't in order
 abbrev pub has_bad_flags : Spot → Spot → Bool → List Flag → Bool
-has_bad_flags name least more flags = some_flag_twice flags || (is_long_sign (sign_spot flags) || not (in_order (op_decl name least more flags)))
+has_bad_flags name least more flags = some_flag_twice flags
+    || (is_long_sign (sign_spot flags) || not (in_order (op_decl name least more flags)))
 
 -- an earlier operation has the sign
 abbrev pub held_sign_faults : List OpDecl → Option Spot → List TextFault
 held_sign_faults earlier None = []
 held_sign_faults earlier (Some sign) = fault_if (list_any (has_sign sign.text) earlier) DuplicateName sign.place
 
--- The faults of a declaration behind earlier operations: at its name, at its number, which is at most MAX_ARITY, and at its sign. There are at most MAX_OPS operations.
+-- The faults of a declaration behind earlier operations: at its name, at its number, which is at most MAX_ARITY, and at
+-- its sign. There are at most MAX_OPS operations.
 abbrev pub op_faults : List OpDecl → Spot → Spot → Bool → List Flag → List TextFault
 op_faults earlier name least more flags =
     name_faults MAX_OPS (map (λ d. d.name) earlier) false name
     ++ (fault_if (has_bad_flags name least more flags) BadFlags name.place
-    ++ (fault_if (nat_lt MAX_ARITY (number_of least.text)) TooMany least.place ++ held_sign_faults earlier (sign_spot flags)))
+    ++ (fault_if (nat_lt MAX_ARITY (number_of least.text)) TooMany least.place
+    ++ held_sign_faults earlier (sign_spot flags)))
 
--- The faults of a kind behind what is declared: at its name, and at each member. There are at most MAX_KINDS kinds, with the numbers, and at most MAX_KIND_SYMBOLS members are written.
+-- The faults of a kind behind what is declared: at its name, and at each member. There are at most MAX_KINDS kinds,
+-- with the numbers, and at most MAX_KIND_SYMBOLS members are written.
 abbrev pub kind_faults : Sig → Spot → List Spot → List TextFault
-kind_faults sig name members = name_faults MAX_KINDS (kind_names sig) (nat_lt MAX_KIND_SYMBOLS (length members)) name ++ flat_map (symbol_faults sig) members
+kind_faults sig name members = name_faults MAX_KINDS (kind_names sig) (nat_lt MAX_KIND_SYMBOLS (length members)) name
+    ++ flat_map (symbol_faults sig) members
 
 -- the faults of a statement that declares an operation, behind earlier statements
 abbrev pub op_statement_faults : List Statement → Statement → List TextFault

@@ -7,8 +7,11 @@ use Rattle.mp_syntax.specs.declared.condition_tree.Relation.{Relation}
 use Rattle.mp_syntax.specs.declared.condition_tree.Relation.TheVariants.{Same, Less, Free}
 use Rattle.mp_syntax.specs.declared.condition_tree.Property.{Property}
 use Rattle.mp_syntax.specs.declared.condition_tree.Property.TheVariants.{Kind, Head}
-use Rattle.mp_syntax.specs.Syntax.{Spot, Tree, Variable, Amount, Number, Measured, Atom, Compare, Relate, Test, Literal, AtomOf, Bracketed, Literals, no_literals, more_literals, Condition, no_alternatives, more_alternatives}
-use Rattle.mp_text.specs.declared.fault.TextKind.TheVariants.{TooMany, UnknownOp, UnknownKind, UnboundVariable, ConditionKind}
+use Rattle.mp_syntax.specs.Syntax.{Spot, Tree, Variable, Amount, Number, Measured, Atom, Compare, Relate, Test, Literal}
+use Rattle.mp_syntax.specs.Syntax.{AtomOf, Bracketed, Literals, no_literals, more_literals, Condition, no_alternatives}
+use Rattle.mp_syntax.specs.Syntax.{more_alternatives}
+use Rattle.mp_text.specs.declared.fault.TextKind.TheVariants.{TooMany, UnknownOp, UnknownKind, UnboundVariable}
+use Rattle.mp_text.specs.declared.fault.TextKind.TheVariants.{ConditionKind}
 use Rattle.mp_text.specs.declared.fault.TextFault.{TextFault}
 use Rattle.mp_text.specs.Names.{number_of}
 use Rattle.mp_text.specs.Build.{op_number, kind_number}

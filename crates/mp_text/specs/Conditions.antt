@@ -13,7 +13,9 @@ use Rattle.mp_syntax.specs.declared.condition_tree.Relation.{Relation}
 use Rattle.mp_syntax.specs.declared.condition_tree.Relation.TheVariants.{Same, Less, Free}
 use Rattle.mp_syntax.specs.declared.condition_tree.Property.{Property}
 use Rattle.mp_syntax.specs.declared.condition_tree.Property.TheVariants.{Kind, Head}
-use Rattle.mp_syntax.specs.Syntax.{Tree, Variable, Amount, Number, Measured, Atom, Compare, Relate, Test, Literal, AtomOf, Bracketed, Literals, no_literals, more_literals, Condition, no_alternatives, more_alternatives}
+use Rattle.mp_syntax.specs.Syntax.{Tree, Variable, Amount, Number, Measured, Atom, Compare, Relate, Test, Literal}
+use Rattle.mp_syntax.specs.Syntax.{AtomOf, Bracketed, Literals, no_literals, more_literals, Condition, no_alternatives}
+use Rattle.mp_syntax.specs.Syntax.{more_alternatives}
 use Rattle.mp_text.specs.Names.{number_of}
 use Rattle.mp_text.specs.Build.{op_number, kind_number, head_number, term_of}
 
@@ -98,7 +100,8 @@ module _ (sig : Sig) where
   atom_of (Relate r t u) = related r (operand_of t) (operand_of u)
   atom_of (Test p t n) = tested p (operand_of t) n.text
 
-  -- `not` negates, `and` joins to a conjunction and `or` to a disjunction, one part is that part, and brackets leave no trace
+  -- `not` negates, `and` joins to a conjunction and `or` to a disjunction, one part is that part, and brackets leave no
+  -- trace
   abbrev mutual
     pub literal_of : Literal → cond.Cond
     literal_of (AtomOf negated a) = negated_if negated (atom_of a)

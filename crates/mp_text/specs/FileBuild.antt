@@ -11,7 +11,12 @@ use Rattle.mp_text.specs.Conditions.{condition_of}
 module _ (sig : Sig) where
   -- rule NAME: PATTERN if CONDITION; with the pattern in normal form
   abbrev pub rule_of : Spot → Tree → Option Condition → Rule
-  rule_of name p c = record { name = name.text; pattern = normal_pattern sig (pattern_of sig p); template = None; condition = condition_of sig c }
+  rule_of name p c = record {
+    name = name.text;
+    pattern = normal_pattern sig (pattern_of sig p);
+    template = None;
+    condition = condition_of sig c;
+  }
 
   -- the rules of the statements, in order
   abbrev pub rules_of : List Statement → List Rule

@@ -42,7 +42,8 @@ is_said_twice says flags = nat_lt 1 (count_by says flags)
 
 -- a flag stands twice, whatever its signs are
 abbrev pub some_flag_twice : List Flag → Bool
-some_flag_twice flags = is_said_twice says_assoc flags || (is_said_twice says_comm flags || (is_said_twice says_one flags || is_said_twice says_infix flags))
+some_flag_twice flags = is_said_twice says_assoc flags
+    || (is_said_twice says_comm flags || (is_said_twice says_one flags || is_said_twice says_infix flags))
 
 -- the first sign of the flags, with its place
 abbrev pub sign_spot : List Flag → Option Spot

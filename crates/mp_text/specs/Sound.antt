@@ -14,7 +14,8 @@ pub record IsSoundSubject (sig : Sig) (s : Subject) : Type 0 where
   pub term : IsSoundTerm sig MAX_TERM_NODES s.term
   pub shallow : depth s.term ≤ MAX_DEPTH
 
--- its signature is one, its rules and each subject are sound, no two subjects have one name, and there are at most MAX_SUBJECTS
+-- its signature is one, its rules and each subject are sound, no two subjects have one name, and there are at most
+-- MAX_SUBJECTS
 pub record IsSoundFile (f : FileTree) : Type 0 where
   pub signature : IsSignature f.sig
   pub rules : AreSoundRules f.sig f.rules

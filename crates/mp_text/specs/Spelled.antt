@@ -1,5 +1,6 @@
 -- The statements that a file is printed as.
-use Rattle.std.specs.Prelude.{ℕ, Bool, true, false, not, List, [], ◌∷◌, ◌++◌, map, length, Option, Some, None, option_map, unwrap_or, slice_get, nat_le, if◌then◌else◌, decimal}
+use Rattle.std.specs.Prelude.{ℕ, Bool, true, false, not, List, [], ◌∷◌, ◌++◌, map, length, Option, Some, None}
+use Rattle.std.specs.Prelude.{option_map, unwrap_or, slice_get, nat_le, if◌then◌else◌, decimal}
 use Rattle.mp_io.specs.Devices.{Text}
 use Rattle.mp_term.specs.declared.signature.OpDecl.{OpDecl}
 use Rattle.mp_term.specs.Tree as term
@@ -16,7 +17,11 @@ use Rattle.mp_syntax.specs.declared.condition_tree.Relation.TheVariants.{Same, L
 use Rattle.mp_syntax.specs.declared.condition_tree.Property.TheVariants as properties
 use Rattle.mp_syntax.specs.Tokens.{first_place}
 use Rattle.mp_syntax.specs.Syntax as syntax
-use Rattle.mp_syntax.specs.Syntax.{Spot, Tree, Symbol, Apply, InfixOf, Wild, Optional, Variable, Trees, no_trees, more_trees, tree_list, Flag, Assoc, Comm, One, Infixed, Amount, Number, Measured, Atom, Compare, Relate, Test, Literal, AtomOf, Bracketed, Literals, no_literals, more_literals, Condition, no_alternatives, more_alternatives, Statement, OpOf, KindOf, RuleOf, SubjectOf}
+use Rattle.mp_syntax.specs.Syntax.{Spot, Tree, Symbol, Apply, InfixOf, Wild, Optional, Variable, Trees, no_trees}
+use Rattle.mp_syntax.specs.Syntax.{more_trees, tree_list, Flag, Assoc, Comm, One, Infixed, Amount, Number, Measured}
+use Rattle.mp_syntax.specs.Syntax.{Atom, Compare, Relate, Test, Literal, AtomOf, Bracketed, Literals, no_literals}
+use Rattle.mp_syntax.specs.Syntax.{more_literals, Condition, no_alternatives, more_alternatives, Statement, OpOf}
+use Rattle.mp_syntax.specs.Syntax.{KindOf, RuleOf, SubjectOf}
 use Rattle.mp_text.specs.Subject.{Subject}
 use Rattle.mp_text.specs.File.{FileTree}
 use Rattle.mp_print.specs.Printing.{kind_name_text}
@@ -31,7 +36,8 @@ piece text = record { text = text; place = first_place }
 -- an operation stands between two arguments or more where it has a sign, and else before them
 abbrev pub application_spelling : OpDecl → Option Text → Trees → Tree
 application_spelling d None args = Apply (piece d.name) args
-application_spelling d (Some sign) args = if nat_le 2 (length (tree_list args)) then InfixOf first_place (piece sign) args else Apply (piece d.name) args
+application_spelling d (Some sign) args =
+    if nat_le 2 (length (tree_list args)) then InfixOf first_place (piece sign) args else Apply (piece d.name) args
 
 -- an operation that isn't held has no name
 abbrev pub held_spelling : Option OpDecl → Trees → Tree
@@ -106,12 +112,14 @@ abbrev pub first_alternative : Condition → Literals
 first_alternative (more_alternatives ls c) = ls
 first_alternative no_alternatives = no_literals
 
--- a part of a disjunction as an alternative, where it is this literal as a part of a conjunction: a conjunction stands without its brackets
+-- a part of a disjunction as an alternative, where it is this literal as a part of a conjunction: a conjunction stands
+-- without its brackets
 abbrev pub alternative_part : cond.Cond → Literal → Literals
 alternative_part (cond.all_of cs) l = first_alternative (bracket_content l)
 alternative_part _ l = single_literal l
 
--- a whole condition, where it is this literal as a part of a conjunction: a conjunction and a disjunction stand without their brackets
+-- a whole condition, where it is this literal as a part of a conjunction: a conjunction and a disjunction stand without
+-- their brackets
 abbrev pub whole_condition : cond.Cond → Literal → Condition
 whole_condition (cond.all_of cs) l = bracket_content l
 whole_condition (cond.any_of cs) l = bracket_content l
@@ -132,12 +140,15 @@ module _ (sig : Sig) where
   -- a condition as a part of a conjunction: a literal
   abbrev mutual
     pub literal_spelling : cond.Cond → Literal
-    literal_spelling (cond.amounts m c n) = AtomOf false (Compare (amount_spelling m) (sense_spelling c) (amount_spelling n))
+    literal_spelling (cond.amounts m c n) = AtomOf false
+        (Compare (amount_spelling m) (sense_spelling c) (amount_spelling n))
     literal_spelling (cond.same a b) = AtomOf false (Relate Same (operand_spelling a) (operand_spelling b))
     literal_spelling (cond.less a b) = AtomOf false (Relate Less (operand_spelling a) (operand_spelling b))
     literal_spelling (cond.free a b) = AtomOf false (Relate Free (operand_spelling a) (operand_spelling b))
-    literal_spelling (cond.of_kind a k) = AtomOf false (Test properties.Kind (operand_spelling a) (piece (kind_name_text sig k)))
-    literal_spelling (cond.headed a f) = AtomOf false (Test properties.Head (operand_spelling a) (piece (op_name_text sig f)))
+    literal_spelling (cond.of_kind a k) = AtomOf false
+        (Test properties.Kind (operand_spelling a) (piece (kind_name_text sig k)))
+    literal_spelling (cond.headed a f) = AtomOf false
+        (Test properties.Head (operand_spelling a) (piece (op_name_text sig f)))
     literal_spelling (cond.negation c) = negated_spelling (literal_spelling c)
     literal_spelling (cond.all_of cs) = Bracketed false (single_alternative (literal_spellings cs))
     literal_spelling (cond.any_of cs) = Bracketed false (alternative_spellings cs)
@@ -148,7 +159,8 @@ module _ (sig : Sig) where
 
     pub alternative_spellings : cond.Conds → Condition
     alternative_spellings cond.no_conds = no_alternatives
-    alternative_spellings (cond.more_conds c cs) = more_alternatives (alternative_part c (literal_spelling c)) (alternative_spellings cs)
+    alternative_spellings (cond.more_conds c cs) =
+        more_alternatives (alternative_part c (literal_spelling c)) (alternative_spellings cs)
 
   -- a whole condition
   abbrev pub cond_spelling : cond.Cond → Condition
@@ -188,4 +200,5 @@ module _ (sig : Sig) where
 
 -- the operations, the declared kinds, the rules and the subjects
 abbrev pub file_spelling : FileTree → List Statement
-file_spelling f = map op_spelling f.sig.ops ++ (map kind_spelling f.sig.kinds ++ (map (rule_spelling f.sig) f.rules ++ map (subject_spelling f.sig) f.subjects))
+file_spelling f = map op_spelling f.sig.ops
+    ++ (map kind_spelling f.sig.kinds ++ (map (rule_spelling f.sig) f.rules ++ map (subject_spelling f.sig) f.subjects))

@@ -11,4 +11,5 @@ pub record Subject : Type 0 where
 
 -- a subject is stored as the pair of its name and its term
 abbrev pub coded_subject : Coded Subject
-coded_subject = code_by (List ℕ × Tree) (coded× (coded_list coded_ℕ) coded_tree) (λ s. (s.name, s.term)) (λ p. record { name = p.0; term = p.1 }) (λ _. refl)
+coded_subject = code_by (List ℕ × Tree) (coded× (coded_list coded_ℕ) coded_tree) (λ s. (s.name, s.term))
+    (λ p. record { name = p.0; term = p.1 }) (λ _. refl)

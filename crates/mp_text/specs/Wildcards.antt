@@ -6,7 +6,8 @@ use Rattle.mp_term.specs.Tree as term
 use Rattle.mp_term.specs.Order.{tree_cmp}
 use Rattle.mp_term.specs.Signature.{Sig}
 use Rattle.mp_term.specs.Normal.{normal}
-use Rattle.mp_syntax.specs.Syntax.{Wildcard, Tree, Symbol, Apply, InfixOf, Wild, Optional, Variable, Trees, no_trees, more_trees}
+use Rattle.mp_syntax.specs.Syntax.{Wildcard, Tree, Symbol, Apply, InfixOf, Wild, Optional, Variable, Trees, no_trees}
+use Rattle.mp_syntax.specs.Syntax.{more_trees}
 use Rattle.mp_text.specs.Names.{is_same_variable}
 use Rattle.mp_text.specs.Build.{has_term, term_of}
 
@@ -26,7 +27,8 @@ abbrev pub without_default : Wildcard → PatternWildcard
 without_default w = record { wildcard = w; default = absent }
 
 module _ (sig : Sig) where
-  -- The normal form of a default, which stands behind further wildcards of a chain. One that holds a wildcard, or an operation that the signature doesn't have, has none.
+  -- The normal form of a default, which stands behind further wildcards of a chain. One that holds a wildcard, or an
+  -- operation that the signature doesn't have, has none.
   abbrev pub default_form : List Wildcard → Tree → DefaultForm
   default_form [] default = if has_term sig default then normal_form (normal sig (term_of sig default)) else unknown
   default_form (v ∷ others) default = unknown
@@ -57,7 +59,8 @@ same_default _ _ = false
 
 -- the wildcards have as many underscores, one kind and one default
 abbrev pub same_class : PatternWildcard → PatternWildcard → Bool
-same_class v w = v.wildcard.marks == w.wildcard.marks && (bytes_eq v.wildcard.kind w.wildcard.kind && same_default v.default w.default)
+same_class v w = v.wildcard.marks == w.wildcard.marks
+    && (bytes_eq v.wildcard.kind w.wildcard.kind && same_default v.default w.default)
 
 -- the wildcards have one name, and aren't of one class, kind and default
 abbrev pub differs : PatternWildcard → PatternWildcard → Bool

@@ -11,7 +11,8 @@ ghost use Rattle.mp_text.specs.declared.fault.TextFault as plain;
 ghost use Rattle.mp_text.specs.Answers.{Gives};
 ghost use Rattle.mp_text.specs.Build.{pattern_of};
 ghost use Rattle.mp_text.specs.Reading.{IfText, IsFaultOrMemory};
-ghost use Rattle.mp_text.specs.Alone.{start, term_alone_faults, pattern_alone_faults, normal_term_of, IsTermOf, IsTermFaultOf, IsPatternOf, IsPatternFaultOf, Answers, IsValueOrMemory};
+ghost use Rattle.mp_text.specs.Alone.{start, term_alone_faults, pattern_alone_faults, normal_term_of, IsTermOf};
+ghost use Rattle.mp_text.specs.Alone.{IsTermFaultOf, IsPatternOf, IsPatternFaultOf, Answers, IsValueOrMemory};
 
 use crate::build::whole_pattern;
 use crate::checks::{is_large_pattern, is_large_term};
@@ -24,12 +25,13 @@ use std::alloc::Global;
 
 /// Reads one term over a signature, and gives its normal form.
 ///
-/// The text is a term exactly where its tokens spell an expression (`IsExprOf` of mp_syntax's `specs/Syntax.antt`) in which no check
-/// finds a fault (`term_alone_faults` of `specs/Alone.antt`). It has fewer than 4,294,967,295 bytes.
+/// The text is a term exactly where its tokens spell an expression (`IsExprOf` of mp_syntax's `specs/Syntax.antt`) in
+/// which no check finds a fault (`term_alone_faults` of `specs/Alone.antt`). It has fewer than 4,294,967,295 bytes.
 ///
-/// - `Text`: the text has this fault, by `IsTermFaultOf` of `specs/Alone.antt`: where it is an expression, the first that the checks
-///   find, with its line and column, from 1; a term of more than 100,000 nodes, or with a default of more than 64, has the fault `TooMany` at its first token. Where it is no
-///   expression, the fault is `Unread` at line 1, column 1.
+/// - `Text`: the text has this fault, by `IsTermFaultOf` of `specs/Alone.antt`: where it is an expression, the first
+/// that the checks   find, with its line and column, from 1; a term of more than 100,000 nodes, or with a default of
+/// more than 64, has the fault `TooMany` at its first token. Where it is no   expression, the fault is `Unread` at line
+/// 1, column 1.
 /// - `Memory`: memory ran out.
 ///
 /// After an error nothing is kept.
@@ -43,20 +45,22 @@ pub fn read_term(alloc: Global, sig: &Signature, bytes: &[u8]) -> Result<Term, T
     // The fault that is answered is the fault of the bytes.
     ensures fault { IfText result (λ f. IsTermFaultOf sig.now bytes.now f) }
     // The fault of the bytes is answered, unless memory runs out.
-    ensures only_fault { (f : plain.TextFault) → IsTermFaultOf sig.now bytes.now f → IsFaultOrMemory result (λ g. g ≡ f) }
+    ensures only_fault { (f : plain.TextFault) → IsTermFaultOf sig.now bytes.now f
+        → IsFaultOrMemory result (λ g. g ≡ f) }
 {
     term_of_text(alloc, sig, bytes)
 }
 
 /// Reads one pattern over a signature, and gives it as it is written, with its defaults in normal form.
 ///
-/// The text is a pattern exactly where its tokens spell an expression (`IsExprOf` of mp_syntax's `specs/Syntax.antt`) in which no check
-/// finds a fault (`pattern_alone_faults` of `specs/Alone.antt`). It has fewer than 4,294,967,295 bytes.
+/// The text is a pattern exactly where its tokens spell an expression (`IsExprOf` of mp_syntax's `specs/Syntax.antt`)
+/// in which no check finds a fault (`pattern_alone_faults` of `specs/Alone.antt`). It has fewer than 4,294,967,295
+/// bytes.
 ///
-/// - `Text`: the text has this fault, by `IsPatternFaultOf` of `specs/Alone.antt`: where it is an expression, the first that the checks
-///   find, with its line and column, from 1; a pattern of more than 64 nodes or 32 variables, or with a default of more than 64 nodes, has the fault `TooMany` at its first
-///   token.
-///   Where it is no expression, the fault is `Unread` at line 1, column 1.
+/// - `Text`: the text has this fault, by `IsPatternFaultOf` of `specs/Alone.antt`: where it is an expression, the first
+/// that the checks   find, with its line and column, from 1; a pattern of more than 64 nodes or 32 variables, or with a
+/// default of more than 64 nodes, has the fault `TooMany` at its first   token.   Where it is no expression, the fault
+/// is `Unread` at line 1, column 1.
 /// - `Memory`: memory ran out.
 ///
 /// After an error nothing is kept.
@@ -66,11 +70,13 @@ pub fn read_pattern(alloc: Global, sig: &Signature, bytes: &[u8]) -> Result<Patt
     // What is answered is the pattern that the bytes are.
     ensures found { IfOk result (λ p. IsPatternOf sig.now bytes.now (pattern_tree p)) }
     // The pattern that the bytes are is answered, unless memory runs out.
-    ensures only { (p : pattern.Pattern) → IsPatternOf sig.now bytes.now p → IsValueOrMemory result (λ q. pattern_tree q ≡ p) }
+    ensures only { (p : pattern.Pattern) → IsPatternOf sig.now bytes.now p
+        → IsValueOrMemory result (λ q. pattern_tree q ≡ p) }
     // The fault that is answered is the fault of the bytes.
     ensures fault { IfText result (λ f. IsPatternFaultOf sig.now bytes.now f) }
     // The fault of the bytes is answered, unless memory runs out.
-    ensures only_fault { (f : plain.TextFault) → IsPatternFaultOf sig.now bytes.now f → IsFaultOrMemory result (λ g. g ≡ f) }
+    ensures only_fault { (f : plain.TextFault) → IsPatternFaultOf sig.now bytes.now f
+        → IsFaultOrMemory result (λ g. g ≡ f) }
 {
     pattern_of_text(alloc, sig, bytes)
 }
@@ -101,7 +107,8 @@ fn pattern_of_text(alloc: Global, sig: &Signature, bytes: &[u8]) -> Result<Patte
 
 /// The normal form of the term of an expression alone, or its first fault.
 fn term_alone(alloc: Global, sig: &Signature, expr: &Expr<'_>) -> Result<Term, TextError>
-    ensures { Gives result (term_alone_faults sig.now (expr_tree expr.now)) (λ t. tree t ≡ normal_term_of sig.now (expr_tree expr.now)) }
+    ensures { Gives result (term_alone_faults sig.now (expr_tree expr.now))
+        (λ t. tree t ≡ normal_term_of sig.now (expr_tree expr.now)) }
 {
     if is_large_term(expr) {
         return Err(error_at(TextKind::TooMany, start(expr)));
@@ -111,7 +118,8 @@ fn term_alone(alloc: Global, sig: &Signature, expr: &Expr<'_>) -> Result<Term, T
 
 /// The pattern of an expression alone as it is written, or its first fault.
 fn pattern_alone(alloc: Global, sig: &Signature, expr: &Expr<'_>) -> Result<Pattern, TextError>
-    ensures { Gives result (pattern_alone_faults sig.now (expr_tree expr.now)) (λ p. pattern_tree p ≡ pattern_of sig.now (expr_tree expr.now)) }
+    ensures { Gives result (pattern_alone_faults sig.now (expr_tree expr.now))
+        (λ p. pattern_tree p ≡ pattern_of sig.now (expr_tree expr.now)) }
 {
     if is_large_pattern(alloc, expr)? {
         return Err(error_at(TextKind::TooMany, start(expr)));

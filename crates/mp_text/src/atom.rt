@@ -6,7 +6,8 @@ ghost use Rattle.mp_syntax.specs.View.{spot_of, expr_tree, amount_tree, atom_tre
 ghost use Rattle.mp_text.specs.Answers.{Gives};
 ghost use Rattle.mp_text.specs.Build.{op_number, kind_number, head_number};
 ghost use Rattle.mp_text.specs.Conditions.{measured, sense_of, related, tested, operand_of, amount_of, atom_of};
-ghost use Rattle.mp_text.specs.ConditionChecks.{unbound_faults, sequence_faults, single_faults, property_faults, operand_faults, related_faults, amount_faults, atom_faults};
+ghost use Rattle.mp_text.specs.ConditionChecks.{unbound_faults, sequence_faults, single_faults, property_faults};
+ghost use Rattle.mp_text.specs.ConditionChecks.{operand_faults, related_faults, amount_faults, atom_faults};
 ghost use Rattle.mp_text.specs.ScopeView.{scope_of};
 
 use crate::build::new_name;
@@ -67,7 +68,8 @@ fn build_operand(
     scope: &Scope<'_>,
     expr: &Expr<'_>,
 ) -> Result<Operand, TextError>
-    ensures { Gives result (operand_faults sig.now (scope_of scope.now) (expr_tree expr.now)) (λ a. operand a ≡ operand_of sig.now (expr_tree expr.now)) }
+    ensures { Gives result (operand_faults sig.now (scope_of scope.now) (expr_tree expr.now))
+        (λ a. operand a ≡ operand_of sig.now (expr_tree expr.now)) }
 {
     match expr {
         Expr::Variable(name) => {
@@ -90,7 +92,8 @@ fn build_related(
     relation: Relation,
     expr: &Expr<'_>,
 ) -> Result<Operand, TextError>
-    ensures { Gives result (related_faults sig.now (scope_of scope.now) relation (expr_tree expr.now)) (λ a. operand a ≡ operand_of sig.now (expr_tree expr.now)) }
+    ensures { Gives result (related_faults sig.now (scope_of scope.now) relation (expr_tree expr.now))
+        (λ a. operand a ≡ operand_of sig.now (expr_tree expr.now)) }
 {
     let operand = build_operand(alloc, sig, scope, expr)?;
     if relation == Relation::Less {
@@ -106,7 +109,8 @@ fn build_amount(
     scope: &Scope<'_>,
     side: &syntax::Amount<'_>,
 ) -> Result<Amount, TextError>
-    ensures { Gives result (amount_faults sig.now (scope_of scope.now) (amount_tree side.now)) (λ a. amount a ≡ amount_of sig.now (amount_tree side.now)) }
+    ensures { Gives result (amount_faults sig.now (scope_of scope.now) (amount_tree side.now))
+        (λ a. amount a ≡ amount_of sig.now (amount_tree side.now)) }
 {
     match side {
         syntax::Amount::Number(digits) => {
@@ -160,7 +164,8 @@ fn related(relation: Relation, left: Operand, right: Operand) -> Cond
 
 /// The kind of that name.
 fn kind_named(sig: &Signature, name: Word<'_>) -> Result<KindId, TextError>
-    ensures { Gives result (property_faults sig.now Property.Kind (spot_of name.entry)) (λ k. k.0 ≡ head_number (kind_number sig.now name.entry.text.now)) }
+    ensures { Gives result (property_faults sig.now Property.Kind (spot_of name.entry))
+        (λ k. k.0 ≡ head_number (kind_number sig.now name.entry.text.now)) }
 {
     match sig.find_kind(name.text) {
         None => Err(error_at(TextKind::UnknownKind, name.place)),
@@ -170,7 +175,8 @@ fn kind_named(sig: &Signature, name: Word<'_>) -> Result<KindId, TextError>
 
 /// The operation of that name.
 fn op_named(sig: &Signature, name: Word<'_>) -> Result<OpId, TextError>
-    ensures { Gives result (property_faults sig.now Property.Head (spot_of name.entry)) (λ f. f.0 ≡ head_number (op_number sig.now name.entry.text.now)) }
+    ensures { Gives result (property_faults sig.now Property.Head (spot_of name.entry))
+        (λ f. f.0 ≡ head_number (op_number sig.now name.entry.text.now)) }
 {
     match sig.find_op(name.text) {
         None => Err(error_at(TextKind::UnknownOp, name.place)),
@@ -185,7 +191,8 @@ fn tested(
     of: Operand,
     name: Word<'_>,
 ) -> Result<Cond, TextError>
-    ensures { Gives result (property_faults sig.now property (spot_of name.entry)) (λ c. cond_tree c ≡ tested sig.now property (operand of) name.entry.text.now) }
+    ensures { Gives result (property_faults sig.now property (spot_of name.entry))
+        (λ c. cond_tree c ≡ tested sig.now property (operand of) name.entry.text.now) }
 {
     match property {
         Property::Kind => {
@@ -206,7 +213,8 @@ pub fn build_atom(
     scope: &Scope<'_>,
     atom: &Atom<'_>,
 ) -> Result<Cond, TextError>
-    ensures { Gives result (atom_faults sig.now (scope_of scope.now) (atom_tree atom.now)) (λ c. cond_tree c ≡ atom_of sig.now (atom_tree atom.now)) }
+    ensures { Gives result (atom_faults sig.now (scope_of scope.now) (atom_tree atom.now))
+        (λ c. cond_tree c ≡ atom_of sig.now (atom_tree atom.now)) }
 {
     match atom {
         Atom::Compare(left, way, right) => {

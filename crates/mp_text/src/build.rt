@@ -13,10 +13,14 @@ ghost use Rattle.mp_pattern.specs.View.{pattern_tree, wildcard};
 ghost use Rattle.mp_syntax.specs.Syntax.{trees, tree_list, InfixOf};
 ghost use Rattle.mp_syntax.specs.View.{spot_of, wildcard_of, expr_tree, spot_of_sign};
 ghost use Rattle.mp_text.specs.Answers.{Gives, Fails};
-ghost use Rattle.mp_text.specs.Build.{op_number, sign_number, head_number, marked_shape, shape_of, variable_of, term_of, terms_of, pattern_of, patterns_of};
+ghost use Rattle.mp_text.specs.Build.{op_number, sign_number, head_number, marked_shape, shape_of, variable_of};
+ghost use Rattle.mp_text.specs.Build.{term_of, terms_of, pattern_of, patterns_of};
 ghost use Rattle.mp_text.specs.Wildcards.{pattern_wildcards, all_pattern_wildcards};
 ghost use Rattle.mp_text.specs.WildcardView.{wildcard_view};
-ghost use Rattle.mp_text.specs.Checks.{fault_if, kind_unknown, term_wildcard_faults, loose_faults, whole_pattern_faults, op_named, op_signed, symbol_faults, head_faults, arity_faults, sign_faults, term_faults, term_operand_faults, all_term_faults, pattern_faults, pattern_operand_faults, all_pattern_faults};
+ghost use Rattle.mp_text.specs.Checks.{fault_if, kind_unknown, term_wildcard_faults, loose_faults};
+ghost use Rattle.mp_text.specs.Checks.{whole_pattern_faults, op_named, op_signed, symbol_faults, head_faults};
+ghost use Rattle.mp_text.specs.Checks.{arity_faults, sign_faults, term_faults, term_operand_faults, all_term_faults};
+ghost use Rattle.mp_text.specs.Checks.{pattern_faults, pattern_operand_faults, all_pattern_faults};
 
 use crate::checks::allows_patterns;
 use crate::fault::{TextError, TextKind, error_at};
@@ -81,7 +85,9 @@ pub fn symbol(alloc: Global, sig: &Signature, word: Word<'_>) -> Result<Name, Te
 
 /// The operation that is applied to these terms.
 fn term_head(sig: &Signature, name: Word<'_>, args: &[Expr<'_>]) -> Result<OpId, TextError>
-    ensures { Gives result (head_faults (allows (length args.now)) (spot_of name.entry) (op_named sig.now name.entry.text.now)) (λ id. id.0 ≡ head_number (op_number sig.now name.entry.text.now)) }
+    ensures { Gives result
+        (head_faults (allows (length args.now)) (spot_of name.entry) (op_named sig.now name.entry.text.now))
+        (λ id. id.0 ≡ head_number (op_number sig.now name.entry.text.now)) }
 {
     match find_decl(sig, name.text) {
         None => Err(error_at(TextKind::UnknownOp, name.place)),
@@ -102,7 +108,8 @@ fn term_sign(
     count: usize,
 ) -> Result<Option<OpId>, TextError>
     ensures { Gives result (arity_faults (allows count) place (op_signed sig.now sign.entry.text.now))
-        (λ o. (option_map (λ id. id.0) o ≡ sign_number sig.now sign.entry.text.now) × (is_some o ≡ is_some (op_signed sig.now sign.entry.text.now))) }
+        (λ o. (option_map (λ id. id.0) o ≡ sign_number sig.now sign.entry.text.now)
+        × (is_some o ≡ is_some (op_signed sig.now sign.entry.text.now))) }
 {
     match find_sign_decl(sig, sign.text) {
         None => Ok(None),
@@ -117,7 +124,9 @@ fn term_sign(
 
 /// The operation that is applied to these patterns.
 fn pattern_head(sig: &Signature, name: Word<'_>, args: &[Expr<'_>]) -> Result<OpId, TextError>
-    ensures { Gives result (head_faults (allows_patterns (map (pattern_of sig.now) (map expr_tree args.now))) (spot_of name.entry) (op_named sig.now name.entry.text.now)) (λ id. id.0 ≡ head_number (op_number sig.now name.entry.text.now)) }
+    ensures { Gives result (head_faults (allows_patterns (map (pattern_of sig.now) (map expr_tree args.now)))
+        (spot_of name.entry) (op_named sig.now name.entry.text.now))
+        (λ id. id.0 ≡ head_number (op_number sig.now name.entry.text.now)) }
 {
     match find_decl(sig, name.text) {
         None => Err(error_at(TextKind::UnknownOp, name.place)),
@@ -137,8 +146,10 @@ fn pattern_sign(
     sign: InfixSign<'_>,
     operands: &[Expr<'_>],
 ) -> Result<Option<OpId>, TextError>
-    ensures { Gives result (arity_faults (allows_patterns (map (pattern_of sig.now) (map expr_tree operands.now))) place (op_signed sig.now sign.entry.text.now))
-        (λ o. (option_map (λ id. id.0) o ≡ sign_number sig.now sign.entry.text.now) × (is_some o ≡ is_some (op_signed sig.now sign.entry.text.now))) }
+    ensures { Gives result (arity_faults (allows_patterns (map (pattern_of sig.now) (map expr_tree operands.now))) place
+        (op_signed sig.now sign.entry.text.now))
+        (λ o. (option_map (λ id. id.0) o ≡ sign_number sig.now sign.entry.text.now)
+        × (is_some o ≡ is_some (op_signed sig.now sign.entry.text.now))) }
 {
     match find_sign_decl(sig, sign.text) {
         None => Ok(None),
@@ -154,7 +165,8 @@ fn pattern_sign(
 /// The term of an expression as it is written, or its first fault.
 #[cycle(build_term)]
 pub fn build_term(alloc: Global, sig: &Signature, expr: &Expr<'_>) -> Result<Term, TextError>
-    ensures { Gives result (term_faults sig.now (expr_tree expr.now)) (λ t. tree t ≡ term_of sig.now (expr_tree expr.now)) }
+    ensures { Gives result (term_faults sig.now (expr_tree expr.now))
+        (λ t. tree t ≡ term_of sig.now (expr_tree expr.now)) }
 {
     match expr {
         Expr::Symbol(word) => {
@@ -196,7 +208,9 @@ fn infix_term(
     sign: InfixSign<'_>,
     operands: &[Expr<'_>],
 ) -> Result<Term, TextError>
-    ensures { Gives result (term_faults sig.now (InfixOf place (spot_of_sign sign.entry) (trees (map expr_tree operands.now)))) (λ t. tree t ≡ term_of sig.now (InfixOf place (spot_of_sign sign.entry) (trees (map expr_tree operands.now)))) }
+    ensures { Gives result
+        (term_faults sig.now (InfixOf place (spot_of_sign sign.entry) (trees (map expr_tree operands.now))))
+        (λ t. tree t ≡ term_of sig.now (InfixOf place (spot_of_sign sign.entry) (trees (map expr_tree operands.now)))) }
 {
     match term_sign(sig, place, sign, operands.len())? {
         None => Err(unknown_term_sign(alloc, sig, sign, operands)),
@@ -215,7 +229,9 @@ fn unknown_term_sign(
     sign: InfixSign<'_>,
     operands: &[Expr<'_>],
 ) -> TextError
-    ensures { Fails result (term_operand_faults sig.now (sign_faults (spot_of_sign sign.entry) None) (trees (map expr_tree operands.now))) }
+    ensures { Fails result
+        (term_operand_faults sig.now (sign_faults (spot_of_sign sign.entry) None)
+        (trees (map expr_tree operands.now))) }
 {
     if let [first, ..] = operands {
         if let Err(error) = build_term(alloc, sig, first) {
@@ -228,7 +244,8 @@ fn unknown_term_sign(
 /// The terms of expressions, or their first fault.
 #[cycle(build_term)]
 fn build_terms(alloc: Global, sig: &Signature, exprs: &[Expr<'_>]) -> Result<Terms, TextError>
-    ensures { Gives result (all_term_faults sig.now (trees (map expr_tree exprs.now))) (λ ts. ts ≡ map (term_of sig.now) (map expr_tree exprs.now)) }
+    ensures { Gives result (all_term_faults sig.now (trees (map expr_tree exprs.now)))
+        (λ ts. ts ≡ map (term_of sig.now) (map expr_tree exprs.now)) }
 {
     let mut terms = Terms::new(alloc);
     for expr in exprs {
@@ -249,7 +266,9 @@ fn build_pattern<'a>(
     before: &mut Vec<PatternWildcard<'a>>,
 ) -> Result<Pattern, TextError>
     ensures { Gives result (pattern_faults sig.now (map wildcard_view before.old.items) (expr_tree expr.now))
-        (λ p. (pattern_tree p ≡ pattern_of sig.now (expr_tree expr.now)) × (map wildcard_view before.new.items ≡ map wildcard_view before.old.items ++ pattern_wildcards sig.now (expr_tree expr.now))) }
+        (λ p. (pattern_tree p ≡ pattern_of sig.now (expr_tree expr.now))
+        × (map wildcard_view before.new.items
+        ≡ map wildcard_view before.old.items ++ pattern_wildcards sig.now (expr_tree expr.now))) }
 {
     match expr {
         Expr::Symbol(word) => {
@@ -286,8 +305,14 @@ fn infix_pattern<'a>(
     operands: &[Expr<'a>],
     before: &mut Vec<PatternWildcard<'a>>,
 ) -> Result<Pattern, TextError>
-    ensures { Gives result (pattern_faults sig.now (map wildcard_view before.old.items) (InfixOf place (spot_of_sign sign.entry) (trees (map expr_tree operands.now))))
-        (λ p. (pattern_tree p ≡ pattern_of sig.now (InfixOf place (spot_of_sign sign.entry) (trees (map expr_tree operands.now)))) × (map wildcard_view before.new.items ≡ map wildcard_view before.old.items ++ all_pattern_wildcards sig.now (trees (map expr_tree operands.now)))) }
+    ensures { Gives result
+        (pattern_faults sig.now (map wildcard_view before.old.items)
+        (InfixOf place (spot_of_sign sign.entry) (trees (map expr_tree operands.now))))
+        (λ p. (pattern_tree p ≡ pattern_of sig.now
+        (InfixOf place (spot_of_sign sign.entry) (trees (map expr_tree operands.now))))
+        × (map wildcard_view before.new.items
+        ≡ map wildcard_view before.old.items ++ all_pattern_wildcards sig.now
+        (trees (map expr_tree operands.now)))) }
 {
     match pattern_sign(sig, place, sign, operands)? {
         None => Err(unknown_pattern_sign(alloc, sig, sign, operands, before)),
@@ -307,7 +332,9 @@ fn unknown_pattern_sign<'a>(
     operands: &[Expr<'a>],
     before: &mut Vec<PatternWildcard<'a>>,
 ) -> TextError
-    ensures { Fails result (pattern_operand_faults sig.now (map wildcard_view before.old.items) (sign_faults (spot_of_sign sign.entry) None) (trees (map expr_tree operands.now))) }
+    ensures { Fails result
+        (pattern_operand_faults sig.now (map wildcard_view before.old.items)
+        (sign_faults (spot_of_sign sign.entry) None) (trees (map expr_tree operands.now))) }
 {
     if let [first, ..] = operands {
         if let Err(error) = build_pattern(alloc, sig, first, before) {
@@ -325,8 +352,11 @@ fn build_patterns<'a>(
     exprs: &[Expr<'a>],
     before: &mut Vec<PatternWildcard<'a>>,
 ) -> Result<Patterns, TextError>
-    ensures { Gives result (all_pattern_faults sig.now (map wildcard_view before.old.items) (trees (map expr_tree exprs.now)))
-        (λ ps. (ps ≡ map (pattern_of sig.now) (map expr_tree exprs.now)) × (map wildcard_view before.new.items ≡ map wildcard_view before.old.items ++ all_pattern_wildcards sig.now (trees (map expr_tree exprs.now)))) }
+    ensures { Gives result
+        (all_pattern_faults sig.now (map wildcard_view before.old.items) (trees (map expr_tree exprs.now)))
+        (λ ps. (ps ≡ map (pattern_of sig.now) (map expr_tree exprs.now))
+        × (map wildcard_view before.new.items
+        ≡ map wildcard_view before.old.items ++ all_pattern_wildcards sig.now (trees (map expr_tree exprs.now)))) }
 {
     let mut patterns = Patterns::new(alloc);
     for expr in exprs {
@@ -338,7 +368,8 @@ fn build_patterns<'a>(
 
 /// What a wildcard takes, where there is the kind that it names.
 pub fn shape(sig: &Signature, wild: Wildcard<'_>) -> Result<Shape, TextError>
-    ensures { Gives result (fault_if (kind_unknown sig.now wild.entry.kind.now) UnknownKind wild.entry.place) (λ s. wildcard s ≡ shape_of sig.now (wildcard_of wild.entry)) }
+    ensures { Gives result (fault_if (kind_unknown sig.now wild.entry.kind.now) UnknownKind wild.entry.place)
+        (λ s. wildcard s ≡ shape_of sig.now (wildcard_of wild.entry)) }
 {
     if wild.kind.is_empty() {
         return Ok(marked_shape(wild.marks));
@@ -379,7 +410,8 @@ pub fn variable(alloc: Global, wild: Wildcard<'_>) -> Result<Option<Name>, TextE
 
 /// The pattern of a whole expression as it is written, or its first fault.
 pub fn whole_pattern(alloc: Global, sig: &Signature, expr: &Expr<'_>) -> Result<Pattern, TextError>
-    ensures { Gives result (whole_pattern_faults sig.now (expr_tree expr.now)) (λ p. pattern_tree p ≡ pattern_of sig.now (expr_tree expr.now)) }
+    ensures { Gives result (whole_pattern_faults sig.now (expr_tree expr.now))
+        (λ p. pattern_tree p ≡ pattern_of sig.now (expr_tree expr.now)) }
 {
     check_root(expr)?;
     let mut before = Vec::new(alloc);

@@ -1,6 +1,7 @@
 //! Limits and counts of expressions.
 
-ghost use Rattle.std.specs.Prelude.{◌≡◌, ◌+◌, ◌-◌, ◌^◌, ◌≤◌, ◌||◌, ℕ, List, [], ◌∷◌, length, map, flat_map, min, nat_lt, nat_le, IfOk, OnOk};
+ghost use Rattle.std.specs.Prelude.{◌≡◌, ◌+◌, ◌-◌, ◌^◌, ◌≤◌, ◌||◌, ℕ, List, [], ◌∷◌, length, map, flat_map, min};
+ghost use Rattle.std.specs.Prelude.{nat_lt, nat_le, IfOk, OnOk};
 ghost use Rattle.std.specs.List.{list_any};
 ghost use Rattle.std.specs.Str.{bytes_eq};
 ghost use Rattle.mp_pattern.specs.Firsts.{firsts_after};
@@ -9,7 +10,8 @@ ghost use Rattle.mp_syntax.specs.View.{expr_tree};
 ghost use Rattle.mp_term.specs.Signature.{Sig};
 ghost use Rattle.mp_pattern.specs.SoundRule.{pattern_least, pattern_most, fewest, greatest, reaches, allows_patterns};
 ghost use Rattle.mp_text.specs.Build.{pattern_of};
-ghost use Rattle.mp_text.specs.Checks.{nodes, all_nodes, is_large_pattern, is_large_operand, is_large_term, has_large_default, some_large_default};
+ghost use Rattle.mp_text.specs.Checks.{nodes, all_nodes, is_large_pattern, is_large_operand, is_large_term};
+ghost use Rattle.mp_text.specs.Checks.{has_large_default, some_large_default};
 ghost use Rattle.mp_text.specs.Names.{number_of, is_among, named, variable_names};
 ghost use Rattle.mp_text.specs.ScopeView.{variable_of};
 
@@ -35,7 +37,8 @@ pub fn number_of(digits: &[u8], limit: u32) -> u32
     number
 }
 
-/// The number of symbols, applications and wildcards, of which one with its default is one; the greatest `u64` where there are more.
+/// The number of symbols, applications and wildcards, of which one with its default is one; the greatest `u64` where
+/// there are more.
 #[cycle(node_count)]
 fn node_count(expr: &Expr<'_>) -> u64
     ensures { result ≡ min (nodes (expr_tree expr.now)) (2 ^ 64 - 1) }
@@ -64,7 +67,8 @@ fn node_counts(exprs: &[Expr<'_>]) -> u64
 
 /// How many names the variables have; a wildcard without a name has none.
 fn name_count(alloc: Global, variables: &[Variable<'_>]) -> Result<usize, AllocError>
-    ensures { IfOk result (λ n. n ≡ length (firsts_after bytes_eq [] (flat_map (λ v. named v.name) (map variable_of variables.now)))) }
+    ensures { IfOk result
+        (λ n. n ≡ length (firsts_after bytes_eq [] (flat_map (λ v. named v.name) (map variable_of variables.now)))) }
 {
     let mut names = Vec::new(alloc);
     for variable in variables {
@@ -83,7 +87,8 @@ fn variable_count(alloc: Global, expr: &Expr<'_>) -> Result<usize, AllocError>
 
 /// Adds the name where it isn't empty and not among the names yet.
 fn add_name<'a>(name: &'a [u8], names: &mut Vec<&'a [u8]>) -> Result<(), AllocError>
-    ensures { OnOk result (map (λ n. n.now) names.new.items ≡ firsts_after bytes_eq (map (λ n. n.now) names.old.items) (named name.now)) }
+    ensures { OnOk result (map (λ n. n.now) names.new.items
+        ≡ firsts_after bytes_eq (map (λ n. n.now) names.old.items) (named name.now)) }
 {
     if name.is_empty() || is_among(name, names) {
         return Ok(());
@@ -134,7 +139,8 @@ fn some_large_default(exprs: &[Expr<'_>]) -> bool
     false
 }
 
-/// The pattern has more nodes or more variables than a pattern may have, or a default in it has more nodes than a default may have.
+/// The pattern has more nodes or more variables than a pattern may have, or a default in it has more nodes than a
+/// default may have.
 pub fn is_large_pattern(alloc: Global, expr: &Expr<'_>) -> Result<bool, AllocError>
     ensures { IfOk result (λ large. large ≡ is_large_pattern (expr_tree expr.now)) }
 {
@@ -170,8 +176,8 @@ fn least(expr: &Expr<'_>) -> usize
     }
 }
 
-/// The greatest number of arguments that an expression of a pattern takes, of an operation that may be associative. None: there is
-/// no bound.
+/// The greatest number of arguments that an expression of a pattern takes, of an operation that may be associative.
+/// None: there is no bound.
 fn most(assoc: bool, expr: &Expr<'_>) -> Option<usize>
     ensures { (sig : Sig) → result ≡ pattern_most assoc (pattern_of sig (expr_tree expr.now)) }
 {

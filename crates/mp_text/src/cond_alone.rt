@@ -26,13 +26,14 @@ use std::alloc::Global;
 
 /// Reads one condition over a signature and the variables of a plan.
 ///
-/// Each operand that isn't a variable is given in normal form. The text is a condition exactly where its tokens spell one
-/// (`IsConditionOf` of mp_syntax's `specs/Syntax.antt`) in which no check finds a fault (`condition_alone_faults` of
-/// `specs/AloneCondition.antt`). It has fewer than 4,294,967,295 bytes.
+/// Each operand that isn't a variable is given in normal form. The text is a condition exactly where its tokens spell
+/// one (`IsConditionOf` of mp_syntax's `specs/Syntax.antt`) in which no check finds a fault (`condition_alone_faults`
+/// of `specs/AloneCondition.antt`). It has fewer than 4,294,967,295 bytes.
 ///
-/// - `Text`: the text has this fault, by `IsCondFaultOf` of `specs/AloneCondition.antt`: where it is a condition, the first that the
-///   checks find, with its line and column, from 1; a condition of more than 64 atoms, or with an operand of more than 64 nodes, has the
-///   fault `TooMany` at its first token. Where it is no condition, the fault is `Unread` at line 1, column 1.
+/// - `Text`: the text has this fault, by `IsCondFaultOf` of `specs/AloneCondition.antt`: where it is a condition, the
+/// first that the   checks find, with its line and column, from 1; a condition of more than 64 atoms, or with an
+/// operand of more than 64 nodes, has the   fault `TooMany` at its first token. Where it is no condition, the fault is
+/// `Unread` at line 1, column 1.
 /// - `Memory`: memory ran out.
 ///
 /// After an error nothing is kept.
@@ -47,11 +48,13 @@ pub fn read_cond(
     // What is answered is the condition that the bytes are.
     ensures found { IfOk result (λ c. IsCondOf sig.now (Some (plan_variables plan.now)) bytes.now (cond_tree c)) }
     // The condition that the bytes are is answered, unless memory runs out.
-    ensures only { (c : cond.Cond) → IsCondOf sig.now (Some (plan_variables plan.now)) bytes.now c → IsValueOrMemory result (λ d. cond_tree d ≡ c) }
+    ensures only { (c : cond.Cond) → IsCondOf sig.now (Some (plan_variables plan.now)) bytes.now c
+        → IsValueOrMemory result (λ d. cond_tree d ≡ c) }
     // The fault that is answered is the fault of the bytes.
     ensures fault { IfText result (λ f. IsCondFaultOf sig.now (Some (plan_variables plan.now)) bytes.now f) }
     // The fault of the bytes is answered, unless memory runs out.
-    ensures only_fault { (f : plain.TextFault) → IsCondFaultOf sig.now (Some (plan_variables plan.now)) bytes.now f → IsFaultOrMemory result (λ g. g ≡ f) }
+    ensures only_fault { (f : plain.TextFault) → IsCondFaultOf sig.now (Some (plan_variables plan.now)) bytes.now f
+        → IsFaultOrMemory result (λ g. g ≡ f) }
 {
     let variables = plan_variables(alloc, plan)?;
     cond_of_text(alloc, sig, &Scope::Among(variables), bytes)
@@ -59,8 +62,8 @@ pub fn read_cond(
 
 /// Reads one condition over a signature, as `read_cond` does, without a check of the variables that it names.
 ///
-/// The text is a condition, or has a fault, by the same definitions: `IsCondOf` and `IsCondFaultOf` of `specs/AloneCondition.antt`, where
-/// any variable may be named and may be an operand of `less`.
+/// The text is a condition, or has a fault, by the same definitions: `IsCondOf` and `IsCondFaultOf` of
+/// `specs/AloneCondition.antt`, where any variable may be named and may be an operand of `less`.
 ///
 /// - `Text`: the text has this fault.
 /// - `Memory`: memory ran out.
@@ -76,7 +79,8 @@ pub fn read_loose_cond(alloc: Global, sig: &Signature, bytes: &[u8]) -> Result<C
     // The fault that is answered is the fault of the bytes.
     ensures fault { IfText result (λ f. IsCondFaultOf sig.now None bytes.now f) }
     // The fault of the bytes is answered, unless memory runs out.
-    ensures only_fault { (f : plain.TextFault) → IsCondFaultOf sig.now None bytes.now f → IsFaultOrMemory result (λ g. g ≡ f) }
+    ensures only_fault { (f : plain.TextFault) → IsCondFaultOf sig.now None bytes.now f
+        → IsFaultOrMemory result (λ g. g ≡ f) }
 {
     cond_of_text(alloc, sig, &Scope::Any, bytes)
 }
@@ -89,7 +93,8 @@ fn cond_of_text(
     bytes: &[u8],
 ) -> Result<Cond, TextError>
     requires { length bytes.now < 2 ^ 32 - 1 }
-    ensures { Answers (condition_alone_faults sig.now (scope_of scope.now)) (placed_cond_of sig.now) cond_tree (placed_reading bytes.now) result }
+    ensures { Answers (condition_alone_faults sig.now (scope_of scope.now)) (placed_cond_of sig.now) cond_tree
+        (placed_reading bytes.now) result }
 {
     let start = first_token_place(bytes);
     match read_condition(alloc, bytes) {
@@ -107,7 +112,10 @@ fn cond_alone(
     start: Place,
     condition: &Condition<'_>,
 ) -> Result<Cond, TextError>
-    ensures { Gives result (condition_alone_faults sig.now (scope_of scope.now) (record { start = start; condition = condition_tree condition.now })) (λ c. cond_tree c ≡ cond_of sig.now (condition_tree condition.now)) }
+    ensures { Gives result
+        (condition_alone_faults sig.now (scope_of scope.now)
+        (record { start = start; condition = condition_tree condition.now }))
+        (λ c. cond_tree c ≡ cond_of sig.now (condition_tree condition.now)) }
 {
     if is_large_condition(condition) {
         return Err(error_at(TextKind::TooMany, start));

@@ -36,7 +36,8 @@ pub fn build_condition(
     scope: &Scope<'_>,
     condition: &Condition<'_>,
 ) -> Result<Cond, TextError>
-    ensures { Gives result (condition_faults sig.now (scope_of scope.now) (condition_tree condition.now)) (λ c. cond_tree c ≡ cond_of sig.now (condition_tree condition.now)) }
+    ensures { Gives result (condition_faults sig.now (scope_of scope.now) (condition_tree condition.now))
+        (λ c. cond_tree c ≡ cond_of sig.now (condition_tree condition.now)) }
 {
     let alternatives = condition.alternatives.as_slice();
     if alternatives.len() == 1 {
@@ -54,7 +55,9 @@ fn build_alternatives(
     scope: &Scope<'_>,
     alternatives: &[Alternative<'_>],
 ) -> Result<Conds, TextError>
-    ensures { Gives result (condition_faults sig.now (scope_of scope.now) (condition (map alternative_tree alternatives.now))) (λ cs. cs ≡ map (alternative_of sig.now) (map alternative_tree alternatives.now)) }
+    ensures { Gives result
+        (condition_faults sig.now (scope_of scope.now) (condition (map alternative_tree alternatives.now)))
+        (λ cs. cs ≡ map (alternative_of sig.now) (map alternative_tree alternatives.now)) }
 {
     let mut conds = Conds::new(alloc);
     for alternative in alternatives {
@@ -72,7 +75,8 @@ fn build_alternative(
     scope: &Scope<'_>,
     alternative: &Alternative<'_>,
 ) -> Result<Cond, TextError>
-    ensures { Gives result (literals_faults sig.now (scope_of scope.now) (alternative_tree alternative.now)) (λ c. cond_tree c ≡ alternative_of sig.now (alternative_tree alternative.now)) }
+    ensures { Gives result (literals_faults sig.now (scope_of scope.now) (alternative_tree alternative.now))
+        (λ c. cond_tree c ≡ alternative_of sig.now (alternative_tree alternative.now)) }
 {
     let literals = alternative.literals.as_slice();
     if literals.len() == 1 {
@@ -90,7 +94,8 @@ fn build_literals(
     scope: &Scope<'_>,
     parts: &[Literal<'_>],
 ) -> Result<Conds, TextError>
-    ensures { Gives result (literals_faults sig.now (scope_of scope.now) (literals (map literal_tree parts.now))) (λ cs. cs ≡ map (literal_of sig.now) (map literal_tree parts.now)) }
+    ensures { Gives result (literals_faults sig.now (scope_of scope.now) (literals (map literal_tree parts.now)))
+        (λ cs. cs ≡ map (literal_of sig.now) (map literal_tree parts.now)) }
 {
     let mut conds = Conds::new(alloc);
     for literal in parts {
@@ -108,7 +113,8 @@ fn build_literal(
     scope: &Scope<'_>,
     literal: &Literal<'_>,
 ) -> Result<Cond, TextError>
-    ensures { Gives result (literal_faults sig.now (scope_of scope.now) (literal_tree literal.now)) (λ c. cond_tree c ≡ literal_of sig.now (literal_tree literal.now)) }
+    ensures { Gives result (literal_faults sig.now (scope_of scope.now) (literal_tree literal.now))
+        (λ c. cond_tree c ≡ literal_of sig.now (literal_tree literal.now)) }
 {
     match literal {
         Literal::Atom { negated, atom } => {

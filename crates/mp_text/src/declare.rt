@@ -1,13 +1,16 @@
 //! Declares the operations and kinds of a file.
 
-ghost use Rattle.std.specs.Prelude.{◌≡◌, ◌≤◌, ◌+◌, ℕ, List, [], ◌∷◌, ◌++◌, length, map, flat_map, min, true, false, not, option_map};
+ghost use Rattle.std.specs.Prelude.{◌≡◌, ◌≤◌, ◌+◌, ℕ, List, [], ◌∷◌, ◌++◌, length, map, flat_map, min, true, false};
+ghost use Rattle.std.specs.Prelude.{not, option_map};
 ghost use Rattle.mp_term.specs.declared.signature.OpDecl as decl;
 ghost use Rattle.mp_term.specs.Signature.{in_order};
 ghost use Rattle.mp_syntax.specs.Syntax as syntax;
 ghost use Rattle.mp_syntax.specs.View.{spot_of, flag_of, statement_tree, spot_of_sign};
 ghost use Rattle.mp_text.specs.Answers.{Gives};
 ghost use Rattle.mp_text.specs.Build.{op_decl, op_decls, kind_decl, sig_with, sig_of};
-ghost use Rattle.mp_text.specs.Checks.{symbol_faults, name_faults, has_bad_flags, held_sign_faults, op_faults, kind_faults, op_statement_faults, kind_statement_faults, declaration_faults, faults_by};
+ghost use Rattle.mp_text.specs.Checks.{symbol_faults, name_faults, has_bad_flags, held_sign_faults, op_faults};
+ghost use Rattle.mp_text.specs.Checks.{kind_faults, op_statement_faults, kind_statement_faults, declaration_faults};
+ghost use Rattle.mp_text.specs.Checks.{faults_by};
 ghost use Rattle.mp_text.specs.Flags.{sign_spot, is_long_sign};
 ghost use Rattle.mp_text.specs.Names.{is_among, number_of};
 
@@ -21,7 +24,8 @@ use mp_term::{
 };
 use std::alloc::Global;
 
-/// Checks the name of a statement: whether an earlier one of its sort has it, how many there are, and whether this one is too large.
+/// Checks the name of a statement: whether an earlier one of its sort has it, how many there are, and whether this one
+/// is too large.
 pub fn check_name(
     name: Word<'_>,
     is_held: bool,
@@ -64,10 +68,18 @@ fn check_op(
     is_open: bool,
     flags: &[Flag<'_>],
 ) -> Result<(), TextError>
-    ensures { Gives result (op_faults sig.now.ops (spot_of name.entry) (spot_of least.entry) is_open (map flag_of flags.now)) (λ _. Unit {0}) }
+    ensures { Gives result
+        (op_faults sig.now.ops (spot_of name.entry) (spot_of least.entry) is_open (map flag_of flags.now))
+        (λ _. Unit {0}) }
 {
     let is_held = sig.find_op(name.text).is_some();
-    check_name(name, is_held, sig.op_count() as usize, MAX_OPS as usize, false)?;
+    check_name(
+        name,
+        is_held,
+        sig.op_count() as usize,
+        MAX_OPS as usize,
+        false,
+    )?;
     let count = number_of(least.text, MAX_ARITY);
     if has_bad_flags(count, is_open, flags) {
         return Err(error_at(TextKind::BadFlags, name.place));
@@ -103,7 +115,8 @@ fn new_decl(
 ) -> Result<OpDecl, TextError>
     requires least { number_of least.text.now ≤ MAX_ARITY }
     requires sign { is_long_sign (sign_spot (map flag_of flags.now)) ≡ false }
-    ensures { Gives result [] (λ d. d ≡ op_decl (spot_of name.entry) (spot_of least.entry) is_open (map flag_of flags.now)) }
+    ensures { Gives result []
+        (λ d. d ≡ op_decl (spot_of name.entry) (spot_of least.entry) is_open (map flag_of flags.now)) }
 {
     Ok(OpDecl {
         name: new_name(alloc, name)?,
@@ -125,8 +138,13 @@ fn declare_op(
     is_open: bool,
     flags: &[Flag<'_>],
 ) -> Result<(), TextError>
-    ensures { Gives result (op_faults sig.old.ops (spot_of name.entry) (spot_of least.entry) is_open (map flag_of flags.now))
-        (λ _. sig.new ≡ record sig.old { ops = sig.old.ops ++ op_decl (spot_of name.entry) (spot_of least.entry) is_open (map flag_of flags.now) ∷ [] }) }
+    ensures { Gives result
+        (op_faults sig.old.ops (spot_of name.entry) (spot_of least.entry) is_open (map flag_of flags.now))
+        (λ _. sig.new
+        ≡ record sig.old {
+          ops = sig.old.ops ++ op_decl (spot_of name.entry) (spot_of least.entry) is_open
+              (map flag_of flags.now) ∷ [];
+        }) }
 {
     check_op(sig, name, least, is_open, flags)?;
     let decl = new_decl(alloc, name, least, is_open, flags)?;
@@ -138,7 +156,8 @@ fn declare_op(
 
 /// The members of a kind, or the first fault.
 fn new_members(alloc: Global, sig: &Signature, members: &[Word<'_>]) -> Result<Names, TextError>
-    ensures { Gives result (flat_map (symbol_faults sig.now) (map spot_of members.now)) (λ ns. ns ≡ map (λ m. m.text) (map spot_of members.now)) }
+    ensures { Gives result (flat_map (symbol_faults sig.now) (map spot_of members.now))
+        (λ ns. ns ≡ map (λ m. m.text) (map spot_of members.now)) }
 {
     let mut names = Names::new(alloc);
     for member in members {
@@ -156,7 +175,11 @@ fn declare_kind(
     members: &[Word<'_>],
 ) -> Result<(), TextError>
     ensures { Gives result (kind_faults sig.old (spot_of name.entry) (map spot_of members.now))
-        (λ _. sig.new ≡ record sig.old { kinds = sig.old.kinds ++ kind_decl (spot_of name.entry) (map spot_of members.now) ∷ [] }) }
+        (λ _. sig.new
+        ≡ record sig.old {
+          kinds = sig.old.kinds ++ kind_decl (spot_of name.entry) (map spot_of members.now)
+              ∷ [];
+        }) }
 {
     let is_held = sig.find_kind(name.text).is_some();
     let is_large = members.len() > MAX_KIND_SYMBOLS;
@@ -182,7 +205,8 @@ fn declare_op_of(
     statement: &Statement<'_>,
 ) -> Result<(), TextError>
     ensures { (earlier : List syntax.Statement) → sig.old ≡ sig_with (op_decls earlier) []
-        → Gives result (op_statement_faults earlier (statement_tree statement.now)) (λ _. sig.new ≡ sig_with (op_decls (earlier ++ statement_tree statement.now ∷ [])) []) }
+        → Gives result (op_statement_faults earlier (statement_tree statement.now))
+        (λ _. sig.new ≡ sig_with (op_decls (earlier ++ statement_tree statement.now ∷ [])) []) }
 {
     match statement {
         Statement::Op {
@@ -204,7 +228,8 @@ fn declare_kind_of(
     statement: &Statement<'_>,
 ) -> Result<(), TextError>
     ensures { (ds : List decl.OpDecl) (earlier : List syntax.Statement) → sig.old ≡ sig_with ds earlier
-        → Gives result (kind_statement_faults ds earlier (statement_tree statement.now)) (λ _. sig.new ≡ sig_with ds (earlier ++ statement_tree statement.now ∷ [])) }
+        → Gives result (kind_statement_faults ds earlier (statement_tree statement.now))
+        (λ _. sig.new ≡ sig_with ds (earlier ++ statement_tree statement.now ∷ [])) }
 {
     match statement {
         Statement::Op { .. } => Ok(()),
@@ -216,7 +241,8 @@ fn declare_kind_of(
 
 /// The signature of the operations that the statements declare, or the first fault of such a declaration.
 fn declare_ops(alloc: Global, statements: &[Statement<'_>]) -> Result<Signature, TextError>
-    ensures { Gives result (faults_by op_statement_faults [] (map statement_tree statements.now)) (λ sig. sig ≡ sig_with (op_decls (map statement_tree statements.now)) []) }
+    ensures { Gives result (faults_by op_statement_faults [] (map statement_tree statements.now))
+        (λ sig. sig ≡ sig_with (op_decls (map statement_tree statements.now)) []) }
 {
     let mut sig = Signature::new(alloc)?;
     for statement in statements {
@@ -232,7 +258,8 @@ fn declare_kinds(
     statements: &[Statement<'_>],
 ) -> Result<(), TextError>
     requires no_kinds { sig.old ≡ sig_with sig.old.ops [] }
-    ensures { Gives result (faults_by (kind_statement_faults sig.old.ops) [] (map statement_tree statements.now)) (λ _. sig.new ≡ sig_with sig.old.ops (map statement_tree statements.now)) }
+    ensures { Gives result (faults_by (kind_statement_faults sig.old.ops) [] (map statement_tree statements.now))
+        (λ _. sig.new ≡ sig_with sig.old.ops (map statement_tree statements.now)) }
 {
     for statement in statements {
         declare_kind_of(alloc, sig, statement)?;
@@ -242,7 +269,8 @@ fn declare_kinds(
 
 /// The signature that the statements declare, or the first fault of a declaration.
 pub fn declare(alloc: Global, statements: &[Statement<'_>]) -> Result<Signature, TextError>
-    ensures { Gives result (declaration_faults (map statement_tree statements.now)) (λ sig. sig ≡ sig_of (map statement_tree statements.now)) }
+    ensures { Gives result (declaration_faults (map statement_tree statements.now))
+        (λ sig. sig ≡ sig_of (map statement_tree statements.now)) }
 {
     let mut sig = declare_ops(alloc, statements)?;
     declare_kinds(alloc, &mut sig, statements)?;

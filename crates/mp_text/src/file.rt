@@ -49,7 +49,8 @@ impl Subjects {
         }
     }
 
-    /// Adds a subject at the end. For want of memory it answers `Memory`, drops the subject and leaves the list as it was.
+    /// Adds a subject at the end. For want of memory it answers `Memory`, drops the subject and leaves the list as it
+    /// was.
     pub fn push(&mut self, item: Subject) -> Result<(), Memory>
         ensures ok { OnOk result (self.new ≡ self.old ++ subject_tree item ∷ []) }
         ensures err { OnErr result (self.new ≡ self.old) }
@@ -120,7 +121,8 @@ impl EditSets {
         }
     }
 
-    /// Adds an edit statement at the end. For want of memory it answers `Memory`, drops the statement and leaves the list as it was.
+    /// Adds an edit statement at the end. For want of memory it answers `Memory`, drops the statement and leaves the
+    /// list as it was.
     pub fn push(&mut self, item: EditSet) -> Result<(), Memory>
         ensures ok { OnOk result (self.new ≡ self.old ++ item ∷ []) }
         ensures err { OnErr result (self.new ≡ self.old) }

@@ -44,7 +44,8 @@ pub fn write_file<K: Sink>(file: &File, sink: &mut K) -> Result<(), Failed>
 /// does nothing when it runs.
 pub fn printed_file_is_its_statements()
     ensures { (file : FileTree) → StatementsHaveNames (file_spelling file) → AreStatements (file_spelling file)
-        → (read : List Statement) × IsSyntaxOf (file_text file) read × (map unplaced read ≡ map unplaced (file_spelling file)) }
+        → (read : List Statement) × IsSyntaxOf (file_text file) read
+        × (map unplaced read ≡ map unplaced (file_spelling file)) }
 {}
 
 /// Law: the text that a file is printed as, `file_text` of `specs/PrintedFile.antt`, is read as that file, for every

@@ -85,7 +85,8 @@ fn is_long_sign(sign: Option<InfixSign<'_>>) -> bool
 
 /// The flags and the least number of arguments, or one above 1,000 in its place, go together.
 fn is_in_order(least: u32, is_open: bool, flags: &[Flag<'_>]) -> bool
-    ensures { (name number : syntax.Spot) → least ≡ min (number_of number.text) 1001 → result ≡ in_order (op_decl name number is_open (map flag_of flags.now)) }
+    ensures { (name number : syntax.Spot) → least ≡ min (number_of number.text) 1001
+        → result ≡ in_order (op_decl name number is_open (map flag_of flags.now)) }
 {
     let assoc = !is_said(flags, FlagSort::Assoc) || (is_open && least <= 2);
     let one = !is_said(flags, FlagSort::One) || (is_open && least <= 1);
@@ -93,9 +94,11 @@ fn is_in_order(least: u32, is_open: bool, flags: &[Flag<'_>]) -> bool
     assoc && one && infix
 }
 
-/// A flag stands twice, the sign is too long, or the declaration isn't in order; the least number of arguments may be cut at 1,001.
+/// A flag stands twice, the sign is too long, or the declaration isn't in order; the least number of arguments may be
+/// cut at 1,001.
 pub fn has_bad_flags(least: u32, is_open: bool, flags: &[Flag<'_>]) -> bool
-    ensures { (name number : syntax.Spot) → least ≡ min (number_of number.text) 1001 → result ≡ has_bad_flags name number is_open (map flag_of flags.now) }
+    ensures { (name number : syntax.Spot) → least ≡ min (number_of number.text) 1001
+        → result ≡ has_bad_flags name number is_open (map flag_of flags.now) }
 {
     if some_flag_twice(flags) {
         return true;

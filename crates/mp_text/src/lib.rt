@@ -1,4 +1,5 @@
-//! Rule files: from the syntax trees of a file to its signature, rules and subjects, checked; and the printed text of files.
+//! Rule files: from the syntax trees of a file to its signature, rules and subjects, checked; and the printed text of
+//! files.
 #![tactic(auto)]
 
 mod alone;

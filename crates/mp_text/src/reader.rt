@@ -33,12 +33,13 @@ use std::alloc::Global;
 
 /// Reads a rule file: the operations, kinds, rules and subjects that its statements stand for.
 ///
-/// The text is a file exactly where its tokens spell statements (`IsSyntaxOf` of mp_syntax's `specs/Syntax.antt`) in which no
-/// check finds a fault (`faults` of `specs/FileChecks.antt`); the file is then `file_tree_of` of `specs/FileBuild.antt`, its terms and
-/// patterns in normal form. Its rules are sound (`AreSoundRules` of mp_pattern's `specs/SoundRule.antt`) and so are its subjects.
+/// The text is a file exactly where its tokens spell statements (`IsSyntaxOf` of mp_syntax's `specs/Syntax.antt`) in
+/// which no check finds a fault (`faults` of `specs/FileChecks.antt`); the file is then `file_tree_of` of
+/// `specs/FileBuild.antt`, its terms and patterns in normal form. Its rules are sound (`AreSoundRules` of mp_pattern's
+/// `specs/SoundRule.antt`) and so are its subjects.
 ///
-/// - `Text`: the text has this fault, by `IsFaultOf` of `specs/Reading.antt`: where it is statements, the first that the checks find, with
-///   its line and column, from 1; where it is no statements, `Unread` at line 1, column 1.
+/// - `Text`: the text has this fault, by `IsFaultOf` of `specs/Reading.antt`: where it is statements, the first that
+/// the checks find, with   its line and column, from 1; where it is no statements, `Unread` at line 1, column 1.
 /// - `Memory`: memory ran out.
 ///
 /// After an error nothing is kept.
@@ -128,7 +129,8 @@ pub(crate) fn subject_term(
     sig: &Signature,
     expr: &Expr<'_>,
 ) -> Result<Term, TextError>
-    ensures { Gives result (term_faults sig.now (expr_tree expr.now)) (λ t. tree t ≡ normal sig.now (term_of sig.now (expr_tree expr.now))) }
+    ensures { Gives result (term_faults sig.now (expr_tree expr.now))
+        (λ t. tree t ≡ normal sig.now (term_of sig.now (expr_tree expr.now))) }
 {
     let term = build_term(alloc, sig, expr)?;
     let term = normalise(alloc, sig, term)?;
@@ -145,8 +147,11 @@ fn add_rule(
     condition: &Option<Condition<'_>>,
 ) -> Result<(), TextError>
     ensures { (earlier : List syntax.Statement) → rules.old ≡ rules_of sig.now earlier
-        → Gives result (statement_faults sig.now earlier (RuleOf (spot_of name.entry) (expr_tree pattern.now) (if_tree condition.now)))
-        (λ _. rules.new ≡ rules_of sig.now (earlier ++ RuleOf (spot_of name.entry) (expr_tree pattern.now) (if_tree condition.now) ∷ [])) }
+        → Gives result
+        (statement_faults sig.now earlier (RuleOf (spot_of name.entry) (expr_tree pattern.now) (if_tree condition.now)))
+        (λ _. rules.new
+        ≡ rules_of sig.now (earlier ++ RuleOf (spot_of name.entry) (expr_tree pattern.now) (if_tree condition.now)
+        ∷ [])) }
 {
     let is_large = is_large_rule(alloc, pattern, condition)?;
     let is_held = has_rule(rules, name.text);
@@ -166,7 +171,8 @@ fn add_subject(
 ) -> Result<(), TextError>
     ensures { (earlier : List syntax.Statement) → subjects.old ≡ subjects_of sig.now earlier
         → Gives result (statement_faults sig.now earlier (SubjectOf (spot_of name.entry) (expr_tree term.now)))
-        (λ _. subjects.new ≡ subjects_of sig.now (earlier ++ SubjectOf (spot_of name.entry) (expr_tree term.now) ∷ [])) }
+        (λ _. subjects.new ≡ subjects_of sig.now
+        (earlier ++ SubjectOf (spot_of name.entry) (expr_tree term.now) ∷ [])) }
 {
     let is_large = is_large_term(term);
     let is_held = has_subject(subjects, name.text);
@@ -180,7 +186,8 @@ fn add_subject(
 /// Adds what a statement gives to the file.
 fn add_statement(alloc: Global, file: &mut File, statement: &Statement<'_>) -> Result<(), TextError>
     ensures { (sig : Sig) (earlier : List syntax.Statement) → file_tree file.old ≡ file_over sig earlier
-        → Gives result (statement_faults sig earlier (statement_tree statement.now)) (λ _. file_tree file.new ≡ file_over sig (earlier ++ statement_tree statement.now ∷ [])) }
+        → Gives result (statement_faults sig earlier (statement_tree statement.now))
+        (λ _. file_tree file.new ≡ file_over sig (earlier ++ statement_tree statement.now ∷ [])) }
 {
     match statement {
         Statement::Op { .. } => Ok(()),
@@ -202,7 +209,8 @@ fn add_statement(alloc: Global, file: &mut File, statement: &Statement<'_>) -> R
 
 /// The file that the statements stand for, or their first fault.
 fn build_file(alloc: Global, statements: &[Statement<'_>]) -> Result<File, TextError>
-    ensures { Gives result (faults (map statement_tree statements.now)) (λ f. file_tree f ≡ file_tree_of (map statement_tree statements.now)) }
+    ensures { Gives result (faults (map statement_tree statements.now))
+        (λ f. file_tree f ≡ file_tree_of (map statement_tree statements.now)) }
 {
     let sig = declare(alloc, statements)?;
     let mut file = File {

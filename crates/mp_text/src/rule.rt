@@ -28,7 +28,8 @@ use std::alloc::{AllocError, Global};
 
 /// The pattern of an expression in normal form, or its first fault.
 fn rule_pattern(alloc: Global, sig: &Signature, expr: &Expr<'_>) -> Result<Pattern, TextError>
-    ensures { Gives result (whole_pattern_faults sig.now (expr_tree expr.now)) (λ p. pattern_tree p ≡ normal_pattern sig.now (pattern_of sig.now (expr_tree expr.now))) }
+    ensures { Gives result (whole_pattern_faults sig.now (expr_tree expr.now))
+        (λ p. pattern_tree p ≡ normal_pattern sig.now (pattern_of sig.now (expr_tree expr.now))) }
 {
     let pattern = whole_pattern(alloc, sig, expr)?;
     let pattern = normalise_pattern(alloc, sig, pattern)?;
@@ -42,7 +43,9 @@ fn rule_condition(
     pattern: &Expr<'_>,
     condition: &Option<Condition<'_>>,
 ) -> Result<Option<Cond>, TextError>
-    ensures { Gives result (if_faults sig.now (Some (pattern_variables (expr_tree pattern.now))) (if_tree condition.now)) (λ c. option_map cond_tree c ≡ condition_of sig.now (if_tree condition.now)) }
+    ensures { Gives result
+        (if_faults sig.now (Some (pattern_variables (expr_tree pattern.now))) (if_tree condition.now))
+        (λ c. option_map cond_tree c ≡ condition_of sig.now (if_tree condition.now)) }
 {
     match condition {
         None => Ok(None),
@@ -70,7 +73,8 @@ pub fn is_large_rule(
     pattern: &Expr<'_>,
     condition: &Option<Condition<'_>>,
 ) -> Result<bool, AllocError>
-    ensures { IfOk result (λ large. large ≡ (is_large_pattern (expr_tree pattern.now) || has_large_condition (if_tree condition.now))) }
+    ensures { IfOk result
+        (λ large. large ≡ (is_large_pattern (expr_tree pattern.now) || has_large_condition (if_tree condition.now))) }
 {
     if is_large_pattern(alloc, pattern)? {
         return Ok(true);
@@ -86,7 +90,8 @@ pub fn build_rule(
     pattern: &Expr<'_>,
     condition: &Option<Condition<'_>>,
 ) -> Result<Rule, TextError>
-    ensures { Gives result (rule_faults sig.now (expr_tree pattern.now) (if_tree condition.now)) (λ r. rule_tree r ≡ rule_of sig.now (spot_of name.entry) (expr_tree pattern.now) (if_tree condition.now)) }
+    ensures { Gives result (rule_faults sig.now (expr_tree pattern.now) (if_tree condition.now))
+        (λ r. rule_tree r ≡ rule_of sig.now (spot_of name.entry) (expr_tree pattern.now) (if_tree condition.now)) }
 {
     let normal = rule_pattern(alloc, sig, pattern)?;
     let condition = rule_condition(alloc, sig, pattern, condition)?;

@@ -5,7 +5,8 @@ ghost use Rattle.mp_pattern.specs.PlanView.{form};
 ghost use Rattle.mp_syntax.specs.Syntax.{trees};
 ghost use Rattle.mp_syntax.specs.View.{expr_tree, wildcard_of};
 ghost use Rattle.mp_text.specs.Names.{all_wildcards};
-ghost use Rattle.mp_text.specs.Scope.{wildcard_variable, pattern_variables, plan_variables, is_sequence_form, is_bound, is_bound_sequence};
+ghost use Rattle.mp_text.specs.Scope.{wildcard_variable, pattern_variables, plan_variables, is_sequence_form, is_bound};
+ghost use Rattle.mp_text.specs.Scope.{is_bound_sequence};
 ghost use Rattle.mp_text.specs.ScopeView.{variable_of};
 
 use crate::build::marked_shape;
@@ -38,7 +39,8 @@ pub enum Scope<'a> {
 /// Adds the variables of the wildcards of an expression, in order.
 #[cycle(add_variables)]
 fn add_variables<'a>(expr: &Expr<'a>, variables: &mut Vec<Variable<'a>>) -> Result<(), AllocError>
-    ensures { OnOk result (map variable_of variables.new.items ≡ map variable_of variables.old.items ++ pattern_variables (expr_tree expr.now)) }
+    ensures { OnOk result (map variable_of variables.new.items
+        ≡ map variable_of variables.old.items ++ pattern_variables (expr_tree expr.now)) }
 {
     match expr {
         Expr::Symbol(_) => Ok(()),
@@ -56,7 +58,9 @@ fn add_all_variables<'a>(
     exprs: &[Expr<'a>],
     variables: &mut Vec<Variable<'a>>,
 ) -> Result<(), AllocError>
-    ensures { OnOk result (map variable_of variables.new.items ≡ map variable_of variables.old.items ++ map wildcard_variable (all_wildcards (trees (map expr_tree exprs.now)))) }
+    ensures { OnOk result (map variable_of variables.new.items
+        ≡ map variable_of variables.old.items ++ map wildcard_variable
+        (all_wildcards (trees (map expr_tree exprs.now)))) }
 {
     for expr in exprs {
         add_variables(expr, variables)?;
@@ -66,7 +70,8 @@ fn add_all_variables<'a>(
 
 /// Adds the variable of a wildcard.
 fn add_wildcard<'a>(wild: Wildcard<'a>, variables: &mut Vec<Variable<'a>>) -> Result<(), AllocError>
-    ensures { OnOk result (map variable_of variables.new.items ≡ map variable_of variables.old.items ++ wildcard_variable (wildcard_of wild.entry) ∷ []) }
+    ensures { OnOk result (map variable_of variables.new.items
+        ≡ map variable_of variables.old.items ++ wildcard_variable (wildcard_of wild.entry) ∷ []) }
 {
     variables.push(Variable {
         name: wild.name,

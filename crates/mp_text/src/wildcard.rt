@@ -9,7 +9,8 @@ ghost use Rattle.mp_pattern.specs.View.{pattern_tree, wildcard};
 ghost use Rattle.mp_syntax.specs.View.{wildcard_of, expr_tree};
 ghost use Rattle.mp_text.specs.Answers.{Gives};
 ghost use Rattle.mp_text.specs.Build.{shape_of, variable_of, term_of};
-ghost use Rattle.mp_text.specs.Wildcards.{default_form, without_default, with_default_form, same_default, same_class, differs};
+ghost use Rattle.mp_text.specs.Wildcards.{default_form, without_default, with_default_form, same_default, same_class};
+ghost use Rattle.mp_text.specs.Wildcards.{differs};
 ghost use Rattle.mp_text.specs.WildcardView.{default_view, wildcard_view};
 ghost use Rattle.mp_text.specs.Checks.{wildcard_faults, default_faults};
 
@@ -52,8 +53,12 @@ pub fn build_wildcard<'a>(
     wild: Wildcard<'a>,
     before: &mut Vec<PatternWildcard<'a>>,
 ) -> Result<Pattern, TextError>
-    ensures { Gives result (wildcard_faults sig.now (map wildcard_view before.old.items) (without_default (wildcard_of wild.entry)))
-        (λ p. (pattern_tree p ≡ wild_pattern (shape_of sig.now (wildcard_of wild.entry)) (variable_of wild.entry.name.now)) × (map wildcard_view before.new.items ≡ map wildcard_view before.old.items ++ without_default (wildcard_of wild.entry) ∷ [])) }
+    ensures { Gives result
+        (wildcard_faults sig.now (map wildcard_view before.old.items) (without_default (wildcard_of wild.entry)))
+        (λ p. (pattern_tree p ≡ wild_pattern (shape_of sig.now (wildcard_of wild.entry))
+        (variable_of wild.entry.name.now))
+        × (map wildcard_view before.new.items
+        ≡ map wildcard_view before.old.items ++ without_default (wildcard_of wild.entry) ∷ [])) }
 {
     let wildcard = PatternWildcard {
         wildcard: wild,
@@ -72,8 +77,15 @@ pub fn build_optional<'a>(
     default: &Expr<'a>,
     before: &mut Vec<PatternWildcard<'a>>,
 ) -> Result<Pattern, TextError>
-    ensures { Gives result (wildcard_faults sig.now (map wildcard_view before.old.items) (with_default_form sig.now (wildcard_of wild.entry) (map wildcard_of others.now) (expr_tree default.now)) ++ default_faults sig.now (map wildcard_of others.now) (expr_tree default.now))
-        (λ p. (pattern_tree p ≡ wild_pattern (optional (normal sig.now (term_of sig.now (expr_tree default.now)))) (variable_of wild.entry.name.now)) × (map wildcard_view before.new.items ≡ map wildcard_view before.old.items ++ with_default_form sig.now (wildcard_of wild.entry) (map wildcard_of others.now) (expr_tree default.now) ∷ [])) }
+    ensures { Gives result
+        (wildcard_faults sig.now (map wildcard_view before.old.items)
+        (with_default_form sig.now (wildcard_of wild.entry) (map wildcard_of others.now) (expr_tree default.now))
+        ++ default_faults sig.now (map wildcard_of others.now) (expr_tree default.now))
+        (λ p. (pattern_tree p ≡ wild_pattern (optional (normal sig.now (term_of sig.now (expr_tree default.now))))
+        (variable_of wild.entry.name.now))
+        × (map wildcard_view before.new.items
+        ≡ map wildcard_view before.old.items ++ with_default_form sig.now (wildcard_of wild.entry)
+        (map wildcard_of others.now) (expr_tree default.now) ∷ [])) }
 {
     let form = default_form(alloc, sig, others, default)?;
     let wildcard = PatternWildcard {
@@ -85,8 +97,8 @@ pub fn build_optional<'a>(
     Ok(Pattern::Wild(Shape::Opt(term), name))
 }
 
-/// What a wildcard behind these takes as its underscores and its kind say, and its variable; or its first fault. The wildcard is
-/// added to them.
+/// What a wildcard behind these takes as its underscores and its kind say, and its variable; or its first fault. The
+/// wildcard is added to them.
 fn add_wildcard<'a>(
     alloc: Global,
     sig: &Signature,
@@ -94,7 +106,10 @@ fn add_wildcard<'a>(
     before: &mut Vec<PatternWildcard<'a>>,
 ) -> Result<(Shape, Option<Name>), TextError>
     ensures { Gives result (wildcard_faults sig.now (map wildcard_view before.old.items) (wildcard_view new.entry))
-        (λ r. (wildcard r.0 ≡ shape_of sig.now (wildcard_of new.entry.wildcard)) × (r.1 ≡ variable_of new.entry.wildcard.name.now) × (map wildcard_view before.new.items ≡ map wildcard_view before.old.items ++ wildcard_view new.entry ∷ [])) }
+        (λ r. (wildcard r.0 ≡ shape_of sig.now (wildcard_of new.entry.wildcard))
+        × (r.1 ≡ variable_of new.entry.wildcard.name.now)
+        × (map wildcard_view before.new.items
+        ≡ map wildcard_view before.old.items ++ wildcard_view new.entry ∷ [])) }
 {
     let shape = shape(sig, new.wildcard)?;
     if some_differs(&new, before) {
@@ -112,7 +127,8 @@ fn default_form(
     others: &[Wildcard<'_>],
     default: &Expr<'_>,
 ) -> Result<DefaultForm, TextError>
-    ensures { Gives result [] (λ f. default_view f ≡ default_form sig.now (map wildcard_of others.now) (expr_tree default.now)) }
+    ensures { Gives result [] (λ f. default_view f
+        ≡ default_form sig.now (map wildcard_of others.now) (expr_tree default.now)) }
 {
     if !others.is_empty() {
         return Ok(DefaultForm::Unknown);
@@ -133,7 +149,8 @@ fn default_term(
     others: &[Wildcard<'_>],
     default: &Expr<'_>,
 ) -> Result<Term, TextError>
-    ensures { Gives result (default_faults sig.now (map wildcard_of others.now) (expr_tree default.now)) (λ t. tree t ≡ normal sig.now (term_of sig.now (expr_tree default.now))) }
+    ensures { Gives result (default_faults sig.now (map wildcard_of others.now) (expr_tree default.now))
+        (λ t. tree t ≡ normal sig.now (term_of sig.now (expr_tree default.now))) }
 {
     if let [other, ..] = others {
         return Err(wildcard_in_term(sig, *other));

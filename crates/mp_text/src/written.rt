@@ -14,15 +14,16 @@ use mp_syntax::Expr;
 use mp_term::{OpId, Signature, Term, Terms};
 use std::alloc::Global;
 
-/// The term of an expression as it is written, where it is one: it holds no wildcard, and each of its operations is one of the
-/// signature's. It may have any number of arguments, and a symbol may have the name of an operation.
+/// The term of an expression as it is written, where it is one: it holds no wildcard, and each of its operations is one
+/// of the signature's. It may have any number of arguments, and a symbol may have the name of an operation.
 #[cycle(written_term)]
 pub fn written_term(
     alloc: Global,
     sig: &Signature,
     expr: &Expr<'_>,
 ) -> Result<Option<Term>, TextError>
-    ensures { Gives result [] (λ o. option_map tree o ≡ (if has_term sig.now (expr_tree expr.now) then Some (term_of sig.now (expr_tree expr.now)) else None)) }
+    ensures { Gives result [] (λ o. option_map tree o
+        ≡ (if has_term sig.now (expr_tree expr.now) then Some (term_of sig.now (expr_tree expr.now)) else None)) }
 {
     match expr {
         Expr::Symbol(word) => {
@@ -51,7 +52,9 @@ fn written_application(
     op: OpId,
     args: &[Expr<'_>],
 ) -> Result<Option<Term>, TextError>
-    ensures { Gives result [] (λ o. option_map tree o ≡ (if all_have_terms sig.now (trees (map expr_tree args.now)) then Some (term.app op.0 (term.trees (map (term_of sig.now) (map expr_tree args.now)))) else None)) }
+    ensures { Gives result [] (λ o. option_map tree o
+        ≡ (if all_have_terms sig.now (trees (map expr_tree args.now)) then Some
+        (term.app op.0 (term.trees (map (term_of sig.now) (map expr_tree args.now)))) else None)) }
 {
     match written_terms(alloc, sig, args)? {
         None => Ok(None),
@@ -66,7 +69,9 @@ fn written_terms(
     sig: &Signature,
     exprs: &[Expr<'_>],
 ) -> Result<Option<Terms>, TextError>
-    ensures { Gives result [] (λ o. o ≡ (if all_have_terms sig.now (trees (map expr_tree exprs.now)) then Some (map (term_of sig.now) (map expr_tree exprs.now)) else None)) }
+    ensures { Gives result []
+        (λ o. o ≡ (if all_have_terms sig.now (trees (map expr_tree exprs.now)) then Some
+        (map (term_of sig.now) (map expr_tree exprs.now)) else None)) }
 {
     let mut terms = Terms::new(alloc);
     for expr in exprs {

@@ -13,8 +13,10 @@ invariant-build_patterns-loop-expr l =
     let rest = map expr_tree (drop l.expr-index l.exprs) in
     record {
       built : l.patterns ++ map (pattern_of l.sig) rest ≡ map (pattern_of l.sig) (map expr_tree l.exprs);
-      faults : all_pattern_faults l.sig (map wildcard_view l.before.items) (trees rest) ≡ all_pattern_faults l.sig (map wildcard_view l.fn.before.items) (trees (map expr_tree l.exprs));
-      seen : map wildcard_view l.before.items ++ all_pattern_wildcards l.sig (trees rest) ≡ map wildcard_view l.fn.before.items ++ all_pattern_wildcards l.sig (trees (map expr_tree l.exprs));
+      faults : all_pattern_faults l.sig (map wildcard_view l.before.items) (trees rest)
+          ≡ all_pattern_faults l.sig (map wildcard_view l.fn.before.items) (trees (map expr_tree l.exprs));
+      seen : map wildcard_view l.before.items ++ all_pattern_wildcards l.sig (trees rest)
+          ≡ map wildcard_view l.fn.before.items ++ all_pattern_wildcards l.sig (trees (map expr_tree l.exprs));
     }
 
 -- each function of the cycle is nearer to the expressions than the one before it

@@ -5,4 +5,6 @@ use Rattle.mp_text.specs.Checks.{some_large_default}
 use Rattle.mp_text.proofs.checks.+has_large_default.Given as goal
 
 abbrev pub invariant-some_large_default-loop-expr : goal.invariant-some_large_default-loop-expr
-invariant-some_large_default-loop-expr l = some_large_default (trees (map expr_tree (drop l.expr-index l.exprs))) ≡ some_large_default (trees (map expr_tree l.exprs))
+invariant-some_large_default-loop-expr l =
+    some_large_default (trees (map expr_tree (drop l.expr-index l.exprs)))
+    ≡ some_large_default (trees (map expr_tree l.exprs))

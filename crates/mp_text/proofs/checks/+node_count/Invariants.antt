@@ -7,7 +7,8 @@ use Rattle.mp_text.proofs.checks.+node_count.Given as goal
 abbrev pub invariant-node_counts-loop-expr : goal.invariant-node_counts-loop-expr
 invariant-node_counts-loop-expr l = record {
   fits : l.count ≤ 2 ^ 64 - 1;
-  rest : min (l.count + all_nodes (trees (map expr_tree (drop l.expr-index l.exprs)))) (2 ^ 64 - 1) ≡ min (all_nodes (trees (map expr_tree l.exprs))) (2 ^ 64 - 1);
+  rest : min (l.count + all_nodes (trees (map expr_tree (drop l.expr-index l.exprs)))) (2 ^ 64 - 1)
+      ≡ min (all_nodes (trees (map expr_tree l.exprs))) (2 ^ 64 - 1);
 }
 
 -- a list of expressions lies between the expression that holds it and its items

@@ -7,4 +7,5 @@ use Rattle.mp_text.proofs.checks.may_reach.Given as goal
 
 abbrev pub invariant-loop-arg : goal.invariant-loop-arg
 invariant-loop-arg l =
-    (sig : Sig) → reaches l.missing (greatest l.assoc (map (pattern_of sig) (map expr_tree (drop l.arg-index l.args)))) ≡ reaches l.count (greatest l.assoc (map (pattern_of sig) (map expr_tree l.args)))
+    (sig : Sig) → reaches l.missing (greatest l.assoc (map (pattern_of sig) (map expr_tree (drop l.arg-index l.args))))
+    ≡ reaches l.count (greatest l.assoc (map (pattern_of sig) (map expr_tree l.args)))

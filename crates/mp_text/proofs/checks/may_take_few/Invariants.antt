@@ -8,4 +8,5 @@ use Rattle.mp_text.proofs.checks.may_take_few.Given as goal
 
 abbrev pub invariant-loop-arg : goal.invariant-loop-arg
 invariant-loop-arg l =
-    (sig : Sig) → nat_le (fewest (map (pattern_of sig) (map expr_tree (drop l.arg-index l.args)))) l.room ≡ nat_le (fewest (map (pattern_of sig) (map expr_tree l.args))) l.count
+    (sig : Sig) → nat_le (fewest (map (pattern_of sig) (map expr_tree (drop l.arg-index l.args)))) l.room
+    ≡ nat_le (fewest (map (pattern_of sig) (map expr_tree l.args))) l.count

@@ -8,5 +8,6 @@ use Rattle.mp_text.proofs.checks.name_count.Given as goal
 
 abbrev pub invariant-loop-variable : goal.invariant-loop-variable
 invariant-loop-variable l =
-    firsts_after bytes_eq (map (λ n. n.now) l.names.items) (flat_map (λ v. named v.name) (map variable_of (drop l.variable-index l.variables)))
+    firsts_after bytes_eq (map (λ n. n.now) l.names.items)
+    (flat_map (λ v. named v.name) (map variable_of (drop l.variable-index l.variables)))
     ≡ firsts_after bytes_eq [] (flat_map (λ v. named v.name) (map variable_of l.variables))

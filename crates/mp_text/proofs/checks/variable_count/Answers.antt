@@ -12,10 +12,12 @@ use Rattle.mp_text.proofs.checks.variable_count.Goals as goal
 
 -- the names of the variables are those of the wildcards
 counted : {E : Type 0} (p : Tree) (vs : List Variable) (r : Result ℕ E) → vs ≡ pattern_variables p
-    → IfOk r (λ n. n ≡ length (firsts_after bytes_eq [] (flat_map (λ v. named v.name) vs))) → IfOk r (λ n. n ≡ length (variable_names p))
+    → IfOk r (λ n. n ≡ length (firsts_after bytes_eq [] (flat_map (λ v. named v.name) vs)))
+    → IfOk r (λ n. n ≡ length (variable_names p))
 counted p vs r e h =
     subst (λ l. IfOk r (λ n. n ≡ length (firsts_after bytes_eq [] l)))
-    (ap (flat_map (λ (v : Variable). named v.name)) e ∙ flat_map-map (λ (v : Variable). named v.name) wildcard_variable (wildcards p)) h
+    (ap (flat_map (λ (v : Variable). named v.name)) e
+    ∙ flat_map-map (λ (v : Variable). named v.name) wildcard_variable (wildcards p)) h
 
 pub returns : goal.returns
 returns c =

@@ -14,5 +14,7 @@ pub returns-in-Ok : goal.returns-in-Ok
 returns-in-Ok c =
     let tree = condition_tree c.in-Ok.condition in
     let faults = condition_alone_faults c.args.sig.now (scope_of c.args.scope.now) in
-    subst (λ r. Answers faults (placed_cond_of c.args.sig.now) cond_tree (at_place (first_token_place c.args.bytes.now) r) c.cond_alone.result)
-    (sym (condition_reading-only c.args.bytes.now tree c.in-Ok.ensures.found)) (rw c.first_token_place-start.ensures at c.cond_alone.ensures)
+    subst (λ r. Answers faults (placed_cond_of c.args.sig.now) cond_tree
+    (at_place (first_token_place c.args.bytes.now) r) c.cond_alone.result)
+    (sym (condition_reading-only c.args.bytes.now tree c.in-Ok.ensures.found))
+    (rw c.first_token_place-start.ensures at c.cond_alone.ensures)

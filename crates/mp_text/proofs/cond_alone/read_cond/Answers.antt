@@ -9,20 +9,28 @@ use Rattle.mp_text.proofs.cond_alone.read_cond.Goals as goal
 
 pub returns-clause-found : goal.returns-clause-found
 returns-clause-found c =
-    answers-found IsPlacedConditionOf placed_reading IsReading-placed_reading (condition_alone_faults c.args.sig.now (Some (plan_variables c.args.plan.now))) (placed_cond_of c.args.sig.now) cond_tree c.args.bytes.now c.cond_of_text.result
+    answers-found IsPlacedConditionOf placed_reading IsReading-placed_reading
+    (condition_alone_faults c.args.sig.now (Some (plan_variables c.args.plan.now)))
+    (placed_cond_of c.args.sig.now) cond_tree c.args.bytes.now c.cond_of_text.result
     (rw c.in_ok-variables.ensures at c.cond_of_text.ensures)
 
 pub returns-clause-only : goal.returns-clause-only
 returns-clause-only c =
-    answers-only IsPlacedConditionOf placed_reading IsReading-placed_reading (condition_alone_faults c.args.sig.now (Some (plan_variables c.args.plan.now))) (placed_cond_of c.args.sig.now) cond_tree c.args.bytes.now c.cond_of_text.result
+    answers-only IsPlacedConditionOf placed_reading IsReading-placed_reading
+    (condition_alone_faults c.args.sig.now (Some (plan_variables c.args.plan.now)))
+    (placed_cond_of c.args.sig.now) cond_tree c.args.bytes.now c.cond_of_text.result
     (rw c.in_ok-variables.ensures at c.cond_of_text.ensures)
 
 pub returns-clause-fault : goal.returns-clause-fault
 returns-clause-fault c =
-    answers-fault IsPlacedConditionOf placed_reading IsReading-placed_reading (condition_alone_faults c.args.sig.now (Some (plan_variables c.args.plan.now))) (placed_cond_of c.args.sig.now) cond_tree c.args.bytes.now c.cond_of_text.result
+    answers-fault IsPlacedConditionOf placed_reading IsReading-placed_reading
+    (condition_alone_faults c.args.sig.now (Some (plan_variables c.args.plan.now)))
+    (placed_cond_of c.args.sig.now) cond_tree c.args.bytes.now c.cond_of_text.result
     (rw c.in_ok-variables.ensures at c.cond_of_text.ensures)
 
 pub returns-clause-only_fault : goal.returns-clause-only_fault
 returns-clause-only_fault c =
-    answers-only_fault IsPlacedConditionOf placed_reading IsReading-placed_reading (condition_alone_faults c.args.sig.now (Some (plan_variables c.args.plan.now))) (placed_cond_of c.args.sig.now) cond_tree c.args.bytes.now c.cond_of_text.result
+    answers-only_fault IsPlacedConditionOf placed_reading IsReading-placed_reading
+    (condition_alone_faults c.args.sig.now (Some (plan_variables c.args.plan.now)))
+    (placed_cond_of c.args.sig.now) cond_tree c.args.bytes.now c.cond_of_text.result
     (rw c.in_ok-variables.ensures at c.cond_of_text.ensures)

@@ -20,8 +20,13 @@ build_alternative-returns t c =
     let parts = c.as_slice-literals.result.now in
     let ls = map literal_tree parts in
     let cs = map (literal_of sig) ls in
-    let several : length cs ≡ 1 → ⊥ = λ e. c.if-literals-eq1.false (sym (length-map parts literal_tree) ∙ sym (length-map ls (literal_of sig)) ∙ e) in
-    (rw c.as_slice-literals.ensures.value at c.in_ok-conds.ensures.0, rw c.as_slice-literals.ensures.value at (ap (λ l. all_of (conds l)) c.in_ok-conds.ensures.1 ∙ sym (joined-several all_of cs several) ∙ ap (joined all_of) (sym (literals_of-literals sig ls))))
+    let several : length cs ≡ 1 → ⊥ = λ e. c.if-literals-eq1.false
+    (sym (length-map parts literal_tree) ∙ sym (length-map ls (literal_of sig)) ∙ e) in (
+      rw c.as_slice-literals.ensures.value at c.in_ok-conds.ensures.0,
+      rw c.as_slice-literals.ensures.value
+          at (ap (λ l. all_of (conds l)) c.in_ok-conds.ensures.1 ∙ sym (joined-several all_of cs several)
+          ∙ ap (joined all_of) (sym (literals_of-literals sig ls))),
+    )
 
 pub build_condition-build_alternative-requires : goal.build_condition-build_alternative-requires
 build_condition-build_alternative-requires t c =
@@ -31,10 +36,13 @@ pub build_condition-returns-then-alternatives-eq1 : goal.build_condition-returns
 build_condition-returns-then-alternatives-eq1 t c =
     let sig = c.args.sig.now in
     let scope = scope_of c.args.scope.now in
-    let only = condition_tree-only c.args.condition.now c.as_slice-alternatives.result.now c.index-alternatives-0.result c.as_slice-alternatives.ensures.value (omega arith) (omega arith) c.index-alternatives-0.is in
-    let P : Condition → Type 0 = λ x. Gives c.build_alternative.result (condition_faults sig scope x) (λ d. cond_tree d ≡ cond_of sig x) in
+    let only = condition_tree-only c.args.condition.now c.as_slice-alternatives.result.now c.index-alternatives-0.result
+    c.as_slice-alternatives.ensures.value (omega arith) (omega arith) c.index-alternatives-0.is in
+    let P : Condition → Type 0 = λ x. Gives c.build_alternative.result (condition_faults sig scope x)
+    (λ d. cond_tree d ≡ cond_of sig x) in
     let a = alternative_tree c.index-alternatives-0.result in
-    subst P (sym only) (subst (λ fs. Gives c.build_alternative.result fs (λ d. cond_tree d ≡ alternative_of sig a)) (sym (append-nil (literals_faults sig scope a))) c.build_alternative.ensures)
+    subst P (sym only) (subst (λ fs. Gives c.build_alternative.result fs (λ d. cond_tree d ≡ alternative_of sig a))
+    (sym (append-nil (literals_faults sig scope a))) c.build_alternative.ensures)
 
 pub build_condition-build_alternatives-requires : goal.build_condition-build_alternatives-requires
 build_condition-build_alternatives-requires t c =
@@ -43,7 +51,12 @@ build_condition-build_alternatives-requires t c =
 pub build_condition-returns-in_err-conds : goal.build_condition-returns-in_err-conds
 build_condition-returns-in_err-conds t c =
     let p = err_from_is_err_and c.from_residual.result c.from_residual.ensures.1 in
-    rw (p.1, p.2, condition_tree-slice c.args.condition.now c.as_slice-alternatives.result.now c.as_slice-alternatives.ensures.value) c.in_err-conds.ensures
+    rw (
+      p.1,
+      p.2,
+      condition_tree-slice c.args.condition.now c.as_slice-alternatives.result.now
+          c.as_slice-alternatives.ensures.value,
+    ) c.in_err-conds.ensures
 
 pub build_condition-returns : goal.build_condition-returns
 build_condition-returns t c =
@@ -52,7 +65,9 @@ build_condition-returns t c =
     let all = condition_tree-slice c.args.condition.now items c.as_slice-alternatives.ensures.value in
     let parts = map alternative_tree items in
     let cs = map (alternative_of sig) parts in
-    let several : length cs ≡ 1 → ⊥ = λ e. c.if-alternatives-eq1.false (sym (length-map items alternative_tree) ∙ sym (length-map parts (alternative_of sig)) ∙ e) in (
+    let several : length cs ≡ 1 → ⊥ = λ e. c.if-alternatives-eq1.false
+    (sym (length-map items alternative_tree) ∙ sym (length-map parts (alternative_of sig)) ∙ e) in (
       ap (condition_faults sig (scope_of c.args.scope.now)) all ∙ c.in_ok-conds.ensures.0,
-      ap (λ l. any_of (conds l)) c.in_ok-conds.ensures.1 ∙ sym (joined-several any_of cs several) ∙ ap (joined any_of) (sym (alternatives_of-condition sig parts)) ∙ ap (cond_of sig) (sym all),
+      ap (λ l. any_of (conds l)) c.in_ok-conds.ensures.1 ∙ sym (joined-several any_of cs several)
+          ∙ ap (joined any_of) (sym (alternatives_of-condition sig parts)) ∙ ap (cond_of sig) (sym all),
     )

@@ -11,8 +11,10 @@ abbrev pub invariant-build_alternatives-loop-alternative : goal.invariant-build_
 invariant-build_alternatives-loop-alternative l =
     let rest = map alternative_tree (drop l.alternative-index l.alternatives) in
     record {
-      built : l.conds ++ map (alternative_of l.sig) rest ≡ map (alternative_of l.sig) (map alternative_tree l.alternatives);
-      faults : condition_faults l.sig (scope_of l.scope) (condition rest) ≡ condition_faults l.sig (scope_of l.scope) (condition (map alternative_tree l.alternatives));
+      built : l.conds ++ map (alternative_of l.sig) rest
+          ≡ map (alternative_of l.sig) (map alternative_tree l.alternatives);
+      faults : condition_faults l.sig (scope_of l.scope) (condition rest)
+          ≡ condition_faults l.sig (scope_of l.scope) (condition (map alternative_tree l.alternatives));
     }
 
 -- the same of literals
@@ -21,5 +23,6 @@ invariant-build_literals-loop-literal l =
     let rest = map literal_tree (drop l.literal-index l.parts) in
     record {
       built : l.conds ++ map (literal_of l.sig) rest ≡ map (literal_of l.sig) (map literal_tree l.parts);
-      faults : literals_faults l.sig (scope_of l.scope) (literals rest) ≡ literals_faults l.sig (scope_of l.scope) (literals (map literal_tree l.parts));
+      faults : literals_faults l.sig (scope_of l.scope) (literals rest)
+          ≡ literals_faults l.sig (scope_of l.scope) (literals (map literal_tree l.parts));
     }

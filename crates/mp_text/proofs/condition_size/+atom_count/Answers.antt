@@ -8,4 +8,5 @@ atom_count-returns t c =
     let items = c.deref-alternative-items.result.now in
     let none : drop c.loop-alternative.alternative-index items ≡ [] = drop_of_length-le items (omega arith) in
     let rest = rw none at c.loop-alternative.invariant.rest in
-    rw (condition_tree-slice c.args.condition.now items c.deref-alternative-items.ensures.value) (omega (arith, rest, c.loop-alternative.invariant.fits))
+    rw (condition_tree-slice c.args.condition.now items c.deref-alternative-items.ensures.value)
+    (omega (arith, rest, c.loop-alternative.invariant.fits))

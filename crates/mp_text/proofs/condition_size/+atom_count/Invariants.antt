@@ -8,11 +8,14 @@ use Rattle.mp_text.proofs.condition_size.+atom_count.Given as goal
 abbrev pub invariant-atom_count-loop-alternative : goal.invariant-atom_count-loop-alternative
 invariant-atom_count-loop-alternative l = record {
   fits : l.count ≤ 2 ^ 64 - 1;
-  rest : min (l.count + length (atoms (condition (map alternative_tree (drop l.alternative-index l.alternative-items))))) (2 ^ 64 - 1) ≡ min (length (atoms (condition (map alternative_tree l.alternative-items)))) (2 ^ 64 - 1);
+  rest : min
+      (l.count + length (atoms (condition (map alternative_tree (drop l.alternative-index l.alternative-items)))))
+      (2 ^ 64 - 1) ≡ min (length (atoms (condition (map alternative_tree l.alternative-items)))) (2 ^ 64 - 1);
 }
 
 abbrev pub invariant-alternative_atom_count-loop-literal : goal.invariant-alternative_atom_count-loop-literal
 invariant-alternative_atom_count-loop-literal l = record {
   fits : l.count ≤ 2 ^ 64 - 1;
-  rest : min (l.count + length (literals_atoms (literals (map literal_tree (drop l.literal-index l.literal-items))))) (2 ^ 64 - 1) ≡ min (length (literals_atoms (literals (map literal_tree l.literal-items)))) (2 ^ 64 - 1);
+  rest : min (l.count + length (literals_atoms (literals (map literal_tree (drop l.literal-index l.literal-items)))))
+      (2 ^ 64 - 1) ≡ min (length (literals_atoms (literals (map literal_tree l.literal-items)))) (2 ^ 64 - 1);
 }

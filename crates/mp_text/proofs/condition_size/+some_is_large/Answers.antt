@@ -18,16 +18,20 @@ some_is_large-returns-then-some_in_alternative t c =
     let x = c.alternative-item.result in
     let a = literals_atoms (alternative_tree x) in
     let others = atoms (condition (map alternative_tree (drop (i + 1) items))) in
-    sym (ap (λ k. list_any has_large_operand (atoms k)) (condition_tree-slice c.args.condition.now items c.deref-alternative-items.ensures.value)
+    sym (ap (λ k. list_any has_large_operand (atoms k))
+    (condition_tree-slice c.args.condition.now items c.deref-alternative-items.ensures.value)
     ∙ sym c.loop-alternative.invariant
-    ∙ ap (λ l. list_any has_large_operand (atoms (condition (map alternative_tree l)))) (drop-item items i x (omega arith) c.alternative-item.is)
+    ∙ ap (λ l. list_any has_large_operand (atoms (condition (map alternative_tree l))))
+    (drop-item items i x (omega arith) c.alternative-item.is)
     ∙ list_any-append has_large_operand a others
-    ∙ or_left (list_any has_large_operand a) (list_any has_large_operand others) (sym c.some_in_alternative.ensures ∙ c.if-some_in_alternative.true))
+    ∙ or_left (list_any has_large_operand a) (list_any has_large_operand others)
+    (sym c.some_in_alternative.ensures ∙ c.if-some_in_alternative.true))
 
 pub some_is_large-returns : goal.some_is_large-returns
 some_is_large-returns t c =
     let items = c.deref-alternative-items.result.now in
     let none : drop c.loop-alternative.alternative-index items ≡ [] = drop_of_length-le items (omega arith) in
-    sym (ap (λ k. list_any has_large_operand (atoms k)) (condition_tree-slice c.args.condition.now items c.deref-alternative-items.ensures.value)
+    sym (ap (λ k. list_any has_large_operand (atoms k))
+    (condition_tree-slice c.args.condition.now items c.deref-alternative-items.ensures.value)
     ∙ sym c.loop-alternative.invariant
     ∙ ap (λ l. list_any has_large_operand (atoms (condition (map alternative_tree l)))) none)

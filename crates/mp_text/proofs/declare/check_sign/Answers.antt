@@ -12,12 +12,16 @@ pub returns-then-is_some : goal.returns-then-is_some
 returns-then-is_some c =
     let text = c.in-Some.sign.text.now in
     let ops = c.args.sig.now.ops in
-    let test = sym (is_some-found_sign (λ (id : OpId). id.0) c.find_sign.result text ops c.find_sign.ensures) ∙ sym c.is_some.ensures ∙ c.if-is_some.true in
-    rw c.in-Some.is (fails-fault_if c.error_at.result (list_any (has_sign text) ops) DuplicateName c.in-Some.sign.place c.error_at.ensures test)
+    let test = sym (is_some-found_sign (λ (id : OpId). id.0) c.find_sign.result text ops c.find_sign.ensures)
+    ∙ sym c.is_some.ensures ∙ c.if-is_some.true in
+    rw c.in-Some.is
+    (fails-fault_if c.error_at.result (list_any (has_sign text) ops) DuplicateName c.in-Some.sign.place
+    c.error_at.ensures test)
 
 pub returns-else-is_some : goal.returns-else-is_some
 returns-else-is_some c =
     let text = c.in-Some.sign.text.now in
     let ops = c.args.sig.now.ops in
-    let test = sym (is_some-found_sign (λ (id : OpId). id.0) c.find_sign.result text ops c.find_sign.ensures) ∙ sym c.is_some.ensures ∙ c.if-is_some.false in
+    let test = sym (is_some-found_sign (λ (id : OpId). id.0) c.find_sign.result text ops c.find_sign.ensures)
+    ∙ sym c.is_some.ensures ∙ c.if-is_some.false in
     (rw c.in-Some.is (none-fault_if (list_any (has_sign text) ops) DuplicateName c.in-Some.sign.place test), tt)

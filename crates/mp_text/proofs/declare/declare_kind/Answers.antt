@@ -15,23 +15,29 @@ use Rattle.mp_text.proofs.declare.declare_kind.Goals as goal
 
 -- the faults of a kind whose members the code holds in a list
 kind_faults-members : (sig : Sig) (name : Spot) (members : List code.Word)
-    → name_faults MAX_KINDS (kind_names sig) (ltb MAX_KIND_SYMBOLS (length members)) name ++ flat_map (symbol_faults sig) (map spot_of members) ≡ kind_faults sig name (map spot_of members)
-kind_faults-members sig name members = ap (λ n. name_faults MAX_KINDS (kind_names sig) (ltb MAX_KIND_SYMBOLS n) name ++ flat_map (symbol_faults sig) (map spot_of members)) (sym (length-map members spot_of))
+    → name_faults MAX_KINDS (kind_names sig) (ltb MAX_KIND_SYMBOLS (length members)) name
+    ++ flat_map (symbol_faults sig) (map spot_of members) ≡ kind_faults sig name (map spot_of members)
+kind_faults-members sig name members = ap
+    (λ n. name_faults MAX_KINDS (kind_names sig) (ltb MAX_KIND_SYMBOLS n) name
+    ++ flat_map (symbol_faults sig) (map spot_of members)) (sym (length-map members spot_of))
 
 pub returns-in_err-check_name : goal.returns-in_err-check_name
 returns-in_err-check_name c =
     let p = err_from_is_err_and c.from_residual.result c.from_residual.ensures.1 in
     let e = c.in_err-check_name.field-0.0 in
     let names = kind_names c.args.sig.now in
-    let held = c.is_some-is_held.ensures ∙ is_some-found_kind (λ (id : KindId). id.0) c.find_kind.result c.args.name.text.now names c.find_kind.ensures in
-    rw (p.1, p.2) (fails-along e _ _ (kind_faults-members c.args.sig.now (spot_of c.args.name) c.args.members.now) (fails-front e _ _ (c.in_err-check_name.ensures names held c.kind_count.ensures.count)))
+    let held = c.is_some-is_held.ensures ∙ is_some-found_kind
+    (λ (id : KindId). id.0) c.find_kind.result c.args.name.text.now names c.find_kind.ensures in
+    rw (p.1, p.2) (fails-along e _ _ (kind_faults-members c.args.sig.now (spot_of c.args.name) c.args.members.now)
+    (fails-front e _ _ (c.in_err-check_name.ensures names held c.kind_count.ensures.count)))
 
 pub returns-in_err-members : goal.returns-in_err-members
 returns-in_err-members c =
     let p = err_from_is_err_and c.from_residual-in_err-members.result c.from_residual-in_err-members.ensures.1 in
     let e = c.in_err-members.field-0.0 in
     let names = kind_names c.args.sig.now in
-    let held = c.is_some-is_held.ensures ∙ is_some-found_kind (λ (id : KindId). id.0) c.find_kind.result c.args.name.text.now names c.find_kind.ensures in
+    let held = c.is_some-is_held.ensures ∙ is_some-found_kind
+    (λ (id : KindId). id.0) c.find_kind.result c.args.name.text.now names c.find_kind.ensures in
     rw (p.1, p.2)
     (fails-along e _ _ (kind_faults-members c.args.sig.now (spot_of c.args.name) c.args.members.now)
     (fails-behind e _ _ (c.in_ok-check_name.ensures names held c.kind_count.ensures.count).0 c.in_err-members.ensures))
@@ -39,7 +45,11 @@ returns-in_err-members c =
 pub returns-in-Ok : goal.returns-in-Ok
 returns-in-Ok c =
     let names = kind_names c.args.sig.now in
-    let held = c.is_some-is_held.ensures ∙ is_some-found_kind (λ (id : KindId). id.0) c.find_kind.result c.args.name.text.now names c.find_kind.ensures in (
-      sym (kind_faults-members c.args.sig.now (spot_of c.args.name) c.args.members.now) ∙ none-append _ _ (c.in_ok-check_name.ensures names held c.kind_count.ensures.count).0 ∙ c.in_ok-members.ensures.0,
-      kind_added c.args.sig.now c.add_kind.new.self _ _ (spot_of c.args.name) (map spot_of c.args.members.now) c.in-Ok.ensures.ok c.in_ok-name.ensures.1 c.in_ok-members.ensures.1,
+    let held = c.is_some-is_held.ensures ∙ is_some-found_kind
+    (λ (id : KindId). id.0) c.find_kind.result c.args.name.text.now names c.find_kind.ensures in (
+      sym (kind_faults-members c.args.sig.now (spot_of c.args.name) c.args.members.now)
+          ∙ none-append _ _ (c.in_ok-check_name.ensures names held c.kind_count.ensures.count).0
+          ∙ c.in_ok-members.ensures.0,
+      kind_added c.args.sig.now c.add_kind.new.self _ _ (spot_of c.args.name)
+          (map spot_of c.args.members.now) c.in-Ok.ensures.ok c.in_ok-name.ensures.1 c.in_ok-members.ensures.1,
     )

@@ -12,7 +12,9 @@ returns-in_err-declare_kind_of c =
     let e = c.in_err-declare_kind_of.field-0.0 in
     let ds = c.args.sig.now.ops in
     let before = map statement_tree (take c.loop-statement.statement-index c.args.statements.now) in
-    let here = drop-item c.args.statements.now c.loop-statement.statement-index c.statement-item.result (omega arith) c.statement-item.is in
+    let here = drop-item c.args.statements.now c.loop-statement.statement-index c.statement-item.result
+    (omega arith) c.statement-item.is in
     rw (p.1, p.2)
-    (fails-along e _ _ (ap (λ l. faults_by (kind_statement_faults ds) before (map statement_tree l)) (sym here) ∙ c.loop-statement.invariant.faults)
+    (fails-along e _ _ (ap (λ l. faults_by (kind_statement_faults ds) before (map statement_tree l)) (sym here)
+    ∙ c.loop-statement.invariant.faults)
     (fails-front e _ _ (c.in_err-declare_kind_of.ensures ds before c.loop-statement.invariant.declared)))

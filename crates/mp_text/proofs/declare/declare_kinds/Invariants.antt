@@ -11,5 +11,6 @@ invariant-loop-statement l =
     let rest = map statement_tree (drop l.statement-index l.statements) in
     record {
       declared : l.sig ≡ sig_with l.fn.sig.ops before;
-      faults : faults_by (kind_statement_faults l.fn.sig.ops) before rest ≡ faults_by (kind_statement_faults l.fn.sig.ops) [] (map statement_tree l.statements);
+      faults : faults_by (kind_statement_faults l.fn.sig.ops) before rest
+          ≡ faults_by (kind_statement_faults l.fn.sig.ops) [] (map statement_tree l.statements);
     }

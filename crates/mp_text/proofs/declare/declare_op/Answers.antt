@@ -4,12 +4,18 @@ use Rattle.mp_text.proofs.OpLaws.{declarable-op_faults}
 use Rattle.mp_text.proofs.declare.declare_op.Goals as goal
 
 pub new_decl-requires-clause-least : goal.new_decl-requires-clause-least
-new_decl-requires-clause-least c = (declarable-op_faults c.args.sig.now.ops (spot_of c.args.name) (spot_of c.args.least) c.args.is_open (map flag_of c.args.flags.now) c.in_ok-check_op.ensures.0).small
+new_decl-requires-clause-least c =
+    (declarable-op_faults c.args.sig.now.ops (spot_of c.args.name) (spot_of c.args.least) c.args.is_open
+    (map flag_of c.args.flags.now) c.in_ok-check_op.ensures.0).small
 
 pub new_decl-requires-clause-sign : goal.new_decl-requires-clause-sign
-new_decl-requires-clause-sign c = (declarable-op_faults c.args.sig.now.ops (spot_of c.args.name) (spot_of c.args.least) c.args.is_open (map flag_of c.args.flags.now) c.in_ok-check_op.ensures.0).short
+new_decl-requires-clause-sign c =
+    (declarable-op_faults c.args.sig.now.ops (spot_of c.args.name) (spot_of c.args.least) c.args.is_open
+    (map flag_of c.args.flags.now) c.in_ok-check_op.ensures.0).short
 
 pub add_op-requires : goal.add_op-requires
 add_op-requires c =
-    let small = (declarable-op_faults c.args.sig.now.ops (spot_of c.args.name) (spot_of c.args.least) c.args.is_open (map flag_of c.args.flags.now) c.in_ok-check_op.ensures.0).small in
+    let small =
+    (declarable-op_faults c.args.sig.now.ops (spot_of c.args.name) (spot_of c.args.least) c.args.is_open
+    (map flag_of c.args.flags.now) c.in_ok-check_op.ensures.0).small in
     omega (arith, small, ap (λ d. d.least) c.in_ok-decl.ensures.1)

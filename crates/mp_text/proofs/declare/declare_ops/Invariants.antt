@@ -11,5 +11,6 @@ invariant-loop-statement l =
     let rest = map statement_tree (drop l.statement-index l.statements) in
     record {
       declared : l.sig ≡ sig_with (op_decls before) [];
-      faults : faults_by op_statement_faults before rest ≡ faults_by op_statement_faults [] (map statement_tree l.statements);
+      faults : faults_by op_statement_faults before rest
+          ≡ faults_by op_statement_faults [] (map statement_tree l.statements);
     }

@@ -16,12 +16,15 @@ loop-statement-init c = record {
 
 pub returns-in_err-add_statement : goal.returns-in_err-add_statement
 returns-in_err-add_statement c =
-    let p = err_from_is_err_and c.from_residual-in_err-add_statement.result c.from_residual-in_err-add_statement.ensures.1 in
+    let p = err_from_is_err_and c.from_residual-in_err-add_statement.result
+    c.from_residual-in_err-add_statement.ensures.1 in
     let e = c.in_err-add_statement.field-0.0 in
     let sig = sig_of (map statement_tree c.args.statements.now) in
     let before = map statement_tree (take c.loop-statement.statement-index c.args.statements.now) in
-    let here = drop-item c.args.statements.now c.loop-statement.statement-index c.statement-item.result (omega arith) c.statement-item.is in
+    let here = drop-item c.args.statements.now c.loop-statement.statement-index c.statement-item.result
+    (omega arith) c.statement-item.is in
     rw (p.1, p.2)
     (fails-behind e _ _ c.in_ok-sig.ensures.0
-    (fails-along e _ _ (ap (λ l. faults_by (statement_faults sig) before (map statement_tree l)) (sym here) ∙ c.loop-statement.invariant.faults)
+    (fails-along e _ _ (ap (λ l. faults_by (statement_faults sig) before (map statement_tree l)) (sym here)
+    ∙ c.loop-statement.invariant.faults)
     (fails-front e _ _ (c.in_err-add_statement.ensures sig before c.loop-statement.invariant.built))))

@@ -15,5 +15,6 @@ invariant-loop-statement l =
     let rest = map statement_tree (drop l.statement-index l.statements) in
     record {
       built : file_tree l.file ≡ file_over sig before;
-      faults : faults_by (statement_faults sig) before rest ≡ faults_by (statement_faults sig) [] (map statement_tree l.statements);
+      faults : faults_by (statement_faults sig) before rest
+          ≡ faults_by (statement_faults sig) [] (map statement_tree l.statements);
     }

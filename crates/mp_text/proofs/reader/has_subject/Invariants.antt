@@ -4,4 +4,5 @@ use Rattle.mp_text.specs.Names.{is_among}
 use Rattle.mp_text.proofs.reader.has_subject.Given as goal
 
 abbrev pub invariant-loop-subject : goal.invariant-loop-subject
-invariant-loop-subject l = is_among l.name (map (λ x. x.name) (map subject_tree (drop l.subject-index l.subject-items))) ≡ is_among l.name (map (λ x. x.name) l.subjects)
+invariant-loop-subject l = is_among l.name (map (λ x. x.name) (map subject_tree (drop l.subject-index l.subject-items)))
+    ≡ is_among l.name (map (λ x. x.name) l.subjects)

@@ -3,4 +3,5 @@ use Rattle.mp_text.proofs.SoundLaws.{well_formed-term_of}
 use Rattle.mp_text.proofs.reader.subject_term.Goals as goal
 
 pub normalise-requires : goal.normalise-requires
-normalise-requires c = rw c.in_ok-term.ensures.1 (well_formed-term_of c.args.sig.now (expr_tree c.args.expr.now) c.in_ok-term.ensures.0)
+normalise-requires c = rw c.in_ok-term.ensures.1
+    (well_formed-term_of c.args.sig.now (expr_tree c.args.expr.now) c.in_ok-term.ensures.0)

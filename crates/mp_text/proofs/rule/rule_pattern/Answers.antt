@@ -6,7 +6,11 @@ use Rattle.mp_text.proofs.SoundLaws.{holds_ops-pattern_of, defaults-pattern_of}
 use Rattle.mp_text.proofs.rule.rule_pattern.Goals as goal
 
 pub normalise_pattern-requires-clause-held : goal.normalise_pattern-requires-clause-held
-normalise_pattern-requires-clause-held c = rw c.in_ok-pattern.ensures.1 (holds_ops-pattern_of c.args.sig.now [] (expr_tree c.args.expr.now) (nil-append (loose_faults (expr_tree c.args.expr.now)) _ c.in_ok-pattern.ensures.0).1)
+normalise_pattern-requires-clause-held c =
+    rw c.in_ok-pattern.ensures.1
+    (holds_ops-pattern_of c.args.sig.now [] (expr_tree c.args.expr.now)
+    (nil-append (loose_faults (expr_tree c.args.expr.now)) _ c.in_ok-pattern.ensures.0).1)
 
 pub normalise_pattern-requires-clause-defaults : goal.normalise_pattern-requires-clause-defaults
-normalise_pattern-requires-clause-defaults c = rw c.in_ok-pattern.ensures.1 (defaults-pattern_of c.args.sig.now (expr_tree c.args.expr.now))
+normalise_pattern-requires-clause-defaults c =
+    rw c.in_ok-pattern.ensures.1 (defaults-pattern_of c.args.sig.now (expr_tree c.args.expr.now))

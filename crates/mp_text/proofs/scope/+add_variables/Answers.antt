@@ -8,7 +8,13 @@ use Rattle.mp_term.proofs.ListLaws.{drop-item}
 use Rattle.mp_text.proofs.scope.+add_variables.Goals as goal
 
 pub add_all_variables-add_variables-requires : goal.add_all_variables-add_variables-requires
-add_all_variables-add_variables-requires t c = omega (arith, nodes-item c.args.exprs.now c.loop-expr.expr-index c.expr-item.result (omega arith) c.expr-item.is, c.decreases)
+add_all_variables-add_variables-requires t c =
+    omega (
+      arith,
+      nodes-item c.args.exprs.now c.loop-expr.expr-index c.expr-item.result
+          (omega arith) c.expr-item.is,
+      c.decreases,
+    )
 
 pub add_all_variables-loop-expr-preserved : goal.add_all_variables-loop-expr-preserved
 add_all_variables-loop-expr-preserved t c =
@@ -17,16 +23,22 @@ add_all_variables-loop-expr-preserved t c =
 
 pub add_variables-add_all_variables-requires : goal.add_variables-add_all_variables-requires
 add_variables-add_all_variables-requires t c =
-    let args : nodes (expr_tree c.args.expr.now) ≡ 1 + all_nodes (trees (map expr_tree c.deref.result.now)) = rw (c.in-Apply.is, c.deref.ensures.value) (nodes-Apply c.in-Apply.field-0 c.in-Apply.args) in
+    let args : nodes (expr_tree c.args.expr.now) ≡ 1 + all_nodes (trees (map expr_tree c.deref.result.now)) =
+    rw (c.in-Apply.is, c.deref.ensures.value) (nodes-Apply c.in-Apply.field-0 c.in-Apply.args) in
     omega (arith, args, c.decreases)
 
 pub add_variables-add_all_variables-requires-in-Infix : goal.add_variables-add_all_variables-requires-in-Infix
 add_variables-add_all_variables-requires-in-Infix t c =
-    let args : nodes (expr_tree c.args.expr.now) ≡ 1 + all_nodes (trees (map expr_tree c.deref-in-Infix.result.now)) = rw (c.in-Infix.is, c.deref-in-Infix.ensures.value) (nodes-Infix c.in-Infix.«open» c.in-Infix.sign c.in-Infix.operands) in
+    let args : nodes (expr_tree c.args.expr.now) ≡ 1 + all_nodes (trees (map expr_tree c.deref-in-Infix.result.now)) =
+    rw (c.in-Infix.is, c.deref-in-Infix.ensures.value)
+    (nodes-Infix c.in-Infix.«open» c.in-Infix.sign c.in-Infix.operands) in
     omega (arith, args, c.decreases)
 
 pub add_variables-returns-in-Apply : goal.add_variables-returns-in-Apply
-add_variables-returns-in-Apply t c = rw (c.in-Apply.is, wildcards-Apply c.in-Apply.field-0 c.in-Apply.args) (rw c.deref.ensures.value at c.add_all_variables.ensures)
+add_variables-returns-in-Apply t c = rw (c.in-Apply.is, wildcards-Apply c.in-Apply.field-0 c.in-Apply.args)
+    (rw c.deref.ensures.value at c.add_all_variables.ensures)
 
 pub add_variables-returns-in-Infix : goal.add_variables-returns-in-Infix
-add_variables-returns-in-Infix t c = rw (c.in-Infix.is, wildcards-Infix c.in-Infix.«open» c.in-Infix.sign c.in-Infix.operands) (rw c.deref-in-Infix.ensures.value at c.add_all_variables-in-Infix.ensures)
+add_variables-returns-in-Infix t c =
+    rw (c.in-Infix.is, wildcards-Infix c.in-Infix.«open» c.in-Infix.sign c.in-Infix.operands)
+    (rw c.deref-in-Infix.ensures.value at c.add_all_variables-in-Infix.ensures)

@@ -9,7 +9,9 @@ use Rattle.mp_text.proofs.scope.+add_variables.Given as goal
 
 abbrev pub invariant-add_all_variables-loop-expr : goal.invariant-add_all_variables-loop-expr
 invariant-add_all_variables-loop-expr l =
-    map variable_of l.variables.items ++ map wildcard_variable (all_wildcards (trees (map expr_tree (drop l.expr-index l.exprs)))) ≡ map variable_of l.fn.variables.items ++ map wildcard_variable (all_wildcards (trees (map expr_tree l.exprs)))
+    map variable_of l.variables.items ++ map wildcard_variable
+    (all_wildcards (trees (map expr_tree (drop l.expr-index l.exprs))))
+    ≡ map variable_of l.fn.variables.items ++ map wildcard_variable (all_wildcards (trees (map expr_tree l.exprs)))
 
 -- a list of expressions lies between the expression that holds it and its items
 abbrev pub decreases-add_variables : goal.decreases-add_variables

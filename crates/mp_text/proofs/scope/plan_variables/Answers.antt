@@ -1,4 +1,5 @@
-use Rattle.std.proofs.Common.{◌≡◌, ℕ, zero, suc, ◌+◌, ◌<◌, List, [], ◌∷◌, ◌++◌, take, length, map, Some, None, sym, ap, ◌∙◌, arith, add-one}
+use Rattle.std.proofs.Common.{◌≡◌, ℕ, zero, suc, ◌+◌, ◌<◌, List, [], ◌∷◌, ◌++◌, take, length, map, Some, None, sym, ap}
+use Rattle.std.proofs.Common.{◌∙◌, arith, add-one}
 use Rattle.std.specs.Prelude.{slice_get}
 use Rattle.std.proofs.lemmas.List.{map-append, length-map}
 use Rattle.mp_text.specs.Scope.{plan_variable, plan_variables}
@@ -31,5 +32,13 @@ loop-number-preserved c =
           ∙ map-append variable_of c.loop-number.variables.items (w.in-Some.variable ∷ [])
           ∙ ap (λ l. l ++ variable_of w.in-Some.variable ∷ []) c.loop-number.invariant
           ∙ sym (take-got variables c.loop-number.number (variable_of w.in-Some.variable) (sym w.in-Some.ensures))
-      | in_default w ↦ absurd (got-within variables c.loop-number.number (omega (arith, length-map c.args.plan.now.variables plan_variable, c.vars-number-end.ensures.count, c.loop-number-test.true)) (sym w.in_default.ensures))
+      | in_default w ↦
+          absurd (got-within variables c.loop-number.number
+          (omega (
+            arith,
+            length-map c.args.plan.now.variables
+                plan_variable,
+            c.vars-number-end.ensures.count,
+            c.loop-number-test.true,
+          )) (sym w.in_default.ensures))
     ]

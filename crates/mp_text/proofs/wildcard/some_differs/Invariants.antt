@@ -5,4 +5,5 @@ use Rattle.mp_text.specs.WildcardView.{wildcard_view}
 use Rattle.mp_text.proofs.wildcard.some_differs.Given as goal
 
 abbrev pub invariant-loop-other : goal.invariant-loop-other
-invariant-loop-other l = list_any (differs (wildcard_view l.wild)) (map wildcard_view (drop l.other-index l.others)) ≡ list_any (differs (wildcard_view l.wild)) (map wildcard_view l.others)
+invariant-loop-other l = list_any (differs (wildcard_view l.wild)) (map wildcard_view (drop l.other-index l.others))
+    ≡ list_any (differs (wildcard_view l.wild)) (map wildcard_view l.others)
