@@ -1,13 +1,12 @@
 -- A condition that is read begins at the first token of its text.
-use Rattle.std.proofs.Common.{◌≡◌, ℕ, Bool, true, false, List, [], ◌∷◌, ◌++◌, Result, Ok, Err, refl, sym, ap, subst}
+use Rattle.std.proofs.Common.{◌≡◌, ℕ, true, false, List, [], ◌∷◌, ◌++◌, Result, Ok, Err, refl, sym, ap, subst}
 use Rattle.std.proofs.Common.{◌∙◌}
 use Rattle.mp_syntax.specs.declared.fault.Fault.{Fault}
-use Rattle.mp_syntax.specs.declared.place.Place.{Place}
 use Rattle.mp_syntax.specs.Tokens.{Placed, Tokens, first_place}
 use Rattle.mp_syntax.specs.Lexing.{token_at, behind, lexemes, first_token_place}
 use Rattle.mp_syntax.specs.Syntax.{Expected, AllMatch, Number, Measured, Compare, Relate, Test, Literal, AtomOf}
 use Rattle.mp_syntax.specs.Syntax.{Bracketed, Literals, no_literals, more_literals, Condition, no_alternatives}
-use Rattle.mp_syntax.specs.Syntax.{more_alternatives, HasLiteral, HasAlternative, FitsCondition, spell_literal}
+use Rattle.mp_syntax.specs.Syntax.{more_alternatives, HasLiteral, FitsCondition, spell_literal}
 use Rattle.mp_syntax.specs.Syntax.{spell_literals, spell_condition, IsConditionOf}
 use Rattle.mp_syntax.specs.Reading.{condition_reading}
 use Rattle.mp_syntax.proofs.Fuel.{lexemes-step}

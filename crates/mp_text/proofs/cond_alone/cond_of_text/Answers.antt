@@ -3,7 +3,6 @@ use Rattle.mp_syntax.specs.Lexing.{first_token_place}
 use Rattle.mp_syntax.specs.View.{condition_tree}
 use Rattle.mp_syntax.proofs.Whole.{condition_reading-only}
 use Rattle.mp_text.specs.AloneCondition.{condition_alone_faults, placed_cond_of}
-use Rattle.mp_text.specs.Answers.{Gives}
 use Rattle.mp_text.specs.Alone.{Answers}
 use Rattle.mp_text.specs.Computed.{at_place}
 use Rattle.mp_text.specs.ScopeView.{scope_of}
