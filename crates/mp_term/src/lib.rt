@@ -17,6 +17,7 @@ pub use edit::{Edit, Edits};
 pub use limits::{MAX_ARITY, MAX_KIND_SYMBOLS, MAX_KINDS, MAX_NAME_BYTES, MAX_OPS, MAX_SIGN_BYTES};
 pub use memory::Memory;
 pub use name::{Name, NameFault, Names};
+pub use name_table::NameTable;
 pub use normal::{
     has_head, is_normal, normal_form, normal_is_idempotent, normal_is_no_larger,
     normal_is_well_formed, normalise,

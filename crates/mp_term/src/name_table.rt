@@ -7,9 +7,9 @@ use indexmap::IndexSet;
 use std::alloc::Global;
 use std::marker::Model;
 
-// Distinct names in the order in which they came, each found by its bytes. Contracts see the list of the names.
+/// Distinct names in the order in which they came, each found by its bytes. Contracts see the list of the names.
 #[derive(Drop)]
-pub(crate) struct NameTable {
+pub struct NameTable {
     alloc: Global,
     names: IndexSet<Vec<u8>>,
 }
@@ -23,8 +23,8 @@ impl Model for NameTable {
 }
 
 impl NameTable {
-    // The table of no name, which takes no memory.
-    pub(crate) fn new(alloc: Global) -> Self
+    /// The table of no name. It takes no memory.
+    pub fn new(alloc: Global) -> Self
         ensures { result ≡ [] }
     {
         NameTable {
@@ -33,16 +33,18 @@ impl NameTable {
         }
     }
 
-    // The index of a name. It takes no memory.
-    pub(crate) fn index_of(&self, name: &[u8]) -> Option<usize>
+    /// The index of the name of these bytes, from 0. It is None exactly where the name isn't there. It takes no memory.
+    pub fn index_of(&self, name: &[u8]) -> Option<usize>
         ensures index { result ≡ position (bytes_eq name.now) self.now }
         ensures within { IfSome result (λ i. i < length self.now) }
     {
         self.names.get_index_of(name)
     }
 
-    // Adds a name that isn't there.
-    pub(crate) fn push(&mut self, name: &[u8]) -> Result<(), Memory>
+    /// Adds a name that isn't there, behind the others.
+    ///
+    /// `Memory`: memory ran out, and the table is as it was.
+    pub fn push(&mut self, name: &[u8]) -> Result<(), Memory>
         requires { list_any (bytes_eq name.now) self.old ≡ false }
         ensures ok { OnOk result (self.new ≡ self.old ++ name.now ∷ []) }
         ensures err { OnErr result (self.new ≡ self.old) }

@@ -43,6 +43,20 @@ pub struct OpDecl {
     pub sign: Option<Sign>,
 }
 
+impl OpDecl {
+    /// The operation may have that many arguments: `allows` of `specs/Signature.antt`. It takes no memory.
+    pub fn allows(&self, count: usize) -> bool
+        ensures { result ≡ allows count self.now }
+    {
+        let least = self.least as usize;
+        if self.fixed {
+            count == least
+        } else {
+            least <= count
+        }
+    }
+}
+
 /// Why a declaration isn't added to a signature, which stays as it was.
 #[derive(Debug, Drop, Error)]
 pub enum SigFault {
@@ -405,14 +419,7 @@ impl Signature {
     {
         match self.op(id) {
             None => false,
-            Some(decl) => {
-                let least = decl.least as usize;
-                if decl.fixed {
-                    count == least
-                } else {
-                    least <= count
-                }
-            }
+            Some(decl) => decl.allows(count),
         }
     }
 
