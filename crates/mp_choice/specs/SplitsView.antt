@@ -7,6 +7,7 @@ use Rattle.mp_choice.specs.Choices.{Choices}
 use Rattle.mp_choice.specs.Listed.{item_at, to_come_at, StandsAt}
 use Rattle.mp_choice.specs.Splits.{IsSplit, leasts}
 use Rattle.mp_choice.specs.SplitList.{splits_of}
+use Rattle.mp_choice.specs.declared.limits.TheConstants.{MAX_TOTAL}
 
 -- what callers see
 abbrev pub splits_view : Inside → Choices
@@ -22,6 +23,6 @@ pub record IsSound (s : Inside) : Type 0 where
   pub lengths_room : s.room ≤ vec_capacity s.lengths
   pub fits : length s.parts.items ≤ s.room
   pub same_length : length s.lengths.items ≡ length s.parts.items
-  pub total_bound : s.total ≤ 1000000
-  pub least_bound : leasts s.parts.items ≤ 1000000
+  pub total_bound : s.total ≤ MAX_TOTAL
+  pub least_bound : leasts s.parts.items ≤ MAX_TOTAL
   pub stands : StandsAt (IsSplit s.total s.parts.items) s.stage s.lengths.items

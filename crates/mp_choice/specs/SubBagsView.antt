@@ -5,6 +5,7 @@ use Rattle.mp_choice.specs.Choices.{Choices}
 use Rattle.mp_choice.specs.Listed.{item_at, to_come_at, StandsAt}
 use Rattle.mp_choice.specs.SubBags.{IsSubBag}
 use Rattle.mp_choice.specs.SubBagList.{counts_order, sub_bags_of}
+use Rattle.mp_choice.specs.declared.limits.TheConstants.{MAX_TOTAL}
 
 -- what callers see
 abbrev pub sub_bags_view : Inside → Choices
@@ -20,5 +21,5 @@ pub record IsSound (s : Inside) : Type 0 where
   pub bag_room : s.room ≤ vec_capacity s.bag
   pub fits : length s.counts.items ≤ s.room
   pub same_length : length s.bag.items ≡ length s.counts.items
-  pub bound : sum s.counts.items ≤ 1000000
+  pub bound : sum s.counts.items ≤ MAX_TOTAL
   pub stands : StandsAt (IsSubBag s.counts.items) s.stage s.bag.items

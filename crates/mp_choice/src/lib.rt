@@ -3,6 +3,7 @@
 #![tactic(auto)]
 
 mod laws;
+mod limits;
 mod room;
 mod splits;
 mod stage;
@@ -12,5 +13,6 @@ pub use laws::{
     list_of_splits_is_unique, list_of_sub_bags_is_unique, steps_give_the_items_in_turn,
     sub_bags_are_those_of_the_theory,
 };
+pub use limits::MAX_TOTAL;
 pub use splits::{Part, Splits};
 pub use sub_bags::SubBags;

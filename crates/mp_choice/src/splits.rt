@@ -10,6 +10,7 @@ ghost use Rattle.mp_choice.specs.SplitList.{splits_of};
 ghost use Rattle.mp_choice.specs.Listed.{StandsAt, Reaches, IsExhausted, IsFirst, HasNone};
 ghost use Rattle.mp_choice.specs.Choices.{advanced};
 
+use crate::limits::MAX_TOTAL;
 use crate::room::{clear_to, refill};
 use crate::stage::Stage;
 use mp_term::Memory;
@@ -50,11 +51,11 @@ impl Model for Splits {
 
 impl Splits {
     /// The generator of the splits of `length` by `parts`, before its first item, with room for as many parts. The
-    /// length and the sum of the least lengths are at most 1,000,000. `Memory` comes where there is no room for the
+    /// length and the sum of the least lengths are at most `MAX_TOTAL`. `Memory` comes where there is no room for the
     /// parts and one item.
     pub fn begin(alloc: Global, length: u32, parts: &[Part]) -> Result<Splits, Memory>
-        requires length_bound { length ≤ 1000000 }
-        requires least_bound { leasts parts.now ≤ 1000000 }
+        requires length_bound { length ≤ MAX_TOTAL }
+        requires least_bound { leasts parts.now ≤ MAX_TOTAL }
         ensures list { IfOk result (λ splits. AreSplits length parts.now splits.to_come) }
         ensures before_first { IfOk result (λ splits. splits.item ≡ None) }
         ensures room { IfOk result (λ splits. splits.room ≡ list_length parts.now) }
@@ -76,11 +77,11 @@ impl Splits {
     }
 
     /// Makes it the generator of the splits of `length` by `parts`, before its first item, wherever it stood. There are
-    /// no more parts than its room, which stays; the length and the sum of the least lengths are at most 1,000,000. It
-    /// takes no memory.
+    /// no more parts than its room, which stays; the length and the sum of the least lengths are at most `MAX_TOTAL`.
+    /// It takes no memory.
     pub fn restart(&mut self, length: u32, parts: &[Part])
-        requires length_bound { length ≤ 1000000 }
-        requires least_bound { leasts parts.now ≤ 1000000 }
+        requires length_bound { length ≤ MAX_TOTAL }
+        requires least_bound { leasts parts.now ≤ MAX_TOTAL }
         requires within_room { list_length parts.now ≤ self.old.room }
         ensures list { AreSplits length parts.now self.new.to_come }
         ensures before_first { self.new.item ≡ None }
@@ -185,8 +186,8 @@ fn rise(parts: &[Part], lengths: &[u32]) -> Option<(usize, u32)>
 // Makes the lengths the first split, if there is one.
 fn first(total: u32, parts: &[Part], lengths: &mut [u32]) -> bool
     requires same_length { length lengths.old ≡ length parts.now }
-    requires total_bound { total ≤ 1000000 }
-    requires least_bound { leasts parts.now ≤ 1000000 }
+    requires total_bound { total ≤ MAX_TOTAL }
+    requires least_bound { leasts parts.now ≤ MAX_TOTAL }
     ensures { MatchBool result (IsFirst (slice_cmp nat_cmp) (IsSplit total parts.now) lengths.new)
         (HasNone (IsSplit total parts.now)) }
 {
@@ -206,7 +207,7 @@ fn first(total: u32, parts: &[Part], lengths: &mut [u32]) -> bool
 // Makes the lengths the next split of the same sum, if there is one.
 fn following(parts: &[Part], lengths: &mut [u32]) -> bool
     requires within { AllZip Allows parts.now lengths.old }
-    requires fits { sum lengths.old ≤ 1000000 }
+    requires fits { sum lengths.old ≤ MAX_TOTAL }
     ensures { MatchBool result (IsNextOfSum parts.now lengths.old lengths.new) (IsLastOfSum parts.now lengths.old) }
 {
     match rise(parts, lengths) {
@@ -222,8 +223,8 @@ fn following(parts: &[Part], lengths: &mut [u32]) -> bool
 // Moves the lengths from the place where they stand to the next split, if there is one.
 fn step(stage: Stage, total: u32, parts: &[Part], lengths: &mut [u32]) -> bool
     requires same_length { length lengths.old ≡ length parts.now }
-    requires total_bound { total ≤ 1000000 }
-    requires least_bound { leasts parts.now ≤ 1000000 }
+    requires total_bound { total ≤ MAX_TOTAL }
+    requires least_bound { leasts parts.now ≤ MAX_TOTAL }
     requires stands { StandsAt (IsSplit total parts.now) stage lengths.old }
     ensures { MatchBool result
         (Reaches (slice_cmp nat_cmp) (IsSplit total parts.now)

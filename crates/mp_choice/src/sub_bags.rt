@@ -7,6 +7,7 @@ ghost use Rattle.mp_choice.specs.SubBagList.{counts_order, sub_bags_of};
 ghost use Rattle.mp_choice.specs.Listed.{StandsAt, Reaches, IsExhausted, IsNext, IsLast};
 ghost use Rattle.mp_choice.specs.Choices.{advanced};
 
+use crate::limits::MAX_TOTAL;
 use crate::room::{clear_to, refill};
 use crate::stage::Stage;
 use mp_term::Memory;
@@ -39,9 +40,9 @@ impl Model for SubBags {
 
 impl SubBags {
     /// The generator of the sub-multisets of `counts`, before its first item, with room for as many classes. The sum of
-    /// the counts is at most 1,000,000. `Memory` comes where there is no room for the counts and one item.
+    /// the counts is at most `MAX_TOTAL`. `Memory` comes where there is no room for the counts and one item.
     pub fn begin(alloc: Global, counts: &[u32]) -> Result<SubBags, Memory>
-        requires bound { sum counts.now ≤ 1000000 }
+        requires bound { sum counts.now ≤ MAX_TOTAL }
         ensures list { IfOk result (λ bags. AreSubBags counts.now bags.to_come) }
         ensures before_first { IfOk result (λ bags. bags.item ≡ None) }
         ensures room { IfOk result (λ bags. bags.room ≡ length counts.now) }
@@ -62,9 +63,9 @@ impl SubBags {
     }
 
     /// Makes it the generator of the sub-multisets of `counts`, before its first item, wherever it stood. There are no
-    /// more counts than its room, which stays; their sum is at most 1,000,000. It takes no memory.
+    /// more counts than its room, which stays; their sum is at most `MAX_TOTAL`. It takes no memory.
     pub fn restart(&mut self, counts: &[u32])
-        requires bound { sum counts.now ≤ 1000000 }
+        requires bound { sum counts.now ≤ MAX_TOTAL }
         requires within_room { length counts.now ≤ self.old.room }
         ensures list { AreSubBags counts.now self.new.to_come }
         ensures before_first { self.new.item ≡ None }
@@ -122,7 +123,7 @@ fn fill(counts: &[u32], bag: &mut [u32], from: usize, size: u32)
 // The last class whose count can fall by one since there is room after it, and the size of what comes after it.
 fn fall(counts: &[u32], bag: &[u32]) -> Option<(usize, u32)>
     requires within { IsSubBag counts.now bag.now }
-    requires bound { sum counts.now ≤ 1000000 }
+    requires bound { sum counts.now ≤ MAX_TOTAL }
     ensures { MatchOption result (IsLastOfSize counts.now bag.now) (λ r. Falls counts.now bag.now r.0 r.1) }
 {
     let mut size = 0;
@@ -140,7 +141,7 @@ fn fall(counts: &[u32], bag: &[u32]) -> Option<(usize, u32)>
 // Moves the bag from the place where it stands to the next sub-multiset, if there is one.
 fn step(stage: Stage, counts: &[u32], bag: &mut [u32]) -> bool
     requires same_length { length bag.old ≡ length counts.now }
-    requires bound { sum counts.now ≤ 1000000 }
+    requires bound { sum counts.now ≤ MAX_TOTAL }
     requires stands { StandsAt (IsSubBag counts.now) stage bag.old }
     ensures { MatchBool result
         (Reaches counts_order (IsSubBag counts.now) (sub_bags_of counts.now) stage bag.old bag.new)
@@ -159,7 +160,7 @@ fn step(stage: Stage, counts: &[u32], bag: &mut [u32]) -> bool
 // Makes the bag the next one: of the same size, or else the first of the next size.
 fn following(counts: &[u32], bag: &mut [u32]) -> bool
     requires within { IsSubBag counts.now bag.old }
-    requires bound { sum counts.now ≤ 1000000 }
+    requires bound { sum counts.now ≤ MAX_TOTAL }
     ensures { MatchBool result (IsNext counts_order (IsSubBag counts.now) bag.old bag.new)
         (IsLast counts_order (IsSubBag counts.now) bag.old) }
 {
