@@ -1,4 +1,4 @@
-use Rattle.std.proofs.Common.{◌≡◌, ◌<◌, length, map, ap, ◌∙◌, subst}
+use Rattle.std.proofs.Common.{◌<◌, length, map, ap, ◌∙◌, subst}
 use Rattle.std.specs.Prelude.{flat_map, not}
 use Rattle.mp_io.specs.Devices.{Text}
 use Rattle.mp_text.specs.File.{subject_tree}

@@ -1,4 +1,4 @@
-use Rattle.std.proofs.Common.{◌≡◌, ◌≤◌, refl, rules, subst, sym}
+use Rattle.std.proofs.Common.{◌≤◌, rules, subst, sym}
 use Rattle.std.specs.List.{Contains}
 use Rattle.matchpy.specs.Run.{statuses}
 use Rattle.matchpy.proofs.Runs.{HasOutcome-answers, Says-done, status_of-listed}
