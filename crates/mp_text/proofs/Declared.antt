@@ -61,11 +61,16 @@ pub is_some-found_sign : {X : Type 0} (f : X → ℕ) (found : Option X) (sign :
 is_some-found_sign f found sign ds h = sym (is_some-option_map f found) ∙ ap is_some h
     ∙ is_some-position (has_sign sign) ds
 
+-- a name is found exactly where it is held
+pub is_some-found : (found : Option ℕ) (name : List ℕ) (names : List (List ℕ)) → found ≡ position (bytes_eq name) names
+    → is_some found ≡ is_among name names
+is_some-found found name names h = ap is_some h ∙ is_some-position (bytes_eq name) names ∙ is_among-list_any name names
+
 -- a kind is found exactly where its name is held
 pub is_some-found_kind : {X : Type 0} (f : X → ℕ) (found : Option X) (name : List ℕ) (names : List (List ℕ))
     → option_map f found ≡ position (bytes_eq name) names → is_some found ≡ is_among name names
-is_some-found_kind f found name names h = sym (is_some-option_map f found) ∙ ap is_some h
-    ∙ is_some-position (bytes_eq name) names ∙ is_among-list_any name names
+is_some-found_kind f found name names h = sym (is_some-option_map f found)
+    ∙ is_some-found (option_map f found) name names h
 
 -- ---- operations and kinds
 
@@ -146,11 +151,6 @@ subjects_of-append sig (SubjectOf n t ∷ ss) b = ap (λ l. subject_of sig n t �
 
 -- ---- rules, statement by statement
 
--- a rule has the name exactly where a statement gave it
-pub is_among-held_rules : (name : List ℕ) (sig : Sig) (rules : List Rule) (ss : List Statement)
-    → rules ≡ rules_of sig ss → is_among name (map (λ r. r.name) rules) ≡ is_among name (rule_names ss)
-is_among-held_rules name sig rules ss h = ap (is_among name) (ap (map (λ r. r.name)) h ∙ names-rules_of sig ss)
-
 -- as many rules are held as were given
 pub length-held_rules : (sig : Sig) (rules : List Rule) (ss : List Statement) → rules ≡ rules_of sig ss
     → length rules ≡ length (rule_names ss)
@@ -167,11 +167,6 @@ rules_of-RuleOf sig old new r ss name p c added e h =
     ∙ sym (rules_of-append sig ss (RuleOf name p c ∷ []))
 
 -- ---- subjects, statement by statement
-
--- a subject has the name exactly where a statement gave it
-pub is_among-held_subjects : (name : List ℕ) (sig : Sig) (subjects : List Subject) (ss : List Statement)
-    → subjects ≡ subjects_of sig ss → is_among name (map (λ s. s.name) subjects) ≡ is_among name (subject_names ss)
-is_among-held_subjects name sig subjects ss h = ap (is_among name) (ap (map (λ s. s.name)) h ∙ names-subjects_of sig ss)
 
 -- as many subjects are held as were given
 pub length-held_subjects : (sig : Sig) (subjects : List Subject) (ss : List Statement) → subjects ≡ subjects_of sig ss
@@ -204,7 +199,7 @@ file_over-declaration sig ss s no_rule no_subject =
     ∙ append-nil (subjects_of sig ss))
 
 -- a file with one rule more
-file_over-RuleOf : (sig : Sig) (ss : List Statement) (name : Spot) (p : Tree) (c : Option Condition) (new : List Rule)
+pub file_over-RuleOf : (sig : Sig) (ss : List Statement) (name : Spot) (p : Tree) (c : Option Condition) (new : List Rule)
     → new ≡ rules_of sig (ss ++ RuleOf name p c ∷ [])
     → record (file_over sig ss) { rules = new } ≡ file_over sig (ss ++ RuleOf name p c ∷ [])
 file_over-RuleOf sig ss name p c new h =
@@ -213,7 +208,7 @@ file_over-RuleOf sig ss name p c new h =
     (sym (subjects_of-append sig ss (RuleOf name p c ∷ []) ∙ append-nil (subjects_of sig ss)))
 
 -- a file with one subject more
-file_over-SubjectOf : (sig : Sig) (ss : List Statement) (name : Spot) (t : Tree) (new : List Subject)
+pub file_over-SubjectOf : (sig : Sig) (ss : List Statement) (name : Spot) (t : Tree) (new : List Subject)
     → new ≡ subjects_of sig (ss ++ SubjectOf name t ∷ [])
     → record (file_over sig ss) { subjects = new } ≡ file_over sig (ss ++ SubjectOf name t ∷ [])
 file_over-SubjectOf sig ss name t new h =
@@ -226,46 +221,6 @@ gives-map : {T : Type 0} (r : Result T TextError) (fs : List TextFault) (P Q : T
     → Gives r fs P → Gives r fs Q
 gives-map (Ok v) fs P Q step g = (g.0, step v g.1)
 gives-map (Err e) fs P Q step g = g
-
--- what adding a rule to the rules gives is what adding it to the file gives
-pub gives-RuleOf : (file : FileTree) (sig : Sig) (ss : List Statement) (name : Spot) (p : Tree) (c : Option Condition)
-    (new : List Rule) (r : Result (Unit {0}) TextError) → file ≡ file_over sig ss
-    → ((before : List Statement) → file.rules ≡ rules_of file.sig before
-    → Gives r (statement_faults file.sig before (RuleOf name p c))
-    (λ _. new ≡ rules_of file.sig (before ++ RuleOf name p c ∷ [])))
-    → Gives r (statement_faults sig ss (RuleOf name p c))
-    (λ _. record file { rules = new } ≡ file_over sig (ss ++ RuleOf name p c ∷ []))
-gives-RuleOf file sig ss name p c new r h g =
-    let P : FileTree → Type 0 = λ f.
-    ((before : List Statement) → f.rules ≡ rules_of f.sig before
-    → Gives r (statement_faults f.sig before (RuleOf name p c))
-    (λ _. new ≡ rules_of f.sig (before ++ RuleOf name p c ∷ [])))
-    → Gives r (statement_faults sig ss (RuleOf name p c))
-    (λ _. record f { rules = new } ≡ file_over sig (ss ++ RuleOf name p c ∷ [])) in
-    let base : P (file_over sig ss) = λ k. gives-map r _ (λ _. new ≡ rules_of sig (ss ++ RuleOf name p c ∷ []))
-    (λ _. record (file_over sig ss) { rules = new } ≡ file_over sig (ss ++ RuleOf name p c ∷ []))
-    (λ _ e. file_over-RuleOf sig ss name p c new e) (k ss refl) in
-    subst P (sym h) base g
-
--- what adding a subject to the subjects gives is what adding it to the file gives
-pub gives-SubjectOf : (file : FileTree) (sig : Sig) (ss : List Statement) (name : Spot) (t : Tree) (new : List Subject)
-    (r : Result (Unit {0}) TextError) → file ≡ file_over sig ss
-    → ((before : List Statement) → file.subjects ≡ subjects_of file.sig before
-    → Gives r (statement_faults file.sig before (SubjectOf name t))
-    (λ _. new ≡ subjects_of file.sig (before ++ SubjectOf name t ∷ [])))
-    → Gives r (statement_faults sig ss (SubjectOf name t))
-    (λ _. record file { subjects = new } ≡ file_over sig (ss ++ SubjectOf name t ∷ []))
-gives-SubjectOf file sig ss name t new r h g =
-    let P : FileTree → Type 0 = λ f.
-    ((before : List Statement) → f.subjects ≡ subjects_of f.sig before
-    → Gives r (statement_faults f.sig before (SubjectOf name t))
-    (λ _. new ≡ subjects_of f.sig (before ++ SubjectOf name t ∷ [])))
-    → Gives r (statement_faults sig ss (SubjectOf name t))
-    (λ _. record f { subjects = new } ≡ file_over sig (ss ++ SubjectOf name t ∷ [])) in
-    let base : P (file_over sig ss) = λ k. gives-map r _ (λ _. new ≡ subjects_of sig (ss ++ SubjectOf name t ∷ []))
-    (λ _. record (file_over sig ss) { subjects = new } ≡ file_over sig (ss ++ SubjectOf name t ∷ []))
-    (λ _ e. file_over-SubjectOf sig ss name t new e) (k ss refl) in
-    subst P (sym h) base g
 
 -- what declaring an operation gives, over the signature of the statements before
 pub gives-OpOf : (sig new : Sig) (ss : List Statement) (name least : Spot) (more : Bool) (flags : List Flag)

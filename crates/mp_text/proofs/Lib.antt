@@ -28,6 +28,7 @@ mod Statements
 mod ReadFile
 mod SpelledCondition
 mod FileAgain
+mod Draft
 mod Examples
 mod AloneLaws
 mod FirstToken

@@ -11,6 +11,7 @@ pub mod Scope
 pub mod ScopeView
 pub mod Conditions
 pub mod FileBuild
+pub mod Draft
 pub mod ConditionChecks
 pub mod FileChecks
 pub mod Answers

@@ -61,18 +61,6 @@ fn find_sign_decl<'a>(sig: &'a Signature, sign: &[u8]) -> Option<(OpId, &'a OpDe
     Some((id, decl))
 }
 
-/// The declaration allows that number of arguments.
-fn allows(decl: &OpDecl, count: usize) -> bool
-    ensures { result ≡ allows count decl.now }
-{
-    let least = decl.least as usize;
-    if decl.fixed {
-        count == least
-    } else {
-        least <= count
-    }
-}
-
 /// The symbol of a word, which isn't the name of an operation.
 pub fn symbol(alloc: Global, sig: &Signature, word: Word<'_>) -> Result<Name, TextError>
     ensures { Gives result (symbol_faults sig.now (spot_of word.entry)) (λ n. n ≡ word.entry.text.now) }
@@ -92,7 +80,7 @@ fn term_head(sig: &Signature, name: Word<'_>, args: &[Expr<'_>]) -> Result<OpId,
     match find_decl(sig, name.text) {
         None => Err(error_at(TextKind::UnknownOp, name.place)),
         Some((id, decl)) => {
-            if !allows(decl, args.len()) {
+            if !decl.allows(args.len()) {
                 return Err(error_at(TextKind::Arity, name.place));
             }
             Ok(id)
@@ -114,7 +102,7 @@ fn term_sign(
     match find_sign_decl(sig, sign.text) {
         None => Ok(None),
         Some((id, decl)) => {
-            if !allows(decl, count) {
+            if !decl.allows(count) {
                 return Err(error_at(TextKind::Arity, place));
             }
             Ok(Some(id))

@@ -1,7 +1,7 @@
 //! Declares the operations and kinds of a file.
 
 ghost use Rattle.std.specs.Prelude.{◌≡◌, ◌≤◌, ◌+◌, ℕ, List, [], ◌∷◌, ◌++◌, length, map, flat_map, min, true, false};
-ghost use Rattle.std.specs.Prelude.{not, option_map};
+ghost use Rattle.std.specs.Prelude.{not, option_map, IfOk};
 ghost use Rattle.mp_term.specs.declared.signature.OpDecl as decl;
 ghost use Rattle.mp_term.specs.Signature.{in_order};
 ghost use Rattle.mp_syntax.specs.Syntax as syntax;
@@ -33,8 +33,9 @@ pub fn check_name(
     most: usize,
     is_large: bool,
 ) -> Result<(), TextError>
-    ensures { (earlier : List (List ℕ)) → is_held ≡ is_among name.entry.text.now earlier → count ≡ length earlier
+    ensures first { (earlier : List (List ℕ)) → is_held ≡ is_among name.entry.text.now earlier → count ≡ length earlier
         → Gives result (name_faults most earlier is_large (spot_of name.entry)) (λ _. Unit {0}) }
+    ensures new { IfOk result (λ _. is_held ≡ false) }
 {
     if is_held {
         return Err(error_at(TextKind::DuplicateName, name.place));

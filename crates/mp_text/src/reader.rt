@@ -10,12 +10,12 @@ ghost use Rattle.mp_term.specs.View.{tree};
 ghost use Rattle.mp_text.specs.declared.fault.TextFault as plain;
 ghost use Rattle.mp_text.specs.declared.fault.TextError.TheVariants.{Text};
 ghost use Rattle.mp_text.specs.Answers.{Gives};
-ghost use Rattle.mp_text.specs.Build.{term_of, sig_of, subject_of, subjects_of};
-ghost use Rattle.mp_text.specs.FileBuild.{rule_of, rules_of, file_over, file_tree_of};
-ghost use Rattle.mp_text.specs.Checks.{term_faults, faults_by};
+ghost use Rattle.mp_text.specs.Build.{term_of};
+ghost use Rattle.mp_text.specs.FileBuild.{file_tree_of};
+ghost use Rattle.mp_text.specs.Draft.{IsDraftOf};
+ghost use Rattle.mp_text.specs.Checks.{term_faults, name_faults};
 ghost use Rattle.mp_text.specs.FileChecks.{statement_faults, faults};
 ghost use Rattle.mp_text.specs.File.{FileTree, file_tree};
-ghost use Rattle.mp_text.specs.Names.{is_among};
 ghost use Rattle.mp_text.specs.Sound.{IsSoundFile};
 ghost use Rattle.mp_text.specs.Reading.{IsFileOf, IsFaultOf, unread_fault, IfText, IsFileOrMemory, IsFaultOrMemory};
 ghost use Rattle.mp_text.specs.Computed.{file_of, fault_of, ReadGives, IsComputed};
@@ -28,7 +28,7 @@ use crate::file::{EditSets, File, Subject, Subjects};
 use crate::rule::{build_rule, is_large_rule};
 use mp_pattern::{MAX_RULES, MAX_SUBJECTS, Rules};
 use mp_syntax::{Condition, Expr, Statement, SyntaxError, Word, read_statements};
-use mp_term::{Signature, Term, normalise};
+use mp_term::{NameTable, Signature, Term, normalise};
 use std::alloc::Global;
 
 /// Reads a rule file: the operations, kinds, rules and subjects that its statements stand for.
@@ -39,7 +39,7 @@ use std::alloc::Global;
 /// `specs/SoundRule.antt`) and so are its subjects.
 ///
 /// - `Text`: the text has this fault, by `IsFaultOf` of `specs/Reading.antt`: where it is statements, the first that
-/// the checks find, with   its line and column, from 1; where it is no statements, `Unread` at line 1, column 1.
+///   the checks find, with its line and column, from 1; where it is no statements, `Unread` at line 1, column 1.
 /// - `Memory`: memory ran out.
 ///
 /// After an error nothing is kept.
@@ -99,30 +99,6 @@ pub(crate) fn unread() -> TextError
     })
 }
 
-/// A rule has the name.
-fn has_rule(rules: &Rules, name: &[u8]) -> bool
-    ensures { result ≡ is_among name.now (map (λ r. r.name) rules.now) }
-{
-    for rule in rules.as_slice() {
-        if rule.name.bytes() == name {
-            return true;
-        }
-    }
-    false
-}
-
-/// A subject has the name.
-fn has_subject(subjects: &Subjects, name: &[u8]) -> bool
-    ensures { result ≡ is_among name.now (map (λ s. s.name) subjects.now) }
-{
-    for subject in subjects.as_slice() {
-        if subject.name.bytes() == name {
-            return true;
-        }
-    }
-    false
-}
-
 /// The term of an expression in normal form, or its first fault.
 pub(crate) fn subject_term(
     alloc: Global,
@@ -137,57 +113,83 @@ pub(crate) fn subject_term(
     Ok(term)
 }
 
+/// A file while it is built, with the names of its rules and those of its subjects.
+#[derive(Drop)]
+struct Draft {
+    file: File,
+    rule_names: NameTable,
+    subject_names: NameTable,
+}
+
+/// Adds the name of a statement behind these, or finds its fault: it is one of them, there are as many as there may be,
+/// or the statement is too large.
+fn add_statement_name(
+    names: &mut NameTable,
+    name: Word<'_>,
+    count: usize,
+    most: usize,
+    is_large: bool,
+) -> Result<(), TextError>
+    ensures { count ≡ length names.old → Gives result (name_faults most names.old is_large (spot_of name.entry))
+        (λ _. names.new ≡ names.old ++ name.entry.text.now ∷ []) }
+{
+    let is_held = names.index_of(name.text).is_some();
+    check_name(name, is_held, count, most, is_large)?;
+    names.push(name.text)?;
+    Ok(())
+}
+
 /// Adds a rule, with its pattern in normal form.
 fn add_rule(
     alloc: Global,
-    sig: &Signature,
-    rules: &mut Rules,
+    draft: &mut Draft,
     name: Word<'_>,
     pattern: &Expr<'_>,
     condition: &Option<Condition<'_>>,
 ) -> Result<(), TextError>
-    ensures { (earlier : List syntax.Statement) → rules.old ≡ rules_of sig.now earlier
+    ensures { (sig : Sig) (earlier : List syntax.Statement) → IsDraftOf sig earlier draft.old
         → Gives result
-        (statement_faults sig.now earlier (RuleOf (spot_of name.entry) (expr_tree pattern.now) (if_tree condition.now)))
-        (λ _. rules.new
-        ≡ rules_of sig.now (earlier ++ RuleOf (spot_of name.entry) (expr_tree pattern.now) (if_tree condition.now)
-        ∷ [])) }
+        (statement_faults sig earlier (RuleOf (spot_of name.entry) (expr_tree pattern.now) (if_tree condition.now)))
+        (λ _. IsDraftOf sig
+        (earlier ++ RuleOf (spot_of name.entry) (expr_tree pattern.now) (if_tree condition.now) ∷ []) draft.new) }
 {
     let is_large = is_large_rule(alloc, pattern, condition)?;
-    let is_held = has_rule(rules, name.text);
-    check_name(name, is_held, rules.len(), MAX_RULES, is_large)?;
-    let rule = build_rule(alloc, sig, name, pattern, condition)?;
-    rules.push(rule)?;
+    let count = draft.file.rules.len();
+    add_statement_name(&mut draft.rule_names, name, count, MAX_RULES, is_large)?;
+    let rule = build_rule(alloc, &draft.file.sig, name, pattern, condition)?;
+    draft.file.rules.push(rule)?;
     Ok(())
 }
 
 /// Adds a subject, with its term in normal form.
 fn add_subject(
     alloc: Global,
-    sig: &Signature,
-    subjects: &mut Subjects,
+    draft: &mut Draft,
     name: Word<'_>,
     term: &Expr<'_>,
 ) -> Result<(), TextError>
-    ensures { (earlier : List syntax.Statement) → subjects.old ≡ subjects_of sig.now earlier
-        → Gives result (statement_faults sig.now earlier (SubjectOf (spot_of name.entry) (expr_tree term.now)))
-        (λ _. subjects.new ≡ subjects_of sig.now
-        (earlier ++ SubjectOf (spot_of name.entry) (expr_tree term.now) ∷ [])) }
+    ensures { (sig : Sig) (earlier : List syntax.Statement) → IsDraftOf sig earlier draft.old
+        → Gives result (statement_faults sig earlier (SubjectOf (spot_of name.entry) (expr_tree term.now)))
+        (λ _. IsDraftOf sig (earlier ++ SubjectOf (spot_of name.entry) (expr_tree term.now) ∷ []) draft.new) }
 {
     let is_large = is_large_term(term);
-    let is_held = has_subject(subjects, name.text);
-    check_name(name, is_held, subjects.len(), MAX_SUBJECTS, is_large)?;
-    let term = subject_term(alloc, sig, term)?;
+    let count = draft.file.subjects.len();
+    add_statement_name(&mut draft.subject_names, name, count, MAX_SUBJECTS, is_large)?;
+    let term = subject_term(alloc, &draft.file.sig, term)?;
     let name = new_name(alloc, name)?;
-    subjects.push(Subject { name, term })?;
+    draft.file.subjects.push(Subject { name, term })?;
     Ok(())
 }
 
 /// Adds what a statement gives to the file.
-fn add_statement(alloc: Global, file: &mut File, statement: &Statement<'_>) -> Result<(), TextError>
-    ensures { (sig : Sig) (earlier : List syntax.Statement) → file_tree file.old ≡ file_over sig earlier
+fn add_statement(
+    alloc: Global,
+    draft: &mut Draft,
+    statement: &Statement<'_>,
+) -> Result<(), TextError>
+    ensures { (sig : Sig) (earlier : List syntax.Statement) → IsDraftOf sig earlier draft.old
         → Gives result (statement_faults sig earlier (statement_tree statement.now))
-        (λ _. file_tree file.new ≡ file_over sig (earlier ++ statement_tree statement.now ∷ [])) }
+        (λ _. IsDraftOf sig (earlier ++ statement_tree statement.now ∷ []) draft.new) }
 {
     match statement {
         Statement::Op { .. } => Ok(()),
@@ -196,14 +198,8 @@ fn add_statement(alloc: Global, file: &mut File, statement: &Statement<'_>) -> R
             name,
             pattern,
             condition,
-        } => add_rule(alloc, &file.sig, &mut file.rules, *name, pattern, condition),
-        Statement::Subject { name, term } => add_subject(
-            alloc,
-            &file.sig,
-            &mut file.subjects,
-            *name,
-            term,
-        ),
+        } => add_rule(alloc, draft, *name, pattern, condition),
+        Statement::Subject { name, term } => add_subject(alloc, draft, *name, term),
     }
 }
 
@@ -213,14 +209,19 @@ fn build_file(alloc: Global, statements: &[Statement<'_>]) -> Result<File, TextE
         (λ f. file_tree f ≡ file_tree_of (map statement_tree statements.now)) }
 {
     let sig = declare(alloc, statements)?;
-    let mut file = File {
+    let file = File {
         sig,
         rules: Rules::new(alloc),
         subjects: Subjects::new(alloc),
         edits: EditSets::new(alloc),
     };
+    let mut draft = Draft {
+        file,
+        rule_names: NameTable::new(alloc),
+        subject_names: NameTable::new(alloc),
+    };
     for statement in statements {
-        add_statement(alloc, &mut file, statement)?;
+        add_statement(alloc, &mut draft, statement)?;
     }
-    Ok(file)
+    Ok(draft.file)
 }

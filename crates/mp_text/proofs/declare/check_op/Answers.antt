@@ -19,7 +19,7 @@ returns-in_err-check_name c =
     let held = c.is_some-is_held.ensures ∙ is_some-found_op
     (λ (id : OpId). id.0) c.find_op.result c.args.name.text.now c.args.sig.now.ops c.find_op.ensures in
     let count = c.op_count.ensures.count ∙ sym (length-map c.args.sig.now.ops (λ d. d.name)) in
-    rw (p.1, p.2) (fails-front c.in_err-check_name.field-0.0 _ _ (c.in_err-check_name.ensures names held count))
+    rw (p.1, p.2) (fails-front c.in_err-check_name.field-0.0 _ _ (c.in_err-check_name.ensures.first names held count))
 
 pub returns-then-has_bad_flags : goal.returns-then-has_bad_flags
 returns-then-has_bad_flags c =
@@ -29,7 +29,7 @@ returns-then-has_bad_flags c =
     let count = c.op_count.ensures.count ∙ sym (length-map c.args.sig.now.ops (λ d. d.name)) in
     let bad = sym (c.has_bad_flags.ensures (spot_of c.args.name) (spot_of c.args.least) c.number_of-count.ensures)
     ∙ c.if-has_bad_flags.true in
-    fails-behind c.error_at.result _ _ (c.in_ok-check_name.ensures names held count).0
+    fails-behind c.error_at.result _ _ (c.in_ok-check_name.ensures.first names held count).0
     (fails-front c.error_at.result _ _
     (fails-fault_if c.error_at.result (has_bad_flags (spot_of c.args.name) (spot_of c.args.least) c.args.is_open
     (map flag_of c.args.flags.now)) BadFlags c.args.name.place c.error_at.ensures bad))
@@ -44,7 +44,7 @@ returns-then-count-gt-MAX_ARITY c =
     ∙ c.if-has_bad_flags.false in
     let large : MAX_ARITY < number_of c.args.least.text.now = omega (arith, c.number_of-count.ensures) in
     let test : ltb MAX_ARITY (number_of c.args.least.text.now) ≡ true = search (rules, large) in
-    fails-behind c.error_at-then-count-gt-MAX_ARITY.result _ _ (c.in_ok-check_name.ensures names held count).0
+    fails-behind c.error_at-then-count-gt-MAX_ARITY.result _ _ (c.in_ok-check_name.ensures.first names held count).0
     (fails-behind c.error_at-then-count-gt-MAX_ARITY.result _ _
     (none-fault_if (has_bad_flags (spot_of c.args.name) (spot_of c.args.least) c.args.is_open
     (map flag_of c.args.flags.now)) BadFlags c.args.name.place good)
@@ -63,7 +63,7 @@ returns c =
     ∙ c.if-has_bad_flags.false in
     let small : number_of c.args.least.text.now ≤ MAX_ARITY = omega (arith, c.number_of-count.ensures) in
     let test : ltb MAX_ARITY (number_of c.args.least.text.now) ≡ false = search (rules, small) in
-    gives-behind c.check_sign.result _ _ (λ _. Unit {0}) (c.in_ok-check_name.ensures names held count).0
+    gives-behind c.check_sign.result _ _ (λ _. Unit {0}) (c.in_ok-check_name.ensures.first names held count).0
     (gives-behind c.check_sign.result _ _ (λ _. Unit {0})
     (none-fault_if (has_bad_flags (spot_of c.args.name) (spot_of c.args.least) c.args.is_open
     (map flag_of c.args.flags.now)) BadFlags c.args.name.place good)

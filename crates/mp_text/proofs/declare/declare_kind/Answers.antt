@@ -29,7 +29,7 @@ returns-in_err-check_name c =
     let held = c.is_some-is_held.ensures ∙ is_some-found_kind
     (λ (id : KindId). id.0) c.find_kind.result c.args.name.text.now names c.find_kind.ensures in
     rw (p.1, p.2) (fails-along e _ _ (kind_faults-members c.args.sig.now (spot_of c.args.name) c.args.members.now)
-    (fails-front e _ _ (c.in_err-check_name.ensures names held c.kind_count.ensures.count)))
+    (fails-front e _ _ (c.in_err-check_name.ensures.first names held c.kind_count.ensures.count)))
 
 pub returns-in_err-members : goal.returns-in_err-members
 returns-in_err-members c =
@@ -40,7 +40,7 @@ returns-in_err-members c =
     (λ (id : KindId). id.0) c.find_kind.result c.args.name.text.now names c.find_kind.ensures in
     rw (p.1, p.2)
     (fails-along e _ _ (kind_faults-members c.args.sig.now (spot_of c.args.name) c.args.members.now)
-    (fails-behind e _ _ (c.in_ok-check_name.ensures names held c.kind_count.ensures.count).0 c.in_err-members.ensures))
+    (fails-behind e _ _ (c.in_ok-check_name.ensures.first names held c.kind_count.ensures.count).0 c.in_err-members.ensures))
 
 pub returns-in-Ok : goal.returns-in-Ok
 returns-in-Ok c =
@@ -48,7 +48,7 @@ returns-in-Ok c =
     let held = c.is_some-is_held.ensures ∙ is_some-found_kind
     (λ (id : KindId). id.0) c.find_kind.result c.args.name.text.now names c.find_kind.ensures in (
       sym (kind_faults-members c.args.sig.now (spot_of c.args.name) c.args.members.now)
-          ∙ none-append _ _ (c.in_ok-check_name.ensures names held c.kind_count.ensures.count).0
+          ∙ none-append _ _ (c.in_ok-check_name.ensures.first names held c.kind_count.ensures.count).0
           ∙ c.in_ok-members.ensures.0,
       kind_added c.args.sig.now c.add_kind.new.self _ _ (spot_of c.args.name)
           (map spot_of c.args.members.now) c.in-Ok.ensures.ok c.in_ok-name.ensures.1 c.in_ok-members.ensures.1,

@@ -10,7 +10,11 @@ use Rattle.mp_text.proofs.reader.build_file.Goals as goal
 
 pub loop-statement-init : goal.loop-statement-init
 loop-statement-init c = record {
-  built = rw (c.in_ok-sig.ensures.1, c.new.ensures, c.new-2.ensures, c.new-3.ensures) refl;
+  built = record {
+    file = rw (c.in_ok-sig.ensures.1, c.new.ensures, c.new-2.ensures, c.new-3.ensures) refl;
+    rules = c.new-4.ensures;
+    subjects = c.new-5.ensures;
+  };
   faults = refl;
 }
 

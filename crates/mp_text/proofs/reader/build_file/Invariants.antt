@@ -1,10 +1,9 @@
 use Rattle.std.proofs.Common.{◌≡◌, [], drop, take, map}
 use Rattle.mp_syntax.specs.View.{statement_tree}
 use Rattle.mp_text.specs.Build.{sig_of}
-use Rattle.mp_text.specs.FileBuild.{file_over}
+use Rattle.mp_text.specs.Draft.{IsDraftOf}
 use Rattle.mp_text.specs.Checks.{faults_by}
 use Rattle.mp_text.specs.FileChecks.{statement_faults}
-use Rattle.mp_text.specs.File.{file_tree}
 use Rattle.mp_text.proofs.reader.build_file.Given as goal
 
 -- the file is that of the statements so far, and the faults are those of the others
@@ -14,7 +13,7 @@ invariant-loop-statement l =
     let before = map statement_tree (take l.statement-index l.statements) in
     let rest = map statement_tree (drop l.statement-index l.statements) in
     record {
-      built : file_tree l.file ≡ file_over sig before;
+      built : IsDraftOf sig before l.draft;
       faults : faults_by (statement_faults sig) before rest
           ≡ faults_by (statement_faults sig) [] (map statement_tree l.statements);
     }

@@ -1,0 +1,79 @@
+-- A file while it is built: what each statement adds to it.
+use Rattle.std.proofs.Common.{◌≡◌, ℕ, List, [], ◌∷◌, ◌++◌, length, append-nil, Option, sym, ap, ◌∙◌}
+use Rattle.mp_term.specs.Tree as term
+use Rattle.mp_term.specs.Signature.{Sig}
+use Rattle.mp_term.specs.Normal.{normal}
+use Rattle.mp_pattern.specs.Admission.{Rule}
+use Rattle.mp_syntax.specs.Syntax.{Spot, Tree, Condition, Statement, RuleOf, SubjectOf}
+use Rattle.mp_text.specs.declared.reader.Draft.{Draft}
+use Rattle.mp_text.specs.File.{FileTree, file_tree}
+use Rattle.mp_text.specs.Subject.{Subject}
+use Rattle.mp_text.specs.Names.{rule_names, subject_names}
+use Rattle.mp_text.specs.Build.{term_of, subjects_of}
+use Rattle.mp_text.specs.FileBuild.{rule_of, rules_of}
+use Rattle.mp_text.specs.Draft.{IsDraftOf}
+use Rattle.mp_text.proofs.Declared.{length-held_rules, length-held_subjects, rules_of-RuleOf, subjects_of-SubjectOf}
+use Rattle.mp_text.proofs.Declared.{file_over-declaration, file_over-RuleOf, file_over-SubjectOf}
+use Rattle.mp_text.proofs.Statements.{rule_names-append, subject_names-append}
+
+module _ (sig : Sig) (ss : List Statement) (d : Draft) (is : IsDraftOf sig ss d) where
+  -- its signature is that one
+  pub draft_sig : d.file.sig ≡ sig
+  draft_sig = ap (λ f. f.sig) is.file
+
+  -- as many rules are held as names of rules
+  pub draft_rule_count : length d.file.rules ≡ length d.rule_names
+  draft_rule_count = length-held_rules sig d.file.rules ss (ap (λ f. f.rules) is.file) ∙ ap length (sym is.rules)
+
+  -- as many subjects are held as names of subjects
+  pub draft_subject_count : length d.file.subjects ≡ length d.subject_names
+  draft_subject_count = length-held_subjects sig d.file.subjects ss (ap (λ f. f.subjects) is.file)
+      ∙ ap length (sym is.subjects)
+
+  -- a declaration adds nothing
+  pub draft-declaration : (s : Statement) → rules_of sig (s ∷ []) ≡ [] → subjects_of sig (s ∷ []) ≡ []
+      → rule_names (s ∷ []) ≡ [] → subject_names (s ∷ []) ≡ [] → IsDraftOf sig (ss ++ s ∷ []) d
+  draft-declaration s no_rule no_subject no_rule_name no_subject_name = record {
+    file = is.file ∙ sym (file_over-declaration sig ss s no_rule no_subject);
+    rules = is.rules
+        ∙ sym (rule_names-append ss (s ∷ []) ∙ ap (λ l. rule_names ss ++ l) no_rule_name ∙ append-nil (rule_names ss));
+    subjects = is.subjects
+        ∙ sym (subject_names-append ss (s ∷ []) ∙ ap (λ l. subject_names ss ++ l) no_subject_name
+        ∙ append-nil (subject_names ss));
+  }
+
+  -- a rule adds itself and its name
+  pub draft-rule : (name : Spot) (p : Tree) (c : Option Condition) (r : Rule) (rules : List Rule)
+      (names : List (List ℕ)) → rules ≡ d.file.rules ++ r ∷ [] → r ≡ rule_of sig name p c
+      → names ≡ d.rule_names ++ name.text ∷ []
+      → IsDraftOf sig (ss ++ RuleOf name p c ∷ [])
+      (record d { file = record d.file { rules = rules }; rule_names = names })
+  draft-rule name p c r rules names added is_rule named =
+      let with_rules : FileTree → FileTree = λ f. record f { rules = rules } in
+      record {
+        file = ap with_rules is.file
+            ∙ file_over-RuleOf sig ss name p c rules
+            (rules_of-RuleOf sig d.file.rules rules r ss name p c added (ap (λ f. f.rules) is.file) is_rule);
+        rules = named ∙ ap (λ l. l ++ name.text ∷ []) is.rules
+            ∙ sym (rule_names-append ss (RuleOf name p c ∷ []));
+        subjects = is.subjects
+            ∙ sym (subject_names-append ss (RuleOf name p c ∷ []) ∙ append-nil (subject_names ss));
+      }
+
+  -- a subject adds itself and its name
+  pub draft-subject : (name : Spot) (t : Tree) (word : List ℕ) (u : term.Tree) (subjects : List Subject)
+      (names : List (List ℕ)) → subjects ≡ d.file.subjects ++ record { name = word; term = u } ∷ [] → word ≡ name.text
+      → u ≡ normal sig (term_of sig t) → names ≡ d.subject_names ++ name.text ∷ []
+      → IsDraftOf sig (ss ++ SubjectOf name t ∷ [])
+      (record d { file = record d.file { subjects = subjects }; subject_names = names })
+  draft-subject name t word u subjects names added is_name is_term named =
+      let with_subjects : FileTree → FileTree = λ f. record f { subjects = subjects } in
+      record {
+        file = ap with_subjects is.file
+            ∙ file_over-SubjectOf sig ss name t subjects
+            (subjects_of-SubjectOf sig d.file.subjects subjects word u ss name t added
+            (ap (λ f. f.subjects) is.file) is_name is_term);
+        rules = is.rules ∙ sym (rule_names-append ss (SubjectOf name t ∷ []) ∙ append-nil (rule_names ss));
+        subjects = named ∙ ap (λ l. l ++ name.text ∷ []) is.subjects
+            ∙ sym (subject_names-append ss (SubjectOf name t ∷ []));
+      }
