@@ -8,6 +8,7 @@ use Rattle.mp_pattern.specs.Variables.{variables}
 use Rattle.mp_pattern.specs.Limits.{DefaultsAreSmall}
 use Rattle.mp_pattern.specs.Operands.{HasConditionOver}
 use Rattle.mp_pattern.specs.Admission.{Rule}
+use Rattle.mp_pattern.specs.declared.limits.TheConstants.{MAX_TERM_NODES}
 use Rattle.mp_pattern.specs.PlanFault.{plan_fault}
 use Rattle.mp_text.specs.File.{FileTree, Subject}
 
@@ -18,10 +19,10 @@ pub record IsMatchable (sig : Sig) (rule : Rule) : Type 0 where
   pub condition : HasConditionOver (variables rule.pattern) rule.condition
   pub planned : plan_fault rule.pattern ≡ None
 
--- the subject's term is normal, and has at most 100,000 nodes
+-- the subject's term is normal, and has at most MAX_TERM_NODES nodes
 pub record IsMatchableSubject (sig : Sig) (subject : Subject) : Type 0 where
   pub normal : IsNormal sig subject.term
-  pub few : node_count subject.term ≤ 100000
+  pub few : node_count subject.term ≤ MAX_TERM_NODES
 
 -- so are all rules and all subjects
 pub record IsMatchableFile (file : FileTree) : Type 0 where

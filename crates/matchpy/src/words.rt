@@ -17,6 +17,7 @@ pub enum Action {
 /// What the command is asked to do.
 #[derive(Clone, Copy)]
 pub struct Request<'a> {
+    /// What is done with the file.
     pub action: Action,
     /// The name of the file, `-` for standard input.
     pub file: &'a str,

@@ -12,6 +12,7 @@ use Rattle.mp_pattern.specs.Variables.{variables}
 use Rattle.mp_pattern.specs.Fits.{Table, Fits}
 use Rattle.mp_pattern.specs.Limits.{DefaultsAreSmall}
 use Rattle.mp_pattern.specs.Operands.{IsConditionOver, HasConditionOver}
+use Rattle.mp_pattern.specs.declared.limits.TheConstants.{MAX_TERM_NODES}
 use Rattle.mp_theory.specs.OneList.{Item}
 use Rattle.mp_theory.specs.ValueSizes.{HaveAtMost}
 use Rattle.mp_theory.proofs.ValueSizes.{fits-within}
@@ -23,7 +24,7 @@ countable : (n : ℕ) (s : Subst) → n < 2 ^ 64 → HaveAtMost n s → AreCount
 countable n [] h k = tt
 countable n (b ∷ s) h k = (omega (arith, k.0), countable n s h k.1)
 
-module _ (sig : Sig) (p : Pattern) (t : Tree) (small : DefaultsAreSmall p) (few : node_count t ≤ 100000) where
+module _ (sig : Sig) (p : Pattern) (t : Tree) (small : DefaultsAreSmall p) (few : node_count t ≤ MAX_TERM_NODES) where
   -- a substitution that fits is ready
   fits-ready : (c : Option Cond) (s : Subst) (T : Table) → HasConditionOver (variables p) c → Fits sig p t s T
       → IsReadyFor c s

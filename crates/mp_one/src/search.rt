@@ -195,9 +195,9 @@ fn search_all(
 ///
 /// The plan is that of the rule's pattern; an item has an entry for each of its nodes and a value for each of its
 /// variables. The pattern is taken as it stands, with whatever operations and wildcards it has; its defaults have at
-/// most 64 nodes each, as `has_small_defaults` tells. The rule's condition, if it has one, speaks of the pattern's
-/// variables and of ground terms of at most 64 nodes each (`HasConditionOver` of mp_pattern's `specs/Operands.antt`).
-/// The subject is normal and has at most 100,000 nodes.
+/// most `MAX_DEFAULT_NODES` nodes each, as `has_small_defaults` tells. The rule's condition, if it has one, speaks of
+/// the pattern's variables and of ground terms of at most `MAX_OPERAND_NODES` nodes each (`HasConditionOver` of
+/// mp_pattern's `specs/Operands.antt`). The subject is normal and has at most `MAX_TERM_NODES` nodes.
 ///
 /// `Memory`: memory ran out, and nothing is left. The call takes as long as the whole list, which can grow
 /// exponentially in the subject.

@@ -21,6 +21,7 @@ use Rattle.mp_pattern.specs.Limits.{DefaultIsSmall, DefaultsAreSmall}
 use Rattle.mp_pattern.specs.Fits.{Table, joined, arranged, ByValue, WildTakes, TakesBy, AllTakeBy, Fits}
 use Rattle.mp_term.specs.Search.{In}
 use Rattle.mp_theory.specs.ValueSizes.{HasAtMost, HaveAtMost}
+use Rattle.mp_pattern.specs.declared.limits.TheConstants.{MAX_DEFAULT_NODES}
 use Rattle.mp_theory.proofs.FirstsLaws.{from_in-firsts_after}
 use Rattle.mp_theory.proofs.Solving.{names, IsFound, found-IsSubstOf}
 use Rattle.mp_theory.proofs.Wildcards.{if_several-some}
@@ -56,7 +57,7 @@ module _ (sig : Sig) where
         | false ↦ λ p. node_count-alone t l p
       ] e
 
-  module _ (n : ℕ) (enough : 64 ≤ n) where
+  module _ (n : ℕ) (enough : MAX_DEFAULT_NODES ≤ n) where
     -- of what is taken, values have no more than n nodes where the list has fewer
     HasAtMost-contribution : (f : Option ℕ) (t : Tree) (l : List Tree) → all_nodes l < n → contribution sig f t ≡ Some l
         → HasAtMost n (one t)

@@ -23,6 +23,8 @@ ghost use Rattle.mp_theory.specs.OneList.{AreItems, Item, item_list, item_substs
 ghost use Rattle.mp_theory.specs.Trail.{fitted};
 ghost use Rattle.mp_theory.specs.ValueSizes.{HaveAtMost};
 
+use mp_pattern::MAX_DEFAULT_NODES;
+
 /// What the search finds is the one-list: for a normal subject, `one_list` of
 /// `specs/OneList.antt` holds exactly the substitutions that the rule admits, strictly ascending by least take table.
 pub fn one_list_is_the_one_list()
@@ -89,10 +91,10 @@ pub fn a_substitution_decides_its_table()
 {}
 
 /// The values of a substitution that fits are no larger than the subject and the defaults: where each default of the
-/// pattern has at most 64 nodes, each value has at most 64 nodes, or one node more than the subject.
+/// pattern has at most `MAX_DEFAULT_NODES` nodes, each value has at most so many, or one node more than the subject.
 pub fn a_substitution_is_within_its_subject()
     ensures { (sig : Sig) (p : Pattern) (t : Tree) (s : Subst) (T : Table) → DefaultsAreSmall p →
-        Fits sig p t s T → HaveAtMost (max 64 (node_count t + 1)) s }
+        Fits sig p t s T → HaveAtMost (max MAX_DEFAULT_NODES (node_count t + 1)) s }
 {}
 
 /// Where each wildcard of the pattern has a name and none is optional, a substitution that fits makes the subject: the
