@@ -1,16 +1,20 @@
 -- What is answered to a text alone is what its bytes are.
-use Rattle.std.proofs.Common.{◌≡◌, inl, inr, ℕ, List, [], ◌∷◌, Option, Some, Result, Ok, Err, refl, sym, subst, ◌∙◌}
+use Rattle.std.proofs.Common.{◌≡◌, inl, inr, ℕ, List, [], ◌∷◌, Option, Some, Result, Ok, Err, refl, sym, ap, subst, ◌∙◌}
 use Rattle.std.specs.Prelude.{IfOk}
 use Rattle.mp_syntax.specs.declared.fault.Fault.{Fault}
 use Rattle.mp_syntax.specs.Syntax.{IsExprOf}
-use Rattle.mp_syntax.specs.Reading.{expr_reading}
+use Rattle.mp_syntax.specs.declared.fault.SyntaxError.{SyntaxError}
+use Rattle.mp_syntax.specs.declared.fault.SyntaxError.TheVariants as syntax_errors
+use Rattle.mp_syntax.specs.Lexing.{first_token_place}
+use Rattle.mp_syntax.specs.Reading.{expr_reading, condition_reading, IfFault}
 use Rattle.mp_syntax.proofs.Whole.{expr_reading-found, expr_reading-only}
 use Rattle.mp_text.specs.declared.fault.TextFault.{TextFault}
 use Rattle.mp_text.specs.declared.fault.TextError.{TextError}
 use Rattle.mp_text.specs.declared.fault.TextError.TheVariants.{Text, Memory}
 use Rattle.mp_text.specs.Answers.{first, Gives}
 use Rattle.mp_text.specs.Alone.{IsValueOf, IsFaultBy, Answers, IsValueOrMemory}
-use Rattle.mp_text.specs.Reading.{unread_fault, IfText, IsFaultOrMemory}
+use Rattle.mp_text.specs.Computed.{at_place, placed_reading}
+use Rattle.mp_text.specs.Reading.{unread_fault, text_error, IfText, IsFaultOrMemory}
 
 abbrev some_fault : TextFault → Option TextFault
 some_fault f = Some f
@@ -22,6 +26,21 @@ some-is f g e = cc
 first-some : (fs : List TextFault) (f : TextFault) → fs ≡ [] → first fs ≡ Some f → ⊥
 first-some [] f e h = cc
 first-some (g ∷ fs) f e h = cc
+
+-- an error of the syntax is answered as a text that isn't read
+pub answers-error : {S T A : Type 0} (faults : S → List TextFault) (value : S → A) (view : T → A)
+    (read : Result S Fault)
+    (e : SyntaxError) → IfFault e (λ f. read ≡ Err f) → Answers faults value view read (Err (text_error e))
+answers-error faults value view (Ok s) syntax_errors.Memory h = tt
+answers-error faults value view (Err f) syntax_errors.Memory h = tt
+answers-error faults value view read (syntax_errors.Fault f) h =
+    subst (λ r. Answers faults value view r (Err (Text unread_fault))) (sym h) refl
+
+-- a fault of a condition, at the place of its text
+pub placed-fault : (bytes : List ℕ) (e : SyntaxError) → IfFault e (λ f. condition_reading bytes ≡ Err f)
+    → IfFault e (λ f. placed_reading bytes ≡ Err f)
+placed-fault bytes syntax_errors.Memory h = tt
+placed-fault bytes (syntax_errors.Fault f) h = ap (at_place (first_token_place bytes)) h
 
 -- a reading that is exact: what is read is what the bytes are
 pub record IsReading {S : Type 0} (IsSyntax : List ℕ → S → Type 0) (reading : List ℕ → Result S Fault) : Type 0 where

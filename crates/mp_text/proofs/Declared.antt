@@ -199,7 +199,8 @@ file_over-declaration sig ss s no_rule no_subject =
     ∙ append-nil (subjects_of sig ss))
 
 -- a file with one rule more
-pub file_over-RuleOf : (sig : Sig) (ss : List Statement) (name : Spot) (p : Tree) (c : Option Condition) (new : List Rule)
+pub file_over-RuleOf : (sig : Sig) (ss : List Statement) (name : Spot) (p : Tree) (c : Option Condition)
+    (new : List Rule)
     → new ≡ rules_of sig (ss ++ RuleOf name p c ∷ [])
     → record (file_over sig ss) { rules = new } ≡ file_over sig (ss ++ RuleOf name p c ∷ [])
 file_over-RuleOf sig ss name p c new h =

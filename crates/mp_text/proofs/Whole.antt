@@ -3,7 +3,9 @@ use Rattle.std.proofs.Common.{◌≡◌, ℕ, List, [], ◌∷◌, Option, Some,
 use Rattle.std.specs.Prelude.{◌↔◌, option_and_then}
 use Rattle.mp_syntax.specs.declared.fault.Fault.{Fault}
 use Rattle.mp_syntax.specs.Syntax.{Statement, IsSyntaxOf}
-use Rattle.mp_syntax.specs.Reading.{reading, syntax_of}
+use Rattle.mp_syntax.specs.declared.fault.SyntaxError.{SyntaxError}
+use Rattle.mp_syntax.specs.declared.fault.SyntaxError.TheVariants as syntax_errors
+use Rattle.mp_syntax.specs.Reading.{reading, syntax_of, IfFault}
 use Rattle.mp_syntax.proofs.Whole.{syntax_of-exact, reading-found, reading-only}
 use Rattle.mp_text.specs.declared.fault.TextFault.{TextFault}
 use Rattle.mp_text.specs.declared.fault.TextError.{TextError}
@@ -13,7 +15,8 @@ use Rattle.mp_text.specs.File.{FileTree, file_tree}
 use Rattle.mp_text.specs.FileBuild.{file_tree_of}
 use Rattle.mp_text.specs.FileChecks.{faults}
 use Rattle.mp_text.specs.Answers.{first, Gives}
-use Rattle.mp_text.specs.Reading.{IsFileOf, unread_fault, IsRefused, IsFaultOf, IfText, IsFileOrMemory, IsFaultOrMemory}
+use Rattle.mp_text.specs.Reading.{IsFileOf, unread_fault, text_error, IsRefused, IsFaultOf, IfText, IsFileOrMemory}
+use Rattle.mp_text.specs.Reading.{IsFaultOrMemory}
 use Rattle.mp_text.specs.Computed.{file_without, checked_file, file_of, fault_in, fault_of, ReadGives, IsComputed}
 
 some_same : {X : Type 0} (a b : X) → Some a ≡ Some b → a ≡ b
@@ -141,6 +144,12 @@ pub ReadGives-computed : (bytes : List ℕ) (r : Result code.File TextError) →
 ReadGives-computed bytes (Ok f) h = (computed-of bytes (file_tree f) h, file-no_fault bytes (file_tree f) h)
 ReadGives-computed bytes (Err (Text t)) h = h
 ReadGives-computed bytes (Err Memory) h = tt
+
+-- an error of the syntax is the fault of the bytes, or memory ran out
+pub ReadGives-error : (bytes : List ℕ) (e : SyntaxError) → IfFault e (λ f. reading bytes ≡ Err f)
+    → ReadGives bytes (Err (text_error e))
+ReadGives-error bytes syntax_errors.Memory h = tt
+ReadGives-error bytes (syntax_errors.Fault f) h = ap fault_in h
 
 -- what the statements give is what reading the bytes gives
 pub ReadGives-statements : (bytes : List ℕ) (ss : List Statement) (r : Result code.File TextError) → IsSyntaxOf bytes ss

@@ -1,5 +1,7 @@
 -- Which bytes are which file, and which fault others have.
 use Rattle.std.specs.Prelude.{◌≡◌, ◌⊎◌, ℕ, List, [], Some, Result, Ok, Err}
+use Rattle.mp_syntax.specs.declared.fault.SyntaxError.{SyntaxError}
+use Rattle.mp_syntax.specs.declared.fault.SyntaxError.TheVariants as syntax_errors
 use Rattle.mp_syntax.specs.Syntax.{Statement, IsSyntaxOf}
 use Rattle.mp_text.specs.declared.fault.TextKind.TheVariants.{Unread}
 use Rattle.mp_text.specs.declared.fault.TextFault.{TextFault}
@@ -21,6 +23,11 @@ pub record IsFileOf (bytes : List ℕ) (f : FileTree) : Type 0 where
 -- the fault of a text that isn't read in this version
 abbrev pub unread_fault : TextFault
 unread_fault = record { kind = Unread; line = 1; column = 1 }
+
+-- the error for a text without a syntax tree: it isn't read, or memory ran out
+abbrev pub text_error : SyntaxError → TextError
+text_error syntax_errors.Memory = Memory
+text_error (syntax_errors.Fault f) = Text unread_fault
 
 -- the bytes are no statements
 abbrev pub IsRefused : List ℕ → Type 0

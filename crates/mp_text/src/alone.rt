@@ -17,9 +17,9 @@ ghost use Rattle.mp_text.specs.Alone.{IsTermFaultOf, IsPatternOf, IsPatternFault
 use crate::build::whole_pattern;
 use crate::checks::{is_large_pattern, is_large_term};
 use crate::fault::{TextError, TextKind, error_at};
-use crate::reader::{subject_term, unread};
+use crate::reader::subject_term;
 use mp_pattern::Pattern;
-use mp_syntax::{Expr, Place, SyntaxError, read_expression};
+use mp_syntax::{Expr, Place, read_expression};
 use mp_term::{Signature, Term};
 use std::alloc::Global;
 
@@ -29,9 +29,9 @@ use std::alloc::Global;
 /// which no check finds a fault (`term_alone_faults` of `specs/Alone.antt`). It has fewer than 4,294,967,295 bytes.
 ///
 /// - `Text`: the text has this fault, by `IsTermFaultOf` of `specs/Alone.antt`: where it is an expression, the first
-/// that the checks   find, with its line and column, from 1; a term of more than 100,000 nodes, or with a default of
-/// more than 64, has the fault `TooMany` at its first token. Where it is no   expression, the fault is `Unread` at line
-/// 1, column 1.
+///   that the checks find, with its line and column, from 1; a term of more than 100,000 nodes, or with a default of
+///   more than 64, has the fault `TooMany` at its first token. Where it is no expression, the fault is `Unread` at line
+///   1, column 1.
 /// - `Memory`: memory ran out.
 ///
 /// After an error nothing is kept.
@@ -58,9 +58,9 @@ pub fn read_term(alloc: Global, sig: &Signature, bytes: &[u8]) -> Result<Term, T
 /// bytes.
 ///
 /// - `Text`: the text has this fault, by `IsPatternFaultOf` of `specs/Alone.antt`: where it is an expression, the first
-/// that the checks   find, with its line and column, from 1; a pattern of more than 64 nodes or 32 variables, or with a
-/// default of more than 64 nodes, has the fault `TooMany` at its first   token.   Where it is no expression, the fault
-/// is `Unread` at line 1, column 1.
+///   that the checks find, with its line and column, from 1; a pattern of more than 64 nodes or 32 variables, or with a
+///   default of more than 64 nodes, has the fault `TooMany` at its first token. Where it is no expression, the fault is
+///   `Unread` at line 1, column 1.
 /// - `Memory`: memory ran out.
 ///
 /// After an error nothing is kept.
@@ -86,11 +86,8 @@ fn term_of_text(alloc: Global, sig: &Signature, bytes: &[u8]) -> Result<Term, Te
     requires { length bytes.now < 2 ^ 32 - 1 }
     ensures { Answers (term_alone_faults sig.now) (normal_term_of sig.now) tree (expr_reading bytes.now) result }
 {
-    match read_expression(alloc, bytes) {
-        Ok(expr) => term_alone(alloc, sig, &expr),
-        Err(SyntaxError::Memory) => Err(TextError::Memory),
-        Err(SyntaxError::Fault(_)) => Err(unread()),
-    }
+    let expr = read_expression(alloc, bytes)?;
+    term_alone(alloc, sig, &expr)
 }
 
 /// Reads one pattern, or finds its fault.
@@ -98,11 +95,8 @@ fn pattern_of_text(alloc: Global, sig: &Signature, bytes: &[u8]) -> Result<Patte
     requires { length bytes.now < 2 ^ 32 - 1 }
     ensures { Answers (pattern_alone_faults sig.now) (pattern_of sig.now) pattern_tree (expr_reading bytes.now) result }
 {
-    match read_expression(alloc, bytes) {
-        Ok(expr) => pattern_alone(alloc, sig, &expr),
-        Err(SyntaxError::Memory) => Err(TextError::Memory),
-        Err(SyntaxError::Fault(_)) => Err(unread()),
-    }
+    let expr = read_expression(alloc, bytes)?;
+    pattern_alone(alloc, sig, &expr)
 }
 
 /// The normal form of the term of an expression alone, or its first fault.

@@ -17,10 +17,9 @@ ghost use Rattle.mp_text.specs.ScopeView.{scope_of};
 use crate::condition::build_condition;
 use crate::condition_size::is_large_condition;
 use crate::fault::{TextError, TextKind, error_at};
-use crate::reader::unread;
 use crate::scope::{Scope, plan_variables};
 use mp_pattern::{Cond, Plan};
-use mp_syntax::{Condition, Place, SyntaxError, first_token_place, read_condition};
+use mp_syntax::{Condition, Place, first_token_place, read_condition};
 use mp_term::Signature;
 use std::alloc::Global;
 
@@ -31,9 +30,9 @@ use std::alloc::Global;
 /// of `specs/AloneCondition.antt`). It has fewer than 4,294,967,295 bytes.
 ///
 /// - `Text`: the text has this fault, by `IsCondFaultOf` of `specs/AloneCondition.antt`: where it is a condition, the
-/// first that the   checks find, with its line and column, from 1; a condition of more than 64 atoms, or with an
-/// operand of more than 64 nodes, has the   fault `TooMany` at its first token. Where it is no condition, the fault is
-/// `Unread` at line 1, column 1.
+///   first that the checks find, with its line and column, from 1; a condition of more than 64 atoms, or with an
+///   operand of more than 64 nodes, has the fault `TooMany` at its first token. Where it is no condition, the fault is
+///   `Unread` at line 1, column 1.
 /// - `Memory`: memory ran out.
 ///
 /// After an error nothing is kept.
@@ -97,11 +96,8 @@ fn cond_of_text(
         (placed_reading bytes.now) result }
 {
     let start = first_token_place(bytes);
-    match read_condition(alloc, bytes) {
-        Ok(condition) => cond_alone(alloc, sig, scope, start, &condition),
-        Err(SyntaxError::Memory) => Err(TextError::Memory),
-        Err(SyntaxError::Fault(_)) => Err(unread()),
-    }
+    let condition = read_condition(alloc, bytes)?;
+    cond_alone(alloc, sig, scope, start, &condition)
 }
 
 /// The condition of a syntax tree alone that begins at this place, or its first fault.

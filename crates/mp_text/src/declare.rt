@@ -200,7 +200,7 @@ fn declare_kind(
 }
 
 /// Declares the operation of a statement, if it declares one.
-fn declare_op_of(
+fn declare_if_op(
     alloc: Global,
     sig: &mut Signature,
     statement: &Statement<'_>,
@@ -223,7 +223,7 @@ fn declare_op_of(
 }
 
 /// Declares the kind of a statement, if it declares one.
-fn declare_kind_of(
+fn declare_if_kind(
     alloc: Global,
     sig: &mut Signature,
     statement: &Statement<'_>,
@@ -247,7 +247,7 @@ fn declare_ops(alloc: Global, statements: &[Statement<'_>]) -> Result<Signature,
 {
     let mut sig = Signature::new(alloc)?;
     for statement in statements {
-        declare_op_of(alloc, &mut sig, statement)?;
+        declare_if_op(alloc, &mut sig, statement)?;
     }
     Ok(sig)
 }
@@ -263,7 +263,7 @@ fn declare_kinds(
         (λ _. sig.new ≡ sig_with sig.old.ops (map statement_tree statements.now)) }
 {
     for statement in statements {
-        declare_kind_of(alloc, sig, statement)?;
+        declare_if_kind(alloc, sig, statement)?;
     }
     Ok(())
 }

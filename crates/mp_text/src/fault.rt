@@ -4,8 +4,9 @@ ghost use Rattle.std.specs.Prelude.{◌≡◌};
 ghost use Rattle.mp_text.specs.declared.fault.TextError.TheVariants.{Text};
 ghost use Rattle.mp_text.specs.declared.fault.TextError.TheVariants as errors;
 ghost use Rattle.mp_text.specs.Checks.{fault_at};
+ghost use Rattle.mp_text.specs.Reading.{text_error};
 
-use mp_syntax::Place;
+use mp_syntax::{Place, SyntaxError};
 use mp_term::Memory;
 use std::alloc::{AllocError, AllocFailed};
 
@@ -95,6 +96,21 @@ impl<T: Drop> From<AllocFailed<T>> for TextError {
 
     fn from(_error: AllocFailed<T>) -> TextError {
         TextError::Memory
+    }
+}
+
+impl From<SyntaxError> for TextError {
+    ghost from_gives = { λ error e. e ≡ text_error error };
+
+    fn from(error: SyntaxError) -> TextError {
+        match error {
+            SyntaxError::Memory => TextError::Memory,
+            SyntaxError::Fault(_) => TextError::Text(TextFault {
+                kind: TextKind::Unread,
+                line: 1,
+                column: 1,
+            }),
+        }
     }
 }
 

@@ -8,7 +8,6 @@ ghost use Rattle.mp_syntax.specs.View.{spot_of, expr_tree, if_tree, statement_tr
 ghost use Rattle.mp_term.specs.Normal.{normal};
 ghost use Rattle.mp_term.specs.View.{tree};
 ghost use Rattle.mp_text.specs.declared.fault.TextFault as plain;
-ghost use Rattle.mp_text.specs.declared.fault.TextError.TheVariants.{Text};
 ghost use Rattle.mp_text.specs.Answers.{Gives};
 ghost use Rattle.mp_text.specs.Build.{term_of};
 ghost use Rattle.mp_text.specs.FileBuild.{file_tree_of};
@@ -17,17 +16,17 @@ ghost use Rattle.mp_text.specs.Checks.{term_faults, name_faults};
 ghost use Rattle.mp_text.specs.FileChecks.{statement_faults, faults};
 ghost use Rattle.mp_text.specs.File.{FileTree, file_tree};
 ghost use Rattle.mp_text.specs.Sound.{IsSoundFile};
-ghost use Rattle.mp_text.specs.Reading.{IsFileOf, IsFaultOf, unread_fault, IfText, IsFileOrMemory, IsFaultOrMemory};
+ghost use Rattle.mp_text.specs.Reading.{IsFileOf, IsFaultOf, IfText, IsFileOrMemory, IsFaultOrMemory};
 ghost use Rattle.mp_text.specs.Computed.{file_of, fault_of, ReadGives, IsComputed};
 
 use crate::build::{build_term, new_name};
 use crate::checks::is_large_term;
 use crate::declare::{check_name, declare};
-use crate::fault::{TextError, TextFault, TextKind};
+use crate::fault::TextError;
 use crate::file::{EditSets, File, Subject, Subjects};
 use crate::rule::{build_rule, is_large_rule};
 use mp_pattern::{MAX_RULES, MAX_SUBJECTS, Rules};
-use mp_syntax::{Condition, Expr, Statement, SyntaxError, Word, read_statements};
+use mp_syntax::{Condition, Expr, Statement, Word, read_statements};
 use mp_term::{NameTable, Signature, Term, normalise};
 use std::alloc::Global;
 
@@ -81,22 +80,8 @@ fn read(alloc: Global, bytes: &[u8]) -> Result<File, TextError>
     requires { length bytes.now < 2 ^ 32 - 1 }
     ensures { ReadGives bytes.now result }
 {
-    match read_statements(alloc, bytes) {
-        Ok(statements) => build_file(alloc, &statements),
-        Err(SyntaxError::Memory) => Err(TextError::Memory),
-        Err(SyntaxError::Fault(_)) => Err(unread()),
-    }
-}
-
-/// The error for a text that isn't read in this version.
-pub(crate) fn unread() -> TextError
-    ensures { result ≡ Text unread_fault }
-{
-    TextError::Text(TextFault {
-        kind: TextKind::Unread,
-        line: 1,
-        column: 1,
-    })
+    let statements = read_statements(alloc, bytes)?;
+    build_file(alloc, &statements)
 }
 
 /// The term of an expression in normal form, or its first fault.
@@ -113,7 +98,7 @@ pub(crate) fn subject_term(
     Ok(term)
 }
 
-/// A file while it is built, with the names of its rules and those of its subjects.
+/// A file while it is built, with the names of its rules and those of its subjects: `IsDraftOf` of `specs/Draft.antt`.
 #[derive(Drop)]
 struct Draft {
     file: File,
@@ -174,7 +159,13 @@ fn add_subject(
 {
     let is_large = is_large_term(term);
     let count = draft.file.subjects.len();
-    add_statement_name(&mut draft.subject_names, name, count, MAX_SUBJECTS, is_large)?;
+    add_statement_name(
+        &mut draft.subject_names,
+        name,
+        count,
+        MAX_SUBJECTS,
+        is_large,
+    )?;
     let term = subject_term(alloc, &draft.file.sig, term)?;
     let name = new_name(alloc, name)?;
     draft.file.subjects.push(Subject { name, term })?;

@@ -121,6 +121,9 @@ fn add_wildcard<'a>(
 }
 
 /// The normal form of a default, which stands behind further wildcards of a chain, where it has one.
+///
+/// A default is built twice: here, where it may have faults, since a difference from an earlier wildcard of the name is
+/// told before them; and by `default_term` behind that, whose faults come before those of the arguments that follow.
 fn default_form(
     alloc: Global,
     sig: &Signature,

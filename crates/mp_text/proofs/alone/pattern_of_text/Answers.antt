@@ -1,13 +1,20 @@
+use Rattle.std.proofs.lemmas.Result.{err_from_is_err_and}
 use Rattle.mp_pattern.specs.View.{pattern_tree}
 use Rattle.mp_syntax.specs.Syntax.{IsExprOf}
 use Rattle.mp_syntax.specs.Reading.{expr_reading}
 use Rattle.mp_syntax.specs.View.{expr_tree}
 use Rattle.mp_text.specs.Build.{pattern_of}
 use Rattle.mp_text.specs.Alone.{pattern_alone_faults}
-use Rattle.mp_text.proofs.AloneLaws.{IsReading-expr_reading, answers-syntax}
+use Rattle.mp_text.proofs.AloneLaws.{IsReading-expr_reading, answers-syntax, answers-error}
 use Rattle.mp_text.proofs.alone.pattern_of_text.Goals as goal
 
-pub returns-in-Ok : goal.returns-in-Ok
-returns-in-Ok c = answers-syntax IsExprOf expr_reading IsReading-expr_reading (pattern_alone_faults c.args.sig.now)
+pub returns-in_err-expr : goal.returns-in_err-expr
+returns-in_err-expr c =
+    let p = err_from_is_err_and c.from_residual.result c.from_residual.ensures.1 in
+    rw (p.1, p.2) (answers-error (pattern_alone_faults c.args.sig.now) (pattern_of c.args.sig.now) pattern_tree
+    (expr_reading c.args.bytes.now) c.in_err-expr.field-0.0 c.in_err-expr.ensures.fault)
+
+pub returns : goal.returns
+returns c = answers-syntax IsExprOf expr_reading IsReading-expr_reading (pattern_alone_faults c.args.sig.now)
     (pattern_of c.args.sig.now) pattern_tree c.args.bytes.now c.pattern_alone.result
-    (expr_tree c.in-Ok.expr) c.in-Ok.ensures.found c.pattern_alone.ensures
+    (expr_tree c.in_ok-expr.expr) c.in_ok-expr.ensures.found c.pattern_alone.ensures

@@ -40,7 +40,8 @@ returns-in_err-members c =
     (λ (id : KindId). id.0) c.find_kind.result c.args.name.text.now names c.find_kind.ensures in
     rw (p.1, p.2)
     (fails-along e _ _ (kind_faults-members c.args.sig.now (spot_of c.args.name) c.args.members.now)
-    (fails-behind e _ _ (c.in_ok-check_name.ensures.first names held c.kind_count.ensures.count).0 c.in_err-members.ensures))
+    (fails-behind e _ _ (c.in_ok-check_name.ensures.first names held c.kind_count.ensures.count).0
+    c.in_err-members.ensures))
 
 pub returns-in-Ok : goal.returns-in-Ok
 returns-in-Ok c =

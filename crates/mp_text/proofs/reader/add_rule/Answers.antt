@@ -7,7 +7,8 @@ use Rattle.mp_text.proofs.reader.add_rule.Goals as goal
 
 pub returns-in_err-add_statement_name : goal.returns-in_err-add_statement_name
 returns-in_err-add_statement_name c = λ sig earlier d.
-    let p = err_from_is_err_and c.from_residual-in_err-add_statement_name.result c.from_residual-in_err-add_statement_name.ensures.1 in
+    let p = err_from_is_err_and c.from_residual-in_err-add_statement_name.result
+    c.from_residual-in_err-add_statement_name.ensures.1 in
     let count = c.len-count.ensures ∙ draft_rule_count sig earlier c.args.draft.now d in
     rw (p.1, p.2) (fails-front c.in_err-add_statement_name.field-0.0 _ _
     (rw (d.rules, c.in_ok-is_large.ensures) at (c.in_err-add_statement_name.ensures count)))

@@ -1,7 +1,7 @@
 use Rattle.std.proofs.Common.{map, refl}
 use Rattle.mp_syntax.specs.View.{spot_of, flag_of, statement_tree}
 use Rattle.mp_text.proofs.Declared.{gives-OpOf, sig_with-other_op}
-use Rattle.mp_text.proofs.declare.declare_op_of.Goals as goal
+use Rattle.mp_text.proofs.declare.declare_if_op.Goals as goal
 
 pub returns-in-Op : goal.returns-in-Op
 returns-in-Op c = λ earlier h.

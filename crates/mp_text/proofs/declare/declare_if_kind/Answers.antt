@@ -1,7 +1,7 @@
 use Rattle.std.proofs.Common.{map, refl}
 use Rattle.mp_syntax.specs.View.{spot_of, statement_tree}
 use Rattle.mp_text.proofs.Declared.{gives-KindOf, sig_with-other_kind}
-use Rattle.mp_text.proofs.declare.declare_kind_of.Goals as goal
+use Rattle.mp_text.proofs.declare.declare_if_kind.Goals as goal
 
 pub returns-in-Kind : goal.returns-in-Kind
 returns-in-Kind c = λ ds earlier h.
