@@ -8,7 +8,7 @@ ghost use Rattle.mp_pattern.specs.Firsts.{firsts_after};
 ghost use Rattle.mp_syntax.specs.Syntax.{trees};
 ghost use Rattle.mp_syntax.specs.View.{expr_tree};
 ghost use Rattle.mp_term.specs.Signature.{Sig};
-ghost use Rattle.mp_pattern.specs.SoundRule.{pattern_least, pattern_most, fewest, greatest, reaches, allows_patterns};
+ghost use Rattle.mp_pattern.specs.SoundRule.{pattern_least, pattern_most, allows_patterns};
 ghost use Rattle.mp_text.specs.Build.{pattern_of};
 ghost use Rattle.mp_text.specs.Checks.{nodes, all_nodes, is_large_pattern, is_large_operand, is_large_term};
 ghost use Rattle.mp_text.specs.Checks.{has_large_default, some_large_default};
@@ -188,39 +188,23 @@ fn most(assoc: bool, expr: &Expr<'_>) -> Option<usize>
     }
 }
 
-/// The patterns may take as many arguments as this number, or more.
-fn may_reach(assoc: bool, args: &[Expr<'_>], count: usize) -> bool
-    ensures { (sig : Sig) → result ≡ reaches count (greatest assoc (map (pattern_of sig) (map expr_tree args.now))) }
-{
-    let mut missing = count;
-    for arg in args {
-        match most(assoc, arg) {
-            None => return true,
-            Some(most) => missing = missing.saturating_sub(most),
-        }
-    }
-    missing == 0
-}
-
-/// The patterns may take as few arguments as this number.
-fn may_take_few(args: &[Expr<'_>], count: usize) -> bool
-    ensures { (sig : Sig) → result ≡ nat_le (fewest (map (pattern_of sig) (map expr_tree args.now))) count }
-{
-    let mut room = count;
-    for arg in args {
-        let least = least(arg);
-        if room < least {
-            return false;
-        }
-        room -= least;
-    }
-    true
-}
-
 /// The operation allows a number of arguments that the patterns may take.
 pub fn allows_patterns(decl: &OpDecl, args: &[Expr<'_>]) -> bool
     ensures { (sig : Sig) → result ≡ allows_patterns (map (pattern_of sig) (map expr_tree args.now)) decl.now }
 {
-    let least = decl.least as usize;
-    may_reach(decl.assoc, args, least) && (!decl.fixed || may_take_few(args, least))
+    // What is missing where each argument so far takes the most, and the room behind them where each takes the least.
+    let mut missing = decl.least as usize;
+    let mut room = missing;
+    for arg in args {
+        let least = least(arg);
+        if decl.fixed && room < least {
+            return false;
+        }
+        room = room.saturating_sub(least);
+        missing = match most(decl.assoc, arg) {
+            None => 0,
+            Some(most) => missing.saturating_sub(most),
+        };
+    }
+    missing == 0
 }
