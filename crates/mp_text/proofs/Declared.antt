@@ -21,7 +21,6 @@ use Rattle.mp_text.specs.Subject.{Subject}
 use Rattle.mp_text.specs.File.{FileTree}
 use Rattle.mp_text.specs.Answers.{Gives}
 use Rattle.mp_text.specs.Checks.{op_faults, kind_faults}
-use Rattle.mp_text.specs.FileChecks.{statement_faults}
 use Rattle.mp_text.specs.Names.{rule_names, subject_names, is_among}
 use Rattle.mp_text.specs.Build.{op_decl, op_decls, kind_decl, kind_decls, sig_with, term_of, subject_of, subjects_of}
 use Rattle.mp_text.specs.FileBuild.{rule_of, rules_of, file_over}

@@ -6,7 +6,7 @@ use Rattle.mp_term.specs.Normal.{normal}
 use Rattle.mp_pattern.specs.Admission.{Rule}
 use Rattle.mp_syntax.specs.Syntax.{Spot, Tree, Condition, Statement, RuleOf, SubjectOf}
 use Rattle.mp_text.specs.declared.reader.Draft.{Draft}
-use Rattle.mp_text.specs.File.{FileTree, file_tree}
+use Rattle.mp_text.specs.File.{FileTree}
 use Rattle.mp_text.specs.Subject.{Subject}
 use Rattle.mp_text.specs.Names.{rule_names, subject_names}
 use Rattle.mp_text.specs.Build.{term_of, subjects_of}

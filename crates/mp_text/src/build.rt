@@ -1,20 +1,16 @@
 //! Makes terms and patterns of expressions, and checks them on the way.
 
-ghost use Rattle.std.specs.Prelude.{◌≡◌, [], ◌∷◌, ◌++◌, length, map, None, is_some, option_map};
-ghost use Rattle.std.specs.List.{list_any};
+ghost use Rattle.std.specs.Prelude.{◌≡◌, [], ◌++◌, length, map, None, is_some, option_map};
 ghost use Rattle.mp_term.specs.Signature.{allows};
-ghost use Rattle.mp_term.specs.Tree as term;
 ghost use Rattle.mp_term.specs.View.{tree};
-ghost use Rattle.mp_pattern.specs.PatternTree as pattern;
-ghost use Rattle.mp_pattern.specs.PatternTree.{wild_pattern};
 ghost use Rattle.mp_pattern.specs.SoundRule.{allows_patterns};
 ghost use Rattle.mp_text.specs.declared.fault.TextKind.TheVariants.{UnknownKind};
 ghost use Rattle.mp_pattern.specs.View.{pattern_tree, wildcard};
-ghost use Rattle.mp_syntax.specs.Syntax.{trees, tree_list, InfixOf};
+ghost use Rattle.mp_syntax.specs.Syntax.{trees, InfixOf};
 ghost use Rattle.mp_syntax.specs.View.{spot_of, wildcard_of, expr_tree, spot_of_sign};
 ghost use Rattle.mp_text.specs.Answers.{Gives, Fails};
 ghost use Rattle.mp_text.specs.Build.{op_number, sign_number, head_number, marked_shape, shape_of, variable_of};
-ghost use Rattle.mp_text.specs.Build.{term_of, terms_of, pattern_of, patterns_of};
+ghost use Rattle.mp_text.specs.Build.{term_of, pattern_of};
 ghost use Rattle.mp_text.specs.Wildcards.{pattern_wildcards, all_pattern_wildcards};
 ghost use Rattle.mp_text.specs.WildcardView.{wildcard_view};
 ghost use Rattle.mp_text.specs.Checks.{fault_if, kind_unknown, term_wildcard_faults, loose_faults};

@@ -1,9 +1,8 @@
 //! Declares the operations and kinds of a file.
 
-ghost use Rattle.std.specs.Prelude.{◌≡◌, ◌≤◌, ◌+◌, ℕ, List, [], ◌∷◌, ◌++◌, length, map, flat_map, min, true, false};
-ghost use Rattle.std.specs.Prelude.{not, option_map, IfOk};
+ghost use Rattle.std.specs.Prelude.{◌≡◌, ◌≤◌, ◌+◌, ℕ, List, [], ◌∷◌, ◌++◌, length, map, flat_map, false};
+ghost use Rattle.std.specs.Prelude.{option_map, IfOk};
 ghost use Rattle.mp_term.specs.declared.signature.OpDecl as decl;
-ghost use Rattle.mp_term.specs.Signature.{in_order};
 ghost use Rattle.mp_syntax.specs.Syntax as syntax;
 ghost use Rattle.mp_syntax.specs.View.{spot_of, flag_of, statement_tree, spot_of_sign};
 ghost use Rattle.mp_text.specs.Answers.{Gives};

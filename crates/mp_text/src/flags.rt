@@ -1,6 +1,6 @@
 //! The flags of an operation, as they are written.
 
-ghost use Rattle.std.specs.Prelude.{◌≡◌, ◌||◌, ℕ, List, map, min, not, option_map, count_by};
+ghost use Rattle.std.specs.Prelude.{◌≡◌, ◌||◌, map, min, option_map, count_by};
 ghost use Rattle.mp_term.specs.Signature.{in_order};
 ghost use Rattle.mp_syntax.specs.Syntax as syntax;
 ghost use Rattle.mp_syntax.specs.View.{flag_of, spot_of_sign};

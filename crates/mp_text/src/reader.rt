@@ -1,6 +1,6 @@
 //! Reads rule files.
 
-ghost use Rattle.std.specs.Prelude.{◌≡◌, ◌<◌, ◌-◌, ◌^◌, ◌↔◌, ℕ, List, ◌++◌, ◌∷◌, [], length, map, true, Some, IfOk};
+ghost use Rattle.std.specs.Prelude.{◌≡◌, ◌<◌, ◌-◌, ◌^◌, ◌↔◌, ℕ, List, ◌++◌, ◌∷◌, [], length, map, Some, IfOk};
 ghost use Rattle.mp_term.specs.Signature.{Sig};
 ghost use Rattle.mp_syntax.specs.Syntax as syntax;
 ghost use Rattle.mp_syntax.specs.Syntax.{RuleOf, SubjectOf};

@@ -1,6 +1,6 @@
 //! Makes rules of syntax trees, and checks them on the way.
 
-ghost use Rattle.std.specs.Prelude.{◌≡◌, ◌||◌, ◌++◌, true, Some, option_map, IfOk};
+ghost use Rattle.std.specs.Prelude.{◌≡◌, ◌||◌, true, Some, option_map, IfOk};
 ghost use Rattle.mp_pattern.specs.Normal.{normal_pattern};
 ghost use Rattle.mp_pattern.specs.View.{pattern_tree};
 ghost use Rattle.mp_pattern.specs.CondView.{cond_tree};

@@ -1,4 +1,4 @@
-use Rattle.std.proofs.Common.{sym, ap, ◌∙◌}
+use Rattle.std.proofs.Common.{sym, ◌∙◌}
 use Rattle.std.proofs.lemmas.Result.{err_from_is_err_and}
 use Rattle.mp_text.proofs.Declared.{is_some-found, is_among-list_any}
 use Rattle.mp_text.proofs.reader.add_statement_name.Goals as goal
