@@ -1,7 +1,8 @@
 //! Conditions on one substitution, their answers worked out from the definitions.
 ghost use Rattle.std.specs.Prelude.{◌≡◌, [], ◌∷◌, IfOk};
-ghost use Rattle.mp_pattern.specs.CondTree.{amounts, fixed, eq};
+ghost use Rattle.mp_pattern.specs.CondTree.{amounts, fixed};
 ghost use Rattle.mp_pattern.specs.CondView.{operand, cond_tree};
+ghost use Rattle.mp_pattern.specs.declared.condition.Sense.TheVariants.{Eq};
 ghost use Rattle.mp_subst.specs.View.{subst_of};
 ghost use Rattle.mp_cond.specs.Ready.{IsOperandReady, IsReady};
 
@@ -285,7 +286,7 @@ fn numbers_compare_by_the_sense(rt: HostRuntime) -> Result<(), Fail> {
 
 // The comparison of a number with 1.
 fn is_one(number: u32) -> Cond
-    ensures { cond_tree result ≡ amounts (fixed number) eq (fixed 1) }
+    ensures { cond_tree result ≡ amounts (fixed number) Eq (fixed 1) }
 {
     Cond::Amounts(Amount::Fixed(number), Sense::Eq, Amount::Fixed(1))
 }
@@ -298,7 +299,7 @@ fn is_not_one(alloc: Global, number: u32, subst: &Subst) -> Result<bool, Fail> {
 
 // The comparisons of both numbers with 1.
 fn both(alloc: Global, p: u32, q: u32) -> Result<Conds, Fail>
-    ensures { IfOk result (λ cs. cs ≡ amounts (fixed p) eq (fixed 1) ∷ amounts (fixed q) eq (fixed 1) ∷ []) }
+    ensures { IfOk result (λ cs. cs ≡ amounts (fixed p) Eq (fixed 1) ∷ amounts (fixed q) Eq (fixed 1) ∷ []) }
 {
     let mut parts = Conds::new(alloc);
     parts.push(is_one(p))?;
