@@ -1,10 +1,11 @@
 -- What the statements declare: names and counts of operations, rules and subjects, statement by statement.
 use Rattle.std.proofs.Common.{◌≡◌, ℕ, Bool, ◌||◌, List, [], ◌∷◌, ◌++◌, map, length, append-nil, Result, Ok, Err, refl}
-use Rattle.std.proofs.Common.{sym, ap, ◌∙◌, subst}
+use Rattle.std.proofs.Common.{◌+◌, ◌<◌, take, get_or, add-one, sym, ap, ◌∙◌, subst}
 use Rattle.std.specs.Prelude.{Option, position, is_some, option_map}
 use Rattle.std.specs.List.{list_any}
 use Rattle.std.specs.Str.{bytes_eq}
-use Rattle.std.proofs.lemmas.List.{length-map}
+use Rattle.std.proofs.lemmas.List.{length-map, map-append}
+use Rattle.std.proofs.Math.Seq.{take-suc}
 use Rattle.std.proofs.lemmas.Slice.Eq.{bytes_eq-Decides}
 use Rattle.std.proofs.lemmas.Bool.Decides.{same_from_decides}
 use Rattle.mp_term.specs.declared.signature.OpDecl.{OpDecl}
@@ -14,13 +15,19 @@ use Rattle.mp_term.proofs.SignatureLaws.{is_some-position, is_some-option_map}
 use Rattle.mp_term.specs.Tree as term
 use Rattle.mp_term.specs.Normal.{normal}
 use Rattle.mp_pattern.specs.Admission.{Rule}
+use Rattle.mp_syntax.specs.declared.word.Word.{Word}
+use Rattle.mp_syntax.specs.declared.tree.Statement as code
+use Rattle.mp_syntax.specs.declared.tree.Statement.TheVariants as statements
+use Rattle.mp_syntax.specs.declared.tree.Flag as code_flag
+use Rattle.mp_syntax.specs.View.{statement_tree}
+use Rattle.std.specs.Global.{Vec}
 use Rattle.mp_syntax.specs.Syntax.{Spot, Tree, Flag, Statement, OpOf, KindOf, RuleOf, SubjectOf, Condition}
 use Rattle.mp_text.specs.declared.fault.TextFault.{TextFault}
 use Rattle.mp_text.specs.declared.fault.TextError.{TextError}
 use Rattle.mp_text.specs.Subject.{Subject}
 use Rattle.mp_text.specs.File.{FileTree}
 use Rattle.mp_text.specs.Answers.{Gives}
-use Rattle.mp_text.specs.Checks.{op_faults, kind_faults}
+use Rattle.mp_text.specs.Checks.{op_faults, kind_faults, op_statement_faults, kind_statement_faults}
 use Rattle.mp_text.specs.Names.{rule_names, subject_names, is_among}
 use Rattle.mp_text.specs.Build.{op_decl, op_decls, kind_decl, kind_decls, sig_with, term_of, subject_of, subjects_of}
 use Rattle.mp_text.specs.FileBuild.{rule_of, rules_of, file_over}
@@ -103,15 +110,30 @@ kind_decls-other ss s h = kind_decls-append ss (s ∷ []) ∙ ap (λ l. kind_dec
 abbrev with_kinds : List OpDecl → List Kind → Sig
 with_kinds ds ks = record { ops = ds; kinds = ks }
 
--- the signature behind a statement that declares no operation
-pub sig_with-other_op : (sig : Sig) (ss : List Statement) (s : Statement) → op_decls (s ∷ []) ≡ []
-    → sig ≡ sig_with (op_decls ss) [] → sig ≡ sig_with (op_decls (ss ++ s ∷ [])) []
-sig_with-other_op sig ss s none h = h ∙ ap (λ l. sig_with l []) (sym (op_decls-other ss s none))
+-- a statement that is no operation's has no fault as one, and declares none
+pub no_op : (s : code.Statement) → ((name least : Word) (more : Bool) (flags : Vec code_flag.Flag)
+    → s ≡ statements.Op name least more flags → ⊥) → (earlier : List Statement)
+    → (op_statement_faults earlier (statement_tree s) ≡ []) × (op_decls (statement_tree s ∷ []) ≡ [])
+no_op (statements.Op name least more flags) other earlier = absurd (other name least more flags refl)
+no_op (statements.Kind name members) other earlier = (refl, refl)
+no_op (statements.Rule name p c) other earlier = (refl, refl)
+no_op (statements.Subject name t) other earlier = (refl, refl)
 
--- the signature behind a statement that declares no kind
-pub sig_with-other_kind : (sig : Sig) (ds : List OpDecl) (ss : List Statement) (s : Statement)
-    → kind_decls (s ∷ []) ≡ [] → sig ≡ sig_with ds ss → sig ≡ sig_with ds (ss ++ s ∷ [])
-sig_with-other_kind sig ds ss s none h = h ∙ ap (with_kinds ds) (sym (kind_decls-other ss s none))
+-- a statement that is no kind's has no fault as one, and declares none
+pub no_kind : (s : code.Statement) → ((name : Word) (members : Vec Word) → s ≡ statements.Kind name members → ⊥)
+    → (ds : List OpDecl) (earlier : List Statement)
+    → (kind_statement_faults ds earlier (statement_tree s) ≡ []) × (kind_decls (statement_tree s ∷ []) ≡ [])
+no_kind (statements.Op name least more flags) other ds earlier = (refl, refl)
+no_kind (statements.Kind name members) other ds earlier = absurd (other name members refl)
+no_kind (statements.Rule name p c) other ds earlier = (refl, refl)
+no_kind (statements.Subject name t) other ds earlier = (refl, refl)
+
+-- the statements so far and one more
+pub so_far-item : (ss : List code.Statement) (i : ℕ) (s : code.Statement) → i < length ss → s ≡ get_or ss i s
+    → map statement_tree (take (i + 1) ss) ≡ map statement_tree (take i ss) ++ statement_tree s ∷ []
+so_far-item ss i s within is = ap (λ n. map statement_tree (take n ss)) (add-one i)
+    ∙ ap (map statement_tree) (take-suc ss i s within ∙ ap (λ x. take i ss ++ x ∷ []) (sym is))
+    ∙ map-append statement_tree (take i ss) (s ∷ [])
 
 -- ---- rules and subjects
 

@@ -2,8 +2,6 @@
 
 ghost use Rattle.std.specs.Prelude.{◌≡◌, ◌≤◌, ◌+◌, ℕ, List, [], ◌∷◌, ◌++◌, length, map, flat_map, false};
 ghost use Rattle.std.specs.Prelude.{option_map, IfOk};
-ghost use Rattle.mp_term.specs.declared.signature.OpDecl as decl;
-ghost use Rattle.mp_syntax.specs.Syntax as syntax;
 ghost use Rattle.mp_syntax.specs.View.{spot_of, flag_of, statement_tree, spot_of_sign};
 ghost use Rattle.mp_text.specs.Answers.{Gives};
 ghost use Rattle.mp_text.specs.Build.{op_decl, op_decls, kind_decl, sig_with, sig_of};
@@ -198,47 +196,6 @@ fn declare_kind(
     }
 }
 
-/// Declares the operation of a statement, if it declares one.
-fn declare_if_op(
-    alloc: Global,
-    sig: &mut Signature,
-    statement: &Statement<'_>,
-) -> Result<(), TextError>
-    ensures { (earlier : List syntax.Statement) → sig.old ≡ sig_with (op_decls earlier) []
-        → Gives result (op_statement_faults earlier (statement_tree statement.now))
-        (λ _. sig.new ≡ sig_with (op_decls (earlier ++ statement_tree statement.now ∷ [])) []) }
-{
-    match statement {
-        Statement::Op {
-            name,
-            least,
-            open: is_open,
-            flags,
-        } => declare_op(alloc, sig, *name, *least, *is_open, flags),
-        Statement::Kind { .. } => Ok(()),
-        Statement::Rule { .. } => Ok(()),
-        Statement::Subject { .. } => Ok(()),
-    }
-}
-
-/// Declares the kind of a statement, if it declares one.
-fn declare_if_kind(
-    alloc: Global,
-    sig: &mut Signature,
-    statement: &Statement<'_>,
-) -> Result<(), TextError>
-    ensures { (ds : List decl.OpDecl) (earlier : List syntax.Statement) → sig.old ≡ sig_with ds earlier
-        → Gives result (kind_statement_faults ds earlier (statement_tree statement.now))
-        (λ _. sig.new ≡ sig_with ds (earlier ++ statement_tree statement.now ∷ [])) }
-{
-    match statement {
-        Statement::Op { .. } => Ok(()),
-        Statement::Kind { name, members } => declare_kind(alloc, sig, *name, members),
-        Statement::Rule { .. } => Ok(()),
-        Statement::Subject { .. } => Ok(()),
-    }
-}
-
 /// The signature of the operations that the statements declare, or the first fault of such a declaration.
 fn declare_ops(alloc: Global, statements: &[Statement<'_>]) -> Result<Signature, TextError>
     ensures { Gives result (faults_by op_statement_faults [] (map statement_tree statements.now))
@@ -246,7 +203,15 @@ fn declare_ops(alloc: Global, statements: &[Statement<'_>]) -> Result<Signature,
 {
     let mut sig = Signature::new(alloc)?;
     for statement in statements {
-        declare_if_op(alloc, &mut sig, statement)?;
+        if let Statement::Op {
+            name,
+            least,
+            open: is_open,
+            flags,
+        } = statement
+        {
+            declare_op(alloc, &mut sig, *name, *least, *is_open, flags)?;
+        }
     }
     Ok(sig)
 }
@@ -262,7 +227,9 @@ fn declare_kinds(
         (λ _. sig.new ≡ sig_with sig.old.ops (map statement_tree statements.now)) }
 {
     for statement in statements {
-        declare_if_kind(alloc, sig, statement)?;
+        if let Statement::Kind { name, members } = statement {
+            declare_kind(alloc, sig, *name, members)?;
+        }
     }
     Ok(())
 }
