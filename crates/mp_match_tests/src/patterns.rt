@@ -42,14 +42,10 @@ fn argument(alloc: Global, sig: &Signature, text: &str) -> Result<Pattern, Fail>
     }
 }
 
-// `n` where the pattern is fully named, and `s` where it is syntactic.
-fn marks(sig: &Signature, pattern: &Pattern) -> &'static str {
-    match (is_fully_named(pattern), is_syntactic(sig, pattern)) {
-        (true, true) => "ns",
-        (true, false) => "n",
-        (false, true) => "s",
-        (false, false) => "",
-    }
+// Whether the pattern is fully named where the marks have `n`, and syntactic where they have `s`.
+fn has_marks(sig: &Signature, pattern: &Pattern, marks: &str) -> bool {
+    is_fully_named(pattern) == marks.contains('n')
+        && is_syntactic(sig, pattern) == marks.contains('s')
 }
 
 // The patterns of the table.
@@ -87,7 +83,7 @@ fn is_marked(alloc: Global, sig: &Signature, line: &str) -> Result<bool, Fail> {
     let (text, wanted) = halves(line)?;
     let pattern = argument(alloc, sig, text)?;
     let copy = copy_pattern(alloc, &pattern)?;
-    Ok(marks(sig, &pattern) == wanted && pattern_compare(&pattern, &copy).is_eq())
+    Ok(has_marks(sig, &pattern, wanted) && pattern_compare(&pattern, &copy).is_eq())
 }
 
 // The first line whose pattern has other marks, or another copy.

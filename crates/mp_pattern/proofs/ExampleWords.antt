@@ -3,6 +3,7 @@ use Rattle.std.proofs.Common.{ℕ, List, [], ◌∷◌, true, false}
 use Rattle.std.specs.Prelude.{None, Some, codes}
 use Rattle.mp_term.specs.Tree.{Tree, symbol, app, trees}
 use Rattle.mp_term.specs.Signature.{Sig}
+use Rattle.mp_term.proofs.Examples.{plain_decl}
 use Rattle.mp_pattern.specs.PatternTree.{Wildcard, Pattern, symbol_pattern, app_pattern, wild_pattern, patterns}
 use Rattle.mp_pattern.specs.Value.{Value, Binding}
 use Rattle.mp_pattern.specs.Fits.{Entry}
@@ -11,7 +12,7 @@ use Rattle.mp_pattern.specs.Fits.{Entry}
 abbrev pub sig : Sig
 sig = record {
   ops =
-      record { name = codes "f"; least = 0; fixed = false; assoc = false; comm = false; one = false; sign = None }
+      plain_decl (codes "f") 0 false
       ∷ record { name = codes "set"; least = 0; fixed = false; assoc = false; comm = true; one = false; sign = None }
       ∷ record { name = codes "list"; least = 0; fixed = false; assoc = true; comm = false; one = false; sign = None }
       ∷ record { name = codes "sum"; least = 0; fixed = false; assoc = true; comm = true; one = true; sign = None }

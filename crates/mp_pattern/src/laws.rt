@@ -16,7 +16,7 @@ ghost use Rattle.mp_pattern.specs.Subpatterns.{subpatterns};
 ghost use Rattle.mp_pattern.specs.Clash.{first_clash};
 ghost use Rattle.mp_pattern.specs.Ground.{term_pattern};
 ghost use Rattle.mp_pattern.specs.Variables.{uses, variables};
-ghost use Rattle.mp_pattern.specs.Plan.{Plan, IsPlanOf};
+ghost use Rattle.mp_pattern.specs.Plan.{Plan, IsPlanOf, plan_of};
 
 /// The pattern order is total, and equal patterns alone are equal in it.
 pub fn pattern_order_is_total()
@@ -63,4 +63,10 @@ pub fn ground_patterns_are_terms()
 /// A plan has one pattern, over whatever signature.
 pub fn a_plan_has_one_pattern()
     ensures { (sig other : Sig) (p q : Pattern) (plan : Plan) → IsPlanOf sig p plan → IsPlanOf other q plan → p ≡ q }
+{}
+
+/// The nodes and the variables of a plan have one pattern, over whatever signature.
+pub fn nodes_and_variables_decide_the_pattern()
+    ensures { (sig other : Sig) (p q : Pattern) → (plan_of sig p).nodes ≡ (plan_of other q).nodes →
+        (plan_of sig p).variables ≡ (plan_of other q).variables → p ≡ q }
 {}

@@ -22,9 +22,9 @@ pub use condition::{Amount, BoxedCond, Cond, Conds, Operand, Sense};
 pub use copy::{copy_cond, copy_pattern, copy_shape};
 pub use entry::{Entries, Entry, Form};
 pub use laws::{
-    a_plan_has_one_pattern, ground_patterns_are_terms, normal_pattern_is_idempotent,
-    normal_pattern_is_no_larger, normal_pattern_keeps_no_clash, normal_pattern_keeps_variables,
-    pattern_order_is_total, subpatterns_are_normal,
+    a_plan_has_one_pattern, ground_patterns_are_terms, nodes_and_variables_decide_the_pattern,
+    normal_pattern_is_idempotent, normal_pattern_is_no_larger, normal_pattern_keeps_no_clash,
+    normal_pattern_keeps_variables, pattern_order_is_total, subpatterns_are_normal,
 };
 pub use limits::{
     MAX_ATOMS, MAX_DEFAULT_NODES, MAX_DEPTH, MAX_NUMBER, MAX_OPERAND_NODES, MAX_PATTERN_NODES,

@@ -1,28 +1,15 @@
 -- Worked examples: the text of terms and of substitutions.
-use Rattle.std.proofs.Common.{◌≡◌, true, false, [], ◌∷◌, Some, None, refl}
+use Rattle.std.proofs.Common.{◌≡◌, [], ◌∷◌, refl}
 use Rattle.std.specs.Prelude.{codes}
 use Rattle.mp_term.specs.Tree.{symbol, app, trees}
 use Rattle.mp_term.specs.Signature.{Sig}
+use Rattle.mp_term.proofs.Examples.{plus_decl, pair_decl}
 use Rattle.mp_pattern.specs.Value.{one, seq, bag}
 use Rattle.mp_print.specs.Printing.{term_text, subst_text}
 
 -- a signature with a sum and a pair
 abbrev example_sig : Sig
-example_sig = record {
-  ops =
-      record {
-        name = codes "plus";
-        least = 1;
-        fixed = false;
-        assoc = true;
-        comm = true;
-        one = true;
-        sign = Some (codes "+");
-      } ∷
-      record { name = codes "pair"; least = 2; fixed = true; assoc = false; comm = false; one = false; sign = None }
-      ∷ [];
-  kinds = [];
-}
+example_sig = record { ops = plus_decl ∷ pair_decl ∷ []; kinds = [] }
 
 -- a sum of three terms is printed with its sign
 term_text-infix : term_text example_sig

@@ -1,5 +1,5 @@
 -- Computed examples of the definitions.
-use Rattle.std.proofs.Common.{◌≡◌, List, [], ◌∷◌, true, false, refl}
+use Rattle.std.proofs.Common.{◌≡◌, ℕ, Bool, List, [], ◌∷◌, true, false, refl}
 use Rattle.std.specs.Prelude.{Some, None, codes}
 use Rattle.std.specs.declared.cmp.Ordering.TheVariants.{Less, Greater}
 use Rattle.mp_term.specs.declared.signature.OpDecl.{OpDecl}
@@ -24,17 +24,13 @@ plus_decl = record {
   sign = Some (codes "+");
 }
 
+-- an operation without flags and without a sign
+abbrev pub plain_decl : List ℕ → ℕ → Bool → OpDecl
+plain_decl n k e = record { name = n; least = k; fixed = e; assoc = false; comm = false; one = false; sign = None }
+
 -- an operation of two arguments
 abbrev pub pair_decl : OpDecl
-pair_decl = record {
-  name = codes "pair";
-  least = 2;
-  fixed = true;
-  assoc = false;
-  comm = false;
-  one = false;
-  sign = None;
-}
+pair_decl = plain_decl (codes "pair") 2 true
 
 -- both operations, and a kind of two symbols
 abbrev pub example : Sig

@@ -2,6 +2,7 @@
 use Rattle.std.proofs.Common.{◌≡◌, ℕ, true, false, [], ◌∷◌, Option, Some, None, refl}
 use Rattle.std.specs.Prelude.{codes}
 use Rattle.mp_term.specs.Tree.{symbol, app, trees}
+use Rattle.mp_term.proofs.Examples.{plain_decl}
 use Rattle.mp_pattern.specs.PatternTree.{dot, kind, plus, star, symbol_pattern, app_pattern, wild_pattern, patterns}
 use Rattle.mp_syntax.specs.Lexing.{lexemes}
 use Rattle.mp_text.specs.declared.fault.TextKind.{TextKind}
@@ -18,15 +19,7 @@ at what column = Some (record { kind = what; line = 1; column = column })
 -- an operation, a rule and a subject
 file_of-one_of_each : file_of (codes "op f 2; rule r: f(x_, a); subject s: f(0, b);") ≡ Some (record {
   sig = record {
-    ops = record {
-      name = codes "f";
-      least = 2;
-      fixed = true;
-      assoc = false;
-      comm = false;
-      one = false;
-      sign = None;
-    } ∷ [];
+    ops = plain_decl (codes "f") 2 true ∷ [];
     kinds = [];
   };
   rules = record {
@@ -185,15 +178,7 @@ fault_of-sequences = refl
 -- a wildcard of each class
 file_of-wildcards : file_of (codes "op g 0+; kind v: a; rule r: g(x_, y_v, z__, x_, w___);") ≡ Some (record {
   sig = record {
-    ops = record {
-      name = codes "g";
-      least = 0;
-      fixed = false;
-      assoc = false;
-      comm = false;
-      one = false;
-      sign = None;
-    } ∷ [];
+    ops = plain_decl (codes "g") 0 false ∷ [];
     kinds = record { name = codes "v"; members = codes "a" ∷ [] } ∷ [];
   };
   rules = record {

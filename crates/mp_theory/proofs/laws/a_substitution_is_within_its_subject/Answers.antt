@@ -5,5 +5,5 @@ use Rattle.mp_theory.proofs.ValueSizes.{fits-within}
 use Rattle.mp_theory.proofs.laws.a_substitution_is_within_its_subject.Goals as goal
 
 pub returns : goal.returns
-returns c = λ sig p t s T small h. fits-within sig (max MAX_DEFAULT_NODES (node_count t + 1)) (omega arith) p t s T small
-    (omega arith) h
+returns c = λ sig p t s T small h.
+    fits-within sig (max MAX_DEFAULT_NODES (node_count t + 1)) (omega arith) p t s T small (omega arith) h
