@@ -1,8 +1,9 @@
 -- What holds of each item of a list, the item at which a loop over a list stands, and tests that are the same.
-use Rattle.std.proofs.Common.{◌≡◌, ℕ, ◌+◌, ◌<◌, List, [], ◌∷◌, ◌++◌, map, length, get_or, take, drop}
+use Rattle.std.proofs.Common.{◌≡◌, ℕ, zero, suc, subst, ◌+◌, ◌<◌, List, [], ◌∷◌, ◌++◌, map, length, get_or, take, drop}
 use Rattle.std.proofs.Common.{drop-cons, add-one, Bool, true, false, refl, ap, sym, ◌∙◌}
-use Rattle.std.specs.Prelude.{flat_map, filter, if◌then◌else◌}
-use Rattle.std.specs.List.{AllByRecursion}
+use Rattle.std.specs.Prelude.{flat_map, filter, if◌then◌else◌, Some, slice_get}
+use Rattle.std.specs.List.{AllByRecursion, list_all}
+use Rattle.std.proofs.lemmas.Bool.{and_parts}
 use Rattle.std.proofs.lemmas.List.{map-append, take-map, drop-map}
 
 -- what holds of the items of two lists holds of those of both
@@ -59,3 +60,10 @@ pub bool_same : (a b : Bool) → (a ≡ true → b ≡ true) → (b ≡ true →
 bool_same true b f g = sym (f refl)
 bool_same false true f g = g refl
 bool_same false false f g = refl
+
+-- an item that stands in a list passes a test that all of them pass
+pub all-at : {X : Type 0} (p : X → Bool) (xs : List X) (i : ℕ) (x : X) → list_all p xs ≡ true → slice_get xs i ≡ Some x
+    → p x ≡ true
+all-at p [] i x h e = cc
+all-at p (y ∷ ys) zero x h e = let same : y ≡ x = cc in subst (λ z. p z ≡ true) same (and_parts _ _ h).0
+all-at p (y ∷ ys) (suc i) x h e = all-at p ys i x (and_parts _ _ h).1 e

@@ -14,6 +14,7 @@ use Rattle.mp_term.specs.Sorting.{sorted}
 use Rattle.mp_term.specs.Signature.{Sig, holds_of, allows, in_order, all_in_order, is_assoc, is_comm, is_one}
 use Rattle.mp_term.specs.Signature.{well_formed, all_well_formed}
 use Rattle.mp_term.specs.Normal as n
+use Rattle.mp_term.proofs.ListLaws.{all-at}
 use Rattle.mp_term.proofs.SortedMeasures.{measure-sorted}
 use Rattle.mp_term.proofs.Sorting.{length-sorted}
 use Rattle.mp_term.proofs.NormalTestLaws.{&&-swap}
@@ -36,9 +37,7 @@ allows_one d k f h le =
 -- an operation that is held is in order where all are
 pub in_order-at : (ds : List OpDecl) (f : ℕ) (d : OpDecl) → all_in_order ds ≡ true → slice_get ds f ≡ Some d
     → in_order d ≡ true
-in_order-at [] f d o e = cc
-in_order-at (c ∷ ds) zero d o e = let same : c ≡ d = cc in subst (λ x. in_order x ≡ true) same (and_parts _ _ o).0
-in_order-at (c ∷ ds) (suc f) d o e = in_order-at ds f d (and_parts _ _ o).1 e
+in_order-at = all-at in_order
 
 -- an associative declaration has no fixed count
 pub assoc-not_fixed : (d : OpDecl) → in_order d ≡ true → d.assoc ≡ true → d.fixed ≡ false

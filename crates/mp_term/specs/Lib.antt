@@ -13,6 +13,9 @@ pub mod Normal
 pub mod NormalTest
 pub mod Positions
 pub mod Edits
+pub mod Edited
+pub mod EditFault
+pub mod EditWalk
 pub mod Listing
 pub mod Search
 pub mod Pieces

@@ -67,4 +67,10 @@ impl Edits {
     {
         self.items.get(index)
     }
+    /// The edits as a slice.
+    pub fn as_slice(&self) -> &[Edit]
+        ensures { result.now ≡ self.now }
+    {
+        &self.items
+    }
 }

@@ -2,6 +2,9 @@
 #![tactic(auto)]
 
 mod edit;
+mod edit_check;
+mod edit_fault;
+mod edited;
 mod limits;
 mod memory;
 mod name;
@@ -9,12 +12,18 @@ mod name_table;
 mod normal;
 mod order;
 mod position;
+mod replace;
 mod sign;
 mod signature;
 mod term;
 
 pub use edit::{Edit, Edits};
-pub use limits::{MAX_ARITY, MAX_KIND_SYMBOLS, MAX_KINDS, MAX_NAME_BYTES, MAX_OPS, MAX_SIGN_BYTES};
+pub use edit_check::check_edits;
+pub use edit_fault::EditFault;
+pub use limits::{
+    MAX_ARITY, MAX_DEPTH, MAX_EDITS, MAX_KIND_SYMBOLS, MAX_KINDS, MAX_NAME_BYTES, MAX_OPS,
+    MAX_SIGN_BYTES, MAX_TERM_NODES,
+};
 pub use memory::Memory;
 pub use name::{Name, NameFault, Names};
 pub use name_table::NameTable;
@@ -24,6 +33,7 @@ pub use normal::{
 };
 pub use order::{compare, compare_all};
 pub use position::Position;
+pub use replace::{replace_at, replace_many};
 pub use sign::Sign;
 pub use signature::{KindId, OpDecl, SigFault, Signature, in_kind, well_formed};
 pub use term::{OpId, Term, Terms, at, copy_term, copy_terms, depth, node_count};

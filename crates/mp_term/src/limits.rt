@@ -1,4 +1,4 @@
-//! The limits of a signature, each said once: code, contracts and specs name these constants.
+//! The limits of signatures, terms and edits, each said once: code, contracts and specs name these constants.
 
 /// The greatest number of bytes of a name.
 pub const MAX_NAME_BYTES: usize = 64;
@@ -17,3 +17,12 @@ pub const MAX_KINDS: u32 = 256;
 
 /// The greatest number of symbols that are written in the declaration of one kind.
 pub const MAX_KIND_SYMBOLS: usize = 10_000;
+
+/// The greatest number of nodes of a term that edits may give, and of a subject.
+pub const MAX_TERM_NODES: u64 = 100_000;
+
+/// The greatest depth of a term that edits may give, and of a subject and a pattern, that of a symbol being 0.
+pub const MAX_DEPTH: u64 = 100;
+
+/// The greatest number of edits that are made at once.
+pub const MAX_EDITS: usize = 1_000;

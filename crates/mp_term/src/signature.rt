@@ -414,7 +414,7 @@ impl Signature {
     }
 
     // The operation is held, and may have that many arguments.
-    fn allows(&self, id: OpId, count: usize) -> bool
+    pub(crate) fn allows(&self, id: OpId, count: usize) -> bool
         ensures { result ≡ holds_of (allows count) (slice_get self.now.ops id.0) }
     {
         match self.op(id) {
