@@ -5,22 +5,21 @@ use Rattle.std.proofs.lemmas.List.{flat_map_more}
 use Rattle.std.specs.List.{flat_map}
 use Rattle.std.specs.Str.{bytes_eq}
 use Rattle.std.proofs.lemmas.Slice.Eq.{bytes_eq-Decides}
-use Rattle.mp_syntax.specs.declared.limits.TheConstants.{MAX_OPEN}
 use Rattle.mp_syntax.specs.declared.place.Place.{Place}
 use Rattle.mp_syntax.specs.declared.token.Punct.{Punct}
 use Rattle.mp_syntax.specs.declared.token.Punct.TheVariants.{Open, Close, OpenSquare, CloseSquare, OpenBrace}
 use Rattle.mp_syntax.specs.declared.token.Punct.TheVariants.{CloseBrace, Comma, Semicolon, Colon, Dot, Dollar}
 use Rattle.mp_syntax.specs.declared.fault.FaultKind.TheVariants.{TooDeep}
 use Rattle.mp_syntax.specs.Tokens as tokens
-use Rattle.mp_syntax.specs.Tokens.{Token, Word, Sign, Punctuation, End, Placed}
+use Rattle.mp_syntax.specs.Tokens.{Token, Word, Sign, Arrow, Punctuation, Long, Bad, End, Placed}
 use Rattle.mp_syntax.specs.Syntax.{Spot, Wildcard, Expected, Said, Stands, Matches, spell, spell_condition}
 use Rattle.mp_syntax.specs.Syntax.{spell_statement, spelled_word, spelled_wildcard, spelled_sign, fixed_word}
 use Rattle.mp_syntax.specs.Machine.{Frame, open_count, State, Single, SingleExpr, SingleCondition, Step, Go, Emit}
 use Rattle.mp_syntax.specs.Machine.{Refuse, Finish, Ends, is_punct, same_punct, is_sign, is_word, is_end, word_of}
 use Rattle.mp_syntax.specs.Machine.{sign_of, wildcard_at, spot, on_text, on_word, on_sign, on_found, step_open}
+use Rattle.mp_syntax.specs.Machine.{is_arrow}
 use Rattle.mp_syntax.specs.Partial.{so_far}
 use Rattle.mp_syntax.proofs.ListLaws.{some-is}
-use Rattle.mp_syntax.proofs.Longest.{IsToken}
 
 -- ---- what a test on a token says
 
@@ -77,6 +76,11 @@ pub word-same : (text : List ℕ) (t : Token) → is_word text t ≡ true → t 
 word-same text (Word w) h = ap Word ((bytes_eq-Decides w text).0 h)
 word-same text _ h = absurd cc
 
+-- the arrow
+pub arrow-is : (t : Token) → is_arrow t ≡ true → t ≡ Arrow
+arrow-is Arrow h = refl
+arrow-is _ h = absurd cc
+
 -- ---- what a step adds
 
 -- the spelling of an expression or a condition that is the whole text
@@ -89,10 +93,22 @@ abbrev pub expected_token : Expected → Token
 expected_token (Said t) = t
 expected_token (Stands t place) = t
 
--- the token t is one, and the one that a step has added to the spelling before it
+-- the token is one that a text has: no word that is too long, no bad byte and not the end
+abbrev pub IsGood : Token → Type 0
+IsGood Long = ⊥
+IsGood Bad = ⊥
+IsGood End = ⊥
+IsGood _ = Unit {0}
+
+-- each of them is
+abbrev pub AreGood : List Placed → Type 0
+AreGood [] = Unit {0}
+AreGood (t ∷ ts) = IsGood t.token × AreGood ts
+
+-- the token t is good, and the one that a step has added to the spelling before it
 abbrev pub Adds : Step → List Expected → Placed → Type 0
-Adds (Go at) before t = (m : Expected) × IsToken (expected_token m) × Matches t m × (so_far at ≡ before ++ m ∷ [])
-Adds (Emit s) before t = (m : Expected) × IsToken (expected_token m) × Matches t m
+Adds (Go at) before t = (m : Expected) × IsGood (expected_token m) × Matches t m × (so_far at ≡ before ++ m ∷ [])
+Adds (Emit s) before t = (m : Expected) × IsGood (expected_token m) × Matches t m
     × (spell_statement s ≡ before ++ m ∷ [])
 Adds (Refuse kind) before t = Unit {0}
 Adds Finish before t = (before ≡ []) × (t.token ≡ End)
@@ -156,15 +172,16 @@ adds-fixed v t w a b before h f g = go (bytes_eq w v) refl
     go true e = f (h ∙ ap Word ((bytes_eq-Decides w v).0 e))
     go false e = g
 
-pub adds-open : (k : List Frame) (next : State) (before : List Expected) (t : Placed) → Adds (Go next) before t
-    → Adds (step_open MAX_OPEN k next) before t
-adds-open k next before t h = go (leb MAX_OPEN (open_count k))
-  where
-    go : (b : Bool) → Adds (cond b (Refuse TooDeep) (Go next)) before t
-    go true = tt
-    go false = h
-
 -- one element more
 pub flat_map-push : {X A : Type 0} (f : X → List A) (xs : List X) (x : X)
     → flat_map f (xs ++ x ∷ []) ≡ flat_map f xs ++ f x
 flat_map-push f xs x = sym (flat_map_more f [] xs x)
+
+module _ (limit : ℕ) where
+  pub adds-open : (k : List Frame) (next : State) (before : List Expected) (t : Placed) → Adds (Go next) before t
+      → Adds (step_open limit k next) before t
+  adds-open k next before t h = go (leb limit (open_count k))
+    where
+      go : (b : Bool) → Adds (cond b (Refuse TooDeep) (Go next)) before t
+      go true = tt
+      go false = h

@@ -5,7 +5,6 @@ use Rattle.std.specs.Prelude.{codes}
 use Rattle.std.specs.List.{flat_map}
 use Rattle.std.specs.Str.{bytes_eq}
 use Rattle.std.proofs.lemmas.Slice.Eq.{bytes_eq-Decides}
-use Rattle.mp_syntax.specs.declared.limits.TheConstants.{MAX_OPEN}
 use Rattle.mp_syntax.specs.declared.token.Punct.TheVariants.{Open, Close, OpenSquare, CloseSquare, Comma, Semicolon}
 use Rattle.mp_syntax.specs.declared.fault.FaultKind.TheVariants.{Syntax}
 use Rattle.mp_syntax.specs.declared.condition_tree.Measure.{Measure}
@@ -17,21 +16,22 @@ use Rattle.mp_syntax.specs.declared.condition_tree.Relation.TheVariants.{Same, L
 use Rattle.mp_syntax.specs.declared.condition_tree.Property.{Property}
 use Rattle.mp_syntax.specs.declared.condition_tree.Property.TheVariants as properties
 use Rattle.mp_syntax.specs.Tokens.{Word, Sign, Punctuation, Placed}
-use Rattle.mp_syntax.specs.Syntax.{Spot, Tree, Amount, Number, Measured, Atom, Compare, Relate, Test, Literal, Literals}
-use Rattle.mp_syntax.specs.Syntax.{literals, condition, Expected, Said, Matches, spell, spell_amount, spell_atom}
-use Rattle.mp_syntax.specs.Syntax.{spell_literal, spell_literals, spell_alternatives, spell_condition, spelled_word}
-use Rattle.mp_syntax.specs.Syntax.{fixed_word, opening, closing, colon, comma, semicolon, RuleOf, spell_statement}
-use Rattle.mp_syntax.specs.Syntax.{measure_word, sense_sign, relation_word, property_word}
+use Rattle.mp_syntax.specs.Syntax.{Spot, Tree, Amount, Number, Measured, Atom, Compare, Relate, Test, Literal}
+use Rattle.mp_syntax.specs.Syntax.{Literals, literals, condition, Expected, Said, Matches, spell, spell_amount}
+use Rattle.mp_syntax.specs.Syntax.{spell_atom, spell_literal, spell_literals, spell_alternatives, spell_condition}
+use Rattle.mp_syntax.specs.Syntax.{spelled_word, fixed_word, opening, closing, comma, semicolon, RuleOf}
+use Rattle.mp_syntax.specs.Syntax.{spell_statement, measure_word, sense_sign, relation_word, property_word}
+use Rattle.mp_syntax.specs.Syntax.{spell_template}
 use Rattle.mp_syntax.specs.Machine.{Within, InStatement, Alone, InCondition, ConditionAlone, Frame, Operand, Second}
 use Rattle.mp_syntax.specs.Machine.{Square, Level, no_level, next_literal, next_alternative, all_alternatives, Site}
 use Rattle.mp_syntax.specs.Machine.{site, Side, OnLeft, OnRight, Lead, OfMeasure, OfRelation, OfProperty, BeforeExpr}
 use Rattle.mp_syntax.specs.Machine.{BeforeLiteral, BeforeBody, BeforeOperand, BeforeName, BehindName, AfterAmount}
 use Rattle.mp_syntax.specs.Machine.{AfterSense, AfterLiteral, Go, Refuse, Ends, SingleCondition, measure_of, sense_of}
 use Rattle.mp_syntax.specs.Machine.{relation_of, property_of, is_number, is_end, spot, refuse, on_punct, on_found}
-use Rattle.mp_syntax.specs.Machine.{with_atom, with_amount, step_operand, step_amount, step_atom, step_body, step_last}
-use Rattle.mp_syntax.specs.Machine.{step_whole, step_in}
+use Rattle.mp_syntax.specs.Machine.{with_atom, with_amount, step_operand, step_amount, step_atom, step_body}
+use Rattle.mp_syntax.specs.Machine.{step_last, step_whole, step_in, InTemplate, InChange}
 use Rattle.mp_syntax.specs.Partial.{spell_within, spell_frames, spell_before_and, spell_before_or, spell_level}
-use Rattle.mp_syntax.specs.Partial.{spell_site, spell_side, so_far}
+use Rattle.mp_syntax.specs.Partial.{spell_site, spell_side, so_far, spell_rule}
 use Rattle.mp_syntax.proofs.ListLaws.{some-is}
 use Rattle.mp_syntax.proofs.Adds.{end-is, Adds, adds-punct, adds-fixed_word, adds-found, adds-word, adds-any_sign}
 use Rattle.mp_syntax.proofs.Adds.{adds-open, flat_map-push}
@@ -170,28 +170,6 @@ adds-atom x k s t w is =
     (subst (λ l. Adds (step_amount x k s OnLeft (spot w t.place)) (spell_within x ++ (spell_frames k ++ l)) t)
     (append-nil (spell_site s)) (adds-amount x k s OnLeft t w is)))
 
-pub adds-body : (x : Within) (k : List Frame) (s : Site) (t : Placed)
-    → Adds (step_body MAX_OPEN x k s t) (so_far (BeforeBody x k s)) t
-adds-body x k s t =
-    adds-punct OpenSquare t _ _ (so_far (BeforeBody x k s))
-    (λ is. adds-open k (BeforeLiteral x (Square s ∷ k) no_level) (so_far (BeforeBody x k s)) t
-    (Said (Punctuation OpenSquare), tt, is, simp (append_assoc, append-nil)))
-    (adds-word (λ w. step_atom x k s w) t (so_far (BeforeBody x k s)) (λ w is. adds-atom x k s t w is))
-
-pub adds-literal : (x : Within) (k : List Frame) (v : Level) (t : Placed)
-    → Adds (step_in MAX_OPEN (BeforeLiteral x k v) t) (so_far (BeforeLiteral x k v)) t
-adds-literal x k v t =
-    adds-fixed_word (codes "not") t _ _ (so_far (BeforeLiteral x k v))
-    (λ is. (fixed_word (codes "not"), tt, is, simp append_assoc))
-    (subst (λ l. Adds (step_body MAX_OPEN x k (site v false) t) (spell_within x ++ (spell_frames k ++ l)) t)
-    (append-nil (spell_level v)) (adds-body x k (site v false) t))
-
-pub adds-before_operand : (x : Within) (k : List Frame) (s : Site) (lead : Lead) (t : Placed)
-    → Adds (step_in MAX_OPEN (BeforeOperand x k s lead) t) (so_far (BeforeOperand x k s lead)) t
-adds-before_operand x k s lead t = adds-punct Open t _ (refuse t.token) (so_far (BeforeOperand x k s lead))
-    (λ is. adds-open k (BeforeExpr x (Operand s lead ∷ k)) (so_far (BeforeOperand x k s lead)) t
-    (opening, tt, is, simp append_assoc)) tt
-
 pub adds-operand : (x : Within) (k : List Frame) (s : Site) (lead : Lead) (e : Tree) (t : Placed)
     → Adds (step_operand x k s lead e t.token) (spell_within x ++ (spell_frames (Operand s lead ∷ k) ++ spell e)) t
 adds-operand x k s (OfMeasure side m) e t =
@@ -208,51 +186,31 @@ pub adds-second : (x : Within) (k : List Frame) (s : Site) (r : Relation) (d e :
 adds-second x k s r d e t = adds-punct Close t _ (refuse t.token) _
     (λ is. (closing, tt, is, so_far-with_atom x k s (Relate r d e) ∙ simp append_assoc)) tt
 
-pub adds-name : (x : Within) (k : List Frame) (s : Site) (p : Property) (e : Tree) (t : Placed)
-    → Adds (step_in MAX_OPEN (BeforeName x k s p e) t) (so_far (BeforeName x k s p e)) t
-adds-name x k s p e t = adds-word (λ w. Go (BehindName x k s p e w)) t (so_far (BeforeName x k s p e))
-    (λ w is. (spelled_word (spot w t.place), tt, is, simp append_assoc))
-
-pub adds-behind_name : (x : Within) (k : List Frame) (s : Site) (p : Property) (e : Tree) (w : Spot) (t : Placed)
-    → Adds (step_in MAX_OPEN (BehindName x k s p e w) t) (so_far (BehindName x k s p e w)) t
-adds-behind_name x k s p e w t = adds-punct Close t _ (refuse t.token) (so_far (BehindName x k s p e w))
-    (λ is. (closing, tt, is, so_far-with_atom x k s (Test p e w) ∙ simp append_assoc)) tt
-
-pub adds-amount_behind : (x : Within) (k : List Frame) (s : Site) (a : Amount) (t : Placed)
-    → Adds (step_in MAX_OPEN (AfterAmount x k s a) t) (so_far (AfterAmount x k s a)) t
-adds-amount_behind x k s a t =
-    adds-any_sign (λ sign. on_found (λ sense. Go (AfterSense x k s a sense)) (Refuse Syntax) (sense_of sign.text)) t
-    (so_far (AfterAmount x k s a))
-    (λ w is. adds-found _ (Refuse Syntax) (sense_of w) (so_far (AfterAmount x k s a)) t
-    (λ c e. (Said (Sign (sense_sign c)), tt, is.0 ∙ ap Sign (sense_of-is w c e), simp append_assoc)) tt)
-
-pub adds-second_amount : (x : Within) (k : List Frame) (s : Site) (a : Amount) (sense : Sense) (t : Placed)
-    → Adds (step_in MAX_OPEN (AfterSense x k s a sense) t) (so_far (AfterSense x k s a sense)) t
-adds-second_amount x k s a sense t = adds-word (λ w. step_amount x k s (OnRight a sense) w) t
-    (so_far (AfterSense x k s a sense)) (λ w is. adds-amount x k s (OnRight a sense) t w is)
-
 -- ---- behind a literal
 
--- two parts with a token between them, and a token behind them
-between-parts : (a c : List Expected) (m n : Expected) → a ++ (m ∷ (c ++ n ∷ [])) ≡ ((a ++ m ∷ []) ++ c) ++ n ∷ []
-between-parts a c m n = simp append_assoc
+-- three parts with a token between the last two, and a token behind them
+between-parts : (a b c : List Expected) (m n : Expected)
+    → a ++ (b ++ (m ∷ (c ++ n ∷ []))) ≡ ((a ++ (b ++ m ∷ [])) ++ c) ++ n ∷ []
+between-parts a b c m n = simp append_assoc
 
 -- the last token behind a condition
 adds-last : (x : Within) (v : Level) (l : Literal) (t : Placed)
     → Adds (step_last x (condition (all_alternatives v l)) t) (so_far (AfterLiteral x [] v l)) t
 adds-last (InStatement h) v l t = tt
 adds-last Alone v l t = tt
-adds-last (InCondition name pattern) v l t =
-    adds-punct Semicolon t _ (refuse t.token) (so_far (AfterLiteral (InCondition name pattern) [] v l))
+adds-last (InTemplate name pattern) v l t = tt
+adds-last (InCondition name pattern template) v l t =
+    adds-punct Semicolon t _ (refuse t.token) (so_far (AfterLiteral (InCondition name pattern template) [] v l))
     (λ is. (semicolon, tt, is, whole)) tt
   where
-    whole : spell_statement (RuleOf name pattern (Some (condition (all_alternatives v l))))
-        ≡ so_far (AfterLiteral (InCondition name pattern) [] v l) ++ semicolon ∷ []
+    whole : spell_statement (RuleOf name pattern template (Some (condition (all_alternatives v l))))
+        ≡ so_far (AfterLiteral (InCondition name pattern template) [] v l) ++ semicolon ∷ []
     whole =
-        ap (λ c. fixed_word (codes "rule") ∷ spelled_word name ∷ colon
-        ∷ (spell pattern ++ (fixed_word (codes "if") ∷ (c ++ semicolon ∷ [])))) (spell_condition-all v l)
-        ∙ ap (λ r. fixed_word (codes "rule") ∷ spelled_word name ∷ colon ∷ r)
-        (between-parts (spell pattern) (spell_level v ++ spell_literal l) (fixed_word (codes "if")) semicolon)
+        ap (λ c. spell_rule name pattern
+        ++ (spell_template template ++ (fixed_word (codes "if") ∷ (c ++ semicolon ∷ [])))) (spell_condition-all v l)
+        ∙ between-parts (spell_rule name pattern) (spell_template template) (spell_level v ++ spell_literal l)
+        (fixed_word (codes "if")) semicolon
+adds-last (InChange d p) v l t = tt
 adds-last ConditionAlone v l t = go (is_end t.token) refl
   where
     go : (b : Bool) → is_end t.token ≡ b
@@ -269,11 +227,61 @@ adds-whole x (Square s ∷ k) v l t =
     (λ is. (Said (Punctuation CloseSquare), tt, is, rw (spell_condition-all v l) (simp append_assoc))) tt
 adds-whole x (_ ∷ k) v l t = tt
 
-pub adds-literal_behind : (x : Within) (k : List Frame) (v : Level) (l : Literal) (t : Placed)
-    → Adds (step_in MAX_OPEN (AfterLiteral x k v l) t) (so_far (AfterLiteral x k v l)) t
-adds-literal_behind x k v l t =
-    adds-fixed_word (codes "and") t _ _ (so_far (AfterLiteral x k v l))
-    (λ is. (fixed_word (codes "and"), tt, is, rw (spell_level-next_literal v l) (simp append_assoc)))
-    (adds-fixed_word (codes "or") t _ _ (so_far (AfterLiteral x k v l))
-    (λ is. (fixed_word (codes "or"), tt, is, rw (spell_level-next_alternative v l) (simp append_assoc)))
-    (adds-whole x k v l t))
+module _ (limit : ℕ) where
+  -- ---- atoms
+
+  pub adds-body : (x : Within) (k : List Frame) (s : Site) (t : Placed)
+      → Adds (step_body limit x k s t) (so_far (BeforeBody x k s)) t
+  adds-body x k s t =
+      adds-punct OpenSquare t _ _ (so_far (BeforeBody x k s))
+      (λ is. adds-open limit k (BeforeLiteral x (Square s ∷ k) no_level) (so_far (BeforeBody x k s)) t
+      (Said (Punctuation OpenSquare), tt, is, simp (append_assoc, append-nil)))
+      (adds-word (λ w. step_atom x k s w) t (so_far (BeforeBody x k s)) (λ w is. adds-atom x k s t w is))
+
+  pub adds-literal : (x : Within) (k : List Frame) (v : Level) (t : Placed)
+      → Adds (step_in limit (BeforeLiteral x k v) t) (so_far (BeforeLiteral x k v)) t
+  adds-literal x k v t =
+      adds-fixed_word (codes "not") t _ _ (so_far (BeforeLiteral x k v))
+      (λ is. (fixed_word (codes "not"), tt, is, simp append_assoc))
+      (subst (λ l. Adds (step_body limit x k (site v false) t) (spell_within x ++ (spell_frames k ++ l)) t)
+      (append-nil (spell_level v)) (adds-body x k (site v false) t))
+
+  pub adds-before_operand : (x : Within) (k : List Frame) (s : Site) (lead : Lead) (t : Placed)
+      → Adds (step_in limit (BeforeOperand x k s lead) t) (so_far (BeforeOperand x k s lead)) t
+  adds-before_operand x k s lead t = adds-punct Open t _ (refuse t.token) (so_far (BeforeOperand x k s lead))
+      (λ is. adds-open limit k (BeforeExpr x (Operand s lead ∷ k)) (so_far (BeforeOperand x k s lead)) t
+      (opening, tt, is, simp append_assoc)) tt
+
+  pub adds-name : (x : Within) (k : List Frame) (s : Site) (p : Property) (e : Tree) (t : Placed)
+      → Adds (step_in limit (BeforeName x k s p e) t) (so_far (BeforeName x k s p e)) t
+  adds-name x k s p e t = adds-word (λ w. Go (BehindName x k s p e w)) t (so_far (BeforeName x k s p e))
+      (λ w is. (spelled_word (spot w t.place), tt, is, simp append_assoc))
+
+  pub adds-behind_name : (x : Within) (k : List Frame) (s : Site) (p : Property) (e : Tree) (w : Spot) (t : Placed)
+      → Adds (step_in limit (BehindName x k s p e w) t) (so_far (BehindName x k s p e w)) t
+  adds-behind_name x k s p e w t = adds-punct Close t _ (refuse t.token) (so_far (BehindName x k s p e w))
+      (λ is. (closing, tt, is, so_far-with_atom x k s (Test p e w) ∙ simp append_assoc)) tt
+
+  pub adds-amount_behind : (x : Within) (k : List Frame) (s : Site) (a : Amount) (t : Placed)
+      → Adds (step_in limit (AfterAmount x k s a) t) (so_far (AfterAmount x k s a)) t
+  adds-amount_behind x k s a t =
+      adds-any_sign (λ sign. on_found (λ sense. Go (AfterSense x k s a sense)) (Refuse Syntax) (sense_of sign.text)) t
+      (so_far (AfterAmount x k s a))
+      (λ w is. adds-found _ (Refuse Syntax) (sense_of w) (so_far (AfterAmount x k s a)) t
+      (λ c e. (Said (Sign (sense_sign c)), tt, is.0 ∙ ap Sign (sense_of-is w c e), simp append_assoc)) tt)
+
+  pub adds-second_amount : (x : Within) (k : List Frame) (s : Site) (a : Amount) (sense : Sense) (t : Placed)
+      → Adds (step_in limit (AfterSense x k s a sense) t) (so_far (AfterSense x k s a sense)) t
+  adds-second_amount x k s a sense t = adds-word (λ w. step_amount x k s (OnRight a sense) w) t
+      (so_far (AfterSense x k s a sense)) (λ w is. adds-amount x k s (OnRight a sense) t w is)
+
+  -- ---- behind a literal
+
+  pub adds-literal_behind : (x : Within) (k : List Frame) (v : Level) (l : Literal) (t : Placed)
+      → Adds (step_in limit (AfterLiteral x k v l) t) (so_far (AfterLiteral x k v l)) t
+  adds-literal_behind x k v l t =
+      adds-fixed_word (codes "and") t _ _ (so_far (AfterLiteral x k v l))
+      (λ is. (fixed_word (codes "and"), tt, is, rw (spell_level-next_literal v l) (simp append_assoc)))
+      (adds-fixed_word (codes "or") t _ _ (so_far (AfterLiteral x k v l))
+      (λ is. (fixed_word (codes "or"), tt, is, rw (spell_level-next_alternative v l) (simp append_assoc)))
+      (adds-whole x k v l t))

@@ -1,6 +1,6 @@
 -- Steps of the machine over conditions.
-use Rattle.std.proofs.Common.{◌≡◌, ℕ, ◌<◌, cond, List, [], ◌∷◌, Option, Some, None, Ok, true, false, refl, ap, sym, ◌∙◌}
-use Rattle.std.proofs.Common.{arith}
+use Rattle.std.proofs.Common.{◌≡◌, ℕ, ◌<◌, cond, List, [], ◌∷◌, Option, Some, None, Ok, true, false, refl, ap, sym}
+use Rattle.std.proofs.Common.{◌∙◌, arith, subst}
 use Rattle.std.specs.Prelude.{codes}
 use Rattle.std.proofs.lemmas.Bool.{lt-leb}
 use Rattle.mp_syntax.specs.declared.limits.TheConstants.{MAX_OPEN}
@@ -14,21 +14,24 @@ use Rattle.mp_syntax.specs.declared.condition_tree.Relation.TheVariants.{Same}
 use Rattle.mp_syntax.specs.declared.condition_tree.Property.{Property}
 use Rattle.mp_syntax.specs.declared.condition_tree.Property.TheVariants as properties
 use Rattle.mp_syntax.specs.declared.condition_tree.Condition as code
-use Rattle.mp_syntax.specs.View.{if_tree}
+use Rattle.mp_syntax.specs.View.{if_tree, arrow_tree, expr_tree}
 use Rattle.mp_syntax.specs.Tokens.{Token, Word, End, Placed}
 use Rattle.mp_syntax.specs.Lexing.{behind}
 use Rattle.mp_syntax.specs.Syntax.{Spot, Tree, Literal, condition, Statement, RuleOf, measure_word, sense_sign}
 use Rattle.mp_syntax.specs.Syntax.{relation_word, property_word}
-use Rattle.mp_syntax.specs.Machine.{heading, OfRule, Within, InStatement, InCondition, Frame, Operand, Square}
-use Rattle.mp_syntax.specs.Machine.{open_count, Level, no_level, next_literal, next_alternative, all_alternatives, Site}
-use Rattle.mp_syntax.specs.Machine.{OnLeft, Lead, OfRelation, OfProperty, State, BeforeExpr, BeforeLiteral, BeforeBody}
-use Rattle.mp_syntax.specs.Machine.{BeforeOperand, AfterExpr, AfterLiteral, Step, Go, Emit, is_punct, is_word}
-use Rattle.mp_syntax.specs.Machine.{measure_of, sense_of, relation_of, property_of, relation_held, property_held}
-use Rattle.mp_syntax.specs.Machine.{refuse, on_punct, on_text, on_found, spot, word_of, step, step_open, step_amount}
-use Rattle.mp_syntax.specs.Machine.{step_atom, step_body, step_whole, run}
-use Rattle.mp_syntax.specs.Parsing.{onward, WantsPunct, HasRoom}
-use Rattle.mp_syntax.specs.ConditionParsing.{EndsCondition, EndsIf, IfGives, WantsAmount}
+use Rattle.mp_syntax.specs.Machine.{step_in, heading, OfRule, Within, InStatement, InCondition, Frame, Operand}
+use Rattle.mp_syntax.specs.Machine.{Square, open_count, Level, no_level, next_literal, next_alternative}
+use Rattle.mp_syntax.specs.Machine.{all_alternatives, Site, OnLeft, Lead, OfRelation, OfProperty, State, BeforeExpr}
+use Rattle.mp_syntax.specs.Machine.{BeforeLiteral, BeforeBody, BeforeOperand, AfterExpr, AfterLiteral, Step, Go, Emit}
+use Rattle.mp_syntax.specs.Machine.{is_punct, is_word, measure_of, sense_of, relation_of, property_of, relation_held}
+use Rattle.mp_syntax.specs.Machine.{property_held, refuse, on_punct, on_text, on_found, spot, word_of, step}
+use Rattle.mp_syntax.specs.Machine.{step_open, step_amount, step_atom, step_body, step_whole, run, InTemplate}
+use Rattle.mp_syntax.specs.Machine.{step_rule}
+use Rattle.mp_syntax.specs.Parsing.{HasRoomIn, onward, WantsPunct, TemplateGives}
+use Rattle.mp_syntax.specs.ConditionParsing.{EndsCondition, EndsIf, IfGives, WantsAmount, EndsRule}
 use Rattle.mp_syntax.proofs.Runs.{one-step}
+use Rattle.mp_syntax.specs.declared.tree.Expr.{Expr}
+use Rattle.mp_syntax.proofs.TokensLaw.{head-is}
 
 -- ---- words and signs
 
@@ -48,24 +51,6 @@ pub property_of-word : (p : Property) → property_of (property_word p) ≡ Some
 property_of-word properties.Kind = refl
 property_of-word properties.Head = refl
 
--- ---- steps
-
--- the bracket of an operand, where there is room
-pub open-step : (x : Within) (k : List Frame) (s : Site) (lead : Lead) (t : Placed) (room : ℕ) → HasRoom k room
-    → 0 < room → is_punct Open t.token ≡ true
-    → step (BeforeOperand x k s lead) t ≡ Go (BeforeExpr x (Operand s lead ∷ k))
-open-step x k s lead t room len some e = rw (e, lt-leb MAX_OPEN (open_count k) (omega (arith, len, some))) refl
-
--- a square bracket, where there is room
-pub square-step : (x : Within) (k : List Frame) (s : Site) (t : Placed) (room : ℕ) → HasRoom k room → 0 < room
-    → is_punct OpenSquare t.token ≡ true → step (BeforeBody x k s) t ≡ Go (BeforeLiteral x (Square s ∷ k) no_level)
-square-step x k s t room len some e = rw (e, lt-leb MAX_OPEN (open_count k) (omega (arith, len, some))) refl
-
--- a word that begins an atom
-pub plain-step : (x : Within) (k : List Frame) (s : Site) (t : Placed) (w : Spot) → t.token ≡ Word w.text
-    → t.place ≡ w.place → step (BeforeBody x k s) t ≡ step_atom x k s w
-plain-step x k s t w h p = λ i. step_body MAX_OPEN x k s (record { token = h i; place = p i })
-
 -- ---- runs over one token
 
 -- behind a word lie the other tokens
@@ -74,17 +59,45 @@ behind-word text (Word w) ts h = refl
 behind-word text End ts h = absurd cc
 behind-word text _ ts h = absurd cc
 
+-- what a word that is no relation does before an atom
+abbrev without_relation : Within → List Frame → Site → Spot → Step
+without_relation x k s w = on_found (λ p. Go (BeforeOperand x k s (OfProperty p))) (step_amount x k s OnLeft w)
+    (property_of w.text)
+
+-- what a token that is no `and` does behind a literal
+abbrev step_behind_and : Within → List Frame → Level → Literal → Placed → Step
+step_behind_and x k v l t = cond (is_word (codes "or") t.token) (Go (BeforeLiteral x k (next_alternative v l)))
+    (step_whole x k (condition (all_alternatives v l)) t)
+
+module _ (limit : ℕ) where
+  -- ---- steps
+
+  -- the bracket of an operand, where there is room
+  pub open-step : (x : Within) (k : List Frame) (s : Site) (lead : Lead) (t : Placed) (room : ℕ)
+      → HasRoomIn limit k room
+      → 0 < room → is_punct Open t.token ≡ true
+      → step_in limit (BeforeOperand x k s lead) t ≡ Go (BeforeExpr x (Operand s lead ∷ k))
+  open-step x k s lead t room len some e = rw (e, lt-leb limit (open_count k) (omega (arith, len, some))) refl
+
+  -- a square bracket, where there is room
+  pub square-step : (x : Within) (k : List Frame) (s : Site) (t : Placed) (room : ℕ) → HasRoomIn limit k room → 0 < room
+      → is_punct OpenSquare t.token ≡ true
+      → step_in limit (BeforeBody x k s) t ≡ Go (BeforeLiteral x (Square s ∷ k) no_level)
+  square-step x k s t room len some e = rw (e, lt-leb limit (open_count k) (omega (arith, len, some))) refl
+
+  -- a word that begins an atom
+  pub plain-step : (x : Within) (k : List Frame) (s : Site) (t : Placed) (w : Spot) → t.token ≡ Word w.text
+      → t.place ≡ w.place → step_in limit (BeforeBody x k s) t ≡ step_atom x k s w
+  plain-step x k s t w h p = λ i. step_body limit x k s (record { token = h i; place = p i })
+
+-- ---- runs over one token
+
 -- a step over this word
 pub over-word : (text : List ℕ) (t : Placed) (old new : List Placed) → old ≡ t ∷ behind t.token new
     → is_word text t.token ≡ true → (done : List Statement) (at : State) (next : Step) → step at t ≡ next
     → run done at old ≡ onward t.place done next new
 over-word text t old new e h done at next f =
     ap (run done at) e ∙ one-step done at t new next (behind-word text t.token new h) f
-
--- what a word that is no relation does before an atom
-abbrev without_relation : Within → List Frame → Site → Spot → Step
-without_relation x k s w = on_found (λ p. Go (BeforeOperand x k s (OfProperty p))) (step_amount x k s OnLeft w)
-    (property_of w.text)
 
 -- a token that is no square bracket and no word of a relation or a property can only begin an amount
 pub amount-wanted : (x : Within) (k : List Frame) (s : Site) (t : Placed) → is_punct OpenSquare t.token ≡ false
@@ -140,11 +153,6 @@ property-begins done x k s t p old new e none h = ap (run done (BeforeBody x k s
         (sym h)
     go _ none h = absurd cc
 
--- what a token that is no `and` does behind a literal
-abbrev step_behind_and : Within → List Frame → Level → Literal → Placed → Step
-step_behind_and x k v l t = cond (is_word (codes "or") t.token) (Go (BeforeLiteral x k (next_alternative v l)))
-    (step_whole x k (condition (all_alternatives v l)) t)
-
 -- `and` leads to another literal
 pub and-step : (x : Within) (k : List Frame) (v : Level) (l : Literal) (t : Placed)
     → is_word (codes "and") t.token ≡ true → step (AfterLiteral x k v l) t ≡ Go (BeforeLiteral x k (next_literal v l))
@@ -157,20 +165,35 @@ whole-step x k v l t h = rw (h.0, h.1) refl
 
 -- ---- what calls give
 
--- behind the pattern of a rule, and its condition where it has one, only the semicolon stands
-pub behind-if : (o : Option code.Condition) (old new : List Placed) (t : Placed) → IfGives (Ok o) old new
-    → EndsIf o t.token → (done : List Statement) (name : Spot) (e : Tree)
-    → (at : State) × (run done (AfterExpr (InStatement (heading OfRule name)) [] e) old ≡ run done at new)
-    × WantsPunct t at Semicolon (Emit (RuleOf name e (if_tree o)))
-behind-if None old new t read ends done name e = (
-  AfterExpr (InStatement (heading OfRule name)) [] e,
-  ap (run done (AfterExpr (InStatement (heading OfRule name)) [] e)) read,
-  ap (λ b. cond (is_punct Semicolon t.token) (Emit (RuleOf name e None))
-      (cond b (Go (BeforeLiteral (InCondition name e) [] no_level)) (refuse t.token))) ends,
+-- behind the pattern of a rule, and its template where it has one, stands what ends it
+pub behind-template : (o : Option Expr) (t : Placed) (old new : List Placed) → TemplateGives t.token (Ok o) old new
+    → (done : List Statement) (name : Spot) (pattern : Tree)
+    → (at : State) × (run done (AfterExpr (InStatement (heading OfRule name)) [] pattern) old ≡ run done at new)
+    × EndsRule t at name pattern (arrow_tree o)
+behind-template None t old new read done name pattern = (
+  AfterExpr (InStatement (heading OfRule name)) [] pattern,
+  ap (run done (AfterExpr (InStatement (heading OfRule name)) [] pattern)) read.0,
+  ap (λ b. cond b (Go (BeforeExpr (InTemplate name pattern) [])) (step_rule name pattern None t.token)) read.1,
 )
-behind-if (Some c) old new t read ends done name e = (
-  AfterLiteral (InCondition name e) [] read.0 read.1,
-  read.3 done name e,
-  whole-step (InCondition name e) [] read.0 read.1 t ends
-      ∙ ap (λ d. on_punct Semicolon t.token (Emit (RuleOf name e (Some d)))) read.2,
+behind-template (Some e) t old new read done name pattern =
+    (AfterExpr (InTemplate name pattern) [] (expr_tree e), read done name pattern, refl)
+
+-- behind these and the condition of the rule, where it has one, only the semicolon stands
+pub behind-if : (o : Option code.Condition) (t u : Placed) (ts us : List Placed) → IfGives t (Ok o) (t ∷ ts) (u ∷ us)
+    → EndsIf o u.token → (done : List Statement) (at : State) (name : Spot) (e : Tree) (template : Option Tree)
+    → EndsRule t at name e template
+    → (to : State) × (run done at (t ∷ ts) ≡ run done to (u ∷ us))
+    × WantsPunct u to Semicolon (Emit (RuleOf name e template (if_tree o)))
+behind-if None t u ts us read ends done at name e template wants = (
+  at,
+  ap (run done at) read,
+  subst (λ (v : Placed). EndsRule v at name e template) (head-is _ _ _ _ read) wants
+      ∙ ap (λ b. cond (is_punct Semicolon u.token) (Emit (RuleOf name e template None))
+      (cond b (Go (BeforeLiteral (InCondition name e template) [] no_level)) (refuse u.token))) ends,
+)
+behind-if (Some c) t u ts us read ends done at name e template wants = (
+  AfterLiteral (InCondition name e template) [] read.0 read.1,
+  read.3 done at name e template wants,
+  whole-step (InCondition name e template) [] read.0 read.1 u ends
+      ∙ ap (λ d. on_punct Semicolon u.token (Emit (RuleOf name e template (Some d)))) read.2,
 )

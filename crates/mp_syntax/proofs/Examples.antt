@@ -14,9 +14,13 @@ use Rattle.mp_syntax.specs.Tokens.{Token, Word, Wildcard, Sign, Arrow, Punctuati
 use Rattle.mp_syntax.specs.Lexing.{lexemes}
 use Rattle.mp_syntax.specs.Syntax as syntax
 use Rattle.mp_syntax.specs.Syntax.{Spot, Tree, Symbol, Apply, InfixOf, Wild, Optional, Variable, trees, Number}
-use Rattle.mp_syntax.specs.Syntax.{Measured, Compare, Relate, Test, AtomOf, Bracketed, literals, condition, Assoc, Comm}
-use Rattle.mp_syntax.specs.Syntax.{Infixed, Statement, OpOf, KindOf, RuleOf, SubjectOf}
+use Rattle.mp_syntax.specs.Syntax.{Measured, Compare, Relate, Test, AtomOf, Bracketed, literals, condition, Assoc}
+use Rattle.mp_syntax.specs.Syntax.{Comm, Infixed, Statement, OpOf, KindOf, RuleOf, SubjectOf}
+use Rattle.mp_syntax.specs.Begins.{OfFile}
+use Rattle.mp_syntax.specs.FirstFault.{IsFirstFault}
+use Rattle.mp_syntax.specs.Syntax.{Counted, Position, Root, Path, Replacement, Single, Listed, EditOf}
 use Rattle.mp_syntax.specs.Reading.{reading, expr_reading, condition_reading}
+use Rattle.mp_syntax.proofs.InOrder.{text_reading-first}
 
 abbrev at : ℕ → ℕ → Place
 at line column = record { line = line; column = column }
@@ -43,7 +47,7 @@ file-read : reading (codes "op f 2;\nrule r: f(x_, a);")
     ∷ RuleOf (word (codes "r") 2 6)
     (Apply (word (codes "f") 2 9)
     (trees (Wild (record { name = codes "x"; marks = 1; kind = []; place = at 2 11 }) ∷ Symbol (word (codes "a") 2 15)
-    ∷ []))) None ∷ [])
+    ∷ []))) None None ∷ [])
 unfolding lexemes
 file-read = refl
 
@@ -105,14 +109,14 @@ wildcards-read : reading (codes "rule r: f(x_, y_K, x__, 1___);")
     ≡ Ok (RuleOf (word (codes "r") 1 6)
     (Apply (word (codes "f") 1 9)
     (trees (wildcard (codes "x") 1 [] 11 ∷ wildcard (codes "y") 1 (codes "K") 15 ∷ wildcard (codes "x") 2 [] 20
-    ∷ wildcard (codes "1") 3 [] 25 ∷ []))) None ∷ [])
+    ∷ wildcard (codes "1") 3 [] 25 ∷ []))) None None ∷ [])
 unfolding lexemes
 wildcards-read = refl
 
 -- a wildcard may have no name
 unnamed-read : reading (codes "rule r: f(_K, ___);")
     ≡ Ok (RuleOf (word (codes "r") 1 6)
-    (Apply (word (codes "f") 1 9) (trees (wildcard [] 1 (codes "K") 11 ∷ wildcard [] 3 [] 15 ∷ []))) None ∷ [])
+    (Apply (word (codes "f") 1 9) (trees (wildcard [] 1 (codes "K") 11 ∷ wildcard [] 3 [] 15 ∷ []))) None None ∷ [])
 unfolding lexemes
 unnamed-read = refl
 
@@ -171,13 +175,47 @@ end-refused = refl
 
 -- words are told by their place, those of conditions too
 rule-read : reading (codes "rule if: if if count(if) == 1;")
-    ≡ Ok (RuleOf (word (codes "if") 1 6) (Symbol (word (codes "if") 1 10))
+    ≡ Ok (RuleOf (word (codes "if") 1 6) (Symbol (word (codes "if") 1 10)) None
     (Some (condition
     (literals
     (AtomOf false (Compare (Measured Count (Symbol (word (codes "if") 1 22))) Eq (Number (word (codes "1") 1 29))) ∷ [])
     ∷ []))) ∷ [])
 unfolding lexemes
 rule-read = refl
+
+-- a template stands behind the arrow, and a count in braces
+template-read : reading (codes "rule r: f(x_{2+}) -> $x;")
+    ≡ Ok (RuleOf (word (codes "r") 1 6)
+    (Apply (word (codes "f") 1 9) (trees (Counted (wild (codes "x") 1 [] 11) (word (codes "2") 1 14) true ∷ [])))
+    (Some (Variable (word (codes "x") 1 22))) None ∷ [])
+unfolding lexemes
+template-read = refl
+
+-- a count is no default, and stands behind one underscore without a kind alone
+counted-refused : reading (codes "rule r: x_{2}:a;") ≡ fault kinds.Syntax 1 14
+unfolding lexemes
+counted-refused = refl
+
+plus-refused : reading (codes "rule r: x__{2};") ≡ fault kinds.Syntax 1 12
+unfolding lexemes
+plus-refused = refl
+
+-- positions and what stands there then
+edit-read : reading (codes "edit s: 0.1 -> a, . -> [b, c], 2 -> [];")
+    ≡ Ok (EditOf (word (codes "s") 1 6) (record {
+      position = Path (word (codes "0") 1 9) (word (codes "1") 1 11 ∷ []);
+      terms = Single (Symbol (word (codes "a") 1 16));
+    } ∷ record {
+      position = Root (at 1 19);
+      terms = Listed (trees (Symbol (word (codes "b") 1 25) ∷ Symbol (word (codes "c") 1 28) ∷ []));
+    } ∷ record { position = Path (word (codes "2") 1 32) []; terms = Listed (trees []) } ∷ []) ∷ [])
+unfolding lexemes
+edit-read = refl
+
+-- an edit has a change
+edit-refused : reading (codes "edit s: ;") ≡ fault kinds.Syntax 1 9
+unfolding lexemes
+edit-refused = refl
 
 -- square brackets are kept, and `and` binds before `or`
 condition-read : condition_reading (codes "not [less($x, a)] and 1 < 2 or kind($x, v)")
@@ -200,3 +238,17 @@ not-refused = refl
 if-refused : reading (codes "subject s: a if 1 == 1;") ≡ fault kinds.Syntax 1 14
 unfolding lexemes
 if-refused = refl
+
+-- ---- first faults
+
+-- behind the word in brackets no file goes on with the closing one
+bracket-first : IsFirstFault OfFile (codes "subject s: (a);") (record { kind = kinds.Syntax; place = at 1 14 })
+unfolding lexemes
+bracket-first =
+    text_reading-first OfFile (codes "subject s: (a);") (record { kind = kinds.Syntax; place = at 1 14 }) refl
+
+-- a byte that begins no token comes first, also behind it
+byte-first : IsFirstFault OfFile (codes "subject s: (a);\\") (record { kind = kinds.BadByte; place = at 1 16 })
+unfolding lexemes
+byte-first =
+    text_reading-first OfFile (codes "subject s: (a);\\") (record { kind = kinds.BadByte; place = at 1 16 }) refl

@@ -1,7 +1,6 @@
 -- The words and signs of what is read are those of tokens: 1 to 64 letters and digits, and sign bytes but the arrow.
 use Rattle.std.proofs.Common.{ℕ, zero, suc, List, [], ◌∷◌, ◌++◌, Option, Some, None, map, subst, take, sym, ◌≡◌}
 use Rattle.std.specs.List.{flat_map}
-use Rattle.mp_syntax.specs.declared.limits.TheConstants.{MAX_OPEN}
 use Rattle.mp_syntax.specs.declared.place.Place.{Place}
 use Rattle.mp_syntax.specs.Tokens as tokens
 use Rattle.mp_syntax.specs.Tokens.{Token, Word, Sign, Placed, Spells, place_after, Tokens}
@@ -9,20 +8,26 @@ use Rattle.mp_syntax.specs.Syntax.{Spot, Wildcard, Tree, Symbol, Apply, InfixOf,
 use Rattle.mp_syntax.specs.Syntax.{no_trees, more_trees, Flag, Assoc, Comm, One, Infixed, Amount, Number, Measured}
 use Rattle.mp_syntax.specs.Syntax.{Atom, Compare, Relate, Test, Literal, AtomOf, Bracketed, Literals, no_literals}
 use Rattle.mp_syntax.specs.Syntax.{more_literals, Condition, no_alternatives, more_alternatives, Statement, OpOf}
-use Rattle.mp_syntax.specs.Syntax.{KindOf, RuleOf, SubjectOf, Expected, Said, Stands, AllMatch, spelled_word}
+use Rattle.mp_syntax.specs.Syntax.{KindOf, RuleOf, SubjectOf, EditOf, Expected, Said, Stands, AllMatch, spelled_word}
 use Rattle.mp_syntax.specs.Syntax.{spelled_sign, another, comma, semicolon, spell, spell_first, spell_others}
 use Rattle.mp_syntax.specs.Syntax.{spell_with_colon, spell_plus, spell_amount, spell_atom, spell_not, spell_literal}
 use Rattle.mp_syntax.specs.Syntax.{spell_literals, spell_alternatives, spell_condition, spell_if, spell_flag}
 use Rattle.mp_syntax.specs.Syntax.{spell_statement, spell_file, Fits, AreFit, FitsAmount, FitsAtom, FitsLiteral}
 use Rattle.mp_syntax.specs.Syntax.{LiteralsFit, AlternativesFit, FitsCondition, FitsIf, FitsStatement, AreStatements}
 use Rattle.mp_syntax.specs.Syntax.{IsName, IsInfixSign, HasParts, IsSpelled, HaveParts, HasNames, HaveNames}
-use Rattle.mp_syntax.specs.Syntax.{AmountHasNames, AtomHasNames, LiteralHasNames, LiteralsHaveNames, ConditionHasNames}
-use Rattle.mp_syntax.specs.Syntax.{IfHasNames, HaveSigns, AreNames, StatementHasNames, StatementsHaveNames}
+use Rattle.mp_syntax.specs.Syntax.{AmountHasNames, AtomHasNames, LiteralHasNames, LiteralsHaveNames}
+use Rattle.mp_syntax.specs.Syntax.{ConditionHasNames, IfHasNames, HaveSigns, AreNames, StatementHasNames}
+use Rattle.mp_syntax.specs.Syntax.{StatementsHaveNames, Counted, Position, Root, Path, Replacement, Listed, Change}
+use Rattle.mp_syntax.specs.Syntax.{arrow, spell_template, spell_index, spell_position, spell_replacement}
+use Rattle.mp_syntax.specs.Syntax.{spell_change, spell_changes, FitsTemplate, FitsListed, FitsReplacement, ChangesFit}
+use Rattle.mp_syntax.specs.Syntax.{TemplateHasNames, PositionHasNames, ReplacementHasNames, ChangesHaveNames, Single}
 use Rattle.mp_syntax.specs.Lexing.{kind_at}
 use Rattle.mp_syntax.proofs.Trees.{fits-optional}
 use Rattle.mp_syntax.proofs.Longest.{IsToken}
 use Rattle.mp_syntax.proofs.Adds.{expected_token}
 use Rattle.mp_syntax.proofs.Spelling.{kind_at-spells}
+use Rattle.mp_syntax.specs.declared.token.Punct.{Punct}
+use Rattle.mp_syntax.specs.declared.token.Punct.TheVariants.{CloseSquare, Close}
 
 -- a text is this token
 abbrev pub HasText : Token → Type 0
@@ -93,13 +98,16 @@ mutual
   pub tree-names : (t : Tree) (room : ℕ) → Fits room t → ExpectTexts (spell t) → HasNames t
   tree-names (Symbol w) room fits h = word-name w.text h.0
   tree-names (Apply f args) zero fits h = absurd fits
-  tree-names (Apply f args) (suc room) fits h = (word-name f.text h.0, first-names comma args room fits h.1.1)
+  tree-names (Apply f args) (suc room) fits h = (word-name f.text h.0, first-names comma Close args room fits h.1.1)
   tree-names (InfixOf place sign operands) zero fits h = absurd fits
   tree-names (InfixOf place sign no_trees) (suc room) fits h = absurd fits.0
   tree-names (InfixOf place sign (more_trees t ts)) (suc room) fits h =
-      let r = texts-append (spell t) (spelled_sign sign ∷ spell_first (another sign) ts) h.1 in
-      (sign-name sign.text r.1.0, (tree-names t room fits.1.0 r.0, first-names (another sign) ts room fits.1.1 r.1.1))
+      let r = texts-append (spell t) (spelled_sign sign ∷ spell_first (another sign) Close ts) h.1 in (
+        sign-name sign.text r.1.0,
+        (tree-names t room fits.1.0 r.0, first-names (another sign) Close ts room fits.1.1 r.1.1),
+      )
   tree-names (Wild w) room fits h = wildcard-parts w h.0
+  tree-names (Counted w count more) room fits h = (wildcard-parts w h.0, word-name count.text h.1.1.0)
   tree-names (Optional w others default) room fits h =
       let r = texts-append (flat_map spell_with_colon others) (spell default) h.1.1 in (
         wildcard-parts w h.0,
@@ -108,19 +116,19 @@ mutual
       )
   tree-names (Variable w) room fits h = word-name w.text h.1.0
 
-  first-names : (between : Expected) (ts : Trees) (room : ℕ) → AreFit room ts → ExpectTexts (spell_first between ts)
-      → HaveNames ts
-  first-names between no_trees room fits h = tt
-  first-names between (more_trees t ts) room fits h =
-      let r = texts-append (spell t) (spell_others between ts) h in
-      (tree-names t room fits.0 r.0, others-names between ts room fits.1 r.1)
+  first-names : (between : Expected) (ending : Punct) (ts : Trees) (room : ℕ) → AreFit room ts
+      → ExpectTexts (spell_first between ending ts) → HaveNames ts
+  first-names between ending no_trees room fits h = tt
+  first-names between ending (more_trees t ts) room fits h =
+      let r = texts-append (spell t) (spell_others between ending ts) h in
+      (tree-names t room fits.0 r.0, others-names between ending ts room fits.1 r.1)
 
-  others-names : (between : Expected) (ts : Trees) (room : ℕ) → AreFit room ts → ExpectTexts (spell_others between ts)
-      → HaveNames ts
-  others-names between no_trees room fits h = tt
-  others-names between (more_trees t ts) room fits h =
-      let r = texts-append (spell t) (spell_others between ts) h.1 in
-      (tree-names t room fits.0 r.0, others-names between ts room fits.1 r.1)
+  others-names : (between : Expected) (ending : Punct) (ts : Trees) (room : ℕ) → AreFit room ts
+      → ExpectTexts (spell_others between ending ts) → HaveNames ts
+  others-names between ending no_trees room fits h = tt
+  others-names between ending (more_trees t ts) room fits h =
+      let r = texts-append (spell t) (spell_others between ending ts) h.1 in
+      (tree-names t room fits.0 r.0, others-names between ending ts room fits.1 r.1)
 
 flags-names : (flags : List Flag) → ExpectTexts (flat_map spell_flag flags ++ semicolon ∷ []) → HaveSigns flags
 flags-names [] h = tt
@@ -181,29 +189,76 @@ mutual
       (literals-names room [] a fits.1 r.0, alternatives-names room _ c fits.2 r.1)
 
 -- a condition that is spelled by tokens with texts has names
-pub condition-names : (c : Condition) → FitsCondition MAX_OPEN c → ExpectTexts (spell_condition c) → ConditionHasNames c
-condition-names c fits h = alternatives-names MAX_OPEN [] c fits.1 h
+pub condition-names : (room : ℕ) (c : Condition) → FitsCondition room c → ExpectTexts (spell_condition c)
+    → ConditionHasNames c
+condition-names room c fits h = alternatives-names room [] c fits.1 h
 
-if-names : (o : Option Condition) → FitsIf o → ExpectTexts (spell_if o) → IfHasNames o
-if-names None fits h = tt
-if-names (Some c) fits h = condition-names c fits h.1
+if-names : (room : ℕ) (o : Option Condition) → FitsIf room o → ExpectTexts (spell_if o) → IfHasNames o
+if-names room None fits h = tt
+if-names room (Some c) fits h = condition-names room c fits h.1
+
+-- ---- edits
+
+indices-names : (ws : List Spot) → ExpectTexts (flat_map spell_index ws) → AreNames ws
+indices-names [] h = tt
+indices-names (w ∷ ws) h = (word-name w.text h.1.0, indices-names ws h.1.1)
+
+position-names : (p : Position) → ExpectTexts (spell_position p) → PositionHasNames p
+position-names (Root place) h = tt
+position-names (Path first others) h = (word-name first.text h.0, indices-names others h.1)
+
+listed-names : (room : ℕ) (ts : Trees) → FitsListed room ts → ExpectTexts (spell_first comma CloseSquare ts)
+    → HaveNames ts
+listed-names zero ts fits h = absurd fits
+listed-names (suc room) ts fits h = first-names comma CloseSquare ts room fits h
+
+replacement-names : (room : ℕ) (r : Replacement) → FitsReplacement room r → ExpectTexts (spell_replacement r)
+    → ReplacementHasNames r
+replacement-names room (Single t) fits h = tree-names t room fits h
+replacement-names room (Listed ts) fits h = listed-names room ts fits h.1
+
+changes-names : (room : ℕ) (before : List Expected) (cs : List Change) → ChangesFit room cs
+    → ExpectTexts (spell_changes before cs) → ChangesHaveNames cs
+changes-names room before [] fits h = tt
+changes-names room before (c ∷ cs) fits h =
+    let r = texts-append (spell_change c) (spell_changes (comma ∷ []) cs) (texts-append before _ h).1 in
+    let s = texts-append (spell_position c.position) (arrow ∷ spell_replacement c.terms) r.0 in (
+      position-names c.position s.0,
+      replacement-names room c.terms fits.1 s.1.1,
+      changes-names room (comma ∷ []) cs fits.2 r.1,
+    )
 
 -- ---- statements
 
-statement-names : (s : Statement) → FitsStatement s → ExpectTexts (spell_statement s) → StatementHasNames s
-statement-names (OpOf name least more flags) fits h =
+template-names : (room : ℕ) (o : Option Tree) → FitsTemplate room o → ExpectTexts (spell_template o)
+    → TemplateHasNames o
+template-names room None fits h = tt
+template-names room (Some t) fits h = tree-names t room fits h.1
+
+statement-names : (room : ℕ) (s : Statement) → FitsStatement room s → ExpectTexts (spell_statement s)
+    → StatementHasNames s
+statement-names room (OpOf name least more flags) fits h =
     let r = texts-append (spell_plus more) (flat_map spell_flag flags ++ semicolon ∷ []) h.1.1.1 in
     (word-name name.text h.1.0, word-name least.text h.1.1.0, flags-names flags r.1)
-statement-names (KindOf name members) fits h = (word-name name.text h.1.0, members-names members h.1.1.1)
-statement-names (RuleOf name e o) fits h =
-    let r = texts-append (spell e) (spell_if o ++ semicolon ∷ []) h.1.1.1 in
-    (word-name name.text h.1.0, tree-names e MAX_OPEN fits.0 r.0, if-names o fits.1 (texts-append (spell_if o) _ r.1).0)
-statement-names (SubjectOf name e) fits h =
-    (word-name name.text h.1.0, tree-names e MAX_OPEN fits (texts-append (spell e) _ h.1.1.1).0)
+statement-names room (KindOf name members) fits h = (word-name name.text h.1.0, members-names members h.1.1.1)
+statement-names room (RuleOf name e template o) fits h =
+    let r = texts-append (spell e) (spell_template template ++ (spell_if o ++ semicolon ∷ [])) h.1.1.1 in
+    let s = texts-append (spell_template template) (spell_if o ++ semicolon ∷ []) r.1 in (
+      word-name name.text h.1.0,
+      tree-names e room fits.0 r.0,
+      template-names room template fits.1 s.0,
+      if-names room o fits.2 (texts-append (spell_if o) _ s.1).0,
+    )
+statement-names room (SubjectOf name e) fits h =
+    (word-name name.text h.1.0, tree-names e room fits (texts-append (spell e) _ h.1.1.1).0)
+statement-names room (EditOf subject changes) fits h =
+    let r = texts-append (spell_changes [] changes) (semicolon ∷ []) h.1.1.1 in
+    (word-name subject.text h.1.0, changes-names room [] changes fits.1 r.0)
 
 -- statements that are spelled by tokens with texts have names
-pub file-names : (file : List Statement) → AreStatements file → ExpectTexts (spell_file file) → StatementsHaveNames file
-file-names [] fits h = tt
-file-names (s ∷ file) fits h =
+pub file-names : (room : ℕ) (file : List Statement) → AreStatements room file → ExpectTexts (spell_file file)
+    → StatementsHaveNames file
+file-names room [] fits h = tt
+file-names room (s ∷ file) fits h =
     let r = texts-append (spell_statement s) (spell_file file) h in
-    (statement-names s fits.0 r.0, file-names file fits.1 r.1)
+    (statement-names room s fits.0 r.0, file-names room file fits.1 r.1)

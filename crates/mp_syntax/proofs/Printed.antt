@@ -1,31 +1,36 @@
 -- What is printed of statements is read again as those statements.
-use Rattle.std.proofs.Common.{◌≡◌, ◌≢◌, ℕ, ◌+◌, Bool, true, false, cond, List, [], ◌∷◌, ◌++◌, map, refl, sym, ap, subst}
-use Rattle.std.proofs.Common.{◌∙◌, arith, append_assoc}
+use Rattle.std.proofs.Common.{◌≡◌, ◌≢◌, ℕ, ◌+◌, Bool, true, false, cond, List, [], ◌∷◌, ◌++◌, map, refl, sym, ap}
+use Rattle.std.proofs.Common.{subst, ◌∙◌, arith, append_assoc, append-nil, Option, Some, None}
 use Rattle.std.specs.Prelude.{codes}
 use Rattle.std.specs.List.{flat_map, prefix_len}
 use Rattle.mp_syntax.specs.declared.limits.TheConstants.{MAX_OPEN}
 use Rattle.mp_syntax.specs.declared.place.Place.{Place}
 use Rattle.mp_syntax.specs.declared.token.Punct.TheVariants.{Colon}
-use Rattle.mp_syntax.specs.Tokens.{Sign, Punctuation, is_sign_byte, after_byte, first_place}
+use Rattle.mp_syntax.specs.Tokens.{Punctuation, is_sign_byte, after_byte, first_place}
 use Rattle.mp_syntax.specs.Lexing.{lexemes}
 use Rattle.mp_syntax.specs.Syntax.{Spot, Tree, Flag, Assoc, Comm, One, Infixed, Statement, OpOf, KindOf, RuleOf}
-use Rattle.mp_syntax.specs.Syntax.{SubjectOf, Said, spelled_word, spelled_sign, fixed_word, colon, semicolon, spell}
-use Rattle.mp_syntax.specs.Syntax.{spell_named, spell_if, spell_plus, spell_flag, spell_statement, spell_file, Fits}
-use Rattle.mp_syntax.specs.Syntax.{FitsStatement, AreStatements, IsName, HasNames, HaveSigns, AreNames}
-use Rattle.mp_syntax.specs.Syntax.{StatementHasNames, StatementsHaveNames, IsSyntaxOf}
-use Rattle.mp_syntax.specs.Machine.{Top, run}
-use Rattle.mp_syntax.specs.Reading.{statements_read}
-use Rattle.mp_syntax.specs.Printed.{tree_text, plus_text, flag_text, member_text, line_end, named_text, if_text}
-use Rattle.mp_syntax.specs.Printed.{statement_text, statements_text, unplaced_spot, unplaced_tree, unplaced_flag}
+use Rattle.mp_syntax.specs.Syntax.{SubjectOf, Condition, Expected, Said, spelled_word, spelled_sign, fixed_word}
+use Rattle.mp_syntax.specs.Syntax.{colon, semicolon, spell, spell_named, spell_if, spell_plus, spell_flag}
+use Rattle.mp_syntax.specs.Syntax.{spell_statement, spell_file, spell_condition, Fits, FitsCondition, FitsStatement}
+use Rattle.mp_syntax.specs.Syntax.{AreStatements, IsName, HasNames, HaveSigns, AreNames, StatementHasNames}
+use Rattle.mp_syntax.specs.Syntax.{StatementsHaveNames, ConditionHasNames, IsExprOf, IsConditionOf, IsSyntaxOf}
+use Rattle.mp_syntax.specs.Syntax.{Change, EditOf, arrow, spell_template, spell_changes, FitsTemplate}
+use Rattle.mp_syntax.specs.Syntax.{TemplateHasNames}
+use Rattle.mp_syntax.specs.Machine.{Top, BeforeExpr, BeforeLiteral, Alone, ConditionAlone, no_level, run}
+use Rattle.mp_syntax.specs.Printed.{template_text, changes_text, unplaced_template, tree_text, plus_text, flag_text}
+use Rattle.mp_syntax.specs.Printed.{member_text, line_end, named_text, if_text, condition_text, statement_text}
+use Rattle.mp_syntax.specs.Printed.{statements_text, unplaced_spot, unplaced_tree, unplaced_condition, unplaced_flag}
 use Rattle.mp_syntax.specs.Printed.{unplaced}
 use Rattle.mp_syntax.proofs.Fuel.{lexemes-step}
 use Rattle.mp_syntax.proofs.TokensLaw.{end_at}
-use Rattle.mp_syntax.proofs.StatementAgain.{file-again}
-use Rattle.mp_syntax.proofs.Whole.{reading-found}
+use Rattle.mp_syntax.proofs.StatementAgain.{file-again, alone-again, alone_condition-again}
+use Rattle.mp_syntax.proofs.Whole.{file_is_read, expr_is_read, condition_is_read}
 use Rattle.mp_syntax.proofs.Ends.{is_mark_byte}
-use Rattle.mp_syntax.proofs.PrintedExpr.{Lexes, lexes-then, lexes-word, lexes-sign, lexes-punct, lexes-blank}
-use Rattle.mp_syntax.proofs.PrintedExpr.{lexes-line_end, lexes-tree, lexes-keyword, lexes-behind}
-use Rattle.mp_syntax.proofs.PrintedCondition.{lexes-if, if-end}
+use Rattle.mp_syntax.proofs.PrintedExpr.{Lexes, lexes-then, lexes-word, lexes-sign, lexes-plus, lexes-punct}
+use Rattle.mp_syntax.proofs.PrintedExpr.{lexes-blank, lexes-arrow, lexes-line_end, lexes-tree, lexes-keyword}
+use Rattle.mp_syntax.proofs.PrintedExpr.{lexes-behind}
+use Rattle.mp_syntax.proofs.PrintedEdit.{lexes-changes, some-unplaced}
+use Rattle.mp_syntax.proofs.PrintedCondition.{LexesAs, leads-nothing, lexes-condition, lexes-if, if-end}
 
 -- ---- statements
 
@@ -33,7 +38,7 @@ use Rattle.mp_syntax.proofs.PrintedCondition.{lexes-if, if-end}
 record LexesStatement (bytes rest : List ℕ) (place : Place) (s : Statement) : Type 0 where
   statement : Statement
   same : unplaced statement ≡ unplaced s
-  fits : FitsStatement statement
+  fits : FitsStatement MAX_OPEN statement
   lexes : Lexes bytes place (spell_statement statement) rest
 
 -- the first byte doesn't pass the test
@@ -81,13 +86,6 @@ named_text-append : (name : Spot) (t : Tree) (behind rest : List ℕ)
 named_text-append name t behind rest = simp append_assoc
 
 -- ---- declarations
-
--- a plus sign, where there is one
-lexes-plus : (more : Bool) (rest : List ℕ) (place : Place) → prefix_len is_sign_byte rest ≡ 0
-    → Lexes (plus_text more ++ rest) place (spell_plus more) rest
-lexes-plus true rest place ends = lexes-sign (codes "+") rest place (Said (Sign (codes "+")))
-    (record { is_sign = record { some = λ e. absurd cc; bytes = refl }; no_arrow = λ e. absurd cc }) ends refl
-lexes-plus false rest place ends = record { ts = []; after = place; match = tt; are = refl }
 
 -- a flag and what follows begin with a blank or a semicolon
 flags-end : (p : ℕ → Bool) → p 32 ≡ false → p 59 ≡ false → (flags : List Flag) (rest : List ℕ)
@@ -179,7 +177,7 @@ lexes-flags (Infixed sign ∷ flags) rest place h =
     }
 
 lexes-op : (name least : Spot) (more : Bool) (flags : List Flag) (rest : List ℕ) (place : Place)
-    → StatementHasNames (OpOf name least more flags) → FitsStatement (OpOf name least more flags)
+    → StatementHasNames (OpOf name least more flags) → FitsStatement MAX_OPEN (OpOf name least more flags)
     → LexesStatement (statement_text (OpOf name least more flags) ++ rest) rest place (OpOf name least more flags)
 lexes-op name least more flags rest place h fits =
     let fourth = flat_map flag_text flags ++ (line_end ++ rest) in
@@ -243,7 +241,7 @@ lexes-members (m ∷ members) rest place h =
     }
 
 lexes-declared_kind : (name : Spot) (members : List Spot) (rest : List ℕ) (place : Place)
-    → StatementHasNames (KindOf name members) → FitsStatement (KindOf name members)
+    → StatementHasNames (KindOf name members) → FitsStatement MAX_OPEN (KindOf name members)
     → LexesStatement (statement_text (KindOf name members) ++ rest) rest place (KindOf name members)
 lexes-declared_kind name members rest place h fits =
     let second = flat_map member_text members ++ (line_end ++ rest) in
@@ -268,31 +266,99 @@ lexes-declared_kind name members rest place h fits =
           (lexes-then (58 ∷ second) second rest n.after (colon ∷ []) ending c a.lexes)));
     }
 
-lexes-statement : (s : Statement) (rest : List ℕ) (place : Place) → StatementHasNames s → FitsStatement s
+-- the template of a rule, where there is one
+lexes-template : (o : Option Tree) (rest : List ℕ) (place : Place) → TemplateHasNames o → FitsTemplate MAX_OPEN o
+    → prefix_len is_mark_byte rest ≡ 0
+    → LexesAs spell_template unplaced_template (FitsTemplate MAX_OPEN) (template_text o ++ rest) rest place o
+lexes-template None rest place h fits ends =
+    record { value = None; same = refl; fits = tt; lexes = record { ts = []; after = place; match = tt; are = refl } }
+lexes-template (Some t) rest place h fits ends =
+    let behind = tree_text t ++ rest in
+    let a = lexes-arrow behind place in
+    let x = lexes-tree t MAX_OPEN rest a.after h fits ends in
+    record {
+      value = Some x.tree;
+      same = ap some x.same;
+      fits = x.fits;
+      lexes = lexes-then (codes " -> " ++ behind) behind rest place (arrow ∷ []) (spell x.tree) a x.lexes;
+    }
+  where
+    some : Tree → Option Tree
+    some t = Some t
+
+-- the template of a rule and what follows end a word
+template-end : (o : Option Tree) (rest : List ℕ) → prefix_len is_mark_byte rest ≡ 0
+    → prefix_len is_mark_byte (template_text o ++ rest) ≡ 0
+template-end None rest ends = ends
+template-end (Some t) rest ends = refl
+
+lexes-rule : (name : Spot) (t : Tree) (template : Option Tree) (o : Option Condition) (rest : List ℕ) (place : Place)
+    → StatementHasNames (RuleOf name t template o) → FitsStatement MAX_OPEN (RuleOf name t template o)
+    → LexesStatement (statement_text (RuleOf name t template o) ++ rest) rest place (RuleOf name t template o)
+lexes-rule name t template o rest place h fits =
+    let fourth = line_end ++ rest in
+    let third = if_text o ++ fourth in
+    let second = template_text template ++ third in
+    let x = lexes-named (codes "rule") name t second place
+    (record { is_word = record { some = λ e. absurd cc; bytes = refl }; is_short = omega arith }) h.0 h.1 fits.0
+    (template-end template third (if-end o fourth refl)) in
+    let z = lexes-template template third x.lexes.after h.2 fits.1 (if-end o fourth refl) in
+    let y = lexes-if o fourth z.lexes.after h.3 fits.2 refl in
+    let ending = spell_if y.value ++ semicolon ∷ [] in
+    let parts : statement_text (RuleOf name t template o) ++ rest
+    ≡ codes "rule" ++ (32 ∷ named_text name t second) =
+    ap (λ l. codes "rule " ++ l) (named_text-append name t (template_text template ++ (if_text o ++ line_end)) rest
+    ∙ ap (named_text name t) (append_assoc (template_text template) (if_text o ++ line_end) rest
+    ∙ ap (λ l. template_text template ++ l) (append_assoc (if_text o) line_end rest))) in
+    record {
+      statement = RuleOf x.here x.tree z.value y.value;
+      same = λ i.
+          RuleOf (record { text = x.same_name i; place = first_place }) (x.same i) (z.same i) (y.same i);
+      fits = (x.fits, z.fits, y.fits);
+      lexes = subst (λ l. Lexes l place (spell_statement (RuleOf x.here x.tree z.value y.value)) rest) (sym parts)
+          (lexes-then (codes "rule" ++ (32 ∷ named_text name t second)) second rest place
+          (fixed_word (codes "rule") ∷ spell_named x.here x.tree) (spell_template z.value ++ ending) x.lexes
+          (lexes-then second third rest x.lexes.after (spell_template z.value) ending z.lexes
+          (lexes-then third fourth rest z.lexes.after (spell_if y.value) (semicolon ∷ []) y.lexes
+          (lexes-line_end rest y.lexes.after))));
+    }
+
+lexes-edit : (subject : Spot) (changes : List Change) (rest : List ℕ) (place : Place)
+    → StatementHasNames (EditOf subject changes) → FitsStatement MAX_OPEN (EditOf subject changes)
+    → LexesStatement (statement_text (EditOf subject changes) ++ rest) rest place (EditOf subject changes)
+lexes-edit subject changes rest place h fits =
+    let fourth = line_end ++ rest in
+    let third = changes_text [] changes ++ fourth in
+    let second = 58 ∷ 32 ∷ third in
+    let first = subject.text ++ second in
+    let r = lexes-keyword (codes "edit") first place
+    (record { is_word = record { some = λ e. absurd cc; bytes = refl }; is_short = omega arith }) in
+    let here : Spot = record { text = subject.text; place = r.after } in
+    let n = lexes-word subject.text second r.after (spelled_word here) h.0 refl (refl, refl) in
+    let c = lexes-punct Colon (32 ∷ third) n.after colon refl in
+    let b = lexes-blank third c.after in
+    let a = lexes-changes changes [] [] leads-nothing MAX_OPEN fourth b.after h.1 fits.1 refl in
+    let ending = spell_changes [] a.value ++ semicolon ∷ [] in
+    let parts : statement_text (EditOf subject changes) ++ rest ≡ codes "edit " ++ first = simp append_assoc in
+    record {
+      statement = EditOf here a.value;
+      same = ap (EditOf (unplaced_spot subject)) a.same;
+      fits = (some-unplaced a.value changes a.same fits.0, a.fits);
+      lexes = subst (λ l. Lexes l place (spell_statement (EditOf here a.value)) rest) (sym parts)
+          (lexes-then (codes "edit " ++ first) first rest place (fixed_word (codes "edit") ∷ [])
+          (spelled_word here ∷ colon ∷ ending) r
+          (lexes-then first second rest r.after (spelled_word here ∷ []) (colon ∷ ending) n
+          (lexes-then second (32 ∷ third) rest n.after (colon ∷ []) ending c
+          (lexes-then (32 ∷ third) third rest c.after [] ending b
+          (lexes-then third fourth rest b.after (spell_changes [] a.value) (semicolon ∷ []) a.lexes
+          (lexes-line_end rest a.lexes.after))))));
+    }
+
+lexes-statement : (s : Statement) (rest : List ℕ) (place : Place) → StatementHasNames s → FitsStatement MAX_OPEN s
     → LexesStatement (statement_text s ++ rest) rest place s
 lexes-statement (OpOf name least more flags) rest place h fits = lexes-op name least more flags rest place h fits
 lexes-statement (KindOf name members) rest place h fits = lexes-declared_kind name members rest place h fits
-lexes-statement (RuleOf name t o) rest place h fits =
-    let third = line_end ++ rest in
-    let second = if_text o ++ third in
-    let x = lexes-named (codes "rule") name t second place
-    (record { is_word = record { some = λ e. absurd cc; bytes = refl }; is_short = omega arith }) h.0 h.1 fits.0
-    (if-end o third refl) in
-    let y = lexes-if o third x.lexes.after h.2 fits.1 refl in
-    let ending = spell_if y.value ++ semicolon ∷ [] in
-    let parts : statement_text (RuleOf name t o) ++ rest ≡ codes "rule" ++ (32 ∷ named_text name t second) =
-    ap (λ l. codes "rule " ++ l) (named_text-append name t (if_text o ++ line_end) rest
-    ∙ ap (named_text name t) (append_assoc (if_text o) line_end rest)) in
-    record {
-      statement = RuleOf x.here x.tree y.value;
-      same = λ i. RuleOf (record { text = x.same_name i; place = first_place }) (x.same i) (y.same i);
-      fits = (x.fits, y.fits);
-      lexes = subst (λ l. Lexes l place (spell_statement (RuleOf x.here x.tree y.value)) rest) (sym parts)
-          (lexes-then (codes "rule" ++ (32 ∷ named_text name t second)) second rest place
-          (fixed_word (codes "rule") ∷ spell_named x.here x.tree) ending x.lexes
-          (lexes-then second third rest x.lexes.after (spell_if y.value) (semicolon ∷ []) y.lexes
-          (lexes-line_end rest y.lexes.after)));
-    }
+lexes-statement (RuleOf name t template o) rest place h fits = lexes-rule name t template o rest place h fits
 lexes-statement (SubjectOf name t) rest place h fits =
     let second = line_end ++ rest in
     let x = lexes-named (codes "subject") name t second place
@@ -309,16 +375,17 @@ lexes-statement (SubjectOf name t) rest place h fits =
           (fixed_word (codes "subject") ∷ spell_named x.here x.tree) (semicolon ∷ []) x.lexes
           (lexes-line_end rest x.lexes.after));
     }
+lexes-statement (EditOf subject changes) rest place h fits = lexes-edit subject changes rest place h fits
 
 -- ---- files
 
 record LexesFile (bytes : List ℕ) (place : Place) (file : List Statement) : Type 0 where
   all : List Statement
   same : map unplaced all ≡ map unplaced file
-  fits : AreStatements all
+  fits : AreStatements MAX_OPEN all
   lexes : Lexes bytes place (spell_file all) []
 
-lexes-file : (file : List Statement) (place : Place) → StatementsHaveNames file → AreStatements file
+lexes-file : (file : List Statement) (place : Place) → StatementsHaveNames file → AreStatements MAX_OPEN file
     → LexesFile (statements_text file) place file
 lexes-file [] place h fits =
     record { all = []; same = refl; fits = tt; lexes = record { ts = []; after = place; match = tt; are = refl } }
@@ -333,17 +400,51 @@ lexes-file (s ∷ file) place h fits =
           (spell_statement x.statement) (spell_file a.all) x.lexes a.lexes;
     }
 
+-- bytes that are these tokens and nothing else
+lexes-all : (bytes : List ℕ) (ms : List Expected) (r : Lexes bytes first_place ms [])
+    → lexemes bytes first_place ≡ r.ts ++ end_at r.after ∷ []
+lexes-all bytes ms r = r.are ∙ ap (λ l. r.ts ++ l) (lexemes-step [] r.after)
+
+-- the text of an expression alone is that expression, apart from its places
+pub printed_expr-again : (t : Tree) → HasNames t → Fits MAX_OPEN t
+    → (read : Tree) × IsExprOf (tree_text t) read × (unplaced_tree read ≡ unplaced_tree t)
+printed_expr-again t names fits =
+    let bytes = tree_text t in
+    let x = lexes-tree t MAX_OPEN [] first_place names fits refl in
+    let y = subst (λ l. Lexes l first_place (spell x.tree) []) (append-nil bytes) x.lexes in
+    let all = lexes-all bytes (spell x.tree) y in (
+      x.tree,
+      expr_is_read.found bytes x.tree
+          (ap (run [] (BeforeExpr Alone [])) all
+          ∙ alone-again MAX_OPEN x.tree y.ts (end_at y.after) y.match x.fits refl),
+      x.same,
+    )
+
+-- the text of a condition alone is that condition, apart from its places
+pub printed_condition-again : (c : Condition) → ConditionHasNames c → FitsCondition MAX_OPEN c
+    → (read : Condition) × IsConditionOf (condition_text c) read × (unplaced_condition read ≡ unplaced_condition c)
+printed_condition-again c names fits =
+    let bytes = condition_text c in
+    let x = lexes-condition c MAX_OPEN [] first_place names fits refl in
+    let y = subst (λ l. Lexes l first_place (spell_condition x.value) []) (append-nil bytes) x.lexes in
+    let all = lexes-all bytes (spell_condition x.value) y in (
+      x.value,
+      condition_is_read.found bytes x.value
+          (ap (run [] (BeforeLiteral ConditionAlone [] no_level)) all
+          ∙ alone_condition-again MAX_OPEN x.value y.ts (end_at y.after) y.match x.fits refl),
+      x.same,
+    )
+
 -- the text of statements is those statements, apart from their places
-pub printed-again : (file : List Statement) → StatementsHaveNames file → AreStatements file
+pub printed-again : (file : List Statement) → StatementsHaveNames file → AreStatements MAX_OPEN file
     → (read : List Statement) × IsSyntaxOf (statements_text file) read × (map unplaced read ≡ map unplaced file)
 printed-again file names fits =
     let x = lexes-file file first_place names fits in
     let bytes = statements_text file in
-    let all : lexemes bytes first_place ≡ x.lexes.ts ++ end_at x.lexes.after ∷ [] =
-    x.lexes.are ∙ ap (λ l. x.lexes.ts ++ l) (lexemes-step [] x.lexes.after) in (
+    let all = lexes-all bytes (spell_file x.all) x.lexes in (
       x.all,
-      reading-found bytes x.all
-          (ap statements_read (ap (run [] Top) all
-          ∙ file-again x.all [] x.lexes.ts (end_at x.lexes.after ∷ []) x.lexes.match x.fits)),
+      file_is_read.found bytes x.all
+          (ap (run [] Top) all
+          ∙ file-again MAX_OPEN x.all [] x.lexes.ts (end_at x.lexes.after ∷ []) x.lexes.match x.fits),
       x.same,
     )

@@ -1,6 +1,6 @@
 -- What is printed of a condition is read again as that condition.
-use Rattle.std.proofs.Common.{◌≡◌, ◌≢◌, ℕ, zero, suc, Bool, true, false, List, [], ◌∷◌, ◌++◌, Option, Some, None, refl}
-use Rattle.std.proofs.Common.{sym, ap, subst, ◌∙◌, arith, append_assoc}
+use Rattle.std.proofs.Common.{◌≡◌, ◌≢◌, ℕ, zero, suc, Bool, true, false, List, [], ◌∷◌, ◌++◌, Option, Some, None}
+use Rattle.std.proofs.Common.{refl, sym, ap, subst, ◌∙◌, arith, append_assoc}
 use Rattle.std.specs.Prelude.{codes}
 use Rattle.std.specs.List.{prefix_len}
 use Rattle.std.specs.Str.{bytes_eq}
@@ -18,16 +18,17 @@ use Rattle.mp_syntax.specs.declared.condition_tree.Property.TheVariants as prope
 use Rattle.mp_syntax.specs.Tokens.{Sign, Punctuation}
 use Rattle.mp_syntax.specs.Syntax.{Spot, Amount, Number, Measured, Atom, Compare, Relate, Test, Literal, AtomOf}
 use Rattle.mp_syntax.specs.Syntax.{Bracketed, Literals, no_literals, more_literals, Condition, no_alternatives}
-use Rattle.mp_syntax.specs.Syntax.{more_alternatives, Expected, Said, fixed_word, spelled_word, opening, closing, comma}
-use Rattle.mp_syntax.specs.Syntax.{measure_word, sense_sign, relation_word, property_word, spell, spell_amount}
+use Rattle.mp_syntax.specs.Syntax.{more_alternatives, Expected, Said, fixed_word, spelled_word, opening, closing}
+use Rattle.mp_syntax.specs.Syntax.{comma, measure_word, sense_sign, relation_word, property_word, spell, spell_amount}
 use Rattle.mp_syntax.specs.Syntax.{spell_atom, spell_not, spell_literal, spell_literals, spell_alternatives}
 use Rattle.mp_syntax.specs.Syntax.{spell_condition, spell_if, FitsAmount, FitsAtom, HasLiteral, HasAlternative}
-use Rattle.mp_syntax.specs.Syntax.{FitsLiteral, LiteralsFit, AlternativesFit, FitsIf, IsName, IsInfixSign}
-use Rattle.mp_syntax.specs.Syntax.{AmountHasNames, AtomHasNames, LiteralHasNames, LiteralsHaveNames, ConditionHasNames}
-use Rattle.mp_syntax.specs.Syntax.{IfHasNames}
+use Rattle.mp_syntax.specs.Syntax.{FitsLiteral, LiteralsFit, AlternativesFit, FitsCondition, FitsIf, IsName}
+use Rattle.mp_syntax.specs.Syntax.{IsInfixSign, AmountHasNames, AtomHasNames, LiteralHasNames, LiteralsHaveNames}
+use Rattle.mp_syntax.specs.Syntax.{ConditionHasNames, IfHasNames}
 use Rattle.mp_syntax.specs.Printed.{tree_text, amount_text, atom_text, not_text, literal_text, literals_text}
-use Rattle.mp_syntax.specs.Printed.{alternatives_text, if_text, unplaced_spot, unplaced_amount, unplaced_atom}
-use Rattle.mp_syntax.specs.Printed.{unplaced_literal, unplaced_literals, unplaced_condition, unplaced_if}
+use Rattle.mp_syntax.specs.Printed.{alternatives_text, condition_text, if_text, unplaced_spot, unplaced_amount}
+use Rattle.mp_syntax.specs.Printed.{unplaced_atom, unplaced_literal, unplaced_literals, unplaced_condition}
+use Rattle.mp_syntax.specs.Printed.{unplaced_if}
 use Rattle.mp_syntax.proofs.Ends.{is_mark_byte}
 use Rattle.mp_syntax.proofs.Trees.{atom-literal, literal-atom}
 use Rattle.mp_syntax.proofs.PrintedExpr.{Lexes, lexes-then, lexes-word, lexes-sign, lexes-punct, lexes-blank}
@@ -212,10 +213,10 @@ lexes-atom (Test p t w) (suc room) rest place h fits ends =
 -- ---- literals and alternatives
 
 -- the text is these tokens
-record Leads (ms : List Expected) (text : List ℕ) : Type 0 where
-  lexes : (rest : List ℕ) (place : Place) → Lexes (text ++ rest) place ms rest
+pub record Leads (ms : List Expected) (text : List ℕ) : Type 0 where
+  pub lexes : (rest : List ℕ) (place : Place) → Lexes (text ++ rest) place ms rest
 
-leads-nothing : Leads [] []
+pub leads-nothing : Leads [] []
 leads-nothing = record { lexes = λ rest place. record { ts = []; after = place; match = tt; are = refl } }
 
 -- a word between blanks
@@ -386,21 +387,34 @@ mutual
             (lexes-then second third rest r.after (spell_literals [] x.value) others x.lexes y.lexes));
       }
 
+-- a condition
+pub lexes-condition : (c : Condition) (room : ℕ) (rest : List ℕ) (place : Place) → ConditionHasNames c
+    → FitsCondition room c → prefix_len is_mark_byte rest ≡ 0
+    → LexesAs spell_condition unplaced_condition (FitsCondition room) (condition_text c ++ rest) rest place c
+lexes-condition c room rest place h fits ends =
+    let x = lexes-alternatives c [] [] leads-nothing room rest place h fits.1 ends in
+    record {
+      value = x.value;
+      same = x.same;
+      fits = (HasAlternative-unplaced x.value c x.same fits.0, x.fits);
+      lexes = x.lexes;
+    }
+
 -- the condition of a rule, where there is one
-pub lexes-if : (o : Option Condition) (rest : List ℕ) (place : Place) → IfHasNames o → FitsIf o
-    → prefix_len is_mark_byte rest ≡ 0 → LexesAs spell_if unplaced_if FitsIf (if_text o ++ rest) rest place o
+pub lexes-if : (o : Option Condition) (rest : List ℕ) (place : Place) → IfHasNames o → FitsIf MAX_OPEN o
+    → prefix_len is_mark_byte rest ≡ 0 → LexesAs spell_if unplaced_if (FitsIf MAX_OPEN) (if_text o ++ rest) rest place o
 lexes-if None rest place h fits ends =
     record { value = None; same = refl; fits = tt; lexes = record { ts = []; after = place; match = tt; are = refl } }
 lexes-if (Some c) rest place h fits ends =
-    let second = alternatives_text [] c ++ rest in
+    let second = condition_text c ++ rest in
     let r = leads-if.lexes second place in
-    let x = lexes-alternatives c [] [] leads-nothing MAX_OPEN rest r.after h fits.1 ends in
+    let x = lexes-condition c MAX_OPEN rest r.after h fits ends in
     record {
       value = Some x.value;
       same = ap some x.same;
-      fits = (HasAlternative-unplaced x.value c x.same fits.0, x.fits);
+      fits = x.fits;
       lexes = subst (λ l. Lexes l place (spell_if (Some x.value)) rest)
-          (sym (append_assoc (codes " if ") (alternatives_text [] c) rest))
+          (sym (append_assoc (codes " if ") (condition_text c) rest))
           (lexes-then (codes " if " ++ second) second rest place (fixed_word (codes "if") ∷ [])
           (spell_condition x.value) r x.lexes);
     }

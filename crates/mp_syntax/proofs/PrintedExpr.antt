@@ -1,30 +1,33 @@
 -- What is printed of an expression is read again as that expression.
-use Rattle.std.proofs.Common.{◌≡◌, ◌≢◌, ℕ, zero, suc, ◌+◌, false, List, [], ◌∷◌, ◌++◌, length, map, drop, refl, sym, ap}
-use Rattle.std.proofs.Common.{subst, ◌∙◌, arith, append_assoc, append-nil}
+use Rattle.std.proofs.Common.{◌≡◌, ◌≢◌, ℕ, zero, suc, ◌+◌, false, List, [], ◌∷◌, ◌++◌, length, map, drop, refl, sym}
+use Rattle.std.proofs.Common.{ap, subst, ◌∙◌, arith, append_assoc, append-nil, true, Bool}
 use Rattle.std.specs.Prelude.{codes}
-use Rattle.std.specs.List.{flat_map, prefix_len}
+use Rattle.std.specs.List.{flat_map, prefix_len, list_all}
 use Rattle.std.proofs.lemmas.List.{drop_at}
 use Rattle.mp_syntax.specs.declared.place.Place.{Place}
 use Rattle.mp_syntax.specs.declared.token.Punct.{Punct}
-use Rattle.mp_syntax.specs.declared.token.Punct.TheVariants.{Open, Close, Comma, Colon, Semicolon, Dollar}
+use Rattle.mp_syntax.specs.declared.token.Punct.TheVariants.{Open, Close, Comma, Colon, Semicolon, Dollar, OpenBrace}
+use Rattle.mp_syntax.specs.declared.token.Punct.TheVariants.{CloseBrace, Dot, OpenSquare, CloseSquare}
 use Rattle.mp_syntax.specs.Tokens as tokens
-use Rattle.mp_syntax.specs.Tokens.{Token, Word, Sign, Punctuation, Placed, byte_of, is_sign_byte, AreWordBytes, IsShort}
-use Rattle.mp_syntax.specs.Tokens.{Spells, IsWildcard, after_byte, first_place}
+use Rattle.mp_syntax.specs.Tokens.{Token, Word, Sign, Punctuation, Placed, byte_of, is_sign_byte, AreWordBytes}
+use Rattle.mp_syntax.specs.Tokens.{IsShort, Spells, IsWildcard, after_byte, first_place, Arrow}
 use Rattle.mp_syntax.specs.Lexing.{kind_at, token_at, after_blanks, lexemes}
 use Rattle.mp_syntax.specs.Syntax.{Spot, Wildcard, Tree, Symbol, Apply, InfixOf, Wild, Optional, Variable, Trees}
 use Rattle.mp_syntax.specs.Syntax.{no_trees, more_trees, Expected, Said, Stands, Matches, AllMatch, spelled_word}
-use Rattle.mp_syntax.specs.Syntax.{spelled_wildcard, spelled_sign, another, fixed_word, comma, colon, closing}
+use Rattle.mp_syntax.specs.Syntax.{spelled_wildcard, spelled_sign, another, fixed_word, comma, colon}
 use Rattle.mp_syntax.specs.Syntax.{semicolon, spell_with_colon, spell, spell_first, spell_others, spell_operands}
 use Rattle.mp_syntax.specs.Syntax.{AreSeveral, AreDots, HasNoDefault, Fits, AreFit, IsName, IsInfixSign, HasParts}
-use Rattle.mp_syntax.specs.Syntax.{HaveParts, HasNames, HaveNames}
+use Rattle.mp_syntax.specs.Syntax.{HaveParts, HasNames, HaveNames, Counted, spell_count, spell_plus, arrow}
 use Rattle.mp_syntax.specs.Printed.{wildcard_text, text_with_colon, tree_text, first_text, others_text, line_end}
-use Rattle.mp_syntax.specs.Printed.{unplaced_spot, unplaced_wildcard, unplaced_tree, unplaced_trees}
-use Rattle.mp_syntax.proofs.Trees.{wild-fits, variable-fits, fits-optional, optional-fits}
+use Rattle.mp_syntax.specs.Printed.{unplaced_spot, unplaced_wildcard, unplaced_tree, unplaced_trees, count_text}
+use Rattle.mp_syntax.specs.Printed.{plus_text}
+use Rattle.mp_syntax.proofs.Trees.{wild-fits, variable-fits, fits-optional, optional-fits, counted-fits, fits-counted}
 use Rattle.mp_syntax.proofs.Spelling.{spells-some, spells-token}
 use Rattle.mp_syntax.proofs.Fuel.{lexemes-step, lexemes-next}
 use Rattle.mp_syntax.proofs.TokensLaw.{starts-stay, plain-starts, spells-plain, behind-token}
 use Rattle.mp_syntax.proofs.Ends.{is_mark_byte, marks-wildcard, longest-marks, longest-signs, kind_at-ends}
 use Rattle.mp_syntax.proofs.Ends.{kind_at-punct, marks-word}
+use Rattle.std.specs.Char.{is_ascii_digit}
 
 -- ---- the tokens at the front
 
@@ -122,6 +125,17 @@ lexes-blank rest place = record {
   are = lexemes-step (32 ∷ rest) place ∙ sym (lexemes-step rest (after_byte place 32));
 }
 
+-- an arrow between blanks
+pub lexes-arrow : (rest : List ℕ) (place : Place) → Lexes (codes " -> " ++ rest) place (arrow ∷ []) rest
+lexes-arrow rest place =
+    let last = 32 ∷ rest in
+    let second = codes "->" ++ last in
+    let b = lexes-blank second place in
+    let a = lexes-kind (codes "->") last Arrow b.after arrow refl
+    (kind_at-ends (codes "->") last Arrow refl (longest-signs (codes "->") last (omega arith) refl refl)) refl in
+    lexes-then (32 ∷ second) second rest place [] (arrow ∷ []) b
+    (lexes-then second last rest b.after (arrow ∷ []) [] a (lexes-blank rest a.after))
+
 -- a semicolon and the end of the line
 pub lexes-line_end : (rest : List ℕ) (place : Place) → Lexes (line_end ++ rest) place (semicolon ∷ []) rest
 lexes-line_end rest place =
@@ -144,12 +158,12 @@ pub record LexesTree (room : ℕ) (bytes rest : List ℕ) (place : Place) (t : T
   pub lexes : Lexes bytes place (spell tree) rest
 
 -- the same of expressions by a spelling of them
-record LexesTrees (spelling : Trees → List Expected) (room : ℕ) (bytes rest : List ℕ) (place : Place)
+pub record LexesTrees (spelling : Trees → List Expected) (room : ℕ) (bytes rest : List ℕ) (place : Place)
     (ts : Trees) : Type 0 where
-  all : Trees
-  same : unplaced_trees all ≡ unplaced_trees ts
-  fits : AreFit room all
-  lexes : Lexes bytes place (spelling all) rest
+  pub all : Trees
+  pub same : unplaced_trees all ≡ unplaced_trees ts
+  pub fits : AreFit room all
+  pub lexes : Lexes bytes place (spelling all) rest
 
 -- the same of the operands of a sign
 record LexesOperands (sign : Spot) (room : ℕ) (bytes rest : List ℕ) (place : Place) (ts : Trees) : Type 0 where
@@ -162,12 +176,12 @@ record LexesOperands (sign : Spot) (room : ℕ) (bytes rest : List ℕ) (place :
   lexes : Lexes bytes place (spell_operands here all) rest
 
 -- the separator is this token, and ends a word
-record Separates (between : Expected) (separator : List ℕ) : Type 0 where
-  lexes : (rest : List ℕ) (place : Place) → Lexes (separator ++ rest) place (between ∷ []) rest
-  ends : (rest : List ℕ) → prefix_len is_mark_byte (separator ++ rest) ≡ 0
+pub record Separates (between : Expected) (separator : List ℕ) : Type 0 where
+  pub lexes : (rest : List ℕ) (place : Place) → Lexes (separator ++ rest) place (between ∷ []) rest
+  pub ends : (rest : List ℕ) → prefix_len is_mark_byte (separator ++ rest) ≡ 0
 
 -- a comma and a blank
-separates-comma : Separates comma (codes ", ")
+pub separates-comma : Separates comma (codes ", ")
 separates-comma = record {
   lexes = λ rest place.
       let r = lexes-punct Comma (32 ∷ rest) place comma refl in
@@ -190,14 +204,28 @@ separates-sign sign h = record {
   ends = λ rest. refl;
 }
 
+-- no punctuation character is a letter, a digit or an underscore
+punct-end : (p : Punct) (rest : List ℕ) → prefix_len is_mark_byte (byte_of p ∷ rest) ≡ 0
+punct-end Open rest = refl
+punct-end Close rest = refl
+punct-end OpenSquare rest = refl
+punct-end CloseSquare rest = refl
+punct-end OpenBrace rest = refl
+punct-end CloseBrace rest = refl
+punct-end Comma rest = refl
+punct-end Semicolon rest = refl
+punct-end Colon rest = refl
+punct-end Dot rest = refl
+punct-end Dollar rest = refl
+
 -- the text behind an expression ends a word
-others-end : (between : Expected) (separator : List ℕ) → Separates between separator → (ts : Trees) (rest : List ℕ)
-    → prefix_len is_mark_byte (others_text separator ts ++ rest) ≡ 0
-others-end between separator s no_trees rest = refl
-others-end between separator s (more_trees t ts) rest =
+others-end : (between : Expected) (separator : List ℕ) → Separates between separator → (ending : Punct) (ts : Trees)
+    (rest : List ℕ) → prefix_len is_mark_byte (others_text separator ending ts ++ rest) ≡ 0
+others-end between separator s ending no_trees rest = punct-end ending rest
+others-end between separator s ending (more_trees t ts) rest =
     subst (λ l. prefix_len is_mark_byte l ≡ 0)
-    (sym (append_assoc separator (tree_text t ++ others_text separator ts) rest))
-    (s.ends ((tree_text t ++ others_text separator ts) ++ rest))
+    (sym (append_assoc separator (tree_text t ++ others_text separator ending ts) rest))
+    (s.ends ((tree_text t ++ others_text separator ending ts) ++ rest))
 
 -- a word that may be missing has letters and digits alone, and at most 64 of them
 part-bytes : (w : List ℕ) → (w ≢ [] → IsName w) → AreWordBytes w × IsShort w
@@ -222,6 +250,48 @@ wildcard-spells w h =
       kind_behind_one = h.kind_behind_one;
     } in
     (is, name.1, kind.1)
+
+-- a plus sign, where there is one
+pub lexes-plus : (more : Bool) (rest : List ℕ) (place : Place) → prefix_len is_sign_byte rest ≡ 0
+    → Lexes (plus_text more ++ rest) place (spell_plus more) rest
+lexes-plus true rest place ends = lexes-sign (codes "+") rest place (Said (Sign (codes "+")))
+    (record { is_sign = record { some = λ e. absurd cc; bytes = refl }; no_arrow = λ e. absurd cc }) ends refl
+lexes-plus false rest place ends = record { ts = []; after = place; match = tt; are = refl }
+
+-- the number in braces ends there
+count-end : (more : Bool) (rest : List ℕ) → prefix_len is_mark_byte (plus_text more ++ (125 ∷ rest)) ≡ 0
+count-end true rest = refl
+count-end false rest = refl
+
+-- a count in braces, which then stands at its place
+record LexesCount (bytes rest : List ℕ) (place : Place) (count : Spot) (more : Bool) : Type 0 where
+  here : Spot
+  same : here.text ≡ count.text
+  lexes : Lexes bytes place (spell_count here more) rest
+
+lexes-count : (count : Spot) (more : Bool) (rest : List ℕ) (place : Place) → IsName count.text
+    → LexesCount (count_text count more ++ rest) rest place count more
+lexes-count count more rest place h =
+    let third = 125 ∷ rest in
+    let second = plus_text more ++ third in
+    let first = count.text ++ second in
+    let opening = Said (Punctuation OpenBrace) in
+    let ending = Said (Punctuation CloseBrace) in
+    let o = lexes-punct OpenBrace first place opening refl in
+    let here : Spot = record { text = count.text; place = o.after } in
+    let n = lexes-word count.text second o.after (spelled_word here) h (count-end more rest) (refl, refl) in
+    let p = lexes-plus more third n.after refl in
+    let c = lexes-punct CloseBrace rest p.after ending refl in
+    let parts : count_text count more ++ rest ≡ 123 ∷ first = simp append_assoc in
+    record {
+      here = here;
+      same = refl;
+      lexes = subst (λ l. Lexes l place (spell_count here more) rest) (sym parts)
+          (lexes-then (123 ∷ first) first rest place (opening ∷ [])
+          (spelled_word here ∷ (spell_plus more ++ ending ∷ [])) o
+          (lexes-then first second rest o.after (spelled_word here ∷ []) (spell_plus more ++ ending ∷ []) n
+          (lexes-then second third rest n.after (spell_plus more) (ending ∷ []) p c)));
+    }
 
 symbol-fits : (room : ℕ) (w : Spot) → Fits room (Symbol w)
 symbol-fits zero w = tt
@@ -287,6 +357,7 @@ HasNoDefault-unplaced t u e h = without t (subst HasNoDefault (sym e) (with_plac
     with_places (Apply f args) h = tt
     with_places (InfixOf opened sign operands) h = tt
     with_places (Wild w) h = tt
+    with_places (Counted w count more) h = tt
     with_places (Optional w others default) h = absurd h
     with_places (Variable w) h = tt
 
@@ -295,6 +366,7 @@ HasNoDefault-unplaced t u e h = without t (subst HasNoDefault (sym e) (with_plac
     without (Apply f args) h = tt
     without (InfixOf opened sign operands) h = tt
     without (Wild w) h = tt
+    without (Counted w count more) h = tt
     without (Optional w others default) h = absurd h
     without (Variable w) h = tt
 
@@ -316,6 +388,24 @@ mutual
         lexes = lexes-wildcard (wildcard_text w) w.name w.marks w.kind rest place (spelled_wildcard here)
             (wildcard-spells w h) ends (refl, refl);
       }
+  lexes-tree (Counted w count more) room rest place h fits ends =
+      let f = fits-counted room w count more fits in
+      let here = placed_wildcard w place in
+      let behind = count_text count more ++ rest in
+      let r = lexes-wildcard (wildcard_text w) w.name w.marks w.kind behind place (spelled_wildcard here)
+      (wildcard-spells w h.0) refl (refl, refl) in
+      let c = lexes-count count more rest r.after h.1 in
+      record {
+        tree = Counted here c.here more;
+        same = λ i. Counted (unplaced_wildcard w) (record { text = c.same i; place = first_place }) more;
+        fits = counted-fits room here c.here more
+            (record { one_mark = f.0.one_mark; no_kind = f.0.no_kind })
+            (subst (λ l. list_all is_ascii_digit l ≡ true) (sym c.same) f.1);
+        lexes = subst (λ l. Lexes l place (spell (Counted here c.here more)) rest)
+            (sym (append_assoc (wildcard_text w) (count_text count more) rest))
+            (lexes-then (wildcard_text w ++ behind) behind rest place (spelled_wildcard here ∷ [])
+            (spell_count c.here more) r c.lexes);
+      }
   lexes-tree (Optional w others default) room rest place h fits ends =
       let f = fits-optional room w others default fits in
       let behind = tree_text default ++ rest in
@@ -332,26 +422,26 @@ mutual
       }
   lexes-tree (Apply f args) zero rest place h fits ends = absurd fits
   lexes-tree (Apply f args) (suc room) rest place h fits ends =
-      let behind = first_text (codes ", ") args ++ rest in
+      let behind = first_text (codes ", ") Close args ++ rest in
       let name : Spot = record { text = f.text; place = place } in
       let opening = Said (Punctuation Open) in
       let r = lexes-word f.text (40 ∷ behind) place (spelled_word name) h.0 refl (refl, refl) in
       let s = lexes-punct Open behind r.after opening refl in
-      let a = lexes-first args comma (codes ", ") separates-comma room rest s.after h.1 fits in
+      let a = lexes-first args comma (codes ", ") separates-comma Close room rest s.after h.1 fits in
       let whole = lexes-then (f.text ++ (40 ∷ behind)) (40 ∷ behind) rest place (spelled_word name ∷ [])
-      (opening ∷ spell_first comma a.all) r
-      (lexes-then (40 ∷ behind) behind rest r.after (opening ∷ []) (spell_first comma a.all) s a.lexes) in
+      (opening ∷ spell_first comma Close a.all) r
+      (lexes-then (40 ∷ behind) behind rest r.after (opening ∷ []) (spell_first comma Close a.all) s a.lexes) in
       record {
         tree = Apply name a.all;
         same = ap (Apply (unplaced_spot f)) a.same;
         fits = a.fits;
         lexes = subst (λ l. Lexes l place (spell (Apply name a.all)) rest)
-            (sym (append_assoc f.text (codes "(" ++ first_text (codes ", ") args) rest)) whole;
+            (sym (append_assoc f.text (codes "(" ++ first_text (codes ", ") Close args) rest)) whole;
       }
   lexes-tree (InfixOf opened sign operands) zero rest place h fits ends = absurd fits
   lexes-tree (InfixOf opened sign operands) (suc room) rest place h fits ends =
       let separator = codes " " ++ (sign.text ++ codes " ") in
-      let behind = first_text separator operands ++ rest in
+      let behind = first_text separator Close operands ++ rest in
       let opening = Stands (Punctuation Open) place in
       let r = lexes-punct Open behind place opening (refl, refl) in
       let a = lexes-operands operands sign room rest r.after h.0 h.1 fits.0 fits.1 in
@@ -372,57 +462,71 @@ mutual
             (lexes-word w.text rest r.after (fixed_word w.text) h ends refl);
       }
 
-  lexes-first : (ts : Trees) (between : Expected) (separator : List ℕ) → Separates between separator
-      → (room : ℕ) (rest : List ℕ) (place : Place) → HaveNames ts → AreFit room ts
-      → LexesTrees (spell_first between) room (first_text separator ts ++ rest) rest place ts
-  lexes-first no_trees between separator s room rest place h fits =
-      record { all = no_trees; same = refl; fits = tt; lexes = lexes-punct Close rest place closing refl }
-  lexes-first (more_trees t ts) between separator s room rest place h fits =
-      let behind = others_text separator ts ++ rest in
-      let r = lexes-tree t room behind place h.0 fits.0 (others-end between separator s ts rest) in
-      let a = lexes-others ts between separator s room rest r.lexes.after h.1 fits.1 in
+  pub lexes-first : (ts : Trees) (between : Expected) (separator : List ℕ) → Separates between separator
+      → (ending : Punct) (room : ℕ) (rest : List ℕ) (place : Place) → HaveNames ts → AreFit room ts
+      → LexesTrees (spell_first between ending) room (first_text separator ending ts ++ rest) rest place ts
+  lexes-first no_trees between separator s ending room rest place h fits =
+      record {
+        all =
+            no_trees;
+        same = refl;
+        fits = tt;
+        lexes = lexes-punct ending rest place (Said (Punctuation ending)) refl;
+      }
+  lexes-first (more_trees t ts) between separator s ending room rest place h fits =
+      let behind = others_text separator ending ts ++ rest in
+      let r = lexes-tree t room behind place h.0 fits.0 (others-end between separator s ending ts rest) in
+      let a = lexes-others ts between separator s ending room rest r.lexes.after h.1 fits.1 in
       record {
         all = more_trees r.tree a.all;
         same = λ i. more_trees (r.same i) (a.same i);
         fits = (r.fits, a.fits);
-        lexes = subst (λ l. Lexes l place (spell r.tree ++ spell_others between a.all) rest)
-            (sym (append_assoc (tree_text t) (others_text separator ts) rest))
+        lexes = subst (λ l. Lexes l place (spell r.tree ++ spell_others between ending a.all) rest)
+            (sym (append_assoc (tree_text t) (others_text separator ending ts) rest))
             (lexes-then (tree_text t ++ behind) behind rest place (spell r.tree)
-            (spell_others between a.all) r.lexes a.lexes);
+            (spell_others between ending a.all) r.lexes a.lexes);
       }
 
   lexes-others : (ts : Trees) (between : Expected) (separator : List ℕ) → Separates between separator
-      → (room : ℕ) (rest : List ℕ) (place : Place) → HaveNames ts → AreFit room ts
-      → LexesTrees (spell_others between) room (others_text separator ts ++ rest) rest place ts
-  lexes-others no_trees between separator s room rest place h fits =
-      record { all = no_trees; same = refl; fits = tt; lexes = lexes-punct Close rest place closing refl }
-  lexes-others (more_trees t ts) between separator s room rest place h fits =
-      let behind = others_text separator ts ++ rest in
+      → (ending : Punct) (room : ℕ) (rest : List ℕ) (place : Place) → HaveNames ts → AreFit room ts
+      → LexesTrees (spell_others between ending) room (others_text separator ending ts ++ rest) rest place ts
+  lexes-others no_trees between separator s ending room rest place h fits =
+      record {
+        all =
+            no_trees;
+        same = refl;
+        fits = tt;
+        lexes = lexes-punct ending rest place (Said (Punctuation ending)) refl;
+      }
+  lexes-others (more_trees t ts) between separator s ending room rest place h fits =
+      let behind = others_text separator ending ts ++ rest in
       let q = s.lexes (tree_text t ++ behind) place in
-      let r = lexes-tree t room behind q.after h.0 fits.0 (others-end between separator s ts rest) in
-      let a = lexes-others ts between separator s room rest r.lexes.after h.1 fits.1 in
-      let parts : separator ++ (tree_text t ++ others_text separator ts) ++ rest
-      ≡ separator ++ (tree_text t ++ behind) = append_assoc separator (tree_text t ++ others_text separator ts) rest
-      ∙ ap (λ l. separator ++ l) (append_assoc (tree_text t) (others_text separator ts) rest) in
+      let r = lexes-tree t room behind q.after h.0 fits.0 (others-end between separator s ending ts rest) in
+      let a = lexes-others ts between separator s ending room rest r.lexes.after h.1 fits.1 in
+      let parts : separator ++ (tree_text t ++ others_text separator ending ts) ++ rest
+      ≡ separator ++ (tree_text t ++ behind) =
+      append_assoc separator (tree_text t ++ others_text separator ending ts) rest
+      ∙ ap (λ l. separator ++ l) (append_assoc (tree_text t) (others_text separator ending ts) rest) in
       record {
         all = more_trees r.tree a.all;
         same = λ i. more_trees (r.same i) (a.same i);
         fits = (r.fits, a.fits);
-        lexes = subst (λ l. Lexes l place (between ∷ spell r.tree ++ spell_others between a.all) rest) (sym parts)
+        lexes = subst (λ l. Lexes l place (between ∷ spell r.tree ++ spell_others between ending a.all) rest)
+            (sym parts)
             (lexes-then (separator ++ (tree_text t ++ behind)) (tree_text t ++ behind) rest place (between ∷ [])
-            (spell r.tree ++ spell_others between a.all) q
+            (spell r.tree ++ spell_others between ending a.all) q
             (lexes-then (tree_text t ++ behind) behind rest q.after (spell r.tree)
-            (spell_others between a.all) r.lexes a.lexes));
+            (spell_others between ending a.all) r.lexes a.lexes));
       }
 
   lexes-operands : (ts : Trees) (sign : Spot) (room : ℕ) (rest : List ℕ) (place : Place) → IsInfixSign sign.text
       → HaveNames ts → AreSeveral ts → AreFit room ts
-      → LexesOperands sign room (first_text (codes " " ++ (sign.text ++ codes " ")) ts ++ rest) rest place ts
+      → LexesOperands sign room (first_text (codes " " ++ (sign.text ++ codes " ")) Close ts ++ rest) rest place ts
   lexes-operands no_trees sign room rest place h names several fits = absurd several
   lexes-operands (more_trees t no_trees) sign room rest place h names several fits = absurd several
   lexes-operands (more_trees t (more_trees u us)) sign room rest place h names several fits =
       let separator = codes " " ++ (sign.text ++ codes " ") in
-      let last = others_text separator us ++ rest in
+      let last = others_text separator Close us ++ rest in
       let third = tree_text u ++ last in
       let second = sign.text ++ (32 ∷ third) in
       let first = tree_text t ++ (32 ∷ second) in
@@ -433,10 +537,11 @@ mutual
       let c = lexes-blank third s.after in
       let between = another here in
       let x = lexes-tree u room last c.after names.1.0 fits.1.0
-      (others-end between separator (separates-sign here h) us rest) in
-      let a = lexes-others us between separator (separates-sign here h) room rest x.lexes.after names.1.1 fits.1.1 in
-      let others = spell x.tree ++ spell_others between a.all in
-      let parts : (tree_text t ++ (separator ++ (tree_text u ++ others_text separator us))) ++ rest ≡ first =
+      (others-end between separator (separates-sign here h) Close us rest) in
+      let a = lexes-others us between separator
+      (separates-sign here h) Close room rest x.lexes.after names.1.1 fits.1.1 in
+      let others = spell x.tree ++ spell_others between Close a.all in
+      let parts : (tree_text t ++ (separator ++ (tree_text u ++ others_text separator Close us))) ++ rest ≡ first =
       simp append_assoc in
       record {
         all = more_trees r.tree (more_trees x.tree a.all);
@@ -450,7 +555,7 @@ mutual
             (lexes-then (32 ∷ second) second rest r.lexes.after [] (spelled_sign here ∷ others) b
             (lexes-then second (32 ∷ third) rest b.after (spelled_sign here ∷ []) others s
             (lexes-then (32 ∷ third) third rest s.after [] others c
-            (lexes-then third last rest c.after (spell x.tree) (spell_others between a.all) x.lexes a.lexes)))));
+            (lexes-then third last rest c.after (spell x.tree) (spell_others between Close a.all) x.lexes a.lexes)))));
       }
 
 -- ---- words between blanks

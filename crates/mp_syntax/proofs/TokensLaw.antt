@@ -1,7 +1,7 @@
 -- The lexer's tokens are those of the relation.
 use Rattle.std.proofs.Common.{◌≡◌, ℕ, zero, suc, ◌+◌, ◌<◌, Bool, true, false, cond, List, [], ◌∷◌, ◌++◌, length, take}
-use Rattle.std.proofs.Common.{drop, refl, sym, ap, subst, ◌∙◌, arith, append-nil, take-append-drop, length-take-le, inl}
-use Rattle.std.proofs.Common.{inr}
+use Rattle.std.proofs.Common.{drop, refl, sym, ap, subst, ◌∙◌, arith, append-nil, take-append-drop, length-take-le}
+use Rattle.std.proofs.Common.{inl, inr}
 use Rattle.std.specs.Prelude.{◌⊎◌, ◌||◌, ◌==◌}
 use Rattle.std.specs.List.{list_all}
 use Rattle.std.proofs.lemmas.Bool.{eqb-true, eq-eqb, and_parts}
@@ -200,7 +200,7 @@ abbrev pub end_at : Place → Placed
 end_at p = record { token = End; place = p }
 
 -- the first token of the relation is the lexer's
-first-is : (bytes rest : List ℕ) (place : Place) (t : Placed) (f : First bytes place t rest)
+pub first-is : (bytes rest : List ℕ) (place : Place) (t : Placed) (f : First bytes place t rest)
     → token_at bytes place ≡ (t, (rest, place_after f.text t.place))
 first-is bytes rest place t f =
     let some = spells-some f.text t.token f.spelled in
@@ -222,8 +222,14 @@ first-is bytes rest place t f =
     ∙ ap (λ (x : List ℕ × Place). (t, x)) (λ i.
     (drop_at f.text rest (length f.text) refl i, sym (plain-line f.text t.place plain) i))
 
+-- the place behind two pieces
+place_after-append : (a b : List ℕ) (place : Place) → place_after (a ++ b) place ≡ place_after b (place_after a place)
+place_after-append [] b place = refl
+place_after-append (c ∷ a) b place = place_after-append a b (after_byte place c)
+
+-- tokens that the bytes are are the lexer's, and the end stands behind all bytes
 pub tokens-lexemes : (ts : List Placed) (bytes : List ℕ) (place : Place) → Tokens bytes place ts
-    → (p : Place) × (lexemes bytes place ≡ ts ++ end_at p ∷ [])
+    → (p : Place) × (lexemes bytes place ≡ ts ++ end_at p ∷ []) × (p ≡ place_after bytes place)
 tokens-lexemes [] bytes place h =
     let p = place_after bytes place in
     let start : after_blanks false bytes place ≡ ([], p) = ap (λ l. after_blanks false l place) (sym (append-nil bytes))
@@ -232,6 +238,7 @@ tokens-lexemes [] bytes place h =
       lexemes-step bytes place ∙ ap (λ (x : List ℕ × Place). let k = kind_at x.0 in
           let t : Placed = record { token = k.0; place = x.1 } in
           t ∷ behind k.0 (lexemes (drop k.1 x.0) (record { line = x.1.line; column = x.1.column + k.1 }))) start,
+      refl,
     )
   where
     nothing : (i : Bool) (p : Place) → after_blanks i [] p ≡ ([], p)
@@ -242,6 +249,11 @@ tokens-lexemes (t ∷ ts) bytes place h =
       ih.0,
       lexemes-next bytes place t h.0 (place_after f.text t.place) (first-is bytes h.0 place t f)
           ∙ ap (λ l. t ∷ l) (behind-token t.token _ (spells-token f.text t.token f.spelled) ∙ ih.1),
+      ih.2
+          ∙ ap (λ p. place_after h.0 (place_after f.text p)) f.stands
+          ∙ sym (place_after-append f.text h.0 (place_after f.gap place))
+          ∙ sym (place_after-append f.gap (f.text ++ h.0) place)
+          ∙ ap (λ l. place_after l place) (sym f.parts),
     )
 
 abbrev pub some_tokens : Placed → List Placed → List Placed

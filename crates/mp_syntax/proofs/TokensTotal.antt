@@ -5,15 +5,15 @@ use Rattle.std.specs.Prelude.{◌⊎◌, ◌&&◌, ◌==◌, codes}
 use Rattle.std.specs.Str.{bytes_eq}
 use Rattle.mp_syntax.specs.declared.limits.TheConstants.{MAX_WORD_BYTES}
 use Rattle.mp_syntax.specs.declared.place.Place.{Place}
-use Rattle.mp_syntax.specs.Tokens.{Token, Word, Wildcard, Sign, Arrow, Long, Bad, End, Placed, is_blank, Spells, Passes}
-use Rattle.mp_syntax.specs.Tokens.{after_byte, Tokens, BeginsNoToken, TokensUntil, StopsEarly}
+use Rattle.mp_syntax.specs.Tokens.{Token, Word, Wildcard, Sign, Arrow, Long, Bad, End, Placed, is_blank, Spells}
+use Rattle.mp_syntax.specs.Tokens.{Passes, after_byte, Tokens, BeginsNoToken, TokensUntil, StopsEarly}
 use Rattle.mp_syntax.specs.Lexing.{token_at, behind, lexemes, after_blanks, run_at, kind_at, settled}
 use Rattle.mp_syntax.specs.Machine.{is_end}
 use Rattle.mp_syntax.proofs.Fuel.{lexemes-step, shrinks}
 use Rattle.mp_syntax.proofs.Longest.{IsRun, IsToken, takes, run_at-within, run-some}
 use Rattle.mp_syntax.proofs.Spelling.{spells-settles}
-use Rattle.mp_syntax.proofs.TokensLaw.{Starts, blanks-passed, end_at, head-is, tail-is, tokens-lexemes, lexemes-tokens}
-use Rattle.mp_syntax.proofs.TokensLaw.{is-first}
+use Rattle.mp_syntax.proofs.TokensLaw.{Starts, blanks-passed, end_at, head-is, tail-is, tokens-lexemes}
+use Rattle.mp_syntax.proofs.TokensLaw.{lexemes-tokens, is-first}
 
 -- ---- one list
 
@@ -97,7 +97,7 @@ pub data Sort (t : Token) : Type 0 where
   a_bad_byte : t ≡ Bad → Sort t
   the_end : t ≡ End → Sort t
 
-sort_of : (t : Token) → Sort t
+pub sort_of : (t : Token) → Sort t
 sort_of Bad = a_bad_byte refl
 sort_of End = the_end refl
 sort_of _ = a_token tt
@@ -124,7 +124,7 @@ begins-some : (rest : List ℕ) → (kind_at rest).0 ≡ Bad → 0 < length rest
 begins-some [] e = absurd (no-empty e)
 begins-some (b ∷ bytes) e = omega arith
 
-stops-at : (bytes : List ℕ) (place : Place) → (token_at bytes place).0.token ≡ Bad
+pub stops-at : (bytes : List ℕ) (place : Place) → (token_at bytes place).0.token ≡ Bad
     → TokensUntil bytes place [] (token_at bytes place).0.place
 stops-at bytes place e =
     let r = blanks-passed bytes false place in
@@ -137,7 +137,7 @@ stops-at bytes place e =
       r.stands,
     )
 
-ends-at : (bytes : List ℕ) (place : Place) → (token_at bytes place).0.token ≡ End → Tokens bytes place []
+pub ends-at : (bytes : List ℕ) (place : Place) → (token_at bytes place).0.token ≡ End → Tokens bytes place []
 ends-at bytes place e =
     let next = token_at bytes place in
     lexemes-tokens [] bytes place next.0.place tt

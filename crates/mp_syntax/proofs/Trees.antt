@@ -13,9 +13,9 @@ use Rattle.mp_syntax.specs.declared.tree.Expr as code
 use Rattle.mp_syntax.specs.declared.tree.Expr.{Expr, Apply', Infix, Infix', Row_of-Expr, end_of-Expr, more_of-Expr}
 use Rattle.mp_syntax.specs.declared.tree.Expr.{items-the_row-Expr, items_hidden-the_row-Expr-0}
 use Rattle.mp_syntax.specs.Syntax as syntax
-use Rattle.mp_syntax.specs.Syntax.{Spot, Wildcard, Tree, Symbol, Apply, InfixOf, Wild, Optional, Variable, Trees, trees}
-use Rattle.mp_syntax.specs.Syntax.{tree_list, no_trees, more_trees, IsDot, AreDots, HasNoDefault, Fits, spell}
-use Rattle.mp_syntax.specs.Syntax.{spell_with_colon, Atom, AtomOf, FitsAtom, FitsLiteral}
+use Rattle.mp_syntax.specs.Syntax.{Spot, Wildcard, Tree, Symbol, Apply, InfixOf, Wild, Counted, Optional, Variable}
+use Rattle.mp_syntax.specs.Syntax.{Trees, trees, IsNumber, tree_list, no_trees, more_trees, IsDot, AreDots}
+use Rattle.mp_syntax.specs.Syntax.{HasNoDefault, Fits, spell, spell_with_colon, Atom, AtomOf, FitsAtom, FitsLiteral}
 use Rattle.mp_syntax.specs.Machine.{is_dot, with_default}
 use Rattle.mp_syntax.specs.View.{spot_of, spot_of_sign, expr_tree, row_trees}
 
@@ -68,6 +68,17 @@ pub wild-fits : (room : ℕ) (w : Wildcard) → Fits room (Wild w)
 wild-fits zero w = tt
 wild-fits (suc room) w = tt
 
+-- a wildcard with a count fits where it has one underscore and no kind and the count is a number
+pub counted-fits : (room : ℕ) (w : Wildcard) (count : Spot) (more : Bool) → IsDot w → IsNumber count
+    → Fits room (Counted w count more)
+counted-fits zero w count more h k = (h, k)
+counted-fits (suc room) w count more h k = (h, k)
+
+pub fits-counted : (room : ℕ) (w : Wildcard) (count : Spot) (more : Bool) → Fits room (Counted w count more)
+    → IsDot w × IsNumber count
+fits-counted zero w count more h = h
+fits-counted (suc room) w count more h = h
+
 -- a variable fits
 pub variable-fits : (room : ℕ) (w : Spot) → Fits room (Variable w)
 variable-fits zero w = tt
@@ -91,6 +102,7 @@ with_default-fits room w (Apply f args) h fits = optional-fits room w [] (Apply 
 with_default-fits room w (InfixOf place sign operands) h fits =
     optional-fits room w [] (InfixOf place sign operands) (h, tt) tt fits
 with_default-fits room w (Wild v) h fits = optional-fits room w [] (Wild v) (h, tt) tt fits
+with_default-fits room w (Counted v count more) h fits = optional-fits room w [] (Counted v count more) (h, tt) tt fits
 with_default-fits room w (Optional v others default) h fits =
     let r = fits-optional room v others default fits in
     optional-fits room w (v ∷ others) default (h, r.0) r.1 r.2

@@ -16,11 +16,11 @@ use Rattle.mp_syntax.specs.Tokens.{Token, Placed}
 use Rattle.mp_syntax.specs.Syntax.{Spot, Tree, Amount, Measured, Bracketed, Literal, Literals, literals, condition}
 use Rattle.mp_syntax.specs.Syntax.{Statement}
 use Rattle.mp_syntax.specs.View.{expr_tree, amount_tree, atom_tree, literal_tree, alternative_tree, condition_tree}
-use Rattle.mp_syntax.specs.Machine.{State, OfRule, heading, Within, InStatement, InCondition, Frame, Operand, Level}
-use Rattle.mp_syntax.specs.Machine.{no_level, all_alternatives, Site, site, Side, Lead, OfMeasure, OfRelation}
-use Rattle.mp_syntax.specs.Machine.{OfProperty, with_atom, with_amount, BeforeLiteral, BeforeBody, BeforeOperand}
-use Rattle.mp_syntax.specs.Machine.{AfterAmount, AfterSense, AfterLiteral, AfterExpr, SingleCondition, Parsed, parsed}
-use Rattle.mp_syntax.specs.Machine.{is_word, on_word, step, step_amount, run}
+use Rattle.mp_syntax.specs.Machine.{State, Within, InCondition, Frame, Operand, Level, no_level, all_alternatives}
+use Rattle.mp_syntax.specs.Machine.{Site, site, Side, Lead, OfMeasure, OfRelation, OfProperty, with_atom, with_amount}
+use Rattle.mp_syntax.specs.Machine.{BeforeLiteral, BeforeBody, BeforeOperand, AfterAmount, AfterSense, AfterLiteral}
+use Rattle.mp_syntax.specs.Machine.{AfterExpr, SingleCondition, Parsed, parsed, is_word, on_word, step, step_amount}
+use Rattle.mp_syntax.specs.Machine.{step_rule, run}
 use Rattle.mp_syntax.specs.Parsing.{Fails, Passes, HasRoom, Gives}
 
 -- the token is no `and`
@@ -122,15 +122,19 @@ abbrev pub SenseGives : Result Sense SyntaxError → List Placed → List Placed
 SenseGives result old new = (done : List Statement) (x : Within) (k : List Frame) (s : Site) (a : Amount)
     → Passes (run done (AfterAmount x k s a)) (λ sense. run done (AfterSense x k s a sense)) result old new
 
--- `if` and the condition of a rule are passed, where `if` stands there, or the first fault is given
-abbrev pub IfGives : Result (Option code.Condition) SyntaxError → List Placed → List Placed → Type 0
-IfGives (Ok None) old new = old ≡ new
-IfGives (Ok (Some c)) old new = (v : Level) × (l : Literal) × (condition (all_alternatives v l) ≡ condition_tree c)
-    × ((done : List Statement) (name : Spot) (e : Tree)
-    → run done (AfterExpr (InStatement (heading OfRule name)) [] e) old
-    ≡ run done (AfterLiteral (InCondition name e) [] v l) new)
-IfGives (Err err) old new = (done : List Statement) (name : Spot) (e : Tree)
-    → Fails err (run done (AfterExpr (InStatement (heading OfRule name)) [] e) old)
+-- at the token t the state has what stands behind the pattern of a rule, or behind its template
+abbrev pub EndsRule : Placed → State → Spot → Tree → Option Tree → Type 0
+EndsRule t at name e template = step at t ≡ step_rule name e template t.token
+
+-- `if` and the condition of a rule are passed, where `if` is the token t that was held, or the first fault is given
+abbrev pub IfGives : Placed → Result (Option code.Condition) SyntaxError → List Placed → List Placed → Type 0
+IfGives t (Ok None) old new = old ≡ new
+IfGives t (Ok (Some c)) old new = (v : Level) × (l : Literal) × (condition (all_alternatives v l) ≡ condition_tree c)
+    × ((done : List Statement) (at : State) (name : Spot) (e : Tree) (template : Option Tree)
+    → EndsRule t at name e template
+    → run done at old ≡ run done (AfterLiteral (InCondition name e template) [] v l) new)
+IfGives t (Err err) old new = (done : List Statement) (at : State) (name : Spot) (e : Tree) (template : Option Tree)
+    → EndsRule t at name e template → Fails err (run done at old)
 
 -- the condition is the one that is read alone, or the fault is the one that is read
 abbrev pub ConditionAloneGives : Result code.Condition SyntaxError → Result Parsed Fault → Type 0

@@ -1,6 +1,6 @@
 -- What the lexer takes from the front of the bytes, as total functions.
-use Rattle.std.specs.Prelude.{ℕ, zero, suc, ◌+◌, Bool, true, false, List, [], ◌∷◌, length, take, drop, ◌==◌, ◌||◌, ◌&&◌}
-use Rattle.std.specs.Prelude.{nat_le, if◌then◌else◌, codes}
+use Rattle.std.specs.Prelude.{ℕ, zero, suc, ◌+◌, Bool, true, false, List, [], ◌∷◌, length, take, drop, ◌==◌, ◌||◌}
+use Rattle.std.specs.Prelude.{◌&&◌, nat_le, if◌then◌else◌, codes}
 use Rattle.std.specs.List.{prefix_len}
 use Rattle.std.specs.Str.{bytes_eq}
 use Rattle.mp_syntax.specs.declared.limits.TheConstants.{MAX_WORD_BYTES}

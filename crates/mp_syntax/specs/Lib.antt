@@ -1,5 +1,7 @@
 pub mod Tokens
 pub mod Syntax
+pub mod Begins
+pub mod FirstFault
 pub mod Printed
 pub mod View
 pub mod Lexing

@@ -13,7 +13,7 @@ use Rattle.mp_syntax.specs.declared.fault.FaultKind.{FaultKind}
 use Rattle.mp_syntax.specs.declared.fault.FaultKind.TheVariants.{Syntax, TooDeep, BadByte, TooMany}
 use Rattle.mp_syntax.specs.declared.fault.Fault.{Fault}
 use Rattle.mp_syntax.specs.Tokens as tokens
-use Rattle.mp_syntax.specs.Tokens.{Token, Word, Sign, Punctuation, Long, Bad, End, Placed}
+use Rattle.mp_syntax.specs.Tokens.{Token, Word, Sign, Arrow, Punctuation, Long, Bad, End, Placed}
 use Rattle.mp_syntax.specs.declared.condition_tree.Measure.{Measure}
 use Rattle.mp_syntax.specs.declared.condition_tree.Measure.TheVariants.{Count, Size}
 use Rattle.mp_syntax.specs.declared.condition_tree.Sense.{Sense}
@@ -22,11 +22,13 @@ use Rattle.mp_syntax.specs.declared.condition_tree.Relation.{Relation}
 use Rattle.mp_syntax.specs.declared.condition_tree.Relation.TheVariants.{Same, Less, Free}
 use Rattle.mp_syntax.specs.declared.condition_tree.Property.{Property}
 use Rattle.mp_syntax.specs.declared.condition_tree.Property.TheVariants as properties
-use Rattle.mp_syntax.specs.Syntax.{Spot, Wildcard, Tree, Symbol, Apply, InfixOf, Wild, Optional, Variable, more_trees}
-use Rattle.mp_syntax.specs.Syntax.{trees, Amount, Number, Measured, Atom, Compare, Relate, Test, Literal, AtomOf}
-use Rattle.mp_syntax.specs.Syntax.{Bracketed, Literals, literals, Condition, condition, Flag, Assoc, Comm, One, Infixed}
-use Rattle.mp_syntax.specs.Syntax.{Statement, OpOf, KindOf, RuleOf, SubjectOf, measure_word, sense_sign, relation_word}
+use Rattle.mp_syntax.specs.Syntax.{Spot, Wildcard, Tree, Symbol, Apply, InfixOf, Wild, Counted, Optional, Variable}
+use Rattle.mp_syntax.specs.Syntax.{more_trees, trees, Position, Root, Path, Replacement, Change, Amount, Number}
+use Rattle.mp_syntax.specs.Syntax.{Measured, Atom, Compare, Relate, Test, Literal, AtomOf, Bracketed, Literals}
+use Rattle.mp_syntax.specs.Syntax.{literals, Condition, condition, Flag, Assoc, Comm, One, Infixed, Statement, OpOf}
+use Rattle.mp_syntax.specs.Syntax.{KindOf, RuleOf, SubjectOf, EditOf, measure_word, sense_sign, relation_word}
 use Rattle.mp_syntax.specs.Syntax.{property_word}
+use Rattle.mp_syntax.specs.Syntax as syntax
 
 -- ---- tests on tokens
 
@@ -49,6 +51,11 @@ same_punct _ _ = false
 abbrev pub is_punct : Punct → Token → Bool
 is_punct p (Punctuation q) = same_punct p q
 is_punct p _ = false
+
+-- the token is the arrow
+abbrev pub is_arrow : Token → Bool
+is_arrow Arrow = true
+is_arrow _ = false
 
 -- the token is the end
 abbrev pub is_end : Token → Bool
@@ -136,7 +143,7 @@ property_held _ = None
 
 -- ---- states
 
--- the statements that hold an expression
+-- the statements that hold an expression behind a name
 pub data Role : Type 0 where
   OfRule : Role
   OfSubject : Role
@@ -166,7 +173,7 @@ pub data Lead : Type 0 where
 -- one of an infix expression, before its first sign, or behind it with the sign, the first operand and the others so
 -- far; a wildcard whose default it is, which opens no bracket; an open bracket of an atom, with the site and the word
 -- of the atom, or before the second operand of a relation also with the first one; or an open square bracket, with its
--- site
+-- site; or that of a list of an edit, with its expressions so far
 pub data Frame : Type 0 where
   Arguments : Spot → List Tree → Frame
   Bracket : Place → Frame
@@ -175,6 +182,7 @@ pub data Frame : Type 0 where
   Operand : Site → Lead → Frame
   Second : Site → Relation → Tree → Frame
   Square : Site → Frame
+  Listing : List Tree → Frame
 
 -- an operation: its name, its number, whether it takes more arguments, and its flags so far
 pub record Declared : Type 0 where
@@ -192,13 +200,22 @@ pub record Heading : Type 0 where
 abbrev pub heading : Role → Spot → Heading
 heading role name = record { role = role; name = name }
 
+-- an edit: the name of its subject, and its changes so far
+pub record Edited : Type 0 where
+  pub subject : Spot
+  pub changes : List Change
+
 -- what an expression or a condition is in: an expression of a statement, an expression that is the whole text, the
--- condition of a rule with its name and pattern, or a condition that is the whole text
+-- template of a rule with its name and pattern, the condition of a rule with these and perhaps its template, a
+-- condition
+-- that is the whole text, or a change of an edit behind its position
 pub data Within : Type 0 where
   InStatement : Heading → Within
   Alone : Within
-  InCondition : Spot → Tree → Within
+  InTemplate : Spot → Tree → Within
+  InCondition : Spot → Tree → Option Tree → Within
   ConditionAlone : Within
+  InChange : Edited → Position → Within
 
 -- what is read of a statement, or of an expression or a condition alone; the innermost of what an expression or a
 -- condition stands in comes first
@@ -221,6 +238,9 @@ pub data State : Type 0 where
   AfterWildcard : Within → List Frame → Wildcard → State
   AfterExpr : Within → List Frame → Tree → State
   AfterDollar : Within → List Frame → Place → State
+  AfterBrace : Within → List Frame → Wildcard → State
+  AfterCount : Within → List Frame → Wildcard → Spot → State
+  BeforeBrace : Within → List Frame → Wildcard → Spot → Bool → State
   BeforeLiteral : Within → List Frame → Level → State
   BeforeBody : Within → List Frame → Site → State
   BeforeOperand : Within → List Frame → Site → Lead → State
@@ -229,6 +249,14 @@ pub data State : Type 0 where
   AfterAmount : Within → List Frame → Site → Amount → State
   AfterSense : Within → List Frame → Site → Amount → Sense → State
   AfterLiteral : Within → List Frame → Level → Literal → State
+  AfterEdit : State
+  AfterSubject : Spot → State
+  BeforeChange : Edited → State
+  AfterPosition : Edited → Position → State
+  BeforeIndex : Edited → Spot → List Spot → State
+  AfterArrow : Edited → Position → State
+  AfterSquare : Edited → Position → State
+  AfterChange : Edited → Change → State
 
 -- an expression or a condition that is the whole text
 pub data Single : Type 0 where
@@ -269,6 +297,10 @@ abbrev pub on_text : Placed → (Spot → Step) → Option (List ℕ) → Step
 on_text t next (Some w) = next (spot w t.place)
 on_text t next None = refuse t.token
 
+-- only the arrow leads on
+abbrev pub on_arrow : Token → Step → Step
+on_arrow t next = if is_arrow t then next else refuse t
+
 -- only a word leads on
 abbrev pub on_word : Placed → (Spot → Step) → Step
 on_word t next = on_text t next (word_of t.token)
@@ -293,15 +325,20 @@ keyword w =
     else (if bytes_eq w (codes "kind") then Go AfterKind
     else (if bytes_eq w (codes "rule") then Go (AfterRole OfRule)
     else (if bytes_eq w (codes "subject") then Go (AfterRole OfSubject)
-    else Refuse Syntax)))
+    else (if bytes_eq w (codes "edit") then Go AfterEdit
+    else Refuse Syntax))))
 
 -- between statements
 abbrev pub step_top : Placed → Step
 step_top t = if is_end t.token then Finish else on_word t (λ w. keyword w.text)
 
--- a number
-abbrev pub step_number : Spot → Spot → Step
-step_number name w = if is_number w.text then Go (AfterLeast name w) else Refuse Syntax
+-- a word that is a number leads on
+abbrev pub step_number : (Spot → State) → Spot → Step
+step_number next w = if is_number w.text then Go (next w) else Refuse Syntax
+
+-- only a number leads on
+abbrev pub on_number : Placed → (Spot → State) → Step
+on_number t next = on_word t (λ w. step_number next w)
 
 -- an operation with these flags so far
 abbrev pub declared : Spot → Spot → Bool → List Flag → Declared
@@ -363,19 +400,48 @@ step_expr limit x k t None =
 abbrev pub no_level : Level
 no_level = record { alternatives = []; literals = [] }
 
+-- the token behind the pattern of a rule, or behind its template
+abbrev pub step_rule : Spot → Tree → Option Tree → Token → Step
+step_rule name e template t =
+    if is_punct Semicolon t then Emit (RuleOf name e template None)
+    else on_fixed (codes "if") t (Go (BeforeLiteral (InCondition name e template) [] no_level))
+
 -- the token behind the expression of a statement
 abbrev pub step_role : Role → Spot → Tree → Token → Step
-step_role OfRule name e t =
-    if is_punct Semicolon t then Emit (RuleOf name e None)
-    else on_fixed (codes "if") t (Go (BeforeLiteral (InCondition name e) [] no_level))
+step_role OfRule name e t = if is_arrow t then Go (BeforeExpr (InTemplate name e) []) else step_rule name e None t
 step_role OfSubject name e t = on_punct Semicolon t (Emit (SubjectOf name e))
+
+-- an edit with these changes so far
+abbrev pub edited : Spot → List Change → Edited
+edited subject changes = record { subject = subject; changes = changes }
+
+-- what stands at a position then
+abbrev pub change : Position → Replacement → Change
+change p r = record { position = p; terms = r }
+
+-- one change more
+abbrev pub with_change : Edited → Change → Edited
+with_change d c = edited d.subject (d.changes ++ c ∷ [])
+
+-- the token behind a change
+abbrev pub step_changes : Edited → Change → Token → Step
+step_changes d c t =
+    if is_punct Comma t then Go (BeforeChange (with_change d c))
+    else on_punct Semicolon t (Emit (EditOf d.subject (d.changes ++ c ∷ [])))
+
+-- the token behind the last expression of a list; a list stands only in a change, in no other bracket
+abbrev pub step_listed : Within → List Frame → List Tree → Token → Step
+step_listed (InChange d p) [] es t = on_punct CloseSquare t (Go (AfterChange d (change p (syntax.Listed (trees es)))))
+step_listed x k es t = refuse t
 
 -- the token behind an expression in no bracket; no expression stands in a place of a condition so
 abbrev pub step_end : Within → Tree → Placed → Step
 step_end (InStatement h) e t = step_role h.role h.name e t.token
 step_end Alone e t = if is_end t.token then Ends (SingleExpr e) else refuse t.token
-step_end (InCondition name pattern) e t = refuse t.token
+step_end (InTemplate name pattern) e t = step_rule name pattern (Some e) t.token
+step_end (InCondition name pattern template) e t = refuse t.token
 step_end ConditionAlone e t = refuse t.token
+step_end (InChange d p) e t = step_changes d (change p (syntax.Single e)) t.token
 
 -- the atom at its site is read
 abbrev pub with_atom : Within → List Frame → Site → Atom → State
@@ -406,6 +472,9 @@ step_behind x (Default w ∷ k) e t = step_behind x k (with_default w e) t
 step_behind x (Operand s lead ∷ k) e t = step_operand x k s lead e t.token
 step_behind x (Second s r d ∷ k) e t = on_punct Close t.token (Go (with_atom x k s (Relate r d e)))
 step_behind x (Square s ∷ k) e t = refuse t.token
+step_behind x (Listing es ∷ k) e t =
+    if is_punct Comma t.token then Go (BeforeExpr x (Listing (es ++ e ∷ []) ∷ k))
+    else step_listed x k (es ++ e ∷ []) t.token
 
 -- ---- steps over conditions
 
@@ -448,8 +517,11 @@ next_alternative v l = record { alternatives = all_alternatives v l; literals = 
 abbrev pub step_last : Within → Condition → Placed → Step
 step_last (InStatement h) c t = refuse t.token
 step_last Alone c t = refuse t.token
-step_last (InCondition name pattern) c t = on_punct Semicolon t.token (Emit (RuleOf name pattern (Some c)))
+step_last (InTemplate name pattern) c t = refuse t.token
+step_last (InCondition name pattern template) c t =
+    on_punct Semicolon t.token (Emit (RuleOf name pattern template (Some c)))
 step_last ConditionAlone c t = if is_end t.token then Ends (SingleCondition c) else refuse t.token
+step_last (InChange d p) c t = refuse t.token
 
 -- the token behind a condition; no condition stands directly in a bracket of an expression or an atom
 abbrev pub step_whole : Within → List Frame → Condition → Placed → Step
@@ -457,11 +529,30 @@ step_whole x [] c t = step_last x c t
 step_whole x (Square s ∷ k) c t = on_punct CloseSquare t.token (Go (AfterLiteral x k s.level (Bracketed s.negated c)))
 step_whole x (f ∷ k) c t = refuse t.token
 
+-- ---- steps over counts and edits
+
+-- the closing brace behind the count of a wildcard
+abbrev pub step_brace : Within → List Frame → Wildcard → Spot → Bool → Token → Step
+step_brace x k w count more t = on_punct CloseBrace t (Go (AfterExpr x k (Counted w count more)))
+
+-- the first token of a position
+abbrev pub step_position : Edited → Placed → Step
+step_position d t =
+    if is_punct Dot t.token then Go (AfterPosition d (Root t.place))
+    else on_number t (λ w. AfterPosition d (Path w []))
+
+-- the token behind a position that isn't the arrow: the dot before a further number
+abbrev pub step_further : Edited → Position → Token → Step
+step_further d (Root place) t = refuse t
+step_further d (Path first others) t = on_punct Dot t (Go (BeforeIndex d first others))
+
+-- ---- all steps
+
 -- what a token does, where at most limit brackets may stand open
 abbrev pub step_in : ℕ → State → Placed → Step
 step_in limit Top t = step_top t
 step_in limit AfterOp t = on_word t (λ w. Go (AfterOpName w))
-step_in limit (AfterOpName name) t = on_word t (λ w. step_number name w)
+step_in limit (AfterOpName name) t = on_number t (λ w. AfterLeast name w)
 step_in limit (AfterLeast name least) t =
     if is_sign (codes "+") t.token then Go (AfterFlags (declared name least true []))
     else step_flags (declared name least false []) t
@@ -482,7 +573,8 @@ step_in limit (AfterOpen x k w) t =
     else step_expr limit x (Arguments w [] ∷ k) t (word_of t.token)
 step_in limit (AfterWildcard x k w) t =
     if is_punct Colon t.token && is_dot w then Go (BeforeExpr x (Default w ∷ k))
-    else step_behind x k (Wild w) t
+    else (if is_punct OpenBrace t.token && is_dot w then Go (AfterBrace x k w)
+    else step_behind x k (Wild w) t)
 step_in limit (AfterExpr x k e) t = step_behind x k e t
 step_in limit (AfterDollar x k place) t = on_word t (λ w. Go (AfterExpr x k (Variable (spot w.text place))))
 step_in limit (BeforeLiteral x k v) t =
@@ -500,6 +592,23 @@ step_in limit (AfterLiteral x k v l) t =
     if is_word (codes "and") t.token then Go (BeforeLiteral x k (next_literal v l))
     else (if is_word (codes "or") t.token then Go (BeforeLiteral x k (next_alternative v l))
     else step_whole x k (condition (all_alternatives v l)) t)
+step_in limit (AfterBrace x k w) t = on_number t (λ count. AfterCount x k w count)
+step_in limit (AfterCount x k w count) t =
+    if is_sign (codes "+") t.token then Go (BeforeBrace x k w count true) else step_brace x k w count false t.token
+step_in limit (BeforeBrace x k w count more) t = step_brace x k w count more t.token
+step_in limit AfterEdit t = on_word t (λ w. Go (AfterSubject w))
+step_in limit (AfterSubject subject) t = on_punct Colon t.token (Go (BeforeChange (edited subject [])))
+step_in limit (BeforeChange d) t = step_position d t
+step_in limit (AfterPosition d p) t =
+    if is_arrow t.token then Go (AfterArrow d p) else step_further d p t.token
+step_in limit (BeforeIndex d first others) t = on_number t (λ w. AfterPosition d (Path first (others ++ w ∷ [])))
+step_in limit (AfterArrow d p) t =
+    if is_punct OpenSquare t.token then step_open limit [] (AfterSquare d p)
+    else step_expr limit (InChange d p) [] t (word_of t.token)
+step_in limit (AfterSquare d p) t =
+    if is_punct CloseSquare t.token then Go (AfterChange d (change p (syntax.Listed (trees []))))
+    else step_expr limit (InChange d p) (Listing [] ∷ []) t (word_of t.token)
+step_in limit (AfterChange d c) t = step_changes d c t.token
 
 -- what a token does, where at most 100 brackets may stand open
 abbrev pub step : State → Placed → Step

@@ -1,10 +1,12 @@
 -- What each function of the parser gives, as an equation between two runs of the machine.
-use Rattle.std.specs.Prelude.{◌≡◌, ℕ, ◌+◌, Bool, List, [], ◌∷◌, ◌++◌, map, Option, Some, None, Result, Ok, Err}
+use Rattle.std.specs.Prelude.{◌≡◌, ℕ, ◌+◌, Bool, true, false, List, [], ◌∷◌, ◌++◌, map, Option, Some, None, Result}
+use Rattle.std.specs.Prelude.{Ok, Err, ◌&&◌, if◌then◌else◌, codes}
 use Rattle.std.specs.Global.{Vec}
 use Rattle.mp_syntax.specs.declared.limits.TheConstants.{MAX_OPEN}
 use Rattle.mp_syntax.specs.declared.place.Place.{Place}
 use Rattle.mp_syntax.specs.declared.word.Word as code_word
 use Rattle.mp_syntax.specs.declared.token.Punct.{Punct}
+use Rattle.mp_syntax.specs.declared.token.Punct.TheVariants.{Comma, Colon}
 use Rattle.mp_syntax.specs.declared.fault.Fault.{Fault}
 use Rattle.mp_syntax.specs.declared.fault.FaultKind.TheVariants.{Syntax}
 use Rattle.mp_syntax.specs.declared.fault.SyntaxError.{SyntaxError}
@@ -17,17 +19,24 @@ use Rattle.mp_syntax.specs.declared.statement.Keyword.TheVariants as keywords
 use Rattle.mp_syntax.specs.declared.tree.Expr.{Expr}
 use Rattle.mp_syntax.specs.declared.tree.Flag as code_flag
 use Rattle.mp_syntax.specs.declared.tree.Wildcard as code_wildcard
+use Rattle.mp_syntax.specs.declared.tree.Position as code_position
+use Rattle.mp_syntax.specs.declared.tree.Replacement as code_replacement
+use Rattle.mp_syntax.specs.declared.tree.Change as code_change
 use Rattle.mp_syntax.specs.declared.tree.Statement as code
 use Rattle.mp_syntax.specs.Tokens.{Token, Placed}
 use Rattle.mp_syntax.specs.Lexing.{behind, lexemes, token_of}
-use Rattle.mp_syntax.specs.Syntax.{Spot, Wildcard, Tree, Apply, Wild, InfixOf, Assoc, Comm, One, OpOf, KindOf}
-use Rattle.mp_syntax.specs.Syntax.{Statement, trees}
-use Rattle.mp_syntax.specs.View.{placed, spot_of, wildcard_of, flag_of, expr_tree, statement_tree}
-use Rattle.mp_syntax.specs.Machine.{State, Top, AfterOp, AfterOpName, AfterLeast, AfterFlags, AfterInfix, AfterKind}
-use Rattle.mp_syntax.specs.Machine.{BeforeMember, AfterRole, BeforeExpr, AfterWord, AfterWildcard, AfterExpr}
-use Rattle.mp_syntax.specs.Machine.{AfterDollar, Step, Go, Refuse, Role, OfRule, OfSubject, heading, Within}
-use Rattle.mp_syntax.specs.Machine.{InStatement, SingleExpr, Parsed, parsed, Frame, Arguments, Operands, Default}
-use Rattle.mp_syntax.specs.Machine.{open_count, Declared, declared, with_flag, on_punct, on_text, step, after_step, run}
+use Rattle.mp_syntax.specs.Syntax as syntax
+use Rattle.mp_syntax.specs.Syntax.{Spot, Wildcard, Tree, InfixOf, Assoc, Comm, One, OpOf, KindOf, Position, Path}
+use Rattle.mp_syntax.specs.Syntax.{EditOf, Statement, trees}
+use Rattle.mp_syntax.specs.View.{placed, spot_of, wildcard_of, flag_of, expr_tree, position_of, replacement_tree}
+use Rattle.mp_syntax.specs.View.{change_tree, statement_tree}
+use Rattle.mp_syntax.specs.Machine.{State, Top, AfterOp, AfterFlags, AfterInfix, AfterKind, BeforeMember, AfterRole}
+use Rattle.mp_syntax.specs.Machine.{BeforeExpr, AfterWord, AfterWildcard, AfterExpr, AfterDollar, Step, Go, Refuse}
+use Rattle.mp_syntax.specs.Machine.{Role, OfRule, OfSubject, heading, Within, InStatement, InTemplate, SingleExpr}
+use Rattle.mp_syntax.specs.Machine.{Parsed, parsed, Frame, Operands, Default, open_count, Declared, declared}
+use Rattle.mp_syntax.specs.Machine.{with_flag, is_punct, is_sign, is_arrow, is_dot, on_punct, on_text, on_number}
+use Rattle.mp_syntax.specs.Machine.{on_arrow, step, after_step, run, Edited, edited, change, AfterEdit, BeforeChange}
+use Rattle.mp_syntax.specs.Machine.{AfterPosition, AfterArrow, AfterSquare, AfterChange}
 
 -- the tokens from the one held on
 abbrev pub ahead : Parser → List Placed
@@ -72,15 +81,33 @@ TextGives view text_of result old new = (done : List Statement) (at : State) (ne
     → WantsText text_of at next
     → Passes (run done at) (λ w. run done (next (view w))) result old new
 
--- the number of an operation is passed, or refused
-abbrev pub NumberGives : Result code_word.Word SyntaxError → List Placed → List Placed → Type 0
-NumberGives result old new = (done : List Statement) (name : Spot)
-    → Passes (run done (AfterOpName name)) (λ w. run done (AfterLeast name (spot_of w))) result old new
+-- at the token t the state has a number
+abbrev pub WantsNumber : Placed → State → (Spot → State) → Type 0
+WantsNumber t at next = step at t ≡ on_number t next
 
--- a plus behind the number is passed, where it stands there
+-- a number is passed, or the token t that was held is refused
+abbrev pub NumberGives : Placed → Result code_word.Word SyntaxError → List Placed → List Placed → Type 0
+NumberGives t result old new = (done : List Statement) (at : State) (next : Spot → State) → WantsNumber t at next
+    → Passes (run done at) (λ w. run done (next (spot_of w))) result old new
+
+-- the state may have a plus
+abbrev pub TakesPlus : State → (Bool → State) → Type 0
+TakesPlus at next = (t : Placed)
+    → step at t ≡ (if is_sign (codes "+") t.token then Go (next true) else step (next false) t)
+
+-- a plus is passed, where it stands there
 abbrev pub PlusGives : Bool → List Placed → List Placed → Type 0
-PlusGives more old new = (done : List Statement) (name least : Spot)
-    → run done (AfterLeast name least) old ≡ run done (AfterFlags (declared name least more [])) new
+PlusGives more old new = (done : List Statement) (at : State) (next : Bool → State) → TakesPlus at next
+    → run done at old ≡ run done (next more) new
+
+-- at the token t the state has the arrow
+abbrev pub WantsArrow : Placed → State → State → Type 0
+WantsArrow t at next = step at t ≡ on_arrow t.token (Go next)
+
+-- the arrow is passed, or the token t that was held is refused
+abbrev pub ArrowGives : Placed → Result (Unit {0}) SyntaxError → List Placed → List Placed → Type 0
+ArrowGives t result old new = (done : List Statement) (at next : State) → WantsArrow t at next
+    → Passes (run done at) (λ _. run done next) result old new
 
 -- the state behind the word of a flag
 abbrev pub behind_flag_word : Declared → FlagWord → State
@@ -116,9 +143,13 @@ MembersGive result old new = (done : List Statement) (name : Spot)
     → Passes (run done (BeforeMember name []))
     (λ ws. run (done ++ KindOf name (map spot_of ws.items) ∷ []) Top) result old new
 
--- room brackets more may stand open than these frames have open
+-- room brackets more may stand open than these frames have open, where at most limit may stand open
+abbrev pub HasRoomIn : ℕ → List Frame → ℕ → Type 0
+HasRoomIn limit k room = open_count k + room ≡ limit
+
+-- the same, where at most 100 may stand open
 abbrev pub HasRoom : List Frame → ℕ → Type 0
-HasRoom k room = open_count k + room ≡ MAX_OPEN
+HasRoom = HasRoomIn MAX_OPEN
 
 -- an expression is passed, with room brackets more to open, or the first fault is given
 abbrev pub ExprFrom : (Within → List Frame → State) → ℕ → Result Expr SyntaxError → List Placed → List Placed → Type 0
@@ -157,25 +188,38 @@ abbrev pub within_defaults : List Wildcard → List Frame → List Frame
 within_defaults [] k = k
 within_defaults (w ∷ ws) k = within_defaults ws (Default w ∷ k)
 
--- the state behind the colons of a chain: behind the wildcard that is the default, where there is one
-abbrev pub behind_chain : Within → List Frame → Option code_wildcard.Wildcard → State
-behind_chain x k (Some w) = AfterExpr x k (Wild (wildcard_of w))
-behind_chain x k None = BeforeExpr x k
+-- at this token the default of a wildcard doesn't follow
+abbrev pub HasNoDefaultBehind : Wildcard → Token → Type 0
+HasNoDefaultBehind w t = (is_punct Colon t && is_dot w) ≡ false
 
--- wildcards with a colon behind each are passed, and behind them a wildcard that is the default, where it is one; only
--- memory can run out
+-- a wildcard and its count, where it has one, are passed, or the first fault is given
+abbrev pub CountGives : Wildcard → Result Expr SyntaxError → List Placed → List Placed → Type 0
+CountGives w result old new = (done : List Statement) (x : Within) (k : List Frame)
+    → Passes (run done (AfterWildcard x k w)) (λ e. run done (AfterExpr x k (expr_tree e))) result old new
+
+-- wildcards with a colon behind each are passed, and behind them a wildcard, where one stands there; only memory can
+-- run
+-- out
 abbrev pub ChainGives : Result (Vec code_wildcard.Wildcard × Option code_wildcard.Wildcard) SyntaxError → List Placed
     → List Placed → Type 0
 ChainGives (Ok r) old new = (done : List Statement) (x : Within) (k : List Frame)
-    → run done (BeforeExpr x k) old ≡ run done (behind_chain x (within_defaults (map wildcard_of r.0.items) k) r.1) new
+    → run done (BeforeExpr x k) old
+    ≡ run done (behind_wildcard x (within_defaults (map wildcard_of r.0.items) k) r.1) new
 ChainGives (Err e) old new = e ≡ errors.Memory
 
--- arguments are passed up to the closing bracket, or the first fault is given
-abbrev pub ArgumentsGive : ℕ → Result (Vec Expr) SyntaxError → List Placed → List Placed → Type 0
-ArgumentsGive room result old new = (done : List Statement) (x : Within) (k : List Frame) (w : Spot)
-    → HasRoom (Arguments w [] ∷ k) room
-    → Passes (run done (BeforeExpr x (Arguments w [] ∷ k)))
-    (λ es. run done (AfterExpr x k (Apply w (trees (map expr_tree es.items))))) result old new
+-- behind an expression in this open bracket there is a comma, or what closes it
+abbrev pub IsRow : Punct → Within → List Frame → (List Tree → Frame) → (List Tree → State) → Type 0
+IsRow ending x k frame to = (es : List Tree) (e : Tree) (t : Placed)
+    → step (AfterExpr x (frame es ∷ k) e) t
+    ≡ (if is_punct Comma t.token then Go (BeforeExpr x (frame (es ++ e ∷ []) ∷ k))
+    else on_punct ending t.token (Go (to (es ++ e ∷ []))))
+
+-- expressions are passed up to what closes the bracket, or the first fault is given
+abbrev pub RowGives : Punct → ℕ → Result (Vec Expr) SyntaxError → List Placed → List Placed → Type 0
+RowGives ending room result old new = (done : List Statement) (x : Within) (k : List Frame) (frame : List Tree → Frame)
+    (to : List Tree → State) → IsRow ending x k frame to
+    → ((es : List Tree) → HasRoom (frame es ∷ k) room)
+    → Passes (run done (BeforeExpr x (frame [] ∷ k))) (λ es. run done (to (map expr_tree es.items))) result old new
 
 -- operands behind the first sign are passed up to the closing bracket, or the first fault is given
 abbrev pub OperandsGive : ℕ → Tree → Spot → Result (Vec Expr) SyntaxError → List Placed → List Placed → Type 0
@@ -190,6 +234,7 @@ start_of keywords.Op = AfterOp
 start_of keywords.Kind = AfterKind
 start_of keywords.Rule = AfterRole OfRule
 start_of keywords.Subject = AfterRole OfSubject
+start_of keywords.Edit = AfterEdit
 
 -- the step over a keyword
 abbrev pub keyword_step : Option Keyword → Step
@@ -211,6 +256,49 @@ abbrev pub NamedExprGives : Result (code_word.Word × Expr) SyntaxError → List
 NamedExprGives result old new = (done : List Statement) (role : Role)
     → Passes (run done (AfterRole role))
     (λ x. run done (AfterExpr (InStatement (heading role (spot_of x.0))) [] (expr_tree x.1))) result old new
+
+-- the arrow and the template of a rule are passed, where the arrow stands there, or the first fault is given; where it
+-- doesn't, the token that is held then is no arrow
+abbrev pub TemplateGives : Token → Result (Option Expr) SyntaxError → List Placed → List Placed → Type 0
+TemplateGives t (Ok None) old new = (old ≡ new) × (is_arrow t ≡ false)
+TemplateGives t (Ok (Some e)) old new = (done : List Statement) (name : Spot) (pattern : Tree)
+    → run done (AfterExpr (InStatement (heading OfRule name)) [] pattern) old
+    ≡ run done (AfterExpr (InTemplate name pattern) [] (expr_tree e)) new
+TemplateGives t (Err e) old new = (done : List Statement) (name : Spot) (pattern : Tree)
+    → Fails e (run done (AfterExpr (InStatement (heading OfRule name)) [] pattern) old)
+
+-- changes and the semicolon are passed, or the first fault is given
+abbrev pub ChangesGive : Result (Vec code_change.Change) SyntaxError → List Placed → List Placed → Type 0
+ChangesGive result old new = (done : List Statement) (subject : Spot)
+    → Passes (run done (BeforeChange (edited subject [])))
+    (λ cs. run (done ++ EditOf subject (map change_tree cs.items) ∷ []) Top) result old new
+
+-- a change is passed, or the first fault is given
+abbrev pub ChangeGives : Result code_change.Change SyntaxError → List Placed → List Placed → Type 0
+ChangeGives result old new = (done : List Statement) (d : Edited)
+    → Passes (run done (BeforeChange d)) (λ c. run done (AfterChange d (change_tree c))) result old new
+
+-- a position and the arrow are passed, or the first fault is given
+abbrev pub PositionGives : Result code_position.Position SyntaxError → List Placed → List Placed → Type 0
+PositionGives result old new = (done : List Statement) (d : Edited)
+    → Passes (run done (BeforeChange d)) (λ p. run done (AfterArrow d (position_of p))) result old new
+
+-- the further numbers of a position and the arrow are passed, or the first fault is given
+abbrev pub IndicesGive : Result (Vec code_word.Word) SyntaxError → List Placed → List Placed → Type 0
+IndicesGive result old new = (done : List Statement) (d : Edited) (first : Spot)
+    → Passes (run done (AfterPosition d (Path first [])))
+    (λ ws. run done (AfterArrow d (Path first (map spot_of ws.items)))) result old new
+
+-- what stands at a position then is passed, or the first fault is given
+abbrev pub ReplacementGives : Result code_replacement.Replacement SyntaxError → List Placed → List Placed → Type 0
+ReplacementGives result old new = (done : List Statement) (d : Edited) (p : Position)
+    → Passes (run done (AfterArrow d p)) (λ r. run done (AfterChange d (change p (replacement_tree r)))) result old new
+
+-- the expressions of a list are passed up to the square bracket that closes it, or the first fault is given
+abbrev pub ListedGives : Result (Vec Expr) SyntaxError → List Placed → List Placed → Type 0
+ListedGives result old new = (done : List Statement) (d : Edited) (p : Position)
+    → Passes (run done (AfterSquare d p))
+    (λ es. run done (AfterChange d (change p (syntax.Listed (trees (map expr_tree es.items)))))) result old new
 
 -- the value is the one that is read, or the fault is the one that is read
 abbrev pub Gives : {A : Type 0} → (A → Parsed) → Result A SyntaxError → Result Parsed Fault → Type 0

@@ -1,20 +1,23 @@
 -- What a state has read of its statement or expression, as a spelling.
 use Rattle.std.specs.Prelude.{List, [], ◌∷◌, ◌++◌, map, codes}
 use Rattle.std.specs.List.{flat_map}
-use Rattle.mp_syntax.specs.declared.token.Punct.TheVariants.{Open, OpenSquare, Colon, Dollar}
+use Rattle.mp_syntax.specs.declared.token.Punct.TheVariants.{Open, OpenSquare, OpenBrace, Colon, Dollar}
 use Rattle.mp_syntax.specs.Tokens.{Sign, Punctuation}
-use Rattle.mp_syntax.specs.Syntax.{Spot, Tree, Expected, Said, Stands, spell, spell_with_colon, spell_plus, spell_flag}
-use Rattle.mp_syntax.specs.Syntax.{spelled_word, spelled_wildcard, spelled_sign, another, fixed_word, opening, comma}
-use Rattle.mp_syntax.specs.Syntax.{Literal, Literals, spell_literal, spell_literals, spell_amount, spell_not}
-use Rattle.mp_syntax.specs.Syntax.{measure_word, sense_sign, relation_word, property_word}
+use Rattle.mp_syntax.specs.Syntax.{Spot, Tree, Expected, Said, Stands, spell, spell_with_colon, spell_plus}
+use Rattle.mp_syntax.specs.Syntax.{spell_flag, spelled_word, spelled_wildcard, spelled_sign, another, fixed_word}
+use Rattle.mp_syntax.specs.Syntax.{opening, comma, dot, arrow, Wildcard, Path, Change, spell_template, spell_position}
+use Rattle.mp_syntax.specs.Syntax.{spell_change, Literal, Literals, spell_literal, spell_literals, spell_amount}
+use Rattle.mp_syntax.specs.Syntax.{spell_not, measure_word, sense_sign, relation_word, property_word}
 use Rattle.mp_syntax.specs.Machine.{Role, OfRule, OfSubject, Frame, Arguments, Bracket, Operands, Default, Operand}
-use Rattle.mp_syntax.specs.Machine.{Second, Square, Level, Site, Side, OnLeft, OnRight, Lead, OfMeasure, OfRelation}
-use Rattle.mp_syntax.specs.Machine.{OfProperty, Declared, Within, InStatement, Alone, InCondition, ConditionAlone}
-use Rattle.mp_syntax.specs.Machine.{State, Top, AfterOp, AfterOpName, AfterLeast, AfterFlags, AfterInfix, AfterKind}
-use Rattle.mp_syntax.specs.Machine.{AfterKindName, BeforeMember, AfterMember, AfterRole, AfterName, BeforeExpr}
-use Rattle.mp_syntax.specs.Machine.{AfterWord, AfterOpen, AfterWildcard, AfterExpr, AfterDollar, BeforeLiteral}
-use Rattle.mp_syntax.specs.Machine.{BeforeBody, BeforeOperand, BeforeName, BehindName, AfterAmount, AfterSense}
-use Rattle.mp_syntax.specs.Machine.{AfterLiteral}
+use Rattle.mp_syntax.specs.Machine.{Second, Square, Listing, Edited, Level, Site, Side, OnLeft, OnRight, Lead}
+use Rattle.mp_syntax.specs.Machine.{OfMeasure, OfRelation, OfProperty, Declared, Within, InStatement, Alone}
+use Rattle.mp_syntax.specs.Machine.{InTemplate, InCondition, ConditionAlone, InChange, AfterBrace, AfterCount}
+use Rattle.mp_syntax.specs.Machine.{BeforeBrace, AfterEdit, AfterSubject, BeforeChange, AfterPosition, BeforeIndex}
+use Rattle.mp_syntax.specs.Machine.{AfterArrow, AfterSquare, AfterChange, State, Top, AfterOp, AfterOpName}
+use Rattle.mp_syntax.specs.Machine.{AfterLeast, AfterFlags, AfterInfix, AfterKind, AfterKindName, BeforeMember}
+use Rattle.mp_syntax.specs.Machine.{AfterMember, AfterRole, AfterName, BeforeExpr, AfterWord, AfterOpen}
+use Rattle.mp_syntax.specs.Machine.{AfterWildcard, AfterExpr, AfterDollar, BeforeLiteral, BeforeBody, BeforeOperand}
+use Rattle.mp_syntax.specs.Machine.{BeforeName, BehindName, AfterAmount, AfterSense, AfterLiteral}
 
 -- the word that a statement of this role begins with
 abbrev pub role_word : Role → Expected
@@ -35,14 +38,28 @@ abbrev pub spell_members : Spot → List Spot → List Expected
 spell_members name members = fixed_word (codes "kind") ∷ spelled_word name ∷ Said (Punctuation Colon)
     ∷ map spelled_word members
 
+-- a rule up to its condition or its end
+abbrev pub spell_rule : Spot → Tree → List Expected
+spell_rule name pattern = fixed_word (codes "rule") ∷ spelled_word name ∷ Said (Punctuation Colon) ∷ spell pattern
+
+-- a change and a comma
+abbrev pub spell_before_comma : Change → List Expected
+spell_before_comma c = spell_change c ++ comma ∷ []
+
+-- an edit up to a change
+abbrev pub spell_edited : Edited → List Expected
+spell_edited d = fixed_word (codes "edit") ∷ spelled_word d.subject ∷ Said (Punctuation Colon)
+    ∷ flat_map spell_before_comma d.changes
+
 -- the tokens of the statement before an expression or a condition; one alone has none before it
 abbrev pub spell_within : Within → List Expected
 spell_within (InStatement h) = role_word h.role ∷ spelled_word h.name ∷ Said (Punctuation Colon) ∷ []
 spell_within Alone = []
-spell_within (InCondition name pattern) =
-    fixed_word (codes "rule") ∷ spelled_word name ∷ Said (Punctuation Colon) ∷ spell pattern ++ fixed_word (codes "if")
-    ∷ []
+spell_within (InTemplate name pattern) = spell_rule name pattern ++ arrow ∷ []
+spell_within (InCondition name pattern template) =
+    spell_rule name pattern ++ (spell_template template ++ fixed_word (codes "if") ∷ [])
 spell_within ConditionAlone = []
+spell_within (InChange d p) = spell_edited d ++ (spell_position p ++ arrow ∷ [])
 
 -- a literal and `and`
 abbrev pub spell_before_and : Literal → List Expected
@@ -81,6 +98,11 @@ spell_frame (Default w) = spell_with_colon w
 spell_frame (Operand s lead) = spell_site s ++ (spell_lead lead ++ opening ∷ [])
 spell_frame (Second s r e) = spell_site s ++ fixed_word (relation_word r) ∷ opening ∷ spell e ++ comma ∷ []
 spell_frame (Square s) = spell_site s ++ Said (Punctuation OpenSquare) ∷ []
+spell_frame (Listing es) = Said (Punctuation OpenSquare) ∷ flat_map (spell_before comma) es
+
+-- a wildcard up to its count
+abbrev pub spell_counted : Wildcard → Spot → List Expected
+spell_counted w count = spelled_wildcard w ∷ Said (Punctuation OpenBrace) ∷ spelled_word count ∷ []
 
 -- the same of several, the outermost first
 abbrev pub spell_frames : List Frame → List Expected
@@ -118,3 +140,16 @@ so_far (BehindName x k s p e w) = spell_within x
 so_far (AfterAmount x k s a) = spell_within x ++ (spell_frames k ++ (spell_site s ++ spell_amount a))
 so_far (AfterSense x k s a sense) = spell_within x ++ (spell_frames k ++ (spell_site s ++ spell_side (OnRight a sense)))
 so_far (AfterLiteral x k v l) = spell_within x ++ (spell_frames k ++ (spell_level v ++ spell_literal l))
+so_far (AfterBrace x k w) =
+    spell_within x ++ (spell_frames k ++ spelled_wildcard w ∷ Said (Punctuation OpenBrace) ∷ [])
+so_far (AfterCount x k w count) = spell_within x ++ (spell_frames k ++ spell_counted w count)
+so_far (BeforeBrace x k w count more) =
+    spell_within x ++ (spell_frames k ++ (spell_counted w count ++ spell_plus more))
+so_far AfterEdit = fixed_word (codes "edit") ∷ []
+so_far (AfterSubject subject) = fixed_word (codes "edit") ∷ spelled_word subject ∷ []
+so_far (BeforeChange d) = spell_edited d
+so_far (AfterPosition d p) = spell_edited d ++ spell_position p
+so_far (BeforeIndex d first others) = spell_edited d ++ (spell_position (Path first others) ++ dot ∷ [])
+so_far (AfterArrow d p) = spell_within (InChange d p)
+so_far (AfterSquare d p) = spell_within (InChange d p) ++ Said (Punctuation OpenSquare) ∷ []
+so_far (AfterChange d c) = spell_edited d ++ spell_change c

@@ -1,30 +1,48 @@
--- The reading of a whole file, and of an expression alone, as functions.
-use Rattle.std.specs.Prelude.{List, [], ℕ, map, Option, Some, None, Result, Ok, Err}
+-- The reading of a whole file, and of an expression or a condition alone, as functions.
+use Rattle.std.specs.Prelude.{List, [], ◌∷◌, ℕ, map, Option, Some, None, Result, Ok, Err}
 use Rattle.std.specs.Global.{Vec}
+use Rattle.mp_syntax.specs.declared.place.Place.{Place}
 use Rattle.mp_syntax.specs.declared.fault.Fault.{Fault}
+use Rattle.mp_syntax.specs.declared.fault.FaultKind.TheVariants.{BadByte, TooMany}
 use Rattle.mp_syntax.specs.declared.fault.SyntaxError.{SyntaxError}
 use Rattle.mp_syntax.specs.declared.fault.SyntaxError.TheVariants as errors
 use Rattle.mp_syntax.specs.declared.tree.Expr.{Expr}
 use Rattle.mp_syntax.specs.declared.tree.Statement as code
 use Rattle.mp_syntax.specs.declared.condition_tree.Condition as code_condition
-use Rattle.mp_syntax.specs.Tokens.{first_place}
+use Rattle.mp_syntax.specs.Tokens.{Token, Long, Bad, Placed, first_place}
 use Rattle.mp_syntax.specs.Lexing.{lexemes}
 use Rattle.mp_syntax.specs.Syntax.{Tree, Condition, Statement}
+use Rattle.mp_syntax.specs.Begins.{Text, OfFile, OfExpr, OfCondition}
 use Rattle.mp_syntax.specs.View.{expr_tree, condition_tree, statement_tree}
-use Rattle.mp_syntax.specs.Machine.{Top, BeforeExpr, BeforeLiteral, Alone, ConditionAlone, no_level, Single, SingleExpr}
-use Rattle.mp_syntax.specs.Machine.{SingleCondition, Parsed, no_fault, run}
+use Rattle.mp_syntax.specs.Machine.{State, Top, BeforeExpr, BeforeLiteral, Alone, ConditionAlone, no_level, Single}
+use Rattle.mp_syntax.specs.Machine.{SingleExpr, SingleCondition, Parsed, no_fault, run}
 
--- what the machine reads of a file
-abbrev pub parsed_file : List ℕ → Result Parsed Fault
-parsed_file bytes = run [] Top (lexemes bytes first_place)
+-- the state before a text of this sort
+abbrev pub start : Text → State
+start OfFile = Top
+start OfExpr = BeforeExpr Alone []
+start OfCondition = BeforeLiteral ConditionAlone [] no_level
 
--- what the machine reads of an expression alone
-abbrev pub parsed_expr : List ℕ → Result Parsed Fault
-parsed_expr bytes = run [] (BeforeExpr Alone []) (lexemes bytes first_place)
+-- the fault of a bad byte or of a word that is too long, and else of what lies behind the token
+abbrev pub bad_or : Token → Place → Option Fault → Option Fault
+bad_or Long place others = Some (record { kind = TooMany; place = place })
+bad_or Bad place others = Some (record { kind = BadByte; place = place })
+bad_or _ place others = others
 
--- what the machine reads of a condition alone
-abbrev pub parsed_condition : List ℕ → Result Parsed Fault
-parsed_condition bytes = run [] (BeforeLiteral ConditionAlone [] no_level) (lexemes bytes first_place)
+-- the first of these faults among tokens
+abbrev pub first_bad : List Placed → Option Fault
+first_bad [] = None
+first_bad (t ∷ ts) = bad_or t.token t.place (first_bad ts)
+
+-- the fault of the tokens, and without one what the machine reads
+abbrev pub checked : Option Fault → Result Parsed Fault → Result Parsed Fault
+checked (Some f) read = Err f
+checked None read = read
+
+-- what is read of a text of this sort: all its tokens are looked at first
+abbrev pub text_reading : Text → List ℕ → Result Parsed Fault
+text_reading sort bytes =
+    checked (first_bad (lexemes bytes first_place)) (run [] (start sort) (lexemes bytes first_place))
 
 -- what is asked of the statements that are read and of what is read alone: a value, where they are one
 abbrev pub Pick : Type 0 → Type 0
@@ -61,15 +79,15 @@ statements_read = read_by statements_alone
 
 -- the statements of a file, or its first fault
 abbrev pub reading : List ℕ → Result (List Statement) Fault
-reading bytes = statements_read (parsed_file bytes)
+reading bytes = statements_read (text_reading OfFile bytes)
 
 -- the expression of a text, or its first fault
 abbrev pub expr_reading : List ℕ → Result Tree Fault
-expr_reading bytes = read_by expr_alone (parsed_expr bytes)
+expr_reading bytes = read_by expr_alone (text_reading OfExpr bytes)
 
 -- the condition of a text, or its first fault
 abbrev pub condition_reading : List ℕ → Result Condition Fault
-condition_reading bytes = read_by condition_alone (parsed_condition bytes)
+condition_reading bytes = read_by condition_alone (text_reading OfCondition bytes)
 
 -- the value of an Ok
 abbrev pub read_value : {A : Type 0} → Result A Fault → Option A
@@ -79,14 +97,6 @@ read_value (Err f) = None
 -- the statements of a file, where it has any
 abbrev pub syntax_of : List ℕ → Option (List Statement)
 syntax_of bytes = read_value (reading bytes)
-
--- the expression of a text, where it is one
-abbrev pub expr_of : List ℕ → Option Tree
-expr_of bytes = read_value (expr_reading bytes)
-
--- the condition of a text, where it is one
-abbrev pub condition_of_bytes : List ℕ → Option Condition
-condition_of_bytes bytes = read_value (condition_reading bytes)
 
 -- the fact of the fault, where the error is one
 abbrev pub IfFault : SyntaxError → (Fault → Type 0) → Type 0

@@ -5,8 +5,9 @@ use Rattle.std.specs.Char.{is_ascii_digit}
 use Rattle.std.specs.List.{flat_map, list_all}
 use Rattle.mp_syntax.specs.declared.limits.TheConstants.{MAX_OPEN}
 use Rattle.mp_syntax.specs.declared.place.Place.{Place}
-use Rattle.mp_syntax.specs.declared.token.Punct.TheVariants.{Open, Close, OpenSquare, CloseSquare, Comma, Semicolon}
-use Rattle.mp_syntax.specs.declared.token.Punct.TheVariants.{Colon, Dollar}
+use Rattle.mp_syntax.specs.declared.token.Punct.{Punct}
+use Rattle.mp_syntax.specs.declared.token.Punct.TheVariants.{Open, Close, OpenSquare, CloseSquare, OpenBrace}
+use Rattle.mp_syntax.specs.declared.token.Punct.TheVariants.{CloseBrace, Comma, Semicolon, Colon, Dot, Dollar}
 use Rattle.mp_syntax.specs.declared.condition_tree.Measure.{Measure}
 use Rattle.mp_syntax.specs.declared.condition_tree.Measure.TheVariants.{Count, Size}
 use Rattle.mp_syntax.specs.declared.condition_tree.Sense.{Sense}
@@ -16,7 +17,8 @@ use Rattle.mp_syntax.specs.declared.condition_tree.Relation.TheVariants.{Same, L
 use Rattle.mp_syntax.specs.declared.condition_tree.Property.{Property}
 use Rattle.mp_syntax.specs.declared.condition_tree.Property.TheVariants as properties
 use Rattle.mp_syntax.specs.Tokens as tokens
-use Rattle.mp_syntax.specs.Tokens.{Token, Word, Sign, Punctuation, Placed, Tokens, first_place, IsWord, IsShort, IsSign}
+use Rattle.mp_syntax.specs.Tokens.{Token, Word, Sign, Arrow, Punctuation, Placed, Tokens, first_place, IsWord}
+use Rattle.mp_syntax.specs.Tokens.{IsShort, IsSign}
 
 -- ---- trees
 
@@ -33,14 +35,16 @@ pub record Wildcard : Type 0 where
   pub place : Place
 
 -- expressions and lists of them; an infix one has the place of its bracket, its sign at the first place, and all
--- operands; an optional one has its wildcard, further wildcards where several stand in a chain, and the default of the
--- last; a variable has the place of its `$`
+-- operands; a counted one has its wildcard, its count, and whether a `+` stands behind it; an optional one has its
+-- wildcard, further wildcards where several stand in a chain, and the default of the last; a variable has the place of
+-- its `$`
 mutual
   pub data Tree : Type 0 where
     Symbol : Spot → Tree
     Apply : Spot → Trees → Tree
     InfixOf : Place → Spot → Trees → Tree
     Wild : Wildcard → Tree
+    Counted : Wildcard → Spot → Bool → Tree
     Optional : Wildcard → List Wildcard → Tree → Tree
     Variable : Spot → Tree
 
@@ -111,12 +115,29 @@ abbrev pub alternative_list : Condition → List Literals
 alternative_list no_alternatives = []
 alternative_list (more_alternatives a c) = a ∷ alternative_list c
 
--- op NAME LEAST[+] FLAG ..; kind NAME: MEMBER ..; rule NAME: PATTERN[ if CONDITION]; subject NAME: TERM;
+-- where a term is replaced: the root, with the place of its `.`, or a path of numbers, of which there is a first one
+pub data Position : Type 0 where
+  Root : Place → Position
+  Path : Spot → List Spot → Position
+
+-- what stands there then: an expression, or expressions in square brackets
+pub data Replacement : Type 0 where
+  Single : Tree → Replacement
+  Listed : Trees → Replacement
+
+-- a position and what stands there then
+pub record Change : Type 0 where
+  pub position : Position
+  pub terms : Replacement
+
+-- op NAME LEAST[+] FLAG ..; kind NAME: MEMBER ..; rule NAME: PATTERN[ -> TEMPLATE][ if CONDITION]; subject NAME: TERM;
+-- edit SUBJECT: CHANGE, ..;
 pub data Statement : Type 0 where
   OpOf : Spot → Spot → Bool → List Flag → Statement
   KindOf : Spot → List Spot → Statement
-  RuleOf : Spot → Tree → Option Condition → Statement
+  RuleOf : Spot → Tree → Option Tree → Option Condition → Statement
   SubjectOf : Spot → Tree → Statement
+  EditOf : Spot → List Change → Statement
 
 -- ---- spelling
 
@@ -165,6 +186,10 @@ comma = Said (Punctuation Comma)
 abbrev pub closing : Expected
 closing = Said (Punctuation Close)
 
+-- a dot
+abbrev pub dot : Expected
+dot = Said (Punctuation Dot)
+
 -- a semicolon
 abbrev pub semicolon : Expected
 semicolon = Said (Punctuation Semicolon)
@@ -181,31 +206,46 @@ spell_with_colon w = spelled_wildcard w ∷ colon ∷ []
 abbrev pub opening : Expected
 opening = Said (Punctuation Open)
 
+-- an arrow
+abbrev pub arrow : Expected
+arrow = Said Arrow
+
+-- ["+"]
+abbrev pub spell_plus : Bool → List Expected
+spell_plus true = Said (Sign (codes "+")) ∷ []
+spell_plus false = []
+
+-- "{" NUM ["+"] "}"
+abbrev pub spell_count : Spot → Bool → List Expected
+spell_count count more = Said (Punctuation OpenBrace) ∷ spelled_word count
+    ∷ (spell_plus more ++ Said (Punctuation CloseBrace) ∷ [])
+
 -- expr = WORD | WORD "(" [expr ("," expr)*] ")" | "(" expr s expr (s expr)* ")" with one SIGN s | wildcard |
--- dot-wildcard ":" expr | "$" WORD
+-- dot-wildcard "{" NUM ["+"] "}" | dot-wildcard ":" expr | "$" WORD
 abbrev mutual
   pub spell : Tree → List Expected
   spell (Symbol w) = spelled_word w ∷ []
-  spell (Apply f args) = spelled_word f ∷ Said (Punctuation Open) ∷ spell_first comma args
+  spell (Apply f args) = spelled_word f ∷ Said (Punctuation Open) ∷ spell_first comma Close args
   spell (InfixOf opened sign operands) = Stands (Punctuation Open) opened ∷ spell_operands sign operands
   spell (Wild w) = spelled_wildcard w ∷ []
+  spell (Counted w count more) = spelled_wildcard w ∷ spell_count count more
   spell (Optional w others default) = flat_map spell_with_colon (w ∷ others) ++ spell default
   spell (Variable w) = Stands (Punctuation Dollar) w.place ∷ fixed_word w.text ∷ []
 
-  -- expressions with this token between them, and the closing bracket
-  pub spell_first : Expected → Trees → List Expected
-  spell_first between no_trees = closing ∷ []
-  spell_first between (more_trees t ts) = spell t ++ spell_others between ts
+  -- expressions with this token between them, and the bracket that closes
+  pub spell_first : Expected → Punct → Trees → List Expected
+  spell_first between ending no_trees = Said (Punctuation ending) ∷ []
+  spell_first between ending (more_trees t ts) = spell t ++ spell_others between ending ts
 
   -- the same behind an expression
-  pub spell_others : Expected → Trees → List Expected
-  spell_others between no_trees = closing ∷ []
-  spell_others between (more_trees t ts) = between ∷ spell t ++ spell_others between ts
+  pub spell_others : Expected → Punct → Trees → List Expected
+  spell_others between ending no_trees = Said (Punctuation ending) ∷ []
+  spell_others between ending (more_trees t ts) = between ∷ spell t ++ spell_others between ending ts
 
-  -- operands with the sign between them, and the closing bracket
+  -- operands with the sign between them, and the bracket that closes
   pub spell_operands : Spot → Trees → List Expected
   spell_operands sign no_trees = closing ∷ []
-  spell_operands sign (more_trees t ts) = spell t ++ spelled_sign sign ∷ spell_first (another sign) ts
+  spell_operands sign (more_trees t ts) = spell t ++ spelled_sign sign ∷ spell_first (another sign) Close ts
 
 -- "count" | "size"
 abbrev pub measure_word : Measure → List ℕ
@@ -280,11 +320,6 @@ spell_if (Some c) = fixed_word (codes "if") ∷ spell_condition c
 abbrev pub spell_named : Spot → Tree → List Expected
 spell_named name t = spelled_word name ∷ colon ∷ spell t
 
--- ["+"]
-abbrev pub spell_plus : Bool → List Expected
-spell_plus true = Said (Sign (codes "+")) ∷ []
-spell_plus false = []
-
 -- flag = "assoc" | "comm" | "one" | "infix" SIGN
 abbrev pub spell_flag : Flag → List Expected
 spell_flag Assoc = fixed_word (codes "assoc") ∷ []
@@ -292,16 +327,48 @@ spell_flag Comm = fixed_word (codes "comm") ∷ []
 spell_flag One = fixed_word (codes "one") ∷ []
 spell_flag (Infixed sign) = fixed_word (codes "infix") ∷ spelled_sign sign ∷ []
 
--- statement = "op" WORD NUM ["+"] flag* ";" | "kind" WORD ":" WORD WORD* ";" | "rule" WORD ":" expr ["if" cond] ";" |
--- "subject" WORD ":" expr ";"
+-- [arrow expr]
+abbrev pub spell_template : Option Tree → List Expected
+spell_template None = []
+spell_template (Some t) = arrow ∷ spell t
+
+-- "." NUM
+abbrev pub spell_index : Spot → List Expected
+spell_index w = dot ∷ spelled_word w ∷ []
+
+-- position = "." | NUM ("." NUM)*
+abbrev pub spell_position : Position → List Expected
+spell_position (Root place) = Stands (Punctuation Dot) place ∷ []
+spell_position (Path first others) = spelled_word first ∷ flat_map spell_index others
+
+-- expr | "[" [expr ("," expr)*] "]"
+abbrev pub spell_replacement : Replacement → List Expected
+spell_replacement (Single t) = spell t
+spell_replacement (Listed ts) = Said (Punctuation OpenSquare) ∷ spell_first comma CloseSquare ts
+
+-- change = position arrow (expr | "[" [expr ("," expr)*] "]")
+abbrev pub spell_change : Change → List Expected
+spell_change c = spell_position c.position ++ arrow ∷ spell_replacement c.terms
+
+-- changes, the first behind these tokens and each other one behind a comma
+abbrev pub spell_changes : List Expected → List Change → List Expected
+spell_changes before [] = []
+spell_changes before (c ∷ cs) = before ++ (spell_change c ++ spell_changes (comma ∷ []) cs)
+
+-- statement = "op" WORD NUM ["+"] flag* ";" | "kind" WORD ":" WORD WORD* ";" |
+-- "rule" WORD ":" expr [arrow expr] ["if" cond] ";" | "subject" WORD ":" expr ";" |
+-- "edit" WORD ":" change ("," change)* ";"
 abbrev pub spell_statement : Statement → List Expected
 spell_statement (OpOf name least more flags) =
     fixed_word (codes "op") ∷ spelled_word name ∷ spelled_word least
     ∷ (spell_plus more ++ (flat_map spell_flag flags ++ semicolon ∷ []))
 spell_statement (KindOf name members) = fixed_word (codes "kind") ∷ spelled_word name ∷ colon
     ∷ (map spelled_word members ++ semicolon ∷ [])
-spell_statement (RuleOf name t o) = fixed_word (codes "rule") ∷ spell_named name t ++ (spell_if o ++ semicolon ∷ [])
+spell_statement (RuleOf name t template o) =
+    fixed_word (codes "rule") ∷ spell_named name t ++ (spell_template template ++ (spell_if o ++ semicolon ∷ []))
 spell_statement (SubjectOf name t) = fixed_word (codes "subject") ∷ spell_named name t ++ semicolon ∷ []
+spell_statement (EditOf name changes) =
+    fixed_word (codes "edit") ∷ spelled_word name ∷ colon ∷ (spell_changes [] changes ++ semicolon ∷ [])
 
 -- file = statement*
 abbrev pub spell_file : List Statement → List Expected
@@ -330,8 +397,12 @@ AreSeveral no_trees = ⊥
 AreSeveral (more_trees t no_trees) = ⊥
 AreSeveral (more_trees t (more_trees u us)) = Unit {0}
 
--- wildcards with a default have one underscore and no kind, the default behind a whole chain of them is none itself,
--- infix expressions have two operands or more, and at most room brackets stand open at once
+-- of digits alone
+abbrev pub IsNumber : Spot → Type 0
+IsNumber w = list_all is_ascii_digit w.text ≡ true
+
+-- wildcards with a count or a default have one underscore and no kind, the default behind a whole chain of them is none
+-- itself, counts are numbers, infix expressions have two operands or more, and at most room brackets stand open at once
 abbrev mutual
   pub Fits : ℕ → Tree → Type 0
   Fits room (Symbol w) = Unit {0}
@@ -340,6 +411,7 @@ abbrev mutual
   Fits zero (InfixOf opened sign operands) = ⊥
   Fits (suc room) (InfixOf opened sign operands) = AreSeveral operands × AreFit room operands
   Fits room (Wild w) = Unit {0}
+  Fits room (Counted w count more) = IsDot w × IsNumber count
   Fits room (Optional w others default) = AreDots (w ∷ others) × HasNoDefault default × Fits room default
   Fits room (Variable w) = Unit {0}
 
@@ -349,7 +421,7 @@ abbrev mutual
 
 -- a number is of digits alone, and at most room brackets stand open at once, that of the operand among them
 abbrev pub FitsAmount : ℕ → Amount → Type 0
-FitsAmount room (Number w) = list_all is_ascii_digit w.text ≡ true
+FitsAmount room (Number w) = IsNumber w
 FitsAmount zero (Measured m t) = ⊥
 FitsAmount (suc room) (Measured m t) = Fits room t
 
@@ -392,22 +464,53 @@ abbrev pub FitsCondition : ℕ → Condition → Type 0
 FitsCondition room c = HasAlternative c × AlternativesFit room c
 
 -- the condition of a rule fits, where there is one
-abbrev pub FitsIf : Option Condition → Type 0
-FitsIf None = Unit {0}
-FitsIf (Some c) = FitsCondition MAX_OPEN c
+abbrev pub FitsIf : ℕ → Option Condition → Type 0
+FitsIf room None = Unit {0}
+FitsIf room (Some c) = FitsCondition room c
 
--- the number of an operation is of digits alone, a kind has a member, and expressions and conditions have at most 100
--- brackets open at once
-abbrev pub FitsStatement : Statement → Type 0
-FitsStatement (OpOf name least more flags) = list_all is_ascii_digit least.text ≡ true
-FitsStatement (KindOf name members) = members ≢ []
-FitsStatement (RuleOf name t o) = Fits MAX_OPEN t × FitsIf o
-FitsStatement (SubjectOf name t) = Fits MAX_OPEN t
+-- the template of a rule fits, where there is one
+abbrev pub FitsTemplate : ℕ → Option Tree → Type 0
+FitsTemplate room None = Unit {0}
+FitsTemplate room (Some t) = Fits room t
+
+-- each of them is a number
+abbrev pub AreNumbers : List Spot → Type 0
+AreNumbers [] = Unit {0}
+AreNumbers (w ∷ ws) = IsNumber w × AreNumbers ws
+
+-- the numbers of a position are of digits alone
+abbrev pub FitsPosition : Position → Type 0
+FitsPosition (Root place) = Unit {0}
+FitsPosition (Path first others) = IsNumber first × AreNumbers others
+
+-- at most room brackets stand open at once, that of the list among them
+abbrev pub FitsListed : ℕ → Trees → Type 0
+FitsListed zero ts = ⊥
+FitsListed (suc room) ts = AreFit room ts
+
+-- the same of what stands at a position
+abbrev pub FitsReplacement : ℕ → Replacement → Type 0
+FitsReplacement room (Single t) = Fits room t
+FitsReplacement room (Listed ts) = FitsListed room ts
+
+-- the same of changes, whose positions fit
+abbrev pub ChangesFit : ℕ → List Change → Type 0
+ChangesFit room [] = Unit {0}
+ChangesFit room (c ∷ cs) = FitsPosition c.position × FitsReplacement room c.terms × ChangesFit room cs
+
+-- numbers are of digits alone, a kind has a member and an edit a change, and in an expression, a condition or a list at
+-- most room brackets stand open at once
+abbrev pub FitsStatement : ℕ → Statement → Type 0
+FitsStatement room (OpOf name least more flags) = IsNumber least
+FitsStatement room (KindOf name members) = members ≢ []
+FitsStatement room (RuleOf name t template o) = Fits room t × FitsTemplate room template × FitsIf room o
+FitsStatement room (SubjectOf name t) = Fits room t
+FitsStatement room (EditOf name changes) = (changes ≢ []) × ChangesFit room changes
 
 -- each statement fits
-abbrev pub AreStatements : List Statement → Type 0
-AreStatements [] = Unit {0}
-AreStatements (s ∷ ss) = FitsStatement s × AreStatements ss
+abbrev pub AreStatements : ℕ → List Statement → Type 0
+AreStatements room [] = Unit {0}
+AreStatements room (s ∷ ss) = FitsStatement room s × AreStatements room ss
 
 -- ---- words
 
@@ -441,14 +544,15 @@ abbrev pub HaveParts : List Wildcard → Type 0
 HaveParts [] = Unit {0}
 HaveParts (w ∷ ws) = HasParts w × HaveParts ws
 
--- each symbol, each name before a bracket and each name and kind of a wildcard is a word of at most 64 bytes, and each
--- wildcard and sign is one
+-- each symbol, count and name before a bracket and each name and kind of a wildcard is a word of at most 64 bytes, and
+-- each wildcard and sign is one
 abbrev mutual
   pub HasNames : Tree → Type 0
   HasNames (Symbol w) = IsName w.text
   HasNames (Apply f args) = IsName f.text × HaveNames args
   HasNames (InfixOf opened sign operands) = IsInfixSign sign.text × HaveNames operands
   HasNames (Wild w) = HasParts w
+  HasNames (Counted w count more) = HasParts w × IsName count.text
   HasNames (Optional w others default) = HasParts w × HaveParts others × HasNames default
   HasNames (Variable w) = IsName w.text
 
@@ -503,12 +607,34 @@ abbrev pub AreNames : List Spot → Type 0
 AreNames [] = Unit {0}
 AreNames (w ∷ ws) = IsName w.text × AreNames ws
 
+-- the same of the template of a rule, where there is one
+abbrev pub TemplateHasNames : Option Tree → Type 0
+TemplateHasNames None = Unit {0}
+TemplateHasNames (Some t) = HasNames t
+
+-- each number of the position is a word of at most 64 bytes
+abbrev pub PositionHasNames : Position → Type 0
+PositionHasNames (Root place) = Unit {0}
+PositionHasNames (Path first others) = IsName first.text × AreNames others
+
+-- each word of the expressions is one of at most 64 bytes, and each sign is one
+abbrev pub ReplacementHasNames : Replacement → Type 0
+ReplacementHasNames (Single t) = HasNames t
+ReplacementHasNames (Listed ts) = HaveNames ts
+
+-- the same of changes
+abbrev pub ChangesHaveNames : List Change → Type 0
+ChangesHaveNames [] = Unit {0}
+ChangesHaveNames (c ∷ cs) = PositionHasNames c.position × ReplacementHasNames c.terms × ChangesHaveNames cs
+
 -- each word of the statement is one of at most 64 bytes, and each sign is one
 abbrev pub StatementHasNames : Statement → Type 0
 StatementHasNames (OpOf name least more flags) = IsName name.text × IsName least.text × HaveSigns flags
 StatementHasNames (KindOf name members) = IsName name.text × AreNames members
-StatementHasNames (RuleOf name t o) = IsName name.text × HasNames t × IfHasNames o
+StatementHasNames (RuleOf name t template o) =
+    IsName name.text × HasNames t × TemplateHasNames template × IfHasNames o
 StatementHasNames (SubjectOf name t) = IsName name.text × HasNames t
+StatementHasNames (EditOf name changes) = IsName name.text × ChangesHaveNames changes
 
 -- each word of the statements is one of at most 64 bytes, and each sign is one
 abbrev pub StatementsHaveNames : List Statement → Type 0
@@ -536,4 +662,4 @@ pub record IsSyntaxOf (bytes : List ℕ) (file : List Statement) : Type 0 where
   pub tokens : List Placed
   pub lie : Tokens bytes first_place tokens
   pub spelled : AllMatch tokens (spell_file file)
-  pub fits : AreStatements file
+  pub fits : AreStatements MAX_OPEN file

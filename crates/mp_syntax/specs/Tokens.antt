@@ -181,3 +181,9 @@ pub record StopsEarly (bytes : List ℕ) (place : Place) : Type 0 where
   pub tokens : List Placed
   pub stop : Place
   pub until : TokensUntil bytes place tokens stop
+
+-- the place of the first token of the bytes, or of the byte that begins none where a token is looked for, or of the end
+abbrev pub IsFirstPlace : List ℕ → Place → Type 0
+IsFirstPlace bytes place =
+    ((t : Placed) × (rest : List ℕ) × First bytes first_place t rest × (place ≡ t.place))
+    ⊎ (TokensUntil bytes first_place [] place ⊎ (Tokens bytes first_place [] × (place ≡ place_after bytes first_place)))

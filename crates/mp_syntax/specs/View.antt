@@ -4,10 +4,15 @@ use Rattle.mp_syntax.specs.declared.word.Word as code_word
 use Rattle.mp_syntax.specs.declared.word.InfixSign as code_sign
 use Rattle.mp_syntax.specs.declared.token.Token as code_token
 use Rattle.mp_syntax.specs.declared.tree.Wildcard as code_wildcard
-use Rattle.mp_syntax.specs.declared.tree.Expr.{Expr, Symbol, Apply', Infix', Wild, Optional', Variable, Row_of-Expr}
-use Rattle.mp_syntax.specs.declared.tree.Expr.{end_of-Expr, more_of-Expr}
+use Rattle.mp_syntax.specs.declared.tree.Expr.{Expr, Symbol, Apply', Infix', Wild, Counted, Optional', Variable}
+use Rattle.mp_syntax.specs.declared.tree.Expr.{Row_of-Expr, end_of-Expr, more_of-Expr}
 use Rattle.mp_syntax.specs.declared.tree.Flag as code_flag
 use Rattle.mp_syntax.specs.declared.tree.Flag.TheVariants as code_flags
+use Rattle.mp_syntax.specs.declared.tree.Position as code_position
+use Rattle.mp_syntax.specs.declared.tree.Position.TheVariants as code_positions
+use Rattle.mp_syntax.specs.declared.tree.Replacement as code_replacement
+use Rattle.mp_syntax.specs.declared.tree.Replacement.TheVariants as code_replacements
+use Rattle.mp_syntax.specs.declared.tree.Change as code_change
 use Rattle.mp_syntax.specs.declared.tree.Statement as code_statement
 use Rattle.mp_syntax.specs.declared.tree.Statement.TheVariants as code_statements
 use Rattle.mp_syntax.specs.declared.condition_tree.Amount as code_amount
@@ -24,8 +29,8 @@ use Rattle.mp_syntax.specs.Tokens.{Placed}
 use Rattle.mp_syntax.specs.Lexing.{token_of}
 use Rattle.mp_syntax.specs.Syntax as syntax
 use Rattle.mp_syntax.specs.Syntax.{Spot, Wildcard, Tree, Trees, Flag, Amount, Atom, Literal, Literals, Condition}
-use Rattle.mp_syntax.specs.Syntax.{Statement, no_trees, more_trees, no_literals, more_literals, literals}
-use Rattle.mp_syntax.specs.Syntax.{no_alternatives, more_alternatives}
+use Rattle.mp_syntax.specs.Syntax.{Position, Replacement, Change, Statement, no_trees, more_trees, trees, no_literals}
+use Rattle.mp_syntax.specs.Syntax.{more_literals, literals, no_alternatives, more_alternatives}
 
 -- the token with its place
 abbrev pub placed : code_token.Token → Placed
@@ -50,6 +55,7 @@ abbrev mutual
   expr_tree (Apply' f shape row) = syntax.Apply (spot_of f) (row_trees row)
   expr_tree (Infix' opened sign shape row) = syntax.InfixOf opened (spot_of_sign sign) (row_trees row)
   expr_tree (Wild w) = syntax.Wild (wildcard_of w)
+  expr_tree (Counted w count more) = syntax.Counted (wildcard_of w) (spot_of count) more
   expr_tree (Optional' w others p default) =
       syntax.Optional (wildcard_of w) (map wildcard_of others.items) (expr_tree default)
   expr_tree (Variable w) = syntax.Variable (spot_of w)
@@ -102,11 +108,31 @@ abbrev pub if_tree : Option code_condition.Condition → Option Condition
 if_tree None = None
 if_tree (Some c) = Some (condition_tree c)
 
+-- the template as plain data, where there is one
+abbrev pub arrow_tree : Option Expr → Option Tree
+arrow_tree None = None
+arrow_tree (Some e) = Some (expr_tree e)
+
+-- the position as plain data
+abbrev pub position_of : code_position.Position → Position
+position_of (code_positions.Root place) = syntax.Root place
+position_of (code_positions.Path first others) = syntax.Path (spot_of first) (map spot_of others.items)
+
+-- the replacement as plain data
+abbrev pub replacement_tree : code_replacement.Replacement → Replacement
+replacement_tree (code_replacements.Single e) = syntax.Single (expr_tree e)
+replacement_tree (code_replacements.Listed es) = syntax.Listed (trees (map expr_tree es.items))
+
+-- the change as plain data
+abbrev pub change_tree : code_change.Change → Change
+change_tree c = record { position = position_of c.position; terms = replacement_tree c.terms }
+
 -- the statement as plain data
 abbrev pub statement_tree : code_statement.Statement → Statement
 statement_tree (code_statements.Op name least more flags) =
     syntax.OpOf (spot_of name) (spot_of least) more (map flag_of flags.items)
 statement_tree (code_statements.Kind name members) = syntax.KindOf (spot_of name) (map spot_of members.items)
-statement_tree (code_statements.Rule name pattern condition) =
-    syntax.RuleOf (spot_of name) (expr_tree pattern) (if_tree condition)
+statement_tree (code_statements.Rule name pattern template condition) =
+    syntax.RuleOf (spot_of name) (expr_tree pattern) (arrow_tree template) (if_tree condition)
 statement_tree (code_statements.Subject name term) = syntax.SubjectOf (spot_of name) (expr_tree term)
+statement_tree (code_statements.Edit name changes) = syntax.EditOf (spot_of name) (map change_tree changes.items)

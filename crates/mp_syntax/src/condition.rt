@@ -5,13 +5,17 @@ ghost use Rattle.mp_syntax.specs.Lexing.{token_of};
 ghost use Rattle.mp_syntax.specs.Machine.{is_punct};
 ghost use Rattle.mp_syntax.specs.View.{condition_tree};
 ghost use Rattle.mp_syntax.specs.Syntax as syntax;
-ghost use Rattle.mp_syntax.specs.Syntax.{IsConditionOf, ConditionHasNames};
-ghost use Rattle.mp_syntax.specs.Reading.{parsed_condition, condition_reading, condition_of_bytes, IfFault};
-ghost use Rattle.mp_syntax.specs.Reading.{IsConditionOrMemory};
+ghost use Rattle.mp_syntax.specs.declared.limits.TheConstants as limits;
+ghost use Rattle.mp_syntax.specs.Syntax.{IsConditionOf, FitsCondition, ConditionHasNames};
+ghost use Rattle.mp_syntax.specs.Printed.{condition_text, unplaced_condition};
+ghost use Rattle.mp_syntax.specs.Begins.{OfCondition};
+ghost use Rattle.mp_syntax.specs.FirstFault.{IsFirstFault};
+ghost use Rattle.mp_syntax.specs.Reading.{text_reading, IfFault, IsConditionOrMemory};
 ghost use Rattle.mp_syntax.specs.Parsing.{ahead};
 ghost use Rattle.mp_syntax.specs.ConditionParsing.{ConditionAloneGives, ConditionGives, AlternativeGives, LiteralGives};
 ghost use Rattle.mp_syntax.specs.ConditionParsing.{NegationGives, BracketedGives, EndsCondition, EndsAlternative};
 
+use crate::bad_token::bad_token;
 use crate::condition_tree::{Alternative, Condition, Literal};
 use crate::fault::{FaultKind, SyntaxError};
 use crate::limits::MAX_OPEN;
@@ -25,9 +29,9 @@ use std::alloc::Global;
 /// condition bytes are is `IsConditionOf` of `specs/Syntax.antt`: at most one.
 ///
 /// - `SyntaxError::Memory` comes where memory runs out.
-/// - `SyntaxError::Fault` comes exactly where the bytes are no condition, with the first fault that
-///   reading token by token meets, by `condition_reading` of `specs/Reading.antt`. Its kinds are those of
-///   `read_statements`; a token behind the condition is one that the grammar doesn't have there.
+/// - `SyntaxError::Fault` comes exactly where the bytes are no condition, with their first fault, by
+///   `IsFirstFault` of `specs/FirstFault.antt`. Its kinds are those of `read_statements`; behind a condition no
+///   text goes on with a token that isn't part of it.
 ///
 /// After an error nothing is kept.
 pub fn read_condition<'a>(alloc: Global, bytes: &'a [u8]) -> Result<Condition<'a>, SyntaxError>
@@ -39,24 +43,37 @@ pub fn read_condition<'a>(alloc: Global, bytes: &'a [u8]) -> Result<Condition<'a
     ensures names { IfOk result (λ c. ConditionHasNames (condition_tree c)) }
     // What the bytes are is answered, unless memory runs out.
     ensures only { (c : syntax.Condition) → IsConditionOf bytes.now c → IsConditionOrMemory result (λ read. read ≡ c) }
-    // A fault is the one that reading token by token meets.
-    ensures fault { IfErr result (λ e. IfFault e (λ f. condition_reading bytes.now ≡ Err f)) }
+    // A fault is the first one of the bytes.
+    ensures fault { IfErr result (λ e. IfFault e (λ f. IsFirstFault OfCondition bytes.now f)) }
 {
     alone(alloc, bytes)
 }
 
-/// Law: bytes are this condition exactly where `condition_of_bytes` of `specs/Reading.antt` gives it.
+/// Law: bytes are one condition at most.
 ///
-/// So each list of bytes is one condition or none. It does nothing when it runs.
+/// It does nothing when it runs.
 pub fn condition_is_a_function()
-    ensures { (bytes : List ℕ) (c : syntax.Condition) → IsConditionOf bytes c ↔ (condition_of_bytes bytes ≡ Some c) }
+    ensures { (bytes : List ℕ) (c d : syntax.Condition) → IsConditionOf bytes c → IsConditionOf bytes d → c ≡ d }
+{}
+
+/// Law: the text that a condition is printed as, `condition_text` of `specs/Printed.antt`, is read alone as that
+/// condition, apart from the places where its parts stand.
+///
+/// Each word of the condition is a word and it fits, as of all that are read. It does nothing when it runs.
+pub fn printed_condition_is_read()
+    ensures { (c : syntax.Condition) → ConditionHasNames c → FitsCondition limits.MAX_OPEN c
+        → (read : syntax.Condition) × IsConditionOf (condition_text c) read
+        × (unplaced_condition read ≡ unplaced_condition c) }
 {}
 
 // Reads a condition up to the end, or the first fault.
 fn alone<'a>(alloc: Global, bytes: &'a [u8]) -> Result<Condition<'a>, SyntaxError>
     requires { length bytes.now < 2 ^ 32 - 1 }
-    ensures { ConditionAloneGives result (parsed_condition bytes.now) }
+    ensures { ConditionAloneGives result (text_reading OfCondition bytes.now) }
 {
+    if let Some(fault) = bad_token(bytes) {
+        return Err(SyntaxError::Fault(fault));
+    }
     let mut parser = Parser::new(bytes);
     let condition = parser.condition(alloc, MAX_OPEN)?;
     if !parser.is_at_end() {

@@ -3,7 +3,7 @@
 ghost use Rattle.std.specs.Prelude.{◌≡◌, ◌<◌, ◌≤◌, ℕ, false, length, OnOk};
 ghost use Rattle.mp_syntax.specs.Lexing.{token_of};
 ghost use Rattle.mp_syntax.specs.Machine.{AfterOp, AfterKind, Declared, is_punct, step_flag};
-ghost use Rattle.mp_syntax.specs.Parsing.{ahead, StatementFrom, PlusGives, FlagsGive, FlagGives, FlagWordGives};
+ghost use Rattle.mp_syntax.specs.Parsing.{ahead, StatementFrom, FlagsGive, FlagGives, FlagWordGives};
 ghost use Rattle.mp_syntax.specs.Parsing.{MembersGive, flag_step};
 
 use crate::fault::SyntaxError;
@@ -42,18 +42,6 @@ impl<'a> Parser<'a> {
             open,
             flags,
         })
-    }
-
-    // Passes the sign `+` where it is held, and says whether it was.
-    fn plus(&mut self) -> bool
-        ensures read { PlusGives result (ahead self.old) (ahead self.new) }
-        ensures shorter { length (ahead self.new) ≤ length (ahead self.old) }
-    {
-        let plus = self.sees_sign(b"+");
-        if plus {
-            self.advance();
-        }
-        plus
     }
 
     // Reads flags up to the semicolon, and passes it.

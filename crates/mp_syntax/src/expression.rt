@@ -1,15 +1,20 @@
 //! Reads expressions.
 
 ghost use Rattle.std.specs.Prelude.{◌≡◌, ◌<◌, ◌≤◌, ◌-◌, ◌^◌, ◌↔◌, ℕ, List, Some, None, Err, true, length, OnOk, IfOk};
-ghost use Rattle.std.specs.Prelude.{IfErr, IfNone};
+ghost use Rattle.std.specs.Prelude.{IfErr, IfSome, IfNone};
 ghost use Rattle.mp_syntax.specs.Lexing.{token_of};
 ghost use Rattle.mp_syntax.specs.Machine.{is_punct, wildcard_at};
 ghost use Rattle.mp_syntax.specs.View.{spot_of, spot_of_sign, wildcard_of, expr_tree};
-ghost use Rattle.mp_syntax.specs.Syntax.{Tree, IsExprOf, HasNames, HasNoDefault};
-ghost use Rattle.mp_syntax.specs.Reading.{parsed_expr, expr_reading, expr_of, IfFault, IsExprOrMemory};
+ghost use Rattle.mp_syntax.specs.declared.limits.TheConstants as limits;
+ghost use Rattle.mp_syntax.specs.Syntax.{Tree, IsExprOf, Fits, HasNames, HasNoDefault};
+ghost use Rattle.mp_syntax.specs.Printed.{tree_text, unplaced_tree};
+ghost use Rattle.mp_syntax.specs.Begins.{OfExpr};
+ghost use Rattle.mp_syntax.specs.FirstFault.{IsFirstFault};
+ghost use Rattle.mp_syntax.specs.Reading.{text_reading, IfFault, IsExprOrMemory};
 ghost use Rattle.mp_syntax.specs.Parsing.{ahead, AloneGives, ExprGives, WordLeads, DollarLeads, WildcardLeads};
-ghost use Rattle.mp_syntax.specs.Parsing.{ChainGives, ArgumentsGive, OperandsGive};
+ghost use Rattle.mp_syntax.specs.Parsing.{HasNoDefaultBehind, CountGives, ChainGives, RowGives, OperandsGive};
 
+use crate::bad_token::bad_token;
 use crate::fault::{FaultKind, SyntaxError};
 use crate::limits::MAX_OPEN;
 use crate::parser::Parser;
@@ -25,9 +30,9 @@ use std::alloc::Global;
 /// expression bytes are is `IsExprOf` of `specs/Syntax.antt`: at most one.
 ///
 /// - `SyntaxError::Memory` comes where memory runs out.
-/// - `SyntaxError::Fault` comes exactly where the bytes are no expression, with the first fault that
-///   reading token by token meets, by `expr_reading` of `specs/Reading.antt`. Its kinds are those of
-///   `read_statements`; a token behind the expression is one that the grammar doesn't have there.
+/// - `SyntaxError::Fault` comes exactly where the bytes are no expression, with their first fault, by
+///   `IsFirstFault` of `specs/FirstFault.antt`. Its kinds are those of `read_statements`; behind an expression
+///   no text goes on with a token that isn't part of it.
 ///
 /// After an error nothing is kept.
 pub fn read_expression<'a>(alloc: Global, bytes: &'a [u8]) -> Result<Expr<'a>, SyntaxError>
@@ -39,24 +44,36 @@ pub fn read_expression<'a>(alloc: Global, bytes: &'a [u8]) -> Result<Expr<'a>, S
     ensures names { IfOk result (λ e. HasNames (expr_tree e)) }
     // What the bytes are is answered, unless memory runs out.
     ensures only { (t : Tree) → IsExprOf bytes.now t → IsExprOrMemory result (λ read. read ≡ t) }
-    // A fault is the one that reading token by token meets.
-    ensures fault { IfErr result (λ e. IfFault e (λ f. expr_reading bytes.now ≡ Err f)) }
+    // A fault is the first one of the bytes.
+    ensures fault { IfErr result (λ e. IfFault e (λ f. IsFirstFault OfExpr bytes.now f)) }
 {
     alone(alloc, bytes)
 }
 
-/// Law: bytes are this expression exactly where `expr_of` of `specs/Reading.antt` gives it.
+/// Law: bytes are one expression at most.
 ///
-/// So each list of bytes is one expression or none. It does nothing when it runs.
+/// It does nothing when it runs.
 pub fn expression_is_a_function()
-    ensures { (bytes : List ℕ) (t : Tree) → IsExprOf bytes t ↔ (expr_of bytes ≡ Some t) }
+    ensures { (bytes : List ℕ) (t u : Tree) → IsExprOf bytes t → IsExprOf bytes u → t ≡ u }
+{}
+
+/// Law: the text that an expression is printed as, `tree_text` of `specs/Printed.antt`, is read alone as that
+/// expression, apart from the places where its parts stand.
+///
+/// Each word of the expression is a word and it fits, as of all that are read. It does nothing when it runs.
+pub fn printed_expression_is_read()
+    ensures { (t : Tree) → HasNames t → Fits limits.MAX_OPEN t
+        → (read : Tree) × IsExprOf (tree_text t) read × (unplaced_tree read ≡ unplaced_tree t) }
 {}
 
 // Reads an expression up to the end, or the first fault.
 fn alone<'a>(alloc: Global, bytes: &'a [u8]) -> Result<Expr<'a>, SyntaxError>
     requires { length bytes.now < 2 ^ 32 - 1 }
-    ensures { AloneGives result (parsed_expr bytes.now) }
+    ensures { AloneGives result (text_reading OfExpr bytes.now) }
 {
+    if let Some(fault) = bad_token(bytes) {
+        return Err(SyntaxError::Fault(fault));
+    }
     let mut parser = Parser::new(bytes);
     let expr = parser.expr(alloc, MAX_OPEN)?;
     if !parser.is_at_end() {
@@ -78,7 +95,8 @@ impl<'a> Parser<'a> {
         }
     }
 
-    // Reads what begins with this wildcard: one with a default, where a colon follows, or the wildcard alone.
+    // Reads what begins with this wildcard: one with a default, where a colon follows, with a count, where a brace
+    // follows, or the wildcard alone.
     #[cycle(expression)]
     fn behind_wildcard(
         &mut self,
@@ -90,12 +108,12 @@ impl<'a> Parser<'a> {
         ensures shorter { OnOk result (length (ahead self.new) ≤ length (ahead self.old)) }
     {
         if !self.sees_default(&wildcard) {
-            return Ok(Expr::Wild(wildcard));
+            return self.counted(wildcard);
         }
         self.advance();
         let (others, last) = self.chain(alloc)?;
         let default = match last {
-            Some(wildcard) => Expr::Wild(wildcard),
+            Some(wildcard) => self.counted(wildcard)?,
             None => self.word_or_bracket(alloc, room)?,
         };
         Ok(Expr::Optional {
@@ -105,7 +123,29 @@ impl<'a> Parser<'a> {
         })
     }
 
-    // Reads wildcards with a colon behind each, and behind them the wildcard that is the default, where it is one.
+    // Reads what begins with this wildcard, where no default of it follows: one with a count, where a brace follows, or
+    // the wildcard alone.
+    fn counted(&mut self, wildcard: Wildcard<'a>) -> Result<Expr<'a>, SyntaxError>
+        requires { HasNoDefaultBehind (wildcard_of wildcard) (token_of self.old.token.kind) }
+        ensures read { CountGives (wildcard_of wildcard.entry) result (ahead self.old) (ahead self.new) }
+        ensures plain { IfOk result (λ e. HasNoDefault (expr_tree e)) }
+        ensures shorter { OnOk result (length (ahead self.new) ≤ length (ahead self.old)) }
+    {
+        if !self.sees_count(&wildcard) {
+            return Ok(Expr::Wild(wildcard));
+        }
+        self.advance();
+        let count = self.number()?;
+        let open = self.plus();
+        self.expect(Punct::CloseBrace)?;
+        Ok(Expr::Counted {
+            wildcard,
+            count,
+            open,
+        })
+    }
+
+    // Reads wildcards with a colon behind each, and behind them a wildcard without one, where it stands there.
     fn chain(
         &mut self,
         alloc: Global,
@@ -113,6 +153,8 @@ impl<'a> Parser<'a> {
         ensures read { ChainGives result (ahead self.old) (ahead self.new) }
         ensures held { IfOk result (λ r. IfNone r.1
             (wildcard_at (token_of self.new.token.kind) self.new.token.place ≡ None)) }
+        ensures last { IfOk result (λ r. IfSome r.1
+            (λ w. HasNoDefaultBehind (wildcard_of w) (token_of self.new.token.kind))) }
         ensures shorter { OnOk result (length (ahead self.new) ≤ length (ahead self.old)) }
     {
         let mut others = Vec::new(alloc);
@@ -176,7 +218,7 @@ impl<'a> Parser<'a> {
             self.advance();
             return Ok(Expr::Apply(name, Vec::new(alloc)));
         }
-        let args = self.arguments(alloc, room - 1)?;
+        let args = self.row(alloc, Punct::Close, room - 1)?;
         Ok(Expr::Apply(name, args))
     }
 
@@ -191,22 +233,27 @@ impl<'a> Parser<'a> {
         Ok(Expr::Variable(Word { text, place }))
     }
 
-    // Reads the arguments of an application, at least one, and the bracket that closes it.
+    /// Reads expressions with a comma between each two, at least one, and the bracket that closes them.
     #[cycle(expression)]
-    fn arguments(&mut self, alloc: Global, room: usize) -> Result<Vec<Expr<'a>>, SyntaxError>
-        ensures read { ArgumentsGive room result (ahead self.old) (ahead self.new) }
+    pub fn row(
+        &mut self,
+        alloc: Global,
+        closes: Punct,
+        room: usize,
+    ) -> Result<Vec<Expr<'a>>, SyntaxError>
+        ensures read { RowGives closes room result (ahead self.old) (ahead self.new) }
         ensures shorter { OnOk result (length (ahead self.new) ≤ length (ahead self.old)) }
     {
-        let mut args = Vec::new(alloc);
+        let mut exprs = Vec::new(alloc);
         loop {
-            args.push(self.expr(alloc, room)?)?;
+            exprs.push(self.expr(alloc, room)?)?;
             if !self.sees(Punct::Comma) {
                 break;
             }
             self.advance();
         }
-        self.expect(Punct::Close)?;
-        Ok(args)
+        self.expect(closes)?;
+        Ok(exprs)
     }
 
     // Reads operands with one sign between them, in brackets of which the opening one is held.

@@ -2,21 +2,22 @@
 
 ghost use Rattle.std.specs.Prelude.{◌≡◌, ◌≤◌, ◌<◌, ◌+◌, ◌-◌, ◌^◌, length, false};
 ghost use Rattle.std.specs.List.{prefix_len};
-ghost use Rattle.mp_syntax.specs.Tokens.{is_word_byte, is_sign_byte, is_blank, after_byte, first_place};
-ghost use Rattle.mp_syntax.specs.Lexing.{first_token_place, is_underscore, least, run_at, settled, word_or_wildcard_at};
-ghost use Rattle.mp_syntax.specs.Lexing.{punct_at, after_blanks, token_of, token_at};
+ghost use Rattle.mp_syntax.specs.Tokens.{is_word_byte, is_sign_byte, is_blank, after_byte, first_place, IsFirstPlace};
+ghost use Rattle.mp_syntax.specs.Lexing.{is_underscore, least, run_at, settled, word_or_wildcard_at, punct_at};
+ghost use Rattle.mp_syntax.specs.Lexing.{after_blanks, token_of, token_at};
 ghost use Rattle.mp_syntax.specs.View.{placed};
 
 use crate::limits::MAX_WORD_BYTES;
 use crate::place::Place;
 use crate::token::{Kind, Punct, Token};
 
-/// The place of the first token of a text, or of the end where it has none: `first_token_place` of `specs/Lexing.antt`.
+/// The place of the first token of a text, by `IsFirstPlace` of `specs/Tokens.antt`.
 ///
-/// The text has fewer than 4,294,967,295 bytes, so that each line and column is a `u32`.
+/// The text has fewer than 4,294,967,295 bytes, so that each line and column is a `u32`. Where it has no token, it is
+/// the place of its first byte that begins none, behind blanks and comments, or of the end.
 pub fn first_token_place(bytes: &[u8]) -> Place
     requires { length bytes.now < 2 ^ 32 - 1 }
-    ensures { result ≡ first_token_place bytes.now }
+    ensures { IsFirstPlace bytes.now result }
 {
     let mut lexer = Lexer::new(bytes);
     lexer.next_token().place

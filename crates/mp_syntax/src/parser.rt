@@ -4,9 +4,10 @@ ghost use Rattle.std.specs.Prelude.{◌≡◌, ◌<◌, ◌≤◌, ◌-◌, ◌^
 ghost use Rattle.mp_syntax.specs.Tokens.{first_place};
 ghost use Rattle.mp_syntax.specs.Lexing.{token_of, behind, lexemes};
 ghost use Rattle.mp_syntax.specs.Machine.{is_punct, is_sign, is_word, is_end, is_number, word_of, sign_of, wildcard_at};
-ghost use Rattle.mp_syntax.specs.Machine.{is_dot, refusal};
+ghost use Rattle.mp_syntax.specs.Machine.{is_dot, is_arrow, refusal};
 ghost use Rattle.mp_syntax.specs.View.{placed, spot_of, spot_of_sign, wildcard_of};
-ghost use Rattle.mp_syntax.specs.Parsing.{ahead, PunctGives, TextGives, NumberGives, WildcardGives};
+ghost use Rattle.mp_syntax.specs.Parsing.{ahead, PunctGives, ArrowGives, TextGives, NumberGives, WildcardGives};
+ghost use Rattle.mp_syntax.specs.Parsing.{PlusGives};
 
 use crate::fault::{Fault, FaultKind, SyntaxError};
 use crate::lexer::Lexer;
@@ -99,6 +100,21 @@ impl<'a> Parser<'a> {
         self.sees(Punct::Colon) && wildcard.is_dot()
     }
 
+    /// Whether the count of this wildcard follows, behind the brace that is held.
+    pub fn sees_count(&self, wildcard: &Wildcard) -> bool
+        ensures { result
+            ≡ (is_punct Punct.OpenBrace (token_of self.now.token.kind) && is_dot (wildcard_of wildcard.now)) }
+    {
+        self.sees(Punct::OpenBrace) && wildcard.is_dot()
+    }
+
+    /// Whether the arrow is held.
+    pub fn sees_arrow(&self) -> bool
+        ensures { result ≡ is_arrow (token_of self.now.token.kind) }
+    {
+        matches!(self.token.kind, Kind::Arrow)
+    }
+
     /// Whether the end is held.
     pub fn is_at_end(&self) -> bool
         ensures { result ≡ is_end (token_of self.now.token.kind) }
@@ -112,6 +128,18 @@ impl<'a> Parser<'a> {
         ensures shorter { OnOk result (length (ahead self.new) < length (ahead self.old)) }
     {
         if !self.sees(punct) {
+            return Err(self.refused());
+        }
+        self.advance();
+        Ok(())
+    }
+
+    /// Passes the arrow, or refuses the token that is held.
+    pub fn arrow(&mut self) -> Result<(), SyntaxError>
+        ensures read { ArrowGives (placed self.old.token) result (ahead self.old) (ahead self.new) }
+        ensures shorter { OnOk result (length (ahead self.new) < length (ahead self.old)) }
+    {
+        if !self.sees_arrow() {
             return Err(self.refused());
         }
         self.advance();
@@ -172,7 +200,7 @@ impl<'a> Parser<'a> {
 
     /// Passes a word of digits alone and gives it, or refuses the token that is held.
     pub fn number(&mut self) -> Result<Word<'a>, SyntaxError>
-        ensures read { NumberGives result (ahead self.old) (ahead self.new) }
+        ensures read { NumberGives (placed self.old.token) result (ahead self.old) (ahead self.new) }
         ensures shorter { OnOk result (length (ahead self.new) < length (ahead self.old)) }
     {
         match self.token.kind {
@@ -183,6 +211,18 @@ impl<'a> Parser<'a> {
             }
             _ => Err(self.refused()),
         }
+    }
+
+    /// Passes the sign `+` where it is held, and says whether it was.
+    pub fn plus(&mut self) -> bool
+        ensures read { PlusGives result (ahead self.old) (ahead self.new) }
+        ensures shorter { length (ahead self.new) ≤ length (ahead self.old) }
+    {
+        let plus = self.sees_sign(b"+");
+        if plus {
+            self.advance();
+        }
+        plus
     }
 }
 

@@ -8,11 +8,15 @@ ghost use Rattle.mp_syntax.specs.Machine.{is_end, keyword, OfRule, OfSubject, To
 ghost use Rattle.mp_syntax.specs.Syntax as syntax;
 ghost use Rattle.mp_syntax.specs.Syntax.{IsSyntaxOf, StatementsHaveNames, AreStatements};
 ghost use Rattle.mp_syntax.specs.Printed.{statements_text, unplaced};
-ghost use Rattle.mp_syntax.specs.View.{statement_tree};
-ghost use Rattle.mp_syntax.specs.Parsing.{ahead, StatementFrom, NamedExprGives, KeywordGives, FileGives, keyword_step};
+ghost use Rattle.mp_syntax.specs.View.{placed, statement_tree};
+ghost use Rattle.mp_syntax.specs.Parsing.{ahead, StatementFrom, NamedExprGives, TemplateGives, KeywordGives, FileGives};
+ghost use Rattle.mp_syntax.specs.Parsing.{keyword_step};
 ghost use Rattle.mp_syntax.specs.ConditionParsing.{IfGives, EndsIf};
-ghost use Rattle.mp_syntax.specs.Reading.{parsed_file, reading, syntax_of, IfFault, IsOkOrMemory};
+ghost use Rattle.mp_syntax.specs.Begins.{OfFile};
+ghost use Rattle.mp_syntax.specs.FirstFault.{IsFirstFault};
+ghost use Rattle.mp_syntax.specs.Reading.{text_reading, IfFault, IsOkOrMemory};
 
+use crate::bad_token::bad_token;
 use crate::condition_tree::Condition;
 use crate::fault::SyntaxError;
 use crate::limits::MAX_OPEN;
@@ -33,6 +37,8 @@ enum Keyword {
     Rule,
     // `subject`
     Subject,
+    // `edit`
+    Edit,
 }
 
 /// The statements of a rule file, in order, as syntax trees whose words lie in the file's bytes.
@@ -41,11 +47,12 @@ enum Keyword {
 /// statements bytes are is `IsSyntaxOf` of `specs/Syntax.antt`: at most one list of them.
 ///
 /// - `SyntaxError::Memory` comes where memory runs out.
-/// - `SyntaxError::Fault` comes exactly where the bytes are no statements, with the first fault that
-///   reading token by token meets, by `reading` of `specs/Reading.antt`: at a byte that begins no
-///   token (`BadByte`), a word of more than 64 bytes (`TooMany`), a bracket that an expression opens
-///   while 100 are open (`TooDeep`), or another token that the grammar doesn't have there (`Syntax`),
-///   which at the end of a file that stops within a statement is the end.
+/// - `SyntaxError::Fault` comes exactly where the bytes are no statements, with their first fault, by
+///   `IsFirstFault` of `specs/FirstFault.antt`. All tokens are looked at first: the fault is at the first byte
+///   that begins no token (`BadByte`) or the first word of more than 64 bytes (`TooMany`), whichever comes
+///   first. Where there is none, it is at the first token that is a bracket with which statements go on while
+///   100 are open (`TooDeep`), or with which none go on (`Syntax`); and where there is no such token it is
+///   `Syntax` at the end, since the statements go on.
 ///
 /// After an error nothing is kept.
 pub fn read_statements<'a>(
@@ -61,17 +68,18 @@ pub fn read_statements<'a>(
     // What the bytes are is answered, unless memory runs out.
     ensures only { (file : List syntax.Statement) → IsSyntaxOf bytes.now file
         → IsOkOrMemory result (λ read. read ≡ file) }
-    // A fault is the one that reading token by token meets.
-    ensures fault { IfErr result (λ e. IfFault e (λ f. reading bytes.now ≡ Err f)) }
+    // A fault is the first one of the bytes.
+    ensures fault { IfErr result (λ e. IfFault e (λ f. IsFirstFault OfFile bytes.now f)) }
 {
     statements(alloc, bytes)
 }
 
-/// Law: bytes are these statements exactly where `syntax_of` of `specs/Reading.antt` gives them.
+/// Law: bytes are one list of statements at most.
 ///
-/// So each list of bytes is one list of statements or none. It does nothing when it runs.
+/// It does nothing when it runs.
 pub fn syntax_is_a_function()
-    ensures { (bytes : List ℕ) (file : List syntax.Statement) → IsSyntaxOf bytes file ↔ (syntax_of bytes ≡ Some file) }
+    ensures { (bytes : List ℕ) (file other : List syntax.Statement) → IsSyntaxOf bytes file → IsSyntaxOf bytes other
+        → file ≡ other }
 {}
 
 /// Law: each word of the statements of bytes is 1 to 64 letters and digits, and each sign is one or
@@ -88,7 +96,7 @@ pub fn syntax_has_names()
 /// Of the statements each word is a word and each expression fits, as of all that are read. It does nothing when it
 /// runs.
 pub fn printed_statements_are_read()
-    ensures { (file : List syntax.Statement) → StatementsHaveNames file → AreStatements file
+    ensures { (file : List syntax.Statement) → StatementsHaveNames file → AreStatements MAX_OPEN file
         → (read : List syntax.Statement) × IsSyntaxOf (statements_text file) read
         × (map unplaced read ≡ map unplaced file) }
 {}
@@ -96,8 +104,11 @@ pub fn printed_statements_are_read()
 // Reads all statements, or the first fault.
 fn statements<'a>(alloc: Global, bytes: &'a [u8]) -> Result<Vec<Statement<'a>>, SyntaxError>
     requires { length bytes.now < 2 ^ 32 - 1 }
-    ensures { FileGives result (parsed_file bytes.now) }
+    ensures { FileGives result (text_reading OfFile bytes.now) }
 {
+    if let Some(fault) = bad_token(bytes) {
+        return Err(SyntaxError::Fault(fault));
+    }
     let mut parser = Parser::new(bytes);
     let mut statements = Vec::new(alloc);
     while !parser.is_at_end() {
@@ -119,27 +130,44 @@ impl<'a> Parser<'a> {
             Keyword::Kind => self.kind(alloc),
             Keyword::Rule => self.rule(alloc),
             Keyword::Subject => self.subject(alloc),
+            Keyword::Edit => self.edit(alloc),
         }
     }
 
-    // Reads what follows `rule`: a name, a colon, an expression, perhaps `if` and a condition, and the semicolon.
+    // Reads what follows `rule`: a name, a colon, an expression, perhaps the arrow and another one, perhaps `if` and a
+    // condition, and the semicolon.
     fn rule(&mut self, alloc: Global) -> Result<Statement<'a>, SyntaxError>
         ensures read { StatementFrom (AfterRole OfRule) result (ahead self.old) (ahead self.new) }
         ensures shorter { OnOk result (length (ahead self.new) ≤ length (ahead self.old)) }
     {
         let (name, pattern) = self.named_expr(alloc)?;
+        let template = self.template(alloc)?;
         let condition = self.rule_condition(alloc)?;
         self.expect(Punct::Semicolon)?;
         Ok(Statement::Rule {
             name,
             pattern,
+            template,
             condition,
         })
     }
 
+    // Reads the arrow and an expression, where the arrow is held.
+    fn template(&mut self, alloc: Global) -> Result<Option<Expr<'a>>, SyntaxError>
+        ensures read { TemplateGives (token_of self.new.token.kind) result (ahead self.old) (ahead self.new) }
+        ensures shorter { OnOk result (length (ahead self.new) ≤ length (ahead self.old)) }
+    {
+        if !self.sees_arrow() {
+            return Ok(None);
+        }
+        self.advance();
+        let template = self.expr(alloc, MAX_OPEN)?;
+        Ok(Some(template))
+    }
+
     // Reads `if` and a condition, where `if` is held.
     fn rule_condition(&mut self, alloc: Global) -> Result<Option<Condition<'a>>, SyntaxError>
-        ensures read { IfGives result (ahead self.old) (ahead self.new) }
+        ensures read { IfGives (placed self.old.token) result (ahead self.old) (ahead self.new) }
         ensures ends { IfOk result (λ o. EndsIf o (token_of self.new.token.kind)) }
         ensures shorter { OnOk result (length (ahead self.new) ≤ length (ahead self.old)) }
     {
@@ -204,6 +232,8 @@ fn keyword_of(word: &[u8]) -> Option<Keyword>
         Some(Keyword::Rule)
     } else if word == b"subject".as_slice() {
         Some(Keyword::Subject)
+    } else if word == b"edit".as_slice() {
+        Some(Keyword::Edit)
     } else {
         None
     }

@@ -27,7 +27,7 @@ impl Wildcard<'_> {
     ghost use Rattle.mp_syntax.specs.Machine.{is_dot};
     ghost use Rattle.mp_syntax.specs.View.{wildcard_of};
 
-    /// Whether it has one underscore and no kind, and so may have a default.
+    /// Whether it has one underscore and no kind, and so may have a count or a default.
     pub(crate) fn is_dot(&self) -> bool
         ensures { result ≡ is_dot (wildcard_of self.now) }
     {
@@ -55,6 +55,15 @@ pub enum Expr<'a> {
     },
     /// A wildcard.
     Wild(Wildcard<'a>),
+    /// A wildcard with one underscore and no kind, and in braces behind it how many arguments it takes.
+    Counted {
+        /// The wildcard.
+        wildcard: Wildcard<'a>,
+        /// The number in the braces, in digits.
+        count: Word<'a>,
+        /// Whether it takes more arguments: a `+` stands behind the number.
+        open: bool,
+    },
     /// A wildcard, a colon and its default; or several wildcards, each with a colon behind it, and then the default of
     /// the last.
     Optional {
@@ -84,6 +93,44 @@ pub enum Flag<'a> {
     Infix(InfixSign<'a>),
 }
 
+/// Where a term of a subject is replaced.
+///
+/// As plain data it is a `Position` of `specs/Syntax.antt`, by `position_of` of `specs/View.antt`.
+#[derive(Debug, Drop)]
+pub enum Position<'a> {
+    /// `.`, the whole term, with its place.
+    Root(Place),
+    /// Numbers with a `.` between each two, each in digits: that of an argument, that of an argument of it, and so on.
+    Path {
+        /// The first number.
+        first: Word<'a>,
+        /// The further numbers, in order.
+        others: Vec<Word<'a>>,
+    },
+}
+
+/// What stands in the place of a term.
+///
+/// As plain data it is a `Replacement` of `specs/Syntax.antt`, by `replacement_tree` of `specs/View.antt`.
+#[derive(Debug, Drop)]
+pub enum Replacement<'a> {
+    /// An expression.
+    Single(Expr<'a>),
+    /// Any number of expressions in square brackets, in order.
+    Listed(Vec<Expr<'a>>),
+}
+
+/// A change of a subject: `POSITION -> EXPR` or `POSITION -> [EXPR, ..]`.
+///
+/// As plain data it is a `Change` of `specs/Syntax.antt`, by `change_tree` of `specs/View.antt`.
+#[derive(Debug, Drop)]
+pub struct Change<'a> {
+    /// Where it changes the subject.
+    pub position: Position<'a>,
+    /// What stands there then.
+    pub terms: Replacement<'a>,
+}
+
 /// A statement.
 ///
 /// As plain data it is a `Statement` of `specs/Syntax.antt`, by `statement_tree` of `specs/View.antt`.
@@ -107,12 +154,14 @@ pub enum Statement<'a> {
         /// The words behind the colon, in order; what is read has one or more.
         members: Vec<Word<'a>>,
     },
-    /// `rule NAME: PATTERN;` or `rule NAME: PATTERN if CONDITION;`
+    /// `rule NAME: PATTERN -> TEMPLATE if CONDITION;`, perhaps without the template, the condition or both.
     Rule {
         /// The name of the rule.
         name: Word<'a>,
         /// The expression behind the colon.
         pattern: Expr<'a>,
+        /// The expression behind the arrow, where there is one.
+        template: Option<Expr<'a>>,
         /// The condition behind `if`, where there is one.
         condition: Option<Condition<'a>>,
     },
@@ -122,5 +171,12 @@ pub enum Statement<'a> {
         name: Word<'a>,
         /// The expression behind the colon.
         term: Expr<'a>,
+    },
+    /// `edit SUBJECT: CHANGE, ..;`
+    Edit {
+        /// The name of the subject.
+        subject: Word<'a>,
+        /// Its changes, in order; what is read has one or more.
+        changes: Vec<Change<'a>>,
     },
 }

@@ -1,5 +1,5 @@
-use Rattle.mp_syntax.proofs.Whole.{expr_is_read, read-exact}
+use Rattle.mp_syntax.proofs.Whole.{expr_is_read, read-unique}
 use Rattle.mp_syntax.proofs.expression.expression_is_a_function.Goals as goal
 
 pub returns : goal.returns
-returns c = read-exact expr_is_read
+returns c = read-unique expr_is_read

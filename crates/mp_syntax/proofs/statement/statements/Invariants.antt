@@ -2,12 +2,14 @@ use Rattle.std.proofs.Common.{◌≡◌, map, length}
 use Rattle.mp_syntax.specs.Machine.{Top, run}
 use Rattle.mp_syntax.specs.View.{statement_tree}
 use Rattle.mp_syntax.specs.Parsing.{ahead}
-use Rattle.mp_syntax.specs.Reading.{parsed_file}
+use Rattle.mp_syntax.specs.Begins.{OfFile}
+use Rattle.mp_syntax.specs.Reading.{text_reading}
 use Rattle.mp_syntax.proofs.statement.statements.Given as goal
 
 -- what is read from here on, behind the statements so far, is what is read from the start
 abbrev pub invariant-loop-parser : goal.invariant-loop-parser
-invariant-loop-parser l = parsed_file l.fn.bytes ≡ run (map statement_tree l.statements.items) Top (ahead l.parser)
+invariant-loop-parser l =
+    text_reading OfFile l.fn.bytes ≡ run (map statement_tree l.statements.items) Top (ahead l.parser)
 
 abbrev pub decreases-loop-parser : goal.decreases-loop-parser
 decreases-loop-parser l = length (ahead l.parser)

@@ -1,6 +1,7 @@
 use Rattle.std.proofs.Common.{rules, [], ◌∷◌, ◌++◌, map, sym, ap, ◌∙◌, arith}
 use Rattle.std.specs.Prelude.{codes}
 use Rattle.std.proofs.lemmas.List.{map_push}
+use Rattle.mp_syntax.specs.declared.limits.TheConstants.{MAX_OPEN}
 use Rattle.mp_syntax.specs.declared.token.Punct.TheVariants.{OpenSquare}
 use Rattle.mp_syntax.specs.Syntax.{Bracketed, literals, condition}
 use Rattle.mp_syntax.specs.Machine.{Go, BeforeLiteral, BeforeBody, AfterLiteral, Square, no_level, next_literal}
@@ -44,7 +45,7 @@ bracketed-returns-in_err-condition-clause-read t c = λ done x k s len.
     breaks _ _ _ _ _ _ _ c.from_residual.ensures.1
     (over-punct OpenSquare (placed c.args.self.now.token) _ _ c.advance.ensures c.requires done (BeforeBody x k s)
     (Go (BeforeLiteral x (Square s ∷ k) no_level))
-    (square-step x k s (placed c.args.self.now.token) c.args.room len (omega arith) c.requires))
+    (square-step MAX_OPEN x k s (placed c.args.self.now.token) c.args.room len (omega arith) c.requires))
     (c.in_err-condition.ensures.read done x (Square s ∷ k) (omega (arith, len)))
 
 pub bracketed-returns-in_err-expect-clause-read : goal.bracketed-returns-in_err-expect-clause-read
@@ -53,7 +54,7 @@ bracketed-returns-in_err-expect-clause-read t c = λ done x k s len.
     breaks _ _ _ _ _ _ _ c.from_residual-in_err-expect.ensures.1
     (over-punct OpenSquare (placed c.args.self.now.token) _ _ c.advance.ensures c.requires done (BeforeBody x k s)
     (Go (BeforeLiteral x (Square s ∷ k) no_level))
-    (square-step x k s (placed c.args.self.now.token) c.args.room len (omega arith) c.requires)
+    (square-step MAX_OPEN x k s (placed c.args.self.now.token) c.args.room len (omega arith) c.requires)
     ∙ r.3 done x (Square s ∷ k) (omega (arith, len)))
     (c.in_err-expect.ensures.read done (AfterLiteral x (Square s ∷ k) r.0 r.1)
     (Go (AfterLiteral x k s.level (Bracketed s.negated (condition (all_alternatives r.0 r.1)))))
@@ -64,7 +65,7 @@ bracketed-returns-clause-read t c = λ done x k s len.
     let r = c.in_ok-condition.ensures.read in
     over-punct OpenSquare (placed c.args.self.now.token) _ _ c.advance.ensures c.requires done (BeforeBody x k s)
     (Go (BeforeLiteral x (Square s ∷ k) no_level))
-    (square-step x k s (placed c.args.self.now.token) c.args.room len (omega arith) c.requires)
+    (square-step MAX_OPEN x k s (placed c.args.self.now.token) c.args.room len (omega arith) c.requires)
     ∙ r.3 done x (Square s ∷ k) (omega (arith, len))
     ∙ c.in_ok-expect.ensures.read done (AfterLiteral x (Square s ∷ k) r.0 r.1)
     (Go (AfterLiteral x k s.level (Bracketed s.negated (condition (all_alternatives r.0 r.1)))))

@@ -1,20 +1,21 @@
 use Rattle.std.proofs.Common.{◌≡◌, ◌+◌, [], ◌∷◌, ◌++◌, map, refl, sym, ap, subst, ◌∙◌, arith}
 use Rattle.std.proofs.lemmas.List.{map_push}
-use Rattle.mp_syntax.specs.declared.token.Punct.TheVariants.{Open, Close}
+use Rattle.mp_syntax.specs.declared.limits.TheConstants.{MAX_OPEN}
+use Rattle.mp_syntax.specs.declared.token.Punct.TheVariants.{Open, Close, Comma}
 use Rattle.mp_syntax.specs.Machine.{Go, Default, BeforeExpr, AfterExpr, AfterWord, AfterOpen, Arguments, Bracket}
 use Rattle.mp_syntax.specs.Machine.{Operands, run}
 use Rattle.mp_syntax.specs.Tokens.{Punctuation}
 use Rattle.mp_syntax.specs.Lexing.{token_of}
 use Rattle.mp_syntax.specs.Syntax.{Apply, InfixOf, Optional, trees, HasNoDefault}
 use Rattle.mp_syntax.specs.View.{placed, spot_of, spot_of_sign, wildcard_of, expr_tree}
-use Rattle.mp_syntax.specs.Parsing.{ahead, behind_chain, within_defaults}
-use Rattle.mp_syntax.proofs.Runs.{expr-closes, operand-closes, word-opens, open-closes, open-expr, bracket-opens}
-use Rattle.mp_syntax.proofs.Runs.{over-punct, length-passed_sign, over-sign, operand-again, over-default}
-use Rattle.mp_syntax.proofs.Runs.{defaults-behind, chained-optional, open_count-within_defaults, breaks, passes-along}
-use Rattle.mp_syntax.proofs.Runs.{word-begins, dollar-begins}
+use Rattle.mp_syntax.specs.Parsing.{ahead, behind_wildcard, within_defaults}
+use Rattle.mp_syntax.proofs.Runs.{length-passed, row-closes, row-again, operand-closes, word-opens, open-closes}
+use Rattle.mp_syntax.proofs.Runs.{open-expr, bracket-opens, over-punct, length-passed_sign, over-sign, operand-again}
+use Rattle.mp_syntax.proofs.Runs.{over-default, defaults-behind, chained-optional, open_count-within_defaults, breaks}
+use Rattle.mp_syntax.proofs.Runs.{passes-along, word-begins, dollar-begins}
 use Rattle.mp_syntax.proofs.Trees.{expr_tree-Apply, expr_tree-Infix}
 use Rattle.mp_syntax.proofs.parser.Parser.+expression.Goals as goal
-use Rattle.mp_syntax.proofs.parser.Parser.+expression.Goals.{behind_wildcard-in-Some}
+use Rattle.mp_syntax.proofs.parser.Parser.+expression.Goals.{behind_wildcard-in-Some+in_ok-default-in-Some}
 use Rattle.mp_syntax.proofs.parser.Parser.+expression.Goals.{behind_wildcard-in-None+in_ok-default-in-None}
 
 pub expr-returns-in-Some-clause-read : goal.expr-returns-in-Some-clause-read
@@ -39,33 +40,60 @@ pub word_or_bracket-invariant_of-behind_word : goal.word_or_bracket-invariant_of
 word_or_bracket-invariant_of-behind_word t c =
     record { named = c.args.self.now.token.spelled.word _ (ap token_of c.in-Word.is) }
 
-pub arguments-returns-in_err-expect-clause-read : goal.arguments-returns-in_err-expect-clause-read
-arguments-returns-in_err-expect-clause-read t c = λ done h k w len.
-    let args = map expr_tree c.loop-args.args.items in
+pub row-returns-in_err-expr-clause-read : goal.row-returns-in_err-expr-clause-read
+row-returns-in_err-expr-clause-read t c = λ done x k frame to row room.
+    let es = map expr_tree c.loop-exprs.exprs.items in
+    breaks _ _ _ _ _ _ _ c.from_residual.ensures.1
+    (c.loop-exprs.invariant.read done x k frame to row room)
+    (c.in_err-expr.ensures.read done x (frame es ∷ k) (room es))
+
+pub row-returns-in_err-expect-clause-read : goal.row-returns-in_err-expect-clause-read
+row-returns-in_err-expect-clause-read t c = λ done x k frame to row room.
+    let es = map expr_tree c.loop-exprs.exprs.items in
     let e = expr_tree c.in_ok-expr.field-0 in
     breaks _ _ _ _ _ _ _ c.from_residual-in_err-expect.ensures.1
-    (c.loop-args.invariant.read done h k w len
-    ∙ c.in_ok-expr.ensures.read done h (Arguments w args ∷ k) (omega (arith, len)))
-    (c.in_err-expect.ensures.read done (AfterExpr h (Arguments w args ∷ k) e) _
-    (expr-closes h w args k e (placed c.expr.new.self.token) (sym c.sees.ensures ∙ c.if-not-sees.true)))
+    (c.loop-exprs.invariant.read done x k frame to row room
+    ∙ c.in_ok-expr.ensures.read done x (frame es ∷ k) (room es))
+    (c.in_err-expect.ensures.read done (AfterExpr x (frame es ∷ k) e) _
+    (row-closes c.args.closes x k frame to row es e (placed c.expr.new.self.token)
+    (sym c.sees.ensures ∙ c.if-not-sees.true)))
 
-pub arguments-returns-clause-read : goal.arguments-returns-clause-read
-arguments-returns-clause-read t c = λ done h k w len.
-    let args = map expr_tree c.loop-args.args.items in
+pub row-returns-clause-read : goal.row-returns-clause-read
+row-returns-clause-read t c = λ done x k frame to row room.
+    let es = map expr_tree c.loop-exprs.exprs.items in
     let e = expr_tree c.in_ok-expr.field-0 in
-    c.loop-args.invariant.read done h k w len
-    ∙ c.in_ok-expr.ensures.read done h (Arguments w args ∷ k) (omega (arith, len))
-    ∙ c.in_ok-expect.ensures.read done (AfterExpr h (Arguments w args ∷ k) e) _
-    (expr-closes h w args k e (placed c.expr.new.self.token) (sym c.sees.ensures ∙ c.if-not-sees.true))
-    ∙ ap (λ l. run done (AfterExpr h k (Apply w (trees l))) (ahead c.expect.new.self))
+    c.loop-exprs.invariant.read done x k frame to row room
+    ∙ c.in_ok-expr.ensures.read done x (frame es ∷ k) (room es)
+    ∙ c.in_ok-expect.ensures.read done (AfterExpr x (frame es ∷ k) e) _
+    (row-closes c.args.closes x k frame to row es e (placed c.expr.new.self.token)
+    (sym c.sees.ensures ∙ c.if-not-sees.true))
+    ∙ ap (λ l. run done (to l) (ahead c.expect.new.self))
     (sym (ap (map expr_tree) c.in_ok-push.ensures.items ∙ map_push expr_tree _ _))
+
+pub row-loop-exprs-preserved : goal.row-loop-exprs-preserved
+row-loop-exprs-preserved t c =
+    let held = sym c.sees.ensures ∙ c.if-not-sees.false in
+    record {
+      read = λ done x k frame to row room.
+          let es = map expr_tree c.loop-exprs.exprs.items in
+          let e = expr_tree c.in_ok-expr.field-0 in
+          c.loop-exprs.invariant.read done x k frame to row room
+          ∙ c.in_ok-expr.ensures.read done x (frame es ∷ k) (room es)
+          ∙ over-punct Comma (placed c.expr.new.self.token) _ _ c.advance.ensures held done
+          (AfterExpr x (frame es ∷ k) e) (Go (BeforeExpr x (frame (es ++ e ∷ []) ∷ k)))
+          (row-again c.args.closes x k frame to row es e (placed c.expr.new.self.token) held)
+          ∙ ap (λ l. run done (BeforeExpr x (frame l ∷ k)) (ahead c.advance.new.self))
+          (sym (ap (map expr_tree) c.in_ok-push.ensures.items ∙ map_push expr_tree _ _));
+      shorter = let passed = length-passed Comma (placed c.expr.new.self.token) _ _ c.advance.ensures held in
+          omega (arith, passed, c.in_ok-expr.ensures.shorter, c.loop-exprs.invariant.shorter);
+    }
 
 pub behind_word-returns-then-sees-clause-read : goal.behind_word-returns-then-sees-clause-read
 behind_word-returns-then-sees-clause-read t c = λ done h k len.
     let name = spot_of c.args.name in
     over-punct Open (placed c.args.self.now.token) _ _ c.advance.ensures (sym c.sees.ensures ∙ c.if-not-sees.false) done
     (AfterWord h k name) (Go (AfterOpen h k name))
-    (word-opens h k name (placed c.args.self.now.token) c.args.room len (omega arith)
+    (word-opens MAX_OPEN h k name (placed c.args.self.now.token) c.args.room len (omega arith)
     (sym c.sees.ensures ∙ c.if-not-sees.false))
     ∙ over-punct Close (placed c.advance.new.self.token) _ _ c.advance-then-sees.ensures
     (sym c.sees-2.ensures ∙ c.if-sees.true) done (AfterOpen h k name) (Go (AfterExpr h k (Apply name (trees []))))
@@ -79,12 +107,25 @@ behind_word-returns-clause-read t c = λ done h k len.
     let name = spot_of c.args.name in
     over-punct Open (placed c.args.self.now.token) _ _ c.advance.ensures (sym c.sees.ensures ∙ c.if-not-sees.false) done
     (AfterWord h k name) (Go (AfterOpen h k name))
-    (word-opens h k name (placed c.args.self.now.token) c.args.room len (omega arith)
+    (word-opens MAX_OPEN h k name (placed c.args.self.now.token) c.args.room len (omega arith)
     (sym c.sees.ensures ∙ c.if-not-sees.false))
-    ∙ open-expr done h k name (placed c.advance.new.self.token) _ (sym c.sees-2.ensures ∙ c.if-sees.false)
-    ∙ c.in_ok-args.ensures.read done h k name (omega (arith, len))
-    ∙ ap (λ x. run done (AfterExpr h k x) (ahead c.arguments.new.self))
+    ∙ open-expr MAX_OPEN done h k name (placed c.advance.new.self.token) _ (sym c.sees-2.ensures ∙ c.if-sees.false)
+    ∙ c.in_ok-args.ensures.read done h k (Arguments name) (λ es. AfterExpr h k (Apply name (trees es)))
+    (λ es e t. refl) (λ es. omega (arith, len))
+    ∙ ap (λ x. run done (AfterExpr h k x) (ahead c.row.new.self))
     (sym (expr_tree-Apply c.args.name c.in_ok-args.args))
+
+pub behind_word-returns-in_err-args-clause-read : goal.behind_word-returns-in_err-args-clause-read
+behind_word-returns-in_err-args-clause-read t c = λ done h k len.
+    let name = spot_of c.args.name in
+    breaks _ _ _ _ _ _ _ c.from_residual.ensures.1
+    (over-punct Open (placed c.args.self.now.token) _ _ c.advance.ensures (sym c.sees.ensures ∙ c.if-not-sees.false)
+    done (AfterWord h k name) (Go (AfterOpen h k name))
+    (word-opens MAX_OPEN h k name (placed c.args.self.now.token) c.args.room len (omega arith)
+    (sym c.sees.ensures ∙ c.if-not-sees.false))
+    ∙ open-expr MAX_OPEN done h k name (placed c.advance.new.self.token) _ (sym c.sees-2.ensures ∙ c.if-sees.false))
+    (c.in_err-args.ensures.read done h k (Arguments name) (λ es. AfterExpr h k (Apply name (trees es)))
+    (λ es e t. refl) (λ es. omega (arith, len)))
 
 pub infix-returns-in_err-sign-clause-read : goal.infix-returns-in_err-sign-clause-read
 infix-returns-in_err-sign-clause-read t c = λ done h k len.
@@ -93,7 +134,7 @@ infix-returns-in_err-sign-clause-read t c = λ done h k len.
     breaks _ _ _ _ _ _ _ c.from_residual-in_err-sign.ensures.1
     (over-punct Open (placed c.args.self.now.token) _ _ c.advance.ensures c.requires done (BeforeExpr h k)
     (Go (BeforeExpr h (Bracket place ∷ k)))
-    (bracket-opens h k (placed c.args.self.now.token) c.args.room len (omega arith) c.requires)
+    (bracket-opens MAX_OPEN h k (placed c.args.self.now.token) c.args.room len (omega arith) c.requires)
     ∙ c.in_ok-first.ensures.read done h (Bracket place ∷ k) (omega (arith, len)))
     (c.in_err-sign.ensures.read done (AfterExpr h (Bracket place ∷ k) first)
     (λ s. BeforeExpr h (Operands place s first [] ∷ k)) (λ t. refl))
@@ -105,7 +146,7 @@ infix-returns-in_err-operands-clause-read t c = λ done h k len.
     breaks _ _ _ _ _ _ _ c.from_residual-in_err-operands.ensures.1
     (over-punct Open (placed c.args.self.now.token) _ _ c.advance.ensures c.requires done (BeforeExpr h k)
     (Go (BeforeExpr h (Bracket place ∷ k)))
-    (bracket-opens h k (placed c.args.self.now.token) c.args.room len (omega arith) c.requires)
+    (bracket-opens MAX_OPEN h k (placed c.args.self.now.token) c.args.room len (omega arith) c.requires)
     ∙ c.in_ok-first.ensures.read done h (Bracket place ∷ k) (omega (arith, len))
     ∙ c.in_ok-sign.ensures.read done (AfterExpr h (Bracket place ∷ k) first)
     (λ s. BeforeExpr h (Operands place s first [] ∷ k)) (λ t. refl))
@@ -117,7 +158,7 @@ infix-returns-clause-read t c = λ done h k len.
     let first = expr_tree c.in_ok-first.first in
     over-punct Open (placed c.args.self.now.token) _ _ c.advance.ensures c.requires done (BeforeExpr h k)
     (Go (BeforeExpr h (Bracket place ∷ k)))
-    (bracket-opens h k (placed c.args.self.now.token) c.args.room len (omega arith) c.requires)
+    (bracket-opens MAX_OPEN h k (placed c.args.self.now.token) c.args.room len (omega arith) c.requires)
     ∙ c.in_ok-first.ensures.read done h (Bracket place ∷ k) (omega (arith, len))
     ∙ c.in_ok-sign.ensures.read done (AfterExpr h (Bracket place ∷ k) first)
     (λ s. BeforeExpr h (Operands place s first [] ∷ k)) (λ t. refl)
@@ -163,9 +204,21 @@ behind_wildcard-returns-in_err-default-in-None-clause-read t c = λ done x k len
     breaks _ _ _ _ _ _ _ c.from_residual-in_err-default-in-None.ensures.1
     (over-default (placed c.args.self.now.token) _ _ c.advance.ensures done x k w test
     ∙ c.in_ok-others.ensures.read done x (Default w ∷ k)
-    ∙ ap (λ o. run done (behind_chain x (within_defaults ws k) o) (ahead c.chain.new.self)) c.in-None.is)
+    ∙ ap (λ o. run done (behind_wildcard x (within_defaults ws k) o) (ahead c.chain.new.self)) c.in-None.is)
     (c.in_err-default-in-None.ensures.read done x (within_defaults ws k)
     (ap (λ n. n + c.args.room) (open_count-within_defaults ws k) ∙ len))
+
+pub behind_wildcard-returns-in_err-default-in-Some-clause-read :
+    goal.behind_wildcard-returns-in_err-default-in-Some-clause-read
+behind_wildcard-returns-in_err-default-in-Some-clause-read t c = λ done x k len.
+    let w = wildcard_of c.args.wildcard in
+    let ws = w ∷ map wildcard_of c.in_ok-others.others.items in
+    let test = sym c.sees_default.ensures ∙ c.if-not-sees_default.false in
+    breaks _ _ _ _ _ _ _ c.from_residual-in_err-default-in-Some.ensures.1
+    (over-default (placed c.args.self.now.token) _ _ c.advance.ensures done x k w test
+    ∙ c.in_ok-others.ensures.read done x (Default w ∷ k)
+    ∙ ap (λ o. run done (behind_wildcard x (within_defaults ws k) o) (ahead c.chain.new.self)) c.in-Some.is)
+    (c.in_err-default-in-Some.ensures.read done x (within_defaults ws k))
 
 pub behind_wildcard-returns-clause-read : goal.behind_wildcard-returns-clause-read
 behind_wildcard-returns-clause-read t c = λ done x k len.
@@ -175,18 +228,20 @@ behind_wildcard-returns-clause-read t c = λ done x k len.
     let e = expr_tree c.match-last.default in
     let test = sym c.sees_default.ensures ∙ c.if-not-sees_default.false in
     let plain : HasNoDefault e = elim c.match-last.branch [
-      | behind_wildcard-in-Some v ↦ subst (λ d. HasNoDefault (expr_tree d)) (sym v.default-is) tt
+      | behind_wildcard-in-Some+in_ok-default-in-Some v ↦
+          subst (λ d. HasNoDefault (expr_tree d)) (sym v.default-is) v.in_ok-default-in-Some.ensures.plain
       | behind_wildcard-in-None+in_ok-default-in-None v ↦
           subst (λ d. HasNoDefault (expr_tree d)) (sym v.default-is) v.in_ok-default-in-None.ensures.plain
     ] in
-    let last : run done (behind_chain x (within_defaults ws k) c.in_ok-others.last) (ahead c.chain.new.self)
+    let last : run done (behind_wildcard x (within_defaults ws k) c.in_ok-others.last) (ahead c.chain.new.self)
     ≡ run done (AfterExpr x (within_defaults ws k) e) (ahead c.match-last.self) = elim c.match-last.branch [
-      | behind_wildcard-in-Some v ↦
-          ap (λ o. run done (behind_chain x (within_defaults ws k) o) (ahead c.chain.new.self)) v.in-Some.is
+      | behind_wildcard-in-Some+in_ok-default-in-Some v ↦
+          ap (λ o. run done (behind_wildcard x (within_defaults ws k) o) (ahead c.chain.new.self)) v.in-Some.is
+          ∙ v.in_ok-default-in-Some.ensures.read done x (within_defaults ws k)
           ∙ (λ i. run done (AfterExpr x (within_defaults ws k) (expr_tree (sym v.default-is i)))
           (ahead (sym v.self-is i)))
       | behind_wildcard-in-None+in_ok-default-in-None v ↦
-          ap (λ o. run done (behind_chain x (within_defaults ws k) o) (ahead c.chain.new.self)) v.in-None.is
+          ap (λ o. run done (behind_wildcard x (within_defaults ws k) o) (ahead c.chain.new.self)) v.in-None.is
           ∙ v.in_ok-default-in-None.ensures.read done x (within_defaults ws k)
           (ap (λ n. n + c.args.room) (open_count-within_defaults ws k) ∙ len)
           ∙ (λ i. run done (AfterExpr x (within_defaults ws k) (expr_tree (sym v.default-is i)))
@@ -195,7 +250,7 @@ behind_wildcard-returns-clause-read t c = λ done x k len.
     over-default (placed c.args.self.now.token) _ _ c.advance.ensures done x k w test
     ∙ c.in_ok-others.ensures.read done x (Default w ∷ k)
     ∙ last
-    ∙ defaults-behind done x ws k e (ahead c.match-last.self)
+    ∙ defaults-behind MAX_OPEN done x ws k e (ahead c.match-last.self)
     ∙ ap (λ t. run done (AfterExpr x k t) (ahead c.match-last.self))
     (chained-optional w others e plain ∙ ap (λ d. Optional w others (expr_tree d)) (sym c.in_ok-new.ensures.ok))
 
@@ -215,7 +270,7 @@ operands-loop-operands-preserved t c =
           ∙ over-sign c.args.sign.text.now (placed c.expr.new.self.token) _ _ c.advance.ensures held done
           (AfterExpr x (Operands place sign first others ∷ k) e)
           (Go (BeforeExpr x (Operands place sign first (others ++ e ∷ []) ∷ k)))
-          (operand-again x place sign first others k e (placed c.expr.new.self.token) held)
+          (operand-again MAX_OPEN x place sign first others k e (placed c.expr.new.self.token) held)
           ∙ ap (λ l. run done (BeforeExpr x (Operands place sign first l ∷ k)) (ahead c.advance.new.self))
           (sym (map_push expr_tree c.loop-operands.invariant.others c.in_ok-expr.field-0));
       shorter = let passed = length-passed_sign c.args.sign.text.now

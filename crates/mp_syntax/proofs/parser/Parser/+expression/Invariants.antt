@@ -1,14 +1,14 @@
 use Rattle.std.proofs.Common.{◌≡◌, ◌≤◌, ◌+◌, ◌*◌, List, [], ◌∷◌, length, map}
 use Rattle.mp_syntax.specs.declared.place.Place.{Place}
 use Rattle.mp_syntax.specs.declared.tree.Expr.{Expr}
-use Rattle.mp_syntax.specs.Syntax.{Spot, Statement}
-use Rattle.mp_syntax.specs.Machine.{Within, Frame, Arguments, Operands, BeforeExpr, run}
+use Rattle.mp_syntax.specs.Syntax.{Tree, Statement}
+use Rattle.mp_syntax.specs.Machine.{Within, Frame, Operands, BeforeExpr, run, State}
 use Rattle.mp_syntax.specs.View.{spot_of_sign, expr_tree}
-use Rattle.mp_syntax.specs.Parsing.{ahead, HasRoom}
+use Rattle.mp_syntax.specs.Parsing.{ahead, HasRoom, IsRow}
 use Rattle.mp_syntax.proofs.parser.Parser.+expression.Given as goal
 
-abbrev pub decreases-arguments : goal.decreases-arguments
-decreases-arguments l = 5 * l.room + 5
+abbrev pub decreases-row : goal.decreases-row
+decreases-row l = 5 * l.room + 5
 
 abbrev pub decreases-behind_wildcard : goal.decreases-behind_wildcard
 decreases-behind_wildcard l = 5 * l.room + 3
@@ -28,17 +28,18 @@ decreases-infix l = 5 * l.room + 1
 abbrev pub decreases-operands : goal.decreases-operands
 decreases-operands l = 5 * l.room + 5
 
--- the arguments so far are those that the open application holds
-abbrev pub invariant-arguments-loop-args : goal.invariant-arguments-loop-args
-invariant-arguments-loop-args l = record {
-  read : (done : List Statement) (x : Within) (k : List Frame) (w : Spot) → HasRoom (Arguments w [] ∷ k) l.room
-      → run done (BeforeExpr x (Arguments w [] ∷ k)) (ahead l.fn.self)
-      ≡ run done (BeforeExpr x (Arguments w (map expr_tree l.args.items) ∷ k)) (ahead l.self);
+-- the expressions so far are those that the open bracket holds
+abbrev pub invariant-row-loop-exprs : goal.invariant-row-loop-exprs
+invariant-row-loop-exprs l = record {
+  read : (done : List Statement) (x : Within) (k : List Frame) (frame : List Tree → Frame) (to : List Tree → State)
+      → IsRow l.closes x k frame to → ((es : List Tree) → HasRoom (frame es ∷ k) l.room)
+      → run done (BeforeExpr x (frame [] ∷ k)) (ahead l.fn.self)
+      ≡ run done (BeforeExpr x (frame (map expr_tree l.exprs.items) ∷ k)) (ahead l.self);
   shorter : length (ahead l.self) ≤ length (ahead l.fn.self);
 }
 
-abbrev pub decreases-arguments-loop-args : goal.decreases-arguments-loop-args
-decreases-arguments-loop-args l = length (ahead l.self)
+abbrev pub decreases-row-loop-exprs : goal.decreases-row-loop-exprs
+decreases-row-loop-exprs l = length (ahead l.self)
 
 -- the operands so far are the first, and the others that the open bracket holds
 abbrev pub invariant-operands-loop-operands : goal.invariant-operands-loop-operands

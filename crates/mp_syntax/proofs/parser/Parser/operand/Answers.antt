@@ -1,4 +1,5 @@
 use Rattle.std.proofs.Common.{sym, ◌<◌, ◌∙◌, arith, ◌∷◌}
+use Rattle.mp_syntax.specs.declared.limits.TheConstants.{MAX_OPEN}
 use Rattle.mp_syntax.specs.declared.token.Punct.TheVariants.{Open}
 use Rattle.mp_syntax.specs.Machine.{Go, BeforeOperand, BeforeExpr, Operand}
 use Rattle.mp_syntax.proofs.Runs.{over-punct, passes-along}
@@ -14,5 +15,5 @@ returns-clause-read c = λ done x k s lead len.
     passes-along _ _ _ c.expr.result _ _ _
     (over-punct Open t _ _ c.advance.ensures held done (BeforeOperand x k s lead)
     (Go (BeforeExpr x (Operand s lead ∷ k)))
-    (open-step x k s lead t c.args.room len some held))
+    (open-step MAX_OPEN x k s lead t c.args.room len some held))
     (c.expr.ensures.read done x (Operand s lead ∷ k) (omega (arith, len, some)))

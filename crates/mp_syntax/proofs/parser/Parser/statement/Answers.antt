@@ -19,3 +19,8 @@ pub returns-in-Subject-clause-read : goal.returns-in-Subject-clause-read
 returns-in-Subject-clause-read c = λ done.
     passes-along _ _ _ c.subject.result _ _ _ (rw c.in-Subject.is at (c.in_ok-keyword.ensures.read done))
     (c.subject.ensures.read done)
+
+pub returns-in-Edit-clause-read : goal.returns-in-Edit-clause-read
+returns-in-Edit-clause-read c = λ done.
+    passes-along _ _ _ c.edit.result _ _ _ (rw c.in-Edit.is at (c.in_ok-keyword.ensures.read done))
+    (c.edit.ensures.read done)

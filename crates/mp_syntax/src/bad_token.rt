@@ -1,0 +1,44 @@
+//! Finds the first bad token of a text, before the grammar is asked.
+
+ghost use Rattle.std.specs.Prelude.{◌≡◌, ◌<◌, ◌-◌, ◌^◌, None, length};
+ghost use Rattle.mp_syntax.specs.Tokens.{first_place};
+ghost use Rattle.mp_syntax.specs.Lexing.{token_of, lexemes};
+ghost use Rattle.mp_syntax.specs.Reading.{bad_or, first_bad};
+
+use crate::fault::{Fault, FaultKind};
+use crate::parser::Parser;
+use crate::token::{Kind, Token};
+
+/// The fault of the first byte of a text that begins no token, or of its first word that is too long, whichever comes
+/// first.
+///
+/// The text has fewer than 4,294,967,295 bytes.
+pub fn bad_token(bytes: &[u8]) -> Option<Fault>
+    requires { length bytes.now < 2 ^ 32 - 1 }
+    ensures { result ≡ first_bad (lexemes bytes.now first_place) }
+{
+    let mut parser = Parser::new(bytes);
+    while !parser.is_at_end() {
+        let fault = fault_of(parser.token);
+        if fault.is_some() {
+            return fault;
+        }
+        parser.advance();
+    }
+    None
+}
+
+// The fault of a token that is bad.
+fn fault_of(token: Token) -> Option<Fault>
+    ensures { result ≡ bad_or (token_of token.entry.kind) token.entry.place None }
+{
+    let kind = match token.kind {
+        Kind::Bad => FaultKind::BadByte,
+        Kind::Long => FaultKind::TooMany,
+        _ => return None,
+    };
+    Some(Fault {
+        kind,
+        place: token.place,
+    })
+}
