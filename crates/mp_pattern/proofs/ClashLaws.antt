@@ -3,15 +3,16 @@
 use Rattle.std.proofs.Common.{◌≡◌, ℕ, Bool, true, false, ◌&&◌, ◌||◌, not, List, [], ◌∷◌, ◌++◌, length, Some, None, refl}
 use Rattle.std.proofs.Common.{sym, ap, ◌∙◌}
 use Rattle.std.specs.Prelude.{if◌then◌else◌}
-use Rattle.std.specs.Ordering.{nat_cmp, is_eq}
-use Rattle.std.specs.Cmp.{Equal-is}
+use Rattle.std.specs.declared.cmp.Ordering.TheVariants.{Equal}
+use Rattle.std.specs.Ordering.{ordering_then, nat_cmp, bool_cmp, is_eq}
+use Rattle.std.specs.Cmp.{Equal-is, bool_cmp_total}
 use Rattle.std.specs.List.{list_any, AllByRecursion}
 use Rattle.std.proofs.lemmas.Cmp.{tied_itself, nat_cmp_total}
 use Rattle.std.proofs.lemmas.Bool.{not-false}
 use Rattle.mp_term.specs.Signature.{Sig}
-use Rattle.mp_term.specs.OrderLaws.{nat_same, tree_same, tree_cmp_total}
+use Rattle.mp_term.specs.OrderLaws.{both_equal, nat_same, tree_same, tree_cmp_total}
 use Rattle.mp_term.proofs.ListLaws.{all-append, all-split, all-also}
-use Rattle.mp_pattern.specs.PatternTree.{Wildcard, dot, kind, plus, star, optional, Pattern, symbol_pattern}
+use Rattle.mp_pattern.specs.PatternTree.{Wildcard, dot, kind, plus, star, optional, counted, Pattern, symbol_pattern}
 use Rattle.mp_pattern.specs.PatternTree.{app_pattern, wild_pattern, Patterns, no_patterns, more_patterns, pattern_list}
 use Rattle.mp_pattern.specs.PatternTree.{patterns}
 use Rattle.mp_pattern.specs.Normal.{normal_pattern}
@@ -23,10 +24,25 @@ use Rattle.mp_pattern.proofs.Preserved.{of_normal_pattern}
 
 -- ---- two wildcards
 
+-- one mark, and one count
+same_fixed : (b c : Bool) → bool_cmp c b ≡ Equal → b ≡ c
+same_fixed true true h = refl
+same_fixed false false h = refl
+same_fixed b c h = cc
+
+same_count : (m : ℕ) (b : Bool) (n : ℕ) (c : Bool) → ordering_then (nat_cmp m n) (bool_cmp c b) ≡ Equal
+    → (m ≡ n) × (b ≡ c)
+same_count m b n c h =
+    let e = both_equal (nat_cmp m n) (bool_cmp c b) h in
+    (nat_same m n e.0, same_fixed b c e.1)
+
 -- wildcards of one shape are the same
 pub same_shape-same : (v w : Wildcard) → same_shape v w ≡ true → v ≡ w
 same_shape-same (kind k) (kind l) h = ap kind (nat_same k l ((Equal-is (nat_cmp k l)).0 h))
 same_shape-same (optional t) (optional u) h = ap optional (tree_same t u ((Equal-is _).0 h))
+same_shape-same (counted m b) (counted n c) h =
+    let e = same_count m b n c ((Equal-is _).0 h) in
+    λ i. counted (e.0 i) (e.1 i)
 same_shape-same dot dot h = refl
 same_shape-same plus plus h = refl
 same_shape-same star star h = refl
@@ -36,6 +52,7 @@ same_shape-same v w h = cc
 pub same_shape-itself : (w : Wildcard) → same_shape w w ≡ true
 same_shape-itself (kind k) = ap is_eq (tied_itself nat_cmp_total k)
 same_shape-itself (optional t) = ap is_eq (tied_itself tree_cmp_total t)
+same_shape-itself (counted n b) = rw (tied_itself nat_cmp_total n, tied_itself bool_cmp_total b) refl
 same_shape-itself dot = refl
 same_shape-itself plus = refl
 same_shape-itself star = refl

@@ -1,13 +1,14 @@
 -- Computed examples of the definitions.
 use mathlib.Core.Bool.{true≢false}
 use Rattle.std.proofs.Common.{◌≡◌, Bool, List, [], ◌∷◌, true, false, refl, inl, inr, sym, ◌∙◌, ap}
-use Rattle.std.specs.Prelude.{None, Some, codes, ◌++◌}
+use Rattle.std.specs.Prelude.{None, Some, codes, length, ◌++◌}
 use Rattle.std.specs.declared.cmp.Ordering.TheVariants.{Less}
 use Rattle.mp_term.specs.Tree.{Tree, symbol}
 use Rattle.mp_term.specs.Order.{tree_cmp}
 use Rattle.mp_term.specs.Sorting.{sorted}
 use Rattle.mp_term.specs.Normal.{normal}
-use Rattle.mp_pattern.specs.PatternTree.{dot, kind, plus, star, optional, Pattern, symbol_pattern, patterns}
+use Rattle.mp_pattern.specs.PatternTree.{dot, kind, plus, star, optional, counted, Pattern, symbol_pattern}
+use Rattle.mp_pattern.specs.PatternTree.{patterns}
 use Rattle.mp_pattern.specs.TemplateTree.{app_template, variable_template, templates}
 use Rattle.mp_pattern.specs.declared.condition.Sense.TheVariants.{Lt, Ge}
 use Rattle.mp_pattern.specs.CondTree.{var, ground, fixed, count, size, amounts, same, less, free, of_kind, headed}
@@ -17,7 +18,7 @@ use Rattle.mp_pattern.specs.Normal.{normal_pattern}
 use Rattle.mp_pattern.specs.Value.{one, seq, bag, one_form, seq_form, bag_form, Subst, merge}
 use Rattle.mp_pattern.specs.Variables.{variables, variable_form}
 use Rattle.mp_pattern.specs.Contribution.{contribution}
-use Rattle.mp_pattern.specs.Fits.{Entry, Table, joined, Fits, ByValue, AllTakeBy}
+use Rattle.mp_pattern.specs.Fits.{Entry, Table, joined, Fits, WildTakes, ByValue, AllTakeBy}
 use Rattle.mp_pattern.specs.DerivationOrder.{table_cmp}
 use Rattle.mp_pattern.specs.Holds.{holds}
 use Rattle.mp_pattern.specs.Instance.{instances, pattern_instances}
@@ -37,13 +38,17 @@ sum_flattened_and_sorted = refl
 one_dot_collapses : normal_pattern sig (pattern sum (x_ dot ∷ [])) ≡ x_ dot
 one_dot_collapses = refl
 
--- sum(x__) and sum(x_:0) are kept
+-- sum(x__), sum(x_:0) and sum(x_{2}) are kept
 one_plus_is_kept : normal_pattern sig (pattern sum (x_ plus ∷ [])) ≡ pattern sum (x_ plus ∷ [])
 one_plus_is_kept = refl
 
 one_optional_is_kept : normal_pattern sig (pattern sum (x_ (optional nought) ∷ []))
     ≡ pattern sum (x_ (optional nought) ∷ [])
 one_optional_is_kept = refl
+
+one_counted_is_kept : normal_pattern sig (pattern sum (x_ (counted 2 true) ∷ []))
+    ≡ pattern sum (x_ (counted 2 true) ∷ [])
+one_counted_is_kept = refl
 
 -- product(sum(x__)) is sum(x__): the argument is an application
 kept_application_is_no_wildcard : normal_pattern sig (pattern product (pattern sum (x_ plus ∷ []) ∷ []))
@@ -57,6 +62,13 @@ patterns_in_order : sorted pattern_cmp (x_ star ∷ x_ plus ∷ x_ (optional nou
     ≡ symbol_pattern (codes "b") ∷ pattern f (a_pattern ∷ []) ∷ pattern f (x_ dot ∷ []) ∷ x_ (kind v) ∷ unnamed (kind v)
     ∷ x_ dot ∷ y_ dot ∷ unnamed dot ∷ x_ (optional nought) ∷ x_ plus ∷ x_ star ∷ []
 patterns_in_order = refl
+
+-- x_:0, x_{2}, x_{2+}, x_{3}, y_{2}, _{2}, x__ stand in the pattern order
+counts_in_order : sorted pattern_cmp (x_ plus ∷ unnamed (counted 2 true) ∷ y_ (counted 2 true) ∷ x_ (counted 3 true)
+    ∷ x_ (counted 2 false) ∷ x_ (counted 2 true) ∷ x_ (optional nought) ∷ [])
+    ≡ x_ (optional nought) ∷ x_ (counted 2 true) ∷ x_ (counted 2 false) ∷ x_ (counted 3 true) ∷ y_ (counted 2 true)
+    ∷ unnamed (counted 2 true) ∷ x_ plus ∷ []
+counts_in_order = refl
 
 -- applications that hold a wildcard: f(y_) before f(x_, x_), and that before set(x_)
 fewer_arguments_first : pattern_cmp (pattern f (y_ dot ∷ [])) (pattern f (x_ dot ∷ x_ dot ∷ [])) ≡ Less
@@ -87,6 +99,9 @@ a_dot_is_one_term = refl
 commutative_uses_make_a_multiset : variable_form sig (pattern set (pattern sum (x_ star ∷ []) ∷ x_ star ∷ []))
     (codes "x") ≡ bag_form
 commutative_uses_make_a_multiset = refl
+
+a_counted_use_makes_a_tuple : variable_form sig (pattern list (x_ (counted 2 true) ∷ [])) (codes "x") ≡ seq_form
+a_counted_use_makes_a_tuple = refl
 
 -- MERGING
 
@@ -215,6 +230,28 @@ collapsed_round_an_optional = record {
     table = refl;
   });
 }
+
+-- f(x_{2}, y_{1+}) on f(a, b, c), with a count of two: x takes a and b, and y takes c
+count_of_two : Fits sig (pattern f (x_ (counted 2 true) ∷ y_ plus ∷ [])) (term f (a ∷ b ∷ c ∷ []))
+    (x→ (seq (a ∷ b ∷ [])) ∷ y→ (seq (c ∷ [])) ∷ [])
+    (entry (term f (a ∷ b ∷ c ∷ []) ∷ []) ∷ entry (a ∷ b ∷ []) ∷ entry (c ∷ []) ∷ [])
+count_of_two = record {
+  subst_of = record { names = refl; forms = (refl, (refl, tt)); final = ((refl, (refl, tt)), ((refl, tt), tt)) };
+  takes = inl (record {
+    takes = (a ∷ b ∷ []) ∷ (c ∷ []) ∷ [];
+    tables = (entry (a ∷ b ∷ []) ∷ []) ∷ (entry (c ∷ []) ∷ []) ∷ [];
+    children = (((seq (a ∷ b ∷ []), refl, (refl, refl)), refl), (((seq (c ∷ []), refl, (refl, λ e. cc)), refl), tt));
+    node = refl;
+    table = refl;
+  });
+}
+
+-- a fixed count of two is met by two terms alone, and an open one by two or more
+fixed_count_refuses_three : (l : List Tree) → WildTakes sig (Some f) (counted 2 true) (seq (a ∷ b ∷ c ∷ [])) l → ⊥
+fixed_count_refuses_three l h = let wrong : length l ≡ 3 = ap length h.0 in cc
+
+open_count_refuses_one : (l : List Tree) → WildTakes sig (Some f) (counted 2 false) (seq (a ∷ [])) l → ⊥
+open_count_refuses_one l h = let wrong : length l ≡ 1 = ap length h.0 in cc
 
 -- DERIVATION ORDER
 

@@ -11,9 +11,9 @@ use Rattle.mp_term.specs.Signature.{Sig, holds_of, all_in_order, is_assoc, is_co
 use Rattle.mp_term.proofs.SortedMeasures.{measure-sorted}
 use Rattle.mp_term.proofs.WellFormedNormal.{in_order-at, assoc-not_fixed}
 use Rattle.mp_term.proofs.ListLaws.{all-flat_map}
-use Rattle.mp_pattern.specs.PatternTree.{Wildcard, dot, kind, plus, star, optional, most, Pattern, symbol_pattern}
-use Rattle.mp_pattern.specs.PatternTree.{app_pattern, wild_pattern, Patterns, no_patterns, more_patterns, pattern_list}
-use Rattle.mp_pattern.specs.PatternTree.{patterns}
+use Rattle.mp_pattern.specs.PatternTree.{Wildcard, dot, kind, plus, star, optional, counted, most, Pattern}
+use Rattle.mp_pattern.specs.PatternTree.{symbol_pattern, app_pattern, wild_pattern, Patterns, no_patterns}
+use Rattle.mp_pattern.specs.PatternTree.{more_patterns, pattern_list, patterns}
 use Rattle.mp_pattern.specs.PatternLists.{pattern_list-patterns}
 use Rattle.mp_pattern.specs.Order.{pattern_cmp}
 use Rattle.mp_pattern.specs.Normal.{is_loose, unwrapped, parts, flattened, in_order, collapsed, normal_pattern}
@@ -106,6 +106,7 @@ least-plain (wild_pattern (kind k) x) h = refl
 least-plain (wild_pattern plus x) h = refl
 least-plain (wild_pattern star x) h = cc
 least-plain (wild_pattern (optional t) x) h = cc
+least-plain (wild_pattern (counted n b) x) h = cc
 
 -- and may take one
 most-plain : (assoc : Bool) (p : Pattern) → is_loose p ≡ false → LeMost (Some 1) (pattern_most assoc p)
@@ -117,6 +118,7 @@ most-plain assoc (wild_pattern (kind k) x) h = omega arith
 most-plain assoc (wild_pattern plus x) h = tt
 most-plain assoc (wild_pattern star x) h = tt
 most-plain assoc (wild_pattern (optional t) x) h = cc
+most-plain assoc (wild_pattern (counted n b) x) h = cc
 
 -- an operation allows other patterns that may take as many arguments, and at least as few
 allows-alike : (ps qs : List Pattern) (d : OpDecl) → LeMost (greatest d.assoc ps) (greatest d.assoc qs)

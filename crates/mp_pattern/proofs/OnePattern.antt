@@ -15,7 +15,7 @@ use Rattle.mp_pattern.specs.Firsts.{is_known, add_new, firsts_after}
 use Rattle.mp_pattern.specs.Value.{same_name}
 use Rattle.mp_pattern.specs.Variables.{Use, uses, all_uses, variables, variable_form}
 use Rattle.mp_pattern.specs.Plan.{symbol_label, app_label, wild_label, Node, Variable, variable_number, nodes}
-use Rattle.mp_pattern.specs.Plan.{all_nodes, Plan, plan_of}
+use Rattle.mp_pattern.specs.Plan.{all_nodes, plan_of}
 use Rattle.mp_pattern.proofs.NameLaws.{same_name-is, same_name-itself}
 
 -- the name is one of xs

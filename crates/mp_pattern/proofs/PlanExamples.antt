@@ -1,7 +1,7 @@
 -- Computed examples of plans and of what has none.
-use Rattle.std.proofs.Common.{◌≡◌, ℕ, zero, suc, List, [], ◌∷◌, refl, replicate}
+use Rattle.std.proofs.Common.{◌≡◌, ℕ, zero, suc, true, false, List, [], ◌∷◌, refl, replicate}
 use Rattle.std.specs.Prelude.{Some, None, codes}
-use Rattle.mp_pattern.specs.PatternTree.{dot, kind, plus, star, optional, Pattern, wild_pattern}
+use Rattle.mp_pattern.specs.PatternTree.{dot, kind, plus, star, optional, counted, Pattern, wild_pattern}
 use Rattle.mp_pattern.specs.Value.{one_form, seq_form, bag_form}
 use Rattle.mp_pattern.specs.Clash.{first_clash}
 use Rattle.mp_pattern.specs.Plan.{symbol_label, app_label, wild_label, plan_of}
@@ -60,6 +60,13 @@ other_kind_clashes = refl
 other_default_clashes : first_clash (pattern f (x_ (optional a) ∷ x_ (optional b) ∷ [])) ≡ Some 2
 other_default_clashes = refl
 
+-- x_{2} beside x_{3}, and beside x_{2+}
+other_count_clashes : first_clash (pattern f (x_ (counted 2 true) ∷ x_ (counted 3 true) ∷ [])) ≡ Some 2
+other_count_clashes = refl
+
+open_count_clashes : first_clash (pattern f (x_ (counted 2 true) ∷ x_ (counted 2 false) ∷ [])) ≡ Some 2
+open_count_clashes = refl
+
 same_default_does_not_clash : first_clash (pattern f (x_ (optional a) ∷ x_ (optional a) ∷ [])) ≡ None
 same_default_does_not_clash = refl
 
@@ -68,22 +75,25 @@ other_variables_do_not_clash : first_clash (pattern f (unnamed dot ∷ unnamed p
     ≡ None
 other_variables_do_not_clash = refl
 
--- x__ and x_:0 are loose, _ isn't
+-- x__, x_:0 and x_{2} are loose, _ isn't
 loose_plus : plan_fault (x_ plus) ≡ Some LooseSequence
 loose_plus = refl
 
 loose_optional : plan_fault (x_ (optional nought)) ≡ Some LooseSequence
 loose_optional = refl
 
+loose_counted : plan_fault (x_ (counted 2 true)) ≡ Some LooseSequence
+loose_counted = refl
+
 dot_at_the_root : plan_fault (unnamed dot) ≡ None
 dot_at_the_root = refl
 
--- f of 63 and of 64 symbols
-sixty_four_nodes : plan_fault (pattern f (replicate 63 a_pattern)) ≡ None
-sixty_four_nodes = refl
+-- f of 127 and of 128 symbols
+most_nodes : plan_fault (pattern f (replicate 127 a_pattern)) ≡ None
+most_nodes = refl
 
-sixty_five_nodes : plan_fault (pattern f (replicate 64 a_pattern)) ≡ Some (TooManyNodes 65)
-sixty_five_nodes = refl
+too_many_nodes : plan_fault (pattern f (replicate 128 a_pattern)) ≡ Some (TooManyNodes 129)
+too_many_nodes = refl
 
 -- a dot of each of the variables 1 .. n, named by so many letters
 dots : ℕ → List Pattern

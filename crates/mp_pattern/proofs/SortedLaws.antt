@@ -21,6 +21,22 @@ module _ {X : Type 0} (P : X → Type 0) where
   all-sorted cmp [] h = tt
   all-sorted cmp (x ∷ xs) h = all-insert_sorted cmp x (sorted cmp xs) h.0 (all-sorted cmp xs h.1)
 
+  all-from_insert : (cmp : X → X → Ordering) (x : X) (ys : List X) → AllByRecursion P (insert_sorted cmp x ys)
+      → P x × AllByRecursion P ys
+  all-from_insert cmp x [] h = h
+  all-from_insert cmp x (y ∷ ys) h =
+      elim (is_gt (cmp x y)) as (λ b. AllByRecursion P (if b then y ∷ insert_sorted cmp x ys else (x ∷ y ∷ ys))
+      → P x × AllByRecursion P (y ∷ ys)) [
+        | true ↦ λ k. let i = all-from_insert cmp x ys k.1 in (i.0, (k.0, i.1))
+        | false ↦ λ k. k
+      ] h
+
+  -- and back
+  pub all-from_sorted : (cmp : X → X → Ordering) (xs : List X) → AllByRecursion P (sorted cmp xs) → AllByRecursion P xs
+  all-from_sorted cmp [] h = tt
+  all-from_sorted cmp (x ∷ xs) h = let i = all-from_insert cmp x (sorted cmp xs) h in
+      (i.0, all-from_sorted cmp xs i.1)
+
 -- the sum of m over a list
 abbrev pub total : {X : Type 0} → (X → ℕ) → List X → ℕ
 total = joined_all ◌+◌

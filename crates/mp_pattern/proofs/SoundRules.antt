@@ -6,7 +6,7 @@ use Rattle.std.proofs.lemmas.Bool.Decides.{nat_tests}
 use Rattle.mp_term.specs.Signature.{Sig}
 use Rattle.mp_term.proofs.ListLaws.{all-append}
 use Rattle.mp_pattern.specs.declared.limits.TheConstants.{MAX_PATTERN_NODES, MAX_VARIABLES}
-use Rattle.mp_pattern.specs.PatternTree.{Wildcard, dot, kind, plus, star, optional, Pattern}
+use Rattle.mp_pattern.specs.PatternTree.{Wildcard, dot, kind, plus, star, optional, counted, Pattern}
 use Rattle.mp_pattern.specs.CondTree.{Operand, var, ground, Amount, fixed, count, size, Cond, amounts, same, less, free}
 use Rattle.mp_pattern.specs.CondTree.{of_kind, headed, negation, all_of, any_of, Conds, no_conds, more_conds}
 use Rattle.mp_pattern.specs.Size.{pattern_nodes}
@@ -25,6 +25,7 @@ module _ (sig : Sig) where
   small-wildcard plus h = tt
   small-wildcard star h = tt
   small-wildcard (optional t) h = h.few_nodes
+  small-wildcard (counted n b) h = tt
 
   -- the defaults of a formed pattern are small
   pub DefaultsAreSmall-IsFormed : (p : Pattern) → IsFormed sig p → DefaultsAreSmall p

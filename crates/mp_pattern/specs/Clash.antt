@@ -8,11 +8,11 @@ use Rattle.mp_pattern.specs.Order.{wildcard_class, wildcard_cmp}
 use Rattle.mp_pattern.specs.Subpatterns.{subpatterns}
 use Rattle.mp_pattern.specs.Value.{same_name}
 
--- wildcards of one class, and of one kind or one default
+-- wildcards of one class, and of one kind, one default or one count
 abbrev pub same_shape : Wildcard → Wildcard → Bool
 same_shape v w = nat_eq (wildcard_class v) (wildcard_class w) && is_eq (wildcard_cmp v w)
 
--- wildcards of one variable, of another class, kind or default
+-- wildcards of one variable, of another class, kind, default or count
 abbrev pub clashes : Pattern → Pattern → Bool
 clashes (wild_pattern v (Some x)) (wild_pattern w (Some y)) = same_name x y && not (same_shape v w)
 clashes _ _ = false

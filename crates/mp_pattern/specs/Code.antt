@@ -1,10 +1,10 @@
 -- A pattern as a term that gives it back, and that compares as the pattern does.
-use Rattle.std.specs.Prelude.{◌≡◌, ℕ, [], List, Option, Some, None, refl, nat_eq, if◌then◌else◌}
+use Rattle.std.specs.Prelude.{◌≡◌, ℕ, Bool, true, false, [], List, Option, Some, None, refl, nat_eq, if◌then◌else◌}
 use Rattle.std.proofs.Common.{ap}
 use Rattle.std.specs.Coded.{Coded, code_by, coded×, coded_ℕ}
 use Rattle.mp_term.specs.Tree.{Tree, symbol, app, Trees, no_trees, more_trees}
 use Rattle.mp_term.specs.Code.{coded_tree}
-use Rattle.mp_pattern.specs.PatternTree.{Wildcard, dot, kind, plus, star, optional, Pattern, symbol_pattern}
+use Rattle.mp_pattern.specs.PatternTree.{Wildcard, dot, kind, plus, star, optional, counted, Pattern, symbol_pattern}
 use Rattle.mp_pattern.specs.PatternTree.{app_pattern, wild_pattern, Patterns, no_patterns, more_patterns}
 use Rattle.mp_pattern.specs.Order.{class, wildcard_class}
 
@@ -13,10 +13,11 @@ abbrev pub name_tree : Option (List ℕ) → Tree
 name_tree (Some x) = symbol x
 name_tree None = app 0 no_trees
 
--- the kind or the default of a wildcard, where it has one
+-- the kind, the default or the count of a wildcard, where it has one: an open count has an argument
 abbrev pub part_tree : Wildcard → Tree
 part_tree (kind k) = app k no_trees
 part_tree (optional t) = t
+part_tree (counted n fixed) = app n (if fixed then no_trees else more_trees (symbol []) no_trees)
 part_tree _ = symbol []
 
 abbrev mutual
@@ -36,13 +37,19 @@ abbrev head_number : Tree → ℕ
 head_number (symbol n) = 0
 head_number (app k ts) = k
 
+-- an application without arguments
+abbrev is_constant : Tree → Bool
+is_constant (app k no_trees) = true
+is_constant _ = false
+
 -- the wildcard of a class
 abbrev to_wildcard : ℕ → Tree → Wildcard
 to_wildcard c t =
     if nat_eq c 2 then kind (head_number t)
     else if nat_eq c 3 then dot
     else if nat_eq c 4 then optional t
-    else if nat_eq c 5 then plus
+    else if nat_eq c 5 then counted (head_number t) (is_constant t)
+    else if nat_eq c 6 then plus
     else star
 
 abbrev mutual
@@ -61,6 +68,8 @@ abbrev mutual
 
 pub to_wildcard-part : (w : Wildcard) → to_wildcard (wildcard_class w) (part_tree w) ≡ w
 to_wildcard-part dot = refl
+to_wildcard-part (counted n true) = refl
+to_wildcard-part (counted n false) = refl
 to_wildcard-part w = refl
 
 mutual

@@ -1,13 +1,13 @@
 -- When a take table fits a pattern, a subject and a substitution.
-use Rattle.std.specs.Prelude.{◌≡◌, ◌⊎◌, ℕ, Bool, true, false, ◌&&◌, ◌||◌, not, List, [], ◌∷◌, flat_map, Option, Some}
-use Rattle.std.specs.Prelude.{None, ⊤, if◌then◌else◌}
+use Rattle.std.specs.Prelude.{◌≡◌, ◌⊎◌, ℕ, Bool, true, false, ◌&&◌, ◌||◌, not, List, [], ◌∷◌, length, flat_map, Option}
+use Rattle.std.specs.Prelude.{Some, None, ⊤, if◌then◌else◌}
 use Rattle.mp_term.specs.Tree.{Tree, symbol, app, trees}
 use Rattle.mp_term.specs.Order.{tree_cmp}
 use Rattle.mp_term.specs.Sorting.{sorted}
 use Rattle.mp_term.specs.Signature.{Sig, is_one, in_kind}
 use Rattle.mp_term.specs.Normal.{IsNormal}
-use Rattle.mp_pattern.specs.PatternTree.{Wildcard, dot, kind, plus, star, optional, is_sequence, Pattern}
-use Rattle.mp_pattern.specs.PatternTree.{symbol_pattern, app_pattern, wild_pattern, Patterns, no_patterns}
+use Rattle.mp_pattern.specs.PatternTree.{Wildcard, dot, kind, plus, star, optional, counted, meets_count, is_sequence}
+use Rattle.mp_pattern.specs.PatternTree.{Pattern, symbol_pattern, app_pattern, wild_pattern, Patterns, no_patterns}
 use Rattle.mp_pattern.specs.PatternTree.{more_patterns}
 use Rattle.mp_pattern.specs.Value.{Value, one, seq, bag, Subst, value_of}
 use Rattle.mp_pattern.specs.Variables.{IsSubstOf, comm_above}
@@ -36,7 +36,7 @@ abbrev pub some_left_out : Patterns → List (List Tree) → Bool
 some_left_out (more_patterns p ps) (l ∷ ls) = is_left_out p l || some_left_out ps ls
 some_left_out _ _ = false
 
--- no child is a plus or star wildcard
+-- no child is a plus, star or counted wildcard
 abbrev pub no_sequence : Patterns → Bool
 no_sequence no_patterns = true
 no_sequence (more_patterns (wild_pattern w x) ps) = not (is_sequence w) && no_sequence ps
@@ -55,6 +55,8 @@ module _ (sig : Sig) where
   WildTakes f plus (bag m) l = (l ≡ m) × (l ≡ [] → ⊥)
   WildTakes f star (seq m) l = l ≡ arranged f m
   WildTakes f star (bag m) l = l ≡ m
+  WildTakes f (counted n fixed) (seq m) l = (l ≡ arranged f m) × (meets_count n fixed (length l) ≡ true)
+  WildTakes f (counted n fixed) (bag m) l = (l ≡ m) × (meets_count n fixed (length l) ≡ true)
   WildTakes f (optional d) (one v) l = (contribution sig f v ≡ Some l) ⊎ ((l ≡ []) × (v ≡ d))
   WildTakes _ _ _ _ = ⊥
 
@@ -68,6 +70,7 @@ module _ (sig : Sig) where
   UnnamedTakes f (kind k) l = (v : Tree) × (l ≡ v ∷ []) × (in_kind sig k v ≡ true)
   UnnamedTakes f plus l = (arranged f l ≡ l) × (l ≡ [] → ⊥)
   UnnamedTakes f star l = arranged f l ≡ l
+  UnnamedTakes f (counted n fixed) l = (arranged f l ≡ l) × (meets_count n fixed (length l) ≡ true)
   UnnamedTakes f (optional d) l = IsContributed f l ⊎ (l ≡ [])
 
   -- an application of g to what its children take together; `fit` says that the children fit with the takes and the

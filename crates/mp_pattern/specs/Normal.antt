@@ -13,7 +13,7 @@ unwrapped f (symbol_pattern n) = symbol_pattern n ∷ []
 unwrapped f (app_pattern g ps) = if nat_eq f g then pattern_list ps else (app_pattern g ps ∷ [])
 unwrapped f (wild_pattern w x) = wild_pattern w x ∷ []
 
--- a wildcard that may take no argument or several: plus, star or optional
+-- a wildcard that may take no argument or several: plus, star, counted or optional
 abbrev pub is_loose : Pattern → Bool
 is_loose (wild_pattern w x) = plain.is_loose w
 is_loose _ = false

@@ -2,10 +2,10 @@
 use Rattle.std.specs.Prelude.{ℕ, Bool, true, false, ◌&&◌, List, length, Option, Some, None, if◌then◌else◌}
 use Rattle.std.specs.declared.cmp.Ordering.{Ordering}
 use Rattle.std.specs.declared.cmp.Ordering.TheVariants.{Less, Equal, Greater}
-use Rattle.std.specs.Ordering.{ordering_then, nat_cmp}
+use Rattle.std.specs.Ordering.{ordering_then, nat_cmp, bool_cmp}
 use Rattle.std.specs.Cmp.Lexicographic.{slice_cmp}
 use Rattle.mp_term.specs.Order.{tree_cmp}
-use Rattle.mp_pattern.specs.PatternTree.{Wildcard, dot, kind, plus, star, optional, Pattern, symbol_pattern}
+use Rattle.mp_pattern.specs.PatternTree.{Wildcard, dot, kind, plus, star, optional, counted, Pattern, symbol_pattern}
 use Rattle.mp_pattern.specs.PatternTree.{app_pattern, wild_pattern, Patterns, no_patterns, more_patterns, pattern_list}
 
 abbrev mutual
@@ -20,13 +20,14 @@ abbrev mutual
   all_ground no_patterns = true
   all_ground (more_patterns p ps) = is_ground p && all_ground ps
 
--- the class of a wildcard: kind before dot, optional, plus and star
+-- the class of a wildcard: kind before dot, optional, counted, plus and star
 abbrev pub wildcard_class : Wildcard → ℕ
 wildcard_class (kind k) = 2
 wildcard_class dot = 3
 wildcard_class (optional t) = 4
-wildcard_class plus = 5
-wildcard_class star = 6
+wildcard_class (counted n fixed) = 5
+wildcard_class plus = 6
+wildcard_class star = 7
 
 -- the class of a pattern: ground patterns come first, then applications that hold a wildcard, then the wildcards
 abbrev pub class : Pattern → ℕ
@@ -41,15 +42,16 @@ name_cmp (Some x) None = Less
 name_cmp None (Some y) = Greater
 name_cmp None None = Equal
 
--- wildcards of one class by kind number or default
+-- wildcards of one class by kind number, by default, or by count and then fixed before open
 abbrev pub wildcard_cmp : Wildcard → Wildcard → Ordering
 wildcard_cmp (kind k) (kind l) = nat_cmp k l
 wildcard_cmp (optional t) (optional u) = tree_cmp t u
+wildcard_cmp (counted m fixed) (counted n other) = ordering_then (nat_cmp m n) (bool_cmp other fixed)
 wildcard_cmp v w = Equal
 
 abbrev mutual
   -- By class first. Within a class: symbols before applications, symbols by their bytes, applications by declaration
-  -- number, number of arguments and arguments, and wildcards by variable, then by kind or default.
+  -- number, number of arguments and arguments, and wildcards by variable, then by kind, default or count.
   pub pattern_cmp : Pattern → Pattern → Ordering
   pattern_cmp (symbol_pattern m) (symbol_pattern n) = slice_cmp nat_cmp m n
   pattern_cmp (symbol_pattern m) (app_pattern g qs) = Less

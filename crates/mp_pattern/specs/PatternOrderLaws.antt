@@ -3,18 +3,18 @@ use Rattle.std.proofs.Common.{◌≡◌, ℕ, suc, Bool, true, false, List, [], 
 use Rattle.std.specs.Prelude.{Option, Some, None, if◌then◌else◌}
 use Rattle.std.specs.declared.cmp.Ordering.{Ordering}
 use Rattle.std.specs.declared.cmp.Ordering.TheVariants.{Less, Equal, Greater}
-use Rattle.std.specs.Ordering.{ordering_then, nat_cmp}
+use Rattle.std.specs.Ordering.{ordering_then, nat_cmp, bool_cmp}
 use Rattle.std.specs.Cmp.{IsTotalOrder}
 use Rattle.std.specs.Cmp.Lexicographic.{slice_cmp}
 use Rattle.mp_term.specs.Tree.{tree_list}
 use Rattle.mp_term.specs.Order.{tree_cmp, trees_cmp, shortlex}
 use Rattle.mp_term.specs.OrderLaws.{ordering_then-equal, keyed_total, tree_cmp_total, tree_same}
-use Rattle.mp_pattern.specs.PatternTree.{Wildcard, dot, kind, plus, star, optional, Pattern, symbol_pattern}
+use Rattle.mp_pattern.specs.PatternTree.{Wildcard, dot, kind, plus, star, optional, counted, Pattern, symbol_pattern}
 use Rattle.mp_pattern.specs.PatternTree.{app_pattern, wild_pattern, Patterns, no_patterns, more_patterns, pattern_list}
 use Rattle.mp_pattern.specs.PatternTree.{patterns}
 use Rattle.mp_pattern.specs.PatternLists.{pattern_list-patterns}
 use Rattle.mp_pattern.specs.Order.{all_ground, class, wildcard_class, name_cmp, pattern_cmp, patterns_cmp}
-use Rattle.mp_pattern.specs.Code.{name_tree, as_tree, as_trees, to_pattern, to_pattern-as_tree}
+use Rattle.mp_pattern.specs.Code.{name_tree, part_tree, as_tree, as_trees, to_pattern, to_pattern-as_tree}
 
 -- an application comes before a wildcard, and a wildcard after an application
 before_wildcard : (ground : Bool) (w : Wildcard) (o : Ordering)
@@ -34,12 +34,21 @@ name_by_tree (Some x) (Some y) = refl
 name_by_tree None None = refl
 name_by_tree x y = refl
 
+count_by_tree : (m : ℕ) (b : Bool) (n : ℕ) (c : Bool)
+    → tree_cmp (part_tree (counted m b)) (part_tree (counted n c)) ≡ ordering_then (nat_cmp m n) (bool_cmp c b)
+count_by_tree m true n true = refl
+count_by_tree m true n false = refl
+count_by_tree m false n true = refl
+count_by_tree m false n false = refl
+
 wild_by_tree : (v : Wildcard) (x : Option (List ℕ)) (w : Wildcard) (y : Option (List ℕ))
     → pattern_cmp (wild_pattern v x) (wild_pattern w y)
     ≡ tree_cmp (as_tree (wild_pattern v x)) (as_tree (wild_pattern w y))
 wild_by_tree (kind k) x (kind l) y =
     rw (name_by_tree x y, ordering_then-equal (nat_cmp k l), ordering_then-equal (nat_cmp k l)) refl
 wild_by_tree (optional t) x (optional u) y = rw (name_by_tree x y, ordering_then-equal (tree_cmp t u)) refl
+wild_by_tree (counted m b) x (counted n c) y =
+    rw (name_by_tree x y, count_by_tree m b n c, ordering_then-equal (ordering_then (nat_cmp m n) (bool_cmp c b))) refl
 wild_by_tree dot x dot y = rw (name_by_tree x y) refl
 wild_by_tree plus x plus y = rw (name_by_tree x y) refl
 wild_by_tree star x star y = rw (name_by_tree x y) refl

@@ -1,27 +1,35 @@
 -- The plain trees that contracts see in place of patterns.
-use Rattle.std.specs.Prelude.{ℕ, nat_eq, Bool, true, false, ◌||◌, List, [], ◌∷◌, Option, Some, None, if◌then◌else◌}
+use Rattle.std.specs.Prelude.{ℕ, nat_eq, nat_le, Bool, true, false, ◌||◌, List, [], ◌∷◌, Option, Some, None}
+use Rattle.std.specs.Prelude.{if◌then◌else◌}
 use Rattle.mp_term.specs.Tree.{Tree}
 
 -- what a wildcard takes: one argument; one symbol of the kind; one argument or more; any number of them; one argument,
--- or
--- none and then its variable has the default
+-- or none and then its variable has the default; as many arguments as its count where that is fixed, and so many or
+-- more where it isn't
 pub data Wildcard : Type 0 where
   dot : Wildcard
   kind : ℕ → Wildcard
   plus : Wildcard
   star : Wildcard
   optional : Tree → Wildcard
+  counted : ℕ → Bool → Wildcard
 
--- its variable stands for a list of terms: a plus or star wildcard
+-- a number meets a count: it is the count where that is fixed, and at least the count where it is open
+abbrev pub meets_count : ℕ → Bool → ℕ → Bool
+meets_count count fixed n = if fixed then nat_eq n count else nat_le count n
+
+-- its variable stands for a list of terms: a plus, star or counted wildcard
 abbrev pub is_sequence : Wildcard → Bool
 is_sequence plus = true
 is_sequence star = true
+is_sequence (counted n fixed) = true
 is_sequence _ = false
 
 -- how many arguments it takes at least
 abbrev pub least : Wildcard → ℕ
 least star = 0
 least (optional t) = 0
+least (counted n fixed) = n
 least _ = 1
 
 -- how many it takes at most, if there is a bound; under an associative operation one term may stand for several
@@ -32,6 +40,7 @@ most assoc (kind k) = Some 1
 most assoc plus = None
 most assoc star = None
 most assoc (optional t) = if assoc then None else Some 1
+most assoc (counted n fixed) = if fixed then Some n else None
 
 -- it may take no argument, or as a sequence several
 abbrev pub is_loose : Wildcard → Bool

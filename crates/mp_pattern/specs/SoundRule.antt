@@ -8,19 +8,23 @@ use Rattle.mp_term.specs.Size.{node_count}
 use Rattle.mp_term.specs.Names.{is_name, are_distinct}
 use Rattle.mp_term.specs.Signature.{Sig, holds_of, has_name, kind_names, well_formed}
 use Rattle.mp_term.specs.Normal.{IsNormal}
-use Rattle.mp_pattern.specs.PatternTree.{Wildcard, kind, optional, least, most, Pattern, symbol_pattern, app_pattern}
-use Rattle.mp_pattern.specs.PatternTree.{wild_pattern, Patterns, no_patterns, more_patterns, pattern_list}
+use Rattle.mp_pattern.specs.PatternTree.{Wildcard, kind, optional, counted, least, most, Pattern, symbol_pattern}
+use Rattle.mp_pattern.specs.PatternTree.{app_pattern, wild_pattern, Patterns, no_patterns, more_patterns, pattern_list}
+use Rattle.mp_pattern.specs.TemplateTree.{Template, symbol_template, app_template, variable_template, Templates}
+use Rattle.mp_pattern.specs.TemplateTree.{no_templates, more_templates}
 use Rattle.mp_pattern.specs.CondTree.{Operand, var, ground, Amount, fixed, count, size, Cond, amounts, same, less, free}
 use Rattle.mp_pattern.specs.CondTree.{of_kind, headed, negation, all_of, any_of, Conds, no_conds, more_conds}
 use Rattle.mp_pattern.specs.Normal.{is_loose, IsNormalPattern}
 use Rattle.mp_pattern.specs.Size.{pattern_nodes}
-use Rattle.mp_pattern.specs.Depth.{pattern_depth}
+use Rattle.mp_pattern.specs.TemplateSize.{template_nodes}
+use Rattle.mp_pattern.specs.Depth.{pattern_depth, template_depth}
 use Rattle.mp_pattern.specs.declared.limits.TheConstants.{MAX_PATTERN_NODES, MAX_DEFAULT_NODES, MAX_VARIABLES}
 use Rattle.mp_pattern.specs.declared.limits.TheConstants.{MAX_OPERAND_NODES, MAX_ATOMS, MAX_NUMBER, MAX_DEPTH}
-use Rattle.mp_pattern.specs.declared.limits.TheConstants.{MAX_RULES}
+use Rattle.mp_pattern.specs.declared.limits.TheConstants.{MAX_RULES, MAX_COUNT}
 use Rattle.mp_pattern.specs.Firsts.{is_known}
 use Rattle.mp_pattern.specs.Value.{same_name, one_form}
 use Rattle.mp_pattern.specs.Variables.{variables, variable_form}
+use Rattle.mp_pattern.specs.Extent.{extent_named, templates_extent, allows_extent}
 use Rattle.mp_pattern.specs.Clash.{first_clash}
 use Rattle.mp_pattern.specs.Admission.{Rule}
 
@@ -117,10 +121,11 @@ module _ (sig : Sig) where
 
   -- ---- patterns
 
-  -- the kind of a wildcard is held, and its default is sound
+  -- the kind of a wildcard is held, its default is sound, and its count is from 2 to MAX_COUNT
   abbrev pub IsSoundWildcard : Wildcard → Type 0
   IsSoundWildcard (kind k) = HoldsKind k
   IsSoundWildcard (optional t) = IsSoundTerm MAX_DEFAULT_NODES t
+  IsSoundWildcard (counted n exact) = (2 ≤ n) × (n ≤ MAX_COUNT)
   IsSoundWildcard _ = ⊤
 
   -- the variable of a wildcard, where it has one, is a name
@@ -142,8 +147,8 @@ module _ (sig : Sig) where
     AreFormed no_patterns = ⊤
     AreFormed (more_patterns p ps) = IsFormed p × AreFormed ps
 
-  -- the pattern of a rule: normal, with such operations, symbols and wildcards, no plus, star or optional wildcard, no
-  -- two wildcards of one variable in it differ, and it is within its limits
+  -- the pattern of a rule: normal, with such operations, symbols and wildcards, not a plus, star, counted or optional
+  -- wildcard, no two wildcards of one variable in it differ, and it is within its limits
   pub record IsSoundPattern (p : Pattern) : Type 0 where
     pub normal : IsNormalPattern sig p
     pub formed : IsFormed p
@@ -154,14 +159,54 @@ module _ (sig : Sig) where
     pub shallow : pattern_depth p ≤ MAX_DEPTH
 
   module _ (p : Pattern) where
+    -- the word is a variable of the pattern
+    abbrev pub IsVariableOf : List ℕ → Type 0
+    IsVariableOf x = is_known same_name (variables p) x ≡ true
+
+    -- it stands for one term: no wildcard of it is a plus, star or counted one
+    abbrev pub IsOneTerm : List ℕ → Type 0
+    IsOneTerm x = variable_form sig p x ≡ one_form
+
+    -- ---- templates
+
+    abbrev mutual
+      -- each operation of a template allows every number of arguments that its arguments may give, each symbol is
+      -- sound, and each variable is one of the pattern
+      pub IsFormedTemplate : Template → Type 0
+      IsFormedTemplate (symbol_template n) = IsSymbol n
+      IsFormedTemplate (app_template f xs) =
+          (holds_of (allows_extent (templates_extent (extent_named p) xs)) (slice_get sig.ops f) ≡ true)
+          × AreFormedTemplates xs
+      IsFormedTemplate (variable_template x) = IsVariableOf x
+
+      -- so is each template of a list
+      pub AreFormedTemplates : Templates → Type 0
+      AreFormedTemplates no_templates = ⊤
+      AreFormedTemplates (more_templates x xs) = IsFormedTemplate x × AreFormedTemplates xs
+
+    -- a variable that is the whole template stands for one term
+    abbrev pub HasOneTerm : Template → Type 0
+    HasOneTerm (variable_template x) = IsOneTerm x
+    HasOneTerm _ = ⊤
+
+    -- the template of a rule with the pattern p: it has such operations, symbols and variables, and is within its
+    -- limits
+    pub record IsSoundTemplate (x : Template) : Type 0 where
+      pub formed : IsFormedTemplate x
+      pub one_term : HasOneTerm x
+      pub few_nodes : template_nodes x ≤ MAX_PATTERN_NODES
+      pub shallow : template_depth x ≤ MAX_DEPTH
+
+    -- ---- conditions
+
     -- an operand: a variable of the pattern, or a sound term
     abbrev pub IsSoundOperand : Operand → Type 0
-    IsSoundOperand (var x) = is_known same_name (variables p) x ≡ true
+    IsSoundOperand (var x) = IsVariableOf x
     IsSoundOperand (ground t) = IsSoundTerm MAX_OPERAND_NODES t
 
-    -- an operand that stands for one term: a term, or a variable of which the pattern has no plus or star wildcard
+    -- an operand that stands for one term: a term, or such a variable
     abbrev pub IsSingle : Operand → Type 0
-    IsSingle (var x) = variable_form sig p x ≡ one_form
+    IsSingle (var x) = IsOneTerm x
     IsSingle (ground t) = ⊤
 
     -- an amount: a number of at most MAX_NUMBER, or one of an operand
@@ -191,6 +236,11 @@ module _ (sig : Sig) where
 
 -- ---- rules
 
+-- the template of a rule, where there is one, is sound
+abbrev pub HasSoundTemplate : Sig → Pattern → Option Template → Type 0
+HasSoundTemplate sig p None = ⊤
+HasSoundTemplate sig p (Some x) = IsSoundTemplate sig p x
+
 -- the condition of a rule: it is checked, and has at most MAX_ATOMS atoms
 pub record IsSoundCondition (sig : Sig) (p : Pattern) (c : Cond) : Type 0 where
   pub checked : IsChecked sig p c
@@ -201,12 +251,12 @@ abbrev pub HasSoundCondition : Sig → Pattern → Option Cond → Type 0
 HasSoundCondition sig p None = ⊤
 HasSoundCondition sig p (Some c) = IsSoundCondition sig p c
 
--- a rule: its name is one, its pattern and its condition are sound, and it has no template
+-- a rule: its name is one, and its pattern, its template and its condition are sound
 pub record IsSoundRule (sig : Sig) (r : Rule) : Type 0 where
   pub name : is_name r.name ≡ true
   pub pattern : IsSoundPattern sig r.pattern
+  pub template : HasSoundTemplate sig r.pattern r.template
   pub condition : HasSoundCondition sig r.pattern r.condition
-  pub no_template : r.template ≡ None
 
 -- rules: each is sound, their names differ, and there are at most MAX_RULES
 pub record AreSoundRules (sig : Sig) (rs : List Rule) : Type 0 where

@@ -11,7 +11,7 @@ module _ (sig : Sig) where
   is_plain f = holds_of (λ d. d.fixed && (not d.assoc && not d.comm)) (slice_get sig.ops f)
 
   abbrev mutual
-    -- a pattern without a plus, star or optional wildcard, over such operations
+    -- a pattern without a plus, star, counted or optional wildcard, over such operations
     pub is_syntactic : Pattern → Bool
     is_syntactic (symbol_pattern n) = true
     is_syntactic (app_pattern f ps) = is_plain f && all_syntactic ps

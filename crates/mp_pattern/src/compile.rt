@@ -29,8 +29,8 @@ use thiserror::Error;
 /// Why a pattern has no plan.
 #[derive(Debug, Drop, Error)]
 pub enum PlanFault {
-    /// The root is a plus, star or optional wildcard.
-    #[error("the whole pattern is a plus, star or optional wildcard")]
+    /// The root is a plus, star, counted or optional wildcard.
+    #[error("the whole pattern is a plus, star, counted or optional wildcard")]
     LooseSequence,
     /// The pattern has more than `MAX_PATTERN_NODES` nodes: so many, or the greatest `u32` where there are more.
     #[error("too many nodes: {count}")]
@@ -38,7 +38,7 @@ pub enum PlanFault {
     /// The pattern has more than `MAX_VARIABLES` variables: so many.
     #[error("too many variables: {count}")]
     TooManyVars { count: u32 },
-    /// The wildcard at this node is of another class, kind or default than one of the same variable before it.
+    /// The wildcard at this node is of another class, kind, default or count than one of the same variable before it.
     #[error("another wildcard of the variable at node {node}")]
     KindClash { node: u32 },
     /// There was no memory.
@@ -149,7 +149,7 @@ pub fn is_comm_above(sig: &Signature, under: Option<OpId>) -> bool
     }
 }
 
-// The variable has a plus or star wildcard.
+// The variable has a plus, star or counted wildcard.
 fn has_sequence(occurrences: &[Occurrence<'_>], name: &Name) -> bool
     ensures { result
         ≡ list_any (λ _. true)
@@ -163,7 +163,7 @@ fn has_sequence(occurrences: &[Occurrence<'_>], name: &Name) -> bool
     false
 }
 
-// The variable has a plus or star wildcard directly under an operation that isn't commutative.
+// The variable has a plus, star or counted wildcard directly under an operation that isn't commutative.
 fn has_ordered_sequence(sig: &Signature, occurrences: &[Occurrence<'_>], name: &Name) -> bool
     ensures { result ≡ list_any (λ u. not (comm_above sig.now u.under))
         (filter (λ u. same_name name.now u.name && is_sequence u.wildcard) (map occurrence occurrences.now)) }
@@ -282,12 +282,12 @@ impl Plan {
     /// is taken as it stands, normal or not. An operation that isn't held would count as one that isn't commutative.
     ///
     /// The refusals come in this order (`plan_fault` of `specs/PlanFault.antt`), and leave nothing. `LooseSequence`
-    /// comes exactly where the root is a plus, star or optional wildcard. `TooManyNodes` comes exactly where the
-    /// pattern has more than `MAX_PATTERN_NODES` nodes, a wildcard with its default being one, with their number, or
-    /// the greatest `u32` where there are more. `TooManyVars` comes exactly where it has more than `MAX_VARIABLES`
+    /// comes exactly where the root is a plus, star, counted or optional wildcard. `TooManyNodes` comes exactly where
+    /// the pattern has more than `MAX_PATTERN_NODES` nodes, a wildcard with its default being one, with their number,
+    /// or the greatest `u32` where there are more. `TooManyVars` comes exactly where it has more than `MAX_VARIABLES`
     /// variables, with their number. `KindClash` comes exactly where the wildcard at some node has the variable of one
-    /// before it and another class, kind or default, with the least such node (`first_clash` of `specs/Clash.antt`).
-    /// `Memory` comes where there is no room for the plan, also in place of the last two.
+    /// before it and another class, kind, default or count, with the least such node (`first_clash` of
+    /// `specs/Clash.antt`). `Memory` comes where there is no room for the plan, also in place of the last two.
     pub fn compile(alloc: Global, sig: &Signature, pattern: &Pattern) -> Result<Plan, PlanFault>
         ensures plan { IfOk result (λ plan. IsPlanOf sig.now (pattern_tree pattern.now) plan) }
         ensures accepted { OrMemory result (IsOk result ↔ (plan_fault (pattern_tree pattern.now) ≡ None)) }

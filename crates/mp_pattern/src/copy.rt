@@ -18,6 +18,10 @@ pub fn copy_shape(alloc: Global, shape: &Shape) -> Result<Shape, Memory>
         Shape::Plus => Ok(Shape::Plus),
         Shape::Star => Ok(Shape::Star),
         Shape::Opt(term) => Ok(Shape::Opt(copy_term(alloc, term)?)),
+        Shape::Counted { least, fixed } => Ok(Shape::Counted {
+            least: *least,
+            fixed: *fixed,
+        }),
     }
 }
 

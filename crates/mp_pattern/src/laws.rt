@@ -6,9 +6,14 @@ ghost use Rattle.std.specs.List.{AllByRecursion};
 ghost use Rattle.std.specs.List.Sorted.{IsPermutation};
 ghost use Rattle.mp_term.specs.Tree.{Tree};
 ghost use Rattle.mp_term.specs.Order.{tree_cmp};
-ghost use Rattle.mp_term.specs.Signature.{Sig};
+ghost use Rattle.mp_term.specs.Signature.{Sig, IsSignature, well_formed};
 ghost use Rattle.mp_term.specs.Normal.{normal};
 ghost use Rattle.mp_pattern.specs.PatternTree.{Pattern};
+ghost use Rattle.mp_pattern.specs.TemplateTree.{Template};
+ghost use Rattle.mp_pattern.specs.Value.{Subst};
+ghost use Rattle.mp_pattern.specs.Fits.{Table, Fits};
+ghost use Rattle.mp_pattern.specs.Instance.{IsInstance};
+ghost use Rattle.mp_pattern.specs.SoundRule.{IsSoundPattern, IsSoundTemplate};
 ghost use Rattle.mp_pattern.specs.Size.{pattern_nodes};
 ghost use Rattle.mp_pattern.specs.Order.{is_ground, pattern_cmp};
 ghost use Rattle.mp_pattern.specs.Normal.{normal_pattern, IsNormalPattern};
@@ -58,6 +63,18 @@ pub fn ground_patterns_are_terms()
     ensures terms { (p : Pattern) → (is_ground p ≡ true) ↔ ((t : Tree) × (p ≡ term_pattern t)) }
     ensures order { (t u : Tree) → pattern_cmp (term_pattern t) (term_pattern u) ≡ tree_cmp t u }
     ensures normal { (sig : Sig) (t : Tree) → normal_pattern sig (term_pattern t) ≡ term_pattern (normal sig t) }
+{}
+
+/// Where a table fits a sound pattern and a well formed subject with a substitution, each sound template has an
+/// instance at the substitution, which is well formed: each of its operations is held and has a number of arguments
+/// that it allows.
+pub fn instances_of_sound_templates_are_well_formed()
+    ensures instance { (sig : Sig) (p : Pattern) (x : Template) (t : Tree) (s : Subst) (table : Table) →
+        IsSignature sig → IsSoundPattern sig p → IsSoundTemplate sig p x → well_formed sig t ≡ true →
+        Fits sig p t s table → (u : Tree) × IsInstance x s u }
+    ensures well_formed { (sig : Sig) (p : Pattern) (x : Template) (t : Tree) (s : Subst) (table : Table) →
+        IsSignature sig → IsSoundPattern sig p → IsSoundTemplate sig p x → well_formed sig t ≡ true →
+        Fits sig p t s table → (u : Tree) → IsInstance x s u → well_formed sig u ≡ true }
 {}
 
 /// A plan has one pattern, over whatever signature.

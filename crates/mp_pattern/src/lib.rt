@@ -22,13 +22,14 @@ pub use condition::{Amount, BoxedCond, Cond, Conds, Operand, Sense};
 pub use copy::{copy_cond, copy_pattern, copy_shape};
 pub use entry::{Entries, Entry, Form};
 pub use laws::{
-    a_plan_has_one_pattern, ground_patterns_are_terms, nodes_and_variables_decide_the_pattern,
+    a_plan_has_one_pattern, ground_patterns_are_terms,
+    instances_of_sound_templates_are_well_formed, nodes_and_variables_decide_the_pattern,
     normal_pattern_is_idempotent, normal_pattern_is_no_larger, normal_pattern_keeps_no_clash,
     normal_pattern_keeps_variables, pattern_order_is_total, subpatterns_are_normal,
 };
 pub use limits::{
-    MAX_ATOMS, MAX_DEFAULT_NODES, MAX_DEPTH, MAX_NUMBER, MAX_OPERAND_NODES, MAX_PATTERN_NODES,
-    MAX_RULES, MAX_SUBJECTS, MAX_TERM_NODES, MAX_VARIABLES,
+    MAX_ATOMS, MAX_COUNT, MAX_DEFAULT_NODES, MAX_DEPTH, MAX_EDIT_STATEMENTS, MAX_INDEX, MAX_NUMBER,
+    MAX_OPERAND_NODES, MAX_PATTERN_NODES, MAX_RULES, MAX_SUBJECTS, MAX_TERM_NODES, MAX_VARIABLES,
 };
 pub use named::is_fully_named;
 pub use normal::normalise_pattern;

@@ -90,8 +90,8 @@ fn normal_form(alloc: Global, sig: &Signature, pattern: Pattern) -> Result<Patte
 /// The normal form of a pattern (`normal_pattern` of `specs/Normal.antt`): the arguments are normalised, those of an
 /// associative operation that are headed by it are replaced by their arguments, those of a commutative operation are
 /// sorted by the pattern order, and a one-identity operation of one argument is replaced by that argument, unless it is
-/// a plus, star or optional wildcard. Its operations are held and its defaults normal, as before. `Memory` comes where
-/// there is no room for the flattened lists; the pattern is then dropped.
+/// a plus, star, counted or optional wildcard. Its operations are held and its defaults normal, as before. `Memory`
+/// comes where there is no room for the flattened lists; the pattern is then dropped.
 pub fn normalise_pattern(
     alloc: Global,
     sig: &Signature,

@@ -46,8 +46,9 @@ pub(crate) fn wildcard_class(shape: &Shape) -> u8
         Shape::Kind(_) => 2,
         Shape::Dot => 3,
         Shape::Opt(_) => 4,
-        Shape::Plus => 5,
-        Shape::Star => 6,
+        Shape::Counted { .. } => 5,
+        Shape::Plus => 6,
+        Shape::Star => 7,
     }
 }
 
@@ -74,22 +75,30 @@ fn compare_names(x: &Option<Name>, y: &Option<Name>) -> Ordering
     }
 }
 
-// Wildcards of one class by their kinds or defaults.
+// Wildcards of one class by their kinds, by their defaults, or by their counts, a fixed one before an open one.
 pub(crate) fn compare_shapes(v: &Shape, w: &Shape) -> Ordering
     ensures { result ≡ wildcard_cmp (wildcard v.now) (wildcard w.now) }
 {
     match (v, w) {
         (Shape::Kind(k), Shape::Kind(l)) => k.0.cmp(&l.0),
         (Shape::Opt(t), Shape::Opt(u)) => compare(t, u),
+        (
+            Shape::Counted { least: m, fixed },
+            Shape::Counted {
+                least: n,
+                fixed: other,
+            },
+        ) => m.cmp(n).then(other.cmp(fixed)),
         _ => Ordering::Equal,
     }
 }
 
 /// The pattern order (`pattern_cmp` of `specs/Order.antt`): patterns without a wildcard come first, as their terms do
-/// in the term order, then applications that hold a wildcard, then kind, dot, optional, plus and star wildcards. Those
-/// applications compare by the numbers of their operations, then by how many arguments they have, then argument by
-/// argument from the left; wildcards of one class by the bytes of their names, unnamed ones last, then by the number of
-/// the kind or by the default. Equal patterns alone are `Equal`. It takes no memory.
+/// in the term order, then applications that hold a wildcard, then kind, dot, optional, counted, plus and star
+/// wildcards. Those applications compare by the numbers of their operations, then by how many arguments they have, then
+/// argument by argument from the left; wildcards of one class by the bytes of their names, unnamed ones last, then by
+/// the number of the kind, by the default, or by the count and then fixed before open. Equal patterns alone are
+/// `Equal`. It takes no memory.
 #[cycle(pattern_compare)]
 pub fn pattern_compare(a: &Pattern, b: &Pattern) -> Ordering
     ensures { result ≡ pattern_cmp (pattern_tree a.now) (pattern_tree b.now) }

@@ -21,14 +21,17 @@ pub enum Shape {
     Star,
     /// As a dot does, or nothing, and then its variable has this default.
     Opt(Term),
+    /// `least` arguments where the count is fixed, and `least` or more where it is open. In a sound rule `least` is
+    /// from 2 to `MAX_COUNT`; what counts fewer is a dot, a plus or a star.
+    Counted { least: u32, fixed: bool },
 }
 
 impl Shape {
-    /// Its variable stands for a list of terms: a plus or star wildcard.
+    /// Its variable stands for a list of terms: a plus, star or counted wildcard.
     pub fn is_sequence(&self) -> bool
         ensures { result ≡ is_sequence (wildcard self.now) }
     {
-        matches!(self, Shape::Plus | Shape::Star)
+        matches!(self, Shape::Plus | Shape::Star | Shape::Counted { .. })
     }
 
     /// How many arguments it takes at least.
@@ -38,6 +41,7 @@ impl Shape {
         match self {
             Shape::Star | Shape::Opt(_) => 0,
             Shape::Dot | Shape::Kind(_) | Shape::Plus => 1,
+            Shape::Counted { least, .. } => *least as usize,
         }
     }
 
@@ -47,6 +51,7 @@ impl Shape {
     {
         match self {
             Shape::Plus | Shape::Star => None,
+            Shape::Counted { least, fixed } => { if *fixed { Some(*least as usize) } else { None } }
             Shape::Dot | Shape::Opt(_) if assoc => None,
             Shape::Dot | Shape::Opt(_) | Shape::Kind(_) => Some(1),
         }

@@ -16,9 +16,9 @@ fn is_plain(sig: &Signature, op: OpId) -> bool
     }
 }
 
-/// The pattern is syntactic (`is_syntactic` of `specs/Syntactic.antt`): it holds no plus, star or optional wildcard,
-/// and each of its operations is held, has a fixed count of arguments, and is neither associative nor commutative. It
-/// takes no memory.
+/// The pattern is syntactic (`is_syntactic` of `specs/Syntactic.antt`): it holds no plus, star, counted or optional
+/// wildcard, and each of its operations is held, has a fixed count of arguments, and is neither associative nor
+/// commutative. It takes no memory.
 pub fn is_syntactic(sig: &Signature, pattern: &Pattern) -> bool
     ensures { result ≡ is_syntactic sig.now (pattern_tree pattern.now) }
 {
