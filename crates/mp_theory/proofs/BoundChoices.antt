@@ -1,6 +1,6 @@
 -- A variable that has a value takes a list that gives this value again: all other choices lead nowhere.
 use Rattle.std.proofs.Common.{◌≡◌, ℕ, zero, suc, List, [], ◌∷◌, ◌++◌, Bool, true, false, not, ◌&&◌, refl, ap, sym, ◌∙◌}
-use Rattle.std.proofs.Common.{◌⊎◌, inl, inr, subst}
+use Rattle.std.proofs.Common.{◌⊎◌, inl, inr, subst, length}
 use Rattle.std.specs.Prelude.{Option, Some, None, is_some, if◌then◌else◌, flat_map, filter, option_and_then}
 use Rattle.std.specs.List.Sorted.{IsStrictlySortedBy}
 use Rattle.std.proofs.lemmas.List.Kept.{IsStrictlySortedBy-filter}
@@ -11,7 +11,8 @@ use Rattle.mp_term.specs.OrderLaws.{tree_same}
 use Rattle.mp_term.specs.Tree.{Tree, symbol, app}
 use Rattle.mp_term.specs.Signature.{Sig, in_kind, is_assoc}
 use Rattle.mp_term.proofs.ListingLaws.{same_members}
-use Rattle.mp_pattern.specs.PatternTree.{Wildcard, dot, kind, plus, star, optional, wild_pattern}
+use Rattle.mp_pattern.specs.PatternTree.{Wildcard, dot, kind, plus, star, counted, meets_count, optional}
+use Rattle.mp_pattern.specs.PatternTree.{wild_pattern}
 use Rattle.mp_pattern.specs.Value.{Value, one, seq, bag, Subst, value_of, merge}
 use Rattle.mp_pattern.specs.Variables.{comm_above}
 use Rattle.mp_pattern.specs.Contribution.{contribution}
@@ -56,6 +57,7 @@ module _ (sig : Sig) where
   given-form f plus [] g e = cc
   given-form f plus (t ∷ l) g e = let i : g ≡ sequence sig f (t ∷ l) = cc in inl i
   given-form f star l g e = let i : g ≡ sequence sig f l = cc in inl i
+  given-form f (counted n c) l g e = inl (sym (from_if (meets_count n c (length l)) (sequence sig f l) g e).1)
   given-form f (optional d) [] g e = let i : g ≡ one d = cc in inr (d, i)
   given-form f (optional d) (t ∷ l) g e = let c = contributor-contributes sig f (t ∷ l) g e in inr (c.term, c.is)
 
@@ -93,6 +95,8 @@ module _ (sig : Sig) where
   given-one f plus [] t n e = cc
   given-one f plus (u ∷ l) t n e = absurd (sequence-one f (u ∷ l) t e)
   given-one f star l t n e = absurd (sequence-one f l t e)
+  given-one f (counted m c) l t n e =
+      absurd (sequence-one f l t (ap Some (from_if (meets_count m c (length l)) (sequence sig f l) (one t) e).1))
   given-one f (optional d) l t n e = absurd n
 
   -- the trail doesn't refuse the entry

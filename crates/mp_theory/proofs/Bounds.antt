@@ -11,13 +11,13 @@ use Rattle.mp_term.specs.OrderLaws.{tree_cmp_total, tree_same}
 use Rattle.mp_term.specs.Tree.{Tree, symbol, app, trees}
 use Rattle.mp_term.specs.Signature.{Sig, is_assoc}
 use Rattle.mp_term.proofs.ListingLaws.{same_members}
-use Rattle.mp_pattern.specs.PatternTree.{dot, kind, plus, star, optional, Pattern, symbol_pattern, app_pattern}
-use Rattle.mp_pattern.specs.PatternTree.{wild_pattern, Patterns}
+use Rattle.mp_pattern.specs.PatternTree.{dot, kind, plus, star, counted, meets_count, optional, Pattern}
+use Rattle.mp_pattern.specs.PatternTree.{symbol_pattern, app_pattern, wild_pattern, Patterns}
 use Rattle.mp_pattern.specs.Value.{one}
 use Rattle.mp_pattern.specs.Variables.{comm_above}
 use Rattle.mp_pattern.specs.Fits.{Entry}
 use Rattle.mp_pattern.specs.DerivationOrder.{entry_cmp}
-use Rattle.mp_theory.specs.Solve.{contributor}
+use Rattle.mp_theory.specs.Solve.{contributor, sequence}
 use Rattle.mp_theory.specs.Frames.{Frame, child}
 use Rattle.mp_theory.proofs.Merging.{same_terms-sound}
 use Rattle.mp_term.specs.Search.{In}
@@ -79,6 +79,17 @@ at_most-sum (Some a) (Some b) l m n e h k = omega (arith, e, h, k)
 at_most-unless : (assoc : Bool) (n : ℕ) → (assoc ≡ false → n ≤ 1) → AtMost n (if assoc then None else Some 1)
 at_most-unless true n h = tt
 at_most-unless false n h = h refl
+
+-- a number that meets a count is within the bounds of its wildcard
+counted-within : (n : ℕ) (fixed : Bool) (l : ℕ) → meets_count n fixed l ≡ true
+    → (n ≤ l) × AtMost l (if fixed then Some n else None)
+counted-within n true l h = (grind (arith, nat_tests, h), grind (arith, nat_tests, h))
+counted-within n false l h = (grind (arith, nat_tests, h), tt)
+
+-- the test of an option that has a value where b holds
+if_some : {X : Type 0} (b : Bool) (x : X) → is_some (if b then Some x else None) ≡ true → b ≡ true
+if_some true x h = refl
+if_some false x h = cc
 
 module _ (sig : Sig) where
   -- the choices that leave the later children what they can take, by pieces of the lengths ns, which are those that the
@@ -150,6 +161,8 @@ module _ (sig : Sig) where
   within (wild_pattern plus x) f [] false h = cc
   within (wild_pattern plus x) f (t ∷ l) false h = (omega arith, tt)
   within (wild_pattern star x) f l false h = (omega arith, tt)
+  within (wild_pattern (counted n c) x) f l false h =
+      counted-within n c (length l) (if_some (meets_count n c (length l)) (sequence sig f l) (and_parts _ _ h).0)
   within (wild_pattern (optional d) x) f [] false h =
       (omega arith, at_most-unless (assoc_above sig f) 0 (λ _. omega arith))
   within (wild_pattern (optional d) x) f (t ∷ l) false h = let k = some_contributor f (t ∷ l) (and_parts _ _ h).0 in

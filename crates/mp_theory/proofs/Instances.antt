@@ -3,7 +3,6 @@ use Rattle.std.proofs.Common.{◌≡◌, ℕ, ◌+◌, List, [], ◌∷◌, ◌+
 use Rattle.std.proofs.Common.{inl, inr, subst, append-nil}
 use Rattle.std.specs.Prelude.{Some, None, if◌then◌else◌, nat_eq}
 use Rattle.std.specs.List.{AllByRecursion}
-use Rattle.std.specs.Ordering.{is_gt}
 use Rattle.std.proofs.lemmas.List.{map-append}
 use Rattle.std.proofs.lemmas.Grind.{flat_map-append}
 use Rattle.std.proofs.lemmas.Bool.{and_parts, not-true}
@@ -11,15 +10,17 @@ use Rattle.mp_term.specs.Tree.{Tree, symbol, app, tree_list, trees}
 use Rattle.mp_term.specs.TreeLists.{tree_list-trees}
 use Rattle.mp_term.specs.Order.{tree_cmp}
 use Rattle.mp_term.specs.OrderLaws.{tree_cmp_total}
-use Rattle.mp_term.specs.Sorting.{insert_sorted, sorted}
+use Rattle.mp_term.specs.Sorting.{sorted}
 use Rattle.mp_term.specs.Signature.{Sig, is_assoc, is_comm, is_one}
 use Rattle.mp_term.specs.Normal.{unwrapped, parts, flattened, collapsed, normal, normals, IsNormal}
 use Rattle.mp_term.specs.NormalTest.{has_head, is_single, ascending, passes, all_pass}
 use Rattle.mp_term.proofs.Sorting.{tally-sorted, ascends-sorted}
 use Rattle.mp_term.proofs.NormalTestLaws.{normal-passes}
 use Rattle.mp_term.proofs.ListLaws.{all-split}
-use Rattle.mp_pattern.specs.PatternTree.{Wildcard, dot, kind, plus, star, optional, Pattern, symbol_pattern}
-use Rattle.mp_pattern.specs.PatternTree.{app_pattern, wild_pattern, Patterns, no_patterns, more_patterns}
+use Rattle.mp_pattern.proofs.SortedLaws.{all-from_sorted}
+use Rattle.mp_pattern.specs.PatternTree.{Wildcard, dot, kind, plus, star, counted, optional, Pattern}
+use Rattle.mp_pattern.specs.PatternTree.{symbol_pattern, app_pattern, wild_pattern, Patterns, no_patterns}
+use Rattle.mp_pattern.specs.PatternTree.{more_patterns}
 use Rattle.mp_pattern.specs.Value.{Value, one, seq, bag, IsFinal, Subst, value_of}
 use Rattle.mp_pattern.specs.Contribution.{contribution, spread, if_several}
 use Rattle.mp_pattern.specs.Fits.{Table, joined, some_left_out, arranged, ByValue, WildTakes, TakesBy, AllTakeBy, Fits}
@@ -34,23 +35,9 @@ use Rattle.mp_theory.proofs.Wildcards.{if_several-some, put-put, final-passes}
 use Rattle.mp_theory.proofs.Walk.{all_pass-each}
 use Rattle.mp_theory.proofs.FitsSolves.{at_value}
 
--- what holds of each term of a sorted list holds of each term
-all-from_insert : (P : Tree → Type 0) (t : Tree) (ts : List Tree) → AllByRecursion P (insert_sorted tree_cmp t ts)
-    → P t × AllByRecursion P ts
-all-from_insert P t [] h = h
-all-from_insert P t (u ∷ ts) h =
-    elim (is_gt (tree_cmp t u)) as (λ b. AllByRecursion P (if b then u ∷ insert_sorted tree_cmp t ts else (t ∷ u ∷ ts))
-    → P t × AllByRecursion P (u ∷ ts)) [
-      | true ↦ λ k. let i = all-from_insert P t ts k.1 in (i.0, (k.0, i.1))
-      | false ↦ λ k. k
-    ] h
-
-all-from_sorted : (P : Tree → Type 0) (ts : List Tree) → AllByRecursion P (sorted tree_cmp ts) → AllByRecursion P ts
-all-from_sorted P [] h = tt
-all-from_sorted P (t ∷ ts) h = let i = all-from_insert P t (sorted tree_cmp ts) h in (i.0, all-from_sorted P ts i.1)
-
+-- what holds of each term of a list that was put in order holds of each term
 all-from_put : (P : Tree → Type 0) (b : Bool) (ts : List Tree) → AllByRecursion P (put b ts) → AllByRecursion P ts
-all-from_put P true ts h = all-from_sorted P ts h
+all-from_put P true ts h = all-from_sorted P tree_cmp ts h
 all-from_put P false ts h = h
 
 -- parts with the same terms are, together, lists with the same terms
@@ -77,6 +64,7 @@ none_left_out (more_patterns (wild_pattern dot x) ps) (l ∷ ls) h = none_left_o
 none_left_out (more_patterns (wild_pattern (kind k) x) ps) (l ∷ ls) h = none_left_out ps ls h.1
 none_left_out (more_patterns (wild_pattern plus x) ps) (l ∷ ls) h = none_left_out ps ls h.1
 none_left_out (more_patterns (wild_pattern star x) ps) (l ∷ ls) h = none_left_out ps ls h.1
+none_left_out (more_patterns (wild_pattern (counted n c) x) ps) (l ∷ ls) h = none_left_out ps ls h.1
 none_left_out (more_patterns (wild_pattern (optional d) x) ps) (l ∷ ls) h = absurd h.0
 
 module _ (sig : Sig) where
@@ -178,6 +166,8 @@ module _ (sig : Sig) where
     wild_instance plus g (bag m) l o f a h = same_instance g m l a h.0
     wild_instance star g (seq m) l o f a h = sequence_instance g m l a h
     wild_instance star g (bag m) l o f a h = same_instance g m l a h
+    wild_instance (counted n c) g (seq m) l o f a h = sequence_instance g m l a h.0
+    wild_instance (counted n c) g (bag m) l o f a h = same_instance g m l a h.0
     wild_instance (optional d) g v l o f a h = absurd o
     wild_instance dot g (seq m) l o f a h = absurd h
     wild_instance dot g (bag m) l o f a h = absurd h
@@ -185,6 +175,7 @@ module _ (sig : Sig) where
     wild_instance (kind k) g (bag m) l o f a h = absurd h
     wild_instance plus g (one t) l o f a h = absurd h
     wild_instance star g (one t) l o f a h = absurd h
+    wild_instance (counted n c) g (one t) l o f a h = absurd h
 
     -- an application whose children are so is, up to normal form, the term that it takes
     app_instance : (h : ℕ) (us ts : List Tree) → passes sig (app h (trees (arranged sig (Some h) ts))) ≡ true
@@ -242,6 +233,8 @@ module _ (sig : Sig) where
     root_value plus (bag m) t o h = sym h.0
     root_value star (seq m) t o h = sym h
     root_value star (bag m) t o h = sym h
+    root_value (counted n c) (seq m) t o h = sym h.0
+    root_value (counted n c) (bag m) t o h = sym h.0
     root_value (optional d) v t o h = absurd o
     root_value dot (seq m) t o h = absurd h
     root_value dot (bag m) t o h = absurd h
@@ -249,6 +242,7 @@ module _ (sig : Sig) where
     root_value (kind k) (bag m) t o h = absurd h
     root_value plus (one u) t o h = absurd h
     root_value star (one u) t o h = absurd h
+    root_value (counted n c) (one u) t o h = absurd h
 
     root_instance : (p : Pattern) (t : Tree) (T : Table) → is_fully_named p ≡ true → HasNoOptional p → IsNormal sig t
         → TakesBy sig (ByValue sig s) None p (t ∷ []) T → IsPatternApplied sig p s t

@@ -1,9 +1,9 @@
 -- The one-list of rules and subjects, computed.
-use Rattle.std.proofs.Common.{◌≡◌, ℕ, List, [], ◌∷◌, map, refl}
+use Rattle.std.proofs.Common.{◌≡◌, ℕ, List, [], ◌∷◌, map, true, false, refl}
 use Rattle.std.specs.Prelude.{None, Some, codes}
 use Rattle.mp_term.specs.Order.{tree_cmp}
 use Rattle.mp_term.specs.Tree.{Tree, symbol}
-use Rattle.mp_pattern.specs.PatternTree.{dot, kind, plus, star, optional, Pattern, wild_pattern}
+use Rattle.mp_pattern.specs.PatternTree.{dot, kind, plus, star, counted, optional, Pattern, wild_pattern}
 use Rattle.mp_pattern.specs.CondTree.{var, fixed, count, size, Cond, amounts, same, free, negation, all_of, conds}
 use Rattle.mp_pattern.specs.declared.condition.Sense.TheVariants.{Gt, Ge}
 use Rattle.mp_pattern.specs.Value.{one, seq, bag}
@@ -100,6 +100,44 @@ dots_share_a_sum : one_list sig (plain (pattern sum (x_ dot ∷ y_ dot ∷ [])))
     ∷ (x→ (one (term sum (a ∷ b ∷ []))) ∷ y→ (one c) ∷ []) ∷ (x→ (one (term sum (a ∷ c ∷ []))) ∷ y→ (one b) ∷ [])
     ∷ (x→ (one (term sum (b ∷ c ∷ []))) ∷ y→ (one a) ∷ []) ∷ []
 dots_share_a_sum = refl
+
+-- COUNTED WILDCARDS
+
+-- f(x_{2}, y_) on f(a, b, c), and on f(a, b)
+fixed_count_takes_as_many : one_list sig (plain (pattern f (x_ (counted 2 true) ∷ y_ dot ∷ [])))
+    (term f (a ∷ b ∷ c ∷ [])) ≡ (x→ (seq (a ∷ b ∷ [])) ∷ y→ (one c) ∷ []) ∷ []
+fixed_count_takes_as_many = refl
+
+fixed_count_takes_no_fewer : one_list sig (plain (pattern f (x_ (counted 2 true) ∷ y_ dot ∷ [])))
+    (term f (a ∷ b ∷ [])) ≡ []
+fixed_count_takes_no_fewer = refl
+
+-- f(x_{2}, y___) and f(x_{2+}, y___) on f(a, b, c)
+fixed_count_takes_no_more : one_list sig (plain (pattern f (x_ (counted 2 true) ∷ y_ star ∷ [])))
+    (term f (a ∷ b ∷ c ∷ [])) ≡ (x→ (seq (a ∷ b ∷ [])) ∷ y→ (seq (c ∷ [])) ∷ []) ∷ []
+fixed_count_takes_no_more = refl
+
+open_count_takes_more : one_list sig (plain (pattern f (x_ (counted 2 false) ∷ y_ star ∷ [])))
+    (term f (a ∷ b ∷ c ∷ [])) ≡ (x→ (seq (a ∷ b ∷ [])) ∷ y→ (seq (c ∷ [])) ∷ [])
+    ∷ (x→ (seq (a ∷ b ∷ c ∷ [])) ∷ y→ (seq []) ∷ []) ∷ []
+open_count_takes_more = refl
+
+-- set(y_, x_{2+}) on set(a, a, b)
+open_count_takes_a_multiset : one_list sig (plain (pattern set (y_ dot ∷ x_ (counted 2 false) ∷ [])))
+    (term set (a ∷ a ∷ b ∷ [])) ≡ (y→ (one a) ∷ x→ (bag (a ∷ b ∷ [])) ∷ [])
+    ∷ (y→ (one b) ∷ x→ (bag (a ∷ a ∷ [])) ∷ []) ∷ []
+open_count_takes_a_multiset = refl
+
+-- list(x_{2}, y_) on list(a, b, c): the count is one of arguments, and the value no list
+counted_never_wraps : one_list sig (plain (pattern list (x_ (counted 2 true) ∷ y_ dot ∷ [])))
+    (term list (a ∷ b ∷ c ∷ [])) ≡ (x→ (seq (a ∷ b ∷ [])) ∷ y→ (one c) ∷ []) ∷ []
+counted_never_wraps = refl
+
+-- sum(x_, y_:0, z_{2}) on a: a counted child forbids the collapse
+no_collapse_round_a_count : one_list sig
+    (plain (pattern sum (x_ dot ∷ y_ (optional nought) ∷ z_ (counted 2 true) ∷ [])))
+    a ≡ []
+no_collapse_round_a_count = refl
 
 -- OPTIONAL WILDCARDS AND COLLAPSE
 

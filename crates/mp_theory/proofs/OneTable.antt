@@ -4,8 +4,9 @@ use Rattle.std.specs.Prelude.{Option, Some, None}
 use Rattle.std.proofs.lemmas.Bool.{and_parts}
 use Rattle.mp_term.specs.Tree.{Tree, app, trees}
 use Rattle.mp_term.specs.Signature.{Sig}
-use Rattle.mp_pattern.specs.PatternTree.{Wildcard, dot, kind, plus, star, optional, Pattern, symbol_pattern}
-use Rattle.mp_pattern.specs.PatternTree.{app_pattern, wild_pattern, Patterns, no_patterns, more_patterns}
+use Rattle.mp_pattern.specs.PatternTree.{Wildcard, dot, kind, plus, star, counted, optional, Pattern}
+use Rattle.mp_pattern.specs.PatternTree.{symbol_pattern, app_pattern, wild_pattern, Patterns, no_patterns}
+use Rattle.mp_pattern.specs.PatternTree.{more_patterns}
 use Rattle.mp_pattern.specs.Value.{Value, one, seq, bag, Subst}
 use Rattle.mp_pattern.specs.Fits.{Table, joined, arranged, WildTakes, ByValue, TakesBy, AllTakeBy, Fits}
 use Rattle.mp_pattern.specs.Instance.{is_fully_named, all_fully_named}
@@ -23,6 +24,8 @@ module _ (sig : Sig) where
   wild_same plus f (bag ts) l m o h k = h.0 ∙ sym k.0
   wild_same star f (seq ts) l m o h k = h ∙ sym k
   wild_same star f (bag ts) l m o h k = h ∙ sym k
+  wild_same (counted n c) f (seq ts) l m o h k = h.0 ∙ sym k.0
+  wild_same (counted n c) f (bag ts) l m o h k = h.0 ∙ sym k.0
   wild_same (optional d) f v l m o h k = absurd o
   wild_same dot f (seq ts) l m o h k = absurd h
   wild_same dot f (bag ts) l m o h k = absurd h
@@ -30,6 +33,7 @@ module _ (sig : Sig) where
   wild_same (kind n) f (bag ts) l m o h k = absurd h
   wild_same plus f (one v) l m o h k = absurd h
   wild_same star f (one v) l m o h k = absurd h
+  wild_same (counted n c) f (one v) l m o h k = absurd h
 
   module _ (s : Subst) where
     mutual

@@ -9,8 +9,9 @@ use Rattle.mp_term.specs.Tree.{Tree}
 use Rattle.mp_term.specs.Order.{tree_cmp}
 use Rattle.mp_term.specs.OrderLaws.{tree_cmp_total, tree_same}
 use Rattle.mp_term.specs.Signature.{Sig, in_kind}
-use Rattle.mp_pattern.specs.PatternTree.{Wildcard, dot, kind, plus, star, optional, Pattern, symbol_pattern}
-use Rattle.mp_pattern.specs.PatternTree.{app_pattern, wild_pattern, no_patterns, more_patterns, Patterns}
+use Rattle.mp_pattern.specs.PatternTree.{Wildcard, dot, kind, plus, star, counted, meets_count, optional}
+use Rattle.mp_pattern.specs.PatternTree.{Pattern, symbol_pattern, app_pattern, wild_pattern, no_patterns}
+use Rattle.mp_pattern.specs.PatternTree.{more_patterns, Patterns}
 use Rattle.mp_pattern.specs.Value.{Value, one, seq, bag, Subst, value_of, same_name, merge}
 use Rattle.mp_pattern.specs.Holds.{is_bag}
 use Rattle.mp_pattern.specs.Variables.{comm_above}
@@ -209,6 +210,8 @@ module _ (sig : Sig) where
   given-arranged f plus (t ∷ l) g e o = let i : sequence sig f (t ∷ l) ≡ g = cc in
       subst IsArranged i (sequence-arranged sig f (t ∷ l) o)
   given-arranged f star l g e o = let i : sequence sig f l ≡ g = cc in subst IsArranged i (sequence-arranged sig f l o)
+  given-arranged f (counted n c) l g e o =
+      subst IsArranged (from_if (meets_count n c (length l)) (sequence sig f l) g e).1 (sequence-arranged sig f l o)
   given-arranged f (optional d) [] g e o = let i : one d ≡ g = cc in subst IsArranged i tt
   given-arranged f (optional d) (t ∷ l) g e o = let c = contributor-contributes sig f (t ∷ l) g e in
       subst IsArranged (sym c.is) tt

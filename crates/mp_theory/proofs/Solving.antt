@@ -1,11 +1,12 @@
 -- `solve` finds the one substitution of the pattern's variables that the takes obey.
 use Rattle.std.proofs.Common.{◌≡◌, ℕ, List, [], ◌∷◌, ◌++◌, map, Bool, true, false, ◌&&◌, not, refl, ap, sym, ◌∙◌, inl}
-use Rattle.std.proofs.Common.{inr, subst}
+use Rattle.std.proofs.Common.{inr, subst, length}
 use Rattle.std.specs.Prelude.{Option, Some, None, ◌||◌, filter, option_and_then, if◌then◌else◌}
 use Rattle.std.specs.List.{AllByRecursion, list_any}
 use Rattle.mp_term.specs.Tree.{Tree}
 use Rattle.mp_term.specs.Signature.{Sig, in_kind}
-use Rattle.mp_pattern.specs.PatternTree.{Wildcard, dot, kind, plus, star, optional, is_sequence, Pattern}
+use Rattle.mp_pattern.specs.PatternTree.{Wildcard, dot, kind, plus, star, counted, meets_count, optional}
+use Rattle.mp_pattern.specs.PatternTree.{is_sequence, Pattern}
 use Rattle.mp_pattern.specs.Value.{Value, one, seq, bag, Form, one_form, seq_form, bag_form, form_of, IsFinal, Subst}
 use Rattle.mp_pattern.specs.Value.{Binding, value_of, same_name, merge}
 use Rattle.mp_pattern.specs.Firsts.{is_known, add_new, firsts_after}
@@ -197,19 +198,19 @@ module _ (sig : Sig) where
   among m = if list_any (λ v. not (comm_above sig v.under)) m then seq_form else
       (if list_any (λ _. true) m then bag_form else one_form)
 
-  counted : (c a b : Bool) → (if not c || a then seq_form else bag_form)
+  joined_use : (c a b : Bool) → (if not c || a then seq_form else bag_form)
       ≡ join (if c then bag_form else seq_form) (if a then seq_form else (if b then bag_form else one_form))
-  counted false a b = refl
-  counted true true b = refl
-  counted true false true = refl
-  counted true false false = refl
+  joined_use false a b = refl
+  joined_use true true b = refl
+  joined_use true false true = refl
+  joined_use true false false = refl
 
   among-cons : (n q : Bool) (u : Use) (m : List Use)
       → among (if n && q then u ∷ m else m)
       ≡ (if n then join (use_form q (comm_above sig u.under)) (among m) else among m)
   among-cons false q u m = refl
   among-cons true false u m = refl
-  among-cons true true u m = counted (comm_above sig u.under) (list_any (λ v. not (comm_above sig v.under)) m)
+  among-cons true true u m = joined_use (comm_above sig u.under) (list_any (λ v. not (comm_above sig v.under)) m)
       (list_any (λ _. true) m)
 
   -- one use more
@@ -239,6 +240,8 @@ module _ (sig : Sig) where
   given-form f plus (t ∷ l) g e = let q : sequence sig f (t ∷ l) ≡ g = cc in
       ap form_of (sym q) ∙ sequence-form f (t ∷ l)
   given-form f star l g e = let q : sequence sig f l ≡ g = cc in ap form_of (sym q) ∙ sequence-form f l
+  given-form f (counted n c) l g e =
+      ap form_of (sym (from_if (meets_count n c (length l)) (sequence sig f l) g e).1) ∙ sequence-form f l
   given-form f (optional d) [] g e = let q : one d ≡ g = cc in ap form_of (sym q)
   given-form f (optional d) (t ∷ l) g e = ap form_of (contributor-contributes sig f (t ∷ l) g e).is
 

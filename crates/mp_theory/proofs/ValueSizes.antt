@@ -11,8 +11,9 @@ use Rattle.mp_term.specs.Sorting.{sorted}
 use Rattle.mp_term.specs.Signature.{Sig, is_assoc}
 use Rattle.mp_term.proofs.NormalSize.{all_nodes-append, all_nodes-sorted}
 use Rattle.mp_term.proofs.ListLaws.{all-append}
-use Rattle.mp_pattern.specs.PatternTree.{Wildcard, dot, kind, plus, star, optional, Pattern, symbol_pattern}
-use Rattle.mp_pattern.specs.PatternTree.{app_pattern, wild_pattern, Patterns, no_patterns, more_patterns}
+use Rattle.mp_pattern.specs.PatternTree.{Wildcard, dot, kind, plus, star, counted, optional, Pattern}
+use Rattle.mp_pattern.specs.PatternTree.{symbol_pattern, app_pattern, wild_pattern, Patterns, no_patterns}
+use Rattle.mp_pattern.specs.PatternTree.{more_patterns}
 use Rattle.mp_pattern.specs.Value.{Value, one, seq, bag, Subst, value_of, same_name}
 use Rattle.mp_pattern.specs.Variables.{Use, uses, all_uses, comm_above}
 use Rattle.mp_pattern.specs.Contribution.{contribution, spread, if_several}
@@ -77,6 +78,8 @@ module _ (sig : Sig) where
     HasAtMost-takes plus f (bag m) l d few h = HasAtMost-same m l few h.0
     HasAtMost-takes star f (seq m) l d few h = HasAtMost-arranged f m l few h
     HasAtMost-takes star f (bag m) l d few h = HasAtMost-same m l few h
+    HasAtMost-takes (counted k c) f (seq m) l d few h = HasAtMost-arranged f m l few h.0
+    HasAtMost-takes (counted k c) f (bag m) l d few h = HasAtMost-same m l few h.0
     HasAtMost-takes (optional u) f (one v) l d few (inl h) = HasAtMost-contribution f v l few h
     HasAtMost-takes (optional u) f (one v) l d few (inr h) = omega (arith, d, ap node_count h.1)
     HasAtMost-takes dot f (seq m) l d few h = absurd h
@@ -85,6 +88,7 @@ module _ (sig : Sig) where
     HasAtMost-takes (kind k) f (bag m) l d few h = absurd h
     HasAtMost-takes plus f (one v) l d few h = absurd h
     HasAtMost-takes star f (one v) l d few h = absurd h
+    HasAtMost-takes (counted k c) f (one v) l d few h = absurd h
     HasAtMost-takes (optional u) f (seq m) l d few h = absurd h
     HasAtMost-takes (optional u) f (bag m) l d few h = absurd h
 

@@ -16,14 +16,15 @@ use Rattle.mp_term.specs.NormalTest.{has_head, ascending, passes, all_pass}
 use Rattle.mp_term.proofs.Sorting.{ascends-sorted}
 use Rattle.mp_term.proofs.NormalTestLaws.{normal-passes, passes-normal, sorted-ascending, ascending-from}
 use Rattle.mp_term.specs.OrderLaws.{tree_cmp_total}
-use Rattle.mp_pattern.specs.PatternTree.{Wildcard, dot, kind, plus, star, optional, is_sequence}
+use Rattle.mp_pattern.specs.PatternTree.{Wildcard, dot, kind, plus, star, counted, meets_count, optional}
+use Rattle.mp_pattern.specs.PatternTree.{is_sequence}
 use Rattle.mp_pattern.specs.Value.{Value, one, seq, bag, IsFinal}
 use Rattle.mp_pattern.specs.Variables.{comm_above}
 use Rattle.mp_pattern.specs.Contribution.{contribution, spread, if_several}
 use Rattle.mp_pattern.specs.Fits.{WildTakes, IsContributed, UnnamedTakes}
 use Rattle.mp_pattern.specs.Holds.{is_bag}
 use Rattle.mp_theory.specs.Solve.{is_alone, contributor, sequence, of_kind, given}
-use Rattle.mp_theory.proofs.Merging.{Refines, sorted-sorted}
+use Rattle.mp_theory.proofs.Merging.{Refines, sorted-sorted, from_if}
 use Rattle.mp_theory.proofs.SolveLaws.{contribution-found}
 use Rattle.mp_theory.specs.Machine.{default_passes}
 use Rattle.mp_theory.proofs.Cuts.{put}
@@ -176,6 +177,18 @@ module _ (sig : Sig) where
         in_order = put_is_same (comm_above sig f) m l e h.1;
         refines = λ k. multiset_refines (comm_above sig f) m l e (k refl);
       }
+  gives f (counted n c) (seq m) l h e = record {
+    value = sequence sig f l;
+    is = rw e.1 refl;
+    in_order = put_is (comm_above sig f) m l e.0;
+    refines = λ _. tuple_refines (comm_above sig f) m l e.0;
+  }
+  gives f (counted n c) (bag m) l h e = record {
+    value = sequence sig f l;
+    is = rw e.1 refl;
+    in_order = put_is_same (comm_above sig f) m l e.0 h.1;
+    refines = λ k. multiset_refines (comm_above sig f) m l e.0 (k refl);
+  }
   gives f (optional d) (one v) [] h (inl e) =
       absurd (contributor_some f (one v) [] (contribution-found sig f v [] e) refl)
   gives f (optional d) (one v) (t ∷ l) h (inl e) =
@@ -194,6 +207,7 @@ module _ (sig : Sig) where
   gives f (kind k) (bag m) l h e = absurd e
   gives f plus (one v) l h e = absurd e
   gives f star (one v) l h e = absurd e
+  gives f (counted n c) (one v) l h e = absurd e
   gives f (optional d) (seq m) l h e = absurd e
   gives f (optional d) (bag m) l h e = absurd e
 
@@ -286,6 +300,13 @@ module _ (sig : Sig) where
         | inl h ↦ subst (λ x. WildTakes sig f star x l) (sym h.0) h.1
         | inr h ↦ subst (λ x. WildTakes sig f star x l) (sym h.0) h.1
       ]
+  takes-given f (counted n c) g v l e o r =
+      let i = from_if (meets_count n c (length l)) (sequence sig f l) g e in
+      let s = sequence_takes (comm_above sig f) l v o (subst (λ x. Refines x v) (sym i.1) r) in
+      elim s.1 [
+        | inl h ↦ subst (λ x. WildTakes sig f (counted n c) x l) (sym h.0) (h.1, i.0)
+        | inr h ↦ subst (λ x. WildTakes sig f (counted n c) x l) (sym h.0) (h.1, i.0)
+      ]
   takes-given f (optional d) g v [] e o r =
       let i : g ≡ one d = cc in
       subst (λ x. WildTakes sig f (optional d) x []) (sym (refined_one d v (subst (λ x. Refines x v) i r)))
@@ -365,6 +386,8 @@ module _ (sig : Sig) where
   given-final f plus x (t ∷ l) g e d h = let i : sequence sig f (t ∷ l) ≡ g = cc in
       subst (IsFinal sig) i (sequence-final f (t ∷ l) h)
   given-final f star x l g e d h = let i : sequence sig f l ≡ g = cc in subst (IsFinal sig) i (sequence-final f l h)
+  given-final f (counted n c) x l g e d h =
+      subst (IsFinal sig) (from_if (meets_count n c (length l)) (sequence sig f l) g e).1 (sequence-final f l h)
   given-final f (optional u) x [] g e d h = let i : one u ≡ g = cc in subst (IsFinal sig) i (normal-passes sig u d)
   given-final f (optional u) x (t ∷ l) g e d h = contributor-final f (t ∷ l) g e h
 
@@ -375,6 +398,7 @@ module _ (sig : Sig) where
   taken-passes f (kind k) x v l h e = refl
   taken-passes f plus x v l h e = refl
   taken-passes f star x v l h e = refl
+  taken-passes f (counted n c) x v l h e = refl
   taken-passes f (optional d) x v (t ∷ l) h e = refl
   taken-passes f (optional d) x (one v) [] h (inl e) =
       absurd (contributor_some f (one v) [] (contribution-found sig f v [] e) refl)
@@ -395,6 +419,7 @@ module _ (sig : Sig) where
   unnamed-gives f plus [] h = absurd (h.1 refl)
   unnamed-gives f plus (t ∷ l) h = (refl, h.0)
   unnamed-gives f star l h = (refl, h)
+  unnamed-gives f (counted n c) l h = (rw h.1 refl, h.0)
   unnamed-gives f (optional d) [] h = (refl, put-none (comm_above sig f))
   unnamed-gives f (optional d) (t ∷ l) (inl h) = contributed f (t ∷ l) h
   unnamed-gives f (optional d) (t ∷ l) (inr q) = cc
@@ -421,6 +446,9 @@ module _ (sig : Sig) where
   unnamed-takes f plus [] e h = cc
   unnamed-takes f plus (t ∷ l) e h = (h.in_order, λ q. cc)
   unnamed-takes f star l e h = h.in_order
+  unnamed-takes f (counted n c) l e h =
+      let g = some_from (given sig f (counted n c) l) e in
+      (h.in_order, (from_if (meets_count n c (length l)) (sequence sig f l) g.0 g.1).0)
   unnamed-takes f (optional d) [] e h = inr refl
   unnamed-takes f (optional d) (t ∷ l) e h = inl (is_contributed f (t ∷ l) e h)
 

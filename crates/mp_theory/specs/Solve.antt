@@ -1,11 +1,11 @@
 -- The substitution that a list of takes gives: each use of a variable gives a value, and the values of one variable are
 -- merged in turn.
-use Rattle.std.specs.Prelude.{ℕ, Bool, true, not, ◌&&◌, List, [], ◌∷◌, Option, Some, None, if◌then◌else◌, option_map}
-use Rattle.std.specs.Prelude.{option_and_then}
+use Rattle.std.specs.Prelude.{ℕ, Bool, true, not, ◌&&◌, List, [], ◌∷◌, length, Option, Some, None, if◌then◌else◌}
+use Rattle.std.specs.Prelude.{option_map, option_and_then}
 use Rattle.mp_term.specs.Tree.{Tree, app, trees}
 use Rattle.mp_term.specs.NormalTest.{has_head}
 use Rattle.mp_term.specs.Signature.{Sig, in_kind, is_assoc}
-use Rattle.mp_pattern.specs.PatternTree.{Wildcard, dot, kind, plus, star, optional}
+use Rattle.mp_pattern.specs.PatternTree.{Wildcard, dot, kind, plus, star, counted, meets_count, optional}
 use Rattle.mp_pattern.specs.Value.{Value, one, seq, bag, Subst, same_name, merge}
 use Rattle.mp_pattern.specs.Variables.{Use, comm_above}
 
@@ -50,6 +50,7 @@ module _ (sig : Sig) where
   given f plus [] = None
   given f plus (t ∷ ts) = Some (sequence f (t ∷ ts))
   given f star ts = Some (sequence f ts)
+  given f (counted n fixed) ts = if meets_count n fixed (length ts) then Some (sequence f ts) else None
   given f (optional d) [] = Some (one d)
   given f (optional d) (t ∷ ts) = contributor f (t ∷ ts)
 
