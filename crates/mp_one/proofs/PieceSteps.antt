@@ -17,8 +17,7 @@ use Rattle.mp_term.specs.Search.{In}
 use Rattle.mp_term.proofs.SearchLaws.{in-left}
 use Rattle.mp_term.proofs.PiecesLaws.{pieces_among-exact, pieces_among-ascending, length-without, same-sound}
 use Rattle.mp_term.proofs.PiecesLaws.{same-itself, sublist-from_piece}
-use Rattle.mp_term.specs.Pieces.{pieces_among, same, without, insert_new, distinct, after, first, pieces_of, is_sublist}
-use Rattle.mp_term.specs.Pieces.{is_piece}
+use Rattle.mp_term.specs.Pieces.{pieces_among, same, without, insert_new, distinct, after, pieces_of, is_sublist}
 use Rattle.mp_term.proofs.ListLaws.{bool_same}
 
 module _ {X Y : Type 0} (cmp : Y → Y → Ordering) (f : X → Y) where
@@ -57,16 +56,15 @@ module _ {X Y : Type 0} (cmp : Y → Y → Ordering) (f : X → Y) where
         rw k refl
     insert_new-equal (suc i) (y ∷ xs) x h e q = ap (λ ys. f y ∷ ys) (insert_new-equal i xs x (omega arith) e q)
 
--- the pieces that begin with e
-abbrev pub begun : {Y : Type 0} (cmp : Y → Y → Ordering) → Bool → ℕ → List Y → Y → List (List Y)
-begun cmp anywhere n ts e = map (λ w. e ∷ w) (pieces_of cmp anywhere n (after cmp ts e))
+-- the sublists that begin with e
+abbrev pub begun : {Y : Type 0} (cmp : Y → Y → Ordering) → ℕ → List Y → Y → List (List Y)
+begun cmp n ts e = map (λ w. e ∷ w) (pieces_of cmp true n (after cmp ts e))
 
-pub pieces_of-longer : {Y : Type 0} (cmp : Y → Y → Ordering) (anywhere : Bool) (n : ℕ) (ts : List Y) → (n ≡ 0 → ⊥)
-    → flat_map (begun cmp anywhere (n - 1) ts) (if anywhere then distinct cmp ts else first cmp ts)
-    ≡ pieces_of cmp anywhere n ts
-pieces_of-longer cmp anywhere zero ts h = absurd (h refl)
-pieces_of-longer cmp anywhere (suc n) ts h = let e : suc n - 1 ≡ n = omega arith in
-    ap (λ m. flat_map (begun cmp anywhere m ts) (if anywhere then distinct cmp ts else first cmp ts)) e
+pub sublists-longer : {Y : Type 0} (cmp : Y → Y → Ordering) (n : ℕ) (ts : List Y) → (n ≡ 0 → ⊥)
+    → flat_map (begun cmp (n - 1) ts) (distinct cmp ts) ≡ pieces_of cmp true n ts
+sublists-longer cmp zero ts h = absurd (h refl)
+sublists-longer cmp (suc n) ts h = let e : suc n - 1 ≡ n = omega arith in
+    ap (λ m. flat_map (begun cmp m ts) (distinct cmp ts)) e
 
 -- one more element of a list gone over
 pub flat_map-step : {X Y Z : Type 0} (f : X → Y) (g : Y → List Z) (zs ws : List Z) (i : ℕ) (xs : List X) (x : X)
@@ -122,26 +120,33 @@ whole_sublist (u ∷ l) (t ∷ ts) h e =
       | false ↦ λ q k. absurd (omega (arith, e, length-without tree_cmp tree_cmp_total tree_same (u ∷ l) ts k))
     ] refl h
 
-whole_piece : (anywhere : Bool) (ts : List Tree) → is_piece tree_cmp anywhere ts ts ≡ true
-whole_piece true [] = refl
-whole_piece false [] = refl
-whole_piece true (t ∷ ts) = rw (same-itself tree_cmp tree_cmp_total tree_same t) (whole_piece true ts)
-whole_piece false (t ∷ ts) = rw (same-itself tree_cmp tree_cmp_total tree_same t) (whole_piece false ts)
+itself_sublist : (ts : List Tree) → is_sublist tree_cmp ts ts ≡ true
+itself_sublist [] = refl
+itself_sublist (t ∷ ts) = rw (same-itself tree_cmp tree_cmp_total tree_same t) (itself_sublist ts)
 
--- the piece that is as long as the list is the list
-pub pieces_of-whole : (anywhere : Bool) (ts : List Tree) → pieces_of tree_cmp anywhere (length ts) ts ≡ ts ∷ []
+-- the sublist that is as long as the list is the list
+pub sublists-whole : (ts : List Tree) → pieces_of tree_cmp true (length ts) ts ≡ ts ∷ []
 unfolding IsStrictlySortedBy
-pieces_of-whole anywhere ts =
+sublists-whole ts =
     let ns : List ℕ = length ts ∷ [] in
-    let ls : List (List Tree) = pieces_among tree_cmp anywhere ns ts in
-    sym (append-nil (pieces_of tree_cmp anywhere (length ts) ts))
+    let ls : List (List Tree) = pieces_among tree_cmp true ns ts in
+    sym (append-nil (pieces_of tree_cmp true (length ts) ts))
     ∙ same_members (shortlex tree_cmp) (shortlex_total tree_cmp_total) ls (ts ∷ [])
-    (pieces_among-ascending tree_cmp tree_cmp_total tree_same anywhere ns ts (tt, tt)) (tt, tt)
+    (pieces_among-ascending tree_cmp tree_cmp_total tree_same true ns ts (tt, tt)) (tt, tt)
     (λ l i.
-    let k = (pieces_among-exact tree_cmp tree_cmp_total tree_same anywhere ns l ts).0 i in
+    let k = (pieces_among-exact tree_cmp tree_cmp_total tree_same true ns l ts).0 i in
     let e : length l ≡ length ts = elim k.0 [ inl p ↦ p | inr a ↦ absurd a ] in
-    inl (whole_sublist l ts (sublist-from_piece tree_cmp tree_cmp_total tree_same anywhere l ts k.1) e))
+    inl (whole_sublist l ts k.1 e))
     (λ l i.
     let e : l ≡ ts = elim i [ inl p ↦ p | inr a ↦ absurd a ] in
-    (pieces_among-exact tree_cmp tree_cmp_total tree_same anywhere ns l ts).1
-    (inl (ap length e), subst (λ m. is_piece tree_cmp anywhere m ts ≡ true) (sym e) (whole_piece anywhere ts)))
+    (pieces_among-exact tree_cmp tree_cmp_total tree_same true ns l ts).1
+    (inl (ap length e), subst (λ m. is_sublist tree_cmp m ts ≡ true) (sym e) (itself_sublist ts)))
+
+-- the prefix of that many terms is the one
+pub prefixes-one : (n : ℕ) (ts : List Tree) → n ≤ length ts → pieces_of tree_cmp false n ts ≡ take n ts ∷ []
+prefixes-one zero ts h = refl
+prefixes-one (suc n) [] h = absurd (omega (arith, h))
+prefixes-one (suc n) (t ∷ ts) h =
+    rw (same-itself tree_cmp tree_cmp_total tree_same t)
+    (append-nil (map (λ w. t ∷ w) (pieces_of tree_cmp false n ts))
+    ∙ ap (map (λ w. t ∷ w)) (prefixes-one n ts (omega (arith, h))))

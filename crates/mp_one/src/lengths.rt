@@ -1,5 +1,5 @@
 //! How many terms a child may take, so that the children behind it have enough and not too many.
-ghost use Rattle.std.specs.Prelude.{◌≡◌, ◌≤◌, IfSome, map, length};
+ghost use Rattle.std.specs.Prelude.{◌≡◌, ◌-◌, map, length, option_map};
 ghost use Rattle.mp_pattern.specs.PatternTree.{patterns};
 ghost use Rattle.mp_pattern.specs.View.{pattern_tree};
 ghost use Rattle.mp_theory.specs.Bounds as bounds;
@@ -14,8 +14,7 @@ use mp_term::{OpId, Signature};
 
 // The least number of terms that the node takes.
 fn least(child: &Pattern) -> usize
-    ensures least { result ≡ bounds.least (pattern_tree child.now) }
-    ensures few { result ≤ 1 }
+    ensures { result ≡ bounds.least (pattern_tree child.now) }
 {
     match child {
         Pattern::Wild(shape, _) => shape.least(),
@@ -25,8 +24,7 @@ fn least(child: &Pattern) -> usize
 
 // The greatest number of terms that the node takes, if there is a bound.
 fn most(sig: &Signature, under: Option<OpId>, child: &Pattern) -> Option<usize>
-    ensures most { result ≡ bounds.most sig.now (above under) (pattern_tree child.now) }
-    ensures few { IfSome result (λ m. m ≤ 1) }
+    ensures { result ≡ bounds.most sig.now (above under) (pattern_tree child.now) }
 {
     match child {
         Pattern::Wild(shape, _) => shape.most(assoc_above(sig, under)),
@@ -34,28 +32,31 @@ fn most(sig: &Signature, under: Option<OpId>, child: &Pattern) -> Option<usize>
     }
 }
 
-// The least number of terms that the children take together.
-fn all_least(children: &[Pattern]) -> usize
-    ensures sum { result ≡ bounds.all_least (patterns (map pattern_tree children.now)) }
-    ensures few { result ≤ length children.now }
+// How many of the terms are left where the children take as few as they can.
+fn left_by_least(children: &[Pattern], terms: usize) -> usize
+    ensures { result ≡ terms - bounds.all_least (patterns (map pattern_tree children.now)) }
 {
     match children {
-        [] => 0,
-        [first, rest @ ..] => least(first) + all_least(rest),
+        [] => terms,
+        [first, rest @ ..] => left_by_least(rest, terms.saturating_sub(least(first))),
     }
 }
 
-// The greatest number of terms that they take together, if there is a bound.
-fn all_most(sig: &Signature, under: Option<OpId>, children: &[Pattern]) -> Option<usize>
-    ensures sum { result ≡ bounds.all_most sig.now (above under) (patterns (map pattern_tree children.now)) }
-    ensures few { IfSome result (λ m. m ≤ length children.now) }
+// How many of the terms are left where the children take as many as they can, if there is a bound.
+fn left_by_most(
+    sig: &Signature,
+    under: Option<OpId>,
+    children: &[Pattern],
+    terms: usize,
+) -> Option<usize>
+    ensures { result ≡ option_map (λ m. terms - m)
+        (bounds.all_most sig.now (above under) (patterns (map pattern_tree children.now))) }
 {
     match children {
-        [] => Some(0),
+        [] => Some(terms),
         [first, rest @ ..] => {
             let first = most(sig, under, first)?;
-            let rest = all_most(sig, under, rest)?;
-            Some(first + rest)
+            left_by_most(sig, under, rest, terms.saturating_sub(first))
         }
     }
 }
@@ -66,9 +67,9 @@ pub fn fewest(sig: &Signature, place: &Place<'_>) -> usize
         (inner_frame place.now).children (length place.now.left.now) }
 {
     let least = least(place.child);
-    match all_most(sig, place.under, place.later) {
+    match left_by_most(sig, place.under, place.later, place.left.len()) {
         None => least,
-        Some(most) => least.max(place.left.len().saturating_sub(most)),
+        Some(left) => least.max(left),
     }
 }
 
@@ -78,9 +79,9 @@ pub fn length_limit(sig: &Signature, place: &Place<'_>) -> usize
     ensures { result ≡ within.length_limit sig.now (above place.now.under) (pattern_tree place.now.child.now)
         (inner_frame place.now).children (length place.now.left.now) }
 {
-    let limit = (place.left.len() + 1).saturating_sub(all_least(place.later));
+    let limit = left_by_least(place.later, place.left.len() + 1);
     match most(sig, place.under, place.child) {
-        None => limit,
-        Some(most) => limit.min(most + 1),
+        Some(most) if most < limit => most + 1,
+        _ => limit,
     }
 }

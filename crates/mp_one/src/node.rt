@@ -2,7 +2,7 @@
 ghost use Rattle.std.specs.Prelude.{◌≡◌, ◌∷◌, [], map, is_some};
 ghost use Rattle.mp_term.specs.View.{tree};
 ghost use Rattle.mp_term.specs.Tree.{symbol};
-ghost use Rattle.mp_pattern.specs.PatternTree.{patterns};
+ghost use Rattle.mp_pattern.specs.PatternTree.{patterns, meets_count};
 ghost use Rattle.mp_pattern.specs.View.{pattern_tree, wildcard};
 ghost use Rattle.mp_pattern.specs.Value as values;
 ghost use Rattle.mp_pattern.specs.Variables as variables;
@@ -69,6 +69,19 @@ fn is_contribution(sig: &Signature, under: Option<OpId>, terms: &[&Term]) -> boo
     }
 }
 
+/// Whether a counted wildcard may take so many terms: its count where that is fixed, and its count or more where it is
+/// open.
+pub fn meets_count(count: u32, fixed: bool, terms: usize) -> bool
+    ensures { result ≡ meets_count count fixed terms }
+{
+    let count = count as usize;
+    if fixed {
+        terms == count
+    } else {
+        terms >= count
+    }
+}
+
 // Whether the wildcard may take the list.
 fn is_given(sig: &Signature, under: Option<OpId>, shape: &Shape, terms: &[&Term]) -> bool
     ensures { result ≡ is_some (solve.given sig.now (above under) (wildcard shape.now) (trees_of terms.now)) }
@@ -78,6 +91,7 @@ fn is_given(sig: &Signature, under: Option<OpId>, shape: &Shape, terms: &[&Term]
         Shape::Kind(kind) => is_of_kind(sig, *kind, terms),
         Shape::Plus => !terms.is_empty(),
         Shape::Star => true,
+        Shape::Counted { least, fixed } => meets_count(*least, *fixed, terms.len()),
         Shape::Opt(_) => terms.is_empty() || is_contribution(sig, under, terms),
     }
 }
@@ -92,7 +106,7 @@ fn default_passes(sig: &Signature, variable: &Option<Name>, shape: &Shape, terms
     }
 }
 
-// Whether no child is a plus or star wildcard.
+// Whether no child is a plus, star or counted wildcard.
 fn no_sequence(children: &[Pattern]) -> bool
     ensures { result ≡ fits.no_sequence (patterns (map pattern_tree children.now)) }
 {

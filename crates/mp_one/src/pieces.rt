@@ -1,5 +1,5 @@
 //! What a child may take out of the terms that are left.
-ghost use Rattle.std.specs.Prelude.{◌≡◌, ◌-◌, ◌++◌, ◌∷◌, map, OnOk, IfOk, if◌then◌else◌};
+ghost use Rattle.std.specs.Prelude.{◌≡◌, ◌-◌, ◌++◌, ◌∷◌, true, false, map, OnOk, IfOk};
 ghost use Rattle.std.specs.List.{range_with_len};
 ghost use Rattle.mp_term.specs.View.{tree};
 ghost use Rattle.mp_term.specs.Order.{tree_cmp};
@@ -114,21 +114,6 @@ fn distinct<'a>(alloc: Global, list: &[&'a Term]) -> Result<Vec<&'a Term>, Memor
     Ok(found)
 }
 
-// The terms that a piece may begin with: anywhere in the list, or at its front.
-fn beginnings<'a>(alloc: Global, anywhere: bool, list: &[&'a Term]) -> Result<Vec<&'a Term>, Memory>
-    ensures { IfOk result (λ v. trees_of v.items
-        ≡ (if anywhere then pieces.distinct tree_cmp (trees_of list.now) else pieces.first tree_cmp
-        (trees_of list.now))) }
-{
-    if anywhere {
-        return distinct(alloc, list);
-    }
-    match list {
-        [] => Ok(Vec::new(alloc)),
-        [first, ..] => copied(alloc, &[*first]),
-    }
-}
-
 // The list with the term in front.
 fn behind<'a>(alloc: Global, first: &'a Term, rest: &[&'a Term]) -> Result<Vec<&'a Term>, Memory>
     ensures { IfOk result (λ v. trees_of v.items ≡ tree first.now ∷ trees_of rest.now) }
@@ -154,14 +139,13 @@ fn push_behind<'a>(
     Ok(())
 }
 
-// The pieces of that many terms, ascending.
-fn pieces_of<'a>(
+// The sublists of that many terms, ascending.
+fn sublists_of<'a>(
     alloc: Global,
-    anywhere: bool,
     length: usize,
     list: &[&'a Term],
 ) -> Result<Vec<Vec<&'a Term>>, Memory>
-    ensures { IfOk result (λ v. lists_of v.items ≡ pieces.pieces_of tree_cmp anywhere length (trees_of list.now)) }
+    ensures { IfOk result (λ v. lists_of v.items ≡ pieces.pieces_of tree_cmp true length (trees_of list.now)) }
 {
     let mut all = Vec::new(alloc);
     if list.len() < length {
@@ -175,11 +159,43 @@ fn pieces_of<'a>(
         all.push(copied(alloc, list)?)?;
         return Ok(all);
     }
-    for first in &beginnings(alloc, anywhere, list)? {
-        let rests = pieces_of(alloc, anywhere, length - 1, after(list, first))?;
+    for first in &distinct(alloc, list)? {
+        let rests = sublists_of(alloc, length - 1, after(list, first))?;
         push_behind(alloc, &mut all, *first, &rests)?;
     }
     Ok(all)
+}
+
+// The prefix of that many terms, if there is one.
+fn prefixes_of<'a>(
+    alloc: Global,
+    length: usize,
+    list: &[&'a Term],
+) -> Result<Vec<Vec<&'a Term>>, Memory>
+    ensures { IfOk result (λ v. lists_of v.items ≡ pieces.pieces_of tree_cmp false length (trees_of list.now)) }
+{
+    let mut all = Vec::new(alloc);
+    if list.len() < length {
+        return Ok(all);
+    }
+    all.push(copied(alloc, &list[..length])?)?;
+    Ok(all)
+}
+
+// The pieces of that many terms, ascending.
+fn pieces_of<'a>(
+    alloc: Global,
+    anywhere: bool,
+    length: usize,
+    list: &[&'a Term],
+) -> Result<Vec<Vec<&'a Term>>, Memory>
+    ensures { IfOk result (λ v. lists_of v.items ≡ pieces.pieces_of tree_cmp anywhere length (trees_of list.now)) }
+{
+    if anywhere {
+        sublists_of(alloc, length, list)
+    } else {
+        prefixes_of(alloc, length, list)
+    }
 }
 
 /// The pieces of at least so many terms and fewer than the limit, by shortlex: sublists, or prefixes.

@@ -11,7 +11,7 @@ ghost use Rattle.mp_one.specs.Above.{above};
 ghost use Rattle.mp_one.specs.Lists.{trees_of};
 ghost use Rattle.mp_one.specs.TrailValue.{trail_value, merged, is_same_one};
 
-use crate::node::{comm_above, is_alone, is_of_kind};
+use crate::node::{comm_above, is_alone, is_of_kind, meets_count};
 use crate::terms::{copied, references, same_multiset, same_references};
 use mp_pattern::Shape;
 use mp_term::{Memory, OpId, Signature, Term, compare};
@@ -187,7 +187,12 @@ pub fn value_by_take<'a>(
         ))),
         (Shape::Kind(_), _) => Ok(None),
         (Shape::Plus, []) => Ok(None),
-        (Shape::Plus | Shape::Star, _) => Ok(Some(sequence(alloc, sig, under, terms)?)),
+        (Shape::Counted { least, fixed }, _) if !meets_count(*least, *fixed, terms.len()) => {
+            Ok(None)
+        }
+        (Shape::Plus | Shape::Star | Shape::Counted { .. }, _) => Ok(Some(sequence(
+            alloc, sig, under, terms,
+        )?)),
         (Shape::Opt(default), []) => Ok(Some(TrailValue::Whole(default))),
         (Shape::Opt(_), _) => contributor(alloc, sig, under, terms),
     }
