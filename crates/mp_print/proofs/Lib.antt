@@ -1,5 +1,5 @@
 mod Separated
 mod Parts
-mod PatternSize
+mod Arguments
 mod CondTexts
 mod Examples

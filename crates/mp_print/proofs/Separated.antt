@@ -1,19 +1,16 @@
 -- Texts with a separator between them, as a loop puts them, and the text of an application.
 use Rattle.std.proofs.Common.{◌≡◌, Bool, true, false, Option, None, append_assoc, append-nil, ℕ, ◌+◌, ◌<◌, ◌≤◌, List}
 use Rattle.std.proofs.Common.{[], ◌∷◌, ◌++◌, map, length, take, get_or, Some, refl, ap, sym, ◌∙◌, subst, arith}
-use Rattle.std.specs.Prelude.{slice_get, nat_le, if◌then◌else◌, codes}
+use Rattle.std.specs.Prelude.{nat_le, if◌then◌else◌, codes}
 use Rattle.std.proofs.lemmas.List.{length-map, length-take-le, map-append, take-map, take_all, take_more}
-use Rattle.std.proofs.lemmas.Simd.{map-map}
 use Rattle.mp_io.specs.Devices.{Text}
 use Rattle.mp_io.specs.Writing.{Puts}
 use Rattle.mp_io.specs.declared.devices.Sink.{Ghosts as SinkWords}
 use Rattle.mp_io.specs.declared.writer.Writer.{Writer}
 use Rattle.mp_io.proofs.WritingLaws.{Puts-then}
 use Rattle.mp_term.specs.declared.signature.OpDecl.{OpDecl}
-use Rattle.mp_term.specs.Tree.{Tree, app, trees}
-use Rattle.mp_term.specs.Signature.{Sig}
-use Rattle.mp_print.specs.Printing.{separated, preceded, gap_text, term_text, term_texts, prefix_text, infix_text}
-use Rattle.mp_print.specs.Printing.{application_text, front_text, separator_text, held_text}
+use Rattle.mp_print.specs.Printing.{separated, preceded, gap_text, prefix_text, infix_text, application_text}
+use Rattle.mp_print.specs.Printing.{front_text, separator_text, held_text}
 
 -- the texts and one more behind them
 separated-push : (separator : Text) (texts : List Text) (text : Text)
@@ -76,19 +73,6 @@ application_text-parts f d (Some sign) items n same =
         (map f items) ++ codes ")")
     go true = refl
     go false = sym (append_assoc d.name (codes "(") (separated (codes ", ") (map f items) ++ codes ")"))
-
--- the texts of a list of terms
-term_texts-trees : (sig : Sig) (ts : List Tree) → term_texts sig (trees ts) ≡ map (term_text sig) ts
-term_texts-trees sig [] = refl
-term_texts-trees sig (t ∷ ts) = ap (λ l. term_text sig t ∷ l) (term_texts-trees sig ts)
-
--- the text of an application of terms that are seen as trees
-pub term_text-app : {X : Type 0} (view : X → Tree) (sig : Sig) (f : ℕ) (ts : List Tree) (items : List X)
-    → map view items ≡ ts
-    → term_text sig (app f (trees ts)) ≡ held_text (slice_get sig.ops f) (map (λ x. term_text sig (view x)) items)
-term_text-app view sig f ts items same =
-    ap (held_text (slice_get sig.ops f)) (term_texts-trees sig ts ∙ ap (map (term_text sig)) (sym same)
-    ∙ map-map (term_text sig) view items)
 
 -- an application of an operation that is held: what stands before its arguments is put, then they with what stands
 -- between them, and then a bracket

@@ -1,19 +1,24 @@
 -- The printed text of patterns.
-use Rattle.std.specs.Prelude.{List, [], ◌∷◌, ◌++◌, Option, unwrap_or, slice_get, codes}
+use Rattle.std.specs.Prelude.{ℕ, Bool, not, List, [], ◌∷◌, ◌++◌, Option, unwrap_or, slice_get, codes, decimal}
 use Rattle.mp_io.specs.Devices.{Text}
 use Rattle.mp_term.specs.Signature.{Sig}
-use Rattle.mp_pattern.specs.PatternTree.{Wildcard, dot, kind, plus, star, optional, Pattern, symbol_pattern}
+use Rattle.mp_pattern.specs.PatternTree.{Wildcard, dot, kind, plus, star, optional, counted, Pattern, symbol_pattern}
 use Rattle.mp_pattern.specs.PatternTree.{app_pattern, wild_pattern, Patterns, no_patterns, more_patterns}
-use Rattle.mp_print.specs.Printing.{kind_name_text, held_text, term_text}
+use Rattle.mp_print.specs.Printing.{text_if, kind_name_text, held_text, term_text}
+
+-- how many arguments a counted wildcard takes: {COUNT[+]}
+abbrev pub count_text : ℕ → Bool → Text
+count_text n fixed = codes "{" ++ (decimal n ++ (text_if (not fixed) (codes "+") ++ codes "}"))
 
 module _ (sig : Sig) where
-  -- what stands behind the name of a wildcard: _ _KIND __ ___ _:DEFAULT
+  -- what stands behind the name of a wildcard: _ _KIND __ ___ _:DEFAULT _{COUNT[+]}
   abbrev pub shape_text : Wildcard → Text
   shape_text dot = codes "_"
   shape_text (kind k) = codes "_" ++ kind_name_text sig k
   shape_text plus = codes "__"
   shape_text star = codes "___"
   shape_text (optional t) = codes "_:" ++ term_text sig t
+  shape_text (counted n fixed) = codes "_" ++ count_text n fixed
 
   -- the name of the variable, where there is one, and the shape
   abbrev pub wildcard_text : Wildcard → Option Text → Text

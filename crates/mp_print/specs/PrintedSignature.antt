@@ -1,15 +1,10 @@
 -- The printed text of signatures.
-use Rattle.std.specs.Prelude.{Bool, not, List, ◌++◌, Option, Some, is_some, unwrap_or, [], if◌then◌else◌, codes}
-use Rattle.std.specs.Prelude.{decimal}
+use Rattle.std.specs.Prelude.{not, List, [], ◌++◌, Option, Some, is_some, unwrap_or, codes, decimal}
 use Rattle.std.specs.List.{flat_map}
 use Rattle.mp_io.specs.Devices.{Text}
 use Rattle.mp_term.specs.declared.signature.OpDecl.{OpDecl}
 use Rattle.mp_term.specs.Signature.{Sig, Kind}
-use Rattle.mp_print.specs.Printing.{separated}
-
--- the text, where the test holds
-abbrev pub text_if : Bool → Text → Text
-text_if test text = if test then text else []
+use Rattle.mp_print.specs.Printing.{text_if, separated}
 
 -- op NAME LEAST[+][ assoc][ comm][ one][ infix SIGN];
 abbrev pub op_text : OpDecl → Text

@@ -1,13 +1,17 @@
 -- The printed text of terms, values and substitutions.
-use Rattle.std.specs.Prelude.{ℕ, zero, suc, List, [], ◌∷◌, ◌++◌, length, map, Option, Some, None, slice_get, unwrap_or}
-use Rattle.std.specs.Prelude.{nat_le, if◌then◌else◌, codes}
+use Rattle.std.specs.Prelude.{ℕ, zero, suc, Bool, List, [], ◌∷◌, ◌++◌, length, map, Option, Some, None, slice_get}
+use Rattle.std.specs.Prelude.{unwrap_or, nat_le, if◌then◌else◌, codes}
 use Rattle.mp_io.specs.Devices.{Text}
 use Rattle.mp_term.specs.declared.signature.OpDecl.{OpDecl}
 use Rattle.mp_term.specs.Tree.{Tree, symbol, app, Trees, no_trees, more_trees}
 use Rattle.mp_term.specs.Signature.{Sig, kind_names}
 use Rattle.mp_pattern.specs.Value.{Value, one, seq, bag, Binding, Subst}
 
--- ---- names
+-- ---- pieces
+
+-- the text, where the test holds
+abbrev pub text_if : Bool → Text → Text
+text_if test text = if test then text else []
 
 -- the name of a kind; one that isn't held has none
 abbrev pub kind_name_text : Sig → ℕ → Text

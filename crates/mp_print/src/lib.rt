@@ -1,18 +1,22 @@
-//! Values to text: the printed text of terms, patterns, conditions, substitutions and signatures.
+//! Values to text: the printed text of terms, patterns, templates, conditions, edits, substitutions and signatures.
 //!
 //! A call `write_..` writes a text to a sink, in one write where the text has at most 4,096 bytes. A call `put_..` puts
 //! it to a writer, behind what was put before, so that a line of several texts is one write.
 #![tactic(auto)]
 
 mod cond_printer;
+mod edit_printer;
 mod pattern_printer;
 mod printer;
 mod signature_printer;
 mod subst_printer;
+mod template_printer;
 mod tree_printer;
 
 pub use cond_printer::{put_cond, write_cond};
+pub use edit_printer::put_edits;
 pub use pattern_printer::{put_pattern, write_pattern};
 pub use printer::{put_term, write_term};
 pub use signature_printer::{put_head, put_signature, write_head, write_signature};
 pub use subst_printer::{put_subst, write_subst};
+pub use template_printer::put_template;

@@ -7,10 +7,12 @@ ghost use Rattle.mp_io.specs.Writing.{Puts};
 ghost use Rattle.mp_pattern.specs.Size.{pattern_nodes};
 ghost use Rattle.mp_pattern.specs.View.{pattern_tree, wildcard};
 ghost use Rattle.mp_print.specs.Printing.{kind_name_text};
-ghost use Rattle.mp_print.specs.PrintedPattern.{pattern_text, shape_text, wildcard_text};
+ghost use Rattle.mp_print.specs.PrintedPattern.{count_text, pattern_text, shape_text, wildcard_text};
 
 use crate::printer::put_term;
+use crate::signature_printer::text_if;
 use crate::tree_printer::{PrintedTree, put_tree};
+use itoa::Buffer;
 use mp_io::{Failed, Sink, Writer};
 use mp_pattern::{Pattern, Shape};
 use mp_term::{KindId, Name, OpId, Signature};
@@ -91,7 +93,22 @@ fn put_shape<K: Sink>(sig: &Signature, shape: &Shape, out: &mut Writer<'_, K>)
             out.put(b"_:");
             put_term(sig, default, out);
         }
+        Shape::Counted { least, fixed } => put_count(*least, *fixed, out),
     }
+}
+
+/// Puts what stands behind the name of a counted wildcard.
+fn put_count<K: Sink>(least: u32, fixed: bool, out: &mut Writer<'_, K>)
+    ensures { Puts K.Sink out.old out.new (codes "_" ++ count_text least fixed) }
+{
+    let mut count = Buffer::new();
+    let parts = [
+        b"_{".as_slice(),
+        count.format(least).as_bytes(),
+        text_if(!fixed, b"+"),
+        b"}",
+    ];
+    out.put_all(&parts);
 }
 
 /// The name of a kind, and nothing where none is held.

@@ -7,8 +7,8 @@ ghost use Rattle.mp_io.specs.Moments.{sunk};
 ghost use Rattle.mp_io.specs.Printing.{Prints};
 ghost use Rattle.mp_io.specs.Writing.{Puts};
 ghost use Rattle.mp_term.specs.Signature.{kind_names, kind_members};
-ghost use Rattle.mp_print.specs.Printing.{separated};
-ghost use Rattle.mp_print.specs.PrintedSignature.{text_if, op_text, head_text, kind_text, held_kind_text};
+ghost use Rattle.mp_print.specs.Printing.{text_if, separated};
+ghost use Rattle.mp_print.specs.PrintedSignature.{op_text, head_text, kind_text, held_kind_text};
 ghost use Rattle.mp_print.specs.PrintedSignature.{signature_text};
 
 use crate::tree_printer::put_gap;
@@ -77,7 +77,7 @@ fn put_op<K: Sink>(decl: &OpDecl, out: &mut Writer<'_, K>)
 }
 
 /// The text, where the test holds, and else none.
-fn text_if(test: bool, text: &[u8]) -> &[u8]
+pub(crate) fn text_if(test: bool, text: &[u8]) -> &[u8]
     ensures { result.now ≡ text_if test text.now }
 {
     if test { text } else { b"" }
@@ -118,7 +118,7 @@ fn put_kind_of<K: Sink>(sig: &Signature, id: KindId, out: &mut Writer<'_, K>)
 fn put_kind<K: Sink>(name: &Name, members: &Names, out: &mut Writer<'_, K>)
     ensures { Puts K.Sink out.old out.new (kind_text (record { name = name.now; members = members.now })) }
 {
-    put_head(b"kind", name, out);
+    put_head(b"kind", name.bytes(), out);
     put_names(members, out);
     out.put(b";\n");
     out.flush();
@@ -132,15 +132,15 @@ pub fn write_head<K: Sink>(keyword: &[u8], name: &Name, sink: &mut K) -> Result<
     ensures { Prints (sunk K.Sink sink.old sink.new) (head_text keyword.now name.now) result }
 {
     let mut out = Writer::new(sink);
-    put_head(keyword, name, &mut out);
+    put_head(keyword, name.bytes(), &mut out);
     out.finish()
 }
 
 /// Puts what a statement of a keyword and a name begins with, as `write_head` writes it.
-pub fn put_head<K: Sink>(keyword: &[u8], name: &Name, out: &mut Writer<'_, K>)
+pub fn put_head<K: Sink>(keyword: &[u8], name: &[u8], out: &mut Writer<'_, K>)
     ensures { Puts K.Sink out.old out.new (head_text keyword.now name.now) }
 {
-    out.put_all(&[keyword, b" ", name.bytes(), b": "]);
+    out.put_all(&[keyword, b" ", name, b": "]);
 }
 
 /// Puts the names, with a blank between each two.

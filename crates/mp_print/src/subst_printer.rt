@@ -66,7 +66,7 @@ fn put_value<K: Sink>(sig: &Signature, value: &Value, out: &mut Writer<'_, K>)
 }
 
 /// Puts the terms between an opening and a closing, with a comma between each two.
-fn put_enclosed<K: Sink>(
+pub(crate) fn put_enclosed<K: Sink>(
     sig: &Signature,
     opening: &[u8],
     terms: &[Term],
