@@ -15,7 +15,7 @@ use Rattle.mp_pattern.specs.Size.{pattern_nodes, list_nodes}
 use Rattle.mp_pattern.specs.View.{pattern_tree}
 use Rattle.mp_text.specs.Checks.{nodes, all_nodes, has_large_default, some_large_default}
 use Rattle.mp_text.specs.Build.{op_number, sign_number, has_term, all_have_terms}
-use Rattle.mp_text.specs.Names.{wildcards, all_wildcards}
+use Rattle.mp_text.specs.Scope.{pattern_variables, all_pattern_variables}
 use Rattle.mp_text.specs.Wildcards.{pattern_wildcards, all_pattern_wildcards}
 
 -- the nodes of an application
@@ -55,15 +55,15 @@ pub nodes-Infix : (place : Place) (sign : code_sign.InfixSign) (v : Vec Expr Glo
     → nodes (expr_tree (Infix place sign v)) ≡ 1 + all_nodes (trees (map expr_tree v.items))
 nodes-Infix place sign v = ap nodes (expr_tree-Infix place sign v) ∙ omega arith
 
--- the wildcards of an application
-pub wildcards-Apply : (f : code.Word) (v : Vec Expr Global)
-    → wildcards (expr_tree (Apply f v)) ≡ all_wildcards (trees (map expr_tree v.items))
-wildcards-Apply f v = ap wildcards (expr_tree-Apply f v)
+-- the variables of an application
+pub pattern_variables-Apply : (f : code.Word) (v : Vec Expr Global)
+    → pattern_variables (expr_tree (Apply f v)) ≡ all_pattern_variables (trees (map expr_tree v.items))
+pattern_variables-Apply f v = ap pattern_variables (expr_tree-Apply f v)
 
--- the wildcards of an infix expression
-pub wildcards-Infix : (place : Place) (sign : code_sign.InfixSign) (v : Vec Expr Global)
-    → wildcards (expr_tree (Infix place sign v)) ≡ all_wildcards (trees (map expr_tree v.items))
-wildcards-Infix place sign v = ap wildcards (expr_tree-Infix place sign v)
+-- the variables of an infix expression
+pub pattern_variables-Infix : (place : Place) (sign : code_sign.InfixSign) (v : Vec Expr Global)
+    → pattern_variables (expr_tree (Infix place sign v)) ≡ all_pattern_variables (trees (map expr_tree v.items))
+pattern_variables-Infix place sign v = ap pattern_variables (expr_tree-Infix place sign v)
 
 -- an item has no more nodes than the list
 nodes-get_or : (es : List Expr) (i : ℕ) (d : Expr) → i < length es

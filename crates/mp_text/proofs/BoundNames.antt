@@ -1,6 +1,6 @@
 -- The variables that a condition may name are those of its pattern in normal form.
 use Rattle.std.proofs.Common.{◌≡◌, ℕ, Bool, true, false, ◌||◌, ◌&&◌, not, Option, Some, None, List, [], ◌∷◌, ◌++◌, map}
-use Rattle.std.proofs.Common.{refl, sym, ap, ◌∙◌, subst}
+use Rattle.std.proofs.Common.{eqb, refl, sym, ap, ◌∙◌, subst}
 use Rattle.std.specs.Prelude.{◌≢◌, filter, if◌then◌else◌}
 use Rattle.std.specs.List.{list_any, AllByRecursion}
 use Rattle.std.specs.List.Sorted.{IsPermutation}
@@ -15,8 +15,11 @@ use Rattle.std.proofs.lemmas.Bool.{or_parts}
 use Rattle.mp_term.specs.Signature.{Sig}
 use Rattle.mp_pattern.specs.Firsts.{firsts_after, is_known, add_new}
 use Rattle.mp_pattern.specs.Normal.{normal_pattern}
-use Rattle.mp_pattern.specs.PatternTree.{is_sequence, optional, Pattern, symbol_pattern, app_pattern, wild_pattern}
-use Rattle.mp_pattern.specs.PatternTree.{Patterns, no_patterns, more_patterns, pattern_list, patterns}
+use Rattle.mp_pattern.specs.Extent.{extent}
+use Rattle.mp_pattern.specs.PatternTree.{Wildcard, dot, plus, star, counted, is_sequence, optional, Pattern}
+use Rattle.mp_pattern.specs.PatternTree.{symbol_pattern, app_pattern, wild_pattern, Patterns, no_patterns}
+use Rattle.mp_pattern.specs.PatternTree.{more_patterns}
+use Rattle.mp_pattern.specs.PatternTree.{pattern_list, patterns}
 use Rattle.mp_pattern.specs.Value.{same_name, one_form, seq_form, bag_form}
 use Rattle.mp_pattern.specs.Variables.{Use, uses, all_uses, comm_above, variables, variable_form}
 use Rattle.mp_pattern.proofs.Preserved.{of_normal_pattern}
@@ -24,18 +27,47 @@ use Rattle.mp_term.specs.Tree as term
 use Rattle.mp_term.specs.Normal.{normal}
 use Rattle.mp_term.proofs.ListLaws.{all-append, all-split}
 use Rattle.mp_pattern.proofs.VariableLaws.{IsPermutation-variables}
-use Rattle.mp_syntax.specs.Syntax.{Wildcard, Tree, Symbol, Apply, InfixOf, Wild, Optional, Variable, Trees, no_trees}
+use Rattle.mp_syntax.specs.Syntax.{Tree, Symbol, Apply, InfixOf, Wild, Optional, Counted, Variable, Trees, no_trees}
 use Rattle.mp_syntax.specs.Syntax.{more_trees}
-use Rattle.mp_text.specs.Build.{op_number, sign_number, head_number, marked_shape, kind_shape, variable_of, term_of}
-use Rattle.mp_text.specs.Build.{pattern_of, patterns_of}
-use Rattle.mp_text.specs.Names.{named, names_of, wildcards, all_wildcards}
+use Rattle.mp_text.specs.Build.{op_number, sign_number, head_number, marked_shape, count_of, counted_shape, kind_shape}
+use Rattle.mp_text.specs.Build.{variable_of, term_of, pattern_of, patterns_of}
+use Rattle.mp_text.specs.Names.{named}
 use Rattle.mp_text.specs.Scope as scope
-use Rattle.mp_text.specs.Scope.{wildcard_variable, pattern_variables, is_bound, is_bound_sequence}
+use Rattle.mp_text.specs.Scope.{is_many, pattern_variables, all_pattern_variables, names_of, is_bound}
+use Rattle.mp_text.specs.Scope.{is_bound_sequence}
 use Rattle.mp_text.proofs.Declared.{bytes_eq_comm}
 use Rattle.mp_text.proofs.SoundLaws.{is_known-alike, variables-pattern_of}
 
 differ : true ≡ false → ⊥
 differ e = cc
+
+-- a wildcard without a kind, whose variable stands for one term, is no sequence
+one-marked : (marks : ℕ) → is_many (extent (marked_shape marks)) ≡ false → is_sequence (marked_shape marks) ≡ false
+one-marked marks h = go (eqb marks 3) (eqb marks 2) h
+  where
+    go : (three two : Bool) → is_many (extent (if three then star else (if two then plus else dot))) ≡ false
+        → is_sequence (if three then star else (if two then plus else dot)) ≡ false
+    go true two h = absurd (differ h)
+    go false true h = absurd (differ h)
+    go false false h = refl
+
+-- nor is one with a count
+one-counted : (n : ℕ) (more : Bool) → is_many (extent (counted_shape n more)) ≡ false
+    → is_sequence (counted_shape n more) ≡ false
+one-counted n more h = go (eqb n 1) refl (eqb n 0) more h
+  where
+    shape : Bool → Bool → Bool → Wildcard
+    shape one none more = if one then (if more then plus else dot) else (if none && more then star else counted n
+        (not more))
+
+    go : (one : Bool) → eqb n 1 ≡ one → (none more : Bool) → is_many (extent (shape one none more)) ≡ false
+        → is_sequence (shape one none more) ≡ false
+    go true e none true h = absurd (differ h)
+    go true e none false h = refl
+    go false e true true h = absurd (differ h)
+    go false e false true h = absurd (differ h)
+    go false e true false h = absurd (differ (sym (ap not e) ∙ h))
+    go false e false false h = absurd (differ (sym (ap not e) ∙ h))
 
 -- ---- names that are known
 
@@ -81,7 +113,7 @@ module _ (x : List ℕ) where
   known-firsts_after ys (z ∷ zs) h = known-firsts_after (add_new bytes_eq ys z) zs (known-add_new z ys h)
 
   -- each name is among those that stand once
-  known-once : (ys zs : List (List ℕ)) → is_known bytes_eq zs x ≡ true
+  pub known-once : (ys zs : List (List ℕ)) → is_known bytes_eq zs x ≡ true
       → is_known bytes_eq (firsts_after bytes_eq ys zs) x ≡ true
   known-once ys [] h = cc
   known-once ys (z ∷ zs) h = go (bytes_eq z x) (known-once (add_new bytes_eq ys z) zs) refl h
@@ -135,11 +167,10 @@ module _ (x : List ℕ) where
     known-wild [] h = absurd (some ((bytes_eq-Decides x []).0 h))
     known-wild (b ∷ bs) h = ap (λ t. t || false) (bytes_eq_comm (b ∷ bs) x ∙ h)
 
-    known-bound : (ws : List Wildcard) → is_bound (map wildcard_variable ws) x ≡ true
-        → is_known bytes_eq (names_of ws) x ≡ true
+    known-bound : (vs : List scope.Variable) → is_bound vs x ≡ true → is_known bytes_eq (names_of vs) x ≡ true
     known-bound [] h = cc
-    known-bound (w ∷ ws) h = known-either (named w.name) (names_of ws) (bytes_eq x w.name)
-        (is_bound (map wildcard_variable ws) x) (known-wild w.name) (known-bound ws) h
+    known-bound (v ∷ vs) h = known-either (named v.name) (names_of vs) (bytes_eq x v.name) (is_bound vs x)
+        (known-wild v.name) (known-bound vs) h
 
     -- a variable that a condition may name is one of the pattern in normal form
     pub known-variables : (sig : Sig) (p : Tree) → is_bound (pattern_variables p) x ≡ true
@@ -148,7 +179,7 @@ module _ (x : List ℕ) where
         let here : is_known same_name (variables (pattern_of sig p)) x ≡ true =
         is_known-alike same_name bytes_eq is_eq-slice_cmp (variables (pattern_of sig p)) x
         ∙ ap (λ l. is_known bytes_eq l x) (variables-pattern_of sig p)
-        ∙ known-once [] (names_of (wildcards p)) (known-bound (wildcards p) h) in
+        ∙ known-once [] (names_of (pattern_variables p)) (known-bound (pattern_variables p) h) in
         known-permutation (variables (pattern_of sig p)) (variables (normal_pattern sig (pattern_of sig p)))
         (IsPermutation-variables sig (pattern_of sig p)) here
 
@@ -191,13 +222,26 @@ module _ (x : List ℕ) where
   and-false true = refl
   and-false false = refl
 
-  no_sequence-wild : (sig : Sig) (f : Option ℕ) (kind : List ℕ) (marks : ℕ) (name : List ℕ)
-      → (bytes_eq x name && is_sequence (marked_shape marks)) ≡ false
-      → HasNoSequence f (wild_pattern (kind_shape sig kind marks) (variable_of name))
-  no_sequence-wild sig f kind marks [] h = tt
-  no_sequence-wild sig f [] marks (b ∷ bs) h =
-      (ap (λ t. t && is_sequence (marked_shape marks)) (is_eq-slice_cmp x (b ∷ bs)) ∙ h, tt)
-  no_sequence-wild sig f (c ∷ cs) marks (b ∷ bs) h = (and-false (same_name x (b ∷ bs)), tt)
+  no_sequence-shape : (f : Option ℕ) (w : Wildcard) (name : List ℕ)
+      → (is_many (extent w) ≡ false → is_sequence w ≡ false)
+      → (bytes_eq x name && is_many (extent w)) ≡ false → HasNoSequence f (wild_pattern w (variable_of name))
+  no_sequence-shape f w [] one h = tt
+  no_sequence-shape f w (b ∷ bs) one h = (go (same_name x (b ∷ bs)) (is_many (extent w)) refl same, tt)
+    where
+      same : (same_name x (b ∷ bs) && is_many (extent w)) ≡ false
+      same = ap (λ t. t && is_many (extent w)) (is_eq-slice_cmp x (b ∷ bs)) ∙ h
+
+      go : (s m : Bool) → is_many (extent w) ≡ m → (s && m) ≡ false → (s && is_sequence w) ≡ false
+      go true true e k = absurd (differ k)
+      go true false e k = one e
+      go false m e k = refl
+
+  no_sequence-wild : (sig : Sig) (f : Option ℕ) (kind : List ℕ) (w : Wildcard) (name : List ℕ)
+      → (is_many (extent w) ≡ false → is_sequence w ≡ false) → (bytes_eq x name && is_many (extent w)) ≡ false
+      → HasNoSequence f (wild_pattern (kind_shape sig kind w) (variable_of name))
+  no_sequence-wild sig f [] w name one h = no_sequence-shape f w name one h
+  no_sequence-wild sig f (c ∷ cs) w [] one h = tt
+  no_sequence-wild sig f (c ∷ cs) w (b ∷ bs) one h = (and-false (same_name x (b ∷ bs)), tt)
 
   no_sequence-optional : (f : Option ℕ) (t : term.Tree) (name : List ℕ)
       → HasNoSequence f (wild_pattern (optional t) (variable_of name))
@@ -207,29 +251,31 @@ module _ (x : List ℕ) where
   module _ (sig : Sig) where
     mutual
       no_sequence-pattern_of : (f : Option ℕ) (p : Tree)
-          → is_bound_sequence (map wildcard_variable (wildcards p)) x ≡ false → HasNoSequence f (pattern_of sig p)
+          → is_bound_sequence (pattern_variables p) x ≡ false → HasNoSequence f (pattern_of sig p)
       no_sequence-pattern_of f (Symbol w) h = tt
       no_sequence-pattern_of f (Apply g args) h =
           no_sequence-patterns_of (Some (head_number (op_number sig g.text))) args h
       no_sequence-pattern_of f (InfixOf opened sign operands) h =
           no_sequence-patterns_of (Some (head_number (sign_number sig sign.text))) operands h
-      no_sequence-pattern_of f (Wild w) h = no_sequence-wild sig f w.kind w.marks w.name
-          (or_parts (bytes_eq x w.name && is_sequence (marked_shape w.marks)) false h).0
+      no_sequence-pattern_of f (Wild w) h = no_sequence-wild sig f w.kind (marked_shape w.marks) w.name
+          (one-marked w.marks) (or_parts (bytes_eq x w.name && is_many (extent (marked_shape w.marks))) false h).0
       no_sequence-pattern_of f (Optional w others default) h =
           no_sequence-optional f (normal sig (term_of sig default)) w.name
+      no_sequence-pattern_of f (Counted w count more) h =
+          no_sequence-wild sig f w.kind (counted_shape (count_of count) more) w.name
+          (one-counted (count_of count) more)
+          (or_parts (bytes_eq x w.name && is_many (extent (counted_shape (count_of count) more))) false h).0
       no_sequence-pattern_of f (Variable w) h = tt
 
       no_sequence-patterns_of : (f : Option ℕ) (ps : Trees)
-          → is_bound_sequence (map wildcard_variable (all_wildcards ps)) x ≡ false
+          → is_bound_sequence (all_pattern_variables ps) x ≡ false
           → AllByRecursion IsNoSequence (all_uses f (patterns_of sig ps))
       no_sequence-patterns_of f no_trees h = tt
       no_sequence-patterns_of f (more_trees p ps) h =
-          let test = λ (v : scope.Variable). bytes_eq x v.name && v.is_sequence in
-          let front = map wildcard_variable (wildcards p) in
-          let back = map wildcard_variable (all_wildcards ps) in
-          let o = or_parts (list_any test front) (list_any test back)
-          (sym (list_any-append test front back)
-          ∙ sym (ap (list_any test) (map-append wildcard_variable (wildcards p) (all_wildcards ps))) ∙ h) in
+          let test = λ (v : scope.Variable). bytes_eq x v.name && is_many v.extent in
+          let front = pattern_variables p in
+          let back = all_pattern_variables ps in
+          let o = or_parts (list_any test front) (list_any test back) (sym (list_any-append test front back) ∙ h) in
           all-append IsNoSequence (uses f (pattern_of sig p)) (all_uses f (patterns_of sig ps))
           (no_sequence-pattern_of f p o.0) (no_sequence-patterns_of f ps o.1)
 

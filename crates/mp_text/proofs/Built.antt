@@ -1,4 +1,5 @@
--- The terms, patterns and faults of applications and infix expressions, whose arguments the code holds in a vector.
+-- The terms, patterns, templates and faults of applications and infix expressions, whose arguments the code holds in a
+-- vector.
 use Rattle.std.proofs.Common.{◌≡◌, true, false, List, [], ◌∷◌, ◌++◌, map, length, Vec, Global, refl, ap, ◌∙◌}
 use Rattle.std.specs.Prelude.{Option, Some, None, is_some}
 use Rattle.std.proofs.lemmas.List.{length-map}
@@ -12,7 +13,11 @@ use Rattle.mp_syntax.specs.declared.tree.Expr.{Expr, Apply}
 use Rattle.mp_syntax.specs.Syntax.{Spot, Tree, InfixOf, Trees, no_trees, more_trees, trees, tree_list}
 use Rattle.mp_syntax.specs.View.{spot_of, expr_tree}
 use Rattle.mp_syntax.proofs.Trees.{expr_tree-Apply, tree_list-trees}
+use Rattle.mp_pattern.specs.TemplateTree as template
 use Rattle.mp_text.specs.Build.{op_number, sign_number, head_number, term_of, terms_of, pattern_of, patterns_of}
+use Rattle.mp_text.specs.Build.{template_of, templates_of}
+use Rattle.mp_text.specs.Scope.{Variable}
+use Rattle.mp_text.specs.TemplateChecks.{allows_given, template_faults, template_operand_faults, all_template_faults}
 use Rattle.mp_pattern.specs.SoundRule.{allows_patterns}
 use Rattle.mp_text.specs.Wildcards.{PatternWildcard}
 use Rattle.mp_text.specs.Checks.{op_named, op_signed, head_faults, arity_faults, sign_faults, term_faults}
@@ -35,6 +40,11 @@ module _ (sig : Sig) where
   patterns_of-trees [] = refl
   patterns_of-trees (t ∷ ts) = ap (pattern.more_patterns (pattern_of sig t)) (patterns_of-trees ts)
 
+  -- the templates of a list of expressions
+  templates_of-trees : (ts : List Tree) → templates_of sig (trees ts) ≡ template.templates (map (template_of sig) ts)
+  templates_of-trees [] = refl
+  templates_of-trees (t ∷ ts) = ap (template.more_templates (template_of sig t)) (templates_of-trees ts)
+
   -- the term of an application
   pub term_of-Apply : (f : code.Word) (v : Vec Expr Global)
       → term_of sig (expr_tree (Apply f v)) ≡ term.app (head_number (op_number sig f.text.now))
@@ -50,6 +60,14 @@ module _ (sig : Sig) where
   pattern_of-Apply f v = ap (pattern_of sig) (expr_tree-Apply f v)
       ∙ ap (pattern.app_pattern (head_number (op_number sig f.text.now))) (patterns_of-trees (map expr_tree v.items))
 
+  -- the template of an application
+  pub template_of-Apply : (f : code.Word) (v : Vec Expr Global)
+      → template_of sig (expr_tree (Apply f v))
+      ≡ template.app_template (head_number (op_number sig f.text.now))
+      (template.templates (map (template_of sig) (map expr_tree v.items)))
+  template_of-Apply f v = ap (template_of sig) (expr_tree-Apply f v)
+      ∙ ap (template.app_template (head_number (op_number sig f.text.now))) (templates_of-trees (map expr_tree v.items))
+
   -- the faults of an application in a term
   pub term_faults-Apply : (f : code.Word) (v : Vec Expr Global)
       → term_faults sig (expr_tree (Apply f v))
@@ -61,6 +79,13 @@ module _ (sig : Sig) where
       ap (term_faults sig) (expr_tree-Apply f v)
       ∙ ap (λ n. head_faults (allows n) (spot_of f) (op_named sig f.text.now)
       ++ all_term_faults sig (trees (map expr_tree v.items))) count
+
+  -- the faults of an application in a template
+  pub template_faults-Apply : (vs : List Variable) (f : code.Word) (v : Vec Expr Global)
+      → template_faults vs sig (expr_tree (Apply f v))
+      ≡ head_faults (allows_given vs sig (trees (map expr_tree v.items))) (spot_of f) (op_named sig f.text.now)
+      ++ all_template_faults vs sig (trees (map expr_tree v.items))
+  template_faults-Apply vs f v = ap (template_faults vs sig) (expr_tree-Apply f v)
 
   -- the faults of an application in a pattern
   pub pattern_faults-Apply : (before : List PatternWildcard) (f : code.Word) (v : Vec Expr Global)
@@ -86,6 +111,14 @@ module _ (sig : Sig) where
       (pattern.patterns (map (pattern_of sig) (map expr_tree es)))
   pattern_of-operands place sign es = ap (pattern.app_pattern (head_number (sign_number sig sign.text)))
       (patterns_of-trees (map expr_tree es))
+
+  -- the template of operands with a sign between them
+  pub template_of-operands : (place : Place) (sign : Spot) (es : List Expr)
+      → template_of sig (InfixOf place sign (trees (map expr_tree es)))
+      ≡ template.app_template (head_number (sign_number sig sign.text))
+      (template.templates (map (template_of sig) (map expr_tree es)))
+  template_of-operands place sign es = ap (template.app_template (head_number (sign_number sig sign.text)))
+      (templates_of-trees (map expr_tree es))
 
   -- the faults of operands in a term, by their number
   pub term_faults-operands : (place : Place) (sign : Spot) (es : List Expr)
@@ -121,3 +154,10 @@ module _ (sig : Sig) where
   pattern_operand_faults-known before sign None ts h = cc
   pattern_operand_faults-known before sign (Some d) no_trees h = refl
   pattern_operand_faults-known before sign (Some d) (more_trees t ts) h = refl
+
+  -- the same in a template
+  pub template_operand_faults-known : (vs : List Variable) (sign : Spot) (o : Option OpDecl) (ts : Trees)
+      → true ≡ is_some o → template_operand_faults vs sig (sign_faults sign o) ts ≡ all_template_faults vs sig ts
+  template_operand_faults-known vs sign None ts h = cc
+  template_operand_faults-known vs sign (Some d) no_trees h = refl
+  template_operand_faults-known vs sign (Some d) (more_trees t ts) h = refl

@@ -7,6 +7,9 @@ use Rattle.std.proofs.lemmas.List.{map-append}
 use Rattle.std.proofs.lemmas.Slice.Eq.{bytes_eq-Decides}
 use Rattle.std.proofs.lemmas.Bool.{not-false}
 use Rattle.mp_term.specs.Signature.{Sig}
+use Rattle.std.specs.Bool.{beq}
+use Rattle.std.specs.Cmp.{booleans_Decides}
+use Rattle.mp_pattern.specs.Extent.{Extent, single, extent}
 use Rattle.mp_pattern.specs.PatternTree as pattern
 use Rattle.mp_pattern.specs.PatternTree.{Pattern, symbol_pattern, app_pattern, wild_pattern, Patterns, no_patterns}
 use Rattle.mp_pattern.specs.PatternTree.{more_patterns}
@@ -14,20 +17,49 @@ use Rattle.mp_pattern.specs.Subpatterns.{subpatterns, all_subpatterns}
 use Rattle.mp_pattern.specs.Clash.{first_clash}
 use Rattle.mp_pattern.proofs.ClashLaws.{Agree, agree-app, AgreesWith, InOrder, first_clash_after-InOrder}
 use Rattle.mp_pattern.proofs.ClashLaws.{same_shape-same}
-use Rattle.mp_syntax.specs.Syntax.{Wildcard, Tree, Symbol, Apply, InfixOf, Wild, Variable, Trees, no_trees, more_trees}
-use Rattle.mp_syntax.specs.Syntax.{Optional}
+use Rattle.mp_syntax.specs.Syntax.{Wildcard, Tree, Symbol, Apply, InfixOf, Wild, Optional, Counted, Variable, Trees}
+use Rattle.mp_syntax.specs.Syntax.{no_trees, more_trees}
 use Rattle.mp_text.specs.declared.fault.TextFault.{TextFault}
+use Rattle.std.specs.Prelude.{if◌then◌else◌}
 use Rattle.mp_text.specs.Names.{is_same_variable}
 use Rattle.mp_text.specs.Wildcards.{DefaultForm, absent, normal_form, unknown, PatternWildcard, without_default}
-use Rattle.mp_text.specs.Wildcards.{with_default_form, pattern_wildcards, all_pattern_wildcards, same_default}
-use Rattle.mp_text.specs.Wildcards.{same_class, differs}
-use Rattle.mp_text.specs.Build.{kind_shape, shape_of, variable_of, pattern_of, patterns_of}
+use Rattle.mp_text.specs.Wildcards.{with_count, with_default_form, pattern_wildcards, all_pattern_wildcards}
+use Rattle.mp_text.specs.Wildcards.{same_extent, same_default, same_class, differs}
+use Rattle.mp_text.specs.Build.{marked_shape, counted_shape, count_of, kind_shape, shape_of, variable_of, pattern_of}
+use Rattle.mp_text.specs.Build.{patterns_of}
 use Rattle.mp_text.specs.Checks.{fault_if, head_faults, arity_faults, sign_faults, allows_args, op_named, op_signed}
-use Rattle.mp_text.specs.Checks.{kind_unknown, default_faults, wildcard_faults, pattern_faults, pattern_operand_faults}
-use Rattle.mp_text.specs.Checks.{all_pattern_faults}
+use Rattle.mp_text.specs.Checks.{kind_unknown, default_faults, wildcard_faults, count_faults, pattern_faults}
+use Rattle.mp_text.specs.Checks.{pattern_operand_faults, all_pattern_faults}
 use Rattle.mp_text.proofs.Words.{first-of, second-of}
 use Rattle.mp_text.proofs.Faultless.{nil-append, nil-fault_if}
 use Rattle.mp_text.proofs.Defaults.{default_form-default_faults}
+
+-- ---- how many terms wildcards stand for
+
+-- those that are as many are one
+pub same_extent-same : (d e : Extent) → same_extent d e ≡ true → d ≡ e
+same_extent-same d e h =
+    let least = eqb-true d.least e.least (first-of (eqb d.least e.least) (beq d.fixed e.fixed) h) in
+    let fixed = (booleans_Decides d.fixed e.fixed).0 (second-of (eqb d.least e.least) (beq d.fixed e.fixed) h) in
+    λ i. record { least = least i; fixed = fixed i }
+
+not-not : (b : Bool) → not (not b) ≡ b
+not-not true = refl
+not-not false = refl
+
+-- a wildcard with a count stands for so many
+pub extent-counted_shape : (n : ℕ) (more : Bool)
+    → extent (counted_shape n more) ≡ record { least = n; fixed = not more }
+extent-counted_shape n more = go (eqb n 1) (eqb n 0) refl refl more
+  where
+    go : (one none : Bool) → eqb n 1 ≡ one → eqb n 0 ≡ none → (more : Bool)
+        → extent (if one then (if more then pattern.plus else pattern.dot) else (if none && more then pattern.star else
+        pattern.counted n (not more))) ≡ record { least = n; fixed = not more }
+    go true none e f true = ap (λ k. record { least = k; fixed = false }) (sym (eqb-true n 1 e))
+    go true none e f false = ap (λ k. record { least = k; fixed = true }) (sym (eqb-true n 1 e))
+    go false true e f true = ap (λ k. record { least = k; fixed = false }) (sym (eqb-true n 0 f))
+    go false true e f false = refl
+    go false false e f more = refl
 
 -- ---- wildcards of syntax trees
 
@@ -87,6 +119,9 @@ module _ (sig : Sig) where
               (nil-append (wildcard_faults sig before v) (default_faults sig others default) h).0,
           tt,
         )
+    Apart-pattern_faults before (Counted w count more) h =
+        let v = with_count w count more in
+        (Apart-wildcard_faults before v (nil-append (wildcard_faults sig before v) (count_faults count more) h).0, tt)
     Apart-pattern_faults before (Variable x) h = tt
 
     Apart-all_pattern_faults : (before : List PatternWildcard) (ps : Trees) → all_pattern_faults sig before ps ≡ []
@@ -175,16 +210,36 @@ wilds-InOrder before (wild_pattern w x ∷ ps) h = (
 
 -- ---- a pattern that is read
 
+-- what a wildcard without a kind and a default takes, by how many terms it stands for
+abbrev pub extent_shape : Extent → pattern.Wildcard
+extent_shape e = counted_shape e.least (not e.fixed)
+
+-- that of a number of underscores
+extent_shape-marked : (marks : ℕ) → extent_shape (extent (marked_shape marks)) ≡ marked_shape marks
+extent_shape-marked marks = go (eqb marks 3) (eqb marks 2)
+  where
+    go : (three two : Bool)
+        → (let shape = if three then pattern.star else (if two then pattern.plus else pattern.dot) in
+        extent_shape (extent shape) ≡ shape)
+    go true two = refl
+    go false true = refl
+    go false false = refl
+
+-- that of a count
+extent_shape-counted : (n : ℕ) (more : Bool) → extent_shape (extent (counted_shape n more)) ≡ counted_shape n more
+extent_shape-counted n more = ap (λ e. counted_shape e.least (not e.fixed)) (extent-counted_shape n more)
+    ∙ ap (counted_shape n) (not-not more)
+
 module _ (sig : Sig) where
-  -- what a wildcard takes, by its default
-  abbrev pub form_shape : DefaultForm → Wildcard → pattern.Wildcard
-  form_shape absent w = shape_of sig w
-  form_shape (normal_form t) w = pattern.optional t
-  form_shape unknown w = shape_of sig w
+  -- what a wildcard takes, by its default, its kind and how many terms it stands for
+  abbrev pub form_shape : DefaultForm → List ℕ → Extent → pattern.Wildcard
+  form_shape absent kind e = kind_shape sig kind (extent_shape e)
+  form_shape (normal_form t) kind e = pattern.optional t
+  form_shape unknown kind e = kind_shape sig kind (extent_shape e)
 
   -- the pattern of a wildcard
   abbrev pub wild_of : PatternWildcard → Pattern
-  wild_of w = wild_pattern (form_shape w.default w.wildcard) (variable_of w.wildcard.name)
+  wild_of w = wild_pattern (form_shape w.default w.wildcard.kind w.extent) (variable_of w.wildcard.name)
 
   mutual
     -- its wildcards are those of its syntax tree
@@ -200,12 +255,16 @@ module _ (sig : Sig) where
         let p = nil-append (arity_faults (allows_args sig operands) opened (op_signed sig sign.text))
         (pattern_operand_faults sig before at_sign operands) h in
         wilds-patterns_of before operands (nil-pattern_operands sig before at_sign operands p.1).1
-    wilds-pattern_of before (Wild w) h = refl
+    wilds-pattern_of before (Wild w) h = ap (λ s. wild_pattern (kind_shape sig w.kind s) (variable_of w.name) ∷ [])
+        (sym (extent_shape-marked w.marks))
     wilds-pattern_of before (Optional w others default) h =
         let p = nil-append (wildcard_faults sig before (with_default_form sig w others default))
         (default_faults sig others default) h in
-        ap (λ f. wild_pattern (form_shape f w) (variable_of w.name) ∷ [])
+        ap (λ f. wild_pattern (form_shape f w.kind single) (variable_of w.name) ∷ [])
         (sym (default_form-default_faults sig others default p.1))
+    wilds-pattern_of before (Counted w count more) h =
+        ap (λ s. wild_pattern (kind_shape sig w.kind s) (variable_of w.name) ∷ [])
+        (sym (extent_shape-counted (count_of count) more))
     wilds-pattern_of before (Variable x) h = refl
 
     wilds-patterns_of : (before : List PatternWildcard) (ts : Trees) → all_pattern_faults sig before ts ≡ []
@@ -218,36 +277,35 @@ module _ (sig : Sig) where
         ∙ (λ i. wilds-pattern_of before t p.0 i ++ wilds-patterns_of (before ++ pattern_wildcards sig t) ts p.1 i)
         ∙ sym (map-append wild_of (pattern_wildcards sig t) (all_pattern_wildcards sig ts))
 
-  -- wildcards of one class, kind and default take the same
-  form_shape-same : (a b : DefaultForm) (v w : Wildcard) → same_default a b ≡ true → v.marks ≡ w.marks → v.kind ≡ w.kind
-      → form_shape a v ≡ form_shape b w
-  form_shape-same absent absent v w h marks kinds = λ i. kind_shape sig (kinds i) (marks i)
-  form_shape-same (normal_form t) (normal_form u) v w h marks kinds =
+  -- wildcards of one class, kind, count and default take the same
+  form_shape-same : (a b : DefaultForm) (k l : List ℕ) (d e : Extent) → same_default a b ≡ true → k ≡ l → d ≡ e
+      → form_shape a k d ≡ form_shape b l e
+  form_shape-same absent absent k l d e h kinds extents = λ i. kind_shape sig (kinds i) (extent_shape (extents i))
+  form_shape-same (normal_form t) (normal_form u) k l d e h kinds extents =
       same_shape-same (pattern.optional t) (pattern.optional u) h
-  form_shape-same _ _ v w h marks kinds = cc
+  form_shape-same _ _ k l d e h kinds extents = cc
 
   -- wildcards that don't differ agree
   agree-differs : (v w : PatternWildcard) → differs w v ≡ false → Agree (wild_of v) (wild_of w)
   agree-differs v w h = go v.wildcard.name w.wildcard.name h
     where
       same : (b : Bool) → b ≡ true → (b && not (same_class v w)) ≡ false
-          → form_shape v.default v.wildcard ≡ form_shape w.default w.wildcard
+          → form_shape v.default v.wildcard.kind v.extent ≡ form_shape w.default w.wildcard.kind w.extent
       same true e h =
           let alike = bytes_eq v.wildcard.kind w.wildcard.kind && same_default v.default w.default in
           let k = not-false (same_class v w) h in
-          let marks : v.wildcard.marks ≡ w.wildcard.marks =
-          eqb-true v.wildcard.marks w.wildcard.marks (first-of (eqb v.wildcard.marks w.wildcard.marks) alike k) in
-          let l = second-of (eqb v.wildcard.marks w.wildcard.marks) alike k in
+          let extents = same_extent-same v.extent w.extent (first-of (same_extent v.extent w.extent) alike k) in
+          let l = second-of (same_extent v.extent w.extent) alike k in
           let kinds : v.wildcard.kind ≡ w.wildcard.kind =
           (bytes_eq-Decides v.wildcard.kind w.wildcard.kind).0
           (first-of (bytes_eq v.wildcard.kind w.wildcard.kind) (same_default v.default w.default) l) in
-          form_shape-same v.default w.default v.wildcard w.wildcard
-          (second-of (bytes_eq v.wildcard.kind w.wildcard.kind) (same_default v.default w.default) l) marks kinds
+          form_shape-same v.default w.default v.wildcard.kind w.wildcard.kind v.extent w.extent
+          (second-of (bytes_eq v.wildcard.kind w.wildcard.kind) (same_default v.default w.default) l) kinds extents
       same false e h = cc
 
       go : (x y : List ℕ) → (is_same_variable y x && not (same_class v w)) ≡ false
-          → Agree (wild_pattern (form_shape v.default v.wildcard) (variable_of x))
-          (wild_pattern (form_shape w.default w.wildcard) (variable_of y))
+          → Agree (wild_pattern (form_shape v.default v.wildcard.kind v.extent) (variable_of x))
+          (wild_pattern (form_shape w.default w.wildcard.kind w.extent) (variable_of y))
       go [] [] h = tt
       go [] (b ∷ y) h = tt
       go (a ∷ x) [] h = tt

@@ -1,6 +1,6 @@
 -- What the statements declare: names and counts of operations, rules and subjects, statement by statement.
 use Rattle.std.proofs.Common.{◌≡◌, ℕ, Bool, ◌||◌, List, [], ◌∷◌, ◌++◌, map, length, append-nil, Result, Ok, Err, refl}
-use Rattle.std.proofs.Common.{◌+◌, ◌<◌, take, get_or, add-one, sym, ap, ◌∙◌, subst}
+use Rattle.std.proofs.Common.{◌+◌, ◌<◌, take, get_or, add-one, append_assoc, sym, ap, ◌∙◌, subst}
 use Rattle.std.specs.Prelude.{Option, position, is_some, option_map}
 use Rattle.std.specs.List.{list_any}
 use Rattle.std.specs.Str.{bytes_eq}
@@ -21,7 +21,9 @@ use Rattle.mp_syntax.specs.declared.tree.Statement.TheVariants as statements
 use Rattle.mp_syntax.specs.declared.tree.Flag as code_flag
 use Rattle.mp_syntax.specs.View.{statement_tree}
 use Rattle.std.specs.Global.{Vec}
-use Rattle.mp_syntax.specs.Syntax.{Spot, Tree, Flag, Statement, OpOf, KindOf, RuleOf, SubjectOf, Condition}
+use Rattle.mp_syntax.specs.Syntax.{Spot, Tree, Flag, Statement, OpOf, KindOf, RuleOf, SubjectOf, EditOf, Condition}
+use Rattle.mp_syntax.specs.Syntax.{Change}
+use Rattle.mp_text.specs.declared.file.EditSet.{EditSet}
 use Rattle.mp_text.specs.declared.fault.TextFault.{TextFault}
 use Rattle.mp_text.specs.declared.fault.TextError.{TextError}
 use Rattle.mp_text.specs.Subject.{Subject}
@@ -31,6 +33,7 @@ use Rattle.mp_text.specs.Checks.{op_faults, kind_faults, op_statement_faults, ki
 use Rattle.mp_text.specs.Names.{rule_names, subject_names, is_among}
 use Rattle.mp_text.specs.Build.{op_decl, op_decls, kind_decl, kind_decls, sig_with, term_of, subject_of, subjects_of}
 use Rattle.mp_text.specs.FileBuild.{rule_of, rules_of, file_over}
+use Rattle.mp_text.specs.Edits.{edit_sets_of, edit_sets_behind, edit_sets}
 
 -- ---- equal bytes
 
@@ -85,16 +88,18 @@ pub op_decls-append : (a b : List Statement) → op_decls (a ++ b) ≡ op_decls 
 op_decls-append [] b = refl
 op_decls-append (OpOf name least more flags ∷ ss) b = ap (λ l. op_decl name least more flags ∷ l) (op_decls-append ss b)
 op_decls-append (KindOf name members ∷ ss) b = op_decls-append ss b
-op_decls-append (RuleOf name p c ∷ ss) b = op_decls-append ss b
+op_decls-append (RuleOf name p x c ∷ ss) b = op_decls-append ss b
 op_decls-append (SubjectOf name t ∷ ss) b = op_decls-append ss b
+op_decls-append (EditOf subject changes ∷ ss) b = op_decls-append ss b
 
 -- the kinds of statements in two parts
 pub kind_decls-append : (a b : List Statement) → kind_decls (a ++ b) ≡ kind_decls a ++ kind_decls b
 kind_decls-append [] b = refl
 kind_decls-append (OpOf name least more flags ∷ ss) b = kind_decls-append ss b
 kind_decls-append (KindOf name members ∷ ss) b = ap (λ l. kind_decl name members ∷ l) (kind_decls-append ss b)
-kind_decls-append (RuleOf name p c ∷ ss) b = kind_decls-append ss b
+kind_decls-append (RuleOf name p x c ∷ ss) b = kind_decls-append ss b
 kind_decls-append (SubjectOf name t ∷ ss) b = kind_decls-append ss b
+kind_decls-append (EditOf subject changes ∷ ss) b = kind_decls-append ss b
 
 -- a statement that declares no operation adds none
 pub op_decls-other : (ss : List Statement) (s : Statement) → op_decls (s ∷ []) ≡ []
@@ -116,8 +121,9 @@ pub no_op : (s : code.Statement) → ((name least : Word) (more : Bool) (flags :
     → (op_statement_faults earlier (statement_tree s) ≡ []) × (op_decls (statement_tree s ∷ []) ≡ [])
 no_op (statements.Op name least more flags) other earlier = absurd (other name least more flags refl)
 no_op (statements.Kind name members) other earlier = (refl, refl)
-no_op (statements.Rule name p c) other earlier = (refl, refl)
+no_op (statements.Rule name p x c) other earlier = (refl, refl)
 no_op (statements.Subject name t) other earlier = (refl, refl)
+no_op (statements.Edit subject changes) other earlier = (refl, refl)
 
 -- a statement that is no kind's has no fault as one, and declares none
 pub no_kind : (s : code.Statement) → ((name : Word) (members : Vec Word) → s ≡ statements.Kind name members → ⊥)
@@ -125,8 +131,9 @@ pub no_kind : (s : code.Statement) → ((name : Word) (members : Vec Word) → s
     → (kind_statement_faults ds earlier (statement_tree s) ≡ []) × (kind_decls (statement_tree s ∷ []) ≡ [])
 no_kind (statements.Op name least more flags) other ds earlier = (refl, refl)
 no_kind (statements.Kind name members) other ds earlier = absurd (other name members refl)
-no_kind (statements.Rule name p c) other ds earlier = (refl, refl)
+no_kind (statements.Rule name p x c) other ds earlier = (refl, refl)
 no_kind (statements.Subject name t) other ds earlier = (refl, refl)
+no_kind (statements.Edit subject changes) other ds earlier = (refl, refl)
 
 -- the statements so far and one more
 pub so_far-item : (ss : List code.Statement) (i : ℕ) (s : code.Statement) → i < length ss → s ≡ get_or ss i s
@@ -142,24 +149,27 @@ pub names-rules_of : (sig : Sig) (ss : List Statement) → map (λ r. r.name) (r
 names-rules_of sig [] = refl
 names-rules_of sig (OpOf n least more flags ∷ ss) = names-rules_of sig ss
 names-rules_of sig (KindOf n members ∷ ss) = names-rules_of sig ss
-names-rules_of sig (RuleOf n p c ∷ ss) = ap (λ l. n.text ∷ l) (names-rules_of sig ss)
+names-rules_of sig (RuleOf n p x c ∷ ss) = ap (λ l. n.text ∷ l) (names-rules_of sig ss)
 names-rules_of sig (SubjectOf n t ∷ ss) = names-rules_of sig ss
+names-rules_of sig (EditOf subject changes ∷ ss) = names-rules_of sig ss
 
 -- the names of the subjects
 pub names-subjects_of : (sig : Sig) (ss : List Statement) → map (λ s. s.name) (subjects_of sig ss) ≡ subject_names ss
 names-subjects_of sig [] = refl
 names-subjects_of sig (OpOf n least more flags ∷ ss) = names-subjects_of sig ss
 names-subjects_of sig (KindOf n members ∷ ss) = names-subjects_of sig ss
-names-subjects_of sig (RuleOf n p c ∷ ss) = names-subjects_of sig ss
+names-subjects_of sig (RuleOf n p x c ∷ ss) = names-subjects_of sig ss
 names-subjects_of sig (SubjectOf n t ∷ ss) = ap (λ l. n.text ∷ l) (names-subjects_of sig ss)
+names-subjects_of sig (EditOf subject changes ∷ ss) = names-subjects_of sig ss
 
 -- the rules of statements in two parts
 pub rules_of-append : (sig : Sig) (a b : List Statement) → rules_of sig (a ++ b) ≡ rules_of sig a ++ rules_of sig b
 rules_of-append sig [] b = refl
 rules_of-append sig (OpOf n least more flags ∷ ss) b = rules_of-append sig ss b
 rules_of-append sig (KindOf n members ∷ ss) b = rules_of-append sig ss b
-rules_of-append sig (RuleOf n p c ∷ ss) b = ap (λ l. rule_of sig n p c ∷ l) (rules_of-append sig ss b)
+rules_of-append sig (RuleOf n p x c ∷ ss) b = ap (λ l. rule_of sig n p x c ∷ l) (rules_of-append sig ss b)
 rules_of-append sig (SubjectOf n t ∷ ss) b = rules_of-append sig ss b
+rules_of-append sig (EditOf subject changes ∷ ss) b = rules_of-append sig ss b
 
 -- the subjects of statements in two parts
 pub subjects_of-append : (sig : Sig) (a b : List Statement)
@@ -167,8 +177,9 @@ pub subjects_of-append : (sig : Sig) (a b : List Statement)
 subjects_of-append sig [] b = refl
 subjects_of-append sig (OpOf n least more flags ∷ ss) b = subjects_of-append sig ss b
 subjects_of-append sig (KindOf n members ∷ ss) b = subjects_of-append sig ss b
-subjects_of-append sig (RuleOf n p c ∷ ss) b = subjects_of-append sig ss b
+subjects_of-append sig (RuleOf n p x c ∷ ss) b = subjects_of-append sig ss b
 subjects_of-append sig (SubjectOf n t ∷ ss) b = ap (λ l. subject_of sig n t ∷ l) (subjects_of-append sig ss b)
+subjects_of-append sig (EditOf subject changes ∷ ss) b = subjects_of-append sig ss b
 
 -- ---- rules, statement by statement
 
@@ -180,12 +191,12 @@ length-held_rules sig rules ss h = sym (length-map rules (λ r. r.name))
 
 -- the rules with one rule more
 pub rules_of-RuleOf : (sig : Sig) (old new : List Rule) (r : Rule) (ss : List Statement) (name : Spot) (p : Tree)
-    (c : Option Condition)
-    → new ≡ old ++ r ∷ [] → old ≡ rules_of sig ss → r ≡ rule_of sig name p c
-    → new ≡ rules_of sig (ss ++ RuleOf name p c ∷ [])
-rules_of-RuleOf sig old new r ss name p c added e h =
-    added ∙ ap (λ l. l ++ r ∷ []) e ∙ ap (λ x. rules_of sig ss ++ x ∷ []) h
-    ∙ sym (rules_of-append sig ss (RuleOf name p c ∷ []))
+    (x : Option Tree) (c : Option Condition)
+    → new ≡ old ++ r ∷ [] → old ≡ rules_of sig ss → r ≡ rule_of sig name p x c
+    → new ≡ rules_of sig (ss ++ RuleOf name p x c ∷ [])
+rules_of-RuleOf sig old new r ss name p x c added e h =
+    added ∙ ap (λ l. l ++ r ∷ []) e ∙ ap (λ y. rules_of sig ss ++ y ∷ []) h
+    ∙ sym (rules_of-append sig ss (RuleOf name p x c ∷ []))
 
 -- ---- subjects, statement by statement
 
@@ -209,34 +220,77 @@ subjects_of-SubjectOf sig old new word u ss name t added e w n =
 
 -- ---- files, statement by statement
 
--- a declaration adds neither a rule nor a subject
-pub file_over-declaration : (sig : Sig) (ss : List Statement) (s : Statement) → rules_of sig (s ∷ []) ≡ []
-    → subjects_of sig (s ∷ []) ≡ [] → file_over sig (ss ++ s ∷ []) ≡ file_over sig ss
-file_over-declaration sig ss s no_rule no_subject =
-    let file : List Rule → List Subject → FileTree = λ r s. record { sig = sig; rules = r; subjects = s; edits = [] } in
-    ap (λ r. file r (subjects_of sig (ss ++ s ∷ [])))
-    (rules_of-append sig ss (s ∷ []) ∙ ap (λ l. rules_of sig ss ++ l) no_rule ∙ append-nil (rules_of sig ss))
-    ∙ ap (file (rules_of sig ss)) (subjects_of-append sig ss (s ∷ []) ∙ ap (λ l. subjects_of sig ss ++ l) no_subject
-    ∙ append-nil (subjects_of sig ss))
+-- the edit statements of statements in two parts
+edit_sets_behind-append : (sig : Sig) (earlier a b : List Statement) → edit_sets_behind sig earlier (a ++ b)
+    ≡ edit_sets_behind sig earlier a ++ edit_sets_behind sig (earlier ++ a) b
+edit_sets_behind-append sig earlier [] b = ap (λ e. edit_sets_behind sig e b) (sym (append-nil earlier))
+edit_sets_behind-append sig earlier (s ∷ a) b =
+    let own = edit_sets_of sig earlier s in
+    let behind = edit_sets_behind sig (earlier ++ s ∷ []) a in
+    ap (λ l. own ++ l) (edit_sets_behind-append sig (earlier ++ s ∷ []) a b
+    ∙ ap (λ e. behind ++ edit_sets_behind sig e b) (append_assoc earlier (s ∷ []) a))
+    ∙ sym (append_assoc own behind (edit_sets_behind sig (earlier ++ s ∷ a) b))
 
--- a file with one rule more
-pub file_over-RuleOf : (sig : Sig) (ss : List Statement) (name : Spot) (p : Tree) (c : Option Condition)
-    (new : List Rule)
-    → new ≡ rules_of sig (ss ++ RuleOf name p c ∷ [])
-    → record (file_over sig ss) { rules = new } ≡ file_over sig (ss ++ RuleOf name p c ∷ [])
-file_over-RuleOf sig ss name p c new h =
-    let file : List Rule → List Subject → FileTree = λ r s. record { sig = sig; rules = r; subjects = s; edits = [] } in
-    ap (λ r. file r (subjects_of sig ss)) h ∙ ap (file (rules_of sig (ss ++ RuleOf name p c ∷ [])))
-    (sym (subjects_of-append sig ss (RuleOf name p c ∷ []) ∙ append-nil (subjects_of sig ss)))
+-- the edit statements of statements and of one more
+pub edit_sets-push : (sig : Sig) (ss : List Statement) (s : Statement)
+    → edit_sets sig (ss ++ s ∷ []) ≡ edit_sets sig ss ++ edit_sets_of sig ss s
+edit_sets-push sig ss s = edit_sets_behind-append sig [] ss (s ∷ [])
+    ∙ ap (λ l. edit_sets sig ss ++ l) (append-nil (edit_sets_of sig ss s))
 
--- a file with one subject more
-pub file_over-SubjectOf : (sig : Sig) (ss : List Statement) (name : Spot) (t : Tree) (new : List Subject)
-    → new ≡ subjects_of sig (ss ++ SubjectOf name t ∷ [])
-    → record (file_over sig ss) { subjects = new } ≡ file_over sig (ss ++ SubjectOf name t ∷ [])
-file_over-SubjectOf sig ss name t new h =
-    let file : List Rule → List Subject → FileTree = λ r s. record { sig = sig; rules = r; subjects = s; edits = [] } in
-    ap (file (rules_of sig ss)) h ∙ ap (λ r. file r (subjects_of sig (ss ++ SubjectOf name t ∷ [])))
-    (sym (rules_of-append sig ss (SubjectOf name t ∷ []) ∙ append-nil (rules_of sig ss)))
+-- a statement that isn't an edit statement adds none
+pub edit_sets-other : (sig : Sig) (ss : List Statement) (s : Statement) → edit_sets_of sig ss s ≡ []
+    → edit_sets sig (ss ++ s ∷ []) ≡ edit_sets sig ss
+edit_sets-other sig ss s none = edit_sets-push sig ss s ∙ ap (λ l. edit_sets sig ss ++ l) none
+    ∙ append-nil (edit_sets sig ss)
+
+module _ (sig : Sig) where
+  -- the file of these rules, subjects and edit statements
+  abbrev file_with : List Rule → List Subject → List EditSet → FileTree
+  file_with rules subjects edits = record { sig = sig; rules = rules; subjects = subjects; edits = edits }
+
+  -- a declaration adds neither a rule nor a subject nor an edit statement
+  pub file_over-declaration : (ss : List Statement) (s : Statement) → rules_of sig (s ∷ []) ≡ []
+      → subjects_of sig (s ∷ []) ≡ [] → edit_sets_of sig ss s ≡ [] → file_over sig (ss ++ s ∷ []) ≡ file_over sig ss
+  file_over-declaration ss s no_rule no_subject no_edit =
+      let rules : rules_of sig (ss ++ s ∷ []) ≡ rules_of sig ss =
+      rules_of-append sig ss (s ∷ []) ∙ ap (λ l. rules_of sig ss ++ l) no_rule ∙ append-nil (rules_of sig ss) in
+      let subjects : subjects_of sig (ss ++ s ∷ []) ≡ subjects_of sig ss =
+      subjects_of-append sig ss (s ∷ []) ∙ ap (λ l. subjects_of sig ss ++ l) no_subject
+      ∙ append-nil (subjects_of sig ss) in
+      (λ j. file_with (rules j) (subjects j) (edit_sets-other sig ss s no_edit j))
+
+  -- a file with one rule more
+  pub file_over-RuleOf : (ss : List Statement) (name : Spot) (p : Tree) (x : Option Tree) (c : Option Condition)
+      (new : List Rule)
+      → new ≡ rules_of sig (ss ++ RuleOf name p x c ∷ [])
+      → record (file_over sig ss) { rules = new } ≡ file_over sig (ss ++ RuleOf name p x c ∷ [])
+  file_over-RuleOf ss name p x c new h =
+      let s = RuleOf name p x c in
+      let subjects : subjects_of sig ss ≡ subjects_of sig (ss ++ s ∷ []) =
+      sym (subjects_of-append sig ss (s ∷ []) ∙ append-nil (subjects_of sig ss)) in
+      (λ j. file_with (h j) (subjects j) (sym (edit_sets-other sig ss s refl) j))
+
+  -- a file with one subject more
+  pub file_over-SubjectOf : (ss : List Statement) (name : Spot) (t : Tree) (new : List Subject)
+      → new ≡ subjects_of sig (ss ++ SubjectOf name t ∷ [])
+      → record (file_over sig ss) { subjects = new } ≡ file_over sig (ss ++ SubjectOf name t ∷ [])
+  file_over-SubjectOf ss name t new h =
+      let s = SubjectOf name t in
+      let rules : rules_of sig ss ≡ rules_of sig (ss ++ s ∷ []) =
+      sym (rules_of-append sig ss (s ∷ []) ∙ append-nil (rules_of sig ss)) in
+      (λ j. file_with (rules j) (h j) (sym (edit_sets-other sig ss s refl) j))
+
+  -- a file with one edit statement more
+  pub file_over-EditOf : (ss : List Statement) (name : Spot) (cs : List Change) (new : List EditSet)
+      → new ≡ edit_sets sig (ss ++ EditOf name cs ∷ [])
+      → record (file_over sig ss) { edits = new } ≡ file_over sig (ss ++ EditOf name cs ∷ [])
+  file_over-EditOf ss name cs new h =
+      let s = EditOf name cs in
+      let rules : rules_of sig ss ≡ rules_of sig (ss ++ s ∷ []) =
+      sym (rules_of-append sig ss (s ∷ []) ∙ append-nil (rules_of sig ss)) in
+      let subjects : subjects_of sig ss ≡ subjects_of sig (ss ++ s ∷ []) =
+      sym (subjects_of-append sig ss (s ∷ []) ∙ append-nil (subjects_of sig ss)) in
+      (λ j. file_with (rules j) (subjects j) (h j))
 
 -- another fact of the value
 gives-map : {T : Type 0} (r : Result T TextError) (fs : List TextFault) (P Q : T → Type 0) → ((v : T) → P v → Q v)

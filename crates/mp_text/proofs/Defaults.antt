@@ -5,14 +5,14 @@ use Rattle.std.proofs.lemmas.Bool.{and_from}
 use Rattle.mp_term.specs.declared.signature.OpDecl.{OpDecl}
 use Rattle.mp_term.specs.Signature.{Sig, allows}
 use Rattle.mp_term.specs.Normal.{normal}
-use Rattle.mp_syntax.specs.Syntax.{Spot, Wildcard, Tree, Symbol, Apply, InfixOf, Wild, Variable, Optional, Trees}
-use Rattle.mp_syntax.specs.Syntax.{no_trees, more_trees, tree_list}
+use Rattle.mp_syntax.specs.Syntax.{Spot, Wildcard, Tree, Symbol, Apply, InfixOf, Wild, Optional, Counted, Variable}
+use Rattle.mp_syntax.specs.Syntax.{Trees, no_trees, more_trees, tree_list}
 use Rattle.mp_text.specs.declared.fault.TextFault.{TextFault}
 use Rattle.mp_text.specs.Build.{op_number, sign_number, term_of, has_term, all_have_terms}
 use Rattle.mp_text.specs.Wildcards.{DefaultForm, normal_form, unknown, default_form}
 use Rattle.mp_text.specs.Checks.{fault_if, kind_unknown, op_at, op_named, op_signed, head_faults, arity_faults}
 use Rattle.mp_text.specs.Checks.{sign_faults, term_wildcard_faults, term_faults, term_operand_faults, all_term_faults}
-use Rattle.mp_text.specs.Checks.{default_faults}
+use Rattle.mp_text.specs.Checks.{default_faults, count_faults}
 use Rattle.mp_text.proofs.Faultless.{nil-append, some-behind}
 
 module _ (sig : Sig) where
@@ -35,6 +35,12 @@ module _ (sig : Sig) where
       let q = nil-append (term_wildcard_faults sig w) (flat_map (term_wildcard_faults sig) others) p.0 in
       some-behind (fault_if (kind_unknown sig w.kind) _ w.place) _ q.0
 
+  -- nor is one with a count
+  pub no-counted_term : (w : Wildcard) (count : Spot) (more : Bool) → term_faults sig (Counted w count more) ≡ [] → ⊥
+  no-counted_term w count more h =
+      let p = nil-append (term_wildcard_faults sig w) (count_faults count more) h in
+      some-behind (fault_if (kind_unknown sig w.kind) _ w.place) _ p.0
+
   known-head : (passes : OpDecl → Bool) (f : Spot) (number : Option ℕ) → head_faults passes f (op_at sig number) ≡ []
       → is_some number ≡ true
   known-head passes f None h = cc
@@ -46,7 +52,7 @@ module _ (sig : Sig) where
 
   mutual
     -- an expression without faults is a term
-    has_term-term_faults : (t : Tree) → term_faults sig t ≡ [] → has_term sig t ≡ true
+    pub has_term-term_faults : (t : Tree) → term_faults sig t ≡ [] → has_term sig t ≡ true
     has_term-term_faults (Symbol w) h = refl
     has_term-term_faults (Apply f args) h =
         let passes = allows (length (tree_list args)) in
@@ -62,6 +68,7 @@ module _ (sig : Sig) where
         (known-sign sign (sign_number sig sign.text) q.0) (all_have_terms-term_faults operands q.1)
     has_term-term_faults (Wild w) h = absurd (some-behind (fault_if (kind_unknown sig w.kind) _ w.place) _ h)
     has_term-term_faults (Optional w others default) h = absurd (no-optional_term w others default h)
+    has_term-term_faults (Counted w count more) h = absurd (no-counted_term w count more h)
     has_term-term_faults (Variable x) h = cc
 
     all_have_terms-term_faults : (ts : Trees) → all_term_faults sig ts ≡ [] → all_have_terms sig ts ≡ true

@@ -3,12 +3,14 @@ use Rattle.std.proofs.Common.{◌≡◌, ℕ, true, false, [], ◌∷◌, Option
 use Rattle.std.specs.Prelude.{codes}
 use Rattle.mp_term.specs.Tree.{symbol, app, trees}
 use Rattle.mp_term.proofs.Examples.{plain_decl}
-use Rattle.mp_pattern.specs.PatternTree.{dot, kind, plus, star, symbol_pattern, app_pattern, wild_pattern, patterns}
+use Rattle.mp_pattern.specs.PatternTree.{dot, kind, plus, star, counted, symbol_pattern, app_pattern, wild_pattern}
+use Rattle.mp_pattern.specs.PatternTree.{patterns}
+use Rattle.mp_pattern.specs.TemplateTree.{app_template, variable_template, templates}
 use Rattle.mp_syntax.specs.Lexing.{lexemes}
 use Rattle.mp_text.specs.declared.fault.TextKind.{TextKind}
-use Rattle.mp_text.specs.declared.fault.TextKind.TheVariants.{DuplicateName, TooMany, BadFlags, UnknownOp}
-use Rattle.mp_text.specs.declared.fault.TextKind.TheVariants.{BareOperation, UnknownKind, Arity, KindClash}
-use Rattle.mp_text.specs.declared.fault.TextKind.TheVariants.{LooseSequence, WildcardInTerm, Unread}
+use Rattle.mp_text.specs.declared.fault.TextKind.TheVariants.{BadByte, Syntax, DuplicateName, TooMany, BadFlags}
+use Rattle.mp_text.specs.declared.fault.TextKind.TheVariants.{UnknownOp, BareOperation, UnknownKind, Arity, KindClash}
+use Rattle.mp_text.specs.declared.fault.TextKind.TheVariants.{LooseSequence, WildcardInTerm, UnboundVariable, BadCount}
 use Rattle.mp_text.specs.declared.fault.TextFault.{TextFault}
 use Rattle.mp_text.specs.Computed.{file_of, fault_of}
 
@@ -56,12 +58,12 @@ unfolding lexemes
 file_of-flags = refl
 
 -- a byte that begins no token
-fault_of-bad_byte : fault_of (codes "subject s: é;") ≡ at Unread 1
+fault_of-bad_byte : fault_of (codes "subject s: é;") ≡ at BadByte 12
 unfolding lexemes
 fault_of-bad_byte = refl
 
 -- brackets round a term alone
-fault_of-bracketed_term : fault_of (codes "subject s: (a);") ≡ at Unread 1
+fault_of-bracketed_term : fault_of (codes "subject s: (a);") ≡ at Syntax 14
 unfolding lexemes
 fault_of-bracketed_term = refl
 
@@ -206,3 +208,48 @@ fault_of-commutative = refl
 fault_of-collapsed : fault_of (codes "op p 1+ comm one; rule r: p(x_);") ≡ None
 unfolding lexemes
 fault_of-collapsed = refl
+
+-- a wildcard with a fixed count and one with an open count, and a template; the counts 1 and 0 are those of plainer
+-- wildcards
+file_of-counted : file_of (codes "op g 0+; rule r: g(x_{2}, y_{3+}, z_{1}, w_{0+}) -> g($y, $x);") ≡ Some (record {
+  sig = record { ops = plain_decl (codes "g") 0 false ∷ []; kinds = [] };
+  rules = record {
+    name = codes "r";
+    pattern =
+        app_pattern 0
+        (patterns (wild_pattern (counted 2 true) (Some (codes "x")) ∷ wild_pattern (counted 3 false) (Some (codes "y"))
+        ∷ wild_pattern dot (Some (codes "z")) ∷ wild_pattern star (Some (codes "w")) ∷ []));
+    template = Some (app_template 0
+        (templates (variable_template (codes "y") ∷ variable_template (codes "x") ∷ [])));
+    condition = None;
+  } ∷ [];
+  subjects = [];
+  edits = [];
+})
+unfolding lexemes
+file_of-counted = refl
+
+-- a count of none
+fault_of-no_count : fault_of (codes "op g 0+; rule r: g(x_{0});") ≡ at BadCount 23
+unfolding lexemes
+fault_of-no_count = refl
+
+-- a count above its limit
+fault_of-count_above_limit : fault_of (codes "op g 0+; rule r: g(x_{1001});") ≡ at TooMany 23
+unfolding lexemes
+fault_of-count_above_limit = refl
+
+-- one argument too many
+fault_of-counted_arity : fault_of (codes "op f 2; rule r: f(x_{2}, y_);") ≡ at Arity 17
+unfolding lexemes
+fault_of-counted_arity = refl
+
+-- two wildcards of one variable with one count, fixed and open
+fault_of-count_clash : fault_of (codes "op g 0+; rule r: g(x_{2}, x_{2+});") ≡ at KindClash 27
+unfolding lexemes
+fault_of-count_clash = refl
+
+-- a variable of a template that the pattern doesn't have
+fault_of-unbound_variable : fault_of (codes "op f 2; rule r: f(x_, a) -> f($x, $y);") ≡ at UnboundVariable 35
+unfolding lexemes
+fault_of-unbound_variable = refl

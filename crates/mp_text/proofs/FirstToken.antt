@@ -1,17 +1,19 @@
 -- A condition that is read begins at the first token of its text.
-use Rattle.std.proofs.Common.{◌≡◌, ℕ, true, false, List, [], ◌∷◌, ◌++◌, Result, Ok, Err, refl, sym, ap, subst}
+use Rattle.std.proofs.Common.{◌≡◌, ℕ, true, false, List, [], ◌∷◌, ◌++◌, Result, Ok, Err, inl, refl, sym, ap, subst}
 use Rattle.std.proofs.Common.{◌∙◌}
 use Rattle.mp_syntax.specs.declared.fault.Fault.{Fault}
 use Rattle.mp_syntax.specs.Tokens.{Placed, Tokens, first_place}
-use Rattle.mp_syntax.specs.Lexing.{token_at, behind, lexemes, first_token_place}
+use Rattle.mp_syntax.specs.Lexing.{first_token_place}
 use Rattle.mp_syntax.specs.Syntax.{Expected, AllMatch, Number, Measured, Compare, Relate, Test, Literal, AtomOf}
 use Rattle.mp_syntax.specs.Syntax.{Bracketed, Literals, no_literals, more_literals, Condition, no_alternatives}
 use Rattle.mp_syntax.specs.Syntax.{more_alternatives, HasLiteral, FitsCondition, spell_literal}
 use Rattle.mp_syntax.specs.Syntax.{spell_literals, spell_condition, IsConditionOf}
 use Rattle.mp_syntax.specs.Reading.{condition_reading}
-use Rattle.mp_syntax.proofs.Fuel.{lexemes-step}
-use Rattle.mp_syntax.proofs.TokensLaw.{tokens-lexemes, head-is, end_at}
+use Rattle.mp_syntax.proofs.FirstPlace.{IsFirstPlace-is}
+use Rattle.mp_syntax.specs.Begins.{OfCondition}
+use Rattle.mp_syntax.specs.FirstFault.{IsFirstFault}
 use Rattle.mp_syntax.proofs.Whole.{condition_reading-found, condition_reading-only}
+use Rattle.mp_syntax.proofs.Whole.{condition_reading-fault, condition_reading-only_fault}
 use Rattle.mp_text.specs.AloneCondition.{PlacedCondition, StartsAt, IsPlacedConditionOf}
 use Rattle.mp_text.specs.Computed.{at_place, placed_reading}
 use Rattle.mp_text.proofs.AloneLaws.{IsReading}
@@ -19,12 +21,7 @@ use Rattle.mp_text.proofs.AloneLaws.{IsReading}
 -- the first of the tokens is the one that is found first
 first-is : (bytes : List ℕ) (t : Placed) (ts : List Placed) → Tokens bytes first_place (t ∷ ts)
     → t.place ≡ first_token_place bytes
-first-is bytes t ts h =
-    let next = token_at bytes first_place in
-    let all = tokens-lexemes (t ∷ ts) bytes first_place h in
-    ap (λ (p : Placed). p.place)
-    (sym (head-is next.0 t (behind next.0.token (lexemes next.1.0 next.1.1)) (ts ++ end_at all.0 ∷ [])
-    (sym (lexemes-step bytes first_place) ∙ all.1)))
+first-is bytes t ts h = IsFirstPlace-is bytes t.place (inl (t, h.0, h.1, refl))
 
 -- there is a token
 abbrev HasToken : List Expected → Type 0
@@ -61,7 +58,8 @@ starts bytes [] (m ∷ ms) h some lie = absurd h
 starts bytes (t ∷ ts) ms h some lie = (t, ts, lie, first-is bytes t ts lie)
 
 -- a condition begins there
-condition-starts : (bytes : List ℕ) (c : Condition) → IsConditionOf bytes c → StartsAt bytes (first_token_place bytes)
+pub condition-starts : (bytes : List ℕ) (c : Condition) → IsConditionOf bytes c
+    → StartsAt bytes (first_token_place bytes)
 condition-starts bytes c h = starts bytes h.tokens (spell_condition c) h.spelled (token-condition 100 c h.fits) h.lie
 
 found : (bytes : List ℕ) (r : Result Condition Fault) (s : PlacedCondition) → condition_reading bytes ≡ r
@@ -78,6 +76,18 @@ only bytes s h =
     ap (at_place (first_token_place bytes)) (condition_reading-only bytes s.condition h.0)
     ∙ (λ i. Ok (record { start = place i; condition = s.condition }))
 
+-- a fault of a condition, at the place of its text
+fault : (bytes : List ℕ) (r : Result Condition Fault) (f : Fault) → condition_reading bytes ≡ r
+    → at_place (first_token_place bytes) r ≡ Err f → IsFirstFault OfCondition bytes f
+fault bytes (Ok c) f e h = cc
+fault bytes (Err g) f e h = let same : g ≡ f = cc in
+    subst (IsFirstFault OfCondition bytes) same (condition_reading-fault bytes g e)
+
 -- what is read of a condition with its place is what the bytes are
-pub IsReading-placed_reading : IsReading IsPlacedConditionOf placed_reading
-IsReading-placed_reading = record { found = λ bytes s h. found bytes (condition_reading bytes) s refl h; only = only }
+pub IsReading-placed_reading : IsReading OfCondition IsPlacedConditionOf placed_reading
+IsReading-placed_reading = record {
+  found = λ bytes s h. found bytes (condition_reading bytes) s refl h;
+  only = only;
+  fault = λ bytes f h. fault bytes (condition_reading bytes) f refl h;
+  only_fault = λ bytes f h. ap (at_place (first_token_place bytes)) (condition_reading-only_fault bytes f h);
+}

@@ -1,36 +1,28 @@
 mod Numbers
 mod Applied
 mod Fails
-mod Words
-mod Faultless
+pub mod Words
+pub mod Faultless
 mod OpLaws
-mod Built
-mod Clashes
-mod Declared
-mod Defaults
-mod Spelled
+pub mod Built
+pub mod Clashes
+pub mod Declared
+pub mod Defaults
+pub mod DeclaredParts
 pub mod Whole
 pub mod SoundLaws
-mod BoundNames
-mod SoundConditionLaws
+pub mod BoundNames
+pub mod SoundConditionLaws
+mod Extents
+pub mod SoundTemplate
 pub mod SoundFile
-mod Spells
-mod TermAgain
-mod PatternAgain
-mod ScopeAgain
-mod ConditionAgain
-mod Unplaced
-mod SpelledHead
-mod SpelledTerm
-mod SpelledPattern
-mod SpelledDeclarations
-mod Statements
-mod ReadFile
-mod SpelledCondition
-mod FileAgain
+pub mod Statements
+pub mod ReadFile
 mod Draft
+mod EditLaws
+mod SoundEdits
 mod Examples
 mod AloneLaws
-mod FirstToken
+pub mod FirstToken
 mod Joined
 mod ConditionTrees

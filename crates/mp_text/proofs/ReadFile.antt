@@ -14,7 +14,7 @@ use Rattle.mp_term.proofs.NameSets.{names_ascend-name_set}
 use Rattle.mp_term.proofs.SignatureLaws.{IsSignature-add_op, IsSignature-add_kind}
 use Rattle.mp_term.proofs.ListLaws.{all-append}
 use Rattle.mp_syntax.specs.Syntax.{Spot, Flag, Assoc, Comm, One, Infixed, Statement, OpOf, KindOf, RuleOf, SubjectOf}
-use Rattle.mp_syntax.specs.Syntax.{HaveSigns, AreNames, StatementHasNames}
+use Rattle.mp_syntax.specs.Syntax.{EditOf, HaveSigns, AreNames, StatementHasNames}
 use Rattle.mp_text.specs.Build.{op_decl, op_decls, kind_decl, kind_decls, sig_with}
 use Rattle.mp_text.specs.Checks.{fault_if, symbol_faults, name_faults, has_bad_flags, held_sign_faults, op_faults}
 use Rattle.mp_text.specs.Checks.{kind_faults, op_statement_faults, kind_statement_faults, faults_by}
@@ -27,9 +27,8 @@ use Rattle.mp_text.proofs.OpLaws.{declarable-op_faults}
 use Rattle.mp_pattern.specs.SoundRule.{IsSymbol}
 use Rattle.mp_text.proofs.SoundLaws.{named-by, IsSymbol-symbol_faults}
 use Rattle.mp_text.proofs.Statements.{IsRead, holds-behind}
-use Rattle.mp_text.proofs.SpelledHead.{IsSomeSign}
-use Rattle.mp_text.proofs.SpelledDeclarations.{short-sign, IsDeclaredOp, IsDeclaredKind, all-name_set, some-name_set}
-use Rattle.mp_text.proofs.SpelledDeclarations.{length-name_set-le}
+use Rattle.mp_text.proofs.DeclaredParts.{IsSomeSign, short-sign, IsDeclaredOp, IsDeclaredKind, all-name_set}
+use Rattle.mp_text.proofs.DeclaredParts.{some-name_set, length-name_set-le}
 
 -- ---- operations
 
@@ -107,10 +106,12 @@ declare-op earlier (OpOf name least more flags) read h i =
     (declared-op (op_decls earlier) name least more flags read.names h i)
 declare-op earlier (KindOf name members) read h i =
     subst AreDeclaredOps (sym (op_decls-other earlier (KindOf name members) refl)) i
-declare-op earlier (RuleOf name p c) read h i =
-    subst AreDeclaredOps (sym (op_decls-other earlier (RuleOf name p c) refl)) i
+declare-op earlier (RuleOf name p x c) read h i =
+    subst AreDeclaredOps (sym (op_decls-other earlier (RuleOf name p x c) refl)) i
 declare-op earlier (SubjectOf name t) read h i =
     subst AreDeclaredOps (sym (op_decls-other earlier (SubjectOf name t) refl)) i
+declare-op earlier (EditOf subject changes) read h i =
+    subst AreDeclaredOps (sym (op_decls-other earlier (EditOf subject changes) refl)) i
 
 -- the operations of statements without faults
 pub AreDeclaredOps-op_decls : (ss : List Statement) → AllByRecursion IsRead ss
@@ -188,10 +189,12 @@ module _ (ds : List OpDecl) where
   declare-kind earlier (KindOf name members) read h i =
       subst AreDeclaredKinds (sym (kind_decls-append earlier (KindOf name members ∷ [])))
       (declared-kind earlier name members read h i)
-  declare-kind earlier (RuleOf name p c) read h i =
-      subst AreDeclaredKinds (sym (kind_decls-other earlier (RuleOf name p c) refl)) i
+  declare-kind earlier (RuleOf name p x c) read h i =
+      subst AreDeclaredKinds (sym (kind_decls-other earlier (RuleOf name p x c) refl)) i
   declare-kind earlier (SubjectOf name t) read h i =
       subst AreDeclaredKinds (sym (kind_decls-other earlier (SubjectOf name t) refl)) i
+  declare-kind earlier (EditOf subject changes) read h i =
+      subst AreDeclaredKinds (sym (kind_decls-other earlier (EditOf subject changes) refl)) i
 
   -- the kinds of statements without faults
   pub AreDeclaredKinds-kind_decls : (ss : List Statement) → AllByRecursion IsRead ss

@@ -2,7 +2,9 @@
 use Rattle.std.specs.Prelude.{if◌then◌else◌}
 use Rattle.mp_text.proofs.Words.{first-of, second-of, is_name-IsName}
 use Rattle.mp_text.proofs.Faultless.{nil-append, nil-fault_if, some-behind}
-use Rattle.std.proofs.Common.{append-nil, cond, sym, eqb, ◌≡◌, ◌≤◌, ◌<◌, ◌+◌, ℕ, zero, suc, Bool, true, false, ◌||◌}
+use Rattle.std.proofs.lemmas.Bool.{eqb-false}
+use Rattle.std.proofs.Common.{append-nil, cond, sym, eqb, ◌&&◌, ◌≡◌, ◌≤◌, ◌<◌, ◌+◌, ℕ, zero, suc, Bool, true, false}
+use Rattle.std.proofs.Common.{◌||◌}
 use Rattle.std.proofs.Common.{leb, ltb, rules, List, [], ◌∷◌, ◌++◌, map, length, Option, Some, None, refl, ap, ◌∙◌}
 use Rattle.std.proofs.Common.{arith}
 use Rattle.std.specs.Prelude.{◌≢◌, not, flat_map, slice_get, position, is_some, is_none, nat_lt}
@@ -30,24 +32,28 @@ use Rattle.mp_pattern.specs.Size.{pattern_nodes, all_pattern_nodes}
 use Rattle.mp_pattern.specs.Value.{same_name}
 use Rattle.mp_pattern.specs.Variables.{uses, all_uses, variables}
 use Rattle.mp_syntax.specs.Syntax as syntax
-use Rattle.mp_syntax.specs.Syntax.{Spot, Wildcard, Tree, Symbol, Apply, InfixOf, Wild, Variable, Trees, no_trees}
-use Rattle.mp_syntax.specs.Syntax.{more_trees, Flag, Statement, OpOf, KindOf, RuleOf, SubjectOf, Fits, AreFit}
-use Rattle.mp_syntax.specs.Syntax.{AreStatements, Optional, IsName, HasNames, HaveNames}
+use Rattle.mp_syntax.specs.Syntax.{Spot, Tree, Symbol, Apply, InfixOf, Wild, Optional, Counted, Variable, Trees}
+use Rattle.mp_syntax.specs.Syntax.{no_trees, more_trees, Fits, AreFit, IsName, HasNames, HaveNames}
 use Rattle.mp_syntax.specs.declared.place.Place.{Place}
-use Rattle.mp_text.specs.Names.{is_among, named, names_of, wildcards, all_wildcards, variable_names}
-use Rattle.mp_text.specs.Build.{op_number, sign_number, head_number, marked_shape, kind_shape, shape_of, variable_of}
-use Rattle.mp_text.specs.Build.{term_of, terms_of, pattern_of, patterns_of, kind_number, subject_of}
+use Rattle.mp_text.specs.declared.fault.TextKind.TheVariants.{TooMany, BadCount}
+use Rattle.mp_text.specs.Names.{is_among, number_of, named}
+use Rattle.mp_text.specs.Scope as scope
+use Rattle.mp_text.specs.Scope.{pattern_variables, all_pattern_variables, names_of, variable_names}
+use Rattle.mp_text.specs.Build.{op_number, sign_number, head_number, marked_shape, count_of, counted_shape, kind_shape}
+use Rattle.mp_text.specs.Build.{shape_of, counted_shape_of, variable_of, term_of, terms_of, pattern_of, patterns_of}
+use Rattle.mp_text.specs.Build.{kind_number, subject_of}
 use Rattle.mp_text.specs.Checks.{fault_if, kind_unknown, nodes, all_nodes, is_large_pattern, is_large_term, op_at}
 use Rattle.mp_text.specs.Checks.{op_named, op_signed, head_faults, arity_faults, sign_faults, allows_args}
 use Rattle.mp_text.specs.Checks.{symbol_faults, term_faults, term_operand_faults, all_term_faults, pattern_faults}
 use Rattle.mp_text.specs.Checks.{pattern_operand_faults, all_pattern_faults, loose_faults, whole_pattern_faults}
 use Rattle.mp_text.specs.Checks.{name_faults, has_large_default, some_large_default, term_wildcard_faults}
-use Rattle.mp_text.specs.Checks.{default_faults, wildcard_faults}
-use Rattle.mp_text.specs.Wildcards.{PatternWildcard, without_default, with_default_form, pattern_wildcards, differs}
+use Rattle.mp_text.specs.Checks.{default_faults, wildcard_faults, count_faults}
+use Rattle.mp_text.specs.Wildcards.{PatternWildcard, without_default, with_count, with_default_form, pattern_wildcards}
+use Rattle.mp_text.specs.Wildcards.{differs}
 use Rattle.mp_pattern.specs.EachWildcard.{AllEachWildcard}
 use Rattle.mp_pattern.specs.Sound.{DefaultIsNormal, DefaultsAreNormal, holds_ops, all_hold_ops}
 use Rattle.mp_pattern.specs.declared.limits.TheConstants.{MAX_PATTERN_NODES, MAX_DEFAULT_NODES, MAX_VARIABLES}
-use Rattle.mp_pattern.specs.declared.limits.TheConstants.{MAX_TERM_NODES, MAX_DEPTH}
+use Rattle.mp_pattern.specs.declared.limits.TheConstants.{MAX_TERM_NODES, MAX_DEPTH, MAX_COUNT}
 use Rattle.mp_pattern.specs.SoundRule.{allows_patterns, IsSymbol, HasSymbols, HaveSymbols, IsSoundTerm, IsSoundWildcard}
 use Rattle.mp_pattern.specs.SoundRule.{IsVariable, IsFormed, AreFormed, IsSoundPattern}
 use Rattle.mp_pattern.proofs.Formed.{is_loose-collapsed, IsFormed-normal_pattern, HasSymbols-normal}
@@ -57,7 +63,7 @@ use Rattle.mp_pattern.proofs.NormalMeasures.{pattern_nodes-normal_pattern}
 use Rattle.mp_pattern.proofs.VariableLaws.{IsPermutation-variables}
 use Rattle.mp_syntax.proofs.Trees.{fits-optional}
 use Rattle.mp_text.proofs.Clashes.{nil-pattern_operands, first_clash-pattern_of}
-use Rattle.mp_text.proofs.Defaults.{nil-term_operands, no-optional_term}
+use Rattle.mp_text.proofs.Defaults.{nil-term_operands, no-optional_term, no-counted_term}
 use Rattle.mp_pattern.proofs.NormalDepth.{pattern_depth-normal_pattern}
 use Rattle.mp_text.specs.Sound.{IsSoundSubject}
 use Rattle.mp_pattern.specs.Depth.{wildcard_depth, pattern_depth, greatest_pattern_depth}
@@ -129,6 +135,33 @@ found-infix sig passes opened sign (Some n) h k = by_decl (slice_get sig.ops n) 
     by_decl (Some d) e h k =
         record { decl = d; held = e; passed = not-false (passes d) (nil-fault_if (not (passes d)) _ opened h) }
 
+-- ---- what wildcards take
+
+-- what holds of a dot, a plus and a star holds of what underscores say
+each-marked : (P : pattern.Wildcard → Type 0) → P pattern.dot → P pattern.plus → P pattern.star → (marks : ℕ)
+    → P (marked_shape marks)
+each-marked P dot plus star marks = by_tests (eqb marks 3) (eqb marks 2)
+  where
+    by_tests : (three two : Bool) → P (if three then pattern.star else (if two then pattern.plus else pattern.dot))
+    by_tests true two = star
+    by_tests false true = plus
+    by_tests false false = dot
+
+-- what holds besides of each count holds of what a count says
+each-counted : (P : pattern.Wildcard → Type 0) → P pattern.dot → P pattern.plus → P pattern.star
+    → ((n : ℕ) (b : Bool) → P (pattern.counted n b)) → (n : ℕ) (more : Bool) → P (counted_shape n more)
+each-counted P dot plus star counted n more = by_tests (eqb n 1) (eqb n 0) more
+  where
+    by_tests : (one none more : Bool)
+        → P (if one then (if more then pattern.plus else pattern.dot) else (if none && more
+        then pattern.star else pattern.counted n (not more)))
+    by_tests true none true = plus
+    by_tests true none false = dot
+    by_tests false true true = star
+    by_tests false true false = counted n true
+    by_tests false false true = counted n false
+    by_tests false false false = counted n true
+
 -- ---- terms
 
 module _ (sig : Sig) where
@@ -156,6 +189,7 @@ module _ (sig : Sig) where
         rw (d.held, length-terms_of operands, d.passed) (all_well_formed-terms_of operands q.1)
     well_formed-term_of (Wild w) h = absurd (some-behind (fault_if (kind_unknown sig w.kind) _ w.place) _ h)
     well_formed-term_of (Optional w others default) h = absurd (no-optional_term sig w others default h)
+    well_formed-term_of (Counted w count more) h = absurd (no-counted_term sig w count more h)
     well_formed-term_of (Variable x) h = cc
 
     all_well_formed-terms_of : (ts : Trees) → all_term_faults sig ts ≡ [] → all_well_formed sig (terms_of sig ts) ≡ true
@@ -172,6 +206,7 @@ module _ (sig : Sig) where
     node_count-term_of (InfixOf opened sign operands) = ap (λ n. n + 1) (node_counts-terms_of operands)
     node_count-term_of (Wild w) = refl
     node_count-term_of (Optional w others default) = refl
+    node_count-term_of (Counted w count more) = refl
     node_count-term_of (Variable x) = refl
 
     node_counts-terms_of : (ts : Trees) → node_counts (terms_of sig ts) ≡ all_nodes ts
@@ -188,6 +223,7 @@ module _ (sig : Sig) where
     depth-term_of (suc room) (InfixOf opened sign operands) h = omega (arith, depth-terms_of room operands h.1)
     depth-term_of room (Wild w) h = omega arith
     depth-term_of room (Optional w others default) h = omega arith
+    depth-term_of room (Counted w count more) h = omega arith
     depth-term_of room (Variable x) h = omega arith
 
     depth-terms_of : (room : ℕ) (ts : Trees) → AreFit room ts → greatest_depth (terms_of sig ts) ≤ room
@@ -196,27 +232,26 @@ module _ (sig : Sig) where
 
   -- ---- patterns
 
-  -- what holds of each wildcard without a default holds of what a wildcard without one takes
-  each-kind_shape : (P : pattern.Wildcard → Type 0) → P pattern.dot → P pattern.plus → P pattern.star
-      → ((k : ℕ) → P (pattern.kind k)) → (kind : List ℕ) (marks : ℕ) → P (kind_shape sig kind marks)
-  each-kind_shape P dot plus star of_kind (b ∷ bs) marks = of_kind (head_number (kind_number sig (b ∷ bs)))
-  each-kind_shape P dot plus star of_kind [] marks = by_tests (eqb marks 3) (eqb marks 2)
-    where
-      by_tests : (three two : Bool) → P (if three then pattern.star else (if two then pattern.plus else pattern.dot))
-      by_tests true two = star
-      by_tests false true = plus
-      by_tests false false = dot
+  -- what holds of a kind and of what a wildcard takes without one holds of what it takes
+  by_kind : (P : pattern.Wildcard → Type 0) → ((k : ℕ) → P (pattern.kind k)) → (kind : List ℕ) (w : pattern.Wildcard)
+      → P w → P (kind_shape sig kind w)
+  by_kind P of_kind [] w h = h
+  by_kind P of_kind (b ∷ bs) w h = of_kind (head_number (kind_number sig (b ∷ bs)))
 
   mutual
     -- a pattern is no deeper than its brackets, with those of its defaults
-    depth-pattern_of : (room : ℕ) (p : Tree) → Fits room p → pattern_depth (pattern_of sig p) ≤ room
+    pub depth-pattern_of : (room : ℕ) (p : Tree) → Fits room p → pattern_depth (pattern_of sig p) ≤ room
     depth-pattern_of room (Symbol w) h = omega arith
     depth-pattern_of zero (Apply f args) h = absurd h
     depth-pattern_of (suc room) (Apply f args) h = omega (arith, depth-patterns_of room args h)
     depth-pattern_of zero (InfixOf opened sign operands) h = absurd h
     depth-pattern_of (suc room) (InfixOf opened sign operands) h = omega (arith, depth-patterns_of room operands h.1)
-    depth-pattern_of room (Wild w) h = each-kind_shape (λ v. wildcard_depth v ≤ room) (omega arith) (omega arith)
-        (omega arith) (λ k. omega arith) w.kind w.marks
+    depth-pattern_of room (Wild w) h = by_kind (λ v. wildcard_depth v ≤ room) (λ k. omega arith) w.kind
+        (marked_shape w.marks) (each-marked (λ v. wildcard_depth v ≤ room) (omega arith) (omega arith) (omega arith)
+        w.marks)
+    depth-pattern_of room (Counted w count more) h = by_kind (λ v. wildcard_depth v ≤ room) (λ k. omega arith) w.kind
+        (counted_shape (count_of count) more) (each-counted (λ v. wildcard_depth v ≤ room) (omega arith) (omega arith)
+        (omega arith) (λ n b. omega arith) (count_of count) more)
     depth-pattern_of room (Optional w others default) h =
         omega (
           arith,
@@ -239,7 +274,11 @@ module _ (sig : Sig) where
     defaults-pattern_of (Symbol w) = tt
     defaults-pattern_of (Apply f args) = defaults-patterns_of args
     defaults-pattern_of (InfixOf opened sign operands) = defaults-patterns_of operands
-    defaults-pattern_of (Wild w) = each-kind_shape (DefaultIsNormal sig) tt tt tt (λ k. tt) w.kind w.marks
+    defaults-pattern_of (Wild w) = by_kind (DefaultIsNormal sig) (λ k. tt) w.kind (marked_shape w.marks)
+        (each-marked (DefaultIsNormal sig) tt tt tt w.marks)
+    defaults-pattern_of (Counted w count more) = by_kind (DefaultIsNormal sig) (λ k. tt) w.kind
+        (counted_shape (count_of count) more)
+        (each-counted (DefaultIsNormal sig) tt tt tt (λ n b. tt) (count_of count) more)
     defaults-pattern_of (Optional w others default) = normal-normal sig (term_of sig default)
     defaults-pattern_of (Variable x) = tt
 
@@ -266,6 +305,7 @@ module _ (sig : Sig) where
         (all_hold_ops-patterns_of before operands q.1)
     holds_ops-pattern_of before (Wild w) h = refl
     holds_ops-pattern_of before (Optional w others default) h = refl
+    holds_ops-pattern_of before (Counted w count more) h = refl
     holds_ops-pattern_of before (Variable x) h = refl
 
     all_hold_ops-patterns_of : (before : List PatternWildcard) (ps : Trees) → all_pattern_faults sig before ps ≡ []
@@ -302,6 +342,7 @@ module _ (sig : Sig) where
         HaveSymbols-terms_of operands names.1 (nil-term_operands sig at_sign operands p.1).1
     HasSymbols-term_of (Wild w) names h = absurd (some-behind (fault_if (kind_unknown sig w.kind) _ w.place) _ h)
     HasSymbols-term_of (Optional w others default) names h = absurd (no-optional_term sig w others default h)
+    HasSymbols-term_of (Counted w count more) names h = absurd (no-counted_term sig w count more h)
     HasSymbols-term_of (Variable x) names h = cc
 
     HaveSymbols-terms_of : (ts : Trees) → HaveNames ts → all_term_faults sig ts ≡ [] → HaveSymbols sig (terms_of sig ts)
@@ -313,16 +354,48 @@ module _ (sig : Sig) where
   -- ---- wildcards
 
   -- a kind that is known is held
-  sound-kind : (kind : List ℕ) (marks : ℕ) → kind_unknown sig kind ≡ false
-      → IsSoundWildcard sig (kind_shape sig kind marks)
-  sound-kind [] marks h = by_tests (eqb marks 3) (eqb marks 2)
+  sound-kind : (kind : List ℕ) (w : pattern.Wildcard) → IsSoundWildcard sig w → kind_unknown sig kind ≡ false
+      → IsSoundWildcard sig (kind_shape sig kind w)
+  sound-kind [] w plain h = plain
+  sound-kind (b ∷ bs) w plain h = held-position (bytes_eq (b ∷ bs)) (kind_names sig) h
+
+  -- a count without faults is none of the counts that have other names, and no large one
+  sound-counted : (count : Spot) (more : Bool) → count_faults count more ≡ []
+      → IsSoundWildcard sig (counted_shape (count_of count) more)
+  sound-counted count more h = go (eqb (count_of count) 1) (eqb (count_of count) 0) more refl refl p.1
     where
-      by_tests : (three two : Bool)
-          → IsSoundWildcard sig (if three then pattern.star else (if two then pattern.plus else pattern.dot))
-      by_tests true two = tt
-      by_tests false true = tt
-      by_tests false false = tt
-  sound-kind (b ∷ bs) marks h = held-position (bytes_eq (b ∷ bs)) (kind_names sig) h
+      no-fault : fault_if true BadCount count.place ≡ [] → ⊥
+      no-fault k = cc
+
+      p : (fault_if (nat_lt MAX_COUNT (number_of count.text)) TooMany count.place ≡ [])
+          × (fault_if (eqb (number_of count.text) 0 && not more) BadCount count.place ≡ [])
+      p = nil-append (fault_if (nat_lt MAX_COUNT (number_of count.text)) TooMany count.place)
+          (fault_if (eqb (number_of count.text) 0 && not more) BadCount count.place) h
+
+      few : number_of count.text ≤ MAX_COUNT
+      few = ltb-false MAX_COUNT (number_of count.text)
+          (nil-fault_if (nat_lt MAX_COUNT (number_of count.text)) TooMany count.place p.0)
+
+      same : count_of count ≡ number_of count.text
+      same = omega (arith, few)
+
+      two : (n : ℕ) → eqb n 1 ≡ false → eqb n 0 ≡ false → 2 ≤ n
+      two zero e f = cc
+      two (suc zero) e f = cc
+      two (suc (suc n)) e f = omega arith
+
+      go : (one none : Bool) (more : Bool) → eqb (count_of count) 1 ≡ one → eqb (count_of count) 0 ≡ none
+          → fault_if (eqb (number_of count.text) 0 && not more) BadCount count.place ≡ []
+          → IsSoundWildcard sig (if one then (if more then pattern.plus else pattern.dot) else (if none && more then
+          pattern.star else pattern.counted (count_of count) (not more)))
+      go true none true e f k = tt
+      go true none false e f k = tt
+      go false true true e f k = tt
+      go false true false e f k =
+          absurd (no-fault (sym (ap (λ n. fault_if (eqb n 0 && true) BadCount count.place) (sym same)
+          ∙ ap (λ b. fault_if (b && true) BadCount count.place) f) ∙ k))
+      go false false true e f k = (two (count_of count) e f, omega (arith, same, few))
+      go false false false e f k = (two (count_of count) e f, omega (arith, same, few))
 
   IsVariable-variable_of : (x : List ℕ) → (x ≢ [] → IsName x) → IsVariable sig (variable_of x)
   IsVariable-variable_of [] h = tt
@@ -384,10 +457,17 @@ module _ (sig : Sig) where
             AreFormed-patterns_of before operands names.1 small q.1,
           )
       IsFormed-pattern_of before (Wild w) names small h = (
-        sound-kind w.kind w.marks (known-wildcard_faults before (without_default w) h),
+        sound-kind w.kind (marked_shape w.marks) (each-marked (IsSoundWildcard sig) tt tt tt w.marks)
+            (known-wildcard_faults before (without_default w) h),
         IsVariable-variable_of w.name
             names.name,
       )
+      IsFormed-pattern_of before (Counted w count more) names small h =
+          let p = nil-append (wildcard_faults sig before (with_count w count more)) (count_faults count more) h in (
+            sound-kind w.kind (counted_shape (count_of count) more) (sound-counted count more p.1)
+                (known-wildcard_faults before (with_count w count more) p.0),
+            IsVariable-variable_of w.name names.0.name,
+          )
       IsFormed-pattern_of before (Optional w others default) names small h =
           let p = nil-append (wildcard_faults sig before (with_default_form sig w others default))
           (default_faults sig others default) h in
@@ -418,19 +498,17 @@ module _ (sig : Sig) where
   is_loose-normal_pattern (pattern.wild_pattern w x) h = h
 
   -- a pattern that doesn't stand alone as a plus, star or optional wildcard isn't loose
-  is_loose-loose_faults : (p : Tree) → loose_faults p ≡ [] → is_loose (pattern_of sig p) ≡ false
+  pub is_loose-loose_faults : (p : Tree) → loose_faults p ≡ [] → is_loose (pattern_of sig p) ≡ false
   is_loose-loose_faults (Symbol w) h = refl
   is_loose-loose_faults (Apply f args) h = refl
   is_loose-loose_faults (InfixOf opened sign operands) h = refl
   is_loose-loose_faults (Optional w others default) h = cc
   is_loose-loose_faults (Variable x) h = refl
-  is_loose-loose_faults (Wild w) h = plain-kind_shape w.kind
+  is_loose-loose_faults (Wild w) h = by_kind (λ v. pattern.is_loose v ≡ false) (λ k. refl) w.kind (marked_shape w.marks)
       (nil-fault_if (pattern.is_loose (marked_shape w.marks)) _ w.place h)
-    where
-      plain-kind_shape : (kind : List ℕ) → pattern.is_loose (marked_shape w.marks) ≡ false
-          → pattern.is_loose (kind_shape sig kind w.marks) ≡ false
-      plain-kind_shape [] plain = plain
-      plain-kind_shape (b ∷ bs) plain = refl
+  is_loose-loose_faults (Counted w count more) h =
+      by_kind (λ v. pattern.is_loose v ≡ false) (λ k. refl) w.kind (counted_shape (count_of count) more)
+      (nil-fault_if (pattern.is_loose (counted_shape (count_of count) more)) _ w.place h)
 
   mutual
     -- a pattern has as many nodes as its expression
@@ -440,6 +518,7 @@ module _ (sig : Sig) where
     pattern_nodes-pattern_of (InfixOf opened sign operands) = ap (λ n. n + 1) (all_pattern_nodes-patterns_of operands)
     pattern_nodes-pattern_of (Wild w) = refl
     pattern_nodes-pattern_of (Optional w others default) = refl
+    pattern_nodes-pattern_of (Counted w count more) = refl
     pattern_nodes-pattern_of (Variable x) = refl
 
     all_pattern_nodes-patterns_of : (ps : Trees) → all_pattern_nodes (patterns_of sig ps) ≡ all_nodes ps
@@ -455,7 +534,8 @@ module _ (sig : Sig) where
 
   mutual
     -- the variables that a pattern uses are the names of its wildcards
-    names-uses : (f : Option ℕ) (p : Tree) → map (λ u. u.name) (uses f (pattern_of sig p)) ≡ names_of (wildcards p)
+    names-uses : (f : Option ℕ) (p : Tree)
+        → map (λ u. u.name) (uses f (pattern_of sig p)) ≡ names_of (pattern_variables p)
     names-uses f (Symbol w) = refl
     names-uses f (Apply g args) = names-all_uses (Some (head_number (op_number sig g.text))) args
     names-uses f (InfixOf opened sign operands) =
@@ -463,15 +543,17 @@ module _ (sig : Sig) where
     names-uses f (Wild w) = names-wild f (shape_of sig w) w.name ∙ sym (append-nil (named w.name))
     names-uses f (Optional w others default) = names-wild f (pattern.optional (normal sig (term_of sig default))) w.name
         ∙ sym (append-nil (named w.name))
+    names-uses f (Counted w count more) = names-wild f (counted_shape_of sig w count more) w.name
+        ∙ sym (append-nil (named w.name))
     names-uses f (Variable x) = refl
 
     names-all_uses : (f : Option ℕ) (ps : Trees)
-        → map (λ u. u.name) (all_uses f (patterns_of sig ps)) ≡ names_of (all_wildcards ps)
+        → map (λ u. u.name) (all_uses f (patterns_of sig ps)) ≡ names_of (all_pattern_variables ps)
     names-all_uses f no_trees = refl
     names-all_uses f (more_trees p ps) =
         map-append (λ u. u.name) (uses f (pattern_of sig p)) (all_uses f (patterns_of sig ps))
         ∙ (λ i. names-uses f p i ++ names-all_uses f ps i)
-        ∙ sym (flat_map-append (λ (w : Wildcard). named w.name) (wildcards p) (all_wildcards ps))
+        ∙ sym (flat_map-append (λ (v : scope.Variable). named v.name) (pattern_variables p) (all_pattern_variables ps))
 
 -- ---- names that differ
 
@@ -482,7 +564,7 @@ is_known-alike p q same [] x = refl
 is_known-alike p q same (y ∷ ys) x = λ i. same y x i || is_known-alike p q same ys x i
 
 -- the same test finds the same first items
-firsts_after-alike : (p q : List ℕ → List ℕ → Bool) → ((a b : List ℕ) → p a b ≡ q a b) → (ys xs : List (List ℕ))
+pub firsts_after-alike : (p q : List ℕ → List ℕ → Bool) → ((a b : List ℕ) → p a b ≡ q a b) → (ys xs : List (List ℕ))
     → firsts_after p ys xs ≡ firsts_after q ys xs
 firsts_after-alike p q same ys [] = refl
 firsts_after-alike p q same ys (x ∷ xs) =
@@ -492,7 +574,7 @@ firsts_after-alike p q same ys (x ∷ xs) =
 -- the variables of a pattern are those of its expression
 pub variables-pattern_of : (sig : Sig) (p : Tree) → variables (pattern_of sig p) ≡ variable_names p
 variables-pattern_of sig p = ap (firsts_after same_name []) (names-uses sig None p)
-    ∙ firsts_after-alike same_name bytes_eq is_eq-slice_cmp [] (names_of (wildcards p))
+    ∙ firsts_after-alike same_name bytes_eq is_eq-slice_cmp [] (names_of (pattern_variables p))
 
 -- another name behind all of them
 list_all-push : (p : List ℕ → Bool) (ns : List (List ℕ)) (n : List ℕ) → list_all p ns ≡ true → p n ≡ true

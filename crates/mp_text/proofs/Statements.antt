@@ -1,5 +1,5 @@
 -- What holds of statements without faults, statement by statement: their rules, their subjects and the names of both.
-use Rattle.std.proofs.Common.{◌≡◌, ◌≤◌, ◌<◌, ℕ, true, false, ◌||◌, List, [], ◌∷◌, ◌++◌, length, Option, append-nil}
+use Rattle.std.proofs.Common.{◌≡◌, ◌≤◌, ◌<◌, ℕ, true, false, List, [], ◌∷◌, ◌++◌, length, Option, append-nil}
 use Rattle.std.proofs.Common.{append_assoc, length-append, refl, sym, ap, subst, arith}
 use Rattle.std.specs.List.{AllByRecursion}
 use Rattle.mp_term.specs.Signature.{Sig}
@@ -7,16 +7,16 @@ use Rattle.mp_term.specs.Names.{are_distinct}
 use Rattle.mp_term.proofs.ListLaws.{all-append}
 use Rattle.mp_pattern.specs.declared.limits.TheConstants.{MAX_RULES, MAX_SUBJECTS}
 use Rattle.mp_pattern.specs.Admission.{Rule}
-use Rattle.mp_syntax.specs.Syntax.{Spot, Tree, Condition, Statement, OpOf, KindOf, RuleOf, SubjectOf, FitsStatement}
-use Rattle.mp_syntax.specs.Syntax.{AreStatements, StatementHasNames, StatementsHaveNames}
+use Rattle.mp_syntax.specs.declared.limits.TheConstants.{MAX_OPEN}
+use Rattle.mp_syntax.specs.Syntax.{Spot, Tree, Condition, Statement, OpOf, KindOf, RuleOf, SubjectOf, EditOf}
+use Rattle.mp_syntax.specs.Syntax.{FitsStatement, AreStatements, StatementHasNames, StatementsHaveNames}
 use Rattle.mp_text.specs.declared.fault.TextFault.{TextFault}
 use Rattle.mp_text.specs.Subject.{Subject}
 use Rattle.mp_text.specs.Names.{is_among, rule_names, subject_names}
 use Rattle.mp_text.specs.Build.{subject_of, subjects_of}
 use Rattle.mp_text.specs.FileBuild.{rule_of, rules_of}
-use Rattle.mp_text.specs.Checks.{is_large_pattern, is_large_term, term_faults, name_faults, faults_by}
-use Rattle.mp_text.specs.ConditionChecks.{has_large_condition}
-use Rattle.mp_text.specs.FileChecks.{rule_faults, statement_faults}
+use Rattle.mp_text.specs.Checks.{is_large_term, term_faults, name_faults, faults_by}
+use Rattle.mp_text.specs.FileChecks.{rule_faults, is_large_rule, statement_faults}
 use Rattle.mp_text.proofs.Declared.{rules_of-append, subjects_of-append}
 use Rattle.mp_text.proofs.Faultless.{nil-append}
 use Rattle.mp_text.proofs.SoundLaws.{are_distinct-push, named-by}
@@ -26,10 +26,10 @@ use Rattle.mp_text.proofs.SoundLaws.{are_distinct-push, named-by}
 -- a statement as the grammar has it: its words are names, its signs are signs, and it fits
 pub record IsRead (s : Statement) : Type 0 where
   pub names : StatementHasNames s
-  pub fits : FitsStatement s
+  pub fits : FitsStatement MAX_OPEN s
 
 -- each statement is so where their words are names and they fit
-pub all-IsRead : (ss : List Statement) → StatementsHaveNames ss → AreStatements ss → AllByRecursion IsRead ss
+pub all-IsRead : (ss : List Statement) → StatementsHaveNames ss → AreStatements MAX_OPEN ss → AllByRecursion IsRead ss
 all-IsRead [] names fits = tt
 all-IsRead (s ∷ ss) names fits = (record { names = names.0; fits = fits.0 }, all-IsRead ss names.1 fits.1)
 
@@ -48,8 +48,8 @@ module _ (rule : List Statement → Statement → List TextFault) (I : List Stat
 -- ---- rules and subjects
 
 module _ (sig : Sig) (R : Rule → Type 0) (S : Subject → Type 0)
-    (rule-of : (name : Spot) (p : Tree) (c : Option Condition) → IsRead (RuleOf name p c)
-    → (is_large_pattern p || has_large_condition c) ≡ false → rule_faults sig p c ≡ [] → R (rule_of sig name p c))
+    (rule-of : (name : Spot) (p : Tree) (x : Option Tree) (c : Option Condition) → IsRead (RuleOf name p x c)
+    → is_large_rule p x c ≡ false → rule_faults sig p x c ≡ [] → R (rule_of sig name p x c))
     (subject-of : (name : Spot) (t : Tree) → IsRead (SubjectOf name t) → is_large_term t ≡ false
     → term_faults sig t ≡ [] → S (subject_of sig name t))
   where
@@ -62,12 +62,12 @@ module _ (sig : Sig) (R : Rule → Type 0) (S : Subject → Type 0)
         → Hold (rules_of sig (s ∷ [])) (subjects_of sig (s ∷ []))
     hold-statement earlier (OpOf name least more flags) read h = record { rules_hold = tt; subjects_hold = tt }
     hold-statement earlier (KindOf name members) read h = record { rules_hold = tt; subjects_hold = tt }
-    hold-statement earlier (RuleOf name p c) read h =
-        let large = is_large_pattern p || has_large_condition c in
-        let q = nil-append (name_faults MAX_RULES (rule_names earlier) large name) (rule_faults sig p c) h in
+    hold-statement earlier (RuleOf name p x c) read h =
+        let large = is_large_rule p x c in
+        let q = nil-append (name_faults MAX_RULES (rule_names earlier) large name) (rule_faults sig p x c) h in
         record {
           rules_hold = (
-            rule-of name p c read
+            rule-of name p x c read
                 (named-by MAX_RULES (rule_names earlier) large name q.0).small q.1,
             tt,
           );
@@ -84,6 +84,7 @@ module _ (sig : Sig) (R : Rule → Type 0) (S : Subject → Type 0)
             tt,
           );
         }
+    hold-statement earlier (EditOf subject changes) read h = record { rules_hold = tt; subjects_hold = tt }
 
     hold-behind : (earlier : List Statement) (s : Statement) → IsRead s → statement_faults sig earlier s ≡ []
         → Hold (rules_of sig earlier) (subjects_of sig earlier)
@@ -112,16 +113,18 @@ pub rule_names-append : (a b : List Statement) → rule_names (a ++ b) ≡ rule_
 rule_names-append [] b = refl
 rule_names-append (OpOf name least more flags ∷ ss) b = rule_names-append ss b
 rule_names-append (KindOf name members ∷ ss) b = rule_names-append ss b
-rule_names-append (RuleOf name p c ∷ ss) b = ap (λ l. name.text ∷ l) (rule_names-append ss b)
+rule_names-append (RuleOf name p x c ∷ ss) b = ap (λ l. name.text ∷ l) (rule_names-append ss b)
 rule_names-append (SubjectOf name t ∷ ss) b = rule_names-append ss b
+rule_names-append (EditOf subject changes ∷ ss) b = rule_names-append ss b
 
 -- the names of the subjects of statements in two parts
 pub subject_names-append : (a b : List Statement) → subject_names (a ++ b) ≡ subject_names a ++ subject_names b
 subject_names-append [] b = refl
 subject_names-append (OpOf name least more flags ∷ ss) b = subject_names-append ss b
 subject_names-append (KindOf name members ∷ ss) b = subject_names-append ss b
-subject_names-append (RuleOf name p c ∷ ss) b = subject_names-append ss b
+subject_names-append (RuleOf name p x c ∷ ss) b = subject_names-append ss b
 subject_names-append (SubjectOf name t ∷ ss) b = ap (λ l. name.text ∷ l) (subject_names-append ss b)
+subject_names-append (EditOf subject changes ∷ ss) b = subject_names-append ss b
 
 -- names that differ, and are at most so many
 pub record Good (most : ℕ) (names : List (List ℕ)) : Type 0 where
@@ -147,12 +150,13 @@ module _ (sig : Sig) where
           → Good MAX_RULES (rule_names earlier ++ rule_names (s ∷ []))
       by_sort (OpOf name least more flags) h = same
       by_sort (KindOf name members) h = same
-      by_sort (RuleOf name p c) h =
-          let large = is_large_pattern p || has_large_condition c in
+      by_sort (RuleOf name p x c) h =
+          let large = is_large_rule p x c in
           let n = named-by MAX_RULES (rule_names earlier) large name
-          (nil-append (name_faults MAX_RULES (rule_names earlier) large name) (rule_faults sig p c) h).0 in
+          (nil-append (name_faults MAX_RULES (rule_names earlier) large name) (rule_faults sig p x c) h).0 in
           good-push MAX_RULES (rule_names earlier) name.text g n.other n.few
       by_sort (SubjectOf name t) h = same
+      by_sort (EditOf subject changes) h = same
 
   good-subject : (earlier : List Statement) (s : Statement) → IsRead s → statement_faults sig earlier s ≡ []
       → Good MAX_SUBJECTS (subject_names earlier) → Good MAX_SUBJECTS (subject_names (earlier ++ s ∷ []))
@@ -166,12 +170,13 @@ module _ (sig : Sig) where
           → Good MAX_SUBJECTS (subject_names earlier ++ subject_names (s ∷ []))
       by_sort (OpOf name least more flags) h = same
       by_sort (KindOf name members) h = same
-      by_sort (RuleOf name p c) h = same
+      by_sort (RuleOf name p x c) h = same
       by_sort (SubjectOf name t) h =
           let n = named-by MAX_SUBJECTS (subject_names earlier) (is_large_term t) name
           (nil-append (name_faults MAX_SUBJECTS (subject_names earlier) (is_large_term t) name)
           (term_faults sig t) h).0 in
           good-push MAX_SUBJECTS (subject_names earlier) name.text g n.other n.few
+      by_sort (EditOf subject changes) h = same
 
   -- the names of the rules of statements without faults
   pub good-rules : (ss : List Statement) → AllByRecursion IsRead ss → faults_by (statement_faults sig) [] ss ≡ []

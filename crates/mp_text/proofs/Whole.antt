@@ -5,8 +5,11 @@ use Rattle.mp_syntax.specs.declared.fault.Fault.{Fault}
 use Rattle.mp_syntax.specs.Syntax.{Statement, IsSyntaxOf}
 use Rattle.mp_syntax.specs.declared.fault.SyntaxError.{SyntaxError}
 use Rattle.mp_syntax.specs.declared.fault.SyntaxError.TheVariants as syntax_errors
+use Rattle.mp_syntax.specs.Begins.{OfFile}
+use Rattle.mp_syntax.specs.FirstFault.{IsFirstFault}
 use Rattle.mp_syntax.specs.Reading.{reading, syntax_of, IfFault}
 use Rattle.mp_syntax.proofs.Whole.{syntax_of-exact, reading-found, reading-only}
+use Rattle.mp_syntax.proofs.Whole.{reading-fault, reading-only_fault}
 use Rattle.mp_text.specs.declared.fault.TextFault.{TextFault}
 use Rattle.mp_text.specs.declared.fault.TextError.{TextError}
 use Rattle.mp_text.specs.declared.fault.TextError.TheVariants.{Text, Memory}
@@ -15,7 +18,7 @@ use Rattle.mp_text.specs.File.{FileTree, file_tree}
 use Rattle.mp_text.specs.FileBuild.{file_tree_of}
 use Rattle.mp_text.specs.FileChecks.{faults}
 use Rattle.mp_text.specs.Answers.{first, Gives}
-use Rattle.mp_text.specs.Reading.{IsFileOf, unread_fault, text_error, IsRefused, IsFaultOf, IfText, IsFileOrMemory}
+use Rattle.mp_text.specs.Reading.{IsFileOf, syntax_fault, text_error, IsFaultOf, IfText, IsFileOrMemory}
 use Rattle.mp_text.specs.Reading.{IsFaultOrMemory}
 use Rattle.mp_text.specs.Computed.{file_without, checked_file, file_of, fault_in, fault_of, ReadGives, IsComputed}
 
@@ -60,29 +63,16 @@ same_file bytes f g h k = some_same f g (sym (computed-of bytes f h) ∙ compute
 
 -- ---- faults
 
-abbrev ok_statements : List Statement → Result (List Statement) Fault
-ok_statements ss = Ok ss
-
 -- what is computed is the fault
 fault-is : (bytes : List ℕ) (r : Result (List Statement) Fault) (t : TextFault) → reading bytes ≡ r
     → fault_in r ≡ Some t → IsFaultOf bytes t
-fault-is bytes (Err f) t e h =
-    inr (λ ss k. ok_err ss f (sym (reading-only bytes ss k) ∙ e), some_same t unread_fault (sym h))
-  where
-    ok_err : (ss : List Statement) (f : Fault) → ok_statements ss ≡ Err f → ⊥
-    ok_err ss f e = cc
-fault-is bytes (Ok ss) t e h = inl (ss, reading-found bytes ss e, h)
-
--- the fault of no statements
-refused-in : (bytes : List ℕ) (r : Result (List Statement) Fault) → reading bytes ≡ r → IsRefused bytes
-    → fault_in r ≡ Some unread_fault
-refused-in bytes (Ok ss) e h = absurd (h ss (reading-found bytes ss e))
-refused-in bytes (Err f) e h = refl
+fault-is bytes (Err f) t e h = inl (f, reading-fault bytes f e, some_same t (syntax_fault f) (sym h))
+fault-is bytes (Ok ss) t e h = inr (ss, reading-found bytes ss e, h)
 
 -- the fault is the one that is computed
 fault-of : (bytes : List ℕ) (t : TextFault) → IsFaultOf bytes t → fault_of bytes ≡ Some t
-fault-of bytes t (inl (ss, syntax, h)) = ap fault_in (reading-only bytes ss syntax) ∙ h
-fault-of bytes t (inr (h, e)) = refused-in bytes (reading bytes) refl h ∙ ap Some (sym e)
+fault-of bytes t (inr (ss, syntax, h)) = ap fault_in (reading-only bytes ss syntax) ∙ h
+fault-of bytes t (inl (f, is, e)) = ap fault_in (reading-only_fault bytes f is) ∙ ap Some (sym e)
 
 -- the bytes have a fault exactly where it is computed from them
 pub fault_of-exact : (bytes : List ℕ) (t : TextFault) → IsFaultOf bytes t ↔ (fault_of bytes ≡ Some t)
@@ -100,7 +90,7 @@ first-none (x ∷ xs) h = absurd (none_some x (sym h))
 -- what is read without a fault is a file
 no_fault-in : (bytes : List ℕ) (r : Result (List Statement) Fault) → reading bytes ≡ r → fault_in r ≡ None
     → (f : FileTree) × IsFileOf bytes f
-no_fault-in bytes (Err f) e h = absurd (none_some unread_fault (sym h))
+no_fault-in bytes (Err f) e h = absurd (none_some (syntax_fault f) (sym h))
 no_fault-in bytes (Ok ss) e h = (
   file_tree_of ss,
   record {
@@ -146,10 +136,10 @@ ReadGives-computed bytes (Err (Text t)) h = h
 ReadGives-computed bytes (Err Memory) h = tt
 
 -- an error of the syntax is the fault of the bytes, or memory ran out
-pub ReadGives-error : (bytes : List ℕ) (e : SyntaxError) → IfFault e (λ f. reading bytes ≡ Err f)
+pub ReadGives-error : (bytes : List ℕ) (e : SyntaxError) → IfFault e (λ f. IsFirstFault OfFile bytes f)
     → ReadGives bytes (Err (text_error e))
 ReadGives-error bytes syntax_errors.Memory h = tt
-ReadGives-error bytes (syntax_errors.Fault f) h = ap fault_in h
+ReadGives-error bytes (syntax_errors.Fault f) h = ap fault_in (reading-only_fault bytes f h)
 
 -- what the statements give is what reading the bytes gives
 pub ReadGives-statements : (bytes : List ℕ) (ss : List Statement) (r : Result code.File TextError) → IsSyntaxOf bytes ss

@@ -82,3 +82,21 @@ is_sign-IsInfixSign sign h short =
     (and_from (leb 1 (length sign)) (leb (length sign) 4) (some-item sign h.is_sign.some) (search (rules, short)))
     (not_arrow sign h.no_arrow))
     (all-implied tokens.is_sign_byte is_sign_byte (λ _ e. e) sign h.is_sign.bytes)
+
+-- and the spelling of a sign is one
+pub IsInfixSign-is_sign : (sign : List ℕ) → is_sign sign ≡ true → IsInfixSign sign
+IsInfixSign-is_sign sign h =
+    let length_fits = leb 1 (length sign) && leb (length sign) 4 in
+    let p = and_parts (length_fits && not (is_arrow sign)) (list_all is_sign_byte sign) h in
+    let q = and_parts length_fits (not (is_arrow sign)) p.0 in
+    let r = and_parts (leb 1 (length sign)) (leb (length sign) 4) q.0 in
+    record {
+      is_sign = record {
+        some = some-bytes sign r.0;
+        bytes = all-implied is_sign_byte tokens.is_sign_byte (λ _ e. e) sign p.1;
+      };
+      no_arrow = λ e. arrow-not sign e q.1;
+    }
+  where
+    arrow-not : (sign : List ℕ) → sign ≡ codes "->" → not (is_arrow sign) ≡ true → ⊥
+    arrow-not sign e k = let arrow = (bytes_eq-Decides sign (codes "->")).1 e in cc

@@ -6,7 +6,9 @@ use Rattle.mp_term.specs.Normal.{normal}
 use Rattle.mp_pattern.specs.PatternTree as pattern
 use Rattle.mp_syntax.specs.declared.place.Place.{Place}
 use Rattle.mp_syntax.specs.declared.fault.Fault.{Fault}
-use Rattle.mp_syntax.specs.Syntax.{Tree, Symbol, Apply, InfixOf, Wild, Variable, IsExprOf, Optional}
+use Rattle.mp_syntax.specs.Syntax.{Tree, Symbol, Apply, InfixOf, Wild, Optional, Counted, Variable, IsExprOf}
+use Rattle.mp_syntax.specs.Begins.{OfExpr}
+use Rattle.mp_syntax.specs.Begins as begins
 use Rattle.mp_text.specs.declared.fault.TextKind.TheVariants.{TooMany}
 use Rattle.mp_text.specs.declared.fault.TextFault.{TextFault}
 use Rattle.mp_text.specs.declared.fault.TextError.{TextError}
@@ -14,7 +16,7 @@ use Rattle.mp_text.specs.declared.fault.TextError.TheVariants.{Text, Memory}
 use Rattle.mp_text.specs.Answers.{first, Gives}
 use Rattle.mp_text.specs.Build.{term_of, pattern_of}
 use Rattle.mp_text.specs.Checks.{fault_if, is_large_term, is_large_pattern, term_faults, whole_pattern_faults}
-use Rattle.mp_text.specs.Reading.{unread_fault}
+use Rattle.mp_text.specs.Reading.{syntax_fault, HasSyntaxFault}
 
 -- ---- faults
 
@@ -25,6 +27,7 @@ start (Apply f args) = f.place
 start (InfixOf opened sign operands) = opened
 start (Wild w) = w.place
 start (Optional w others default) = w.place
+start (Counted w count more) = w.place
 start (Variable x) = x.place
 
 -- the faults of a term alone: it is too large, at its first token; and its faults by token
@@ -57,32 +60,34 @@ IsTermOf sig = IsValueOf IsExprOf (term_alone_faults sig) (normal_term_of sig)
 abbrev pub IsPatternOf : Sig → List ℕ → pattern.Pattern → Type 0
 IsPatternOf sig = IsValueOf IsExprOf (pattern_alone_faults sig) (pattern_of sig)
 
--- the fault of the bytes: the first of the syntax tree that they are, or Unread where they are none
-abbrev pub IsFaultBy : {S : Type 0} → (List ℕ → S → Type 0) → (S → List TextFault) → List ℕ → TextFault → Type 0
-IsFaultBy {S = S} IsSyntax faults bytes f = ((s : S) × IsSyntax bytes s × (first (faults s) ≡ Some f))
-    ⊎ (((s : S) → IsSyntax bytes s → ⊥) × (f ≡ unread_fault))
+-- the fault of the bytes as a text of this sort: the first that tokens and grammar have, or else the first of the
+-- syntax tree that they are
+abbrev pub IsFaultBy : {S : Type 0} → begins.Text → (List ℕ → S → Type 0) → (S → List TextFault) → List ℕ → TextFault
+    → Type 0
+IsFaultBy {S = S} sort IsSyntax faults bytes f = HasSyntaxFault sort bytes f
+    ⊎ ((s : S) × IsSyntax bytes s × (first (faults s) ≡ Some f))
 
 -- the bytes are no term, for this fault
 abbrev pub IsTermFaultOf : Sig → List ℕ → TextFault → Type 0
-IsTermFaultOf sig = IsFaultBy IsExprOf (term_alone_faults sig)
+IsTermFaultOf sig = IsFaultBy OfExpr IsExprOf (term_alone_faults sig)
 
 -- the bytes are no pattern, for this fault
 abbrev pub IsPatternFaultOf : Sig → List ℕ → TextFault → Type 0
-IsPatternFaultOf sig = IsFaultBy IsExprOf (pattern_alone_faults sig)
+IsPatternFaultOf sig = IsFaultBy OfExpr IsExprOf (pattern_alone_faults sig)
 
 -- ---- answers
 
--- the text isn't read, or memory ran out
-abbrev pub IsUnread : {T : Type 0} → Result T TextError → Type 0
-IsUnread (Ok v) = ⊥
-IsUnread (Err (Text f)) = f ≡ unread_fault
-IsUnread (Err Memory) = Unit {0}
+-- the fault of tokens or grammar is told, or memory ran out
+abbrev pub Tells : {T : Type 0} → Fault → Result T TextError → Type 0
+Tells f (Ok v) = ⊥
+Tells f (Err (Text t)) = t ≡ syntax_fault f
+Tells f (Err Memory) = Unit {0}
 
 -- what is answered to the syntax tree that is read, or to its fault
 abbrev pub Answers : {S T A : Type 0} → (S → List TextFault) → (S → A) → (T → A) → Result S Fault → Result T TextError
     → Type 0
 Answers faults value view (Ok s) r = Gives r (faults s) (λ v. view v ≡ value s)
-Answers faults value view (Err f) r = IsUnread r
+Answers faults value view (Err f) r = Tells f r
 
 -- a value of which the fact holds, or memory ran out
 abbrev pub IsValueOrMemory : {T : Type 0} → Result T TextError → (T → Type 0) → Type 0

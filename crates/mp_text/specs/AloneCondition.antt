@@ -5,6 +5,7 @@ use Rattle.mp_pattern.specs.CondTree as cond
 use Rattle.mp_syntax.specs.declared.place.Place.{Place}
 use Rattle.mp_syntax.specs.Tokens.{Placed, Tokens, first_place}
 use Rattle.mp_syntax.specs.Syntax.{Condition, IsConditionOf}
+use Rattle.mp_syntax.specs.Begins.{OfCondition}
 use Rattle.mp_text.specs.declared.fault.TextKind.TheVariants.{TooMany}
 use Rattle.mp_text.specs.declared.fault.TextFault.{TextFault}
 use Rattle.mp_text.specs.Checks.{fault_if}
@@ -41,4 +42,4 @@ IsCondOf sig scope = IsValueOf IsPlacedConditionOf (condition_alone_faults sig s
 
 -- the bytes are no condition, for this fault
 abbrev pub IsCondFaultOf : Sig → Scope → List ℕ → TextFault → Type 0
-IsCondFaultOf sig scope = IsFaultBy IsPlacedConditionOf (condition_alone_faults sig scope)
+IsCondFaultOf sig scope = IsFaultBy OfCondition IsPlacedConditionOf (condition_alone_faults sig scope)

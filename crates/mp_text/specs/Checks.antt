@@ -1,27 +1,31 @@
 -- The checks of expressions and declarations: all faults that they find, in the order in which they count.
-use Rattle.std.specs.Prelude.{ℕ, ◌+◌, Bool, false, ◌||◌, not, List, [], ◌∷◌, ◌++◌, length, map, flat_map, Option, Some}
-use Rattle.std.specs.Prelude.{None, is_some, is_none, option_and_then, slice_get, nat_le, nat_lt, if◌then◌else◌}
+use Rattle.std.specs.Prelude.{ℕ, ◌+◌, ◌==◌, Bool, false, ◌&&◌, ◌||◌, not, List, [], ◌∷◌, ◌++◌, length, map, flat_map}
+use Rattle.std.specs.Prelude.{Option, Some, None, is_some, is_none, option_and_then, slice_get, nat_le, nat_lt}
+use Rattle.std.specs.Prelude.{if◌then◌else◌}
 use Rattle.std.specs.List.{list_any}
 use Rattle.mp_term.specs.declared.signature.OpDecl.{OpDecl}
 use Rattle.mp_term.specs.declared.limits.TheConstants.{MAX_ARITY, MAX_OPS, MAX_KINDS, MAX_KIND_SYMBOLS}
 use Rattle.mp_term.specs.Signature.{Sig, allows, in_order, has_sign, kind_names}
 use Rattle.mp_pattern.specs.declared.limits.TheConstants.{MAX_PATTERN_NODES, MAX_DEFAULT_NODES, MAX_VARIABLES}
-use Rattle.mp_pattern.specs.declared.limits.TheConstants.{MAX_OPERAND_NODES, MAX_TERM_NODES}
+use Rattle.mp_pattern.specs.declared.limits.TheConstants.{MAX_OPERAND_NODES, MAX_TERM_NODES, MAX_COUNT}
 use Rattle.mp_pattern.specs.PatternTree.{is_loose}
 use Rattle.mp_pattern.specs.SoundRule.{allows_patterns}
 use Rattle.mp_syntax.specs.declared.place.Place.{Place}
-use Rattle.mp_syntax.specs.Syntax.{Spot, Wildcard, Tree, Symbol, Apply, InfixOf, Wild, Variable, Trees, no_trees}
-use Rattle.mp_syntax.specs.Syntax.{more_trees, tree_list, Flag, Statement, OpOf, KindOf, RuleOf, SubjectOf, Optional}
+use Rattle.mp_syntax.specs.Syntax.{Spot, Wildcard, Tree, Symbol, Apply, InfixOf, Wild, Optional, Counted, Variable}
+use Rattle.mp_syntax.specs.Syntax.{Trees, no_trees, more_trees, tree_list, Flag, Statement, OpOf, KindOf, RuleOf}
+use Rattle.mp_syntax.specs.Syntax.{SubjectOf, EditOf}
 use Rattle.mp_text.specs.declared.fault.TextKind.{TextKind}
 use Rattle.mp_text.specs.declared.fault.TextKind.TheVariants.{DuplicateName, TooMany, BadFlags, UnknownOp}
 use Rattle.mp_text.specs.declared.fault.TextKind.TheVariants.{BareOperation, UnknownKind, Arity, KindClash}
-use Rattle.mp_text.specs.declared.fault.TextKind.TheVariants.{LooseSequence, WildcardInTerm}
+use Rattle.mp_text.specs.declared.fault.TextKind.TheVariants.{LooseSequence, WildcardInTerm, BadCount}
 use Rattle.mp_text.specs.declared.fault.TextFault.{TextFault}
-use Rattle.mp_text.specs.Names.{is_among, number_of, variable_names}
+use Rattle.mp_text.specs.Names.{is_among, number_of}
 use Rattle.mp_text.specs.Flags.{some_flag_twice, sign_spot, is_long_sign}
-use Rattle.mp_text.specs.Wildcards.{PatternWildcard, without_default, with_default_form, pattern_wildcards, differs}
-use Rattle.mp_text.specs.Build.{op_number, sign_number, kind_number, marked_shape, pattern_of, op_decl, op_decls}
-use Rattle.mp_text.specs.Build.{sig_with}
+use Rattle.mp_text.specs.Scope.{variable_names}
+use Rattle.mp_text.specs.Wildcards.{PatternWildcard, without_default, with_count, with_default_form, pattern_wildcards}
+use Rattle.mp_text.specs.Wildcards.{differs}
+use Rattle.mp_text.specs.Build.{op_number, sign_number, kind_number, marked_shape, count_of, counted_shape, pattern_of}
+use Rattle.mp_text.specs.Build.{op_decl, op_decls, sig_with}
 
 -- ---- faults
 
@@ -43,6 +47,7 @@ abbrev mutual
   nodes (InfixOf opened sign operands) = all_nodes operands + 1
   nodes (Wild w) = 1
   nodes (Optional w others default) = 1
+  nodes (Counted w count more) = 1
   nodes (Variable x) = 1
 
   pub all_nodes : Trees → ℕ
@@ -57,6 +62,7 @@ abbrev mutual
   has_large_default (InfixOf opened sign operands) = some_large_default operands
   has_large_default (Wild w) = false
   has_large_default (Optional w others default) = nat_lt MAX_DEFAULT_NODES (nodes default) || has_large_default default
+  has_large_default (Counted w count more) = false
   has_large_default (Variable x) = false
 
   pub some_large_default : Trees → Bool
@@ -78,10 +84,16 @@ is_large_term t = nat_lt MAX_TERM_NODES (nodes t) || has_large_default t
 
 -- ---- wildcards
 
--- the fault of a plus, star or optional wildcard that stands alone
+-- the faults of the count of a wildcard: it is above MAX_COUNT; it is 0 and no `+` stands behind it
+abbrev pub count_faults : Spot → Bool → List TextFault
+count_faults count more = fault_if (nat_lt MAX_COUNT (number_of count.text)) TooMany count.place
+    ++ fault_if ((number_of count.text == 0) && not more) BadCount count.place
+
+-- the fault of a plus, star, counted or optional wildcard that stands alone
 abbrev pub loose_faults : Tree → List TextFault
 loose_faults (Wild w) = fault_if (is_loose (marked_shape w.marks)) LooseSequence w.place
 loose_faults (Optional w others default) = fault_at LooseSequence w.place ∷ []
+loose_faults (Counted w count more) = fault_if (is_loose (counted_shape (count_of count) more)) LooseSequence w.place
 loose_faults _ = []
 
 -- ---- expressions
@@ -139,6 +151,7 @@ module _ (sig : Sig) where
         ++ term_operand_faults (sign_faults sign (op_signed sign.text)) operands
     term_faults (Wild w) = term_wildcard_faults w
     term_faults (Optional w others default) = flat_map term_wildcard_faults (w ∷ others) ++ term_faults default
+    term_faults (Counted w count more) = term_wildcard_faults w ++ count_faults count more
     term_faults (Variable x) = fault_at WildcardInTerm x.place ∷ []
 
     pub term_operand_faults : List TextFault → Trees → List TextFault
@@ -155,7 +168,7 @@ module _ (sig : Sig) where
   default_faults others default = flat_map term_wildcard_faults others ++ term_faults default
 
   -- the faults of a wildcard behind others: no kind has its kind's name; one of the others has its name, and another
-  -- class, kind or default
+  -- class, kind, count or default
   abbrev pub wildcard_faults : List PatternWildcard → PatternWildcard → List TextFault
   wildcard_faults before w = fault_if (kind_unknown w.wildcard.kind) UnknownKind w.wildcard.place
       ++ fault_if (list_any (differs w) before) KindClash w.wildcard.place
@@ -176,6 +189,8 @@ module _ (sig : Sig) where
     pattern_faults before (Wild w) = wildcard_faults before (without_default w)
     pattern_faults before (Optional w others default) =
         wildcard_faults before (with_default_form sig w others default) ++ default_faults others default
+    pattern_faults before (Counted w count more) =
+        wildcard_faults before (with_count w count more) ++ count_faults count more
     pattern_faults before (Variable x) = fault_at WildcardInTerm x.place ∷ []
 
     pub pattern_operand_faults : List PatternWildcard → List TextFault → Trees → List TextFault
@@ -188,8 +203,8 @@ module _ (sig : Sig) where
     all_pattern_faults before (more_trees t ts) =
         pattern_faults before t ++ all_pattern_faults (before ++ pattern_wildcards sig t) ts
 
-  -- The faults of a whole pattern, which is no plus, star or optional wildcard. One that is has no other fault at its
-  -- token: it has no kind, and stands behind no other.
+  -- The faults of a whole pattern, which is no plus, star, counted or optional wildcard. One that is has no other fault
+  -- at its token: it has no kind, and stands behind no other.
   abbrev pub whole_pattern_faults : Tree → List TextFault
   whole_pattern_faults p = loose_faults p ++ pattern_faults [] p
 
@@ -230,15 +245,17 @@ kind_faults sig name members = name_faults MAX_KINDS (kind_names sig) (nat_lt MA
 abbrev pub op_statement_faults : List Statement → Statement → List TextFault
 op_statement_faults earlier (OpOf name least more flags) = op_faults (op_decls earlier) name least more flags
 op_statement_faults earlier (KindOf name members) = []
-op_statement_faults earlier (RuleOf name p c) = []
+op_statement_faults earlier (RuleOf name p x c) = []
 op_statement_faults earlier (SubjectOf name t) = []
+op_statement_faults earlier (EditOf subject changes) = []
 
 -- the faults of a statement that declares a kind, over the operations of the file and behind earlier statements
 abbrev pub kind_statement_faults : List OpDecl → List Statement → Statement → List TextFault
 kind_statement_faults ds earlier (OpOf name least more flags) = []
 kind_statement_faults ds earlier (KindOf name members) = kind_faults (sig_with ds earlier) name members
-kind_statement_faults ds earlier (RuleOf name p c) = []
+kind_statement_faults ds earlier (RuleOf name p x c) = []
 kind_statement_faults ds earlier (SubjectOf name t) = []
+kind_statement_faults ds earlier (EditOf subject changes) = []
 
 -- the faults of each statement behind the earlier ones, by a rule for one
 abbrev pub faults_by : (List Statement → Statement → List TextFault) → List Statement → List Statement → List TextFault

@@ -13,7 +13,7 @@ use Rattle.mp_text.specs.File.{FileTree, file_tree}
 use Rattle.mp_text.specs.FileBuild.{file_tree_of}
 use Rattle.mp_text.specs.FileChecks.{faults}
 use Rattle.mp_text.specs.Answers.{first}
-use Rattle.mp_text.specs.Reading.{IsFileOf, unread_fault}
+use Rattle.mp_text.specs.Reading.{IsFileOf, syntax_fault}
 use Rattle.mp_text.specs.AloneCondition.{PlacedCondition}
 
 -- the file, where there is no fault
@@ -32,7 +32,7 @@ file_of bytes = option_and_then checked_file (syntax_of bytes)
 -- the fault of what was read
 abbrev pub fault_in : Result (List Statement) Fault → Option TextFault
 fault_in (Ok ss) = first (faults ss)
-fault_in (Err f) = Some unread_fault
+fault_in (Err f) = Some (syntax_fault f)
 
 -- the fault of the bytes, where they have one
 abbrev pub fault_of : List ℕ → Option TextFault

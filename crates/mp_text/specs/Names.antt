@@ -1,9 +1,8 @@
 -- The names and numbers that the statements of a file give.
-use Rattle.std.specs.Prelude.{ℕ, ◌+◌, ◌-◌, ◌*◌, Bool, false, List, [], ◌∷◌, ◌++◌, flat_map}
+use Rattle.std.specs.Prelude.{ℕ, ◌+◌, ◌-◌, ◌*◌, Bool, false, List, [], ◌∷◌}
 use Rattle.std.specs.Str.{bytes_eq}
-use Rattle.mp_pattern.specs.Firsts.{is_known, firsts_after}
-use Rattle.mp_syntax.specs.Syntax.{Wildcard, Tree, Symbol, Apply, InfixOf, Wild, Variable, Trees, no_trees, more_trees}
-use Rattle.mp_syntax.specs.Syntax.{Statement, OpOf, KindOf, RuleOf, SubjectOf, Optional}
+use Rattle.mp_pattern.specs.Firsts.{is_known}
+use Rattle.mp_syntax.specs.Syntax.{Statement, OpOf, KindOf, RuleOf, SubjectOf, EditOf}
 
 -- the name is one of these
 abbrev pub is_among : List ℕ → List (List ℕ) → Bool
@@ -14,16 +13,18 @@ abbrev pub rule_names : List Statement → List (List ℕ)
 rule_names [] = []
 rule_names (OpOf name least more flags ∷ ss) = rule_names ss
 rule_names (KindOf name members ∷ ss) = rule_names ss
-rule_names (RuleOf name p c ∷ ss) = name.text ∷ rule_names ss
+rule_names (RuleOf name p x c ∷ ss) = name.text ∷ rule_names ss
 rule_names (SubjectOf name t ∷ ss) = rule_names ss
+rule_names (EditOf subject changes ∷ ss) = rule_names ss
 
 -- the names of the subjects, in order
 abbrev pub subject_names : List Statement → List (List ℕ)
 subject_names [] = []
 subject_names (OpOf name least more flags ∷ ss) = subject_names ss
 subject_names (KindOf name members ∷ ss) = subject_names ss
-subject_names (RuleOf name p c ∷ ss) = subject_names ss
+subject_names (RuleOf name p x c ∷ ss) = subject_names ss
 subject_names (SubjectOf name t ∷ ss) = name.text ∷ subject_names ss
+subject_names (EditOf subject changes ∷ ss) = subject_names ss
 
 -- the number that further decimal digits make of a number
 abbrev pub number_after : ℕ → List ℕ → ℕ
@@ -43,25 +44,3 @@ named (byte ∷ bytes) = (byte ∷ bytes) ∷ []
 abbrev pub is_same_variable : List ℕ → List ℕ → Bool
 is_same_variable [] y = false
 is_same_variable (byte ∷ bytes) y = bytes_eq (byte ∷ bytes) y
-
--- the wildcards of a pattern, in order; those within defaults aren't among them
-abbrev mutual
-  pub wildcards : Tree → List Wildcard
-  wildcards (Symbol w) = []
-  wildcards (Apply f args) = all_wildcards args
-  wildcards (InfixOf opened sign operands) = all_wildcards operands
-  wildcards (Wild w) = w ∷ []
-  wildcards (Optional w others default) = w ∷ []
-  wildcards (Variable x) = []
-
-  pub all_wildcards : Trees → List Wildcard
-  all_wildcards no_trees = []
-  all_wildcards (more_trees t ts) = wildcards t ++ all_wildcards ts
-
--- the names of wildcards, in order
-abbrev pub names_of : List Wildcard → List (List ℕ)
-names_of ws = flat_map (λ w. named w.name) ws
-
--- the variables of a pattern, each once, at its first place
-abbrev pub variable_names : Tree → List (List ℕ)
-variable_names p = firsts_after bytes_eq [] (names_of (wildcards p))

@@ -4,6 +4,7 @@ use Rattle.mp_syntax.specs.View.{wildcard_of}
 use Rattle.mp_text.specs.declared.wildcard.DefaultForm as code
 use Rattle.mp_text.specs.declared.wildcard.DefaultForm.TheVariants as forms
 use Rattle.mp_text.specs.declared.wildcard.PatternWildcard as code_wildcard
+use Rattle.mp_text.specs.ScopeView.{extent_view}
 use Rattle.mp_text.specs.Wildcards.{DefaultForm, absent, normal_form, unknown, PatternWildcard}
 
 -- the default as plain data
@@ -14,4 +15,5 @@ default_view forms.Unknown = unknown
 
 -- the wildcard as plain data
 abbrev pub wildcard_view : code_wildcard.PatternWildcard → PatternWildcard
-wildcard_view w = record { wildcard = wildcard_of w.wildcard; default = default_view w.default }
+wildcard_view w =
+    record { wildcard = wildcard_of w.wildcard; extent = extent_view w.extent; default = default_view w.default }

@@ -28,10 +28,9 @@ use std::alloc::Global;
 /// The text is a term exactly where its tokens spell an expression (`IsExprOf` of mp_syntax's `specs/Syntax.antt`) in
 /// which no check finds a fault (`term_alone_faults` of `specs/Alone.antt`). It has fewer than 4,294,967,295 bytes.
 ///
-/// - `Text`: the text has this fault, by `IsTermFaultOf` of `specs/Alone.antt`: where it is an expression, the first
-///   that the checks find, with its line and column, from 1; a term of more than 100,000 nodes, or with a default of
-///   more than 64, has the fault `TooMany` at its first token. Where it is no expression, the fault is `Unread` at line
-///   1, column 1.
+/// - `Text`: the text has this fault, by `IsTermFaultOf` of `specs/Alone.antt`, with its line and column, from 1: the
+///   first that its tokens or the grammar have, and where it is an expression, the first that the checks find. A term
+///   of more than 100,000 nodes, or with a default of more than 64, has the fault `TooMany` at its first token.
 /// - `Memory`: memory ran out.
 ///
 /// After an error nothing is kept.
@@ -57,10 +56,10 @@ pub fn read_term(alloc: Global, sig: &Signature, bytes: &[u8]) -> Result<Term, T
 /// in which no check finds a fault (`pattern_alone_faults` of `specs/Alone.antt`). It has fewer than 4,294,967,295
 /// bytes.
 ///
-/// - `Text`: the text has this fault, by `IsPatternFaultOf` of `specs/Alone.antt`: where it is an expression, the first
-///   that the checks find, with its line and column, from 1; a pattern of more than 64 nodes or 32 variables, or with a
-///   default of more than 64 nodes, has the fault `TooMany` at its first token. Where it is no expression, the fault is
-///   `Unread` at line 1, column 1.
+/// - `Text`: the text has this fault, by `IsPatternFaultOf` of `specs/Alone.antt`, with its line and column, from 1:
+///   the first that its tokens or the grammar have, and where it is an expression, the first that the checks find. A
+///   pattern of more than 128 nodes or 32 variables, or with a default of more than 64 nodes, has the fault `TooMany`
+///   at its first token.
 /// - `Memory`: memory ran out.
 ///
 /// After an error nothing is kept.
@@ -131,6 +130,7 @@ fn start(expr: &Expr<'_>) -> Place
         Expr::Infix { open: place, .. } => *place,
         Expr::Wild(wild) => wild.place,
         Expr::Optional { wildcard, .. } => wildcard.place,
+        Expr::Counted { wildcard, .. } => wildcard.place,
         Expr::Variable(name) => name.place,
     }
 }

@@ -9,8 +9,7 @@ ghost use Rattle.mp_pattern.specs.View.{pattern_tree, wildcard};
 ghost use Rattle.mp_syntax.specs.Syntax.{trees, InfixOf};
 ghost use Rattle.mp_syntax.specs.View.{spot_of, wildcard_of, expr_tree, spot_of_sign};
 ghost use Rattle.mp_text.specs.Answers.{Gives, Fails};
-ghost use Rattle.mp_text.specs.Build.{op_number, sign_number, head_number, marked_shape, shape_of, variable_of};
-ghost use Rattle.mp_text.specs.Build.{term_of, pattern_of};
+ghost use Rattle.mp_text.specs.Build.{kind_shape, variable_of, term_of, pattern_of};
 ghost use Rattle.mp_text.specs.Wildcards.{pattern_wildcards, all_pattern_wildcards};
 ghost use Rattle.mp_text.specs.WildcardView.{wildcard_view};
 ghost use Rattle.mp_text.specs.Checks.{fault_if, kind_unknown, term_wildcard_faults, loose_faults};
@@ -18,12 +17,13 @@ ghost use Rattle.mp_text.specs.Checks.{whole_pattern_faults, op_named, op_signed
 ghost use Rattle.mp_text.specs.Checks.{arity_faults, sign_faults, term_faults, term_operand_faults, all_term_faults};
 ghost use Rattle.mp_text.specs.Checks.{pattern_faults, pattern_operand_faults, all_pattern_faults};
 
-use crate::checks::allows_patterns;
+use crate::arguments::{Arguments, head_op, sign_op};
+use crate::extent::{count_of, counted_shape, marked_shape};
 use crate::fault::{TextError, TextKind, error_at};
-use crate::wildcard::{PatternWildcard, build_optional, build_wildcard};
+use crate::wildcard::{PatternWildcard, build_counted, build_optional, build_wildcard};
 use mp_pattern::{Pattern, Patterns, Shape};
 use mp_syntax::{Expr, InfixSign, Place, Wildcard, Word};
-use mp_term::{Name, NameFault, OpDecl, OpId, Signature, Term, Terms};
+use mp_term::{Name, NameFault, Signature, Term, Terms};
 use std::alloc::Global;
 
 /// The name that a word is. `Memory` comes where there is no room for it.
@@ -37,26 +37,6 @@ pub fn new_name(alloc: Global, word: Word<'_>) -> Result<Name, TextError>
     }
 }
 
-/// The number and the declaration of the first operation of that name.
-fn find_decl<'a>(sig: &'a Signature, name: &[u8]) -> Option<(OpId, &'a OpDecl)>
-    ensures number { option_map (λ p. p.0.0) result ≡ op_number sig.now name.now }
-    ensures decl { option_map (λ p. p.1.now) result ≡ op_named sig.now name.now }
-{
-    let id = sig.find_op(name)?;
-    let decl = sig.op(id)?;
-    Some((id, decl))
-}
-
-/// The number and the declaration of the first operation of that sign.
-fn find_sign_decl<'a>(sig: &'a Signature, sign: &[u8]) -> Option<(OpId, &'a OpDecl)>
-    ensures number { option_map (λ p. p.0.0) result ≡ sign_number sig.now sign.now }
-    ensures decl { option_map (λ p. p.1.now) result ≡ op_signed sig.now sign.now }
-{
-    let id = sig.find_sign(sign)?;
-    let decl = sig.op(id)?;
-    Some((id, decl))
-}
-
 /// The symbol of a word, which isn't the name of an operation.
 pub fn symbol(alloc: Global, sig: &Signature, word: Word<'_>) -> Result<Name, TextError>
     ensures { Gives result (symbol_faults sig.now (spot_of word.entry)) (λ n. n ≡ word.entry.text.now) }
@@ -65,85 +45,6 @@ pub fn symbol(alloc: Global, sig: &Signature, word: Word<'_>) -> Result<Name, Te
         return Err(error_at(TextKind::BareOperation, word.place));
     }
     new_name(alloc, word)
-}
-
-/// The operation that is applied to these terms.
-fn term_head(sig: &Signature, name: Word<'_>, args: &[Expr<'_>]) -> Result<OpId, TextError>
-    ensures { Gives result
-        (head_faults (allows (length args.now)) (spot_of name.entry) (op_named sig.now name.entry.text.now))
-        (λ id. id.0 ≡ head_number (op_number sig.now name.entry.text.now)) }
-{
-    match find_decl(sig, name.text) {
-        None => Err(error_at(TextKind::UnknownOp, name.place)),
-        Some((id, decl)) => {
-            if !decl.allows(args.len()) {
-                return Err(error_at(TextKind::Arity, name.place));
-            }
-            Ok(id)
-        }
-    }
-}
-
-/// The operation whose sign stands between terms, as many as the count; there is none where no operation has the sign.
-fn term_sign(
-    sig: &Signature,
-    place: Place,
-    sign: InfixSign<'_>,
-    count: usize,
-) -> Result<Option<OpId>, TextError>
-    ensures { Gives result (arity_faults (allows count) place (op_signed sig.now sign.entry.text.now))
-        (λ o. (option_map (λ id. id.0) o ≡ sign_number sig.now sign.entry.text.now)
-        × (is_some o ≡ is_some (op_signed sig.now sign.entry.text.now))) }
-{
-    match find_sign_decl(sig, sign.text) {
-        None => Ok(None),
-        Some((id, decl)) => {
-            if !decl.allows(count) {
-                return Err(error_at(TextKind::Arity, place));
-            }
-            Ok(Some(id))
-        }
-    }
-}
-
-/// The operation that is applied to these patterns.
-fn pattern_head(sig: &Signature, name: Word<'_>, args: &[Expr<'_>]) -> Result<OpId, TextError>
-    ensures { Gives result (head_faults (allows_patterns (map (pattern_of sig.now) (map expr_tree args.now)))
-        (spot_of name.entry) (op_named sig.now name.entry.text.now))
-        (λ id. id.0 ≡ head_number (op_number sig.now name.entry.text.now)) }
-{
-    match find_decl(sig, name.text) {
-        None => Err(error_at(TextKind::UnknownOp, name.place)),
-        Some((id, decl)) => {
-            if !allows_patterns(decl, args) {
-                return Err(error_at(TextKind::Arity, name.place));
-            }
-            Ok(id)
-        }
-    }
-}
-
-/// The operation whose sign stands between these patterns; there is none where no operation has the sign.
-fn pattern_sign(
-    sig: &Signature,
-    place: Place,
-    sign: InfixSign<'_>,
-    operands: &[Expr<'_>],
-) -> Result<Option<OpId>, TextError>
-    ensures { Gives result (arity_faults (allows_patterns (map (pattern_of sig.now) (map expr_tree operands.now))) place
-        (op_signed sig.now sign.entry.text.now))
-        (λ o. (option_map (λ id. id.0) o ≡ sign_number sig.now sign.entry.text.now)
-        × (is_some o ≡ is_some (op_signed sig.now sign.entry.text.now))) }
-{
-    match find_sign_decl(sig, sign.text) {
-        None => Ok(None),
-        Some((id, decl)) => {
-            if !allows_patterns(decl, operands) {
-                return Err(error_at(TextKind::Arity, place));
-            }
-            Ok(Some(id))
-        }
-    }
 }
 
 /// The term of an expression as it is written, or its first fault.
@@ -158,7 +59,7 @@ pub fn build_term(alloc: Global, sig: &Signature, expr: &Expr<'_>) -> Result<Ter
             Ok(Term::Sym(name))
         }
         Expr::Apply(name, args) => {
-            let op = term_head(sig, *name, args)?;
+            let op = head_op(sig, *name, Arguments::Terms(args))?;
             let terms = build_terms(alloc, sig, args)?;
             Ok(Term::App(op, terms))
         }
@@ -169,6 +70,7 @@ pub fn build_term(alloc: Global, sig: &Signature, expr: &Expr<'_>) -> Result<Ter
         } => infix_term(alloc, sig, *place, *sign, operands),
         Expr::Wild(wild) => Err(wildcard_in_term(sig, *wild)),
         Expr::Optional { wildcard, .. } => Err(wildcard_in_term(sig, *wildcard)),
+        Expr::Counted { wildcard, .. } => Err(wildcard_in_term(sig, *wildcard)),
         Expr::Variable(name) => Err(error_at(TextKind::WildcardInTerm, name.place)),
     }
 }
@@ -177,7 +79,7 @@ pub fn build_term(alloc: Global, sig: &Signature, expr: &Expr<'_>) -> Result<Ter
 pub fn wildcard_in_term(sig: &Signature, wild: Wildcard<'_>) -> TextError
     ensures { Fails result (term_wildcard_faults sig.now (wildcard_of wild.entry)) }
 {
-    match shape(sig, wild) {
+    match shape(sig, wild, Shape::Dot) {
         Ok(_) => error_at(TextKind::WildcardInTerm, wild.place),
         Err(error) => error,
     }
@@ -196,7 +98,7 @@ fn infix_term(
         (term_faults sig.now (InfixOf place (spot_of_sign sign.entry) (trees (map expr_tree operands.now))))
         (λ t. tree t ≡ term_of sig.now (InfixOf place (spot_of_sign sign.entry) (trees (map expr_tree operands.now)))) }
 {
-    match term_sign(sig, place, sign, operands.len())? {
+    match sign_op(sig, place, sign, Arguments::Terms(operands))? {
         None => Err(unknown_term_sign(alloc, sig, sign, operands)),
         Some(op) => {
             let terms = build_terms(alloc, sig, operands)?;
@@ -260,7 +162,7 @@ fn build_pattern<'a>(
             Ok(Pattern::Sym(name))
         }
         Expr::Apply(name, args) => {
-            let op = pattern_head(sig, *name, args)?;
+            let op = head_op(sig, *name, Arguments::Patterns(args))?;
             let patterns = build_patterns(alloc, sig, args, before)?;
             Ok(Pattern::App(op, patterns))
         }
@@ -275,6 +177,11 @@ fn build_pattern<'a>(
             others,
             default,
         } => build_optional(alloc, sig, *wildcard, others, default, before),
+        Expr::Counted {
+            wildcard,
+            count,
+            open: is_open,
+        } => build_counted(alloc, sig, *wildcard, *count, *is_open, before),
         Expr::Variable(name) => Err(error_at(TextKind::WildcardInTerm, name.place)),
     }
 }
@@ -298,7 +205,7 @@ fn infix_pattern<'a>(
         ≡ map wildcard_view before.old.items ++ all_pattern_wildcards sig.now
         (trees (map expr_tree operands.now)))) }
 {
-    match pattern_sign(sig, place, sign, operands)? {
+    match sign_op(sig, place, sign, Arguments::Patterns(operands))? {
         None => Err(unknown_pattern_sign(alloc, sig, sign, operands, before)),
         Some(op) => {
             let patterns = build_patterns(alloc, sig, operands, before)?;
@@ -350,30 +257,17 @@ fn build_patterns<'a>(
     Ok(patterns)
 }
 
-/// What a wildcard takes, where there is the kind that it names.
-pub fn shape(sig: &Signature, wild: Wildcard<'_>) -> Result<Shape, TextError>
+/// What a wildcard takes, where there is the kind that it names: without a kind this.
+pub fn shape(sig: &Signature, wild: Wildcard<'_>, plain: Shape) -> Result<Shape, TextError>
     ensures { Gives result (fault_if (kind_unknown sig.now wild.entry.kind.now) UnknownKind wild.entry.place)
-        (λ s. wildcard s ≡ shape_of sig.now (wildcard_of wild.entry)) }
+        (λ s. wildcard s ≡ kind_shape sig.now wild.entry.kind.now (wildcard plain)) }
 {
     if wild.kind.is_empty() {
-        return Ok(marked_shape(wild.marks));
+        return Ok(plain);
     }
     match sig.find_kind(wild.kind) {
         None => Err(error_at(TextKind::UnknownKind, wild.place)),
         Some(kind) => Ok(Shape::Kind(kind)),
-    }
-}
-
-/// What a wildcard without a kind takes, by its number of underscores.
-pub fn marked_shape(marks: usize) -> Shape
-    ensures { wildcard result ≡ marked_shape marks }
-{
-    if marks == 3 {
-        Shape::Star
-    } else if marks == 2 {
-        Shape::Plus
-    } else {
-        Shape::Dot
     }
 }
 
@@ -402,7 +296,7 @@ pub fn whole_pattern(alloc: Global, sig: &Signature, expr: &Expr<'_>) -> Result<
     build_pattern(alloc, sig, expr, &mut before)
 }
 
-/// A whole pattern is no plus, star or optional wildcard.
+/// A whole pattern is no plus, star, counted or optional wildcard.
 fn check_root(expr: &Expr<'_>) -> Result<(), TextError>
     ensures { Gives result (loose_faults (expr_tree expr.now)) (λ _. Unit {0}) }
 {
@@ -415,6 +309,16 @@ fn check_root(expr: &Expr<'_>) -> Result<(), TextError>
         }
         Expr::Optional { wildcard, .. } => {
             Err(error_at(TextKind::LooseSequence, wildcard.place))
+        }
+        Expr::Counted {
+            wildcard,
+            count,
+            open: is_open,
+        } => {
+            if counted_shape(count_of(*count), *is_open).is_loose() {
+                return Err(error_at(TextKind::LooseSequence, wildcard.place));
+            }
+            Ok(())
         }
         _ => Ok(()),
     }

@@ -11,10 +11,12 @@ ghost use Rattle.mp_pattern.specs.SoundRule.{pattern_least, pattern_most, allows
 ghost use Rattle.mp_text.specs.Build.{pattern_of};
 ghost use Rattle.mp_text.specs.Checks.{nodes, all_nodes, is_large_pattern, is_large_operand, is_large_term};
 ghost use Rattle.mp_text.specs.Checks.{has_large_default, some_large_default};
-ghost use Rattle.mp_text.specs.Names.{number_of, is_among, named, variable_names};
+ghost use Rattle.mp_text.specs.Names.{number_of, is_among, named};
+ghost use Rattle.mp_text.specs.Scope.{variable_names};
 ghost use Rattle.mp_text.specs.ScopeView.{variable_of};
+ghost use Rattle.mp_text.specs.TemplateChecks.{is_large_template};
 
-use crate::build::marked_shape;
+use crate::extent::{count_of, counted_shape, marked_shape};
 use crate::scope::{Variable, pattern_variables};
 use mp_pattern::{
     MAX_DEFAULT_NODES, MAX_NUMBER, MAX_OPERAND_NODES, MAX_PATTERN_NODES, MAX_TERM_NODES,
@@ -48,6 +50,7 @@ fn node_count(expr: &Expr<'_>) -> u64
         Expr::Infix { operands, .. } => 1_u64.saturating_add(node_counts(operands)),
         Expr::Wild(_) => 1,
         Expr::Optional { .. } => 1,
+        Expr::Counted { .. } => 1,
         Expr::Variable(_) => 1,
     }
 }
@@ -121,6 +124,7 @@ fn has_large_default(expr: &Expr<'_>) -> bool
         Expr::Optional { default, .. } => {
             node_count(default) > MAX_DEFAULT_NODES || has_large_default(default)
         }
+        Expr::Counted { .. } => false,
         Expr::Variable(_) => false,
     }
 }
@@ -150,6 +154,13 @@ pub fn is_large_pattern(alloc: Global, expr: &Expr<'_>) -> Result<bool, AllocErr
     Ok(count > MAX_VARIABLES || has_large_default(expr))
 }
 
+/// The template has more nodes than a template may have, or a default in it has more than a default may have.
+pub fn is_large_template(expr: &Expr<'_>) -> bool
+    ensures { result ≡ is_large_template (expr_tree expr.now) }
+{
+    node_count(expr) > u64::from(MAX_PATTERN_NODES) || has_large_default(expr)
+}
+
 /// The term has more nodes than a term may have, or a default in it has more than a default may have.
 pub fn is_large_term(expr: &Expr<'_>) -> bool
     ensures { result ≡ is_large_term (expr_tree expr.now) }
@@ -171,6 +182,11 @@ fn least(expr: &Expr<'_>) -> usize
     match expr {
         Expr::Wild(wild) if wild.kind.is_empty() => marked_shape(wild.marks).least(),
         Expr::Optional { .. } => 0,
+        Expr::Counted {
+            wildcard,
+            count,
+            open: is_open,
+        } if wildcard.kind.is_empty() => counted_shape(count_of(*count), *is_open).least(),
         _ => 1,
     }
 }
@@ -183,6 +199,11 @@ fn most(assoc: bool, expr: &Expr<'_>) -> Option<usize>
     match expr {
         Expr::Wild(wild) if wild.kind.is_empty() => marked_shape(wild.marks).most(assoc),
         Expr::Optional { .. } if assoc => None,
+        Expr::Counted {
+            wildcard,
+            count,
+            open: is_open,
+        } if wildcard.kind.is_empty() => counted_shape(count_of(*count), *is_open).most(assoc),
         _ => Some(1),
     }
 }

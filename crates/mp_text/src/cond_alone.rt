@@ -29,10 +29,10 @@ use std::alloc::Global;
 /// one (`IsConditionOf` of mp_syntax's `specs/Syntax.antt`) in which no check finds a fault (`condition_alone_faults`
 /// of `specs/AloneCondition.antt`). It has fewer than 4,294,967,295 bytes.
 ///
-/// - `Text`: the text has this fault, by `IsCondFaultOf` of `specs/AloneCondition.antt`: where it is a condition, the
-///   first that the checks find, with its line and column, from 1; a condition of more than 64 atoms, or with an
-///   operand of more than 64 nodes, has the fault `TooMany` at its first token. Where it is no condition, the fault is
-///   `Unread` at line 1, column 1.
+/// - `Text`: the text has this fault, by `IsCondFaultOf` of `specs/AloneCondition.antt`, with its line and column, from
+///   1: the first that its tokens or the grammar have, and where it is a condition, the first that the checks find. A
+///   condition of more than 64 atoms, or with an operand of more than 64 nodes, has the fault `TooMany` at its first
+///   token.
 /// - `Memory`: memory ran out.
 ///
 /// After an error nothing is kept.

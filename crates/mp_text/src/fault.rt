@@ -4,9 +4,9 @@ ghost use Rattle.std.specs.Prelude.{◌≡◌};
 ghost use Rattle.mp_text.specs.declared.fault.TextError.TheVariants.{Text};
 ghost use Rattle.mp_text.specs.declared.fault.TextError.TheVariants as errors;
 ghost use Rattle.mp_text.specs.Checks.{fault_at};
-ghost use Rattle.mp_text.specs.Reading.{text_error};
+ghost use Rattle.mp_text.specs.Reading.{syntax_kind, text_error};
 
-use mp_syntax::{Place, SyntaxError};
+use mp_syntax::{FaultKind, Place, SyntaxError};
 use mp_term::Memory;
 use std::alloc::{AllocError, AllocFailed};
 
@@ -15,44 +15,53 @@ use std::alloc::{AllocError, AllocFailed};
 /// The kinds stand in the order in which they count at one token.
 #[derive(Clone, Copy, Debug, PartialEq, Eq)]
 pub enum TextKind {
-    /// A byte begins no token.
+    /// The byte begins no token.
     BadByte,
-    /// The grammar has another token there, or the file ends too early.
+    /// The token: the tokens up to and including it are no beginning of a text; or it is the end of the text, which
+    /// comes too early.
     Syntax,
-    /// A bracket is opened while 100 are open.
+    /// The bracket: it is opened while 100 are open.
     TooDeep,
-    /// An earlier statement of the same sort has the name.
+    /// The name of a statement, or the sign of an operation: an earlier statement of the same sort has it. No kind is
+    /// called `num`.
     DuplicateName,
-    /// A limit on statements, nodes, variables, bytes or numbers is passed.
+    /// The token of a word of more than 64 bytes. A number: an arity or a count is above 1,000, or a number in a
+    /// condition above 1,000,000. The name of a statement, or the first token of an expression or a condition that
+    /// stands alone: there are as many statements of its sort as there may be, or one of its parts is larger than it
+    /// may be.
     TooMany,
-    /// The declaration of an operation isn't in order.
+    /// The name of an operation: its flags and its number of arguments don't go together, a flag stands twice, or its
+    /// sign has more than 4 bytes.
     BadFlags,
-    /// No operation has the name.
+    /// The name before a bracket, the first sign between operands, or the name in `head`: no operation has it.
     UnknownOp,
-    /// A symbol has the name of an operation.
+    /// The word of a symbol, or of a symbol of a kind: an operation has that name.
     BareOperation,
-    /// No kind has the name.
+    /// The wildcard, or the name in `kind`: no kind has that name.
     UnknownKind,
-    /// The operation doesn't allow the number of arguments.
+    /// The name before a bracket, or the bracket of operands with a sign between them: the operation doesn't allow the
+    /// number of arguments. The position of an edit: an operation doesn't allow the number of arguments behind it.
     Arity,
-    /// An earlier wildcard of the pattern has the same name and another class, kind or default.
+    /// The wildcard: an earlier one of the pattern has the same name and another class, kind, count or default.
     KindClash,
-    /// A wildcard that may take several terms stands alone.
+    /// The wildcard: a plus, star, counted or optional wildcard is the whole pattern. The `$`: a variable of a plus,
+    /// star or counted wildcard is the whole template.
     LooseSequence,
-    /// A wildcard or a variable stands in a term.
+    /// The wildcard or `$`: a wildcard stands outside a pattern or within a default, or a variable outside a template
+    /// and isn't a whole operand of a condition.
     WildcardInTerm,
-    /// The pattern has no variable of the name.
+    /// The `$` of a template or a condition: the pattern has no variable of the name.
     UnboundVariable,
-    /// A condition on one term has a variable that may stand for several.
+    /// The `$`: an operand of `less` is a variable of a plus, star or counted wildcard.
     ConditionKind,
-    /// No earlier subject has the name.
+    /// The name in an edit statement: no earlier subject has it.
     UnknownSubject,
-    /// The position of an edit names no subterm.
+    /// The position of an edit: it names no subterm.
     BadPosition,
-    /// Two positions of an edit statement overlap.
+    /// The position of an edit: it overlaps with an earlier one of the statement.
     Overlap,
-    /// The text isn't read in this version; it always stands at line 1, column 1.
-    Unread,
+    /// The count of a wildcard: it is 0 and no `+` stands behind it.
+    BadCount,
 }
 
 /// What is wrong with a rule file, and the place of the token where it is.
@@ -105,12 +114,20 @@ impl From<SyntaxError> for TextError {
     fn from(error: SyntaxError) -> TextError {
         match error {
             SyntaxError::Memory => TextError::Memory,
-            SyntaxError::Fault(_) => TextError::Text(TextFault {
-                kind: TextKind::Unread,
-                line: 1,
-                column: 1,
-            }),
+            SyntaxError::Fault(fault) => error_at(syntax_kind(fault.kind), fault.place),
         }
+    }
+}
+
+/// What tokens or grammar have against a token.
+fn syntax_kind(kind: FaultKind) -> TextKind
+    ensures { result ≡ syntax_kind kind }
+{
+    match kind {
+        FaultKind::BadByte => TextKind::BadByte,
+        FaultKind::TooMany => TextKind::TooMany,
+        FaultKind::Syntax => TextKind::Syntax,
+        FaultKind::TooDeep => TextKind::TooDeep,
     }
 }
 

@@ -1,10 +1,10 @@
 //! Reads rule files.
 
-ghost use Rattle.std.specs.Prelude.{◌≡◌, ◌<◌, ◌-◌, ◌^◌, ◌↔◌, ℕ, List, ◌++◌, ◌∷◌, [], length, map, Some, IfOk};
+ghost use Rattle.std.specs.Prelude.{◌≡◌, ◌≤◌, ◌<◌, ◌-◌, ◌^◌, ◌↔◌, ℕ, List, ◌++◌, ◌∷◌, [], length, map, Some, IfOk};
 ghost use Rattle.mp_term.specs.Signature.{Sig};
 ghost use Rattle.mp_syntax.specs.Syntax as syntax;
-ghost use Rattle.mp_syntax.specs.Syntax.{RuleOf, SubjectOf};
-ghost use Rattle.mp_syntax.specs.View.{spot_of, expr_tree, if_tree, statement_tree};
+ghost use Rattle.mp_syntax.specs.Syntax.{RuleOf, SubjectOf, EditOf};
+ghost use Rattle.mp_syntax.specs.View.{spot_of, expr_tree, arrow_tree, if_tree, change_tree, statement_tree};
 ghost use Rattle.mp_term.specs.Normal.{normal};
 ghost use Rattle.mp_term.specs.View.{tree};
 ghost use Rattle.mp_text.specs.declared.fault.TextFault as plain;
@@ -14,6 +14,7 @@ ghost use Rattle.mp_text.specs.FileBuild.{file_tree_of};
 ghost use Rattle.mp_text.specs.Draft.{IsDraftOf};
 ghost use Rattle.mp_text.specs.Checks.{term_faults, name_faults};
 ghost use Rattle.mp_text.specs.FileChecks.{statement_faults, faults};
+ghost use Rattle.mp_text.specs.Edits.{edit_statement_faults};
 ghost use Rattle.mp_text.specs.File.{FileTree, file_tree};
 ghost use Rattle.mp_text.specs.Sound.{IsSoundFile};
 ghost use Rattle.mp_text.specs.Reading.{IsFileOf, IsFaultOf, IfText, IsFileOrMemory, IsFaultOrMemory};
@@ -22,23 +23,25 @@ ghost use Rattle.mp_text.specs.Computed.{file_of, fault_of, ReadGives, IsCompute
 use crate::build::{build_term, new_name};
 use crate::checks::is_large_term;
 use crate::declare::{check_name, declare};
-use crate::fault::TextError;
-use crate::file::{EditSets, File, Subject, Subjects};
+use crate::edit::{build_edits, check_edits_on, is_large_edit};
+use crate::fault::{TextError, TextKind, error_at};
+use crate::file::{EditSet, EditSets, File, Subject, Subjects};
 use crate::rule::{build_rule, is_large_rule};
-use mp_pattern::{MAX_RULES, MAX_SUBJECTS, Rules};
-use mp_syntax::{Condition, Expr, Statement, Word, read_statements};
+use mp_pattern::{MAX_EDIT_STATEMENTS, MAX_RULES, MAX_SUBJECTS, Rules};
+use mp_syntax::{Change, Condition, Expr, Statement, Word, read_statements};
 use mp_term::{NameTable, Signature, Term, normalise};
 use std::alloc::Global;
 
-/// Reads a rule file: the operations, kinds, rules and subjects that its statements stand for.
+/// Reads a rule file: the operations, kinds, rules, subjects and edits that its statements stand for.
 ///
 /// The text is a file exactly where its tokens spell statements (`IsSyntaxOf` of mp_syntax's `specs/Syntax.antt`) in
 /// which no check finds a fault (`faults` of `specs/FileChecks.antt`); the file is then `file_tree_of` of
 /// `specs/FileBuild.antt`, its terms and patterns in normal form. Its rules are sound (`AreSoundRules` of mp_pattern's
 /// `specs/SoundRule.antt`) and so are its subjects.
 ///
-/// - `Text`: the text has this fault, by `IsFaultOf` of `specs/Reading.antt`: where it is statements, the first that
-///   the checks find, with its line and column, from 1; where it is no statements, `Unread` at line 1, column 1.
+/// - `Text`: the text has this fault, by `IsFaultOf` of `specs/Reading.antt`, with its line and column, from 1: the
+///   first that its tokens or the grammar have (`IsFirstFault` of mp_syntax's `specs/FirstFault.antt`), and where it is
+///   statements, the first that the checks find.
 /// - `Memory`: memory ran out.
 ///
 /// After an error nothing is kept.
@@ -125,23 +128,26 @@ fn add_statement_name(
 }
 
 /// Adds a rule, with its pattern in normal form.
-fn add_rule(
+fn add_rule<'a>(
     alloc: Global,
     draft: &mut Draft,
     name: Word<'_>,
-    pattern: &Expr<'_>,
+    pattern: &Expr<'a>,
+    template: &Option<Expr<'a>>,
     condition: &Option<Condition<'_>>,
 ) -> Result<(), TextError>
     ensures { (sig : Sig) (earlier : List syntax.Statement) → IsDraftOf sig earlier draft.old
         → Gives result
-        (statement_faults sig earlier (RuleOf (spot_of name.entry) (expr_tree pattern.now) (if_tree condition.now)))
+        (statement_faults sig earlier (RuleOf (spot_of name.entry) (expr_tree pattern.now) (arrow_tree template.now)
+        (if_tree condition.now)))
         (λ _. IsDraftOf sig
-        (earlier ++ RuleOf (spot_of name.entry) (expr_tree pattern.now) (if_tree condition.now) ∷ []) draft.new) }
+        (earlier ++ RuleOf (spot_of name.entry) (expr_tree pattern.now) (arrow_tree template.now)
+        (if_tree condition.now) ∷ []) draft.new) }
 {
-    let is_large = is_large_rule(alloc, pattern, condition)?;
+    let is_large = is_large_rule(alloc, pattern, template, condition)?;
     let count = draft.file.rules.len();
     add_statement_name(&mut draft.rule_names, name, count, MAX_RULES, is_large)?;
-    let rule = build_rule(alloc, &draft.file.sig, name, pattern, condition)?;
+    let rule = build_rule(alloc, &draft.file.sig, name, pattern, template, condition)?;
     draft.file.rules.push(rule)?;
     Ok(())
 }
@@ -172,12 +178,45 @@ fn add_subject(
     Ok(())
 }
 
+/// Adds the edits of a subject, with their new terms in normal form.
+fn add_edit(
+    alloc: Global,
+    draft: &mut Draft,
+    name: Word<'_>,
+    changes: &[Change<'_>],
+) -> Result<(), TextError>
+    requires { length draft.old.subject_names ≤ MAX_SUBJECTS }
+    ensures { (sig : Sig) (earlier : List syntax.Statement) → IsDraftOf sig earlier draft.old
+        → Gives result (edit_statement_faults sig earlier (spot_of name.entry) (map change_tree changes.now))
+        (λ _. IsDraftOf sig (earlier ++ EditOf (spot_of name.entry) (map change_tree changes.now) ∷ []) draft.new) }
+{
+    if draft.file.edits.len() >= MAX_EDIT_STATEMENTS || is_large_edit(changes) {
+        return Err(error_at(TextKind::TooMany, name.place));
+    }
+    let Some(number) = draft.subject_names.index_of(name.text) else {
+        return Err(error_at(TextKind::UnknownSubject, name.place));
+    };
+    let edits = build_edits(alloc, &draft.file.sig, changes)?;
+    check_edits_on(
+        &draft.file.sig,
+        draft.file.subjects.get(number),
+        changes,
+        &edits,
+    )?;
+    draft.file.edits.push(EditSet {
+        subject: number as u32,
+        edits,
+    })?;
+    Ok(())
+}
+
 /// Adds what a statement gives to the file.
 fn add_statement(
     alloc: Global,
     draft: &mut Draft,
     statement: &Statement<'_>,
 ) -> Result<(), TextError>
+    requires { length draft.old.subject_names ≤ MAX_SUBJECTS }
     ensures { (sig : Sig) (earlier : List syntax.Statement) → IsDraftOf sig earlier draft.old
         → Gives result (statement_faults sig earlier (statement_tree statement.now))
         (λ _. IsDraftOf sig (earlier ++ statement_tree statement.now ∷ []) draft.new) }
@@ -188,9 +227,11 @@ fn add_statement(
         Statement::Rule {
             name,
             pattern,
+            template,
             condition,
-        } => add_rule(alloc, draft, *name, pattern, condition),
+        } => add_rule(alloc, draft, *name, pattern, template, condition),
         Statement::Subject { name, term } => add_subject(alloc, draft, *name, term),
+        Statement::Edit { subject, changes } => add_edit(alloc, draft, *subject, changes),
     }
 }
 

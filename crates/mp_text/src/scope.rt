@@ -1,28 +1,27 @@
-//! The variables that a condition may name.
+//! The variables of a pattern, which a condition and a template may name.
 
 ghost use Rattle.std.specs.Prelude.{◌≡◌, [], ◌∷◌, ◌++◌, map, OnOk, IfOk, option_map, slice_get};
 ghost use Rattle.mp_pattern.specs.PlanView.{form};
 ghost use Rattle.mp_syntax.specs.Syntax.{trees};
-ghost use Rattle.mp_syntax.specs.View.{expr_tree, wildcard_of};
-ghost use Rattle.mp_text.specs.Names.{all_wildcards};
-ghost use Rattle.mp_text.specs.Scope.{wildcard_variable, pattern_variables, plan_variables, is_sequence_form, is_bound};
+ghost use Rattle.mp_syntax.specs.View.{expr_tree};
+ghost use Rattle.mp_text.specs.Scope.{pattern_variables, all_pattern_variables, plan_variables, form_extent, is_bound};
 ghost use Rattle.mp_text.specs.Scope.{is_bound_sequence};
-ghost use Rattle.mp_text.specs.ScopeView.{variable_of};
+ghost use Rattle.mp_text.specs.ScopeView.{extent_view, variable_of};
 
-use crate::build::marked_shape;
+use crate::extent::{Extent, count_of, counted_extent, marked_extent};
 use mp_pattern::{Form, Plan};
-use mp_syntax::{Expr, Wildcard};
+use mp_syntax::Expr;
 use std::alloc::{AllocError, Global};
 
-/// A variable that a condition may name.
+/// A variable of a pattern.
 ///
 /// As plain data it is a `Variable` of `specs/Scope.antt`, by `variable_of` of `specs/ScopeView.antt`.
 #[derive(Clone, Copy)]
 pub struct Variable<'a> {
-    /// The name; empty for a wildcard without one, which no condition names.
+    /// The name; empty for a wildcard without one, which nothing names.
     pub name: &'a [u8],
-    /// It may stand for several terms.
-    pub is_sequence: bool,
+    /// How many terms it stands for.
+    pub extent: Extent,
 }
 
 /// The variables that a condition may name.
@@ -46,8 +45,16 @@ fn add_variables<'a>(expr: &Expr<'a>, variables: &mut Vec<Variable<'a>>) -> Resu
         Expr::Symbol(_) => Ok(()),
         Expr::Apply(_, args) => add_all_variables(args, variables),
         Expr::Infix { operands, .. } => add_all_variables(operands, variables),
-        Expr::Wild(wild) => add_wildcard(*wild, variables),
-        Expr::Optional { wildcard, .. } => add_wildcard(*wildcard, variables),
+        Expr::Wild(wild) => add_variable(wild.name, marked_extent(wild.marks), variables),
+        Expr::Optional { wildcard, .. } => add_variable(wildcard.name, Extent::one(), variables),
+        Expr::Counted {
+            wildcard,
+            count,
+            open: is_open,
+        } => {
+            let extent = counted_extent(count_of(*count), *is_open);
+            add_variable(wildcard.name, extent, variables)
+        }
         Expr::Variable(_) => Ok(()),
     }
 }
@@ -59,8 +66,7 @@ fn add_all_variables<'a>(
     variables: &mut Vec<Variable<'a>>,
 ) -> Result<(), AllocError>
     ensures { OnOk result (map variable_of variables.new.items
-        ≡ map variable_of variables.old.items ++ map wildcard_variable
-        (all_wildcards (trees (map expr_tree exprs.now)))) }
+        ≡ map variable_of variables.old.items ++ all_pattern_variables (trees (map expr_tree exprs.now))) }
 {
     for expr in exprs {
         add_variables(expr, variables)?;
@@ -69,14 +75,15 @@ fn add_all_variables<'a>(
 }
 
 /// Adds the variable of a wildcard.
-fn add_wildcard<'a>(wild: Wildcard<'a>, variables: &mut Vec<Variable<'a>>) -> Result<(), AllocError>
+fn add_variable<'a>(
+    name: &'a [u8],
+    extent: Extent,
+    variables: &mut Vec<Variable<'a>>,
+) -> Result<(), AllocError>
     ensures { OnOk result (map variable_of variables.new.items
-        ≡ map variable_of variables.old.items ++ wildcard_variable (wildcard_of wild.entry) ∷ []) }
+        ≡ map variable_of variables.old.items ++ record { name = name.now; extent = extent_view extent } ∷ []) }
 {
-    variables.push(Variable {
-        name: wild.name,
-        is_sequence: marked_shape(wild.marks).is_sequence(),
-    })?;
+    variables.push(Variable { name, extent })?;
     Ok(())
 }
 
@@ -113,18 +120,18 @@ fn plan_variable(plan: &Plan, number: u32) -> Option<Variable<'_>>
     let form = plan.var_form(number)?;
     Some(Variable {
         name: name.bytes(),
-        is_sequence: is_sequence_form(form),
+        extent: form_extent(form),
     })
 }
 
-/// A value of the form may have several terms.
-fn is_sequence_form(kind: Form) -> bool
-    ensures { result ≡ is_sequence_form (form kind) }
+/// How many terms a value of the form has.
+fn form_extent(kind: Form) -> Extent
+    ensures { extent_view result ≡ form_extent (form kind) }
 {
     match kind {
-        Form::One => false,
-        Form::Seq => true,
-        Form::Bag => true,
+        Form::One => Extent::one(),
+        Form::Seq => Extent::any(),
+        Form::Bag => Extent::any(),
     }
 }
 
@@ -140,12 +147,12 @@ pub fn is_bound(variables: &[Variable<'_>], name: &[u8]) -> bool
     false
 }
 
-/// One of the variables has the name, and may stand for several terms.
+/// One of the variables has the name, and may stand for another number of terms than one.
 pub fn is_bound_sequence(variables: &[Variable<'_>], name: &[u8]) -> bool
     ensures { result ≡ is_bound_sequence (map variable_of variables.now) name.now }
 {
     for variable in variables {
-        if name == variable.name && variable.is_sequence {
+        if name == variable.name && variable.extent.is_many() {
             return true;
         }
     }

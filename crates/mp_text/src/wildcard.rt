@@ -6,19 +6,22 @@ ghost use Rattle.mp_term.specs.View.{tree};
 ghost use Rattle.mp_term.specs.Normal.{normal};
 ghost use Rattle.mp_pattern.specs.PatternTree.{optional, wild_pattern};
 ghost use Rattle.mp_pattern.specs.View.{pattern_tree, wildcard};
-ghost use Rattle.mp_syntax.specs.View.{wildcard_of, expr_tree};
+ghost use Rattle.mp_syntax.specs.View.{spot_of, wildcard_of, expr_tree};
 ghost use Rattle.mp_text.specs.Answers.{Gives};
-ghost use Rattle.mp_text.specs.Build.{shape_of, variable_of, term_of};
-ghost use Rattle.mp_text.specs.Wildcards.{default_form, without_default, with_default_form, same_default, same_class};
-ghost use Rattle.mp_text.specs.Wildcards.{differs};
+ghost use Rattle.mp_text.specs.Build.{kind_shape, shape_of, counted_shape_of, variable_of, term_of};
+ghost use Rattle.mp_text.specs.Wildcards.{default_form, without_default, with_count, with_default_form, same_default};
+ghost use Rattle.mp_text.specs.Wildcards.{same_class, differs};
 ghost use Rattle.mp_text.specs.WildcardView.{default_view, wildcard_view};
-ghost use Rattle.mp_text.specs.Checks.{wildcard_faults, default_faults};
+ghost use Rattle.mp_text.specs.Checks.{wildcard_faults, count_faults, default_faults};
 
 use crate::build::{build_term, shape, variable, wildcard_in_term};
+use crate::extent::{
+    Extent, check_count, count_of, counted_extent, counted_shape, marked_extent, marked_shape,
+};
 use crate::fault::{TextError, TextKind, error_at};
 use crate::written::written_term;
 use mp_pattern::{Pattern, Shape};
-use mp_syntax::{Expr, Wildcard};
+use mp_syntax::{Expr, Wildcard, Word};
 use mp_term::{Name, Signature, Term, normal_form, normalise};
 use std::alloc::Global;
 
@@ -42,6 +45,8 @@ pub enum DefaultForm {
 pub struct PatternWildcard<'a> {
     /// The wildcard.
     pub wildcard: Wildcard<'a>,
+    /// How many terms its variable stands for.
+    pub extent: Extent,
     /// Its default.
     pub default: DefaultForm,
 }
@@ -62,9 +67,42 @@ pub fn build_wildcard<'a>(
 {
     let wildcard = PatternWildcard {
         wildcard: wild,
+        extent: marked_extent(wild.marks),
         default: DefaultForm::Absent,
     };
-    let (shape, name) = add_wildcard(alloc, sig, wildcard, before)?;
+    let (shape, name) = add_wildcard(alloc, sig, wildcard, marked_shape(wild.marks), before)?;
+    Ok(Pattern::Wild(shape, name))
+}
+
+/// The pattern of a wildcard with a count behind these, or its first fault. The wildcard is added to them.
+pub fn build_counted<'a>(
+    alloc: Global,
+    sig: &Signature,
+    wild: Wildcard<'a>,
+    count: Word<'a>,
+    is_open: bool,
+    before: &mut Vec<PatternWildcard<'a>>,
+) -> Result<Pattern, TextError>
+    ensures { Gives result
+        (wildcard_faults sig.now (map wildcard_view before.old.items)
+        (with_count (wildcard_of wild.entry) (spot_of count.entry) is_open)
+        ++ count_faults (spot_of count.entry) is_open)
+        (λ p. (pattern_tree p
+        ≡ wild_pattern (counted_shape_of sig.now (wildcard_of wild.entry) (spot_of count.entry) is_open)
+        (variable_of wild.entry.name.now))
+        × (map wildcard_view before.new.items
+        ≡ map wildcard_view before.old.items ++ with_count (wildcard_of wild.entry) (spot_of count.entry) is_open
+        ∷ [])) }
+{
+    let number = count_of(count);
+    let wildcard = PatternWildcard {
+        wildcard: wild,
+        extent: counted_extent(number, is_open),
+        default: DefaultForm::Absent,
+    };
+    let plain = counted_shape(number, is_open);
+    let (shape, name) = add_wildcard(alloc, sig, wildcard, plain, before)?;
+    check_count(count, is_open)?;
     Ok(Pattern::Wild(shape, name))
 }
 
@@ -90,28 +128,30 @@ pub fn build_optional<'a>(
     let form = default_form(alloc, sig, others, default)?;
     let wildcard = PatternWildcard {
         wildcard: wild,
+        extent: Extent::one(),
         default: form,
     };
-    let (_, name) = add_wildcard(alloc, sig, wildcard, before)?;
+    let (_, name) = add_wildcard(alloc, sig, wildcard, Shape::Dot, before)?;
     let term = default_term(alloc, sig, others, default)?;
     Ok(Pattern::Wild(Shape::Opt(term), name))
 }
 
-/// What a wildcard behind these takes as its underscores and its kind say, and its variable; or its first fault. The
-/// wildcard is added to them.
+/// What a wildcard behind these takes, which is this without a kind, and its variable; or its first fault. The wildcard
+/// is added to them.
 fn add_wildcard<'a>(
     alloc: Global,
     sig: &Signature,
     new: PatternWildcard<'a>,
+    plain: Shape,
     before: &mut Vec<PatternWildcard<'a>>,
 ) -> Result<(Shape, Option<Name>), TextError>
     ensures { Gives result (wildcard_faults sig.now (map wildcard_view before.old.items) (wildcard_view new.entry))
-        (λ r. (wildcard r.0 ≡ shape_of sig.now (wildcard_of new.entry.wildcard))
+        (λ r. (wildcard r.0 ≡ kind_shape sig.now new.entry.wildcard.kind.now (wildcard plain))
         × (r.1 ≡ variable_of new.entry.wildcard.name.now)
         × (map wildcard_view before.new.items
         ≡ map wildcard_view before.old.items ++ wildcard_view new.entry ∷ [])) }
 {
-    let shape = shape(sig, new.wildcard)?;
+    let shape = shape(sig, new.wildcard, plain)?;
     if some_differs(&new, before) {
         return Err(error_at(TextKind::KindClash, new.wildcard.place));
     }
@@ -163,7 +203,7 @@ fn default_term(
     Ok(term)
 }
 
-/// One of the others has the name of the wildcard, and another class, kind or default.
+/// One of the others has the name of the wildcard, and another class, kind, count or default.
 fn some_differs(wild: &PatternWildcard<'_>, others: &[PatternWildcard<'_>]) -> bool
     ensures { result ≡ list_any (differs (wildcard_view wild.now)) (map wildcard_view others.now) }
 {
@@ -175,7 +215,7 @@ fn some_differs(wild: &PatternWildcard<'_>, others: &[PatternWildcard<'_>]) -> b
     false
 }
 
-/// The wildcards have one name, and aren't of one class, kind and default.
+/// The wildcards have one name, and aren't of one class, kind, count and default.
 fn differs(wild: &PatternWildcard<'_>, other: &PatternWildcard<'_>) -> bool
     ensures { result ≡ differs (wildcard_view wild.now) (wildcard_view other.now) }
 {
@@ -184,11 +224,11 @@ fn differs(wild: &PatternWildcard<'_>, other: &PatternWildcard<'_>) -> bool
     same_variable && !same_class(other, wild)
 }
 
-/// The wildcards have as many underscores, one kind and one default.
+/// The wildcards are of one class and count, one kind and one default.
 fn same_class(wild: &PatternWildcard<'_>, other: &PatternWildcard<'_>) -> bool
     ensures { result ≡ same_class (wildcard_view wild.now) (wildcard_view other.now) }
 {
-    wild.wildcard.marks == other.wildcard.marks
+    wild.extent == other.extent
         && wild.wildcard.kind == other.wildcard.kind
         && same_default(&wild.default, &other.default)
 }

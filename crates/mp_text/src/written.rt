@@ -40,6 +40,7 @@ pub fn written_term(
         },
         Expr::Wild(_) => Ok(None),
         Expr::Optional { .. } => Ok(None),
+        Expr::Counted { .. } => Ok(None),
         Expr::Variable(_) => Ok(None),
     }
 }

@@ -1,5 +1,6 @@
 use Rattle.std.proofs.lemmas.Result.{err_from_is_err_and}
 use Rattle.mp_term.specs.View.{tree}
+use Rattle.mp_syntax.specs.Begins.{OfExpr}
 use Rattle.mp_syntax.specs.Syntax.{IsExprOf}
 use Rattle.mp_syntax.specs.Reading.{expr_reading}
 use Rattle.mp_syntax.specs.View.{expr_tree}
@@ -10,10 +11,10 @@ use Rattle.mp_text.proofs.alone.term_of_text.Goals as goal
 pub returns-in_err-expr : goal.returns-in_err-expr
 returns-in_err-expr c =
     let p = err_from_is_err_and c.from_residual.result c.from_residual.ensures.1 in
-    rw (p.1, p.2) (answers-error (term_alone_faults c.args.sig.now) (normal_term_of c.args.sig.now) tree
-    (expr_reading c.args.bytes.now) c.in_err-expr.field-0.0 c.in_err-expr.ensures.fault)
+    rw (p.1, p.2) (answers-error OfExpr IsExprOf expr_reading IsReading-expr_reading (term_alone_faults c.args.sig.now)
+    (normal_term_of c.args.sig.now) tree c.args.bytes.now c.in_err-expr.field-0.0 c.in_err-expr.ensures.fault)
 
 pub returns : goal.returns
-returns c = answers-syntax IsExprOf expr_reading IsReading-expr_reading (term_alone_faults c.args.sig.now)
+returns c = answers-syntax OfExpr IsExprOf expr_reading IsReading-expr_reading (term_alone_faults c.args.sig.now)
     (normal_term_of c.args.sig.now) tree c.args.bytes.now c.term_alone.result
     (expr_tree c.in_ok-expr.expr) c.in_ok-expr.ensures.found c.term_alone.ensures

@@ -100,25 +100,25 @@ build_pattern-returns-in-Infix t c =
     (sym c.deref-in-Infix.ensures.value) in
     subst Q (sym same) c.infix_pattern.ensures
 
-pub infix_pattern-returns-in_err-pattern_sign : goal.infix_pattern-returns-in_err-pattern_sign
-infix_pattern-returns-in_err-pattern_sign t c =
+pub infix_pattern-returns-in_err-sign_op : goal.infix_pattern-returns-in_err-sign_op
+infix_pattern-returns-in_err-sign_op t c =
     let p = err_from_is_err_and c.from_residual.result c.from_residual.ensures.1 in
-    let e = c.in_err-pattern_sign.field-0.0 in
+    let e = c.in_err-sign_op.field-0.0 in
     rw (p.1, p.2)
     (fails-along e _ _
     (sym (pattern_faults-operands c.args.sig.now (map wildcard_view c.args.before.now.items) c.args.place
-    (spot_of_sign c.args.sign) c.args.operands.now)) (fails-front e _ _ c.in_err-pattern_sign.ensures))
+    (spot_of_sign c.args.sign) c.args.operands.now)) (fails-front e _ _ c.in_err-sign_op.ensures))
 
 pub infix_pattern-returns-in-None : goal.infix_pattern-returns-in-None
 infix_pattern-returns-in-None t c =
     let e = c.unknown_pattern_sign.result in
     let sig = c.args.sig.now in
     let sign = spot_of_sign c.args.sign in
-    let none = none-unknown (op_signed sig sign.text) (rw c.in-None.is at c.in_ok-pattern_sign.ensures.1.1) in
+    let none = none-unknown (op_signed sig sign.text) (rw c.in-None.is at c.in_ok-sign_op.ensures.1.1) in
     fails-along e _ _
     (sym (pattern_faults-operands sig (map wildcard_view c.args.before.now.items) c.args.place sign
     c.args.operands.now))
-    (fails-behind e _ _ c.in_ok-pattern_sign.ensures.0
+    (fails-behind e _ _ c.in_ok-sign_op.ensures.0
     (fails-along e _ _
     (ap (λ o. pattern_operand_faults sig (map wildcard_view c.args.before.now.items) (sign_faults sign o)
     (trees (map expr_tree c.args.operands.now))) (sym none)) c.unknown_pattern_sign.ensures))
@@ -134,11 +134,11 @@ infix_pattern-returns-in_err-patterns-in-Some t c =
     (fails-along e _ _
     (sym (pattern_faults-operands sig (map wildcard_view c.args.before.now.items) c.args.place sign
     c.args.operands.now))
-    (fails-behind e _ _ c.in_ok-pattern_sign.ensures.0
+    (fails-behind e _ _ c.in_ok-sign_op.ensures.0
     (fails-along e _ _
     (sym (pattern_operand_faults-known sig (map wildcard_view c.args.before.now.items) sign
     (op_signed sig sign.text) (trees (map expr_tree c.args.operands.now))
-    (rw c.in-Some.is at c.in_ok-pattern_sign.ensures.1.1))) c.in_err-patterns-in-Some.ensures)))
+    (rw c.in-Some.is at c.in_ok-sign_op.ensures.1.1))) c.in_err-patterns-in-Some.ensures)))
 
 pub infix_pattern-returns-in_ok-patterns-in-Some : goal.infix_pattern-returns-in_ok-patterns-in-Some
 infix_pattern-returns-in_ok-patterns-in-Some t c =
@@ -146,13 +146,13 @@ infix_pattern-returns-in_ok-patterns-in-Some t c =
     let sign = spot_of_sign c.args.sign in
     let ts = trees (map expr_tree c.args.operands.now) in (
       pattern_faults-operands sig (map wildcard_view c.args.before.now.items) c.args.place sign c.args.operands.now
-          ∙ none-append _ _ c.in_ok-pattern_sign.ensures.0
+          ∙ none-append _ _ c.in_ok-sign_op.ensures.0
           ∙ pattern_operand_faults-known sig (map wildcard_view c.args.before.now.items) sign
-          (op_signed sig sign.text) ts (rw c.in-Some.is at c.in_ok-pattern_sign.ensures.1.1)
+          (op_signed sig sign.text) ts (rw c.in-Some.is at c.in_ok-sign_op.ensures.1.1)
           ∙ c.in_ok-patterns-in-Some.ensures.0,
       (
         ap (λ n. pattern.app_pattern (head_number n) (pattern.patterns c.in_ok-patterns-in-Some.patterns))
-            (rw c.in-Some.is at c.in_ok-pattern_sign.ensures.1.0)
+            (rw c.in-Some.is at c.in_ok-sign_op.ensures.1.0)
             ∙ ap (λ l. pattern.app_pattern (head_number (sign_number sig sign.text)) (pattern.patterns l))
             c.in_ok-patterns-in-Some.ensures.1.0
             ∙ sym (pattern_of-operands sig c.args.place sign c.args.operands.now),

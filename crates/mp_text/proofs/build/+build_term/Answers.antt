@@ -76,23 +76,23 @@ build_term-returns-in-Infix t c =
     (sym c.deref-in-Infix.ensures.value) in
     subst Q (sym same) c.infix_term.ensures
 
-pub infix_term-returns-in_err-term_sign : goal.infix_term-returns-in_err-term_sign
-infix_term-returns-in_err-term_sign t c =
+pub infix_term-returns-in_err-sign_op : goal.infix_term-returns-in_err-sign_op
+infix_term-returns-in_err-sign_op t c =
     let p = err_from_is_err_and c.from_residual.result c.from_residual.ensures.1 in
-    let e = c.in_err-term_sign.field-0.0 in
+    let e = c.in_err-sign_op.field-0.0 in
     rw (p.1, p.2)
     (fails-along e _ _
     (sym (term_faults-operands c.args.sig.now c.args.place (spot_of_sign c.args.sign) c.args.operands.now))
-    (fails-front e _ _ c.in_err-term_sign.ensures))
+    (fails-front e _ _ c.in_err-sign_op.ensures))
 
 pub infix_term-returns-in-None : goal.infix_term-returns-in-None
 infix_term-returns-in-None t c =
     let e = c.unknown_term_sign.result in
     let sig = c.args.sig.now in
     let sign = spot_of_sign c.args.sign in
-    let none = none-unknown (op_signed sig sign.text) (rw c.in-None.is at c.in_ok-term_sign.ensures.1.1) in
+    let none = none-unknown (op_signed sig sign.text) (rw c.in-None.is at c.in_ok-sign_op.ensures.1.1) in
     fails-along e _ _ (sym (term_faults-operands sig c.args.place sign c.args.operands.now))
-    (fails-behind e _ _ c.in_ok-term_sign.ensures.0
+    (fails-behind e _ _ c.in_ok-sign_op.ensures.0
     (fails-along e _ _
     (ap (λ o. term_operand_faults sig (sign_faults sign o) (trees (map expr_tree c.args.operands.now))) (sym none))
     c.unknown_term_sign.ensures))
@@ -106,21 +106,21 @@ infix_term-returns-in_err-terms-in-Some t c =
     let sign = spot_of_sign c.args.sign in
     rw (p.1, p.2)
     (fails-along e _ _ (sym (term_faults-operands sig c.args.place sign c.args.operands.now))
-    (fails-behind e _ _ c.in_ok-term_sign.ensures.0
+    (fails-behind e _ _ c.in_ok-sign_op.ensures.0
     (fails-along e _ _
     (sym (term_operand_faults-known sig sign (op_signed sig sign.text) (trees (map expr_tree c.args.operands.now))
-    (rw c.in-Some.is at c.in_ok-term_sign.ensures.1.1))) c.in_err-terms-in-Some.ensures)))
+    (rw c.in-Some.is at c.in_ok-sign_op.ensures.1.1))) c.in_err-terms-in-Some.ensures)))
 
 pub infix_term-returns-in_ok-terms-in-Some : goal.infix_term-returns-in_ok-terms-in-Some
 infix_term-returns-in_ok-terms-in-Some t c =
     let sig = c.args.sig.now in
     let sign = spot_of_sign c.args.sign in
     let ts = trees (map expr_tree c.args.operands.now) in (
-      term_faults-operands sig c.args.place sign c.args.operands.now ∙ none-append _ _ c.in_ok-term_sign.ensures.0
+      term_faults-operands sig c.args.place sign c.args.operands.now ∙ none-append _ _ c.in_ok-sign_op.ensures.0
           ∙ term_operand_faults-known sig sign (op_signed sig sign.text) ts
-          (rw c.in-Some.is at c.in_ok-term_sign.ensures.1.1) ∙ c.in_ok-terms-in-Some.ensures.0,
+          (rw c.in-Some.is at c.in_ok-sign_op.ensures.1.1) ∙ c.in_ok-terms-in-Some.ensures.0,
       ap (λ n. term.app (head_number n) (term.trees c.in_ok-terms-in-Some.terms))
-          (rw c.in-Some.is at c.in_ok-term_sign.ensures.1.0)
+          (rw c.in-Some.is at c.in_ok-sign_op.ensures.1.0)
           ∙ ap (λ l. term.app (head_number (sign_number sig sign.text)) (term.trees l)) c.in_ok-terms-in-Some.ensures.1
           ∙ sym (term_of-operands sig c.args.place sign c.args.operands.now),
     )

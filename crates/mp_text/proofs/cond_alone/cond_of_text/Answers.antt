@@ -3,21 +3,24 @@ use Rattle.std.proofs.lemmas.Result.{err_from_is_err_and}
 use Rattle.mp_pattern.specs.CondView.{cond_tree}
 use Rattle.mp_syntax.specs.Lexing.{first_token_place}
 use Rattle.mp_syntax.specs.View.{condition_tree}
+use Rattle.mp_syntax.proofs.FirstPlace.{IsFirstPlace-is}
 use Rattle.mp_syntax.proofs.Whole.{condition_reading-only}
-use Rattle.mp_text.specs.AloneCondition.{condition_alone_faults, placed_cond_of}
+use Rattle.mp_syntax.specs.Begins.{OfCondition}
+use Rattle.mp_text.specs.AloneCondition.{IsPlacedConditionOf, condition_alone_faults, placed_cond_of}
 use Rattle.mp_text.specs.Alone.{Answers}
 use Rattle.mp_text.specs.Computed.{at_place, placed_reading}
 use Rattle.mp_text.specs.ScopeView.{scope_of}
-use Rattle.mp_text.proofs.AloneLaws.{answers-error, placed-fault}
+use Rattle.mp_text.proofs.AloneLaws.{answers-error}
+use Rattle.mp_text.proofs.FirstToken.{IsReading-placed_reading}
 use Rattle.mp_text.proofs.cond_alone.cond_of_text.Goals as goal
 
 pub returns-in_err-condition : goal.returns-in_err-condition
 returns-in_err-condition c =
     let p = err_from_is_err_and c.from_residual.result c.from_residual.ensures.1 in
     let e = c.in_err-condition.field-0.0 in
-    rw (p.1, p.2) (answers-error (condition_alone_faults c.args.sig.now (scope_of c.args.scope.now))
-    (placed_cond_of c.args.sig.now) cond_tree (placed_reading c.args.bytes.now) e
-    (placed-fault c.args.bytes.now e c.in_err-condition.ensures.fault))
+    rw (p.1, p.2) (answers-error OfCondition IsPlacedConditionOf placed_reading IsReading-placed_reading
+    (condition_alone_faults c.args.sig.now (scope_of c.args.scope.now)) (placed_cond_of c.args.sig.now) cond_tree
+    c.args.bytes.now e c.in_err-condition.ensures.fault)
 
 pub returns : goal.returns
 returns c =
@@ -26,4 +29,5 @@ returns c =
     subst (λ r. Answers faults (placed_cond_of c.args.sig.now) cond_tree
     (at_place (first_token_place c.args.bytes.now) r) c.cond_alone.result)
     (sym (condition_reading-only c.args.bytes.now tree c.in_ok-condition.ensures.found))
-    (rw c.first_token_place-start.ensures at c.cond_alone.ensures)
+    (rw (IsFirstPlace-is c.args.bytes.now c.first_token_place-start.result c.first_token_place-start.ensures) at
+    c.cond_alone.ensures)

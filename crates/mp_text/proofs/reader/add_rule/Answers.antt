@@ -1,6 +1,6 @@
 use Rattle.std.proofs.Common.{◌∙◌}
 use Rattle.std.proofs.lemmas.Result.{err_from_is_err_and}
-use Rattle.mp_syntax.specs.View.{spot_of, expr_tree, if_tree}
+use Rattle.mp_syntax.specs.View.{spot_of, expr_tree, arrow_tree, if_tree}
 use Rattle.mp_text.proofs.Fails.{fails-front, fails-behind, none-append}
 use Rattle.mp_text.proofs.Draft.{draft_sig, draft_rule_count, draft-rule}
 use Rattle.mp_text.proofs.reader.add_rule.Goals as goal
@@ -28,5 +28,6 @@ returns c = λ sig earlier d.
     let built = rw (draft_sig sig earlier c.args.draft.now d) at c.in_ok-rule.ensures in (
       none-append _ _ (rw (d.rules, c.in_ok-is_large.ensures) at named.0) ∙ built.0,
       draft-rule sig earlier c.args.draft.now d (spot_of c.args.name) (expr_tree c.args.pattern.now)
-          (if_tree c.args.condition.now) _ _ _ c.in_ok-push.ensures.ok built.1 named.1,
+          (arrow_tree c.args.template.now) (if_tree c.args.condition.now) _ _ _ c.in_ok-push.ensures.ok built.1
+          named.1,
     )

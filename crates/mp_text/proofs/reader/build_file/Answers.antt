@@ -1,4 +1,4 @@
-use Rattle.std.proofs.Common.{map, take, arith, refl, sym, ap, ◌∙◌}
+use Rattle.std.proofs.Common.{map, take, length, arith, refl, sym, ap, ◌∙◌}
 use Rattle.std.proofs.lemmas.Result.{err_from_is_err_and}
 use Rattle.mp_syntax.specs.View.{statement_tree}
 use Rattle.mp_text.specs.Build.{sig_of}
@@ -14,6 +14,7 @@ loop-statement-init c = record {
     file = rw (c.in_ok-sig.ensures.1, c.new.ensures, c.new-2.ensures, c.new-3.ensures) refl;
     rules = c.new-4.ensures;
     subjects = c.new-5.ensures;
+    few = omega (arith, ap length c.new-5.ensures);
   };
   faults = refl;
 }

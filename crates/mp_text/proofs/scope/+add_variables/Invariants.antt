@@ -2,16 +2,14 @@ use Rattle.std.proofs.Common.{◌≡◌, ◌+◌, ◌*◌, ◌++◌, drop, map}
 use Rattle.mp_syntax.specs.Syntax.{trees}
 use Rattle.mp_syntax.specs.View.{expr_tree}
 use Rattle.mp_text.specs.Checks.{nodes, all_nodes}
-use Rattle.mp_text.specs.Names.{all_wildcards}
-use Rattle.mp_text.specs.Scope.{wildcard_variable}
+use Rattle.mp_text.specs.Scope.{all_pattern_variables}
 use Rattle.mp_text.specs.ScopeView.{variable_of}
 use Rattle.mp_text.proofs.scope.+add_variables.Given as goal
 
 abbrev pub invariant-add_all_variables-loop-expr : goal.invariant-add_all_variables-loop-expr
 invariant-add_all_variables-loop-expr l =
-    map variable_of l.variables.items ++ map wildcard_variable
-    (all_wildcards (trees (map expr_tree (drop l.expr-index l.exprs))))
-    ≡ map variable_of l.fn.variables.items ++ map wildcard_variable (all_wildcards (trees (map expr_tree l.exprs)))
+    map variable_of l.variables.items ++ all_pattern_variables (trees (map expr_tree (drop l.expr-index l.exprs)))
+    ≡ map variable_of l.fn.variables.items ++ all_pattern_variables (trees (map expr_tree l.exprs))
 
 -- a list of expressions lies between the expression that holds it and its items
 abbrev pub decreases-add_variables : goal.decreases-add_variables
