@@ -1,0 +1,4 @@
+pub mod Spelled
+pub mod OpenBrackets
+pub mod Readable
+pub mod AloneTemplate

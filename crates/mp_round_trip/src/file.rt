@@ -1,0 +1,38 @@
+//! The laws of whole files: what is printed of a file is read again.
+
+ghost use Rattle.std.specs.Prelude.{◌≡◌, ℕ, List, map};
+ghost use Rattle.mp_syntax.specs.declared.limits.TheConstants.{MAX_OPEN};
+ghost use Rattle.mp_syntax.specs.Syntax.{Statement, IsSyntaxOf, AreStatements, StatementsHaveNames};
+ghost use Rattle.mp_syntax.specs.Printed.{unplaced};
+ghost use Rattle.mp_text.specs.File.{FileTree};
+ghost use Rattle.mp_text.specs.PrintedFile.{file_text};
+ghost use Rattle.mp_text.specs.Reading.{IsFileOf};
+ghost use Rattle.mp_round_trip.specs.Readable.{IsSpelledSignature};
+ghost use Rattle.mp_round_trip.specs.Spelled.{file_spelling};
+
+/// Law: the text that a file is printed as, `file_text` of `specs/PrintedFile.antt`, is read as the statements of the
+/// file, `file_spelling` of `specs/Spelled.antt`, apart from the places where they stand.
+///
+/// It holds for a file whose statements the grammar has: each word is a word of 1 to 64 letters and digits, each sign a
+/// sign, each kind has a member, each edit statement an edit, each wildcard is one that is read, and at most 100
+/// brackets stand open at once. It does nothing when it runs.
+pub fn printed_file_is_its_statements()
+    ensures { (file : FileTree) → StatementsHaveNames (file_spelling file) → AreStatements MAX_OPEN (file_spelling file)
+        → (read : List Statement) × IsSyntaxOf (file_text file) read
+        × (map unplaced read ≡ map unplaced (file_spelling file)) }
+{}
+
+/// Law: the signature of a file that some bytes are, `IsFileOf` of `mp_text`, has names and signs that are such.
+///
+/// It does nothing when it runs.
+pub fn signatures_of_files_are_spelled()
+    ensures { (bytes : List ℕ) (file : FileTree) → IsFileOf bytes file → IsSpelledSignature file.sig }
+{}
+
+/// Law: the text that a file is printed as, `file_text` of `specs/PrintedFile.antt`, is read as that file, for every
+/// file that some bytes are, `IsFileOf` of `specs/Reading.antt`.
+///
+/// It does nothing when it runs.
+pub fn printed_file_is_read()
+    ensures { (bytes : List ℕ) (file : FileTree) → IsFileOf bytes file → IsFileOf (file_text file) file }
+{}
