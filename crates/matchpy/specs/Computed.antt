@@ -1,11 +1,10 @@
 -- The outcome as a function: by the search for the one-list, and by the reading of the bytes as it is computed.
-use Rattle.std.specs.Prelude.{ℕ, List, length, flat_map, Option, Some, None, if◌then◌else◌, nat_lt}
+use Rattle.std.specs.Prelude.{ℕ, List, [], length, flat_map, Option, Some, None, if◌then◌else◌, nat_lt}
 use Rattle.mp_io.specs.Devices.{Files, Text, held}
 use Rattle.mp_term.specs.Signature.{Sig}
 use Rattle.mp_pattern.specs.Admission.{Rule}
 use Rattle.mp_theory.specs.OneList.{one_list}
 use Rattle.mp_text.specs.File.{FileTree, Subject}
-use Rattle.mp_text.specs.Reading.{unread_fault}
 use Rattle.mp_text.specs.Computed.{fault_of, file_of}
 use Rattle.mp_text.specs.declared.fault.TextFault.{TextFault}
 use Rattle.matchpy.specs.Messages.{fault_line, long_line, open_line, usage_line}
@@ -38,11 +37,11 @@ outcome_of Show file = shown file
 
 -- ---- the run
 
--- as told of the file, where there is no fault
+-- a fault is refused; where there is none there is a file, and the outcome is as told of it
 abbrev pub over_file : (FileTree → Outcome) → Text → Option TextFault → Option FileTree → Outcome
 over_file over name (Some fault) found = refused 3 (fault_line name fault)
 over_file over name None (Some file) = over file
-over_file over name None None = refused 3 (fault_line name unread_fault)
+over_file over name None None = refused 3 []
 
 -- what the request asks for, over the bytes of its file
 abbrev pub outcome_over : Request → Text → Outcome

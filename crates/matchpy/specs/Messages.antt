@@ -7,7 +7,7 @@ use Rattle.mp_text.specs.declared.fault.TextKind.TheVariants.{BadByte, Syntax, T
 use Rattle.mp_text.specs.declared.fault.TextKind.TheVariants.{BadFlags, UnknownOp, BareOperation, UnknownKind, Arity}
 use Rattle.mp_text.specs.declared.fault.TextKind.TheVariants.{KindClash, LooseSequence, WildcardInTerm, UnboundVariable}
 use Rattle.mp_text.specs.declared.fault.TextKind.TheVariants.{ConditionKind, UnknownSubject, BadPosition, Overlap}
-use Rattle.mp_text.specs.declared.fault.TextKind.TheVariants.{Unread}
+use Rattle.mp_text.specs.declared.fault.TextKind.TheVariants.{BadCount}
 
 -- what is said after the program's name, as a line
 abbrev pub told : Text → Text
@@ -61,7 +61,7 @@ kind_text ConditionKind = codes "ConditionKind"
 kind_text UnknownSubject = codes "UnknownSubject"
 kind_text BadPosition = codes "BadPosition"
 kind_text Overlap = codes "Overlap"
-kind_text Unread = codes "Unread"
+kind_text BadCount = codes "BadCount"
 
 -- the line that says at which line and column of a named file what stands
 abbrev pub said_at : Text → Text → Text → Text → Text

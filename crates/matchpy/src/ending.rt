@@ -87,7 +87,7 @@ fn kind_text(kind: TextKind) -> &'static [u8]
         TextKind::UnknownSubject => b"UnknownSubject",
         TextKind::BadPosition => b"BadPosition",
         TextKind::Overlap => b"Overlap",
-        TextKind::Unread => b"Unread",
+        TextKind::BadCount => b"BadCount",
     }
 }
 

@@ -2,7 +2,7 @@
 
 mod cases;
 
-use self::cases::{CONDITIONED, CONDITIONS, EXAMPLES, MATCHES, RUNS};
+use self::cases::{CONDITIONED, CONDITIONS, EXAMPLES, FAULTS, MATCHES, RUNS};
 use crate::run::run;
 use mp_io::{MemoryShelf, MemorySink};
 use std::alloc::Global;
@@ -142,6 +142,23 @@ fn is_run(alloc: Global, case: &str) -> Result<bool, Fail> {
 fn words_and_files_decide_what_is_printed(rt: HostRuntime) -> Result<(), Fail> {
     for case in RUNS.split("====\n") {
         assert!(rt; is_run(rt.alloc(), case)?, "{case}");
+    }
+    Ok(())
+}
+
+// Whether the run over the file of the line says what stands behind it, and nothing else comes of it.
+fn is_refused(alloc: Global, case: &str) -> Result<bool, Fail> {
+    let Some((file, said)) = case.split_once('|') else {
+        return Err("no case".into());
+    };
+    let line = format!(in alloc; "matchpy: t:{said}\n")?;
+    Ok(ran(alloc, &["match", "t"], file.as_bytes(), &SOUND)?.is(3, "", line.as_str()))
+}
+
+#[test]
+fn the_first_fault_is_told_with_its_place(rt: HostRuntime) -> Result<(), Fail> {
+    for case in FAULTS.split('\n') {
+        assert!(rt; is_refused(rt.alloc(), case)?, "{case}");
     }
     Ok(())
 }

@@ -215,6 +215,99 @@ rule if: g(if__) if count($if) == 1;
 subject if: g(if); subject or: g(if, if);
 ----
 if if {if -> (if)}
+====
+op g 0+;
+rule r: g(x_{2}, y___);
+subject s: g(a, b, c);
+----
+s r {x -> (a, b), y -> (c)}
+====
+op s 0+ comm;
+rule r: s(x_{2+}, y_{1});
+subject t: s(a, a, b);
+----
+t r {y -> a, x -> {a, b}}
+t r {y -> b, x -> {a, a}}
+====
+op f 3;
+rule r: f(x_{2}, y_);
+subject s: f(a, b, c);
+----
+s r {x -> (a, b), y -> c}
+====
+op g 0+;
+rule r: g(x_{2+}, y___, z_{2});
+subject s: g(a, b, c); subject t: g(a, b, c, d, e);
+----
+t r {x -> (a, b), y -> (c), z -> (d, e)}
+t r {x -> (a, b, c), y -> (), z -> (d, e)}
+====
+op g 0+;
+rule r: g(x_{2}, x_{2}); rule q: g(_{3}, x_);
+subject s: g(a, b, a, b); subject t: g(a, b, b, a);
+----
+s r {x -> (a, b)}
+s q {x -> b}
+t q {x -> a}
+====
+op s 0+ comm;
+rule r: s(x_{2}, x_{2}, y___); rule q: s(_{2}, x_);
+subject t: s(a, a, b, b, c); subject u: s(a, b, c);
+----
+t r {x -> {a, b}, y -> {c}}
+u q {x -> a}
+u q {x -> b}
+u q {x -> c}
+====
+op p 1+ assoc;
+rule r: p(x_{2}, y_);
+subject s: p(a, p(b, c), d); subject t: p(a, b);
+----
+s r {x -> (a, b), y -> p(c, d)}
+====
+op plus 1+ assoc comm one infix +;
+rule r: plus(x_{2}, y_:0);
+subject s: (a + b + c); subject t: (a + b); subject u: a;
+----
+s r {y -> a, x -> {b, c}}
+s r {y -> b, x -> {a, c}}
+s r {y -> c, x -> {a, b}}
+t r {y -> 0, x -> {a, b}}
+====
+op plus 1+ assoc comm one infix +;
+rule r: plus(x_{2+}); rule q: plus(x_{2}, y_{2});
+subject s: (a + b + c + c); subject u: a;
+----
+s r {x -> {a, b, c, c}}
+s q {x -> {a, b}, y -> {c, c}}
+s q {x -> {a, c}, y -> {b, c}}
+s q {x -> {b, c}, y -> {a, c}}
+s q {x -> {c, c}, y -> {a, b}}
+====
+op h 2; op g 0+; op s 0+ comm;
+rule r: h(s(x_{2}), g(x_{2}));
+subject t: h(s(a, b), g(b, a)); subject u: h(s(a, b), g(b, b));
+----
+t r {x -> (b, a)}
+====
+op g 0+;
+rule r: g(x_{2+}, y_{2+}) if count($x) < count($y) and same($x, $x);
+subject s: g(a, b, c, d, e);
+----
+s r {x -> (a, b), y -> (c, d, e)}
+====
+op g 0+;
+rule r: g(x_{1+}, y_{1}, z_{0+});
+subject s: g(a, b);
+----
+s r {x -> (a), y -> b, z -> ()}
+====
+op f 2 comm; op u 1;
+rule r: f(x_, u(y_)) -> f($y, u($x)) if less($y, $x);
+subject s: f(u(a), u(b)); edit s: 0 -> u(c);
+----
+s r {y -> a, x -> u(b)}
+s r {y -> b, x -> u(a)}
 ";
 
 /// The example files of the language's page, in the same way.
@@ -332,6 +425,41 @@ number constant {sum -> (1 + a), var -> x}
 zero ordered {a -> 0, b -> x}
 sum either {all -> ((a + b))}
 numbers either {all -> (3, 7)}
+====
+op hand 0+ comm; op trick 0+; op card 2;
+rule pair: hand(card(rank_, _), card(rank_, _), rest_{3});
+subject five: hand(card(7, clubs), card(7, hearts), card(9, spades), card(jack, clubs), card(8, clubs));
+subject four: hand(card(7, clubs), card(7, hearts), card(9, spades), card(jack, clubs));
+rule followed: trick(led_, others_{2+});
+rule halves: trick(first_{2}, last_{2});
+subject ab: trick(a, b); subject abc: trick(a, b, c); subject abcd: trick(a, b, c, d);
+----
+five pair {rank -> 7, rest -> {card(8, clubs), card(9, spades), card(jack, clubs)}}
+abc followed {led -> a, others -> (b, c)}
+abcd followed {led -> a, others -> (b, c, d)}
+abcd halves {first -> (a, b), last -> (c, d)}
+====
+op plus 1+ assoc comm one infix +; op times 1+ assoc comm one infix *; op power 2 infix ^; op d 2;
+kind variable: x y;
+rule constant: d(c_, x_variable) -> 0 if free($x, $c);
+rule itself: d(x_variable, x_variable) -> 1;
+rule sum: d(plus(first_, rest__), x_variable) -> (d($first, $x) + d(plus($rest), $x));
+rule product: d(times(first_, rest__), x_variable) ->
+    ((d($first, $x) * times($rest)) + ($first * d(times($rest), $x)));
+rule power: d(power(x_variable, 2), x_variable) -> (2 * $x);
+subject number: d(7, x); subject linear: d((x + 1), x); subject square: d((x ^ 2), x);
+subject mixed: d((x * y), x);
+----
+number constant {c -> 7, x -> x}
+linear sum {first -> 1, rest -> {x}, x -> x}
+linear sum {first -> x, rest -> {1}, x -> x}
+square power {x -> x}
+mixed product {first -> x, rest -> {y}, x -> x}
+mixed product {first -> y, rest -> {x}, x -> x}
+====
+op list 0+; op item 2; subject shopping: list(item(milk, 1), item(bread, 2), item(eggs, 12));
+edit shopping: 0.1 -> 2, 1 -> [item(rye, 1), item(wheat, 1)], 2 -> []; edit shopping: . -> list();
+----
 ";
 
 /// A rule on single terms, tuples and multisets, and its subject: what stands before the condition, and behind it.
@@ -463,13 +591,6 @@ op f 2; rule r: f(x_, y_); subject s: f(a, b);
 ----
 matchpy: none: cannot open
 ====
-3 match t
-----
-op f 2; subject s: f(a);
-----
-----
-matchpy: t:1:20: Arity
-====
 0 show t
 ----
 op plus 1+ assoc comm one infix +; subject s: plus(b, (c + a));
@@ -490,27 +611,6 @@ op f 2; op f 3;
 ----
 matchpy: t:1:12: DuplicateName
 ====
-3 match t
-----
-op g 0+; rule r: g(x__) if less($x, a);
-----
-----
-matchpy: t:1:33: ConditionKind
-====
-3 match t
-----
-op f 2; rule r: f(x_, y_) if less($x, $z);
-----
-----
-matchpy: t:1:39: UnboundVariable
-====
-3 match t
-----
-op f 2; rule r: f(x_, y_) if not [same($x, y) or 1 < 2;
-----
-----
-matchpy: t:1:1: Unread
-====
 0 show t
 ----
 op f 2; op s 0+ comm;
@@ -520,4 +620,112 @@ op f 2;
 op s 0+ comm;
 rule r: f(x_, y_) if [same($x, s(a, b)) or less($x, $y)] and not 7 >= count($x);
 ----
+====
+0 show t
+----
+op g 0+; rule r: g(x_{1+}, y_{1}, z_{0+});
+----
+op g 0+;
+rule r: g(x__, y_, z___);
+----
+====
+0 show t
+----
+op g 0+; op s 0+ comm;
+rule r: g(_{2}, x_{003+}, _{1000}, y_{2+}); rule q: s(x_{3}, y__, z_{3+}, _{2}, w_, v___, u_{2+}, t_:a);
+----
+op g 0+;
+op s 0+ comm;
+rule r: g(_{2}, x_{3+}, _{1000}, y_{2+});
+rule q: s(w_, t_:a, u_{2+}, x_{3}, z_{3+}, _{2}, y__, v___);
+----
+====
+0 show t
+----
+op f 2; op g 0+; op plus 1+ assoc comm one infix +;
+rule a: f(y_, x_) -> f($x, plus(b, (a + $y)));
+rule b: g(x__) -> plus($x) if count($x) > 1; rule c: plus(x_{2}) -> f($x);
+subject s: f((b + a), g()); edit s: 0.1->[a, b], 1 -> [g(b , plus(c))];
+subject t: a; edit t: . -> (c + a); edit s: 0 -> a, 1 -> b;
+----
+op f 2;
+op g 0+;
+op plus 1+ assoc comm one infix +;
+rule a: f(y_, x_) -> f($x, (b + (a + $y)));
+rule b: g(x__) -> plus($x) if count($x) > 1;
+rule c: plus(x_{2}) -> f($x);
+subject s: f((a + b), g());
+subject t: a;
+edit s: 0.1 -> [a, b], 1 -> g(b, c);
+edit t: . -> (a + c);
+edit s: 0 -> a, 1 -> b;
+----
+====
+3 show t
+----
+op u 1; rule r: u(x_) -> u(u($x)); rule q: a -> b; rule p: b -> $ x;
+----
+----
+matchpy: t:1:65: UnboundVariable
+====
+3 show t
+----
+op f 2; rule r: f(x_, y_) if not [same($x, y) or 1 < 2;
+----
+----
+matchpy: t:1:55: Syntax
+====
+3 match t
+----
+op f 0; rule r: f() -> $x;
+rule q: g(a); subject s: (b;
+----
+----
+matchpy: t:2:28: Syntax
+====
+3 match t
+----
+op op 1;
+  subject s: op(a) ; # a comment: é
+ subject t: é;
+----
+----
+matchpy: t:3:13: BadByte
 ";
+
+/// Files and, behind `|`, the place and the kind of their first fault.
+pub const FAULTS: &str = "\
+op g 0+; rule r: g(x_{0});|1:23: BadCount\n\
+subject s: é;|1:12: BadByte\n\
+op f 2; op f 3;|1:12: DuplicateName\n\
+op p 2 assoc;|1:4: BadFlags\n\
+subject s: g(a);|1:12: UnknownOp\n\
+op f 2; subject s: f;|1:20: BareOperation\n\
+rule r: x_q;|1:9: UnknownKind\n\
+op f 2; rule r: f(x_, x__);|1:23: KindClash\n\
+rule r: x__;|1:9: LooseSequence\n\
+subject s: x_;|1:12: WildcardInTerm\n\
+op f 2; rule r: f(x_, y_) -> $z;|1:30: UnboundVariable\n\
+op g 0+; rule r: g(x__) if less($x, a);|1:33: ConditionKind\n\
+edit s: . -> a;|1:6: UnknownSubject\n\
+subject s: a; edit s: 0 -> b;|1:23: BadPosition\n\
+subject s: (a);|1:14: Syntax\n\
+op u 1; subject s: \
+u(u(u(u(u(u(u(u(u(u(u(u(u(u(u(u(u(u(u(u(u(u(u(u(u(u(u(u(u(u(u(u(u(u(u(u(u(u(u(u(u(u(u(u(u(u(u(u(u(u(\
+u(u(u(u(u(u(u(u(u(u(u(u(u(u(u(u(u(u(u(u(u(u(u(u(u(u(u(u(u(u(u(u(u(u(u(u(u(u(u(u(u(u(u(u(u(u(u(u(u(u(u(|1:221: TooDeep\n\
+op g 0+; subject s: g(g(a, b)); edit s: 0 -> a, 0.1 -> b;|1:49: Overlap\n\
+op f 1; subject s: f(a); edit s: 0 -> [a, b];|1:34: Arity\n\
+rule r: f(a|1:12: Syntax\n\
+op f 2; subject s: (a + b * c);|1:27: Syntax\n\
+op f 1001;|1:6: TooMany\n\
+op f 2; subject s: f(a);|1:20: Arity\n\
+op p 3+ infix +; subject s: (a + b);|1:29: Arity\n\
+kind num: a;|1:6: DuplicateName\n\
+op g 0+; rule r: g(x__) -> $x;|1:28: LooseSequence\n\
+op g 0+; rule r: g(x_{2}, x_{3});|1:27: KindClash\n\
+op g 0+; op f 2; rule r: g(x__) -> f(a, $x);|1:36: Arity\n\
+op g 0+; rule r: g(x_{1001});|1:23: TooMany\n\
+subject s: a; edit s: . -> [];|1:23: Arity\n\
+op f 2; rule r: f(x_, y_) if less($x, $z);|1:39: UnboundVariable\n\
+op g 0+; rule r: g(x_{2}) if less($x, a);|1:35: ConditionKind\n\
+subject s: a; edit s: . -> x_;|1:28: WildcardInTerm";
