@@ -9,6 +9,8 @@ mod condition_trees;
 #[cfg(test)]
 mod devices;
 #[cfg(test)]
+mod edits;
+#[cfg(test)]
 mod substitutions;
 #[cfg(test)]
 mod syntax_faults;

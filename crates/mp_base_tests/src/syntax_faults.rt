@@ -18,6 +18,9 @@ op op 00;rule rule:subject;subject subject:rule();|\n\
 rule r: f(x_, g(x_, a), b());&subject s: f(f(a), 12);|\n\
 # {&op f 2; # é&subject s: a;|\n\
 subject s: é;|BadByte 1 12\n\
+subject s: (a); subject t: é;|BadByte 1 28\n\
+op f x; é|BadByte 1 9\n\
+rule r: f(a b); # é&\\|BadByte 2 1\n\
 op f 2|Syntax 1 7\n\
 op f 2;&&op|Syntax 3 3\n\
 op f x;|Syntax 1 6\n\
@@ -47,7 +50,6 @@ rule r: x_:;|Syntax 1 12\n\
 rule r: x_::a;|Syntax 1 12\n\
 rule r: x_:y_:|Syntax 1 15\n\
 rule r: x_:(a);|Syntax 1 14\n\
-rule r: f(x_) -> a;|Syntax 1 15\n\
 rule r: f(x_)\r&\t[a];|Syntax 2 2\n\
 op f 2+; op g 0 + assoc comm one infix *;|\n\
 op assoc 1 comm; op infix 1 infix ++ infix -;|\n\
@@ -89,6 +91,80 @@ subject s: a if 1 == 1;|Syntax 1 14\n\
 subject s: $;|Syntax 1 13\n\
 rule r: $x(a);|Syntax 1 11";
 
+// Templates and counted wildcards.
+const TEMPLATES: &str = "\
+rule r: f(x_) -> a;|\n\
+rule r: x_ -> f($x, (a + $x)) if 1 == 1;|\n\
+rule r: x_ -> $x if not [1 == 1] or same($x, a);|\n\
+rule r: -> a;|Syntax 1 9\n\
+rule r: x_ -> ;|Syntax 1 15\n\
+rule r: x_ -> a -> b;|Syntax 1 17\n\
+rule r: x_ if 1 == 1 -> a;|Syntax 1 22\n\
+rule r: x_ -> if if 1 == 1;|\n\
+rule r: x_ -> (a);|Syntax 1 17\n\
+rule r: x_ -> a|Syntax 1 16\n\
+rule r: x_ - > a;|Syntax 1 12\n\
+subject s: a -> b;|Syntax 1 14\n\
+rule r: x_ -> a b;|Syntax 1 17\n\
+rule r: x_:a -> _;|\n\
+rule r: f(x_{2}, _{0}, y_{10+}, (z_{3 + } * a));|\n\
+rule r: x_:y_{2};|\n\
+rule r: f(x_ { 2 } );|\n\
+rule r: x_{2 3};|Syntax 1 14\n\
+rule r: x_{+};|Syntax 1 12\n\
+rule r: x_{};|Syntax 1 12\n\
+rule r: x_{a};|Syntax 1 12\n\
+rule r: x_{2++};|Syntax 1 13\n\
+rule r: x_{2 + +};|Syntax 1 16\n\
+rule r: x_{2;|Syntax 1 13\n\
+rule r: x__{2};|Syntax 1 12\n\
+rule r: x_K{2};|Syntax 1 12\n\
+rule r: x{2};|Syntax 1 10\n\
+rule r: x_{2}:a;|Syntax 1 14\n\
+rule r: x_{2}{3};|Syntax 1 14\n\
+rule r: f(a){2};|Syntax 1 13\n\
+subject s: x_{001} ;|\n\
+rule r: x_{2+|Syntax 1 14\n\
+rule r: x_ -> y_{2+} if count($x) < 2;|";
+
+// Edits.
+const EDITS: &str = "\
+edit s: . -> a;|\n\
+edit s: 0 -> a;|\n\
+edit edit: 0.1.22 -> f(a, b), . -> [], 0 . 1 -> [a], 7 -> [a, (b + c), f()];|\n\
+edit s: 0 -> [a|Syntax 1 16\n\
+edit s: 0 -> [a,];|Syntax 1 17\n\
+edit s: 0 -> [,a];|Syntax 1 15\n\
+edit s: 0 -> [a b];|Syntax 1 17\n\
+edit s: 0 -> [[a]];|Syntax 1 15\n\
+edit s: 0 -> f([a]);|Syntax 1 16\n\
+edit s: 0 -> a];|Syntax 1 15\n\
+edit s: 0 -> [a;|Syntax 1 16\n\
+edit s: ;|Syntax 1 9\n\
+edit s;|Syntax 1 7\n\
+edit 1: 1 -> 1;|\n\
+edit s_: . -> a;|Syntax 1 6\n\
+edit s: a -> b;|Syntax 1 9\n\
+edit s: 0. -> a;|Syntax 1 12\n\
+edit s: .0 -> a;|Syntax 1 10\n\
+edit s: .. -> a;|Syntax 1 10\n\
+edit s: 0.a -> b;|Syntax 1 11\n\
+edit s: 0..1 -> a;|Syntax 1 11\n\
+edit s: 0 = a;|Syntax 1 11\n\
+edit s: 0 a;|Syntax 1 11\n\
+edit s: 0 -> ;|Syntax 1 14\n\
+edit s: 0 -> a, ;|Syntax 1 17\n\
+edit s: 0 -> a,, 1 -> b;|Syntax 1 16\n\
+edit s: 0 -> a 1 -> b;|Syntax 1 16\n\
+edit s: 0 -> a if 1 == 1;|Syntax 1 16\n\
+edit s: 0 -> a -> b;|Syntax 1 16\n\
+edit s: 0 -> x_, 1 -> $y, 2 -> [x_:a, _{3}];subject s: a;|\n\
+edit|Syntax 1 5\n\
+edit s: 0 -> [a, b|Syntax 1 19\n\
+edit s: [0] -> a;|Syntax 1 9\n\
+edit s: 0 -> [] [];|Syntax 1 17\n\
+edit s: 01 -> 02;|";
+
 // Expressions alone.
 const EXPRESSIONS: &str = "\
 a|\n\
@@ -104,7 +180,9 @@ f(a))|Syntax 1 5\n\
 x_:a|\n\
 _|\n\
 subject s: a;|Syntax 1 9\n\
-a \\|BadByte 1 3";
+a \\|BadByte 1 3\n\
+a b é|BadByte 1 5\n\
+f(a)) \\|BadByte 1 7";
 
 // Conditions alone.
 const CONDITIONS: &str = "\
@@ -117,6 +195,8 @@ same(count, size) or free(not, $if)|\n\
 same($ x, (a + $y))|\n\
 |Syntax 1 1\n\
 not|Syntax 1 4\n\
+not é|BadByte 1 5\n\
+1 == 1) \\|BadByte 1 9\n\
 not not 1 == 1|Syntax 1 5\n\
 [1 == 1|Syntax 1 8\n\
 []|Syntax 1 2\n\
@@ -205,6 +285,8 @@ fn the_first_fault_of_a_text_stands_at_its_token(rt: HostRuntime) -> Result<(), 
     for (sort, table) in [
         (Sort::Statements, STATEMENTS),
         (Sort::Statements, RULES),
+        (Sort::Statements, TEMPLATES),
+        (Sort::Statements, EDITS),
         (Sort::Expression, EXPRESSIONS),
         (Sort::Condition, CONDITIONS),
     ] {
@@ -250,8 +332,19 @@ fn limits_are_met_exactly(rt: HostRuntime) -> Result<(), Fail> {
             ["op u 1; subject s: ", "(", "a", "+b)", ";"],
             "TooDeep 1 120",
         ),
+        (99, ["edit s: 0 -> [", "f(", "a", ")", "];"], ""),
+        (
+            100,
+            ["edit s: 0 -> [", "f(", "a", ")", "];"],
+            "TooDeep 1 214",
+        ),
+        (100, ["rule r: ", "f(", "x_{2}", ")", " -> a;"], ""),
         (64, ["op ", "f", " 2;", "", ""], ""),
         (65, ["op ", "f", " 2;", "", ""], "TooMany 1 4"),
+        (65, ["rule r: ;", "f", "", "", ""], "TooMany 1 10"),
+        (65, ["", "f", " é", "", ""], "TooMany 1 1"),
+        (65, ["é ", "f", "", "", ""], "BadByte 1 1"),
+        (101, ["subject s: ", "(", "é", "", ""], "BadByte 1 113"),
     ] {
         let text = nested(rt.alloc(), times, parts)?;
         assert_eq!(rt;
@@ -267,6 +360,8 @@ fn brackets_of_all_sorts_are_counted_together(rt: HostRuntime) -> Result<(), Fai
     for (times, middle, fault) in [
         (100, "1 == 1", ""),
         (101, "1 == 1", "TooDeep 1 101"),
+        (100, "same(a, b)", "TooDeep 1 105"),
+        (100, "1 == (a)", "Syntax 1 106"),
         (99, "same(a, b)", ""),
         (99, "same(a, f(b))", "TooDeep 1 109"),
         (98, "1 < count((a + b))", ""),

@@ -3,7 +3,8 @@
 use mp_syntax::statement::{printed_statements_are_read, syntax_has_names, syntax_is_a_function};
 use mp_syntax::token::{tokens_are_total, tokens_are_unique};
 use mp_syntax::{
-    Expr, Flag, Statement, Wildcard, Word, condition_is_a_function, expression_is_a_function,
+    Change, Expr, Flag, Position, Replacement, Statement, Wildcard, Word, condition_is_a_function,
+    expression_is_a_function, printed_condition_is_read, printed_expression_is_read,
     read_expression, read_statements,
 };
 use std::alloc::Global;
@@ -44,13 +45,14 @@ fn chains_of_any_length_are_read(rt: HostRuntime) -> Result<(), Fail> {
     Ok(())
 }
 
-// The word of an expression, or its sign, its line and its column.
+// The word of an expression, its sign or its count, its line and its column.
 fn first_word<'a>(expr: &Expr<'a>) -> (&'a [u8], u32, u32) {
     match expr {
         Expr::Symbol(spot) => (spot.text, spot.place.line, spot.place.column),
         Expr::Apply(spot, _) => (spot.text, spot.place.line, spot.place.column),
         Expr::Infix { sign, .. } => (sign.text, sign.place.line, sign.place.column),
         Expr::Wild(wildcard) => (wildcard.name, wildcard.place.line, wildcard.place.column),
+        Expr::Counted { count, .. } => (count.text, count.place.line, count.place.column),
         Expr::Optional { wildcard, .. } => (
             wildcard.name,
             wildcard.place.line,
@@ -141,6 +143,108 @@ fn trees_keep_words_and_places(rt: HostRuntime) -> Result<(), Fail> {
     Ok(())
 }
 
+// The count of a wildcard, its column and whether a plus stands behind it; or nothing and 0.
+fn count_of<'a>(expr: &Expr<'a>) -> (&'a [u8], u32, bool) {
+    match expr {
+        Expr::Counted { count, open, .. } => (count.text, count.place.column, *open),
+        _ => (b"", 0, false),
+    }
+}
+
+// Whether the arguments have the counts 2, in column 6, and 10 with a plus, in column 12.
+fn are_counted(args: &[Expr<'_>]) -> bool {
+    match args {
+        [first, second] => count_of(first) == (b"2", 6, false)
+            && count_of(second) == (b"10", 12, true),
+        _ => false,
+    }
+}
+
+#[test]
+fn counts_are_kept(rt: HostRuntime) -> Result<(), Fail> {
+    let read = read_expression(rt.alloc(), b"f(x_{2}, _{10+})")?;
+    match &read {
+        Expr::Apply(_, args) => assert!(rt; are_counted(args)),
+        _ => return Err("no application was read".into()),
+    }
+    Ok(())
+}
+
+// The word of the template of a rule, its line and its column, or nothing and 0.
+fn template_word<'a>(statement: Option<&Statement<'a>>) -> (&'a [u8], u32, u32) {
+    match statement {
+        Some(
+            Statement::Rule {
+                template: Some(template),
+                condition: Some(_),
+                ..
+            },
+        ) => first_word(template),
+        _ => (b"", 0, 0),
+    }
+}
+
+#[test]
+fn templates_stand_behind_the_arrow(rt: HostRuntime) -> Result<(), Fail> {
+    let file = read_statements(rt.alloc(), b"rule r: f(x_) -> g($x) if 1 == 1;")?;
+    assert_eq!(rt; template_word(file.get(0)), (b"g".as_slice(), 1, 18));
+    Ok(())
+}
+
+// The column of a word, or 0.
+fn column_of(word: Option<&Word<'_>>) -> u32 {
+    match word {
+        Some(word) => word.place.column,
+        None => 0,
+    }
+}
+
+// The column of the second number of a position, or of the dot where it is the root.
+fn position_column(position: &Position<'_>) -> u32 {
+    match position {
+        Position::Root(place) => place.column,
+        Position::Path { others, .. } => column_of(others.get(0)),
+    }
+}
+
+// How many expressions stand in square brackets, or 0 where there are no such brackets.
+fn listed_count(terms: &Replacement<'_>) -> usize {
+    match terms {
+        Replacement::Single(_) => 0,
+        Replacement::Listed(terms) => terms.len(),
+    }
+}
+
+// Whether a change has its position in this column, and so many expressions in square brackets.
+fn is_change(change: &Change<'_>, column: u32, count: usize) -> bool {
+    position_column(&change.position) == column && listed_count(&change.terms) == count
+}
+
+// Whether the first change is `0.12 -> [b, c]`, and the second `. -> a`.
+fn are_changes(changes: &[Change<'_>]) -> bool {
+    match changes {
+        [first, second] => is_change(first, 11, 2) && is_change(second, 25, 0),
+        _ => false,
+    }
+}
+
+// Whether the statement is an edit of `s` with these changes.
+fn is_edit(statement: Option<&Statement<'_>>) -> bool {
+    match statement {
+        Some(Statement::Edit { subject, changes }) => {
+            subject.text == b"s".as_slice() && are_changes(changes)
+        }
+        _ => false,
+    }
+}
+
+#[test]
+fn edits_keep_their_changes(rt: HostRuntime) -> Result<(), Fail> {
+    let file = read_statements(rt.alloc(), b"edit s: 0.12 -> [b, c], . -> a;")?;
+    assert!(rt; is_edit(file.get(0)));
+    Ok(())
+}
+
 // The column of the sign of a flag, or 0.
 fn sign_column(flag: Flag) -> u32 {
     match flag {
@@ -228,6 +332,8 @@ fn laws_do_nothing(_rt: HostRuntime) {
     expression_is_a_function();
     condition_is_a_function();
     printed_statements_are_read();
+    printed_expression_is_read();
+    printed_condition_is_read();
     syntax_has_names();
     tokens_are_unique();
     tokens_are_total();

@@ -69,6 +69,91 @@ subject s: (a + b);
 ----
 (a + b);a;b {x -> a, y -> b}
 (a + b);b;a {x -> b, y -> a}
+====
+op g 0+;
+rule r: g(x_{2}, y___);
+subject s: g(a, b, c);
+----
+g(a, b, c);a b;c {x -> (a, b), y -> (c)}
+====
+op s 0+ comm;
+rule r: s(x_{2+}, y_);
+subject t: s(a, a, b);
+----
+s(a, a, b);a;a b {y -> a, x -> {a, b}}
+s(a, a, b);b;a a {y -> b, x -> {a, a}}
+====
+op f 3;
+rule r: f(x_{2}, y_);
+subject s: f(a, b, c);
+----
+f(a, b, c);a b;c {x -> (a, b), y -> c}
+====
+op g 0+;
+rule r: g(x_{2+}, y_{2}, z___);
+subject s: g(a, b, c, d, e);
+----
+g(a, b, c, d, e);a b;c d;e {x -> (a, b), y -> (c, d), z -> (e)}
+g(a, b, c, d, e);a b c;d e; {x -> (a, b, c), y -> (d, e), z -> ()}
+====
+op g 0+;
+rule r: g(x_{2}, x_{2});
+subject s: g(a, b, a, b);
+----
+g(a, b, a, b);a b;a b {x -> (a, b)}
+====
+op h 2; op g 0+; op s 0+ comm;
+rule r: h(s(x_{2}), g(x_{2}));
+subject t: h(s(a, b), g(b, a));
+----
+h(s(a, b), g(b, a));s(a, b);a b;g(b, a);b a {x -> (b, a)}
+====
+op p 1+ assoc;
+rule r: p(x_{2}, y_);
+subject s: p(a, b, c, d);
+----
+p(a, b, c, d);a b;c d {x -> (a, b), y -> p(c, d)}
+====
+op s 0+ comm;
+rule r: s(_{2}, x_, y_{2+});
+subject t: s(a, a, a, b, b);
+----
+s(a, a, a, b, b);a;a a;b b {x -> a, y -> {a, a}}
+s(a, a, a, b, b);a;a b;a b {x -> a, y -> {a, b}}
+s(a, a, a, b, b);a;b b;a a {x -> a, y -> {b, b}}
+s(a, a, a, b, b);b;a a;a b {x -> b, y -> {a, a}}
+s(a, a, a, b, b);b;a b;a a {x -> b, y -> {a, b}}
+====
+op u 1+ assoc comm one infix +;
+rule r: u(x_:0, y_{2});
+subject s: (a + b + c);
+----
+(a + b + c);a;b c {x -> a, y -> {b, c}}
+(a + b + c);b;a c {x -> b, y -> {a, c}}
+(a + b + c);c;a b {x -> c, y -> {a, b}}
+====
+op u 1+ assoc comm one infix +;
+rule r: u(x_:0, y_{2});
+subject s: (a + b);
+----
+(a + b);;a b {x -> 0, y -> {a, b}}
+====
+op u 1+ assoc comm one infix +;
+rule r: u(x_:0, y_, v_{2+});
+subject s: a;
+----
+====
+op g 0+;
+rule r: g(_{2}, x___, _{2+});
+subject s: g(a, b, c, d, e);
+----
+g(a, b, c, d, e);a b;;c d e {x -> ()}
+g(a, b, c, d, e);a b;c;d e {x -> (c)}
+====
+op g 0+;
+rule r: g(x_{3+});
+subject s: g(a, b);
+----
 ";
 
 fn write_entry(sig: &Signature, entry: &Entry, sink: &mut MemorySink) -> bool {
@@ -138,7 +223,7 @@ fn is_listed(alloc: Global, case: &str) -> Result<bool, Fail> {
     let Some((text, items)) = case.split_once("----\n") else {
         return Err("no items".into());
     };
-    let Ok(mut sink) = MemorySink::new(alloc, 200, Vec::new(alloc)) else {
+    let Ok(mut sink) = MemorySink::new(alloc, 1000, Vec::new(alloc)) else {
         return Err("memory ran out".into());
     };
     Ok(write_file_items(alloc, text.as_bytes(), &mut sink) && sink.content() == items.as_bytes())

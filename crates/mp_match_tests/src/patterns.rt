@@ -27,6 +27,11 @@ y_|ns\n\
 _|s\n\
 x_:0|n\n\
 x_:1|n\n\
+x_{2}|n\n\
+x_{2+}|n\n\
+x_{3}|n\n\
+y_{2}|n\n\
+_{2}|\n\
 x__|n\n\
 ___|";
 
@@ -73,7 +78,7 @@ fn are_ascending(patterns: &[Pattern]) -> bool {
 fn patterns_ascend(rt: HostRuntime) -> Result<(), Fail> {
     let file = file(rt.alloc(), DECLARED)?;
     let patterns = ascending(rt.alloc(), &file.sig)?;
-    assert_eq!(rt; patterns.len(), 14);
+    assert_eq!(rt; patterns.len(), 19);
     assert!(rt; are_ascending(&patterns));
     Ok(())
 }

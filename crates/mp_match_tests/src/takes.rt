@@ -22,7 +22,12 @@ u(x_,y_:0)|u(a,b)|u(a,b);a;b\n\
 u(x_:0,x_:0)|0|0!;;0\n\
 f(x_v,n_num)|f(b,7)|f(b,7);b;7\n\
 f(s(x__),g(x__))|f(s(a,b),g(b,a))|f(s(a,b),g(b,a));s(a,b);a b;g(b,a);b a\n\
-p(_,x_)|p(a,b,c)|p(a,b,c);a b;c";
+p(_,x_)|p(a,b,c)|p(a,b,c);a b;c\n\
+g(x_{2},y___)|g(a,b,c)|g(a,b,c);a b;c\n\
+g(x_{2+},y___)|g(a,b,c)|g(a,b,c);a b c;\n\
+g(_{2},x_)|g(a,b,c)|g(a,b,c);a b;c\n\
+f(s(x_{2}),g(x_{2}))|f(s(a,b),g(b,a))|f(s(a,b),g(b,a));s(a,b);a b;g(b,a);b a\n\
+p(x_,y_{2+})|p(a,b,c,d)|p(a,b,c,d);a b;c d";
 
 const OTHERS: &str = "\
 u(x_,y_)|u(a,b,c)|u(a,b,c);a;b\n\
@@ -43,7 +48,14 @@ f(x_,x_)|f(a,b)|f(a,b);a;b\n\
 s(x__)|s(a,b)|s(a,b);b a\n\
 f(s(x__),g(x__))|f(s(a,b),g(b,b))|f(s(a,b),g(b,b));s(a,b);a b;g(b,b);b b\n\
 g(_,x_)|g(a,b,c)|g(a,b,c);a b;c\n\
-g(__,x_)|g(a)|g(a);;a";
+g(__,x_)|g(a)|g(a);;a\n\
+g(x_{2},y___)|g(a,b,c)|g(a,b,c);a;b c\n\
+g(x_{2},y___)|g(a,b,c)|g(a,b,c);a b c;\n\
+g(x_{2+},y___)|g(a,b,c)|g(a,b,c);a;b c\n\
+g(_{2},x___)|g(a,b,c)|g(a,b,c);a b c;\n\
+g(x_{2},x_{2})|g(a,b,a,c)|g(a,b,a,c);a b;a c\n\
+s(x_{2})|s(a,b)|s(a,b);b a\n\
+u(y_,x_:0,v_{2})|a|a!;a;;";
 
 fn entry(alloc: Global, sig: &Signature, text: &str) -> Result<Entry, Fail> {
     let mut terms = Terms::new(alloc);

@@ -18,8 +18,11 @@ pub const DECLARED: &str =
 const TERMS: &str = "\
 f(b, a)|\n\
 (b + p(a))|\n\
-a;|Unread 1 1\n\
-|Unread 1 1\n\
+a;|Syntax 1 2\n\
+|Syntax 1 1\n\
+f(é)|BadByte 1 3\n\
+f(a|Syntax 1 4\n\
+f((a + b), $x)|WildcardInTerm 1 12\n\
 x_|WildcardInTerm 1 1\n\
 f(a)|Arity 1 1\n\
 q(f)|UnknownOp 1 1\n\
@@ -34,7 +37,12 @@ x__|LooseSequence 1 1\n\
 x_q|UnknownKind 1 1\n\
 f(x___)|\n\
 g(y__, (x_ + x_))|\n\
-g(x_|Unread 1 1\n\
+g(x_|Syntax 1 5\n\
+g(x_{2}, y_)|\n\
+g(x_{0})|BadCount 1 6\n\
+x_{2}|LooseSequence 1 1\n\
+f(x_{2}, x_)|Arity 1 1\n\
+g(x_{2},, a)|Syntax 1 9\n\
 f(x_, g)|BareOperation 1 7";
 
 // Conditions over the variables of the pattern `s(x__, y___)`.
@@ -43,8 +51,10 @@ count($x) >= 2|\n\
 less(a, $x)|ConditionKind 1 9\n\
 same($z, a)|UnboundVariable 1 6\n\
 same($x, (b + a)) or not kind($y, v)|\n\
-count($x) >= 2;|Unread 1 1\n\
-|Unread 1 1\n\
+count($x) >= 2;|Syntax 1 15\n\
+|Syntax 1 1\n\
+less(a, $x|Syntax 1 11\n\
+count($x) > ü|BadByte 1 13\n\
 same($x, f(a))|Arity 1 10\n\
 [1 < size($x)] or not 1 < 2000000|TooMany 1 27";
 
@@ -156,9 +166,9 @@ fn has_fault(
 }
 
 #[test]
-fn a_pattern_has_at_most_64_nodes(rt: HostRuntime) -> Result<(), Fail> {
+fn a_pattern_has_at_most_128_nodes(rt: HostRuntime) -> Result<(), Fail> {
     let file = file(rt.alloc(), DECLARED)?;
-    for (name, count, fault) in [("g", 63, ""), ("q", 64, "TooMany 1 1")] {
+    for (name, count, fault) in [("g", 127, ""), ("q", 128, "TooMany 1 1")] {
         assert!(rt; has_fault(rt.alloc(), &file.sig, name, count, fault)?);
     }
     Ok(())

@@ -4,9 +4,9 @@ use mp_text::{TextError, TextFault};
 use std::alloc::Global;
 use std::test::Fail;
 
-/// So many arguments `a`, at most 70.
+/// So many arguments `a`, at most 130.
 pub fn arguments(alloc: Global, count: usize) -> Result<String, Fail> {
-    match ["a"; 70].get(..count) {
+    match ["a"; 130].get(..count) {
         Some(all) => Ok(all.join(alloc, ",")?),
         None => Err("too many arguments".into()),
     }

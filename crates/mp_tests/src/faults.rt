@@ -13,9 +13,9 @@ use std::test::Fail;
 const STATEMENTS: &str = "\
 |\n\
 op f 2; rule r: f(x_, a); subject s: f(a, 0);|\n\
-subject s: é;|Unread 1 1\n\
-subject s: (a);|Unread 1 1\n\
-op f 2; op f 3; rule r: ;|Unread 1 1\n\
+subject s: é;|BadByte 1 12\n\
+subject s: (a);|Syntax 1 14\n\
+op f 2; op f 3; rule r: ;|Syntax 1 25\n\
 op f 2; op f 3;|DuplicateName 1 12\n\
 rule r: a; subject r: a;|\n\
 subject s: a; rule s: b; subject s: a;|DuplicateName 1 34\n\
@@ -111,6 +111,171 @@ op f 2 infix +; rule r: (x_:(a + b) + x_:f(a, b));|\n\
 op f 2; subject s: f(x_:a, b);|WildcardInTerm 1 22\n\
 op f 2; subject s: f(a, x_:y_q);|WildcardInTerm 1 25";
 
+// Tokens and the grammar.
+const GRAMMAR: &str = "\
+subject s: (a); subject t: é;|BadByte 1 28\n\
+rule r: f(a|Syntax 1 12\n\
+op f 2; subject s: (a + b * c);|Syntax 1 27\n\
+op f 2; subject s: f(a,|Syntax 1 24\n\
+rule r|Syntax 1 7\n\
+rule r: a -> ;|Syntax 1 14\n\
+rule r: a -> b if ;|Syntax 1 19";
+
+// Templates.
+const TEMPLATES: &str = "\
+op f 2; rule r: f(x_, y_) -> $z;|UnboundVariable 1 30\n\
+op f 2; rule r: f(x_, y_) -> f($y, $x);|\n\
+op f 2; rule r: f(x_, y_) -> f($y);|Arity 1 30\n\
+op f 2; rule r: f(x_, y_) -> g($z, $y);|UnknownOp 1 30\n\
+op f 2; rule r: f(x_, y_) -> f(f, $z);|BareOperation 1 32\n\
+op f 2; rule r: f(x_, y_) -> f(z_, $y);|WildcardInTerm 1 32\n\
+op f 2; rule r: f(x_, y_) -> f(z_q, $y);|UnknownKind 1 32\n\
+op f 2; rule r: f(x_, y_) -> f(z_:$x, $y);|WildcardInTerm 1 32\n\
+op f 2; rule r: f(x_, y_) -> f(z_{2}, $y);|WildcardInTerm 1 32\n\
+op f 2; rule r: f(x_, y_) -> z_;|WildcardInTerm 1 30\n\
+op f 2; rule r: f(x_, y_) -> f;|BareOperation 1 30\n\
+op f 2; rule r: f(x_, y_) -> (f + $z);|BareOperation 1 31\n\
+op f 2; rule r: f(x_, y_) -> ($x + f);|UnknownOp 1 34\n\
+op p 2 infix +; rule r: p(x_, y_) -> ($x + $y + a);|Arity 1 38\n\
+op p 2 infix +; rule r: p(x_, y_) -> ($y + $x);|\n\
+op g 0+; rule r: g(x__) -> $x;|LooseSequence 1 28\n\
+op g 0+; rule r: g(x___) -> $x;|LooseSequence 1 29\n\
+op g 0+; rule r: g(x_:a) -> $x;|\n\
+op g 0+; rule r: g(x_{2}) -> $x;|LooseSequence 1 30\n\
+op g 0+; rule r: g(x_{1}) -> $x;|\n\
+op g 0+; rule r: g(x_{1+}) -> $x;|LooseSequence 1 31\n\
+op g 0+; op f 2; rule r: g(x__) -> f(a, $x);|Arity 1 36\n\
+op g 0+; op f 2; rule r: g(x___) -> f(a, $x);|Arity 1 37\n\
+op g 0+; op f 2; rule r: g(x_{2}) -> f($x);|\n\
+op g 0+; op f 3; rule r: g(x_{2}) -> f(a, $x);|\n\
+op g 0+; op f 2; rule r: g(x_{2+}) -> f($x);|Arity 1 39\n\
+op g 0+; op f 3+; rule r: g(x_{2+}) -> f($x);|Arity 1 40\n\
+op g 0+; op f 2+; rule r: g(x_{2+}) -> f($x);|\n\
+op g 0+; op f 1+; rule r: g(x___, y__) -> f($x);|Arity 1 43\n\
+op g 0+; op f 1+; rule r: g(x___, y__) -> f($y);|\n\
+op g 0+; op f 3+; rule r: g(x_:a, y__) -> f($x, $y, $y);|\n\
+op g 0+; op f 2; rule r: g(x__) -> f(a, $y);|UnboundVariable 1 41\n\
+op g 0+; op f 2; rule r: g(x__) -> f($y, $x);|Arity 1 36\n\
+op g 0+; rule r: g(x_) -> g($y) if less($x, $z);|UnboundVariable 1 29\n\
+op g 0+; rule r: g(x_) -> g($x) if less($x, $z);|UnboundVariable 1 45\n\
+op g 0+; rule r: g(x_, x__) -> g($y);|KindClash 1 24\n\
+rule r: a -> b;|\n\
+rule r: a -> a if 0 == 1;|\n\
+op f 2; rule r: f(x_, f($x, a)) -> b;|WildcardInTerm 1 25";
+
+// Edit statements.
+const EDITS: &str = "\
+subject s: a; edit s: . -> b;|\n\
+edit s: . -> a; subject s: a;|UnknownSubject 1 6\n\
+subject s: a; edit t: . -> b;|UnknownSubject 1 20\n\
+rule s: a; edit s: . -> b;|UnknownSubject 1 17\n\
+subject s: a; edit s: 0 -> b;|BadPosition 1 23\n\
+op f 2; subject s: f(a, b); edit s: 0 -> c, 1 -> d;|\n\
+op f 2; subject s: f(a, b); edit s: 2 -> c;|BadPosition 1 37\n\
+op f 2; subject s: f(a, b); edit s: 1.0 -> c;|BadPosition 1 37\n\
+op f 2; subject s: f(a, b); edit s: 0 -> c, 0 -> d;|Overlap 1 45\n\
+op f 2; subject s: f(a, f(b, c)); edit s: 1.0 -> c, 1 -> d;|Overlap 1 53\n\
+op f 2; subject s: f(a, f(b, c)); edit s: 1.0 -> c, 1.1 -> d;|\n\
+op f 2; subject s: f(a, b); edit s: . -> c, 0 -> d;|Overlap 1 45\n\
+op f 2; subject s: f(a, b); edit s: 0 -> c, . -> d, 7 -> e;|BadPosition 1 53\n\
+op f 2; subject s: f(a, b); edit s: 0 -> [];|Arity 1 37\n\
+op f 2; subject s: f(a, b); edit s: 0 -> [c, d];|Arity 1 37\n\
+op f 2; subject s: f(a, b); edit s: 0 -> [], 1 -> [c, d];|\n\
+op f 2; subject s: f(a, b); edit s: 0 -> [c];|\n\
+op g 1+; subject s: g(a); edit s: 0 -> [b, c, d];|\n\
+op g 1+; subject s: g(a); edit s: 0 -> [];|Arity 1 35\n\
+subject s: a; edit s: . -> [];|Arity 1 23\n\
+subject s: a; edit s: . -> [b, c];|Arity 1 23\n\
+subject s: a; edit s: . -> [b];|\n\
+subject s: a; edit s: 00 -> b;|BadPosition 1 23\n\
+op f 1; subject s: f(a); edit s: 00 -> b;|\n\
+op f 1; subject s: f(a); edit s: 1000001 -> b;|BadPosition 1 34\n\
+op f 1; subject s: f(a); edit s: 0.99999999999999999999 -> b;|BadPosition 1 34\n\
+op f 1; subject s: f(a); edit s: 0 -> f(b, c);|Arity 1 39\n\
+op f 1; subject s: f(a); edit s: 0 -> x_;|WildcardInTerm 1 39\n\
+op f 1; subject s: f(a); edit s: 0 -> $x;|WildcardInTerm 1 39\n\
+op f 1; subject s: f(a); edit s: 0 -> x_q;|UnknownKind 1 39\n\
+op f 1; subject s: f(a); edit s: 0 -> g(b);|UnknownOp 1 39\n\
+op f 1; subject s: f(a); edit s: 0 -> f;|BareOperation 1 39\n\
+op f 1; subject s: f(a); edit s: 5 -> [b, f], 6 -> c;|BareOperation 1 43\n\
+op f 1; subject s: f(a); edit t: 5 -> [b, f], 6 -> c;|UnknownSubject 1 31\n\
+op f 1; subject s: f(a); edit s: 0 -> x_{0};|WildcardInTerm 1 39\n\
+op p 1+ assoc comm infix +; subject s: ((c + b) + a); edit s: 2 -> d, 0 -> (e + f);|\n\
+op p 1+ assoc comm infix +; subject s: ((c + b) + a); edit s: 0.0 -> d;|BadPosition 1 63\n\
+op p 1+ assoc comm one infix +; subject s: (b + p(a)); edit s: 0 -> [], 1 -> [];|Arity 1 64\n\
+op p 1+ assoc comm one infix +; subject s: (b + p(a)); edit s: 0 -> [];|\n\
+subject s: a; edit s: . -> b; edit s: . -> c; subject t: b; edit s: . -> d;|\n\
+op f 2; subject s: f(a, b); edit s: 3 -> c, 0 -> d, 0 -> e;|BadPosition 1 37\n\
+op f 2; op g 0+; subject s: f(g(a), b); edit s: 0.0 -> [], 1 -> [c, d], 1 -> e;|Overlap 1 73\n\
+op f 2; op g 0+; subject s: f(g(a), b); edit s: 1 -> [c, d], 0.0 -> [];|Arity 1 49\n\
+subject s: a; edit s: -> b;|Syntax 1 23\n\
+subject s: a; edit s: 0. -> b;|Syntax 1 26\n\
+subject s: a; edit s: .0 -> b;|Syntax 1 24\n\
+subject s: a; edit s: a -> b;|Syntax 1 23\n\
+subject s: a; edit s: . -> b, ;|Syntax 1 31\n\
+subject s: a; edit s: . -> [b, ];|Syntax 1 32\n\
+subject s: a; edit s: . -> [b;|Syntax 1 30\n\
+subject s: a; edit s: . b;|Syntax 1 25\n\
+subject s: a; edit s:;|Syntax 1 22\n\
+subject s: a; edit s . -> b;|Syntax 1 22\n\
+subject s: a; edit s: 0 .1->b;|BadPosition 1 23";
+
+// Wildcards with a count.
+const COUNTS: &str = "\
+op g 0+; rule r: g(x_{0});|BadCount 1 23\n\
+op g 0+; rule r: g(x_{1+}, y_{1}, z_{0+});|\n\
+op g 0+; rule r: g(x_{1001});|TooMany 1 23\n\
+op g 0+; rule r: g(x_{0001000+});|\n\
+op g 0+; rule r: g(x_{99999999999999999999});|TooMany 1 23\n\
+op g 0+; rule r: g(x_{0}, y_{1001});|BadCount 1 23\n\
+rule r: x_{2};|LooseSequence 1 9\n\
+rule r: x_{1};|\n\
+rule r: x_{1+};|LooseSequence 1 9\n\
+rule r: x_{0};|LooseSequence 1 9\n\
+rule r: _{0};|LooseSequence 1 9\n\
+op g 0+; rule r: g(x_{1}, x_);|\n\
+op g 0+; rule r: g(x_{1+}, x__);|\n\
+op g 0+; rule r: g(x_{0+}, x___);|\n\
+op g 0+; rule r: g(x_{2}, x_{2});|\n\
+op g 0+; rule r: g(x_{2}, x_{02});|\n\
+op g 0+; rule r: g(x_{2}, x_{3});|KindClash 1 27\n\
+op g 0+; rule r: g(x_{2}, x_{2+});|KindClash 1 27\n\
+op g 0+; rule r: g(x_{2}, x__);|KindClash 1 27\n\
+op g 0+; rule r: g(x__, x_{2+});|KindClash 1 25\n\
+op g 0+; rule r: g(x_{2}, x_);|KindClash 1 27\n\
+op g 0+; rule r: g(x_{1}, x_:a);|KindClash 1 27\n\
+op g 0+; rule r: g(x_{1}, x_num);|KindClash 1 27\n\
+op g 0+; rule r: g(_{2}, _{3});|\n\
+op f 3; rule r: f(x_{2}, y_);|\n\
+op f 3; rule r: f(x_{2}, y_{2});|Arity 1 17\n\
+op f 3; rule r: f(x_{2+}, y_);|\n\
+op f 3; rule r: f(x_{2});|Arity 1 17\n\
+op f 3; rule r: f(x_{2+});|\n\
+op f 3+; rule r: f(x_{2});|Arity 1 18\n\
+op f 3+; rule r: f(x_{3});|\n\
+op f 3+; rule r: f(x_{2}, y_);|\n\
+op f 3+ assoc; rule r: f(x_{2});|BadFlags 1 4\n\
+op f 2+ assoc; rule r: f(x_{1});|\n\
+op f 2+ assoc; rule r: f(x_{2});|\n\
+op f 1; rule r: f(x_{0});|Arity 1 17\n\
+op f 1; rule r: f(x_{1001});|Arity 1 17\n\
+op f 1000+; rule r: f(x_{1001});|TooMany 1 26\n\
+op g 0+; subject s: g(x_{2});|WildcardInTerm 1 23\n\
+op g 0+; subject s: g(x_{0});|WildcardInTerm 1 23\n\
+op g 0+; rule r: g(x_:y_{2});|WildcardInTerm 1 23\n\
+op g 0+; rule r: g(x_:y_:z_{0});|WildcardInTerm 1 23\n\
+op g 0+; rule r: g(x_{2}) if less($x, a);|ConditionKind 1 35\n\
+op g 0+; rule r: g(x_{1}) if less($x, a);|\n\
+op g 0+; rule r: g(x_{2+}) if count($x) == 2;|\n\
+op g 0+; rule r: g(x_{a});|Syntax 1 23\n\
+op g 0+; rule r: g(x__{2});|Syntax 1 23\n\
+op g 0+; rule r: g(x_num{2});|Syntax 1 25\n\
+op g 0+; rule r: g(x_{2});|\n\
+op g 0+; rule r: g(x_{2}:a);|Syntax 1 25\n\
+op g 0+; rule r: g(x_{2 +});|\n\
+op g 0+; rule r: g(x_{});|Syntax 1 23\n\
+op g 0+; rule r: g(x_{+2});|Syntax 1 23";
+
 // Conditions, behind the operations and kinds of `DECLARED`, which are a line.
 const CONDITIONS: &str = "\
 rule r: s(x__, y___) if count($x) >= 2;|\n\
@@ -137,7 +302,7 @@ rule r: g(x_) if 0001000000 > 99999999999999999999;|TooMany 2 31\n\
 rule r: g(x_, x__) if same($y, a);|KindClash 2 15\n\
 rule r: g(x_) if kind($x, q) and same($y, a);|UnknownKind 2 27\n\
 rule if: if if count(if) == 1;|\n\
-rule r: a if [a == 1];|Unread 1 1";
+rule r: a if [a == 1];|Syntax 2 15";
 
 // The operations and kinds of the rules with conditions.
 const DECLARED: &[u8] =
@@ -181,7 +346,16 @@ fn has_fault(
 fn the_first_fault_of_a_file_stands_at_its_token(rt: HostRuntime) -> Result<(), Fail> {
     file_is_computed();
     fault_is_computed();
-    for table in [STATEMENTS, DECLARATIONS, WILDCARDS, DEFAULTS] {
+    for table in [
+        STATEMENTS,
+        DECLARATIONS,
+        WILDCARDS,
+        DEFAULTS,
+        GRAMMAR,
+        TEMPLATES,
+        EDITS,
+        COUNTS,
+    ] {
         for line in table.split('\n') {
             assert!(rt; is_first(rt.alloc(), b"", line)?, "{line}");
         }
@@ -199,6 +373,14 @@ fn a_place_is_a_line_and_a_byte_of_it(rt: HostRuntime) -> Result<(), Fail> {
         first_fault(rt.alloc(), text)?.as_str(),
         "DuplicateName 2 20"
     );
+    Ok(())
+}
+
+#[test]
+fn a_template_has_at_most_128_nodes(rt: HostRuntime) -> Result<(), Fail> {
+    for (count, fault) in [(127, ""), (128, "TooMany 1 15")] {
+        assert!(rt; has_fault(rt.alloc(), "rule r: a -> p(", count, ");", fault)?);
+    }
     Ok(())
 }
 

@@ -7,8 +7,8 @@ use crate::reading::{file, halves};
 use mp_io::MemorySink;
 use mp_term::Signature;
 use mp_text::{
-    printed_file_is_its_statements, printed_file_is_read, read_file, read_loose_cond, read_pattern,
-    read_term, write_cond, write_file, write_pattern, write_signature, write_term,
+    read_file, read_loose_cond, read_pattern, read_term, write_cond, write_file, write_pattern,
+    write_signature, write_term,
 };
 use std::alloc::Global;
 use std::test::Fail;
@@ -27,6 +27,8 @@ const PATTERNS: &str = "\
 g((b+a),x_,y_v,z__ ,w___)|g((b + a), x_, y_v, z__, w___)\n\
 s(__,_,_v,___)|s(__, _, _v, ___)\n\
 f(_:p(b, a), x_:(p(a) + b))|f(_:(a + b), x_:(a + b))\n\
+g(x_{2},_{3+},y_{007+})|g(x_{2}, _{3+}, y_{7+})\n\
+g(x_{1},_{1+},y_{0+},__)|g(x_, __, y___, __)\n\
 p(x_)|p(x_)";
 
 // Each atom.
@@ -118,6 +120,49 @@ op s 0+ comm; rule r: s(x__) if [size($x) >= 2 and [1 != 2 and 2 <= 3]];
 ----
 op s 0+ comm;
 rule r: s(x__) if size($x) >= 2 and [1 != 2 and 2 <= 3];
+====
+op g 0+; rule r: g(x_{1+}, y_{1}, z_{0+}, _{02}, w_{2+});
+----
+op g 0+;
+rule r: g(x__, y_, z___, _{2}, w_{2+});
+====
+op s 0+ comm; rule r: s(x___, y__, v_{2}, w_{3+}, u_{3}, _{2}, t_:b, z_, a);
+----
+op s 0+ comm;
+rule r: s(a, z_, t_:b, u_{3}, v_{2}, w_{3+}, _{2}, y__, x___);
+====
+op f 2; op p 1+ assoc comm one infix +; rule r: p(y_, x__)->p($x, f(b, (a+$y))) if count($x)>01;
+----
+op f 2;
+op p 1+ assoc comm one infix +;
+rule r: (y_ + x__) -> ($x + f(b, (a + $y))) if count($x) > 1;
+====
+op u 1; rule r: u(x_)->$ x; rule q: a -> b if 1 < 2; rule p: b -> u(u(a));
+----
+op u 1;
+rule r: u(x_) -> $x;
+rule q: a -> b if 1 < 2;
+rule p: b -> u(u(a));
+====
+op p 1+ assoc comm one infix +; subject s: (c + a); edit s: 1->[ d ],0->[(b+a),e]; edit s: . -> p(a);
+----
+op p 1+ assoc comm one infix +;
+subject s: (a + c);
+edit s: 1 -> d, 0 -> [(a + b), e];
+edit s: . -> a;
+====
+subject s: a; edit s: .->b; subject t: b;
+----
+subject s: a;
+subject t: b;
+edit s: . -> b;
+====
+op l 0+; op p 2 infix ~; subject s: l(l(a,b),p(c,d)); edit s: 0.1->[],0.00->l( ),1.0->(a ~ b);
+----
+op l 0+;
+op p 2 infix ~;
+subject s: l(l(a, b), (c ~ d));
+edit s: 0.1 -> [], 0.0 -> l(), 1.0 -> (a ~ b);
 ";
 
 // What a text is read as.
@@ -240,8 +285,6 @@ fn wrong_file(alloc: Global, sig: &Signature) -> Result<Option<&'static str>, Fa
 
 #[test]
 fn what_is_printed_is_read_again_and_printed_so(rt: HostRuntime) -> Result<(), Fail> {
-    printed_file_is_its_statements();
-    printed_file_is_read();
     let file = file(rt.alloc(), DECLARED)?;
     for (sort, table) in [
         (Sort::Term, TERMS),
