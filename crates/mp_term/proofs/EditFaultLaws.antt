@@ -53,7 +53,7 @@ pub or-right : (a b : Bool) → (a || b) ≡ false → b ≡ false
 or-right true b h = cc
 or-right false b h = h
 
-positive : (n : ℕ) → nat_lt 0 n ≡ true → nat_eq n 0 ≡ false
+pub positive : (n : ℕ) → nat_lt 0 n ≡ true → nat_eq n 0 ≡ false
 positive n h = grind (arith, nat_tests)
 
 -- whether a count is allowed doesn't hang on where it stops, if that is far above all least counts
@@ -78,6 +78,12 @@ holds-most n ds f None is few = refl
 holds-most n ds f (Some d) is few =
     allows-most d n (leb-true d.least MAX_ARITY (all-at (λ (d : OpDecl). nat_le d.least MAX_ARITY) ds f d few is))
 
+-- the position above that of an argument
+pub above-argument : (p : List ℕ) (i : ℕ) → above (p ++ i ∷ []) ≡ p
+above-argument p i =
+    let last : length (p ++ i ∷ []) - 1 ≡ length p = omega (arith, length-append p (i ∷ [])) in
+    ap (λ n. take n (p ++ i ∷ [])) last ∙ take-append_seam p (i ∷ [])
+
 module _ (sig : Sig) (t : Tree) (es : List Edit) where
   -- an edit below the root breaks the number of arguments of the application above
   pub breaks-below : (e : Edit) (p : List ℕ) (i f : ℕ) (ts : List Tree)
@@ -89,9 +95,7 @@ module _ (sig : Sig) (t : Tree) (es : List Edit) where
       let us = edited_args es p 0 (trees ts) in
       let count : length e.position ≡ length p + 1 = ap length is ∙ length-append p (i ∷ []) in
       let below : nat_eq (length e.position) 0 ≡ false = grind (arith, nat_tests) in
-      let last : length (p ++ i ∷ []) - 1 ≡ length p = omega (arith, length-append p (i ∷ [])) in
-      let front : above e.position ≡ p =
-      ap above is ∙ ap (λ n. take n (p ++ i ∷ [])) last ∙ take-append_seam p (i ∷ []) in
+      let front : above e.position ≡ p = ap above is ∙ above-argument p i in
       rw (below, front, ← found, tree_list-trees us, holds-most (length us) sig.ops f (slice_get sig.ops f) refl few)
       refl
 

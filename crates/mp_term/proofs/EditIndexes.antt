@@ -1,10 +1,9 @@
 -- The edits that a fault names are among those that were tested, and the indexes of a position that names a subterm are
 -- at most the number of nodes.
-use Rattle.std.proofs.Common.{◌≡◌, refl, ap, ℕ, zero, suc, ◌+◌, ◌<◌, ◌≤◌, Bool, true, false, arith}
+use Rattle.std.proofs.Common.{◌≡◌, refl, ap, ℕ, zero, suc, ◌+◌, ◌<◌, ◌≤◌, Bool, false, arith}
 use Rattle.std.proofs.Common.{List, [], ◌∷◌, ◌++◌, length, length-append}
-use Rattle.std.specs.Prelude.{Option, Some, None, IfSome, is_none, option_map, position, nat_lt, slice_get, min}
+use Rattle.std.specs.Prelude.{Option, Some, None, IfSome, is_none, option_map, position, slice_get}
 use Rattle.std.specs.Prelude.{option_and_then}
-use Rattle.std.specs.Prelude.{◌-◌, ◌^◌, if◌then◌else◌}
 use Rattle.std.specs.Option.{option_or}
 use Rattle.std.specs.List.{AllByRecursion}
 use Rattle.std.proofs.lemmas.List.Quantifiers.{position-Some}
@@ -12,13 +11,15 @@ use Rattle.mp_term.specs.declared.edit.Edit.{Edit}
 use Rattle.mp_term.specs.declared.edit_fault.EditFault.{EditFault}
 use Rattle.mp_term.specs.declared.edit_fault.EditFault.TheVariants.{BadPosition, Overlap, Arity, TooLarge, TooDeep}
 use Rattle.mp_term.specs.declared.edit_fault.EditFault.TheVariants.{Memory}
-use Rattle.mp_term.specs.declared.limits.TheConstants.{MAX_TERM_NODES, MAX_DEPTH}
-use Rattle.mp_term.specs.Tree.{Tree, symbol, app, Trees, no_trees, more_trees, tree_list, trees}
-use Rattle.mp_term.specs.Size.{node_count, node_counts, all_nodes, greatest_depth}
+use Rattle.mp_term.specs.declared.size.Excess.{Excess}
+use Rattle.mp_term.specs.declared.size.Excess.TheVariants as excesses
+use Rattle.mp_term.specs.Tree.{Tree, symbol, app, Trees, no_trees, more_trees, tree_list}
+use Rattle.mp_term.specs.Size.{node_count, node_counts}
 use Rattle.mp_term.specs.Positions.{subterm}
 use Rattle.mp_term.specs.Signature.{Sig}
 use Rattle.mp_term.specs.Edited.{edited}
-use Rattle.mp_term.specs.EditFault.{overlap, overlap_after, size_fault, is_astray, breaks, edit_fault}
+use Rattle.mp_term.specs.Excess.{excess}
+use Rattle.mp_term.specs.EditFault.{overlap, overlap_after, fault_of, size_fault, is_astray, breaks, edit_fault}
 use Rattle.mp_term.proofs.ListLaws.{all-also}
 
 -- ---- the edits that a fault names
@@ -55,16 +56,10 @@ overlap-among n before (e ∷ es) h =
     (λ i within. omega arith))
     (overlap-among n (before ++ e ∷ []) es (omega (arith, length-append before (e ∷ []))))
 
-size-among : (n : ℕ) (ts : List Tree) → IfSome (size_fault ts) (IsAmong n)
-size-among n ts =
-    let deep : Option EditFault = Some (TooDeep (min (greatest_depth (trees ts)) (2 ^ 64 - 1))) in
-    let large : Option EditFault = Some (TooLarge (min (all_nodes ts) (2 ^ 64 - 1))) in
-    elim (nat_lt MAX_TERM_NODES (all_nodes ts)) as (λ b. IfSome (if b then large else
-    (if nat_lt MAX_DEPTH (greatest_depth (trees ts)) then deep else None)) (IsAmong n)) [
-      | true ↦ tt
-      | false ↦ elim (nat_lt MAX_DEPTH (greatest_depth (trees ts))) as
-          (λ b. IfSome (if b then deep else None) (IsAmong n)) [ true ↦ tt | false ↦ tt ]
-    ]
+size-among : (n : ℕ) (o : Option Excess) → IfSome (option_map fault_of o) (IsAmong n)
+size-among n None = tt
+size-among n (Some (excesses.TooLarge nodes)) = tt
+size-among n (Some (excesses.TooDeep depth)) = tt
 
 -- a fault of edits names one of them
 pub fault-among : (sig : Sig) (t : Tree) (es : List Edit) → IfSome (edit_fault sig t es) (IsAmong (length es))
@@ -77,7 +72,7 @@ fault-among sig t es =
     (either (IsAmong n) (overlap_after [] es) (option_or broken (size_fault (edited es t)))
     (overlap-among n [] es (omega arith))
     (either (IsAmong n) broken (size_fault (edited es t))
-    (found (IsAmong n) Arity (breaks sig t es) es (λ i within. within)) (size-among n (edited es t))))
+    (found (IsAmong n) Arity (breaks sig t es) es (λ i within. within)) (size-among n (excess (edited es t)))))
 
 -- ---- the indexes of a position
 

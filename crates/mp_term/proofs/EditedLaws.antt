@@ -4,20 +4,17 @@ use Rattle.std.proofs.Common.{List, [], ◌∷◌, ◌++◌, length, get_or, map
 use Rattle.std.proofs.Common.{drop-cons, length-append}
 use Rattle.std.specs.Option.{option_map_or}
 use Rattle.std.specs.Prelude.{Option, Some, None, find, bytes_eq, nat_eq, option_map, unwrap_or}
-use Rattle.std.specs.List.{starts_with}
+use Rattle.std.specs.List.{starts_with, list_any}
 use Rattle.std.proofs.lemmas.Bool.{and_parts, and_from}
 use Rattle.mp_term.specs.declared.edit.Edit.{Edit}
 use Rattle.mp_term.specs.Tree.{Tree, symbol, app, Trees, no_trees, more_trees, tree_list, trees}
 use Rattle.mp_term.specs.TreeLists.{trees-tree_list}
 use Rattle.mp_term.specs.Edited.{new_terms, edited_below, edited_args, edited_at}
-use Rattle.std.proofs.Common.{◌&&◌, ◌≤◌, take}
+use Rattle.std.proofs.Common.{◌&&◌, ◌||◌, ◌≤◌, take}
 use Rattle.std.proofs.Math.Bool.{and-false}
 use Rattle.std.proofs.lemmas.Slice.Eq.{bytes_eq-Decides}
 use Rattle.mp_term.proofs.ListLaws.{drop-item, bool_same}
-use Rattle.std.proofs.Common.{max}
-use Rattle.mp_term.specs.Size.{all_nodes, greatest_depth}
 use Rattle.mp_term.proofs.NormalTestLaws.{&&-swap}
-use Rattle.mp_term.proofs.NormalSize.{all_nodes-append}
 
 nat_eq-sym : (i j : ℕ) → nat_eq i j ≡ true → nat_eq j i ≡ true
 nat_eq-sym i j h = eq-eqb j i (sym (eqb-true i j h))
@@ -72,10 +69,16 @@ module _ {X : Type 0} (f g : X → Bool) (implies : (x : X) → g x ≡ true →
   find-none [] h = refl
   find-none (x ∷ xs) h = none_at x xs (g x) (f x) (implies x) h (find-none xs)
 
-greatest_depth-append : (ts us : List Tree)
-    → greatest_depth (trees (ts ++ us)) ≡ max (greatest_depth (trees ts)) (greatest_depth (trees us))
-greatest_depth-append [] us = omega arith
-greatest_depth-append (t ∷ ts) us = omega (arith, greatest_depth-append ts us)
+module _ {X : Type 0} (test : X → Bool) where
+  any_at : (x : X) (xs : List X) (b : Bool) → (b || list_any test xs) ≡ false
+      → (list_any test xs ≡ false → find test xs ≡ None) → cond b (Some x) (find test xs) ≡ None
+  any_at x xs true h rest = cc
+  any_at x xs false h rest = rest h
+
+  -- where no item passes, none is found
+  pub none-found : (xs : List X) → list_any test xs ≡ false → find test xs ≡ None
+  none-found [] h = refl
+  none-found (x ∷ xs) h = any_at x xs (test x) h (none-found xs)
 
 module _ (es : List Edit) where
   -- no edit stands at the position or below it
@@ -110,6 +113,17 @@ module _ (es : List Edit) where
   pub untouched : (p : List ℕ) (t : Tree) → IsUntouched p → edited_at es p t ≡ t ∷ []
   untouched p t h = λ j. unwrap_or (untouched-here p h j) (untouched-below p t h j ∷ [])
 
+  -- arguments at and below which no edit stands stay in front of those behind them
+  pub untouched-front : (p : List ℕ) (us vs : List Tree) (i : ℕ)
+      → ((k : ℕ) → i ≤ k → k < i + length us → IsUntouched (p ++ k ∷ []))
+      → edited_args es p i (trees (us ++ vs)) ≡ us ++ edited_args es p (i + length us) (trees vs)
+  untouched-front p [] vs i h = ap (λ k. edited_args es p k (trees vs)) (omega arith)
+  untouched-front p (u ∷ us) vs i h =
+      let here = untouched (p ++ i ∷ []) u (h i (omega arith) (omega arith)) in
+      let rest = untouched-front p us vs (suc i) (λ k low high. h k (omega arith) (omega arith))
+      ∙ ap (λ k. us ++ edited_args es p k (trees vs)) (omega arith) in
+      λ j. here j ++ rest j
+
   -- the edited arguments from an index on are what stands in place of the argument there, and those behind it
   pub edited_args-item : {X : Type 0} (f : X → Tree) (p : List ℕ) (items : List X) (i : ℕ) (x : X)
       → i < length items → x ≡ get_or items i x
@@ -137,6 +151,20 @@ module _ (es : List Edit) where
       width None = refl
       width (Some ts) = refl
 
+  -- where one term stands in place of each argument, there are as many arguments as before
+  pub length-kept : (p : List ℕ) (i : ℕ) (ts : Trees)
+      → ((k : ℕ) → option_map_or length (new_terms es (p ++ k ∷ [])) 1 ≡ 1)
+      → length (edited_args es p i ts) ≡ length (tree_list ts)
+  length-kept p i no_trees each = refl
+  length-kept p i (more_trees t ts) each =
+      omega (
+        arith,
+        length-append (edited_at es (p ++ i ∷ []) t) (edited_args es p (suc i) ts),
+        length-edited_at (p ++ i ∷ []) t,
+        each i,
+        length-kept p (suc i) ts each,
+      )
+
   pub width-untouched : (p : List ℕ) → IsUntouched p → option_map_or length (new_terms es p) 1 ≡ 1
   width-untouched p h = ap (λ o. option_map_or length o 1) (untouched-here p h)
 
@@ -153,24 +181,3 @@ module _ (es : List Edit) where
       ap (λ us. edited_args es p i (trees us)) (drop-cons ts i (symbol []) within)
       ∙ (λ j. front ++ edited_args es p (sym (add-one i) j) (trees (drop (sym (add-one i) j) ts))) in
       ap length e ∙ length-append front behind ∙ ap (λ n. n + length behind) (length-edited_at (p ++ i ∷ []) t)
-
-  -- the same of the nodes and the depth
-  pub nodes-item : {X : Type 0} (f : X → Tree) (p : List ℕ) (items : List X) (i : ℕ) (x : X)
-      → i < length items → x ≡ get_or items i x
-      → all_nodes (edited_args es p i (trees (map f (drop i items))))
-      ≡ all_nodes (edited_at es (p ++ i ∷ []) (f x))
-      + all_nodes (edited_args es p (i + 1) (trees (map f (drop (i + 1) items))))
-  nodes-item f p items i x within is =
-      ap all_nodes (edited_args-item f p items i x within is)
-      ∙ all_nodes-append (edited_at es (p ++ i ∷ []) (f x))
-      (edited_args es p (i + 1) (trees (map f (drop (i + 1) items))))
-
-  pub depth-item : {X : Type 0} (f : X → Tree) (p : List ℕ) (items : List X) (i : ℕ) (x : X)
-      → i < length items → x ≡ get_or items i x
-      → greatest_depth (trees (edited_args es p i (trees (map f (drop i items)))))
-      ≡ max (greatest_depth (trees (edited_at es (p ++ i ∷ []) (f x))))
-      (greatest_depth (trees (edited_args es p (i + 1) (trees (map f (drop (i + 1) items))))))
-  depth-item f p items i x within is =
-      ap (λ ts. greatest_depth (trees ts)) (edited_args-item f p items i x within is)
-      ∙ greatest_depth-append (edited_at es (p ++ i ∷ []) (f x))
-      (edited_args es p (i + 1) (trees (map f (drop (i + 1) items))))

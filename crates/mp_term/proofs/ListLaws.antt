@@ -48,6 +48,12 @@ map-insert f i xs x = map-append f (take i xs) (x ∷ drop i xs)
     ∙ ap (λ ys. ys ++ (f x ∷ map f (drop i xs))) (sym (take-map f i xs))
     ∙ ap (λ ys. take i (map f xs) ++ (f x ∷ ys)) (sym (drop-map f i xs))
 
+-- an item taken out of its place, and mapped
+pub map-remove : {X Y : Type 0} (f : X → Y) (i : ℕ) (xs : List X)
+    → map f (take i xs ++ drop (suc i) xs) ≡ take i (map f xs) ++ drop (suc i) (map f xs)
+map-remove f i xs = map-append f (take i xs) (drop (suc i) xs)
+    ∙ (λ j. sym (take-map f i xs) j ++ sym (drop-map f (suc i) xs) j)
+
 -- a filter goes item by item
 pub filter-front : {X : Type 0} (p : X → Bool) (x : X) (xs : List X)
     → filter p (x ∷ xs) ≡ filter p (x ∷ []) ++ filter p xs

@@ -16,6 +16,11 @@ pub all_nodes-append : (ts us : List Tree) → all_nodes (ts ++ us) ≡ all_node
 all_nodes-append [] us = omega arith
 all_nodes-append (t ∷ ts) us = omega (arith, all_nodes-append ts us)
 
+pub greatest_depth-append : (ts us : List Tree)
+    → greatest_depth (trees (ts ++ us)) ≡ max (greatest_depth (trees ts)) (greatest_depth (trees us))
+greatest_depth-append [] us = omega arith
+greatest_depth-append (t ∷ ts) us = omega (arith, greatest_depth-append ts us)
+
 pub all_nodes-sorted : (ts : List Tree) → all_nodes (sorted tree_cmp ts) ≡ all_nodes ts
 all_nodes-sorted = measure-sorted (λ t n. node_count t + n) (λ t u n. omega arith) all_nodes (λ t ts. refl) tree_cmp
 

@@ -27,7 +27,7 @@ unmapped f (Some i) h = cc
 
 module _ (sig : Sig) (t : Tree) where
   -- without a fault no edit breaks a number of arguments
-  none-breaks : (es : List Edit) → edit_fault sig t es ≡ None → list_any (breaks sig t es) es ≡ false
+  pub none-breaks : (es : List Edit) → edit_fault sig t es ≡ None → list_any (breaks sig t es) es ≡ false
   none-breaks es h =
       let rest = neither (option_map BadPosition (position (is_astray t) es)) _ h in
       let behind = neither (overlap_after [] es) _ rest.1 in

@@ -1,9 +1,8 @@
 -- The normal form of a well formed term is well formed.
-use Rattle.std.proofs.Common.{◌≡◌, ℕ, zero, suc, ◌≤◌, ◌<◌, Bool, true, false, ◌&&◌, ◌||◌, not, List, [], ◌∷◌, ◌++◌}
+use Rattle.std.proofs.Common.{◌≡◌, ℕ, zero, suc, ◌≤◌, ◌<◌, Bool, true, false, ◌&&◌, ◌||◌, not, List, [], ◌∷◌}
 use Rattle.std.proofs.Common.{length, refl, ap, sym, ◌∙◌, subst, arith, length-append}
 use Rattle.std.specs.Prelude.{nat_eq, nat_le, if◌then◌else◌, Option, Some, None, slice_get}
 use Rattle.std.proofs.Common.{eqb-true}
-use Rattle.std.proofs.Math.Bool.{and_assoc}
 use Rattle.std.proofs.lemmas.Bool.{leb-true, and_parts, and_from}
 use Rattle.std.proofs.lemmas.Bool.Decides.{nat_tests}
 use Rattle.mp_term.specs.declared.signature.OpDecl.{OpDecl}
@@ -15,6 +14,7 @@ use Rattle.mp_term.specs.Signature.{Sig, holds_of, allows, in_order, all_in_orde
 use Rattle.mp_term.specs.Signature.{well_formed, all_well_formed}
 use Rattle.mp_term.specs.Normal as n
 use Rattle.mp_term.proofs.ListLaws.{all-at}
+use Rattle.mp_term.proofs.WellFormedLaws.{well_formed-append}
 use Rattle.mp_term.proofs.SortedMeasures.{measure-sorted}
 use Rattle.mp_term.proofs.Sorting.{length-sorted}
 use Rattle.mp_term.proofs.NormalTestLaws.{&&-swap}
@@ -52,12 +52,6 @@ module _ (sig : Sig) (o : all_in_order sig.ops ≡ true) where
   -- the count is allowed for the operation
   abbrev allowed : ℕ → ℕ → Bool
   allowed f k = holds_of (allows k) (slice_get sig.ops f)
-
-  wf-append : (xs ys : List Tree) → all_well_formed sig (trees (xs ++ ys))
-      ≡ (all_well_formed sig (trees xs) && all_well_formed sig (trees ys))
-  wf-append [] ys = refl
-  wf-append (x ∷ xs) ys = ap (λ b. well_formed sig x && b) (wf-append xs ys)
-      ∙ sym (and_assoc (well_formed sig x) (all_well_formed sig (trees xs)) (all_well_formed sig (trees ys)))
 
   wf-sorted : (xs : List Tree) → all_well_formed sig (trees (sorted tree_cmp xs)) ≡ all_well_formed sig (trees xs)
   wf-sorted = measure-sorted (λ x b. well_formed sig x && b)
@@ -169,7 +163,7 @@ module _ (sig : Sig) (o : all_in_order sig.ops ≡ true) where
     wf-flattened f no_trees h = refl
     wf-flattened f (more_trees t ts) h =
         let p = and_parts _ _ h in
-        wf-append (n.parts sig f (n.normal sig t)) (n.flattened sig f (n.normals sig ts))
+        well_formed-append sig (n.parts sig f (n.normal sig t)) (n.flattened sig f (n.normals sig ts))
         ∙ and_from _ _ (wf-parts f (n.normal sig t) (wf-normal t p.0)) (wf-flattened f ts p.1)
 
     length-normals : (ts : Trees) → length (n.normals sig ts) ≡ length (tree_list ts)

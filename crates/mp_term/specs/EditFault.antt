@@ -1,14 +1,15 @@
 -- Why edits of a tree can't be made.
-use Rattle.std.specs.Prelude.{ℕ, Bool, true, not, ◌||◌, ◌-◌, ◌^◌, List, [], ◌∷◌, ◌++◌, length, take, min, nat_lt}
-use Rattle.std.specs.Prelude.{nat_eq, Option, Some, None, is_none, option_map, slice_get, position, if◌then◌else◌}
+use Rattle.std.specs.Prelude.{ℕ, Bool, true, not, ◌||◌, ◌-◌, List, [], ◌∷◌, ◌++◌, length, take}
+use Rattle.std.specs.Prelude.{nat_eq, Option, None, is_none, option_map, slice_get, position, if◌then◌else◌}
 use Rattle.std.specs.Option.{option_or, option_map_or}
 use Rattle.std.specs.List.{starts_with}
 use Rattle.mp_term.specs.declared.edit.Edit.{Edit}
 use Rattle.mp_term.specs.declared.edit_fault.EditFault.{EditFault}
 use Rattle.mp_term.specs.declared.edit_fault.EditFault.TheVariants.{BadPosition, Overlap, Arity, TooLarge, TooDeep}
-use Rattle.mp_term.specs.declared.limits.TheConstants.{MAX_TERM_NODES, MAX_DEPTH}
-use Rattle.mp_term.specs.Tree.{Tree, symbol, app, tree_list, trees}
-use Rattle.mp_term.specs.Size.{all_nodes, greatest_depth}
+use Rattle.mp_term.specs.declared.size.Excess.{Excess}
+use Rattle.mp_term.specs.declared.size.Excess.TheVariants as excesses
+use Rattle.mp_term.specs.Tree.{Tree, symbol, app, tree_list}
+use Rattle.mp_term.specs.Excess.{excess}
 use Rattle.mp_term.specs.Positions.{subterm}
 use Rattle.mp_term.specs.Signature.{Sig, holds_of, allows}
 use Rattle.mp_term.specs.Edited.{edited_below, edited}
@@ -28,13 +29,14 @@ overlap_after before (e ∷ es) =
 abbrev pub above : List ℕ → List ℕ
 above p = take (length p - 1) p
 
--- more nodes or a greater depth than the limits allow, with their number, or the greatest `u64` where it is more
+-- the fault of terms that are too large or too deep
+abbrev pub fault_of : Excess → EditFault
+fault_of (excesses.TooLarge nodes) = TooLarge nodes
+fault_of (excesses.TooDeep depth) = TooDeep depth
+
+-- more nodes or a greater depth than the limits allow
 abbrev pub size_fault : List Tree → Option EditFault
-size_fault ts =
-    if nat_lt MAX_TERM_NODES (all_nodes ts) then Some (TooLarge (min (all_nodes ts) (2 ^ 64 - 1)))
-    else if nat_lt MAX_DEPTH (greatest_depth (trees ts)) then Some
-    (TooDeep (min (greatest_depth (trees ts)) (2 ^ 64 - 1)))
-    else None
+size_fault ts = option_map fault_of (excess ts)
 
 -- the position of the edit names no subterm
 abbrev pub is_astray : Tree → Edit → Bool

@@ -14,6 +14,8 @@ pub mod NormalTest
 pub mod Positions
 pub mod Edits
 pub mod Edited
+pub mod Replaced
+pub mod Excess
 pub mod EditFault
 pub mod EditWalk
 pub mod Listing

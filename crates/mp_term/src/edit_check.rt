@@ -1,15 +1,14 @@
 //! The test of edits before they are made.
-ghost use Rattle.std.specs.Prelude.{◌≡◌, ◌≤◌, List, [], length, position};
+ghost use Rattle.std.specs.Prelude.{◌≡◌, ◌≤◌, [], length, position};
 ghost use Rattle.std.specs.List.{list_any};
-ghost use Rattle.mp_term.specs.Tree.{Tree};
 ghost use Rattle.mp_term.specs.View.{tree};
-ghost use Rattle.mp_term.specs.EditFault.{overlap, overlap_after, is_astray, breaks, size_fault, edit_fault};
-ghost use Rattle.mp_term.specs.EditWalk.{IsSizeOf, is_sibling};
+ghost use Rattle.mp_term.specs.EditFault.{overlap, overlap_after, is_astray, breaks, edit_fault};
+ghost use Rattle.mp_term.specs.EditWalk.{is_sibling};
 
 use crate::edit::{Edit, Edits};
 use crate::edit_fault::EditFault;
-use crate::edited::{Size, count_after, size_after};
-use crate::limits::{MAX_DEPTH, MAX_EDITS, MAX_TERM_NODES};
+use crate::edited::{count_after, size_after};
+use crate::limits::MAX_EDITS;
 use crate::signature::Signature;
 use crate::term::{Term, at};
 
@@ -107,19 +106,6 @@ fn first_broken(sig: &Signature, term: &Term, edits: &[Edit]) -> Option<usize>
     None
 }
 
-// The fault of a size.
-fn size_fault(size: &Size) -> Option<EditFault>
-    ensures { (ts : List Tree) → IsSizeOf size.now ts → result ≡ size_fault ts }
-{
-    if MAX_TERM_NODES < size.nodes {
-        Some(EditFault::TooLarge { nodes: size.nodes })
-    } else if MAX_DEPTH < size.depth {
-        Some(EditFault::TooDeep { depth: size.depth })
-    } else {
-        None
-    }
-}
-
 /// Why the edits of the term can't be made at once: the first that comes of the faults below, and None otherwise
 /// (`edit_fault` of `specs/EditFault.antt`). There are at most `MAX_EDITS` edits. It takes no memory.
 ///
@@ -147,5 +133,8 @@ pub fn check_edits(sig: &Signature, term: &Term, edits: &Edits) -> Option<EditFa
             index: index as u32,
         });
     }
-    size_fault(&size_after(term, edits, &[]))
+    match size_after(term, edits, &[]).excess() {
+        None => None,
+        Some(excess) => Some(EditFault::from(excess)),
+    }
 }

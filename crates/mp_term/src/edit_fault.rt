@@ -2,6 +2,7 @@
 ghost use Rattle.std.specs.Prelude.{◌≡◌};
 
 use crate::memory::Memory;
+use crate::size::Excess;
 use thiserror::Error;
 
 /// Why edits of a term can't be made. Edits are told by their indexes from 0.
@@ -37,5 +38,18 @@ impl From<Memory> for EditFault {
 
     fn from(_memory: Memory) -> EditFault {
         EditFault::Memory
+    }
+}
+
+impl From<Excess> for EditFault {
+    ghost use Rattle.mp_term.specs.EditFault.{fault_of};
+
+    ghost from_gives = { λ excess e. e ≡ fault_of excess };
+
+    fn from(excess: Excess) -> EditFault {
+        match excess {
+            Excess::TooLarge { nodes } => EditFault::TooLarge { nodes },
+            Excess::TooDeep { depth } => EditFault::TooDeep { depth },
+        }
     }
 }

@@ -1,6 +1,7 @@
 //! Terms, and lists of them.
-ghost use Rattle.std.specs.Prelude.{◌≡◌, ◌-◌, ◌^◌, [], ◌∷◌, ◌++◌, length, map, slice_get, OnOk, OnErr, IfOk, min};
-ghost use Rattle.std.specs.Prelude.{option_map};
+ghost use Rattle.std.specs.Prelude.{◌≡◌, ◌<◌, ◌≤◌, ◌-◌, ◌^◌, [], ◌∷◌, ◌++◌, length, map, slice_get, OnOk};
+ghost use Rattle.std.specs.Prelude.{OnErr, IfOk, min, Some, option_map};
+ghost use Rattle.std.specs.List.{insert, remove};
 ghost use Rattle.mp_term.specs.View.{tree};
 ghost use Rattle.mp_term.specs.Size.{node_count, depth};
 ghost use Rattle.mp_term.specs.Positions.{subterm};
@@ -71,6 +72,26 @@ impl Terms {
     {
         self.items.push(item)?;
         Ok(())
+    }
+
+    /// Puts a term in at an index from 0, in front of the one that stood there, or at the end where the index is the
+    /// length. At `Memory` the list is as before, and the term is dropped.
+    pub fn insert(&mut self, index: usize, term: Term) -> Result<(), Memory>
+        requires { index ≤ length self.old }
+        ensures ok { OnOk result (self.new ≡ insert self.old index (tree term)) }
+        ensures err { OnErr result (self.new ≡ self.old) }
+    {
+        self.items.insert(index, term)?;
+        Ok(())
+    }
+
+    /// Takes the term at an index from 0 out; those behind it move one place to the front.
+    pub fn remove(&mut self, index: usize) -> Term
+        requires { index < length self.old }
+        ensures term { slice_get self.old index ≡ Some (tree result) }
+        ensures rest { self.new ≡ remove self.old index }
+    {
+        self.items.remove(index)
     }
 
     /// The number of terms.

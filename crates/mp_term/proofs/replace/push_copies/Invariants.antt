@@ -3,4 +3,4 @@ use Rattle.mp_term.specs.View.{tree}
 use Rattle.mp_term.proofs.replace.push_copies.Given as goal
 
 abbrev pub invariant-loop-term : goal.invariant-loop-term
-invariant-loop-term l = l.out ++ map tree (drop l.term-index l.term-items) ≡ l.fn.out ++ l.terms
+invariant-loop-term l = l.out ++ map tree (drop l.term-index l.terms) ≡ l.fn.out ++ map tree l.terms

@@ -1,9 +1,11 @@
-use Rattle.std.proofs.Common.{◌≡◌, ◌++◌, ◌∷◌, [], map, length, sym, ap, ◌∙◌, arith}
+use Rattle.std.proofs.Common.{◌≡◌, ◌++◌, ◌∷◌, [], map, length, sym, subst, true, ap, ◌∙◌, arith}
 use Rattle.std.proofs.lemmas.List.{length-map}
 use Rattle.mp_term.specs.View.{tree}
+use Rattle.mp_term.specs.Signature.{Sig, all_in_order}
 use Rattle.mp_term.specs.Normal.{normal}
 use Rattle.mp_term.specs.Edited.{edited_at, edited}
 use Rattle.mp_term.proofs.ReplaceLaws.{edited-single, popped-single}
+use Rattle.mp_term.proofs.EditedFormed.{formed-result}
 use Rattle.mp_term.proofs.replace.replace_many.Goals as goal
 
 pub unreachable-requires : goal.unreachable-requires
@@ -32,3 +34,12 @@ returns-clause-term c =
     (popped-single tree (edited es t) items c.pop.new.self.items c.in-Some-pop.only one all
     c.in-Some-pop.ensures.items)
     ∙ ap (λ u. u ∷ []) (sym c.in_ok-normal.ensures)
+
+pub returns-clause-formed : goal.returns-clause-formed
+returns-clause-formed c =
+    let sig = c.args.sig.now in
+    let same : c.sig.inside.ops.items ≡ sig.ops = ap (λ (s : Sig). s.ops) c.sig.view_is in
+    let ordered : all_in_order sig.ops ≡ true =
+    subst (λ ds. all_in_order ds ≡ true) same c.sig.invariant.0.ops_in_order in
+    λ h each. formed-result sig (tree c.args.term.now) c.args.edits.now (tree c.in_ok-normal.normal) ordered
+    (sym c.check_edits.ensures ∙ c.in_default.is) (returns-clause-term c) h each
