@@ -22,6 +22,7 @@ pub mod Holds
 pub mod Operands
 pub mod Instance
 pub mod Admission
+pub mod Step
 pub mod Lists
 pub mod Clash
 pub mod Plan

@@ -13,7 +13,11 @@ ghost use Rattle.mp_pattern.specs.TemplateTree.{Template};
 ghost use Rattle.mp_pattern.specs.Value.{Subst};
 ghost use Rattle.mp_pattern.specs.Fits.{Table, Fits};
 ghost use Rattle.mp_pattern.specs.Instance.{IsInstance};
-ghost use Rattle.mp_pattern.specs.SoundRule.{IsSoundPattern, IsSoundTemplate};
+ghost use Rattle.mp_pattern.specs.SoundRule.{IsSoundPattern, IsSoundTemplate, IsSoundRule};
+ghost use Rattle.mp_pattern.specs.Limits.{DefaultsAreSmall};
+ghost use Rattle.mp_pattern.specs.Operands.{HasConditionOver};
+ghost use Rattle.mp_pattern.specs.PlanFault.{plan_fault};
+ghost use Rattle.mp_pattern.specs.Admission.{Rule};
 ghost use Rattle.mp_pattern.specs.Size.{pattern_nodes};
 ghost use Rattle.mp_pattern.specs.Order.{is_ground, pattern_cmp};
 ghost use Rattle.mp_pattern.specs.Normal.{normal_pattern, IsNormalPattern};
@@ -75,6 +79,15 @@ pub fn instances_of_sound_templates_are_well_formed()
     ensures well_formed { (sig : Sig) (p : Pattern) (x : Template) (t : Tree) (s : Subst) (table : Table) →
         IsSignature sig → IsSoundPattern sig p → IsSoundTemplate sig p x → well_formed sig t ≡ true →
         Fits sig p t s table → (u : Tree) → IsInstance x s u → well_formed sig u ≡ true }
+{}
+
+/// A sound rule can be matched: its defaults are small, its condition speaks of the variables of its pattern and of
+/// small ground terms, and its pattern has a plan.
+pub fn sound_rules_can_be_matched()
+    ensures defaults { (sig : Sig) (r : Rule) → IsSoundRule sig r → DefaultsAreSmall r.pattern }
+    ensures condition { (sig : Sig) (r : Rule) → IsSoundRule sig r →
+        HasConditionOver (variables r.pattern) r.condition }
+    ensures plan { (sig : Sig) (r : Rule) → IsSoundRule sig r → plan_fault r.pattern ≡ None }
 {}
 
 /// A plan has one pattern, over whatever signature.

@@ -25,7 +25,8 @@ pub use laws::{
     a_plan_has_one_pattern, ground_patterns_are_terms,
     instances_of_sound_templates_are_well_formed, nodes_and_variables_decide_the_pattern,
     normal_pattern_is_idempotent, normal_pattern_is_no_larger, normal_pattern_keeps_no_clash,
-    normal_pattern_keeps_variables, pattern_order_is_total, subpatterns_are_normal,
+    normal_pattern_keeps_variables, pattern_order_is_total, sound_rules_can_be_matched,
+    subpatterns_are_normal,
 };
 pub use limits::{
     MAX_ATOMS, MAX_COUNT, MAX_DEFAULT_NODES, MAX_DEPTH, MAX_EDIT_STATEMENTS, MAX_INDEX, MAX_NUMBER,
