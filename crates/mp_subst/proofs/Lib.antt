@@ -1,3 +1,4 @@
 mod Equality
 mod Multisets
 mod Examples
+pub mod InstanceLaws

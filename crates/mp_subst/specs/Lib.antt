@@ -1,3 +1,4 @@
 pub mod View
 pub mod Code
 pub mod Choice
+pub mod Applied

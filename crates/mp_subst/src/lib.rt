@@ -1,7 +1,12 @@
-//! Values of variables, and substitutions: how two values merge, and how substitutions compare.
+//! Values of variables, and substitutions: how two values merge, how substitutions compare, and what a template becomes
+//! under one.
 #![tactic(auto)]
 
+mod apply_fault;
+mod applying;
 mod copy;
+mod instance;
+mod instance_size;
 mod merging;
 mod multiset;
 mod order;
@@ -9,6 +14,8 @@ mod pair;
 mod subst;
 mod value;
 
+pub use apply_fault::ApplyFault;
+pub use applying::apply;
 pub use copy::{copy_subst, copy_value};
 pub use merging::merge;
 pub use multiset::same_multiset;
