@@ -7,6 +7,7 @@ use Rattle.std.specs.List.{range_with_len}
 use Rattle.std.specs.declared.cmp.Ordering.{Ordering}
 use Rattle.std.specs.declared.cmp.Ordering.TheVariants.{Less, Equal}
 use Rattle.std.proofs.Math.ListN.{drop_of_length-le}
+use Rattle.std.proofs.lemmas.List.Concat.{flat_map_single}
 use Rattle.std.specs.List.Sorted.{IsStrictlySortedBy}
 use Rattle.mp_term.specs.Order.{tree_cmp, shortlex}
 use Rattle.mp_term.specs.OrderLaws.{tree_cmp_total, tree_same, shortlex_total}
@@ -65,6 +66,10 @@ pub sublists-longer : {Y : Type 0} (cmp : Y → Y → Ordering) (n : ℕ) (ts : 
 sublists-longer cmp zero ts h = absurd (h refl)
 sublists-longer cmp (suc n) ts h = let e : suc n - 1 ≡ n = omega arith in
     ap (λ m. flat_map (begun cmp m ts) (distinct cmp ts)) e
+
+-- the sublists of one term
+pub sublists-single : (ts : List Tree) → map (λ t. t ∷ []) (distinct tree_cmp ts) ≡ pieces_of tree_cmp true 1 ts
+sublists-single ts = sym (flat_map_single (λ t. t ∷ []) (distinct tree_cmp ts))
 
 -- one more element of a list gone over
 pub flat_map-step : {X Y Z : Type 0} (f : X → Y) (g : Y → List Z) (zs ws : List Z) (i : ℕ) (xs : List X) (x : X)

@@ -1,7 +1,9 @@
 -- How many entries are still to come, and the derivations that are.
 use Rattle.std.proofs.Common.{◌≡◌, ℕ, zero, suc, ◌+◌, List, [], ◌∷◌, ◌++◌, map, length, drop, get_or, true, false, refl}
 use Rattle.std.proofs.Common.{ap, sym, ◌∙◌, subst, ◌<◌, ◌≤◌, zero-add, arith}
-use Rattle.std.specs.Prelude.{Bool, flat_map, filter, Option, Some, None, if◌then◌else◌}
+use Rattle.std.specs.Prelude.{Bool, ◌-◌, flat_map, filter, slice_get, Option, Some, None, if◌then◌else◌}
+use Rattle.std.specs.List.{range_with_len}
+use Rattle.std.proofs.lemmas.Grind.{flat_map-append}
 use Rattle.std.specs.List.{AllByRecursion}
 use Rattle.std.proofs.Math.ListN.{drop_of_length-le}
 use Rattle.mp_term.specs.Tree.{Tree}
@@ -17,12 +19,16 @@ use Rattle.mp_pattern.specs.Firsts.{firsts_after}
 use Rattle.mp_theory.specs.Frames.{Frame, Next, ended, refused, child, is_done, settle, start}
 use Rattle.mp_theory.specs.Machine.{onward, entered, taken_out}
 use Rattle.mp_theory.specs.Trail.{derivations}
-use Rattle.mp_theory.specs.OneList.{Item, same_item, item_list}
+use Rattle.mp_theory.specs.OneList.{Item, same_item, item_list, item_substs}
 use Rattle.mp_theory.proofs.FirstsLaws.{Distinct, distinct-filter, firsts_after-distinct}
 use Rattle.mp_theory.proofs.TrailLaws.{item_list-by_derivations}
 use Rattle.mp_one.specs.Stack.{nodes_below, entries_left}
-use Rattle.mp_one.specs.Collected.{kept, collected}
+use Rattle.mp_one.specs.declared.query.Wanted.{Wanted}
+use Rattle.mp_one.specs.declared.query.Wanted.TheVariants.{Every, Once, First}
+use Rattle.mp_one.specs.Behind.{all_items}
+use Rattle.mp_one.specs.Collected.{kept, first_after, collected}
 use Rattle.mp_one.proofs.CollectedLaws.{collected-none, collected-append, filter_map-kept, firsts_after-kept}
+use Rattle.mp_one.proofs.CollectedLaws.{first_after-kept}
 
 pub pattern_nodes-below : (p : Pattern) → pattern_nodes p ≡ suc (nodes_below p)
 pattern_nodes-below (symbol_pattern n) = refl
@@ -100,41 +106,89 @@ module _ (sig : Sig) where
       ap (λ gs. derivations sig (entries_left gs) (settle gs) [] []) e
       ∙ ap (λ n. derivations sig n (settle (start p t)) [] []) k
 
-  -- what is collected of all derivations is the list of items as they are kept, also where distinct ones aren't
-  -- compared
-  pub collected-item_list : (b tables : Bool) (r : Rule) (t : Tree) (is : List Item)
-      → is ≡ derivations sig (pattern_nodes r.pattern) (settle (start r.pattern t)) [] []
-      → (b ≡ true → Distinct same_item is)
-      → collected b (λ i. if meets sig r.condition i.1 then Some (kept tables i) else None) [] is
-      ≡ map (kept tables) (item_list sig r t)
-  collected-item_list b tables r t is e h =
-      first_each b h
-      ∙ ap (λ js. map (kept tables) (firsts_after same_item [] (filter (λ i. meets sig r.condition i.1) js))) e
-      ∙ sym (ap (map (kept tables)) (item_list-by_derivations sig r t))
-    where
-      first_each : (b : Bool) → (b ≡ true → Distinct same_item is)
-          → collected b (λ i. if meets sig r.condition i.1 then Some (kept tables i) else None) [] is
-          ≡ map (kept tables) (firsts_after same_item [] (filter (λ i. meets sig r.condition i.1) is))
-      first_each true h = filter_map-kept tables (λ i. meets sig r.condition i.1) is
-          ∙ ap (map (kept tables))
-          (sym (firsts_after-distinct same_item (filter (λ i. meets sig r.condition i.1) is)
-          (distinct-filter same_item (λ i. meets sig r.condition i.1) is (h refl))))
-      first_each false h = ap (firsts_after same_item []) (filter_map-kept tables (λ i. meets sig r.condition i.1) is)
-          ∙ firsts_after-kept tables [] (filter (λ i. meets sig r.condition i.1) is)
+  module _ (tables : Bool) (r : Rule) (t : Tree) where
+    -- the items that meet the condition
+    abbrev meeting : List Item
+    meeting = filter (λ i. meets sig r.condition i.1) (all_items sig r.pattern t)
+
+    -- what is collected of all derivations is the list of items as they are kept
+    pub collected-once : collected Once (λ i. if meets sig r.condition i.1 then Some (kept tables i) else None) []
+        (all_items sig r.pattern t) ≡ map (kept tables) (item_list sig r t)
+    collected-once =
+        ap (firsts_after same_item [])
+        (filter_map-kept tables (λ i. meets sig r.condition i.1) (all_items sig r.pattern t))
+        ∙ firsts_after-kept tables [] meeting ∙ sym (ap (map (kept tables)) (item_list-by_derivations sig r t))
+
+    -- also where distinct ones aren't compared
+    pub collected-every : Distinct same_item (all_items sig r.pattern t)
+        → collected Every (λ i. if meets sig r.condition i.1 then Some (kept tables i) else None) []
+        (all_items sig r.pattern t) ≡ map (kept tables) (item_list sig r t)
+    collected-every h =
+        filter_map-kept tables (λ i. meets sig r.condition i.1) (all_items sig r.pattern t)
+        ∙ ap (map (kept tables))
+        (sym (firsts_after-distinct same_item meeting
+        (distinct-filter same_item (λ i. meets sig r.condition i.1) (all_items sig r.pattern t) h))
+        ∙ sym (item_list-by_derivations sig r t))
+
+    -- the first alone has the first substitution of the list
+    pub collected-first : slice_get (item_substs
+        (collected First (λ i. if meets sig r.condition i.1 then Some (kept tables i) else None) []
+        (all_items sig r.pattern t))) 0 ≡ slice_get (item_substs (item_list sig r t)) 0
+    collected-first =
+        ap (λ is. slice_get (item_substs (first_after [] is)) 0)
+        (filter_map-kept tables (λ i. meets sig r.condition i.1) (all_items sig r.pattern t))
+        ∙ first_after-kept tables meeting
+        ∙ sym (ap (λ is. slice_get (item_substs is) 0) (item_list-by_derivations sig r t))
 
 -- the entries that a list gives, one more gone over
-pub collected-step : {X : Type 0} (b : Bool) (keep : Item → Option Item) (f : X → Entry) (g : Entry → List Item)
+pub collected-step : {X : Type 0} (w : Wanted) (keep : Item → Option Item) (f : X → Entry) (g : Entry → List Item)
     (ys zs : List Item) (i : ℕ) (xs : List X) (x : X) → i < length xs → x ≡ get_or xs i x
-    → zs ≡ collected b keep ys (g (f x)) → collected b keep zs (flat_map g (map f (drop (i + 1) xs)))
-    ≡ collected b keep ys (flat_map g (map f (drop i xs)))
-collected-step b keep f g ys zs i xs x h e q =
-    ap (λ us. collected b keep us (flat_map g (map f (drop (i + 1) xs)))) q
-    ∙ sym (collected-append b keep ys (g (f x)) (flat_map g (map f (drop (i + 1) xs))))
-    ∙ ap (λ us. collected b keep ys (flat_map g (map f us))) (sym (drop-item xs i x h e))
+    → zs ≡ collected w keep ys (g (f x)) → collected w keep zs (flat_map g (map f (drop (i + 1) xs)))
+    ≡ collected w keep ys (flat_map g (map f (drop i xs)))
+collected-step w keep f g ys zs i xs x h e q =
+    ap (λ us. collected w keep us (flat_map g (map f (drop (i + 1) xs)))) q
+    ∙ sym (collected-append w keep ys (g (f x)) (flat_map g (map f (drop (i + 1) xs))))
+    ∙ ap (λ us. collected w keep ys (flat_map g (map f us))) (sym (drop-item xs i x h e))
 
-pub collected-end : {X : Type 0} (b : Bool) (keep : Item → Option Item) (f : X → Entry) (g : Entry → List Item)
-    (zs : List Item) (i : ℕ) (xs : List X) → length xs ≤ i → collected b keep zs (flat_map g (map f (drop i xs))) ≡ zs
-collected-end b keep f g zs i xs h = rw (drop_of_length-le xs {i = i} h) (collected-none b keep zs)
+pub collected-end : {X : Type 0} (w : Wanted) (keep : Item → Option Item) (f : X → Entry) (g : Entry → List Item)
+    (zs : List Item) (i : ℕ) (xs : List X) → length xs ≤ i → collected w keep zs (flat_map g (map f (drop i xs))) ≡ zs
+collected-end w keep f g zs i xs h = rw (drop_of_length-le xs {i = i} h) (collected-none w keep zs)
+
+-- the entries of a range of numbers, those of the first and the others
+range-split : (g : Entry → List Item) (es : ℕ → List Entry) (k n : ℕ) → k < n
+    → flat_map g (flat_map es (range_with_len k (n - k)))
+    ≡ flat_map g (es k) ++ flat_map g (flat_map es (range_with_len (k + 1) (n - (k + 1))))
+range-split g es k n h =
+    let e : n - k ≡ suc (n - (k + 1)) = omega arith in
+    ap (λ m. flat_map g (flat_map es (range_with_len k m))) e
+    ∙ flat_map-append g (es k) (flat_map es (range_with_len (k + 1) (n - (k + 1))))
+
+-- one more number gone over
+pub collected-next : (w : Wanted) (keep : Item → Option Item) (g : Entry → List Item) (es : ℕ → List Entry)
+    (ys zs : List Item) (k n : ℕ) → k < n → zs ≡ collected w keep ys (flat_map g (es k))
+    → collected w keep zs (flat_map g (flat_map es (range_with_len (k + 1) (n - (k + 1)))))
+    ≡ collected w keep ys (flat_map g (flat_map es (range_with_len k (n - k))))
+collected-next w keep g es ys zs k n h q =
+    let later : List Item = flat_map g (flat_map es (range_with_len (k + 1) (n - (k + 1)))) in
+    ap (λ us. collected w keep us later) q
+    ∙ sym (collected-append w keep ys (flat_map g (es k)) later)
+    ∙ ap (collected w keep ys) (sym (range-split g es k n h))
+
+-- all numbers gone over
+pub collected-past : (w : Wanted) (keep : Item → Option Item) (g : Entry → List Item) (es : ℕ → List Entry)
+    (zs : List Item) (k n : ℕ) → n ≤ k → collected w keep zs (flat_map g (flat_map es (range_with_len k (n - k)))) ≡ zs
+collected-past w keep g es zs k n h =
+    let e : n - k ≡ 0 = omega arith in
+    ap (λ m. collected w keep zs (flat_map g (flat_map es (range_with_len k m)))) e ∙ collected-none w keep zs
+
+-- what holds of each item holds of those of the first number, and of the others
+pub all-next : (P : Item → Type 0) (g : Entry → List Item) (es : ℕ → List Entry) (k n : ℕ) → k < n
+    → AllByRecursion P (flat_map g (flat_map es (range_with_len k (n - k))))
+    → AllByRecursion P (flat_map g (es k))
+    × AllByRecursion P (flat_map g (flat_map es (range_with_len (k + 1) (n - (k + 1)))))
+all-next P g es k n h all =
+    all-split P (flat_map g (es k)) (flat_map g (flat_map es (range_with_len (k + 1) (n - (k + 1)))))
+    (subst (AllByRecursion P) (range-split g es k n h) all)
 
 -- what holds of each item that entries give holds of those that one of them gives
 pub all-flat_map_at : {X : Type 0} (P : Item → Type 0) (f : X → Entry) (g : Entry → List Item) (i : ℕ) (xs : List X)

@@ -1,6 +1,7 @@
 pub mod Lists
 pub mod Above
 pub mod Stack
+pub mod Choices
 pub mod Path
 pub mod TrailValue
 pub mod Trail
@@ -10,4 +11,5 @@ pub mod ItemCode
 pub mod Collected
 pub mod NamedOrder
 pub mod Found
+pub mod Behind
 pub mod Check

@@ -1,19 +1,14 @@
 //! The entries that are tried next.
 ghost use Rattle.std.specs.Prelude.{◌≡◌, ◌++◌, ◌∷◌, [], false, map, filter, OnOk, IfOk};
-ghost use Rattle.mp_theory.specs.Machine as machine;
-ghost use Rattle.mp_theory.specs.Within as within;
 ghost use Rattle.mp_theory.specs.Trail as trails;
-ghost use Rattle.mp_one.specs.Lists.{trees_of, lists_of};
+ghost use Rattle.mp_one.specs.Lists.{trees_of};
 ghost use Rattle.mp_one.specs.Stack.{child_of, entry_of, reads_at};
-ghost use Rattle.mp_one.specs.Trail.{trail_of};
+ghost use Rattle.mp_one.specs.Choices.{choices_of};
 
-use crate::known_value::{Candidates, candidates_for};
-use crate::lengths::{fewest, length_limit};
 use crate::node::{comm_above, reads};
-use crate::pieces::{is_piece, pieces_between};
+use crate::pieces::{is_piece, pieces_of};
 use crate::stack::{Place, Take};
 use crate::terms::copied;
-use crate::trail::TrailBinding;
 use mp_term::{Memory, Signature, Term};
 use std::alloc::Global;
 
@@ -40,36 +35,18 @@ fn push_entry<'a>(
     Ok(())
 }
 
-// The pieces of the lengths that the child may take.
-fn pieces<'a>(
+/// The entries of that many terms that may stand next, ascending.
+pub fn choices_of<'a>(
     alloc: Global,
     sig: &Signature,
     place: &Place<'a>,
-) -> Result<Vec<Vec<&'a Term>>, Memory>
-    ensures { IfOk result (λ v. filter (reads_at sig.now place.now) (machine.entries (lists_of v.items))
-        ≡ within.choices_within sig.now (child_of place.now)) }
-{
-    let anywhere = comm_above(sig, place.under);
-    let found = pieces_between(
-        alloc,
-        anywhere,
-        fewest(sig, place),
-        length_limit(sig, place),
-        place.left,
-    )?;
-    Ok(found)
-}
-
-// The entries that may stand next and leave the later children what they can take, ascending.
-fn open_choices<'a>(
-    alloc: Global,
-    sig: &Signature,
-    place: &Place<'a>,
+    length: usize,
 ) -> Result<Vec<Take<'a>>, Memory>
-    ensures { IfOk result (λ v. map entry_of v.items ≡ within.choices_within sig.now (child_of place.now)) }
+    ensures { IfOk result (λ v. map entry_of v.items ≡ choices_of sig.now place.now length) }
 {
     let mut found = Vec::new(alloc);
-    for piece in &pieces(alloc, sig, place)? {
+    let anywhere = comm_above(sig, place.under);
+    for piece in &pieces_of(alloc, anywhere, length, place.left)? {
         push_entry(alloc, sig, place, piece, false, &mut found)?;
         push_entry(alloc, sig, place, piece, true, &mut found)?;
     }
@@ -84,8 +61,8 @@ pub fn allows(sig: &Signature, place: &Place<'_>, entry: &Take<'_>) -> bool
         && reads(sig, place.child, place.under, &entry.terms, entry.collapsed)
 }
 
-// The entry with the list, if it may stand next.
-fn only_choice<'a>(
+/// The entry with the list, if it may stand next.
+pub fn only_choice<'a>(
     alloc: Global,
     sig: &Signature,
     place: &Place<'a>,
@@ -104,24 +81,4 @@ fn only_choice<'a>(
         found.push(entry)?;
     }
     Ok(found)
-}
-
-/// Entries that lead to all that comes at the place.
-pub fn choices<'a>(
-    alloc: Global,
-    sig: &Signature,
-    place: &Place<'a>,
-    trail: &[TrailBinding<'a>],
-) -> Result<Vec<Take<'a>>, Memory>
-    ensures { IfOk result
-        (λ v. trails.LeadOn sig.now (child_of place.now) (trail_of trail.now) (map entry_of v.items)) }
-{
-    match candidates_for(alloc, sig, place, trail)? {
-        Candidates::Any => {
-            let all = open_choices(alloc, sig, place)?;
-            Ok(all)
-        }
-        Candidates::Nothing => Ok(Vec::new(alloc)),
-        Candidates::Only(terms) => only_choice(alloc, sig, place, terms),
-    }
 }

@@ -1,9 +1,9 @@
 //! The items found so far, each substitution once.
-ghost use Rattle.std.specs.Prelude.{◌≡◌, [], ◌∷◌, OnOk, option_map};
+ghost use Rattle.std.specs.Prelude.{◌≡◌, [], ◌∷◌, OnOk, IfOk, option_map};
 ghost use Rattle.mp_pattern.specs.CondView.{cond_tree};
 ghost use Rattle.mp_pattern.specs.Admission as admission;
 ghost use Rattle.mp_subst.specs.View.{subst_of};
-ghost use Rattle.mp_one.specs.Collected.{IsReadyFor, condition_of, added};
+ghost use Rattle.mp_one.specs.Collected.{IsReadyFor, condition_of, is_repeated, added};
 ghost use Rattle.mp_one.specs.Path.{table_of};
 ghost use Rattle.mp_one.specs.Trail.{trail_of};
 
@@ -11,7 +11,7 @@ use crate::found::Found;
 use crate::item::Item;
 use crate::owned::own_subst;
 use crate::path::{Path, kept_table};
-use crate::query::Query;
+use crate::query::{Query, Wanted, has_enough};
 use crate::trail::TrailBinding;
 use mp_cond::holds;
 use mp_pattern::Cond;
@@ -30,8 +30,18 @@ fn meets(sig: &Signature, condition: &Option<Cond>, subst: &Subst) -> bool
     }
 }
 
-/// Adds the substitution at the end, with its table where tables are kept, if it meets the condition, unless it was
-/// found before.
+// Whether the substitution was found before, where each is wanted once. What was found stays as it is.
+fn is_repeated(wanted: Wanted, found: &mut Found, subst: &Subst) -> Result<bool, Memory>
+    ensures repeated { IfOk result (λ b. b ≡ is_repeated wanted found.old (subst_of subst.now)) }
+    ensures same { found.new ≡ found.old }
+{
+    match wanted {
+        Wanted::Once => found.has(subst),
+        _ => Ok(false),
+    }
+}
+
+/// Adds the substitution at the end, with its table where tables are kept, if it meets the condition and is wanted.
 pub fn collect(
     alloc: Global,
     query: &Query<'_>,
@@ -42,11 +52,14 @@ pub fn collect(
     requires { IsReadyFor (condition_of query.now) (trail_of trail.now) }
     ensures { OnOk result (found.new ≡ added query.now found.old ((table_of path.now, trail_of trail.now) ∷ [])) }
 {
+    if has_enough(query, found) {
+        return Ok(());
+    }
     let subst = own_subst(alloc, trail)?;
     if !meets(query.sig, query.condition, &subst) {
         return Ok(());
     }
-    if !query.one_table && found.has(&subst)? {
+    if is_repeated(query.wanted, found, &subst)? {
         return Ok(());
     }
     let takes = kept_table(alloc, query.tables, path)?;

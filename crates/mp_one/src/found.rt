@@ -1,5 +1,5 @@
 //! What a search has found so far, where it is looked up.
-ghost use Rattle.std.specs.Prelude.{◌≡◌, ◌≤◌, [], ◌∷◌, ◌++◌, map, length, true, false, IfOk, OnOk};
+ghost use Rattle.std.specs.Prelude.{◌≡◌, ◌≤◌, [], ◌∷◌, ◌++◌, ◌==◌, map, length, true, false, IfOk, OnOk};
 ghost use Rattle.std.specs.List.Sorted.{IsPartitionPoint};
 ghost use Rattle.mp_pattern.specs.Firsts as firsts;
 ghost use Rattle.mp_subst.specs.View.{subst_of};
@@ -116,6 +116,13 @@ impl Found {
         ensures { OnOk result (self.new ≡ self.old ++ item_of item ∷ []) }
     {
         self.items.push(item)
+    }
+
+    /// Whether nothing is found.
+    pub fn is_empty(&self) -> bool
+        ensures { result ≡ (length self.now == 0) }
+    {
+        self.items.as_slice().is_empty()
     }
 
     /// The items in the order in which they were found.

@@ -83,6 +83,14 @@ impl Items {
         Ok(substs)
     }
 
+    /// The substitution of the first item, if there is one.
+    pub(crate) fn into_first(self) -> Option<Subst>
+        ensures { option_map subst_of result ≡ slice_get (item_substs self) 0 }
+    {
+        let mut items = self.items.into_iter();
+        Some(items.next()?.subst)
+    }
+
     /// The items in order.
     pub fn as_slice(&self) -> &[Item]
         ensures { map item_of result.now ≡ self.now }

@@ -23,5 +23,5 @@ mod wildcards;
 
 pub use check::check_takes;
 pub use item::{Item, Items};
-pub use search::{eager_list, eager_substs};
+pub use search::{eager_list, eager_substs, first_subst};
 pub use wildcards::has_small_defaults;

@@ -1,6 +1,5 @@
 //! What a child may take out of the terms that are left.
-ghost use Rattle.std.specs.Prelude.{◌≡◌, ◌-◌, ◌++◌, ◌∷◌, true, false, map, OnOk, IfOk};
-ghost use Rattle.std.specs.List.{range_with_len};
+ghost use Rattle.std.specs.Prelude.{◌≡◌, ◌++◌, ◌∷◌, true, false, map, OnOk, IfOk};
 ghost use Rattle.mp_term.specs.View.{tree};
 ghost use Rattle.mp_term.specs.Order.{tree_cmp};
 ghost use Rattle.mp_term.specs.Pieces as pieces;
@@ -139,6 +138,17 @@ fn push_behind<'a>(
     Ok(())
 }
 
+// Each of the distinct terms alone, ascending.
+fn singletons<'a>(alloc: Global, list: &[&'a Term]) -> Result<Vec<Vec<&'a Term>>, Memory>
+    ensures { IfOk result (λ v. lists_of v.items ≡ pieces.pieces_of tree_cmp true 1 (trees_of list.now)) }
+{
+    let mut all = Vec::new(alloc);
+    for term in &distinct(alloc, list)? {
+        all.push(copied(alloc, &[*term])?)?;
+    }
+    Ok(all)
+}
+
 // The sublists of that many terms, ascending.
 fn sublists_of<'a>(
     alloc: Global,
@@ -158,6 +168,9 @@ fn sublists_of<'a>(
     if length == list.len() {
         all.push(copied(alloc, list)?)?;
         return Ok(all);
+    }
+    if length == 1 {
+        return singletons(alloc, list);
     }
     for first in &distinct(alloc, list)? {
         let rests = sublists_of(alloc, length - 1, after(list, first))?;
@@ -182,8 +195,8 @@ fn prefixes_of<'a>(
     Ok(all)
 }
 
-// The pieces of that many terms, ascending.
-fn pieces_of<'a>(
+/// The pieces of that many terms, ascending: sublists, or prefixes.
+pub fn pieces_of<'a>(
     alloc: Global,
     anywhere: bool,
     length: usize,
@@ -196,23 +209,4 @@ fn pieces_of<'a>(
     } else {
         prefixes_of(alloc, length, list)
     }
-}
-
-/// The pieces of at least so many terms and fewer than the limit, by shortlex: sublists, or prefixes.
-pub fn pieces_between<'a>(
-    alloc: Global,
-    anywhere: bool,
-    least: usize,
-    limit: usize,
-    list: &[&'a Term],
-) -> Result<Vec<Vec<&'a Term>>, Memory>
-    ensures { IfOk result (λ v. lists_of v.items
-        ≡ pieces.pieces_among tree_cmp anywhere (range_with_len least (limit - least)) (trees_of list.now)) }
-{
-    let mut all = Vec::new(alloc);
-    for length in least..limit {
-        let mut some = pieces_of(alloc, anywhere, length, list)?;
-        all.append(&mut some)?;
-    }
-    Ok(all)
 }

@@ -1,5 +1,6 @@
 //! The search for items: entry by entry, in the order of the take tables.
-ghost use Rattle.std.specs.Prelude.{◌≡◌, ◌≤◌, ◌∷◌, [], ◌++◌, map, OnOk, IfOk};
+ghost use Rattle.std.specs.Prelude.{◌≡◌, ◌≤◌, suc, List, ◌∷◌, [], ◌++◌, map, flat_map, option_map};
+ghost use Rattle.std.specs.Prelude.{slice_get, OnOk, IfOk};
 ghost use Rattle.std.specs.List.{AllByRecursion};
 ghost use Rattle.mp_term.specs.View.{tree};
 ghost use Rattle.mp_term.specs.Normal.{IsNormal};
@@ -11,8 +12,10 @@ ghost use Rattle.mp_pattern.specs.Limits.{DefaultsAreSmall};
 ghost use Rattle.mp_pattern.specs.Operands.{HasConditionOver};
 ghost use Rattle.mp_pattern.specs.Variables.{variables};
 ghost use Rattle.mp_pattern.specs.Lists.{IsOneList};
+ghost use Rattle.mp_pattern.specs.Value as values;
 ghost use Rattle.mp_theory.specs.Frames as walk;
 ghost use Rattle.mp_theory.specs.Machine as machine;
+ghost use Rattle.mp_theory.specs.Within as within;
 ghost use Rattle.mp_theory.specs.Trail as trails;
 ghost use Rattle.mp_theory.specs.OneList as one;
 ghost use Rattle.mp_subst.specs.View.{subst_of};
@@ -20,14 +23,17 @@ ghost use Rattle.mp_one.specs.Stack.{frame_of, stack_frames, child_of, entry_of,
 ghost use Rattle.mp_one.specs.Trail.{trail_of};
 ghost use Rattle.mp_one.specs.Items.{IsItemOf};
 ghost use Rattle.mp_one.specs.Path.{table_of};
+ghost use Rattle.mp_one.specs.Behind.{items_by, all_items};
 ghost use Rattle.mp_one.specs.Collected.{AreReadyFor, condition_of, added, kept};
 
-use crate::choices::choices;
+use crate::choices::{choices_of, only_choice};
 use crate::collect::collect;
 use crate::found::Found;
 use crate::item::Items;
+use crate::known_value::{Candidates, candidates_for};
+use crate::lengths::{fewest, length_limit};
 use crate::path::Path;
-use crate::query::Query;
+use crate::query::{Query, Wanted, has_enough};
 use crate::stack::{
     Frame, Next, Place, Stack, Take, children_frame, frame_behind, root_frame, settle,
 };
@@ -83,18 +89,92 @@ fn follow<'a>(
     found: &mut Found,
 ) -> Result<(), Memory>
     requires { AreReadyFor (condition_of query.now)
-        (trails.derivations_by query.now.sig.now (entries_behind place.now) (child_of place.now) (table_of path.now)
-        (trail_of trail.now) (entry_of entry.now)) }
-    ensures { OnOk result
-        (found.new
-        ≡ added query.now found.old
-        (trails.derivations_by query.now.sig.now (entries_behind place.now) (child_of place.now) (table_of path.now)
-        (trail_of trail.now) (entry_of entry.now))) }
+        (items_by query.now place.now path.now trail.now (entry_of entry.now)) }
+    ensures { OnOk result (found.new
+        ≡ added query.now found.old (items_by query.now place.now path.now trail.now (entry_of entry.now))) }
 {
     match extend(alloc, query.sig, place, entry, trail)? {
         Extended::Clash => Ok(()),
         Extended::Same => descend(alloc, query, place, entry, trail, path, found),
         Extended::Changed(after) => descend(alloc, query, place, entry, &after, path, found),
+    }
+}
+
+// Goes on with each of the entries, as long as more is wanted.
+#[cycle(search)]
+fn follow_each<'a>(
+    alloc: Global,
+    query: &Query<'_>,
+    place: &Place<'a>,
+    entries: &[Take<'a>],
+    trail: &'a [TrailBinding<'a>],
+    path: &'a Path<'a>,
+    found: &mut Found,
+) -> Result<(), Memory>
+    requires { AreReadyFor (condition_of query.now)
+        (flat_map (items_by query.now place.now path.now trail.now) (map entry_of entries.now)) }
+    ensures { OnOk result (found.new ≡ added query.now found.old
+        (flat_map (items_by query.now place.now path.now trail.now) (map entry_of entries.now))) }
+{
+    for entry in entries {
+        if has_enough(query, found) {
+            return Ok(());
+        }
+        follow(alloc, query, place, entry, trail, path, found)?;
+    }
+    Ok(())
+}
+
+// Goes on with the entries of one length after the other, as long as more is wanted.
+#[cycle(search)]
+fn follow_lengths<'a>(
+    alloc: Global,
+    query: &Query<'_>,
+    place: &Place<'a>,
+    trail: &'a [TrailBinding<'a>],
+    path: &'a Path<'a>,
+    found: &mut Found,
+) -> Result<(), Memory>
+    requires { AreReadyFor (condition_of query.now) (flat_map (items_by query.now place.now path.now trail.now)
+        (within.choices_within query.now.sig.now (child_of place.now))) }
+    ensures { OnOk result (found.new ≡ added query.now found.old (flat_map
+        (items_by query.now place.now path.now trail.now)
+        (within.choices_within query.now.sig.now (child_of place.now)))) }
+{
+    let least = fewest(query.sig, place);
+    let limit = length_limit(query.sig, place);
+    for length in least..limit {
+        if has_enough(query, found) {
+            return Ok(());
+        }
+        let entries = choices_of(alloc, query.sig, place, length)?;
+        follow_each(alloc, query, place, &entries, trail, path, found)?;
+    }
+    Ok(())
+}
+
+// Adds what is found from the child on, where the trail has been bound.
+#[cycle(search)]
+fn search_child<'a>(
+    alloc: Global,
+    query: &Query<'_>,
+    place: &Place<'a>,
+    trail: &'a [TrailBinding<'a>],
+    path: &'a Path<'a>,
+    found: &mut Found,
+) -> Result<(), Memory>
+    requires { AreReadyFor (condition_of query.now) (trails.derivations query.now.sig.now
+        (suc (entries_behind place.now)) (child_of place.now) (table_of path.now) (trail_of trail.now)) }
+    ensures { OnOk result (found.new ≡ added query.now found.old (trails.derivations query.now.sig.now
+        (suc (entries_behind place.now)) (child_of place.now) (table_of path.now) (trail_of trail.now))) }
+{
+    match candidates_for(alloc, query.sig, place, trail)? {
+        Candidates::Any => follow_lengths(alloc, query, place, trail, path, found),
+        Candidates::Nothing => Ok(()),
+        Candidates::Only(terms) => {
+            let entries = only_choice(alloc, query.sig, place, terms)?;
+            follow_each(alloc, query, place, &entries, trail, path, found)
+        }
     }
 }
 
@@ -119,12 +199,7 @@ fn search<'a>(
     match settle(stack) {
         Next::Ended => collect(alloc, query, path, trail, found),
         Next::Refused => Ok(()),
-        Next::Child(place) => {
-            for entry in &choices(alloc, query.sig, &place, trail)? {
-                follow(alloc, query, &place, entry, trail, path, found)?;
-            }
-            Ok(())
-        }
+        Next::Child(place) => search_child(alloc, query, &place, trail, path, found),
     }
 }
 
@@ -155,6 +230,30 @@ fn search_from(
     )
 }
 
+// What the query wants of all that is found on the subject.
+fn search_subject(
+    alloc: Global,
+    query: &Query<'_>,
+    pattern: &Pattern,
+    subject: &Term,
+) -> Result<Found, Memory>
+    requires small { DefaultsAreSmall (pattern_tree pattern.now) }
+    requires condition { HasConditionOver (variables (pattern_tree pattern.now)) (condition_of query.now) }
+    requires normal { IsNormal query.now.sig.now (tree subject.now) }
+    requires few { node_count (tree subject.now) ≤ MAX_TERM_NODES }
+    ensures { IfOk result (λ is. is ≡ added query.now []
+        (all_items query.now.sig.now (pattern_tree pattern.now) (tree subject.now))) }
+{
+    let mut found = Found::new(alloc);
+    search_from(
+        alloc,
+        query,
+        root_frame(alloc, pattern, subject)?,
+        &mut found,
+    )?;
+    Ok(found)
+}
+
 // All that is found on the subject, with the tables or without.
 fn search_all(
     alloc: Global,
@@ -173,20 +272,18 @@ fn search_all(
         (λ is. is ≡ map (kept tables) (one.item_list sig.now (rule_tree rule.now) (tree subject.now))) }
 {
     let pattern = plan.pattern();
+    let wanted = if decides_table(pattern) {
+        Wanted::Every
+    } else {
+        Wanted::Once
+    };
     let query = Query {
         sig,
         condition: &rule.condition,
-        one_table: decides_table(pattern),
+        wanted,
         tables,
     };
-    let mut found = Found::new(alloc);
-    search_from(
-        alloc,
-        &query,
-        root_frame(alloc, pattern, subject)?,
-        &mut found,
-    )?;
-    Ok(found)
+    search_subject(alloc, &query, pattern, subject)
 }
 
 /// The one-list of a rule and a subject: the substitutions that the rule admits, each once, strictly ascending by least
@@ -248,4 +345,38 @@ pub fn eager_substs(
     let found = search_all(alloc, sig, rule, plan, subject, false)?;
     let substs = found.into_items().into_substs(alloc)?;
     Ok(substs)
+}
+
+/// The first substitution of the one-list alone, which has the least take table of all that the rule admits on the
+/// subject; None where the rule admits nothing there (`one_list` of mp_theory's `specs/OneList.antt`, `IsOneList` of
+/// mp_pattern's `specs/Lists.antt`).
+///
+/// Its conditions are those of `eager_list`. It goes no further than the first item, and so takes as long as the search
+/// takes to come there. `Memory`: memory ran out, and nothing is left.
+pub fn first_subst(
+    alloc: Global,
+    sig: &Signature,
+    rule: &Rule,
+    plan: &Plan,
+    subject: &Term,
+) -> Result<Option<Subst>, Memory>
+    requires plan { IsPlanOf sig.now (pattern_tree rule.now.pattern) plan.now }
+    requires small { DefaultsAreSmall (pattern_tree rule.now.pattern) }
+    requires condition { HasConditionOver (variables (pattern_tree rule.now.pattern)) (rule_tree rule.now).condition }
+    requires normal { IsNormal sig.now (tree subject.now) }
+    requires few { node_count (tree subject.now) ≤ MAX_TERM_NODES }
+    ensures first { IfOk result (λ s.
+        option_map subst_of s ≡ slice_get (one.one_list sig.now (rule_tree rule.now) (tree subject.now)) 0) }
+    ensures exact { IfOk result (λ s. (ss : List values.Subst)
+        × IsOneList sig.now (rule_tree rule.now) (tree subject.now) ss
+        × (option_map subst_of s ≡ slice_get ss 0)) }
+{
+    let query = Query {
+        sig,
+        condition: &rule.condition,
+        wanted: Wanted::First,
+        tables: false,
+    };
+    let found = search_subject(alloc, &query, plan.pattern(), subject)?;
+    Ok(found.into_items().into_first())
 }

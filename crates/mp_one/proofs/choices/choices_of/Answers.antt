@@ -5,7 +5,7 @@ use Rattle.mp_theory.specs.Machine.{reads}
 use Rattle.mp_one.specs.Lists.{trees_of}
 use Rattle.mp_one.specs.Stack.{entry_of, inner_frame}
 use Rattle.mp_one.proofs.ChoiceLaws.{entries-step}
-use Rattle.mp_one.proofs.choices.open_choices.Goals as goal
+use Rattle.mp_one.proofs.choices.choices_of.Goals as goal
 
 pub loop-piece-preserved : goal.loop-piece-preserved
 loop-piece-preserved c =

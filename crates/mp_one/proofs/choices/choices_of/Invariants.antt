@@ -4,7 +4,7 @@ use Rattle.mp_pattern.specs.View.{pattern_tree}
 use Rattle.mp_theory.specs.Machine as machine
 use Rattle.mp_one.specs.Lists.{lists_of}
 use Rattle.mp_one.specs.Stack.{entry_of}
-use Rattle.mp_one.proofs.choices.open_choices.Given as goal
+use Rattle.mp_one.proofs.choices.choices_of.Given as goal
 
 abbrev pub invariant-loop-piece : goal.invariant-loop-piece
 invariant-loop-piece l =
