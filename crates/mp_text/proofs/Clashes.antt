@@ -17,7 +17,7 @@ use Rattle.mp_pattern.specs.Subpatterns.{subpatterns, all_subpatterns}
 use Rattle.mp_pattern.specs.Clash.{first_clash}
 use Rattle.mp_pattern.proofs.ClashLaws.{Agree, agree-app, AgreesWith, InOrder, first_clash_after-InOrder}
 use Rattle.mp_pattern.proofs.ClashLaws.{same_shape-same}
-use Rattle.mp_syntax.specs.Syntax.{Wildcard, Tree, Symbol, Apply, InfixOf, Wild, Optional, Counted, Variable, Trees}
+use Rattle.mp_syntax.specs.Syntax.{Tree, Symbol, Apply, InfixOf, Wild, Optional, Counted, Variable, Trees}
 use Rattle.mp_syntax.specs.Syntax.{no_trees, more_trees}
 use Rattle.mp_text.specs.declared.fault.TextFault.{TextFault}
 use Rattle.std.specs.Prelude.{if◌then◌else◌}
@@ -25,7 +25,7 @@ use Rattle.mp_text.specs.Names.{is_same_variable}
 use Rattle.mp_text.specs.Wildcards.{DefaultForm, absent, normal_form, unknown, PatternWildcard, without_default}
 use Rattle.mp_text.specs.Wildcards.{with_count, with_default_form, pattern_wildcards, all_pattern_wildcards}
 use Rattle.mp_text.specs.Wildcards.{same_extent, same_default, same_class, differs}
-use Rattle.mp_text.specs.Build.{marked_shape, counted_shape, count_of, kind_shape, shape_of, variable_of, pattern_of}
+use Rattle.mp_text.specs.Build.{marked_shape, counted_shape, count_of, kind_shape, variable_of, pattern_of}
 use Rattle.mp_text.specs.Build.{patterns_of}
 use Rattle.mp_text.specs.Checks.{fault_if, head_faults, arity_faults, sign_faults, allows_args, op_named, op_signed}
 use Rattle.mp_text.specs.Checks.{kind_unknown, default_faults, wildcard_faults, count_faults, pattern_faults}

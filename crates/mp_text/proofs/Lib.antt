@@ -1,6 +1,7 @@
 mod Numbers
 mod Applied
 mod Fails
+mod BuiltLists
 pub mod Words
 pub mod Faultless
 mod OpLaws

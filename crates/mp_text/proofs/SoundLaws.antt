@@ -2,7 +2,6 @@
 use Rattle.std.specs.Prelude.{if◌then◌else◌}
 use Rattle.mp_text.proofs.Words.{first-of, second-of, is_name-IsName}
 use Rattle.mp_text.proofs.Faultless.{nil-append, nil-fault_if, some-behind}
-use Rattle.std.proofs.lemmas.Bool.{eqb-false}
 use Rattle.std.proofs.Common.{append-nil, cond, sym, eqb, ◌&&◌, ◌≡◌, ◌≤◌, ◌<◌, ◌+◌, ℕ, zero, suc, Bool, true, false}
 use Rattle.std.proofs.Common.{◌||◌}
 use Rattle.std.proofs.Common.{leb, ltb, rules, List, [], ◌∷◌, ◌++◌, map, length, Option, Some, None, refl, ap, ◌∙◌}

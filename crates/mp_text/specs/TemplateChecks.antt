@@ -1,5 +1,5 @@
 -- The checks of a template: all faults that they find, in the order of its tokens.
-use Rattle.std.specs.Prelude.{Bool, false, ◌||◌, List, [], ◌∷◌, ◌++◌, Option, Some, None, nat_lt}
+use Rattle.std.specs.Prelude.{Bool, false, ◌||◌, List, [], ◌++◌, Option, Some, None, nat_lt}
 use Rattle.mp_term.specs.declared.signature.OpDecl.{OpDecl}
 use Rattle.mp_term.specs.Signature.{Sig}
 use Rattle.mp_pattern.specs.declared.limits.TheConstants.{MAX_PATTERN_NODES}

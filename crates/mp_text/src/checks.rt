@@ -26,7 +26,8 @@ use mp_syntax::Expr;
 use mp_term::OpDecl;
 use std::alloc::{AllocError, Global};
 
-/// The number that decimal digits write, or one more than the limit where it is greater than that.
+/// The number that decimal digits write (`number_of` of `specs/Names.antt`), or one more than the limit where it is
+/// greater than that. The limit is at most `MAX_NUMBER`. It takes no memory.
 pub fn number_of(digits: &[u8], limit: u32) -> u32
     requires { limit ≤ MAX_NUMBER }
     ensures { result ≡ min (number_of digits.now) (limit + 1) }

@@ -26,6 +26,7 @@ mod wildcard;
 mod written;
 
 pub use alone::{read_pattern, read_term};
+pub use checks::number_of;
 pub use cond_alone::{read_cond, read_loose_cond};
 pub use fault::{TextError, TextFault, TextKind};
 pub use file::{EditSet, EditSets, File, Subject, Subjects};
