@@ -1,0 +1,10 @@
+pub mod Matches
+pub mod Redexes
+pub mod Subterms
+pub mod Steps
+pub mod CallAnswers
+pub mod MarkLaws
+pub mod PutBack
+pub mod Places
+pub mod FirstRedexes
+pub mod StepsInPlace

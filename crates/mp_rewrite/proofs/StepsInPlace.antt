@@ -1,0 +1,142 @@
+-- Steps that are made in place.
+use Rattle.std.proofs.Common.{◌≡◌, ◌∙◌, ap, sym, subst, refl, ℕ, zero, suc, ◌+◌, ◌<◌, ◌≤◌, ◌-◌, ◌^◌}
+use Rattle.std.proofs.Common.{max, Bool, true, false, List, [], ◌∷◌}
+use Rattle.std.proofs.Common.{length, map, arith}
+use Rattle.std.specs.Prelude.{Option, Some, None, Result, Ok, Err, min}
+use Rattle.std.specs.Prelude.{nat_lt, if◌then◌else◌, slice_get, option_and_then}
+use Rattle.std.specs.Option.{option_or}
+use Rattle.std.proofs.lemmas.Bool.Decides.{nat_tests}
+use Rattle.mp_term.specs.declared.size.Excess.{Excess}
+use Rattle.mp_term.specs.declared.size.Excess.TheVariants.{TooLarge, TooDeep}
+use Rattle.mp_term.specs.declared.limits.TheConstants.{MAX_TERM_NODES, MAX_DEPTH}
+use Rattle.mp_term.specs.Tree.{Tree, symbol, app, Trees, no_trees, more_trees, tree_list}
+use Rattle.mp_term.specs.Size.{node_count, node_counts, depth, greatest_depth}
+use Rattle.mp_term.specs.Excess.{excess}
+use Rattle.mp_term.specs.Positions.{subterm}
+use Rattle.mp_term.specs.Signature.{Sig}
+use Rattle.mp_term.specs.Normal.{normal}
+use Rattle.mp_term.specs.Edited.{edited, one_edit}
+use Rattle.mp_term.specs.Replaced.{replaced}
+use Rattle.mp_term.proofs.ReplacedLaws.{edited-one}
+use Rattle.mp_pattern.specs.TemplateTree.{Template}
+use Rattle.mp_pattern.specs.Instance.{IsInstance}
+use Rattle.mp_pattern.specs.Step.{Stepped, stepped, exceeded, put_in, step_excess, IsStepTo}
+use Rattle.mp_rewrite.specs.declared.in_place.Marked.{Marked}
+use Rattle.mp_rewrite.specs.declared.stop.Stop.{Stop}
+use Rattle.mp_rewrite.specs.declared.stop.Stop.TheVariants.{Exceeded, Memory}
+use Rattle.mp_term.specs.View.{tree}
+use Rattle.mp_rewrite.specs.Turn.{IsPutIn, IsMadeInPlace}
+use Rattle.mp_rewrite.specs.Computed.{Redex, step_at}
+use Rattle.mp_rewrite.proofs.Steps.{IsStepBy-step_at}
+
+-- ---- sizes
+
+large : (n : ℕ) (b c : Bool) (m d : ℕ) → nat_lt MAX_TERM_NODES n ≡ b → MAX_TERM_NODES < n
+    → (if b then Some (TooLarge m) else (if c then Some (TooDeep d) else None)) ≡ Some (TooLarge m)
+large n true c m d e h = refl
+large n false c m d e h = absurd (grind (arith, nat_tests, e, h))
+
+deep : (n k : ℕ) (b c : Bool) (m d : ℕ) → nat_lt MAX_TERM_NODES n ≡ b → nat_lt MAX_DEPTH k ≡ c → n ≤ MAX_TERM_NODES
+    → MAX_DEPTH < k → (if b then Some (TooLarge m) else (if c then Some (TooDeep d) else None)) ≡ Some (TooDeep d)
+deep n k true c m d e f h g = absurd (grind (arith, nat_tests, e, h))
+deep n k false true m d e f h g = refl
+deep n k false false m d e f h g = absurd (grind (arith, nat_tests, f, g))
+
+fits : (n k : ℕ) (b c : Bool) (m d : ℕ) → nat_lt MAX_TERM_NODES n ≡ b → nat_lt MAX_DEPTH k ≡ c → n ≤ MAX_TERM_NODES
+    → k ≤ MAX_DEPTH → (if b then Some (TooLarge m) else (if c then Some (TooDeep d) else None)) ≡ None
+fits n k true c m d e f h g = absurd (grind (arith, nat_tests, e, h))
+fits n k false true m d e f h g = absurd (grind (arith, nat_tests, f, g))
+fits n k false false m d e f h g = refl
+
+-- a term of too many nodes, one that is too deep, and one that is neither
+pub excess-large : (t : Tree) (n : ℕ) → n ≡ node_count t → n < 2 ^ 64 → MAX_TERM_NODES < n
+    → Some (TooLarge n) ≡ excess (t ∷ [])
+excess-large t n e f h =
+    let nodes : min (node_count t + 0) (2 ^ 64 - 1) ≡ n = omega (arith, e, f) in
+    sym (large (node_count t + 0) (nat_lt MAX_TERM_NODES (node_count t + 0)) (nat_lt MAX_DEPTH (max (depth t) 0)) _ _
+    refl
+    (omega (arith, e, h)) ∙ ap (λ m. Some (TooLarge m)) nodes)
+
+pub excess-deep : (t : Tree) (n d : ℕ) → n ≡ node_count t → n ≤ MAX_TERM_NODES → d < 2 ^ 64 → MAX_DEPTH < d
+    → d ≤ depth t → depth t ≤ max MAX_DEPTH d → Some (TooDeep d) ≡ excess (t ∷ [])
+excess-deep t n d e h f g low high =
+    let reach : min (max (depth t) 0) (2 ^ 64 - 1) ≡ d = omega (arith, f, g, low, high) in
+    sym (deep (node_count t + 0) (max (depth t) 0) (nat_lt MAX_TERM_NODES (node_count t + 0))
+    (nat_lt MAX_DEPTH (max (depth t) 0)) _ _ refl refl (omega (arith, e, h)) (omega (arith, g, low))
+    ∙ ap (λ m. Some (TooDeep m)) reach)
+
+pub excess-none : (t : Tree) (n d : ℕ) → n ≡ node_count t → n ≤ MAX_TERM_NODES → d ≤ MAX_DEPTH
+    → depth t ≤ max MAX_DEPTH d → None ≡ excess (t ∷ [])
+excess-none t n d e h g high =
+    sym (fits (node_count t + 0) (max (depth t) 0) (nat_lt MAX_TERM_NODES (node_count t + 0))
+    (nat_lt MAX_DEPTH (max (depth t) 0)) _ _ refl refl (omega (arith, e, h)) (omega (arith, g, high)))
+
+-- a subterm has no more nodes than the term, and reaches no deeper
+mutual
+  pub nodes-subterm : (p : List ℕ) (t v : Tree) → subterm t p ≡ Some v → node_count v ≤ node_count t
+  nodes-subterm [] t v e = let same : t ≡ v = cc in omega (arith, ap node_count same)
+  nodes-subterm (i ∷ p) (symbol n) v e = cc
+  nodes-subterm (i ∷ p) (app f ts) v e = omega (arith, nodes-below i p ts v e)
+
+  nodes-below : (i : ℕ) (p : List ℕ) (ts : Trees) (v : Tree)
+      → option_and_then (λ t. subterm t p) (slice_get (tree_list ts) i) ≡ Some v → node_count v ≤ node_counts ts
+  nodes-below i p no_trees v e = cc
+  nodes-below zero p (more_trees t ts) v e = omega (arith, nodes-subterm p t v e)
+  nodes-below (suc i) p (more_trees t ts) v e = omega (arith, nodes-below i p ts v e)
+
+mutual
+  pub length-subterm : (p : List ℕ) (t v : Tree) → subterm t p ≡ Some v → length p ≤ depth t
+  length-subterm [] t v e = omega arith
+  length-subterm (i ∷ p) (symbol n) v e = cc
+  length-subterm (i ∷ p) (app f ts) v e = omega (arith, length-below i p ts v e)
+
+  length-below : (i : ℕ) (p : List ℕ) (ts : Trees) (v : Tree)
+      → option_and_then (λ t. subterm t p) (slice_get (tree_list ts) i) ≡ Some v → length p ≤ greatest_depth ts
+  length-below i p no_trees v e = cc
+  length-below zero p (more_trees t ts) v e = omega (arith, length-subterm p t v e)
+  length-below (suc i) p (more_trees t ts) v e = omega (arith, length-below i p ts v e)
+
+-- ---- the step that is made
+
+module _ (sig : Sig) (t : Tree) (r : Redex) (x : Template) (spliced : Tree)
+    (has : r.match.rule.template ≡ Some x) (instance : IsInstance x r.match.subst spliced) where
+  made : (result : Stepped) → IsStepTo sig t r.position spliced result → step_at sig t r ≡ Some result
+  made result step = (IsStepBy-step_at sig t r result).0 (record {
+    template = x;
+    has_template = has;
+    spliced = spliced;
+    instance = instance;
+    step = step;
+  })
+
+  -- the instance is too large or too deep
+  pub step-refused : (e : Excess) → excess (spliced ∷ []) ≡ Some e → step_at sig t r ≡ Some (exceeded e)
+  step-refused e h = made (exceeded e) (ap (λ o. option_or o (excess (put_in sig t r.position spliced))) h)
+
+  whole-excess : (o : Option Excess) → excess (spliced ∷ []) ≡ None
+      → excess (replaced r.position (normal sig spliced) t ∷ []) ≡ o → step_excess sig t r.position spliced ≡ o
+  whole-excess o fits h =
+      ap (λ p. option_or p (excess (put_in sig t r.position spliced))) fits
+      ∙ ap excess (edited-one r.position (normal sig spliced) t) ∙ h
+
+  -- the term with its normal form put in is
+  pub step-exceeded : (e : Excess) → excess (spliced ∷ []) ≡ None
+      → excess (replaced r.position (normal sig spliced) t ∷ []) ≡ Some e → step_at sig t r ≡ Some (exceeded e)
+  step-exceeded e fits h = made (exceeded e) (whole-excess (Some e) fits h)
+
+  -- neither is, and so the step is made
+  pub step-made : (u : Tree) → excess (spliced ∷ []) ≡ None
+      → excess (replaced r.position (normal sig spliced) t ∷ []) ≡ None
+      → u ≡ normal sig (replaced r.position (normal sig spliced) t) → step_at sig t r ≡ Some (stepped u)
+  step-made u fits h same =
+      made (stepped u) (
+        whole-excess None fits h,
+        ap (map (normal sig)) (edited-one r.position (normal sig spliced) t) ∙ ap (λ v. v ∷ []) (sym same),
+      )
+
+  -- and so the answer is that of putting in
+  pub step-put_in : (result : Result Marked Stop) → excess (spliced ∷ []) ≡ None
+      → IsPutIn sig (replaced r.position (normal sig spliced) t) result → IsMadeInPlace (step_at sig t r) result
+  step-put_in (Ok m) fits h = step-made (tree m.term) fits h.0 h.1
+  step-put_in (Err (Exceeded e)) fits h = step-exceeded e fits h
+  step-put_in (Err Memory) fits h = tt

@@ -1,0 +1,34 @@
+use Rattle.std.proofs.Common.{◌≡◌, ◌∙◌, ap, sym, map}
+use Rattle.std.specs.Prelude.{Some, option_map}
+use Rattle.mp_term.specs.View.{tree}
+use Rattle.mp_rewrite.specs.Computed.{first_redex}
+use Rattle.mp_rewrite.specs.Planned.{planned_rule}
+use Rattle.mp_rewrite.specs.Made.{redex_of}
+use Rattle.mp_rewrite.proofs.Steps.{IsReady-first_redex, IsRewritable-first_redex}
+use Rattle.mp_rewrite.proofs.turn.take_turn.Goals as goal
+
+pub step_in_place-requires-clause-ready : goal.step_in_place-requires-clause-ready
+step_in_place-requires-clause-ready c =
+    let sig = c.args.sig.now in
+    let rules = map planned_rule c.args.rules.now in
+    let t = tree c.args.here.term in
+    let first : first_redex sig rules t ≡ Some (redex_of c.in-Ok-Some.found.redex) =
+    sym c.in-Ok-Some.ensures.redex ∙ ap (option_map (λ r. redex_of r.redex)) c.in-Ok-Some.field-0-is in
+    IsReady-first_redex sig rules c.signature_is_valid.ensures c.requires.rules t c.requires.here.rewritable
+    (redex_of c.in-Ok-Some.found.redex) first
+
+pub returns-in_ok-next-in-Ok-Some-clause-here : goal.returns-in_ok-next-in-Ok-Some-clause-here
+returns-in_ok-next-in-Ok-Some-clause-here c =
+    let sig = c.args.sig.now in
+    let rules = map planned_rule c.args.rules.now in
+    let t = tree c.args.here.term in
+    let x = redex_of c.in-Ok-Some.found.redex in
+    let first : first_redex sig rules t ≡ Some x =
+    sym c.in-Ok-Some.ensures.redex ∙ ap (option_map (λ r. redex_of r.redex)) c.in-Ok-Some.field-0-is in
+    let next = c.in_ok-next-in-Ok-Some in
+    record {
+      rewritable = IsRewritable-first_redex sig rules c.signature_is_valid.ensures c.requires.rules t
+          c.requires.here.rewritable x (tree next.next.term) first next.ensures.step;
+      known = next.ensures.known rules (rw c.in-Ok-Some.field-0-is at c.in-Ok-Some.ensures.known);
+      nodes = next.ensures.nodes;
+    }

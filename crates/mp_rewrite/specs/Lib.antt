@@ -1,0 +1,15 @@
+pub mod Step
+pub mod Rewriting
+pub mod Rewritable
+pub mod Computed
+pub mod Planned
+pub mod Made
+pub mod Faults
+pub mod Answers
+pub mod ComputedAnswers
+pub mod Marks
+pub mod MarkView
+pub mod MarkSize
+pub mod MarkFalls
+pub mod Known
+pub mod Turn

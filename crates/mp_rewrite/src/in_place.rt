@@ -1,0 +1,249 @@
+//! A subterm is replaced in place: only the applications above it are brought into normal form again.
+ghost use Rattle.std.specs.Prelude.{◌≡◌, ◌≤◌, ◌+◌, ◌++◌, ◌∷◌, [], ℕ, List, length, take, drop, true, false};
+ghost use Rattle.std.specs.Prelude.{is_some, IfOk};
+ghost use Rattle.std.specs.List.{insert};
+ghost use Rattle.mp_term.specs.Tree.{Tree, trees};
+ghost use Rattle.mp_term.specs.View.{tree};
+ghost use Rattle.mp_term.specs.Size.{node_count, all_nodes};
+ghost use Rattle.mp_term.specs.Positions.{subterm};
+ghost use Rattle.mp_term.specs.Signature.{is_comm};
+ghost use Rattle.mp_term.specs.Normal.{parts, in_order, collapsed, normal, IsNormal};
+ghost use Rattle.mp_term.specs.NormalTest.{ascending};
+ghost use Rattle.mp_pattern.specs.Admission.{Rule};
+ghost use Rattle.mp_rewrite.specs.Marks.{marks};
+ghost use Rattle.mp_rewrite.specs.MarkView.{mark_of};
+ghost use Rattle.mp_rewrite.specs.Known.{IsKnown, AreKnown};
+ghost use Rattle.mp_term.specs.Replaced.{replaced};
+
+use crate::known::{Known, KnownArgs, known_args};
+use mp_term::{Memory, OpId, Signature, Term, Terms};
+use std::alloc::Global;
+
+// A term, what is known of it, and a number of nodes: those of the term and of all that is around it.
+#[derive(Drop)]
+pub(crate) struct Marked {
+    pub(crate) term: Term,
+    pub(crate) known: Known,
+    pub(crate) nodes: u64,
+}
+
+// Arguments, what is known of each, and such a number of nodes.
+#[derive(Drop)]
+struct MarkedArgs {
+    terms: Terms,
+    known: KnownArgs,
+    nodes: u64,
+}
+
+// Where the term goes among the arguments of the operation: to the index, or where they ascend to its place.
+fn place(sig: &Signature, op: OpId, terms: &Terms, index: usize, term: &Term) -> usize
+    requires { index ≤ length terms.now }
+    ensures within { result ≤ length terms.now }
+    ensures index { is_comm sig.now op.0 ≡ false → result ≡ index }
+    ensures ascending { is_comm sig.now op.0 ≡ true → ascending terms.now ≡ true
+        → ascending (insert terms.now result (tree term.now)) ≡ true }
+{
+    if !sig.is_comm(op) {
+        return index;
+    }
+    match terms.as_slice().binary_search(term) {
+        Ok(found) => found,
+        Err(found) => found,
+    }
+}
+
+// One term as the arguments that it gives.
+fn alone(alloc: Global, term: Term, known: Known, nodes: u64) -> Result<MarkedArgs, Memory>
+    ensures terms { IfOk result (λ r. r.terms ≡ tree term ∷ []) }
+    ensures known { IfOk result (λ r. r.known ≡ mark_of known ∷ []) }
+    ensures nodes { IfOk result (λ r. r.nodes ≡ nodes) }
+{
+    let mut terms = Terms::new(alloc);
+    terms.push(term)?;
+    let mut all = KnownArgs::none(alloc);
+    all.push(known)?;
+    Ok(MarkedArgs {
+        terms,
+        known: all,
+        nodes,
+    })
+}
+
+// What an argument of the operation gives: its own arguments, where the operation is associative and its head, and
+// then there is one node less.
+fn open(alloc: Global, sig: &Signature, op: OpId, argument: Marked) -> Result<MarkedArgs, Memory>
+    ensures terms { IfOk result (λ r. r.terms ≡ parts sig.now op.0 (tree argument.term)) }
+    ensures same { IfOk result (λ r. length r.known ≡ length r.terms) }
+    ensures known { IfOk result (λ r. (rules : List Rule)
+        → IsKnown sig.now rules (mark_of argument.known) (tree argument.term)
+        → AreKnown sig.now rules (marks r.known) (trees r.terms)) }
+    ensures nodes { IfOk result (λ r. (rest : ℕ) → argument.nodes ≡ node_count (tree argument.term) + rest
+        → r.nodes ≡ all_nodes r.terms + rest) }
+{
+    let Marked { term, known, nodes } = argument;
+    match term {
+        Term::Sym(name) => alone(alloc, Term::Sym(name), known, nodes),
+        Term::App(inner, terms) => {
+            if inner.0 != op.0 || !sig.is_assoc(op) {
+                return alone(alloc, Term::App(inner, terms), known, nodes);
+            }
+            let known = known_args(alloc, known, terms.len())?;
+            Ok(MarkedArgs {
+                terms,
+                known,
+                nodes: nodes.saturating_sub(1),
+            })
+        }
+    }
+}
+
+// The arguments of the operation with the parts put in at the index, or where they ascend each at its place.
+fn insert_parts(
+    sig: &Signature,
+    op: OpId,
+    args: MarkedArgs,
+    index: usize,
+    parts: MarkedArgs,
+) -> Result<MarkedArgs, Memory>
+    requires within { index ≤ length args.terms }
+    requires same { length args.known ≡ length args.terms }
+    requires same_parts { length parts.known ≡ length parts.terms }
+    requires ascending { is_comm sig.now op.0 ≡ true → ascending args.terms ≡ true }
+    ensures terms { IfOk result (λ r.
+        r.terms ≡ in_order sig.now op.0 (take index args.terms ++ (parts.terms ++ drop index args.terms))) }
+    ensures same { IfOk result (λ r. length r.known ≡ length r.terms) }
+    ensures known { IfOk result (λ r. (rules : List Rule) → AreKnown sig.now rules (marks args.known) (trees args.terms)
+        → AreKnown sig.now rules (marks parts.known) (trees parts.terms)
+        → AreKnown sig.now rules (marks r.known) (trees r.terms)) }
+    ensures nodes { IfOk result (λ r. r.nodes ≡ parts.nodes) }
+{
+    let MarkedArgs {
+        mut terms,
+        mut known,
+        nodes: _,
+    } = args;
+    let MarkedArgs {
+        terms: mut more,
+        known: mut more_known,
+        nodes,
+    } = parts;
+    while 0 < more.len() {
+        let last = more.len() - 1;
+        let part = more.remove(last);
+        let part_known = more_known.remove(last);
+        let at = place(sig, op, &terms, index, &part);
+        terms.insert(at, part)?;
+        known.insert(at, part_known)?;
+    }
+    Ok(MarkedArgs {
+        terms,
+        known,
+        nodes,
+    })
+}
+
+// The application to the arguments, or the only one, where the operation is one-identity: then there is one node less.
+fn close(sig: &Signature, op: OpId, args: MarkedArgs) -> Marked
+    requires { length args.known ≡ length args.terms }
+    ensures term { tree result.term ≡ collapsed sig.now op.0 args.terms }
+    ensures known { (rules : List Rule) → AreKnown sig.now rules (marks args.known) (trees args.terms)
+        → IsKnown sig.now rules (mark_of result.known) (tree result.term) }
+    ensures nodes { (rest : ℕ) → args.nodes ≡ all_nodes args.terms + 1 + rest
+        → result.nodes ≡ node_count (tree result.term) + rest }
+{
+    let MarkedArgs {
+        mut terms,
+        mut known,
+        nodes,
+    } = args;
+    if terms.len() == 1 && sig.is_one(op) {
+        return Marked {
+            term: terms.remove(0),
+            known: known.remove(0),
+            nodes: nodes.saturating_sub(1),
+        };
+    }
+    Marked {
+        term: Term::App(op, terms),
+        known: Known::Inner(known),
+        nodes,
+    }
+}
+
+// The normal form of the application to the arguments, which are normal, with another normal one put in at the index.
+fn put_back(
+    alloc: Global,
+    sig: &Signature,
+    op: OpId,
+    args: MarkedArgs,
+    index: usize,
+    changed: Marked,
+) -> Result<Marked, Memory>
+    requires within { index ≤ length args.terms }
+    requires same { length args.known ≡ length args.terms }
+    requires ascending { is_comm sig.now op.0 ≡ true → ascending args.terms ≡ true }
+    ensures term { IfOk result (λ m. tree m.term
+        ≡ collapsed sig.now op.0 (in_order sig.now op.0
+        (take index args.terms ++ (parts sig.now op.0 (tree changed.term) ++ drop index args.terms)))) }
+    ensures known { IfOk result (λ m. (rules : List Rule) → AreKnown sig.now rules (marks args.known) (trees args.terms)
+        → IsKnown sig.now rules (mark_of changed.known) (tree changed.term)
+        → IsKnown sig.now rules (mark_of m.known) (tree m.term)) }
+    ensures nodes { IfOk result (λ m. (rest : ℕ)
+        → changed.nodes ≡ node_count (tree changed.term) + (all_nodes args.terms + 1 + rest)
+        → m.nodes ≡ node_count (tree m.term) + rest) }
+{
+    let opened = open(alloc, sig, op, changed)?;
+    let all = insert_parts(sig, op, args, index, opened)?;
+    Ok(close(sig, op, all))
+}
+
+// The normal form of the term, which is normal, with the subterm at the position replaced by another normal term.
+// `nodes` counts the nodes of the term with the new one put in and of all that is around it, and is kept up with what
+// goes by normalising.
+pub(crate) fn put_in(
+    alloc: Global,
+    sig: &Signature,
+    into: Marked,
+    position: &[u32],
+    new: Term,
+) -> Result<Marked, Memory>
+    requires normal { IsNormal sig.now (tree into.term) }
+    requires new { IsNormal sig.now (tree new) }
+    requires there { is_some (subterm (tree into.term) position.now) ≡ true }
+    ensures term { IfOk result (λ m.
+        tree m.term ≡ normal sig.now (replaced position.now (tree new) (tree into.term))) }
+    ensures known { IfOk result (λ m. (rules : List Rule) → IsKnown sig.now rules (mark_of into.known) (tree into.term)
+        → IsKnown sig.now rules (mark_of m.known) (tree m.term)) }
+    ensures nodes { IfOk result (λ m. (rest : ℕ)
+        → into.nodes ≡ node_count (replaced position.now (tree new) (tree into.term)) + rest
+        → m.nodes ≡ node_count (tree m.term) + rest) }
+{
+    let Marked { term, known, nodes } = into;
+    let Some((index, below)) = position.split_first() else {
+        return Ok(Marked {
+            term: new,
+            known: Known::Nothing,
+            nodes,
+        });
+    };
+    let index = *index as usize;
+    match term {
+        Term::Sym(_) => unreachable!(),
+        Term::App(op, mut terms) => {
+            let mut all = known_args(alloc, known, terms.len())?;
+            let old = Marked {
+                term: terms.remove(index),
+                known: all.remove(index),
+                nodes,
+            };
+            let changed = put_in(alloc, sig, old, below, new)?;
+            let rest = MarkedArgs {
+                terms,
+                known: all,
+                nodes: 0,
+            };
+            let whole = put_back(alloc, sig, op, rest, index, changed)?;
+            Ok(whole)
+        }
+    }
+}
