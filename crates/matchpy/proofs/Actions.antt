@@ -1,33 +1,106 @@
 -- The law of each action.
-use Rattle.std.proofs.Common.{◌≡◌, ℕ, Bool, true, false, refl, ap, ◌∙◌, arith}
-use Rattle.std.specs.Prelude.{◌↔◌, if◌then◌else◌}
-use Rattle.mp_text.specs.File.{FileTree}
-use Rattle.matchpy.specs.Computed.{file_lines, outcome_of}
-use Rattle.matchpy.specs.Matchable.{IsMatchableFile}
+use Rattle.std.proofs.Common.{◌≡◌, ℕ, Bool, true, false, List, [], ◌∷◌, refl, ap, ◌∙◌, arith}
+use Rattle.std.specs.Prelude.{◌↔◌, Option, Some, None, slice_get, if◌then◌else◌}
+use Rattle.mp_io.specs.Devices.{Text}
+use Rattle.mp_term.specs.Tree.{Tree}
+use Rattle.mp_term.specs.Signature.{Sig}
+use Rattle.mp_term.specs.declared.edit.Edit.{Edit}
+use Rattle.mp_term.specs.declared.edit_fault.EditFault.{EditFault}
+use Rattle.mp_term.specs.declared.edit_fault.EditFault.TheVariants as edit_fault
+use Rattle.mp_pattern.specs.Admission.{Rule}
+use Rattle.mp_rewrite.specs.Rewriting.{Rewriting, done, more, exceeded}
+use Rattle.mp_rewrite.specs.Computed.{rewriting}
+use Rattle.mp_text.specs.declared.file.EditSet.{EditSet}
+use Rattle.mp_text.specs.File.{FileTree, Subject}
+use Rattle.mp_text.specs.Sound.{IsSoundFile}
+use Rattle.matchpy.specs.Computed.{file_lines, outcome_of, over_templates, rewritten}
 use Rattle.matchpy.specs.Matches.{has_some}
-use Rattle.matchpy.specs.Outcome.{IsDone, Outcome, matched}
+use Rattle.matchpy.specs.Outcome.{IsDone, Outcome, edited_before, edits_made, first_without_template, matched}
+use Rattle.matchpy.specs.Outcome.{rewritten_before, statement_before}
 use Rattle.matchpy.specs.declared.words.Action.{Action}
-use Rattle.matchpy.specs.declared.words.Action.TheVariants.{Match, Show}
+use Rattle.matchpy.specs.declared.words.Action.TheVariants as action
+use Rattle.matchpy.proofs.Matchable.{IsMatchableFile-sound}
 use Rattle.matchpy.proofs.MatchTexts.{file_lines-exact}
+use Rattle.matchpy.proofs.Rewrites.{over_templates-exact}
 
 -- what the proofs know of an action
 pub record IsLawful (action : Action) : Type 0 where
-  -- over a file that can be matched it comes to what its function gives, and to nothing else
-  pub exact : (file : FileTree) (o : Outcome) → IsMatchableFile file
-      → IsDone action file o ↔ (o ≡ outcome_of action file)
+  -- over a sound file it comes to what its function gives, and to nothing else
+  pub exact : (max : ℕ) (file : FileTree) (o : Outcome) → IsSoundFile file
+      → IsDone action max file o ↔ (o ≡ outcome_of action max file)
   -- its status isn't that of a file that isn't read
-  pub read : (file : FileTree) → (outcome_of action file).status ≡ 4 → ⊥
+  pub read : (max : ℕ) (file : FileTree) → (outcome_of action max file).status ≡ 4 → ⊥
+
+-- the outcome has a status other than that of a file that isn't read
+abbrev IsRead : Outcome → Type 0
+IsRead o = o.status ≡ 4 → ⊥
 
 any_or_none : (any : Bool) → (let n : ℕ = if any then 0 else 1 in n ≡ 4) → ⊥
 any_or_none true = λ e. absurd (omega arith)
 any_or_none false = λ e. absurd (omega arith)
 
+-- ---- rewriting
+
+rewritten_before-read : (sig : Sig) (limit : ℕ) (name : Text) (w : Rewriting) (rest : Outcome) → IsRead rest
+    → IsRead (rewritten_before sig limit name w rest)
+rewritten_before-read sig limit name (done t turns) rest h = h
+rewritten_before-read sig limit name (more t turns) rest h = λ e. absurd (omega arith)
+rewritten_before-read sig limit name (exceeded x turns) rest h = λ e. absurd (omega arith)
+
+rewritten-read : (sig : Sig) (limit : ℕ) (rules : List Rule) (ss : List Subject) → IsRead (rewritten sig limit rules ss)
+rewritten-read sig limit rules [] = λ e. absurd (omega arith)
+rewritten-read sig limit rules (s ∷ ss) =
+    rewritten_before-read sig limit s.name (rewriting sig rules limit s.term) (rewritten sig limit rules ss)
+    (rewritten-read sig limit rules ss)
+
+over_templates-read : (over : Outcome) (found : Option Rule) → IsRead over → IsRead (over_templates over found)
+over_templates-read over None h = h
+over_templates-read over (Some rule) h = λ e. absurd (omega arith)
+
+-- ---- edits
+
+edited_before-read : (sig : Sig) (name : Text) (fault : Option EditFault) (ts : List Tree) (rest : Outcome)
+    → IsRead rest → IsRead (edited_before sig name fault ts rest)
+edited_before-read sig name None [] rest h = h
+edited_before-read sig name None (t ∷ []) rest h = h
+edited_before-read sig name None (t ∷ u ∷ ts) rest h = h
+edited_before-read sig name (Some (edit_fault.TooLarge nodes)) ts rest h = λ e. absurd (omega arith)
+edited_before-read sig name (Some (edit_fault.TooDeep depth)) ts rest h = λ e. absurd (omega arith)
+edited_before-read sig name (Some (edit_fault.BadPosition i)) ts rest h = h
+edited_before-read sig name (Some (edit_fault.Overlap i j)) ts rest h = h
+edited_before-read sig name (Some (edit_fault.Arity i)) ts rest h = h
+edited_before-read sig name (Some edit_fault.Memory) ts rest h = h
+
+statement_before-read : (sig : Sig) (es : List Edit) (subject : Option Subject) (rest : Outcome)
+    → IsRead rest → IsRead (statement_before sig es subject rest)
+statement_before-read sig es None rest h = h
+statement_before-read sig es (Some s) rest h = edited_before-read sig s.name _ _ rest h
+
+edits_made-read : (sig : Sig) (ss : List Subject) (es : List EditSet) → IsRead (edits_made sig ss es)
+edits_made-read sig ss [] = λ e. absurd (omega arith)
+edits_made-read sig ss (e ∷ es) =
+    statement_before-read sig e.edits (slice_get ss e.subject) (edits_made sig ss es) (edits_made-read sig ss es)
+
+-- ---- the actions
+
 pub action_law : (action : Action) → IsLawful action
-action_law Match = record {
-  exact = λ file o m. (
-    λ h. h.2 ∙ ap matched ((file_lines-exact file m h.0).0 h.1),
-    λ e. (file_lines file, (file_lines-exact file m (file_lines file)).1 refl, e),
-  );
-  read = λ file. any_or_none (has_some (file_lines file));
+action_law action.Match = record {
+  exact = λ max file o sound.
+      let m = IsMatchableFile-sound file sound in (
+        λ h. h.2 ∙ ap matched ((file_lines-exact file m h.0).0 h.1),
+        λ e. (file_lines file, (file_lines-exact file m (file_lines file)).1 refl, e),
+      );
+  read = λ max file. any_or_none (has_some (file_lines file));
 }
-action_law Show = record { exact = λ file o m. (λ e. e, λ e. e); read = λ file e. absurd (omega arith) }
+action_law action.Show =
+    record { exact = λ max file o sound. (λ e. e, λ e. e); read = λ max file e. absurd (omega arith) }
+action_law action.Rewrite = record {
+  exact = over_templates-exact;
+  read = λ max file.
+      over_templates-read (rewritten file.sig max file.rules file.subjects) (first_without_template file.rules)
+      (rewritten-read file.sig max file.rules file.subjects);
+}
+action_law action.Edit = record {
+  exact = λ max file o sound. (λ e. e, λ e. e);
+  read = λ max file. edits_made-read file.sig file.subjects file.edits;
+}

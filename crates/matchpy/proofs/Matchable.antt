@@ -1,16 +1,13 @@
--- A file that is read can be matched: its rules and its subjects are sound.
+-- A sound file can be matched.
 use Rattle.std.proofs.Common.{List, [], ◌∷◌}
 use Rattle.std.specs.List.{AllByRecursion}
-use Rattle.mp_io.specs.Devices.{Text}
 use Rattle.mp_term.specs.Signature.{Sig}
 use Rattle.mp_pattern.specs.Admission.{Rule}
 use Rattle.mp_pattern.specs.SoundRule.{IsSoundRule}
 use Rattle.mp_pattern.proofs.SoundRules.{DefaultsAreSmall-IsFormed, HasConditionOver-HasSoundCondition}
 use Rattle.mp_pattern.proofs.SoundRules.{plan_fault-IsSoundPattern}
 use Rattle.mp_text.specs.File.{FileTree, Subject}
-use Rattle.mp_text.specs.Reading.{IsFileOf}
 use Rattle.mp_text.specs.Sound.{IsSoundSubject, IsSoundFile}
-use Rattle.mp_text.proofs.SoundFile.{IsSoundFile-IsFileOf}
 use Rattle.matchpy.specs.Matchable.{IsMatchable, IsMatchableFile, IsMatchableSubject}
 
 module _ (sig : Sig) where
@@ -32,10 +29,8 @@ module _ (sig : Sig) where
   IsMatchableSubject-sound (s ∷ ss) h =
       (record { normal = h.0.term.normal; few = h.0.term.few_nodes }, IsMatchableSubject-sound ss h.1)
 
-pub IsFileOf-matchable : (bytes : Text) (file : FileTree) → IsFileOf bytes file → IsMatchableFile file
-IsFileOf-matchable bytes file h =
-    let sound : IsSoundFile file = IsSoundFile-IsFileOf bytes file h in
-    record {
-      rules = IsMatchable-sound file.sig file.rules sound.rules.each;
-      subjects = IsMatchableSubject-sound file.sig file.subjects sound.subjects;
-    }
+pub IsMatchableFile-sound : (file : FileTree) → IsSoundFile file → IsMatchableFile file
+IsMatchableFile-sound file sound = record {
+  rules = IsMatchable-sound file.sig file.rules sound.rules.each;
+  subjects = IsMatchableSubject-sound file.sig file.subjects sound.subjects;
+}

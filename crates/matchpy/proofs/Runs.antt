@@ -46,10 +46,10 @@ given-silent limit name over (Some bytes) h = by_length (nat_lt limit (length by
 
 -- over the bytes of a file the status isn't 4
 over_file-read : (request : Request) (fault : Option TextFault) (found : Option FileTree)
-    → (over_file (outcome_of request.action) request.file fault found).status ≡ 4 → ⊥
+    → (over_file (outcome_of request.action request.max) request.file fault found).status ≡ 4 → ⊥
 over_file-read request (Some fault) found = λ e. absurd (omega arith)
 over_file-read request None None = λ e. absurd (omega arith)
-over_file-read request None (Some file) = (action_law request.action).read file
+over_file-read request None (Some file) = (action_law request.action).read request.max file
 
 outcome_at-silent : (files : Files) (request : Option Request) → IsSilent (outcome_at files request)
 outcome_at-silent files None = λ e. refl
@@ -91,6 +91,10 @@ told_status-settled told.Empty = (λ e. absurd (omega arith), λ e. absurd (omeg
 told_status-settled told.Usage = (λ e. absurd (omega arith), λ e. absurd (omega arith))
 told_status-settled (told.BadText name fault) = (λ e. absurd (omega arith), λ e. absurd (omega arith))
 told_status-settled (told.TooLong name) = (λ e. absurd (omega arith), λ e. absurd (omega arith))
+told_status-settled (told.NoTemplate rule) = (λ e. absurd (omega arith), λ e. absurd (omega arith))
+told_status-settled (told.TurnLimit subject max) = (λ e. absurd (omega arith), λ e. absurd (omega arith))
+told_status-settled (told.TooLarge subject nodes) = (λ e. absurd (omega arith), λ e. absurd (omega arith))
+told_status-settled (told.TooDeep subject depth) = (λ e. absurd (omega arith), λ e. absurd (omega arith))
 
 -- ---- the clauses that speak of every shelf
 
@@ -101,7 +105,11 @@ status_of-listed (ending.Told told.Empty) = (1, omega arith, refl)
 status_of-listed (ending.Told told.Usage) = (2, omega arith, refl)
 status_of-listed (ending.Told (told.BadText name fault)) = (3, omega arith, refl)
 status_of-listed (ending.Told (told.TooLong name)) = (4, omega arith, refl)
-status_of-listed ending.Memory = (6, omega arith, refl)
+status_of-listed (ending.Told (told.NoTemplate rule)) = (9, omega arith, refl)
+status_of-listed (ending.Told (told.TurnLimit subject max)) = (6, omega arith, refl)
+status_of-listed (ending.Told (told.TooLarge subject nodes)) = (7, omega arith, refl)
+status_of-listed (ending.Told (told.TooDeep subject depth)) = (7, omega arith, refl)
+status_of-listed ending.Memory = (8, omega arith, refl)
 status_of-listed ending.CannotWrite = (5, omega arith, refl)
 status_of-listed (ending.CannotOpen name) = (4, omega arith, refl)
 status_of-listed (ending.CannotRead name) = (4, omega arith, refl)
@@ -124,6 +132,10 @@ Says-done err (ending.Told told.Empty) says few = Says-nothing err says
 Says-done err (ending.Told told.Usage) says few = absurd (omega arith)
 Says-done err (ending.Told (told.BadText name fault)) says few = absurd (omega arith)
 Says-done err (ending.Told (told.TooLong name)) says few = absurd (omega arith)
+Says-done err (ending.Told (told.NoTemplate rule)) says few = absurd (omega arith)
+Says-done err (ending.Told (told.TurnLimit subject max)) says few = absurd (omega arith)
+Says-done err (ending.Told (told.TooLarge subject nodes)) says few = absurd (omega arith)
+Says-done err (ending.Told (told.TooDeep subject depth)) says few = absurd (omega arith)
 Says-done err ending.Memory says few = absurd (omega arith)
 Says-done err ending.CannotWrite says few = absurd (omega arith)
 Says-done err (ending.CannotOpen name) says few = absurd (omega arith)
@@ -155,7 +167,7 @@ module _ (files : Files) (request : Option Request) (shelf : Shelved) (told_file
     nothing = λ e. Keeps-appends out.old out.new
         (subst (λ (x : Text). Appends out.old out.new x) (outcome_at-silent files request (sym h.status ∙ e)) h.text);
     write = λ e. absurd (not5 e);
-    unfailed = λ _. h.stays;
+    unfailed = λ _ _ _. h.stays;
     line = (
       told_line t,
       record {
@@ -177,7 +189,7 @@ module _ (files : Files) (request : Option Request) (shelf : Shelved) (told_file
     front = h;
     nothing = λ e. absurd (omega arith);
     write = λ e. absurd (omega arith);
-    unfailed = λ few. absurd (omega arith);
+    unfailed = λ _ _ not8. absurd (not8 refl);
     line = (
       memory_line,
       record {
@@ -200,7 +212,7 @@ module _ (files : Files) (request : Option Request) (shelf : Shelved) (told_file
     front = h;
     nothing = λ e. absurd (omega arith);
     write = λ _. (long, rose);
-    unfailed = λ few. absurd (omega arith);
+    unfailed = λ _ not5 _. absurd (not5 refl);
     line = (
       write_line,
       record {
@@ -230,7 +242,7 @@ module _ (files : Files) (request : Option Request) (shelf : Shelved) (told_file
     front = AppendsFront-keeps out o.out kept;
     nothing = λ _. kept;
     write = λ e. absurd (omega arith);
-    unfailed = λ few. absurd (omega arith);
+    unfailed = λ not4 _ _. absurd (not4 refl);
     line = (
       open_line name,
       record {
@@ -254,7 +266,7 @@ module _ (files : Files) (request : Option Request) (shelf : Shelved) (told_file
     front = AppendsFront-keeps out o.out kept;
     nothing = λ _. kept;
     write = λ e. absurd (omega arith);
-    unfailed = λ few. absurd (omega arith);
+    unfailed = λ not4 _ _. absurd (not4 refl);
     line = (
       read_line name,
       record {

@@ -7,7 +7,7 @@ use Rattle.mp_io.specs.Moments.{Shelved, Sunk}
 use Rattle.mp_io.specs.Printing.{AppendsFront}
 use Rattle.matchpy.specs.Endings.{line_of, status_of, told_line, told_status}
 use Rattle.matchpy.specs.Messages.{long_line}
-use Rattle.matchpy.specs.Outcome.{Outcome}
+use Rattle.matchpy.specs.Outcome.{Outcome, written_before}
 use Rattle.matchpy.specs.Run.{IsTurnOf, IsUnreadLine}
 use Rattle.matchpy.specs.declared.ending.Told.{Told}
 use Rattle.matchpy.specs.declared.ending.Ending.{Ending}
@@ -30,6 +30,12 @@ Acts o out ending.CannotWrite =
     AppendsFront out.old out.new o.out × Rose out.faults out.faults_after × (0 < length o.out)
 Acts o out (ending.CannotOpen name) = ⊥
 Acts o out (ending.CannotRead name) = ⊥
+
+-- A part of an action was done: its text was written, and of the outcome `rest` is left; or the action ended in it.
+abbrev pub GoesOn : Outcome → Outcome → Sunk → Result ⊤ Ending → Type 0
+GoesOn o rest out (Ok u) =
+    (text : Text) × (o ≡ written_before text rest) × Appends out.old out.new text × (out.faults_after ≡ out.faults)
+GoesOn o rest out (Err e) = Acts o out e
 
 -- ---- a file
 

@@ -1,18 +1,21 @@
--- The outcome as a function: by the search for the one-list, and by the reading of the bytes as it is computed.
-use Rattle.std.specs.Prelude.{ℕ, List, [], length, flat_map, Option, Some, None, if◌then◌else◌, nat_lt}
+-- The outcome as a function: by the search for the one-list, by rewriting as it is computed, and by the reading of the
+-- bytes as it is computed.
+use Rattle.std.specs.Prelude.{ℕ, List, [], ◌∷◌, length, flat_map, Option, Some, None, if◌then◌else◌, nat_lt}
 use Rattle.mp_io.specs.Devices.{Files, Text, held}
 use Rattle.mp_term.specs.Signature.{Sig}
 use Rattle.mp_pattern.specs.Admission.{Rule}
 use Rattle.mp_theory.specs.OneList.{one_list}
+use Rattle.mp_rewrite.specs.Computed.{rewriting}
 use Rattle.mp_text.specs.File.{FileTree, Subject}
 use Rattle.mp_text.specs.Computed.{fault_of, file_of}
 use Rattle.mp_text.specs.declared.fault.TextFault.{TextFault}
-use Rattle.matchpy.specs.Messages.{fault_line, long_line, open_line, usage_line}
+use Rattle.matchpy.specs.Messages.{fault_line, long_line, no_template_line, open_line, usage_line}
 use Rattle.matchpy.specs.Matches.{match_line}
-use Rattle.matchpy.specs.Outcome.{Outcome, file_limit, matched, refused, shown}
+use Rattle.matchpy.specs.Outcome.{Outcome, edits_made, file_limit, finished, first_without_template}
+use Rattle.matchpy.specs.Outcome.{matched, refused, rewritten_before, shown}
 use Rattle.matchpy.specs.Words.{Request}
 use Rattle.matchpy.specs.declared.words.Action.{Action}
-use Rattle.matchpy.specs.declared.words.Action.TheVariants.{Match, Show}
+use Rattle.matchpy.specs.declared.words.Action.TheVariants.{Match, Show, Rewrite, Edit}
 
 -- ---- the lines of the matches
 
@@ -28,12 +31,28 @@ subject_lines sig rules subject = flat_map (rule_lines sig subject) rules
 abbrev pub file_lines : FileTree → Text
 file_lines file = flat_map (subject_lines file.sig file.rules) file.subjects
 
+-- ---- rewriting
+
+-- the rewriting of subjects, in order
+abbrev pub rewritten : Sig → ℕ → List Rule → List Subject → Outcome
+rewritten sig limit rules [] = finished
+rewritten sig limit rules (s ∷ ss) =
+    rewritten_before sig limit s.name (rewriting sig rules limit s.term) (rewritten sig limit rules ss)
+
+-- the first rule without a template is told, and where there is none it is so
+abbrev pub over_templates : Outcome → Option Rule → Outcome
+over_templates over None = over
+over_templates over (Some rule) = refused 11 (no_template_line rule.name)
+
 -- ---- the actions
 
 -- what an action over a file comes to
-abbrev pub outcome_of : Action → FileTree → Outcome
-outcome_of Match file = matched (file_lines file)
-outcome_of Show file = shown file
+abbrev pub outcome_of : Action → ℕ → FileTree → Outcome
+outcome_of Match max file = matched (file_lines file)
+outcome_of Show max file = shown file
+outcome_of Rewrite max file =
+    over_templates (rewritten file.sig max file.rules file.subjects) (first_without_template file.rules)
+outcome_of Edit max file = edits_made file.sig file.subjects file.edits
 
 -- ---- the run
 
@@ -45,7 +64,8 @@ over_file over name None None = refused 3 []
 
 -- what the request asks for, over the bytes of its file
 abbrev pub outcome_over : Request → Text → Outcome
-outcome_over request bytes = over_file (outcome_of request.action) request.file (fault_of bytes) (file_of bytes)
+outcome_over request bytes =
+    over_file (outcome_of request.action request.max) request.file (fault_of bytes) (file_of bytes)
 
 -- the outcome over a named file's bytes, where it is held and not too long
 abbrev pub given : ℕ → Text → (Text → Outcome) → Option Text → Outcome

@@ -1,7 +1,8 @@
 -- The status and the line of each ending.
 use Rattle.std.specs.Prelude.{ℕ, []}
 use Rattle.mp_io.specs.Devices.{Text}
-use Rattle.matchpy.specs.Messages.{fault_line, long_line, memory_line, open_line, read_line, usage_line, write_line}
+use Rattle.matchpy.specs.Messages.{deep_line, fault_line, large_line, limit_line, long_line, memory_line}
+use Rattle.matchpy.specs.Messages.{no_template_line, open_line, read_line, usage_line, write_line}
 use Rattle.matchpy.specs.declared.ending.Told.{Told}
 use Rattle.matchpy.specs.declared.ending.Told.TheVariants as told
 use Rattle.matchpy.specs.declared.ending.Ending.{Ending}
@@ -14,6 +15,10 @@ told_status told.Empty = 1
 told_status told.Usage = 2
 told_status (told.BadText name fault) = 3
 told_status (told.TooLong name) = 4
+told_status (told.NoTemplate rule) = 11
+told_status (told.TurnLimit subject max) = 6
+told_status (told.TooLarge subject nodes) = 7
+told_status (told.TooDeep subject depth) = 7
 
 -- the line of what is told, and none where all went well
 abbrev pub told_line : Told → Text
@@ -22,6 +27,10 @@ told_line told.Empty = []
 told_line told.Usage = usage_line
 told_line (told.BadText name fault) = fault_line name.now fault
 told_line (told.TooLong name) = long_line name.now
+told_line (told.NoTemplate rule) = no_template_line rule
+told_line (told.TurnLimit subject max) = limit_line subject max
+told_line (told.TooLarge subject nodes) = large_line subject nodes
+told_line (told.TooDeep subject depth) = deep_line subject depth
 
 -- the status of an ending
 abbrev pub status_of : Ending → ℕ

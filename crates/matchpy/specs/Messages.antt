@@ -1,6 +1,8 @@
 -- The lines of standard error.
-use Rattle.std.specs.Prelude.{[], ◌∷◌, ◌++◌, codes, decimal}
+use Rattle.std.specs.Prelude.{ℕ, [], ◌∷◌, ◌++◌, codes, decimal}
 use Rattle.mp_io.specs.Devices.{Text}
+use Rattle.mp_term.specs.declared.size.Excess.{Excess}
+use Rattle.mp_term.specs.declared.size.Excess.TheVariants as excess
 use Rattle.mp_text.specs.declared.fault.TextFault.{TextFault}
 use Rattle.mp_text.specs.declared.fault.TextKind.{TextKind}
 use Rattle.mp_text.specs.declared.fault.TextKind.TheVariants.{BadByte, Syntax, TooDeep, DuplicateName, TooMany}
@@ -71,3 +73,28 @@ said_at name line column text = codes "matchpy: "
 -- a fault of a file's text
 abbrev pub fault_line : Text → TextFault → Text
 fault_line name fault = said_at name (decimal fault.line) (decimal fault.column) (kind_text fault.kind)
+
+-- the line that says something of a name, with the digits of a number in it
+abbrev pub said_number : Text → Text → Text → Text → Text
+said_number name before digits behind = codes "matchpy: " ++ (name ++ (before ++ (digits ++ (behind ++ 10 ∷ []))))
+
+-- the rule has no template
+abbrev pub no_template_line : Text → Text
+no_template_line name = said_of name (codes ": no template")
+
+-- of the subject, so many steps were made, and more could be
+abbrev pub limit_line : Text → ℕ → Text
+limit_line name limit = said_number name (codes ": turn limit ") (decimal limit) []
+
+-- what the subject would become has so many nodes
+abbrev pub large_line : Text → ℕ → Text
+large_line name nodes = said_number name (codes ": too large: ") (decimal nodes) (codes " nodes")
+
+-- what the subject would become is so deep
+abbrev pub deep_line : Text → ℕ → Text
+deep_line name depth = said_number name (codes ": too deep: depth ") (decimal depth) []
+
+-- what the subject would become is too large or too deep
+abbrev pub excess_line : Text → Excess → Text
+excess_line name (excess.TooLarge nodes) = large_line name nodes
+excess_line name (excess.TooDeep depth) = deep_line name depth

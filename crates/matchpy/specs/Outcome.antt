@@ -1,15 +1,29 @@
 -- What a run writes and answers, for these words and these files, memory and faults aside.
-use Rattle.std.specs.Prelude.{◌≡◌, ◌⊎◌, ◌<◌, ◌≤◌, ℕ, List, [], length, Option, Some, None, if◌then◌else◌}
+use Rattle.std.specs.Prelude.{◌≡◌, ◌⊎◌, ◌<◌, ◌≤◌, ℕ, List, [], ◌∷◌, ◌++◌, length, map, Option, Some, None, is_none}
+use Rattle.std.specs.Prelude.{find, slice_get, codes, decimal, if◌then◌else◌}
 use Rattle.mp_io.specs.Devices.{Files, Text, held}
-use Rattle.mp_text.specs.File.{FileTree}
+use Rattle.mp_term.specs.declared.edit.Edit.{Edit}
+use Rattle.mp_term.specs.declared.edit_fault.EditFault.{EditFault}
+use Rattle.mp_term.specs.declared.edit_fault.EditFault.TheVariants.{TooLarge, TooDeep}
+use Rattle.mp_term.specs.Tree.{Tree}
+use Rattle.mp_term.specs.Signature.{Sig}
+use Rattle.mp_term.specs.Normal.{normal}
+use Rattle.mp_term.specs.Edited.{edited}
+use Rattle.mp_term.specs.EditFault.{edit_fault}
+use Rattle.mp_pattern.specs.Admission.{Rule}
+use Rattle.mp_print.specs.Printing.{term_text}
+use Rattle.mp_rewrite.specs.Rewriting.{Rewriting, done, more, exceeded, IsRewriting}
+use Rattle.mp_text.specs.declared.file.EditSet.{EditSet}
+use Rattle.mp_text.specs.File.{FileTree, Subject}
 use Rattle.mp_text.specs.PrintedFile.{file_text}
 use Rattle.mp_text.specs.Reading.{IsFaultOf, IsFileOf}
 use Rattle.mp_text.specs.declared.fault.TextFault.{TextFault}
-use Rattle.matchpy.specs.Messages.{fault_line, long_line, open_line, usage_line}
+use Rattle.matchpy.specs.Messages.{deep_line, excess_line, fault_line, large_line, limit_line, long_line}
+use Rattle.matchpy.specs.Messages.{no_template_line, open_line, usage_line}
 use Rattle.matchpy.specs.Matches.{IsMatchText, has_some}
 use Rattle.matchpy.specs.Words.{Request, request_of}
 use Rattle.matchpy.specs.declared.words.Action.{Action}
-use Rattle.matchpy.specs.declared.words.Action.TheVariants.{Match, Show}
+use Rattle.matchpy.specs.declared.words.Action.TheVariants as action
 
 -- what a run writes, and what it answers
 pub record Outcome : Type 0 where
@@ -22,11 +36,19 @@ pub record Outcome : Type 0 where
 abbrev pub refused : ℕ → Text → Outcome
 refused status line = record { out = []; err = line; status = status }
 
+-- all is done, and no more is written
+abbrev pub finished : Outcome
+finished = record { out = []; err = []; status = 0 }
+
+-- the text is written, and then what else comes
+abbrev pub written_before : Text → Outcome → Outcome
+written_before text o = record { out = text ++ o.out; err = o.err; status = o.status }
+
 -- a file of rules has at most so many bytes
 abbrev pub file_limit : ℕ
 file_limit = 1048576
 
--- ---- the actions
+-- ---- matches, and the file
 
 -- the lines of the matches; the status tells whether there is one
 abbrev pub matched : Text → Outcome
@@ -36,17 +58,83 @@ matched text = record { out = text; err = []; status = if has_some text then 0 e
 abbrev pub shown : FileTree → Outcome
 shown file = record { out = file_text file; err = []; status = 0 }
 
--- what an action over a file comes to: the matches of the file are printed, or the file
-abbrev pub IsDone : Action → FileTree → Outcome → Type 0
-IsDone Match file o = (text : Text) × IsMatchText file text × (o ≡ matched text)
-IsDone Show file o = o ≡ shown file
+-- ---- rewriting
+
+-- the first rule that has no template
+abbrev pub first_without_template : List Rule → Option Rule
+first_without_template = find (λ r. is_none r.template)
+
+-- where a rule has no template, the first one is told, and else it is so
+abbrev pub IsOverTemplates : (Outcome → Type 0) → Option Rule → Outcome → Type 0
+IsOverTemplates over None o = over o
+IsOverTemplates over (Some rule) o = o ≡ refused 11 (no_template_line rule.name)
+
+-- NAME: TERM after TURNS
+abbrev pub rewritten_line : Sig → Text → Tree → ℕ → Text
+rewritten_line sig name t turns =
+    name ++ (codes ": " ++ (term_text sig t ++ (codes " after " ++ (decimal turns ++ 10 ∷ []))))
+
+module _ (sig : Sig) (limit : ℕ) where
+  -- A subject's rewriting ends so, and the subjects behind it come to `rest`. Behind a term of which no position is
+  -- live it goes on, and else no more is done; a step that exceeds a size has no line.
+  abbrev pub rewritten_before : Text → Rewriting → Outcome → Outcome
+  rewritten_before name (done t turns) rest = written_before (rewritten_line sig name t turns) rest
+  rewritten_before name (more t turns) rest =
+      written_before (rewritten_line sig name t turns) (refused 6 (limit_line name limit))
+  rewritten_before name (exceeded e turns) rest = refused 7 (excess_line name e)
+
+  -- the rewriting of subjects, in order
+  abbrev pub AreRewritten : List Rule → List Subject → Outcome → Type 0
+  AreRewritten rules [] o = o ≡ finished
+  AreRewritten rules (s ∷ ss) o =
+      (w : Rewriting) × (rest : Outcome) × IsRewriting sig rules limit s.term w × AreRewritten rules ss rest
+      × (o ≡ rewritten_before s.name w rest)
+
+-- ---- edits
+
+module _ (sig : Sig) where
+  -- NAME: TERM
+  abbrev pub edited_line : Text → Tree → Text
+  edited_line name t = name ++ (codes ": " ++ (term_text sig t ++ 10 ∷ []))
+
+  -- The edits of a subject have this fault, if they have one, they make these terms of it, and the statements behind
+  -- come to `rest`. Edits that exceed a size end it, without a line. No other fault is one of a file that was read, and
+  -- without a fault it is one term.
+  abbrev pub edited_before : Text → Option EditFault → List Tree → Outcome → Outcome
+  edited_before name None (t ∷ []) rest = written_before (edited_line name t) rest
+  edited_before name (Some (TooLarge nodes)) ts rest = refused 7 (large_line name nodes)
+  edited_before name (Some (TooDeep depth)) ts rest = refused 7 (deep_line name depth)
+  edited_before name _ ts rest = rest
+
+  -- an edit statement of a subject, where it is there, before what the statements behind come to
+  abbrev pub statement_before : List Edit → Option Subject → Outcome → Outcome
+  statement_before es None rest = rest
+  statement_before es (Some s) rest =
+      edited_before s.name (edit_fault sig s.term es) (map (normal sig) (edited es s.term)) rest
+
+  -- edit statements of these subjects, in order
+  abbrev pub edits_made : List Subject → List EditSet → Outcome
+  edits_made subjects [] = finished
+  edits_made subjects (e ∷ es) =
+      statement_before e.edits (slice_get subjects e.subject) (edits_made subjects es)
+
+-- ---- the actions
+
+-- What an action over a file comes to: the matches of the file are printed, or the file, or its subjects after
+-- rewriting with a limit, or after its edits.
+abbrev pub IsDone : Action → ℕ → FileTree → Outcome → Type 0
+IsDone action.Match max file o = (text : Text) × IsMatchText file text × (o ≡ matched text)
+IsDone action.Show max file o = o ≡ shown file
+IsDone action.Rewrite max file o = IsOverTemplates (AreRewritten file.sig max file.rules file.subjects)
+    (first_without_template file.rules) o
+IsDone action.Edit max file o = o ≡ edits_made file.sig file.subjects file.edits
 
 -- ---- the run
 
 -- over the bytes of a file: what the action over the file that they are comes to, or the fault that they have
 abbrev pub IsOutcomeOver : Request → Text → Outcome → Type 0
 IsOutcomeOver request bytes o =
-    ((file : FileTree) × IsFileOf bytes file × IsDone request.action file o)
+    ((file : FileTree) × IsFileOf bytes file × IsDone request.action request.max file o)
     ⊎ ((fault : TextFault) × IsFaultOf bytes fault × (o ≡ refused 3 (fault_line request.file fault)))
 
 -- a named file is held and not too long, and over its bytes the outcome is as told; or it is refused

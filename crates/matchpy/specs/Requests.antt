@@ -4,4 +4,4 @@ use Rattle.matchpy.specs.declared.words.Request.{Request}
 
 -- what the code holds of a request, as plain data
 abbrev pub asked : Request → words.Request
-asked request = record { action = request.action; file = request.file.now }
+asked request = record { action = request.action; file = request.file.now; max = request.max }

@@ -36,7 +36,7 @@ IsTurnOf files (n ∷ names) name = (n ≡ name) ⊎ ((IsMissing files n → ⊥
 
 -- what a run answers
 abbrev pub statuses : List ℕ
-statuses = 0 ∷ 1 ∷ 2 ∷ 3 ∷ 4 ∷ 5 ∷ 8 ∷ []
+statuses = 0 ∷ 1 ∷ 2 ∷ 3 ∷ 4 ∷ 5 ∷ 6 ∷ 7 ∷ 8 ∷ 11 ∷ []
 
 -- a count of the shelf's faults rose
 abbrev pub ShelfRose : Shelved → Type 0
@@ -90,7 +90,7 @@ pub record Runs (o : Outcome) (names : List Text) (files : Files) (shelf : Shelv
   pub nothing : status ≡ 4 → Keeps out.old out.new
   -- a write that failed is told only where something was to be written and the count rose, and isn't tried again
   pub write : status ≡ 5 → (0 < length o.out) × Rose out.faults out.faults_after
-  pub unfailed : status ≤ 3 → out.faults_after ≡ out.faults
+  pub unfailed : (status ≡ 4 → ⊥) → (status ≡ 5 → ⊥) → (status ≡ 8 → ⊥) → out.faults_after ≡ out.faults
   -- what is said
   pub line : (text : Text) × IsLine o names shelf status text × Says err text
 

@@ -4,16 +4,18 @@ ghost use Rattle.std.specs.Prelude.{◌≡◌, ◌≤◌, ◌∷◌, [], length,
 ghost use Rattle.mp_io.specs.Devices.{held};
 ghost use Rattle.mp_io.specs.Moments.{shelved, sunk};
 ghost use Rattle.mp_text.specs.File.{file_tree};
+ghost use Rattle.mp_text.specs.Sound.{IsSoundFile};
 ghost use Rattle.matchpy.specs.Answers.{Acts, Answers, HasCauses, Loads, items_in};
 ghost use Rattle.matchpy.specs.Computed.{given, outcome_of, outcome_over};
 ghost use Rattle.matchpy.specs.Endings.{status_of};
-ghost use Rattle.matchpy.specs.Matchable.{IsMatchableFile};
 ghost use Rattle.matchpy.specs.Outcome.{file_limit};
 ghost use Rattle.matchpy.specs.Requests.{asked};
 ghost use Rattle.matchpy.specs.Run.{IsReadOnce};
 
+use crate::edit::edit_file;
 use crate::ending::{Ending, Told};
 use crate::matches::match_file;
+use crate::rewrite::rewrite_file;
 use crate::show::show_file;
 use crate::words::{Action, Request};
 use mp_io::{ReadFault, Shelf, Sink, read_whole};
@@ -44,16 +46,18 @@ fn load<'a, S: Shelf>(
     }
 }
 
-// Does the action, over a file that was read.
-fn act<'a, O: Sink>(alloc: Global, action: Action, file: &File, out: &mut O) -> Ending<'a>
-    requires { IsMatchableFile (file_tree file.now) }
-    ensures acts { Acts (outcome_of action (file_tree file.now)) (sunk O.Sink out.old out.new) result }
+// Does the action, over a file that was read; rewriting makes at most `max` steps of each subject.
+fn act<'a, O: Sink>(alloc: Global, action: Action, max: u64, file: &File, out: &mut O) -> Ending<'a>
+    requires { IsSoundFile (file_tree file.now) }
+    ensures acts { Acts (outcome_of action max (file_tree file.now)) (sunk O.Sink out.old out.new) result }
     ensures used { status_of result ≡ 2 → ⊥ }
     ensures read { status_of result ≡ 4 → ⊥ }
 {
     match action {
         Action::Match => match_file(alloc, file, out),
         Action::Show => show_file(file, out),
+        Action::Rewrite => rewrite_file(alloc, file, max, out),
+        Action::Edit => edit_file(alloc, file, out),
     }
 }
 
@@ -70,7 +74,7 @@ fn act_over<'a, O: Sink>(
     ensures read { status_of result ≡ 4 → ⊥ }
 {
     match read_file(alloc, bytes) {
-        Ok(file) => act(alloc, request.action, &file, out),
+        Ok(file) => act(alloc, request.action, request.max, &file, out),
         Err(TextError::Text(fault)) => Ending::Told(Told::BadText(request.file, fault)),
         Err(TextError::Memory) => Ending::Memory,
     }

@@ -2,9 +2,11 @@
 #![tactic(auto)]
 
 mod answer;
+mod edit;
 mod ending;
 mod laws;
 mod matches;
+mod rewrite;
 mod run;
 mod show;
 #[cfg(test)]

@@ -8,11 +8,12 @@ ghost use Rattle.mp_io.specs.Writing.{Puts};
 ghost use Rattle.mp_pattern.specs.RuleView.{rule_tree};
 ghost use Rattle.mp_subst.specs.View.{subst_of};
 ghost use Rattle.mp_text.specs.File.{file_tree, subject_tree};
+ghost use Rattle.mp_text.specs.Sound.{IsSoundFile};
 ghost use Rattle.matchpy.specs.Answers.{Acts};
 ghost use Rattle.matchpy.specs.Computed.{file_lines, rule_lines, subject_lines};
 ghost use Rattle.matchpy.specs.Endings.{status_of};
 ghost use Rattle.matchpy.specs.Printed.{PrintsMatches};
-ghost use Rattle.matchpy.specs.Matchable.{IsMatchable, IsMatchableFile, IsMatchableSubject};
+ghost use Rattle.matchpy.specs.Matchable.{IsMatchable, IsMatchableSubject};
 ghost use Rattle.matchpy.specs.Matches.{match_line};
 ghost use Rattle.matchpy.specs.Outcome.{matched};
 ghost use Rattle.matchpy.specs.Planned.{IsPlanned, planned_rule, rule_plan};
@@ -200,7 +201,7 @@ fn write_subjects<O: Sink>(
 /// The ending is that of `matched` of `specs/Outcome.antt` over the lines `file_lines` of `specs/Computed.antt`, or
 /// want of memory, or a write that failed; a front of the lines was written then.
 pub fn match_file<'a, O: Sink>(alloc: Global, file: &File, out: &mut O) -> Ending<'a>
-    requires { IsMatchableFile (file_tree file.now) }
+    requires { IsSoundFile (file_tree file.now) }
     ensures acts { Acts (matched (file_lines (file_tree file.now))) (sunk O.Sink out.old out.new) result }
     ensures used { status_of result ≡ 2 → ⊥ }
     ensures read { status_of result ≡ 4 → ⊥ }

@@ -45,17 +45,19 @@ fn finish<E: Sink>(err: &mut E, ending: Ending<'_>) -> u8
     ensures status { result ≡ status_of ending.entry }
     ensures says { Says (sunk E.Sink err.old err.new) (line_of ending.entry) }
 {
-    match say(err, ending) {
-        Ok(()) => status(ending),
-        Err(Failed) => status(ending),
+    match say(err, &ending) {
+        Ok(()) => status(&ending),
+        Err(Failed) => status(&ending),
     }
 }
 
 /// The whole command: does what the words ask for, over the files of a shelf, and answers the status.
 ///
-/// What is asked for goes to `out`, and one line on what went wrong to `err`. The statuses are 0 (done, with at
-/// least one line), 1 (done, with none), 2 (the words make no request), 3 (the file's text has a fault), 4 (a file
-/// can't be opened or read, or is too long), 5 (`out` failed) and 8 (want of memory). The definition is `IsOutcome` of
+/// What is asked for goes to `out`, and one line on what went wrong to `err`. The statuses are 0 (done, by `match` with
+/// at least one line), 1 (`match` has no line), 2 (the words make no request), 3 (the file's text has a fault), 4 (a
+/// file can't be opened or read, or is too long), 5 (`out` failed), 6 (rewriting a subject reached the limit of steps,
+/// and more could be made), 7 (a step or an edit would make a term that is too large or too deep), 8 (want of memory)
+/// and 11 (`rewrite` was asked for, and a rule has no template). The definition is `IsOutcome` of
 /// `specs/Outcome.antt`, and `specs/Run.antt` says how a run meets it where memory or a device fails.
 pub fn run<S: Shelf, O: Sink, E: Sink>(
     alloc: Global,

@@ -1,8 +1,10 @@
 //! Runs of the whole command over files in memory, and over devices that fail.
 
 mod cases;
+mod changes;
 
 use self::cases::{CONDITIONED, CONDITIONS, EXAMPLES, FAULTS, MATCHES, RUNS};
+use self::changes::CHANGES;
 use crate::run::run;
 use mp_io::{MemoryShelf, MemorySink};
 use std::alloc::Global;
@@ -140,8 +142,10 @@ fn is_run(alloc: Global, case: &str) -> Result<bool, Fail> {
 
 #[test]
 fn words_and_files_decide_what_is_printed(rt: HostRuntime) -> Result<(), Fail> {
-    for case in RUNS.split("====\n") {
-        assert!(rt; is_run(rt.alloc(), case)?, "{case}");
+    for table in [RUNS, CHANGES] {
+        for case in table.split("====\n") {
+            assert!(rt; is_run(rt.alloc(), case)?, "{case}");
+        }
     }
     Ok(())
 }
