@@ -1,9 +1,11 @@
 //! The items of both generators on small cases worked out by hand, begun anew after the end and in the middle.
 
-ghost use Rattle.std.specs.Prelude.{◌≡◌};
+ghost use Rattle.std.specs.Prelude.{◌≡◌, ◌≤◌, length as list_length, sum};
+ghost use Rattle.mp_choice.specs.Splits.{leasts};
+ghost use Rattle.mp_choice.specs.declared.limits.TheConstants.{MAX_TOTAL};
 
 use mp_choice::{Part, Splits, SubBags};
-use std::process::Abort;
+use std::alloc::Global;
 use std::test::Fail;
 
 const NONE_OR_MORE: Part = Part {
@@ -31,87 +33,125 @@ const NO_LENGTH: Part = Part {
     most: Some(1),
 };
 
-// The next items are these.
-fn assert_splits(rt: &impl Abort, splits: &mut Splits, items: &[&[u32]])
+// Appends the numbers, in square brackets.
+fn push_numbers(alloc: Global, text: &mut String, numbers: &[u32]) -> Result<(), Fail> {
+    text.push_str(format!(in alloc; "{numbers:?}")?.as_str())?;
+    Ok(())
+}
+
+// The next splits, at most so many.
+fn next_splits(alloc: Global, splits: &mut Splits, most: usize) -> Result<String, Fail>
     ensures room { splits.new.room ≡ splits.old.room }
 {
-    for item in items {
-        assert!(rt; splits.next());
-        assert_eq!(rt; splits.lengths(), *item);
+    let mut text = String::new(alloc);
+    for _ in 0..most {
+        if splits.next() {
+            push_numbers(alloc, &mut text, splits.lengths())?;
+        }
     }
+    Ok(text)
+}
+
+// Whether the splits of the length by the parts are these.
+fn are_splits(
+    alloc: Global,
+    splits: &mut Splits,
+    length: u32,
+    parts: &[Part],
+    items: &str,
+) -> Result<bool, Fail>
+    requires length_bound { length ≤ MAX_TOTAL }
+    requires least_bound { leasts parts.now ≤ MAX_TOTAL }
+    requires within_room { list_length parts.now ≤ splits.old.room }
+    ensures room { splits.new.room ≡ splits.old.room }
+{
+    splits.restart(length, parts);
+    Ok(next_splits(alloc, splits, 8)?.as_str() == items)
+}
+
+const THREE: [Part; 3] = [ONE_OR_TWO, NONE_OR_MORE, NONE_OR_ONE];
+
+// Whether splits are listed in order, begun anew.
+fn are_listed(alloc: Global, splits: &mut Splits) -> Result<bool, Fail>
+    requires { splits.old.room ≡ 3 }
+    ensures { splits.new.room ≡ 3 }
+{
+    let two = [ONE_OR_MORE, NONE_OR_MORE];
+    let all = "[1, 1, 1][1, 2, 0][2, 0, 1][2, 1, 0]";
+    Ok(
+        are_splits(alloc, splits, 3, &two, "[1, 2][2, 1][3, 0]")?
+            && are_splits(alloc, splits, 3, &THREE, all)?
+            && are_splits(alloc, splits, 0, &[], "[]")?,
+    )
+}
+
+// Whether lengths that the parts can't have give no split.
+fn have_no_splits(alloc: Global, splits: &mut Splits) -> Result<bool, Fail>
+    requires { splits.old.room ≡ 3 }
+{
+    Ok(
+        are_splits(alloc, splits, 1, &[], "")?
+            && are_splits(alloc, splits, 1, &[ONE_OR_MORE, ONE_OR_TWO], "")?
+            && are_splits(alloc, splits, 4, &[ONE_OR_TWO, NONE_OR_ONE], "")?
+            && are_splits(alloc, splits, 5, &[NONE_OR_MORE, NO_LENGTH], "")?,
+    )
 }
 
 #[test]
 fn splits_are_listed_in_order(rt: HostRuntime) -> Result<(), Fail> {
-    let parts = [ONE_OR_TWO, NONE_OR_MORE, NONE_OR_ONE];
-    let mut splits = Splits::begin(rt.alloc(), 3, &parts)?;
-    assert_splits(&rt, &mut splits, &[&[1, 1, 1], &[1, 2, 0]]);
-    splits.restart(3, &[ONE_OR_MORE, NONE_OR_MORE]);
-    assert_splits(&rt, &mut splits, &[&[1, 2], &[2, 1], &[3, 0]]);
-    assert!(rt; !splits.next());
-    assert!(rt; !splits.next());
-    splits.restart(3, &parts);
-    assert_splits(
-        &rt,
-        &mut splits,
-        &[&[1, 1, 1], &[1, 2, 0], &[2, 0, 1], &[2, 1, 0]],
-    );
-    assert!(rt; !splits.next());
-    splits.restart(0, &[]);
-    assert_splits(&rt, &mut splits, &[&[]]);
-    assert!(rt; !splits.next());
-    splits.restart(1, &[]);
-    assert!(rt; !splits.next());
-    splits.restart(1, &[ONE_OR_MORE, ONE_OR_TWO]);
-    assert!(rt; !splits.next());
-    splits.restart(4, &[ONE_OR_TWO, NONE_OR_ONE]);
-    assert!(rt; !splits.next());
-    splits.restart(5, &[NONE_OR_MORE, NO_LENGTH]);
-    assert!(rt; !splits.next());
+    let mut splits = Splits::begin(rt.alloc(), 3, &THREE)?;
+    let first = next_splits(rt.alloc(), &mut splits, 2)?;
+    assert_eq!(rt; first.as_str(), "[1, 1, 1][1, 2, 0]");
+    assert!(rt; are_listed(rt.alloc(), &mut splits)?);
+    assert!(rt; have_no_splits(rt.alloc(), &mut splits)?);
     Ok(())
 }
 
-// The next items are these.
-fn assert_sub_bags(rt: &impl Abort, bags: &mut SubBags, items: &[&[u32]])
+// The next sub-multisets, at most so many.
+fn next_bags(alloc: Global, bags: &mut SubBags, most: usize) -> Result<String, Fail>
     ensures room { bags.new.room ≡ bags.old.room }
 {
-    for item in items {
-        assert!(rt; bags.next());
-        assert_eq!(rt; bags.counts(), *item);
+    let mut text = String::new(alloc);
+    for _ in 0..most {
+        if bags.next() {
+            push_numbers(alloc, &mut text, bags.counts())?;
+        }
     }
+    Ok(text)
+}
+
+// Whether the sub-multisets of the counts are these.
+fn are_bags(alloc: Global, bags: &mut SubBags, counts: &[u32], items: &str) -> Result<bool, Fail>
+    requires bound { sum counts.now ≤ MAX_TOTAL }
+    requires within_room { list_length counts.now ≤ bags.old.room }
+    ensures room { bags.new.room ≡ bags.old.room }
+{
+    bags.restart(counts);
+    Ok(next_bags(alloc, bags, 12)?.as_str() == items)
+}
+
+const FIRST_FIVE: &str = "[0, 0, 0][1, 0, 0][0, 1, 0][0, 0, 1][1, 1, 0]";
+
+const ALL_EIGHT: &str = "[0, 0, 0][1, 0, 0][0, 1, 0][0, 0, 1][1, 1, 0][1, 0, 1][0, 1, 1][1, 1, 1]";
+
+// Whether sub-multisets are listed in order, begun anew.
+fn are_bags_listed(alloc: Global, bags: &mut SubBags) -> Result<bool, Fail>
+    requires { bags.old.room ≡ 3 }
+{
+    let six = "[0, 0][1, 0][0, 1][2, 0][1, 1][2, 1]";
+    Ok(
+        are_bags(alloc, bags, &[2, 1], six)?
+            && are_bags(alloc, bags, &[1, 1, 1], ALL_EIGHT)?
+            && are_bags(alloc, bags, &[], "[]")?
+            && are_bags(alloc, bags, &[0, 2], "[0, 0][0, 1][0, 2]")?,
+    )
 }
 
 #[test]
 fn sub_multisets_are_listed_in_order(rt: HostRuntime) -> Result<(), Fail> {
     let mut bags = SubBags::begin(rt.alloc(), &[1, 1, 1])?;
-    let items: [&[u32]; 8] = [
-        &[0, 0, 0],
-        &[1, 0, 0],
-        &[0, 1, 0],
-        &[0, 0, 1],
-        &[1, 1, 0],
-        &[1, 0, 1],
-        &[0, 1, 1],
-        &[1, 1, 1],
-    ];
-    assert_sub_bags(&rt, &mut bags, &items[..5]);
-    bags.restart(&[2, 1]);
-    assert_sub_bags(
-        &rt,
-        &mut bags,
-        &[&[0, 0], &[1, 0], &[0, 1], &[2, 0], &[1, 1], &[2, 1]],
-    );
-    assert!(rt; !bags.next());
-    assert!(rt; !bags.next());
-    bags.restart(&[1, 1, 1]);
-    assert_sub_bags(&rt, &mut bags, &items);
-    assert!(rt; !bags.next());
-    bags.restart(&[]);
-    assert_sub_bags(&rt, &mut bags, &[&[]]);
-    assert!(rt; !bags.next());
-    bags.restart(&[0, 2]);
-    assert_sub_bags(&rt, &mut bags, &[&[0, 0], &[0, 1], &[0, 2]]);
-    assert!(rt; !bags.next());
+    assert_eq!(rt; next_bags(rt.alloc(), &mut bags, 5)?.as_str(), FIRST_FIVE);
+    assert!(rt; are_bags_listed(rt.alloc(), &mut bags)?);
     Ok(())
 }
 

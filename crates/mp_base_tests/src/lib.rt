@@ -5,15 +5,13 @@
 #[cfg(test)]
 mod choices;
 #[cfg(test)]
-mod condition_trees;
-#[cfg(test)]
 mod devices;
-#[cfg(test)]
-mod edits;
 #[cfg(test)]
 mod substitutions;
 #[cfg(test)]
 mod syntax_faults;
+#[cfg(test)]
+mod syntax_texts;
 #[cfg(test)]
 mod syntax_trees;
 #[cfg(test)]

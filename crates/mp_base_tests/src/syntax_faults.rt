@@ -1,13 +1,13 @@
 //! The first faults of texts, by tokens and grammar.
 
-use mp_syntax::{
-    Fault, Place, SyntaxError, first_token_place, read_condition, read_expression, read_statements,
-};
+use crate::syntax_texts::{Sort, error, expanded};
+use mp_syntax::{Fault, Place, SyntaxError, first_token_place};
 use std::alloc::Global;
 use std::test::Fail;
 
 // In each table a line is a text and, behind `|`, its first fault: the kind, the line and the column. Nothing stands
-// there where it has none. `&` stands for a line feed.
+// there where it has none. `&` stands for a line feed, and between two of "`" a number, `^` and a text stand for the
+// text so often.
 
 // Statements.
 const STATEMENTS: &str = "\
@@ -165,6 +165,22 @@ edit s: [0] -> a;|Syntax 1 9\n\
 edit s: 0 -> [] [];|Syntax 1 17\n\
 edit s: 01 -> 02;|";
 
+// Statements within the limits and above them.
+const LIMITS: &str = "\
+op u 1; subject s: `100^u(`a`100^)`;|\n\
+op u 1; subject s: `101^u(`a`101^)`;|TooDeep 1 221\n\
+op u 1; subject s: `100^(`a`100^+b)`;|\n\
+op u 1; subject s: `101^(`a`101^+b)`;|TooDeep 1 120\n\
+edit s: 0 -> [`99^f(`a`99^)`];|\n\
+edit s: 0 -> [`100^f(`a`100^)`];|TooDeep 1 214\n\
+rule r: `100^f(`x_{2}`100^)` -> a;|\n\
+op `64^f` 2;|\n\
+op `65^f` 2;|TooMany 1 4\n\
+rule r: ;`65^f`|TooMany 1 10\n\
+`65^f` é|TooMany 1 1\n\
+é `65^f`|BadByte 1 1\n\
+subject s: `101^(`é|BadByte 1 113";
+
 // Expressions alone.
 const EXPRESSIONS: &str = "\
 a|\n\
@@ -229,24 +245,16 @@ kind(f(a, b), v|Syntax 1 16\n\
 (1 == 1)|Syntax 1 1\n\
 if 1 == 1|Syntax 1 1";
 
-// What a text is read as.
-#[derive(Clone, Copy)]
-enum Sort {
-    Statements,
-    Expression,
-    Condition,
-}
-
-fn error(alloc: Global, sort: Sort, text: &[u8]) -> Result<Option<SyntaxError>, Fail> {
-    if text.len() > 5000 {
-        return Err("the text is too long".into());
-    }
-    match sort {
-        Sort::Statements => Ok(read_statements(alloc, text).err()),
-        Sort::Expression => Ok(read_expression(alloc, text).err()),
-        Sort::Condition => Ok(read_condition(alloc, text).err()),
-    }
-}
+// Conditions within the limit of brackets and above it.
+const BRACKETS: &str = "\
+`100^[`1 == 1`100^]`|\n\
+`101^[`1 == 1`101^]`|TooDeep 1 101\n\
+`100^[`same(a, b)`100^]`|TooDeep 1 105\n\
+`100^[`1 == (a)`100^]`|Syntax 1 106\n\
+`99^[`same(a, b)`99^]`|\n\
+`99^[`same(a, f(b))`99^]`|TooDeep 1 109\n\
+`98^[`1 < count((a + b))`98^]`|\n\
+`98^[`1 < count(f((a + b)))`98^]`|TooDeep 1 111";
 
 fn fault_text(alloc: Global, fault: &Fault) -> Result<String, Fail> {
     let Fault { kind, place } = fault;
@@ -262,116 +270,32 @@ fn first_fault(alloc: Global, sort: Sort, text: &[u8]) -> Result<String, Fail> {
     }
 }
 
-// The text, with a line feed for each `&`.
-fn with_line_feeds(alloc: Global, text: &str) -> Result<Vec<u8>, Fail> {
-    let mut bytes = Vec::new(alloc);
-    for byte in text.as_bytes() {
-        bytes.push(if *byte == b'&' { b'\n' } else { *byte })?;
-    }
-    Ok(bytes)
-}
-
 // Whether the text of the line has the fault of the line.
 fn is_first(alloc: Global, sort: Sort, line: &str) -> Result<bool, Fail> {
     let Some((text, fault)) = line.split_once('|') else {
         return Err("the line has no bar".into());
     };
-    let text = with_line_feeds(alloc, text)?;
+    let text = expanded(alloc, text)?;
     Ok(first_fault(alloc, sort, &text)?.as_str() == fault)
 }
 
+const TABLES: &[(Sort, &str)] = &[
+    (Sort::Statements, STATEMENTS),
+    (Sort::Statements, RULES),
+    (Sort::Statements, TEMPLATES),
+    (Sort::Statements, EDITS),
+    (Sort::Statements, LIMITS),
+    (Sort::Expression, EXPRESSIONS),
+    (Sort::Condition, CONDITIONS),
+    (Sort::Condition, BRACKETS),
+];
+
 #[test]
 fn the_first_fault_of_a_text_stands_at_its_token(rt: HostRuntime) -> Result<(), Fail> {
-    for (sort, table) in [
-        (Sort::Statements, STATEMENTS),
-        (Sort::Statements, RULES),
-        (Sort::Statements, TEMPLATES),
-        (Sort::Statements, EDITS),
-        (Sort::Expression, EXPRESSIONS),
-        (Sort::Condition, CONDITIONS),
-    ] {
-        for line in table.split('\n') {
-            assert!(rt; is_first(rt.alloc(), sort, line)?, "{line}");
+    for table in TABLES {
+        for line in table.1.split('\n') {
+            assert!(rt; is_first(rt.alloc(), table.0, line)?, "{line}");
         }
-    }
-    Ok(())
-}
-
-// So many times the text.
-fn push_times(text: &mut Vec<u8>, times: usize, part: &str) -> Result<(), Fail> {
-    for _ in 0..times {
-        text.extend_from_slice(part.as_bytes())?;
-    }
-    Ok(())
-}
-
-// The front, so many times what opens, the middle, as many times what closes, and the back.
-fn nested(alloc: Global, times: usize, parts: [&str; 5]) -> Result<Vec<u8>, Fail> {
-    let [front, open, middle, close, back] = parts;
-    let mut text = Vec::new(alloc);
-    push_times(&mut text, 1, front)?;
-    push_times(&mut text, times, open)?;
-    push_times(&mut text, 1, middle)?;
-    push_times(&mut text, times, close)?;
-    push_times(&mut text, 1, back)?;
-    Ok(text)
-}
-
-#[test]
-fn limits_are_met_exactly(rt: HostRuntime) -> Result<(), Fail> {
-    for (times, parts, fault) in [
-        (100, ["op u 1; subject s: ", "u(", "a", ")", ";"], ""),
-        (
-            101,
-            ["op u 1; subject s: ", "u(", "a", ")", ";"],
-            "TooDeep 1 221",
-        ),
-        (100, ["op u 1; subject s: ", "(", "a", "+b)", ";"], ""),
-        (
-            101,
-            ["op u 1; subject s: ", "(", "a", "+b)", ";"],
-            "TooDeep 1 120",
-        ),
-        (99, ["edit s: 0 -> [", "f(", "a", ")", "];"], ""),
-        (
-            100,
-            ["edit s: 0 -> [", "f(", "a", ")", "];"],
-            "TooDeep 1 214",
-        ),
-        (100, ["rule r: ", "f(", "x_{2}", ")", " -> a;"], ""),
-        (64, ["op ", "f", " 2;", "", ""], ""),
-        (65, ["op ", "f", " 2;", "", ""], "TooMany 1 4"),
-        (65, ["rule r: ;", "f", "", "", ""], "TooMany 1 10"),
-        (65, ["", "f", " é", "", ""], "TooMany 1 1"),
-        (65, ["é ", "f", "", "", ""], "BadByte 1 1"),
-        (101, ["subject s: ", "(", "é", "", ""], "BadByte 1 113"),
-    ] {
-        let text = nested(rt.alloc(), times, parts)?;
-        assert_eq!(rt;
-            first_fault(rt.alloc(), Sort::Statements, &text)?.as_str(),
-            fault
-        );
-    }
-    Ok(())
-}
-
-#[test]
-fn brackets_of_all_sorts_are_counted_together(rt: HostRuntime) -> Result<(), Fail> {
-    for (times, middle, fault) in [
-        (100, "1 == 1", ""),
-        (101, "1 == 1", "TooDeep 1 101"),
-        (100, "same(a, b)", "TooDeep 1 105"),
-        (100, "1 == (a)", "Syntax 1 106"),
-        (99, "same(a, b)", ""),
-        (99, "same(a, f(b))", "TooDeep 1 109"),
-        (98, "1 < count((a + b))", ""),
-        (98, "1 < count(f((a + b)))", "TooDeep 1 111"),
-    ] {
-        let text = nested(rt.alloc(), times, ["", "[", middle, "]", ""])?;
-        assert_eq!(rt;
-            first_fault(rt.alloc(), Sort::Condition, &text)?.as_str(),
-            fault
-        );
     }
     Ok(())
 }

@@ -4,7 +4,8 @@ use mp_io::{MemorySink, Sink, put};
 use mp_one::{Item, Items, eager_list, has_small_defaults};
 use mp_pattern::{Entry, Plan, Rule};
 use mp_term::{Signature, Term, is_normal, node_count};
-use mp_text::{File, read_file, write_subst, write_term};
+use mp_tests::file;
+use mp_text::{File, write_subst, write_term};
 use std::alloc::Global;
 use std::test::Fail;
 
@@ -197,36 +198,48 @@ fn items(alloc: Global, sig: &Signature, rule: &Rule, subject: &Term) -> Option<
     eager_list(alloc, sig, rule, &plan, subject).ok()
 }
 
-// Writes the items of the file's first rule on its first subject.
-fn write_first(alloc: Global, file: &File, sink: &mut MemorySink) -> bool {
-    match (file.rules.get(0), file.subjects.get(0)) {
-        (Some(rule), Some(subject)) => match items(alloc, &file.sig, rule, &subject.term) {
-            Some(items) => write_items(&file.sig, &items, sink),
-            None => false,
-        },
-        _ => false,
+// Writes what the rule admits on the subject.
+fn write_all(
+    alloc: Global,
+    sig: &Signature,
+    rule: &Rule,
+    subject: &Term,
+    sink: &mut MemorySink,
+) -> bool {
+    match items(alloc, sig, rule, subject) {
+        Some(items) => write_items(sig, &items, sink),
+        None => false,
     }
 }
 
-fn write_file_items(alloc: Global, text: &[u8], sink: &mut MemorySink) -> bool {
-    if text.len() > 1000 {
+// Writes the items of the file's first rule on its first subject.
+fn write_first(alloc: Global, file: &File, sink: &mut MemorySink) -> bool {
+    let Some(rule) = file.rules.get(0) else {
         return false;
+    };
+    match file.subjects.get(0) {
+        Some(subject) => write_all(alloc, &file.sig, rule, &subject.term, sink),
+        None => false,
     }
-    match read_file(alloc, text) {
-        Ok(file) => write_first(alloc, &file, sink),
-        Err(_) => false,
+}
+
+// Whether the items of the file are those of the text.
+fn are_items(alloc: Global, text: &str, items: &str) -> Result<bool, Fail> {
+    let file = file(alloc, text)?;
+    match MemorySink::new(alloc, 1000, Vec::new(alloc)) {
+        Ok(mut sink) => Ok(
+            write_first(alloc, &file, &mut sink) && sink.content() == items.as_bytes(),
+        ),
+        Err(_) => Err("memory ran out".into()),
     }
 }
 
 // Whether the file has the items that stand behind it.
 fn is_listed(alloc: Global, case: &str) -> Result<bool, Fail> {
-    let Some((text, items)) = case.split_once("----\n") else {
-        return Err("no items".into());
-    };
-    let Ok(mut sink) = MemorySink::new(alloc, 1000, Vec::new(alloc)) else {
-        return Err("memory ran out".into());
-    };
-    Ok(write_file_items(alloc, text.as_bytes(), &mut sink) && sink.content() == items.as_bytes())
+    match case.split_once("----\n") {
+        Some((file, items)) => are_items(alloc, file, items),
+        None => Err("no items".into()),
+    }
 }
 
 #[test]

@@ -6,7 +6,7 @@ use mp_pattern::{
 };
 use mp_term::{KindId, Name, OpId, Signature, Terms};
 use mp_tests::{file, halves, pattern};
-use mp_text::{read_file, read_loose_cond};
+use mp_text::read_loose_cond;
 use std::alloc::Global;
 use std::test::Fail;
 
@@ -35,16 +35,22 @@ _{2}|\n\
 x__|n\n\
 ___|";
 
+// A copy of the first argument of an application.
+fn first_argument(alloc: Global, applied: &Pattern) -> Result<Pattern, Fail> {
+    let Pattern::App(_, args) = applied else {
+        return Err("no application".into());
+    };
+    match args.get(0) {
+        Some(argument) => Ok(copy_pattern(alloc, argument)?),
+        None => Err("no argument".into()),
+    }
+}
+
 // The text as the only argument of `g`.
 fn argument(alloc: Global, sig: &Signature, text: &str) -> Result<Pattern, Fail> {
     let applied = format!(in alloc; "g({text})")?;
-    match pattern(alloc, sig, &applied)? {
-        Pattern::App(_, args) => match args.get(0) {
-            Some(argument) => Ok(copy_pattern(alloc, argument)?),
-            None => Err("no argument".into()),
-        },
-        _ => Err("no application".into()),
-    }
+    let applied = pattern(alloc, sig, &applied)?;
+    first_argument(alloc, &applied)
 }
 
 // Whether the pattern is fully named where the marks have `n`, and syntactic where they have `s`.
@@ -91,61 +97,60 @@ fn is_marked(alloc: Global, sig: &Signature, line: &str) -> Result<bool, Fail> {
     Ok(has_marks(sig, &pattern, wanted) && pattern_compare(&pattern, &copy).is_eq())
 }
 
-// The first line whose pattern has other marks, or another copy.
-fn wrong_line(alloc: Global, sig: &Signature) -> Result<Option<&'static str>, Fail> {
-    for line in ASCENDING.split('\n') {
-        if !is_marked(alloc, sig, line)? {
-            return Ok(Some(line));
-        }
-    }
-    Ok(None)
-}
-
 #[test]
 fn patterns_are_named_syntactic_and_copied(rt: HostRuntime) -> Result<(), Fail> {
     let file = file(rt.alloc(), DECLARED)?;
-    assert_eq!(rt; wrong_line(rt.alloc(), &file.sig)?, None);
+    for line in ASCENDING.split('\n') {
+        assert!(rt; is_marked(rt.alloc(), &file.sig, line)?, "{line}");
+    }
     Ok(())
 }
 
-// Whether the list has a symbol, a wildcard of the kind 1 with a name, and one with a default and no name.
+// Whether the list has a symbol, a wildcard of the kind 1 with a name, one with a default and no name, and no other.
 fn are_three(patterns: &Patterns) -> bool {
-    patterns.as_slice().len() == 3
+    (patterns.len(), patterns.as_slice().len()) == (3, 3)
         && matches!(patterns.get(0), Some(Pattern::Sym(_)))
         && matches!(
             patterns.get(1),
             Some(Pattern::Wild(Shape::Kind(KindId(1)), Some(_)))
         )
         && matches!(patterns.get(2), Some(Pattern::Wild(Shape::Opt(_), None)))
+        && patterns.get(3).is_none()
+}
+
+// Whether the pattern is applied to these three.
+fn is_of_three(pattern: &Pattern) -> bool {
+    match pattern {
+        Pattern::App(_, args) => are_three(args),
+        _ => false,
+    }
 }
 
 #[test]
 fn patterns_hold_what_was_pushed(rt: HostRuntime) -> Result<(), Fail> {
     let file = file(rt.alloc(), DECLARED)?;
-    match &pattern(rt.alloc(), &file.sig, "g(b, x_v, _:a)")? {
-        Pattern::App(_, args) => {
-            assert!(rt; are_three(args));
-            assert_eq!(rt; args.len(), 3);
-            assert!(rt; args.get(3).is_none());
-        }
-        _ => return Err("no application".into()),
-    }
+    assert!(rt; is_of_three(&pattern(rt.alloc(), &file.sig, "g(b, x_v, _:a)")?));
     Ok(())
 }
 
-fn name(alloc: Global) -> Result<Name, Fail> {
-    Ok(Name::new(alloc, b"x")?)
+// A symbol and a variable.
+fn templates(alloc: Global) -> Result<Templates, Fail> {
+    let mut templates = Templates::new(alloc);
+    templates.push(Template::Sym(Name::new(alloc, b"x")?))?;
+    templates.push(Template::Var(Name::new(alloc, b"x")?))?;
+    Ok(templates)
+}
+
+// Whether the list has two templates, the second of which is a variable.
+fn are_templates(templates: &Templates) -> bool {
+    (templates.len(), templates.as_slice().len()) == (2, 2)
+        && matches!(templates.get(1), Some(Template::Var(_)))
+        && templates.get(2).is_none()
 }
 
 #[test]
 fn templates_hold_what_was_pushed(rt: HostRuntime) -> Result<(), Fail> {
-    let symbol = Template::Sym(name(rt.alloc())?);
-    let variable = Template::Var(name(rt.alloc())?);
-    let mut templates = Templates::new(rt.alloc());
-    assert!(rt; templates.push(symbol).is_ok() && templates.push(variable).is_ok());
-    assert_eq!(rt; (templates.len(), templates.as_slice().len()), (2, 2));
-    assert!(rt; matches!(templates.get(1), Some(Template::Var(_))));
-    assert!(rt; templates.get(2).is_none());
+    assert!(rt; are_templates(&templates(rt.alloc())?));
     Ok(())
 }
 
@@ -191,14 +196,23 @@ fn is_neither(cond: &Cond) -> bool {
     }
 }
 
+// Whether the copy of the condition is `not [head($x, f) or count($x) >= 2]`.
+fn is_neither_copied(alloc: Global, cond: &Cond) -> Result<bool, Fail> {
+    Ok(is_neither(&copy_cond(alloc, cond)?))
+}
+
+// Whether the copy of the text's condition is that condition.
+fn is_copied(alloc: Global, sig: &Signature) -> Result<bool, Fail> {
+    match read_loose_cond(alloc, sig, b"not [head($x, f) or count($x) >= 2]") {
+        Ok(cond) => is_neither_copied(alloc, &cond),
+        Err(_) => Err("the condition has a fault".into()),
+    }
+}
+
 #[test]
 fn conditions_are_copied(rt: HostRuntime) -> Result<(), Fail> {
     let file = file(rt.alloc(), DECLARED)?;
-    let text = b"not [head($x, f) or count($x) >= 2]";
-    match read_loose_cond(rt.alloc(), &file.sig, text) {
-        Ok(cond) => assert!(rt; is_neither(&copy_cond(rt.alloc(), &cond)?)),
-        Err(_) => return Err("the condition has a fault".into()),
-    }
+    assert!(rt; is_copied(rt.alloc(), &file.sig)?);
     Ok(())
 }
 
@@ -217,24 +231,36 @@ fn is_one_symbol(rules: &Rules) -> bool {
 
 #[test]
 fn rules_hold_what_was_pushed(rt: HostRuntime) -> Result<(), Fail> {
-    match read_file(rt.alloc(), b"rule r: a;") {
-        Ok(file) => assert!(rt; is_one_symbol(&file.rules)),
-        Err(_) => return Err("the file has a fault".into()),
-    }
+    assert!(rt; is_one_symbol(&file(rt.alloc(), "rule r: a;")?.rules));
     Ok(())
+}
+
+// A table of one entry, of a collapsed application and of no terms.
+fn entries(alloc: Global) -> Result<Entries, Fail> {
+    let mut entries = Entries::new(alloc);
+    let terms = Terms::new(alloc);
+    entries.push(Entry {
+        terms,
+        collapsed: true,
+    })?;
+    Ok(entries)
+}
+
+// Whether the table has one entry, of a collapsed application.
+fn is_one_entry(entries: &Entries) -> bool {
+    (entries.len(), entries.as_slice().len()) == (1, 1)
+        && matches!(
+            entries.get(0),
+            Some(Entry {
+                collapsed: true,
+                ..
+            })
+        )
+        && entries.get(1).is_none()
 }
 
 #[test]
 fn take_tables_hold_what_was_pushed(rt: HostRuntime) -> Result<(), Fail> {
-    let terms = Terms::new(rt.alloc());
-    let mut entries = Entries::new(rt.alloc());
-    let entry = Entry {
-        terms,
-        collapsed: true,
-    };
-    assert!(rt; entries.push(entry).is_ok());
-    assert_eq!(rt; (entries.len(), entries.as_slice().len()), (1, 1));
-    assert!(rt; entries.get(0).is_some_and(|entry| entry.collapsed));
-    assert!(rt; entries.get(1).is_none());
+    assert!(rt; is_one_entry(&entries(rt.alloc())?));
     Ok(())
 }

@@ -1,9 +1,9 @@
 //! Plans, read node by node and variable by variable, and the refusals.
 
 use crate::patterns::DECLARED;
-use mp_pattern::{Form, Pattern, Patterns, Plan, PlanFault, PlanNode, Shape};
+use mp_pattern::{Form, Pattern, Patterns, Plan, PlanNode, Shape};
 use mp_term::{KindId, Name, OpId, Signature};
-use mp_tests::{file, plan};
+use mp_tests::{file, halves, plan};
 use std::alloc::Global;
 use std::test::Fail;
 
@@ -126,44 +126,20 @@ fn variables_have_their_forms(rt: HostRuntime) -> Result<(), Fail> {
     Ok(())
 }
 
-// The answer of `compile` as a number and what it says.
-fn answer(alloc: Global, sig: &Signature, pattern: &Pattern) -> (u8, u32) {
-    match Plan::compile(alloc, sig, pattern) {
-        Ok(_) => (0, 0),
-        Err(PlanFault::LooseSequence) => (1, 0),
-        Err(PlanFault::TooManyNodes { count }) => (2, count),
-        Err(PlanFault::TooManyVars { count }) => (3, count),
-        Err(PlanFault::KindClash { node }) => (4, node),
-        Err(PlanFault::Memory) => (5, 0),
+// The shape of the mark: `.` for one, `+` for one or more, `*` for none or more, `k` and the number of a kind, or how
+// many, with a `+` where it may be more.
+fn shape(mark: &str) -> Result<Shape, Fail> {
+    match mark {
+        "." => Ok(Shape::Dot),
+        "+" => Ok(Shape::Plus),
+        "*" => Ok(Shape::Star),
+        "k0" => Ok(Shape::Kind(KindId(0))),
+        "k1" => Ok(Shape::Kind(KindId(1))),
+        "2" => Ok(TWO),
+        "2+" => Ok(TWO_OR_MORE),
+        "3" => Ok(THREE),
+        _ => Err("no shape".into()),
     }
-}
-
-// A wildcard with the name.
-fn named(alloc: Global, shape: Shape, text: &[u8]) -> Result<Pattern, Fail> {
-    Ok(Pattern::Wild(shape, Some(Name::new(alloc, text)?)))
-}
-
-// sum of that many dots, with different names or without.
-fn dots(alloc: Global, count: u8, has_names: bool) -> Result<Pattern, Fail> {
-    let mut args = Patterns::new(alloc);
-    for i in 0..count {
-        let name = if has_names {
-            Some(Name::new(alloc, &[b'a' + i % 16, b'a' + i / 16])?)
-        } else {
-            None
-        };
-        args.push(Pattern::Wild(Shape::Dot, name))?;
-    }
-    Ok(Pattern::App(OpId(0), args))
-}
-
-// sum(x, y_, x), the first with one shape and the last with another
-fn twice(alloc: Global, first: Shape, last: Shape) -> Result<Pattern, Fail> {
-    let mut args = Patterns::new(alloc);
-    args.push(named(alloc, first, b"x")?)?;
-    args.push(named(alloc, Shape::Dot, b"y")?)?;
-    args.push(named(alloc, last, b"x")?)?;
-    Ok(Pattern::App(OpId(0), args))
 }
 
 const TWO: Shape = Shape::Counted {
@@ -181,50 +157,103 @@ const THREE: Shape = Shape::Counted {
     fixed: true,
 };
 
-// The pattern of a case.
-fn case(alloc: Global, number: u8) -> Result<Pattern, Fail> {
-    match number {
-        0 => named(alloc, Shape::Plus, b"x"),
-        1 => dots(alloc, 128, true),
-        2 => dots(alloc, 127, false),
-        3 => dots(alloc, 33, true),
-        4 => dots(alloc, 32, true),
-        5 => twice(alloc, Shape::Kind(KindId(0)), Shape::Kind(KindId(0))),
-        6 => twice(alloc, Shape::Kind(KindId(0)), Shape::Kind(KindId(1))),
-        7 => twice(alloc, Shape::Kind(KindId(0)), Shape::Star),
-        8 => named(alloc, TWO, b"x"),
-        9 => twice(alloc, TWO, TWO),
-        10 => twice(alloc, TWO, TWO_OR_MORE),
-        11 => twice(alloc, TWO, THREE),
-        _ => twice(alloc, TWO_OR_MORE, Shape::Plus),
+// A wildcard of a name, `:` and a mark.
+fn wildcard(alloc: Global, word: &str) -> Result<Pattern, Fail> {
+    match word.split_once(':') {
+        Some((name, mark)) => {
+            let name = Name::new(alloc, name.as_bytes())?;
+            Ok(Pattern::Wild(shape(mark)?, Some(name)))
+        }
+        None => Err("no wildcard".into()),
     }
 }
 
-// The answer to a case.
-fn answer_to(alloc: Global, sig: &Signature, number: u8) -> Result<(u8, u32), Fail> {
-    let pattern = case(alloc, number)?;
-    Ok(answer(alloc, sig, &pattern))
+// sum of wildcards with a blank between each two
+fn sum(alloc: Global, words: &str) -> Result<Pattern, Fail> {
+    let mut args = Patterns::new(alloc);
+    for word in words.split(' ') {
+        args.push(wildcard(alloc, word)?)?;
+    }
+    Ok(Pattern::App(OpId(0), args))
+}
+
+// The name of a number below 256.
+fn name(alloc: Global, number: u8) -> Result<Name, Fail> {
+    Ok(Name::new(alloc, &[b'a' + number % 16, b'a' + number / 16])?)
+}
+
+// sum of that many dots, with different names or without.
+fn dots(alloc: Global, count: u8, has_names: bool) -> Result<Pattern, Fail> {
+    let mut args = Patterns::new(alloc);
+    for i in 0..count {
+        let name = if has_names {
+            Some(name(alloc, i)?)
+        } else {
+            None
+        };
+        args.push(Pattern::Wild(Shape::Dot, name))?;
+    }
+    Ok(Pattern::App(OpId(0), args))
+}
+
+// Why the pattern has no plan; nothing where it has one.
+fn told(alloc: Global, sig: &Signature, pattern: &Pattern) -> Result<String, Fail> {
+    match Plan::compile(alloc, sig, pattern) {
+        Ok(_) => Ok(String::new(alloc)),
+        Err(fault) => Ok(format!(in alloc; "{fault:?}")?),
+    }
+}
+
+// A wildcard alone, or several under sum, and behind `|`, why there is no plan; nothing where there is one.
+const REFUSALS: &str = "\
+x:+|LooseSequence\n\
+x:k0 y:. x:k0|\n\
+x:k0 y:. x:k1|KindClash { node: 3 }\n\
+x:k0 y:. x:*|KindClash { node: 3 }\n\
+x:2|LooseSequence\n\
+x:2 y:. x:2|\n\
+x:2 y:. x:2+|KindClash { node: 3 }\n\
+x:2 y:. x:3|KindClash { node: 3 }\n\
+x:2+ y:. x:+|KindClash { node: 3 }";
+
+// The pattern of a line.
+fn refused(alloc: Global, text: &str) -> Result<Pattern, Fail> {
+    if text.contains(' ') {
+        sum(alloc, text)
+    } else {
+        wildcard(alloc, text)
+    }
+}
+
+// Whether the pattern of the line is refused as the line says.
+fn is_refused(alloc: Global, sig: &Signature, line: &str) -> Result<bool, Fail> {
+    let (text, wanted) = halves(line)?;
+    let pattern = refused(alloc, text)?;
+    Ok(told(alloc, sig, &pattern)?.as_str() == wanted)
+}
+
+// How many dots, whether they have names, and why there is no plan.
+const DOTS: &[(u8, bool, &str)] = &[
+    (128, true, "TooManyNodes { count: 129 }"),
+    (127, false, ""),
+    (33, true, "TooManyVars { count: 33 }"),
+    (32, true, ""),
+];
+
+// Whether so many dots are refused as the row says.
+fn are_refused(alloc: Global, sig: &Signature, row: &(u8, bool, &str)) -> Result<bool, Fail> {
+    let pattern = dots(alloc, row.0, row.1)?;
+    Ok(told(alloc, sig, &pattern)?.as_str() == row.2)
 }
 
 #[test]
 fn refusals_come_in_order(rt: HostRuntime) -> Result<(), Fail> {
     let file = file(rt.alloc(), DECLARED)?;
-    for (number, wanted) in [
-        (0, (1, 0)),
-        (1, (2, 129)),
-        (2, (0, 0)),
-        (3, (3, 33)),
-        (4, (0, 0)),
-        (5, (0, 0)),
-        (6, (4, 3)),
-        (7, (4, 3)),
-        (8, (1, 0)),
-        (9, (0, 0)),
-        (10, (4, 3)),
-        (11, (4, 3)),
-        (12, (4, 3)),
-    ] {
-        assert_eq!(rt; answer_to(rt.alloc(), &file.sig, number)?, wanted);
+    for line in REFUSALS.split('\n') {
+        assert!(rt; is_refused(rt.alloc(), &file.sig, line)?, "{line}");
+    }
+    for row in DOTS {
+        assert!(rt; are_refused(rt.alloc(), &file.sig, row)?, "{}", row.0);
     }
     Ok(())
 }

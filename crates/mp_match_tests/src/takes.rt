@@ -3,7 +3,7 @@
 use mp_one::check_takes;
 use mp_pattern::{Entries, Entry, Pattern, Patterns, Plan, Shape};
 use mp_term::{Name, OpId, Signature, Term, Terms, is_normal};
-use mp_tests::{file, plan, term};
+use mp_tests::{file, halves, plan, term};
 use std::alloc::Global;
 use std::test::Fail;
 
@@ -93,18 +93,6 @@ fn fits(
     }
 }
 
-// Whether the table of the text fits.
-fn table_fits(
-    alloc: Global,
-    sig: &Signature,
-    plan: &Plan,
-    subject: &Term,
-    text: &str,
-) -> Result<bool, Fail> {
-    let takes = table(alloc, sig, text)?;
-    fits(alloc, sig, plan, subject, &takes)
-}
-
 // Whether the table of the text fits the subject of the text.
 fn texts_fit(
     alloc: Global,
@@ -114,41 +102,26 @@ fn texts_fit(
     takes: &str,
 ) -> Result<bool, Fail> {
     let subject = term(alloc, sig, subject)?;
-    table_fits(alloc, sig, plan, &subject, takes)
+    let takes = table(alloc, sig, takes)?;
+    fits(alloc, sig, plan, &subject, &takes)
 }
 
 // Whether the table of the line fits its pattern and its subject.
 fn line_fits(alloc: Global, sig: &Signature, line: &str) -> Result<bool, Fail> {
-    let mut parts = line.split('|');
-    match (parts.next(), parts.next(), parts.next()) {
-        (Some(pattern), Some(subject), Some(takes)) => {
-            let plan = plan(alloc, sig, pattern)?;
-            texts_fit(alloc, sig, &plan, subject, takes)
-        }
-        _ => Err("the line has fewer than three parts".into()),
-    }
-}
-
-// The first line whose table doesn't fit, where it should, or fits.
-fn wrong_line(
-    alloc: Global,
-    sig: &Signature,
-    table: &'static str,
-    fits: bool,
-) -> Result<Option<&'static str>, Fail> {
-    for line in table.split('\n') {
-        if line_fits(alloc, sig, line)? != fits {
-            return Ok(Some(line));
-        }
-    }
-    Ok(None)
+    let (pattern, rest) = halves(line)?;
+    let (subject, takes) = halves(rest)?;
+    let plan = plan(alloc, sig, pattern)?;
+    texts_fit(alloc, sig, &plan, subject, takes)
 }
 
 #[test]
 fn a_table_fits_where_each_node_obeys_its_line(rt: HostRuntime) -> Result<(), Fail> {
     let file = file(rt.alloc(), DECLARED)?;
-    for (table, fits) in [(FITTING, true), (OTHERS, false)] {
-        assert_eq!(rt; wrong_line(rt.alloc(), &file.sig, table, fits)?, None);
+    for line in FITTING.split('\n') {
+        assert!(rt; line_fits(rt.alloc(), &file.sig, line)?, "{line}");
+    }
+    for line in OTHERS.split('\n') {
+        assert!(rt; !line_fits(rt.alloc(), &file.sig, line)?, "{line}");
     }
     Ok(())
 }
@@ -160,32 +133,50 @@ fn of_one(alloc: Global, op: OpId, term: Term) -> Result<Term, Fail> {
     Ok(Term::App(op, args))
 }
 
-// `u(x_:DEFAULT, y_)`, or without the name of the first variable, where the default is `p(p(a))`, which isn't normal.
-fn with_default(alloc: Global, sig: &Signature, name: Option<Name>) -> Result<Pattern, Fail> {
+// p(p(a)), which isn't normal
+fn default(alloc: Global, sig: &Signature) -> Result<Term, Fail> {
     let inner = of_one(alloc, OpId(3), term(alloc, sig, "a")?)?;
-    let default = of_one(alloc, OpId(3), inner)?;
+    of_one(alloc, OpId(3), inner)
+}
+
+// `u(x_:DEFAULT, y_)`, or without the name of the first variable, where there is none.
+fn with_default(alloc: Global, default: Term, name: Option<Name>) -> Result<Pattern, Fail> {
     let mut args = Patterns::new(alloc);
     args.push(Pattern::Wild(Shape::Opt(default), name))?;
     args.push(Pattern::Wild(Shape::Dot, None))?;
     Ok(Pattern::App(OpId(4), args))
 }
 
-// Whether the table that leaves out the first variable fits.
-fn left_out_fits(alloc: Global, sig: &Signature, name: Option<Name>) -> Result<bool, Fail> {
-    let pattern = with_default(alloc, sig, name)?;
+// That pattern, with the name x or without, where the default isn't normal.
+fn other_default(alloc: Global, sig: &Signature, has_name: bool) -> Result<Pattern, Fail> {
+    let default = default(alloc, sig)?;
+    if has_name {
+        with_default(alloc, default, Some(Name::new(alloc, b"x")?))
+    } else {
+        with_default(alloc, default, None)
+    }
+}
+
+// The plan of that pattern, in a box.
+fn other_plan(alloc: Global, sig: &Signature, has_name: bool) -> Result<Box<Plan>, Fail> {
+    let pattern = other_default(alloc, sig, has_name)?;
     match Plan::compile(alloc, sig, &pattern) {
-        Ok(plan) => texts_fit(alloc, sig, &plan, "a", "a!;;a"),
+        Ok(plan) => Ok(Box::new(alloc, plan)?),
         Err(_) => Err("the pattern has no plan".into()),
     }
+}
+
+// Whether the table that leaves out the first variable fits.
+fn left_out_fits(alloc: Global, sig: &Signature, has_name: bool) -> Result<bool, Fail> {
+    let plan = other_plan(alloc, sig, has_name)?;
+    texts_fit(alloc, sig, &plan, "a", "a!;;a")
 }
 
 #[test]
 fn a_variable_is_left_out_where_its_default_is_normal(rt: HostRuntime) -> Result<(), Fail> {
     let file = file(rt.alloc(), DECLARED)?;
-    match Name::new(rt.alloc(), b"x") {
-        Ok(name) => assert!(rt; !left_out_fits(rt.alloc(), &file.sig, Some(name))?),
-        Err(_) => return Err("the name has a fault".into()),
+    for has_name in [true, false] {
+        assert!(rt; left_out_fits(rt.alloc(), &file.sig, has_name)? != has_name);
     }
-    assert!(rt; left_out_fits(rt.alloc(), &file.sig, None)?);
     Ok(())
 }

@@ -1,6 +1,6 @@
 //! Terms, patterns and conditions that stand alone: their first faults.
 
-use crate::case::{arguments, told};
+use crate::case::{expanded, told};
 use crate::reading::{file, halves, plan};
 use mp_pattern::Plan;
 use mp_term::Signature;
@@ -13,7 +13,7 @@ pub const DECLARED: &str =
     "op f 2; op g 0+; op s 0+ comm; op p 1+ assoc comm one infix +; kind v: a b;";
 
 // In each table a line is a text and, behind `|`, its first fault: the kind, the line and the column. Nothing stands
-// there where it has none.
+// there where it has none. Between two of "`" a number, `^` and a text stand for the text so often.
 
 const TERMS: &str = "\
 f(b, a)|\n\
@@ -29,6 +29,7 @@ q(f)|UnknownOp 1 1\n\
 (f + a)|BareOperation 1 2\n\
 (a * b)|UnknownOp 1 4";
 
+// A pattern has at most 128 nodes.
 const PATTERNS: &str = "\
 x_|\n\
 f(x_v, x_v)|\n\
@@ -43,7 +44,9 @@ g(x_{0})|BadCount 1 6\n\
 x_{2}|LooseSequence 1 1\n\
 f(x_{2}, x_)|Arity 1 1\n\
 g(x_{2},, a)|Syntax 1 9\n\
-f(x_, g)|BareOperation 1 7";
+f(x_, g)|BareOperation 1 7\n\
+g(`126^a,`a)|\n\
+q(`127^a,`a)|TooMany 1 1";
 
 // Conditions over the variables of the pattern `s(x__, y___)`.
 const CONDITIONS: &str = "\
@@ -102,74 +105,29 @@ fn is_first(
     line: &str,
 ) -> Result<bool, Fail> {
     let (text, fault) = halves(line)?;
+    let text = expanded(alloc, text)?;
     let error = error(alloc, sig, plan, sort, text.as_bytes())?;
     Ok(told(alloc, error)?.as_str() == fault)
 }
 
-// The first line of the table whose text has another fault.
-fn wrong_line(
-    alloc: Global,
-    sig: &Signature,
-    plan: &Plan,
-    sort: Sort,
-    table: &'static str,
-) -> Result<Option<&'static str>, Fail> {
-    for line in table.split('\n') {
-        if !is_first(alloc, sig, plan, sort, line)? {
-            return Ok(Some(line));
-        }
-    }
-    Ok(None)
-}
-
-// The first line of all tables whose text has another fault.
-fn first_wrong_line(
-    alloc: Global,
-    sig: &Signature,
-    plan: &Plan,
-) -> Result<Option<&'static str>, Fail> {
-    for (sort, table) in [
-        (Sort::Term, TERMS),
-        (Sort::Pattern, PATTERNS),
-        (Sort::Condition, CONDITIONS),
-        (Sort::LooseCondition, LOOSE_CONDITIONS),
-    ] {
-        let wrong = wrong_line(alloc, sig, plan, sort, table)?;
-        if wrong.is_some() {
-            return Ok(wrong);
-        }
-    }
-    Ok(None)
-}
+const TABLES: &[(Sort, &str)] = &[
+    (Sort::Term, TERMS),
+    (Sort::Pattern, PATTERNS),
+    (Sort::Condition, CONDITIONS),
+    (Sort::LooseCondition, LOOSE_CONDITIONS),
+];
 
 #[test]
 fn the_first_fault_of_a_text_stands_at_its_token(rt: HostRuntime) -> Result<(), Fail> {
     let file = file(rt.alloc(), DECLARED)?;
     let plan = plan(rt.alloc(), &file.sig, "s(x__, y___)")?;
-    assert_eq!(rt; first_wrong_line(rt.alloc(), &file.sig, &plan)?, None);
-    Ok(())
-}
-
-// Whether the pattern of the name on so many symbols has the fault.
-fn has_fault(
-    alloc: Global,
-    sig: &Signature,
-    name: &str,
-    count: usize,
-    fault: &str,
-) -> Result<bool, Fail> {
-    let text = format!(in alloc; "{name}({})", arguments(alloc, count)?)?;
-    if text.len() > 1000 {
-        return Err("the text is too long".into());
-    }
-    Ok(told(alloc, read_pattern(alloc, sig, text.as_bytes()).err())?.as_str() == fault)
-}
-
-#[test]
-fn a_pattern_has_at_most_128_nodes(rt: HostRuntime) -> Result<(), Fail> {
-    let file = file(rt.alloc(), DECLARED)?;
-    for (name, count, fault) in [("g", 127, ""), ("q", 128, "TooMany 1 1")] {
-        assert!(rt; has_fault(rt.alloc(), &file.sig, name, count, fault)?);
+    for table in TABLES {
+        for line in table.1.split('\n') {
+            assert!(rt;
+                is_first(rt.alloc(), &file.sig, &plan, table.0, line)?,
+                "{line}"
+            );
+        }
     }
     Ok(())
 }

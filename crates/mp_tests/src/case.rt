@@ -1,15 +1,32 @@
-//! Arguments in great number, and faults as tables write them.
+//! Texts and faults as tables write them.
 
 use mp_text::{TextError, TextFault};
 use std::alloc::Global;
 use std::test::Fail;
 
-/// So many arguments `a`, at most 130.
-pub fn arguments(alloc: Global, count: usize) -> Result<String, Fail> {
-    match ["a"; 130].get(..count) {
-        Some(all) => Ok(all.join(alloc, ",")?),
-        None => Err("too many arguments".into()),
+// Appends the piece so many times.
+fn push_times(text: &mut String, times: usize, piece: &str) -> Result<(), Fail> {
+    for _ in 0..times {
+        text.push_str(piece)?;
     }
+    Ok(())
+}
+
+// Appends a piece: a text alone, or a number, `^` and a text to repeat so often.
+fn push_piece(text: &mut String, piece: &str) -> Result<(), Fail> {
+    match piece.split_once('^') {
+        Some((times, repeated)) => push_times(text, times.parse::<usize>()?, repeated),
+        None => push_times(text, 1, piece),
+    }
+}
+
+/// The text that one of a table stands for: between two of "`" a number, `^` and a text stand for the text so often.
+pub fn expanded(alloc: Global, text: &str) -> Result<String, Fail> {
+    let mut made = String::new(alloc);
+    for piece in text.split('`') {
+        push_piece(&mut made, piece)?;
+    }
+    Ok(made)
 }
 
 fn fault_text(alloc: Global, fault: &TextFault) -> Result<String, Fail> {

@@ -1,11 +1,13 @@
-//! Tests of what is read and printed: the first faults of texts, and files, terms, patterns and conditions as they are
-//! printed and read again. How a test reads a text is public, for the tests of what is matched.
+//! Tests of what is read, printed and edited: the first faults of texts, files, terms, patterns and conditions as they
+//! are printed and read again, and edits of terms. How a test reads a text is public, for the tests of what is matched.
 #![tactic(auto)]
 
 #[cfg(test)]
 mod alone;
 #[cfg(test)]
 mod case;
+#[cfg(test)]
+mod edits;
 #[cfg(test)]
 mod faults;
 #[cfg(test)]

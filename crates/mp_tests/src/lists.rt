@@ -13,21 +13,42 @@ fn subject(alloc: Global) -> Result<Subject, Fail> {
     Ok(Subject { name, term })
 }
 
-#[test]
-fn subjects_hold_what_was_pushed(rt: HostRuntime) -> Result<(), Fail> {
-    let subject = subject(rt.alloc())?;
-    let mut subjects = Subjects::new(rt.alloc());
-    assert!(rt; subjects.push(subject).is_ok());
-    assert_eq!(rt; (subjects.len(), subjects.as_slice().len()), (1, 1));
-    assert!(rt; subjects.get(0).is_some() && subjects.get(1).is_none());
-    Ok(())
+fn subjects(alloc: Global) -> Result<Subjects, Fail> {
+    let mut subjects = Subjects::new(alloc);
+    subjects.push(subject(alloc)?)?;
+    Ok(subjects)
+}
+
+// Whether the list has one subject.
+fn is_one_subject(subjects: &Subjects) -> bool {
+    (subjects.len(), subjects.as_slice().len()) == (1, 1)
+        && subjects.get(0).is_some()
+        && subjects.get(1).is_none()
 }
 
 #[test]
-fn sets_of_edits_hold_what_was_pushed(rt: HostRuntime) {
-    let edits = Edits::new(rt.alloc());
-    let mut sets = EditSets::new(rt.alloc());
-    assert!(rt; sets.push(EditSet { subject: 7, edits }).is_ok());
-    assert_eq!(rt; (sets.len(), sets.as_slice().len()), (1, 1));
-    assert!(rt; sets.get(0).is_some_and(|set| set.subject == 7) && sets.get(1).is_none());
+fn subjects_hold_what_was_pushed(rt: HostRuntime) -> Result<(), Fail> {
+    assert!(rt; is_one_subject(&subjects(rt.alloc())?));
+    Ok(())
+}
+
+// One set of no edits, of the subject 7.
+fn sets(alloc: Global) -> Result<EditSets, Fail> {
+    let edits = Edits::new(alloc);
+    let mut sets = EditSets::new(alloc);
+    sets.push(EditSet { subject: 7, edits })?;
+    Ok(sets)
+}
+
+// Whether the list has one set, of the subject 7.
+fn is_one_set(sets: &EditSets) -> bool {
+    (sets.len(), sets.as_slice().len()) == (1, 1)
+        && matches!(sets.get(0), Some(EditSet { subject: 7, .. }))
+        && sets.get(1).is_none()
+}
+
+#[test]
+fn sets_of_edits_hold_what_was_pushed(rt: HostRuntime) -> Result<(), Fail> {
+    assert!(rt; is_one_set(&sets(rt.alloc())?));
+    Ok(())
 }

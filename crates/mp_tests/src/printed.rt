@@ -1,14 +1,11 @@
 //! What is printed of terms, patterns, conditions, signatures and files.
 
-ghost use Rattle.std.specs.Prelude.{◌<◌, ◌-◌, ◌^◌, length};
-
 use crate::alone::DECLARED;
-use crate::reading::{file, halves};
+use crate::reading::{file, halves, pattern, term};
 use mp_io::MemorySink;
 use mp_term::Signature;
 use mp_text::{
-    read_file, read_loose_cond, read_pattern, read_term, write_cond, write_file, write_pattern,
-    write_signature, write_term,
+    read_loose_cond, write_cond, write_file, write_pattern, write_signature, write_term,
 };
 use std::alloc::Global;
 use std::test::Fail;
@@ -181,51 +178,35 @@ fn sink(alloc: Global) -> Result<MemorySink, Fail> {
     }
 }
 
-// Reads the text as a term and prints it. Answers whether both could be done; so do the next ones.
-fn print_term(alloc: Global, sig: &Signature, text: &[u8], sink: &mut MemorySink) -> bool
-    requires { length text.now < 2 ^ 32 - 1 }
-{
-    match read_term(alloc, sig, text) {
-        Ok(term) => write_term(sig, &term, sink).is_ok(),
-        Err(_) => false,
+// Reads the text as a condition and prints it.
+fn print_condition(alloc: Global, sig: &Signature, text: &str, sink: &mut MemorySink) -> bool {
+    if text.len() > 1000 {
+        return false;
     }
-}
-
-fn print_pattern(alloc: Global, sig: &Signature, text: &[u8], sink: &mut MemorySink) -> bool
-    requires { length text.now < 2 ^ 32 - 1 }
-{
-    match read_pattern(alloc, sig, text) {
-        Ok(pattern) => write_pattern(sig, &pattern, sink).is_ok(),
-        Err(_) => false,
-    }
-}
-
-fn print_condition(alloc: Global, sig: &Signature, text: &[u8], sink: &mut MemorySink) -> bool
-    requires { length text.now < 2 ^ 32 - 1 }
-{
-    match read_loose_cond(alloc, sig, text) {
+    match read_loose_cond(alloc, sig, text.as_bytes()) {
         Ok(cond) => write_cond(sig, &cond, sink).is_ok(),
         Err(_) => false,
     }
 }
 
-fn print_file(alloc: Global, text: &[u8], sink: &mut MemorySink) -> bool
-    requires { length text.now < 2 ^ 32 - 1 }
-{
-    match read_file(alloc, text) {
-        Ok(file) => write_file(&file, sink).is_ok(),
-        Err(_) => false,
-    }
+// Reads the text as a file and prints it.
+fn print_file(alloc: Global, text: &str, sink: &mut MemorySink) -> Result<bool, Fail> {
+    let file = file(alloc, text)?;
+    Ok(write_file(&file, sink).is_ok())
 }
 
-fn print(alloc: Global, sig: &Signature, sort: Sort, text: &[u8], sink: &mut MemorySink) -> bool {
-    if text.len() > 1000 {
-        return false;
-    }
+// Reads the text and prints it. Answers whether it was printed.
+fn print(
+    alloc: Global,
+    sig: &Signature,
+    sort: Sort,
+    text: &str,
+    sink: &mut MemorySink,
+) -> Result<bool, Fail> {
     match sort {
-        Sort::Term => print_term(alloc, sig, text, sink),
-        Sort::Pattern => print_pattern(alloc, sig, text, sink),
-        Sort::Condition => print_condition(alloc, sig, text, sink),
+        Sort::Term => Ok(write_term(sig, &term(alloc, sig, text)?, sink).is_ok()),
+        Sort::Pattern => Ok(write_pattern(sig, &pattern(alloc, sig, text)?, sink).is_ok()),
+        Sort::Condition => Ok(print_condition(alloc, sig, text, sink)),
         Sort::File => print_file(alloc, text, sink),
     }
 }
@@ -235,11 +216,11 @@ fn is_printed(
     alloc: Global,
     sig: &Signature,
     sort: Sort,
-    text: &[u8],
-    wanted: &[u8],
+    text: &str,
+    wanted: &str,
 ) -> Result<bool, Fail> {
     let mut sink = sink(alloc)?;
-    Ok(print(alloc, sig, sort, text, &mut sink) && sink.content() == wanted)
+    Ok(print(alloc, sig, sort, text, &mut sink)? && sink.content() == wanted.as_bytes())
 }
 
 // Whether the wanted text is printed of the text, and of itself.
@@ -250,51 +231,44 @@ fn is_printed_twice(
     text: &str,
     wanted: &str,
 ) -> Result<bool, Fail> {
-    let (text, wanted) = (text.as_bytes(), wanted.as_bytes());
     Ok(is_printed(alloc, sig, sort, text, wanted)? && is_printed(alloc, sig, sort, wanted, wanted)?)
 }
 
-// The first line of the table that is printed otherwise.
-fn wrong_line(
-    alloc: Global,
-    sig: &Signature,
-    sort: Sort,
-    table: &'static str,
-) -> Result<Option<&'static str>, Fail> {
-    for line in table.split('\n') {
-        let (text, wanted) = halves(line)?;
-        if !is_printed_twice(alloc, sig, sort, text, wanted)? {
-            return Ok(Some(line));
-        }
-    }
-    Ok(None)
+// Whether what is printed of the line is what stands behind its `|`.
+fn is_line_printed(alloc: Global, sig: &Signature, sort: Sort, line: &str) -> Result<bool, Fail> {
+    let (text, wanted) = halves(line)?;
+    is_printed_twice(alloc, sig, sort, text, wanted)
 }
 
-// The first file that is printed otherwise.
-fn wrong_file(alloc: Global, sig: &Signature) -> Result<Option<&'static str>, Fail> {
-    for case in FILES.split("====\n") {
-        let Some((text, wanted)) = case.split_once("----\n") else {
-            return Err("the case has no line of bars".into());
-        };
-        if !is_printed_twice(alloc, sig, Sort::File, text, wanted)? {
-            return Ok(Some(case));
-        }
+// Whether what is printed of the file is what stands behind its line of bars.
+fn is_file_printed(alloc: Global, sig: &Signature, case: &str) -> Result<bool, Fail> {
+    match case.split_once("----\n") {
+        Some((text, wanted)) => is_printed_twice(alloc, sig, Sort::File, text, wanted),
+        None => Err("the case has no line of bars".into()),
     }
-    Ok(None)
 }
+
+const TABLES: &[(Sort, &str)] = &[
+    (Sort::Term, TERMS),
+    (Sort::Pattern, PATTERNS),
+    (Sort::Condition, ATOMS),
+    (Sort::Condition, BRACKETS),
+];
 
 #[test]
 fn what_is_printed_is_read_again_and_printed_so(rt: HostRuntime) -> Result<(), Fail> {
     let file = file(rt.alloc(), DECLARED)?;
-    for (sort, table) in [
-        (Sort::Term, TERMS),
-        (Sort::Pattern, PATTERNS),
-        (Sort::Condition, ATOMS),
-        (Sort::Condition, BRACKETS),
-    ] {
-        assert_eq!(rt; wrong_line(rt.alloc(), &file.sig, sort, table)?, None);
+    for table in TABLES {
+        for line in table.1.split('\n') {
+            assert!(rt;
+                is_line_printed(rt.alloc(), &file.sig, table.0, line)?,
+                "{line}"
+            );
+        }
     }
-    assert_eq!(rt; wrong_file(rt.alloc(), &file.sig)?, None);
+    for case in FILES.split("====\n") {
+        assert!(rt; is_file_printed(rt.alloc(), &file.sig, case)?, "{case}");
+    }
     Ok(())
 }
 

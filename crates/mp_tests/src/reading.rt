@@ -16,6 +16,8 @@ pub enum NotRead {
     NoPlan,
     /// A line of a table has no bar.
     NoBar,
+    /// There was no memory for a box.
+    Memory,
 }
 
 /// What stands before and behind the first `|` of a line of a table.
@@ -26,14 +28,22 @@ pub fn halves(line: &str) -> Result<(&str, &str), NotRead> {
     }
 }
 
-/// The file of a text.
-pub fn file(alloc: Global, text: &str) -> Result<File, NotRead> {
+/// The file of a text, in a box: one is quick to prove where it is dropped.
+pub fn file(alloc: Global, text: &str) -> Result<Box<File>, NotRead> {
     if text.len() > 1000 {
         return Err(NotRead::TooLong);
     }
     match read_file(alloc, text.as_bytes()) {
-        Ok(file) => Ok(file),
+        Ok(file) => boxed(alloc, file),
         Err(_) => Err(NotRead::Fault),
+    }
+}
+
+// The value in a box.
+fn boxed<T: Drop>(alloc: Global, value: T) -> Result<Box<T>, NotRead> {
+    match Box::new(alloc, value) {
+        Ok(value) => Ok(value),
+        Err(_) => Err(NotRead::Memory),
     }
 }
 
@@ -59,11 +69,11 @@ pub fn pattern(alloc: Global, sig: &Signature, text: &str) -> Result<Pattern, No
     }
 }
 
-/// The plan of the pattern of a text.
-pub fn plan(alloc: Global, sig: &Signature, text: &str) -> Result<Plan, NotRead> {
+/// The plan of the pattern of a text, in a box.
+pub fn plan(alloc: Global, sig: &Signature, text: &str) -> Result<Box<Plan>, NotRead> {
     let pattern = pattern(alloc, sig, text)?;
     match Plan::compile(alloc, sig, &pattern) {
-        Ok(plan) => Ok(plan),
+        Ok(plan) => boxed(alloc, plan),
         Err(_) => Err(NotRead::NoPlan),
     }
 }
