@@ -4,7 +4,7 @@ use Rattle.std.specs.Prelude.{nat_lt}
 use Rattle.std.specs.List.{AllByRecursion}
 use Rattle.std.proofs.lemmas.Bool.Decides.{nat_tests}
 use Rattle.mp_term.specs.Signature.{Sig}
-use Rattle.mp_term.proofs.ListLaws.{all-append}
+use Rattle.mp_term.proofs.ListLaws.{all-append, all-also}
 use Rattle.mp_pattern.specs.declared.limits.TheConstants.{MAX_PATTERN_NODES, MAX_VARIABLES}
 use Rattle.mp_pattern.specs.PatternTree.{Wildcard, dot, kind, plus, star, optional, counted, Pattern}
 use Rattle.mp_pattern.specs.CondTree.{Operand, var, ground, Amount, fixed, count, size, Cond, amounts, same, less, free}
@@ -47,34 +47,34 @@ module _ (sig : Sig) where
     over-operand (var x) h = h
     over-operand (ground t) h = h.few_nodes
 
-    over-two : (a b : Operand) → IsSoundOperand sig p a → IsSoundOperand sig p b → IsOver a × (IsOver b × Unit {0})
-    over-two a b h k = (over-operand a h, (over-operand b k, tt))
-
-    over-amount : (m : Amount) → IsSoundAmount sig p m → AllByRecursion IsOver (amount_operands m)
-    over-amount (fixed n) h = tt
-    over-amount (count a) h = (over-operand a h, tt)
-    over-amount (size a) h = (over-operand a h, tt)
+    sound-amount : (m : Amount) → IsSoundAmount sig p m → AllByRecursion (IsSoundOperand sig p) (amount_operands m)
+    sound-amount (fixed n) h = tt
+    sound-amount (count a) h = (h, tt)
+    sound-amount (size a) h = (h, tt)
 
     mutual
-      over-cond : (c : Cond) → IsChecked sig p c → AllByRecursion IsOver (operands c)
-      over-cond (amounts m s n) h = all-append IsOver (amount_operands m) (amount_operands n) (over-amount m h.0)
-          (over-amount n h.1)
-      over-cond (same a b) h = over-two a b h.0 h.1
-      over-cond (less a b) h = over-two a b h.0.0 h.1.0
-      over-cond (free a b) h = over-two a b h.0 h.1
-      over-cond (of_kind a k) h = (over-operand a h.0, tt)
-      over-cond (headed a f) h = (over-operand a h.0, tt)
-      over-cond (negation c) h = over-cond c h
-      over-cond (all_of cs) h = over-conds cs h.1
-      over-cond (any_of cs) h = over-conds cs h.1
+      -- the operands of a checked condition are sound
+      pub operands-IsChecked : (c : Cond) → IsChecked sig p c → AllByRecursion (IsSoundOperand sig p) (operands c)
+      operands-IsChecked (amounts m s n) h =
+          all-append (IsSoundOperand sig p) (amount_operands m) (amount_operands n) (sound-amount m h.0)
+          (sound-amount n h.1)
+      operands-IsChecked (same a b) h = (h.0, (h.1, tt))
+      operands-IsChecked (less a b) h = (h.0.0, (h.1.0, tt))
+      operands-IsChecked (free a b) h = (h.0, (h.1, tt))
+      operands-IsChecked (of_kind a k) h = (h.0, tt)
+      operands-IsChecked (headed a f) h = (h.0, tt)
+      operands-IsChecked (negation c) h = operands-IsChecked c h
+      operands-IsChecked (all_of cs) h = operands-AreChecked cs h.1
+      operands-IsChecked (any_of cs) h = operands-AreChecked cs h.1
 
-      over-conds : (cs : Conds) → AreChecked sig p cs → AllByRecursion IsOver (all_operands cs)
-      over-conds no_conds h = tt
-      over-conds (more_conds c cs) h = all-append IsOver (operands c) (all_operands cs) (over-cond c h.0)
-          (over-conds cs h.1)
+      operands-AreChecked : (cs : Conds) → AreChecked sig p cs → AllByRecursion (IsSoundOperand sig p) (all_operands cs)
+      operands-AreChecked no_conds h = tt
+      operands-AreChecked (more_conds c cs) h = all-append (IsSoundOperand sig p) (operands c) (all_operands cs)
+          (operands-IsChecked c h.0) (operands-AreChecked cs h.1)
 
     -- a sound condition is over the variables of the pattern
     pub HasConditionOver-HasSoundCondition : (o : Option Cond) → HasSoundCondition sig p o
         → HasConditionOver (variables p) o
     HasConditionOver-HasSoundCondition None h = tt
-    HasConditionOver-HasSoundCondition (Some c) h = over-cond c h.checked
+    HasConditionOver-HasSoundCondition (Some c) h =
+        all-also (IsSoundOperand sig p) IsOver over-operand (operands c) (operands-IsChecked c h.checked)

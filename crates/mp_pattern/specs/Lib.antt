@@ -22,6 +22,8 @@ pub mod Holds
 pub mod Operands
 pub mod Instance
 pub mod Admission
+pub mod Constants
+pub mod Planned
 pub mod Step
 pub mod Lists
 pub mod Clash

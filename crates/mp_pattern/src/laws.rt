@@ -1,5 +1,5 @@
 //! Laws of the pattern order and of normal forms, each as the contract of a function that does nothing.
-ghost use Rattle.std.specs.Prelude.{◌≡◌, ◌≤◌, ◌↔◌, map, None, true};
+ghost use Rattle.std.specs.Prelude.{◌≡◌, ◌≤◌, ◌↔◌, ◌+◌, ◌*◌, List, map, length, None, true};
 ghost use Rattle.std.specs.declared.cmp.Ordering.TheVariants.{Equal};
 ghost use Rattle.std.specs.Cmp.{IsTotalOrder};
 ghost use Rattle.std.specs.List.{AllByRecursion};
@@ -7,7 +7,11 @@ ghost use Rattle.std.specs.List.Sorted.{IsPermutation};
 ghost use Rattle.mp_term.specs.Tree.{Tree};
 ghost use Rattle.mp_term.specs.Order.{tree_cmp};
 ghost use Rattle.mp_term.specs.Signature.{Sig, IsSignature, well_formed};
-ghost use Rattle.mp_term.specs.Normal.{normal};
+ghost use Rattle.mp_term.specs.Listing.{IsListing};
+ghost use Rattle.mp_term.specs.Size.{all_nodes};
+ghost use Rattle.mp_term.specs.Normal.{normal, IsNormal};
+ghost use Rattle.mp_pattern.specs.declared.limits.TheConstants.{MAX_PATTERN_NODES, MAX_DEFAULT_NODES, MAX_ATOMS};
+ghost use Rattle.mp_pattern.specs.declared.limits.TheConstants.{MAX_OPERAND_NODES};
 ghost use Rattle.mp_pattern.specs.PatternTree.{Pattern};
 ghost use Rattle.mp_pattern.specs.TemplateTree.{Template};
 ghost use Rattle.mp_pattern.specs.Value.{Subst};
@@ -18,6 +22,7 @@ ghost use Rattle.mp_pattern.specs.Limits.{DefaultsAreSmall};
 ghost use Rattle.mp_pattern.specs.Operands.{HasConditionOver};
 ghost use Rattle.mp_pattern.specs.PlanFault.{plan_fault};
 ghost use Rattle.mp_pattern.specs.Admission.{Rule};
+ghost use Rattle.mp_pattern.specs.Constants.{IsConstantOf};
 ghost use Rattle.mp_pattern.specs.Size.{pattern_nodes};
 ghost use Rattle.mp_pattern.specs.Order.{is_ground, pattern_cmp};
 ghost use Rattle.mp_pattern.specs.Normal.{normal_pattern, IsNormalPattern};
@@ -88,6 +93,17 @@ pub fn sound_rules_can_be_matched()
     ensures condition { (sig : Sig) (r : Rule) → IsSoundRule sig r →
         HasConditionOver (variables r.pattern) r.condition }
     ensures plan { (sig : Sig) (r : Rule) → IsSoundRule sig r → plan_fault r.pattern ≡ None }
+{}
+
+/// The constants of sound rules are normal, and the numbers of their nodes sum up to at most 16,384 for each rule:
+/// `MAX_PATTERN_NODES` symbols and defaults of at most `MAX_DEFAULT_NODES` nodes, and two operands of at most
+/// `MAX_OPERAND_NODES` for each of `MAX_ATOMS` atoms.
+pub fn constants_of_sound_rules_are_normal_and_few()
+    ensures normal { (sig : Sig) (rs : List Rule) (ts : List Tree) → AllByRecursion (IsSoundRule sig) rs →
+        IsListing tree_cmp (IsConstantOf rs) ts → AllByRecursion (IsNormal sig) ts }
+    ensures few { (sig : Sig) (rs : List Rule) (ts : List Tree) → AllByRecursion (IsSoundRule sig) rs →
+        IsListing tree_cmp (IsConstantOf rs) ts → all_nodes ts
+        ≤ length rs * (MAX_PATTERN_NODES * MAX_DEFAULT_NODES + 2 * MAX_ATOMS * MAX_OPERAND_NODES) }
 {}
 
 /// A plan has one pattern, over whatever signature.

@@ -3,6 +3,7 @@
 
 mod compile;
 mod condition;
+mod constant;
 mod copy;
 mod entry;
 mod laws;
@@ -13,16 +14,18 @@ mod order;
 mod outline;
 mod pattern;
 mod plan;
+mod planned;
 mod rule;
 mod syntactic;
 mod template;
 
 pub use compile::{PlanFault, is_comm_above};
 pub use condition::{Amount, BoxedCond, Cond, Conds, Operand, Sense};
+pub use constant::{constants, rule_constants};
 pub use copy::{copy_cond, copy_pattern, copy_shape};
 pub use entry::{Entries, Entry, Form};
 pub use laws::{
-    a_plan_has_one_pattern, ground_patterns_are_terms,
+    a_plan_has_one_pattern, constants_of_sound_rules_are_normal_and_few, ground_patterns_are_terms,
     instances_of_sound_templates_are_well_formed, nodes_and_variables_decide_the_pattern,
     normal_pattern_is_idempotent, normal_pattern_is_no_larger, normal_pattern_keeps_no_clash,
     normal_pattern_keeps_variables, pattern_order_is_total, sound_rules_can_be_matched,
@@ -37,6 +40,7 @@ pub use normal::normalise_pattern;
 pub use order::pattern_compare;
 pub use pattern::{Pattern, Patterns, Shape};
 pub use plan::{Plan, PlanNode};
+pub use planned::{PlannedRule, plan_rules};
 pub use rule::{Rule, Rules};
 pub use syntactic::is_syntactic;
 pub use template::{Template, Templates};
