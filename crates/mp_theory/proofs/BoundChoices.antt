@@ -36,14 +36,14 @@ use Rattle.mp_theory.proofs.CursorLaws.{pruned}
 use Rattle.mp_theory.proofs.Pruning.{bound_merges, derivations-within}
 
 -- what merges with one term is that term
-merge-one : (t : Tree) (g u : Value) → merge (one t) g ≡ Some u → g ≡ one t
+pub merge-one : (t : Tree) (g u : Value) → merge (one t) g ≡ Some u → g ≡ one t
 merge-one t (one s) u e = ap one (sym (tree_same t s ((Equal-is (tree_cmp t s)).0 (from_if _ _ u e).0)))
 merge-one t (seq us) u e = cc
 merge-one t (bag us) u e = cc
 
 module _ (sig : Sig) where
   -- a wildcard gives one term, or the sequence that it takes
-  given-form : (f : Option ℕ) (w : Wildcard) (l : List Tree) (g : Value) → given sig f w l ≡ Some g
+  pub given-form : (f : Option ℕ) (w : Wildcard) (l : List Tree) (g : Value) → given sig f w l ≡ Some g
       → (g ≡ sequence sig f l) ⊎ ((t : Tree) × (g ≡ one t))
   given-form f dot l g e = let c = contributor-contributes sig f l g e in inr (c.term, c.is)
   given-form f (kind k) [] g e = cc
@@ -74,7 +74,7 @@ module _ (sig : Sig) where
       [ true ↦ λ p. cc | false ↦ λ p. cc ] e
 
   -- a wildcard that isn't optional gives a term by its contribution only
-  given-one : (f : Option ℕ) (w : Wildcard) (l : List Tree) (t : Tree) → IsNotOptional w
+  pub given-one : (f : Option ℕ) (w : Wildcard) (l : List Tree) (t : Tree) → IsNotOptional w
       → given sig f w l ≡ Some (one t) → contribution sig f t ≡ Some l
   given-one f dot l t n e =
       let c = contributor-contributes sig f l (one t) e in

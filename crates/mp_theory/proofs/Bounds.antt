@@ -37,7 +37,12 @@ abbrev pub AtMost : ℕ → Option ℕ → Type 0
 AtMost n None = ⊤
 AtMost n (Some m) = n ≤ m
 
--- the test of a number against bounds
+-- the test of a number against a bound
+pub reaches-at_most : (n : ℕ) (high : Option ℕ) → AtMost n high → reaches n high ≡ true
+reaches-at_most n None h = refl
+reaches-at_most n (Some m) h = grind (arith, nat_tests, h)
+
+-- and against bounds
 tested : (low : ℕ) (high : Option ℕ) (n : ℕ) → low ≤ n → AtMost n high → not (nat_lt n low) && reaches n high ≡ true
 tested low None n h k = grind (arith, nat_tests, h)
 tested low (Some high) n h k = grind (arith, nat_tests, h, k)

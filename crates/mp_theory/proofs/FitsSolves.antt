@@ -81,11 +81,11 @@ module _ (sig : Sig) where
       )
 
   -- before the first node what is left is fine
-  fine-start : (p : Pattern) (t : Tree) → IsNormal sig t → IsFineAt sig (settle (start p t))
+  pub fine-start : (p : Pattern) (t : Tree) → IsNormal sig t → IsFineAt sig (settle (start p t))
   fine-start p t n = fine-settle sig (start p t) (fine-single sig None t (final-passes sig t n), tt)
 
   -- the takes of a walk over fine terms give final values
-  takes-final : (n : Next) (T : Table) → IsFineAt sig n → Accepts (choices sig) onward is_ended n T
+  pub takes-final : (n : Next) (T : Table) → IsFineAt sig n → Accepts (choices sig) onward is_ended n T
       → AllByRecursion (GivesFinal sig) (takes n T)
   takes-final n [] h a = tt
   takes-final ended (e ∷ T) h a = absurd a.0

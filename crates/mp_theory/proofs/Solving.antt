@@ -47,7 +47,7 @@ add_new-behind n x ns e =
     ≡ (if b then n ∷ ns else n ∷ (ns ++ (x ∷ [])))) [ true ↦ refl | false ↦ refl ])
 
 -- what binding does to the names
-bind-names : (env : Subst) (x : List ℕ) (w : Value) (r : Subst) → bind env x w ≡ Some r
+pub bind-names : (env : Subst) (x : List ℕ) (w : Value) (r : Subst) → bind env x w ≡ Some r
     → names r ≡ add_new same_name (names env) x
 bind-names [] x w r e = let q : record { name = x; value = w } ∷ [] ≡ r = cc in ap names (sym q)
 bind-names (b ∷ env) x w r e =
@@ -88,7 +88,7 @@ join_seq seq_form = refl
 join_seq bag_form = refl
 
 -- the form of a value, if there is one
-abbrev held_form : Option Value → Form
+abbrev pub held_form : Option Value → Form
 held_form None = one_form
 held_form (Some v) = form_of v
 
@@ -172,13 +172,13 @@ merge-final sig (bag ts) (one s) u e h k = cc
 abbrev pub AllFinal : Sig → Subst → Type 0
 AllFinal sig env = AllByRecursion (λ b. IsFinal sig b.value) env
 
-all-arranged : (sig : Sig) (env : Subst) → AllFinal sig env → AllArranged env
+pub all-arranged : (sig : Sig) (env : Subst) → AllFinal sig env → AllArranged env
 all-arranged sig [] h = tt
 all-arranged sig (b ∷ env) h = (arranged-final sig b.value h.0, all-arranged sig env h.1)
 
 -- binding keeps values final
-bind-final : (sig : Sig) (env : Subst) (x : List ℕ) (w : Value) (r : Subst) → bind env x w ≡ Some r → AllFinal sig env
-    → IsFinal sig w → AllFinal sig r
+pub bind-final : (sig : Sig) (env : Subst) (x : List ℕ) (w : Value) (r : Subst) → bind env x w ≡ Some r
+    → AllFinal sig env → IsFinal sig w → AllFinal sig r
 bind-final sig [] x w r e h k = let q : record { name = x; value = w } ∷ [] ≡ r = cc in subst (AllFinal sig) q (k, tt)
 bind-final sig (b ∷ env) x w r e h k =
     elim (if_either (same_name b.name x) _ _ r e) [
@@ -341,11 +341,11 @@ found-IsSubstOf sig p s h = found-itself s
     (subst (Distinct same_name) (sym h.names) (distinct-firsts same_name [] (map (λ u. u.name) (uses None p)) tt))
 
 -- so they agree with the substitution and have its forms
-extends-from_found : (s r : Subst) → AllByRecursion (IsFound s) r → Extends r s
+pub extends-from_found : (s r : Subst) → AllByRecursion (IsFound s) r → Extends r s
 extends-from_found s [] h = tt
 extends-from_found s (b ∷ r) h = ((b.value, h.0, refines-itself b.value), extends-from_found s r h.1)
 
-forms-from_found : (F : List ℕ → Form) (s r : Subst) → AllByRecursion (IsFound s) r
+pub forms-from_found : (F : List ℕ → Form) (s r : Subst) → AllByRecursion (IsFound s) r
     → ((y : List ℕ) → held_form (value_of s y) ≡ F y) → AllByRecursion (λ b. form_of b.value ≡ F b.name) r
 forms-from_found F s [] h k = tt
 forms-from_found F s (b ∷ r) h k = (sym (ap held_form h.0) ∙ k b.name, forms-from_found F s r h.1 k)
@@ -388,15 +388,15 @@ agreeing_same F (b ∷ r) (c ∷ s) n d x h k =
 
 module _ (sig : Sig) (p : Pattern) (ts : List Taken) (same_uses : map (λ t. t.by) ts ≡ uses None p) where
   -- what solves the takes has the pattern's variables, with their forms
-  names-from_solve : (s : Subst) → solve sig [] ts ≡ Some s → names s ≡ variables p
+  pub names-from_solve : (s : Subst) → solve sig [] ts ≡ Some s → names s ≡ variables p
   names-from_solve s e = solve-names sig [] ts s e
       ∙ ap (λ us. firsts_after same_name [] (map (λ u. u.name) us)) same_uses
 
-  forms-from_solve : (s : Subst) → solve sig [] ts ≡ Some s → (y : List ℕ)
+  pub forms-from_solve : (s : Subst) → solve sig [] ts ≡ Some s → (y : List ℕ)
       → held_form (value_of s y) ≡ variable_form sig p y
   forms-from_solve s e y = solve-forms sig [] ts s e y ∙ ap (λ us. form_among sig us y) same_uses
 
-  found-from_solve : (s : Subst) → solve sig [] ts ≡ Some s → AllByRecursion (IsFound s) s
+  pub found-from_solve : (s : Subst) → solve sig [] ts ≡ Some s → AllByRecursion (IsFound s) s
   found-from_solve s e =
       found-itself s
       (subst (Distinct same_name) (sym (names-from_solve s e))

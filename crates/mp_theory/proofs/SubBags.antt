@@ -41,7 +41,7 @@ sub_bags-exact l ts e = (
 )
 
 -- `map` over `flat_map`, and over lists with one front
-map-flat : {X Y Z : Type 0} (k : Y → Z) (g : X → List Y) (xs : List X)
+pub map-flat : {X Y Z : Type 0} (k : Y → Z) (g : X → List Y) (xs : List X)
     → map k (flat_map g xs) ≡ flat_map (λ x. map k (g x)) xs
 map-flat k g [] = refl
 map-flat k g (x ∷ xs) = map-append k (g x) (flat_map g xs) ∙ ap (λ ys. map k (g x) ++ ys) (map-flat k g xs)
@@ -126,7 +126,7 @@ module _ {X Y : Type 0} (cmp : X → X → Ordering) (other : Y → Y → Orderi
   all-begin false (t ∷ ts) h = (h.0, tt)
 
   -- f carries the pieces of a length over
-  pieces_of-map : (b : Bool) (n : ℕ) (ts : List X) → All ts
+  pub pieces_of-map : (b : Bool) (n : ℕ) (ts : List X) → All ts
       → pieces_of other b n (map f ts) ≡ map (λ w. map f w) (pieces_of cmp b n ts)
   pieces_of-map b zero ts h = refl
   pieces_of-map b (suc n) ts h =

@@ -95,7 +95,7 @@ module _ (sig : Sig) where
   refused_none [] h = cc
   refused_none (e ∷ T) h = h.0
 
-  accounts-settled : (gs : List Frame) (T : Table) → Accepted (settle gs) T → Accounts (settle gs) T
+  pub accounts-settled : (gs : List Frame) (T : Table) → Accepted (settle gs) T → Accounts (settle gs) T
       → (length T ≡ nodes_in gs) × (map (λ t. t.by) (takes (settle gs) T) ≡ uses_in gs)
   accounts-settled gs T a h =
       elim (settled gs) [

@@ -27,7 +27,7 @@ same_mark false false e = refl
 same_mark true false e = cc
 same_mark false true e = cc
 
-same_entry : (d e : Entry) → entry_cmp d e ≡ Equal → d ≡ e
+pub same_entry : (d e : Entry) → entry_cmp d e ≡ Equal → d ≡ e
 same_entry d e h =
     let k = both_equal _ _ h in
     let t : d.terms ≡ e.terms = same_terms-sound d.terms e.terms (ap is_eq (both_equal _ _ k.0).1) in

@@ -8,3 +8,11 @@ pub mod Cursor
 pub mod Bounds
 pub mod Within
 pub mod ValueSizes
+pub mod Items
+pub mod Narrow
+pub mod Nodes
+pub mod Least
+pub mod Kept
+pub mod Known
+pub mod MayMatch
+pub mod Supply

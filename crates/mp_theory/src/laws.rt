@@ -1,26 +1,33 @@
 //! The main theorems, each as the contract of a function that does nothing.
-ghost use Rattle.std.specs.Prelude.{◌≡◌, ◌↔◌, ◌+◌, List, Some, true, map, max, length};
+ghost use Rattle.std.specs.Prelude.{◌≡◌, ◌↔◌, ◌+◌, ◌≤◌, ℕ, List, [], Option, Some, true, map, filter, max, length};
+ghost use Rattle.std.specs.Prelude.{slice_get};
 ghost use Rattle.std.specs.List.{AllByRecursion};
 ghost use Rattle.std.specs.List.Sorted.{IsStrictlySortedBy};
 ghost use Rattle.mp_term.specs.Tree.{Tree};
 ghost use Rattle.mp_term.specs.Size.{node_count};
 ghost use Rattle.mp_term.specs.Signature.{Sig};
 ghost use Rattle.mp_term.specs.Normal.{IsNormal};
-ghost use Rattle.mp_pattern.specs.PatternTree.{Pattern};
+ghost use Rattle.mp_pattern.specs.PatternTree.{Pattern, Wildcard, wild_pattern};
+ghost use Rattle.mp_pattern.specs.Subpatterns.{subpatterns};
+ghost use Rattle.mp_pattern.specs.Firsts.{firsts_after};
 ghost use Rattle.mp_pattern.specs.Limits.{DefaultsAreSmall};
 ghost use Rattle.mp_pattern.specs.Size.{pattern_nodes};
 ghost use Rattle.mp_pattern.specs.Variables.{variables};
 ghost use Rattle.mp_pattern.specs.Value.{Subst};
-ghost use Rattle.mp_pattern.specs.Fits.{Table, Fits};
+ghost use Rattle.mp_pattern.specs.Fits.{Entry, Table, Fits};
 ghost use Rattle.mp_pattern.specs.DerivationOrder.{table_cmp};
 ghost use Rattle.mp_pattern.specs.Instance.{is_fully_named, IsPatternApplied};
-ghost use Rattle.mp_pattern.specs.Admission.{Rule};
+ghost use Rattle.mp_pattern.specs.Admission.{Rule, meets};
 ghost use Rattle.mp_pattern.specs.Lists.{Pair, IsOneList, IsAllList};
 ghost use Rattle.mp_term.specs.Search.{In};
-ghost use Rattle.mp_theory.specs.Machine.{HasShape, tables};
+ghost use Rattle.mp_theory.specs.Frames.{Frame, Next, child, settle, start};
+ghost use Rattle.mp_theory.specs.Items.{items, onward_all};
+ghost use Rattle.mp_theory.specs.Least.{is_least_item};
+ghost use Rattle.mp_theory.specs.Narrow.{load};
+ghost use Rattle.mp_theory.specs.Machine.{HasShape, onward, tables};
 ghost use Rattle.mp_theory.specs.NoOptional.{HasNoOptional};
-ghost use Rattle.mp_theory.specs.OneList.{AreItems, Item, item_list, item_substs, one_list};
-ghost use Rattle.mp_theory.specs.Trail.{fitted};
+ghost use Rattle.mp_theory.specs.OneList.{AreItems, Item, item_list, item_substs, one_list, same_item, same_subst};
+ghost use Rattle.mp_theory.specs.Trail.{allows, fitted};
 ghost use Rattle.mp_theory.specs.ValueSizes.{HaveAtMost};
 
 use mp_pattern::MAX_DEFAULT_NODES;
@@ -104,4 +111,40 @@ pub fn an_instance_is_the_subject()
     ensures { (sig : Sig) (p : Pattern) (t : Tree) (s : Subst) (T : Table) →
         is_fully_named p ≡ true → HasNoOptional p → IsNormal sig t →
         Fits sig p t s T → IsPatternApplied sig p s t }
+{}
+
+/// What the search lists is the item list: `item_list` of `specs/OneList.antt` is the items from the start, `items` of
+/// `specs/Items.antt`, that meet the condition, each substitution once.
+pub fn the_search_lists_the_items()
+    ensures { (sig : Sig) (r : Rule) (t : Tree) →
+        item_list sig r t ≡ firsts_after same_item [] (filter (λ i. meets sig r.condition i.1)
+        (items sig (pattern_nodes r.pattern) (settle (start r.pattern t)) [])) }
+{}
+
+/// The child that takes next behind some entries is the one of the pattern's nodes with their number, in preorder, as
+/// `subpatterns` of mp_pattern's `specs/Subpatterns.antt` lists them.
+pub fn the_next_child_is_a_node_of_the_pattern()
+    ensures { (p c : Pattern) (t : Tree) (T : Table) (f : Frame) (fs : List Frame) →
+        onward_all (settle (start p t)) T ≡ child c f fs → slice_get (subpatterns p) (length T) ≡ Some c }
+{}
+
+/// What is left at a place is no more than what is left before it: behind an entry that may stand there no more nodes,
+/// and behind a wildcard fewer by each term that it takes.
+pub fn less_is_left_behind_an_entry()
+    ensures falls { (sig : Sig) (n : Next) (e : Entry) → allows sig n e ≡ true → load (onward n e) ≤ load n }
+    ensures wildcard { (sig : Sig) (w : Wildcard) (x : Option (List ℕ)) (f : Frame) (fs : List Frame) (e : Entry) →
+        let n : Next = child (wild_pattern w x) f fs in
+        allows sig n e ≡ true → load (onward n e) + length e.terms ≤ load n }
+{}
+
+/// A search over the whole substitution of a table that fits finds exactly the items with that substitution, in order.
+/// So an item stands in the item list exactly where the first of them has its table, `is_least_item` of
+/// `specs/Least.antt`.
+pub fn a_second_search_finds_the_items_of_a_substitution()
+    ensures found { (sig : Sig) (p : Pattern) (t : Tree) (s : Subst) (T : Table) → IsNormal sig t → Fits sig p t s T →
+        items sig (pattern_nodes p) (settle (start p t)) s
+        ≡ filter (λ i. same_subst s i.1) (items sig (pattern_nodes p) (settle (start p t)) []) }
+    ensures least { (sig : Sig) (r : Rule) (t : Tree) → IsNormal sig t →
+        item_list sig r t ≡ filter (is_least_item sig r.pattern t) (filter (λ i. meets sig r.condition i.1)
+        (items sig (pattern_nodes r.pattern) (settle (start r.pattern t)) [])) }
 {}
