@@ -1,0 +1,63 @@
+-- What a sort leaves once repeats are dropped: the keys ascend, and each key is there.
+use Rattle.std.proofs.Common.{◌≡◌, ℕ, zero, suc, ◌<◌, List, [], ◌∷◌, map, length, get_or, refl, ap, sym, ◌∙◌, subst}
+use Rattle.std.proofs.Common.{inl, inr}
+use Rattle.std.proofs.Common.{true, arith}
+use Rattle.std.specs.Prelude.{Contains}
+use Rattle.std.specs.declared.cmp.Ordering.{Ordering}
+use Rattle.std.specs.declared.cmp.Ordering.TheVariants.{Less, Equal, Greater}
+use Rattle.std.specs.Ordering.{eq_by_cmp, is_eq}
+use Rattle.std.specs.Cmp.{IsTotalOrder}
+use Rattle.std.specs.List.{AllByRecursion, dedup}
+use Rattle.std.specs.List.Sorted.{IsStrictlySortedBy, IsSorted, IsPermutation}
+use Rattle.std.proofs.lemmas.Cmp.{eq_by_cmp_equiv, on_total}
+use Rattle.std.proofs.lemmas.List.{get_or_default}
+use Rattle.std.proofs.lemmas.List.Elements.{All-from_recursion, recursion_from_All}
+use Rattle.std.proofs.lemmas.List.Filters.{All-dedup}
+use Rattle.std.proofs.lemmas.List.Kept.{Any-dedup, IsStrictlySortedBy-dedup}
+use Rattle.std.proofs.lemmas.List.Sorted.{All-permutation, Contains-permutation}
+use Rattle.mp_term.specs.Listing.{In}
+use Rattle.mp_table.proofs.Ascending.{keys_ascend, place}
+
+-- what follows for each member of the keys holds of each item's key
+pub all-members : {X Y : Type 0} (f : Y → X) (Q : X → Type 0) (ys : List Y) → ((x : X) → In x (map f ys) → Q x)
+    → AllByRecursion (λ y. Q (f y)) ys
+all-members f Q [] h = tt
+all-members f Q (y ∷ ys) h = (h (f y) (inl refl), all-members f Q ys (λ x i. h x (inr i)))
+
+-- the key at a place is a member
+pub in-key : {X Y : Type 0} (f : Y → X) (ys : List Y) (i : ℕ) (d : Y) → i < length ys
+    → In (f (get_or ys i d)) (map f ys)
+in-key f [] i d h = absurd (omega arith)
+in-key f (y ∷ ys) zero d h = inl refl
+in-key f (y ∷ ys) (suc i) d h = inr (in-key f ys i d (omega arith))
+
+pub equal-from : (o : Ordering) → is_eq o ≡ true → o ≡ Equal
+equal-from Less e = cc
+equal-from Equal e = refl
+equal-from Greater e = cc
+
+module _ {X Y : Type 0} (cmp : X → X → Ordering) (o : IsTotalOrder cmp) (key : Y → X) where
+  abbrev by_key : Y → Y → Ordering
+  by_key a b = cmp (key a) (key b)
+
+  pub distinct_ascends : (zs : List Y) → IsSorted by_key zs
+      → IsStrictlySortedBy cmp (map key (dedup (eq_by_cmp by_key) zs))
+  distinct_ascends zs s = keys_ascend cmp o key _ (IsStrictlySortedBy-dedup (on_total key o) (λ x y. refl) zs s)
+
+  pub distinct_keep : (P : Y → Type 0) (ys zs : List Y) → IsPermutation ys zs → AllByRecursion P ys
+      → AllByRecursion P (dedup (eq_by_cmp by_key) zs)
+  distinct_keep P ys zs moved h = recursion_from_All P _
+      (All-dedup (eq_by_cmp by_key) P zs (All-permutation P ys zs moved (All-from_recursion P ys h)))
+
+  module _ (same : (x y : X) → cmp x y ≡ Equal → x ≡ y) where
+    pub distinct_all : (ys zs : List Y) → IsPermutation ys zs → (x : X) → In x (map key ys)
+        → In x (map key (dedup (eq_by_cmp by_key) zs))
+    distinct_all [] zs moved x h = absurd h
+    distinct_all (y ∷ ys) zs moved x h =
+        let p = place cmp o key x (y ∷ ys) h in
+        let z = get_or (y ∷ ys) p.0 y in
+        let there : Contains (y ∷ ys) z = (p.0, p.1, get_or_default (y ∷ ys) p.0 z y p.1) in
+        let r = Any-dedup (eq_by_cmp_equiv (on_total key o)) zs z (Contains-permutation (y ∷ ys) zs z moved there) in
+        let is : key z ≡ key r.1 = same _ _ (equal-from _ r.4) in
+        subst (λ k. In k (map key (dedup (eq_by_cmp by_key) zs))) (ap key r.3 ∙ sym is ∙ p.2 y)
+        (in-key key (dedup (eq_by_cmp by_key) zs) r.0 r.1 r.2)

@@ -1,0 +1,12 @@
+pub mod Ascending
+pub mod Distinct
+pub mod Ranges
+pub mod PieceLaws
+pub mod PreorderLaws
+pub mod TextOrder
+pub mod TextLaws
+pub mod ReadingLaws
+pub mod HeadLaws
+pub mod RankLaws
+pub mod NormalSubterms
+pub mod BuildLaws

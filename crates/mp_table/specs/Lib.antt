@@ -1,0 +1,9 @@
+pub mod Subterms
+pub mod Preorder
+pub mod Heading
+pub mod Codes
+pub mod Pieces
+pub mod Table
+pub mod TableCode
+pub mod Reading
+pub mod Text

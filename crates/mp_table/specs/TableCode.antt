@@ -1,0 +1,10 @@
+-- A table as the pair of its terms and its root: by this, a proof tells tables apart.
+use Rattle.std.specs.Prelude.{ℕ, List, refl}
+use Rattle.std.specs.Coded.{Coded, code_by, coded×, coded_list, coded_ℕ}
+use Rattle.mp_term.specs.Tree.{Tree}
+use Rattle.mp_term.specs.Code.{coded_tree}
+use Rattle.mp_table.specs.Table.{Table}
+
+abbrev pub coded_table : Coded Table
+coded_table = code_by (List Tree × ℕ) (coded× (coded_list coded_tree) coded_ℕ) (λ t. (t.terms, t.root))
+    (λ p. record { terms = p.0; root = p.1 }) (λ _. refl)

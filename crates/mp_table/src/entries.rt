@@ -1,0 +1,95 @@
+//! The entries of a table.
+ghost use Rattle.std.specs.Prelude.{◌≡◌, ◌<◌, ◌^◌, map, length, IfOk, slice_index_or, []};
+ghost use Rattle.std.specs.List.{AllByRecursion};
+ghost use Rattle.mp_term.specs.Tree.{symbol};
+ghost use Rattle.mp_term.specs.View.{tree};
+ghost use Rattle.mp_table.specs.Subterms.{arguments};
+ghost use Rattle.mp_table.specs.Reading.{with_head, IsEntryOf, AreEntries};
+ghost use Rattle.mp_table.specs.Pieces.{ArePieces};
+ghost use Rattle.mp_table.specs.Text.{IsText, piece_terms, shown};
+
+use crate::entry::{Entry, OwnHead};
+use crate::piece::Piece;
+use crate::pieces::rank_of;
+use crate::preorder::Preorder;
+use crate::rank::Rank;
+use mp_term::{Memory, Term};
+use std::alloc::Global;
+
+// A copy of the term's head.
+fn head_of(alloc: Global, term: &Term) -> Result<OwnHead, Memory>
+    ensures { IfOk result (λ h. with_head h (arguments (tree term.now)) ≡ tree term.now) }
+{
+    match term {
+        Term::Sym(name) => Ok(OwnHead::Sym(name.copy(alloc)?)),
+        Term::App(op, _) => Ok(OwnHead::App(*op)),
+    }
+}
+
+// The ranks of the arguments of the subterm at a place.
+fn ranks_of_args(
+    alloc: Global,
+    text: &Preorder<'_>,
+    codes: &[u32],
+    pieces: &[Piece<'_>],
+    start: usize,
+) -> Result<Vec<Rank>, Memory>
+    requires text { IsText text.now codes.now }
+    requires pieces { ArePieces codes.now text.now.nodes.items pieces.now }
+    requires short { length pieces.now < 2 ^ 32 }
+    requires start { start < length text.now.nodes.items }
+    ensures terms { IfOk result
+        (λ rs. map (λ r. slice_index_or (piece_terms text.now pieces.now) r.0 (symbol [])) rs.items
+        ≡ arguments (slice_index_or (shown text.now) start (symbol []))) }
+    ensures within { IfOk result (λ rs. AllByRecursion (λ r. r.0 < length pieces.now) rs.items) }
+{
+    let mut ranks = Vec::new(alloc);
+    let end = start + text.nodes[start] as usize;
+    let mut next = start + 1;
+    while next < end {
+        let after = next + text.nodes[next] as usize;
+        ranks.push(rank_of(pieces, &codes[next..after]))?;
+        next = after;
+    }
+    Ok(ranks)
+}
+
+// The entry of the subterm at a place.
+fn entry_of(
+    alloc: Global,
+    text: &Preorder<'_>,
+    codes: &[u32],
+    pieces: &[Piece<'_>],
+    start: usize,
+) -> Result<Entry, Memory>
+    requires text { IsText text.now codes.now }
+    requires pieces { ArePieces codes.now text.now.nodes.items pieces.now }
+    requires short { length pieces.now < 2 ^ 32 }
+    requires start { start < length text.now.nodes.items }
+    ensures { IfOk result
+        (IsEntryOf (piece_terms text.now pieces.now) (slice_index_or (shown text.now) start (symbol []))) }
+{
+    let head = head_of(alloc, text.terms[start])?;
+    let args = ranks_of_args(alloc, text, codes, pieces, start)?;
+    let nodes = u64::from(text.nodes[start]);
+    Ok(Entry { head, args, nodes })
+}
+
+// The entries of the subterms at the pieces.
+pub(crate) fn entries_of(
+    alloc: Global,
+    text: &Preorder<'_>,
+    codes: &[u32],
+    pieces: &[Piece<'_>],
+) -> Result<Vec<Entry>, Memory>
+    requires text { IsText text.now codes.now }
+    requires pieces { ArePieces codes.now text.now.nodes.items pieces.now }
+    requires short { length pieces.now < 2 ^ 32 }
+    ensures { IfOk result (λ es. AreEntries es.items (piece_terms text.now pieces.now)) }
+{
+    let mut entries = Vec::new(alloc);
+    for piece in pieces {
+        entries.push(entry_of(alloc, text, codes, pieces, piece.start)?)?;
+    }
+    Ok(entries)
+}

@@ -1,0 +1,141 @@
+//! The search for a term in a table.
+ghost use Rattle.std.specs.Prelude.{◌≡◌, map, option_map};
+ghost use Rattle.std.specs.List.Sorted.{IsStrictlySortedBy};
+ghost use Rattle.mp_term.specs.Tree.{symbol, app, trees};
+ghost use Rattle.mp_term.specs.View.{tree};
+ghost use Rattle.mp_term.specs.Order.{tree_cmp, shortlex};
+ghost use Rattle.mp_table.specs.Table.{term_at, terms_at, HasRank, HasRanks, rank_of};
+
+use crate::rank::{Head, Rank};
+use crate::table::Table;
+use mp_term::{Name, OpId, Term};
+use std::cmp::Ordering;
+
+impl Table {
+    // The term of a rank beside a term.
+    #[cycle(compare_term)]
+    fn compare_term(&self, rank: Rank, term: &Term) -> Ordering
+        requires { HasRank self.now rank }
+        ensures { result ≡ tree_cmp (term_at self.now rank) (tree term.now) }
+    {
+        match (self.head(rank), term) {
+            (Head::Sym(own), Term::Sym(name)) => own.cmp(name),
+            (Head::Sym(_), Term::App(_, _)) => Ordering::Less,
+            (Head::App(_), Term::Sym(_)) => Ordering::Greater,
+            (Head::App(own), Term::App(op, terms)) => {
+                if own.0 != op.0 {
+                    return own.0.cmp(&op.0);
+                }
+                self.compare_terms(self.args(rank), terms.as_slice())
+            }
+        }
+    }
+
+    // The terms of ranks beside terms, by shortlex.
+    #[cycle(compare_term)]
+    fn compare_terms(&self, ranks: &[Rank], terms: &[Term]) -> Ordering
+        requires { HasRanks self.now ranks.now }
+        ensures { result ≡ shortlex tree_cmp (terms_at self.now ranks.now) (map tree terms.now) }
+    {
+        if ranks.len() != terms.len() {
+            return ranks.len().cmp(&terms.len());
+        }
+        for (i, rank) in ranks.iter().enumerate() {
+            let order = self.compare_term(*rank, &terms[i]);
+            if order.is_ne() {
+                return order;
+            }
+        }
+        Ordering::Equal
+    }
+
+    // The term of a rank beside an application of the operation to the terms of ranks.
+    fn compare_app(&self, rank: Rank, op: OpId, ranks: &[Rank]) -> Ordering
+        requires ascending { IsStrictlySortedBy tree_cmp self.now.terms }
+        requires rank { HasRank self.now rank }
+        requires ranks { HasRanks self.now ranks.now }
+        ensures { result ≡ tree_cmp (term_at self.now rank) (app op.0 (trees (terms_at self.now ranks.now))) }
+    {
+        match self.head(rank) {
+            Head::Sym(_) => Ordering::Less,
+            Head::App(own) => {
+                if own.0 != op.0 {
+                    return own.0.cmp(&op.0);
+                }
+                let args = self.args(rank);
+                if args.len() != ranks.len() {
+                    return args.len().cmp(&ranks.len());
+                }
+                args.cmp(ranks)
+            }
+        }
+    }
+
+    // The term of a rank beside the symbol of a name.
+    fn compare_symbol(&self, rank: Rank, name: &Name) -> Ordering
+        requires { HasRank self.now rank }
+        ensures { result ≡ tree_cmp (term_at self.now rank) (symbol name.now) }
+    {
+        match self.head(rank) {
+            Head::Sym(own) => own.cmp(name),
+            Head::App(_) => Ordering::Greater,
+        }
+    }
+
+    /// The rank of a term, and None exactly where the table doesn't hold it (`rank_of` of `specs/Table.antt`). It
+    /// compares the term with so many others as the number of terms has binary digits, and takes no memory.
+    pub fn find(&self, term: &Term) -> Option<Rank>
+        ensures { option_map (λ r. r.0) result ≡ rank_of self.now (tree term.now) }
+    {
+        let mut low = 0;
+        let mut high = self.len();
+        while low < high {
+            let middle = low + (high - low) / 2;
+            match self.compare_term(Rank(middle), term) {
+                Ordering::Less => low = middle + 1,
+                Ordering::Equal => return Some(Rank(middle)),
+                Ordering::Greater => high = middle,
+            }
+        }
+        None
+    }
+
+    /// The rank of the symbol of a name, and None exactly where the table doesn't hold it (`rank_of` of
+    /// `specs/Table.antt`). It compares the name with the heads of so many terms as the number of terms has binary
+    /// digits, and takes no memory.
+    pub fn find_symbol(&self, name: &Name) -> Option<Rank>
+        ensures { option_map (λ r. r.0) result ≡ rank_of self.now (symbol name.now) }
+    {
+        let mut low = 0;
+        let mut high = self.len();
+        while low < high {
+            let middle = low + (high - low) / 2;
+            match self.compare_symbol(Rank(middle), name) {
+                Ordering::Less => low = middle + 1,
+                Ordering::Equal => return Some(Rank(middle)),
+                Ordering::Greater => high = middle,
+            }
+        }
+        None
+    }
+
+    /// The rank of the application of an operation to the terms of ranks, each of which must be below `len`, and None
+    /// exactly where the table doesn't hold that term (`rank_of` of `specs/Table.antt`). It compares so many lists of
+    /// ranks as the number of terms has binary digits, and takes no memory.
+    pub fn find_app(&self, op: OpId, ranks: &[Rank]) -> Option<Rank>
+        requires { HasRanks self.now ranks.now }
+        ensures { option_map (λ r. r.0) result ≡ rank_of self.now (app op.0 (trees (terms_at self.now ranks.now))) }
+    {
+        let mut low = 0;
+        let mut high = self.len();
+        while low < high {
+            let middle = low + (high - low) / 2;
+            match self.compare_app(Rank(middle), op, ranks) {
+                Ordering::Less => low = middle + 1,
+                Ordering::Equal => return Some(Rank(middle)),
+                Ordering::Greater => high = middle,
+            }
+        }
+        None
+    }
+}

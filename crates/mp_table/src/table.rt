@@ -1,0 +1,142 @@
+//! Tables of terms.
+ghost use Rattle.std.specs.Prelude.{◌≡◌, ◌≤◌, ◌<◌, map, length, IfOk};
+ghost use Rattle.std.specs.List.{AllByRecursion};
+ghost use Rattle.mp_term.specs.View.{tree};
+ghost use Rattle.mp_term.specs.Normal.{IsNormal};
+ghost use Rattle.mp_term.specs.Size.{node_count, all_nodes};
+ghost use Rattle.mp_table.specs.Subterms.{arguments};
+ghost use Rattle.mp_table.specs.Table.{term_at, terms_at, HasRank, HasRanks, IsTable, IsTableOf};
+ghost use Rattle.mp_table.specs.Reading.{IsHeadOf};
+
+use crate::code::codes;
+use crate::entries::entries_of;
+use crate::entry::{Entry, OwnHead};
+use crate::limits::MAX_CONSTANT_NODES;
+use crate::pieces::{distinct_pieces, rank_of};
+use crate::preorder::collect;
+use crate::rank::{Head, Rank};
+use mp_term::{MAX_TERM_NODES, Memory, Signature, Term, Terms};
+use std::alloc::Global;
+use std::marker::Model;
+
+/// The distinct subterms of a subject and of constants, ranked from 0 in the term order. Contracts see it as the record
+/// `Table` of `specs/Table.antt`, which holds the ascending list of these terms and the subject's rank. `IsTable` says
+/// what holds of each.
+#[derive(Drop)]
+pub struct Table {
+    entries: Vec<Entry>,
+    root: Rank,
+}
+
+impl Model for Table {
+    ghost use Rattle.std.specs.Prelude.{◌<◌, ◌^◌, length};
+    ghost use Rattle.std.specs.List.Sorted.{IsStrictlySortedBy};
+    ghost use Rattle.mp_term.specs.Order.{tree_cmp};
+    ghost use Rattle.mp_table.specs.Table as plain;
+    ghost use Rattle.mp_table.specs.TableCode.{coded_table};
+
+    ghost Value = { plain.Table };
+
+    ghost coded = { coded_table };
+
+    ghost use Rattle.mp_table.specs.Reading.{entry_trees, AreEntries};
+
+    ghost view = { λ t. record { terms = entry_trees t.entries.items; root = t.root.0 } };
+
+    ghost invariant = { λ t.
+        AreEntries t.entries.items (entry_trees t.entries.items)
+        × IsStrictlySortedBy tree_cmp (entry_trees t.entries.items)
+        × (length t.entries.items < 2 ^ 32)
+        × (t.root.0 < length t.entries.items) };
+}
+
+impl Table {
+    /// The table of the subterms of a subject and of constants (`IsTableOf` of `specs/Table.antt`). All of them must be
+    /// normal over the signature, and so is then each term of the table. The subject must have at most
+    /// `MAX_TERM_NODES` nodes, and the constants at most `MAX_CONSTANT_NODES` together.
+    ///
+    /// `Memory` comes where there is no room for the table.
+    pub fn build(
+        alloc: Global,
+        sig: &Signature,
+        subject: &Term,
+        constants: &Terms,
+    ) -> Result<Table, Memory>
+        requires subject_nodes { node_count (tree subject.now) ≤ MAX_TERM_NODES }
+        requires constant_nodes { all_nodes constants.now ≤ MAX_CONSTANT_NODES }
+        requires normal_subject { IsNormal sig.now (tree subject.now) }
+        requires normal_constants { AllByRecursion (IsNormal sig.now) constants.now }
+        ensures table { IfOk result (IsTableOf (tree subject.now) constants.now) }
+        ensures normal { IfOk result (λ t. AllByRecursion (IsNormal sig.now) t.terms) }
+    {
+        // The table is the same over each signature.
+        let _ = sig;
+        let text = collect(alloc, subject, constants)?;
+        let codes = codes(alloc, &text.terms)?;
+        let pieces = distinct_pieces(alloc, &codes, &text.nodes)?;
+        let root = rank_of(&pieces, &codes[..text.nodes[0] as usize]);
+        let entries = entries_of(alloc, &text, &codes, &pieces)?;
+        Ok(Table { entries, root })
+    }
+
+    /// The number of terms. The clause `valid` says what holds of every table.
+    pub fn len(&self) -> u32
+        ensures count { result ≡ length self.now.terms }
+        ensures valid { IsTable self.now }
+    {
+        self.entries.len() as u32
+    }
+
+    /// The subject's rank.
+    pub fn root(&self) -> Rank
+        ensures rank { result.0 ≡ self.now.root }
+        ensures within { HasRank self.now result }
+    {
+        self.root
+    }
+
+    /// What stands at the top of the term of a rank, which must be below `len`.
+    pub fn head(&self, rank: Rank) -> Head<'_>
+        requires { HasRank self.now rank }
+        ensures { IsHeadOf result (term_at self.now rank) }
+    {
+        match &self.entries[rank.0 as usize].head {
+            OwnHead::Sym(name) => Head::Sym(name),
+            OwnHead::App(op) => Head::App(*op),
+        }
+    }
+
+    /// The ranks of the arguments of the term of a rank, which must be below `len`: none for a symbol.
+    pub fn args(&self, rank: Rank) -> &[Rank]
+        requires { HasRank self.now rank }
+        ensures terms { terms_at self.now result.now ≡ arguments (term_at self.now rank) }
+        ensures within { HasRanks self.now result.now }
+    {
+        &self.entries[rank.0 as usize].args
+    }
+
+    /// The number of nodes of the term of a rank, which must be below `len`.
+    pub fn nodes(&self, rank: Rank) -> u64
+        requires { HasRank self.now rank }
+        ensures { result ≡ node_count (term_at self.now rank) }
+    {
+        self.entries[rank.0 as usize].nodes
+    }
+
+    /// A copy of the term of a rank, which must be below `len`. `Memory` comes where there is no room for it.
+    pub fn term_of(&self, alloc: Global, rank: Rank) -> Result<Term, Memory>
+        requires { HasRank self.now rank }
+        ensures { IfOk result (λ t. tree t ≡ term_at self.now rank) }
+    {
+        match self.head(rank) {
+            Head::Sym(name) => Ok(Term::Sym(name.copy(alloc)?)),
+            Head::App(op) => {
+                let mut terms = Terms::new(alloc);
+                for arg in self.args(rank) {
+                    terms.push(self.term_of(alloc, *arg)?)?;
+                }
+                Ok(Term::App(op, terms))
+            }
+        }
+    }
+}
