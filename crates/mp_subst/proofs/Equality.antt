@@ -5,6 +5,7 @@ use Rattle.std.specs.Prelude.{Some, None, ◌↔◌, if◌then◌else◌}
 use Rattle.std.specs.declared.cmp.Ordering.{Ordering}
 use Rattle.std.specs.declared.cmp.Ordering.TheVariants.{Equal}
 use Rattle.std.specs.Ordering.{is_eq, eq_by_cmp, nat_cmp}
+use Rattle.std.specs.Cmp.{IsTotalOrder}
 use Rattle.std.specs.FinMap.{slice_cmp-IsAntisymmetric}
 use Rattle.std.specs.Cmp.Lexicographic.{slice_cmp}
 use Rattle.std.proofs.lemmas.Cmp.{tied_itself, lists_total, nat_cmp_total, nat_list_cmp_total}
@@ -45,15 +46,20 @@ value_cmp-same (bag ts) (one u) e = cc
 value_cmp-same (bag ts) (seq us) e = cc
 value_cmp-same (bag ts) (bag us) e = ap bag (shortlex-same ts us e)
 
--- a test that is right about two lists of terms
-pub same_terms-is : (ts us : List Tree) (b : Bool) → (b ≡ true → ts ≡ us) → (ts ≡ us → b ≡ true) → b ≡ same_terms ts us
-same_terms-is ts us true f g =
-    sym (subst (λ vs. same_terms ts vs ≡ true) (f refl) (ap is_eq (tied_itself (lists_total tree_cmp_total) ts)))
-same_terms-is ts us false f g =
-    elim (same_terms ts us) as (λ b. same_terms ts us ≡ b → false ≡ b) [
-      | true ↦ λ e. g (tells_apart terms_same ts us e)
+-- a test that is right about two lists
+pub same_lists-is : {X : Type 0} {cmp : X → X → Ordering} → CmpEqualImpliesEq cmp → IsTotalOrder cmp → (xs ys : List X)
+    (b : Bool) → (b ≡ true → xs ≡ ys) → (xs ≡ ys → b ≡ true) → b ≡ eq_by_cmp (slice_cmp cmp) xs ys
+same_lists-is {cmp} same o xs ys true f g =
+    sym (subst (λ zs. eq_by_cmp (slice_cmp cmp) xs zs ≡ true) (f refl) (ap is_eq (tied_itself (lists_total o) xs)))
+same_lists-is {cmp} same o xs ys false f g =
+    elim (eq_by_cmp (slice_cmp cmp) xs ys) as (λ b. eq_by_cmp (slice_cmp cmp) xs ys ≡ b → false ≡ b) [
+      | true ↦ λ e. g (tells_apart (slice_cmp-IsAntisymmetric same) xs ys e)
       | false ↦ λ _. refl
     ] refl
+
+-- about two lists of terms
+pub same_terms-is : (ts us : List Tree) (b : Bool) → (b ≡ true → ts ≡ us) → (ts ≡ us → b ≡ true) → b ≡ same_terms ts us
+same_terms-is = same_lists-is tree_same tree_cmp_total
 
 -- equal lists by shortlex
 is_eq-shortlex : (ts us : List Tree) → is_eq (shortlex tree_cmp ts us) ≡ same_terms ts us

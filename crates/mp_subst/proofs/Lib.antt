@@ -2,3 +2,11 @@ mod Equality
 mod Multisets
 mod Examples
 pub mod InstanceLaws
+mod RankLists
+pub mod BoundLaws
+mod JoiningLaws
+pub mod TrailLaws
+mod BindingLaws
+mod TrailViewLaws
+mod OutcomeLaws
+mod TrailSubst

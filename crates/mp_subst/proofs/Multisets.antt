@@ -1,20 +1,18 @@
 -- Lists of one length, in which each element of the first stands equally often, have one sorted list.
-use Rattle.std.proofs.Common.{◌≡◌, suc, ◌+◌, ◌<◌, true, false, cond, List, [], ◌∷◌, length, refl, ap, sym, ◌∙◌, arith}
+use Rattle.std.proofs.Common.{◌≡◌, suc, ◌+◌, ◌<◌, Bool, true, false, cond, List, [], ◌∷◌, length, refl, ap, sym, ◌∙◌}
+use Rattle.std.proofs.Common.{arith}
 use Rattle.std.specs.Prelude.{if◌then◌else◌, count_by}
 use Rattle.std.specs.declared.cmp.Ordering.{Ordering}
 use Rattle.std.specs.declared.cmp.Ordering.TheVariants.{Equal}
 use Rattle.std.specs.Ordering.{is_eq, eq_by_cmp}
 use Rattle.std.specs.Cmp.{IsTotalOrder}
+use Rattle.std.specs.Cmp.Lexicographic.{slice_cmp}
 use Rattle.std.specs.List.{AllByRecursion}
 use Rattle.std.proofs.lemmas.List.Recursion.{is_count_by}
 use Rattle.std.proofs.lemmas.Map.Views.{tells_apart}
-use Rattle.mp_term.specs.Tree.{Tree}
-use Rattle.mp_term.specs.Order.{tree_cmp}
-use Rattle.mp_term.specs.OrderLaws.{tree_cmp_total, tree_same}
 use Rattle.mp_term.specs.Sorting.{sorted}
 use Rattle.mp_term.proofs.Sorting.{hit, tally, tally-sorted, length-sorted, ascends-sorted, hit_itself, one_order}
-use Rattle.mp_pattern.specs.Value.{same_terms}
-use Rattle.mp_subst.proofs.Equality.{same_terms-is}
+use Rattle.mp_subst.proofs.Equality.{same_lists-is}
 
 module _ {X : Type 0} (cmp : X → X → Ordering) where
   -- x stands in the two lists equally often
@@ -74,31 +72,34 @@ module _ {X : Type 0} (cmp : X → X → Ordering) where
       by_tally xs ys [] h = tt
       by_tally xs ys (z ∷ zs) h = (tally-count_by z xs ∙ h.0 ∙ sym (tally-count_by z ys), by_tally xs ys zs h.1)
 
-      sorted-same : (xs ys : List X) → length xs ≡ length ys → AllByRecursion (Alike xs ys) xs
+      pub sorted-same : (xs ys : List X) → length xs ≡ length ys → AllByRecursion (Alike xs ys) xs
           → sorted cmp xs ≡ sorted cmp ys
       sorted-same xs ys e h =
           one_order cmp o same (sorted cmp xs) (sorted cmp ys) (ascends-sorted cmp o xs) (ascends-sorted cmp o ys)
           (λ z. tally-sorted cmp z xs ∙ tally-same xs ys e (by_tally xs ys xs h) z ∙ sym (tally-sorted cmp z ys))
 
-  length-sorted_same : (xs ys : List X) → sorted cmp xs ≡ sorted cmp ys → length xs ≡ length ys
+  pub length-sorted_same : (xs ys : List X) → sorted cmp xs ≡ sorted cmp ys → length xs ≡ length ys
   length-sorted_same xs ys e = sym (length-sorted cmp xs) ∙ ap length e ∙ length-sorted cmp ys
 
-  alike-sorted_same : (xs ys : List X) → sorted cmp xs ≡ sorted cmp ys → (x : X) → Alike xs ys x
+  pub alike-sorted_same : (xs ys : List X) → sorted cmp xs ≡ sorted cmp ys → (x : X) → Alike xs ys x
   alike-sorted_same xs ys e x = sym (tally-count_by x xs) ∙ sym (tally-sorted cmp x xs) ∙ ap (tally cmp x) e
       ∙ tally-sorted cmp x ys ∙ tally-count_by x ys
 
--- lists of terms with the same elements, each as often; with other lengths; and with an element more often in one
-pub same_multisets : (ts us : List Tree) → length ts ≡ length us → AllByRecursion (Alike tree_cmp ts us) ts
-    → true ≡ same_terms (sorted tree_cmp ts) (sorted tree_cmp us)
-same_multisets ts us e h = same_terms-is (sorted tree_cmp ts) (sorted tree_cmp us) true
-    (λ _. sorted-same tree_cmp tree_same tree_cmp_total ts us e h) (λ _. refl)
+-- lists with the same elements, each as often; with other lengths; and with an element more often in one
+module _ {X : Type 0} (cmp : X → X → Ordering) (same : (x y : X) → cmp x y ≡ Equal → x ≡ y) (o : IsTotalOrder cmp) where
+  -- the sorted lists are equal
+  abbrev pub is_same_multiset : List X → List X → Bool
+  is_same_multiset xs ys = eq_by_cmp (slice_cmp cmp) (sorted cmp xs) (sorted cmp ys)
 
-pub other_lengths : (ts us : List Tree) → (length ts ≡ length us → ⊥)
-    → false ≡ same_terms (sorted tree_cmp ts) (sorted tree_cmp us)
-other_lengths ts us h = same_terms-is (sorted tree_cmp ts) (sorted tree_cmp us) false (λ e. cc)
-    (λ e. absurd (h (length-sorted_same tree_cmp ts us e)))
+  pub same_multisets : (xs ys : List X) → length xs ≡ length ys → AllByRecursion (Alike cmp xs ys) xs
+      → true ≡ is_same_multiset xs ys
+  same_multisets xs ys e h = same_lists-is same o (sorted cmp xs) (sorted cmp ys) true
+      (λ _. sorted-same cmp same o xs ys e h) (λ _. refl)
 
-pub other_multiplicity : (ts us : List Tree) (t : Tree) → (Alike tree_cmp ts us t → ⊥)
-    → false ≡ same_terms (sorted tree_cmp ts) (sorted tree_cmp us)
-other_multiplicity ts us t h = same_terms-is (sorted tree_cmp ts) (sorted tree_cmp us) false (λ e. cc)
-    (λ e. absurd (h (alike-sorted_same tree_cmp ts us e t)))
+  pub other_lengths : (xs ys : List X) → (length xs ≡ length ys → ⊥) → false ≡ is_same_multiset xs ys
+  other_lengths xs ys h = same_lists-is same o (sorted cmp xs) (sorted cmp ys) false (λ e. cc)
+      (λ e. absurd (h (length-sorted_same cmp xs ys e)))
+
+  pub other_multiplicity : (xs ys : List X) (x : X) → (Alike cmp xs ys x → ⊥) → false ≡ is_same_multiset xs ys
+  other_multiplicity xs ys x h = same_lists-is same o (sorted cmp xs) (sorted cmp ys) false (λ e. cc)
+      (λ e. absurd (h (alike-sorted_same cmp xs ys e x)))

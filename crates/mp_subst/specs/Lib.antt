@@ -2,3 +2,8 @@ pub mod View
 pub mod Code
 pub mod Choice
 pub mod Applied
+pub mod Bound
+pub mod Trail
+pub mod TrailView
+pub mod TrailCode
+pub mod Outcome

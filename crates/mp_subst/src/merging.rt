@@ -10,14 +10,14 @@ use crate::value::Value;
 
 // Which of two values is the value of both uses.
 #[derive(Drop)]
-enum Choice {
+pub(crate) enum Choice {
     Old,
     New,
     Neither,
 }
 
 // The first one or neither.
-fn old_if(same: bool) -> Choice
+pub(crate) fn old_if(same: bool) -> Choice
     ensures { result ≡ (if same then Choice.Old else Choice.Neither) }
 {
     if same { Choice::Old } else { Choice::Neither }

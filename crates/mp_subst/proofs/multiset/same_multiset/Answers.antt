@@ -5,6 +5,7 @@ use Rattle.std.proofs.Math.Seq.{drop-cons}
 use Rattle.mp_term.specs.Tree.{Tree}
 use Rattle.mp_term.specs.View.{tree}
 use Rattle.mp_term.specs.Order.{tree_cmp}
+use Rattle.mp_term.specs.OrderLaws.{tree_cmp_total, tree_same}
 use Rattle.mp_subst.proofs.Multisets.{Alike, same_multisets, other_lengths, other_multiplicity}
 use Rattle.mp_subst.proofs.multiset.same_multiset.Goals as goal
 
@@ -12,12 +13,13 @@ pub returns-then-terms-others : goal.returns-then-terms-others
 returns-then-terms-others c =
     let ts = c.args.terms.now in
     let us = c.args.others.now in
-    other_lengths (map tree ts) (map tree us)
+    other_lengths tree_cmp tree_same tree_cmp_total (map tree ts) (map tree us)
     (λ e. omega (arith, c.if-terms-others.true, length-map ts tree, e, length-map us tree))
 
 pub returns-then-occurrences : goal.returns-then-occurrences
 returns-then-occurrences c =
-    other_multiplicity (map tree c.args.terms.now) (map tree c.args.others.now) (tree c.term-item.result)
+    other_multiplicity tree_cmp tree_same tree_cmp_total (map tree c.args.terms.now) (map tree c.args.others.now)
+    (tree c.term-item.result)
     (λ e. omega (arith, c.if-occurrences.true, c.occurrences.ensures, e, c.occurrences-in-loop-term.ensures))
 
 pub loop-term-preserved : goal.loop-term-preserved
@@ -41,4 +43,5 @@ returns c =
     let none : map tree (drop c.loop-term.term-index ts) ≡ [] =
     ap (map tree) (drop_all c.loop-term.term-index ts (omega (arith, c.loop-term-test.false))) in
     let all = λ (zs : List Tree). AllByRecursion (Alike tree_cmp (map tree ts) (map tree us)) zs in
-    same_multisets (map tree ts) (map tree us) lengths (c.loop-term.invariant (subst all (sym none) tt))
+    same_multisets tree_cmp tree_same tree_cmp_total (map tree ts) (map tree us) lengths
+    (c.loop-term.invariant (subst all (sym none) tt))
