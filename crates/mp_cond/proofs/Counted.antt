@@ -10,7 +10,7 @@ use Rattle.mp_pattern.specs.Holds.{value_at, listed, list_of}
 use Rattle.mp_cond.specs.Ready.{IsCountable, IsOperandReady}
 
 -- the sum over a list
-sum_by-node_count : (ts : List Tree) → sum_by node_count ts ≡ all_nodes ts
+pub sum_by-node_count : (ts : List Tree) → sum_by node_count ts ≡ all_nodes ts
 sum_by-node_count [] = refl
 sum_by-node_count (t ∷ ts) = sum_by-cons node_count t ts ∙ ap (λ n. node_count t + n) (sum_by-node_count ts)
 

@@ -14,3 +14,7 @@ pub list_all-every : {X : Type 0} (view : X → Tree) (test : Tree → Bool) (xs
 list_all-every view test [] = refl
 list_all-every view test (x ∷ xs) = ap (λ b. test (view x) && b) (list_all-every view test xs)
     ∙ sym (not-or (test (view x)) (list_any (λ t. not (test t)) (map view xs)))
+
+-- a test of the first item and of those behind it
+pub every-cons : (test : Tree → Bool) (t : Tree) (ts : List Tree) → every test (t ∷ ts) ≡ test t && every test ts
+every-cons test t ts = not-or (test t) (list_any (λ u. not (test u)) ts)

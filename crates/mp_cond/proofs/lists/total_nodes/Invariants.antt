@@ -1,7 +1,7 @@
 use Rattle.std.proofs.Common.{◌≡◌, ◌+◌, ◌-◌, ◌^◌, ◌≤◌, min, map, drop}
 use Rattle.mp_term.specs.View.{tree}
 use Rattle.mp_term.specs.Size.{all_nodes}
-use Rattle.mp_cond.proofs.amount.total_nodes.Given as goal
+use Rattle.mp_cond.proofs.lists.total_nodes.Given as goal
 
 abbrev pub invariant-loop-term : goal.invariant-loop-term
 invariant-loop-term l = record {

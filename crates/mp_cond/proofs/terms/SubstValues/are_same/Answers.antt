@@ -5,12 +5,12 @@ use Rattle.mp_pattern.specs.Value.{same_terms}
 use Rattle.mp_pattern.specs.Holds.{value_at, list_of, is_bag}
 use Rattle.mp_subst.specs.View.{subst_of}
 use Rattle.mp_cond.proofs.Same.{pointwise-same_terms}
-use Rattle.mp_cond.proofs.condition.same.Goals as goal
-use Rattle.mp_cond.proofs.condition.same.Goals.{then-is_bag, else-is_bag}
+use Rattle.mp_cond.proofs.terms.SubstValues.are_same.Goals as goal
+use Rattle.mp_cond.proofs.terms.SubstValues.are_same.Goals.{then-is_bag, else-is_bag}
 
 pub returns-else-is_bag-2 : goal.returns-else-is_bag-2
 returns-else-is_bag-2 c =
-    let s = subst_of c.args.subst.now in
+    let s = subst_of c.args.self.now in
     let v = operand c.args.a.now in
     let w = operand c.args.b.now in
     let none : is_bag (value_at s v) || is_bag (value_at s w) ≡ false = elim c.if-is_bag.branch [
