@@ -1,6 +1,7 @@
 -- The arguments of a tree, whatever trees it is one of: their sizes and their texts.
 use Rattle.std.proofs.Common.{◌≡◌, ℕ, zero, suc, ◌+◌, ◌<◌, ◌≤◌, List, [], ◌∷◌, length, get_or, map, sym, ap, ◌∙◌, arith}
-use Rattle.std.specs.Prelude.{Option}
+use Rattle.std.specs.Prelude.{Option, sum_by}
+use Rattle.std.proofs.lemmas.List.Sums.{sum_by-cons}
 use Rattle.mp_io.specs.Devices.{Text}
 use Rattle.mp_term.specs.declared.signature.OpDecl.{OpDecl}
 use Rattle.mp_print.specs.Printing.{held_text}
@@ -13,6 +14,19 @@ size-element size all sum [] i d h = absurd (omega arith)
 size-element size all sum (x ∷ xs) zero d h = omega (arith, sum x xs)
 size-element size all sum (x ∷ xs) (suc i) d h =
     omega (arith, sum x xs, size-element size all sum xs i d (omega arith))
+
+-- the sizes of items that are seen as trees sum up to the size of all
+pub sizes-sum : {X T : Type 0} (view : X → T) (size : T → ℕ) (all : List T → ℕ)
+    → ((t : T) (ts : List T) → all (t ∷ ts) ≡ size t + all ts)
+    → (xs : List X) → sum_by (λ x. size (view x)) xs ≤ all (map view xs)
+sizes-sum view size all sum [] = omega arith
+sizes-sum view size all sum (x ∷ xs) =
+    omega (
+      arith,
+      sum_by-cons (λ y. size (view y)) x xs,
+      sum (view x) (map view xs),
+      sizes-sum view size all sum xs,
+    )
 
 module _ {X T L : Type 0} (view : X → T) (list : List T → L) (text : T → Text) (texts : L → List Text)
     (none : texts (list []) ≡ [])

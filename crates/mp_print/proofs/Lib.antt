@@ -2,4 +2,5 @@ mod Separated
 mod Parts
 mod Arguments
 mod CondTexts
+mod BoundVariables
 mod Examples

@@ -27,6 +27,16 @@ separated-push separator (first ∷ texts) text = ap (λ l. first ++ l) (go text
         ∙ ap (λ l. separator ++ l) (sym (append_assoc next (preceded separator texts) (separator ++ text)))
         ∙ sym (append_assoc separator (next ++ preceded separator texts) (separator ++ text))
 
+-- texts are put, then what stands behind them, and then one more
+pub Puts-pushed : {K : Type 0} (words : SinkWords K) (separator : Text) (texts : List Text) (text : Text)
+    (t u v w : Writer K) → Puts words t u (separated separator texts)
+    → Puts words u v (gap_text separator (length texts)) → Puts words v w text
+    → Puts words t w (separated separator (texts ++ text ∷ []))
+Puts-pushed words separator texts text t u v w before gap item =
+    subst (Puts words t w) (sym (separated-push separator texts text))
+    (Puts-then words t u w (separated separator texts) (gap_text separator (length texts) ++ text) before
+    (Puts-then words u v w (gap_text separator (length texts)) text gap item))
+
 module _ {K X : Type 0} (words : SinkWords K) (f : X → Text) (separator : Text) (xs : List X) (texts : List Text)
     (same : map f xs ≡ texts) where
   -- the texts before the next index

@@ -8,7 +8,7 @@ ghost use Rattle.mp_print.specs.Printing.{separated};
 ghost use Rattle.mp_print.specs.PrintedEdits.{position_text, new_terms_text, edit_text, edits_text};
 
 use crate::printer::put_term;
-use crate::subst_printer::put_enclosed;
+use crate::subst_printer::put_terms;
 use crate::tree_printer::put_gap;
 use itoa::Buffer;
 use mp_io::{Sink, Writer};
@@ -78,6 +78,6 @@ fn put_new_terms<K: Sink>(sig: &Signature, terms: &[Term], out: &mut Writer<'_, 
 {
     match terms {
         [term] => put_term(sig, term, out),
-        terms => put_enclosed(sig, b"[", terms, b"]", out),
+        terms => put_terms(sig, b"[", terms, b"]", out),
     }
 }

@@ -38,17 +38,18 @@ pub fn write_pattern<K: Sink>(
 pub fn put_pattern<K: Sink>(sig: &Signature, pattern: &Pattern, out: &mut Writer<'_, K>)
     ensures { Puts K.Sink out.old out.new (pattern_text sig.now (pattern_tree pattern.now)) }
 {
-    put_tree(sig, pattern, out);
+    put_tree(sig, &(), pattern, out);
 }
 
-impl PrintedTree for Pattern {
-    ghost text = { λ sig p. pattern_text sig (pattern_tree p) };
+impl PrintedTree<()> for Pattern {
+    ghost text = { λ sig _ p. pattern_text sig (pattern_tree p) };
 
-    ghost size = { λ p. pattern_nodes (pattern_tree p) };
+    ghost size = { λ _ p. pattern_nodes (pattern_tree p) };
 
     fn put_leaf<'t, K: Sink>(
         &'t self,
         sig: &Signature,
+        base: &'t (),
         out: &mut Writer<'_, K>,
     ) -> Option<(OpId, &'t [Pattern])> {
         match self {

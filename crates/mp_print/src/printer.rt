@@ -29,17 +29,18 @@ pub fn write_term<K: Sink>(sig: &Signature, term: &Term, sink: &mut K) -> Result
 pub fn put_term<K: Sink>(sig: &Signature, term: &Term, out: &mut Writer<'_, K>)
     ensures { Puts K.Sink out.old out.new (term_text sig.now (tree term.now)) }
 {
-    put_tree(sig, term, out);
+    put_tree(sig, &(), term, out);
 }
 
-impl PrintedTree for Term {
-    ghost text = { λ sig t. term_text sig (tree t) };
+impl PrintedTree<()> for Term {
+    ghost text = { λ sig _ t. term_text sig (tree t) };
 
-    ghost size = { λ t. node_count (tree t) };
+    ghost size = { λ _ t. node_count (tree t) };
 
     fn put_leaf<'t, K: Sink>(
         &'t self,
         sig: &Signature,
+        base: &'t (),
         out: &mut Writer<'_, K>,
     ) -> Option<(OpId, &'t [Term])> {
         match self {

@@ -9,7 +9,7 @@ ghost use Rattle.mp_subst.specs.View.{value_of, binding_of, subst_of};
 ghost use Rattle.mp_print.specs.Printing.{binding_text, separated, subst_text, term_text, value_text};
 
 use crate::printer::put_term;
-use crate::tree_printer::put_gap;
+use crate::tree_printer::{put_enclosed, put_gap};
 use mp_io::{Failed, Sink, Writer};
 use mp_subst::{Binding, Subst, Value};
 use mp_term::{Signature, Term};
@@ -60,13 +60,13 @@ fn put_value<K: Sink>(sig: &Signature, value: &Value, out: &mut Writer<'_, K>)
 {
     match value {
         Value::One(term) => put_term(sig, term, out),
-        Value::Seq(terms) => put_enclosed(sig, b"(", terms.as_slice(), b")", out),
-        Value::Bag(terms) => put_enclosed(sig, b"{", terms.as_slice(), b"}", out),
+        Value::Seq(terms) => put_terms(sig, b"(", terms.as_slice(), b")", out),
+        Value::Bag(terms) => put_terms(sig, b"{", terms.as_slice(), b"}", out),
     }
 }
 
 /// Puts the terms between an opening and a closing, with a comma between each two.
-pub(crate) fn put_enclosed<K: Sink>(
+pub(crate) fn put_terms<K: Sink>(
     sig: &Signature,
     opening: &[u8],
     terms: &[Term],
@@ -76,10 +76,5 @@ pub(crate) fn put_enclosed<K: Sink>(
     ensures { Puts K.Sink out.old out.new
         (opening.now ++ (separated (codes ", ") (map (term_text sig.now) (map tree terms.now)) ++ closing.now)) }
 {
-    out.put(opening);
-    for (index, term) in terms.iter().enumerate() {
-        put_gap(index, &[b", ".as_slice()], out);
-        put_term(sig, term, out);
-    }
-    out.put(closing);
+    put_enclosed(sig, &(), opening, terms, closing, out);
 }

@@ -17,17 +17,18 @@ use mp_term::{OpId, Signature};
 pub fn put_template<K: Sink>(sig: &Signature, template: &Template, out: &mut Writer<'_, K>)
     ensures { Puts K.Sink out.old out.new (template_text sig.now (template_tree template.now)) }
 {
-    put_tree(sig, template, out);
+    put_tree(sig, &(), template, out);
 }
 
-impl PrintedTree for Template {
-    ghost text = { λ sig x. template_text sig (template_tree x) };
+impl PrintedTree<()> for Template {
+    ghost text = { λ sig _ x. template_text sig (template_tree x) };
 
-    ghost size = { λ x. template_nodes (template_tree x) };
+    ghost size = { λ _ x. template_nodes (template_tree x) };
 
     fn put_leaf<'t, K: Sink>(
         &'t self,
         sig: &Signature,
+        base: &'t (),
         out: &mut Writer<'_, K>,
     ) -> Option<(OpId, &'t [Template])> {
         match self {

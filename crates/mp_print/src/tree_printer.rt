@@ -1,53 +1,105 @@
 //! Prints trees of operations and their arguments, whatever their leaves are.
 
-ghost use Rattle.std.specs.Prelude.{◌≡◌, ◌<◌, ℕ, List, [], map, slice_get, MatchOption, ⊤};
-ghost use Rattle.std.specs.List.{All};
+ghost use Rattle.std.specs.Prelude.{◌≡◌, ◌<◌, ◌++◌, ℕ, List, [], map, slice_get, sum_by, MatchOption, ⊤, codes};
 ghost use Rattle.mp_io.specs.Printing.{joined};
 ghost use Rattle.mp_io.specs.Writing.{Puts};
 ghost use Rattle.mp_term.specs.Signature.{Sig};
-ghost use Rattle.mp_print.specs.Printing.{front_text, gap_text, held_text, separator_text};
+ghost use Rattle.mp_print.specs.Printing.{front_text, gap_text, held_text, separated, separator_text};
 
 use mp_io::{Sink, Writer};
 use mp_term::{OpDecl, OpId, Signature};
 
-/// A tree that is printed: a leaf, or an operation with its arguments.
-pub(crate) trait PrintedTree {
+/// A tree that is printed: a leaf, or an operation with its arguments. `B` is what it stands on: a rank stands for a
+/// tree in a table, and a tree of another kind stands on nothing, which is `()`.
+pub(crate) trait PrintedTree<B> {
     /// The text of a tree.
-    ghost text: { Sig → Self → List ℕ };
+    ghost text: { Sig → B → Self → List ℕ };
 
-    /// A number that is smaller for the arguments of a tree.
-    ghost size: { Self → ℕ };
+    /// A number that is smaller for the arguments of a tree, and for all of them together.
+    ghost size: { B → Self → ℕ };
 
     /// Puts the text of a leaf, or puts nothing and answers the operation and its arguments.
     fn put_leaf<'t, K: Sink>(
         &'t self,
         sig: &Signature,
+        base: &'t B,
         out: &mut Writer<'_, K>,
     ) -> Option<(OpId, &'t [Self])>
-        ensures puts { MatchOption result (Puts K.Sink out.old out.new (text sig.now self.now))
+        ensures puts { MatchOption result (Puts K.Sink out.old out.new (text sig.now base.now self.now))
             (λ a. Puts K.Sink out.old out.new []) }
-        ensures text { MatchOption result ⊤ (λ a. text sig.now self.now
-            ≡ held_text (slice_get sig.now.ops a.0.0) (map (text sig.now) a.1.now)) }
-        ensures smaller { MatchOption result ⊤ (λ a. All (λ x. size x < size self.now) a.1.now) };
+        ensures text { MatchOption result ⊤ (λ a. text sig.now base.now self.now
+            ≡ held_text (slice_get sig.now.ops a.0.0) (map (text sig.now base.now) a.1.now)) }
+        ensures smaller { MatchOption result ⊤ (λ a. sum_by (size base.now) a.1.now < size base.now self.now) };
 }
 
 /// Puts the text of a tree. An operation that the signature doesn't hold has none.
-pub(crate) fn put_tree<T: PrintedTree, K: Sink>(sig: &Signature, tree: &T, out: &mut Writer<'_, K>)
-    ensures { Puts K.Sink out.old out.new (T.text sig.now tree.now) }
+#[cycle(put_tree)]
+pub(crate) fn put_tree<B, T: PrintedTree<B>, K: Sink>(
+    sig: &Signature,
+    base: &B,
+    tree: &T,
+    out: &mut Writer<'_, K>,
+)
+    ensures { Puts K.Sink out.old out.new (T.text sig.now base.now tree.now) }
 {
-    let Some((op, args)) = tree.put_leaf(sig, out) else {
-        return;
-    };
-    let Some(decl) = sig.op(op) else {
-        return;
-    };
-    put_front(decl, args.len(), out);
-    let separator = separator(decl, args.len());
-    for (index, arg) in args.iter().enumerate() {
-        put_gap(index, &separator, out);
-        put_tree(sig, arg, out);
+    if let Some((op, args)) = tree.put_leaf(sig, base, out) {
+        put_application(sig, base, op, args, out);
     }
-    out.put(b")");
+}
+
+/// Puts the text of an operation that is applied to trees. One that the signature doesn't hold has none.
+#[cycle(put_tree)]
+pub(crate) fn put_application<B, T: PrintedTree<B>, K: Sink>(
+    sig: &Signature,
+    base: &B,
+    op: OpId,
+    args: &[T],
+    out: &mut Writer<'_, K>,
+)
+    ensures { Puts K.Sink out.old out.new
+        (held_text (slice_get sig.now.ops op.0) (map (T.text sig.now base.now) args.now)) }
+{
+    if let Some(decl) = sig.op(op) {
+        let separator = separator(decl, args.len());
+        put_front(decl, args.len(), out);
+        put_between(sig, base, &separator, args, out);
+        out.put(b")");
+    }
+}
+
+/// Puts the texts of trees, with the separator between each two.
+#[cycle(put_tree)]
+pub(crate) fn put_between<B, T: PrintedTree<B>, K: Sink>(
+    sig: &Signature,
+    base: &B,
+    separator: &[&[u8]],
+    trees: &[T],
+    out: &mut Writer<'_, K>,
+)
+    ensures { Puts K.Sink out.old out.new
+        (separated (joined separator.now) (map (T.text sig.now base.now) trees.now)) }
+{
+    for (index, tree) in trees.iter().enumerate() {
+        put_gap(index, separator, out);
+        put_tree(sig, base, tree, out);
+    }
+}
+
+/// Puts the texts of trees between an opening and a closing, with a comma between each two.
+pub(crate) fn put_enclosed<B, T: PrintedTree<B>, K: Sink>(
+    sig: &Signature,
+    base: &B,
+    opening: &[u8],
+    trees: &[T],
+    closing: &[u8],
+    out: &mut Writer<'_, K>,
+)
+    ensures { Puts K.Sink out.old out.new
+        (opening.now ++ (separated (codes ", ") (map (T.text sig.now base.now) trees.now) ++ closing.now)) }
+{
+    out.put(opening);
+    put_between(sig, base, &[b", ".as_slice()], trees, out);
+    out.put(closing);
 }
 
 /// Puts what stands before so many arguments.

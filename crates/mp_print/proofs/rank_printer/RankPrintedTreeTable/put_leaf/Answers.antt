@@ -1,0 +1,32 @@
+use Rattle.std.proofs.Common.{◌≡◌, ◌≤◌, ◌∙◌, ap, sym, arith, refl}
+use Rattle.std.specs.Prelude.{slice_get, sum_by}
+use Rattle.mp_term.specs.Tree.{app, trees}
+use Rattle.mp_term.specs.Size.{node_count, all_nodes}
+use Rattle.mp_table.specs.Table.{term_at, terms_at}
+use Rattle.mp_table.proofs.HeadLaws.{app_is}
+use Rattle.mp_print.specs.Printing.{term_text, term_texts}
+use Rattle.mp_print.proofs.Arguments.{sizes-sum, text-app}
+use Rattle.mp_print.proofs.rank_printer.RankPrintedTreeTable.put_leaf.Goals as goal
+
+pub returns-in-App-clause-text : goal.returns-in-App-clause-text
+returns-in-App-clause-text g c =
+    let sig = c.args.sig.now in
+    let T = c.args.base.now in
+    let rs = c.args-in-App.result.now in
+    let op = c.in-App.op in
+    let is : app op.0 (trees (terms_at T rs)) ≡ term_at T c.args.self.now =
+    app_is (term_at T c.args.self.now) op (terms_at T rs) c.in-App.ensures c.args-in-App.ensures.terms in
+    ap (term_text sig) (sym is)
+    ∙ text-app (term_at T) trees (term_text sig) (term_texts sig) refl (λ t ts. refl) (slice_get sig.ops op.0)
+    (terms_at T rs) rs refl
+
+pub returns-in-App-clause-smaller : goal.returns-in-App-clause-smaller
+returns-in-App-clause-smaller g c =
+    let T = c.args.base.now in
+    let rs = c.args-in-App.result.now in
+    let op = c.in-App.op in
+    let is : app op.0 (trees (terms_at T rs)) ≡ term_at T c.args.self.now =
+    app_is (term_at T c.args.self.now) op (terms_at T rs) c.in-App.ensures c.args-in-App.ensures.terms in
+    let small : sum_by (λ r. node_count (term_at T r)) rs ≤ all_nodes (terms_at T rs) =
+    sizes-sum (term_at T) node_count all_nodes (λ t ts. refl) rs in
+    omega (arith, small, ap node_count is)
