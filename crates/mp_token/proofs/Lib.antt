@@ -1,0 +1,7 @@
+mod JoinedTexts
+mod EndedTexts
+mod Runs
+mod TokenRuns
+mod ReadTexts
+mod SpellingLaws
+mod Examples

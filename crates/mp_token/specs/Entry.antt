@@ -1,0 +1,25 @@
+-- The entries of resume tokens.
+use Rattle.std.specs.Prelude.{ℕ, ◌<◌, ◌^◌, Bool, List, refl}
+use Rattle.std.specs.List.{AllByRecursion}
+use Rattle.std.specs.Coded.{Coded, code_by, coded×, coded_bool, coded_list, coded_ℕ}
+use Rattle.mp_table.specs.declared.rank.Rank.{Rank}
+
+-- the ranks of the terms of an entry, and whether it is collapsed
+abbrev pub Entry : Type 0
+Entry = List Rank × Bool
+
+-- a rank is a number of 32 bits
+abbrev pub IsRank : Rank → Type 0
+IsRank r = r.0 < 2 ^ 32
+
+-- the ranks of an entry are ranks
+abbrev pub IsEntry : Entry → Type 0
+IsEntry e = AllByRecursion IsRank e.0
+
+-- a rank as its number: by this, a proof tells ranks apart
+abbrev pub coded_rank : Coded Rank
+coded_rank = code_by ℕ coded_ℕ (λ r. r.0) (λ n. record { 0 = n }) (λ _. refl)
+
+-- an entry as the pair of its ranks and its mark
+abbrev pub coded_entry : Coded Entry
+coded_entry = coded× (coded_list coded_rank) coded_bool
