@@ -1,0 +1,82 @@
+-- Children that are marked, and how many terms they may match.
+use Rattle.std.proofs.Common.{◌≡◌, ℕ, ◌+◌, ◌≤◌, List, [], ◌∷◌, Bool, true, false, refl, ap, subst, arith}
+use Rattle.std.proofs.Common.{length, inl}
+use Rattle.std.specs.Prelude.{Option, filter, ◌||◌, if◌then◌else◌}
+use Rattle.std.proofs.lemmas.Bool.{and_parts}
+use Rattle.mp_term.specs.Order.{tree_cmp}
+use Rattle.mp_term.specs.Pieces.{without}
+use Rattle.mp_term.specs.Search.{In}
+use Rattle.mp_term.specs.Signature.{Sig}
+use Rattle.mp_term.specs.Tree.{Tree}
+use Rattle.mp_pattern.specs.Fits.{Entry}
+use Rattle.mp_pattern.specs.PatternTree.{Pattern, Patterns, no_patterns, more_patterns}
+use Rattle.mp_pattern.specs.Value.{Subst}
+use Rattle.mp_theory.specs.Frames.{Frame, child}
+use Rattle.mp_theory.specs.Items.{items}
+use Rattle.mp_theory.specs.Machine.{onward}
+use Rattle.mp_theory.specs.MayMatch.{takes_one, may_match}
+use Rattle.mp_theory.specs.Supply.{Covers, passing}
+use Rattle.mp_theory.proofs.SupplyLaws.{supply-behind}
+use Rattle.mp_search.specs.Lacking.{AreLacking, each_takes_one, some_may_match}
+
+module _ (sig : Sig) (s : Subst) (f : Option ℕ) where
+  -- what isn't matched by the first child is matched by others, if by any
+  pub some-others : (m : Bool) (ms ns : List Bool) (p : Pattern) (ps qs : Patterns) (t : Tree) → ns ≡ m ∷ ms
+      → qs ≡ more_patterns p ps → (m ≡ true → may_match sig s f p t ≡ true → ⊥)
+      → some_may_match sig s f ns qs t ≡ true → some_may_match sig s f ms ps t ≡ true
+  some-others m ms ns p ps qs t e i nope h = by_mark m nope
+      (subst (λ rs. some_may_match sig s f (m ∷ ms) rs t ≡ true) i
+      (subst (λ ks. some_may_match sig s f ks qs t ≡ true) e h))
+    where
+      by_mark : (m : Bool) → (m ≡ true → may_match sig s f p t ≡ true → ⊥)
+          → some_may_match sig s f (m ∷ ms) (more_patterns p ps) t ≡ true → some_may_match sig s f ms ps t ≡ true
+      by_mark false nope h = h
+      by_mark true nope h = elim (may_match sig s f p t) as (λ b. may_match sig s f p t ≡ b
+          → (b || some_may_match sig s f ms ps t) ≡ true → some_may_match sig s f ms ps t ≡ true)
+          [ true ↦ λ k j. absurd (nope refl k) | false ↦ λ k j. j ] refl h
+
+  -- a test that each term passes that some marked child may match covers the marked children
+  covers-marked : (test : Tree → Bool) (ms : List Bool) (ps : Patterns) → each_takes_one sig f ms ps ≡ true
+      → ((t : Tree) → some_may_match sig s f ms ps t ≡ true → test t ≡ true) → Covers sig s test f ms ps
+  covers-marked test [] ps o h = tt
+  covers-marked test (true ∷ ms) no_patterns o h = tt
+  covers-marked test (false ∷ ms) no_patterns o h = tt
+  covers-marked test (false ∷ ms) (more_patterns p ps) o h = covers-marked test ms ps o h
+  covers-marked test (true ∷ ms) (more_patterns p ps) o h =
+      let b = and_parts (takes_one sig f p) (each_takes_one sig f ms ps) o in (
+        b.0,
+        λ t k. h t (ap (λ c. c || some_may_match sig s f ms ps t) k),
+        covers-marked test ms ps b.1 (λ t k. h t (either (may_match sig s f p t) k)),
+      )
+    where
+      either : (b : Bool) {c : Bool} → c ≡ true → (b || c) ≡ true
+      either true k = refl
+      either false k = k
+
+-- nothing is in a list that has no member
+none-in : {X : Type 0} (xs : List X) → ((x : X) → In x xs → ⊥) → xs ≡ []
+none-in [] h = refl
+none-in (x ∷ xs) h = absurd (h x (inl refl))
+
+-- where children are lacking, nothing is behind the entry
+pub nothing-lacking : (sig : Sig) (k : ℕ) (p : Pattern) (f : Frame) (fs : List Frame) (e : Entry) (s : Subst)
+    (ms : List Bool) → AreLacking sig s f.under ms f.children (without tree_cmp e.terms f.left)
+    → items sig k (onward (child p f fs) e) s ≡ []
+nothing-lacking sig k p f fs e s ms h =
+    none-in (items sig k (onward (child p f fs) e) s)
+    (λ i m.
+    let few = supply-behind sig k p f fs e s i m (some_may_match sig s f.under ms f.children) ms
+    (covers-marked sig s f.under (some_may_match sig s f.under ms f.children) ms f.children h.ones (λ t k. k)) in
+    omega (arith, few, h.few))
+
+-- of a list with one term more, at most one more passes
+pub passing-less : (test : Tree → Bool) (t : Tree) (ts : List Tree) → passing test (t ∷ ts) ≤ 1 + passing test ts
+passing-less test t ts = elim (test t) as (λ b. length (if b then t ∷ filter test ts else filter test ts)
+    ≤ 1 + length (filter test ts)) [ true ↦ omega arith | false ↦ omega arith ]
+
+-- and none more where it doesn't pass
+pub passing-same : (test : Tree → Bool) (t : Tree) (ts : List Tree) → (test t ≡ true → ⊥)
+    → passing test (t ∷ ts) ≡ passing test ts
+passing-same test t ts nope = elim (test t) as (λ b. test t ≡ b
+    → length (if b then t ∷ filter test ts else filter test ts) ≡ length (filter test ts))
+    [ true ↦ λ e. absurd (nope e) | false ↦ λ e. refl ] refl

@@ -1,0 +1,99 @@
+-- The number that a plan gives the variable of a node.
+use Rattle.std.proofs.Common.{◌≡◌, ℕ, ◌+◌, ◌<◌, List, [], ◌∷◌, map, length, refl, ap, sym, ◌∙◌, arith, subst}
+use Rattle.std.proofs.Common.{slice_index_or}
+use Rattle.std.specs.Prelude.{Option, Some, None, slice_get, option_map, position}
+use Rattle.std.proofs.lemmas.Option.{slice_get_within, slice_get-get_or}
+use Rattle.std.proofs.lemmas.List.{length-map}
+use Rattle.mp_pattern.specs.PatternTree.{Wildcard, Pattern, symbol_pattern, app_pattern, wild_pattern}
+use Rattle.mp_pattern.specs.Size.{pattern_nodes}
+use Rattle.mp_pattern.specs.Subpatterns.{subpatterns}
+use Rattle.mp_pattern.specs.Value.{Form, same_name}
+use Rattle.mp_pattern.specs.Variables.{variables, variable_form}
+use Rattle.mp_pattern.specs.Plan.{Label, wild_label, Node, Variable, Plan, nodes, plan_of, variable_number}
+use Rattle.mp_search.specs.declared.query.Query.{Query}
+use Rattle.mp_search.specs.Numbers.{number_in, IsNumberOf, IsNumberAt}
+use Rattle.mp_search.specs.Query.{IsQuery}
+use Rattle.mp_search.proofs.NodeLaws.{label_of, IsNodeOf, plan_node, plan-length}
+use Rattle.mp_search.proofs.NumberLaws.{in-slice_get, variable-place, distinct-variables, numbered}
+
+names-of : (g : List ℕ → Form) (xs : List (List ℕ))
+    → map (λ (v : Variable). v.name) (map (λ x. record { name = x; form = g x }) xs) ≡ xs
+names-of g [] = refl
+names-of g (x ∷ xs) = ap (λ ys. x ∷ ys) (names-of g xs)
+
+module _ (q : Query) (h : IsQuery q) where
+  -- the pattern of the plan
+  abbrev root : Pattern
+  root = q.plan.now.pattern
+
+  pub plan_names : map (λ (v : Variable). v.name) q.plan.now.variables ≡ variables root
+  plan_names = ap (λ (p : Plan). map (λ (v : Variable). v.name) p.variables) h.plan
+      ∙ names-of (variable_form q.sig.now root) (variables root)
+
+  -- the label that is shown is that of the subpattern
+  shown-label : (i : ℕ) (p : Pattern) (o : Option Label) → slice_get (subpatterns root) i ≡ Some p
+      → o ≡ option_map (λ n. n.label) (slice_get q.plan.now.nodes i) → o ≡ Some (label_of (variables root) p)
+  shown-label i p o e s =
+      let m = plan_node (variables root) None root i p e in
+      s ∙ ap (λ (P : Plan). option_map (λ (n : Node). n.label) (slice_get P.nodes i)) h.plan
+      ∙ ap (option_map (λ (n : Node). n.label)) m.1
+      ∙ ap Some m.2.label
+
+  -- the number of a variable is listed at its place
+  at_place : (i n : ℕ) (w : Wildcard) (x : List ℕ) → slice_get (subpatterns root) i ≡ Some (wild_pattern w (Some x))
+      → position (same_name x) (variables root) ≡ Some n
+      → (n < length q.vars.now) × IsNumberOf q x (slice_index_or q.vars.now n 0)
+  at_place i n w x e f =
+      let k = variable-place root i w x e in
+      let same : k.0 ≡ n = let j : Some k.0 ≡ Some n = sym k.1 ∙ f in cc in
+      let there : slice_get (variables root) n ≡ Some x = subst (λ m. slice_get (variables root) m ≡ Some x) same k.2 in
+      let long : length (variables root) ≡ length q.vars.now =
+      ap length (sym plan_names) ∙ length-map q.plan.now.variables (λ (v : Variable). v.name) ∙ sym h.vars in
+      let within : n < length q.vars.now =
+      subst (λ m. n < m) long (slice_get_within (variables root) n x there) in
+      let stands = slice_get-get_or q.vars.now n 0 within in
+      let told = numbered q.vars.now q.plan.now.variables (variables root) n (slice_index_or q.vars.now n 0) x
+      plan_names
+      (distinct-variables root) h.distinct stands there in (
+        within,
+        record { listed = in-slice_get q.vars.now n _ stands; name = told.0; only = told.1 },
+      )
+
+  pub number-found : (i n : ℕ) (p : Pattern) (o : Option Label) → slice_get (subpatterns root) i ≡ Some p
+      → o ≡ option_map (λ n. n.label) (slice_get q.plan.now.nodes i) → number_in o ≡ Some n
+      → (n < length q.vars.now) × IsNumberAt q p (Some (slice_index_or q.vars.now n 0))
+  number-found i n p o e s t = by_pattern p e (sym (ap number_in (shown-label i p o e s)) ∙ t)
+    where
+      by_pattern : (p : Pattern) → slice_get (subpatterns root) i ≡ Some p
+          → number_in (Some (label_of (variables root) p)) ≡ Some n
+          → (n < length q.vars.now) × IsNumberAt q p (Some (slice_index_or q.vars.now n 0))
+      by_pattern (symbol_pattern m) e l = cc
+      by_pattern (app_pattern g ps) e l = cc
+      by_pattern (wild_pattern v None) e l = cc
+      by_pattern (wild_pattern v (Some x)) e l = at_place i n v x e l
+
+  pub number-none : (i : ℕ) (p : Pattern) (o : Option Label) → slice_get (subpatterns root) i ≡ Some p
+      → o ≡ option_map (λ n. n.label) (slice_get q.plan.now.nodes i) → number_in o ≡ None → IsNumberAt q p None
+  number-none i p o e s t = by_pattern p e (sym (ap number_in (shown-label i p o e s)) ∙ t)
+    where
+      by_pattern : (p : Pattern) → slice_get (subpatterns root) i ≡ Some p
+          → number_in (Some (label_of (variables root) p)) ≡ None → IsNumberAt q p None
+      by_pattern (symbol_pattern m) e l = refl
+      by_pattern (app_pattern g ps) e l = refl
+      by_pattern (wild_pattern v None) e l = refl
+      by_pattern (wild_pattern v (Some x)) e l =
+          let k = variable-place root i v x e in
+          let wrong : Some k.0 ≡ None = sym k.1 ∙ l in cc
+
+  -- the number of the node behind the subpattern at a node
+  pub node-behind : (i : ℕ) (p : Pattern) (o : Option ℕ) → slice_get (subpatterns root) i ≡ Some p
+      → o ≡ option_map (λ (n : Node). n.end) (slice_get q.plan.now.nodes i) → o ≡ Some (i + pattern_nodes p)
+  node-behind i p o e s =
+      let m = plan_node (variables root) None root i p e in
+      s ∙ ap (λ (P : Plan). option_map (λ (n : Node). n.end) (slice_get P.nodes i)) h.plan
+      ∙ ap (option_map (λ (n : Node). n.end)) m.1 ∙ ap Some m.2.end
+
+  -- the plan has a node for each subpattern
+  pub count-nodes : length (subpatterns root) ≡ length q.plan.now.nodes
+  count-nodes =
+      plan-length (variables root) root ∙ sym (ap (λ (P : Plan). length P.nodes) h.plan)

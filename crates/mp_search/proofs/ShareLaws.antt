@@ -1,0 +1,212 @@
+-- What the later siblings of a child take, one child after the other.
+use Rattle.std.proofs.Common.{◌≡◌, ℕ, zero, suc, ◌+◌, ◌-◌, ◌*◌, ◌<◌, ◌≤◌, List, [], ◌∷◌, ◌++◌, take, drop, length, Bool}
+use Rattle.std.proofs.Common.{true, false, not, ◌&&◌, nat_eq, refl, ap, sym, ◌∙◌, subst, arith, eqb-true, eq-eqb}
+use Rattle.std.proofs.Common.{get_or, length-append, length-drop}
+use Rattle.std.specs.Prelude.{Option, Some, None, option_map, slice_get, if◌then◌else◌, map}
+use Rattle.mp_term.specs.Signature.{Sig}
+use Rattle.mp_term.proofs.ListLaws.{bool_same}
+use Rattle.mp_pattern.specs.PatternTree.{Wildcard, Pattern, symbol_pattern, app_pattern, wild_pattern, dot, kind}
+use Rattle.mp_pattern.specs.PatternTree.{plus, star}
+use Rattle.mp_pattern.specs.PatternTree.{optional, counted, Patterns, patterns, more_patterns}
+use Rattle.mp_pattern.specs.Size.{pattern_nodes}
+use Rattle.mp_pattern.specs.SoundRule.{sum_most}
+use Rattle.mp_pattern.specs.Subpatterns.{subpatterns, all_subpatterns}
+use Rattle.mp_pattern.specs.Value.{Value, Subst, value_of, same_name}
+use Rattle.mp_pattern.specs.View.{pattern_tree}
+use Rattle.mp_pattern.proofs.NameLaws.{same_name-is, same_name-itself}
+use Rattle.mp_pattern.proofs.PlanLaws.{length-subpatterns}
+use Rattle.mp_subst.specs.Bound.{Bound, value_in}
+use Rattle.mp_subst.specs.Trail.{Trail, last_value}
+use Rattle.mp_theory.specs.Bounds.{least, most}
+use Rattle.mp_theory.specs.Known.{contributed, is_optional, least_known, most_known, is_use}
+use Rattle.mp_pattern.specs.declared.pattern.Pattern as declared
+use Rattle.mp_search.specs.Query.{IsQuery}
+use Rattle.mp_search.proofs.NumberedLaws.{count-nodes}
+use Rattle.mp_search.specs.declared.query.Query.{Query}
+use Rattle.mp_search.specs.declared.site.Site.{Site}
+use Rattle.mp_search.specs.declared.shares.Shares.{Shares}
+use Rattle.mp_search.specs.Numbers.{IsNumberOf, IsNumberAt}
+use Rattle.mp_search.specs.Reading.{name_at, subst_of}
+use Rattle.mp_search.specs.Shares.{length_known, is_optional_child, is_use_of, IsUsed, StandFrom, AreShares}
+use Rattle.mp_search.specs.Site.{IsSite}
+use Rattle.mp_search.proofs.SiteLaws.{front_at, rest_of, subpatterns-first}
+use Rattle.mp_search.proofs.SubstLaws.{value_of-subst_from}
+
+-- the second part of a list that stands at a place of another stands behind the first
+second_part : {X : Type 0} (xs ys ws : List X) → xs ++ ys ≡ take (length (xs ++ ys)) ws
+    → ys ≡ take (length ys) (drop (length xs) ws)
+second_part [] ys ws e = e
+second_part (x ∷ xs) ys [] e = cc
+second_part (x ∷ xs) ys (w ∷ ws) e =
+    let k : xs ++ ys ≡ take (length (xs ++ ys)) ws = cc in second_part xs ys ws k
+
+pub drop-twice : {X : Type 0} (n k : ℕ) (ws : List X) → drop n (drop k ws) ≡ drop (k + n) ws
+drop-twice {X = X} n k [] = drop-none n k
+  where
+    none : (m : ℕ) → drop {A = X} m [] ≡ []
+    none zero = refl
+    none (suc m) = refl
+
+    drop-none : (n k : ℕ) → drop n (drop {A = X} k []) ≡ drop (k + n) []
+    drop-none n k = ap (drop n) (none k) ∙ none n ∙ sym (none (k + n))
+drop-twice n zero ws = let e : 0 + n ≡ n = omega arith in ap (λ m. drop m ws) (sym e)
+drop-twice n (suc k) (w ∷ ws) =
+    let e : suc k + n ≡ suc (k + n) = omega arith in drop-twice n k ws ∙ ap (λ m. drop m (w ∷ ws)) (sym e)
+
+-- behind a subpattern the others stand
+pub stand-behind : (q : Query) (node : ℕ) (p : Pattern) (ps : List Pattern)
+    → subpatterns p ++ ps ≡ take (length (subpatterns p ++ ps)) (drop node (subpatterns q.plan.now.pattern))
+    → ps ≡ take (length ps) (drop (node + pattern_nodes p) (subpatterns q.plan.now.pattern))
+stand-behind q node p ps e =
+    second_part (subpatterns p) ps (drop node (subpatterns q.plan.now.pattern)) e
+    ∙ ap (take (length ps)) (drop-twice (length (subpatterns p)) node (subpatterns q.plan.now.pattern)
+    ∙ ap (λ n. drop (node + n) (subpatterns q.plan.now.pattern)) (length-subpatterns p))
+
+-- so the later siblings of a child do
+pub site-behind : (q : Query) (x : Site) → IsSite q x
+    → StandFrom q (x.node + pattern_nodes (pattern_tree x.child.now)) (patterns (map pattern_tree x.later.now))
+site-behind q x h = stand-behind q x.node (pattern_tree x.child.now)
+    (all_subpatterns (patterns (map pattern_tree x.later.now))) h.children
+
+-- the first of children that stand in the plan, and the others
+pub stand-first : (q : Query) (node : ℕ) (cs : List declared.Pattern) (c : declared.Pattern) → 1 ≤ length cs
+    → c ≡ get_or cs 0 c → StandFrom q node (patterns (map pattern_tree cs))
+    → slice_get (subpatterns q.plan.now.pattern) node ≡ Some (pattern_tree c)
+stand-first q node [] c n i h = absurd (omega (arith, n))
+stand-first q node (d ∷ cs) c n i h =
+    let p = pattern_tree d in
+    let later = all_subpatterns (patterns (map pattern_tree cs)) in
+    front_at p (rest_of p ++ later) (subpatterns q.plan.now.pattern) (length (subpatterns p ++ later)) node
+    (ap (λ ps. ps ++ later) (sym (subpatterns-first p)) ∙ h) ∙ ap (λ e. Some (pattern_tree e)) (sym i)
+
+pub stand-rest : (q : Query) (node : ℕ) (cs : List declared.Pattern) (c : declared.Pattern) → 1 ≤ length cs
+    → c ≡ get_or cs 0 c → StandFrom q node (patterns (map pattern_tree cs))
+    → StandFrom q (node + pattern_nodes (pattern_tree c)) (patterns (map pattern_tree (drop 1 cs)))
+stand-rest q node [] c n i h = absurd (omega (arith, n))
+stand-rest q node (d ∷ cs) c n i h =
+    subst (λ e. StandFrom q (node + pattern_nodes (pattern_tree e)) (patterns (map pattern_tree cs))) (sym i)
+    (stand-behind q node (pattern_tree d) (all_subpatterns (patterns (map pattern_tree cs))) h)
+
+-- the others, as a slice has them
+pub all-rest : {X : Type 0} (xs : List X) → take (length xs - 1) (drop 1 xs) ≡ drop 1 xs
+all-rest [] = refl
+all-rest (x ∷ xs) = let e : suc (length xs) - 1 ≡ length xs = omega arith in rw e (whole xs)
+  where
+    whole : {X : Type 0} (ys : List X) → take (length ys) ys ≡ ys
+    whole [] = refl
+    whole (y ∷ ys) = ap (λ zs. y ∷ zs) (whole ys)
+
+pub rest-short : {X : Type 0} (xs : List X) → 1 ≤ length xs → length (take (length xs - 1) (drop 1 xs)) + 1 ≡ length xs
+rest-short [] h = absurd (omega (arith, h))
+rest-short (x ∷ xs) h = omega (arith, ap length (all-rest (x ∷ xs)))
+
+-- children that stand in the plan are no more than its nodes
+count-children : (cs : List declared.Pattern) → length cs ≤ length (all_subpatterns (patterns (map pattern_tree cs)))
+count-children [] = omega arith
+count-children (c ∷ cs) =
+    let p = pattern_tree c in
+    let later = all_subpatterns (patterns (map pattern_tree cs)) in
+    omega (arith, count-children cs, ap length (subpatterns-first p), length-append (subpatterns p) later)
+
+pub few-children : (q : Query) (node : ℕ) (cs : List declared.Pattern) → IsQuery q
+    → StandFrom q node (patterns (map pattern_tree cs)) → length cs ≤ length q.plan.now.nodes
+few-children q node cs h k =
+    let all = all_subpatterns (patterns (map pattern_tree cs)) in
+    omega (
+      arith,
+      count-children cs,
+      ap length k,
+      length-take-le_min (length all) (drop node (subpatterns q.plan.now.pattern)),
+      length-drop node (subpatterns q.plan.now.pattern),
+      count-nodes q h,
+    )
+  where
+    length-take-le_min : {X : Type 0} (n : ℕ) (xs : List X) → length (take n xs) ≤ length xs
+    length-take-le_min zero xs = omega arith
+    length-take-le_min (suc n) [] = omega arith
+    length-take-le_min (suc n) (x ∷ xs) = omega (arith, length-take-le_min n xs)
+
+-- the numbers of variables are one where the child is a use
+pub is_use-number : (q : Query) (p : Pattern) (o : Option (List ℕ)) (v u : ℕ) → is_optional_child p ≡ false
+    → IsUsed q o (Some v) → IsNumberAt q p (Some u) → nat_eq v u ≡ is_use_of o p
+is_use-number q p None v u h n m = absurd n
+is_use-number q (symbol_pattern k) (Some x) v u h n m = cc
+is_use-number q (app_pattern g ps) (Some x) v u h n m = cc
+is_use-number q (wild_pattern w None) (Some x) v u h n m = cc
+is_use-number q (wild_pattern w (Some y)) (Some x) v u h n m =
+    bool_same (nat_eq v u) (same_name y x)
+    (λ e.
+    let i : v ≡ u = eqb-true v u e in
+    let k : Some y ≡ Some x = sym m.name ∙ ap (name_at q) (sym i) ∙ n.name in
+    let j : y ≡ x = cc in
+    subst (λ z. same_name y z ≡ true) j (same_name-itself y))
+    (λ e. eq-eqb v u (sym (n.only u (m.name ∙ ap Some (same_name-is y x e)))))
+    ∙ ap (λ b. not b && same_name y x) (sym h)
+
+module _ (q : Query) (t : Trail) (sig : Sig) (f : Option ℕ) where
+  -- what is known of the number of terms, by the trail
+  pub length-none : (p : Pattern) (v : ℕ) → IsNumberAt q p (Some v) → last_value t.stack v ≡ None
+      → None ≡ length_known sig (subst_of q t) f p
+  length-none (symbol_pattern k) v n e = refl
+  length-none (app_pattern g ps) v n e = refl
+  length-none (wild_pattern w None) v n e = refl
+  length-none (wild_pattern w (Some x)) v n e =
+      sym (ap (option_map (λ u. length (contributed sig f u)))
+      (value_of-subst_from q.table.now (name_at q) x v n.name n.only [] t.stack
+      ∙ ap (λ o. elim o as (λ _. Option Value) [ None ↦ None | Some c ↦ Some (value_in q.table.now c) ]) e))
+
+  pub length-some : (p : Pattern) (v : ℕ) (b : Bound) → IsNumberAt q p (Some v) → last_value t.stack v ≡ Some b
+      → Some (length (contributed sig f (value_in q.table.now b))) ≡ length_known sig (subst_of q t) f p
+  length-some (symbol_pattern k) v b n e = cc
+  length-some (app_pattern g ps) v b n e = cc
+  length-some (wild_pattern w None) v b n e = cc
+  length-some (wild_pattern w (Some x)) v b n e =
+      sym (ap (option_map (λ u. length (contributed sig f u)))
+      (value_of-subst_from q.table.now (name_at q) x v n.name n.only [] t.stack
+      ∙ ap (λ o. elim o as (λ _. Option Value) [ None ↦ None | Some c ↦ Some (value_in q.table.now c) ]) e))
+
+-- the numbers of terms of a child, as far as is known
+pub least-optional : (sig : Sig) (s : Subst) (f : Option ℕ) (p : Pattern) → is_optional_child p ≡ true
+    → least p ≡ least_known sig s f p
+least-optional sig s f (symbol_pattern k) h = cc
+least-optional sig s f (app_pattern g ps) h = cc
+least-optional sig s f (wild_pattern w None) h = refl
+least-optional sig s f (wild_pattern w (Some x)) h =
+    sym (ap (λ b. elim (if b then None else option_map (contributed sig f) (value_of s x)) as (λ _. ℕ)
+    [ None ↦ least (wild_pattern w (Some x)) | Some l ↦ length l ]) h)
+
+pub least-known : (sig : Sig) (s : Subst) (f : Option ℕ) (p : Pattern) → is_optional_child p ≡ false
+    → elim (length_known sig s f p) as (λ _. ℕ) [ None ↦ least p | Some n ↦ n ] ≡ least_known sig s f p
+least-known sig s f (symbol_pattern k) h = refl
+least-known sig s f (app_pattern g ps) h = refl
+least-known sig s f (wild_pattern w None) h = refl
+least-known sig s f (wild_pattern w (Some x)) h =
+    through (value_of s x)
+    ∙ sym (ap (λ b. elim (if b then None else option_map (contributed sig f) (value_of s x)) as (λ _. ℕ)
+    [ None ↦ least (wild_pattern w (Some x)) | Some l ↦ length l ]) h)
+  where
+    through : (o : Option Value)
+        → elim (option_map (λ v. length (contributed sig f v)) o) as (λ _. ℕ)
+        [ None ↦ least (wild_pattern w (Some x)) | Some n ↦ n ]
+        ≡ elim (option_map (contributed sig f) o) as (λ _. ℕ)
+        [ None ↦ least (wild_pattern w (Some x)) | Some l ↦ length l ]
+    through None = refl
+    through (Some v) = refl
+
+pub most-known : (sig : Sig) (s : Subst) (f : Option ℕ) (p : Pattern)
+    → elim (length_known sig s f p) as (λ _. Option ℕ) [ None ↦ most sig f p | Some n ↦ Some n ]
+    ≡ most_known sig s f p
+most-known sig s f (symbol_pattern k) = refl
+most-known sig s f (app_pattern g ps) = refl
+most-known sig s f (wild_pattern w None) = refl
+most-known sig s f (wild_pattern w (Some x)) = through (value_of s x)
+  where
+    through : (o : Option Value)
+        → elim (option_map (λ v. length (contributed sig f v)) o) as (λ _. Option ℕ)
+        [ None ↦ most sig f (wild_pattern w (Some x)) | Some n ↦ Some n ]
+        ≡ elim o as (λ _. Option ℕ) [
+          | None ↦ most sig f (wild_pattern w (Some x))
+          | Some v ↦ Some (length (contributed sig f v))
+        ]
+    through None = refl
+    through (Some v) = refl

@@ -1,0 +1,547 @@
+use Rattle.std.proofs.Common.{◌≡◌, ◌<◌, ◌+◌, ◌-◌, suc, true, take, drop, length, filter, flat_map}
+use Rattle.std.proofs.Common.{◌∷◌, ◌++◌, refl, sym, ap, ◌∙◌, subst, arith}
+use Rattle.std.specs.Prelude.{Some}
+use Rattle.mp_pattern.specs.PatternTree.{app_pattern, patterns}
+use Rattle.mp_pattern.specs.View.{pattern_tree}
+use Rattle.mp_theory.specs.Machine as machine
+use Rattle.mp_search.specs.At.{HasTrail, IsDrawn, drawn_at, items_from, items_with}
+use Rattle.mp_search.specs.Frames.{stack_frames, frame_of, inner_of}
+use Rattle.mp_search.specs.Reading.{table_of, entry_at, subst_of}
+use Rattle.mp_search.specs.Wanted.{wanted, good, AreComplete}
+use Rattle.mp_search.proofs.FramesLaws.{settle-more, rest-behind, outer-below, entered-plain, frame-front}
+use Rattle.mp_search.proofs.FollowLaws as follows
+use Rattle.mp_search.proofs.LevelsLaws.{draws-kept}
+use Rattle.mp_search.proofs.OnwardLaws.{node-kept, at-kept, trail-kept, cut-back, levels-after}
+use Rattle.mp_search.specs.Tried.{to_try}
+use Rattle.mp_subst.specs.Trail.{length_at}
+use Rattle.mp_subst.proofs.TrailLaws.{length-kept}
+use Rattle.mp_search.proofs.TriedLaws.{trying-init, trying-allowed, trying-complete, trying-found, trying-next}
+use Rattle.mp_search.proofs.TriedLaws.{IsTrying, trying-falls, member-kept, pool-kept}
+use Rattle.mp_search.proofs.VisitLaws as visits
+use Rattle.mp_search.proofs.descent.+search.Goals as goal
+
+pub descend-search-requires : goal.descend-search-requires
+descend-search-requires t c =
+    let q = c.args.query.now in
+    let k = c.args.k in
+    let L = c.args.levels.now in
+    let p = c.args.place.now in
+    let e = entry_at q.table.now L k in
+    let within = c.requires.within in
+    let at = c.requires.place in
+    let taken = machine.taken_out (pattern_tree p.child.now) e (inner_of q (take k L) p) in
+    let outer = stack_frames q (take k L) p.outer.now in
+    let rest = frame_of q (take (k + 1) L) c.rest_frame.result ∷ stack_frames q (take (k + 1) L) p.outer.now in
+    let frames : frame_of q (take (k + 1) L) c.inner_frame.result ∷ rest
+    ≡ machine.entered (pattern_tree p.child.now) e (taken ∷ outer) =
+    ap (λ f. f ∷ rest) (frame-front q (k + 1) L c.inner_frame.result c.inner_frame.ensures.below)
+    ∙ ap (λ l. l ++ rest) c.inner_frame.ensures.frame
+    ∙ ap (λ ps. machine.entered (app_pattern c.in-App.op.0 (patterns ps)) e rest) c.as_slice.ensures
+    ∙ ap (λ z. machine.entered (pattern_tree z) e rest) (sym c.in-App.is)
+    ∙ ap (machine.entered (pattern_tree p.child.now) e)
+    (rest-behind q k L p c.rest_frame.result taken within at c.rest_frame.ensures.frame c.rest_frame.ensures.below) in (
+      omega (arith, c.decreases, within),
+      (
+        omega (arith, within),
+        (
+          c.requires.node,
+          (
+            settle-more q k L p
+                (frame_of q (take (k + 1) L) c.inner_frame.result ∷ rest) within at frames,
+            (
+              (c.inner_frame.ensures.below, (c.rest_frame.ensures.below, outer-below q k L p within at)),
+              (c.requires.trail, (c.requires.standing, c.requires.complete)),
+            ),
+          ),
+        ),
+      ),
+    )
+
+pub descend-search-requires-in_default : goal.descend-search-requires-in_default
+descend-search-requires-in_default t c =
+    let q = c.args.query.now in
+    let k = c.args.k in
+    let L = c.args.levels.now in
+    let p = c.args.place.now in
+    let e = entry_at q.table.now L k in
+    let within = c.requires.within in
+    let at = c.requires.place in
+    let taken = machine.taken_out (pattern_tree p.child.now) e (inner_of q (take k L) p) in
+    let outer = stack_frames q (take k L) p.outer.now in
+    let rest = frame_of q (take (k + 1) L) c.rest_frame.result ∷ stack_frames q (take (k + 1) L) p.outer.now in
+    let frames : rest ≡ machine.entered (pattern_tree p.child.now) e (taken ∷ outer) =
+    rest-behind q k L p c.rest_frame.result taken within at c.rest_frame.ensures.frame c.rest_frame.ensures.below
+    ∙ sym (entered-plain p.child.now e (taken ∷ outer) c.in_default.not-App) in (
+      omega (arith, c.decreases, within),
+      (
+        omega (arith, within),
+        (
+          c.requires.node,
+          (
+            settle-more q k L p rest within at frames,
+            (
+              (c.rest_frame.ensures.below, outer-below q k L p within at),
+              (c.requires.trail, (c.requires.standing, c.requires.complete)),
+            ),
+          ),
+        ),
+      ),
+    )
+
+pub follow-returns-then-leads_nowhere_at-clause-found : goal.follow-returns-then-leads_nowhere_at-clause-found
+follow-returns-then-leads_nowhere_at-clause-found t c =
+    let q = c.args.query.now in
+    let k = c.args.k in
+    let L = c.args.levels.now in
+    follows.nowhere q k L c.args.mode (subst_of q c.args.trail.now) (subst_of q c.bind_at.new.trail) c.requires.within
+    c.if-not-bind_at.ensures.bound (c.if-leads_nowhere_at.ensures refl (length L - suc k)) c.requires.complete
+
+pub follow-descend-requires : goal.follow-descend-requires
+follow-descend-requires t c =
+    let q = c.args.query.now in
+    let k = c.args.k in
+    let L = c.args.levels.now in
+    let L1 = c.leave_at.new.levels in
+    let p = c.args.place.now in
+    let r = c.requires in
+    let l = c.leave_at.ensures in
+    let ready = follows.ready q k L c.args.mode (subst_of q c.args.trail.now) L1 c.bind_at.new.trail r.within r.node
+    r.allowed l.kept l.entries c.if-not-bind_at.ensures.trail c.if-not-bind_at.ensures.bound r.standing r.complete in (
+      omega (arith, c.decreases, l.kept.many, r.within),
+      (
+        omega (arith, r.within, l.kept.many),
+        (
+          ready.node,
+          (
+            at-kept q k L L1 p r.place l.kept.front,
+            (follows.rest-kept q k L L1 p l.kept.front l.own l.rest, (ready.trail, (ready.standing, ready.complete))),
+          ),
+        ),
+      ),
+    )
+
+pub follow-returns-clause-found : goal.follow-returns-clause-found
+follow-returns-clause-found t c =
+    let q = c.args.query.now in
+    let k = c.args.k in
+    follows.found q k c.args.mode c.args.levels.now c.leave_at.new.levels c.descend.new.levels c.descend.result
+    (subst_of q c.args.trail.now) (subst_of q c.bind_at.new.trail) (subst_of q c.descend.new.trail) c.requires.within
+    c.leave_at.ensures.kept.many c.descend.ensures.kept.many c.leave_at.ensures.entries c.leave_at.ensures.kept.front
+    c.descend.ensures.kept.front c.if-not-bind_at.ensures.bound c.descend.ensures.found
+
+pub follow-returns-clause-own : goal.follow-returns-clause-own
+follow-returns-clause-own t c =
+    follows.own-more c.args.k c.descend.new.levels c.leave_at.new.levels c.descend.ensures.kept.front
+    ∙ c.leave_at.ensures.own
+
+pub follow-returns-clause-kept : goal.follow-returns-clause-kept
+follow-returns-clause-kept t c =
+    follows.kept c.args.query.now c.args.k c.args.levels.now c.leave_at.new.levels c.descend.new.levels c.args.trail.now
+    c.bind_at.new.trail c.descend.new.trail c.leave_at.ensures.kept c.if-not-bind_at.ensures.kept c.descend.ensures.kept
+
+pub search-visit-requires : goal.search-visit-requires
+search-visit-requires t c =
+    let q = c.args.query.now in
+    let k = c.args.k in
+    let L = c.args.levels.now in
+    let within : k < length L = omega (arith, c.requires.within, c.if-k-levels.false) in (
+      omega (arith, c.decreases, within),
+      (
+        within,
+        (
+          c.requires.node,
+          (
+            record { stands = sym c.in-Child.ensures.next ∙ c.requires.stands; within = c.in-Child.ensures.below },
+            (c.requires.trail, (c.requires.standing, c.requires.complete)),
+          ),
+        ),
+      ),
+    )
+
+pub try_each-loop-found-init : goal.try_each-loop-found-init
+try_each-loop-found-init t c =
+    let q = c.args.query.now in
+    trying-init q c.args.place.now c.args.k c.args.levels.now c.args.trail.now c.args.from
+    (record { front = refl; many = refl; levels = c.requires.node.levels }) c.requires.from
+
+pub try_each-follow-requires : goal.try_each-follow-requires
+try_each-follow-requires t c =
+    let q = c.args.query.now in
+    let k = c.args.k in
+    let p = c.args.place.now in
+    let L = c.args.levels.now in
+    let N = c.loop-found.levels in
+    let T = c.args.trail.now in
+    let U = c.loop-found.trail in
+    let r = c.requires in
+    let i : IsTrying q p k L N T U c.args.from true =
+    subst (λ b. IsTrying q p k L N T U c.args.from b) c.loop-found-test.true c.loop-found.invariant in (
+      omega (arith, c.decreases, i.levels.many, r.within),
+      (
+        omega (arith, r.within, i.levels.many),
+        (
+          node-kept q k L N r.node i.levels,
+          (
+            at-kept q k L N p r.place i.levels.front,
+            (
+              subst (HasTrail q k N) (sym i.trail) (trail-kept q k L N T r.trail i.levels),
+              (
+                trying-allowed q p k L N T U c.args.from i r.drawn,
+                (tt, trying-complete q p k L N T U c.args.from i r.drawn r.within r.complete),
+              ),
+            ),
+          ),
+        ),
+      ),
+    )
+
+pub try_each-returns-then-follow-clause-found : goal.try_each-returns-then-follow-clause-found
+try_each-returns-then-follow-clause-found t c =
+    let q = c.args.query.now in
+    let k = c.args.k in
+    let p = c.args.place.now in
+    let L = c.args.levels.now in
+    let N = c.loop-found.levels in
+    let T = c.args.trail.now in
+    let U = c.loop-found.trail in
+    let i : IsTrying q p k L N T U c.args.from true =
+    subst (λ b. IsTrying q p k L N T U c.args.from b) c.loop-found-test.true c.loop-found.invariant in
+    trying-found q p k L N T U c.args.from i c.requires.drawn (table_of q.table.now (drop k N))
+    (table_of q.table.now (drop k c.follow.new.levels), subst_of q c.follow.new.trail) c.if-follow.ensures.found
+
+pub try_each-returns-then-follow-clause-kept : goal.try_each-returns-then-follow-clause-kept
+try_each-returns-then-follow-clause-kept t c =
+    follows.kept-after c.args.query.now c.args.k c.args.levels.now c.loop-found.levels c.follow.new.levels
+    c.args.trail.now c.loop-found.trail c.follow.new.trail c.loop-found.invariant.levels c.loop-found.invariant.trail
+    c.follow.ensures.kept
+
+pub try_each-undo-requires : goal.try_each-undo-requires
+try_each-undo-requires t c =
+    let m = c.mark-mark.ensures in
+    let w = length-kept c.loop-found.trail c.follow.new.trail c.follow.ensures.kept.cut in
+    let i = ap (λ u. length u.stack) c.loop-found.invariant.trail in
+    omega (arith, m, w, i)
+
+pub try_each-next_at-found-requires-clause-node : goal.try_each-next_at-found-requires-clause-node
+try_each-next_at-found-requires-clause-node t c =
+    let q = c.args.query.now in
+    let k = c.args.k in
+    let i = c.loop-found.invariant.levels in
+    let f = c.follow.ensures.kept in
+    node-kept q k c.args.levels.now c.follow.new.levels c.requires.node
+    (record { front = f.front ∙ i.front; many = f.many ∙ i.many; levels = f.levels })
+
+pub try_each-next_at-found-requires-clause-place : goal.try_each-next_at-found-requires-clause-place
+try_each-next_at-found-requires-clause-place t c =
+    at-kept c.args.query.now c.args.k c.args.levels.now c.follow.new.levels c.args.place.now c.requires.place
+    (c.follow.ensures.kept.front ∙ c.loop-found.invariant.levels.front)
+
+pub try_each-next_at-found-requires-clause-pool : goal.try_each-next_at-found-requires-clause-pool
+try_each-next_at-found-requires-clause-pool t c =
+    pool-kept c.args.query.now c.args.k c.args.levels.now c.follow.new.levels c.requires.drawn.pool
+    (draws-kept c.args.k c.follow.new.levels c.loop-found.levels c.follow.ensures.own ∙ c.loop-found.invariant.draws)
+
+pub try_each-next_at-found-requires-clause-drawn : goal.try_each-next_at-found-requires-clause-drawn
+try_each-next_at-found-requires-clause-drawn t c =
+    let q = c.args.query.now in
+    let k = c.args.k in
+    let L = c.args.levels.now in
+    let L1 = c.follow.new.levels in
+    let i = c.loop-found.invariant in
+    member-kept q c.args.place.now k L c.loop-found.levels L1 (i.member c.loop-found-test.true)
+    (c.follow.ensures.kept.front ∙ i.levels.front) i.draws c.follow.ensures.own
+
+pub try_each-loop-found-smaller : goal.try_each-loop-found-smaller
+try_each-loop-found-smaller t c =
+    let q = c.args.query.now in
+    let k = c.args.k in
+    let p = c.args.place.now in
+    let L = c.args.levels.now in
+    let N = c.loop-found.levels in
+    let T = c.args.trail.now in
+    let U = c.loop-found.trail in
+    let f = c.follow.ensures in
+    let x = c.next_at-found.ensures in
+    let i : IsTrying q p k L N T U c.args.from true =
+    subst (λ b. IsTrying q p k L N T U c.args.from b) c.loop-found-test.true c.loop-found.invariant in
+    subst
+    (λ d. length (to_try c.next_at-found.result (entry_at q.table.now c.next_at-found.new.levels k)
+    (drawn_at q p c.next_at-found.new.levels k))
+    < length (to_try d (entry_at q.table.now N k) (drawn_at q p N k))) (sym c.loop-found-test.true)
+    (trying-falls q p k L N T U c.args.from i c.requires.drawn c.follow.new.levels c.next_at-found.new.levels
+    c.undo.new.self
+    c.next_at-found.result (table_of q.table.now (drop k N)) f.kept.front f.own x.kept x.draws x.choice)
+
+pub try_each-loop-found-preserved : goal.try_each-loop-found-preserved
+try_each-loop-found-preserved t c =
+    let q = c.args.query.now in
+    let k = c.args.k in
+    let p = c.args.place.now in
+    let L = c.args.levels.now in
+    let N = c.loop-found.levels in
+    let T = c.args.trail.now in
+    let U = c.loop-found.trail in
+    let f = c.follow.ensures in
+    let x = c.next_at-found.ensures in
+    let i : IsTrying q p k L N T U c.args.from true =
+    subst (λ b. IsTrying q p k L N T U c.args.from b) c.loop-found-test.true c.loop-found.invariant in
+    let undone = cut-back U c.follow.new.trail c.undo.new.self (length_at c.mark-mark.result)
+    (c.mark-mark.ensures ∙ ap (λ u. length u.stack) (sym i.trail)) f.kept.cut c.undo.ensures.trail in
+    trying-next q p k L N T U c.args.from i c.requires.drawn c.follow.new.levels c.next_at-found.new.levels
+    c.undo.new.self
+    c.next_at-found.result
+    (table_of q.table.now (drop k N)) f.kept.front f.own x.kept x.draws x.choice f.kept.many undone
+    c.if-follow.ensures.found
+
+pub try_each-returns-clause-found : goal.try_each-returns-clause-found
+try_each-returns-clause-found t c =
+    let q = c.args.query.now in
+    let k = c.args.k in
+    let p = c.args.place.now in
+    let L = c.args.levels.now in
+    let g = items_with q k L (subst_of q c.args.trail.now) in
+    sym (subst
+    (λ b. filter (good q) (flat_map g (to_try b (entry_at q.table.now c.loop-found.levels k) (drawn_at q p L k)))
+    ≡ filter (good q) (flat_map g (to_try c.args.from (entry_at q.table.now L k) (drawn_at q p L k))))
+    c.loop-found-test.false c.loop-found.invariant.tried)
+
+pub try_each-returns-clause-kept : goal.try_each-returns-clause-kept
+try_each-returns-clause-kept t c =
+    follows.kept-levels c.args.query.now c.args.k c.args.levels.now c.loop-found.levels c.args.trail.now
+    c.loop-found.trail
+    c.loop-found.invariant.levels c.loop-found.invariant.trail c.requires.trail.trail
+
+pub visit-try_each-requires : goal.visit-try_each-requires
+visit-try_each-requires t c =
+    let q = c.args.query.now in
+    let k = c.args.k in
+    let p = c.args.place.now in
+    let L = c.args.levels.now in
+    let L1 = c.prepare_at.new.levels in
+    let L2 = c.first_at-found.new.levels in
+    let T = c.args.trail.now in
+    let s = subst_of q T in
+    let r = c.requires in
+    let a = c.prepare_at.ensures in
+    let x = c.first_at-found.ensures in
+    let both = levels-after q k L L1 L2 a.kept x.kept in (
+      omega (arith, c.decreases, both.many, r.within),
+      (
+        omega (arith, r.within, both.many),
+        (
+          node-kept q k L L2 r.node both,
+          (
+            at-kept q k L L2 p r.place both.front,
+            (
+              trail-kept q k L L2 T r.trail both,
+              (
+                visits.drawn-same q p k L1 L2 s a.drawn x.kept.front x.draws,
+                (
+                  visits.first-drawn q p k L1 L2 c.first_at-found.result x.kept.front x.draws x.choice,
+                  subst (AreComplete q) (sym (visits.items-kept q k L L2 s both.front both.many)) r.complete,
+                ),
+              ),
+            ),
+          ),
+        ),
+      ),
+    )
+
+pub visit-returns-in-First-clause-found : goal.visit-returns-in-First-clause-found
+visit-returns-in-First-clause-found t c =
+    let q = c.args.query.now in
+    let k = c.args.k in
+    let L = c.args.levels.now in
+    let x = c.first_at-found.ensures in
+    follows.told-same c.try_each.result _ _ _ _
+    (visits.first-tried q k L (subst_of q c.args.trail.now) c.requires.within c.args.place.now c.prepare_at.new.levels
+    c.first_at-found.new.levels c.first_at-found.result c.args.mode (table_of q.table.now (drop k L)) c.in-First.is
+    c.prepare_at.ensures.drawn c.prepare_at.ensures.kept x.kept x.draws x.choice) refl c.try_each.ensures.found
+
+pub visit-returns-then-not-may_stand-clause-found : goal.visit-returns-then-not-may_stand-clause-found
+visit-returns-then-not-may_stand-clause-found t c =
+    let q = c.args.query.now in
+    visits.at-other q c.args.k c.args.levels.now (subst_of q c.args.trail.now) c.requires.within c.args.mode c.in-At.is
+    (sym c.if-not-may_stand.ensures)
+
+pub visit-returns-then-not-may_stand-clause-kept : goal.visit-returns-then-not-may_stand-clause-kept
+visit-returns-then-not-may_stand-clause-kept t c =
+    follows.kept-levels c.args.query.now c.args.k c.args.levels.now c.args.levels.now c.args.trail.now c.args.trail.now
+    (record { front = refl; many = refl; levels = c.requires.node.levels }) refl c.requires.trail.trail
+
+pub visit-follow-requires : goal.visit-follow-requires
+visit-follow-requires t c =
+    let q = c.args.query.now in
+    let k = c.args.k in
+    let L = c.args.levels.now in
+    let s = subst_of q c.args.trail.now in
+    let r = c.requires in
+    let allowed = sym c.if-not-may_stand.ensures in (
+      omega (arith, c.decreases, r.within),
+      (
+        r.within,
+        (
+          r.node,
+          (
+            r.place,
+            (
+              r.trail,
+              (
+                allowed,
+                (
+                  visits.standing-at q k L s r.within c.args.mode c.in-At.is,
+                  visits.complete-entry q k L s r.within allowed r.complete,
+                ),
+              ),
+            ),
+          ),
+        ),
+      ),
+    )
+
+pub visit-returns-else-not-may_stand-clause-found : goal.visit-returns-else-not-may_stand-clause-found
+visit-returns-else-not-may_stand-clause-found t c =
+    let q = c.args.query.now in
+    follows.told-same c.follow.result _ _ _ _
+    (visits.at-entry q c.args.k c.args.levels.now (subst_of q c.args.trail.now) c.requires.within c.args.mode c.in-At.is
+    (sym c.if-not-may_stand.ensures)) refl c.follow.ensures.found
+
+pub visit-follow-requires-in-After : goal.visit-follow-requires-in-After
+visit-follow-requires-in-After t c =
+    let q = c.args.query.now in
+    let k = c.args.k in
+    let L = c.args.levels.now in
+    let s = subst_of q c.args.trail.now in
+    let r = c.requires in
+    let b = visits.begins q k L s r.within c.args.mode c.in-After.is r.standing in (
+      omega (arith, c.decreases, r.within),
+      (
+        r.within,
+        (
+          r.node,
+          (
+            r.place,
+            (
+              r.trail,
+              (
+                b.allowed,
+                (
+                  visits.standing-entry q k L s r.within c.args.mode c.in-After.is b,
+                  visits.complete-entry q k L s r.within b.allowed r.complete,
+                ),
+              ),
+            ),
+          ),
+        ),
+      ),
+    )
+
+pub visit-returns-then-follow-clause-found : goal.visit-returns-then-follow-clause-found
+visit-returns-then-follow-clause-found t c =
+    let q = c.args.query.now in
+    let k = c.args.k in
+    let L = c.args.levels.now in
+    let s = subst_of q c.args.trail.now in
+    let r = c.requires in
+    let b = visits.begins q k L s r.within c.args.mode c.in-After.is r.standing in
+    visits.after-found q k L s r.within c.args.mode
+    (table_of q.table.now (drop k c.follow-in-After.new.levels), subst_of q c.follow-in-After.new.trail) c.in-After.is
+    b.allowed
+    c.if-follow.ensures.found
+
+pub visit-next_at-found-requires-clause-drawn : goal.visit-next_at-found-requires-clause-drawn
+visit-next_at-found-requires-clause-drawn t c =
+    let q = c.args.query.now in
+    let k = c.args.k in
+    let L = c.args.levels.now in
+    let T = c.args.trail.now in
+    let s = subst_of q T in
+    let r = c.requires in
+    let f = c.follow-in-After.ensures in
+    let a = c.prepare_at-in-After.ensures in
+    let b = visits.begins q k L s r.within c.args.mode c.in-After.is r.standing in
+    let undone = cut-back T c.follow-in-After.new.trail c.undo.new.self
+    (length_at c.mark-mark.result) c.mark-mark.ensures
+    f.kept.cut c.undo.ensures.trail in
+    visits.drawn-entry q k L s r.within c.args.place.now c.follow-in-After.new.levels c.prepare_at-in-After.new.levels b
+    (subst (λ u. IsDrawn q c.args.place.now c.prepare_at-in-After.new.levels k (subst_of q u)) undone a.drawn)
+    f.kept.front
+    f.own a.kept a.entry
+
+pub visit-try_each-requires-in-After : goal.visit-try_each-requires-in-After
+visit-try_each-requires-in-After t c =
+    let q = c.args.query.now in
+    let k = c.args.k in
+    let p = c.args.place.now in
+    let L = c.args.levels.now in
+    let L2 = c.prepare_at-in-After.new.levels in
+    let L3 = c.next_at-found.new.levels in
+    let T = c.args.trail.now in
+    let V = c.undo.new.self in
+    let r = c.requires in
+    let f = c.follow-in-After.ensures in
+    let a = c.prepare_at-in-After.ensures in
+    let x = c.next_at-found.ensures in
+    let undone : V ≡ T = cut-back T c.follow-in-After.new.trail V (length_at c.mark-mark.result) c.mark-mark.ensures
+    f.kept.cut c.undo.ensures.trail in
+    let all = levels-after q k L L2 L3 (levels-after q k L c.follow-in-After.new.levels L2
+    (record { front = f.kept.front; many = f.kept.many; levels = f.kept.levels }) a.kept) x.kept in
+    let complete : AreComplete q (items_from q k L3 (subst_of q T)) =
+    subst (AreComplete q) (sym (visits.items-kept q k L L3 (subst_of q T) all.front all.many)) r.complete in (
+      omega (arith, c.decreases, all.many, r.within),
+      (
+        omega (arith, r.within, all.many),
+        (
+          node-kept q k L L3 r.node all,
+          (
+            at-kept q k L L3 p r.place all.front,
+            (
+              subst (HasTrail q k L3) (sym undone) (trail-kept q k L L3 T r.trail all),
+              (
+                visits.drawn-same q p k L2 L3 (subst_of q V) a.drawn x.kept.front x.draws,
+                (
+                  visits.next-drawn q p k L2 L3 c.next_at-found.result x.kept.front x.draws x.choice,
+                  subst (λ u. AreComplete q (items_from q k L3 (subst_of q u))) (sym undone) complete,
+                ),
+              ),
+            ),
+          ),
+        ),
+      ),
+    )
+
+pub visit-returns-else-follow-clause-found : goal.visit-returns-else-follow-clause-found
+visit-returns-else-follow-clause-found t c =
+    let q = c.args.query.now in
+    let k = c.args.k in
+    let p = c.args.place.now in
+    let L = c.args.levels.now in
+    let L2 = c.prepare_at-in-After.new.levels in
+    let L3 = c.next_at-found.new.levels in
+    let T = c.args.trail.now in
+    let V = c.undo.new.self in
+    let s = subst_of q T in
+    let r = c.requires in
+    let f = c.follow-in-After.ensures in
+    let a = c.prepare_at-in-After.ensures in
+    let x = c.next_at-found.ensures in
+    let b = visits.begins q k L s r.within c.args.mode c.in-After.is r.standing in
+    let undone : V ≡ T = cut-back T c.follow-in-After.new.trail V (length_at c.mark-mark.result) c.mark-mark.ensures
+    f.kept.cut c.undo.ensures.trail in
+    follows.told-same c.try_each-in-After.result
+    (filter (good q)
+    (flat_map (items_with q k L3 (subst_of q V))
+    (to_try c.next_at-found.result (entry_at q.table.now L3 k) (drawn_at q p L3 k))))
+    (wanted q c.args.mode (table_of q.table.now (drop k L)) (items_from q k L s))
+    (Some (table_of q.table.now (drop k c.try_each-in-After.new.levels), subst_of q c.try_each-in-After.new.trail))
+    (Some (table_of q.table.now (drop k c.try_each-in-After.new.levels), subst_of q c.try_each-in-After.new.trail))
+    (ap
+    (λ u. filter (good q)
+    (flat_map (items_with q k L3 (subst_of q u))
+    (to_try c.next_at-found.result (entry_at q.table.now L3 k) (drawn_at q p L3 k)))) undone
+    ∙ visits.after-tried q k L s r.within p c.follow-in-After.new.levels L2 L3 c.next_at-found.result c.args.mode
+    c.in-After.is
+    b.allowed c.if-follow.ensures.found
+    (subst (λ u. IsDrawn q p L2 k (subst_of q u)) undone a.drawn) f.kept.front f.kept.many f.own a.kept a.entry x.kept
+    x.draws x.choice)
+    refl c.try_each-in-After.ensures.found

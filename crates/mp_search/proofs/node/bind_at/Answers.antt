@@ -1,0 +1,43 @@
+use Rattle.std.proofs.Common.{◌+◌, ◌≤◌, ◌∙◌, ap, subst, length, sym}
+use Rattle.mp_pattern.specs.View.{pattern_tree, wildcard}
+use Rattle.mp_search.specs.Reading.{subst_of}
+use Rattle.mp_subst.proofs.TrailLaws.{cut-whole}
+use Rattle.mp_search.proofs.BindAtLaws.{wild-room, wild-trail, plain-trail, plain-bound, length-taken}
+use Rattle.mp_search.proofs.node.bind_at.Goals as goal
+
+pub bind-requires-clause-spare : goal.bind-requires-clause-spare
+bind-requires-clause-spare c =
+    let q = c.args.query.now in
+    let L = c.args.levels.now in
+    let k = c.args.k in
+    let own = c.index-levels-k in
+    let same = ap (λ l. length l.take.items.items) own.is in
+    subst (λ n. n + 3 ≤ c.args.trail.now.spare) (sym (same ∙ length-taken q.table.now L k own.result c.requires.within))
+    (wild-room q k L c.args.place.now c.requires.within c.requires.place c.requires.allowed (wildcard c.in-Wild.field-0)
+    c.in-Wild.field-1 c.args.trail.now (ap pattern_tree c.in-Wild.is) c.requires.trail)
+
+pub returns-in-Wild-clause-trail : goal.returns-in-Wild-clause-trail
+returns-in-Wild-clause-trail c =
+    let q = c.args.query.now in
+    let L = c.args.levels.now in
+    let k = c.args.k in
+    let own = c.index-levels-k in
+    let same = ap (λ l. length l.take.items.items) own.is in
+    wild-trail q k L c.args.place.now c.requires.within c.requires.place c.requires.allowed (wildcard c.in-Wild.field-0)
+    c.in-Wild.field-1 c.args.trail.now c.bind.new.trail
+    (ap pattern_tree c.in-Wild.is) c.requires.trail c.bind.ensures.kept
+    (subst (λ n. c.args.trail.now.spare ≤ c.bind.new.trail.spare + (n + 3))
+    (same ∙ length-taken q.table.now L k own.result c.requires.within) c.bind.ensures.spare) c.bind.ensures.trail
+
+pub returns-in_default : goal.returns-in_default
+returns-in_default c =
+    let q = c.args.query.now in
+    let L = c.args.levels.now in
+    let k = c.args.k in
+    let p = c.args.place.now in
+    let r = c.requires in
+    record {
+      bound = plain-bound q k L p r.within r.place r.allowed (subst_of q c.args.trail.now) c.in_default.not-Wild;
+      kept = cut-whole c.args.trail.now;
+      trail = plain-trail q k L p r.within r.place r.allowed c.args.trail.now r.trail;
+    }

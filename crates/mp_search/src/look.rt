@@ -1,0 +1,89 @@
+//! What shows that nothing is found behind an entry.
+ghost use Rattle.std.specs.Prelude.{◌≡◌, ℕ, [], true, List, map, filter, IsTrue};
+ghost use Rattle.mp_pattern.specs.PatternTree.{patterns};
+ghost use Rattle.mp_pattern.specs.Subpatterns.{all_subpatterns};
+ghost use Rattle.mp_pattern.specs.View.{pattern_tree};
+ghost use Rattle.mp_subst.specs.Trail.{GoesWith};
+ghost use Rattle.mp_theory.specs.Frames as walk;
+ghost use Rattle.mp_theory.specs.Items.{items};
+ghost use Rattle.mp_theory.specs.Machine as machine;
+ghost use Rattle.mp_theory.specs.Trail.{allows};
+ghost use Rattle.mp_search.specs.Parts.{StandsAt};
+ghost use Rattle.mp_search.specs.Query.{IsQuery};
+ghost use Rattle.mp_search.specs.Reading.{entry_of, subst_of};
+ghost use Rattle.mp_search.specs.Levels.{IsOver};
+ghost use Rattle.mp_search.specs.Site.{IsSite, site_place};
+ghost use Rattle.mp_search.specs.Wanted.{good, AreComplete};
+
+use crate::end::end_of;
+use crate::judge::fails;
+use crate::level::Level;
+use crate::may_match::has_firm;
+use crate::query::Query;
+use crate::rivals::mark_rivals;
+use crate::site::Site;
+use crate::supply::are_lacking;
+use crate::under::comm_above;
+use mp_subst::Trail;
+
+// The number of the node of the first later child.
+fn later_node(query: &Query<'_>, site: &Site<'_>) -> u32
+    requires query { IsQuery query.now }
+    requires site { IsSite query.now site.now }
+    ensures { StandsAt query.now result (all_subpatterns (patterns (map pattern_tree site.now.later.now))) }
+{
+    end_of(query, site.child, site.node)
+}
+
+// How many later children are looked at.
+const MOST_RIVALS: usize = 128;
+
+// Whether it is seen that the later children have too few terms: there are more of them that take one each than are
+// left that they may match.
+fn lacks_terms(query: &Query<'_>, site: &Site<'_>, own: &Level, trail: &Trail) -> bool
+    requires query { IsQuery query.now }
+    requires site { IsSite query.now site.now }
+    requires over { IsOver query.now.table.now own.now }
+    requires trail { GoesWith query.now.table.now trail.now }
+    ensures { IsTrue result → (j : ℕ) (fs : List walk.Frame) → items query.now.sig.now j
+        (machine.onward (site_place query.now site.now fs) (entry_of query.now.table.now own.now))
+        (subst_of query.now trail.now) ≡ [] }
+{
+    if !comm_above(query.sig, site.under) || !has_firm(query.sig, site.later) {
+        return false;
+    }
+    let node = later_node(query, site);
+    let mut places = [usize::MAX; MOST_RIVALS];
+    let mut marks = [false; MOST_RIVALS];
+    if !mark_rivals(query, site, own, trail, node, &mut places, &mut marks) {
+        return false;
+    }
+    are_lacking(
+        query,
+        trail,
+        site.under,
+        site.later,
+        node,
+        &marks,
+        own.take.as_slice(),
+        site.left,
+    )
+}
+
+// Whether it is seen that nothing is found behind the entry at hand, once it is bound: the condition fails, or what is
+// left isn't enough for the children that are to take it.
+pub(crate) fn leads_nowhere(query: &Query<'_>, site: &Site<'_>, own: &Level, trail: &Trail) -> bool
+    requires query { IsQuery query.now }
+    requires site { IsSite query.now site.now }
+    requires over { IsOver query.now.table.now own.now }
+    requires allowed { allows query.now.sig.now (site_place query.now site.now [])
+        (entry_of query.now.table.now own.now) ≡ true }
+    requires trail { GoesWith query.now.table.now trail.now }
+    ensures { IsTrue result → (j : ℕ) (fs : List walk.Frame) →
+        let is = items query.now.sig.now j
+        (machine.onward (site_place query.now site.now fs) (entry_of query.now.table.now own.now))
+        (subst_of query.now trail.now) in
+        AreComplete query.now is → filter (good query.now) is ≡ [] }
+{
+    fails(query, trail) || lacks_terms(query, site, own, trail)
+}

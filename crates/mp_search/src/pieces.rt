@@ -1,0 +1,45 @@
+//! Whether ranks are a piece of others.
+ghost use Rattle.std.specs.Prelude.{◌≡◌};
+ghost use Rattle.mp_term.specs.Pieces as pieces;
+ghost use Rattle.mp_table.specs.Table.{rank_cmp};
+
+use mp_table::Rank;
+
+// Whether the ranks stand in the list, each at some place behind the one before.
+fn is_sublist(ranks: &[Rank], list: &[Rank]) -> bool
+    ensures { result ≡ pieces.is_sublist rank_cmp ranks.now list.now }
+{
+    let mut found: usize = 0;
+    for item in list {
+        if found < ranks.len() && item.0 == ranks[found].0 {
+            found += 1;
+        }
+    }
+    found == ranks.len()
+}
+
+// Whether the list begins with the ranks.
+fn is_prefix(ranks: &[Rank], list: &[Rank]) -> bool
+    ensures { result ≡ pieces.is_prefix rank_cmp ranks.now list.now }
+{
+    for (i, rank) in ranks.iter().enumerate() {
+        if i >= list.len() {
+            return false;
+        }
+        if list[i].0 != rank.0 {
+            return false;
+        }
+    }
+    true
+}
+
+// Whether the ranks are a piece of the list: a sublist, or a prefix.
+pub(crate) fn is_piece(anywhere: bool, ranks: &[Rank], list: &[Rank]) -> bool
+    ensures { result ≡ pieces.is_piece rank_cmp anywhere ranks.now list.now }
+{
+    if anywhere {
+        is_sublist(ranks, list)
+    } else {
+        is_prefix(ranks, list)
+    }
+}

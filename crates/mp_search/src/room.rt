@@ -1,0 +1,88 @@
+//! Lists with room, which take no memory once they are made.
+ghost use Rattle.std.specs.Prelude.{◌≡◌, ◌<◌, ◌≤◌, ◌+◌, ◌++◌, ◌∷◌, [], length, take, vec_capacity, IfOk};
+
+use std::alloc::{AllocError, Global};
+
+/// A list with room for so many items, which never changes.
+#[derive(Drop)]
+pub struct Room<T> {
+    pub items: Vec<T>,
+    pub room: usize,
+    ghost within: { length items.items ≤ room },
+    ghost reserved: { room ≤ vec_capacity items },
+}
+
+impl<T: Copy> Room<T> {
+    /// An empty list with that room. All memory that it ever needs is taken here.
+    pub fn new(alloc: Global, room: usize) -> Result<Room<T>, AllocError>
+        ensures empty { IfOk result (λ r. r.items.items ≡ []) }
+        ensures room { IfOk result (λ r. r.room ≡ room) }
+    {
+        let items = Vec::with_capacity(alloc, room)?;
+        Ok(Room { items, room })
+    }
+
+    /// Adds an item. There is room for it.
+    pub fn push(&mut self, item: T)
+        requires { length self.old.items.items < self.old.room }
+        ensures items { self.new.items.items ≡ self.old.items.items ++ item ∷ [] }
+        ensures room { self.new.room ≡ self.old.room }
+    {
+        self.items.push_reserved(item);
+    }
+
+    /// Leaves the first items.
+    pub fn truncate(&mut self, length: usize)
+        ensures items { self.new.items.items ≡ take length self.old.items.items }
+        ensures room { self.new.room ≡ self.old.room }
+    {
+        self.items.truncate(length);
+    }
+
+    /// Leaves nothing.
+    pub fn clear(&mut self)
+        ensures items { self.new.items.items ≡ [] }
+        ensures room { self.new.room ≡ self.old.room }
+    {
+        self.items.clear();
+    }
+
+    /// Puts other items in their place. There is room for them.
+    pub fn refill(&mut self, items: &[T])
+        requires { length items.now ≤ self.old.room }
+        ensures items { self.new.items.items ≡ items.now }
+        ensures room { self.new.room ≡ self.old.room }
+    {
+        self.items.clear();
+        match self.items.extend_from_slice(items) {
+            Ok(()) => {}
+            Err(_) => unreachable!(),
+        }
+    }
+
+    /// Adds the items. There is room for them.
+    pub fn append(&mut self, items: &[T])
+        requires { length self.old.items.items + length items.now ≤ self.old.room }
+        ensures items { self.new.items.items ≡ self.old.items.items ++ items.now }
+        ensures room { self.new.room ≡ self.old.room }
+    {
+        match self.items.extend_from_slice(items) {
+            Ok(()) => {}
+            Err(_) => unreachable!(),
+        }
+    }
+
+    /// How many items there are.
+    pub fn len(&self) -> usize
+        ensures { result ≡ length self.now.items.items }
+    {
+        self.items.len()
+    }
+
+    /// The items.
+    pub fn as_slice(&self) -> &[T]
+        ensures { result.now ≡ self.now.items.items }
+    {
+        self.items.as_slice()
+    }
+}

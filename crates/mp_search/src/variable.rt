@@ -1,0 +1,33 @@
+//! The numbers of variables in the trail.
+ghost use Rattle.std.specs.Prelude.{◌≡◌, Some, slice_get, option_map};
+ghost use Rattle.mp_pattern.specs.View.{pattern_tree};
+ghost use Rattle.mp_pattern.specs.Subpatterns.{subpatterns};
+ghost use Rattle.mp_pattern.specs.PlanView.{shown_label};
+ghost use Rattle.mp_search.specs.Numbers.{IsNumberAt, number_in};
+ghost use Rattle.mp_search.specs.Query.{IsQuery};
+
+use crate::query::Query;
+use mp_pattern::{Pattern, PlanNode};
+
+// The number of the variable that a node shows.
+fn number_in(node: &Option<PlanNode<'_>>) -> Option<u32>
+    ensures { result ≡ number_in (option_map shown_label node.now) }
+{
+    match node {
+        Some(PlanNode::Wild(_, number)) => *number,
+        _ => None,
+    }
+}
+
+// The number in the trail of the variable of the node, if it has one.
+pub(crate) fn number_at(query: &Query<'_>, child: &Pattern, node: u32) -> Option<u32>
+    requires query { IsQuery query.now }
+    requires child { slice_get (subpatterns query.now.plan.now.pattern) node ≡ Some (pattern_tree child.now) }
+    ensures { IsNumberAt query.now (pattern_tree child.now) result }
+{
+    let _ = child;
+    match number_in(&query.plan.node(node)) {
+        None => None,
+        Some(number) => Some(query.vars[number as usize]),
+    }
+}
