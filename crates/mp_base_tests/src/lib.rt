@@ -1,5 +1,5 @@
-//! Tests of the lowest libraries' public calls: devices, terms, substitutions, choices, and what texts are read as by
-//! tokens and grammar.
+//! Tests of the lowest libraries' public calls: devices, terms, tables, substitutions, choices, trails, resume tokens,
+//! and what texts are read as by tokens and grammar.
 #![tactic(auto)]
 
 #[cfg(test)]
@@ -15,4 +15,10 @@ mod syntax_texts;
 #[cfg(test)]
 mod syntax_trees;
 #[cfg(test)]
+mod tables;
+#[cfg(test)]
 mod terms;
+#[cfg(test)]
+mod tokens;
+#[cfg(test)]
+mod trails;

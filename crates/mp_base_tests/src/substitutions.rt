@@ -13,7 +13,7 @@ use std::cmp::Ordering;
 use std::test::Fail;
 
 // The symbols of the letters.
-fn symbols(alloc: Global, letters: &[u8]) -> Result<Terms, Fail> {
+pub(crate) fn symbols(alloc: Global, letters: &[u8]) -> Result<Terms, Fail> {
     let mut terms = Terms::new(alloc);
     for letter in letters {
         terms.push(Term::Sym(Name::new(alloc, &[*letter])?))?;
@@ -22,7 +22,7 @@ fn symbols(alloc: Global, letters: &[u8]) -> Result<Terms, Fail> {
 }
 
 // A symbol, a tuple of symbols as (ba), or a multiset of symbols as {ab}.
-fn value(alloc: Global, text: &[u8]) -> Result<Value, Fail> {
+pub(crate) fn value(alloc: Global, text: &[u8]) -> Result<Value, Fail> {
     match text {
         [b'(', letters @ .., _] => Ok(Value::Seq(symbols(alloc, letters)?)),
         [b'{', letters @ .., _] => Ok(Value::Bag(symbols(alloc, letters)?)),

@@ -7,6 +7,8 @@ mod alone;
 #[cfg(test)]
 mod case;
 #[cfg(test)]
+mod constants;
+#[cfg(test)]
 mod edits;
 #[cfg(test)]
 mod faults;
@@ -14,6 +16,8 @@ mod faults;
 mod lists;
 #[cfg(test)]
 mod printed;
+#[cfg(test)]
+mod ranks;
 mod reading;
 
 pub use reading::{NotRead, file, halves, pattern, plan, term};

@@ -171,7 +171,8 @@ enum Sort {
     File,
 }
 
-fn sink(alloc: Global) -> Result<MemorySink, Fail> {
+/// A sink of 200 bytes.
+pub fn sink(alloc: Global) -> Result<MemorySink, Fail> {
     match MemorySink::new(alloc, 200, Vec::new(alloc)) {
         Ok(sink) => Ok(sink),
         Err(_) => Err("memory ran out".into()),
