@@ -18,9 +18,8 @@ ghost use Rattle.mp_search.specs.Wanted.{good, AreComplete};
 use crate::end::end_of;
 use crate::judge::fails;
 use crate::level::Level;
-use crate::may_match::has_firm;
 use crate::query::Query;
-use crate::rivals::mark_rivals;
+use crate::rivals::{has_rival, mark_rivals};
 use crate::site::Site;
 use crate::supply::are_lacking;
 use crate::under::comm_above;
@@ -49,13 +48,22 @@ fn lacks_terms(query: &Query<'_>, site: &Site<'_>, own: &Level, trail: &Trail) -
         (machine.onward (site_place query.now site.now fs) (entry_of query.now.table.now own.now))
         (subst_of query.now trail.now) ≡ [] }
 {
-    if !comm_above(query.sig, site.under) || !has_firm(query.sig, site.later) {
+    if !comm_above(query.sig, site.under) || !has_rival(query, site) {
         return false;
     }
     let node = later_node(query, site);
     let mut places = [usize::MAX; MOST_RIVALS];
     let mut marks = [false; MOST_RIVALS];
-    if !mark_rivals(query, site, own, trail, node, &mut places, &mut marks) {
+    let many = site.later.len().min(MOST_RIVALS);
+    if !mark_rivals(
+        query,
+        site,
+        own,
+        trail,
+        node,
+        &mut places[..many],
+        &mut marks,
+    ) {
         return false;
     }
     are_lacking(

@@ -85,16 +85,6 @@ pub(crate) fn is_firm(sig: &Signature, child: &Pattern) -> bool {
     }
 }
 
-// Whether some child is so.
-pub(crate) fn has_firm(sig: &Signature, children: &[Pattern]) -> bool {
-    for child in children {
-        if is_firm(sig, child) {
-            return true;
-        }
-    }
-    false
-}
-
 // Whether the wildcard is of no kind, or of the symbol's.
 fn is_of_its_kind(sig: &Signature, table: &Table, shape: &Shape, rank: Rank) -> bool
     requires { HasRank table.now rank }
