@@ -80,13 +80,23 @@ module _ (q : Query) (k : ℕ) (L : List Level) (p : Place) (within : k < length
     spare = omega (arith, within, wild-load w x i, h.spare, s);
   }
 
+  -- it takes no more of the room than the place grows less, and three
+  pub wild-spare : (w : Wildcard) (x : Option (List ℕ)) (t u : Trail) → pattern_tree p.child.now ≡ wild_pattern w x
+      → t.spare ≤ u.spare + (length e.terms + 3)
+      → t.spare + load (place_after q (take (k + 1) L)) ≤ u.spare + (load n + 3)
+  wild-spare w x t u i s = omega (arith, wild-load w x i, s)
+
+  -- no more is left behind any entry
+  plain-load : load (place_after q (take (k + 1) L)) ≤ load n
+  plain-load = subst (λ j. load (place_after q (take j L)) ≤ load n) (one_more k)
+      (subst (λ m. load m ≤ load n) (sym (place-suc q k L within)) (load-onward q.sig.now n e allowed))
+
   -- so it is where nothing is bound
   pub plain-trail : (t : Trail) → HasTrail q k L t → HasTrail q (k + 1) L t
-  plain-trail t h =
-      let less : load (place_after q (take (k + 1) L)) ≤ load n =
-      subst (λ j. load (place_after q (take j L)) ≤ load n) (one_more k)
-      (subst (λ m. load m ≤ load n) (sym (place-suc q k L within)) (load-onward q.sig.now n e allowed)) in
-      record { trail = h.trail; vars = h.vars; spare = omega (arith, less, h.spare) }
+  plain-trail t h = record { trail = h.trail; vars = h.vars; spare = omega (arith, plain-load, h.spare) }
+
+  pub plain-spare : (t : Trail) → t.spare + load (place_after q (take (k + 1) L)) ≤ t.spare + (load n + 3)
+  plain-spare t = omega (arith, plain-load)
 
   -- and what is said is solved
   pub plain-bound : (s : Subst) → ((w : Shape) (x : Option (List ℕ)) → p.child.now ≡ Wild w x → ⊥)

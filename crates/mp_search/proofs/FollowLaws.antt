@@ -1,6 +1,6 @@
 -- What a search counts on behind an entry that is bound, and what it finds there.
-use Rattle.std.proofs.Common.{◌≡◌, ℕ, suc, ◌<◌, ◌+◌, ◌-◌, List, [], ◌∷◌, map, take, drop, length, Bool, true, false}
-use Rattle.std.proofs.Common.{refl, ap, sym, ◌∙◌, subst, arith}
+use Rattle.std.proofs.Common.{◌≡◌, ℕ, suc, ◌<◌, ◌≤◌, ◌+◌, ◌-◌, List, [], ◌∷◌, map, take, drop, length, Bool}
+use Rattle.std.proofs.Common.{true, false, refl, ap, sym, ◌∙◌, subst, arith}
 use Rattle.std.specs.Prelude.{filter, Option, Some, slice_get, slice_index_or, MatchBool}
 use Rattle.mp_term.specs.Order.{tree_cmp}
 use Rattle.mp_term.specs.Pieces.{without}
@@ -12,6 +12,7 @@ use Rattle.mp_theory.specs.Solve.{solve}
 use Rattle.mp_theory.specs.Frames.{Next}
 use Rattle.mp_theory.specs.Items.{items, behind}
 use Rattle.mp_theory.specs.Machine.{onward, said}
+use Rattle.mp_theory.specs.Narrow.{load}
 use Rattle.mp_theory.specs.OneList.{Item}
 use Rattle.mp_theory.specs.Trail.{allows}
 use Rattle.mp_search.specs.declared.level.Level.{Level}
@@ -165,21 +166,31 @@ found q k m L L1 L2 b s r v within l1 l2 same front1 front2 bound h =
     entries q xs ys k h = ap (λ T. slice_index_or T k nothing) h
 
 -- what is kept of levels and of the trail
-pub kept : (q : Query) (k : ℕ) (L L1 L2 : List Level) (t u v : Trail) → KeepsLevels q k L L1
-    → cut (length t.stack) u ≡ t → Keeps q (k + 1) L1 L2 u v → Keeps q k L L2 t v
-kept q k L L1 L2 t u v l c h = record {
+pub kept : (q : Query) (k : ℕ) (L L1 L2 : List Level) (t u v : Trail) → k < length L → KeepsLevels q k L L1
+    → table_of q.table.now L1 ≡ table_of q.table.now L → cut (length t.stack) u ≡ t
+    → t.spare + load (place_after q (take (k + 1) L)) ≤ u.spare + (load (place_after q (take k L)) + 3)
+    → Keeps q (k + 1) L1 L2 u v → Keeps q k L L2 t v
+kept q k L L1 L2 t u v within l same c s h = record {
   front = take-less k L2 L1 (subst (λ i. take i L2 ≡ take i L1) (sym (one_more k)) h.front) ∙ l.front;
   many = h.many ∙ l.many;
   levels = h.levels;
   cut = cut-kept t u v c h.cut;
   trail = h.trail;
+  spare = omega (arith, within, s, ap load (place-same q (k + 1) L1 L same), l.many, h.spare);
 }
 
 -- what is kept of levels is kept with a trail that isn't changed
 pub kept-levels : (q : Query) (k : ℕ) (old new : List Level) (t u : Trail) → KeepsLevels q k old new → u ≡ t
     → GoesWith q.table.now t → Keeps q k old new t u
 kept-levels q k old new t u h e g = subst (λ v. Keeps q k old new t v) (sym e)
-    (record { front = h.front; many = h.many; levels = h.levels; cut = cut-whole t; trail = g })
+    (record {
+      front = h.front;
+      many = h.many;
+      levels = h.levels;
+      cut = cut-whole t;
+      trail = g;
+      spare = omega arith;
+    })
 
 -- what is kept after levels alone
 pub kept-after : (q : Query) (k : ℕ) (old new last : List Level) (t u v : Trail) → KeepsLevels q k old new → u ≡ t
@@ -190,4 +201,5 @@ kept-after q k old new last t u v h e i = record {
   levels = i.levels;
   cut = subst (λ w. cut (length w.stack) v ≡ w) e i.cut;
   trail = i.trail;
+  spare = omega (arith, ap (λ w. w.spare) e, ap (λ ls. load (place_after q ls)) h.front, h.many, i.spare);
 }

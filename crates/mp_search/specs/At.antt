@@ -111,14 +111,15 @@ items_with q k ls s e = items_by q.sig.now (length ls - suc k) (place_after q (t
 abbrev pub IsFound : Query → Bool → List Item → List Level → Trail → Type 0
 IsFound q b is ls t = MatchBool b (HasFirst q is ls t) (is ≡ [])
 
--- what a search keeps from node k on: the levels below, how many there are, what holds of levels, and the trail below
--- what is bound
+-- what a search keeps from node k on: the levels below, how many there are, what holds of levels, the trail below what
+-- is bound, and the room but for what it was to have
 pub record Keeps (q : Query) (k : ℕ) (old new : List Level) (t u : Trail) : Type 0 where
   pub front : take k new ≡ take k old
   pub many : length new ≡ length old
   pub levels : AreLevels q.table.now (width q) new
   pub cut : cut (length t.stack) u ≡ t
   pub trail : GoesWith q.table.now u
+  pub spare : t.spare ≤ u.spare + (load (place_after q (take k old)) + 3 * (length old - k))
 
 -- the same of the levels alone
 pub record KeepsLevels (q : Query) (k : ℕ) (old new : List Level) : Type 0 where

@@ -1,10 +1,11 @@
 //! The search for the first table, for the first one after another, or for one alone.
-ghost use Rattle.std.specs.Prelude.{◌≡◌, ◌<◌, ◌≤◌, ◌+◌, ◌-◌, true, take, drop, length, filter, flat_map, IsTrue};
+ghost use Rattle.std.specs.Prelude.{◌≡◌, ◌<◌, ◌≤◌, ◌+◌, ◌-◌, ◌*◌, true, take, drop, length, filter, flat_map, IsTrue};
 ghost use Rattle.mp_term.specs.Listing.{In};
 ghost use Rattle.mp_term.specs.Order.{tree_cmp};
 ghost use Rattle.mp_term.specs.Pieces.{without};
 ghost use Rattle.mp_theory.specs.Frames as walk;
 ghost use Rattle.mp_theory.specs.Items.{items};
+ghost use Rattle.mp_theory.specs.Narrow.{load};
 ghost use Rattle.mp_theory.specs.Trail.{allows};
 ghost use Rattle.mp_subst.specs.Trail.{GoesWith, cut};
 ghost use Rattle.mp_search.specs.At.{IsAt, IsAtNode, HasTrail, IsDrawn, Keeps, IsFound, drawn_at, own_at, items_from};
@@ -244,7 +245,8 @@ fn search<'a>(
 /// the table at hand, or for that one alone, where the condition holds of its substitution (`wanted` of
 /// `specs/Wanted.antt`). True says that the levels have the first table that is wanted, and the trail its substitution;
 /// false, that there is none. What was bound before is bound below (`kept`), so that an undo to the length that the
-/// trail had gives it again.
+/// trail had gives it again. Of the trail's room it takes no more than the nodes of what is left at the start, and
+/// three for each level (`spare`), whether it finds a table or not.
 ///
 /// What must hold is `IsReady` of `specs/Query.antt`; where one looks for what comes after the table at hand, that is
 /// the table of an item (`IsStanding`); and where there is a condition, each item has a value for each variable
@@ -261,6 +263,9 @@ pub fn find(query: &Query<'_>, levels: &mut [Level], trail: &mut Trail, mode: Mo
     ensures many { length levels.new ≡ length levels.old }
     ensures levels { AreLevels query.now.table.now (width query.now) levels.new }
     ensures kept { cut (length trail.old.stack) trail.new ≡ trail.old }
+    ensures vars { trail.new.vars ≡ trail.old.vars }
+    ensures room { trail.new.room ≡ trail.old.room }
+    ensures spare { trail.old.spare ≤ trail.new.spare + (load (start_of query.now) + 3 * length levels.old) }
     ensures trail { GoesWith query.now.table.now trail.new }
 {
     let root = Stack::Root;

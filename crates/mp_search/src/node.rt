@@ -94,6 +94,8 @@ pub(crate) fn bind_at(
         (machine.said (place_after query.now (take k levels.now)) (entry_at query.now.table.now levels.now k)) in
         MatchBool result (o ≡ Some (subst_of query.now trail.new)) (o ≡ None) }
     ensures kept { cut (length trail.old.stack) trail.new ≡ trail.old }
+    ensures spare { trail.old.spare + load (place_after query.now (take (k + 1) levels.now))
+        ≤ trail.new.spare + (load (place_after query.now (take k levels.now)) + 3) }
     ensures trail { HasTrail query.now (k + 1) levels.now trail.new }
 {
     match place.child {

@@ -2,7 +2,8 @@ use Rattle.std.proofs.Common.{◌+◌, ◌≤◌, ◌∙◌, ap, subst, length, 
 use Rattle.mp_pattern.specs.View.{pattern_tree, wildcard}
 use Rattle.mp_search.specs.Reading.{subst_of}
 use Rattle.mp_subst.proofs.TrailLaws.{cut-whole}
-use Rattle.mp_search.proofs.BindAtLaws.{wild-room, wild-trail, plain-trail, plain-bound, length-taken}
+use Rattle.mp_search.proofs.BindAtLaws.{wild-room, wild-trail, wild-spare, plain-trail, plain-bound}
+use Rattle.mp_search.proofs.BindAtLaws.{plain-spare, length-taken}
 use Rattle.mp_search.proofs.node.bind_at.Goals as goal
 
 pub bind-requires-clause-spare : goal.bind-requires-clause-spare
@@ -29,6 +30,18 @@ returns-in-Wild-clause-trail c =
     (subst (λ n. c.args.trail.now.spare ≤ c.bind.new.trail.spare + (n + 3))
     (same ∙ length-taken q.table.now L k own.result c.requires.within) c.bind.ensures.spare) c.bind.ensures.trail
 
+pub returns-in-Wild-clause-spare : goal.returns-in-Wild-clause-spare
+returns-in-Wild-clause-spare c =
+    let q = c.args.query.now in
+    let L = c.args.levels.now in
+    let k = c.args.k in
+    let own = c.index-levels-k in
+    let same = ap (λ l. length l.take.items.items) own.is in
+    wild-spare q k L c.args.place.now c.requires.within c.requires.place c.requires.allowed
+    (wildcard c.in-Wild.field-0) c.in-Wild.field-1 c.args.trail.now c.bind.new.trail (ap pattern_tree c.in-Wild.is)
+    (subst (λ n. c.args.trail.now.spare ≤ c.bind.new.trail.spare + (n + 3))
+    (same ∙ length-taken q.table.now L k own.result c.requires.within) c.bind.ensures.spare)
+
 pub returns-in_default : goal.returns-in_default
 returns-in_default c =
     let q = c.args.query.now in
@@ -39,5 +52,6 @@ returns-in_default c =
     record {
       bound = plain-bound q k L p r.within r.place r.allowed (subst_of q c.args.trail.now) c.in_default.not-Wild;
       kept = cut-whole c.args.trail.now;
+      spare = plain-spare q k L p r.within r.place r.allowed c.args.trail.now;
       trail = plain-trail q k L p r.within r.place r.allowed c.args.trail.now r.trail;
     }
