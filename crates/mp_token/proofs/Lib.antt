@@ -3,5 +3,7 @@ mod EndedTexts
 mod Runs
 mod TokenRuns
 mod ReadTexts
-mod SpellingLaws
+pub mod SpellingLaws
+pub mod SpellingFaults
+pub mod FrontTexts
 mod Examples

@@ -113,7 +113,7 @@ run_refuses bytes refused h =
     cc
 
 -- the token that is read is the one that the bytes spell
-run_spells : (bytes : Text) (s t : State) → run start bytes ≡ Some s → end_step s s.spot ≡ Some t
+pub run_spells : (bytes : Text) (s t : State) → run start bytes ≡ Some s → end_step s s.spot ≡ Some t
     → IsSpelling bytes (token_of t)
 run_spells bytes s t is ended =
     let h : IfSome (Some t) (Ends bytes) =

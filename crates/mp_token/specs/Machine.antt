@@ -1,5 +1,5 @@
 -- Reading a token byte by byte: each byte leads from a state to the next, or is refused.
-use Rattle.std.specs.Prelude.{ℕ, ◌+◌, ◌-◌, ◌*◌, ◌^◌, ◌==◌, Bool, true, false, ◌&&◌, List, [], ◌∷◌, ◌++◌, length}
+use Rattle.std.specs.Prelude.{ℕ, suc, ◌+◌, ◌-◌, ◌*◌, ◌^◌, ◌==◌, Bool, true, false, ◌&&◌, List, [], ◌∷◌, ◌++◌, length}
 use Rattle.std.specs.Prelude.{nat_lt, Option, Some, None, option_map, if◌then◌else◌, ◌≡◌, MatchOption, ⊤}
 use Rattle.std.specs.Char.{is_ascii_digit}
 use Rattle.mp_io.specs.Devices.{Text}
@@ -127,3 +127,18 @@ IsEndFault ended count fault.Memory = ⊤
 -- the token that is read, where the bytes end behind an entry
 abbrev pub token_of : State → Token
 token_of s = record { subject = s.subject; rule = s.rule; entries = s.entries }
+
+-- a number more
+abbrev pub one_more : Option ℕ → Option ℕ
+one_more None = None
+one_more (Some n) = Some (suc n)
+
+-- With how many of the bytes a token begins that goes on so behind the state, where they don't spell one: no byte may
+-- come that leads nowhere, and none may be missing.
+abbrev pub stopped_at : State → Text → Option ℕ
+stopped_at s [] = elim (end_step s s.spot) [ None ↦ Some 0 | Some t ↦ None ]
+stopped_at s (b ∷ bs) = elim (step s b) [ None ↦ Some 0 | Some next ↦ one_more (stopped_at next bs) ]
+
+-- the same of the bytes of a whole token
+abbrev pub spelling_fault : Text → Option ℕ
+spelling_fault token = stopped_at start token
