@@ -1,5 +1,5 @@
 -- The bounds of a child, by the shares of its later siblings.
-use Rattle.std.proofs.Common.{◌≡◌, ℕ, zero, suc, ◌+◌, ◌-◌, ◌*◌, ◌/◌, ◌<◌, ◌≤◌, List, length, refl, ap, sym, ◌∙◌, subst}
+use Rattle.std.proofs.Common.{◌≡◌, ℕ, zero, ◌+◌, ◌-◌, ◌*◌, ◌/◌, ◌<◌, ◌≤◌, List, length, sym, subst}
 use Rattle.std.proofs.Common.{arith}
 use Rattle.std.specs.Prelude.{Option, Some, None, option_map, IfSome, map}
 use Rattle.std.proofs.Math.Nat.{le-div_iff_mul-le}
@@ -7,11 +7,10 @@ use Rattle.std.proofs.lemmas.List.{length-map}
 use Rattle.mp_term.specs.Order.{tree_cmp}
 use Rattle.mp_term.specs.OrderLaws.{tree_cmp_total, tree_same}
 use Rattle.mp_term.specs.Search.{In}
-use Rattle.mp_term.specs.Signature.{Sig}
 use Rattle.mp_term.specs.Tree.{Tree}
 use Rattle.mp_term.specs.Pieces.{without}
 use Rattle.mp_term.proofs.PiecesLaws.{length-without, sublist-from_piece}
-use Rattle.mp_pattern.specs.PatternTree.{Pattern, Patterns, patterns, wild_pattern}
+use Rattle.mp_pattern.specs.PatternTree.{Pattern, patterns}
 use Rattle.mp_pattern.specs.SoundRule.{sum_most}
 use Rattle.mp_pattern.specs.View.{pattern_tree}
 use Rattle.mp_pattern.specs.Value.{Subst}
@@ -32,7 +31,7 @@ use Rattle.mp_search.specs.declared.bounds.Bounds.{Bounds}
 use Rattle.mp_search.specs.declared.query.Query.{Query}
 use Rattle.mp_search.specs.declared.shares.Shares.{Shares}
 use Rattle.mp_search.specs.declared.site.Site.{Site}
-use Rattle.mp_search.specs.Bounds.{IsFreeOf, IsFree, AreBounds}
+use Rattle.mp_search.specs.Bounds.{TakesOne, IsFree, AreBounds}
 use Rattle.mp_search.specs.Frames.{above}
 use Rattle.mp_search.specs.Shares.{uses_in, rest_least, rest_most, IsUsed, AreShares}
 use Rattle.mp_search.specs.Site.{site_frame, site_place}
@@ -109,6 +108,27 @@ module _ (q : Query) (x : Site) (s : Subst) where
       let d = subst (λ r. In e (choices sig (walk r fs))) f.child c in
       let j = subst (λ r. In i (items_by sig k (walk r fs) s e)) f.child m in
       omega (arith, uses-left sig z k f.wildcard f.name frame fs s e i f.required f.free d j)
+
+  -- a child that takes one term has that bound
+  pub bounds-one : TakesOne q.sig.now frame.under p → (b : Bounds) → b.uses ≡ 1 → b.least ≡ 1 → b.most ≡ 1
+      → AreBounds q x s b
+  bounds-one o b u l m = record {
+    some = omega (arith, u);
+    lengths = λ fs k e i c j.
+        let w = within q.sig.now p frame.under e.terms e.collapsed
+        ((choices-exact q.sig.now p frame fs e.terms e.collapsed).0 c).1 in
+        let high : length e.terms ≤ 1 = subst (AtMost (length e.terms)) o.1 w.1 in
+        (omega (arith, l, o.0, w.0), omega (arith, m, high));
+    counts = λ fs k e i z c j.
+        let there = ((choices-exact q.sig.now p frame fs e.terms e.collapsed).0 c).0 in
+        let few : 1 * count z e.terms ≤ count z left = omega (
+          arith,
+          count-without z e.terms left
+              (sublist-from_piece tree_cmp tree_cmp_total tree_same (comm_above q.sig.now frame.under) e.terms left
+              there),
+        ) in
+        subst (λ n. n * count z e.terms ≤ count z left) (sym u) few;
+  }
 
   -- so they are bounds
   pub bounds-are : (v : Option ℕ) (f : IsFree q x s v) (b : Bounds) (found : Shares)

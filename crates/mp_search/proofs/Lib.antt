@@ -23,6 +23,7 @@ pub mod TriedLaws
 pub mod FollowLaws
 pub mod VisitLaws
 pub mod PieceLaws
+pub mod FirstPlace
 pub mod PartLaws
 pub mod MatchLaws
 pub mod LackLaws
@@ -40,4 +41,5 @@ pub mod BindAtLaws
 pub mod ShareLaws
 pub mod BoundsLaws
 pub mod PortionLaws
+pub mod HeadedLaws
 pub mod PoolLaws

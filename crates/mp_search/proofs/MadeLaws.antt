@@ -1,7 +1,7 @@
 -- What is drawn leads to all that comes, where each choice with an item is drawn.
-use Rattle.std.proofs.Common.{◌≡◌, ℕ, ◌-◌, ◌<◌, ◌≤◌, List, [], ◌∷◌, ◌++◌, length, Bool, true, false, refl}
-use Rattle.std.proofs.Common.{ap, sym}
-use Rattle.std.proofs.Common.{◌∙◌, ◌⊎◌, inl, inr, subst, arith}
+use Rattle.std.proofs.Common.{◌≡◌, ℕ, List, [], ◌∷◌, Bool, true, false, refl}
+use Rattle.std.proofs.Common.{sym}
+use Rattle.std.proofs.Common.{◌⊎◌, inl, inr, subst}
 use Rattle.std.specs.Prelude.{if◌then◌else◌}
 use Rattle.std.proofs.lemmas.List.Kept.{IsStrictlySortedBy-filter}
 use Rattle.mp_term.specs.Order.{tree_cmp, shortlex}
@@ -9,9 +9,9 @@ use Rattle.mp_term.specs.OrderLaws.{tree_cmp_total, tree_same, shortlex_total}
 use Rattle.mp_term.specs.Search.{In}
 use Rattle.mp_term.specs.Signature.{Sig}
 use Rattle.mp_term.specs.Tree.{Tree}
-use Rattle.mp_term.specs.Pieces.{without, is_piece}
-use Rattle.mp_term.proofs.PiecesLaws.{length-without, sublist-from_piece, from_in-range_with_len, in-distinct}
-use Rattle.mp_term.proofs.SearchLaws.{in-filter, from_in-filter, in-map, all-from_in}
+use Rattle.mp_term.specs.Pieces.{is_piece}
+use Rattle.mp_term.proofs.PiecesLaws.{in-distinct}
+use Rattle.mp_term.proofs.SearchLaws.{in-filter, from_in-filter, all-from_in}
 use Rattle.mp_pattern.specs.PatternTree.{Pattern}
 use Rattle.mp_pattern.specs.View.{pattern_tree}
 use Rattle.mp_pattern.specs.Value.{Subst}
@@ -19,17 +19,11 @@ use Rattle.mp_pattern.specs.Variables.{comm_above}
 use Rattle.mp_pattern.specs.DerivationOrder.{entry_cmp}
 use Rattle.mp_pattern.specs.Fits.{Entry}
 use Rattle.mp_table.specs.Table.{HasRanks, terms_at}
-use Rattle.mp_theory.specs.Frames.{Frame, child}
-use Rattle.mp_theory.specs.Machine.{entries, onward, reads, choices}
+use Rattle.mp_theory.specs.Frames.{Frame}
+use Rattle.mp_theory.specs.Machine.{entries, reads, choices}
 use Rattle.mp_theory.specs.OneList.{Item}
-use Rattle.mp_theory.specs.Items.{items, items_by}
-use Rattle.mp_theory.specs.Trail.{derivations, listed_by}
-use Rattle.mp_theory.specs.Within.{leaves_within, fewest, length_limit}
-use Rattle.mp_theory.proofs.Bounds.{within, in-lengths}
-use Rattle.mp_theory.proofs.ItemLaws.{front, derivations-items}
-use Rattle.mp_theory.proofs.KeptValues.{item-by}
+use Rattle.mp_theory.specs.Items.{items_by}
 use Rattle.mp_theory.proofs.Leading.{leads-items}
-use Rattle.mp_theory.proofs.Pruning.{derivations_by-outside}
 use Rattle.mp_theory.proofs.Tables.{entries-ascending}
 use Rattle.mp_theory.proofs.Walk.{in-entries, from_in-entries, choices-exact}
 use Rattle.mp_search.specs.declared.level.Level.{Level}

@@ -1,5 +1,5 @@
 -- The number that a plan gives the variable of a node.
-use Rattle.std.proofs.Common.{◌≡◌, ℕ, ◌+◌, ◌<◌, List, [], ◌∷◌, map, length, refl, ap, sym, ◌∙◌, arith, subst}
+use Rattle.std.proofs.Common.{◌≡◌, ℕ, ◌+◌, ◌<◌, List, [], ◌∷◌, map, length, refl, ap, sym, ◌∙◌, subst}
 use Rattle.std.proofs.Common.{slice_index_or}
 use Rattle.std.specs.Prelude.{Option, Some, None, slice_get, option_map, position}
 use Rattle.std.proofs.lemmas.Option.{slice_get_within, slice_get-get_or}
@@ -9,11 +9,11 @@ use Rattle.mp_pattern.specs.Size.{pattern_nodes}
 use Rattle.mp_pattern.specs.Subpatterns.{subpatterns}
 use Rattle.mp_pattern.specs.Value.{Form, same_name}
 use Rattle.mp_pattern.specs.Variables.{variables, variable_form}
-use Rattle.mp_pattern.specs.Plan.{Label, wild_label, Node, Variable, Plan, nodes, plan_of, variable_number}
+use Rattle.mp_pattern.specs.Plan.{Label, Node, Variable, Plan}
 use Rattle.mp_search.specs.declared.query.Query.{Query}
 use Rattle.mp_search.specs.Numbers.{number_in, IsNumberOf, IsNumberAt}
 use Rattle.mp_search.specs.Query.{IsQuery}
-use Rattle.mp_search.proofs.NodeLaws.{label_of, IsNodeOf, plan_node, plan-length}
+use Rattle.mp_search.proofs.NodeLaws.{label_of, plan_node, plan-length}
 use Rattle.mp_search.proofs.NumberLaws.{in-slice_get, variable-place, distinct-variables, numbered}
 
 names-of : (g : List ℕ → Form) (xs : List (List ℕ))

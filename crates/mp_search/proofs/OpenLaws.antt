@@ -1,44 +1,25 @@
 -- What is left to a child ascends under a commutative operation.
-use Rattle.std.proofs.Common.{◌≡◌, ℕ, zero, suc, ◌+◌, ◌-◌, ◌<◌, ◌≤◌, List, [], ◌∷◌, length, Bool, true, false, refl, ap}
+use Rattle.std.proofs.Common.{◌≡◌, zero, suc, ◌+◌, List, [], ◌∷◌, Bool, true, false, ap}
 use Rattle.std.proofs.Common.{sym, ◌∙◌, subst, arith, get_or}
-use Rattle.std.specs.Prelude.{if◌then◌else◌, min, map}
+use Rattle.std.specs.Prelude.{if◌then◌else◌}
 use Rattle.std.specs.Ordering.{is_lt, is_gt, ordering_reverse}
 use Rattle.std.specs.declared.cmp.Ordering.{Ordering}
 use Rattle.std.specs.declared.cmp.Ordering.TheVariants.{Less, Equal, Greater}
 use Rattle.std.specs.Cmp.{IsTotalOrder}
 use Rattle.std.specs.List.Sorted.{IsSorted}
-use Rattle.std.proofs.lemmas.List.{length-map}
 use Rattle.mp_term.specs.Order.{tree_cmp}
-use Rattle.mp_term.specs.OrderLaws.{tree_cmp_total, tree_same}
-use Rattle.mp_term.specs.Search.{In}
 use Rattle.mp_term.specs.Sorting.{sorted}
 use Rattle.mp_term.specs.Tree.{Tree}
-use Rattle.mp_term.specs.Pieces.{is_piece}
-use Rattle.mp_term.proofs.PiecesLaws.{length-without, sublist-from_piece}
-use Rattle.mp_term.proofs.Sorting.{AtLeast, Ascends, ascends-sorted}
-use Rattle.mp_pattern.specs.PatternTree.{patterns}
-use Rattle.mp_pattern.specs.View.{pattern_tree}
-use Rattle.mp_pattern.specs.Value.{Subst}
+use Rattle.mp_term.proofs.Sorting.{Ascends, ascends-sorted}
 use Rattle.mp_pattern.specs.Variables.{comm_above}
-use Rattle.mp_pattern.specs.Fits.{Entry}
 use Rattle.mp_pattern.proofs.SortedLaws.{all-sorted}
-use Rattle.mp_table.specs.Table.{term_at, terms_at, HasRank, rank_cmp}
-use Rattle.mp_table.specs.declared.rank.Rank.{Rank}
+use Rattle.mp_table.specs.Table.{terms_at, HasRank, rank_cmp}
 use Rattle.mp_subst.proofs.BoundLaws.{sorted-terms, ranks_same}
-use Rattle.mp_theory.specs.Frames.{Frame}
-use Rattle.mp_theory.specs.Items.{items_by}
-use Rattle.mp_theory.specs.Machine.{choices}
-use Rattle.mp_theory.specs.OneList.{Item}
-use Rattle.mp_theory.specs.Within.{fewest, length_limit}
-use Rattle.mp_theory.proofs.Walk.{choices-exact}
-use Rattle.mp_search.specs.declared.level.Source.TheVariants.{Nothing, Front, Bag}
 use Rattle.mp_search.specs.declared.query.Query.{Query}
 use Rattle.mp_search.specs.declared.site.Site.{Site}
 use Rattle.mp_search.specs.Frames.{above}
-use Rattle.mp_search.specs.Made.{IsThere}
 use Rattle.mp_search.specs.Query.{IsQuery}
-use Rattle.mp_search.specs.Site.{IsSite, site_frame, site_place}
-use Rattle.mp_search.proofs.DrawnLaws.{among-exact}
+use Rattle.mp_search.specs.Site.{IsSite}
 use Rattle.mp_search.proofs.RankOrder.{rank_total}
 
 -- a list that ascends is sorted

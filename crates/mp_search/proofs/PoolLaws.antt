@@ -14,13 +14,12 @@ use Rattle.mp_search.specs.Numbers.{IsNumberAt}
 use Rattle.mp_search.specs.Reading.{name_at, subst_of}
 use Rattle.mp_search.specs.Shares.{is_optional_child}
 use Rattle.mp_search.proofs.SubstLaws.{value_of-subst_from}
-use Rattle.std.specs.Prelude.{if◌then◌else◌, min}
+use Rattle.std.specs.Prelude.{if◌then◌else◌}
 use Rattle.std.specs.List.Sorted.{IsSorted}
 use Rattle.std.specs.Ordering.{is_eq}
 use Rattle.std.specs.declared.cmp.Ordering.TheVariants.{Less, Equal, Greater}
-use Rattle.std.proofs.lemmas.List.{length-map}
 use Rattle.mp_term.specs.Order.{tree_cmp}
-use Rattle.mp_term.specs.OrderLaws.{tree_cmp_total, tree_same, nat_same}
+use Rattle.mp_term.specs.OrderLaws.{tree_cmp_total, tree_same}
 use Rattle.mp_term.specs.Search.{In}
 use Rattle.mp_term.specs.Sorting.{sorted}
 use Rattle.mp_term.specs.Tree.{Tree}
@@ -40,8 +39,10 @@ use Rattle.mp_subst.proofs.BoundLaws.{sorted-terms, ranks_same}
 use Rattle.mp_theory.specs.Frames.{Frame}
 use Rattle.mp_theory.specs.Items.{items_by}
 use Rattle.mp_theory.specs.Machine.{choices}
+use Rattle.mp_theory.specs.MayMatch.{may_match}
 use Rattle.mp_theory.specs.OneList.{Item}
 use Rattle.mp_theory.proofs.Cuts.{count, IsAscending, ascends-from, ascends-sublist, sorted-from, sublist-from_counts}
+use Rattle.mp_theory.proofs.Matching.{matched}
 use Rattle.mp_theory.proofs.PoolLaws.{sublist-then}
 use Rattle.mp_theory.proofs.Walk.{choices-exact}
 use Rattle.mp_search.specs.declared.bounds.Bounds.{Bounds}
@@ -50,7 +51,7 @@ use Rattle.mp_search.specs.declared.query.Query.{Query}
 use Rattle.mp_search.specs.declared.site.Site.{Site}
 use Rattle.mp_search.specs.Bounds.{AreBounds}
 use Rattle.mp_search.specs.Frames.{above}
-use Rattle.mp_search.specs.Portion.{is_at, occurrences}
+use Rattle.mp_search.specs.Portion.{is_at, occurrences, MayTake}
 use Rattle.mp_search.specs.Query.{IsQuery}
 use Rattle.mp_search.specs.Site.{IsSite, site_frame, site_place}
 use Rattle.mp_search.proofs.DrawnLaws.{among-exact}
@@ -140,7 +141,9 @@ module _ (q : Query) (x : Site) (h : IsQuery q) (k : IsSite q x) (s : Subst) (b 
 
   module _ (pool : List Rank) (held : HasRanks q.table.now pool) (g : comm ≡ true)
       (part : is_sublist rank_cmp pool x.left.now ≡ true)
-      (enough : (z : Rank) (m : ℕ) → b.uses * m ≤ occurrences z x.left.now → m ≤ occurrences z pool) where
+      (looks : Bool) (single : looks ≡ true → b.most ≤ 1)
+      (enough : (z : Rank) (m : ℕ) → MayTake q x s looks z → b.uses * m ≤ occurrences z x.left.now
+      → m ≤ occurrences z pool) where
     abbrev some_terms : List Tree
     some_terms = terms_at q.table.now pool
 
@@ -150,16 +153,39 @@ module _ (q : Query) (x : Site) (h : IsQuery q) (k : IsSite q x) (s : Subst) (b 
     among : is_sublist tree_cmp some_terms left ≡ true
     among = is_sublist-terms q.table.now h.table.ascending pool x.left.now held k.left ∙ part
 
-    -- the pool has enough of each term
-    has_enough : (z : Tree) (m : ℕ) → b.uses * m ≤ count z left → m ≤ count z some_terms
-    has_enough z zero n = omega arith
-    has_enough z (suc m) n =
+    -- the pool has enough of each term that the child may match, where that is looked at
+    has_enough : (z : Tree) (m : ℕ)
+        → (1 ≤ m → looks ≡ true → may_match q.sig.now s (above x.under) (pattern_tree x.child.now) z ≡ true)
+        → b.uses * m ≤ count z left → m ≤ count z some_terms
+    has_enough z zero w n = omega arith
+    has_enough z (suc m) w n =
         let f = count-found q.table.now h.table z x.left.now k.left (omega (arith, n, mul-suc b.uses m, a.some)) in
         let l = count-rank q.table.now h.table f.0 x.left.now f.1 k.left in
         let p = count-rank q.table.now h.table f.0 pool f.1 held in
         let there : b.uses * suc m ≤ occurrences f.0 x.left.now =
         subst (λ j. b.uses * suc m ≤ j) (ap (λ u. count u left) f.2 ∙ l) n in
-        omega (arith, enough f.0 (suc m) there, p, ap (λ u. count u some_terms) f.2)
+        let matches : MayTake q x s looks f.0 =
+        λ o. subst (λ u. may_match q.sig.now s (above x.under) (pattern_tree x.child.now) u ≡ true) f.2
+        (w (omega arith) o) in
+        omega (arith, enough f.0 (suc m) matches there, p, ap (λ u. count u some_terms) f.2)
+
+    -- a choice with an item has none but such
+    entry-matches : (fs : List Frame) (j : ℕ) (e : Entry) (i : Item) (z : Tree)
+        → In e (choices q.sig.now (site_place q x fs)) → In i (items_by q.sig.now j (site_place q x fs) s e)
+        → 1 ≤ count z e.terms → looks ≡ true
+        → may_match q.sig.now s (above x.under) (pattern_tree x.child.now) z ≡ true
+    entry-matches fs j e i z c m n o =
+        let few : length e.terms ≤ 1 = omega (arith, single o, (a.lengths fs j e i c m).1) in
+        matched q.sig.now j (pattern_tree x.child.now) (site_frame q x) fs s e z i c m (alone e.terms few n)
+      where
+        alone : (l : List Tree) → length l ≤ 1 → 1 ≤ count z l → l ≡ z ∷ []
+        alone [] f n = absurd (omega (arith, n))
+        alone (t ∷ []) f n = elim (is_eq (tree_cmp z t)) as (λ c. is_eq (tree_cmp z t) ≡ c
+            → 1 ≤ (if c then 1 else 0) + 0 → t ∷ [] ≡ z ∷ []) [
+              | true ↦ λ e l. ap (λ u. u ∷ []) (sym (same-sound tree_cmp tree_cmp_total tree_same z t e))
+              | false ↦ λ e l. absurd (omega (arith, l))
+            ] refl n
+        alone (t ∷ u ∷ l) f n = absurd (omega (arith, f))
 
     pub bounds-pool : Draws q x s (Bag b.least b.most) some_terms
     bounds-pool = record {
@@ -171,7 +197,7 @@ module _ (q : Query) (x : Site) (h : IsQuery q) (k : IsSite q x) (s : Subst) (b 
           let p = subst (λ c. is_piece tree_cmp c e.terms left ≡ true) g (there-item fs e c).0 in
           let sub = sublist-from_counts e.terms some_terms (ascends-sublist e.terms left p in_order)
           (ascends-sublist some_terms left among in_order)
-          (λ z. has_enough z (count z e.terms) (a.counts fs j e i z c m)) in
+          (λ z. has_enough z (count z e.terms) (entry-matches fs j e i z c m) (a.counts fs j e i z c m)) in
           (among-exact tree_cmp tree_cmp_total tree_same true b.least b.most e.terms some_terms).1 (
             o.0,
             omega (arith, o.1, length-without tree_cmp tree_cmp_total tree_same e.terms some_terms sub),

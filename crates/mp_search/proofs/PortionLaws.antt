@@ -7,11 +7,10 @@ use Rattle.std.specs.Prelude.{if◌then◌else◌}
 use Rattle.std.specs.Ordering.{is_lt, nat_cmp}
 use Rattle.std.specs.List.Sorted.{IsSorted}
 use Rattle.std.proofs.lemmas.Cmp.{by_ranked, ranked}
-use Rattle.std.proofs.Common.{length-drop}
-use Rattle.std.proofs.Math.ListN.{drop_of_length-le}
+use Rattle.std.proofs.Common.{length-drop, length-append}
 use Rattle.mp_term.proofs.ListLaws.{drop-item}
 use Rattle.mp_term.specs.Pieces.{same, is_sublist}
-use Rattle.mp_term.proofs.PiecesLaws.{same-itself, nat_cmp-less}
+use Rattle.mp_term.proofs.PiecesLaws.{same-itself}
 use Rattle.mp_table.specs.Table.{rank_cmp}
 use Rattle.mp_table.specs.declared.rank.Rank.{Rank}
 use Rattle.mp_search.specs.Portion.{is_at, occurrences}
@@ -169,14 +168,14 @@ occurrences-push z [] r = omega arith
 occurrences-push z (s ∷ l) r = omega (arith, occurrences-push z l r)
 
 -- what is found so far and what is left have enough of the rank
-abbrev pub HasEnough : ℕ → List Rank → List Rank → List Rank → Type 0
-HasEnough u all l rest = (z : Rank) (m : ℕ) → u * m ≤ occurrences z all
+abbrev pub HasEnough : Rank → ℕ → List Rank → List Rank → List Rank → Type 0
+HasEnough z u all l rest = (m : ℕ) → u * m ≤ occurrences z all
     → (k : ℕ) × (m ≤ occurrences z l + k) × (u * k ≤ occurrences z rest)
 
-pub enough-push : (u : ℕ) (all l rest after : List Rank) (r : Rank)
-    → ((z : Rank) → occurrences z rest ≡ u * is_at z r + occurrences z after) → HasEnough u all l rest
-    → HasEnough u all (l ++ r ∷ []) after
-enough-push u all l rest after r e h z m n = fewer (h z m n).0 (h z m n).1 (h z m n).2
+pub enough-push : (z : Rank) (u : ℕ) (all l rest after : List Rank) (r : Rank)
+    → occurrences z rest ≡ u * is_at z r + occurrences z after → HasEnough z u all l rest
+    → HasEnough z u all (l ++ r ∷ []) after
+enough-push z u all l rest after r e h m n = fewer (h m n).0 (h m n).1 (h m n).2
   where
     fewer : (k : ℕ) → m ≤ occurrences z l + k → u * k ≤ occurrences z rest
         → (j : ℕ) × (m ≤ occurrences z (l ++ r ∷ []) + j) × (u * j ≤ occurrences z after)
@@ -186,18 +185,33 @@ enough-push u all l rest after r e h z m n = fewer (h z m n).0 (h z m n).1 (h z 
           | true ↦ λ q.
               let one : is_at z r ≡ 1 = ap (λ c. if c then 1 else 0) q in
               let whole : occurrences z rest ≡ u * 1 + occurrences z after =
-              e z ∙ ap (λ c. u * c + occurrences z after) one in
+              e ∙ ap (λ c. u * c + occurrences z after) one in
               (k, omega (arith, a, occurrences-push z l r, one), omega (arith, b, whole, mul-suc u k))
           | false ↦ λ q.
               let none : is_at z r ≡ 0 = ap (λ c. if c then 1 else 0) q in
               let whole : occurrences z rest ≡ u * 0 + occurrences z after =
-              e z ∙ ap (λ c. u * c + occurrences z after) none in
+              e ∙ ap (λ c. u * c + occurrences z after) none in
               (suc k, omega (arith, a, occurrences-push z l r, none), omega (arith, b, whole))
         ] refl
 
-pub enough-skip : (u : ℕ) (all l after : List Rank) (r : Rank) → occurrences r (r ∷ after) < u
-    → HasEnough u all l (r ∷ after) → HasEnough u all l after
-enough-skip u all l after r few h z m n = fewer (h z m n).0 (h z m n).1 (h z m n).2
+-- another rank is passed over
+pub enough-pass : (z : Rank) (u : ℕ) (all l rest after : List Rank) (r : Rank) → (z ≡ r → ⊥)
+    → occurrences z rest ≡ u * is_at z r + occurrences z after → HasEnough z u all l rest
+    → HasEnough z u all l after
+enough-pass z u all l rest after r other e h m n =
+    let found = h m n in
+    let none : is_at z r ≡ 0 = missed (nat_eq z.0 r.0) refl in
+    let whole : occurrences z rest ≡ u * 0 + occurrences z after =
+    e ∙ ap (λ c. u * c + occurrences z after) none in
+    (found.0, found.1, omega (arith, found.2, whole))
+  where
+    missed : (c : Bool) → nat_eq z.0 r.0 ≡ c → is_at z r ≡ 0
+    missed true q = absurd (other (ap (λ n. record { 0 = n }) (eqb-true z.0 r.0 q)))
+    missed false q = ap (λ b. if b then 1 else 0) q
+
+pub enough-skip : (z : Rank) (u : ℕ) (all l after : List Rank) (r : Rank) → occurrences r (r ∷ after) < u
+    → HasEnough z u all l (r ∷ after) → HasEnough z u all l after
+enough-skip z u all l after r few h m n = fewer (h m n).0 (h m n).1 (h m n).2
   where
     fewer : (k : ℕ) → m ≤ occurrences z l + k → u * k ≤ occurrences z (r ∷ after)
         → (j : ℕ) × (m ≤ occurrences z l + j) × (u * j ≤ occurrences z after)
@@ -274,24 +288,68 @@ module _ (list : List Rank) (place count : ℕ) (r d : Rank) (up : IsSorted rank
       front zero l = absurd (omega (arith, l))
       front (suc n) l = let e : suc n - 1 ≡ n = omega arith in ap (λ m. r ∷ take m (drop (place + 1) list)) (sym e)
 
+  -- and also where it isn't kept
+  pub pass-part : (l : List Rank) → is_sublist rank_cmp l (take place list) ≡ true
+      → is_sublist rank_cmp l (take (place + count) list) ≡ true
+  pass-part l h =
+      subst (λ xs. is_sublist rank_cmp l xs ≡ true) (sym (take-more place count list))
+      (sub-longer l (take place list) (take count (drop place list)) h)
+
+  -- so it is whether the rank is kept, or is none that is wanted
+  pub record IsPassed (Wanted : Rank → Type 0) (l : List Rank) : Type 0 where
+    pub few : length l ≤ place + count
+    pub part : is_sublist rank_cmp l (take (place + count) list) ≡ true
+    pub enough : (z : Rank) → Wanted z → HasEnough z count list l (drop (place + count) list)
+
+  pub portion-kept : (Wanted : Rank → Type 0) (l m : List Rank)
+      → (m ≡ l ++ r ∷ []) ⊎ ((m ≡ l) × (Wanted r → ⊥))
+      → ((z : Rank) → occurrences z (drop place list) ≡ count * is_at z r + occurrences z (drop (place + count) list))
+      → length l ≤ place → is_sublist rank_cmp l (take place list) ≡ true
+      → ((z : Rank) → Wanted z → HasEnough z count list l (drop place list)) → IsPassed Wanted m
+  portion-kept Wanted l m (inl k) whole few part enough = subst (IsPassed Wanted) (sym k) (record {
+    few = omega (arith, length-append l (r ∷ []), few, some);
+    part = portion-part l part;
+    enough = λ z w. enough-push z count list l (drop place list) (drop (place + count) list) r (whole z) (enough z w);
+  })
+  portion-kept Wanted l m (inr k) whole few part enough = subst (IsPassed Wanted) (sym k.0) (record {
+    few = omega (arith, few, some);
+    part = pass-part l part;
+    enough = λ z w. enough-pass z count list l (drop place list) (drop (place + count) list) r
+        (λ e. k.1 (subst Wanted e w)) (whole z) (enough z w);
+  })
+
   pub skip-part : (l : List Rank) → is_sublist rank_cmp l (take place list) ≡ true
       → is_sublist rank_cmp l (take (place + 1) list) ≡ true
   skip-part l h =
       subst (λ xs. is_sublist rank_cmp l xs ≡ true) (sym (take-more place 1 list))
       (sub-longer l (take place list) (take 1 (drop place list)) h)
 
-  pub skip-enough : (l : List Rank) → occurrences r (drop place list) < count
-      → HasEnough count list l (drop place list) → HasEnough count list l (drop (place + 1) list)
-  skip-enough l few h = enough-skip count list l (drop (place + 1) list) r
-      (subst (λ xs. occurrences r xs < count) from_place few) (subst (HasEnough count list l) from_place h)
+  pub skip-enough : (z : Rank) (l : List Rank) → occurrences r (drop place list) < count
+      → HasEnough z count list l (drop place list) → HasEnough z count list l (drop (place + 1) list)
+  skip-enough z l few h = enough-skip z count list l (drop (place + 1) list) r
+      (subst (λ xs. occurrences r xs < count) from_place few) (subst (HasEnough z count list l) from_place h)
 
--- at the end of the list all is found
-pub enough-end : (u : ℕ) (all l : List Rank) (i : ℕ) → 1 ≤ u → length all ≤ i → HasEnough u all l (drop i all)
-    → (z : Rank) (m : ℕ) → u * m ≤ occurrences z all → m ≤ occurrences z l
-enough-end u all l i some e h z m n =
-    let a = h z m n in
-    let nothing : occurrences z (drop i all) ≡ 0 = ap (occurrences z) (drop_of_length-le all {i = i} e) in
-    last a.0 a.1 (omega (arith, a.2, nothing))
+-- a sublist of the first items is one of all
+pub sub-front : (l xs : List Rank) (i : ℕ) → is_sublist rank_cmp l (take i xs) ≡ true → is_sublist rank_cmp l xs ≡ true
+sub-front [] xs i h = refl
+sub-front (e ∷ l) [] zero h = cc
+sub-front (e ∷ l) [] (suc i) h = cc
+sub-front (e ∷ l) (x ∷ xs) zero h = cc
+sub-front (e ∷ l) (x ∷ xs) (suc i) h = by_test (same rank_cmp x e) h (sub-front l xs i) (sub-front (e ∷ l) xs i)
+  where
+    by_test : (b : Bool)
+        → (if b then is_sublist rank_cmp l (take i xs) else is_sublist rank_cmp (e ∷ l) (take i xs)) ≡ true
+        → (is_sublist rank_cmp l (take i xs) ≡ true → is_sublist rank_cmp l xs ≡ true)
+        → (is_sublist rank_cmp (e ∷ l) (take i xs) ≡ true → is_sublist rank_cmp (e ∷ l) xs ≡ true)
+        → (if b then is_sublist rank_cmp l xs else is_sublist rank_cmp (e ∷ l) xs) ≡ true
+    by_test true h f g = f h
+    by_test false h f g = g h
+
+-- where none is left all is found
+pub enough-end : (z : Rank) (u : ℕ) (all l : List Rank) (i : ℕ) → 1 ≤ u → occurrences z (drop i all) ≡ 0
+    → HasEnough z u all l (drop i all) → (m : ℕ) → u * m ≤ occurrences z all → m ≤ occurrences z l
+enough-end z u all l i some nothing h m n =
+    let a = h m n in last a.0 a.1 (omega (arith, a.2, nothing))
   where
     last : (k : ℕ) → m ≤ occurrences z l + k → u * k ≤ 0 → m ≤ occurrences z l
     last zero a b = omega (arith, a)

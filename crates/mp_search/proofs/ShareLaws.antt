@@ -1,15 +1,13 @@
 -- What the later siblings of a child take, one child after the other.
-use Rattle.std.proofs.Common.{◌≡◌, ℕ, zero, suc, ◌+◌, ◌-◌, ◌*◌, ◌<◌, ◌≤◌, List, [], ◌∷◌, ◌++◌, take, drop, length, Bool}
+use Rattle.std.proofs.Common.{◌≡◌, ℕ, zero, suc, ◌+◌, ◌-◌, ◌≤◌, List, [], ◌∷◌, ◌++◌, take, drop, length}
 use Rattle.std.proofs.Common.{true, false, not, ◌&&◌, nat_eq, refl, ap, sym, ◌∙◌, subst, arith, eqb-true, eq-eqb}
 use Rattle.std.proofs.Common.{get_or, length-append, length-drop}
 use Rattle.std.specs.Prelude.{Option, Some, None, option_map, slice_get, if◌then◌else◌, map}
 use Rattle.mp_term.specs.Signature.{Sig}
 use Rattle.mp_term.proofs.ListLaws.{bool_same}
-use Rattle.mp_pattern.specs.PatternTree.{Wildcard, Pattern, symbol_pattern, app_pattern, wild_pattern, dot, kind}
-use Rattle.mp_pattern.specs.PatternTree.{plus, star}
-use Rattle.mp_pattern.specs.PatternTree.{optional, counted, Patterns, patterns, more_patterns}
+use Rattle.mp_pattern.specs.PatternTree.{Pattern, symbol_pattern, app_pattern, wild_pattern}
+use Rattle.mp_pattern.specs.PatternTree.{patterns}
 use Rattle.mp_pattern.specs.Size.{pattern_nodes}
-use Rattle.mp_pattern.specs.SoundRule.{sum_most}
 use Rattle.mp_pattern.specs.Subpatterns.{subpatterns, all_subpatterns}
 use Rattle.mp_pattern.specs.Value.{Value, Subst, value_of, same_name}
 use Rattle.mp_pattern.specs.View.{pattern_tree}
@@ -18,16 +16,15 @@ use Rattle.mp_pattern.proofs.PlanLaws.{length-subpatterns}
 use Rattle.mp_subst.specs.Bound.{Bound, value_in}
 use Rattle.mp_subst.specs.Trail.{Trail, last_value}
 use Rattle.mp_theory.specs.Bounds.{least, most}
-use Rattle.mp_theory.specs.Known.{contributed, is_optional, least_known, most_known, is_use}
+use Rattle.mp_theory.specs.Known.{contributed, least_known, most_known}
 use Rattle.mp_pattern.specs.declared.pattern.Pattern as declared
 use Rattle.mp_search.specs.Query.{IsQuery}
 use Rattle.mp_search.proofs.NumberedLaws.{count-nodes}
 use Rattle.mp_search.specs.declared.query.Query.{Query}
 use Rattle.mp_search.specs.declared.site.Site.{Site}
-use Rattle.mp_search.specs.declared.shares.Shares.{Shares}
-use Rattle.mp_search.specs.Numbers.{IsNumberOf, IsNumberAt}
+use Rattle.mp_search.specs.Numbers.{IsNumberAt}
 use Rattle.mp_search.specs.Reading.{name_at, subst_of}
-use Rattle.mp_search.specs.Shares.{length_known, is_optional_child, is_use_of, IsUsed, StandFrom, AreShares}
+use Rattle.mp_search.specs.Shares.{length_known, is_optional_child, is_use_of, IsUsed, StandFrom}
 use Rattle.mp_search.specs.Site.{IsSite}
 use Rattle.mp_search.proofs.SiteLaws.{front_at, rest_of, subpatterns-first}
 use Rattle.mp_search.proofs.SubstLaws.{value_of-subst_from}

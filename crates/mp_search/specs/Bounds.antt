@@ -1,12 +1,14 @@
 -- What is known of the lists that a child may take.
 use Rattle.std.specs.Prelude.{◌≡◌, ◌≤◌, ◌*◌, ⊤, ℕ, List, length, false, Option, Some, None}
 use Rattle.mp_term.specs.Listing.{In}
+use Rattle.mp_term.specs.Signature.{Sig}
 use Rattle.mp_term.specs.Tree.{Tree}
 use Rattle.mp_pattern.specs.PatternTree.{Wildcard, Pattern, wild_pattern}
 use Rattle.mp_pattern.specs.Fits.{Entry}
 use Rattle.mp_pattern.specs.Value.{Subst, value_of}
 use Rattle.mp_pattern.specs.View.{pattern_tree}
 use Rattle.mp_table.specs.Table.{terms_at}
+use Rattle.mp_theory.specs.Bounds.{least, most}
 use Rattle.mp_theory.specs.Frames.{Frame}
 use Rattle.mp_theory.specs.Items.{items_by}
 use Rattle.mp_theory.specs.Known.{is_optional}
@@ -37,6 +39,10 @@ IsFree q x s (Some v) = IsFreeOf q x s v
 abbrev pub HasNoValue : Pattern → Subst → Type 0
 HasNoValue (wild_pattern w (Some x)) s = value_of s x ≡ None
 HasNoValue p s = ⊥
+
+-- the child takes one term
+abbrev pub TakesOne : Sig → Option ℕ → Pattern → Type 0
+TakesOne sig f p = (least p ≡ 1) × (most sig f p ≡ Some 1)
 
 -- each choice with an item has a number of terms within the bounds, and so often what is left has each of its terms
 pub record AreBounds (q : Query) (x : Site) (s : Subst) (b : Bounds) : Type 0 where

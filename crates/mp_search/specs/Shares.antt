@@ -3,7 +3,7 @@ use Rattle.std.specs.Prelude.{◌≡◌, ⊤, ℕ, ◌-◌, Bool, false, List, l
 use Rattle.mp_term.specs.Signature.{Sig}
 use Rattle.mp_pattern.specs.PatternTree.{Pattern, wild_pattern, Patterns}
 use Rattle.mp_pattern.specs.Subpatterns.{subpatterns, all_subpatterns}
-use Rattle.mp_pattern.specs.Value.{Value, Subst, value_of}
+use Rattle.mp_pattern.specs.Value.{Subst, value_of}
 use Rattle.mp_theory.specs.Known.{contributed, is_optional, is_use, all_least_known, all_most_known, uses_of}
 use Rattle.mp_theory.specs.Known.{others_least, others_most}
 use Rattle.mp_search.specs.declared.query.Query.{Query}

@@ -1,9 +1,9 @@
 -- The sublists of a pool that have one length, item by item from the left.
-use Rattle.std.specs.Prelude.{◌≡◌, ◌≤◌, ◌<◌, ◌+◌, ⊤, ℕ, List, [], ◌∷◌, length, drop, true, slice_index_or}
+use Rattle.std.specs.Prelude.{◌≡◌, ◌≤◌, ◌<◌, ◌+◌, ⊤, ℕ, List, [], ◌∷◌, ◌++◌, length, take, drop, true, slice_index_or}
 use Rattle.std.specs.declared.cmp.Ordering.{Ordering}
 use Rattle.std.specs.declared.cmp.Ordering.TheVariants.{Less}
 use Rattle.std.specs.Cmp.Lexicographic.{slice_cmp}
-use Rattle.mp_term.specs.Pieces.{is_sublist}
+use Rattle.mp_term.specs.Pieces.{is_sublist, without}
 use Rattle.mp_search.specs.Drawn.{above}
 
 module _ {X : Type 0} (cmp : X → X → Ordering) (pool : List X) where
@@ -33,3 +33,10 @@ module _ {X : Type 0} (cmp : X → X → Ordering) (pool : List X) where
     pub items : (x : X) → drop j pool ≡ above cmp (slice_index_or l i x) pool
     pub enough : length l ≤ i + length (drop j pool)
     pub stuck : IsStuck (drop (i + 1) l)
+
+module _ {X : Type 0} (cmp : X → X → Ordering) where
+  -- the item stands in the list, first at place p
+  pub record IsFirstAt (x : X) (xs : List X) (p : ℕ) : Type 0 where
+    pub within : p < length xs
+    pub there : is_sublist cmp (x ∷ []) xs ≡ true
+    pub others : without cmp (x ∷ []) xs ≡ take p xs ++ drop (p + 1) xs

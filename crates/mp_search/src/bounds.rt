@@ -1,15 +1,19 @@
 //! How many terms a child may take, by the values of the trail and by the uses of its variable.
-ghost use Rattle.std.specs.Prelude.{◌≡◌, ◌≤◌, ◌*◌, ℕ, Option, IfSome, min};
+ghost use Rattle.std.specs.Prelude.{◌≡◌, ◌≤◌, ◌*◌, ℕ, Option, IfSome, IsTrue, min};
+ghost use Rattle.mp_pattern.specs.View.{pattern_tree};
 ghost use Rattle.mp_subst.specs.Trail.{GoesWith};
-ghost use Rattle.mp_search.specs.Bounds.{AreBounds, IsFree};
+ghost use Rattle.mp_search.specs.Bounds.{AreBounds, IsFree, TakesOne};
+ghost use Rattle.mp_search.specs.Frames.{above};
 ghost use Rattle.mp_search.specs.Query.{IsQuery};
 ghost use Rattle.mp_search.specs.Reading.{subst_of};
 ghost use Rattle.mp_search.specs.Site.{IsSite};
 
 use crate::lengths::{least, most};
 use crate::query::Query;
+use crate::rivals::is_first;
 use crate::shares::{node_behind, shares_of};
 use crate::site::Site;
+use mp_pattern::Pattern;
 use mp_subst::Trail;
 
 // How many siblings take the same list, with the child itself, and the least and the greatest number of terms in it.
@@ -48,6 +52,17 @@ fn at_most(bound: Option<usize>, count: usize) -> usize
     }
 }
 
+// Whether the child is an application behind the first child. It takes one term, and whether there are as many terms as
+// the children take was looked at before the first.
+fn is_later_application(query: &Query<'_>, site: &Site<'_>) -> bool
+    ensures { IsTrue result → TakesOne query.now.sig.now (above site.now.under) (pattern_tree site.now.child.now) }
+{
+    match site.child {
+        Pattern::App(_, _) => !is_first(query, site.node),
+        _ => false,
+    }
+}
+
 // The bounds of the child, whose variable has that number, if it has one that isn't bound, and isn't optional.
 pub(crate) fn bounds_of(
     query: &Query<'_>,
@@ -61,6 +76,13 @@ pub(crate) fn bounds_of(
     requires var { IsFree query.now site.now (subst_of query.now trail.now) var }
     ensures { AreBounds query.now site.now (subst_of query.now trail.now) result }
 {
+    if is_later_application(query, site) {
+        return Bounds {
+            uses: 1,
+            least: 1,
+            most: 1,
+        };
+    }
     let _ = query.plan.len();
     let next = node_behind(query, site.child, site.node);
     let count = site.left.len();

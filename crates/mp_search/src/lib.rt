@@ -11,6 +11,7 @@ mod end;
 mod ends;
 mod ground;
 mod grounds;
+mod headed;
 mod judge;
 mod lengths;
 mod level;

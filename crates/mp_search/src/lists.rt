@@ -1,6 +1,6 @@
 //! The lists that a node may take, one after the other.
-ghost use Rattle.std.specs.Prelude.{◌≡◌, ◌≤◌, ◌<◌, ◌+◌, [], true, Some, length, take, drop, min, slice_get, MatchBool};
-ghost use Rattle.std.specs.Prelude.{MatchOption, ⊤};
+ghost use Rattle.std.specs.Prelude.{◌≡◌, ◌≤◌, ◌<◌, ◌+◌, ◌∷◌, [], true, Some, length, take, drop, min, slice_get};
+ghost use Rattle.std.specs.Prelude.{IsTrue, MatchBool, MatchOption, ⊤};
 ghost use Rattle.std.specs.List.Sorted.{IsSorted};
 ghost use Rattle.mp_term.specs.Listing.{In};
 ghost use Rattle.mp_term.specs.Pieces.{is_sublist, without};
@@ -10,6 +10,7 @@ ghost use Rattle.mp_search.specs.Levels.{rooms_of, draws_of, take_of, IsPool};
 ghost use Rattle.mp_search.specs.Sublists.{IsNextSublist, IsLastSublist, IsStuck, Rises};
 
 use crate::level::{Level, Source};
+use crate::pieces::place_of;
 use crate::room::Room;
 use mp_table::Rank;
 
@@ -91,6 +92,22 @@ fn lengthen_front(items: &[Rank], most: usize, list: &mut Room<Rank>) -> bool
     true
 }
 
+// Moves to the other items once the rank is taken out of them, which ascend.
+fn take_one_out(rank: Rank, items: &[Rank], list: &mut Room<Rank>)
+    requires ascending { IsSorted rank_cmp items.now }
+    requires room { length items.now ≤ list.old.room }
+    ensures list { list.new.items.items ≡ without rank_cmp (rank ∷ []) items.now }
+    ensures room { list.new.room ≡ list.old.room }
+{
+    match place_of(items, rank) {
+        None => list.refill(items),
+        Some(place) => {
+            list.refill(&items[..place]);
+            list.append(&items[place + 1..]);
+        }
+    }
+}
+
 // Moves to the other items once the ranks are taken out of them, each at its first place behind the one before.
 fn take_out(ranks: &[Rank], items: &[Rank], list: &mut Room<Rank>)
     requires { length items.now ≤ list.old.room }
@@ -170,13 +187,18 @@ impl Level {
     }
 
     // Keeps what is left once the node's list is taken out.
-    pub(crate) fn leave(&mut self, left: &[Rank])
-        requires { length left.now ≤ self.old.rest.room }
+    pub(crate) fn leave(&mut self, left: &[Rank], ascending: bool)
+        requires room { length left.now ≤ self.old.rest.room }
+        requires ascending { IsTrue ascending → IsSorted rank_cmp left.now }
         ensures rest { self.new.rest.items.items ≡ without rank_cmp self.old.take.items.items left.now }
         ensures take { take_of self.new ≡ take_of self.old }
         ensures draws { draws_of self.new ≡ draws_of self.old }
         ensures rooms { rooms_of self.new ≡ rooms_of self.old }
     {
-        take_out(self.take.as_slice(), left, &mut self.rest);
+        match self.take.as_slice() {
+            [] => self.rest.refill(left),
+            [only] if ascending => take_one_out(*only, left, &mut self.rest),
+            ranks => take_out(ranks, left, &mut self.rest),
+        }
     }
 }

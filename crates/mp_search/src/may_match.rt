@@ -69,7 +69,7 @@ fn has_optional(children: &[Pattern]) -> bool
 }
 
 // Whether the operation on the children may stand for the one term that they take together.
-fn may_collapse(sig: &Signature, op: OpId, children: &[Pattern]) -> bool
+pub(crate) fn may_collapse(sig: &Signature, op: OpId, children: &[Pattern]) -> bool
     ensures { result ≡ look.may_collapse sig.now op.0 (patterns (map pattern_tree children.now)) }
 {
     sig.is_one(op) && no_sequence(children) && has_optional(children)

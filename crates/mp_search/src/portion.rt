@@ -1,12 +1,24 @@
 //! What a pool has of a list that ascends.
-ghost use Rattle.std.specs.Prelude.{◌≡◌, ◌<◌, ◌≤◌, ◌+◌, ◌*◌, ℕ, length, drop, slice_index_or, true, IsTrue, IsFalse};
+ghost use Rattle.std.specs.Prelude.{◌≡◌, ◌<◌, ◌≤◌, ◌+◌, ◌*◌, ◌++◌, ◌∷◌, [], ◌⊎◌, ℕ, length, drop, slice_index_or};
+ghost use Rattle.std.specs.Prelude.{true, IsTrue, IsFalse};
 ghost use Rattle.std.specs.List.Sorted.{IsSorted};
 ghost use Rattle.mp_term.specs.Pieces.{is_sublist};
-ghost use Rattle.mp_table.specs.Table.{rank_cmp};
+ghost use Rattle.mp_table.specs.Table.{rank_cmp, HasRank};
 ghost use Rattle.mp_table.specs.declared.rank.Rank.{Rank as plain_rank};
-ghost use Rattle.mp_search.specs.Portion.{occurrences, is_at};
+ghost use Rattle.mp_pattern.specs.Value.{Subst};
+ghost use Rattle.mp_subst.specs.Trail.{GoesWith};
+ghost use Rattle.mp_search.specs.Portion.{occurrences, is_at, MayTake, StandBetween};
+ghost use Rattle.mp_search.specs.Query.{IsQuery};
+ghost use Rattle.mp_search.specs.Reading.{subst_of};
+ghost use Rattle.mp_search.specs.Site.{IsSite};
 
+use crate::headed::place_behind;
+use crate::may_match::{may_collapse, may_match};
+use crate::query::Query;
 use crate::room::Room;
+use crate::site::Site;
+use mp_pattern::Pattern;
+use mp_subst::Trail;
 use mp_table::Rank;
 
 // Whether that many equal ranks stand from the place on.
@@ -25,23 +37,78 @@ fn has_portion(list: &[Rank], place: usize, rank: Rank, count: usize) -> bool
     list[place + (count - 1)].0 == rank.0
 }
 
-// Puts each rank into the room, once for so many of it.
-pub(crate) fn fill_portion(list: &[Rank], count: usize, room: &mut Room<Rank>)
-    requires ascending { IsSorted rank_cmp list.now }
-    requires some { 1 ≤ count }
-    requires room { length list.now ≤ room.old.room }
-    ensures part { is_sublist rank_cmp room.new.items.items list.now ≡ true }
-    ensures enough { (z : plain_rank) (m : ℕ) → count * m ≤ occurrences z list.now →
-        m ≤ occurrences z room.new.items.items }
-    ensures few { length room.new.items.items ≤ length list.now }
+// Adds the rank, unless it is looked at and the child can't take its term alone. There is room for it.
+fn add_taken(
+    query: &Query<'_>,
+    site: &Site<'_>,
+    trail: &Trail,
+    looks: bool,
+    rank: Rank,
+    room: &mut Room<Rank>,
+)
+    requires query { IsQuery query.now }
+    requires site { IsSite query.now site.now }
+    requires trail { GoesWith query.now.table.now trail.now }
+    requires rank { HasRank query.now.table.now rank }
+    requires room { length room.old.items.items < room.old.room }
+    ensures items { (room.new.items.items ≡ room.old.items.items ++ rank ∷ [])
+        ⊎ ((room.new.items.items ≡ room.old.items.items)
+        × (MayTake query.now site.now (subst_of query.now trail.now) looks rank → ⊥)) }
     ensures room { room.new.room ≡ room.old.room }
 {
+    if looks && !may_match(query, trail, site.under, site.child, site.node, rank) {
+        return;
+    }
+    room.push(rank);
+}
+
+// Where the ranks stand among those that are left that the child may take, where these are looked at: from the first
+// place on, and before the second.
+fn places(query: &Query<'_>, site: &Site<'_>, looks: bool) -> (usize, usize)
+    requires query { IsQuery query.now }
+    requires site { IsSite query.now site.now }
+    requires ascending { IsSorted rank_cmp site.now.left.now }
+    ensures { (s : Subst) → StandBetween (MayTake query.now site.now s looks) site.now.left.now result.0 result.1 }
+{
+    if let Pattern::App(op, children) = site.child {
+        if looks && !may_collapse(query.sig, *op, children.as_slice()) {
+            let number = op.0 as usize;
+            let first = place_behind(query.table, number, site.left);
+            return (first, place_behind(query.table, number + 1, site.left));
+        }
+    }
+    (0, site.left.len())
+}
+
+// Puts each rank that the child may take into the room, once for so many of it that are left.
+pub(crate) fn fill_portion(
+    query: &Query<'_>,
+    site: &Site<'_>,
+    trail: &Trail,
+    looks: bool,
+    count: usize,
+    room: &mut Room<Rank>,
+)
+    requires query { IsQuery query.now }
+    requires site { IsSite query.now site.now }
+    requires trail { GoesWith query.now.table.now trail.now }
+    requires ascending { IsSorted rank_cmp site.now.left.now }
+    requires some { 1 ≤ count }
+    requires room { length site.now.left.now ≤ room.old.room }
+    ensures part { is_sublist rank_cmp room.new.items.items site.now.left.now ≡ true }
+    ensures enough { (z : plain_rank) (m : ℕ) → MayTake query.now site.now (subst_of query.now trail.now) looks z →
+        count * m ≤ occurrences z site.now.left.now → m ≤ occurrences z room.new.items.items }
+    ensures few { length room.new.items.items ≤ length site.now.left.now }
+    ensures room { room.new.room ≡ room.old.room }
+{
+    let list = site.left;
+    let (first, end) = places(query, site, looks);
     room.clear();
-    let mut place = 0;
-    while place < list.len() {
+    let mut place = first;
+    while place < end {
         let rank = list[place];
         if has_portion(list, place, rank, count) {
-            room.push(rank);
+            add_taken(query, site, trail, looks, rank, room);
             place += count;
         } else {
             place += 1;

@@ -1,5 +1,5 @@
 //! What the choices of a node are drawn from.
-ghost use Rattle.std.specs.Prelude.{◌≡◌, ℕ, List, [], Some};
+ghost use Rattle.std.specs.Prelude.{◌≡◌, ◌≤◌, ℕ, List, [], Some, IsTrue};
 ghost use Rattle.std.specs.List.{AllByRecursion};
 ghost use Rattle.mp_term.specs.Listing.{In};
 ghost use Rattle.mp_pattern.specs.PatternTree.{symbol_pattern};
@@ -27,9 +27,21 @@ use crate::shares::is_optional;
 use crate::site::Site;
 use crate::under::comm_above;
 use crate::variable::number_at;
-use mp_pattern::Pattern;
+use mp_pattern::{Pattern, Shape};
 use mp_subst::{Bound, Trail};
 use std::slice;
+
+// Whether terms are looked at that the child may take alone: it takes one at most, and not any.
+fn looks_at(child: &Pattern, most: usize) -> bool
+    ensures { IsTrue result → most ≤ 1 }
+{
+    most <= 1
+        && match child {
+            Pattern::Wild(Shape::Kind(_), _) => true,
+            Pattern::Wild(_, _) => false,
+            _ => true,
+        }
+}
 
 // The choices are drawn from what is left, by the bounds of the child, whose variable has that number if it has one
 // that isn't bound, and isn't optional.
@@ -53,7 +65,8 @@ fn draw_open(query: &Query<'_>, site: &Site<'_>, var: Option<u32>, own: &mut Lev
         own.source = Source::Front(bounds.least, bounds.most);
         return;
     }
-    fill_portion(site.left, bounds.uses, &mut own.pool);
+    let looks = looks_at(site.child, bounds.most);
+    fill_portion(query, site, trail, looks, bounds.uses, &mut own.pool);
     own.source = Source::Bag(bounds.least, bounds.most);
 }
 

@@ -214,7 +214,7 @@ fn clear(marks: &mut [bool])
 }
 
 // Whether the site's child is the first one of its operation.
-fn is_first(query: &Query<'_>, node: u32) -> bool {
+pub(crate) fn is_first(query: &Query<'_>, node: u32) -> bool {
     match query.plan.parent(node) {
         None => true,
         Some(parent) => node.saturating_sub(parent) == 1,

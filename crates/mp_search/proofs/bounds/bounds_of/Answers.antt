@@ -1,10 +1,10 @@
-use Rattle.std.proofs.Common.{◌≡◌, ◌≤◌, ap, sym, ◌∙◌, subst, arith, refl}
+use Rattle.std.proofs.Common.{◌≤◌, sym, subst, arith, refl}
 use Rattle.std.specs.Prelude.{map, IfSome}
 use Rattle.mp_pattern.specs.PatternTree.{patterns}
 use Rattle.mp_pattern.specs.View.{pattern_tree}
 use Rattle.mp_search.specs.Reading.{subst_of}
 use Rattle.mp_search.specs.Shares.{StandFrom}
-use Rattle.mp_search.proofs.BoundsLaws.{free-name, free-used, bounds-are}
+use Rattle.mp_search.proofs.BoundsLaws.{free-name, free-used, bounds-one, bounds-are}
 use Rattle.mp_search.proofs.ShareLaws.{site-behind, few-children}
 use Rattle.mp_search.proofs.SiteLaws.{site-node}
 use Rattle.mp_search.proofs.bounds.bounds_of.Goals as goal
@@ -29,6 +29,13 @@ shares_of-shares-requires-clause-few c =
       c.len.ensures.count,
       c.len.ensures.most,
     )
+
+pub returns-then-is_later_application : goal.returns-then-is_later_application
+returns-then-is_later_application c =
+    let q = c.args.query.now in
+    let x = c.args.site.now in
+    bounds-one q x (subst_of q c.args.trail.now) (c.is_later_application.ensures c.if-is_later_application.true) _ refl
+    refl refl
 
 pub returns : goal.returns
 returns c =

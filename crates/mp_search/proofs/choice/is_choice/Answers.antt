@@ -7,7 +7,12 @@ use Rattle.mp_theory.specs.Machine as machine
 use Rattle.mp_search.specs.Frames.{above}
 use Rattle.mp_search.specs.Reading.{entry_of}
 use Rattle.mp_search.proofs.DrawnTerms.{is_piece-terms}
+use Rattle.mp_search.proofs.OpenLaws.{left-sorted}
 use Rattle.mp_search.proofs.choice.is_choice.Goals as goal
+
+pub is_piece-requires : goal.is_piece-requires
+is_piece-requires c = λ e. left-sorted c.args.query.now c.args.site.now c.requires.query c.requires.site
+    (sym c.comm_above-anywhere.ensures ∙ e)
 
 pub returns-then-not-is_piece : goal.returns-then-not-is_piece
 returns-then-not-is_piece c =

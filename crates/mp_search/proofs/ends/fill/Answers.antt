@@ -1,10 +1,15 @@
-use Rattle.std.proofs.Common.{ap, ◌∙◌}
+use Rattle.std.proofs.Common.{ap, sym, ◌∙◌}
 use Rattle.mp_term.specs.Pieces.{is_piece}
 use Rattle.mp_pattern.specs.Variables.{comm_above}
 use Rattle.mp_search.specs.Frames.{above}
 use Rattle.mp_table.specs.Table.{rank_cmp}
 use Rattle.mp_search.proofs.EndLaws.{end-filled, end-long, arranged_ranks}
+use Rattle.mp_search.proofs.OpenLaws.{left-sorted}
 use Rattle.mp_search.proofs.ends.fill.Goals as goal
+
+pub is_piece-requires : goal.is_piece-requires
+is_piece-requires c = λ e. left-sorted c.args.query.now c.args.site.now c.requires.query c.requires.site
+    (sym c.comm_above.ensures ∙ e)
 
 pub returns-then-ranks-site-clause-pool : goal.returns-then-ranks-site-clause-pool
 returns-then-ranks-site-clause-pool c = end-long c.args.query.now c.args.site.now c.requires.query c.requires.site

@@ -11,10 +11,12 @@ use Rattle.mp_search.proofs.OwnLaws.{IsSplit, get-old, get-new, front-new, many-
 use Rattle.mp_search.proofs.OwnLaws.{rest-get}
 use Rattle.mp_search.proofs.OwnLaws.{level-own, ranks-without}
 use Rattle.mp_search.proofs.NodeSteps.{split-site, split-terms}
+use Rattle.mp_search.specs.At.{site_of}
+use Rattle.mp_search.proofs.OpenLaws.{left-sorted}
 use Rattle.mp_search.proofs.node.leave_at.Goals as goal
 
-pub leave-requires : goal.leave-requires
-leave-requires c =
+pub leave-requires-clause-room : goal.leave-requires-clause-room
+leave-requires-clause-room c =
     let q = c.args.query.now in
     let L = c.args.levels.now in
     let k = c.args.k in
@@ -29,6 +31,17 @@ leave-requires c =
     let own = level-own q.table.now (width q) L k (slice_index_or F 0 d) c.requires.node.levels
     (get-old L B F k d at) in
     omega (arith, site.narrow, own.0.2)
+
+pub leave-requires-clause-ascending : goal.leave-requires-clause-ascending
+leave-requires-clause-ascending c =
+    let q = c.args.query.now in
+    let p = c.args.place.now in
+    let k = c.args.k in
+    let left = c.left_list-left.result in
+    let site = split-site q c.args.levels.now c.split_at_mut-below.result.0.now p k (q.first + k) left
+    c.split_at_mut-below.ensures.front c.requires.within c.requires.node c.requires.place refl
+    c.left_list-left.ensures.terms c.left_list-left.ensures.ranks in
+    λ e. left-sorted q (site_of p (q.first + k) left) c.requires.node.query site (sym c.comm_above.ensures ∙ e)
 
 pub returns-clause-rest : goal.returns-clause-rest
 returns-clause-rest c =

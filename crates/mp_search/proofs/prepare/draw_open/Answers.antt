@@ -1,4 +1,4 @@
-use Rattle.std.proofs.Common.{◌≡◌, ◌≤◌, ap, sym, ◌∙◌, subst, arith, length}
+use Rattle.std.proofs.Common.{ap, sym, ◌∙◌, subst, arith, length}
 use Rattle.mp_table.specs.Table.{HasRanks, terms_at}
 use Rattle.mp_search.specs.Reading.{subst_of}
 use Rattle.mp_search.proofs.MadeLaws.{made}
@@ -39,12 +39,13 @@ returns-clause-made c =
     let x = c.args.site.now in
     let s = subst_of q c.args.trail.now in
     let comm = sym c.comm_above.ensures ∙ c.if-not-comm_above.false in
+    let looks = c.looks_at-looks.result in
     let e = c.fill_portion.ensures in
     let pool = c.fill_portion.new.room.items.items in
     let held = ranks-among q.table.now pool x.left.now c.requires.site.left e.part in
     made q x s _ (bounds-pool q x c.requires.query c.requires.site s c.bounds_of-bounds.result
-    c.bounds_of-bounds.ensures pool held comm e.part e.enough) (
+    c.bounds_of-bounds.ensures pool held comm e.part looks c.looks_at-looks.ensures e.enough) (
       omega (arith, e.few, c.requires.site.narrow),
       pool-sorted q x c.requires.query c.requires.site s c.bounds_of-bounds.result c.bounds_of-bounds.ensures pool held
-          comm e.part e.enough,
+          comm e.part looks c.looks_at-looks.ensures e.enough,
     ) held
