@@ -1,0 +1,17 @@
+pub mod AfterLaws
+pub mod SliceLaws
+pub mod FilterLaws
+pub mod RangeLaws
+pub mod TakesLaws
+pub mod TableLaws
+pub mod PlanNodes
+pub mod SoughtLaws
+pub mod ReaderLaws
+pub mod LookLaws
+pub mod RootLaws
+pub mod BeginLaws
+pub mod LeastLaws
+pub mod FirstLaws
+pub mod PartsLaws
+pub mod NextLaws
+pub mod CursorLaws

@@ -1,0 +1,92 @@
+-- Lists in which one item is set, item by item from the left.
+use Rattle.std.proofs.Common.{◌≡◌, ◌<◌, ◌≤◌, ◌+◌, ◌-◌, ℕ, zero, suc, List, [], ◌∷◌, ◌++◌, length, map, take, drop, refl}
+use Rattle.std.proofs.Common.{ap, sym, ◌∙◌, subst, arith, add-one}
+use Rattle.std.specs.Prelude.{slice_set, slice_index_or, slice_get, Some, None}
+use Rattle.std.specs.List.{AllByRecursion}
+use Rattle.std.proofs.lemmas.List.{length-map, take_all}
+
+taken-set : {X Y : Type 0} (f : X → Y) (xs : List X) (i : ℕ) (x : X) → i < length xs
+    → map f (take (suc i) (slice_set xs i x)) ≡ map f (take i xs) ++ f x ∷ []
+taken-set f [] i x h = absurd (omega (arith, h))
+taken-set f (y ∷ xs) zero x h = refl
+taken-set f (y ∷ xs) (suc i) x h = ap (λ ys. f y ∷ ys) (taken-set f xs i x (omega (arith, h)))
+
+taken-more : {X Y : Type 0} (f : X → Y) (xs : List X) (i : ℕ) (x : X) → i < length xs
+    → map f (take (suc i) xs) ≡ map f (take i xs) ++ f (slice_index_or xs i x) ∷ []
+taken-more f [] i x h = absurd (omega (arith, h))
+taken-more f (y ∷ xs) zero x h = refl
+taken-more f (y ∷ xs) (suc i) x h = ap (λ ys. f y ∷ ys) (taken-more f xs i x (omega (arith, h)))
+
+-- one item more is taken
+pub map-take : {X Y : Type 0} (f : X → Y) (xs : List X) (i : ℕ) (d : X) → i < length xs
+    → map f (take (i + 1) xs) ≡ map f (take i xs) ++ f (slice_index_or xs i d) ∷ []
+map-take f xs i d h = subst (λ n. map f (take n xs) ≡ map f (take i xs) ++ f (slice_index_or xs i d) ∷ [])
+    (sym (add-one i)) (taken-more f xs i d h)
+
+-- one item more is as it should be
+pub taken-step : {X Y Z : Type 0} (f : X → Z) (g : Y → Z) (xs : List X) (ys : List Y) (i : ℕ) (x : X) (y : Y)
+    → i < length xs → i < length ys → map f (take i xs) ≡ map g (take i ys) → f x ≡ g (slice_index_or ys i y)
+    → map f (take (i + 1) (slice_set xs i x)) ≡ map g (take (i + 1) ys)
+taken-step f g xs ys i x y h k e q =
+    subst (λ n. map f (take n (slice_set xs i x)) ≡ map g (take n ys)) (sym (add-one i))
+    (taken-set f xs i x h ∙ ap (λ zs. zs ++ f x ∷ []) e ∙ ap (λ z. map g (take i ys) ++ z ∷ []) q
+    ∙ sym (taken-more g ys i y k))
+
+pub set-same : {X Y : Type 0} (f : X → Y) (xs : List X) (i : ℕ) (x d : X) → i < length xs
+    → f x ≡ f (slice_index_or xs i d) → map f (slice_set xs i x) ≡ map f xs
+set-same f [] i x d h e = absurd (omega (arith, h))
+set-same f (y ∷ xs) zero x d h e = ap (λ z. z ∷ map f xs) e
+set-same f (y ∷ xs) (suc i) x d h e = ap (λ zs. f y ∷ zs) (set-same f xs i x d (omega (arith, h)) e)
+
+pub all-set : {X : Type 0} (P : X → Type 0) (xs : List X) (i : ℕ) (x : X) → AllByRecursion P xs → P x
+    → AllByRecursion P (slice_set xs i x)
+all-set P [] i x h p = tt
+all-set P (y ∷ xs) zero x h p = (p, h.1)
+all-set P (y ∷ xs) (suc i) x h p = (h.0, all-set P xs i x h.1 p)
+
+pub all-at : {X : Type 0} (P : X → Type 0) (xs : List X) (i : ℕ) (d : X) → AllByRecursion P xs → i < length xs
+    → P (slice_index_or xs i d)
+all-at P [] i d h k = absurd (omega (arith, k))
+all-at P (y ∷ xs) zero d h k = h.0
+all-at P (y ∷ xs) (suc i) d h k = all-at P xs i d h.1 (omega (arith, k))
+
+-- the item at a place, and what is left from it on
+pub drop-at : {X : Type 0} (xs : List X) (i : ℕ) (x : X) → slice_get xs i ≡ Some x → drop i xs ≡ x ∷ drop (i + 1) xs
+drop-at {X = X} xs i x e = subst (λ n. drop i xs ≡ x ∷ drop n xs) (sym (add-one i)) (go xs i e)
+  where
+    go : (xs : List X) (i : ℕ) → slice_get xs i ≡ Some x → drop i xs ≡ x ∷ drop (suc i) xs
+    go [] i e = cc
+    go (y ∷ xs) zero e = let same : y ≡ x = cc in ap (λ z. z ∷ xs) same
+    go (y ∷ xs) (suc i) e = go xs i e
+
+pub drop-none : {X : Type 0} (xs : List X) (i : ℕ) → slice_get xs i ≡ None → drop i xs ≡ []
+drop-none [] zero e = refl
+drop-none [] (suc i) e = refl
+drop-none (y ∷ xs) zero e = cc
+drop-none (y ∷ xs) (suc i) e = drop-none xs i e
+
+pub got-within : {X : Type 0} (xs : List X) (i : ℕ) → slice_get xs i ≡ None → length xs ≤ i
+got-within [] i e = omega arith
+got-within (y ∷ xs) zero e = cc
+got-within (y ∷ xs) (suc i) e = omega (arith, got-within xs i e)
+
+pub same-lengths : {X Y Z : Type 0} (f : X → Z) (g : Y → Z) (xs : List X) (ys : List Y) → map f xs ≡ map g ys
+    → length xs ≡ length ys
+same-lengths f g xs ys e = sym (length-map xs f) ∙ ap length e ∙ length-map ys g
+
+pub all-mapped : {X Y : Type 0} (P : Y → Type 0) (f : X → Y) (xs : List X) (i : ℕ) (d : X)
+    → AllByRecursion P (map f xs) → i < length xs → P (f (slice_index_or xs i d))
+all-mapped P f [] i d h k = absurd (omega (arith, k))
+all-mapped P f (x ∷ xs) zero d h k = h.0
+all-mapped P f (x ∷ xs) (suc i) d h k = all-mapped P f xs i d h.1 (omega (arith, k))
+
+-- within a list the default doesn't matter
+pub no-default : {X : Type 0} (xs : List X) (i : ℕ) (c d : X) → i < length xs
+    → slice_index_or xs i c ≡ slice_index_or xs i d
+no-default [] i c d k = absurd (omega (arith, k))
+no-default (x ∷ xs) zero c d k = refl
+no-default (x ∷ xs) (suc i) c d k = no-default xs i c d (omega (arith, k))
+
+pub rest-whole : {X : Type 0} (xs : List X) → 1 ≤ length xs → take (length xs - 1) (drop 1 xs) ≡ drop 1 xs
+rest-whole [] h = absurd (omega (arith, h))
+rest-whole (x ∷ xs) h = take_all (length (x ∷ xs) - 1) xs (omega arith)

@@ -1,0 +1,10 @@
+pub mod CursorRoom
+pub mod CursorRoomCode
+pub mod Listing
+pub mod SigCode
+pub mod ListingCode
+pub mod Kept
+pub mod Stage
+pub mod Matched
+pub mod Parts
+pub mod CursorView

@@ -1,0 +1,68 @@
+//! The first substitution that a rule admits on a term.
+ghost use Rattle.std.specs.Prelude.{◌≡◌, ◌≤◌, [], Some, List, length, option_map, slice_get, IfOk, IsFalse};
+ghost use Rattle.mp_term.specs.View.{tree};
+ghost use Rattle.mp_term.specs.Normal.{IsNormal};
+ghost use Rattle.mp_term.specs.Size.{node_count};
+ghost use Rattle.mp_pattern.specs.Admission as plain;
+ghost use Rattle.mp_pattern.specs.Lists.{IsOneList};
+ghost use Rattle.mp_pattern.specs.Planned.{IsPlanned, planned_rule, rule_plan};
+ghost use Rattle.mp_pattern.specs.Value as values;
+ghost use Rattle.mp_pattern.specs.View.{pattern_tree};
+ghost use Rattle.mp_subst.specs.View.{subst_of};
+ghost use Rattle.mp_theory.specs.OneList.{item_list, one_list};
+ghost use Rattle.mp_cursor.specs.Listing.{subject_of};
+
+use crate::cursor::Cursor;
+use crate::cursor_room::CursorRoom;
+use crate::root::may_fit;
+use mp_pattern::{MAX_TERM_NODES, Plan, PlannedRule};
+use mp_subst::Subst;
+use mp_table::Table;
+use mp_term::{Memory, Signature, Term};
+use std::alloc::Global;
+
+/// A room for the plan of a pattern and the subject of a table. `Memory` comes where there is no memory for it.
+pub fn room_for(alloc: Global, plan: &Plan, table: &Table) -> Result<CursorRoom, Memory>
+    requires { node_count (subject_of table.now) ≤ MAX_TERM_NODES }
+    ensures nodes { IfOk result (λ r. r.nodes ≡ length plan.now.nodes) }
+    ensures vars { IfOk result (λ r. r.vars ≡ length plan.now.variables) }
+    ensures width { IfOk result (λ r. r.width ≡ node_count (subject_of table.now)) }
+{
+    CursorRoom::new(
+        alloc,
+        plan.len(),
+        plan.vars(),
+        table.nodes(table.root()) as u32,
+    )
+}
+
+/// The first substitution of the one-list, which has the least take table of all that the rule admits on the subject,
+/// and None exactly where the rule admits nothing there (`one_list` of mp_theory's `specs/OneList.antt`, `IsOneList` of
+/// mp_pattern's `specs/Lists.antt`). The rule is planned, and the subject is normal and has at most `MAX_TERM_NODES`
+/// nodes. `Memory`: memory ran out, and nothing is left.
+pub fn first_subst(
+    alloc: Global,
+    sig: &Signature,
+    planned: &PlannedRule<'_>,
+    subject: &Term,
+) -> Result<Option<Subst>, Memory>
+    requires planned { IsPlanned sig.now (rule_plan planned.now) }
+    requires normal { IsNormal sig.now (tree subject.now) }
+    requires few { node_count (tree subject.now) ≤ MAX_TERM_NODES }
+    ensures first { IfOk result (λ s.
+        option_map subst_of s ≡ slice_get (one_list sig.now (planned_rule planned.now) (tree subject.now)) 0) }
+    ensures exact { IfOk result (λ s. (ss : List values.Subst)
+        × IsOneList sig.now (planned_rule planned.now) (tree subject.now) ss
+        × (option_map subst_of s ≡ slice_get ss 0)) }
+{
+    if !may_fit(sig, planned.plan.pattern(), subject) {
+        return Ok(None);
+    }
+    let table = Table::build(alloc, sig, subject, &planned.constants)?;
+    let room = room_for(alloc, &planned.plan, &table)?;
+    let mut cursor = Cursor::begin(room, sig, planned.rule, &planned.plan, &table);
+    if !cursor.next() {
+        return Ok(None);
+    }
+    Ok(Some(cursor.subst(alloc)?))
+}
