@@ -1,0 +1,16 @@
+use Rattle.std.proofs.Common.{refl}
+use Rattle.clap.proofs.OnLiterals.{clap_on_literals}
+use Rattle.mp_words.specs.Words.{is_taken, request_from, rows_at}
+use Rattle.mp_words.proofs.laws.words_make_requests.Goals as goal
+
+pub returns : goal.returns
+unfolding clap_on_literals is_taken rows_at request_from
+returns c = record {
+  matched = refl;
+  rewritten = refl;
+  shown = refl;
+  help = refl;
+  other = refl;
+  range = refl;
+  files = refl;
+}

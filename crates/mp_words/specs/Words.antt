@@ -1,0 +1,183 @@
+-- Which request the words of the command line make: one that clap takes as the words of a simple command, and that is a
+-- line of a table.
+use Rattle.std.specs.Prelude.{ℕ, ◌&&◌, ◌||◌, not, Bool, true, false, List, [], ◌∷◌, length, nat_le, Option, Some}
+use Rattle.std.specs.Prelude.{None, is_some, map, fold, codes, if◌then◌else◌}
+use Rattle.std.specs.List.{list_all, list_any}
+use Rattle.std.specs.Option.{option_and_then, option_map}
+use Rattle.std.specs.Str.{bytes_eq}
+use Rattle.std.specs.Str.Parse.{digits_value}
+use Rattle.clap.specs.Words.{App, Row, Rule, Text, all_of, fault_of, first_of, matches_of, new_app, new_rule, with_rule}
+use Rattle.clap.specs.Lexer.{usize_max}
+use Rattle.clap.specs.Kinds.{Kinds}
+use Rattle.mp_term.specs.Signature.{is_number}
+use Rattle.mp_words.specs.declared.request.Action.{Action}
+use Rattle.mp_words.specs.declared.request.Action.TheVariants.{Match, Show, Rewrite, Edit}
+
+-- what is asked for: an action, the file that it is done with, how many matches are printed at most and the token
+-- behind which they begin, where these are said, and how many steps rewriting makes of a subject at most
+pub record Request : Type 0 where
+  pub action : Action
+  pub file : Text
+  pub limit : Option ℕ
+  pub resume : Option Text
+  pub max : ℕ
+
+-- ---- the table
+
+-- a line of the table: an action, its name, and the names of the options that may stand at it
+pub record Line : Type 0 where
+  pub name : Text
+  pub action : Action
+  pub options : List Text
+
+-- the matches of a file
+abbrev pub match_line : Line
+match_line =
+    record { name = codes "match"; action = Match; options = codes "engine" ∷ codes "limit" ∷ codes "resume" ∷ [] }
+
+-- a file itself
+abbrev pub show_line : Line
+show_line = record { name = codes "show"; action = Show; options = [] }
+
+-- its rewritten subjects
+abbrev pub rewrite_line : Line
+rewrite_line = record { name = codes "rewrite"; action = Rewrite; options = codes "max" ∷ [] }
+
+-- its edited subjects
+abbrev pub edit_line : Line
+edit_line = record { name = codes "edit"; action = Edit; options = [] }
+
+-- all lines of the table
+abbrev pub actions : List Line
+actions = match_line ∷ show_line ∷ rewrite_line ∷ edit_line ∷ []
+
+-- the first line of that name
+abbrev pub find_action : Text → List Line → Option Line
+find_action name [] = None
+find_action name (line ∷ lines) = if bytes_eq name line.name then Some line else find_action name lines
+
+-- the names of the engines
+abbrev pub engines : List Text
+engines = codes "one" ∷ []
+
+-- how many matches the words may ask for at most
+abbrev pub greatest_limit : ℕ
+greatest_limit = 1000000000
+
+-- how many steps are made at most where the words don't say it
+abbrev pub usual_max : ℕ
+usual_max = 1000
+
+-- and how many they may allow
+abbrev pub greatest_max : ℕ
+greatest_max = 1000000
+
+-- ---- the words, by clap
+
+-- the names of the command's options
+abbrev pub option_names : List Text
+option_names = codes "engine" ∷ codes "limit" ∷ codes "resume" ∷ codes "max" ∷ []
+
+-- an option with one value, as clap has it
+abbrev pub option_rule : Text → Rule
+option_rule name = record (new_rule name) { long = Some name }
+
+-- the first word that is neither an option nor its value; it is required
+abbrev pub action_rule : Rule
+action_rule = record (new_rule (codes "action")) { required = true }
+
+-- all such words behind it
+abbrev pub rest_rule : Rule
+rest_rule = record (new_rule (codes "rest")) {
+  range = Some (record { start_inclusive = 0; end_inclusive = usize_max });
+}
+
+-- the command of which clap reads the words
+abbrev pub command : App
+command = fold (λ app name. with_rule app (option_rule name))
+    (with_rule (with_rule (new_app (codes "matchpy")) action_rule) rest_rule) option_names
+
+-- clap has no kind of error to give
+abbrev pub has_none : Kinds → Bool
+has_none [] = true
+has_none (kind ∷ kinds) = false
+
+-- clap takes the words: nothing in them is unknown, missing or there twice, and they don't ask for help
+unfoldable pub is_taken : List Text → Bool
+is_taken all = has_none (fault_of command all)
+
+-- what the words give to each argument
+unfoldable pub rows_at : List Text → List Row
+rows_at all = matches_of command all
+
+-- ---- the request
+
+-- each option under its name, with its value where it is given
+abbrev pub Options : Type 0
+Options = List (Text × Option Text)
+
+-- the options as the words give them
+abbrev pub options_in : List Row → Options
+options_in rows = map (λ name. (name, first_of name rows)) option_names
+
+-- the value of an option, if it is given
+abbrev pub value_of : Text → Options → Option Text
+value_of name [] = None
+value_of name (option ∷ options) = if bytes_eq name option.0 then option.1 else value_of name options
+
+-- no option is given but those of these names
+abbrev pub are_among : List Text → Options → Bool
+are_among names options = list_all (λ option. not (is_some option.1) || list_any (bytes_eq option.0) names) options
+
+-- no engine is given, or one that there is
+abbrev pub has_engine : Option Text → Bool
+has_engine None = true
+has_engine (Some name) = list_any (bytes_eq name) engines
+
+-- the number that 1 to 10 digits write, where it is in the range
+abbrev pub number_in : ℕ → ℕ → Text → Option ℕ
+number_in least most text =
+    if is_number text && (nat_le (length text) 10
+    && (nat_le least (digits_value 10 text) && nat_le (digits_value 10 text) most))
+    then Some (digits_value 10 text) else None
+
+-- how many matches are printed at most: as the option says, or without a limit
+abbrev pub limit_of : Option Text → Option (Option ℕ)
+limit_of None = Some None
+limit_of (Some text) = option_map (λ n. Some n) (number_in 1 greatest_limit text)
+
+-- how many steps are made at most: as the option says, or the usual number
+abbrev pub max_of : Option Text → Option ℕ
+max_of None = Some usual_max
+max_of (Some text) = number_in 0 greatest_max text
+
+-- the request for an action with one file, by options that may stand at it
+abbrev pub request_for : Line → List Text → Options → Option Request
+request_for line (file ∷ []) options =
+    if are_among line.options options && has_engine (value_of (codes "engine") options) then option_and_then (λ limit.
+    option_map (λ max. record {
+      action = line.action;
+      file = file;
+      limit = limit;
+      resume = value_of (codes "resume") options;
+      max = max;
+    }) (max_of (value_of (codes "max") options))) (limit_of (value_of (codes "limit") options)) else None
+request_for line files options = None
+
+-- the request by the action's name and what stands behind it
+abbrev pub request_by : Option Text → Option (List Text) → Options → Option Request
+request_by (Some name) (Some rest) options =
+    option_and_then (λ line. request_for line rest options) (find_action name actions)
+request_by _ _ options = None
+
+-- the request by what the words give to each argument
+abbrev pub request_at : List Row → Option Request
+request_at rows = request_by (first_of (codes "action") rows) (all_of (codes "rest") rows) (options_in rows)
+
+-- the request that the program's name and the words make, if they make one
+unfoldable pub request_from : List Text → Option Request
+request_from all = if is_taken all then request_at (rows_at all) else None
+
+-- the request that the words make, if they make one
+abbrev pub request_of : List Text → Option Request
+request_of words = request_from (codes "matchpy" ∷ words)

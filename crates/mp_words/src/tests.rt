@@ -1,0 +1,126 @@
+//! Words of the command line, and the requests that they make.
+
+use crate::{Action, Request, read_words, words_make_requests};
+use std::alloc::Global;
+use std::test::Fail;
+
+// What is asked for: the action, the file, the limit, the resume token and the number of steps.
+type Asked = (Action, &'static str, Option<u32>, Option<&'static str>, u32);
+
+// Words that make a request, and what they ask for.
+const REQUESTS: &[(&[&str], Asked)] = &[
+    (&["match", "t"], (Action::Match, "t", None, None, 1000)),
+    (&["show", "-"], (Action::Show, "-", None, None, 1000)),
+    (&["show", ""], (Action::Show, "", None, None, 1000)),
+    (&["rewrite", "t"], (Action::Rewrite, "t", None, None, 1000)),
+    (&["edit", "t"], (Action::Edit, "t", None, None, 1000)),
+    (
+        &["--resume", "s/r/1", "match", "t", "--limit=3"],
+        (Action::Match, "t", Some(3), Some("s/r/1"), 1000),
+    ),
+    (
+        &[
+            "match",
+            "--limit",
+            "0000000003",
+            "--engine=one",
+            "t",
+            "--resume=",
+        ],
+        (Action::Match, "t", Some(3), Some(""), 1000),
+    ),
+    (
+        &["match", "t", "--limit", "1000000000", "--resume", "-"],
+        (Action::Match, "t", Some(1_000_000_000), Some("-"), 1000),
+    ),
+    (
+        &["rewrite", "t", "--max", "1000000"],
+        (Action::Rewrite, "t", None, None, 1_000_000),
+    ),
+    (
+        &["--max=0", "rewrite", "--", "-t"],
+        (Action::Rewrite, "-t", None, None, 0),
+    ),
+    (
+        &["--", "edit", "--max"],
+        (Action::Edit, "--max", None, None, 1000),
+    ),
+    (
+        &["show", "--", "--"],
+        (Action::Show, "--", None, None, 1000),
+    ),
+];
+
+// Words that make no request.
+const OTHERS: &[&[&str]] = &[
+    &[],
+    &["match"],
+    &["--limit", "3"],
+    &["help", "t"],
+    &["Match", "t"],
+    &["match", "t", "u"],
+    &["show", "--", "t", "-u"],
+    &["match", "t", "--help"],
+    &["-h"],
+    &["match", "t", "-x"],
+    &["match", "t", "--engin=one"],
+    &["match", "t", "--engine=many"],
+    &["match", "t", "--limit"],
+    &["match", "t", "--limit", "--", "3"],
+    &["match", "t", "--limit=1", "--limit=1"],
+    &["match", "t", "--limit=0"],
+    &["match", "t", "--limit=1000000001"],
+    &["match", "t", "--limit=00000000003"],
+    &["match", "t", "--limit=9999999999"],
+    &["match", "t", "--limit="],
+    &["match", "t", "--limit=+3"],
+    &["match", "t", "--limit=3x"],
+    &["match", "t", "--limit", "-3"],
+    &["match", "t", "--max=1"],
+    &["rewrite", "t", "--max=1000001"],
+    &["rewrite", "t", "--engine=one"],
+    &["show", "t", "--resume=x"],
+    &["edit", "t", "--limit=1"],
+];
+
+// Whether this is what is asked for; `None` where there is no request.
+fn is_asked(request: Option<Request>, asked: Option<&Asked>) -> bool {
+    match (request, asked) {
+        (Some(request), Some(asked)) => {
+            request.action as u8 == asked.0 as u8
+                && request.file == asked.1
+                && request.limit == asked.2
+                && request.resume == asked.3
+                && request.max == asked.4
+        }
+        (None, None) => true,
+        _ => false,
+    }
+}
+
+// Whether this is what the words behind the program's name ask for.
+fn are_asking(alloc: Global, words: &[&str], asked: Option<&Asked>) -> Result<bool, Fail> {
+    let mut all = Vec::new(alloc);
+    all.push("matchpy")?;
+    for word in words {
+        all.push(*word)?;
+    }
+    let request = read_words(alloc, all.as_slice())?;
+    Ok(is_asked(request, asked))
+}
+
+#[test]
+fn words_make_their_requests(rt: HostRuntime) -> Result<(), Fail> {
+    for (words, asked) in REQUESTS {
+        assert!(rt; are_asking(rt.alloc(), words, Some(asked))?, "{words:?}");
+    }
+    for words in OTHERS {
+        assert!(rt; are_asking(rt.alloc(), words, None)?, "{words:?}");
+    }
+    Ok(())
+}
+
+#[test]
+fn the_law_of_words_does_nothing() {
+    words_make_requests();
+}
