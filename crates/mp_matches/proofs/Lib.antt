@@ -1,0 +1,16 @@
+pub mod PrintedLaws
+pub mod TokenLaws
+pub mod TokenSpelling
+pub mod MatchesLaws
+pub mod ListedLaws
+pub mod SoFar
+pub mod Coming
+pub mod Parts
+pub mod RuleTables
+pub mod BehindLaws
+pub mod Found
+pub mod Resuming
+pub mod Resumed
+pub mod Places
+pub mod FoundMatches
+pub mod AnswerLaws

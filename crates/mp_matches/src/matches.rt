@@ -1,0 +1,165 @@
+//! The matches of rules on subjects, one after the other.
+
+ghost use Rattle.std.specs.Prelude.{◌≡◌, ◌∷◌, IsSome, List, Some, map};
+ghost use Rattle.std.specs.List.{AllByRecursion};
+ghost use Rattle.mp_io.specs.Moments.{sunk};
+ghost use Rattle.mp_pattern.specs.RuleView.{rule_tree};
+ghost use Rattle.mp_pattern.specs.Planned.{IsPlanned, planned_rule, rule_plan};
+ghost use Rattle.mp_text.specs.File.{subject_tree};
+ghost use Rattle.mp_text.specs.Sound.{IsSoundSubject};
+ghost use Rattle.mp_matches.specs.Computed.{all_matches, match_of, matches_of, rule_matches, subject_matches};
+ghost use Rattle.mp_theory.specs.OneList.{Item};
+ghost use Rattle.mp_matches.specs.Match.{GoesOver, Match};
+ghost use Rattle.mp_matches.specs.Left.{IsWritable, left_of, printed};
+ghost use Rattle.mp_matches.specs.Printed.{PrintsMatches, PrintsOne};
+
+use crate::left::Left;
+use crate::line::{write_match, write_more};
+use crate::stop::Stop;
+use mp_cursor::{Cursor, may_fit, room_for};
+use mp_io::Sink;
+use mp_pattern::{PlannedRule, Rule};
+use mp_table::Table;
+use mp_term::Signature;
+use mp_text::Subject;
+use std::alloc::Global;
+
+// Prints the match at which the cursor stands, or that more follow where no more may be printed.
+fn print_match<O: Sink>(
+    alloc: Global,
+    subject: &Subject,
+    rule: &Rule,
+    cursor: &Cursor<'_>,
+    left: &mut Left,
+    out: &mut O,
+) -> Result<(), Stop>
+    requires item { IsSome cursor.now.item }
+    requires over { GoesOver (subject_tree subject.now) (rule_tree rule.now) cursor.now }
+    requires writable { IsWritable left.old }
+    ensures prints { (i : Item) (ms : List Match) → cursor.now.item ≡ Some i → PrintsOne
+        (printed cursor.now.sig (left_of left.old) (match_of (subject_tree subject.now) (rule_tree rule.now) i ∷ ms))
+        (printed cursor.now.sig (left_of left.new) ms) (sunk O.Sink out.old out.new) (left_of left.new) result }
+    ensures writable { IsWritable left.new }
+{
+    match left {
+        Left::All => write_match(subject, rule, cursor, out)?,
+        Left::Lines(0) => {
+            let token = cursor.token(alloc, &subject.name)?;
+            write_match(subject, rule, cursor, out)?;
+            *left = Left::Full(token);
+        }
+        Left::Lines(count) => {
+            let count = *count - 1;
+            write_match(subject, rule, cursor, out)?;
+            *left = Left::Lines(count);
+        }
+        Left::Full(token) => {
+            write_more(token, out)?;
+            return Err(Stop::More);
+        }
+    }
+    Ok(())
+}
+
+// Prints the matches that are still to come, and says whether there are any.
+pub(crate) fn print_to_come<O: Sink>(
+    alloc: Global,
+    subject: &Subject,
+    rule: &Rule,
+    cursor: &mut Cursor<'_>,
+    left: &mut Left,
+    out: &mut O,
+) -> Result<bool, Stop>
+    requires over { GoesOver (subject_tree subject.now) (rule_tree rule.now) cursor.old }
+    requires writable { IsWritable left.old }
+    ensures prints { PrintsMatches (printed cursor.old.sig (left_of left.old)
+        (matches_of (subject_tree subject.now) (rule_tree rule.now) cursor.old.to_come))
+        (sunk O.Sink out.old out.new) (left_of left.new) result }
+    ensures writable { IsWritable left.new }
+{
+    let mut any = false;
+    while cursor.next() {
+        any = true;
+        print_match(alloc, subject, rule, cursor, left, out)?;
+    }
+    Ok(any)
+}
+
+// Prints the matches of one rule on one subject, and says whether there are any.
+pub(crate) fn print_rule<O: Sink>(
+    alloc: Global,
+    sig: &Signature,
+    subject: &Subject,
+    planned: &PlannedRule<'_>,
+    left: &mut Left,
+    out: &mut O,
+) -> Result<bool, Stop>
+    requires planned { IsPlanned sig.now (rule_plan planned.now) }
+    requires subject { IsSoundSubject sig.now (subject_tree subject.now) }
+    requires writable { IsWritable left.old }
+    ensures prints { PrintsMatches (printed sig.now (left_of left.old)
+        (rule_matches sig.now (subject_tree subject.now) (planned_rule planned.now)))
+        (sunk O.Sink out.old out.new) (left_of left.new) result }
+    ensures writable { IsWritable left.new }
+{
+    let PlannedRule {
+        rule,
+        plan,
+        constants,
+    } = planned;
+    if !may_fit(sig, plan.pattern(), &subject.term) {
+        return Ok(false);
+    }
+    let table = Table::build(alloc, sig, &subject.term, constants)?;
+    let room = room_for(alloc, plan, &table)?;
+    let mut cursor = Cursor::begin(room, sig, *rule, plan, &table);
+    print_to_come(alloc, subject, *rule, &mut cursor, left, out)
+}
+
+// Prints the matches of the rules on one subject, and says whether there are any.
+pub(crate) fn print_rules<O: Sink>(
+    alloc: Global,
+    sig: &Signature,
+    rules: &[PlannedRule<'_>],
+    subject: &Subject,
+    left: &mut Left,
+    out: &mut O,
+) -> Result<bool, Stop>
+    requires planned { AllByRecursion (IsPlanned sig.now) (map rule_plan rules.now) }
+    requires subject { IsSoundSubject sig.now (subject_tree subject.now) }
+    requires writable { IsWritable left.old }
+    ensures prints { PrintsMatches (printed sig.now (left_of left.old)
+        (subject_matches sig.now (map planned_rule rules.now) (subject_tree subject.now)))
+        (sunk O.Sink out.old out.new) (left_of left.new) result }
+    ensures writable { IsWritable left.new }
+{
+    let mut any = false;
+    for rule in rules {
+        any |= print_rule(alloc, sig, subject, rule, left, out)?;
+    }
+    Ok(any)
+}
+
+// Prints the matches of the rules on the subjects, and says whether there are any.
+pub(crate) fn print_subjects<O: Sink>(
+    alloc: Global,
+    sig: &Signature,
+    rules: &[PlannedRule<'_>],
+    subjects: &[Subject],
+    left: &mut Left,
+    out: &mut O,
+) -> Result<bool, Stop>
+    requires planned { AllByRecursion (IsPlanned sig.now) (map rule_plan rules.now) }
+    requires subjects { AllByRecursion (IsSoundSubject sig.now) (map subject_tree subjects.now) }
+    requires writable { IsWritable left.old }
+    ensures prints { PrintsMatches (printed sig.now (left_of left.old)
+        (all_matches sig.now (map planned_rule rules.now) (map subject_tree subjects.now)))
+        (sunk O.Sink out.old out.new) (left_of left.new) result }
+    ensures writable { IsWritable left.new }
+{
+    let mut any = false;
+    for subject in subjects {
+        any |= print_rules(alloc, sig, rules, subject, left, out)?;
+    }
+    Ok(any)
+}
