@@ -13,31 +13,40 @@ use Rattle.mp_rewrite.specs.Computed.{rewriting}
 use Rattle.mp_text.specs.declared.file.EditSet.{EditSet}
 use Rattle.mp_text.specs.File.{FileTree, Subject}
 use Rattle.mp_text.specs.Sound.{IsSoundFile}
-use Rattle.matchpy.specs.Computed.{file_lines, outcome_of, over_templates, rewritten}
-use Rattle.matchpy.specs.Matches.{has_some}
+use Rattle.mp_matches.specs.Computed.{listed}
+use Rattle.mp_matches.specs.Listed.{Listed, lines, misspelt, no_match}
+use Rattle.mp_matches.specs.Printed.{has_some}
+use Rattle.mp_matches.proofs.ListedLaws.{IsListed-exact}
+use Rattle.mp_words.specs.Words.{Request}
+use Rattle.mp_words.specs.declared.request.Action.{Action}
+use Rattle.mp_words.specs.declared.request.Action.TheVariants as action
+use Rattle.matchpy.specs.Computed.{outcome_of, over_templates, rewritten}
 use Rattle.matchpy.specs.Outcome.{IsDone, Outcome, edited_before, edits_made, first_without_template, matched}
 use Rattle.matchpy.specs.Outcome.{rewritten_before, statement_before}
-use Rattle.matchpy.specs.declared.words.Action.{Action}
-use Rattle.matchpy.specs.declared.words.Action.TheVariants as action
-use Rattle.matchpy.proofs.Matchable.{IsMatchableFile-sound}
-use Rattle.matchpy.proofs.MatchTexts.{file_lines-exact}
 use Rattle.matchpy.proofs.Rewrites.{over_templates-exact}
 
 -- what the proofs know of an action
 pub record IsLawful (action : Action) : Type 0 where
   -- over a sound file it comes to what its function gives, and to nothing else
-  pub exact : (max : ℕ) (file : FileTree) (o : Outcome) → IsSoundFile file
-      → IsDone action max file o ↔ (o ≡ outcome_of action max file)
+  pub exact : (request : Request) (file : FileTree) (o : Outcome) → IsSoundFile file
+      → IsDone action request file o ↔ (o ≡ outcome_of action request file)
   -- its status isn't that of a file that isn't read
-  pub read : (max : ℕ) (file : FileTree) → (outcome_of action max file).status ≡ 4 → ⊥
+  pub read : (request : Request) (file : FileTree) → (outcome_of action request file).status ≡ 4 → ⊥
 
 -- the outcome has a status other than that of a file that isn't read
 abbrev IsRead : Outcome → Type 0
 IsRead o = o.status ≡ 4 → ⊥
 
+-- ---- matches
+
 any_or_none : (any : Bool) → (let n : ℕ = if any then 0 else 1 in n ≡ 4) → ⊥
 any_or_none true = λ e. absurd (omega arith)
 any_or_none false = λ e. absurd (omega arith)
+
+matched-read : (l : Listed) → IsRead (matched l)
+matched-read (lines text) = any_or_none (has_some text)
+matched-read (misspelt at) = λ e. absurd (omega arith)
+matched-read no_match = λ e. absurd (omega arith)
 
 -- ---- rewriting
 
@@ -85,22 +94,23 @@ edits_made-read sig ss (e ∷ es) =
 
 pub action_law : (action : Action) → IsLawful action
 action_law action.Match = record {
-  exact = λ max file o sound.
-      let m = IsMatchableFile-sound file sound in (
-        λ h. h.2 ∙ ap matched ((file_lines-exact file m h.0).0 h.1),
-        λ e. (file_lines file, (file_lines-exact file m (file_lines file)).1 refl, e),
+  exact = λ request file o sound.
+      let exact = IsListed-exact file sound request.resume request.limit in
+      let told = listed file request.resume request.limit in (
+        λ h. h.2 ∙ ap matched ((exact h.0).0 h.1),
+        λ e. (told, (exact told).1 refl, e),
       );
-  read = λ max file. any_or_none (has_some (file_lines file));
+  read = λ request file. matched-read (listed file request.resume request.limit);
 }
 action_law action.Show =
-    record { exact = λ max file o sound. (λ e. e, λ e. e); read = λ max file e. absurd (omega arith) }
+    record { exact = λ request file o sound. (λ e. e, λ e. e); read = λ request file e. absurd (omega arith) }
 action_law action.Rewrite = record {
-  exact = over_templates-exact;
-  read = λ max file.
-      over_templates-read (rewritten file.sig max file.rules file.subjects) (first_without_template file.rules)
-      (rewritten-read file.sig max file.rules file.subjects);
+  exact = λ request. over_templates-exact request.max;
+  read = λ request file.
+      over_templates-read (rewritten file.sig request.max file.rules file.subjects)
+      (first_without_template file.rules) (rewritten-read file.sig request.max file.rules file.subjects);
 }
 action_law action.Edit = record {
-  exact = λ max file o sound. (λ e. e, λ e. e);
-  read = λ max file. edits_made-read file.sig file.subjects file.edits;
+  exact = λ request file o sound. (λ e. e, λ e. e);
+  read = λ request file. edits_made-read file.sig file.subjects file.edits;
 }

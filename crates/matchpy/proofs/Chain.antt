@@ -1,5 +1,5 @@
 -- How the answer of a run is made of the loading of its file and of an action over the file's bytes.
-use Rattle.std.proofs.Common.{◌≡◌, inl, inr, ℕ, ◌≤◌, ◌<◌, [], ◌∷◌, length, true, false, refl, sym, ap, ◌∙◌, subst}
+use Rattle.std.proofs.Common.{◌≡◌, inl, inr, ℕ, ◌≤◌, ◌<◌, List, [], ◌∷◌, length, true, false, refl, sym, ap, ◌∙◌, subst}
 use Rattle.std.proofs.Common.{arith}
 use Rattle.std.specs.Prelude.{Option, Some, None, IfSome, IsSomeAnd, Err, if◌then◌else◌, nat_lt}
 use Rattle.std.proofs.lemmas.Bool.Decides.{nat_tests}
@@ -66,6 +66,12 @@ pub AppendsFront-nothing : (out : Sunk) (text : Text) → out.new ≡ out.old �
 AppendsFront-nothing out text same =
     record { front = []; rest = text; split = refl; written = Appends-nothing out same }
 
+-- there was no memory, and nothing was written
+pub Answers-nothing : (names : List Text) (over : Files → Outcome) (shelf : Shelved) (out : Sunk)
+    → out.new ≡ out.old → Answers names over shelf out ending.Memory
+Answers-nothing names over shelf out same =
+    IfSome-all shelf.files (λ fs. AppendsFront-nothing out (over fs).out same)
+
 -- ---- a file that was loaded, and then the action
 
 pub Answers-loaded : (limit : ℕ) (name bytes : Text) (over : Text → Outcome) (shelf : Shelved) (out : Sunk) (e : Ending)
@@ -92,7 +98,7 @@ Answers-unloaded limit name over shelf out (ending.Told t) h same stays =
     given-long (λ o. IsReached o out t) limit name over shelf.files h.2
     (record { status = h.0; line = h.1; text = Appends-nothing out same; stays = stays })
 Answers-unloaded limit name over shelf out ending.Memory h same stays =
-    IfSome-all shelf.files (λ fs. AppendsFront-nothing out (given limit name over (held fs name)).out same)
+    Answers-nothing (name ∷ []) (λ fs. given limit name over (held fs name)) shelf out same
 Answers-unloaded limit name over shelf out ending.CannotWrite h same stays = absurd h
 Answers-unloaded limit name over shelf out (ending.CannotOpen n) h same stays = (
   Keeps-nothing out same,

@@ -1,8 +1,5 @@
-pub mod Parts
 pub mod Chain
 pub mod Parted
-pub mod Matchable
-pub mod MatchTexts
 pub mod Rewrites
 pub mod Edits
 pub mod Actions

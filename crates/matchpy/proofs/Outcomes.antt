@@ -12,14 +12,14 @@ use Rattle.mp_text.proofs.Whole.{fault_of-exact, file_of-exact, file-no_fault, n
 use Rattle.matchpy.specs.Computed.{given, outcome_at, outcome_of, outcome_over, over_file}
 use Rattle.matchpy.specs.Messages.{long_line}
 use Rattle.matchpy.specs.Outcome.{IsOutcomeAt, IsOutcomeOver, IsOver, Outcome, file_limit, refused}
-use Rattle.matchpy.specs.Words.{Request}
+use Rattle.mp_words.specs.Words.{Request}
 use Rattle.matchpy.proofs.Actions.{action_law}
 
 -- ---- over the bytes of a file
 
 module _ (request : Request) (bytes : Text) where
   over_file-is : (fault : Option TextFault) (found : Option FileTree) → fault_of bytes ≡ fault → file_of bytes ≡ found
-      → IsOutcomeOver request bytes (over_file (outcome_of request.action request.max) request.file fault found)
+      → IsOutcomeOver request bytes (over_file (outcome_of request.action request) request.file fault found)
   over_file-is (Some fault) found f e = inr (fault, (fault_of-exact bytes fault).1 f, refl)
   over_file-is None None f e =
       let (file, read) = no_fault-of bytes f in
@@ -27,14 +27,14 @@ module _ (request : Request) (bytes : Text) where
       absurd cc
   over_file-is None (Some file) f e =
       let read : IsFileOf bytes file = (file_of-exact bytes file).1 e in
-      let done = (action_law request.action).exact request.max file (outcome_of request.action request.max file)
+      let done = (action_law request.action).exact request file (outcome_of request.action request file)
       (IsSoundFile-IsFileOf bytes file read) in
       inl (file, read, done.1 refl)
 
   over_file-only : (o : Outcome) → IsOutcomeOver request bytes o → o ≡ outcome_over request bytes
   over_file-only o (inl h) =
       rw (file-no_fault bytes h.0 h.1, (file_of-exact bytes h.0).0 h.1)
-      (((action_law request.action).exact request.max h.0 o (IsSoundFile-IsFileOf bytes h.0 h.1)).0 h.2)
+      (((action_law request.action).exact request h.0 o (IsSoundFile-IsFileOf bytes h.0 h.1)).0 h.2)
   over_file-only o (inr h) = rw ((fault_of-exact bytes h.0).0 h.1) h.2
 
   outcome_over-exact : (o : Outcome) → IsOutcomeOver request bytes o ↔ (o ≡ outcome_over request bytes)

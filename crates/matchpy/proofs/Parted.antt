@@ -1,8 +1,9 @@
 -- An action that is done part by part.
-use Rattle.std.proofs.Common.{◌≡◌, ℕ, ◌+◌, ◌<◌, ◌≤◌, List, [], ◌∷◌, ◌++◌, length, drop, get_or}
+use Rattle.std.proofs.Common.{◌≡◌, ℕ, ◌+◌, ◌<◌, ◌≤◌, List, [], ◌∷◌, ◌++◌, length, map, drop, get_or}
 use Rattle.std.proofs.Common.{refl, sym, ap, ◌∙◌, subst}
 use Rattle.std.proofs.Common.{append_assoc, append-nil, length-append, drop_of_length-le, arith}
 use Rattle.std.specs.Prelude.{Option, Result, Ok, Err, IsErrAnd, ⊤}
+use Rattle.std.specs.List.{AllByRecursion}
 use Rattle.std.specs.Io.KnownBytes.{Appends}
 use Rattle.std.proofs.KnownBytes.{Appends-nil, Appends-trans}
 use Rattle.mp_term.proofs.ListLaws.{drop-item}
@@ -98,6 +99,13 @@ write-failed text o a b m n h rose =
     (front-longer a b text o.out h.front, rose, omega (arith, h.some, length-append text o.out))
 
 -- ---- a loop over items, each of which is a part
+
+-- what holds of all items from an index on holds of the one there and of those after it
+pub AllByRecursion-drop : {A X : Type 0} (view : A → X) (P : X → Type 0) (xs : List A) (i : ℕ) (x : A)
+    → i < length xs → x ≡ get_or xs i x → AllByRecursion P (map view (drop i xs))
+    → P (view x) × AllByRecursion P (map view (drop (i + 1) xs))
+AllByRecursion-drop view P xs i x h is all =
+    subst (λ ys. AllByRecursion P (map view ys)) (drop-item xs i x h is) all
 
 module _ {A : Type 0} (left : List A → Outcome) (part : A → Outcome → Outcome)
     (each : (x : A) (xs : List A) → left (x ∷ xs) ≡ part x (left xs)) (o : Outcome) (xs : List A) (i : ℕ)

@@ -17,7 +17,7 @@ use Rattle.matchpy.specs.Endings.{line_of, status_of, told_line, told_status}
 use Rattle.matchpy.specs.Messages.{long_line, memory_line, open_line, read_line, write_line}
 use Rattle.matchpy.specs.Outcome.{Outcome, file_limit, refused}
 use Rattle.matchpy.specs.Run.{HasOutcome, IsSomeMissing, IsTurnOf, Runs, Says, names_of, statuses}
-use Rattle.matchpy.specs.Words.{Request, request_of}
+use Rattle.mp_words.specs.Words.{Request, request_of}
 use Rattle.matchpy.specs.declared.ending.Told.{Told}
 use Rattle.matchpy.specs.declared.ending.Told.TheVariants as told
 use Rattle.matchpy.specs.declared.ending.Ending.{Ending}
@@ -46,10 +46,10 @@ given-silent limit name over (Some bytes) h = by_length (nat_lt limit (length by
 
 -- over the bytes of a file the status isn't 4
 over_file-read : (request : Request) (fault : Option TextFault) (found : Option FileTree)
-    → (over_file (outcome_of request.action request.max) request.file fault found).status ≡ 4 → ⊥
+    → (over_file (outcome_of request.action request) request.file fault found).status ≡ 4 → ⊥
 over_file-read request (Some fault) found = λ e. absurd (omega arith)
 over_file-read request None None = λ e. absurd (omega arith)
-over_file-read request None (Some file) = (action_law request.action).read request.max file
+over_file-read request None (Some file) = (action_law request.action).read request file
 
 outcome_at-silent : (files : Files) (request : Option Request) → IsSilent (outcome_at files request)
 outcome_at-silent files None = λ e. refl
@@ -91,6 +91,8 @@ told_status-settled told.Empty = (λ e. absurd (omega arith), λ e. absurd (omeg
 told_status-settled told.Usage = (λ e. absurd (omega arith), λ e. absurd (omega arith))
 told_status-settled (told.BadText name fault) = (λ e. absurd (omega arith), λ e. absurd (omega arith))
 told_status-settled (told.TooLong name) = (λ e. absurd (omega arith), λ e. absurd (omega arith))
+told_status-settled (told.Misspelt at) = (λ e. absurd (omega arith), λ e. absurd (omega arith))
+told_status-settled told.NoItem = (λ e. absurd (omega arith), λ e. absurd (omega arith))
 told_status-settled (told.NoTemplate rule) = (λ e. absurd (omega arith), λ e. absurd (omega arith))
 told_status-settled (told.TurnLimit subject max) = (λ e. absurd (omega arith), λ e. absurd (omega arith))
 told_status-settled (told.TooLarge subject nodes) = (λ e. absurd (omega arith), λ e. absurd (omega arith))
@@ -105,7 +107,9 @@ status_of-listed (ending.Told told.Empty) = (1, omega arith, refl)
 status_of-listed (ending.Told told.Usage) = (2, omega arith, refl)
 status_of-listed (ending.Told (told.BadText name fault)) = (3, omega arith, refl)
 status_of-listed (ending.Told (told.TooLong name)) = (4, omega arith, refl)
-status_of-listed (ending.Told (told.NoTemplate rule)) = (9, omega arith, refl)
+status_of-listed (ending.Told (told.Misspelt at)) = (9, omega arith, refl)
+status_of-listed (ending.Told told.NoItem) = (9, omega arith, refl)
+status_of-listed (ending.Told (told.NoTemplate rule)) = (10, omega arith, refl)
 status_of-listed (ending.Told (told.TurnLimit subject max)) = (6, omega arith, refl)
 status_of-listed (ending.Told (told.TooLarge subject nodes)) = (7, omega arith, refl)
 status_of-listed (ending.Told (told.TooDeep subject depth)) = (7, omega arith, refl)
@@ -132,6 +136,8 @@ Says-done err (ending.Told told.Empty) says few = Says-nothing err says
 Says-done err (ending.Told told.Usage) says few = absurd (omega arith)
 Says-done err (ending.Told (told.BadText name fault)) says few = absurd (omega arith)
 Says-done err (ending.Told (told.TooLong name)) says few = absurd (omega arith)
+Says-done err (ending.Told (told.Misspelt at)) says few = absurd (omega arith)
+Says-done err (ending.Told told.NoItem) says few = absurd (omega arith)
 Says-done err (ending.Told (told.NoTemplate rule)) says few = absurd (omega arith)
 Says-done err (ending.Told (told.TurnLimit subject max)) says few = absurd (omega arith)
 Says-done err (ending.Told (told.TooLarge subject nodes)) says few = absurd (omega arith)

@@ -1,35 +1,19 @@
--- The outcome as a function: by the search for the one-list, by rewriting as it is computed, and by the reading of the
--- bytes as it is computed.
-use Rattle.std.specs.Prelude.{ℕ, List, [], ◌∷◌, length, flat_map, Option, Some, None, if◌then◌else◌, nat_lt}
+-- The outcome as a function: by the matches, the rewriting and the reading of the bytes as they are computed.
+use Rattle.std.specs.Prelude.{ℕ, List, [], ◌∷◌, length, Option, Some, None, if◌then◌else◌, nat_lt}
 use Rattle.mp_io.specs.Devices.{Files, Text, held}
 use Rattle.mp_term.specs.Signature.{Sig}
 use Rattle.mp_pattern.specs.Admission.{Rule}
-use Rattle.mp_theory.specs.OneList.{one_list}
+use Rattle.mp_matches.specs.Computed.{listed}
 use Rattle.mp_rewrite.specs.Computed.{rewriting}
 use Rattle.mp_text.specs.File.{FileTree, Subject}
 use Rattle.mp_text.specs.Computed.{fault_of, file_of}
 use Rattle.mp_text.specs.declared.fault.TextFault.{TextFault}
 use Rattle.matchpy.specs.Messages.{fault_line, long_line, no_template_line, open_line, usage_line}
-use Rattle.matchpy.specs.Matches.{match_line}
 use Rattle.matchpy.specs.Outcome.{Outcome, edits_made, file_limit, finished, first_without_template}
 use Rattle.matchpy.specs.Outcome.{matched, refused, rewritten_before, shown}
-use Rattle.matchpy.specs.Words.{Request}
-use Rattle.matchpy.specs.declared.words.Action.{Action}
-use Rattle.matchpy.specs.declared.words.Action.TheVariants.{Match, Show, Rewrite, Edit}
-
--- ---- the lines of the matches
-
--- a line for each substitution of the one-list of a rule on a subject
-abbrev pub rule_lines : Sig → Subject → Rule → Text
-rule_lines sig subject rule = flat_map (match_line sig subject rule) (one_list sig rule subject.term)
-
--- the lines of all rules on a subject, in order
-abbrev pub subject_lines : Sig → List Rule → Subject → Text
-subject_lines sig rules subject = flat_map (rule_lines sig subject) rules
-
--- the lines of all subjects, in order
-abbrev pub file_lines : FileTree → Text
-file_lines file = flat_map (subject_lines file.sig file.rules) file.subjects
+use Rattle.mp_words.specs.Words.{Request}
+use Rattle.mp_words.specs.declared.request.Action.{Action}
+use Rattle.mp_words.specs.declared.request.Action.TheVariants.{Match, Show, Rewrite, Edit}
 
 -- ---- rewriting
 
@@ -47,12 +31,12 @@ over_templates over (Some rule) = refused 11 (no_template_line rule.name)
 -- ---- the actions
 
 -- what an action over a file comes to
-abbrev pub outcome_of : Action → ℕ → FileTree → Outcome
-outcome_of Match max file = matched (file_lines file)
-outcome_of Show max file = shown file
-outcome_of Rewrite max file =
-    over_templates (rewritten file.sig max file.rules file.subjects) (first_without_template file.rules)
-outcome_of Edit max file = edits_made file.sig file.subjects file.edits
+abbrev pub outcome_of : Action → Request → FileTree → Outcome
+outcome_of Match request file = matched (listed file request.resume request.limit)
+outcome_of Show request file = shown file
+outcome_of Rewrite request file =
+    over_templates (rewritten file.sig request.max file.rules file.subjects) (first_without_template file.rules)
+outcome_of Edit request file = edits_made file.sig file.subjects file.edits
 
 -- ---- the run
 
@@ -65,7 +49,7 @@ over_file over name None None = refused 3 []
 -- what the request asks for, over the bytes of its file
 abbrev pub outcome_over : Request → Text → Outcome
 outcome_over request bytes =
-    over_file (outcome_of request.action request.max) request.file (fault_of bytes) (file_of bytes)
+    over_file (outcome_of request.action request) request.file (fault_of bytes) (file_of bytes)
 
 -- the outcome over a named file's bytes, where it is held and not too long
 abbrev pub given : ℕ → Text → (Text → Outcome) → Option Text → Outcome

@@ -1,12 +1,6 @@
-pub mod Words
-pub mod Requests
 pub mod Messages
-pub mod Matches
 pub mod Outcome
 pub mod Run
-pub mod Matchable
 pub mod Computed
-pub mod Planned
 pub mod Endings
 pub mod Answers
-pub mod Printed

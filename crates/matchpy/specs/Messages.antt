@@ -78,6 +78,14 @@ fault_line name fault = said_at name (decimal fault.line) (decimal fault.column)
 abbrev pub said_number : Text → Text → Text → Text → Text
 said_number name before digits behind = codes "matchpy: " ++ (name ++ (before ++ (digits ++ (behind ++ 10 ∷ []))))
 
+-- the token is misspelt: a token begins with so many of its bytes, and none with more
+abbrev pub spelling_line : ℕ → Text
+spelling_line at = said_number (codes "token") (codes ": spelling at ") (decimal at) []
+
+-- the token is that of no match
+abbrev pub no_item_line : Text
+no_item_line = told (codes "token: not an item")
+
 -- the rule has no template
 abbrev pub no_template_line : Text → Text
 no_template_line name = said_of name (codes ": no template")

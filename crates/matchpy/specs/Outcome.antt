@@ -19,11 +19,12 @@ use Rattle.mp_text.specs.PrintedFile.{file_text}
 use Rattle.mp_text.specs.Reading.{IsFaultOf, IsFileOf}
 use Rattle.mp_text.specs.declared.fault.TextFault.{TextFault}
 use Rattle.matchpy.specs.Messages.{deep_line, excess_line, fault_line, large_line, limit_line, long_line}
-use Rattle.matchpy.specs.Messages.{no_template_line, open_line, usage_line}
-use Rattle.matchpy.specs.Matches.{IsMatchText, has_some}
-use Rattle.matchpy.specs.Words.{Request, request_of}
-use Rattle.matchpy.specs.declared.words.Action.{Action}
-use Rattle.matchpy.specs.declared.words.Action.TheVariants as action
+use Rattle.matchpy.specs.Messages.{no_item_line, no_template_line, open_line, spelling_line, usage_line}
+use Rattle.mp_matches.specs.Listed.{IsListed, Listed, lines, misspelt, no_match}
+use Rattle.mp_matches.specs.Printed.{has_some}
+use Rattle.mp_words.specs.Words.{Request, request_of}
+use Rattle.mp_words.specs.declared.request.Action.{Action}
+use Rattle.mp_words.specs.declared.request.Action.TheVariants as action
 
 -- what a run writes, and what it answers
 pub record Outcome : Type 0 where
@@ -50,9 +51,11 @@ file_limit = 1048576
 
 -- ---- matches, and the file
 
--- the lines of the matches; the status tells whether there is one
-abbrev pub matched : Text → Outcome
-matched text = record { out = text; err = []; status = if has_some text then 0 else 1 }
+-- the lines of the matches, where the status tells whether there is one; or a token that is that of no match
+abbrev pub matched : Listed → Outcome
+matched (lines text) = record { out = text; err = []; status = if has_some text then 0 else 1 }
+matched (misspelt at) = refused 9 (spelling_line at)
+matched no_match = refused 9 no_item_line
 
 -- the printed file
 abbrev pub shown : FileTree → Outcome
@@ -120,21 +123,22 @@ module _ (sig : Sig) where
 
 -- ---- the actions
 
--- What an action over a file comes to: the matches of the file are printed, or the file, or its subjects after
--- rewriting with a limit, or after its edits.
-abbrev pub IsDone : Action → ℕ → FileTree → Outcome → Type 0
-IsDone action.Match max file o = (text : Text) × IsMatchText file text × (o ≡ matched text)
-IsDone action.Show max file o = o ≡ shown file
-IsDone action.Rewrite max file o = IsOverTemplates (AreRewritten file.sig max file.rules file.subjects)
-    (first_without_template file.rules) o
-IsDone action.Edit max file o = o ≡ edits_made file.sig file.subjects file.edits
+-- What an action of a request comes to over a file: the matches of the file are printed, all or so many, from the first
+-- or from behind a token on; or the file, or its subjects after rewriting with a limit, or after its edits.
+abbrev pub IsDone : Action → Request → FileTree → Outcome → Type 0
+IsDone action.Match request file o =
+    (l : Listed) × IsListed file request.resume request.limit l × (o ≡ matched l)
+IsDone action.Show request file o = o ≡ shown file
+IsDone action.Rewrite request file o =
+    IsOverTemplates (AreRewritten file.sig request.max file.rules file.subjects) (first_without_template file.rules) o
+IsDone action.Edit request file o = o ≡ edits_made file.sig file.subjects file.edits
 
 -- ---- the run
 
 -- over the bytes of a file: what the action over the file that they are comes to, or the fault that they have
 abbrev pub IsOutcomeOver : Request → Text → Outcome → Type 0
 IsOutcomeOver request bytes o =
-    ((file : FileTree) × IsFileOf bytes file × IsDone request.action request.max file o)
+    ((file : FileTree) × IsFileOf bytes file × IsDone request.action request file o)
     ⊎ ((fault : TextFault) × IsFaultOf bytes fault × (o ≡ refused 3 (fault_line request.file fault)))
 
 -- a named file is held and not too long, and over its bytes the outcome is as told; or it is refused

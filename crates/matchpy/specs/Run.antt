@@ -1,13 +1,14 @@
 -- What the whole command promises.
 use Rattle.std.specs.Prelude.{◌≡◌, ◌⊎◌, ◌<◌, ◌≤◌, ◌+◌, ◌*◌, ℕ, List, [], ◌∷◌, length, map, Option, Some, None}
-use Rattle.std.specs.Prelude.{string_bytes}
+use Rattle.std.specs.Prelude.{drop, string_bytes}
+use Rattle.std.specs.Borrow.{Bor}
 use Rattle.std.specs.Io.KnownBytes.{Appends, Keeps}
 use Rattle.std.specs.declared.string.String.{String}
 use Rattle.std.specs.Global.{Global}
 use Rattle.mp_io.specs.Devices.{Files, IsMissing, Rose, Text, held}
 use Rattle.mp_io.specs.Moments.{Shelved, Sunk}
 use Rattle.mp_io.specs.Printing.{AppendsFront}
-use Rattle.matchpy.specs.Words.{Request, request_of}
+use Rattle.mp_words.specs.Words.{Request, request_of}
 use Rattle.matchpy.specs.Messages.{long_line, memory_line, open_line, read_line, usage_line, write_line}
 use Rattle.matchpy.specs.Outcome.{IsOutcome, Outcome, file_limit}
 
@@ -16,6 +17,10 @@ use Rattle.matchpy.specs.Outcome.{IsOutcome, Outcome, file_limit}
 -- the bytes of the words
 abbrev pub words_of : List (String Global) → List Text
 words_of = map string_bytes
+
+-- the words behind the program's name
+abbrev pub words_behind : List (Bor Text) → List Text
+words_behind all = drop 1 (map (λ word. word.now) all)
 
 -- the files that a request names, in the order in which they are read
 abbrev pub names_of : Option Request → List Text
@@ -36,7 +41,7 @@ IsTurnOf files (n ∷ names) name = (n ≡ name) ⊎ ((IsMissing files n → ⊥
 
 -- what a run answers
 abbrev pub statuses : List ℕ
-statuses = 0 ∷ 1 ∷ 2 ∷ 3 ∷ 4 ∷ 5 ∷ 6 ∷ 7 ∷ 8 ∷ 11 ∷ []
+statuses = 0 ∷ 1 ∷ 2 ∷ 3 ∷ 4 ∷ 5 ∷ 6 ∷ 7 ∷ 8 ∷ 9 ∷ 11 ∷ []
 
 -- a count of the shelf's faults rose
 abbrev pub ShelfRose : Shelved → Type 0

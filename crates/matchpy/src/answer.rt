@@ -9,7 +9,7 @@ ghost use Rattle.matchpy.specs.Answers.{Acts, Answers, HasCauses, Loads, items_i
 ghost use Rattle.matchpy.specs.Computed.{given, outcome_of, outcome_over};
 ghost use Rattle.matchpy.specs.Endings.{status_of};
 ghost use Rattle.matchpy.specs.Outcome.{file_limit};
-ghost use Rattle.matchpy.specs.Requests.{asked};
+ghost use Rattle.mp_words.specs.Requests.{asked};
 ghost use Rattle.matchpy.specs.Run.{IsReadOnce};
 
 use crate::edit::edit_file;
@@ -17,9 +17,9 @@ use crate::ending::{Ending, Told};
 use crate::matches::match_file;
 use crate::rewrite::rewrite_file;
 use crate::show::show_file;
-use crate::words::{Action, Request};
 use mp_io::{ReadFault, Shelf, Sink, read_whole};
 use mp_text::{File, TextError, read_file};
+use mp_words::{Action, Request};
 use std::alloc::Global;
 
 // A file of rules has at most so many bytes.
@@ -46,17 +46,18 @@ fn load<'a, S: Shelf>(
     }
 }
 
-// Does the action, over a file that was read; rewriting makes at most `max` steps of each subject.
-fn act<'a, O: Sink>(alloc: Global, action: Action, max: u64, file: &File, out: &mut O) -> Ending<'a>
+// Does what the request asks for, over a file that was read.
+fn act<'a, O: Sink>(alloc: Global, request: Request<'a>, file: &File, out: &mut O) -> Ending<'a>
     requires { IsSoundFile (file_tree file.now) }
-    ensures acts { Acts (outcome_of action max (file_tree file.now)) (sunk O.Sink out.old out.new) result }
+    ensures acts { let asked_for = asked request.entry in
+        Acts (outcome_of asked_for.action asked_for (file_tree file.now)) (sunk O.Sink out.old out.new) result }
     ensures used { status_of result ≡ 2 → ⊥ }
     ensures read { status_of result ≡ 4 → ⊥ }
 {
-    match action {
-        Action::Match => match_file(alloc, file, out),
+    match request.action {
+        Action::Match => match_file(alloc, file, request.limit, request.resume, out),
         Action::Show => show_file(file, out),
-        Action::Rewrite => rewrite_file(alloc, file, max, out),
+        Action::Rewrite => rewrite_file(alloc, file, u64::from(request.max), out),
         Action::Edit => edit_file(alloc, file, out),
     }
 }
@@ -74,7 +75,7 @@ fn act_over<'a, O: Sink>(
     ensures read { status_of result ≡ 4 → ⊥ }
 {
     match read_file(alloc, bytes) {
-        Ok(file) => act(alloc, request.action, request.max, &file, out),
+        Ok(file) => act(alloc, request, &file, out),
         Err(TextError::Text(fault)) => Ending::Told(Told::BadText(request.file, fault)),
         Err(TextError::Memory) => Ending::Memory,
     }

@@ -5,7 +5,7 @@ ghost use Rattle.mp_io.specs.Moments.{sunk};
 ghost use Rattle.mp_io.specs.Printing.{Prints};
 ghost use Rattle.matchpy.specs.Endings.{line_of, status_of, told_line, told_status};
 ghost use Rattle.matchpy.specs.Messages.{deep_line, fault_line, kind_text, large_line, limit_line};
-ghost use Rattle.matchpy.specs.Messages.{said_at, said_number, said_of};
+ghost use Rattle.matchpy.specs.Messages.{said_at, said_number, said_of, spelling_line};
 
 use itoa::Buffer;
 use mp_io::{Failed, Sink, put, put_all};
@@ -25,6 +25,10 @@ pub enum Told<'a> {
     BadText(&'a str, TextFault),
     /// The named file has more bytes than its limit.
     TooLong(&'a str),
+    /// The text of a token spells none: some token begins with so many of its bytes, and none with more of them.
+    Misspelt(u64),
+    /// The token is that of no match of the file.
+    NoItem,
     /// The rule of this name has no template.
     NoTemplate(Name),
     /// The subject of this name was rewritten in so many steps, which were all that were asked for, and more could be
@@ -80,6 +84,7 @@ fn told_status(told: &Told<'_>) -> u8
         Told::Usage => 2,
         Told::BadText(_, _) => 3,
         Told::TooLong(_) => 4,
+        Told::Misspelt(_) | Told::NoItem => 9,
         Told::NoTemplate(_) => 11,
         Told::TurnLimit(_, _) => 6,
         Told::TooLarge(_, _) | Told::TooDeep(_, _) => 7,
@@ -181,6 +186,14 @@ fn say_digits<E: Sink>(
     put_all(err, &parts)
 }
 
+// Writes the line that says with how many of its bytes a misspelt token is one so far.
+fn say_spelling<E: Sink>(err: &mut E, at: u64) -> Result<(), Failed>
+    ensures { Prints (sunk E.Sink err.old err.new) (spelling_line at) result }
+{
+    let mut digits = Buffer::new();
+    say_digits(err, b"token", b": spelling at ", digits.format(at), b"")
+}
+
 // Writes the line that says that the subject has reached the limit of steps.
 fn say_limit<E: Sink>(err: &mut E, subject: &Name, max: u64) -> Result<(), Failed>
     ensures { Prints (sunk E.Sink err.old err.new) (limit_line subject.now max) result }
@@ -233,6 +246,8 @@ fn say_told<E: Sink>(err: &mut E, told: &Told<'_>) -> Result<(), Failed>
         Told::Usage => put(err, USAGE),
         Told::BadText(name, fault) => say_fault(err, name.as_bytes(), *fault),
         Told::TooLong(name) => say_of(err, name.as_bytes(), b": too long"),
+        Told::Misspelt(at) => say_spelling(err, *at),
+        Told::NoItem => put(err, b"matchpy: token: not an item\n"),
         Told::NoTemplate(rule) => say_of(err, rule.bytes(), b": no template"),
         Told::TurnLimit(subject, max) => say_limit(err, subject, *max),
         Told::TooLarge(subject, nodes) => say_large(err, subject, *nodes),

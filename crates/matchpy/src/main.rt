@@ -11,7 +11,6 @@ mod run;
 mod show;
 #[cfg(test)]
 mod tests;
-mod words;
 
 use mp_io::{RealShelf, RealSink};
 use std::alloc::AllocError;

@@ -12,10 +12,9 @@ ghost use Rattle.mp_text.specs.Sound.{IsSoundFile};
 ghost use Rattle.mp_rewrite.specs.Answers.{rewriting_of};
 ghost use Rattle.mp_rewrite.specs.Computed.{rewriting};
 ghost use Rattle.matchpy.specs.Answers.{Acts, GoesOn};
-ghost use Rattle.matchpy.specs.Computed.{outcome_of, rewritten};
+ghost use Rattle.matchpy.specs.Computed.{over_templates, rewritten};
 ghost use Rattle.matchpy.specs.Endings.{status_of};
 ghost use Rattle.matchpy.specs.Outcome.{Outcome, first_without_template, rewritten_before, rewritten_line};
-ghost use Rattle.matchpy.specs.declared.words.Action.TheVariants as action;
 
 use crate::ending::{Ending, Told};
 use itoa::Buffer;
@@ -143,7 +142,9 @@ fn rewrite_subjects<'a, O: Sink>(
 /// that failed; a front of the lines was written then.
 pub fn rewrite_file<'a, O: Sink>(alloc: Global, file: &File, max: u64, out: &mut O) -> Ending<'a>
     requires { IsSoundFile (file_tree file.now) }
-    ensures acts { Acts (outcome_of action.Rewrite max (file_tree file.now)) (sunk O.Sink out.old out.new) result }
+    ensures acts { let f = file_tree file.now in
+        Acts (over_templates (rewritten f.sig max f.rules f.subjects) (first_without_template f.rules))
+        (sunk O.Sink out.old out.new) result }
     ensures used { status_of result ≡ 2 → ⊥ }
     ensures read { status_of result ≡ 4 → ⊥ }
 {

@@ -2,9 +2,11 @@
 
 mod cases;
 mod changes;
+mod listed;
 
 use self::cases::{CONDITIONED, CONDITIONS, EXAMPLES, FAULTS, MATCHES, RUNS};
 use self::changes::CHANGES;
+use self::listed::LISTED;
 use crate::run::run;
 use mp_io::{MemoryShelf, MemorySink};
 use std::alloc::Global;
@@ -94,6 +96,47 @@ fn each_match_is_printed_once_in_order(rt: HostRuntime) -> Result<(), Fail> {
     Ok(())
 }
 
+// Whether the matches of the file, cut behind each of them and resumed there, are those of the whole list.
+fn is_resumed(alloc: Global, case: &str) -> Result<bool, Fail> {
+    let Some((file, lines)) = case.split_once("----\n") else {
+        return Err("no case".into());
+    };
+    let file = file.as_bytes();
+    for limit in 1..30_u32 {
+        let limit = format!(in alloc; "{limit}")?;
+        let cut = ran(
+            alloc,
+            &["match", "t", "--limit", limit.as_str()],
+            file,
+            &SOUND,
+        )?;
+        let Ok(printed) = str::from_utf8(cut.out.as_slice()) else {
+            return Err("no text".into());
+        };
+        let Some((front, token)) = printed.split_once("more ") else {
+            return Ok(printed == lines);
+        };
+        let Some(behind) = lines.strip_prefix(front) else {
+            return Ok(false);
+        };
+        let words = ["match", "t", "--resume", token.trim()];
+        if !ran(alloc, &words, file, &SOUND)?.is(0, behind, "") {
+            return Ok(false);
+        }
+    }
+    Err("more lines".into())
+}
+
+#[test]
+fn a_list_that_is_cut_goes_on_behind_its_token(rt: HostRuntime) -> Result<(), Fail> {
+    for table in [MATCHES, EXAMPLES] {
+        for case in table.split("====\n") {
+            assert!(rt; is_resumed(rt.alloc(), case)?, "{case}");
+        }
+    }
+    Ok(())
+}
+
 // Whether the run over the rule with the condition has the status behind it.
 fn has_status(alloc: Global, case: &str) -> Result<bool, Fail> {
     let Some((condition, wanted)) = case.split_once('|') else {
@@ -142,7 +185,7 @@ fn is_run(alloc: Global, case: &str) -> Result<bool, Fail> {
 
 #[test]
 fn words_and_files_decide_what_is_printed(rt: HostRuntime) -> Result<(), Fail> {
-    for table in [RUNS, CHANGES] {
+    for table in [RUNS, CHANGES, LISTED] {
         for case in table.split("====\n") {
             assert!(rt; is_run(rt.alloc(), case)?, "{case}");
         }
@@ -173,7 +216,10 @@ fn other_words_are_refused(rt: HostRuntime) -> Result<(), Fail> {
     for words in [
         ["match"].as_slice(),
         &["match", "-t"],
-        &["match", ""],
+        &["match", "t", "--limit", "0"],
+        &["match", "t", "--engine", "two"],
+        &["match", "t", "--help"],
+        &["rewrite", "t", "--resume", "s/r/2;0;1"],
         &["match", "t", "t"],
         &["show"],
         &[],

@@ -1,11 +1,17 @@
-//! The items of the one-list: each substitution with its least take table.
+//! The items of the one-list: each substitution with its least take table, as the terms that its ranks stand for.
 
-use mp_io::{MemorySink, Sink, put};
-use mp_one::{Item, Items, eager_list, has_small_defaults};
-use mp_pattern::{Entry, Plan, Rule};
-use mp_term::{Signature, Term, is_normal, node_count};
-use mp_tests::file;
-use mp_text::{File, write_subst, write_term};
+ghost use Rattle.std.specs.Prelude.{IsSome};
+ghost use Rattle.mp_pattern.specs.Planned.{IsPlanned, rule_plan};
+ghost use Rattle.mp_text.specs.File.{file_tree, subject_tree};
+ghost use Rattle.mp_text.specs.Sound.{IsSoundFile, IsSoundSubject};
+
+use mp_io::{MemorySink, Writer};
+use mp_one::{Cursor, room_for};
+use mp_pattern::{PlannedRule, plan_rules};
+use mp_print::put_rank;
+use mp_table::{Rank, Table};
+use mp_term::Signature;
+use mp_text::{File, Subject, read_file};
 use std::alloc::Global;
 use std::test::Fail;
 
@@ -13,11 +19,6 @@ use std::test::Fail;
 // stands between the entries of a table, and a blank between the terms of an entry; the entry of a collapsed
 // application ends with `!`.
 const FILES: &str = "\
-op f 2;
-rule r: f(x_, x_);
-subject s: f(a, b);
-----
-====
 op f 2;
 rule r: f(a, b);
 subject s: f(a, b);
@@ -37,26 +38,6 @@ subject t: s(a, a);
 ----
 s(a, a);a;a {x -> {a}, y -> {a}}
 s(a, a);a a; {x -> {a, a}, y -> {}}
-====
-op s 0+ comm;
-rule r: s(x_, _, __);
-subject t: s(a, b, c);
-----
-s(a, b, c);a;b;c {x -> a}
-s(a, b, c);b;a;c {x -> b}
-s(a, b, c);c;a;b {x -> c}
-====
-op h 2; op g 0+; op s 0+ comm;
-rule r: h(s(x__), g(x__));
-subject t: h(s(a, b), g(b, a));
-----
-h(s(a, b), g(b, a));s(a, b);a b;g(b, a);b a {x -> (b, a)}
-====
-op u 1+ assoc comm one infix +;
-rule r: u(x_, y_:0);
-subject s: a;
-----
-a!;a; {x -> a, y -> 0}
 ====
 op u 1+ assoc comm one infix +;
 rule r: u(x_:0, y_:0);
@@ -109,22 +90,6 @@ subject t: h(s(a, b), g(b, a));
 ----
 h(s(a, b), g(b, a));s(a, b);a b;g(b, a);b a {x -> (b, a)}
 ====
-op p 1+ assoc;
-rule r: p(x_{2}, y_);
-subject s: p(a, b, c, d);
-----
-p(a, b, c, d);a b;c d {x -> (a, b), y -> p(c, d)}
-====
-op s 0+ comm;
-rule r: s(_{2}, x_, y_{2+});
-subject t: s(a, a, a, b, b);
-----
-s(a, a, a, b, b);a;a a;b b {x -> a, y -> {a, a}}
-s(a, a, a, b, b);a;a b;a b {x -> a, y -> {a, b}}
-s(a, a, a, b, b);a;b b;a a {x -> a, y -> {b, b}}
-s(a, a, a, b, b);b;a a;a b {x -> b, y -> {a, a}}
-s(a, a, a, b, b);b;a b;a a {x -> b, y -> {a, b}}
-====
 op u 1+ assoc comm one infix +;
 rule r: u(x_:0, y_{2});
 subject s: (a + b + c);
@@ -145,90 +110,116 @@ subject s: a;
 ----
 ====
 op g 0+;
-rule r: g(_{2}, x___, _{2+});
-subject s: g(a, b, c, d, e);
-----
-g(a, b, c, d, e);a b;;c d e {x -> ()}
-g(a, b, c, d, e);a b;c;d e {x -> (c)}
-====
-op g 0+;
 rule r: g(x_{3+});
 subject s: g(a, b);
 ----
 ";
 
-fn write_entry(sig: &Signature, entry: &Entry, sink: &mut MemorySink) -> bool {
-    for (i, term) in entry.terms.as_slice().iter().enumerate() {
-        if (i > 0 && put(sink, b" ").is_err()) || write_term(sig, term, sink).is_err() {
-            return false;
+// Puts the terms of an entry, and the mark of a collapsed application.
+fn put_entry(
+    sig: &Signature,
+    table: &Table,
+    ranks: &[Rank],
+    collapsed: bool,
+    out: &mut Writer<'_, MemorySink>,
+) {
+    for (i, rank) in ranks.iter().enumerate() {
+        if i > 0 {
+            out.put(b" ");
+        }
+        put_rank(sig, table, *rank, out);
+    }
+    if collapsed {
+        out.put(b"!");
+    }
+}
+
+// Puts the take table of the item at which the cursor stands, an entry for each of so many nodes.
+fn put_takes(
+    sig: &Signature,
+    table: &Table,
+    nodes: u32,
+    cursor: &Cursor<'_>,
+    out: &mut Writer<'_, MemorySink>,
+)
+    requires { IsSome cursor.now.item }
+{
+    for node in 0..nodes {
+        if node > 0 {
+            out.put(b";");
+        }
+        if let Some((ranks, collapsed)) = cursor.entry(node) {
+            put_entry(sig, table, ranks, collapsed, out);
         }
     }
-    !entry.collapsed || put(sink, b"!").is_ok()
 }
 
-fn write_item(sig: &Signature, item: &Item, sink: &mut MemorySink) -> bool {
-    for (i, entry) in item.takes.as_slice().iter().enumerate() {
-        if (i > 0 && put(sink, b";").is_err()) || !write_entry(sig, entry, sink) {
-            return false;
-        }
-    }
-    put(sink, b" ").is_ok()
-        && write_subst(sig, &item.subst, sink).is_ok()
-        && put(sink, b"\n").is_ok()
+// Puts the line of the item at which the cursor stands.
+fn put_item(
+    sig: &Signature,
+    table: &Table,
+    nodes: u32,
+    cursor: &Cursor<'_>,
+    out: &mut Writer<'_, MemorySink>,
+)
+    requires { IsSome cursor.now.item }
+{
+    put_takes(sig, table, nodes, cursor, out);
+    out.put(b" ");
+    cursor.put_subst(out);
+    out.put(b"\n");
 }
 
-fn write_items(sig: &Signature, items: &Items, sink: &mut MemorySink) -> bool {
-    for item in items.as_slice() {
-        if !write_item(sig, item, sink) {
-            return false;
-        }
+// Writes the line of each item that is still to come.
+fn write_items(
+    sig: &Signature,
+    table: &Table,
+    nodes: u32,
+    cursor: &mut Cursor<'_>,
+    sink: &mut MemorySink,
+) -> bool {
+    let mut out = Writer::new(sink);
+    while cursor.next() {
+        put_item(sig, table, nodes, cursor, &mut out);
     }
-    true
+    out.finish().is_ok()
 }
 
-// What the rule admits on the subject, if they are as `eager_list` asks and there is memory.
-fn items(alloc: Global, sig: &Signature, rule: &Rule, subject: &Term) -> Option<Items> {
-    if !has_small_defaults(&rule.pattern) {
-        return None;
-    }
-    if rule.condition.is_some() || !is_normal(sig, subject) || node_count(subject) > 100_000 {
-        return None;
-    }
-    let plan = Plan::compile(alloc, sig, &rule.pattern).ok()?;
-    eager_list(alloc, sig, rule, &plan, subject).ok()
-}
-
-// Writes what the rule admits on the subject.
+// Writes the items of the rule on the subject. Answers whether they were written.
 fn write_all(
     alloc: Global,
     sig: &Signature,
-    rule: &Rule,
-    subject: &Term,
+    planned: &PlannedRule<'_>,
+    subject: &Subject,
     sink: &mut MemorySink,
-) -> bool {
-    match items(alloc, sig, rule, subject) {
-        Some(items) => write_items(sig, &items, sink),
-        None => false,
-    }
+) -> Result<bool, Fail>
+    requires planned { IsPlanned sig.now (rule_plan planned.now) }
+    requires subject { IsSoundSubject sig.now (subject_tree subject.now) }
+{
+    let table = Table::build(alloc, sig, &subject.term, &planned.constants)?;
+    let room = room_for(alloc, &planned.plan, &table)?;
+    let mut cursor = Cursor::begin(room, sig, planned.rule, &planned.plan, &table);
+    Ok(write_items(sig, &table, planned.plan.len(), &mut cursor, sink))
 }
 
 // Writes the items of the file's first rule on its first subject.
-fn write_first(alloc: Global, file: &File, sink: &mut MemorySink) -> bool {
-    let Some(rule) = file.rules.get(0) else {
-        return false;
-    };
-    match file.subjects.get(0) {
-        Some(subject) => write_all(alloc, &file.sig, rule, &subject.term, sink),
-        None => false,
+fn write_first(alloc: Global, file: &File, sink: &mut MemorySink) -> Result<bool, Fail>
+    requires { IsSoundFile (file_tree file.now) }
+{
+    let rules = plan_rules(alloc, &file.sig, file.rules.as_slice())?;
+    match (rules.get(0), file.subjects.get(0)) {
+        (Some(planned), Some(subject)) => write_all(alloc, &file.sig, planned, subject, sink),
+        _ => Err("no rule or no subject".into()),
     }
 }
 
 // Whether the items of the file are those of the text.
-fn are_items(alloc: Global, text: &str, items: &str) -> Result<bool, Fail> {
-    let file = file(alloc, text)?;
+fn are_items(alloc: Global, file: &File, items: &str) -> Result<bool, Fail>
+    requires { IsSoundFile (file_tree file.now) }
+{
     match MemorySink::new(alloc, 1000, Vec::new(alloc)) {
         Ok(mut sink) => Ok(
-            write_first(alloc, &file, &mut sink) && sink.content() == items.as_bytes(),
+            write_first(alloc, file, &mut sink)? && sink.content() == items.as_bytes(),
         ),
         Err(_) => Err("memory ran out".into()),
     }
@@ -236,9 +227,15 @@ fn are_items(alloc: Global, text: &str, items: &str) -> Result<bool, Fail> {
 
 // Whether the file has the items that stand behind it.
 fn is_listed(alloc: Global, case: &str) -> Result<bool, Fail> {
-    match case.split_once("----\n") {
-        Some((file, items)) => are_items(alloc, file, items),
-        None => Err("no items".into()),
+    let Some((text, items)) = case.split_once("----\n") else {
+        return Err("no items".into());
+    };
+    if text.len() > 1000 {
+        return Err("the file is too long".into());
+    }
+    match read_file(alloc, text.as_bytes()) {
+        Ok(file) => are_items(alloc, &file, items),
+        Err(_) => Err("the file has a fault".into()),
     }
 }
 

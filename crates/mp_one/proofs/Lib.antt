@@ -1,13 +1,4 @@
 pub mod PieceSteps
 pub mod SameLaws
 pub mod TrailBindings
-pub mod KnownValueLaws
-pub mod ChoiceLaws
-pub mod WalkLaws
-pub mod CollectedLaws
-pub mod NamedOrderLaws
-pub mod FoundLaws
-pub mod ItemLaws
-pub mod ReadyItems
-pub mod ConditionLaws
 pub mod CheckLaws

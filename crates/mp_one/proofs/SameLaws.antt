@@ -1,5 +1,5 @@
 -- The tests of equality.
-use Rattle.std.proofs.Common.{◌≡◌, ℕ, List, [], ◌∷◌, map, length, Bool, true, false, refl, ap, sym, ◌∙◌, subst}
+use Rattle.std.proofs.Common.{◌≡◌, ℕ, List, [], ◌∷◌, Bool, true, false, refl, ap, sym, ◌∙◌, subst}
 use Rattle.std.proofs.Common.{eqb-true, eq-eqb}
 use Rattle.std.specs.Prelude.{nat_eq, ◌&&◌}
 use Rattle.mp_term.specs.Tree.{Tree, app, trees, tree_list}
@@ -9,8 +9,6 @@ use Rattle.mp_term.specs.OrderLaws.{tree_cmp_total, tree_same}
 use Rattle.mp_pattern.specs.Value.{same_terms}
 use Rattle.mp_term.specs.Pieces.{same}
 use Rattle.mp_theory.specs.Machine.{arguments}
-use Rattle.std.specs.declared.cmp.Ordering.TheVariants.{Less, Equal, Greater}
-use Rattle.std.specs.Ordering.{is_eq, ordering_then}
 use Rattle.std.proofs.lemmas.Bool.{and_parts, and_from}
 use Rattle.mp_term.proofs.PiecesLaws.{same-sound, same-itself}
 use Rattle.mp_theory.proofs.Merging.{same_terms-sound, same_terms-complete}
@@ -42,14 +40,6 @@ same-app f g xs ys =
     let i : f ≡ g = cc in
     let j : trees xs ≡ trees ys = cc in
     and_from _ _ (eq-eqb f g i) (same_terms-complete xs ys (trees-injective xs ys j)))
-
--- a list that isn't of one term
-pub same_terms-single : {X : Type 0} (f : X → Tree) (ts : List X) (u : Tree) → (length ts ≡ 1 → ⊥)
-    → false ≡ same_terms (map f ts) (u ∷ [])
-same_terms-single f [] u h = refl
-same_terms-single f (t ∷ []) u h = absurd (h refl)
-same_terms-single f (t ∷ s ∷ ts) u h = elim (tree_cmp (f t) u) as (λ o. false ≡ is_eq (ordering_then o Greater))
-    [ Less ↦ refl | Equal ↦ refl | Greater ↦ refl ]
 
 pub same-other_head : (f g : ℕ) (xs ys : List Tree) → (f ≡ g → ⊥)
     → false ≡ same tree_cmp (app f (trees xs)) (app g (trees ys))

@@ -1,15 +1,5 @@
 pub mod Lists
-pub mod Above
 pub mod Stack
-pub mod Choices
-pub mod Path
 pub mod TrailValue
 pub mod Trail
-pub mod KnownValue
-pub mod Items
-pub mod ItemCode
-pub mod Collected
-pub mod NamedOrder
-pub mod Found
-pub mod Behind
 pub mod Check

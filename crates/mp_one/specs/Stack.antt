@@ -1,13 +1,10 @@
 -- What contracts see of the operations around a place.
-use Rattle.std.specs.Prelude.{ℕ, Bool, ◌+◌, List, [], ◌∷◌, map}
-use Rattle.mp_pattern.specs.PatternTree.{Pattern, app_pattern, patterns}
+use Rattle.std.specs.Prelude.{List, [], ◌∷◌, map}
+use Rattle.mp_pattern.specs.PatternTree.{patterns}
 use Rattle.mp_pattern.specs.View.{pattern_tree}
-use Rattle.mp_pattern.specs.Size.{all_pattern_nodes, list_nodes}
 use Rattle.mp_pattern.specs.Fits as fits
 use Rattle.mp_theory.specs.Frames as walk
-use Rattle.mp_term.specs.Signature.{Sig}
-use Rattle.mp_theory.specs.Machine as machine
-use Rattle.mp_one.specs.Above.{above}
+use Rattle.mp_search.specs.Frames.{above}
 use Rattle.mp_one.specs.Lists.{trees_of}
 use Rattle.mp_one.specs.declared.stack.Frame.{Frame}
 use Rattle.mp_one.specs.declared.stack.Stack.{Stack}
@@ -53,22 +50,3 @@ next_of (Child p) = child_of p
 -- the entry as the take table has it
 abbrev pub entry_of : Take → fits.Entry
 entry_of e = record { terms = trees_of e.terms.items; collapsed = e.collapsed }
-
--- the child may have the entry, whatever was taken before
-abbrev pub reads_at : Sig → Place → fits.Entry → Bool
-reads_at sig p = machine.reads sig (pattern_tree p.child.now) (above p.under)
-
--- the nodes of a pattern but its root
-abbrev pub nodes_below : Pattern → ℕ
-nodes_below (app_pattern g ps) = all_pattern_nodes ps
-nodes_below p = 0
-
--- how many entries are still to come: the nodes of the children that are to take
-abbrev pub entries_left : List walk.Frame → ℕ
-entries_left [] = 0
-entries_left (f ∷ fs) = all_pattern_nodes f.children + entries_left fs
-
--- how many are to come behind the entry of the child
-abbrev pub entries_behind : Place → ℕ
-entries_behind p = nodes_below (pattern_tree p.child.now)
-    + (list_nodes (map pattern_tree p.later.now) + entries_left (stack_frames p.outer.now))

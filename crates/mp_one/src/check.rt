@@ -1,4 +1,4 @@
-//! The check of a take table: the walk of the search with one entry at each node.
+//! The check of a take table: the walk over the pattern, with one entry at each node.
 ghost use Rattle.std.specs.Prelude.{◌≡◌, ◌↔◌, ◌∷◌, [], IfOk, IsTrue, map};
 ghost use Rattle.mp_term.specs.View.{tree};
 ghost use Rattle.mp_term.specs.Normal.{IsNormal};

@@ -13,7 +13,7 @@ ghost use Rattle.mp_theory.specs.Solve as solve;
 ghost use Rattle.mp_theory.specs.Machine as machine;
 ghost use Rattle.mp_theory.specs.Bounds as bounds;
 ghost use Rattle.mp_one.specs.Lists.{trees_of};
-ghost use Rattle.mp_one.specs.Above.{above};
+ghost use Rattle.mp_search.specs.Frames.{above};
 
 use mp_pattern::{Pattern, Shape};
 use mp_term::{KindId, Name, OpId, Signature, Term, has_head, in_kind, is_normal};

@@ -34,7 +34,7 @@ pub enum Stack<'a> {
 }
 
 /// A child that is to take next, with the innermost frame around it taken apart, and the frames around that.
-#[derive(Drop, Clone, Copy)]
+#[derive(Drop)]
 pub struct Place<'a> {
     pub child: &'a Pattern,
     pub under: Option<OpId>,

@@ -1,4 +1,4 @@
-//! Lists of terms that the search holds by reference.
+//! Lists of terms, held by reference.
 ghost use Rattle.std.specs.Prelude.{◌≡◌, ◌∷◌, [], ◌++◌, map, OnOk, IfOk};
 ghost use Rattle.mp_term.specs.View.{tree};
 ghost use Rattle.mp_term.specs.Order.{tree_cmp};
@@ -6,7 +6,7 @@ ghost use Rattle.mp_term.specs.Sorting.{sorted};
 ghost use Rattle.mp_pattern.specs.Value as values;
 ghost use Rattle.mp_one.specs.Lists.{trees_of};
 
-use mp_term::{Memory, Term, Terms, copy_term};
+use mp_term::{Memory, Term};
 use std::alloc::Global;
 
 /// Adds the item at the end.
@@ -35,27 +35,9 @@ pub fn references<'a>(alloc: Global, terms: &'a [Term]) -> Result<Vec<&'a Term>,
     Ok(all)
 }
 
-/// Copies of the terms.
-pub fn copies(alloc: Global, terms: &[&Term]) -> Result<Terms, Memory>
-    ensures { IfOk result (λ v. v ≡ trees_of terms.now) }
-{
-    let mut all = Terms::new(alloc);
-    for term in terms {
-        all.push(copy_term(alloc, term)?)?;
-    }
-    Ok(all)
-}
-
 /// Whether the lists are equal.
 pub fn same_references(terms: &[&Term], others: &[&Term]) -> bool
     ensures { result ≡ values.same_terms (trees_of terms.now) (trees_of others.now) }
-{
-    terms.cmp(&others).is_eq()
-}
-
-/// Whether the lists are equal.
-pub fn same_terms(terms: &[Term], others: &[Term]) -> bool
-    ensures { result ≡ values.same_terms (map tree terms.now) (map tree others.now) }
 {
     terms.cmp(&others).is_eq()
 }

@@ -1,4 +1,4 @@
-//! Values of variables, held by reference while the search goes on.
+//! Values of variables, held by reference while a take table is gone over.
 ghost use Rattle.std.specs.Prelude.{◌≡◌, option_map, IfOk, if◌then◌else◌};
 ghost use Rattle.mp_term.specs.Tree.{app, trees};
 ghost use Rattle.mp_term.specs.View.{tree};
@@ -7,7 +7,7 @@ ghost use Rattle.mp_term.specs.Pieces.{same};
 ghost use Rattle.mp_pattern.specs.View.{wildcard};
 ghost use Rattle.mp_pattern.specs.Value as values;
 ghost use Rattle.mp_theory.specs.Solve as solve;
-ghost use Rattle.mp_one.specs.Above.{above};
+ghost use Rattle.mp_search.specs.Frames.{above};
 ghost use Rattle.mp_one.specs.Lists.{trees_of};
 ghost use Rattle.mp_one.specs.TrailValue.{trail_value, merged, is_same_one};
 

@@ -1,16 +1,15 @@
 -- What the calls answer by the functions is what they answer.
-use Rattle.std.proofs.Common.{◌≡◌, ℕ, zero, suc, ◌+◌, ◌-◌, ◌<◌, ◌≤◌, true, Bool, false, List, ◌∷◌}
+use Rattle.std.proofs.Common.{◌≡◌, ℕ, suc, ◌+◌, ◌-◌, ◌<◌, ◌≤◌, true, Bool, List, ◌∷◌}
 use Rattle.std.proofs.Common.{[], refl, sym, ap, ◌∙◌, subst, arith}
 use Rattle.std.proofs.Common.{inl, inr, add-one}
 use Rattle.std.specs.Prelude.{◌⊎◌, Option, Some, None, Result, Ok, Err}
-use Rattle.std.specs.Prelude.{is_some, if◌then◌else◌, option_map, option_and_then}
+use Rattle.std.specs.Prelude.{is_some, if◌then◌else◌, option_map}
 use Rattle.mp_term.specs.declared.term.Term.{Term}
 use Rattle.mp_term.specs.declared.size.Excess.{Excess}
 use Rattle.mp_term.specs.declared.size.Excess.TheVariants as size
 use Rattle.mp_term.specs.declared.edit_fault.EditFault.{EditFault}
 use Rattle.mp_term.specs.declared.edit_fault.EditFault.TheVariants as edit
 use Rattle.mp_term.specs.Tree.{Tree}
-use Rattle.mp_term.specs.View.{tree}
 use Rattle.mp_term.specs.Excess.{excess}
 use Rattle.mp_term.specs.Positions.{subterm}
 use Rattle.mp_term.specs.Signature.{Sig, IsSignature, well_formed}
@@ -23,7 +22,7 @@ use Rattle.mp_pattern.specs.Step.{Stepped, stepped}
 use Rattle.mp_pattern.specs.Step as step
 use Rattle.mp_rewrite.specs.Rewriting.{Rewriting, done, more, exceeded}
 use Rattle.mp_rewrite.specs.Rewritable.{AreRewriteRules, IsRewritable}
-use Rattle.mp_rewrite.specs.Answers.{rewriting_of, IsStepAnswer, IsRewritingAnswer}
+use Rattle.mp_rewrite.specs.Answers.{IsStepAnswer, IsRewritingAnswer}
 use Rattle.mp_rewrite.specs.ComputedAnswers.{IsComputedStep, IsComputedRewriting}
 use Rattle.mp_rewrite.specs.Computed.{next_step, rewriting_from, rewriting}
 use Rattle.mp_rewrite.specs.declared.rewrite.Rewritten.{Rewritten}

@@ -1,12 +1,12 @@
 -- The first redex, node by node.
-use Rattle.std.proofs.Common.{◌≡◌, ◌∙◌, ℕ, zero, suc, ◌+◌, ◌<◌, ◌≤◌, List, [], ◌∷◌, length}
+use Rattle.std.proofs.Common.{◌≡◌, ◌∙◌, ℕ, zero, suc, ◌<◌, ◌≤◌, List, [], ◌∷◌, length}
 use Rattle.std.proofs.Common.{drop, refl, ap, sym, arith, subst}
 use Rattle.std.proofs.Common.{get_or, map}
 use Rattle.std.specs.Prelude.{Option, Some, None, slice_get, option_map}
 use Rattle.std.specs.Option.{option_or}
 use Rattle.std.specs.List.{AllByRecursion}
 use Rattle.std.proofs.lemmas.Option.{slice_get-map, slice_get_read}
-use Rattle.mp_term.specs.Tree.{Tree, symbol, app, Trees, no_trees, more_trees, trees}
+use Rattle.mp_term.specs.Tree.{Tree, symbol, app, Trees, trees}
 use Rattle.mp_term.specs.Size.{node_count, all_nodes}
 use Rattle.mp_term.specs.Signature.{Sig}
 use Rattle.mp_pattern.specs.Admission.{Rule}

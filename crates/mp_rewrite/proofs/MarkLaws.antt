@@ -1,5 +1,5 @@
 -- Marks that are right of terms: one of them, and one put in, taken out or put down.
-use Rattle.std.proofs.Common.{◌≡◌, ℕ, zero, suc, ◌≤◌, List, [], ◌∷◌, length, subst, arith, ap, sym, ◌∙◌}
+use Rattle.std.proofs.Common.{◌≡◌, ℕ, zero, suc, List, [], ◌∷◌, length, subst, arith, ap, sym, ◌∙◌}
 use Rattle.std.specs.Prelude.{slice_get, slice_set, replicate, Some}
 use Rattle.std.specs.List.{insert, remove}
 use Rattle.mp_term.specs.Tree.{Tree, trees}

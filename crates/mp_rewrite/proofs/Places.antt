@@ -1,15 +1,14 @@
 -- A place at which a tree keeps a list ascending.
 use Rattle.std.proofs.Common.{◌≡◌, ◌∙◌, ap, sym, refl, subst, ℕ, zero, suc, ◌<◌, ◌≤◌}
-use Rattle.std.proofs.Common.{true, false, List, [], ◌∷◌, length}
-use Rattle.std.proofs.Common.{get_or, arith, add-one, ◌+◌, ◌++◌, map}
-use Rattle.std.specs.Prelude.{slice_get, Some, option_map, replicate, Result, Ok, Err, MatchResult}
+use Rattle.std.proofs.Common.{false, List, [], ◌∷◌, length}
+use Rattle.std.proofs.Common.{get_or, arith, ◌+◌, ◌++◌, map}
+use Rattle.std.specs.Prelude.{slice_get, Some, replicate}
 use Rattle.std.specs.declared.cmp.Ordering.{Ordering}
 use Rattle.std.specs.declared.cmp.Ordering.TheVariants.{Less, Equal, Greater}
 use Rattle.std.specs.List.{insert, remove, HoldsAt}
-use Rattle.std.specs.List.Sorted.{IsSorted, IsBinarySearchResult, IsPartitionPoint}
+use Rattle.std.specs.List.Sorted.{IsSorted, IsPartitionPoint}
 use Rattle.std.specs.Ordering.{is_gt, is_lt, ordering_reverse}
 use Rattle.std.proofs.lemmas.Cmp.{tied_itself}
-use Rattle.std.proofs.lemmas.List.Sorted.{searchable_from_sorted}
 use Rattle.std.proofs.lemmas.List.{length-map}
 use Rattle.mp_term.specs.Tree.{Tree}
 use Rattle.mp_term.specs.Order.{tree_cmp}

@@ -1,23 +1,22 @@
 -- Terms put in among the arguments of a normal application.
 use Rattle.std.proofs.Common.{◌≡◌, ◌∙◌, ap, sym, refl, subst, ℕ, zero, suc, ◌+◌, ◌<◌, ◌≤◌, Bool, true, false, ◌&&◌, not}
 use Rattle.std.proofs.Common.{List, [], ◌∷◌, ◌++◌, length, take, drop, arith, append_assoc}
-use Rattle.std.specs.Prelude.{slice_get, Some, if◌then◌else◌, nat_eq}
+use Rattle.std.specs.Prelude.{slice_get, Some, if◌then◌else◌}
 use Rattle.std.specs.Prelude.{is_some}
 use Rattle.std.specs.List.{insert, remove, AllByRecursion}
-use Rattle.std.specs.Ordering.{is_gt}
 use Rattle.std.proofs.lemmas.Bool.{and_parts, not-true, not-false}
 use Rattle.std.proofs.lemmas.List.{take-append-drop}
-use Rattle.mp_term.specs.Tree.{Tree, symbol, app, Trees, trees, tree_list}
+use Rattle.mp_term.specs.Tree.{Tree, symbol, app, trees}
 use Rattle.mp_term.specs.TreeLists.{tree_list-trees}
 use Rattle.mp_term.specs.Positions.{subterm}
 use Rattle.mp_term.specs.Size.{node_count, node_counts, all_nodes}
 use Rattle.mp_term.specs.Order.{tree_cmp}
 use Rattle.mp_term.specs.OrderLaws.{tree_cmp_total, tree_same}
 use Rattle.mp_term.specs.Sorting.{sorted}
-use Rattle.mp_term.specs.Signature.{Sig, is_assoc, is_comm, is_one}
+use Rattle.mp_term.specs.Signature.{Sig, is_assoc, is_comm}
 use Rattle.mp_term.specs.Normal.{parts, flattened, in_order, collapsed, normal, normals, IsNormal}
-use Rattle.mp_term.specs.NormalTest.{has_head, is_single, ascending, passes, all_pass}
-use Rattle.mp_term.proofs.Sorting.{hit, tally, AtLeast, Ascends, tally-sorted, ascends-sorted, one_order}
+use Rattle.mp_term.specs.NormalTest.{has_head, ascending, passes, all_pass}
+use Rattle.mp_term.proofs.Sorting.{tally, AtLeast, Ascends, tally-sorted, ascends-sorted, one_order}
 use Rattle.mp_term.proofs.NormalTestLaws.{ascending-from, sorted-ascending, passes-normal, normal-passes}
 use Rattle.mp_term.proofs.NormalSize.{all_nodes-append, all_nodes-sorted}
 use Rattle.mp_term.specs.Replaced.{replaced, replaced_argument}

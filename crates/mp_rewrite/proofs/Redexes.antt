@@ -1,6 +1,6 @@
 -- The first position of a term, in preorder, at which a rule admits something.
 use Rattle.std.proofs.Common.{◌≡◌, ℕ, zero, suc, ◌+◌, ◌<◌, Bool, true, false, cond, ltb, eqb, List, [], ◌∷◌, refl, sym}
-use Rattle.std.proofs.Common.{ap, ◌∙◌, inl, inr, arith, subst, add-zero, add-suc}
+use Rattle.std.proofs.Common.{ap, ◌∙◌, inl, inr, arith, subst}
 use Rattle.std.specs.Prelude.{Option, Some, None, ◌⊎◌, slice_get, option_map, option_and_then}
 use Rattle.std.specs.Option.{option_or}
 use Rattle.std.specs.declared.cmp.Ordering.{Ordering}

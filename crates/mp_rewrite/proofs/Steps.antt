@@ -1,11 +1,11 @@
 -- The step of a term, and its rewriting, are those that the functions give.
-use Rattle.std.proofs.Common.{◌≡◌, ℕ, zero, suc, ◌<◌, ◌≤◌, ◌-◌, ◌^◌, Bool, true, false, List, [], ◌∷◌, map}
+use Rattle.std.proofs.Common.{◌≡◌, ℕ, zero, suc, ◌≤◌, Bool, true, false, List, [], ◌∷◌, map}
 use Rattle.std.proofs.Common.{refl, sym, ap, ◌∙◌, subst, arith, inl, inr}
-use Rattle.std.specs.Prelude.{Option, Some, None, ◌⊎◌, ◌↔◌, Contains, slice_get, option_map, option_and_then}
-use Rattle.std.specs.Prelude.{is_some, length, nat_lt, min, if◌then◌else◌}
+use Rattle.std.specs.Prelude.{Option, Some, None, ◌↔◌, slice_get, option_map, option_and_then}
+use Rattle.std.specs.Prelude.{is_some, length, nat_lt, if◌then◌else◌}
 use Rattle.std.specs.List.{AllByRecursion}
 use Rattle.std.proofs.lemmas.Bool.Decides.{nat_tests}
-use Rattle.std.proofs.lemmas.Option.{slice_get_within, slice_get_read}
+use Rattle.std.proofs.lemmas.Option.{slice_get_read}
 use Rattle.mp_term.specs.declared.size.Excess.{Excess}
 use Rattle.mp_term.specs.declared.limits.TheConstants.{MAX_TERM_NODES, MAX_DEPTH}
 use Rattle.mp_term.specs.Tree.{Tree, trees}
@@ -13,7 +13,7 @@ use Rattle.mp_term.specs.Size.{all_nodes, greatest_depth}
 use Rattle.mp_term.specs.Excess.{excess}
 use Rattle.mp_term.specs.Positions.{subterm}
 use Rattle.mp_term.specs.Signature.{Sig, IsSignature, well_formed}
-use Rattle.mp_term.specs.Normal.{normal, IsNormal}
+use Rattle.mp_term.specs.Normal.{normal}
 use Rattle.mp_term.specs.Edited.{edited, one_edit}
 use Rattle.mp_pattern.specs.TemplateTree.{Template, symbol_template, app_template, variable_template}
 use Rattle.mp_pattern.specs.Value.{Value, one, seq, bag, Subst, value_of}
@@ -26,7 +26,7 @@ use Rattle.mp_term.specs.Replaced.{replaced}
 use Rattle.mp_term.proofs.ReplacedLaws.{edited-one, formed-replaced}
 use Rattle.mp_term.proofs.WellFormedNormal.{wf-normal}
 use Rattle.mp_term.proofs.NormalSize.{node_count-normal, depth-normal, normal-normal}
-use Rattle.mp_rewrite.specs.Step.{Precedes, IsLive, IsDead, IsStep}
+use Rattle.mp_rewrite.specs.Step.{IsLive, IsDead, IsStep}
 use Rattle.mp_rewrite.specs.Rewriting as ending
 use Rattle.mp_rewrite.specs.Rewriting.{Rewriting, done, more, IsRewritingFrom, IsRewriting}
 use Rattle.mp_rewrite.specs.Made.{IsReady}

@@ -1,5 +1,5 @@
 -- Steps that are made in place.
-use Rattle.std.proofs.Common.{◌≡◌, ◌∙◌, ap, sym, subst, refl, ℕ, zero, suc, ◌+◌, ◌<◌, ◌≤◌, ◌-◌, ◌^◌}
+use Rattle.std.proofs.Common.{◌≡◌, ◌∙◌, ap, sym, refl, ℕ, zero, suc, ◌+◌, ◌<◌, ◌≤◌, ◌-◌, ◌^◌}
 use Rattle.std.proofs.Common.{max, Bool, true, false, List, [], ◌∷◌}
 use Rattle.std.proofs.Common.{length, map, arith}
 use Rattle.std.specs.Prelude.{Option, Some, None, Result, Ok, Err, min}
@@ -15,7 +15,6 @@ use Rattle.mp_term.specs.Excess.{excess}
 use Rattle.mp_term.specs.Positions.{subterm}
 use Rattle.mp_term.specs.Signature.{Sig}
 use Rattle.mp_term.specs.Normal.{normal}
-use Rattle.mp_term.specs.Edited.{edited, one_edit}
 use Rattle.mp_term.specs.Replaced.{replaced}
 use Rattle.mp_term.proofs.ReplacedLaws.{edited-one}
 use Rattle.mp_pattern.specs.TemplateTree.{Template}

@@ -1,5 +1,5 @@
 -- What the answers of the rewriting calls say.
-use Rattle.std.specs.Prelude.{◌≡◌, ℕ, true, false, List, Option, Some, None, Result, Ok, Err, if◌then◌else◌}
+use Rattle.std.specs.Prelude.{◌≡◌, ℕ, List, Option, Some, None, Result, Ok, Err, if◌then◌else◌}
 use Rattle.mp_term.specs.declared.size.Excess.TheVariants as size
 use Rattle.mp_term.specs.Tree.{Tree}
 use Rattle.mp_term.specs.View.{tree}

@@ -1,5 +1,5 @@
 -- What the answers of the rewriting calls say by the functions of `Computed.antt`.
-use Rattle.std.specs.Prelude.{◌≡◌, ℕ, Option, Some, None, Result, Ok, Err}
+use Rattle.std.specs.Prelude.{◌≡◌, Option, Some, None, Result, Ok, Err}
 use Rattle.mp_term.specs.declared.size.Excess.TheVariants as size
 use Rattle.mp_term.specs.View.{tree}
 use Rattle.mp_term.specs.declared.term.Term.{Term}

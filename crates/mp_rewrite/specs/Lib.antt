@@ -2,7 +2,7 @@ pub mod Step
 pub mod Rewriting
 pub mod Rewritable
 pub mod Computed
-pub mod Planned
+pub mod Matched
 pub mod Made
 pub mod Faults
 pub mod Answers

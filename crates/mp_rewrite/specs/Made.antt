@@ -9,7 +9,7 @@ use Rattle.mp_pattern.specs.TemplateTree.{Template}
 use Rattle.mp_pattern.specs.Instance.{IsInstance}
 use Rattle.mp_pattern.specs.Step.{Stepped, stepped, exceeded}
 use Rattle.mp_rewrite.specs.Computed as computed
-use Rattle.mp_rewrite.specs.Planned.{match_of}
+use Rattle.mp_rewrite.specs.Matched.{match_of}
 use Rattle.mp_rewrite.specs.declared.redex.Redex.{Redex}
 use Rattle.mp_rewrite.specs.declared.stop.Stop.{Stop}
 use Rattle.mp_rewrite.specs.declared.stop.Stop.TheVariants.{Exceeded, Memory}

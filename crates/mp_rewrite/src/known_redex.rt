@@ -6,7 +6,7 @@ ghost use Rattle.mp_term.specs.View.{tree};
 ghost use Rattle.mp_term.specs.Size.{node_count, all_nodes};
 ghost use Rattle.mp_term.specs.Normal.{IsNormal};
 ghost use Rattle.mp_rewrite.specs.Computed as computed;
-ghost use Rattle.mp_rewrite.specs.Planned.{IsPlanned, planned_rule, rule_plan};
+ghost use Rattle.mp_pattern.specs.Planned.{IsPlanned, planned_rule, rule_plan};
 ghost use Rattle.mp_rewrite.specs.Marks.{inner, marks};
 ghost use Rattle.mp_rewrite.specs.MarkView.{mark_of};
 ghost use Rattle.mp_rewrite.specs.Known.{IsKnown, AreKnown};
@@ -14,8 +14,8 @@ ghost use Rattle.mp_rewrite.specs.Made.{redex_of};
 
 use crate::known::{Known, KnownArgs, known_args};
 use crate::redex::{Redex, at_argument};
-use crate::rules::{PlannedRule, first_match};
-use mp_pattern::MAX_TERM_NODES;
+use crate::rules::first_match;
+use mp_pattern::{MAX_TERM_NODES, PlannedRule};
 use mp_term::{Memory, Signature, Term, Terms};
 use std::alloc::Global;
 

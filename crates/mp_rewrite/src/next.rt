@@ -4,14 +4,14 @@ ghost use Rattle.std.specs.List.{AllByRecursion};
 ghost use Rattle.mp_term.specs.Signature.{well_formed};
 ghost use Rattle.mp_term.specs.View.{tree};
 ghost use Rattle.mp_rewrite.specs.Computed as computed;
-ghost use Rattle.mp_rewrite.specs.Planned.{IsPlanned, planned_rule, rule_plan};
+ghost use Rattle.mp_pattern.specs.Planned.{IsPlanned, planned_rule, rule_plan};
 ghost use Rattle.mp_rewrite.specs.Rewritable.{AreRewriteRules, IsRewritable};
 ghost use Rattle.mp_rewrite.specs.Made.{IsMade, IsNext, IsReady, redex_of};
 
 use crate::redex::{Redex, first_redex};
-use crate::rules::PlannedRule;
 use crate::stop::Stop;
 use crate::valid::signature_is_valid;
+use mp_pattern::PlannedRule;
 use mp_subst::{ApplyFault, apply};
 use mp_term::{EditFault, Excess, Memory, Signature, Term, replace_at};
 use std::alloc::Global;

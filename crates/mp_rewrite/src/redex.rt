@@ -5,11 +5,11 @@ ghost use Rattle.mp_term.specs.View.{tree};
 ghost use Rattle.mp_term.specs.Size.{node_count};
 ghost use Rattle.mp_term.specs.Normal.{IsNormal};
 ghost use Rattle.mp_rewrite.specs.Computed as computed;
-ghost use Rattle.mp_rewrite.specs.Planned.{IsPlanned, planned_rule, rule_plan};
+ghost use Rattle.mp_pattern.specs.Planned.{IsPlanned, planned_rule, rule_plan};
 ghost use Rattle.mp_rewrite.specs.Made.{redex_of};
 
-use crate::rules::{Match, PlannedRule, first_match};
-use mp_pattern::MAX_TERM_NODES;
+use crate::rules::{Match, first_match};
+use mp_pattern::{MAX_TERM_NODES, PlannedRule};
 use mp_term::{Memory, Signature, Term};
 use std::alloc::Global;
 

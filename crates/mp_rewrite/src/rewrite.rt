@@ -9,10 +9,9 @@ ghost use Rattle.mp_rewrite.specs.Rewritable.{AreRewriteRules, IsRewritable};
 
 use crate::fault::RewriteFault;
 use crate::next::next_step;
-use crate::rules::plan_rules;
 use crate::turns::rewritten;
 use crate::valid::signature_is_valid;
-use mp_pattern::Rules;
+use mp_pattern::{Rules, plan_rules};
 use mp_term::{Signature, Term};
 use std::alloc::Global;
 
@@ -49,7 +48,7 @@ pub fn step(
     ensures computed { IsComputedStep (computed.next_step sig.now rules.now (tree term.now)) result }
 {
     signature_is_valid(sig);
-    let planned = plan_rules(alloc, sig, rules)?;
+    let planned = plan_rules(alloc, sig, rules.as_slice())?;
     match next_step(alloc, sig, &planned, term) {
         Ok(next) => Ok(next),
         Err(stop) => Err(stop.after(0)),
@@ -77,6 +76,6 @@ pub fn replace_all(
     ensures computed { IsComputedRewriting (computed.rewriting sig.now rules.now max (tree term.now)) result }
 {
     signature_is_valid(sig);
-    let planned = plan_rules(alloc, sig, rules)?;
+    let planned = plan_rules(alloc, sig, rules.as_slice())?;
     rewritten(alloc, sig, &planned, term, max)
 }

@@ -1,64 +1,24 @@
-//! Rules with the plans of their patterns, and the first of them that admits something on a term.
+//! The first rule that admits something on a term.
 ghost use Rattle.std.specs.Prelude.{◌≡◌, ◌≤◌, map, option_map, IfOk};
 ghost use Rattle.std.specs.List.{AllByRecursion};
 ghost use Rattle.mp_term.specs.View.{tree};
 ghost use Rattle.mp_term.specs.Size.{node_count};
 ghost use Rattle.mp_term.specs.Normal.{IsNormal};
-ghost use Rattle.mp_pattern.specs.RuleView.{rule_tree};
-ghost use Rattle.mp_pattern.specs.SoundRule.{IsSoundRule};
+ghost use Rattle.mp_pattern.specs.Planned.{IsPlanned, planned_rule, rule_plan};
 ghost use Rattle.mp_rewrite.specs.Computed as computed;
-ghost use Rattle.mp_rewrite.specs.Planned.{IsPlanned, match_of, planned_rule, rule_plan};
+ghost use Rattle.mp_rewrite.specs.Matched.{match_of};
 
 use mp_one::first_subst;
-use mp_pattern::{MAX_TERM_NODES, Plan, PlanFault, Rule, Rules};
+use mp_pattern::{MAX_TERM_NODES, PlannedRule, Rule};
 use mp_subst::Subst;
 use mp_term::{Memory, Signature, Term};
 use std::alloc::Global;
-
-// A rule with the plan of its pattern.
-#[derive(Drop)]
-pub(crate) struct PlannedRule<'a> {
-    pub(crate) rule: &'a Rule,
-    pub(crate) plan: Plan,
-}
 
 // A rule, and a substitution that it admits on some term.
 #[derive(Drop)]
 pub(crate) struct Match<'a> {
     pub(crate) rule: &'a Rule,
     pub(crate) subst: Subst,
-}
-
-// The rule with the plan of its pattern.
-fn plan_rule<'a>(alloc: Global, sig: &Signature, rule: &'a Rule) -> Result<PlannedRule<'a>, Memory>
-    requires { IsSoundRule sig.now (rule_tree rule.now) }
-    ensures rule { IfOk result (λ p. planned_rule p ≡ rule_tree rule.now) }
-    ensures planned { IfOk result (λ p. IsPlanned sig.now (rule_plan p)) }
-{
-    match Plan::compile(alloc, sig, &rule.pattern) {
-        Ok(plan) => Ok(PlannedRule { rule, plan }),
-        Err(fault) => {
-            prove!(matches!(fault, PlanFault::Memory));
-            Err(Memory)
-        }
-    }
-}
-
-// The rules in order, each with the plan of its pattern.
-pub(crate) fn plan_rules<'a>(
-    alloc: Global,
-    sig: &Signature,
-    rules: &'a Rules,
-) -> Result<Vec<PlannedRule<'a>>, Memory>
-    requires { AllByRecursion (IsSoundRule sig.now) rules.now }
-    ensures rules { IfOk result (λ ps. map planned_rule ps.items ≡ rules.now) }
-    ensures planned { IfOk result (λ ps. AllByRecursion (IsPlanned sig.now) (map rule_plan ps.items)) }
-{
-    let mut all = Vec::new(alloc);
-    for rule in rules.as_slice() {
-        all.push(plan_rule(alloc, sig, rule)?)?;
-    }
-    Ok(all)
 }
 
 // The first substitution that the rule admits on the term.
@@ -74,7 +34,7 @@ fn match_rule<'a>(
     ensures { IfOk result (λ m.
         option_map match_of m ≡ computed.rule_match sig.now (planned_rule planned.now) (tree term.now)) }
 {
-    match first_subst(alloc, sig, planned.rule, &planned.plan, term)? {
+    match first_subst(alloc, sig, planned, term)? {
         None => Ok(None),
         Some(subst) => Ok(Some(Match {
             rule: planned.rule,

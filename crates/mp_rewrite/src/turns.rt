@@ -4,7 +4,7 @@ ghost use Rattle.std.specs.List.{AllByRecursion};
 ghost use Rattle.mp_term.specs.View.{tree};
 ghost use Rattle.mp_rewrite.specs.ComputedAnswers.{IsComputedRewriting};
 ghost use Rattle.mp_rewrite.specs.Computed as computed;
-ghost use Rattle.mp_rewrite.specs.Planned.{IsPlanned, planned_rule, rule_plan};
+ghost use Rattle.mp_pattern.specs.Planned.{IsPlanned, planned_rule, rule_plan};
 ghost use Rattle.mp_rewrite.specs.Rewritable.{AreRewriteRules, IsRewritable};
 
 use crate::fault::RewriteFault;
@@ -12,9 +12,9 @@ use crate::in_place::Marked;
 use crate::known::Known;
 use crate::known_redex::first_known_redex;
 use crate::rewrite::Rewritten;
-use crate::rules::PlannedRule;
 use crate::turn::{Turn, take_turn};
 use crate::valid::signature_is_valid;
+use mp_pattern::PlannedRule;
 use mp_term::{Signature, Term, copy_term, node_count};
 use std::alloc::Global;
 

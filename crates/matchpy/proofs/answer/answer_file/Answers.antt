@@ -3,7 +3,7 @@ use Rattle.mp_io.specs.Moments.{shelved}
 use Rattle.matchpy.proofs.Chain.{Answers-unloaded, HasCauses-unloaded}
 use Rattle.matchpy.specs.Computed.{outcome_over}
 use Rattle.matchpy.specs.Outcome.{file_limit}
-use Rattle.matchpy.specs.Requests.{asked}
+use Rattle.mp_words.specs.Requests.{asked}
 use Rattle.matchpy.proofs.answer.answer_file.Goals as goal
 
 pub returns-in-Err-clause-answers : goal.returns-in-Err-clause-answers

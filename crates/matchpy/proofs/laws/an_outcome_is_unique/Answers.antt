@@ -1,5 +1,5 @@
 use Rattle.std.proofs.Common.{sym, ◌∙◌}
-use Rattle.matchpy.specs.Words.{request_of}
+use Rattle.mp_words.specs.Words.{request_of}
 use Rattle.matchpy.proofs.Outcomes.{outcome_at-exact}
 use Rattle.matchpy.proofs.laws.an_outcome_is_unique.Goals as goal
 

@@ -1,6 +1,6 @@
 use Rattle.std.proofs.Common.{refl}
 use Rattle.matchpy.specs.Computed.{outcome_at}
-use Rattle.matchpy.specs.Words.{request_of}
+use Rattle.mp_words.specs.Words.{request_of}
 use Rattle.matchpy.proofs.Outcomes.{outcome_at-exact}
 use Rattle.matchpy.proofs.laws.there_is_an_outcome.Goals as goal
 

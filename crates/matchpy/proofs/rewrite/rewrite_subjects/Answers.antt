@@ -1,8 +1,7 @@
 use Rattle.std.proofs.Common.{refl, arith}
 use Rattle.mp_rewrite.specs.Rewritable.{IsRewritable}
 use Rattle.mp_text.specs.File.{subject_tree}
-use Rattle.matchpy.proofs.Parts.{AllByRecursion-drop}
-use Rattle.matchpy.proofs.Parted.{loop-ends, loop-further}
+use Rattle.matchpy.proofs.Parted.{AllByRecursion-drop, loop-ends, loop-further}
 use Rattle.matchpy.proofs.Rewrites.{subject_part, subjects_left}
 use Rattle.matchpy.proofs.rewrite.rewrite_subjects.Goals as goal
 

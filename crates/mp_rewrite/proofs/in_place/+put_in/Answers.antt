@@ -1,10 +1,9 @@
-use Rattle.std.proofs.Common.{◌≡◌, ◌∙◌, ◌+◌, ◌<◌, ◌≤◌, ◌++◌, ap, sym, subst, arith, length, take, drop}
+use Rattle.std.proofs.Common.{◌≡◌, ◌∙◌, ◌+◌, ◌++◌, ap, sym, subst, arith, length, take, drop}
 use Rattle.std.specs.List.{remove}
 use Rattle.std.proofs.lemmas.List.Edits.{length-remove}
 use Rattle.mp_term.specs.Tree.{app, trees}
 use Rattle.mp_term.specs.View.{tree}
-use Rattle.mp_term.specs.Size.{node_count, all_nodes}
-use Rattle.mp_term.specs.Signature.{Sig}
+use Rattle.mp_term.specs.Size.{all_nodes}
 use Rattle.mp_term.specs.Normal.{parts, in_order, collapsed}
 use Rattle.mp_term.specs.NormalTest.{ascending}
 use Rattle.mp_rewrite.specs.MarkView.{mark_of}

@@ -1,7 +1,6 @@
-use Rattle.std.proofs.Common.{◌≡◌, ◌∙◌, ◌+◌, ◌<◌, ◌≤◌, ◌++◌, ◌-◌, ap, sym, subst, arith}
+use Rattle.std.proofs.Common.{◌≡◌, ◌∙◌, ◌+◌, ◌≤◌, ◌++◌, ◌-◌, ap, sym, subst, arith}
 use Rattle.std.proofs.Common.{suc, List, [], length, take, drop}
 use Rattle.std.proofs.Common.{true}
-use Rattle.std.specs.Prelude.{slice_get, Some}
 use Rattle.std.specs.List.{insert, remove}
 use Rattle.std.proofs.lemmas.List.{take-append-drop}
 use Rattle.std.proofs.lemmas.List.Edits.{length-insert, length-remove}

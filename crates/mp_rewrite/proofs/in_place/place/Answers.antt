@@ -1,4 +1,4 @@
-use Rattle.std.proofs.Common.{◌≡◌, ◌∙◌, ap, sym, map, length, subst, arith, true, ◌≤◌}
+use Rattle.std.proofs.Common.{◌≡◌, sym, map, length, subst, arith, ◌≤◌}
 use Rattle.std.proofs.lemmas.List.{length-map}
 use Rattle.std.specs.Prelude.{slice_get, Some}
 use Rattle.std.specs.List.{insert}

@@ -1,4 +1,4 @@
-use Rattle.std.proofs.Common.{◌≡◌, ◌∙◌, ◌+◌, ◌*◌, ◌<◌, ap, sym, subst, arith, length, map, drop, add-one, length-set}
+use Rattle.std.proofs.Common.{◌≡◌, ◌∙◌, ◌+◌, ap, sym, subst, arith, length, map, drop, add-one, length-set}
 use Rattle.std.specs.Prelude.{slice_get, slice_set, Some, None, option_map}
 use Rattle.std.proofs.lemmas.List.{length-map}
 use Rattle.mp_term.specs.Tree.{app, trees}
@@ -6,8 +6,8 @@ use Rattle.mp_term.specs.View.{tree}
 use Rattle.mp_term.specs.Size.{node_count, all_nodes}
 use Rattle.mp_term.specs.Normal.{IsNormal}
 use Rattle.mp_rewrite.specs.Computed as computed
-use Rattle.mp_rewrite.specs.Planned.{planned_rule}
-use Rattle.mp_rewrite.specs.Marks.{dead, inner, marks}
+use Rattle.mp_pattern.specs.Planned.{planned_rule}
+use Rattle.mp_rewrite.specs.Marks.{dead}
 use Rattle.mp_rewrite.specs.MarkView.{mark_of}
 use Rattle.mp_rewrite.specs.Known.{IsKnown}
 use Rattle.mp_rewrite.specs.Made.{redex_of}

@@ -3,7 +3,7 @@ use Rattle.mp_term.specs.Tree.{trees}
 use Rattle.mp_term.specs.View.{tree}
 use Rattle.mp_term.specs.Size.{node_count, all_nodes}
 use Rattle.mp_rewrite.specs.Computed as computed
-use Rattle.mp_rewrite.specs.Planned.{planned_rule}
+use Rattle.mp_pattern.specs.Planned.{planned_rule}
 use Rattle.mp_rewrite.proofs.MarkLaws.{AllKnown}
 use Rattle.mp_rewrite.proofs.known_redex.+first_known_redex.Given as goal
 

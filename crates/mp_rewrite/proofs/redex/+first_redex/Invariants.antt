@@ -3,7 +3,7 @@ use Rattle.mp_term.specs.Tree.{trees}
 use Rattle.mp_term.specs.View.{tree}
 use Rattle.mp_term.specs.Size.{node_count, all_nodes}
 use Rattle.mp_rewrite.specs.Computed.{first_below, first_redex}
-use Rattle.mp_rewrite.specs.Planned.{planned_rule}
+use Rattle.mp_pattern.specs.Planned.{planned_rule}
 use Rattle.mp_rewrite.proofs.redex.+first_redex.Given as goal
 
 -- no argument so far has a redex

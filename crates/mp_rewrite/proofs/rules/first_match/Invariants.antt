@@ -2,7 +2,7 @@ use Rattle.std.proofs.Common.{◌≡◌, drop, map}
 use Rattle.std.specs.List.{AllByRecursion}
 use Rattle.mp_term.specs.View.{tree}
 use Rattle.mp_rewrite.specs.Computed.{first_match}
-use Rattle.mp_rewrite.specs.Planned.{IsPlanned, planned_rule, rule_plan}
+use Rattle.mp_pattern.specs.Planned.{IsPlanned, planned_rule, rule_plan}
 use Rattle.mp_rewrite.proofs.rules.first_match.Given as goal
 
 -- no rule so far admits anything

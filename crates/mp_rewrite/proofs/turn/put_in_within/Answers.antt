@@ -1,5 +1,5 @@
-use Rattle.std.proofs.Common.{◌≡◌, ◌∙◌, ◌+◌, ◌≤◌, ap, sym, arith, length, max}
-use Rattle.std.specs.Prelude.{Some, None, option_map}
+use Rattle.std.proofs.Common.{◌≡◌, ◌∙◌, ◌+◌, ◌≤◌, sym, arith, length, max}
+use Rattle.std.specs.Prelude.{Some}
 use Rattle.mp_term.specs.declared.limits.TheConstants.{MAX_DEPTH}
 use Rattle.mp_term.specs.View.{tree}
 use Rattle.mp_term.specs.Size.{node_count, depth}

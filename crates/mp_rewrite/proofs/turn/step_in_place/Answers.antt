@@ -1,4 +1,4 @@
-use Rattle.std.proofs.Common.{◌≡◌, ◌∙◌, ap, sym, subst, arith, [], ◌∷◌}
+use Rattle.std.proofs.Common.{◌≡◌, ap, sym, subst, arith, [], ◌∷◌}
 use Rattle.std.specs.Prelude.{Some, option_map}
 use Rattle.mp_term.specs.View.{tree}
 use Rattle.mp_term.specs.Normal.{normal, IsNormal}

@@ -2,7 +2,7 @@ use Rattle.std.proofs.Common.{◌≡◌, ◌∙◌, ap, sym, map}
 use Rattle.std.specs.Prelude.{Some, option_map}
 use Rattle.mp_term.specs.View.{tree}
 use Rattle.mp_rewrite.specs.Computed.{first_redex}
-use Rattle.mp_rewrite.specs.Planned.{planned_rule}
+use Rattle.mp_pattern.specs.Planned.{planned_rule}
 use Rattle.mp_rewrite.specs.Made.{redex_of}
 use Rattle.mp_rewrite.proofs.Steps.{IsReady-first_redex, IsRewritable-first_redex}
 use Rattle.mp_rewrite.proofs.turn.take_turn.Goals as goal

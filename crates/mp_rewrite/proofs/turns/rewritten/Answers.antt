@@ -5,7 +5,7 @@ use Rattle.mp_term.specs.View.{tree}
 use Rattle.mp_rewrite.specs.Computed.{rewriting, next_step}
 use Rattle.mp_rewrite.specs.ComputedAnswers.{IsComputedRewriting}
 use Rattle.mp_rewrite.specs.Made.{redex_of}
-use Rattle.mp_rewrite.specs.Planned.{planned_rule}
+use Rattle.mp_pattern.specs.Planned.{planned_rule}
 use Rattle.mp_rewrite.specs.Turn.{IsNextTurn, IsTurn}
 use Rattle.mp_rewrite.proofs.Steps.{is_some-next_step}
 use Rattle.mp_rewrite.proofs.turns.rewritten.Goals as goal

@@ -1,7 +1,7 @@
 use Rattle.std.proofs.Common.{◌≡◌, ◌-◌, map}
 use Rattle.mp_term.specs.View.{tree}
 use Rattle.mp_rewrite.specs.Computed.{rewriting, rewriting_from}
-use Rattle.mp_rewrite.specs.Planned.{planned_rule}
+use Rattle.mp_pattern.specs.Planned.{planned_rule}
 use Rattle.mp_rewrite.specs.Turn.{IsHere}
 use Rattle.mp_rewrite.proofs.turns.rewritten.Given as goal
 
