@@ -9,6 +9,7 @@ pub mod OrderLaws
 pub mod Sorting
 pub mod Names
 pub mod Signature
+pub mod SigCode
 pub mod Normal
 pub mod NormalTest
 pub mod Positions

@@ -51,6 +51,20 @@ impl From<AllocError> for NameFault {
     }
 }
 
+// The order of two lists of bytes, which is told by the first place where they differ: names are short.
+fn compare_bytes(a: &[u8], b: &[u8]) -> Ordering
+    ensures { result ≡ slice_cmp nat_cmp a.now b.now }
+{
+    let mut place = 0;
+    while place < a.len() && place < b.len() {
+        if a[place] != b[place] {
+            return a[place].cmp(&b[place]);
+        }
+        place += 1;
+    }
+    a.len().cmp(&b.len())
+}
+
 // The byte is an ASCII letter or digit.
 fn is_name_byte(byte: u8) -> bool
     ensures { result ≡ is_name_byte byte }
@@ -142,7 +156,7 @@ impl Ord for Name {
     ghost matches_eq = { λ _ _. refl };
 
     fn cmp(&self, other: &Name) -> Ordering {
-        self.bytes.cmp(&other.bytes)
+        compare_bytes(&self.bytes, &other.bytes)
     }
 }
 
