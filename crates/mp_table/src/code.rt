@@ -1,5 +1,5 @@
 //! Numbers for heads, in the order of the heads.
-ghost use Rattle.std.specs.Prelude.{◌≡◌, ◌<◌, ◌≤◌, ◌^◌, map, length, IfOk, slice_index_or, []};
+ghost use Rattle.std.specs.Prelude.{◌≡◌, ◌<◌, ◌≤◌, ◌^◌, map, length, IfOk, slice_index_or, [], true};
 ghost use Rattle.std.specs.Ordering.{nat_cmp};
 ghost use Rattle.std.specs.Cmp.Lexicographic.{slice_cmp};
 ghost use Rattle.std.specs.List.{AllByRecursion};
@@ -9,7 +9,7 @@ ghost use Rattle.mp_term.specs.Listing.{In};
 ghost use Rattle.mp_table.specs.Heading.{head_key};
 ghost use Rattle.mp_table.specs.Codes.{keys, AreCodes};
 
-use crate::heading::Heading;
+use crate::heading::{Heading, compare_heads};
 use mp_term::{Memory, Term};
 use std::alloc::Global;
 
@@ -23,7 +23,7 @@ fn headings<'a>(alloc: Global, terms: &[&'a Term]) -> Result<Vec<Heading<'a>>, M
     for term in terms {
         headings.push(Heading { term: *term })?;
     }
-    headings.sort_unstable();
+    headings.sort()?;
     headings.dedup();
     Ok(headings)
 }
@@ -41,6 +41,34 @@ fn number_of(headings: &[Heading<'_>], term: &Term) -> usize
     }
 }
 
+// Whether the head at a place is that of the term.
+fn is_at(headings: &[Heading<'_>], place: usize, term: &Term) -> bool
+    ensures within { result ≡ true → place < length headings.now }
+    ensures key { result ≡ true → slice_index_or (keys headings.now) place [] ≡ head_key (tree term.now) }
+{
+    place < headings.len() && compare_heads(headings[place].term, term).is_eq()
+}
+
+// The place of the term's head among the heads, which is looked for at a place and right behind it before elsewhere:
+// the symbols below a commutative operation mostly ascend.
+fn number_near(headings: &[Heading<'_>], term: &Term, near: u32) -> u32
+    requires short { length headings.now < 2 ^ 32 }
+    requires ascending { IsStrictlySortedBy (slice_cmp nat_cmp) (keys headings.now) }
+    requires there { In (head_key (tree term.now)) (keys headings.now) }
+    ensures within { result < length headings.now }
+    ensures key { slice_index_or (keys headings.now) result [] ≡ head_key (tree term.now) }
+{
+    let here = near as usize;
+    if is_at(headings, here, term) {
+        return near;
+    }
+    let behind = here + 1;
+    if is_at(headings, behind, term) {
+        return behind as u32;
+    }
+    number_of(headings, term) as u32
+}
+
 // The number of the head of each term, from 0 in the order of the heads.
 pub(crate) fn codes(alloc: Global, terms: &[&Term]) -> Result<Vec<u32>, Memory>
     requires { length terms.now < 2 ^ 32 }
@@ -48,8 +76,13 @@ pub(crate) fn codes(alloc: Global, terms: &[&Term]) -> Result<Vec<u32>, Memory>
 {
     let headings = headings(alloc, terms)?;
     let mut codes = Vec::new(alloc);
+    let mut near = 0;
     for term in terms {
-        codes.push(number_of(&headings, *term) as u32)?;
+        let number = number_near(&headings, *term, near);
+        codes.push(number)?;
+        if let Term::Sym(_) = *term {
+            near = number;
+        }
     }
     Ok(codes)
 }

@@ -10,7 +10,7 @@ ghost use Rattle.mp_table.specs.Text.{IsText, piece_terms, shown};
 
 use crate::entry::{Entry, OwnHead};
 use crate::piece::Piece;
-use crate::pieces::rank_of;
+use crate::pieces::rank_near;
 use crate::preorder::Preorder;
 use crate::rank::Rank;
 use mp_term::{Memory, Term};
@@ -46,10 +46,13 @@ fn ranks_of_args(
     let mut ranks = Vec::new(alloc);
     let end = start + text.nodes[start] as usize;
     let mut next = start + 1;
+    let mut near = Rank(0);
     while next < end {
         let after = next + text.nodes[next] as usize;
-        ranks.push(rank_of(pieces, &codes[next..after]))?;
+        let rank = rank_near(pieces, &codes[next..after], near);
+        ranks.push(rank)?;
         next = after;
+        near = rank;
     }
     Ok(ranks)
 }

@@ -18,7 +18,7 @@ pub(crate) struct Heading<'a> {
 }
 
 // The order of the heads of two terms.
-fn compare_heads(a: &Term, b: &Term) -> Ordering
+pub(crate) fn compare_heads(a: &Term, b: &Term) -> Ordering
     ensures { result ≡ slice_cmp nat_cmp (head_key (tree a.now)) (head_key (tree b.now)) }
 {
     match (a, b) {

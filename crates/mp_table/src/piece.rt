@@ -1,11 +1,24 @@
 //! Subterms by the numbers of their heads.
-ghost use Rattle.std.specs.Prelude.{Some, refl};
+ghost use Rattle.std.specs.Prelude.{◌≡◌, Some, refl};
 ghost use Rattle.std.specs.Ordering.{is_eq, nat_cmp};
 ghost use Rattle.std.specs.Cmp.{on_equiv, on_per, on_po, on_total, partial_equiv_from_equiv, po, eq_by_cmp_equiv};
 ghost use Rattle.std.specs.Cmp.Lexicographic.{slice_cmp};
 ghost use Rattle.std.proofs.lemmas.Cmp.{nat_list_cmp_total};
 
 use std::cmp::Ordering;
+
+// The order of two codes, of which most differ in the first number, or have no other.
+pub(crate) fn compare_codes(a: &[u32], b: &[u32]) -> Ordering
+    ensures { result ≡ slice_cmp nat_cmp a.now b.now }
+{
+    if a.len() == 1 && b.len() == 1 {
+        return a[0].cmp(&b[0]);
+    }
+    if a.len() > 0 && b.len() > 0 && a[0] != b[0] {
+        return a[0].cmp(&b[0]);
+    }
+    a.cmp(b)
+}
 
 // A subterm: the numbers of its heads in preorder, and the place where they begin. Pieces compare by these numbers
 // alone.
@@ -49,6 +62,6 @@ impl<'a> Ord for Piece<'a> {
     ghost matches_eq = { λ _ _. refl };
 
     fn cmp(&self, other: &Piece<'a>) -> Ordering {
-        self.code.cmp(other.code)
+        compare_codes(self.code, other.code)
     }
 }

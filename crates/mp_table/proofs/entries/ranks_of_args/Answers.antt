@@ -29,8 +29,8 @@ index-requires-in-loop-next c =
     c.loop-next-test.true in
     omega (arith, n.within, length-nodes text c.args.codes.now c.requires.text, text.nodes.ok.0)
 
-pub slice_bounds-rank_of-end : goal.slice_bounds-rank_of-end
-slice_bounds-rank_of-end c =
+pub slice_bounds-rank_near-end : goal.slice_bounds-rank_near-end
+slice_bounds-rank_near-end c =
     let text = c.args.text.now in
     let n = step text c.args.codes.now c.requires.text c.args.start c.index.result.now (length c.loop-next.ranks.items)
     c.loop-next.next c.requires.start c.index.ensures c.loop-next.invariant.few c.loop-next.invariant.next
@@ -42,8 +42,8 @@ slice_bounds-rank_of-end c =
     in
     omega (arith, width, are_within text c.args.codes.now c.requires.text c.loop-next.next there)
 
-pub rank_of-requires-clause-there : goal.rank_of-requires-clause-there
-rank_of-requires-clause-there c =
+pub rank_near-rank-requires-clause-there : goal.rank_near-rank-requires-clause-there
+rank_near-rank-requires-clause-there c =
     let text = c.args.text.now in
     let n = step text c.args.codes.now c.requires.text c.args.start c.index.result.now (length c.loop-next.ranks.items)
     c.loop-next.next c.requires.start c.index.ensures c.loop-next.invariant.few c.loop-next.invariant.next
@@ -87,11 +87,11 @@ loop-next-preserved c =
     ap length c.in_ok-push.ensures.items ∙ length-append c.loop-next.ranks.items _ in
     let e : (c.loop-next.next + c.index-in-loop-next.result.now) - c.loop-next.next
     ≡ get_or text.nodes.items c.loop-next.next 0 = omega (arith, width) in
-    let found : get_or (piece_terms text c.args.pieces.now) c.rank_of.result.0 (symbol [])
+    let found : get_or (piece_terms text c.args.pieces.now) c.rank_near-rank.result.0 (symbol [])
     ≡ term_in (shown text) c.loop-next.next =
-    term_of_rank text c.args.codes.now c.requires.text c.args.pieces.now c.requires.pieces.pieces c.rank_of.result.0
-    c.loop-next.next c.rank_of.ensures.within n.within
-    (c.rank_of.ensures.code ∙ ap (λ w. take w (drop c.loop-next.next c.args.codes.now)) e) in
+    term_of_rank text c.args.codes.now c.requires.text c.args.pieces.now c.requires.pieces.pieces
+    c.rank_near-rank.result.0 c.loop-next.next c.rank_near-rank.ensures.within n.within
+    (c.rank_near-rank.ensures.code ∙ ap (λ w. take w (drop c.loop-next.next c.args.codes.now)) e) in
     record {
       few = omega (arith, longer, n.more);
       next = ap (λ w. c.loop-next.next + w) width ∙ n.after
@@ -102,7 +102,7 @@ loop-next-preserved c =
           ∙ sym (take_more us k (symbol []) n.more)
           ∙ ap (λ m. take m us) (sym longer);
       within = rw c.in_ok-push.ensures.items (all-append (λ r. r.0 < length c.args.pieces.now) c.loop-next.ranks.items _
-          c.loop-next.invariant.within (c.rank_of.ensures.within, tt));
+          c.loop-next.invariant.within (c.rank_near-rank.ensures.within, tt));
     }
 
 pub returns-clause-terms : goal.returns-clause-terms

@@ -17,14 +17,14 @@ returns-clause-pieces c =
     let codes = c.args.codes.now in
     let nodes = c.args.nodes.now in
     let ps = c.in_ok-pieces.pieces.items in
-    let qs = c.sort_unstable.new.self.items in
+    let qs = c.sort.new.self.items in
     rw (dedup_is _ _ _ c.dedup.ensures.filtered) (record {
       ascending = distinct_ascends (slice_cmp nat_cmp) nat_list_cmp_total (λ p. p.code.now) qs
-          c.sort_unstable.ensures.sorted;
+          c.in_ok-sort.ensures.sorted;
       pieces = distinct_keep (slice_cmp nat_cmp) nat_list_cmp_total (λ p. p.code.now) (IsPiece codes nodes) ps qs
-          c.sort_unstable.ensures.permutation c.in_ok-pieces.ensures.pieces;
+          c.in_ok-sort.ensures.permutation c.in_ok-pieces.ensures.pieces;
       all = λ i h. distinct_all (slice_cmp nat_cmp) nat_list_cmp_total (λ p. p.code.now) nats_same ps qs
-          c.sort_unstable.ensures.permutation (code_at codes nodes i) (piece_there codes nodes ps i
+          c.in_ok-sort.ensures.permutation (code_at codes nodes i) (piece_there codes nodes ps i
           c.in_ok-pieces.ensures.pieces (subst (In i) (sym c.in_ok-pieces.ensures.starts)
           (in-numbers i (length nodes) h)));
     })
@@ -39,5 +39,5 @@ returns-clause-few c =
       length-range 0 (length c.args.nodes.now),
       c.dedup.ensures.bound,
       c.dedup.new.self.ok.0,
-      c.sort_unstable.ensures.len,
+      c.in_ok-sort.ensures.len,
     )
