@@ -7,7 +7,7 @@ use Rattle.mp_io.specs.Printing.{Prints}
 use Rattle.mp_io.specs.Writing.{HasPut, Puts}
 use Rattle.mp_io.specs.declared.devices.Sink.{Ghosts as SinkWords}
 use Rattle.mp_io.specs.declared.writer.Writer.{Writer}
-use Rattle.mp_io.proofs.Written.{prints_as, prints_then}
+use Rattle.mp_io.proofs.Written.{prints_as, prints_longer, prints_then}
 
 module _ {K : Type 0} (words : SinkWords K) where
   -- a text is put, and then another
@@ -45,6 +45,36 @@ module _ {K : Type 0} (words : SinkWords K) where
           rw (failed, h.1, append_assoc h.0 u.room text)
           (prints_as words start w.sink.now _ _ (Err tt) refl
           (prints_then words start u.sink.now w.sink.now h.0 (u.room ++ text) tt (Err e) h.2 p))
+
+  -- a front of the bytes that are held back is written, as far as that goes
+  pub Puts-front : {T E : Type 0} (u w : Writer K) (front : Text) (result : Result T E)
+      → w.sink.ghost_name ≡ u.sink.ghost_name
+      → u.failed ≡ false → w.failed ≡ is_err result → u.room ≡ front ++ w.room
+      → Prints (sunk words u.sink.now w.sink.now) front result → Puts words u w []
+  Puts-front u w front result same going failed split p =
+      record { same = same; behind = λ start before h. go start before (rw going at h) result failed p }
+    where
+      whole : (before first : Text) → before ≡ first ++ u.room → before ++ [] ≡ (first ++ front) ++ w.room
+      whole before first is = append-nil before ∙ is ∙ ap (λ l. first ++ l) split ∙ sym (append_assoc first front w.room)
+
+      go : {T E : Type 0} (start : K) (before : Text)
+          → ((first : Text) × (before ≡ first ++ u.room)
+          × Prints {T = ⊤} {E = ⊤} (sunk words start u.sink.now) first (Ok tt))
+          → (result : Result T E) → w.failed ≡ is_err result
+          → Prints (sunk words u.sink.now w.sink.now) front result
+          → HasPut words start (before ++ []) w
+      go start before h (Ok v) failed p =
+          rw failed (
+            h.0 ++ front,
+            whole before h.0 h.1,
+            prints_as words start w.sink.now (h.0 ++ front) _ (Ok tt) refl
+                (prints_then words start u.sink.now w.sink.now h.0 front tt (Ok v) h.2 p),
+          )
+      go start before h (Err e) failed p =
+          rw (failed, whole before h.0 h.1)
+          (prints_longer words start w.sink.now (h.0 ++ front) w.room tt
+          (prints_as words start w.sink.now (h.0 ++ front) _ (Err tt) refl
+          (prints_then words start u.sink.now w.sink.now h.0 front tt (Err e) h.2 p)))
 
   -- the rest is written, and with it all the text
   pub HasPut-ended : {T E : Type 0} (start new : K) (text : Text) (w : Writer K) (result : Result T E)

@@ -76,6 +76,25 @@ module _ {K : Type 0} (words : SinkWords K) where
         };
       }
 
+  -- a front of a text was printed, which is one of a longer text
+  pub prints_longer : {U F : Type 0} (a b : K) (text more : Text) (fault : F)
+      → Prints {T = U} (sunk words a b) text (Err fault) → Prints {T = U} (sunk words a b) (text ++ more) (Err fault)
+  prints_longer a b text more fault p =
+      let cut = p.front.front in
+      record {
+        whole = tt;
+        front = record {
+          front = record {
+            front = cut.front;
+            rest = cut.rest ++ more;
+            split = ap (λ l. l ++ more) cut.split ∙ append_assoc cut.front cut.rest more;
+            written = cut.written;
+          };
+          some = omega (arith, length-append text more, p.front.some);
+        };
+        cause = p.cause;
+      }
+
   -- what is printed says whether the answer is an error, and nothing of its value
   pub prints_as : {U F T E : Type 0} (a b : K) (text : Text) (one : Result U F) (other : Result T E)
       → is_err other ≡ is_err one → Prints (sunk words a b) text one → Prints (sunk words a b) text other

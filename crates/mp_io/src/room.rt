@@ -1,6 +1,6 @@
 //! A room of fixed size for bytes that are held back.
 
-ghost use Rattle.std.specs.Prelude.{◌≡◌, ◌++◌, [], MatchBool};
+ghost use Rattle.std.specs.Prelude.{◌≡◌, ◌≤◌, ◌++◌, [], MatchBool, drop, length};
 
 use std::marker::Model;
 
@@ -55,6 +55,25 @@ impl Room {
         self.bytes[self.count..end].copy_from_slice(text);
         self.count = end;
         true
+    }
+
+    /// How many bytes the whole lines have.
+    pub(crate) fn lines_len(&self) -> usize
+        ensures { result ≤ length self.now }
+    {
+        match self.bytes().iter().rposition(|byte| *byte == b'\n') {
+            None => 0,
+            Some(last) => last + 1,
+        }
+    }
+
+    /// Leaves the bytes behind so many.
+    pub(crate) fn drop_front(&mut self, count: usize)
+        requires { count ≤ length self.old }
+        ensures { self.new ≡ drop count self.old }
+    {
+        self.bytes.copy_within(count..self.count, 0);
+        self.count -= count;
     }
 
     /// Leaves no bytes.

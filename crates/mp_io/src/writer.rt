@@ -1,6 +1,6 @@
 //! A writer that keeps its failure, so that what prints to it needn't look at each write.
 
-ghost use Rattle.std.specs.Prelude.{◌≡◌, false, []};
+ghost use Rattle.std.specs.Prelude.{◌≡◌, IsErr, false, true, []};
 ghost use Rattle.mp_io.specs.Moments.{sunk};
 ghost use Rattle.mp_io.specs.Printing.{Prints, joined};
 ghost use Rattle.mp_io.specs.Writing.{HasPut, Puts};
@@ -9,7 +9,8 @@ use crate::room::Room;
 use crate::{Failed, Sink, put};
 
 /// Text on its way to a sink: it is gathered in a room of 4,096 bytes, and written when the room is full, at a `flush`
-/// and at the end.
+/// and at the end. A full room is written to the end of its last line, so that each line that fits into the room is
+/// part of one write.
 ///
 /// No call but `finish` fails: after a write that failed nothing more is written, and `finish`, which has to be called,
 /// says so. No call takes memory. The words of the contracts stand in `specs/Writing.antt`.
@@ -34,6 +35,17 @@ impl<'a, K: Sink> Writer<'a, K> {
 
     /// Puts the text behind the text so far. Together they are written at once where they fit into the room.
     pub fn put(&mut self, text: &[u8])
+        ensures { Puts K.Sink self.old self.new text.now }
+    {
+        if self.room.take(text) {
+            return;
+        }
+        self.flush_lines();
+        self.put_at_once(text);
+    }
+
+    // Puts the text behind the text so far, of which it leaves nothing in the room where there isn't enough for both.
+    fn put_at_once(&mut self, text: &[u8])
         ensures { Puts K.Sink self.old self.new text.now }
     {
         if self.room.take(text) {
@@ -66,6 +78,25 @@ impl<'a, K: Sink> Writer<'a, K> {
         self.room.clear();
     }
 
+    // Writes the whole lines that are held back, unless a write has failed.
+    fn flush_lines(&mut self)
+        ensures { Puts K.Sink self.old self.new [] }
+    {
+        if self.failed {
+            return;
+        }
+        let count = self.room.lines_len();
+        self.failed = put(self.sink, &self.room.bytes()[..count]).is_err();
+        self.room.drop_front(count);
+    }
+
+    /// Whether a write has failed: nothing more is written then.
+    pub fn has_failed(&self) -> bool
+        ensures { result ≡ self.now.failed }
+    {
+        self.failed
+    }
+
     // Writes the text, unless a write has failed.
     fn pass(&mut self, text: &[u8])
         requires { self.old.failed ≡ false → self.old.room ≡ [] }
@@ -82,8 +113,9 @@ impl<'a, K: Sink> Writer<'a, K> {
     /// `Failed`: a write failed, now or before. The sink's count of faults rose then, and a front of the text was
     /// appended.
     pub fn finish(self) -> Result<(), Failed>
-        ensures { (start : _) (text : _) → HasPut K.Sink start text self.entry
+        ensures prints { (start : _) (text : _) → HasPut K.Sink start text self.entry
             → Prints (sunk K.Sink start self.exit.0.now) text result }
+        ensures failed { self.entry.failed ≡ true → IsErr result }
     {
         let Writer { sink, room, failed } = self;
         if failed {
