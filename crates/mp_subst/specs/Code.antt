@@ -1,10 +1,11 @@
--- Values and bindings as sums and pairs that give them back.
+-- Values, bindings and pairs as sums and pairs that give them back.
 use Rattle.std.specs.Prelude.{◌≡◌, ℕ, ◌⊎◌, List, refl}
 use Rattle.std.proofs.Common.{inl, inr}
 use Rattle.std.specs.Coded.{Coded, code_by, coded×, coded⊎, coded_ℕ, coded_list}
 use Rattle.mp_term.specs.Tree.{Tree}
 use Rattle.mp_term.specs.Code.{coded_tree}
 use Rattle.mp_pattern.specs.Value.{Value, one, seq, bag, Binding}
+use Rattle.mp_pattern.specs.Lists.{Pair}
 
 -- one term, or a tuple or a multiset of terms
 abbrev pub Pieces : Type 0
@@ -36,3 +37,7 @@ coded_value = code_by Pieces (coded⊎ coded_tree (coded⊎ (coded_list coded_tr
 abbrev pub coded_binding : Coded Binding
 coded_binding = code_by (List ℕ × Value) (coded× (coded_list coded_ℕ) coded_value) (λ b. (b.name, b.value))
     (λ p. record { name = p.0; value = p.1 }) (λ _. refl)
+
+-- the code of the number of a rule with a substitution
+abbrev pub coded_pair : Coded Pair
+coded_pair = coded× coded_ℕ (coded_list coded_binding)

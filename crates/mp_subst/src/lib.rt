@@ -1,5 +1,5 @@
-//! Values of variables, and substitutions: how two values merge, how substitutions compare, and what a template becomes
-//! under one.
+//! Values of variables, substitutions and trails: how two values merge, how substitutions compare, what a template becomes
+//! under one, and the bindings of a search, which are taken back in turn.
 #![tactic(auto)]
 
 mod apply_fault;
@@ -14,6 +14,7 @@ mod merging;
 mod multiset;
 mod order;
 mod pair;
+mod pairs;
 mod subst;
 mod trail;
 mod value;
@@ -27,6 +28,7 @@ pub use merging::merge;
 pub use multiset::same_multiset;
 pub use order::{compare_subst, compare_value, same_subst};
 pub use pair::Pair;
+pub use pairs::Pairs;
 pub use subst::{Binding, Bindings, Subst};
 pub use trail::{Mark, Trail};
 pub use value::Value;
