@@ -1,7 +1,6 @@
 pub mod CursorRoom
 pub mod CursorRoomCode
 pub mod Listing
-pub mod SigCode
 pub mod ListingCode
 pub mod Kept
 pub mod Stage

@@ -2,7 +2,7 @@
 use Rattle.std.specs.Prelude.{List, Option, refl}
 use Rattle.std.specs.Coded.{Coded, code_by, coded×, coded_list, coded_option}
 use Rattle.mp_term.specs.Signature.{Sig}
-use Rattle.mp_cursor.specs.SigCode.{coded_sig}
+use Rattle.mp_term.specs.SigCode.{coded_sig}
 use Rattle.mp_pattern.specs.Admission.{Rule}
 use Rattle.mp_pattern.specs.EntryCode.{coded_entry}
 use Rattle.mp_pattern.specs.RuleCode.{coded_rule}

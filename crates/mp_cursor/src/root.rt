@@ -11,22 +11,8 @@ ghost use Rattle.mp_pattern.specs.View.{pattern_tree};
 ghost use Rattle.mp_theory.specs.MayMatch as look;
 ghost use Rattle.mp_theory.specs.OneList.{item_list};
 
-use mp_pattern::{Pattern, Shape};
+use mp_pattern::{Pattern, Shape, no_sequence};
 use mp_term::{OpId, Signature, Term, in_kind};
-
-// Whether no child is a sequence wildcard (`no_sequence` of mp_pattern's `specs/Fits.antt`).
-fn no_sequence(children: &[Pattern]) -> bool
-    ensures { result ≡ fits.no_sequence (patterns (map pattern_tree children.now)) }
-{
-    for child in children {
-        if let Pattern::Wild(shape, _) = child
-            && shape.is_sequence()
-        {
-            return false;
-        }
-    }
-    true
-}
 
 // Whether the child of the operation takes exactly one term (`takes_one` of mp_theory's `specs/MayMatch.antt`).
 fn takes_one(sig: &Signature, op: OpId, child: &Pattern) -> bool

@@ -1,42 +1,18 @@
 //! Which entries a node may have, whatever was taken before.
-ghost use Rattle.std.specs.Prelude.{◌≡◌, ◌∷◌, [], map, is_some};
+ghost use Rattle.std.specs.Prelude.{◌≡◌, ◌∷◌, [], is_some};
 ghost use Rattle.mp_term.specs.View.{tree};
 ghost use Rattle.mp_term.specs.Tree.{symbol};
-ghost use Rattle.mp_pattern.specs.PatternTree.{patterns, meets_count};
 ghost use Rattle.mp_pattern.specs.View.{pattern_tree, wildcard};
 ghost use Rattle.mp_pattern.specs.Value as values;
-ghost use Rattle.mp_pattern.specs.Variables as variables;
-ghost use Rattle.mp_pattern.specs.Fits as fits;
 ghost use Rattle.mp_term.specs.Order.{tree_cmp};
 ghost use Rattle.mp_term.specs.Pieces.{same};
 ghost use Rattle.mp_theory.specs.Solve as solve;
 ghost use Rattle.mp_theory.specs.Machine as machine;
-ghost use Rattle.mp_theory.specs.Bounds as bounds;
 ghost use Rattle.mp_one.specs.Lists.{trees_of};
 ghost use Rattle.mp_search.specs.Frames.{above};
 
-use mp_pattern::{Pattern, Shape};
+use mp_pattern::{Pattern, Shape, is_assoc_above, meets_count, no_sequence};
 use mp_term::{KindId, Name, OpId, Signature, Term, has_head, in_kind, is_normal};
-
-/// Whether the operation above is commutative.
-pub fn comm_above(sig: &Signature, under: Option<OpId>) -> bool
-    ensures { result ≡ variables.comm_above sig.now (above under) }
-{
-    match under {
-        Some(op) => sig.is_comm(op),
-        None => false,
-    }
-}
-
-/// Whether the operation above is associative.
-pub fn assoc_above(sig: &Signature, under: Option<OpId>) -> bool
-    ensures { result ≡ bounds.assoc_above sig.now (above under) }
-{
-    match under {
-        Some(op) => sig.is_assoc(op),
-        None => false,
-    }
-}
 
 /// Whether the term alone is a contribution under the operation.
 pub fn is_alone(sig: &Signature, under: Option<OpId>, term: &Term) -> bool
@@ -65,20 +41,7 @@ fn is_contribution(sig: &Signature, under: Option<OpId>, terms: &[&Term]) -> boo
     match terms {
         [] => false,
         [only] => is_alone(sig, under, only),
-        _ => assoc_above(sig, under),
-    }
-}
-
-/// Whether a counted wildcard may take so many terms: its count where that is fixed, and its count or more where it is
-/// open.
-pub fn meets_count(count: u32, fixed: bool, terms: usize) -> bool
-    ensures { result ≡ meets_count count fixed terms }
-{
-    let count = count as usize;
-    if fixed {
-        terms == count
-    } else {
-        terms >= count
+        _ => is_assoc_above(sig, under),
     }
 }
 
@@ -104,20 +67,6 @@ fn default_passes(sig: &Signature, variable: &Option<Name>, shape: &Shape, terms
         (Some(_), Shape::Opt(default), []) => is_normal(sig, default),
         _ => true,
     }
-}
-
-// Whether no child is a plus, star or counted wildcard.
-fn no_sequence(children: &[Pattern]) -> bool
-    ensures { result ≡ fits.no_sequence (patterns (map pattern_tree children.now)) }
-{
-    for child in children {
-        if let Pattern::Wild(shape, _) = child
-            && shape.is_sequence()
-        {
-            return false;
-        }
-    }
-    true
 }
 
 // Whether the term is the symbol.

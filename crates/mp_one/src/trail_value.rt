@@ -11,9 +11,9 @@ ghost use Rattle.mp_search.specs.Frames.{above};
 ghost use Rattle.mp_one.specs.Lists.{trees_of};
 ghost use Rattle.mp_one.specs.TrailValue.{trail_value, merged, is_same_one};
 
-use crate::node::{comm_above, is_alone, is_of_kind, meets_count};
+use crate::node::{is_alone, is_of_kind};
 use crate::terms::{copied, references, same_multiset, same_references};
-use mp_pattern::Shape;
+use mp_pattern::{Shape, is_comm_above, meets_count};
 use mp_term::{Memory, OpId, Signature, Term, compare};
 use std::alloc::Global;
 
@@ -162,7 +162,7 @@ fn sequence<'a>(
     ensures { IfOk result (λ h. trail_value h ≡ solve.sequence sig.now (above under) (trees_of terms.now)) }
 {
     let copy = copied(alloc, terms)?;
-    if comm_above(sig, under) {
+    if is_comm_above(sig, under) {
         Ok(TrailValue::Bag(copy))
     } else {
         Ok(TrailValue::Seq(copy))

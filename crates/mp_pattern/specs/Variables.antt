@@ -2,7 +2,7 @@
 use Rattle.std.specs.Prelude.{◌≡◌, ℕ, Bool, true, false, ◌&&◌, not, List, [], ◌∷◌, ◌++◌, map, filter, Option, Some}
 use Rattle.std.specs.Prelude.{None, if◌then◌else◌}
 use Rattle.std.specs.List.{AllByRecursion, list_any}
-use Rattle.mp_term.specs.Signature.{Sig, is_comm}
+use Rattle.mp_term.specs.Signature.{Sig, is_assoc, is_comm}
 use Rattle.mp_pattern.specs.PatternTree.{Wildcard, is_sequence, Pattern, symbol_pattern, app_pattern, wild_pattern}
 use Rattle.mp_pattern.specs.PatternTree.{Patterns, no_patterns, more_patterns}
 use Rattle.mp_pattern.specs.Firsts.{firsts_after}
@@ -36,6 +36,11 @@ module _ (sig : Sig) where
   abbrev pub comm_above : Option ℕ → Bool
   comm_above None = false
   comm_above (Some f) = is_comm sig f
+
+  -- the operation is associative; at the root there is none
+  abbrev pub assoc_above : Option ℕ → Bool
+  assoc_above None = false
+  assoc_above (Some f) = is_assoc sig f
 
   -- a tuple where some sequence wildcard stands directly under an operation that isn't commutative, else a multiset
   -- where there is a sequence wildcard

@@ -15,6 +15,7 @@ ghost use Rattle.mp_pattern.specs.PlanView.{form, label, node, variable};
 ghost use Rattle.mp_pattern.specs.UseView.{occurrence};
 ghost use Rattle.mp_pattern.specs.PlanFault.{plan_fault, IsCompiled, OrMemory};
 
+use crate::above::is_comm_above;
 use crate::copy::{copy_pattern, copy_shape};
 use crate::entry::Form;
 use crate::limits::{MAX_PATTERN_NODES, MAX_VARIABLES};
@@ -22,7 +23,7 @@ use crate::normal::is_loose;
 use crate::outline::{Occurrence, Outline, first_clash, node_count, outline_of};
 use crate::pattern::{Pattern, Shape};
 use crate::plan::{Label, Node, Plan, Variable};
-use mp_term::{Memory, Name, OpId, Signature};
+use mp_term::{Memory, Name, Signature};
 use std::alloc::{AllocError, Global};
 use thiserror::Error;
 
@@ -135,17 +136,6 @@ fn push_nodes(
             let what = Label::Wild(copy_shape(alloc, shape)?, variable_number(names, variable));
             push_node(out, what, number + 1, parent)
         }
-    }
-}
-
-/// The operation above is commutative (`comm_above` of `specs/Variables.antt`); at the root there is none. It takes no
-/// memory.
-pub fn is_comm_above(sig: &Signature, under: Option<OpId>) -> bool
-    ensures { result ≡ comm_above sig.now (option_map (λ f. f.0) under) }
-{
-    match under {
-        None => false,
-        Some(op) => sig.is_comm(op),
     }
 }
 

@@ -1,6 +1,7 @@
 //! Patterns, templates, conditions and rules over a signature as data, and what matching is.
 #![tactic(auto)]
 
+mod above;
 mod compile;
 mod condition;
 mod constant;
@@ -19,7 +20,8 @@ mod rule;
 mod syntactic;
 mod template;
 
-pub use compile::{PlanFault, is_comm_above};
+pub use above::{is_assoc_above, is_comm_above};
+pub use compile::PlanFault;
 pub use condition::{Amount, BoxedCond, Cond, Conds, Operand, Sense};
 pub use constant::{constants, rule_constants};
 pub use copy::{copy_cond, copy_pattern, copy_shape};
@@ -38,7 +40,7 @@ pub use limits::{
 pub use named::is_fully_named;
 pub use normal::normalise_pattern;
 pub use order::pattern_compare;
-pub use pattern::{Pattern, Patterns, Shape};
+pub use pattern::{Pattern, Patterns, Shape, meets_count, no_sequence};
 pub use plan::{Plan, PlanNode};
 pub use planned::{PlannedRule, plan_rules};
 pub use rule::{Rule, Rules};

@@ -1,6 +1,7 @@
 //! Patterns: terms with wildcards.
 ghost use Rattle.std.specs.Prelude.{◌≡◌, [], ◌∷◌, ◌++◌, length, map, slice_get, OnOk, OnErr, option_map};
-ghost use Rattle.mp_pattern.specs.PatternTree.{is_sequence, least, most, is_loose};
+ghost use Rattle.mp_pattern.specs.Fits.{no_sequence};
+ghost use Rattle.mp_pattern.specs.PatternTree.{meets_count, is_sequence, least, most, is_loose, patterns};
 ghost use Rattle.mp_pattern.specs.View.{wildcard, pattern_tree};
 
 use mp_term::{KindId, Memory, Name, OpId, Term};
@@ -62,6 +63,19 @@ impl Shape {
         ensures { result ≡ is_loose (wildcard self.now) }
     {
         self.is_sequence() || self.least() == 0
+    }
+}
+
+/// So many terms meet the count of a counted wildcard (`meets_count` of `specs/PatternTree.antt`): they are as many
+/// where it is fixed, and as many or more where it is open. It takes no memory.
+pub fn meets_count(count: u32, fixed: bool, terms: usize) -> bool
+    ensures { result ≡ meets_count count fixed terms }
+{
+    let count = count as usize;
+    if fixed {
+        terms == count
+    } else {
+        terms >= count
     }
 }
 
@@ -148,4 +162,18 @@ impl Patterns {
     {
         &self.items
     }
+}
+
+/// No child is a plus, star or counted wildcard (`no_sequence` of `specs/Fits.antt`). It takes no memory.
+pub fn no_sequence(children: &[Pattern]) -> bool
+    ensures { result ≡ no_sequence (patterns (map pattern_tree children.now)) }
+{
+    for child in children {
+        if let Pattern::Wild(shape, _) = child
+            && shape.is_sequence()
+        {
+            return false;
+        }
+    }
+    true
 }

@@ -1,47 +1,137 @@
 -- Where the applications of one operation stand among terms that ascend.
 use Rattle.std.proofs.Common.{◌≡◌, ℕ, zero, suc, ◌+◌, ◌<◌, ◌≤◌, List, [], ◌∷◌, length, drop, Bool, true, false}
 use Rattle.std.proofs.Common.{refl, ap, sym, ◌∙◌, subst, get_or, nat_eq, eqb-true, ltb, arith}
-use Rattle.std.specs.Prelude.{Option, ◌||◌, if◌then◌else◌}
+use Rattle.std.proofs.Common.{eq-eqb}
+use Rattle.std.specs.Prelude.{Option, Some, None, option_map, ◌||◌, if◌then◌else◌}
 use Rattle.std.proofs.lemmas.Bool.{and_parts}
 use Rattle.std.specs.List.{AllWithin}
 use Rattle.std.specs.List.Sorted.{IsNonDecreasingBy}
 use Rattle.std.specs.Ordering.{ordering_then, nat_cmp}
+use Rattle.std.specs.declared.cmp.Ordering.{Ordering}
 use Rattle.std.specs.declared.cmp.Ordering.TheVariants.{Less, Equal, Greater}
 use Rattle.std.proofs.lemmas.Bool.{ltb-true, lt-ltb}
 use Rattle.std.proofs.lemmas.Cmp.{by_ranked, ranked}
 use Rattle.mp_term.specs.NormalTest.{has_head}
 use Rattle.mp_term.specs.Order.{tree_cmp, trees_cmp}
 use Rattle.mp_term.specs.Signature.{Sig}
-use Rattle.mp_term.specs.Tree.{Tree, symbol, app, tree_list}
+use Rattle.mp_term.specs.OrderLaws.{tree_cmp_total, tree_same}
+use Rattle.mp_term.specs.Tree.{Tree, symbol, app, Trees, no_trees, more_trees, tree_list}
 use Rattle.mp_pattern.specs.PatternTree.{Patterns, app_pattern}
 use Rattle.mp_pattern.specs.Value.{Subst}
 use Rattle.mp_table.specs.Table.{Table, IsTable, HasRank, HasRanks, term_at}
 use Rattle.mp_table.specs.declared.rank.Rank.{Rank}
 use Rattle.mp_table.proofs.RankLaws.{rank_order}
 use Rattle.mp_theory.specs.MayMatch.{may_collapse, may_match}
-use Rattle.mp_search.specs.Portion.{is_at, is_before, occurrences, StandBetween}
+use Rattle.mp_table.specs.Subterms.{arguments}
+use Rattle.mp_search.specs.declared.headed.Group.{Group}
+use Rattle.mp_search.specs.Portion.{is_at, first_before, args_before, is_before, precedes, IsOf, occurrences, StandBetween}
 
--- what is at most another term isn't behind it
-before-lower : (n : ℕ) (t u : Tree) → (tree_cmp t u ≡ Greater → ⊥) → is_before n u ≡ true → is_before n t ≡ true
-before-lower n (symbol m) u h b = refl
-before-lower n (app f ts) (symbol m) h b = absurd (h refl)
-before-lower n (app f ts) (app g us) h b =
-    by_ranked (f < g) (f ≡ g) (g < f) (nat_cmp f g) (ranked f g (nat_cmp f g) refl)
-    (λ e l. let k = ltb-true g n b in lt-ltb f n (omega (arith, l, k)))
-    (λ e l. let k = ltb-true g n b in lt-ltb f n (omega (arith, l, k)))
-    (λ e l. absurd (h (ap (λ o. ordering_then o (ordering_then (nat_cmp (length (tree_list ts)) (length (tree_list us)))
-    (trees_cmp ts us))) e)))
-
--- what has the head isn't before it, and is before the next
-pub headed-there : (g : ℕ) (t : Tree) → has_head g t ≡ true → (is_before g t ≡ false) × (is_before (g + 1) t ≡ true)
-headed-there g (symbol m) h = cc
-headed-there g (app f ts) h =
-    let e : g ≡ f = eqb-true g f h in
-    (not_before (ltb f g) refl, lt-ltb f (g + 1) (omega (arith, e)))
+-- a number that is less than the least of some is none of them
+less-is : (f g : ℕ) → f < g → (nat_eq f g ≡ false) × (ltb f g ≡ true)
+less-is f g l = (differs (nat_eq f g) refl, lt-ltb f g l)
   where
-    not_before : (b : Bool) → ltb f g ≡ b → b ≡ false
-    not_before true k = let l = ltb-true f g k in absurd (omega (arith, l, eqb-true g f h))
-    not_before false k = refl
+    differs : (b : Bool) → nat_eq f g ≡ b → b ≡ false
+    differs true e = absurd (omega (arith, eqb-true f g e, l))
+    differs false e = refl
+
+module _ (past : Bool) (c : ℕ) where
+  -- the first arguments of lists of one length
+  first-lower : (u : Tree) (ts us : Trees) → length (tree_list ts) ≡ length (tree_list us)
+      → (trees_cmp ts us ≡ Greater → ⊥) → first_before past u (tree_list us) ≡ true
+      → first_before past u (tree_list ts) ≡ true
+  first-lower u no_trees no_trees e h b = b
+  first-lower u no_trees (more_trees v us) e h b = absurd (omega (arith, e))
+  first-lower u (more_trees t ts) no_trees e h b = absurd (omega (arith, e))
+  first-lower u (more_trees t ts) (more_trees v us) e h b =
+      elim (tree_cmp t v) as (λ o. tree_cmp t v ≡ o → first_before past u (t ∷ tree_list ts) ≡ true) [
+        | Less ↦ λ k. below (tree_cmp v u) refl k b
+        | Equal ↦ λ k. subst (λ w. first_before past u (w ∷ tree_list ts) ≡ true) (sym (tree_same t v k)) b
+        | Greater ↦ λ k. absurd (h (ap (λ o. ordering_then o (trees_cmp ts us)) k))
+      ] refl
+    where
+      less : tree_cmp t u ≡ Less → first_before past u (t ∷ tree_list ts) ≡ true
+      less k = ap (λ o. elim o as (λ _. Bool) [ Less ↦ true | Equal ↦ past | Greater ↦ false ]) k
+
+      below : (o : Ordering) → tree_cmp v u ≡ o → tree_cmp t v ≡ Less
+          → elim o as (λ _. Bool) [ Less ↦ true | Equal ↦ past | Greater ↦ false ] ≡ true
+          → first_before past u (t ∷ tree_list ts) ≡ true
+      below Less i k j = less (tree_cmp_total.trans t v u k i)
+      below Equal i k j = less (subst (λ w. tree_cmp t w ≡ Less) (tree_same v u i) k)
+      below Greater i k j = cc
+
+  args-lower : (o : Option Tree) (ts us : Trees)
+      → (ordering_then (nat_cmp (length (tree_list ts)) (length (tree_list us))) (trees_cmp ts us) ≡ Greater → ⊥)
+      → args_before past c o (tree_list us) ≡ true → args_before past c o (tree_list ts) ≡ true
+  args-lower None ts us h b = b
+  args-lower (Some u) ts us h b =
+      by_ranked (m < n) (m ≡ n) (n < m) (nat_cmp m n) (ranked m n (nat_cmp m n) refl)
+      (λ e l. shorter (less-is m c (few l (nat_eq n c) refl b)))
+      (λ e l. as_long l (λ k. h (ap (λ o. ordering_then o (trees_cmp ts us)) e ∙ k)) (nat_eq n c) refl b)
+      (λ e l. absurd (h (ap (λ o. ordering_then o (trees_cmp ts us)) e)))
+    where
+      m : ℕ
+      m = length (tree_list ts)
+
+      n : ℕ
+      n = length (tree_list us)
+
+      few : m < n → (d : Bool) → nat_eq n c ≡ d
+          → (if d then first_before past u (tree_list us) else ltb n c) ≡ true → m < c
+      few l true e k = omega (arith, l, eqb-true n c e)
+      few l false e k = let j = ltb-true n c k in omega (arith, l, j)
+
+      shorter : (nat_eq m c ≡ false) × (ltb m c ≡ true) → args_before past c (Some u) (tree_list ts) ≡ true
+      shorter k = ap (λ d. if d then first_before past u (tree_list ts) else ltb m c) k.0 ∙ k.1
+
+      as_long : m ≡ n → (trees_cmp ts us ≡ Greater → ⊥) → (d : Bool) → nat_eq n c ≡ d
+          → (if d then first_before past u (tree_list us) else ltb n c) ≡ true
+          → args_before past c (Some u) (tree_list ts) ≡ true
+      as_long l g true e k =
+          ap (λ d. if d then first_before past u (tree_list ts) else ltb m c) (ap (λ j. nat_eq j c) l ∙ e)
+          ∙ first-lower u ts us l g k
+      as_long l g false e k =
+          ap (λ d. if d then first_before past u (tree_list ts) else ltb m c) (ap (λ j. nat_eq j c) l ∙ e)
+          ∙ (ap (λ j. ltb j c) l ∙ k)
+
+  -- what is at most another term isn't behind it
+  before-lower : (g : ℕ) (o : Option Tree) (t u : Tree) → (tree_cmp t u ≡ Greater → ⊥)
+      → is_before past g c o u ≡ true → is_before past g c o t ≡ true
+  before-lower g o (symbol m) u h b = refl
+  before-lower g o (app f ts) (symbol m) h b = absurd (h refl)
+  before-lower g o (app f ts) (app k us) h b =
+      by_ranked (f < k) (f ≡ k) (k < f) (nat_cmp f k) (ranked f k (nat_cmp f k) refl)
+      (λ e l. less (less-is f g (few l (nat_eq k g) refl b)))
+      (λ e l. alike l (λ i. h (ap (λ r. ordering_then r rest) e ∙ i)) (nat_eq k g) refl b)
+      (λ e l. absurd (h (ap (λ r. ordering_then r rest) e)))
+    where
+      rest : Ordering
+      rest = ordering_then (nat_cmp (length (tree_list ts)) (length (tree_list us))) (trees_cmp ts us)
+
+      few : f < k → (d : Bool) → nat_eq k g ≡ d
+          → (if d then args_before past c o (tree_list us) else ltb k g) ≡ true → f < g
+      few l true e i = omega (arith, l, eqb-true k g e)
+      few l false e i = let j = ltb-true k g i in omega (arith, l, j)
+
+      less : (nat_eq f g ≡ false) × (ltb f g ≡ true) → is_before past g c o (app f ts) ≡ true
+      less i = ap (λ d. if d then args_before past c o (tree_list ts) else ltb f g) i.0 ∙ i.1
+
+      alike : f ≡ k → (rest ≡ Greater → ⊥) → (d : Bool) → nat_eq k g ≡ d
+          → (if d then args_before past c o (tree_list us) else ltb k g) ≡ true
+          → is_before past g c o (app f ts) ≡ true
+      alike l i true e j =
+          ap (λ d. if d then args_before past c o (tree_list ts) else ltb f g) (ap (λ n. nat_eq n g) l ∙ e)
+          ∙ args-lower o ts us i j
+      alike l i false e j =
+          ap (λ d. if d then args_before past c o (tree_list ts) else ltb f g) (ap (λ n. nat_eq n g) l ∙ e)
+          ∙ (ap (λ n. ltb n g) l ∙ j)
+
+-- what has the head, and arguments as are asked for, is of the group
+pub group-there : (past : Bool) (g c : ℕ) (o : Option Tree) (t : Tree) → has_head g t ≡ true
+    → is_before past g c o t ≡ args_before past c o (arguments t)
+group-there past g c o (symbol m) h = cc
+group-there past g c o (app f ts) h =
+    ap (λ d. if d then args_before past c o (tree_list ts) else ltb f g)
+    (eq-eqb f g (sym (eqb-true g f h)))
 
 pub rank-within : (t : Table) (rs : List Rank) → HasRanks t rs → (k : ℕ) (d : Rank) → k < length rs
     → HasRank t (get_or rs k d)
@@ -50,16 +140,16 @@ rank-within t (r ∷ rs) h zero d l = h.0
 rank-within t (r ∷ rs) h (suc k) d l = rank-within t rs h.1 k d (omega (arith, l))
 
 -- of ranks that ascend
-pub before-earlier : (t : Table) → IsTable t → (n : ℕ) (rs : List Rank) → HasRanks t rs
-    → IsNonDecreasingBy (λ r. r.0) rs → (j k : ℕ) (d : Rank) → j ≤ k → k < length rs
-    → is_before n (term_at t (get_or rs k d)) ≡ true → is_before n (term_at t (get_or rs j d)) ≡ true
-before-earlier t h n rs held up j k d l m b =
-    let r = get_or rs j d in
-    let s = get_or rs k d in
-    let low : r.0 ≤ s.0 = up j k d l m in
-    before-lower n (term_at t r) (term_at t s)
-    (λ e. not_greater low (sym (rank_order t h.ascending r s (rank-within t rs held j d (omega (arith, l, m)))
-    (rank-within t rs held k d m)) ∙ e)) b
+pub before-earlier : (t : Table) → IsTable t → (k : Group) (past : Bool) (rs : List Rank) → HasRanks t rs
+    → IsNonDecreasingBy (λ r. r.0) rs → (i j : ℕ) (d : Rank) → i ≤ j → j < length rs
+    → precedes t k past (term_at t (get_or rs j d)) ≡ true → precedes t k past (term_at t (get_or rs i d)) ≡ true
+before-earlier t h k past rs held up i j d l m b =
+    let r = get_or rs i d in
+    let s = get_or rs j d in
+    let low : r.0 ≤ s.0 = up i j d l m in
+    before-lower past k.count k.op.0 (option_map (term_at t) k.first) (term_at t r) (term_at t s)
+    (λ e. not_greater low (sym (rank_order t h.ascending r s (rank-within t rs held i d (omega (arith, l, m)))
+    (rank-within t rs held j d m)) ∙ e)) b
   where
     not_greater : {i j : ℕ} → i ≤ j → nat_cmp i j ≡ Greater → ⊥
     not_greater {i} {j} l e = by_ranked (i < j) (i ≡ j) (j < i) (nat_cmp i j) (ranked i j (nat_cmp i j) refl)
@@ -106,22 +196,41 @@ match-headed sig s f g ps t c h =
     either true e k = cc
     either false e k = k
 
--- the applications of g stand between two places
-pub between-places : (t : Table) (g : ℕ) (rs : List Rank) (i j : ℕ) (Wanted : Rank → Type 0)
-    → ((z : Rank) → Wanted z → has_head g (term_at t z) ≡ true) → i ≤ length rs → j ≤ length rs
-    → AllWithin (λ r. is_before g (term_at t r) ≡ true) rs 0 i
-    → AllWithin (λ r. is_before (g + 1) (term_at t r) ≡ false) rs j (length rs) → StandBetween Wanted rs i j
-between-places t g rs i j Wanted head m n low high = record {
+-- the terms of a group stand between two places
+pub between-places : (t : Table) (k : Group) (rs : List Rank) (i j : ℕ) (Wanted : Rank → Type 0)
+    → ((z : Rank) → Wanted z → IsOf t k (term_at t z)) → i ≤ length rs → j ≤ length rs
+    → AllWithin (λ r. precedes t k false (term_at t r) ≡ true) rs 0 i
+    → AllWithin (λ r. precedes t k true (term_at t r) ≡ false) rs j (length rs) → StandBetween Wanted rs i j
+between-places t k rs i j Wanted is_of m n low high = record {
   from = m;
   within = n;
-  before = λ z k w l e.
-      let is : get_or rs k z ≡ z = ap (λ n. record { 0 = n }) e in
-      let b : is_before g (term_at t z) ≡ true =
-      subst (λ r. is_before g (term_at t r) ≡ true) is (low k z (omega arith) l) in
-      let wrong : true ≡ false = sym b ∙ (headed-there g (term_at t z) (head z w)).0 in cc;
-  behind = λ z k w l o e.
-      let is : get_or rs k z ≡ z = ap (λ n. record { 0 = n }) e in
-      let b : is_before (g + 1) (term_at t z) ≡ false =
-      subst (λ r. is_before (g + 1) (term_at t r) ≡ false) is (high k z l o) in
-      let wrong : true ≡ false = sym (headed-there g (term_at t z) (head z w)).1 ∙ b in cc;
+  before = λ z p w l e.
+      let is : get_or rs p z ≡ z = ap (λ n. record { 0 = n }) e in
+      let b : precedes t k false (term_at t z) ≡ true =
+      subst (λ r. precedes t k false (term_at t r) ≡ true) is (low p z (omega arith) l) in
+      let wrong : true ≡ false = sym b ∙ (is_of z w).0 in cc;
+  behind = λ z p w l o e.
+      let is : get_or rs p z ≡ z = ap (λ n. record { 0 = n }) e in
+      let b : precedes t k true (term_at t z) ≡ false =
+      subst (λ r. precedes t k true (term_at t r) ≡ false) is (high p z l o) in
+      let wrong : true ≡ false = sym (is_of z w).1 ∙ b in cc;
+}
+
+-- of what is wanted more, all the more
+pub between-fewer : (Wanted More : Rank → Type 0) (rs : List Rank) (i j : ℕ)
+    → ((z : Rank) → Wanted z → More z) → StandBetween More rs i j → StandBetween Wanted rs i j
+between-fewer Wanted More rs i j f h = record {
+  from = h.from;
+  within = h.within;
+  before = λ z k w. h.before z k (f z w);
+  behind = λ z k w. h.behind z k (f z w);
+}
+
+-- all stand in the whole list
+pub between-all : (Wanted : Rank → Type 0) (rs : List Rank) → StandBetween Wanted rs 0 (length rs)
+between-all Wanted rs = record {
+  from = omega arith;
+  within = omega arith;
+  before = λ z k w l. absurd (omega (arith, l));
+  behind = λ z k w l o. absurd (omega (arith, l, o));
 }

@@ -4,19 +4,27 @@ use Rattle.std.proofs.Common.{length, inl}
 use Rattle.std.specs.Prelude.{Option, filter, ◌||◌, if◌then◌else◌}
 use Rattle.std.proofs.lemmas.Bool.{and_parts}
 use Rattle.mp_term.specs.Order.{tree_cmp}
+use Rattle.mp_term.specs.OrderLaws.{tree_cmp_total, tree_same}
 use Rattle.mp_term.specs.Pieces.{without}
+use Rattle.mp_term.proofs.PiecesLaws.{sublist-from_piece}
 use Rattle.mp_term.specs.Search.{In}
 use Rattle.mp_term.specs.Signature.{Sig}
 use Rattle.mp_term.specs.Tree.{Tree}
 use Rattle.mp_pattern.specs.Fits.{Entry}
 use Rattle.mp_pattern.specs.PatternTree.{Pattern, Patterns, no_patterns, more_patterns}
 use Rattle.mp_pattern.specs.Value.{Subst}
+use Rattle.mp_pattern.specs.Variables.{comm_above}
 use Rattle.mp_theory.specs.Frames.{Frame, child}
-use Rattle.mp_theory.specs.Items.{items}
-use Rattle.mp_theory.specs.Machine.{onward}
+use Rattle.mp_theory.specs.Items.{items, items_by}
+use Rattle.mp_theory.specs.Kept.{Keeps}
+use Rattle.mp_theory.specs.Machine.{onward, said, choices}
+use Rattle.mp_theory.specs.OneList.{Item}
 use Rattle.mp_theory.specs.MayMatch.{takes_one, may_match}
 use Rattle.mp_theory.specs.Supply.{Covers, passing}
-use Rattle.mp_theory.proofs.SupplyLaws.{supply-behind}
+use Rattle.mp_theory.proofs.KeptValues.{item-by, solve-keeps}
+use Rattle.mp_theory.proofs.Matching.{may_match-earlier}
+use Rattle.mp_theory.proofs.SupplyLaws.{supply-behind, passing-without}
+use Rattle.mp_theory.proofs.Walk.{choices-exact}
 use Rattle.mp_search.specs.Lacking.{AreLacking, each_takes_one, some_may_match}
 
 module _ (sig : Sig) (s : Subst) (f : Option ℕ) where
@@ -68,6 +76,34 @@ nothing-lacking sig k p f fs e s ms h =
     let few = supply-behind sig k p f fs e s i m (some_may_match sig s f.under ms f.children) ms
     (covers-marked sig s f.under (some_may_match sig s f.under ms f.children) ms f.children h.ones (λ t k. k)) in
     omega (arith, few, h.few))
+
+-- children that are covered are covered later too
+covers-kept : (sig : Sig) (test : Tree → Bool) (f : Option ℕ) (ms : List Bool) (ps : Patterns) (s r : Subst)
+    → Keeps s r → Covers sig s test f ms ps → Covers sig r test f ms ps
+covers-kept sig test f [] ps s r k h = tt
+covers-kept sig test f (true ∷ ms) no_patterns s r k h = tt
+covers-kept sig test f (false ∷ ms) no_patterns s r k h = tt
+covers-kept sig test f (true ∷ ms) (more_patterns p ps) s r k h = (
+  h.0,
+  λ t m. h.1 t (may_match-earlier sig f p t s r k m),
+  covers-kept sig test f ms ps s r k h.2,
+)
+covers-kept sig test f (false ∷ ms) (more_patterns p ps) s r k h = covers-kept sig test f ms ps s r k h
+
+-- where children are lacking before the first one takes, no choice of it has an item
+pub lacking-before : (sig : Sig) (k : ℕ) (p : Pattern) (f : Frame) (fs : List Frame) (e : Entry) (s : Subst)
+    (ms : List Bool) (i : Item) → AreLacking sig s f.under ms f.children f.left → In e (choices sig (child p f fs))
+    → In i (items_by sig k (child p f fs) s e) → ⊥
+lacking-before sig k p f fs e s ms i h c m =
+    let a = item-by sig k (child p f fs) s e i m in
+    let piece = ((choices-exact sig p f fs e.terms e.collapsed).0 c).0 in
+    let test = some_may_match sig s f.under ms f.children in
+    let few = supply-behind sig k p f fs e a.2.0 (a.0, i.1) a.2.2 test ms
+    (covers-kept sig test f.under ms f.children s a.2.0 (solve-keeps sig s (said (child p f fs) e) a.2.0 a.2.1)
+    (covers-marked sig s f.under test ms f.children h.ones (λ t k. k))) in
+    let sum = passing-without test e.terms f.left
+    (sublist-from_piece tree_cmp tree_cmp_total tree_same (comm_above sig f.under) e.terms f.left piece) in
+    omega (arith, few, sum, h.few)
 
 -- of a list with one term more, at most one more passes
 pub passing-less : (test : Tree → Bool) (t : Tree) (ts : List Tree) → passing test (t ∷ ts) ≤ 1 + passing test ts

@@ -43,3 +43,4 @@ pub mod BoundsLaws
 pub mod PortionLaws
 pub mod HeadedLaws
 pub mod PoolLaws
+pub mod PlacesLaws

@@ -37,7 +37,7 @@ alone-if_several [] v e = cc
 alone-if_several (t ∷ []) v e = cc
 alone-if_several (t ∷ u ∷ ts) v e = cc
 
-alone-contribution : (sig : Sig) (f : Option ℕ) (u v : Tree)
+pub alone-contribution : (sig : Sig) (f : Option ℕ) (u v : Tree)
     → is_alone_in (unwrap_or (contribution sig f u) []) v ≡ true → same tree_cmp u v ≡ true
 alone-contribution sig f u v e =
     elim (is_alone sig f u) as (λ b. is_alone sig f u ≡ b → same tree_cmp u v ≡ true) [

@@ -1,12 +1,12 @@
 -- What is drawn by bounds: fronts, or the sublists of a pool that has enough of each term.
 use Rattle.std.proofs.Common.{◌≡◌, ℕ, zero, suc, ◌+◌, ◌*◌, ◌<◌, ◌≤◌, List, [], ◌∷◌, length, Bool, true, false, refl}
-use Rattle.std.proofs.Common.{ap, sym}
+use Rattle.std.proofs.Common.{ap, sym, map}
 use Rattle.std.proofs.Common.{◌∙◌, subst, arith, nat_eq, eq-eqb, eqb-true, mul-suc}
 use Rattle.std.specs.Prelude.{Option, Some, None}
 use Rattle.std.specs.declared.cmp.Ordering.{Ordering}
 use Rattle.std.proofs.lemmas.Cmp.{tied_itself}
 use Rattle.mp_term.proofs.PiecesLaws.{same-sound}
-use Rattle.mp_pattern.specs.PatternTree.{Pattern, symbol_pattern, app_pattern, wild_pattern}
+use Rattle.mp_pattern.specs.PatternTree.{Pattern, symbol_pattern, app_pattern, wild_pattern, patterns}
 use Rattle.mp_subst.specs.Bound.{value_in}
 use Rattle.mp_subst.specs.Trail.{Trail, last_value}
 use Rattle.mp_search.specs.Bounds.{IsFreeOf, IsFree, HasNoValue}
@@ -51,10 +51,12 @@ use Rattle.mp_search.specs.declared.query.Query.{Query}
 use Rattle.mp_search.specs.declared.site.Site.{Site}
 use Rattle.mp_search.specs.Bounds.{AreBounds}
 use Rattle.mp_search.specs.Frames.{above}
+use Rattle.mp_search.specs.Lacking.{AreLacking}
 use Rattle.mp_search.specs.Portion.{is_at, occurrences, MayTake}
 use Rattle.mp_search.specs.Query.{IsQuery}
 use Rattle.mp_search.specs.Site.{IsSite, site_frame, site_place}
 use Rattle.mp_search.proofs.DrawnLaws.{among-exact}
+use Rattle.mp_search.proofs.LackLaws.{lacking-before}
 use Rattle.mp_search.proofs.MadeLaws.{Draws}
 use Rattle.mp_search.proofs.OpenLaws.{sorted-ascends}
 use Rattle.mp_search.proofs.RankOrder.{rank_total, rank_means}
@@ -126,6 +128,16 @@ module _ (q : Query) (x : Site) (h : IsQuery q) (k : IsSite q x) (s : Subst) (b 
   bounds-nothing pool n = record {
     pieces = λ l i. absurd i;
     all = λ fs j e i c m. let o = a.lengths fs j e i c m in absurd (omega (arith, n, o.0, o.1));
+  }
+
+  -- nothing is drawn where the later children are lacking
+  pub lacking-nothing : (pool : List Tree) (ms : List Bool)
+      → AreLacking q.sig.now s (above x.under) ms (patterns (map pattern_tree x.later.now)) left
+      → Draws q x s Nothing pool
+  lacking-nothing pool ms n = record {
+    pieces = λ l i. absurd i;
+    all = λ fs j e i c m.
+        absurd (lacking-before q.sig.now j (pattern_tree x.child.now) (site_frame q x) fs e s ms i n c m);
   }
 
   pub bounds-front : (pool : List Tree) → comm ≡ false → Draws q x s (Front b.least b.most) pool

@@ -1,12 +1,15 @@
 -- Which ranks a child may take, and how often a rank stands in a list.
 use Rattle.std.specs.Prelude.{◌≡◌, ◌<◌, ◌≤◌, ℕ, ◌+◌, List, [], ◌∷◌, length, Bool, true, nat_eq, nat_lt, if◌then◌else◌}
-use Rattle.std.specs.Prelude.{slice_index_or}
-use Rattle.mp_term.specs.Tree.{Tree, symbol, app}
+use Rattle.std.specs.Prelude.{slice_index_or, false, Option, Some, None, option_map}
+use Rattle.std.specs.declared.cmp.Ordering.TheVariants.{Less, Equal, Greater}
+use Rattle.mp_term.specs.Order.{tree_cmp}
+use Rattle.mp_term.specs.Tree.{Tree, symbol, app, tree_list}
 use Rattle.mp_pattern.specs.Value.{Subst}
 use Rattle.mp_pattern.specs.View.{pattern_tree}
-use Rattle.mp_table.specs.Table.{term_at}
+use Rattle.mp_table.specs.Table.{Table, term_at}
 use Rattle.mp_table.specs.declared.rank.Rank.{Rank}
 use Rattle.mp_theory.specs.MayMatch.{may_match}
+use Rattle.mp_search.specs.declared.headed.Group.{Group}
 use Rattle.mp_search.specs.declared.query.Query.{Query}
 use Rattle.mp_search.specs.declared.site.Site.{Site}
 use Rattle.mp_search.specs.Frames.{above}
@@ -25,10 +28,28 @@ abbrev pub occurrences : Rank → List Rank → ℕ
 occurrences z [] = 0
 occurrences z (r ∷ rs) = is_at z r + occurrences z rs
 
--- the term is a symbol, or an application of an operation before the n-th
-abbrev pub is_before : ℕ → Tree → Bool
-is_before n (symbol m) = true
-is_before n (app f ts) = nat_lt f n
+-- the first argument is less than u, or is u where `past` says so
+abbrev pub first_before : Bool → Tree → List Tree → Bool
+first_before past u [] = past
+first_before past u (t ∷ ts) = elim (tree_cmp t u) [ Less ↦ true | Equal ↦ past | Greater ↦ false ]
+
+-- the arguments are fewer than c, or so many of which the first is before u; where no u is given, as `past` says
+abbrev pub args_before : Bool → ℕ → Option Tree → List Tree → Bool
+args_before past c None ts = past
+args_before past c (Some u) ts = if nat_eq (length ts) c then first_before past u ts else nat_lt (length ts) c
+
+-- the term is a symbol, or an application of an operation before g, or of g to arguments that are before those
+abbrev pub is_before : Bool → ℕ → ℕ → Option Tree → Tree → Bool
+is_before past g c o (symbol m) = true
+is_before past g c o (app f ts) = if nat_eq f g then args_before past c o (tree_list ts) else nat_lt f g
+
+-- the term comes before the group, or is one of it where `past` says so
+abbrev pub precedes : Table → Group → Bool → Tree → Bool
+precedes t k past u = is_before past k.op.0 k.count (option_map (term_at t) k.first) u
+
+-- it is one of the group
+abbrev pub IsOf : Table → Group → Tree → Type 0
+IsOf t k u = (precedes t k false u ≡ false) × (precedes t k true u ≡ true)
 
 -- the ranks that are wanted stand from the first place on, and before the end
 pub record StandBetween (Wanted : Rank → Type 0) (rs : List Rank) (first end : ℕ) : Type 0 where

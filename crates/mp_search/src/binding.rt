@@ -28,9 +28,8 @@ use crate::ground::ground_rank;
 use crate::level::Level;
 use crate::query::Query;
 use crate::site::Site;
-use crate::under::comm_above;
 use crate::variable::number_at;
-use mp_pattern::{Form, Pattern, Shape};
+use mp_pattern::{Form, Pattern, Shape, is_comm_above};
 use mp_subst::{Bound, Trail};
 use mp_table::Rank;
 use mp_term::OpId;
@@ -44,7 +43,7 @@ fn sequence<'a>(query: &Query<'_>, under: Option<OpId>, ranks: &'a [Rank]) -> Bo
     ensures formed { AreRanksOf (bound_of result).form (bound_of result).wrap ranks.now }
     ensures ranks { result.ranks.now ≡ ranks.now }
 {
-    let form = if comm_above(query.sig, under) {
+    let form = if is_comm_above(query.sig, under) {
         Form::Bag
     } else {
         Form::Seq

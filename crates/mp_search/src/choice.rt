@@ -18,7 +18,7 @@ use crate::pieces::is_piece;
 use crate::query::Query;
 use crate::reads::reads;
 use crate::site::Site;
-use crate::under::comm_above;
+use mp_pattern::is_comm_above;
 
 // Whether the entry at hand may stand at the child.
 pub(crate) fn is_choice(query: &Query<'_>, site: &Site<'_>, own: &Level) -> bool
@@ -29,7 +29,7 @@ pub(crate) fn is_choice(query: &Query<'_>, site: &Site<'_>, own: &Level) -> bool
         result ≡ allows query.now.sig.now (site_place query.now site.now []) e }
 {
     let take = own.take.as_slice();
-    let anywhere = comm_above(query.sig, site.under);
+    let anywhere = is_comm_above(query.sig, site.under);
     if !is_piece(anywhere, take, site.left) {
         return false;
     }

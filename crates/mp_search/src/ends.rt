@@ -24,8 +24,7 @@ use crate::query::Query;
 use crate::reads::is_alone;
 use crate::room::Room;
 use crate::site::Site;
-use crate::under::comm_above;
-use mp_pattern::Form;
+use mp_pattern::{Form, is_comm_above};
 use mp_subst::Bound;
 use mp_table::Rank;
 use mp_term::{OpId, Signature};
@@ -46,7 +45,7 @@ fn arrange(sig: &Signature, under: Option<OpId>, list: &mut Room<Rank>)
         else list.old.items.items) }
     ensures room { list.new.room ≡ list.old.room }
 {
-    if comm_above(sig, under) {
+    if is_comm_above(sig, under) {
         sort(list);
     }
 }
@@ -70,7 +69,7 @@ pub(crate) fn fill(query: &Query<'_>, site: &Site<'_>, ranks: &[Rank], own: &mut
     own.pool.refill(ranks);
     arrange(query.sig, site.under, &mut own.pool);
     is_piece(
-        comm_above(query.sig, site.under),
+        is_comm_above(query.sig, site.under),
         own.pool.as_slice(),
         site.left,
     )
@@ -181,7 +180,7 @@ fn fill_bag(query: &Query<'_>, site: &Site<'_>, ranks: &[Rank], own: &mut Level)
         (terms_at query.now.table.now site.now.left.now)) result own.new.pool.items.items }
     ensures beside { IsBeside own.old own.new }
 {
-    if comm_above(query.sig, site.under) {
+    if is_comm_above(query.sig, site.under) {
         return fill(query, site, ranks, own);
     }
     fill(query, site, front(site.left, ranks.len()), own)

@@ -1,37 +1,84 @@
 //! The applications of one operation among terms that ascend.
-ghost use Rattle.std.specs.Prelude.{◌≡◌, ◌≤◌, true, false, length};
+ghost use Rattle.std.specs.Prelude.{◌≡◌, ◌≤◌, true, false, length, IfSome, option_map};
 ghost use Rattle.std.specs.List.{AllWithin};
 ghost use Rattle.std.specs.List.Sorted.{IsSorted};
-ghost use Rattle.mp_table.specs.Table.{IsTable, HasRank, HasRanks, term_at, rank_cmp};
-ghost use Rattle.mp_search.specs.Portion.{is_before};
+ghost use Rattle.mp_table.specs.Table.{IsTable, HasRank, HasRanks, term_at, terms_at, rank_cmp};
+ghost use Rattle.mp_search.specs.Portion.{args_before, precedes};
 
 use mp_table::{Head, Rank, Table};
+use mp_term::OpId;
+use std::cmp::Ordering;
 
-// Whether the term is a symbol, or an application of an operation before the one of that number.
-fn is_before(table: &Table, number: usize, rank: Rank) -> bool
-    requires { HasRank table.now rank }
-    ensures { result ≡ is_before number (term_at table.now rank) }
+// The applications of an operation, or where a rank is given, those to so many arguments of which the first is its
+// term. They stand together among terms that ascend.
+#[derive(Clone, Copy)]
+pub(crate) struct Group {
+    pub(crate) op: OpId,
+    pub(crate) count: usize,
+    pub(crate) first: Option<Rank>,
+}
+
+// Whether the arguments come before those of the group, or are such where that is asked for.
+fn are_before(table: &Table, group: &Group, past: bool, args: &[Rank]) -> bool
+    requires table { IsTable table.now }
+    requires first { IfSome group.now.first (HasRank table.now) }
+    requires args { HasRanks table.now args.now }
+    ensures { result ≡ args_before past group.now.count (option_map (term_at table.now) group.now.first)
+        (terms_at table.now args.now) }
 {
-    match table.head(rank) {
-        Head::Sym(_) => true,
-        Head::App(op) => (op.0 as usize) < number,
+    let _ = table;
+    let Some(first) = group.first else {
+        return past;
+    };
+    if args.len() != group.count {
+        return args.len() < group.count;
+    }
+    match args {
+        [] => past,
+        [own, ..] => match own.0.cmp(&first.0) {
+            Ordering::Less => true,
+            Ordering::Equal => past,
+            Ordering::Greater => false,
+        },
     }
 }
 
-// The first place in an ascending list at which the term isn't before the operation of that number.
-pub(crate) fn place_behind(table: &Table, number: usize, list: &[Rank]) -> usize
+// Whether the term comes before the group, or is one of it where that is asked for.
+fn is_before(table: &Table, group: &Group, past: bool, rank: Rank) -> bool
     requires table { IsTable table.now }
+    requires first { IfSome group.now.first (HasRank table.now) }
+    requires rank { HasRank table.now rank }
+    ensures { result ≡ precedes table.now group.now past (term_at table.now rank) }
+{
+    match table.head(rank) {
+        Head::Sym(_) => true,
+        Head::App(op) => {
+            if op.0 == group.op.0 {
+                are_before(table, group, past, table.args(rank))
+            } else {
+                op.0 < group.op.0
+            }
+        }
+    }
+}
+
+// The first place in an ascending list at which the term doesn't come before the group, and isn't one of it where that
+// is asked for.
+pub(crate) fn place_behind(table: &Table, group: &Group, past: bool, list: &[Rank]) -> usize
+    requires table { IsTable table.now }
+    requires first { IfSome group.now.first (HasRank table.now) }
     requires ranks { HasRanks table.now list.now }
     requires ascending { IsSorted rank_cmp list.now }
     ensures within { result ≤ length list.now }
-    ensures before { AllWithin (λ r. is_before number (term_at table.now r) ≡ true) list.now 0 result }
-    ensures behind { AllWithin (λ r. is_before number (term_at table.now r) ≡ false) list.now result (length list.now) }
+    ensures before { AllWithin (λ r. precedes table.now group.now past (term_at table.now r) ≡ true) list.now 0 result }
+    ensures behind { AllWithin (λ r. precedes table.now group.now past (term_at table.now r) ≡ false) list.now result
+        (length list.now) }
 {
     let mut low = 0;
     let mut high = list.len();
     while low < high {
         let middle = low + (high - low) / 2;
-        if is_before(table, number, list[middle]) {
+        if is_before(table, group, past, list[middle]) {
             low = middle + 1;
         } else {
             high = middle;

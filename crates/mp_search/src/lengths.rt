@@ -4,8 +4,7 @@ ghost use Rattle.mp_pattern.specs.View.{pattern_tree};
 ghost use Rattle.mp_theory.specs.Bounds as bounds;
 ghost use Rattle.mp_search.specs.Frames.{above};
 
-use crate::under::assoc_above;
-use mp_pattern::Pattern;
+use mp_pattern::{Pattern, is_assoc_above};
 use mp_term::{OpId, Signature};
 
 // The least number of terms that the node takes.
@@ -23,7 +22,7 @@ pub(crate) fn most(sig: &Signature, under: Option<OpId>, child: &Pattern) -> Opt
     ensures { result ≡ bounds.most sig.now (above under) (pattern_tree child.now) }
 {
     match child {
-        Pattern::Wild(shape, _) => shape.most(assoc_above(sig, under)),
+        Pattern::Wild(shape, _) => shape.most(is_assoc_above(sig, under)),
         _ => Some(1),
     }
 }

@@ -5,6 +5,7 @@
 mod behind;
 mod binding;
 mod bounds;
+mod candidates;
 mod choice;
 mod descent;
 mod end;
@@ -32,7 +33,6 @@ mod shares;
 mod site;
 mod stack;
 mod supply;
-mod under;
 mod variable;
 
 pub use descent::find;

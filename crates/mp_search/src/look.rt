@@ -1,5 +1,7 @@
 //! What shows that nothing is found behind an entry.
-ghost use Rattle.std.specs.Prelude.{◌≡◌, ℕ, [], true, List, map, filter, IsTrue};
+ghost use Rattle.std.specs.Prelude.{◌≡◌, ℕ, Bool, [], true, List, map, filter, IsTrue};
+ghost use Rattle.mp_term.specs.Order.{tree_cmp};
+ghost use Rattle.mp_term.specs.Pieces.{without};
 ghost use Rattle.mp_pattern.specs.PatternTree.{patterns};
 ghost use Rattle.mp_pattern.specs.Subpatterns.{all_subpatterns};
 ghost use Rattle.mp_pattern.specs.View.{pattern_tree};
@@ -8,6 +10,9 @@ ghost use Rattle.mp_theory.specs.Frames as walk;
 ghost use Rattle.mp_theory.specs.Items.{items};
 ghost use Rattle.mp_theory.specs.Machine as machine;
 ghost use Rattle.mp_theory.specs.Trail.{allows};
+ghost use Rattle.mp_table.specs.Table.{HasRanks, terms_at};
+ghost use Rattle.mp_search.specs.Frames.{above};
+ghost use Rattle.mp_search.specs.Lacking.{AreLacking};
 ghost use Rattle.mp_search.specs.Parts.{StandsAt};
 ghost use Rattle.mp_search.specs.Query.{IsQuery};
 ghost use Rattle.mp_search.specs.Reading.{entry_of, subst_of};
@@ -19,11 +24,12 @@ use crate::end::end_of;
 use crate::judge::fails;
 use crate::level::Level;
 use crate::query::Query;
-use crate::rivals::{has_rival, mark_rivals};
+use crate::rivals::{has_rival, is_first, mark_rivals};
 use crate::site::Site;
 use crate::supply::are_lacking;
-use crate::under::comm_above;
+use mp_pattern::is_comm_above;
 use mp_subst::Trail;
+use mp_table::Rank;
 
 // The number of the node of the first later child.
 fn later_node(query: &Query<'_>, site: &Site<'_>) -> u32
@@ -37,18 +43,21 @@ fn later_node(query: &Query<'_>, site: &Site<'_>) -> u32
 // How many later children are looked at.
 const MOST_RIVALS: usize = 128;
 
-// Whether it is seen that the later children have too few terms: there are more of them that take one each than are
-// left that they may match.
-fn lacks_terms(query: &Query<'_>, site: &Site<'_>, own: &Level, trail: &Trail) -> bool
+// Whether it is seen that the later children have too few terms, once the list is taken out of those that are left:
+// there are more of them that take one each than are left that they may match.
+fn are_short(query: &Query<'_>, site: &Site<'_>, take: &[Rank], trail: &Trail) -> bool
     requires query { IsQuery query.now }
     requires site { IsSite query.now site.now }
-    requires over { IsOver query.now.table.now own.now }
+    requires take { HasRanks query.now.table.now take.now }
     requires trail { GoesWith query.now.table.now trail.now }
-    ensures { IsTrue result → (j : ℕ) (fs : List walk.Frame) → items query.now.sig.now j
-        (machine.onward (site_place query.now site.now fs) (entry_of query.now.table.now own.now))
-        (subst_of query.now trail.now) ≡ [] }
+    ensures { IsTrue result → (ms : List Bool) × AreLacking query.now.sig.now (subst_of query.now trail.now)
+        (above site.now.under) ms (patterns (map pattern_tree site.now.later.now))
+        (without tree_cmp (terms_at query.now.table.now take.now) (terms_at query.now.table.now site.now.left.now)) }
 {
-    if !comm_above(query.sig, site.under) || !has_rival(query, site) {
+    if !is_comm_above(query.sig, site.under) {
+        return false;
+    }
+    if !has_rival(query, site) {
         return false;
     }
     let node = later_node(query, site);
@@ -58,7 +67,7 @@ fn lacks_terms(query: &Query<'_>, site: &Site<'_>, own: &Level, trail: &Trail) -
     if !mark_rivals(
         query,
         site,
-        own,
+        take,
         trail,
         node,
         &mut places[..many],
@@ -67,15 +76,37 @@ fn lacks_terms(query: &Query<'_>, site: &Site<'_>, own: &Level, trail: &Trail) -
         return false;
     }
     are_lacking(
-        query,
-        trail,
-        site.under,
-        site.later,
-        node,
-        &marks,
-        own.take.as_slice(),
-        site.left,
+        query, trail, site.under, site.later, node, &marks, take, site.left,
     )
+}
+
+// Whether it is seen that the later children have too few terms behind the entry at hand.
+fn lacks_terms(query: &Query<'_>, site: &Site<'_>, own: &Level, trail: &Trail) -> bool
+    requires query { IsQuery query.now }
+    requires site { IsSite query.now site.now }
+    requires over { IsOver query.now.table.now own.now }
+    requires trail { GoesWith query.now.table.now trail.now }
+    ensures { IsTrue result → (j : ℕ) (fs : List walk.Frame) → items query.now.sig.now j
+        (machine.onward (site_place query.now site.now fs) (entry_of query.now.table.now own.now))
+        (subst_of query.now trail.now) ≡ [] }
+{
+    are_short(query, site, own.take.as_slice(), trail)
+}
+
+// Whether it is seen that the later children have too few terms before the child has taken any, where it is the first
+// one.
+pub(crate) fn lacks_terms_before(query: &Query<'_>, site: &Site<'_>, trail: &Trail) -> bool
+    requires query { IsQuery query.now }
+    requires site { IsSite query.now site.now }
+    requires trail { GoesWith query.now.table.now trail.now }
+    ensures { IsTrue result → (ms : List Bool) × AreLacking query.now.sig.now (subst_of query.now trail.now)
+        (above site.now.under) ms (patterns (map pattern_tree site.now.later.now))
+        (terms_at query.now.table.now site.now.left.now) }
+{
+    if !is_first(query, site.node) {
+        return false;
+    }
+    are_short(query, site, &[], trail)
 }
 
 // Whether it is seen that nothing is found behind the entry at hand, once it is bound: the condition fails, or what is

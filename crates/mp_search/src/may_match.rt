@@ -20,10 +20,9 @@ ghost use Rattle.mp_search.specs.Reading.{subst_of};
 use crate::end::{end_of, first_below};
 use crate::ground::ground_rank;
 use crate::query::Query;
-use crate::reads::{has_head, in_kind, no_sequence};
-use crate::under::{assoc_above, comm_above};
+use crate::reads::{has_head, in_kind};
 use crate::variable::number_at;
-use mp_pattern::{Pattern, Shape};
+use mp_pattern::{Pattern, Shape, is_assoc_above, is_comm_above, no_sequence};
 use mp_subst::{Bound, Trail};
 use mp_table::{Rank, Table};
 use mp_term::{OpId, Signature};
@@ -33,7 +32,7 @@ pub(crate) fn takes_one(sig: &Signature, under: Option<OpId>, child: &Pattern) -
     ensures { result ≡ look.takes_one sig.now (above under) (pattern_tree child.now) }
 {
     match child {
-        Pattern::Wild(Shape::Dot, _) => !assoc_above(sig, under),
+        Pattern::Wild(Shape::Dot, _) => !is_assoc_above(sig, under),
         Pattern::Wild(Shape::Kind(_), _) => true,
         Pattern::Wild(_, _) => false,
         _ => true,
@@ -51,10 +50,10 @@ fn each_takes_one(sig: &Signature, under: Option<OpId>, children: &[Pattern]) ->
 }
 
 // Whether the children take their terms in order, one each.
-fn is_plain(sig: &Signature, under: Option<OpId>, children: &[Pattern]) -> bool
+pub(crate) fn is_plain(sig: &Signature, under: Option<OpId>, children: &[Pattern]) -> bool
     ensures { result ≡ look.is_plain sig.now (above under) (patterns (map pattern_tree children.now)) }
 {
-    !comm_above(sig, under) && each_takes_one(sig, under, children)
+    !is_comm_above(sig, under) && each_takes_one(sig, under, children)
 }
 
 // Whether a child is optional.

@@ -29,8 +29,7 @@ use crate::own::{first_own, next_own, prepare_own};
 use crate::query::Query;
 use crate::site::Site;
 use crate::stack::{Place, left_list};
-use crate::under::comm_above;
-use mp_pattern::Pattern;
+use mp_pattern::{Pattern, is_comm_above};
 use mp_subst::Trail;
 
 // The number in the plan of node k.
@@ -204,5 +203,5 @@ pub(crate) fn leave_at(query: &Query<'_>, place: &Place<'_>, levels: &mut [Level
 {
     let (below, from) = levels.split_at_mut(k);
     let left = left_list(&*query, &*below, place.left);
-    from[0].leave(left, comm_above(query.sig, place.under));
+    from[0].leave(left, is_comm_above(query.sig, place.under));
 }

@@ -5,19 +5,17 @@ ghost use Rattle.std.specs.List.Sorted.{IsSorted};
 ghost use Rattle.mp_term.specs.Pieces.{is_sublist};
 ghost use Rattle.mp_table.specs.Table.{rank_cmp, HasRank};
 ghost use Rattle.mp_table.specs.declared.rank.Rank.{Rank as plain_rank};
-ghost use Rattle.mp_pattern.specs.Value.{Subst};
 ghost use Rattle.mp_subst.specs.Trail.{GoesWith};
 ghost use Rattle.mp_search.specs.Portion.{occurrences, is_at, MayTake, StandBetween};
 ghost use Rattle.mp_search.specs.Query.{IsQuery};
 ghost use Rattle.mp_search.specs.Reading.{subst_of};
 ghost use Rattle.mp_search.specs.Site.{IsSite};
 
-use crate::headed::place_behind;
-use crate::may_match::{may_collapse, may_match};
+use crate::candidates::places_of;
+use crate::may_match::may_match;
 use crate::query::Query;
 use crate::room::Room;
 use crate::site::Site;
-use mp_pattern::Pattern;
 use mp_subst::Trail;
 use mp_table::Rank;
 
@@ -64,18 +62,16 @@ fn add_taken(
 
 // Where the ranks stand among those that are left that the child may take, where these are looked at: from the first
 // place on, and before the second.
-fn places(query: &Query<'_>, site: &Site<'_>, looks: bool) -> (usize, usize)
+fn places(query: &Query<'_>, site: &Site<'_>, trail: &Trail, looks: bool) -> (usize, usize)
     requires query { IsQuery query.now }
     requires site { IsSite query.now site.now }
+    requires trail { GoesWith query.now.table.now trail.now }
     requires ascending { IsSorted rank_cmp site.now.left.now }
-    ensures { (s : Subst) → StandBetween (MayTake query.now site.now s looks) site.now.left.now result.0 result.1 }
+    ensures { StandBetween (MayTake query.now site.now (subst_of query.now trail.now) looks) site.now.left.now
+        result.0 result.1 }
 {
-    if let Pattern::App(op, children) = site.child {
-        if looks && !may_collapse(query.sig, *op, children.as_slice()) {
-            let number = op.0 as usize;
-            let first = place_behind(query.table, number, site.left);
-            return (first, place_behind(query.table, number + 1, site.left));
-        }
+    if looks {
+        return places_of(query, trail, site.child, site.node, site.left);
     }
     (0, site.left.len())
 }
@@ -102,7 +98,7 @@ pub(crate) fn fill_portion(
     ensures room { room.new.room ≡ room.old.room }
 {
     let list = site.left;
-    let (first, end) = places(query, site, looks);
+    let (first, end) = places(query, site, trail, looks);
     room.clear();
     let mut place = first;
     while place < end {

@@ -21,13 +21,13 @@ use crate::bounds::bounds_of;
 use crate::ends::{fill, fill_bound, is_default};
 use crate::ground::ground_rank;
 use crate::level::{Level, Source};
+use crate::look::lacks_terms_before;
 use crate::portion::fill_portion;
 use crate::query::Query;
 use crate::shares::is_optional;
 use crate::site::Site;
-use crate::under::comm_above;
 use crate::variable::number_at;
-use mp_pattern::{Pattern, Shape};
+use mp_pattern::{Pattern, Shape, is_comm_above};
 use mp_subst::{Bound, Trail};
 use std::slice;
 
@@ -60,13 +60,19 @@ fn draw_open(query: &Query<'_>, site: &Site<'_>, var: Option<u32>, own: &mut Lev
         own.source = Source::Nothing;
         return;
     }
-    if !comm_above(query.sig, site.under) {
+    if !is_comm_above(query.sig, site.under) {
         own.pool.clear();
         own.source = Source::Front(bounds.least, bounds.most);
         return;
     }
     let looks = looks_at(site.child, bounds.most);
     fill_portion(query, site, trail, looks, bounds.uses, &mut own.pool);
+    // Where there are several entries to try, one look before them may save a look behind each.
+    if own.pool.len() > 2 && lacks_terms_before(query, site, trail) {
+        own.pool.clear();
+        own.source = Source::Nothing;
+        return;
+    }
     own.source = Source::Bag(bounds.least, bounds.most);
 }
 

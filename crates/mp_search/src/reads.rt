@@ -1,11 +1,9 @@
 //! Whether a node may take a list, whatever was taken before.
-ghost use Rattle.std.specs.Prelude.{◌≡◌, ◌∷◌, [], map, is_some, IfSome};
+ghost use Rattle.std.specs.Prelude.{◌≡◌, ◌∷◌, [], is_some, IfSome};
 ghost use Rattle.mp_term.specs.NormalTest.{has_head};
 ghost use Rattle.mp_term.specs.Signature.{in_kind};
-ghost use Rattle.mp_pattern.specs.PatternTree.{patterns, meets_count};
 ghost use Rattle.mp_pattern.specs.View.{pattern_tree, wildcard};
 ghost use Rattle.mp_pattern.specs.Value as values;
-ghost use Rattle.mp_pattern.specs.Fits as fits;
 ghost use Rattle.mp_table.specs.Table.{HasRank, HasRanks, IsTable, term_at, terms_at};
 ghost use Rattle.mp_theory.specs.Solve as solve;
 ghost use Rattle.mp_theory.specs.Machine as machine;
@@ -17,8 +15,7 @@ ghost use Rattle.mp_search.specs.Site.{IsSite};
 use crate::ground::ground_rank;
 use crate::query::Query;
 use crate::site::Site;
-use crate::under::assoc_above;
-use mp_pattern::{Pattern, Shape};
+use mp_pattern::{Pattern, Shape, is_assoc_above, meets_count, no_sequence};
 use mp_table::{Head, Rank, Table};
 use mp_term::{KindId, OpId, Signature};
 
@@ -63,7 +60,7 @@ fn is_contribution(sig: &Signature, table: &Table, under: Option<OpId>, ranks: &
     match ranks {
         [] => false,
         [only] => is_alone(sig, table, under, *only),
-        _ => assoc_above(sig, under),
+        _ => is_assoc_above(sig, under),
     }
 }
 
@@ -75,19 +72,6 @@ fn is_of_kind(sig: &Signature, table: &Table, kind: KindId, ranks: &[Rank]) -> b
     match ranks {
         [only] => in_kind(sig, table, kind, *only),
         _ => false,
-    }
-}
-
-// Whether a counted wildcard may take so many terms: its count where that is fixed, and its count or more where it is
-// open.
-pub(crate) fn meets_count(count: u32, fixed: bool, terms: usize) -> bool
-    ensures { result ≡ meets_count count fixed terms }
-{
-    let count = count as usize;
-    if fixed {
-        terms == count
-    } else {
-        terms >= count
     }
 }
 
@@ -110,20 +94,6 @@ fn is_given(
         Shape::Counted { least, fixed } => meets_count(*least, *fixed, ranks.len()),
         Shape::Opt(_) => ranks.is_empty() || is_contribution(sig, table, under, ranks),
     }
-}
-
-// Whether no child is a plus, star or counted wildcard.
-pub(crate) fn no_sequence(children: &[Pattern]) -> bool
-    ensures { result ≡ fits.no_sequence (patterns (map pattern_tree children.now)) }
-{
-    for child in children {
-        if let Pattern::Wild(shape, _) = child
-            && shape.is_sequence()
-        {
-            return false;
-        }
-    }
-    true
 }
 
 // Whether the list is one application of the operation.

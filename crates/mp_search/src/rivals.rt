@@ -1,82 +1,47 @@
 //! Later children that compete for too few terms: a search for them, whose answer is counted after.
 ghost use Rattle.std.specs.Prelude.{◌≡◌, ◌<◌, ◌≤◌, map, length, IfSome};
+ghost use Rattle.std.specs.List.Sorted.{IsSorted};
 ghost use Rattle.mp_pattern.specs.PatternTree.{patterns};
-ghost use Rattle.mp_pattern.specs.Subpatterns.{all_subpatterns};
+ghost use Rattle.mp_pattern.specs.Subpatterns.{subpatterns, all_subpatterns};
 ghost use Rattle.mp_pattern.specs.View.{pattern_tree};
-ghost use Rattle.mp_table.specs.Table.{HasRank};
+ghost use Rattle.mp_table.specs.Table.{rank_cmp};
 ghost use Rattle.mp_subst.specs.Trail.{GoesWith};
-ghost use Rattle.mp_search.specs.Levels.{IsOver};
 ghost use Rattle.mp_search.specs.Parts.{StandsAt};
 ghost use Rattle.mp_search.specs.Query.{IsQuery};
 ghost use Rattle.mp_search.specs.Site.{IsSite};
 
+use crate::candidates::places_of;
 use crate::end::end_of;
-use crate::level::Level;
-use crate::may_match::{is_firm, may_match};
+use crate::may_match::{is_firm, is_plain, may_match};
 use crate::query::Query;
-use crate::reads::has_head;
 use crate::site::Site;
-use crate::supply::is_next;
 use mp_pattern::Pattern;
 use mp_subst::Trail;
 use mp_table::Rank;
-use mp_term::OpId;
 
-// Whether the child of that place among the children may match the term of the rank.
-fn nth_may_match(
-    query: &Query<'_>,
-    trail: &Trail,
-    under: Option<OpId>,
-    children: &[Pattern],
-    node: u32,
-    which: usize,
-    rank: Rank,
-) -> bool
-    requires query { IsQuery query.now }
-    requires trail { GoesWith query.now.table.now trail.now }
-    requires children { StandsAt query.now node (all_subpatterns (patterns (map pattern_tree children.now))) }
-    requires rank { HasRank query.now.table.now rank }
+// How many equal ranks stand right before the place.
+fn equal_before(list: &[Rank], place: usize) -> usize
+    requires { place < length list.now }
 {
-    match children {
-        [] => false,
-        [child, later @ ..] => {
-            if which == 0 {
-                return may_match(query, trail, under, child, node, rank);
-            }
-            let end = end_of(query, child, node);
-            nth_may_match(query, trail, under, later, end, which - 1, rank)
+    for count in 0..place {
+        if list[place - 1 - count].0 != list[place].0 {
+            return count;
         }
     }
+    place
 }
 
-// Whether the term has the head of the child, if that is an application.
-fn has_its_head(query: &Query<'_>, child: &Pattern, rank: Rank) -> bool
-    requires { HasRank query.now.table.now rank }
+// Whether the rank at the place is one of those that are taken out of the list, of equal ones the first.
+fn is_taken(take: &[Rank], list: &[Rank], place: usize) -> bool
+    requires { place < length list.now }
 {
-    match child {
-        Pattern::App(op, _) => has_head(query.table, rank, *op),
-        _ => true,
+    let rank = list[place];
+    let from = take.partition_point(|other| other.0 < rank.0);
+    if from >= take.len() || take[from].0 != rank.0 {
+        return false;
     }
-}
-
-// Whether the later child of that place may match the term of the rank.
-fn later_may_match(
-    query: &Query<'_>,
-    site: &Site<'_>,
-    trail: &Trail,
-    node: u32,
-    which: usize,
-    rank: Rank,
-) -> bool
-    requires query { IsQuery query.now }
-    requires site { IsSite query.now site.now }
-    requires trail { GoesWith query.now.table.now trail.now }
-    requires later { StandsAt query.now node (all_subpatterns (patterns (map pattern_tree site.now.later.now))) }
-    requires rank { HasRank query.now.table.now rank }
-{
-    which < site.later.len()
-        && has_its_head(query, &site.later[which], rank)
-        && nth_may_match(query, trail, site.under, site.later, node, which, rank)
+    let before = equal_before(list, place);
+    before < take.len() - from && take[from + before].0 == rank.0
 }
 
 // Which child has the place.
@@ -86,27 +51,28 @@ fn owner_of(places: &[usize], place: usize) -> Option<usize>
     places.iter().position(|own| *own == place)
 }
 
-// The first place that no child has, with a term that is left behind the entry at hand, which the child may match.
-fn free_place(
+// The first place from one on that none of the children has, with a term that isn't taken and that the child may match.
+fn place_from(
     query: &Query<'_>,
     site: &Site<'_>,
-    own: &Level,
+    take: &[Rank],
     trail: &Trail,
+    child: &Pattern,
     node: u32,
-    places: &[usize],
-    which: usize,
+    others: &[usize],
+    from: usize,
 ) -> Option<usize>
     requires query { IsQuery query.now }
     requires site { IsSite query.now site.now }
     requires trail { GoesWith query.now.table.now trail.now }
-    requires later { StandsAt query.now node (all_subpatterns (patterns (map pattern_tree site.now.later.now))) }
+    requires ascending { IsSorted rank_cmp site.now.left.now }
+    requires child { StandsAt query.now node (subpatterns (pattern_tree child.now)) }
 {
-    let mut taken = 0;
-    for (place, rank) in site.left.iter().enumerate() {
-        if is_next(own.take.as_slice(), taken, *rank) {
-            taken += 1;
-        } else if owner_of(places, place).is_none()
-            && later_may_match(query, site, trail, node, which, *rank)
+    let (first, end) = places_of(query, trail, child, node, site.left);
+    for place in first.max(from)..end {
+        if !is_taken(take, site.left, place)
+            && may_match(query, trail, site.under, child, node, site.left[place])
+            && owner_of(others, place).is_none()
         {
             return Some(place);
         }
@@ -114,12 +80,79 @@ fn free_place(
     None
 }
 
+// A place that no child has, with a term that isn't taken and that the child may match: behind that of the child before
+// if there is one.
+fn free_place(
+    query: &Query<'_>,
+    site: &Site<'_>,
+    take: &[Rank],
+    trail: &Trail,
+    child: &Pattern,
+    node: u32,
+    places: &[usize],
+    which: usize,
+) -> Option<usize>
+    requires query { IsQuery query.now }
+    requires site { IsSite query.now site.now }
+    requires trail { GoesWith query.now.table.now trail.now }
+    requires ascending { IsSorted rank_cmp site.now.left.now }
+    requires child { StandsAt query.now node (subpatterns (pattern_tree child.now)) }
+    requires within { which < length places.now }
+{
+    let near = if which > 0 { places[which - 1] } else { 0 };
+    if let Some(place) = place_from(query, site, take, trail, child, node, places, near) {
+        return Some(place);
+    }
+    place_from(query, site, take, trail, child, node, places, 0)
+}
+
+// The first place from one on that none of the others has, with a term that isn't taken and that the child of that
+// number among the children may match.
+fn nth_place_from(
+    query: &Query<'_>,
+    site: &Site<'_>,
+    take: &[Rank],
+    trail: &Trail,
+    children: &[Pattern],
+    node: u32,
+    which: usize,
+    others: &[usize],
+    from: usize,
+) -> Option<usize>
+    requires query { IsQuery query.now }
+    requires site { IsSite query.now site.now }
+    requires trail { GoesWith query.now.table.now trail.now }
+    requires ascending { IsSorted rank_cmp site.now.left.now }
+    requires children { StandsAt query.now node (all_subpatterns (patterns (map pattern_tree children.now))) }
+{
+    match children {
+        [] => None,
+        [child, later @ ..] => {
+            if which == 0 {
+                return place_from(query, site, take, trail, child, node, others, from);
+            }
+            let end = end_of(query, child, node);
+            nth_place_from(
+                query,
+                site,
+                take,
+                trail,
+                later,
+                end,
+                which - 1,
+                others,
+                from,
+            )
+        }
+    }
+}
+
 // Whether the place is made free by moving the child that has it, where that isn't marked.
 #[cycle(settle_child)]
 fn make_free(
     query: &Query<'_>,
     site: &Site<'_>,
-    own: &Level,
+    take: &[Rank],
     trail: &Trail,
     node: u32,
     places: &mut [usize],
@@ -129,8 +162,8 @@ fn make_free(
 ) -> bool
     requires query { IsQuery query.now }
     requires site { IsSite query.now site.now }
-    requires over { IsOver query.now.table.now own.now }
     requires trail { GoesWith query.now.table.now trail.now }
+    requires ascending { IsSorted rank_cmp site.now.left.now }
     requires later { StandsAt query.now node (all_subpatterns (patterns (map pattern_tree site.now.later.now))) }
     requires many { length places.old ≤ length marks.old }
     ensures places { length places.new ≡ length places.old }
@@ -142,7 +175,7 @@ fn make_free(
             if marks[owner] {
                 return false;
             }
-            settle_child(query, site, own, trail, node, places, marks, owner, steps)
+            settle_child(query, site, take, trail, node, places, marks, owner, steps)
         }
     }
 }
@@ -153,7 +186,7 @@ fn make_free(
 fn settle_child(
     query: &Query<'_>,
     site: &Site<'_>,
-    own: &Level,
+    take: &[Rank],
     trail: &Trail,
     node: u32,
     places: &mut [usize],
@@ -163,8 +196,8 @@ fn settle_child(
 ) -> bool
     requires query { IsQuery query.now }
     requires site { IsSite query.now site.now }
-    requires over { IsOver query.now.table.now own.now }
     requires trail { GoesWith query.now.table.now trail.now }
+    requires ascending { IsSorted rank_cmp site.now.left.now }
     requires later { StandsAt query.now node (all_subpatterns (patterns (map pattern_tree site.now.later.now))) }
     requires many { length places.old ≤ length marks.old }
     requires within { which < length places.old }
@@ -175,31 +208,42 @@ fn settle_child(
         return true;
     }
     marks[which] = true;
-    if let Some(place) = free_place(query, site, own, trail, node, &*places, which) {
+    if let Some(place) = nth_place_from(
+        query, site, take, trail, site.later, node, which, &*places, 0,
+    ) {
         places[which] = place;
         return true;
     }
-    let mut taken = 0;
-    for place in 0..site.left.len() {
-        let rank = site.left[place];
-        if is_next(own.take.as_slice(), taken, rank) {
-            taken += 1;
-        } else if later_may_match(query, site, trail, node, which, rank) {
-            if make_free(
-                query,
-                site,
-                own,
-                trail,
-                node,
-                places,
-                marks,
-                place,
-                steps - 1,
-            ) {
-                places[which] = place;
-                return true;
-            }
+    let mut from = 0;
+    for _ in 0..site.left.len() {
+        let Some(place) = nth_place_from(
+            query,
+            site,
+            take,
+            trail,
+            site.later,
+            node,
+            which,
+            &[],
+            from,
+        ) else {
+            return false;
+        };
+        if make_free(
+            query,
+            site,
+            take,
+            trail,
+            node,
+            places,
+            marks,
+            place,
+            steps - 1,
+        ) {
+            places[which] = place;
+            return true;
         }
+        from = place.saturating_add(1);
     }
     false
 }
@@ -229,26 +273,147 @@ fn are_alike(child: &Pattern, other: &Pattern) -> bool {
     }
 }
 
-// Whether the later child is looked at: behind the first child any, then those that are like the child at hand.
-fn is_rival(query: &Query<'_>, site: &Site<'_>, later: &Pattern) -> bool {
-    is_firm(query.sig, later) && (is_first(query, site.node) || are_alike(site.child, later))
+// Whether the later child is looked at: where the child at hand is the first any, and else those that are like it.
+fn is_rival(query: &Query<'_>, site: &Site<'_>, first: bool, later: &Pattern) -> bool {
+    (first || are_alike(site.child, later)) && is_firm(query.sig, later)
 }
 
-// Whether a later child is looked at.
+// Whether none of them is an application.
+fn are_leaves(children: &[Pattern]) -> bool {
+    children
+        .iter()
+        .all(|child| !matches!(child, Pattern::App(_, _)))
+}
+
+// Whether a search goes on to the next sibling in one way at most, once the child has taken a list: there is no choice
+// within it.
+fn goes_on_at_once(query: &Query<'_>, child: &Pattern) -> bool {
+    match child {
+        Pattern::App(op, children) => {
+            let children = children.as_slice();
+            is_plain(query.sig, Some(*op), children) && are_leaves(children)
+        }
+        _ => true,
+    }
+}
+
+// Whether later children are looked at: not where there is but the very next one, to which a search goes on at once.
 pub(crate) fn has_rival(query: &Query<'_>, site: &Site<'_>) -> bool {
-    for later in site.later {
-        if is_rival(query, site, later) {
-            return true;
+    let first = is_first(query, site.node);
+    match site.later {
+        [] => false,
+        [next, others @ ..] => {
+            for later in others {
+                if is_rival(query, site, first, later) {
+                    return true;
+                }
+            }
+            !goes_on_at_once(query, site.child) && is_rival(query, site, first, next)
         }
     }
-    false
 }
 
-// Marks children that are to take a term each behind the entry at hand, but seem to have too few, if there are any.
+// Whether the child of that number isn't looked at, or finds a place among the terms that are left. If not, those are
+// marked that have the places that it may have.
+fn is_placed(
+    query: &Query<'_>,
+    site: &Site<'_>,
+    take: &[Rank],
+    trail: &Trail,
+    node: u32,
+    child: &Pattern,
+    child_node: u32,
+    places: &mut [usize],
+    marks: &mut [bool],
+    which: usize,
+) -> bool
+    requires query { IsQuery query.now }
+    requires site { IsSite query.now site.now }
+    requires trail { GoesWith query.now.table.now trail.now }
+    requires ascending { IsSorted rank_cmp site.now.left.now }
+    requires later { StandsAt query.now node (all_subpatterns (patterns (map pattern_tree site.now.later.now))) }
+    requires child { StandsAt query.now child_node (subpatterns (pattern_tree child.now)) }
+    requires many { length places.old ≤ length marks.old }
+    requires within { which < length places.old }
+    ensures places { length places.new ≡ length places.old }
+    ensures marks { length marks.new ≡ length marks.old }
+{
+    if !is_rival(query, site, is_first(query, site.node), child) {
+        return true;
+    }
+    if let Some(place) = free_place(query, site, take, trail, child, child_node, &*places, which) {
+        places[which] = place;
+        return true;
+    }
+    clear(&mut *marks);
+    let steps = places.len();
+    settle_child(query, site, take, trail, node, places, marks, which, steps)
+}
+
+// Marks children that are to take a term each behind the entry at hand, but seem to have too few, if there are any
+// among these, which are those from that number on.
+fn mark_from(
+    query: &Query<'_>,
+    site: &Site<'_>,
+    take: &[Rank],
+    trail: &Trail,
+    node: u32,
+    children: &[Pattern],
+    child_node: u32,
+    places: &mut [usize],
+    marks: &mut [bool],
+    which: usize,
+) -> bool
+    requires query { IsQuery query.now }
+    requires site { IsSite query.now site.now }
+    requires trail { GoesWith query.now.table.now trail.now }
+    requires ascending { IsSorted rank_cmp site.now.left.now }
+    requires later { StandsAt query.now node (all_subpatterns (patterns (map pattern_tree site.now.later.now))) }
+    requires children { StandsAt query.now child_node (all_subpatterns (patterns (map pattern_tree children.now))) }
+    requires many { length places.old ≤ length marks.old }
+{
+    match children {
+        [] => false,
+        [child, later @ ..] => {
+            if which >= places.len() {
+                return false;
+            }
+            if !is_placed(
+                query,
+                site,
+                take,
+                trail,
+                node,
+                child,
+                child_node,
+                &mut *places,
+                &mut *marks,
+                which,
+            ) {
+                return true;
+            }
+            let end = end_of(query, child, child_node);
+            mark_from(
+                query,
+                site,
+                take,
+                trail,
+                node,
+                later,
+                end,
+                places,
+                marks,
+                which + 1,
+            )
+        }
+    }
+}
+
+// Marks children that are to take a term each once the list is taken, but seem to have too few, if there are any.
 pub(crate) fn mark_rivals(
     query: &Query<'_>,
     site: &Site<'_>,
-    own: &Level,
+    take: &[Rank],
     trail: &Trail,
     node: u32,
     places: &mut [usize],
@@ -256,36 +421,12 @@ pub(crate) fn mark_rivals(
 ) -> bool
     requires query { IsQuery query.now }
     requires site { IsSite query.now site.now }
-    requires over { IsOver query.now.table.now own.now }
     requires trail { GoesWith query.now.table.now trail.now }
+    requires ascending { IsSorted rank_cmp site.now.left.now }
     requires later { StandsAt query.now node (all_subpatterns (patterns (map pattern_tree site.now.later.now))) }
     requires many { length places.old ≤ length marks.old }
 {
-    let most = places.len();
-    for which in 0..site.later.len() {
-        if which >= most {
-            return false;
-        }
-        if is_rival(query, site, &site.later[which]) {
-            if let Some(place) = free_place(query, site, own, trail, node, &*places, which) {
-                places[which] = place;
-            } else {
-                clear(&mut *marks);
-                if !settle_child(
-                    query,
-                    site,
-                    own,
-                    trail,
-                    node,
-                    &mut *places,
-                    &mut *marks,
-                    which,
-                    most,
-                ) {
-                    return true;
-                }
-            }
-        }
-    }
-    false
+    mark_from(
+        query, site, take, trail, node, site.later, node, places, marks, 0,
+    )
 }

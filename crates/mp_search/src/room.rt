@@ -53,8 +53,11 @@ impl<T: Copy> Room<T> {
         ensures items { self.new.items.items ≡ items.now }
         ensures room { self.new.room ≡ self.old.room }
     {
-        self.items.clear();
-        match self.items.extend_from_slice(items) {
+        // What is there is written over, since to clear a list takes as long as it is.
+        let kept = items.len().min(self.items.len());
+        self.items.truncate(kept);
+        self.items.copy_from_slice(&items[..kept]);
+        match self.items.extend_from_slice(&items[kept..]) {
             Ok(()) => {}
             Err(_) => unreachable!(),
         }

@@ -14,7 +14,7 @@ use Rattle.mp_term.proofs.ListingLaws.{same_members}
 use Rattle.mp_pattern.specs.PatternTree.{dot, kind, plus, star, counted, meets_count, optional, Pattern}
 use Rattle.mp_pattern.specs.PatternTree.{symbol_pattern, app_pattern, wild_pattern, Patterns}
 use Rattle.mp_pattern.specs.Value.{one}
-use Rattle.mp_pattern.specs.Variables.{comm_above}
+use Rattle.mp_pattern.specs.Variables.{comm_above, assoc_above}
 use Rattle.mp_pattern.specs.Fits.{Entry}
 use Rattle.mp_pattern.specs.DerivationOrder.{entry_cmp}
 use Rattle.mp_theory.specs.Solve.{contributor, sequence}
@@ -23,7 +23,7 @@ use Rattle.mp_theory.proofs.Merging.{same_terms-sound}
 use Rattle.mp_term.specs.Search.{In}
 use Rattle.mp_term.specs.Pieces.{without, pieces_among, is_piece}
 use Rattle.mp_theory.specs.Machine.{entries, reads, choices}
-use Rattle.mp_theory.specs.Bounds.{least, most, assoc_above, all_least, all_most}
+use Rattle.mp_theory.specs.Bounds.{least, most, all_least, all_most}
 use Rattle.mp_pattern.specs.SoundRule.{sum_most, reaches}
 use Rattle.mp_theory.specs.Within.{is_within, leaves_within, choices_within, fewest, length_limit, lengths}
 use Rattle.mp_term.proofs.SearchLaws.{in-filter, from_in-filter}

@@ -16,14 +16,13 @@ use Rattle.mp_term.proofs.PiecesLaws.{same-sound, same-itself}
 use Rattle.mp_pattern.specs.PatternTree.{Wildcard, dot, kind, plus, star, counted, optional, Pattern, symbol_pattern}
 use Rattle.mp_pattern.specs.PatternTree.{app_pattern, wild_pattern, Patterns, no_patterns, more_patterns}
 use Rattle.mp_pattern.specs.Value.{one, Subst, value_of}
-use Rattle.mp_pattern.specs.Variables.{comm_above}
+use Rattle.mp_pattern.specs.Variables.{comm_above, assoc_above}
 use Rattle.mp_pattern.specs.Fits.{Entry, is_left_out, no_sequence}
 use Rattle.mp_theory.specs.Solve.{contributor, given, solve}
 use Rattle.mp_theory.specs.Frames.{Frame, child}
 use Rattle.mp_theory.specs.Machine.{is_headed, arguments, entered, taken_out, onward, said, reads, choices}
 use Rattle.mp_theory.specs.OneList.{Item}
 use Rattle.mp_theory.specs.Items.{items, items_by}
-use Rattle.mp_theory.specs.Bounds.{assoc_above}
 use Rattle.mp_theory.specs.Kept.{Keeps}
 use Rattle.mp_theory.specs.Known.{is_optional, contributed}
 use Rattle.mp_theory.specs.MayMatch.{has_optional, is_alone_in, takes_one, each_takes_one, is_plain, may_collapse}

@@ -1,9 +1,10 @@
 -- How many terms a node may take.
 use Rattle.std.specs.Prelude.{List, [], ◌∷◌, ℕ, Bool, false, Option, Some, None}
 use Rattle.mp_term.specs.Tree.{Tree, symbol, app, trees}
-use Rattle.mp_term.specs.Signature.{Sig, is_assoc}
+use Rattle.mp_term.specs.Signature.{Sig}
 use Rattle.mp_pattern.specs.PatternTree.{Pattern, symbol_pattern, app_pattern, wild_pattern, Patterns, no_patterns}
 use Rattle.mp_pattern.specs.PatternTree.{more_patterns, pattern_list}
+use Rattle.mp_pattern.specs.Variables.{assoc_above}
 use Rattle.mp_pattern.specs.SoundRule.{pattern_least, pattern_most, fewest, greatest}
 use Rattle.mp_pattern.specs.Fits.{arranged}
 
@@ -16,18 +17,13 @@ abbrev pub all_least : Patterns → ℕ
 all_least ps = fewest (pattern_list ps)
 
 module _ (sig : Sig) where
-  -- the operation above is associative; at the root there is none
-  abbrev pub assoc_above : Option ℕ → Bool
-  assoc_above None = false
-  assoc_above (Some f) = is_assoc sig f
-
   -- the greatest number of terms that a node under f takes, if there is a bound
   abbrev pub most : Option ℕ → Pattern → Option ℕ
-  most f = pattern_most (assoc_above f)
+  most f = pattern_most (assoc_above sig f)
 
   -- the greatest number of terms that the children take together
   abbrev pub all_most : Option ℕ → Patterns → Option ℕ
-  all_most f ps = greatest (assoc_above f) (pattern_list ps)
+  all_most f ps = greatest (assoc_above sig f) (pattern_list ps)
 
 abbrev mutual
   -- the term that a pattern without wildcards stands for

@@ -8,10 +8,9 @@ use Rattle.mp_term.specs.Signature.{Sig, in_kind, is_one}
 use Rattle.mp_pattern.specs.PatternTree.{Wildcard, dot, kind, optional, Pattern, symbol_pattern, app_pattern}
 use Rattle.mp_pattern.specs.PatternTree.{wild_pattern, Patterns, no_patterns, more_patterns}
 use Rattle.mp_pattern.specs.Value.{Subst}
-use Rattle.mp_pattern.specs.Variables.{comm_above}
+use Rattle.mp_pattern.specs.Variables.{comm_above, assoc_above}
 use Rattle.mp_pattern.specs.Fits.{no_sequence}
 use Rattle.mp_theory.specs.Machine.{arguments}
-use Rattle.mp_theory.specs.Bounds.{assoc_above}
 use Rattle.mp_theory.specs.Known.{known}
 
 -- some child is an optional wildcard

@@ -12,7 +12,7 @@ use Rattle.mp_search.proofs.choice.is_choice.Goals as goal
 
 pub is_piece-requires : goal.is_piece-requires
 is_piece-requires c = λ e. left-sorted c.args.query.now c.args.site.now c.requires.query c.requires.site
-    (sym c.comm_above-anywhere.ensures ∙ e)
+    (sym c.is_comm_above-anywhere.ensures ∙ e)
 
 pub returns-then-not-is_piece : goal.returns-then-not-is_piece
 returns-then-not-is_piece c =
@@ -21,7 +21,7 @@ returns-then-not-is_piece c =
     let left = c.args.site.now.left.now in
     let same = is_piece-terms q.table.now c.requires.query.table (comm_above q.sig.now (above c.args.site.now.under))
     take left c.requires.over.0 c.requires.site.left
-    ∙ (λ i. is_piece rank_cmp (sym c.comm_above-anywhere.ensures i) (sym c.as_slice-take.ensures i) left)
+    ∙ (λ i. is_piece rank_cmp (sym c.is_comm_above-anywhere.ensures i) (sym c.as_slice-take.ensures i) left)
     ∙ sym c.is_piece.ensures ∙ c.if-not-is_piece.true in
     ap (λ b. b && machine.reads q.sig.now (pattern_tree c.args.site.now.child.now) (above c.args.site.now.under)
     (entry_of q.table.now c.args.own.now)) (sym same)
@@ -33,7 +33,7 @@ returns c =
     let left = c.args.site.now.left.now in
     let same = is_piece-terms q.table.now c.requires.query.table (comm_above q.sig.now (above c.args.site.now.under))
     take left c.requires.over.0 c.requires.site.left
-    ∙ (λ i. is_piece rank_cmp (sym c.comm_above-anywhere.ensures i) (sym c.as_slice-take.ensures i) left)
+    ∙ (λ i. is_piece rank_cmp (sym c.is_comm_above-anywhere.ensures i) (sym c.as_slice-take.ensures i) left)
     ∙ sym c.is_piece.ensures ∙ c.if-not-is_piece.false in
     let read = machine.reads q.sig.now (pattern_tree c.args.site.now.child.now) (above c.args.site.now.under) in
     c.reads.ensures

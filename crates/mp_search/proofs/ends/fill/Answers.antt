@@ -9,7 +9,7 @@ use Rattle.mp_search.proofs.ends.fill.Goals as goal
 
 pub is_piece-requires : goal.is_piece-requires
 is_piece-requires c = λ e. left-sorted c.args.query.now c.args.site.now c.requires.query c.requires.site
-    (sym c.comm_above.ensures ∙ e)
+    (sym c.is_comm_above.ensures ∙ e)
 
 pub returns-then-ranks-site-clause-pool : goal.returns-then-ranks-site-clause-pool
 returns-then-ranks-site-clause-pool c = end-long c.args.query.now c.args.site.now c.requires.query c.requires.site
@@ -21,5 +21,5 @@ returns-clause-pool c =
     let x = c.args.site.now in
     end-filled q x c.requires.query c.requires.site c.args.ranks.now _ _ c.requires.ranks c.if-ranks-site.false
     (c.arrange.ensures.items ∙ ap (arranged_ranks q x c.requires.query c.requires.site) c.refill.ensures.items)
-    (c.is_piece.ensures ∙ ap (λ b. is_piece rank_cmp b c.as_slice.result.now x.left.now) c.comm_above.ensures
+    (c.is_piece.ensures ∙ ap (λ b. is_piece rank_cmp b c.as_slice.result.now x.left.now) c.is_comm_above.ensures
     ∙ ap (λ rs. is_piece rank_cmp (comm_above q.sig.now (above x.under)) rs x.left.now) c.as_slice.ensures)

@@ -17,8 +17,8 @@ returns c = λ h j fs.
     let x = c.args.site.now in
     let ps = patterns (map pattern_tree x.later.now) in
     let s = subst_of q c.args.trail.now in
+    let lack = c.are_short.ensures h in
     nothing-lacking q.sig.now j (pattern_tree x.child.now) (site_frame q x) fs (entry_of q.table.now c.args.own.now)
-    s c.mark_rivals.new.marks
-    (subst (λ rs. AreLacking q.sig.now s (above x.under) c.mark_rivals.new.marks ps
-    (without tree_cmp (terms_at q.table.now rs) (terms_at q.table.now x.left.now))) c.as_slice.ensures
-    (c.are_lacking.ensures h))
+    s lack.0
+    (subst (λ rs. AreLacking q.sig.now s (above x.under) lack.0 ps
+    (without tree_cmp (terms_at q.table.now rs) (terms_at q.table.now x.left.now))) c.as_slice.ensures lack.1)

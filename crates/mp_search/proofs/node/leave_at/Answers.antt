@@ -41,7 +41,7 @@ leave-requires-clause-ascending c =
     let site = split-site q c.args.levels.now c.split_at_mut-below.result.0.now p k (q.first + k) left
     c.split_at_mut-below.ensures.front c.requires.within c.requires.node c.requires.place refl
     c.left_list-left.ensures.terms c.left_list-left.ensures.ranks in
-    λ e. left-sorted q (site_of p (q.first + k) left) c.requires.node.query site (sym c.comm_above.ensures ∙ e)
+    λ e. left-sorted q (site_of p (q.first + k) left) c.requires.node.query site (sym c.is_comm_above.ensures ∙ e)
 
 pub returns-clause-rest : goal.returns-clause-rest
 returns-clause-rest c =

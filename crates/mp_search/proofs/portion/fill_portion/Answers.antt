@@ -18,7 +18,7 @@ loop-place-preserved-then-has_portion c =
     let there : i < length xs = omega (
       arith,
       c.loop-place-test.true,
-      (c.places-first.ensures (subst_of c.args.query.now c.args.trail.now)).within,
+      c.places-first.ensures.within,
     ) in
     let is : r ≡ get_or xs i r = get_or_default xs i zero_rank r there in
     let whole = c.has_portion.ensures.whole c.if-has_portion.true in
@@ -45,7 +45,7 @@ loop-place-preserved c =
     let there : i < length xs = omega (
       arith,
       c.loop-place-test.true,
-      (c.places-first.ensures (subst_of c.args.query.now c.args.trail.now)).within,
+      c.places-first.ensures.within,
     ) in
     let is : r ≡ get_or xs i r = get_or_default xs i zero_rank r there in
     record {
@@ -60,7 +60,7 @@ loop-place-preserved c =
 
 pub returns-clause-enough : goal.returns-clause-enough
 returns-clause-enough c = λ z m w.
-    let between = c.places-first.ensures (subst_of c.args.query.now c.args.trail.now) in
+    let between = c.places-first.ensures in
     enough-end z c.args.count c.args.site.now.left.now c.loop-place.room.items.items c.loop-place.place c.requires.some
     (occurrences-none z c.args.site.now.left.now c.loop-place.place
     (λ k l n e. between.behind z k w (omega (arith, l, c.loop-place-test.false)) n e))
@@ -74,14 +74,14 @@ pub bounds-list-place : goal.bounds-list-place
 bounds-list-place c = omega (
   arith,
   c.loop-place-test.true,
-  (c.places-first.ensures (subst_of c.args.query.now c.args.trail.now)).within,
+  c.places-first.ensures.within,
 )
 
 pub has_portion-requires-clause-within : goal.has_portion-requires-clause-within
 has_portion-requires-clause-within c = omega (
   arith,
   c.loop-place-test.true,
-  (c.places-first.ensures (subst_of c.args.query.now c.args.trail.now)).within,
+  c.places-first.ensures.within,
 )
 
 pub loop-place-init : goal.loop-place-init
@@ -91,7 +91,7 @@ loop-place-init c =
     let s = subst_of q c.args.trail.now in
     let xs = x.left.now in
     let n = c.args.count in
-    let between = c.places-first.ensures s in
+    let between = c.places-first.ensures in
     let first = c.places-first.result.0 in
     let none = sym c.clear.ensures.items in
     record {

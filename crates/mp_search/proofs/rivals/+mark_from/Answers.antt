@@ -4,17 +4,17 @@ use Rattle.mp_pattern.specs.Subpatterns.{subpatterns, all_subpatterns}
 use Rattle.mp_pattern.specs.View.{pattern_tree}
 use Rattle.mp_search.specs.Parts.{StandsAt}
 use Rattle.mp_search.proofs.PartLaws.{stands-left, stands-right, first-pattern}
-use Rattle.mp_search.proofs.rivals.+nth_may_match.Goals as goal
+use Rattle.mp_search.proofs.rivals.+mark_from.Goals as goal
 
-pub may_match-requires-clause-child : goal.may_match-requires-clause-child
-may_match-requires-clause-child t c =
+pub is_placed-requires-clause-child : goal.is_placed-requires-clause-child
+is_placed-requires-clause-child t c =
     let q = c.args.query.now in
     let p = pattern_tree c.child-item.result in
     let later = all_subpatterns
     (patterns (map pattern_tree (take (length c.args.children.now - 1) (drop 1 c.args.children.now)))) in
     let e = ap all_subpatterns
     (first-pattern c.args.children.now c.child-item.result c.in-len1-up.len_at_least c.child-item.is) in
-    stands-left q c.args.node (subpatterns p) later (subst (StandsAt q c.args.node) e c.requires.children)
+    stands-left q c.args.child_node (subpatterns p) later (subst (StandsAt q c.args.child_node) e c.requires.children)
 
 pub end_of-end-requires-clause-child : goal.end_of-end-requires-clause-child
 end_of-end-requires-clause-child t c =
@@ -24,10 +24,10 @@ end_of-end-requires-clause-child t c =
     (patterns (map pattern_tree (take (length c.args.children.now - 1) (drop 1 c.args.children.now)))) in
     let e = ap all_subpatterns
     (first-pattern c.args.children.now c.child-item.result c.in-len1-up.len_at_least c.child-item.is) in
-    stands-left q c.args.node (subpatterns p) later (subst (StandsAt q c.args.node) e c.requires.children)
+    stands-left q c.args.child_node (subpatterns p) later (subst (StandsAt q c.args.child_node) e c.requires.children)
 
-pub nth_may_match-requires : goal.nth_may_match-requires
-nth_may_match-requires t c =
+pub mark_from-requires : goal.mark_from-requires
+mark_from-requires t c =
     let q = c.args.query.now in
     let p = pattern_tree c.child-item.result in
     let later = all_subpatterns
@@ -38,12 +38,21 @@ nth_may_match-requires t c =
       (
         c.requires.query,
         (
-          c.requires.trail,
+          c.requires.site,
           (
-            subst (λ k. StandsAt q k later) (sym c.end_of-end.ensures)
-                (stands-right q c.args.node (subpatterns p) later
-                (subst (StandsAt q c.args.node) e c.requires.children)),
-            c.requires.rank,
+            c.requires.trail,
+            (
+              c.requires.ascending,
+              (
+                c.requires.later,
+                (
+                  subst (λ k. StandsAt q k later) (sym c.end_of-end.ensures)
+                      (stands-right q c.args.child_node (subpatterns p) later
+                      (subst (StandsAt q c.args.child_node) e c.requires.children)),
+                  omega (arith, c.is_placed.ensures.places, c.is_placed.ensures.marks, c.requires.many),
+                ),
+              ),
+            ),
           ),
         ),
       ),

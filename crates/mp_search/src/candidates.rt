@@ -1,0 +1,169 @@
+//! Where the terms stand that a child may match.
+ghost use Rattle.std.specs.Prelude.{◌≡◌, ◌≤◌, ℕ, List, true, false, Option, Some, IfSome, map, length};
+ghost use Rattle.std.specs.List.Sorted.{IsSorted};
+ghost use Rattle.mp_term.specs.Signature.{Sig};
+ghost use Rattle.mp_term.specs.Tree.{Tree};
+ghost use Rattle.mp_pattern.specs.PatternTree.{app_pattern, patterns};
+ghost use Rattle.mp_pattern.specs.Subpatterns.{subpatterns, all_subpatterns};
+ghost use Rattle.mp_pattern.specs.View.{pattern_tree};
+ghost use Rattle.mp_subst.specs.Bound.{bound_of, value_in, IsBoundIn};
+ghost use Rattle.mp_subst.specs.Trail.{GoesWith};
+ghost use Rattle.mp_table.specs.Table.{HasRank, HasRanks, rank_cmp, term_at};
+ghost use Rattle.mp_theory.specs.Known.{contributed};
+ghost use Rattle.mp_theory.specs.MayMatch as look;
+ghost use Rattle.mp_search.specs.Parts.{StandsAt, IsWild};
+ghost use Rattle.mp_search.specs.Portion.{first_before, StandBetween};
+ghost use Rattle.mp_search.specs.Query.{IsQuery};
+ghost use Rattle.mp_search.specs.Reading.{subst_of};
+
+use crate::end::first_below;
+use crate::ground::ground_rank;
+use crate::headed::{Group, place_behind};
+use crate::may_match::{is_plain, may_collapse};
+use crate::query::Query;
+use crate::variable::number_at;
+use mp_pattern::{Pattern, Shape};
+use mp_subst::{Bound, Trail};
+use mp_table::{Rank, Table};
+use mp_term::OpId;
+
+// The rank of the only term that what the value contributes may be alone, if it is known.
+fn alone_in(table: &Table, bound: &Bound<'_>) -> Option<Rank>
+    requires { IsBoundIn table.now (bound_of bound.now) }
+    ensures within { IfSome result (HasRank table.now) }
+    ensures only { IfSome result (λ r. (s : Sig) (f : Option ℕ) (t : Tree) →
+        look.is_alone_in (contributed s f (value_in table.now (bound_of bound.now))) t ≡ true → term_at table.now r ≡ t) }
+{
+    let _ = table;
+    match (bound.wrap, bound.ranks) {
+        (None, [only]) => Some(*only),
+        _ => None,
+    }
+}
+
+// The rank of the only term that the wildcard may take alone, if its variable's value tells.
+fn value_rank(query: &Query<'_>, trail: &Trail, child: &Pattern, node: u32) -> Option<Rank>
+    requires query { IsQuery query.now }
+    requires trail { GoesWith query.now.table.now trail.now }
+    requires child { StandsAt query.now node (subpatterns (pattern_tree child.now)) }
+    requires wild { IsWild (pattern_tree child.now) }
+    ensures within { IfSome result (HasRank query.now.table.now) }
+    ensures only { IfSome result (λ r. (f : Option ℕ) (t : Tree) → look.is_as_known query.now.sig.now
+        (subst_of query.now trail.now) f (pattern_tree child.now) t ≡ true → term_at query.now.table.now r ≡ t) }
+{
+    let Some(var) = number_at(query, child, node) else {
+        return None;
+    };
+    match trail.binding(var) {
+        None => None,
+        Some(bound) => alone_in(query.table, &bound),
+    }
+}
+
+// The rank of the only term that the child may take alone, if it is known.
+fn known_rank(query: &Query<'_>, trail: &Trail, child: &Pattern, node: u32) -> Option<Rank>
+    requires query { IsQuery query.now }
+    requires trail { GoesWith query.now.table.now trail.now }
+    requires child { StandsAt query.now node (subpatterns (pattern_tree child.now)) }
+    ensures within { IfSome result (HasRank query.now.table.now) }
+    ensures only { IfSome result (λ r. (f : Option ℕ) (t : Tree) → look.may_match query.now.sig.now
+        (subst_of query.now trail.now) f (pattern_tree child.now) t ≡ true → term_at query.now.table.now r ≡ t) }
+{
+    match child {
+        Pattern::Sym(_) => ground_rank(query, child, node),
+        Pattern::Wild(Shape::Opt(_), _) => None,
+        Pattern::Wild(_, _) => value_rank(query, trail, child, node),
+        Pattern::App(_, _) => None,
+    }
+}
+
+// The rank of the only first argument that a term may have which an application to the children may match, if it is
+// known, and if there must be as many arguments as children.
+fn first_rank(
+    query: &Query<'_>,
+    trail: &Trail,
+    op: OpId,
+    children: &[Pattern],
+    node: u32,
+) -> Option<Rank>
+    requires query { IsQuery query.now }
+    requires trail { GoesWith query.now.table.now trail.now }
+    requires children { StandsAt query.now node (all_subpatterns (patterns (map pattern_tree children.now))) }
+    ensures within { IfSome result (HasRank query.now.table.now) }
+    ensures plain { IfSome result (λ r. look.is_plain query.now.sig.now (Some op.0)
+        (patterns (map pattern_tree children.now)) ≡ true) }
+    ensures only { IfSome result (λ r. (ts : List Tree) → look.each_may_match query.now.sig.now
+        (subst_of query.now trail.now) (Some op.0) (patterns (map pattern_tree children.now)) ts ≡ true →
+        (length ts ≡ length children.now) × (first_before false (term_at query.now.table.now r) ts ≡ false)
+        × (first_before true (term_at query.now.table.now r) ts ≡ true)) }
+{
+    if !is_plain(query.sig, Some(op), children) {
+        return None;
+    }
+    match children {
+        [] => None,
+        [child, ..] => known_rank(query, trail, child, node),
+    }
+}
+
+// Where the terms stand in an ascending list that the application may match, which can't be collapsed: from the first
+// place on, and before the second.
+fn group_places(
+    query: &Query<'_>,
+    trail: &Trail,
+    op: OpId,
+    children: &[Pattern],
+    node: u32,
+    list: &[Rank],
+) -> (usize, usize)
+    requires query { IsQuery query.now }
+    requires trail { GoesWith query.now.table.now trail.now }
+    requires children { StandsAt query.now node (all_subpatterns (patterns (map pattern_tree children.now))) }
+    requires firm { look.may_collapse query.now.sig.now op.0 (patterns (map pattern_tree children.now)) ≡ false }
+    requires ranks { HasRanks query.now.table.now list.now }
+    requires ascending { IsSorted rank_cmp list.now }
+    ensures { (f : Option ℕ) → StandBetween (λ r. look.may_match query.now.sig.now (subst_of query.now trail.now) f
+        (app_pattern op.0 (patterns (map pattern_tree children.now))) (term_at query.now.table.now r) ≡ true) list.now
+        result.0 result.1 }
+{
+    let group = Group {
+        op,
+        count: children.len(),
+        first: first_rank(query, trail, op, children, node),
+    };
+    let first = place_behind(query.table, &group, false, list);
+    (first, place_behind(query.table, &group, true, list))
+}
+
+// Where the terms stand in an ascending list that the child may match: from the first place on, and before the second.
+pub(crate) fn places_of(
+    query: &Query<'_>,
+    trail: &Trail,
+    child: &Pattern,
+    node: u32,
+    list: &[Rank],
+) -> (usize, usize)
+    requires query { IsQuery query.now }
+    requires trail { GoesWith query.now.table.now trail.now }
+    requires child { StandsAt query.now node (subpatterns (pattern_tree child.now)) }
+    requires ranks { HasRanks query.now.table.now list.now }
+    requires ascending { IsSorted rank_cmp list.now }
+    ensures within { result.1 ≤ length list.now }
+    ensures places { (f : Option ℕ) → StandBetween (λ r. look.may_match query.now.sig.now (subst_of query.now trail.now) f
+        (pattern_tree child.now) (term_at query.now.table.now r) ≡ true) list.now result.0 result.1 }
+{
+    if let Pattern::App(op, children) = child {
+        let children = children.as_slice();
+        if !may_collapse(query.sig, *op, children) {
+            return group_places(
+                query,
+                trail,
+                *op,
+                children,
+                first_below(query, child, node),
+                list,
+            );
+        }
+    }
+    (0, list.len())
+}
