@@ -34,7 +34,7 @@ const NO_LENGTH: Part = Part {
 };
 
 // Appends the numbers, in square brackets.
-fn push_numbers(alloc: Global, text: &mut String, numbers: &[u32]) -> Result<(), Fail> {
+pub(crate) fn push_numbers(alloc: Global, text: &mut String, numbers: &[u32]) -> Result<(), Fail> {
     text.push_str(format!(in alloc; "{numbers:?}")?.as_str())?;
     Ok(())
 }

@@ -1,11 +1,13 @@
-//! Tests of the lowest libraries' public calls: devices, terms, tables, substitutions, choices, trails, resume tokens,
-//! and what texts are read as by tokens and grammar.
+//! Tests of the lowest libraries' public calls: devices, terms, tables, substitutions, choices, pairings, trails,
+//! resume tokens, and what texts are read as by tokens and grammar.
 #![tactic(auto)]
 
 #[cfg(test)]
 mod choices;
 #[cfg(test)]
 mod devices;
+#[cfg(test)]
+mod pairings;
 #[cfg(test)]
 mod substitutions;
 #[cfg(test)]

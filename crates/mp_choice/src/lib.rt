@@ -15,4 +15,5 @@ pub use laws::{
 };
 pub use limits::MAX_TOTAL;
 pub use splits::{Part, Splits};
+pub use stage::Stage;
 pub use sub_bags::SubBags;

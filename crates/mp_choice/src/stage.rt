@@ -1,7 +1,12 @@
-//! The place of a generator in its list: before the first item, at an item, or at the end.
+//! Where a generator stands.
+
+/// The place of a generator in its list. Generators of other crates that list by `specs/Listed.antt` keep it too.
 #[derive(Clone, Copy)]
-pub(crate) enum Stage {
+pub enum Stage {
+    /// Before the first item.
     Before,
+    /// At an item.
     Standing,
+    /// After the last item.
     Ended,
 }
