@@ -1,0 +1,15 @@
+pub mod ShapeLaws
+pub mod NetLaws
+pub mod AllListLaws
+pub mod TraceLaws
+pub mod ItemLaws
+pub mod ChainLaws
+pub mod MarkLaws
+pub mod TurnLaws
+pub mod StateLaws
+pub mod GroupLaws
+pub mod NetsLaws
+pub mod FilledLaws
+pub mod WalkLaws
+pub mod ShortLaws
+pub mod PairsLaws
