@@ -16,13 +16,15 @@ use Rattle.mp_text.specs.Sound.{IsSoundFile}
 use Rattle.mp_matches.specs.Computed.{listed}
 use Rattle.mp_matches.specs.Listed.{Listed, lines, misspelt, no_match}
 use Rattle.mp_matches.specs.Printed.{has_some}
-use Rattle.mp_matches.proofs.ListedLaws.{IsListed-exact}
 use Rattle.mp_words.specs.Words.{Request}
 use Rattle.mp_words.specs.declared.request.Action.{Action}
 use Rattle.mp_words.specs.declared.request.Action.TheVariants as action
-use Rattle.matchpy.specs.Computed.{outcome_of, over_templates, rewritten}
-use Rattle.matchpy.specs.Outcome.{IsDone, Outcome, edited_before, edits_made, first_without_template, matched}
-use Rattle.matchpy.specs.Outcome.{rewritten_before, statement_before}
+use Rattle.mp_words.specs.declared.request.Engine.{Engine}
+use Rattle.mp_words.specs.declared.request.Engine.TheVariants as engine
+use Rattle.matchpy.specs.Computed.{matched_whole, matches_by, outcome_of, over_syntactic, over_templates, rewritten}
+use Rattle.matchpy.specs.Outcome.{IsDone, Outcome, edited_before, edits_made, first_not_syntactic}
+use Rattle.matchpy.specs.Outcome.{first_without_template, matched, rewritten_before, statement_before}
+use Rattle.matchpy.proofs.Matched.{matches_by-exact}
 use Rattle.matchpy.proofs.Rewrites.{over_templates-exact}
 
 -- what the proofs know of an action
@@ -47,6 +49,16 @@ matched-read : (l : Listed) → IsRead (matched l)
 matched-read (lines text) = any_or_none (has_some text)
 matched-read (misspelt at) = λ e. absurd (omega arith)
 matched-read no_match = λ e. absurd (omega arith)
+
+over_syntactic-read : (over : Outcome) (found : Option Rule) → IsRead over → IsRead (over_syntactic over found)
+over_syntactic-read over None h = h
+over_syntactic-read over (Some rule) h = λ e. absurd (omega arith)
+
+matches_by-read : (engine : Engine) (request : Request) (file : FileTree) → IsRead (matches_by engine request file)
+matches_by-read engine.One request file = matched-read (listed file request.resume request.limit)
+matches_by-read engine.Net request file =
+    over_syntactic-read (matched_whole file request.limit) (first_not_syntactic file.sig file.rules)
+    (any_or_none (has_some _))
 
 -- ---- rewriting
 
@@ -94,13 +106,8 @@ edits_made-read sig ss (e ∷ es) =
 
 pub action_law : (action : Action) → IsLawful action
 action_law action.Match = record {
-  exact = λ request file o sound.
-      let exact = IsListed-exact file sound request.resume request.limit in
-      let told = listed file request.resume request.limit in (
-        λ h. h.2 ∙ ap matched ((exact h.0).0 h.1),
-        λ e. (told, (exact told).1 refl, e),
-      );
-  read = λ request file. matched-read (listed file request.resume request.limit);
+  exact = λ request. matches_by-exact request.engine request;
+  read = λ request file. matches_by-read request.engine request file;
 }
 action_law action.Show =
     record { exact = λ request file o sound. (λ e. e, λ e. e); read = λ request file e. absurd (omega arith) }

@@ -3,17 +3,37 @@ use Rattle.std.specs.Prelude.{ℕ, List, [], ◌∷◌, length, Option, Some, No
 use Rattle.mp_io.specs.Devices.{Files, Text, held}
 use Rattle.mp_term.specs.Signature.{Sig}
 use Rattle.mp_pattern.specs.Admission.{Rule}
-use Rattle.mp_matches.specs.Computed.{listed}
+use Rattle.mp_net.specs.AllList.{pairs_from}
+use Rattle.mp_matches.specs.Computed.{listed, pairs_listed}
 use Rattle.mp_rewrite.specs.Computed.{rewriting}
 use Rattle.mp_text.specs.File.{FileTree, Subject}
 use Rattle.mp_text.specs.Computed.{fault_of, file_of}
 use Rattle.mp_text.specs.declared.fault.TextFault.{TextFault}
-use Rattle.matchpy.specs.Messages.{fault_line, long_line, no_template_line, open_line, usage_line}
-use Rattle.matchpy.specs.Outcome.{Outcome, edits_made, file_limit, finished, first_without_template}
-use Rattle.matchpy.specs.Outcome.{matched, refused, rewritten_before, shown}
+use Rattle.matchpy.specs.Messages.{fault_line, long_line, no_template_line, not_syntactic_line, open_line, usage_line}
+use Rattle.matchpy.specs.Outcome.{Outcome, edits_made, file_limit, finished, first_not_syntactic}
+use Rattle.matchpy.specs.Outcome.{first_without_template, matched, refused, rewritten_before, shown}
 use Rattle.mp_words.specs.Words.{Request}
 use Rattle.mp_words.specs.declared.request.Action.{Action}
 use Rattle.mp_words.specs.declared.request.Action.TheVariants.{Match, Show, Rewrite, Edit}
+use Rattle.mp_words.specs.declared.request.Engine.{Engine}
+use Rattle.mp_words.specs.declared.request.Engine.TheVariants.{One, Net}
+
+-- ---- matches
+
+-- the first rule that isn't syntactic is told, and where there is none it is so
+abbrev pub over_syntactic : Outcome → Option Rule → Outcome
+over_syntactic over None = over
+over_syntactic over (Some rule) = refused 10 (not_syntactic_line rule.name)
+
+-- the lines of the pairs of a file of syntactic rules, all or so many
+abbrev pub matched_whole : FileTree → Option ℕ → Outcome
+matched_whole file limit = matched (pairs_listed file (λ t. pairs_from file.sig t 0 file.rules) limit)
+
+-- what the matches of a file come to by an engine
+abbrev pub matches_by : Engine → Request → FileTree → Outcome
+matches_by One request file = matched (listed file request.resume request.limit)
+matches_by Net request file =
+    over_syntactic (matched_whole file request.limit) (first_not_syntactic file.sig file.rules)
 
 -- ---- rewriting
 
@@ -32,7 +52,7 @@ over_templates over (Some rule) = refused 11 (no_template_line rule.name)
 
 -- what an action over a file comes to
 abbrev pub outcome_of : Action → Request → FileTree → Outcome
-outcome_of Match request file = matched (listed file request.resume request.limit)
+outcome_of Match request file = matches_by request.engine request file
 outcome_of Show request file = shown file
 outcome_of Rewrite request file =
     over_templates (rewritten file.sig request.max file.rules file.subjects) (first_without_template file.rules)

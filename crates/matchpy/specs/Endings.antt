@@ -2,7 +2,7 @@
 use Rattle.std.specs.Prelude.{ℕ, []}
 use Rattle.mp_io.specs.Devices.{Text}
 use Rattle.matchpy.specs.Messages.{deep_line, fault_line, large_line, limit_line, long_line, memory_line}
-use Rattle.matchpy.specs.Messages.{no_item_line, no_template_line, open_line, read_line}
+use Rattle.matchpy.specs.Messages.{no_item_line, no_template_line, not_syntactic_line, open_line, read_line}
 use Rattle.matchpy.specs.Messages.{spelling_line, usage_line, write_line}
 use Rattle.matchpy.specs.declared.ending.Told.{Told}
 use Rattle.matchpy.specs.declared.ending.Told.TheVariants as told
@@ -18,6 +18,7 @@ told_status (told.BadText name fault) = 3
 told_status (told.TooLong name) = 4
 told_status (told.Misspelt at) = 9
 told_status told.NoItem = 9
+told_status (told.NotSyntactic rule) = 10
 told_status (told.NoTemplate rule) = 11
 told_status (told.TurnLimit subject max) = 6
 told_status (told.TooLarge subject nodes) = 7
@@ -32,6 +33,7 @@ told_line (told.BadText name fault) = fault_line name.now fault
 told_line (told.TooLong name) = long_line name.now
 told_line (told.Misspelt at) = spelling_line at
 told_line told.NoItem = no_item_line
+told_line (told.NotSyntactic rule) = not_syntactic_line rule
 told_line (told.NoTemplate rule) = no_template_line rule
 told_line (told.TurnLimit subject max) = limit_line subject max
 told_line (told.TooLarge subject nodes) = large_line subject nodes

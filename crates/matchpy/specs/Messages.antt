@@ -86,6 +86,10 @@ spelling_line at = said_number (codes "token") (codes ": spelling at ") (decimal
 abbrev pub no_item_line : Text
 no_item_line = told (codes "token: not an item")
 
+-- the rule isn't syntactic
+abbrev pub not_syntactic_line : Text → Text
+not_syntactic_line name = said_of name (codes ": not syntactic")
+
 -- the rule has no template
 abbrev pub no_template_line : Text → Text
 no_template_line name = said_of name (codes ": no template")

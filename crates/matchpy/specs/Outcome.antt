@@ -1,6 +1,6 @@
 -- What a run writes and answers, for these words and these files, memory and faults aside.
 use Rattle.std.specs.Prelude.{◌≡◌, ◌⊎◌, ◌<◌, ◌≤◌, ℕ, List, [], ◌∷◌, ◌++◌, length, map, Option, Some, None, is_none}
-use Rattle.std.specs.Prelude.{find, slice_get, codes, decimal, if◌then◌else◌}
+use Rattle.std.specs.Prelude.{find, not, slice_get, codes, decimal, if◌then◌else◌}
 use Rattle.mp_io.specs.Devices.{Files, Text, held}
 use Rattle.mp_term.specs.declared.edit.Edit.{Edit}
 use Rattle.mp_term.specs.declared.edit_fault.EditFault.{EditFault}
@@ -11,6 +11,7 @@ use Rattle.mp_term.specs.Normal.{normal}
 use Rattle.mp_term.specs.Edited.{edited}
 use Rattle.mp_term.specs.EditFault.{edit_fault}
 use Rattle.mp_pattern.specs.Admission.{Rule}
+use Rattle.mp_pattern.specs.Syntactic.{is_syntactic}
 use Rattle.mp_print.specs.Printing.{term_text}
 use Rattle.mp_rewrite.specs.Rewriting.{Rewriting, done, more, exceeded, IsRewriting}
 use Rattle.mp_text.specs.declared.file.EditSet.{EditSet}
@@ -19,12 +20,16 @@ use Rattle.mp_text.specs.PrintedFile.{file_text}
 use Rattle.mp_text.specs.Reading.{IsFaultOf, IsFileOf}
 use Rattle.mp_text.specs.declared.fault.TextFault.{TextFault}
 use Rattle.matchpy.specs.Messages.{deep_line, excess_line, fault_line, large_line, limit_line, long_line}
-use Rattle.matchpy.specs.Messages.{no_item_line, no_template_line, open_line, spelling_line, usage_line}
+use Rattle.matchpy.specs.Messages.{no_item_line, no_template_line, not_syntactic_line, open_line, spelling_line}
+use Rattle.matchpy.specs.Messages.{usage_line}
+use Rattle.mp_matches.specs.AllListed.{IsAllListed}
 use Rattle.mp_matches.specs.Listed.{IsListed, Listed, lines, misspelt, no_match}
 use Rattle.mp_matches.specs.Printed.{has_some}
 use Rattle.mp_words.specs.Words.{Request, request_of}
 use Rattle.mp_words.specs.declared.request.Action.{Action}
 use Rattle.mp_words.specs.declared.request.Action.TheVariants as action
+use Rattle.mp_words.specs.declared.request.Engine.{Engine}
+use Rattle.mp_words.specs.declared.request.Engine.TheVariants as engine
 
 -- what a run writes, and what it answers
 pub record Outcome : Type 0 where
@@ -56,6 +61,27 @@ abbrev pub matched : Listed → Outcome
 matched (lines text) = record { out = text; err = []; status = if has_some text then 0 else 1 }
 matched (misspelt at) = refused 9 (spelling_line at)
 matched no_match = refused 9 no_item_line
+
+-- the first rule that isn't syntactic
+abbrev pub first_not_syntactic : Sig → List Rule → Option Rule
+first_not_syntactic sig = find (λ r. not (is_syntactic sig r.pattern))
+
+-- where a rule isn't syntactic, the first one is told, and else it is so
+abbrev pub IsOverSyntactic : (Outcome → Type 0) → Option Rule → Outcome → Type 0
+IsOverSyntactic over None o = over o
+IsOverSyntactic over (Some rule) o = o ≡ refused 10 (not_syntactic_line rule.name)
+
+-- the lines of the all-lists of a file, all or so many
+abbrev pub IsMatchedWhole : FileTree → Option ℕ → Outcome → Type 0
+IsMatchedWhole file limit o = (text : Text) × IsAllListed file limit text × (o ≡ matched (lines text))
+
+-- What the matches of a file come to by an engine: rule by rule, all or so many, from the first or from behind a token
+-- on; or of all rules together, all or so many, where each rule is syntactic.
+abbrev pub IsMatchedBy : Engine → Request → FileTree → Outcome → Type 0
+IsMatchedBy engine.One request file o =
+    (l : Listed) × IsListed file request.resume request.limit l × (o ≡ matched l)
+IsMatchedBy engine.Net request file o =
+    IsOverSyntactic (IsMatchedWhole file request.limit) (first_not_syntactic file.sig file.rules) o
 
 -- the printed file
 abbrev pub shown : FileTree → Outcome
@@ -123,11 +149,10 @@ module _ (sig : Sig) where
 
 -- ---- the actions
 
--- What an action of a request comes to over a file: the matches of the file are printed, all or so many, from the first
--- or from behind a token on; or the file, or its subjects after rewriting with a limit, or after its edits.
+-- What an action of a request comes to over a file: the matches of the file are printed, as the engine finds them; or
+-- the file, or its subjects after rewriting with a limit, or after its edits.
 abbrev pub IsDone : Action → Request → FileTree → Outcome → Type 0
-IsDone action.Match request file o =
-    (l : Listed) × IsListed file request.resume request.limit l × (o ≡ matched l)
+IsDone action.Match request file o = IsMatchedBy request.engine request file o
 IsDone action.Show request file o = o ≡ shown file
 IsDone action.Rewrite request file o =
     IsOverTemplates (AreRewritten file.sig request.max file.rules file.subjects) (first_without_template file.rules) o

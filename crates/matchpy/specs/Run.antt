@@ -41,7 +41,7 @@ IsTurnOf files (n ∷ names) name = (n ≡ name) ⊎ ((IsMissing files n → ⊥
 
 -- what a run answers
 abbrev pub statuses : List ℕ
-statuses = 0 ∷ 1 ∷ 2 ∷ 3 ∷ 4 ∷ 5 ∷ 6 ∷ 7 ∷ 8 ∷ 9 ∷ 11 ∷ []
+statuses = 0 ∷ 1 ∷ 2 ∷ 3 ∷ 4 ∷ 5 ∷ 6 ∷ 7 ∷ 8 ∷ 9 ∷ 10 ∷ 11 ∷ []
 
 -- a count of the shelf's faults rose
 abbrev pub ShelfRose : Shelved → Type 0

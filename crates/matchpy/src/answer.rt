@@ -55,7 +55,7 @@ fn act<'a, O: Sink>(alloc: Global, request: Request<'a>, file: &File, out: &mut 
     ensures read { status_of result ≡ 4 → ⊥ }
 {
     match request.action {
-        Action::Match => match_file(alloc, file, request.limit, request.resume, out),
+        Action::Match => match_file(alloc, file, &request, out),
         Action::Show => show_file(file, out),
         Action::Rewrite => rewrite_file(alloc, file, u64::from(request.max), out),
         Action::Edit => edit_file(alloc, file, out),

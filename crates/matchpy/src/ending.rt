@@ -29,6 +29,8 @@ pub enum Told<'a> {
     Misspelt(u64),
     /// The token is that of no match of the file.
     NoItem,
+    /// The rule of this name isn't syntactic.
+    NotSyntactic(Name),
     /// The rule of this name has no template.
     NoTemplate(Name),
     /// The subject of this name was rewritten in so many steps, which were all that were asked for, and more could be
@@ -85,6 +87,7 @@ fn told_status(told: &Told<'_>) -> u8
         Told::BadText(_, _) => 3,
         Told::TooLong(_) => 4,
         Told::Misspelt(_) | Told::NoItem => 9,
+        Told::NotSyntactic(_) => 10,
         Told::NoTemplate(_) => 11,
         Told::TurnLimit(_, _) => 6,
         Told::TooLarge(_, _) | Told::TooDeep(_, _) => 7,
@@ -248,6 +251,7 @@ fn say_told<E: Sink>(err: &mut E, told: &Told<'_>) -> Result<(), Failed>
         Told::TooLong(name) => say_of(err, name.as_bytes(), b": too long"),
         Told::Misspelt(at) => say_spelling(err, *at),
         Told::NoItem => put(err, b"matchpy: token: not an item\n"),
+        Told::NotSyntactic(rule) => say_of(err, rule.bytes(), b": not syntactic"),
         Told::NoTemplate(rule) => say_of(err, rule.bytes(), b": no template"),
         Told::TurnLimit(subject, max) => say_limit(err, subject, *max),
         Told::TooLarge(subject, nodes) => say_large(err, subject, *nodes),

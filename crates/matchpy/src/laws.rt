@@ -1,6 +1,6 @@
 //! What the definitions of the command promise: laws, each as the contract of a function that does nothing.
 
-ghost use Rattle.std.specs.Prelude.{◌≡◌, ℕ, List};
+ghost use Rattle.std.specs.Prelude.{◌≡◌, List};
 ghost use Rattle.mp_io.specs.Devices.{Files, Text};
 ghost use Rattle.matchpy.specs.Outcome.{IsOutcome, Outcome};
 

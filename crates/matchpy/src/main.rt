@@ -6,6 +6,7 @@ mod edit;
 mod ending;
 mod laws;
 mod matches;
+mod net_matcher;
 mod rewrite;
 mod run;
 mod show;

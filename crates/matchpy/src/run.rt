@@ -71,8 +71,8 @@ fn finish<E: Sink>(err: &mut E, ending: Ending<'_>) -> u8
 /// at least one line), 1 (`match` has no line), 2 (the words make no request), 3 (the file's text has a fault), 4 (a
 /// file can't be opened or read, or is too long), 5 (`out` failed), 6 (rewriting a subject reached the limit of steps,
 /// and more could be made), 7 (a step or an edit would make a term that is too large or too deep), 8 (want of memory),
-/// 9 (the token of `--resume` is misspelt, or that of no match) and 11 (`rewrite` was asked for, and a rule has no
-/// template). The definition is `IsOutcome` of
+/// 9 (the token of `--resume` is misspelt, or that of no match), 10 (the engine `net` was asked for, and a rule isn't
+/// syntactic) and 11 (`rewrite` was asked for, and a rule has no template). The definition is `IsOutcome` of
 /// `specs/Outcome.antt`, and `specs/Run.antt` says how a run meets it where memory or a device fails.
 pub fn run<S: Shelf, O: Sink, E: Sink>(
     alloc: Global,

@@ -3,10 +3,12 @@
 mod cases;
 mod changes;
 mod listed;
+mod netted;
 
 use self::cases::{CONDITIONED, CONDITIONS, EXAMPLES, FAULTS, MATCHES, RUNS};
 use self::changes::CHANGES;
 use self::listed::LISTED;
+use self::netted::NETTED;
 use crate::run::run;
 use mp_io::{MemoryShelf, MemorySink};
 use std::alloc::Global;
@@ -185,7 +187,7 @@ fn is_run(alloc: Global, case: &str) -> Result<bool, Fail> {
 
 #[test]
 fn words_and_files_decide_what_is_printed(rt: HostRuntime) -> Result<(), Fail> {
-    for table in [RUNS, CHANGES, LISTED] {
+    for table in [RUNS, CHANGES, LISTED, NETTED] {
         for case in table.split("====\n") {
             assert!(rt; is_run(rt.alloc(), case)?, "{case}");
         }

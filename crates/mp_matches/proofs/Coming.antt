@@ -1,7 +1,9 @@
 -- The matches that a cursor has still to come, the next of them first.
-use Rattle.std.proofs.Common.{◌≡◌, ◌∙◌, ℕ, Bool, true, List, [], ◌∷◌, drop, refl, ap, sym, subst, true≢false}
+use Rattle.std.proofs.Common.{◌≡◌, ◌∙◌, Bool, true, List, [], ◌∷◌, drop, refl, ap, sym, subst, true≢false}
 use Rattle.std.specs.Prelude.{Option, Some, None, IsSome, slice_get, Ok, Err, ⊤}
 use Rattle.mp_io.specs.Devices.{Text}
+use Rattle.mp_io.specs.declared.devices.Sink.{Ghosts as SinkWords}
+use Rattle.mp_io.specs.declared.writer.Writer.{Writer}
 use Rattle.mp_term.specs.Signature.{Sig}
 use Rattle.mp_pattern.specs.Admission.{Rule}
 use Rattle.mp_pattern.specs.Constants.{rule_constants}
@@ -12,9 +14,9 @@ use Rattle.mp_cursor.specs.Listing.{Listing, advanced}
 use Rattle.mp_matches.specs.Computed.{match_of, matches_of}
 use Rattle.mp_matches.specs.Left.{Left, printed}
 use Rattle.mp_matches.specs.Match.{GoesOver, Match}
-use Rattle.mp_matches.specs.Printed.{PrintsMatches, PrintsOne}
+use Rattle.mp_matches.specs.Put.{PutsMatches, PutsOne}
 use Rattle.mp_matches.specs.declared.stop.Stop.{Stop}
-use Rattle.mp_matches.proofs.SoFar.{IsSoFar, so_far-one, so_far-stopped}
+use Rattle.mp_matches.proofs.PutLaws.{IsPutSoFar, put_so_far-one, put_so_far-stopped}
 
 -- where there is a next item, it is the first of the list
 next-first : {X : Type 0} (xs : List X) (next : Option X) → next ≡ slice_get xs 0 → IsSome next
@@ -41,38 +43,35 @@ module _ (s : Subject) (r : Rule) (old new : Listing) (moved : new ≡ advanced 
         ap (matches_of s r) (first.2 ∙ ap (λ js. first.0 ∷ js) (sym (ap (λ (l : Listing). l.to_come) moved))),
       )
 
-  module _ (sig : Sig) (some : IsSome new.item) (own : new.sig ≡ sig) (whole : Text × Option Left)
-      (a b c : Option Text) (m n k : ℕ) (any : Bool) (before left : Left)
-      (so : IsSoFar whole (printed sig before (matches_of s r old.to_come))
-      (record { old = a; new = b; faults = m; faults_after = n }) any) where
-    next-so : IsSoFar whole (printed sig before (match_of s r (coming-split some).0 ∷ matches_of s r new.to_come))
-        (record { old = a; new = b; faults = m; faults_after = n }) any
-    next-so = subst (λ ms. IsSoFar whole (printed sig before ms)
-        (record { old = a; new = b; faults = m; faults_after = n }) any) (coming-split some).2 so
+  module _ {K : Type 0} (words : SinkWords K) (sig : Sig) (some : IsSome new.item) (own : new.sig ≡ sig)
+      (whole : Text × Option Left) (u v w : Writer K) (any : Bool) (before left : Left)
+      (so : IsPutSoFar words whole (printed sig before (matches_of s r old.to_come)) u v any)
+    where
+      next-so : IsPutSoFar words whole
+          (printed sig before (match_of s r (coming-split some).0 ∷ matches_of s r new.to_come)) u v any
+      next-so = subst (λ ms. IsPutSoFar words whole (printed sig before ms) u v any) (coming-split some).2 so
 
-    -- its match is printed
-    pub coming-one : (u : ⊤)
-        → ((i : Item) (ms : List Match) → new.item ≡ Some i
-        → PrintsOne (printed new.sig before (match_of s r i ∷ ms)) (printed new.sig left ms)
-        (record { old = b; new = c; faults = n; faults_after = k }) left (Ok u))
-        → IsSoFar whole (printed sig left (matches_of s r new.to_come))
-        (record { old = a; new = c; faults = m; faults_after = k }) true
-    coming-one u h =
-        let i = (coming-split some).0 in
-        let ms = matches_of s r new.to_come in
-        so_far-one whole (printed sig before (match_of s r i ∷ ms)) a b c m n k any (printed sig left ms) left u next-so
-        (subst (λ g. PrintsOne (printed g before (match_of s r i ∷ ms)) (printed g left ms)
-        (record { old = b; new = c; faults = n; faults_after = k }) left (Ok u)) own (h i ms (coming-split some).1))
+      -- its match is put
+      pub coming-one : (t : ⊤)
+          → ((i : Item) (ms : List Match) → new.item ≡ Some i
+          → PutsOne words (printed new.sig before (match_of s r i ∷ ms)) (printed new.sig left ms) v w left (Ok t))
+          → IsPutSoFar words whole (printed sig left (matches_of s r new.to_come)) u w true
+      coming-one t h =
+          let i = (coming-split some).0 in
+          let ms = matches_of s r new.to_come in
+          put_so_far-one words whole (printed sig before (match_of s r i ∷ ms)) u v w any left next-so
+          (printed sig left ms) t
+          (subst (λ g. PutsOne words (printed g before (match_of s r i ∷ ms)) (printed g left ms) v w left (Ok t)) own
+          (h i ms (coming-split some).1))
 
-    -- printing stopped in its match
-    pub coming-stopped : (e : Stop)
-        → ((i : Item) (ms : List Match) → new.item ≡ Some i
-        → PrintsOne (printed new.sig before (match_of s r i ∷ ms)) (printed new.sig left ms)
-        (record { old = b; new = c; faults = n; faults_after = k }) left (Err e))
-        → PrintsMatches whole (record { old = a; new = c; faults = m; faults_after = k }) left (Err e)
-    coming-stopped e h =
-        let i = (coming-split some).0 in
-        let ms = matches_of s r new.to_come in
-        so_far-stopped whole (printed sig before (match_of s r i ∷ ms)) a b c m n k any left e next-so
-        (subst (λ g. PrintsMatches (printed g before (match_of s r i ∷ ms))
-        (record { old = b; new = c; faults = n; faults_after = k }) left (Err e)) own (h i ms (coming-split some).1))
+      -- it ends in its match
+      pub coming-stopped : (e : Stop)
+          → ((i : Item) (ms : List Match) → new.item ≡ Some i
+          → PutsOne words (printed new.sig before (match_of s r i ∷ ms)) (printed new.sig left ms) v w left (Err e))
+          → PutsMatches words whole u w left (Err e)
+      coming-stopped e h =
+          let i = (coming-split some).0 in
+          let ms = matches_of s r new.to_come in
+          put_so_far-stopped words whole (printed sig before (match_of s r i ∷ ms)) u v w any left next-so e
+          (subst (λ g. PutsMatches words (printed g before (match_of s r i ∷ ms)) v w left (Err e)) own
+          (h i ms (coming-split some).1))

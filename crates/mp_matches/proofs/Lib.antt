@@ -4,6 +4,7 @@ pub mod TokenSpelling
 pub mod MatchesLaws
 pub mod ListedLaws
 pub mod SoFar
+pub mod PutLaws
 pub mod Coming
 pub mod Parts
 pub mod RuleTables
@@ -14,3 +15,5 @@ pub mod Resumed
 pub mod Places
 pub mod FoundMatches
 pub mod AnswerLaws
+pub mod AllListedLaws
+pub mod PairsLaws

@@ -32,11 +32,11 @@ use Rattle.mp_matches.specs.Matches.{AreMatches, AreRuleMatches, IsJoinedBy, mat
 -- ---- lists of parts
 
 -- the item has this list, and no other
-abbrev IsListOf : {X Y : Type 0} → (X → List Y → Type 0) → (X → List Y) → X → Type 0
+abbrev pub IsListOf : {X Y : Type 0} → (X → List Y → Type 0) → (X → List Y) → X → Type 0
 IsListOf {X} {Y} P list x = (ys : List Y) → P x ys ↔ (ys ≡ list x)
 
 -- so have the items together
-joined-exact : {X Y : Type 0} (P : X → List Y → Type 0) (list : X → List Y) (xs : List X)
+pub joined-exact : {X Y : Type 0} (P : X → List Y → Type 0) (list : X → List Y) (xs : List X)
     → AllByRecursion (IsListOf P list) xs
     → (ys : List Y) → IsJoinedBy P xs ys ↔ (ys ≡ flat_map list xs)
 joined-exact P list [] each ys = (λ e. e, λ e. e)

@@ -10,13 +10,12 @@ use Rattle.mp_matches.specs.declared.stop.Stop.{Stop}
 use Rattle.mp_matches.specs.declared.stop.Stop.TheVariants as stop
 use Rattle.mp_matches.proofs.PrintedLaws.{printed-append}
 use Rattle.mp_matches.proofs.BehindLaws.{appended}
-use Rattle.mp_matches.proofs.SoFar.{IsSoFar, nothing-front, so_far-last, so_far-stopped, stopped-append}
+use Rattle.mp_matches.proofs.SoFar.{IsSoFar, nothing-front, of-err, so_far-last, so_far-stopped, stopped-append}
 
 module _ (sig : Sig) (before : Left) where
   pub behind-err : (ms : Option (List Match)) (out : Sunk) (left : Left) (e : Stop) (r : Result (Option Bool) Stop)
       → IsErrAnd r (λ x. x ≡ e) → PrintsBehind sig before ms out left (Err e) → PrintsBehind sig before ms out left r
-  behind-err ms out left e (Err x) is h = subst (λ y. PrintsBehind sig before ms out left (Err y)) (sym is) h
-  behind-err ms out left e (Ok u) is h = absurd is
+  behind-err ms out left e r is h = of-err (λ a. PrintsBehind sig before ms out left a) r e is h
 
   -- memory ran out before anything was printed
   pub behind-memory : (ms : Option (List Match)) (left : Left) (a : Option (List ℕ)) (m : ℕ)

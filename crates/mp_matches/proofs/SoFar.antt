@@ -1,21 +1,21 @@
 -- Some of the matches are printed, and others are still to come.
-use Rattle.std.proofs.Common.{◌≡◌, ℕ, Bool, true, false, [], ◌++◌, length, refl, sym, ap, ap₂, ◌∙◌, subst, arith}
+use Rattle.std.proofs.Common.{◌≡◌, ℕ, Bool, false, [], ◌++◌, length, refl, sym, ap, ap₂, ◌∙◌, subst, arith}
 use Rattle.std.proofs.Common.{append_assoc, append-nil, length-append}
 use Rattle.std.proofs.KnownBytes.{Appends-nil, Appends-trans}
-use Rattle.std.specs.Prelude.{List, ◌∷◌, Option, Some, Result, Ok, Err, IsErrAnd, ⊤, ◌||◌, ◌-◌, zero, suc}
+use Rattle.std.specs.Prelude.{List, ◌∷◌, Option, Some, Result, Ok, Err, IsErrAnd, ◌||◌, ◌-◌, zero, suc}
 use Rattle.std.specs.Io.KnownBytes.{Appends}
 use Rattle.mp_io.specs.Devices.{Rose, Text}
 use Rattle.mp_io.specs.Moments.{Sunk}
-use Rattle.mp_io.specs.Printing.{AppendsFront, IsCut}
+use Rattle.mp_io.specs.Printing.{AppendsFront}
 use Rattle.mp_term.specs.Signature.{Sig}
 use Rattle.mp_matches.specs.Left.{Left, one_and, full, left_of, printed, text_before}
 use Rattle.mp_matches.specs.declared.left.Left as code
 use Rattle.mp_matches.specs.declared.left.Left.TheVariants as kind
 use Rattle.mp_matches.specs.Match.{Match, match_line}
-use Rattle.mp_matches.specs.Printed.{has_some, IsWritten, PrintsMatches, PrintsOne}
+use Rattle.mp_matches.specs.Printed.{has_some, IsWritten, PrintsMatches}
 use Rattle.mp_matches.specs.declared.stop.Stop.{Stop}
 use Rattle.mp_matches.specs.declared.stop.Stop.TheVariants as stop
-use Rattle.mp_matches.proofs.PrintedLaws.{has_some-append, has_some-behind, printed-append, printed-append_none}
+use Rattle.mp_matches.proofs.PrintedLaws.{has_some-append, printed-append, printed-append_none}
 use Rattle.mp_matches.proofs.PrintedLaws.{printed-front, text_before-text_before}
 use Rattle.mp_matches.specs.TokenOf.{token_of}
 
@@ -32,7 +32,7 @@ pub so_far-first : (whole : Text × Option Left) (a : Option Text) (m : ℕ)
 so_far-first whole a m = record { text = []; split = refl; written = (Appends-nil a, refl); some = refl }
 
 -- what was printed of the rest is printed of the whole
-front-behind : (a b c : Option Text) (text whole part : Text) → Appends a b text → AppendsFront b c part
+pub front-behind : (a b c : Option Text) (text whole part : Text) → Appends a b text → AppendsFront b c part
     → whole ≡ text ++ part → AppendsFront a c whole
 front-behind a b c text whole part p h e = record {
   front = text ++ h.front;
@@ -61,18 +61,6 @@ module _ (whole rest : Text × Option Left) (a b c : Option Text) (m n k : ℕ) 
         subst (λ f. Rose f k) s.written.1 h.1,
         omega (arith, longer, length-append s.text rest.0, h.2),
       )
-
-  -- one match more is printed
-  pub so_far-one : (next : Text × Option Left) (left : Left) (u : ⊤)
-      → IsSoFar whole rest (record { old = a; new = b; faults = m; faults_after = n }) any
-      → PrintsOne rest next (record { old = b; new = c; faults = n; faults_after = k }) left (Ok u)
-      → IsSoFar whole next (record { old = a; new = c; faults = m; faults_after = k }) true
-  so_far-one next left u s h = record {
-    text = s.text ++ h.0;
-    split = s.split ∙ ap (text_before s.text) h.1 ∙ text_before-text_before s.text h.0 next;
-    written = (Appends-trans a b c s.text h.0 s.written.0 h.2.0, h.2.1 ∙ s.written.1);
-    some = sym (has_some-behind s.text h.0 h.3);
-  }
 
   -- the rest is printed
   pub so_far-last : (left : Left) (more : Bool)
@@ -159,33 +147,17 @@ nothing-printed whole left a m e =
 
 -- ---- errors
 
-pub one-err : (p rest : Text × Option Left) (out : Sunk) (left : Left) (e : Stop) (r : Result ⊤ Stop)
-    → IsErrAnd r (λ x. x ≡ e) → PrintsMatches p out left (Err e) → PrintsOne p rest out left r
-one-err p rest out left e (Err x) is h = subst (λ y. PrintsMatches p out left (Err y)) (sym is) h
-one-err p rest out left e (Ok u) is h = absurd is
+-- an answer that is this error
+pub of-err : {T E : Type 0} (P : Result T E → Type 0) (r : Result T E) (e : E) → IsErrAnd r (λ x. x ≡ e) → P (Err e)
+    → P r
+of-err P (Err x) e is h = subst (λ y. P (Err y)) (sym is) h
+of-err P (Ok u) e is h = absurd is
 
 pub matches-err : (p : Text × Option Left) (out : Sunk) (left : Left) (e : Stop) (r : Result Bool Stop)
     → IsErrAnd r (λ x. x ≡ e) → PrintsMatches p out left (Err e) → PrintsMatches p out left r
-matches-err p out left e (Err x) is h = subst (λ y. PrintsMatches p out left (Err y)) (sym is) h
-matches-err p out left e (Ok b) is h = absurd is
+matches-err p out left e r is h = of-err (λ a. PrintsMatches p out left a) r e is h
 
 -- ---- the first match
-
--- a write of its line failed
-pub line-cut : (line : Text) (rest : Text × Option Left) (left : Left) (a b : Option Text) (m n : ℕ) → IsCut a b line
-    → Rose m n
-    → PrintsMatches (text_before line rest) (record { old = a; new = b; faults = m; faults_after = n }) left
-    (Err stop.CannotWrite)
-line-cut line rest left a b m n cut rose = (
-  record {
-    front = cut.front.front;
-    rest = cut.front.rest ++ rest.0;
-    split = ap (λ t. t ++ rest.0) cut.front.split ∙ append_assoc cut.front.front cut.front.rest rest.0;
-    written = cut.front.written;
-  },
-  rose,
-  omega (arith, length-append line rest.0, cut.some),
-)
 
 module _ (sig : Sig) (left : code.Left) (m : Match) (ms : List Match) where
   -- all may be printed

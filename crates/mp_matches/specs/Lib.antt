@@ -1,7 +1,10 @@
 pub mod Match
 pub mod Matches
 pub mod Listed
+pub mod AllListed
 pub mod TokenOf
 pub mod Left
 pub mod Computed
 pub mod Printed
+pub mod Put
+pub mod PrintedPairs

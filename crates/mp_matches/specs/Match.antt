@@ -20,9 +20,13 @@ pub record Match : Type 0 where
   pub subst : Subst
   pub table : fits.Table
 
--- the subject's name, the rule's name and the substitution, with a space between each two
+-- the names of a subject and of a rule, and a substitution, with a space between each two
+abbrev pub found_line : Sig → Text → Text → Subst → Text
+found_line sig subject rule s = subject ++ (32 ∷ rule ++ (32 ∷ subst_text sig s ++ 10 ∷ []))
+
+-- the line of a match
 abbrev pub match_line : Sig → Match → Text
-match_line sig m = m.subject.name ++ (32 ∷ m.rule.name ++ (32 ∷ subst_text sig m.subst ++ 10 ∷ []))
+match_line sig m = found_line sig m.subject.name m.rule.name m.subst
 
 -- a line for each match
 abbrev pub match_lines : Sig → List Match → Text

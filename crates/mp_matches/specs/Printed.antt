@@ -1,12 +1,12 @@
 -- What a call that prints some of the matches answers.
-use Rattle.std.specs.Prelude.{◌≡◌, ◌⊎◌, ◌<◌, ⊤, IsSome, Bool, true, false, List, [], ◌∷◌, length, Option, Some, None}
+use Rattle.std.specs.Prelude.{◌≡◌, ◌⊎◌, ◌<◌, IsSome, Bool, true, false, List, [], ◌∷◌, length, Option, Some, None}
 use Rattle.std.specs.Prelude.{Result, Ok, Err}
 use Rattle.std.specs.Io.KnownBytes.{Appends}
 use Rattle.mp_io.specs.Devices.{Rose, Text}
 use Rattle.mp_io.specs.Moments.{Sunk}
 use Rattle.mp_io.specs.Printing.{AppendsFront}
 use Rattle.mp_term.specs.Signature.{Sig}
-use Rattle.mp_matches.specs.Left.{Left, printed, text_before}
+use Rattle.mp_matches.specs.Left.{Left, printed}
 use Rattle.mp_matches.specs.Match.{Match}
 use Rattle.mp_matches.specs.Listed.{Listed, lines, misspelt, no_match}
 use Rattle.mp_matches.specs.declared.fault.ListFault.{ListFault}
@@ -34,11 +34,6 @@ PrintsMatches p out left (Ok any) = IsWritten p.0 out × (p.1 ≡ Some left) × 
 PrintsMatches p out left (Err stop.More) = IsWritten p.0 out × (p.1 ≡ None)
 PrintsMatches p out left (Err stop.Memory) = AppendsFront out.old out.new p.0
 PrintsMatches p out left (Err stop.CannotWrite) = IsCutOff p.0 out
-
--- A match before others was printed, and then it goes on with the others; or it ended in it.
-abbrev pub PrintsOne : Text × Option Left → Text × Option Left → Sunk → Left → Result ⊤ Stop → Type 0
-PrintsOne p rest out left (Ok u) = (text : Text) × (p ≡ text_before text rest) × IsWritten text out × (0 < length text)
-PrintsOne p rest out left (Err e) = PrintsMatches p out left (Err e)
 
 -- the lines of matches, where there are some
 abbrev pub printed_behind : Sig → Left → Option (List Match) → Text × Option Left

@@ -4,6 +4,7 @@ ghost use Rattle.std.specs.Prelude.{◌≡◌, ℕ, Option};
 ghost use Rattle.mp_io.specs.Devices.{Text};
 ghost use Rattle.mp_text.specs.File.{FileTree};
 ghost use Rattle.mp_text.specs.Sound.{IsSoundFile};
+ghost use Rattle.mp_matches.specs.AllListed.{IsAllListed};
 ghost use Rattle.mp_matches.specs.Computed.{listed};
 ghost use Rattle.mp_matches.specs.Listed.{IsListed, Listed};
 
@@ -17,4 +18,10 @@ pub fn what_is_listed_is_unique()
 pub fn what_is_computed_is_listed()
     ensures { (file : FileTree) (resume : Option Text) (limit : Option ℕ) → IsSoundFile file →
         IsListed file resume limit (listed file resume limit) }
+{}
+
+/// Of the all-lists of a file one thing is told at most, by `IsAllListed` of `specs/AllListed.antt`.
+pub fn what_is_listed_of_all_lists_is_unique()
+    ensures { (file : FileTree) (limit : Option ℕ) (text other : Text) →
+        IsAllListed file limit text → IsAllListed file limit other → text ≡ other }
 {}

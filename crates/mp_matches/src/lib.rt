@@ -1,4 +1,5 @@
-//! The matches of a file as lines: all of them or so many, from the first on or from behind the match of a token.
+//! The matches of a file as lines: all of them or so many, from the first on or from behind the match of a token. So
+//! are listed the matches that a cursor finds rule by rule, and the pairs that a matcher finds for all rules together.
 #![tactic(auto)]
 
 mod fault;
@@ -6,9 +7,13 @@ mod laws;
 mod left;
 mod line;
 mod list;
+mod matcher;
 mod matches;
+mod pairs;
 mod resume;
 mod stop;
 
 pub use fault::ListFault;
 pub use list::list_matches;
+pub use matcher::Matcher;
+pub use pairs::list_pairs;

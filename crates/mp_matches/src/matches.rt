@@ -11,54 +11,83 @@ ghost use Rattle.mp_matches.specs.Computed.{all_matches, match_of, matches_of, r
 ghost use Rattle.mp_theory.specs.OneList.{Item};
 ghost use Rattle.mp_matches.specs.Match.{GoesOver, Match};
 ghost use Rattle.mp_matches.specs.Left.{IsWritable, left_of, printed};
-ghost use Rattle.mp_matches.specs.Printed.{PrintsMatches, PrintsOne};
+ghost use Rattle.mp_matches.specs.Printed.{PrintsMatches};
+ghost use Rattle.mp_matches.specs.Put.{PutsMatches, PutsOne};
 
 use crate::left::Left;
-use crate::line::{write_match, write_more};
+use crate::line::{put_match, put_more};
 use crate::stop::Stop;
 use mp_cursor::{Cursor, may_fit, room_for};
-use mp_io::Sink;
+use mp_io::{Sink, Writer};
 use mp_pattern::{PlannedRule, Rule};
 use mp_table::Table;
 use mp_term::Signature;
 use mp_text::Subject;
 use std::alloc::Global;
 
-// Prints the match at which the cursor stands, or that more follow where no more may be printed.
-fn print_match<O: Sink>(
+// Puts the line of the match at which the cursor stands, or the one that more follow where no more may be printed.
+fn put_next<O: Sink>(
     alloc: Global,
     subject: &Subject,
     rule: &Rule,
     cursor: &Cursor<'_>,
     left: &mut Left,
-    out: &mut O,
+    out: &mut Writer<'_, O>,
 ) -> Result<(), Stop>
     requires item { IsSome cursor.now.item }
     requires over { GoesOver (subject_tree subject.now) (rule_tree rule.now) cursor.now }
     requires writable { IsWritable left.old }
-    ensures prints { (i : Item) (ms : List Match) → cursor.now.item ≡ Some i → PrintsOne
+    ensures puts { (i : Item) (ms : List Match) → cursor.now.item ≡ Some i → PutsOne O.Sink
         (printed cursor.now.sig (left_of left.old) (match_of (subject_tree subject.now) (rule_tree rule.now) i ∷ ms))
-        (printed cursor.now.sig (left_of left.new) ms) (sunk O.Sink out.old out.new) (left_of left.new) result }
+        (printed cursor.now.sig (left_of left.new) ms) out.old out.new (left_of left.new) result }
     ensures writable { IsWritable left.new }
 {
     match left {
-        Left::All => write_match(subject, rule, cursor, out)?,
+        Left::All => put_match(subject, rule, cursor, out),
         Left::Lines(0) => {
             let token = cursor.token(alloc, &subject.name)?;
-            write_match(subject, rule, cursor, out)?;
+            put_match(subject, rule, cursor, out);
             *left = Left::Full(token);
         }
         Left::Lines(count) => {
             let count = *count - 1;
-            write_match(subject, rule, cursor, out)?;
+            put_match(subject, rule, cursor, out);
             *left = Left::Lines(count);
         }
         Left::Full(token) => {
-            write_more(token, out)?;
+            put_more(token, out);
             return Err(Stop::More);
         }
     }
     Ok(())
+}
+
+// Puts the lines of the matches that are still to come, and says whether there are any. It ends as soon as a write has
+// failed.
+fn put_to_come<O: Sink>(
+    alloc: Global,
+    subject: &Subject,
+    rule: &Rule,
+    cursor: &mut Cursor<'_>,
+    left: &mut Left,
+    out: &mut Writer<'_, O>,
+) -> Result<bool, Stop>
+    requires over { GoesOver (subject_tree subject.now) (rule_tree rule.now) cursor.old }
+    requires writable { IsWritable left.old }
+    ensures puts { PutsMatches O.Sink (printed cursor.old.sig (left_of left.old)
+        (matches_of (subject_tree subject.now) (rule_tree rule.now) cursor.old.to_come))
+        out.old out.new (left_of left.new) result }
+    ensures writable { IsWritable left.new }
+{
+    let mut any = false;
+    while cursor.next() {
+        any = true;
+        put_next(alloc, subject, rule, cursor, left, out)?;
+        if out.has_failed() {
+            return Err(Stop::CannotWrite);
+        }
+    }
+    Ok(any)
 }
 
 // Prints the matches that are still to come, and says whether there are any.
@@ -77,12 +106,10 @@ pub(crate) fn print_to_come<O: Sink>(
         (sunk O.Sink out.old out.new) (left_of left.new) result }
     ensures writable { IsWritable left.new }
 {
-    let mut any = false;
-    while cursor.next() {
-        any = true;
-        print_match(alloc, subject, rule, cursor, left, out)?;
-    }
-    Ok(any)
+    let mut out = Writer::new(out);
+    let told = put_to_come(alloc, subject, rule, cursor, left, &mut out);
+    out.finish()?;
+    told
 }
 
 // Prints the matches of one rule on one subject, and says whether there are any.

@@ -30,6 +30,7 @@ abbrev pub asked : Request → words.Request
 asked request = record {
   action = request.action;
   file = request.file.now;
+  engine = request.engine;
   limit = request.limit;
   resume = some_text request.resume;
   max = request.max;

@@ -12,12 +12,16 @@ use Rattle.clap.specs.Kinds.{Kinds}
 use Rattle.mp_term.specs.Signature.{is_number}
 use Rattle.mp_words.specs.declared.request.Action.{Action}
 use Rattle.mp_words.specs.declared.request.Action.TheVariants.{Match, Show, Rewrite, Edit}
+use Rattle.mp_words.specs.declared.request.Engine.{Engine}
+use Rattle.mp_words.specs.declared.request.Engine.TheVariants.{One, Net}
 
--- what is asked for: an action, the file that it is done with, how many matches are printed at most and the token
--- behind which they begin, where these are said, and how many steps rewriting makes of a subject at most
+-- what is asked for: an action, the file that it is done with, what finds the matches, how many of them are printed at
+-- most and the token behind which they begin, where these are said, and how many steps rewriting makes of a subject at
+-- most
 pub record Request : Type 0 where
   pub action : Action
   pub file : Text
+  pub engine : Engine
   pub limit : Option ℕ
   pub resume : Option Text
   pub max : ℕ
@@ -56,9 +60,14 @@ abbrev pub find_action : Text → List Line → Option Line
 find_action name [] = None
 find_action name (line ∷ lines) = if bytes_eq name line.name then Some line else find_action name lines
 
--- the names of the engines
-abbrev pub engines : List Text
-engines = codes "one" ∷ []
+-- the engines, each with its name
+abbrev pub engines : List (Text × Engine)
+engines = (codes "one", One) ∷ (codes "net", Net) ∷ []
+
+-- the first engine of that name
+abbrev pub find_engine : Text → List (Text × Engine) → Option Engine
+find_engine name [] = None
+find_engine name (engine ∷ engines) = if bytes_eq name engine.0 then Some engine.1 else find_engine name engines
 
 -- how many matches the words may ask for at most
 abbrev pub greatest_limit : ℕ
@@ -129,10 +138,15 @@ value_of name (option ∷ options) = if bytes_eq name option.0 then option.1 els
 abbrev pub are_among : List Text → Options → Bool
 are_among names options = list_all (λ option. not (is_some option.1) || list_any (bytes_eq option.0) names) options
 
--- no engine is given, or one that there is
-abbrev pub has_engine : Option Text → Bool
-has_engine None = true
-has_engine (Some name) = list_any (bytes_eq name) engines
+-- the engine: as the option says, or the one that takes rules one by one
+abbrev pub engine_of : Option Text → Option Engine
+engine_of None = Some One
+engine_of (Some name) = find_engine name engines
+
+-- no token is given, or the engine can begin behind one
+abbrev pub may_resume : Engine → Option Text → Bool
+may_resume One resume = true
+may_resume Net resume = not (is_some resume)
 
 -- the number that 1 to 10 digits write, where it is in the range
 abbrev pub number_in : ℕ → ℕ → Text → Option ℕ
@@ -151,17 +165,23 @@ abbrev pub max_of : Option Text → Option ℕ
 max_of None = Some usual_max
 max_of (Some text) = number_in 0 greatest_max text
 
--- the request for an action with one file, by options that may stand at it
-abbrev pub request_for : Line → List Text → Options → Option Request
-request_for line (file ∷ []) options =
-    if are_among line.options options && has_engine (value_of (codes "engine") options) then option_and_then (λ limit.
+-- the request for an action with a file, by an engine and by options that may stand at it
+abbrev pub request_with : Line → Text → Options → Engine → Option Request
+request_with line file options engine =
+    if may_resume engine (value_of (codes "resume") options) then option_and_then (λ limit.
     option_map (λ max. record {
       action = line.action;
       file = file;
+      engine = engine;
       limit = limit;
       resume = value_of (codes "resume") options;
       max = max;
     }) (max_of (value_of (codes "max") options))) (limit_of (value_of (codes "limit") options)) else None
+
+-- the request for an action with one file, by options that may stand at it
+abbrev pub request_for : Line → List Text → Options → Option Request
+request_for line (file ∷ []) options = if are_among line.options options
+    then option_and_then (request_with line file options) (engine_of (value_of (codes "engine") options)) else None
 request_for line files options = None
 
 -- the request by the action's name and what stands behind it

@@ -7,7 +7,7 @@ mod request;
 mod words;
 
 pub use laws::words_make_requests;
-pub use request::{Action, Request};
+pub use request::{Action, Engine, Request};
 pub use words::read_words;
 
 #[cfg(test)]

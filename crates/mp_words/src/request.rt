@@ -3,8 +3,8 @@
 ghost use Rattle.std.specs.Prelude.{◌≡◌, map};
 ghost use Rattle.std.specs.Option.{option_map};
 ghost use Rattle.mp_words.specs.Requests.{asked, given, line_of, some_text};
-ghost use Rattle.mp_words.specs.Words.{actions, are_among, find_action, has_engine, limit_of, max_of, request_by};
-ghost use Rattle.mp_words.specs.Words.{request_for};
+ghost use Rattle.mp_words.specs.Words.{actions, are_among, engine_of, engines, find_action, find_engine, limit_of};
+ghost use Rattle.mp_words.specs.Words.{max_of, may_resume, request_by, request_for};
 
 use crate::number::read_number;
 
@@ -21,6 +21,15 @@ pub enum Action {
     Edit,
 }
 
+/// What finds the matches.
+#[derive(Clone, Copy)]
+pub enum Engine {
+    /// A cursor over each rule, which gives its matches in the order of their take tables and can begin behind a token.
+    One,
+    /// Nets over all rules, which must be syntactic.
+    Net,
+}
+
 /// What the command is asked to do.
 #[derive(Clone, Copy)]
 pub struct Request<'a> {
@@ -28,11 +37,13 @@ pub struct Request<'a> {
     pub action: Action,
     /// The name of the file, `-` for standard input.
     pub file: &'a str,
+    /// What finds the matches; `One` where the words don't say it, and where the action is another than `Match`.
+    pub engine: Engine,
     /// How many matches are printed at most, 1 to 1,000,000,000. There is no limit where it is `None`, and where the
     /// action is another than `Match`.
     pub limit: Option<u32>,
     /// The resume token behind whose match the printing begins, any text; `None` where it begins at the first match,
-    /// and where the action is another than `Match`.
+    /// and where the action is another than `Match` or the engine another than `One`.
     pub resume: Option<&'a str>,
     /// How many steps rewriting makes of a subject at most, up to 1,000,000; 1,000 where the words don't say it, and
     /// where the action is another than `Rewrite`.
@@ -92,13 +103,36 @@ fn may_stand(action: Action, options: &Options) -> bool
     }
 }
 
-// No engine is given, or one that there is.
-fn has_engine(engine: Option<&str>) -> bool
-    ensures { result ≡ has_engine (some_text engine.entry) }
+// The engine of that name, if there is one.
+fn named_engine(name: &str) -> Option<Engine>
+    ensures { result ≡ find_engine name.now engines }
+{
+    if name == "one" {
+        Some(Engine::One)
+    } else if name == "net" {
+        Some(Engine::Net)
+    } else {
+        None
+    }
+}
+
+// The usual engine where none is given, or the one that is.
+fn read_engine(engine: Option<&str>) -> Option<Engine>
+    ensures { result ≡ engine_of (some_text engine.entry) }
 {
     match engine {
-        None => true,
-        Some(name) => name == "one",
+        None => Some(Engine::One),
+        Some(name) => named_engine(name),
+    }
+}
+
+// No token is given, or the engine can begin behind one.
+fn may_resume(engine: Engine, resume: Option<&str>) -> bool
+    ensures { result ≡ may_resume engine (some_text resume.entry) }
+{
+    match engine {
+        Engine::One => true,
+        Engine::Net => resume.is_none(),
     }
 }
 
@@ -132,7 +166,11 @@ fn request_for<'a>(action: Action, rest: &[&'a str], options: &Options<'a>) -> O
     let [file] = rest else {
         return None;
     };
-    if !may_stand(action, options) || !has_engine(options.engine) {
+    if !may_stand(action, options) {
+        return None;
+    }
+    let engine = read_engine(options.engine)?;
+    if !may_resume(engine, options.resume) {
         return None;
     }
     let limit = read_limit(options.limit)?;
@@ -140,6 +178,7 @@ fn request_for<'a>(action: Action, rest: &[&'a str], options: &Options<'a>) -> O
     Some(Request {
         action,
         file,
+        engine,
         limit,
         resume: options.resume,
         max,

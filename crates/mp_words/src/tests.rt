@@ -1,22 +1,51 @@
 //! Words of the command line, and the requests that they make.
 
-use crate::{Action, Request, read_words, words_make_requests};
+use crate::{Action, Engine, Request, read_words, words_make_requests};
 use std::alloc::Global;
 use std::test::Fail;
 
-// What is asked for: the action, the file, the limit, the resume token and the number of steps.
-type Asked = (Action, &'static str, Option<u32>, Option<&'static str>, u32);
+// What is asked for: the action, the file, the engine, the limit, the resume token and the number of steps.
+type Asked = (
+    Action,
+    &'static str,
+    Engine,
+    Option<u32>,
+    Option<&'static str>,
+    u32,
+);
 
 // Words that make a request, and what they ask for.
 const REQUESTS: &[(&[&str], Asked)] = &[
-    (&["match", "t"], (Action::Match, "t", None, None, 1000)),
-    (&["show", "-"], (Action::Show, "-", None, None, 1000)),
-    (&["show", ""], (Action::Show, "", None, None, 1000)),
-    (&["rewrite", "t"], (Action::Rewrite, "t", None, None, 1000)),
-    (&["edit", "t"], (Action::Edit, "t", None, None, 1000)),
+    (
+        &["match", "t"],
+        (Action::Match, "t", Engine::One, None, None, 1000),
+    ),
+    (
+        &["show", "-"],
+        (Action::Show, "-", Engine::One, None, None, 1000),
+    ),
+    (
+        &["show", ""],
+        (Action::Show, "", Engine::One, None, None, 1000),
+    ),
+    (
+        &["rewrite", "t"],
+        (Action::Rewrite, "t", Engine::One, None, None, 1000),
+    ),
+    (
+        &["edit", "t"],
+        (Action::Edit, "t", Engine::One, None, None, 1000),
+    ),
     (
         &["--resume", "s/r/1", "match", "t", "--limit=3"],
-        (Action::Match, "t", Some(3), Some("s/r/1"), 1000),
+        (
+            Action::Match,
+            "t",
+            Engine::One,
+            Some(3),
+            Some("s/r/1"),
+            1000,
+        ),
     ),
     (
         &[
@@ -27,27 +56,42 @@ const REQUESTS: &[(&[&str], Asked)] = &[
             "t",
             "--resume=",
         ],
-        (Action::Match, "t", Some(3), Some(""), 1000),
+        (Action::Match, "t", Engine::One, Some(3), Some(""), 1000),
     ),
     (
         &["match", "t", "--limit", "1000000000", "--resume", "-"],
-        (Action::Match, "t", Some(1_000_000_000), Some("-"), 1000),
+        (
+            Action::Match,
+            "t",
+            Engine::One,
+            Some(1_000_000_000),
+            Some("-"),
+            1000,
+        ),
+    ),
+    (
+        &["match", "t", "--engine", "net"],
+        (Action::Match, "t", Engine::Net, None, None, 1000),
+    ),
+    (
+        &["--limit=2", "match", "--engine=net", "--", "-t"],
+        (Action::Match, "-t", Engine::Net, Some(2), None, 1000),
     ),
     (
         &["rewrite", "t", "--max", "1000000"],
-        (Action::Rewrite, "t", None, None, 1_000_000),
+        (Action::Rewrite, "t", Engine::One, None, None, 1_000_000),
     ),
     (
         &["--max=0", "rewrite", "--", "-t"],
-        (Action::Rewrite, "-t", None, None, 0),
+        (Action::Rewrite, "-t", Engine::One, None, None, 0),
     ),
     (
         &["--", "edit", "--max"],
-        (Action::Edit, "--max", None, None, 1000),
+        (Action::Edit, "--max", Engine::One, None, None, 1000),
     ),
     (
         &["show", "--", "--"],
-        (Action::Show, "--", None, None, 1000),
+        (Action::Show, "--", Engine::One, None, None, 1000),
     ),
 ];
 
@@ -65,6 +109,12 @@ const OTHERS: &[&[&str]] = &[
     &["match", "t", "-x"],
     &["match", "t", "--engin=one"],
     &["match", "t", "--engine=many"],
+    &["match", "t", "--engine=program"],
+    &["match", "t", "--engine=Net"],
+    &["match", "t", "--engine=one", "--engine=net"],
+    &["match", "t", "--engine=net", "--resume=s/r/1"],
+    &["match", "t", "--resume", "", "--engine", "net"],
+    &["edit", "t", "--engine=net"],
     &["match", "t", "--limit"],
     &["match", "t", "--limit", "--", "3"],
     &["match", "t", "--limit=1", "--limit=1"],
@@ -89,9 +139,10 @@ fn is_asked(request: Option<Request>, asked: Option<&Asked>) -> bool {
         (Some(request), Some(asked)) => {
             request.action as u8 == asked.0 as u8
                 && request.file == asked.1
-                && request.limit == asked.2
-                && request.resume == asked.3
-                && request.max == asked.4
+                && request.engine as u8 == asked.2 as u8
+                && request.limit == asked.3
+                && request.resume == asked.4
+                && request.max == asked.5
         }
         (None, None) => true,
         _ => false,

@@ -72,8 +72,9 @@ fn request_in<'a>(matches: &ArgMatches<'a>) -> Option<Request<'a>>
 /// it.
 ///
 /// The words are the name of an action and, behind it, that of one file, and the options that may stand at the action,
-/// each once at most and at any place: `--limit` with a number from 1 to 1,000,000,000, `--resume` with any text and
-/// `--engine` with `one` at `match`; `--max` with a number from 0 to 1,000,000 at `rewrite`; none at `show` and `edit`.
+/// each once at most and at any place: `--engine` with `one` or `net`, `--limit` with a number from 1 to 1,000,000,000
+/// and, unless the engine is `net`, `--resume` with any text at `match`; `--max` with a number from 0 to 1,000,000 at
+/// `rewrite`; none at `show` and `edit`.
 /// A number is 1 to 10 digits. An option and its value are two words, or one with `=` between them; a value that begins
 /// with `-`, other than `-` alone, stands behind `=`. The name of a file is any text; one that begins with `-`, other
 /// than `-` alone, stands behind the word `--`, where no word is an option. Words that ask for help make no request.

@@ -1,0 +1,133 @@
+-- Lines of pairs are printed, and others are still to come.
+use Rattle.std.proofs.Common.{◌≡◌, ◌<◌, ◌+◌, ℕ, Bool, true, List, [], ◌++◌, length, map, drop, get_or}
+use Rattle.std.proofs.Common.{sym, ap, ap₂, ◌∙◌, subst, arith}
+use Rattle.std.proofs.Common.{append_assoc, length-append}
+use Rattle.std.proofs.KnownBytes.{Appends-trans}
+use Rattle.std.specs.Prelude.{Option, Result, Ok, Err, ◌||◌}
+use Rattle.std.specs.Io.KnownBytes.{Appends}
+use Rattle.mp_io.specs.Devices.{Rose, Text}
+use Rattle.mp_io.specs.Moments.{sunk}
+use Rattle.mp_io.specs.Printing.{Prints}
+use Rattle.mp_io.specs.Writing.{HasPut, Puts}
+use Rattle.mp_io.specs.declared.devices.Sink.{Ghosts as SinkWords}
+use Rattle.mp_io.specs.declared.writer.Writer.{Writer}
+use Rattle.mp_io.proofs.WritingLaws.{Puts-then}
+use Rattle.mp_term.specs.Signature.{Sig}
+use Rattle.mp_pattern.specs.Admission.{Rule}
+use Rattle.mp_pattern.specs.Lists.{Pair, IsAllList}
+use Rattle.mp_term.proofs.ListLaws.{drop-item}
+use Rattle.mp_text.specs.declared.file.Subject as code
+use Rattle.mp_text.specs.File.{Subject, subject_tree}
+use Rattle.mp_matches.specs.AllListed.{AreSubjectLines, more_follow, pair_line}
+use Rattle.mp_matches.specs.Matches.{IsJoinedBy}
+use Rattle.mp_matches.specs.Printed.{IsCutOff}
+use Rattle.mp_matches.specs.PrintedPairs.{PrintsUpTo, PutsUpTo}
+use Rattle.mp_matches.specs.declared.stop.Stop.{Stop}
+use Rattle.mp_matches.specs.declared.stop.Stop.TheVariants as stop
+use Rattle.mp_matches.proofs.AllListedLaws.{subject_lines-exact}
+use Rattle.mp_matches.proofs.PrintedLaws.{has_some-append, has_some-behind}
+use Rattle.mp_matches.proofs.PutLaws.{Puts-finished, PutsFront-all, PutsFront-cut_off}
+use Rattle.mp_matches.proofs.SoFar.{front-behind}
+
+-- ---- lines
+
+-- a line isn't empty
+pub length-pair_line : (sig : Sig) (rules : List Rule) (s : Subject) (p : Pair) → 0 < length (pair_line sig rules s p)
+length-pair_line sig rules s p = simp length-append (omega arith)
+
+-- ---- what was put
+
+module _ {K : Type 0} (words : SinkWords K) where
+  module _ (whole rest : Text) (u v w : Writer K) (any : Bool) (so : PutsUpTo words whole rest u v (Ok any))
+      (line next : Text) (split : rest ≡ line ++ next) (put : Puts words v w line) (some : 0 < length line) where
+    -- a line more is put
+    pub up_to-line : PutsUpTo words whole next u w (Ok true)
+    up_to-line = (
+      so.0 ++ line,
+      so.1 ∙ ap (λ t. so.0 ++ t) split ∙ sym (append_assoc so.0 line next),
+      Puts-then words u v w so.0 line so.2 put,
+      sym (has_some-behind so.0 line some),
+    )
+
+  -- it is told that others follow
+  pub up_to-more : (whole rest : Text) (u v w : Writer K) (any : Bool) → PutsUpTo words whole rest u v (Ok any)
+      → rest ≡ more_follow → Puts words v w more_follow → PutsUpTo words whole rest u w (Err stop.More)
+  up_to-more whole rest u v w any so is put =
+      let same : whole ≡ so.0 ++ more_follow = so.1 ∙ ap (λ t. so.0 ++ t) is in (
+        subst (Puts words u w) (sym same) (Puts-then words u v w so.0 more_follow so.2 put),
+        omega (arith, ap length same, length-append so.0 more_follow),
+      )
+
+  -- ---- the writer's end
+
+  module _ {T E : Type 0} (whole rest : Text) (start new : K) (u w : Writer K) (none : HasPut words start [] u) where
+    -- it ends well, and what was put is printed
+    pub up_to-finished : (value : T)
+        → ((text : Text) → HasPut words start text w → Prints {E = E} (sunk words start new) text (Ok value))
+        → (told : Result Bool Stop) → PutsUpTo words whole rest u w told
+        → PrintsUpTo whole rest (sunk words start new) told
+    up_to-finished value put (Ok any) h =
+        (h.0, h.1, Puts-finished words start new u w none value put h.0 h.2, h.3)
+    up_to-finished value put (Err stop.More) h = (Puts-finished words start new u w none value put whole h.0, h.1)
+    up_to-finished value put (Err stop.Memory) h = absurd h
+    up_to-finished value put (Err stop.CannotWrite) h = absurd h
+
+    -- a write failed, and a front was written
+    pub up_to-cut_off : (error : E)
+        → ((text : Text) → HasPut words start text w → Prints {T = T} (sunk words start new) text (Err error))
+        → (told : Result Bool Stop) → PutsUpTo words whole rest u w told → IsCutOff whole (sunk words start new)
+    up_to-cut_off error put (Ok any) h = PutsFront-cut_off words start new u w none error put whole
+        (record { front = h.0; rest = rest; split = h.1; puts = h.2 })
+    up_to-cut_off error put (Err stop.More) h =
+        PutsFront-cut_off words start new u w none error put whole (PutsFront-all words u w whole h.0)
+    up_to-cut_off error put (Err stop.Memory) h = absurd h
+    up_to-cut_off error put (Err stop.CannotWrite) h = absurd h
+
+-- ---- what is printed of one subject after the other
+
+module _ (whole rest next : Text) (a b c : Option Text) (m n k : ℕ) (any : Bool)
+    (so : PrintsUpTo whole rest (record { old = a; new = b; faults = m; faults_after = n }) (Ok any)) where
+  -- the lines of one subject more are printed
+  pub printed-more : (some : Bool)
+      → PrintsUpTo rest next (record { old = b; new = c; faults = n; faults_after = k }) (Ok some)
+      → PrintsUpTo whole next (record { old = a; new = c; faults = m; faults_after = k }) (Ok (any || some))
+  printed-more some h = (
+    so.0 ++ h.0,
+    so.1 ∙ ap (λ t. so.0 ++ t) h.1 ∙ sym (append_assoc so.0 h.0 next),
+    (Appends-trans a b c so.0 h.0 so.2.0 h.2.0, h.2.1 ∙ so.2.1),
+    ap₂ (λ (p q : Bool). p || q) so.3 h.3 ∙ sym (has_some-append so.0 h.0),
+  )
+
+  -- it ended in them
+  pub printed-ends : (e : Stop)
+      → PrintsUpTo rest next (record { old = b; new = c; faults = n; faults_after = k }) (Err e) → (last : Text)
+      → PrintsUpTo whole last (record { old = a; new = c; faults = m; faults_after = k }) (Err e)
+  printed-ends stop.More h last =
+      let longer : length whole ≡ length (so.0 ++ rest) = ap length so.1 in (
+        (subst (Appends a c) (sym so.1) (Appends-trans a b c so.0 rest so.2.0 h.0.0), h.0.1 ∙ so.2.1),
+        omega (arith, longer, length-append so.0 rest, h.1),
+      )
+  printed-ends stop.Memory h last = front-behind a b c so.0 whole rest so.2.0 h so.1
+  printed-ends stop.CannotWrite h last =
+      let longer : length whole ≡ length (so.0 ++ rest) = ap length so.1 in (
+        front-behind a b c so.0 whole rest so.2.0 h.0 so.1,
+        subst (λ f. Rose f k) so.2.1 h.1,
+        omega (arith, longer, length-append so.0 rest, h.2),
+      )
+
+module _ (sig : Sig) (rules : List Rule) (subjects : List code.Subject) (i : ℕ) (s : code.Subject)
+    (within : i < length subjects) (is : s ≡ get_or subjects i s) (pairs : List Pair)
+    (all : IsAllList sig rules (subject_tree s).term pairs) where
+  -- the lines of the subjects from an index on are those of the one there and those of the ones behind it
+  pub joined-next : (rest : List Text)
+      → IsJoinedBy (AreSubjectLines sig rules) (map subject_tree (drop i subjects)) rest
+      → (behind : List Text) × (rest ≡ map (pair_line sig rules (subject_tree s)) pairs ++ behind)
+      × IsJoinedBy (AreSubjectLines sig rules) (map subject_tree (drop (i + 1) subjects)) behind
+  joined-next rest h =
+      let parts = subst (λ ss. IsJoinedBy (AreSubjectLines sig rules) (map subject_tree ss) rest)
+      (drop-item subjects i s within is) h in (
+        parts.1,
+        parts.2 ∙ ap (λ ls. ls ++ parts.1)
+            ((subject_lines-exact sig rules (subject_tree s) pairs all parts.0).0 parts.3),
+        parts.4,
+      )

@@ -1,0 +1,180 @@
+//! The pairs that rules admit on subjects, one after the other.
+
+ghost use Rattle.std.specs.Prelude.{◌≡◌, [], ◌∷◌, ◌++◌, List, false, map, slice_get, true};
+ghost use Rattle.std.specs.List.{AllByRecursion};
+ghost use Rattle.mp_io.specs.Devices.{Text};
+ghost use Rattle.mp_io.specs.Moments.{sunk};
+ghost use Rattle.mp_io.specs.Writing.{Puts};
+ghost use Rattle.mp_subst.specs.View.{pair_of};
+ghost use Rattle.mp_text.specs.File.{file_tree, subject_tree};
+ghost use Rattle.mp_text.specs.Sound.{IsSoundFile, IsSoundSubject};
+ghost use Rattle.mp_matches.specs.AllListed.{AreSubjectLines, IsAllListed, front_lines, more_follow, name_of};
+ghost use Rattle.mp_matches.specs.AllListed.{pair_line};
+ghost use Rattle.mp_matches.specs.Listed.{lines};
+ghost use Rattle.mp_matches.specs.Matches.{IsJoinedBy};
+ghost use Rattle.mp_matches.specs.Printed.{Lists};
+ghost use Rattle.mp_matches.specs.PrintedPairs.{PrintsUpTo, PutsUpTo};
+
+use crate::fault::ListFault;
+use crate::matcher::Matcher;
+use crate::stop::Stop;
+use mp_io::{Sink, Writer};
+use mp_pattern::Rules;
+use mp_print::put_subst;
+use mp_subst::Pair;
+use mp_term::Signature;
+use mp_text::{File, Subject};
+use std::alloc::Global;
+
+// The name of the rule of that number.
+fn name_at(rules: &Rules, number: u32) -> &[u8]
+    ensures { result.now ≡ name_of (slice_get rules.now number) }
+{
+    match rules.get(number as usize) {
+        None => &[],
+        Some(rule) => rule.name.bytes(),
+    }
+}
+
+// Puts the line of a pair that the rules admit on the subject.
+fn put_pair<O: Sink>(
+    sig: &Signature,
+    rules: &Rules,
+    subject: &Subject,
+    pair: &Pair,
+    out: &mut Writer<'_, O>,
+)
+    ensures { Puts O.Sink out.old out.new
+        (pair_line sig.now rules.now (subject_tree subject.now) (pair_of pair.now)) }
+{
+    out.put_all(&[subject.name.bytes(), b" ", name_at(rules, pair.rule), b" "]);
+    put_subst(sig, &pair.subst, out);
+    out.put(b"\n");
+}
+
+// Takes one of the lines that may still be printed, and says whether there was one.
+fn take_line(left: &mut Option<u32>) -> bool
+    ensures taken { result ≡ true → (line : Text) (rest : List Text) →
+        front_lines left.old (line ∷ rest) ≡ line ++ front_lines left.new rest }
+    ensures none { result ≡ false → (line : Text) (rest : List Text) →
+        front_lines left.old (line ∷ rest) ≡ more_follow }
+{
+    match left {
+        None => true,
+        Some(0) => false,
+        Some(count) => {
+            *count -= 1;
+            true
+        }
+    }
+}
+
+// Puts the lines of a subject's pairs, as many as may be, and says whether there are any.
+fn put_pairs<O: Sink>(
+    sig: &Signature,
+    rules: &Rules,
+    subject: &Subject,
+    pairs: &[Pair],
+    left: &mut Option<u32>,
+    out: &mut Writer<'_, O>,
+) -> Result<bool, Stop>
+    ensures same { out.new.sink.ghost_name ≡ out.old.sink.ghost_name }
+    ensures puts { (rest : List Text) → PutsUpTo O.Sink (front_lines left.old
+        (map (pair_line sig.now rules.now (subject_tree subject.now)) (map pair_of pairs.now) ++ rest))
+        (front_lines left.new rest) out.old out.new result }
+{
+    let mut any = false;
+    for pair in pairs {
+        if !take_line(left) {
+            out.put(b"more\n");
+            return Err(Stop::More);
+        }
+        put_pair(sig, rules, subject, pair, out);
+        any = true;
+    }
+    Ok(any)
+}
+
+// Prints the lines of a subject's pairs, as many as may be, and says whether there are any.
+fn print_pairs<O: Sink>(
+    sig: &Signature,
+    rules: &Rules,
+    subject: &Subject,
+    pairs: &[Pair],
+    left: &mut Option<u32>,
+    out: &mut O,
+) -> Result<bool, Stop>
+    ensures { (rest : List Text) → PrintsUpTo (front_lines left.old
+        (map (pair_line sig.now rules.now (subject_tree subject.now)) (map pair_of pairs.now) ++ rest))
+        (front_lines left.new rest) (sunk O.Sink out.old out.new) result }
+{
+    let mut out = Writer::new(out);
+    let told = put_pairs(sig, rules, subject, pairs, left, &mut out);
+    out.finish()?;
+    told
+}
+
+// Prints the lines of the pairs of subjects, as many as may be, and says whether there are any.
+fn print_subjects<M: Matcher, O: Sink>(
+    alloc: Global,
+    sig: &Signature,
+    rules: &Rules,
+    subjects: &[Subject],
+    matcher: &M,
+    left: &mut Option<u32>,
+    out: &mut O,
+) -> Result<bool, Stop>
+    requires subjects { AllByRecursion (IsSoundSubject sig.now) (map subject_tree subjects.now) }
+    requires over { M.signature matcher.now ≡ sig.now }
+    requires matched { M.rules matcher.now ≡ rules.now }
+    ensures { (all : List Text) → IsJoinedBy (AreSubjectLines sig.now rules.now) (map subject_tree subjects.now) all →
+        PrintsUpTo (front_lines left.old all) (front_lines left.new []) (sunk O.Sink out.old out.new) result }
+{
+    let mut any = false;
+    for subject in subjects {
+        let pairs = matcher.pairs(alloc, sig, &subject.term)?;
+        any |= print_pairs(sig, rules, subject, pairs.as_slice(), left, out)?;
+    }
+    Ok(any)
+}
+
+/// Prints a line for each pair that the rules of the file admit on a subject, in order, and says whether there are any:
+/// `IsAllListed` of `specs/AllListed.antt`. The matcher finds the pairs, and has the signature and the rules of the
+/// file.
+///
+/// Subjects come in file order, and for each of them the pairs in the order of `IsAllList` of mp_pattern's
+/// `specs/Lists.antt`: the rules in file order, and for each rule the substitutions in their own order. The lines of a
+/// subject are written as soon as its pairs are found. At most `limit` lines are printed, where there is a limit; where
+/// more pairs follow, a last line is `more`.
+///
+/// `Memory`: memory ran out. `CannotWrite`: a write failed. A front of the lines is written then. No other fault comes.
+pub fn list_pairs<M: Matcher, O: Sink>(
+    alloc: Global,
+    file: &File,
+    matcher: &M,
+    limit: Option<u32>,
+    out: &mut O,
+) -> Result<bool, ListFault>
+    requires file { IsSoundFile (file_tree file.now) }
+    requires over { M.signature matcher.now ≡ (file_tree file.now).sig }
+    requires matched { M.rules matcher.now ≡ (file_tree file.now).rules }
+    ensures { (text : Text) → IsAllListed (file_tree file.now) limit text →
+        Lists (lines text) (sunk O.Sink out.old out.new) result }
+{
+    let mut left = limit;
+    let subjects = file.subjects.as_slice();
+    match print_subjects(
+        alloc,
+        &file.sig,
+        &file.rules,
+        subjects,
+        matcher,
+        &mut left,
+        out,
+    ) {
+        Ok(any) => Ok(any),
+        Err(Stop::More) => Ok(true),
+        Err(Stop::CannotWrite) => Err(ListFault::CannotWrite),
+        Err(Stop::Memory) => Err(ListFault::Memory),
+    }
+}
