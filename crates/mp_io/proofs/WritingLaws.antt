@@ -55,7 +55,8 @@ module _ {K : Type 0} (words : SinkWords K) where
       record { same = same; behind = λ start before h. go start before (rw going at h) result failed p }
     where
       whole : (before first : Text) → before ≡ first ++ u.room → before ++ [] ≡ (first ++ front) ++ w.room
-      whole before first is = append-nil before ∙ is ∙ ap (λ l. first ++ l) split ∙ sym (append_assoc first front w.room)
+      whole before first is =
+          append-nil before ∙ is ∙ ap (λ l. first ++ l) split ∙ sym (append_assoc first front w.room)
 
       go : {T E : Type 0} (start : K) (before : Text)
           → ((first : Text) × (before ≡ first ++ u.room)

@@ -13,11 +13,13 @@ returns c =
     let long : length all ≡ 4096 = search rules in
     let held : length (take c.self.inside.count all) ≡ min c.self.inside.count (length all) =
     length-take c.self.inside.count all in
-    let few : n ≤ c.self.inside.count = omega (arith, subst (λ l. n ≤ length l) (sym c.self.view_is) c.requires, held) in
+    let few : n ≤ c.self.inside.count =
+    omega (arith, subst (λ l. n ≤ length l) (sym c.self.view_is) c.requires, held) in
     let whole : n + left ≡ c.self.inside.count = omega (arith, few) in
     ap (take left) c.copy_within.ensures.after
     ∙ ap (λ k. take k (paste all 0 (drop n all) left)) same
-    ∙ take-paste all 0 (drop n all) left (omega (arith, long, c.self.invariant)) (omega (arith, length-drop n all, long, c.self.invariant))
+    ∙ take-paste all 0 (drop n all) left (omega (arith, long, c.self.invariant))
+    (omega (arith, length-drop n all, long, c.self.invariant))
     ∙ sym (drop-take n left all)
     ∙ ap (λ k. drop n (take k all)) whole
     ∙ ap (drop n) c.self.view_is

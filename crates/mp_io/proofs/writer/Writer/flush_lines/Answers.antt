@@ -7,6 +7,7 @@ pub returns : goal.returns
 returns g c =
     let held = c.args.self.now.room in
     let count = c.lines_len-count.result in
-    Puts-front g.K.Sink c.args.self.now _ (take count held) c.put.result refl c.if-self.false c.is_err-self.ensures.value
+    Puts-front g.K.Sink c.args.self.now _ (take count held) c.put.result refl c.if-self.false
+    c.is_err-self.ensures.value
     (sym (take-append-drop count held) ∙ ap (λ l. take count held ++ l) (sym c.drop_front.ensures))
     (rw (← c.bytes.ensures) c.put.ensures)
