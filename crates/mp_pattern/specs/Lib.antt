@@ -49,4 +49,8 @@ pub mod PlanView
 pub mod PlanCode
 pub mod UseView
 pub mod PlanFault
+pub mod NetTokens
+pub mod NetTokenView
+pub mod NetTokenCode
+pub mod NetTokenLaws
 pub mod SoundRule

@@ -10,6 +10,7 @@ mod entry;
 mod laws;
 mod limits;
 mod named;
+mod net_token;
 mod normal;
 mod order;
 mod outline;
@@ -19,6 +20,7 @@ mod planned;
 mod rule;
 mod syntactic;
 mod template;
+mod tokens;
 
 pub use above::{is_assoc_above, is_comm_above};
 pub use compile::PlanFault;
@@ -38,6 +40,7 @@ pub use limits::{
     MAX_OPERAND_NODES, MAX_PATTERN_NODES, MAX_RULES, MAX_SUBJECTS, MAX_TERM_NODES, MAX_VARIABLES,
 };
 pub use named::is_fully_named;
+pub use net_token::{NetToken, NetTokens};
 pub use normal::normalise_pattern;
 pub use order::pattern_compare;
 pub use pattern::{Pattern, Patterns, Shape, meets_count, no_sequence};
@@ -46,3 +49,4 @@ pub use planned::{PlannedRule, plan_rules};
 pub use rule::{Rule, Rules};
 pub use syntactic::is_syntactic;
 pub use template::{Template, Templates};
+pub use tokens::tokens_of;
