@@ -1,4 +1,4 @@
-mod Equality
+pub mod Equality
 mod Multisets
 mod Examples
 pub mod InstanceLaws

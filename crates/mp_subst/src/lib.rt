@@ -1,5 +1,5 @@
-//! Values of variables, substitutions and trails: how two values merge, how substitutions compare, what a template becomes
-//! under one, and the bindings of a search, which are taken back in turn.
+//! Values of variables, substitutions and trails: how two values merge, how substitutions compare, what a template
+//! becomes under one, and the bindings of a search, which are taken back in turn.
 #![tactic(auto)]
 
 mod apply_fault;

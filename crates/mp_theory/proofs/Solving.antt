@@ -152,7 +152,7 @@ bind-forms (b ∷ env) x w r e y =
         ] refl
 
 -- final values are arranged, and their merges final
-arranged-final : (sig : Sig) (v : Value) → IsFinal sig v → IsArranged v
+pub arranged-final : (sig : Sig) (v : Value) → IsFinal sig v → IsArranged v
 arranged-final sig (one t) h = tt
 arranged-final sig (seq ts) h = tt
 arranged-final sig (bag ts) h = h.1
