@@ -22,7 +22,8 @@ use Rattle.mp_search.specs.declared.stack.Place.{Place}
 use Rattle.mp_search.specs.Frames.{place_after, left_of, rest_at}
 use Rattle.mp_search.specs.Reading.{table_of, entry_at, subst_of}
 use Rattle.mp_search.specs.Wanted.{wanted, good, IsStanding, AreComplete}
-use Rattle.mp_search.specs.At.{IsAtNode, HasTrail, Keeps, KeepsLevels, items_from, items_with, own_at}
+use Rattle.mp_search.specs.At.{IsAtNode, HasTrail, Keeps, KeepsLevels, BindsOnly, items_from, items_with, own_at}
+use Rattle.mp_search.proofs.OnlyLaws.{only-same, only-then}
 use Rattle.mp_search.proofs.FoundLaws.{wanted-behind, wanted-none, first-map}
 use Rattle.mp_search.proofs.LevelsLaws.{table-from, table-drop, place-suc, place-same, entry-kept, own-kept, nothing}
 use Rattle.mp_search.proofs.LevelsLaws.{take-less}
@@ -169,12 +170,13 @@ found q k m L L1 L2 b s r v within l1 l2 same front1 front2 bound h =
 pub kept : (q : Query) (k : ℕ) (L L1 L2 : List Level) (t u v : Trail) → k < length L → KeepsLevels q k L L1
     → table_of q.table.now L1 ≡ table_of q.table.now L → cut (length t.stack) u ≡ t
     → t.spare + load (place_after q (take (k + 1) L)) ≤ u.spare + (load (place_after q (take k L)) + 3)
-    → Keeps q (k + 1) L1 L2 u v → Keeps q k L L2 t v
-kept q k L L1 L2 t u v within l same c s h = record {
+    → BindsOnly q.vars.now t u → Keeps q (k + 1) L1 L2 u v → Keeps q k L L2 t v
+kept q k L L1 L2 t u v within l same c s o h = record {
   front = take-less k L2 L1 (subst (λ i. take i L2 ≡ take i L1) (sym (one_more k)) h.front) ∙ l.front;
   many = h.many ∙ l.many;
   levels = h.levels;
   cut = cut-kept t u v c h.cut;
+  only = only-then q.vars.now t u v c h.cut o h.only;
   trail = h.trail;
   spare = omega (arith, within, s, ap load (place-same q (k + 1) L1 L same), l.many, h.spare);
 }
@@ -188,6 +190,7 @@ kept-levels q k old new t u h e g = subst (λ v. Keeps q k old new t v) (sym e)
       many = h.many;
       levels = h.levels;
       cut = cut-whole t;
+      only = only-same q.vars.now t t refl;
       trail = g;
       spare = omega arith;
     })
@@ -200,6 +203,7 @@ kept-after q k old new last t u v h e i = record {
   many = i.many ∙ h.many;
   levels = i.levels;
   cut = subst (λ w. cut (length w.stack) v ≡ w) e i.cut;
+  only = subst (λ w. BindsOnly q.vars.now w v) e i.only;
   trail = i.trail;
   spare = omega (arith, ap (λ w. w.spare) e, ap (λ ls. load (place_after q ls)) h.front, h.many, i.spare);
 }

@@ -24,7 +24,8 @@ use Rattle.mp_table.proofs.RankLaws.{rank_order}
 use Rattle.mp_theory.specs.MayMatch.{may_collapse, may_match}
 use Rattle.mp_table.specs.Subterms.{arguments}
 use Rattle.mp_search.specs.declared.headed.Group.{Group}
-use Rattle.mp_search.specs.Portion.{is_at, first_before, args_before, is_before, precedes, IsOf, occurrences, StandBetween}
+use Rattle.mp_search.specs.Portion.{is_at, first_before, args_before, is_before, precedes, IsOf, occurrences}
+use Rattle.mp_search.specs.Portion.{StandBetween}
 
 -- a number that is less than the least of some is none of them
 less-is : (f g : ℕ) → f < g → (nat_eq f g ≡ false) × (ltb f g ≡ true)

@@ -10,6 +10,7 @@ pub mod NumberLaws
 pub mod SubstLaws
 pub mod NumberedLaws
 pub mod BindLaws
+pub mod OnlyLaws
 pub mod GroundLists
 pub mod DrawnTerms
 pub mod DrawnEntries

@@ -1,5 +1,6 @@
 -- Where the terms stand that a child may match.
-use Rattle.std.proofs.Common.{◌≡◌, ℕ, ◌≤◌, ◌<◌, List, [], ◌∷◌, length, map, Bool, true, false, refl, ap, sym, ◌∙◌, subst}
+use Rattle.std.proofs.Common.{◌≡◌, ℕ, ◌≤◌, ◌<◌, List, [], ◌∷◌, length, map, Bool, true, false, refl, ap, sym, ◌∙◌}
+use Rattle.std.proofs.Common.{subst}
 use Rattle.std.proofs.Common.{get_or, eq-eqb, arith}
 use Rattle.std.proofs.lemmas.List.{length-map}
 use Rattle.std.specs.Prelude.{Option, Some, None, IfSome, option_map, nat_lt, if◌then◌else◌}
@@ -36,7 +37,8 @@ by_order past o = elim o [ Less ↦ true | Equal ↦ past | Greater ↦ false ]
 -- so many arguments compare by the first
 pub args_before-first : (t : Table) → IsTable t → (past : Bool) (c : ℕ) (o : Option Rank) (r d : Rank) (rs : List Rank)
     (w : Ordering) → HasRank t r → HasRanks t rs → o ≡ Some r → length rs ≡ c → 1 ≤ length rs
-    → nat_cmp (get_or rs 0 d).0 r.0 ≡ w → by_order past w ≡ args_before past c (option_map (term_at t) o) (terms_at t rs)
+    → nat_cmp (get_or rs 0 d).0 r.0 ≡ w
+    → by_order past w ≡ args_before past c (option_map (term_at t) o) (terms_at t rs)
 args_before-first t h past c o r d [] w k m e i l n = absurd (omega (arith, l))
 args_before-first t h past c o r d (s ∷ rs) w k m e i l n =
     let v = term_at t r in
@@ -54,8 +56,8 @@ one-item (x ∷ []) d l m = refl
 one-item (x ∷ y ∷ xs) d l m = absurd (omega (arith, m))
 
 -- the value of one rank contributes at most its term alone
-pub alone-known : (t : Table) (sig : Sig) (f : Option ℕ) (m : Form) (w : Option ℕ) (rs : List Rank) (r : Rank) (v : Tree)
-    → w ≡ None → rs ≡ r ∷ [] → is_alone_in (contributed sig f (value_from t m w rs)) v ≡ true → term_at t r ≡ v
+pub alone-known : (t : Table) (sig : Sig) (f : Option ℕ) (m : Form) (w : Option ℕ) (rs : List Rank) (r : Rank)
+    (v : Tree) → w ≡ None → rs ≡ r ∷ [] → is_alone_in (contributed sig f (value_from t m w rs)) v ≡ true → term_at t r ≡ v
 alone-known t sig f m w rs r v e i h =
     same-sound tree_cmp tree_cmp_total tree_same (term_at t r) v
     (by_form m (subst (λ ss. is_alone_in (contributed sig f (value_from t m None ss)) v ≡ true) i

@@ -15,14 +15,14 @@ use Rattle.mp_search.specs.Numbers.{IsNumberAt}
 use Rattle.mp_search.specs.Reading.{name_at, set, subst_from, subst_of}
 
 -- the value of a name that is set, and of another one
-value_of-set : (s : Subst) (x : List ℕ) (v : Value) → value_of (set s x v) x ≡ Some v
+pub value_of-set : (s : Subst) (x : List ℕ) (v : Value) → value_of (set s x v) x ≡ Some v
 value_of-set [] x v = rw (same_name-itself x) refl
 value_of-set (b ∷ s) x v =
     elim (same_name b.name x) as (λ c. same_name b.name x ≡ c
     → value_of (if c then record { name = b.name; value = v } ∷ s else b ∷ set s x v) x ≡ Some v)
     [ true ↦ λ e. rw e refl | false ↦ λ e. rw e (value_of-set s x v) ] refl
 
-value_of-set_other : (s : Subst) (y x : List ℕ) (v : Value) → same_name y x ≡ false
+pub value_of-set_other : (s : Subst) (y x : List ℕ) (v : Value) → same_name y x ≡ false
     → value_of (set s y v) x ≡ value_of s x
 value_of-set_other [] y x v h = rw h refl
 value_of-set_other (b ∷ s) y x v h =

@@ -1,6 +1,6 @@
 -- Where a search stands, what it counts on there, and what it keeps.
 use Rattle.std.specs.Prelude.{◌≡◌, ◌<◌, ◌≤◌, ◌+◌, ◌-◌, ◌*◌, ⊤, ℕ, suc, Bool, List, [], filter, length, take, slice_get}
-use Rattle.std.specs.Prelude.{Option}
+use Rattle.std.specs.Prelude.{Option, drop}
 use Rattle.std.specs.Prelude.{Some, None, option_map, MatchBool, true}
 use Rattle.std.specs.Borrow.{Bor}
 use Rattle.std.specs.List.{AllByRecursion}
@@ -111,13 +111,18 @@ items_with q k ls s e = items_by q.sig.now (length ls - suc k) (place_after q (t
 abbrev pub IsFound : Query → Bool → List Item → List Level → Trail → Type 0
 IsFound q b is ls t = MatchBool b (HasFirst q is ls t) (is ≡ [])
 
+-- what is on u's stack beyond that of t are values of these variables
+abbrev pub BindsOnly : List ℕ → Trail → Trail → Type 0
+BindsOnly vs t u = AllByRecursion (λ e. In e.var vs) (drop (length t.stack) u.stack)
+
 -- what a search keeps from node k on: the levels below, how many there are, what holds of levels, the trail below what
--- is bound, and the room but for what it was to have
+-- is bound, the variables but for those of the query, and the room but for what it was to have
 pub record Keeps (q : Query) (k : ℕ) (old new : List Level) (t u : Trail) : Type 0 where
   pub front : take k new ≡ take k old
   pub many : length new ≡ length old
   pub levels : AreLevels q.table.now (width q) new
   pub cut : cut (length t.stack) u ≡ t
+  pub only : BindsOnly q.vars.now t u
   pub trail : GoesWith q.table.now u
   pub spare : t.spare ≤ u.spare + (load (place_after q (take k old)) + 3 * (length old - k))
 

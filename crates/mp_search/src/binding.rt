@@ -3,6 +3,7 @@ ghost use Rattle.std.specs.Prelude.{◌≡◌, ◌<◌, ◌≤◌, ◌+◌, ℕ,
 ghost use Rattle.std.specs.Prelude.{IsSome};
 ghost use Rattle.std.specs.Prelude.{nat_lt, if◌then◌else◌};
 ghost use Rattle.std.specs.List.{AllByRecursion};
+ghost use Rattle.mp_term.specs.Listing.{In};
 ghost use Rattle.mp_term.specs.Sorting.{sorted};
 ghost use Rattle.mp_term.specs.Tree.{Tree};
 ghost use Rattle.mp_pattern.specs.Fits.{is_left_out};
@@ -16,6 +17,7 @@ ghost use Rattle.mp_subst.specs.Trail.{GoesWith, cut};
 ghost use Rattle.mp_theory.specs.Machine as machine;
 ghost use Rattle.mp_theory.specs.Solve as solve;
 ghost use Rattle.mp_theory.specs.Trail.{allows};
+ghost use Rattle.mp_search.specs.At.{BindsOnly};
 ghost use Rattle.mp_search.specs.Frames.{above};
 ghost use Rattle.mp_search.specs.Grounds.{ground_of};
 ghost use Rattle.mp_search.specs.Numbers.{IsNumberOf};
@@ -103,6 +105,7 @@ fn bind_value(query: &Query<'_>, var: u32, bound: &Bound<'_>, trail: &mut Trail)
         let o = solve.bind (subst_of query.now trail.old) x (value_in query.now.table.now (bound_of bound.now)) in
         MatchBool result (o ≡ Some (subst_of query.now trail.new)) (o ≡ None) }
     ensures kept { cut (length trail.old.stack) trail.new ≡ trail.old }
+    ensures only { In var query.now.vars.now → BindsOnly query.now.vars.now trail.old trail.new }
     ensures spare { trail.old.spare ≤ trail.new.spare + (length bound.now.ranks.now + 2) }
     ensures trail { GoesWith query.now.table.now trail.new }
 {
@@ -122,6 +125,7 @@ fn bind_default(query: &Query<'_>, site: &Site<'_>, var: u32, trail: &mut Trail)
         let o = solve.bind (subst_of query.now trail.old) x (one d) in
         MatchBool result (o ≡ Some (subst_of query.now trail.new)) (o ≡ None) }
     ensures kept { cut (length trail.old.stack) trail.new ≡ trail.old }
+    ensures only { In var query.now.vars.now → BindsOnly query.now.vars.now trail.old trail.new }
     ensures spare { trail.old.spare ≤ trail.new.spare + 3 }
     ensures trail { GoesWith query.now.table.now trail.new }
 {
@@ -150,6 +154,7 @@ pub(crate) fn bind(query: &Query<'_>, site: &Site<'_>, own: &Level, trail: &mut 
         (machine.said (site_place query.now site.now []) (entry_of query.now.table.now own.now)) in
         MatchBool result (o ≡ Some (subst_of query.now trail.new)) (o ≡ None) }
     ensures kept { cut (length trail.old.stack) trail.new ≡ trail.old }
+    ensures only { BindsOnly query.now.vars.now trail.old trail.new }
     ensures spare { trail.old.spare ≤ trail.new.spare + (length own.now.take.items.items + 3) }
     ensures trail { GoesWith query.now.table.now trail.new }
 {

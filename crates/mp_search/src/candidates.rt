@@ -32,7 +32,8 @@ fn alone_in(table: &Table, bound: &Bound<'_>) -> Option<Rank>
     requires { IsBoundIn table.now (bound_of bound.now) }
     ensures within { IfSome result (HasRank table.now) }
     ensures only { IfSome result (λ r. (s : Sig) (f : Option ℕ) (t : Tree) →
-        look.is_alone_in (contributed s f (value_in table.now (bound_of bound.now))) t ≡ true → term_at table.now r ≡ t) }
+        look.is_alone_in (contributed s f (value_in table.now (bound_of bound.now))) t ≡ true
+        → term_at table.now r ≡ t) }
 {
     let _ = table;
     match (bound.wrap, bound.ranks) {
@@ -149,8 +150,8 @@ pub(crate) fn places_of(
     requires ranks { HasRanks query.now.table.now list.now }
     requires ascending { IsSorted rank_cmp list.now }
     ensures within { result.1 ≤ length list.now }
-    ensures places { (f : Option ℕ) → StandBetween (λ r. look.may_match query.now.sig.now (subst_of query.now trail.now) f
-        (pattern_tree child.now) (term_at query.now.table.now r) ≡ true) list.now result.0 result.1 }
+    ensures places { (f : Option ℕ) → StandBetween (λ r. look.may_match query.now.sig.now (subst_of query.now trail.now)
+        f (pattern_tree child.now) (term_at query.now.table.now r) ≡ true) list.now result.0 result.1 }
 {
     if let Pattern::App(op, children) = child {
         let children = children.as_slice();

@@ -9,7 +9,7 @@ ghost use Rattle.mp_theory.specs.Narrow.{load};
 ghost use Rattle.mp_theory.specs.Trail.{allows};
 ghost use Rattle.mp_subst.specs.Trail.{GoesWith, cut};
 ghost use Rattle.mp_search.specs.At.{IsAt, IsAtNode, HasTrail, IsDrawn, Keeps, IsFound, drawn_at, own_at, items_from};
-ghost use Rattle.mp_search.specs.At.{items_with};
+ghost use Rattle.mp_search.specs.At.{items_with, BindsOnly};
 ghost use Rattle.mp_search.specs.Frames.{stack_frames, left_of, rest_at, place_after, start_of, IsBelow};
 ghost use Rattle.mp_search.specs.Levels.{AreLevels};
 ghost use Rattle.mp_search.specs.Query.{IsReady, width};
@@ -245,8 +245,9 @@ fn search<'a>(
 /// the table at hand, or for that one alone, where the condition holds of its substitution (`wanted` of
 /// `specs/Wanted.antt`). True says that the levels have the first table that is wanted, and the trail its substitution;
 /// false, that there is none. What was bound before is bound below (`kept`), so that an undo to the length that the
-/// trail had gives it again. Of the trail's room it takes no more than the nodes of what is left at the start, and
-/// three for each level (`spare`), whether it finds a table or not.
+/// trail had gives it again, and all that is bound are variables of the query (`only`). Of the trail's room it takes no
+/// more than the nodes of what is left at the start, and three for each level (`spare`), whether it finds a table or
+/// not.
 ///
 /// What must hold is `IsReady` of `specs/Query.antt`; where one looks for what comes after the table at hand, that is
 /// the table of an item (`IsStanding`); and where there is a condition, each item has a value for each variable
@@ -263,6 +264,7 @@ pub fn find(query: &Query<'_>, levels: &mut [Level], trail: &mut Trail, mode: Mo
     ensures many { length levels.new ≡ length levels.old }
     ensures levels { AreLevels query.now.table.now (width query.now) levels.new }
     ensures kept { cut (length trail.old.stack) trail.new ≡ trail.old }
+    ensures only { BindsOnly query.now.vars.now trail.old trail.new }
     ensures vars { trail.new.vars ≡ trail.old.vars }
     ensures room { trail.new.room ≡ trail.old.room }
     ensures spare { trail.old.spare ≤ trail.new.spare + (load (start_of query.now) + 3 * length levels.old) }

@@ -13,7 +13,7 @@ ghost use Rattle.mp_theory.specs.Items.{items, above_entry};
 ghost use Rattle.mp_theory.specs.Narrow.{load};
 ghost use Rattle.mp_theory.specs.Trail.{allows};
 ghost use Rattle.mp_search.specs.At.{IsAt, IsAtNode, HasTrail, IsDrawn, HasPool, KeepsLevels, AreInOrder, drawn_at};
-ghost use Rattle.mp_search.specs.At.{draws_at, own_at};
+ghost use Rattle.mp_search.specs.At.{draws_at, own_at, BindsOnly};
 ghost use Rattle.mp_search.specs.Frames.{stack_frames, left_of, rest_at, place_after};
 ghost use Rattle.mp_search.specs.Levels.{AreLevels};
 ghost use Rattle.mp_search.specs.Query.{IsQuery, width};
@@ -94,6 +94,7 @@ pub(crate) fn bind_at(
         (machine.said (place_after query.now (take k levels.now)) (entry_at query.now.table.now levels.now k)) in
         MatchBool result (o ≡ Some (subst_of query.now trail.new)) (o ≡ None) }
     ensures kept { cut (length trail.old.stack) trail.new ≡ trail.old }
+    ensures only { BindsOnly query.now.vars.now trail.old trail.new }
     ensures spare { trail.old.spare + load (place_after query.now (take (k + 1) levels.now))
         ≤ trail.new.spare + (load (place_after query.now (take k levels.now)) + 3) }
     ensures trail { HasTrail query.now (k + 1) levels.now trail.new }

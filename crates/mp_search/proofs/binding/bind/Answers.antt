@@ -1,4 +1,4 @@
-use Rattle.std.proofs.Common.{◌≡◌, ◌<◌, sym, subst}
+use Rattle.std.proofs.Common.{◌≡◌, ◌<◌, refl, sym, subst}
 use Rattle.std.proofs.lemmas.Bool.{and_parts}
 use Rattle.mp_term.specs.Sorting.{sorted}
 use Rattle.mp_term.proofs.ListingLaws.{all_in}
@@ -12,6 +12,7 @@ use Rattle.mp_search.specs.Numbers.{IsNumberAt}
 use Rattle.mp_subst.proofs.TrailLaws.{cut-whole}
 use Rattle.mp_search.proofs.BindLaws.{number-listed}
 use Rattle.mp_search.proofs.EndLaws.{ranks-ascend}
+use Rattle.mp_search.proofs.OnlyLaws.{only-same}
 use Rattle.mp_search.proofs.SiteLaws.{site-node}
 use Rattle.mp_search.proofs.binding.bind.Goals as goal
 
@@ -44,3 +45,7 @@ given-requires-clause-ascending c h =
     (ranks-ascend q x c.requires.query c.requires.site rs c.requires.over.0
     (and_parts (is_piece tree_cmp (comm_above q.sig.now (above x.under)) (terms_at q.table.now rs)
     (terms_at q.table.now x.left.now)) _ c.requires.allowed).0 h)
+
+pub returns-in_default-clause-only : goal.returns-in_default-clause-only
+returns-in_default-clause-only c =
+    only-same c.args.query.now.vars.now c.args.trail.now c.args.trail.now refl

@@ -138,7 +138,7 @@ pub follow-returns-clause-kept : goal.follow-returns-clause-kept
 follow-returns-clause-kept t c =
     follows.kept c.args.query.now c.args.k c.args.levels.now c.leave_at.new.levels c.descend.new.levels c.args.trail.now
     c.bind_at.new.trail c.descend.new.trail c.requires.within c.leave_at.ensures.kept c.leave_at.ensures.entries
-    c.if-not-bind_at.ensures.kept c.if-not-bind_at.ensures.spare c.descend.ensures.kept
+    c.if-not-bind_at.ensures.kept c.if-not-bind_at.ensures.spare c.if-not-bind_at.ensures.only c.descend.ensures.kept
 
 pub search-visit-requires : goal.search-visit-requires
 search-visit-requires t c =

@@ -49,7 +49,8 @@ loop-low-preserved c =
           let earlier = before-earlier t c.requires.table k past xs c.requires.ranks
           (IsNonDecreasingBy-from_sort (λ r. r.0) xs c.requires.ascending) middle i d a b e in
           let wrong : true ≡ false = sym earlier
-          ∙ (ap (λ r. precedes t k past (term_at t r)) (sym (get_or_default xs middle zero_rank d there)) ∙ found) in cc);
+          ∙ (ap (λ r. precedes t k past (term_at t r)) (sym (get_or_default xs middle zero_rank d there))
+          ∙ found) in cc);
     }
   where
     not_before : (b : Bool) → (b ≡ true → ⊥) → b ≡ false

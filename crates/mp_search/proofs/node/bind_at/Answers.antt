@@ -1,9 +1,10 @@
-use Rattle.std.proofs.Common.{◌+◌, ◌≤◌, ◌∙◌, ap, subst, length, sym}
+use Rattle.std.proofs.Common.{◌+◌, ◌≤◌, ◌∙◌, ap, subst, length, sym, refl}
 use Rattle.mp_pattern.specs.View.{pattern_tree, wildcard}
 use Rattle.mp_search.specs.Reading.{subst_of}
 use Rattle.mp_subst.proofs.TrailLaws.{cut-whole}
 use Rattle.mp_search.proofs.BindAtLaws.{wild-room, wild-trail, wild-spare, plain-trail, plain-bound}
 use Rattle.mp_search.proofs.BindAtLaws.{plain-spare, length-taken}
+use Rattle.mp_search.proofs.OnlyLaws.{only-same}
 use Rattle.mp_search.proofs.node.bind_at.Goals as goal
 
 pub bind-requires-clause-spare : goal.bind-requires-clause-spare
@@ -52,6 +53,7 @@ returns-in_default c =
     record {
       bound = plain-bound q k L p r.within r.place r.allowed (subst_of q c.args.trail.now) c.in_default.not-Wild;
       kept = cut-whole c.args.trail.now;
+      only = only-same q.vars.now c.args.trail.now c.args.trail.now refl;
       spare = plain-spare q k L p r.within r.place r.allowed c.args.trail.now;
       trail = plain-trail q k L p r.within r.place r.allowed c.args.trail.now r.trail;
     }

@@ -3,7 +3,8 @@ use Rattle.mp_table.specs.Table.{HasRanks, terms_at}
 use Rattle.mp_search.specs.Reading.{subst_of}
 use Rattle.mp_search.proofs.MadeLaws.{made}
 use Rattle.mp_search.proofs.OpenLaws.{left-sorted}
-use Rattle.mp_search.proofs.PoolLaws.{lacking-nothing, bounds-nothing, bounds-front, bounds-pool, pool-sorted, ranks-among}
+use Rattle.mp_search.proofs.PoolLaws.{lacking-nothing, bounds-nothing, bounds-front, bounds-pool, pool-sorted}
+use Rattle.mp_search.proofs.PoolLaws.{ranks-among}
 use Rattle.mp_search.proofs.prepare.draw_open.Goals as goal
 
 pub returns-then-bounds-clause-made : goal.returns-then-bounds-clause-made
