@@ -1,6 +1,7 @@
 pub mod Steps
 pub mod Listed
 pub mod Lexicographic
+pub mod Tests
 pub mod SplitLaws
 pub mod SplitLoops
 pub mod SplitListing
@@ -9,3 +10,6 @@ pub mod SubBagOrder
 pub mod SubBagLoops
 pub mod SubBagListing
 pub mod SubBagClasses
+pub mod EquationLaws
+pub mod EquationLoops
+pub mod EquationListing

@@ -3,7 +3,6 @@ use Rattle.std.proofs.Common.{◌≡◌, ℕ, ◌≤◌, List, [], ◌∷◌, Bo
 use Rattle.std.proofs.Common.{Option, subst, refl}
 use Rattle.std.specs.Prelude.{◌&&◌, ◌==◌, nat_le, IfSome, MatchBool}
 use Rattle.std.specs.List.{AllZip}
-use Rattle.std.proofs.lemmas.Bool.Decides.{nat_tests}
 use Rattle.std.proofs.lemmas.Cmp.{nat_list_cmp_total}
 use Rattle.std.proofs.lemmas.Slice.Zip.{AllZip-long}
 use Rattle.std.proofs.lemmas.Bool.{and_parts, and_from}
@@ -15,12 +14,7 @@ use Rattle.mp_choice.specs.SplitSteps.{IsNextOfSum, IsLastOfSum}
 use Rattle.mp_choice.specs.SplitList.{at_most, are_within, splits_of}
 use Rattle.mp_choice.proofs.Lexicographic.{lex, each-sum}
 use Rattle.mp_choice.proofs.Listed.{in-number_lists, listing-distinct}
-
-pub nat_le-from : (m n : ℕ) → m ≤ n → nat_le m n ≡ true
-nat_le-from m n h = grind (arith, nat_tests)
-
-pub le_from-nat_le : (m n : ℕ) → nat_le m n ≡ true → m ≤ n
-le_from-nat_le m n h = grind (arith, nat_tests)
+use Rattle.mp_choice.proofs.Tests.{nat_le-from, le_from-nat_le, eq_test, eq_from}
 
 most_test : (o : Option ℕ) (n : ℕ) → IfSome o (λ most. n ≤ most) → at_most o n ≡ true
 most_test None n h = refl
@@ -45,12 +39,6 @@ within_from (p ∷ ps) (n ∷ ns) h =
     let a = and_parts (nat_le p.least n && at_most p.most n) (are_within ps ns) h in
     let b = and_parts (nat_le p.least n) (at_most p.most n) a.0 in
     (record { least = le_from-nat_le p.least n b.0; most = most_from p.most n b.1 }, within_from ps ns a.1)
-
-eq_test : (m n : ℕ) → m ≡ n → (m == n) ≡ true
-eq_test m n h = grind (arith, nat_tests)
-
-eq_from : (m n : ℕ) → (m == n) ≡ true → m ≡ n
-eq_from m n h = grind (arith, nat_tests)
 
 pub splits_of-listing : (total : ℕ) (ps : List Part) → AreSplits total ps (splits_of total ps)
 unfolding splits_of

@@ -13,7 +13,7 @@ use Rattle.mp_choice.specs.SubBagSteps.{IsFilled, IsLastOfSize, IsNextOfSize}
 use Rattle.mp_choice.specs.SubBagList.{counts_order, all_at_most, sub_bags_of}
 use Rattle.mp_choice.proofs.Lexicographic.{lex, each-sum, less_then}
 use Rattle.mp_choice.proofs.Listed.{in-number_lists, listing-distinct}
-use Rattle.mp_choice.proofs.SplitListing.{nat_le-from, le_from-nat_le}
+use Rattle.mp_choice.proofs.Tests.{nat_le-from, le_from-nat_le}
 use Rattle.mp_choice.proofs.SubBagLaws.{bag_le, length-sub_bag}
 use Rattle.mp_choice.proofs.SubBagOrder.{counts_order_total, counts_order_same, order_first, order_second, ascends_too}
 

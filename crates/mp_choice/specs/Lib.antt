@@ -8,3 +8,7 @@ pub mod SubBags
 pub mod SubBagSteps
 pub mod SubBagList
 pub mod SubBagsView
+pub mod Equations
+pub mod EquationSteps
+pub mod EquationList
+pub mod EquationsView

@@ -6,6 +6,7 @@ ghost use Rattle.mp_choice.specs.Choices.{Choices, advanced_by};
 ghost use Rattle.mp_choice.specs.declared.splits.Part.{Part};
 ghost use Rattle.mp_choice.specs.Splits.{AreSplits};
 ghost use Rattle.mp_choice.specs.SubBags.{classes, AreSubBags};
+ghost use Rattle.mp_choice.specs.Equations.{AreSolutions};
 
 /// Steps give the items in turn: k steps leave all but the first k of the items still to come, and one step more stands
 /// at the item with index k, counted from 0, exactly where there is one. By `advanced_by` of `specs/Choices.antt`.
@@ -31,4 +32,10 @@ pub fn list_of_sub_bags_is_unique()
 pub fn sub_bags_are_those_of_the_theory()
     ensures { (counts : List ℕ) (bags : List (List ℕ)) → AreSubBags counts bags →
         map classes bags ≡ sub_bags nat_cmp (classes counts) }
+{}
+
+/// An equation has one list of solutions: two lists that meet `AreSolutions` of `specs/Equations.antt` are equal.
+pub fn list_of_solutions_is_unique()
+    ensures { (coefficients : List ℕ) (total : ℕ) (xs ys : List (List ℕ)) →
+        AreSolutions coefficients total xs → AreSolutions coefficients total ys → xs ≡ ys }
 {}

@@ -2,6 +2,8 @@
 //! time.
 #![tactic(auto)]
 
+mod equation_fault;
+mod equations;
 mod laws;
 mod limits;
 mod room;
@@ -9,9 +11,11 @@ mod splits;
 mod stage;
 mod sub_bags;
 
+pub use equation_fault::EquationFault;
+pub use equations::Equations;
 pub use laws::{
-    list_of_splits_is_unique, list_of_sub_bags_is_unique, steps_give_the_items_in_turn,
-    sub_bags_are_those_of_the_theory,
+    list_of_solutions_is_unique, list_of_splits_is_unique, list_of_sub_bags_is_unique,
+    steps_give_the_items_in_turn, sub_bags_are_those_of_the_theory,
 };
 pub use limits::MAX_TOTAL;
 pub use splits::{Part, Splits};

@@ -14,11 +14,10 @@ use Rattle.mp_term.proofs.ListingLaws.{in-from_contains, contains-from_in}
 use Rattle.mp_choice.specs.Listed.{number_lists, IsFirst, HasNone, IsNext, IsLast}
 use Rattle.mp_choice.proofs.Lexicographic.{lex, less_head, less_tail, less_cases}
 use Rattle.mp_choice.proofs.Listed.{in-number_lists, listing-distinct}
-use Rattle.mp_choice.proofs.SplitListing.{nat_le-from, le_from-nat_le}
+use Rattle.mp_choice.proofs.Tests.{nat_le-from, le_from-nat_le, eq_test, eq_from}
 use Rattle.mp_pair.specs.Pairings.{IsPairing, ArePairings}
 use Rattle.mp_pair.specs.PairingList.{one_each, within, pairings_of}
 use Rattle.mp_pair.specs.PairingSteps.{Below, IsFirstAt, NoneAt, IsFront}
-use Rattle.mp_pair.proofs.Tests.{eq_test, eq_from}
 use Rattle.mp_pair.proofs.PairLaws.{zip_length, zip-drop, uses_front}
 use Rattle.mp_pair.proofs.SearchLaws.{front_below, wider}
 

@@ -16,8 +16,7 @@ use Rattle.mp_choice.proofs.Lexicographic.{lex, less_head, less_tail}
 use Rattle.mp_choice.proofs.Listed.{in-number_lists}
 use Rattle.mp_pair.specs.Pairings.{IsPairing}
 use Rattle.mp_pair.specs.PairingSteps.{IsNextClass, HasNoClass, Below, IsFirstAt, NoneAt, IsFront}
-use Rattle.mp_pair.proofs.Tests.{eq_test, eq_from}
-use Rattle.mp_pair.proofs.Lists.{filter_less, is_less}
+use Rattle.mp_choice.proofs.Tests.{eq_test, eq_from, filter_less, is_less}
 use Rattle.mp_pair.proofs.PairLaws.{not_below_itself, below_from_less, below-push, passed-push, below-back, passed-back}
 use Rattle.mp_pair.proofs.PairLaws.{all_zip-at, zip_length, zip-push, zip-drop}
 

@@ -12,7 +12,7 @@ use Rattle.mp_choice.specs.Listed.{HasNone}
 use Rattle.mp_pair.specs.Pairings.{IsPairing}
 use Rattle.mp_pair.specs.PairingSteps.{HasRoom, IsDeadEnd}
 use Rattle.mp_pair.specs.Tight.{is_marked, held_by, marked_sum, room_of}
-use Rattle.mp_pair.proofs.Tests.{eq_test, eq_from}
+use Rattle.mp_choice.proofs.Tests.{eq_test, eq_from}
 use Rattle.mp_pair.proofs.PairLaws.{uses, uses_front}
 
 -- one where the class is the number
