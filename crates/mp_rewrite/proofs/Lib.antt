@@ -8,3 +8,7 @@ pub mod PutBack
 pub mod Places
 pub mod FirstRedexes
 pub mod StepsInPlace
+pub mod LeastItems
+pub mod TradeItems
+pub mod TradeSteps
+pub mod TradeTurns

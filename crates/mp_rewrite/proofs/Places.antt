@@ -93,7 +93,7 @@ sorted-from_ascends f (y ∷ z ∷ ys) h (suc k) d n l =
     subst (λ m. is_lt (tree_cmp (f (get_or (y ∷ z ∷ ys) m d)) (f (get_or (z ∷ ys) k d))) ≡ false) e
     (sorted-from_ascends f (z ∷ ys) h.1 k d (omega arith) (omega arith))
 
-map-get_or : {Y : Type 0} (f : Y → Tree) (ys : List Y) (k : ℕ) (d : Tree) (e : Y) → k < length ys
+pub map-get_or : {Y : Type 0} (f : Y → Tree) (ys : List Y) (k : ℕ) (d : Tree) (e : Y) → k < length ys
     → get_or (map f ys) k d ≡ f (get_or ys k e)
 map-get_or f [] k d e l = absurd (omega arith)
 map-get_or f (y ∷ ys) zero d e l = refl
@@ -112,7 +112,7 @@ slice_get-holds f [] i x l h = absurd (omega arith)
 slice_get-holds f (y ∷ ys) zero x l h = ap Some (tree_same (f y) x (h y))
 slice_get-holds f (y ∷ ys) (suc i) x l h = slice_get-holds f ys i x (omega arith) (λ d. h d)
 
-first_of : {Y : Type 0} (ys : List Y) (k : ℕ) → k < length ys → Y
+pub first_of : {Y : Type 0} (ys : List Y) (k : ℕ) → k < length ys → Y
 first_of [] k l = absurd (omega arith)
 first_of (y ∷ ys) k l = y
 

@@ -40,7 +40,8 @@ last-removed (y ∷ []) zero x n e = let s : x ≡ y = cc in ap (λ z. z ∷ [])
 last-removed (y ∷ z ∷ xs) zero x n e = absurd (omega (arith, n))
 last-removed (y ∷ xs) (suc i) x n e = ap (λ ys. y ∷ ys) (last-removed xs i x (omega (arith, n)) e)
 
-tally-append : (z : Tree) (xs ys : List Tree) → tally tree_cmp z (xs ++ ys) ≡ tally tree_cmp z xs + tally tree_cmp z ys
+pub tally-append : (z : Tree) (xs ys : List Tree)
+    → tally tree_cmp z (xs ++ ys) ≡ tally tree_cmp z xs + tally tree_cmp z ys
 tally-append z [] ys = omega arith
 tally-append z (x ∷ xs) ys = omega (arith, tally-append z xs ys)
 
@@ -58,7 +59,7 @@ tally-around z i ts us =
     )
 
 -- lists with the same trees are sorted alike
-sorted_same : (xs ys : List Tree) → ((z : Tree) → tally tree_cmp z xs ≡ tally tree_cmp z ys)
+pub sorted_same : (xs ys : List Tree) → ((z : Tree) → tally tree_cmp z xs ≡ tally tree_cmp z ys)
     → sorted tree_cmp xs ≡ sorted tree_cmp ys
 sorted_same xs ys t =
     one_order tree_cmp tree_cmp_total tree_same (sorted tree_cmp xs) (sorted tree_cmp ys)
@@ -88,7 +89,7 @@ at_least-remove t [] (suc i) h = tt
 at_least-remove t (u ∷ ts) zero h = h.1
 at_least-remove t (u ∷ ts) (suc i) h = (h.0, at_least-remove t ts i h.1)
 
-ascends-remove : (ts : List Tree) (i : ℕ) → Ascends tree_cmp ts → Ascends tree_cmp (remove ts i)
+pub ascends-remove : (ts : List Tree) (i : ℕ) → Ascends tree_cmp ts → Ascends tree_cmp (remove ts i)
 ascends-remove [] zero h = tt
 ascends-remove [] (suc i) h = tt
 ascends-remove (t ∷ ts) zero h = h.1
@@ -150,7 +151,7 @@ module _ (sig : Sig) (f : ℕ) where
   stays t false q e = rw q refl
 
   -- what the test says of one argument
-  passes-here : (t : Tree) (ts : List Tree) → all_pass sig f (trees (t ∷ ts)) ≡ true
+  pub passes-here : (t : Tree) (ts : List Tree) → all_pass sig f (trees (t ∷ ts)) ≡ true
       → (normal sig t ≡ t) × (parts sig f t ≡ t ∷ []) × (all_pass sig f (trees ts) ≡ true)
   passes-here t ts h =
       let p = and_parts _ _ h in
@@ -158,7 +159,7 @@ module _ (sig : Sig) (f : ℕ) where
       (normal-passes sig t q.0, stays t (is_assoc sig f) refl (not-true _ q.1), p.1)
 
   -- arguments that pass stay as they are
-  kept : (ts : List Tree) → all_pass sig f (trees ts) ≡ true → flattened sig f (normals sig (trees ts)) ≡ ts
+  pub kept : (ts : List Tree) → all_pass sig f (trees ts) ≡ true → flattened sig f (normals sig (trees ts)) ≡ ts
   kept [] h = refl
   kept (t ∷ ts) h =
       let p = passes-here t ts h in

@@ -13,3 +13,4 @@ pub mod MarkSize
 pub mod MarkFalls
 pub mod Known
 pub mod Turn
+pub mod Trade

@@ -36,7 +36,7 @@ struct MarkedArgs {
 }
 
 // Where the term goes among the arguments of the operation: to the index, or where they ascend to its place.
-fn place(sig: &Signature, op: OpId, terms: &Terms, index: usize, term: &Term) -> usize
+pub(crate) fn place(sig: &Signature, op: OpId, terms: &Terms, index: usize, term: &Term) -> usize
     requires { index ≤ length terms.now }
     ensures within { result ≤ length terms.now }
     ensures index { is_comm sig.now op.0 ≡ false → result ≡ index }

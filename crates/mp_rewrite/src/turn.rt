@@ -21,6 +21,7 @@ use crate::in_place::{Marked, put_in};
 use crate::known_redex::{KnownRedex, first_known_redex};
 use crate::redex::Redex;
 use crate::stop::Stop;
+use crate::traded::{first_traded, make};
 use crate::valid::signature_is_valid;
 use mp_pattern::PlannedRule;
 use mp_subst::{ApplyFault, apply};
@@ -131,6 +132,12 @@ pub(crate) fn take_turn(
     ensures here { IfOk result (IsNextTurn sig.now (map planned_rule rules.now)) }
 {
     signature_is_valid(sig);
+    if let Some(traded) = first_traded(sig, rules, &here.term) {
+        return match make(alloc, sig, here, &traded) {
+            Ok(next) => Ok(Turn::Made(next)),
+            Err(Memory) => Err(Stop::Memory),
+        };
+    }
     let Marked { term, known, nodes } = here;
     match first_known_redex(alloc, sig, rules, &term, known) {
         Err(Memory) => Err(Stop::Memory),

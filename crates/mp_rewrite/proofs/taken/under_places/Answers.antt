@@ -1,0 +1,23 @@
+use Rattle.std.proofs.Common.{refl, map}
+use Rattle.mp_term.specs.View.{tree}
+use Rattle.mp_rewrite.proofs.FirstRedexes.{mapped-at}
+use Rattle.mp_rewrite.proofs.TradeSteps.{under-here, under-step}
+use Rattle.mp_rewrite.proofs.taken.under_places.Goals as goal
+
+pub returns-in-At : goal.returns-in-At
+returns-in-At c =
+    let xs = c.args.args.now in
+    let i = c.loop-index.index in
+    let a = c.index-args-index.result in
+    under-here c.args.op.0 c.args.inner.0 (map tree xs) i c.in-At.found (tree a)
+    (mapped-at tree xs (map tree xs) i a refl c.loop-index-test.true c.index-args-index.is) c.in-At.ensures
+    c.loop-index.invariant
+
+pub loop-index-preserved : goal.loop-index-preserved
+loop-index-preserved c =
+    let xs = c.args.args.now in
+    let i = c.loop-index.index in
+    let a = c.index-args-index.result in
+    under-step c.args.op.0 c.args.inner.0 (map tree xs) i (tree a)
+    (mapped-at tree xs (map tree xs) i a refl c.loop-index-test.true c.index-args-index.is) c.in-No.ensures
+    c.loop-index.invariant
