@@ -1,0 +1,16 @@
+pub mod Taken
+pub mod Obeyed
+pub mod Below
+pub mod ListLaws
+pub mod BehindLaws
+pub mod QueryLaws
+pub mod PlanNodes
+pub mod LookLaws
+pub mod NameNumbers
+pub mod MovedLaws
+pub mod SearchLaws
+pub mod StepLaws
+pub mod SubpatternLaws
+pub mod MatcherLaws
+pub mod BeginLaws
+pub mod EntryLaws

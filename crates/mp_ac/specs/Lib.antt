@@ -1,0 +1,12 @@
+pub mod Children
+pub mod CommItems
+pub mod CommList
+pub mod CommQuery
+pub mod Args
+pub mod CommPlan
+pub mod CommRoom
+pub mod Stage
+pub mod Asked
+pub mod Moved
+pub mod Search
+pub mod Matcher
