@@ -1,0 +1,12 @@
+pub mod Instrs
+pub mod InstrView
+pub mod InstrCode
+pub mod Forests
+pub mod CodeForest
+pub mod CodeConstants
+pub mod TokenMachine
+pub mod SoundTokens
+pub mod Walkable
+pub mod WalkItems
+pub mod Ways
+pub mod Visits

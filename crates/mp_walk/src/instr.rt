@@ -1,0 +1,144 @@
+//! Tables of instructions.
+ghost use Rattle.std.specs.Prelude.{◌≡◌, ℕ, List, [], ◌∷◌, ◌++◌, length, map, slice_get, OnOk, OnErr, option_map};
+ghost use Rattle.mp_walk.specs.InstrView.{plain_instr};
+
+use mp_pattern::NetToken;
+use mp_term::Memory;
+use std::alloc::Global;
+use std::marker::Model;
+
+/// A list of numbers, seen by contracts as the list of them.
+#[derive(Drop)]
+pub struct Numbers {
+    items: Vec<u32>,
+}
+
+impl Model for Numbers {
+    ghost use Rattle.std.specs.Prelude.{ℕ, List};
+    ghost use Rattle.std.specs.Coded.{coded_list, coded_ℕ};
+
+    ghost Value = { List ℕ };
+
+    ghost coded = { coded_list coded_ℕ };
+
+    ghost view = { λ ns. ns.items.items };
+}
+
+impl Numbers {
+    /// The empty list. It takes no memory.
+    pub fn new(alloc: Global) -> Self
+        ensures { result ≡ [] }
+    {
+        Numbers {
+            items: Vec::new(alloc),
+        }
+    }
+
+    /// Adds a number at the end. For want of memory it answers `Memory` and leaves the list as it was.
+    pub fn push(&mut self, item: u32) -> Result<(), Memory>
+        ensures ok { OnOk result (self.new ≡ self.old ++ item ∷ []) }
+        ensures err { OnErr result (self.new ≡ self.old) }
+    {
+        self.items.push(item)?;
+        Ok(())
+    }
+
+    /// How many numbers there are.
+    pub fn len(&self) -> usize
+        ensures { result ≡ length self.now }
+    {
+        self.items.len()
+    }
+
+    /// The number at the index, from 0. It is None exactly where the index isn't below the length.
+    pub fn get(&self, index: usize) -> Option<&u32>
+        ensures { slice_get self.now index ≡ option_map (λ n. n.now) result }
+    {
+        self.items.get(index)
+    }
+
+    /// The numbers in order.
+    pub fn as_slice(&self) -> &[u32]
+        ensures { result.now ≡ self.now }
+    {
+        &self.items
+    }
+}
+
+/// An instruction: it reads one token. A table's instructions are numbered from 1, and so are targets.
+/// Contracts see it as the record `plain_instr` of `specs/InstrView.antt`.
+#[derive(Drop)]
+pub struct Instr {
+    /// What it reads.
+    pub token: NetToken,
+    /// The instruction that reads what comes after the token, where one does.
+    pub down: Option<u32>,
+    /// The instruction that reads another token in its place, where one does.
+    pub over: Option<u32>,
+    /// What is accepted after the token.
+    pub accepts: Numbers,
+}
+
+/// A list of instructions, seen by contracts as the list of their records. `specs/Walkable.antt` says when it can be
+/// walked.
+#[derive(Drop)]
+pub struct Instrs {
+    items: Vec<Instr>,
+}
+
+impl Model for Instrs {
+    ghost use Rattle.std.specs.Prelude.{List, map};
+    ghost use Rattle.std.specs.Coded.{coded_list};
+    ghost use Rattle.mp_walk.specs.Instrs as plain;
+    ghost use Rattle.mp_walk.specs.InstrCode.{coded_instr};
+
+    ghost Value = { List plain.Instr };
+
+    ghost coded = { coded_list coded_instr };
+
+    ghost use Rattle.mp_walk.specs.InstrView.{plain_instr};
+
+    ghost view = { λ is. map plain_instr is.items.items };
+}
+
+impl Instrs {
+    /// The empty list. It takes no memory.
+    pub fn new(alloc: Global) -> Self
+        ensures { result ≡ [] }
+    {
+        Instrs {
+            items: Vec::new(alloc),
+        }
+    }
+
+    /// Adds an instruction at the end. For want of memory it answers `Memory`, drops the instruction and leaves the
+    /// list as it was.
+    pub fn push(&mut self, item: Instr) -> Result<(), Memory>
+        ensures ok { OnOk result (self.new ≡ self.old ++ plain_instr item ∷ []) }
+        ensures err { OnErr result (self.new ≡ self.old) }
+    {
+        self.items.push(item)?;
+        Ok(())
+    }
+
+    /// How many instructions there are.
+    pub fn len(&self) -> usize
+        ensures { result ≡ length self.now }
+    {
+        self.items.len()
+    }
+
+    /// The instruction at the index, from 0. It is None exactly where the index isn't below the length.
+    pub fn get(&self, index: usize) -> Option<&Instr>
+        ensures { slice_get self.now index ≡ option_map (λ i. plain_instr i.now) result }
+    {
+        self.items.get(index)
+    }
+
+    /// The instructions in order.
+    pub fn as_slice(&self) -> &[Instr]
+        ensures { map plain_instr result.now ≡ self.now }
+    {
+        &self.items
+    }
+}
