@@ -1,0 +1,213 @@
+-- The steps of the making of groups and rows, over plain lists.
+use Rattle.std.proofs.Common.{◌≡◌, ◌<◌, ◌≤◌, ℕ, zero, suc, ◌+◌, List, [], ◌∷◌, ◌++◌, map, length, take, drop, set}
+use Rattle.std.proofs.Common.{get_or, Bool}
+use Rattle.std.proofs.Common.{true, false, refl, ap, sym, ◌∙◌, subst, arith, append-nil, append_assoc, drop-cons}
+use Rattle.std.proofs.Common.{nat_lt}
+use Rattle.std.specs.Prelude.{Option, Some, None, is_some, option_map, if◌then◌else◌, flat_map, slice_get}
+use Rattle.std.specs.List.{AllByRecursion}
+use Rattle.std.proofs.lemmas.List.{length-append}
+use Rattle.std.proofs.lemmas.Bool.Decides.{nat_tests}
+use Rattle.mp_pattern.specs.NetTokens.{NetToken, same_token}
+use Rattle.mp_walk.specs.Instrs.{Instr}
+use Rattle.mp_walk.specs.Walkable.{Path}
+use Rattle.mp_many.specs.Laid.{Numbered, bare, left_after, ended, target, each_laid, laid, unlinked, linked}
+use Rattle.mp_many.specs.Groups.{Group, entered, grouped, left_at}
+use Rattle.mp_many.proofs.GroupLaws.{entered_first, entered_all, AreWithin}
+
+-- ---- one list more
+
+pub get_or-same : {X : Type 0} (xs : List X) (n : ℕ) (d e : X) → n < length xs → get_or xs n d ≡ get_or xs n e
+get_or-same [] n d e h = absurd (omega (arith, h))
+get_or-same (x ∷ xs) zero d e h = refl
+get_or-same (x ∷ xs) (suc n) d e h = get_or-same xs n d e (omega (arith, h))
+
+pub drop-next : {X : Type 0} (xs : List X) (i : ℕ) (d : X) → i < length xs → drop i xs ≡ get_or xs i d ∷ drop (i + 1) xs
+drop-next xs i d h = let e : suc i ≡ i + 1 = omega arith in
+    drop-cons xs i d h ∙ ap (λ j. get_or xs i d ∷ drop j xs) e
+
+-- the list of the next number
+pub left-step : (lists : List Path) (place : ℕ) (ns : List ℕ) (i : ℕ) (l : Path) → i < length ns
+    → AreWithin lists (drop i ns) → l ≡ get_or lists (get_or ns i 0) l
+    → left_at lists place (drop i ns) ≡ (get_or ns i 0, drop place l) ∷ left_at lists place (drop (i + 1) ns)
+left-step lists place ns i l h w e =
+    let d = drop-next ns i 0 h in
+    let v : AreWithin lists (get_or ns i 0 ∷ drop (i + 1) ns) = subst (AreWithin lists) d w in
+    ap (left_at lists place) d
+    ∙ ap (λ m. (get_or ns i 0, drop place m) ∷ left_at lists place (drop (i + 1) ns))
+    (get_or-same lists (get_or ns i 0) [] l v.0 ∙ sym e)
+
+pub within-step : (lists : List Path) (ns : List ℕ) (i : ℕ) → i < length ns → AreWithin lists (drop i ns)
+    → (get_or ns i 0 < length lists) × AreWithin lists (drop (i + 1) ns)
+within-step lists ns i h w =
+    let v : AreWithin lists (get_or ns i 0 ∷ drop (i + 1) ns) = subst (AreWithin lists) (drop-next ns i 0 h) w in
+    (v.0, v.1)
+
+-- what is entered of it, where it has a token at the place
+abbrev pub entered_by : List Group → ℕ → Option NetToken → List Group
+entered_by gs n None = gs
+entered_by gs n (Some k) = entered gs k n
+
+abbrev pub ended_by : ℕ → Option NetToken → List ℕ
+ended_by n None = n ∷ []
+ended_by n (Some k) = []
+
+entered-by : (gs : List Group) (n place : ℕ) (l : Path)
+    → entered_first gs (n, drop place l) ≡ entered_by gs n (slice_get l place)
+entered-by gs n zero [] = refl
+entered-by gs n (suc place) [] = refl
+entered-by gs n zero (k ∷ l) = refl
+entered-by gs n (suc place) (k ∷ l) = entered-by gs n place l
+
+ended-by : (n place : ℕ) (l : Path) → ended (n, drop place l) ≡ ended_by n (slice_get l place)
+ended-by n zero [] = refl
+ended-by n (suc place) [] = refl
+ended-by n zero (k ∷ l) = refl
+ended-by n (suc place) (k ∷ l) = ended-by n place l
+
+pub entered-step : (lists : List Path) (place : ℕ) (ns : List ℕ) (i : ℕ) (l : Path) (gs : List Group)
+    (o : Option NetToken) → i < length ns → AreWithin lists (drop i ns) → l ≡ get_or lists (get_or ns i 0) l
+    → slice_get l place ≡ o → entered_all gs (left_at lists place (drop i ns))
+    ≡ entered_all (entered_by gs (get_or ns i 0) o) (left_at lists place (drop (i + 1) ns))
+entered-step lists place ns i l gs o h w e g = ap (entered_all gs) (left-step lists place ns i l h w e)
+    ∙ ap (λ hs. entered_all hs (left_at lists place (drop (i + 1) ns)))
+    (entered-by gs (get_or ns i 0) place l ∙ ap (entered_by gs (get_or ns i 0)) g)
+
+pub ended-step : (lists : List Path) (place : ℕ) (ns : List ℕ) (i : ℕ) (l : Path) (o : Option NetToken)
+    → i < length ns → AreWithin lists (drop i ns) → l ≡ get_or lists (get_or ns i 0) l → slice_get l place ≡ o
+    → flat_map ended (left_at lists place (drop i ns))
+    ≡ ended_by (get_or ns i 0) o ++ flat_map ended (left_at lists place (drop (i + 1) ns))
+ended-step lists place ns i l o h w e g = ap (flat_map ended) (left-step lists place ns i l h w e)
+    ∙ ap (λ ms. ms ++ flat_map ended (left_at lists place (drop (i + 1) ns)))
+    (ended-by (get_or ns i 0) place l ∙ ap (ended_by (get_or ns i 0)) g)
+
+-- ---- one number more
+
+-- a group of another token is passed
+pub entered-pass : (gs : List Group) (k : NetToken) (n i : ℕ) (d : Group) → i < length gs
+    → same_token (get_or gs i d).0 k ≡ false → entered gs k n ≡ take i gs ++ entered (drop i gs) k n
+    → entered gs k n ≡ take (i + 1) gs ++ entered (drop (i + 1) gs) k n
+entered-pass gs k n i d h s e = e ∙ passed gs i h s
+  where
+    passed : (hs : List Group) (j : ℕ) → j < length hs → same_token (get_or hs j d).0 k ≡ false
+        → take j hs ++ entered (drop j hs) k n ≡ take (j + 1) hs ++ entered (drop (j + 1) hs) k n
+    passed [] j h s = absurd (omega (arith, h))
+    passed (g ∷ hs) zero h s = rw s refl
+    passed (g ∷ hs) (suc j) h s =
+        let q : suc (j + 1) ≡ suc j + 1 = omega arith in
+        ap (λ xs. g ∷ xs) (passed hs j (omega (arith, h)) s)
+        ∙ ap (λ m. take m (g ∷ hs) ++ entered (drop m (g ∷ hs)) k n) q
+
+-- the group with a number more
+abbrev pub pushed : Group → ℕ → Group
+pushed g n = (g.0, g.1 ++ n ∷ [])
+
+-- the number is entered into the group of its token
+pub entered-at : (gs : List Group) (k : NetToken) (n i : ℕ) (d : Group) → i < length gs
+    → same_token (get_or gs i d).0 k ≡ true → entered gs k n ≡ take i gs ++ entered (drop i gs) k n
+    → entered gs k n ≡ set gs i (pushed (get_or gs i d) n)
+entered-at gs k n i d h s e = e ∙ found gs i h s
+  where
+    found : (hs : List Group) (j : ℕ) → j < length hs → same_token (get_or hs j d).0 k ≡ true
+        → take j hs ++ entered (drop j hs) k n ≡ set hs j (pushed (get_or hs j d) n)
+    found [] j h s = absurd (omega (arith, h))
+    found (g ∷ hs) zero h s = rw s refl
+    found (g ∷ hs) (suc j) h s = ap (λ xs. g ∷ xs) (found hs j (omega (arith, h)) s)
+
+-- or into a new one
+pub entered-new : (gs : List Group) (k : NetToken) (n i : ℕ) → i ≡ length gs
+    → entered gs k n ≡ take i gs ++ entered (drop i gs) k n → entered gs k n ≡ gs ++ ((k, n ∷ []) ∷ [])
+entered-new gs k n i h e = e ∙ ended gs i h
+  where
+    ended : (hs : List Group) (j : ℕ) → j ≡ length hs → take j hs ++ entered (drop j hs) k n ≡ hs ++ ((k, n ∷ []) ∷ [])
+    ended [] zero h = refl
+    ended [] (suc j) h = absurd (omega (arith, h))
+    ended (g ∷ hs) zero h = absurd (omega (arith, h))
+    ended (g ∷ hs) (suc j) h = ap (λ xs. g ∷ xs) (ended hs j (omega (arith, h)))
+
+-- ---- one group more
+
+target-within : {X : Type 0} (n i : ℕ) (xs : List X) → i < length xs → target n (drop i xs) ≡ Some n
+target-within n i [] h = absurd (omega (arith, h))
+target-within n zero (x ∷ xs) h = refl
+target-within n (suc i) (x ∷ xs) h = target-within n i xs (omega (arith, h))
+
+target-past : {X : Type 0} (n i : ℕ) (xs : List X) → length xs ≤ i → target n (drop i xs) ≡ None
+target-past n zero [] h = refl
+target-past n (suc i) [] h = refl
+target-past n zero (x ∷ xs) h = absurd (omega (arith, h))
+target-past n (suc i) (x ∷ xs) h = target-past n i xs (omega (arith, h))
+
+less-from : (i m : ℕ) → nat_lt i m ≡ true → i < m
+less-from i m e = grind (arith, nat_tests)
+
+most-from : (i m : ℕ) → nat_lt i m ≡ false → m ≤ i
+most-from i m e = grind (arith, nat_tests)
+
+-- whether there is a target further on
+pub target-more : {X : Type 0} (n i : ℕ) (xs : List X)
+    → target n (drop i xs) ≡ (if nat_lt i (length xs) then Some n else None)
+target-more n i xs =
+    elim (nat_lt i (length xs)) as (λ b. nat_lt i (length xs) ≡ b
+    → target n (drop i xs) ≡ (if b then Some n else None)) [
+      | true ↦ λ e. target-within n i xs (less-from i (length xs) e)
+      | false ↦ λ e. target-past n i xs (most-from i (length xs) e)
+    ] refl
+
+take-seam : {X : Type 0} (xs ys : List X) → take (length xs) (xs ++ ys) ≡ xs
+take-seam [] ys = refl
+take-seam (x ∷ xs) ys = ap (λ zs. x ∷ zs) (take-seam xs ys)
+
+drop-seam : {X : Type 0} (xs ys : List X) → drop (length xs) (xs ++ ys) ≡ ys
+drop-seam [] ys = refl
+drop-seam (x ∷ xs) ys = drop-seam xs ys
+
+-- the rows of one group, linked, are the states of its token and below it
+pub laid-step : (below : List Numbered → ℕ → List Instr) (ls : List Numbered) (ks js : List NetToken) (k : NetToken)
+    (rows made done : List Instr) (own : ℕ) (more : Bool)
+    → ks ≡ k ∷ js → own ≡ length rows
+    → ((m : ℕ) → target m js ≡ (if more then Some m else None))
+    → made ≡ (rows ++ (unlinked k (left_after k ls) ∷ []))
+    ++ below (left_after k ls) (suc (length (rows ++ (unlinked k (left_after k ls) ∷ []))))
+    → done ≡ take own made ++ linked own more (drop own made)
+    → done ++ each_laid below ls js (suc (length done)) ≡ rows ++ each_laid below ls ks (suc (length rows))
+laid-step below ls ks js k rows made done own more e o t m f =
+    let first = unlinked k (left_after k ls) in
+    let n = length rows in
+    let states = below (left_after k ls) (suc (suc n)) in
+    let size : suc (length (rows ++ (first ∷ []))) ≡ suc (suc n) = omega (arith, length-append rows (first ∷ [])) in
+    let made_is : made ≡ rows ++ (first ∷ states) =
+    m ∙ ap (λ i. (rows ++ (first ∷ [])) ++ below (left_after k ls) i) size ∙ append_assoc rows (first ∷ []) states in
+    let front : take own made ≡ rows =
+    ap (λ i. take i made) o ∙ ap (take n) made_is ∙ take-seam rows (first ∷ states) in
+    let back : drop own made ≡ first ∷ states =
+    ap (λ i. drop i made) o ∙ ap (drop n) made_is ∙ drop-seam rows (first ∷ states) in
+    let row : Instr = record {
+      token = k;
+      down = target (suc (suc n)) states;
+      over = target (suc (suc n) + length states) js;
+      accepts = flat_map ended (left_after k ls);
+    } in
+    let done_is : done ≡ rows ++ (row ∷ states) =
+    f ∙ (λ i. front i ++ linked (o i) more (back i))
+    ∙ ap (λ v. rows ++ (record {
+      token = k;
+      down = target (suc (suc n)) states;
+      over = v;
+      accepts = flat_map ended (left_after k ls);
+    } ∷ states)) (sym (t (suc (suc n) + length states))) in
+    let after : suc (length done) ≡ suc (suc n) + length states =
+    let q = ap length done_is in omega (arith, q, length-append rows (row ∷ states)) in
+    (λ i. done_is i ++ each_laid below ls js (after i))
+    ∙ append_assoc rows (row ∷ states) (each_laid below ls js (suc (suc n) + length states))
+    ∙ ap (λ xs. rows ++ each_laid below ls xs (suc n)) (sym e)
+
+-- what ends there, by whether there is a token
+pub ended-none : {X : Type 0} (n : ℕ) (f : X → NetToken) (o : Option X) → is_some o ≡ false
+    → ended_by n (option_map f o) ≡ n ∷ []
+ended-none n f None e = refl
+ended-none n f (Some x) e = cc
+
+pub ended-some : {X : Type 0} (n : ℕ) (f : X → NetToken) (o : Option X) → is_some o ≡ true
+    → ended_by n (option_map f o) ≡ []
+ended-some n f None e = cc
+ended-some n f (Some x) e = refl

@@ -1,0 +1,48 @@
+use Rattle.std.proofs.Common.{◌≡◌, ◌∙◌, ◌+◌, [], drop, get_or, length, map, sym, ap, subst, arith}
+use Rattle.std.specs.Prelude.{Option, Some, None, option_map, slice_get}
+use Rattle.std.proofs.lemmas.List.{drop_all}
+use Rattle.mp_pattern.specs.NetTokenView.{net_token}
+use Rattle.mp_many.specs.Groups.{grouped, left_at}
+use Rattle.mp_many.specs.GroupView.{group_of}
+use Rattle.mp_many.proofs.GroupLaws.{entered_all, entered-grouped}
+use Rattle.mp_many.proofs.RowLaws.{entered_by, entered-step, within-step}
+use Rattle.mp_many.proofs.group.groups_of.Goals as goal
+use Rattle.mp_many.proofs.group.groups_of.Goals.{in-Some+in_ok-enter, in_default}
+
+pub loop-number-preserved : goal.loop-number-preserved
+loop-number-preserved c =
+    let lists = c.args.lists.now in
+    let ns = c.args.numbers.now in
+    let i = c.loop-number.number-index in
+    let gs = map group_of c.loop-number.groups.items in
+    let old = c.loop-number.invariant in
+    let step = within-step lists ns i c.loop-number-test.true old.within in
+    let o = option_map (λ k. net_token k.now) c.get.result in
+    let e = entered-step lists c.args.place ns i c.index-lists-number.result gs o c.loop-number-test.true old.within
+    c.index-lists-number.is c.get.ensures in
+    record {
+      within = step.1;
+      groups =
+          elim c.match-get.branch [
+            | in-Some+in_ok-enter w ↦
+                ap (λ hs. entered_all hs (left_at lists c.args.place (drop (i + 1) ns)))
+                (ap (λ v. map group_of v.items) w.groups-is ∙ w.in_ok-enter.ensures
+                ∙ ap (entered_by gs (get_or ns i 0)) (sym (ap (option_map (λ k. net_token k.now)) w.in-Some.is)))
+                ∙ sym e ∙ old.groups
+            | in_default w ↦
+                ap (λ hs. entered_all hs (left_at lists c.args.place (drop (i + 1) ns)))
+                (ap (λ v. map group_of v.items) w.groups-is
+                ∙ ap (entered_by gs (get_or ns i 0)) (sym (ap (option_map (λ k. net_token k.now)) w.in_default.is)))
+                ∙ sym e ∙ old.groups
+          ];
+    }
+
+pub returns : goal.returns
+returns c =
+    let lists = c.args.lists.now in
+    let ns = c.args.numbers.now in
+    let i = c.loop-number.number-index in
+    let gs = map group_of c.loop-number.groups.items in
+    let all : drop i ns ≡ [] = drop_all i ns (omega arith) in
+    sym (ap (λ ms. entered_all gs (left_at lists c.args.place ms)) all) ∙ c.loop-number.invariant.groups
+    ∙ entered-grouped (left_at lists c.args.place ns)

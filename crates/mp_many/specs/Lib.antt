@@ -1,0 +1,10 @@
+pub mod Prefixes
+pub mod Laid
+pub mod Groups
+pub mod GroupView
+pub mod Many
+pub mod ManyCode
+pub mod ManyView
+pub mod RuleWalk
+pub mod WalkItems
+pub mod AllPairs

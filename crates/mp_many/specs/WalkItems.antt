@@ -1,0 +1,35 @@
+-- The items of a walk over rules: the pairs of a rule's number and a take table that fits.
+use Rattle.std.specs.Prelude.{◌≡◌, ◌↔◌, ℕ, List, [], map, flat_map, Some, None, slice_get}
+use Rattle.mp_term.specs.Listing.{In}
+use Rattle.mp_term.specs.Tree.{Tree}
+use Rattle.mp_term.specs.Signature.{Sig}
+use Rattle.mp_pattern.specs.Admission.{Rule}
+use Rattle.mp_pattern.specs.Value.{Subst}
+use Rattle.mp_pattern.specs.Fits.{Table, Fits}
+use Rattle.mp_ac.specs.CommItems.{NoneTwice}
+use Rattle.mp_walk.specs.Instrs.{Instr, instr_at}
+
+module _ (sig : Sig) (rules : List Rule) (t : Tree) where
+  -- the table fits the rule of the number and the subject with some substitution, whatever the rule's condition says
+  pub record IsWalkItem (i : ℕ × Table) : Type 0 where
+    pub rule : Rule
+    pub numbered : slice_get rules i.0 ≡ Some rule
+    pub subst : Subst
+    pub fits : Fits sig rule.pattern t subst i.1
+
+  -- the items are exactly these, each once, in an order of their own
+  pub record AreWalkItems (is : List (ℕ × Table)) : Type 0 where
+    pub exactly : (i : ℕ × Table) → In i is ↔ IsWalkItem i
+    pub once : NoneTwice is
+
+-- the rules that an instruction accepts
+abbrev pub accepts_at : List Instr → ℕ → List ℕ
+accepts_at code n = elim (instr_at code n) [ None ↦ [] | Some i ↦ i.accepts ]
+
+-- each of the rules with the table
+abbrev pub each_with : List ℕ → Table → List (ℕ × Table)
+each_with ns T = map (λ n. (n, T)) ns
+
+-- the items of a walk over a table of instructions: each rule that a leaf accepts, with its take table
+abbrev pub rule_items : List Instr → List (ℕ × Table) → List (ℕ × Table)
+rule_items code is = flat_map (λ i. each_with (accepts_at code i.0) i.1) is

@@ -1,0 +1,79 @@
+//! Token lists that begin alike from a place on, together.
+ghost use Rattle.std.specs.Prelude.{◌≡◌, ◌<◌, length, map, flat_map, IfOk, OnOk};
+ghost use Rattle.std.specs.List.{AllByRecursion};
+ghost use Rattle.mp_pattern.specs.NetTokenView.{net_token};
+ghost use Rattle.mp_many.specs.Groups.{entered, grouped, left_at};
+ghost use Rattle.mp_many.specs.Laid.{ended};
+ghost use Rattle.mp_many.specs.GroupView.{group_of};
+
+use mp_pattern::{NetToken, NetTokens};
+use mp_term::Memory;
+use mp_walk::Numbers;
+use std::alloc::Global;
+
+// A token, and the numbers of the lists that have it at the place.
+#[derive(Drop)]
+pub(crate) struct Group<'a> {
+    pub(crate) token: &'a NetToken,
+    pub(crate) numbers: Vec<u32>,
+}
+
+// Adds a number to the group of its token, which is a new one where there is none.
+fn enter<'a>(
+    alloc: Global,
+    groups: &mut Vec<Group<'a>>,
+    token: &'a NetToken,
+    number: u32,
+) -> Result<(), Memory>
+    ensures { OnOk result (map group_of groups.new.items
+        ≡ entered (map group_of groups.old.items) (net_token token.now) number) }
+{
+    for index in 0..groups.len() {
+        if *groups[index].token == *token {
+            groups[index].numbers.push(number)?;
+            return Ok(());
+        }
+    }
+    let mut numbers = Vec::new(alloc);
+    numbers.push(number)?;
+    groups.push(Group { token, numbers })?;
+    Ok(())
+}
+
+// The groups of the lists of the numbers by their tokens at the place, in order of the first list of each.
+pub(crate) fn groups_of<'a>(
+    alloc: Global,
+    lists: &'a [NetTokens],
+    numbers: &[u32],
+    place: usize,
+) -> Result<Vec<Group<'a>>, Memory>
+    requires { AllByRecursion (λ n. n < length lists.now) numbers.now }
+    ensures { IfOk result (λ gs. map group_of gs.items ≡ grouped (left_at lists.now place numbers.now)) }
+{
+    let mut groups = Vec::new(alloc);
+    for number in numbers {
+        if let Some(token) = lists[*number as usize].get(place) {
+            enter(alloc, &mut groups, token, *number)?;
+        }
+    }
+    Ok(groups)
+}
+
+// The numbers of the lists that end at the place.
+pub(crate) fn ended(
+    alloc: Global,
+    lists: &[NetTokens],
+    numbers: &[u32],
+    place: usize,
+) -> Result<Numbers, Memory>
+    requires { AllByRecursion (λ n. n < length lists.now) numbers.now }
+    ensures { IfOk result (λ ns. ns ≡ flat_map ended (left_at lists.now place numbers.now)) }
+{
+    let mut ended = Numbers::new(alloc);
+    for number in numbers {
+        if lists[*number as usize].get(place).is_none() {
+            ended.push(*number)?;
+        }
+    }
+    Ok(ended)
+}

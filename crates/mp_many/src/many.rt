@@ -1,0 +1,114 @@
+//! Many rules, prepared to be matched at once.
+ghost use Rattle.std.specs.Prelude.{◌≡◌, ◌≤◌, ◌↔◌, length, option_map, IfOk, IfSome, IsSome};
+ghost use Rattle.mp_pattern.specs.SoundRule.{AreSoundRules};
+ghost use Rattle.mp_walk.specs.InstrView.{plain_instr};
+ghost use Rattle.mp_walk.specs.Instrs.{instr_at};
+ghost use Rattle.mp_many.specs.ManyView.{state_view};
+ghost use Rattle.mp_many.specs.Prefixes.{prefixes, IsState};
+
+use crate::lists::token_lists;
+use crate::tree::tree_of;
+use mp_pattern::{NetToken, Rules};
+use mp_term::{Memory, Signature};
+use mp_walk::{Instr, Instrs};
+use std::alloc::Global;
+use std::marker::Model;
+
+/// Rules with the tree of the prefixes of their token lists. Contracts see them as the record `Many` of
+/// `specs/Many.antt`: the signature and the rules.
+#[derive(Drop)]
+pub struct Many<'a> {
+    sig: &'a Signature,
+    rules: &'a Rules,
+    instrs: Instrs,
+}
+
+impl<'a> Model for Many<'a> {
+    ghost use Rattle.mp_many.specs.Many as plain;
+    ghost use Rattle.mp_many.specs.ManyCode.{coded_many};
+
+    ghost Value = { plain.Many };
+
+    ghost coded = { coded_many };
+
+    ghost use Rattle.mp_many.specs.ManyView.{many_view, IsMany};
+
+    ghost view = { many_view };
+
+    ghost invariant = { IsMany };
+}
+
+/// A state of the tree, which stands for a prefix: the prefix's last token, the numbers of its first child and of its
+/// next sibling, where it has them, and the numbers of the rules whose token list it is, ascending.
+#[derive(Clone, Copy)]
+pub struct State<'a> {
+    pub token: &'a NetToken,
+    pub down: Option<u32>,
+    pub over: Option<u32>,
+    pub accepts: &'a [u32],
+}
+
+// The instruction of the number, from 1, where there is one.
+fn instr_of(instrs: &Instrs, number: u32) -> Option<&Instr>
+    ensures { instr_at instrs.now number ≡ option_map (λ i. plain_instr i.now) result }
+{
+    if number == 0 {
+        return None;
+    }
+    instrs.get(number as usize - 1)
+}
+
+impl<'a> Many<'a> {
+    /// The tree of the rules, which must be sound over the signature (`AreSoundRules` of mp_pattern's
+    /// `specs/SoundRule.antt`). `Memory` comes where there is no room for it.
+    pub fn build(alloc: Global, sig: &'a Signature, rules: &'a Rules) -> Result<Many<'a>, Memory>
+        requires sound { AreSoundRules sig.now rules.now }
+        ensures sig { IfOk result (λ m. m.sig ≡ sig.now) }
+        ensures rules { IfOk result (λ m. m.rules ≡ rules.now) }
+    {
+        let lists = token_lists(alloc, sig, rules.as_slice())?;
+        let instrs = tree_of(alloc, &lists)?;
+        if instrs.len() > u32::MAX as usize {
+            return Err(Memory);
+        }
+        Ok(Many { sig, rules, instrs })
+    }
+
+    /// How many states the tree has: as many as the rules' token lists have prefixes (`prefixes` of
+    /// `specs/Prefixes.antt`).
+    pub fn states(&self) -> u32
+        ensures { result ≡ length (prefixes self.now.sig self.now.rules) }
+    {
+        self.instrs.len() as u32
+    }
+
+    /// The state of the number, from 1 (`IsState` of `specs/Prefixes.antt`). It is None exactly where the tree has no
+    /// state of that number.
+    pub fn state(&self, number: u32) -> Option<State<'_>>
+        ensures state { IfSome result (λ s. IsState self.now.sig self.now.rules number (state_view s)) }
+        ensures held { IsSome result
+            ↔ ((1 ≤ number) × (number ≤ length (prefixes self.now.sig self.now.rules))) }
+    {
+        let instr = instr_of(&self.instrs, number)?;
+        Some(State {
+            token: &instr.token,
+            down: instr.down,
+            over: instr.over,
+            accepts: instr.accepts.as_slice(),
+        })
+    }
+
+    /// The signature that `build` was given.
+    pub fn sig(&self) -> &'a Signature
+        ensures { result.now ≡ self.now.sig }
+    {
+        self.sig
+    }
+
+    /// The rules that `build` was given.
+    pub fn rules(&self) -> &'a Rules
+        ensures { result.now ≡ self.now.rules }
+    {
+        self.rules
+    }
+}
