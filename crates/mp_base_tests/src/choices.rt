@@ -1,10 +1,10 @@
-//! The items of both generators on small cases worked out by hand, begun anew after the end and in the middle.
+//! The items of each generator on small cases worked out by hand, begun anew after the end and in the middle.
 
 ghost use Rattle.std.specs.Prelude.{◌≡◌, ◌≤◌, length as list_length, sum};
 ghost use Rattle.mp_choice.specs.Splits.{leasts};
 ghost use Rattle.mp_choice.specs.declared.limits.TheConstants.{MAX_TOTAL};
 
-use mp_choice::{Part, Splits, SubBags};
+use mp_choice::{Equations, MAX_TOTAL, Part, Splits, SubBags};
 use std::alloc::Global;
 use std::test::Fail;
 
@@ -164,5 +164,57 @@ fn few_of_very_many_sub_multisets_are_listed(rt: HostRuntime) -> Result<(), Fail
     assert_eq!(rt; bags.counts().first(), Some(&1));
     assert!(rt; bags.next());
     assert_eq!(rt; bags.counts().get(1), Some(&1));
+    Ok(())
+}
+
+// The coefficients, the total, and the solutions, or why they aren't listed.
+type Equation = (&'static [u32], u32, &'static str);
+
+const EQUATIONS: &[Equation] = &[
+    (&[2, 1], 3, "[0, 3][1, 1]"),
+    (&[2], 3, ""),
+    (&[2], 4, "[2]"),
+    (&[], 0, "[]"),
+    (&[], 1, ""),
+    (&[1, 2], 0, "[0, 0]"),
+    (&[1, 1], 2, "[0, 2][1, 1][2, 0]"),
+    (&[1, 2, 3], 4, "[0, 2, 0][1, 0, 1][2, 1, 0][4, 0, 0]"),
+    (&[3, 2, 2], 7, "[1, 0, 2][1, 1, 1][1, 2, 0]"),
+    (&[4, 2], 7, ""),
+    (&[1000000, 1], 1000000, "[0, 1000000][1, 0]"),
+    (&[4294967295, 1], 4294967295, "[0, 4294967295][1, 0]"),
+    (&[1, 0], 2, "coefficient 1 is 0"),
+    (&[0], 0, "coefficient 0 is 0"),
+    (&[2, 0, 0, 1], 3, "coefficient 1 is 0"),
+];
+
+// The next solutions, at most so many.
+fn next_solutions(alloc: Global, equations: &mut Equations, most: usize) -> Result<String, Fail> {
+    let mut text = String::new(alloc);
+    for _ in 0..most {
+        if equations.next() {
+            push_numbers(alloc, &mut text, equations.solution())?;
+        }
+    }
+    Ok(text)
+}
+
+// The first eight solutions of the equation, or why they aren't listed.
+fn solutions_of(alloc: Global, coefficients: &[u32], total: u32) -> Result<String, Fail>
+    requires { list_length coefficients.now ≤ MAX_TOTAL }
+{
+    match Equations::begin(alloc, coefficients, total) {
+        Ok(mut equations) => next_solutions(alloc, &mut equations, 8),
+        Err(fault) => Ok(format!(in alloc; "{fault}")?),
+    }
+}
+
+#[test]
+fn solutions_are_listed_in_order(rt: HostRuntime) -> Result<(), Fail> {
+    for (coefficients, total, all) in EQUATIONS {
+        assert!(rt; coefficients.len() <= MAX_TOTAL as usize);
+        let text = solutions_of(rt.alloc(), coefficients, *total)?;
+        assert_eq!(rt; text.as_str(), *all);
+    }
     Ok(())
 }

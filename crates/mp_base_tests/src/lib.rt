@@ -7,6 +7,8 @@ mod choices;
 #[cfg(test)]
 mod devices;
 #[cfg(test)]
+mod net_tokens;
+#[cfg(test)]
 mod pairings;
 #[cfg(test)]
 mod substitutions;
