@@ -1,5 +1,6 @@
 -- What a sort leaves once repeats are dropped: the keys ascend, and each key is there.
-use Rattle.std.proofs.Common.{◌≡◌, ℕ, zero, suc, ◌<◌, List, [], ◌∷◌, map, length, get_or, refl, ap, sym, ◌∙◌, subst}
+use Rattle.std.proofs.Common.{◌≡◌, ℕ, zero, suc, ◌+◌, ◌<◌, ◌++◌, List, [], ◌∷◌, map, length, get_or, refl, ap, sym}
+use Rattle.std.proofs.Common.{◌∙◌, subst, take}
 use Rattle.std.proofs.Common.{inl, inr}
 use Rattle.std.proofs.Common.{true, arith}
 use Rattle.std.specs.Prelude.{Contains}
@@ -10,12 +11,13 @@ use Rattle.std.specs.Cmp.{IsTotalOrder}
 use Rattle.std.specs.List.{AllByRecursion, dedup}
 use Rattle.std.specs.List.Sorted.{IsStrictlySortedBy, IsSorted, IsPermutation}
 use Rattle.std.proofs.lemmas.Cmp.{eq_by_cmp_equiv, on_total}
-use Rattle.std.proofs.lemmas.List.{get_or_default}
+use Rattle.std.proofs.lemmas.List.{get_or_default, take_more}
 use Rattle.std.proofs.lemmas.List.Elements.{All-from_recursion, recursion_from_All}
 use Rattle.std.proofs.lemmas.List.Filters.{All-dedup}
 use Rattle.std.proofs.lemmas.List.Kept.{Any-dedup, IsStrictlySortedBy-dedup}
 use Rattle.std.proofs.lemmas.List.Sorted.{All-permutation, Contains-permutation}
 use Rattle.mp_term.specs.Listing.{In}
+use Rattle.mp_term.proofs.ListLaws.{all-append, all-also}
 use Rattle.mp_table.proofs.Ascending.{keys_ascend, place}
 
 -- what follows for each member of the keys holds of each item's key
@@ -30,6 +32,40 @@ pub in-key : {X Y : Type 0} (f : Y → X) (ys : List Y) (i : ℕ) (d : Y) → i 
 in-key f [] i d h = absurd (omega arith)
 in-key f (y ∷ ys) zero d h = inl refl
 in-key f (y ∷ ys) (suc i) d h = inr (in-key f ys i d (omega arith))
+
+-- the item at a place is a member
+pub in-place : {X : Type 0} (xs : List X) (i : ℕ) (d : X) → i < length xs → In (get_or xs i d) xs
+in-place [] i d h = absurd (omega (arith, h))
+in-place (x ∷ xs) zero d h = inl refl
+in-place (x ∷ xs) (suc i) d h = inr (in-place xs i d (omega (arith, h)))
+
+-- the last item is one
+in-last : {X : Type 0} (x : X) (xs : List X) → In x (xs ++ x ∷ [])
+in-last x [] = inl refl
+in-last x (y ∷ xs) = inr (in-last x xs)
+
+-- and so is each one before
+in-front : {X : Type 0} (x : X) (xs ys : List X) → In x xs → In x (xs ++ ys)
+in-front x [] ys h = absurd h
+in-front x (y ∷ xs) ys (inl e) = inl e
+in-front x (y ∷ xs) ys (inr h) = inr (in-front x xs ys h)
+
+-- one item more whose key is a member
+pub members-more : {X Y : Type 0} (f : Y → X) (ks : List X) (ys : List Y) (i : ℕ) (d : Y) → i < length ys
+    → In (f (get_or ys i d)) ks → AllByRecursion (λ y. In (f y) ks) (take i ys)
+    → AllByRecursion (λ y. In (f y) ks) (take (i + 1) ys)
+members-more f ks ys i d h k a =
+    subst (AllByRecursion (λ y. In (f y) ks)) (sym (take_more ys i d h))
+    (all-append (λ y. In (f y) ks) (take i ys) (get_or ys i d ∷ []) a (k, tt))
+
+-- one item more whose key is added
+pub members-pushed : {X Y : Type 0} (f : Y → X) (ks : List X) (ys : List Y) (i : ℕ) (d : Y) → i < length ys
+    → AllByRecursion (λ y. In (f y) ks) (take i ys)
+    → AllByRecursion (λ y. In (f y) (ks ++ f (get_or ys i d) ∷ [])) (take (i + 1) ys)
+members-pushed f ks ys i d h a =
+    let k = f (get_or ys i d) in
+    members-more f (ks ++ k ∷ []) ys i d h (in-last k ks)
+    (all-also (λ y. In (f y) ks) (λ y. In (f y) (ks ++ k ∷ [])) (λ y. in-front (f y) ks (k ∷ [])) (take i ys) a)
 
 pub equal-from : (o : Ordering) → is_eq o ≡ true → o ≡ Equal
 equal-from Less e = cc

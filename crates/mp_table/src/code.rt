@@ -13,14 +13,22 @@ use crate::heading::{Heading, compare_heads};
 use mp_term::{Memory, Term};
 use std::alloc::Global;
 
-// The distinct heads of the terms, ascending.
+// The distinct heads of the terms, ascending. An application with the head of the last one that was added is passed
+// over: many have one head.
 fn headings<'a>(alloc: Global, terms: &[&'a Term]) -> Result<Vec<Heading<'a>>, Memory>
     ensures ascending { IfOk result (λ hs. IsStrictlySortedBy (slice_cmp nat_cmp) (keys hs.items)) }
     ensures all { IfOk result (λ hs. AllByRecursion (λ t. In (head_key (tree t.now)) (keys hs.items)) terms.now) }
     ensures few { IfOk result (λ hs. length hs.items ≤ length terms.now) }
 {
     let mut headings = Vec::new(alloc);
+    let mut near = 0;
     for term in terms {
+        if is_at(&headings, near, *term) {
+            continue;
+        }
+        if let Term::App(_, _) = *term {
+            near = headings.len();
+        }
         headings.push(Heading { term: *term })?;
     }
     headings.sort()?;
@@ -49,7 +57,7 @@ fn is_at(headings: &[Heading<'_>], place: usize, term: &Term) -> bool
     place < headings.len() && compare_heads(headings[place].term, term).is_eq()
 }
 
-// The place of the term's head among the heads, which is looked for at a place and right behind it before elsewhere:
+// The place of the term's head among the heads, which is looked for right behind a place and at it before elsewhere:
 // the symbols below a commutative operation mostly ascend.
 fn number_near(headings: &[Heading<'_>], term: &Term, near: u32) -> u32
     requires short { length headings.now < 2 ^ 32 }
@@ -59,12 +67,12 @@ fn number_near(headings: &[Heading<'_>], term: &Term, near: u32) -> u32
     ensures key { slice_index_or (keys headings.now) result [] ≡ head_key (tree term.now) }
 {
     let here = near as usize;
-    if is_at(headings, here, term) {
-        return near;
-    }
     let behind = here + 1;
     if is_at(headings, behind, term) {
         return behind as u32;
+    }
+    if is_at(headings, here, term) {
+        return near;
     }
     number_of(headings, term) as u32
 }
