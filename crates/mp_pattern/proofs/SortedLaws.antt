@@ -4,7 +4,10 @@ use Rattle.std.specs.Prelude.{if◌then◌else◌}
 use Rattle.std.specs.declared.cmp.Ordering.{Ordering}
 use Rattle.std.specs.Ordering.{is_gt}
 use Rattle.std.specs.List.{AllByRecursion}
+use Rattle.mp_term.specs.Listing.{In}
 use Rattle.mp_term.specs.Sorting.{insert_sorted, sorted}
+use Rattle.mp_term.proofs.ListingLaws.{all_in}
+use Rattle.mp_term.proofs.SearchLaws.{all-from_in}
 use Rattle.mp_term.proofs.SortedMeasures.{joined_all}
 
 module _ {X : Type 0} (P : X → Type 0) where
@@ -36,6 +39,17 @@ module _ {X : Type 0} (P : X → Type 0) where
   all-from_sorted cmp [] h = tt
   all-from_sorted cmp (x ∷ xs) h = let i = all-from_insert cmp x (sorted cmp xs) h in
       (i.0, all-from_sorted cmp xs i.1)
+
+-- a sorted list has the members of the list
+module _ {X : Type 0} (cmp : X → X → Ordering) where
+  pub in-sorted : (x : X) (xs : List X) → In x xs → In x (sorted cmp xs)
+  in-sorted x xs i = all_in (λ y. In y (sorted cmp xs)) xs x
+      (all-from_sorted (λ y. In y (sorted cmp xs)) cmp xs
+      (all-from_in (λ y. In y (sorted cmp xs)) (sorted cmp xs) (λ y j. j))) i
+
+  pub from_in-sorted : (x : X) (xs : List X) → In x (sorted cmp xs) → In x xs
+  from_in-sorted x xs i = all_in (λ y. In y xs) (sorted cmp xs) x
+      (all-sorted (λ y. In y xs) cmp xs (all-from_in (λ y. In y xs) xs (λ y j. j))) i
 
 -- the sum of m over a list
 abbrev pub total : {X : Type 0} → (X → ℕ) → List X → ℕ

@@ -67,7 +67,7 @@ module _ (sig : Sig) where
 
   -- s obeys takes that are told, where they are by uses of the pattern: the values have the forms that the wildcards
   -- ask for
-  obeyed : (p : Pattern) (s : Subst) → IsSubstOf sig p s → (ts : List Taken)
+  pub obeyed : (p : Pattern) (s : Subst) → IsSubstOf sig p s → (ts : List Taken)
       → ((u : Use) → In u (map (λ t. t.by) ts) → In u (uses None p)) → AllTold sig s ts
       → AllByRecursion (Obeys sig s) ts
   obeyed p s h [] m k = tt
