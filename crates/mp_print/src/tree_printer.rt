@@ -1,6 +1,6 @@
 //! Prints trees of operations and their arguments, whatever their leaves are.
 
-ghost use Rattle.std.specs.Prelude.{◌≡◌, ◌<◌, ◌++◌, ℕ, List, [], map, slice_get, sum_by, MatchOption, ⊤, codes};
+ghost use Rattle.std.specs.Prelude.{◌≡◌, ◌<◌, ◌++◌, ℕ, List, [], length, map, slice_get, sum_by, MatchOption, ⊤, codes};
 ghost use Rattle.mp_io.specs.Printing.{joined};
 ghost use Rattle.mp_io.specs.Writing.{Puts};
 ghost use Rattle.mp_term.specs.Signature.{Sig};
@@ -60,10 +60,29 @@ pub(crate) fn put_application<B, T: PrintedTree<B>, K: Sink>(
         (held_text (slice_get sig.now.ops op.0) (map (T.text sig.now base.now) args.now)) }
 {
     if let Some(decl) = sig.op(op) {
-        let separator = separator(decl, args.len());
         put_front(decl, args.len(), out);
-        put_between(sig, base, &separator, args, out);
+        put_arguments(sig, base, decl, args, out);
         out.put(b")");
+    }
+}
+
+/// Puts the texts of an operation's arguments, with its separator between each two.
+#[cycle(put_tree)]
+fn put_arguments<B, T: PrintedTree<B>, K: Sink>(
+    sig: &Signature,
+    base: &B,
+    decl: &OpDecl,
+    args: &[T],
+    out: &mut Writer<'_, K>,
+)
+    ensures { Puts K.Sink out.old out.new
+        (separated (separator_text decl.now.sign (length args.now)) (map (T.text sig.now base.now) args.now)) }
+{
+    match &decl.sign {
+        Some(sign) if args.len() >= 2 => {
+            put_between(sig, base, &[b" ", sign.bytes(), b" "], args, out);
+        }
+        _ => put_between(sig, base, &[b", ".as_slice()], args, out),
     }
 }
 
@@ -109,16 +128,6 @@ fn put_front<K: Sink>(decl: &OpDecl, count: usize, out: &mut Writer<'_, K>)
     match &decl.sign {
         Some(_) if count >= 2 => out.put(b"("),
         _ => out.put_all(&[decl.name.bytes(), b"("]),
-    }
-}
-
-/// What stands between each two of so many arguments, in parts.
-fn separator(decl: &OpDecl, count: usize) -> [&[u8]; 3]
-    ensures { joined result ≡ separator_text decl.now.sign count }
-{
-    match &decl.sign {
-        Some(sign) if count >= 2 => [b" ", sign.bytes(), b" "],
-        _ => [b", ", b"", b""],
     }
 }
 
