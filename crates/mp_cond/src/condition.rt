@@ -1,16 +1,18 @@
 //! Conditions decided.
-ghost use Rattle.std.specs.Prelude.{◌≡◌, map};
+ghost use Rattle.std.specs.Prelude.{◌≡◌, map, IfSome};
 ghost use Rattle.std.specs.List.{AllByRecursion};
+ghost use Rattle.mp_pattern.specs.Admission.{meets};
 ghost use Rattle.mp_pattern.specs.CondTree.{conds};
 ghost use Rattle.mp_pattern.specs.CondView.{cond_tree};
 ghost use Rattle.mp_pattern.specs.Operands.{operands, all_operands};
+ghost use Rattle.mp_pattern.specs.RuleView.{rule_tree};
 ghost use Rattle.mp_pattern.specs.Holds.{holds, all_hold, some_holds};
 ghost use Rattle.mp_subst.specs.View.{subst_of};
 ghost use Rattle.mp_cond.specs.Ready.{IsReady};
 
 use crate::amount::{amount_of, compares};
 use crate::values::Values;
-use mp_pattern::Cond;
+use mp_pattern::{Cond, Rule};
 use mp_subst::Subst;
 use mp_term::Signature;
 
@@ -69,4 +71,16 @@ pub fn holds(sig: &Signature, cond: &Cond, subst: &Subst) -> bool
     ensures { result ≡ holds sig.now (subst_of subst.now) (cond_tree cond.now) }
 {
     holds_of(sig, cond, subst)
+}
+
+/// Whether the rule's condition, where it has one, holds of the substitution (`meets` of mp_pattern's
+/// `specs/Admission.antt`). What `holds` asks of a condition holds of the rule's. It takes no memory.
+pub fn meets(sig: &Signature, rule: &Rule, subst: &Subst) -> bool
+    requires { IfSome rule.now.condition (λ c. IsReady (subst_of subst.now) (cond_tree c)) }
+    ensures { result ≡ meets sig.now (rule_tree rule.now).condition (subst_of subst.now) }
+{
+    match &rule.condition {
+        None => true,
+        Some(condition) => holds(sig, condition, subst),
+    }
 }

@@ -17,12 +17,10 @@ mod ranks;
 mod settled;
 mod subterm;
 mod terms;
-#[cfg(test)]
-mod tests;
 mod values;
 mod verdict;
 
-pub use condition::holds;
+pub use condition::{holds, meets};
 pub use deciding::decide;
 pub use laws::{
     conditions_are_settled_by_complete_trails, conditions_hold_of_extensions_as_of_the_trail,

@@ -1,5 +1,0 @@
-use Rattle.mp_table.specs.Table.{HasRanks}
-use Rattle.mp_cond.proofs.tests.values.ranks.Given as goal
-
-abbrev pub invariant-loop-word : goal.invariant-loop-word
-invariant-loop-word l = record { have : HasRanks l.table l.ranks.items }

@@ -1,5 +1,0 @@
-use Rattle.mp_subst.specs.Trail.{GoesWith}
-use Rattle.mp_cond.proofs.tests.values.trail.Given as goal
-
-abbrev pub invariant-loop-row : goal.invariant-loop-row
-invariant-loop-row l = record { goes_with : GoesWith l.table l.trail }
