@@ -57,7 +57,8 @@ one-item (x ∷ y ∷ xs) d l m = absurd (omega (arith, m))
 
 -- the value of one rank contributes at most its term alone
 pub alone-known : (t : Table) (sig : Sig) (f : Option ℕ) (m : Form) (w : Option ℕ) (rs : List Rank) (r : Rank)
-    (v : Tree) → w ≡ None → rs ≡ r ∷ [] → is_alone_in (contributed sig f (value_from t m w rs)) v ≡ true → term_at t r ≡ v
+    (v : Tree) → w ≡ None → rs ≡ r ∷ [] → is_alone_in (contributed sig f (value_from t m w rs)) v ≡ true
+    → term_at t r ≡ v
 alone-known t sig f m w rs r v e i h =
     same-sound tree_cmp tree_cmp_total tree_same (term_at t r) v
     (by_form m (subst (λ ss. is_alone_in (contributed sig f (value_from t m None ss)) v ≡ true) i

@@ -10,7 +10,7 @@ use Rattle.std.specs.Ordering.{is_lt, ordering_reverse, ordering_then}
 use Rattle.std.specs.Cmp.{IsTotalOrder}
 use Rattle.std.specs.Cmp.Lexicographic.{slice_cmp}
 use Rattle.std.specs.List.{AllByRecursion}
-use Rattle.std.proofs.lemmas.Cmp.{tied_itself}
+use Rattle.std.proofs.lemmas.Cmp.{tied_itself, lists_total}
 use Rattle.std.proofs.lemmas.List.{length-take-le, take-append-drop}
 use Rattle.mp_term.specs.Pieces.{same, is_sublist}
 use Rattle.mp_term.proofs.ListingLaws.{irreflexive, one_way}
@@ -281,6 +281,28 @@ module _ {X : Type 0} (cmp : X → X → Ordering) (o : IsTotalOrder cmp)
 
   pub last-stuck : (pool t : List X) → Ascends pool → IsStuck cmp pool t → IsLastSublist cmp pool t
   last-stuck pool t a s m i = stuck-last pool t m s (ascends-sub m pool a i.sublist) i.same_length i.sublist i.after
+
+  -- a sublist that is as long as the list is the list
+  whole-sub : (l ts : List X) → Sub l ts → length ts ≤ length l → l ≡ ts
+  whole-sub [] [] h e = refl
+  whole-sub [] (t ∷ ts) h e = absurd (omega (arith, e))
+  whole-sub (x ∷ l) [] h e = cc
+  whole-sub (x ∷ l) (t ∷ ts) h e =
+      elim (same cmp t x) as (λ b. same cmp t x ≡ b
+      → (if b then is_sublist cmp l ts else is_sublist cmp (x ∷ l) ts) ≡ true → x ∷ l ≡ t ∷ ts) [
+        | true ↦ λ q k. ap (λ y. y ∷ l) (sym (same-sound cmp o means t x q))
+            ∙ ap (λ ys. t ∷ ys) (whole-sub l ts k (omega (arith, e)))
+        | false ↦ λ q k. absurd (omega (arith, e, length-sub (x ∷ l) ts k))
+      ] refl h
+
+  -- and no other comes after it
+  pub last-whole : (pool l : List X) → Sub l pool → length pool ≤ length l → IsLastSublist cmp pool l
+  last-whole pool l h e m i =
+      let whole : l ≡ pool = whole-sub l pool h e in
+      let other : m ≡ pool = whole-sub m pool i.sublist (omega (arith, e, i.same_length)) in
+      let less : slice_cmp cmp pool pool ≡ Less =
+      ap (λ n. slice_cmp cmp n pool) (sym whole) ∙ ap (slice_cmp cmp l) (sym other) ∙ i.after in
+      let wrong : Less ≡ Equal = sym less ∙ tied_itself (lists_total o) pool in cc
 
   -- the next list, by places
   pub next-rises : (pool l : List X) (i j : ℕ) → Ascends pool → Sub l pool → Rises cmp pool l i j

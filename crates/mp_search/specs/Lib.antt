@@ -17,3 +17,4 @@ pub mod At
 pub mod Lacking
 pub mod Tried
 pub mod Sublists
+pub mod Stage

@@ -32,6 +32,7 @@ mod room;
 mod shares;
 mod site;
 mod stack;
+mod stage;
 mod supply;
 mod variable;
 
@@ -41,3 +42,4 @@ pub use level::{Level, Source, vacant_levels};
 pub use mode::Mode;
 pub use query::{Query, Start};
 pub use room::Room;
+pub use stage::Stage;

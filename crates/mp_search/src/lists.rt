@@ -10,7 +10,7 @@ ghost use Rattle.mp_search.specs.Levels.{rooms_of, draws_of, take_of, IsPool};
 ghost use Rattle.mp_search.specs.Sublists.{IsNextSublist, IsLastSublist, IsStuck, Rises};
 
 use crate::level::{Level, Source};
-use crate::pieces::place_of;
+use crate::pieces::{is_prefix, place_of};
 use crate::room::Room;
 use mp_table::Rank;
 
@@ -47,6 +47,9 @@ fn next_sublist(pool: &[Rank], list: &mut Room<Rank>) -> bool
     ensures kept { MatchBool result ⊤ (list.new.items.items ≡ list.old.items.items) }
     ensures room { list.new.room ≡ list.old.room }
 {
+    if list.len() >= pool.len() {
+        return false;
+    }
     match rising(pool, list.as_slice()) {
         None => false,
         Some((i, j)) => {
@@ -102,8 +105,8 @@ fn take_one_out(rank: Rank, items: &[Rank], list: &mut Room<Rank>)
     match place_of(items, rank) {
         None => list.refill(items),
         Some(place) => {
-            list.refill(&items[..place]);
-            list.append(&items[place + 1..]);
+            list.refill(&items[1..]);
+            list.overwrite(&items[..place]);
         }
     }
 }
@@ -114,6 +117,10 @@ fn take_out(ranks: &[Rank], items: &[Rank], list: &mut Room<Rank>)
     ensures list { list.new.items.items ≡ without rank_cmp ranks.now items.now }
     ensures room { list.new.room ≡ list.old.room }
 {
+    if is_prefix(ranks, items) {
+        list.refill(&items[ranks.len()..]);
+        return;
+    }
     list.clear();
     let mut taken = 0;
     for item in items {

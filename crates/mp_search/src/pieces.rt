@@ -38,7 +38,7 @@ fn is_sublist(ranks: &[Rank], list: &[Rank]) -> bool
 }
 
 // Whether the list begins with the ranks.
-fn is_prefix(ranks: &[Rank], list: &[Rank]) -> bool
+pub(crate) fn is_prefix(ranks: &[Rank], list: &[Rank]) -> bool
     ensures { result ≡ pieces.is_prefix rank_cmp ranks.now list.now }
 {
     for (i, rank) in ranks.iter().enumerate() {

@@ -98,6 +98,10 @@ pub(crate) fn fill_portion(
     ensures room { room.new.room ≡ room.old.room }
 {
     let list = site.left;
+    if !looks && count == 1 {
+        room.refill(list);
+        return;
+    }
     let (first, end) = places(query, site, trail, looks);
     room.clear();
     let mut place = first;

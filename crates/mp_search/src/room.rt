@@ -1,5 +1,5 @@
 //! Lists with room, which take no memory once they are made.
-ghost use Rattle.std.specs.Prelude.{◌≡◌, ◌<◌, ◌≤◌, ◌+◌, ◌++◌, ◌∷◌, [], length, take, vec_capacity, IfOk};
+ghost use Rattle.std.specs.Prelude.{◌≡◌, ◌<◌, ◌≤◌, ◌+◌, ◌++◌, ◌∷◌, [], length, take, drop, vec_capacity, IfOk};
 
 use std::alloc::{AllocError, Global};
 
@@ -10,6 +10,15 @@ pub struct Room<T> {
     pub room: usize,
     ghost within: { length items.items ≤ room },
     ghost reserved: { room ≤ vec_capacity items },
+}
+
+// Writes items over as many of the first ones.
+fn overwrite<T: Copy>(list: &mut [T], items: &[T])
+    requires { length items.now ≤ length list.old }
+    ensures items { list.new ≡ items.now ++ drop (length items.now) list.old }
+    ensures count { length list.new ≡ length list.old }
+{
+    list[..items.len()].copy_from_slice(items);
 }
 
 impl<T: Copy> Room<T> {
@@ -61,6 +70,15 @@ impl<T: Copy> Room<T> {
             Ok(()) => {}
             Err(_) => unreachable!(),
         }
+    }
+
+    /// Writes items over as many of the first ones.
+    pub fn overwrite(&mut self, items: &[T])
+        requires { length items.now ≤ length self.old.items.items }
+        ensures items { self.new.items.items ≡ items.now ++ drop (length items.now) self.old.items.items }
+        ensures room { self.new.room ≡ self.old.room }
+    {
+        overwrite(&mut self.items, items);
     }
 
     /// Adds the items. There is room for them.

@@ -7,6 +7,7 @@ use Rattle.mp_search.specs.Portion.{MayTake}
 use Rattle.mp_search.specs.Reading.{subst_of}
 use Rattle.mp_search.proofs.HeadedLaws.{occurrences-drop, occurrences-none}
 use Rattle.mp_search.proofs.PortionLaws.{HasEnough, portion-kept, skip-part, skip-enough, enough-end, sub-front}
+use Rattle.mp_search.proofs.PieceLaws.{itself-sublist}
 use Rattle.mp_search.proofs.portion.fill_portion.Goals as goal
 
 pub loop-place-preserved-then-has_portion : goal.loop-place-preserved-then-has_portion
@@ -106,3 +107,8 @@ loop-place-init c =
           ));
       room = refl;
     }
+
+pub returns-then-count-eq1-clause-part : goal.returns-then-count-eq1-clause-part
+returns-then-count-eq1-clause-part c =
+    subst (λ rs. is_sublist rank_cmp rs c.args.site.now.left.now ≡ true) (sym c.refill.ensures.items)
+    (itself-sublist c.args.site.now.left.now)
