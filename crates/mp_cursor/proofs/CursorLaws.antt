@@ -22,15 +22,15 @@ use Rattle.mp_search.specs.Levels.{take_of}
 use Rattle.mp_search.specs.declared.mode.Mode.TheVariants.{First}
 use Rattle.mp_cursor.specs.declared.matched.Matched.{Matched}
 use Rattle.mp_cursor.specs.declared.cursor.Cursor.TheInside.{Inside}
-use Rattle.mp_cursor.specs.declared.stage.Stage.{Stage}
-use Rattle.mp_cursor.specs.declared.stage.Stage.TheVariants.{Before, Standing, Ended}
+use Rattle.mp_search.specs.declared.stage.Stage.{Stage}
+use Rattle.mp_search.specs.declared.stage.Stage.TheVariants.{Before, Standing, Ended}
 use Rattle.mp_cursor.specs.CursorView.{IsAtItem, IsCursor, cursor_view, item_at, items_of}
 use Rattle.mp_cursor.specs.Kept.{AreHeldTakes}
 use Rattle.mp_cursor.specs.Listing.{Listing, ReadAs, subject_of}
 use Rattle.mp_cursor.specs.Matched.{IsMatched, all_items, sought}
 use Rattle.mp_cursor.specs.Parts.{item_of, levels_table}
 use Rattle.mp_cursor.proofs.LeastLaws.{sought-member}
-use Rattle.mp_cursor.proofs.PlanNodes.{plan-nodes}
+use Rattle.mp_pattern.proofs.PlanNodes.{plan-nodes}
 use Rattle.mp_cursor.proofs.ReaderLaws.{binding-at, subst-read}
 use Rattle.mp_cursor.proofs.SoughtLaws.{sought-first}
 use Rattle.mp_cursor.proofs.TableLaws.{levels-held, read-takes, table-takes, takes-read, takes-same}
@@ -96,7 +96,7 @@ module _ (c : Inside) (l : Listing) (v : cursor_view c ≡ l) (k : IsCursor c) w
         arith,
         length-map c.parts.levels.items take_of,
         k.over.roomy.levels,
-        plan-nodes c.matched.sig.now c.matched.plan.now k.matched.plan,
+        plan-nodes c.matched.sig.now c.matched.plan.now.pattern c.matched.plan.now k.matched.plan,
         some-nodes c.matched.plan.now.pattern,
       )
 

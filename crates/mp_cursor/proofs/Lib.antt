@@ -4,7 +4,7 @@ pub mod FilterLaws
 pub mod RangeLaws
 pub mod TakesLaws
 pub mod TableLaws
-pub mod PlanNodes
+pub mod SubjectLaws
 pub mod SoughtLaws
 pub mod ReaderLaws
 pub mod LookLaws

@@ -35,7 +35,8 @@ use Rattle.mp_search.specs.Wanted.{AreComplete, IsComplete}
 use Rattle.mp_cursor.specs.declared.matched.Matched.{Matched}
 use Rattle.mp_cursor.specs.Matched.{IsMatched, IsDecidable, IsFresh, all_items, trail_subst, search_room}
 use Rattle.mp_cursor.specs.Listing.{subject_of}
-use Rattle.mp_cursor.proofs.PlanNodes.{plan-names, root-term}
+use Rattle.mp_pattern.proofs.PlanNodes.{plan-names}
+use Rattle.mp_cursor.proofs.SubjectLaws.{root-term}
 use Rattle.mp_cursor.proofs.RangeLaws.{range-all, range-distinct}
 use Rattle.mp_cursor.proofs.ReaderLaws.{item-complete}
 
@@ -121,7 +122,7 @@ module _ (m : Matched) (h : IsMatched m) (vars : Bor (List ℕ)) (grounds : Bor 
           ]
       decides None d = tt
       decides (Some c) d = (
-        subst (λ xs. IsConditionOver xs (cond_tree c.now)) (sym (plan-names m.sig.now m.plan.now h.plan)) d.0,
+        subst (λ xs. IsConditionOver xs (cond_tree c.now)) (sym (plan-names m.sig.now m.plan.now.pattern m.plan.now h.plan)) d.0,
         d.1,
       )
 

@@ -14,13 +14,13 @@ use Rattle.mp_search.specs.Wanted.{IsStanding, beyond}
 use Rattle.mp_cursor.specs.declared.cursor.Cursor.TheInside.{Inside}
 use Rattle.mp_cursor.specs.declared.matched.Matched.{Matched}
 use Rattle.mp_cursor.specs.declared.parts.Parts.{Parts}
-use Rattle.mp_cursor.specs.declared.stage.Stage.{Stage}
-use Rattle.mp_cursor.specs.declared.stage.Stage.TheVariants.{Before, Standing, Ended}
+use Rattle.mp_search.specs.declared.stage.Stage.{Stage}
+use Rattle.mp_search.specs.declared.stage.Stage.TheVariants.{Before, Standing, Ended}
 use Rattle.mp_cursor.specs.CursorView.{IsAtItem, IsCursor, cursor_view, item_at, items_of, to_come_at}
 use Rattle.mp_cursor.specs.Listing.{advanced, subject_of}
 use Rattle.mp_cursor.specs.Matched.{IsMatched, all_items, looked_for, sought}
 use Rattle.mp_cursor.specs.Parts.{AreOver, item_of}
-use Rattle.mp_cursor.specs.Stage.{mode_at}
+use Rattle.mp_search.specs.Stage.{mode_at}
 use Rattle.mp_cursor.proofs.AfterLaws.{first-in}
 use Rattle.mp_cursor.proofs.LeastLaws.{and-both, sought-member, member-sought}
 use Rattle.mp_cursor.proofs.SoughtLaws.{is_least, sought-first, sought-after, item-standing}

@@ -26,7 +26,7 @@ use Rattle.mp_search.proofs.SubstLaws.{value_of-subst_from}
 use Rattle.mp_cursor.specs.declared.matched.Matched.{Matched}
 use Rattle.mp_cursor.specs.Matched.{IsMatched, all_items, trail_subst}
 use Rattle.mp_cursor.specs.Listing.{subject_of}
-use Rattle.mp_cursor.proofs.PlanNodes.{plan-names}
+use Rattle.mp_pattern.proofs.PlanNodes.{plan-names}
 use Rattle.mp_cursor.proofs.RangeLaws.{range-distinct, range-at}
 use Rattle.mp_cursor.proofs.SliceLaws.{got-within}
 use Rattle.mp_cursor.proofs.SoughtLaws.{items-of-pattern, normal-subject}
@@ -133,7 +133,7 @@ module _ (m : Matched) (h : IsMatched m) where
     s = trail_subst m t
 
     names-same : map (λ b. b.name) s ≡ map (λ (x : Variable). x.name) m.plan.now.variables
-    names-same = (item-fits (W, s) k).subst_of.names ∙ sym (plan-names m.sig.now m.plan.now h.plan)
+    names-same = (item-fits (W, s) k).subst_of.names ∙ sym (plan-names m.sig.now m.plan.now.pattern m.plan.now h.plan)
 
     pub count-same : length s ≡ length m.plan.now.variables
     count-same = sym (length-map s (λ b. b.name)) ∙ ap length names-same

@@ -2,7 +2,7 @@
 use Rattle.std.proofs.Common.{◌≡◌, List, [], ◌∷◌, ◌++◌, Bool, true, false, refl, ap, sym, ◌∙◌, ◌⊎◌, inl, inr, ℕ, eq-eqb}
 use Rattle.std.proofs.Common.{subst}
 use Rattle.std.proofs.lemmas.Bool.{and_parts}
-use Rattle.std.specs.Prelude.{Option, Some, None, filter, not, ◌||◌, if◌then◌else◌}
+use Rattle.std.specs.Prelude.{Option, Some, None, filter, not, ◌&&◌, ◌||◌, if◌then◌else◌}
 use Rattle.std.specs.Ordering.{is_eq, nat_cmp}
 use Rattle.std.specs.Cmp.{nat_cmp_total}
 use Rattle.std.specs.Cmp.Lexicographic.{slice_cmp}
@@ -132,7 +132,8 @@ module _ (sig : Sig) (s : Subst) where
 
   -- children of an operation that isn't commutative take its arguments
   pub arguments-taken : (g : ℕ) (ps : Patterns) (ts : List Tree) (W : fits.Table) → is_comm sig g ≡ false
-      → each_takes_one sig (Some g) ps ≡ true → fits.Takes sig s None (app_pattern g ps) (app g (trees ts) ∷ []) W
+      → (is_one sig g && not (each_takes_one sig (Some g) ps)) ≡ false
+      → fits.Takes sig s None (app_pattern g ps) (app g (trees ts) ∷ []) W
       → (ls : List (List Tree)) × (Ws : List fits.Table) × Children g ps ls Ws × (fits.joined ls ≡ ts)
   arguments-taken g ps ts W c o (inl h) =
       let flat : fits.arranged sig (Some g) (fits.joined h.takes) ≡ fits.joined h.takes =
@@ -146,7 +147,14 @@ module _ (sig : Sig) (s : Subst) where
       same_args : (us vs : Trees) → app g us ≡ app g vs → us ≡ vs
       same_args us vs e = cc
   arguments-taken g ps ts W c o (inr h) =
-      absurd (let wrong : true ≡ false = sym h.left_out ∙ none-left_out (Some g) ps h.takes o in cc)
+      let each : each_takes_one sig (Some g) ps ≡ true =
+      second (is_one sig g) (each_takes_one sig (Some g) ps) o h.identity in
+      absurd (let wrong : true ≡ false = sym h.left_out ∙ none-left_out (Some g) ps h.takes each in cc)
+    where
+      second : (a b : Bool) → (a && not b) ≡ false → a ≡ true → b ≡ true
+      second true true e i = refl
+      second true false e i = cc
+      second false b e i = cc
 
   -- in turn
   pub first-taken : (g : ℕ) (p : Pattern) (ps : Patterns) (t : Tree) (ts : List Tree) (ls : List (List Tree))

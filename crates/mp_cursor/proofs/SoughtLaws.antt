@@ -29,7 +29,8 @@ use Rattle.mp_cursor.specs.Listing.{items_after, subject_of}
 use Rattle.mp_cursor.proofs.AfterLaws.{after-first, after-found, kept-after, kept-first, left-first, first-in}
 use Rattle.mp_cursor.proofs.AfterLaws.{fewer-behind}
 use Rattle.mp_cursor.proofs.FilterLaws.{filter-all, filter-both, kept-pass}
-use Rattle.mp_cursor.proofs.PlanNodes.{plan-nodes, subject-normal}
+use Rattle.mp_pattern.proofs.PlanNodes.{plan-nodes}
+use Rattle.mp_cursor.proofs.SubjectLaws.{subject-normal}
 
 module _ (m : Matched) where
   -- those under which the condition holds
@@ -112,7 +113,7 @@ module _ (m : Matched) where
         → all_items m s ≡ items m.sig.now (pattern_nodes m.plan.now.pattern)
         (settle (start m.plan.now.pattern (subject_of m.table.now))) s
     items-of-pattern s = ap (λ k. items m.sig.now k (settle (start m.plan.now.pattern (subject_of m.table.now))) s)
-        (plan-nodes m.sig.now m.plan.now h.plan)
+        (plan-nodes m.sig.now m.plan.now.pattern m.plan.now h.plan)
 
     -- the items of a rule with that pattern are those sought
     pub sought-first : (r : Rule) (W : Table) → r.pattern ≡ m.plan.now.pattern

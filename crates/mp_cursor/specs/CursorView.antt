@@ -5,8 +5,8 @@ use Rattle.mp_pattern.specs.RuleView.{rule_tree}
 use Rattle.mp_pattern.specs.View.{pattern_tree}
 use Rattle.mp_theory.specs.OneList.{Item, item_list}
 use Rattle.mp_cursor.specs.declared.cursor.Cursor.TheInside.{Inside}
-use Rattle.mp_cursor.specs.declared.stage.Stage.{Stage}
-use Rattle.mp_cursor.specs.declared.stage.Stage.TheVariants.{Before, Standing, Ended}
+use Rattle.mp_search.specs.declared.stage.Stage.{Stage}
+use Rattle.mp_search.specs.declared.stage.Stage.TheVariants.{Before, Standing, Ended}
 use Rattle.mp_cursor.specs.Listing.{Listing, items_after, subject_of}
 use Rattle.mp_cursor.specs.Matched.{IsMatched, IsDecidable, IsDecided}
 use Rattle.mp_cursor.specs.Parts.{AreOver, item_of}

@@ -3,7 +3,6 @@ pub mod CursorRoomCode
 pub mod Listing
 pub mod ListingCode
 pub mod Kept
-pub mod Stage
 pub mod Matched
 pub mod Parts
 pub mod CursorView

@@ -11,7 +11,6 @@ mod look;
 mod matched;
 mod parts;
 mod root;
-mod stage;
 mod takes;
 mod wildcards;
 

@@ -1,6 +1,7 @@
 //! Whether a pattern can fit at the root of a term.
-ghost use Rattle.std.specs.Prelude.{◌≡◌, ◌∷◌, [], ℕ, List, Option, Some, None, true, IsFalse, map};
+ghost use Rattle.std.specs.Prelude.{◌≡◌, ◌∷◌, ◌&&◌, [], ℕ, List, Option, Some, None, not, IsFalse, map};
 ghost use Rattle.mp_term.specs.Normal.{IsNormal};
+ghost use Rattle.mp_term.specs.Signature.{is_one};
 ghost use Rattle.mp_term.specs.Tree.{Tree, app, trees};
 ghost use Rattle.mp_term.specs.View.{tree};
 ghost use Rattle.mp_pattern.specs.Admission as plain;
@@ -36,7 +37,16 @@ fn each_takes_one(sig: &Signature, op: OpId, children: &[Pattern]) -> bool
     }
 }
 
-// Whether the children may take the arguments: not where they take one each, and one of them can't take its own.
+// Whether the operation may be collapsed, with a child that takes no term or several.
+fn may_leave_out(sig: &Signature, op: OpId, children: &[Pattern]) -> bool
+    ensures { result ≡ (is_one sig.now op.0
+        && not (look.each_takes_one sig.now (Some op.0) (patterns (map pattern_tree children.now)))) }
+{
+    sig.is_one(op) && !each_takes_one(sig, op, children)
+}
+
+// Whether the children may take the arguments: not where they take them in turn, and one of the first children, which
+// take one each, can't take its own.
 #[cycle(may_take)]
 fn may_take_arguments(sig: &Signature, op: OpId, children: &[Pattern], args: &[Term]) -> bool
     ensures { IsFalse result → (s : Subst) (W : fits.Table) → fits.Takes sig.now s None
@@ -46,26 +56,32 @@ fn may_take_arguments(sig: &Signature, op: OpId, children: &[Pattern], args: &[T
     if sig.is_comm(op) {
         return true;
     }
-    if !each_takes_one(sig, op, children) {
+    if may_leave_out(sig, op, children) {
         return true;
     }
     each_may_take(sig, op, children, args)
 }
 
-// Whether each child, which takes one term, may take the one at its place.
+// Whether each child up to the first that doesn't take one term may take the one at its place.
 #[cycle(may_take)]
 fn each_may_take(sig: &Signature, op: OpId, children: &[Pattern], args: &[Term]) -> bool
-    requires { look.each_takes_one sig.now (Some op.0) (patterns (map pattern_tree children.now)) ≡ true }
     ensures { IsFalse result → (s : Subst) (ls : List (List Tree)) (Ws : List fits.Table) →
         fits.AllTakeBy sig.now (fits.ByValue sig.now s) op.0 (patterns (map pattern_tree children.now)) ls Ws →
         fits.joined ls ≡ map tree args.now → ⊥ }
 {
     match children {
         [] => args.is_empty(),
-        [child, later @ ..] => match args {
-            [] => false,
-            [arg, rest @ ..] => { may_take(sig, child, arg) && each_may_take(sig, op, later, rest) }
-        },
+        [child, later @ ..] => {
+            if !takes_one(sig, op, child) {
+                return true;
+            }
+            match args {
+                [] => false,
+                [arg, rest @ ..] => {
+                    may_take(sig, child, arg) && each_may_take(sig, op, later, rest)
+                }
+            }
+        }
     }
 }
 

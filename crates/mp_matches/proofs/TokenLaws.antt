@@ -1,8 +1,7 @@
 -- The token that is computed of a match is its token, and the only one.
 use Rattle.std.proofs.Common.{◌≡◌, ◌<◌, ◌+◌, ℕ, zero, suc, List, [], ◌∷◌, ◌++◌, true, false, map, length, get_or, refl}
 use Rattle.std.proofs.Common.{ap, ap₂, sym, ◌∙◌, subst, inl, inr, arith}
-use Rattle.std.specs.Prelude.{Bool, Contains, Option, Some, None, slice_get, option_and_then}
-use Rattle.std.specs.Prelude.{if◌then◌else◌}
+use Rattle.std.specs.Prelude.{Bool, Contains, Option, Some, None, slice_get, option_and_then, if◌then◌else◌}
 use Rattle.std.specs.declared.cmp.Ordering.{Ordering}
 use Rattle.std.specs.declared.cmp.Ordering.TheVariants.{Less, Equal, Greater}
 use Rattle.std.specs.Ordering.{eq_by_cmp, is_gt, is_lt, ordering_reverse}
@@ -23,17 +22,16 @@ use Rattle.mp_term.specs.Sorting.{sorted}
 use Rattle.mp_term.specs.Tree.{Tree, symbol, app, Trees, tree_list, trees}
 use Rattle.mp_term.specs.TreeLists.{tree_list-trees}
 use Rattle.mp_term.proofs.ListLaws.{all-also, all-append, all-split}
-use Rattle.mp_term.proofs.ListingLaws.{all_in, contains-from_in, in-from_contains, unique_listing}
-use Rattle.mp_term.proofs.SearchLaws.{all-from_in}
+use Rattle.mp_term.proofs.ListingLaws.{contains-from_in, in-from_contains, unique_listing}
 use Rattle.mp_term.proofs.Sorting.{Ascends, ascends-sorted}
 use Rattle.mp_pattern.specs.Admission.{AreLeast, IsLeast, Rule}
 use Rattle.mp_pattern.specs.Constants.{rule_constants}
 use Rattle.mp_pattern.specs.Fits as fits
-use Rattle.mp_pattern.specs.Fits.{AllTakeBy, ByArguments, Collapsed, Fits, TakesBy, arranged, joined}
+use Rattle.mp_pattern.specs.Fits.{AllTakeBy, Fits, TakesBy, arranged, joined}
 use Rattle.mp_pattern.specs.PatternTree.{Pattern, Patterns, Wildcard, app_pattern, more_patterns, no_patterns}
 use Rattle.mp_pattern.specs.PatternTree.{symbol_pattern, wild_pattern}
 use Rattle.mp_pattern.specs.Variables.{comm_above}
-use Rattle.mp_pattern.proofs.SortedLaws.{all-from_sorted, all-sorted}
+use Rattle.mp_pattern.proofs.SortedLaws.{from_in-sorted, in-sorted, all-from_sorted}
 use Rattle.mp_table.specs.Preorder.{all_preorder}
 use Rattle.mp_table.specs.Subterms.{IsSubterm, IsSubtermOf}
 use Rattle.mp_table.specs.Table.{HasRank, HasRanks, IsTableOf, Table, rank_of, term_at, terms_at}
@@ -54,16 +52,6 @@ use Rattle.mp_matches.specs.TokenOf.{entry_in, number_or_0, rank_in, table_of, t
 -- ---- sorted lists
 
 module _ {X : Type 0} (cmp : X → X → Ordering) where
-  -- a sorted list has the members of the list
-  in-sorted : (x : X) (xs : List X) → In x xs → In x (sorted cmp xs)
-  in-sorted x xs i = all_in (λ y. In y (sorted cmp xs)) xs x
-      (all-from_sorted (λ y. In y (sorted cmp xs)) cmp xs
-      (all-from_in (λ y. In y (sorted cmp xs)) (sorted cmp xs) (λ y j. j))) i
-
-  from_in-sorted : (x : X) (xs : List X) → In x (sorted cmp xs) → In x xs
-  from_in-sorted x xs i = all_in (λ y. In y xs) (sorted cmp xs) x
-      (all-sorted (λ y. In y xs) cmp xs (all-from_in (λ y. In y xs) xs (λ y j. j))) i
-
   -- and is sorted
   not_less : (r s : Ordering) → s ≡ ordering_reverse r → is_gt r ≡ false → is_lt s ≡ false
   not_less Less s e g = ap is_lt e

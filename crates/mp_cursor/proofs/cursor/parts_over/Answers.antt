@@ -5,7 +5,7 @@ use Rattle.mp_pattern.proofs.PlanLaws.{length-subpatterns}
 use Rattle.mp_search.specs.Grounds.{AreGrounds}
 use Rattle.mp_cursor.specs.Listing.{subject_of}
 use Rattle.mp_cursor.proofs.PartsLaws.{vacant-over}
-use Rattle.mp_cursor.proofs.PlanNodes.{plan-nodes}
+use Rattle.mp_pattern.proofs.PlanNodes.{plan-nodes}
 use Rattle.mp_cursor.proofs.cursor.parts_over.Goals as goal
 
 pub fill-requires : goal.fill-requires
@@ -17,7 +17,7 @@ fill-requires c =
       arith,
       a,
       length-subpatterns plan.pattern,
-      plan-nodes c.args.matched.sig.now plan c.requires.plan,
+      plan-nodes c.args.matched.sig.now plan.pattern plan c.requires.plan,
       nodes,
       c.room.invariant.0.grounds,
     )

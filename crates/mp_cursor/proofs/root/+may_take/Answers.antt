@@ -1,7 +1,6 @@
 use Rattle.std.proofs.Common.{◌≡◌, ◌<◌, List, ◌-◌, ◌∷◌, [], true, refl, map, take, drop, length, ap, sym, ◌∙◌}
 use Rattle.std.proofs.Common.{subst, rules}
 use Rattle.std.proofs.Common.{arith, length-append}
-use Rattle.std.proofs.lemmas.Bool.{and_parts}
 use Rattle.std.specs.Prelude.{Some, None}
 use Rattle.mp_term.specs.Tree.{app, trees}
 use Rattle.mp_term.specs.declared.term.Term.{Term}
@@ -10,7 +9,7 @@ use Rattle.mp_pattern.specs.Fits as fits
 use Rattle.mp_pattern.specs.PatternTree.{app_pattern, patterns}
 use Rattle.mp_pattern.specs.Subpatterns.{subpatterns, all_subpatterns}
 use Rattle.mp_pattern.specs.View.{pattern_tree}
-use Rattle.mp_theory.specs.MayMatch.{takes_one, each_takes_one}
+use Rattle.mp_theory.specs.MayMatch.{takes_one}
 use Rattle.mp_search.proofs.PartLaws.{first-item, first-pattern, some-subpatterns}
 use Rattle.mp_cursor.proofs.RootLaws.{symbol-takes, names-same, names-equal, arguments-taken, first-taken, none-taken}
 use Rattle.mp_cursor.proofs.root.+may_take.Goals as goal
@@ -28,8 +27,8 @@ pub each_may_take-each_may_take-requires : goal.each_may_take-each_may_take-requ
 each_may_take-each_may_take-requires t c =
     let p = pattern_tree c.child-item.result in
     let others = patterns (map pattern_tree (take (length c.args.children.now - 1) (drop 1 c.args.children.now))) in
-    let i = first-pattern c.args.children.now c.child-item.result c.in-len1-up.len_at_least c.child-item.is in
-    let e = ap all_subpatterns i in (
+    let e = ap all_subpatterns
+    (first-pattern c.args.children.now c.child-item.result c.in-len1-up.len_at_least c.child-item.is) in (
       omega (
         arith,
         c.decreases,
@@ -37,9 +36,7 @@ each_may_take-each_may_take-requires t c =
         length-append (subpatterns p) (all_subpatterns others),
         some-subpatterns p,
       ),
-      (and_parts (takes_one c.args.sig.now (Some c.args.op.0) p)
-          (each_takes_one c.args.sig.now (Some c.args.op.0) others)
-          (subst (λ ps. each_takes_one c.args.sig.now (Some c.args.op.0) ps ≡ true) i c.requires)).1,
+      tt,
     )
 
 pub each_may_take-returns-in-empty-args : goal.each_may_take-returns-in-empty-args
@@ -49,8 +46,7 @@ each_may_take-returns-in-empty-args t c = λ n s ls Ws h e.
     let p = pattern_tree c.child-item.result in
     let others = patterns (map pattern_tree (take (length c.args.children.now - 1) (drop 1 c.args.children.now))) in
     let i = first-pattern c.args.children.now c.child-item.result c.in-len1-up.len_at_least c.child-item.is in
-    let one = (and_parts (takes_one sig (Some g) p) (each_takes_one sig (Some g) others)
-    (subst (λ ps. each_takes_one sig (Some g) ps ≡ true) i c.requires)).0 in
+    let one : takes_one sig (Some g) p ≡ true = sym c.takes_one.ensures ∙ c.if-not-takes_one.false in
     none-taken sig s g p others ls Ws one (subst (λ ps. fits.AllTakeBy sig (fits.ByValue sig s) g ps ls Ws) i h)
     (e ∙ none c.args.args.now c.in-empty-args.len_below)
   where
@@ -65,8 +61,7 @@ each_may_take-returns-then-may_take t c = λ n s ls Ws h e.
     let p = pattern_tree c.child-item.result in
     let others = patterns (map pattern_tree (take (length c.args.children.now - 1) (drop 1 c.args.children.now))) in
     let i = first-pattern c.args.children.now c.child-item.result c.in-len1-up.len_at_least c.child-item.is in
-    let one = (and_parts (takes_one sig (Some g) p) (each_takes_one sig (Some g) others)
-    (subst (λ ps. each_takes_one sig (Some g) ps ≡ true) i c.requires)).0 in
+    let one : takes_one sig (Some g) p ≡ true = sym c.takes_one.ensures ∙ c.if-not-takes_one.false in
     let j = ap (map tree)
     (first-item c.args.args.now c.arg-item.result c.in-len1-up-args.len_at_least c.arg-item.is) in
     let taken = first-taken sig s g p others (tree c.arg-item.result)
@@ -81,8 +76,7 @@ each_may_take-returns-else-may_take t c = λ n s ls Ws h e.
     let p = pattern_tree c.child-item.result in
     let others = patterns (map pattern_tree (take (length c.args.children.now - 1) (drop 1 c.args.children.now))) in
     let i = first-pattern c.args.children.now c.child-item.result c.in-len1-up.len_at_least c.child-item.is in
-    let one = (and_parts (takes_one sig (Some g) p) (each_takes_one sig (Some g) others)
-    (subst (λ ps. each_takes_one sig (Some g) ps ≡ true) i c.requires)).0 in
+    let one : takes_one sig (Some g) p ≡ true = sym c.takes_one.ensures ∙ c.if-not-takes_one.false in
     let j = ap (map tree)
     (first-item c.args.args.now c.arg-item.result c.in-len1-up-args.len_at_least c.arg-item.is) in
     let taken = first-taken sig s g p others (tree c.arg-item.result)
@@ -126,5 +120,5 @@ may_take_arguments-returns t c = λ n s W h.
     let g = c.args.op.0 in
     let ps = patterns (map pattern_tree c.args.children.now) in
     let taken = arguments-taken sig s g ps (map tree c.args.args.now) W (sym c.is_comm.ensures ∙ c.if-is_comm.false)
-    (sym c.each_takes_one.ensures ∙ c.if-not-each_takes_one.false) h in
+    (sym c.may_leave_out.ensures ∙ c.if-may_leave_out.false) h in
     c.each_may_take.ensures n s taken.0 taken.1 taken.2 taken.3

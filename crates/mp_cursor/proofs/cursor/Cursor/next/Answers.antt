@@ -2,8 +2,8 @@ use Rattle.std.proofs.Common.{◌≡◌, ◌∙◌, ap, sym}
 use Rattle.std.specs.Prelude.{option_map, if◌then◌else◌}
 use Rattle.mp_pattern.specs.CondView.{cond_tree}
 use Rattle.mp_pattern.specs.RuleView.{rule_tree}
-use Rattle.mp_cursor.specs.declared.stage.Stage.{Stage}
-use Rattle.mp_cursor.specs.declared.stage.Stage.TheVariants.{Standing, Ended}
+use Rattle.mp_search.specs.declared.stage.Stage.{Stage}
+use Rattle.mp_search.specs.declared.stage.Stage.TheVariants.{Standing, Ended}
 use Rattle.mp_cursor.specs.Listing.{advanced}
 use Rattle.mp_cursor.specs.Parts.{item_of}
 use Rattle.mp_cursor.proofs.NextLaws.{IsMoved, standing-at, moved-on, moved-view, moved-cursor}
