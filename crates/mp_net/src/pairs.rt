@@ -1,7 +1,6 @@
 //! What a rule admits, by what was read of a subject.
 ghost use Rattle.std.specs.Prelude.{◌≡◌, ◌++◌, true, [], option_map, IfOk, IfSome, OnOk};
 ghost use Rattle.std.specs.List.{AllByRecursion, cons_option};
-ghost use Rattle.mp_pattern.specs.Admission.{meets};
 ghost use Rattle.mp_pattern.specs.CondView.{cond_tree};
 ghost use Rattle.mp_pattern.specs.RuleView.{rule_tree};
 ghost use Rattle.mp_pattern.specs.SoundRule.{IsSoundRule};
@@ -16,23 +15,12 @@ ghost use Rattle.mp_net.specs.Walk.{subject_of, visits, IsSeen, IsRead};
 
 use crate::taken::{follow, to_subst};
 use crate::visit::Seen;
-use mp_cond::holds;
+use mp_cond::meets;
 use mp_pattern::Rule;
 use mp_subst::{Pair, Pairs, Subst};
 use mp_table::Table;
 use mp_term::{Memory, Signature};
 use std::alloc::Global;
-
-// The rule's condition, where it has one, holds of the substitution.
-fn meets(sig: &Signature, rule: &Rule, subst: &Subst) -> bool
-    requires { IfSome rule.now.condition (λ c. IsReady (subst_of subst.now) (cond_tree c)) }
-    ensures { result ≡ meets sig.now (rule_tree rule.now).condition (subst_of subst.now) }
-{
-    match &rule.condition {
-        None => true,
-        Some(condition) => holds(sig, condition, subst),
-    }
-}
 
 // The substitution of a rule of the shape, where it admits one, by what was read of the subject.
 pub(crate) fn tested(
