@@ -150,6 +150,13 @@ went_on sig rules limit turns t u w below left h =
     ∙ ap (λ k. rewriting_from sig rules k turns t) (sym (more-left limit turns below)) ∙ left in
     subst (λ k. rewriting_from sig rules (limit - k) k u ≡ w) (sym (add-one turns)) next
 
+-- rewriting that comes to a term without a step
+pub ended : (sig : Sig) (rules : List Rule) (limit turns : ℕ) (t u : Tree) (w : Rewriting) → turns < limit
+    → rewriting_from sig rules (limit - turns) turns t ≡ w → next_step sig rules t ≡ None → u ≡ t → w ≡ done u turns
+ended sig rules limit turns t u w below left h e =
+    sym left ∙ ap (λ k. rewriting_from sig rules k turns t) (more-left limit turns below)
+    ∙ ap (after_step sig rules (limit - suc turns) turns t) h ∙ ap (λ v. done v turns) (sym e)
+
 -- rewriting that has come to its limit
 pub at_limit : (sig : Sig) (rules : List Rule) (limit turns : ℕ) (t : Tree) (w : Rewriting) (r : Option Stepped)
     (b : Bool)

@@ -9,6 +9,7 @@ pub mod Places
 pub mod FirstRedexes
 pub mod StepsInPlace
 pub mod LeastItems
-pub mod TradeItems
-pub mod TradeSteps
-pub mod TradeTurns
+pub mod CancellationItems
+pub mod CancellationSteps
+pub mod CancellationTurns
+pub mod Runs

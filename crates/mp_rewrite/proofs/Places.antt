@@ -40,7 +40,7 @@ at_least-at t [] i x h e = cc
 at_least-at t (u ∷ ts) zero x h e = let s : u ≡ x = cc in subst (λ v. is_gt (tree_cmp t v) ≡ false) s h.0
 at_least-at t (u ∷ ts) (suc i) x h e = at_least-at t ts i x h.1 e
 
-not_above-itself : (x : Tree) → is_gt (tree_cmp x x) ≡ false
+pub not_above-itself : (x : Tree) → is_gt (tree_cmp x x) ≡ false
 not_above-itself x = rw (tied_itself tree_cmp_total x) refl
 
 -- in front of an equal one

@@ -13,4 +13,5 @@ pub mod MarkSize
 pub mod MarkFalls
 pub mod Known
 pub mod Turn
-pub mod Trade
+pub mod Cancellation
+pub mod Run

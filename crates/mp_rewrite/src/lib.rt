@@ -1,6 +1,8 @@
 //! Rewriting: steps at the first position of a term at which a rule admits something, one or many.
 #![tactic(auto)]
 
+mod cancellation;
+mod cancelled;
 mod fault;
 mod in_place;
 mod known;
@@ -10,10 +12,9 @@ mod next;
 mod redex;
 mod rewrite;
 mod rules;
+mod run;
 mod stop;
 mod taken;
-mod trade;
-mod traded;
 mod turn;
 mod turns;
 mod valid;

@@ -1,12 +1,12 @@
-//! The places of what a trade takes first.
+//! The places of what a cancellation takes first.
 ghost use Rattle.std.specs.Prelude.{◌≡◌, ◌<◌, ◌+◌, ◌≤◌, ◌∷◌, [], ℕ, Some, map, length, slice_get, IfSome};
 ghost use Rattle.std.specs.Prelude.{IsTrue, true};
 ghost use Rattle.mp_term.specs.Tree.{Tree, symbol, app, trees};
 ghost use Rattle.mp_term.specs.View.{tree};
 ghost use Rattle.mp_term.specs.NormalTest.{ascending, has_head};
-ghost use Rattle.mp_rewrite.specs.Trade.{IsPairAt, IsUnderAt, IsBoth, IsUnderOf, AreFirst, IsOnly};
+ghost use Rattle.mp_rewrite.specs.Cancellation.{IsPairAt, IsUnderAt, IsBoth, IsUnderOf, AreFirst, IsOnly};
 
-use crate::trade::{Taken, Trade};
+use crate::cancellation::{Cancellation, Taken};
 use mp_term::{Name, OpId, Signature, Term};
 
 // The places of one or two arguments, the lesser one first.
@@ -39,7 +39,7 @@ fn symbol_place(args: &[Term], name: &Name) -> Option<usize>
 }
 
 // The place of the least argument that stands there twice: it stands there and right behind.
-fn pair_place(args: &[Term]) -> Option<usize>
+pub(crate) fn pair_place(args: &[Term]) -> Option<usize>
     ensures { IfSome result (IsPairAt (map tree args.now)) }
 {
     let mut place = 0;
@@ -147,14 +147,18 @@ fn is_enough(leaves: bool, count: usize, taken: usize) -> bool
     !leaves || count != taken
 }
 
-// The places of what the trade takes first of the arguments, where that is sure.
-pub(crate) fn places_of(sig: &Signature, trade: &Trade<'_>, args: &[Term]) -> Option<Places>
+// The places of what the cancellation takes first of the arguments, where that is sure.
+pub(crate) fn places_of(
+    sig: &Signature,
+    cancellation: &Cancellation<'_>,
+    args: &[Term],
+) -> Option<Places>
     requires { ascending (map tree args.now) ≡ true }
-    ensures { IfSome result (AreFirst sig.now trade.now (map tree args.now)) }
+    ensures { IfSome result (AreFirst sig.now cancellation.now (map tree args.now)) }
 {
-    match &trade.taken {
+    match &cancellation.taken {
         Taken::Symbol(name) => {
-            if !is_enough(trade.leaves, args.len(), 1) {
+            if !is_enough(cancellation.leaves, args.len(), 1) {
                 return None;
             }
             let Some(first) = symbol_place(args, name) else {
@@ -166,7 +170,7 @@ pub(crate) fn places_of(sig: &Signature, trade: &Trade<'_>, args: &[Term]) -> Op
             })
         }
         Taken::Pair => {
-            if !is_enough(trade.leaves, args.len(), 2) {
+            if !is_enough(cancellation.leaves, args.len(), 2) {
                 return None;
             }
             let Some(first) = pair_place(args) else {
@@ -178,10 +182,10 @@ pub(crate) fn places_of(sig: &Signature, trade: &Trade<'_>, args: &[Term]) -> Op
             if sig.is_assoc(*inner) {
                 return None;
             }
-            if !is_enough(trade.leaves, args.len(), 2) {
+            if !is_enough(cancellation.leaves, args.len(), 2) {
                 return None;
             }
-            let Some((first, second)) = under_places(trade.op, *inner, args) else {
+            let Some((first, second)) = under_places(cancellation.op, *inner, args) else {
                 return None;
             };
             Some(both(first, second))

@@ -17,11 +17,11 @@ ghost use Rattle.mp_rewrite.specs.Turn.{IsHere, IsMadeInPlace, IsNextTurn, IsPut
 ghost use Rattle.mp_rewrite.specs.MarkView.{mark_of};
 ghost use Rattle.mp_rewrite.specs.Known.{IsKnown};
 
+use crate::cancelled::{first_cancelled, make};
 use crate::in_place::{Marked, put_in};
 use crate::known_redex::{KnownRedex, first_known_redex};
 use crate::redex::Redex;
 use crate::stop::Stop;
-use crate::traded::{first_traded, make};
 use crate::valid::signature_is_valid;
 use mp_pattern::PlannedRule;
 use mp_subst::{ApplyFault, apply};
@@ -132,8 +132,8 @@ pub(crate) fn take_turn(
     ensures here { IfOk result (IsNextTurn sig.now (map planned_rule rules.now)) }
 {
     signature_is_valid(sig);
-    if let Some(traded) = first_traded(sig, rules, &here.term) {
-        return match make(alloc, sig, here, &traded) {
+    if let Some(cancelled) = first_cancelled(sig, rules, &here.term) {
+        return match make(alloc, sig, here, &cancelled) {
             Ok(next) => Ok(Turn::Made(next)),
             Err(Memory) => Err(Stop::Memory),
         };

@@ -12,6 +12,7 @@ use crate::in_place::Marked;
 use crate::known::Known;
 use crate::known_redex::first_known_redex;
 use crate::rewrite::Rewritten;
+use crate::run::run_on;
 use crate::turn::{Turn, take_turn};
 use crate::valid::signature_is_valid;
 use mp_pattern::PlannedRule;
@@ -38,17 +39,27 @@ pub(crate) fn rewritten(
         known: Known::Nothing,
         nodes: node_count(term),
     };
-    for turns in 0..max {
-        match take_turn(alloc, sig, rules, here) {
-            Ok(Turn::Made(next)) => here = next,
-            Ok(Turn::Ended(term)) => {
-                return Ok(Rewritten {
-                    term,
-                    turns,
-                    more: false,
-                });
+    let mut turns = 0;
+    while turns < max {
+        let run = run_on(alloc, sig, rules, here, max - turns)?;
+        if 0 < run.made {
+            turns += run.made;
+            here = run.here;
+        } else {
+            match take_turn(alloc, sig, rules, run.here) {
+                Ok(Turn::Made(next)) => {
+                    turns += 1;
+                    here = next;
+                }
+                Ok(Turn::Ended(term)) => {
+                    return Ok(Rewritten {
+                        term,
+                        turns,
+                        more: false,
+                    });
+                }
+                Err(stop) => return Err(stop.after(turns)),
             }
-            Err(stop) => return Err(stop.after(turns)),
         }
     }
     let Marked { term, known, .. } = here;

@@ -1,6 +1,6 @@
 use Rattle.std.proofs.Common.{ap, arith}
 use Rattle.mp_term.specs.View.{tree}
-use Rattle.mp_rewrite.proofs.TradeSteps.{not-only-length, only-is}
+use Rattle.mp_rewrite.proofs.CancellationSteps.{not-only-length, only-is}
 use Rattle.mp_rewrite.proofs.taken.only_argument.Goals as goal
 
 pub returns-then-len-ne1 : goal.returns-then-len-ne1

@@ -1,7 +1,7 @@
 use Rattle.std.proofs.Common.{◌+◌, refl, arith, map}
 use Rattle.mp_term.specs.View.{tree}
 use Rattle.mp_rewrite.proofs.FirstRedexes.{mapped-at}
-use Rattle.mp_rewrite.proofs.TradeSteps.{pair-here, pair-step}
+use Rattle.mp_rewrite.proofs.CancellationSteps.{pair-here, pair-step}
 use Rattle.mp_rewrite.proofs.taken.pair_place.Goals as goal
 
 pub returns-then-eq : goal.returns-then-eq

@@ -7,7 +7,7 @@ use Rattle.mp_term.specs.View.{tree}
 use Rattle.mp_term.proofs.Sorting.{Ascends, tally}
 use Rattle.mp_rewrite.proofs.Places.{slice_get-holds, sorted-from_ascends}
 use Rattle.mp_rewrite.proofs.PutBack.{ascends-from}
-use Rattle.mp_rewrite.proofs.TradeSteps.{same-argument, not-found}
+use Rattle.mp_rewrite.proofs.CancellationSteps.{same-argument, not-found}
 use Rattle.mp_rewrite.proofs.taken.under_at.Goals as goal
 
 pub returns-in-Ok : goal.returns-in-Ok

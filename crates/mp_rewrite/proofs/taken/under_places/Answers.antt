@@ -1,7 +1,7 @@
 use Rattle.std.proofs.Common.{refl, map}
 use Rattle.mp_term.specs.View.{tree}
 use Rattle.mp_rewrite.proofs.FirstRedexes.{mapped-at}
-use Rattle.mp_rewrite.proofs.TradeSteps.{under-here, under-step}
+use Rattle.mp_rewrite.proofs.CancellationSteps.{under-here, under-step}
 use Rattle.mp_rewrite.proofs.taken.under_places.Goals as goal
 
 pub returns-in-At : goal.returns-in-At

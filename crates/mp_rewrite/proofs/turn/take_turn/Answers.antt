@@ -6,20 +6,20 @@ use Rattle.mp_pattern.specs.Planned.{planned_rule}
 use Rattle.mp_rewrite.specs.Made.{redex_of}
 use Rattle.mp_rewrite.proofs.Steps.{IsReady-first_redex, IsRewritable-first_redex}
 use Rattle.mp_rewrite.specs.Known.{IsKnown}
-use Rattle.mp_rewrite.proofs.TradeTurns.{traded-turn, traded-rewritable}
+use Rattle.mp_rewrite.proofs.CancellationTurns.{cancelled-turn, cancelled-rewritable}
 use Rattle.mp_rewrite.proofs.turn.take_turn.Goals as goal
 
 pub returns-in-Ok-clause-turn : goal.returns-in-Ok-clause-turn
 returns-in-Ok-clause-turn c =
-    traded-turn c.args.sig.now (map planned_rule c.args.rules.now) (tree c.args.here.term) c.requires.here.rewritable
-    c.in-Some.traded c.in-Some.ensures (tree c.in-Ok.next.term) c.in-Ok.ensures.term
+    cancelled-turn c.args.sig.now (map planned_rule c.args.rules.now) (tree c.args.here.term) c.requires.here.rewritable
+    c.in-Some.cancelled c.in-Some.ensures (tree c.in-Ok.next.term) c.in-Ok.ensures.term
 
 pub returns-in-Ok-clause-here : goal.returns-in-Ok-clause-here
 returns-in-Ok-clause-here c =
     let sig = c.args.sig.now in
     let rules = map planned_rule c.args.rules.now in
     record {
-      rewritable = traded-rewritable sig rules (tree c.args.here.term) c.requires.here.rewritable c.in-Some.traded
+      rewritable = cancelled-rewritable sig rules (tree c.args.here.term) c.requires.here.rewritable c.in-Some.cancelled
           c.in-Some.ensures (tree c.in-Ok.next.term) c.in-Ok.ensures.term c.signature_is_valid.ensures
           c.requires.rules;
       known = subst (λ m. IsKnown sig rules m (tree c.in-Ok.next.term)) (sym c.in-Ok.ensures.known) tt;

@@ -1,8 +1,9 @@
-use Rattle.std.proofs.Common.{map, ap, refl, subst, sym, ◌∙◌, arith}
+use Rattle.std.proofs.Common.{◌≡◌, ◌∙◌, ◌-◌, map, ap, refl, subst, sym, arith}
 use Rattle.std.specs.Prelude.{Ok, Err, is_some}
-use Rattle.mp_rewrite.proofs.CallAnswers.{is_some-map, stopped, went_on, at_limit}
+use Rattle.mp_rewrite.proofs.CallAnswers.{is_some-map, stopped, went_on, ended, at_limit}
+use Rattle.mp_rewrite.proofs.Runs.{left-after, left-still}
 use Rattle.mp_term.specs.View.{tree}
-use Rattle.mp_rewrite.specs.Computed.{rewriting, next_step}
+use Rattle.mp_rewrite.specs.Computed.{rewriting, rewriting_from, next_step}
 use Rattle.mp_rewrite.specs.ComputedAnswers.{IsComputedRewriting}
 use Rattle.mp_rewrite.specs.Made.{redex_of}
 use Rattle.mp_pattern.specs.Planned.{planned_rule}
@@ -10,27 +11,65 @@ use Rattle.mp_rewrite.specs.Turn.{IsNextTurn, IsTurn}
 use Rattle.mp_rewrite.proofs.Steps.{is_some-next_step}
 use Rattle.mp_rewrite.proofs.turns.rewritten.Goals as goal
 
-pub returns-in-Err : goal.returns-in-Err
-returns-in-Err c =
+pub loop-turns-preserved-then-run-gt0 : goal.loop-turns-preserved-then-run-gt0
+loop-turns-preserved-then-run-gt0 c =
     let rules = map planned_rule c.args.rules.now in
-    let w = rewriting c.args.sig.now rules c.args.max (tree c.args.term.now) in
-    subst (λ e. IsComputedRewriting w (Err e)) (sym c.after.ensures)
-    (stopped c.args.sig.now rules c.args.max c.loop-turns.turns (tree c.loop-turns.here.term) w c.in-Err.stop
-    c.loop-turns-test.true c.loop-turns.invariant.left c.in-Err.ensures.turn)
+    let run = c.in_ok-run in
+    record {
+      few = omega (arith, run.ensures.few, c.loop-turns-test.true);
+      here = run.ensures.here;
+      left = sym (left-after c.args.sig.now rules c.args.max c.loop-turns.turns run.run'.made
+          (tree c.loop-turns.here.term) (tree run.run'.here.term) run.ensures.run run.ensures.few)
+          ∙ c.loop-turns.invariant.left;
+    }
 
 pub loop-turns-preserved : goal.loop-turns-preserved
 loop-turns-preserved c =
     let sig = c.args.sig.now in
     let rules = map planned_rule c.args.rules.now in
     let w = rewriting sig rules c.args.max (tree c.args.term.now) in
-    let here = tree c.loop-turns.here.term in
+    let turns = c.loop-turns.turns in
+    let run = c.in_ok-run in
+    let here = tree run.run'.here.term in
+    let left : rewriting_from sig rules (c.args.max - turns) turns here ≡ w =
+    sym (left-still sig rules c.args.max turns run.run'.made (tree c.loop-turns.here.term) here run.ensures.run
+    (omega (arith, c.if-run-gt0.false))) ∙ c.loop-turns.invariant.left in
     record {
+      few = omega (arith, c.loop-turns-test.true);
       here = subst (IsNextTurn sig rules) c.in-Ok-Made.field-0-is c.in-Ok-Made.ensures.here;
-      left = went_on sig rules c.args.max c.loop-turns.turns here (tree c.in-Ok-Made.next.term) w
-          c.loop-turns-test.true c.loop-turns.invariant.left
-          (subst (λ x. IsTurn (next_step sig rules here) c.loop-turns.here (Ok x)) c.in-Ok-Made.field-0-is
+      left = went_on sig rules c.args.max turns here (tree c.in-Ok-Made.next.term) w c.loop-turns-test.true left
+          (subst (λ x. IsTurn (next_step sig rules here) run.run'.here (Ok x)) c.in-Ok-Made.field-0-is
           c.in-Ok-Made.ensures.turn);
     }
+
+pub returns-in-Ok-Ended : goal.returns-in-Ok-Ended
+returns-in-Ok-Ended c =
+    let sig = c.args.sig.now in
+    let rules = map planned_rule c.args.rules.now in
+    let w = rewriting sig rules c.args.max (tree c.args.term.now) in
+    let turns = c.loop-turns.turns in
+    let run = c.in_ok-run in
+    let here = tree run.run'.here.term in
+    let left : rewriting_from sig rules (c.args.max - turns) turns here ≡ w =
+    sym (left-still sig rules c.args.max turns run.run'.made (tree c.loop-turns.here.term) here run.ensures.run
+    (omega (arith, c.if-run-gt0.false))) ∙ c.loop-turns.invariant.left in
+    let turn = subst (λ x. IsTurn (next_step sig rules here) run.run'.here (Ok x)) c.in-Ok-Ended.field-0-is
+    c.in-Ok-Ended.ensures.turn in
+    ended sig rules c.args.max turns here (tree c.in-Ok-Ended.term) w c.loop-turns-test.true left turn.0 turn.1
+
+pub returns-in-Err : goal.returns-in-Err
+returns-in-Err c =
+    let sig = c.args.sig.now in
+    let rules = map planned_rule c.args.rules.now in
+    let w = rewriting sig rules c.args.max (tree c.args.term.now) in
+    let turns = c.loop-turns.turns in
+    let run = c.in_ok-run in
+    let here = tree run.run'.here.term in
+    let left : rewriting_from sig rules (c.args.max - turns) turns here ≡ w =
+    sym (left-still sig rules c.args.max turns run.run'.made (tree c.loop-turns.here.term) here run.ensures.run
+    (omega (arith, c.if-run-gt0.false))) ∙ c.loop-turns.invariant.left in
+    subst (λ e. IsComputedRewriting w (Err e)) (sym c.after.ensures)
+    (stopped sig rules c.args.max turns here w c.in-Err.stop c.loop-turns-test.true left c.in-Err.ensures.turn)
 
 pub returns : goal.returns
 returns c =
@@ -40,7 +79,7 @@ returns c =
     let here = tree c.loop-turns.here.term in
     let redex = ap is_some c.in_ok-first_known_redex.ensures.redex in
     at_limit sig rules c.args.max c.loop-turns.turns here w (next_step sig rules here) c.is_some-more.result
-    (omega (arith, c.loop-turns-test.false)) (omega (arith, c.loop-turns.auto.turns-end))
+    (omega (arith, c.loop-turns-test.false)) (omega (arith, c.loop-turns.invariant.few))
     c.loop-turns.invariant.left refl
     (c.is_some-more.ensures ∙ sym (is_some-map (λ r. redex_of r.redex) c.in_ok-first_known_redex.field-0) ∙ redex
     ∙ sym (is_some-next_step sig rules c.signature_is_valid.ensures c.requires.rules here
