@@ -23,7 +23,7 @@ use Rattle.mp_search.specs.Grounds.{ground_of, AreGrounds}
 use Rattle.mp_search.specs.Query.{HoldsGround}
 use Rattle.mp_search.specs.Reading.{name_among}
 use Rattle.mp_ac.specs.declared.comm_matcher.CommMatcher.{CommMatcher}
-use Rattle.mp_ac.specs.declared.stage.Stage.TheVariants.{Before}
+use Rattle.mp_search.specs.declared.stage.Stage.TheVariants.{Before}
 use Rattle.mp_ac.specs.Asked.{all_items, levels_table, root_list}
 use Rattle.mp_ac.specs.Children.{AreArguments}
 use Rattle.mp_ac.specs.CommItems.{AreCommItems}
@@ -34,7 +34,7 @@ use Rattle.mp_ac.specs.Matcher.{IsMatcher, asked_of, base_of, number_among, read
 use Rattle.mp_ac.specs.Stage.{ahead_at, IsAmong}
 use Rattle.mp_ac.proofs.ListLaws.{comm_list-items}
 use Rattle.mp_ac.proofs.MatcherLaws.{in-get, own-below, own-distinct, read-trail, sub-variables, variables-once}
-use Rattle.mp_ac.proofs.PlanNodes.{plan-names}
+use Rattle.mp_pattern.proofs.PlanNodes.{plan-names}
 
 -- the subpatterns of a subpattern are subpatterns
 module _ (c d : Pattern) (i : In d (subpatterns c)) where

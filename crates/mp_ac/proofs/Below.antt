@@ -21,11 +21,10 @@ use Rattle.mp_theory.proofs.Wildcards.{IsFine, final-passes}
 use Rattle.mp_theory.proofs.Walk.{IsFineAt, fine-settle, run_at, at_run, accepted, valued}
 use Rattle.mp_theory.proofs.Tables.{accounts, accounts-settled}
 use Rattle.mp_theory.proofs.Solving.{GivesFinal, solved-by, solution}
-use Rattle.mp_theory.proofs.FitsSolves.{at_value, takes-final}
+use Rattle.mp_theory.proofs.FitsSolves.{at_value, obeyed, takes-final}
 use Rattle.mp_ac.specs.Children.{AreArguments, ChildrenTake}
 use Rattle.mp_ac.specs.CommItems.{SameValues, IsTrail, IsCommItem}
 use Rattle.mp_ac.specs.CommList.{below}
-use Rattle.mp_ac.proofs.Obeyed.{obeyed}
 use Rattle.mp_ac.proofs.Taken.{over-alone, alone-over}
 
 module _ (sig : Sig) (g : ℕ) where

@@ -1,5 +1,4 @@
 pub mod Taken
-pub mod Obeyed
 pub mod Below
 pub mod ListLaws
 pub mod BehindLaws

@@ -39,7 +39,7 @@ use Rattle.mp_ac.specs.CommList.{behind_table}
 use Rattle.mp_ac.specs.CommPlan.{nodes_below, root_op}
 use Rattle.mp_ac.specs.CommQuery.{IsCommQuery}
 use Rattle.mp_ac.specs.Stage.{IsOnward, looked_for}
-use Rattle.mp_ac.proofs.PlanNodes.{plan-nodes}
+use Rattle.mp_ac.proofs.PlanNodes.{plan-nodes_below}
 use Rattle.mp_ac.proofs.QueryLaws.{comm-ready, comm-spare, comm-items, first-found, after-found, listed}
 
 -- as many as there are in front
@@ -52,7 +52,7 @@ take-front (x ∷ xs) ys (suc n) e = ap (λ zs. x ∷ zs) (take-front xs ys n (o
 module _ (a : Asked) (h : IsAsked a) where
   -- how many nodes there are below the root
   pub count-below : (n : ℕ) → n ≡ length a.plan.now.nodes → n ≡ nodes_below a.plan.now.pattern + 1
-  count-below n e = e ∙ plan-nodes a.sig.now a.plan.now.pattern a.plan.now h.plan h.application
+  count-below n e = e ∙ plan-nodes_below a.sig.now a.plan.now.pattern a.plan.now h.plan h.application
 
   module _ (args : Bor (List Rank)) (grounds : Bor (List Ground)) (op : OpId) (children : Bor (List own_pattern))
       (ps : List Pattern) (root : a.plan.now.pattern ≡ app_pattern op.0 (patterns ps))

@@ -20,13 +20,14 @@ use Rattle.mp_search.specs.Levels.{AreLevels}
 use Rattle.mp_search.specs.Wanted.{IsStanding}
 use Rattle.mp_ac.specs.declared.asked.Asked.{Asked}
 use Rattle.mp_ac.specs.declared.room.CommRoom.{CommRoom}
-use Rattle.mp_ac.specs.declared.stage.Stage.{Stage}
-use Rattle.mp_ac.specs.declared.stage.Stage.TheVariants.{Before, Standing, Ended}
+use Rattle.mp_search.specs.declared.stage.Stage.{Stage}
+use Rattle.mp_search.specs.declared.stage.Stage.TheVariants.{Before, Standing, Ended}
 use Rattle.mp_ac.specs.Asked.{all_items, cost, levels_table, trail_subst}
 use Rattle.mp_ac.specs.CommList.{behind_table}
 use Rattle.mp_ac.specs.CommPlan.{nodes_below}
 use Rattle.mp_ac.specs.Moved.{ahead_in, IsStandingAt, IsMoved}
-use Rattle.mp_ac.specs.Stage.{ahead_at, mode_at, looked_for, IsAmong, IsOnward}
+use Rattle.mp_search.specs.Stage.{mode_at}
+use Rattle.mp_ac.specs.Stage.{ahead_at, looked_for, IsAmong, IsOnward}
 use Rattle.mp_ac.proofs.BehindLaws.{behind-in, first-in, table-in}
 
 -- what is looked for at a stage are the items that are to come

@@ -1,63 +1,31 @@
 -- What a search that begins counts on.
-use Rattle.std.proofs.Common.{◌≡◌, ◌<◌, ◌≤◌, ◌+◌, ℕ, List, [], ◌∷◌, ◌++◌, length, map, take, true, false, zero, suc}
+use Rattle.std.proofs.Common.{◌≡◌, ◌<◌, ◌≤◌, ◌+◌, ℕ, List, [], ◌∷◌, length, map, take, true, false, zero, suc}
 use Rattle.std.proofs.Common.{refl}
 use Rattle.std.proofs.Common.{ap, sym, ◌∙◌, subst, arith, ◌-◌, slice_index_or}
-use Rattle.std.specs.Prelude.{Some, None, IsSome, slice_get}
+use Rattle.std.specs.Prelude.{Some, None, slice_get}
 use Rattle.std.specs.List.{AllByRecursion}
-use Rattle.mp_term.proofs.ListLaws.{all-append}
-use Rattle.mp_pattern.specs.Constants.{pattern_constants, all_pattern_constants}
 use Rattle.mp_pattern.specs.NetTokens.{numbered}
-use Rattle.mp_pattern.specs.PatternTree.{dot, kind, plus, star, optional, counted, Pattern, symbol_pattern, app_pattern}
-use Rattle.mp_pattern.specs.PatternTree.{wild_pattern, Patterns, no_patterns, more_patterns}
+use Rattle.mp_pattern.specs.PatternTree.{Pattern}
 use Rattle.mp_pattern.specs.Size.{pattern_nodes}
-use Rattle.mp_pattern.specs.Subpatterns.{subpatterns, all_subpatterns}
+use Rattle.mp_pattern.specs.Subpatterns.{subpatterns}
 use Rattle.mp_pattern.specs.Value.{same_name}
 use Rattle.mp_pattern.specs.Variables.{variables}
 use Rattle.mp_pattern.proofs.NameLaws.{same_name-itself}
 use Rattle.mp_pattern.proofs.PlanLaws.{length-subpatterns}
 use Rattle.mp_term.specs.Size.{all_nodes}
-use Rattle.mp_table.specs.Table.{Table, HasRanks, rank_of, terms_at}
+use Rattle.mp_table.specs.Table.{HasRanks, terms_at}
 use Rattle.mp_subst.specs.Trail.{Trail}
 use Rattle.mp_theory.proofs.FirstsLaws.{Distinct}
 use Rattle.mp_search.specs.declared.level.Level.{Level}
-use Rattle.mp_search.specs.Grounds.{ground_of}
 use Rattle.mp_search.specs.Levels as levels
 use Rattle.mp_search.specs.Levels.{IsRoomy}
 use Rattle.mp_search.specs.Reading.{entry_of}
-use Rattle.mp_search.specs.Query.{HoldsGround}
 use Rattle.mp_search.proofs.NumberLaws.{distinct-variables}
 use Rattle.mp_ac.specs.declared.search.CommSearch.{CommSearch}
 use Rattle.mp_ac.specs.Args.{args_of}
 use Rattle.mp_ac.specs.CommPlan.{IsApplication, nodes_below}
 use Rattle.mp_ac.specs.Search.{IsOver, item_table}
-use Rattle.mp_ac.proofs.PlanNodes.{plan-nodes}
-
--- a table that holds the constants of a pattern holds what is known of its nodes
-both : {X : Type 0} (P : X → Type 0) (xs ys : List X) → AllByRecursion P (xs ++ ys)
-    → AllByRecursion P xs × AllByRecursion P ys
-both P [] ys h = (tt, h)
-both P (x ∷ xs) ys h = let r = both P xs ys h.1 in ((h.0, r.0), r.1)
-
-module _ (t : Table) where
-  mutual
-    pub grounds-held : (p : Pattern) → AllByRecursion (λ u. IsSome (rank_of t u)) (pattern_constants p)
-        → AllByRecursion (λ q. HoldsGround t (ground_of q)) (subpatterns p)
-    grounds-held (symbol_pattern n) h = (h.0, tt)
-    grounds-held (app_pattern f ps) h = (tt, all_grounds-held ps h)
-    grounds-held (wild_pattern dot x) h = (tt, tt)
-    grounds-held (wild_pattern (kind k) x) h = (tt, tt)
-    grounds-held (wild_pattern plus x) h = (tt, tt)
-    grounds-held (wild_pattern star x) h = (tt, tt)
-    grounds-held (wild_pattern (optional d) x) h = (h.0, tt)
-    grounds-held (wild_pattern (counted n b) x) h = (tt, tt)
-
-    all_grounds-held : (ps : Patterns) → AllByRecursion (λ u. IsSome (rank_of t u)) (all_pattern_constants ps)
-        → AllByRecursion (λ q. HoldsGround t (ground_of q)) (all_subpatterns ps)
-    all_grounds-held no_patterns h = tt
-    all_grounds-held (more_patterns p ps) h =
-        let r = both (λ u. IsSome (rank_of t u)) (pattern_constants p) (all_pattern_constants ps) h in
-        all-append (λ q. HoldsGround t (ground_of q)) (subpatterns p) (all_subpatterns ps) (grounds-held p r.0)
-        (all_grounds-held ps r.1)
+use Rattle.mp_ac.proofs.PlanNodes.{plan-nodes_below}
 
 -- an application has one node more than there are below its root
 pub count-subpatterns : (p : Pattern) → IsApplication p → length (subpatterns p) ≡ nodes_below p + 1
@@ -121,7 +89,7 @@ all-at P (y ∷ xs) (suc n) x a l e = all-at P xs n x a.1 (omega (arith, l)) e
 module _ (c : CommSearch) (t : Trail) (over : IsOver c t) where
   -- how many nodes there are below the root
   pub below-count : (n : ℕ) → n ≡ length c.asked.plan.now.nodes → n ≡ nodes_below c.asked.plan.now.pattern + 1
-  below-count n e = e ∙ plan-nodes c.asked.sig.now c.asked.plan.now.pattern c.asked.plan.now over.asked.plan
+  below-count n e = e ∙ plan-nodes_below c.asked.sig.now c.asked.plan.now.pattern c.asked.plan.now over.asked.plan
       over.asked.application
 
   -- there is no entry behind them

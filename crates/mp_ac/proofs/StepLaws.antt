@@ -36,8 +36,8 @@ use Rattle.mp_search.proofs.NumberLaws.{distinct-variables}
 use Rattle.mp_search.proofs.SubstLaws.{value_of-subst_from, value_of-set_other}
 use Rattle.mp_ac.specs.declared.asked.Asked.{Asked}
 use Rattle.mp_ac.specs.declared.search.CommSearch.{CommSearch}
-use Rattle.mp_ac.specs.declared.stage.Stage.{Stage}
-use Rattle.mp_ac.specs.declared.stage.Stage.TheVariants.{Before, Standing, Ended}
+use Rattle.mp_search.specs.declared.stage.Stage.{Stage}
+use Rattle.mp_search.specs.declared.stage.Stage.TheVariants.{Before, Standing, Ended}
 use Rattle.mp_ac.specs.Args.{args_of}
 use Rattle.mp_ac.specs.Asked.{all_items, root_list}
 use Rattle.mp_ac.specs.CommItems.{NoneTwice, SameOn, SameValues}
@@ -47,7 +47,7 @@ use Rattle.mp_ac.specs.Search.{IsOver, IsNumberedSearch, ahead, item_table, read
 use Rattle.mp_ac.specs.Stage.{ahead_at}
 use Rattle.mp_ac.proofs.BehindLaws.{behind-first, behind-in, behind-next, first-in}
 use Rattle.mp_ac.proofs.ListLaws.{comm_list-others, comm_list-same, once-ascending}
-use Rattle.mp_ac.proofs.PlanNodes.{plan-names}
+use Rattle.mp_pattern.proofs.PlanNodes.{plan-names}
 
 -- a name is one of them or not
 among : (x : List ℕ) (xs : List (List ℕ)) → In x xs ⊎ (In x xs → ⊥)

@@ -12,8 +12,8 @@ use Rattle.mp_subst.specs.Trail.{Trail, cut, length_at}
 use Rattle.mp_theory.specs.OneList.{Item}
 use Rattle.mp_ac.specs.declared.asked.Asked.{Asked}
 use Rattle.mp_ac.specs.declared.comm_matcher.CommMatcher.{CommMatcher}
-use Rattle.mp_ac.specs.declared.stage.Stage.{Stage}
-use Rattle.mp_ac.specs.declared.stage.Stage.TheVariants.{Before, Standing, Ended}
+use Rattle.mp_search.specs.declared.stage.Stage.{Stage}
+use Rattle.mp_search.specs.declared.stage.Stage.TheVariants.{Before, Standing, Ended}
 use Rattle.mp_ac.specs.Asked.{levels_table, trail_subst}
 use Rattle.mp_ac.specs.Moved.{ahead_in, IsStandingAt}
 

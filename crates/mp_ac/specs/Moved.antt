@@ -11,7 +11,7 @@ use Rattle.mp_search.specs.At.{BindsOnly}
 use Rattle.mp_search.specs.Grounds.{AreGrounds}
 use Rattle.mp_ac.specs.declared.asked.Asked.{Asked}
 use Rattle.mp_ac.specs.declared.room.CommRoom.{CommRoom}
-use Rattle.mp_ac.specs.declared.stage.Stage.{Stage}
+use Rattle.mp_search.specs.declared.stage.Stage.{Stage}
 use Rattle.mp_ac.specs.Asked.{IsAsked, AreGiven, IsTrailFor, all_items, cost, levels_table, trail_subst}
 use Rattle.mp_ac.specs.CommPlan.{nodes_below}
 use Rattle.mp_ac.specs.CommRoom.{IsRoomFor}

@@ -1,19 +1,13 @@
--- What comes next at a stage.
-use Rattle.std.specs.Prelude.{⊤, Bool, true, false, Option, Some, None, List, []}
+-- What is still to come at a stage.
+use Rattle.std.specs.Prelude.{⊤, Bool, true, false, List, []}
 use Rattle.mp_term.specs.Listing.{In}
 use Rattle.mp_pattern.specs.Fits.{Table}
 use Rattle.mp_theory.specs.OneList.{Item, item_tables}
 use Rattle.mp_search.specs.declared.mode.Mode.{Mode}
 use Rattle.mp_search.specs.declared.mode.Mode.TheVariants.{First, After, At}
-use Rattle.mp_ac.specs.declared.stage.Stage.{Stage}
-use Rattle.mp_ac.specs.declared.stage.Stage.TheVariants.{Before, Standing, Ended}
+use Rattle.mp_search.specs.declared.stage.Stage.{Stage}
+use Rattle.mp_search.specs.declared.stage.Stage.TheVariants.{Before, Standing, Ended}
 use Rattle.mp_ac.specs.CommList.{behind_table}
-
--- what is looked for next, if there is anything to look for
-abbrev pub mode_at : Stage → Option Mode
-mode_at Before = Some First
-mode_at Standing = Some After
-mode_at Ended = None
 
 -- the items that are still to come, where the table is that of the item at hand
 abbrev pub ahead_at : Stage → Table → List Item → List Item

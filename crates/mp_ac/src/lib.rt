@@ -8,7 +8,6 @@ mod comm_plan;
 mod look;
 mod room;
 mod search;
-mod stage;
 mod subpattern;
 
 pub use args::Args;

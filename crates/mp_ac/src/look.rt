@@ -16,9 +16,8 @@ ghost use Rattle.mp_ac.specs.Moved.{IsMoved, IsStandingAt};
 
 use crate::asked::Asked;
 use crate::room::CommRoom;
-use crate::stage::Stage;
 use mp_pattern::Pattern;
-use mp_search::{Ground, Level, Mode, Query, Start, find};
+use mp_search::{Ground, Level, Mode, Query, Stage, Start, find};
 use mp_subst::Trail;
 use mp_table::Rank;
 

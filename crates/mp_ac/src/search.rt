@@ -24,7 +24,7 @@ use crate::asked::Asked;
 use crate::comm_plan::CommPlan;
 use crate::look::look_on;
 use crate::room::CommRoom;
-use crate::stage::Stage;
+use mp_search::Stage;
 use mp_subst::{Mark, Trail};
 use mp_table::{Rank, Table};
 use mp_term::Signature;

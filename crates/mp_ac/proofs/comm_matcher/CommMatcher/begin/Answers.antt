@@ -12,17 +12,18 @@ use Rattle.mp_ac.specs.Children.{AreArguments}
 use Rattle.mp_ac.specs.CommItems.{AreCommItems}
 use Rattle.mp_ac.specs.CommList.{comm_list}
 use Rattle.mp_ac.specs.Matcher.{number_among, read_trail, to_come}
-use Rattle.mp_ac.specs.declared.stage.Stage.TheVariants.{Before}
+use Rattle.mp_search.specs.declared.stage.Stage.TheVariants.{Before}
 use Rattle.mp_ac.proofs.BeginLaws as laws
-use Rattle.mp_ac.proofs.PlanNodes.{plan-nodes}
-use Rattle.mp_ac.proofs.SearchLaws.{count-subpatterns, grounds-held}
+use Rattle.mp_ac.proofs.PlanNodes.{plan-nodes_below}
+use Rattle.mp_ac.proofs.SearchLaws.{count-subpatterns}
+use Rattle.mp_search.proofs.GroundsHeld.{grounds-held}
 use Rattle.mp_ac.proofs.comm_matcher.CommMatcher.begin.Goals as goal
 
 pub overflow_sub-len : goal.overflow_sub-len
 overflow_sub-len c =
     let n = c.requires.node in
     let p = c.in_ok-own.ensures n.op n.children n.is in
-    let k = plan-nodes c.args.sig.now (app_pattern n.op n.children) c.in_ok-own.own p
+    let k = plan-nodes_below c.args.sig.now (app_pattern n.op n.children) c.in_ok-own.own p
     (record { op = n.op; children = n.children; is = refl }) in
     omega (arith, k, c.len.ensures.count)
 
@@ -31,7 +32,7 @@ fill-requires c =
     let n = c.requires.node in
     let q = app_pattern n.op n.children in
     let p = c.in_ok-own.ensures n.op n.children n.is in
-    let k = plan-nodes c.args.sig.now q c.in_ok-own.own p
+    let k = plan-nodes_below c.args.sig.now q c.in_ok-own.own p
     (record { op = n.op; children = n.children; is = refl }) in
     let s = count-subpatterns q (record { op = n.op; children = n.children; is = refl }) in
     let r = (c.in_ok-room.ensures c.args.table.now).grounds in
@@ -44,7 +45,7 @@ returns-clause-matcher c =
     let q = app_pattern n.op n.children in
     let t = c.args.table.now in
     let p = c.in_ok-own.ensures n.op n.children n.is in
-    let k = plan-nodes c.args.sig.now q c.in_ok-own.own p
+    let k = plan-nodes_below c.args.sig.now q c.in_ok-own.own p
     (record { op = n.op; children = n.children; is = refl }) in
     let r = c.in_ok-room.ensures t in
     let a = sym c.in_ok-copy_ranks.ensures in

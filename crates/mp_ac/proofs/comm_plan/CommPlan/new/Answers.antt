@@ -1,7 +1,7 @@
 use Rattle.std.proofs.Common.{◌∙◌, subst}
 use Rattle.mp_term.specs.Listing.{In}
 use Rattle.mp_pattern.specs.View.{pattern_tree}
-use Rattle.mp_ac.proofs.PlanNodes.{plan-names}
+use Rattle.mp_pattern.proofs.PlanNodes.{plan-names}
 use Rattle.mp_ac.proofs.comm_plan.CommPlan.new.Goals as goal
 
 pub numbers-requires : goal.numbers-requires

@@ -6,8 +6,9 @@ use Rattle.mp_pattern.specs.NetTokens.{numbered}
 use Rattle.mp_pattern.specs.Plan.{Variable}
 use Rattle.mp_pattern.specs.Subpatterns.{subpatterns}
 use Rattle.mp_search.specs.Grounds.{AreGrounds}
-use Rattle.mp_ac.proofs.PlanNodes.{plan-names}
-use Rattle.mp_ac.proofs.SearchLaws.{count-subpatterns, distinct-numbers, grounds-held}
+use Rattle.mp_pattern.proofs.PlanNodes.{plan-names}
+use Rattle.mp_ac.proofs.SearchLaws.{count-subpatterns, distinct-numbers}
+use Rattle.mp_search.proofs.GroundsHeld.{grounds-held}
 use Rattle.mp_ac.proofs.search.CommSearch.begin.Goals as goal
 
 pub fill-requires : goal.fill-requires
