@@ -29,13 +29,6 @@ use Rattle.mp_walk.proofs.ByRule.{searched}
 use Rattle.mp_walk.proofs.Kept.{IsFineOpen, rest-fine, taken_below-fine, told-trail}
 use Rattle.mp_walk.proofs.SameTrails.{solve-same, items-same, same-back, same-on}
 
--- an entry in front of equal tables
-behind-same : (e : Entry) (T U : List Entry) → T ≡ U → e ∷ T ≡ e ∷ U
-behind-same e T U p = ap (λ V. e ∷ V) p
-
-behind-back : (e : Entry) (T U : List Entry) → U ≡ T → e ∷ T ≡ e ∷ U
-behind-back e T U p = ap (λ V. e ∷ V) (sym p)
-
 -- what a step puts out, and the state after it
 abbrev pub out : List Entry → State → List Entry × State
 out es s = (es, s)
@@ -172,25 +165,32 @@ module _ (sig : Sig) where
   alike-at : (x y : List Entry × State) (ys : List (List Entry × State)) → x ≡ y → HasAlike y ys → HasAlike x ys
   alike-at x y ys e h = subst (λ z. HasAlike z ys) (sym e) h
 
-  steps-there : (f : Open) (fs : List Open) (s r : Subst) (k : NetToken) (x : List Entry × State) → IsFineOpen sig f
-      → IsTrail sig s → SameValues s r → In x (Own f fs s k) → HasAlike x (Other f fs r k)
-  steps-there f fs s r (sym_token n) x h t v i =
+  -- each item of the one below is like one of the other, in an open operation
+  abbrev HaveAlike : (Pattern → Entry → Subst → List Item) → (Pattern → Entry → Subst → List Item) → Subst → Subst
+      → Open → Type 0
+  HaveAlike B C s r f = (p : Pattern) (e : Entry) → In e (entries_for sig f p) → (i : Item) → In i (B p e s)
+      → (j : Item) × In j (C p e r) × (i.0 ≡ j.0) × SameValues i.1 j.1
+
+  -- so that each step of the one machine is like one of the other
+  steps-alike : (B C : Pattern → Entry → Subst → List Item) (f : Open) (fs : List Open) (s r : Subst) (k : NetToken)
+      (x : List Entry × State) → HaveAlike B C s r f → SameValues s r → In x (steps_in sig B f fs s k)
+      → HasAlike x (steps_in sig C f fs r k)
+  steps-alike B C f fs s r (sym_token n) x h v i =
       let a = from_in-map (sym_out n f fs s) x (entries_for sig f (symbol_pattern n)) i in
-      alike-at x (sym_out n f fs s a.0) (Other f fs r (sym_token n)) a.1 (record {
+      alike-at x (sym_out n f fs s a.0) (steps_in sig C f fs r (sym_token n)) a.1 (record {
         step = sym_out n f fs r a.0;
         stands = in-map (sym_out n f fs r) a.0 (entries_for sig f (symbol_pattern n)) a.2;
         entries = refl;
         opens = refl;
         values = v;
       })
-  steps-there f fs s r (wild_token w y) x h t v i = by_test (f.plain && is_sequence w) i
+  steps-alike B C f fs s r (wild_token w y) x h v i = by_test (f.plain && is_sequence w) i
     where
       by_test : (b : Bool) → In x (if b then [] else flat_map (wild_outs w y f fs s)
           (entries_for sig f (numbered_wildcard w y)))
           → HasAlike x (if b then [] else flat_map (wild_outs w y f fs r) (entries_for sig f (numbered_wildcard w y)))
       by_test true i = absurd i
       by_test false i =
-          let es : List Entry = entries_for sig f (numbered_wildcard w y) in
           let a = from_in-flat (wild_outs w y f fs s) x (entries_for sig f (numbered_wildcard w y)) i in
           let l = in-listed_by (λ q. wild_out w y f fs a.0 q ∷ []) (told sig f (numbered_wildcard w y) a.0 s) x a.2 in
           let b = solve-same sig s r (said (child (numbered_wildcard w y) (asking f) []) a.0) l.0 v l.1 in
@@ -208,16 +208,16 @@ module _ (sig : Sig) where
                 })
             | inr j ↦ absurd j
           ]
-  steps-there f fs s r (enter_token g) x h t v i =
+  steps-alike B C f fs s r (enter_token g) x h v i =
       let a = from_in-map (enter_out g f fs s) x (entries_for sig f (app_pattern g no_patterns)) i in
-      alike-at x (enter_out g f fs s a.0) (Other f fs r (enter_token g)) a.1 (record {
+      alike-at x (enter_out g f fs s a.0) (steps_in sig C f fs r (enter_token g)) a.1 (record {
         step = enter_out g f fs r a.0;
         stands = in-map (enter_out g f fs r) a.0 (entries_for sig f (app_pattern g no_patterns)) a.2;
         entries = refl;
         opens = refl;
         values = v;
       })
-  steps-there f fs s r (leave_token g) x h t v i = by_done (is_done f.left f.owes) i
+  steps-alike B C f fs s r (leave_token g) x h v i = by_done (is_done f.left f.owes) i
     where
       by_done : (b : Bool) → In x (if b then out [] (at fs s) ∷ [] else [])
           → HasAlike x (if b then out [] (at fs r) ∷ [] else [])
@@ -225,105 +225,43 @@ module _ (sig : Sig) where
           (record { step = out [] (at fs r); stands = inl refl; entries = refl; opens = refl; values = v })
       by_done true (inr j) = absurd j
       by_done false j = absurd j
-  steps-there f fs s r (comm_token (symbol_pattern n)) x h t v i =
-      absurd ((from_in-flat (λ e. map (comm_out (symbol_pattern n) f fs e) []) x
-      (entries_for sig f (symbol_pattern n)) i).2)
-  steps-there f fs s r (comm_token (wild_pattern w y)) x h t v i =
-      absurd ((from_in-flat (λ e. map (comm_out (wild_pattern w y) f fs e) []) x
-      (entries_for sig f (wild_pattern w y)) i).2)
-  steps-there f fs s r (comm_token (app_pattern g ps)) x h t v i =
-      let a = from_in-flat (λ e. map (comm_out (app_pattern g ps) f fs e) (below_items sig (app_pattern g ps) e s)) x
-      (entries_for sig f (app_pattern g ps)) i in
-      let b = from_in-map (comm_out (app_pattern g ps) f fs a.0) x (below_items sig (app_pattern g ps) a.0 s) a.2 in
-      let j = (own-listed f g ps a.0 s h a.1 t).from b.0 b.2 in
-      let m = items-same sig (all_pattern_nodes ps)
-      (settle (below g ps (taken_below a.0) a.0.collapsed)) s r j.0.0 j.0.1 v j.1 in
-      alike-at x (comm_out (app_pattern g ps) f fs a.0 b.0) (Other f fs r (comm_token (app_pattern g ps))) b.1 (record {
-        step = comm_out (app_pattern g ps) f fs a.0 (j.0.0, m.0);
-        stands = in-flat (λ e. map (comm_out (app_pattern g ps) f fs e) (searched sig (app_pattern g ps) e r)) a.0
-            (comm_out (app_pattern g ps) f fs a.0 (j.0.0, m.0)) (entries_for sig f (app_pattern g ps)) a.1
-            (in-map (comm_out (app_pattern g ps) f fs a.0) (j.0.0, m.0) (searched sig (app_pattern g ps) a.0 r)
-            (subst (In (j.0.0, m.0)) (sym (found-searched g ps a.0 r)) m.1));
-        entries = behind-same a.0 b.0.0 j.0.0 j.2;
+  steps-alike B C f fs s r (comm_token p) x h v i =
+      let a = from_in-flat (λ e. map (comm_out p f fs e) (B p e s)) x (entries_for sig f p) i in
+      let b = from_in-map (comm_out p f fs a.0) x (B p a.0 s) a.2 in
+      let j = h p a.0 a.1 b.0 b.2 in
+      alike-at x (comm_out p f fs a.0 b.0) (steps_in sig C f fs r (comm_token p)) b.1 (record {
+        step = comm_out p f fs a.0 j.0;
+        stands = in-flat (λ e. map (comm_out p f fs e) (C p e r)) a.0 (comm_out p f fs a.0 j.0) (entries_for sig f p)
+            a.1 (in-map (comm_out p f fs a.0) j.0 (C p a.0 r) j.1);
+        entries = ap (λ T. a.0 ∷ T) j.2;
         opens = refl;
-        values = same-on b.0.1 j.0.1 m.0 j.3 m.2;
+        values = j.3;
       })
 
-  steps-back : (f : Open) (fs : List Open) (s r : Subst) (k : NetToken) (x : List Entry × State) → IsFineOpen sig f
-      → IsTrail sig s → SameValues r s → In x (Other f fs r k) → HasAlike x (Own f fs s k)
-  steps-back f fs s r (sym_token n) x h t v i =
-      let a = from_in-map (sym_out n f fs r) x (entries_for sig f (symbol_pattern n)) i in
-      alike-at x (sym_out n f fs r a.0) (Own f fs s (sym_token n)) a.1 (record {
-        step = sym_out n f fs s a.0;
-        stands = in-map (sym_out n f fs s) a.0 (entries_for sig f (symbol_pattern n)) a.2;
-        entries = refl;
-        opens = refl;
-        values = v;
-      })
-  steps-back f fs s r (wild_token w y) x h t v i = by_test (f.plain && is_sequence w) i
-    where
-      by_test : (b : Bool) → In x (if b then [] else flat_map (wild_outs w y f fs r)
-          (entries_for sig f (numbered_wildcard w y)))
-          → HasAlike x (if b then [] else flat_map (wild_outs w y f fs s) (entries_for sig f (numbered_wildcard w y)))
-      by_test true i = absurd i
-      by_test false i =
-          let a = from_in-flat (wild_outs w y f fs r) x (entries_for sig f (numbered_wildcard w y)) i in
-          let l = in-listed_by (λ q. wild_out w y f fs a.0 q ∷ []) (told sig f (numbered_wildcard w y) a.0 r) x a.2 in
-          let b = solve-same sig r s (said (child (numbered_wildcard w y) (asking f) []) a.0) l.0 v l.1 in
-          elim l.2 [
-            | inl e ↦ alike-at x (wild_out w y f fs a.0 l.0)
-                (flat_map (wild_outs w y f fs s) (entries_for sig f (numbered_wildcard w y))) e (record {
-                  step = wild_out w y f fs a.0 b.0;
-                  stands = in-flat (wild_outs w y f fs s) a.0 (wild_out w y f fs a.0 b.0)
-                      (entries_for sig f (numbered_wildcard w y)) a.1
-                      (subst (λ o. In (wild_out w y f fs a.0 b.0) (listed_by (λ q. wild_out w y f fs a.0 q ∷ []) o))
-                      (sym b.1) (inl refl));
-                  entries = refl;
-                  opens = refl;
-                  values = b.2;
-                })
-            | inr j ↦ absurd j
-          ]
-  steps-back f fs s r (enter_token g) x h t v i =
-      let a = from_in-map (enter_out g f fs r) x (entries_for sig f (app_pattern g no_patterns)) i in
-      alike-at x (enter_out g f fs r a.0) (Own f fs s (enter_token g)) a.1 (record {
-        step = enter_out g f fs s a.0;
-        stands = in-map (enter_out g f fs s) a.0 (entries_for sig f (app_pattern g no_patterns)) a.2;
-        entries = refl;
-        opens = refl;
-        values = v;
-      })
-  steps-back f fs s r (leave_token g) x h t v i = by_done (is_done f.left f.owes) i
-    where
-      by_done : (b : Bool) → In x (if b then out [] (at fs r) ∷ [] else [])
-          → HasAlike x (if b then out [] (at fs s) ∷ [] else [])
-      by_done true (inl e) = alike-at x (out [] (at fs r)) (out [] (at fs s) ∷ []) e
-          (record { step = out [] (at fs s); stands = inl refl; entries = refl; opens = refl; values = v })
-      by_done true (inr j) = absurd j
-      by_done false j = absurd j
-  steps-back f fs s r (comm_token (symbol_pattern n)) x h t v i =
-      absurd ((from_in-flat (λ e. map (comm_out (symbol_pattern n) f fs e) []) x
-      (entries_for sig f (symbol_pattern n)) i).2)
-  steps-back f fs s r (comm_token (wild_pattern w y)) x h t v i =
-      absurd ((from_in-flat (λ e. map (comm_out (wild_pattern w y) f fs e) []) x
-      (entries_for sig f (wild_pattern w y)) i).2)
-  steps-back f fs s r (comm_token (app_pattern g ps)) x h t v i =
-      let a = from_in-flat (λ e. map (comm_out (app_pattern g ps) f fs e) (searched sig (app_pattern g ps) e r)) x
-      (entries_for sig f (app_pattern g ps)) i in
-      let b = from_in-map (comm_out (app_pattern g ps) f fs a.0) x (searched sig (app_pattern g ps) a.0 r) a.2 in
-      let m = items-same sig (all_pattern_nodes ps)
-      (settle (below g ps (taken_below a.0) a.0.collapsed)) r s b.0.0 b.0.1 v
-      (subst (In b.0) (found-searched g ps a.0 r) b.2) in
-      let j = (own-listed f g ps a.0 s h a.1 t).found (b.0.0, m.0) m.1 in
-      alike-at x (comm_out (app_pattern g ps) f fs a.0 b.0) (Own f fs s (comm_token (app_pattern g ps))) b.1 (record {
-        step = comm_out (app_pattern g ps) f fs a.0 j.0;
-        stands = in-flat (λ e. map (comm_out (app_pattern g ps) f fs e) (below_items sig (app_pattern g ps) e s)) a.0
-            (comm_out (app_pattern g ps) f fs a.0 j.0) (entries_for sig f (app_pattern g ps)) a.1
-            (in-map (comm_out (app_pattern g ps) f fs a.0) j.0 (below_items sig (app_pattern g ps) a.0 s) j.1);
-        entries = behind-back a.0 b.0.0 j.0.0 j.2;
-        opens = refl;
-        values = same-on b.0.1 m.0 j.0.1 m.2 (same-back j.0.1 m.0 j.3);
-      })
+  -- the items below of the walk, and those of the search
+  there-below : (f : Open) (s r : Subst) → IsFineOpen sig f → IsTrail sig s → SameValues s r
+      → HaveAlike (below_items sig) (searched sig) s r f
+  there-below f s r h t v (symbol_pattern n) e m i k = absurd k
+  there-below f s r h t v (wild_pattern w y) e m i k = absurd k
+  there-below f s r h t v (app_pattern g ps) e m i k =
+      let j = (own-listed f g ps e s h m t).from i k in
+      let q = items-same sig (all_pattern_nodes ps) (settle (below g ps (taken_below e) e.collapsed)) s r j.0.0 j.0.1 v
+      j.1 in (
+        (j.0.0, q.0),
+        subst (In (j.0.0, q.0)) (sym (found-searched g ps e r)) q.1,
+        j.2,
+        same-on i.1 j.0.1 q.0 j.3 q.2,
+      )
+
+  back-below : (f : Open) (s r : Subst) → IsFineOpen sig f → IsTrail sig s → SameValues r s
+      → HaveAlike (searched sig) (below_items sig) r s f
+  back-below f s r h t v (symbol_pattern n) e m i k = absurd k
+  back-below f s r h t v (wild_pattern w y) e m i k = absurd k
+  back-below f s r h t v (app_pattern g ps) e m i k =
+      let q = items-same sig (all_pattern_nodes ps) (settle (below g ps (taken_below e) e.collapsed)) r s i.0 i.1 v
+      (subst (In i) (found-searched g ps e r) k) in
+      let j = (own-listed f g ps e s h m t).found (i.0, q.0) q.1 in
+      (j.0, j.1, sym j.2, same-on i.1 q.0 j.0.1 q.2 (same-back j.0.1 q.0 j.3))
 
   -- ---- runs
 
@@ -346,7 +284,8 @@ module _ (sig : Sig) where
           → (y : List Entry × State) × In y (steps_by sig (searched sig) r k) × (x.0 ≡ y.0) × AreAlike x.1 y.1
       by_opens [] qs e q h i = absurd i
       by_opens (f ∷ fs) qs e q h i =
-          let l = steps-there f fs s.trail r.trail k x h.0 a.ready.trail a.values i in (
+          let l = steps-alike (below_items sig) (searched sig) f fs s.trail r.trail k x
+          (there-below f s.trail r.trail h.0 a.ready.trail a.values) a.values i in (
             l.step,
             subst (λ os. In l.step (steps_by sig (searched sig) (at os r.trail) k)) (sym q
                 ∙ e) l.stands,
@@ -370,7 +309,9 @@ module _ (sig : Sig) where
       by_opens (f ∷ fs) qs e q h =
           let j : In x (Other f fs r.trail k) = subst (λ os. In x (steps_by sig (searched sig) (at os r.trail) k))
           (sym e ∙ q) i in
-          let l = steps-back f fs s.trail r.trail k x h.0 a.ready.trail (same-back s.trail r.trail a.values) j in (
+          let v = same-back s.trail r.trail a.values in
+          let l = steps-alike (searched sig) (below_items sig) f fs r.trail s.trail k x
+          (back-below f s.trail r.trail h.0 a.ready.trail v) v j in (
             l.step,
             own (f ∷ fs) l.step (sym a_opens) l.stands,
             l.entries,

@@ -33,6 +33,12 @@ searched sig (app_pattern g ps) e s =
 searched sig (symbol_pattern n) e s = []
 searched sig (wild_pattern w x) e s = []
 
+-- the lists that tokens put out, each with the trail at its end
+module _ (steps : State → NetToken → List (List Entry × State)) where
+  abbrev pub runs_kept : List NetToken → State → Table → List Item
+  runs_kept [] s before = if token_ends s then (before, s.trail) ∷ [] else []
+  runs_kept (k ∷ ks) s before = flat_map (λ r. runs_kept ks r.1 (before ++ r.0)) (steps s k)
+
 -- a `flat_map` of nothing
 pub flat-none : {X Y : Type 0} (f : X → List Y) (xs : List X) → ((x : X) → f x ≡ []) → flat_map f xs ≡ []
 flat-none f [] h = refl
@@ -58,8 +64,8 @@ flat-same f g [] h = refl
 flat-same f g (x ∷ xs) h = ap (λ ys. ys ++ flat_map f xs) (h x) ∙ ap (λ ys. g x ++ ys) (flat-same f g xs h)
 
 module _ (sig : Sig) (vs : List (List ℕ)) where
-  abbrev pub Read : List NetToken → State → Table → List Table
-  Read = runs (steps_by sig (searched sig)) token_ends
+  abbrev pub Read : List NetToken → State → Table → List Item
+  Read = runs_kept (steps_by sig (searched sig))
 
   abbrev pub at : List Open → Subst → State
   at fs s = record { open_ones = fs; trail = s }
@@ -73,7 +79,7 @@ module _ (sig : Sig) (vs : List (List ℕ)) where
       → Read ks (at (g ∷ fs) s) T ≡ []
 
   -- what is read after a wildcard, where it is read
-  abbrev After : List NetToken → Pattern → Open → List Open → Subst → Table → Entry → List Table
+  abbrev After : List NetToken → Pattern → Open → List Open → Subst → Table → Entry → List Item
   After ks p f fs s T e = listed_by (λ r. Read ks (at (rest_of_open p e f ∷ fs) r) (T ++ (e ∷ []))) (told sig f p e s)
 
   read-wild : (w : Wildcard) (v : Option ℕ) (ks : List NetToken) (f : Open) (fs : List Open) (s : Subst) (T : Table)
@@ -220,6 +226,21 @@ pub map-flat : {X Y Z : Type 0} (f : Y → Z) (g : X → List Y) (xs : List X)
 map-flat f g [] = refl
 map-flat f g (x ∷ xs) = map-append f (g x) (flat_map g xs) ∙ ap (λ ys. map f (g x) ++ ys) (map-flat f g xs)
 
+-- the tables are those of the runs
+module _ (steps : State → NetToken → List (List Entry × State)) where
+  pub tables-kept : (ks : List NetToken) (s : State) (before : Table)
+      → runs steps token_ends ks s before ≡ item_tables (runs_kept steps ks s before)
+  tables-kept [] s before = elim (token_ends s) as
+      (λ b. (if b then before ∷ [] else []) ≡ item_tables (if b then (before, s.trail) ∷ [] else [])) [
+        | true ↦ refl
+        | false ↦ refl
+      ]
+  tables-kept (k ∷ ks) s before =
+      flat-same (λ r. runs steps token_ends ks r.1 (before ++ r.0))
+      (λ r. item_tables (runs_kept steps ks r.1 (before ++ r.0))) (steps s k)
+      (λ r. tables-kept ks r.1 (before ++ r.0))
+      ∙ sym (map-flat (λ i. i.0) (λ r. runs_kept steps ks r.1 (before ++ r.0)) (steps s k))
+
 -- two filters of one list, of which the stricter leaves out what gives nothing
 flat-filters : {X Y : Type 0} (f g : X → List Y) (a b : X → Bool) (xs : List X) → ((x : X) → b x ≡ true → a x ≡ true)
     → ((x : X) → b x ≡ true → f x ≡ g x) → ((x : X) → a x ≡ true → b x ≡ false → f x ≡ [])
@@ -244,8 +265,8 @@ renamed-sequence vs (more_patterns (wild_pattern w x) ps) = ap (λ b. not (is_se
 
 module _ (sig : Sig) (vs : List (List ℕ)) where
   -- what the search of the theory lists
-  abbrev pub Listed : ℕ → Next → Table → Subst → List Table
-  Listed k n T s = item_tables (derivations sig k n T s)
+  abbrev pub Listed : ℕ → Next → Table → Subst → List Item
+  Listed = derivations sig
 
   -- an open operation as a frame, with the children that are still to come
   abbrev pub framed : Open → Patterns → Frame
@@ -265,8 +286,6 @@ module _ (sig : Sig) (vs : List (List ℕ)) where
       ∙ flat-same (λ e. Read sig vs ks (at sig vs (rest_of_open (symbol_pattern n) e f ∷ fs) s) (T ++ (e ∷ [])))
       (λ e. Listed k (settle (framed (rest_of_open (symbol_pattern n) e f) ps ∷ gs)) (T ++ (e ∷ [])) s)
       (entries_for sig f (symbol_pattern n)) h
-      ∙ sym (map-flat (λ i. i.0) (λ e. derivations sig k (settle (framed (rest_of_open (symbol_pattern n) e f) ps ∷ gs))
-      (T ++ (e ∷ [])) s) (entries_for sig f (symbol_pattern n)))
 
   -- a wildcard whose variable has a number, or none
   pub wild-numbered : (w : Wildcard) (y : Option ℕ) (ks : List NetToken) (f : Open) (fs : List Open) (gs : List Frame)
@@ -281,18 +300,15 @@ module _ (sig : Sig) (vs : List (List ℕ)) where
       let p : Pattern = wild_pattern w (option_map numbered y) in
       read-wild sig vs w y ks f fs s T q
       ∙ flat-same (After sig vs ks p f fs s T)
-      (λ e. item_tables (listed_by (λ r.
+      (λ e. listed_by (λ r.
       derivations sig k (settle (framed (rest_of_open p e f) ps ∷ gs)) (T ++ (e ∷ [])) r)
-      (solve sig s (said (child p (framed f ps) gs) e)))) (entries_for sig f p) (λ e.
+      (solve sig s (said (child p (framed f ps) gs) e))) (entries_for sig f p) (λ e.
       ap (λ ts. listed_by (λ r. Read sig vs ks (at sig vs (rest_of_open p e f ∷ fs) r) (T ++ (e ∷ [])))
       (solve sig s ts)) (same_said w (option_map numbered y) f gs ps e)
       ∙ elim (solve sig s (said (child p (framed f ps) gs) e)) as
       (λ o. listed_by (λ r. Read sig vs ks (at sig vs (rest_of_open p e f ∷ fs) r) (T ++ (e ∷ []))) o
-      ≡ item_tables (listed_by (λ r. derivations sig k (settle (framed (rest_of_open p e f) ps ∷ gs))
-      (T ++ (e ∷ [])) r) o)) [ None ↦ refl | Some r ↦ h e r ])
-      ∙ sym (map-flat (λ i. i.0) (λ e. listed_by
-      (λ r. derivations sig k (settle (framed (rest_of_open p e f) ps ∷ gs)) (T ++ (e ∷ [])) r)
-      (solve sig s (said (child p (framed f ps) gs) e))) (entries_for sig f p))
+      ≡ listed_by (λ r. derivations sig k (settle (framed (rest_of_open p e f) ps ∷ gs))
+      (T ++ (e ∷ [])) r) o) [ None ↦ refl | Some r ↦ h e r ])
     where
       same_said : (w : Wildcard) (x : Option (List ℕ)) (f : Open) (gs : List Frame) (ps : Patterns) (e : Entry)
           → said (child (wild_pattern w x) (record {
@@ -317,9 +333,9 @@ module _ (sig : Sig) (vs : List (List ℕ)) where
       ≡ Listed (suc k) (child (app_pattern g (all_renamed vs qs)) (framed f ps) gs) T s
   app-step g qs ks f fs gs ps k s T h =
       let rest : Entry → Open = λ e. rest_of_open (app_pattern g no_patterns) e f in
-      let F : Entry → List Table = λ e. Read sig vs (all_tokens sig vs qs ++ (leave_token g ∷ ks))
+      let F : Entry → List Item = λ e. Read sig vs (all_tokens sig vs qs ++ (leave_token g ∷ ks))
       (at sig vs (opened g e ∷ rest_of_open (app_pattern g no_patterns) e f ∷ fs) s) (T ++ (e ∷ [])) in
-      let G : Entry → List Table = λ e. Listed k
+      let G : Entry → List Item = λ e. Listed k
       (settle (framed (opened g e) qs ∷ framed (rest_of_open (app_pattern g no_patterns) e f) ps ∷ gs))
       (T ++ (e ∷ [])) s in
       let xs : List Entry = entries (pieces tree_cmp (comm_above sig f.under) f.left) in
@@ -330,9 +346,6 @@ module _ (sig : Sig) (vs : List (List ℕ)) where
       (λ e a b. dead-sequence sig vs qs (leave_token g ∷ ks) (opened g e)
       (rest_of_open (app_pattern g no_patterns) e f ∷ fs) s (T ++ (e ∷ [])) (is_collapsed f.under e a b).0
       (is_collapsed f.under e a b).1)
-      ∙ sym (map-flat (λ i. i.0) (λ e. derivations sig k
-      (settle (framed (opened g e) qs ∷ framed (rest_of_open (app_pattern g no_patterns) e f) ps ∷ gs))
-      (T ++ (e ∷ [])) s) (filter (reads sig (app_pattern g (all_renamed vs qs)) f.under) xs))
     where
       looser : (u : Option ℕ) (e : Entry) → reads sig (app_pattern g (all_renamed vs qs)) u e ≡ true
           → reads sig (app_pattern g no_patterns) u e ≡ true

@@ -22,10 +22,10 @@ use Rattle.mp_theory.specs.Frames.{Frame, Next, ended, refused, child, is_done, 
 use Rattle.mp_term.specs.Search.{words}
 use Rattle.mp_term.specs.Pieces.{pieces}
 use Rattle.mp_theory.specs.Machine.{entries, default_passes, is_ended, entered, taken_out, onward, said, takes, reads}
-use Rattle.mp_theory.specs.Machine.{choices}
+use Rattle.mp_theory.specs.Machine.{choices, HasShape}
 use Rattle.mp_theory.specs.Trail.{derivations}
 use Rattle.mp_theory.specs.OneList.{item_tables}
-use Rattle.mp_term.proofs.SearchLaws.{words-sound, in-map}
+use Rattle.mp_term.proofs.SearchLaws.{words-sound, words-complete, in-map}
 use Rattle.mp_theory.proofs.Tables.{shape-accounts}
 use Rattle.mp_theory.proofs.TrailLaws.{derivations-is}
 use Rattle.mp_pattern.specs.NetTokens.{number_in, numbered, renamed, all_renamed}
@@ -84,13 +84,13 @@ module _ (sig : Sig) (vs : List (List ℕ)) (few : length vs < 2 ^ 64) where
           ∙ (ap (λ z. same_name (new_name x) (new_name z)) (sym (same_name-is x y q))
           ∙ same_name-itself (new_name x)) in cc)
 
-  abbrev new_binding : Binding → Binding
+  abbrev pub new_binding : Binding → Binding
   new_binding b = record { name = new_name b.name; value = b.value }
 
-  abbrev new_subst : Subst → Subst
+  abbrev pub new_subst : Subst → Subst
   new_subst s = map new_binding s
 
-  abbrev new_taken : Taken → Taken
+  abbrev pub new_taken : Taken → Taken
   new_taken t = record {
     by = record {
       name = new_name t.by.name;
@@ -325,3 +325,26 @@ renamed-listed sig p t few =
     ap (solve sig []) (takes-new sig (variables p) few (settle (start p t)) T)
     ∙ solve-new sig (variables p) few [] (takes (settle (start p t)) T) tt k)
     ∙ ap item_tables (sym (derivations-is sig (pattern_nodes p) (settle (start p t)) [] []))
+
+-- what solves the takes of the renamed pattern is what solves those of the pattern, with its variables renamed
+pub renamed-solved : (sig : Sig) (p : Pattern) (t : Tree) (few : length (variables p) < 2 ^ 64) (T : Table) (r : Subst)
+    → HasShape sig (renamed (variables p) p) t T
+    → solve sig [] (takes (settle (start (renamed (variables p) p) t)) T) ≡ Some r
+    → (s : Subst) × HasShape sig p t T × (solve sig [] (takes (settle (start p t)) T) ≡ Some s)
+    × (new_subst sig (variables p) few s ≡ r)
+renamed-solved sig p t few T r shape h =
+    let w = words-complete (choices sig) onward is_ended (settle (start (renamed (variables p) p) t)) T shape in
+    let a = (words-sound (choices sig) onward is_ended (length T) (settle (start p t)) T
+    (subst (In T) (words-new sig (variables p) few (length T) (settle (start p t))) w)).1 in
+    let k = known-by sig (variables p) few (takes (settle (start p t)) T) (uses None p) (shape-accounts sig p t T a).1
+    (λ u j. in-firsts_after same_name same_name-is [] (map (λ v. v.name) (uses None p)) u.name
+    (inr (in-map (λ v. v.name) u (uses None p) j))) in
+    let b = inverse (solve sig [] (takes (settle (start p t)) T))
+    (sym (ap (solve sig []) (takes-new sig (variables p) few (settle (start p t)) T)
+    ∙ solve-new sig (variables p) few [] (takes (settle (start p t)) T) tt k) ∙ h) in
+    (b.0, a, b.1, b.2)
+  where
+    inverse : (o : Option Subst) → option_map (new_subst sig (variables p) few) o ≡ Some r
+        → (s : Subst) × (o ≡ Some s) × (new_subst sig (variables p) few s ≡ r)
+    inverse None e = cc
+    inverse (Some s) e = (s, refl, cc)

@@ -34,9 +34,10 @@ use Rattle.mp_pattern.proofs.Formed.{EachWildcard-IsFormed}
 use Rattle.mp_pattern.proofs.NameLaws.{same_name-is, same_name-itself}
 use Rattle.mp_pattern.proofs.SoundRules.{plan_fault-IsSoundPattern}
 use Rattle.mp_theory.proofs.FirstsLaws.{Distinct, distinct-firsts}
-use Rattle.mp_walk.specs.TokenMachine.{begin_state}
+use Rattle.mp_walk.specs.TokenMachine.{begin_state, steps_by, token_ends}
+use Rattle.mp_walk.specs.Forests.{runs}
 use Rattle.mp_walk.specs.Walkable.{numbered_names, StandsFor, IsWhole}
-use Rattle.mp_walk.proofs.ByRule.{Read}
+use Rattle.mp_walk.proofs.ByRule.{searched}
 use Rattle.mp_walk.proofs.FirstItems.{in-firsts_after}
 use Rattle.mp_walk.proofs.NumberedNames.{NamesIn, AllNamesIn, own-names, all_renamed-itself}
 use Rattle.mp_walk.proofs.PathLaws.{plan_fault-parts, parts-plan_fault}
@@ -392,6 +393,6 @@ module _ (sig : Sig) where
   fits-same_tokens p q t s T n few many e h =
       listed-fits sig t n q T
       (subst (In T) (sym (tokens-read sig (variables p) p t ∙ renamed-listed sig p t (omega (arith, few)))
-      ∙ ap (λ ks. Read sig (variables p) ks (begin_state t) []) e
+      ∙ ap (λ ks. runs (steps_by sig (searched sig)) token_ends ks (begin_state t) []) e
       ∙ tokens-read sig (variables q) q t ∙ renamed-listed sig q t (omega (arith, many)))
       (fits-listed sig t n p T s h))

@@ -19,6 +19,7 @@ use Rattle.mp_theory.specs.Trail.{listed_by}
 use Rattle.mp_ac.specs.CommItems.{SameValues}
 use Rattle.mp_ac.specs.CommList.{comm_list}
 use Rattle.mp_ac.proofs.ListLaws.{comm_list-same, comm_list-others}
+use Rattle.mp_walk.specs.Course.{Alike}
 use Rattle.mp_walk.specs.Forests.{node, Forest, none, beside, put_out, walk}
 use Rattle.mp_walk.specs.TokenMachine.{Open, State, rest_of_open, taken_below, opened, numbered_wildcard, entries_for}
 use Rattle.mp_walk.specs.TokenMachine.{told, below_items, steps_in, token_steps, token_ends}
@@ -32,15 +33,10 @@ use Rattle.mp_pattern.specs.Variables.{variables}
 use Rattle.mp_pattern.proofs.NameLaws.{same_name-is}
 use Rattle.mp_pattern.proofs.NameLaws.{same_name-itself}
 
--- the same operations are open, and the trails have the same values
-pub record SameState (s r : State) : Type 0 where
-  pub opens : s.open_ones ≡ r.open_ones
-  pub values : SameValues s.trail r.trail
-
 -- the steps put out the same, one by one, and lead to states that are the same
 abbrev pub SameSteps : List (List Entry × State) → List (List Entry × State) → Type 0
 SameSteps [] [] = ⊤
-SameSteps (x ∷ xs) (y ∷ ys) = ((x.0 ≡ y.0) × SameState x.1 y.1) × SameSteps xs ys
+SameSteps (x ∷ xs) (y ∷ ys) = ((x.0 ≡ y.0) × Alike x.1 y.1) × SameSteps xs ys
 SameSteps _ _ = ⊥
 
 -- the items have the same tables, one by one, and the same values
@@ -57,7 +53,7 @@ same-append [] (y ∷ ys) zs ws h k = absurd h
 same-append (x ∷ xs) [] zs ws h k = absurd h
 
 same-map : {X : Type 0} (f g : X → List Entry × State) (xs : List X)
-    → ((x : X) → ((f x).0 ≡ (g x).0) × SameState (f x).1 (g x).1)
+    → ((x : X) → ((f x).0 ≡ (g x).0) × Alike (f x).1 (g x).1)
     → SameSteps (map f xs) (map g xs)
 same-map f g [] h = tt
 same-map f g (x ∷ xs) h = (h x, same-map f g xs h)
@@ -109,7 +105,7 @@ module _ (sig : Sig) where
 
   -- what solves the takes over the one and over the other
   solved-both : (f : Subst → List Entry × State)
-      → ((p q : Subst) → SameValues p q → ((f p).0 ≡ (f q).0) × SameState (f p).1 (f q).1)
+      → ((p q : Subst) → SameValues p q → ((f p).0 ≡ (f q).0) × Alike (f p).1 (f q).1)
       → (s r : Subst) (ts : List Taken) → SameValues s r
       → SameSteps (listed_by (λ q. f q ∷ []) (solve sig s ts)) (listed_by (λ q. f q ∷ []) (solve sig r ts))
   solved-both f h s r ts v = by_both (solve sig s ts) (solve sig r ts) refl refl
@@ -131,7 +127,7 @@ module _ (sig : Sig) where
       (map (λ i. out (e ∷ i.0) (at (rest_of_open p e f ∷ fs) i.1)) js)
   items-steps p f fs e [] [] h = tt
   items-steps p f fs e (i ∷ is) (j ∷ js) h =
-      ((ap (λ T. e ∷ T) h.0.0, record { opens = refl; values = h.0.1 }), items-steps p f fs e is js h.1)
+      ((ap (λ T. e ∷ T) h.0.0, record { open_ones = refl; trail = h.0.1 }), items-steps p f fs e is js h.1)
   items-steps p f fs e [] (j ∷ js) h = absurd h
   items-steps p f fs e (i ∷ is) [] h = absurd h
 
@@ -140,15 +136,15 @@ module _ (sig : Sig) where
   steps_in-same f fs s r (sym_token n) v =
       same-map (λ e. out (e ∷ []) (at (rest_of_open (symbol_pattern n) e f ∷ fs) s))
       (λ e. out (e ∷ []) (at (rest_of_open (symbol_pattern n) e f ∷ fs) r)) (entries_for sig f (symbol_pattern n))
-      (λ e. (refl, record { opens = refl; values = v }))
+      (λ e. (refl, record { open_ones = refl; trail = v }))
   steps_in-same f fs s r (enter_token g) v =
       same-map (λ e. out (e ∷ []) (at (opened g e ∷ rest_of_open (app_pattern g no_patterns) e f ∷ fs) s))
       (λ e. out (e ∷ []) (at (opened g e ∷ rest_of_open (app_pattern g no_patterns) e f ∷ fs) r))
-      (entries_for sig f (app_pattern g no_patterns)) (λ e. (refl, record { opens = refl; values = v }))
+      (entries_for sig f (app_pattern g no_patterns)) (λ e. (refl, record { open_ones = refl; trail = v }))
   steps_in-same f fs s r (leave_token g) v =
       elim (is_done f.left f.owes) as
       (λ b. SameSteps (if b then out [] (at fs s) ∷ [] else []) (if b then out [] (at fs r) ∷ [] else [])) [
-        | true ↦ ((refl, record { opens = refl; values = v }), tt)
+        | true ↦ ((refl, record { open_ones = refl; trail = v }), tt)
         | false ↦ tt
       ]
   steps_in-same f fs s r (wild_token w y) v =
@@ -158,7 +154,7 @@ module _ (sig : Sig) where
         | true ↦ tt
         | false ↦ same-flat (one_steps s) (one_steps r) (entries_for sig f (numbered_wildcard w y)) (λ e.
             solved-both (λ q. out (e ∷ []) (at (rest_of_open (numbered_wildcard w y) e f ∷ fs) q))
-            (λ p q h. (refl, record { opens = refl; values = h })) s r
+            (λ p q h. (refl, record { open_ones = refl; trail = h })) s r
             (said (child (numbered_wildcard w y) (asking f) []) e) v)
       ]
     where
@@ -179,17 +175,18 @@ module _ (sig : Sig) where
       below_steps q e = map (λ i. out (e ∷ i.0) (at (rest_of_open (app_pattern g ps) e f ∷ fs) i.1))
           (below_items sig (app_pattern g ps) e q)
 
-  pub token_steps-same : (s r : State) (k : NetToken) → SameState s r
+  pub token_steps-same : (s r : State) (k : NetToken) → Alike s r
       → SameSteps (token_steps sig s k) (token_steps sig r k)
-  token_steps-same s r k h = subst (λ os. SameSteps (token_steps sig s k) (token_steps sig (at os r.trail) k)) h.opens
+  token_steps-same s r k h =
+      subst (λ os. SameSteps (token_steps sig s k) (token_steps sig (at os r.trail) k)) h.open_ones
       (elim s.open_ones as (λ os. SameSteps (token_steps sig (at os s.trail) k) (token_steps sig (at os r.trail) k)) [
         | [] ↦ tt
-        | f ∷ fs ↦ steps_in-same f fs s.trail r.trail k h.values
+        | f ∷ fs ↦ steps_in-same f fs s.trail r.trail k h.trail
       ])
 
   -- what is put out of steps that are the same
   flat-same_steps : {X : Type 0} (F : List Entry × State → List X)
-      → ((x y : List Entry × State) → x.0 ≡ y.0 → SameState x.1 y.1 → F x ≡ F y)
+      → ((x y : List Entry × State) → x.0 ≡ y.0 → Alike x.1 y.1 → F x ≡ F y)
       → (xs ys : List (List Entry × State)) → SameSteps xs ys → flat_map F xs ≡ flat_map F ys
   flat-same_steps F go [] [] h = refl
   flat-same_steps F go (x ∷ xs) (y ∷ ys) h =
@@ -197,12 +194,12 @@ module _ (sig : Sig) where
   flat-same_steps F go [] (y ∷ ys) h = absurd h
   flat-same_steps F go (x ∷ xs) [] h = absurd h
 
-  put-same : (ns : List ℕ) (s r : State) (before : Table) → SameState s r
+  put-same : (ns : List ℕ) (s r : State) (before : Table) → Alike s r
       → put_out (token_steps sig) token_ends ns s before ≡ put_out (token_steps sig) token_ends ns r before
-  put-same ns s r before h = ap (λ os. put_out (token_steps sig) token_ends ns (at os s.trail) before) h.opens
+  put-same ns s r before h = ap (λ os. put_out (token_steps sig) token_ends ns (at os s.trail) before) h.open_ones
 
   -- the walks are the same
-  pub walk-same : (F : Forest NetToken) (s r : State) (before : Table) → SameState s r
+  pub walk-same : (F : Forest NetToken) (s r : State) (before : Table) → Alike s r
       → walk (token_steps sig) token_ends F s before ≡ walk (token_steps sig) token_ends F r before
   walk-same none s r before h = refl
   walk-same (beside (node k ns below) fs) s r before h =
@@ -222,7 +219,7 @@ module _ (sig : Sig) where
       (walk-same fs s r before h)
 
   -- and so are the numbers of tokens that they read
-  total-same : (F : State → ℕ) → ((x y : State) → SameState x y → F x ≡ F y) → (xs ys : List (List Entry × State))
+  total-same : (F : State → ℕ) → ((x y : State) → Alike x y → F x ≡ F y) → (xs ys : List (List Entry × State))
       → SameSteps xs ys → total (map (λ x. 1 + F x.1) xs) ≡ total (map (λ x. 1 + F x.1) ys)
   total-same F go [] [] h = refl
   total-same F go (x ∷ xs) (y ∷ ys) h =
@@ -231,7 +228,7 @@ module _ (sig : Sig) where
   total-same F go [] (y ∷ ys) h = absurd h
   total-same F go (x ∷ xs) [] h = absurd h
 
-  pub visits-same : (F : Forest NetToken) (s r : State) → SameState s r
+  pub visits-same : (F : Forest NetToken) (s r : State) → Alike s r
       → visits (token_steps sig) F s ≡ visits (token_steps sig) F r
   visits-same none s r h = refl
   visits-same (beside (node k ns below) fs) s r h =

@@ -78,7 +78,7 @@ module _ (sig : Sig) (t : Tree) (normal : IsNormal sig t) where
     trail = record { final = tt; distinct = tt };
   }
 
-  begin-alike : AreAlike sig (begin_state t) (begin_state t)
+  pub begin-alike : AreAlike sig (begin_state t) (begin_state t)
   begin-alike = record { opens = refl; values = λ x. refl; ready = begin-ready }
 
   -- what the walk reads of a path, the machine that searches reads, and back

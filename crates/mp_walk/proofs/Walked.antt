@@ -16,9 +16,10 @@ use Rattle.mp_theory.specs.Trail.{derivations}
 use Rattle.mp_theory.specs.OneList.{item_tables}
 use Rattle.mp_pattern.specs.NetTokens.{NetToken, sym_token, enter_token, leave_token, wild_token, comm_token, tokens}
 use Rattle.mp_pattern.specs.NetTokens.{all_tokens, renamed, all_renamed, number_in}
-use Rattle.mp_walk.specs.TokenMachine.{Open, rest_of_open, entries_for, opened}
+use Rattle.mp_walk.specs.TokenMachine.{Open, rest_of_open, entries_for, opened, steps_by, token_ends}
+use Rattle.mp_walk.specs.Forests.{runs}
 use Rattle.mp_walk.proofs.Stacked.{splits}
-use Rattle.mp_walk.proofs.ByRule.{searched, Read, at, read-leave, read-comm, Listed, framed, flat-same, map-flat}
+use Rattle.mp_walk.proofs.ByRule.{searched, Read, at, read-leave, read-comm, Listed, framed, flat-same, tables-kept}
 use Rattle.mp_walk.proofs.ByRule.{symbol-step, wild-numbered, app-step}
 
 -- an open operation with the children that are still to come
@@ -112,18 +113,14 @@ module _ (sig : Sig) (vs : List (List ℕ)) where
       read-comm sig vs (app_pattern g cs) ks f fs s T
       ∙ flat-same (λ e. flat_map (λ i. Read sig vs ks (at sig vs (rest_of_open (app_pattern g cs) e f ∷ fs) i.1)
       (T ++ (e ∷ i.0))) (searched sig (app_pattern g cs) e s))
-      (λ e. item_tables (derivations sig (all_pattern_nodes cs + m) (settle (upper e ∷ lower e)) (T ++ (e ∷ [])) s))
+      (λ e. derivations sig (all_pattern_nodes cs + m) (settle (upper e ∷ lower e)) (T ++ (e ∷ [])) s)
       (entries_for sig f (app_pattern g cs)) (λ e.
       flat-same (λ i. Read sig vs ks (at sig vs (rest_of_open (app_pattern g cs) e f ∷ fs) i.1) (T ++ (e ∷ i.0)))
-      (λ i. item_tables (derivations sig m (settle (lower e)) ((T ++ (e ∷ [])) ++ i.0) i.1))
+      (λ i. derivations sig m (settle (lower e)) ((T ++ (e ∷ [])) ++ i.0) i.1)
       (searched sig (app_pattern g cs) e s) (λ i.
       h e i.1 (T ++ (e ∷ i.0)) ∙ ap (λ U. Listed sig vs m (settle (lower e)) U i.1) (sym (append_assoc T (e ∷ []) i.0)))
-      ∙ sym (map-flat (λ i. i.0) (λ i. derivations sig m (settle (lower e)) ((T ++ (e ∷ [])) ++ i.0) i.1)
-      (searched sig (app_pattern g cs) e s))
-      ∙ ap item_tables (sym (splits sig (all_pattern_nodes cs) (upper e ∷ []) (lower e) m (all_pattern_nodes cs + m)
-      (T ++ (e ∷ [])) s (omega arith) refl)))
-      ∙ sym (map-flat (λ i. i.0) (λ e. derivations sig (all_pattern_nodes cs + m) (settle (upper e ∷ lower e))
-      (T ++ (e ∷ [])) s) (entries_for sig f (app_pattern g cs)))
+      ∙ sym (splits sig (all_pattern_nodes cs) (upper e ∷ []) (lower e) m (all_pattern_nodes cs + m)
+      (T ++ (e ∷ [])) s (omega arith) refl))
     where
       upper : Entry → Frame
       upper e = record {
@@ -255,9 +252,9 @@ module _ (sig : Sig) (vs : List (List ℕ)) where
       → Read sig vs (all_tokens sig vs qs) (at sig vs (root_of l ∷ []) s) T
       ≡ Listed sig vs k (settle (framed sig vs (root_of l) qs ∷ [])) T s
   root-same k ih no_patterns l s T e =
-      subst (λ j. (if is_done l false then T ∷ [] else [])
+      subst (λ j. (if is_done l false then (T, s) ∷ [] else [])
       ≡ Listed sig vs j (if is_done l false then ended else refused) T s) e
-      (elim (is_done l false) as (λ b. (if b then T ∷ [] else [])
+      (elim (is_done l false) as (λ b. (if b then (T, s) ∷ [] else [])
       ≡ Listed sig vs 0 (if b then ended else refused) T s) [ true ↦ refl | false ↦ refl ])
   root-same k ih (more_patterns p ps) l s T e =
       child-same p ps (all_tokens sig vs ps) (root_of l) [] [] (all_pattern_nodes ps) k s T e (λ a. cc)
@@ -280,13 +277,21 @@ module _ (sig : Sig) (vs : List (List ℕ)) where
   pub same : (k : ℕ) → Same k
   same k = below (suc k) k (omega arith)
 
--- the tokens of a pattern read, from the root on, the tables that the search lists for the pattern with its variables
--- renamed by their numbers
-pub tokens-read : (sig : Sig) (vs : List (List ℕ)) (p : Pattern) (t : Tree)
+-- the tokens of a pattern read, from the root on, what the search lists for the pattern with its variables renamed by
+-- their numbers
+pub items-read : (sig : Sig) (vs : List (List ℕ)) (p : Pattern) (t : Tree)
     → Read sig vs (tokens sig vs p) (at sig vs (root_of sig vs (t ∷ []) ∷ []) []) []
-    ≡ item_tables (derivations sig (pattern_nodes p) (settle (start (renamed vs p) t)) [] [])
-tokens-read sig vs p t =
+    ≡ derivations sig (pattern_nodes p) (settle (start (renamed vs p) t)) [] []
+items-read sig vs p t =
     let h = same sig vs (pattern_nodes p) [] (more_patterns p no_patterns) (t ∷ []) [] [] (omega arith) tt in
     subst (λ ls. Read sig vs ls (at sig vs (root_of sig vs (t ∷ []) ∷ []) []) []
-    ≡ item_tables (derivations sig (pattern_nodes p) (settle (start (renamed vs p) t)) [] []))
+    ≡ derivations sig (pattern_nodes p) (settle (start (renamed vs p) t)) [] [])
     (append-nil (tokens sig vs p)) h
+
+-- so do their tables
+pub tokens-read : (sig : Sig) (vs : List (List ℕ)) (p : Pattern) (t : Tree)
+    → runs (steps_by sig (searched sig)) token_ends (tokens sig vs p) (at sig vs (root_of sig vs (t ∷ []) ∷ []) []) []
+    ≡ item_tables (derivations sig (pattern_nodes p) (settle (start (renamed vs p) t)) [] [])
+tokens-read sig vs p t =
+    tables-kept (steps_by sig (searched sig)) (tokens sig vs p) (at sig vs (root_of sig vs (t ∷ []) ∷ []) []) []
+    ∙ ap item_tables (items-read sig vs p t)

@@ -1,10 +1,13 @@
 -- The items of a walk over a table of instructions: which instruction accepts, and by which take table.
-use Rattle.std.specs.Prelude.{◌↔◌, ℕ, List, Option}
+use Rattle.std.specs.Prelude.{◌↔◌, ℕ, List}
 use Rattle.mp_term.specs.Listing.{In}
 use Rattle.mp_term.specs.Tree.{Tree}
 use Rattle.mp_term.specs.Signature.{Sig}
 use Rattle.mp_pattern.specs.Fits.{Table, Fits}
+use Rattle.mp_pattern.specs.NetTokens.{tokens_of}
 use Rattle.mp_pattern.specs.PatternTree.{Pattern}
+use Rattle.mp_pattern.specs.Plan.{Plan, IsPlanOf}
+use Rattle.mp_pattern.specs.SoundRule.{IsSoundPattern}
 use Rattle.mp_pattern.specs.Value.{Subst}
 use Rattle.mp_ac.specs.CommItems.{NoneTwice}
 use Rattle.mp_walk.specs.CodeForest.{code_forest}
@@ -27,7 +30,8 @@ module _ (sig : Sig) (code : List Instr) (t : Tree) where
     pub exactly : (i : ℕ × Table) → In i is ↔ IsLeafItem i
     pub once : NoneTwice is
 
--- what callers see of a walk: the item at which it stands, if it stands at one, and the items still to come
-pub record WalkView : Type 0 where
-  pub item : Option (ℕ × Table)
-  pub to_come : List (ℕ × Table)
+  -- the substitution with which the table of an item fits each sound pattern of the plan whose tokens lead to the
+  -- instruction
+  abbrev pub IsItemSubst : Plan → Subst → (ℕ × Table) → Type 0
+  IsItemSubst plan s i = (q : Pattern) → IsSoundPattern sig q → IsPlanOf sig q plan
+      → In {X = ℕ × Path} (i.0, tokens_of sig q) (lists (code_forest code)) → Fits sig q t s i.1

@@ -1,9 +1,11 @@
 -- The ways in which a token reads on in an open operation that isn't commutative, by number.
 use Rattle.std.specs.Prelude.{◌≡◌, ◌≤◌, ◌<◌, ℕ, zero, suc, ◌+◌, ◌-◌, Bool, false, ◌&&◌, List, [], ◌∷◌, map}
 use Rattle.std.specs.Prelude.{flat_map, take, length}
-use Rattle.std.specs.Prelude.{Option, if◌then◌else◌, nat_le, nat_lt, nat_eq}
+use Rattle.std.specs.Prelude.{Option, Some, None, if◌then◌else◌, nat_le, nat_lt, nat_eq}
+use Rattle.std.specs.Ordering.{is_eq}
+use Rattle.mp_term.specs.Order.{tree_cmp}
 use Rattle.std.specs.List.{range_with_len}
-use Rattle.mp_term.specs.Tree.{Tree}
+use Rattle.mp_term.specs.Tree.{Tree, symbol}
 use Rattle.mp_term.specs.Signature.{Sig}
 use Rattle.mp_pattern.specs.Fits.{Entry}
 use Rattle.mp_pattern.specs.NetTokens.{NetToken, sym_token, enter_token, leave_token, wild_token, comm_token}
@@ -34,6 +36,18 @@ is_way sig f p way = nat_lt way 2 && reads sig p f.under (first_entry f.left way
 -- the wildcard may take the front of so many terms
 abbrev pub is_front : Sig → Open → Pattern → ℕ → Bool
 is_front sig f p n = nat_le n (length f.left) && reads sig p f.under (front_entry f.left n)
+
+-- the first way from the number on, where way 0 is there or not, and way 1 is
+abbrev pub way_among : ℕ → Bool → Bool → Option ℕ
+way_among from headed single =
+    if nat_eq from 0
+    then (if headed then Some 0 else (if single then Some 1 else None))
+    else (if nat_eq from 1 then (if single then Some 1 else None) else None)
+
+-- a symbol is the first term that is left
+abbrev pub is_first_symbol : List ℕ → List Tree → Bool
+is_first_symbol n [] = false
+is_first_symbol n (t ∷ ts) = is_eq (tree_cmp t (symbol n))
 
 -- the step of an item of a commutative application
 abbrev pub item_step : Open → List Open → Pattern → Entry → Item → Step

@@ -1,7 +1,23 @@
-//! Tables of instructions, and the laws of a walk over one: all patterns that the paths of the table stand for are
+//! Tables of instructions, and the walk of a subject over one: all patterns that the paths of the table stand for are
 //! matched at once, and what they begin with alike is read once.
 #![tactic(auto)]
 
+mod code;
+mod comm;
+mod course;
+mod entries;
+mod frame;
+mod front;
 mod instr;
+mod level;
+mod opening;
+mod reading;
+mod setting;
+mod stage;
+mod steps;
+mod token;
+mod walk;
 
+pub use code::Code;
 pub use instr::{Instr, Instrs, Numbers};
+pub use walk::Walk;

@@ -1,0 +1,79 @@
+-- The course of a walk before its first turn.
+use Rattle.std.proofs.Common.{◌≡◌, ℕ, zero, suc, List, [], ◌∷◌, refl, ap, sym, ◌∙◌, subst}
+use Rattle.std.proofs.Common.{arith, true, false}
+use Rattle.std.specs.Prelude.{Option, Some, None, IsSome, IfSome}
+use Rattle.mp_term.specs.Signature.{Sig}
+use Rattle.mp_table.specs.Table.{Table, HasRank, term_at}
+use Rattle.mp_table.specs.declared.rank.Rank.{Rank}
+use Rattle.mp_subst.specs.Trail.{Trail}
+use Rattle.mp_walk.specs.declared.frame.Frame.{Frame}
+use Rattle.mp_walk.specs.CodeForest.{forest_of, code_forest}
+use Rattle.mp_walk.specs.Course.{walk_from}
+use Rattle.mp_walk.specs.CourseView.{LeadsTo}
+use Rattle.mp_walk.specs.Forests.{walk}
+use Rattle.mp_walk.specs.Instrs.{Instr, instr_at}
+use Rattle.mp_walk.specs.Levels.{state_of}
+use Rattle.mp_walk.specs.Trails.{numbered_subst}
+use Rattle.mp_walk.specs.OpenOnes.{opens, AreFrames, IsFrameAt}
+use Rattle.mp_walk.specs.SoundTokens.{path_nodes}
+use Rattle.mp_walk.specs.TokenMachine.{State, begin_state, token_steps, token_ends}
+use Rattle.mp_walk.specs.Walkable.{IsWalkable}
+use Rattle.mp_walk.specs.WalkView.{subject_of, IsFirstTarget}
+use Rattle.mp_walk.proofs.CodePaths.{instr-there}
+
+-- the frame of the root
+abbrev pub root_frame : Rank → Frame
+root_frame r = record { under = None; rank = r; alone = true; taken = 0; owes = false; outer = None }
+
+pub begin-frames : (sig : Sig) (t : Table) (r : Rank) → HasRank t r → AreFrames sig t (root_frame r ∷ [])
+begin-frames sig t r h zero f e =
+    let same : root_frame r ≡ f = cc in
+    subst (IsFrameAt sig t zero) same (record {
+      frame = record { rank = h; taken = omega arith };
+      ordered = refl;
+      outer = tt;
+    })
+begin-frames sig t r h (suc i) f e = cc
+
+-- what is open at the beginning
+begin-opens : (t : Table) (r : Rank) → r.0 ≡ t.root
+    → opens t (root_frame r ∷ []) (Some 0) ≡ (begin_state (subject_of t)).open_ones
+begin-opens t r e = ap (λ (n : ℕ). (begin_state (term_at t (record { 0 = n }))).open_ones) e
+
+-- the state at the beginning
+pub begin-state : (t : Table) (r : Rank) → r.0 ≡ t.root → (fs : List Frame) (u : Trail) → fs ≡ root_frame r ∷ []
+    → u.stack ≡ [] → state_of t fs (Some 0) u ≡ begin_state (subject_of t)
+begin-state t r h fs u frames none =
+    ap (λ gs. state_of t gs (Some 0) u) frames
+    ∙ ap (λ es. record { open_ones = opens t (root_frame r ∷ []) (Some 0); trail = numbered_subst t es }) none
+    ∙ ap (λ os. record { open_ones = os; trail = [] }) (begin-opens t r h)
+
+pub begin-there : (code : List Instr) (o : Option ℕ) → IsFirstTarget code o → IfSome o (λ n. IsSome (instr_at code n))
+begin-there code None h = tt
+begin-there code (Some n) h =
+    let i = instr-there code 1 (omega arith) h.1 in
+    subst (λ m. IsSome (instr_at code m)) (sym h.0) (subst IsSome (sym i.1) refl)
+
+pub begin-node : (sig : Sig) (code : List Instr) (W : IsWalkable sig code) (o : Option ℕ) → IsFirstTarget code o
+    → IfSome o (λ n. 0 ≡ path_nodes (W.before n))
+begin-node sig code W None h = tt
+begin-node sig code W (Some n) h =
+    subst (λ m. 0 ≡ path_nodes (W.before m)) (sym h.0) (ap path_nodes (sym W.paths.first))
+
+-- the empty path leads to it
+pub begin-first : (sig : Sig) (code : List Instr) (W : IsWalkable sig code) (o : Option ℕ) → IsFirstTarget code o
+    → LeadsTo W.before o []
+begin-first sig code W None h = tt
+begin-first sig code W (Some n) h = ap W.before h.0 ∙ W.paths.first
+
+pub if-any : (P : Type 0) (o : Option ℕ) → P → IfSome o (λ n. P)
+if-any P None h = tt
+if-any P (Some n) h = h
+
+-- what is to come from the first instruction on
+pub begin-walk : (sig : Sig) (code : List Instr) (o : Option ℕ) → IsFirstTarget code o → (s : State)
+    → walk_from sig code o s [] ≡ walk (token_steps sig) token_ends (code_forest code) s []
+begin-walk sig code None h s =
+    ap (λ c. walk (token_steps sig) token_ends (forest_of c None) s []) h
+    ∙ ap (λ c. walk (token_steps sig) token_ends (forest_of c (Some 1)) s []) (sym h)
+begin-walk sig code (Some n) h s = ap (λ m. walk (token_steps sig) token_ends (forest_of code (Some m)) s []) h.0

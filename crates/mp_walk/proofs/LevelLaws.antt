@@ -1,0 +1,132 @@
+-- Levels of a walk, as places and entries are added and cut off.
+use Rattle.std.proofs.Common.{◌≡◌, ◌≤◌, ℕ, List, [], ◌∷◌, ◌++◌, map, refl, ap, sym, ◌∙◌, subst}
+use Rattle.std.proofs.Common.{arith}
+use Rattle.std.specs.Prelude.{Option, Some, None}
+use Rattle.mp_subst.specs.Trail.{Trail, length_at, cut}
+use Rattle.mp_walk.specs.declared.frame.Frame.{Frame}
+use Rattle.mp_walk.specs.declared.level.Level.{Level}
+use Rattle.mp_walk.specs.declared.setting.Setting.{Setting}
+use Rattle.mp_walk.specs.Levels.{read_of, trail_before, HasRoom, first_frames, first_mark, IsLevel, AreLevels}
+use Rattle.mp_walk.specs.Levels.{HasSearch}
+use Rattle.mp_walk.specs.Below.{below_table, below_ahead}
+use Rattle.mp_walk.specs.OpenOnes.{opens, IsPlaceBelow}
+use Rattle.mp_walk.specs.Trails.{numbered_subst}
+use Rattle.mp_walk.specs.Walkable.{Path}
+
+-- a place below so many is below more
+pub below-more : (m n : ℕ) → m ≤ n → (o : Option ℕ) → IsPlaceBelow m o → IsPlaceBelow n o
+below-more m n h None k = tt
+below-more m n h (Some i) k = omega arith
+
+-- the bounds before a level more
+first_frames-more : (ls : List Level) (l : Level) (n : ℕ) → first_frames (ls ++ l ∷ []) n ≡ first_frames ls l.frames
+first_frames-more [] l n = refl
+first_frames-more (k ∷ ls) l n = refl
+
+first_mark-more : (ls : List Level) (l : Level) (n : ℕ) → first_mark (ls ++ l ∷ []) n ≡ first_mark ls (length_at l.mark)
+first_mark-more [] l n = refl
+first_mark-more (k ∷ ls) l n = refl
+
+module _ (x : Setting) (before : ℕ → Path) where
+  module _ (fs : List Frame) (u : Trail) where
+    -- the first bounds are no greater than the last
+    pub first-below : (ls : List Level) (places marks : ℕ) → AreLevels x before fs u ls places marks
+        → (first_frames ls places ≤ places) × (first_mark ls marks ≤ marks)
+    first-below [] places marks h = (omega arith, omega arith)
+    first-below (l ∷ ls) places marks h =
+        let r = first-below ls places marks h.3 in
+        (let a = h.1 in omega (arith, a, r.0), let a = h.2 in omega (arith, a, r.1))
+
+    -- one level more
+    pub levels-more : (ls : List Level) (l : Level) (places marks : ℕ)
+        → AreLevels x before fs u ls l.frames (length_at l.mark) → IsLevel x before fs u l → l.frames ≤ places
+        → length_at l.mark ≤ marks → AreLevels x before fs u (ls ++ l ∷ []) places marks
+    levels-more [] l places marks h k a b = (k, a, b, tt)
+    levels-more (m ∷ ls) l places marks h k a b = (
+      h.0,
+      subst (λ n. m.frames ≤ n) (sym (first_frames-more ls l places)) h.1,
+      subst (λ n. length_at m.mark ≤ n) (sym (first_mark-more ls l marks)) h.2,
+      levels-more ls l places marks h.3 k a b,
+    )
+
+    -- and one less
+    pub record AreParted (ls : List Level) (l : Level) (most many : ℕ) : Type 0 where
+      pub levels : AreLevels x before fs u ls l.frames (length_at l.mark)
+      pub last : IsLevel x before fs u l
+      pub places : l.frames ≤ most
+      pub marks : length_at l.mark ≤ many
+
+    pub levels-last : (ls : List Level) (l : Level) (places marks : ℕ)
+        → AreLevels x before fs u (ls ++ l ∷ []) places marks → AreParted ls l places marks
+    levels-last [] l places marks h = record { levels = tt; last = h.0; places = h.1; marks = h.2 }
+    levels-last (m ∷ ls) l places marks h =
+        let r = levels-last ls l places marks h.3 in
+        record {
+          levels = (
+            h.0,
+            subst (λ n. m.frames ≤ n) (first_frames-more ls l places) h.1,
+            subst (λ n. length_at m.mark ≤ n) (first_mark-more ls l marks) h.2,
+            r.levels,
+          );
+          last = r.last;
+          places = r.places;
+          marks = r.marks;
+        }
+
+  -- what changes above the bounds changes nothing
+  module _ (fs gs : List Frame) (u v : Trail) (places marks : ℕ)
+      (same : (o : Option ℕ) → IsPlaceBelow places o → opens x.table.now gs o ≡ opens x.table.now fs o)
+      (kept : (n : ℕ) → n ≤ marks → cut n v ≡ cut n u) where
+    pub level-kept : (l : Level) → l.frames ≤ places → length_at l.mark ≤ marks → IsLevel x before fs u l
+        → IsLevel x before gs v l
+    level-kept l a b h =
+        let p : opens x.table.now gs l.place ≡ opens x.table.now fs l.place =
+        same l.place (below-more l.frames places a l.place h.place) in
+        let t : trail_before v l ≡ trail_before u l = kept (length_at l.mark) b in
+        record {
+          instr = h.instr;
+          node = h.node;
+          place = h.place;
+          room = subst (λ os. HasRoom l.node os (trail_before v l)) (sym p)
+              (subst (HasRoom l.node (opens x.table.now fs l.place)) (sym t) h.room);
+          searched = λ i e. subst (λ os. HasSearch x.table.now i.token os (trail_before v l) l.search) (sym p)
+              (subst (λ w. HasSearch x.table.now i.token (opens x.table.now fs l.place) w l.search) (sym t)
+              (h.searched i e));
+          way = h.way;
+        }
+
+    pub read-kept : (l : Level) → l.frames ≤ places → length_at l.mark ≤ marks → IsPlaceBelow l.frames l.place
+        → read_of x.table.now gs v l ≡ read_of x.table.now fs u l
+    read-kept l a b h =
+        let p : opens x.table.now gs l.place ≡ opens x.table.now fs l.place =
+        same l.place (below-more l.frames places a l.place h) in
+        let t : trail_before v l ≡ trail_before u l = kept (length_at l.mark) b in
+        ap (λ os. record {
+          instr = l.instr;
+          state = record { open_ones = os; trail = numbered_subst x.table.now (trail_before v l).stack };
+          next = l.next;
+          below = below_table l.search;
+          ahead = below_ahead l.search (numbered_subst x.table.now (trail_before v l).stack);
+        }) p
+        ∙ ap (λ w. record {
+          instr = l.instr;
+          state = record { open_ones = opens x.table.now fs l.place; trail = numbered_subst x.table.now w.stack };
+          next = l.next;
+          below = below_table l.search;
+          ahead = below_ahead l.search (numbered_subst x.table.now w.stack);
+        }) t
+
+    pub levels-kept : (ls : List Level) → AreLevels x before fs u ls places marks
+        → AreLevels x before gs v ls places marks
+    levels-kept [] h = tt
+    levels-kept (l ∷ ls) h =
+        let r = first-below fs u (l ∷ ls) places marks h in
+        (level-kept l r.0 r.1 h.0, h.1, h.2, levels-kept ls h.3)
+
+    pub reads-kept : (ls : List Level) → AreLevels x before fs u ls places marks
+        → map (read_of x.table.now gs v) ls ≡ map (read_of x.table.now fs u) ls
+    reads-kept [] h = refl
+    reads-kept (l ∷ ls) h =
+        let r = first-below fs u (l ∷ ls) places marks h in
+        ap (λ m. m ∷ map (read_of x.table.now gs v) ls) (read-kept l r.0 r.1 h.0.place)
+        ∙ ap (λ ms. read_of x.table.now fs u l ∷ ms) (reads-kept ls h.3)

@@ -1,0 +1,92 @@
+-- What a token leaves open, and what it may take of the trail, is no more than what was open and its nodes.
+use Rattle.std.proofs.Common.{◌≡◌, ◌≤◌, ◌+◌, ◌*◌, ℕ, zero, suc, List, [], ◌∷◌, length, take, drop, Bool, true}
+use Rattle.std.proofs.Common.{false, nat_eq, refl, ap, ◌∙◌, arith}
+use Rattle.std.specs.Prelude.{if◌then◌else◌}
+use Rattle.mp_term.specs.Order.{tree_cmp}
+use Rattle.mp_term.specs.Pieces.{without}
+use Rattle.mp_term.specs.Size.{node_count, node_counts, all_nodes}
+use Rattle.mp_term.specs.Tree.{Tree, symbol, app, tree_list}
+use Rattle.mp_term.specs.TreeLists.{trees-tree_list}
+use Rattle.mp_pattern.specs.NetTokens.{NetToken, sym_token, enter_token, leave_token, wild_token, comm_token}
+use Rattle.mp_pattern.specs.PatternTree.{Pattern, symbol_pattern, app_pattern, wild_pattern}
+use Rattle.mp_pattern.specs.Size.{pattern_nodes}
+use Rattle.mp_ac.specs.CommPlan.{nodes_below}
+use Rattle.mp_theory.specs.Machine.{arguments}
+use Rattle.mp_walk.specs.Course.{opens_by, way_cost, IsWayValid}
+use Rattle.mp_walk.specs.Levels.{opens_load, search_cost, step_cost}
+use Rattle.mp_walk.specs.SoundTokens.{token_nodes}
+use Rattle.mp_walk.specs.TokenMachine.{Open}
+use Rattle.mp_walk.proofs.WayLaws.{without-front}
+
+-- a term has a node
+some-nodes : (t : Tree) → 1 ≤ node_count t
+some-nodes (symbol n) = omega arith
+some-nodes (app f ts) = omega arith
+
+-- the nodes of a front and of the rest are those of the list
+nodes-parted : (n : ℕ) (ts : List Tree) → all_nodes (take n ts) + all_nodes (drop n ts) ≡ all_nodes ts
+nodes-parted zero ts = omega arith
+nodes-parted (suc n) [] = refl
+nodes-parted (suc n) (t ∷ ts) = omega (arith, nodes-parted n ts)
+
+-- a list has no more terms than nodes
+pub length-nodes : (ts : List Tree) → length ts ≤ all_nodes ts
+length-nodes [] = omega arith
+length-nodes (t ∷ ts) = omega (arith, some-nodes t, length-nodes ts)
+
+front-nodes : (n : ℕ) (ts : List Tree) → n ≤ length ts → n ≤ all_nodes (take n ts)
+front-nodes zero ts h = omega arith
+front-nodes (suc n) [] h = absurd (omega arith)
+front-nodes (suc n) (t ∷ ts) h = omega (arith, some-nodes t, front-nodes n ts (omega arith))
+
+-- the arguments of a term have fewer nodes than it
+arguments-nodes : (ts : List Tree) → all_nodes (arguments ts) ≤ all_nodes ts
+arguments-nodes [] = omega arith
+arguments-nodes (symbol n ∷ []) = omega arith
+arguments-nodes (app g us ∷ []) =
+    let e : all_nodes (tree_list us) ≡ node_counts us = ap node_counts (trees-tree_list us) in omega (arith, e)
+arguments-nodes (symbol n ∷ t ∷ ts) = omega arith
+arguments-nodes (app g us ∷ t ∷ ts) = omega arith
+
+-- what is left behind a front, whatever is taken of its terms
+rest-nodes : (n : ℕ) (ts : List Tree) → all_nodes (take n ts) + all_nodes (without tree_cmp (take n ts) ts)
+    ≡ all_nodes ts
+rest-nodes n ts = ap (λ l. all_nodes (take n ts) + all_nodes l) (without-front n ts) ∙ nodes-parted n ts
+
+pub length-load : (f : Open) (fs : List Open) → length f.left ≤ opens_load (f ∷ fs)
+length-load f fs = omega (arith, length-nodes f.left)
+
+pub load-after : (k : NetToken) (f : Open) (fs : List Open) (way : ℕ) → IsWayValid k f way
+    → opens_load (opens_by k f fs way) + way_cost k way ≤ opens_load (f ∷ fs) + 3 * token_nodes k
+load-after (sym_token n) f fs way v = (let e = rest-nodes 1 f.left in omega (arith, e))
+load-after (leave_token g) f fs way v = omega arith
+load-after (enter_token g) f fs way v = by_way (nat_eq way 1)
+  where
+    by_way : (b : Bool) → all_nodes (if b then take 1 f.left else arguments (take 1 f.left))
+        + (all_nodes (without tree_cmp (take 1 f.left) f.left) + opens_load
+        fs) + 0 ≤ all_nodes f.left + opens_load fs + 3 * 1
+    by_way true = (let e = rest-nodes 1 f.left in omega (arith, e))
+    by_way false = (let e = rest-nodes 1 f.left in let a = arguments-nodes (take 1 f.left) in omega (arith, e, a))
+load-after (wild_token w x) f fs way v =
+    (let e = rest-nodes way f.left in let a = front-nodes way f.left v in omega (arith, e, a))
+load-after (comm_token p) f fs way v = (let e = rest-nodes 1 f.left in omega (arith, e))
+
+-- so it is where a search takes of the trail too
+below-nodes : (q : Pattern) → nodes_below q ≤ pattern_nodes q
+below-nodes (symbol_pattern n) = omega arith
+below-nodes (wild_pattern w x) = omega arith
+below-nodes (app_pattern g ps) = omega arith
+
+pub load-step : (k : NetToken) (f : Open) (fs : List Open) (way : ℕ) → IsWayValid k f way
+    → opens_load (opens_by k f fs way) + step_cost k (f ∷ fs) way ≤ opens_load (f ∷ fs) + 3 * token_nodes k
+load-step (sym_token n) f fs way v = (let h = load-after (sym_token n) f fs way v in omega (arith, h))
+load-step (leave_token g) f fs way v = (let h = load-after (leave_token g) f fs way v in omega (arith, h))
+load-step (enter_token g) f fs way v = (let h = load-after (enter_token g) f fs way v in omega (arith, h))
+load-step (wild_token w x) f fs way v = (let h = load-after (wild_token w x) f fs way v in omega (arith, h))
+load-step (comm_token p) f fs way v = by_left f.left v.0
+  where
+    by_left : (ts : List Tree) → 1 ≤ length ts
+        → all_nodes (without tree_cmp (take 1 ts) ts) + opens_load fs + (0 + search_cost (comm_token p) ts)
+        ≤ all_nodes ts + opens_load fs + 3 * pattern_nodes p
+    by_left [] h = absurd (omega arith)
+    by_left (t ∷ ts) h = (let e = rest-nodes 1 (t ∷ ts) in let b = below-nodes p in omega (arith, e, b))

@@ -1,0 +1,95 @@
+use Rattle.std.proofs.Common.{◌≡◌, ◌<◌, ℕ, List, [], ◌∷◌, ◌++◌, map, length, refl, ap, sym, ◌∙◌}
+use Rattle.std.proofs.Common.{subst}
+use Rattle.std.proofs.Common.{arith}
+use Rattle.std.specs.Prelude.{Some}
+use Rattle.std.specs.List.{AllByRecursion}
+use Rattle.std.proofs.lemmas.List.{append-nil}
+use Rattle.mp_term.specs.Size.{node_count}
+use Rattle.mp_table.specs.Table.{term_at}
+use Rattle.mp_ac.specs.CommRoom.{IsOfTable}
+use Rattle.mp_walk.specs.declared.frame.Frame.{Frame}
+use Rattle.mp_walk.specs.CourseView.{AreChained, LeadsTo}
+use Rattle.mp_walk.specs.Course.{table_read, reads_to_come, walk_from}
+use Rattle.mp_walk.specs.Levels.{read_of, state_of, HasRoom, AreLevels}
+use Rattle.mp_walk.specs.OpenOnes.{AreFrames, opens}
+use Rattle.mp_walk.specs.TokenMachine.{begin_state}
+use Rattle.mp_walk.specs.Trails.{IsTrailOf}
+use Rattle.mp_walk.specs.WalkView.{subject_of}
+use Rattle.mp_walk.proofs.BeginLaws.{root_frame, begin-frames, begin-state, begin-there, begin-node, begin-first}
+use Rattle.mp_walk.proofs.BeginLaws.{if-any, begin-walk}
+use Rattle.mp_walk.proofs.ChainLaws.{alike-same}
+use Rattle.mp_walk.proofs.course.Course.begin.Goals as goal
+
+pub overflow_cast-nodes : goal.overflow_cast-nodes
+overflow_cast-nodes c =
+    let t = c.args.set.table.now in
+    let same : term_at t c.root-root.result ≡ subject_of t =
+    ap (λ (n : ℕ). term_at t (record { 0 = n })) c.root-root.ensures.rank in
+    let count = c.nodes-nodes.ensures ∙ ap node_count same in
+    let few = c.requires.nodes in
+    omega (arith, count, few)
+
+pub overflow_add-nodes : goal.overflow_add-nodes
+overflow_add-nodes c =
+    let t = c.args.set.table.now in
+    let same : term_at t c.root-root.result ≡ subject_of t =
+    ap (λ (n : ℕ). term_at t (record { 0 = n })) c.root-root.ensures.rank in
+    let count = c.nodes-nodes.ensures ∙ ap node_count same in
+    let few = c.requires.nodes in
+    omega (arith, count, few)
+
+pub returns-clause-course : goal.returns-clause-course
+returns-clause-course c =
+    let x = c.args.set in
+    let t = x.table.now in
+    let r = c.root-root.result in
+    let w = c.requires.setting.walkable in
+    let o = c.first_target-target.result in
+    let frames : c.push.new.self.items ≡ root_frame r ∷ [] =
+    c.in_ok-push.ensures.items ∙ ap (λ xs. xs ++ c.root.result ∷ []) c.new-frames.ensures.items
+    ∙ ap (λ f. f ∷ []) c.root.ensures in
+    let count = c.nodes-nodes.ensures in
+    record {
+      setting = c.requires.setting;
+      frames = subst (AreFrames x.sig.now t) (sym frames) (begin-frames x.sig.now t r c.root-root.ensures.within);
+      place = subst (λ (fs : List Frame). 0 < length fs) (sym frames) (omega arith);
+      trail = subst (IsTrailOf t) (sym c.in_ok-trail.ensures) (record {
+        goes = record { values = tt; variables = tt };
+        vars = refl;
+      });
+      levels = subst (λ ls. AreLevels x w.before c.push.new.self.items c.in_ok-trail.trail ls
+          (length c.push.new.self.items) (length c.in_ok-trail.trail.stack)) (sym c.new-2.ensures.items) tt;
+      rooms = subst (AllByRecursion (IsOfTable t)) (sym c.new-3.ensures.items) tt;
+      there = begin-there x.code.now.instrs o c.first_target-target.ensures;
+      node = begin-node x.sig.now x.code.now.instrs w o c.first_target-target.ensures;
+      room = if-any _ o (subst (λ fs. HasRoom 0 (opens t fs (Some 0)) c.in_ok-trail.trail) (sym frames)
+          (subst (HasRoom 0 (opens t (root_frame r ∷ []) (Some 0))) (sym c.in_ok-trail.ensures)
+          (omega (arith, count))));
+      chained = subst (λ ls. AreChained x w.before c.push.new.self.items c.in_ok-trail.trail ls (LeadsTo w.before o)
+          (state_of t c.push.new.self.items (Some 0) c.in_ok-trail.trail)) (sym c.new-2.ensures.items) (
+            alike-same (begin_state (subject_of t)) (state_of t c.push.new.self.items (Some 0) c.in_ok-trail.trail)
+                (sym (begin-state t r c.root-root.ensures.rank c.push.new.self.items c.in_ok-trail.trail frames
+                (ap (λ u. u.stack) c.in_ok-trail.ensures))),
+            begin-first x.sig.now x.code.now.instrs w o c.first_target-target.ensures,
+          );
+    }
+
+pub returns-clause-to_come : goal.returns-clause-to_come
+returns-clause-to_come c =
+    let x = c.args.set in
+    let t = x.table.now in
+    let sig = x.sig.now in
+    let code = x.code.now.instrs in
+    let r = c.root-root.result in
+    let o = c.first_target-target.result in
+    let u = c.in_ok-trail.trail in
+    let fs = c.push.new.self.items in
+    let frames : fs ≡ root_frame r ∷ [] =
+    c.in_ok-push.ensures.items ∙ ap (λ xs. xs ++ c.root.result ∷ []) c.new-frames.ensures.items
+    ∙ ap (λ f. f ∷ []) c.root.ensures in
+    let state = begin-state t r c.root-root.ensures.rank fs u frames (ap (λ v. v.stack) c.in_ok-trail.ensures) in
+    ap (λ ls. walk_from sig code o (state_of t fs (Some 0) u) (table_read code (map (read_of t fs u) ls))
+    ++ reads_to_come sig code [] (map (read_of t fs u) ls)) c.new-2.ensures.items
+    ∙ append-nil (walk_from sig code o (state_of t fs (Some 0) u) [])
+    ∙ ap (λ s. walk_from sig code o s []) state
+    ∙ begin-walk sig code o c.first_target-target.ensures (begin_state (subject_of t))

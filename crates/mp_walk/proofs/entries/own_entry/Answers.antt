@@ -1,0 +1,17 @@
+use Rattle.std.proofs.Common.{◌∙◌, sym, subst}
+use Rattle.mp_table.specs.Table.{HasRanks}
+use Rattle.mp_walk.specs.OpenOnes.{open_of}
+use Rattle.mp_walk.proofs.EntryLaws.{own-front, ranks-front, read-front}
+use Rattle.mp_walk.proofs.entries.own_entry.Goals as goal
+
+pub returns-in_default : goal.returns-in_default
+returns-in_default c =
+    let t = c.args.table.now in
+    let f = open_of t c.args.frame.now in (
+      subst (HasRanks t) (sym c.front-in_default.ensures)
+          (ranks-front t c.args.way c.left-left.result.now c.left-left.ensures.ranks),
+      own-front c.args.token.now f c.args.way c.in_default.not-Sym c.in_default.not-Enter c.in_default.not-Leave
+          c.in_default.not-Comm
+          ∙ read-front t c.args.way c.left-left.result.now f.left c.front-in_default.result.now
+          c.left-left.ensures.terms c.front-in_default.ensures,
+    )

@@ -1,0 +1,62 @@
+-- What contracts see of the operations that a walk has open.
+use Rattle.std.specs.Prelude.{◌≡◌, ◌≤◌, ◌<◌, ⊤, ℕ, false, ◌&&◌, List, [], ◌∷◌, ◌++◌, drop, length, Option, Some, None}
+use Rattle.std.specs.Prelude.{is_some, option_map, slice_get, slice_index_or, if◌then◌else◌}
+use Rattle.mp_term.specs.Signature.{Sig}
+use Rattle.mp_pattern.specs.Variables.{comm_above}
+use Rattle.mp_term.specs.Tree.{Tree}
+use Rattle.mp_term.specs.declared.term.OpId.{OpId}
+use Rattle.mp_table.specs.Subterms.{arguments}
+use Rattle.mp_table.specs.Table.{Table, HasRank, term_at}
+use Rattle.mp_walk.specs.declared.frame.Frame.{Frame}
+use Rattle.mp_walk.specs.TokenMachine.{Open}
+
+-- the number of an operation, if there is one
+abbrev pub above : Option OpId → Option ℕ
+above f = option_map (λ g. g.0) f
+
+-- what the children of the operation take together
+abbrev pub list_of : Table → Frame → List Tree
+list_of t f = if f.alone then term_at t f.rank ∷ [] else arguments (term_at t f.rank)
+
+-- the table has the term, and no more is taken than there is
+pub record IsFrame (t : Table) (f : Frame) : Type 0 where
+  pub rank : HasRank t f.rank
+  pub taken : f.taken ≤ length (list_of t f)
+
+-- the open operation of a frame
+abbrev pub open_of : Table → Frame → Open
+open_of t f = record {
+  under = above f.under;
+  left = drop f.taken (list_of t f);
+  owes = f.owes;
+  plain = f.alone && is_some f.under;
+}
+
+-- the open operations from the one at a place outward, where these are known of each place
+abbrev pub opens_at : List (List Open) → Option ℕ → List Open
+opens_at oss None = []
+opens_at oss (Some i) = slice_index_or oss i []
+
+-- those from each of the frames outward, where oss are those of the places before them
+abbrev pub opens_from : Table → List (List Open) → List Frame → List (List Open)
+opens_from t oss [] = oss
+opens_from t oss (f ∷ fs) = opens_from t (oss ++ (open_of t f ∷ opens_at oss f.outer) ∷ []) fs
+
+-- the open operations from the one at a place outward
+abbrev pub opens : Table → List Frame → Option ℕ → List Open
+opens t fs i = opens_at (opens_from t [] fs) i
+
+-- the place is below so many, if it is one
+abbrev pub IsPlaceBelow : ℕ → Option ℕ → Type 0
+IsPlaceBelow n None = ⊤
+IsPlaceBelow n (Some i) = i < n
+
+-- what holds of a frame at a place: the operation isn't commutative, and the one around it is at a place below
+pub record IsFrameAt (sig : Sig) (t : Table) (i : ℕ) (f : Frame) : Type 0 where
+  pub frame : IsFrame t f
+  pub ordered : comm_above sig (above f.under) ≡ false
+  pub outer : IsPlaceBelow i f.outer
+
+-- so it is with each frame
+abbrev pub AreFrames : Sig → Table → List Frame → Type 0
+AreFrames sig t fs = (i : ℕ) (f : Frame) → slice_get fs i ≡ Some f → IsFrameAt sig t i f

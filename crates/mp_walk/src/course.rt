@@ -1,0 +1,269 @@
+//! The course of a walk: the tokens that it has read, and what is to be tried next.
+ghost use Rattle.std.specs.Prelude.{◌≡◌, ℕ, [], ◌∷◌, ⊤, IfOk, MatchOption, MatchBool, if◌then◌else◌};
+ghost use Rattle.std.specs.Prelude.{◌≤◌, ◌<◌, length};
+ghost use Rattle.std.specs.List.{AllByRecursion};
+ghost use Rattle.mp_term.specs.Size.{node_count};
+ghost use Rattle.mp_pattern.specs.Fits.{Table};
+ghost use Rattle.mp_ac.specs.CommRoom.{IsOfTable};
+ghost use Rattle.mp_walk.specs.CodeForest.{leaf, code_forest};
+ghost use Rattle.mp_walk.specs.Course.{Read};
+ghost use Rattle.mp_walk.specs.CourseView.{course_of, course_to_come, token_to_come, IsCourse, IsStanding, IsLeft};
+ghost use Rattle.mp_walk.specs.CourseView.{IsAtItem, IsTaken, IsBroughtOn, item_of, last_instr};
+ghost use Rattle.mp_walk.specs.CourseVisits.{course_visits, token_visits, IsFewer};
+ghost use Rattle.mp_walk.specs.Entries.{IsEntryAt};
+ghost use Rattle.mp_walk.specs.Forests.{put_out, walk};
+ghost use Rattle.mp_walk.specs.InstrView.{plain_instr};
+ghost use Rattle.mp_walk.specs.Levels.{read_of};
+ghost use Rattle.mp_walk.specs.TokenMachine.{token_steps, token_ends, begin_state};
+ghost use Rattle.mp_walk.specs.Setting.{IsSetting};
+ghost use Rattle.mp_walk.specs.WalkView.{IsFirstTarget, subject_of};
+
+use crate::code::Code;
+use crate::entries::entry_among;
+use crate::frame::Frame;
+use crate::instr::Instr;
+use crate::level::Level;
+use crate::opening::opened;
+use crate::reading::read;
+use crate::setting::Setting;
+use crate::token::nodes;
+use mp_ac::CommRoom;
+use mp_pattern::{MAX_PATTERN_NODES, MAX_VARIABLES};
+use mp_subst::Trail;
+use mp_table::Rank;
+use mp_term::{MAX_TERM_NODES, Memory};
+use std::alloc::Global;
+
+// What a turn comes to: it goes on, an item is found, or nothing is left.
+#[derive(Clone, Copy)]
+pub(crate) enum Turn {
+    On,
+    Found,
+    Ended,
+}
+
+// The allocator; what a walk goes by; the trail; the frames; the tokens that are read; the rooms that their searches
+// gave back; the place of the innermost open operation; how many nodes are read; and the instruction that is to be
+// tried there.
+#[derive(Drop)]
+pub(crate) struct Course<'a> {
+    pub(crate) alloc: Global,
+    pub(crate) set: Setting<'a>,
+    pub(crate) trail: Trail,
+    pub(crate) frames: Vec<Frame>,
+    pub(crate) levels: Vec<Level<'a>>,
+    pub(crate) rooms: Vec<CommRoom>,
+    pub(crate) place: Option<usize>,
+    pub(crate) node: u32,
+    pub(crate) target: Option<u32>,
+}
+
+// The first instruction, where there is one.
+fn first_target(code: &Code) -> Option<u32>
+    ensures { IsFirstTarget code.now.instrs result }
+{
+    if code.len() == 0 { None } else { Some(1) }
+}
+
+impl<'a> Course<'a> {
+    // The course before its first turn.
+    pub(crate) fn begin(alloc: Global, set: Setting<'a>) -> Result<Course<'a>, Memory>
+        requires setting { IsSetting set }
+        requires nodes { node_count (subject_of set.table.now) ≤ MAX_TERM_NODES }
+        ensures course { IfOk result IsCourse }
+        ensures setting { IfOk result (λ c. c.set ≡ set.entry) }
+        ensures to_come { IfOk result (λ c. course_to_come c
+            ≡ walk (token_steps set.entry.sig.now) token_ends (code_forest set.entry.code.now.instrs)
+            (begin_state (subject_of set.entry.table.now)) []) }
+    {
+        let root = set.table.root();
+        let nodes = set.table.nodes(root) as u32;
+        let trail = Trail::new(
+            alloc,
+            MAX_VARIABLES as u32,
+            nodes + 3 * (MAX_PATTERN_NODES + 1),
+        )?;
+        let mut frames = Vec::new(alloc);
+        frames.push(Frame::root(root))?;
+        let target = first_target(set.code);
+        Ok(Course {
+            alloc,
+            set,
+            trail,
+            frames,
+            levels: Vec::new(alloc),
+            rooms: Vec::new(alloc),
+            place: Some(0),
+            node: 0,
+            target,
+        })
+    }
+
+    // The token whose next step is to be taken: that of the instruction to be tried, or the last one that was read.
+    fn last(&mut self) -> Option<Level<'a>>
+        requires { IsCourse self.old }
+        ensures to_come { MatchOption result (course_to_come self.old ≡ []) (λ l. course_to_come self.old
+            ≡ token_to_come self.new (read_of self.new.set.table.now self.new.frames.items self.new.trail l)) }
+        ensures standing { MatchOption result ⊤ (IsStanding self.new) }
+        ensures visits { MatchOption result ⊤ (λ l. course_visits self.old
+            ≡ token_visits self.new (read_of self.new.set.table.now self.new.frames.items self.new.trail l)) }
+        ensures rooms { self.new.rooms ≡ self.old.rooms }
+        ensures setting { self.new.set ≡ self.old.set }
+    {
+        match self.target {
+            None => match self.levels.pop() {
+                None => None,
+                Some(level) => Some(level),
+            },
+            Some(instr) => Some(Level {
+                instr,
+                node: self.node,
+                place: self.place,
+                frames: self.frames.len(),
+                mark: self.trail.mark(),
+                next: 0,
+                search: None,
+            }),
+        }
+    }
+
+    // An instruction that is read accepts here: it accepts something, and only the root is open, and done.
+    fn accepts(&self, instr: &Instr) -> bool
+        requires { IsCourse self.now }
+        ensures { (n : ℕ) (before : Table) → put_out (token_steps self.now.set.sig.now) token_ends
+            (leaf n instr.now.accepts) (course_of self.now).present before ≡ (if result then (n, before) ∷ [] else []) }
+    {
+        let Some(place) = self.place else {
+            return false;
+        };
+        let frame = &self.frames[place];
+        instr.accepts.len() > 0 && frame.outer.is_none() && frame.is_done(self.set.table)
+    }
+
+    // Leaves a token behind, and goes on to what stands beside it.
+    fn go_over(&mut self, level: &Level<'a>, instr: &Instr)
+        requires left { IsLeft self.old level.now (plain_instr instr.now) }
+        requires rooms { AllByRecursion (IsOfTable self.old.set.table.now) self.old.rooms.items }
+        ensures course { IsCourse self.new }
+        ensures to_come { course_to_come self.new ≡ token_to_come self.old
+            (read_of self.old.set.table.now self.old.frames.items self.old.trail level.now) }
+        ensures less { course_visits self.new < token_visits self.old
+            (read_of self.old.set.table.now self.old.frames.items self.old.trail level.now) }
+        ensures setting { self.new.set ≡ self.old.set }
+    {
+        self.place = level.place;
+        self.node = level.node;
+        self.target = instr.over;
+    }
+
+    // Goes on below a token whose step is taken.
+    fn go_down(&mut self, level: Level<'a>, instr: &Instr) -> Result<Turn, Memory>
+        requires taken { (before : Read) × IsTaken self.old before level (plain_instr instr.now) }
+        requires rooms { AllByRecursion (IsOfTable self.old.set.table.now) self.old.rooms.items }
+        ensures turn { IfOk result (λ turn. (before : Read)
+            → IsTaken self.old before level.entry (plain_instr instr.now)
+            → IsBroughtOn (token_to_come self.old before) turn self.new) }
+        ensures less { IfOk result (λ turn. (before : Read)
+            → IsTaken self.old before level.entry (plain_instr instr.now)
+            → IsFewer (course_visits self.new) (token_visits self.old before) turn) }
+        ensures setting { self.new.set ≡ self.old.set }
+    {
+        let Some(place) = level.place else {
+            unreachable!()
+        };
+        let Setting { sig, code, table } = self.set;
+        let way = level.next.saturating_sub(1);
+        self.frames.reserve(2)?;
+        self.place = opened(sig, table, &instr.token, place, way, &mut self.frames);
+        self.node = level.node + nodes(&instr.token, code.plan(level.instr));
+        self.target = instr.down;
+        self.levels.push(level)?;
+        Ok(if self.accepts(instr) {
+            Turn::Found
+        } else {
+            Turn::On
+        })
+    }
+
+    // Reads on a token that comes after the levels.
+    fn read_on(&mut self, level: Level<'a>) -> Result<Turn, Memory>
+        requires standing { IsStanding self.old level }
+        requires rooms { AllByRecursion (IsOfTable self.old.set.table.now) self.old.rooms.items }
+        ensures turn { IfOk result (λ turn. IsBroughtOn (token_to_come self.old
+            (read_of self.old.set.table.now self.old.frames.items self.old.trail level.entry)) turn self.new) }
+        ensures less { IfOk result (IsFewer (course_visits self.new) (token_visits self.old
+            (read_of self.old.set.table.now self.old.frames.items self.old.trail level.entry))) }
+        ensures setting { self.new.set ≡ self.old.set }
+    {
+        let mut level = level;
+        let Setting { code, .. } = self.set;
+        let Some(instr) = code.instr(level.instr) else {
+            unreachable!()
+        };
+        self.frames.truncate(level.frames);
+        let found = read(
+            self.alloc,
+            self.set,
+            &self.frames,
+            instr,
+            &mut level,
+            &mut self.rooms,
+            &mut self.trail,
+        )?;
+        if found {
+            return self.go_down(level, instr);
+        }
+        self.go_over(&level, instr);
+        Ok(Turn::On)
+    }
+
+    // One turn: the next step of a token is taken, or the token is left behind.
+    pub(crate) fn turn(&mut self) -> Result<Turn, Memory>
+        requires { IsCourse self.old }
+        ensures turn { IfOk result (λ turn. IsBroughtOn (course_to_come self.old) turn self.new) }
+        ensures less { IfOk result (IsFewer (course_visits self.new) (course_visits self.old)) }
+        ensures setting { self.new.set ≡ self.old.set }
+    {
+        match self.last() {
+            None => Ok(Turn::Ended),
+            Some(level) => self.read_on(level),
+        }
+    }
+
+    // Goes on to the next item, and answers false where none is left.
+    pub(crate) fn advance(&mut self) -> Result<bool, Memory>
+        requires { IsCourse self.old }
+        ensures found { IfOk result (λ found. MatchBool found
+            (IsAtItem self.new × (course_to_come self.old ≡ item_of self.new ∷ course_to_come self.new))
+            (course_to_come self.old ≡ [])) }
+        ensures setting { self.new.set ≡ self.old.set }
+    {
+        loop {
+            match self.turn()? {
+                Turn::On => {}
+                Turn::Found => return Ok(true),
+                Turn::Ended => return Ok(false),
+            }
+        }
+    }
+
+    // What the node of the number takes in the item at hand, and whether it is collapsed.
+    pub(crate) fn entry(&self, node: u32) -> Option<(&[Rank], bool)>
+        requires { IsCourse self.now }
+        ensures { MatchOption result (length (item_of self.now).1 ≤ node)
+            (λ e. IsEntryAt self.now.set.table.now (item_of self.now).1 node (e.0.now, e.1)) }
+    {
+        entry_among(self.set, &self.frames, &self.levels, node)
+    }
+
+    // The number of the last instruction that is read.
+    pub(crate) fn last_number(&self) -> u32
+        ensures { result ≡ last_instr self.now.levels.items }
+    {
+        let count = self.levels.len();
+        if count == 0 {
+            return 0;
+        }
+        self.levels[count - 1].instr
+    }
+}

@@ -1,0 +1,211 @@
+//! The steps of a token in the innermost open operation.
+ghost use Rattle.std.specs.Prelude.{◌≡◌, ◌≤◌, ◌<◌, ◌+◌, ◌^◌, ◌&&◌, [], ◌∷◌, List, length, IfSome, MatchOption, false};
+ghost use Rattle.std.specs.Prelude.{◌-◌, None, IsTrue, IsFalse, MatchBool, if◌then◌else◌};
+ghost use Rattle.std.specs.Ordering.{is_eq};
+ghost use Rattle.mp_term.specs.NormalTest.{has_head};
+ghost use Rattle.mp_term.specs.Order.{tree_cmp};
+ghost use Rattle.mp_term.specs.Signature.{is_one};
+ghost use Rattle.mp_term.specs.Tree.{symbol};
+ghost use Rattle.mp_pattern.specs.NetTokens.{enter_token};
+ghost use Rattle.mp_pattern.specs.NetTokenView.{net_token};
+ghost use Rattle.mp_pattern.specs.Value.{Subst};
+ghost use Rattle.mp_pattern.specs.Variables.{comm_above};
+ghost use Rattle.mp_table.specs.Table.{HasRank, term_at};
+ghost use Rattle.mp_subst.specs.Trail.{length_at};
+ghost use Rattle.mp_walk.specs.Course.{entries_by, opens_by, IsWayValid, way_cost, is_comm_token};
+ghost use Rattle.mp_walk.specs.Course.{steps_left, IsStepTaken};
+ghost use Rattle.mp_walk.specs.Levels.{read_of, trail_before, AreOfOneToken};
+ghost use Rattle.mp_walk.specs.OpenOnes.{IsFrame, IsPlaceBelow, AreFrames, above, open_of, opens};
+ghost use Rattle.mp_walk.specs.SoundTokens.{IsSoundToken};
+ghost use Rattle.mp_walk.specs.TokenMachine.{Open};
+ghost use Rattle.mp_walk.specs.Trails.{numbered_subst, shape_of, IsTrailOf, LiesOver, HoldsDefault};
+ghost use Rattle.mp_walk.specs.Ways.{HasNoWay, IsFirstWay, way_among, is_first_symbol};
+
+use crate::frame::Frame;
+use crate::front::take_front;
+use crate::level::Level;
+use crate::setting::Setting;
+use crate::token::is_headed;
+use mp_pattern::NetToken;
+use mp_subst::Trail;
+use mp_table::{Head, Rank, Table};
+use mp_term::{Name, OpId, Signature};
+
+// The term is the symbol of the name.
+fn is_symbol(table: &Table, rank: Rank, name: &Name) -> bool
+    requires { HasRank table.now rank }
+    ensures { result ≡ is_eq (tree_cmp (term_at table.now rank) (symbol name.now)) }
+{
+    match table.head(rank) {
+        Head::Sym(own) => own.cmp(name).is_eq(),
+        Head::App(_) => false,
+    }
+}
+
+// The first term that is left is the symbol of the name.
+fn is_first_symbol(table: &Table, frame: &Frame, name: &Name) -> bool
+    requires { IsFrame table.now frame.now }
+    ensures { result ≡ is_first_symbol name.now (open_of table.now frame.now).left }
+{
+    match frame.first(table) {
+        None => false,
+        Some(rank) => is_symbol(table, rank, name),
+    }
+}
+
+// The first way from the number on, where way 0 is there or not, and way 1 is.
+fn way_among(from: usize, headed: bool, single: bool) -> Option<usize>
+    ensures { result ≡ way_among from headed single }
+{
+    if from == 0 {
+        if headed {
+            Some(0)
+        } else if single {
+            Some(1)
+        } else {
+            None
+        }
+    } else if from == 1 {
+        if single { Some(1) } else { None }
+    } else {
+        None
+    }
+}
+
+// The first way from the number on in which an application of the operation may take the term: 0 by its arguments,
+// 1 collapsed.
+pub(crate) fn first_way(
+    sig: &Signature,
+    table: &Table,
+    op: OpId,
+    collapses: bool,
+    rank: Rank,
+    from: usize,
+) -> Option<usize>
+    requires { HasRank table.now rank }
+    ensures { result
+        ≡ way_among from (has_head op.0 (term_at table.now rank)) (is_one sig.now op.0 && collapses) }
+{
+    let headed = is_headed(table, op, rank);
+    let single = sig.is_one(op) && collapses;
+    way_among(from, headed, single)
+}
+
+// The first way from the number on in which the begin of an application reads on.
+fn begin_way(sig: &Signature, table: &Table, frame: &Frame, op: OpId, from: usize) -> Option<usize>
+    requires { IsFrame table.now frame.now }
+    ensures way { (fs : List Open) (s : Subst) →
+        let f = open_of table.now frame.now in
+        let k = enter_token op.0 in
+        MatchOption result (HasNoWay sig.now f fs s k from) (λ w. IsFirstWay sig.now f fs s k from w
+        (entries_by k f w [], record { open_ones = opens_by k f fs w; trail = s })) }
+    ensures valid { IfSome result (IsWayValid (enter_token op.0) (open_of table.now frame.now)) }
+{
+    match frame.first(table) {
+        None => None,
+        Some(rank) => first_way(sig, table, op, true, rank, from),
+    }
+}
+
+// The first way from the number on in which the token reads on in the open operation, which is bound: the token isn't
+// that of a commutative application. None comes where there is none, and then nothing is bound.
+fn way_from(
+    sig: &Signature,
+    table: &Table,
+    frame: &Frame,
+    token: &NetToken,
+    from: usize,
+    trail: &mut Trail,
+) -> Option<usize>
+    requires frame { IsFrame table.now frame.now }
+    requires ordered { comm_above sig.now (above frame.now.under) ≡ false }
+    requires sound { IsSoundToken sig.now (net_token token.now) }
+    requires single { is_comm_token (net_token token.now) ≡ false }
+    requires held { HoldsDefault table.now (shape_of (net_token token.now)) }
+    requires spare { length (open_of table.now frame.now).left + 3 ≤ trail.old.spare }
+    requires trail { IsTrailOf table.now trail.old }
+    ensures way { (fs : List Open) →
+        let f = open_of table.now frame.now in
+        let k = net_token token.now in
+        let s = numbered_subst table.now trail.old.stack in
+        MatchOption result (HasNoWay sig.now f fs s k from) (λ w. IsFirstWay sig.now f fs s k from w (
+          entries_by k f w [],
+          record {
+            open_ones = opens_by k f fs w;
+            trail = numbered_subst table.now trail.new.stack;
+          },
+        )) }
+    ensures valid { IfSome result (IsWayValid (net_token token.now) (open_of table.now frame.now)) }
+    ensures short { IfSome result (λ w. w + 1 < 2 ^ 64) }
+    ensures kept { MatchOption result (trail.new ≡ trail.old)
+        (λ w. LiesOver table.now (way_cost (net_token token.now) w) trail.old trail.new) }
+{
+    match token {
+        NetToken::Sym(name) => {
+            if from == 0 && is_first_symbol(table, frame, name) {
+                Some(0)
+            } else {
+                None
+            }
+        }
+        NetToken::Leave(_) => {
+            if from == 0 && frame.is_done(table) {
+                Some(0)
+            } else {
+                None
+            }
+        }
+        NetToken::Enter(op) => begin_way(sig, table, frame, *op, from),
+        NetToken::Comm(_) => None,
+        _ => take_front(sig, table, frame, token, from, trail),
+    }
+}
+
+// Takes the next step of a token, which is bound. False comes where there is none.
+pub(crate) fn step(
+    set: Setting<'_>,
+    frames: &[Frame],
+    token: &NetToken,
+    level: &mut Level<'_>,
+    trail: &mut Trail,
+) -> bool
+    requires normal { IsSoundToken set.sig.now (net_token token.now) }
+    requires single { is_comm_token (net_token token.now) ≡ false }
+    requires search { level.old.search ≡ None }
+    requires held { HoldsDefault set.table.now (shape_of (net_token token.now)) }
+    requires frames { AreFrames set.sig.now set.table.now frames.now }
+    requires place { IsPlaceBelow (length frames.now) level.old.place }
+    requires mark { length_at level.old.mark ≤ length trail.old.stack }
+    requires trail { IsTrailOf set.table.now trail.old }
+    requires spare { (f : Open) (fs : List Open) → opens set.table.now frames.now level.old.place ≡ f ∷ fs
+        → length f.left + 3 ≤ (trail_before trail.old level.old).spare }
+    ensures same { AreOfOneToken level.old level.new }
+    ensures step { MatchBool result
+        (IsStepTaken set.entry.sig.now (net_token token.now)
+        (read_of set.entry.table.now frames.now trail.old level.old)
+        (read_of set.entry.table.now frames.now trail.new level.new)
+        (numbered_subst set.entry.table.now trail.new.stack))
+        (steps_left set.entry.sig.now (net_token token.now)
+        (read_of set.entry.table.now frames.now trail.old level.old) ≡ []) }
+    ensures kept { LiesOver set.entry.table.now
+        (if result then way_cost (net_token token.now) (level.new.next - 1) else 0)
+        (trail_before trail.old level.old) trail.new }
+    ensures search { level.new.search ≡ None }
+    ensures refused { IsFalse result → (trail.new ≡ trail_before trail.old level.old) × (level.new ≡ level.old) }
+    ensures valid { IsTrue result → (f : Open) (fs : List Open)
+        → opens set.entry.table.now frames.now level.old.place ≡ f ∷ fs
+        → IsWayValid (net_token token.now) f (level.new.next - 1) }
+{
+    trail.undo(level.mark);
+    let Some(place) = level.place else {
+        return false;
+    };
+    let frame = frames[place];
+    match way_from(set.sig, set.table, &frame, token, level.next, trail) {
+        None => false,
+        Some(way) => {
+            level.next = way + 1;
+            true
+        }
+    }
+}
