@@ -14,7 +14,7 @@ use Rattle.mp_term.specs.Normal.{IsNormal}
 use Rattle.mp_term.specs.Signature.{Sig}
 use Rattle.mp_term.specs.Sorting.{insert_sorted, sorted}
 use Rattle.mp_term.specs.Tree.{Tree}
-use Rattle.mp_term.proofs.ListingLaws.{all_in, contains-from_in, in-from_contains, less_than_all}
+use Rattle.mp_term.proofs.ListingLaws.{contains-from_in, in-from_contains, less_than_all}
 use Rattle.mp_term.proofs.SearchLaws.{all-from_in, ascending-append, from_in-append, from_in-map, in-left, in-map}
 use Rattle.mp_term.proofs.SearchLaws.{in-right}
 use Rattle.mp_pattern.specs.Admission.{Admits, AreLeast, IsLeast, Rule}
@@ -22,7 +22,7 @@ use Rattle.mp_pattern.specs.DerivationOrder.{table_cmp}
 use Rattle.mp_pattern.specs.Fits.{Table}
 use Rattle.mp_pattern.specs.Lists.{IsAllList, IsOneList, Pair, pair_cmp, subst_cmp}
 use Rattle.mp_pattern.specs.Value.{Subst}
-use Rattle.mp_pattern.proofs.SortedLaws.{all-from_sorted, all-sorted}
+use Rattle.mp_pattern.proofs.SortedLaws.{from_in-sorted, in-sorted, all-sorted}
 use Rattle.mp_subst.proofs.Equality.{equal-subst_cmp}
 use Rattle.mp_theory.specs.OneList.{one_list}
 use Rattle.mp_theory.proofs.AllList.{subst_cmp_total}
@@ -32,16 +32,6 @@ use Rattle.mp_many.specs.AllPairs.{all_pairs, pairs_from, sorted_substs}
 -- ---- sorted lists
 
 module _ {X : Type 0} (cmp : X → X → Ordering) where
-  -- a sorted list has the members of the list
-  in-sorted : (x : X) (xs : List X) → In x xs → In x (sorted cmp xs)
-  in-sorted x xs i = all_in (λ y. In y (sorted cmp xs)) xs x
-      (all-from_sorted (λ y. In y (sorted cmp xs)) cmp xs
-      (all-from_in (λ y. In y (sorted cmp xs)) (sorted cmp xs) (λ y j. j))) i
-
-  from_in-sorted : (x : X) (xs : List X) → In x (sorted cmp xs) → In x xs
-  from_in-sorted x xs i = all_in (λ y. In y xs) (sorted cmp xs) x
-      (all-sorted (λ y. In y xs) cmp xs (all-from_in (λ y. In y xs) xs (λ y j. j))) i
-
   -- no two items of the list compare as equal
   abbrev AreApart : List X → Type 0
   AreApart [] = ⊤

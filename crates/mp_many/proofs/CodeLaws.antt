@@ -1,9 +1,9 @@
 -- The steps of the making of groups and rows, over the code's own lists.
-use Rattle.std.proofs.Common.{◌≡◌, ◌<◌, ◌≤◌, ℕ, zero, suc, ◌+◌, ◌-◌, List, [], ◌∷◌, ◌++◌, map, length, take, drop, set}
+use Rattle.std.proofs.Common.{◌≡◌, ◌<◌, ◌≤◌, ℕ, zero, suc, ◌+◌, List, [], ◌∷◌, ◌++◌, map, length, take, drop, set}
 use Rattle.std.proofs.Common.{get_or}
 use Rattle.std.proofs.Common.{Bool, true, false, refl, ap, sym, ◌∙◌, ◌⊎◌, inl, inr, subst, arith, nat_lt, append-nil}
 use Rattle.std.proofs.Common.{append_assoc}
-use Rattle.std.specs.Prelude.{Option, Some, None, if◌then◌else◌, flat_map, slice_get}
+use Rattle.std.specs.Prelude.{Option, Some, None, if◌then◌else◌}
 use Rattle.std.specs.List.{AllByRecursion}
 use Rattle.std.proofs.Math.Seq.{get_or-append_seam}
 use Rattle.std.proofs.lemmas.List.{length-append, length-map, map-set, get_or-map, length-drop}
@@ -16,11 +16,11 @@ use Rattle.mp_many.specs.declared.rows.Row.{Row}
 use Rattle.mp_many.specs.GroupView.{group_of, row_of}
 use Rattle.mp_many.specs.Groups as plain
 use Rattle.mp_many.specs.Groups.{entered, grouped, left_at, count_from}
-use Rattle.mp_many.specs.Laid.{Numbered, bare, left_after, ended, target, each_laid, laid, unlinked, linked}
+use Rattle.mp_many.specs.Laid.{Numbered, bare, left_after, target, each_laid, laid, unlinked, linked}
 use Rattle.mp_many.specs.Laid.{numbered_from}
 use Rattle.mp_many.specs.Prefixes.{heads}
 use Rattle.mp_many.proofs.GroupLaws.{AreWithin, numbers_after, left-numbers, numbers-within}
-use Rattle.mp_many.proofs.RowLaws.{get_or-same, drop-next, entered-pass, entered-at, entered-new, pushed, target-more}
+use Rattle.mp_many.proofs.RowLaws.{get_or-same, drop-next, entered-pass, entered-at, pushed, target-more}
 use Rattle.mp_many.proofs.RowLaws.{laid-step}
 
 -- ---- groups

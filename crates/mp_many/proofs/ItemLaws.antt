@@ -1,8 +1,8 @@
 -- The walk over the tree of sound rules has exactly the items of the rules, each once.
-use Rattle.std.proofs.Common.{◌≡◌, ◌≤◌, ℕ, zero, suc, ◌+◌, List, [], ◌∷◌, map, length, refl, ap, sym, ◌∙◌, ◌⊎◌, inl}
-use Rattle.std.proofs.Common.{inr, subst}
+use Rattle.std.proofs.Common.{◌≡◌, ◌≤◌, ℕ, zero, suc, ◌+◌, List, [], ◌∷◌, map, length, refl, ap, sym, ◌∙◌}
+use Rattle.std.proofs.Common.{subst}
 use Rattle.std.proofs.Common.{arith}
-use Rattle.std.specs.Prelude.{Some, option_map, flat_map, slice_get}
+use Rattle.std.specs.Prelude.{◌≢◌, Some, option_map, slice_get}
 use Rattle.std.specs.List.{AllByRecursion}
 use Rattle.std.proofs.lemmas.Option.{slice_get-map}
 use Rattle.mp_term.specs.Listing.{In}
@@ -21,13 +21,13 @@ use Rattle.mp_pattern.specs.Variables.{variables}
 use Rattle.mp_pattern.specs.declared.limits.TheConstants.{MAX_VARIABLES}
 use Rattle.mp_ac.specs.CommItems.{NoneTwice}
 use Rattle.mp_walk.specs.CodeForest.{code_forest}
-use Rattle.mp_walk.specs.Forests.{lists}
-use Rattle.mp_walk.specs.Instrs.{Instr, instr_at}
+use Rattle.mp_walk.specs.Forests.{lists, runs}
+use Rattle.mp_walk.specs.Instrs.{Instr}
 use Rattle.mp_walk.specs.WalkItems.{IsLeafItem, AreLeafItems}
 use Rattle.mp_walk.specs.Walkable.{Path, StandsFor}
 use Rattle.mp_walk.proofs.ForestLaws.{none-mapped}
-use Rattle.mp_walk.specs.TokenMachine.{begin_state}
-use Rattle.mp_walk.proofs.ByRule.{Read}
+use Rattle.mp_walk.specs.TokenMachine.{begin_state, steps_by, token_ends}
+use Rattle.mp_walk.proofs.ByRule.{searched}
 use Rattle.mp_walk.proofs.NumberedNames.{own-names, renamed-itself}
 use Rattle.mp_walk.proofs.Renaming.{renamed-listed}
 use Rattle.mp_walk.proofs.RuleLaws.{stands-renamed}
@@ -39,7 +39,8 @@ use Rattle.mp_theory.specs.Trail.{derivations}
 use Rattle.mp_pattern.specs.Size.{pattern_nodes}
 use Rattle.mp_many.specs.Laid.{tree_of}
 use Rattle.mp_many.specs.Prefixes.{accepted_by, token_lists, token_count, prefixes}
-use Rattle.mp_many.specs.WalkItems.{IsWalkItem, AreWalkItems, accepts_at, each_with, rule_items}
+use Rattle.mp_theory.proofs.OneTable.{fits-same}
+use Rattle.mp_many.specs.WalkItems.{IsWalkItem, AreWalkItems, HaveOneTable, accepts_at, each_with, rule_items}
 use Rattle.mp_many.proofs.OnceLaws.{none-flat, get-once, prefixes-once, prefixes-full, accepted-once}
 use Rattle.mp_many.proofs.WalkableLaws.{in-at, accepted-in, from_in-accepted, leaf-accepts, rule-reached}
 
@@ -65,7 +66,7 @@ module _ (sig : Sig) (t : Tree) (normal : IsNormal sig t) where
       let own : renamed (variables p) p ≡ p = renamed-itself (variables p) h.names p (own-names p) in
       sym (ap (λ r. item_tables (derivations sig (pattern_nodes p) (settle (start r t)) [] [])) own)
       ∙ sym (tokens-read sig (variables p) p t)
-      ∙ ap (λ ks. Read sig (variables p) ks (begin_state t) []) (h.tokens ∙ sym e)
+      ∙ ap (λ ks. runs (steps_by sig (searched sig)) token_ends ks (begin_state t) []) (h.tokens ∙ sym e)
       ∙ tokens-read sig (variables q) q t ∙ renamed-listed sig q t (omega (arith, few))
 
   -- so both fit by the same tables
@@ -81,6 +82,30 @@ module _ (sig : Sig) (t : Tree) (normal : IsNormal sig t) where
       (subst (In T) (sym (same-tables path p q h k e)) (fits-listed sig t normal q T s f))
 
 -- ---- the items of rules
+
+-- a leaf accepts some rule
+pub leaf-some : (sig : Sig) (rules : List Rule) (t : Tree) (i : ℕ × Table) → IsLeafItem sig (tree_of sig rules) t i
+    → accepts_at (tree_of sig rules) i.0 ≢ []
+leaf-some sig rules t i leaf =
+    let a = leaf-accepts sig rules i.0 leaf.path leaf.leaf in
+    let e : accepts_at (tree_of sig rules) i.0 ≡ a.0.accepts = rw (a.1, accepts_at) refl in
+    λ none. a.4 (sym e ∙ none)
+
+-- a rule that it accepts has its path
+pub leaf-rule : (sig : Sig) (rules : List Rule) (t : Tree) (i : ℕ × Table) → IsLeafItem sig (tree_of sig rules) t i
+    → (n : ℕ) → In n (accepts_at (tree_of sig rules) i.0) → (r : Rule) × (slice_get rules n ≡ Some r)
+    × In {X = ℕ × Path} (i.0, tokens_of sig r.pattern) (lists (code_forest (tree_of sig rules)))
+leaf-rule sig rules t i leaf n h =
+    let a = leaf-accepts sig rules i.0 leaf.path leaf.leaf in
+    let e : accepts_at (tree_of sig rules) i.0 ≡ accepted_by 0 (token_lists sig rules) leaf.path =
+    rw (a.1, accepts_at) a.2 in
+    let f = from_in-accepted 0 n (token_lists sig rules) leaf.path (subst (In n) e h) in
+    let number : f.0 ≡ n = omega (arith, f.1) in
+    let r = mapped-at (λ (q : Rule). tokens_of sig q.pattern) rules f.0 leaf.path f.2 in (
+      r.0,
+      ap (slice_get rules) (sym number) ∙ r.1,
+      subst (λ ks. In {X = ℕ × Path} (i.0, ks) (lists (code_forest (tree_of sig rules)))) (sym r.2) leaf.leaf,
+    )
 
 module _ (sig : Sig) (rules : List Rule) (sound : AllByRecursion (IsSoundRule sig) rules) (t : Tree)
     (normal : IsNormal sig t) where
@@ -179,3 +204,7 @@ module _ (sig : Sig) (rules : List Rule) (sound : AllByRecursion (IsSoundRule si
     exactly = λ i. (item-from is are i, item-found is are i);
     once = once-items is are;
   }
+
+-- a fully named pattern without optional wildcards has one table with a substitution
+pub one-table : (sig : Sig) (rules : List Rule) (t : Tree) (is : List (ℕ × Table)) → HaveOneTable sig rules t is
+one-table sig rules t is = λ n r s T U held named plain i f j g. fits-same sig r.pattern t s T U named plain f g

@@ -1,15 +1,12 @@
 -- The tree of numbered lists has a state for each prefix.
-use Rattle.std.proofs.Common.{◌≡◌, ℕ, zero, suc, ◌+◌, ◌≤◌, List, [], ◌∷◌, ◌++◌, map, length, Bool, true, false, ◌&&◌}
+use Rattle.std.proofs.Common.{◌≡◌, ℕ, zero, suc, ◌+◌, List, [], ◌∷◌, ◌++◌, map, length, true, false, ◌&&◌}
 use Rattle.std.proofs.Common.{refl}
-use Rattle.std.proofs.Common.{ap, sym, ◌∙◌, subst, arith}
-use Rattle.std.specs.Prelude.{Option, Some, None, if◌then◌else◌, flat_map}
-use Rattle.std.specs.List.{AllByRecursion}
+use Rattle.std.proofs.Common.{ap, sym, ◌∙◌, arith}
+use Rattle.std.specs.Prelude.{if◌then◌else◌, flat_map}
 use Rattle.std.proofs.lemmas.List.{length-append, length-map, map-append}
 use Rattle.std.proofs.lemmas.Grind.{flat_map-append}
 use Rattle.mp_pattern.specs.NetTokens.{NetToken, same_token}
-use Rattle.mp_pattern.specs.NetTokenLaws.{same_token-is, same_token-itself}
-use Rattle.mp_walk.specs.Instrs.{Instr}
-use Rattle.mp_many.specs.Prefixes.{heads, rest_after, rests, prefixes_within, same_tokens, accepted_by, token_count}
+use Rattle.mp_many.specs.Prefixes.{heads, rest_after, rests, prefixes_within, same_tokens, accepted_by}
 use Rattle.mp_many.specs.Laid.{Numbered, bare, left_after, ended, target, each_laid, laid, numbered_from}
 use Rattle.mp_walk.specs.Walkable.{Path}
 

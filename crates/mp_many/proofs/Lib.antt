@@ -2,11 +2,18 @@ mod TokenLists
 mod LaidLaws
 mod StateLaws
 mod GroupLaws
+mod DigestLaws
 mod RowLaws
 mod TreeLaws
 mod CodeLaws
 mod WalkableLaws
 mod TreeExamples
+pub mod ConstantLaws
+pub mod WalkTables
 mod OnceLaws
 mod ItemLaws
+mod WalkLaws
+mod PlanLaws
+mod SubstLaws
 pub mod AllPairsLaws
+pub mod FoundLaws

@@ -1,8 +1,8 @@
 -- No prefix stands twice, and no rule is accepted twice.
-use Rattle.std.proofs.Common.{◌≡◌, ◌<◌, ℕ, zero, suc, ◌+◌, List, [], ◌∷◌, ◌++◌, map, Bool, true, false, refl, ap, sym}
+use Rattle.std.proofs.Common.{◌≡◌, ℕ, zero, suc, List, [], ◌∷◌, map, true, false, refl, ap, sym}
 use Rattle.std.proofs.Common.{◌∙◌}
-use Rattle.std.proofs.Common.{◌⊎◌, inl, inr, subst, arith}
-use Rattle.std.specs.Prelude.{Option, Some, None, if◌then◌else◌, flat_map, slice_get}
+use Rattle.std.proofs.Common.{inl, inr, subst, arith}
+use Rattle.std.specs.Prelude.{Some, if◌then◌else◌, flat_map, slice_get}
 use Rattle.std.specs.List.{AllByRecursion}
 use Rattle.mp_term.specs.Listing.{In}
 use Rattle.mp_term.proofs.ListingLaws.{all_in}
@@ -14,7 +14,7 @@ use Rattle.mp_ac.specs.CommItems.{NoneTwice}
 use Rattle.mp_walk.specs.Walkable.{Path}
 use Rattle.mp_walk.proofs.ForestLaws.{none-append, none-mapped}
 use Rattle.mp_many.specs.Prefixes.{head_of, heads, rests, prefixes_within, same_tokens, accepted_by}
-use Rattle.mp_many.specs.Laid.{bare, numbered_from}
+use Rattle.mp_many.specs.Laid.{numbered_from}
 use Rattle.mp_many.proofs.LaidLaws.{bare-numbered}
 use Rattle.mp_many.proofs.StateLaws.{full-prefixes}
 use Rattle.mp_many.proofs.WalkableLaws.{in-at, none-accepted}

@@ -1,17 +1,16 @@
 -- The steps of the making of groups and rows, over plain lists.
-use Rattle.std.proofs.Common.{◌≡◌, ◌<◌, ◌≤◌, ℕ, zero, suc, ◌+◌, List, [], ◌∷◌, ◌++◌, map, length, take, drop, set}
+use Rattle.std.proofs.Common.{◌≡◌, ◌<◌, ◌≤◌, ℕ, zero, suc, ◌+◌, List, [], ◌∷◌, ◌++◌, length, take, drop, set}
 use Rattle.std.proofs.Common.{get_or, Bool}
-use Rattle.std.proofs.Common.{true, false, refl, ap, sym, ◌∙◌, subst, arith, append-nil, append_assoc, drop-cons}
+use Rattle.std.proofs.Common.{true, false, refl, ap, sym, ◌∙◌, subst, arith, append_assoc, drop-cons}
 use Rattle.std.proofs.Common.{nat_lt}
 use Rattle.std.specs.Prelude.{Option, Some, None, is_some, option_map, if◌then◌else◌, flat_map, slice_get}
-use Rattle.std.specs.List.{AllByRecursion}
 use Rattle.std.proofs.lemmas.List.{length-append}
 use Rattle.std.proofs.lemmas.Bool.Decides.{nat_tests}
 use Rattle.mp_pattern.specs.NetTokens.{NetToken, same_token}
 use Rattle.mp_walk.specs.Instrs.{Instr}
 use Rattle.mp_walk.specs.Walkable.{Path}
-use Rattle.mp_many.specs.Laid.{Numbered, bare, left_after, ended, target, each_laid, laid, unlinked, linked}
-use Rattle.mp_many.specs.Groups.{Group, entered, grouped, left_at}
+use Rattle.mp_many.specs.Laid.{Numbered, left_after, ended, target, each_laid, unlinked, linked}
+use Rattle.mp_many.specs.Groups.{Group, entered, left_at}
 use Rattle.mp_many.proofs.GroupLaws.{entered_first, entered_all, AreWithin}
 
 -- ---- one list more

@@ -1,7 +1,7 @@
 -- Each state of the tree is the prefix at its place, with its first child, its next sibling and the rules it accepts.
-use Rattle.std.proofs.Common.{◌≡◌, ℕ, zero, suc, ◌+◌, List, [], ◌∷◌, ◌++◌, map, length, drop, Bool, true, false, refl}
-use Rattle.std.proofs.Common.{ap, sym, ◌∙◌, ◌⊎◌, inl, inr, subst, arith, append_assoc, append-nil}
-use Rattle.std.specs.Prelude.{Option, Some, None, if◌then◌else◌, flat_map, slice_get, ⊤}
+use Rattle.std.proofs.Common.{◌≡◌, ℕ, zero, suc, ◌+◌, List, [], ◌∷◌, ◌++◌, map, length, drop, true, false, refl}
+use Rattle.std.proofs.Common.{ap, sym, ◌∙◌, inl, inr, subst, arith, append_assoc, append-nil}
+use Rattle.std.specs.Prelude.{Some, flat_map, slice_get, ⊤}
 use Rattle.std.specs.List.{AllByRecursion}
 use Rattle.std.proofs.lemmas.List.{length-append, length-map, map-append}
 use Rattle.mp_term.specs.Listing.{In}
@@ -11,7 +11,7 @@ use Rattle.mp_term.specs.Signature.{Sig}
 use Rattle.mp_pattern.specs.Admission.{Rule}
 use Rattle.mp_pattern.specs.NetTokens.{NetToken, same_token}
 use Rattle.mp_theory.proofs.FirstsLaws.{Distinct, distinct-firsts}
-use Rattle.mp_walk.specs.Instrs.{Instr, instr_at}
+use Rattle.mp_walk.specs.Instrs.{Instr}
 use Rattle.mp_walk.specs.Walkable.{Path}
 use Rattle.mp_many.specs.Prefixes.{head_of, heads, rests, prefixes_within, same_tokens, child_among, next_child}
 use Rattle.mp_many.specs.Prefixes.{accepted_by, token_lists, token_count, prefixes, IsState}

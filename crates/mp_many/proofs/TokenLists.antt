@@ -1,7 +1,7 @@
 -- Lists of tokens: when they are equal, and which of them goes one token beyond another.
-use Rattle.std.proofs.Common.{◌≡◌, ℕ, zero, suc, ◌+◌, List, [], ◌∷◌, ◌++◌, map, length, Bool, true, false, ◌&&◌, refl}
-use Rattle.std.proofs.Common.{ap, sym, ◌∙◌, subst, arith}
-use Rattle.std.specs.Prelude.{Option, Some, None, if◌then◌else◌}
+use Rattle.std.proofs.Common.{◌≡◌, ℕ, suc, ◌+◌, List, [], ◌∷◌, ◌++◌, length, Bool, true, false, refl}
+use Rattle.std.proofs.Common.{ap, ◌∙◌, subst, arith}
+use Rattle.std.specs.Prelude.{None}
 use Rattle.std.specs.List.{AllByRecursion}
 use Rattle.std.proofs.lemmas.Bool.{and_parts}
 use Rattle.mp_pattern.specs.NetTokens.{NetToken, same_token}

@@ -2,7 +2,7 @@
 use Rattle.std.proofs.Common.{◌≡◌, ◌<◌, ◌≤◌, ℕ, zero, suc, ◌+◌, List, [], ◌∷◌, ◌++◌, map, length, Bool, true, false}
 use Rattle.std.proofs.Common.{refl}
 use Rattle.std.proofs.Common.{ap, sym, ◌∙◌, ◌⊎◌, inl, inr, subst, arith, append_assoc}
-use Rattle.std.specs.Prelude.{Option, Some, None, IsSome, if◌then◌else◌, flat_map, slice_get, option_to_list, ◌||◌}
+use Rattle.std.specs.Prelude.{Option, Some, IsSome, if◌then◌else◌, flat_map, slice_get, option_to_list, ◌||◌}
 use Rattle.std.specs.List.{AllByRecursion}
 use Rattle.std.proofs.lemmas.List.{length-append}
 use Rattle.std.proofs.lemmas.Grind.{flat_map-append}
@@ -10,17 +10,17 @@ use Rattle.mp_term.specs.Listing.{In}
 use Rattle.mp_term.proofs.ListLaws.{all-append}
 use Rattle.mp_term.proofs.ListingLaws.{all_in}
 use Rattle.mp_term.proofs.SearchLaws.{in-left, in-right, from_in-append, in-map, from_in-map, in-flat, from_in-flat}
-use Rattle.mp_pattern.specs.Firsts.{is_known, firsts_after}
+use Rattle.mp_pattern.specs.Firsts.{is_known}
 use Rattle.mp_pattern.specs.NetTokens.{NetToken, same_token}
 use Rattle.mp_pattern.specs.NetTokenLaws.{same_token-is, same_token-itself}
 use Rattle.mp_theory.proofs.FirstsLaws.{from_in-firsts_after}
 use Rattle.mp_ac.specs.CommItems.{NoneTwice}
 use Rattle.mp_walk.specs.CodeForest.{leaf, forest_of}
-use Rattle.mp_walk.specs.Forests.{Forest, lists}
+use Rattle.mp_walk.specs.Forests.{lists}
 use Rattle.mp_walk.specs.Instrs.{Instr, instr_at, targets}
 use Rattle.mp_walk.specs.Walkable.{Path}
 use Rattle.mp_walk.proofs.ForestLaws.{none-append}
-use Rattle.mp_walk.proofs.CodePaths.{IsForward, forest_by, forest-step}
+use Rattle.mp_walk.proofs.CodePaths.{IsForward, forest-step}
 use Rattle.mp_many.specs.Prefixes.{head_of, heads, rest_after}
 use Rattle.mp_many.specs.Laid.{Numbered, bare, left_after, ended, target, each_laid, laid}
 use Rattle.mp_many.proofs.GroupLaws.{unknown-firsts}

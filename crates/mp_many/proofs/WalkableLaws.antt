@@ -1,34 +1,34 @@
 -- The tree of sound rules is a table that may be walked, and its paths are the token lists of the rules.
-use Rattle.std.proofs.Common.{◌≡◌, ◌<◌, ◌≤◌, ℕ, zero, suc, ◌+◌, List, [], ◌∷◌, ◌++◌, map, length, drop, get_or, Bool}
+use Rattle.std.proofs.Common.{◌≡◌, ◌<◌, ◌≤◌, ℕ, zero, suc, ◌+◌, List, [], ◌∷◌, ◌++◌, length, drop, get_or, Bool}
 use Rattle.std.proofs.Common.{true}
-use Rattle.std.proofs.Common.{false, refl, ap, sym, ◌∙◌, ◌⊎◌, inl, inr, subst, arith, append-nil}
-use Rattle.std.specs.Prelude.{◌≢◌, Option, Some, None, IsSome, if◌then◌else◌, flat_map, slice_get}
+use Rattle.std.proofs.Common.{false, refl, ap, sym, ◌∙◌, inl, inr, subst, arith, append-nil}
+use Rattle.std.specs.Prelude.{◌≢◌, Some, None, if◌then◌else◌, flat_map, slice_get}
 use Rattle.std.specs.List.{AllByRecursion}
-use Rattle.std.proofs.lemmas.List.{length-append, length-map}
+use Rattle.std.proofs.lemmas.List.{length-append}
 use Rattle.std.proofs.lemmas.Option.{get_or_from_slice_get}
 use Rattle.mp_term.specs.Listing.{In}
 use Rattle.mp_term.specs.Signature.{Sig, is_comm}
 use Rattle.mp_term.proofs.ListingLaws.{all_in}
-use Rattle.mp_term.proofs.SearchLaws.{in-map, from_in-map, in-flat}
+use Rattle.mp_term.proofs.SearchLaws.{from_in-map, in-flat}
 use Rattle.mp_pattern.specs.Admission.{Rule}
-use Rattle.mp_pattern.specs.NetTokens.{NetToken, comm_token, enter_token, leave_token, same_token, renamed, all_tokens}
+use Rattle.mp_pattern.specs.NetTokens.{NetToken, comm_token, enter_token, leave_token, renamed, all_tokens}
 use Rattle.mp_pattern.specs.NetTokens.{tokens_of}
 use Rattle.mp_pattern.specs.PatternTree.{Pattern, symbol_pattern, app_pattern, wild_pattern}
-use Rattle.mp_pattern.specs.SoundRule.{IsSoundRule, AreSoundRules}
+use Rattle.mp_pattern.specs.SoundRule.{IsSoundRule}
 use Rattle.mp_pattern.specs.Variables.{variables}
 use Rattle.mp_walk.specs.CodeForest.{code_forest}
 use Rattle.mp_walk.specs.Forests.{lists}
 use Rattle.mp_walk.specs.Instrs.{Instr, instr_at, targets}
 use Rattle.mp_walk.specs.Walkable.{Path, ArePaths, IsWhole, IsWalkable}
-use Rattle.mp_walk.proofs.CodePaths.{IsForward, forest-paths}
+use Rattle.mp_walk.proofs.CodePaths.{forest-paths}
 use Rattle.mp_walk.proofs.RuleLaws.{whole-sound_pattern}
-use Rattle.mp_many.specs.Prefixes.{heads, prefixes_within, same_tokens, without_last, child_among, next_child}
+use Rattle.mp_many.specs.Prefixes.{prefixes_within, same_tokens, without_last, child_among, next_child}
 use Rattle.mp_many.specs.Prefixes.{accepted_by, token_lists, token_count, prefixes, IsState}
-use Rattle.mp_many.specs.Laid.{Numbered, laid, numbered_from, tree_of}
+use Rattle.mp_many.specs.Laid.{Numbered, numbered_from, tree_of}
 use Rattle.mp_many.proofs.TokenLists.{same_tokens-is, same_tokens-itself, is_child}
 use Rattle.mp_many.proofs.LaidLaws.{bare-numbered, length-laid}
-use Rattle.mp_many.proofs.StateLaws.{AllFrom, all_from-at, first-prefix, states-are}
-use Rattle.mp_many.proofs.TreeLaws.{laid-inside, AreShort, laid-leads, laid-reached, IsReached}
+use Rattle.mp_many.proofs.StateLaws.{all_from-at, first-prefix, states-are}
+use Rattle.mp_many.proofs.TreeLaws.{laid-inside, AreShort, laid-leads, laid-reached}
 
 -- ---- lists
 
@@ -254,14 +254,14 @@ module _ (sig : Sig) (rules : List Rule) where
   -- a path to an instruction that accepts is the token list of the rules it accepts
   pub leaf-accepts : (n : ℕ) (ks : Path) → In {X = ℕ × Path} (n, ks) (lists (code_forest (tree_of sig rules)))
       → (i : Instr) × (instr_at (tree_of sig rules) n ≡ Some i) × (i.accepts ≡ accepted_by 0 (token_lists sig rules) ks)
-      × (slice_get ([] ∷ prefixes sig rules) n ≡ Some ks)
+      × (slice_get ([] ∷ prefixes sig rules) n ≡ Some ks) × (i.accepts ≢ [])
   leaf-accepts n ks h =
       let p = forest-paths code before are-paths (length code) 1 n ks h in
       let s = state-at n p.instr p.held in
       let e : s.parent ++ (p.instr.token ∷ []) ≡ ks =
       ap (λ q. q ++ (p.instr.token ∷ [])) (sym (before-parent n p.instr s)) ∙ p.path
       ∙ ap (λ q. q ++ ks) first-before in
-      (p.instr, p.held, s.accepts ∙ ap (accepted_by 0 ls) e, s.prefix ∙ ap Some e)
+      (p.instr, p.held, s.accepts ∙ ap (accepted_by 0 ls) e, s.prefix ∙ ap Some e, p.accepts)
 
   -- and the token list of each rule is such a path
   pub rule-reached : (j : ℕ) (l : Path) → slice_get (token_lists sig rules) j ≡ Some l

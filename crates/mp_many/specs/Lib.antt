@@ -1,10 +1,15 @@
 pub mod Prefixes
 pub mod Laid
+pub mod Digest
 pub mod Groups
 pub mod GroupView
 pub mod Many
 pub mod ManyCode
 pub mod ManyView
 pub mod RuleWalk
+pub mod RuleWalkView
 pub mod WalkItems
 pub mod AllPairs
+pub mod Found
+pub mod FoundOrder
+pub mod FoundView

@@ -1,11 +1,13 @@
 -- The items of a walk over rules: the pairs of a rule's number and a take table that fits.
-use Rattle.std.specs.Prelude.{◌≡◌, ◌↔◌, ℕ, List, [], map, flat_map, Some, None, slice_get}
+use Rattle.std.specs.Prelude.{◌≡◌, ◌↔◌, ℕ, true, List, [], map, flat_map, Some, None, slice_get}
 use Rattle.mp_term.specs.Listing.{In}
 use Rattle.mp_term.specs.Tree.{Tree}
 use Rattle.mp_term.specs.Signature.{Sig}
 use Rattle.mp_pattern.specs.Admission.{Rule}
+use Rattle.mp_pattern.specs.Instance.{is_fully_named}
 use Rattle.mp_pattern.specs.Value.{Subst}
 use Rattle.mp_pattern.specs.Fits.{Table, Fits}
+use Rattle.mp_theory.specs.NoOptional.{HasNoOptional}
 use Rattle.mp_ac.specs.CommItems.{NoneTwice}
 use Rattle.mp_walk.specs.Instrs.{Instr, instr_at}
 
@@ -21,6 +23,14 @@ module _ (sig : Sig) (rules : List Rule) (t : Tree) where
   pub record AreWalkItems (is : List (ℕ × Table)) : Type 0 where
     pub exactly : (i : ℕ × Table) → In i is ↔ IsWalkItem i
     pub once : NoneTwice is
+
+  -- where each wildcard of a rule's pattern has a name and none is optional, no two items have that rule and fit with
+  -- one substitution
+  abbrev pub HaveOneTable : List (ℕ × Table) → Type 0
+  HaveOneTable is =
+      (n : ℕ) (r : Rule) (s : Subst) (T U : Table) → slice_get rules n ≡ Some r
+      → is_fully_named r.pattern ≡ true → HasNoOptional r.pattern
+      → In (n, T) is → Fits sig r.pattern t s T → In (n, U) is → Fits sig r.pattern t s U → T ≡ U
 
 -- the rules that an instruction accepts
 abbrev pub accepts_at : List Instr → ℕ → List ℕ

@@ -4,18 +4,31 @@ ghost use Rattle.std.specs.List.{AllByRecursion};
 ghost use Rattle.mp_pattern.specs.NetTokenView.{net_token};
 ghost use Rattle.mp_many.specs.Groups.{entered, grouped, left_at};
 ghost use Rattle.mp_many.specs.Laid.{ended};
-ghost use Rattle.mp_many.specs.GroupView.{group_of};
+ghost use Rattle.mp_many.specs.GroupView.{group_of, IsDigested};
+ghost use Rattle.mp_many.specs.Digest.{token_digest};
+ghost use Rattle.mp_pattern.specs.NetTokens.{same_token};
 
+use crate::digest::token_digest;
 use mp_pattern::{NetToken, NetTokens};
 use mp_term::Memory;
 use mp_walk::Numbers;
 use std::alloc::Global;
 
-// A token, and the numbers of the lists that have it at the place.
+// A token with its digest, and the numbers of the lists that have it at the place.
 #[derive(Drop)]
 pub(crate) struct Group<'a> {
     pub(crate) token: &'a NetToken,
+    pub(crate) digest: u64,
     pub(crate) numbers: Vec<u32>,
+}
+
+// The group is that of the token, whose digest is given.
+fn is_of(group: &Group<'_>, token: &NetToken, digest: u64) -> bool
+    requires group { IsDigested group.now }
+    requires digest { digest ≡ token_digest (net_token token.now) }
+    ensures { result ≡ same_token (net_token group.now.token.now) (net_token token.now) }
+{
+    group.digest == digest && *group.token == *token
 }
 
 // Adds a number to the group of its token, which is a new one where there is none.
@@ -25,18 +38,25 @@ fn enter<'a>(
     token: &'a NetToken,
     number: u32,
 ) -> Result<(), Memory>
-    ensures { OnOk result (map group_of groups.new.items
+    requires digests { AllByRecursion IsDigested groups.old.items }
+    ensures entered { OnOk result (map group_of groups.new.items
         ≡ entered (map group_of groups.old.items) (net_token token.now) number) }
+    ensures digests { OnOk result (AllByRecursion IsDigested groups.new.items) }
 {
+    let digest = token_digest(token);
     for index in 0..groups.len() {
-        if *groups[index].token == *token {
+        if is_of(&groups[index], token, digest) {
             groups[index].numbers.push(number)?;
             return Ok(());
         }
     }
     let mut numbers = Vec::new(alloc);
     numbers.push(number)?;
-    groups.push(Group { token, numbers })?;
+    groups.push(Group {
+        token,
+        digest,
+        numbers,
+    })?;
     Ok(())
 }
 

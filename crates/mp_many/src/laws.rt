@@ -1,5 +1,6 @@
 // The main theorems, each as the contract of a function that does nothing.
-ghost use Rattle.std.specs.Prelude.{◌≡◌, ℕ, true, List, Some, length, slice_get};
+ghost use Rattle.std.specs.Prelude.{◌≡◌, ◌≤◌, ℕ, true, List, Some, IsSome, length, slice_get, flat_map};
+ghost use Rattle.std.specs.List.{AllByRecursion};
 ghost use Rattle.mp_term.specs.Listing.{In};
 ghost use Rattle.mp_pattern.specs.Fits.{Table, Fits};
 ghost use Rattle.mp_pattern.specs.Instance.{is_fully_named, IsPatternApplied};
@@ -9,9 +10,15 @@ ghost use Rattle.mp_theory.specs.NoOptional.{HasNoOptional};
 ghost use Rattle.mp_walk.specs.Instrs.{Instr, instr_at};
 ghost use Rattle.mp_walk.specs.WalkItems.{AreLeafItems};
 ghost use Rattle.mp_walk.specs.Walkable.{IsWalkable};
+ghost use Rattle.mp_table.specs.Table as tables;
+ghost use Rattle.mp_table.specs.Table.{rank_of};
+ghost use Rattle.mp_term.specs.Size.{node_count};
+ghost use Rattle.mp_pattern.specs.Constants.{rule_constants};
+ghost use Rattle.mp_pattern.specs.declared.limits.TheConstants.{MAX_TERM_NODES};
+ghost use Rattle.mp_many.specs.Many.{Many, subject_of, IsWalkTable};
 ghost use Rattle.mp_many.specs.Laid.{tree_of};
 ghost use Rattle.mp_many.specs.Prefixes.{prefixes, IsState};
-ghost use Rattle.mp_many.specs.WalkItems.{AreWalkItems, rule_items};
+ghost use Rattle.mp_many.specs.WalkItems.{AreWalkItems, HaveOneTable, rule_items};
 ghost use Rattle.mp_term.specs.Tree.{Tree};
 ghost use Rattle.mp_term.specs.Signature.{Sig};
 ghost use Rattle.mp_term.specs.Normal.{IsNormal};
@@ -44,14 +51,19 @@ pub fn the_tree_is_of_the_prefixes()
         IsState sig rules n i }
 {}
 
+/// A table with a normal subject of at most `MAX_TERM_NODES` nodes that holds the rules' constants may be walked
+/// (`IsWalkTable` of `specs/Many.antt`).
+pub fn a_table_with_the_constants_of_the_rules_may_be_walked()
+    ensures { (m : Many) (t : tables.Table) → AllByRecursion (IsNormal m.sig) t.terms →
+        node_count (subject_of t) ≤ MAX_TERM_NODES →
+        AllByRecursion (λ u. IsSome (rank_of t u)) (flat_map rule_constants m.rules) → IsWalkTable m t }
+{}
+
 /// Where each wildcard of a rule's pattern has a name and none is optional, no two items of a walk have that rule and
-/// one substitution.
+/// one substitution (`HaveOneTable` of `specs/WalkItems.antt`).
 pub fn a_rule_has_one_item_with_a_substitution()
     ensures { (sig : Sig) (rules : List Rule) (t : Tree) (is : List (ℕ × Table)) → AreWalkItems sig rules t is →
-        (n : ℕ) (r : Rule) (s : Subst) (T U : Table) → slice_get rules n ≡ Some r →
-        is_fully_named r.pattern ≡ true → HasNoOptional r.pattern →
-        In {X = ℕ × Table} (n, T) is → Fits sig r.pattern t s T →
-        In {X = ℕ × Table} (n, U) is → Fits sig r.pattern t s U → T ≡ U }
+        HaveOneTable sig rules t is }
 {}
 
 /// There each item of a walk has a substitution that makes the normal subject: the normal form of the pattern's

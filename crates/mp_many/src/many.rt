@@ -1,16 +1,17 @@
 //! Many rules, prepared to be matched at once.
-ghost use Rattle.std.specs.Prelude.{◌≡◌, ◌≤◌, ◌↔◌, length, option_map, IfOk, IfSome, IsSome};
+ghost use Rattle.std.specs.Prelude.{◌≡◌, ◌<◌, ◌≤◌, ◌↔◌, length, slice_get, IfOk, IfSome, IsSome};
+ghost use Rattle.mp_pattern.specs.Plan.{IsPlanOf};
 ghost use Rattle.mp_pattern.specs.SoundRule.{AreSoundRules};
-ghost use Rattle.mp_walk.specs.InstrView.{plain_instr};
-ghost use Rattle.mp_walk.specs.Instrs.{instr_at};
+ghost use Rattle.mp_walk.specs.Code.{IsCode};
+ghost use Rattle.mp_many.specs.Laid.{tree_of};
 ghost use Rattle.mp_many.specs.ManyView.{state_view};
 ghost use Rattle.mp_many.specs.Prefixes.{prefixes, IsState};
 
 use crate::lists::token_lists;
 use crate::tree::tree_of;
-use mp_pattern::{NetToken, Rules};
+use mp_pattern::{NetToken, Plan, PlannedRule, Rules, plan_rules};
 use mp_term::{Memory, Signature};
-use mp_walk::{Instr, Instrs};
+use mp_walk::Code;
 use std::alloc::Global;
 use std::marker::Model;
 
@@ -20,7 +21,8 @@ use std::marker::Model;
 pub struct Many<'a> {
     sig: &'a Signature,
     rules: &'a Rules,
-    instrs: Instrs,
+    planned: Vec<PlannedRule<'a>>,
+    code: Code,
 }
 
 impl<'a> Model for Many<'a> {
@@ -48,16 +50,6 @@ pub struct State<'a> {
     pub accepts: &'a [u32],
 }
 
-// The instruction of the number, from 1, where there is one.
-fn instr_of(instrs: &Instrs, number: u32) -> Option<&Instr>
-    ensures { instr_at instrs.now number ≡ option_map (λ i. plain_instr i.now) result }
-{
-    if number == 0 {
-        return None;
-    }
-    instrs.get(number as usize - 1)
-}
-
 impl<'a> Many<'a> {
     /// The tree of the rules, which must be sound over the signature (`AreSoundRules` of mp_pattern's
     /// `specs/SoundRule.antt`). `Memory` comes where there is no room for it.
@@ -71,7 +63,14 @@ impl<'a> Many<'a> {
         if instrs.len() > u32::MAX as usize {
             return Err(Memory);
         }
-        Ok(Many { sig, rules, instrs })
+        let code = Code::new(alloc, sig, instrs)?;
+        let planned = plan_rules(alloc, sig, rules.as_slice())?;
+        Ok(Many {
+            sig,
+            rules,
+            planned,
+            code,
+        })
     }
 
     /// How many states the tree has: as many as the rules' token lists have prefixes (`prefixes` of
@@ -79,7 +78,7 @@ impl<'a> Many<'a> {
     pub fn states(&self) -> u32
         ensures { result ≡ length (prefixes self.now.sig self.now.rules) }
     {
-        self.instrs.len() as u32
+        self.code.len() as u32
     }
 
     /// The state of the number, from 1 (`IsState` of `specs/Prefixes.antt`). It is None exactly where the tree has no
@@ -89,13 +88,31 @@ impl<'a> Many<'a> {
         ensures held { IsSome result
             ↔ ((1 ≤ number) × (number ≤ length (prefixes self.now.sig self.now.rules))) }
     {
-        let instr = instr_of(&self.instrs, number)?;
+        let instr = self.code.instr(number)?;
         Some(State {
             token: &instr.token,
             down: instr.down,
             over: instr.over,
             accepts: instr.accepts.as_slice(),
         })
+    }
+
+    // The table of the tree.
+    pub(crate) fn code(&self) -> &Code
+        ensures tree { result.now.instrs ≡ tree_of self.now.sig self.now.rules }
+        ensures planned { IsCode self.now.sig result.now }
+        ensures sound { AreSoundRules self.now.sig self.now.rules }
+    {
+        &self.code
+    }
+
+    // The plan of the pattern of the rule.
+    pub(crate) fn plan(&self, rule: u32) -> &Plan
+        requires { rule < length self.now.rules }
+        ensures plan { IfSome (slice_get self.now.rules rule) (λ r. IsPlanOf self.now.sig r.pattern result.now) }
+        ensures sound { AreSoundRules self.now.sig self.now.rules }
+    {
+        &self.planned[rule as usize].plan
     }
 
     /// The signature that `build` was given.
@@ -105,9 +122,10 @@ impl<'a> Many<'a> {
         self.sig
     }
 
-    /// The rules that `build` was given.
+    /// The rules that `build` was given, which are sound.
     pub fn rules(&self) -> &'a Rules
-        ensures { result.now ≡ self.now.rules }
+        ensures rules { result.now ≡ self.now.rules }
+        ensures sound { AreSoundRules self.now.sig self.now.rules }
     {
         self.rules
     }

@@ -1,4 +1,4 @@
-use Rattle.std.proofs.Common.{◌≡◌, ◌∙◌, ◌+◌, ◌++◌, [], ◌∷◌, drop, get_or, map, sym, ap, append_assoc, append-nil}
+use Rattle.std.proofs.Common.{◌∙◌, ◌+◌, ◌++◌, [], ◌∷◌, drop, get_or, sym, ap, append_assoc}
 use Rattle.std.specs.Prelude.{option_map, flat_map}
 use Rattle.mp_pattern.specs.NetTokenView.{net_token}
 use Rattle.mp_many.specs.Groups.{left_at}

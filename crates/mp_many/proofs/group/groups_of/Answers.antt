@@ -1,9 +1,10 @@
-use Rattle.std.proofs.Common.{◌≡◌, ◌∙◌, ◌+◌, [], drop, get_or, length, map, sym, ap, subst, arith}
-use Rattle.std.specs.Prelude.{Option, Some, None, option_map, slice_get}
+use Rattle.std.proofs.Common.{◌≡◌, ◌∙◌, ◌+◌, [], drop, get_or, map, sym, ap, subst, arith}
+use Rattle.std.specs.Prelude.{option_map}
 use Rattle.std.proofs.lemmas.List.{drop_all}
+use Rattle.std.specs.List.{AllByRecursion}
 use Rattle.mp_pattern.specs.NetTokenView.{net_token}
-use Rattle.mp_many.specs.Groups.{grouped, left_at}
-use Rattle.mp_many.specs.GroupView.{group_of}
+use Rattle.mp_many.specs.Groups.{left_at}
+use Rattle.mp_many.specs.GroupView.{group_of, IsDigested}
 use Rattle.mp_many.proofs.GroupLaws.{entered_all, entered-grouped}
 use Rattle.mp_many.proofs.RowLaws.{entered_by, entered-step, within-step}
 use Rattle.mp_many.proofs.group.groups_of.Goals as goal
@@ -22,11 +23,17 @@ loop-number-preserved c =
     c.index-lists-number.is c.get.ensures in
     record {
       within = step.1;
+      digests =
+          elim c.match-get.branch [
+            | in-Some+in_ok-enter w ↦
+                subst (λ v. AllByRecursion IsDigested v.items) (sym w.groups-is) w.in_ok-enter.ensures.digests
+            | in_default w ↦ subst (λ v. AllByRecursion IsDigested v.items) (sym w.groups-is) old.digests
+          ];
       groups =
           elim c.match-get.branch [
             | in-Some+in_ok-enter w ↦
                 ap (λ hs. entered_all hs (left_at lists c.args.place (drop (i + 1) ns)))
-                (ap (λ v. map group_of v.items) w.groups-is ∙ w.in_ok-enter.ensures
+                (ap (λ v. map group_of v.items) w.groups-is ∙ w.in_ok-enter.ensures.entered
                 ∙ ap (entered_by gs (get_or ns i 0)) (sym (ap (option_map (λ k. net_token k.now)) w.in-Some.is)))
                 ∙ sym e ∙ old.groups
             | in_default w ↦
@@ -46,3 +53,6 @@ returns c =
     let all : drop i ns ≡ [] = drop_all i ns (omega arith) in
     sym (ap (λ ms. entered_all gs (left_at lists c.args.place ms)) all) ∙ c.loop-number.invariant.groups
     ∙ entered-grouped (left_at lists c.args.place ns)
+
+pub enter-requires : goal.enter-requires
+enter-requires c = record { digests = c.loop-number.invariant.digests }

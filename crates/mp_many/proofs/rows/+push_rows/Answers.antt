@@ -1,7 +1,7 @@
-use Rattle.std.proofs.Common.{◌≡◌, ◌∙◌, ◌<◌, ◌+◌, ◌-◌, [], ◌∷◌, ◌++◌, suc, length, map, sym, ap, subst, arith}
+use Rattle.std.proofs.Common.{◌≡◌, ◌∙◌, ◌+◌, ◌-◌, [], ◌∷◌, ◌++◌, suc, length, map, sym, ap, subst, arith}
 use Rattle.std.proofs.lemmas.List.{length-append, length-map}
 use Rattle.mp_pattern.specs.NetTokenView.{net_token}
-use Rattle.mp_many.specs.Groups.{grouped, left_at}
+use Rattle.mp_many.specs.Groups.{left_at}
 use Rattle.mp_many.specs.GroupView.{group_of, row_of}
 use Rattle.mp_many.specs.Laid.{laid, unlinked}
 use Rattle.mp_many.proofs.GroupLaws.{AreWithin}

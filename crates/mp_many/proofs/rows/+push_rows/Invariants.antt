@@ -1,6 +1,6 @@
 use Rattle.std.proofs.Common.{◌≡◌, ◌-◌, ◌++◌, suc, drop, length, map}
-use Rattle.mp_many.specs.Groups.{grouped, left_at}
-use Rattle.mp_many.specs.GroupView.{group_of, row_of}
+use Rattle.mp_many.specs.Groups.{left_at}
+use Rattle.mp_many.specs.GroupView.{row_of}
 use Rattle.mp_many.specs.Laid.{bare, each_laid, laid}
 use Rattle.mp_many.specs.Prefixes.{heads}
 use Rattle.mp_many.proofs.rows.+push_rows.Given as goal

@@ -1,8 +1,7 @@
-use Rattle.std.proofs.Common.{◌≡◌, ◌∙◌, ◌++◌, suc, [], length, map, sym, ap, subst, refl}
+use Rattle.std.proofs.Common.{◌∙◌, ◌++◌, suc, length, map, sym, ap, subst}
 use Rattle.mp_many.specs.Groups.{left_at}
 use Rattle.mp_many.specs.GroupView.{row_of}
-use Rattle.mp_many.specs.Laid.{laid, numbered_from}
-use Rattle.mp_many.specs.Prefixes.{token_count}
+use Rattle.mp_many.specs.Laid.{laid}
 use Rattle.mp_many.proofs.GroupLaws.{AreWithin}
 use Rattle.mp_many.proofs.CodeLaws.{count-within, count-left}
 use Rattle.mp_many.proofs.tree.rows_of.Goals as goal

@@ -1,7 +1,24 @@
-use Rattle.std.proofs.Common.{◌≡◌, ◌∙◌, ap, arith}
+use Rattle.std.proofs.Common.{◌≡◌, ◌∙◌, length, ap, sym, subst, arith}
+use Rattle.std.specs.List.{AllByRecursion}
+use Rattle.mp_pattern.specs.SoundRule.{IsSoundRule}
+use Rattle.mp_walk.specs.Walkable.{IsWalkable}
 use Rattle.mp_many.specs.Laid.{laid, numbered_from, tree_of}
 use Rattle.mp_many.specs.Prefixes.{token_count, token_lists}
+use Rattle.mp_many.proofs.WalkableLaws.{walkable}
 use Rattle.mp_many.proofs.many.Many.build.Goals as goal
+
+pub new-requires : goal.new-requires
+new-requires c =
+    let sig = c.args.sig.now in
+    let rules = c.args.rules.now in
+    let is : c.in_ok-instrs.instrs ≡ tree_of sig rules =
+    c.in_ok-instrs.ensures ∙ ap (λ ls. laid (token_count ls) (numbered_from 0 ls) 1)
+    (c.deref.ensures.value ∙ c.in_ok-lists.ensures ∙ ap (token_lists sig) c.as_slice.ensures) in
+    subst (IsWalkable sig) (sym is) (walkable sig rules c.requires.sound.each)
+
+pub plan_rules-requires : goal.plan_rules-requires
+plan_rules-requires c =
+    subst (AllByRecursion (IsSoundRule c.args.sig.now)) (sym c.as_slice-2.ensures) c.requires.sound.each
 
 pub invariant_of-result : goal.invariant_of-result
 invariant_of-result c =
@@ -12,6 +29,9 @@ invariant_of-result c =
     (c.deref.ensures.value ∙ c.in_ok-lists.ensures ∙ ap (token_lists sig) c.as_slice.ensures) in
     record {
       sound = c.requires.sound;
-      tree = is;
-      few = omega arith;
+      tree = c.in_ok-code.ensures.instrs ∙ is;
+      ready = c.in_ok-code.ensures.planned;
+      few = omega (arith, ap length c.in_ok-code.ensures.instrs);
+      rules = c.in_ok-planned.ensures.rules ∙ c.as_slice-2.ensures;
+      planned = c.in_ok-planned.ensures.planned;
     }

@@ -1,0 +1,378 @@
+-- What a walk finds: that it is what the rules admit, and that in order it is the all-list.
+use Rattle.std.proofs.Common.{◌≡◌, ◌≤◌, ◌<◌, ◌⊎◌, ℕ, zero, suc, length, true, false, List, [], ◌∷◌, ◌++◌, ◌+◌, map}
+use Rattle.std.proofs.Common.{drop, refl, ap, sym, ◌∙◌}
+use Rattle.std.proofs.Common.{inl, inr, subst, arith}
+use Rattle.std.specs.Prelude.{◌↔◌, Contains, IfOk, IfSome, IsSome, Option, Result, Ok, Err, Some, None, option_map}
+use Rattle.std.specs.Prelude.{slice_get}
+use Rattle.std.specs.FinMap.{slice_cmp-IsAntisymmetric}
+use Rattle.std.specs.List.{AllByRecursion}
+use Rattle.std.specs.List.Sorted.{IsStrictlySortedBy}
+use Rattle.std.specs.Ordering.{is_ne, nat_cmp, ordering_then}
+use Rattle.std.specs.declared.cmp.Ordering.{Ordering}
+use Rattle.std.specs.declared.cmp.Ordering.TheVariants.{Less, Equal, Greater}
+use Rattle.std.proofs.lemmas.Cmp.{lists_total, nat_list_cmp_total, tied_itself}
+use Rattle.mp_term.specs.Listing.{In, IsListing}
+use Rattle.mp_term.specs.Normal.{IsNormal}
+use Rattle.mp_term.specs.OrderLaws.{both_equal, nat_same, nats_same}
+use Rattle.mp_term.specs.Signature.{Sig}
+use Rattle.mp_term.specs.Size.{node_count}
+use Rattle.mp_term.specs.Tree.{Tree}
+use Rattle.mp_term.proofs.ListLaws.{all-also, all-append}
+use Rattle.mp_term.proofs.ListingLaws.{all_in, contains-from_in, in-from_contains}
+use Rattle.mp_term.proofs.SearchLaws.{all-from_in, from_in-append, in-left, in-right}
+use Rattle.mp_pattern.specs.Admission.{Rule, meets}
+use Rattle.mp_pattern.specs.CondView.{cond_tree}
+use Rattle.mp_pattern.specs.Operands.{IsConditionOver}
+use Rattle.mp_pattern.specs.PatternTree.{Pattern}
+use Rattle.mp_pattern.specs.RuleView.{rule_tree}
+use Rattle.mp_pattern.specs.declared.rule.Rule as code_rule
+use Rattle.mp_pattern.specs.declared.condition.Cond as code
+use Rattle.mp_pattern.specs.Fits.{Fits, Table}
+use Rattle.mp_pattern.specs.Lists.{IsAllList, Pair, PairAdmitted, pair_cmp, subst_cmp}
+use Rattle.mp_pattern.specs.SoundRule.{AreSoundRules, HasSoundCondition, IsSoundPattern, IsSoundRule}
+use Rattle.mp_pattern.specs.Value.{Subst}
+use Rattle.mp_pattern.specs.Variables.{variables}
+use Rattle.mp_pattern.specs.declared.limits.TheConstants.{MAX_TERM_NODES}
+use Rattle.mp_pattern.proofs.SoundRules.{DefaultsAreSmall-IsFormed, HasConditionOver-HasSoundCondition}
+use Rattle.mp_subst.specs.View.{binding_of}
+use Rattle.mp_subst.specs.declared.subst.Binding as code_binding
+use Rattle.mp_subst.proofs.Equality.{equal-subst_cmp}
+use Rattle.mp_cond.specs.Ready.{AreCountable, IsCountable, IsReady}
+use Rattle.mp_cond.proofs.ReadyLaws.{IsReady-over}
+use Rattle.mp_theory.specs.ValueSizes.{HasAtMost}
+use Rattle.mp_theory.proofs.FitsSolves.{fits-solves}
+use Rattle.mp_theory.proofs.ValueSizes.{fits-within}
+use Rattle.mp_many.specs.Found.{IsGivenBy, IsPairOf, found_cmp, names_cmp, names_of}
+use Rattle.mp_many.specs.Many.{Many}
+use Rattle.mp_many.specs.WalkItems.{AreWalkItems, IsWalkItem}
+
+-- ---- the order
+
+-- equal pairs alone compare as equal
+pub found_same : (p q : Pair) → found_cmp p q ≡ Equal → p ≡ q
+found_same p q e =
+    let a = both_equal _ _ e in
+    let b = both_equal _ _ a.1 in
+    let names = slice_cmp-IsAntisymmetric nats_same (names_of p.1) (names_of q.1) b.0 in
+    let same : p.1 ≡ q.1 = (equal-subst_cmp p.1 q.1 (subst_cmp p.1 q.1) names refl).0 b.1 in
+    ap (λ (n : ℕ). (n, p.1)) (nat_same p.0 q.0 a.0) ∙ ap (λ (s : Subst). (q.0, s)) same
+
+-- what isn't unequal is equal
+pub equal-not_ne : (o : Ordering) → is_ne o ≡ false → o ≡ Equal
+equal-not_ne Less e = cc
+equal-not_ne Equal e = refl
+equal-not_ne Greater e = cc
+
+-- the names that compare as equal are the same
+pub names-same : (r s : Subst) → names_cmp (names_of r) (names_of s) ≡ Equal → names_of r ≡ names_of s
+names-same r s = slice_cmp-IsAntisymmetric nats_same (names_of r) (names_of s)
+
+-- what is behind the items of a list, and at a place within it
+drop-past : {X : Type 0} (i : ℕ) (xs : List X) → length xs ≤ i → drop i xs ≡ []
+drop-past zero [] h = refl
+drop-past (suc i) [] h = refl
+drop-past zero (x ∷ xs) h = absurd (omega (arith, h))
+drop-past (suc i) (x ∷ xs) h = drop-past i xs (omega (arith, h))
+
+drop-within : {X : Type 0} (i : ℕ) (xs : List X) → i < length xs → (x : X) × (rest : List X) × (drop i xs ≡ x ∷ rest)
+drop-within i [] h = absurd (omega (arith, h))
+drop-within zero (x ∷ xs) h = (x, xs, refl)
+drop-within (suc i) (x ∷ xs) h = drop-within i xs (omega (arith, h))
+
+module _ (i : ℕ) (bs os : List code_binding.Binding) where
+  abbrev compared : List code_binding.Binding → List code_binding.Binding → Ordering
+  compared cs ds = names_cmp (names_of (map binding_of cs)) (names_of (map binding_of ds))
+
+  -- behind the last binding, of fewer than the others or of as many
+  pub ended-less : length bs ≤ i → i < length os → compared (drop i bs) (drop i os) ≡ Less
+  ended-less h k =
+      let w = drop-within i os k in
+      subst (λ cs. compared cs (drop i os) ≡ Less) (sym (drop-past i bs h))
+      (subst (λ ds. compared [] ds ≡ Less) (sym w.2) refl)
+
+  pub ended-equal : length bs ≤ i → length os ≤ i → compared (drop i bs) (drop i os) ≡ Equal
+  ended-equal h k = subst (λ cs. compared cs (drop i os) ≡ Equal) (sym (drop-past i bs h))
+      (subst (λ ds. compared [] ds ≡ Equal) (sym (drop-past i os k)) refl)
+
+module _ (sig : Sig) (rules : List Rule) (t : Tree) where
+  -- pairs of one rule have the same variables
+  same-names : (p q : Pair) → PairAdmitted sig rules t p → PairAdmitted sig rules t q → p.0 ≡ q.0
+      → names_of p.1 ≡ names_of q.1
+  same-names p q h k e =
+      let held : Some h.0 ≡ Some k.0 = sym h.1 ∙ ap (slice_get rules) e ∙ k.1 in
+      let rule : h.0 ≡ k.0 = cc in
+      h.2.fits.subst_of.names ∙ ap (λ r. variables r.pattern) rule ∙ sym k.2.fits.subst_of.names
+
+  -- so they compare as pairs do
+  pair_less : (p q : Pair) → PairAdmitted sig rules t p → PairAdmitted sig rules t q → found_cmp p q ≡ Less
+      → pair_cmp p q ≡ Less
+  pair_less p q h k e =
+      elim (nat_cmp p.0 q.0) as (λ c. nat_cmp p.0 q.0 ≡ c
+      → ordering_then c (ordering_then (names_cmp (names_of p.1) (names_of q.1)) (subst_cmp p.1 q.1)) ≡ Less
+      → ordering_then c (subst_cmp p.1 q.1) ≡ Less) [
+        | Less ↦ λ n l. refl
+        | Equal ↦ λ n l.
+            let names : names_cmp (names_of p.1) (names_of q.1) ≡ Equal =
+            subst (λ ns. names_cmp (names_of p.1) ns ≡ Equal) (same-names p q h k (nat_same p.0 q.0 n))
+            (tied_itself (lists_total nat_list_cmp_total) (names_of p.1)) in
+            sym (ap (λ c. ordering_then c (subst_cmp p.1 q.1)) names) ∙ l
+        | Greater ↦ λ n l. cc
+      ] refl e
+
+  ascending-pairs : (ps : List Pair) → AllByRecursion (PairAdmitted sig rules t) ps → IsStrictlySortedBy found_cmp ps
+      → IsStrictlySortedBy pair_cmp ps
+  unfolding IsStrictlySortedBy
+  ascending-pairs [] h a = tt
+  ascending-pairs (p ∷ ps) h a = (all_less ps h.1 a.0, ascending-pairs ps h.1 a.1)
+    where
+      all_less : (qs : List Pair) → AllByRecursion (PairAdmitted sig rules t) qs
+          → AllByRecursion (λ q. found_cmp p q ≡ Less) qs → AllByRecursion (λ q. pair_cmp p q ≡ Less) qs
+      all_less [] k l = tt
+      all_less (q ∷ qs) k l = (pair_less p q h.0 k.0 l.0, all_less qs k.1 l.1)
+
+  -- what the rules admit, in order, is their all-list
+  pub listing-all_list : (found ps : List Pair) → ((p : Pair) → Contains found p ↔ PairAdmitted sig rules t p)
+      → IsListing found_cmp (Contains found) ps → IsAllList sig rules t ps
+  listing-all_list found ps h l = record {
+    exactly = λ p. (λ c. (h p).0 ((l.exactly p).0 c), λ a. (l.exactly p).1 ((h p).1 a));
+    ascending = ascending-pairs ps (all-from_in (PairAdmitted sig rules t) ps (λ p i.
+        (h p).0 ((l.exactly p).0 (contains-from_in p ps i)))) l.ascending;
+  }
+
+  -- ---- what the items give
+
+  -- the pair of an item is admitted
+  given-admitted : (i : ℕ × Table) (p : Pair) → IsGivenBy sig rules t i p → PairAdmitted sig rules t p
+  given-admitted i p g = (
+    g.rule,
+    ap (slice_get rules) g.number ∙ g.numbered,
+    record { table = i.1; fits = g.fits; condition = g.condition },
+  )
+
+  -- what was found is admitted, and what is admitted was found or is given by an item to come
+  pub record HasFound (found : List Pair) (to_come : List (ℕ × Table)) : Type 0 where
+    pub sound : AllByRecursion (PairAdmitted sig rules t) found
+    pub complete : (p : Pair) → PairAdmitted sig rules t p
+        → In p found ⊎ ((i : ℕ × Table) × In i to_come × IsGivenBy sig rules t i p)
+    pub items : AllByRecursion (IsWalkItem sig rules t) to_come
+
+  -- before the first item
+  pub found-first : (is : List (ℕ × Table)) → AreWalkItems sig rules t is → HasFound [] is
+  found-first is h = record {
+    sound = tt;
+    complete = λ p a. inr (
+      (p.0, a.2.table),
+      (h.exactly (p.0, a.2.table)).1 (record { rule = a.0; numbered = a.1; subst = p.1; fits = a.2.fits }),
+      record { number = refl; rule = a.0; numbered = a.1; fits = a.2.fits; condition = a.2.condition },
+    );
+    items = all-from_in (IsWalkItem sig rules t) is (λ i j. (h.exactly i).0 j);
+  }
+
+  -- behind an item, with its pair, where it has one
+  pub found-some : (found : List Pair) (is : List (ℕ × Table)) (i : ℕ × Table) (p : Pair) → HasFound found is
+      → slice_get is 0 ≡ Some i → IsPairOf sig rules t i (Some p) → HasFound (found ++ p ∷ []) (drop 1 is)
+  found-some found [] i p h e g = cc
+  found-some found (j ∷ is) i p h e g =
+      let same : j ≡ i = let w : Some j ≡ Some i = e in cc in
+      record {
+        sound = all-append (PairAdmitted sig rules t) found (p ∷ []) h.sound (given-admitted i p ((g p).1 refl), tt);
+        complete = λ q a. elim (h.complete q a) [
+          | inl k ↦ inl (in-left q found (p ∷ []) k)
+          | inr k ↦ at_item q k.0 k.1 k.2
+        ];
+        items = h.items.1;
+      }
+    where
+      at_item : (q : Pair) (k : ℕ × Table) → In k (j ∷ is) → IsGivenBy sig rules t k q
+          → In q (found ++ p ∷ []) ⊎ ((i : ℕ × Table) × In i is × IsGivenBy sig rules t i q)
+      at_item q k (inl s) b =
+          let same : j ≡ i = let w : Some j ≡ Some i = e in cc in
+          let held : Some p ≡ Some q = (g q).0 (subst (λ l. IsGivenBy sig rules t l q) (s ∙ same) b) in
+          let own : q ≡ p = cc in
+          inl (in-right q found (p ∷ []) (inl own))
+      at_item q k (inr s) b = inr (k, s, b)
+
+  pub found-none : (found : List Pair) (is : List (ℕ × Table)) (i : ℕ × Table) → HasFound found is
+      → slice_get is 0 ≡ Some i → IsPairOf sig rules t i None → HasFound found (drop 1 is)
+  found-none found [] i h e g = cc
+  found-none found (j ∷ is) i h e g = record {
+    sound = h.sound;
+    complete = λ q a. elim (h.complete q a) [ inl k ↦ inl k | inr k ↦ at_item q k.0 k.1 k.2 ];
+    items = h.items.1;
+  }
+    where
+      at_item : (q : Pair) (k : ℕ × Table) → In k (j ∷ is) → IsGivenBy sig rules t k q
+          → In q found ⊎ ((i : ℕ × Table) × In i is × IsGivenBy sig rules t i q)
+      at_item q k (inl s) b =
+          let same : j ≡ i = let w : Some j ≡ Some i = e in cc in
+          let held : None ≡ Some q = (g q).0 (subst (λ l. IsGivenBy sig rules t l q) (s ∙ same) b) in
+          cc
+      at_item q k (inr s) b = inr (k, s, b)
+
+  -- other lists of the same pairs
+  pub found-alike : (found other : List Pair) (is : List (ℕ × Table)) → HasFound found is
+      → ((p : Pair) → Contains other p ↔ Contains found p) → HasFound other is
+  found-alike found other is h same = record {
+    sound = all-from_in (PairAdmitted sig rules t) other (λ p i.
+        all_in (PairAdmitted sig rules t) found p h.sound
+        (in-from_contains p found ((same p).0 (contains-from_in p other i))));
+    complete = λ p a. elim (h.complete p a) [
+      | inl k ↦ inl (in-from_contains p other ((same p).1 (contains-from_in p found k)))
+      | inr k ↦ inr k
+    ];
+    items = h.items;
+  }
+
+  module _ (found : List Pair) (is : List (ℕ × Table)) (h : HasFound found is) where
+    pub step-some : (item : Option (ℕ × Table)) (o : Option Pair) (p : Pair) → IsSome item → item ≡ slice_get is 0
+        → IfSome item (λ i. IsPairOf sig rules t i o) → o ≡ Some p → HasFound (found ++ p ∷ []) (drop 1 is)
+    step-some None o p s e g k = cc
+    step-some (Some i) o p s e g k = found-some found is i p h (sym e) (subst (IsPairOf sig rules t i) k g)
+
+    pub step-none : (item : Option (ℕ × Table)) (o : Option Pair) → IsSome item → item ≡ slice_get is 0
+        → IfSome item (λ i. IsPairOf sig rules t i o) → o ≡ None → HasFound found (drop 1 is)
+    step-none None o s e g k = cc
+    step-none (Some i) o s e g k = found-none found is i h (sym e) (subst (IsPairOf sig rules t i) k g)
+
+    pub step-last : (item : Option (ℕ × Table)) → (IsSome item → ⊥) → item ≡ slice_get is 0
+        → slice_get is 0 ≡ None
+    step-last None s e = sym e
+    step-last (Some i) s e = absurd (s refl)
+
+  -- behind the last item
+  pub found-last : (found : List Pair) (is : List (ℕ × Table)) → HasFound found is → slice_get is 0 ≡ None
+      → (p : Pair) → Contains found p ↔ PairAdmitted sig rules t p
+  found-last found [] h e p = (
+    λ c. all_in (PairAdmitted sig rules t) found p h.sound (in-from_contains p found c),
+    λ a. elim (h.complete p a) [ inl k ↦ contains-from_in p found k | inr k ↦ absurd k.1 ],
+  )
+  found-last found (j ∷ is) h e p = cc
+
+  -- ---- the pair of an item
+
+  module _ (normal : IsNormal sig t) (i : ℕ × Table) (r : Rule) (held : slice_get rules i.0 ≡ Some r) (s : Subst)
+      (fits : Fits sig r.pattern t s i.1) where
+    abbrev own : Pair
+    own = (i.0, s)
+
+    -- a table fits with one substitution
+    fits-same : (u : Subst) → Fits sig r.pattern t u i.1 → u ≡ s
+    fits-same u h =
+        let one = (fits-solves sig r.pattern t u i.1 normal h).1 in
+        let other = (fits-solves sig r.pattern t s i.1 normal fits).1 in
+        let both : Some u ≡ Some s = sym one ∙ other in
+        cc
+
+    given-same : (p : Pair) → IsGivenBy sig rules t i p → (p ≡ own) × (meets sig r.condition s ≡ true)
+    given-same p g =
+        let both : Some g.rule ≡ Some r = sym g.numbered ∙ held in
+        let rule : g.rule ≡ r = cc in
+        let same : p.1 ≡ s = fits-same p.1 (subst (λ q. Fits sig q.pattern t p.1 i.1) rule g.fits) in (
+          ap (λ (n : ℕ). (n, p.1)) g.number ∙ ap (λ (u : Subst). (i.0, u)) same,
+          ap (λ u. meets sig r.condition u) (sym same) ∙ ap (λ q. meets sig q.condition p.1) (sym rule) ∙ g.condition,
+        )
+
+    pub pair_of-some : meets sig r.condition s ≡ true → IsPairOf sig rules t i (Some own)
+    pair_of-some m p = (
+      λ g. ap Some (sym (given-same p g).0),
+      λ e.
+          let same : own ≡ p = let w : Some own ≡ Some p = e in cc in
+          subst (IsGivenBy sig rules t i) same
+          (record { number = refl; rule = r; numbered = held; fits = fits; condition = m }),
+    )
+
+    pub pair_of-none : meets sig r.condition s ≡ false → IsPairOf sig rules t i None
+    pair_of-none m p = (
+      λ g. let q = (given-same p g).1 in cc,
+      λ e. cc,
+    )
+
+-- ---- conditions
+
+module _ (sig : Sig) (t : Tree) (few : node_count t ≤ MAX_TERM_NODES) where
+  -- a substitution that fits is ready for a condition that is sound
+  pub ready-fits : (p : Pattern) (s : Subst) (T : Table) (o : Option code.Cond) → IsSoundPattern sig p
+      → HasSoundCondition sig p (option_map cond_tree o) → Fits sig p t s T → IfSome o (λ c. IsReady s (cond_tree c))
+  ready-fits p s T None sound h fits = tt
+  ready-fits p s T (Some c) sound h fits =
+      let small = DefaultsAreSmall-IsFormed sig p sound.formed in
+      let within = fits-within sig (MAX_TERM_NODES + 1) (omega arith) p t s T small (omega (arith, few)) fits in
+      let countable : AreCountable s =
+      all-also (λ b. HasAtMost (MAX_TERM_NODES + 1) b.value) (λ b. IsCountable b.value) (λ b k. omega (arith, k)) s
+      within in
+      let over = HasConditionOver-HasSoundCondition sig p (Some (cond_tree c)) h in
+      IsReady-over s (cond_tree c)
+      (subst (λ xs. IsConditionOver xs (cond_tree c)) (sym fits.subst_of.names) over) countable
+
+-- ---- the item of a walk
+
+-- what holds of each item holds of that at a place
+all_held : {X : Type 0} (P : X → Type 0) (xs : List X) (k : ℕ) (x : X) → AllByRecursion P xs → slice_get xs k ≡ Some x
+    → P x
+all_held P [] k x h e = cc
+all_held P (y ∷ ys) zero x h e = let same : y ≡ x = let w : Some y ≡ Some x = e in cc in subst P same h.0
+all_held P (y ∷ ys) (suc k) x h e = all_held P ys k x h.1 e
+
+module _ (m : Many) (t : Tree) (sound : AreSoundRules m.sig m.rules) (normal : IsNormal m.sig t)
+    (few : node_count t ≤ MAX_TERM_NODES) (n : ℕ) (rule : code_rule.Rule)
+    (held : slice_get m.rules n ≡ Some (rule_tree rule)) (s : Subst) where
+  -- the item is of the rule, and its table fits with the substitution
+  abbrev IsOf : Option (ℕ × Table) → Type 0
+  IsOf item = IfSome item (λ i. n ≡ i.0)
+      × IfSome item (λ i. IfSome (slice_get m.rules i.0) (λ r. Fits m.sig r.pattern t s i.1))
+
+  of-item : (i : ℕ × Table) → IsOf (Some i)
+      → (slice_get m.rules i.0 ≡ Some (rule_tree rule)) × Fits m.sig (rule_tree rule).pattern t s i.1
+  of-item i h =
+      let own : slice_get m.rules i.0 ≡ Some (rule_tree rule) = subst (λ k. slice_get m.rules k ≡ Some (rule_tree rule))
+      h.0 held in
+      (own, subst (λ o. IfSome o (λ r. Fits m.sig r.pattern t s i.1)) own h.1)
+
+  -- so the substitution is ready for the rule's condition
+  pub ready-item : (item : Option (ℕ × Table)) → IsSome item → IsOf item
+      → IfSome rule.condition (λ c. IsReady s (cond_tree c))
+  ready-item None h k = cc
+  ready-item (Some i) h k =
+      let own = all_held (IsSoundRule m.sig) m.rules n (rule_tree rule) sound.each held in
+      ready-fits m.sig t few (rule_tree rule).pattern s i.1 rule.condition own.pattern own.condition (of-item i k).1
+
+  -- and where this holds it is the pair of the item
+  pub some-item : (item : Option (ℕ × Table)) → IsSome item → IsOf item
+      → meets m.sig (rule_tree rule).condition s ≡ true → IfSome item (λ i. IsPairOf m.sig m.rules t i (Some (n, s)))
+  some-item None h k e = cc
+  some-item (Some i) h k e =
+      let f = of-item i k in
+      subst (λ x. IsPairOf m.sig m.rules t i (Some (x, s))) (sym k.0)
+      (pair_of-some m.sig m.rules t normal i (rule_tree rule) f.0 s f.1 e)
+
+  pub none-item : (item : Option (ℕ × Table)) → IsSome item → IsOf item
+      → meets m.sig (rule_tree rule).condition s ≡ false → IfSome item (λ i. IsPairOf m.sig m.rules t i None)
+  none-item None h k e = cc
+  none-item (Some i) h k e =
+      let f = of-item i k in
+      pair_of-none m.sig m.rules t normal i (rule_tree rule) f.0 s f.1 e
+
+-- ---- lists of pairs
+
+-- one more pair behind lists of the same pairs
+pub contains-pushed : (xs ys : List Pair) (q : Pair) → ((p : Pair) → Contains ys p ↔ Contains xs p)
+    → (p : Pair) → Contains (ys ++ q ∷ []) p ↔ Contains (xs ++ q ∷ []) p
+contains-pushed xs ys q same p = (
+  λ c. half xs ys (λ k. in-from_contains p xs ((same p).0 (contains-from_in p ys k))) c,
+  λ c. half ys xs (λ k. in-from_contains p ys ((same p).1 (contains-from_in p xs k))) c,
+)
+  where
+    half : (us vs : List Pair) → (In p vs → In p us) → Contains (vs ++ q ∷ []) p → Contains (us ++ q ∷ []) p
+    half us vs f c =
+        contains-from_in p (us ++ q ∷ [])
+        (elim (from_in-append p vs (q ∷ []) (in-from_contains p (vs ++ q ∷ []) c)) [
+          | inl k ↦ in-left p us (q ∷ []) (f k)
+          | inr k ↦ in-right p us (q ∷ []) k
+        ])
+
+-- ---- tables and answers
+
+-- what an answer holds is so
+pub ok-also : {X E : Type 0} (P Q : X → Type 0) → ((x : X) → P x → Q x) → (r : Result X E) → IfOk r P → IfOk r Q
+ok-also P Q f (Ok x) h = f x h
+ok-also P Q f (Err e) h = h

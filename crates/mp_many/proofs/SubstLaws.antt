@@ -1,0 +1,123 @@
+-- The item at which a walk stands, and the substitution of its table.
+use Rattle.std.proofs.Common.{◌≡◌, ◌<◌, ℕ, zero, suc, List, [], ◌∷◌, ◌++◌, length, get_or, refl, ap, sym, subst, arith}
+use Rattle.std.proofs.Common.{true, inl}
+use Rattle.std.specs.Prelude.{◌≢◌, Option, Some, None, IsSome, IfOk, IfSome, Result, slice_get}
+use Rattle.mp_term.specs.Listing.{In}
+use Rattle.mp_term.specs.Normal.{IsNormal}
+use Rattle.mp_term.specs.Signature.{Sig}
+use Rattle.mp_term.specs.Tree.{Tree}
+use Rattle.mp_term.proofs.ListingLaws.{all_in}
+use Rattle.mp_term.proofs.SearchLaws.{in-right}
+use Rattle.mp_pattern.specs.Admission.{Rule}
+use Rattle.mp_pattern.specs.Fits.{Fits}
+use Rattle.mp_pattern.specs.Instance.{is_fully_named, IsPatternApplied}
+use Rattle.mp_pattern.specs.NetTokens.{tokens_of}
+use Rattle.mp_pattern.specs.Plan.{Plan, IsPlanOf}
+use Rattle.mp_pattern.specs.SoundRule.{AreSoundRules, IsSoundRule}
+use Rattle.mp_pattern.specs.Value.{Subst}
+use Rattle.mp_table.specs.Table as tables
+use Rattle.mp_theory.specs.NoOptional.{HasNoOptional}
+use Rattle.mp_theory.proofs.Instances.{fits-applied}
+use Rattle.mp_walk.specs.CodeForest.{code_forest}
+use Rattle.mp_walk.specs.Forests.{lists}
+use Rattle.mp_walk.specs.Instrs.{Instr}
+use Rattle.mp_walk.specs.WalkItems.{IsLeafItem, IsItemSubst}
+use Rattle.mp_walk.specs.Walkable.{Path}
+use Rattle.mp_many.specs.Laid.{tree_of}
+use Rattle.mp_many.specs.Many.{Many, subject_of}
+use Rattle.mp_many.specs.RuleWalk.{Item, given}
+use Rattle.mp_many.specs.WalkItems.{accepts_at}
+use Rattle.mp_many.proofs.ItemLaws.{leaf-rule}
+use Rattle.mp_many.proofs.WalkableLaws.{in-at}
+
+-- the item at which the walk stands is of a rule that is left, and of the leaf
+pub given-some : (ns : List ℕ) (o : Option Item) → IsSome (slice_get (given ns o) 0) → (ns ≢ []) × IsSome o
+given-some ns None h = cc
+given-some [] (Some j) h = cc
+given-some (n ∷ ns) (Some j) h = ((λ e. cc), refl)
+
+pub given-from : (ns : List ℕ) (o : Option Item) (i : Item) → slice_get (given ns o) 0 ≡ Some i
+    → (j : Item) × (o ≡ Some j) × (j.1 ≡ i.1)
+given-from ns None i e = cc
+given-from [] (Some j) i e = cc
+given-from (n ∷ ns) (Some j) i e =
+    let same : (n, j.1) ≡ i = let w : Some (n, j.1) ≡ Some i = e in cc in
+    (j, refl, ap (λ (x : Item). x.1) same)
+
+-- what is at a place is within the list
+pub get-within : {X : Type 0} (xs : List X) (n : ℕ) (x : X) → slice_get xs n ≡ Some x → n < length xs
+get-within [] n x e = cc
+get-within (y ∷ xs) zero x e = omega arith
+get-within (y ∷ xs) (suc n) x e = omega (arith, get-within xs n x e)
+
+module _ (m : Many) (t : Tree) (ns : List ℕ) (i : Item)
+    (leaf : IsLeafItem m.sig (tree_of m.sig m.rules) t i) (front : List ℕ)
+    (left : accepts_at (tree_of m.sig m.rules) i.0 ≡ front ++ ns) where
+  -- the rule of the item
+  pub record HasRule : Type 0 where
+    pub rule : Rule
+    pub held : slice_get m.rules (get_or ns 0 0) ≡ Some rule
+    pub reached : In {X = ℕ × Path} (i.0, tokens_of m.sig rule.pattern) (lists (code_forest (tree_of m.sig m.rules)))
+
+  pub rule-left : ns ≢ [] → HasRule
+  rule-left full = let r = at ns left full in record { rule = r.0; held = r.1; reached = r.2 }
+    where
+      at : (ms : List ℕ) → accepts_at (tree_of m.sig m.rules) i.0 ≡ front ++ ms → ms ≢ []
+          → (r : Rule) × (slice_get m.rules (get_or ms 0 0) ≡ Some r)
+          × In {X = ℕ × Path} (i.0, tokens_of m.sig r.pattern) (lists (code_forest (tree_of m.sig m.rules)))
+      at [] e f = absurd (f refl)
+      at (n ∷ ms) e f = leaf-rule m.sig m.rules t i leaf n (subst (In n) (sym e) (in-right n front (n ∷ ms) (inl refl)))
+
+-- the substitution is that of the item at which the walk below stands, by the plan
+abbrev pub FitsPlan : Sig → List Instr → Tree → Plan → Option Item → Subst → Type 0
+FitsPlan sig code t plan o s = IfSome o (IsItemSubst sig code t plan s)
+
+pub fits-plan : {X E : Type 0} (r : Result X E) (f : X → Subst) (g h : Sig) (is js : List Instr) (b d : tables.Table)
+    (plan : Plan) (o : Option Item) → g ≡ h → is ≡ js → b ≡ d
+    → IfOk r (λ s. FitsPlan g is (subject_of b) plan o (f s)) → IfOk r (λ s. FitsPlan h js (subject_of d) plan o (f s))
+fits-plan r f g h is js b d plan o sig code table k =
+    subst (λ x. IfOk r (λ s. FitsPlan x js (subject_of d) plan o (f s))) sig
+    (subst (λ x. IfOk r (λ s. FitsPlan g x (subject_of d) plan o (f s))) code
+    (subst (λ (x : tables.Table). IfOk r (λ s. FitsPlan g is (subject_of x) plan o (f s))) table k))
+
+module _ (m : Many) (sound : AreSoundRules m.sig m.rules) (t : Tree) (ns : List ℕ) (full : ns ≢ []) (o : Option Item)
+    (i : Item) (stands : o ≡ Some i) (leaf : IsLeafItem m.sig (tree_of m.sig m.rules) t i) (front : List ℕ)
+    (left : accepts_at (tree_of m.sig m.rules) i.0 ≡ front ++ ns) (plan : Plan)
+    (planned : IfSome (slice_get m.rules (get_or ns 0 0)) (λ r. IsPlanOf m.sig r.pattern plan)) (s : Subst)
+    (fits : FitsPlan m.sig (tree_of m.sig m.rules) t plan o s) where
+  rule : HasRule m t ns i leaf front left
+  rule = rule-left m t ns i leaf front left full
+
+  -- what holds of the item's rule and table
+  item-given : (P : Rule → Item → Type 0) → P rule.rule (get_or ns 0 0, i.1)
+      → IfSome (slice_get (given ns o) 0) (λ x. IfSome (slice_get m.rules x.0) (λ r. P r x))
+  item-given P h =
+      subst (λ w. IfSome (slice_get (given ns w) 0) (λ x. IfSome (slice_get m.rules x.0) (λ r. P r x))) (sym stands)
+      (at ns full rule.held h)
+    where
+      at : (ms : List ℕ) → ms ≢ [] → slice_get m.rules (get_or ms 0 0) ≡ Some rule.rule
+          → P rule.rule (get_or ms 0 0, i.1)
+          → IfSome (slice_get (given ms (Some i)) 0) (λ x. IfSome (slice_get m.rules x.0) (λ r. P r x))
+      at [] f e p = absurd (f refl)
+      at (n ∷ ms) f e p = subst (λ w. IfSome w (λ r. P r (n, i.1))) (sym e) p
+
+  own-fits : Fits m.sig rule.rule.pattern t s i.1
+  own-fits =
+      let sound_rule = all_in (IsSoundRule m.sig) m.rules rule.rule sound.each
+      (in-at m.rules (get_or ns 0 0) rule.rule rule.held) in
+      subst (λ w. FitsPlan m.sig (tree_of m.sig m.rules) t plan w s) stands fits rule.rule.pattern
+      sound_rule.pattern
+      (subst (λ w. IfSome w (λ r. IsPlanOf m.sig r.pattern plan)) rule.held planned) rule.reached
+
+  -- so it fits with the item's table the pattern of its rule
+  pub fits-given : IfSome (slice_get (given ns o) 0) (λ x. IfSome (slice_get m.rules x.0)
+      (λ r. Fits m.sig r.pattern t s x.1))
+  fits-given = item-given (λ r x. Fits m.sig r.pattern t s x.1) own-fits
+
+  -- and where that is fully named and has no optional wildcard, its instance makes the subject
+  pub applied-given : IsNormal m.sig t → IfSome (slice_get (given ns o) 0) (λ x. IfSome (slice_get m.rules x.0)
+      (λ r. is_fully_named r.pattern ≡ true → HasNoOptional r.pattern → IsPatternApplied m.sig r.pattern s t))
+  applied-given normal =
+      item-given
+      (λ r x. is_fully_named r.pattern ≡ true → HasNoOptional r.pattern → IsPatternApplied m.sig r.pattern s t)
+      (λ named plain. fits-applied m.sig rule.rule.pattern t s i.1 named plain normal own-fits)
