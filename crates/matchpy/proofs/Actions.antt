@@ -56,6 +56,7 @@ over_syntactic-read over (Some rule) h = λ e. absurd (omega arith)
 
 matches_by-read : (engine : Engine) (request : Request) (file : FileTree) → IsRead (matches_by engine request file)
 matches_by-read engine.One request file = matched-read (listed file request.resume request.limit)
+matches_by-read engine.Many request file = any_or_none (has_some _)
 matches_by-read engine.Net request file =
     over_syntactic-read (matched_whole file request.limit) (first_not_syntactic file.sig file.rules)
     (any_or_none (has_some _))

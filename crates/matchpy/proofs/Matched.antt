@@ -12,11 +12,11 @@ use Rattle.mp_term.proofs.ListLaws.{all-also}
 use Rattle.mp_pattern.specs.Admission.{Rule}
 use Rattle.mp_pattern.specs.Lists.{Pair, IsAllList}
 use Rattle.mp_pattern.specs.Syntactic.{is_syntactic}
-use Rattle.mp_net.specs.AllList.{pairs_from}
+use Rattle.mp_many.specs.AllPairs.{all_pairs}
+use Rattle.mp_many.proofs.AllPairsLaws.{all_pairs-all_list}
 use Rattle.mp_net.specs.Nets as nets
 use Rattle.mp_net.specs.declared.fault.NetFault.{NetFault}
 use Rattle.mp_net.specs.declared.fault.NetFault.TheVariants as net_fault
-use Rattle.mp_net.proofs.AllListLaws.{pairs-all_list}
 use Rattle.mp_text.specs.File.{FileTree, Subject}
 use Rattle.mp_text.specs.Sound.{IsSoundFile, IsSoundSubject}
 use Rattle.mp_matches.specs.AllListed.{IsAllListed, front_lines}
@@ -74,36 +74,20 @@ first_not_syntactic-none sig rules e =
     let test : Rule → Bool = λ r. not (is_syntactic sig r.pattern) in
     find-none test rules (position-none test rules e)
 
-module _ (sig : Sig) where
-  abbrev AreSyntactic : List Rule → Type 0
-  AreSyntactic rules = AllByRecursion (λ r. is_syntactic sig r.pattern ≡ true) rules
-
-  -- where none is told, each rule is syntactic
-  rules-syntactic : (rules : List Rule) → first_not_syntactic sig rules ≡ None → AreSyntactic rules
-  rules-syntactic [] e = tt
-  rules-syntactic (r ∷ rs) e = by_test (is_syntactic sig r.pattern) refl (rules-syntactic rs) e
-    where
-      by_test : (b : Bool) → is_syntactic sig r.pattern ≡ b → (first_not_syntactic sig rs ≡ None → AreSyntactic rs)
-          → (if not b then Some r else first_not_syntactic sig rs) ≡ None → AreSyntactic (r ∷ rs)
-      by_test true is behind e = (is, behind e)
-      by_test false is behind e = absurd cc
-
 -- ---- the all-lists
 
-module _ (file : FileTree) (sound : IsSoundFile file) (none : first_not_syntactic file.sig file.rules ≡ None)
-    (limit : Option ℕ) where
+module _ (file : FileTree) (sound : IsSoundFile file) (limit : Option ℕ) where
   abbrev pairs : Tree → List Pair
-  pairs t = pairs_from file.sig t 0 file.rules
+  pairs = all_pairs file.sig file.rules
 
   abbrev IsListed : Subject → Type 0
   IsListed s = IsAllList file.sig file.rules s.term (pairs s.term)
 
   each : AllByRecursion IsListed file.subjects
   each = all-also (IsSoundSubject file.sig) IsListed
-      (λ s h. pairs-all_list file.sig s.term file.rules h.term.normal (rules-syntactic file.sig file.rules none))
-      file.subjects sound.subjects
+      (λ s h. all_pairs-all_list file.sig s.term h.term.normal file.rules) file.subjects sound.subjects
 
-  -- what is told of syntactic rules is told of the all-lists
+  -- what is told is told of the all-lists
   pub all_listed : IsAllListed file limit (front_lines limit (flat_map (pair_lines file pairs) file.subjects))
   all_listed = (IsAllListed-exact file pairs each limit _).1 refl
 
@@ -121,10 +105,10 @@ matches_by-exact engine.One request file o sound =
     let exact = IsListed-exact file sound request.resume request.limit in
     let told = listed file request.resume request.limit in
     (λ h. h.2 ∙ ap matched ((exact h.0).0 h.1), λ e. (told, (exact told).1 refl, e))
-matches_by-exact engine.Net request file o sound = by_rules (first_not_syntactic file.sig file.rules) refl
+matches_by-exact engine.Many request file o sound = IsMatchedWhole-exact file sound request.limit o
+matches_by-exact engine.Net request file o sound = by_rules (first_not_syntactic file.sig file.rules)
   where
-    by_rules : (found : Option Rule) → first_not_syntactic file.sig file.rules ≡ found
-        → IsOverSyntactic (IsMatchedWhole file request.limit) found o
+    by_rules : (found : Option Rule) → IsOverSyntactic (IsMatchedWhole file request.limit) found o
         ↔ (o ≡ over_syntactic (matched_whole file request.limit) found)
-    by_rules None e = IsMatchedWhole-exact file sound e request.limit o
-    by_rules (Some rule) e = (λ h. h, λ h. h)
+    by_rules None = IsMatchedWhole-exact file sound request.limit o
+    by_rules (Some rule) = (λ h. h, λ h. h)

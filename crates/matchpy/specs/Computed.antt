@@ -3,7 +3,7 @@ use Rattle.std.specs.Prelude.{ℕ, List, [], ◌∷◌, length, Option, Some, No
 use Rattle.mp_io.specs.Devices.{Files, Text, held}
 use Rattle.mp_term.specs.Signature.{Sig}
 use Rattle.mp_pattern.specs.Admission.{Rule}
-use Rattle.mp_net.specs.AllList.{pairs_from}
+use Rattle.mp_many.specs.AllPairs.{all_pairs}
 use Rattle.mp_matches.specs.Computed.{listed, pairs_listed}
 use Rattle.mp_rewrite.specs.Computed.{rewriting}
 use Rattle.mp_text.specs.File.{FileTree, Subject}
@@ -16,7 +16,7 @@ use Rattle.mp_words.specs.Words.{Request}
 use Rattle.mp_words.specs.declared.request.Action.{Action}
 use Rattle.mp_words.specs.declared.request.Action.TheVariants.{Match, Show, Rewrite, Edit}
 use Rattle.mp_words.specs.declared.request.Engine.{Engine}
-use Rattle.mp_words.specs.declared.request.Engine.TheVariants.{One, Net}
+use Rattle.mp_words.specs.declared.request.Engine.TheVariants.{One, Many, Net}
 
 -- ---- matches
 
@@ -25,13 +25,14 @@ abbrev pub over_syntactic : Outcome → Option Rule → Outcome
 over_syntactic over None = over
 over_syntactic over (Some rule) = refused 10 (not_syntactic_line rule.name)
 
--- the lines of the pairs of a file of syntactic rules, all or so many
+-- the lines of the all-lists of a file, all or so many
 abbrev pub matched_whole : FileTree → Option ℕ → Outcome
-matched_whole file limit = matched (pairs_listed file (λ t. pairs_from file.sig t 0 file.rules) limit)
+matched_whole file limit = matched (pairs_listed file (all_pairs file.sig file.rules) limit)
 
 -- what the matches of a file come to by an engine
 abbrev pub matches_by : Engine → Request → FileTree → Outcome
 matches_by One request file = matched (listed file request.resume request.limit)
+matches_by Many request file = matched_whole file request.limit
 matches_by Net request file =
     over_syntactic (matched_whole file request.limit) (first_not_syntactic file.sig file.rules)
 

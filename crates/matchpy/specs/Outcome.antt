@@ -76,10 +76,11 @@ abbrev pub IsMatchedWhole : FileTree → Option ℕ → Outcome → Type 0
 IsMatchedWhole file limit o = (text : Text) × IsAllListed file limit text × (o ≡ matched (lines text))
 
 -- What the matches of a file come to by an engine: rule by rule, all or so many, from the first or from behind a token
--- on; or of all rules together, all or so many, where each rule is syntactic.
+-- on; or of all rules together, all or so many, by nets where each rule is syntactic.
 abbrev pub IsMatchedBy : Engine → Request → FileTree → Outcome → Type 0
 IsMatchedBy engine.One request file o =
     (l : Listed) × IsListed file request.resume request.limit l × (o ≡ matched l)
+IsMatchedBy engine.Many request file o = IsMatchedWhole file request.limit o
 IsMatchedBy engine.Net request file o =
     IsOverSyntactic (IsMatchedWhole file request.limit) (first_not_syntactic file.sig file.rules) o
 

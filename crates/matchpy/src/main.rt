@@ -5,6 +5,7 @@ mod answer;
 mod edit;
 mod ending;
 mod laws;
+mod many_matcher;
 mod matches;
 mod net_matcher;
 mod rewrite;

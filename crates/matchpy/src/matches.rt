@@ -16,6 +16,7 @@ ghost use Rattle.matchpy.specs.Messages.{not_syntactic_line};
 ghost use Rattle.matchpy.specs.Outcome.{first_not_syntactic, matched, refused};
 
 use crate::ending::{Ending, Told};
+use crate::many_matcher::ManyMatcher;
 use crate::net_matcher::NetMatcher;
 use mp_io::Sink;
 use mp_matches::{ListFault, list_matches, list_pairs};
@@ -56,6 +57,24 @@ fn not_syntactic<'a>(alloc: Global, rules: &Rules, number: u32) -> Ending<'a>
     };
     match rule.name.copy(alloc) {
         Ok(name) => Ending::Told(Told::NotSyntactic(name)),
+        Err(Memory) => Ending::Memory,
+    }
+}
+
+// Prints the pairs that a walk over all rules at once finds.
+fn match_by_walk<'a, O: Sink>(
+    alloc: Global,
+    file: &File,
+    limit: Option<u32>,
+    out: &mut O,
+) -> Ending<'a>
+    requires { IsSoundFile (file_tree file.now) }
+    ensures acts { Acts (matched_whole (file_tree file.now) limit) (sunk O.Sink out.old out.new) result }
+    ensures used { status_of result ≡ 2 → ⊥ }
+    ensures read { status_of result ≡ 4 → ⊥ }
+{
+    match ManyMatcher::build(alloc, &file.sig, &file.rules) {
+        Ok(matcher) => ending(list_pairs(alloc, file, &matcher, limit, out)),
         Err(Memory) => Ending::Memory,
     }
 }
@@ -101,6 +120,7 @@ pub fn match_file<'a, O: Sink>(
 {
     match request.engine {
         Engine::One => ending(list_matches(alloc, file, request.limit, request.resume, out)),
+        Engine::Many => match_by_walk(alloc, file, request.limit, out),
         Engine::Net => match_by_nets(alloc, file, request.limit, out),
     }
 }

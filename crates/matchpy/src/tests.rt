@@ -4,11 +4,13 @@ mod cases;
 mod changes;
 mod listed;
 mod netted;
+mod walked;
 
 use self::cases::{CONDITIONED, CONDITIONS, EXAMPLES, FAULTS, MATCHES, RUNS};
 use self::changes::CHANGES;
 use self::listed::LISTED;
 use self::netted::NETTED;
+use self::walked::WALKED;
 use crate::run::run;
 use mp_io::{MemoryShelf, MemorySink};
 use std::alloc::Global;
@@ -93,6 +95,35 @@ fn each_match_is_printed_once_in_order(rt: HostRuntime) -> Result<(), Fail> {
     for table in [MATCHES, EXAMPLES] {
         for case in table.split("====\n") {
             assert!(rt; is_matched(rt.alloc(), case)?, "{case}");
+        }
+    }
+    Ok(())
+}
+
+// Whether a walk over all rules at once finds the lines behind the file, in whatever order.
+fn is_walked(alloc: Global, case: &str) -> Result<bool, Fail> {
+    let Some((file, lines)) = case.split_once("----\n") else {
+        return Err("no case".into());
+    };
+    let words = ["match", "t", "--engine", "many"];
+    let ran = ran(alloc, &words, file.as_bytes(), &SOUND)?;
+    let Ok(printed) = str::from_utf8(ran.out.as_slice()) else {
+        return Err("no text".into());
+    };
+    for line in lines.split('\n') {
+        if !printed.split('\n').any(|other| other == line) {
+            return Ok(false);
+        }
+    }
+    let status = if lines.is_empty() { 1 } else { 0 };
+    Ok(ran.status == status && printed.len() == lines.len())
+}
+
+#[test]
+fn a_walk_over_all_rules_finds_the_same_matches(rt: HostRuntime) -> Result<(), Fail> {
+    for table in [MATCHES, EXAMPLES] {
+        for case in table.split("====\n") {
+            assert!(rt; is_walked(rt.alloc(), case)?, "{case}");
         }
     }
     Ok(())
@@ -187,7 +218,7 @@ fn is_run(alloc: Global, case: &str) -> Result<bool, Fail> {
 
 #[test]
 fn words_and_files_decide_what_is_printed(rt: HostRuntime) -> Result<(), Fail> {
-    for table in [RUNS, CHANGES, LISTED, NETTED] {
+    for table in [RUNS, CHANGES, LISTED, NETTED, WALKED] {
         for case in table.split("====\n") {
             assert!(rt; is_run(rt.alloc(), case)?, "{case}");
         }

@@ -13,7 +13,7 @@ use Rattle.mp_term.specs.Signature.{is_number}
 use Rattle.mp_words.specs.declared.request.Action.{Action}
 use Rattle.mp_words.specs.declared.request.Action.TheVariants.{Match, Show, Rewrite, Edit}
 use Rattle.mp_words.specs.declared.request.Engine.{Engine}
-use Rattle.mp_words.specs.declared.request.Engine.TheVariants.{One, Net}
+use Rattle.mp_words.specs.declared.request.Engine.TheVariants.{One, Many, Net}
 
 -- what is asked for: an action, the file that it is done with, what finds the matches, how many of them are printed at
 -- most and the token behind which they begin, where these are said, and how many steps rewriting makes of a subject at
@@ -62,7 +62,7 @@ find_action name (line ∷ lines) = if bytes_eq name line.name then Some line el
 
 -- the engines, each with its name
 abbrev pub engines : List (Text × Engine)
-engines = (codes "one", One) ∷ (codes "net", Net) ∷ []
+engines = (codes "one", One) ∷ (codes "many", Many) ∷ (codes "net", Net) ∷ []
 
 -- the first engine of that name
 abbrev pub find_engine : Text → List (Text × Engine) → Option Engine
@@ -146,6 +146,7 @@ engine_of (Some name) = find_engine name engines
 -- no token is given, or the engine can begin behind one
 abbrev pub may_resume : Engine → Option Text → Bool
 may_resume One resume = true
+may_resume Many resume = not (is_some resume)
 may_resume Net resume = not (is_some resume)
 
 -- the number that 1 to 10 digits write, where it is in the range

@@ -3,11 +3,11 @@
 ghost use Rattle.std.specs.Prelude.{◌≡◌, [], ◌∷◌, None, Some, codes};
 ghost use Rattle.mp_words.specs.Words.{request_of};
 ghost use Rattle.mp_words.specs.declared.request.Action.TheVariants.{Match, Rewrite, Show};
-ghost use Rattle.mp_words.specs.declared.request.Engine.TheVariants.{Net, One};
+ghost use Rattle.mp_words.specs.declared.request.Engine.TheVariants.{Many, Net, One};
 
 /// What `request_of` of `specs/Words.antt` says of some words: options stand in any order, with `=` or without; help,
-/// an option of another action, a token for the engine `net`, a number out of range and two files make no request;
-/// behind `--` a file may begin with `-`.
+/// an option of another action, a token for an engine other than `one`, a number out of range and two files make no
+/// request; behind `--` a file may begin with `-`.
 pub fn words_make_requests()
     ensures matched { request_of (codes "--resume" ∷ codes "s/r/1" ∷ codes "match" ∷ codes "t" ∷ codes "--limit=3" ∷ [])
         ≡ Some (record {
@@ -16,6 +16,15 @@ pub fn words_make_requests()
           engine = One;
           limit = Some 3;
           resume = Some (codes "s/r/1");
+          max = 1000;
+        }) }
+    ensures many { request_of (codes "--engine" ∷ codes "many" ∷ codes "match" ∷ codes "t" ∷ [])
+        ≡ Some (record {
+          action = Match;
+          file = codes "t";
+          engine = Many;
+          limit = None;
+          resume = None;
           max = 1000;
         }) }
     ensures netted { request_of (codes "match" ∷ codes "--engine=net" ∷ codes "t" ∷ codes "--limit" ∷ codes "3" ∷ [])
@@ -48,6 +57,8 @@ pub fn words_make_requests()
     ensures help { request_of (codes "match" ∷ codes "t" ∷ codes "--help" ∷ []) ≡ None }
     ensures other { request_of (codes "show" ∷ codes "t" ∷ codes "--max=1" ∷ []) ≡ None }
     ensures token { request_of (codes "match" ∷ codes "t" ∷ codes "--engine=net" ∷ codes "--resume=s/r/1" ∷ []) ≡ None }
+    ensures many_token { request_of (codes "match" ∷ codes "t" ∷ codes "--engine=many" ∷ codes "--resume=s/r/1" ∷ [])
+        ≡ None }
     ensures range { request_of (codes "match" ∷ codes "t" ∷ codes "--limit=0" ∷ []) ≡ None }
     ensures files { request_of (codes "match" ∷ codes "t" ∷ codes "u" ∷ []) ≡ None }
 {}

@@ -9,6 +9,3 @@ mod words;
 pub use laws::words_make_requests;
 pub use request::{Action, Engine, Request};
 pub use words::read_words;
-
-#[cfg(test)]
-mod tests;

@@ -26,6 +26,8 @@ pub enum Action {
 pub enum Engine {
     /// A cursor over each rule, which gives its matches in the order of their take tables and can begin behind a token.
     One,
+    /// A walk over all rules at once, in which those whose patterns begin alike share their beginning.
+    Many,
     /// Nets over all rules, which must be syntactic.
     Net,
 }
@@ -109,6 +111,8 @@ fn named_engine(name: &str) -> Option<Engine>
 {
     if name == "one" {
         Some(Engine::One)
+    } else if name == "many" {
+        Some(Engine::Many)
     } else if name == "net" {
         Some(Engine::Net)
     } else {
@@ -132,7 +136,7 @@ fn may_resume(engine: Engine, resume: Option<&str>) -> bool
 {
     match engine {
         Engine::One => true,
-        Engine::Net => resume.is_none(),
+        Engine::Many | Engine::Net => resume.is_none(),
     }
 }
 

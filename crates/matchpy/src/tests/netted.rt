@@ -118,13 +118,6 @@ op f 2; rule r: f(x_, y_); rule q: f(a, y_); subject s: f(a, b);
 ----
 usage: matchpy ACTION [FILE ..] [--engine E] [--limit N] [--resume TOKEN] [--max N]
 ====
-2 match t --engine many
-----
-op f 2; rule r: f(x_, y_); subject s: f(a, b);
-----
-----
-usage: matchpy ACTION [FILE ..] [--engine E] [--limit N] [--resume TOKEN] [--max N]
-====
 2 match t --engine program
 ----
 op f 2; rule r: f(x_, y_); subject s: f(a, b);

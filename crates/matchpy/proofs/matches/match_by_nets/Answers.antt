@@ -14,7 +14,7 @@ returns-in-Ok-clause-acts g c =
     let none = first_not_syntactic-none file.sig file.rules (is-none _ c.in-Ok.ensures.refused) in
     subst (λ found. Acts (over_syntactic (matched_whole file c.args.limit) found)
     (sunk g.O.Sink c.args.out.now c.list_pairs.new.out) c.ending.result) (sym none)
-    (c.ending.ensures.acts _ _ (c.list_pairs.ensures _ (all_listed file c.requires none c.args.limit)))
+    (c.ending.ensures.acts _ _ (c.list_pairs.ensures _ (all_listed file c.requires c.args.limit)))
 
 pub returns-in-Err-NotSyntactic-clause-acts : goal.returns-in-Err-NotSyntactic-clause-acts
 returns-in-Err-NotSyntactic-clause-acts g c =

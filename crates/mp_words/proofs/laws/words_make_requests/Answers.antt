@@ -7,12 +7,14 @@ pub returns : goal.returns
 unfolding clap_on_literals is_taken rows_at request_from
 returns c = record {
   matched = refl;
+  many = refl;
   netted = refl;
   rewritten = refl;
   shown = refl;
   help = refl;
   other = refl;
   token = refl;
+  many_token = refl;
   range = refl;
   files = refl;
 }
