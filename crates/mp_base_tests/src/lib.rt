@@ -1,9 +1,15 @@
 //! Tests of the lowest libraries' public calls: devices, terms, tables, substitutions, choices, pairings, trails,
-//! resume tokens, and what texts are read as by tokens and grammar.
+//! conditions, resume tokens, what texts are read as by tokens and grammar, and words of the command line.
 #![tactic(auto)]
 
 #[cfg(test)]
+mod bound;
+#[cfg(test)]
 mod choices;
+#[cfg(test)]
+mod conditions;
+#[cfg(test)]
+mod decided;
 #[cfg(test)]
 mod devices;
 #[cfg(test)]
@@ -26,3 +32,5 @@ mod terms;
 mod tokens;
 #[cfg(test)]
 mod trails;
+#[cfg(test)]
+mod words;

@@ -16,7 +16,7 @@ use std::alloc::Global;
 use std::test::Fail;
 
 // The table of a term.
-fn table_of(alloc: Global, sig: &Signature, subject: &Term) -> Result<Box<Table>, Fail> {
+pub(crate) fn table_of(alloc: Global, sig: &Signature, subject: &Term) -> Result<Box<Table>, Fail> {
     if !is_normal(sig, subject) || node_count(subject) > MAX_TERM_NODES {
         return Err("the subject isn't normal, or is too large".into());
     }
@@ -45,7 +45,7 @@ fn ascend(ranks: &[Rank]) -> bool
 }
 
 // Whether the ranks fit the form and the operation.
-fn fit(form: Form, wrap: Option<OpId>, ranks: &[Rank]) -> bool
+pub(crate) fn fit(form: Form, wrap: Option<OpId>, ranks: &[Rank]) -> bool
     ensures { IsTrue result → AreRanksOf (form_of form) (option_map (λ op. op.0) wrap) ranks.now }
 {
     match (form, wrap) {
