@@ -1,7 +1,7 @@
 -- Patterns without clashes: any two wildcards of one variable are the same, in whatever order they stand, so that the
 -- normal form has no clash either.
 use Rattle.std.proofs.Common.{◌≡◌, ℕ, Bool, true, false, ◌&&◌, ◌||◌, not, List, [], ◌∷◌, ◌++◌, length, Some, None, refl}
-use Rattle.std.proofs.Common.{sym, ap, ◌∙◌}
+use Rattle.std.proofs.Common.{sym, ap, ◌∙◌, subst}
 use Rattle.std.specs.Prelude.{if◌then◌else◌}
 use Rattle.std.specs.declared.cmp.Ordering.TheVariants.{Equal}
 use Rattle.std.specs.Ordering.{ordering_then, nat_cmp, bool_cmp, is_eq}
@@ -9,6 +9,7 @@ use Rattle.std.specs.Cmp.{Equal-is, bool_cmp_total}
 use Rattle.std.specs.List.{list_any, AllByRecursion}
 use Rattle.std.proofs.lemmas.Cmp.{tied_itself, nat_cmp_total}
 use Rattle.std.proofs.lemmas.Bool.{not-false}
+use Rattle.std.proofs.lemmas.List.{append_assoc, append-nil}
 use Rattle.mp_term.specs.Signature.{Sig}
 use Rattle.mp_term.specs.OrderLaws.{both_equal, nat_same, tree_same, tree_cmp_total}
 use Rattle.mp_term.proofs.ListLaws.{all-append, all-split, all-also}
@@ -137,6 +138,24 @@ first_clash_after-InOrder before [] h = refl
 first_clash_after-InOrder before (p ∷ ps) h =
     ap (λ b. if b then Some (length before) else first_clash_after (before ++ p ∷ []) ps) (none-agrees p before h.0)
     ∙ first_clash_after-InOrder (before ++ p ∷ []) ps h.1
+
+-- a list of patterns in order is so in both its parts
+pub in-order-front : (before ps qs : List Pattern) → InOrder before (ps ++ qs) → InOrder before ps
+in-order-front before [] qs h = tt
+in-order-front before (p ∷ ps) qs h = (h.0, in-order-front (before ++ p ∷ []) ps qs h.1)
+
+pub in-order-back : (before ps qs : List Pattern) → InOrder before (ps ++ qs) → InOrder (before ++ ps) qs
+in-order-back before [] qs h = subst (λ l. InOrder l qs) (sym (append-nil before)) h
+in-order-back before (p ∷ ps) qs h =
+    subst (λ l. InOrder l qs) (append_assoc before (p ∷ []) ps) (in-order-back (before ++ p ∷ []) ps qs h.1)
+
+-- and behind fewer patterns
+pub in-order-fewer : (others before ps : List Pattern) → InOrder (others ++ before) ps → InOrder before ps
+in-order-fewer others before [] h = tt
+in-order-fewer others before (p ∷ ps) h = (
+  (all-split (λ q. Agree q p) others before h.0).1,
+  in-order-fewer others (before ++ p ∷ []) ps (subst (λ l. InOrder l ps) (append_assoc others before (p ∷ [])) h.1),
+)
 
 -- any two patterns of two lists agree
 abbrev AllAgree : List Pattern → List Pattern → Type 0

@@ -8,6 +8,7 @@ pub mod Tables
 pub mod Solving
 pub mod FitsSolves
 pub mod FirstsLaws
+pub mod FirstItems
 pub mod OneListLaws
 pub mod TrailLaws
 pub mod CursorLaws
