@@ -122,7 +122,8 @@ module _ (m : Matched) (h : IsMatched m) (vars : Bor (List ℕ)) (grounds : Bor 
           ]
       decides None d = tt
       decides (Some c) d = (
-        subst (λ xs. IsConditionOver xs (cond_tree c.now)) (sym (plan-names m.sig.now m.plan.now.pattern m.plan.now h.plan)) d.0,
+        subst (λ xs. IsConditionOver xs (cond_tree c.now))
+            (sym (plan-names m.sig.now m.plan.now.pattern m.plan.now h.plan)) d.0,
         d.1,
       )
 

@@ -10,7 +10,6 @@ use Rattle.mp_pattern.specs.Admission.{Rule}
 use Rattle.mp_pattern.specs.Lists.{Pair, IsAllList}
 use Rattle.mp_theory.proofs.AllList.{IsAllList-unique}
 use Rattle.mp_text.specs.File.{FileTree, Subject}
-use Rattle.mp_text.specs.Sound.{IsSoundFile, IsSoundSubject}
 use Rattle.mp_matches.specs.AllListed.{AreAllLines, AreSubjectLines, IsAllListed, front_lines, pair_line}
 use Rattle.mp_matches.specs.Computed.{pair_lines, pairs_listed}
 use Rattle.mp_matches.specs.Listed.{lines}

@@ -17,7 +17,7 @@ use Rattle.mp_table.specs.Table.{Table, term_at, terms_at, HasRank, HasRanks}
 use Rattle.mp_table.specs.declared.rank.Rank.{Rank}
 use Rattle.mp_table.proofs.PreorderLaws.{node_count_is}
 use Rattle.mp_net.specs.Net as net
-use Rattle.mp_net.specs.Net.{Mark, named, entered, same_mark, Open, Turn, edge_of, held_or, nowhere, turn_at, IsAt}
+use Rattle.mp_net.specs.Net.{Mark, Open, Turn, edge_of, held_or, nowhere, turn_at, IsAt}
 use Rattle.mp_net.specs.Net.{Leads}
 use Rattle.mp_net.specs.Net.{Visit, head_of, way, visited, run, runs, trace, traces}
 use Rattle.mp_net.specs.NetOf.{IsNet}

@@ -23,7 +23,7 @@ use Rattle.mp_syntax.specs.Syntax as syntax
 use Rattle.mp_syntax.specs.Syntax.{Spot, Tree, Symbol, Apply, InfixOf, Wild, Counted, Optional, Variable, Trees}
 use Rattle.mp_syntax.specs.Syntax.{no_trees, more_trees, tree_list, Flag, Assoc, Comm, One, Infixed, Amount, Number}
 use Rattle.mp_syntax.specs.Syntax.{Measured}
-use Rattle.mp_syntax.specs.Syntax.{Atom, Compare, Relate, Test, Literal, AtomOf, Bracketed, Literals, no_literals}
+use Rattle.mp_syntax.specs.Syntax.{Compare, Relate, Test, Literal, AtomOf, Bracketed, Literals, no_literals}
 use Rattle.mp_syntax.specs.Syntax.{more_literals, Condition, no_alternatives, more_alternatives, Statement, OpOf}
 use Rattle.mp_syntax.specs.Syntax.{KindOf, RuleOf, SubjectOf, EditOf, Position, Root, Path, Replacement, Single, Listed}
 use Rattle.mp_syntax.specs.Syntax.{Change}

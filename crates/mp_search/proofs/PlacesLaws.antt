@@ -1,5 +1,5 @@
 -- Where the terms stand that a child may match.
-use Rattle.std.proofs.Common.{◌≡◌, ℕ, ◌≤◌, ◌<◌, List, [], ◌∷◌, length, map, Bool, true, false, refl, ap, sym, ◌∙◌}
+use Rattle.std.proofs.Common.{◌≡◌, ℕ, ◌≤◌, ◌<◌, List, [], ◌∷◌, length, Bool, true, false, refl, ap, sym, ◌∙◌}
 use Rattle.std.proofs.Common.{subst}
 use Rattle.std.proofs.Common.{get_or, eq-eqb, arith}
 use Rattle.std.proofs.lemmas.List.{length-map}
@@ -25,7 +25,7 @@ use Rattle.mp_table.proofs.RankLaws.{rank_order}
 use Rattle.mp_theory.specs.Known.{contributed}
 use Rattle.mp_theory.specs.MayMatch.{is_alone_in, is_plain, may_collapse, may_match, each_may_match}
 use Rattle.mp_search.specs.Grounds.{ground_of}
-use Rattle.mp_search.specs.Portion.{first_before, args_before, precedes, IsOf}
+use Rattle.mp_search.specs.Portion.{first_before, args_before, IsOf}
 use Rattle.mp_search.specs.declared.headed.Group.{Group}
 use Rattle.mp_search.proofs.HeadedLaws.{group-there, match-headed}
 use Rattle.mp_search.proofs.MatchLaws.{alone-contribution, match-children}

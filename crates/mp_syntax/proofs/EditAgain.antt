@@ -6,8 +6,8 @@ use Rattle.std.specs.List.{flat_map}
 use Rattle.mp_syntax.specs.declared.token.Punct.TheVariants.{Open, Colon, OpenBrace, OpenSquare, CloseSquare, Dot}
 use Rattle.mp_syntax.specs.Tokens.{Placed}
 use Rattle.mp_syntax.specs.Syntax as syntax
-use Rattle.mp_syntax.specs.Syntax.{Spot, Tree, Trees, no_trees, more_trees, trees, Position, Root, Path, Replacement}
-use Rattle.mp_syntax.specs.Syntax.{Listed, Change, EditOf, Expected, Said, AllMatch, spell, spell_first, spell_others}
+use Rattle.mp_syntax.specs.Syntax.{Spot, Trees, no_trees, more_trees, trees, Position, Root, Path, Replacement}
+use Rattle.mp_syntax.specs.Syntax.{Listed, Change, EditOf, Expected, AllMatch, spell, spell_first, spell_others}
 use Rattle.mp_syntax.specs.Syntax.{spell_index, spell_position, spell_replacement, spell_change, spell_changes, arrow}
 use Rattle.mp_syntax.specs.Syntax.{comma, semicolon, AreFit, AreNumbers, FitsPosition, FitsListed, FitsReplacement}
 use Rattle.mp_syntax.specs.Syntax.{ChangesFit, Statement}

@@ -18,7 +18,7 @@ use Rattle.mp_syntax.specs.Syntax.{Measured, Compare, Relate, Test, AtomOf, Brac
 use Rattle.mp_syntax.specs.Syntax.{Comm, Infixed, Statement, OpOf, KindOf, RuleOf, SubjectOf}
 use Rattle.mp_syntax.specs.Begins.{OfFile}
 use Rattle.mp_syntax.specs.FirstFault.{IsFirstFault}
-use Rattle.mp_syntax.specs.Syntax.{Counted, Position, Root, Path, Replacement, Single, Listed, EditOf}
+use Rattle.mp_syntax.specs.Syntax.{Counted, Root, Path, Single, Listed, EditOf}
 use Rattle.mp_syntax.specs.Reading.{reading, expr_reading, condition_reading}
 use Rattle.mp_syntax.proofs.InOrder.{text_reading-first}
 

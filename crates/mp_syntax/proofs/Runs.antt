@@ -11,7 +11,7 @@ use Rattle.mp_syntax.specs.declared.fault.Fault.{Fault}
 use Rattle.mp_syntax.specs.declared.fault.SyntaxError.{SyntaxError}
 use Rattle.mp_syntax.specs.declared.fault.SyntaxError.TheVariants as errors
 use Rattle.mp_syntax.specs.Tokens as tokens
-use Rattle.mp_syntax.specs.Tokens.{Token, Word, Sign, Arrow, Punctuation, Long, Bad, End, Placed}
+use Rattle.mp_syntax.specs.Tokens.{Token, Word, Sign, Arrow, Punctuation, End, Placed}
 use Rattle.mp_syntax.specs.Lexing.{behind}
 use Rattle.mp_syntax.specs.Syntax.{Spot, Wildcard, Tree, Apply, InfixOf, Symbol, Wild, Optional, Variable, more_trees}
 use Rattle.mp_syntax.specs.Syntax.{trees, HasNoDefault, KindOf, Statement, Counted}

@@ -1,13 +1,12 @@
-use Rattle.std.proofs.Common.{◌+◌, ◌++◌, List, arith, drop, map, subst, sym}
+use Rattle.std.proofs.Common.{arith, map, subst, sym}
 use Rattle.std.specs.Prelude.{Err, Ok, []}
-use Rattle.mp_io.specs.Devices.{Text}
 use Rattle.mp_io.specs.Moments.{sunk}
 use Rattle.mp_term.specs.View.{tree}
 use Rattle.mp_pattern.specs.Lists.{IsAllList}
 use Rattle.mp_subst.specs.View.{pair_of}
 use Rattle.mp_text.specs.File.{subject_tree}
 use Rattle.mp_text.specs.Sound.{IsSoundSubject}
-use Rattle.mp_matches.specs.AllListed.{front_lines, pair_line}
+use Rattle.mp_matches.specs.AllListed.{front_lines}
 use Rattle.mp_matches.specs.PrintedPairs.{PrintsUpTo}
 use Rattle.mp_matches.proofs.PairsLaws.{joined-next, printed-ends, printed-more}
 use Rattle.mp_matches.proofs.Parts.{AllByRecursion-drop}

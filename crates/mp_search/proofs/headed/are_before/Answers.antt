@@ -1,4 +1,4 @@
-use Rattle.std.proofs.Common.{◌≡◌, subst, sym, ◌∙◌, arith, IfSome}
+use Rattle.std.proofs.Common.{subst, sym, ◌∙◌, arith, IfSome}
 use Rattle.std.specs.declared.cmp.Ordering.TheVariants.{Less, Equal, Greater}
 use Rattle.mp_table.specs.Table.{HasRank}
 use Rattle.mp_search.proofs.PlacesLaws.{args_before-first}

@@ -1,4 +1,4 @@
-use Rattle.std.proofs.Common.{map, sym, ◌∙◌, subst}
+use Rattle.std.proofs.Common.{sym, ◌∙◌}
 use Rattle.mp_search.proofs.OpenLaws.{left-sorted}
 use Rattle.mp_search.proofs.look.are_short.Goals as goal
 

@@ -47,7 +47,8 @@ loop-term-preserved c =
     ∙ ap (λ t. keys hs ++ head_key (tree t.now) ∷ []) c.term-item.is in
     record {
       all = subst
-          (λ ks. AllByRecursion (λ t. In (head_key (tree t.now)) ks) (take (c.loop-term.term-index + 1) c.args.terms.now))
+          (λ ks. AllByRecursion (λ t. In (head_key (tree t.now)) ks)
+          (take (c.loop-term.term-index + 1) c.args.terms.now))
           (sym pushed)
           (members-pushed (λ t. head_key (tree t.now)) (keys hs) c.args.terms.now c.loop-term.term-index term
           c.loop-term-test.true c.loop-term.invariant.all);
