@@ -1,8 +1,8 @@
 -- The list of a commutative node: its items are those of the node, each once, and they depend on the values of its own
 -- variables alone.
-use Rattle.std.proofs.Common.{◌≡◌, ℕ, Bool, true, false, List, [], ◌∷◌, ◌++◌, map, length, ◌⊎◌, inl, inr, refl, ap, sym}
-use Rattle.std.proofs.Common.{◌∙◌, subst, arith}
-use Rattle.std.specs.Prelude.{⊤, Option, Some, None, filter_map, option_map, option_and_then, if◌then◌else◌}
+use Rattle.std.proofs.Common.{◌≡◌, ℕ, Bool, true, false, List, [], ◌∷◌, map, length, inl, inr, refl, ap, sym}
+use Rattle.std.proofs.Common.{◌∙◌, subst, append-nil, arith}
+use Rattle.std.specs.Prelude.{⊤, Option, Some, None, filter_map, option_map, option_and_then}
 use Rattle.std.specs.declared.cmp.Ordering.TheVariants.{Less}
 use Rattle.std.specs.List.{AllByRecursion, cons_option}
 use Rattle.std.specs.List.Sorted.{IsStrictlySortedBy}
@@ -11,8 +11,7 @@ use Rattle.mp_term.specs.Search.{In, words, Accepts}
 use Rattle.mp_term.specs.Tree.{Tree}
 use Rattle.mp_term.specs.Signature.{Sig}
 use Rattle.mp_term.proofs.ListingLaws.{all_in, irreflexive}
-use Rattle.mp_term.proofs.SearchLaws.{in-left, in-right, in-map, from_in-map, all-from_in, words-sound}
-use Rattle.mp_pattern.specs.Firsts.{is_known, add_new, firsts_after}
+use Rattle.mp_term.proofs.SearchLaws.{in-map, from_in-map, all-from_in, words-sound}
 use Rattle.mp_pattern.specs.PatternTree.{Patterns, app_pattern}
 use Rattle.mp_pattern.specs.Size.{all_pattern_nodes}
 use Rattle.mp_pattern.specs.Value.{Value, Subst, value_of, same_name, merge}
@@ -25,6 +24,7 @@ use Rattle.mp_theory.specs.Frames.{Next, settle}
 use Rattle.mp_theory.specs.Machine.{is_ended, onward, takes, choices}
 use Rattle.mp_theory.specs.Items.{items}
 use Rattle.mp_theory.specs.OneList.{Item, item_tables}
+use Rattle.mp_theory.proofs.FirstItems.{in-firsts_after}
 use Rattle.mp_theory.proofs.Wildcards.{IsFine}
 use Rattle.mp_theory.proofs.Tables.{accounts, accounts-settled, entry_cmp_total}
 use Rattle.mp_theory.proofs.TrailLaws.{shape-tested}
@@ -47,36 +47,6 @@ once-ascending (T ∷ Ts) h = (
       (all_in (λ V. table_cmp T V ≡ Less) Ts T h.0 i),
   once-ascending Ts h.1,
 )
-
--- a name that stands among names is one of the first ones
-known-in : (x : List ℕ) (ys : List (List ℕ)) → is_known same_name ys x ≡ true → In x ys
-known-in x [] e = cc
-known-in x (y ∷ ys) e =
-    elim (same_name y x) as (λ b. same_name y x ≡ b → In x (y ∷ ys)) [
-      | true ↦ λ q. inl (sym (same_name-is y x q))
-      | false ↦ λ q. inr (known-in x ys (rw q at e))
-    ] refl
-
-pub in-firsts : (x : List ℕ) (ys xs : List (List ℕ)) → In x ys ⊎ In x xs → In x (firsts_after same_name ys xs)
-in-firsts x ys [] (inl i) = i
-in-firsts x ys [] (inr i) = absurd i
-in-firsts x ys (z ∷ xs) h = in-firsts x (add_new same_name ys z) xs (added h)
-  where
-    kept : In x ys → In x (add_new same_name ys z)
-    kept i = elim (is_known same_name ys z) as (λ b. In x (if b then ys else ys ++ z ∷ []))
-        [ true ↦ i | false ↦ in-left x ys (z ∷ []) i ]
-
-    new : x ≡ z → In x (add_new same_name ys z)
-    new e = elim (is_known same_name ys z) as
-        (λ b. is_known same_name ys z ≡ b → In x (if b then ys else ys ++ z ∷ [])) [
-          | true ↦ λ q. subst (λ w. In w ys) (sym e) (known-in z ys q)
-          | false ↦ λ q. in-right x ys (z ∷ []) (inl e)
-        ] refl
-
-    added : In x ys ⊎ In x (z ∷ xs) → In x (add_new same_name ys z) ⊎ In x xs
-    added (inl i) = inl (kept i)
-    added (inr (inl e)) = inl (new e)
-    added (inr (inr i)) = inr i
 
 -- the names of takes
 abbrev named : List Taken → List (List ℕ)
@@ -178,12 +148,8 @@ module _ (sig : Sig) (g : ℕ) (ps : Patterns) (args : List Tree) (owes : Bool) 
       → In x own
   named-own T a x i =
       let same = (accounts-settled sig (below g ps args owes) T a (accounts sig place T a)).1 in
-      in-firsts x [] (map (λ u. u.name) (uses None (app_pattern g ps)))
-      (inr (subst (λ us. In x (map (λ u. u.name) us)) (same ∙ all-nil (all_uses (Some g) ps)) i))
-    where
-      all-nil : {X : Type 0} (xs : List X) → xs ++ [] ≡ xs
-      all-nil [] = refl
-      all-nil (x ∷ xs) = ap (λ ys. x ∷ ys) (all-nil xs)
+      in-firsts_after same_name same_name-is [] (map (λ u. u.name) (uses None (app_pattern g ps))) x
+      (inr (subst (λ us. In x (map (λ u. u.name) us)) (same ∙ append-nil (all_uses (Some g) ps)) i))
 
   -- the items over substitutions with the same values of the node's variables
   items-same : (s r : Subst) → SameOn own s r → (Ts : List Table)

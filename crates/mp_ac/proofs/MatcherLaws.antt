@@ -19,11 +19,11 @@ use Rattle.mp_table.specs.Table.{Table}
 use Rattle.mp_subst.specs.Bound.{value_in}
 use Rattle.mp_subst.specs.Trail.{TrailEntry, AreFinal}
 use Rattle.mp_theory.proofs.FirstsLaws.{from_in-firsts_after}
+use Rattle.mp_theory.proofs.FirstItems.{in-firsts_after}
 use Rattle.mp_search.specs.Reading.{set, subst_from}
 use Rattle.mp_search.proofs.NumberLaws.{distinct-variables}
 use Rattle.mp_ac.specs.CommItems.{NoneTwice, IsTrail}
 use Rattle.mp_ac.specs.Matcher.{number_among}
-use Rattle.mp_ac.proofs.ListLaws.{in-firsts}
 use Rattle.mp_ac.proofs.Taken.{once-distinct}
 
 abbrev names : List Use → List (List ℕ)
@@ -77,7 +77,8 @@ pub sub-variables : (p c : Pattern) (n : ℕ) (y : List ℕ) → slice_get (subp
 sub-variables p c n y e i =
     elim (from_in-firsts_after same_name y [] (names (uses None c)) i) [
       | inl j ↦ absurd j
-      | inr j ↦ in-firsts y [] (names (uses None p)) (inr (sub-named c None y j None p (in-get (subpatterns p) n c e)))
+      | inr j ↦ in-firsts_after same_name same_name-is [] (names (uses None p)) y
+          (inr (sub-named c None y j None p (in-get (subpatterns p) n c e)))
     ]
 
 -- where the number of a name stands
