@@ -11,8 +11,7 @@ use Rattle.std.specs.Bool.{beq}
 use Rattle.std.specs.Cmp.{booleans_Decides}
 use Rattle.mp_pattern.specs.Extent.{Extent, single, extent}
 use Rattle.mp_pattern.specs.PatternTree as pattern
-use Rattle.mp_pattern.specs.PatternTree.{Pattern, symbol_pattern, app_pattern, wild_pattern, Patterns, no_patterns}
-use Rattle.mp_pattern.specs.PatternTree.{more_patterns}
+use Rattle.mp_pattern.specs.PatternTree.{Pattern, symbol_pattern, app_pattern, wild_pattern}
 use Rattle.mp_pattern.specs.Subpatterns.{subpatterns, all_subpatterns}
 use Rattle.mp_pattern.specs.Clash.{first_clash}
 use Rattle.mp_pattern.proofs.ClashLaws.{Agree, agree-app, AgreesWith, InOrder, first_clash_after-InOrder}

@@ -39,7 +39,7 @@ use Rattle.mp_text.specs.SoundCondition.{MayBeNamed, StandsForOne, IsScopedOpera
 use Rattle.mp_text.specs.SoundCondition.{IsScoped, AreScoped, IsScopedCondition}
 use Rattle.mp_text.specs.Conditions as conditions
 use Rattle.mp_text.specs.Conditions.{literal_atoms, literals_atoms, atoms, joined, negated_if, operand_of, amount_of}
-use Rattle.mp_text.specs.Conditions.{atom_of, literal_of, literals_of, alternatives_of, alternative_of, cond_of}
+use Rattle.mp_text.specs.Conditions.{atom_of, literal_of, literals_of, alternatives_of, cond_of}
 use Rattle.mp_text.specs.ConditionChecks.{has_large_amount, has_large_operand, is_large_condition, single_faults}
 use Rattle.mp_text.specs.ConditionChecks.{unbound_faults, sequence_faults}
 use Rattle.mp_text.specs.ConditionChecks.{property_faults, operand_faults, amount_faults, atom_faults, literal_faults}

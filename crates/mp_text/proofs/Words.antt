@@ -8,7 +8,7 @@ use Rattle.std.proofs.lemmas.Bool.{and_from, and_parts, leb-true}
 use Rattle.mp_term.specs.Names.{is_name, is_name_byte, is_arrow, is_sign, is_sign_byte}
 use Rattle.mp_term.specs.declared.limits.TheConstants.{MAX_NAME_BYTES}
 use Rattle.mp_syntax.specs.Tokens as tokens
-use Rattle.mp_syntax.specs.Tokens.{AreWordBytes, is_word_byte}
+use Rattle.mp_syntax.specs.Tokens.{is_word_byte}
 use Rattle.mp_syntax.specs.Syntax.{IsName, IsInfixSign}
 use Rattle.mp_syntax.proofs.ListLaws.{all-implied}
 

@@ -1,8 +1,7 @@
-use Rattle.std.proofs.Common.{◌≡◌, ℕ, List, [], map, length, subst, ap, ◌∙◌}
-use Rattle.std.specs.Prelude.{Result, IfOk}
+use Rattle.std.proofs.Common.{◌≡◌, List, [], map, length, subst, ap, ◌∙◌}
+use Rattle.std.specs.Prelude.{IfOk}
 use Rattle.std.specs.Str.{bytes_eq}
 use Rattle.mp_pattern.specs.Firsts.{firsts_after}
-use Rattle.mp_syntax.specs.View.{expr_tree}
 use Rattle.mp_text.specs.Scope.{Variable, names_of}
 use Rattle.mp_text.specs.ScopeView.{variable_of}
 use Rattle.mp_text.proofs.checks.variable_count.Goals as goal
