@@ -27,7 +27,7 @@ use Rattle.mp_theory.proofs.Wildcards.{final-passes, IsFine}
 use Rattle.mp_search.specs.At.{BindsOnly}
 use Rattle.mp_search.specs.declared.level.Level.{Level}
 use Rattle.mp_search.specs.Levels as levels
-use Rattle.mp_search.specs.Levels.{AreLevels, IsRoomy}
+use Rattle.mp_search.specs.Levels.{AreLevels}
 use Rattle.mp_ac.specs.declared.room.CommRoom.{CommRoom}
 use Rattle.mp_ac.specs.declared.search.CommSearch.{CommSearch}
 use Rattle.mp_ac.specs.Asked.{AreGiven, root_list}

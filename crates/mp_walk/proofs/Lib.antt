@@ -1,6 +1,5 @@
 pub mod ForestLaws
 pub mod CodePaths
-pub mod FirstItems
 pub mod NumberedNames
 pub mod PathLaws
 pub mod ByRule
@@ -41,3 +40,6 @@ pub mod Chosen
 pub mod ChainLaws
 pub mod ChainFits
 pub mod ItemFits
+pub mod NamedLaws
+pub mod FoundLaws
+pub mod FoundRuns

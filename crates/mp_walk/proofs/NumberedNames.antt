@@ -13,7 +13,7 @@ use Rattle.mp_pattern.specs.Value.{same_name}
 use Rattle.mp_pattern.specs.Variables.{Use, uses, all_uses, variables}
 use Rattle.mp_pattern.proofs.NameLaws.{same_name-is, same_name-itself}
 use Rattle.mp_walk.specs.Walkable.{numbered_names}
-use Rattle.mp_walk.proofs.FirstItems.{in-firsts_after}
+use Rattle.mp_theory.proofs.FirstItems.{in-firsts_after}
 
 -- the number of a known name is its place
 pub number_in-at : (xs : List (List ℕ)) (x : List ℕ) → In x xs → slice_get xs (number_in xs x) ≡ Some x
@@ -92,7 +92,7 @@ abbrev mutual
   AllNamesIn vs (more_patterns p ps) = NamesIn vs p × AllNamesIn vs ps
 
 mutual
-  names-in : (vs : List (List ℕ)) (f : Option ℕ) (p : Pattern) → ((u : Use) → In u (uses f p) → In u.name vs)
+  pub names-in : (vs : List (List ℕ)) (f : Option ℕ) (p : Pattern) → ((u : Use) → In u (uses f p) → In u.name vs)
       → NamesIn vs p
   names-in vs f (symbol_pattern n) h = tt
   names-in vs f (wild_pattern w None) h = tt

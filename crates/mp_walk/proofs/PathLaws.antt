@@ -2,10 +2,9 @@
 -- pattern.
 use Rattle.std.proofs.Common.{◌≡◌, ℕ, zero, suc, ◌+◌, ◌<◌, ◌≤◌, List, [], ◌∷◌, ◌++◌, map, length, Bool, true, false}
 use Rattle.std.proofs.Common.{refl, ap, sym, ◌∙◌, inl, inr, subst, arith}
-use Rattle.std.specs.Prelude.{Option, Some, None, IsSome, nat_lt, option_map, if◌then◌else◌}
+use Rattle.std.specs.Prelude.{Option, Some, None, IsSome, option_map, if◌then◌else◌}
 use Rattle.std.specs.List.{AllByRecursion}
 use Rattle.std.proofs.lemmas.Bool.{and_parts}
-use Rattle.std.proofs.lemmas.Bool.Decides.{nat_tests}
 use Rattle.std.proofs.lemmas.List.{append_assoc, append-nil}
 use Rattle.mp_term.specs.Listing.{In}
 use Rattle.mp_term.specs.Signature.{Sig, is_comm}
@@ -13,86 +12,28 @@ use Rattle.mp_term.proofs.ListLaws.{all-append, all-split}
 use Rattle.mp_term.proofs.ListingLaws.{all_in}
 use Rattle.mp_term.proofs.SearchLaws.{from_in-map}
 use Rattle.mp_pattern.specs.declared.limits.TheConstants.{MAX_PATTERN_NODES, MAX_VARIABLES}
-use Rattle.mp_pattern.specs.Clash.{first_clash}
 use Rattle.mp_pattern.specs.EachWildcard.{AllEachWildcard}
 use Rattle.mp_pattern.specs.NetTokens.{enter_token, leave_token, comm_token, number_in}
 use Rattle.mp_pattern.specs.NetTokens.{tokens, all_tokens, renamed}
-use Rattle.mp_pattern.specs.Normal.{is_loose}
 use Rattle.mp_pattern.specs.PatternTree.{Wildcard, Pattern, symbol_pattern, app_pattern, wild_pattern, Patterns}
 use Rattle.mp_pattern.specs.PatternTree.{no_patterns, more_patterns}
-use Rattle.mp_pattern.specs.PlanFault.{plan_fault}
 use Rattle.mp_pattern.specs.Size.{pattern_nodes, all_pattern_nodes}
 use Rattle.mp_pattern.specs.Sound.{DefaultIsNormal, DefaultsAreNormal, holds_ops, all_hold_ops}
 use Rattle.mp_pattern.specs.Subpatterns.{subpatterns, all_subpatterns}
 use Rattle.mp_pattern.specs.Value.{same_name}
 use Rattle.mp_pattern.specs.Variables.{Use, uses, variables}
-use Rattle.mp_pattern.proofs.ClashLaws.{Agree, InOrder, InOrder-first_clash_after}
-use Rattle.mp_pattern.proofs.ClashLaws.{first_clash_after-InOrder}
+use Rattle.mp_pattern.proofs.ClashLaws.{InOrder, InOrder-first_clash_after}
+use Rattle.mp_pattern.proofs.ClashLaws.{first_clash_after-InOrder, in-order-front, in-order-back, in-order-fewer}
+use Rattle.mp_pattern.proofs.PlanParts.{plan_fault-parts, parts-plan_fault}
 use Rattle.mp_pattern.proofs.NameLaws.{same_name-itself}
 use Rattle.mp_theory.proofs.FirstsLaws.{distinct-firsts, from_in-firsts_after}
 use Rattle.mp_walk.specs.Instrs.{Instr, instr_at}
 use Rattle.mp_walk.specs.SoundTokens.{token_nodes, path_nodes, IsVariableNumber, IsNumbered, IsSoundToken}
 use Rattle.mp_walk.specs.Walkable.{Path, numbered_names, IsWhole, IsWalkable}
 use Rattle.mp_walk.proofs.CodePaths.{number-within, down-target, instr-in, instr-there}
-use Rattle.mp_walk.proofs.FirstItems.{length-distinct}
+use Rattle.mp_theory.proofs.FirstItems.{length-distinct}
 use Rattle.mp_walk.proofs.NumberedNames.{number_in-less, numbered-number_in, renamed-itself, NamesIn, AllNamesIn}
 use Rattle.mp_walk.proofs.NumberedNames.{own-names, use-known}
-
--- ---- plans
-
--- what is mapped to nothing was nothing
-nothing-mapped : {A B : Type 0} (f : A → B) (o : Option A) → option_map f o ≡ None → o ≡ None
-nothing-mapped f None e = refl
-nothing-mapped f (Some x) e = cc
-
--- what a pattern has that has a plan
-pub record HasPlan (p : Pattern) : Type 0 where
-  pub firm : is_loose p ≡ false
-  pub few_nodes : pattern_nodes p ≤ MAX_PATTERN_NODES
-  pub few_variables : length (variables p) ≤ MAX_VARIABLES
-  pub no_clash : first_clash p ≡ None
-
-pub plan_fault-parts : (p : Pattern) → plan_fault p ≡ None → HasPlan p
-plan_fault-parts p h = by_tests (is_loose p) (nat_lt MAX_PATTERN_NODES (pattern_nodes p))
-    (nat_lt MAX_VARIABLES (length (variables p))) refl refl refl h
-  where
-    by_tests : (a b c : Bool) → is_loose p ≡ a → nat_lt MAX_PATTERN_NODES (pattern_nodes p) ≡ b
-        → nat_lt MAX_VARIABLES (length (variables p)) ≡ c → plan_fault p ≡ None → HasPlan p
-    by_tests true b c i j k h = (let w = rw i at h in cc)
-    by_tests false true c i j k h = (let w = rw (i, j) at h in cc)
-    by_tests false false true i j k h = (let w = rw (i, j, k) at h in cc)
-    by_tests false false false i j k h = record {
-      firm = i;
-      few_nodes = grind (arith, nat_tests, j);
-      few_variables = grind (arith, nat_tests, k);
-      no_clash = nothing-mapped _ (first_clash p) (rw (i, j, k) at h);
-    }
-
-pub parts-plan_fault : (p : Pattern) → HasPlan p → plan_fault p ≡ None
-parts-plan_fault p h =
-    let nodes : nat_lt MAX_PATTERN_NODES (pattern_nodes p) ≡ false = grind (arith, nat_tests, h.few_nodes) in
-    let names : nat_lt MAX_VARIABLES (length (variables p)) ≡ false = grind (arith, nat_tests, h.few_variables) in
-    rw (h.firm, nodes, names, h.no_clash) refl
-
--- ---- patterns without a clash
-
--- a list of patterns in order is so in both its parts
-in-order-front : (before ps qs : List Pattern) → InOrder before (ps ++ qs) → InOrder before ps
-in-order-front before [] qs h = tt
-in-order-front before (p ∷ ps) qs h = (h.0, in-order-front (before ++ p ∷ []) ps qs h.1)
-
-in-order-back : (before ps qs : List Pattern) → InOrder before (ps ++ qs) → InOrder (before ++ ps) qs
-in-order-back before [] qs h = subst (λ l. InOrder l qs) (sym (append-nil before)) h
-in-order-back before (p ∷ ps) qs h =
-    subst (λ l. InOrder l qs) (append_assoc before (p ∷ []) ps) (in-order-back (before ++ p ∷ []) ps qs h.1)
-
--- and behind fewer patterns
-in-order-fewer : (others before ps : List Pattern) → InOrder (others ++ before) ps → InOrder before ps
-in-order-fewer others before [] h = tt
-in-order-fewer others before (p ∷ ps) h = (
-  (all-split (λ q. Agree q p) others before h.0).1,
-  in-order-fewer others (before ++ p ∷ []) ps (subst (λ l. InOrder l ps) (append_assoc others before (p ∷ [])) h.1),
-)
 
 -- the nodes of paths one after the other
 pub path_nodes-append : (ks js : Path) → path_nodes (ks ++ js) ≡ path_nodes ks + path_nodes js

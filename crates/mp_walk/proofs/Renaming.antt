@@ -30,7 +30,7 @@ use Rattle.mp_theory.proofs.Tables.{shape-accounts}
 use Rattle.mp_theory.proofs.TrailLaws.{derivations-is}
 use Rattle.mp_pattern.specs.NetTokens.{number_in, numbered, renamed, all_renamed}
 use Rattle.mp_walk.proofs.ByRule.{renamed-sequence, flat-same}
-use Rattle.mp_walk.proofs.FirstItems.{in-firsts_after}
+use Rattle.mp_theory.proofs.FirstItems.{in-firsts_after}
 
 number-least : (vs : List (List ℕ)) (x : List ℕ) → number_in vs x ≤ length vs
 number-least [] x = omega arith

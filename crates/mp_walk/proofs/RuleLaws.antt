@@ -38,9 +38,9 @@ use Rattle.mp_walk.specs.TokenMachine.{begin_state, steps_by, token_ends}
 use Rattle.mp_walk.specs.Forests.{runs}
 use Rattle.mp_walk.specs.Walkable.{numbered_names, StandsFor, IsWhole}
 use Rattle.mp_walk.proofs.ByRule.{searched}
-use Rattle.mp_walk.proofs.FirstItems.{in-firsts_after}
+use Rattle.mp_theory.proofs.FirstItems.{in-firsts_after}
 use Rattle.mp_walk.proofs.NumberedNames.{NamesIn, AllNamesIn, own-names, all_renamed-itself}
-use Rattle.mp_walk.proofs.PathLaws.{plan_fault-parts, parts-plan_fault}
+use Rattle.mp_pattern.proofs.PlanParts.{plan_fault-parts, parts-plan_fault}
 use Rattle.mp_walk.proofs.Renaming.{new_name, same_new, renamed-listed}
 use Rattle.mp_walk.proofs.Walked.{tokens-read}
 use Rattle.mp_walk.proofs.WalkTheorem.{listed-fits, fits-listed}

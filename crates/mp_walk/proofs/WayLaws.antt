@@ -90,6 +90,17 @@ module _ (sig : Sig) (f : Open) (fs : List Open) (s : Subst) (w : Wildcard) (x :
   pub wild-beyond : (n : ℕ) → length f.left < n → way_steps sig f fs s (wild_token w x) n ≡ []
   wild-beyond n h = refused-front n (let e : nat_le n (length f.left) ≡ false = grind (arith, nat_tests) in rw e refl)
 
+  -- what clashes with the trail
+  pub wild-clash : (n : ℕ) → told_by sig f.under w x (take n f.left) s ≡ None
+      → way_steps sig f fs s (wild_token w x) n ≡ []
+  wild-clash n e = by_test (is_front sig f (numbered_wildcard w x) n) refl
+    where
+      by_test : (b : Bool) → is_front sig f (numbered_wildcard w x) n ≡ b → way_steps sig f fs s (wild_token w x) n ≡ []
+      by_test false h = refused-front n h
+      by_test true h = elim (f.plain && is_sequence w) as
+          (λ b. (if b then [] else front_steps sig f fs s w x n) ≡ [])
+          [ true ↦ refl | false ↦ rw h (rw (told-by sig f w x n s ∙ e) refl) ]
+
   -- a sequence under a collapsed operation
   pub wild-plain : (f.plain && is_sequence w) ≡ true → (n : ℕ) → way_steps sig f fs s (wild_token w x) n ≡ []
   wild-plain e n = rw e refl
@@ -100,12 +111,6 @@ module _ (sig : Sig) (f : Open) (fs : List Open) (s : Subst) (w : Wildcard) (x :
     may-take =
         let e : nat_le n (length f.left) ≡ true = grind (arith, nat_tests) in
         rw e (rw g (default_passes-normal sig (option_map numbered x) w (take n f.left) d))
-
-    -- what clashes with the trail
-    pub wild-clash : told_by sig f.under w x (take n f.left) s ≡ None → way_steps sig f fs s (wild_token w x) n ≡ []
-    wild-clash e = elim (f.plain && is_sequence w) as
-        (λ b. (if b then [] else front_steps sig f fs s w x n) ≡ [])
-        [ true ↦ refl | false ↦ rw may-take (rw (told-by sig f w x n s ∙ e) refl) ]
 
     -- what is bound
     pub wild-put : (f.plain && is_sequence w) ≡ false → (r : Subst)
@@ -125,7 +130,7 @@ module _ (sig : Sig) (f : Open) (fs : List Open) (s : Subst) (w : Wildcard) (x :
           record { open_ones = rest_of_open (numbered_wildcard w x) (front_entry f.left n) f ∷ fs; trail = r },
         ) ∷ []) (way_steps sig f fs s (wild_token w x) n ≡ [])
     wild-outcome p true r e = wild-put p r e
-    wild-outcome p false r e = wild-clash e
+    wild-outcome p false r e = wild-clash n e
 
   -- fronts that are too short or too long for the wildcard
   pub too-few : (fewest : ℕ) → ((ts : List Tree) → is_some (given sig f.under w ts) ≡ true → fewest ≤ length ts)

@@ -13,7 +13,7 @@ use Rattle.mp_walk.specs.declared.course.Turn.TheVariants.{On, Found, Ended}
 use Rattle.mp_walk.specs.declared.level.Level.{Level}
 use Rattle.mp_walk.specs.Chained.{IsChained, IsOwed}
 use Rattle.mp_walk.specs.Course as plain
-use Rattle.mp_walk.specs.Course.{Read, read_to_come, reads_to_come, table_read, to_come_in, after_step, steps_left}
+use Rattle.mp_walk.specs.Course.{Read, read_to_come, reads_to_come, table_read, to_come_in, steps_left}
 use Rattle.mp_walk.specs.Course.{IsWayValid, IsStepTaken}
 use Rattle.mp_walk.specs.Instrs.{Instr, instr_at}
 use Rattle.mp_walk.specs.Levels.{read_of, state_of, step_cost, trail_before, HasRoom, IsLevel, AreLevels}

@@ -23,4 +23,8 @@ pub mod CourseVisits
 pub mod WalkView
 pub mod WalkCode
 pub mod WalkInside
+pub mod Found
+pub mod FoundOrder
+pub mod FoundView
 pub mod Chained
+pub mod NamedItems

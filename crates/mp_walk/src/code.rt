@@ -70,6 +70,13 @@ impl Code {
         self.instrs.len()
     }
 
+    /// The instructions.
+    pub fn instrs(&self) -> &Instrs
+        ensures { result.now ≡ self.now.instrs }
+    {
+        &self.instrs
+    }
+
     // The plan of the token of the instruction of the number, where that is one of a commutative application.
     pub(crate) fn plan(&self, number: u32) -> Option<&CommPlan>
         ensures { (sig : Sig) (i : plain.Instr) → IsCode sig self.now → instr_at self.now.instrs number ≡ Some i

@@ -1,7 +1,9 @@
 //! What a wildcard takes of the terms that are left: a front of them.
 ghost use Rattle.std.specs.Prelude.{◌≡◌, ◌≤◌, ◌<◌, ◌+◌, ◌&&◌, ℕ, List, [], ◌∷◌, length, Some, None, true, false};
-ghost use Rattle.std.specs.Prelude.{MatchBool};
+ghost use Rattle.std.specs.Prelude.{MatchBool, Option, ◌≢◌};
 ghost use Rattle.std.specs.Prelude.{IsSome, IfSome, ◌^◌, MatchOption, IsFalse, nat_lt, if◌then◌else◌};
+ghost use Rattle.mp_term.specs.Signature.{Sig};
+ghost use Rattle.mp_term.specs.Tree.{Tree};
 ghost use Rattle.mp_term.specs.View.{tree};
 ghost use Rattle.mp_pattern.specs.Fits.{is_left_out};
 ghost use Rattle.mp_pattern.specs.NetTokens.{wild_token, numbered};
@@ -212,6 +214,60 @@ fn is_barred(frame: &Frame, token: &NetToken) -> bool
     frame.alone && frame.under.is_some() && is_sequence(token)
 }
 
+// The length of the list that the variable of a sequence wildcard is bound to.
+fn value_length(token: &NetToken, trail: &Trail) -> Option<usize>
+    requires wild { net_token token.now
+        ≡ wild_token (shape_of (net_token token.now)) (number_of (net_token token.now)) }
+    requires var { IsVariableNumber (number_of (net_token token.now)) }
+    ensures { (sig : Sig) (table : plain_table.Table) (f : Option ℕ) (ts : List Tree) → comm_above sig f ≡ false
+        → IfSome result (λ n. length ts ≢ n → told_by sig f (shape_of (net_token token.now))
+        (number_of (net_token token.now)) ts (numbered_subst table trail.now.stack) ≡ None) }
+{
+    if !is_sequence(token) {
+        return None;
+    }
+    let Some(var) = number(token) else {
+        return None;
+    };
+    match trail.binding(var) {
+        Some(
+            Bound {
+                form: Form::Seq,
+                ranks,
+                ..
+            },
+        ) => Some(ranks.len()),
+        _ => None,
+    }
+}
+
+// Numbers of terms such that the wildcard takes no front of fewer than the first or more than the second.
+fn bounds(
+    sig: &Signature,
+    table: &Table,
+    frame: &Frame,
+    token: &NetToken,
+    trail: &Trail,
+) -> (usize, usize)
+    requires frame { IsFrame table.now frame.now }
+    requires ordered { comm_above sig.now (above frame.now.under) ≡ false }
+    requires wild { net_token token.now
+        ≡ wild_token (shape_of (net_token token.now)) (number_of (net_token token.now)) }
+    requires var { IsVariableNumber (number_of (net_token token.now)) }
+    ensures fewest { (fs : List Open) (n : ℕ) → n < result.0 → way_steps sig.now (open_of table.now frame.now) fs
+        (numbered_subst table.now trail.now.stack) (net_token token.now) n ≡ [] }
+    ensures longest { (fs : List Open) (n : ℕ) → result.1 < n → way_steps sig.now (open_of table.now frame.now) fs
+        (numbered_subst table.now trail.now.stack) (net_token token.now) n ≡ [] }
+    ensures within { result.1 ≤ length (open_of table.now frame.now).left }
+    ensures short { result.1 + 1 < 2 ^ 64 }
+{
+    let room = frame.left(table).len();
+    match value_length(token, trail) {
+        Some(length) => (length, length.min(room)),
+        None => (least(token), most(sig, frame.under, token, room)),
+    }
+}
+
 // Takes the first front of at least so many terms that the wildcard may take, and binds it: its length. None comes
 // where there is none, and then nothing is bound.
 pub(crate) fn take_front(
@@ -252,9 +308,7 @@ pub(crate) fn take_front(
     if is_barred(frame, token) {
         return None;
     }
-    let room = frame.left(table).len();
-    let longest = most(sig, frame.under, token, room);
-    let fewest = least(token);
+    let (fewest, longest) = bounds(sig, table, frame, token, trail);
     let mut count = greater(from, fewest);
     while count <= longest {
         if take_exactly(sig, table, frame, token, count, trail) {

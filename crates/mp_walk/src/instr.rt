@@ -1,7 +1,9 @@
 //! Tables of instructions.
-ghost use Rattle.std.specs.Prelude.{◌≡◌, ℕ, List, [], ◌∷◌, ◌++◌, length, map, slice_get, OnOk, OnErr, option_map};
+ghost use Rattle.std.specs.Prelude.{◌≡◌, ℕ, List, [], ◌∷◌, ◌++◌, length, map, slice_get, OnOk, OnErr, IfOk};
+ghost use Rattle.std.specs.Prelude.{option_map};
 ghost use Rattle.mp_walk.specs.InstrView.{plain_instr};
 
+use crate::copy::copy_token;
 use mp_pattern::NetToken;
 use mp_term::Memory;
 use std::alloc::Global;
@@ -62,6 +64,15 @@ impl Numbers {
         ensures { result.now ≡ self.now }
     {
         &self.items
+    }
+
+    /// An equal list. `Memory` comes where there is no room for it.
+    pub fn copy(&self, alloc: Global) -> Result<Numbers, Memory>
+        ensures { IfOk result (λ ns. ns ≡ self.now) }
+    {
+        let mut items = Vec::new(alloc);
+        items.extend_from_slice(&self.items)?;
+        Ok(Numbers { items })
     }
 }
 
@@ -140,5 +151,20 @@ impl Instrs {
         ensures { map plain_instr result.now ≡ self.now }
     {
         &self.items
+    }
+    /// An equal list. `Memory` comes where there is no room for it.
+    pub fn copy(&self, alloc: Global) -> Result<Instrs, Memory>
+        ensures { IfOk result (λ is. is ≡ self.now) }
+    {
+        let mut copy = Instrs::new(alloc);
+        for instr in self.as_slice() {
+            copy.push(Instr {
+                token: copy_token(alloc, &instr.token)?,
+                down: instr.down,
+                over: instr.over,
+                accepts: instr.accepts.copy(alloc)?,
+            })?;
+        }
+        Ok(copy)
     }
 }

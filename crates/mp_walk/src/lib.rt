@@ -4,12 +4,15 @@
 
 mod code;
 mod comm;
+mod copy;
 mod course;
 mod entries;
+mod found;
 mod frame;
 mod front;
 mod instr;
 mod level;
+mod named;
 mod opening;
 mod reading;
 mod setting;
@@ -19,5 +22,7 @@ mod token;
 mod walk;
 
 pub use code::Code;
+pub use copy::copy_token;
+pub use found::Finds;
 pub use instr::{Instr, Instrs, Numbers};
 pub use walk::Walk;

@@ -5,22 +5,25 @@ ghost use Rattle.std.specs.List.{AllByRecursion};
 ghost use Rattle.mp_term.specs.Normal.{IsNormal};
 ghost use Rattle.mp_term.specs.Size.{node_count};
 ghost use Rattle.mp_pattern.specs.Fits as fits;
+ghost use Rattle.mp_pattern.specs.declared.limits.TheConstants.{MAX_VARIABLES};
 ghost use Rattle.mp_table.specs.Table.{rank_of};
 ghost use Rattle.mp_subst.specs.View.{subst_of};
 ghost use Rattle.mp_walk.specs.CodeConstants.{code_constants};
 ghost use Rattle.mp_walk.specs.Code.{IsCode};
+ghost use Rattle.mp_walk.specs.NamedItems.{IsNamedSubst};
 ghost use Rattle.mp_walk.specs.WalkItems.{AreLeafItems, IsItemSubst};
 ghost use Rattle.mp_walk.specs.WalkView.{advanced, nothing, subject_of, ReadsAs};
 ghost use Rattle.mp_walk.specs.Walkable.{IsWalkable};
 
 use crate::code::Code;
 use crate::course::Course;
+use crate::named::named_values;
 use crate::setting::Setting;
 use crate::stage::Stage;
 use mp_pattern::Plan;
 use mp_subst::Subst;
 use mp_table::{Rank, Table};
-use mp_term::{MAX_TERM_NODES, Memory, Signature};
+use mp_term::{MAX_TERM_NODES, Memory, Names, Signature};
 use std::alloc::Global;
 use std::marker::Model;
 
@@ -134,5 +137,16 @@ impl<'a> Walk<'a> {
         self.course
             .trail
             .to_subst(alloc, self.course.set.table, plan)
+    }
+    /// The substitution of the item, its variables called by the names in order (`IsNamedSubst` of
+    /// `specs/NamedItems.antt`): no plan of a pattern is needed. The walk stands at an item. `Memory` comes where there
+    /// is no memory for it.
+    pub fn named_subst(&self, alloc: Global, names: &Names) -> Result<Subst, Memory>
+        requires some { IsSome self.now.item }
+        requires few { length names.now ≤ MAX_VARIABLES }
+        ensures { IfOk result (λ s. IfSome self.now.item (IsNamedSubst self.now.sig self.now.code
+            (subject_of self.now.table) names.now (subst_of s))) }
+    {
+        named_values(alloc, &self.course.trail, self.course.set.table, names)
     }
 }

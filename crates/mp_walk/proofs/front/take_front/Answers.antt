@@ -1,17 +1,15 @@
-use Rattle.std.proofs.Common.{◌≡◌, ◌≤◌, ◌<◌, [], ◌∷◌, length, Bool, true, false, refl, ap, sym, ◌∙◌, subst}
+use Rattle.std.proofs.Common.{◌≡◌, ◌<◌, [], ◌∷◌, Bool, true, false, refl, ap, sym, ◌∙◌, subst}
 use Rattle.std.proofs.Common.{arith}
 use Rattle.std.proofs.Common.{inl, inr}
 use Rattle.std.specs.Prelude.{MatchBool}
 use Rattle.std.proofs.lemmas.Bool.Decides.{nat_tests}
-use Rattle.std.proofs.lemmas.List.{length-map}
-use Rattle.mp_table.specs.Table.{term_at}
 use Rattle.mp_pattern.specs.NetTokenView.{net_token}
 use Rattle.mp_walk.specs.OpenOnes.{open_of}
 use Rattle.mp_walk.specs.TokenMachine.{rest_of_open, numbered_wildcard}
 use Rattle.mp_walk.specs.Trails.{numbered_subst, shape_of, number_of}
 use Rattle.mp_walk.specs.Ways.{front_entry, way_steps}
 use Rattle.mp_walk.proofs.ListLaws.{below_or_at, below_or_not}
-use Rattle.mp_walk.proofs.WayLaws.{wild-plain, too-few, too-many}
+use Rattle.mp_walk.proofs.WayLaws.{wild-plain}
 use Rattle.mp_walk.proofs.front.take_front.Goals as goal
 
 pub returns-then-is_barred-clause-way : goal.returns-then-is_barred-clause-way
@@ -28,16 +26,10 @@ take_exactly-requires-clause-open c = sym (c.is_barred.ensures c.args.table.now)
 
 pub loop-count-init : goal.loop-count-init
 loop-count-init c =
-    let k = net_token c.args.token.now in
-    let f = open_of c.args.table.now c.args.frame.now in
-    let s = numbered_subst c.args.table.now c.args.trail.now.stack in
     record {
       trail = refl;
       onward = c.greater-count.ensures.first;
-      earlier = λ fs n l h. ap (λ j. way_steps c.args.sig.now f fs s j n) c.requires.wild
-          ∙ too-few c.args.sig.now f fs s (shape_of k) (number_of k) c.least-fewest.result
-          (λ ts e. c.least-fewest.ensures (shape_of k) (number_of k) c.requires.wild c.args.sig.now f.under ts e) n
-          (c.greater-count.ensures.either n l h);
+      earlier = λ fs n l h. c.bounds-fewest.ensures.fewest fs n (c.greater-count.ensures.either n l h);
     }
 
 -- a front that isn't taken
@@ -80,14 +72,10 @@ returns-clause-way c fs n l =
     let t = c.args.table.now in
     let f = open_of t c.args.frame.now in
     let s = numbered_subst t c.args.trail.now.stack in
-    let less : c.most-longest.result < c.loop-count.count = grind (arith, nat_tests, c.loop-count-test.false) in
-    let many : length f.left ≡ length c.left-room.result.now =
-    ap length (sym c.left-room.ensures.terms) ∙ length-map c.left-room.result.now (term_at t) in
     elim (below_or_not n c.loop-count.count) [
       | inl h ↦ subst (λ u. way_steps sig f fs (numbered_subst t u.stack) k n ≡ []) c.loop-count.invariant.trail
           (c.loop-count.invariant.earlier fs n l h)
-      | inr h ↦ ap (λ j. way_steps sig f fs s j n) c.requires.wild
-          ∙ too-many sig f fs s (shape_of k) (number_of k) c.most-longest.result
-          (λ ts m e. c.most-longest.ensures.most (shape_of k) (number_of k) c.requires.wild ts
-          (subst (λ b. length ts ≤ b) many m) e) n (omega arith)
+      | inr h ↦ let less : c.bounds-fewest.result.1 < c.loop-count.count =
+          grind (arith, nat_tests, c.loop-count-test.false) in
+          c.bounds-fewest.ensures.longest fs n (omega arith)
     ]

@@ -1,12 +1,12 @@
-use Rattle.std.proofs.Common.{◌≡◌, sym, subst}
-use Rattle.std.specs.Prelude.{IfSome, IsSome, Result, Ok, Err, IfOk}
+use Rattle.std.proofs.Common.{sym, subst}
+use Rattle.std.specs.Prelude.{IfSome, IsSome, IfOk}
 use Rattle.mp_subst.specs.View.{subst_of}
 use Rattle.mp_subst.specs.Trail.{subst_in}
 use Rattle.mp_walk.specs.CourseView.{item_of}
 use Rattle.mp_walk.specs.WalkInside.{walk_view}
 use Rattle.mp_walk.specs.WalkItems.{IsItemSubst}
 use Rattle.mp_walk.specs.WalkView.{subject_of}
-use Rattle.mp_walk.proofs.ViewLaws.{standing-course}
+use Rattle.mp_walk.proofs.ViewLaws.{by_result, standing-course}
 use Rattle.mp_walk.proofs.ItemFits.{item-fits}
 use Rattle.mp_walk.proofs.walk.Walk.subst.Goals as goal
 
@@ -14,12 +14,6 @@ pub to_subst-requires : goal.to_subst-requires
 to_subst-requires c =
     (standing-course c.self.inside.stage c.self.inside.course
     (subst (λ v. IsSome v.item) (sym c.self.view_is) c.requires) c.self.invariant).0.0.trail.goes
-
--- what holds of a value holds of what is made that is it
-by_result : {X Y E : Type 0} (r : Result X E) (f : X → Y) (P : Y → Type 0) (y : Y) → IfOk r (λ x. f x ≡ y) → P y
-    → IfOk r (λ x. P (f x))
-by_result (Ok x) f P y e h = subst P (sym e) h
-by_result (Err w) f P y e h = tt
 
 pub returns : goal.returns
 returns c =

@@ -1,0 +1,8 @@
+use Rattle.std.proofs.Common.{◌≡◌, ◌++◌, drop}
+use Rattle.mp_subst.specs.Trail.{bindings_from, subst_in}
+use Rattle.mp_walk.specs.NamedItems.{called}
+use Rattle.mp_walk.proofs.named.named_values.Given as goal
+
+abbrev pub invariant-loop-var : goal.invariant-loop-var
+invariant-loop-var l = l.bindings ++ bindings_from l.table l.trail.stack l.var (called (drop l.var l.names))
+    ≡ subst_in l.table (called l.names) l.trail
