@@ -1,25 +1,18 @@
--- What a walk finds: that it is what the rules admit, and that in order it is the all-list.
-use Rattle.std.proofs.Common.{◌≡◌, ◌≤◌, ◌<◌, ◌⊎◌, ℕ, zero, suc, length, true, false, List, [], ◌∷◌, ◌++◌, ◌+◌, map}
+-- What a walk finds: that it is what the rules admit.
+use Rattle.std.proofs.Common.{◌≡◌, ◌≤◌, ◌⊎◌, ℕ, zero, suc, true, false, List, [], ◌∷◌, ◌++◌, ◌+◌}
 use Rattle.std.proofs.Common.{drop, refl, ap, sym, ◌∙◌}
 use Rattle.std.proofs.Common.{inl, inr, subst, arith}
 use Rattle.std.specs.Prelude.{◌↔◌, Contains, IfOk, IfSome, IsSome, Option, Result, Ok, Err, Some, None, option_map}
 use Rattle.std.specs.Prelude.{slice_get}
-use Rattle.std.specs.FinMap.{slice_cmp-IsAntisymmetric}
 use Rattle.std.specs.List.{AllByRecursion}
-use Rattle.std.specs.List.Sorted.{IsStrictlySortedBy}
-use Rattle.std.specs.Ordering.{is_ne, nat_cmp, ordering_then}
-use Rattle.std.specs.declared.cmp.Ordering.{Ordering}
-use Rattle.std.specs.declared.cmp.Ordering.TheVariants.{Less, Equal, Greater}
-use Rattle.std.proofs.lemmas.Cmp.{lists_total, nat_list_cmp_total, tied_itself}
-use Rattle.mp_term.specs.Listing.{In, IsListing}
+use Rattle.mp_term.specs.Listing.{In}
 use Rattle.mp_term.specs.Normal.{IsNormal}
-use Rattle.mp_term.specs.OrderLaws.{both_equal, nat_same, nats_same}
 use Rattle.mp_term.specs.Signature.{Sig}
 use Rattle.mp_term.specs.Size.{node_count}
 use Rattle.mp_term.specs.Tree.{Tree}
 use Rattle.mp_term.proofs.ListLaws.{all-also, all-append}
 use Rattle.mp_term.proofs.ListingLaws.{all_in, contains-from_in, in-from_contains}
-use Rattle.mp_term.proofs.SearchLaws.{all-from_in, from_in-append, in-left, in-right}
+use Rattle.mp_term.proofs.SearchLaws.{all-from_in, in-left, in-right}
 use Rattle.mp_pattern.specs.Admission.{Rule, meets}
 use Rattle.mp_pattern.specs.CondView.{cond_tree}
 use Rattle.mp_pattern.specs.Operands.{IsConditionOver}
@@ -28,117 +21,22 @@ use Rattle.mp_pattern.specs.RuleView.{rule_tree}
 use Rattle.mp_pattern.specs.declared.rule.Rule as code_rule
 use Rattle.mp_pattern.specs.declared.condition.Cond as code
 use Rattle.mp_pattern.specs.Fits.{Fits, Table}
-use Rattle.mp_pattern.specs.Lists.{IsAllList, Pair, PairAdmitted, pair_cmp, subst_cmp}
+use Rattle.mp_pattern.specs.Lists.{Pair, PairAdmitted}
 use Rattle.mp_pattern.specs.SoundRule.{AreSoundRules, HasSoundCondition, IsSoundPattern, IsSoundRule}
 use Rattle.mp_pattern.specs.Value.{Subst}
-use Rattle.mp_pattern.specs.Variables.{variables}
 use Rattle.mp_pattern.specs.declared.limits.TheConstants.{MAX_TERM_NODES}
 use Rattle.mp_pattern.proofs.SoundRules.{DefaultsAreSmall-IsFormed, HasConditionOver-HasSoundCondition}
-use Rattle.mp_subst.specs.View.{binding_of}
 use Rattle.mp_subst.specs.declared.subst.Binding as code_binding
-use Rattle.mp_subst.proofs.Equality.{equal-subst_cmp}
 use Rattle.mp_cond.specs.Ready.{AreCountable, IsCountable, IsReady}
 use Rattle.mp_cond.proofs.ReadyLaws.{IsReady-over}
 use Rattle.mp_theory.specs.ValueSizes.{HasAtMost}
 use Rattle.mp_theory.proofs.FitsSolves.{fits-solves}
 use Rattle.mp_theory.proofs.ValueSizes.{fits-within}
-use Rattle.mp_many.specs.Found.{IsGivenBy, IsPairOf, found_cmp, names_cmp, names_of}
+use Rattle.mp_many.specs.Given.{IsGivenBy, IsPairOf}
 use Rattle.mp_many.specs.Many.{Many}
 use Rattle.mp_many.specs.WalkItems.{AreWalkItems, IsWalkItem}
 
--- ---- the order
-
--- equal pairs alone compare as equal
-pub found_same : (p q : Pair) → found_cmp p q ≡ Equal → p ≡ q
-found_same p q e =
-    let a = both_equal _ _ e in
-    let b = both_equal _ _ a.1 in
-    let names = slice_cmp-IsAntisymmetric nats_same (names_of p.1) (names_of q.1) b.0 in
-    let same : p.1 ≡ q.1 = (equal-subst_cmp p.1 q.1 (subst_cmp p.1 q.1) names refl).0 b.1 in
-    ap (λ (n : ℕ). (n, p.1)) (nat_same p.0 q.0 a.0) ∙ ap (λ (s : Subst). (q.0, s)) same
-
--- what isn't unequal is equal
-pub equal-not_ne : (o : Ordering) → is_ne o ≡ false → o ≡ Equal
-equal-not_ne Less e = cc
-equal-not_ne Equal e = refl
-equal-not_ne Greater e = cc
-
--- the names that compare as equal are the same
-pub names-same : (r s : Subst) → names_cmp (names_of r) (names_of s) ≡ Equal → names_of r ≡ names_of s
-names-same r s = slice_cmp-IsAntisymmetric nats_same (names_of r) (names_of s)
-
--- what is behind the items of a list, and at a place within it
-drop-past : {X : Type 0} (i : ℕ) (xs : List X) → length xs ≤ i → drop i xs ≡ []
-drop-past zero [] h = refl
-drop-past (suc i) [] h = refl
-drop-past zero (x ∷ xs) h = absurd (omega (arith, h))
-drop-past (suc i) (x ∷ xs) h = drop-past i xs (omega (arith, h))
-
-drop-within : {X : Type 0} (i : ℕ) (xs : List X) → i < length xs → (x : X) × (rest : List X) × (drop i xs ≡ x ∷ rest)
-drop-within i [] h = absurd (omega (arith, h))
-drop-within zero (x ∷ xs) h = (x, xs, refl)
-drop-within (suc i) (x ∷ xs) h = drop-within i xs (omega (arith, h))
-
-module _ (i : ℕ) (bs os : List code_binding.Binding) where
-  abbrev compared : List code_binding.Binding → List code_binding.Binding → Ordering
-  compared cs ds = names_cmp (names_of (map binding_of cs)) (names_of (map binding_of ds))
-
-  -- behind the last binding, of fewer than the others or of as many
-  pub ended-less : length bs ≤ i → i < length os → compared (drop i bs) (drop i os) ≡ Less
-  ended-less h k =
-      let w = drop-within i os k in
-      subst (λ cs. compared cs (drop i os) ≡ Less) (sym (drop-past i bs h))
-      (subst (λ ds. compared [] ds ≡ Less) (sym w.2) refl)
-
-  pub ended-equal : length bs ≤ i → length os ≤ i → compared (drop i bs) (drop i os) ≡ Equal
-  ended-equal h k = subst (λ cs. compared cs (drop i os) ≡ Equal) (sym (drop-past i bs h))
-      (subst (λ ds. compared [] ds ≡ Equal) (sym (drop-past i os k)) refl)
-
 module _ (sig : Sig) (rules : List Rule) (t : Tree) where
-  -- pairs of one rule have the same variables
-  same-names : (p q : Pair) → PairAdmitted sig rules t p → PairAdmitted sig rules t q → p.0 ≡ q.0
-      → names_of p.1 ≡ names_of q.1
-  same-names p q h k e =
-      let held : Some h.0 ≡ Some k.0 = sym h.1 ∙ ap (slice_get rules) e ∙ k.1 in
-      let rule : h.0 ≡ k.0 = cc in
-      h.2.fits.subst_of.names ∙ ap (λ r. variables r.pattern) rule ∙ sym k.2.fits.subst_of.names
-
-  -- so they compare as pairs do
-  pair_less : (p q : Pair) → PairAdmitted sig rules t p → PairAdmitted sig rules t q → found_cmp p q ≡ Less
-      → pair_cmp p q ≡ Less
-  pair_less p q h k e =
-      elim (nat_cmp p.0 q.0) as (λ c. nat_cmp p.0 q.0 ≡ c
-      → ordering_then c (ordering_then (names_cmp (names_of p.1) (names_of q.1)) (subst_cmp p.1 q.1)) ≡ Less
-      → ordering_then c (subst_cmp p.1 q.1) ≡ Less) [
-        | Less ↦ λ n l. refl
-        | Equal ↦ λ n l.
-            let names : names_cmp (names_of p.1) (names_of q.1) ≡ Equal =
-            subst (λ ns. names_cmp (names_of p.1) ns ≡ Equal) (same-names p q h k (nat_same p.0 q.0 n))
-            (tied_itself (lists_total nat_list_cmp_total) (names_of p.1)) in
-            sym (ap (λ c. ordering_then c (subst_cmp p.1 q.1)) names) ∙ l
-        | Greater ↦ λ n l. cc
-      ] refl e
-
-  ascending-pairs : (ps : List Pair) → AllByRecursion (PairAdmitted sig rules t) ps → IsStrictlySortedBy found_cmp ps
-      → IsStrictlySortedBy pair_cmp ps
-  unfolding IsStrictlySortedBy
-  ascending-pairs [] h a = tt
-  ascending-pairs (p ∷ ps) h a = (all_less ps h.1 a.0, ascending-pairs ps h.1 a.1)
-    where
-      all_less : (qs : List Pair) → AllByRecursion (PairAdmitted sig rules t) qs
-          → AllByRecursion (λ q. found_cmp p q ≡ Less) qs → AllByRecursion (λ q. pair_cmp p q ≡ Less) qs
-      all_less [] k l = tt
-      all_less (q ∷ qs) k l = (pair_less p q h.0 k.0 l.0, all_less qs k.1 l.1)
-
-  -- what the rules admit, in order, is their all-list
-  pub listing-all_list : (found ps : List Pair) → ((p : Pair) → Contains found p ↔ PairAdmitted sig rules t p)
-      → IsListing found_cmp (Contains found) ps → IsAllList sig rules t ps
-  listing-all_list found ps h l = record {
-    exactly = λ p. (λ c. (h p).0 ((l.exactly p).0 c), λ a. (l.exactly p).1 ((h p).1 a));
-    ascending = ascending-pairs ps (all-from_in (PairAdmitted sig rules t) ps (λ p i.
-        (h p).0 ((l.exactly p).0 (contains-from_in p ps i)))) l.ascending;
-  }
-
   -- ---- what the items give
 
   -- the pair of an item is admitted
@@ -351,24 +249,6 @@ module _ (m : Many) (t : Tree) (sound : AreSoundRules m.sig m.rules) (normal : I
   none-item (Some i) h k e =
       let f = of-item i k in
       pair_of-none m.sig m.rules t normal i (rule_tree rule) f.0 s f.1 e
-
--- ---- lists of pairs
-
--- one more pair behind lists of the same pairs
-pub contains-pushed : (xs ys : List Pair) (q : Pair) → ((p : Pair) → Contains ys p ↔ Contains xs p)
-    → (p : Pair) → Contains (ys ++ q ∷ []) p ↔ Contains (xs ++ q ∷ []) p
-contains-pushed xs ys q same p = (
-  λ c. half xs ys (λ k. in-from_contains p xs ((same p).0 (contains-from_in p ys k))) c,
-  λ c. half ys xs (λ k. in-from_contains p ys ((same p).1 (contains-from_in p xs k))) c,
-)
-  where
-    half : (us vs : List Pair) → (In p vs → In p us) → Contains (vs ++ q ∷ []) p → Contains (us ++ q ∷ []) p
-    half us vs f c =
-        contains-from_in p (us ++ q ∷ [])
-        (elim (from_in-append p vs (q ∷ []) (in-from_contains p (vs ++ q ∷ []) c)) [
-          | inl k ↦ in-left p us (q ∷ []) (f k)
-          | inr k ↦ in-right p us (q ∷ []) k
-        ])
 
 -- ---- tables and answers
 

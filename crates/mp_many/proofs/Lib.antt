@@ -10,6 +10,7 @@ mod WalkableLaws
 mod TreeExamples
 pub mod ConstantLaws
 pub mod WalkTables
+pub mod WalkConstantLaws
 mod OnceLaws
 mod ItemLaws
 mod WalkLaws

@@ -4,12 +4,11 @@ pub mod Digest
 pub mod Groups
 pub mod GroupView
 pub mod Many
+pub mod WalkConstants
 pub mod ManyCode
 pub mod ManyView
 pub mod RuleWalk
 pub mod RuleWalkView
 pub mod WalkItems
 pub mod AllPairs
-pub mod Found
-pub mod FoundOrder
-pub mod FoundView
+pub mod Given

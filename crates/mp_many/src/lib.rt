@@ -3,8 +3,8 @@
 #![tactic(auto)]
 
 mod all;
+mod constants;
 mod digest;
-mod found;
 mod group;
 mod laws;
 mod lists;

@@ -97,8 +97,8 @@ impl<'a> Many<'a> {
         })
     }
 
-    // The table of the tree.
-    pub(crate) fn code(&self) -> &Code
+    /// The instructions of the tree, which may be walked: one for each state, in the order of their numbers.
+    pub fn code(&self) -> &Code
         ensures tree { result.now.instrs ≡ tree_of self.now.sig self.now.rules }
         ensures planned { IsCode self.now.sig result.now }
         ensures sound { AreSoundRules self.now.sig self.now.rules }

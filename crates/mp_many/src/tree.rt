@@ -1,6 +1,5 @@
 //! The tree of token lists as instructions.
 ghost use Rattle.std.specs.Prelude.{◌≡◌, ◌<◌, ◌^◌, length, map, IfOk};
-ghost use Rattle.mp_pattern.specs.NetTokenView.{net_token};
 ghost use Rattle.mp_many.specs.GroupView.{row_of};
 ghost use Rattle.mp_many.specs.Groups.{count_from};
 ghost use Rattle.mp_many.specs.Laid.{laid, numbered_from};
@@ -8,28 +7,10 @@ ghost use Rattle.mp_many.specs.Prefixes.{token_count};
 
 use crate::lists::token_count;
 use crate::rows::{Row, push_rows};
-use mp_pattern::{NetToken, NetTokens, copy_pattern};
-use mp_term::{Memory, copy_term};
-use mp_walk::{Instr, Instrs};
+use mp_pattern::NetTokens;
+use mp_term::Memory;
+use mp_walk::{Instr, Instrs, copy_token};
 use std::alloc::Global;
-
-// A copy of the token.
-fn copy_token(alloc: Global, token: &NetToken) -> Result<NetToken, Memory>
-    ensures { IfOk result (λ k. net_token k ≡ net_token token.now) }
-{
-    match token {
-        NetToken::Sym(name) => Ok(NetToken::Sym(name.copy(alloc)?)),
-        NetToken::Enter(op) => Ok(NetToken::Enter(*op)),
-        NetToken::Leave(op) => Ok(NetToken::Leave(*op)),
-        NetToken::Dot(number) => Ok(NetToken::Dot(*number)),
-        NetToken::Kind(kind, number) => Ok(NetToken::Kind(*kind, *number)),
-        NetToken::Plus(number) => Ok(NetToken::Plus(*number)),
-        NetToken::Star(number) => Ok(NetToken::Star(*number)),
-        NetToken::Opt(number, term) => Ok(NetToken::Opt(*number, copy_term(alloc, term)?)),
-        NetToken::Counted(least, fixed, number) => Ok(NetToken::Counted(*least, *fixed, *number)),
-        NetToken::Comm(pattern) => Ok(NetToken::Comm(copy_pattern(alloc, pattern)?)),
-    }
-}
 
 // The numbers from 0 on, so many.
 fn first_numbers(alloc: Global, count: usize) -> Result<Vec<u32>, Memory>

@@ -1,13 +1,13 @@
-use Rattle.std.proofs.Common.{◌≡◌, ◌∙◌, List, [], ◌∷◌, ◌++◌, ap, drop, map, subst, sym}
-use Rattle.std.specs.Prelude.{IfSome, None, Option, Some, option_map, slice_get}
+use Rattle.std.proofs.Common.{◌≡◌, ◌∙◌, ◌<◌, List, [], ◌∷◌, ◌++◌, ap, arith, drop, length, subst, sym}
+use Rattle.std.specs.Prelude.{IfSome, IsSome, None, Option, Some, option_map, slice_get}
 use Rattle.std.specs.List.{AllByRecursion}
 use Rattle.mp_pattern.specs.Lists.{IsAllList}
 use Rattle.mp_subst.specs.View.{pair_of}
-use Rattle.mp_many.specs.Found.{IsPairOf}
-use Rattle.mp_many.specs.FoundView.{found_pair}
+use Rattle.mp_many.specs.Given.{IsPairOf}
 use Rattle.mp_many.specs.Many.{subject_of}
 use Rattle.mp_many.specs.WalkItems.{IsWalkItem}
-use Rattle.mp_many.proofs.FoundLaws.{HasFound, found-alike, found-first, found-last, listing-all_list, ok-also}
+use Rattle.mp_walk.proofs.FoundLaws.{listing-all_list}
+use Rattle.mp_many.proofs.FoundLaws.{HasFound, found-alike, found-first, found-last, ok-also}
 use Rattle.mp_many.proofs.FoundLaws.{step-last, step-none, step-some}
 use Rattle.mp_many.proofs.many.Many.all.Goals as goal
 
@@ -16,6 +16,12 @@ first-holds : {X : Type 0} (P : X → Type 0) (xs : List X) (o : Option X) → o
     → IfSome o P
 first-holds P [] o e h = subst (λ o. IfSome o P) (sym e) tt
 first-holds P (x ∷ xs) o e h = subst (λ o. IfSome o P) (sym e) h.0
+
+-- behind the first item, where there is one, stand fewer
+fewer-behind : {X : Type 0} (xs : List X) (o : Option X) → o ≡ slice_get xs 0 → IsSome o
+    → length (drop 1 xs) < length xs
+fewer-behind [] o e h = let none = subst IsSome e h in cc
+fewer-behind (x ∷ xs) o e h = omega arith
 
 pub admitted-requires-clause-item : goal.admitted-requires-clause-item
 admitted-requires-clause-item c =
@@ -34,7 +40,7 @@ loop-found-init c =
     record {
       many = c.in_ok-walk.ensures.many;
       table = c.in_ok-walk.ensures.table;
-      found = subst (λ fs. HasFound m.sig m.rules t (map found_pair fs) walk.to_come) (sym c.new-found.ensures.items)
+      found = subst (λ fs. HasFound m.sig m.rules t fs walk.to_come) (sym c.new-found.ensures)
           (found-first m.sig m.rules t walk.to_come c.in_ok-walk.ensures.items);
     }
 
@@ -43,21 +49,21 @@ loop-found-preserved-in-Continue-branch-5 c =
     let m = c.args.self.now in
     let t = subject_of c.args.table.now in
     let inv = c.loop-found.invariant in
-    let before = c.loop-found.found.items in
+    let before = c.loop-found.found in
     let next = c.in_ok-next.ensures in
     let pair = c.in-Some.pair in
     let given : option_map pair_of c.in_ok-pair.field-0 ≡ Some (pair_of pair) = ap (option_map pair_of) c.in-Some.is in
     let own = subst (λ table. IfSome c.next.new.self.item (λ i. IsPairOf m.sig m.rules (subject_of table) i
     (option_map pair_of c.in_ok-pair.field-0))) (c.next.ensures.table ∙ inv.table) c.in_ok-pair.ensures in
-    let moved = step-some m.sig m.rules t (map found_pair before) c.loop-found.walk.to_come inv.found
+    let moved = step-some m.sig m.rules t before c.loop-found.walk.to_come inv.found
     c.next.new.self.item (option_map pair_of c.in_ok-pair.field-0) (pair_of pair) (next.answer.0 c.if-branch.true)
     next.item own given in
-    let kept = found-alike m.sig m.rules t (map found_pair before ++ pair_of pair ∷ [])
-    (map found_pair c.keep.new.found.items) (drop 1 c.loop-found.walk.to_come) moved c.in_ok-keep.ensures in
+    let kept = found-alike m.sig m.rules t (before ++ pair_of pair ∷ [])
+    c.add.new.self (drop 1 c.loop-found.walk.to_come) moved c.in_ok-add.ensures in
     record {
       many = c.next.ensures.many ∙ inv.many;
       table = c.next.ensures.table ∙ inv.table;
-      found = subst (λ is. HasFound m.sig m.rules t (map found_pair c.keep.new.found.items) is) (sym next.to_come) kept;
+      found = subst (λ is. HasFound m.sig m.rules t c.add.new.self is) (sym next.to_come) kept;
     }
 
 pub loop-found-preserved : goal.loop-found-preserved
@@ -65,28 +71,34 @@ loop-found-preserved c =
     let m = c.args.self.now in
     let t = subject_of c.args.table.now in
     let inv = c.loop-found.invariant in
-    let before = c.loop-found.found.items in
+    let before = c.loop-found.found in
     let next = c.in_ok-next.ensures in
     let given : option_map pair_of c.in_ok-pair.field-0 ≡ None = ap (option_map pair_of) c.in_default.is in
     let own = subst (λ table. IfSome c.next.new.self.item (λ i. IsPairOf m.sig m.rules (subject_of table) i
     (option_map pair_of c.in_ok-pair.field-0))) (c.next.ensures.table ∙ inv.table) c.in_ok-pair.ensures in
-    let moved = step-none m.sig m.rules t (map found_pair before) c.loop-found.walk.to_come inv.found
+    let moved = step-none m.sig m.rules t before c.loop-found.walk.to_come inv.found
     c.next.new.self.item (option_map pair_of c.in_ok-pair.field-0) (next.answer.0 c.if-branch.true) next.item own
     given in
     record {
       many = c.next.ensures.many ∙ inv.many;
       table = c.next.ensures.table ∙ inv.table;
-      found = subst (λ is. HasFound m.sig m.rules t (map found_pair before) is) (sym next.to_come) moved;
+      found = subst (λ is. HasFound m.sig m.rules t before is) (sym next.to_come) moved;
     }
+
+pub loop-found-smaller : goal.loop-found-smaller
+loop-found-smaller c =
+    let next = c.in_ok-next.ensures in
+    subst (λ is. length is < length c.loop-found.walk.to_come) (sym next.to_come)
+    (fewer-behind c.loop-found.walk.to_come c.next.new.self.item next.item (next.answer.0 c.if-branch.true))
 
 pub returns : goal.returns
 returns c =
     let m = c.args.self.now in
     let t = subject_of c.args.table.now in
-    let found = map found_pair c.loop-found.found.items in
+    let found = c.loop-found.found in
     let next = c.in_ok-next.ensures in
     let ended = step-last m.sig m.rules t found c.loop-found.walk.to_come c.loop-found.invariant.found
     c.next.new.self.item (λ h. let b = next.answer.1 h in cc) next.item in
     ok-also _ (IsAllList m.sig m.rules t)
     (λ ps l. listing-all_list m.sig m.rules t found ps (found-last m.sig m.rules t found c.loop-found.walk.to_come
-    c.loop-found.invariant.found ended) l) c.listed.result c.listed.ensures
+    c.loop-found.invariant.found ended) l) c.into_pairs.result c.into_pairs.ensures

@@ -1,5 +1,4 @@
-use Rattle.std.proofs.Common.{◌≡◌, length, map}
-use Rattle.mp_many.specs.FoundView.{found_pair}
+use Rattle.std.proofs.Common.{◌≡◌, length}
 use Rattle.mp_many.specs.Many.{subject_of}
 use Rattle.mp_many.proofs.FoundLaws.{HasFound}
 use Rattle.mp_many.proofs.many.Many.all.Given as goal
@@ -8,7 +7,7 @@ abbrev pub invariant-loop-found : goal.invariant-loop-found
 invariant-loop-found l = record {
   many : l.walk.many ≡ l.self;
   table : l.walk.table ≡ l.table;
-  found : HasFound l.self.sig l.self.rules (subject_of l.table) (map found_pair l.found.items) l.walk.to_come;
+  found : HasFound l.self.sig l.self.rules (subject_of l.table) l.found l.walk.to_come;
 }
 
 abbrev pub decreases-loop-found : goal.decreases-loop-found
