@@ -318,7 +318,7 @@ module _ (sig : Sig) (g : ℕ) (ts rest : List Tree) (w : Wildcard) (h : HasRest
         [ true ↦ refl | false ↦ refl ]
 
     -- what the application takes
-    under-taken : (s : Subst) (l : List Tree) (T : Table)
+    pub under-taken : (s : Subst) (l : List Tree) (T : Table)
         → TakesBy sig (ByValue sig s) (Some g)
         (app_pattern k (more_patterns (wild_pattern dot (Some x)) no_patterns)) l T
         → (v : Tree) × (value_of s x ≡ Some (one v)) × (l ≡ above v ∷ []) × (T ≡ entry l ∷ entry (v ∷ []) ∷ [])

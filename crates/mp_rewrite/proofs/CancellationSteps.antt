@@ -31,7 +31,6 @@ use Rattle.mp_rewrite.specs.declared.cancellation.Taken.{Taken}
 use Rattle.mp_rewrite.specs.declared.taken.Places.{Places}
 use Rattle.mp_rewrite.specs.declared.cancellation.Taken.TheVariants.{Symbol, Pair, Under}
 use Rattle.mp_rewrite.specs.declared.cancellation.Cancellation.{Cancellation}
-use Rattle.mp_rewrite.specs.declared.cancelled.Cancelled.{Cancelled}
 use Rattle.mp_pattern.specs.Admission.{Rule}
 use Rattle.mp_theory.specs.OneList.{item_list, item_substs, one_list}
 use Rattle.mp_theory.proofs.OneListLaws.{item_substs-item_list}
@@ -39,7 +38,7 @@ use Rattle.mp_rewrite.specs.Computed.{first_match}
 use Rattle.mp_rewrite.proofs.PutBack.{in_order-ascending, put_one}
 use Rattle.mp_rewrite.specs.Cancellation.{taking, taken_terms, AreApart, AreFirst, NoneLess, TakesAlone, IsPairAt}
 use Rattle.mp_rewrite.specs.Cancellation.{IsUnderAt}
-use Rattle.mp_rewrite.specs.Cancellation.{IsBoth, IsOnly, IsCancelled}
+use Rattle.mp_rewrite.specs.Cancellation.{IsBoth, IsOnly}
 
 -- the only item of a list
 one-item : {X : Type 0} (xs : List X) (x : X) → 1 ≤ length xs → length xs < 2 → x ≡ get_or xs 0 x → xs ≡ x ∷ []
@@ -69,7 +68,7 @@ less-apart : (z t : Tree) → tree_cmp z t ≡ Less → tree_cmp z t ≡ Equal �
 less-apart z t e q = let w : Less ≡ Equal = sym e ∙ q in cc
 
 -- what is less than the first of an ascending list doesn't stand there
-none-before : (z t : Tree) (ts : List Tree) → tree_cmp z t ≡ Less → AtLeast tree_cmp t ts
+pub none-before : (z t : Tree) (ts : List Tree) → tree_cmp z t ≡ Less → AtLeast tree_cmp t ts
     → tally tree_cmp z (t ∷ ts) ≡ 0
 none-before z t ts e a =
     omega (arith, hit-apart z t (less-apart z t e), none_below tree_cmp tree_cmp_total z t ts e a)
@@ -411,16 +410,14 @@ put-sorted sig f k ts x c l a =
     never : true ≡ false → ⊥
     never e = cc
 
-pub some-cancelled : (sig : Sig) (r : Rule) (later rules : List Rule) (t : Tree) (o : Option Cancelled)
-    → IfSome o (IsCancelled sig r t) → first_match sig (r ∷ later) t ≡ first_match sig rules t
-    → IfSome o (λ d. (q : Rule) × (ls : List Rule) × IsCancelled sig q t d
-    × (first_match sig (q ∷ ls) t ≡ first_match sig rules t))
-some-cancelled sig r later rules t None h e = tt
-some-cancelled sig r later rules t (Some d) h e = (r, later, h, e)
+-- a rule that admits nothing is passed over
+pub nothing-listed : (sig : Sig) (r : Rule) (rs : List Rule) (t : Tree) → one_list sig r t ≡ []
+    → first_match sig (r ∷ rs) t ≡ first_match sig rs t
+nothing-listed sig r rs t none =
+    ap (λ ss. option_or (option_map (λ s. record { rule = r; subst = s }) (slice_get ss 0)) (first_match sig rs t)) none
 
--- a rule without items is passed over
+-- so is one without items
 pub no-match : (sig : Sig) (r : Rule) (rs : List Rule) (t : Tree) → IsNormal sig t → item_list sig r t ≡ []
     → first_match sig (r ∷ rs) t ≡ first_match sig rs t
 no-match sig r rs t n e =
-    let none : one_list sig r t ≡ [] = sym (item_substs-item_list sig r t n) ∙ ap item_substs e in
-    ap (λ ss. option_or (option_map (λ s. record { rule = r; subst = s }) (slice_get ss 0)) (first_match sig rs t)) none
+    nothing-listed sig r rs t (sym (item_substs-item_list sig r t n) ∙ ap item_substs e)

@@ -12,4 +12,5 @@ pub mod LeastItems
 pub mod CancellationItems
 pub mod CancellationSteps
 pub mod CancellationTurns
+pub mod CancelledNowhere
 pub mod Runs

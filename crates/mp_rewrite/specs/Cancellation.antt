@@ -18,8 +18,8 @@ use Rattle.mp_pattern.specs.TemplateTree.{Template, symbol_template, app_templat
 use Rattle.mp_pattern.specs.Value.{same_name}
 use Rattle.mp_pattern.specs.Admission.{Rule}
 use Rattle.mp_rewrite.specs.declared.taken.Places.{Places}
-use Rattle.mp_rewrite.specs.declared.taken.Under.{Under as WhetherUnder}
-use Rattle.mp_rewrite.specs.declared.taken.Under.TheVariants.{No, Unsure, At}
+use Rattle.mp_rewrite.specs.declared.taken.Found.{Found}
+use Rattle.mp_rewrite.specs.declared.taken.Found.TheVariants.{Nowhere, Unsure, At}
 use Rattle.mp_rewrite.specs.declared.cancellation.Taken.{Taken}
 use Rattle.mp_rewrite.specs.declared.cancellation.Taken.TheVariants.{Symbol, Pair, Under}
 use Rattle.mp_rewrite.specs.declared.cancellation.Cancellation.{Cancellation}
@@ -101,6 +101,20 @@ module _ (sig : Sig) (d : Cancellation) (ts : List Tree) where
     pub none_less : NoneLess d.taken b
     pub left : d.leaves ≡ true → 1 ≤ length (left_by p ts)
 
+-- what the cancellation by f takes stands nowhere in the list, and it takes no part of a tree
+abbrev pub StandsNowhere : Sig → ℕ → List Tree → Taken → Type 0
+StandsNowhere sig f ts (Symbol n) = tally tree_cmp (symbol n.now) ts ≡ 0
+StandsNowhere sig f ts Pair = (z : Tree) → tally tree_cmp z ts ≤ 1
+StandsNowhere sig f ts (Under h) = (is_assoc sig h.0 ≡ false)
+    × ((v : Tree) → 1 ≤ tally tree_cmp (app h.0 (trees (v ∷ []))) ts
+    → (has_head f v ≡ false) × (tally tree_cmp v ts ≡ 0))
+
+-- it is so where something stands nowhere, and so of what is found
+abbrev pub IsFound : {X : Type 0} → Type 0 → (X → Type 0) → Found X → Type 0
+IsFound none some Nowhere = none
+IsFound none some Unsure = ⊤
+IsFound none some (At x) = some x
+
 -- the rule makes the cancellation on the term, which is an application of the operation, with what stands at the places
 pub record IsCancelled (sig : Sig) (r : Rule) (t : Tree) (d : Cancelled) : Type 0 where
   pub ts : List Tree
@@ -122,6 +136,10 @@ pub record IsPairAt (ts : List Tree) (i : ℕ) : Type 0 where
   pub behind : slice_get ts (suc i) ≡ Some b
   pub none : (k : ℕ) → k < i → slice_get ts k ≡ slice_get ts (suc k) → ⊥
 
+-- no tree stands at two places in turn
+abbrev pub HasNoPair : List Tree → Type 0
+HasNoPair ts = (k : ℕ) → suc k < length ts → slice_get ts k ≡ slice_get ts (suc k) → ⊥
+
 -- the only argument of the tree, where it is an application of f to one
 abbrev pub IsOnly : ℕ → Tree → Option (Bor Term) → Type 0
 IsOnly f t None = (v : Tree) → t ≡ app f (trees (v ∷ [])) → ⊥
@@ -141,9 +159,15 @@ pub record IsBoth (i k : ℕ) (p : Places) : Type 0 where
   pub less : i < k → p ≡ record { first = i; second = Some k }
   pub more : k ≤ i → p ≡ record { first = k; second = Some i }
 
--- whether the tree is an application of k whose argument stands in the list: it is none; or nothing is said; or it is
--- one, and its argument stands at the place
-abbrev pub IsUnderOf : ℕ → ℕ → List Tree → Tree → WhetherUnder → Type 0
-IsUnderOf f k ts t No = (v : Tree) → t ≡ app k (trees (v ∷ [])) → (has_head f v ≡ false) × (tally tree_cmp v ts ≡ 0)
-IsUnderOf f k ts t Unsure = ⊤
-IsUnderOf f k ts t (At i) = (b : Tree) × (t ≡ app k (trees (b ∷ []))) × (slice_get ts i ≡ Some b)
+-- no application of k stands in the list whose argument is headed by f or stands there too
+abbrev pub HasNoUnder : ℕ → ℕ → List Tree → Type 0
+HasNoUnder f k ts = (i : ℕ) (v : Tree) → slice_get ts i ≡ Some (app k (trees (v ∷ [])))
+    → (has_head f v ≡ false) × (tally tree_cmp v ts ≡ 0)
+
+-- the tree is no application of k whose argument is headed by f or stands in the list
+abbrev pub IsNoUnder : ℕ → ℕ → List Tree → Tree → Type 0
+IsNoUnder f k ts t = (v : Tree) → t ≡ app k (trees (v ∷ [])) → (has_head f v ≡ false) × (tally tree_cmp v ts ≡ 0)
+
+-- it is one, and its argument stands at the place
+abbrev pub IsUnderOf : ℕ → List Tree → Tree → ℕ → Type 0
+IsUnderOf k ts t i = (b : Tree) × (t ≡ app k (trees (b ∷ []))) × (slice_get ts i ≡ Some b)

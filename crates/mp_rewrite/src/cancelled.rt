@@ -1,5 +1,5 @@
 //! Steps by rules that cancel, made at the root of a term.
-ghost use Rattle.std.specs.Prelude.{◌≡◌, ◌<◌, ◌≤◌, ◌+◌, ◌∷◌, ℕ, List, map, length, true, IfOk, IfSome};
+ghost use Rattle.std.specs.Prelude.{◌≡◌, ◌<◌, ◌≤◌, ◌+◌, ◌∷◌, [], ℕ, List, map, length, true, IfOk, IfSome};
 ghost use Rattle.std.specs.List.{remove};
 ghost use Rattle.mp_term.specs.Tree.{Tree, symbol, app, trees};
 ghost use Rattle.mp_term.specs.View.{tree};
@@ -13,12 +13,13 @@ ghost use Rattle.mp_pattern.specs.RuleView.{rule_tree};
 ghost use Rattle.mp_rewrite.specs.Computed as computed;
 ghost use Rattle.mp_rewrite.specs.Marks.{unknown};
 ghost use Rattle.mp_rewrite.specs.MarkView.{mark_of};
-ghost use Rattle.mp_rewrite.specs.Cancellation.{IsCancelled, IsWithin, left_by, after_cancellation};
+ghost use Rattle.mp_theory.specs.OneList.{one_list};
+ghost use Rattle.mp_rewrite.specs.Cancellation.{IsCancelled, IsFound, IsWithin, left_by, after_cancellation};
 
 use crate::cancellation::{Cancellation, cancellation_of};
 use crate::in_place::{Marked, place};
 use crate::known::Known;
-use crate::taken::{Places, places_of};
+use crate::taken::{Found, Places, places_of};
 use mp_cursor::may_fit;
 use mp_pattern::{MAX_TERM_NODES, PlannedRule, Rule};
 use mp_term::{Memory, Name, OpId, Signature, Term, Terms, node_count};
@@ -38,33 +39,35 @@ struct Counted {
     nodes: u64,
 }
 
-// The cancellation of the rule on the term, where it is sure to make one.
-fn cancelled_by<'a>(sig: &Signature, rule: &'a Rule, term: &Term) -> Option<Cancelled<'a>>
+// The cancellation of the rule on the term. It stands nowhere where the rule admits nothing there.
+pub(crate) fn cancelled_by<'a>(sig: &Signature, rule: &'a Rule, term: &Term) -> Found<Cancelled<'a>>
     requires { IsNormal sig.now (tree term.now) }
-    ensures { IfSome result (IsCancelled sig.now (rule_tree rule.now) (tree term.now)) }
+    ensures { IsFound (one_list sig.now (rule_tree rule.now) (tree term.now) ≡ [])
+        (IsCancelled sig.now (rule_tree rule.now) (tree term.now)) result }
 {
     let Term::App(op, args) = term else {
-        return None;
+        return Found::Unsure;
     };
+    if !sig.is_comm(*op) {
+        return Found::Unsure;
+    }
     let Some(cancellation) = cancellation_of(rule) else {
-        return None;
+        return Found::Unsure;
     };
     if cancellation.op.0 != op.0 {
-        return None;
+        return Found::Unsure;
     }
-    if !sig.is_comm(*op) {
-        return None;
+    match places_of(sig, &cancellation, args.as_slice()) {
+        Found::Nowhere => Found::Nowhere,
+        Found::Unsure => Found::Unsure,
+        Found::At(places) => Found::At(Cancelled {
+            cancellation,
+            places,
+        }),
     }
-    let Some(places) = places_of(sig, &cancellation, args.as_slice()) else {
-        return None;
-    };
-    Some(Cancelled {
-        cancellation,
-        places,
-    })
 }
 
-// The cancellation of the first rule that may fit the term, where it is sure to make one.
+// The cancellation of the first rule that may admit something on the term, where it is sure to make one.
 pub(crate) fn first_cancelled<'a>(
     sig: &Signature,
     rules: &[PlannedRule<'a>],
@@ -77,8 +80,13 @@ pub(crate) fn first_cancelled<'a>(
         ≡ computed.first_match sig.now (map planned_rule rules.now) (tree term.now))) }
 {
     for rule in rules {
-        if may_fit(sig, &rule.rule.pattern, term) {
-            return cancelled_by(sig, rule.rule, term);
+        if !may_fit(sig, &rule.rule.pattern, term) {
+            continue;
+        }
+        match cancelled_by(sig, rule.rule, term) {
+            Found::Nowhere => {}
+            Found::Unsure => return None,
+            Found::At(cancelled) => return Some(cancelled),
         }
     }
     None

@@ -1,6 +1,6 @@
 //! What is known of the positions of a term, kept beside it.
 ghost use Rattle.std.specs.Prelude.{◌≡◌, ◌<◌, ◌≤◌, ◌++◌, ◌∷◌, [], ℕ, List, length, replicate};
-ghost use Rattle.std.specs.Prelude.{slice_get, slice_set, Some, OnOk, OnErr, IfOk};
+ghost use Rattle.std.specs.Prelude.{slice_get, slice_set, Some, OnOk, OnErr, IfOk, IsTrue};
 ghost use Rattle.std.specs.List.{insert, remove};
 ghost use Rattle.mp_term.specs.Tree.{app, trees, Tree};
 ghost use Rattle.mp_term.specs.Signature.{Sig};
@@ -89,6 +89,16 @@ impl KnownArgs {
         ensures { result ≡ length self.now }
     {
         self.items.len()
+    }
+
+    // Whether the argument is known to be dead.
+    pub(crate) fn is_dead(&self, index: usize) -> bool
+        ensures { IsTrue result → slice_get self.now index ≡ Some dead }
+    {
+        match self.items.get(index) {
+            Some(Known::Dead) => true,
+            _ => false,
+        }
     }
 
     // What is known of the argument, which is taken to be dead from now on.

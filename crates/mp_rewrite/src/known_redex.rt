@@ -102,6 +102,9 @@ fn first_below<'a>(
         → IsKnown sig.now (map planned_rule rules.now) (mark_of r.known) (app f (trees args.now)))) }
 {
     for (index, arg) in args.as_slice().iter().enumerate() {
+        if known.is_dead(index) {
+            continue;
+        }
         let before = known.take(index);
         if let Some(inner) = first_known_redex(alloc, sig, rules, arg, before)? {
             let whole = of_argument(inner, index, known)?;

@@ -8,6 +8,8 @@ ghost use Rattle.mp_pattern.specs.Planned.{IsPlanned, planned_rule, rule_plan};
 ghost use Rattle.mp_rewrite.specs.Computed as computed;
 ghost use Rattle.mp_rewrite.specs.Matched.{match_of};
 
+use crate::cancelled::cancelled_by;
+use crate::taken::Found;
 use mp_one::first_subst;
 use mp_pattern::{MAX_TERM_NODES, PlannedRule, Rule};
 use mp_subst::Subst;
@@ -34,6 +36,9 @@ fn match_rule<'a>(
     ensures { IfOk result (λ m.
         option_map match_of m ≡ computed.rule_match sig.now (planned_rule planned.now) (tree term.now)) }
 {
+    if let Found::Nowhere = cancelled_by(sig, planned.rule, term) {
+        return Ok(None);
+    }
     match first_subst(alloc, sig, planned, term)? {
         None => Ok(None),
         Some(subst) => Ok(Some(Match {

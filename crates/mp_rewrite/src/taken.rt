@@ -1,13 +1,27 @@
 //! The places of what a cancellation takes first.
-ghost use Rattle.std.specs.Prelude.{◌≡◌, ◌<◌, ◌+◌, ◌≤◌, ◌∷◌, [], ℕ, Some, map, length, slice_get, IfSome};
-ghost use Rattle.std.specs.Prelude.{IsTrue, true};
+ghost use Rattle.std.specs.Prelude.{◌≡◌, ◌<◌, ◌+◌, ◌≤◌, ◌∷◌, [], ℕ, Some, map, length, slice_get, MatchOption};
+ghost use Rattle.std.specs.Prelude.{IsTrue, IsFalse, true};
 ghost use Rattle.mp_term.specs.Tree.{Tree, symbol, app, trees};
+ghost use Rattle.mp_term.specs.Order.{tree_cmp};
 ghost use Rattle.mp_term.specs.View.{tree};
 ghost use Rattle.mp_term.specs.NormalTest.{ascending, has_head};
-ghost use Rattle.mp_rewrite.specs.Cancellation.{IsPairAt, IsUnderAt, IsBoth, IsUnderOf, AreFirst, IsOnly};
+ghost use Rattle.mp_term.proofs.Sorting.{tally};
+ghost use Rattle.mp_rewrite.specs.Cancellation.{IsPairAt, HasNoPair, IsUnderAt, HasNoUnder, IsBoth, IsUnderOf};
+ghost use Rattle.mp_rewrite.specs.Cancellation.{IsNoUnder, AreFirst, StandsNowhere, IsFound, IsOnly};
 
 use crate::cancellation::{Cancellation, Taken};
 use mp_term::{Name, OpId, Signature, Term};
+
+// Whether something stands at a place, where that is sure.
+#[derive(Drop)]
+pub(crate) enum Found<T> {
+    // It stands nowhere.
+    Nowhere,
+    // Nothing is said.
+    Unsure,
+    // It stands there.
+    At(T),
+}
 
 // The places of one or two arguments, the lesser one first.
 #[derive(Clone, Copy)]
@@ -18,7 +32,8 @@ pub(crate) struct Places {
 
 // Whether the term is the symbol.
 fn is_symbol(term: &Term, name: &Name) -> bool
-    ensures { IsTrue result → tree term.now ≡ symbol name.now }
+    ensures symbol { IsTrue result → tree term.now ≡ symbol name.now }
+    ensures other { IsFalse result → tree term.now ≡ symbol name.now → ⊥ }
 {
     match term {
         Term::Sym(own) => own == name,
@@ -28,7 +43,8 @@ fn is_symbol(term: &Term, name: &Name) -> bool
 
 // The place of the symbol.
 fn symbol_place(args: &[Term], name: &Name) -> Option<usize>
-    ensures { IfSome result (λ i. slice_get (map tree args.now) i ≡ Some (symbol name.now)) }
+    ensures { MatchOption result (tally tree_cmp (symbol name.now) (map tree args.now) ≡ 0)
+        (λ i. slice_get (map tree args.now) i ≡ Some (symbol name.now)) }
 {
     for (index, arg) in args.iter().enumerate() {
         if is_symbol(arg, name) {
@@ -40,7 +56,7 @@ fn symbol_place(args: &[Term], name: &Name) -> Option<usize>
 
 // The place of the least argument that stands there twice: it stands there and right behind.
 pub(crate) fn pair_place(args: &[Term]) -> Option<usize>
-    ensures { IfSome result (IsPairAt (map tree args.now)) }
+    ensures { MatchOption result (HasNoPair (map tree args.now)) (IsPairAt (map tree args.now)) }
 {
     let mut place = 0;
     while place + 1 < args.len() {
@@ -95,49 +111,41 @@ fn both(place: usize, other: usize) -> Places
     }
 }
 
-// Whether a term is an application of the inner operation whose argument stands among the arguments.
-#[derive(Drop)]
-enum Under {
-    // It isn't.
-    No,
-    // It is one, and its argument would be opened.
-    Unsure,
-    // It is one, and its argument stands there.
-    At(usize),
-}
-
-// Whether the term is such an application.
-fn under_at(op: OpId, inner: OpId, term: &Term, args: &[Term]) -> Under
+// The place of the only argument of the term among the arguments, where the term is an application of the inner
+// operation. It isn't sure where that argument would be opened.
+fn under_at(op: OpId, inner: OpId, term: &Term, args: &[Term]) -> Found<usize>
     requires { ascending (map tree args.now) ≡ true }
-    ensures { IsUnderOf op.0 inner.0 (map tree args.now) (tree term.now) result }
+    ensures { IsFound (IsNoUnder op.0 inner.0 (map tree args.now) (tree term.now))
+        (IsUnderOf inner.0 (map tree args.now) (tree term.now)) result }
 {
     match only_argument(term, inner) {
-        None => Under::No,
+        None => Found::Nowhere,
         Some(only) => {
             if is_headed(only, op) {
-                return Under::Unsure;
+                return Found::Unsure;
             }
             match args.binary_search(only) {
-                Ok(found) => Under::At(found),
-                Err(_) => Under::No,
+                Ok(found) => Found::At(found),
+                Err(_) => Found::Nowhere,
             }
         }
     }
 }
 
 // The places of the least application of the inner operation whose argument stands there too, and of that argument.
-fn under_places(op: OpId, inner: OpId, args: &[Term]) -> Option<(usize, usize)>
+fn under_places(op: OpId, inner: OpId, args: &[Term]) -> Found<(usize, usize)>
     requires { ascending (map tree args.now) ≡ true }
-    ensures { IfSome result (IsUnderAt op.0 inner.0 (map tree args.now)) }
+    ensures { IsFound (HasNoUnder op.0 inner.0 (map tree args.now)) (IsUnderAt op.0 inner.0 (map tree args.now))
+        result }
 {
     for (index, arg) in args.iter().enumerate() {
         match under_at(op, inner, arg, args) {
-            Under::No => {}
-            Under::Unsure => return None,
-            Under::At(found) => return Some((index, found)),
+            Found::Nowhere => {}
+            Found::Unsure => return Found::Unsure,
+            Found::At(found) => return Found::At((index, found)),
         }
     }
-    None
+    Found::Nowhere
 }
 
 // Whether others are left of so many arguments, where others must be left.
@@ -147,48 +155,52 @@ fn is_enough(leaves: bool, count: usize, taken: usize) -> bool
     !leaves || count != taken
 }
 
-// The places of what the cancellation takes first of the arguments, where that is sure.
+// The places of what the cancellation takes first of the arguments.
 pub(crate) fn places_of(
     sig: &Signature,
     cancellation: &Cancellation<'_>,
     args: &[Term],
-) -> Option<Places>
+) -> Found<Places>
     requires { ascending (map tree args.now) ≡ true }
-    ensures { IfSome result (AreFirst sig.now cancellation.now (map tree args.now)) }
+    ensures { IsFound (StandsNowhere sig.now cancellation.now.op.0 (map tree args.now) cancellation.now.taken)
+        (AreFirst sig.now cancellation.now (map tree args.now)) result }
 {
     match &cancellation.taken {
         Taken::Symbol(name) => {
-            if !is_enough(cancellation.leaves, args.len(), 1) {
-                return None;
-            }
             let Some(first) = symbol_place(args, name) else {
-                return None;
+                return Found::Nowhere;
             };
-            Some(Places {
+            if !is_enough(cancellation.leaves, args.len(), 1) {
+                return Found::Unsure;
+            }
+            Found::At(Places {
                 first,
                 second: None,
             })
         }
         Taken::Pair => {
-            if !is_enough(cancellation.leaves, args.len(), 2) {
-                return None;
-            }
             let Some(first) = pair_place(args) else {
-                return None;
+                return Found::Nowhere;
             };
-            Some(both(first, first + 1))
+            if !is_enough(cancellation.leaves, args.len(), 2) {
+                return Found::Unsure;
+            }
+            Found::At(both(first, first + 1))
         }
         Taken::Under(inner) => {
             if sig.is_assoc(*inner) {
-                return None;
+                return Found::Unsure;
             }
-            if !is_enough(cancellation.leaves, args.len(), 2) {
-                return None;
+            match under_places(cancellation.op, *inner, args) {
+                Found::Nowhere => Found::Nowhere,
+                Found::Unsure => Found::Unsure,
+                Found::At((first, second)) => {
+                    if !is_enough(cancellation.leaves, args.len(), 2) {
+                        return Found::Unsure;
+                    }
+                    Found::At(both(first, second))
+                }
             }
-            let Some((first, second)) = under_places(cancellation.op, *inner, args) else {
-                return None;
-            };
-            Some(both(first, second))
         }
     }
 }

@@ -16,6 +16,25 @@ use Rattle.mp_rewrite.proofs.PutBack.{arguments-pass, arguments-normal}
 use Rattle.mp_rewrite.proofs.FirstRedexes.{mapped-at, holds-at, nodes-at, index-few, below-Some, below-None}
 use Rattle.mp_rewrite.proofs.known_redex.+first_known_redex.Goals as goal
 
+pub first_below-loop-index-preserved-then-is_dead : goal.first_below-loop-index-preserved-then-is_dead
+first_below-loop-index-preserved-then-is_dead t c =
+    let sig = c.args.sig.now in
+    let rules = map planned_rule c.args.rules.now in
+    let args = c.args.args.now in
+    let i = c.loop-index.index in
+    let arg = tree c.arg-item.result in
+    let at : slice_get args i ≡ Some arg =
+    mapped-at tree c.as_slice-arg-items.result.now args i c.arg-item.result c.as_slice-arg-items.ensures
+    c.loop-index-test.true c.arg-item.is in
+    let none : computed.first_redex sig rules arg ≡ None =
+    known-get sig rules c.loop-index.known args i dead arg c.loop-index.invariant.known
+    (c.is_dead.ensures c.if-is_dead.true) at in
+    record {
+      known = c.loop-index.invariant.known;
+      passed = c.loop-index.invariant.passed ∙ below-None sig rules args i arg at none
+          ∙ ap (λ k. computed.first_below sig rules k (trees (drop k args))) (sym (add-one i));
+    }
+
 pub first_below-take-before-requires : goal.first_below-take-before-requires
 first_below-take-before-requires t c =
     omega (

@@ -1,4 +1,5 @@
 use Rattle.std.proofs.Common.{◌+◌, refl, arith, map}
+use Rattle.std.proofs.lemmas.List.{length-map}
 use Rattle.mp_term.specs.View.{tree}
 use Rattle.mp_rewrite.proofs.FirstRedexes.{mapped-at}
 use Rattle.mp_rewrite.proofs.CancellationSteps.{pair-here, pair-step}
@@ -25,3 +26,7 @@ loop-place-preserved c =
     (mapped-at tree xs (map tree xs) i a refl (omega (arith, c.loop-place-test.true)) c.index-args-place.is)
     (mapped-at tree xs (map tree xs) (i + 1) b refl c.loop-place-test.true c.index-args-place-in-loop-place.is)
     c.eq.ensures c.if-eq.false c.loop-place.invariant
+
+pub returns : goal.returns
+returns c = λ k l e. c.loop-place.invariant k
+    (omega (arith, l, length-map c.args.args.now tree, c.loop-place-test.false)) e

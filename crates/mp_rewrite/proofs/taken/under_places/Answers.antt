@@ -1,7 +1,8 @@
-use Rattle.std.proofs.Common.{refl, map}
+use Rattle.std.proofs.Common.{refl, map, arith}
+use Rattle.std.proofs.lemmas.List.{length-map}
 use Rattle.mp_term.specs.View.{tree}
 use Rattle.mp_rewrite.proofs.FirstRedexes.{mapped-at}
-use Rattle.mp_rewrite.proofs.CancellationSteps.{under-here, under-step}
+use Rattle.mp_rewrite.proofs.CancellationSteps.{under-here, under-step, within-get}
 use Rattle.mp_rewrite.proofs.taken.under_places.Goals as goal
 
 pub returns-in-At : goal.returns-in-At
@@ -19,5 +20,13 @@ loop-index-preserved c =
     let i = c.loop-index.index in
     let a = c.index-args-index.result in
     under-step c.args.op.0 c.args.inner.0 (map tree xs) i (tree a)
-    (mapped-at tree xs (map tree xs) i a refl c.loop-index-test.true c.index-args-index.is) c.in-No.ensures
+    (mapped-at tree xs (map tree xs) i a refl c.loop-index-test.true c.index-args-index.is) c.in-Nowhere.ensures
     c.loop-index.invariant
+
+pub returns : goal.returns
+returns c = λ i v e. c.loop-index.invariant i v (omega (
+  arith,
+  within-get (map tree c.args.args.now) i _ e,
+  length-map c.args.args.now tree,
+  c.loop-index-test.false,
+)) e
