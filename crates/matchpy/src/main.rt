@@ -1,19 +1,11 @@
 //! The command `matchpy`: pattern matching over the rules and subjects of a file.
 #![tactic(auto)]
 
-mod answer;
-mod edit;
-mod ending;
-mod laws;
-mod many_matcher;
-mod matches;
-mod net_matcher;
-mod rewrite;
-mod run;
-mod show;
-#[cfg(test)]
-mod tests;
+ghost use Rattle.std.specs.Prelude.{◌≡◌, ◌⊎◌};
+ghost use Rattle.std.specs.List.{Contains};
+ghost use Rattle.mp_command.specs.Run.{statuses};
 
+use mp_command::run;
 use mp_io::{RealShelf, RealSink};
 use std::alloc::AllocError;
 use std::process::ExitCode;
@@ -41,16 +33,22 @@ fn given_words(rt: &(impl Env + AllocGlobal)) -> Result<Vec<String>, NoWords> {
     }
 }
 
-// Makes the real shelf and sinks, and ends with the answer of the run over them.
-fn main(rt: HostRuntime) -> ExitCode {
-    let words = match given_words(&rt) {
+// Runs the command with the words that the system gives, over the real shelf and sinks. The status is one of those that
+// `run` has, or 17 where the system doesn't give the words.
+fn status(rt: &HostRuntime) -> u8
+    ensures { (result ≡ 17) ⊎ Contains statuses result }
+{
+    let words = match given_words(rt) {
         Ok(words) => words,
-        Err(NoWords::Memory) => return ExitCode::from(8),
-        Err(NoWords::System) => return ExitCode::from(17),
+        Err(NoWords::Memory) => return 8,
+        Err(NoWords::System) => return 17,
     };
-    let mut shelf = RealShelf::new(&rt);
+    let mut shelf = RealShelf::new(rt);
     let mut out = RealSink::new(rt.stdout());
     let mut err = RealSink::new(rt.stderr());
-    let status = run::run(rt.alloc(), words.as_slice(), &mut shelf, &mut out, &mut err);
-    ExitCode::from(status)
+    run(rt.alloc(), words.as_slice(), &mut shelf, &mut out, &mut err)
+}
+
+fn main(rt: HostRuntime) -> ExitCode {
+    ExitCode::from(status(&rt))
 }

@@ -1,9 +1,0 @@
-use Rattle.std.proofs.Common.{◌≡◌, drop, map}
-use Rattle.mp_pattern.specs.RuleView.{rule_tree}
-use Rattle.matchpy.specs.Outcome.{first_without_template}
-use Rattle.matchpy.proofs.rewrite.first_without_template.Given as goal
-
--- each rule so far has a template
-abbrev pub invariant-loop-rule : goal.invariant-loop-rule
-invariant-loop-rule l = first_without_template (map rule_tree (drop l.rule-index l.rules))
-    ≡ first_without_template (map rule_tree l.rules)

@@ -1,0 +1,27 @@
+use Rattle.std.proofs.Common.{◌∙◌, ap, sym, subst}
+use Rattle.std.specs.Prelude.{slice_get}
+use Rattle.mp_io.specs.Moments.{sunk}
+use Rattle.mp_text.specs.File.{file_tree}
+use Rattle.mp_command.specs.Answers.{Acts}
+use Rattle.mp_command.specs.Computed.{matched_whole, over_syntactic}
+use Rattle.mp_command.proofs.Matched.{all_listed, first_not_syntactic-none, first_not_syntactic-some, is-none}
+use Rattle.mp_command.proofs.Matched.{refused-some}
+use Rattle.mp_command.proofs.matches.match_by_nets.Goals as goal
+
+pub returns-in-Ok-clause-acts : goal.returns-in-Ok-clause-acts
+returns-in-Ok-clause-acts g c =
+    let file = file_tree c.args.file.now in
+    let none = first_not_syntactic-none file.sig file.rules (is-none _ c.in-Ok.ensures.refused) in
+    subst (λ found. Acts (over_syntactic (matched_whole file c.args.limit) found)
+    (sunk g.O.Sink c.args.out.now c.list_pairs.new.out) c.ending.result) (sym none)
+    (c.ending.ensures.acts _ _ (c.list_pairs.ensures _ (all_listed file c.requires c.args.limit)))
+
+pub returns-in-Err-NotSyntactic-clause-acts : goal.returns-in-Err-NotSyntactic-clause-acts
+returns-in-Err-NotSyntactic-clause-acts g c =
+    let file = file_tree c.args.file.now in
+    let refused = c.in-Err-NotSyntactic in
+    let told = first_not_syntactic-some file.sig file.rules refused.rule
+    (refused-some _ refused.field-0 refused.rule refused.ensures.only_refused refused.field-0-is) in
+    subst (λ found. Acts (over_syntactic (matched_whole file c.args.limit) found)
+    (sunk g.O.Sink c.args.out.now c.args.out.now) c.not_syntactic.result) (sym told.2)
+    (c.not_syntactic.ensures.acts told.0 _ _ (ap (slice_get file.rules) refused.rule-is ∙ told.1))

@@ -1,0 +1,71 @@
+//! The engine `many`.
+
+ghost use Rattle.std.specs.Prelude.{◌≡◌, IfOk};
+ghost use Rattle.mp_term.specs.View.{tree};
+ghost use Rattle.mp_pattern.specs.Lists.{IsAllList};
+ghost use Rattle.mp_pattern.specs.SoundRule.{AreSoundRules, IsSoundTerm};
+ghost use Rattle.mp_pattern.specs.declared.limits.TheConstants.{MAX_TERM_NODES};
+
+use mp_many::Many;
+use mp_matches::Matcher;
+use mp_pattern::Rules;
+use mp_subst::Pairs;
+use mp_table::Table;
+use mp_term::{Memory, Signature, Term, Terms};
+use std::alloc::Global;
+use std::marker::Model;
+
+/// Rules that are walked over at once, with the terms that they bring to each table. Contracts see it as the record
+/// `Many` of mp_many's `specs/Many.antt`.
+#[derive(Drop)]
+pub struct ManyMatcher<'a> {
+    many: Many<'a>,
+    constants: Terms,
+}
+
+impl<'a> Model for ManyMatcher<'a> {
+    ghost use Rattle.mp_many.specs.Many as plain;
+    ghost use Rattle.mp_many.specs.ManyCode.{coded_many};
+    ghost use Rattle.mp_many.specs.WalkConstants.{AreWalkConstants};
+
+    ghost Value = { plain.Many };
+
+    ghost coded = { coded_many };
+
+    ghost view = { λ m. m.many };
+
+    ghost invariant = { λ m. AreWalkConstants m.many m.constants };
+}
+
+impl<'a> ManyMatcher<'a> {
+    /// The rules, which must be sound over the signature, with their constants. `Memory` comes where there is no room
+    /// for them.
+    pub fn build(
+        alloc: Global,
+        sig: &'a Signature,
+        rules: &'a Rules,
+    ) -> Result<ManyMatcher<'a>, Memory>
+        requires { AreSoundRules sig.now rules.now }
+        ensures sig { IfOk result (λ m. m.sig ≡ sig.now) }
+        ensures rules { IfOk result (λ m. m.rules ≡ rules.now) }
+    {
+        let many = Many::build(alloc, sig, rules)?;
+        let constants = many.constants(alloc)?;
+        Ok(ManyMatcher { many, constants })
+    }
+}
+
+impl Matcher for ManyMatcher<'_> {
+    ghost signature = { λ m. m.sig };
+
+    ghost rules = { λ m. m.rules };
+
+    fn pairs(&self, alloc: Global, sig: &Signature, subject: &Term) -> Result<Pairs, Memory>
+        requires over { sig.now ≡ self.now.sig }
+        requires sound { IsSoundTerm sig.now MAX_TERM_NODES (tree subject.now) }
+        ensures { IfOk result (IsAllList self.now.sig self.now.rules (tree subject.now)) }
+    {
+        let table = Table::build(alloc, sig, subject, &self.constants)?;
+        self.many.all(alloc, &table)
+    }
+}

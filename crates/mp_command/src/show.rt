@@ -1,0 +1,26 @@
+//! The action `show`: a file, printed.
+
+ghost use Rattle.std.specs.Prelude.{◌≡◌};
+ghost use Rattle.mp_io.specs.Moments.{sunk};
+ghost use Rattle.mp_text.specs.File.{file_tree};
+ghost use Rattle.mp_command.specs.Answers.{Acts};
+ghost use Rattle.mp_command.specs.Endings.{status_of};
+ghost use Rattle.mp_command.specs.Outcome.{shown};
+
+use crate::ending::{Ending, Told};
+use mp_io::{Failed, Sink};
+use mp_text::{File, write_file};
+
+/// Prints the file.
+///
+/// The ending is that of `shown` of `specs/Outcome.antt`, or a write that failed; a front of its text was written then.
+pub fn show_file<'a, O: Sink>(file: &File, out: &mut O) -> Ending<'a>
+    ensures acts { Acts (shown (file_tree file.now)) (sunk O.Sink out.old out.new) result }
+    ensures used { status_of result ≡ 2 → ⊥ }
+    ensures read { status_of result ≡ 4 → ⊥ }
+{
+    match write_file(file, out) {
+        Ok(()) => Ending::Told(Told::Done),
+        Err(Failed) => Ending::CannotWrite,
+    }
+}
