@@ -1,0 +1,11 @@
+pub mod Program
+pub mod ProgramCode
+pub mod ProgramView
+pub mod Form
+pub mod FormText
+pub mod TokenPaths
+pub mod RightForm
+pub mod Leads
+pub mod FormFaults
+pub mod ProgramOf
+pub mod Reading
