@@ -1,5 +1,5 @@
-//! Tests of many rules at once, over texts: nets, with what they find on subjects, how many nodes they read and the rules
-//! that they refuse; and the tree of what rules begin with alike, with its states and the walk over it.
+//! Tests of many rules at once, over texts: nets, with what they find on subjects, how many nodes they read and the
+//! rules that they refuse; and the tree of what rules begin with alike, with its states and the walk over it.
 #![tactic(auto)]
 
 #[cfg(test)]

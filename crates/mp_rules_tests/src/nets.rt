@@ -1,54 +1,18 @@
 //! What nets find on subjects, and the rules that are refused.
 
-ghost use Rattle.std.specs.Prelude.{◌≡◌, IfOk};
+ghost use Rattle.std.specs.Prelude.{◌≡◌};
 ghost use Rattle.mp_text.specs.File.{file_tree, subject_tree};
 ghost use Rattle.mp_text.specs.Sound.{IsSoundFile, IsSoundSubject};
 
 use crate::net_rows::{REFUSED, ROWS};
-use mp_io::MemorySink;
+use crate::texts::{are_pairs, file};
 use mp_net::{NetFault, Nets, Probe};
 use mp_subst::{Bindings, Pair, Pairs, Subst};
 use mp_table::Table;
 use mp_term::{Signature, Terms};
-use mp_text::{File, Subject, read_file, write_subst};
+use mp_text::{File, Subject};
 use std::alloc::Global;
 use std::test::Fail;
-
-// A sink of 1,000 bytes.
-fn sink(alloc: Global) -> Result<MemorySink, Fail> {
-    match MemorySink::new(alloc, 1000, Vec::new(alloc)) {
-        Ok(sink) => Ok(sink),
-        Err(_) => Err("memory ran out".into()),
-    }
-}
-
-// Whether the pair is that of the line.
-fn is_pair(alloc: Global, sig: &Signature, pair: &Pair, line: &str) -> Result<bool, Fail> {
-    let Some((rule, subst)) = line.split_once('|') else {
-        return Ok(false);
-    };
-    let mut sink = sink(alloc)?;
-    Ok(
-        pair.rule == rule.parse::<u32>()?
-            && write_subst(sig, &pair.subst, &mut sink).is_ok()
-            && sink.content() == subst.as_bytes(),
-    )
-}
-
-// Whether the pairs are those of the lines, each of which ends with a line break.
-fn are_pairs(alloc: Global, sig: &Signature, pairs: &Pairs, lines: &str) -> Result<bool, Fail> {
-    for (index, line) in lines.split('\n').enumerate() {
-        match pairs.get(index) {
-            None => return Ok(line.is_empty() && index == pairs.len()),
-            Some(pair) => {
-                if !is_pair(alloc, sig, pair, line)? {
-                    return Ok(false);
-                }
-            }
-        }
-    }
-    Ok(false)
-}
 
 // Whether the nets find the pairs of the lines on the subject, twice through one probe, and read so many nodes each
 // time: no node more than once for each net.
@@ -95,19 +59,6 @@ fn are_found(alloc: Global, file: &File, groups: u32, found: &[(u64, &str)]) -> 
         }
     }
     Ok(nets.groups() == groups && file.subjects.len() == found.len())
-}
-
-// The file of the text.
-fn file(alloc: Global, text: &str) -> Result<File, Fail>
-    ensures { IfOk result (λ f. IsSoundFile (file_tree f)) }
-{
-    if text.len() > 1000 {
-        return Err("the file is too long".into());
-    }
-    match read_file(alloc, text.as_bytes()) {
-        Ok(file) => Ok(file),
-        Err(_) => Err("the file has a fault".into()),
-    }
 }
 
 // Whether the file's rule of that number is the first that isn't syntactic.

@@ -8,18 +8,17 @@ ghost use Rattle.mp_many.specs.Many.{IsWalkTable};
 use crate::rows::ROWS;
 use crate::texts::{are_pairs, file, has_line};
 use mp_many::{Many, Walk};
-use mp_pattern::constants;
 use mp_table::Table;
 use mp_text::{File, Subject};
 use std::alloc::Global;
 use std::test::Fail;
 
-// The table of a subject with the constants of the rules.
+// The table of a subject for walks over the rules.
 fn table(alloc: Global, many: &Many<'_>, subject: &Subject) -> Result<Table, Fail>
     requires { IsSoundSubject many.now.sig (subject_tree subject.now) }
     ensures { IfOk result (IsWalkTable many.now) }
 {
-    let constants = constants(alloc, many.rules())?;
+    let constants = many.constants(alloc)?;
     Ok(Table::build(alloc, many.sig(), &subject.term, &constants)?)
 }
 

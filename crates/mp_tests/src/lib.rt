@@ -1,5 +1,6 @@
-//! Tests of what is read, printed and edited: the first faults of texts, files, terms, patterns and conditions as they
-//! are printed and read again, and edits of terms. How a test reads a text is public, for the tests of what is matched.
+//! Tests of what is read, printed, edited and matched, over texts: the first faults of texts; files, terms, patterns and
+//! conditions as they are printed and read again; edits of terms; plans, take tables, the items of the one-list, the
+//! cursor, listed to the end and from each token on, and the matcher of a commutative node.
 #![tactic(auto)]
 
 #[cfg(test)]
@@ -9,15 +10,32 @@ mod case;
 #[cfg(test)]
 mod constants;
 #[cfg(test)]
+mod cursor_rows;
+#[cfg(test)]
+mod cursors;
+#[cfg(test)]
 mod edits;
 #[cfg(test)]
 mod faults;
 #[cfg(test)]
+mod items;
+#[cfg(test)]
 mod lists;
+#[cfg(test)]
+mod matched;
+#[cfg(test)]
+mod matchers;
+#[cfg(test)]
+mod patterns;
+#[cfg(test)]
+mod plans;
 #[cfg(test)]
 mod printed;
 #[cfg(test)]
 mod ranks;
+#[cfg(test)]
 mod reading;
-
-pub use reading::{NotRead, file, halves, pattern, plan, term};
+#[cfg(test)]
+mod roots;
+#[cfg(test)]
+mod takes;

@@ -2,7 +2,7 @@ use Rattle.mp_term.specs.View.{tree}
 use Rattle.mp_pattern.specs.Planned.{planned_rule}
 use Rattle.mp_pattern.proofs.SoundRules.{HasConditionOver-HasSoundCondition}
 use Rattle.mp_cursor.proofs.FirstLaws.{constants-held}
-use Rattle.mp_match_tests.proofs.matched.begin.Goals as goal
+use Rattle.mp_tests.proofs.matched.begin.Goals as goal
 
 pub begin-requires-clause-condition : goal.begin-requires-clause-condition
 begin-requires-clause-condition c =

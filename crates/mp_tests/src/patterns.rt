@@ -1,11 +1,11 @@
 //! Patterns, templates, conditions and rules: their lists, their order and their copies.
 
+use crate::reading::{file, halves, pattern};
 use mp_pattern::{
     Amount, Cond, Conds, Entries, Entry, Operand, Pattern, Patterns, Rule, Rules, Sense, Shape,
     Template, Templates, copy_cond, copy_pattern, is_fully_named, is_syntactic, pattern_compare,
 };
 use mp_term::{KindId, Name, OpId, Signature, Terms};
-use mp_tests::{file, halves, pattern};
 use mp_text::read_loose_cond;
 use std::alloc::Global;
 use std::test::Fail;

@@ -1,4 +1,4 @@
-use Rattle.std.proofs.Common.{◌≡◌, ap}
+use Rattle.std.proofs.Common.{ap}
 use Rattle.std.specs.Prelude.{IsSome, is_some, ⊤}
 use Rattle.std.proofs.lemmas.Result.{MatchResult-weaker}
 use Rattle.mp_term.specs.View.{tree}
@@ -6,7 +6,7 @@ use Rattle.mp_pattern.specs.Planned.{planned_rule}
 use Rattle.mp_pattern.proofs.SoundRules.{HasConditionOver-HasSoundCondition}
 use Rattle.mp_cursor.specs.Listing.{Listing}
 use Rattle.mp_cursor.proofs.FirstLaws.{constants-held}
-use Rattle.mp_match_tests.proofs.cursors.resume.Goals as goal
+use Rattle.mp_tests.proofs.cursors.resume.Goals as goal
 
 pub resume-requires-clause-condition : goal.resume-requires-clause-condition
 resume-requires-clause-condition c =

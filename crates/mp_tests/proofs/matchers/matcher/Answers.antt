@@ -1,4 +1,4 @@
-use Rattle.std.proofs.Common.{◌≡◌, ◌≤◌, ◌<◌, ◌+◌, ◌*◌, ℕ, [], ◌∷◌, true, refl, ap, sym, ◌∙◌, subst, arith, rules}
+use Rattle.std.proofs.Common.{◌≡◌, ◌≤◌, ◌<◌, ◌+◌, ℕ, [], true, refl, ap, sym, ◌∙◌, subst, arith}
 use Rattle.std.proofs.lemmas.Bool.Decides.{nat_tests}
 use Rattle.std.specs.Prelude.{Some, IsSome, slice_get}
 use Rattle.std.specs.List.{AllByRecursion}
@@ -20,7 +20,7 @@ use Rattle.mp_theory.proofs.Walk.{fine-arguments}
 use Rattle.mp_theory.proofs.Wildcards.{final-passes}
 use Rattle.mp_table.specs.Reading.{IsHeadOf}
 use Rattle.mp_table.specs.Subterms.{arguments}
-use Rattle.mp_table.specs.Table.{term_at, terms_at, rank_of}
+use Rattle.mp_table.specs.Table.{term_at, rank_of}
 use Rattle.mp_table.specs.declared.rank.Head.TheVariants.{App}
 use Rattle.mp_ac.specs.Children.{AreArguments}
 use Rattle.mp_ac.specs.Matcher.{IsCommNode}
@@ -28,7 +28,7 @@ use Rattle.mp_ac.proofs.Below.{arguments-fine}
 use Rattle.mp_cursor.proofs.BeginLaws.{pattern-held}
 use Rattle.mp_cursor.proofs.FirstLaws.{constants-held}
 use Rattle.mp_cursor.proofs.SliceLaws.{all-at}
-use Rattle.mp_match_tests.proofs.matchers.matcher.Goals as goal
+use Rattle.mp_tests.proofs.matchers.matcher.Goals as goal
 
 -- the first of the subpatterns is the pattern
 first-subpattern : (p q : Pattern) → slice_get (subpatterns p) 0 ≡ Some q → p ≡ q

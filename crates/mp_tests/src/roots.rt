@@ -1,8 +1,8 @@
 //! Patterns that may fit at the root of a term, and others.
 
+use crate::reading::{file, halves, pattern, term};
 use mp_cursor::may_fit;
 use mp_term::Signature;
-use mp_tests::{file, halves, pattern, term};
 use std::alloc::Global;
 use std::test::Fail;
 

@@ -5,7 +5,7 @@ ghost use Rattle.mp_pattern.specs.Planned.{IsPlanned, rule_plan};
 ghost use Rattle.mp_text.specs.File.{file_tree, subject_tree};
 ghost use Rattle.mp_text.specs.Sound.{IsSoundFile, IsSoundSubject};
 ghost use Rattle.mp_term.specs.View.{tree};
-ghost use Rattle.mp_match_tests.specs.Matched.{IsMatched};
+ghost use Rattle.mp_tests.specs.Matched.{IsMatched};
 
 use crate::cursor_rows::{ROWS, Row};
 use crate::matched::{Matched, Sizes, begin, is_fit, room};

@@ -1,7 +1,7 @@
 use Rattle.std.proofs.Common.{[], ◌∷◌, arith}
 use Rattle.mp_pattern.specs.Planned.{planned_rule}
 use Rattle.mp_pattern.proofs.ConstantLaws.{constants-nodes, constants-normal}
-use Rattle.mp_match_tests.proofs.cursors.is_row_on.Goals as goal
+use Rattle.mp_tests.proofs.cursors.is_row_on.Goals as goal
 
 pub build-requires-clause-constant_nodes : goal.build-requires-clause-constant_nodes
 build-requires-clause-constant_nodes c =

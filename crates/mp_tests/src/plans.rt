@@ -1,9 +1,9 @@
 //! Plans, read node by node and variable by variable, and the refusals.
 
 use crate::patterns::DECLARED;
+use crate::reading::{file, halves, plan};
 use mp_pattern::{Form, Pattern, Patterns, Plan, PlanNode, Shape};
 use mp_term::{KindId, Name, OpId, Signature};
-use mp_tests::{file, halves, plan};
 use std::alloc::Global;
 use std::test::Fail;
 

@@ -1,6 +1,6 @@
-use Rattle.std.proofs.Common.{◌≡◌, ℕ, length}
+use Rattle.std.proofs.Common.{◌≡◌, length}
 use Rattle.mp_ac.specs.Matcher.{IsMatcher, to_come}
-use Rattle.mp_match_tests.proofs.matchers.has_items.Given as goal
+use Rattle.mp_tests.proofs.matchers.has_items.Given as goal
 
 -- the trail is the one that the matcher left
 abbrev pub invariant-loop-matcher : goal.invariant-loop-matcher

@@ -5,7 +5,7 @@ ghost use Rattle.mp_term.specs.Size.{node_count};
 ghost use Rattle.mp_cursor.specs.Listing.{subject_of};
 ghost use Rattle.mp_term.specs.View.{tree};
 ghost use Rattle.mp_pattern.specs.Planned.{rule_plan};
-ghost use Rattle.mp_match_tests.specs.Matched.{IsMatched};
+ghost use Rattle.mp_tests.specs.Matched.{IsMatched};
 
 use mp_cursor::{Cursor, CursorRoom, MAX_ROOM_NODES, MAX_ROOM_VARS, MAX_ROOM_WIDTH};
 use mp_pattern::PlannedRule;

@@ -5,7 +5,7 @@ use Rattle.mp_pattern.specs.Planned.{planned_rule}
 use Rattle.mp_pattern.proofs.ConstantLaws.{constants-nodes, constants-normal}
 use Rattle.mp_pattern.proofs.SoundRules.{HasConditionOver-HasSoundCondition}
 use Rattle.mp_cursor.proofs.FirstLaws.{subject-is, constants-held}
-use Rattle.mp_match_tests.proofs.items.write_all.Goals as goal
+use Rattle.mp_tests.proofs.items.write_all.Goals as goal
 
 pub build-requires-clause-constant_nodes : goal.build-requires-clause-constant_nodes
 build-requires-clause-constant_nodes c =

@@ -1,7 +1,7 @@
-use Rattle.std.proofs.Common.{◌≡◌, ◌<◌, ℕ, List, [], ◌∷◌, length, ap, sym, subst, arith}
-use Rattle.std.specs.Prelude.{Option, Some, None, IsSome, slice_get, drop}
+use Rattle.std.proofs.Common.{◌≡◌, ◌<◌, List, [], ◌∷◌, length, ap, subst, arith}
+use Rattle.std.specs.Prelude.{Option, None, IsSome, slice_get, drop}
 use Rattle.mp_ac.specs.Matcher.{item_of, to_come}
-use Rattle.mp_match_tests.proofs.matchers.has_items.Goals as goal
+use Rattle.mp_tests.proofs.matchers.has_items.Goals as goal
 
 -- a list that has a first item is longer than what is behind it
 shorter : {X : Type 0} (xs ys : List X) (o : Option X) → o ≡ slice_get xs 0 → IsSome o → ys ≡ drop 1 xs

@@ -7,8 +7,8 @@ ghost use Rattle.mp_pattern.specs.Planned.{IsPlanned, rule_plan};
 ghost use Rattle.mp_text.specs.File.{file_tree, subject_tree};
 ghost use Rattle.mp_text.specs.Sound.{IsSoundFile, IsSoundSubject};
 ghost use Rattle.mp_ac.specs.Matcher.{IsMatcher};
-ghost use Rattle.mp_match_tests.specs.Matched.{IsMatched};
-ghost use Rattle.mp_match_tests.specs.Numbers.{AreNumbers};
+ghost use Rattle.mp_tests.specs.Matched.{IsMatched};
+ghost use Rattle.mp_tests.specs.Numbers.{AreNumbers};
 
 use crate::matched::Matched;
 use mp_ac::CommMatcher;
@@ -88,8 +88,8 @@ fn are_ranks(ranks: &[Rank], numbers: &[u32]) -> bool {
     true
 }
 
-// Whether the nodes of the matcher's item, so many with the root, take the ranks of the numbers from an index on, and no
-// other node takes any.
+// Whether the nodes of the matcher's item, so many with the root, take the ranks of the numbers from an index on, and
+// no other node takes any.
 fn is_item(matcher: &CommMatcher<'_>, nodes: u32, numbers: &[&[u32]], from: usize) -> bool
     requires { IsMatcher matcher.now }
 {

@@ -1,9 +1,9 @@
 //! Take tables that fit, and others.
 
+use crate::reading::{file, halves, plan, term};
 use mp_one::check_takes;
 use mp_pattern::{Entries, Entry, Pattern, Patterns, Plan, Shape};
 use mp_term::{Name, OpId, Signature, Term, Terms, is_normal};
-use mp_tests::{file, halves, plan, term};
 use std::alloc::Global;
 use std::test::Fail;
 
