@@ -1,8 +1,8 @@
 -- Beginnings of parts in a row, by cases.
 use Rattle.std.proofs.Common.{inl, inr, List, [], ◌∷◌, ◌++◌, refl, ap}
 use Rattle.std.specs.Prelude.{◌⊎◌}
-use Rattle.mp_syntax.specs.Tokens.{Placed}
-use Rattle.mp_syntax.specs.Syntax.{Expected, AllMatch}
+use Rattle.mp_parser.specs.Tokens.{Placed}
+use Rattle.mp_parser.specs.Syntax.{Expected, AllMatch}
 use Rattle.mp_syntax.specs.Begins.{MatchFront, IsBehind}
 
 -- a beginning of parts in a row is one of the first part, or the whole first part and a beginning of the others

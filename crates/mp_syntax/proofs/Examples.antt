@@ -1,24 +1,24 @@
 -- Worked examples, by computing.
 use Rattle.std.proofs.Common.{◌≡◌, ℕ, true, false, List, [], ◌∷◌, ◌++◌, map, Some, None, Result, Ok, Err, refl}
 use Rattle.std.specs.Prelude.{codes, replicate}
-use Rattle.mp_syntax.specs.declared.place.Place.{Place}
-use Rattle.mp_syntax.specs.declared.token.Punct.TheVariants.{Dot}
-use Rattle.mp_syntax.specs.declared.fault.Fault.{Fault}
-use Rattle.mp_syntax.specs.declared.fault.FaultKind.{FaultKind}
-use Rattle.mp_syntax.specs.declared.fault.FaultKind.TheVariants as kinds
-use Rattle.mp_syntax.specs.declared.condition_tree.Measure.TheVariants.{Count}
-use Rattle.mp_syntax.specs.declared.condition_tree.Sense.TheVariants.{Lt, Eq}
-use Rattle.mp_syntax.specs.declared.condition_tree.Relation.TheVariants.{Less}
-use Rattle.mp_syntax.specs.declared.condition_tree.Property.TheVariants as properties
-use Rattle.mp_syntax.specs.Tokens.{Token, Word, Wildcard, Sign, Arrow, Punctuation, Long, End, Placed, first_place}
-use Rattle.mp_syntax.specs.Lexing.{lexemes}
-use Rattle.mp_syntax.specs.Syntax as syntax
-use Rattle.mp_syntax.specs.Syntax.{Spot, Tree, Symbol, Apply, InfixOf, Wild, Optional, Variable, trees, Number}
-use Rattle.mp_syntax.specs.Syntax.{Measured, Compare, Relate, Test, AtomOf, Bracketed, literals, condition, Assoc}
-use Rattle.mp_syntax.specs.Syntax.{Comm, Infixed, Statement, OpOf, KindOf, RuleOf, SubjectOf}
+use Rattle.mp_parser.specs.declared.place.Place.{Place}
+use Rattle.mp_parser.specs.declared.token.Punct.TheVariants.{Dot}
+use Rattle.mp_parser.specs.declared.fault.Fault.{Fault}
+use Rattle.mp_parser.specs.declared.fault.FaultKind.{FaultKind}
+use Rattle.mp_parser.specs.declared.fault.FaultKind.TheVariants as kinds
+use Rattle.mp_parser.specs.declared.condition_tree.Measure.TheVariants.{Count}
+use Rattle.mp_parser.specs.declared.condition_tree.Sense.TheVariants.{Lt, Eq}
+use Rattle.mp_parser.specs.declared.condition_tree.Relation.TheVariants.{Less}
+use Rattle.mp_parser.specs.declared.condition_tree.Property.TheVariants as properties
+use Rattle.mp_parser.specs.Tokens.{Token, Word, Wildcard, Sign, Arrow, Punctuation, Long, End, Placed, first_place}
+use Rattle.mp_parser.specs.Lexing.{lexemes}
+use Rattle.mp_parser.specs.Syntax as syntax
+use Rattle.mp_parser.specs.Syntax.{Spot, Tree, Symbol, Apply, InfixOf, Wild, Optional, Variable, trees, Number}
+use Rattle.mp_parser.specs.Syntax.{Measured, Compare, Relate, Test, AtomOf, Bracketed, literals, condition, Assoc}
+use Rattle.mp_parser.specs.Syntax.{Comm, Infixed, Statement, OpOf, KindOf, RuleOf, SubjectOf}
 use Rattle.mp_syntax.specs.Begins.{OfFile}
 use Rattle.mp_syntax.specs.FirstFault.{IsFirstFault}
-use Rattle.mp_syntax.specs.Syntax.{Counted, Root, Path, Single, Listed, EditOf}
+use Rattle.mp_parser.specs.Syntax.{Counted, Root, Path, Single, Listed, EditOf}
 use Rattle.mp_syntax.specs.Reading.{reading, expr_reading, condition_reading}
 use Rattle.mp_syntax.proofs.InOrder.{text_reading-first}
 

@@ -1,21 +1,21 @@
 -- The fault that the machine meets in bytes whose tokens are all good is their first fault, and there is one.
 use Rattle.std.proofs.Common.{inl, inr, ◌≡◌, ℕ, List, [], ◌∷◌, ◌++◌, refl, sym, ap, subst, ◌∙◌}
 use Rattle.std.specs.Prelude.{◌⊎◌, ◌≢◌}
-use Rattle.mp_syntax.specs.declared.limits.TheConstants.{MAX_OPEN}
-use Rattle.mp_syntax.specs.declared.place.Place.{Place}
-use Rattle.mp_syntax.specs.declared.fault.Fault.{Fault}
-use Rattle.mp_syntax.specs.declared.fault.FaultKind.{FaultKind}
-use Rattle.mp_syntax.specs.declared.fault.FaultKind.TheVariants.{Syntax, TooDeep, BadByte, TooMany}
-use Rattle.mp_syntax.specs.Tokens.{Token, Long, Bad, End, Placed, first_place, place_after}
-use Rattle.mp_syntax.specs.Lexing.{lexemes}
+use Rattle.mp_parser.specs.declared.limits.TheConstants.{MAX_OPEN}
+use Rattle.mp_parser.specs.declared.place.Place.{Place}
+use Rattle.mp_parser.specs.declared.fault.Fault.{Fault}
+use Rattle.mp_parser.specs.declared.fault.FaultKind.{FaultKind}
+use Rattle.mp_parser.specs.declared.fault.FaultKind.TheVariants.{Syntax, TooDeep, BadByte, TooMany}
+use Rattle.mp_parser.specs.Tokens.{Token, Long, Bad, End, Placed, first_place, place_after}
+use Rattle.mp_parser.specs.Lexing.{lexemes}
 use Rattle.mp_syntax.specs.Begins.{Text, IsWhole}
 use Rattle.mp_syntax.specs.FirstFault.{Refuses, NoneRefused, FirstRefused, NoneLong, AreTokensOf, IsFaultAt}
 use Rattle.mp_syntax.specs.FirstFault.{IsFirstFault}
-use Rattle.mp_syntax.specs.Machine.{run_in}
-use Rattle.mp_syntax.proofs.Longest.{IsToken}
-use Rattle.mp_syntax.proofs.TokensLaw.{AreTokens, tokens-lexemes, end_at, head-is, tail-is}
+use Rattle.mp_parser.specs.Machine.{run_in}
+use Rattle.mp_parser.proofs.Longest.{IsToken}
+use Rattle.mp_parser.proofs.TokensLaw.{AreTokens, tokens-lexemes, end_at, head-is, tail-is}
 use Rattle.mp_syntax.specs.Reading.{start}
-use Rattle.mp_syntax.proofs.Adds.{IsGood, AreGood}
+use Rattle.mp_parser.proofs.Adds.{IsGood, AreGood}
 use Rattle.mp_syntax.proofs.TokensFault.{tokens-are}
 use Rattle.mp_syntax.proofs.Refused.{err_of, run-first}
 

@@ -2,34 +2,34 @@
 use Rattle.std.proofs.Common.{Bool, ◌≡◌, ℕ, suc, ◌<◌, false, cond, List, [], ◌∷◌, ◌++◌, Some, None, refl, ap, ◌∙◌}
 use Rattle.std.specs.Prelude.{codes, ◌&&◌}
 use Rattle.std.proofs.lemmas.Bool.{lt-leb}
-use Rattle.mp_syntax.specs.declared.place.Place.{Place}
-use Rattle.mp_syntax.specs.declared.token.Punct.TheVariants.{Open, Close, CloseSquare, Comma, Colon, Semicolon}
-use Rattle.mp_syntax.specs.declared.token.Punct.TheVariants.{OpenBrace, CloseBrace, Dot}
-use Rattle.mp_syntax.specs.declared.fault.FaultKind.TheVariants.{TooDeep}
-use Rattle.mp_syntax.specs.declared.condition_tree.Sense.TheVariants.{Eq}
-use Rattle.mp_syntax.specs.Tokens.{Token, Word, Sign, Arrow, Punctuation, End, Placed}
+use Rattle.mp_parser.specs.declared.place.Place.{Place}
+use Rattle.mp_parser.specs.declared.token.Punct.TheVariants.{Open, Close, CloseSquare, Comma, Colon, Semicolon}
+use Rattle.mp_parser.specs.declared.token.Punct.TheVariants.{OpenBrace, CloseBrace, Dot}
+use Rattle.mp_parser.specs.declared.fault.FaultKind.TheVariants.{TooDeep}
+use Rattle.mp_parser.specs.declared.condition_tree.Sense.TheVariants.{Eq}
+use Rattle.mp_parser.specs.Tokens.{Token, Word, Sign, Arrow, Punctuation, End, Placed}
 use Rattle.mp_syntax.specs.Begins.{Text, OfFile, OfExpr, OfCondition}
-use Rattle.mp_syntax.specs.Syntax.{Spot, Wildcard, Tree, Symbol, Apply, InfixOf, Wild, Variable, more_trees, trees}
-use Rattle.mp_syntax.specs.Syntax.{KindOf, OpOf, RuleOf, SubjectOf, Statement, Amount, Number, Measured, Compare}
-use Rattle.mp_syntax.specs.Syntax.{Relate, Test, Literal, AtomOf, Bracketed, Condition, condition, Infixed, Counted}
-use Rattle.mp_syntax.specs.Syntax.{EditOf, Position, Root, Path, Change}
-use Rattle.mp_syntax.specs.Machine.{Heading, Edited, Listing, InTemplate, InChange, AfterBrace, AfterCount}
-use Rattle.mp_syntax.specs.Machine.{BeforeBrace, AfterEdit, AfterSubject, BeforeChange, AfterPosition, BeforeIndex}
-use Rattle.mp_syntax.specs.Machine.{AfterArrow, AfterSquare, AfterChange, change, edited}
-use Rattle.mp_syntax.specs.Machine.{Role}
-use Rattle.mp_syntax.specs.Machine.{OfRule, OfSubject, Frame, Arguments, Bracket, Operands, Default, Operand, Second}
-use Rattle.mp_syntax.specs.Machine.{Square, Level, all_alternatives, Site, site, is_dot, is_punct, step_behind, Side}
-use Rattle.mp_syntax.specs.Machine.{OnLeft, OnRight, Lead, OfMeasure, OfRelation, OfProperty, open_count}
-use Rattle.mp_syntax.specs.Machine.{with_default, Declared, with_flag, heading, Within, InStatement, Alone}
-use Rattle.mp_syntax.specs.Machine.{InCondition, ConditionAlone, State, Top, AfterOp, AfterOpName, AfterLeast}
-use Rattle.mp_syntax.specs.Machine.{AfterFlags, AfterInfix, AfterKind, AfterKindName, BeforeMember, AfterMember}
-use Rattle.mp_syntax.specs.Machine.{AfterRole, AfterName, BeforeExpr, AfterWord, AfterOpen, AfterWildcard, AfterExpr}
-use Rattle.mp_syntax.specs.Machine.{AfterDollar, BeforeLiteral, BeforeBody, BeforeOperand, BeforeName, BehindName}
-use Rattle.mp_syntax.specs.Machine.{AfterAmount, AfterSense, AfterLiteral, SingleExpr, SingleCondition, Go, Emit}
-use Rattle.mp_syntax.specs.Machine.{Refuse, spot, with_atom, with_amount, step_in, step_open, after_step, Parsed}
-use Rattle.mp_syntax.specs.Machine.{parsed, run_in}
-use Rattle.mp_syntax.specs.Syntax as syntax
-use Rattle.mp_syntax.proofs.Found.{read_ok}
+use Rattle.mp_parser.specs.Syntax.{Spot, Wildcard, Tree, Symbol, Apply, InfixOf, Wild, Variable, more_trees, trees}
+use Rattle.mp_parser.specs.Syntax.{KindOf, OpOf, RuleOf, SubjectOf, Statement, Amount, Number, Measured, Compare}
+use Rattle.mp_parser.specs.Syntax.{Relate, Test, Literal, AtomOf, Bracketed, Condition, condition, Infixed, Counted}
+use Rattle.mp_parser.specs.Syntax.{EditOf, Position, Root, Path, Change}
+use Rattle.mp_parser.specs.Machine.{Heading, Edited, Listing, InTemplate, InChange, AfterBrace, AfterCount}
+use Rattle.mp_parser.specs.Machine.{BeforeBrace, AfterEdit, AfterSubject, BeforeChange, AfterPosition, BeforeIndex}
+use Rattle.mp_parser.specs.Machine.{AfterArrow, AfterSquare, AfterChange, change, edited}
+use Rattle.mp_parser.specs.Machine.{Role}
+use Rattle.mp_parser.specs.Machine.{OfRule, OfSubject, Frame, Arguments, Bracket, Operands, Default, Operand, Second}
+use Rattle.mp_parser.specs.Machine.{Square, Level, all_alternatives, Site, site, is_dot, is_punct, step_behind, Side}
+use Rattle.mp_parser.specs.Machine.{OnLeft, OnRight, Lead, OfMeasure, OfRelation, OfProperty, open_count}
+use Rattle.mp_parser.specs.Machine.{with_default, Declared, with_flag, heading, Within, InStatement, Alone}
+use Rattle.mp_parser.specs.Machine.{InCondition, ConditionAlone, State, Top, AfterOp, AfterOpName, AfterLeast}
+use Rattle.mp_parser.specs.Machine.{AfterFlags, AfterInfix, AfterKind, AfterKindName, BeforeMember, AfterMember}
+use Rattle.mp_parser.specs.Machine.{AfterRole, AfterName, BeforeExpr, AfterWord, AfterOpen, AfterWildcard, AfterExpr}
+use Rattle.mp_parser.specs.Machine.{AfterDollar, BeforeLiteral, BeforeBody, BeforeOperand, BeforeName, BehindName}
+use Rattle.mp_parser.specs.Machine.{AfterAmount, AfterSense, AfterLiteral, SingleExpr, SingleCondition, Go, Emit}
+use Rattle.mp_parser.specs.Machine.{Refuse, spot, with_atom, with_amount, step_in, step_open, after_step, Parsed}
+use Rattle.mp_parser.specs.Machine.{parsed, run_in}
+use Rattle.mp_parser.specs.Syntax as syntax
+use Rattle.mp_parser.proofs.Found.{read_ok}
 use Rattle.mp_syntax.proofs.Holds.{HoldsList, file-name, file-change, IsEndOfExpr, IsEndOfCondition, HoldsExpr}
 use Rattle.mp_syntax.proofs.Holds.{HoldsCondition, IsFile, Holds}
 

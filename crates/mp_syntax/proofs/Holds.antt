@@ -2,34 +2,34 @@
 use Rattle.std.proofs.Common.{ℕ, Bool, true, false, cond, List, [], ◌∷◌, ◌++◌, Option, Some, None, leb}
 use Rattle.std.specs.Prelude.{◌&&◌, codes}
 use Rattle.std.specs.Str.{bytes_eq}
-use Rattle.mp_syntax.specs.declared.token.Punct.TheVariants.{Open, Close, OpenSquare, CloseSquare, Comma, Colon}
-use Rattle.mp_syntax.specs.declared.token.Punct.TheVariants.{Semicolon, Dollar, OpenBrace, CloseBrace, Dot}
-use Rattle.mp_syntax.specs.declared.fault.FaultKind.TheVariants.{Syntax, TooDeep}
-use Rattle.mp_syntax.specs.Tokens.{Token, Placed}
+use Rattle.mp_parser.specs.declared.token.Punct.TheVariants.{Open, Close, OpenSquare, CloseSquare, Comma, Colon}
+use Rattle.mp_parser.specs.declared.token.Punct.TheVariants.{Semicolon, Dollar, OpenBrace, CloseBrace, Dot}
+use Rattle.mp_parser.specs.declared.fault.FaultKind.TheVariants.{Syntax, TooDeep}
+use Rattle.mp_parser.specs.Tokens.{Token, Placed}
 use Rattle.mp_syntax.specs.Begins.{Text, OfFile, OfExpr, OfCondition}
-use Rattle.mp_syntax.specs.Syntax.{Spot, Wildcard, Tree, Symbol, Wild, Variable, Infixed, KindOf, OpOf, RuleOf}
-use Rattle.mp_syntax.specs.Syntax.{SubjectOf, Amount, Number, Measured, Relate, Test, Literal, Bracketed, Condition}
-use Rattle.mp_syntax.specs.Syntax.{condition, Counted, EditOf, Position, Root, Path, Change, trees}
-use Rattle.mp_syntax.specs.Machine.{Heading, Edited, Listing, InTemplate, InChange, AfterBrace, AfterCount}
-use Rattle.mp_syntax.specs.Machine.{BeforeBrace, AfterEdit, AfterSubject, BeforeChange, AfterPosition, BeforeIndex}
-use Rattle.mp_syntax.specs.Machine.{AfterArrow, AfterSquare, AfterChange, is_arrow, change, with_change}
-use Rattle.mp_syntax.specs.Machine.{on_number, step_rule, step_changes, step_listed, step_further, step_brace, Role}
-use Rattle.mp_syntax.specs.Machine.{OfRule, OfSubject, Frame, Arguments, Bracket, Operands, Default, Operand, Second}
-use Rattle.mp_syntax.specs.Machine.{Square, Level, no_level, next_literal, next_alternative, all_alternatives, Site}
-use Rattle.mp_syntax.specs.Machine.{site, Side, OnLeft, OnRight, Lead, OfMeasure, OfRelation, OfProperty, open_count}
-use Rattle.mp_syntax.specs.Machine.{with_default, is_dot, Declared, declared, with_flag, Within, InStatement, Alone}
-use Rattle.mp_syntax.specs.Machine.{InCondition, ConditionAlone, State, Top, AfterOp, AfterOpName, AfterLeast}
-use Rattle.mp_syntax.specs.Machine.{AfterFlags, AfterInfix, AfterKind, AfterKindName, BeforeMember, AfterMember}
-use Rattle.mp_syntax.specs.Machine.{AfterRole, AfterName, BeforeExpr, AfterWord, AfterOpen, AfterWildcard, AfterExpr}
-use Rattle.mp_syntax.specs.Machine.{AfterDollar, BeforeLiteral, BeforeBody, BeforeOperand, BeforeName, BehindName}
-use Rattle.mp_syntax.specs.Machine.{AfterAmount, AfterSense, AfterLiteral, Single, SingleExpr, SingleCondition, Step}
-use Rattle.mp_syntax.specs.Machine.{Go, Emit, Refuse, Finish, Ends, is_punct, is_sign, is_word, is_end, is_number}
-use Rattle.mp_syntax.specs.Machine.{measure_of, sense_of, relation_of, property_of, word_of, sign_of, wildcard_at}
-use Rattle.mp_syntax.specs.Machine.{keyword, spot, refuse, on_text, on_word, on_found, with_atom, with_amount}
-use Rattle.mp_syntax.specs.Machine.{step_in, step_role, step_operand, step_amount, step_atom, step_body, step_last}
-use Rattle.mp_syntax.specs.Machine.{step_whole, step_number, step_flag, step_flags, step_open, step_expr, step_behind}
-use Rattle.mp_syntax.specs.Machine.{step_wildcard}
-use Rattle.mp_syntax.specs.Syntax as syntax
+use Rattle.mp_parser.specs.Syntax.{Spot, Wildcard, Tree, Symbol, Wild, Variable, Infixed, KindOf, OpOf, RuleOf}
+use Rattle.mp_parser.specs.Syntax.{SubjectOf, Amount, Number, Measured, Relate, Test, Literal, Bracketed, Condition}
+use Rattle.mp_parser.specs.Syntax.{condition, Counted, EditOf, Position, Root, Path, Change, trees}
+use Rattle.mp_parser.specs.Machine.{Heading, Edited, Listing, InTemplate, InChange, AfterBrace, AfterCount}
+use Rattle.mp_parser.specs.Machine.{BeforeBrace, AfterEdit, AfterSubject, BeforeChange, AfterPosition, BeforeIndex}
+use Rattle.mp_parser.specs.Machine.{AfterArrow, AfterSquare, AfterChange, is_arrow, change, with_change}
+use Rattle.mp_parser.specs.Machine.{on_number, step_rule, step_changes, step_listed, step_further, step_brace, Role}
+use Rattle.mp_parser.specs.Machine.{OfRule, OfSubject, Frame, Arguments, Bracket, Operands, Default, Operand, Second}
+use Rattle.mp_parser.specs.Machine.{Square, Level, no_level, next_literal, next_alternative, all_alternatives, Site}
+use Rattle.mp_parser.specs.Machine.{site, Side, OnLeft, OnRight, Lead, OfMeasure, OfRelation, OfProperty, open_count}
+use Rattle.mp_parser.specs.Machine.{with_default, is_dot, Declared, declared, with_flag, Within, InStatement, Alone}
+use Rattle.mp_parser.specs.Machine.{InCondition, ConditionAlone, State, Top, AfterOp, AfterOpName, AfterLeast}
+use Rattle.mp_parser.specs.Machine.{AfterFlags, AfterInfix, AfterKind, AfterKindName, BeforeMember, AfterMember}
+use Rattle.mp_parser.specs.Machine.{AfterRole, AfterName, BeforeExpr, AfterWord, AfterOpen, AfterWildcard, AfterExpr}
+use Rattle.mp_parser.specs.Machine.{AfterDollar, BeforeLiteral, BeforeBody, BeforeOperand, BeforeName, BehindName}
+use Rattle.mp_parser.specs.Machine.{AfterAmount, AfterSense, AfterLiteral, Single, SingleExpr, SingleCondition, Step}
+use Rattle.mp_parser.specs.Machine.{Go, Emit, Refuse, Finish, Ends, is_punct, is_sign, is_word, is_end, is_number}
+use Rattle.mp_parser.specs.Machine.{measure_of, sense_of, relation_of, property_of, word_of, sign_of, wildcard_at}
+use Rattle.mp_parser.specs.Machine.{keyword, spot, refuse, on_text, on_word, on_found, with_atom, with_amount}
+use Rattle.mp_parser.specs.Machine.{step_in, step_role, step_operand, step_amount, step_atom, step_body, step_last}
+use Rattle.mp_parser.specs.Machine.{step_whole, step_number, step_flag, step_flags, step_open, step_expr, step_behind}
+use Rattle.mp_parser.specs.Machine.{step_wildcard}
+use Rattle.mp_parser.specs.Syntax as syntax
 
 -- an expression of a text of this sort ends in this, in no bracket
 abbrev pub IsEndOfExpr : Text → Within → Type 0

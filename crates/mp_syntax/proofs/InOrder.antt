@@ -1,17 +1,18 @@
 -- The first fault of bytes is met by looking at all tokens first, and then by the machine.
 use Rattle.std.proofs.Common.{inl, inr, ◌≡◌, ℕ, List, [], ◌∷◌, ◌++◌, Option, Some, None, refl, sym, ap, subst, ◌∙◌}
 use Rattle.std.specs.Prelude.{◌⊎◌}
-use Rattle.mp_syntax.specs.declared.fault.Fault.{Fault}
-use Rattle.mp_syntax.specs.declared.fault.FaultKind.TheVariants.{BadByte, TooMany}
-use Rattle.mp_syntax.specs.Tokens.{Placed, Tokens, StopsEarly, first_place}
-use Rattle.mp_syntax.specs.Lexing.{lexemes}
+use Rattle.mp_parser.specs.declared.fault.Fault.{Fault}
+use Rattle.mp_parser.specs.declared.fault.FaultKind.TheVariants.{BadByte, TooMany}
+use Rattle.mp_parser.specs.Tokens.{Placed, Tokens, StopsEarly, first_place}
+use Rattle.mp_parser.specs.Lexing.{lexemes}
 use Rattle.mp_syntax.specs.Begins.{Text}
 use Rattle.mp_syntax.specs.FirstFault.{NoneLong, HasTokens, IsFirstFault}
-use Rattle.mp_syntax.specs.Machine.{run}
+use Rattle.mp_parser.specs.Machine.{run}
 use Rattle.mp_syntax.specs.Reading.{start, first_bad, checked, text_reading}
-use Rattle.mp_syntax.proofs.TokensLaw.{tokens-lexemes, end_at}
-use Rattle.mp_syntax.proofs.TokensTotal.{tokens-total}
-use Rattle.mp_syntax.proofs.TokensFault.{bad_at, until-lexemes, has-lexemes, LongIn, find-long, none-first}
+use Rattle.mp_parser.proofs.TokensLaw.{tokens-lexemes, end_at}
+use Rattle.mp_parser.proofs.TokensTotal.{tokens-total}
+use Rattle.mp_parser.proofs.TokensUntil.{bad_at, until-lexemes}
+use Rattle.mp_syntax.proofs.TokensFault.{has-lexemes, LongIn, find-long, none-first}
 use Rattle.mp_syntax.proofs.TokensFault.{long-first}
 use Rattle.mp_syntax.proofs.Refused.{err_of, err-is}
 use Rattle.mp_syntax.proofs.FirstFault.{fault-first}

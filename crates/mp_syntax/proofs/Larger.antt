@@ -3,16 +3,16 @@ use Rattle.std.proofs.Common.{inl, inr, ◌≡◌, ℕ, suc, ◌<◌, ◌≤◌,
 use Rattle.std.proofs.Common.{None, refl, sym, ap, ◌∙◌, arith, leb}
 use Rattle.std.specs.Prelude.{◌⊎◌, codes}
 use Rattle.std.proofs.lemmas.Bool.{leb-false, lt-leb}
-use Rattle.mp_syntax.specs.declared.token.Punct.TheVariants.{Open, Close, OpenSquare, CloseSquare}
-use Rattle.mp_syntax.specs.declared.fault.FaultKind.TheVariants.{TooDeep}
-use Rattle.mp_syntax.specs.Tokens.{Placed}
-use Rattle.mp_syntax.specs.Syntax.{Apply, Symbol, Listed, trees}
-use Rattle.mp_syntax.specs.Machine.{InChange, Listing, AfterArrow, AfterSquare, AfterChange, change, Frame, Arguments}
-use Rattle.mp_syntax.specs.Machine.{Bracket, Operand, Square, no_level, Site, site, open_count, Within, State}
-use Rattle.mp_syntax.specs.Machine.{BeforeExpr, AfterWord, AfterOpen, AfterExpr, BeforeLiteral, BeforeBody}
-use Rattle.mp_syntax.specs.Machine.{BeforeOperand, Step, Go, Refuse, is_punct, is_word, word_of, wildcard_at, refuse}
-use Rattle.mp_syntax.specs.Machine.{on_word, step_in, step_atom, step_body, step_behind, step_open, step_expr}
-use Rattle.mp_syntax.specs.Machine.{step_wildcard}
+use Rattle.mp_parser.specs.declared.token.Punct.TheVariants.{Open, Close, OpenSquare, CloseSquare}
+use Rattle.mp_parser.specs.declared.fault.FaultKind.TheVariants.{TooDeep}
+use Rattle.mp_parser.specs.Tokens.{Placed}
+use Rattle.mp_parser.specs.Syntax.{Apply, Symbol, Listed, trees}
+use Rattle.mp_parser.specs.Machine.{InChange, Listing, AfterArrow, AfterSquare, AfterChange, change, Frame, Arguments}
+use Rattle.mp_parser.specs.Machine.{Bracket, Operand, Square, no_level, Site, site, open_count, Within, State}
+use Rattle.mp_parser.specs.Machine.{BeforeExpr, AfterWord, AfterOpen, AfterExpr, BeforeLiteral, BeforeBody}
+use Rattle.mp_parser.specs.Machine.{BeforeOperand, Step, Go, Refuse, is_punct, is_word, word_of, wildcard_at, refuse}
+use Rattle.mp_parser.specs.Machine.{on_word, step_in, step_atom, step_body, step_behind, step_open, step_expr}
+use Rattle.mp_parser.specs.Machine.{step_wildcard}
 use Rattle.mp_syntax.proofs.GoesOn.{count}
 
 -- a step at a limit beside the same at a larger one, with c brackets open: they are the same, or only the larger one

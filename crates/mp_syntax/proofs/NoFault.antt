@@ -2,25 +2,25 @@
 use Rattle.std.proofs.Common.{inl, inr, ◌≡◌, ℕ, List, [], ◌∷◌, ◌++◌, Some, None, refl, sym, ap, subst, ◌∙◌}
 use Rattle.std.proofs.Common.{append_assoc, append-nil}
 use Rattle.std.specs.Prelude.{◌⊎◌}
-use Rattle.mp_syntax.specs.declared.limits.TheConstants.{MAX_OPEN}
-use Rattle.mp_syntax.specs.declared.place.Place.{Place}
-use Rattle.mp_syntax.specs.declared.fault.Fault.{Fault}
-use Rattle.mp_syntax.specs.declared.fault.FaultKind.{FaultKind}
-use Rattle.mp_syntax.specs.declared.fault.FaultKind.TheVariants.{Syntax, TooDeep, BadByte, TooMany}
-use Rattle.mp_syntax.specs.Tokens.{Token, Bad, End, Placed, Tokens, first_place}
-use Rattle.mp_syntax.specs.Syntax.{Statement, Expected, AllMatch}
+use Rattle.mp_parser.specs.declared.limits.TheConstants.{MAX_OPEN}
+use Rattle.mp_parser.specs.declared.place.Place.{Place}
+use Rattle.mp_parser.specs.declared.fault.Fault.{Fault}
+use Rattle.mp_parser.specs.declared.fault.FaultKind.{FaultKind}
+use Rattle.mp_parser.specs.declared.fault.FaultKind.TheVariants.{Syntax, TooDeep, BadByte, TooMany}
+use Rattle.mp_parser.specs.Tokens.{Token, Bad, End, Placed, Tokens, first_place}
+use Rattle.mp_parser.specs.Syntax.{Statement, Expected, AllMatch}
 use Rattle.mp_syntax.specs.Begins.{Text, OfFile, OfExpr, OfCondition, IsSpelling, IsWhole}
 use Rattle.mp_syntax.specs.FirstFault.{NoneRefused, NoneLong, FirstRefused, EndsEarly, AreTokensOf, IsFaultAt}
 use Rattle.mp_syntax.specs.FirstFault.{IsFirstFault}
-use Rattle.mp_syntax.specs.Partial.{so_far}
+use Rattle.mp_parser.specs.Partial.{so_far}
 use Rattle.mp_syntax.specs.Reading.{start}
-use Rattle.mp_syntax.specs.Machine.{State, Top, Single, SingleExpr, SingleCondition, Step, Go, Emit, Refuse, Finish}
-use Rattle.mp_syntax.specs.Machine.{Ends, Parsed, parsed, step_in, after_step, run_in}
-use Rattle.mp_syntax.proofs.Longest.{IsToken}
-use Rattle.mp_syntax.proofs.Adds.{Adds, IsGood, AreGood}
-use Rattle.mp_syntax.proofs.Found.{read_ok, ok-is, adds, run-found}
-use Rattle.mp_syntax.proofs.TokensLaw.{AreTokens, end_at, head-is, tail-is}
-use Rattle.mp_syntax.proofs.TokensTotal.{tokens-unique}
+use Rattle.mp_parser.specs.Machine.{State, Top, Single, SingleExpr, SingleCondition, Step, Go, Emit, Refuse, Finish}
+use Rattle.mp_parser.specs.Machine.{Ends, Parsed, parsed, step_in, after_step, run_in}
+use Rattle.mp_parser.proofs.Longest.{IsToken}
+use Rattle.mp_parser.proofs.Adds.{Adds, IsGood, AreGood}
+use Rattle.mp_parser.proofs.Found.{read_ok, ok-is, adds, run-found}
+use Rattle.mp_parser.proofs.TokensLaw.{AreTokens, end_at, head-is, tail-is}
+use Rattle.mp_parser.proofs.TokensTotal.{tokens-unique}
 use Rattle.mp_syntax.proofs.TokensFault.{tokens-are, good-first, met}
 use Rattle.mp_syntax.proofs.Holds.{Holds, StepHolds, IsFile, IsAlone, step-holds}
 use Rattle.mp_syntax.proofs.GoesOn.{IsBefore, IsParsed}

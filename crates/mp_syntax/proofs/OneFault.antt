@@ -1,16 +1,16 @@
 -- Bytes have one first fault at most.
 use Rattle.std.proofs.Common.{inl, inr, ◌≡◌, ℕ, List, Option, Some, None, refl, sym, ap, subst, ◌∙◌}
 use Rattle.std.specs.Prelude.{◌⊎◌}
-use Rattle.mp_syntax.specs.declared.place.Place.{Place}
-use Rattle.mp_syntax.specs.declared.fault.Fault.{Fault}
-use Rattle.mp_syntax.specs.declared.fault.FaultKind.{FaultKind}
-use Rattle.mp_syntax.specs.declared.fault.FaultKind.TheVariants.{Syntax, TooDeep, BadByte, TooMany}
-use Rattle.mp_syntax.specs.Tokens.{Placed, first_place, place_after}
-use Rattle.mp_syntax.specs.Lexing.{lexemes}
+use Rattle.mp_parser.specs.declared.place.Place.{Place}
+use Rattle.mp_parser.specs.declared.fault.Fault.{Fault}
+use Rattle.mp_parser.specs.declared.fault.FaultKind.{FaultKind}
+use Rattle.mp_parser.specs.declared.fault.FaultKind.TheVariants.{Syntax, TooDeep, BadByte, TooMany}
+use Rattle.mp_parser.specs.Tokens.{Placed, first_place, place_after}
+use Rattle.mp_parser.specs.Lexing.{lexemes}
 use Rattle.mp_syntax.specs.Begins.{Text}
 use Rattle.mp_syntax.specs.FirstFault.{AreTokensOf, FirstRefused, NoneRefused, EndsEarly, IsFaultAt, IsFirstFault}
 use Rattle.mp_syntax.specs.Reading.{first_bad}
-use Rattle.mp_syntax.proofs.TokensTotal.{tokens-unique}
+use Rattle.mp_parser.proofs.TokensTotal.{tokens-unique}
 use Rattle.mp_syntax.proofs.TokensFault.{Met, met}
 use Rattle.mp_syntax.proofs.FirstFault.{refused-unique, refused-not_none}
 

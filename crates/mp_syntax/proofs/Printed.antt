@@ -3,29 +3,29 @@ use Rattle.std.proofs.Common.{◌≡◌, ◌≢◌, ℕ, ◌+◌, Bool, true, fa
 use Rattle.std.proofs.Common.{subst, ◌∙◌, arith, append_assoc, append-nil, Option, Some, None}
 use Rattle.std.specs.Prelude.{codes}
 use Rattle.std.specs.List.{flat_map, prefix_len}
-use Rattle.mp_syntax.specs.declared.limits.TheConstants.{MAX_OPEN}
-use Rattle.mp_syntax.specs.declared.place.Place.{Place}
-use Rattle.mp_syntax.specs.declared.token.Punct.TheVariants.{Colon}
-use Rattle.mp_syntax.specs.Tokens.{Punctuation, is_sign_byte, after_byte, first_place}
-use Rattle.mp_syntax.specs.Lexing.{lexemes}
-use Rattle.mp_syntax.specs.Syntax.{Spot, Tree, Flag, Assoc, Comm, One, Infixed, Statement, OpOf, KindOf, RuleOf}
-use Rattle.mp_syntax.specs.Syntax.{SubjectOf, Condition, Expected, Said, spelled_word, spelled_sign, fixed_word}
-use Rattle.mp_syntax.specs.Syntax.{colon, semicolon, spell, spell_named, spell_if, spell_plus, spell_flag}
-use Rattle.mp_syntax.specs.Syntax.{spell_statement, spell_file, spell_condition, Fits, FitsCondition, FitsStatement}
-use Rattle.mp_syntax.specs.Syntax.{AreStatements, IsName, HasNames, HaveSigns, AreNames, StatementHasNames}
-use Rattle.mp_syntax.specs.Syntax.{StatementsHaveNames, ConditionHasNames, IsExprOf, IsConditionOf, IsSyntaxOf}
-use Rattle.mp_syntax.specs.Syntax.{Change, EditOf, arrow, spell_template, spell_changes, FitsTemplate}
-use Rattle.mp_syntax.specs.Syntax.{TemplateHasNames}
-use Rattle.mp_syntax.specs.Machine.{Top, BeforeExpr, BeforeLiteral, Alone, ConditionAlone, no_level, run}
+use Rattle.mp_parser.specs.declared.limits.TheConstants.{MAX_OPEN}
+use Rattle.mp_parser.specs.declared.place.Place.{Place}
+use Rattle.mp_parser.specs.declared.token.Punct.TheVariants.{Colon}
+use Rattle.mp_parser.specs.Tokens.{Punctuation, is_sign_byte, after_byte, first_place}
+use Rattle.mp_parser.specs.Lexing.{lexemes}
+use Rattle.mp_parser.specs.Syntax.{Spot, Tree, Flag, Assoc, Comm, One, Infixed, Statement, OpOf, KindOf, RuleOf}
+use Rattle.mp_parser.specs.Syntax.{SubjectOf, Condition, Expected, Said, spelled_word, spelled_sign, fixed_word}
+use Rattle.mp_parser.specs.Syntax.{colon, semicolon, spell, spell_named, spell_if, spell_plus, spell_flag}
+use Rattle.mp_parser.specs.Syntax.{spell_statement, spell_file, spell_condition, Fits, FitsCondition, FitsStatement}
+use Rattle.mp_parser.specs.Syntax.{AreStatements, IsName, HasNames, HaveSigns, AreNames, StatementHasNames}
+use Rattle.mp_parser.specs.Syntax.{StatementsHaveNames, ConditionHasNames, IsExprOf, IsConditionOf, IsSyntaxOf}
+use Rattle.mp_parser.specs.Syntax.{Change, EditOf, arrow, spell_template, spell_changes, FitsTemplate}
+use Rattle.mp_parser.specs.Syntax.{TemplateHasNames}
+use Rattle.mp_parser.specs.Machine.{Top, BeforeExpr, BeforeLiteral, Alone, ConditionAlone, no_level, run}
 use Rattle.mp_syntax.specs.Printed.{template_text, changes_text, unplaced_template, tree_text, plus_text, flag_text}
 use Rattle.mp_syntax.specs.Printed.{member_text, line_end, named_text, if_text, condition_text, statement_text}
 use Rattle.mp_syntax.specs.Printed.{statements_text, unplaced_spot, unplaced_tree, unplaced_condition, unplaced_flag}
 use Rattle.mp_syntax.specs.Printed.{unplaced}
-use Rattle.mp_syntax.proofs.Fuel.{lexemes-step}
-use Rattle.mp_syntax.proofs.TokensLaw.{end_at}
-use Rattle.mp_syntax.proofs.StatementAgain.{file-again, alone-again, alone_condition-again}
+use Rattle.mp_parser.proofs.Fuel.{lexemes-step}
+use Rattle.mp_parser.proofs.TokensLaw.{end_at}
+use Rattle.mp_parser.proofs.StatementAgain.{file-again, alone-again, alone_condition-again}
 use Rattle.mp_syntax.proofs.Whole.{file_is_read, expr_is_read, condition_is_read}
-use Rattle.mp_syntax.proofs.Ends.{is_mark_byte}
+use Rattle.mp_parser.proofs.Ends.{is_mark_byte}
 use Rattle.mp_syntax.proofs.PrintedExpr.{Lexes, lexes-then, lexes-word, lexes-sign, lexes-plus, lexes-punct}
 use Rattle.mp_syntax.proofs.PrintedExpr.{lexes-blank, lexes-arrow, lexes-line_end, lexes-tree, lexes-keyword}
 use Rattle.mp_syntax.proofs.PrintedExpr.{lexes-behind}

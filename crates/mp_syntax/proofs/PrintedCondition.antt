@@ -4,33 +4,33 @@ use Rattle.std.proofs.Common.{refl, sym, ap, subst, ◌∙◌, arith, append_ass
 use Rattle.std.specs.Prelude.{codes}
 use Rattle.std.specs.List.{prefix_len}
 use Rattle.std.specs.Str.{bytes_eq}
-use Rattle.mp_syntax.specs.declared.limits.TheConstants.{MAX_OPEN}
-use Rattle.mp_syntax.specs.declared.place.Place.{Place}
-use Rattle.mp_syntax.specs.declared.token.Punct.TheVariants.{Open, Close, OpenSquare, CloseSquare, Comma}
-use Rattle.mp_syntax.specs.declared.condition_tree.Measure.{Measure}
-use Rattle.mp_syntax.specs.declared.condition_tree.Measure.TheVariants.{Count, Size}
-use Rattle.mp_syntax.specs.declared.condition_tree.Sense.{Sense}
-use Rattle.mp_syntax.specs.declared.condition_tree.Sense.TheVariants.{Lt}
-use Rattle.mp_syntax.specs.declared.condition_tree.Relation.{Relation}
-use Rattle.mp_syntax.specs.declared.condition_tree.Relation.TheVariants.{Same}
-use Rattle.mp_syntax.specs.declared.condition_tree.Property.{Property}
-use Rattle.mp_syntax.specs.declared.condition_tree.Property.TheVariants as properties
-use Rattle.mp_syntax.specs.Tokens.{Sign, Punctuation}
-use Rattle.mp_syntax.specs.Syntax.{Spot, Amount, Number, Measured, Atom, Compare, Relate, Test, Literal, AtomOf}
-use Rattle.mp_syntax.specs.Syntax.{Bracketed, Literals, no_literals, more_literals, Condition, no_alternatives}
-use Rattle.mp_syntax.specs.Syntax.{more_alternatives, Expected, Said, fixed_word, spelled_word, opening, closing}
-use Rattle.mp_syntax.specs.Syntax.{comma, measure_word, sense_sign, relation_word, property_word, spell, spell_amount}
-use Rattle.mp_syntax.specs.Syntax.{spell_atom, spell_not, spell_literal, spell_literals, spell_alternatives}
-use Rattle.mp_syntax.specs.Syntax.{spell_condition, spell_if, FitsAmount, FitsAtom, HasLiteral, HasAlternative}
-use Rattle.mp_syntax.specs.Syntax.{FitsLiteral, LiteralsFit, AlternativesFit, FitsCondition, FitsIf, IsName}
-use Rattle.mp_syntax.specs.Syntax.{IsInfixSign, AmountHasNames, AtomHasNames, LiteralHasNames, LiteralsHaveNames}
-use Rattle.mp_syntax.specs.Syntax.{ConditionHasNames, IfHasNames}
+use Rattle.mp_parser.specs.declared.limits.TheConstants.{MAX_OPEN}
+use Rattle.mp_parser.specs.declared.place.Place.{Place}
+use Rattle.mp_parser.specs.declared.token.Punct.TheVariants.{Open, Close, OpenSquare, CloseSquare, Comma}
+use Rattle.mp_parser.specs.declared.condition_tree.Measure.{Measure}
+use Rattle.mp_parser.specs.declared.condition_tree.Measure.TheVariants.{Count, Size}
+use Rattle.mp_parser.specs.declared.condition_tree.Sense.{Sense}
+use Rattle.mp_parser.specs.declared.condition_tree.Sense.TheVariants.{Lt}
+use Rattle.mp_parser.specs.declared.condition_tree.Relation.{Relation}
+use Rattle.mp_parser.specs.declared.condition_tree.Relation.TheVariants.{Same}
+use Rattle.mp_parser.specs.declared.condition_tree.Property.{Property}
+use Rattle.mp_parser.specs.declared.condition_tree.Property.TheVariants as properties
+use Rattle.mp_parser.specs.Tokens.{Sign, Punctuation}
+use Rattle.mp_parser.specs.Syntax.{Spot, Amount, Number, Measured, Atom, Compare, Relate, Test, Literal, AtomOf}
+use Rattle.mp_parser.specs.Syntax.{Bracketed, Literals, no_literals, more_literals, Condition, no_alternatives}
+use Rattle.mp_parser.specs.Syntax.{more_alternatives, Expected, Said, fixed_word, spelled_word, opening, closing}
+use Rattle.mp_parser.specs.Syntax.{comma, measure_word, sense_sign, relation_word, property_word, spell, spell_amount}
+use Rattle.mp_parser.specs.Syntax.{spell_atom, spell_not, spell_literal, spell_literals, spell_alternatives}
+use Rattle.mp_parser.specs.Syntax.{spell_condition, spell_if, FitsAmount, FitsAtom, HasLiteral, HasAlternative}
+use Rattle.mp_parser.specs.Syntax.{FitsLiteral, LiteralsFit, AlternativesFit, FitsCondition, FitsIf, IsName}
+use Rattle.mp_parser.specs.Syntax.{IsInfixSign, AmountHasNames, AtomHasNames, LiteralHasNames, LiteralsHaveNames}
+use Rattle.mp_parser.specs.Syntax.{ConditionHasNames, IfHasNames}
 use Rattle.mp_syntax.specs.Printed.{tree_text, amount_text, atom_text, not_text, literal_text, literals_text}
 use Rattle.mp_syntax.specs.Printed.{alternatives_text, condition_text, if_text, unplaced_spot, unplaced_amount}
 use Rattle.mp_syntax.specs.Printed.{unplaced_atom, unplaced_literal, unplaced_literals, unplaced_condition}
 use Rattle.mp_syntax.specs.Printed.{unplaced_if}
-use Rattle.mp_syntax.proofs.Ends.{is_mark_byte}
-use Rattle.mp_syntax.proofs.Trees.{atom-literal, literal-atom}
+use Rattle.mp_parser.proofs.Ends.{is_mark_byte}
+use Rattle.mp_parser.proofs.Trees.{atom-literal, literal-atom}
 use Rattle.mp_syntax.proofs.PrintedExpr.{Lexes, lexes-then, lexes-word, lexes-sign, lexes-punct, lexes-blank}
 use Rattle.mp_syntax.proofs.PrintedExpr.{lexes-tree, lexes-keyword, lexes-behind}
 

@@ -3,18 +3,18 @@ use Rattle.std.proofs.Common.{◌≡◌, ◌≢◌, ℕ, zero, suc, List, [], �
 use Rattle.std.proofs.Common.{append_assoc}
 use Rattle.std.specs.Prelude.{codes}
 use Rattle.std.specs.List.{flat_map, prefix_len}
-use Rattle.mp_syntax.specs.declared.place.Place.{Place}
-use Rattle.mp_syntax.specs.declared.token.Punct.TheVariants.{OpenSquare, CloseSquare, Dot}
-use Rattle.mp_syntax.specs.Tokens.{Punctuation}
-use Rattle.mp_syntax.specs.Syntax.{Spot, Trees, Position, Root, Path, Replacement, Single, Listed, Change, Expected}
-use Rattle.mp_syntax.specs.Syntax.{Said, Stands, spelled_word, comma, dot, arrow, spell_first, spell_index}
-use Rattle.mp_syntax.specs.Syntax.{spell_position, spell_replacement, spell_change, spell_changes, AreNumbers}
-use Rattle.mp_syntax.specs.Syntax.{FitsPosition, FitsListed, FitsReplacement, ChangesFit, AreNames, HaveNames}
-use Rattle.mp_syntax.specs.Syntax.{PositionHasNames, ReplacementHasNames, ChangesHaveNames}
+use Rattle.mp_parser.specs.declared.place.Place.{Place}
+use Rattle.mp_parser.specs.declared.token.Punct.TheVariants.{OpenSquare, CloseSquare, Dot}
+use Rattle.mp_parser.specs.Tokens.{Punctuation}
+use Rattle.mp_parser.specs.Syntax.{Spot, Trees, Position, Root, Path, Replacement, Single, Listed, Change, Expected}
+use Rattle.mp_parser.specs.Syntax.{Said, Stands, spelled_word, comma, dot, arrow, spell_first, spell_index}
+use Rattle.mp_parser.specs.Syntax.{spell_position, spell_replacement, spell_change, spell_changes, AreNumbers}
+use Rattle.mp_parser.specs.Syntax.{FitsPosition, FitsListed, FitsReplacement, ChangesFit, AreNames, HaveNames}
+use Rattle.mp_parser.specs.Syntax.{PositionHasNames, ReplacementHasNames, ChangesHaveNames}
 use Rattle.mp_syntax.specs.Printed.{first_text, index_text, position_text, replacement_text, change_text}
 use Rattle.mp_syntax.specs.Printed.{changes_text, unplaced_spot, unplaced_position, unplaced_replacement}
 use Rattle.mp_syntax.specs.Printed.{unplaced_change}
-use Rattle.mp_syntax.proofs.Ends.{is_mark_byte}
+use Rattle.mp_parser.proofs.Ends.{is_mark_byte}
 use Rattle.mp_syntax.proofs.PrintedExpr.{Lexes, lexes-then, lexes-word, lexes-punct, lexes-arrow, lexes-tree}
 use Rattle.mp_syntax.proofs.PrintedExpr.{lexes-first, separates-comma}
 use Rattle.mp_syntax.proofs.PrintedCondition.{LexesAs, Leads}

@@ -4,29 +4,29 @@ use Rattle.std.proofs.Common.{ap, subst, ◌∙◌, arith, append_assoc, append-
 use Rattle.std.specs.Prelude.{codes}
 use Rattle.std.specs.List.{flat_map, prefix_len, list_all}
 use Rattle.std.proofs.lemmas.List.{drop_at}
-use Rattle.mp_syntax.specs.declared.place.Place.{Place}
-use Rattle.mp_syntax.specs.declared.token.Punct.{Punct}
-use Rattle.mp_syntax.specs.declared.token.Punct.TheVariants.{Open, Close, Comma, Colon, Semicolon, Dollar, OpenBrace}
-use Rattle.mp_syntax.specs.declared.token.Punct.TheVariants.{CloseBrace, Dot, OpenSquare, CloseSquare}
-use Rattle.mp_syntax.specs.Tokens as tokens
-use Rattle.mp_syntax.specs.Tokens.{Token, Word, Sign, Punctuation, Placed, byte_of, is_sign_byte, AreWordBytes}
-use Rattle.mp_syntax.specs.Tokens.{IsShort, Spells, IsWildcard, after_byte, first_place, Arrow}
-use Rattle.mp_syntax.specs.Lexing.{kind_at, token_at, after_blanks, lexemes}
-use Rattle.mp_syntax.specs.Syntax.{Spot, Wildcard, Tree, Symbol, Apply, InfixOf, Wild, Optional, Variable, Trees}
-use Rattle.mp_syntax.specs.Syntax.{no_trees, more_trees, Expected, Said, Stands, Matches, AllMatch, spelled_word}
-use Rattle.mp_syntax.specs.Syntax.{spelled_wildcard, spelled_sign, another, fixed_word, comma, colon}
-use Rattle.mp_syntax.specs.Syntax.{semicolon, spell_with_colon, spell, spell_first, spell_others, spell_operands}
-use Rattle.mp_syntax.specs.Syntax.{AreSeveral, AreDots, HasNoDefault, Fits, AreFit, IsName, IsInfixSign, HasParts}
-use Rattle.mp_syntax.specs.Syntax.{HaveParts, HasNames, HaveNames, Counted, spell_count, spell_plus, arrow}
+use Rattle.mp_parser.specs.declared.place.Place.{Place}
+use Rattle.mp_parser.specs.declared.token.Punct.{Punct}
+use Rattle.mp_parser.specs.declared.token.Punct.TheVariants.{Open, Close, Comma, Colon, Semicolon, Dollar, OpenBrace}
+use Rattle.mp_parser.specs.declared.token.Punct.TheVariants.{CloseBrace, Dot, OpenSquare, CloseSquare}
+use Rattle.mp_parser.specs.Tokens as tokens
+use Rattle.mp_parser.specs.Tokens.{Token, Word, Sign, Punctuation, Placed, byte_of, is_sign_byte, AreWordBytes}
+use Rattle.mp_parser.specs.Tokens.{IsShort, Spells, IsWildcard, after_byte, first_place, Arrow}
+use Rattle.mp_parser.specs.Lexing.{kind_at, token_at, after_blanks, lexemes}
+use Rattle.mp_parser.specs.Syntax.{Spot, Wildcard, Tree, Symbol, Apply, InfixOf, Wild, Optional, Variable, Trees}
+use Rattle.mp_parser.specs.Syntax.{no_trees, more_trees, Expected, Said, Stands, Matches, AllMatch, spelled_word}
+use Rattle.mp_parser.specs.Syntax.{spelled_wildcard, spelled_sign, another, fixed_word, comma, colon}
+use Rattle.mp_parser.specs.Syntax.{semicolon, spell_with_colon, spell, spell_first, spell_others, spell_operands}
+use Rattle.mp_parser.specs.Syntax.{AreSeveral, AreDots, HasNoDefault, Fits, AreFit, IsName, IsInfixSign, HasParts}
+use Rattle.mp_parser.specs.Syntax.{HaveParts, HasNames, HaveNames, Counted, spell_count, spell_plus, arrow}
 use Rattle.mp_syntax.specs.Printed.{wildcard_text, text_with_colon, tree_text, first_text, others_text, line_end}
 use Rattle.mp_syntax.specs.Printed.{unplaced_spot, unplaced_wildcard, unplaced_tree, unplaced_trees, count_text}
 use Rattle.mp_syntax.specs.Printed.{plus_text}
-use Rattle.mp_syntax.proofs.Trees.{wild-fits, variable-fits, fits-optional, optional-fits, counted-fits, fits-counted}
-use Rattle.mp_syntax.proofs.Spelling.{spells-some, spells-token}
-use Rattle.mp_syntax.proofs.Fuel.{lexemes-step, lexemes-next}
-use Rattle.mp_syntax.proofs.TokensLaw.{starts-stay, plain-starts, spells-plain, behind-token}
-use Rattle.mp_syntax.proofs.Ends.{is_mark_byte, marks-wildcard, longest-marks, longest-signs, kind_at-ends}
-use Rattle.mp_syntax.proofs.Ends.{kind_at-punct, marks-word}
+use Rattle.mp_parser.proofs.Trees.{wild-fits, variable-fits, fits-optional, optional-fits, counted-fits, fits-counted}
+use Rattle.mp_parser.proofs.Spelling.{spells-some, spells-token}
+use Rattle.mp_parser.proofs.Fuel.{lexemes-step, lexemes-next}
+use Rattle.mp_parser.proofs.TokensLaw.{starts-stay, plain-starts, spells-plain, behind-token}
+use Rattle.mp_parser.proofs.Ends.{is_mark_byte, marks-wildcard, longest-marks, longest-signs, kind_at-ends}
+use Rattle.mp_parser.proofs.Ends.{kind_at-punct, marks-word}
 use Rattle.std.specs.Char.{is_ascii_digit}
 
 -- ---- the tokens at the front

@@ -2,36 +2,36 @@
 use Rattle.std.proofs.Common.{inl, inr, ◌≡◌, ℕ, zero, suc, ◌+◌, ◌-◌, ◌<◌, ◌≤◌, List, [], ◌∷◌, ◌++◌, Some, None}
 use Rattle.std.proofs.Common.{Result, Err, refl, sym, ap, subst, ◌∙◌, arith, append_assoc, append-nil}
 use Rattle.std.specs.Prelude.{◌⊎◌, ◌≢◌}
-use Rattle.mp_syntax.specs.declared.limits.TheConstants.{MAX_OPEN}
-use Rattle.mp_syntax.specs.declared.place.Place.{Place}
-use Rattle.mp_syntax.specs.declared.fault.Fault.{Fault}
-use Rattle.mp_syntax.specs.declared.fault.FaultKind.{FaultKind}
-use Rattle.mp_syntax.specs.declared.fault.FaultKind.TheVariants.{Syntax, TooDeep, BadByte, TooMany}
-use Rattle.mp_syntax.specs.declared.token.Punct.TheVariants.{Open, OpenSquare}
-use Rattle.mp_syntax.specs.Tokens.{Token, Punctuation, Long, Bad, End, Placed}
+use Rattle.mp_parser.specs.declared.limits.TheConstants.{MAX_OPEN}
+use Rattle.mp_parser.specs.declared.place.Place.{Place}
+use Rattle.mp_parser.specs.declared.fault.Fault.{Fault}
+use Rattle.mp_parser.specs.declared.fault.FaultKind.{FaultKind}
+use Rattle.mp_parser.specs.declared.fault.FaultKind.TheVariants.{Syntax, TooDeep, BadByte, TooMany}
+use Rattle.mp_parser.specs.declared.token.Punct.TheVariants.{Open, OpenSquare}
+use Rattle.mp_parser.specs.Tokens.{Token, Punctuation, Long, Bad, End, Placed}
 use Rattle.mp_syntax.specs.Begins.{Text, OfFile, OfExpr, OfCondition, IsSpelling, MatchFront, Begins, IsWhole}
 use Rattle.mp_syntax.specs.FirstFault.{Opens, open_behind, open_after, Refuses, NoneRefused, FirstRefused}
-use Rattle.mp_syntax.specs.Syntax.{Tree, Condition, Statement, Expected, Said, Stands, Matches, AllMatch, spell_file}
-use Rattle.mp_syntax.specs.Syntax.{FitsAtom, Test, Symbol, Wild, condition, Root, Path}
-use Rattle.mp_syntax.specs.Machine.{Listing, InTemplate, InChange, AfterBrace, AfterCount, BeforeBrace, AfterEdit}
-use Rattle.mp_syntax.specs.Machine.{AfterSubject, BeforeChange, AfterPosition, BeforeIndex, AfterArrow, AfterSquare}
-use Rattle.mp_syntax.specs.Machine.{AfterChange, step_listed, Frame, Arguments, Bracket, Operands, Default, Operand}
-use Rattle.mp_syntax.specs.Machine.{Second, Square, open_count, Alone, ConditionAlone, Within, State, Top, AfterOp}
-use Rattle.mp_syntax.specs.Machine.{AfterOpName, AfterLeast, AfterFlags, AfterInfix, AfterKind, AfterKindName}
-use Rattle.mp_syntax.specs.Machine.{BeforeMember, AfterMember, AfterRole, AfterName, BeforeExpr, AfterWord, AfterOpen}
-use Rattle.mp_syntax.specs.Machine.{AfterWildcard, AfterExpr, AfterDollar, BeforeLiteral, BeforeBody, BeforeOperand}
-use Rattle.mp_syntax.specs.Machine.{BeforeName, BehindName, AfterAmount, AfterSense, AfterLiteral, SingleExpr}
-use Rattle.mp_syntax.specs.Machine.{SingleCondition, Step, Go, Emit, Refuse, Finish, Ends, Parsed, parsed, Role}
-use Rattle.mp_syntax.specs.Machine.{OfRule, OfSubject, OfMeasure, OfRelation, OfProperty, InStatement, InCondition}
-use Rattle.mp_syntax.specs.Machine.{with_default, all_alternatives, step_role, step_behind, step_whole, step_in}
-use Rattle.mp_syntax.specs.Machine.{after_step, run_in}
-use Rattle.mp_syntax.specs.Partial.{so_far}
+use Rattle.mp_parser.specs.Syntax.{Tree, Condition, Statement, Expected, Said, Stands, Matches, AllMatch, spell_file}
+use Rattle.mp_parser.specs.Syntax.{FitsAtom, Test, Symbol, Wild, condition, Root, Path}
+use Rattle.mp_parser.specs.Machine.{Listing, InTemplate, InChange, AfterBrace, AfterCount, BeforeBrace, AfterEdit}
+use Rattle.mp_parser.specs.Machine.{AfterSubject, BeforeChange, AfterPosition, BeforeIndex, AfterArrow, AfterSquare}
+use Rattle.mp_parser.specs.Machine.{AfterChange, step_listed, Frame, Arguments, Bracket, Operands, Default, Operand}
+use Rattle.mp_parser.specs.Machine.{Second, Square, open_count, Alone, ConditionAlone, Within, State, Top, AfterOp}
+use Rattle.mp_parser.specs.Machine.{AfterOpName, AfterLeast, AfterFlags, AfterInfix, AfterKind, AfterKindName}
+use Rattle.mp_parser.specs.Machine.{BeforeMember, AfterMember, AfterRole, AfterName, BeforeExpr, AfterWord, AfterOpen}
+use Rattle.mp_parser.specs.Machine.{AfterWildcard, AfterExpr, AfterDollar, BeforeLiteral, BeforeBody, BeforeOperand}
+use Rattle.mp_parser.specs.Machine.{BeforeName, BehindName, AfterAmount, AfterSense, AfterLiteral, SingleExpr}
+use Rattle.mp_parser.specs.Machine.{SingleCondition, Step, Go, Emit, Refuse, Finish, Ends, Parsed, parsed, Role}
+use Rattle.mp_parser.specs.Machine.{OfRule, OfSubject, OfMeasure, OfRelation, OfProperty, InStatement, InCondition}
+use Rattle.mp_parser.specs.Machine.{with_default, all_alternatives, step_role, step_behind, step_whole, step_in}
+use Rattle.mp_parser.specs.Machine.{after_step, run_in}
+use Rattle.mp_parser.specs.Partial.{so_far}
 use Rattle.mp_syntax.specs.Reading.{start}
-use Rattle.mp_syntax.proofs.Found.{read_ok, run-found, spell_parsed, spell_alone}
-use Rattle.mp_syntax.proofs.Fit.{FitsAlone, StateFits, StepFits, FramesFit, ParsedFits, step-fits, run-fits}
-use Rattle.mp_syntax.proofs.StatementAgain.{file-again, alone-again, alone_condition-again}
-use Rattle.mp_syntax.proofs.TokensLaw.{head-is, tail-is}
-use Rattle.mp_syntax.proofs.Adds.{IsGood, AreGood}
+use Rattle.mp_parser.proofs.Found.{read_ok, run-found, spell_parsed, spell_alone}
+use Rattle.mp_parser.proofs.Fit.{FitsAlone, StateFits, StepFits, FramesFit, ParsedFits, step-fits, run-fits}
+use Rattle.mp_parser.proofs.StatementAgain.{file-again, alone-again, alone_condition-again}
+use Rattle.mp_parser.proofs.TokensLaw.{head-is, tail-is}
+use Rattle.mp_parser.proofs.Adds.{IsGood, AreGood}
 use Rattle.mp_syntax.proofs.Holds.{Holds, StepHolds, IsFile, step-holds}
 use Rattle.mp_syntax.proofs.GoesOn.{count, here, IsBefore, IsParsed, goes_on}
 use Rattle.mp_syntax.proofs.Counts.{Counts, step-counts}

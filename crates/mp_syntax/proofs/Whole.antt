@@ -2,40 +2,40 @@
 use Rattle.std.proofs.Common.{◌≡◌, ℕ, List, [], ◌∷◌, ◌++◌, Option, Some, None, Result, Ok, Err, append-nil, refl, sym}
 use Rattle.std.proofs.Common.{ap, subst, ◌∙◌, inl, inr}
 use Rattle.std.specs.Prelude.{◌↔◌, ◌⊎◌, IfOk, IfErr}
-use Rattle.mp_syntax.specs.declared.limits.TheConstants.{MAX_OPEN}
-use Rattle.mp_syntax.specs.declared.place.Place.{Place}
-use Rattle.mp_syntax.specs.declared.fault.Fault.{Fault}
-use Rattle.mp_syntax.specs.declared.fault.SyntaxError.{SyntaxError}
-use Rattle.mp_syntax.specs.declared.fault.SyntaxError.TheVariants as errors
-use Rattle.mp_syntax.specs.Tokens.{End, Placed, Tokens, first_place}
-use Rattle.mp_syntax.specs.Lexing.{lexemes, token_at, behind}
-use Rattle.mp_syntax.specs.Syntax.{Tree, Condition, Statement, Expected, AllMatch, spell, spell_condition, spell_file}
-use Rattle.mp_syntax.specs.Syntax.{IsExprOf, IsConditionOf, IsSyntaxOf, HasNames, ConditionHasNames}
-use Rattle.mp_syntax.specs.Syntax.{StatementsHaveNames}
-use Rattle.mp_syntax.specs.Machine.{State, Top, BeforeExpr, BeforeLiteral, Alone, ConditionAlone, no_level, Single}
-use Rattle.mp_syntax.specs.Machine.{SingleExpr, SingleCondition, Parsed, parsed, run}
-use Rattle.mp_syntax.specs.Partial.{so_far}
-use Rattle.mp_syntax.specs.Parsing.{Gives}
+use Rattle.mp_parser.specs.declared.limits.TheConstants.{MAX_OPEN}
+use Rattle.mp_parser.specs.declared.place.Place.{Place}
+use Rattle.mp_parser.specs.declared.fault.Fault.{Fault}
+use Rattle.mp_parser.specs.declared.fault.SyntaxError.{SyntaxError}
+use Rattle.mp_parser.specs.declared.fault.SyntaxError.TheVariants as errors
+use Rattle.mp_parser.specs.Tokens.{End, Placed, Tokens, first_place}
+use Rattle.mp_parser.specs.Lexing.{lexemes, token_at, behind}
+use Rattle.mp_parser.specs.Syntax.{Tree, Condition, Statement, Expected, AllMatch, spell, spell_condition, spell_file}
+use Rattle.mp_parser.specs.Syntax.{IsExprOf, IsConditionOf, IsSyntaxOf, HasNames, ConditionHasNames}
+use Rattle.mp_parser.specs.Syntax.{StatementsHaveNames}
+use Rattle.mp_parser.specs.Machine.{State, Top, BeforeExpr, BeforeLiteral, Alone, ConditionAlone, no_level, Single}
+use Rattle.mp_parser.specs.Machine.{SingleExpr, SingleCondition, Parsed, parsed, run}
+use Rattle.mp_parser.specs.Partial.{so_far}
+use Rattle.mp_syntax.specs.StatementParsing.{Gives}
 use Rattle.mp_syntax.specs.Begins.{Text, OfFile, OfExpr, OfCondition, IsWhole}
 use Rattle.mp_syntax.specs.FirstFault.{IsFirstFault}
 use Rattle.mp_syntax.specs.Reading.{start, first_bad, checked, text_reading, Pick, statements_alone, expr_alone}
 use Rattle.mp_syntax.specs.Reading.{condition_alone, or_no_fault, read_by, reading, expr_reading, condition_reading}
 use Rattle.mp_syntax.specs.Reading.{read_value, syntax_of, IfFault, IsAnswerOrMemory}
-use Rattle.mp_syntax.proofs.ListLaws.{some-is}
-use Rattle.mp_syntax.proofs.Longest.{IsToken}
-use Rattle.mp_syntax.proofs.Fuel.{lexemes-step}
-use Rattle.mp_syntax.proofs.TokensLaw.{AreTokens, behind-token, end_at, head-is, tail-is, tokens-lexemes}
-use Rattle.mp_syntax.proofs.TokensLaw.{lexemes-tokens}
-use Rattle.mp_syntax.proofs.Found.{spell_parsed, run-found, read_ok, ok-is}
-use Rattle.mp_syntax.proofs.Fit.{run-fits}
+use Rattle.mp_parser.proofs.ListLaws.{some-is}
+use Rattle.mp_parser.proofs.Longest.{IsToken}
+use Rattle.mp_parser.proofs.Fuel.{lexemes-step}
+use Rattle.mp_parser.proofs.TokensLaw.{AreTokens, behind-token, end_at, head-is, tail-is, tokens-lexemes}
+use Rattle.mp_parser.proofs.TokensLaw.{lexemes-tokens}
+use Rattle.mp_parser.proofs.Found.{spell_parsed, run-found, read_ok, ok-is}
+use Rattle.mp_parser.proofs.Fit.{run-fits}
 use Rattle.mp_syntax.proofs.GoesOn.{IsParsed}
 use Rattle.mp_syntax.proofs.Refused.{start-holds, start-first}
 use Rattle.mp_syntax.proofs.TokensFault.{good-first}
 use Rattle.mp_syntax.proofs.InOrder.{text_reading-first}
 use Rattle.mp_syntax.proofs.OneFault.{one-fault}
 use Rattle.mp_syntax.proofs.NoFault.{good-are, whole-are, whole-no_fault, run-parsed}
-use Rattle.mp_syntax.proofs.StatementAgain.{file-again, alone-again, alone_condition-again}
-use Rattle.mp_syntax.proofs.Names.{tokens-texts, match-texts, tree-names, condition-names, file-names}
+use Rattle.mp_parser.proofs.StatementAgain.{file-again, alone-again, alone_condition-again}
+use Rattle.mp_parser.proofs.Names.{tokens-texts, match-texts, tree-names, condition-names, file-names}
 
 -- ---- where the end stands
 

@@ -1,9 +1,9 @@
 -- The sorts of texts, and the beginnings of a text: tokens behind which one goes on.
 use Rattle.std.specs.Prelude.{◌≡◌, ℕ, List, [], ◌∷◌, ◌++◌}
-use Rattle.mp_syntax.specs.declared.limits.TheConstants.{MAX_OPEN}
-use Rattle.mp_syntax.specs.Tokens.{Placed}
-use Rattle.mp_syntax.specs.Syntax.{Tree, Condition, Statement, Expected, Matches, AllMatch, spell, spell_condition}
-use Rattle.mp_syntax.specs.Syntax.{spell_file, Fits, FitsCondition, AreStatements}
+use Rattle.mp_parser.specs.declared.limits.TheConstants.{MAX_OPEN}
+use Rattle.mp_parser.specs.Tokens.{Placed}
+use Rattle.mp_parser.specs.Syntax.{Tree, Condition, Statement, Expected, Matches, AllMatch, spell, spell_condition}
+use Rattle.mp_parser.specs.Syntax.{spell_file, Fits, FitsCondition, AreStatements}
 
 -- the sorts of texts: files, expressions and conditions
 pub data Text : Type 0 where

@@ -1,12 +1,12 @@
 -- The first fault of bytes: first of their tokens, then the first token behind which no text of the sort goes on.
 use Rattle.std.specs.Prelude.{zero, ◌≡◌, ◌≢◌, ◌⊎◌, ℕ, suc, List, [], ◌∷◌, ◌++◌}
-use Rattle.mp_syntax.specs.declared.limits.TheConstants.{MAX_OPEN}
-use Rattle.mp_syntax.specs.declared.place.Place.{Place}
-use Rattle.mp_syntax.specs.declared.fault.FaultKind.{FaultKind}
-use Rattle.mp_syntax.specs.declared.fault.FaultKind.TheVariants.{Syntax, TooDeep, BadByte, TooMany}
-use Rattle.mp_syntax.specs.declared.fault.Fault.{Fault}
-use Rattle.mp_syntax.specs.declared.token.Punct.TheVariants.{Open, Close, OpenSquare, CloseSquare}
-use Rattle.mp_syntax.specs.Tokens.{Token, Punctuation, Long, Placed, Tokens, TokensUntil, first_place, place_after}
+use Rattle.mp_parser.specs.declared.limits.TheConstants.{MAX_OPEN}
+use Rattle.mp_parser.specs.declared.place.Place.{Place}
+use Rattle.mp_parser.specs.declared.fault.FaultKind.{FaultKind}
+use Rattle.mp_parser.specs.declared.fault.FaultKind.TheVariants.{Syntax, TooDeep, BadByte, TooMany}
+use Rattle.mp_parser.specs.declared.fault.Fault.{Fault}
+use Rattle.mp_parser.specs.declared.token.Punct.TheVariants.{Open, Close, OpenSquare, CloseSquare}
+use Rattle.mp_parser.specs.Tokens.{Token, Punctuation, Long, Placed, Tokens, TokensUntil, first_place, place_after}
 use Rattle.mp_syntax.specs.Begins.{Text, Begins, IsWhole}
 
 -- ---- open brackets

@@ -1,12 +1,5 @@
-pub mod Tokens
-pub mod Syntax
 pub mod Begins
 pub mod FirstFault
 pub mod Printed
-pub mod View
-pub mod Lexing
-pub mod Machine
-pub mod Partial
 pub mod Reading
-pub mod Parsing
-pub mod ConditionParsing
+pub mod StatementParsing

@@ -1,16 +1,16 @@
 -- The text that statements are printed as, and statements apart from where they stand.
 use Rattle.std.specs.Prelude.{ℕ, Bool, true, false, List, [], ◌∷◌, ◌++◌, Option, Some, None, map, codes}
 use Rattle.std.specs.List.{flat_map}
-use Rattle.mp_syntax.specs.declared.token.Punct.{Punct}
-use Rattle.mp_syntax.specs.declared.token.Punct.TheVariants.{Close, CloseSquare}
-use Rattle.mp_syntax.specs.Tokens.{first_place, underscores, byte_of}
-use Rattle.mp_syntax.specs.Syntax.{Spot, Wildcard, Tree, Symbol, Apply, InfixOf, Wild, Counted, Optional, Variable}
-use Rattle.mp_syntax.specs.Syntax.{Trees, no_trees, more_trees, Flag, Assoc, Comm, One, Infixed, Amount, Number}
-use Rattle.mp_syntax.specs.Syntax.{Measured, Atom, Compare, Relate, Test, Literal, AtomOf, Bracketed, Literals}
-use Rattle.mp_syntax.specs.Syntax.{no_literals, more_literals, Condition, no_alternatives, more_alternatives}
-use Rattle.mp_syntax.specs.Syntax.{measure_word, sense_sign, relation_word, property_word, Position, Root, Path}
-use Rattle.mp_syntax.specs.Syntax.{Replacement, Single, Listed, Change, Statement, OpOf, KindOf, RuleOf, SubjectOf}
-use Rattle.mp_syntax.specs.Syntax.{EditOf}
+use Rattle.mp_parser.specs.declared.token.Punct.{Punct}
+use Rattle.mp_parser.specs.declared.token.Punct.TheVariants.{Close, CloseSquare}
+use Rattle.mp_parser.specs.Tokens.{first_place, underscores, byte_of}
+use Rattle.mp_parser.specs.Syntax.{Spot, Wildcard, Tree, Symbol, Apply, InfixOf, Wild, Counted, Optional, Variable}
+use Rattle.mp_parser.specs.Syntax.{Trees, no_trees, more_trees, Flag, Assoc, Comm, One, Infixed, Amount, Number}
+use Rattle.mp_parser.specs.Syntax.{Measured, Atom, Compare, Relate, Test, Literal, AtomOf, Bracketed, Literals}
+use Rattle.mp_parser.specs.Syntax.{no_literals, more_literals, Condition, no_alternatives, more_alternatives}
+use Rattle.mp_parser.specs.Syntax.{measure_word, sense_sign, relation_word, property_word, Position, Root, Path}
+use Rattle.mp_parser.specs.Syntax.{Replacement, Single, Listed, Change, Statement, OpOf, KindOf, RuleOf, SubjectOf}
+use Rattle.mp_parser.specs.Syntax.{EditOf}
 
 -- ---- text
 

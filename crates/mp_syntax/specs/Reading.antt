@@ -1,21 +1,21 @@
 -- The reading of a whole file, and of an expression or a condition alone, as functions.
 use Rattle.std.specs.Prelude.{List, [], ◌∷◌, ℕ, map, Option, Some, None, Result, Ok, Err}
 use Rattle.std.specs.Global.{Vec}
-use Rattle.mp_syntax.specs.declared.place.Place.{Place}
-use Rattle.mp_syntax.specs.declared.fault.Fault.{Fault}
-use Rattle.mp_syntax.specs.declared.fault.FaultKind.TheVariants.{BadByte, TooMany}
-use Rattle.mp_syntax.specs.declared.fault.SyntaxError.{SyntaxError}
-use Rattle.mp_syntax.specs.declared.fault.SyntaxError.TheVariants as errors
-use Rattle.mp_syntax.specs.declared.tree.Expr.{Expr}
-use Rattle.mp_syntax.specs.declared.tree.Statement as code
-use Rattle.mp_syntax.specs.declared.condition_tree.Condition as code_condition
-use Rattle.mp_syntax.specs.Tokens.{Token, Long, Bad, Placed, first_place}
-use Rattle.mp_syntax.specs.Lexing.{lexemes}
-use Rattle.mp_syntax.specs.Syntax.{Tree, Condition, Statement}
+use Rattle.mp_parser.specs.declared.place.Place.{Place}
+use Rattle.mp_parser.specs.declared.fault.Fault.{Fault}
+use Rattle.mp_parser.specs.declared.fault.FaultKind.TheVariants.{BadByte, TooMany}
+use Rattle.mp_parser.specs.declared.fault.SyntaxError.{SyntaxError}
+use Rattle.mp_parser.specs.declared.fault.SyntaxError.TheVariants as errors
+use Rattle.mp_parser.specs.declared.tree.Expr.{Expr}
+use Rattle.mp_parser.specs.declared.tree.Statement as code
+use Rattle.mp_parser.specs.declared.condition_tree.Condition as code_condition
+use Rattle.mp_parser.specs.Tokens.{Token, Long, Bad, Placed, first_place}
+use Rattle.mp_parser.specs.Lexing.{lexemes}
+use Rattle.mp_parser.specs.Syntax.{Tree, Condition, Statement}
 use Rattle.mp_syntax.specs.Begins.{Text, OfFile, OfExpr, OfCondition}
-use Rattle.mp_syntax.specs.View.{expr_tree, condition_tree, statement_tree}
-use Rattle.mp_syntax.specs.Machine.{State, Top, BeforeExpr, BeforeLiteral, Alone, ConditionAlone, no_level, Single}
-use Rattle.mp_syntax.specs.Machine.{SingleExpr, SingleCondition, Parsed, no_fault, run}
+use Rattle.mp_parser.specs.View.{expr_tree, condition_tree, statement_tree}
+use Rattle.mp_parser.specs.Machine.{State, Top, BeforeExpr, BeforeLiteral, Alone, ConditionAlone, no_level, Single}
+use Rattle.mp_parser.specs.Machine.{SingleExpr, SingleCondition, Parsed, no_fault, run}
 
 -- the state before a text of this sort
 abbrev pub start : Text → State

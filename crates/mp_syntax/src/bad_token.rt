@@ -1,13 +1,13 @@
 //! Finds the first bad token of a text, before the grammar is asked.
 
 ghost use Rattle.std.specs.Prelude.{◌≡◌, ◌<◌, ◌-◌, ◌^◌, None, length};
-ghost use Rattle.mp_syntax.specs.Tokens.{first_place};
-ghost use Rattle.mp_syntax.specs.Lexing.{token_of, lexemes};
+ghost use Rattle.mp_parser.specs.Tokens.{first_place};
+ghost use Rattle.mp_parser.specs.Lexing.{token_of, lexemes};
 ghost use Rattle.mp_syntax.specs.Reading.{bad_or, first_bad};
 
-use crate::fault::{Fault, FaultKind};
-use crate::parser::Parser;
-use crate::token::{Kind, Token};
+use mp_parser::fault::{Fault, FaultKind};
+use mp_parser::parser::Parser;
+use mp_parser::token::{Kind, Token};
 
 /// The fault of the first byte of a text that begins no token, or of its first word that is too long, whichever comes
 /// first.

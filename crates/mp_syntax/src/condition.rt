@@ -1,32 +1,27 @@
-//! Reads conditions: alternatives, their literals, and square brackets.
+//! Reads conditions alone.
 
-ghost use Rattle.std.specs.Prelude.{◌≡◌, ◌<◌, ◌≤◌, ◌-◌, ◌^◌, ◌↔◌, ℕ, List, Some, Err, true, length, OnOk, IfOk, IfErr};
-ghost use Rattle.mp_syntax.specs.Lexing.{token_of};
-ghost use Rattle.mp_syntax.specs.Machine.{is_punct};
-ghost use Rattle.mp_syntax.specs.View.{condition_tree};
-ghost use Rattle.mp_syntax.specs.Syntax as syntax;
-ghost use Rattle.mp_syntax.specs.declared.limits.TheConstants as limits;
-ghost use Rattle.mp_syntax.specs.Syntax.{IsConditionOf, FitsCondition, ConditionHasNames};
+ghost use Rattle.std.specs.Prelude.{◌≡◌, ◌<◌, ◌-◌, ◌^◌, ℕ, List, length, IfOk, IfErr};
+ghost use Rattle.mp_parser.specs.View.{condition_tree};
+ghost use Rattle.mp_parser.specs.Syntax as syntax;
+ghost use Rattle.mp_parser.specs.declared.limits.TheConstants as limits;
+ghost use Rattle.mp_parser.specs.Syntax.{IsConditionOf, FitsCondition, ConditionHasNames};
 ghost use Rattle.mp_syntax.specs.Printed.{condition_text, unplaced_condition};
 ghost use Rattle.mp_syntax.specs.Begins.{OfCondition};
 ghost use Rattle.mp_syntax.specs.FirstFault.{IsFirstFault};
 ghost use Rattle.mp_syntax.specs.Reading.{text_reading, IfFault, IsConditionOrMemory};
-ghost use Rattle.mp_syntax.specs.Parsing.{ahead};
-ghost use Rattle.mp_syntax.specs.ConditionParsing.{ConditionAloneGives, ConditionGives, AlternativeGives, LiteralGives};
-ghost use Rattle.mp_syntax.specs.ConditionParsing.{NegationGives, BracketedGives, EndsCondition, EndsAlternative};
+ghost use Rattle.mp_syntax.specs.StatementParsing.{ConditionAloneGives};
 
 use crate::bad_token::bad_token;
-use crate::condition_tree::{Alternative, Condition, Literal};
-use crate::fault::{FaultKind, SyntaxError};
-use crate::limits::MAX_OPEN;
-use crate::parser::Parser;
-use crate::token::Punct;
+use mp_parser::condition_tree::Condition;
+use mp_parser::fault::SyntaxError;
+use mp_parser::limits::MAX_OPEN;
+use mp_parser::parser::Parser;
 use std::alloc::Global;
 
 /// The condition that a text is, as a syntax tree whose words lie in the text's bytes.
 ///
 /// The text has fewer than 4,294,967,295 bytes, so that each line and column is a `u32`. Which
-/// condition bytes are is `IsConditionOf` of `specs/Syntax.antt`: at most one.
+/// condition bytes are is `IsConditionOf` of mp_parser's `specs/Syntax.antt`: at most one.
 ///
 /// - `SyntaxError::Memory` comes where memory runs out.
 /// - `SyntaxError::Fault` comes exactly where the bytes are no condition, with their first fault, by
@@ -80,85 +75,4 @@ fn alone<'a>(alloc: Global, bytes: &'a [u8]) -> Result<Condition<'a>, SyntaxErro
         return Err(parser.refused());
     }
     Ok(condition)
-}
-
-impl<'a> Parser<'a> {
-    /// Reads a condition, in which at most `room` brackets stand open at once.
-    #[cycle(condition)]
-    pub fn condition(&mut self, alloc: Global, room: usize) -> Result<Condition<'a>, SyntaxError>
-        ensures read { ConditionGives room result (ahead self.old) (ahead self.new) }
-        ensures ends { OnOk result (EndsCondition (token_of self.new.token.kind)) }
-        ensures shorter { OnOk result (length (ahead self.new) < length (ahead self.old)) }
-    {
-        let mut alternatives = Vec::new(alloc);
-        loop {
-            alternatives.push(self.alternative(alloc, room)?)?;
-            if !self.sees_word(b"or") {
-                break;
-            }
-            self.advance();
-        }
-        Ok(Condition { alternatives })
-    }
-
-    // Reads literals with `and` between each two, in which at most `room` brackets stand open at once.
-    #[cycle(condition)]
-    fn alternative(&mut self, alloc: Global, room: usize) -> Result<Alternative<'a>, SyntaxError>
-        ensures read { AlternativeGives room result (ahead self.old) (ahead self.new) }
-        ensures ends { OnOk result (EndsAlternative (token_of self.new.token.kind)) }
-        ensures shorter { OnOk result (length (ahead self.new) < length (ahead self.old)) }
-    {
-        let mut literals = Vec::new(alloc);
-        loop {
-            literals.push(self.literal(alloc, room)?)?;
-            if !self.sees_word(b"and") {
-                break;
-            }
-            self.advance();
-        }
-        Ok(Alternative { literals })
-    }
-
-    // Reads a literal, in which at most `room` brackets stand open at once.
-    #[cycle(condition)]
-    fn literal(&mut self, alloc: Global, room: usize) -> Result<Literal<'a>, SyntaxError>
-        ensures read { LiteralGives room result (ahead self.old) (ahead self.new) }
-        ensures shorter { OnOk result (length (ahead self.new) < length (ahead self.old)) }
-    {
-        let negated = self.negation();
-        if self.sees(Punct::OpenSquare) {
-            let condition = self.bracketed(alloc, room)?;
-            return Ok(Literal::Bracketed { negated, condition });
-        }
-        let atom = self.atom(alloc, room)?;
-        Ok(Literal::Atom { negated, atom })
-    }
-
-    // Passes the word `not` where it is held, and says whether it was.
-    fn negation(&mut self) -> bool
-        ensures read { NegationGives result (ahead self.old) (ahead self.new) }
-        ensures shorter { length (ahead self.new) ≤ length (ahead self.old) }
-    {
-        let negated = self.sees_word(b"not");
-        if negated {
-            self.advance();
-        }
-        negated
-    }
-
-    // Reads a condition in square brackets, of which the opening one is held.
-    #[cycle(condition)]
-    fn bracketed(&mut self, alloc: Global, room: usize) -> Result<Condition<'a>, SyntaxError>
-        requires { is_punct Punct.OpenSquare (token_of self.old.token.kind) ≡ true }
-        ensures read { BracketedGives room result (ahead self.old) (ahead self.new) }
-        ensures shorter { OnOk result (length (ahead self.new) < length (ahead self.old)) }
-    {
-        if room == 0 {
-            return Err(self.fault(FaultKind::TooDeep));
-        }
-        self.advance();
-        let condition = self.condition(alloc, room - 1)?;
-        self.expect(Punct::CloseSquare)?;
-        Ok(condition)
-    }
 }

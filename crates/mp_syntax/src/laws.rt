@@ -1,10 +1,10 @@
 //! Laws of beginnings and of first faults. Nothing here does anything when it runs.
 
 ghost use Rattle.std.specs.Prelude.{◌≡◌, ◌⊎◌, ◌++◌, ℕ, List};
-ghost use Rattle.mp_syntax.specs.declared.fault.Fault.{Fault};
-ghost use Rattle.mp_syntax.specs.Tokens.{Placed};
-ghost use Rattle.mp_syntax.specs.Syntax.{Tree, Condition, Statement, Expected, AllMatch, IsExprOf, IsConditionOf};
-ghost use Rattle.mp_syntax.specs.Syntax.{IsSyntaxOf};
+ghost use Rattle.mp_parser.specs.declared.fault.Fault.{Fault};
+ghost use Rattle.mp_parser.specs.Tokens.{Placed};
+ghost use Rattle.mp_parser.specs.Syntax.{Tree, Condition, Statement, Expected, AllMatch, IsExprOf, IsConditionOf};
+ghost use Rattle.mp_parser.specs.Syntax.{IsSyntaxOf};
 ghost use Rattle.mp_syntax.specs.Begins.{Text, OfFile, OfExpr, OfCondition, MatchFront, IsBehind};
 ghost use Rattle.mp_syntax.specs.FirstFault.{IsFirstFault};
 

@@ -1,29 +1,28 @@
 //! Reads statements and whole files.
 
-ghost use Rattle.std.specs.Prelude.{◌≡◌, ◌<◌, ◌≤◌, ◌-◌, ◌^◌, ◌↔◌, ℕ, List, Some, Err, false, length, map, OnOk, IfOk};
+ghost use Rattle.std.specs.Prelude.{◌≡◌, ◌<◌, ◌≤◌, ◌-◌, ◌^◌, ℕ, List, false, length, map, OnOk, IfOk};
 ghost use Rattle.std.specs.Prelude.{IfErr};
-ghost use Rattle.mp_syntax.specs.Tokens.{first_place};
-ghost use Rattle.mp_syntax.specs.Lexing.{token_of, lexemes};
-ghost use Rattle.mp_syntax.specs.Machine.{is_end, keyword, OfRule, OfSubject, Top, AfterRole};
-ghost use Rattle.mp_syntax.specs.Syntax as syntax;
-ghost use Rattle.mp_syntax.specs.Syntax.{IsSyntaxOf, StatementsHaveNames, AreStatements};
+ghost use Rattle.mp_parser.specs.Lexing.{token_of};
+ghost use Rattle.mp_parser.specs.Machine.{is_end, keyword, OfRule, OfSubject, Top, AfterOp, AfterKind, AfterRole};
+ghost use Rattle.mp_parser.specs.Machine.{AfterEdit};
+ghost use Rattle.mp_parser.specs.Syntax as syntax;
+ghost use Rattle.mp_parser.specs.Syntax.{IsSyntaxOf, StatementsHaveNames, AreStatements};
 ghost use Rattle.mp_syntax.specs.Printed.{statements_text, unplaced};
-ghost use Rattle.mp_syntax.specs.View.{placed, statement_tree};
-ghost use Rattle.mp_syntax.specs.Parsing.{ahead, StatementFrom, NamedExprGives, TemplateGives, KeywordGives, FileGives};
-ghost use Rattle.mp_syntax.specs.Parsing.{keyword_step};
-ghost use Rattle.mp_syntax.specs.ConditionParsing.{IfGives, EndsIf};
+ghost use Rattle.mp_parser.specs.View.{statement_tree};
+ghost use Rattle.mp_parser.specs.Parsing.{ahead};
+ghost use Rattle.mp_syntax.specs.StatementParsing.{StatementFrom, NamedExprGives, KeywordGives, FileGives};
+ghost use Rattle.mp_syntax.specs.StatementParsing.{keyword_step};
 ghost use Rattle.mp_syntax.specs.Begins.{OfFile};
 ghost use Rattle.mp_syntax.specs.FirstFault.{IsFirstFault};
 ghost use Rattle.mp_syntax.specs.Reading.{text_reading, IfFault, IsOkOrMemory};
 
 use crate::bad_token::bad_token;
-use crate::condition_tree::Condition;
-use crate::fault::SyntaxError;
-use crate::limits::MAX_OPEN;
-use crate::parser::Parser;
-use crate::token::{Kind, Punct};
-use crate::tree::{Expr, Statement};
-use crate::word::Word;
+use mp_parser::fault::SyntaxError;
+use mp_parser::limits::MAX_OPEN;
+use mp_parser::parser::Parser;
+use mp_parser::token::{Kind, Punct};
+use mp_parser::tree::{Expr, Statement};
+use mp_parser::word::Word;
 use std::alloc::Global;
 
 // What a statement is, by the word that it begins with.
@@ -44,7 +43,7 @@ enum Keyword {
 /// The statements of a rule file, in order, as syntax trees whose words lie in the file's bytes.
 ///
 /// The file has fewer than 4,294,967,295 bytes, so that each line and column is a `u32`. Which
-/// statements bytes are is `IsSyntaxOf` of `specs/Syntax.antt`: at most one list of them.
+/// statements bytes are is `IsSyntaxOf` of mp_parser's `specs/Syntax.antt`: at most one list of them.
 ///
 /// - `SyntaxError::Memory` comes where memory runs out.
 /// - `SyntaxError::Fault` comes exactly where the bytes are no statements, with their first fault, by
@@ -83,7 +82,7 @@ pub fn syntax_is_a_function()
 {}
 
 /// Law: each word of the statements of bytes is 1 to 64 letters and digits, and each sign is one or
-/// more sign bytes and not the arrow, by `StatementsHaveNames` of `specs/Syntax.antt`.
+/// more sign bytes and not the arrow, by `StatementsHaveNames` of mp_parser's `specs/Syntax.antt`.
 ///
 /// It does nothing when it runs.
 pub fn syntax_has_names()
@@ -112,111 +111,124 @@ fn statements<'a>(alloc: Global, bytes: &'a [u8]) -> Result<Vec<Statement<'a>>, 
     let mut parser = Parser::new(bytes);
     let mut statements = Vec::new(alloc);
     while !parser.is_at_end() {
-        let statement = parser.statement(alloc)?;
+        let statement = statement(&mut parser, alloc)?;
         statements.push(statement)?;
     }
     Ok(statements)
 }
 
-impl<'a> Parser<'a> {
-    // Reads one statement, where the end is not held.
-    fn statement(&mut self, alloc: Global) -> Result<Statement<'a>, SyntaxError>
-        requires { is_end (token_of self.old.token.kind) ≡ false }
-        ensures read { StatementFrom Top result (ahead self.old) (ahead self.new) }
-        ensures shorter { OnOk result (length (ahead self.new) < length (ahead self.old)) }
-    {
-        match self.keyword()? {
-            Keyword::Op => self.op(alloc),
-            Keyword::Kind => self.kind(alloc),
-            Keyword::Rule => self.rule(alloc),
-            Keyword::Subject => self.subject(alloc),
-            Keyword::Edit => self.edit(alloc),
+// Reads one statement, where the end is not held.
+fn statement<'a>(parser: &mut Parser<'a>, alloc: Global) -> Result<Statement<'a>, SyntaxError>
+    requires { is_end (token_of parser.old.token.kind) ≡ false }
+    ensures read { StatementFrom Top result (ahead parser.old) (ahead parser.new) }
+    ensures shorter { OnOk result (length (ahead parser.new) < length (ahead parser.old)) }
+{
+    match next_keyword(parser)? {
+        Keyword::Op => op(parser, alloc),
+        Keyword::Kind => kind(parser, alloc),
+        Keyword::Rule => rule(parser, alloc),
+        Keyword::Subject => subject(parser, alloc),
+        Keyword::Edit => edit(parser, alloc),
+    }
+}
+
+// Reads what follows `op`: a name, a number, perhaps a plus, flags and the semicolon.
+fn op<'a>(parser: &mut Parser<'a>, alloc: Global) -> Result<Statement<'a>, SyntaxError>
+    ensures read { StatementFrom AfterOp result (ahead parser.old) (ahead parser.new) }
+    ensures shorter { OnOk result (length (ahead parser.new) ≤ length (ahead parser.old)) }
+{
+    let name = parser.word()?;
+    let least = parser.number()?;
+    let open = parser.plus();
+    let flags = parser.flags(alloc)?;
+    Ok(Statement::Op {
+        name,
+        least,
+        open,
+        flags,
+    })
+}
+
+// Reads what follows `kind`: a name, a colon, members and the semicolon.
+fn kind<'a>(parser: &mut Parser<'a>, alloc: Global) -> Result<Statement<'a>, SyntaxError>
+    ensures read { StatementFrom AfterKind result (ahead parser.old) (ahead parser.new) }
+    ensures shorter { OnOk result (length (ahead parser.new) ≤ length (ahead parser.old)) }
+{
+    let name = parser.word()?;
+    parser.expect(Punct::Colon)?;
+    let members = parser.members(alloc)?;
+    Ok(Statement::Kind { name, members })
+}
+
+// Reads what follows `rule`: a name, a colon, an expression, perhaps the arrow and another one, perhaps `if` and a
+// condition, and the semicolon.
+fn rule<'a>(parser: &mut Parser<'a>, alloc: Global) -> Result<Statement<'a>, SyntaxError>
+    ensures read { StatementFrom (AfterRole OfRule) result (ahead parser.old) (ahead parser.new) }
+    ensures shorter { OnOk result (length (ahead parser.new) ≤ length (ahead parser.old)) }
+{
+    let (name, pattern) = named_expr(parser, alloc)?;
+    let template = parser.template(alloc)?;
+    let condition = parser.rule_condition(alloc)?;
+    parser.expect(Punct::Semicolon)?;
+    Ok(Statement::Rule {
+        name,
+        pattern,
+        template,
+        condition,
+    })
+}
+
+// Reads what follows `subject`: a name, a colon, an expression and the semicolon.
+fn subject<'a>(parser: &mut Parser<'a>, alloc: Global) -> Result<Statement<'a>, SyntaxError>
+    ensures read { StatementFrom (AfterRole OfSubject) result (ahead parser.old) (ahead parser.new) }
+    ensures shorter { OnOk result (length (ahead parser.new) ≤ length (ahead parser.old)) }
+{
+    let (name, term) = named_expr(parser, alloc)?;
+    parser.expect(Punct::Semicolon)?;
+    Ok(Statement::Subject { name, term })
+}
+
+// Reads what follows `edit`: a name, a colon, changes and the semicolon.
+fn edit<'a>(parser: &mut Parser<'a>, alloc: Global) -> Result<Statement<'a>, SyntaxError>
+    ensures read { StatementFrom AfterEdit result (ahead parser.old) (ahead parser.new) }
+    ensures shorter { OnOk result (length (ahead parser.new) ≤ length (ahead parser.old)) }
+{
+    let subject = parser.word()?;
+    parser.expect(Punct::Colon)?;
+    let changes = parser.changes(alloc)?;
+    Ok(Statement::Edit { subject, changes })
+}
+
+// Reads a name, a colon and an expression.
+fn named_expr<'a>(
+    parser: &mut Parser<'a>,
+    alloc: Global,
+) -> Result<(Word<'a>, Expr<'a>), SyntaxError>
+    ensures read { NamedExprGives result (ahead parser.old) (ahead parser.new) }
+    ensures shorter { OnOk result (length (ahead parser.new) ≤ length (ahead parser.old)) }
+{
+    let name = parser.word()?;
+    parser.expect(Punct::Colon)?;
+    let expr = parser.expr(alloc, MAX_OPEN)?;
+    Ok((name, expr))
+}
+
+// Reads the word that a statement begins with, where the end is not held.
+fn next_keyword(parser: &mut Parser<'_>) -> Result<Keyword, SyntaxError>
+    requires { is_end (token_of parser.old.token.kind) ≡ false }
+    ensures read { KeywordGives result (ahead parser.old) (ahead parser.new) }
+    ensures shorter { OnOk result (length (ahead parser.new) < length (ahead parser.old)) }
+{
+    let keyword = match parser.token.kind {
+        Kind::Word(word) => keyword_of(word),
+        _ => None,
+    };
+    match keyword {
+        Some(keyword) => {
+            parser.advance();
+            Ok(keyword)
         }
-    }
-
-    // Reads what follows `rule`: a name, a colon, an expression, perhaps the arrow and another one, perhaps `if` and a
-    // condition, and the semicolon.
-    fn rule(&mut self, alloc: Global) -> Result<Statement<'a>, SyntaxError>
-        ensures read { StatementFrom (AfterRole OfRule) result (ahead self.old) (ahead self.new) }
-        ensures shorter { OnOk result (length (ahead self.new) ≤ length (ahead self.old)) }
-    {
-        let (name, pattern) = self.named_expr(alloc)?;
-        let template = self.template(alloc)?;
-        let condition = self.rule_condition(alloc)?;
-        self.expect(Punct::Semicolon)?;
-        Ok(Statement::Rule {
-            name,
-            pattern,
-            template,
-            condition,
-        })
-    }
-
-    // Reads the arrow and an expression, where the arrow is held.
-    fn template(&mut self, alloc: Global) -> Result<Option<Expr<'a>>, SyntaxError>
-        ensures read { TemplateGives (token_of self.new.token.kind) result (ahead self.old) (ahead self.new) }
-        ensures shorter { OnOk result (length (ahead self.new) ≤ length (ahead self.old)) }
-    {
-        if !self.sees_arrow() {
-            return Ok(None);
-        }
-        self.advance();
-        let template = self.expr(alloc, MAX_OPEN)?;
-        Ok(Some(template))
-    }
-
-    // Reads `if` and a condition, where `if` is held.
-    fn rule_condition(&mut self, alloc: Global) -> Result<Option<Condition<'a>>, SyntaxError>
-        ensures read { IfGives (placed self.old.token) result (ahead self.old) (ahead self.new) }
-        ensures ends { IfOk result (λ o. EndsIf o (token_of self.new.token.kind)) }
-        ensures shorter { OnOk result (length (ahead self.new) ≤ length (ahead self.old)) }
-    {
-        if !self.sees_word(b"if") {
-            return Ok(None);
-        }
-        self.advance();
-        let condition = self.condition(alloc, MAX_OPEN)?;
-        Ok(Some(condition))
-    }
-
-    // Reads what follows `subject`: a name, a colon, an expression and the semicolon.
-    fn subject(&mut self, alloc: Global) -> Result<Statement<'a>, SyntaxError>
-        ensures read { StatementFrom (AfterRole OfSubject) result (ahead self.old) (ahead self.new) }
-        ensures shorter { OnOk result (length (ahead self.new) ≤ length (ahead self.old)) }
-    {
-        let (name, term) = self.named_expr(alloc)?;
-        self.expect(Punct::Semicolon)?;
-        Ok(Statement::Subject { name, term })
-    }
-
-    // Reads a name, a colon and an expression.
-    fn named_expr(&mut self, alloc: Global) -> Result<(Word<'a>, Expr<'a>), SyntaxError>
-        ensures read { NamedExprGives result (ahead self.old) (ahead self.new) }
-        ensures shorter { OnOk result (length (ahead self.new) ≤ length (ahead self.old)) }
-    {
-        let name = self.word()?;
-        self.expect(Punct::Colon)?;
-        let expr = self.expr(alloc, MAX_OPEN)?;
-        Ok((name, expr))
-    }
-
-    // Reads the word that a statement begins with, where the end is not held.
-    fn keyword(&mut self) -> Result<Keyword, SyntaxError>
-        requires { is_end (token_of self.old.token.kind) ≡ false }
-        ensures read { KeywordGives result (ahead self.old) (ahead self.new) }
-        ensures shorter { OnOk result (length (ahead self.new) < length (ahead self.old)) }
-    {
-        let keyword = match self.token.kind {
-            Kind::Word(word) => keyword_of(word),
-            _ => None,
-        };
-        match keyword {
-            Some(keyword) => {
-                self.advance();
-                Ok(keyword)
-            }
-            None => Err(self.refused()),
-        }
+        None => Err(parser.refused()),
     }
 }
 

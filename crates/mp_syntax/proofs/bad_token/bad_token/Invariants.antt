@@ -1,7 +1,7 @@
 use Rattle.std.proofs.Common.{◌≡◌, length}
-use Rattle.mp_syntax.specs.Tokens.{first_place}
-use Rattle.mp_syntax.specs.Lexing.{lexemes}
-use Rattle.mp_syntax.specs.Parsing.{ahead}
+use Rattle.mp_parser.specs.Tokens.{first_place}
+use Rattle.mp_parser.specs.Lexing.{lexemes}
+use Rattle.mp_parser.specs.Parsing.{ahead}
 use Rattle.mp_syntax.specs.Reading.{first_bad}
 use Rattle.mp_syntax.proofs.bad_token.bad_token.Given as goal
 

@@ -1,5 +1,5 @@
-use Rattle.mp_syntax.specs.Syntax.{IsConditionOf, ConditionHasNames}
-use Rattle.mp_syntax.specs.View.{condition_tree}
+use Rattle.mp_parser.specs.Syntax.{IsConditionOf, ConditionHasNames}
+use Rattle.mp_parser.specs.View.{condition_tree}
 use Rattle.mp_syntax.proofs.Whole.{condition_is_read, answer-holds, answer-only, answer-fault, condition_bytes-names}
 use Rattle.mp_syntax.proofs.condition.read_condition.Goals as goal
 

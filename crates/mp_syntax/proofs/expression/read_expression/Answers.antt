@@ -1,5 +1,5 @@
-use Rattle.mp_syntax.specs.Syntax.{IsExprOf, HasNames}
-use Rattle.mp_syntax.specs.View.{expr_tree}
+use Rattle.mp_parser.specs.Syntax.{IsExprOf, HasNames}
+use Rattle.mp_parser.specs.View.{expr_tree}
 use Rattle.mp_syntax.proofs.Whole.{expr_is_read, answer-holds, answer-only, answer-fault, expr-names}
 use Rattle.mp_syntax.proofs.expression.read_expression.Goals as goal
 

@@ -1,6 +1,6 @@
 use Rattle.std.proofs.Common.{map}
-use Rattle.mp_syntax.specs.Syntax.{IsSyntaxOf, StatementsHaveNames}
-use Rattle.mp_syntax.specs.View.{statement_tree}
+use Rattle.mp_parser.specs.Syntax.{IsSyntaxOf, StatementsHaveNames}
+use Rattle.mp_parser.specs.View.{statement_tree}
 use Rattle.mp_syntax.proofs.Whole.{file_is_read, answer-holds, answer-only, answer-fault, syntax-names}
 use Rattle.mp_syntax.proofs.statement.read_statements.Goals as goal
 

@@ -1,7 +1,7 @@
 use Rattle.std.proofs.Common.{◌≡◌, map, length}
-use Rattle.mp_syntax.specs.Machine.{Top, run}
-use Rattle.mp_syntax.specs.View.{statement_tree}
-use Rattle.mp_syntax.specs.Parsing.{ahead}
+use Rattle.mp_parser.specs.Machine.{Top, run}
+use Rattle.mp_parser.specs.View.{statement_tree}
+use Rattle.mp_parser.specs.Parsing.{ahead}
 use Rattle.mp_syntax.specs.Begins.{OfFile}
 use Rattle.mp_syntax.specs.Reading.{text_reading}
 use Rattle.mp_syntax.proofs.statement.statements.Given as goal

@@ -1,0 +1,279 @@
+use Rattle.std.proofs.Common.{◌≡◌, ◌+◌, [], ◌∷◌, ◌++◌, map, refl, sym, ap, subst, ◌∙◌, arith}
+use Rattle.std.proofs.lemmas.List.{map_push}
+use Rattle.mp_parser.specs.declared.limits.TheConstants.{MAX_OPEN}
+use Rattle.mp_parser.specs.declared.token.Punct.TheVariants.{Open, Close, Comma}
+use Rattle.mp_parser.specs.Machine.{Go, Default, BeforeExpr, AfterExpr, AfterWord, AfterOpen, Arguments, Bracket}
+use Rattle.mp_parser.specs.Machine.{Operands, run}
+use Rattle.mp_parser.specs.Tokens.{Punctuation}
+use Rattle.mp_parser.specs.Lexing.{token_of}
+use Rattle.mp_parser.specs.Syntax.{Apply, InfixOf, Optional, trees, HasNoDefault}
+use Rattle.mp_parser.specs.View.{placed, spot_of, spot_of_sign, wildcard_of, expr_tree}
+use Rattle.mp_parser.specs.Parsing.{ahead, behind_wildcard, within_defaults}
+use Rattle.mp_parser.proofs.Runs.{length-passed, row-closes, row-again, operand-closes, word-opens, open-closes}
+use Rattle.mp_parser.proofs.Runs.{open-expr, bracket-opens, over-punct, length-passed_sign, over-sign, operand-again}
+use Rattle.mp_parser.proofs.Runs.{over-default, defaults-behind, chained-optional, open_count-within_defaults, breaks}
+use Rattle.mp_parser.proofs.Runs.{passes-along, word-begins, dollar-begins}
+use Rattle.mp_parser.proofs.Trees.{expr_tree-Apply, expr_tree-Infix}
+use Rattle.mp_parser.proofs.parser.Parser.+expression.Goals as goal
+use Rattle.mp_parser.proofs.parser.Parser.+expression.Goals.{behind_wildcard-in-Some+in_ok-default-in-Some}
+use Rattle.mp_parser.proofs.parser.Parser.+expression.Goals.{behind_wildcard-in-None+in_ok-default-in-None}
+
+pub expr-returns-in-Some-clause-read : goal.expr-returns-in-Some-clause-read
+expr-returns-in-Some-clause-read t c = λ done x k len.
+    passes-along _ _ _ c.behind_wildcard.result _ _ _ (c.in-Some.ensures.read done x k)
+    (c.behind_wildcard.ensures.read done x k len)
+
+pub word_or_bracket-returns-in-Word-clause-read : goal.word_or_bracket-returns-in-Word-clause-read
+word_or_bracket-returns-in-Word-clause-read t c = λ done x k len.
+    passes-along _ _ _ c.behind_word.result _ _ _
+    (word-begins done x k (placed c.args.self.now.token) _ _ _ c.advance.ensures (ap token_of c.in-Word.is))
+    (c.behind_word.ensures.read done x k len)
+
+pub word_or_bracket-returns-in-Punct-Dollar-clause-read : goal.word_or_bracket-returns-in-Punct-Dollar-clause-read
+word_or_bracket-returns-in-Punct-Dollar-clause-read t c = λ done x k len.
+    passes-along _ _ _ c.behind_dollar.result _ _ _
+    (dollar-begins done x k (placed c.args.self.now.token) _ _ c.advance-in-Punct-Dollar.ensures
+    (ap token_of c.in-Punct-Dollar.is ∙ ap Punctuation (rw c.in-Punct-Dollar.is at c.in-Punct-Dollar.field-0-is)))
+    (c.behind_dollar.ensures.read done x k)
+
+pub word_or_bracket-invariant_of-behind_word : goal.word_or_bracket-invariant_of-behind_word
+word_or_bracket-invariant_of-behind_word t c =
+    record { named = c.args.self.now.token.spelled.word _ (ap token_of c.in-Word.is) }
+
+pub row-returns-in_err-expr-clause-read : goal.row-returns-in_err-expr-clause-read
+row-returns-in_err-expr-clause-read t c = λ done x k frame to row room.
+    let es = map expr_tree c.loop-exprs.exprs.items in
+    breaks _ _ _ _ _ _ _ c.from_residual.ensures.1
+    (c.loop-exprs.invariant.read done x k frame to row room)
+    (c.in_err-expr.ensures.read done x (frame es ∷ k) (room es))
+
+pub row-returns-in_err-expect-clause-read : goal.row-returns-in_err-expect-clause-read
+row-returns-in_err-expect-clause-read t c = λ done x k frame to row room.
+    let es = map expr_tree c.loop-exprs.exprs.items in
+    let e = expr_tree c.in_ok-expr.field-0 in
+    breaks _ _ _ _ _ _ _ c.from_residual-in_err-expect.ensures.1
+    (c.loop-exprs.invariant.read done x k frame to row room
+    ∙ c.in_ok-expr.ensures.read done x (frame es ∷ k) (room es))
+    (c.in_err-expect.ensures.read done (AfterExpr x (frame es ∷ k) e) _
+    (row-closes c.args.closes x k frame to row es e (placed c.expr.new.self.token)
+    (sym c.sees.ensures ∙ c.if-not-sees.true)))
+
+pub row-returns-clause-read : goal.row-returns-clause-read
+row-returns-clause-read t c = λ done x k frame to row room.
+    let es = map expr_tree c.loop-exprs.exprs.items in
+    let e = expr_tree c.in_ok-expr.field-0 in
+    c.loop-exprs.invariant.read done x k frame to row room
+    ∙ c.in_ok-expr.ensures.read done x (frame es ∷ k) (room es)
+    ∙ c.in_ok-expect.ensures.read done (AfterExpr x (frame es ∷ k) e) _
+    (row-closes c.args.closes x k frame to row es e (placed c.expr.new.self.token)
+    (sym c.sees.ensures ∙ c.if-not-sees.true))
+    ∙ ap (λ l. run done (to l) (ahead c.expect.new.self))
+    (sym (ap (map expr_tree) c.in_ok-push.ensures.items ∙ map_push expr_tree _ _))
+
+pub row-loop-exprs-preserved : goal.row-loop-exprs-preserved
+row-loop-exprs-preserved t c =
+    let held = sym c.sees.ensures ∙ c.if-not-sees.false in
+    record {
+      read = λ done x k frame to row room.
+          let es = map expr_tree c.loop-exprs.exprs.items in
+          let e = expr_tree c.in_ok-expr.field-0 in
+          c.loop-exprs.invariant.read done x k frame to row room
+          ∙ c.in_ok-expr.ensures.read done x (frame es ∷ k) (room es)
+          ∙ over-punct Comma (placed c.expr.new.self.token) _ _ c.advance.ensures held done
+          (AfterExpr x (frame es ∷ k) e) (Go (BeforeExpr x (frame (es ++ e ∷ []) ∷ k)))
+          (row-again c.args.closes x k frame to row es e (placed c.expr.new.self.token) held)
+          ∙ ap (λ l. run done (BeforeExpr x (frame l ∷ k)) (ahead c.advance.new.self))
+          (sym (ap (map expr_tree) c.in_ok-push.ensures.items ∙ map_push expr_tree _ _));
+      shorter = let passed = length-passed Comma (placed c.expr.new.self.token) _ _ c.advance.ensures held in
+          omega (arith, passed, c.in_ok-expr.ensures.shorter, c.loop-exprs.invariant.shorter);
+    }
+
+pub behind_word-returns-then-sees-clause-read : goal.behind_word-returns-then-sees-clause-read
+behind_word-returns-then-sees-clause-read t c = λ done h k len.
+    let name = spot_of c.args.name in
+    over-punct Open (placed c.args.self.now.token) _ _ c.advance.ensures (sym c.sees.ensures ∙ c.if-not-sees.false) done
+    (AfterWord h k name) (Go (AfterOpen h k name))
+    (word-opens MAX_OPEN h k name (placed c.args.self.now.token) c.args.room len (omega arith)
+    (sym c.sees.ensures ∙ c.if-not-sees.false))
+    ∙ over-punct Close (placed c.advance.new.self.token) _ _ c.advance-then-sees.ensures
+    (sym c.sees-2.ensures ∙ c.if-sees.true) done (AfterOpen h k name) (Go (AfterExpr h k (Apply name (trees []))))
+    (open-closes h k name (placed c.advance.new.self.token) (sym c.sees-2.ensures ∙ c.if-sees.true))
+    ∙ ap (λ x. run done (AfterExpr h k x) (ahead c.advance-then-sees.new.self))
+    (sym (expr_tree-Apply c.args.name c.new.result
+    ∙ ap (λ l. Apply name (trees (map expr_tree l))) c.new.ensures.items))
+
+pub behind_word-returns-clause-read : goal.behind_word-returns-clause-read
+behind_word-returns-clause-read t c = λ done h k len.
+    let name = spot_of c.args.name in
+    over-punct Open (placed c.args.self.now.token) _ _ c.advance.ensures (sym c.sees.ensures ∙ c.if-not-sees.false) done
+    (AfterWord h k name) (Go (AfterOpen h k name))
+    (word-opens MAX_OPEN h k name (placed c.args.self.now.token) c.args.room len (omega arith)
+    (sym c.sees.ensures ∙ c.if-not-sees.false))
+    ∙ open-expr MAX_OPEN done h k name (placed c.advance.new.self.token) _ (sym c.sees-2.ensures ∙ c.if-sees.false)
+    ∙ c.in_ok-args.ensures.read done h k (Arguments name) (λ es. AfterExpr h k (Apply name (trees es)))
+    (λ es e t. refl) (λ es. omega (arith, len))
+    ∙ ap (λ x. run done (AfterExpr h k x) (ahead c.row.new.self))
+    (sym (expr_tree-Apply c.args.name c.in_ok-args.args))
+
+pub behind_word-returns-in_err-args-clause-read : goal.behind_word-returns-in_err-args-clause-read
+behind_word-returns-in_err-args-clause-read t c = λ done h k len.
+    let name = spot_of c.args.name in
+    breaks _ _ _ _ _ _ _ c.from_residual.ensures.1
+    (over-punct Open (placed c.args.self.now.token) _ _ c.advance.ensures (sym c.sees.ensures ∙ c.if-not-sees.false)
+    done (AfterWord h k name) (Go (AfterOpen h k name))
+    (word-opens MAX_OPEN h k name (placed c.args.self.now.token) c.args.room len (omega arith)
+    (sym c.sees.ensures ∙ c.if-not-sees.false))
+    ∙ open-expr MAX_OPEN done h k name (placed c.advance.new.self.token) _ (sym c.sees-2.ensures ∙ c.if-sees.false))
+    (c.in_err-args.ensures.read done h k (Arguments name) (λ es. AfterExpr h k (Apply name (trees es)))
+    (λ es e t. refl) (λ es. omega (arith, len)))
+
+pub infix-returns-in_err-sign-clause-read : goal.infix-returns-in_err-sign-clause-read
+infix-returns-in_err-sign-clause-read t c = λ done h k len.
+    let place = c.args.self.now.token.place in
+    let first = expr_tree c.in_ok-first.first in
+    breaks _ _ _ _ _ _ _ c.from_residual-in_err-sign.ensures.1
+    (over-punct Open (placed c.args.self.now.token) _ _ c.advance.ensures c.requires done (BeforeExpr h k)
+    (Go (BeforeExpr h (Bracket place ∷ k)))
+    (bracket-opens MAX_OPEN h k (placed c.args.self.now.token) c.args.room len (omega arith) c.requires)
+    ∙ c.in_ok-first.ensures.read done h (Bracket place ∷ k) (omega (arith, len)))
+    (c.in_err-sign.ensures.read done (AfterExpr h (Bracket place ∷ k) first)
+    (λ s. BeforeExpr h (Operands place s first [] ∷ k)) (λ t. refl))
+
+pub infix-returns-in_err-operands-clause-read : goal.infix-returns-in_err-operands-clause-read
+infix-returns-in_err-operands-clause-read t c = λ done h k len.
+    let place = c.args.self.now.token.place in
+    let first = expr_tree c.in_ok-first.first in
+    breaks _ _ _ _ _ _ _ c.from_residual-in_err-operands.ensures.1
+    (over-punct Open (placed c.args.self.now.token) _ _ c.advance.ensures c.requires done (BeforeExpr h k)
+    (Go (BeforeExpr h (Bracket place ∷ k)))
+    (bracket-opens MAX_OPEN h k (placed c.args.self.now.token) c.args.room len (omega arith) c.requires)
+    ∙ c.in_ok-first.ensures.read done h (Bracket place ∷ k) (omega (arith, len))
+    ∙ c.in_ok-sign.ensures.read done (AfterExpr h (Bracket place ∷ k) first)
+    (λ s. BeforeExpr h (Operands place s first [] ∷ k)) (λ t. refl))
+    (c.in_err-operands.ensures.read done h k place (omega (arith, len)))
+
+pub infix-returns-clause-read : goal.infix-returns-clause-read
+infix-returns-clause-read t c = λ done h k len.
+    let place = c.args.self.now.token.place in
+    let first = expr_tree c.in_ok-first.first in
+    over-punct Open (placed c.args.self.now.token) _ _ c.advance.ensures c.requires done (BeforeExpr h k)
+    (Go (BeforeExpr h (Bracket place ∷ k)))
+    (bracket-opens MAX_OPEN h k (placed c.args.self.now.token) c.args.room len (omega arith) c.requires)
+    ∙ c.in_ok-first.ensures.read done h (Bracket place ∷ k) (omega (arith, len))
+    ∙ c.in_ok-sign.ensures.read done (AfterExpr h (Bracket place ∷ k) first)
+    (λ s. BeforeExpr h (Operands place s first [] ∷ k)) (λ t. refl)
+    ∙ c.in_ok-operands.ensures.read done h k place (omega (arith, len))
+    ∙ ap (λ x. run done (AfterExpr h k x) (ahead c.operands.new.self))
+    (sym (expr_tree-Infix place c.in_ok-sign.sign c.in_ok-operands.operands))
+
+pub operands-returns-in_err-expect-clause-read : goal.operands-returns-in_err-expect-clause-read
+operands-returns-in_err-expect-clause-read t c = λ done h k place len.
+    let sign = spot_of_sign c.args.sign in
+    let first = expr_tree c.args.first in
+    let others = map expr_tree c.loop-operands.invariant.others in
+    let e = expr_tree c.in_ok-expr.field-0 in
+    breaks _ _ _ _ _ _ _ c.from_residual-in_err-expect.ensures.1
+    (c.loop-operands.invariant.read done h k place len
+    ∙ c.in_ok-expr.ensures.read done h (Operands place sign first others ∷ k) (omega (arith, len)))
+    (c.in_err-expect.ensures.read done (AfterExpr h (Operands place sign first others ∷ k) e) _
+    (operand-closes h place sign first others k e (placed c.expr.new.self.token)
+    (sym c.sees_sign.ensures ∙ c.if-not-sees_sign.true)))
+
+pub operands-returns-clause-read : goal.operands-returns-clause-read
+operands-returns-clause-read t c = λ done h k place len.
+    let sign = spot_of_sign c.args.sign in
+    let first = expr_tree c.args.first in
+    let others = map expr_tree c.loop-operands.invariant.others in
+    let e = expr_tree c.in_ok-expr.field-0 in
+    c.loop-operands.invariant.read done h k place len
+    ∙ c.in_ok-expr.ensures.read done h (Operands place sign first others ∷ k) (omega (arith, len))
+    ∙ c.in_ok-expect.ensures.read done (AfterExpr h (Operands place sign first others ∷ k) e) _
+    (operand-closes h place sign first others k e (placed c.expr.new.self.token)
+    (sym c.sees_sign.ensures ∙ c.if-not-sees_sign.true))
+    ∙ ap (λ l. run done (AfterExpr h k (InfixOf place sign (trees l))) (ahead c.expect.new.self))
+    (sym (ap (map expr_tree) (c.in_ok-push-2.ensures.items
+    ∙ ap (λ l. l ++ c.in_ok-expr.field-0 ∷ []) c.loop-operands.invariant.items)
+    ∙ ap (λ l. first ∷ l) (map_push expr_tree c.loop-operands.invariant.others c.in_ok-expr.field-0)))
+
+pub behind_wildcard-returns-in_err-default-in-None-clause-read :
+    goal.behind_wildcard-returns-in_err-default-in-None-clause-read
+behind_wildcard-returns-in_err-default-in-None-clause-read t c = λ done x k len.
+    let w = wildcard_of c.args.wildcard in
+    let ws = w ∷ map wildcard_of c.in_ok-others.others.items in
+    let test = sym c.sees_default.ensures ∙ c.if-not-sees_default.false in
+    breaks _ _ _ _ _ _ _ c.from_residual-in_err-default-in-None.ensures.1
+    (over-default (placed c.args.self.now.token) _ _ c.advance.ensures done x k w test
+    ∙ c.in_ok-others.ensures.read done x (Default w ∷ k)
+    ∙ ap (λ o. run done (behind_wildcard x (within_defaults ws k) o) (ahead c.chain.new.self)) c.in-None.is)
+    (c.in_err-default-in-None.ensures.read done x (within_defaults ws k)
+    (ap (λ n. n + c.args.room) (open_count-within_defaults ws k) ∙ len))
+
+pub behind_wildcard-returns-in_err-default-in-Some-clause-read :
+    goal.behind_wildcard-returns-in_err-default-in-Some-clause-read
+behind_wildcard-returns-in_err-default-in-Some-clause-read t c = λ done x k len.
+    let w = wildcard_of c.args.wildcard in
+    let ws = w ∷ map wildcard_of c.in_ok-others.others.items in
+    let test = sym c.sees_default.ensures ∙ c.if-not-sees_default.false in
+    breaks _ _ _ _ _ _ _ c.from_residual-in_err-default-in-Some.ensures.1
+    (over-default (placed c.args.self.now.token) _ _ c.advance.ensures done x k w test
+    ∙ c.in_ok-others.ensures.read done x (Default w ∷ k)
+    ∙ ap (λ o. run done (behind_wildcard x (within_defaults ws k) o) (ahead c.chain.new.self)) c.in-Some.is)
+    (c.in_err-default-in-Some.ensures.read done x (within_defaults ws k))
+
+pub behind_wildcard-returns-clause-read : goal.behind_wildcard-returns-clause-read
+behind_wildcard-returns-clause-read t c = λ done x k len.
+    let w = wildcard_of c.args.wildcard in
+    let others = map wildcard_of c.in_ok-others.others.items in
+    let ws = w ∷ others in
+    let e = expr_tree c.match-last.default in
+    let test = sym c.sees_default.ensures ∙ c.if-not-sees_default.false in
+    let plain : HasNoDefault e = elim c.match-last.branch [
+      | behind_wildcard-in-Some+in_ok-default-in-Some v ↦
+          subst (λ d. HasNoDefault (expr_tree d)) (sym v.default-is) v.in_ok-default-in-Some.ensures.plain
+      | behind_wildcard-in-None+in_ok-default-in-None v ↦
+          subst (λ d. HasNoDefault (expr_tree d)) (sym v.default-is) v.in_ok-default-in-None.ensures.plain
+    ] in
+    let last : run done (behind_wildcard x (within_defaults ws k) c.in_ok-others.last) (ahead c.chain.new.self)
+    ≡ run done (AfterExpr x (within_defaults ws k) e) (ahead c.match-last.self) = elim c.match-last.branch [
+      | behind_wildcard-in-Some+in_ok-default-in-Some v ↦
+          ap (λ o. run done (behind_wildcard x (within_defaults ws k) o) (ahead c.chain.new.self)) v.in-Some.is
+          ∙ v.in_ok-default-in-Some.ensures.read done x (within_defaults ws k)
+          ∙ (λ i. run done (AfterExpr x (within_defaults ws k) (expr_tree (sym v.default-is i)))
+          (ahead (sym v.self-is i)))
+      | behind_wildcard-in-None+in_ok-default-in-None v ↦
+          ap (λ o. run done (behind_wildcard x (within_defaults ws k) o) (ahead c.chain.new.self)) v.in-None.is
+          ∙ v.in_ok-default-in-None.ensures.read done x (within_defaults ws k)
+          (ap (λ n. n + c.args.room) (open_count-within_defaults ws k) ∙ len)
+          ∙ (λ i. run done (AfterExpr x (within_defaults ws k) (expr_tree (sym v.default-is i)))
+          (ahead (sym v.self-is i)))
+    ] in
+    over-default (placed c.args.self.now.token) _ _ c.advance.ensures done x k w test
+    ∙ c.in_ok-others.ensures.read done x (Default w ∷ k)
+    ∙ last
+    ∙ defaults-behind MAX_OPEN done x ws k e (ahead c.match-last.self)
+    ∙ ap (λ t. run done (AfterExpr x k t) (ahead c.match-last.self))
+    (chained-optional w others e plain ∙ ap (λ d. Optional w others (expr_tree d)) (sym c.in_ok-new.ensures.ok))
+
+pub operands-loop-operands-preserved : goal.operands-loop-operands-preserved
+operands-loop-operands-preserved t c =
+    let sign = spot_of_sign c.args.sign in
+    let first = expr_tree c.args.first in
+    let others = map expr_tree c.loop-operands.invariant.others in
+    let e = expr_tree c.in_ok-expr.field-0 in
+    let held = sym c.sees_sign.ensures ∙ c.if-not-sees_sign.false in
+    record {
+      others = c.loop-operands.invariant.others ++ c.in_ok-expr.field-0 ∷ [];
+      items = c.in_ok-push-2.ensures.items ∙ ap (λ l. l ++ c.in_ok-expr.field-0 ∷ []) c.loop-operands.invariant.items;
+      read = λ done x k place len.
+          c.loop-operands.invariant.read done x k place len
+          ∙ c.in_ok-expr.ensures.read done x (Operands place sign first others ∷ k) (omega (arith, len))
+          ∙ over-sign c.args.sign.text.now (placed c.expr.new.self.token) _ _ c.advance.ensures held done
+          (AfterExpr x (Operands place sign first others ∷ k) e)
+          (Go (BeforeExpr x (Operands place sign first (others ++ e ∷ []) ∷ k)))
+          (operand-again MAX_OPEN x place sign first others k e (placed c.expr.new.self.token) held)
+          ∙ ap (λ l. run done (BeforeExpr x (Operands place sign first l ∷ k)) (ahead c.advance.new.self))
+          (sym (map_push expr_tree c.loop-operands.invariant.others c.in_ok-expr.field-0));
+      shorter = let passed = length-passed_sign c.args.sign.text.now
+          (placed c.expr.new.self.token) _ _ c.advance.ensures held in
+          omega (arith, passed, c.in_ok-expr.ensures.shorter, c.loop-operands.invariant.shorter);
+    }

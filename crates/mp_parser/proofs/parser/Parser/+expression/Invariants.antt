@@ -1,0 +1,58 @@
+use Rattle.std.proofs.Common.{◌≡◌, ◌≤◌, ◌+◌, ◌*◌, List, [], ◌∷◌, length, map}
+use Rattle.mp_parser.specs.declared.place.Place.{Place}
+use Rattle.mp_parser.specs.declared.tree.Expr.{Expr}
+use Rattle.mp_parser.specs.Syntax.{Tree, Statement}
+use Rattle.mp_parser.specs.Machine.{Within, Frame, Operands, BeforeExpr, run, State}
+use Rattle.mp_parser.specs.View.{spot_of_sign, expr_tree}
+use Rattle.mp_parser.specs.Parsing.{ahead, HasRoom, IsRow}
+use Rattle.mp_parser.proofs.parser.Parser.+expression.Given as goal
+
+abbrev pub decreases-row : goal.decreases-row
+decreases-row l = 5 * l.room + 5
+
+abbrev pub decreases-behind_wildcard : goal.decreases-behind_wildcard
+decreases-behind_wildcard l = 5 * l.room + 3
+
+abbrev pub decreases-word_or_bracket : goal.decreases-word_or_bracket
+decreases-word_or_bracket l = 5 * l.room + 2
+
+abbrev pub decreases-behind_word : goal.decreases-behind_word
+decreases-behind_word l = 5 * l.room + 1
+
+abbrev pub decreases-expr : goal.decreases-expr
+decreases-expr l = 5 * l.room + 4
+
+abbrev pub decreases-infix : goal.decreases-infix
+decreases-infix l = 5 * l.room + 1
+
+abbrev pub decreases-operands : goal.decreases-operands
+decreases-operands l = 5 * l.room + 5
+
+-- the expressions so far are those that the open bracket holds
+abbrev pub invariant-row-loop-exprs : goal.invariant-row-loop-exprs
+invariant-row-loop-exprs l = record {
+  read : (done : List Statement) (x : Within) (k : List Frame) (frame : List Tree → Frame) (to : List Tree → State)
+      → IsRow l.closes x k frame to → ((es : List Tree) → HasRoom (frame es ∷ k) l.room)
+      → run done (BeforeExpr x (frame [] ∷ k)) (ahead l.fn.self)
+      ≡ run done (BeforeExpr x (frame (map expr_tree l.exprs.items) ∷ k)) (ahead l.self);
+  shorter : length (ahead l.self) ≤ length (ahead l.fn.self);
+}
+
+abbrev pub decreases-row-loop-exprs : goal.decreases-row-loop-exprs
+decreases-row-loop-exprs l = length (ahead l.self)
+
+-- the operands so far are the first, and the others that the open bracket holds
+abbrev pub invariant-operands-loop-operands : goal.invariant-operands-loop-operands
+invariant-operands-loop-operands l = record {
+  others : List Expr;
+  items : l.operands.items ≡ l.fn.first ∷ others;
+  read : (done : List Statement) (x : Within) (k : List Frame) (place : Place)
+      → HasRoom (Operands place (spot_of_sign l.sign) (expr_tree l.fn.first) [] ∷ k) l.room
+      → run done (BeforeExpr x (Operands place (spot_of_sign l.sign) (expr_tree l.fn.first) [] ∷ k)) (ahead l.fn.self)
+      ≡ run done (BeforeExpr x (Operands place (spot_of_sign l.sign) (expr_tree l.fn.first) (map expr_tree others) ∷ k))
+      (ahead l.self);
+  shorter : length (ahead l.self) ≤ length (ahead l.fn.self);
+}
+
+abbrev pub decreases-operands-loop-operands : goal.decreases-operands-loop-operands
+decreases-operands-loop-operands l = length (ahead l.self)

@@ -1,0 +1,95 @@
+//! Reads conditions: alternatives, their literals, and square brackets.
+
+ghost use Rattle.std.specs.Prelude.{◌≡◌, ◌<◌, ◌≤◌, true, length, OnOk};
+ghost use Rattle.mp_parser.specs.Lexing.{token_of};
+ghost use Rattle.mp_parser.specs.Machine.{is_punct};
+ghost use Rattle.mp_parser.specs.Parsing.{ahead};
+ghost use Rattle.mp_parser.specs.ConditionParsing.{ConditionGives, AlternativeGives, LiteralGives};
+ghost use Rattle.mp_parser.specs.ConditionParsing.{NegationGives, BracketedGives, EndsCondition, EndsAlternative};
+
+use crate::condition_tree::{Alternative, Condition, Literal};
+use crate::fault::{FaultKind, SyntaxError};
+use crate::parser::Parser;
+use crate::token::Punct;
+use std::alloc::Global;
+
+impl<'a> Parser<'a> {
+    /// Reads a condition, in which at most `room` brackets stand open at once.
+    #[cycle(condition)]
+    pub fn condition(&mut self, alloc: Global, room: usize) -> Result<Condition<'a>, SyntaxError>
+        ensures read { ConditionGives room result (ahead self.old) (ahead self.new) }
+        ensures ends { OnOk result (EndsCondition (token_of self.new.token.kind)) }
+        ensures shorter { OnOk result (length (ahead self.new) < length (ahead self.old)) }
+    {
+        let mut alternatives = Vec::new(alloc);
+        loop {
+            alternatives.push(self.alternative(alloc, room)?)?;
+            if !self.sees_word(b"or") {
+                break;
+            }
+            self.advance();
+        }
+        Ok(Condition { alternatives })
+    }
+
+    // Reads literals with `and` between each two, in which at most `room` brackets stand open at once.
+    #[cycle(condition)]
+    fn alternative(&mut self, alloc: Global, room: usize) -> Result<Alternative<'a>, SyntaxError>
+        ensures read { AlternativeGives room result (ahead self.old) (ahead self.new) }
+        ensures ends { OnOk result (EndsAlternative (token_of self.new.token.kind)) }
+        ensures shorter { OnOk result (length (ahead self.new) < length (ahead self.old)) }
+    {
+        let mut literals = Vec::new(alloc);
+        loop {
+            literals.push(self.literal(alloc, room)?)?;
+            if !self.sees_word(b"and") {
+                break;
+            }
+            self.advance();
+        }
+        Ok(Alternative { literals })
+    }
+
+    // Reads a literal, in which at most `room` brackets stand open at once.
+    #[cycle(condition)]
+    fn literal(&mut self, alloc: Global, room: usize) -> Result<Literal<'a>, SyntaxError>
+        ensures read { LiteralGives room result (ahead self.old) (ahead self.new) }
+        ensures shorter { OnOk result (length (ahead self.new) < length (ahead self.old)) }
+    {
+        let negated = self.negation();
+        if self.sees(Punct::OpenSquare) {
+            let condition = self.bracketed(alloc, room)?;
+            return Ok(Literal::Bracketed { negated, condition });
+        }
+        let atom = self.atom(alloc, room)?;
+        Ok(Literal::Atom { negated, atom })
+    }
+
+    // Passes the word `not` where it is held, and says whether it was.
+    fn negation(&mut self) -> bool
+        ensures read { NegationGives result (ahead self.old) (ahead self.new) }
+        ensures shorter { length (ahead self.new) ≤ length (ahead self.old) }
+    {
+        let negated = self.sees_word(b"not");
+        if negated {
+            self.advance();
+        }
+        negated
+    }
+
+    // Reads a condition in square brackets, of which the opening one is held.
+    #[cycle(condition)]
+    fn bracketed(&mut self, alloc: Global, room: usize) -> Result<Condition<'a>, SyntaxError>
+        requires { is_punct Punct.OpenSquare (token_of self.old.token.kind) ≡ true }
+        ensures read { BracketedGives room result (ahead self.old) (ahead self.new) }
+        ensures shorter { OnOk result (length (ahead self.new) < length (ahead self.old)) }
+    {
+        if room == 0 {
+            return Err(self.fault(FaultKind::TooDeep));
+        }
+        self.advance();
+        let condition = self.condition(alloc, room - 1)?;
+        self.expect(Punct::CloseSquare)?;
+        Ok(condition)
+    }
+}

@@ -1,0 +1,222 @@
+//! Cuts the bytes of a rule file into tokens, from left to right, one at a time.
+
+ghost use Rattle.std.specs.Prelude.{◌≡◌, ◌≤◌, ◌<◌, ◌+◌, ◌-◌, ◌^◌, length, false};
+ghost use Rattle.std.specs.List.{prefix_len};
+ghost use Rattle.mp_parser.specs.Tokens.{is_word_byte, is_sign_byte, is_blank, after_byte, first_place, IsFirstPlace};
+ghost use Rattle.mp_parser.specs.Lexing.{is_underscore, least, run_at, settled, word_or_wildcard_at, punct_at};
+ghost use Rattle.mp_parser.specs.Lexing.{after_blanks, token_of, token_at};
+ghost use Rattle.mp_parser.specs.View.{placed};
+
+use crate::limits::MAX_WORD_BYTES;
+use crate::place::Place;
+use crate::token::{Kind, Punct, Token};
+
+/// The place of the first token of a text, by `IsFirstPlace` of `specs/Tokens.antt`.
+///
+/// The text has fewer than 4,294,967,295 bytes, so that each line and column is a `u32`. Where it has no token, it is
+/// the place of its first byte that begins none, behind blanks and comments, or of the end.
+pub fn first_token_place(bytes: &[u8]) -> Place
+    requires { length bytes.now < 2 ^ 32 - 1 }
+    ensures { IsFirstPlace bytes.now result }
+{
+    let mut lexer = Lexer::new(bytes);
+    lexer.next_token().place
+}
+
+/// The bytes that are left, and the place where they begin.
+#[derive(Clone, Copy, Debug)]
+pub struct Lexer<'a> {
+    rest: &'a [u8],
+    place: Place,
+    ghost lines: { place.line + length rest.now < 2 ^ 32 },
+    ghost columns: { place.column + length rest.now < 2 ^ 32 },
+}
+
+impl<'a> Lexer<'a> {
+    /// A lexer at the first byte of a file. There are fewer than 4,294,967,295 bytes, so that
+    /// each line and column is a `u32`.
+    pub fn new(bytes: &'a [u8]) -> Lexer<'a>
+        requires { length bytes.now < 2 ^ 32 - 1 }
+        ensures rest { result.rest.now ≡ bytes.now }
+        ensures place { result.place ≡ first_place }
+    {
+        Lexer {
+            rest: bytes,
+            place: Place { line: 1, column: 1 },
+        }
+    }
+
+    /// The next token, behind blanks and comments. At the end it is `End`, again and again.
+    ///
+    /// What it is, where it stands and what is left is `token_at` of `specs/Lexing.antt`.
+    pub fn next_token(&mut self) -> Token<'a>
+        ensures { token_at self.old.rest.now self.old.place ≡ (placed result, (self.new.rest.now, self.new.place)) }
+    {
+        self.skip_blanks();
+        let (run, len) = longest(self.rest);
+        let kind = settled(run);
+        let place = self.place;
+        let (_, rest) = self.rest.split_at(len);
+        self.rest = rest;
+        self.place.column += len as u32;
+        Token { kind, place }
+    }
+
+    // Passes the blanks and comments at the front.
+    fn skip_blanks(&mut self)
+        ensures { (self.new.rest.now, self.new.place) ≡ after_blanks false self.old.rest.now self.old.place }
+    {
+        let mut in_comment = false;
+        while let [first, rest @ ..] = self.rest {
+            if in_comment {
+                in_comment = *first != b'\n';
+            } else if *first == b'#' {
+                in_comment = true;
+            } else if !is_blank(*first) {
+                return;
+            }
+            self.place = after_byte(self.place, *first);
+            self.rest = rest;
+        }
+    }
+}
+
+// The place behind a byte.
+fn after_byte(place: Place, byte: u8) -> Place
+    requires line_fits { place.line + 1 < 2 ^ 32 }
+    requires column_fits { place.column + 1 < 2 ^ 32 }
+    ensures { result ≡ after_byte place byte }
+{
+    if byte == b'\n' {
+        Place {
+            line: place.line + 1,
+            column: 1,
+        }
+    } else {
+        Place {
+            line: place.line,
+            column: place.column + 1,
+        }
+    }
+}
+
+// The longest run at the front that is one token, with words of any length and the arrow as a
+// sign, and how many bytes it has.
+fn longest<'a>(bytes: &'a [u8]) -> (Kind<'a>, usize)
+    ensures value { (token_of result.0, result.1) ≡ run_at bytes.now }
+    ensures within { result.1 ≤ length bytes.now }
+{
+    match bytes {
+        [] => (Kind::End, 0),
+        [first, ..] => {
+            if is_word_byte(*first) || *first == b'_' {
+                word_or_wildcard(bytes)
+            } else if is_sign_byte(*first) {
+                let (sign, _) = bytes.split_at(sign_len(bytes));
+                (Kind::Sign(sign), sign.len())
+            } else {
+                (punct(*first), 1)
+            }
+        }
+    }
+}
+
+// The token of a run: `->` is the arrow, and a word of more than 64 bytes is too long.
+fn settled<'a>(run: Kind<'a>) -> Kind<'a>
+    ensures { token_of result ≡ settled (token_of run.entry) }
+{
+    match run {
+        Kind::Word(word) if word.len() > MAX_WORD_BYTES => Kind::Long,
+        Kind::Wildcard { name, kind, .. }
+            if name.len() > MAX_WORD_BYTES || kind.len() > MAX_WORD_BYTES => { Kind::Long }
+        Kind::Sign(sign) if sign == b"->".as_slice() => Kind::Arrow,
+        _ => run,
+    }
+}
+
+// The word or wildcard at the front, and how many bytes it has.
+fn word_or_wildcard<'a>(bytes: &'a [u8]) -> (Kind<'a>, usize)
+    ensures value { (token_of result.0, result.1) ≡ word_or_wildcard_at bytes.now }
+    ensures within { result.1 ≤ length bytes.now }
+{
+    let (name, rest) = bytes.split_at(word_len(bytes));
+    let marks = mark_count(rest);
+    if marks == 0 {
+        return (Kind::Word(name), name.len());
+    }
+    let (_, after) = rest.split_at(marks);
+    let kind_len = if marks == 1 { word_len(after) } else { 0 };
+    let (kind, _) = after.split_at(kind_len);
+    let wildcard = Kind::Wildcard { name, marks, kind };
+    (wildcard, name.len() + marks + kind_len)
+}
+
+// How many letters and digits stand at the front.
+fn word_len(bytes: &[u8]) -> usize
+    ensures value { result ≡ prefix_len is_word_byte bytes.now }
+    ensures within { result ≤ length bytes.now }
+{
+    bytes.iter().take_while(|byte| is_word_byte(**byte)).count()
+}
+
+// How many sign bytes stand at the front.
+fn sign_len(bytes: &[u8]) -> usize
+    ensures value { result ≡ prefix_len is_sign_byte bytes.now }
+    ensures within { result ≤ length bytes.now }
+{
+    bytes.iter().take_while(|byte| is_sign_byte(**byte)).count()
+}
+
+// How many underscores stand at the front, but at most three.
+fn mark_count(bytes: &[u8]) -> usize
+    ensures value { result ≡ least 3 (prefix_len is_underscore bytes.now) }
+    ensures within { result ≤ length bytes.now }
+{
+    match bytes {
+        [b'_', b'_', b'_', ..] => 3,
+        [b'_', b'_', ..] => 2,
+        [b'_', ..] => 1,
+        _ => 0,
+    }
+}
+
+// The punctuation character that a byte is, or `Bad`.
+fn punct(byte: u8) -> Kind<'static>
+    ensures { token_of result ≡ punct_at byte }
+{
+    match byte {
+        b'(' => Kind::Punct(Punct::Open),
+        b')' => Kind::Punct(Punct::Close),
+        b'[' => Kind::Punct(Punct::OpenSquare),
+        b']' => Kind::Punct(Punct::CloseSquare),
+        b'{' => Kind::Punct(Punct::OpenBrace),
+        b'}' => Kind::Punct(Punct::CloseBrace),
+        b',' => Kind::Punct(Punct::Comma),
+        b';' => Kind::Punct(Punct::Semicolon),
+        b':' => Kind::Punct(Punct::Colon),
+        b'.' => Kind::Punct(Punct::Dot),
+        b'$' => Kind::Punct(Punct::Dollar),
+        _ => Kind::Bad,
+    }
+}
+
+// Whether a byte is a letter or a digit.
+fn is_word_byte(byte: u8) -> bool
+    ensures { result ≡ is_word_byte byte }
+{
+    byte.is_ascii_alphanumeric()
+}
+
+// Whether a byte is one of `+ - * / = < > & | ^ ~ ! % @ ?`.
+fn is_sign_byte(byte: u8) -> bool
+    ensures { result ≡ is_sign_byte byte }
+{
+    b"+-*/=<>&|^~!%@?".iter().any(|sign| byte == *sign)
+}
+
+// Whether a byte is a space, a tab, a carriage return or a line feed.
+fn is_blank(byte: u8) -> bool
+    ensures { result ≡ is_blank byte }
+{
+    matches!(byte, b' ' | b'\t' | b'\r' | b'\n')
+}

@@ -1,6 +1,0 @@
-use Rattle.std.proofs.Common.{ap}
-use Rattle.mp_syntax.specs.Lexing.{token_of}
-use Rattle.mp_syntax.proofs.parser.Parser.amount.Goals as goal
-
-pub invariant_of-result : goal.invariant_of-result
-invariant_of-result c = record { named = c.args.self.now.token.spelled.word _ (ap token_of c.in-Word.is) }

@@ -1,5 +1,0 @@
-use Rattle.mp_syntax.proofs.TokensTotal.{tokens-total}
-use Rattle.mp_syntax.proofs.token.tokens_are_total.Goals as goal
-
-pub returns : goal.returns
-returns c = tokens-total
