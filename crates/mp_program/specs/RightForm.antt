@@ -23,8 +23,8 @@ use Rattle.mp_walk.specs.Walkable.{numbered_names}
 use Rattle.mp_print.specs.Printing.{term_text}
 use Rattle.mp_print.specs.PrintedPattern.{pattern_text}
 use Rattle.mp_print.specs.PrintedCond.{cond_text}
-use Rattle.mp_text.specs.Alone.{IsTermOf, IsPatternOf}
-use Rattle.mp_text.specs.AloneCondition.{IsCondOf}
+use Rattle.mp_build.specs.Alone.{IsTermOf, IsPatternOf}
+use Rattle.mp_build.specs.AloneCondition.{IsCondOf}
 use Rattle.mp_program.specs.declared.format.Format.{Format}
 use Rattle.mp_program.specs.declared.format.Format.TheVariants.{One, Two}
 use Rattle.mp_program.specs.Form.{RuleTest, untested, tested, spelled, RuleLine, Form}

@@ -15,33 +15,33 @@ use Rattle.mp_pattern.specs.PatternTree.{Pattern}
 use Rattle.mp_pattern.specs.TemplateTree.{Template}
 use Rattle.mp_pattern.specs.CondTree.{Cond}
 use Rattle.mp_pattern.specs.SoundRule.{IsFormed, IsSoundTemplate, IsSoundCondition}
-use Rattle.mp_syntax.specs.declared.limits.TheConstants.{MAX_OPEN}
-use Rattle.mp_syntax.specs.Lexing.{first_token_place}
-use Rattle.mp_syntax.specs.Syntax.{IsExprOf, IsConditionOf, IsName}
+use Rattle.mp_parser.specs.declared.limits.TheConstants.{MAX_OPEN}
+use Rattle.mp_parser.specs.Lexing.{first_token_place}
+use Rattle.mp_parser.specs.Syntax.{IsExprOf, IsConditionOf, IsName}
 use Rattle.mp_syntax.proofs.Whole.{expr-names, condition_bytes-names}
 use Rattle.mp_syntax.proofs.Printed.{printed_expr-again, printed_condition-again}
 use Rattle.mp_print.specs.Printing.{term_text}
 use Rattle.mp_print.specs.PrintedPattern.{pattern_text}
 use Rattle.mp_print.specs.PrintedTemplate.{template_text}
 use Rattle.mp_print.specs.PrintedCond.{cond_text}
-use Rattle.mp_text.specs.Build.{term_of, pattern_of, template_of}
-use Rattle.mp_text.specs.Checks.{nodes, is_large_term, is_large_pattern, has_large_default, fault_if, loose_faults}
-use Rattle.mp_text.specs.Checks.{term_faults, pattern_faults, whole_pattern_faults}
-use Rattle.mp_text.specs.Scope.{Scope, variable_names}
-use Rattle.mp_text.specs.TemplateChecks.{is_large_template, whole_template_faults}
-use Rattle.mp_text.specs.Conditions.{cond_of}
-use Rattle.mp_text.specs.ConditionChecks.{is_large_condition, condition_faults}
-use Rattle.mp_text.specs.Alone.{start, IsTermOf, IsPatternOf}
-use Rattle.mp_text.specs.AloneCondition.{IsCondOf}
-use Rattle.mp_text.proofs.Words.{IsName-is_name, IsInfixSign-is_sign}
-use Rattle.mp_text.proofs.Faultless.{nil-append, nil-both, nil-fault_if, none-fault_if}
-use Rattle.mp_text.proofs.Clashes.{first_clash-pattern_of}
-use Rattle.mp_text.proofs.FirstToken.{condition-starts}
-use Rattle.mp_text.proofs.SoundConditionLaws.{scoped-cond_of}
+use Rattle.mp_build.specs.Build.{term_of, pattern_of, template_of}
+use Rattle.mp_build.specs.Checks.{nodes, is_large_term, is_large_pattern, has_large_default, fault_if, loose_faults}
+use Rattle.mp_build.specs.Checks.{term_faults, pattern_faults, whole_pattern_faults}
+use Rattle.mp_build.specs.Scope.{Scope, variable_names}
+use Rattle.mp_build.specs.TemplateChecks.{is_large_template, whole_template_faults}
+use Rattle.mp_build.specs.Conditions.{cond_of}
+use Rattle.mp_build.specs.ConditionChecks.{is_large_condition, condition_faults}
+use Rattle.mp_build.specs.Alone.{start, IsTermOf, IsPatternOf}
+use Rattle.mp_build.specs.AloneCondition.{IsCondOf}
+use Rattle.mp_build.proofs.Words.{IsName-is_name, IsInfixSign-is_sign}
+use Rattle.mp_build.proofs.Faultless.{nil-append, nil-both, nil-fault_if, none-fault_if}
+use Rattle.mp_build.proofs.Clashes.{first_clash-pattern_of}
+use Rattle.mp_build.proofs.FirstToken.{condition-starts}
+use Rattle.mp_build.proofs.SoundConditionLaws.{scoped-cond_of}
 use Rattle.mp_text.proofs.DeclaredParts.{IsSomeSign, HasOpNames}
-use Rattle.mp_text.proofs.SoundLaws.{sound-term_of, depth-term_of, depth-pattern_of, IsFormed-pattern_of}
-use Rattle.mp_text.proofs.SoundLaws.{is_loose-loose_faults, pattern_nodes-pattern_of, variables-pattern_of}
-use Rattle.mp_text.proofs.SoundTemplate.{sound-template_of}
+use Rattle.mp_build.proofs.SoundLaws.{sound-term_of, depth-term_of, depth-pattern_of, IsFormed-pattern_of}
+use Rattle.mp_build.proofs.SoundLaws.{is_loose-loose_faults, pattern_nodes-pattern_of, variables-pattern_of}
+use Rattle.mp_build.proofs.SoundTemplate.{sound-template_of}
 use Rattle.mp_round_trip.specs.AloneTemplate.{use_variables, IsTemplateOf}
 use Rattle.mp_round_trip.specs.Spelled.{term_spelling, pattern_spelling, template_spelling, cond_spelling}
 use Rattle.mp_round_trip.specs.OpenBrackets.{condition_depth}

@@ -12,29 +12,29 @@ use Rattle.mp_pattern.specs.CondTree.{Operand, var, ground, fixed, count, size, 
 use Rattle.mp_pattern.specs.CondTree.{of_kind, headed, negation, all_of, any_of, Conds, no_conds, more_conds}
 use Rattle.mp_pattern.specs.CondTree as cond
 use Rattle.mp_pattern.specs.SoundRule.{atom_count, atom_counts}
-use Rattle.mp_syntax.specs.declared.condition_tree.Measure.TheVariants.{Count, Size}
-use Rattle.mp_syntax.specs.declared.condition_tree.Relation.TheVariants.{Same, Less, Free}
-use Rattle.mp_syntax.specs.declared.condition_tree.Property.TheVariants.{Kind, Head}
-use Rattle.mp_syntax.specs.Syntax.{Spot, Tree, Symbol, Apply, InfixOf, Variable, Trees, Amount, Number, Measured, Atom}
-use Rattle.mp_syntax.specs.Syntax.{Compare, Relate, Test, Literal, AtomOf, Bracketed, Literals, no_literals}
-use Rattle.mp_syntax.specs.Syntax.{more_literals, Condition, no_alternatives, more_alternatives}
-use Rattle.mp_syntax.specs.declared.place.Place.{Place}
-use Rattle.mp_text.specs.declared.fault.TextFault.{TextFault}
-use Rattle.mp_text.specs.Names.{number_of}
-use Rattle.mp_text.specs.Build.{head_number, op_number, kind_number, term_of}
-use Rattle.mp_text.specs.Checks.{nodes, has_large_default, is_large_operand, term_faults}
-use Rattle.mp_text.specs.Scope.{Scope, is_bound, is_bound_sequence}
-use Rattle.mp_text.specs.SoundCondition.{MayBeNamed, StandsForOne, IsScopedOperand, IsScopedSingle, IsScopedAmount}
-use Rattle.mp_text.specs.SoundCondition.{IsScoped, AreScoped, IsScopedCondition}
-use Rattle.mp_text.specs.Conditions.{literal_atoms, literals_atoms, atoms, amount_operands, joined, operand_of}
-use Rattle.mp_text.specs.Conditions.{amount_of, atom_of, literal_of, literals_of, alternatives_of, cond_of}
-use Rattle.mp_text.specs.Conditions.{condition_of}
-use Rattle.mp_text.specs.ConditionChecks.{has_large_amount, has_large_operand, is_large_condition}
-use Rattle.mp_text.specs.ConditionChecks.{has_large_condition, unbound_faults, sequence_faults, single_faults}
-use Rattle.mp_text.specs.ConditionChecks.{operand_faults, related_faults, amount_faults, atom_faults, literal_faults}
-use Rattle.mp_text.specs.ConditionChecks.{literals_faults, condition_faults, if_faults}
-use Rattle.mp_text.proofs.Faultless.{nil-both, none-fault_if}
-use Rattle.mp_text.proofs.SoundConditionLaws.{atom_count-all_of, atom_count-any_of, atom_count-atom_of}
+use Rattle.mp_parser.specs.declared.condition_tree.Measure.TheVariants.{Count, Size}
+use Rattle.mp_parser.specs.declared.condition_tree.Relation.TheVariants.{Same, Less, Free}
+use Rattle.mp_parser.specs.declared.condition_tree.Property.TheVariants.{Kind, Head}
+use Rattle.mp_parser.specs.Syntax.{Spot, Tree, Symbol, Apply, InfixOf, Variable, Trees, Amount, Number, Measured, Atom}
+use Rattle.mp_parser.specs.Syntax.{Compare, Relate, Test, Literal, AtomOf, Bracketed, Literals, no_literals}
+use Rattle.mp_parser.specs.Syntax.{more_literals, Condition, no_alternatives, more_alternatives}
+use Rattle.mp_parser.specs.declared.place.Place.{Place}
+use Rattle.mp_build.specs.declared.fault.TextFault.{TextFault}
+use Rattle.mp_build.specs.Names.{number_of}
+use Rattle.mp_build.specs.Build.{head_number, op_number, kind_number, term_of}
+use Rattle.mp_build.specs.Checks.{nodes, has_large_default, is_large_operand, term_faults}
+use Rattle.mp_build.specs.Scope.{Scope, is_bound, is_bound_sequence}
+use Rattle.mp_build.specs.SoundCondition.{MayBeNamed, StandsForOne, IsScopedOperand, IsScopedSingle, IsScopedAmount}
+use Rattle.mp_build.specs.SoundCondition.{IsScoped, AreScoped, IsScopedCondition}
+use Rattle.mp_build.specs.Conditions.{literal_atoms, literals_atoms, atoms, amount_operands, joined, operand_of}
+use Rattle.mp_build.specs.Conditions.{amount_of, atom_of, literal_of, literals_of, alternatives_of, cond_of}
+use Rattle.mp_build.specs.Conditions.{condition_of}
+use Rattle.mp_build.specs.ConditionChecks.{has_large_amount, has_large_operand, is_large_condition}
+use Rattle.mp_build.specs.ConditionChecks.{has_large_condition, unbound_faults, sequence_faults, single_faults}
+use Rattle.mp_build.specs.ConditionChecks.{operand_faults, related_faults, amount_faults, atom_faults, literal_faults}
+use Rattle.mp_build.specs.ConditionChecks.{literals_faults, condition_faults, if_faults}
+use Rattle.mp_build.proofs.Faultless.{nil-both, none-fault_if}
+use Rattle.mp_build.proofs.SoundConditionLaws.{atom_count-all_of, atom_count-any_of, atom_count-atom_of}
 use Rattle.mp_round_trip.proofs.ScopedCondition.{HasScopedCondition}
 use Rattle.mp_round_trip.proofs.Spells.{SpellsTerm, SpellsOperand, SpellsAmount, SpellsAtom, SpellsLiteral}
 use Rattle.mp_round_trip.proofs.Spells.{SpellLiterals}

@@ -3,11 +3,11 @@ use Rattle.std.proofs.Common.{◌≡◌, ◌≤◌, ◌<◌, ℕ, Bool, true, fa
 use Rattle.std.proofs.lemmas.Bool.{ne_eqb}
 use Rattle.mp_pattern.specs.declared.limits.TheConstants.{MAX_COUNT}
 use Rattle.mp_pattern.specs.PatternTree.{counted}
-use Rattle.mp_syntax.specs.Syntax.{Spot}
-use Rattle.mp_text.specs.Build.{count_of, counted_shape}
-use Rattle.mp_text.specs.Checks.{fault_if, count_faults}
-use Rattle.mp_text.specs.Names.{number_of}
-use Rattle.mp_text.proofs.Faultless.{nil-both, none-fault_if}
+use Rattle.mp_parser.specs.Syntax.{Spot}
+use Rattle.mp_build.specs.Build.{count_of, counted_shape}
+use Rattle.mp_build.specs.Checks.{fault_if, count_faults}
+use Rattle.mp_build.specs.Names.{number_of}
+use Rattle.mp_build.proofs.Faultless.{nil-both, none-fault_if}
 
 -- a number above another isn't equal to it
 pub not-equal : (n k : ℕ) → k < n → eqb n k ≡ false

@@ -21,27 +21,31 @@ use Rattle.mp_term.specs.EditFault.{edit_fault}
 use Rattle.mp_term.proofs.SignatureLaws.{is_some-position}
 use Rattle.mp_pattern.specs.declared.limits.TheConstants.{MAX_TERM_NODES, MAX_DEPTH, MAX_INDEX, MAX_EDIT_STATEMENTS}
 use Rattle.mp_pattern.specs.SoundRule.{IsSoundTerm}
-use Rattle.mp_syntax.specs.declared.limits.TheConstants.{MAX_OPEN}
-use Rattle.mp_syntax.specs.Syntax.{Spot, Tree, Trees, no_trees, more_trees, tree_list, AreFit, FitsListed, FitsPosition}
-use Rattle.mp_syntax.specs.Syntax.{AreNumbers, FitsReplacement, ChangesFit, HaveNames, AreNames, PositionHasNames}
-use Rattle.mp_syntax.specs.Syntax.{ReplacementHasNames, ChangesHaveNames, Position, Root, Path, Replacement, Single}
-use Rattle.mp_syntax.specs.Syntax.{Listed, Change, Statement, EditOf}
+use Rattle.mp_parser.specs.declared.limits.TheConstants.{MAX_OPEN}
+use Rattle.mp_parser.specs.Syntax.{Spot, Tree, Trees, no_trees, more_trees, tree_list, AreFit, FitsListed, FitsPosition}
+use Rattle.mp_parser.specs.Syntax.{AreNumbers, FitsReplacement, ChangesFit, HaveNames, AreNames, PositionHasNames}
+use Rattle.mp_parser.specs.Syntax.{ReplacementHasNames, ChangesHaveNames, Position, Root, Path, Replacement, Single}
+use Rattle.mp_parser.specs.Syntax.{Listed, Change, Statement, EditOf}
 use Rattle.mp_syntax.specs.Printed.{unplaced_spot, unplaced_trees, unplaced_position, unplaced_replacement}
 use Rattle.mp_syntax.specs.Printed.{unplaced_change}
 use Rattle.mp_text.specs.declared.file.EditSet.{EditSet}
 use Rattle.mp_text.specs.Subject.{Subject}
-use Rattle.mp_text.specs.Names.{is_among, number_of, subject_names}
-use Rattle.mp_text.specs.declared.fault.TextFault.{TextFault}
-use Rattle.mp_text.specs.Build.{head_number, term_of, op_decls, kind_decls, subjects_of}
+use Rattle.mp_build.specs.Names.{is_among, number_of, subject_names}
+use Rattle.mp_build.specs.declared.fault.TextFault.{TextFault}
+use Rattle.mp_build.specs.Build.{head_number, term_of, op_decls, kind_decls}
+use Rattle.mp_text.specs.Subjects.{subjects_of}
 use Rattle.mp_text.specs.FileBuild.{rules_of}
-use Rattle.mp_text.specs.Checks.{fault_if, is_large_term, term_faults, faults_by}
-use Rattle.mp_text.specs.Edits.{index_of, indexes, new_exprs, edit_of, subject_number, edit_sets_of, edit_sets_behind}
-use Rattle.mp_text.specs.Edits.{edit_sets, is_large_edit, made_faults, new_term_faults, edit_faults_on}
-use Rattle.mp_text.specs.Edits.{edit_statement_faults}
+use Rattle.mp_build.specs.Checks.{fault_if, is_large_term, term_faults, faults_by}
+use Rattle.mp_build.specs.Edits.{index_of, indexes, new_exprs, edit_of}
+use Rattle.mp_text.specs.EditStatements.{subject_number, edit_sets_of, edit_sets_behind}
+use Rattle.mp_build.specs.Edits.{is_large_edit, made_faults, new_term_faults}
+use Rattle.mp_text.specs.EditStatements.{edit_sets, edit_faults_on}
+use Rattle.mp_text.specs.EditStatements.{edit_statement_faults}
 use Rattle.mp_text.specs.FileChecks.{statement_faults}
 use Rattle.mp_text.specs.Sound.{new_depth, IsSoundSubject, IsSoundEdit, IsMakeable, AreOn, IsSoundEditSet}
-use Rattle.mp_text.proofs.Declared.{is_among-list_any, subjects_of-append}
-use Rattle.mp_text.proofs.Faultless.{nil-both, none-fault_if}
+use Rattle.mp_build.proofs.Declared.{is_among-list_any}
+use Rattle.mp_text.proofs.FileSteps.{subjects_of-append}
+use Rattle.mp_build.proofs.Faultless.{nil-both, none-fault_if}
 use Rattle.mp_text.proofs.Statements.{subject_names-append}
 use Rattle.mp_round_trip.specs.Spelled.{index_piece, term_spellings, position_spelling, replacement_spelling}
 use Rattle.mp_round_trip.specs.Spelled.{edit_spelling}

@@ -18,30 +18,32 @@ use Rattle.mp_term.proofs.ListLaws.{all-append, all-map, all-also}
 use Rattle.mp_pattern.specs.Admission.{Rule}
 use Rattle.mp_pattern.specs.TemplateTree.{Template}
 use Rattle.mp_pattern.specs.SoundRule.{IsVariableOf, HasSoundTemplate, IsSoundRule}
-use Rattle.mp_syntax.specs.declared.limits.TheConstants.{MAX_OPEN}
-use Rattle.mp_syntax.specs.Syntax.{Statement, EditOf, AreStatements}
-use Rattle.mp_syntax.specs.Syntax.{StatementsHaveNames, TemplateHasNames, FitsTemplate}
+use Rattle.mp_parser.specs.declared.limits.TheConstants.{MAX_OPEN}
+use Rattle.mp_parser.specs.Syntax.{Statement, EditOf, AreStatements}
+use Rattle.mp_parser.specs.Syntax.{StatementsHaveNames, TemplateHasNames, FitsTemplate}
 use Rattle.mp_syntax.specs.Printed.{unplaced_spot, unplaced_change, unplaced}
 use Rattle.mp_syntax.proofs.Whole.{syntax-names}
-use Rattle.mp_text.specs.declared.fault.TextFault.{TextFault}
+use Rattle.mp_build.specs.declared.fault.TextFault.{TextFault}
 use Rattle.mp_text.specs.File.{FileTree}
-use Rattle.mp_text.specs.Build.{op_decls, kind_decls, sig_of, subjects_of}
+use Rattle.mp_build.specs.Build.{op_decls, kind_decls, sig_of}
+use Rattle.mp_text.specs.Subjects.{subjects_of}
 use Rattle.mp_text.specs.FileBuild.{rules_of, file_over, file_tree_of}
-use Rattle.mp_text.specs.Checks.{op_statement_faults, kind_statement_faults, declaration_faults, faults_by}
+use Rattle.mp_build.specs.Checks.{op_statement_faults, kind_statement_faults, declaration_faults, faults_by}
 use Rattle.mp_text.specs.FileChecks.{statement_faults, faults}
-use Rattle.mp_text.specs.Edits.{edit_sets}
+use Rattle.mp_text.specs.EditStatements.{edit_sets}
 use Rattle.mp_text.specs.declared.file.EditSet.{EditSet}
-use Rattle.mp_text.specs.Flags.{is_long_sign}
-use Rattle.mp_text.specs.Names.{rule_names, subject_names}
+use Rattle.mp_build.specs.Flags.{is_long_sign}
+use Rattle.mp_build.specs.Names.{rule_names, subject_names}
 use Rattle.mp_text.specs.PrintedFile.{file_text}
 use Rattle.mp_text.specs.Reading.{IsFileOf}
 use Rattle.mp_text.specs.Sound.{IsSoundSubject, IsSoundEditSet, IsSoundFile}
 use Rattle.mp_round_trip.specs.Spelled.{piece, op_spelling, kind_spelling, rule_spelling, subject_spelling}
 use Rattle.mp_round_trip.specs.Spelled.{template_spelling, edit_spelling, edit_set_spelling, file_spelling}
-use Rattle.mp_text.proofs.Declared.{op_decls-append, kind_decls-append, names-rules_of}
-use Rattle.mp_text.proofs.Declared.{names-subjects_of, rules_of-append, subjects_of-append}
-use Rattle.mp_text.proofs.Faultless.{nil-append, nil-both}
-use Rattle.mp_text.proofs.Words.{is_name-IsName, IsName-is_name, is_sign-IsInfixSign}
+use Rattle.mp_build.proofs.Declared.{op_decls-append, kind_decls-append}
+use Rattle.mp_text.proofs.FileSteps.{names-rules_of}
+use Rattle.mp_text.proofs.FileSteps.{names-subjects_of, rules_of-append, subjects_of-append}
+use Rattle.mp_build.proofs.Faultless.{nil-append, nil-both}
+use Rattle.mp_build.proofs.Words.{is_name-IsName, IsName-is_name, is_sign-IsInfixSign}
 use Rattle.mp_round_trip.specs.Readable.{IsSpelledSign, IsSpelledOp, IsSpelledSignature}
 use Rattle.mp_round_trip.proofs.SpelledStatements.{file-again}
 use Rattle.mp_text.proofs.SoundFile.{sound-file}

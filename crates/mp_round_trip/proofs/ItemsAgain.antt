@@ -17,27 +17,28 @@ use Rattle.mp_term.specs.Normal.{normal}
 use Rattle.mp_pattern.specs.Normal.{normal_pattern}
 use Rattle.mp_pattern.specs.Admission.{Rule}
 use Rattle.mp_pattern.specs.SoundRule.{IsSoundRule}
-use Rattle.mp_syntax.specs.Syntax.{Tree, Condition, Statement, OpOf, KindOf, RuleOf, SubjectOf, EditOf}
+use Rattle.mp_parser.specs.Syntax.{Tree, Condition, Statement, OpOf, KindOf, RuleOf, SubjectOf, EditOf}
 use Rattle.mp_syntax.specs.Printed.{unplaced_spot, unplaced}
-use Rattle.mp_text.specs.declared.fault.TextFault.{TextFault}
+use Rattle.mp_build.specs.declared.fault.TextFault.{TextFault}
 use Rattle.mp_text.specs.Subject.{Subject}
 use Rattle.mp_text.specs.File.{FileTree}
-use Rattle.mp_text.specs.Build.{op_decl, op_decls, kind_decls, sig_with, subjects_of}
+use Rattle.mp_build.specs.Build.{op_decl, op_decls, kind_decls, sig_with}
+use Rattle.mp_text.specs.Subjects.{subjects_of}
 use Rattle.mp_text.specs.FileBuild.{rules_of}
-use Rattle.mp_text.specs.Checks.{is_large_term, term_faults, whole_pattern_faults, name_faults}
-use Rattle.mp_text.specs.Checks.{op_statement_faults, kind_statement_faults, faults_by}
-use Rattle.mp_text.specs.TemplateChecks.{arrow_faults}
+use Rattle.mp_build.specs.Checks.{is_large_term, term_faults, whole_pattern_faults, name_faults}
+use Rattle.mp_build.specs.Checks.{op_statement_faults, kind_statement_faults, faults_by}
+use Rattle.mp_build.specs.TemplateChecks.{arrow_faults}
 use Rattle.mp_text.specs.FileChecks.{rule_faults, is_large_rule, statement_faults, faults}
-use Rattle.mp_text.specs.Edits.{edit_sets_behind}
-use Rattle.mp_text.specs.Scope.{pattern_variables}
-use Rattle.mp_text.specs.ConditionChecks.{if_faults}
-use Rattle.mp_text.specs.Flags.{some_flag_twice}
-use Rattle.mp_text.specs.Names.{is_among, rule_names, subject_names}
+use Rattle.mp_text.specs.EditStatements.{edit_sets_behind}
+use Rattle.mp_build.specs.Scope.{pattern_variables}
+use Rattle.mp_build.specs.ConditionChecks.{if_faults}
+use Rattle.mp_build.specs.Flags.{some_flag_twice}
+use Rattle.mp_build.specs.Names.{is_among, rule_names, subject_names}
 use Rattle.mp_text.specs.Sound.{IsSoundSubject}
 use Rattle.mp_round_trip.specs.Spelled.{piece, op_spelling, kind_spelling, rule_spelling, subject_spelling}
-use Rattle.mp_text.proofs.Declared.{bytes_eq_comm, kind_decls-append}
-use Rattle.mp_text.proofs.Faultless.{nil-both}
-use Rattle.mp_text.proofs.Words.{first-of, second-of}
+use Rattle.mp_build.proofs.Declared.{bytes_eq_comm, kind_decls-append}
+use Rattle.mp_build.proofs.Faultless.{nil-both}
+use Rattle.mp_build.proofs.Words.{first-of, second-of}
 use Rattle.mp_text.proofs.DeclaredParts.{IsDeclaredOp, IsDeclaredKind}
 use Rattle.mp_round_trip.proofs.SpelledHead.{HasOps}
 use Rattle.mp_round_trip.proofs.SpelledCondition.{IsShallowIf}

@@ -24,26 +24,26 @@ use Rattle.mp_pattern.specs.Subpatterns.{subpatterns, all_subpatterns}
 use Rattle.mp_pattern.specs.SoundRule.{IsSoundTerm, IsFormed, AreFormed, IsSoundPattern, allows_patterns}
 use Rattle.mp_round_trip.specs.Readable.{IsReadablePattern}
 use Rattle.mp_pattern.proofs.ClashLaws.{Agree, AgreesWith, InOrder, InOrder-first_clash_after, same_shape-itself}
-use Rattle.mp_syntax.specs.Syntax as syntax
-use Rattle.mp_syntax.specs.Syntax.{Tree, Symbol, Apply, InfixOf, Wild, Counted, Optional, Variable, Trees, no_trees}
-use Rattle.mp_syntax.specs.Syntax.{more_trees, tree_list}
-use Rattle.mp_text.specs.declared.fault.TextKind.TheVariants.{UnknownKind, KindClash}
-use Rattle.mp_text.specs.Names.{is_same_variable}
-use Rattle.mp_text.specs.Scope.{variable_names}
-use Rattle.mp_text.specs.Build.{head_number, kind_number, marked_shape, kind_shape, variable_of, term_of, pattern_of}
-use Rattle.mp_text.specs.Build.{patterns_of}
-use Rattle.mp_text.specs.Wildcards.{DefaultForm, absent, normal_form, PatternWildcard, without_default, default_form}
-use Rattle.mp_text.specs.Wildcards.{with_count, with_default_form, pattern_wildcards, all_pattern_wildcards}
-use Rattle.mp_text.specs.Wildcards.{same_extent, same_default, same_class, differs}
-use Rattle.mp_text.specs.Checks.{fault_if, nodes, has_large_default, some_large_default, is_large_pattern, allows_args}
-use Rattle.mp_text.specs.Checks.{op_at, op_named, op_signed, kind_unknown, loose_faults, head_faults, arity_faults}
-use Rattle.mp_text.specs.Checks.{sign_faults, default_faults, wildcard_faults, count_faults, pattern_faults}
-use Rattle.mp_text.specs.Checks.{pattern_operand_faults, all_pattern_faults, whole_pattern_faults}
-use Rattle.mp_text.proofs.Built.{pattern_operand_faults-known}
-use Rattle.mp_text.proofs.Clashes.{Apart, Apart-split, wilds, wilds-append, wilds-InOrder}
-use Rattle.mp_text.proofs.Defaults.{default_form-default_faults}
-use Rattle.mp_text.proofs.Faultless.{nil-both, none-fault_if}
-use Rattle.mp_text.proofs.SoundLaws.{pattern_nodes-pattern_of, variables-pattern_of}
+use Rattle.mp_parser.specs.Syntax as syntax
+use Rattle.mp_parser.specs.Syntax.{Tree, Symbol, Apply, InfixOf, Wild, Counted, Optional, Variable, Trees, no_trees}
+use Rattle.mp_parser.specs.Syntax.{more_trees, tree_list}
+use Rattle.mp_build.specs.declared.fault.TextKind.TheVariants.{UnknownKind, KindClash}
+use Rattle.mp_build.specs.Names.{is_same_variable}
+use Rattle.mp_build.specs.Scope.{variable_names}
+use Rattle.mp_build.specs.Build.{head_number, kind_number, marked_shape, kind_shape, variable_of, term_of, pattern_of}
+use Rattle.mp_build.specs.Build.{patterns_of}
+use Rattle.mp_build.specs.Wildcards.{DefaultForm, absent, normal_form, PatternWildcard, without_default, default_form}
+use Rattle.mp_build.specs.Wildcards.{with_count, with_default_form, pattern_wildcards, all_pattern_wildcards}
+use Rattle.mp_build.specs.Wildcards.{same_extent, same_default, same_class, differs}
+use Rattle.mp_build.specs.Checks.{fault_if, nodes, has_large_default, some_large_default, is_large_pattern, allows_args}
+use Rattle.mp_build.specs.Checks.{op_at, op_named, op_signed, kind_unknown, loose_faults, head_faults, arity_faults}
+use Rattle.mp_build.specs.Checks.{sign_faults, default_faults, wildcard_faults, count_faults, pattern_faults}
+use Rattle.mp_build.specs.Checks.{pattern_operand_faults, all_pattern_faults, whole_pattern_faults}
+use Rattle.mp_build.proofs.Built.{pattern_operand_faults-known}
+use Rattle.mp_build.proofs.Clashes.{Apart, Apart-split, wilds, wilds-append, wilds-InOrder}
+use Rattle.mp_build.proofs.Defaults.{default_form-default_faults}
+use Rattle.mp_build.proofs.Faultless.{nil-both, none-fault_if}
+use Rattle.mp_build.proofs.SoundLaws.{pattern_nodes-pattern_of, variables-pattern_of}
 use Rattle.mp_round_trip.proofs.CountAgain.{counted-again, none-count}
 use Rattle.mp_round_trip.proofs.SpelledHead.{kind_name_text-found}
 use Rattle.mp_round_trip.proofs.Spells.{SpellsTerm, SpellsKind, SpellsWildcard, SpellsPattern, SpellPatterns}

@@ -20,15 +20,15 @@ use Rattle.mp_pattern.specs.Firsts.{is_known, add_new, firsts_after}
 use Rattle.mp_pattern.specs.Value.{one_form, seq_form, bag_form, same_name}
 use Rattle.mp_pattern.specs.Variables.{Use, uses, all_uses, variables, comm_above, variable_form}
 use Rattle.mp_pattern.specs.SoundRule.{IsSoundWildcard, IsFormed, AreFormed}
-use Rattle.mp_syntax.specs.Syntax as syntax
-use Rattle.mp_syntax.specs.Syntax.{Tree, Symbol, Apply, InfixOf, Wild, Counted, Optional, Trees, no_trees, more_trees}
-use Rattle.mp_text.specs.Build.{marked_shape, variable_of}
-use Rattle.mp_text.specs.Scope.{Variable, is_many, pattern_variables, all_pattern_variables, is_bound}
-use Rattle.mp_text.specs.Scope.{is_bound_sequence, extent_in}
-use Rattle.mp_text.proofs.BoundNames.{known-once}
-use Rattle.mp_text.proofs.Declared.{bytes_eq_comm}
-use Rattle.mp_text.proofs.SoundLaws.{is_known-alike, firsts_after-alike}
-use Rattle.mp_text.proofs.Words.{IsName-is_name}
+use Rattle.mp_parser.specs.Syntax as syntax
+use Rattle.mp_parser.specs.Syntax.{Tree, Symbol, Apply, InfixOf, Wild, Counted, Optional, Trees, no_trees, more_trees}
+use Rattle.mp_build.specs.Build.{marked_shape, variable_of}
+use Rattle.mp_build.specs.Scope.{Variable, is_many, pattern_variables, all_pattern_variables, is_bound}
+use Rattle.mp_build.specs.Scope.{is_bound_sequence, extent_in}
+use Rattle.mp_build.proofs.BoundNames.{known-once}
+use Rattle.mp_build.proofs.Declared.{bytes_eq_comm}
+use Rattle.mp_build.proofs.SoundLaws.{is_known-alike, firsts_after-alike}
+use Rattle.mp_build.proofs.Words.{IsName-is_name}
 use Rattle.mp_round_trip.specs.AloneTemplate.{use_variable, use_variables}
 use Rattle.mp_round_trip.proofs.Spells.{SpellsPattern, SpellPatterns}
 use Rattle.mp_round_trip.proofs.CountAgain.{not-equal, counted-again}

@@ -10,9 +10,9 @@ use Rattle.mp_pattern.specs.Value.{same_name, one_form}
 use Rattle.mp_pattern.specs.Variables.{variables, variable_form}
 use Rattle.mp_pattern.specs.SoundRule.{IsSoundOperand, IsSingle, IsSoundAmount, IsChecked, AreChecked}
 use Rattle.mp_pattern.specs.SoundRule.{IsSoundCondition, HasSoundCondition}
-use Rattle.mp_text.specs.Scope.{Scope}
-use Rattle.mp_text.specs.SoundCondition.{MayBeNamed, StandsForOne, IsScopedOperand, IsScopedSingle, IsScopedAmount}
-use Rattle.mp_text.specs.SoundCondition.{IsScoped, AreScoped, IsScopedCondition}
+use Rattle.mp_build.specs.Scope.{Scope}
+use Rattle.mp_build.specs.SoundCondition.{MayBeNamed, StandsForOne, IsScopedOperand, IsScopedSingle, IsScopedAmount}
+use Rattle.mp_build.specs.SoundCondition.{IsScoped, AreScoped, IsScopedCondition}
 
 -- so is a condition that there is
 abbrev pub HasScopedCondition : Sig → Scope → Option Cond → Type 0

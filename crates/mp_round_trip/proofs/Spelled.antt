@@ -12,11 +12,11 @@ use Rattle.mp_pattern.specs.TemplateTree as template
 use Rattle.mp_pattern.specs.declared.condition.Sense as compared
 use Rattle.mp_pattern.specs.declared.condition.Sense.TheVariants as way
 use Rattle.mp_pattern.specs.CondTree as cond
-use Rattle.mp_syntax.specs.declared.token.Punct.{Punct}
-use Rattle.mp_syntax.specs.declared.token.Punct.TheVariants.{Close}
-use Rattle.mp_syntax.specs.Tokens.{first_place, byte_of}
-use Rattle.mp_syntax.specs.Syntax.{Apply, InfixOf, Trees, no_trees, more_trees, tree_list}
-use Rattle.mp_syntax.specs.Syntax.{Literal, AtomOf, Bracketed, sense_sign}
+use Rattle.mp_parser.specs.declared.token.Punct.{Punct}
+use Rattle.mp_parser.specs.declared.token.Punct.TheVariants.{Close}
+use Rattle.mp_parser.specs.Tokens.{first_place, byte_of}
+use Rattle.mp_parser.specs.Syntax.{Apply, InfixOf, Trees, no_trees, more_trees, tree_list}
+use Rattle.mp_parser.specs.Syntax.{Literal, AtomOf, Bracketed, sense_sign}
 use Rattle.mp_syntax.specs.Printed as syntax
 use Rattle.mp_syntax.specs.Printed.{literal_text, literals_text, alternatives_text, condition_text}
 use Rattle.mp_syntax.specs.Printed.{tree_text, first_text, others_text}

@@ -9,28 +9,28 @@ use Rattle.mp_pattern.specs.CondTree.{Operand, var, ground, fixed, count, size, 
 use Rattle.mp_pattern.specs.CondTree.{headed, negation, all_of, any_of, Conds, no_conds, more_conds}
 use Rattle.mp_pattern.specs.CondTree as cond
 use Rattle.mp_pattern.specs.SoundRule.{AreSeveral}
-use Rattle.mp_syntax.specs.declared.limits.TheConstants.{MAX_OPEN}
-use Rattle.mp_syntax.specs.declared.condition_tree.Measure.TheVariants.{Count, Size}
-use Rattle.mp_syntax.specs.declared.condition_tree.Relation.TheVariants.{Same, Less, Free}
-use Rattle.mp_syntax.specs.declared.condition_tree.Property.TheVariants.{Kind, Head}
-use Rattle.mp_syntax.specs.Syntax.{Tree, Variable, Amount, Number, Measured, Atom, Compare, Relate, Test, Literal}
-use Rattle.mp_syntax.specs.Syntax.{AtomOf, Bracketed, Literals, no_literals, more_literals, Condition, no_alternatives}
-use Rattle.mp_syntax.specs.Syntax.{more_alternatives, Fits, FitsAmount, FitsAtom, HasLiteral, HasAlternative}
-use Rattle.mp_syntax.specs.Syntax.{FitsLiteral, LiteralsFit, AlternativesFit, FitsCondition, FitsIf, IsName, HasNames}
-use Rattle.mp_syntax.specs.Syntax.{AmountHasNames}
-use Rattle.mp_syntax.specs.Syntax.{LiteralHasNames, LiteralsHaveNames, ConditionHasNames, IfHasNames}
-use Rattle.mp_syntax.proofs.Trees.{variable-fits}
-use Rattle.mp_text.specs.Build.{term_of}
-use Rattle.mp_text.specs.Conditions.{joined, operand_of, amount_of, atom_of, literal_of, literals_of, alternatives_of}
-use Rattle.mp_text.specs.Conditions.{cond_of, condition_of}
-use Rattle.mp_text.specs.Scope.{Scope}
-use Rattle.mp_text.specs.SoundCondition.{MayBeNamed, IsScopedOperand, IsScopedAmount, IsScoped, AreScoped}
+use Rattle.mp_parser.specs.declared.limits.TheConstants.{MAX_OPEN}
+use Rattle.mp_parser.specs.declared.condition_tree.Measure.TheVariants.{Count, Size}
+use Rattle.mp_parser.specs.declared.condition_tree.Relation.TheVariants.{Same, Less, Free}
+use Rattle.mp_parser.specs.declared.condition_tree.Property.TheVariants.{Kind, Head}
+use Rattle.mp_parser.specs.Syntax.{Tree, Variable, Amount, Number, Measured, Atom, Compare, Relate, Test, Literal}
+use Rattle.mp_parser.specs.Syntax.{AtomOf, Bracketed, Literals, no_literals, more_literals, Condition, no_alternatives}
+use Rattle.mp_parser.specs.Syntax.{more_alternatives, Fits, FitsAmount, FitsAtom, HasLiteral, HasAlternative}
+use Rattle.mp_parser.specs.Syntax.{FitsLiteral, LiteralsFit, AlternativesFit, FitsCondition, FitsIf, IsName, HasNames}
+use Rattle.mp_parser.specs.Syntax.{AmountHasNames}
+use Rattle.mp_parser.specs.Syntax.{LiteralHasNames, LiteralsHaveNames, ConditionHasNames, IfHasNames}
+use Rattle.mp_parser.proofs.Trees.{variable-fits}
+use Rattle.mp_build.specs.Build.{term_of}
+use Rattle.mp_build.specs.Conditions.{joined, operand_of, amount_of, atom_of, literal_of, literals_of, alternatives_of}
+use Rattle.mp_build.specs.Conditions.{cond_of, condition_of}
+use Rattle.mp_build.specs.Scope.{Scope}
+use Rattle.mp_build.specs.SoundCondition.{MayBeNamed, IsScopedOperand, IsScopedAmount, IsScoped, AreScoped}
 use Rattle.mp_round_trip.specs.OpenBrackets.{operand_depth, amount_depth, negated_depth, literal_depth, literals_depth}
 use Rattle.mp_round_trip.specs.OpenBrackets.{alternatives_depth, condition_depth}
 use Rattle.mp_round_trip.specs.Spelled.{piece, negated_spelling, operand_spelling, amount_spelling, literal_spelling}
 use Rattle.mp_round_trip.specs.Spelled.{literal_spellings, alternative_spellings, cond_spelling}
-use Rattle.mp_text.proofs.Words.{IsName-is_name}
-use Rattle.mp_text.proofs.SoundLaws.{depth-term_of}
+use Rattle.mp_build.proofs.Words.{IsName-is_name}
+use Rattle.mp_build.proofs.SoundLaws.{depth-term_of}
 use Rattle.mp_round_trip.proofs.Spelled.{negated-twice}
 use Rattle.mp_round_trip.proofs.SpelledHead.{HasOps, held-kind, held-op}
 use Rattle.mp_round_trip.proofs.SpelledTerm.{HasNames-term_spelling, Fits-term_spelling}

@@ -16,28 +16,28 @@ use Rattle.std.proofs.lemmas.List.Sums.{sum_by-cons}
 use Rattle.std.proofs.lemmas.List.Folds.{list_all-append}
 use Rattle.std.proofs.lemmas.Bool.{or_parts}
 use Rattle.mp_io.specs.Devices.{Text}
-use Rattle.mp_syntax.specs.declared.limits.TheConstants.{MAX_OPEN, MAX_WORD_BYTES}
+use Rattle.mp_parser.specs.declared.limits.TheConstants.{MAX_OPEN, MAX_WORD_BYTES}
 use Rattle.mp_pattern.specs.declared.limits.TheConstants.{MAX_NUMBER}
 use Rattle.mp_term.specs.declared.limits.TheConstants.{MAX_ARITY, MAX_OPS, MAX_KINDS, MAX_KIND_SYMBOLS}
 use Rattle.mp_term.specs.declared.signature.OpDecl.{OpDecl}
 use Rattle.mp_term.specs.Names.{name_set, names_ascend}
 use Rattle.mp_term.specs.Sorting.{insert_sorted, sorted}
 use Rattle.mp_term.specs.Signature.{Kind, has_name, has_sign, shares_sign, clashes, kind_names}
-use Rattle.mp_syntax.specs.Tokens.{AreWordBytes, is_word_byte}
+use Rattle.mp_parser.specs.Tokens.{AreWordBytes, is_word_byte}
 use Rattle.mp_syntax.specs.Printed.{unplaced_spot, unplaced_flag, unplaced}
-use Rattle.mp_syntax.specs.Syntax.{Spot, Flag, Assoc, Comm, One, Infixed, Statement, OpOf, KindOf, FitsStatement}
-use Rattle.mp_syntax.specs.Syntax.{IsName, HasSign, HaveSigns, AreNames, StatementHasNames}
-use Rattle.mp_text.specs.declared.fault.TextKind.TheVariants.{DuplicateName, TooMany, BadFlags}
-use Rattle.mp_text.specs.Build.{op_decl, sig_with}
-use Rattle.mp_text.specs.Checks.{fault_if, symbol_faults, name_faults, has_bad_flags, held_sign_faults, op_faults}
-use Rattle.mp_text.specs.Checks.{kind_faults}
-use Rattle.mp_text.specs.Flags.{says_assoc, says_comm, says_one, says_infix, is_said, some_flag_twice, sign_spot}
-use Rattle.mp_text.specs.Flags.{is_long_sign}
-use Rattle.mp_text.specs.Names.{is_among, number_after, number_of}
+use Rattle.mp_parser.specs.Syntax.{Spot, Flag, Assoc, Comm, One, Infixed, Statement, OpOf, KindOf, FitsStatement}
+use Rattle.mp_parser.specs.Syntax.{IsName, HasSign, HaveSigns, AreNames, StatementHasNames}
+use Rattle.mp_build.specs.declared.fault.TextKind.TheVariants.{DuplicateName, TooMany, BadFlags}
+use Rattle.mp_build.specs.Build.{op_decl, sig_with}
+use Rattle.mp_build.specs.Checks.{fault_if, symbol_faults, name_faults, has_bad_flags, held_sign_faults, op_faults}
+use Rattle.mp_build.specs.Checks.{kind_faults}
+use Rattle.mp_build.specs.Flags.{says_assoc, says_comm, says_one, says_infix, is_said, some_flag_twice, sign_spot}
+use Rattle.mp_build.specs.Flags.{is_long_sign}
+use Rattle.mp_build.specs.Names.{is_among, number_after, number_of}
 use Rattle.mp_round_trip.specs.Spelled.{piece, flag_if, sign_flags, op_flags, op_spelling, kind_spelling}
-use Rattle.mp_text.proofs.Declared.{is_among-has_name}
-use Rattle.mp_text.proofs.Faultless.{nil-append, nil-both, none-fault_if}
-use Rattle.mp_text.proofs.Words.{first-of, second-of, IsName-is_name}
+use Rattle.mp_build.proofs.Declared.{is_among-has_name}
+use Rattle.mp_build.proofs.Faultless.{nil-append, nil-both, none-fault_if}
+use Rattle.mp_build.proofs.Words.{first-of, second-of, IsName-is_name}
 use Rattle.mp_pattern.specs.SoundRule.{IsSymbol}
 use Rattle.mp_text.proofs.DeclaredParts.{IsSomeSign, short-sign, IsDeclaredOp, IsDeclaredKind}
 use Rattle.mp_round_trip.proofs.TermAgain.{none-symbol}

@@ -16,13 +16,13 @@ use Rattle.mp_term.proofs.SignatureLaws.{position-behind, position-first}
 use Rattle.mp_pattern.specs.SoundRule.{HoldsOp, HoldsKind}
 use Rattle.mp_print.specs.Printing.{kind_name_text}
 use Rattle.mp_print.specs.PrintedCond.{op_name_text}
-use Rattle.mp_syntax.specs.Tokens.{first_place}
-use Rattle.mp_syntax.specs.Syntax.{Tree, Apply, InfixOf, Trees, no_trees, more_trees, tree_list, AreSeveral, Fits}
-use Rattle.mp_syntax.specs.Syntax.{AreFit, IsName, HasNames, HaveNames}
-use Rattle.mp_text.specs.Build.{kind_number, op_number, sign_number}
+use Rattle.mp_parser.specs.Tokens.{first_place}
+use Rattle.mp_parser.specs.Syntax.{Tree, Apply, InfixOf, Trees, no_trees, more_trees, tree_list, AreSeveral, Fits}
+use Rattle.mp_parser.specs.Syntax.{AreFit, IsName, HasNames, HaveNames}
+use Rattle.mp_build.specs.Build.{kind_number, op_number, sign_number}
 use Rattle.mp_round_trip.specs.Spelled.{piece, application_spelling, held_spelling}
 use Rattle.mp_text.proofs.DeclaredParts.{IsSomeSign, HasOpNames}
-use Rattle.mp_text.proofs.Words.{first-of, second-of}
+use Rattle.mp_build.proofs.Words.{first-of, second-of}
 
 -- ---- items of a list
 

@@ -10,12 +10,12 @@ use Rattle.mp_pattern.specs.PatternTree.{Pattern, symbol_pattern, app_pattern, w
 use Rattle.mp_pattern.specs.PatternTree.{more_patterns, pattern_list}
 use Rattle.mp_pattern.specs.SoundRule.{allows_patterns, IsSoundWildcard, IsVariable, IsFormed, AreFormed}
 use Rattle.mp_print.specs.Printing.{kind_name_text}
-use Rattle.mp_syntax.specs.Syntax.{Fits, AreFit, IsName, HasParts, HasNames, HaveNames}
-use Rattle.mp_syntax.proofs.Trees.{wild-fits, counted-fits, optional-fits}
+use Rattle.mp_parser.specs.Syntax.{Fits, AreFit, IsName, HasParts, HasNames, HaveNames}
+use Rattle.mp_parser.proofs.Trees.{wild-fits, counted-fits, optional-fits}
 use Rattle.mp_round_trip.specs.Spelled.{piece, wildcard_piece, term_spelling, wildcard_spelling, pattern_spelling}
 use Rattle.mp_round_trip.specs.Spelled.{pattern_spellings}
-use Rattle.mp_text.proofs.Words.{IsName-is_name}
-use Rattle.mp_text.proofs.SoundLaws.{Found, found-held}
+use Rattle.mp_build.proofs.Words.{IsName-is_name}
+use Rattle.mp_build.proofs.SoundLaws.{Found, found-held}
 use Rattle.mp_round_trip.proofs.SpelledHead.{HasOps, held-kind, HasNames-held, Fits-held}
 use Rattle.mp_round_trip.proofs.SpelledDeclarations.{number-written, name-written}
 use Rattle.mp_round_trip.proofs.SpelledTerm.{HasNoDefault-term_spelling, HasNames-term_spelling, Fits-term_spelling}

@@ -12,10 +12,10 @@ use Rattle.mp_term.specs.Signature.{Sig, Kind}
 use Rattle.mp_pattern.specs.TemplateTree.{Template}
 use Rattle.mp_pattern.specs.CondTree as cond
 use Rattle.mp_pattern.specs.Admission.{Rule}
-use Rattle.mp_syntax.specs.declared.limits.TheConstants.{MAX_OPEN}
-use Rattle.mp_syntax.specs.declared.token.Punct.TheVariants.{CloseSquare}
-use Rattle.mp_syntax.specs.Syntax.{Flag, Assoc, Comm, One, Listed, Statement, IsSyntaxOf, FitsStatement}
-use Rattle.mp_syntax.specs.Syntax.{AreStatements, StatementHasNames, StatementsHaveNames}
+use Rattle.mp_parser.specs.declared.limits.TheConstants.{MAX_OPEN}
+use Rattle.mp_parser.specs.declared.token.Punct.TheVariants.{CloseSquare}
+use Rattle.mp_parser.specs.Syntax.{Flag, Assoc, Comm, One, Listed, Statement, IsSyntaxOf, FitsStatement}
+use Rattle.mp_parser.specs.Syntax.{AreStatements, StatementHasNames, StatementsHaveNames}
 use Rattle.mp_syntax.specs.Printed as syntax
 use Rattle.mp_syntax.specs.Printed.{if_text, plus_text, flag_text, member_text, index_text, replacement_text}
 use Rattle.mp_syntax.specs.Printed.{change_text, changes_text, line_end, statement_text, statements_text, unplaced}

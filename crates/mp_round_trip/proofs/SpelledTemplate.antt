@@ -9,10 +9,10 @@ use Rattle.mp_pattern.specs.PatternTree.{Pattern}
 use Rattle.mp_pattern.specs.SoundRule.{IsVariableOf, IsFormedTemplate, AreFormedTemplates}
 use Rattle.mp_pattern.specs.TemplateTree.{Template, symbol_template, app_template, variable_template, Templates}
 use Rattle.mp_pattern.specs.TemplateTree.{no_templates, more_templates}
-use Rattle.mp_syntax.specs.Syntax.{Fits, AreFit, HasNames, HaveNames}
+use Rattle.mp_parser.specs.Syntax.{Fits, AreFit, HasNames, HaveNames}
 use Rattle.mp_round_trip.specs.Spelled.{template_spelling, template_spellings}
-use Rattle.mp_text.proofs.Words.{IsName-is_name}
-use Rattle.mp_text.proofs.SoundLaws.{Found, found-held}
+use Rattle.mp_build.proofs.Words.{IsName-is_name}
+use Rattle.mp_build.proofs.SoundLaws.{Found, found-held}
 use Rattle.mp_round_trip.proofs.SpelledHead.{HasOps, HasNames-held, Fits-held}
 
 module _ (sig : Sig) (h : HasOps sig) (p : Pattern)

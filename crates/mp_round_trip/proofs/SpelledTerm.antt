@@ -7,10 +7,10 @@ use Rattle.mp_term.specs.Tree.{symbol, app}
 use Rattle.mp_term.specs.Size.{depth, greatest_depth}
 use Rattle.mp_term.specs.Signature.{Sig, allows, well_formed, all_well_formed}
 use Rattle.mp_pattern.specs.SoundRule.{HasSymbols, HaveSymbols}
-use Rattle.mp_syntax.specs.Syntax.{Fits, AreFit, HasNames, HaveNames, HasNoDefault}
+use Rattle.mp_parser.specs.Syntax.{Fits, AreFit, HasNames, HaveNames, HasNoDefault}
 use Rattle.mp_round_trip.specs.Spelled.{term_spelling, term_spellings}
-use Rattle.mp_text.proofs.Words.{IsName-is_name}
-use Rattle.mp_text.proofs.SoundLaws.{Found, found-held}
+use Rattle.mp_build.proofs.Words.{IsName-is_name}
+use Rattle.mp_build.proofs.SoundLaws.{Found, found-held}
 use Rattle.mp_round_trip.proofs.SpelledHead.{HasOps, held_spelling-cases, HasNames-held, Fits-held}
 
 module _ (sig : Sig) (h : HasOps sig) where

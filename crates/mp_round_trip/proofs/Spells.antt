@@ -7,17 +7,17 @@ use Rattle.mp_term.specs.Signature.{Sig}
 use Rattle.mp_pattern.specs.PatternTree as pattern
 use Rattle.mp_pattern.specs.TemplateTree as template
 use Rattle.mp_pattern.specs.CondTree as cond
-use Rattle.mp_syntax.specs.declared.condition_tree.Measure.TheVariants.{Count, Size}
-use Rattle.mp_syntax.specs.declared.condition_tree.Relation.TheVariants.{Same, Less, Free}
-use Rattle.mp_syntax.specs.declared.condition_tree.Property.TheVariants.{Kind, Head}
-use Rattle.mp_syntax.specs.Syntax.{Wildcard, Tree, Symbol, Apply, InfixOf, Wild, Counted, Optional, Variable, Trees}
-use Rattle.mp_syntax.specs.Syntax.{no_trees, more_trees, Amount, Number, Measured, Atom, Compare, Relate, Test, Literal}
-use Rattle.mp_syntax.specs.Syntax.{AtomOf}
-use Rattle.mp_syntax.specs.Syntax.{Bracketed, Literals, no_literals, more_literals, Condition, no_alternatives}
-use Rattle.mp_syntax.specs.Syntax.{more_alternatives}
-use Rattle.mp_text.specs.Names.{number_of}
-use Rattle.mp_text.specs.Build.{op_number, sign_number, kind_number, variable_of}
-use Rattle.mp_text.specs.Conditions.{sense_of, joined}
+use Rattle.mp_parser.specs.declared.condition_tree.Measure.TheVariants.{Count, Size}
+use Rattle.mp_parser.specs.declared.condition_tree.Relation.TheVariants.{Same, Less, Free}
+use Rattle.mp_parser.specs.declared.condition_tree.Property.TheVariants.{Kind, Head}
+use Rattle.mp_parser.specs.Syntax.{Wildcard, Tree, Symbol, Apply, InfixOf, Wild, Counted, Optional, Variable, Trees}
+use Rattle.mp_parser.specs.Syntax.{no_trees, more_trees, Amount, Number, Measured, Atom, Compare, Relate, Test, Literal}
+use Rattle.mp_parser.specs.Syntax.{AtomOf}
+use Rattle.mp_parser.specs.Syntax.{Bracketed, Literals, no_literals, more_literals, Condition, no_alternatives}
+use Rattle.mp_parser.specs.Syntax.{more_alternatives}
+use Rattle.mp_build.specs.Names.{number_of}
+use Rattle.mp_build.specs.Build.{op_number, sign_number, kind_number, variable_of}
+use Rattle.mp_build.specs.Conditions.{sense_of, joined}
 
 -- the underscores of a wildcard
 abbrev pub marks_of : pattern.Wildcard → ℕ

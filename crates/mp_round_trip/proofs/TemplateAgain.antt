@@ -13,16 +13,16 @@ use Rattle.mp_pattern.specs.SoundRule.{IsSoundTemplate, HasSoundTemplate}
 use Rattle.mp_pattern.specs.TemplateSize.{template_nodes, all_template_nodes}
 use Rattle.mp_pattern.specs.TemplateTree.{Template, symbol_template, app_template, variable_template, Templates}
 use Rattle.mp_pattern.specs.TemplateTree.{no_templates, more_templates}
-use Rattle.mp_syntax.specs.Syntax.{Spot, Tree, Symbol, Apply, InfixOf, Trees, no_trees, more_trees}
-use Rattle.mp_syntax.specs.Syntax as syntax
-use Rattle.mp_text.specs.Build.{head_number, template_of, templates_of}
-use Rattle.mp_text.specs.Checks.{nodes, all_nodes, has_large_default, some_large_default, op_at, op_named, op_signed}
-use Rattle.mp_text.specs.Checks.{head_faults, arity_faults, sign_faults}
-use Rattle.mp_text.specs.Scope.{Variable, is_bound, is_bound_sequence, extent_in}
-use Rattle.mp_text.specs.TemplateChecks.{is_large_template, has_large_template, loose_template_faults, allows_given}
-use Rattle.mp_text.specs.TemplateChecks.{template_faults, template_operand_faults, all_template_faults}
-use Rattle.mp_text.specs.TemplateChecks.{whole_template_faults, arrow_faults}
-use Rattle.mp_text.proofs.Faultless.{nil-both, none-fault_if}
+use Rattle.mp_parser.specs.Syntax.{Spot, Tree, Symbol, Apply, InfixOf, Trees, no_trees, more_trees}
+use Rattle.mp_parser.specs.Syntax as syntax
+use Rattle.mp_build.specs.Build.{head_number, template_of, templates_of}
+use Rattle.mp_build.specs.Checks.{nodes, all_nodes, has_large_default, some_large_default, op_at, op_named, op_signed}
+use Rattle.mp_build.specs.Checks.{head_faults, arity_faults, sign_faults}
+use Rattle.mp_build.specs.Scope.{Variable, is_bound, is_bound_sequence, extent_in}
+use Rattle.mp_build.specs.TemplateChecks.{is_large_template, has_large_template, loose_template_faults, allows_given}
+use Rattle.mp_build.specs.TemplateChecks.{template_faults, template_operand_faults, all_template_faults}
+use Rattle.mp_build.specs.TemplateChecks.{whole_template_faults, arrow_faults}
+use Rattle.mp_build.proofs.Faultless.{nil-both, none-fault_if}
 use Rattle.mp_round_trip.proofs.Spells.{SpellsTemplate, SpellTemplates, SpellsArrow}
 use Rattle.mp_round_trip.proofs.TermAgain.{none-head, none-arity, some-holds_of, none-symbol}
 

@@ -12,16 +12,16 @@ use Rattle.mp_term.specs.Signature.{Sig, has_name, holds_of, allows, well_formed
 use Rattle.mp_term.proofs.SignatureLaws.{is_some-position}
 use Rattle.mp_pattern.specs.declared.limits.TheConstants.{MAX_TERM_NODES}
 use Rattle.mp_pattern.specs.SoundRule.{IsSymbol, HasSymbols, HaveSymbols}
-use Rattle.mp_syntax.specs.declared.place.Place.{Place}
-use Rattle.mp_syntax.specs.Syntax.{Spot, Tree, Symbol, Apply, InfixOf, Trees, no_trees, more_trees, tree_list}
-use Rattle.mp_text.specs.Build.{head_number, op_number, term_of, terms_of}
-use Rattle.mp_text.specs.Checks.{nodes, has_large_default, some_large_default, is_large_term, op_at, op_named}
-use Rattle.mp_text.specs.Checks.{op_signed}
-use Rattle.mp_text.specs.Checks.{symbol_faults, head_faults, arity_faults, sign_faults, term_faults}
-use Rattle.mp_text.specs.Checks.{term_operand_faults, all_term_faults}
-use Rattle.mp_text.proofs.Built.{term_operand_faults-known}
-use Rattle.mp_text.proofs.Faultless.{nil-both, none-fault_if}
-use Rattle.mp_text.proofs.SoundLaws.{node_count-term_of}
+use Rattle.mp_parser.specs.declared.place.Place.{Place}
+use Rattle.mp_parser.specs.Syntax.{Spot, Tree, Symbol, Apply, InfixOf, Trees, no_trees, more_trees, tree_list}
+use Rattle.mp_build.specs.Build.{head_number, op_number, term_of, terms_of}
+use Rattle.mp_build.specs.Checks.{nodes, has_large_default, some_large_default, is_large_term, op_at, op_named}
+use Rattle.mp_build.specs.Checks.{op_signed}
+use Rattle.mp_build.specs.Checks.{symbol_faults, head_faults, arity_faults, sign_faults, term_faults}
+use Rattle.mp_build.specs.Checks.{term_operand_faults, all_term_faults}
+use Rattle.mp_build.proofs.Built.{term_operand_faults-known}
+use Rattle.mp_build.proofs.Faultless.{nil-both, none-fault_if}
+use Rattle.mp_build.proofs.SoundLaws.{node_count-term_of}
 use Rattle.mp_round_trip.proofs.Spells.{SpellsTerm, SpellTerms}
 
 -- ---- operations

@@ -14,26 +14,26 @@ use Rattle.mp_pattern.specs.CondTree.{headed, negation, all_of, any_of, Conds, n
 use Rattle.mp_pattern.specs.CondTree as cond
 use Rattle.mp_pattern.specs.SoundRule.{IsSoundWildcard, IsVariable, IsFormed, AreFormed, IsFormedTemplate}
 use Rattle.mp_pattern.specs.SoundRule.{AreFormedTemplates, HasSoundTemplate, AreSeveral}
-use Rattle.mp_syntax.specs.declared.condition_tree.Measure.TheVariants.{Count, Size}
+use Rattle.mp_parser.specs.declared.condition_tree.Measure.TheVariants.{Count, Size}
 use Rattle.mp_pattern.specs.declared.condition.Sense.{Sense}
 use Rattle.mp_pattern.specs.declared.condition.Sense.TheVariants.{Lt, Le, Gt, Ge, Eq, Ne}
-use Rattle.mp_syntax.specs.declared.condition_tree.Relation.TheVariants.{Same, Less, Free}
-use Rattle.mp_syntax.specs.declared.condition_tree.Property.TheVariants as properties
-use Rattle.mp_syntax.specs.declared.place.Place.{Place}
-use Rattle.mp_syntax.specs.Tokens.{first_place}
-use Rattle.mp_syntax.specs.Syntax.{Spot, Wildcard, Tree, Symbol, Apply, InfixOf, Wild, Counted, Optional, Variable}
-use Rattle.mp_syntax.specs.Syntax.{Trees, no_trees, more_trees, Amount, Number, Measured, Compare, Relate, Test}
-use Rattle.mp_syntax.specs.Syntax.{Literal}
-use Rattle.mp_syntax.specs.Syntax.{AtomOf, Bracketed, Literals, no_literals, more_literals, Condition, no_alternatives}
-use Rattle.mp_syntax.specs.Syntax.{more_alternatives}
+use Rattle.mp_parser.specs.declared.condition_tree.Relation.TheVariants.{Same, Less, Free}
+use Rattle.mp_parser.specs.declared.condition_tree.Property.TheVariants as properties
+use Rattle.mp_parser.specs.declared.place.Place.{Place}
+use Rattle.mp_parser.specs.Tokens.{first_place}
+use Rattle.mp_parser.specs.Syntax.{Spot, Wildcard, Tree, Symbol, Apply, InfixOf, Wild, Counted, Optional, Variable}
+use Rattle.mp_parser.specs.Syntax.{Trees, no_trees, more_trees, Amount, Number, Measured, Compare, Relate, Test}
+use Rattle.mp_parser.specs.Syntax.{Literal}
+use Rattle.mp_parser.specs.Syntax.{AtomOf, Bracketed, Literals, no_literals, more_literals, Condition, no_alternatives}
+use Rattle.mp_parser.specs.Syntax.{more_alternatives}
 use Rattle.mp_syntax.specs.Printed.{unplaced_template, unplaced_spot, unplaced_wildcard, unplaced_tree, unplaced_trees}
 use Rattle.mp_syntax.specs.Printed.{unplaced_amount}
 use Rattle.mp_syntax.specs.Printed.{unplaced_literal, unplaced_literals, unplaced_condition, unplaced_if}
-use Rattle.mp_text.specs.Build.{op_number, sign_number, kind_number, variable_of}
-use Rattle.mp_text.specs.Conditions.{sense_of, joined}
-use Rattle.mp_text.specs.Names.{number_of}
-use Rattle.mp_text.specs.Scope.{Scope}
-use Rattle.mp_text.specs.SoundCondition.{IsScopedOperand, IsScopedAmount, IsScoped, AreScoped}
+use Rattle.mp_build.specs.Build.{op_number, sign_number, kind_number, variable_of}
+use Rattle.mp_build.specs.Conditions.{sense_of, joined}
+use Rattle.mp_build.specs.Names.{number_of}
+use Rattle.mp_build.specs.Scope.{Scope}
+use Rattle.mp_build.specs.SoundCondition.{IsScopedOperand, IsScopedAmount, IsScoped, AreScoped}
 use Rattle.mp_print.specs.Printing.{kind_name_text}
 use Rattle.mp_print.specs.PrintedCond.{op_name_text}
 use Rattle.mp_round_trip.specs.Spelled.{piece, wildcard_piece, held_spelling, term_spelling, term_spellings}

@@ -5,14 +5,14 @@ use Rattle.mp_pattern.specs.Extent.{extent}
 use Rattle.mp_pattern.specs.PatternTree.{Pattern}
 use Rattle.mp_pattern.specs.TemplateTree.{Template}
 use Rattle.mp_pattern.specs.Variables.{Use, uses}
-use Rattle.mp_syntax.specs.Syntax.{Tree, IsExprOf}
-use Rattle.mp_text.specs.declared.fault.TextKind.TheVariants.{TooMany}
-use Rattle.mp_text.specs.declared.fault.TextFault.{TextFault}
-use Rattle.mp_text.specs.Alone.{start, IsValueOf}
-use Rattle.mp_text.specs.Build.{template_of}
-use Rattle.mp_text.specs.Checks.{fault_if}
-use Rattle.mp_text.specs.Scope.{Variable}
-use Rattle.mp_text.specs.TemplateChecks.{is_large_template, whole_template_faults}
+use Rattle.mp_parser.specs.Syntax.{Tree, IsExprOf}
+use Rattle.mp_build.specs.declared.fault.TextKind.TheVariants.{TooMany}
+use Rattle.mp_build.specs.declared.fault.TextFault.{TextFault}
+use Rattle.mp_build.specs.Alone.{start, IsValueOf}
+use Rattle.mp_build.specs.Build.{template_of}
+use Rattle.mp_build.specs.Checks.{fault_if}
+use Rattle.mp_build.specs.Scope.{Variable}
+use Rattle.mp_build.specs.TemplateChecks.{is_large_template, whole_template_faults}
 
 -- an occurrence of a variable in a pattern, as one that may be named
 abbrev pub use_variable : Use → Variable

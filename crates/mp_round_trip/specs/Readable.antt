@@ -16,8 +16,8 @@ use Rattle.mp_pattern.specs.Variables.{variables}
 use Rattle.mp_pattern.specs.Clash.{first_clash}
 use Rattle.mp_pattern.specs.CondTree.{Cond}
 use Rattle.mp_pattern.specs.SoundRule.{HasSymbols, IsFormed}
-use Rattle.mp_text.specs.Scope.{Scope}
-use Rattle.mp_text.specs.SoundCondition.{IsScopedCondition}
+use Rattle.mp_build.specs.Scope.{Scope}
+use Rattle.mp_build.specs.SoundCondition.{IsScopedCondition}
 use Rattle.mp_round_trip.specs.OpenBrackets.{condition_depth}
 
 -- the sign, where there is one, is a sign

@@ -13,20 +13,20 @@ use Rattle.mp_pattern.specs.declared.condition.Sense as compared
 use Rattle.mp_pattern.specs.declared.condition.Sense.TheVariants as way
 use Rattle.mp_pattern.specs.CondTree as cond
 use Rattle.mp_pattern.specs.Admission.{Rule}
-use Rattle.mp_syntax.specs.declared.condition_tree.Measure.TheVariants.{Count, Size}
-use Rattle.mp_syntax.specs.declared.condition_tree.Sense.{Sense}
-use Rattle.mp_syntax.specs.declared.condition_tree.Sense.TheVariants.{Lt, Le, Gt, Ge, Eq, Ne}
-use Rattle.mp_syntax.specs.declared.condition_tree.Relation.TheVariants.{Same, Less, Free}
-use Rattle.mp_syntax.specs.declared.condition_tree.Property.TheVariants as properties
-use Rattle.mp_syntax.specs.Tokens.{first_place}
-use Rattle.mp_syntax.specs.Syntax as syntax
-use Rattle.mp_syntax.specs.Syntax.{Spot, Tree, Symbol, Apply, InfixOf, Wild, Counted, Optional, Variable, Trees}
-use Rattle.mp_syntax.specs.Syntax.{no_trees, more_trees, tree_list, Flag, Assoc, Comm, One, Infixed, Amount, Number}
-use Rattle.mp_syntax.specs.Syntax.{Measured}
-use Rattle.mp_syntax.specs.Syntax.{Compare, Relate, Test, Literal, AtomOf, Bracketed, Literals, no_literals}
-use Rattle.mp_syntax.specs.Syntax.{more_literals, Condition, no_alternatives, more_alternatives, Statement, OpOf}
-use Rattle.mp_syntax.specs.Syntax.{KindOf, RuleOf, SubjectOf, EditOf, Position, Root, Path, Replacement, Single, Listed}
-use Rattle.mp_syntax.specs.Syntax.{Change}
+use Rattle.mp_parser.specs.declared.condition_tree.Measure.TheVariants.{Count, Size}
+use Rattle.mp_parser.specs.declared.condition_tree.Sense.{Sense}
+use Rattle.mp_parser.specs.declared.condition_tree.Sense.TheVariants.{Lt, Le, Gt, Ge, Eq, Ne}
+use Rattle.mp_parser.specs.declared.condition_tree.Relation.TheVariants.{Same, Less, Free}
+use Rattle.mp_parser.specs.declared.condition_tree.Property.TheVariants as properties
+use Rattle.mp_parser.specs.Tokens.{first_place}
+use Rattle.mp_parser.specs.Syntax as syntax
+use Rattle.mp_parser.specs.Syntax.{Spot, Tree, Symbol, Apply, InfixOf, Wild, Counted, Optional, Variable, Trees}
+use Rattle.mp_parser.specs.Syntax.{no_trees, more_trees, tree_list, Flag, Assoc, Comm, One, Infixed, Amount, Number}
+use Rattle.mp_parser.specs.Syntax.{Measured}
+use Rattle.mp_parser.specs.Syntax.{Compare, Relate, Test, Literal, AtomOf, Bracketed, Literals, no_literals}
+use Rattle.mp_parser.specs.Syntax.{more_literals, Condition, no_alternatives, more_alternatives, Statement, OpOf}
+use Rattle.mp_parser.specs.Syntax.{KindOf, RuleOf, SubjectOf, EditOf, Position, Root, Path, Replacement, Single, Listed}
+use Rattle.mp_parser.specs.Syntax.{Change}
 use Rattle.mp_text.specs.declared.file.EditSet.{EditSet}
 use Rattle.mp_text.specs.Subject.{Subject}
 use Rattle.mp_text.specs.File.{FileTree}

@@ -1,8 +1,8 @@
 //! The laws of whole files: what is printed of a file is read again.
 
 ghost use Rattle.std.specs.Prelude.{◌≡◌, ℕ, List, map};
-ghost use Rattle.mp_syntax.specs.declared.limits.TheConstants.{MAX_OPEN};
-ghost use Rattle.mp_syntax.specs.Syntax.{Statement, IsSyntaxOf, AreStatements, StatementsHaveNames};
+ghost use Rattle.mp_parser.specs.declared.limits.TheConstants.{MAX_OPEN};
+ghost use Rattle.mp_parser.specs.Syntax.{Statement, IsSyntaxOf, AreStatements, StatementsHaveNames};
 ghost use Rattle.mp_syntax.specs.Printed.{unplaced};
 ghost use Rattle.mp_text.specs.File.{FileTree};
 ghost use Rattle.mp_text.specs.PrintedFile.{file_text};

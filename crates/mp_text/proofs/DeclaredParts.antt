@@ -15,10 +15,10 @@ use Rattle.mp_term.specs.Signature.{Kind, in_order}
 use Rattle.mp_term.proofs.Sorting.{length-sorted}
 use Rattle.mp_pattern.proofs.SortedLaws.{all-sorted}
 use Rattle.mp_pattern.specs.SoundRule.{IsSymbol}
-use Rattle.mp_syntax.specs.Tokens.{first_place}
-use Rattle.mp_syntax.specs.Syntax.{Spot, IsName, IsInfixSign}
-use Rattle.mp_text.specs.Build.{sig_with}
-use Rattle.mp_text.specs.Flags.{is_long_sign}
+use Rattle.mp_parser.specs.Tokens.{first_place}
+use Rattle.mp_parser.specs.Syntax.{Spot, IsName, IsInfixSign}
+use Rattle.mp_build.specs.Build.{sig_with}
+use Rattle.mp_build.specs.Flags.{is_long_sign}
 
 -- ---- operations
 

@@ -5,20 +5,21 @@ use Rattle.mp_term.specs.Tree as term
 use Rattle.mp_term.specs.Signature.{Sig}
 use Rattle.mp_term.specs.Normal.{normal}
 use Rattle.mp_pattern.specs.Admission.{Rule}
-use Rattle.mp_syntax.specs.Syntax.{Spot, Tree, Condition, Statement, RuleOf, SubjectOf, EditOf, Change}
+use Rattle.mp_parser.specs.Syntax.{Spot, Tree, Condition, Statement, RuleOf, SubjectOf, EditOf, Change}
 use Rattle.mp_pattern.specs.declared.limits.TheConstants.{MAX_SUBJECTS}
 use Rattle.mp_text.specs.declared.file.EditSet.{EditSet}
-use Rattle.mp_text.specs.Edits.{edit_sets_of, edit_sets}
+use Rattle.mp_text.specs.EditStatements.{edit_sets_of, edit_sets}
 use Rattle.mp_text.specs.declared.reader.Draft.{Draft}
 use Rattle.mp_text.specs.File.{FileTree}
 use Rattle.mp_text.specs.Subject.{Subject}
-use Rattle.mp_text.specs.Names.{rule_names, subject_names}
-use Rattle.mp_text.specs.Build.{term_of, subjects_of}
+use Rattle.mp_build.specs.Names.{rule_names, subject_names}
+use Rattle.mp_build.specs.Build.{term_of}
+use Rattle.mp_text.specs.Subjects.{subjects_of}
 use Rattle.mp_text.specs.FileBuild.{rule_of, rules_of}
 use Rattle.mp_text.specs.Draft.{IsDraftOf}
-use Rattle.mp_text.proofs.Declared.{length-held_rules, length-held_subjects, rules_of-RuleOf, subjects_of-SubjectOf}
-use Rattle.mp_text.proofs.Declared.{file_over-declaration, file_over-RuleOf, file_over-SubjectOf, file_over-EditOf}
-use Rattle.mp_text.proofs.Declared.{edit_sets-push}
+use Rattle.mp_text.proofs.FileSteps.{length-held_rules, length-held_subjects, rules_of-RuleOf, subjects_of-SubjectOf}
+use Rattle.mp_text.proofs.FileSteps.{file_over-declaration, file_over-RuleOf, file_over-SubjectOf, file_over-EditOf}
+use Rattle.mp_text.proofs.FileSteps.{edit_sets-push}
 use Rattle.mp_text.proofs.Statements.{rule_names-append, subject_names-append}
 
 module _ (sig : Sig) (ss : List Statement) (d : Draft) (is : IsDraftOf sig ss d) where

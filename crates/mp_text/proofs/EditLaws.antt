@@ -6,20 +6,21 @@ use Rattle.std.specs.Prelude.{Option, Some, None, is_some, option_and_then, slic
 use Rattle.std.proofs.lemmas.Bool.Decides.{nat_tests}
 use Rattle.mp_term.specs.Signature.{Sig}
 use Rattle.mp_pattern.specs.declared.limits.TheConstants.{MAX_EDIT_STATEMENTS}
-use Rattle.mp_syntax.specs.Syntax.{Spot, Statement, Change}
-use Rattle.mp_text.specs.declared.fault.TextKind.TheVariants.{TooMany, UnknownSubject}
-use Rattle.mp_text.specs.declared.fault.TextFault.{TextFault}
-use Rattle.mp_text.specs.declared.fault.TextError.{TextError}
-use Rattle.mp_text.specs.declared.fault.TextError.TheVariants.{Text}
-use Rattle.mp_text.specs.Answers.{Fails}
-use Rattle.mp_text.specs.Names.{is_among, subject_names}
-use Rattle.mp_text.specs.Build.{subjects_of}
-use Rattle.mp_text.specs.Checks.{fault_at, fault_if}
-use Rattle.mp_text.specs.Edits.{subject_number, edit_sets, is_large_edit, new_term_faults, edit_faults_on}
-use Rattle.mp_text.specs.Edits.{edit_statement_faults}
-use Rattle.mp_text.proofs.Declared.{is_some-found}
-use Rattle.mp_text.proofs.Fails.{fails-front, fails-behind, fails-fault_if, none-append}
-use Rattle.mp_text.proofs.Faultless.{none-fault_if}
+use Rattle.mp_parser.specs.Syntax.{Spot, Statement, Change}
+use Rattle.mp_build.specs.declared.fault.TextKind.TheVariants.{TooMany, UnknownSubject}
+use Rattle.mp_build.specs.declared.fault.TextFault.{TextFault}
+use Rattle.mp_build.specs.declared.fault.TextError.{TextError}
+use Rattle.mp_build.specs.declared.fault.TextError.TheVariants.{Text}
+use Rattle.mp_build.specs.Answers.{Fails}
+use Rattle.mp_build.specs.Names.{is_among, subject_names}
+use Rattle.mp_text.specs.Subjects.{subjects_of}
+use Rattle.mp_build.specs.Checks.{fault_at, fault_if}
+use Rattle.mp_build.specs.Edits.{is_large_edit, new_term_faults}
+use Rattle.mp_text.specs.EditStatements.{subject_number, edit_sets, edit_faults_on}
+use Rattle.mp_text.specs.EditStatements.{edit_statement_faults}
+use Rattle.mp_build.proofs.Declared.{is_some-found}
+use Rattle.mp_build.proofs.Fails.{fails-front, fails-behind, fails-fault_if, none-append}
+use Rattle.mp_build.proofs.Faultless.{none-fault_if}
 
 module _ (sig : Sig) (earlier : List Statement) (name : Spot) (cs : List Change) where
   -- the fault at the name of a statement of too many or one that is too large

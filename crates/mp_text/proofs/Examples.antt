@@ -6,12 +6,12 @@ use Rattle.mp_term.proofs.Examples.{plain_decl}
 use Rattle.mp_pattern.specs.PatternTree.{dot, kind, plus, star, counted, symbol_pattern, app_pattern, wild_pattern}
 use Rattle.mp_pattern.specs.PatternTree.{patterns}
 use Rattle.mp_pattern.specs.TemplateTree.{app_template, variable_template, templates}
-use Rattle.mp_syntax.specs.Lexing.{lexemes}
-use Rattle.mp_text.specs.declared.fault.TextKind.{TextKind}
-use Rattle.mp_text.specs.declared.fault.TextKind.TheVariants.{BadByte, Syntax, DuplicateName, TooMany, BadFlags}
-use Rattle.mp_text.specs.declared.fault.TextKind.TheVariants.{UnknownOp, BareOperation, UnknownKind, Arity, KindClash}
-use Rattle.mp_text.specs.declared.fault.TextKind.TheVariants.{LooseSequence, WildcardInTerm, UnboundVariable, BadCount}
-use Rattle.mp_text.specs.declared.fault.TextFault.{TextFault}
+use Rattle.mp_parser.specs.Lexing.{lexemes}
+use Rattle.mp_build.specs.declared.fault.TextKind.{TextKind}
+use Rattle.mp_build.specs.declared.fault.TextKind.TheVariants.{BadByte, Syntax, DuplicateName, TooMany, BadFlags}
+use Rattle.mp_build.specs.declared.fault.TextKind.TheVariants.{UnknownOp, BareOperation, UnknownKind, Arity, KindClash}
+use Rattle.mp_build.specs.declared.fault.TextKind.TheVariants.{LooseSequence, WildcardInTerm, UnboundVariable, BadCount}
+use Rattle.mp_build.specs.declared.fault.TextFault.{TextFault}
 use Rattle.mp_text.specs.Computed.{file_of, fault_of}
 
 -- a fault of this kind, in line 1

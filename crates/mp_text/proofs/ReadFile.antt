@@ -13,19 +13,19 @@ use Rattle.mp_term.specs.Signature.{kind_names, IsSignature}
 use Rattle.mp_term.proofs.NameSets.{names_ascend-name_set}
 use Rattle.mp_term.proofs.SignatureLaws.{IsSignature-add_op, IsSignature-add_kind}
 use Rattle.mp_term.proofs.ListLaws.{all-append}
-use Rattle.mp_syntax.specs.Syntax.{Spot, Flag, Assoc, Comm, One, Infixed, Statement, OpOf, KindOf, RuleOf, SubjectOf}
-use Rattle.mp_syntax.specs.Syntax.{EditOf, HaveSigns, AreNames, StatementHasNames}
-use Rattle.mp_text.specs.Build.{op_decl, op_decls, kind_decl, kind_decls, sig_with}
-use Rattle.mp_text.specs.Checks.{fault_if, symbol_faults, name_faults, has_bad_flags, held_sign_faults, op_faults}
-use Rattle.mp_text.specs.Checks.{kind_faults, op_statement_faults, kind_statement_faults, faults_by}
-use Rattle.mp_text.specs.Flags.{sign_spot}
-use Rattle.mp_text.specs.Names.{number_of}
-use Rattle.mp_text.proofs.Declared.{is_among-has_name, is_among-list_any, op_decls-append, op_decls-other}
-use Rattle.mp_text.proofs.Declared.{kind_decls-append, kind_decls-other}
-use Rattle.mp_text.proofs.Faultless.{nil-append, nil-fault_if}
-use Rattle.mp_text.proofs.OpLaws.{declarable-op_faults}
+use Rattle.mp_parser.specs.Syntax.{Spot, Flag, Assoc, Comm, One, Infixed, Statement, OpOf, KindOf, RuleOf, SubjectOf}
+use Rattle.mp_parser.specs.Syntax.{EditOf, HaveSigns, AreNames, StatementHasNames}
+use Rattle.mp_build.specs.Build.{op_decl, op_decls, kind_decl, kind_decls, sig_with}
+use Rattle.mp_build.specs.Checks.{fault_if, symbol_faults, name_faults, has_bad_flags, held_sign_faults, op_faults}
+use Rattle.mp_build.specs.Checks.{kind_faults, op_statement_faults, kind_statement_faults, faults_by}
+use Rattle.mp_build.specs.Flags.{sign_spot}
+use Rattle.mp_build.specs.Names.{number_of}
+use Rattle.mp_build.proofs.Declared.{is_among-has_name, is_among-list_any, op_decls-append, op_decls-other}
+use Rattle.mp_build.proofs.Declared.{kind_decls-append, kind_decls-other}
+use Rattle.mp_build.proofs.Faultless.{nil-append, nil-fault_if}
+use Rattle.mp_build.proofs.OpLaws.{declarable-op_faults}
 use Rattle.mp_pattern.specs.SoundRule.{IsSymbol}
-use Rattle.mp_text.proofs.SoundLaws.{named-by, IsSymbol-symbol_faults}
+use Rattle.mp_build.proofs.SoundLaws.{named-by, IsSymbol-symbol_faults}
 use Rattle.mp_text.proofs.Statements.{IsRead, holds-behind}
 use Rattle.mp_text.proofs.DeclaredParts.{IsSomeSign, short-sign, IsDeclaredOp, IsDeclaredKind, all-name_set}
 use Rattle.mp_text.proofs.DeclaredParts.{some-name_set, length-name_set-le}

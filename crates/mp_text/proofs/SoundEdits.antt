@@ -26,25 +26,30 @@ use Rattle.mp_term.proofs.SignatureLaws.{is_some-position}
 use Rattle.mp_pattern.specs.declared.limits.TheConstants.{MAX_TERM_NODES, MAX_DEPTH, MAX_SUBJECTS, MAX_INDEX}
 use Rattle.mp_pattern.specs.declared.limits.TheConstants.{MAX_EDIT_STATEMENTS}
 use Rattle.mp_pattern.specs.SoundRule.{IsSoundTerm}
-use Rattle.mp_syntax.specs.declared.limits.TheConstants.{MAX_OPEN}
-use Rattle.mp_syntax.specs.Syntax.{Spot, Tree, Trees, no_trees, more_trees, tree_list, Replacement, Single, Listed}
-use Rattle.mp_syntax.specs.Syntax.{Change}
-use Rattle.mp_syntax.specs.Syntax.{Statement, OpOf, KindOf, RuleOf, SubjectOf, EditOf, HaveNames, AreFit}
-use Rattle.mp_syntax.specs.Syntax.{ReplacementHasNames, ChangesHaveNames, FitsReplacement, ChangesFit}
-use Rattle.mp_text.specs.declared.fault.TextKind.{TextKind}
-use Rattle.mp_text.specs.declared.fault.TextKind.TheVariants.{TooMany, Arity, UnknownSubject, BadPosition, Overlap}
+use Rattle.mp_parser.specs.declared.limits.TheConstants.{MAX_OPEN}
+use Rattle.mp_parser.specs.Syntax.{Spot, Tree, Trees, no_trees, more_trees, tree_list, Replacement, Single, Listed}
+use Rattle.mp_parser.specs.Syntax.{Change}
+use Rattle.mp_parser.specs.Syntax.{Statement, OpOf, KindOf, RuleOf, SubjectOf, EditOf, HaveNames, AreFit}
+use Rattle.mp_parser.specs.Syntax.{ReplacementHasNames, ChangesHaveNames, FitsReplacement, ChangesFit}
+use Rattle.mp_build.specs.declared.fault.TextKind.{TextKind}
+use Rattle.mp_build.specs.declared.fault.TextKind.TheVariants.{TooMany, Arity, UnknownSubject, BadPosition, Overlap}
 use Rattle.mp_text.specs.declared.file.EditSet.{EditSet}
 use Rattle.mp_text.specs.Subject.{Subject}
-use Rattle.mp_text.specs.Names.{is_among, subject_names}
-use Rattle.mp_text.specs.Build.{head_number, term_of, subjects_of}
-use Rattle.mp_text.specs.Checks.{nodes, has_large_default, fault_if, is_large_term, term_faults, name_faults}
-use Rattle.mp_text.specs.Edits.{new_exprs, edit_of, subject_number, edit_sets_of, edit_sets, is_large_edit}
-use Rattle.mp_text.specs.Edits.{change_fault, made_faults, new_term_faults, edit_faults_on, edit_statement_faults}
+use Rattle.mp_build.specs.Names.{is_among, subject_names}
+use Rattle.mp_build.specs.Build.{head_number, term_of}
+use Rattle.mp_text.specs.Subjects.{subjects_of}
+use Rattle.mp_build.specs.Checks.{nodes, has_large_default, fault_if, is_large_term, term_faults, name_faults}
+use Rattle.mp_build.specs.Edits.{new_exprs, edit_of, is_large_edit}
+use Rattle.mp_text.specs.EditStatements.{subject_number, edit_sets_of, edit_sets}
+use Rattle.mp_build.specs.Edits.{change_fault, made_faults, new_term_faults}
+use Rattle.mp_text.specs.EditStatements.{edit_faults_on, edit_statement_faults}
 use Rattle.mp_text.specs.FileChecks.{statement_faults}
 use Rattle.mp_text.specs.Sound.{IsSoundSubject, new_depth, IsSoundEdit, IsMakeable, AreOn, IsSoundEditSet}
-use Rattle.mp_text.proofs.Declared.{is_some-found, names-subjects_of, subjects_of-append, edit_sets-push}
-use Rattle.mp_text.proofs.Faultless.{nil-append, nil-fault_if}
-use Rattle.mp_text.proofs.SoundLaws.{named-by, sound-term_of, depth-term_of, sound-subject}
+use Rattle.mp_build.proofs.Declared.{is_some-found}
+use Rattle.mp_text.proofs.FileSteps.{names-subjects_of, subjects_of-append, edit_sets-push}
+use Rattle.mp_build.proofs.Faultless.{nil-append, nil-fault_if}
+use Rattle.mp_build.proofs.SoundLaws.{named-by, sound-term_of, depth-term_of}
+use Rattle.mp_text.proofs.SoundSubject.{sound-subject}
 use Rattle.mp_text.proofs.Statements.{IsRead}
 
 -- ---- what hinders edits

@@ -9,34 +9,36 @@ use Rattle.mp_term.specs.Signature.{Sig, all_in_order}
 use Rattle.mp_pattern.specs.declared.limits.TheConstants.{MAX_DEPTH}
 use Rattle.mp_pattern.specs.Normal.{normal_pattern}
 use Rattle.mp_pattern.specs.SoundRule.{HasSoundCondition, HasSoundTemplate, IsSoundRule}
-use Rattle.mp_syntax.specs.declared.limits.TheConstants.{MAX_OPEN}
-use Rattle.mp_syntax.specs.Syntax.{Spot, Tree, Condition, Statement, RuleOf, Fits, FitsTemplate, FitsIf, AreStatements}
-use Rattle.mp_syntax.specs.Syntax.{HasNames, TemplateHasNames, IfHasNames, StatementsHaveNames}
+use Rattle.mp_parser.specs.declared.limits.TheConstants.{MAX_OPEN}
+use Rattle.mp_parser.specs.Syntax.{Spot, Tree, Condition, Statement, RuleOf, Fits, FitsTemplate, FitsIf, AreStatements}
+use Rattle.mp_parser.specs.Syntax.{HasNames, TemplateHasNames, IfHasNames, StatementsHaveNames}
 use Rattle.mp_syntax.proofs.Whole.{syntax-names}
-use Rattle.mp_text.specs.Conditions.{condition_of}
-use Rattle.mp_text.specs.Build.{op_decls, pattern_of, template_of, subjects_of, sig_of}
+use Rattle.mp_build.specs.Conditions.{condition_of}
+use Rattle.mp_build.specs.Build.{op_decls, pattern_of, template_of, sig_of}
+use Rattle.mp_text.specs.Subjects.{subjects_of}
 use Rattle.mp_text.specs.FileBuild.{rule_of, rules_of, file_tree_of}
-use Rattle.mp_text.specs.Checks.{is_large_pattern, loose_faults, pattern_faults, whole_pattern_faults}
-use Rattle.mp_text.specs.Checks.{op_statement_faults, kind_statement_faults, declaration_faults, faults_by}
-use Rattle.mp_text.specs.Scope.{pattern_variables}
-use Rattle.mp_text.specs.ConditionChecks.{has_large_condition, if_faults}
-use Rattle.mp_text.specs.TemplateChecks.{has_large_template, arrow_faults}
+use Rattle.mp_build.specs.Checks.{is_large_pattern, loose_faults, pattern_faults, whole_pattern_faults}
+use Rattle.mp_build.specs.Checks.{op_statement_faults, kind_statement_faults, declaration_faults, faults_by}
+use Rattle.mp_build.specs.Scope.{pattern_variables}
+use Rattle.mp_build.specs.ConditionChecks.{has_large_condition, if_faults}
+use Rattle.mp_build.specs.TemplateChecks.{has_large_template, arrow_faults}
 use Rattle.mp_text.specs.FileChecks.{rule_faults, is_large_rule, statement_faults, faults}
 use Rattle.mp_text.specs.Sound.{IsSoundSubject, IsSoundFile}
-use Rattle.mp_text.specs.declared.fault.TextError.{TextError}
+use Rattle.mp_build.specs.declared.fault.TextError.{TextError}
 use Rattle.mp_text.specs.declared.file.File as code_file
 use Rattle.mp_text.specs.File.{FileTree, file_tree}
 use Rattle.mp_text.specs.Reading.{IsFileOf}
 use Rattle.mp_text.specs.Computed.{ReadGives}
-use Rattle.mp_text.proofs.Faultless.{nil-append}
-use Rattle.mp_text.proofs.Words.{is_name-IsName}
-use Rattle.mp_text.proofs.Declared.{names-rules_of, names-subjects_of}
-use Rattle.mp_text.proofs.SoundLaws.{sound-pattern, sound-subject}
-use Rattle.mp_text.proofs.BoundNames.{known-variables, single-variables}
-use Rattle.mp_text.proofs.Extents.{extents-normal}
-use Rattle.mp_text.proofs.SoundTemplate.{sound-template_of}
-use Rattle.mp_text.proofs.SoundConditionLaws.{sound-cond_of}
-use Rattle.mp_text.specs.Edits.{edit_sets}
+use Rattle.mp_build.proofs.Faultless.{nil-append}
+use Rattle.mp_build.proofs.Words.{is_name-IsName}
+use Rattle.mp_text.proofs.FileSteps.{names-rules_of, names-subjects_of}
+use Rattle.mp_build.proofs.SoundLaws.{sound-pattern}
+use Rattle.mp_text.proofs.SoundSubject.{sound-subject}
+use Rattle.mp_build.proofs.BoundNames.{known-variables, single-variables}
+use Rattle.mp_build.proofs.Extents.{extents-normal}
+use Rattle.mp_build.proofs.SoundTemplate.{sound-template_of}
+use Rattle.mp_build.proofs.SoundConditionLaws.{sound-cond_of}
+use Rattle.mp_text.specs.EditStatements.{edit_sets}
 use Rattle.mp_text.proofs.SoundEdits.{EditsHold, edits-behind}
 use Rattle.mp_text.proofs.Statements.{IsRead, all-IsRead, holds-behind, all-rules_of, good-rules, good-subjects}
 use Rattle.mp_text.proofs.ReadFile.{AreDeclaredOps-op_decls, AreDeclaredKinds-kind_decls}

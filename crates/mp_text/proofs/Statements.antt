@@ -7,19 +7,19 @@ use Rattle.mp_term.specs.Names.{are_distinct}
 use Rattle.mp_term.proofs.ListLaws.{all-append}
 use Rattle.mp_pattern.specs.declared.limits.TheConstants.{MAX_RULES, MAX_SUBJECTS}
 use Rattle.mp_pattern.specs.Admission.{Rule}
-use Rattle.mp_syntax.specs.declared.limits.TheConstants.{MAX_OPEN}
-use Rattle.mp_syntax.specs.Syntax.{Spot, Tree, Condition, Statement, OpOf, KindOf, RuleOf, SubjectOf, EditOf}
-use Rattle.mp_syntax.specs.Syntax.{FitsStatement, AreStatements, StatementHasNames, StatementsHaveNames}
-use Rattle.mp_text.specs.declared.fault.TextFault.{TextFault}
+use Rattle.mp_parser.specs.declared.limits.TheConstants.{MAX_OPEN}
+use Rattle.mp_parser.specs.Syntax.{Spot, Tree, Condition, Statement, OpOf, KindOf, RuleOf, SubjectOf, EditOf}
+use Rattle.mp_parser.specs.Syntax.{FitsStatement, AreStatements, StatementHasNames, StatementsHaveNames}
+use Rattle.mp_build.specs.declared.fault.TextFault.{TextFault}
 use Rattle.mp_text.specs.Subject.{Subject}
-use Rattle.mp_text.specs.Names.{is_among, rule_names, subject_names}
-use Rattle.mp_text.specs.Build.{subject_of, subjects_of}
+use Rattle.mp_build.specs.Names.{is_among, rule_names, subject_names}
+use Rattle.mp_text.specs.Subjects.{subject_of, subjects_of}
 use Rattle.mp_text.specs.FileBuild.{rule_of, rules_of}
-use Rattle.mp_text.specs.Checks.{is_large_term, term_faults, name_faults, faults_by}
+use Rattle.mp_build.specs.Checks.{is_large_term, term_faults, name_faults, faults_by}
 use Rattle.mp_text.specs.FileChecks.{rule_faults, is_large_rule, statement_faults}
-use Rattle.mp_text.proofs.Declared.{rules_of-append, subjects_of-append}
-use Rattle.mp_text.proofs.Faultless.{nil-append}
-use Rattle.mp_text.proofs.SoundLaws.{are_distinct-push, named-by}
+use Rattle.mp_text.proofs.FileSteps.{rules_of-append, subjects_of-append}
+use Rattle.mp_build.proofs.Faultless.{nil-append}
+use Rattle.mp_build.proofs.SoundLaws.{are_distinct-push, named-by}
 
 -- ---- statement by statement
 

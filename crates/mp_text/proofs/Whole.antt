@@ -1,25 +1,27 @@
 -- The file and the fault that are computed from the bytes are those of the bytes.
 use Rattle.std.proofs.Common.{◌≡◌, ℕ, List, [], ◌∷◌, Option, Some, None, Result, Ok, Err, inl, inr, refl, sym, ap, ◌∙◌}
 use Rattle.std.specs.Prelude.{◌↔◌, option_and_then}
-use Rattle.mp_syntax.specs.declared.fault.Fault.{Fault}
-use Rattle.mp_syntax.specs.Syntax.{Statement, IsSyntaxOf}
-use Rattle.mp_syntax.specs.declared.fault.SyntaxError.{SyntaxError}
-use Rattle.mp_syntax.specs.declared.fault.SyntaxError.TheVariants as syntax_errors
+use Rattle.mp_parser.specs.declared.fault.Fault.{Fault}
+use Rattle.mp_parser.specs.Syntax.{Statement, IsSyntaxOf}
+use Rattle.mp_parser.specs.declared.fault.SyntaxError.{SyntaxError}
+use Rattle.mp_parser.specs.declared.fault.SyntaxError.TheVariants as syntax_errors
 use Rattle.mp_syntax.specs.Begins.{OfFile}
 use Rattle.mp_syntax.specs.FirstFault.{IsFirstFault}
 use Rattle.mp_syntax.specs.Reading.{reading, syntax_of, IfFault}
 use Rattle.mp_syntax.proofs.Whole.{syntax_of-exact, reading-found, reading-only}
 use Rattle.mp_syntax.proofs.Whole.{reading-fault, reading-only_fault}
-use Rattle.mp_text.specs.declared.fault.TextFault.{TextFault}
-use Rattle.mp_text.specs.declared.fault.TextError.{TextError}
-use Rattle.mp_text.specs.declared.fault.TextError.TheVariants.{Text, Memory}
+use Rattle.mp_build.specs.declared.fault.TextFault.{TextFault}
+use Rattle.mp_build.specs.declared.fault.TextError.{TextError}
+use Rattle.mp_build.specs.declared.fault.TextError.TheVariants.{Text, Memory}
 use Rattle.mp_text.specs.declared.file.File as code
 use Rattle.mp_text.specs.File.{FileTree, file_tree}
 use Rattle.mp_text.specs.FileBuild.{file_tree_of}
 use Rattle.mp_text.specs.FileChecks.{faults}
-use Rattle.mp_text.specs.Answers.{first, Gives}
-use Rattle.mp_text.specs.Reading.{IsFileOf, syntax_fault, text_error, IsFaultOf, IfText, IsFileOrMemory}
-use Rattle.mp_text.specs.Reading.{IsFaultOrMemory}
+use Rattle.mp_build.specs.Answers.{first, Gives}
+use Rattle.mp_text.specs.Reading.{IsFileOf, IsFaultOf, IsFileOrMemory}
+use Rattle.mp_build.specs.SyntaxFaults.{syntax_fault, text_error}
+use Rattle.mp_build.specs.Answers.{IfText}
+use Rattle.mp_build.specs.Answers.{IsFaultOrMemory}
 use Rattle.mp_text.specs.Computed.{file_without, checked_file, file_of, fault_in, fault_of, ReadGives, IsComputed}
 
 some_same : {X : Type 0} (a b : X) → Some a ≡ Some b → a ≡ b

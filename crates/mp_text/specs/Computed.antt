@@ -1,20 +1,18 @@
--- The file and the fault of bytes, and the condition that they are alone, as functions over the reader's machine.
+-- The file and the fault of bytes, as functions over the reader's machine.
 use Rattle.std.specs.Prelude.{◌≡◌, ℕ, List, [], ◌∷◌, Option, Some, None, option_and_then, Result, Ok, Err}
-use Rattle.mp_syntax.specs.declared.fault.Fault.{Fault}
-use Rattle.mp_syntax.specs.declared.place.Place.{Place}
-use Rattle.mp_syntax.specs.Lexing.{first_token_place}
-use Rattle.mp_syntax.specs.Syntax.{Condition, Statement}
-use Rattle.mp_syntax.specs.Reading.{reading, condition_reading, syntax_of}
-use Rattle.mp_text.specs.declared.fault.TextFault.{TextFault}
-use Rattle.mp_text.specs.declared.fault.TextError.{TextError}
-use Rattle.mp_text.specs.declared.fault.TextError.TheVariants.{Text, Memory}
+use Rattle.mp_parser.specs.declared.fault.Fault.{Fault}
+use Rattle.mp_parser.specs.Syntax.{Statement}
+use Rattle.mp_syntax.specs.Reading.{reading, syntax_of}
+use Rattle.mp_build.specs.declared.fault.TextFault.{TextFault}
+use Rattle.mp_build.specs.declared.fault.TextError.{TextError}
+use Rattle.mp_build.specs.declared.fault.TextError.TheVariants.{Text, Memory}
 use Rattle.mp_text.specs.declared.file.File as code
 use Rattle.mp_text.specs.File.{FileTree, file_tree}
 use Rattle.mp_text.specs.FileBuild.{file_tree_of}
 use Rattle.mp_text.specs.FileChecks.{faults}
-use Rattle.mp_text.specs.Answers.{first}
-use Rattle.mp_text.specs.Reading.{IsFileOf, syntax_fault}
-use Rattle.mp_text.specs.AloneCondition.{PlacedCondition}
+use Rattle.mp_build.specs.Answers.{first}
+use Rattle.mp_text.specs.Reading.{IsFileOf}
+use Rattle.mp_build.specs.SyntaxFaults.{syntax_fault}
 
 -- the file, where there is no fault
 abbrev pub file_without : List TextFault → FileTree → Option FileTree
@@ -49,12 +47,3 @@ abbrev pub IsComputed : Result code.File TextError → Option FileTree → Optio
 IsComputed (Ok f) file fault = (file ≡ Some (file_tree f)) × (fault ≡ None)
 IsComputed (Err (Text t)) file fault = fault ≡ Some t
 IsComputed (Err Memory) file fault = Unit {0}
-
--- the condition that is read, at this place
-abbrev pub at_place : Place → Result Condition Fault → Result PlacedCondition Fault
-at_place start (Ok c) = Ok (record { start = start; condition = c })
-at_place start (Err f) = Err f
-
--- the condition of a text and the place of its first token, or its first fault
-abbrev pub placed_reading : List ℕ → Result PlacedCondition Fault
-placed_reading bytes = at_place (first_token_place bytes) (condition_reading bytes)

@@ -3,11 +3,12 @@ use Rattle.std.specs.Prelude.{List, [], ◌∷◌, Option, option_map}
 use Rattle.mp_term.specs.Signature.{Sig}
 use Rattle.mp_pattern.specs.Normal.{normal_pattern}
 use Rattle.mp_pattern.specs.Admission.{Rule}
-use Rattle.mp_syntax.specs.Syntax.{Spot, Tree, Condition, Statement, OpOf, KindOf, RuleOf, SubjectOf, EditOf}
+use Rattle.mp_parser.specs.Syntax.{Spot, Tree, Condition, Statement, OpOf, KindOf, RuleOf, SubjectOf, EditOf}
 use Rattle.mp_text.specs.File.{FileTree}
-use Rattle.mp_text.specs.Build.{sig_of, pattern_of, template_of, subjects_of}
-use Rattle.mp_text.specs.Conditions.{condition_of}
-use Rattle.mp_text.specs.Edits.{edit_sets}
+use Rattle.mp_build.specs.Build.{sig_of, pattern_of, template_of}
+use Rattle.mp_text.specs.Subjects.{subjects_of}
+use Rattle.mp_build.specs.Conditions.{condition_of}
+use Rattle.mp_text.specs.EditStatements.{edit_sets}
 
 module _ (sig : Sig) where
   -- rule NAME: PATTERN -> TEMPLATE if CONDITION; with the pattern in normal form and the template as it is written

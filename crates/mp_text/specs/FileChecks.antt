@@ -2,16 +2,16 @@
 use Rattle.std.specs.Prelude.{Bool, ◌||◌, List, [], ◌++◌, Option, Some}
 use Rattle.mp_term.specs.Signature.{Sig}
 use Rattle.mp_pattern.specs.declared.limits.TheConstants.{MAX_RULES, MAX_SUBJECTS}
-use Rattle.mp_syntax.specs.Syntax.{Tree, Condition, Statement, OpOf, KindOf, RuleOf, SubjectOf, EditOf}
-use Rattle.mp_text.specs.ConditionChecks.{has_large_condition, if_faults}
-use Rattle.mp_text.specs.TemplateChecks.{has_large_template, arrow_faults}
-use Rattle.mp_text.specs.declared.fault.TextFault.{TextFault}
-use Rattle.mp_text.specs.Names.{rule_names, subject_names}
-use Rattle.mp_text.specs.Build.{sig_of}
-use Rattle.mp_text.specs.Checks.{is_large_pattern, is_large_term, term_faults, whole_pattern_faults, name_faults}
-use Rattle.mp_text.specs.Checks.{faults_by, declaration_faults}
-use Rattle.mp_text.specs.Scope.{pattern_variables}
-use Rattle.mp_text.specs.Edits.{edit_statement_faults}
+use Rattle.mp_parser.specs.Syntax.{Tree, Condition, Statement, OpOf, KindOf, RuleOf, SubjectOf, EditOf}
+use Rattle.mp_build.specs.ConditionChecks.{has_large_condition, if_faults}
+use Rattle.mp_build.specs.TemplateChecks.{has_large_template, arrow_faults}
+use Rattle.mp_build.specs.declared.fault.TextFault.{TextFault}
+use Rattle.mp_build.specs.Names.{rule_names, subject_names}
+use Rattle.mp_build.specs.Build.{sig_of}
+use Rattle.mp_build.specs.Checks.{is_large_pattern, is_large_term, term_faults, whole_pattern_faults, name_faults}
+use Rattle.mp_build.specs.Checks.{faults_by, declaration_faults}
+use Rattle.mp_build.specs.Scope.{pattern_variables}
+use Rattle.mp_text.specs.EditStatements.{edit_statement_faults}
 
 -- the faults of a rule behind its name: those of its pattern, and those of its template and its condition over the
 -- variables of the pattern

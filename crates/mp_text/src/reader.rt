@@ -1,40 +1,39 @@
 //! Reads rule files.
 
 ghost use Rattle.std.specs.Prelude.{◌≡◌, ◌≤◌, ◌<◌, ◌-◌, ◌^◌, ◌↔◌, ℕ, List, ◌++◌, ◌∷◌, [], length, map, Some, IfOk};
+ghost use Rattle.std.specs.Prelude.{option_map};
 ghost use Rattle.mp_term.specs.Signature.{Sig};
-ghost use Rattle.mp_syntax.specs.Syntax as syntax;
-ghost use Rattle.mp_syntax.specs.Syntax.{RuleOf, SubjectOf, EditOf};
-ghost use Rattle.mp_syntax.specs.View.{spot_of, expr_tree, arrow_tree, if_tree, change_tree, statement_tree};
-ghost use Rattle.mp_term.specs.Normal.{normal};
-ghost use Rattle.mp_term.specs.View.{tree};
-ghost use Rattle.mp_text.specs.declared.fault.TextFault as plain;
-ghost use Rattle.mp_text.specs.Answers.{Gives};
-ghost use Rattle.mp_text.specs.Build.{term_of};
+ghost use Rattle.mp_parser.specs.Syntax as syntax;
+ghost use Rattle.mp_parser.specs.Syntax.{RuleOf, SubjectOf, EditOf};
+ghost use Rattle.mp_parser.specs.View.{spot_of, expr_tree, arrow_tree, if_tree, change_tree, statement_tree};
+ghost use Rattle.mp_build.specs.declared.fault.TextFault as plain;
+ghost use Rattle.mp_build.specs.Answers.{Gives};
 ghost use Rattle.mp_text.specs.FileBuild.{file_tree_of};
 ghost use Rattle.mp_text.specs.Draft.{IsDraftOf};
-ghost use Rattle.mp_text.specs.Checks.{term_faults, name_faults};
+ghost use Rattle.mp_build.specs.Checks.{name_faults};
+ghost use Rattle.mp_build.specs.Edits.{edit_of};
 ghost use Rattle.mp_text.specs.FileChecks.{statement_faults, faults};
-ghost use Rattle.mp_text.specs.Edits.{edit_statement_faults};
-ghost use Rattle.mp_text.specs.File.{FileTree, file_tree};
+ghost use Rattle.mp_text.specs.EditStatements.{edit_faults_on, edit_statement_faults};
+ghost use Rattle.mp_text.specs.File.{FileTree, file_tree, subject_tree};
 ghost use Rattle.mp_text.specs.Sound.{IsSoundFile};
-ghost use Rattle.mp_text.specs.Reading.{IsFileOf, IsFaultOf, IfText, IsFileOrMemory, IsFaultOrMemory};
+ghost use Rattle.mp_text.specs.Reading.{IsFileOf, IsFaultOf, IsFileOrMemory};
+ghost use Rattle.mp_build.specs.Answers.{IfText, IsFaultOrMemory};
 ghost use Rattle.mp_text.specs.Computed.{file_of, fault_of, ReadGives, IsComputed};
 
-use crate::build::{build_term, new_name};
-use crate::checks::is_large_term;
-use crate::declare::{check_name, declare};
-use crate::edit::{build_edits, check_edits_on, is_large_edit};
-use crate::fault::{TextError, TextKind, error_at};
 use crate::file::{EditSet, EditSets, File, Subject, Subjects};
 use crate::rule::{build_rule, is_large_rule};
+use mp_build::{
+    TextError, TextKind, build_edits, check_edits_of, check_name, declare, error_at, is_large_edit,
+    is_large_term, new_name, normal_term,
+};
 use mp_pattern::{MAX_EDIT_STATEMENTS, MAX_RULES, MAX_SUBJECTS, Rules};
 use mp_syntax::{Change, Condition, Expr, Statement, Word, read_statements};
-use mp_term::{NameTable, Signature, Term, normalise};
+use mp_term::{Edits, MAX_EDITS, NameTable, Signature};
 use std::alloc::Global;
 
 /// Reads a rule file: the operations, kinds, rules, subjects and edits that its statements stand for.
 ///
-/// The text is a file exactly where its tokens spell statements (`IsSyntaxOf` of mp_syntax's `specs/Syntax.antt`) in
+/// The text is a file exactly where its tokens spell statements (`IsSyntaxOf` of mp_parser's `specs/Syntax.antt`) in
 /// which no check finds a fault (`faults` of `specs/FileChecks.antt`); the file is then `file_tree_of` of
 /// `specs/FileBuild.antt`, its terms and patterns in normal form. Its rules are sound (`AreSoundRules` of mp_pattern's
 /// `specs/SoundRule.antt`) and so are its subjects.
@@ -85,20 +84,6 @@ fn read(alloc: Global, bytes: &[u8]) -> Result<File, TextError>
 {
     let statements = read_statements(alloc, bytes)?;
     build_file(alloc, &statements)
-}
-
-/// The term of an expression in normal form, or its first fault.
-pub(crate) fn subject_term(
-    alloc: Global,
-    sig: &Signature,
-    expr: &Expr<'_>,
-) -> Result<Term, TextError>
-    ensures { Gives result (term_faults sig.now (expr_tree expr.now))
-        (λ t. tree t ≡ normal sig.now (term_of sig.now (expr_tree expr.now))) }
-{
-    let term = build_term(alloc, sig, expr)?;
-    let term = normalise(alloc, sig, term)?;
-    Ok(term)
 }
 
 /// A file while it is built, with the names of its rules and those of its subjects: `IsDraftOf` of `specs/Draft.antt`.
@@ -172,10 +157,29 @@ fn add_subject(
         MAX_SUBJECTS,
         is_large,
     )?;
-    let term = subject_term(alloc, &draft.file.sig, term)?;
+    let term = normal_term(alloc, &draft.file.sig, term)?;
     let name = new_name(alloc, name)?;
     draft.file.subjects.push(Subject { name, term })?;
     Ok(())
+}
+
+/// Checks that the edits, which are those of the changes, can be made on a subject, where there is one.
+fn check_edits_on(
+    sig: &Signature,
+    subject: Option<&Subject>,
+    changes: &[Change<'_>],
+    edits: &Edits,
+) -> Result<(), TextError>
+    requires { length edits.now ≤ MAX_EDITS }
+    ensures { edits.now ≡ map (edit_of sig.now) (map change_tree changes.now)
+        → Gives result
+        (edit_faults_on sig.now (map change_tree changes.now) (option_map (λ s. subject_tree s.now) subject.entry))
+        (λ _. Unit {0}) }
+{
+    match subject {
+        None => Ok(()),
+        Some(subject) => check_edits_of(sig, &subject.term, changes, edits),
+    }
 }
 
 /// Adds the edits of a subject, with their new terms in normal form.

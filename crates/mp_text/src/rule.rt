@@ -5,23 +5,21 @@ ghost use Rattle.mp_pattern.specs.Normal.{normal_pattern};
 ghost use Rattle.mp_pattern.specs.View.{pattern_tree};
 ghost use Rattle.mp_pattern.specs.CondView.{cond_tree};
 ghost use Rattle.mp_pattern.specs.RuleView.{rule_tree};
-ghost use Rattle.mp_syntax.specs.View.{spot_of, expr_tree, arrow_tree, if_tree};
-ghost use Rattle.mp_text.specs.Answers.{Gives};
-ghost use Rattle.mp_text.specs.Build.{pattern_of};
-ghost use Rattle.mp_text.specs.ScopeView.{scope_of};
-ghost use Rattle.mp_text.specs.Conditions.{condition_of};
+ghost use Rattle.mp_parser.specs.View.{spot_of, expr_tree, arrow_tree, if_tree};
+ghost use Rattle.mp_build.specs.Answers.{Gives};
+ghost use Rattle.mp_build.specs.Build.{pattern_of};
+ghost use Rattle.mp_build.specs.ScopeView.{scope_of};
+ghost use Rattle.mp_build.specs.Conditions.{condition_of};
 ghost use Rattle.mp_text.specs.FileBuild.{rule_of};
-ghost use Rattle.mp_text.specs.Checks.{whole_pattern_faults};
-ghost use Rattle.mp_text.specs.ConditionChecks.{has_large_condition, if_faults};
+ghost use Rattle.mp_build.specs.Checks.{whole_pattern_faults};
+ghost use Rattle.mp_build.specs.ConditionChecks.{has_large_condition, if_faults};
 ghost use Rattle.mp_text.specs.FileChecks.{rule_faults, is_large_rule};
 
-use crate::build::{new_name, whole_pattern};
-use crate::checks::is_large_pattern;
-use crate::condition::build_condition;
-use crate::condition_size::is_large_condition;
-use crate::fault::TextError;
-use crate::scope::{Scope, pattern_variables};
 use crate::template::{has_large_template, rule_template};
+use mp_build::{
+    Scope, TextError, build_condition, is_large_condition, is_large_pattern, new_name,
+    pattern_variables, whole_pattern,
+};
 use mp_pattern::{Cond, Pattern, Rule, normalise_pattern};
 use mp_syntax::{Condition, Expr, Word};
 use mp_term::Signature;

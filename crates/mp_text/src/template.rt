@@ -2,22 +2,21 @@
 
 ghost use Rattle.std.specs.Prelude.{◌≡◌, None, map, option_map};
 ghost use Rattle.mp_pattern.specs.TemplateView.{template_tree};
-ghost use Rattle.mp_syntax.specs.Syntax.{trees, InfixOf};
-ghost use Rattle.mp_syntax.specs.View.{spot_of, expr_tree, spot_of_sign, arrow_tree};
-ghost use Rattle.mp_text.specs.Answers.{Gives, Fails};
-ghost use Rattle.mp_text.specs.Build.{template_of};
-ghost use Rattle.mp_text.specs.Checks.{sign_faults};
-ghost use Rattle.mp_text.specs.ConditionChecks.{unbound_faults};
-ghost use Rattle.mp_text.specs.ScopeView.{variable_of};
-ghost use Rattle.mp_text.specs.TemplateChecks.{is_large_template, has_large_template, loose_template_faults};
-ghost use Rattle.mp_text.specs.TemplateChecks.{template_faults, template_operand_faults, all_template_faults};
-ghost use Rattle.mp_text.specs.TemplateChecks.{whole_template_faults, arrow_faults};
+ghost use Rattle.mp_parser.specs.Syntax.{trees, InfixOf};
+ghost use Rattle.mp_parser.specs.View.{spot_of, expr_tree, spot_of_sign, arrow_tree};
+ghost use Rattle.mp_build.specs.Answers.{Gives, Fails};
+ghost use Rattle.mp_build.specs.Build.{template_of};
+ghost use Rattle.mp_build.specs.Checks.{sign_faults};
+ghost use Rattle.mp_build.specs.ConditionChecks.{unbound_faults};
+ghost use Rattle.mp_build.specs.ScopeView.{variable_of};
+ghost use Rattle.mp_build.specs.TemplateChecks.{is_large_template, has_large_template, loose_template_faults};
+ghost use Rattle.mp_build.specs.TemplateChecks.{template_faults, template_operand_faults, all_template_faults};
+ghost use Rattle.mp_build.specs.TemplateChecks.{whole_template_faults, arrow_faults};
 
-use crate::arguments::{Arguments, head_op, sign_op};
-use crate::build::{new_name, symbol, wildcard_in_term};
-use crate::checks::is_large_template;
-use crate::fault::{TextError, TextKind, error_at};
-use crate::scope::{Variable, is_bound, is_bound_sequence};
+use mp_build::{
+    Arguments, TextError, TextKind, Variable, error_at, head_op, is_bound, is_bound_sequence,
+    is_large_template, new_name, sign_op, symbol, wildcard_in_term,
+};
 use mp_pattern::{Template, Templates};
 use mp_syntax::{Expr, InfixSign, Place, Word};
 use mp_term::{Name, Signature};

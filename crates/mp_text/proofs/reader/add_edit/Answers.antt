@@ -2,13 +2,14 @@ use Rattle.std.proofs.Common.{◌≡◌, ◌∙◌, ℕ, List, [], ◌∷◌, ma
 use Rattle.std.specs.Prelude.{Some, position, slice_get, flat_map}
 use Rattle.std.specs.Str.{bytes_eq}
 use Rattle.std.proofs.lemmas.Result.{err_from_is_err_and}
-use Rattle.mp_syntax.specs.View.{spot_of, change_tree}
+use Rattle.mp_parser.specs.View.{spot_of, change_tree}
 use Rattle.mp_term.specs.declared.edit.Edit.{Edit}
 use Rattle.mp_text.specs.declared.file.EditSet.{EditSet}
-use Rattle.mp_text.specs.Build.{head_number}
-use Rattle.mp_text.specs.Edits.{subject_number, new_term_faults}
-use Rattle.mp_text.proofs.Fails.{fails-front, fails-behind, fails-along}
-use Rattle.mp_text.proofs.Faultless.{nil-both}
+use Rattle.mp_build.specs.Build.{head_number}
+use Rattle.mp_build.specs.Edits.{new_term_faults}
+use Rattle.mp_text.specs.EditStatements.{subject_number}
+use Rattle.mp_build.proofs.Fails.{fails-front, fails-behind, fails-along}
+use Rattle.mp_build.proofs.Faultless.{nil-both}
 use Rattle.mp_text.proofs.Draft.{draft_sig, draft_edit_count, draft-edit}
 use Rattle.mp_text.proofs.EditLaws.{HasRoom, fails-unknown, faults-known}
 use Rattle.mp_text.proofs.reader.add_edit.Goals as goal

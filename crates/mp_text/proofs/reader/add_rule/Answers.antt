@@ -1,7 +1,7 @@
 use Rattle.std.proofs.Common.{◌∙◌}
 use Rattle.std.proofs.lemmas.Result.{err_from_is_err_and}
-use Rattle.mp_syntax.specs.View.{spot_of, expr_tree, arrow_tree, if_tree}
-use Rattle.mp_text.proofs.Fails.{fails-front, fails-behind, none-append}
+use Rattle.mp_parser.specs.View.{spot_of, expr_tree, arrow_tree, if_tree}
+use Rattle.mp_build.proofs.Fails.{fails-front, fails-behind, none-append}
 use Rattle.mp_text.proofs.Draft.{draft_sig, draft_rule_count, draft-rule}
 use Rattle.mp_text.proofs.reader.add_rule.Goals as goal
 

@@ -1,5 +1,5 @@
 use Rattle.std.proofs.Common.{refl}
-use Rattle.mp_syntax.specs.View.{statement_tree}
+use Rattle.mp_parser.specs.View.{statement_tree}
 use Rattle.mp_text.proofs.Draft.{draft-declaration}
 use Rattle.mp_text.proofs.reader.add_statement.Goals as goal
 

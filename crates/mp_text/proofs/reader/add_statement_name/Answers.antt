@@ -1,6 +1,6 @@
 use Rattle.std.proofs.Common.{sym, ◌∙◌}
 use Rattle.std.proofs.lemmas.Result.{err_from_is_err_and}
-use Rattle.mp_text.proofs.Declared.{is_some-found, is_among-list_any}
+use Rattle.mp_build.proofs.Declared.{is_some-found, is_among-list_any}
 use Rattle.mp_text.proofs.reader.add_statement_name.Goals as goal
 
 pub push-requires : goal.push-requires

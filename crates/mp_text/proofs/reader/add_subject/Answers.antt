@@ -1,9 +1,9 @@
 use Rattle.std.proofs.Common.{◌∙◌}
 use Rattle.std.proofs.lemmas.Result.{err_from_is_err_and}
-use Rattle.mp_syntax.specs.View.{spot_of, expr_tree}
+use Rattle.mp_parser.specs.View.{spot_of, expr_tree}
 use Rattle.mp_pattern.specs.declared.limits.TheConstants.{MAX_SUBJECTS}
-use Rattle.mp_text.proofs.SoundLaws.{named-by}
-use Rattle.mp_text.proofs.Fails.{fails-front, fails-behind, none-append}
+use Rattle.mp_build.proofs.SoundLaws.{named-by}
+use Rattle.mp_build.proofs.Fails.{fails-front, fails-behind, none-append}
 use Rattle.mp_text.proofs.Draft.{draft_sig, draft_subject_count, draft-subject}
 use Rattle.mp_text.proofs.reader.add_subject.Goals as goal
 

@@ -1,11 +1,11 @@
 use Rattle.std.proofs.Common.{map, take, length, arith, refl, sym, ap, ◌∙◌}
 use Rattle.std.proofs.lemmas.Result.{err_from_is_err_and}
-use Rattle.mp_syntax.specs.View.{statement_tree}
-use Rattle.mp_text.specs.Build.{sig_of}
-use Rattle.mp_text.specs.Checks.{faults_by}
+use Rattle.mp_parser.specs.View.{statement_tree}
+use Rattle.mp_build.specs.Build.{sig_of}
+use Rattle.mp_build.specs.Checks.{faults_by}
 use Rattle.mp_text.specs.FileChecks.{statement_faults}
 use Rattle.mp_term.proofs.ListLaws.{drop-item}
-use Rattle.mp_text.proofs.Fails.{fails-front, fails-behind, fails-along}
+use Rattle.mp_build.proofs.Fails.{fails-front, fails-behind, fails-along}
 use Rattle.mp_text.proofs.reader.build_file.Goals as goal
 
 pub loop-statement-init : goal.loop-statement-init

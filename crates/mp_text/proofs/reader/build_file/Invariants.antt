@@ -1,8 +1,8 @@
 use Rattle.std.proofs.Common.{◌≡◌, [], drop, take, map}
-use Rattle.mp_syntax.specs.View.{statement_tree}
-use Rattle.mp_text.specs.Build.{sig_of}
+use Rattle.mp_parser.specs.View.{statement_tree}
+use Rattle.mp_build.specs.Build.{sig_of}
 use Rattle.mp_text.specs.Draft.{IsDraftOf}
-use Rattle.mp_text.specs.Checks.{faults_by}
+use Rattle.mp_build.specs.Checks.{faults_by}
 use Rattle.mp_text.specs.FileChecks.{statement_faults}
 use Rattle.mp_text.proofs.reader.build_file.Given as goal
 

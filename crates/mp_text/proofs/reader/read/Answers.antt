@@ -1,6 +1,6 @@
 use Rattle.std.proofs.Common.{map}
 use Rattle.std.proofs.lemmas.Result.{err_from_is_err_and}
-use Rattle.mp_syntax.specs.View.{statement_tree}
+use Rattle.mp_parser.specs.View.{statement_tree}
 use Rattle.mp_text.proofs.Whole.{ReadGives-statements, ReadGives-error}
 use Rattle.mp_text.proofs.reader.read.Goals as goal
 

@@ -1,8 +1,8 @@
 use Rattle.std.proofs.Common.{[]}
-use Rattle.mp_syntax.specs.View.{expr_tree}
-use Rattle.mp_text.specs.Checks.{loose_faults}
-use Rattle.mp_text.proofs.Faultless.{nil-append}
-use Rattle.mp_text.proofs.SoundLaws.{holds_ops-pattern_of, defaults-pattern_of}
+use Rattle.mp_parser.specs.View.{expr_tree}
+use Rattle.mp_build.specs.Checks.{loose_faults}
+use Rattle.mp_build.proofs.Faultless.{nil-append}
+use Rattle.mp_build.proofs.SoundLaws.{holds_ops-pattern_of, defaults-pattern_of}
 use Rattle.mp_text.proofs.rule.rule_pattern.Goals as goal
 
 pub normalise_pattern-requires-clause-held : goal.normalise_pattern-requires-clause-held

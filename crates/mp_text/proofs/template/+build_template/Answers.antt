@@ -2,18 +2,18 @@ use Rattle.std.proofs.Common.{◌≡◌, ◌+◌, map, arith, ◌∙◌, sym, ap
 use Rattle.std.proofs.lemmas.Result.{err_from_is_err_and}
 use Rattle.mp_pattern.specs.TemplateTree as template
 use Rattle.mp_pattern.specs.TemplateView.{template_tree}
-use Rattle.mp_syntax.specs.Syntax.{Tree, InfixOf, trees}
-use Rattle.mp_syntax.specs.View.{spot_of_sign, expr_tree}
-use Rattle.mp_syntax.proofs.Trees.{expr_tree-Infix}
-use Rattle.mp_text.specs.Answers.{Gives}
-use Rattle.mp_text.specs.Checks.{nodes, all_nodes, op_signed, sign_faults}
-use Rattle.mp_text.specs.Build.{head_number, sign_number, template_of}
-use Rattle.mp_text.specs.ScopeView.{variable_of}
-use Rattle.mp_text.specs.TemplateChecks.{template_faults, template_operand_faults}
-use Rattle.mp_text.proofs.Applied.{nodes-Apply, nodes-Infix, nodes-item}
-use Rattle.mp_text.proofs.Fails.{fails-front, fails-behind, fails-along, none-append}
-use Rattle.mp_text.proofs.Built.{none-unknown, template_of-Apply, template_faults-Apply, template_of-operands}
-use Rattle.mp_text.proofs.Built.{template_operand_faults-known}
+use Rattle.mp_parser.specs.Syntax.{Tree, InfixOf, trees}
+use Rattle.mp_parser.specs.View.{spot_of_sign, expr_tree}
+use Rattle.mp_parser.proofs.Trees.{expr_tree-Infix}
+use Rattle.mp_build.specs.Answers.{Gives}
+use Rattle.mp_build.specs.Checks.{nodes, all_nodes, op_signed, sign_faults}
+use Rattle.mp_build.specs.Build.{head_number, sign_number, template_of}
+use Rattle.mp_build.specs.ScopeView.{variable_of}
+use Rattle.mp_build.specs.TemplateChecks.{template_faults, template_operand_faults}
+use Rattle.mp_build.proofs.Applied.{nodes-Apply, nodes-Infix, nodes-item}
+use Rattle.mp_build.proofs.Fails.{fails-front, fails-behind, fails-along, none-append}
+use Rattle.mp_build.proofs.Built.{none-unknown, template_of-Apply, template_faults-Apply, template_of-operands}
+use Rattle.mp_build.proofs.Built.{template_operand_faults-known}
 use Rattle.mp_text.proofs.template.+build_template.Goals as goal
 
 pub build_template-returns-in_err-op-in-Apply : goal.build_template-returns-in_err-op-in-Apply

@@ -1,10 +1,10 @@
 use Rattle.std.proofs.Common.{◌≡◌, ◌++◌, ◌+◌, ◌*◌, drop, map}
-use Rattle.mp_syntax.specs.Syntax.{trees}
-use Rattle.mp_syntax.specs.View.{expr_tree}
-use Rattle.mp_text.specs.Build.{template_of}
-use Rattle.mp_text.specs.Checks.{nodes, all_nodes}
-use Rattle.mp_text.specs.ScopeView.{variable_of}
-use Rattle.mp_text.specs.TemplateChecks.{all_template_faults}
+use Rattle.mp_parser.specs.Syntax.{trees}
+use Rattle.mp_parser.specs.View.{expr_tree}
+use Rattle.mp_build.specs.Build.{template_of}
+use Rattle.mp_build.specs.Checks.{nodes, all_nodes}
+use Rattle.mp_build.specs.ScopeView.{variable_of}
+use Rattle.mp_build.specs.TemplateChecks.{all_template_faults}
 use Rattle.mp_text.proofs.template.+build_template.Given as goal
 
 -- what is built stands before what is to be built, and the faults are those of the rest

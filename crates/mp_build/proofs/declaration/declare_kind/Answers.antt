@@ -1,0 +1,56 @@
+use Rattle.mp_term.specs.declared.limits.TheConstants.{MAX_KINDS, MAX_KIND_SYMBOLS}
+use Rattle.std.proofs.Common.{◌≡◌, ◌++◌, List, length, map, ltb, sym, ap, ◌∙◌}
+use Rattle.std.proofs.lemmas.Result.{err_from_is_err_and}
+use Rattle.std.proofs.lemmas.List.{length-map}
+use Rattle.std.specs.Prelude.{flat_map}
+use Rattle.mp_term.specs.declared.signature.KindId.{KindId}
+use Rattle.mp_term.specs.Signature.{Sig, kind_names}
+use Rattle.mp_parser.specs.declared.word.Word as code
+use Rattle.mp_parser.specs.Syntax.{Spot}
+use Rattle.mp_parser.specs.View.{spot_of}
+use Rattle.mp_build.specs.Checks.{symbol_faults, name_faults, kind_faults}
+use Rattle.mp_build.proofs.Fails.{fails-front, fails-behind, fails-along, none-append}
+use Rattle.mp_build.proofs.Declared.{is_some-found_kind, kind_added}
+use Rattle.mp_build.proofs.declaration.declare_kind.Goals as goal
+
+-- the faults of a kind whose members the code holds in a list
+kind_faults-members : (sig : Sig) (name : Spot) (members : List code.Word)
+    → name_faults MAX_KINDS (kind_names sig) (ltb MAX_KIND_SYMBOLS (length members)) name
+    ++ flat_map (symbol_faults sig) (map spot_of members) ≡ kind_faults sig name (map spot_of members)
+kind_faults-members sig name members = ap
+    (λ n. name_faults MAX_KINDS (kind_names sig) (ltb MAX_KIND_SYMBOLS n) name
+    ++ flat_map (symbol_faults sig) (map spot_of members)) (sym (length-map members spot_of))
+
+pub returns-in_err-check_name : goal.returns-in_err-check_name
+returns-in_err-check_name c =
+    let p = err_from_is_err_and c.from_residual.result c.from_residual.ensures.1 in
+    let e = c.in_err-check_name.field-0.0 in
+    let names = kind_names c.args.sig.now in
+    let held = c.is_some-is_held.ensures ∙ is_some-found_kind
+    (λ (id : KindId). id.0) c.find_kind.result c.args.name.text.now names c.find_kind.ensures in
+    rw (p.1, p.2) (fails-along e _ _ (kind_faults-members c.args.sig.now (spot_of c.args.name) c.args.members.now)
+    (fails-front e _ _ (c.in_err-check_name.ensures.first names held c.kind_count.ensures.count)))
+
+pub returns-in_err-members : goal.returns-in_err-members
+returns-in_err-members c =
+    let p = err_from_is_err_and c.from_residual-in_err-members.result c.from_residual-in_err-members.ensures.1 in
+    let e = c.in_err-members.field-0.0 in
+    let names = kind_names c.args.sig.now in
+    let held = c.is_some-is_held.ensures ∙ is_some-found_kind
+    (λ (id : KindId). id.0) c.find_kind.result c.args.name.text.now names c.find_kind.ensures in
+    rw (p.1, p.2)
+    (fails-along e _ _ (kind_faults-members c.args.sig.now (spot_of c.args.name) c.args.members.now)
+    (fails-behind e _ _ (c.in_ok-check_name.ensures.first names held c.kind_count.ensures.count).0
+    c.in_err-members.ensures))
+
+pub returns-in-Ok : goal.returns-in-Ok
+returns-in-Ok c =
+    let names = kind_names c.args.sig.now in
+    let held = c.is_some-is_held.ensures ∙ is_some-found_kind
+    (λ (id : KindId). id.0) c.find_kind.result c.args.name.text.now names c.find_kind.ensures in (
+      sym (kind_faults-members c.args.sig.now (spot_of c.args.name) c.args.members.now)
+          ∙ none-append _ _ (c.in_ok-check_name.ensures.first names held c.kind_count.ensures.count).0
+          ∙ c.in_ok-members.ensures.0,
+      kind_added c.args.sig.now c.add_kind.new.self _ _ (spot_of c.args.name)
+          (map spot_of c.args.members.now) c.in-Ok.ensures.ok c.in_ok-name.ensures.1 c.in_ok-members.ensures.1,
+    )

@@ -1,0 +1,21 @@
+use Rattle.std.proofs.Common.{map, arith, ap}
+use Rattle.mp_parser.specs.View.{spot_of, flag_of}
+use Rattle.mp_build.proofs.OpLaws.{declarable-op_faults}
+use Rattle.mp_build.proofs.declaration.declare_op.Goals as goal
+
+pub new_decl-requires-clause-least : goal.new_decl-requires-clause-least
+new_decl-requires-clause-least c =
+    (declarable-op_faults c.args.sig.now.ops (spot_of c.args.name) (spot_of c.args.least) c.args.is_open
+    (map flag_of c.args.flags.now) c.in_ok-check_op.ensures.0).small
+
+pub new_decl-requires-clause-sign : goal.new_decl-requires-clause-sign
+new_decl-requires-clause-sign c =
+    (declarable-op_faults c.args.sig.now.ops (spot_of c.args.name) (spot_of c.args.least) c.args.is_open
+    (map flag_of c.args.flags.now) c.in_ok-check_op.ensures.0).short
+
+pub add_op-requires : goal.add_op-requires
+add_op-requires c =
+    let small =
+    (declarable-op_faults c.args.sig.now.ops (spot_of c.args.name) (spot_of c.args.least) c.args.is_open
+    (map flag_of c.args.flags.now) c.in_ok-check_op.ensures.0).small in
+    omega (arith, small, ap (λ d. d.least) c.in_ok-decl.ensures.1)

@@ -1,7 +1,0 @@
-use Rattle.std.proofs.Common.{◌≡◌, drop, map}
-use Rattle.mp_syntax.specs.View.{flag_of}
-use Rattle.mp_text.specs.Flags.{sign_spot}
-use Rattle.mp_text.proofs.flags.sign_spot.Given as goal
-
-abbrev pub invariant-loop-flag : goal.invariant-loop-flag
-invariant-loop-flag l = sign_spot (map flag_of (drop l.flag-index l.flags)) ≡ sign_spot (map flag_of l.flags)

@@ -1,8 +1,0 @@
-use Rattle.std.proofs.Common.{◌≡◌, drop, map}
-use Rattle.mp_text.specs.Scope.{is_bound_sequence}
-use Rattle.mp_text.specs.ScopeView.{variable_of}
-use Rattle.mp_text.proofs.scope.is_bound_sequence.Given as goal
-
-abbrev pub invariant-loop-variable : goal.invariant-loop-variable
-invariant-loop-variable l = is_bound_sequence (map variable_of (drop l.variable-index l.variables)) l.name
-    ≡ is_bound_sequence (map variable_of l.variables) l.name
