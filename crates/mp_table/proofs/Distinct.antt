@@ -40,12 +40,12 @@ in-place (x ∷ xs) zero d h = inl refl
 in-place (x ∷ xs) (suc i) d h = inr (in-place xs i d (omega (arith, h)))
 
 -- the last item is one
-in-last : {X : Type 0} (x : X) (xs : List X) → In x (xs ++ x ∷ [])
+pub in-last : {X : Type 0} (x : X) (xs : List X) → In x (xs ++ x ∷ [])
 in-last x [] = inl refl
 in-last x (y ∷ xs) = inr (in-last x xs)
 
 -- and so is each one before
-in-front : {X : Type 0} (x : X) (xs ys : List X) → In x xs → In x (xs ++ ys)
+pub in-front : {X : Type 0} (x : X) (xs ys : List X) → In x xs → In x (xs ++ ys)
 in-front x [] ys h = absurd h
 in-front x (y ∷ xs) ys (inl e) = inl e
 in-front x (y ∷ xs) ys (inr h) = inr (in-front x xs ys h)

@@ -26,8 +26,3 @@ in-range (suc i) a (suc n) h =
 
 pub in-numbers : (i n : ℕ) → i < n → In i (range_with_len 0 n)
 in-numbers i n h = let e : 0 + i ≡ i = omega arith in subst (λ k. In k (range_with_len 0 n)) e (in-range i 0 n h)
-
--- how many they are
-pub length-range : (a n : ℕ) → length (range_with_len a n) ≡ n
-length-range a zero = refl
-length-range a (suc n) = omega (arith, length-range (a + 1) n)

@@ -9,26 +9,29 @@ ghost use Rattle.mp_term.specs.Listing.{In};
 ghost use Rattle.mp_table.specs.Heading.{head_key};
 ghost use Rattle.mp_table.specs.Codes.{keys, AreCodes};
 
+use crate::guess::{Guesses, head_digest};
 use crate::heading::{Heading, compare_heads};
 use mp_term::{Memory, Term};
 use std::alloc::Global;
 
-// The distinct heads of the terms, ascending. An application with the head of the last one that was added is passed
-// over: many have one head.
+// The room that most lists of heads need.
+const FEW: usize = 32;
+
+// The distinct heads of the terms, ascending. A term is passed over where its head is the one that is guessed.
 fn headings<'a>(alloc: Global, terms: &[&'a Term]) -> Result<Vec<Heading<'a>>, Memory>
     ensures ascending { IfOk result (λ hs. IsStrictlySortedBy (slice_cmp nat_cmp) (keys hs.items)) }
     ensures all { IfOk result (λ hs. AllByRecursion (λ t. In (head_key (tree t.now)) (keys hs.items)) terms.now) }
     ensures few { IfOk result (λ hs. length hs.items ≤ length terms.now) }
 {
-    let mut headings = Vec::new(alloc);
-    let mut near = 0;
+    let mut headings = Vec::with_capacity(alloc, FEW)?;
+    let mut guesses = Guesses::new(alloc, terms.len())?;
     for term in terms {
+        let digest = head_digest(*term);
+        let near = guesses.at(digest);
         if is_at(&headings, near, *term) {
             continue;
         }
-        if let Term::App(_, _) = *term {
-            near = headings.len();
-        }
+        guesses.put(digest, headings.len());
         headings.push(Heading { term: *term })?;
     }
     headings.sort()?;
@@ -57,22 +60,16 @@ fn is_at(headings: &[Heading<'_>], place: usize, term: &Term) -> bool
     place < headings.len() && compare_heads(headings[place].term, term).is_eq()
 }
 
-// The place of the term's head among the heads, which is looked for right behind a place and at it before elsewhere:
-// the symbols below a commutative operation mostly ascend.
-fn number_near(headings: &[Heading<'_>], term: &Term, near: u32) -> u32
+// The place of the term's head among the heads, which is looked for at a place before elsewhere.
+fn number_near(headings: &[Heading<'_>], term: &Term, near: usize) -> u32
     requires short { length headings.now < 2 ^ 32 }
     requires ascending { IsStrictlySortedBy (slice_cmp nat_cmp) (keys headings.now) }
     requires there { In (head_key (tree term.now)) (keys headings.now) }
     ensures within { result < length headings.now }
     ensures key { slice_index_or (keys headings.now) result [] ≡ head_key (tree term.now) }
 {
-    let here = near as usize;
-    let behind = here + 1;
-    if is_at(headings, behind, term) {
-        return behind as u32;
-    }
-    if is_at(headings, here, term) {
-        return near;
+    if is_at(headings, near, term) {
+        return near as u32;
     }
     number_of(headings, term) as u32
 }
@@ -83,14 +80,13 @@ pub(crate) fn codes(alloc: Global, terms: &[&Term]) -> Result<Vec<u32>, Memory>
     ensures { IfOk result (λ cs. AreCodes (map (λ t. tree t.now) terms.now) cs.items) }
 {
     let headings = headings(alloc, terms)?;
-    let mut codes = Vec::new(alloc);
-    let mut near = 0;
+    let mut codes = Vec::with_capacity(alloc, terms.len())?;
+    let mut guesses = Guesses::new(alloc, terms.len())?;
     for term in terms {
-        let number = number_near(&headings, *term, near);
+        let digest = head_digest(*term);
+        let number = number_near(&headings, *term, guesses.at(digest));
+        guesses.put(digest, number as usize);
         codes.push(number)?;
-        if let Term::Sym(_) = *term {
-            near = number;
-        }
     }
     Ok(codes)
 }

@@ -9,8 +9,9 @@ ghost use Rattle.mp_table.specs.Pieces.{ArePieces};
 ghost use Rattle.mp_table.specs.Text.{IsText, piece_terms, shown};
 
 use crate::entry::{Entry, OwnHead};
+use crate::guess::{Guesses, code_digest};
 use crate::piece::Piece;
-use crate::pieces::rank_near;
+use crate::pieces::{guesses_at, rank_near};
 use crate::preorder::Preorder;
 use crate::rank::Rank;
 use mp_term::{Memory, Term};
@@ -26,12 +27,21 @@ fn head_of(alloc: Global, term: &Term) -> Result<OwnHead, Memory>
     }
 }
 
+// How many arguments the term has.
+fn arg_count(term: &Term) -> usize {
+    match term {
+        Term::Sym(_) => 0,
+        Term::App(_, args) => args.len(),
+    }
+}
+
 // The ranks of the arguments of the subterm at a place.
 fn ranks_of_args(
     alloc: Global,
     text: &Preorder<'_>,
     codes: &[u32],
     pieces: &[Piece<'_>],
+    guesses: &Guesses,
     start: usize,
 ) -> Result<Vec<Rank>, Memory>
     requires text { IsText text.now codes.now }
@@ -43,16 +53,16 @@ fn ranks_of_args(
         ≡ arguments (slice_index_or (shown text.now) start (symbol []))) }
     ensures within { IfOk result (λ rs. AllByRecursion (λ r. r.0 < length pieces.now) rs.items) }
 {
-    let mut ranks = Vec::new(alloc);
     let end = start + text.nodes[start] as usize;
+    let mut ranks = Vec::with_capacity(alloc, arg_count(text.terms[start]))?;
     let mut next = start + 1;
-    let mut near = Rank(0);
     while next < end {
         let after = next + text.nodes[next] as usize;
-        let rank = rank_near(pieces, &codes[next..after], near);
+        let code = &codes[next..after];
+        let near = guesses.at(code_digest(code));
+        let rank = rank_near(pieces, code, near);
         ranks.push(rank)?;
         next = after;
-        near = rank;
     }
     Ok(ranks)
 }
@@ -63,6 +73,7 @@ fn entry_of(
     text: &Preorder<'_>,
     codes: &[u32],
     pieces: &[Piece<'_>],
+    guesses: &Guesses,
     start: usize,
 ) -> Result<Entry, Memory>
     requires text { IsText text.now codes.now }
@@ -73,7 +84,7 @@ fn entry_of(
         (IsEntryOf (piece_terms text.now pieces.now) (slice_index_or (shown text.now) start (symbol []))) }
 {
     let head = head_of(alloc, text.terms[start])?;
-    let args = ranks_of_args(alloc, text, codes, pieces, start)?;
+    let args = ranks_of_args(alloc, text, codes, pieces, guesses, start)?;
     let nodes = u64::from(text.nodes[start]);
     Ok(Entry { head, args, nodes })
 }
@@ -90,9 +101,10 @@ pub(crate) fn entries_of(
     requires short { length pieces.now < 2 ^ 32 }
     ensures { IfOk result (λ es. AreEntries es.items (piece_terms text.now pieces.now)) }
 {
-    let mut entries = Vec::new(alloc);
+    let guesses = guesses_at(alloc, pieces)?;
+    let mut entries = Vec::with_capacity(alloc, pieces.len())?;
     for piece in pieces {
-        entries.push(entry_of(alloc, text, codes, pieces, piece.start)?)?;
+        entries.push(entry_of(alloc, text, codes, pieces, &guesses, piece.start)?)?;
     }
     Ok(entries)
 }

@@ -4,6 +4,7 @@
 mod code;
 mod entries;
 mod entry;
+mod guess;
 mod heading;
 mod laws;
 mod limits;

@@ -52,6 +52,9 @@ fn push_arguments<'a>(found: &mut Preorder<'a>, term: &'a Term) -> Result<(), Me
     Ok(())
 }
 
+// The room that most terms need.
+const FEW: usize = 64;
+
 // The subterms of the subject, and then those of the constants.
 pub(crate) fn collect<'a>(
     alloc: Global,
@@ -65,8 +68,8 @@ pub(crate) fn collect<'a>(
         (λ p. p.nodes.items ≡ map node_count (all_preorder (tree subject.now ∷ constants.now))) }
 {
     let mut found = Preorder {
-        terms: Vec::new(alloc),
-        nodes: Vec::new(alloc),
+        terms: Vec::with_capacity(alloc, FEW)?,
+        nodes: Vec::with_capacity(alloc, FEW)?,
     };
     push_subterms(&mut found, subject)?;
     for constant in constants.as_slice() {

@@ -20,14 +20,14 @@ pub loop-term-preserved-then-is_at : goal.loop-term-preserved-then-is_at
 loop-term-preserved-then-is_at c =
     let hs = c.deref.result.now in
     let term = c.term-item.result in
-    let within : c.loop-term.near < length (keys hs) = omega (
+    let within : c.at-near.result < length (keys hs) = omega (
       arith,
       c.if-is_at.ensures.within refl,
       length-map hs (λ h. head_key (tree h.term.now)),
     ) in
     let there : In (head_key (tree term.now)) (keys c.loop-term.headings.items) =
     subst (λ l. In (head_key (tree term.now)) (keys l)) c.deref.ensures.value
-    (subst (λ k. In k (keys hs)) (c.if-is_at.ensures.key refl) (in-place (keys hs) c.loop-term.near [] within)) in
+    (subst (λ k. In k (keys hs)) (c.if-is_at.ensures.key refl) (in-place (keys hs) c.at-near.result [] within)) in
     record {
       all = members-more (λ t. head_key (tree t.now)) (keys c.loop-term.headings.items) c.args.terms.now
           c.loop-term.term-index term c.loop-term-test.true

@@ -29,8 +29,8 @@ index-requires-in-loop-next c =
     c.loop-next-test.true in
     omega (arith, n.within, length-nodes text c.args.codes.now c.requires.text, text.nodes.ok.0)
 
-pub slice_bounds-rank_near-end : goal.slice_bounds-rank_near-end
-slice_bounds-rank_near-end c =
+pub slice_bounds-code-end : goal.slice_bounds-code-end
+slice_bounds-code-end c =
     let text = c.args.text.now in
     let n = step text c.args.codes.now c.requires.text c.args.start c.index.result.now (length c.loop-next.ranks.items)
     c.loop-next.next c.requires.start c.index.ensures c.loop-next.invariant.few c.loop-next.invariant.next
