@@ -8,5 +8,6 @@ mod JoiningLaws
 pub mod TrailLaws
 mod BindingLaws
 mod TrailViewLaws
+mod LastLaws
 mod OutcomeLaws
 mod TrailSubst

@@ -5,8 +5,9 @@ use Rattle.std.proofs.Common.{length}
 use Rattle.std.proofs.Common.{take, drop, get_or, refl, ap, sym, ◌∙◌, subst, arith}
 use Rattle.std.specs.Prelude.{Option, Some, None, if◌then◌else◌, nat_eq, slice_get, slice_range}
 use Rattle.std.proofs.lemmas.Bool.Decides.{nat_tests}
-use Rattle.std.proofs.lemmas.List.{take-take, drop_at, take_all, drop-take, take-append-le, take-map, length-append}
-use Rattle.std.proofs.lemmas.List.{map_push}
+use Rattle.std.proofs.lemmas.List.{take-take, drop_at, drop-take, take-append-le}
+use Rattle.std.proofs.lemmas.List.{map_push, length-take-le}
+use Rattle.std.proofs.Math.Seq.{take-append_seam}
 use Rattle.mp_table.specs.declared.rank.Rank.{Rank}
 use Rattle.mp_subst.specs.declared.trail.Entry.{Entry}
 use Rattle.mp_subst.specs.Bound.{bound_from}
@@ -54,18 +55,27 @@ pub room-put : (i : ℕ) (es : List Entry) (room : ℕ) (e : Entry) → HasRoom 
 room-put i [] room e h p q = (omega (arith, p), q, tt)
 room-put i (d ∷ es) room e h p q = (h.0, h.1, room-put (suc i) es room e h.2 (omega (arith, p)) q)
 
--- with its ranks
-pub stack_of-put : (es : List Entry) (rs ns : List Rank) (e : Entry) → Laid es (length rs) → e.start ≡ length rs
-    → e.end ≡ length rs + length ns → stack_of (rs ++ ns) (es ++ e ∷ [])
+-- the list is written from the end of the ranks in use on
+pub stack_of-written : (es : List Entry) (rs ss ns : List Rank) (n : ℕ) → Laid es n → n ≤ length rs
+    → ss ≡ take n rs ++ ns → stack_of ss es ≡ stack_of rs es
+stack_of-written es rs ss ns n h l is =
+    stack_of-same es n ss rs h (ap (take n) is
+    ∙ take-append-le n (take n rs) ns (omega (arith, length-take-le n rs l)) ∙ take-take n n rs (omega arith))
+
+-- with the ranks of an entry
+pub stack_of-put : (es : List Entry) (rs ss ns rest : List Rank) (n : ℕ) (e : Entry) → Laid es n → n ≤ length rs
+    → ss ≡ take n rs ++ (ns ++ rest) → e.start ≡ n → e.end ≡ n + length ns
+    → stack_of ss (es ++ e ∷ [])
     ≡ stack_of rs es ++ record { var = e.var; value = bound_from e.form e.wrap ns; spare = e.spare } ∷ []
-stack_of-put es rs ns e h p q =
-    let front : take (length rs) (rs ++ ns) ≡ take (length rs) rs = take-append-le (length rs) rs ns (omega arith) in
-    let whole : take e.end (rs ++ ns) ≡ rs ++ ns = take_all e.end (rs ++ ns) (omega (arith, q, length-append rs ns)) in
-    let own : slice_range (rs ++ ns) e.start e.end ≡ ns =
-    range-drop (rs ++ ns) e.start e.end (omega (arith, p, q)) ∙ ap (drop e.start) whole
-    ∙ drop_at rs ns e.start (sym p) in
-    map_push (trail_entry (rs ++ ns)) es e
-    ∙ ap (λ ds. ds ++ trail_entry (rs ++ ns) e ∷ []) (stack_of-same es (length rs) (rs ++ ns) rs h front)
+stack_of-put es rs ss ns rest n e h l is p q =
+    let behind : drop n ss ≡ ns ++ rest =
+    ap (drop n) is ∙ drop_at (take n rs) (ns ++ rest) n (length-take-le n rs l) in
+    let count : e.end - e.start ≡ length ns = omega (arith, p, q) in
+    let own : slice_range ss e.start e.end ≡ ns =
+    ap (λ k. take (e.end - e.start) (drop k ss)) p ∙ ap (take (e.end - e.start)) behind
+    ∙ ap (λ k. take k (ns ++ rest)) count ∙ take-append_seam ns rest in
+    map_push (trail_entry ss) es e
+    ∙ ap (λ ds. ds ++ trail_entry ss e ∷ []) (stack_of-written es rs ss (ns ++ rest) n h l is)
     ∙ ap (λ xs. stack_of rs es ++ record { var = e.var; value = bound_from e.form e.wrap xs; spare = e.spare } ∷ []) own
 
 -- the first entries
@@ -93,20 +103,13 @@ room-take i (e ∷ es) room zero d h r = (tt, omega (arith, r.0), r.1)
 room-take i (e ∷ es) room (suc m) d h r =
     let k = room-take (suc i) es room m d (omega (arith, h)) r.2 in ((r.0, r.1, k.0), omega (arith, k.1), k.2)
 
-pub stack_of-take : (es : List Entry) (rs : List Rank) (m : ℕ) (d : Entry) → m < length es → Laid es (length rs)
-    → stack_of (take (get_or es m d).before rs) (take m es) ≡ take m (stack_of rs es)
-stack_of-take es rs m d h l =
-    let k = (get_or es m d).before in
-    stack_of-same (take m es) k (take k rs) rs (laid-take es (length rs) m d h l).0 (take-take k k rs (omega arith))
-    ∙ sym (take-map (trail_entry rs) m es)
-
 -- an entry at a place
 pub within-at : (es : List Entry) (n i : ℕ) (d : Entry) → Laid es n → i < length es → IsWithin n (get_or es i d)
 within-at [] n i d h l = absurd (omega (arith, l))
 within-at (e ∷ es) n zero d h l = (h.1.0, omega (arith, h.1.1, first_before-le es n h.2))
 within-at (e ∷ es) n (suc i) d h l = within-at es n i d h.2 (omega (arith, l))
 
-other_numbers : (m n : ℕ) → m ≢ n → nat_eq m n ≡ false
+pub other_numbers : (m n : ℕ) → m ≢ n → nat_eq m n ≡ false
 other_numbers m n h = elim (nat_eq m n) as (λ b. nat_eq m n ≡ b → b ≡ false) [
   | true ↦ λ e. absurd (h (grind (arith, nat_tests)))
   | false ↦ λ _. refl
@@ -170,6 +173,16 @@ last_value-at rs (e ∷ es) x i d h =
           subst (λ m. (m < length (e ∷ es))
           × (last_value (stack_of rs (e ∷ es)) x ≡ Some (entry_value rs (get_or (e ∷ es) m d)))) same
           (omega (arith, r.0), rw r.1 refl)
+    ] refl h
+
+pub last_place-within : (es : List Entry) (x i : ℕ) → last_place es x ≡ Some i → i < length es
+last_place-within [] x i h = cc
+last_place-within (e ∷ es) x i h =
+    elim (last_place es x) as (λ o. last_place es x ≡ o
+    → (elim o [ None ↦ if nat_eq e.var x then Some 0 else None | Some j ↦ Some (j + 1) ]) ≡ Some i
+    → i < length (e ∷ es)) [
+      | None ↦ λ _ l. (own_place (nat_eq e.var x) [] e es i e l).0
+      | Some j ↦ λ k l. let more : j + 1 ≡ i = cc in omega (arith, more, last_place-within es x j k)
     ] refl h
 
 -- the entry at a place

@@ -1,6 +1,6 @@
 -- How a trail is kept: the ranks of its values in one list.
 use Rattle.std.specs.Prelude.{◌≤◌, ◌+◌, ⊤, ℕ, suc, List, [], ◌∷◌, map, length, slice_range, vec_capacity, Option}
-use Rattle.std.specs.Prelude.{Some, None, if◌then◌else◌, nat_eq}
+use Rattle.std.specs.Prelude.{◌≡◌, ◌<◌, Some, None, if◌then◌else◌, nat_eq, take, slice_get, slice_index_or}
 use Rattle.mp_table.specs.declared.rank.Rank.{Rank}
 use Rattle.mp_subst.specs.declared.trail.Entry.{Entry}
 use Rattle.mp_subst.specs.declared.trail.Trail.TheInside.{Inside}
@@ -35,6 +35,18 @@ last_place (e ∷ es) x = elim (last_place es x) [
   | Some i ↦ Some (i + 1)
 ]
 
+-- the number of the last entry of a variable, its place and one more, and 0 if there is none
+abbrev pub last_number : List Entry → ℕ → ℕ
+last_number es x = elim (last_place es x) [ None ↦ 0 | Some i ↦ i + 1 ]
+
+-- they are those of the first variables
+abbrev pub AreLast : List ℕ → List Entry → Type 0
+AreLast ns es = (x : ℕ) → x < length ns → slice_index_or ns x 0 ≡ last_number es x
+
+-- each entry of the first n variables has the number of the variable's last entry before it
+abbrev pub AreEarlier : ℕ → List Entry → Type 0
+AreEarlier n es = (i : ℕ) (e : Entry) → slice_get es i ≡ Some e → e.var < n → e.earlier ≡ last_number (take i es) e.var
+
 -- the ranks of an entry stand among the first n
 abbrev pub IsWithin : ℕ → Entry → Type 0
 IsWithin n e = (e.start ≤ e.end) × (e.end ≤ n)
@@ -56,9 +68,12 @@ HasRoom i (e ∷ es) room = (i + e.spare ≤ room) × (e.before + e.spare ≤ ro
 
 -- what holds of each trail
 pub record IsLaid (t : Inside) : Type 0 where
-  pub laid : Laid t.entries.items (length t.ranks.items)
+  pub laid : Laid t.entries.items t.used
+  pub used : t.used ≤ length t.ranks.items
   pub entries_room : length t.entries.items + t.spare ≤ t.room
-  pub ranks_room : length t.ranks.items + t.spare ≤ t.room
+  pub ranks_room : t.used + t.spare ≤ t.room
   pub entries_capacity : t.room ≤ vec_capacity t.entries
   pub ranks_capacity : t.room ≤ vec_capacity t.ranks
-  pub earlier : HasRoom 0 t.entries.items t.room
+  pub rooms : HasRoom 0 t.entries.items t.room
+  pub last : AreLast t.last.items t.entries.items
+  pub earlier : AreEarlier (length t.last.items) t.entries.items

@@ -1,5 +1,5 @@
 //! Variables are bound, and their values merged.
-ghost use Rattle.std.specs.Prelude.{◌≡◌, ◌≤◌, ◌<◌, ◌+◌, length, Some, None, slice_get, option_map};
+ghost use Rattle.std.specs.Prelude.{◌≡◌, ◌≤◌, ◌<◌, ◌+◌, ℕ, length, Some, None, slice_get, option_map};
 ghost use Rattle.std.specs.Option.{option_and_then};
 ghost use Rattle.std.specs.Prelude.{IsTrue, IsFalse, MatchBool};
 ghost use Rattle.mp_term.specs.Signature.{Sig};
@@ -9,13 +9,13 @@ ghost use Rattle.mp_pattern.specs.PlanView.{form as form_of};
 ghost use Rattle.mp_table.specs.Table.{Table as plain_table, terms_at, HasRanks, rank_of};
 ghost use Rattle.mp_subst.specs.Bound.{bound_from, bound_of, value_in, AreRanksOf};
 ghost use Rattle.mp_subst.specs.Trail.{TrailEntry, cut, with_entry, GoesWith, AreFinal, joined, IsBind};
-ghost use Rattle.mp_subst.specs.TrailView.{stack_of, Laid};
+ghost use Rattle.mp_subst.specs.TrailView.{stack_of, Laid, AreLast};
 ghost use Rattle.mp_subst.specs.Outcome.{IsPlace, AllOutcomes, IsPut, IsClash, IsBinding};
 
 use crate::bound::Bound;
 use crate::joining::join;
 use crate::merging::Choice;
-use crate::trail::{Entry, Trail, bound_at, last_place};
+use crate::trail::{Entry, Trail, bound_at, last_place, set_number, write_from};
 use mp_pattern::Form;
 use mp_table::{Rank, Table};
 use mp_term::OpId;
@@ -31,12 +31,19 @@ pub(crate) enum Outcome {
 }
 
 // What the variable then stands for.
-fn outcome_of(entries: &[Entry], ranks: &[Rank], var: u32, value: &Bound<'_>) -> Outcome
-    requires { Laid entries.now (length ranks.now) }
+fn outcome_of(
+    last: &[u32],
+    entries: &[Entry],
+    ranks: &[Rank],
+    var: u32,
+    value: &Bound<'_>,
+) -> Outcome
+    requires last { AreLast last.now entries.now }
+    requires laid { (n : ℕ) × (n ≤ length ranks.now) × Laid entries.now n }
     ensures place { IsPlace (length entries.now) result }
     ensures value { AllOutcomes (stack_of ranks.now entries.now) var (bound_of value.now) result }
 {
-    let Some(place) = last_place(entries, var) else {
+    let Some(place) = last_place(last, entries, var) else {
         return Outcome::New;
     };
     match join(&bound_at(ranks, &entries[place]), value) {
@@ -134,7 +141,7 @@ impl Trail {
         ensures { MatchBool result (IsPut self.old self.new var (bound_of value.now))
             (IsClash self.old self.new var (bound_of value.now)) }
     {
-        match outcome_of(&self.entries, &self.ranks, var, value) {
+        match outcome_of(&self.last, &self.entries, &self.ranks, var, value) {
             Outcome::Neither => false,
             Outcome::New => {
                 self.put(var, value);
@@ -152,21 +159,23 @@ impl Trail {
         requires { length value.now.ranks.now + 1 ≤ self.old.spare }
         ensures { self.new ≡ with_entry self.old var (bound_of value.now) (length value.now.ranks.now + 1) }
     {
-        let start = self.ranks.len() as u32;
-        match self.ranks.extend_from_slice(value.ranks) {
-            Ok(()) => {}
-            Err(_) => unreachable!(),
-        }
+        let start = self.used;
+        let count = value.ranks.len() as u32;
+        write_from(&mut self.ranks, start as usize, value.ranks);
+        let number = self.entries.len() as u32 + 1;
+        let earlier = set_number(&mut self.last, var, number);
         self.entries.push_reserved(Entry {
             var,
             form: value.form,
             wrap: value.wrap,
             start,
-            end: start + value.ranks.len() as u32,
+            end: start + count,
             before: start,
             spare: self.spare,
+            earlier,
         });
-        self.spare -= value.ranks.len() as u32 + 1;
+        self.used += count;
+        self.spare -= count + 1;
     }
 
     // Puts the value of the entry at a place on the stack, whose ranks are there already.
@@ -177,10 +186,13 @@ impl Trail {
             → self.new ≡ with_entry self.old var e.value 1 }
     {
         let old = self.entries[place];
+        let number = self.entries.len() as u32 + 1;
+        let earlier = set_number(&mut self.last, var, number);
         self.entries.push_reserved(Entry {
             var,
-            before: self.ranks.len() as u32,
+            before: self.used,
             spare: self.spare,
+            earlier,
             ..old
         });
         self.spare -= 1;

@@ -1,10 +1,11 @@
 //! Trails: the values of variables, which can be taken back.
-ghost use Rattle.std.specs.Prelude.{◌≡◌, ◌≤◌, ◌<◌, [], length, IfOk, IfSome, option_map, vec_capacity};
+ghost use Rattle.std.specs.Prelude.{◌≡◌, ◌≤◌, ◌<◌, ◌+◌, ◌++◌, [], length, take, drop, slice_index_or, slice_set};
+ghost use Rattle.std.specs.Prelude.{IfOk, IfSome, option_map, vec_capacity};
 ghost use Rattle.mp_table.specs.Table.{Table as plain_table};
 ghost use Rattle.mp_subst.specs.View.{subst_of};
 ghost use Rattle.mp_subst.specs.Bound.{bound_of, IsBoundIn};
 ghost use Rattle.mp_subst.specs.Trail.{length_at, cut, last_value, GoesWith, subst_in};
-ghost use Rattle.mp_subst.specs.TrailView.{entry_value, last_place, IsWithin};
+ghost use Rattle.mp_subst.specs.TrailView.{entry_value, last_place, IsWithin, AreLast, AreEarlier};
 
 use crate::bound::Bound;
 use crate::subst::{Binding, Bindings, Subst};
@@ -20,8 +21,8 @@ pub struct Mark {
     length: usize,
 }
 
-// The value that a variable had from then on. Its ranks stand from `start` to `end` in the trail's list, which had
-// `before` ranks before it; and the spare room before it.
+// The value that a variable had from then on. Its ranks stand from `start` to `end` in the trail's list, of which
+// `before` ranks were in use before it; the spare room before it; and the number of the variable's entry before it.
 #[derive(Clone, Copy)]
 pub(crate) struct Entry {
     pub(crate) var: u32,
@@ -31,18 +32,24 @@ pub(crate) struct Entry {
     pub(crate) end: u32,
     pub(crate) before: u32,
     pub(crate) spare: u32,
+    pub(crate) earlier: u32,
 }
 
 /// The values of variables by ranks in a table, in the order in which they were bound, in a room that is made once: all
 /// but `new` and `copy` take no memory. Contracts see it as the record `Trail` of `specs/Trail.antt`; the value of a
 /// variable is that of its last entry on the stack.
+// Of the ranks the first `used` are in use: those behind them are of entries that were taken back, and are written
+// over. The number of an entry is its place and one more. `last` has for each variable the number of its last entry, 0
+// if there is none; variables past its end are looked for on the stack.
 #[derive(Drop)]
 pub struct Trail {
     pub(crate) vars: u32,
     pub(crate) room: u32,
     pub(crate) spare: u32,
+    pub(crate) used: u32,
     pub(crate) entries: Vec<Entry>,
     pub(crate) ranks: Vec<Rank>,
+    pub(crate) last: Vec<u32>,
 }
 
 impl Model for Trail {
@@ -60,8 +67,8 @@ impl Model for Trail {
     ghost invariant = { IsLaid };
 }
 
-// The place of the last entry of a variable.
-pub(crate) fn last_place(entries: &[Entry], var: u32) -> Option<usize>
+// The place of the last entry of a variable, which is looked for.
+fn place_on(entries: &[Entry], var: u32) -> Option<usize>
     ensures place { result ≡ last_place entries.now var }
     ensures within { IfSome result (λ i. i < length entries.now) }
 {
@@ -73,6 +80,51 @@ pub(crate) fn last_place(entries: &[Entry], var: u32) -> Option<usize>
         }
     }
     None
+}
+
+// The place of the last entry of a variable.
+pub(crate) fn last_place(last: &[u32], entries: &[Entry], var: u32) -> Option<usize>
+    requires { AreLast last.now entries.now }
+    ensures place { result ≡ last_place entries.now var }
+    ensures within { IfSome result (λ i. i < length entries.now) }
+{
+    if var as usize >= last.len() {
+        return place_on(entries, var);
+    }
+    let number = last[var as usize];
+    if number == 0 {
+        None
+    } else {
+        Some(number as usize - 1)
+    }
+}
+
+// Sets the number of a variable's last entry, if the list has the variable, and gives the number that was there.
+pub(crate) fn set_number(last: &mut [u32], var: u32, number: u32) -> u32
+    ensures before { result ≡ slice_index_or last.old var 0 }
+    ensures after { last.new ≡ slice_set last.old var number }
+{
+    if var as usize >= last.len() {
+        return 0;
+    }
+    let before = last[var as usize];
+    last[var as usize] = number;
+    before
+}
+
+// Makes the numbers of the last entries those among the first entries, so many of them.
+fn take_back(last: &mut [u32], entries: &[Entry], kept: usize)
+    requires kept { kept ≤ length entries.now }
+    requires last { AreLast last.old entries.now }
+    requires earlier { AreEarlier (length last.old) entries.now }
+    ensures last { AreLast last.new (take kept entries.now) }
+    ensures count { length last.new ≡ length last.old }
+{
+    let mut left = entries.len();
+    while left > kept {
+        left -= 1;
+        set_number(last, entries[left].var, entries[left].earlier);
+    }
 }
 
 // The value of an entry, whose ranks stand in a list.
@@ -87,17 +139,34 @@ pub(crate) fn bound_at<'a>(ranks: &'a [Rank], entry: &Entry) -> Bound<'a>
     }
 }
 
+// Writes items into a list from a place on, in its room: over what stands there, and then at the end.
+pub(crate) fn write_from<T: Copy>(list: &mut Vec<T>, start: usize, items: &[T])
+    requires start { start ≤ length list.old.items }
+    requires room { start + length items.now ≤ vec_capacity list.old }
+    ensures items { list.new.items
+        ≡ take start list.old.items ++ (items.now ++ drop (start + length items.now) list.old.items) }
+    ensures capacity { vec_capacity list.old ≤ vec_capacity list.new }
+{
+    let end = start + items.len();
+    if end <= list.len() {
+        list[start..end].copy_from_slice(items);
+        return;
+    }
+    list.truncate(start);
+    match list.extend_from_slice(items) {
+        Ok(()) => {}
+        Err(_) => unreachable!(),
+    }
+}
+
 // Puts other items into a list, in its room.
 fn refill<T: Copy>(list: &mut Vec<T>, items: &[T])
     requires { length items.now ≤ vec_capacity list.old }
     ensures items { list.new.items ≡ items.now }
     ensures capacity { vec_capacity list.old ≤ vec_capacity list.new }
 {
-    list.clear();
-    match list.extend_from_slice(items) {
-        Ok(()) => {}
-        Err(_) => unreachable!(),
-    }
+    list.truncate(items.len());
+    write_from(list, 0, items);
 }
 
 impl Trail {
@@ -112,12 +181,17 @@ impl Trail {
         let Ok(ranks) = Vec::with_capacity(alloc, room as usize) else {
             return Err(Memory);
         };
+        let Ok(last) = Vec::from_elem(alloc, 0, vars as usize) else {
+            return Err(Memory);
+        };
         Ok(Trail {
             vars,
             room,
             spare: room,
+            used: 0,
             entries,
             ranks,
+            last,
         })
     }
 
@@ -153,8 +227,9 @@ impl Trail {
     {
         if mark.length < self.entries.len() {
             let entry = self.entries[mark.length];
+            take_back(&mut self.last, &self.entries, mark.length);
             self.entries.truncate(mark.length);
-            self.ranks.truncate(entry.before as usize);
+            self.used = entry.before;
             self.spare = entry.spare;
         }
     }
@@ -174,9 +249,12 @@ impl Trail {
         ensures { self.new ≡ other.now }
     {
         refill(&mut self.entries, &other.entries);
-        refill(&mut self.ranks, &other.ranks);
+        write_from(&mut self.ranks, 0, &other.ranks[..other.used as usize]);
+        let known = self.last.capacity().min(other.last.len());
+        refill(&mut self.last, &other.last[..known]);
         self.vars = other.vars;
         self.spare = other.spare;
+        self.used = other.used;
     }
 
     /// The value of a variable, and None exactly where it is unbound.
@@ -185,7 +263,7 @@ impl Trail {
         ensures is_bound { (table : plain_table) → GoesWith table self.now
             → IfSome result (λ b. IsBoundIn table (bound_of b)) }
     {
-        match last_place(&self.entries, var) {
+        match last_place(&self.last, &self.entries, var) {
             None => None,
             Some(place) => Some(bound_at(&self.ranks, &self.entries[place])),
         }

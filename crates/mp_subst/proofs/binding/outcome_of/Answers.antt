@@ -1,4 +1,4 @@
-use Rattle.std.proofs.Common.{length, sym, ◌∙◌}
+use Rattle.std.proofs.Common.{sym, ◌∙◌, arith}
 use Rattle.mp_subst.specs.Bound.{bound_of}
 use Rattle.mp_subst.proofs.TrailViewLaws.{within-at}
 use Rattle.mp_subst.proofs.OutcomeLaws.{first-outcome, old-outcome, new-outcome, no-outcome}
@@ -11,7 +11,9 @@ returns-in_default-clause-value c t s =
 
 pub bound_at-requires : goal.bound_at-requires
 bound_at-requires c =
-    within-at c.args.entries.now (length c.args.ranks.now) c.in-Some.place _ c.requires c.in-Some.ensures.within
+    let laid = c.requires.laid in
+    let within = within-at c.args.entries.now laid.0 c.in-Some.place _ laid.2 c.in-Some.ensures.within in
+    (within.0, omega (arith, within.1, laid.1))
 
 pub returns-in-Old-clause-value : goal.returns-in-Old-clause-value
 returns-in-Old-clause-value c =

@@ -1,10 +1,12 @@
-use Rattle.std.proofs.Common.{◌≡◌, ◌≤◌, ◌+◌, ◌-◌, ◌++◌, ◌∷◌, [], length, sym, ap, ◌∙◌, subst, arith}
-use Rattle.std.proofs.lemmas.List.{length-append}
+use Rattle.std.proofs.Common.{◌≡◌, ◌≤◌, ◌+◌, ◌-◌, ◌++◌, ◌∷◌, [], length, take, drop, get_or, set}
+use Rattle.std.proofs.Common.{refl, sym, ap, ◌∙◌, subst, arith}
+use Rattle.std.proofs.lemmas.List.{length-append, length-take-le, length-set, with_items_is}
 use Rattle.mp_subst.specs.declared.trail.Entry.{Entry}
 use Rattle.mp_subst.specs.Bound.{bound_of}
 use Rattle.mp_subst.specs.Trail.{with_entry}
-use Rattle.mp_subst.specs.TrailView.{stack_of, Laid, HasRoom}
+use Rattle.mp_subst.specs.TrailView.{stack_of, Laid, HasRoom, AreLast, AreEarlier}
 use Rattle.mp_subst.proofs.TrailViewLaws.{laid-put, room-put, stack_of-put}
+use Rattle.mp_subst.proofs.LastLaws.{numbers-put}
 use Rattle.mp_subst.proofs.trail.Trail.put.Goals as goal
 
 pub invariant_of-self : goal.invariant_of-self
@@ -12,35 +14,51 @@ invariant_of-self c =
     let t = c.self.inside in
     let es = t.entries.items in
     let rs = t.ranks.items in
+    let ks = t.last.items in
     let ns = c.args.value.now.ranks.now in
     let i = c.self.invariant in
-    let start : c.len-start.result ≡ length rs = c.len-start.ensures ∙ t.ranks.ok.0 in
+    let x = c.args.var in
+    let rest = drop (t.used + length ns) rs in
     let e : Entry = record {
-      var = c.args.var;
+      var = x;
       form = c.args.value.now.form;
       wrap = c.args.value.now.wrap;
-      start = c.len-start.result;
-      end = c.len-start.result + length ns;
-      before = c.len-start.result;
+      start = t.used;
+      end = t.used + length ns;
+      before = t.used;
       spare = t.spare;
+      earlier = c.set_number-earlier.result;
     } in
     let items : c.push_reserved.new.self.items ≡ es ++ e ∷ [] = c.push_reserved.ensures.items in
-    let ranks : c.extend_from_slice.new.self.items ≡ rs ++ ns = c.in-Ok.ensures.items in
+    let ranks : c.write_from.new.list.items ≡ take t.used rs ++ (ns ++ rest) = c.write_from.ensures.items in
     let many : length c.push_reserved.new.self.items ≡ length es + 1 = ap length items ∙ length-append es (e ∷ []) in
-    let wide : length c.extend_from_slice.new.self.items ≡ length rs + length ns =
-    ap length ranks ∙ length-append rs ns in
+    let front : length (take t.used rs) ≡ t.used = length-take-le t.used rs i.used in
+    let wide : length c.write_from.new.list.items ≡ length (take t.used rs) + (length ns + length rest) =
+    ap length ranks ∙ length-append (take t.used rs) (ns ++ rest)
+    ∙ ap (λ n. length (take t.used rs) + n) (length-append ns rest) in
     let enough : length ns + 1 ≤ t.spare = subst (λ u. length ns + 1 ≤ u.spare) (sym c.self.view_is) c.requires in
+    let number : c.len.result + 1 ≡ length es + 1 = ap (λ n. n + 1) (c.len.ensures ∙ t.entries.ok.0) in
+    let value = c.deref_mut.ensures.value in
+    let ls = c.set_number-earlier.new.last in
+    let set_is : ls ≡ set ks x (c.len.result + 1) =
+    c.set_number-earlier.ensures.after ∙ ap (λ ms. set ms x (c.len.result + 1)) value in
+    let kept = with_items_is t.last ls (ap length set_is ∙ length-set ks x (c.len.result + 1) ∙ sym t.last.ok.0) in
+    let numbers = numbers-put ks ls es e (c.len.result + 1) number set_is
+    (c.set_number-earlier.ensures.before ∙ ap (λ ms. get_or ms x 0) value) i.last i.earlier in
     record {
-      laid = subst (λ n. Laid c.push_reserved.new.self.items n) (sym wide)
-          (subst (λ xs. Laid xs (length rs + length ns)) (sym items)
-          (laid-put es (length rs) (length rs + length ns) e i.laid start (omega arith)
-          (omega arith, omega (arith, start))));
+      laid = subst (λ xs. Laid xs (t.used + length ns)) (sym items)
+          (laid-put es t.used (t.used + length ns) e i.laid refl (omega arith) (omega arith, omega arith));
+      used = omega (arith, wide, front);
       entries_room = omega (arith, i.entries_room, many, enough);
-      ranks_room = omega (arith, i.ranks_room, wide, enough);
+      ranks_room = omega (arith, i.ranks_room, enough);
       entries_capacity = omega (arith, i.entries_capacity, c.push_reserved.ensures.capacity);
-      ranks_capacity = omega (arith, i.ranks_capacity, c.in-Ok.ensures.capacity);
-      earlier = subst (λ xs. HasRoom 0 xs t.room) (sym items)
-          (room-put 0 es t.room e i.earlier (omega (arith, i.entries_room)) (omega (arith, i.ranks_room, start)));
+      ranks_capacity = omega (arith, i.ranks_capacity, c.write_from.ensures.capacity);
+      rooms = subst (λ xs. HasRoom 0 xs t.room) (sym items)
+          (room-put 0 es t.room e i.rooms (omega (arith, i.entries_room)) (omega (arith, i.ranks_room)));
+      last = subst (λ ms. AreLast ms c.push_reserved.new.self.items) (sym kept)
+          (subst (AreLast ls) (sym items) numbers.0);
+      earlier = subst (λ ms. AreEarlier (length ms) c.push_reserved.new.self.items) (sym kept)
+          (subst (AreEarlier (length ls)) (sym items) numbers.1);
     }
 
 pub returns : goal.returns
@@ -50,20 +68,21 @@ returns c =
     let rs = t.ranks.items in
     let b = bound_of c.args.value.now in
     let ns = b.ranks in
-    let start : c.len-start.result ≡ length rs = c.len-start.ensures ∙ t.ranks.ok.0 in
+    let i = c.self.invariant in
     let e : Entry = record {
       var = c.args.var;
       form = c.args.value.now.form;
       wrap = c.args.value.now.wrap;
-      start = c.len-start.result;
-      end = c.len-start.result + length ns;
-      before = c.len-start.result;
+      start = t.used;
+      end = t.used + length ns;
+      before = t.used;
       spare = t.spare;
+      earlier = c.set_number-earlier.result;
     } in
-    let stack : stack_of c.extend_from_slice.new.self.items c.push_reserved.new.self.items
+    let stack : stack_of c.write_from.new.list.items c.push_reserved.new.self.items
     ≡ stack_of rs es ++ record { var = c.args.var; value = b; spare = t.spare } ∷ [] =
-    ap (λ xs. stack_of xs c.push_reserved.new.self.items) c.in-Ok.ensures.items
-    ∙ ap (λ xs. stack_of (rs ++ ns) xs) c.push_reserved.ensures.items
-    ∙ stack_of-put es rs ns e c.self.invariant.laid start (omega (arith, start)) in
+    ap (stack_of c.write_from.new.list.items) c.push_reserved.ensures.items
+    ∙ stack_of-put es rs c.write_from.new.list.items ns (drop (t.used + length ns) rs) t.used e i.laid i.used
+    c.write_from.ensures.items refl refl in
     ap (λ ds. record { vars = t.vars; room = t.room; spare = t.spare - (length ns + 1); stack = ds }) stack
     ∙ ap (λ u. with_entry u c.args.var b (length ns + 1)) c.self.view_is

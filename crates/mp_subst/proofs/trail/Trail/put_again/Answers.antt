@@ -1,10 +1,12 @@
-use Rattle.std.proofs.Common.{◌≡◌, ◌≤◌, ◌<◌, ◌+◌, ◌-◌, ◌++◌, ◌∷◌, [], length, sym, ap, ◌∙◌, subst, arith}
+use Rattle.std.proofs.Common.{◌≡◌, ◌≤◌, ◌<◌, ◌+◌, ◌-◌, ◌++◌, ◌∷◌, [], length, get_or, set}
+use Rattle.std.proofs.Common.{refl, sym, ap, ◌∙◌, subst, arith}
 use Rattle.std.specs.Prelude.{slice_get, Some}
-use Rattle.std.proofs.lemmas.List.{length-append, length-map, map_push}
+use Rattle.std.proofs.lemmas.List.{length-append, length-map, length-set, map_push, with_items_is}
 use Rattle.mp_subst.specs.declared.trail.Entry.{Entry}
 use Rattle.mp_subst.specs.Trail.{with_entry}
-use Rattle.mp_subst.specs.TrailView.{entry_value, trail_entry, stack_of, IsWithin, Laid, HasRoom}
+use Rattle.mp_subst.specs.TrailView.{entry_value, trail_entry, stack_of, IsWithin, Laid, HasRoom, AreLast, AreEarlier}
 use Rattle.mp_subst.proofs.TrailViewLaws.{laid-put, room-put, within-at, entry-at}
+use Rattle.mp_subst.proofs.LastLaws.{numbers-put}
 use Rattle.mp_subst.proofs.trail.Trail.put_again.Goals as goal
 
 pub invariant_of-self : goal.invariant_of-self
@@ -12,9 +14,10 @@ invariant_of-self c =
     let t = c.self.inside in
     let es = t.entries.items in
     let rs = t.ranks.items in
+    let ks = t.last.items in
     let i = c.self.invariant in
+    let x = c.args.var in
     let d = c.index-old.result.now in
-    let before : c.len.result ≡ length rs = c.len.ensures ∙ t.ranks.ok.0 in
     let place : c.args.place < length es =
     omega (
       arith,
@@ -22,28 +25,42 @@ invariant_of-self c =
       length-map es (trail_entry rs),
     ) in
     let e : Entry = record {
-      var = c.args.var;
+      var = x;
       form = d.form;
       wrap = d.wrap;
       start = d.start;
       end = d.end;
-      before = c.len.result;
+      before = t.used;
       spare = t.spare;
+      earlier = c.set_number-earlier.result;
     } in
-    let within : IsWithin (length rs) e =
-    subst (IsWithin (length rs)) (sym c.index-old.ensures) (within-at es (length rs) c.args.place d i.laid place) in
+    let within : IsWithin t.used e =
+    subst (IsWithin t.used) (sym c.index-old.ensures) (within-at es t.used c.args.place d i.laid place) in
     let items : c.push_reserved.new.self.items ≡ es ++ e ∷ [] = c.push_reserved.ensures.items in
     let many : length c.push_reserved.new.self.items ≡ length es + 1 = ap length items ∙ length-append es (e ∷ []) in
     let enough : 1 ≤ t.spare = subst (λ u. 1 ≤ u.spare) (sym c.self.view_is) c.requires.room in
+    let number : c.len.result + 1 ≡ length es + 1 = ap (λ n. n + 1) (c.len.ensures ∙ t.entries.ok.0) in
+    let value = c.deref_mut.ensures.value in
+    let ls = c.set_number-earlier.new.last in
+    let set_is : ls ≡ set ks x (c.len.result + 1) =
+    c.set_number-earlier.ensures.after ∙ ap (λ ms. set ms x (c.len.result + 1)) value in
+    let kept = with_items_is t.last ls (ap length set_is ∙ length-set ks x (c.len.result + 1) ∙ sym t.last.ok.0) in
+    let numbers = numbers-put ks ls es e (c.len.result + 1) number set_is
+    (c.set_number-earlier.ensures.before ∙ ap (λ ms. get_or ms x 0) value) i.last i.earlier in
     record {
-      laid = subst (λ xs. Laid xs (length rs)) (sym items)
-          (laid-put es (length rs) (length rs) e i.laid before (omega arith) within);
+      laid = subst (λ xs. Laid xs t.used) (sym items)
+          (laid-put es t.used t.used e i.laid refl (omega arith) within);
+      used = i.used;
       entries_room = omega (arith, i.entries_room, many, enough);
       ranks_room = omega (arith, i.ranks_room);
       entries_capacity = omega (arith, i.entries_capacity, c.push_reserved.ensures.capacity);
       ranks_capacity = i.ranks_capacity;
-      earlier = subst (λ xs. HasRoom 0 xs t.room) (sym items)
-          (room-put 0 es t.room e i.earlier (omega (arith, i.entries_room)) (omega (arith, i.ranks_room, before)));
+      rooms = subst (λ xs. HasRoom 0 xs t.room) (sym items)
+          (room-put 0 es t.room e i.rooms (omega (arith, i.entries_room)) (omega (arith, i.ranks_room)));
+      last = subst (λ ms. AreLast ms c.push_reserved.new.self.items) (sym kept)
+          (subst (AreLast ls) (sym items) numbers.0);
+      earlier = subst (λ ms. AreEarlier (length ms) c.push_reserved.new.self.items) (sym kept)
+          (subst (AreEarlier (length ls)) (sym items) numbers.1);
     }
 
 pub returns : goal.returns
@@ -58,8 +75,9 @@ returns c e h =
       wrap = d.wrap;
       start = d.start;
       end = d.end;
-      before = c.len.result;
+      before = t.used;
       spare = t.spare;
+      earlier = c.set_number-earlier.result;
     } in
     let there : slice_get (stack_of rs es) c.args.place ≡ Some e =
     subst (λ u. slice_get u.stack c.args.place ≡ Some e) (sym c.self.view_is) h in

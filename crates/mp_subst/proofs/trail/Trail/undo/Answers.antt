@@ -1,40 +1,56 @@
 use Rattle.std.proofs.Common.{◌≡◌, ◌≤◌, ◌<◌, ℕ, length, take, get_or, sym, ap, ◌∙◌, subst, arith}
 use Rattle.std.specs.Prelude.{slice_get, option_map, Some, None}
-use Rattle.std.proofs.lemmas.List.{length-take-le, length-map}
+use Rattle.std.proofs.lemmas.List.{length-take-le, length-map, take-map, with_items_is}
 use Rattle.std.proofs.lemmas.Option.{slice_get-get_or, slice_get-map}
 use Rattle.mp_subst.specs.Trail.{cut, spare_at, GoesWith}
-use Rattle.mp_subst.specs.TrailView.{trail_entry, stack_of, trail_view, Laid, HasRoom}
+use Rattle.mp_subst.specs.TrailView.{trail_entry, stack_of, trail_view, Laid, HasRoom, AreLast, AreEarlier}
 use Rattle.mp_subst.proofs.TrailLaws.{cut-whole, goes_with-cut}
-use Rattle.mp_subst.proofs.TrailViewLaws.{laid-take, room-take, stack_of-take}
+use Rattle.mp_subst.proofs.TrailViewLaws.{laid-take, room-take}
+use Rattle.mp_subst.proofs.LastLaws.{are_earlier-take}
 use Rattle.mp_subst.proofs.trail.Trail.undo.Goals as goal
+
+pub take_back-requires-clause-last : goal.take_back-requires-clause-last
+take_back-requires-clause-last c =
+    subst (λ ns. AreLast ns c.deref.result.now) (sym c.deref_mut.ensures.value)
+    (subst (AreLast c.self.inside.last.items) (sym c.deref.ensures.value) c.self.invariant.last)
+
+pub take_back-requires-clause-earlier : goal.take_back-requires-clause-earlier
+take_back-requires-clause-earlier c =
+    subst (λ ns. AreEarlier (length ns) c.deref.result.now) (sym c.deref_mut.ensures.value)
+    (subst (AreEarlier (length c.self.inside.last.items)) (sym c.deref.ensures.value) c.self.invariant.earlier)
 
 pub invariant_of-self : goal.invariant_of-self
 invariant_of-self c =
     let t = c.self.inside in
     let es = t.entries.items in
-    let rs = t.ranks.items in
     let i = c.self.invariant in
     let m = c.args.mark.length in
     let d = c.index-entry.result.now in
     let at : d ≡ get_or es m d = c.index-entry.ensures in
     let h : m < length es = omega (arith, c.if-mark-len.true, c.len.ensures, t.entries.ok.0) in
-    let l = laid-take es (length rs) m d h i.laid in
-    let r = room-take 0 es t.room m d h i.earlier in
+    let l = laid-take es t.used m d h i.laid in
+    let r = room-take 0 es t.room m d h i.rooms in
     let entries : c.truncate.new.self.items ≡ take m es = c.truncate.ensures.items in
-    let ranks : c.truncate-then-mark-len.new.self.items ≡ take (get_or es m d).before rs =
-    c.truncate-then-mark-len.ensures.items ∙ ap (λ e. take e.before rs) at in
-    let wide : length c.truncate-then-mark-len.new.self.items ≡ (get_or es m d).before =
-    ap length ranks ∙ length-take-le (get_or es m d).before rs l.1 in
     let many : length c.truncate.new.self.items ≡ m = ap length entries ∙ length-take-le m es (omega (arith, h)) in
     let spare : d.spare ≡ (get_or es m d).spare = ap (λ e. e.spare) at in
+    let before : d.before ≡ (get_or es m d).before = ap (λ e. e.before) at in
+    let ns = c.take_back.new.last in
+    let count : length ns ≡ length t.last.items = c.take_back.ensures.count ∙ ap length c.deref_mut.ensures.value in
+    let kept = with_items_is t.last ns (count ∙ sym t.last.ok.0) in
     record {
-      laid = subst (λ n. Laid c.truncate.new.self.items n) (sym wide)
+      laid = subst (λ n. Laid c.truncate.new.self.items n) (sym before)
           (subst (λ xs. Laid xs (get_or es m d).before) (sym entries) l.0);
+      used = omega (arith, l.1, i.used, before);
       entries_room = omega (arith, r.1, many, spare);
-      ranks_room = omega (arith, r.2, wide, spare);
+      ranks_room = omega (arith, r.2, before, spare);
       entries_capacity = omega (arith, i.entries_capacity, c.truncate.ensures.capacity);
-      ranks_capacity = omega (arith, i.ranks_capacity, c.truncate-then-mark-len.ensures.capacity);
-      earlier = subst (λ xs. HasRoom 0 xs t.room) (sym entries) r.0;
+      ranks_capacity = i.ranks_capacity;
+      rooms = subst (λ xs. HasRoom 0 xs t.room) (sym entries) r.0;
+      last = subst (λ ms. AreLast ms c.truncate.new.self.items) (sym kept)
+          (subst (AreLast ns) (ap (take m) c.deref.ensures.value ∙ sym entries) c.take_back.ensures.last);
+      earlier = subst (λ n. AreEarlier n c.truncate.new.self.items) (sym (ap length kept ∙ count))
+          (subst (AreEarlier (length t.last.items)) (sym entries)
+          (are_earlier-take (length t.last.items) es m (omega (arith, h)) i.earlier));
     }
 
 pub returns-then-mark-len-clause-trail : goal.returns-then-mark-len-clause-trail
@@ -46,11 +62,8 @@ returns-then-mark-len-clause-trail c =
     let d = c.index-entry.result.now in
     let at : d ≡ get_or es m d = c.index-entry.ensures in
     let h : m < length es = omega (arith, c.if-mark-len.true, c.len.ensures, t.entries.ok.0) in
-    let stack : stack_of c.truncate-then-mark-len.new.self.items c.truncate.new.self.items ≡ take m (stack_of rs es) =
-    ap (λ xs. stack_of xs c.truncate.new.self.items) (c.truncate-then-mark-len.ensures.items
-    ∙ ap (λ e. take e.before rs) at)
-    ∙ ap (stack_of (take (get_or es m d).before rs)) c.truncate.ensures.items
-    ∙ stack_of-take es rs m d h c.self.invariant.laid in
+    let stack : stack_of rs c.truncate.new.self.items ≡ take m (stack_of rs es) =
+    ap (stack_of rs) c.truncate.ensures.items ∙ sym (take-map (trail_entry rs) m es) in
     let there : slice_get (stack_of rs es) m ≡ Some (trail_entry rs (get_or es m d)) =
     slice_get-map (trail_entry rs) es m ∙ ap (option_map (trail_entry rs)) (slice_get-get_or es m d h) in
     let spare : d.spare ≡ spare_at (trail_view t) m =

@@ -1,7 +1,7 @@
 use Rattle.std.proofs.Common.{◌≡◌, ◌≤◌, length, drop}
 use Rattle.std.specs.Prelude.{None}
 use Rattle.mp_subst.specs.TrailView.{last_place}
-use Rattle.mp_subst.proofs.trail.last_place.Given as goal
+use Rattle.mp_subst.proofs.trail.place_on.Given as goal
 
 abbrev pub invariant-loop-left : goal.invariant-loop-left
 invariant-loop-left l = record {
