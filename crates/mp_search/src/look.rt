@@ -27,9 +27,10 @@ use crate::query::Query;
 use crate::rivals::{has_rival, is_first, mark_rivals};
 use crate::site::Site;
 use crate::supply::are_lacking;
-use mp_pattern::is_comm_above;
+use mp_pattern::{Pattern, is_comm_above};
 use mp_subst::Trail;
 use mp_table::Rank;
+use mp_term::OpId;
 
 // The number of the node of the first later child.
 fn later_node(query: &Query<'_>, site: &Site<'_>) -> u32
@@ -57,7 +58,7 @@ fn are_short(query: &Query<'_>, site: &Site<'_>, take: &[Rank], trail: &Trail) -
     if !is_comm_above(query.sig, site.under) {
         return false;
     }
-    if !has_rival(query, site) {
+    if !has_rival(query, site.child, site.node, site.later) {
         return false;
     }
     let node = later_node(query, site);
@@ -107,6 +108,18 @@ pub(crate) fn lacks_terms_before(query: &Query<'_>, site: &Site<'_>, trail: &Tra
         return false;
     }
     are_short(query, site, &[], trail)
+}
+
+// Whether anything is looked at behind an entry of the child of that number: a condition, or later children.
+pub(crate) fn looks_behind(
+    query: &Query<'_>,
+    under: Option<OpId>,
+    child: &Pattern,
+    node: u32,
+    later: &[Pattern],
+) -> bool {
+    query.condition.is_some()
+        || is_comm_above(query.sig, under) && has_rival(query, child, node, later)
 }
 
 // Whether it is seen that nothing is found behind the entry at hand, once it is bound: the condition fails, or what is

@@ -24,7 +24,7 @@ ghost use Rattle.mp_search.specs.Wanted.{good, AreComplete};
 use crate::binding::bind;
 use crate::choice::is_choice;
 use crate::level::Level;
-use crate::look::leads_nowhere;
+use crate::look::{leads_nowhere, looks_behind};
 use crate::own::{first_own, next_own, prepare_own};
 use crate::query::Query;
 use crate::site::Site;
@@ -128,6 +128,15 @@ pub(crate) fn leads_nowhere_at(
         (subst_of query.now trail.now) in
         AreComplete query.now is → filter (good query.now) is ≡ [] }
 {
+    if !looks_behind(
+        query,
+        place.under,
+        place.child,
+        node_at(query, k),
+        place.later,
+    ) {
+        return false;
+    }
     let site = site_at(query, place, &levels[..k]);
     leads_nowhere(query, &site, &levels[k], trail)
 }

@@ -274,8 +274,8 @@ fn are_alike(child: &Pattern, other: &Pattern) -> bool {
 }
 
 // Whether the later child is looked at: where the child at hand is the first any, and else those that are like it.
-fn is_rival(query: &Query<'_>, site: &Site<'_>, first: bool, later: &Pattern) -> bool {
-    (first || are_alike(site.child, later)) && is_firm(query.sig, later)
+fn is_rival(query: &Query<'_>, child: &Pattern, first: bool, later: &Pattern) -> bool {
+    (first || are_alike(child, later)) && is_firm(query.sig, later)
 }
 
 // Whether none of them is an application.
@@ -297,18 +297,30 @@ fn goes_on_at_once(query: &Query<'_>, child: &Pattern) -> bool {
     }
 }
 
+// Whether some of the children are looked at.
+fn some_is_rival(query: &Query<'_>, child: &Pattern, first: bool, children: &[Pattern]) -> bool {
+    children
+        .iter()
+        .any(|later| is_rival(query, child, first, later))
+}
+
 // Whether later children are looked at: not where there is but the very next one, to which a search goes on at once.
-pub(crate) fn has_rival(query: &Query<'_>, site: &Site<'_>) -> bool {
-    let first = is_first(query, site.node);
-    match site.later {
+pub(crate) fn has_rival(
+    query: &Query<'_>,
+    child: &Pattern,
+    node: u32,
+    children: &[Pattern],
+) -> bool {
+    match children {
         [] => false,
         [next, others @ ..] => {
-            for later in others {
-                if is_rival(query, site, first, later) {
-                    return true;
-                }
+            let first = is_first(query, node);
+            // Children that are alike stand together, since a commutative operation's are in order.
+            if !first && !are_alike(child, next) {
+                return false;
             }
-            !goes_on_at_once(query, site.child) && is_rival(query, site, first, next)
+            some_is_rival(query, child, first, others)
+                || !goes_on_at_once(query, child) && is_rival(query, child, first, next)
         }
     }
 }
@@ -338,7 +350,7 @@ fn is_placed(
     ensures places { length places.new ≡ length places.old }
     ensures marks { length marks.new ≡ length marks.old }
 {
-    if !is_rival(query, site, is_first(query, site.node), child) {
+    if !is_rival(query, site.child, is_first(query, site.node), child) {
         return true;
     }
     if let Some(place) = free_place(query, site, take, trail, child, child_node, &*places, which) {

@@ -66,9 +66,11 @@ impl<T: Copy> Room<T> {
         let kept = items.len().min(self.items.len());
         self.items.truncate(kept);
         self.items.copy_from_slice(&items[..kept]);
-        match self.items.extend_from_slice(&items[kept..]) {
-            Ok(()) => {}
-            Err(_) => unreachable!(),
+        if kept < items.len() {
+            match self.items.extend_from_slice(&items[kept..]) {
+                Ok(()) => {}
+                Err(_) => unreachable!(),
+            }
         }
     }
 

@@ -6,7 +6,13 @@ use Rattle.mp_search.specs.Reading.{entry_at, entry_of, subst_of}
 use Rattle.mp_search.specs.Site.{site_place}
 use Rattle.mp_search.specs.Wanted.{good, AreComplete}
 use Rattle.mp_search.proofs.OwnLaws.{entry-read}
+use Rattle.mp_search.proofs.NodeSteps.{split-within}
 use Rattle.mp_search.proofs.node.leads_nowhere_at.Goals as goal
+
+pub node_at-requires-clause-within : goal.node_at-requires-clause-within
+node_at-requires-clause-within c =
+    split-within c.args.query.now c.args.levels.now c.args.place.now c.args.k c.requires.within c.requires.node
+    c.requires.place
 
 pub returns : goal.returns
 returns c = λ i j.
