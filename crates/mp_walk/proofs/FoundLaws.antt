@@ -1,6 +1,6 @@
 -- The order of what is found: that what rules admit is their all-list in it.
 use Rattle.std.proofs.Common.{◌≡◌, ◌≤◌, ◌<◌, ℕ, zero, suc, length, false, List, [], ◌∷◌, ◌++◌, ◌+◌, map}
-use Rattle.std.proofs.Common.{drop, refl, ap, sym, ◌∙◌}
+use Rattle.std.proofs.Common.{drop, refl, ap, ap₂, sym, true, ◌∙◌}
 use Rattle.std.proofs.Common.{inl, inr, subst, arith}
 use Rattle.std.specs.Prelude.{◌↔◌, Contains, Some}
 use Rattle.std.specs.Prelude.{slice_get}
@@ -10,7 +10,8 @@ use Rattle.std.specs.List.Sorted.{IsStrictlySortedBy}
 use Rattle.std.specs.Ordering.{is_ne, nat_cmp, ordering_then}
 use Rattle.std.specs.declared.cmp.Ordering.{Ordering}
 use Rattle.std.specs.declared.cmp.Ordering.TheVariants.{Less, Equal, Greater}
-use Rattle.std.proofs.lemmas.Cmp.{lists_total, nat_list_cmp_total, tied_itself}
+use Rattle.std.proofs.lemmas.List.{length-map}
+use Rattle.std.proofs.lemmas.Cmp.{lists_total, nat_cmp_total, nat_list_cmp_total, tied_itself}
 use Rattle.mp_term.specs.Listing.{In, IsListing}
 use Rattle.mp_term.specs.OrderLaws.{both_equal, nat_same, nats_same}
 use Rattle.mp_term.specs.Signature.{Sig}
@@ -21,10 +22,11 @@ use Rattle.mp_pattern.specs.Admission.{Rule}
 use Rattle.mp_pattern.specs.Lists.{IsAllList, Pair, PairAdmitted, pair_cmp, subst_cmp}
 use Rattle.mp_pattern.specs.Value.{Subst}
 use Rattle.mp_pattern.specs.Variables.{variables}
-use Rattle.mp_subst.specs.View.{binding_of}
-use Rattle.mp_subst.specs.declared.subst.Binding as code_binding
 use Rattle.mp_subst.proofs.Equality.{equal-subst_cmp}
+use Rattle.mp_table.specs.Table as tables
 use Rattle.mp_walk.specs.Found.{found_cmp, names_cmp, names_of}
+use Rattle.mp_walk.specs.RankedView.{kept_binding, kept_name, ranked_pair}
+use Rattle.mp_walk.specs.declared.ranked.Kept.{Kept}
 
 -- ---- the order
 
@@ -43,9 +45,46 @@ equal-not_ne Less e = cc
 equal-not_ne Equal e = refl
 equal-not_ne Greater e = cc
 
--- the names that compare as equal are the same
-pub names-same : (r s : Subst) → names_cmp (names_of r) (names_of s) ≡ Equal → names_of r ≡ names_of s
-names-same r s = slice_cmp-IsAntisymmetric nats_same (names_of r) (names_of s)
+-- the names of values
+pub names-kept : (t : tables.Table) (ks : List Kept) → names_of (map (kept_binding t) ks) ≡ map kept_name ks
+names-kept t [] = refl
+names-kept t (k ∷ ks) = ap (λ xs. kept_name k ∷ xs) (names-kept t ks)
+
+-- values whose names compare as equal are as many
+pub many-kept : (ks js : List Kept) → names_cmp (map kept_name ks) (map kept_name js) ≡ Equal → length ks ≡ length js
+many-kept ks js e =
+    sym (length-map ks kept_name)
+    ∙ ap length (slice_cmp-IsAntisymmetric nats_same (map kept_name ks) (map kept_name js) e) ∙ length-map js kept_name
+
+-- what comes first decides, where it isn't equal
+then-ne : (o r : Ordering) → is_ne o ≡ true → ordering_then o r ≡ o
+then-ne Less r h = refl
+then-ne Equal r h = cc
+then-ne Greater r h = refl
+
+-- pairs of one rule
+module _ (n m : ℕ) (t u : tables.Table) (ks js : List Kept) (rule : n ≡ m) where
+  abbrev values_cmp : Ordering
+  values_cmp = subst_cmp (map (kept_binding t) ks) (map (kept_binding u) js)
+
+  of-one-rule : found_cmp (ranked_pair n t ks) (ranked_pair m u js)
+      ≡ ordering_then (names_cmp (map kept_name ks) (map kept_name js)) values_cmp
+  of-one-rule =
+      ap (λ c. ordering_then c (ordering_then
+      (names_cmp (names_of (map (kept_binding t) ks)) (names_of (map (kept_binding u) js))) values_cmp))
+      (ap (nat_cmp n) (sym rule) ∙ tied_itself nat_cmp_total n)
+      ∙ ap₂ (λ (xs ys : List (List ℕ)). ordering_then (names_cmp xs ys) values_cmp) (names-kept t ks) (names-kept u js)
+
+  -- compare by their names, where these differ
+  pub found-other_names : (o : Ordering) → o ≡ names_cmp (map kept_name ks) (map kept_name js) → is_ne o ≡ true
+      → o ≡ found_cmp (ranked_pair n t ks) (ranked_pair m u js)
+  found-other_names o is other =
+      sym (of-one-rule ∙ ap (λ c. ordering_then c values_cmp) (sym is) ∙ then-ne o values_cmp other)
+
+  -- and else by their values
+  pub found-same_names : names_cmp (map kept_name ks) (map kept_name js) ≡ Equal → (o : Ordering)
+      → o ≡ values_cmp → o ≡ found_cmp (ranked_pair n t ks) (ranked_pair m u js)
+  found-same_names same o is = is ∙ sym (of-one-rule ∙ ap (λ c. ordering_then c values_cmp) same)
 
 -- what is behind the items of a list, and at a place within it
 drop-past : {X : Type 0} (i : ℕ) (xs : List X) → length xs ≤ i → drop i xs ≡ []
@@ -59,11 +98,11 @@ drop-within i [] h = absurd (omega (arith, h))
 drop-within zero (x ∷ xs) h = (x, xs, refl)
 drop-within (suc i) (x ∷ xs) h = drop-within i xs (omega (arith, h))
 
-module _ (i : ℕ) (bs os : List code_binding.Binding) where
-  abbrev compared : List code_binding.Binding → List code_binding.Binding → Ordering
-  compared cs ds = names_cmp (names_of (map binding_of cs)) (names_of (map binding_of ds))
+module _ (i : ℕ) (bs os : List Kept) where
+  abbrev compared : List Kept → List Kept → Ordering
+  compared cs ds = names_cmp (map kept_name cs) (map kept_name ds)
 
-  -- behind the last binding, of fewer than the others or of as many
+  -- behind the last value, of fewer than the others or of as many
   pub ended-less : length bs ≤ i → i < length os → compared (drop i bs) (drop i os) ≡ Less
   ended-less h k =
       let w = drop-within i os k in

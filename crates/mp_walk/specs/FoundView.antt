@@ -1,8 +1,7 @@
 -- The plain pair that was found.
 use Rattle.mp_pattern.specs.Lists.{Pair}
-use Rattle.mp_subst.specs.View.{pair_of}
 use Rattle.mp_walk.specs.declared.found.Found.{Found}
 
 -- as plain data
 abbrev pub found_pair : Found → Pair
-found_pair f = pair_of f.pair
+found_pair f = f.pair

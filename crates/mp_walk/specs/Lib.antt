@@ -28,3 +28,4 @@ pub mod FoundOrder
 pub mod FoundView
 pub mod Chained
 pub mod NamedItems
+pub mod RankedView

@@ -5,12 +5,11 @@ ghost use Rattle.std.specs.Ordering.{is_eq, is_lt};
 ghost use Rattle.std.specs.Cmp.{on_equiv, on_per, on_po, on_total, partial_equiv_from_equiv, po, eq_by_cmp_equiv};
 ghost use Rattle.mp_term.specs.Listing.{IsListing};
 ghost use Rattle.mp_pattern.specs.Lists as lists;
-ghost use Rattle.mp_subst.specs.View.{binding_of, pair_of};
-ghost use Rattle.mp_walk.specs.Found.{found_cmp, names_cmp, names_of};
+ghost use Rattle.mp_walk.specs.Found.{found_cmp};
 ghost use Rattle.mp_walk.specs.FoundOrder.{found_cmp_total};
 ghost use Rattle.mp_walk.specs.FoundView.{found_pair};
 
-use mp_subst::{Binding, Pair, Pairs, compare_subst};
+use crate::ranked::{RankedPair, compare};
 use mp_term::Memory;
 use std::alloc::Global;
 use std::cmp::Ordering;
@@ -18,72 +17,35 @@ use std::marker::Model;
 
 // A pair that was found.
 #[derive(Drop)]
-pub(crate) struct Found {
-    pub(crate) pair: Pair,
+pub(crate) struct Found<'a> {
+    pub(crate) pair: RankedPair<'a>,
 }
 
-// The order of the names of bindings, from the left.
-fn compare_names(bindings: &[Binding], others: &[Binding]) -> Ordering
-    ensures { result ≡ names_cmp (names_of (map binding_of bindings.now)) (names_of (map binding_of others.now)) }
-{
-    for (i, binding) in bindings.iter().enumerate() {
-        let Some(other) = others.get(i) else {
-            return Ordering::Greater;
-        };
-        let order = binding.name.cmp(&other.name);
-        if order.is_ne() {
-            return order;
-        }
-    }
-    if bindings.len() < others.len() {
-        Ordering::Less
-    } else {
-        Ordering::Equal
-    }
-}
-
-// The order of pairs, where those of one rule have the same variables: by the rules' numbers and the substitutions.
-fn compare(pair: &Pair, other: &Pair) -> Ordering
-    ensures { result ≡ found_cmp (pair_of pair.now) (pair_of other.now) }
-{
-    if pair.rule != other.rule {
-        return pair.rule.cmp(&other.rule);
-    }
-    let names = compare_names(
-        pair.subst.bindings.as_slice(),
-        other.subst.bindings.as_slice(),
-    );
-    if names.is_ne() {
-        return names;
-    }
-    compare_subst(&pair.subst, &other.subst)
-}
-
-impl PartialEq for Found {
+impl PartialEq for Found<'_> {
     ghost eq = { λ a b. is_eq (found_cmp (found_pair a) (found_pair b)) };
 
     ghost laws = { on_per found_pair (partial_equiv_from_equiv (eq_by_cmp_equiv found_cmp_total)) };
 
-    fn eq(&self, other: &Found) -> bool {
+    fn eq(&self, other: &Self) -> bool {
         compare(&self.pair, &other.pair).is_eq()
     }
 }
 
-impl Eq for Found {
+impl Eq for Found<'_> {
     ghost laws = { on_equiv found_pair (eq_by_cmp_equiv found_cmp_total) };
 }
 
-impl PartialOrd for Found {
+impl PartialOrd for Found<'_> {
     ghost partial_cmp = { λ a b. Some (found_cmp (found_pair a) (found_pair b)) };
 
     ghost laws = { on_po found_pair (po found_cmp_total (λ _ _. refl)) };
 
-    fn partial_cmp(&self, other: &Found) -> Option<Ordering> {
+    fn partial_cmp(&self, other: &Self) -> Option<Ordering> {
         Some(compare(&self.pair, &other.pair))
     }
 }
 
-impl Ord for Found {
+impl Ord for Found<'_> {
     ghost cmp = { λ a b. found_cmp (found_pair a) (found_pair b) };
 
     ghost total = { on_total found_pair found_cmp_total };
@@ -92,7 +54,7 @@ impl Ord for Found {
 
     ghost matches_eq = { λ _ _. refl };
 
-    fn cmp(&self, other: &Found) -> Ordering {
+    fn cmp(&self, other: &Self) -> Ordering {
         compare(&self.pair, &other.pair)
     }
 }
@@ -101,7 +63,7 @@ impl Ord for Found {
 const FEW: usize = 64;
 
 // Puts the pairs in order, each once; they are so where they ascend.
-fn compact(found: &mut Vec<Found>, ascending: bool)
+fn compact(found: &mut Vec<Found<'_>>, ascending: bool)
     requires { IsTrue ascending → IsStrictlySortedBy found_cmp (map found_pair found.old.items) }
     ensures { IsListing found_cmp (Contains (map found_pair found.old.items)) (map found_pair found.new.items) }
 {
@@ -113,7 +75,7 @@ fn compact(found: &mut Vec<Found>, ascending: bool)
 
 // Where there are so many pairs those that stand twice are dropped. It answers how many may be kept from now on, which
 // are twice as many as are left, and more.
-fn make_room(found: &mut Vec<Found>, most: usize) -> usize
+fn make_room(found: &mut Vec<Found<'_>>, most: usize) -> usize
     ensures { (p : lists.Pair) → Contains (map found_pair found.new.items) p
         ↔ Contains (map found_pair found.old.items) p }
 {
@@ -125,28 +87,32 @@ fn make_room(found: &mut Vec<Found>, most: usize) -> usize
 }
 
 // What was found comes before the pair.
-fn is_before(found: &Found, pair: &Pair) -> bool
-    ensures { result ≡ is_lt (found_cmp (found_pair found.now) (pair_of pair.now)) }
+fn is_before(found: &Found<'_>, pair: &RankedPair<'_>) -> bool
+    ensures { result ≡ is_lt (found_cmp (found_pair found.now) pair.now) }
 {
     compare(&found.pair, pair).is_lt()
 }
 
 // The pair comes after the last one, where there is one.
-fn follows(found: &[Found], pair: &Pair) -> bool
+fn follows(found: &[Found<'_>], pair: &RankedPair<'_>) -> bool
     ensures { IsTrue result → IsStrictlySortedBy found_cmp (map found_pair found.now)
-        → IsStrictlySortedBy found_cmp (map found_pair found.now ++ pair_of pair.now ∷ []) }
+        → IsStrictlySortedBy found_cmp (map found_pair found.now ++ pair.now ∷ []) }
 {
     let count = found.len();
     count == 0 || is_before(&found[count - 1], pair)
 }
 
 // The pairs in order, each once.
-fn listed(alloc: Global, mut found: Vec<Found>, ascending: bool) -> Result<Pairs, Memory>
+fn listed<'a>(
+    alloc: Global,
+    mut found: Vec<Found<'a>>,
+    ascending: bool,
+) -> Result<Vec<RankedPair<'a>>, Memory>
     requires { IsTrue ascending → IsStrictlySortedBy found_cmp (map found_pair found.items) }
-    ensures { IfOk result (IsListing found_cmp (Contains (map found_pair found.items))) }
+    ensures { IfOk result (λ ps. IsListing found_cmp (Contains (map found_pair found.entry.items)) ps.items) }
 {
     compact(&mut found, ascending);
-    let mut pairs = Pairs::new(alloc);
+    let mut pairs = Vec::with_capacity(alloc, found.len())?;
     for item in found {
         pairs.push(item.pair)?;
     }
@@ -156,13 +122,13 @@ fn listed(alloc: Global, mut found: Vec<Found>, ascending: bool) -> Result<Pairs
 // The pairs that a walk has found, seen as the list of them: whether they ascend, and how many of them may be kept
 // where they don't, before those that stand twice are dropped.
 #[derive(Drop)]
-pub struct Finds {
-    found: Vec<Found>,
+pub struct Finds<'a> {
+    found: Vec<Found<'a>>,
     ascending: bool,
     most: usize,
 }
 
-impl Model for Finds {
+impl<'a> Model for Finds<'a> {
     ghost use Rattle.std.specs.Prelude.{List, map, IsTrue};
     ghost use Rattle.std.specs.Coded.{coded_list};
     ghost use Rattle.std.specs.List.Sorted.{IsStrictlySortedBy};
@@ -180,9 +146,9 @@ impl Model for Finds {
     ghost invariant = { λ f. IsTrue f.ascending → IsStrictlySortedBy found_cmp (map found_pair f.found.items) };
 }
 
-impl Finds {
+impl<'a> Finds<'a> {
     // No pairs.
-    pub fn new(alloc: Global) -> Finds
+    pub fn new(alloc: Global) -> Finds<'a>
         ensures { result ≡ [] }
     {
         Finds {
@@ -193,8 +159,8 @@ impl Finds {
     }
 
     // Adds a pair. The room is that of the distinct ones.
-    pub fn add(&mut self, pair: Pair) -> Result<(), Memory>
-        ensures { OnOk result ((p : lists.Pair) → Contains self.new p ↔ Contains (self.old ++ pair_of pair ∷ []) p) }
+    pub fn add(&mut self, pair: RankedPair<'a>) -> Result<(), Memory>
+        ensures { OnOk result ((p : lists.Pair) → Contains self.new p ↔ Contains (self.old ++ pair.entry ∷ []) p) }
     {
         if self.ascending {
             self.ascending = follows(&self.found, &pair);
@@ -206,9 +172,14 @@ impl Finds {
     }
 
     // The pairs in order, each once.
-    pub fn into_pairs(self, alloc: Global) -> Result<Pairs, Memory>
-        ensures { IfOk result (IsListing found_cmp (Contains self)) }
+    pub fn into_pairs(self, alloc: Global) -> Result<Vec<RankedPair<'a>>, Memory>
+        ensures { IfOk result (λ ps. IsListing found_cmp (Contains self.entry) ps.items) }
     {
-        listed(alloc, self.found, self.ascending)
+        let Finds {
+            found,
+            ascending,
+            ..
+        } = self;
+        listed(alloc, found, ascending)
     }
 }

@@ -7,10 +7,11 @@ ghost use Rattle.mp_term.specs.Size.{node_count};
 ghost use Rattle.mp_pattern.specs.Fits as fits;
 ghost use Rattle.mp_pattern.specs.declared.limits.TheConstants.{MAX_VARIABLES};
 ghost use Rattle.mp_table.specs.Table.{rank_of};
+ghost use Rattle.mp_subst.specs.Trail.{GoesWith};
 ghost use Rattle.mp_subst.specs.View.{subst_of};
 ghost use Rattle.mp_walk.specs.CodeConstants.{code_constants};
 ghost use Rattle.mp_walk.specs.Code.{IsCode};
-ghost use Rattle.mp_walk.specs.NamedItems.{IsNamedSubst};
+ghost use Rattle.mp_walk.specs.NamedItems.{IsItemTrail, IsNamedSubst};
 ghost use Rattle.mp_walk.specs.WalkItems.{AreLeafItems, IsItemSubst};
 ghost use Rattle.mp_walk.specs.WalkView.{advanced, nothing, subject_of, ReadsAs};
 ghost use Rattle.mp_walk.specs.Walkable.{IsWalkable};
@@ -21,7 +22,7 @@ use crate::named::named_values;
 use crate::setting::Setting;
 use crate::stage::Stage;
 use mp_pattern::Plan;
-use mp_subst::Subst;
+use mp_subst::{Subst, Trail};
 use mp_table::{Rank, Table};
 use mp_term::{MAX_TERM_NODES, Memory, Names, Signature};
 use std::alloc::Global;
@@ -138,6 +139,19 @@ impl<'a> Walk<'a> {
             .trail
             .to_subst(alloc, self.course.set.table, plan)
     }
+
+    /// The values of the item: those of the variables of a pattern whose tokens lead to it are the substitution with
+    /// which the table of the item fits the pattern (`IsItemTrail` of `specs/NamedItems.antt`). The walk stands at an
+    /// item.
+    pub fn trail(&self) -> &Trail
+        requires { IsSome self.now.item }
+        ensures goes { GoesWith self.now.table result.now }
+        ensures fits { IfSome self.now.item
+            (IsItemTrail self.now.sig self.now.code (subject_of self.now.table) self.now.table result.now) }
+    {
+        &self.course.trail
+    }
+
     /// The substitution of the item, its variables called by the names in order (`IsNamedSubst` of
     /// `specs/NamedItems.antt`): no plan of a pattern is needed. The walk stands at an item. `Memory` comes where there
     /// is no memory for it.

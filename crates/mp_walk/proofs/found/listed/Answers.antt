@@ -7,6 +7,6 @@ use Rattle.mp_walk.proofs.found.listed.Goals as goal
 
 pub loop-item-init : goal.loop-item-init
 loop-item-init c =
-    rw c.new-pairs.ensures
+    rw c.in_ok-pairs.ensures.items
     (subst (λ l. IsListing found_cmp (Contains (map found_pair c.args.found.items)) (map found_pair l))
     (sym c.into_iter-item-iterator.ensures.into_iter_gives.0) c.compact.ensures)

@@ -9,4 +9,4 @@ use Rattle.mp_walk.proofs.found.listed.Given as goal
 abbrev pub invariant-loop-item : goal.invariant-loop-item
 invariant-loop-item l =
     IsListing found_cmp (Contains (map found_pair l.fn.found.items))
-    (l.pairs ++ map found_pair (into_iter_items l.item-iterator))
+    (l.pairs.items ++ map found_pair (into_iter_items l.item-iterator))

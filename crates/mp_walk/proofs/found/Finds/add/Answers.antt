@@ -2,7 +2,6 @@ use Rattle.std.proofs.Common.{◌≡◌, [], ◌∷◌, ◌++◌, ◌∙◌, ap,
 use Rattle.std.specs.Prelude.{◌↔◌, Contains}
 use Rattle.std.proofs.lemmas.List.{map-append}
 use Rattle.mp_pattern.specs.Lists.{Pair}
-use Rattle.mp_subst.specs.View.{pair_of}
 use Rattle.mp_walk.specs.FoundView.{found_pair}
 use Rattle.mp_walk.proofs.FoundLaws.{contains-pushed}
 use Rattle.mp_walk.proofs.found.Finds.add.Goals.{then-self, else-self}
@@ -12,7 +11,7 @@ pub returns : goal.returns
 returns c =
     let before = map found_pair c.self.inside.found.items in
     let left = c.if-self.self-inside.found.items in
-    let q = pair_of c.args.pair in
+    let q = c.args.pair in
     let same : (p : Pair) → Contains (map found_pair left) p ↔ Contains before p =
     elim c.if-self.branch [
       | then-self w ↦ λ p. subst (λ i. Contains (map found_pair i.found.items) p ↔ Contains before p)
