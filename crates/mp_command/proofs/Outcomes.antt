@@ -6,7 +6,7 @@ use Rattle.mp_io.specs.Devices.{Files, Text, held}
 use Rattle.mp_text.specs.File.{FileTree}
 use Rattle.mp_text.specs.Reading.{IsFileOf}
 use Rattle.mp_text.specs.Computed.{fault_of, file_of}
-use Rattle.mp_text.specs.declared.fault.TextFault.{TextFault}
+use Rattle.mp_build.specs.declared.fault.TextFault.{TextFault}
 use Rattle.mp_text.proofs.SoundFile.{IsSoundFile-IsFileOf}
 use Rattle.mp_text.proofs.Whole.{fault_of-exact, file_of-exact, file-no_fault, no_fault-of}
 use Rattle.mp_command.specs.Computed.{given, outcome_at, outcome_of, outcome_over, over_file}

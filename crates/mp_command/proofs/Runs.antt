@@ -10,7 +10,7 @@ use Rattle.mp_io.specs.Printing.{AppendsFront}
 use Rattle.mp_io.proofs.Written.{whole_front}
 use Rattle.mp_text.specs.File.{FileTree}
 use Rattle.mp_text.specs.Computed.{fault_of, file_of}
-use Rattle.mp_text.specs.declared.fault.TextFault.{TextFault}
+use Rattle.mp_build.specs.declared.fault.TextFault.{TextFault}
 use Rattle.mp_command.specs.Answers.{Answers, IsReached, IsUnopened}
 use Rattle.mp_command.specs.Computed.{given, outcome_at, outcome_of, outcome_over, over_file}
 use Rattle.mp_command.specs.Endings.{line_of, status_of, told_line, told_status}

@@ -8,7 +8,7 @@ use Rattle.mp_matches.specs.Computed.{listed, pairs_listed}
 use Rattle.mp_rewrite.specs.Computed.{rewriting}
 use Rattle.mp_text.specs.File.{FileTree, Subject}
 use Rattle.mp_text.specs.Computed.{fault_of, file_of}
-use Rattle.mp_text.specs.declared.fault.TextFault.{TextFault}
+use Rattle.mp_build.specs.declared.fault.TextFault.{TextFault}
 use Rattle.mp_command.specs.Messages.{fault_line, long_line, no_template_line, not_syntactic_line}
 use Rattle.mp_command.specs.Messages.{open_line, usage_line}
 use Rattle.mp_command.specs.Outcome.{Outcome, edits_made, file_limit, finished, first_not_syntactic}

@@ -3,13 +3,14 @@ use Rattle.std.specs.Prelude.{ℕ, [], ◌∷◌, ◌++◌, codes, decimal}
 use Rattle.mp_io.specs.Devices.{Text}
 use Rattle.mp_term.specs.declared.size.Excess.{Excess}
 use Rattle.mp_term.specs.declared.size.Excess.TheVariants as excess
-use Rattle.mp_text.specs.declared.fault.TextFault.{TextFault}
-use Rattle.mp_text.specs.declared.fault.TextKind.{TextKind}
-use Rattle.mp_text.specs.declared.fault.TextKind.TheVariants.{BadByte, Syntax, TooDeep, DuplicateName, TooMany}
-use Rattle.mp_text.specs.declared.fault.TextKind.TheVariants.{BadFlags, UnknownOp, BareOperation, UnknownKind, Arity}
-use Rattle.mp_text.specs.declared.fault.TextKind.TheVariants.{KindClash, LooseSequence, WildcardInTerm, UnboundVariable}
-use Rattle.mp_text.specs.declared.fault.TextKind.TheVariants.{ConditionKind, UnknownSubject, BadPosition, Overlap}
-use Rattle.mp_text.specs.declared.fault.TextKind.TheVariants.{BadCount}
+use Rattle.mp_build.specs.declared.fault.TextFault.{TextFault}
+use Rattle.mp_build.specs.declared.fault.TextKind.{TextKind}
+use Rattle.mp_build.specs.declared.fault.TextKind.TheVariants.{BadByte, Syntax, TooDeep, DuplicateName, TooMany}
+use Rattle.mp_build.specs.declared.fault.TextKind.TheVariants.{BadFlags, UnknownOp, BareOperation, UnknownKind, Arity}
+use Rattle.mp_build.specs.declared.fault.TextKind.TheVariants.{KindClash, LooseSequence, WildcardInTerm}
+use Rattle.mp_build.specs.declared.fault.TextKind.TheVariants.{UnboundVariable}
+use Rattle.mp_build.specs.declared.fault.TextKind.TheVariants.{ConditionKind, UnknownSubject, BadPosition, Overlap}
+use Rattle.mp_build.specs.declared.fault.TextKind.TheVariants.{BadCount}
 
 -- what is said after the program's name, as a line
 abbrev pub told : Text → Text

@@ -18,7 +18,7 @@ use Rattle.mp_text.specs.declared.file.EditSet.{EditSet}
 use Rattle.mp_text.specs.File.{FileTree, Subject}
 use Rattle.mp_text.specs.PrintedFile.{file_text}
 use Rattle.mp_text.specs.Reading.{IsFaultOf, IsFileOf}
-use Rattle.mp_text.specs.declared.fault.TextFault.{TextFault}
+use Rattle.mp_build.specs.declared.fault.TextFault.{TextFault}
 use Rattle.mp_command.specs.Messages.{deep_line, excess_line, fault_line, large_line, limit_line, long_line}
 use Rattle.mp_command.specs.Messages.{no_item_line, no_template_line, not_syntactic_line, open_line, spelling_line}
 use Rattle.mp_command.specs.Messages.{usage_line}

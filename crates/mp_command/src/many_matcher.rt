@@ -1,17 +1,15 @@
 //! The engine `many`.
 
 ghost use Rattle.std.specs.Prelude.{◌≡◌, IfOk};
-ghost use Rattle.mp_term.specs.View.{tree};
-ghost use Rattle.mp_pattern.specs.Lists.{IsAllList};
-ghost use Rattle.mp_pattern.specs.SoundRule.{AreSoundRules, IsSoundTerm};
-ghost use Rattle.mp_pattern.specs.declared.limits.TheConstants.{MAX_TERM_NODES};
+ghost use Rattle.mp_pattern.specs.SoundRule.{AreSoundRules};
 
+use mp_io::Sink;
 use mp_many::Many;
-use mp_matches::Matcher;
+use mp_matches::{Matcher, Stop, print_pairs};
 use mp_pattern::Rules;
-use mp_subst::Pairs;
 use mp_table::Table;
-use mp_term::{Memory, Signature, Term, Terms};
+use mp_term::{Memory, Signature, Terms};
+use mp_text::{File, Subject};
 use std::alloc::Global;
 use std::marker::Model;
 
@@ -60,12 +58,16 @@ impl Matcher for ManyMatcher<'_> {
 
     ghost rules = { λ m. m.rules };
 
-    fn pairs(&self, alloc: Global, sig: &Signature, subject: &Term) -> Result<Pairs, Memory>
-        requires over { sig.now ≡ self.now.sig }
-        requires sound { IsSoundTerm sig.now MAX_TERM_NODES (tree subject.now) }
-        ensures { IfOk result (IsAllList self.now.sig self.now.rules (tree subject.now)) }
-    {
-        let table = Table::build(alloc, sig, subject, &self.constants)?;
-        self.many.all(alloc, &table)
+    fn print<O: Sink>(
+        &self,
+        alloc: Global,
+        file: &File,
+        subject: &Subject,
+        left: &mut Option<u32>,
+        out: &mut O,
+    ) -> Result<bool, Stop> {
+        let table = Table::build(alloc, &file.sig, &subject.term, &self.constants)?;
+        let pairs = self.many.ranked(alloc, &table)?;
+        print_pairs(&file.sig, &file.rules, subject, &pairs, left, out)
     }
 }

@@ -6,11 +6,13 @@ ghost use Rattle.mp_pattern.specs.Lists.{IsAllList};
 ghost use Rattle.mp_pattern.specs.SoundRule.{IsSoundTerm};
 ghost use Rattle.mp_pattern.specs.declared.limits.TheConstants.{MAX_TERM_NODES};
 
-use mp_matches::Matcher;
+use mp_io::Sink;
+use mp_matches::{Matcher, Stop, print_pairs};
 use mp_net::{Nets, Probe};
 use mp_subst::Pairs;
 use mp_table::Table;
 use mp_term::{Memory, Signature, Term, Terms};
+use mp_text::{File, Subject};
 use std::alloc::Global;
 
 /// Nets of rules, which find all that the rules admit on a subject.
@@ -19,18 +21,31 @@ pub struct NetMatcher<'a> {
     pub nets: Nets<'a>,
 }
 
+// All that the rules of the nets admit on the subject.
+fn pairs(alloc: Global, nets: &Nets<'_>, sig: &Signature, subject: &Term) -> Result<Pairs, Memory>
+    requires over { sig.now ≡ nets.now.sig }
+    requires sound { IsSoundTerm sig.now MAX_TERM_NODES (tree subject.now) }
+    ensures { IfOk result (IsAllList nets.now.sig nets.now.rules (tree subject.now)) }
+{
+    let table = Table::build(alloc, sig, subject, &Terms::new(alloc))?;
+    let mut probe = Probe::new(&table);
+    nets.matches(alloc, &mut probe)
+}
+
 impl Matcher for NetMatcher<'_> {
     ghost signature = { λ m. m.nets.sig };
 
     ghost rules = { λ m. m.nets.rules };
 
-    fn pairs(&self, alloc: Global, sig: &Signature, subject: &Term) -> Result<Pairs, Memory>
-        requires over { sig.now ≡ self.now.nets.sig }
-        requires sound { IsSoundTerm sig.now MAX_TERM_NODES (tree subject.now) }
-        ensures { IfOk result (IsAllList self.now.nets.sig self.now.nets.rules (tree subject.now)) }
-    {
-        let table = Table::build(alloc, sig, subject, &Terms::new(alloc))?;
-        let mut probe = Probe::new(&table);
-        self.nets.matches(alloc, &mut probe)
+    fn print<O: Sink>(
+        &self,
+        alloc: Global,
+        file: &File,
+        subject: &Subject,
+        left: &mut Option<u32>,
+        out: &mut O,
+    ) -> Result<bool, Stop> {
+        let pairs = pairs(alloc, &self.nets, &file.sig, &subject.term)?;
+        print_pairs(&file.sig, &file.rules, subject, pairs.as_slice(), left, out)
     }
 }

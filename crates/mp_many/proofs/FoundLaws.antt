@@ -250,6 +250,12 @@ module _ (m : Many) (t : Tree) (sound : AreSoundRules m.sig m.rules) (normal : I
       let f = of-item i k in
       pair_of-none m.sig m.rules t normal i (rule_tree rule) f.0 s f.1 e
 
+-- numbers that are both that of the item's rule are the same
+pub same-number : (item : Option (ℕ × Table)) (a b : ℕ) → IsSome item → IfSome item (λ i. a ≡ i.0)
+    → IfSome item (λ i. b ≡ i.0) → a ≡ b
+same-number None a b s h k = cc
+same-number (Some i) a b s h k = h ∙ sym k
+
 -- ---- tables and answers
 
 -- what an answer holds is so

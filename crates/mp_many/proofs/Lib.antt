@@ -14,7 +14,7 @@ pub mod WalkConstantLaws
 mod OnceLaws
 mod ItemLaws
 mod WalkLaws
-mod PlanLaws
+mod UsedNameLaws
 mod SubstLaws
 pub mod AllPairsLaws
 pub mod FoundLaws

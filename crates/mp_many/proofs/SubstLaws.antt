@@ -1,7 +1,8 @@
 -- The item at which a walk stands, and the substitution of its table.
-use Rattle.std.proofs.Common.{◌≡◌, ◌<◌, ℕ, zero, suc, List, [], ◌∷◌, ◌++◌, length, get_or, refl, ap, sym, subst, arith}
+use Rattle.std.proofs.Common.{◌≡◌, ◌≤◌, ◌<◌, ℕ, zero, suc, List, [], ◌∷◌, ◌++◌, length, get_or, refl, ap, sym, subst}
+use Rattle.std.proofs.Common.{arith}
 use Rattle.std.proofs.Common.{true, inl}
-use Rattle.std.specs.Prelude.{◌≢◌, Option, Some, None, IsSome, IfOk, IfSome, Result, slice_get}
+use Rattle.std.specs.Prelude.{◌≢◌, Option, Some, None, IsSome, IfSome, slice_get}
 use Rattle.mp_term.specs.Listing.{In}
 use Rattle.mp_term.specs.Normal.{IsNormal}
 use Rattle.mp_term.specs.Signature.{Sig}
@@ -12,16 +13,19 @@ use Rattle.mp_pattern.specs.Admission.{Rule}
 use Rattle.mp_pattern.specs.Fits.{Fits}
 use Rattle.mp_pattern.specs.Instance.{is_fully_named, IsPatternApplied}
 use Rattle.mp_pattern.specs.NetTokens.{tokens_of}
-use Rattle.mp_pattern.specs.Plan.{Plan, IsPlanOf}
 use Rattle.mp_pattern.specs.SoundRule.{AreSoundRules, IsSoundRule}
 use Rattle.mp_pattern.specs.Value.{Subst}
+use Rattle.mp_pattern.specs.Variables.{variables}
+use Rattle.mp_pattern.specs.declared.limits.TheConstants.{MAX_VARIABLES}
 use Rattle.mp_table.specs.Table as tables
+use Rattle.mp_subst.specs.Trail.{Trail, subst_in}
 use Rattle.mp_theory.specs.NoOptional.{HasNoOptional}
 use Rattle.mp_theory.proofs.Instances.{fits-applied}
 use Rattle.mp_walk.specs.CodeForest.{code_forest}
 use Rattle.mp_walk.specs.Forests.{lists}
 use Rattle.mp_walk.specs.Instrs.{Instr}
-use Rattle.mp_walk.specs.WalkItems.{IsLeafItem, IsItemSubst}
+use Rattle.mp_walk.specs.NamedItems.{called, IsItemTrail}
+use Rattle.mp_walk.specs.WalkItems.{IsLeafItem}
 use Rattle.mp_walk.specs.Walkable.{Path}
 use Rattle.mp_many.specs.Laid.{tree_of}
 use Rattle.mp_many.specs.Many.{Many, subject_of}
@@ -43,6 +47,13 @@ given-from [] (Some j) i e = cc
 given-from (n ∷ ns) (Some j) i e =
     let same : (n, j.1) ≡ i = let w : Some (n, j.1) ≡ Some i = e in cc in
     (j, refl, ap (λ (x : Item). x.1) same)
+
+-- the item's rule is the first one that is left
+pub given-number : (ns : List ℕ) (o : Option Item)
+    → IfSome (slice_get (given ns o) 0) (λ (i : Item). get_or ns 0 0 ≡ i.0)
+given-number ns None = tt
+given-number [] (Some j) = tt
+given-number (n ∷ ns) (Some j) = refl
 
 -- what is at a place is within the list
 pub get-within : {X : Type 0} (xs : List X) (n : ℕ) (x : X) → slice_get xs n ≡ Some x → n < length xs
@@ -68,23 +79,24 @@ module _ (m : Many) (t : Tree) (ns : List ℕ) (i : Item)
       at [] e f = absurd (f refl)
       at (n ∷ ms) e f = leaf-rule m.sig m.rules t i leaf n (subst (In n) (sym e) (in-right n front (n ∷ ms) (inl refl)))
 
--- the substitution is that of the item at which the walk below stands, by the plan
-abbrev pub FitsPlan : Sig → List Instr → Tree → Plan → Option Item → Subst → Type 0
-FitsPlan sig code t plan o s = IfSome o (IsItemSubst sig code t plan s)
+-- the trail is that of the item at which the walk below stands
+abbrev pub HasTrail : Sig → List Instr → tables.Table → Trail → Option Item → Type 0
+HasTrail sig code table trail o = IfSome o (IsItemTrail sig code (subject_of table) table trail)
 
-pub fits-plan : {X E : Type 0} (r : Result X E) (f : X → Subst) (g h : Sig) (is js : List Instr) (b d : tables.Table)
-    (plan : Plan) (o : Option Item) → g ≡ h → is ≡ js → b ≡ d
-    → IfOk r (λ s. FitsPlan g is (subject_of b) plan o (f s)) → IfOk r (λ s. FitsPlan h js (subject_of d) plan o (f s))
-fits-plan r f g h is js b d plan o sig code table k =
-    subst (λ x. IfOk r (λ s. FitsPlan x js (subject_of d) plan o (f s))) sig
-    (subst (λ x. IfOk r (λ s. FitsPlan g x (subject_of d) plan o (f s))) code
-    (subst (λ (x : tables.Table). IfOk r (λ s. FitsPlan g is (subject_of x) plan o (f s))) table k))
+pub has-trail : (g h : Sig) (is js : List Instr) (b d : tables.Table) (trail : Trail) (o : Option Item) → g ≡ h
+    → is ≡ js → b ≡ d → HasTrail g is b trail o → HasTrail h js d trail o
+has-trail g h is js b d trail o sig code table k =
+    subst (λ x. HasTrail x js d trail o) sig
+    (subst (λ x. HasTrail g x d trail o) code (subst (λ (x : tables.Table). HasTrail g is x trail o) table k))
 
-module _ (m : Many) (sound : AreSoundRules m.sig m.rules) (t : Tree) (ns : List ℕ) (full : ns ≢ []) (o : Option Item)
-    (i : Item) (stands : o ≡ Some i) (leaf : IsLeafItem m.sig (tree_of m.sig m.rules) t i) (front : List ℕ)
-    (left : accepts_at (tree_of m.sig m.rules) i.0 ≡ front ++ ns) (plan : Plan)
-    (planned : IfSome (slice_get m.rules (get_or ns 0 0)) (λ r. IsPlanOf m.sig r.pattern plan)) (s : Subst)
-    (fits : FitsPlan m.sig (tree_of m.sig m.rules) t plan o s) where
+module _ (m : Many) (sound : AreSoundRules m.sig m.rules) (table : tables.Table) (ns : List ℕ) (full : ns ≢ [])
+    (o : Option Item) (i : Item) (stands : o ≡ Some i)
+    (leaf : IsLeafItem m.sig (tree_of m.sig m.rules) (subject_of table) i) (front : List ℕ)
+    (left : accepts_at (tree_of m.sig m.rules) i.0 ≡ front ++ ns) (trail : Trail)
+    (trail_of : HasTrail m.sig (tree_of m.sig m.rules) table trail o) where
+  abbrev t : Tree
+  t = subject_of table
+
   rule : HasRule m t ns i leaf front left
   rule = rule-left m t ns i leaf front left full
 
@@ -101,23 +113,37 @@ module _ (m : Many) (sound : AreSoundRules m.sig m.rules) (t : Tree) (ns : List 
       at [] f e p = absurd (f refl)
       at (n ∷ ms) f e p = subst (λ w. IfSome w (λ r. P r (n, i.1))) (sym e) p
 
-  own-fits : Fits m.sig rule.rule.pattern t s i.1
-  own-fits =
-      let sound_rule = all_in (IsSoundRule m.sig) m.rules rule.rule sound.each
-      (in-at m.rules (get_or ns 0 0) rule.rule rule.held) in
-      subst (λ w. FitsPlan m.sig (tree_of m.sig m.rules) t plan w s) stands fits rule.rule.pattern
-      sound_rule.pattern
-      (subst (λ w. IfSome w (λ r. IsPlanOf m.sig r.pattern plan)) rule.held planned) rule.reached
+  own-sound : IsSoundRule m.sig rule.rule
+  own-sound = all_in (IsSoundRule m.sig) m.rules rule.rule sound.each
+      (in-at m.rules (get_or ns 0 0) rule.rule rule.held)
 
-  -- so it fits with the item's table the pattern of its rule
-  pub fits-given : IfSome (slice_get (given ns o) 0) (λ x. IfSome (slice_get m.rules x.0)
-      (λ r. Fits m.sig r.pattern t s x.1))
-  fits-given = item-given (λ r x. Fits m.sig r.pattern t s x.1) own-fits
+  -- the names are the variables of the rule of the item, and so not too many
+  module _ (names : List (List ℕ))
+      (called_by : IfSome (slice_get m.rules (get_or ns 0 0)) (λ r. names ≡ variables r.pattern)) where
+    own-names : names ≡ variables rule.rule.pattern
+    own-names = subst (λ w. IfSome w (λ r. names ≡ variables r.pattern)) rule.held called_by
 
-  -- and where that is fully named and has no optional wildcard, its instance makes the subject
-  pub applied-given : IsNormal m.sig t → IfSome (slice_get (given ns o) 0) (λ x. IfSome (slice_get m.rules x.0)
-      (λ r. is_fully_named r.pattern ≡ true → HasNoOptional r.pattern → IsPatternApplied m.sig r.pattern s t))
-  applied-given normal =
-      item-given
-      (λ r x. is_fully_named r.pattern ≡ true → HasNoOptional r.pattern → IsPatternApplied m.sig r.pattern s t)
-      (λ named plain. fits-applied m.sig rule.rule.pattern t s i.1 named plain normal own-fits)
+    pub few-names : length names ≤ MAX_VARIABLES
+    few-names = subst (λ n. n ≤ MAX_VARIABLES) (sym (ap length own-names)) own-sound.pattern.few_variables
+
+    -- so the values of the trail, called by them, fit with the item's table the pattern of its rule
+    pub fits-given : IfSome (slice_get (given ns o) 0) (λ x. IfSome (slice_get m.rules x.0)
+        (λ r. Fits m.sig r.pattern t (subst_in table (called names) trail) x.1))
+    fits-given = item-given (λ r x. Fits m.sig r.pattern t (subst_in table (called names) trail) x.1)
+        (subst (λ ns. Fits m.sig rule.rule.pattern t (subst_in table (called ns) trail) i.1) (sym own-names)
+        (subst (λ w. HasTrail m.sig (tree_of m.sig m.rules) table trail w) stands trail_of rule.rule.pattern
+        own-sound.pattern.few_variables rule.reached))
+
+-- where a rule's pattern is fully named and has no optional wildcard, the instance of a substitution that fits makes
+-- the subject
+pub applied-fits : (sig : Sig) (rules : List Rule) (t : Tree) (s : Subst) (o : Option Item) → IsNormal sig t
+    → IfSome o (λ x. IfSome (slice_get rules x.0) (λ r. Fits sig r.pattern t s x.1))
+    → IfSome o (λ x. IfSome (slice_get rules x.0) (λ r. is_fully_named r.pattern ≡ true → HasNoOptional r.pattern
+    → IsPatternApplied sig r.pattern s t))
+applied-fits sig rules t s None normal h = tt
+applied-fits sig rules t s (Some x) normal h = by_rule (slice_get rules x.0) h
+  where
+    by_rule : (w : Option Rule) → IfSome w (λ r. Fits sig r.pattern t s x.1)
+        → IfSome w (λ r. is_fully_named r.pattern ≡ true → HasNoOptional r.pattern → IsPatternApplied sig r.pattern s t)
+    by_rule None f = tt
+    by_rule (Some r) f = λ named plain. fits-applied sig r.pattern t s x.1 named plain normal f

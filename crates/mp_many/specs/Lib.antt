@@ -4,6 +4,7 @@ pub mod Digest
 pub mod Groups
 pub mod GroupView
 pub mod Many
+pub mod UsedNames
 pub mod WalkConstants
 pub mod ManyCode
 pub mod ManyView

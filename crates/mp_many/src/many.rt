@@ -1,16 +1,17 @@
 //! Many rules, prepared to be matched at once.
 ghost use Rattle.std.specs.Prelude.{◌≡◌, ◌<◌, ◌≤◌, ◌↔◌, length, slice_get, IfOk, IfSome, IsSome};
-ghost use Rattle.mp_pattern.specs.Plan.{IsPlanOf};
 ghost use Rattle.mp_pattern.specs.SoundRule.{AreSoundRules};
+ghost use Rattle.mp_pattern.specs.Variables.{variables};
 ghost use Rattle.mp_walk.specs.Code.{IsCode};
 ghost use Rattle.mp_many.specs.Laid.{tree_of};
 ghost use Rattle.mp_many.specs.ManyView.{state_view};
 ghost use Rattle.mp_many.specs.Prefixes.{prefixes, IsState};
 
 use crate::lists::token_lists;
+use crate::names::names_of;
 use crate::tree::tree_of;
-use mp_pattern::{NetToken, Plan, PlannedRule, Rules, plan_rules};
-use mp_term::{Memory, Signature};
+use mp_pattern::{NetToken, Rules};
+use mp_term::{Memory, Names, Signature};
 use mp_walk::Code;
 use std::alloc::Global;
 use std::marker::Model;
@@ -21,7 +22,7 @@ use std::marker::Model;
 pub struct Many<'a> {
     sig: &'a Signature,
     rules: &'a Rules,
-    planned: Vec<PlannedRule<'a>>,
+    names: Vec<Names>,
     code: Code,
 }
 
@@ -64,11 +65,11 @@ impl<'a> Many<'a> {
             return Err(Memory);
         }
         let code = Code::new(alloc, sig, instrs)?;
-        let planned = plan_rules(alloc, sig, rules.as_slice())?;
+        let names = names_of(alloc, rules.as_slice())?;
         Ok(Many {
             sig,
             rules,
-            planned,
+            names,
             code,
         })
     }
@@ -106,13 +107,13 @@ impl<'a> Many<'a> {
         &self.code
     }
 
-    // The plan of the pattern of the rule.
-    pub(crate) fn plan(&self, rule: u32) -> &Plan
+    // The variables of the pattern of the rule, in order.
+    pub(crate) fn names(&self, rule: u32) -> &Names
         requires { rule < length self.now.rules }
-        ensures plan { IfSome (slice_get self.now.rules rule) (λ r. IsPlanOf self.now.sig r.pattern result.now) }
+        ensures names { IfSome (slice_get self.now.rules rule) (λ r. result.now ≡ variables r.pattern) }
         ensures sound { AreSoundRules self.now.sig self.now.rules }
     {
-        &self.planned[rule as usize].plan
+        &self.names[rule as usize]
     }
 
     /// The signature that `build` was given.

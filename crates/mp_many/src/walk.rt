@@ -15,7 +15,7 @@ use crate::many::Many;
 use mp_subst::Subst;
 use mp_table::{Rank, Table};
 use mp_term::Memory;
-use mp_walk::Walk as LeafWalk;
+use mp_walk::{RankedPair, Walk as LeafWalk};
 use std::alloc::Global;
 use std::marker::Model;
 
@@ -121,9 +121,31 @@ impl<'a> Walk<'a> {
         self.leaves.entry(node)
     }
 
-    /// The substitution with which the item's table fits; where the rule's pattern is fully named and has no optional
-    /// wildcard, its instance makes the subject (`IsPatternApplied` of mp_pattern's `specs/Instance.antt`). The walk
-    /// stands at an item. `Memory` comes where there is no room for it.
+    /// The pair of the item's rule and the substitution with which the item's table fits, its values by ranks; where
+    /// the rule's pattern is fully named and has no optional wildcard, its instance makes the subject
+    /// (`IsPatternApplied` of mp_pattern's `specs/Instance.antt`). The walk stands at an item. `Memory` comes where
+    /// there is no room for it.
+    pub fn ranked(&self, alloc: Global) -> Result<RankedPair<'a>, Memory>
+        requires { IsSome self.now.item }
+        ensures rule { IfOk result (λ p. IfSome self.now.item (λ i. p.0 ≡ i.0)) }
+        ensures fits { IfOk result (λ p. IfSome self.now.item (λ i. IfSome (slice_get self.now.many.rules i.0)
+            (λ r. Fits self.now.many.sig r.pattern (subject_of self.now.table) p.1 i.1))) }
+        ensures applied { IfOk result (λ p. IfSome self.now.item (λ i. IfSome (slice_get self.now.many.rules i.0)
+            (λ r. is_fully_named r.pattern ≡ true → HasNoOptional r.pattern →
+            IsPatternApplied self.now.many.sig r.pattern p.1 (subject_of self.now.table)))) }
+    {
+        let rule = self.accepts[0];
+        RankedPair::new(
+            alloc,
+            rule,
+            self.many.names(rule),
+            self.table,
+            self.leaves.trail(),
+        )
+    }
+
+    /// The substitution of that pair, with copies of its terms. The walk stands at an item. `Memory` comes where there
+    /// is no room for it.
     pub fn subst(&self, alloc: Global) -> Result<Subst, Memory>
         requires { IsSome self.now.item }
         ensures fits { IfOk result (λ s. IfSome self.now.item (λ i. IfSome (slice_get self.now.many.rules i.0)
@@ -132,6 +154,8 @@ impl<'a> Walk<'a> {
             (λ r. is_fully_named r.pattern ≡ true → HasNoOptional r.pattern →
             IsPatternApplied self.now.many.sig r.pattern (subst_of s) (subject_of self.now.table)))) }
     {
-        self.leaves.subst(alloc, self.many.plan(self.accepts[0]))
+        let pair = self.ranked(alloc)?;
+        let subst = pair.to_subst(alloc)?;
+        Ok(subst)
     }
 }

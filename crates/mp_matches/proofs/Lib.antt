@@ -17,3 +17,4 @@ pub mod FoundMatches
 pub mod AnswerLaws
 pub mod AllListedLaws
 pub mod PairsLaws
+pub mod Separated

@@ -1,12 +1,13 @@
 -- Lines of pairs are printed, and others are still to come.
-use Rattle.std.proofs.Common.{◌≡◌, ◌<◌, ◌+◌, ℕ, Bool, true, List, [], ◌++◌, length, map, drop, get_or}
+use Rattle.std.proofs.Common.{◌≡◌, ◌<◌, ◌≤◌, ◌+◌, ℕ, Bool, true, List, [], ◌∷◌, ◌++◌, length, map, drop, get_or}
 use Rattle.std.proofs.Common.{sym, ap, ap₂, ◌∙◌, subst, arith}
 use Rattle.std.proofs.Common.{append_assoc, length-append}
+use Rattle.std.proofs.Math.ListN.{drop_of_length-le}
 use Rattle.std.proofs.KnownBytes.{Appends-trans}
 use Rattle.std.specs.Prelude.{Option, Result, Ok, Err, ◌||◌}
 use Rattle.std.specs.Io.KnownBytes.{Appends}
 use Rattle.mp_io.specs.Devices.{Rose, Text}
-use Rattle.mp_io.specs.Moments.{sunk}
+use Rattle.mp_io.specs.Moments.{Sunk, sunk}
 use Rattle.mp_io.specs.Printing.{Prints}
 use Rattle.mp_io.specs.Writing.{HasPut, Puts}
 use Rattle.mp_io.specs.declared.devices.Sink.{Ghosts as SinkWords}
@@ -18,7 +19,7 @@ use Rattle.mp_pattern.specs.Lists.{Pair, IsAllList}
 use Rattle.mp_term.proofs.ListLaws.{drop-item}
 use Rattle.mp_text.specs.declared.file.Subject as code
 use Rattle.mp_text.specs.File.{Subject, subject_tree}
-use Rattle.mp_matches.specs.AllListed.{AreSubjectLines, more_follow, pair_line}
+use Rattle.mp_matches.specs.AllListed.{AreSubjectLines, front_lines, more_follow, pair_line}
 use Rattle.mp_matches.specs.Matches.{IsJoinedBy}
 use Rattle.mp_matches.specs.Printed.{IsCutOff}
 use Rattle.mp_matches.specs.PrintedPairs.{PrintsUpTo, PutsUpTo}
@@ -34,6 +35,21 @@ use Rattle.mp_matches.proofs.SoFar.{front-behind}
 -- a line isn't empty
 pub length-pair_line : (sig : Sig) (rules : List Rule) (s : Subject) (p : Pair) → 0 < length (pair_line sig rules s p)
 length-pair_line sig rules s p = simp length-append (omega arith)
+
+-- the next line of pairs
+pub front-next : {X : Type 0} (pair : X → Pair) (line : Pair → Text) (left : Option ℕ) (xs : List X) (i : ℕ) (x : X)
+    (rest : List Text) → i < length xs → x ≡ get_or xs i x
+    → front_lines left (map line (map pair (drop i xs)) ++ rest)
+    ≡ front_lines left (line (pair x) ∷ (map line (map pair (drop (i + 1) xs)) ++ rest))
+front-next pair line left xs i x rest within is =
+    ap (λ ys. front_lines left (map line (map pair ys) ++ rest)) (drop-item xs i x within is)
+
+-- behind the last of them
+pub front-ended : {X : Type 0} (pair : X → Pair) (line : Pair → Text) (left : Option ℕ) (xs : List X) (i : ℕ)
+    (rest : List Text) → length xs ≤ i
+    → front_lines left (map line (map pair (drop i xs)) ++ rest) ≡ front_lines left rest
+front-ended pair line left xs i rest past =
+    ap (λ ys. front_lines left (map line (map pair ys) ++ rest)) (drop_of_length-le xs {i = i} past)
 
 -- ---- what was put
 
@@ -116,18 +132,25 @@ module _ (whole rest next : Text) (a b c : Option Text) (m n k : ℕ) (any : Boo
       )
 
 module _ (sig : Sig) (rules : List Rule) (subjects : List code.Subject) (i : ℕ) (s : code.Subject)
-    (within : i < length subjects) (is : s ≡ get_or subjects i s) (pairs : List Pair)
-    (all : IsAllList sig rules (subject_tree s).term pairs) where
+    (within : i < length subjects) (is : s ≡ get_or subjects i s) where
   -- the lines of the subjects from an index on are those of the one there and those of the ones behind it
   pub joined-next : (rest : List Text)
       → IsJoinedBy (AreSubjectLines sig rules) (map subject_tree (drop i subjects)) rest
-      → (behind : List Text) × (rest ≡ map (pair_line sig rules (subject_tree s)) pairs ++ behind)
+      → (own : List Text) × (behind : List Text) × (rest ≡ own ++ behind)
+      × AreSubjectLines sig rules (subject_tree s) own
       × IsJoinedBy (AreSubjectLines sig rules) (map subject_tree (drop (i + 1) subjects)) behind
   joined-next rest h =
       let parts = subst (λ ss. IsJoinedBy (AreSubjectLines sig rules) (map subject_tree ss) rest)
-      (drop-item subjects i s within is) h in (
-        parts.1,
-        parts.2 ∙ ap (λ ls. ls ++ parts.1)
-            ((subject_lines-exact sig rules (subject_tree s) pairs all parts.0).0 parts.3),
-        parts.4,
-      )
+      (drop-item subjects i s within is) h in
+      (parts.0, parts.1, parts.2, parts.3, parts.4)
+
+-- what is printed of the pairs of the all-list is what is printed of a subject's lines
+pub subject-printed : (sig : Sig) (rules : List Rule) (subject : Subject) (pairs : List Pair)
+    → IsAllList sig rules subject.term pairs → (before after : Option ℕ) (out : Sunk) (told : Result Bool Stop)
+    → ((rest : List Text) → PrintsUpTo (front_lines before (map (pair_line sig rules subject) pairs ++ rest))
+    (front_lines after rest) out told)
+    → (ls rest : List Text) → AreSubjectLines sig rules subject ls
+    → PrintsUpTo (front_lines before (ls ++ rest)) (front_lines after rest) out told
+subject-printed sig rules subject pairs all before after out told printed ls rest h =
+    subst (λ own. PrintsUpTo (front_lines before (own ++ rest)) (front_lines after rest) out told)
+    (sym ((subject_lines-exact sig rules subject pairs all ls).0 h)) (printed rest)

@@ -10,10 +10,12 @@ mod list;
 mod matcher;
 mod matches;
 mod pairs;
+mod ranked;
 mod resume;
 mod stop;
 
 pub use fault::ListFault;
 pub use list::list_matches;
-pub use matcher::Matcher;
-pub use pairs::list_pairs;
+pub use matcher::{Line, Matcher};
+pub use pairs::{list_pairs, print_pairs};
+pub use stop::Stop;

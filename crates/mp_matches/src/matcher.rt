@@ -1,16 +1,66 @@
-//! What finds all that rules admit on a subject.
+//! What finds all that rules admit on a subject, and prints it.
 
-ghost use Rattle.std.specs.Prelude.{◌≡◌, List, IfOk};
+ghost use Rattle.std.specs.Prelude.{◌≡◌, ◌++◌, List};
+ghost use Rattle.mp_io.specs.Devices.{Text};
+ghost use Rattle.mp_io.specs.Moments.{sunk};
+ghost use Rattle.mp_io.specs.Writing.{Puts};
 ghost use Rattle.mp_term.specs.Signature.{Sig};
-ghost use Rattle.mp_term.specs.View.{tree};
 ghost use Rattle.mp_pattern.specs.Admission.{Rule};
-ghost use Rattle.mp_pattern.specs.Lists.{IsAllList};
-ghost use Rattle.mp_pattern.specs.SoundRule.{IsSoundTerm};
-ghost use Rattle.mp_pattern.specs.declared.limits.TheConstants.{MAX_TERM_NODES};
+ghost use Rattle.mp_pattern.specs.Lists.{Pair as PlainPair};
+ghost use Rattle.mp_print.specs.Printing.{subst_text};
+ghost use Rattle.mp_subst.specs.View.{pair_of};
+ghost use Rattle.mp_text.specs.File.{file_tree, subject_tree};
+ghost use Rattle.mp_text.specs.Sound.{IsSoundSubject};
+ghost use Rattle.mp_matches.specs.AllListed.{AreSubjectLines, front_lines};
+ghost use Rattle.mp_matches.specs.PrintedPairs.{PrintsUpTo};
 
-use mp_subst::Pairs;
-use mp_term::{Memory, Signature, Term};
+use crate::ranked::put_ranked;
+use crate::stop::Stop;
+use mp_io::{Sink, Writer};
+use mp_print::put_subst;
+use mp_subst::Pair;
+use mp_term::Signature;
+use mp_text::{File, Subject};
+use mp_walk::RankedPair;
 use std::alloc::Global;
+
+/// A pair of a rule and a substitution that can be printed.
+pub trait Line {
+    /// The pair.
+    ghost pair: { Self → PlainPair };
+
+    /// The rule's number.
+    fn rule(&self) -> u32
+        ensures { result ≡ (pair self.now).0 };
+
+    /// Puts the text of the substitution.
+    fn put<K: Sink>(&self, sig: &Signature, out: &mut Writer<'_, K>)
+        ensures { Puts K.Sink out.old out.new (subst_text sig.now (pair self.now).1) };
+}
+
+impl Line for Pair {
+    ghost pair = { pair_of };
+
+    fn rule(&self) -> u32 {
+        self.rule
+    }
+
+    fn put<K: Sink>(&self, sig: &Signature, out: &mut Writer<'_, K>) {
+        put_subst(sig, &self.subst, out);
+    }
+}
+
+impl Line for RankedPair<'_> {
+    ghost pair = { λ p. p };
+
+    fn rule(&self) -> u32 {
+        RankedPair::rule(self)
+    }
+
+    fn put<K: Sink>(&self, sig: &Signature, out: &mut Writer<'_, K>) {
+        put_ranked(sig, self, out);
+    }
+}
 
 /// Rules over a signature, with a way to find all that they admit on one subject after the other.
 pub trait Matcher {
@@ -20,10 +70,22 @@ pub trait Matcher {
     /// The rules.
     ghost rules: { Self → List Rule };
 
-    /// All that the rules admit on a subject over the signature, each pair once, in order (`IsAllList` of mp_pattern's
-    /// `specs/Lists.antt`). `Memory` comes where there is no room for the pairs.
-    fn pairs(&self, alloc: Global, sig: &Signature, subject: &Term) -> Result<Pairs, Memory>
-        requires over { sig.now ≡ signature self.now }
-        requires sound { IsSoundTerm sig.now MAX_TERM_NODES (tree subject.now) }
-        ensures { IfOk result (IsAllList (signature self.now) (rules self.now) (tree subject.now)) };
+    /// Prints a line for each pair that the rules of the file admit on the subject, in order, as many as may be, and
+    /// says whether there are any (`AreSubjectLines` and `front_lines` of `specs/AllListed.antt`). The signature and
+    /// the rules are those of the file. Where it is cut off, a front of the lines is written.
+    fn print<O: Sink>(
+        &self,
+        alloc: Global,
+        file: &File,
+        subject: &Subject,
+        left: &mut Option<u32>,
+        out: &mut O,
+    ) -> Result<bool, Stop>
+        requires over { (file_tree file.now).sig ≡ signature self.now }
+        requires matched { (file_tree file.now).rules ≡ rules self.now }
+        requires sound { IsSoundSubject (file_tree file.now).sig (subject_tree subject.now) }
+        ensures { (ls rest : List Text) →
+            AreSubjectLines (file_tree file.now).sig (file_tree file.now).rules (subject_tree subject.now) ls →
+            PrintsUpTo (front_lines left.old (ls ++ rest)) (front_lines left.new rest)
+            (sunk O.Sink out.old out.new) result };
 }

@@ -5,7 +5,6 @@ ghost use Rattle.std.specs.List.{AllByRecursion};
 ghost use Rattle.mp_io.specs.Devices.{Text};
 ghost use Rattle.mp_io.specs.Moments.{sunk};
 ghost use Rattle.mp_io.specs.Writing.{Puts};
-ghost use Rattle.mp_subst.specs.View.{pair_of};
 ghost use Rattle.mp_text.specs.File.{file_tree, subject_tree};
 ghost use Rattle.mp_text.specs.Sound.{IsSoundFile, IsSoundSubject};
 ghost use Rattle.mp_matches.specs.AllListed.{AreSubjectLines, IsAllListed, front_lines, more_follow, name_of};
@@ -16,12 +15,10 @@ ghost use Rattle.mp_matches.specs.Printed.{Lists};
 ghost use Rattle.mp_matches.specs.PrintedPairs.{PrintsUpTo, PutsUpTo};
 
 use crate::fault::ListFault;
-use crate::matcher::Matcher;
+use crate::matcher::{Line, Matcher};
 use crate::stop::Stop;
 use mp_io::{Sink, Writer};
 use mp_pattern::Rules;
-use mp_print::put_subst;
-use mp_subst::Pair;
 use mp_term::Signature;
 use mp_text::{File, Subject};
 use std::alloc::Global;
@@ -37,18 +34,23 @@ fn name_at(rules: &Rules, number: u32) -> &[u8]
 }
 
 // Puts the line of a pair that the rules admit on the subject.
-fn put_pair<O: Sink>(
+fn put_pair<L: Line, O: Sink>(
     sig: &Signature,
     rules: &Rules,
     subject: &Subject,
-    pair: &Pair,
+    pair: &L,
     out: &mut Writer<'_, O>,
 )
     ensures { Puts O.Sink out.old out.new
-        (pair_line sig.now rules.now (subject_tree subject.now) (pair_of pair.now)) }
+        (pair_line sig.now rules.now (subject_tree subject.now) (L.pair pair.now)) }
 {
-    out.put_all(&[subject.name.bytes(), b" ", name_at(rules, pair.rule), b" "]);
-    put_subst(sig, &pair.subst, out);
+    out.put_all(&[
+        subject.name.bytes(),
+        b" ",
+        name_at(rules, pair.rule()),
+        b" ",
+    ]);
+    pair.put(sig, out);
     out.put(b"\n");
 }
 
@@ -70,17 +72,17 @@ fn take_line(left: &mut Option<u32>) -> bool
 }
 
 // Puts the lines of a subject's pairs, as many as may be, and says whether there are any.
-fn put_pairs<O: Sink>(
+fn put_pairs<L: Line, O: Sink>(
     sig: &Signature,
     rules: &Rules,
     subject: &Subject,
-    pairs: &[Pair],
+    pairs: &[L],
     left: &mut Option<u32>,
     out: &mut Writer<'_, O>,
 ) -> Result<bool, Stop>
     ensures same { out.new.sink.ghost_name ≡ out.old.sink.ghost_name }
     ensures puts { (rest : List Text) → PutsUpTo O.Sink (front_lines left.old
-        (map (pair_line sig.now rules.now (subject_tree subject.now)) (map pair_of pairs.now) ++ rest))
+        (map (pair_line sig.now rules.now (subject_tree subject.now)) (map L.pair pairs.now) ++ rest))
         (front_lines left.new rest) out.old out.new result }
 {
     let mut any = false;
@@ -95,17 +97,18 @@ fn put_pairs<O: Sink>(
     Ok(any)
 }
 
-// Prints the lines of a subject's pairs, as many as may be, and says whether there are any.
-fn print_pairs<O: Sink>(
+/// Prints the lines of pairs on a subject, as many as may be, and says whether there are any (`front_lines` of
+/// `specs/AllListed.antt`).
+pub fn print_pairs<L: Line, O: Sink>(
     sig: &Signature,
     rules: &Rules,
     subject: &Subject,
-    pairs: &[Pair],
+    pairs: &[L],
     left: &mut Option<u32>,
     out: &mut O,
 ) -> Result<bool, Stop>
     ensures { (rest : List Text) → PrintsUpTo (front_lines left.old
-        (map (pair_line sig.now rules.now (subject_tree subject.now)) (map pair_of pairs.now) ++ rest))
+        (map (pair_line sig.now rules.now (subject_tree subject.now)) (map L.pair pairs.now) ++ rest))
         (front_lines left.new rest) (sunk O.Sink out.old out.new) result }
 {
     let mut out = Writer::new(out);
@@ -117,23 +120,22 @@ fn print_pairs<O: Sink>(
 // Prints the lines of the pairs of subjects, as many as may be, and says whether there are any.
 fn print_subjects<M: Matcher, O: Sink>(
     alloc: Global,
-    sig: &Signature,
-    rules: &Rules,
+    file: &File,
     subjects: &[Subject],
     matcher: &M,
     left: &mut Option<u32>,
     out: &mut O,
 ) -> Result<bool, Stop>
-    requires subjects { AllByRecursion (IsSoundSubject sig.now) (map subject_tree subjects.now) }
-    requires over { M.signature matcher.now ≡ sig.now }
-    requires matched { M.rules matcher.now ≡ rules.now }
-    ensures { (all : List Text) → IsJoinedBy (AreSubjectLines sig.now rules.now) (map subject_tree subjects.now) all →
+    requires subjects { AllByRecursion (IsSoundSubject (file_tree file.now).sig) (map subject_tree subjects.now) }
+    requires over { (file_tree file.now).sig ≡ M.signature matcher.now }
+    requires matched { (file_tree file.now).rules ≡ M.rules matcher.now }
+    ensures { (all : List Text) → IsJoinedBy (AreSubjectLines (file_tree file.now).sig (file_tree file.now).rules)
+        (map subject_tree subjects.now) all →
         PrintsUpTo (front_lines left.old all) (front_lines left.new []) (sunk O.Sink out.old out.new) result }
 {
     let mut any = false;
     for subject in subjects {
-        let pairs = matcher.pairs(alloc, sig, &subject.term)?;
-        any |= print_pairs(sig, rules, subject, pairs.as_slice(), left, out)?;
+        any |= matcher.print(alloc, file, subject, left, out)?;
     }
     Ok(any)
 }
@@ -163,15 +165,7 @@ pub fn list_pairs<M: Matcher, O: Sink>(
 {
     let mut left = limit;
     let subjects = file.subjects.as_slice();
-    match print_subjects(
-        alloc,
-        &file.sig,
-        &file.rules,
-        subjects,
-        matcher,
-        &mut left,
-        out,
-    ) {
+    match print_subjects(alloc, file, subjects, matcher, &mut left, out) {
         Ok(any) => Ok(any),
         Err(Stop::More) => Ok(true),
         Err(Stop::CannotWrite) => Err(ListFault::CannotWrite),

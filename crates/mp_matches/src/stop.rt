@@ -1,15 +1,16 @@
 //! Why the printing of matches stops before the last of them.
 
-use crate::fault::ListFault;
 use mp_io::Failed;
 use mp_term::Memory;
 
-// Why the printing of matches stops before the last of them.
+/// Why the printing of matches stops before the last of them.
 #[derive(Clone, Copy)]
-pub(crate) enum Stop {
-    // As many as may be are printed, and it is told that others follow.
+pub enum Stop {
+    /// As many as may be are printed, and it is told that others follow.
     More,
+    /// A write failed.
     CannotWrite,
+    /// There was no memory.
     Memory,
 }
 

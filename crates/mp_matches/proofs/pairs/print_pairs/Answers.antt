@@ -1,6 +1,5 @@
 use Rattle.std.proofs.Common.{◌++◌, map, rules}
 use Rattle.mp_io.specs.Moments.{sunk}
-use Rattle.mp_subst.specs.View.{pair_of}
 use Rattle.mp_text.specs.File.{subject_tree}
 use Rattle.mp_matches.specs.AllListed.{front_lines, pair_line}
 use Rattle.mp_matches.specs.PrintedPairs.{PrintsUpTo}
@@ -12,8 +11,8 @@ use Rattle.mp_matches.proofs.pairs.print_pairs.Goals as goal
 pub returns-in_err-finish : goal.returns-in_err-finish
 returns-in_err-finish g c rest =
     let whole = front_lines c.args.left.now
-    (map (pair_line c.args.sig.now c.args.rules.now (subject_tree c.args.subject.now)) (map pair_of c.args.pairs.now)
-    ++ rest) in
+    (map (pair_line c.args.sig.now c.args.rules.now (subject_tree c.args.subject.now))
+    (map g.L.Line.pair c.args.pairs.now) ++ rest) in
     let told = c.put_pairs-told in
     let behind = front_lines told.new.left rest in
     let out = sunk g.O.Sink c.args.out.now c.finish.new.self.0 in
@@ -27,8 +26,8 @@ returns-in_err-finish g c rest =
 pub returns : goal.returns
 returns g c rest =
     let whole = front_lines c.args.left.now
-    (map (pair_line c.args.sig.now c.args.rules.now (subject_tree c.args.subject.now)) (map pair_of c.args.pairs.now)
-    ++ rest) in
+    (map (pair_line c.args.sig.now c.args.rules.now (subject_tree c.args.subject.now))
+    (map g.L.Line.pair c.args.pairs.now) ++ rest) in
     let told = c.put_pairs-told in
     let behind = front_lines told.new.left rest in
     let ended : PrintsUpTo whole behind (sunk g.O.Sink c.args.out.now c.finish.new.self.0) told.result =

@@ -1,7 +1,6 @@
 use Rattle.std.proofs.Common.{◌≡◌, List, ◌++◌, drop, map}
 use Rattle.std.specs.Prelude.{Ok}
 use Rattle.mp_io.specs.Devices.{Text}
-use Rattle.mp_subst.specs.View.{pair_of}
 use Rattle.mp_text.specs.File.{subject_tree}
 use Rattle.mp_matches.specs.AllListed.{front_lines, pair_line}
 use Rattle.mp_matches.specs.PrintedPairs.{PutsUpTo}
@@ -11,8 +10,9 @@ abbrev pub invariant-loop-pair : goal.invariant-loop-pair
 invariant-loop-pair g l = record {
   same : l.out.sink.ghost_name ≡ l.fn.out.sink.ghost_name;
   put : (rest : List Text) → PutsUpTo g.O.Sink
-      (front_lines l.fn.left (map (pair_line l.sig l.rules (subject_tree l.subject)) (map pair_of l.pairs) ++ rest))
+      (front_lines l.fn.left
+      (map (pair_line l.sig l.rules (subject_tree l.subject)) (map g.L.Line.pair l.pairs) ++ rest))
       (front_lines l.left
-      (map (pair_line l.sig l.rules (subject_tree l.subject)) (map pair_of (drop l.pair-index l.pairs)) ++ rest))
+      (map (pair_line l.sig l.rules (subject_tree l.subject)) (map g.L.Line.pair (drop l.pair-index l.pairs)) ++ rest))
       l.fn.out l.out (Ok l.any);
 }

@@ -1,6 +1,5 @@
-use Rattle.std.proofs.Common.{◌≡◌, ◌∙◌, length, ap, sym, subst, arith}
-use Rattle.std.specs.List.{AllByRecursion}
-use Rattle.mp_pattern.specs.SoundRule.{IsSoundRule}
+use Rattle.std.proofs.Common.{◌≡◌, ◌∙◌, length, map, ap, sym, subst, arith}
+use Rattle.mp_pattern.specs.Variables.{variables}
 use Rattle.mp_walk.specs.Walkable.{IsWalkable}
 use Rattle.mp_many.specs.Laid.{laid, numbered_from, tree_of}
 use Rattle.mp_many.specs.Prefixes.{token_count, token_lists}
@@ -16,10 +15,6 @@ new-requires c =
     (c.deref.ensures.value ∙ c.in_ok-lists.ensures ∙ ap (token_lists sig) c.as_slice.ensures) in
     subst (IsWalkable sig) (sym is) (walkable sig rules c.requires.sound.each)
 
-pub plan_rules-requires : goal.plan_rules-requires
-plan_rules-requires c =
-    subst (AllByRecursion (IsSoundRule c.args.sig.now)) (sym c.as_slice-2.ensures) c.requires.sound.each
-
 pub invariant_of-result : goal.invariant_of-result
 invariant_of-result c =
     let sig = c.args.sig.now in
@@ -32,6 +27,5 @@ invariant_of-result c =
       tree = c.in_ok-code.ensures.instrs ∙ is;
       ready = c.in_ok-code.ensures.planned;
       few = omega (arith, ap length c.in_ok-code.ensures.instrs);
-      rules = c.in_ok-planned.ensures.rules ∙ c.as_slice-2.ensures;
-      planned = c.in_ok-planned.ensures.planned;
+      names = c.in_ok-names.ensures ∙ ap (map (λ r. variables r.pattern)) c.as_slice-2.ensures;
     }

@@ -1,15 +1,14 @@
-use Rattle.std.proofs.Common.{◌≡◌, ◌∙◌, ◌<◌, List, [], ◌∷◌, ◌++◌, ap, arith, drop, length, subst, sym}
-use Rattle.std.specs.Prelude.{IfSome, IsSome, None, Option, Some, option_map, slice_get}
+use Rattle.std.proofs.Common.{◌≡◌, ◌∙◌, ◌<◌, List, [], ◌∷◌, ◌++◌, arith, drop, length, subst, sym}
+use Rattle.std.specs.Prelude.{IfSome, IsSome, Option, slice_get}
 use Rattle.std.specs.List.{AllByRecursion}
 use Rattle.mp_pattern.specs.Lists.{IsAllList}
-use Rattle.mp_subst.specs.View.{pair_of}
 use Rattle.mp_many.specs.Given.{IsPairOf}
 use Rattle.mp_many.specs.Many.{subject_of}
 use Rattle.mp_many.specs.WalkItems.{IsWalkItem}
 use Rattle.mp_walk.proofs.FoundLaws.{listing-all_list}
 use Rattle.mp_many.proofs.FoundLaws.{HasFound, found-alike, found-first, found-last, ok-also}
 use Rattle.mp_many.proofs.FoundLaws.{step-last, step-none, step-some}
-use Rattle.mp_many.proofs.many.Many.all.Goals as goal
+use Rattle.mp_many.proofs.many.Many.ranked.Goals as goal
 
 -- what holds of each item holds of the first one, where there is one
 first-holds : {X : Type 0} (P : X → Type 0) (xs : List X) (o : Option X) → o ≡ slice_get xs 0 → AllByRecursion P xs
@@ -52,13 +51,12 @@ loop-found-preserved-in-Continue-branch-5 c =
     let before = c.loop-found.found in
     let next = c.in_ok-next.ensures in
     let pair = c.in-Some.pair in
-    let given : option_map pair_of c.in_ok-pair.field-0 ≡ Some (pair_of pair) = ap (option_map pair_of) c.in-Some.is in
     let own = subst (λ table. IfSome c.next.new.self.item (λ i. IsPairOf m.sig m.rules (subject_of table) i
-    (option_map pair_of c.in_ok-pair.field-0))) (c.next.ensures.table ∙ inv.table) c.in_ok-pair.ensures in
+    c.in_ok-pair.field-0)) (c.next.ensures.table ∙ inv.table) c.in_ok-pair.ensures in
     let moved = step-some m.sig m.rules t before c.loop-found.walk.to_come inv.found
-    c.next.new.self.item (option_map pair_of c.in_ok-pair.field-0) (pair_of pair) (next.answer.0 c.if-branch.true)
-    next.item own given in
-    let kept = found-alike m.sig m.rules t (before ++ pair_of pair ∷ [])
+    c.next.new.self.item c.in_ok-pair.field-0 pair (next.answer.0 c.if-branch.true)
+    next.item own c.in-Some.is in
+    let kept = found-alike m.sig m.rules t (before ++ pair ∷ [])
     c.add.new.self (drop 1 c.loop-found.walk.to_come) moved c.in_ok-add.ensures in
     record {
       many = c.next.ensures.many ∙ inv.many;
@@ -73,17 +71,22 @@ loop-found-preserved c =
     let inv = c.loop-found.invariant in
     let before = c.loop-found.found in
     let next = c.in_ok-next.ensures in
-    let given : option_map pair_of c.in_ok-pair.field-0 ≡ None = ap (option_map pair_of) c.in_default.is in
     let own = subst (λ table. IfSome c.next.new.self.item (λ i. IsPairOf m.sig m.rules (subject_of table) i
-    (option_map pair_of c.in_ok-pair.field-0))) (c.next.ensures.table ∙ inv.table) c.in_ok-pair.ensures in
+    c.in_ok-pair.field-0)) (c.next.ensures.table ∙ inv.table) c.in_ok-pair.ensures in
     let moved = step-none m.sig m.rules t before c.loop-found.walk.to_come inv.found
-    c.next.new.self.item (option_map pair_of c.in_ok-pair.field-0) (next.answer.0 c.if-branch.true) next.item own
-    given in
+    c.next.new.self.item c.in_ok-pair.field-0 (next.answer.0 c.if-branch.true) next.item own
+    c.in_default.is in
     record {
       many = c.next.ensures.many ∙ inv.many;
       table = c.next.ensures.table ∙ inv.table;
       found = subst (λ is. HasFound m.sig m.rules t before is) (sym next.to_come) moved;
     }
+
+pub loop-found-smaller-in-Continue-branch-5 : goal.loop-found-smaller-in-Continue-branch-5
+loop-found-smaller-in-Continue-branch-5 c =
+    let next = c.in_ok-next.ensures in
+    subst (λ is. length is < length c.loop-found.walk.to_come) (sym next.to_come)
+    (fewer-behind c.loop-found.walk.to_come c.next.new.self.item next.item (next.answer.0 c.if-branch.true))
 
 pub loop-found-smaller : goal.loop-found-smaller
 loop-found-smaller c =
@@ -99,6 +102,6 @@ returns c =
     let next = c.in_ok-next.ensures in
     let ended = step-last m.sig m.rules t found c.loop-found.walk.to_come c.loop-found.invariant.found
     c.next.new.self.item (λ h. let b = next.answer.1 h in cc) next.item in
-    ok-also _ (IsAllList m.sig m.rules t)
-    (λ ps l. listing-all_list m.sig m.rules t found ps (found-last m.sig m.rules t found c.loop-found.walk.to_come
+    ok-also _ (λ ps. IsAllList m.sig m.rules t ps.items)
+    (λ ps l. listing-all_list m.sig m.rules t found ps.items (found-last m.sig m.rules t found c.loop-found.walk.to_come
     c.loop-found.invariant.found ended) l) c.into_pairs.result c.into_pairs.ensures
