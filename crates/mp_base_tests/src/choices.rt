@@ -6,7 +6,7 @@ ghost use Rattle.mp_choice.specs.declared.limits.TheConstants.{MAX_TOTAL};
 
 use mp_choice::{Equations, MAX_TOTAL, Part, Splits, SubBags};
 use std::alloc::Global;
-use std::test::Fail;
+use std::process::Abort;
 
 const NONE_OR_MORE: Part = Part {
     least: 0,
@@ -34,187 +34,193 @@ const NO_LENGTH: Part = Part {
 };
 
 // Appends the numbers, in square brackets.
-pub(crate) fn push_numbers(alloc: Global, text: &mut String, numbers: &[u32]) -> Result<(), Fail> {
-    text.push_str(format!(in alloc; "{numbers:?}")?.as_str())?;
-    Ok(())
+fn push_numbers(rt: &impl Abort, text: &mut String, numbers: &[u32]) {
+    write!(text, "{numbers:?}").expect(rt, "memory");
 }
 
-// The next splits, at most so many.
-fn next_splits(alloc: Global, splits: &mut Splits, most: usize) -> Result<String, Fail>
+// Appends the next splits, at most so many, and a semicolon.
+fn next_splits(rt: &impl Abort, text: &mut String, splits: &mut Splits, most: usize)
     ensures room { splits.new.room ≡ splits.old.room }
 {
-    let mut text = String::new(alloc);
     for _ in 0..most {
         if splits.next() {
-            push_numbers(alloc, &mut text, splits.lengths())?;
+            push_numbers(rt, text, splits.lengths());
         }
     }
-    Ok(text)
+    text.push_str(";").expect(rt, "memory");
 }
 
-// Whether the splits of the length by the parts are these.
-fn are_splits(
-    alloc: Global,
-    splits: &mut Splits,
-    length: u32,
-    parts: &[Part],
-    items: &str,
-) -> Result<bool, Fail>
+// Appends the splits of the length by the parts.
+fn all_splits(rt: &impl Abort, text: &mut String, splits: &mut Splits, length: u32, parts: &[Part])
     requires length_bound { length ≤ MAX_TOTAL }
     requires least_bound { leasts parts.now ≤ MAX_TOTAL }
     requires within_room { list_length parts.now ≤ splits.old.room }
     ensures room { splits.new.room ≡ splits.old.room }
 {
     splits.restart(length, parts);
-    Ok(next_splits(alloc, splits, 8)?.as_str() == items)
+    next_splits(rt, text, splits, 8);
 }
 
 const THREE: [Part; 3] = [ONE_OR_TWO, NONE_OR_MORE, NONE_OR_ONE];
 
-// Whether splits are listed in order, begun anew.
-fn are_listed(alloc: Global, splits: &mut Splits) -> Result<bool, Fail>
+// Appends two splits of three, and all splits of several lengths, begun anew in the middle and after the end.
+fn several_splits(rt: &impl Abort, text: &mut String, splits: &mut Splits)
     requires { splits.old.room ≡ 3 }
-    ensures { splits.new.room ≡ 3 }
 {
-    let two = [ONE_OR_MORE, NONE_OR_MORE];
-    let all = "[1, 1, 1][1, 2, 0][2, 0, 1][2, 1, 0]";
-    Ok(
-        are_splits(alloc, splits, 3, &two, "[1, 2][2, 1][3, 0]")?
-            && are_splits(alloc, splits, 3, &THREE, all)?
-            && are_splits(alloc, splits, 0, &[], "[]")?,
-    )
+    next_splits(rt, text, splits, 2);
+    all_splits(rt, text, splits, 3, &[ONE_OR_MORE, NONE_OR_MORE]);
+    all_splits(rt, text, splits, 3, &THREE);
+    all_splits(rt, text, splits, 0, &[]);
+    all_splits(rt, text, splits, 1, &[]);
+    all_splits(rt, text, splits, 1, &[ONE_OR_MORE, ONE_OR_TWO]);
+    all_splits(rt, text, splits, 4, &[ONE_OR_TWO, NONE_OR_ONE]);
+    all_splits(rt, text, splits, 5, &[NONE_OR_MORE, NO_LENGTH]);
 }
 
-// Whether lengths that the parts can't have give no split.
-fn have_no_splits(alloc: Global, splits: &mut Splits) -> Result<bool, Fail>
-    requires { splits.old.room ≡ 3 }
-{
-    Ok(
-        are_splits(alloc, splits, 1, &[], "")?
-            && are_splits(alloc, splits, 1, &[ONE_OR_MORE, ONE_OR_TWO], "")?
-            && are_splits(alloc, splits, 4, &[ONE_OR_TWO, NONE_OR_ONE], "")?
-            && are_splits(alloc, splits, 5, &[NONE_OR_MORE, NO_LENGTH], "")?,
-    )
-}
+// The last four lengths can't be had by their parts.
+const SPLITS: &str = "[1, 1, 1][1, 2, 0];\
+[1, 2][2, 1][3, 0];\
+[1, 1, 1][1, 2, 0][2, 0, 1][2, 1, 0];\
+[];;;;;";
 
 #[test]
-fn splits_are_listed_in_order(rt: HostRuntime) -> Result<(), Fail> {
-    let mut splits = Splits::begin(rt.alloc(), 3, &THREE)?;
-    let first = next_splits(rt.alloc(), &mut splits, 2)?;
-    assert_eq!(rt; first.as_str(), "[1, 1, 1][1, 2, 0]");
-    assert!(rt; are_listed(rt.alloc(), &mut splits)?);
-    assert!(rt; have_no_splits(rt.alloc(), &mut splits)?);
-    Ok(())
+fn splits_are_listed_in_order(rt: HostRuntime) {
+    let mut text = String::new(rt.alloc());
+    let mut splits = Splits::begin(rt.alloc(), 3, &THREE).expect(&rt, "memory");
+    several_splits(&rt, &mut text, &mut splits);
+    assert!(rt; text.as_str() == SPLITS, "{text}");
 }
 
-// The next sub-multisets, at most so many.
-fn next_bags(alloc: Global, bags: &mut SubBags, most: usize) -> Result<String, Fail>
+// Appends the next sub-multisets, at most so many, and a semicolon.
+fn next_bags(rt: &impl Abort, text: &mut String, bags: &mut SubBags, most: usize)
     ensures room { bags.new.room ≡ bags.old.room }
 {
-    let mut text = String::new(alloc);
     for _ in 0..most {
         if bags.next() {
-            push_numbers(alloc, &mut text, bags.counts())?;
+            push_numbers(rt, text, bags.counts());
         }
     }
-    Ok(text)
+    text.push_str(";").expect(rt, "memory");
 }
 
-// Whether the sub-multisets of the counts are these.
-fn are_bags(alloc: Global, bags: &mut SubBags, counts: &[u32], items: &str) -> Result<bool, Fail>
+// Appends the sub-multisets of the counts.
+fn all_bags(rt: &impl Abort, text: &mut String, bags: &mut SubBags, counts: &[u32])
     requires bound { sum counts.now ≤ MAX_TOTAL }
     requires within_room { list_length counts.now ≤ bags.old.room }
     ensures room { bags.new.room ≡ bags.old.room }
 {
     bags.restart(counts);
-    Ok(next_bags(alloc, bags, 12)?.as_str() == items)
+    next_bags(rt, text, bags, 12);
 }
 
-const FIRST_FIVE: &str = "[0, 0, 0][1, 0, 0][0, 1, 0][0, 0, 1][1, 1, 0]";
-
-const ALL_EIGHT: &str = "[0, 0, 0][1, 0, 0][0, 1, 0][0, 0, 1][1, 1, 0][1, 0, 1][0, 1, 1][1, 1, 1]";
-
-// Whether sub-multisets are listed in order, begun anew.
-fn are_bags_listed(alloc: Global, bags: &mut SubBags) -> Result<bool, Fail>
+// Appends five sub-multisets, and all of several counts, begun anew in the middle and after the end.
+fn several_bags(rt: &impl Abort, text: &mut String, bags: &mut SubBags)
     requires { bags.old.room ≡ 3 }
 {
-    let six = "[0, 0][1, 0][0, 1][2, 0][1, 1][2, 1]";
-    Ok(
-        are_bags(alloc, bags, &[2, 1], six)?
-            && are_bags(alloc, bags, &[1, 1, 1], ALL_EIGHT)?
-            && are_bags(alloc, bags, &[], "[]")?
-            && are_bags(alloc, bags, &[0, 2], "[0, 0][0, 1][0, 2]")?,
-    )
+    next_bags(rt, text, bags, 5);
+    all_bags(rt, text, bags, &[2, 1]);
+    all_bags(rt, text, bags, &[1, 1, 1]);
+    all_bags(rt, text, bags, &[]);
+    all_bags(rt, text, bags, &[0, 2]);
+}
+
+const BAGS: &str = "[0, 0, 0][1, 0, 0][0, 1, 0][0, 0, 1][1, 1, 0];\
+[0, 0][1, 0][0, 1][2, 0][1, 1][2, 1];\
+[0, 0, 0][1, 0, 0][0, 1, 0][0, 0, 1][1, 1, 0][1, 0, 1][0, 1, 1][1, 1, 1];\
+[];\
+[0, 0][0, 1][0, 2];";
+
+#[test]
+fn sub_multisets_are_listed_in_order(rt: HostRuntime) {
+    let mut text = String::new(rt.alloc());
+    let mut bags = SubBags::begin(rt.alloc(), &[1, 1, 1]).expect(&rt, "memory");
+    several_bags(&rt, &mut text, &mut bags);
+    assert!(rt; text.as_str() == BAGS, "{text}");
+}
+
+// Whether the next sub-multiset begins so.
+fn begins(bags: &mut SubBags, counts: &[u32]) -> bool {
+    bags.next() && bags.counts().starts_with(counts)
+}
+
+// Whether the first three sub-multisets of sixty items are listed.
+fn are_few_listed(bags: &mut SubBags) -> bool {
+    begins(bags, &[0; 60]) && begins(bags, &[1]) && begins(bags, &[0, 1])
 }
 
 #[test]
-fn sub_multisets_are_listed_in_order(rt: HostRuntime) -> Result<(), Fail> {
-    let mut bags = SubBags::begin(rt.alloc(), &[1, 1, 1])?;
-    assert_eq!(rt; next_bags(rt.alloc(), &mut bags, 5)?.as_str(), FIRST_FIVE);
-    assert!(rt; are_bags_listed(rt.alloc(), &mut bags)?);
-    Ok(())
+fn few_of_very_many_sub_multisets_are_listed(rt: HostRuntime) {
+    let mut bags = SubBags::begin(rt.alloc(), &[1; 60]).expect(&rt, "memory");
+    assert!(rt; are_few_listed(&mut bags));
 }
 
-#[test]
-fn few_of_very_many_sub_multisets_are_listed(rt: HostRuntime) -> Result<(), Fail> {
-    let mut bags = SubBags::begin(rt.alloc(), &[1; 60])?;
-    assert!(rt; bags.next());
-    assert_eq!(rt; bags.counts(), [0; 60].as_slice());
-    assert!(rt; bags.next());
-    assert_eq!(rt; bags.counts().first(), Some(&1));
-    assert!(rt; bags.next());
-    assert_eq!(rt; bags.counts().get(1), Some(&1));
-    Ok(())
-}
-
-// The coefficients, the total, and the solutions, or why they aren't listed.
-type Equation = (&'static [u32], u32, &'static str);
+// The coefficients, the total, and the solutions.
+type Equation = (&'static [u32], u32, &'static [&'static [u32]]);
 
 const EQUATIONS: &[Equation] = &[
-    (&[2, 1], 3, "[0, 3][1, 1]"),
-    (&[2], 3, ""),
-    (&[2], 4, "[2]"),
-    (&[], 0, "[]"),
-    (&[], 1, ""),
-    (&[1, 2], 0, "[0, 0]"),
-    (&[1, 1], 2, "[0, 2][1, 1][2, 0]"),
-    (&[1, 2, 3], 4, "[0, 2, 0][1, 0, 1][2, 1, 0][4, 0, 0]"),
-    (&[3, 2, 2], 7, "[1, 0, 2][1, 1, 1][1, 2, 0]"),
-    (&[4, 2], 7, ""),
-    (&[1000000, 1], 1000000, "[0, 1000000][1, 0]"),
-    (&[4294967295, 1], 4294967295, "[0, 4294967295][1, 0]"),
+    (&[2, 1], 3, &[&[0, 3], &[1, 1]]),
+    (&[2], 3, &[]),
+    (&[2], 4, &[&[2]]),
+    (&[], 0, &[&[]]),
+    (&[], 1, &[]),
+    (&[1, 2], 0, &[&[0, 0]]),
+    (&[1, 1], 2, &[&[0, 2], &[1, 1], &[2, 0]]),
+    (
+        &[1, 2, 3],
+        4,
+        &[&[0, 2, 0], &[1, 0, 1], &[2, 1, 0], &[4, 0, 0]],
+    ),
+    (&[3, 2, 2], 7, &[&[1, 0, 2], &[1, 1, 1], &[1, 2, 0]]),
+    (&[4, 2], 7, &[]),
+    (&[1000000, 1], 1000000, &[&[0, 1000000], &[1, 0]]),
+    (&[4294967295, 1], 4294967295, &[&[0, 4294967295], &[1, 0]]),
+];
+
+// Whether the next solutions are these, and no more.
+fn are_solutions(equations: &mut Equations, items: &[&[u32]]) -> bool {
+    for item in items {
+        if !equations.next() || equations.solution() != *item {
+            return false;
+        }
+    }
+    !equations.next() && !equations.next()
+}
+
+// Whether the solutions of the equation are those of the row.
+fn is_solved(rt: &impl Abort, alloc: Global, row: &Equation) -> bool {
+    assert!(rt; row.0.len() <= MAX_TOTAL as usize);
+    match Equations::begin(alloc, row.0, row.1) {
+        Ok(mut equations) => are_solutions(&mut equations, row.2),
+        Err(_) => false,
+    }
+}
+
+#[test]
+fn solutions_are_listed_in_order(rt: HostRuntime) {
+    for row in EQUATIONS {
+        assert!(rt; is_solved(&rt, rt.alloc(), row), "{}", row.1);
+    }
+}
+
+// Coefficients, a total, and why they have no list of solutions.
+const REFUSED: &[(&[u32], u32, &str)] = &[
     (&[1, 0], 2, "coefficient 1 is 0"),
     (&[0], 0, "coefficient 0 is 0"),
     (&[2, 0, 0, 1], 3, "coefficient 1 is 0"),
 ];
 
-// The next solutions, at most so many.
-fn next_solutions(alloc: Global, equations: &mut Equations, most: usize) -> Result<String, Fail> {
-    let mut text = String::new(alloc);
-    for _ in 0..most {
-        if equations.next() {
-            push_numbers(alloc, &mut text, equations.solution())?;
-        }
-    }
-    Ok(text)
-}
-
-// The first eight solutions of the equation, or why they aren't listed.
-fn solutions_of(alloc: Global, coefficients: &[u32], total: u32) -> Result<String, Fail>
-    requires { list_length coefficients.now ≤ MAX_TOTAL }
-{
-    match Equations::begin(alloc, coefficients, total) {
-        Ok(mut equations) => next_solutions(alloc, &mut equations, 8),
-        Err(fault) => Ok(format!(in alloc; "{fault}")?),
+// Whether the equation of the row is refused so.
+fn is_refused(rt: &impl Abort, alloc: Global, row: &(&[u32], u32, &str)) -> bool {
+    assert!(rt; row.0.len() <= MAX_TOTAL as usize);
+    match Equations::begin(alloc, row.0, row.1) {
+        Ok(_) => false,
+        Err(fault) => format!(in alloc; "{fault}").expect(rt, "memory").as_str() == row.2,
     }
 }
 
 #[test]
-fn solutions_are_listed_in_order(rt: HostRuntime) -> Result<(), Fail> {
-    for (coefficients, total, all) in EQUATIONS {
-        assert!(rt; coefficients.len() <= MAX_TOTAL as usize);
-        let text = solutions_of(rt.alloc(), coefficients, *total)?;
-        assert_eq!(rt; text.as_str(), *all);
+fn coefficients_of_zero_are_refused(rt: HostRuntime) {
+    for row in REFUSED {
+        assert!(rt; is_refused(&rt, rt.alloc(), row), "{}", row.2);
     }
-    Ok(())
 }

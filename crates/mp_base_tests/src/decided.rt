@@ -13,7 +13,7 @@ use mp_subst::{Subst, Trail};
 use mp_table::Table;
 use mp_term::Signature;
 use std::alloc::Global;
-use std::test::Fail;
+use std::process::Abort;
 
 // The values are those of `bound::VALUES`: x is a, n is 7, t is f(g(a), b), w is f(b, a) and u is f(b, g(a)); y is
 // (a), p is (b, a), q is (f(a, b), g(b)) and e is (); m is {a}, z is {a, b} and o is {}. The table holds neither w nor
@@ -29,15 +29,15 @@ same $e $o\n\
 same $w $w\n\
 less $x b\n\
 less b $t\n\
-less abF $w\n\
+less B(ab) $w\n\
 less $w $t\n\
 less $w $u\n\
-free bG $t\n\
-free $t aG\n\
-free $y bG\n\
+free C(b) $t\n\
+free $t C(a)\n\
+free $y C(b)\n\
 free $e a\n\
 free a $o\n\
-free aG $w\n\
+free C(a) $w\n\
 free $w $u\n\
 free $w $t\n\
 num $n\n\
@@ -46,7 +46,7 @@ v $z\n\
 w $o\n\
 F $t\n\
 F $w\n\
-G bG\n\
+G C(b)\n\
 G $e\n\
 == #$x 1\n\
 == #$q 2\n\
@@ -55,7 +55,7 @@ G $e\n\
 == #$w 1\n\
 == @$x 1\n\
 == @$t 4\n\
-== @aGG 3\n\
+== @C(C(a)) 3\n\
 == @$q 5\n\
 == @$o 0\n\
 == @$w 3\n\
@@ -77,29 +77,29 @@ same $p a\n\
 same $z $m\n\
 same $e $y\n\
 same $w $u\n\
-same $w abF\n\
+same $w B(ab)\n\
 same $m $w\n\
 less b $x\n\
 less a $x\n\
 less $y b\n\
 less a $p\n\
 less $m b\n\
-less $w abF\n\
+less $w B(ab)\n\
 less $t $w\n\
 less $u $w\n\
 less $w $p\n\
 free a $t\n\
 free b $t\n\
-free aG $t\n\
-free aGbF $t\n\
-free $p bG\n\
+free C(a) $t\n\
+free B(C(a)b) $t\n\
+free $p C(b)\n\
 free a $q\n\
 free b $w\n\
-free aG $u\n\
+free C(a) $u\n\
 free $w $w\n\
 num $x\n\
 v c\n\
-v aG\n\
+v C(a)\n\
 v $w\n\
 w a\n\
 F $q\n\
@@ -120,12 +120,16 @@ G $w\n\
 
 // Variables, whether each stands beside a comparison that fails, and whether it is headed by f, as far as that is
 // known: j and l are unbound, and i is bound to the multiset {a, b} where its form is the tuple.
-const HEADS: &[(&[u8], bool, Verdict)] = &[
-    (b"te", false, Verdict::Yes),
-    (b"x", false, Verdict::No),
-    (b"jil", false, Verdict::Later),
-    (b"t", true, Verdict::No),
-    (b"ji", true, Verdict::Later),
+const HEADS: &[(u8, bool, Verdict)] = &[
+    (b't', false, Verdict::Yes),
+    (b'e', false, Verdict::Yes),
+    (b'x', false, Verdict::No),
+    (b'j', false, Verdict::Later),
+    (b'i', false, Verdict::Later),
+    (b'l', false, Verdict::Later),
+    (b't', true, Verdict::No),
+    (b'j', true, Verdict::Later),
+    (b'i', true, Verdict::Later),
 ];
 
 // The answer of a condition that is decided.
@@ -150,23 +154,9 @@ fn has_answer(
     holds(sig, cond, subst) == answer && decide(sig, cond, plan, trail, table) == verdict(answer)
 }
 
-// Whether the condition is decided so.
-fn is_decided(
-    sig: &Signature,
-    cond: &Cond,
-    plan: &Plan,
-    trail: &Trail,
-    table: &Table,
-    answer: Verdict,
-) -> bool
-    requires held { AreHeld table.now (cond_tree cond.now) }
-    requires goes_with { GoesWith table.now trail.now }
-{
-    decide(sig, cond, plan, trail, table) == answer
-}
-
 // Whether the condition of the line has the answer.
 fn is_line(
+    rt: &impl Abort,
     alloc: Global,
     sig: &Signature,
     plan: &Plan,
@@ -175,108 +165,87 @@ fn is_line(
     subst: &Subst,
     line: &str,
     answer: bool,
-) -> Result<bool, Fail>
+) -> bool
     requires { GoesWith table.now trail.now }
 {
-    let cond = Box::new(alloc, condition(alloc, line, table, subst)?)?;
-    Ok(has_answer(sig, &cond, plan, trail, table, subst, answer))
+    let cond = condition(rt, alloc, line, table, subst);
+    let cond = Box::new(alloc, cond).expect(rt, "memory");
+    has_answer(sig, &cond, plan, trail, table, subst, answer)
 }
 
-// The first line whose condition has another answer.
-fn other_line<'a>(
+// Sees that the condition of each line has the answer.
+fn have_answer(
+    rt: &impl Abort,
     alloc: Global,
     sig: &Signature,
     plan: &Plan,
     trail: &Trail,
     table: &Table,
     subst: &Subst,
-    lines: &'a str,
+    lines: &str,
     answer: bool,
-) -> Result<Option<&'a str>, Fail>
+)
     requires { GoesWith table.now trail.now }
 {
     for line in lines.split('\n') {
-        if !is_line(alloc, sig, plan, trail, table, subst, line, answer)? {
-            return Ok(Some(line));
-        }
+        assert!(rt;
+            is_line(rt, alloc, sig, plan, trail, table, subst, line, answer),
+            "{line}"
+        );
     }
-    Ok(None)
 }
 
-// Whether it is so decided whether the variable is headed by f, or beside a comparison that fails.
-fn is_headed(
+// Whether that is known of the row's variable.
+fn is_head(
+    rt: &impl Abort,
     alloc: Global,
     sig: &Signature,
     plan: &Plan,
     trail: &Trail,
     table: &Table,
-    name: u8,
-    beside: bool,
-    answer: Verdict,
-) -> Result<bool, Fail>
+    row: &(u8, bool, Verdict),
+) -> bool
     requires { GoesWith table.now trail.now }
 {
-    let cond = Box::new(alloc, headed(alloc, name, beside, table)?)?;
-    Ok(is_decided(sig, &cond, plan, trail, table, answer))
+    let cond = headed(rt, alloc, row.0, row.1, table);
+    let cond = Box::new(alloc, cond).expect(rt, "memory");
+    decide(sig, &cond, plan, trail, table) == row.2
 }
 
-// Whether that is decided so of each of the variables.
-fn are_headed(
+// Sees that it is so decided whether each variable is headed by f, or beside a comparison that fails.
+fn heads_are_decided(
+    rt: &impl Abort,
     alloc: Global,
     sig: &Signature,
     plan: &Plan,
     trail: &Trail,
     table: &Table,
-    names: &[u8],
-    beside: bool,
-    answer: Verdict,
-) -> Result<bool, Fail>
+)
     requires { GoesWith table.now trail.now }
 {
-    for name in names {
-        if !is_headed(alloc, sig, plan, trail, table, *name, beside, answer)? {
-            return Ok(false);
-        }
+    for row in HEADS {
+        assert!(rt;
+            is_head(rt, alloc, sig, plan, trail, table, row),
+            "{}",
+            row.0
+        );
     }
-    Ok(true)
-}
-
-// The first line of both tables whose condition has another answer, or else a word where a row of the third has.
-fn other(
-    alloc: Global,
-    sig: &Signature,
-    plan: &Plan,
-    trail: &Trail,
-    table: &Table,
-    subst: &Subst,
-) -> Result<Option<&'static str>, Fail>
-    requires { GoesWith table.now trail.now }
-{
-    let found = other_line(alloc, sig, plan, trail, table, subst, HOLDING, true)?;
-    if found.is_some() {
-        return Ok(found);
-    }
-    let found = other_line(alloc, sig, plan, trail, table, subst, FAILING, false)?;
-    if found.is_some() {
-        return Ok(found);
-    }
-    for (names, beside, answer) in HEADS {
-        if !are_headed(alloc, sig, plan, trail, table, names, *beside, *answer)? {
-            return Ok(Some("headed"));
-        }
-    }
-    Ok(None)
 }
 
 #[test]
-fn conditions_hold_and_are_decided(rt: HostRuntime) -> Result<(), Fail> {
+fn conditions_hold_and_are_decided(rt: HostRuntime) {
     let alloc = rt.alloc();
-    let sig = signature(alloc)?;
-    let plan = plan(alloc, &sig)?;
-    let table = table(alloc, &sig)?;
-    let trail = trail(alloc, &plan, &table)?;
-    let subst = Box::new(alloc, trail.to_subst(alloc, &table, &plan)?)?;
-    let other = other(alloc, &sig, &plan, &trail, &table, &subst)?;
-    assert!(rt; other.is_none(), "{}", other.unwrap_or(""));
-    Ok(())
+    let sig = signature(&rt, alloc);
+    let plan = plan(&rt, alloc, &sig);
+    let table = table(&rt, alloc, &sig);
+    let trail = trail(&rt, alloc, &plan, &table);
+    let subst = trail.to_subst(alloc, &table, &plan).expect(&rt, "memory");
+    let subst = Box::new(alloc, subst).expect(&rt, "memory");
+    have_answer(
+        &rt, alloc, &sig, &plan, &trail, &table, &subst, HOLDING, true,
+    );
+    have_answer(
+        &rt, alloc, &sig, &plan, &trail, &table, &subst, FAILING, false,
+    );
+    heads_are_decided(&rt, alloc, &sig, &plan, &trail, &table);
 }

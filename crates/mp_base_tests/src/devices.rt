@@ -7,17 +7,18 @@ use std::alloc::Global;
 use std::fs;
 use std::fs::File;
 use std::io::Write;
-use std::test::Fail;
+use std::process::Abort;
 
 const TEXT: &[u8] = b"op f 2;\nsubject s: a;\n";
 
 // Writes the text to a real file. Answers whether all was taken.
-fn is_written(rt: &HostRuntime) -> Result<bool, Fail> {
-    let mut sink = RealSink::new(File::create(rt, "t.txt")?);
-    Ok(
-        put(&mut sink, b"op f 2;\n").is_ok()
-            && put_all(&mut sink, &[b"subject ", b"", b"s: a;\n"]).is_ok(),
-    )
+fn is_written(rt: &HostRuntime) -> bool {
+    let Ok(file) = File::create(rt, "t.txt") else {
+        return false;
+    };
+    let mut sink = RealSink::new(file);
+    put(&mut sink, b"op f 2;\n").is_ok()
+        && put_all(&mut sink, &[b"subject ", b"", b"s: a;\n"]).is_ok()
 }
 
 // Whether a file was refused with the fault, or has the content where there is none.
@@ -28,6 +29,13 @@ fn is_answer(found: &Result<Vec<u8>, ReadFault>, fault: Option<ReadFault>, conte
     }
 }
 
+// The name of a real file, how long it may be, and why it isn't read.
+const REAL: &[(&str, usize, Option<ReadFault>)] = &[
+    ("t.txt", 22, None),
+    ("t.txt", 21, Some(ReadFault::TooLong)),
+    ("none", 21, Some(ReadFault::Start)),
+];
+
 // Whether the real file is refused with the fault, or has the text where there is none.
 fn is_read(rt: &HostRuntime, name: &str, limit: usize, fault: Option<ReadFault>) -> bool {
     let mut shelf = RealShelf::new(rt);
@@ -36,17 +44,12 @@ fn is_read(rt: &HostRuntime, name: &str, limit: usize, fault: Option<ReadFault>)
 }
 
 #[test]
-fn real_files_are_read_and_written(rt: HostRuntime) -> Result<(), Fail> {
-    assert!(rt; is_written(&rt)?);
-    assert_eq!(rt; fs::read(&rt, "t.txt")?.as_slice(), TEXT);
-    for (name, limit, fault) in [
-        ("t.txt", 22, None),
-        ("t.txt", 21, Some(ReadFault::TooLong)),
-        ("none", 21, Some(ReadFault::Start)),
-    ] {
-        assert!(rt; is_read(&rt, name, limit, fault), "{name} {limit}");
+fn real_files_are_read_and_written(rt: HostRuntime) {
+    assert!(rt; is_written(&rt));
+    assert!(rt; fs::read(&rt, "t.txt").expect(&rt, "the file").as_slice() == TEXT);
+    for (name, limit, fault) in REAL {
+        assert!(rt; is_read(&rt, name, *limit, *fault), "{name} {limit}");
     }
-    Ok(())
 }
 
 // Takes at most so many bytes at a call, and is flushed or not.
@@ -70,16 +73,14 @@ impl Write for Narrow {
     }
 }
 
+// Whether a writer takes three bytes.
+fn are_taken(most: usize, flushes: bool) -> bool {
+    put(&mut RealSink::new(Narrow { most, flushes }), b"abc").is_ok()
+}
+
 #[test]
 fn a_writer_that_takes_nothing_or_is_not_flushed_fails(rt: HostRuntime) {
-    for (most, flushes, want) in [
-        (1, true, Ok(())),
-        (0, true, Err(Failed)),
-        (9, false, Err(Failed)),
-    ] {
-        let mut sink = RealSink::new(Narrow { most, flushes });
-        assert_eq!(rt; put(&mut sink, b"abc"), want);
-    }
+    assert!(rt; are_taken(1, true) && !are_taken(0, true) && !are_taken(9, false));
 }
 
 // Adds the files `t` of three bytes, which takes the place of an older one, `none` of none, and `long`.
@@ -91,12 +92,10 @@ fn add_files(shelf: &mut MemoryShelf, long: &[u8]) -> bool {
 }
 
 // A shelf with these files, whose calls of these numbers fail.
-fn make_shelf(alloc: Global, fails: &[u64], long: &[u8]) -> Result<MemoryShelf, Fail> {
-    let mut shelf = MemoryShelf::new(alloc, fails.to_vec(alloc)?);
-    if !add_files(&mut shelf, long) {
-        return Err("memory".into());
-    }
-    Ok(shelf)
+fn make_shelf(rt: &impl Abort, alloc: Global, fails: &[u64], long: &[u8]) -> MemoryShelf {
+    let mut shelf = MemoryShelf::new(alloc, fails.to_vec(alloc).expect(rt, "memory"));
+    assert!(rt; add_files(&mut shelf, long));
+    shelf
 }
 
 // The content of the file of the name.
@@ -134,28 +133,27 @@ const READINGS: &[Reading] = &[
 ];
 
 // Whether the file in memory is read as the row says.
-fn is_held(alloc: Global, row: &Reading, long: &[u8]) -> Result<bool, Fail> {
-    let (fails, name, limit, fault, faults) = *row;
-    let mut shelf = make_shelf(alloc, fails, long)?;
-    let found = read_whole(alloc, &mut shelf, name, limit);
-    Ok(is_answer(&found, fault, content(name, long)) && shelf.faults() == faults)
+fn is_held(rt: &impl Abort, alloc: Global, row: &Reading, long: &[u8]) -> bool {
+    let mut shelf = make_shelf(rt, alloc, row.0, long);
+    let found = read_whole(alloc, &mut shelf, row.1, row.2);
+    is_answer(&found, row.3, content(row.1, long)) && shelf.faults() == row.4
 }
 
 #[test]
-fn files_in_memory_are_read_whole(rt: HostRuntime) -> Result<(), Fail> {
-    let long = vec![in rt.alloc(); b'x'; 5000]?;
+fn files_in_memory_are_read_whole(rt: HostRuntime) {
     for row in READINGS {
-        assert!(rt; is_held(rt.alloc(), row, &long)?, "{} {}", row.1, row.2);
+        assert!(rt;
+            is_held(&rt, rt.alloc(), row, &[b'x'; 5000]),
+            "{} {}",
+            row.1,
+            row.2
+        );
     }
-    Ok(())
 }
 
 // A sink with that room, whose writes of these numbers fail.
-fn make_sink(alloc: Global, room: usize, fails: &[u64]) -> Result<MemorySink, Fail> {
-    match MemorySink::new(alloc, room, fails.to_vec(alloc)?) {
-        Ok(sink) => Ok(sink),
-        Err(_) => Err("memory".into()),
-    }
+fn make_sink(rt: &impl Abort, alloc: Global, room: usize, fails: &[u64]) -> MemorySink {
+    MemorySink::new(alloc, room, fails.to_vec(alloc).expect(rt, "memory")).expect(rt, "memory")
 }
 
 // Appends `ab`, nothing and `cd`, a write each.
@@ -179,50 +177,29 @@ const WRITINGS: &[Writing] = &[
 ];
 
 // Whether the pieces are taken as the row says.
-fn is_taken(alloc: Global, row: &Writing) -> Result<bool, Fail> {
-    let (room, fails, taken, content, faults) = *row;
-    let mut sink = make_sink(alloc, room, fails)?;
-    Ok(
-        put_pieces(&mut sink).is_ok() == taken
-            && sink.content() == content.as_bytes()
-            && sink.faults() == faults,
-    )
+fn is_taken(rt: &impl Abort, alloc: Global, row: &Writing) -> bool {
+    let mut sink = make_sink(rt, alloc, row.0, row.1);
+    put_pieces(&mut sink).is_ok() == row.2
+        && sink.content() == row.3.as_bytes()
+        && sink.faults() == row.4
 }
 
 #[test]
-fn a_sink_in_memory_takes_what_fits(rt: HostRuntime) -> Result<(), Fail> {
+fn a_sink_in_memory_takes_what_fits(rt: HostRuntime) {
     for row in WRITINGS {
-        assert!(rt; is_taken(rt.alloc(), row)?, "{} {}", row.0, row.3);
+        assert!(rt; is_taken(&rt, rt.alloc(), row), "{} {}", row.0, row.3);
     }
-    Ok(())
 }
 
-// The text, and so many bytes of it.
-fn parts<'a>(alloc: Global, long: &'a [u8], more: usize) -> Result<Vec<&'a [u8]>, Fail> {
-    let mut parts = Vec::new(alloc);
-    parts.push(long)?;
-    match long.get(..more) {
-        Some(more) => parts.push(more)?,
-        None => return Err("the text is too short".into()),
-    }
-    Ok(parts)
-}
-
-// Whether the parts are taken, or not, and so many bytes are written where the second write fails.
-fn is_one_write(alloc: Global, parts: &[&[u8]], taken: bool, written: usize) -> Result<bool, Fail> {
-    let mut sink = make_sink(alloc, 5000, &[1])?;
-    Ok(put_all(&mut sink, parts).is_ok() == taken && sink.content().len() == written)
+// Whether a text of 4000 bytes and more bytes are taken, or not, and so many bytes are written where the second write
+// fails.
+fn is_one_write(rt: &impl Abort, alloc: Global, more: &[u8], taken: bool, written: usize) -> bool {
+    let mut sink = make_sink(rt, alloc, 5000, &[1]);
+    put_all(&mut sink, &[&[b'a'; 4000], more]).is_ok() == taken && sink.content().len() == written
 }
 
 #[test]
-fn parts_of_at_most_4096_bytes_are_one_write(rt: HostRuntime) -> Result<(), Fail> {
-    let long = vec![in rt.alloc(); b'a'; 4000]?;
-    for (more, taken, written) in [(96, true, 4096), (97, false, 4000)] {
-        let parts = parts(rt.alloc(), &long, more)?;
-        assert!(rt;
-            is_one_write(rt.alloc(), &parts, taken, written)?,
-            "{written}"
-        );
-    }
-    Ok(())
+fn parts_of_at_most_4096_bytes_are_one_write(rt: HostRuntime) {
+    assert!(rt; is_one_write(&rt, rt.alloc(), &[b'a'; 96], true, 4096));
+    assert!(rt; is_one_write(&rt, rt.alloc(), &[b'a'; 97], false, 4000));
 }

@@ -33,4 +33,6 @@ mod tokens;
 #[cfg(test)]
 mod trails;
 #[cfg(test)]
+mod values;
+#[cfg(test)]
 mod words;

@@ -1,59 +1,38 @@
 //! Merging, the order and the equality of substitutions on cases worked out by hand.
 
-ghost use Rattle.std.specs.Prelude.{◌≡◌, [], ◌∷◌, map, codes, IfOk};
+ghost use Rattle.std.specs.Prelude.{◌≡◌, [], ◌∷◌, map, codes};
 ghost use Rattle.mp_subst.specs.View.{subst_of};
 
+use crate::values::{is_value, name, value};
 use mp_subst::{
-    Binding, Bindings, Pair, Subst, Value, compare_subst, compare_value, copy_subst, copy_value,
-    merge, same_multiset, same_subst,
+    Binding, Bindings, Pair, Subst, Value, compare_subst, copy_subst, merge, same_subst,
 };
-use mp_term::{Name, Term, Terms};
 use std::alloc::Global;
 use std::cmp::Ordering;
-use std::test::Fail;
+use std::process::Abort;
 
-// The symbols of the letters.
-pub(crate) fn symbols(alloc: Global, letters: &[u8]) -> Result<Terms, Fail> {
-    let mut terms = Terms::new(alloc);
-    for letter in letters {
-        terms.push(Term::Sym(Name::new(alloc, &[*letter])?))?;
-    }
-    Ok(terms)
-}
-
-// A symbol, a tuple of symbols as (ba), or a multiset of symbols as {ab}.
-pub(crate) fn value(alloc: Global, text: &[u8]) -> Result<Value, Fail> {
-    match text {
-        [b'(', letters @ .., _] => Ok(Value::Seq(symbols(alloc, letters)?)),
-        [b'{', letters @ .., _] => Ok(Value::Bag(symbols(alloc, letters)?)),
-        _ => Ok(Value::One(Term::Sym(Name::new(alloc, text)?))),
-    }
-}
-
-// The name with the value.
-fn binding(alloc: Global, name: &[u8], text: &[u8]) -> Result<Binding, Fail>
-    ensures { IfOk result (λ b. b.name ≡ name.now) }
+// The variable of that name with the value of the text.
+fn binding(rt: &impl Abort, alloc: Global, letters: &[u8], text: &[u8]) -> Binding
+    ensures { result.name ≡ letters.now }
 {
-    let value = value(alloc, text)?;
-    match Name::new(alloc, name) {
-        Ok(name) => Ok(Binding { name, value }),
-        Err(_) => Err("no name".into()),
+    Binding {
+        name: name(rt, alloc, letters),
+        value: value(rt, alloc, text),
     }
 }
 
 // The variables x and y with the values.
-fn subst(alloc: Global, x: &[u8], y: &[u8]) -> Result<Subst, Fail>
-    ensures { IfOk result (λ s. map (λ b. b.name) (subst_of s) ≡ codes "x" ∷ codes "y" ∷ []) }
+fn subst(rt: &impl Abort, alloc: Global, x: &[u8], y: &[u8]) -> Subst
+    ensures { map (λ b. b.name) (subst_of result) ≡ codes "x" ∷ codes "y" ∷ [] }
 {
     let mut bindings = Bindings::new(alloc);
-    bindings.push(binding(alloc, b"x", x)?)?;
-    bindings.push(binding(alloc, b"y", y)?)?;
-    Ok(Subst { bindings })
-}
-
-fn pair(alloc: Global) -> Result<Pair, Fail> {
-    let subst = subst(alloc, b"a", b"{ab}")?;
-    Ok(Pair { rule: 3, subst })
+    bindings
+        .push(binding(rt, alloc, b"x", x))
+        .expect(rt, "memory");
+    bindings
+        .push(binding(rt, alloc, b"y", y))
+        .expect(rt, "memory");
+    Subst { bindings }
 }
 
 // Whether the pair has the rule 3, and two bindings, the second of a multiset.
@@ -71,47 +50,31 @@ fn is_pair(pair: &Pair) -> bool {
 }
 
 #[test]
-fn bindings_hold_what_was_pushed(rt: HostRuntime) -> Result<(), Fail> {
-    assert!(rt; is_pair(&pair(rt.alloc())?));
-    Ok(())
+fn bindings_hold_what_was_pushed(rt: HostRuntime) {
+    let subst = subst(&rt, rt.alloc(), b"a", b"{ab}");
+    assert!(rt; is_pair(&Pair { rule: 3, subst }));
 }
 
-// Whether the value is the one of the text.
-fn is_value(alloc: Global, found: &Value, text: &str) -> Result<bool, Fail> {
-    Ok(compare_value(found, &value(alloc, text.as_bytes())?).is_eq())
-}
-
-// Whether both values are those of the texts.
-fn are_values(alloc: Global, both: &(Value, Value), old: &str, new: &str) -> Result<bool, Fail> {
-    Ok(is_value(alloc, &both.0, old)? && is_value(alloc, &both.1, new)?)
-}
-
-// What the values of the texts merge to, or both where they don't.
+// What two values merge to, or both where they don't.
 type Merged = Result<Value, (Value, Value)>;
 
-fn merged(alloc: Global, old: &str, new: &str) -> Result<Merged, Fail> {
-    let second = value(alloc, new.as_bytes())?;
-    Ok(merge(value(alloc, old.as_bytes())?, second))
-}
-
-// Whether the answer is the common value, or both values where that is no text.
-fn is_answer(
-    alloc: Global,
-    answer: &Merged,
-    old: &str,
-    new: &str,
-    common: &str,
-) -> Result<bool, Fail> {
+// Whether the answer is the third value of the row, or the first two where that is no text.
+fn is_answer(rt: &impl Abort, alloc: Global, answer: &Merged, row: &(&str, &str, &str)) -> bool {
     match answer {
-        Ok(merged) => is_value(alloc, merged, common),
-        Err(both) => Ok(common.is_empty() && are_values(alloc, both, old, new)?),
+        Ok(merged) => is_value(rt, alloc, merged, row.2.as_bytes()),
+        Err(both) => {
+            row.2.is_empty()
+                && is_value(rt, alloc, &both.0, row.0.as_bytes())
+                && is_value(rt, alloc, &both.1, row.1.as_bytes())
+        }
     }
 }
 
-// Whether the values merge to the common one, or come back where that is no text.
-fn merges(alloc: Global, old: &str, new: &str, common: &str) -> Result<bool, Fail> {
-    let answer = merged(alloc, old, new)?;
-    is_answer(alloc, &answer, old, new, common)
+// Whether the first two values merge to the third one, or come back where that is no text.
+fn merges(rt: &impl Abort, alloc: Global, row: &(&str, &str, &str)) -> bool {
+    let old = value(rt, alloc, row.0.as_bytes());
+    let answer = merge(old, value(rt, alloc, row.1.as_bytes()));
+    is_answer(rt, alloc, &answer, row)
 }
 
 // Two values and, behind them, what they merge to; nothing where they don't.
@@ -133,16 +96,10 @@ const MERGED: &[(&str, &str, &str)] = &[
 ];
 
 #[test]
-fn values_merge(rt: HostRuntime) -> Result<(), Fail> {
+fn values_merge(rt: HostRuntime) {
     for row in MERGED {
-        assert!(rt;
-            merges(rt.alloc(), row.0, row.1, row.2)?,
-            "{} {}",
-            row.0,
-            row.1
-        );
+        assert!(rt; merges(&rt, rt.alloc(), row), "{} {}", row.0, row.1);
     }
-    Ok(())
 }
 
 // The values of x and of y, in ascending order of their substitutions.
@@ -168,58 +125,49 @@ fn compare_so(first: &Subst, second: &Subst, wanted: Ordering) -> bool
     compare_subst(first, second) == wanted && same_subst(first, second) == wanted.is_eq()
 }
 
-// Whether the substitutions of the rows compare so.
-fn rows_compare_so(
-    alloc: Global,
-    row: (&str, &str),
-    other: (&str, &str),
-    wanted: Ordering,
-) -> Result<bool, Fail> {
-    let first = subst(alloc, row.0.as_bytes(), row.1.as_bytes())?;
-    let second = subst(alloc, other.0.as_bytes(), other.1.as_bytes())?;
-    Ok(compare_so(&first, &second, wanted))
+// The substitution of a row.
+fn row_subst(rt: &impl Abort, alloc: Global, row: &(&str, &str)) -> Subst
+    ensures { map (λ b. b.name) (subst_of result) ≡ codes "x" ∷ codes "y" ∷ [] }
+{
+    subst(rt, alloc, row.0.as_bytes(), row.1.as_bytes())
 }
 
-// Whether a copy of the substitution of the row is the same.
-fn is_copied(alloc: Global, row: (&str, &str)) -> Result<bool, Fail> {
-    let first = subst(alloc, row.0.as_bytes(), row.1.as_bytes())?;
-    Ok(same_subst(&first, &copy_subst(alloc, &first)?))
+// Whether a copy of the substitution is the same.
+fn is_copied(rt: &impl Abort, alloc: Global, subst: &Subst) -> bool {
+    same_subst(subst, &copy_subst(alloc, subst).expect(rt, "memory"))
 }
 
 #[test]
-fn substitutions_ascend(rt: HostRuntime) -> Result<(), Fail> {
+fn substitutions_ascend(rt: HostRuntime) {
     for (i, row) in ASCENDING.iter().enumerate() {
-        assert!(rt; is_copied(rt.alloc(), *row)?);
+        let first = row_subst(&rt, rt.alloc(), row);
+        assert!(rt; is_copied(&rt, rt.alloc(), &first));
         for (j, other) in ASCENDING.iter().enumerate() {
-            assert!(rt;
-                rows_compare_so(rt.alloc(), *row, *other, i.cmp(&j))?,
-                "{i} {j}"
-            );
+            let second = row_subst(&rt, rt.alloc(), other);
+            assert!(rt; compare_so(&first, &second, i.cmp(&j)), "{i} {j}");
         }
     }
-    Ok(())
 }
 
 // The variables of the letters, each with the value a.
-fn variables(alloc: Global, letters: &[u8]) -> Result<Subst, Fail> {
+fn variables(rt: &impl Abort, alloc: Global, letters: &[u8]) -> Subst {
     let mut bindings = Bindings::new(alloc);
     for letter in letters {
-        bindings.push(binding(alloc, &[*letter], b"a")?)?;
+        bindings
+            .push(binding(rt, alloc, &[*letter], b"a"))
+            .expect(rt, "memory");
     }
-    Ok(Subst { bindings })
+    Subst { bindings }
 }
 
 // Whether the variables of the letters make another substitution than x and y.
-fn make_another(alloc: Global, letters: &[u8]) -> Result<bool, Fail> {
-    let both = variables(alloc, b"xy")?;
-    let other = variables(alloc, letters)?;
-    Ok(!same_subst(&both, &other) && !same_subst(&other, &both))
+fn make_another(rt: &impl Abort, alloc: Global, letters: &[u8]) -> bool {
+    let both = variables(rt, alloc, b"xy");
+    let other = variables(rt, alloc, letters);
+    !same_subst(&both, &other) && !same_subst(&other, &both)
 }
 
 #[test]
-fn other_variables_make_another_substitution(rt: HostRuntime) -> Result<(), Fail> {
-    for letters in [b"x".as_slice(), b"xz"] {
-        assert!(rt; make_another(rt.alloc(), letters)?);
-    }
-    Ok(())
+fn other_variables_make_another_substitution(rt: HostRuntime) {
+    assert!(rt; make_another(&rt, rt.alloc(), b"x") && make_another(&rt, rt.alloc(), b"xz"));
 }

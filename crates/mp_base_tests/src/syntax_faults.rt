@@ -3,7 +3,7 @@
 use crate::syntax_texts::{Sort, error, expanded};
 use mp_syntax::{Fault, Place, SyntaxError, first_token_place};
 use std::alloc::Global;
-use std::test::Fail;
+use std::process::Abort;
 
 // In each table a line is a text and, behind `|`, its first fault: the kind, the line and the column. Nothing stands
 // there where it has none. `&` stands for a line feed, and between two of "`" a number, `^` and a text stand for the
@@ -256,27 +256,21 @@ const BRACKETS: &str = "\
 `98^[`1 < count((a + b))`98^]`|\n\
 `98^[`1 < count(f((a + b)))`98^]`|TooDeep 1 111";
 
-fn fault_text(alloc: Global, fault: &Fault) -> Result<String, Fail> {
+// Whether the fault is told so.
+fn is_told(rt: &impl Abort, alloc: Global, fault: &Fault, wanted: &str) -> bool {
     let Fault { kind, place } = fault;
-    Ok(format!(in alloc; "{:?} {} {}", kind, place.line, place.column)?)
+    let text = format!(in alloc; "{:?} {} {}", kind, place.line, place.column);
+    text.expect(rt, "memory").as_str() == wanted
 }
 
-// The first fault of the text; nothing where there is none.
-fn first_fault(alloc: Global, sort: Sort, text: &[u8]) -> Result<String, Fail> {
-    match error(alloc, sort, text)? {
-        None => Ok(String::new(alloc)),
-        Some(SyntaxError::Fault(fault)) => fault_text(alloc, &fault),
-        Some(SyntaxError::Memory) => Err("memory ran out".into()),
+// Whether the text of the line has the fault of the line, or none.
+fn is_first(rt: &impl Abort, alloc: Global, sort: Sort, line: &str) -> bool {
+    let (text, wanted) = line.split_once('|').expect(rt, "a bar");
+    match error(alloc, sort, &expanded(rt, alloc, text)) {
+        None => wanted.is_empty(),
+        Some(SyntaxError::Fault(fault)) => is_told(rt, alloc, &fault, wanted),
+        Some(SyntaxError::Memory) => false,
     }
-}
-
-// Whether the text of the line has the fault of the line.
-fn is_first(alloc: Global, sort: Sort, line: &str) -> Result<bool, Fail> {
-    let Some((text, fault)) = line.split_once('|') else {
-        return Err("the line has no bar".into());
-    };
-    let text = expanded(alloc, text)?;
-    Ok(first_fault(alloc, sort, &text)?.as_str() == fault)
 }
 
 const TABLES: &[(Sort, &str)] = &[
@@ -290,22 +284,22 @@ const TABLES: &[(Sort, &str)] = &[
     (Sort::Condition, BRACKETS),
 ];
 
-#[test]
-fn the_first_fault_of_a_text_stands_at_its_token(rt: HostRuntime) -> Result<(), Fail> {
-    for table in TABLES {
-        for line in table.1.split('\n') {
-            assert!(rt; is_first(rt.alloc(), table.0, line)?, "{line}");
-        }
+// Sees that each text of the table has its fault.
+fn are_first(rt: &impl Abort, alloc: Global, sort: Sort, table: &str) {
+    for line in table.split('\n') {
+        assert!(rt; is_first(rt, alloc, sort, line), "{line}");
     }
-    Ok(())
 }
 
 #[test]
-fn a_text_begins_at_its_first_token(rt: HostRuntime) -> Result<(), Fail> {
-    assert_eq!(rt;
-        first_token_place(b"# a\n  not"),
-        Place { line: 2, column: 3 }
-    );
-    assert_eq!(rt; first_token_place(b" "), Place { line: 1, column: 2 });
-    Ok(())
+fn the_first_fault_of_a_text_stands_at_its_token(rt: HostRuntime) {
+    for (sort, table) in TABLES {
+        are_first(&rt, rt.alloc(), *sort, table);
+    }
+}
+
+#[test]
+fn a_text_begins_at_its_first_token(rt: HostRuntime) {
+    assert!(rt; first_token_place(b"# a\n  not") == Place { line: 2, column: 3 });
+    assert!(rt; first_token_place(b" ") == Place { line: 1, column: 2 });
 }

@@ -1,8 +1,10 @@
 //! What texts are read as by tokens and grammar, told by text.
 
+ghost use Rattle.std.specs.Prelude.{◌≤◌, length};
+
 use mp_syntax::{SyntaxError, read_condition, read_expression, read_statements};
 use std::alloc::Global;
-use std::test::Fail;
+use std::process::Abort;
 
 /// What a text is read as.
 #[derive(Clone, Copy)]
@@ -15,61 +17,60 @@ pub enum Sort {
     Condition,
 }
 
-// Appends the text so many times.
-fn push_times(bytes: &mut Vec<u8>, times: usize, text: &str) -> Result<(), Fail> {
+// Appends a text so many times, with a line feed for each `&`.
+fn push_times(rt: &impl Abort, bytes: &mut Vec<u8>, times: usize, text: &[u8]) {
     for _ in 0..times {
-        bytes.extend_from_slice(text.as_bytes())?;
+        for byte in text {
+            bytes
+                .push(if *byte == b'&' { b'\n' } else { *byte })
+                .expect(rt, "memory");
+        }
     }
-    Ok(())
 }
 
 // Appends a piece: a text alone, or a number, `^` and a text to repeat so often.
-fn push_piece(bytes: &mut Vec<u8>, piece: &str) -> Result<(), Fail> {
-    match piece.split_once('^') {
-        Some((times, text)) => push_times(bytes, times.parse::<usize>()?, text),
-        None => push_times(bytes, 1, piece),
-    }
+fn push_piece(rt: &impl Abort, bytes: &mut Vec<u8>, piece: &str) {
+    let (times, text) = piece.split_once('^').unwrap_or(("1", piece));
+    push_times(
+        rt,
+        bytes,
+        times.parse::<usize>().expect(rt, "a number"),
+        text.as_bytes(),
+    );
 }
 
-// The bytes, with a line feed for each `&`.
-fn with_line_feeds(alloc: Global, bytes: &[u8]) -> Result<Vec<u8>, Fail> {
-    let mut made = Vec::new(alloc);
-    for byte in bytes {
-        made.push(if *byte == b'&' { b'\n' } else { *byte })?;
-    }
-    Ok(made)
-}
-
-/// The bytes that a text of a table stands for: `&` is a line feed, and between two of "`" a number, `^` and a text
-/// stand for the text so often.
-pub fn expanded(alloc: Global, text: &str) -> Result<Vec<u8>, Fail> {
+/// The bytes that a text of a table stands for, at most 5,000: `&` is a line feed, and between two of "`" a number, `^`
+/// and a text stand for the text so often.
+pub fn expanded(rt: &impl Abort, alloc: Global, text: &str) -> Vec<u8>
+    ensures { length result.items ≤ 5000 }
+{
     let mut bytes = Vec::new(alloc);
     for piece in text.split('`') {
-        push_piece(&mut bytes, piece)?;
+        push_piece(rt, &mut bytes, piece);
     }
-    with_line_feeds(alloc, &bytes)
+    assert!(rt; bytes.len() <= 5000);
+    bytes
 }
 
-/// Why the text isn't read, where it isn't. It has at most 5,000 bytes.
-pub fn error(alloc: Global, sort: Sort, text: &[u8]) -> Result<Option<SyntaxError>, Fail> {
-    if text.len() > 5000 {
-        return Err("the text is too long".into());
-    }
+/// Why the text isn't read, where it isn't.
+pub fn error(alloc: Global, sort: Sort, text: &[u8]) -> Option<SyntaxError>
+    requires { length text.now ≤ 5000 }
+{
     match sort {
-        Sort::Statements => Ok(read_statements(alloc, text).err()),
-        Sort::Expression => Ok(read_expression(alloc, text).err()),
-        Sort::Condition => Ok(read_condition(alloc, text).err()),
+        Sort::Statements => read_statements(alloc, text).err(),
+        Sort::Expression => read_expression(alloc, text).err(),
+        Sort::Condition => read_condition(alloc, text).err(),
     }
 }
 
-/// What is read of the text, as `Debug` shows it: each word by its bytes. The text has at most 5,000 bytes.
-pub fn told(alloc: Global, sort: Sort, text: &[u8]) -> Result<String, Fail> {
-    if text.len() > 5000 {
-        return Err("the text is too long".into());
-    }
-    match sort {
-        Sort::Statements => Ok(format!(in alloc; "{:?}", read_statements(alloc, text))?),
-        Sort::Expression => Ok(format!(in alloc; "{:?}", read_expression(alloc, text))?),
-        Sort::Condition => Ok(format!(in alloc; "{:?}", read_condition(alloc, text))?),
-    }
+/// What is read of the text, as `Debug` shows it: each word by its bytes.
+pub fn told(rt: &impl Abort, alloc: Global, sort: Sort, text: &[u8]) -> String
+    requires { length text.now ≤ 5000 }
+{
+    let told = match sort {
+        Sort::Statements => format!(in alloc; "{:?}", read_statements(alloc, text)),
+        Sort::Expression => format!(in alloc; "{:?}", read_expression(alloc, text)),
+        Sort::Condition => format!(in alloc; "{:?}", read_condition(alloc, text)),
+    };
+    told.expect(rt, "memory")
 }

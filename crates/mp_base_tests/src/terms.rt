@@ -1,65 +1,42 @@
 //! Each public call of terms once with memory at hand, and the spellings of names and signs.
 
-ghost use Rattle.std.specs.Prelude.{◌≡◌, IfOk};
+ghost use Rattle.std.specs.Prelude.{◌≡◌};
 
+use crate::values::{name, names, no_operations, term};
 use mp_term::{
-    Edit, Edits, KindId, Name, Names, OpDecl, OpId, Position, Sign, Signature, Term, Terms,
-    copy_term, node_count, normalise, well_formed,
+    Edit, Edits, KindId, Name, OpDecl, Position, Sign, Signature, Term, Terms, copy_term,
+    node_count, normalise, well_formed,
 };
 use std::alloc::Global;
-use std::test::Fail;
+use std::process::Abort;
 
 // An operation of one argument or more, associative, commutative and one-identity, with the sign +.
-fn plus(alloc: Global) -> Result<OpDecl, Fail>
-    ensures { IfOk result (λ decl. decl.least ≡ 1) }
+fn plus(rt: &impl Abort, alloc: Global) -> OpDecl
+    ensures { result.least ≡ 1 }
 {
-    Ok(OpDecl {
-        name: Name::new(alloc, b"plus")?,
+    OpDecl {
+        name: name(rt, alloc, b"plus"),
         least: 1,
         fixed: false,
         assoc: true,
         comm: true,
         one: true,
-        sign: Some(Sign::new(alloc, b"+")?),
-    })
+        sign: Some(Sign::new(alloc, b"+").expect(rt, "a sign")),
+    }
 }
 
-// The signatures stand in boxes: a box is quick to prove where it is dropped.
-
-fn plus_alone(alloc: Global) -> Result<Box<Signature>, Fail> {
-    let decl = plus(alloc)?;
-    let mut sig = Box::new(alloc, Signature::new(alloc)?)?;
-    if sig.add_op(decl).is_err() {
-        return Err("no operation".into());
-    }
-    Ok(sig)
+fn plus_alone(rt: &impl Abort, alloc: Global) -> Box<Signature> {
+    let mut sig = no_operations(rt, alloc);
+    sig.add_op(plus(rt, alloc)).expect(rt, "an operation");
+    sig
 }
 
 // A kind of one letter.
-fn letters(alloc: Global) -> Result<Box<Signature>, Fail> {
-    let mut members = Names::new(alloc);
-    members.push(Name::new(alloc, b"a")?)?;
-    let letter = Name::new(alloc, b"letter")?;
-    let mut sig = Box::new(alloc, Signature::new(alloc)?)?;
-    if sig.add_kind(letter, members).is_err() {
-        return Err("no kind".into());
-    }
-    Ok(sig)
-}
-
-// plus of the symbol of that name and of the rest
-fn sum(alloc: Global, text: &[u8], rest: Term) -> Result<Term, Fail> {
-    let mut args = Terms::new(alloc);
-    args.push(Term::Sym(Name::new(alloc, text)?))?;
-    args.push(rest)?;
-    Ok(Term::App(OpId(0), args))
-}
-
-// plus(b, plus(c, a))
-fn nested_sum(alloc: Global) -> Result<Term, Fail> {
-    let symbol = Term::Sym(Name::new(alloc, b"a")?);
-    let inner = sum(alloc, b"c", symbol)?;
-    sum(alloc, b"b", inner)
+fn letters(rt: &impl Abort, alloc: Global) -> Box<Signature> {
+    let mut sig = no_operations(rt, alloc);
+    sig.add_kind(name(rt, alloc, b"letter"), names(rt, alloc, b"a"))
+        .expect(rt, "a kind");
+    sig
 }
 
 // Spellings, and whether they are names and signs.
@@ -90,11 +67,10 @@ fn is_spelt(alloc: Global, text: &[u8], is_name: bool, is_sign: bool) -> bool {
 
 #[test]
 fn names_and_signs_are_spelt(rt: HostRuntime) {
-    for row in SPELLINGS {
+    for (text, is_name, is_sign) in SPELLINGS {
         assert!(rt;
-            is_spelt(rt.alloc(), row.0.as_bytes(), row.1, row.2),
-            "{}",
-            row.0
+            is_spelt(rt.alloc(), text.as_bytes(), *is_name, *is_sign),
+            "{text}"
         );
     }
 }
@@ -107,40 +83,35 @@ fn has_letters(sig: &Signature) -> bool {
 }
 
 #[test]
-fn kinds_hold_their_members(rt: HostRuntime) -> Result<(), Fail> {
-    let sig = letters(rt.alloc())?;
-    assert!(rt; has_letters(&sig));
-    Ok(())
+fn kinds_hold_their_members(rt: HostRuntime) {
+    assert!(rt; has_letters(&letters(&rt, rt.alloc())));
 }
 
 // The nodes of the normal form of a copy.
-fn normal_nodes(alloc: Global, sig: &Signature, term: &Term) -> Result<u64, Fail> {
-    let copy = copy_term(alloc, term)?;
-    if !well_formed(sig, &copy) {
-        return Err("the copy isn't well formed".into());
-    }
-    Ok(node_count(&normalise(alloc, sig, copy)?))
+fn normal_nodes(rt: &impl Abort, alloc: Global, sig: &Signature, term: &Term) -> u64 {
+    let copy = copy_term(alloc, term).expect(rt, "memory");
+    assert!(rt; well_formed(sig, &copy));
+    node_count(&normalise(alloc, sig, copy).expect(rt, "memory"))
 }
 
 #[test]
-fn sums_are_flattened(rt: HostRuntime) -> Result<(), Fail> {
-    let sig = plus_alone(rt.alloc())?;
-    let term = nested_sum(rt.alloc())?;
-    assert_eq!(rt; normal_nodes(rt.alloc(), &sig, &term)?, 4);
-    Ok(())
+fn sums_are_flattened(rt: HostRuntime) {
+    let alloc = rt.alloc();
+    let sig = plus_alone(&rt, alloc);
+    assert!(rt; normal_nodes(&rt, alloc, &sig, &term(&rt, alloc, b"A(bA(ca))")) == 4);
 }
 
 // An edit of the second argument that gives no term.
-fn edit(alloc: Global) -> Result<Edit, Fail> {
-    let position = Position::new(alloc, &[1])?;
-    let terms = Terms::new(alloc);
-    Ok(Edit { position, terms })
+fn edit(rt: &impl Abort, alloc: Global) -> Edit {
+    Edit {
+        position: Position::new(alloc, &[1]).expect(rt, "memory"),
+        terms: Terms::new(alloc),
+    }
 }
 
 #[test]
-fn edits_are_listed(rt: HostRuntime) -> Result<(), Fail> {
+fn edits_are_listed(rt: HostRuntime) {
     let mut edits = Edits::new(rt.alloc());
-    edits.push(edit(rt.alloc())?)?;
+    edits.push(edit(&rt, rt.alloc())).expect(&rt, "memory");
     assert!(rt; edits.len() == 1 && edits.get(0).is_some());
-    Ok(())
 }

@@ -1,15 +1,15 @@
 //! Resume tokens that are read and printed again, and texts that are none.
 
 use crate::syntax_texts::expanded;
+use crate::values::name;
 use mp_io::MemorySink;
 use mp_table::Rank;
-use mp_term::Name;
 use mp_token::{
     Token, TokenEntries, TokenFault, printed_tokens_are_read, read_token, spellings_are_unique,
     write_token,
 };
 use std::alloc::Global;
-use std::test::Fail;
+use std::process::Abort;
 
 // An entry: its ranks, and whether it is collapsed.
 type Entry = (&'static [Rank], bool);
@@ -33,14 +33,18 @@ const TOKENS: &[(&str, &[Entry])] = &[
     ("s/r/4294967295", &[(&[Rank(4294967295)], false)]),
 ];
 
+// Whether the entry of that index is this.
+fn is_entry(entries: &TokenEntries, index: usize, wanted: &Entry) -> bool {
+    match entries.get(index) {
+        Some(found) => found.0 == wanted.0 && found.1 == wanted.1,
+        None => false,
+    }
+}
+
 // Whether the entries are these.
 fn has_entries(entries: &TokenEntries, wanted: &[Entry]) -> bool {
-    for (index, (ranks, collapsed)) in wanted.iter().enumerate() {
-        let is_wanted = match entries.get(index) {
-            Some(found) => found.0 == *ranks && found.1 == *collapsed,
-            None => false,
-        };
-        if !is_wanted {
+    for (index, entry) in wanted.iter().enumerate() {
+        if !is_entry(entries, index, entry) {
             return false;
         }
     }
@@ -48,49 +52,44 @@ fn has_entries(entries: &TokenEntries, wanted: &[Entry]) -> bool {
 }
 
 // The token of the subject s and the rule r with these entries.
-fn token(alloc: Global, entries: &[Entry]) -> Result<Token, Fail> {
-    let mut made = TokenEntries::new(alloc);
-    for (ranks, collapsed) in entries {
-        made.push(ranks, *collapsed)?;
+fn token(rt: &impl Abort, alloc: Global, wanted: &[Entry]) -> Token {
+    let mut entries = TokenEntries::new(alloc);
+    for (ranks, collapsed) in wanted {
+        entries.push(ranks, *collapsed).expect(rt, "memory");
     }
-    let subject = Name::new(alloc, b"s")?;
-    let rule = Name::new(alloc, b"r")?;
-    Ok(Token {
-        subject,
-        rule,
-        entries: made,
-    })
+    Token {
+        subject: name(rt, alloc, b"s"),
+        rule: name(rt, alloc, b"r"),
+        entries,
+    }
 }
 
 // Whether the token has an entry, and its text is this.
-fn is_printed(alloc: Global, token: &Token, text: &[u8]) -> Result<bool, Fail> {
+fn is_printed(rt: &impl Abort, alloc: Global, token: &Token, text: &[u8]) -> bool {
     if token.entries.len() == 0 {
-        return Ok(false);
+        return false;
     }
-    let Ok(mut sink) = MemorySink::new(alloc, 200, Vec::new(alloc)) else {
-        return Err("memory".into());
-    };
-    Ok(write_token(token, &mut sink).is_ok() && sink.content() == text)
+    let mut sink = MemorySink::new(alloc, 200, Vec::new(alloc)).expect(rt, "memory");
+    write_token(token, &mut sink).is_ok() && sink.content() == text
 }
 
-// Whether the text is read as a token with these entries, which is printed so again.
-fn is_token(alloc: Global, text: &str, entries: &[Entry]) -> Result<bool, Fail> {
-    match read_token(alloc, text.as_bytes()) {
-        Ok(found) => {
-            Ok(has_entries(&found.entries, entries) && is_printed(alloc, &found, text.as_bytes())?)
-        }
-        Err(_) => Ok(false),
-    }
+// Whether the token of the entries is printed as the text, which is read as a token with these entries, which is
+// printed so again.
+fn is_token(rt: &impl Abort, alloc: Global, text: &[u8], entries: &[Entry]) -> bool {
+    let found = read_token(alloc, text).expect(rt, "a token");
+    is_printed(rt, alloc, &token(rt, alloc, entries), text)
+        && has_entries(&found.entries, entries)
+        && is_printed(rt, alloc, &found, text)
 }
 
 #[test]
-fn tokens_are_read_and_printed(rt: HostRuntime) -> Result<(), Fail> {
+fn tokens_are_read_and_printed(rt: HostRuntime) {
     for (text, entries) in TOKENS {
-        let made = token(rt.alloc(), entries)?;
-        assert!(rt; is_printed(rt.alloc(), &made, text.as_bytes())?, "{text}");
-        assert!(rt; is_token(rt.alloc(), text, entries)?, "{text}");
+        assert!(rt;
+            is_token(&rt, rt.alloc(), text.as_bytes(), entries),
+            "{text}"
+        );
     }
-    Ok(())
 }
 
 // Texts, and how many of their bytes a token begins with; none is refused for a token itself.
@@ -124,22 +123,21 @@ const TEXTS: &[(&str, Option<u64>)] = &[
     ("s/r/1&", Some(5)),
 ];
 
-// Where the bytes are refused, if they are.
-fn refused_at(alloc: Global, bytes: &[u8]) -> Result<Option<u64>, Fail> {
+// Whether the bytes are refused there, or not at all.
+fn is_refused(alloc: Global, bytes: &[u8], wanted: Option<u64>) -> bool {
     match read_token(alloc, bytes) {
-        Ok(_) => Ok(None),
-        Err(TokenFault::Spelling { at }) => Ok(Some(at)),
-        Err(TokenFault::Memory) => Err("memory".into()),
+        Ok(_) => wanted.is_none(),
+        Err(TokenFault::Spelling { at }) => wanted == Some(at),
+        Err(TokenFault::Memory) => false,
     }
 }
 
 #[test]
-fn texts_that_are_no_tokens_are_refused(rt: HostRuntime) -> Result<(), Fail> {
+fn texts_that_are_no_tokens_are_refused(rt: HostRuntime) {
     for (text, at) in TEXTS {
-        let bytes = expanded(rt.alloc(), text)?;
-        assert_eq!(rt; refused_at(rt.alloc(), &bytes)?, *at, "{text}");
+        let bytes = expanded(&rt, rt.alloc(), text);
+        assert!(rt; is_refused(rt.alloc(), &bytes, *at), "{text}");
     }
-    Ok(())
 }
 
 #[test]

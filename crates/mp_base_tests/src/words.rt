@@ -2,7 +2,7 @@
 
 use mp_words::{Action, Engine, Request, read_words, words_make_requests};
 use std::alloc::Global;
-use std::test::Fail;
+use std::process::Abort;
 
 // What is asked for: the action, the file, the engine, the limit, the resume token and the number of steps.
 type Asked = (
@@ -14,23 +14,32 @@ type Asked = (
     u32,
 );
 
-// In both tables a blank stands between two words; a word may be empty.
+// In both tables a blank stands between two words, of which the first is the program's name; a word may be empty.
 
 // Words that make a request, and what they ask for.
 const REQUESTS: &[(&str, Asked)] = &[
     (
-        "match t",
+        "matchpy match t",
         (Action::Match, "t", Engine::One, None, None, 1000),
     ),
-    ("show -", (Action::Show, "-", Engine::One, None, None, 1000)),
-    ("show ", (Action::Show, "", Engine::One, None, None, 1000)),
     (
-        "rewrite t",
+        "matchpy show -",
+        (Action::Show, "-", Engine::One, None, None, 1000),
+    ),
+    (
+        "matchpy show ",
+        (Action::Show, "", Engine::One, None, None, 1000),
+    ),
+    (
+        "matchpy rewrite t",
         (Action::Rewrite, "t", Engine::One, None, None, 1000),
     ),
-    ("edit t", (Action::Edit, "t", Engine::One, None, None, 1000)),
     (
-        "--resume s/r/1 match t --limit=3",
+        "matchpy edit t",
+        (Action::Edit, "t", Engine::One, None, None, 1000),
+    ),
+    (
+        "matchpy --resume s/r/1 match t --limit=3",
         (
             Action::Match,
             "t",
@@ -41,11 +50,11 @@ const REQUESTS: &[(&str, Asked)] = &[
         ),
     ),
     (
-        "match --limit 0000000003 --engine=one t --resume=",
+        "matchpy match --limit 0000000003 --engine=one t --resume=",
         (Action::Match, "t", Engine::One, Some(3), Some(""), 1000),
     ),
     (
-        "match t --limit 1000000000 --resume -",
+        "matchpy match t --limit 1000000000 --resume -",
         (
             Action::Match,
             "t",
@@ -56,77 +65,78 @@ const REQUESTS: &[(&str, Asked)] = &[
         ),
     ),
     (
-        "match t --engine many",
+        "matchpy match t --engine many",
         (Action::Match, "t", Engine::Many, None, None, 1000),
     ),
     (
-        "--engine=many match t --limit=1",
+        "matchpy --engine=many match t --limit=1",
         (Action::Match, "t", Engine::Many, Some(1), None, 1000),
     ),
     (
-        "match t --engine net",
+        "matchpy match t --engine net",
         (Action::Match, "t", Engine::Net, None, None, 1000),
     ),
     (
-        "--limit=2 match --engine=net -- -t",
+        "matchpy --limit=2 match --engine=net -- -t",
         (Action::Match, "-t", Engine::Net, Some(2), None, 1000),
     ),
     (
-        "rewrite t --max 1000000",
+        "matchpy rewrite t --max 1000000",
         (Action::Rewrite, "t", Engine::One, None, None, 1_000_000),
     ),
     (
-        "--max=0 rewrite -- -t",
+        "matchpy --max=0 rewrite -- -t",
         (Action::Rewrite, "-t", Engine::One, None, None, 0),
     ),
     (
-        "-- edit --max",
+        "matchpy -- edit --max",
         (Action::Edit, "--max", Engine::One, None, None, 1000),
     ),
     (
-        "show -- --",
+        "matchpy show -- --",
         (Action::Show, "--", Engine::One, None, None, 1000),
     ),
 ];
 
 // Words that make no request, a line each.
 const OTHERS: &str = "\
-match\n\
---limit 3\n\
-help t\n\
-Match t\n\
-match t u\n\
-show -- t -u\n\
-match t --help\n\
--h\n\
-match t -x\n\
-match t --engin=one\n\
-match t --engine=all\n\
-match t --engine=many --resume=s/r/1\n\
-match t --resume  --engine many\n\
-rewrite t --engine=many\n\
-match t --engine=program\n\
-match t --engine=Net\n\
-match t --engine=one --engine=net\n\
-match t --engine=net --resume=s/r/1\n\
-match t --resume  --engine net\n\
-edit t --engine=net\n\
-match t --limit\n\
-match t --limit -- 3\n\
-match t --limit=1 --limit=1\n\
-match t --limit=0\n\
-match t --limit=1000000001\n\
-match t --limit=00000000003\n\
-match t --limit=9999999999\n\
-match t --limit=\n\
-match t --limit=+3\n\
-match t --limit=3x\n\
-match t --limit -3\n\
-match t --max=1\n\
-rewrite t --max=1000001\n\
-rewrite t --engine=one\n\
-show t --resume=x\n\
-edit t --limit=1";
+matchpy\n\
+matchpy match\n\
+matchpy --limit 3\n\
+matchpy help t\n\
+matchpy Match t\n\
+matchpy match t u\n\
+matchpy show -- t -u\n\
+matchpy match t --help\n\
+matchpy -h\n\
+matchpy match t -x\n\
+matchpy match t --engin=one\n\
+matchpy match t --engine=all\n\
+matchpy match t --engine=many --resume=s/r/1\n\
+matchpy match t --resume  --engine many\n\
+matchpy rewrite t --engine=many\n\
+matchpy match t --engine=program\n\
+matchpy match t --engine=Net\n\
+matchpy match t --engine=one --engine=net\n\
+matchpy match t --engine=net --resume=s/r/1\n\
+matchpy match t --resume  --engine net\n\
+matchpy edit t --engine=net\n\
+matchpy match t --limit\n\
+matchpy match t --limit -- 3\n\
+matchpy match t --limit=1 --limit=1\n\
+matchpy match t --limit=0\n\
+matchpy match t --limit=1000000001\n\
+matchpy match t --limit=00000000003\n\
+matchpy match t --limit=9999999999\n\
+matchpy match t --limit=\n\
+matchpy match t --limit=+3\n\
+matchpy match t --limit=3x\n\
+matchpy match t --limit -3\n\
+matchpy match t --max=1\n\
+matchpy rewrite t --max=1000001\n\
+matchpy rewrite t --engine=one\n\
+matchpy show t --resume=x\n\
+matchpy edit t --limit=1";
 
 // Whether this is what is asked for; `None` where there is no request.
 fn is_asked(request: Option<Request>, asked: Option<&Asked>) -> bool {
@@ -144,32 +154,30 @@ fn is_asked(request: Option<Request>, asked: Option<&Asked>) -> bool {
     }
 }
 
-// Whether this is what the words behind the program's name ask for.
-fn are_asking(alloc: Global, words: &str, asked: Option<&Asked>) -> Result<bool, Fail> {
+// Whether this is what the words ask for.
+fn are_asking(rt: &impl Abort, alloc: Global, words: &str, asked: Option<&Asked>) -> bool {
     let mut all = Vec::new(alloc);
-    all.push("matchpy")?;
     for word in words.split(' ') {
-        all.push(word)?;
+        all.push(word).expect(rt, "memory");
     }
-    let request = read_words(alloc, all.as_slice())?;
-    Ok(is_asked(request, asked))
+    is_asked(
+        read_words(alloc, all.as_slice()).expect(rt, "memory"),
+        asked,
+    )
 }
 
 #[test]
-fn words_make_their_requests(rt: HostRuntime) -> Result<(), Fail> {
+fn words_make_their_requests(rt: HostRuntime) {
     for (words, asked) in REQUESTS {
-        assert!(rt; are_asking(rt.alloc(), words, Some(asked))?, "{words}");
+        assert!(rt; are_asking(&rt, rt.alloc(), words, Some(asked)), "{words}");
     }
-    Ok(())
 }
 
 #[test]
-fn other_words_make_no_request(rt: HostRuntime) -> Result<(), Fail> {
-    assert!(rt; is_asked(read_words(rt.alloc(), &["matchpy"])?, None));
+fn other_words_make_no_request(rt: HostRuntime) {
     for words in OTHERS.split('\n') {
-        assert!(rt; are_asking(rt.alloc(), words, None)?, "{words}");
+        assert!(rt; are_asking(&rt, rt.alloc(), words, None), "{words}");
     }
-    Ok(())
 }
 
 #[test]

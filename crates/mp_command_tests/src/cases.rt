@@ -462,19 +462,23 @@ edit shopping: 0.1 -> 2, 1 -> [item(rye, 1), item(wheat, 1)], 2 -> []; edit shop
 ----
 ";
 
-/// A rule on single terms, tuples and multisets, and its subject: what stands before the condition, and behind it.
-pub const CONDITIONED: [&str; 2] = [
-    "op h 10; op l 0+; op s 0+ comm; op f 2; op g 1; kind v: a b; kind w: c;
-rule r: h(x_, n_, t_, l(y__), l(p__), l(q__), l(e___), s(m__), s(z__), s(o___)) if ",
-    ";
-subject s: h(a, 7, f(g(a), b), l(a), l(b, a), l(f(a, b), g(b)), l(), s(a), s(a, b), s());
-",
-];
+/// A rule on single terms, tuples and multisets, before its condition.
+pub const BEFORE: &str = "\
+op h 10; op l 0+; op s 0+ comm; op f 2; op g 1; kind v: a b; kind w: c;
+rule r: h(x_, n_, t_, l(y__), l(p__), l(q__), l(e___), s(m__), s(z__), s(o___)) if ";
 
-/// Conditions of that rule and, behind `|`, the status: 0 where they hold of these values, and 1 where they don't.
-///
-/// x -> a, n -> 7, t -> f(g(a), b), y -> (a), p -> (b, a), q -> (f(a, b), g(b)), e -> (), m -> {a}, z -> {a, b},
-/// o -> {}
+/// What stands behind the condition: the rule's subject.
+pub const BEHIND: &str = ";
+subject s: h(a, 7, f(g(a), b), l(a), l(b, a), l(f(a, b), g(b)), l(), s(a), s(a, b), s());
+";
+
+/// What is printed where the condition holds.
+pub const HOLDS: &str = "\
+s r {x -> a, n -> 7, t -> f(g(a), b), y -> (a), p -> (b, a), q -> (f(a, b), g(b)), e -> (), m -> {a}, z -> {a, b}, \
+o -> {}}
+";
+
+/// Conditions of that rule and, behind `|`, the status: 0 where they hold, and 1 where they don't.
 pub const CONDITIONS: &str = "\
 same($x, a)|0
 same($y, a)|0
@@ -729,3 +733,22 @@ subject s: a; edit s: . -> [];|1:23: Arity\n\
 op f 2; rule r: f(x_, y_) if less($x, $z);|1:39: UnboundVariable\n\
 op g 0+; rule r: g(x_{2}) if less($x, a);|1:35: ConditionKind\n\
 subject s: a; edit s: . -> x_;|1:28: WildcardInTerm";
+
+/// The file of words that are refused.
+pub const FILE: &str = "op f 2; rule r: f(x_, y_); subject s: f(a, b);";
+
+/// Words that are refused, before a bar each.
+pub const REFUSED: &str = "\
+match|\n\
+match -t|\n\
+match t --limit 0|\n\
+match t --engine two|\n\
+match t --help|\n\
+rewrite t --resume s/r/2;0;1|\n\
+match t t|\n\
+show|\n\
+|";
+
+/// What is said of them.
+pub const USAGE: &str =
+    "usage: matchpy ACTION [FILE ..] [--engine E] [--limit N] [--resume TOKEN] [--max N]\n";

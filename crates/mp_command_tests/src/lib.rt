@@ -1,4 +1,8 @@
-//! Tests of the command: runs of it over files in memory, and over devices that fail.
+//! Tests of the command, and of many rules at once, which it stands on.
+//!
+//! They are runs of the command over files in memory, and over devices that fail; nets, with what they find on
+//! subjects, how many nodes they read and the rules that they refuse; and the tree of what rules begin with alike, with
+//! its states and the walk over it.
 #![tactic(auto)]
 
 #[cfg(test)]
@@ -6,10 +10,26 @@ mod cases;
 #[cfg(test)]
 mod changes;
 #[cfg(test)]
+mod failing;
+#[cfg(test)]
 mod listed;
+#[cfg(test)]
+mod net_rows;
+#[cfg(test)]
+mod nets;
 #[cfg(test)]
 mod netted;
 #[cfg(test)]
+mod ran;
+#[cfg(test)]
 mod runs;
 #[cfg(test)]
+mod states;
+#[cfg(test)]
+mod texts;
+#[cfg(test)]
+mod walk_rows;
+#[cfg(test)]
 mod walked;
+#[cfg(test)]
+mod walks;

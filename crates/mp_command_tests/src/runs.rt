@@ -1,334 +1,171 @@
-//! Runs of the whole command over files in memory, and over devices that fail.
+//! Runs of the whole command over files in memory.
 
-use crate::cases::{CONDITIONED, CONDITIONS, EXAMPLES, FAULTS, MATCHES, RUNS};
+use crate::cases::{
+    BEFORE, BEHIND, CONDITIONS, EXAMPLES, FAULTS, FILE, HOLDS, MATCHES, REFUSED, RUNS, USAGE,
+};
 use crate::changes::CHANGES;
 use crate::listed::LISTED;
 use crate::netted::NETTED;
+use crate::ran::{SOUND, check_run, ran};
+use crate::texts::parts;
 use crate::walked::WALKED;
-use mp_command::run;
-use mp_io::{MemoryShelf, MemorySink};
 use std::alloc::Global;
-use std::test::Fail;
+use std::process::Abort;
 
-const USAGE: &str =
-    "usage: matchpy ACTION [FILE ..] [--engine E] [--limit N] [--resume TOKEN] [--max N]\n";
-
-// Which calls fail, by their numbers from 0: of the shelf, of the sink for lines, and of the sink for what is said.
-// Lines have so many bytes of room.
+// What the cases of a table say.
 #[derive(Clone, Copy)]
-struct Devices<'a> {
-    shelf: &'a [u64],
-    out: &'a [u64],
-    err: &'a [u64],
-    room: usize,
+enum Sort {
+    // A file and, behind a line of bars, the lines of its matches.
+    Matched,
+    // The same, for a walk over all rules at once, which finds the lines in whatever order.
+    Walked,
+    // The same, for lists that are cut behind each match and resumed there.
+    Resumed,
+    // A condition and, behind `|`, the status of a run over the rule with that condition.
+    Condition,
+    // A file and, behind `|`, the place and the kind of its first fault.
+    Fault,
+    // The status and the words, the file, what is written, and what is said.
+    Run,
+    // Words that are refused.
+    Refused,
 }
 
-const SOUND: Devices<'static> = Devices {
-    shelf: &[],
-    out: &[],
-    err: &[],
-    room: 2000,
-};
-
-// What a run answered, wrote and said.
-#[derive(Drop)]
-struct Outcome {
-    status: u8,
-    out: Vec<u8>,
-    err: Vec<u8>,
-}
-
-impl Outcome {
-    fn is(&self, status: u8, out: &str, err: &str) -> bool {
-        self.status == status
-            && self.out.as_slice() == out.as_bytes()
-            && self.err.as_slice() == err.as_bytes()
+// Stops unless the printed lines are these, in whatever order.
+fn check_lines(rt: &impl Abort, printed: &str, lines: &str) {
+    for line in lines.split_inclusive('\n') {
+        let (before, _) = parts(rt, printed, line);
+        assert!(rt; before.is_empty() || before.ends_with('\n'), "{line}");
     }
+    assert!(rt; printed.len() == lines.len(), "{lines}");
 }
 
-fn owned(alloc: Global, words: &[&str]) -> Result<Vec<String>, Fail> {
-    let mut all = Vec::new(alloc);
-    for word in words {
-        all.push(String::from_str(alloc, word)?)?;
-    }
-    Ok(all)
+fn check_walked(rt: &impl Abort, alloc: Global, file: &str, lines: &str) {
+    let ran = ran(rt, alloc, &SOUND, "match t --engine many", file);
+    let printed = ran.printed(rt);
+    assert!(rt; ran.is(u8::from(lines.is_empty()), printed, ""), "{file}");
+    check_lines(rt, printed, lines);
 }
 
-// A run over one file `t`.
-fn ran(alloc: Global, words: &[&str], file: &[u8], devices: &Devices<'_>) -> Result<Outcome, Fail> {
-    let words = owned(alloc, words)?;
-    let mut shelf = MemoryShelf::new(alloc, devices.shelf.to_vec(alloc)?);
-    if shelf.add("t", file).is_err() {
-        return Err("memory".into());
-    }
-    match (
-        MemorySink::new(alloc, devices.room, devices.out.to_vec(alloc)?),
-        MemorySink::new(alloc, 2000, devices.err.to_vec(alloc)?),
-    ) {
-        (Ok(mut out), Ok(mut err)) => Ok(Outcome {
-            status: run(alloc, &words, &mut shelf, &mut out, &mut err),
-            out: out.content().to_vec(alloc)?,
-            err: err.content().to_vec(alloc)?,
-        }),
-        _ => Err("memory".into()),
-    }
-}
-
-// Whether the matches of the file are the lines behind it.
-fn is_matched(alloc: Global, case: &str) -> Result<bool, Fail> {
-    let Some((file, lines)) = case.split_once("----\n") else {
-        return Err("no case".into());
+// Whether the printed lines are cut. Where they are, what is listed from their token on are the other lines; where they
+// aren't, they are all lines.
+fn is_cut(rt: &impl Abort, alloc: Global, file: &str, lines: &str, printed: &str) -> bool {
+    let Some((front, token)) = printed.split_once("more ") else {
+        assert!(rt; printed == lines, "{file}");
+        return false;
     };
-    let ran = ran(alloc, &["match", "t"], file.as_bytes(), &SOUND)?;
-    let status = if lines.is_empty() { 1 } else { 0 };
-    Ok(ran.is(status, lines, ""))
+    let behind = lines.strip_prefix(front).expect(rt, "other lines");
+    let words = format!(in alloc; "match t --resume {}", token.trim()).expect(rt, "memory");
+    check_run(rt, alloc, words.as_str(), file, 0, behind, "");
+    true
 }
 
-#[test]
-fn each_match_is_printed_once_in_order(rt: HostRuntime) -> Result<(), Fail> {
-    for table in [MATCHES, EXAMPLES] {
-        for case in table.split("====\n") {
-            assert!(rt; is_matched(rt.alloc(), case)?, "{case}");
-        }
-    }
-    Ok(())
-}
-
-// Whether a walk over all rules at once finds the lines behind the file, in whatever order.
-fn is_walked(alloc: Global, case: &str) -> Result<bool, Fail> {
-    let Some((file, lines)) = case.split_once("----\n") else {
-        return Err("no case".into());
-    };
-    let words = ["match", "t", "--engine", "many"];
-    let ran = ran(alloc, &words, file.as_bytes(), &SOUND)?;
-    let Ok(printed) = str::from_utf8(ran.out.as_slice()) else {
-        return Err("no text".into());
-    };
-    for line in lines.split('\n') {
-        if !printed.split('\n').any(|other| other == line) {
-            return Ok(false);
-        }
-    }
-    let status = if lines.is_empty() { 1 } else { 0 };
-    Ok(ran.status == status && printed.len() == lines.len())
-}
-
-#[test]
-fn a_walk_over_all_rules_finds_the_same_matches(rt: HostRuntime) -> Result<(), Fail> {
-    for table in [MATCHES, EXAMPLES] {
-        for case in table.split("====\n") {
-            assert!(rt; is_walked(rt.alloc(), case)?, "{case}");
-        }
-    }
-    Ok(())
-}
-
-// Whether the matches of the file, cut behind each of them and resumed there, are those of the whole list.
-fn is_resumed(alloc: Global, case: &str) -> Result<bool, Fail> {
-    let Some((file, lines)) = case.split_once("----\n") else {
-        return Err("no case".into());
-    };
-    let file = file.as_bytes();
+fn check_resumed(rt: &impl Abort, alloc: Global, file: &str, lines: &str) {
     for limit in 1..30_u32 {
-        let limit = format!(in alloc; "{limit}")?;
-        let cut = ran(
-            alloc,
-            &["match", "t", "--limit", limit.as_str()],
-            file,
-            &SOUND,
-        )?;
-        let Ok(printed) = str::from_utf8(cut.out.as_slice()) else {
-            return Err("no text".into());
-        };
-        let Some((front, token)) = printed.split_once("more ") else {
-            return Ok(printed == lines);
-        };
-        let Some(behind) = lines.strip_prefix(front) else {
-            return Ok(false);
-        };
-        let words = ["match", "t", "--resume", token.trim()];
-        if !ran(alloc, &words, file, &SOUND)?.is(0, behind, "") {
-            return Ok(false);
+        let words = format!(in alloc; "match t --limit {limit}").expect(rt, "memory");
+        let ran = ran(rt, alloc, &SOUND, words.as_str(), file);
+        if !is_cut(rt, alloc, file, lines, ran.printed(rt)) {
+            return;
         }
     }
-    Err("more lines".into())
+    panic!(rt; "more lines: {file}");
 }
 
-#[test]
-fn a_list_that_is_cut_goes_on_behind_its_token(rt: HostRuntime) -> Result<(), Fail> {
-    for table in [MATCHES, EXAMPLES] {
-        for case in table.split("====\n") {
-            assert!(rt; is_resumed(rt.alloc(), case)?, "{case}");
-        }
-    }
-    Ok(())
-}
-
-// Whether the run over the rule with the condition has the status behind it.
-fn has_status(alloc: Global, case: &str) -> Result<bool, Fail> {
-    let Some((condition, wanted)) = case.split_once('|') else {
-        return Err("no case".into());
+fn check_condition(rt: &impl Abort, alloc: Global, condition: &str, status: &str) {
+    let file = format!(in alloc; "{BEFORE}{condition}{BEHIND}").expect(rt, "memory");
+    let (status, out) = match status {
+        "0" => (0, HOLDS),
+        "1" => (1, ""),
+        _ => panic!(rt; "no status"),
     };
-    let [before, behind] = CONDITIONED;
-    let file = format!(in alloc; "{before}{condition}{behind}")?;
-    match ran(alloc, &["match", "t"], file.as_bytes(), &SOUND)?.status {
-        0 => Ok(wanted == "0"),
-        1 => Ok(wanted == "1"),
-        _ => Err("a fault".into()),
+    check_run(rt, alloc, "match t", file.as_str(), status, out, "");
+}
+
+fn check_fault(rt: &impl Abort, alloc: Global, file: &str, fault: &str) {
+    let said = format!(in alloc; "matchpy: t:{fault}\n").expect(rt, "memory");
+    check_run(rt, alloc, "match t", file, 3, "", said.as_str());
+}
+
+fn check_words(rt: &impl Abort, alloc: Global, line: &str, rest: &str) {
+    let (status, words) = parts(rt, line.trim_end(), " ");
+    let (file, rest) = parts(rt, rest, "----\n");
+    let (out, err) = parts(rt, rest, "----\n");
+    let status = status.parse::<u8>().expect(rt, "no status");
+    check_run(rt, alloc, words, file, status, out, err);
+}
+
+fn check_matched(rt: &impl Abort, alloc: Global, file: &str, lines: &str) {
+    let status = u8::from(lines.is_empty());
+    check_run(rt, alloc, "match t", file, status, lines, "");
+}
+
+fn check_refused(rt: &impl Abort, alloc: Global, words: &str) {
+    check_run(rt, alloc, words, FILE, 2, "", USAGE);
+}
+
+// Tries a case, of which these are the parts before and behind the first mark.
+fn check(rt: &impl Abort, alloc: Global, sort: Sort, front: &str, back: &str) {
+    match sort {
+        Sort::Matched => check_matched(rt, alloc, front, back),
+        Sort::Walked => check_walked(rt, alloc, front, back),
+        Sort::Resumed => check_resumed(rt, alloc, front, back),
+        Sort::Condition => check_condition(rt, alloc, front, back),
+        Sort::Fault => check_fault(rt, alloc, front, back),
+        Sort::Run => check_words(rt, alloc, front, back),
+        Sort::Refused => check_refused(rt, alloc, front),
     }
 }
 
-#[test]
-fn rules_match_where_their_conditions_hold(rt: HostRuntime) -> Result<(), Fail> {
-    for case in CONDITIONS.split('\n') {
-        assert!(rt; has_status(rt.alloc(), case)?, "{case}");
-    }
-    Ok(())
-}
-
-// Whether the run of the case writes, says and answers what the case has.
-fn is_run(alloc: Global, case: &str) -> Result<bool, Fail> {
-    let mut parts = case.split("----\n");
-    let (Some(line), Some(file), Some(out), Some(err)) = (
-        parts.next(),
-        parts.next(),
-        parts.next(),
-        parts.next(),
-    ) else {
-        return Err("no case".into());
+// Tries each case of the table, whose cases are lines or files.
+fn check_all(rt: &impl Abort, alloc: Global, sort: Sort, table: &str) {
+    let (between, mark) = match sort {
+        Sort::Condition | Sort::Fault | Sort::Refused => ("\n", "|"),
+        _ => ("====\n", "----\n"),
     };
-    let mut words = Vec::new(alloc);
-    for word in line.trim().split(' ') {
-        words.push(word)?;
+    for case in table.split(between) {
+        let (front, back) = parts(rt, case, mark);
+        check(rt, alloc, sort, front, back);
     }
-    let [status, words @ ..] = words.as_slice() else {
-        return Err("no words".into());
-    };
-    let Ok(status) = status.parse::<u8>() else {
-        return Err("no status".into());
-    };
-    Ok(ran(alloc, words, file.as_bytes(), &SOUND)?.is(status, out, err))
 }
 
 #[test]
-fn words_and_files_decide_what_is_printed(rt: HostRuntime) -> Result<(), Fail> {
-    for table in [RUNS, CHANGES, LISTED, NETTED, WALKED] {
-        for case in table.split("====\n") {
-            assert!(rt; is_run(rt.alloc(), case)?, "{case}");
-        }
-    }
-    Ok(())
-}
-
-// Whether the run over the file of the line says what stands behind it, and nothing else comes of it.
-fn is_refused(alloc: Global, case: &str) -> Result<bool, Fail> {
-    let Some((file, said)) = case.split_once('|') else {
-        return Err("no case".into());
-    };
-    let line = format!(in alloc; "matchpy: t:{said}\n")?;
-    Ok(ran(alloc, &["match", "t"], file.as_bytes(), &SOUND)?.is(3, "", line.as_str()))
+fn each_match_is_printed_once_in_order(rt: HostRuntime) {
+    check_all(&rt, rt.alloc(), Sort::Matched, MATCHES);
+    check_all(&rt, rt.alloc(), Sort::Matched, EXAMPLES);
 }
 
 #[test]
-fn the_first_fault_is_told_with_its_place(rt: HostRuntime) -> Result<(), Fail> {
-    for case in FAULTS.split('\n') {
-        assert!(rt; is_refused(rt.alloc(), case)?, "{case}");
-    }
-    Ok(())
+fn a_walk_over_all_rules_finds_the_same_matches(rt: HostRuntime) {
+    check_all(&rt, rt.alloc(), Sort::Walked, MATCHES);
+    check_all(&rt, rt.alloc(), Sort::Walked, EXAMPLES);
 }
 
 #[test]
-fn other_words_are_refused(rt: HostRuntime) -> Result<(), Fail> {
-    let file = b"op f 2; rule r: f(x_, y_); subject s: f(a, b);";
-    for words in [
-        ["match"].as_slice(),
-        &["match", "-t"],
-        &["match", "t", "--limit", "0"],
-        &["match", "t", "--engine", "two"],
-        &["match", "t", "--help"],
-        &["rewrite", "t", "--resume", "s/r/2;0;1"],
-        &["match", "t", "t"],
-        &["show"],
-        &[],
-    ] {
-        assert!(rt; ran(rt.alloc(), words, file, &SOUND)?.is(2, "", USAGE));
-    }
-    Ok(())
+fn a_list_that_is_cut_goes_on_behind_its_token(rt: HostRuntime) {
+    check_all(&rt, rt.alloc(), Sort::Resumed, MATCHES);
+    check_all(&rt, rt.alloc(), Sort::Resumed, EXAMPLES);
 }
 
 #[test]
-fn a_file_may_have_so_many_bytes_and_no_more(rt: HostRuntime) -> Result<(), Fail> {
-    let spaces = vec![in rt.alloc(); b' '; 1_048_577]?;
-    let (longest, _) = spaces.as_slice().split_at(1_048_576);
-    assert!(rt; ran(rt.alloc(), &["match", "t"], longest, &SOUND)?.is(1, "", ""));
-    let refused = ran(rt.alloc(), &["match", "t"], &spaces, &SOUND)?;
-    assert!(rt; refused.is(4, "", "matchpy: t: too long\n"));
-    Ok(())
+fn rules_match_where_their_conditions_hold(rt: HostRuntime) {
+    check_all(&rt, rt.alloc(), Sort::Condition, CONDITIONS);
 }
 
-// Two matches, and the lines of both.
-const TWO: &[u8] = b"op f 2; rule r: f(x_, y_); subject s: f(a, b); subject t: f(c, d);";
-
-const FIRST: &str = "s r {x -> a, y -> b}\n";
-
-const BOTH: &str = "s r {x -> a, y -> b}\nt r {x -> c, y -> d}\n";
+const TABLES: &[&str] = &[RUNS, CHANGES, LISTED, NETTED, WALKED];
 
 #[test]
-fn a_failing_call_of_the_shelf_gives_status_4(rt: HostRuntime) -> Result<(), Fail> {
-    for (shelf, said) in [
-        ([0].as_slice(), "matchpy: t: cannot open\n"),
-        (&[1], "matchpy: t: cannot read\n"),
-        (&[2], "matchpy: t: cannot read\n"),
-    ] {
-        let devices = Devices { shelf, ..SOUND };
-        assert!(rt; ran(rt.alloc(), &["match", "t"], TWO, &devices)?.is(4, "", said));
+fn words_and_files_decide_what_is_printed(rt: HostRuntime) {
+    for table in TABLES {
+        check_all(&rt, rt.alloc(), Sort::Run, table);
     }
-    Ok(())
 }
 
 #[test]
-fn a_failing_write_gives_status_5(rt: HostRuntime) -> Result<(), Fail> {
-    for (out, room, printed) in [
-        ([0].as_slice(), 2000, ""),
-        (&[1], 2000, FIRST),
-        (&[], 21, FIRST),
-        (&[], 30, "s r {x -> a, y -> b}\nt r {x ->"),
-    ] {
-        let devices = Devices { out, room, ..SOUND };
-        let ran = ran(rt.alloc(), &["match", "t"], TWO, &devices)?;
-        assert!(rt; ran.is(5, printed, "matchpy: cannot write\n"));
-    }
-    Ok(())
+fn the_first_fault_is_told_with_its_place(rt: HostRuntime) {
+    check_all(&rt, rt.alloc(), Sort::Fault, FAULTS);
 }
 
 #[test]
-fn what_cannot_be_said_changes_nothing_else(rt: HostRuntime) -> Result<(), Fail> {
-    let err = [0].as_slice();
-    for (devices, name, status, printed) in [
-        (Devices { err, ..SOUND }, "t", 0, BOTH),
-        (Devices { err, ..SOUND }, "none", 4, ""),
-        (
-            Devices {
-                err,
-                shelf: &[0],
-                ..SOUND
-            },
-            "t",
-            4,
-            "",
-        ),
-        (
-            Devices {
-                err,
-                out: &[1],
-                ..SOUND
-            },
-            "t",
-            5,
-            FIRST,
-        ),
-    ] {
-        assert!(rt; ran(rt.alloc(), &["match", name], TWO, &devices)?.is(status, printed, ""));
-    }
-    Ok(())
+fn other_words_are_refused(rt: HostRuntime) {
+    check_all(&rt, rt.alloc(), Sort::Refused, REFUSED);
 }

@@ -1,19 +1,11 @@
 //! Terms, patterns and conditions that stand alone: their first faults.
 
-use crate::case::{expanded, told};
-use crate::reading::{file, halves, plan};
-use mp_pattern::Plan;
-use mp_term::Signature;
-use mp_text::{TextError, read_cond, read_loose_cond, read_pattern, read_term};
-use std::alloc::Global;
-use std::test::Fail;
+use crate::case::{Sort, Table, check_table};
+use crate::reading::{file, plan};
 
 /// The operations and kinds of the tests.
 pub const DECLARED: &str =
     "op f 2; op g 0+; op s 0+ comm; op p 1+ assoc comm one infix +; kind v: a b;";
-
-// In each table a line is a text and, behind `|`, its first fault: the kind, the line and the column. Nothing stands
-// there where it has none. Between two of "`" a number, `^` and a text stand for the text so often.
 
 const TERMS: &str = "\
 f(b, a)|\n\
@@ -45,8 +37,8 @@ x_{2}|LooseSequence 1 1\n\
 f(x_{2}, x_)|Arity 1 1\n\
 g(x_{2},, a)|Syntax 1 9\n\
 f(x_, g)|BareOperation 1 7\n\
-g(`126^a,`a)|\n\
-q(`127^a,`a)|TooMany 1 1";
+g(%%a,a,a)|\n\
+q(%%a,a,a,a)|TooMany 1 1";
 
 // Conditions over the variables of the pattern `s(x__, y___)`.
 const CONDITIONS: &str = "\
@@ -68,66 +60,34 @@ kind(a, q) and less($x, x_)|UnknownKind 1 9\n\
 head($x, s) or free(y_, $x)|WildcardInTerm 1 21\n\
 not [less($x, f)]|BareOperation 1 15";
 
-// What a text is read as.
-#[derive(Clone, Copy)]
-enum Sort {
-    Term,
-    Pattern,
-    Condition,
-    LooseCondition,
-}
-
-// Why the text isn't read.
-fn error(
-    alloc: Global,
-    sig: &Signature,
-    plan: &Plan,
-    sort: Sort,
-    text: &[u8],
-) -> Result<Option<TextError>, Fail> {
-    if text.len() > 1000 {
-        return Err("the text is too long".into());
-    }
-    match sort {
-        Sort::Term => Ok(read_term(alloc, sig, text).err()),
-        Sort::Pattern => Ok(read_pattern(alloc, sig, text).err()),
-        Sort::Condition => Ok(read_cond(alloc, sig, plan, text).err()),
-        Sort::LooseCondition => Ok(read_loose_cond(alloc, sig, text).err()),
-    }
-}
-
-// Whether the text of the line has the fault of the line.
-fn is_first(
-    alloc: Global,
-    sig: &Signature,
-    plan: &Plan,
-    sort: Sort,
-    line: &str,
-) -> Result<bool, Fail> {
-    let (text, fault) = halves(line)?;
-    let text = expanded(alloc, text)?;
-    let error = error(alloc, sig, plan, sort, text.as_bytes())?;
-    Ok(told(alloc, error)?.as_str() == fault)
-}
-
-const TABLES: &[(Sort, &str)] = &[
-    (Sort::Term, TERMS),
-    (Sort::Pattern, PATTERNS),
-    (Sort::Condition, CONDITIONS),
-    (Sort::LooseCondition, LOOSE_CONDITIONS),
+const TABLES: &[Table] = &[
+    Table {
+        sort: Sort::Term,
+        before: "",
+        lines: TERMS,
+    },
+    Table {
+        sort: Sort::Pattern,
+        before: "",
+        lines: PATTERNS,
+    },
+    Table {
+        sort: Sort::Condition,
+        before: "",
+        lines: CONDITIONS,
+    },
+    Table {
+        sort: Sort::LooseCondition,
+        before: "",
+        lines: LOOSE_CONDITIONS,
+    },
 ];
 
 #[test]
-fn the_first_fault_of_a_text_stands_at_its_token(rt: HostRuntime) -> Result<(), Fail> {
-    let file = file(rt.alloc(), DECLARED)?;
-    let plan = plan(rt.alloc(), &file.sig, "s(x__, y___)")?;
+fn the_first_fault_of_a_text_stands_at_its_token(rt: HostRuntime) {
+    let file = file(&rt, rt.alloc(), DECLARED);
+    let plan = plan(&rt, rt.alloc(), &file.sig, "s(x__, y___)");
     for table in TABLES {
-        for line in table.1.split('\n') {
-            assert!(rt;
-                is_first(rt.alloc(), &file.sig, &plan, table.0, line)?,
-                "{line}"
-            );
-        }
+        check_table(&rt, rt.alloc(), &file.sig, &plan, table);
     }
-    Ok(())
 }

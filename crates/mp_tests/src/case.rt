@@ -1,43 +1,77 @@
-//! Texts and faults as tables write them.
+//! Tables of texts and their first faults.
 
-use mp_text::{TextError, TextFault};
+use crate::reading::parts;
+use mp_pattern::Plan;
+use mp_term::Signature;
+use mp_text::{TextError, read_cond, read_file, read_loose_cond, read_pattern, read_term};
 use std::alloc::Global;
-use std::test::Fail;
+use std::process::Abort;
 
-// Appends the piece so many times.
-fn push_times(text: &mut String, times: usize, piece: &str) -> Result<(), Fail> {
-    for _ in 0..times {
-        text.push_str(piece)?;
+/// What a text is read as.
+#[derive(Clone, Copy)]
+pub enum Sort {
+    File,
+    Term,
+    Pattern,
+    Condition,
+    LooseCondition,
+}
+
+/// What the texts of a table are read as, what stands before each, and the lines: each a text and, behind `|`, its
+/// first fault: the kind, the line and the column. Nothing stands there where it has none. `%` stands for 62 arguments.
+pub struct Table {
+    pub sort: Sort,
+    pub before: &'static str,
+    pub lines: &'static str,
+}
+
+const ARGUMENTS: &str = "\
+a,a,a,a,a,a,a,a,a,a,a,a,a,a,a,a,a,a,a,a,a,a,a,a,a,a,a,a,a,a,a,\
+a,a,a,a,a,a,a,a,a,a,a,a,a,a,a,a,a,a,a,a,a,a,a,a,a,a,a,a,a,a,a,";
+
+// The text that one of a table stands for.
+fn expanded(rt: &impl Abort, alloc: Global, before: &str, text: &str) -> String {
+    let text = text.replace(alloc, "%", ARGUMENTS).expect(rt, "memory");
+    format!(in alloc; "{before}{text}").expect(rt, "memory")
+}
+
+// Why the text isn't read.
+fn error(
+    rt: &impl Abort,
+    alloc: Global,
+    sig: &Signature,
+    plan: &Plan,
+    sort: Sort,
+    text: &[u8],
+) -> Option<TextError> {
+    assert!(rt; text.len() <= 1000);
+    match sort {
+        Sort::File => read_file(alloc, text).err(),
+        Sort::Term => read_term(alloc, sig, text).err(),
+        Sort::Pattern => read_pattern(alloc, sig, text).err(),
+        Sort::Condition => read_cond(alloc, sig, plan, text).err(),
+        Sort::LooseCondition => read_loose_cond(alloc, sig, text).err(),
     }
-    Ok(())
 }
 
-// Appends a piece: a text alone, or a number, `^` and a text to repeat so often.
-fn push_piece(text: &mut String, piece: &str) -> Result<(), Fail> {
-    match piece.split_once('^') {
-        Some((times, repeated)) => push_times(text, times.parse::<usize>()?, repeated),
-        None => push_times(text, 1, piece),
-    }
-}
-
-/// The text that one of a table stands for: between two of "`" a number, `^` and a text stand for the text so often.
-pub fn expanded(alloc: Global, text: &str) -> Result<String, Fail> {
-    let mut made = String::new(alloc);
-    for piece in text.split('`') {
-        push_piece(&mut made, piece)?;
-    }
-    Ok(made)
-}
-
-fn fault_text(alloc: Global, fault: &TextFault) -> Result<String, Fail> {
-    Ok(format!(in alloc; "{:?} {} {}", fault.kind, fault.line, fault.column)?)
-}
-
-/// The kind, the line and the column of a fault; nothing where there is none.
-pub fn told(alloc: Global, error: Option<TextError>) -> Result<String, Fail> {
+// Stops unless this is the error of the text.
+fn check_error(rt: &impl Abort, alloc: Global, text: &str, error: Option<TextError>, wanted: &str) {
     match error {
-        None => Ok(String::new(alloc)),
-        Some(TextError::Text(fault)) => fault_text(alloc, &fault),
-        Some(TextError::Memory) => Err("memory ran out".into()),
+        None => assert!(rt; wanted.is_empty(), "{text}"),
+        Some(TextError::Memory) => panic!(rt; "memory"),
+        Some(TextError::Text(fault)) => {
+            let told = format!(in alloc; "{:?} {} {}", fault.kind, fault.line, fault.column);
+            assert!(rt; told.expect(rt, "memory").as_str() == wanted, "{text}");
+        }
+    }
+}
+
+/// Stops unless the text of each line of the table has the fault of the line.
+pub fn check_table(rt: &impl Abort, alloc: Global, sig: &Signature, plan: &Plan, table: &Table) {
+    for line in table.lines.split('\n') {
+        let (text, wanted) = parts(rt, line, "|");
+        let text = expanded(rt, alloc, table.before, text);
+        let error = error(rt, alloc, sig, plan, table.sort, text.as_bytes());
+        check_error(rt, alloc, text.as_str(), error, wanted);
     }
 }

@@ -1,13 +1,13 @@
 //! The constants of rules.
 
-use crate::printed::sink;
-use crate::reading::{file, halves};
+use crate::reading::{file, parts, sink};
 use mp_io::{MemorySink, Writer};
-use mp_pattern::{Rules, constants, rule_constants};
+use mp_pattern::{constants, rule_constants};
 use mp_print::put_term;
 use mp_term::{Signature, Terms};
+use mp_text::File;
 use std::alloc::Global;
-use std::test::Fail;
+use std::process::Abort;
 
 // A file and, behind `|`, the constants of its rules, and behind a bar those of its first rule, each behind a blank.
 const FILES: &[&str] = &[
@@ -28,47 +28,27 @@ fn print_all(sig: &Signature, terms: &Terms, sink: &mut MemorySink) -> bool {
     out.finish().is_ok()
 }
 
-// The constants of the rules, or of the first rule alone.
-fn constants_of(alloc: Global, rules: &Rules, all: bool) -> Result<Terms, Fail> {
-    if all {
-        return Ok(constants(alloc, rules)?);
-    }
-    match rules.get(0) {
-        Some(rule) => Ok(rule_constants(alloc, rule)?),
-        None => Err("the file has no rule".into()),
-    }
+// Stops unless the terms are printed as the text.
+fn check_terms(rt: &impl Abort, alloc: Global, sig: &Signature, terms: &Terms, text: &str) {
+    let mut sink = sink(rt, alloc);
+    assert!(rt; print_all(sig, terms, &mut sink), "{text}");
+    assert!(rt; sink.content() == text.as_bytes(), "{text}");
 }
 
-// Whether the constants are printed as the text.
-fn are_constants(
-    alloc: Global,
-    sig: &Signature,
-    rules: &Rules,
-    all: bool,
-    text: &str,
-) -> Result<bool, Fail> {
-    let terms = constants_of(alloc, rules, all)?;
-    let mut sink = sink(alloc)?;
-    Ok(print_all(sig, &terms, &mut sink) && sink.content() == text.as_bytes())
-}
-
-// Whether the constants of the file are those behind its bar.
-fn is_listed(alloc: Global, line: &str) -> Result<bool, Fail> {
-    let (text, wanted) = halves(line)?;
-    let Some((all, first)) = wanted.split_once('/') else {
-        return Err("the line has no second bar".into());
-    };
-    let file = file(alloc, text)?;
-    Ok(
-        are_constants(alloc, &file.sig, &file.rules, true, all)?
-            && are_constants(alloc, &file.sig, &file.rules, false, first)?,
-    )
+// Stops unless the constants of the file's rules, and those of its first rule, are printed as the texts.
+fn check_constants(rt: &impl Abort, alloc: Global, file: &File, all: &str, first: &str) {
+    let terms = constants(alloc, &file.rules).expect(rt, "memory");
+    check_terms(rt, alloc, &file.sig, &terms, all);
+    let rule = file.rules.get(0).expect(rt, "no rule");
+    let terms = rule_constants(alloc, rule).expect(rt, "memory");
+    check_terms(rt, alloc, &file.sig, &terms, first);
 }
 
 #[test]
-fn constants_ascend_and_stand_there_once(rt: HostRuntime) -> Result<(), Fail> {
+fn constants_ascend_and_stand_there_once(rt: HostRuntime) {
     for line in FILES {
-        assert!(rt; is_listed(rt.alloc(), line)?, "{line}");
+        let (text, wanted) = parts(&rt, line, "|");
+        let (all, first) = parts(&rt, wanted, "/");
+        check_constants(&rt, rt.alloc(), &file(&rt, rt.alloc(), text), all, first);
     }
-    Ok(())
 }

@@ -1,22 +1,20 @@
 //! Edits of a term, tested before they are made, and made at once.
 
-use crate::reading::{file, halves, term};
+use crate::reading::{bare_term, file, parts, term};
 use mp_term::{
-    Edit, Edits, MAX_EDITS, Name, OpId, Position, Signature, Term, Terms, check_edits, compare,
-    replace_at, replace_many,
+    Edit, Edits, MAX_EDITS, Position, Signature, Term, Terms, check_edits, compare, replace_at,
+    replace_many,
 };
 use std::alloc::Global;
-use std::test::Fail;
+use std::process::Abort;
 
 const DECLARED: &str = "op pair 2; op list 1+;";
 
 // The subject that is edited.
 const SUBJECT: &str = "pair(list(a, b), c)";
 
-// In each table a line has edits of the subject. An edit is its position, how many terms it gives and how deep each of
-// them is: pair(d, pair(d, ..)).
-
-// Edits and, behind `|`, their first fault.
+// Edits of the subject and, behind `|`, their first fault. An edit is its position, how many terms it gives and how
+// deep each of them is: pair(d, pair(d, ..)).
 const FAULTS: &str = "\
 |None\n\
 0.0 0 0, 1 1 0|None\n\
@@ -35,136 +33,89 @@ const FAULTS: &str = "\
 1 1 99|None\n\
 1 1 100|Some(TooDeep { depth: 101 })";
 
-// Edits and, behind `|`, the term that they make.
-const MADE: &str = "\
-0.0 0 0, 1 1 0, 0.1 2 0|pair(list(d, d), d)";
-
-// Positions and, behind `|`, the subject with the symbol d there; nothing where there is no such position.
-const REPLACED: &str = "\
-0.1|pair(list(a, d), c)\n\
-2|";
-
-// The symbol d.
-fn symbol(alloc: Global) -> Result<Term, Fail> {
-    Ok(Term::Sym(Name::new(alloc, b"d")?))
-}
-
-// pair of the symbol d and the term
-fn paired(alloc: Global, term: Term) -> Result<Term, Fail> {
-    let mut args = Terms::new(alloc);
-    args.push(symbol(alloc)?)?;
-    args.push(term)?;
-    Ok(Term::App(OpId(0), args))
-}
-
 // A term of that depth.
-fn nested(alloc: Global, depth: u32) -> Result<Term, Fail> {
-    let mut term = symbol(alloc)?;
-    for _ in 0..depth {
-        term = paired(alloc, term)?;
-    }
-    Ok(term)
+fn nested(rt: &impl Abort, alloc: Global, sig: &Signature, depth: usize) -> Term {
+    let front = "pair(d, ".repeat(alloc, depth).expect(rt, "memory");
+    let back = ")".repeat(alloc, depth).expect(rt, "memory");
+    let text = format!(in alloc; "{front}d{back}").expect(rt, "memory");
+    bare_term(rt, alloc, sig, text.as_str())
 }
 
-// So many terms of that depth.
-fn terms(alloc: Global, count: u32, depth: u32) -> Result<Terms, Fail> {
-    let mut terms = Terms::new(alloc);
-    for _ in 0..count {
-        terms.push(nested(alloc, depth)?)?;
-    }
-    Ok(terms)
-}
-
-fn position(alloc: Global, text: &str) -> Result<Position, Fail> {
+// The position of a text.
+fn position(rt: &impl Abort, alloc: Global, text: &str) -> Position {
     let mut indexes = Vec::new(alloc);
     for word in text.split('.') {
         if !word.is_empty() {
-            indexes.push(word.parse::<u32>()?)?;
+            let index = word.parse::<u32>().expect(rt, text);
+            indexes.push(index).expect(rt, "memory");
         }
     }
-    Ok(Position::new(alloc, &indexes)?)
+    Position::new(alloc, &indexes).expect(rt, "memory")
 }
 
-fn edit(alloc: Global, text: &str) -> Result<Edit, Fail> {
-    let Some((place, amount)) = text.split_once(' ') else {
-        return Err("no edit".into());
-    };
-    let Some((count, depth)) = amount.split_once(' ') else {
-        return Err("no edit".into());
-    };
-    let terms = terms(alloc, count.parse::<u32>()?, depth.parse::<u32>()?)?;
-    let position = position(alloc, place)?;
-    Ok(Edit { position, terms })
+// The edit of a text.
+fn edit(rt: &impl Abort, alloc: Global, sig: &Signature, text: &str) -> Edit {
+    let (place, amount) = parts(rt, text, " ");
+    let (count, depth) = parts(rt, amount, " ");
+    let depth = depth.parse::<usize>().expect(rt, text);
+    let mut terms = Terms::new(alloc);
+    for _ in 0..count.parse::<u32>().expect(rt, text) {
+        terms
+            .push(nested(rt, alloc, sig, depth))
+            .expect(rt, "memory");
+    }
+    let position = position(rt, alloc, place);
+    Edit { position, terms }
 }
 
-fn edits(alloc: Global, text: &str) -> Result<Edits, Fail> {
+// The edits of a text.
+fn edits(rt: &impl Abort, alloc: Global, sig: &Signature, text: &str) -> Edits {
     let mut edits = Edits::new(alloc);
     for text in text.split(", ") {
         if !text.is_empty() {
-            edits.push(edit(alloc, text)?)?;
+            edits.push(edit(rt, alloc, sig, text)).expect(rt, "memory");
         }
     }
-    Ok(edits)
+    edits
 }
 
-fn fault(alloc: Global, sig: &Signature, subject: &Term, edits: &Edits) -> Result<String, Fail> {
-    if edits.len() > MAX_EDITS {
-        return Err("too many edits".into());
+// Stops unless the edits of each line have the fault of the line.
+fn check_faults(rt: &impl Abort, alloc: Global, sig: &Signature, subject: &Term, lines: &str) {
+    for line in lines.split('\n') {
+        let (text, wanted) = parts(rt, line, "|");
+        let edits = edits(rt, alloc, sig, text);
+        assert!(rt; edits.len() <= MAX_EDITS, "{line}");
+        let fault = format!(in alloc; "{:?}", check_edits(sig, subject, &edits));
+        assert!(rt; fault.expect(rt, "memory").as_str() == wanted, "{line}");
     }
-    Ok(format!(in alloc; "{:?}", check_edits(sig, subject, edits))?)
 }
 
-// Whether the edits of the line have the fault of the line.
-fn is_first(alloc: Global, sig: &Signature, subject: &Term, line: &str) -> Result<bool, Fail> {
-    let (text, wanted) = halves(line)?;
-    let edits = edits(alloc, text)?;
-    Ok(fault(alloc, sig, subject, &edits)?.as_str() == wanted)
-}
-
-fn made(alloc: Global, sig: &Signature, subject: &Term, edits: &Edits) -> Result<Term, Fail> {
-    if edits.len() > MAX_EDITS {
-        return Err("too many edits".into());
-    }
-    Ok(replace_many(alloc, sig, subject, edits)?)
-}
-
-// Whether the term is the one of the text.
-fn is_term(alloc: Global, sig: &Signature, made: &Term, text: &str) -> Result<bool, Fail> {
-    Ok(compare(made, &term(alloc, sig, text)?).is_eq())
-}
-
-// Whether the edits of the line make the term of the line.
-fn is_made(alloc: Global, sig: &Signature, subject: &Term, line: &str) -> Result<bool, Fail> {
-    let (text, wanted) = halves(line)?;
-    let edits = edits(alloc, text)?;
-    is_term(alloc, sig, &made(alloc, sig, subject, &edits)?, wanted)
-}
-
-// Whether the symbol d at the position of the line makes the term of the line.
-fn is_replaced(alloc: Global, sig: &Signature, subject: &Term, line: &str) -> Result<bool, Fail> {
-    let (text, wanted) = halves(line)?;
-    let position = position(alloc, text)?;
-    match replace_at(alloc, sig, subject, position.indexes(), &symbol(alloc)?) {
-        Ok(made) => is_term(alloc, sig, &made, wanted),
-        Err(_) => Ok(wanted.is_empty()),
-    }
+// Stops unless the term is the one of the text.
+fn check_term(rt: &impl Abort, alloc: Global, sig: &Signature, made: Term, text: &str) {
+    let made = Box::new(alloc, made).expect(rt, "memory");
+    assert!(rt;
+        compare(&made, &term(rt, alloc, sig, text)).is_eq(),
+        "{text}"
+    );
 }
 
 #[test]
-fn edits_are_tested_and_made_at_once(rt: HostRuntime) -> Result<(), Fail> {
-    let file = file(rt.alloc(), DECLARED)?;
-    let subject = term(rt.alloc(), &file.sig, SUBJECT)?;
-    for line in FAULTS.split('\n') {
-        assert!(rt; is_first(rt.alloc(), &file.sig, &subject, line)?, "{line}");
-    }
-    for line in MADE.split('\n') {
-        assert!(rt; is_made(rt.alloc(), &file.sig, &subject, line)?, "{line}");
-    }
-    for line in REPLACED.split('\n') {
-        assert!(rt;
-            is_replaced(rt.alloc(), &file.sig, &subject, line)?,
-            "{line}"
-        );
-    }
-    Ok(())
+fn edits_are_tested_and_made_at_once(rt: HostRuntime) {
+    let file = file(&rt, rt.alloc(), DECLARED);
+    let subject = term(&rt, rt.alloc(), &file.sig, SUBJECT);
+    check_faults(&rt, rt.alloc(), &file.sig, &subject, FAULTS);
+    let edits = edits(&rt, rt.alloc(), &file.sig, "0.0 0 0, 1 1 0, 0.1 2 0");
+    assert!(rt; edits.len() <= MAX_EDITS);
+    let made = replace_many(rt.alloc(), &file.sig, &subject, &edits).expect(&rt, "a fault");
+    check_term(&rt, rt.alloc(), &file.sig, made, "pair(list(d, d), d)");
+}
+
+#[test]
+fn a_term_takes_the_place_of_another_where_there_is_one(rt: HostRuntime) {
+    let file = file(&rt, rt.alloc(), DECLARED);
+    let subject = term(&rt, rt.alloc(), &file.sig, SUBJECT);
+    let put = term(&rt, rt.alloc(), &file.sig, "d");
+    assert!(rt; replace_at(rt.alloc(), &file.sig, &subject, &[2], &put).is_err());
+    let made = replace_at(rt.alloc(), &file.sig, &subject, &[0, 1], &put).expect(&rt, "a fault");
+    check_term(&rt, rt.alloc(), &file.sig, made, "pair(list(a, d), c)");
 }

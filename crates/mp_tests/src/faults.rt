@@ -1,13 +1,8 @@
 //! The first faults of rule files.
 
-use crate::case::{expanded, told};
-use crate::reading::halves;
-use mp_text::{fault_is_computed, file_is_computed, read_file};
-use std::alloc::Global;
-use std::test::Fail;
-
-// In each table a line is a file and, behind `|`, its first fault: the kind, the line and the column. Nothing stands
-// there where it has none. Between two of "`" a number, `^` and a text stand for the text so often.
+use crate::case::{Sort, Table, check_table};
+use crate::reading::{file, plan};
+use mp_text::{fault_is_computed, file_is_computed};
 
 // Statements, names, operations and their arguments.
 const STATEMENTS: &str = "\
@@ -316,54 +311,81 @@ const RULE: &str = "rule r: a;\n";
 
 // Templates of 128 nodes, which are as many as there may be, and defaults of 64.
 const LIMITS: &str = "\
-rule r: a -> p(`126^a,`a);|\n\
-rule r: a -> p(`127^a,`a);|TooMany 1 15\n\
-rule r: p(x_:p(`62^a,`a));|\n\
-rule r: p(x_:p(`63^a,`a));|TooMany 1 15\n\
-rule r: p(x_:p(y_:p(`63^a,`a)));|TooMany 1 15\n\
-subject s: x_:p(`63^a,`a);|TooMany 1 18";
+rule r: a -> p(%%a,a,a);|\n\
+rule r: a -> p(%%a,a,a,a);|TooMany 1 15\n\
+rule r: p(x_:p(%a));|\n\
+rule r: p(x_:p(%a,a));|TooMany 1 15\n\
+rule r: p(x_:p(y_:p(%a,a)));|TooMany 1 15\n\
+subject s: x_:p(%a,a);|TooMany 1 18";
 
 // The operation of the statements at the limits.
 const ANY_NUMBER: &str = "op p 0+; ";
 
-// The first fault of a file.
-fn first_fault(alloc: Global, text: &[u8]) -> Result<String, Fail> {
-    if text.len() > 1000 {
-        return Err("the text is too long".into());
-    }
-    told(alloc, read_file(alloc, text).err())
-}
-
-// Whether the file of the line, behind the text before, has the fault of the line.
-fn is_first(alloc: Global, before: &str, line: &str) -> Result<bool, Fail> {
-    let (file, fault) = halves(line)?;
-    let text = expanded(alloc, format!(in alloc; "{before}{file}")?.as_str())?;
-    Ok(first_fault(alloc, text.as_bytes())?.as_str() == fault)
-}
-
-// What stands before each line of a table, and the table.
-const TABLES: &[(&str, &str)] = &[
-    ("", STATEMENTS),
-    ("", DECLARATIONS),
-    ("", WILDCARDS),
-    ("", DEFAULTS),
-    ("", GRAMMAR),
-    ("", TEMPLATES),
-    ("", EDITS),
-    ("", COUNTS),
-    (DECLARED, CONDITIONS),
-    (RULE, SECOND_LINE),
-    (ANY_NUMBER, LIMITS),
+const TABLES: &[Table] = &[
+    Table {
+        sort: Sort::File,
+        before: "",
+        lines: STATEMENTS,
+    },
+    Table {
+        sort: Sort::File,
+        before: "",
+        lines: DECLARATIONS,
+    },
+    Table {
+        sort: Sort::File,
+        before: "",
+        lines: WILDCARDS,
+    },
+    Table {
+        sort: Sort::File,
+        before: "",
+        lines: DEFAULTS,
+    },
+    Table {
+        sort: Sort::File,
+        before: "",
+        lines: GRAMMAR,
+    },
+    Table {
+        sort: Sort::File,
+        before: "",
+        lines: TEMPLATES,
+    },
+    Table {
+        sort: Sort::File,
+        before: "",
+        lines: EDITS,
+    },
+    Table {
+        sort: Sort::File,
+        before: "",
+        lines: COUNTS,
+    },
+    Table {
+        sort: Sort::File,
+        before: DECLARED,
+        lines: CONDITIONS,
+    },
+    Table {
+        sort: Sort::File,
+        before: RULE,
+        lines: SECOND_LINE,
+    },
+    Table {
+        sort: Sort::File,
+        before: ANY_NUMBER,
+        lines: LIMITS,
+    },
 ];
 
 #[test]
-fn the_first_fault_of_a_file_stands_at_its_token(rt: HostRuntime) -> Result<(), Fail> {
+fn the_first_fault_of_a_file_stands_at_its_token(rt: HostRuntime) {
+    let file = file(&rt, rt.alloc(), "");
+    let plan = plan(&rt, rt.alloc(), &file.sig, "x_");
     for table in TABLES {
-        for line in table.1.split('\n') {
-            assert!(rt; is_first(rt.alloc(), table.0, line)?, "{line}");
-        }
+        check_table(&rt, rt.alloc(), &file.sig, &plan, table);
     }
-    Ok(())
 }
 
 #[test]

@@ -1,19 +1,20 @@
 //! The items of the one-list: each substitution with its least take table, as the terms that its ranks stand for.
 
 ghost use Rattle.std.specs.Prelude.{IsSome};
-ghost use Rattle.mp_pattern.specs.Planned.{IsPlanned, rule_plan};
-ghost use Rattle.mp_text.specs.File.{file_tree, subject_tree};
-ghost use Rattle.mp_text.specs.Sound.{IsSoundFile, IsSoundSubject};
+ghost use Rattle.mp_term.specs.View.{tree};
+ghost use Rattle.mp_pattern.specs.Planned.{rule_plan};
+ghost use Rattle.mp_tests.specs.Matched.{IsMatched};
 
+use crate::first_rule::{Wanted, check_file};
+use crate::matched::Matched;
+use crate::reading::{parts, sink};
 use mp_io::{MemorySink, Writer};
 use mp_one::{Cursor, room_for};
-use mp_pattern::{PlannedRule, plan_rules};
 use mp_print::put_rank;
 use mp_table::{Rank, Table};
 use mp_term::Signature;
-use mp_text::{File, Subject, read_file};
 use std::alloc::Global;
-use std::test::Fail;
+use std::process::Abort;
 
 // Files of a rule and a subject and, behind a line `----`, the items; a line `====` stands between each two. A `;`
 // stands between the entries of a table, and a blank between the terms of an entry; the entry of a collapsed
@@ -185,64 +186,25 @@ fn write_items(
     out.finish().is_ok()
 }
 
-// Writes the items of the rule on the subject. Answers whether they were written.
-fn write_all(
-    alloc: Global,
-    sig: &Signature,
-    planned: &PlannedRule<'_>,
-    subject: &Subject,
-    sink: &mut MemorySink,
-) -> Result<bool, Fail>
-    requires planned { IsPlanned sig.now (rule_plan planned.now) }
-    requires subject { IsSoundSubject sig.now (subject_tree subject.now) }
+// Stops unless the items of what is matched are those of the text.
+pub fn check_items(rt: &impl Abort, alloc: Global, m: Matched<'_>, items: &str)
+    requires { IsMatched m.sig.now (rule_plan m.planned.now) (tree m.subject.now) m.table.now }
 {
-    let table = Table::build(alloc, sig, &subject.term, &planned.constants)?;
-    let room = room_for(alloc, &planned.plan, &table)?;
-    let mut cursor = Cursor::begin(room, sig, planned.rule, &planned.plan, &table);
-    Ok(write_items(sig, &table, planned.plan.len(), &mut cursor, sink))
-}
-
-// Writes the items of the file's first rule on its first subject.
-fn write_first(alloc: Global, file: &File, sink: &mut MemorySink) -> Result<bool, Fail>
-    requires { IsSoundFile (file_tree file.now) }
-{
-    let rules = plan_rules(alloc, &file.sig, file.rules.as_slice())?;
-    match (rules.get(0), file.subjects.get(0)) {
-        (Some(planned), Some(subject)) => write_all(alloc, &file.sig, planned, subject, sink),
-        _ => Err("no rule or no subject".into()),
-    }
-}
-
-// Whether the items of the file are those of the text.
-fn are_items(alloc: Global, file: &File, items: &str) -> Result<bool, Fail>
-    requires { IsSoundFile (file_tree file.now) }
-{
-    match MemorySink::new(alloc, 1000, Vec::new(alloc)) {
-        Ok(mut sink) => Ok(
-            write_first(alloc, file, &mut sink)? && sink.content() == items.as_bytes(),
-        ),
-        Err(_) => Err("memory ran out".into()),
-    }
-}
-
-// Whether the file has the items that stand behind it.
-fn is_listed(alloc: Global, case: &str) -> Result<bool, Fail> {
-    let Some((text, items)) = case.split_once("----\n") else {
-        return Err("no items".into());
-    };
-    if text.len() > 1000 {
-        return Err("the file is too long".into());
-    }
-    match read_file(alloc, text.as_bytes()) {
-        Ok(file) => are_items(alloc, &file, items),
-        Err(_) => Err("the file has a fault".into()),
-    }
+    let room = room_for(alloc, &m.planned.plan, m.table).expect(rt, "memory");
+    let mut cursor = Cursor::begin(room, m.sig, m.planned.rule, &m.planned.plan, m.table);
+    let mut sink = sink(rt, alloc);
+    let nodes = m.planned.plan.len();
+    assert!(rt;
+        write_items(m.sig, m.table, nodes, &mut cursor, &mut sink),
+        "{items}"
+    );
+    assert!(rt; sink.content() == items.as_bytes(), "{items}");
 }
 
 #[test]
-fn each_substitution_has_its_least_table(rt: HostRuntime) -> Result<(), Fail> {
+fn each_substitution_has_its_least_table(rt: HostRuntime) {
     for case in FILES.split("====\n") {
-        assert!(rt; is_listed(rt.alloc(), case)?, "{case}");
+        let (file, items) = parts(&rt, case, "----\n");
+        check_file(&rt, rt.alloc(), file, Wanted::LeastTables(items));
     }
-    Ok(())
 }

@@ -1,6 +1,8 @@
-//! Tests of what is read, printed, edited and matched, over texts: the first faults of texts; files, terms, patterns and
-//! conditions as they are printed and read again; edits of terms; plans, take tables, the items of the one-list, the
-//! cursor, listed to the end and from each token on, and the matcher of a commutative node.
+//! Tests of what is read, printed, edited and matched, over texts.
+//!
+//! They are of the first faults of texts; of files, terms, patterns and conditions as they are printed and read again;
+//! of edits of terms; of plans and take tables; and of the items of the one-list, of the cursor, listed to the end and
+//! from each token on, and of the matcher of a commutative node.
 #![tactic(auto)]
 
 #[cfg(test)]
@@ -17,6 +19,8 @@ mod cursors;
 mod edits;
 #[cfg(test)]
 mod faults;
+#[cfg(test)]
+mod first_rule;
 #[cfg(test)]
 mod items;
 #[cfg(test)]

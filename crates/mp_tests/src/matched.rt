@@ -1,6 +1,6 @@
 //! What a test matches, and rooms for it.
 
-ghost use Rattle.std.specs.Prelude.{◌≡◌, ◌≤◌, length, IfOk, IsTrue};
+ghost use Rattle.std.specs.Prelude.{◌≡◌, ◌≤◌, length, IsTrue};
 ghost use Rattle.mp_term.specs.Size.{node_count};
 ghost use Rattle.mp_cursor.specs.Listing.{subject_of};
 ghost use Rattle.mp_term.specs.View.{tree};
@@ -12,7 +12,7 @@ use mp_pattern::PlannedRule;
 use mp_table::Table;
 use mp_term::{Name, Signature, Term};
 use std::alloc::Global;
-use std::test::Fail;
+use std::process::Abort;
 
 /// For how many nodes, variables and ranks at a node a room is.
 #[derive(Clone, Copy)]
@@ -33,13 +33,13 @@ pub struct Matched<'a> {
 }
 
 /// A room of these sizes.
-pub fn room(alloc: Global, sizes: Sizes) -> Result<CursorRoom, Fail>
-    ensures { IfOk result (λ r. r ≡ record { nodes = sizes.nodes; vars = sizes.vars; width = sizes.width }) }
+pub fn room(rt: &impl Abort, alloc: Global, sizes: Sizes) -> CursorRoom
+    ensures { result ≡ record { nodes = sizes.nodes; vars = sizes.vars; width = sizes.width } }
 {
-    if sizes.nodes > MAX_ROOM_NODES || sizes.vars > MAX_ROOM_VARS || sizes.width > MAX_ROOM_WIDTH {
-        return Err("no such room can be made".into());
-    }
-    Ok(CursorRoom::new(alloc, sizes.nodes, sizes.vars, sizes.width)?)
+    assert!(rt; sizes.nodes <= MAX_ROOM_NODES);
+    assert!(rt; sizes.vars <= MAX_ROOM_VARS);
+    assert!(rt; sizes.width <= MAX_ROOM_WIDTH);
+    CursorRoom::new(alloc, sizes.nodes, sizes.vars, sizes.width).expect(rt, "memory")
 }
 
 /// Whether a room of these sizes is for what is matched.
@@ -55,12 +55,10 @@ pub fn is_fit(m: Matched<'_>, sizes: Sizes) -> bool
 }
 
 /// The cursor on what is matched, in a room of these sizes.
-pub fn begin<'a>(m: Matched<'a>, room: CursorRoom, sizes: Sizes) -> Result<Cursor<'a>, Fail>
+pub fn begin<'a>(rt: &impl Abort, m: Matched<'a>, room: CursorRoom, sizes: Sizes) -> Cursor<'a>
     requires matched { IsMatched m.sig.now (rule_plan m.planned.now) (tree m.subject.now) m.table.now }
     requires room { room ≡ record { nodes = sizes.nodes; vars = sizes.vars; width = sizes.width } }
 {
-    if !is_fit(m, sizes) {
-        return Err("the room is another one".into());
-    }
-    Ok(Cursor::begin(room, m.sig, m.planned.rule, &m.planned.plan, m.table))
+    assert!(rt; is_fit(m, sizes), "the room is another one");
+    Cursor::begin(room, m.sig, m.planned.rule, &m.planned.plan, m.table)
 }

@@ -3,22 +3,20 @@
 
 ghost use Rattle.std.specs.Prelude.{◌≡◌, [], IfOk};
 ghost use Rattle.mp_term.specs.View.{tree};
-ghost use Rattle.mp_pattern.specs.Planned.{IsPlanned, rule_plan};
-ghost use Rattle.mp_text.specs.File.{file_tree, subject_tree};
-ghost use Rattle.mp_text.specs.Sound.{IsSoundFile, IsSoundSubject};
+ghost use Rattle.mp_pattern.specs.Planned.{rule_plan};
 ghost use Rattle.mp_ac.specs.Matcher.{IsMatcher};
 ghost use Rattle.mp_tests.specs.Matched.{IsMatched};
 ghost use Rattle.mp_tests.specs.Numbers.{AreNumbers};
 
+use crate::first_rule::{Wanted, check_file};
 use crate::matched::Matched;
 use mp_ac::CommMatcher;
-use mp_pattern::{Pattern, PlannedRule, plan_rules};
+use mp_pattern::Pattern;
 use mp_subst::Trail;
-use mp_table::{Head, Rank, Table};
-use mp_term::Signature;
-use mp_text::{File, Subject, read_file};
+use mp_table::{Head, Rank};
+use mp_term::Memory;
 use std::alloc::Global;
-use std::test::Fail;
+use std::process::Abort;
 
 // A file of a rule and a subject, and the ranks that each node below the rule's root takes, item after item.
 const ROWS: &[(&str, &[&[u32]])] = &[
@@ -117,11 +115,12 @@ fn are_bound(trail: &Trail, vars: &[u32]) -> bool {
 
 // The matcher at the root of the rule's pattern on the arguments of the subject, over a trail without entries.
 fn matcher<'a>(
+    rt: &impl Abort,
     alloc: Global,
     m: Matched<'a>,
     vars: &[u32],
     trail: &Trail,
-) -> Result<CommMatcher<'a>, Fail>
+) -> Result<CommMatcher<'a>, Memory>
     requires matched { IsMatched m.sig.now (rule_plan m.planned.now) (tree m.subject.now) m.table.now }
     requires trail { trail.now ≡ record { vars = 3; room = 1000; spare = 1000; stack = [] } }
     requires vars { AreNumbers vars.now }
@@ -130,29 +129,35 @@ fn matcher<'a>(
     let plan = &m.planned.plan;
     let root = m.table.root();
     let Pattern::App(op, _) = &m.planned.rule.pattern else {
-        return Err("the pattern is no application".into());
+        panic!(rt; "the pattern is no application");
     };
     let Head::App(head) = m.table.head(root) else {
-        return Err("the subject is no application".into());
+        panic!(rt; "the subject is no application");
     };
     if *op != head || !m.sig.is_comm(head) {
-        return Err("the operation is another one, or isn't commutative".into());
+        panic!(rt; "the operation is another one, or isn't commutative");
     }
     if m.table.nodes(root) > 400 || plan.len() > 128 || plan.vars() as usize != vars.len() {
-        return Err("the trail is too short".into());
+        panic!(rt; "the trail is too short");
     }
     let args = m.table.args(root);
-    Ok(CommMatcher::begin(alloc, m.sig, plan, 0, vars, m.table, args, trail)?)
+    CommMatcher::begin(alloc, m.sig, plan, 0, vars, m.table, args, trail)
 }
 
 // Whether the matcher at the root of the rule's pattern has these items on the arguments of the subject, and leaves the
 // trail as it was behind the last.
-fn has_items(alloc: Global, m: Matched<'_>, vars: &[u32], numbers: &[&[u32]]) -> Result<bool, Fail>
+fn has_items(
+    rt: &impl Abort,
+    alloc: Global,
+    m: Matched<'_>,
+    vars: &[u32],
+    numbers: &[&[u32]],
+) -> Result<bool, Memory>
     requires matched { IsMatched m.sig.now (rule_plan m.planned.now) (tree m.subject.now) m.table.now }
     requires vars { AreNumbers vars.now }
 {
     let mut trail = Trail::new(alloc, 3, 1000)?;
-    let mut matcher = matcher(alloc, m, vars, &trail)?;
+    let mut matcher = matcher(rt, alloc, m, vars, &trail)?;
     let nodes = m.planned.plan.len();
     let mut from = 0usize;
     while matcher.next(&mut trail)? {
@@ -165,65 +170,31 @@ fn has_items(alloc: Global, m: Matched<'_>, vars: &[u32], numbers: &[&[u32]]) ->
 }
 
 // The numbers in the trail of so many variables.
-fn numbers_of(vars: u32) -> Result<&'static [u32], Fail>
-    ensures { IfOk result (λ vs. AreNumbers vs.now) }
+fn numbers_of(rt: &impl Abort, vars: u32) -> &'static [u32]
+    ensures { AreNumbers result.now }
 {
     match vars {
-        1 => Ok(&[2]),
-        2 => Ok(&[2, 0]),
-        3 => Ok(&[2, 0, 1]),
-        _ => Err("too many variables".into()),
+        1 => &[2],
+        2 => &[2, 0],
+        3 => &[2, 0, 1],
+        _ => panic!(rt; "too many variables"),
     }
 }
 
-// Whether the rule has these items on the subject.
-fn is_row_on(
-    alloc: Global,
-    sig: &Signature,
-    planned: &PlannedRule<'_>,
-    subject: &Subject,
-    numbers: &[&[u32]],
-) -> Result<bool, Fail>
-    requires planned { IsPlanned sig.now (rule_plan planned.now) }
-    requires subject { IsSoundSubject sig.now (subject_tree subject.now) }
+// Stops unless the matcher at the root of the rule's pattern has these items on the arguments of the subject.
+pub fn check_matcher(rt: &impl Abort, alloc: Global, m: Matched<'_>, numbers: &[&[u32]])
+    requires { IsMatched m.sig.now (rule_plan m.planned.now) (tree m.subject.now) m.table.now }
 {
-    let table = Table::build(alloc, sig, &subject.term, &planned.constants)?;
-    let m = Matched {
-        sig,
-        planned,
-        name: &subject.name,
-        subject: &subject.term,
-        table: &table,
-    };
-    has_items(alloc, m, numbers_of(planned.plan.vars())?, numbers)
-}
-
-// Whether the first rule of the file has these items on the first subject.
-fn is_row_of(alloc: Global, file: &File, numbers: &[&[u32]]) -> Result<bool, Fail>
-    requires { IsSoundFile (file_tree file.now) }
-{
-    let rules = plan_rules(alloc, &file.sig, file.rules.as_slice())?;
-    match (rules.get(0), file.subjects.get(0)) {
-        (Some(planned), Some(subject)) => is_row_on(alloc, &file.sig, planned, subject, numbers),
-        _ => Err("no rule or no subject".into()),
-    }
-}
-
-// Whether the row holds.
-fn is_row(alloc: Global, row: &(&'static str, &'static [&'static [u32]])) -> Result<bool, Fail> {
-    if row.0.len() > 1000 {
-        return Err("the file is too long".into());
-    }
-    match read_file(alloc, row.0.as_bytes()) {
-        Ok(file) => is_row_of(alloc, &file, row.1),
-        Err(_) => Err("the file has a fault".into()),
-    }
+    let vars = numbers_of(rt, m.planned.plan.vars());
+    assert!(rt;
+        has_items(rt, alloc, m, vars, numbers).expect(rt, "memory"),
+        "{numbers:?}"
+    );
 }
 
 #[test]
-fn a_matcher_gives_each_item_once_over_its_trail(rt: HostRuntime) -> Result<(), Fail> {
+fn a_matcher_gives_each_item_once_over_its_trail(rt: HostRuntime) {
     for row in ROWS {
-        assert!(rt; is_row(rt.alloc(), row)?, "{}", row.0);
+        check_file(&rt, rt.alloc(), row.0, Wanted::Ranks(row.1));
     }
-    Ok(())
 }

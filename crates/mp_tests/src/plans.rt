@@ -1,11 +1,11 @@
 //! Plans, read node by node and variable by variable, and the refusals.
 
 use crate::patterns::DECLARED;
-use crate::reading::{file, halves, plan};
+use crate::reading::{file, parts, plan};
 use mp_pattern::{Form, Pattern, Patterns, Plan, PlanNode, Shape};
 use mp_term::{KindId, Name, OpId, Signature};
 use std::alloc::Global;
-use std::test::Fail;
+use std::process::Abort;
 
 // The class of a wildcard.
 fn class(shape: &Shape) -> u8 {
@@ -59,31 +59,18 @@ const NODES: [Row; 12] = [
     ((0, 0), None, None),
 ];
 
-fn row(plan: &Plan, number: u32) -> Row {
-    (
-        described(plan.node(number)),
-        plan.end(number),
-        plan.parent(number),
-    )
-}
-
-// The number of the first node that is another one.
-fn wrong_node(plan: &Plan) -> Option<u32> {
-    for (number, wanted) in (0..12).zip(&NODES) {
-        if row(plan, number) != *wanted {
-            return Some(number);
-        }
-    }
-    None
-}
-
 #[test]
-fn nodes_have_the_numbers_of_the_preorder(rt: HostRuntime) -> Result<(), Fail> {
-    let file = file(rt.alloc(), DECLARED)?;
-    let plan = plan(rt.alloc(), &file.sig, MIXED)?;
-    assert_eq!(rt; plan.len(), 11);
-    assert_eq!(rt; wrong_node(&plan), None);
-    Ok(())
+fn nodes_have_the_numbers_of_the_preorder(rt: HostRuntime) {
+    let file = file(&rt, rt.alloc(), DECLARED);
+    let plan = plan(&rt, rt.alloc(), &file.sig, MIXED);
+    assert!(rt; plan.len() == 11);
+    for (number, row) in (0..12).zip(&NODES) {
+        assert!(rt; described(plan.node(number)) == row.0, "{number}");
+        assert!(rt;
+            plan.end(number) == row.1 && plan.parent(number) == row.2,
+            "{number}"
+        );
+    }
 }
 
 // The variables of `MIXED`.
@@ -100,45 +87,29 @@ fn is_variable(plan: &Plan, number: u32, name: &[u8], form: Form) -> bool {
         && plan.find_var(name) == Some(number)
 }
 
-// The number of the first variable that is another one.
-fn wrong_variable(plan: &Plan) -> Option<u32> {
-    for (number, (name, form)) in (0..4).zip(&VARIABLES) {
-        if !is_variable(plan, number, name, *form) {
-            return Some(number);
-        }
-    }
-    None
-}
-
-// Whether the plan has a variable behind the last one, or one that the pattern hasn't.
-fn has_others(plan: &Plan) -> bool {
-    plan.var_name(4).is_some() || plan.find_var(b"a").is_some()
-}
-
 #[test]
-fn variables_have_their_forms(rt: HostRuntime) -> Result<(), Fail> {
-    let file = file(rt.alloc(), DECLARED)?;
-    let plan = plan(rt.alloc(), &file.sig, MIXED)?;
-    assert_eq!(rt;
-        (plan.vars(), wrong_variable(&plan), has_others(&plan)),
-        (4, None, false)
-    );
-    Ok(())
+fn variables_have_their_forms(rt: HostRuntime) {
+    let file = file(&rt, rt.alloc(), DECLARED);
+    let plan = plan(&rt, rt.alloc(), &file.sig, MIXED);
+    for (number, row) in (0..4).zip(&VARIABLES) {
+        assert!(rt; is_variable(&plan, number, row.0, row.1), "{number}");
+    }
+    assert!(rt; plan.vars() == 4 && plan.var_name(4).is_none() && plan.find_var(b"a").is_none());
 }
 
 // The shape of the mark: `.` for one, `+` for one or more, `*` for none or more, `k` and the number of a kind, or how
 // many, with a `+` where it may be more.
-fn shape(mark: &str) -> Result<Shape, Fail> {
+fn shape(rt: &impl Abort, mark: &str) -> Shape {
     match mark {
-        "." => Ok(Shape::Dot),
-        "+" => Ok(Shape::Plus),
-        "*" => Ok(Shape::Star),
-        "k0" => Ok(Shape::Kind(KindId(0))),
-        "k1" => Ok(Shape::Kind(KindId(1))),
-        "2" => Ok(TWO),
-        "2+" => Ok(TWO_OR_MORE),
-        "3" => Ok(THREE),
-        _ => Err("no shape".into()),
+        "." => Shape::Dot,
+        "+" => Shape::Plus,
+        "*" => Shape::Star,
+        "k0" => Shape::Kind(KindId(0)),
+        "k1" => Shape::Kind(KindId(1)),
+        "2" => TWO,
+        "2+" => TWO_OR_MORE,
+        "3" => THREE,
+        _ => panic!(rt; "no shape: {mark}"),
     }
 }
 
@@ -158,49 +129,49 @@ const THREE: Shape = Shape::Counted {
 };
 
 // A wildcard of a name, `:` and a mark.
-fn wildcard(alloc: Global, word: &str) -> Result<Pattern, Fail> {
-    match word.split_once(':') {
-        Some((name, mark)) => {
-            let name = Name::new(alloc, name.as_bytes())?;
-            Ok(Pattern::Wild(shape(mark)?, Some(name)))
-        }
-        None => Err("no wildcard".into()),
-    }
+fn wildcard(rt: &impl Abort, alloc: Global, word: &str) -> Pattern {
+    let (name, mark) = parts(rt, word, ":");
+    let name = Name::new(alloc, name.as_bytes()).expect(rt, "memory");
+    Pattern::Wild(shape(rt, mark), Some(name))
 }
 
 // sum of wildcards with a blank between each two
-fn sum(alloc: Global, words: &str) -> Result<Pattern, Fail> {
+fn sum(rt: &impl Abort, alloc: Global, words: &str) -> Pattern {
     let mut args = Patterns::new(alloc);
     for word in words.split(' ') {
-        args.push(wildcard(alloc, word)?)?;
+        args.push(wildcard(rt, alloc, word)).expect(rt, "memory");
     }
-    Ok(Pattern::App(OpId(0), args))
+    Pattern::App(OpId(0), args)
 }
 
-// The name of a number below 256.
-fn name(alloc: Global, number: u8) -> Result<Name, Fail> {
-    Ok(Name::new(alloc, &[b'a' + number % 16, b'a' + number / 16])?)
+// A dot, and its name where it has one, which is that of the number.
+fn dot(rt: &impl Abort, alloc: Global, number: u8, has_name: bool) -> Pattern {
+    if !has_name {
+        return Pattern::Wild(Shape::Dot, None);
+    }
+    let name = Name::new(alloc, &[b'a' + number % 16, b'a' + number / 16]).expect(rt, "memory");
+    Pattern::Wild(Shape::Dot, Some(name))
 }
 
 // sum of that many dots, with different names or without.
-fn dots(alloc: Global, count: u8, has_names: bool) -> Result<Pattern, Fail> {
+fn dots(rt: &impl Abort, alloc: Global, count: u8, has_names: bool) -> Pattern {
     let mut args = Patterns::new(alloc);
-    for i in 0..count {
-        let name = if has_names {
-            Some(name(alloc, i)?)
-        } else {
-            None
-        };
-        args.push(Pattern::Wild(Shape::Dot, name))?;
+    for number in 0..count {
+        args.push(dot(rt, alloc, number, has_names))
+            .expect(rt, "memory");
     }
-    Ok(Pattern::App(OpId(0), args))
+    Pattern::App(OpId(0), args)
 }
 
-// Why the pattern has no plan; nothing where it has one.
-fn told(alloc: Global, sig: &Signature, pattern: &Pattern) -> Result<String, Fail> {
-    match Plan::compile(alloc, sig, pattern) {
-        Ok(_) => Ok(String::new(alloc)),
-        Err(fault) => Ok(format!(in alloc; "{fault:?}")?),
+// Stops unless this is why the pattern has no plan; nothing where it has one.
+fn check_fault(rt: &impl Abort, alloc: Global, sig: &Signature, pattern: Pattern, wanted: &str) {
+    let pattern = Box::new(alloc, pattern).expect(rt, "memory");
+    match Plan::compile(alloc, sig, &pattern) {
+        Ok(_) => assert!(rt; wanted.is_empty(), "no fault"),
+        Err(fault) => {
+            let told = format!(in alloc; "{fault:?}").expect(rt, "memory");
+            assert!(rt; told.as_str() == wanted, "{wanted}");
+        }
     }
 }
 
@@ -217,19 +188,12 @@ x:2 y:. x:3|KindClash { node: 3 }\n\
 x:2+ y:. x:+|KindClash { node: 3 }";
 
 // The pattern of a line.
-fn refused(alloc: Global, text: &str) -> Result<Pattern, Fail> {
+fn refused(rt: &impl Abort, alloc: Global, text: &str) -> Pattern {
     if text.contains(' ') {
-        sum(alloc, text)
+        sum(rt, alloc, text)
     } else {
-        wildcard(alloc, text)
+        wildcard(rt, alloc, text)
     }
-}
-
-// Whether the pattern of the line is refused as the line says.
-fn is_refused(alloc: Global, sig: &Signature, line: &str) -> Result<bool, Fail> {
-    let (text, wanted) = halves(line)?;
-    let pattern = refused(alloc, text)?;
-    Ok(told(alloc, sig, &pattern)?.as_str() == wanted)
 }
 
 // How many dots, whether they have names, and why there is no plan.
@@ -240,20 +204,26 @@ const DOTS: &[(u8, bool, &str)] = &[
     (32, true, ""),
 ];
 
-// Whether so many dots are refused as the row says.
-fn are_refused(alloc: Global, sig: &Signature, row: &(u8, bool, &str)) -> Result<bool, Fail> {
-    let pattern = dots(alloc, row.0, row.1)?;
-    Ok(told(alloc, sig, &pattern)?.as_str() == row.2)
-}
-
 #[test]
-fn refusals_come_in_order(rt: HostRuntime) -> Result<(), Fail> {
-    let file = file(rt.alloc(), DECLARED)?;
+fn refusals_come_in_order(rt: HostRuntime) {
+    let file = file(&rt, rt.alloc(), DECLARED);
     for line in REFUSALS.split('\n') {
-        assert!(rt; is_refused(rt.alloc(), &file.sig, line)?, "{line}");
+        let (text, wanted) = parts(&rt, line, "|");
+        check_fault(
+            &rt,
+            rt.alloc(),
+            &file.sig,
+            refused(&rt, rt.alloc(), text),
+            wanted,
+        );
     }
     for row in DOTS {
-        assert!(rt; are_refused(rt.alloc(), &file.sig, row)?, "{}", row.0);
+        check_fault(
+            &rt,
+            rt.alloc(),
+            &file.sig,
+            dots(&rt, rt.alloc(), row.0, row.1),
+            row.2,
+        );
     }
-    Ok(())
 }

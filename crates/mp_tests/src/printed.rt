@@ -1,14 +1,12 @@
 //! What is printed of terms, patterns, conditions, signatures and files.
 
 use crate::alone::DECLARED;
-use crate::reading::{file, halves, pattern, term};
+use crate::reading::{condition, file, parts, pattern, sink, term};
 use mp_io::MemorySink;
 use mp_term::Signature;
-use mp_text::{
-    read_loose_cond, write_cond, write_file, write_pattern, write_signature, write_term,
-};
+use mp_text::{write_cond, write_file, write_pattern, write_signature, write_term};
 use std::alloc::Global;
-use std::test::Fail;
+use std::process::Abort;
 
 // In each table a line is a text and, behind `|`, what is printed of what it is read as.
 
@@ -162,6 +160,17 @@ subject s: l(l(a, b), (c ~ d));
 edit s: 0.1 -> [], 0.0 -> l(), 1.0 -> (a ~ b);
 ";
 
+// A file and, in the same way, what is printed of its signature, a declaration a line.
+const SIGNATURES: &str = "\
+op f 2; op g 0+; op s 0+ comm; op p 1+ assoc comm one infix +; kind v: a b;
+----
+op f 2;
+op g 0+;
+op s 0+ comm;
+op p 1+ assoc comm one infix +;
+kind v: a b;
+";
+
 // What a text is read as.
 #[derive(Clone, Copy)]
 enum Sort {
@@ -169,120 +178,103 @@ enum Sort {
     Pattern,
     Condition,
     File,
+    // The signature of a file.
+    Signature,
 }
 
-/// A sink of 200 bytes.
-pub fn sink(alloc: Global) -> Result<MemorySink, Fail> {
-    match MemorySink::new(alloc, 200, Vec::new(alloc)) {
-        Ok(sink) => Ok(sink),
-        Err(_) => Err("memory ran out".into()),
-    }
-}
-
-// Reads the text as a condition and prints it.
-fn print_condition(alloc: Global, sig: &Signature, text: &str, sink: &mut MemorySink) -> bool {
-    if text.len() > 1000 {
-        return false;
-    }
-    match read_loose_cond(alloc, sig, text.as_bytes()) {
-        Ok(cond) => write_cond(sig, &cond, sink).is_ok(),
-        Err(_) => false,
-    }
-}
-
-// Reads the text as a file and prints it.
-fn print_file(alloc: Global, text: &str, sink: &mut MemorySink) -> Result<bool, Fail> {
-    let file = file(alloc, text)?;
-    Ok(write_file(&file, sink).is_ok())
+// What the texts of a table are read as; what stands between each two cases, and between a text and what is printed of
+// what it is read as; and the cases.
+struct Table {
+    sort: Sort,
+    between: &'static str,
+    mark: &'static str,
+    cases: &'static str,
 }
 
 // Reads the text and prints it. Answers whether it was printed.
 fn print(
+    rt: &impl Abort,
     alloc: Global,
     sig: &Signature,
     sort: Sort,
     text: &str,
     sink: &mut MemorySink,
-) -> Result<bool, Fail> {
+) -> bool {
     match sort {
-        Sort::Term => Ok(write_term(sig, &term(alloc, sig, text)?, sink).is_ok()),
-        Sort::Pattern => Ok(write_pattern(sig, &pattern(alloc, sig, text)?, sink).is_ok()),
-        Sort::Condition => Ok(print_condition(alloc, sig, text, sink)),
-        Sort::File => print_file(alloc, text, sink),
+        Sort::Term => write_term(sig, &term(rt, alloc, sig, text), sink).is_ok(),
+        Sort::Pattern => write_pattern(sig, &pattern(rt, alloc, sig, text), sink).is_ok(),
+        Sort::Condition => write_cond(sig, &condition(rt, alloc, sig, text), sink).is_ok(),
+        Sort::File => write_file(&file(rt, alloc, text), sink).is_ok(),
+        Sort::Signature => write_signature(&file(rt, alloc, text).sig, sink).is_ok(),
     }
 }
 
-// Whether the wanted text is printed of the text.
-fn is_printed(
+// Stops unless the wanted text is printed of the text.
+fn check_printed(
+    rt: &impl Abort,
     alloc: Global,
     sig: &Signature,
     sort: Sort,
     text: &str,
     wanted: &str,
-) -> Result<bool, Fail> {
-    let mut sink = sink(alloc)?;
-    Ok(print(alloc, sig, sort, text, &mut sink)? && sink.content() == wanted.as_bytes())
+) {
+    let mut sink = sink(rt, alloc);
+    assert!(rt; print(rt, alloc, sig, sort, text, &mut sink), "{text}");
+    assert!(rt; sink.content() == wanted.as_bytes(), "{text}");
 }
 
-// Whether the wanted text is printed of the text, and of itself.
-fn is_printed_twice(
-    alloc: Global,
-    sig: &Signature,
-    sort: Sort,
-    text: &str,
-    wanted: &str,
-) -> Result<bool, Fail> {
-    Ok(is_printed(alloc, sig, sort, text, wanted)? && is_printed(alloc, sig, sort, wanted, wanted)?)
-}
-
-// Whether what is printed of the line is what stands behind its `|`.
-fn is_line_printed(alloc: Global, sig: &Signature, sort: Sort, line: &str) -> Result<bool, Fail> {
-    let (text, wanted) = halves(line)?;
-    is_printed_twice(alloc, sig, sort, text, wanted)
-}
-
-// Whether what is printed of the file is what stands behind its line of bars.
-fn is_file_printed(alloc: Global, sig: &Signature, case: &str) -> Result<bool, Fail> {
-    match case.split_once("----\n") {
-        Some((text, wanted)) => is_printed_twice(alloc, sig, Sort::File, text, wanted),
-        None => Err("the case has no line of bars".into()),
+// Stops unless what is printed of each text stands behind its mark, and is printed of itself too.
+fn check_table(rt: &impl Abort, alloc: Global, sig: &Signature, table: &Table) {
+    for case in table.cases.split(table.between) {
+        let (text, wanted) = parts(rt, case, table.mark);
+        check_printed(rt, alloc, sig, table.sort, text, wanted);
+        check_printed(rt, alloc, sig, table.sort, wanted, wanted);
     }
 }
 
-const TABLES: &[(Sort, &str)] = &[
-    (Sort::Term, TERMS),
-    (Sort::Pattern, PATTERNS),
-    (Sort::Condition, ATOMS),
-    (Sort::Condition, BRACKETS),
+const TABLES: &[Table] = &[
+    Table {
+        sort: Sort::Term,
+        between: "\n",
+        mark: "|",
+        cases: TERMS,
+    },
+    Table {
+        sort: Sort::Pattern,
+        between: "\n",
+        mark: "|",
+        cases: PATTERNS,
+    },
+    Table {
+        sort: Sort::Condition,
+        between: "\n",
+        mark: "|",
+        cases: ATOMS,
+    },
+    Table {
+        sort: Sort::Condition,
+        between: "\n",
+        mark: "|",
+        cases: BRACKETS,
+    },
+    Table {
+        sort: Sort::File,
+        between: "====\n",
+        mark: "----\n",
+        cases: FILES,
+    },
+    Table {
+        sort: Sort::Signature,
+        between: "====\n",
+        mark: "----\n",
+        cases: SIGNATURES,
+    },
 ];
 
 #[test]
-fn what_is_printed_is_read_again_and_printed_so(rt: HostRuntime) -> Result<(), Fail> {
-    let file = file(rt.alloc(), DECLARED)?;
+fn what_is_printed_is_read_again_and_printed_so(rt: HostRuntime) {
+    let file = file(&rt, rt.alloc(), DECLARED);
     for table in TABLES {
-        for line in table.1.split('\n') {
-            assert!(rt;
-                is_line_printed(rt.alloc(), &file.sig, table.0, line)?,
-                "{line}"
-            );
-        }
+        check_table(&rt, rt.alloc(), &file.sig, table);
     }
-    for case in FILES.split("====\n") {
-        assert!(rt; is_file_printed(rt.alloc(), &file.sig, case)?, "{case}");
-    }
-    Ok(())
-}
-
-// Whether the signature is printed as the text.
-fn is_signature_text(alloc: Global, sig: &Signature, text: &[u8]) -> Result<bool, Fail> {
-    let mut sink = sink(alloc)?;
-    Ok(write_signature(sig, &mut sink).is_ok() && sink.content() == text)
-}
-
-#[test]
-fn a_signature_is_printed_a_declaration_a_line(rt: HostRuntime) -> Result<(), Fail> {
-    let file = file(rt.alloc(), DECLARED)?;
-    let text = b"op f 2;\nop g 0+;\nop s 0+ comm;\nop p 1+ assoc comm one infix +;\nkind v: a b;\n";
-    assert!(rt; is_signature_text(rt.alloc(), &file.sig, text)?);
-    Ok(())
 }

@@ -1,79 +1,67 @@
-//! What the texts of tests are read as.
+//! What the texts of tests are read as. A text that isn't read stops its test. What lives long is in a box: one is
+//! quick to prove where it is dropped.
 
-use mp_pattern::{Pattern, Plan};
+ghost use Rattle.mp_text.specs.File.{file_tree};
+ghost use Rattle.mp_text.specs.Sound.{IsSoundFile};
+
+use mp_io::MemorySink;
+use mp_pattern::{Cond, Pattern, Plan};
 use mp_term::{Signature, Term};
-use mp_text::{File, read_file, read_pattern, read_term};
+use mp_text::{File, read_file, read_loose_cond, read_pattern, read_term};
 use std::alloc::Global;
+use std::process::Abort;
 
-/// Why a text of a test isn't read.
-#[derive(Clone, Copy, Debug, PartialEq, Eq)]
-pub enum NotRead {
-    /// It has more than 1,000 bytes.
-    TooLong,
-    /// It has a fault, or memory ran out.
-    Fault,
-    /// The pattern has no plan, or memory ran out.
-    NoPlan,
-    /// A line of a table has no bar.
-    NoBar,
-    /// There was no memory for a box.
-    Memory,
+/// What stands before and behind the first mark of a text.
+pub fn parts<'a>(rt: &impl Abort, text: &'a str, mark: &str) -> (&'a str, &'a str) {
+    text.split_once(mark).expect(rt, "a text without its mark")
 }
 
-/// What stands before and behind the first `|` of a line of a table.
-pub fn halves(line: &str) -> Result<(&str, &str), NotRead> {
-    match line.split_once('|') {
-        Some(both) => Ok(both),
-        None => Err(NotRead::NoBar),
-    }
+/// The file of a text.
+pub fn file(rt: &impl Abort, alloc: Global, text: &str) -> Box<File>
+    ensures { IsSoundFile (file_tree result.value) }
+{
+    assert!(rt; text.len() <= 1000, "{text}");
+    let file = read_file(alloc, text.as_bytes()).expect(rt, text);
+    Box::new(alloc, file).expect(rt, "memory")
 }
 
-/// The file of a text, in a box: one is quick to prove where it is dropped.
-pub fn file(alloc: Global, text: &str) -> Result<Box<File>, NotRead> {
-    if text.len() > 1000 {
-        return Err(NotRead::TooLong);
-    }
-    match read_file(alloc, text.as_bytes()) {
-        Ok(file) => boxed(alloc, file),
-        Err(_) => Err(NotRead::Fault),
-    }
+/// The term of a text, in normal form, on its own.
+pub fn bare_term(rt: &impl Abort, alloc: Global, sig: &Signature, text: &str) -> Term {
+    assert!(rt; text.len() <= 1000, "{text}");
+    read_term(alloc, sig, text.as_bytes()).expect(rt, text)
 }
 
-// The value in a box.
-fn boxed<T: Drop>(alloc: Global, value: T) -> Result<Box<T>, NotRead> {
-    match Box::new(alloc, value) {
-        Ok(value) => Ok(value),
-        Err(_) => Err(NotRead::Memory),
-    }
-}
-
-/// The term of a text, in normal form.
-pub fn term(alloc: Global, sig: &Signature, text: &str) -> Result<Term, NotRead> {
-    if text.len() > 1000 {
-        return Err(NotRead::TooLong);
-    }
-    match read_term(alloc, sig, text.as_bytes()) {
-        Ok(term) => Ok(term),
-        Err(_) => Err(NotRead::Fault),
-    }
+/// The same in a box.
+pub fn term(rt: &impl Abort, alloc: Global, sig: &Signature, text: &str) -> Box<Term> {
+    Box::new(alloc, bare_term(rt, alloc, sig, text)).expect(rt, "memory")
 }
 
 /// The pattern of a text, as it is written.
-pub fn pattern(alloc: Global, sig: &Signature, text: &str) -> Result<Pattern, NotRead> {
-    if text.len() > 1000 {
-        return Err(NotRead::TooLong);
-    }
-    match read_pattern(alloc, sig, text.as_bytes()) {
-        Ok(pattern) => Ok(pattern),
-        Err(_) => Err(NotRead::Fault),
-    }
+pub fn pattern(rt: &impl Abort, alloc: Global, sig: &Signature, text: &str) -> Box<Pattern> {
+    assert!(rt; text.len() <= 1000, "{text}");
+    let pattern = read_pattern(alloc, sig, text.as_bytes()).expect(rt, text);
+    Box::new(alloc, pattern).expect(rt, "memory")
 }
 
-/// The plan of the pattern of a text, in a box.
-pub fn plan(alloc: Global, sig: &Signature, text: &str) -> Result<Box<Plan>, NotRead> {
-    let pattern = pattern(alloc, sig, text)?;
-    match Plan::compile(alloc, sig, &pattern) {
-        Ok(plan) => boxed(alloc, plan),
-        Err(_) => Err(NotRead::NoPlan),
-    }
+/// The condition of a text, whose variables aren't checked.
+pub fn condition(rt: &impl Abort, alloc: Global, sig: &Signature, text: &str) -> Box<Cond> {
+    assert!(rt; text.len() <= 1000, "{text}");
+    let condition = read_loose_cond(alloc, sig, text.as_bytes()).expect(rt, text);
+    Box::new(alloc, condition).expect(rt, "memory")
+}
+
+/// The plan of a pattern.
+pub fn plan_of(rt: &impl Abort, alloc: Global, sig: &Signature, pattern: &Pattern) -> Box<Plan> {
+    let plan = Plan::compile(alloc, sig, pattern).expect(rt, "no plan");
+    Box::new(alloc, plan).expect(rt, "memory")
+}
+
+/// The plan of the pattern of a text.
+pub fn plan(rt: &impl Abort, alloc: Global, sig: &Signature, text: &str) -> Box<Plan> {
+    plan_of(rt, alloc, sig, &pattern(rt, alloc, sig, text))
+}
+
+/// A sink of 2,000 bytes.
+pub fn sink(rt: &impl Abort, alloc: Global) -> MemorySink {
+    MemorySink::new(alloc, 2000, Vec::new(alloc)).expect(rt, "memory")
 }

@@ -1,10 +1,10 @@
 //! Patterns that may fit at the root of a term, and others.
 
-use crate::reading::{file, halves, pattern, term};
+use crate::reading::{file, parts, pattern, term};
 use mp_cursor::may_fit;
 use mp_term::Signature;
 use std::alloc::Global;
-use std::test::Fail;
+use std::process::Abort;
 
 const DECLARED: &str = "op f 1; op g 0+; op u 1+ assoc comm one; kind v: a b;";
 
@@ -42,22 +42,19 @@ g(x_)|a\n\
 u(x_, y__)|a\n\
 u(x_, y___)|f(a)";
 
-// Whether the pattern of the line may fit at the root of its term.
-fn line_fits(alloc: Global, sig: &Signature, line: &str) -> Result<bool, Fail> {
-    let (text, rest) = halves(line)?;
-    let pattern = pattern(alloc, sig, text)?;
-    let term = term(alloc, sig, rest)?;
-    Ok(may_fit(sig, &pattern, &term))
+// Stops unless the pattern of each line may fit at the root of its term, or may not, as is wanted.
+fn check_lines(rt: &impl Abort, alloc: Global, sig: &Signature, lines: &str, wanted: bool) {
+    for line in lines.split('\n') {
+        let (pattern_text, term_text) = parts(rt, line, "|");
+        let pattern = pattern(rt, alloc, sig, pattern_text);
+        let term = term(rt, alloc, sig, term_text);
+        assert!(rt; may_fit(sig, &pattern, &term) == wanted, "{line}");
+    }
 }
 
 #[test]
-fn other_heads_fit_where_an_application_collapses(rt: HostRuntime) -> Result<(), Fail> {
-    let file = file(rt.alloc(), DECLARED)?;
-    for line in FITTING.split('\n') {
-        assert!(rt; line_fits(rt.alloc(), &file.sig, line)?, "{line}");
-    }
-    for line in OTHERS.split('\n') {
-        assert!(rt; !line_fits(rt.alloc(), &file.sig, line)?, "{line}");
-    }
-    Ok(())
+fn other_heads_fit_where_an_application_collapses(rt: HostRuntime) {
+    let file = file(&rt, rt.alloc(), DECLARED);
+    check_lines(&rt, rt.alloc(), &file.sig, FITTING, true);
+    check_lines(&rt, rt.alloc(), &file.sig, OTHERS, false);
 }

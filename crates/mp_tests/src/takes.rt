@@ -1,11 +1,11 @@
 //! Take tables that fit, and others.
 
-use crate::reading::{file, halves, plan, term};
+use crate::reading::{bare_term, file, parts, plan, plan_of, term};
 use mp_one::check_takes;
 use mp_pattern::{Entries, Entry, Pattern, Patterns, Plan, Shape};
 use mp_term::{Name, OpId, Signature, Term, Terms, is_normal};
 use std::alloc::Global;
-use std::test::Fail;
+use std::process::Abort;
 
 const DECLARED: &str =
     "op f 2; op g 0+; op s 0+ comm; op p 0+ assoc; op u 0+ assoc comm one; kind v: a b;";
@@ -57,126 +57,91 @@ g(x_{2},x_{2})|g(a,b,a,c)|g(a,b,a,c);a b;a c\n\
 s(x_{2})|s(a,b)|s(a,b);b a\n\
 u(y_,x_:0,v_{2})|a|a!;a;;";
 
-fn entry(alloc: Global, sig: &Signature, text: &str) -> Result<Entry, Fail> {
+// The entry of a text.
+fn entry(rt: &impl Abort, alloc: Global, sig: &Signature, text: &str) -> Entry {
     let mut terms = Terms::new(alloc);
     let collapsed = text.ends_with('!');
     for word in text.trim_end_matches('!').split(' ') {
         if !word.is_empty() {
-            terms.push(term(alloc, sig, word)?)?;
+            terms
+                .push(bare_term(rt, alloc, sig, word))
+                .expect(rt, "memory");
         }
     }
-    Ok(Entry { terms, collapsed })
+    Entry { terms, collapsed }
 }
 
-fn table(alloc: Global, sig: &Signature, text: &str) -> Result<Entries, Fail> {
-    let mut takes = Entries::new(alloc);
+// The take table of a text.
+fn entries(rt: &impl Abort, alloc: Global, sig: &Signature, text: &str) -> Entries {
+    let mut entries = Entries::new(alloc);
     for word in text.split(';') {
-        takes.push(entry(alloc, sig, word)?)?;
+        entries
+            .push(entry(rt, alloc, sig, word))
+            .expect(rt, "memory");
     }
-    Ok(takes)
+    entries
 }
 
-// Whether the table fits the plan's pattern and the subject.
-fn fits(
-    alloc: Global,
-    sig: &Signature,
-    plan: &Plan,
-    subject: &Term,
-    takes: &Entries,
-) -> Result<bool, Fail> {
-    if !is_normal(sig, subject) {
-        return Err("the subject isn't normal".into());
-    }
-    match check_takes(alloc, sig, plan, subject, takes) {
-        Ok(fits) => Ok(fits),
-        Err(_) => Err("memory ran out".into()),
-    }
+// Whether the table fits the plan's pattern and the subject: a subject and, behind `|`, a table.
+fn fits(rt: &impl Abort, alloc: Global, sig: &Signature, plan: &Plan, text: &str) -> bool {
+    let (subject, takes) = parts(rt, text, "|");
+    let subject = term(rt, alloc, sig, subject);
+    let takes = entries(rt, alloc, sig, takes);
+    assert!(rt; is_normal(sig, &subject), "{text}");
+    check_takes(alloc, sig, plan, &subject, &takes).expect(rt, "memory")
 }
 
-// Whether the table of the text fits the subject of the text.
-fn texts_fit(
-    alloc: Global,
-    sig: &Signature,
-    plan: &Plan,
-    subject: &str,
-    takes: &str,
-) -> Result<bool, Fail> {
-    let subject = term(alloc, sig, subject)?;
-    let takes = table(alloc, sig, takes)?;
-    fits(alloc, sig, plan, &subject, &takes)
-}
-
-// Whether the table of the line fits its pattern and its subject.
-fn line_fits(alloc: Global, sig: &Signature, line: &str) -> Result<bool, Fail> {
-    let (pattern, rest) = halves(line)?;
-    let (subject, takes) = halves(rest)?;
-    let plan = plan(alloc, sig, pattern)?;
-    texts_fit(alloc, sig, &plan, subject, takes)
+// Stops unless the table of each line fits, or doesn't, as is wanted.
+fn check_lines(rt: &impl Abort, alloc: Global, sig: &Signature, lines: &str, wanted: bool) {
+    for line in lines.split('\n') {
+        let (pattern, text) = parts(rt, line, "|");
+        let plan = plan(rt, alloc, sig, pattern);
+        assert!(rt; fits(rt, alloc, sig, &plan, text) == wanted, "{line}");
+    }
 }
 
 #[test]
-fn a_table_fits_where_each_node_obeys_its_line(rt: HostRuntime) -> Result<(), Fail> {
-    let file = file(rt.alloc(), DECLARED)?;
-    for line in FITTING.split('\n') {
-        assert!(rt; line_fits(rt.alloc(), &file.sig, line)?, "{line}");
-    }
-    for line in OTHERS.split('\n') {
-        assert!(rt; !line_fits(rt.alloc(), &file.sig, line)?, "{line}");
-    }
-    Ok(())
+fn a_table_fits_where_each_node_obeys_its_line(rt: HostRuntime) {
+    let file = file(&rt, rt.alloc(), DECLARED);
+    check_lines(&rt, rt.alloc(), &file.sig, FITTING, true);
+    check_lines(&rt, rt.alloc(), &file.sig, OTHERS, false);
 }
 
-// An application of the operation to one term.
-fn of_one(alloc: Global, op: OpId, term: Term) -> Result<Term, Fail> {
+// An application of the operation p to one term.
+fn of_one(rt: &impl Abort, alloc: Global, term: Term) -> Term {
     let mut args = Terms::new(alloc);
-    args.push(term)?;
-    Ok(Term::App(op, args))
+    args.push(term).expect(rt, "memory");
+    Term::App(OpId(3), args)
 }
 
-// p(p(a)), which isn't normal
-fn default(alloc: Global, sig: &Signature) -> Result<Term, Fail> {
-    let inner = of_one(alloc, OpId(3), term(alloc, sig, "a")?)?;
-    of_one(alloc, OpId(3), inner)
-}
-
-// `u(x_:DEFAULT, y_)`, or without the name of the first variable, where there is none.
-fn with_default(alloc: Global, default: Term, name: Option<Name>) -> Result<Pattern, Fail> {
+// `u(x_:p(p(a)), y_)`, whose default isn't normal, with this name of the first variable or without one.
+fn with_default(
+    rt: &impl Abort,
+    alloc: Global,
+    sig: &Signature,
+    name: Option<Name>,
+) -> Box<Pattern> {
+    let inner = of_one(rt, alloc, bare_term(rt, alloc, sig, "a"));
+    let default = of_one(rt, alloc, inner);
     let mut args = Patterns::new(alloc);
-    args.push(Pattern::Wild(Shape::Opt(default), name))?;
-    args.push(Pattern::Wild(Shape::Dot, None))?;
-    Ok(Pattern::App(OpId(4), args))
+    args.push(Pattern::Wild(Shape::Opt(default), name))
+        .expect(rt, "memory");
+    args.push(Pattern::Wild(Shape::Dot, None))
+        .expect(rt, "memory");
+    Box::new(alloc, Pattern::App(OpId(4), args)).expect(rt, "memory")
 }
 
-// That pattern, with the name x or without, where the default isn't normal.
-fn other_default(alloc: Global, sig: &Signature, has_name: bool) -> Result<Pattern, Fail> {
-    let default = default(alloc, sig)?;
-    if has_name {
-        with_default(alloc, default, Some(Name::new(alloc, b"x")?))
-    } else {
-        with_default(alloc, default, None)
-    }
-}
-
-// The plan of that pattern, in a box.
-fn other_plan(alloc: Global, sig: &Signature, has_name: bool) -> Result<Box<Plan>, Fail> {
-    let pattern = other_default(alloc, sig, has_name)?;
-    match Plan::compile(alloc, sig, &pattern) {
-        Ok(plan) => Ok(Box::new(alloc, plan)?),
-        Err(_) => Err("the pattern has no plan".into()),
-    }
-}
-
-// Whether the table that leaves out the first variable fits.
-fn left_out_fits(alloc: Global, sig: &Signature, has_name: bool) -> Result<bool, Fail> {
-    let plan = other_plan(alloc, sig, has_name)?;
-    texts_fit(alloc, sig, &plan, "a", "a!;;a")
+// Whether the table that leaves out the first variable of that pattern fits.
+fn left_out_fits(rt: &impl Abort, alloc: Global, sig: &Signature, name: Option<Name>) -> bool {
+    let pattern = with_default(rt, alloc, sig, name);
+    let plan = plan_of(rt, alloc, sig, &pattern);
+    fits(rt, alloc, sig, &plan, "a|a!;;a")
 }
 
 #[test]
-fn a_variable_is_left_out_where_its_default_is_normal(rt: HostRuntime) -> Result<(), Fail> {
-    let file = file(rt.alloc(), DECLARED)?;
-    for has_name in [true, false] {
-        assert!(rt; left_out_fits(rt.alloc(), &file.sig, has_name)? != has_name);
-    }
-    Ok(())
+fn a_variable_is_left_out_where_its_default_is_normal(rt: HostRuntime) {
+    let file = file(&rt, rt.alloc(), DECLARED);
+    let name = Name::new(rt.alloc(), b"x").expect(&rt, "memory");
+    assert!(rt; !left_out_fits(&rt, rt.alloc(), &file.sig, Some(name)));
+    assert!(rt; left_out_fits(&rt, rt.alloc(), &file.sig, None));
 }

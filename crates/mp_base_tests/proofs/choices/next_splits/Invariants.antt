@@ -2,4 +2,4 @@ use Rattle.std.proofs.Common.{◌≡◌}
 use Rattle.mp_base_tests.proofs.choices.next_splits.Given as goal
 
 abbrev pub invariant-loop : goal.invariant-loop
-invariant-loop l = l.splits.room ≡ l.initial.splits.room
+invariant-loop g l = l.splits.room ≡ l.initial.splits.room

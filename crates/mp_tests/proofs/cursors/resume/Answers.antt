@@ -9,17 +9,17 @@ use Rattle.mp_cursor.proofs.FirstLaws.{constants-held}
 use Rattle.mp_tests.proofs.cursors.resume.Goals as goal
 
 pub resume-requires-clause-condition : goal.resume-requires-clause-condition
-resume-requires-clause-condition c =
+resume-requires-clause-condition g c =
     let m = c.args.m in
     let r = planned_rule m.planned.now in
     HasConditionOver-HasSoundCondition m.sig.now r.pattern r.condition c.requires.planned.sound.condition
 
 pub resume-requires-clause-constants : goal.resume-requires-clause-constants
-resume-requires-clause-constants c =
+resume-requires-clause-constants g c =
     let m = c.args.m in
     constants-held m.table.now (tree m.subject.now) m.planned.now.constants c.requires.table
     (planned_rule m.planned.now) c.requires.planned.constants
 
 pub returns : goal.returns
-returns c = MatchResult-weaker c.resume.result {P' = λ (l : Listing). IsSome l.item} {Q' = λ _. ⊤} c.resume.ensures
+returns g c = MatchResult-weaker c.resume.result {P' = λ (l : Listing). IsSome l.item} {Q' = λ _. ⊤} c.resume.ensures
     (λ l q. ap is_some q.2.item) (λ e q. tt)

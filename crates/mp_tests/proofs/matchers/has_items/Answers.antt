@@ -10,6 +10,6 @@ shorter {X = X} [] ys o e h d = (let k : IsSome {T = X} None = subst (IsSome {T 
 shorter (x ∷ xs) ys o e h d = (let z = ap length d in omega (arith, z))
 
 pub loop-matcher-smaller : goal.loop-matcher-smaller
-loop-matcher-smaller c =
+loop-matcher-smaller g c =
     shorter (to_come c.loop-matcher.matcher) (to_come c.next.new.self) (item_of c.next.new.self) c.next.ensures.item
     (c.in_ok-next.ensures.answer.0 c.if-branch.true) c.next.ensures.list

@@ -4,8 +4,8 @@ use Rattle.mp_tests.proofs.matchers.has_items.Given as goal
 
 -- the trail is the one that the matcher left
 abbrev pub invariant-loop-matcher : goal.invariant-loop-matcher
-invariant-loop-matcher l = IsMatcher l.matcher × (l.trail ≡ l.matcher.trail)
+invariant-loop-matcher g l = IsMatcher l.matcher × (l.trail ≡ l.matcher.trail)
 
 -- fewer items are to come
 abbrev pub decreases-loop-matcher : goal.decreases-loop-matcher
-decreases-loop-matcher l = length (to_come l.matcher)
+decreases-loop-matcher g l = length (to_come l.matcher)

@@ -61,7 +61,7 @@ same-op : (p : Pattern) (g h : ℕ) (ps qs : Patterns) → p ≡ app_pattern g p
 same-op p g h ps qs e f = (let z : app_pattern g ps ≡ app_pattern h qs = sym e ∙ f in cc)
 
 pub begin-requires-clause-node : goal.begin-requires-clause-node
-begin-requires-clause-node c =
+begin-requires-clause-node g c =
     let plan = c.args.m.planned.now.plan in
     let is : plan.pattern ≡ app_pattern c.in-App.op.0 (patterns c.in-App.field-1) =
     ap (λ (p : Plan). p.pattern) c.requires.matched.planned.plan ∙ ap pattern_tree c.in-App.is in
@@ -72,12 +72,12 @@ begin-requires-clause-node c =
     (subst (λ g. is_comm c.args.m.sig.now g ≡ true) (sym same) comm)
 
 pub begin-requires-clause-below : goal.begin-requires-clause-below
-begin-requires-clause-below c =
+begin-requires-clause-below g c =
     subst (λ n. AllByRecursion (λ v. v < n) c.args.vars.now) (sym (ap (λ u. u.vars) c.requires.trail))
     c.requires.vars.below
 
 pub begin-requires-clause-constants : goal.begin-requires-clause-constants
-begin-requires-clause-constants c =
+begin-requires-clause-constants g c =
     let m = c.args.m in
     let t = m.table.now in
     subst (λ p. AllByRecursion (λ u. IsSome (rank_of t u)) (pattern_constants p))
@@ -87,7 +87,7 @@ begin-requires-clause-constants c =
     (planned_rule m.planned.now) c.requires.matched.planned.constants))
 
 pub begin-requires-clause-arguments : goal.begin-requires-clause-arguments
-begin-requires-clause-arguments c g ps e =
+begin-requires-clause-arguments h c g ps e =
     let sig = c.args.m.sig.now in
     let t = c.args.m.table.now in
     let plan = c.args.m.planned.now.plan in
@@ -103,7 +103,7 @@ begin-requires-clause-arguments c g ps e =
     (all-at (IsNormal sig) t.terms root.0 (symbol []) c.requires.matched.normal c.root-root.ensures.within)))
 
 pub begin-requires-clause-few : goal.begin-requires-clause-few
-begin-requires-clause-few c =
+begin-requires-clause-few g c =
     let few = argument-nodes (term_at c.args.m.table.now c.root-root.result) in
     let terms = ap all_nodes c.args-args.ensures.terms in
     let count = c.nodes.ensures in
@@ -111,7 +111,7 @@ begin-requires-clause-few c =
     omega (arith, few, terms, count, most)
 
 pub begin-requires-clause-spare : goal.begin-requires-clause-spare
-begin-requires-clause-spare c g ps e =
+begin-requires-clause-spare h c g ps e =
     let plan = c.args.m.planned.now.plan in
     let few = argument-nodes (term_at c.args.m.table.now c.root-root.result) in
     let terms = ap all_nodes c.args-args.ensures.terms in

@@ -3,7 +3,7 @@ use Rattle.std.specs.List.{AllByRecursion}
 use Rattle.mp_term.specs.Normal.{IsNormal}
 use Rattle.mp_term.specs.View.{tree}
 use Rattle.mp_many.proofs.WalkTables.{walk_table-built}
-use Rattle.mp_rules_tests.proofs.walks.table.Goals as goal
+use Rattle.mp_command_tests.proofs.walks.table.Goals as goal
 
 pub build-requires-clause-constant_nodes : goal.build-requires-clause-constant_nodes
 build-requires-clause-constant_nodes c = c.in_ok-constants.ensures.few
