@@ -60,32 +60,49 @@ fn is_at(headings: &[Heading<'_>], place: usize, term: &Term) -> bool
     place < headings.len() && compare_heads(headings[place].term, term).is_eq()
 }
 
-// The place of the term's head among the heads, which is looked for at a place before elsewhere.
-fn number_near(headings: &[Heading<'_>], term: &Term, near: usize) -> u32
+// The place of the term's head among the heads, which is looked for at a place, then where it is guessed, and then
+// elsewhere.
+fn number_near(headings: &[Heading<'_>], term: &Term, next: usize, guesses: &Guesses) -> u32
     requires short { length headings.now < 2 ^ 32 }
     requires ascending { IsStrictlySortedBy (slice_cmp nat_cmp) (keys headings.now) }
     requires there { In (head_key (tree term.now)) (keys headings.now) }
     ensures within { result < length headings.now }
     ensures key { slice_index_or (keys headings.now) result [] ≡ head_key (tree term.now) }
 {
+    if is_at(headings, next, term) {
+        return next as u32;
+    }
+    let near = guesses.at(head_digest(term));
     if is_at(headings, near, term) {
         return near as u32;
     }
     number_of(headings, term) as u32
 }
 
-// The number of the head of each term, from 0 in the order of the heads.
+// The guesses at the places of heads.
+fn guesses_at(alloc: Global, headings: &[Heading<'_>]) -> Result<Guesses, Memory> {
+    let mut guesses = Guesses::new(alloc, headings.len())?;
+    for (place, heading) in headings.iter().enumerate() {
+        guesses.put(head_digest(heading.term), place);
+    }
+    Ok(guesses)
+}
+
+// The number of the head of each term, from 0 in the order of the heads. Symbols often ascend: each is looked for
+// right behind the one before.
 pub(crate) fn codes(alloc: Global, terms: &[&Term]) -> Result<Vec<u32>, Memory>
     requires { length terms.now < 2 ^ 32 }
     ensures { IfOk result (λ cs. AreCodes (map (λ t. tree t.now) terms.now) cs.items) }
 {
     let headings = headings(alloc, terms)?;
     let mut codes = Vec::with_capacity(alloc, terms.len())?;
-    let mut guesses = Guesses::new(alloc, terms.len())?;
+    let guesses = guesses_at(alloc, &headings)?;
+    let mut next = 0;
     for term in terms {
-        let digest = head_digest(*term);
-        let number = number_near(&headings, *term, guesses.at(digest));
-        guesses.put(digest, number as usize);
+        let number = number_near(&headings, *term, next, &guesses);
+        if let Term::Sym(_) = *term {
+            next = number as usize + 1;
+        }
         codes.push(number)?;
     }
     Ok(codes)

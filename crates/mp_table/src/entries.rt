@@ -9,7 +9,7 @@ ghost use Rattle.mp_table.specs.Pieces.{ArePieces};
 ghost use Rattle.mp_table.specs.Text.{IsText, piece_terms, shown};
 
 use crate::entry::{Entry, OwnHead};
-use crate::guess::{Guesses, code_digest};
+use crate::guess::Guesses;
 use crate::piece::Piece;
 use crate::pieces::{guesses_at, rank_near};
 use crate::preorder::Preorder;
@@ -35,7 +35,8 @@ fn arg_count(term: &Term) -> usize {
     }
 }
 
-// The ranks of the arguments of the subterm at a place.
+// The ranks of the arguments of the subterm at a place. Arguments often ascend: each is looked for right behind the one
+// before.
 fn ranks_of_args(
     alloc: Global,
     text: &Preorder<'_>,
@@ -56,12 +57,13 @@ fn ranks_of_args(
     let end = start + text.nodes[start] as usize;
     let mut ranks = Vec::with_capacity(alloc, arg_count(text.terms[start]))?;
     let mut next = start + 1;
+    let mut behind = 0;
     while next < end {
         let after = next + text.nodes[next] as usize;
         let code = &codes[next..after];
-        let near = guesses.at(code_digest(code));
-        let rank = rank_near(pieces, code, near);
+        let rank = rank_near(pieces, code, behind, guesses);
         ranks.push(rank)?;
+        behind = rank.0 as usize + 1;
         next = after;
     }
     Ok(ranks)

@@ -10,9 +10,10 @@ pub(crate) struct Guesses {
 }
 
 impl Guesses {
-    // Room for guesses at the places of so many things. An odd digest and an even one never point to the same.
+    // Room for guesses at the places of so many things. As long as none is kept, a place is read at which nothing
+    // stands. An odd digest and an even one never point to the same.
     pub(crate) fn new(alloc: Global, count: usize) -> Result<Guesses, Memory> {
-        let places = vec![in alloc; 0; count.wrapping_mul(2)]?;
+        let places = vec![in alloc; usize::MAX; count.wrapping_mul(2)]?;
         Ok(Guesses { places })
     }
 

@@ -53,11 +53,13 @@ pub(crate) fn distinct_pieces<'a>(
     Ok(pieces)
 }
 
-// The guesses at the places of pieces.
+// The guesses at the places of the pieces that have arguments.
 pub(crate) fn guesses_at(alloc: Global, pieces: &[Piece<'_>]) -> Result<Guesses, Memory> {
     let mut guesses = Guesses::new(alloc, pieces.len())?;
     for (place, piece) in pieces.iter().enumerate() {
-        guesses.put(code_digest(piece.code), place);
+        if piece.code.len() > 1 {
+            guesses.put(code_digest(piece.code), place);
+        }
     }
     Ok(guesses)
 }
@@ -84,14 +86,22 @@ fn is_at(pieces: &[Piece<'_>], place: usize, code: &[u32]) -> bool
     place < pieces.len() && compare_codes(pieces[place].code, code).is_eq()
 }
 
-// The place of the subterm of that code, which is looked for at a place before elsewhere.
-pub(crate) fn rank_near(pieces: &[Piece<'_>], code: &[u32], near: usize) -> Rank
+// The place of the subterm of that code: of a symbol its number, since symbols come before applications. Another
+// subterm is looked for at a place, then where it is guessed, and then elsewhere.
+pub(crate) fn rank_near(pieces: &[Piece<'_>], code: &[u32], next: usize, guesses: &Guesses) -> Rank
     requires short { length pieces.now < 2 ^ 32 }
     requires ascending { IsStrictlySortedBy (slice_cmp nat_cmp) (piece_codes pieces.now) }
     requires there { In code.now (piece_codes pieces.now) }
     ensures within { result.0 < length pieces.now }
     ensures code { slice_index_or (piece_codes pieces.now) result.0 [] ≡ code.now }
 {
+    if code.len() == 1 && is_at(pieces, code[0] as usize, code) {
+        return Rank(code[0]);
+    }
+    if is_at(pieces, next, code) {
+        return Rank(next as u32);
+    }
+    let near = guesses.at(code_digest(code));
     if is_at(pieces, near, code) {
         return Rank(near as u32);
     }
