@@ -32,7 +32,7 @@ one_more : (k : ℕ) → suc k ≡ k + 1
 one_more k = omega arith
 
 -- behind a wildcard less is left by what it takes
-less-wild : (sig : Sig) (c : Pattern) (w : Wildcard) (x : Option (List ℕ)) (f : walk.Frame) (fs : List walk.Frame)
+pub less-wild : (sig : Sig) (c : Pattern) (w : Wildcard) (x : Option (List ℕ)) (f : walk.Frame) (fs : List walk.Frame)
     (e : Entry) → c ≡ wild_pattern w x → allows sig (walk.child c f fs) e ≡ true
     → load (onward (walk.child c f fs) e) + length e.terms ≤ load (walk.child c f fs)
 less-wild sig c w x f fs e i a =

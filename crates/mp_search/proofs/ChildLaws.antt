@@ -4,6 +4,7 @@ use Rattle.std.proofs.Common.{sym}
 use Rattle.std.proofs.Common.{◌∙◌, subst, arith, append_assoc, append-nil}
 use Rattle.std.specs.Prelude.{Some, None, IsSome, slice_get}
 use Rattle.std.specs.Borrow.{Bor}
+use Rattle.std.proofs.lemmas.Option.{slice_get_within}
 use Rattle.mp_term.specs.Signature.{Sig}
 use Rattle.mp_pattern.specs.PatternTree.{Pattern, patterns}
 use Rattle.mp_pattern.specs.View.{pattern_tree}
@@ -50,11 +51,6 @@ get-drop (suc m) n (x ∷ xs) = let e : suc (m + n) ≡ suc m + n = omega arith 
     get-drop m n xs ∙ ap (slice_get (x ∷ xs)) e
 
 -- the number of a node of the plan is less than that of all nodes
-get-within : {X : Type 0} (xs : List X) (i : ℕ) (x : X) → slice_get xs i ≡ Some x → i < length xs
-get-within [] i x h = cc
-get-within (y ∷ ys) zero x h = omega arith
-get-within (y ∷ ys) (suc i) x h = omega (arith, get-within ys i x h)
-
 pub node-within : (sig : Sig) (plan : Plan) (i : ℕ) → IsPlanOf sig plan.pattern plan
     → IsSome (slice_get (subpatterns plan.pattern) i) → i < length plan.nodes
 node-within sig plan i h s =
@@ -62,7 +58,7 @@ node-within sig plan i h s =
     (λ o. slice_get (subpatterns plan.pattern) i ≡ o → IsSome o → i < length plan.nodes) [
       | None ↦ λ e k. cc
       | Some p ↦ λ e k. let n = plan_node (variables plan.pattern) None plan.pattern i p e in
-          get-within plan.nodes i n.0 (ap (λ q. slice_get q.nodes i) h ∙ n.1)
+          slice_get_within plan.nodes i n.0 (ap (λ q. slice_get q.nodes i) h ∙ n.1)
     ] refl s
 
 module _ (q : Query) (below : List Level) (p : Place) (h : IsQuery q) (at : IsAt q below p) where

@@ -1,7 +1,6 @@
 -- What is known of a node before any search.
 use Rattle.std.proofs.Common.{◌≡◌, true, false, ℕ, zero, suc, List, [], ◌∷◌, refl, ap, subst}
 use Rattle.std.specs.Prelude.{Option, Some, None, slice_get, IsSome}
-use Rattle.std.specs.List.{AllByRecursion}
 use Rattle.std.proofs.lemmas.Option.{slice_get_within, get_or_from_slice_get}
 use Rattle.mp_term.specs.Tree.{Tree, symbol}
 use Rattle.mp_pattern.specs.PatternTree.{Pattern}
@@ -12,13 +11,6 @@ use Rattle.mp_search.specs.declared.grounds.Ground.{Ground}
 use Rattle.mp_search.specs.declared.grounds.Ground.TheVariants.{Open, Absent, At}
 use Rattle.mp_search.specs.Grounds.{ground_of, IsGround, AreGrounds}
 use Rattle.mp_search.specs.Query.{HoldsGround}
-
--- what holds of each item holds of the one at a place
-pub all-slice_get : {X : Type 0} (P : X → Type 0) (xs : List X) (i : ℕ) (x : X) → AllByRecursion P xs
-    → slice_get xs i ≡ Some x → P x
-all-slice_get P [] i x h e = cc
-all-slice_get P (y ∷ ys) zero x h e = let k : y ≡ x = cc in subst P k h.0
-all-slice_get P (y ∷ ys) (suc i) x h e = all-slice_get P ys i x h.1 e
 
 -- what is known of the node at a place
 pub ground-at : (t : Table) (ps : List Pattern) (gs : List Ground) (i : ℕ) (p : Pattern) → AreGrounds t ps gs

@@ -157,6 +157,43 @@ before-earlier t h k past rs held up i j d l m b =
         (λ q p. let wrong : Less ≡ Greater = sym q ∙ e in cc) (λ q p. let wrong : Equal ≡ Greater = sym q ∙ e in cc)
         (λ q p. omega (arith, p, l))
 
+-- what isn't before some place isn't so behind it
+pub behind-later : (t : Table) → IsTable t → (k : Group) (past : Bool) (rs : List Rank) → HasRanks t rs
+    → IsNonDecreasingBy (λ r. r.0) rs → (i j : ℕ) (d : Rank) → i ≤ j → j < length rs
+    → precedes t k past (term_at t (get_or rs i d)) ≡ false → precedes t k past (term_at t (get_or rs j d)) ≡ false
+behind-later t h k past rs held up i j d l m b = not_before (precedes t k past (term_at t (get_or rs j d)))
+    (λ e. let wrong : true ≡ false = sym (before-earlier t h k past rs held up i j d l m e) ∙ b in cc)
+  where
+    not_before : (c : Bool) → (c ≡ true → ⊥) → c ≡ false
+    not_before true g = absurd (g refl)
+    not_before false g = refl
+
+-- what comes before the group also comes before what is behind it
+first-past : (u : Tree) (ts : List Tree) → first_before false u ts ≡ true → first_before true u ts ≡ true
+first-past u [] b = refl
+first-past u (t ∷ ts) b = elim (tree_cmp t u) as
+    (λ o. elim o as (λ _. Bool) [ Less ↦ true | Equal ↦ false | Greater ↦ false ] ≡ true
+    → elim o as (λ _. Bool) [ Less ↦ true | Equal ↦ true | Greater ↦ false ] ≡ true)
+    [ Less ↦ λ e. refl | Equal ↦ λ e. refl | Greater ↦ λ e. cc ] b
+
+args-past : (c : ℕ) (o : Option Tree) (ts : List Tree) → args_before false c o ts ≡ true
+    → args_before true c o ts ≡ true
+args-past c None ts b = refl
+args-past c (Some u) ts b = elim (nat_eq (length ts) c) as
+    (λ d. (if d then first_before false u ts else ltb (length ts) c) ≡ true
+    → (if d then first_before true u ts else ltb (length ts) c) ≡ true)
+    [ true ↦ first-past u ts | false ↦ λ e. e ] b
+
+past-before : (g c : ℕ) (o : Option Tree) (t : Tree) → is_before false g c o t ≡ true → is_before true g c o t ≡ true
+past-before g c o (symbol m) b = refl
+past-before g c o (app f ts) b = elim (nat_eq f g) as
+    (λ d. (if d then args_before false c o (tree_list ts) else ltb f g) ≡ true
+    → (if d then args_before true c o (tree_list ts) else ltb f g) ≡ true)
+    [ true ↦ args-past c o (tree_list ts) | false ↦ λ e. e ] b
+
+pub precedes-past : (t : Table) (k : Group) (u : Tree) → precedes t k false u ≡ true → precedes t k true u ≡ true
+precedes-past t k = past-before k.op.0 k.count (option_map (term_at t) k.first)
+
 -- ranks that stand behind the place alone
 pub occurrences-drop : (z : Rank) (rs : List Rank) (i : ℕ)
     → ((k : ℕ) → k < i → k < length rs → (get_or rs k z).0 ≡ z.0 → ⊥) → occurrences z (drop i rs) ≡ occurrences z rs

@@ -36,12 +36,12 @@ use Rattle.mp_term.proofs.ListingLaws.{all_in}
 use Rattle.mp_theory.specs.Frames.{Next}
 use Rattle.mp_theory.specs.Items.{items}
 use Rattle.std.specs.Prelude.{filter}
+use Rattle.mp_subst.proofs.TrailLaws.{all-get}
 use Rattle.mp_search.specs.declared.query.Query.{Query}
 use Rattle.mp_search.specs.Query.{IsQuery}
 use Rattle.mp_search.specs.Reading.{name_at, subst_of}
 use Rattle.mp_search.specs.Says.{Says}
 use Rattle.mp_search.specs.Wanted.{condition_of, good, IsComplete, AreComplete}
-use Rattle.mp_search.proofs.GroundLaws.{all-slice_get}
 use Rattle.mp_search.proofs.NumberLaws.{same-swapped, distinct-variables, numbered}
 use Rattle.mp_search.proofs.NumberedLaws.{plan_names}
 use Rattle.mp_search.proofs.SubstLaws.{value_of-subst_from}
@@ -116,7 +116,7 @@ module _ (q : Query) (h : IsQuery q) (t : Trail)
       value-numbered n v e
       ∙ ap (λ o. elim o as (λ _. Option Value) [ None ↦ None | Some b ↦ Some (value_in q.table.now b) ]) l in
       let u = k v.name (value_in q.table.now b) held in
-      let formed = all-slice_get (λ x. option_map form_of (value_of s x.name) ≡ Some x.form) vars n v c e in
+      let formed = all-get (λ x. option_map form_of (value_of s x.name) ≡ Some x.form) vars n v c e in
       let form : Some (form_of u.0) ≡ Some v.form = sym (ap (option_map form_of) u.1) ∙ formed in
       subst (λ o. IsSomeAnd o (λ w. (form_of w ≡ v.form) × (merge (value_in q.table.now b) w ≡ Some w))) (sym u.1)
       (let i : form_of u.0 ≡ v.form = cc in (i, kept-merge (value_in q.table.now b) u.0 u.2))
@@ -127,7 +127,7 @@ module _ (q : Query) (h : IsQuery q) (t : Trail)
   settled-operand c (ground u) o = refl
   settled-operand c (var x) o =
       let r = known-variable vars x o in
-      let formed = all-slice_get (λ x. option_map form_of (value_of (subst_of q t) x.name) ≡ Some x.form) vars r.0 r.1
+      let formed = all-get (λ x. option_map form_of (value_of (subst_of q t) x.name) ≡ Some x.form) vars r.0 r.1
       c r.3 in
       rw (r.2, r.3) (in_form r.1 (last_value t.stack r.0)
       (sym (ap (option_map form_of) (value-numbered r.0 r.1 r.3)) ∙ formed))

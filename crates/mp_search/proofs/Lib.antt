@@ -37,6 +37,7 @@ pub mod ChoiceLaws
 pub mod ChildLaws
 pub mod OwnLaws
 pub mod NodeSteps
+pub mod NextLaws
 pub mod PreparedLaws
 pub mod JudgeLaws
 pub mod BindAtLaws
@@ -46,3 +47,4 @@ pub mod PortionLaws
 pub mod HeadedLaws
 pub mod PoolLaws
 pub mod PlacesLaws
+pub mod TableLaws

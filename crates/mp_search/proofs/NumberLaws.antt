@@ -17,8 +17,8 @@ use Rattle.mp_pattern.specs.Variables.{Use, uses, all_uses, variables}
 use Rattle.mp_pattern.specs.Plan.{Variable}
 use Rattle.mp_pattern.proofs.NameLaws.{same_name-is, same_name-itself}
 use Rattle.mp_theory.proofs.FirstsLaws.{Distinct, distinct-firsts}
+use Rattle.mp_subst.proofs.TrailLaws.{all-get}
 use Rattle.mp_search.specs.Reading.{name_among}
-use Rattle.mp_search.proofs.GroundLaws.{all-slice_get}
 
 -- an item at a place is one of the list
 pub in-slice_get : {X : Type 0} (xs : List X) (i : ℕ) (x : X) → slice_get xs i ≡ Some x → In x xs
@@ -27,15 +27,15 @@ in-slice_get (y ∷ xs) zero x e = let k : y ≡ x = cc in inl (sym k)
 in-slice_get (y ∷ xs) (suc i) x e = inr (in-slice_get xs i x e)
 
 -- the names of the uses
-abbrev names : List Use → List (List ℕ)
+abbrev pub names : List Use → List (List ℕ)
 names us = map (λ u. u.name) us
 
-in-names : (x : List ℕ) (us vs : List Use) → In x (names us) → In x (names (us ++ vs))
+pub in-names : (x : List ℕ) (us vs : List Use) → In x (names us) → In x (names (us ++ vs))
 in-names x [] vs h = absurd h
 in-names x (u ∷ us) vs (inl e) = inl e
 in-names x (u ∷ us) vs (inr i) = inr (in-names x us vs i)
 
-in-names_right : (x : List ℕ) (us vs : List Use) → In x (names vs) → In x (names (us ++ vs))
+pub in-names_right : (x : List ℕ) (us vs : List Use) → In x (names vs) → In x (names (us ++ vs))
 in-names_right x [] vs h = h
 in-names_right x (u ∷ us) vs h = inr (in-names_right x us vs h)
 
@@ -134,12 +134,12 @@ distinct-places [] i j x d h k = cc
 distinct-places (y ∷ xs) zero zero x d h k = refl
 distinct-places (y ∷ xs) zero (suc j) x d h k =
     let e : y ≡ x = cc in
-    let f : same_name y x ≡ false = all-slice_get (λ z. same_name y z ≡ false) xs j x d.0 k in
+    let f : same_name y x ≡ false = all-get (λ z. same_name y z ≡ false) xs j x d.0 k in
     let g : same_name y x ≡ true = subst (λ z. same_name z x ≡ true) (sym e) (same_name-itself x) in
     cc
 distinct-places (y ∷ xs) (suc i) zero x d h k =
     let e : y ≡ x = cc in
-    let f : same_name y x ≡ false = all-slice_get (λ z. same_name y z ≡ false) xs i x d.0 h in
+    let f : same_name y x ≡ false = all-get (λ z. same_name y z ≡ false) xs i x d.0 h in
     let g : same_name y x ≡ true = subst (λ z. same_name z x ≡ true) (sym e) (same_name-itself x) in
     cc
 distinct-places (y ∷ xs) (suc i) (suc j) x d h k = ap suc (distinct-places xs i j x d.1 h k)

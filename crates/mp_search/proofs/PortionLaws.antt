@@ -354,3 +354,21 @@ enough-end z u all l i some nothing h m n =
     last : (k : ℕ) → m ≤ occurrences z l + k → u * k ≤ 0 → m ≤ occurrences z l
     last zero a b = omega (arith, a)
     last (suc k) a b = absurd (omega (arith, b, mul-suc u k, some))
+
+occurrences-front : (z : Rank) (n : ℕ) (rs : List Rank)
+    → occurrences z (take n rs) + occurrences z (drop n rs) ≡ occurrences z rs
+occurrences-front z zero rs = omega arith
+occurrences-front z (suc n) [] = refl
+occurrences-front z (suc n) (r ∷ rs) = omega (arith, occurrences-front z n rs)
+
+-- a slice has all of a rank that stands neither before it nor behind it
+pub slice-enough : (z : Rank) (u : ℕ) (all : List Rank) (i j : ℕ) → u ≡ 1 → i ≤ j
+    → occurrences z (drop i all) ≡ occurrences z all → occurrences z (drop j all) ≡ 0
+    → (m : ℕ) → u * m ≤ occurrences z all → m ≤ occurrences z (take (j - i) (drop i all))
+slice-enough z u all i j one l front behind m n =
+    let whole = occurrences-front z (j - i) (drop i all) in
+    let there : i + (j - i) ≡ j = omega (arith, l) in
+    let rest : occurrences z (drop (j - i) (drop i all)) ≡ 0 =
+    ap (occurrences z) (drop-twice (j - i) i all ∙ ap (λ k. drop k all) there) ∙ behind in
+    let few : 1 * m ≤ occurrences z all = subst (λ k. k * m ≤ occurrences z all) one n in
+    omega (arith, whole, front, rest, few)

@@ -23,9 +23,9 @@ use Rattle.mp_theory.specs.Machine.{default_passes, reads}
 use Rattle.mp_theory.specs.Solve.{given}
 use Rattle.std.proofs.Math.Bool.{and-true}
 use Rattle.mp_theory.proofs.Wildcards.{final-passes}
+use Rattle.mp_subst.proofs.TrailLaws.{all-get}
 use Rattle.mp_search.specs.Grounds.{ground_of}
 use Rattle.mp_search.specs.Query.{HoldsGround}
-use Rattle.mp_search.proofs.GroundLaws.{all-slice_get}
 
 -- numbers are equal where they compare so
 eq_cmp : (m n : ℕ) → nat_eq m n ≡ is_eq (ordering_then (nat_cmp m n) Equal)
@@ -59,7 +59,7 @@ default_passes-held sig t (Some x) (optional d) [] n h = held (rank_of t d) refl
     held : (o : Option ℕ) → rank_of t d ≡ o → IsSome o → passes sig d ≡ true
     held None e k = cc
     held (Some r) e k =
-        final-passes sig d (all-slice_get (IsNormal sig) t.terms r d n (slice_get-rank_of t d r e))
+        final-passes sig d (all-get (IsNormal sig) t.terms r d n (slice_get-rank_of t d r e))
 default_passes-held sig t (Some x) (optional d) (u ∷ us) n h = refl
 default_passes-held sig t None (optional d) ts n h = refl
 default_passes-held sig t (Some x) dot ts n h = refl

@@ -85,6 +85,12 @@ module _ {X : Type 0} (cmp : X → X → Ordering) (o : IsTotalOrder cmp)
   sub-take (suc n) [] = refl
   sub-take (suc n) (t ∷ ts) = rw (same-itself cmp o means t) (sub-take n ts)
 
+  pub sub-slice : (i n : ℕ) (ts : List X) → Sub (take n (drop i ts)) ts
+  sub-slice zero n ts = sub-take n ts
+  sub-slice (suc i) zero [] = refl
+  sub-slice (suc i) (suc n) [] = refl
+  sub-slice (suc i) n (t ∷ ts) = sub-behind t (take n (drop i ts)) ts (sub-slice i n ts)
+
   -- a sublist of an ascending list ascends
   ascends-sub : (l ts : List X) → Ascends ts → Sub l ts → Ascends l
   ascends-sub [] ts a h = tt

@@ -6,6 +6,7 @@ use Rattle.mp_term.specs.Tree.{Tree}
 use Rattle.mp_pattern.specs.PatternTree.{Wildcard, Pattern, wild_pattern}
 use Rattle.mp_pattern.specs.Fits.{Entry}
 use Rattle.mp_pattern.specs.Value.{Subst, value_of}
+use Rattle.mp_pattern.specs.Variables.{comm_above}
 use Rattle.mp_pattern.specs.View.{pattern_tree}
 use Rattle.mp_table.specs.Table.{terms_at}
 use Rattle.mp_theory.specs.Bounds.{least, most}
@@ -19,6 +20,7 @@ use Rattle.mp_search.specs.declared.bounds.Bounds.{Bounds}
 use Rattle.mp_search.specs.declared.query.Query.{Query}
 use Rattle.mp_search.specs.declared.site.Site.{Site}
 use Rattle.mp_search.specs.Numbers.{IsNumberOf}
+use Rattle.mp_search.specs.Parts.{IsWild}
 use Rattle.mp_search.specs.Site.{site_place}
 
 -- the child's variable, which has no value and that number
@@ -43,6 +45,12 @@ HasNoValue p s = ⊥
 -- the child takes one term
 abbrev pub TakesOne : Sig → Option ℕ → Pattern → Type 0
 TakesOne sig f p = (least p ≡ 1) × (most sig f p ≡ Some 1)
+
+-- the child takes the next term alone
+pub record TakesNext (sig : Sig) (f : Option ℕ) (p : Pattern) : Type 0 where
+  pub ordered : comm_above sig f ≡ false
+  pub wild : IsWild p
+  pub single : TakesOne sig f p
 
 -- each choice with an item has a number of terms within the bounds, and so often what is left has each of its terms
 pub record AreBounds (q : Query) (x : Site) (s : Subst) (b : Bounds) : Type 0 where

@@ -7,6 +7,7 @@ pub mod Wanted
 pub mod Numbers
 pub mod Query
 pub mod Parts
+pub mod Passed
 pub mod Site
 pub mod Made
 pub mod Says

@@ -13,7 +13,7 @@ use crate::query::Query;
 use crate::rivals::is_first;
 use crate::shares::{node_behind, shares_of};
 use crate::site::Site;
-use mp_pattern::{Pattern, Shape, is_assoc_above, is_comm_above};
+use mp_pattern::Pattern;
 use mp_subst::Trail;
 
 // How many siblings take the same list, with the child itself, and the least and the greatest number of terms in it.
@@ -52,20 +52,6 @@ fn at_most(bound: Option<usize>, count: usize) -> usize
     }
 }
 
-// Whether the child is a wildcard that takes the next term, whatever its variable's value.
-pub(crate) fn takes_the_next(query: &Query<'_>, site: &Site<'_>) -> bool
-    ensures { IsTrue result → TakesOne query.now.sig.now (above site.now.under) (pattern_tree site.now.child.now) }
-{
-    if is_comm_above(query.sig, site.under) {
-        return false;
-    }
-    match site.child {
-        Pattern::Wild(Shape::Dot, _) => !is_assoc_above(query.sig, site.under),
-        Pattern::Wild(Shape::Kind(_), _) => true,
-        _ => false,
-    }
-}
-
 // Whether the child is an application behind the first child. It takes one term, and whether there are as many terms as
 // the children take was looked at before the first.
 fn is_later_application(query: &Query<'_>, site: &Site<'_>) -> bool
@@ -75,16 +61,6 @@ fn is_later_application(query: &Query<'_>, site: &Site<'_>) -> bool
         Pattern::App(_, _) => !is_first(query, site.node),
         _ => false,
     }
-}
-
-// Whether the child takes one term, so that nothing is to be counted.
-fn takes_one_at_once(query: &Query<'_>, site: &Site<'_>) -> bool
-    ensures { IsTrue result → TakesOne query.now.sig.now (above site.now.under) (pattern_tree site.now.child.now) }
-{
-    if takes_the_next(query, site) {
-        return true;
-    }
-    is_later_application(query, site)
 }
 
 // The bounds of the child, whose variable has that number, if it has one that isn't bound, and isn't optional.
@@ -100,7 +76,7 @@ pub(crate) fn bounds_of(
     requires var { IsFree query.now site.now (subst_of query.now trail.now) var }
     ensures { AreBounds query.now site.now (subst_of query.now trail.now) result }
 {
-    if takes_one_at_once(query, site) {
+    if is_later_application(query, site) {
         return Bounds {
             uses: 1,
             least: 1,

@@ -1,5 +1,5 @@
 //! Where the terms stand that a child may match.
-ghost use Rattle.std.specs.Prelude.{◌≡◌, ◌≤◌, ℕ, List, true, false, Option, Some, IfSome, map, length};
+ghost use Rattle.std.specs.Prelude.{◌≡◌, ◌≤◌, ℕ, List, true, false, Option, Some, IfSome, IsTrue, map, length};
 ghost use Rattle.std.specs.List.Sorted.{IsSorted};
 ghost use Rattle.mp_term.specs.Signature.{Sig};
 ghost use Rattle.mp_term.specs.Tree.{Tree};
@@ -8,24 +8,25 @@ ghost use Rattle.mp_pattern.specs.Subpatterns.{subpatterns, all_subpatterns};
 ghost use Rattle.mp_pattern.specs.View.{pattern_tree};
 ghost use Rattle.mp_subst.specs.Bound.{bound_of, value_in, IsBoundIn};
 ghost use Rattle.mp_subst.specs.Trail.{GoesWith};
-ghost use Rattle.mp_table.specs.Table.{HasRank, HasRanks, rank_cmp, term_at};
+ghost use Rattle.mp_table.specs.Table.{HasRank, HasRanks, rank_cmp, term_at, terms_at};
 ghost use Rattle.mp_theory.specs.Known.{contributed};
 ghost use Rattle.mp_theory.specs.MayMatch as look;
+ghost use Rattle.mp_search.specs.Frames.{above};
 ghost use Rattle.mp_search.specs.Parts.{StandsAt, IsWild};
 ghost use Rattle.mp_search.specs.Portion.{first_before, StandBetween};
 ghost use Rattle.mp_search.specs.Query.{IsQuery};
 ghost use Rattle.mp_search.specs.Reading.{subst_of};
 
-use crate::end::first_below;
+use crate::end::{end_of, first_below};
 use crate::ground::ground_rank;
-use crate::headed::{Group, place_behind};
-use crate::may_match::{is_plain, may_collapse};
+use crate::headed::{Group, first_place, place_behind};
+use crate::may_match::{each_may_match, is_plain, may_collapse, may_match};
 use crate::query::Query;
 use crate::variable::number_at;
 use mp_pattern::{Pattern, Shape};
 use mp_subst::{Bound, Trail};
 use mp_table::{Rank, Table};
-use mp_term::OpId;
+use mp_term::{OpId, Signature};
 
 // The rank of the only term that what the value contributes may be alone, if it is known.
 fn alone_in(table: &Table, bound: &Bound<'_>) -> Option<Rank>
@@ -78,6 +79,159 @@ fn known_rank(query: &Query<'_>, trail: &Trail, child: &Pattern, node: u32) -> O
     }
 }
 
+// Whether something is known of the wildcard's term.
+fn is_known(query: &Query<'_>, trail: &Trail, child: &Pattern, node: u32) -> bool
+    requires query { IsQuery query.now }
+    requires trail { GoesWith query.now.table.now trail.now }
+    requires child { StandsAt query.now node (subpatterns (pattern_tree child.now)) }
+{
+    match child {
+        Pattern::Wild(Shape::Dot, _) => match number_at(query, child, node) {
+            None => false,
+            Some(var) => trail.binding(var).is_some(),
+        },
+        _ => true,
+    }
+}
+
+// Whether something is known of the term of some child.
+fn some_is_known(query: &Query<'_>, trail: &Trail, children: &[Pattern], node: u32) -> bool
+    requires query { IsQuery query.now }
+    requires trail { GoesWith query.now.table.now trail.now }
+    requires children { StandsAt query.now node (all_subpatterns (patterns (map pattern_tree children.now))) }
+{
+    match children {
+        [] => false,
+        [child, later @ ..] => {
+            if is_known(query, trail, child, node) {
+                return true;
+            }
+            let end = end_of(query, child, node);
+            some_is_known(query, trail, later, end)
+        }
+    }
+}
+
+// Whether the child has arguments or a kind, of which its place among terms that ascend doesn't tell.
+fn has_more(child: &Pattern) -> bool {
+    match child {
+        Pattern::App(_, _) => true,
+        Pattern::Wild(Shape::Kind(_), _) => true,
+        _ => false,
+    }
+}
+
+// Whether a look at a term may tell more than its place among those that ascend, where the child is an application to
+// the children: something is known of others than the first, or of that one's arguments or kind.
+fn looks_within(query: &Query<'_>, trail: &Trail, children: &[Pattern], node: u32) -> bool
+    requires query { IsQuery query.now }
+    requires trail { GoesWith query.now.table.now trail.now }
+    requires children { StandsAt query.now node (all_subpatterns (patterns (map pattern_tree children.now))) }
+{
+    match children {
+        [] => false,
+        [child, later @ ..] => {
+            if has_more(child) {
+                return true;
+            }
+            let end = end_of(query, child, node);
+            some_is_known(query, trail, later, end)
+        }
+    }
+}
+
+// Whether a look at a term may tell more of whether the child matches it than its place among those that ascend.
+pub(crate) fn tells_more(query: &Query<'_>, trail: &Trail, child: &Pattern, node: u32) -> bool
+    requires query { IsQuery query.now }
+    requires trail { GoesWith query.now.table.now trail.now }
+    requires child { StandsAt query.now node (subpatterns (pattern_tree child.now)) }
+{
+    match child {
+        Pattern::App(op, children) => {
+            let children = children.as_slice();
+            is_plain(query.sig, Some(*op), children)
+                && looks_within(query, trail, children, first_below(query, child, node))
+        }
+        _ => true,
+    }
+}
+
+// Whether the place of a term among those that ascend tells of its first argument what a look may tell: the application
+// to the children can't be collapsed, and they take one argument each, the first one without looking into it.
+fn tells_first(sig: &Signature, op: OpId, children: &[Pattern]) -> bool
+    ensures { IsTrue result → (look.may_collapse sig.now op.0 (patterns (map pattern_tree children.now)) ≡ false)
+        × (look.is_plain sig.now (Some op.0) (patterns (map pattern_tree children.now)) ≡ true) }
+{
+    match children {
+        [] => false,
+        [child, ..] => {
+            if has_more(child) || may_collapse(sig, op, children) {
+                return false;
+            }
+            is_plain(sig, Some(op), children)
+        }
+    }
+}
+
+// Whether each child behind the first may take the argument at its place.
+fn later_may_match(
+    query: &Query<'_>,
+    trail: &Trail,
+    op: OpId,
+    children: &[Pattern],
+    node: u32,
+    args: &[Rank],
+) -> bool
+    requires query { IsQuery query.now }
+    requires trail { GoesWith query.now.table.now trail.now }
+    requires children { StandsAt query.now node (all_subpatterns (patterns (map pattern_tree children.now))) }
+    requires args { HasRanks query.now.table.now args.now }
+    ensures { look.each_may_match query.now.sig.now (subst_of query.now trail.now) (Some op.0)
+        (patterns (map pattern_tree children.now)) (terms_at query.now.table.now args.now) ≡ true → IsTrue result }
+{
+    match children {
+        [] => true,
+        [child, later @ ..] => match args {
+            [] => true,
+            [_, rest @ ..] => {
+                let end = end_of(query, child, node);
+                each_may_match(query, trail, Some(op), later, end, rest)
+            }
+        },
+    }
+}
+
+// Whether the child may take the term of the rank alone, which stands where it may stand among those that ascend: false
+// says that it can't. What its place tells isn't looked at again.
+pub(crate) fn may_match_there(
+    query: &Query<'_>,
+    trail: &Trail,
+    under: Option<OpId>,
+    child: &Pattern,
+    node: u32,
+    rank: Rank,
+) -> bool
+    requires query { IsQuery query.now }
+    requires trail { GoesWith query.now.table.now trail.now }
+    requires child { StandsAt query.now node (subpatterns (pattern_tree child.now)) }
+    requires rank { HasRank query.now.table.now rank }
+    ensures { look.may_match query.now.sig.now (subst_of query.now trail.now) (above under) (pattern_tree child.now)
+        (term_at query.now.table.now rank) ≡ true → IsTrue result }
+{
+    match child {
+        Pattern::App(op, children) => {
+            let children = children.as_slice();
+            if !tells_first(query.sig, *op, children) {
+                return may_match(query, trail, under, child, node, rank);
+            }
+            let args = query.table.args(rank);
+            let below = first_below(query, child, node);
+            later_may_match(query, trail, *op, children, below, args)
+        }
+        _ => may_match(query, trail, under, child, node, rank),
+    }
+}
+
 // The rank of the only first argument that a term may have which an application to the children may match, if it is
 // known, and if there must be as many arguments as children.
 fn first_rank(
@@ -123,8 +277,9 @@ fn group_places(
     requires firm { look.may_collapse query.now.sig.now op.0 (patterns (map pattern_tree children.now)) ≡ false }
     requires ranks { HasRanks query.now.table.now list.now }
     requires ascending { IsSorted rank_cmp list.now }
-    ensures { (f : Option ℕ) → StandBetween (λ r. look.may_match query.now.sig.now (subst_of query.now trail.now) f
-        (app_pattern op.0 (patterns (map pattern_tree children.now))) (term_at query.now.table.now r) ≡ true) list.now
+    ensures ordered { result.0 ≤ result.1 }
+    ensures places { (f : Option ℕ) → StandBetween (λ r. look.may_match query.now.sig.now (subst_of query.now trail.now)
+        f (app_pattern op.0 (patterns (map pattern_tree children.now))) (term_at query.now.table.now r) ≡ true) list.now
         result.0 result.1 }
 {
     let group = Group {
@@ -132,8 +287,8 @@ fn group_places(
         count: children.len(),
         first: first_rank(query, trail, op, children, node),
     };
-    let first = place_behind(query.table, &group, false, list);
-    (first, place_behind(query.table, &group, true, list))
+    let first = first_place(query.table, &group, list);
+    (first, place_behind(query.table, &group, list, first))
 }
 
 // Where the terms stand in an ascending list that the child may match: from the first place on, and before the second.
@@ -149,6 +304,7 @@ pub(crate) fn places_of(
     requires child { StandsAt query.now node (subpatterns (pattern_tree child.now)) }
     requires ranks { HasRanks query.now.table.now list.now }
     requires ascending { IsSorted rank_cmp list.now }
+    ensures ordered { result.0 ≤ result.1 }
     ensures within { result.1 ≤ length list.now }
     ensures places { (f : Option ℕ) → StandBetween (λ r. look.may_match query.now.sig.now (subst_of query.now trail.now)
         f (pattern_tree child.now) (term_at query.now.table.now r) ≡ true) list.now result.0 result.1 }

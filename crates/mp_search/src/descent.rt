@@ -3,6 +3,7 @@ ghost use Rattle.std.specs.Prelude.{◌≡◌, ◌<◌, ◌≤◌, ◌+◌, ◌-
 ghost use Rattle.mp_term.specs.Listing.{In};
 ghost use Rattle.mp_term.specs.Order.{tree_cmp};
 ghost use Rattle.mp_term.specs.Pieces.{without};
+ghost use Rattle.mp_pattern.specs.View.{pattern_tree};
 ghost use Rattle.mp_theory.specs.Frames as walk;
 ghost use Rattle.mp_theory.specs.Items.{items};
 ghost use Rattle.mp_theory.specs.Narrow.{load};
@@ -10,7 +11,8 @@ ghost use Rattle.mp_theory.specs.Trail.{allows};
 ghost use Rattle.mp_subst.specs.Trail.{GoesWith, cut};
 ghost use Rattle.mp_search.specs.At.{IsAt, IsAtNode, HasTrail, IsDrawn, Keeps, IsFound, drawn_at, own_at, items_from};
 ghost use Rattle.mp_search.specs.At.{items_with, BindsOnly};
-ghost use Rattle.mp_search.specs.Frames.{stack_frames, left_of, rest_at, place_after, start_of, IsBelow};
+ghost use Rattle.mp_search.specs.Bounds.{TakesNext};
+ghost use Rattle.mp_search.specs.Frames.{above, stack_frames, left_of, rest_at, place_after, start_of, IsBelow};
 ghost use Rattle.mp_search.specs.Levels.{AreLevels};
 ghost use Rattle.mp_search.specs.Query.{IsReady, width};
 ghost use Rattle.mp_search.specs.Reading.{table_of, entry_at, subst_of};
@@ -21,7 +23,10 @@ use crate::behind::{inner_frame, rest_frame};
 use crate::judge::holds;
 use crate::level::Level;
 use crate::mode::Mode;
-use crate::node::{bind_at, first_at, leads_nowhere_at, leave_at, may_stand, next_at, prepare_at};
+use crate::next::takes_the_next;
+use crate::node::{
+    bind_at, first_at, leads_nowhere_at, leave_at, may_stand, next_at, pass_at, prepare_at,
+};
 use crate::query::Query;
 use crate::stack::{Frame, Left, Next, Place, Stack, settle};
 use mp_pattern::Pattern;
@@ -158,6 +163,48 @@ fn ended(query: &Query<'_>, levels: &[Level], k: usize, trail: &Trail, mode: Mod
     }
 }
 
+// Looks for what is wanted at a child that takes the next term, node k.
+#[cycle(search)]
+fn visit_next<'a>(
+    query: &Query<'_>,
+    place: &Place<'a>,
+    levels: &mut [Level],
+    k: usize,
+    trail: &mut Trail,
+    mode: Mode,
+) -> bool
+    requires within { k < length levels.old }
+    requires node { IsAtNode query.now k levels.old }
+    requires place { IsAt query.now (take k levels.old) place.now }
+    requires next { TakesNext query.now.sig.now (above place.now.under) (pattern_tree place.now.child.now) }
+    requires trail { HasTrail query.now k levels.old trail.old }
+    requires standing { IsStanding mode (table_of query.now.table.now (drop k levels.old))
+        (items_from query.now k levels.old (subst_of query.now trail.old)) }
+    requires complete { AreComplete query.now (items_from query.now k levels.old (subst_of query.now trail.old)) }
+    ensures found { let is = wanted query.now mode (table_of query.now.table.now (drop k levels.old))
+        (items_from query.now k levels.old (subst_of query.now trail.old)) in
+        IsFound query.now result is (drop k levels.new) trail.new }
+    ensures kept { Keeps query.now k levels.old levels.new trail.old trail.new }
+{
+    match mode {
+        Mode::First => {
+            if !pass_at(&*query, &*place, levels, k, trail) {
+                return false;
+            }
+            if leads_nowhere_at(query, place, levels, k, trail) {
+                return false;
+            }
+            descend(query, place, levels, k, trail, Mode::First)
+        }
+        _ => {
+            if !may_stand(query, place, levels, k) {
+                return false;
+            }
+            follow(query, place, levels, k, trail, mode)
+        }
+    }
+}
+
 // Looks for what is wanted at a child, node k.
 #[cycle(search)]
 fn visit<'a>(
@@ -180,6 +227,9 @@ fn visit<'a>(
         IsFound query.now result is (drop k levels.new) trail.new }
     ensures kept { Keeps query.now k levels.old levels.new trail.old trail.new }
 {
+    if takes_the_next(query.sig, place.under, place.child) {
+        return visit_next(query, place, levels, k, trail, mode);
+    }
     match mode {
         Mode::First => {
             prepare_at(&*query, &*place, levels, k, trail);

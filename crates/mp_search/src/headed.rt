@@ -62,20 +62,33 @@ fn is_before(table: &Table, group: &Group, past: bool, rank: Rank) -> bool
     }
 }
 
-// The first place in an ascending list at which the term doesn't come before the group, and isn't one of it where that
-// is asked for.
-pub(crate) fn place_behind(table: &Table, group: &Group, past: bool, list: &[Rank]) -> usize
+// The first place in an ascending list, which is neither before the first given one nor behind the second, at which the
+// term doesn't come before the group, and isn't one of it where that is asked for.
+fn place_between(
+    table: &Table,
+    group: &Group,
+    past: bool,
+    list: &[Rank],
+    from: usize,
+    to: usize,
+) -> usize
     requires table { IsTable table.now }
     requires first { IfSome group.now.first (HasRank table.now) }
     requires ranks { HasRanks table.now list.now }
     requires ascending { IsSorted rank_cmp list.now }
+    requires order { from ≤ to }
+    requires within { to ≤ length list.now }
+    requires before { AllWithin (λ r. precedes table.now group.now past (term_at table.now r) ≡ true) list.now 0 from }
+    requires behind { AllWithin (λ r. precedes table.now group.now past (term_at table.now r) ≡ false) list.now to
+        (length list.now) }
+    ensures from { from ≤ result }
     ensures within { result ≤ length list.now }
     ensures before { AllWithin (λ r. precedes table.now group.now past (term_at table.now r) ≡ true) list.now 0 result }
     ensures behind { AllWithin (λ r. precedes table.now group.now past (term_at table.now r) ≡ false) list.now result
         (length list.now) }
 {
-    let mut low = 0;
-    let mut high = list.len();
+    let mut low = from;
+    let mut high = to;
     while low < high {
         let middle = low + (high - low) / 2;
         if is_before(table, group, past, list[middle]) {
@@ -85,4 +98,43 @@ pub(crate) fn place_behind(table: &Table, group: &Group, past: bool, list: &[Ran
         }
     }
     low
+}
+
+// The first place in an ascending list at which the term doesn't come before the group.
+pub(crate) fn first_place(table: &Table, group: &Group, list: &[Rank]) -> usize
+    requires table { IsTable table.now }
+    requires first { IfSome group.now.first (HasRank table.now) }
+    requires ranks { HasRanks table.now list.now }
+    requires ascending { IsSorted rank_cmp list.now }
+    ensures within { result ≤ length list.now }
+    ensures before { AllWithin (λ r. precedes table.now group.now false (term_at table.now r) ≡ true) list.now 0
+        result }
+    ensures behind { AllWithin (λ r. precedes table.now group.now false (term_at table.now r) ≡ false) list.now result
+        (length list.now) }
+{
+    place_between(table, group, false, list, 0, list.len())
+}
+
+// How many terms of a group are looked at before all that come behind its first one.
+const NEAR: usize = 4;
+
+// The first place in an ascending list at which the term comes behind the group, which begins at the given one.
+pub(crate) fn place_behind(table: &Table, group: &Group, list: &[Rank], first: usize) -> usize
+    requires table { IsTable table.now }
+    requires first { IfSome group.now.first (HasRank table.now) }
+    requires ranks { HasRanks table.now list.now }
+    requires ascending { IsSorted rank_cmp list.now }
+    requires within { first ≤ length list.now }
+    requires before { AllWithin (λ r. precedes table.now group.now false (term_at table.now r) ≡ true) list.now 0
+        first }
+    ensures from { first ≤ result }
+    ensures within { result ≤ length list.now }
+    ensures before { AllWithin (λ r. precedes table.now group.now true (term_at table.now r) ≡ true) list.now 0 result }
+    ensures behind { AllWithin (λ r. precedes table.now group.now true (term_at table.now r) ≡ false) list.now result
+        (length list.now) }
+{
+    if NEAR < list.len() - first && !is_before(table, group, true, list[first + NEAR]) {
+        return place_between(table, group, true, list, first, first + NEAR);
+    }
+    place_between(table, group, true, list, first, list.len())
 }

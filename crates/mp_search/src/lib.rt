@@ -20,6 +20,7 @@ mod lists;
 mod look;
 mod may_match;
 mod mode;
+mod next;
 mod node;
 mod own;
 mod pieces;

@@ -191,7 +191,7 @@ pub(crate) fn may_match(
 
 // Whether each child may take the term at its place.
 #[cycle(may_match)]
-fn each_may_match(
+pub(crate) fn each_may_match(
     query: &Query<'_>,
     trail: &Trail,
     under: Option<OpId>,

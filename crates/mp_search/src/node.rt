@@ -1,11 +1,12 @@
 //! What is done at one node, whose level is one of all levels.
-ghost use Rattle.std.specs.Prelude.{◌≡◌, ◌<◌, ◌≤◌, ◌+◌, ◌-◌, [], true, ℕ, Some, None, IsSome, take, length, slice_get};
-ghost use Rattle.std.specs.Prelude.{filter, IsTrue, MatchBool};
+ghost use Rattle.std.specs.Prelude.{◌≡◌, ◌<◌, ◌≤◌, ◌+◌, ◌-◌, [], true, ℕ, Some, None, IsSome, take, length};
+ghost use Rattle.std.specs.Prelude.{filter, slice_get, IsTrue, MatchBool};
 ghost use Rattle.mp_term.specs.Listing.{In};
 ghost use Rattle.mp_term.specs.Order.{tree_cmp};
 ghost use Rattle.mp_term.specs.Pieces.{without};
 ghost use Rattle.mp_pattern.specs.Plan.{IsPlanOf};
 ghost use Rattle.mp_pattern.specs.Subpatterns.{subpatterns};
+ghost use Rattle.mp_pattern.specs.View.{pattern_tree};
 ghost use Rattle.mp_subst.specs.Trail.{GoesWith, cut};
 ghost use Rattle.mp_theory.specs.Machine as machine;
 ghost use Rattle.mp_theory.specs.Solve.{solve};
@@ -14,8 +15,10 @@ ghost use Rattle.mp_theory.specs.Narrow.{load};
 ghost use Rattle.mp_theory.specs.Trail.{allows};
 ghost use Rattle.mp_search.specs.At.{IsAt, IsAtNode, HasTrail, IsDrawn, HasPool, KeepsLevels, AreInOrder, drawn_at};
 ghost use Rattle.mp_search.specs.At.{draws_at, own_at, BindsOnly};
-ghost use Rattle.mp_search.specs.Frames.{stack_frames, left_of, rest_at, place_after};
+ghost use Rattle.mp_search.specs.Bounds.{TakesNext};
+ghost use Rattle.mp_search.specs.Frames.{above, stack_frames, left_of, rest_at, place_after};
 ghost use Rattle.mp_search.specs.Levels.{AreLevels};
+ghost use Rattle.mp_search.specs.Passed.{IsPassed, IsShut};
 ghost use Rattle.mp_search.specs.Query.{IsQuery, width};
 ghost use Rattle.mp_search.specs.Reading.{table_of, entry_at, subst_of};
 ghost use Rattle.mp_search.specs.Site.{IsSite, site_place};
@@ -25,7 +28,7 @@ use crate::binding::bind;
 use crate::choice::is_choice;
 use crate::level::Level;
 use crate::look::{leads_nowhere, looks_behind};
-use crate::own::{first_own, next_own, prepare_own};
+use crate::own::{first_own, next_own, pass_own, prepare_own};
 use crate::query::Query;
 use crate::site::Site;
 use crate::stack::{Place, left_list};
@@ -178,6 +181,39 @@ pub(crate) fn first_at(query: &Query<'_>, place: &Place<'_>, levels: &mut [Level
     let (below, from) = levels.split_at_mut(k);
     let left = left_list(&*query, &*below, place.left);
     first_own(&*query, &*place, node, left, &mut from[0])
+}
+
+// Takes the next term at node k, whose child is to take that, and binds what it says, where the child may take it and
+// nothing clashes, and keeps what is left behind it.
+pub(crate) fn pass_at(
+    query: &Query<'_>,
+    place: &Place<'_>,
+    levels: &mut [Level],
+    k: usize,
+    trail: &mut Trail,
+) -> bool
+    requires within { k < length levels.old }
+    requires node { IsAtNode query.now k levels.old }
+    requires place { IsAt query.now (take k levels.old) place.now }
+    requires next { TakesNext query.now.sig.now (above place.now.under) (pattern_tree place.now.child.now) }
+    requires trail { HasTrail query.now k levels.old trail.old }
+    ensures passed { let n = place_after query.now (take k levels.old) in
+        let e = entry_at query.now.table.now levels.new k in
+        MatchBool result (IsPassed query.now n trail.old trail.new e) (IsShut query.now n trail.old trail.new e) }
+    ensures rest { IsTrue result → rest_at query.now levels.new k
+        ≡ without tree_cmp (entry_at query.now.table.now levels.new k).terms
+        (left_of query.now (take k levels.old) place.now.left) }
+    ensures levels { KeepsLevels query.now k levels.old levels.new }
+    ensures kept { cut (length trail.old.stack) trail.new ≡ trail.old }
+    ensures only { BindsOnly query.now.vars.now trail.old trail.new }
+    ensures spare { trail.old.spare
+        ≤ trail.new.spare + (length (entry_at query.now.table.now levels.new k).terms + 3) }
+    ensures trail { GoesWith query.now.table.now trail.new }
+{
+    let node = node_at(query, k);
+    let (below, from) = levels.split_at_mut(k);
+    let left = left_list(&*query, &*below, place.left);
+    pass_own(&*query, &*place, node, left, &mut from[0], trail)
 }
 
 // Moves node k to the entry that is drawn next after the one at hand, if there is one.

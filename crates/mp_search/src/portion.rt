@@ -11,8 +11,7 @@ ghost use Rattle.mp_search.specs.Query.{IsQuery};
 ghost use Rattle.mp_search.specs.Reading.{subst_of};
 ghost use Rattle.mp_search.specs.Site.{IsSite};
 
-use crate::candidates::places_of;
-use crate::may_match::may_match;
+use crate::candidates::{may_match_there, places_of, tells_more};
 use crate::query::Query;
 use crate::room::Room;
 use crate::site::Site;
@@ -54,7 +53,7 @@ fn add_taken(
         × (MayTake query.now site.now (subst_of query.now trail.now) looks rank → ⊥)) }
     ensures room { room.new.room ≡ room.old.room }
 {
-    if looks && !may_match(query, trail, site.under, site.child, site.node, rank) {
+    if looks && !may_match_there(query, trail, site.under, site.child, site.node, rank) {
         return;
     }
     room.push(rank);
@@ -67,7 +66,8 @@ fn places(query: &Query<'_>, site: &Site<'_>, trail: &Trail, looks: bool) -> (us
     requires site { IsSite query.now site.now }
     requires trail { GoesWith query.now.table.now trail.now }
     requires ascending { IsSorted rank_cmp site.now.left.now }
-    ensures { StandBetween (MayTake query.now site.now (subst_of query.now trail.now) looks) site.now.left.now
+    ensures ordered { result.0 ≤ result.1 }
+    ensures between { StandBetween (MayTake query.now site.now (subst_of query.now trail.now) looks) site.now.left.now
         result.0 result.1 }
 {
     if looks {
@@ -98,11 +98,11 @@ pub(crate) fn fill_portion(
     ensures room { room.new.room ≡ room.old.room }
 {
     let list = site.left;
-    if !looks && count == 1 {
-        room.refill(list);
+    let (first, end) = places(query, site, trail, looks);
+    if count == 1 && !(looks && tells_more(query, trail, site.child, site.node)) {
+        room.refill(&list[first..end]);
         return;
     }
-    let (first, end) = places(query, site, trail, looks);
     room.clear();
     let mut place = first;
     while place < end {

@@ -17,7 +17,7 @@ ghost use Rattle.mp_search.specs.Reading.{subst_of};
 ghost use Rattle.mp_search.specs.Levels.{rooms_of, take_of, IsRoomy, IsOver, IsPool};
 ghost use Rattle.mp_search.specs.Site.{IsSite, IsPrepared, site_place, entries_drawn};
 
-use crate::bounds::{bounds_of, takes_the_next};
+use crate::bounds::bounds_of;
 use crate::ends::{fill, fill_bound, is_default};
 use crate::ground::ground_rank;
 use crate::level::{Level, Source};
@@ -148,8 +148,6 @@ fn draw(query: &Query<'_>, site: &Site<'_>, own: &mut Level, trail: &Trail)
 {
     if let Pattern::Sym(_) = site.child {
         draw_symbol(query, site, own)
-    } else if takes_the_next(query, site) {
-        draw_open(query, site, None, own, trail)
     } else {
         match number_at(query, site.child, site.node) {
             None => draw_open(query, site, None, own, trail),

@@ -30,11 +30,11 @@ shares_of-shares-requires-clause-few c =
       c.len.ensures.most,
     )
 
-pub returns-then-takes_one_at_once : goal.returns-then-takes_one_at_once
-returns-then-takes_one_at_once c =
+pub returns-then-is_later_application : goal.returns-then-is_later_application
+returns-then-is_later_application c =
     let q = c.args.query.now in
     let x = c.args.site.now in
-    bounds-one q x (subst_of q c.args.trail.now) (c.takes_one_at_once.ensures c.if-takes_one_at_once.true) _ refl
+    bounds-one q x (subst_of q c.args.trail.now) (c.is_later_application.ensures c.if-is_later_application.true) _ refl
     refl refl
 
 pub returns : goal.returns

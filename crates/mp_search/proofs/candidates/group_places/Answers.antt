@@ -9,17 +9,17 @@ use Rattle.mp_search.proofs.HeadedLaws.{between-places}
 use Rattle.mp_search.proofs.PlacesLaws.{match-group}
 use Rattle.mp_search.proofs.candidates.group_places.Goals as goal
 
-pub returns : goal.returns
-returns c = λ f.
+pub returns-clause-places : goal.returns-clause-places
+returns-clause-places c = λ f.
     let q = c.args.query.now in
     let t = q.table.now in
     let s = subst_of q c.args.trail.now in
     let ps = patterns (map pattern_tree c.args.children.now) in
     let group : Group =
     record { op = c.args.op; count = length c.args.children.now; first = c.first_rank.result } in
-    between-places t group c.args.list.now c.place_behind-first.result c.place_behind.result
+    between-places t group c.args.list.now c.first_place-first.result c.place_behind.result
     (λ r. may_match q.sig.now s f (app_pattern c.args.op.0 ps) (term_at t r) ≡ true)
     (λ z h. match-group t q.sig.now s f group ps (term_at t z) c.requires.firm c.first_rank.ensures.plain
     c.first_rank.ensures.only h)
-    c.place_behind-first.ensures.within c.place_behind.ensures.within c.place_behind-first.ensures.before
+    c.first_place-first.ensures.within c.place_behind.ensures.within c.first_place-first.ensures.before
     c.place_behind.ensures.behind

@@ -28,7 +28,10 @@ returns-then-not-may_collapse-clause-places c = λ f.
     refl in
     subst (λ p. StandBetween
     (λ r. may_match q.sig.now (subst_of q c.args.trail.now) f p (term_at q.table.now r) ≡ true) c.args.list.now
-    c.group_places.result.0 c.group_places.result.1) (sym e) (c.group_places.ensures f)
+    c.group_places.result.0 c.group_places.result.1) (sym e) (c.group_places.ensures.places f)
 
 pub returns-then-not-may_collapse-clause-within : goal.returns-then-not-may_collapse-clause-within
-returns-then-not-may_collapse-clause-within c = (c.group_places.ensures None).within
+returns-then-not-may_collapse-clause-within c = (c.group_places.ensures.places None).within
+
+pub returns-then-not-may_collapse-clause-ordered : goal.returns-then-not-may_collapse-clause-ordered
+returns-then-not-may_collapse-clause-ordered c = c.group_places.ensures.ordered

@@ -5,9 +5,12 @@ use Rattle.mp_pattern.specs.PatternTree.{app_pattern, patterns}
 use Rattle.mp_pattern.specs.View.{pattern_tree}
 use Rattle.mp_theory.specs.Machine as machine
 use Rattle.mp_search.specs.At.{HasTrail, IsDrawn, drawn_at, items_from, items_with}
-use Rattle.mp_search.specs.Frames.{stack_frames, frame_of, inner_of}
+use Rattle.mp_search.specs.Frames.{stack_frames, frame_of, inner_of, left_of}
 use Rattle.mp_search.specs.Reading.{table_of, entry_at, subst_of}
-use Rattle.mp_search.specs.Wanted.{wanted, good, AreComplete}
+use Rattle.mp_search.specs.Wanted.{wanted, good, IsStanding, AreComplete}
+use Rattle.mp_search.specs.declared.mode.Mode.TheVariants.{First}
+use Rattle.mp_term.specs.Order.{tree_cmp}
+use Rattle.mp_term.specs.Pieces.{without}
 use Rattle.mp_search.proofs.FramesLaws.{settle-more, rest-behind, outer-below, entered-plain, frame-front}
 use Rattle.mp_search.proofs.FollowLaws as follows
 use Rattle.mp_search.proofs.LevelsLaws.{draws-kept}
@@ -17,6 +20,7 @@ use Rattle.mp_subst.specs.Trail.{length_at}
 use Rattle.mp_subst.proofs.TrailLaws.{length-kept}
 use Rattle.mp_search.proofs.TriedLaws.{trying-init, trying-allowed, trying-complete, trying-found, trying-next}
 use Rattle.mp_search.proofs.TriedLaws.{IsTrying, trying-falls, member-kept, pool-kept}
+use Rattle.mp_search.proofs.NextLaws as nexts
 use Rattle.mp_search.proofs.VisitLaws as visits
 use Rattle.mp_search.proofs.descent.+search.Goals as goal
 
@@ -311,6 +315,234 @@ try_each-returns-clause-kept t c =
     follows.kept-levels c.args.query.now c.args.k c.args.levels.now c.loop-found.levels c.args.trail.now
     c.loop-found.trail
     c.loop-found.invariant.levels c.loop-found.invariant.trail c.requires.trail.trail
+
+pub visit_next-returns-then-not-pass_at-clause-found : goal.visit_next-returns-then-not-pass_at-clause-found
+visit_next-returns-then-not-pass_at-clause-found t c =
+    let q = c.args.query.now in
+    let L = c.args.levels.now in
+    let r = c.requires in
+    let a = c.pass_at.ensures in
+    ap (wanted q c.args.mode (table_of q.table.now (drop c.args.k L)))
+    (nexts.shut-items q c.args.k L c.args.place.now c.args.trail.now r.within r.place r.next c.pass_at.new.levels
+    c.pass_at.new.trail a.levels a.kept a.only a.trail a.spare c.if-not-pass_at.ensures.passed)
+
+pub visit_next-returns-then-not-pass_at-clause-kept : goal.visit_next-returns-then-not-pass_at-clause-kept
+visit_next-returns-then-not-pass_at-clause-kept t c =
+    let r = c.requires in
+    let a = c.pass_at.ensures in
+    nexts.shut-keeps c.args.query.now c.args.k c.args.levels.now c.args.place.now c.args.trail.now r.within r.place
+    r.next c.pass_at.new.levels c.pass_at.new.trail a.levels a.kept a.only a.trail a.spare
+    c.if-not-pass_at.ensures.passed
+
+pub visit_next-leads_nowhere_at-requires-clause-node : goal.visit_next-leads_nowhere_at-requires-clause-node
+visit_next-leads_nowhere_at-requires-clause-node t c =
+    node-kept c.args.query.now c.args.k c.args.levels.now c.pass_at.new.levels c.requires.node c.pass_at.ensures.levels
+
+pub visit_next-leads_nowhere_at-requires-clause-place : goal.visit_next-leads_nowhere_at-requires-clause-place
+visit_next-leads_nowhere_at-requires-clause-place t c =
+    at-kept c.args.query.now c.args.k c.args.levels.now c.pass_at.new.levels c.args.place.now c.requires.place
+    c.pass_at.ensures.levels.front
+
+pub visit_next-leads_nowhere_at-requires-clause-allowed : goal.visit_next-leads_nowhere_at-requires-clause-allowed
+visit_next-leads_nowhere_at-requires-clause-allowed t c =
+    let r = c.requires in
+    let a = c.pass_at.ensures in
+    nexts.new-allowed c.args.query.now c.args.k c.args.levels.now c.args.place.now c.args.trail.now r.within r.place
+    r.next c.pass_at.new.levels c.pass_at.new.trail a.levels a.kept a.only a.trail a.spare r.node r.trail
+    c.if-not-pass_at.ensures.passed
+
+pub visit_next-returns-then-leads_nowhere_at-clause-found
+    : goal.visit_next-returns-then-leads_nowhere_at-clause-found
+visit_next-returns-then-leads_nowhere_at-clause-found t c =
+    let q = c.args.query.now in
+    let k = c.args.k in
+    let L = c.args.levels.now in
+    let N = c.pass_at.new.levels in
+    let T = c.args.trail.now in
+    let U = c.pass_at.new.trail in
+    let p = c.args.place.now in
+    let s = subst_of q T in
+    let r = c.requires in
+    let a = c.pass_at.ensures in
+    let b = c.if-not-pass_at.ensures.passed in
+    let is = nexts.new-items q k L p T r.within r.place r.next N U a.levels a.kept a.only a.trail a.spare r.node
+    r.trail b in
+    let bound = nexts.new-bound q k L p T r.within r.place r.next N U a.levels a.kept a.only a.trail a.spare r.node
+    r.trail b in
+    let within = nexts.new-within q k L p T r.within r.place r.next N U a.levels a.kept a.only a.trail a.spare r.node
+    r.trail b in
+    sym (nexts.first-wanted q k L s r.within (entry_at q.table.now N k) c.args.mode (table_of q.table.now (drop k N))
+    (table_of q.table.now (drop k L)) (items_with q k N s (entry_at q.table.now N k)) c.in-First.is is)
+    ∙ follows.nowhere q k N First s (subst_of q U) within bound
+    (c.if-leads_nowhere_at.ensures refl (length N - suc k)) (subst (AreComplete q) is r.complete)
+
+pub visit_next-returns-then-leads_nowhere_at-clause-kept : goal.visit_next-returns-then-leads_nowhere_at-clause-kept
+visit_next-returns-then-leads_nowhere_at-clause-kept t c =
+    let r = c.requires in
+    let a = c.pass_at.ensures in
+    nexts.passed-keeps c.args.query.now c.args.k c.args.levels.now c.args.place.now c.args.trail.now r.within r.place
+    r.next c.pass_at.new.levels c.pass_at.new.trail a.levels a.kept a.only a.trail a.spare
+    c.if-not-pass_at.ensures.passed
+
+pub visit_next-descend-requires : goal.visit_next-descend-requires
+visit_next-descend-requires t c =
+    let q = c.args.query.now in
+    let k = c.args.k in
+    let L = c.args.levels.now in
+    let N = c.pass_at.new.levels in
+    let T = c.args.trail.now in
+    let U = c.pass_at.new.trail in
+    let p = c.args.place.now in
+    let r = c.requires in
+    let a = c.pass_at.ensures in
+    let b = c.if-not-pass_at.ensures.passed in
+    let is = nexts.new-items q k L p T r.within r.place r.next N U a.levels a.kept a.only a.trail a.spare r.node
+    r.trail b in
+    let bound = nexts.new-bound q k L p T r.within r.place r.next N U a.levels a.kept a.only a.trail a.spare r.node
+    r.trail b in
+    let trail = nexts.new-trail q k L p T r.within r.place r.next N U a.levels a.kept a.only a.trail a.spare r.node
+    r.trail b in
+    let allowed = nexts.new-allowed q k L p T r.within r.place r.next N U a.levels a.kept a.only a.trail a.spare
+    r.node r.trail b in
+    let within : k < length N = omega (arith, a.levels.many, r.within) in
+    let ready = follows.ready q k N First (subst_of q T) N U within (node-kept q k L N r.node a.levels) allowed
+    (record { front = refl; many = refl; levels = a.levels.levels }) refl trail bound tt
+    (subst (AreComplete q) is r.complete) in (
+      omega (arith, c.decreases, a.levels.many, r.within),
+      (
+        within,
+        (
+          ready.node,
+          (
+            at-kept q k L N p r.place a.levels.front,
+            (
+              c.if-not-pass_at.ensures.rest refl
+                  ∙ ap (λ ls. without tree_cmp (entry_at q.table.now N k).terms (left_of q ls p.left))
+                  (sym a.levels.front),
+              (ready.trail, (ready.standing, ready.complete)),
+            ),
+          ),
+        ),
+      ),
+    )
+
+pub visit_next-returns-else-leads_nowhere_at-clause-found
+    : goal.visit_next-returns-else-leads_nowhere_at-clause-found
+visit_next-returns-else-leads_nowhere_at-clause-found t c =
+    let q = c.args.query.now in
+    let k = c.args.k in
+    let L = c.args.levels.now in
+    let N = c.pass_at.new.levels in
+    let T = c.args.trail.now in
+    let U = c.pass_at.new.trail in
+    let p = c.args.place.now in
+    let s = subst_of q T in
+    let r = c.requires in
+    let a = c.pass_at.ensures in
+    let b = c.if-not-pass_at.ensures.passed in
+    let is = nexts.new-items q k L p T r.within r.place r.next N U a.levels a.kept a.only a.trail a.spare r.node
+    r.trail b in
+    let bound = nexts.new-bound q k L p T r.within r.place r.next N U a.levels a.kept a.only a.trail a.spare r.node
+    r.trail b in
+    let within : k < length N = omega (arith, a.levels.many, r.within) in
+    follows.told-same c.descend.result _ _ _ _
+    (nexts.first-wanted q k L s r.within (entry_at q.table.now N k) c.args.mode (table_of q.table.now (drop k N))
+    (table_of q.table.now (drop k L)) (items_with q k N s (entry_at q.table.now N k)) c.in-First.is is) refl
+    (follows.found q k First N N c.descend.new.levels c.descend.result s (subst_of q U)
+    (subst_of q c.descend.new.trail) within refl c.descend.ensures.kept.many refl refl c.descend.ensures.kept.front
+    bound c.descend.ensures.found)
+
+pub visit_next-returns-else-leads_nowhere_at-clause-kept : goal.visit_next-returns-else-leads_nowhere_at-clause-kept
+visit_next-returns-else-leads_nowhere_at-clause-kept t c =
+    let q = c.args.query.now in
+    let k = c.args.k in
+    let L = c.args.levels.now in
+    let N = c.pass_at.new.levels in
+    let T = c.args.trail.now in
+    let U = c.pass_at.new.trail in
+    let r = c.requires in
+    let a = c.pass_at.ensures in
+    let spare = nexts.new-spare q k L c.args.place.now T r.within r.place r.next N U a.levels a.kept a.only a.trail
+    a.spare r.node r.trail c.if-not-pass_at.ensures.passed in
+    let within : k < length N = omega (arith, a.levels.many, r.within) in
+    follows.kept-after q k L N c.descend.new.levels T T c.descend.new.trail a.levels refl
+    (follows.kept q k N N c.descend.new.levels T U c.descend.new.trail within
+    (record { front = refl; many = refl; levels = a.levels.levels }) refl a.kept spare a.only
+    c.descend.ensures.kept)
+
+pub visit_next-returns-then-not-may_stand-clause-found : goal.visit_next-returns-then-not-may_stand-clause-found
+visit_next-returns-then-not-may_stand-clause-found t c =
+    let q = c.args.query.now in
+    nexts.other-wanted q c.args.k c.args.levels.now (subst_of q c.args.trail.now) c.requires.within c.args.mode
+    c.in_default.not-First c.requires.standing (sym c.if-not-may_stand.ensures)
+
+pub visit_next-returns-then-not-may_stand-clause-kept : goal.visit_next-returns-then-not-may_stand-clause-kept
+visit_next-returns-then-not-may_stand-clause-kept t c =
+    follows.kept-levels c.args.query.now c.args.k c.args.levels.now c.args.levels.now c.args.trail.now c.args.trail.now
+    (record { front = refl; many = refl; levels = c.requires.node.levels }) refl c.requires.trail.trail
+
+pub visit_next-follow-requires : goal.visit_next-follow-requires
+visit_next-follow-requires t c =
+    let q = c.args.query.now in
+    let k = c.args.k in
+    let L = c.args.levels.now in
+    let s = subst_of q c.args.trail.now in
+    let r = c.requires in
+    let allowed = sym c.if-not-may_stand.ensures in
+    let is = nexts.only-items q k L s r.within (entry_at q.table.now L k)
+    (nexts.place-choice q (take k L) c.args.place.now (entry_at q.table.now L k) r.place r.next allowed) in (
+      omega (arith, c.decreases, r.within),
+      (
+        r.within,
+        (
+          r.node,
+          (
+            r.place,
+            (
+              r.trail,
+              (
+                allowed,
+                (
+                  subst (IsStanding c.args.mode (table_of q.table.now (drop k L))) is r.standing,
+                  subst (AreComplete q) is r.complete,
+                ),
+              ),
+            ),
+          ),
+        ),
+      ),
+    )
+
+pub visit_next-returns-else-not-may_stand-clause-found : goal.visit_next-returns-else-not-may_stand-clause-found
+visit_next-returns-else-not-may_stand-clause-found t c =
+    let q = c.args.query.now in
+    let k = c.args.k in
+    let L = c.args.levels.now in
+    let e = entry_at q.table.now L k in
+    follows.told-same c.follow.result _ _ _ _
+    (ap (wanted q c.args.mode (table_of q.table.now (drop k L)))
+    (sym (nexts.only-items q k L (subst_of q c.args.trail.now) c.requires.within e
+    (nexts.place-choice q (take k L) c.args.place.now e c.requires.place c.requires.next
+    (sym c.if-not-may_stand.ensures))))) refl c.follow.ensures.found
+
+pub visit-visit_next-requires : goal.visit-visit_next-requires
+visit-visit_next-requires t c =
+    let r = c.requires in (
+      omega (arith, c.decreases, r.within),
+      (
+        r.within,
+        (
+          r.node,
+          (
+            r.place,
+            (
+              c.takes_the_next.ensures c.if-takes_the_next.true,
+              (r.trail, (r.standing, r.complete)),
+            ),
+          ),
+        ),
+      ),
+    )
 
 pub visit-try_each-requires : goal.visit-try_each-requires
 visit-try_each-requires t c =

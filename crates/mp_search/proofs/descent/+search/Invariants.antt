@@ -17,6 +17,9 @@ decreases-search l = 5 * (length l.levels.now - l.k) + 4
 abbrev pub decreases-try_each : goal.decreases-try_each
 decreases-try_each l = 5 * (length l.levels.now - l.k) + 2
 
+abbrev pub decreases-visit_next : goal.decreases-visit_next
+decreases-visit_next l = 5 * (length l.levels.now - l.k) + 2
+
 abbrev pub decreases-visit : goal.decreases-visit
 decreases-visit l = 5 * (length l.levels.now - l.k) + 3
 

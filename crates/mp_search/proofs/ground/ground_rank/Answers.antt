@@ -2,10 +2,11 @@ use Rattle.std.proofs.Common.{◌≡◌, sym, ◌∙◌, subst}
 use Rattle.std.proofs.lemmas.Option.{slice_get_within, get_or_from_slice_get}
 use Rattle.mp_pattern.specs.Subpatterns.{subpatterns}
 use Rattle.mp_pattern.specs.View.{pattern_tree}
+use Rattle.mp_subst.proofs.TrailLaws.{all-get}
 use Rattle.mp_search.specs.Grounds.{ground_of, IsGround}
 use Rattle.mp_search.specs.Query.{HoldsGround}
 use Rattle.mp_search.specs.declared.grounds.Ground.TheVariants.{At}
-use Rattle.mp_search.proofs.GroundLaws.{all-slice_get, ground-at, ground-term, ground-within, ground-none}
+use Rattle.mp_search.proofs.GroundLaws.{ground-at, ground-term, ground-within, ground-none}
 use Rattle.mp_search.proofs.ground.ground_rank.Goals as goal
 
 pub bounds : goal.bounds
@@ -39,7 +40,7 @@ returns-in_default c =
     let p = pattern_tree c.args.child.now in
     let g = ground-at q.table.now (subpatterns q.plan.now.pattern) q.grounds.now c.args.node p
     c.requires.query.grounds c.requires.child in
-    let held = all-slice_get (λ r. HoldsGround q.table.now (ground_of r)) (subpatterns q.plan.now.pattern) c.args.node p
+    let held = all-get (λ r. HoldsGround q.table.now (ground_of r)) (subpatterns q.plan.now.pattern) c.args.node p
     c.requires.query.holds c.requires.child in
     record {
       term = ground-none q.table.now (ground_of p) g.0 held g.2

@@ -1,13 +1,16 @@
-use Rattle.std.proofs.Common.{◌≡◌, ◌<◌, ◌≤◌, ◌*◌, length, take, drop, true, refl, sym, subst, arith, ◌∙◌, get_or}
+use Rattle.std.proofs.Common.{◌≡◌, ◌<◌, ◌≤◌, ◌-◌, ◌*◌, length, take, drop, true, refl, sym, subst, arith, ◌∙◌, get_or}
 use Rattle.mp_term.specs.Pieces.{is_sublist}
 use Rattle.mp_table.specs.Table.{rank_cmp}
 use Rattle.std.proofs.lemmas.List.{get_or_default}
 use Rattle.mp_table.specs.declared.rank.Rank.{Rank}
-use Rattle.mp_search.specs.Portion.{MayTake}
+use Rattle.mp_search.specs.Portion.{MayTake, occurrences}
 use Rattle.mp_search.specs.Reading.{subst_of}
 use Rattle.mp_search.proofs.HeadedLaws.{occurrences-drop, occurrences-none}
 use Rattle.mp_search.proofs.PortionLaws.{HasEnough, portion-kept, skip-part, skip-enough, enough-end, sub-front}
-use Rattle.mp_search.proofs.PieceLaws.{itself-sublist}
+use Rattle.mp_search.proofs.PortionLaws.{slice-enough}
+use Rattle.mp_search.proofs.PartLaws.{site-child}
+use Rattle.mp_search.proofs.RankOrder.{rank_total, rank_means}
+use Rattle.mp_search.proofs.Sublists.{sub-slice}
 use Rattle.mp_search.proofs.portion.fill_portion.Goals as goal
 
 pub loop-place-preserved-then-has_portion : goal.loop-place-preserved-then-has_portion
@@ -19,7 +22,7 @@ loop-place-preserved-then-has_portion c =
     let there : i < length xs = omega (
       arith,
       c.loop-place-test.true,
-      c.places-first.ensures.within,
+      c.places-first.ensures.between.within,
     ) in
     let is : r ≡ get_or xs i r = get_or_default xs i zero_rank r there in
     let whole = c.has_portion.ensures.whole c.if-has_portion.true in
@@ -46,7 +49,7 @@ loop-place-preserved c =
     let there : i < length xs = omega (
       arith,
       c.loop-place-test.true,
-      c.places-first.ensures.within,
+      c.places-first.ensures.between.within,
     ) in
     let is : r ≡ get_or xs i r = get_or_default xs i zero_rank r there in
     record {
@@ -61,7 +64,7 @@ loop-place-preserved c =
 
 pub returns-clause-enough : goal.returns-clause-enough
 returns-clause-enough c = λ z m w.
-    let between = c.places-first.ensures in
+    let between = c.places-first.ensures.between in
     enough-end z c.args.count c.args.site.now.left.now c.loop-place.room.items.items c.loop-place.place c.requires.some
     (occurrences-none z c.args.site.now.left.now c.loop-place.place
     (λ k l n e. between.behind z k w (omega (arith, l, c.loop-place-test.false)) n e))
@@ -75,14 +78,14 @@ pub bounds-list-place : goal.bounds-list-place
 bounds-list-place c = omega (
   arith,
   c.loop-place-test.true,
-  c.places-first.ensures.within,
+  c.places-first.ensures.between.within,
 )
 
 pub has_portion-requires-clause-within : goal.has_portion-requires-clause-within
 has_portion-requires-clause-within c = omega (
   arith,
   c.loop-place-test.true,
-  c.places-first.ensures.within,
+  c.places-first.ensures.between.within,
 )
 
 pub loop-place-init : goal.loop-place-init
@@ -92,7 +95,7 @@ loop-place-init c =
     let s = subst_of q c.args.trail.now in
     let xs = x.left.now in
     let n = c.args.count in
-    let between = c.places-first.ensures in
+    let between = c.places-first.ensures.between in
     let first = c.places-first.result.0 in
     let none = sym c.clear.ensures.items in
     record {
@@ -108,7 +111,23 @@ loop-place-init c =
       room = refl;
     }
 
-pub returns-then-count-eq1-clause-part : goal.returns-then-count-eq1-clause-part
-returns-then-count-eq1-clause-part c =
-    subst (λ rs. is_sublist rank_cmp rs c.args.site.now.left.now ≡ true) (sym c.refill.ensures.items)
-    (itself-sublist c.args.site.now.left.now)
+pub returns-then-not-tells_more-clause-part : goal.returns-then-not-tells_more-clause-part
+returns-then-not-tells_more-clause-part c =
+    let xs = c.args.site.now.left.now in
+    let first = c.places-first.result.0 in
+    subst (λ rs. is_sublist rank_cmp rs xs ≡ true) (sym c.refill.ensures.items)
+    (sub-slice rank_cmp rank_total rank_means first (c.places-first.result.1 - first) xs)
+
+pub returns-then-not-tells_more-clause-enough : goal.returns-then-not-tells_more-clause-enough
+returns-then-not-tells_more-clause-enough c = λ z m w k.
+    let xs = c.args.site.now.left.now in
+    let between = c.places-first.ensures.between in
+    let first = c.places-first.result.0 in
+    let end = c.places-first.result.1 in
+    subst (λ rs. m ≤ occurrences z rs) (sym c.refill.ensures.items)
+    (slice-enough z c.args.count xs first end c.if-count-eq1.true c.places-first.ensures.ordered
+    (occurrences-drop z xs first (λ j a o e. between.before z j w a e))
+    (occurrences-none z xs end (λ j a o e. between.behind z j w a o e)) m k)
+
+pub tells_more-requires-clause-child : goal.tells_more-requires-clause-child
+tells_more-requires-clause-child c = site-child c.args.query.now c.args.site.now c.requires.site

@@ -12,8 +12,8 @@ use Rattle.mp_search.proofs.portion.places.Goals as goal
 pub places_of-requires-clause-child : goal.places_of-requires-clause-child
 places_of-requires-clause-child c = site-child c.args.query.now c.args.site.now c.requires.site
 
-pub returns-then-looks : goal.returns-then-looks
-returns-then-looks c =
+pub returns-then-looks-clause-between : goal.returns-then-looks-clause-between
+returns-then-looks-clause-between c =
     let q = c.args.query.now in
     let x = c.args.site.now in
     let s = subst_of q c.args.trail.now in

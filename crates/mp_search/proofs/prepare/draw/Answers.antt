@@ -13,6 +13,6 @@ returns-in-Sym-clause-made c = c.draw_symbol.ensures.made (subst_of c.args.query
 
 pub returns-in-None : goal.returns-in-None
 returns-in-None c = record {
-  made = c.draw_open-in-None.ensures.made;
-  beside = c.draw_open-in-None.ensures.beside;
+  made = c.draw_open.ensures.made;
+  beside = c.draw_open.ensures.beside;
 }

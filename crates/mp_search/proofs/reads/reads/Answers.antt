@@ -4,10 +4,10 @@ use Rattle.mp_pattern.specs.View.{pattern_tree, wildcard}
 use Rattle.mp_pattern.specs.Subpatterns.{subpatterns}
 use Rattle.mp_table.specs.Table.{terms_at}
 use Rattle.mp_theory.specs.Machine.{reads}
+use Rattle.mp_subst.proofs.TrailLaws.{all-get}
 use Rattle.mp_search.specs.Frames.{above}
 use Rattle.mp_search.specs.Grounds.{ground_of}
 use Rattle.mp_search.specs.Query.{HoldsGround}
-use Rattle.mp_search.proofs.GroundLaws.{all-slice_get}
 use Rattle.mp_search.proofs.ReadsLaws.{default_passes-held, reads-wild}
 use Rattle.mp_search.proofs.SiteLaws.{site-node}
 use Rattle.mp_search.proofs.reads.reads.Goals as goal
@@ -20,7 +20,7 @@ returns-then-not-collapsed-2 c =
     let p = wild_pattern w c.in-Wild.field-1 in
     let is : pattern_tree x.child.now ≡ p = ap pattern_tree c.in-Wild.is in
     let held : HoldsGround q.table.now (ground_of p) = subst (λ r. HoldsGround q.table.now (ground_of r)) is
-    (all-slice_get (λ r. HoldsGround q.table.now (ground_of r)) (subpatterns q.plan.now.pattern) x.node _
+    (all-get (λ r. HoldsGround q.table.now (ground_of r)) (subpatterns q.plan.now.pattern) x.node _
     c.requires.query.holds (site-node q x c.requires.site)) in
     c.is_given.ensures
     ∙ reads-wild q.sig.now w c.in-Wild.field-1 (above x.under) (terms_at q.table.now c.args.ranks.now) c.args.collapsed
