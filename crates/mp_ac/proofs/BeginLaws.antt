@@ -22,6 +22,7 @@ use Rattle.mp_subst.proofs.TrailLaws.{cut-whole}
 use Rattle.mp_search.specs.Grounds.{ground_of, AreGrounds}
 use Rattle.mp_search.specs.Query.{HoldsGround}
 use Rattle.mp_search.specs.Reading.{name_among}
+use Rattle.mp_search.proofs.NumberLaws.{in-slice_get}
 use Rattle.mp_ac.specs.declared.comm_matcher.CommMatcher.{CommMatcher}
 use Rattle.mp_search.specs.declared.stage.Stage.TheVariants.{Before}
 use Rattle.mp_ac.specs.Asked.{all_items, levels_table, root_list}
@@ -33,7 +34,7 @@ use Rattle.mp_ac.specs.CommRoom.{IsRoomFor}
 use Rattle.mp_ac.specs.Matcher.{IsMatcher, asked_of, base_of, number_among, read_trail, to_come}
 use Rattle.mp_ac.specs.Stage.{ahead_at, IsAmong}
 use Rattle.mp_ac.proofs.ListLaws.{comm_list-items}
-use Rattle.mp_ac.proofs.MatcherLaws.{in-get, own-below, own-distinct, read-trail, sub-variables, variables-once}
+use Rattle.mp_ac.proofs.MatcherLaws.{own-below, own-distinct, read-trail, sub-variables, variables-once}
 use Rattle.mp_pattern.proofs.PlanNodes.{plan-names}
 
 -- the subpatterns of a subpattern are subpatterns
@@ -107,7 +108,7 @@ module _ (m : CommMatcher) (whole : Plan) (vars : List ℕ) (node g : ℕ) (ps :
             (all-from_in (λ c. HoldsGround m.table.now (ground_of c)) (subpatterns (app_pattern g ps)) (λ d i.
             all_in (λ c. HoldsGround m.table.now (ground_of c)) (subpatterns whole.pattern) d holds
             (sub-sub (app_pattern g ps) d i whole.pattern
-            (in-get (subpatterns whole.pattern) node (app_pattern g ps) sub))));
+            (in-slice_get (subpatterns whole.pattern) node (app_pattern g ps) sub))));
         vars = ap (λ ns. length ns) numbers
             ∙ length-map m.plan.variables (λ (y : Variable). number_among vars whole.variables y.name);
         distinct = λ i j v a b. own-distinct vars whole.variables (variables (app_pattern g ps)) many among

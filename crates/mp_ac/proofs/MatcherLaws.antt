@@ -1,5 +1,5 @@
 -- The variables of a subpattern among those of the whole pattern, and their numbers in a trail.
-use Rattle.std.proofs.Common.{◌≡◌, ℕ, zero, suc, ◌<◌, List, [], ◌∷◌, ◌++◌, map, length, true, false, refl, ap, sym}
+use Rattle.std.proofs.Common.{◌≡◌, ℕ, zero, suc, ◌<◌, List, [], ◌∷◌, map, length, true, false, refl, ap, sym}
 use Rattle.std.proofs.Common.{◌∙◌, ◌+◌, drop, subst, arith, inl, inr}
 use Rattle.std.specs.Prelude.{Option, Some, None, slice_get, slice_index_or, position, option_map, if◌then◌else◌}
 use Rattle.std.specs.List.{AllByRecursion}
@@ -13,7 +13,7 @@ use Rattle.mp_pattern.specs.PatternTree.{more_patterns}
 use Rattle.mp_pattern.specs.Plan.{Variable}
 use Rattle.mp_pattern.specs.Subpatterns.{subpatterns, all_subpatterns}
 use Rattle.mp_pattern.specs.Value.{Value, IsFinal, Subst, same_name}
-use Rattle.mp_pattern.specs.Variables.{Use, uses, all_uses, variables}
+use Rattle.mp_pattern.specs.Variables.{uses, all_uses, variables}
 use Rattle.mp_pattern.proofs.NameLaws.{same_name-is, same_name-itself}
 use Rattle.mp_table.specs.Table.{Table}
 use Rattle.mp_subst.specs.Bound.{value_in}
@@ -21,22 +21,10 @@ use Rattle.mp_subst.specs.Trail.{TrailEntry, AreFinal}
 use Rattle.mp_theory.proofs.FirstsLaws.{from_in-firsts_after}
 use Rattle.mp_theory.proofs.FirstItems.{in-firsts_after}
 use Rattle.mp_search.specs.Reading.{set, subst_from}
-use Rattle.mp_search.proofs.NumberLaws.{distinct-variables}
+use Rattle.mp_search.proofs.NumberLaws.{distinct-variables, names, in-names, in-names_right, in-slice_get}
 use Rattle.mp_ac.specs.CommItems.{NoneTwice, IsTrail}
 use Rattle.mp_ac.specs.Matcher.{number_among}
 use Rattle.mp_ac.proofs.Taken.{once-distinct}
-
-abbrev names : List Use → List (List ℕ)
-names us = map (λ u. u.name) us
-
-in-names : (x : List ℕ) (us vs : List Use) → In x (names us) → In x (names (us ++ vs))
-in-names x [] vs h = absurd h
-in-names x (u ∷ us) vs (inl e) = inl e
-in-names x (u ∷ us) vs (inr i) = inr (in-names x us vs i)
-
-in-names_right : (x : List ℕ) (us vs : List Use) → In x (names vs) → In x (names (us ++ vs))
-in-names_right x [] vs h = h
-in-names_right x (u ∷ us) vs h = inr (in-names_right x us vs h)
 
 -- a variable has its name whatever it stands under
 names-same : (f k : Option ℕ) (p : Pattern) → names (uses f p) ≡ names (uses k p)
@@ -67,18 +55,13 @@ module _ (c : Pattern) (k : Option ℕ) (y : List ℕ) (i : In y (names (uses k 
           | inr m ↦ in-names_right y (uses f p) (all_uses f ps) (all_sub-named f ps m)
         ]
 
-pub in-get : {X : Type 0} (xs : List X) (n : ℕ) (x : X) → slice_get xs n ≡ Some x → In x xs
-in-get [] n x e = cc
-in-get (y ∷ xs) zero x e = let k : y ≡ x = cc in inl (sym k)
-in-get (y ∷ xs) (suc n) x e = inr (in-get xs n x e)
-
 pub sub-variables : (p c : Pattern) (n : ℕ) (y : List ℕ) → slice_get (subpatterns p) n ≡ Some c → In y (variables c)
     → In y (variables p)
 sub-variables p c n y e i =
     elim (from_in-firsts_after same_name y [] (names (uses None c)) i) [
       | inl j ↦ absurd j
       | inr j ↦ in-firsts_after same_name same_name-is [] (names (uses None p)) y
-          (inr (sub-named c None y j None p (in-get (subpatterns p) n c e)))
+          (inr (sub-named c None y j None p (in-slice_get (subpatterns p) n c e)))
     ]
 
 -- where the number of a name stands
@@ -114,21 +97,21 @@ placed (v ∷ vs) (x ∷ xs) y e i =
     behind q (inr j) = j
 
 -- the place of an item of a mapped list
-get-map : {X Y : Type 0} (f : X → Y) (xs : List X) (i : ℕ) (v : Y) → slice_get (map f xs) i ≡ Some v
+pub get-map : {X Y : Type 0} (f : X → Y) (xs : List X) (i : ℕ) (v : Y) → slice_get (map f xs) i ≡ Some v
     → (x : X) × (slice_get xs i ≡ Some x) × (f x ≡ v)
 get-map f [] i v e = cc
 get-map f (x ∷ xs) zero v e = let k : f x ≡ v = cc in (x, refl, k)
 get-map f (x ∷ xs) (suc i) v e = get-map f xs i v e
 
 -- what stands once stands at one place
-one-place : {X : Type 0} (xs : List X) (i j : ℕ) (x : X) → NoneTwice xs → slice_get xs i ≡ Some x
+pub one-place : {X : Type 0} (xs : List X) (i j : ℕ) (x : X) → NoneTwice xs → slice_get xs i ≡ Some x
     → slice_get xs j ≡ Some x → i ≡ j
 one-place [] i j x h e f = cc
 one-place (y ∷ xs) zero zero x h e f = refl
 one-place {X = X} (y ∷ xs) zero (suc j) x h e f =
-    let k : y ≡ x = cc in absurd (h.0 (subst (λ z. In {X = X} z xs) (sym k) (in-get xs j x f)))
+    let k : y ≡ x = cc in absurd (h.0 (subst (λ z. In {X = X} z xs) (sym k) (in-slice_get xs j x f)))
 one-place {X = X} (y ∷ xs) (suc i) zero x h e f =
-    let k : y ≡ x = cc in absurd (h.0 (subst (λ z. In {X = X} z xs) (sym k) (in-get xs i x e)))
+    let k : y ≡ x = cc in absurd (h.0 (subst (λ z. In {X = X} z xs) (sym k) (in-slice_get xs i x e)))
 one-place (y ∷ xs) (suc i) (suc j) x h e f = ap suc (one-place xs i j x h.1 e f)
 
 -- distinct variables of a pattern have distinct numbers, which are numbers of variables
@@ -141,8 +124,8 @@ module _ (vars : List ℕ) (xs : List Variable) (own : List (List ℕ)) (many : 
   own-distinct once d i j v e f =
       let a = get-map (number_among vars xs) own i v e in
       let b = get-map (number_among vars xs) own j v f in
-      let p = placed vars xs a.0 many (among a.0 (in-get own i a.0 a.1)) in
-      let q = placed vars xs b.0 many (among b.0 (in-get own j b.0 b.1)) in
+      let p = placed vars xs a.0 many (among a.0 (in-slice_get own i a.0 a.1)) in
+      let q = placed vars xs b.0 many (among b.0 (in-slice_get own j b.0 b.1)) in
       let same : p.place ≡ q.place = d p.place q.place v (p.number ∙ ap Some a.2) (q.number ∙ ap Some b.2) in
       let names : Some a.0 ≡ Some b.0 =
       sym p.named ∙ ap (slice_get (map (λ x. x.name) xs)) same ∙ q.named in
@@ -158,7 +141,8 @@ module _ (vars : List ℕ) (xs : List Variable) (own : List (List ℕ)) (many : 
       each [] k = tt
       each (y ∷ ys) k =
           let p = placed vars xs y many (k y (inl refl)) in (
-            all_in (λ v. v < n) vars (number_among vars xs y) h (in-get vars p.place (number_among vars xs y) p.number),
+            all_in (λ v. v < n) vars (number_among vars xs y) h
+                (in-slice_get vars p.place (number_among vars xs y) p.number),
             each ys (λ z i. k z (inr i)),
           )
 

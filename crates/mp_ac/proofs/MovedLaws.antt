@@ -1,7 +1,8 @@
 -- One step of a search below a node.
-use Rattle.std.proofs.Common.{◌≡◌, ◌≤◌, ◌+◌, List, [], ◌∷◌, length, drop, true, false, refl, ap, sym, ◌∙◌, subst, arith}
+use Rattle.std.proofs.Common.{◌≡◌, ◌≤◌, ◌+◌, List, [], length, drop, true, false, refl, ap, sym, ◌∙◌, subst, arith}
 use Rattle.std.specs.Prelude.{Some, None, slice_get}
 use Rattle.std.specs.List.{AllByRecursion}
+use Rattle.std.proofs.Math.Seq.{drop-length}
 use Rattle.mp_term.specs.Search.{In}
 use Rattle.mp_term.specs.Size.{all_nodes}
 use Rattle.mp_pattern.specs.Fits.{Table}
@@ -49,15 +50,11 @@ none-ahead Standing e W is = cc
 none-ahead Ended e W is = refl
 
 -- the first of those that are to come is an item
-ahead-in : (stage : Stage) (W : Table) (is : List Item) (i : Item) → slice_get (ahead_at stage W is) 0 ≡ Some i
+pub ahead-in : (stage : Stage) (W : Table) (is : List Item) (i : Item) → slice_get (ahead_at stage W is) 0 ≡ Some i
     → In i is
 ahead-in Before W is i e = first-in is i e
 ahead-in Standing W is i e = behind-in W is i (first-in (behind_table W is) i e)
 ahead-in Ended W is i e = cc
-
-drop-all : {X : Type 0} (xs : List X) → drop (length xs) xs ≡ []
-drop-all [] = refl
-drop-all (x ∷ xs) = drop-all xs
 
 module _ (a : Asked) (rs : List Rank) (stage : Stage) (old : CommRoom) (t : Trail)
     (h : IsStandingAt a rs stage old t) where
@@ -158,7 +155,7 @@ module _ (a : Asked) (rs : List Rank) (stage : Stage) (old : CommRoom) (t : Trai
       };
       count = count;
       kept = cut-whole t;
-      only = subst (AllByRecursion (λ e. In e.var a.vars.now)) (sym (drop-all t.stack)) tt;
+      only = subst (AllByRecursion (λ e. In e.var a.vars.now)) (sym (drop-length t.stack)) tt;
       spare = omega arith;
       goes = h.trail.goes;
     })

@@ -2,8 +2,9 @@
 use Rattle.std.proofs.Common.{◌≡◌, ◌<◌, ◌≤◌, ◌+◌, ℕ, List, [], ◌∷◌, length, map, take, true, false, zero, suc}
 use Rattle.std.proofs.Common.{refl}
 use Rattle.std.proofs.Common.{ap, sym, ◌∙◌, subst, arith, ◌-◌, slice_index_or}
-use Rattle.std.specs.Prelude.{Some, None, slice_get}
+use Rattle.std.specs.Prelude.{Some, None, slice_get, option_map}
 use Rattle.std.specs.List.{AllByRecursion}
+use Rattle.std.proofs.lemmas.Option.{slice_get-map}
 use Rattle.mp_pattern.specs.NetTokens.{numbered}
 use Rattle.mp_pattern.specs.PatternTree.{Pattern}
 use Rattle.mp_pattern.specs.Size.{pattern_nodes}
@@ -33,12 +34,6 @@ count-subpatterns p a =
     length-subpatterns p ∙ ap pattern_nodes a.is ∙ ap (λ q. nodes_below q + 1) (sym a.is)
 
 -- at a place of a list, in the list of what it becomes
-map-get : {X Y : Type 0} (f : X → Y) (xs : List X) (i : ℕ) (x : X) → slice_get xs i ≡ Some x
-    → slice_get (map f xs) i ≡ Some (f x)
-map-get f [] i x e = cc
-map-get f (y ∷ xs) zero x e = let k : y ≡ x = cc in ap (λ z. Some (f z)) k
-map-get f (y ∷ xs) (suc i) x e = map-get f xs i x e
-
 -- a name stands at one place among distinct names
 no_other : (y : List ℕ) (xs : List (List ℕ)) (j : ℕ) → AllByRecursion (λ z. same_name y z ≡ false) xs
     → slice_get xs j ≡ Some y → ⊥
@@ -63,7 +58,9 @@ one_place (y ∷ xs) (suc i) (suc j) x d a b = ap suc (one_place xs i j x d.1 a 
 pub distinct-numbers : (p : Pattern) (vs : List ℕ) → map numbered vs ≡ variables p → (i j v : ℕ)
     → slice_get vs i ≡ Some v → slice_get vs j ≡ Some v → i ≡ j
 distinct-numbers p vs e i j v a b = one_place (map numbered vs) i j (numbered v)
-    (subst (Distinct same_name) (sym e) (distinct-variables p)) (map-get numbered vs i v a) (map-get numbered vs j v b)
+    (subst (Distinct same_name) (sym e) (distinct-variables p))
+    (slice_get-map numbered vs i ∙ ap (option_map numbered) a)
+    (slice_get-map numbered vs j ∙ ap (option_map numbered) b)
 
 -- what stands at a place in front of a list, and behind its end
 get-front : {X Y : Type 0} (f : X → Y) (xs : List X) (k n : ℕ) (x : X) → n < k → n < length xs

@@ -1,11 +1,12 @@
 -- A step of a search below a commutative node, where the trail is read by other names too.
-use Rattle.std.proofs.Common.{◌≡◌, ◌<◌, ℕ, List, [], ◌∷◌, ◌++◌, length, map, drop, true, false, zero, suc}
+use Rattle.std.proofs.Common.{◌≡◌, ◌<◌, ℕ, List, [], ◌∷◌, ◌++◌, length, map, drop, true, false, suc}
 use Rattle.std.proofs.Common.{refl, ap}
 use Rattle.std.proofs.Common.{Bool, sym, ◌∙◌, subst, inl, inr, ◌⊎◌}
-use Rattle.std.specs.Prelude.{Option, Some, None, slice_get, if◌then◌else◌}
+use Rattle.std.specs.Prelude.{Option, Some, None, slice_get, if◌then◌else◌, option_map}
 use Rattle.std.specs.Ordering.{is_eq}
 use Rattle.std.specs.List.{AllByRecursion}
 use Rattle.std.proofs.lemmas.List.{take-append-drop}
+use Rattle.std.proofs.lemmas.Option.{slice_get-map}
 use Rattle.mp_term.specs.Search.{In}
 use Rattle.mp_term.specs.Signature.{Sig}
 use Rattle.mp_term.specs.Tree.{Tree}
@@ -45,9 +46,10 @@ use Rattle.mp_ac.specs.CommList.{SameItems, behind_table, below, comm_list}
 use Rattle.mp_ac.specs.CommPlan.{IsApplication}
 use Rattle.mp_ac.specs.Search.{IsOver, IsNumberedSearch, ahead, item_table, read_by}
 use Rattle.mp_ac.specs.Stage.{ahead_at}
-use Rattle.mp_ac.proofs.BehindLaws.{behind-first, behind-in, behind-next, first-in}
+use Rattle.mp_ac.proofs.BehindLaws.{behind-first, behind-next}
 use Rattle.mp_ac.proofs.ListLaws.{comm_list-others, comm_list-same, once-ascending}
 use Rattle.mp_pattern.proofs.PlanNodes.{plan-names}
+use Rattle.mp_ac.proofs.MovedLaws.{ahead-in}
 
 -- a name is one of them or not
 among : (x : List ℕ) (xs : List (List ℕ)) → In x xs ⊎ (In x xs → ⊥)
@@ -69,12 +71,6 @@ place-of : (vs : List ℕ) (x : List ℕ) → In x (map numbered vs)
 place-of [] x h = absurd h
 place-of (v ∷ vs) x (inl e) = (0, v, refl, e)
 place-of (v ∷ vs) x (inr h) = let r = place-of vs x h in (suc r.0, r.1, r.2, r.3)
-
-map-get : {X Y : Type 0} (f : X → Y) (xs : List X) (i : ℕ) (x : X) → slice_get xs i ≡ Some x
-    → slice_get (map f xs) i ≡ Some (f x)
-map-get f [] i x e = cc
-map-get f (y ∷ xs) zero x e = let k : y ≡ x = cc in ap (λ z. Some (f z)) k
-map-get f (y ∷ xs) (suc i) x e = map-get f xs i x e
 
 -- lists with the same items are cut alike
 same-behind : (xs : List (List ℕ)) (W : Table) (is js : List Item) → SameItems xs is js
@@ -106,13 +102,6 @@ same-none : (xs : List (List ℕ)) (is js : List Item) → SameItems xs is js �
 same-none xs [] js h e = refl
 same-none xs (i ∷ is) [] h e = absurd h
 same-none xs (i ∷ is) (j ∷ js) h e = cc
-
--- the first of those that are to come is an item
-ahead-in : (stage : Stage) (W : Table) (is : List Item) (i : Item) → slice_get (ahead_at stage W is) 0 ≡ Some i
-    → In i is
-ahead-in Before W is i e = first-in is i e
-ahead-in Standing W is i e = behind-in W is i (first-in (behind_table W is) i e)
-ahead-in Ended W is i e = cc
 
 -- and behind it come the others
 ahead-next : (stage : Stage) (W : Table) (is : List Item) (i : Item) → NoneTwice (item_tables is)
@@ -185,7 +174,7 @@ module _ (t : plain_table.Table) (name : ℕ → Option (List ℕ))
         let few : v < MAX_VARIABLES = all-get (λ v. v < MAX_VARIABLES) vs r.0 v n.few r.2 in
         let e : x ≡ numbered v = r.3 in
         let at : slice_get (variables p) r.0 ≡ Some (numbered v) =
-        ap (λ ys. slice_get ys r.0) (sym n.names) ∙ map-get numbered vs r.0 v r.2 in
+        ap (λ ys. slice_get ys r.0) (sym n.names) ∙ slice_get-map numbered vs r.0 ∙ ap (option_map numbered) r.2 in
         let k = number_laws.numbered vs c.asked.plan.now.variables (variables p) r.0 v (numbered v)
         (plan-names c.asked.sig.now p c.asked.plan.now over.asked.plan) (distinct-variables p) over.asked.distinct
         r.2 at in

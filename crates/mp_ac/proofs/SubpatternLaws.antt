@@ -29,7 +29,9 @@ some-nodes (symbol_pattern n) = omega arith
 some-nodes (app_pattern g ps) = omega arith
 some-nodes (wild_pattern w x) = omega arith
 
-get-front : {X : Type 0} (xs ys : List X) (n : ℕ) (x : X) → slice_get xs n ≡ Some x → slice_get (xs ++ ys) n ≡ Some x
+-- an item of the front of a list
+pub get-front : {X : Type 0} (xs ys : List X) (n : ℕ) (x : X) → slice_get xs n ≡ Some x
+    → slice_get (xs ++ ys) n ≡ Some x
 get-front [] ys n x e = cc
 get-front (y ∷ xs) ys zero x e = e
 get-front (y ∷ xs) ys (suc n) x e = get-front xs ys n x e

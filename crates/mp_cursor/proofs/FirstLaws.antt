@@ -1,9 +1,8 @@
 -- The table of a subject and of a rule's constants holds these.
-use Rattle.std.proofs.Common.{◌≡◌, List, [], ◌∷◌, ℕ, zero, suc, refl, ap, sym, ◌∙◌, inl, inr, rules}
+use Rattle.std.proofs.Common.{◌≡◌, List, [], ◌∷◌, refl, ap, sym, ◌∙◌}
 use Rattle.std.specs.Prelude.{Option, Some, None, IsSome, flat_map, map, option_map, slice_get}
 use Rattle.std.specs.List.{AllByRecursion}
-use Rattle.std.proofs.lemmas.Option.{get_or_from_slice_get}
-use Rattle.mp_term.specs.Tree.{Tree, symbol}
+use Rattle.mp_term.specs.Tree.{Tree}
 use Rattle.mp_term.specs.Search.{In}
 use Rattle.mp_term.specs.Order.{tree_cmp}
 use Rattle.mp_term.specs.Listing.{IsListing}
@@ -17,37 +16,18 @@ use Rattle.mp_theory.specs.OneList.{Item, item_list, one_list}
 use Rattle.mp_theory.proofs.OneListLaws.{one_list-is, item_substs-item_list}
 use Rattle.mp_term.specs.Normal.{IsNormal}
 use Rattle.mp_term.specs.Signature.{Sig}
-use Rattle.mp_table.specs.Subterms.{IsSubtermOf}
 use Rattle.mp_table.specs.Table.{Table, IsTableOf, rank_of}
-use Rattle.mp_table.proofs.RankLaws.{rank_of-slice_get}
-use Rattle.mp_cursor.specs.Listing.{Listing, advanced, subject_of}
-
-in-at : {X : Type 0} (x : X) (xs : List X) → In x xs → (i : ℕ) × (slice_get xs i ≡ Some x)
-in-at x [] h = absurd h
-in-at x (y ∷ xs) (inl e) = (zero, ap Some (sym e))
-in-at x (y ∷ xs) (inr i) = let r = in-at x xs i in (suc r.0, r.1)
-
-own-subterm : (u : Tree) (ts : List Tree) → In u ts → IsSubtermOf ts u
-own-subterm u [] h = absurd h
-own-subterm u (t ∷ ts) (inl e) = inl ([], ap Some (sym e))
-own-subterm u (t ∷ ts) (inr i) = inr (own-subterm u ts i)
-
-some-rank : (o : Option ℕ) (r : ℕ) → o ≡ Some r → IsSome o
-some-rank None r e = cc
-some-rank (Some x) r e = search rules
+pub use Rattle.mp_search.proofs.TableLaws.{subject-built}
+use Rattle.mp_search.proofs.TableLaws.{held-built}
+use Rattle.mp_cursor.specs.Listing.{Listing, advanced}
 
 module _ (t : Table) (subject : Tree) (ts : List Tree) (h : IsTableOf subject ts t) where
-  pub subject-is : subject_of t ≡ subject
-  subject-is = get_or_from_slice_get t.terms t.root subject (symbol []) h.root
-
   pub constants-held : (r : Rule) → IsListing tree_cmp (IsConstantOf (r ∷ [])) ts
       → AllByRecursion (λ u. IsSome (rank_of t u)) (rule_constants r)
   constants-held r l = all-from_in (λ u. IsSome (rank_of t u)) (rule_constants r) (λ u i.
       let listed : In u ts = in-from_contains u ts ((l.exactly u).1
       (contains-from_in u (flat_map rule_constants (r ∷ [])) (in-left u (rule_constants r) [] i))) in
-      let held : In u t.terms = in-from_contains u t.terms ((h.listing.exactly u).1 (inr (own-subterm u ts listed))) in
-      let place = in-at u t.terms held in
-      some-rank (rank_of t u) place.0 (rank_of-slice_get t u h.listing.ascending place.0 place.1))
+      held-built t subject ts h u listed)
 
 -- the first of mapped items
 first-mapped : {X Y : Type 0} (f : X → Y) (xs : List X) → option_map f (slice_get xs 0) ≡ slice_get (map f xs) 0

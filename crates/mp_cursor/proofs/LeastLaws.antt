@@ -7,6 +7,7 @@ use Rattle.std.specs.Prelude.{filter, Option, Some, None, slice_get, IsTrue, Mat
 use Rattle.std.specs.List.{AllByRecursion}
 use Rattle.std.specs.Ordering.{is_eq}
 use Rattle.std.proofs.lemmas.List.{length-map}
+use Rattle.std.proofs.lemmas.Bool.{and_parts}
 use Rattle.mp_term.specs.Search.{In}
 use Rattle.mp_term.specs.Size.{node_count}
 use Rattle.mp_term.proofs.SearchLaws.{from_in-filter, in-filter}
@@ -34,10 +35,6 @@ use Rattle.mp_cursor.proofs.ReaderLaws.{item-fits}
 use Rattle.mp_cursor.proofs.SoughtLaws.{is_least, items-of-pattern, normal-subject, found-item}
 use Rattle.mp_cursor.proofs.TableLaws.{IsShort, all-short, short-takes, short-room, table-takes, takes-same}
 use Rattle.mp_cursor.proofs.TableLaws.{tables-equal, tables-itself, entry_from, read-takes}
-
-pub and-both : (a b : Bool) → (a && b) ≡ true → (a ≡ true) × (b ≡ true)
-and-both true b h = (refl, h)
-and-both false b h = cc
 
 module _ (m : Matched) where
   -- the takes of an item are short
@@ -109,7 +106,7 @@ module _ (m : Matched) where
   sought-member c V i k =
       let a = from_in-filter (is_least m) i (looked_for m c First V []) k in
       let b = from_in-filter (λ (j : Item). meets m.sig.now c j.1 && true) i (all_items m []) a.0 in
-      (b.0, (and-both (meets m.sig.now c i.1) true b.1).0, a.1)
+      (b.0, (and_parts (meets m.sig.now c i.1) true b.1).0, a.1)
 
   pub member-sought : (c : Option Cond) (V : fits.Table) (i : Item) → In i (all_items m [])
       → meets m.sig.now c i.1 ≡ true → is_least m i ≡ true → In i (sought m c First V)
@@ -149,7 +146,7 @@ module _ (m : Matched) where
       → In j (all_items m []) × (meets m.sig.now c j.1 ≡ true) × (W ≡ j.0)
   found-at c W j e =
       let a = found-item m c At W [] j e in
-      let b = and-both (meets m.sig.now c j.1) (is_eq (table_cmp W j.0)) a.1 in
+      let b = and_parts (meets m.sig.now c j.1) (is_eq (table_cmp W j.0)) a.1 in
       (a.0, b.0, tables-equal W j.0 b.1)
 
   -- and where its table isn't the least, no item has it

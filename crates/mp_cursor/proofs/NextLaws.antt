@@ -1,6 +1,7 @@
 -- What a cursor looks for next, at each stage.
 use Rattle.std.proofs.Common.{◌≡◌, List, [], Bool, true, false, ◌&&◌, drop, ◌∙◌, ap, sym, subst}
 use Rattle.std.specs.Prelude.{Option, Some, slice_get, MatchBool, if◌then◌else◌}
+use Rattle.std.proofs.lemmas.Bool.{and_parts}
 use Rattle.mp_term.specs.Search.{In}
 use Rattle.mp_term.proofs.SearchLaws.{from_in-filter}
 use Rattle.mp_pattern.specs.Admission.{Rule, meets}
@@ -22,7 +23,7 @@ use Rattle.mp_cursor.specs.Matched.{IsMatched, all_items, looked_for, sought}
 use Rattle.mp_cursor.specs.Parts.{AreOver, item_of}
 use Rattle.mp_search.specs.Stage.{mode_at}
 use Rattle.mp_cursor.proofs.AfterLaws.{first-in}
-use Rattle.mp_cursor.proofs.LeastLaws.{and-both, sought-member, member-sought}
+use Rattle.mp_cursor.proofs.LeastLaws.{sought-member, member-sought}
 use Rattle.mp_cursor.proofs.SoughtLaws.{is_least, sought-first, sought-after, item-standing}
 
 module _ (m : Matched) (h : IsMatched m) (r : Rule) (e : m.plan.now.pattern ≡ r.pattern) (i : Item) where
@@ -52,7 +53,7 @@ module _ (m : Matched) (h : IsMatched m) (r : Rule) (e : m.plan.now.pattern ≡ 
       let a = from_in-filter (is_least m) j (looked_for m r.condition mode V []) k in
       let b =
       from_in-filter (λ (x : Item). meets m.sig.now r.condition x.1 && beyond mode V x.0) j (all_items m []) a.0 in
-      member-sought m r.condition W j b.0 (and-both (meets m.sig.now r.condition j.1) (beyond mode V j.0) b.1).0 a.1
+      member-sought m r.condition W j b.0 (and_parts (meets m.sig.now r.condition j.1) (beyond mode V j.0) b.1).0 a.1
 
   -- where a cursor stands once it has looked for the next item
   abbrev pub IsMoved : Stage → Stage → Item → Type 0

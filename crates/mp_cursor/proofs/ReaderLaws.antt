@@ -1,10 +1,10 @@
 -- The substitution of an item, variable by variable.
-use Rattle.std.proofs.Common.{◌≡◌, ◌<◌, ◌≤◌, ◌+◌, ℕ, zero, suc, List, [], ◌∷◌, ◌++◌, Bool, true, false, length, map}
+use Rattle.std.proofs.Common.{◌≡◌, ◌<◌, ◌≤◌, ◌+◌, ℕ, suc, List, [], ◌∷◌, ◌++◌, Bool, true, false, length, map}
 use Rattle.std.proofs.Common.{refl, ap, sym, ◌∙◌, subst, arith, inl, inr, eqb-true}
 use Rattle.std.specs.Prelude.{Option, Some, None, option_map, slice_get, if◌then◌else◌, nat_eq}
 use Rattle.std.specs.List.{AllByRecursion, range_with_len}
 use Rattle.std.proofs.lemmas.List.{length-map}
-use Rattle.std.proofs.lemmas.Option.{slice_get_within}
+use Rattle.std.proofs.lemmas.Option.{slice_get_within, slice_get-map}
 use Rattle.mp_term.specs.Search.{In}
 use Rattle.mp_term.proofs.ListingLaws.{all_in}
 use Rattle.mp_pattern.specs.Fits as fits
@@ -21,7 +21,7 @@ use Rattle.mp_theory.proofs.FirstsLaws.{Distinct}
 use Rattle.mp_theory.proofs.SecondSearch.{items-fit}
 use Rattle.mp_search.specs.Reading.{name_among}
 use Rattle.mp_search.specs.Wanted.{IsComplete}
-use Rattle.mp_search.proofs.NumberLaws.{numbered, distinct-variables}
+use Rattle.mp_search.proofs.NumberLaws.{numbered, distinct-variables, in-slice_get}
 use Rattle.mp_search.proofs.SubstLaws.{value_of-subst_from}
 use Rattle.mp_cursor.specs.declared.matched.Matched.{Matched}
 use Rattle.mp_cursor.specs.Matched.{IsMatched, all_items, trail_subst}
@@ -57,17 +57,6 @@ names-complete f (b ∷ s) all h a = (
   ap (option_map form_of) (h b (inl refl)) ∙ ap Some a.0,
   names-complete f s all (λ c i. h c (inr i)) a.1,
 )
-
-got-in : {X : Type 0} (xs : List X) (i : ℕ) (x : X) → slice_get xs i ≡ Some x → In x xs
-got-in [] i x e = cc
-got-in (y ∷ xs) zero x e = let k : y ≡ x = cc in inl (sym k)
-got-in (y ∷ xs) (suc i) x e = inr (got-in xs i x e)
-
-got-mapped : {X Y : Type 0} (f : X → Y) (xs : List X) (i : ℕ) (x : X) → slice_get xs i ≡ Some x
-    → slice_get (map f xs) i ≡ Some (f x)
-got-mapped f [] i x e = cc
-got-mapped f (y ∷ xs) zero x e = let k : y ≡ x = cc in ap (λ z. Some (f z)) k
-got-mapped f (y ∷ xs) (suc i) x e = got-mapped f xs i x e
 
 -- a variable that no entry has isn't bound
 unbound : (n v : ℕ) (es : List TrailEntry) → n ≤ v → AllByRecursion (λ e. e.var < n) es → last_value es v ≡ None
@@ -157,10 +146,11 @@ module _ (m : Matched) (h : IsMatched m) where
             (subst (Distinct same_name) names-same (item-distinct (W, s) k))
             (range-distinct 0 (length m.plan.now.variables))
             (range-at 0 (length m.plan.now.variables) v here ∙ ap Some (omega arith))
-            (subst (λ ys. slice_get ys v ≡ Some b.name) names-same (got-mapped (λ c. c.name) s v b e)) in
+            (subst (λ ys. slice_get ys v ≡ Some b.name) names-same
+            (slice_get-map (λ c. c.name) s v ∙ ap (option_map (λ c. c.name)) e)) in
             let known = value_of-subst_from m.table.now name b.name v num.0 num.1 [] t.stack in
             through (last_value t.stack v)
-            (sym known ∙ value-of s b (item-distinct (W, s) k) (got-in s v b e))
+            (sym known ∙ value-of s b (item-distinct (W, s) k) (in-slice_get s v b e))
           where
             through : (o : Option Bound)
                 → (elim o as (λ _. Option Value) [ None ↦ None | Some c ↦ Some (value_in m.table.now c) ])

@@ -9,12 +9,13 @@ use Rattle.std.specs.Cmp.Lexicographic.{slice_cmp}
 use Rattle.std.proofs.lemmas.Cmp.{tied_itself, lists_total}
 use Rattle.mp_term.specs.Order.{tree_cmp}
 use Rattle.mp_term.specs.Sorting.{sorted}
-use Rattle.mp_term.specs.Tree.{Tree, Trees, symbol, app, trees}
+use Rattle.mp_term.specs.Tree.{Tree, Trees, symbol, app, trees, tree_list}
 use Rattle.mp_term.specs.NormalTest.{has_head}
 use Rattle.mp_term.specs.Signature.{Sig, is_one, is_assoc, is_comm, in_kind}
 use Rattle.mp_term.specs.Normal.{IsNormal}
 use Rattle.mp_term.specs.Search.{In}
 use Rattle.mp_term.proofs.ListingLaws.{all_in}
+use Rattle.mp_term.specs.TreeLists.{tree_list-trees}
 use Rattle.mp_pattern.specs.Admission.{Rule, meets}
 use Rattle.mp_pattern.specs.Fits as fits
 use Rattle.mp_pattern.specs.Contribution.{contribution, spread}
@@ -28,19 +29,14 @@ use Rattle.mp_theory.specs.MayMatch.{takes_one, each_takes_one}
 use Rattle.mp_theory.specs.Least.{is_least_item}
 use Rattle.mp_theory.specs.OneList.{item_list}
 use Rattle.mp_theory.proofs.SecondSearch.{items-fit, item_list-least}
+pub use Rattle.mp_search.proofs.NumberLaws.{same-swapped}
 
-single : (t u : Tree) → t ∷ [] ≡ u ∷ [] → t ≡ u
+pub single : (t u : Tree) → t ∷ [] ≡ u ∷ [] → t ≡ u
 single t u e = cc
 
 -- trees are those of one list
-as-list : (ts us : List Tree) → trees ts ≡ trees us → ts ≡ us
-as-list [] [] e = refl
-as-list [] (u ∷ us) e = cc
-as-list (t ∷ ts) [] e = cc
-as-list (t ∷ ts) (u ∷ us) e =
-    let i : t ≡ u = cc in
-    let j : trees ts ≡ trees us = cc in
-    ap (λ v. v ∷ ts) i ∙ ap (λ vs. u ∷ vs) (as-list ts us j)
+pub trees-injective : (ts us : List Tree) → trees ts ≡ trees us → ts ≡ us
+trees-injective ts us e = sym (tree_list-trees ts) ∙ ap tree_list e ∙ tree_list-trees us
 
 module _ (sig : Sig) (s : Subst) where
   -- a symbol takes itself
@@ -142,7 +138,7 @@ module _ (sig : Sig) (s : Subst) where
       same_args (trees ts) (trees (fits.arranged sig (Some g) (fits.joined h.takes)))
       (single (app g (trees ts)) (app g (trees (fits.arranged sig (Some g) (fits.joined h.takes)))) h.node)
       ∙ ap trees flat in
-      (h.takes, h.tables, h.children, sym (as-list ts (fits.joined h.takes) e))
+      (h.takes, h.tables, h.children, sym (trees-injective ts (fits.joined h.takes) e))
     where
       same_args : (us vs : Trees) → app g us ≡ app g vs → us ≡ vs
       same_args us vs e = cc

@@ -30,7 +30,7 @@ use Rattle.mp_cursor.proofs.AfterLaws.{after-first, after-found, kept-after, kep
 use Rattle.mp_cursor.proofs.AfterLaws.{fewer-behind}
 use Rattle.mp_cursor.proofs.FilterLaws.{filter-all, filter-both, kept-pass}
 use Rattle.mp_pattern.proofs.PlanNodes.{plan-nodes}
-use Rattle.mp_cursor.proofs.SubjectLaws.{subject-normal}
+use Rattle.mp_search.proofs.TableLaws.{subject-normal}
 
 module _ (m : Matched) where
   -- those under which the condition holds

@@ -2,18 +2,17 @@
 use Rattle.std.proofs.Common.{◌≡◌, ◌<◌, ◌≤◌, ◌+◌, ℕ, zero, suc, List, [], ◌∷◌, Bool, true, length, map, drop, refl, ap}
 use Rattle.std.proofs.Common.{sym, ◌∙◌, subst, arith}
 use Rattle.std.specs.Prelude.{slice_set, slice_index_or, slice_get, Some, None, ◌↔◌}
-use Rattle.std.specs.declared.cmp.Ordering.TheVariants.{Equal}
 use Rattle.std.specs.Ordering.{is_eq}
 use Rattle.std.specs.Cmp.{Equal-is, nat_cmp_total}
 use Rattle.std.specs.Cmp.Lexicographic.{slice_cmp}
 use Rattle.std.specs.FinMap.{slice_cmp-IsAntisymmetric}
 use Rattle.std.proofs.lemmas.Cmp.{on_total, tied_itself, lists_total}
 use Rattle.std.proofs.lemmas.List.{length-map}
-use Rattle.mp_term.specs.OrderLaws.{nat_same}
 use Rattle.mp_table.specs.Table.{Table, HasRanks, rank_cmp}
 use Rattle.mp_table.specs.declared.rank.Rank.{Rank}
 use Rattle.mp_search.specs.declared.level.Level.{Level}
 use Rattle.mp_search.specs.Levels.{AreLevels, IsRoomy, IsOver, take_of, draws_of, rooms_of}
+use Rattle.mp_search.proofs.RankOrder.{rank_means}
 use Rattle.mp_cursor.specs.Kept.{HaveRoom, AreHeldTakes}
 use Rattle.mp_cursor.proofs.SliceLaws.{drop-at, drop-none, all-set, all-at}
 
@@ -100,9 +99,6 @@ set-levels t width ls i d new rs b h a p e q r s =
     (all-at (λ l. IsRoomy width l × IsOver t l) ls i d a h) p e q r s)
 
 -- lists of ranks that compare as equal are one
-rank_means : (r s : Rank) → rank_cmp r s ≡ Equal → r ≡ s
-rank_means r s e = ap (λ n. record { 0 = n }) (nat_same r.0 s.0 e)
-
 pub ranks-equal : (rs ss : List Rank) → is_eq (slice_cmp rank_cmp rs ss) ≡ true → rs ≡ ss
 ranks-equal rs ss h = slice_cmp-IsAntisymmetric rank_means rs ss ((Equal-is (slice_cmp rank_cmp rs ss)).0 h)
 

@@ -1,8 +1,7 @@
 -- Rules with what they still ask.
-use Rattle.std.proofs.Common.{◌≡◌, ℕ, zero, suc, ◌+◌, List, [], ◌∷◌, ◌++◌, ◌≤◌, refl, ap, sym, ◌∙◌, subst, map, length}
+use Rattle.std.proofs.Common.{◌≡◌, ℕ, zero, suc, ◌+◌, List, [], ◌∷◌, ◌++◌, ◌≤◌, refl, ap, sym, ◌∙◌, map, length}
 use Rattle.std.proofs.Common.{take, drop, arith}
 use Rattle.std.specs.Prelude.{Some, None, slice_get, option_map}
-use Rattle.std.specs.List.{AllByRecursion}
 use Rattle.mp_net.specs.Net as net
 use Rattle.mp_net.specs.Items.{opens, items_from, first_of}
 use Rattle.mp_net.specs.NetOf.{opening}
@@ -82,10 +81,3 @@ items_from-more i (suc n) =
     let k : suc i + n ≡ i + suc n = omega arith in
     ap (items_from i) e ∙ ap (λ is. record { rule = i; free = 0; at = 0 } ∷ is) (items_from-more (suc i) n
     ∙ ap (λ r. items_from (suc i) n ++ record { rule = r; free = 0; at = 0 } ∷ []) k)
-
--- what holds of each item holds of one
-pub all-held : {X : Type 0} (P : X → Type 0) (xs : List X) (k : ℕ) (x : X)
-    → AllByRecursion P xs → slice_get xs k ≡ Some x → P x
-all-held P [] k x h e = cc
-all-held P (y ∷ ys) zero x h e = let q : y ≡ x = let w : Some y ≡ Some x = e in cc in subst P q h.0
-all-held P (y ∷ ys) (suc k) x h e = all-held P ys k x h.1 e

@@ -8,6 +8,7 @@ use Rattle.std.proofs.lemmas.List.{map-append, length-map, take_all}
 use Rattle.mp_term.proofs.ListLaws.{all-append, all-also}
 use Rattle.std.proofs.lemmas.Option.{slice_get_within, slice_get-get_or, slice_get-map}
 use Rattle.std.specs.declared.vec.Vec.{Vec}
+use Rattle.mp_subst.proofs.TrailLaws.{all-get}
 use Rattle.mp_net.specs.Net.{Mark, Open, below, behind, going, Turn, IsAt, Leads, AllLead}
 use Rattle.mp_net.specs.View.{mark_of, numbered, turn_of}
 use Rattle.mp_net.specs.Items.{opens, states, listed}
@@ -21,7 +22,6 @@ use Rattle.mp_net.specs.declared.state.State.{State}
 use Rattle.mp_net.specs.declared.turn.Turn.{Turn as Led}
 use Rattle.mp_net.specs.declared.build.Net.{Net}
 use Rattle.mp_net.proofs.MarkLaws.{edge-place, none-asked}
-use Rattle.mp_net.proofs.ItemLaws.{all-held}
 use Rattle.mp_net.proofs.TurnLaws.{states-listed}
 use Rattle.mp_net.proofs.ShortLaws.{all_short-more, short-led}
 
@@ -240,7 +240,7 @@ built-more ms start rules new ss s t os built within here turn room e heads firs
           (all-append (AreShort k) old more
           (all-also (AreShort n) (AreShort k) (all_short-more n k longer) old built.short)
           (all-also (AreShort (n + 4096)) (AreShort k) (all_short-more (n + 4096) k next) more
-          (short-led n ms os hs t.behind.items (all-held (AreShort n) old (length ss) os built.short here) turn.asked
+          (short-led n ms os hs t.behind.items (all-get (AreShort n) old (length ss) os built.short here) turn.asked
           turn.behind)));
     }
 

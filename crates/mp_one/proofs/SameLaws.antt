@@ -2,7 +2,7 @@
 use Rattle.std.proofs.Common.{◌≡◌, ℕ, List, [], ◌∷◌, Bool, true, false, refl, ap, sym, ◌∙◌, subst}
 use Rattle.std.proofs.Common.{eqb-true, eq-eqb}
 use Rattle.std.specs.Prelude.{nat_eq, ◌&&◌}
-use Rattle.mp_term.specs.Tree.{Tree, app, trees, tree_list}
+use Rattle.mp_term.specs.Tree.{Tree, app, trees}
 use Rattle.mp_term.specs.TreeLists.{tree_list-trees}
 use Rattle.mp_term.specs.Order.{tree_cmp}
 use Rattle.mp_term.specs.OrderLaws.{tree_cmp_total, tree_same}
@@ -13,6 +13,7 @@ use Rattle.std.proofs.lemmas.Bool.{and_parts, and_from}
 use Rattle.mp_term.proofs.PiecesLaws.{same-sound, same-itself}
 use Rattle.mp_theory.proofs.Merging.{same_terms-sound, same_terms-complete}
 use Rattle.mp_term.proofs.ListLaws.{bool_same}
+use Rattle.mp_cursor.proofs.RootLaws.{trees-injective}
 
 tree_sound : (t u : Tree) → same tree_cmp t u ≡ true → t ≡ u
 tree_sound = same-sound tree_cmp tree_cmp_total tree_same
@@ -23,9 +24,6 @@ tree_itself t u e = subst (λ v. same tree_cmp t v ≡ true) e (same-itself tree
 pub same-swapped : (t u : Tree) → same tree_cmp t u ≡ same tree_cmp u t
 same-swapped t u = bool_same (same tree_cmp t u) (same tree_cmp u t) (λ e. tree_itself u t (sym (tree_sound t u e)))
     (λ e. tree_itself t u (sym (tree_sound u t e)))
-
-trees-injective : (xs ys : List Tree) → trees xs ≡ trees ys → xs ≡ ys
-trees-injective xs ys e = sym (tree_list-trees xs) ∙ ap tree_list e ∙ tree_list-trees ys
 
 pub same-app : (f g : ℕ) (xs ys : List Tree)
     → (nat_eq f g && same_terms xs ys) ≡ same tree_cmp (app f (trees xs)) (app g (trees ys))

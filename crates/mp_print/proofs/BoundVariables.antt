@@ -1,5 +1,5 @@
 -- The variables of a plan that a trail binds, one after another.
-use Rattle.std.proofs.Common.{◌≡◌, ℕ, zero, suc, ◌+◌, List, [], ◌∷◌, ◌++◌, take, length, Option, Some, None, refl, ap}
+use Rattle.std.proofs.Common.{◌≡◌, ℕ, zero, suc, ◌+◌, List, [], ◌∷◌, ◌++◌, take, Option, Some, None, refl, ap}
 use Rattle.std.proofs.Common.{sym, ◌∙◌, add-one, append-nil, append_assoc, arith}
 use Rattle.std.specs.Prelude.{slice_get, option_map}
 use Rattle.mp_io.specs.Devices.{Text}
@@ -8,7 +8,6 @@ use Rattle.mp_pattern.specs.Value.{Subst}
 use Rattle.mp_table.specs.Table.{Table}
 use Rattle.mp_subst.specs.Bound.{Bound, value_in}
 use Rattle.mp_subst.specs.Trail.{TrailEntry, last_value, binding_in, bindings_from}
-use Rattle.mp_print.specs.Printing.{gap_text}
 
 module _ (table : Table) (es : List TrailEntry) where
   -- the binding of a variable of that name, if it is bound
@@ -74,9 +73,3 @@ module _ (table : Table) (es : List TrailEntry) where
         ≡ bindings_from table es 0 (take i xs) ++ record { name = n; value = value_in table b } ∷ []
     bindings_from-bound b n bound named = bindings_from-take xs i
         ∙ (λ k. bindings_from table es 0 (take i xs) ++ binding_as (bound k) (named k))
-
--- what stands behind items and one more is a separator
-pub gap_text-pushed : {X : Type 0} (separator : Text) (xs : List X) (x : X)
-    → gap_text separator (length (xs ++ x ∷ [])) ≡ separator
-gap_text-pushed separator [] x = refl
-gap_text-pushed separator (y ∷ xs) x = refl

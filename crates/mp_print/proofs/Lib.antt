@@ -1,5 +1,5 @@
-mod Separated
-mod Parts
+pub mod Separated
+pub mod Parts
 mod Arguments
 mod CondTexts
 mod BoundVariables

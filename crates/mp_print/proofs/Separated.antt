@@ -27,6 +27,12 @@ separated-push separator (first ∷ texts) text = ap (λ l. first ++ l) (go text
         ∙ ap (λ l. separator ++ l) (sym (append_assoc next (preceded separator texts) (separator ++ text)))
         ∙ sym (append_assoc separator (next ++ preceded separator texts) (separator ++ text))
 
+-- what stands behind items and one more is a separator
+pub gap_text-pushed : {X : Type 0} (separator : Text) (xs : List X) (x : X)
+    → gap_text separator (length (xs ++ x ∷ [])) ≡ separator
+gap_text-pushed separator [] x = refl
+gap_text-pushed separator (y ∷ xs) x = refl
+
 -- texts are put, then what stands behind them, and then one more
 pub Puts-pushed : {K : Type 0} (words : SinkWords K) (separator : Text) (texts : List Text) (text : Text)
     (t u v w : Writer K) → Puts words t u (separated separator texts)

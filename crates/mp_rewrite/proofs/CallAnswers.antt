@@ -109,10 +109,6 @@ module _ (sig : Sig) (rules : List Rule) (signature : IsSignature sig) (sound : 
   IsRewritingAnswer-computed limit (Err Memory) h = tt
 
 -- what a function makes of an option is there where the option is
-pub is_some-map : {X Y : Type 0} (f : X → Y) (o : Option X) → is_some (option_map f o) ≡ is_some o
-is_some-map f None = refl
-is_some-map f (Some x) = refl
-
 -- ---- one step
 
 -- where a step is made, or none can be

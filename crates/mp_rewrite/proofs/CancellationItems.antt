@@ -23,40 +23,18 @@ use Rattle.mp_pattern.specs.PatternTree.{Wildcard, dot, plus, star, is_sequence,
 use Rattle.mp_pattern.specs.PatternTree.{more_patterns, symbol_pattern, app_pattern, wild_pattern}
 use Rattle.mp_pattern.specs.Value.{Value, one, seq, bag, Subst, IsFinal, same_name, value_of}
 use Rattle.mp_pattern.specs.Variables.{IsSubstOf}
-use Rattle.mp_pattern.proofs.NameLaws.{same_name-itself, same_name-is}
+use Rattle.mp_pattern.proofs.NameLaws.{same_name-itself}
 use Rattle.mp_theory.specs.NoOptional.{HasNoOptional, IsNotOptional}
 use Rattle.mp_theory.specs.OneList.{one_list}
 use Rattle.mp_theory.proofs.FitsSolves.{at_value}
+use Rattle.mp_cursor.proofs.RootLaws.{single, trees-injective, same-swapped}
 use Rattle.mp_rewrite.proofs.LeastItems.{entry, one_list-first, front, no-more, contribution-either}
 use Rattle.mp_rewrite.proofs.LeastItems.{contribution-alone}
 use Rattle.mp_rewrite.proofs.LeastItems.{dot-value, begins-before, not_before-itself, same-entry}
 use Rattle.mp_rewrite.proofs.PutBack.{sorted_same, tally-append}
 
-single : (t u : Tree) → t ∷ [] ≡ u ∷ [] → t ≡ u
-single t u e = cc
-
--- trees are those of one list
-as-list : (ts us : List Tree) → trees ts ≡ trees us → ts ≡ us
-as-list [] [] e = refl
-as-list [] (u ∷ us) e = cc
-as-list (t ∷ ts) [] e = cc
-as-list (t ∷ ts) (u ∷ us) e =
-    let i : t ≡ u = cc in
-    let j : trees ts ≡ trees us = cc in
-    ap (λ v. v ∷ ts) i ∙ ap (λ vs. u ∷ vs) (as-list ts us j)
-
 pub app-trees : (f g : ℕ) (ts us : List Tree) → app f (trees ts) ≡ app g (trees us) → ts ≡ us
-app-trees f g ts us e = as-list ts us (let i : trees ts ≡ trees us = cc in i)
-
--- the other variable isn't this one either
-apart-back : (x y : List ℕ) → same_name x y ≡ false → same_name y x ≡ false
-apart-back x y e =
-    elim (same_name y x) as (λ b. same_name y x ≡ b → b ≡ false) [
-      | true ↦ λ q.
-          let i : y ≡ x = same_name-is y x q in
-          sym (subst (λ z. same_name x z ≡ true) (sym i) (same_name-itself x)) ∙ e
-      | false ↦ λ q. refl
-    ] refl
+app-trees f g ts us e = trees-injective ts us (let i : trees ts ≡ trees us = cc in i)
 
 -- a list that is sorted ascends
 ascends-same : (ts : List Tree) → sorted tree_cmp ts ≡ ts → Ascends tree_cmp ts
@@ -178,7 +156,7 @@ module _ (sig : Sig) (g : ℕ) (ts rest : List Tree) (w : Wildcard) (h : HasRest
     names = rw (same_name-itself x, apart) refl;
     forms = (
       rw (same_name-itself x, apart) refl,
-      (rw (same_name-itself y, apart-back x y apart, h.for_rest.sequence, h.comm) refl, tt),
+      (rw (same_name-itself y, same-swapped x y apart, h.for_rest.sequence, h.comm) refl, tt),
     );
     final = bound-final;
   }
@@ -303,7 +281,7 @@ module _ (sig : Sig) (g : ℕ) (ts rest : List Tree) (w : Wildcard) (h : HasRest
       names = rw (same_name-itself x, apart) refl;
       forms = (
         rw (same_name-itself x, apart) refl,
-        (rw (same_name-itself y, apart-back x y apart, h.for_rest.sequence, h.comm) refl, tt),
+        (rw (same_name-itself y, same-swapped x y apart, h.for_rest.sequence, h.comm) refl, tt),
       );
       final = bound-final;
     }

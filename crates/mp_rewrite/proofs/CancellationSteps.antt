@@ -10,7 +10,8 @@ use Rattle.std.specs.Option.{option_or}
 use Rattle.std.specs.Ordering.{is_gt, is_eq}
 use Rattle.std.specs.List.Sorted.{IsPartitionPoint}
 use Rattle.std.proofs.lemmas.Cmp.{tied_itself}
-use Rattle.std.proofs.lemmas.List.{length-map}
+use Rattle.std.proofs.lemmas.List.{length-map, take_more, take_all}
+use Rattle.std.proofs.lemmas.Option.{slice_get_within}
 use Rattle.mp_term.specs.Pieces.{same}
 use Rattle.mp_term.proofs.PiecesLaws.{same-sound, same-itself}
 use Rattle.mp_rewrite.proofs.Places.{first_of, map-get_or}
@@ -40,12 +41,6 @@ use Rattle.mp_rewrite.specs.Cancellation.{taking, taken_terms, AreApart, AreFirs
 use Rattle.mp_rewrite.specs.Cancellation.{IsUnderAt}
 use Rattle.mp_rewrite.specs.Cancellation.{IsBoth, IsOnly}
 
--- the only item of a list
-one-item : {X : Type 0} (xs : List X) (x : X) → 1 ≤ length xs → length xs < 2 → x ≡ get_or xs 0 x → xs ≡ x ∷ []
-one-item [] x a b e = absurd (omega (arith, a))
-one-item (y ∷ []) x a b e = ap (λ z. z ∷ []) (sym e)
-one-item (y ∷ z ∷ xs) x a b e = absurd (omega (arith, b))
-
 -- what one child takes
 pub taken-one : {X : Type 0} (f : X → Pattern) (xs : List X) (x : X) (y : List ℕ) (o : Option Taken) → 1 ≤ length xs
     → length xs < 2 → x ≡ get_or xs 0 x
@@ -53,7 +48,12 @@ pub taken-one : {X : Type 0} (f : X → Pattern) (xs : List X) (x : X) (y : List
     → IfSome o (λ k. (u : List ℕ) × AreApart k u y × (taking k u ≡ map f xs))
 taken-one f xs x y None a b e h = tt
 taken-one f xs x y (Some k) a b e h =
-    let t = h [] y in ([], t.0, t.1 ∙ ap (map f) (sym (one-item xs x a b e)))
+    let t = h [] y in (
+      [],
+      t.0,
+      t.1 ∙ ap (map f)
+          (ap (λ z. z ∷ []) e ∙ sym (take_more xs 0 x (omega (arith, a))) ∙ take_all 1 xs (omega (arith, b))),
+    )
 
 -- ---- counts of trees in an ascending list
 
@@ -157,11 +157,6 @@ length-removed [] i x e = cc
 length-removed (y ∷ xs) zero x e = refl
 length-removed (y ∷ xs) (suc i) x e = omega (arith, length-removed xs i x e)
 
-pub within-get : {X : Type 0} (xs : List X) (i : ℕ) (x : X) → slice_get xs i ≡ Some x → i < length xs
-within-get [] i x e = cc
-within-get (y ∷ xs) zero x e = omega arith
-within-get (y ∷ xs) (suc i) x e = omega (arith, within-get xs i x e)
-
 pub nodes-remove : (ts : List Tree) (i : ℕ) (t : Tree) → slice_get ts i ≡ Some t
     → all_nodes ts ≡ node_count t + all_nodes (remove ts i)
 nodes-remove [] i t e = cc
@@ -216,7 +211,7 @@ module _ (sig : Sig) (d : Cancellation) (ts : List Tree) where
       → (d.leaves ≡ true → length ts ≡ 1 → ⊥) → AreFirst sig d ts (record { first = i; second = None })
   first-symbol n e i g l = record {
     b = symbol n.now;
-    within = within-get ts i (symbol n.now) g;
+    within = slice_get_within ts i (symbol n.now) g;
     alone = subst (TakesAlone sig d ts) (sym e) tt;
     whole = λ z. omega (
       arith,
@@ -244,7 +239,7 @@ module _ (sig : Sig) (d : Cancellation) (ts : List Tree) where
       let kept : slice_get (remove ts k) i ≡ Some a = get-remove ts i k l ∙ g in
       subst (AreFirst sig d ts) (sym e) (record {
         b = b;
-        within = (l, within-get ts k c h);
+        within = (l, slice_get_within ts k c h);
         alone = alone;
         whole = λ z. omega (arith, tally-remove z ts k c h, tally-remove z (remove ts k) i a kept, taken z);
         none_less = none;

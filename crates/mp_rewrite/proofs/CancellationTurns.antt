@@ -1,5 +1,5 @@
 -- The next step of a term where a rule cancels.
-use Rattle.std.proofs.Common.{◌≡◌, ◌∙◌, ap, sym, refl, subst, ℕ, zero, suc, ◌+◌, ◌<◌, ◌≤◌, Bool, true, false, ◌&&◌, not}
+use Rattle.std.proofs.Common.{◌≡◌, ◌∙◌, ap, sym, refl, subst, ℕ, zero, suc, ◌+◌, ◌<◌, ◌≤◌, true, false, ◌&&◌, not}
 use Rattle.std.proofs.Common.{List, [], ◌∷◌, ◌++◌, length, arith, append-nil}
 use Rattle.std.specs.Prelude.{Option, Some, None, slice_get, option_map, option_and_then, if◌then◌else◌}
 use Rattle.std.specs.Option.{option_or}
@@ -7,6 +7,7 @@ use Rattle.std.specs.declared.cmp.Ordering.TheVariants.{Less, Equal, Greater}
 use Rattle.std.proofs.lemmas.Bool.{and_parts, not-true}
 use Rattle.std.specs.Borrow.{Bor}
 use Rattle.std.specs.List.{remove, AllByRecursion}
+use Rattle.std.proofs.Math.Bool.{and-false}
 use Rattle.mp_term.specs.declared.name.Name.{Name}
 use Rattle.mp_term.specs.Tree.{Tree, Trees, symbol, app, trees}
 use Rattle.mp_term.specs.Order.{tree_cmp}
@@ -107,10 +108,6 @@ unopened sig f (t ∷ ts) b h n =
     greater-equal e = cc
 
 -- ---- what is left
-
-and-none : (b : Bool) → (b && false) ≡ false
-and-none true = refl
-and-none false = refl
 
 all_pass-remove : (sig : Sig) (f : ℕ) (ts : List Tree) (i : ℕ) → all_pass sig f (trees ts) ≡ true
     → all_pass sig f (trees (remove ts i)) ≡ true
@@ -244,7 +241,7 @@ module _ (sig : Sig) (r : Rule) (d : Cancellation) (ts : List Tree) (p : Places)
   put-passes : (o : Option (Bor Name)) → all_pass sig d.op.0 (trees (put_terms o ++ left_by p ts)) ≡ true
   put-passes None = left-passes sig d.op.0 ts p pass.0
   put-passes (Some n) = ap (λ b. (true && not b) && all_pass sig d.op.0 (trees (left_by p ts)))
-      (and-none (is_assoc sig d.op.0)) ∙ left-passes sig d.op.0 ts p pass.0
+      (and-false (is_assoc sig d.op.0)) ∙ left-passes sig d.op.0 ts p pass.0
 
   pub normal-cancelled : normal sig cancelled_instance
       ≡ collapsed sig d.op.0 (in_order sig d.op.0 (put_terms d.put ++ left_by p ts))

@@ -4,6 +4,7 @@ use Rattle.std.proofs.Common.{List, [], ◌∷◌, ◌++◌, length, arith, inl,
 use Rattle.std.specs.Prelude.{Some, slice_get, if◌then◌else◌}
 use Rattle.std.specs.declared.cmp.Ordering.TheVariants.{Less, Equal, Greater}
 use Rattle.std.specs.Ordering.{is_eq}
+use Rattle.std.proofs.Math.Bool.{and-false}
 use Rattle.mp_term.specs.Tree.{Tree, symbol, app, trees}
 use Rattle.mp_term.specs.Order.{tree_cmp}
 use Rattle.mp_term.specs.OrderLaws.{tree_cmp_total, tree_same}
@@ -36,10 +37,6 @@ module _ (sig : Sig) (r : Rule) (t : Tree) (none : (s : Subst) (W : Table) → F
 
   one_list-none : IsNormal sig t → one_list sig r t ≡ []
   one_list-none n = let all = one_list-is sig r t n in none-least (one_list sig r t) all.tables all.least
-
-and-none : (b : Bool) → (b && false) ≡ false
-and-none true = refl
-and-none false = refl
 
 -- any list will do for the rest
 abbrev a_rest : List Tree
@@ -150,7 +147,7 @@ module _ (sig : Sig) (g : ℕ) (ts : List Tree) (normal : IsNormal sig (app g (t
         let t = are-taken s W (app_pattern h (more_patterns dot_of no_patterns)) dot_of
         (not-plain sig g ts a_rest (taking_rest leaves) has-rest (Some y)) f in
         let alone : contribution sig (Some g) (symbol []) ≡ Some (symbol [] ∷ []) =
-        contribution-alone sig g (symbol []) (and-none (is_assoc sig g)) in
+        contribution-alone sig g (symbol []) (and-false (is_assoc sig g)) in
         let a = under-taken sig g ts a_rest (taking_rest leaves) has-rest x y (symbol []) apart refl alone h flat s t.k
         t.T t.first in
         let v = a.0 in
@@ -165,7 +162,7 @@ module _ (sig : Sig) (g : ℕ) (ts : List Tree) (normal : IsNormal sig (app g (t
           hit_itself tree_cmp tree_cmp_total (app h (trees (v ∷ []))),
         )) in
         let i : Some (v ∷ []) ≡ Some t.l =
-        sym (contribution-alone sig g v (ap (λ c. is_assoc sig g && c) nothing.0 ∙ and-none (is_assoc sig g)))
+        sym (contribution-alone sig g v (ap (λ c. is_assoc sig g && c) nothing.0 ∙ and-false (is_assoc sig g)))
         ∙ takes in
         let taken : t.l ≡ v ∷ [] = cc in
         omega (arith, t.counts v, nothing.1, ap (tally tree_cmp v) taken, hit_itself tree_cmp tree_cmp_total v)

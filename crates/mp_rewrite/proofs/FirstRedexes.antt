@@ -1,10 +1,9 @@
 -- The first redex, node by node.
 use Rattle.std.proofs.Common.{◌≡◌, ◌∙◌, ℕ, zero, suc, ◌<◌, ◌≤◌, List, [], ◌∷◌, length}
-use Rattle.std.proofs.Common.{drop, refl, ap, sym, arith, subst}
+use Rattle.std.proofs.Common.{drop, refl, ap, sym, arith}
 use Rattle.std.proofs.Common.{get_or, map}
 use Rattle.std.specs.Prelude.{Option, Some, None, slice_get, option_map}
 use Rattle.std.specs.Option.{option_or}
-use Rattle.std.specs.List.{AllByRecursion}
 use Rattle.std.proofs.lemmas.Option.{slice_get-map, slice_get_read}
 use Rattle.mp_term.specs.Tree.{Tree, symbol, app, Trees, trees}
 use Rattle.mp_term.specs.Size.{node_count, all_nodes}
@@ -23,12 +22,6 @@ pub drop-at : {X : Type 0} (xs : List X) (i : ℕ) (x : X) → slice_get xs i �
 drop-at [] i x e = cc
 drop-at (y ∷ xs) zero x e = let s : y ≡ x = cc in ap (λ z. z ∷ xs) s
 drop-at (y ∷ xs) (suc i) x e = drop-at xs i x e
-
-pub holds-at : {X : Type 0} (P : X → Type 0) (xs : List X) (i : ℕ) (x : X) → AllByRecursion P xs
-    → slice_get xs i ≡ Some x → P x
-holds-at P [] i x h e = cc
-holds-at P (y ∷ xs) zero x h e = let s : y ≡ x = cc in subst P s h.0
-holds-at P (y ∷ xs) (suc i) x h e = holds-at P xs i x h.1 e
 
 pub nodes-at : (ts : List Tree) (i : ℕ) (t : Tree) → slice_get ts i ≡ Some t → node_count t ≤ all_nodes ts
 nodes-at [] i t e = cc

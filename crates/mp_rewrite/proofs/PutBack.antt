@@ -230,10 +230,6 @@ there-below f (s ∷ ts) zero p t e h = let same : s ≡ t = cc in subst (λ t. 
 there-below f (s ∷ ts) (suc i) p t e h = there-below f ts i p t e h
 
 -- an empty list
-pub empty-from : {X : Type 0} (xs : List X) → length xs ≡ 0 → xs ≡ []
-empty-from [] h = refl
-empty-from (x ∷ xs) h = absurd (omega (arith, h))
-
 -- the nodes of arguments of which one has a subterm replaced
 pub nodes-replaced_argument : (i : ℕ) (p : List ℕ) (u : Tree) (ts : List Tree) (t : Tree) → slice_get ts i ≡ Some t
     → node_counts (replaced_argument i p u (trees ts)) ≡ node_count (replaced p u t) + all_nodes (remove ts i)

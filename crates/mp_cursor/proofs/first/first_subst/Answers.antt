@@ -7,7 +7,7 @@ use Rattle.mp_pattern.proofs.ConstantLaws.{constants-nodes, constants-normal}
 use Rattle.mp_pattern.proofs.SoundRules.{HasConditionOver-HasSoundCondition}
 use Rattle.mp_subst.specs.View.{subst_of}
 use Rattle.mp_cursor.specs.Listing.{subject_of}
-use Rattle.mp_cursor.proofs.FirstLaws.{subject-is, constants-held, first-item, first-step, no-item, first-exact}
+use Rattle.mp_cursor.proofs.FirstLaws.{subject-built, constants-held, first-item, first-step, no-item, first-exact}
 use Rattle.mp_cursor.proofs.FirstLaws.{no-some}
 use Rattle.mp_cursor.proofs.first.first_subst.Goals as goal
 
@@ -46,7 +46,8 @@ room_for-requires c =
     let p = c.args.planned.now in
     omega (
       arith,
-      ap node_count (subject-is c.in_ok-table.table (tree c.args.subject.now) p.constants c.in_ok-table.ensures.table),
+      ap node_count
+          (subject-built c.in_ok-table.table (tree c.args.subject.now) p.constants c.in_ok-table.ensures.table),
       c.requires.few,
     )
 
@@ -65,7 +66,7 @@ pub returns-then-not-next-clause-first : goal.returns-then-not-next-clause-first
 returns-then-not-next-clause-first c =
     let p = c.args.planned.now in
     let t = tree c.args.subject.now in
-    let same = subject-is c.in_ok-table.table t p.constants c.in_ok-table.ensures.table in
+    let same = subject-built c.in_ok-table.table t p.constants c.in_ok-table.ensures.table in
     first-item c.args.sig.now (planned_rule p) t c.requires.normal None
     (sym (no-some c.next.new.self.item (λ h. let e : false ≡ true = c.if-not-next.ensures.answer.1 h in cc))
     ∙ first-step c.args.sig.now (planned_rule p) t c.requires.normal c.begin-cursor.result c.next.new.self
@@ -75,7 +76,7 @@ pub returns-then-not-next-clause-exact : goal.returns-then-not-next-clause-exact
 returns-then-not-next-clause-exact c =
     let p = c.args.planned.now in
     let t = tree c.args.subject.now in
-    let same = subject-is c.in_ok-table.table t p.constants c.in_ok-table.ensures.table in
+    let same = subject-built c.in_ok-table.table t p.constants c.in_ok-table.ensures.table in
     first-exact c.args.sig.now (planned_rule p) t c.requires.normal None
     (first-item c.args.sig.now (planned_rule p) t c.requires.normal None
     (sym (no-some c.next.new.self.item (λ h. let e : false ≡ true = c.if-not-next.ensures.answer.1 h in cc))
@@ -86,7 +87,7 @@ pub returns-clause-first : goal.returns-clause-first
 returns-clause-first c =
     let p = c.args.planned.now in
     let t = tree c.args.subject.now in
-    let same = subject-is c.in_ok-table.table t p.constants c.in_ok-table.ensures.table in
+    let same = subject-built c.in_ok-table.table t p.constants c.in_ok-table.ensures.table in
     sym c.in_ok-subst.ensures
     ∙ first-item c.args.sig.now (planned_rule p) t c.requires.normal c.next.new.self.item
     (first-step c.args.sig.now (planned_rule p) t c.requires.normal c.begin-cursor.result c.next.new.self
@@ -96,7 +97,7 @@ pub returns-clause-exact : goal.returns-clause-exact
 returns-clause-exact c =
     let p = c.args.planned.now in
     let t = tree c.args.subject.now in
-    let same = subject-is c.in_ok-table.table t p.constants c.in_ok-table.ensures.table in
+    let same = subject-built c.in_ok-table.table t p.constants c.in_ok-table.ensures.table in
     first-exact c.args.sig.now (planned_rule p) t c.requires.normal (Some (subst_of c.in_ok-subst.field-0))
     (sym c.in_ok-subst.ensures
     ∙ first-item c.args.sig.now (planned_rule p) t c.requires.normal c.next.new.self.item

@@ -2,12 +2,12 @@ use Rattle.std.proofs.Common.{◌≡◌, ◌<◌, ◌≤◌, ◌+◌, ◌*◌, �
 use Rattle.std.specs.Prelude.{Some, slice_get}
 use Rattle.std.specs.List.{filter_map}
 use Rattle.std.proofs.lemmas.Bool.Decides.{nat_tests}
+use Rattle.mp_subst.proofs.TrailLaws.{all-get}
 use Rattle.mp_net.specs.Items.{tables, opens, states}
 use Rattle.mp_net.specs.Short.{AreShort}
 use Rattle.mp_net.specs.Turned.{IsTurn}
 use Rattle.mp_net.specs.Entered.{led}
 use Rattle.mp_net.specs.NetOf.{ended}
-use Rattle.mp_net.proofs.ItemLaws.{all-held}
 use Rattle.mp_net.proofs.ShortLaws.{all_short-more}
 use Rattle.mp_net.proofs.StateLaws.{Built, built-none, built-more, built-all, rules-at}
 use Rattle.mp_net.proofs.build.build_net.Goals as goal
@@ -37,7 +37,7 @@ turned-requires c =
     let least : 4096 * suc n ≤ 2 ^ 32 = omega (arith, few, c.loop-alloc.invariant.few) in
     subst (λ xs. AreShort (2 ^ 32) (opens ms xs)) (sym c.deref.ensures.value)
     (all_short-more (4096 * suc n) (2 ^ 32) least os
-    (all-held (AreShort (4096 * suc n)) (states ms rules) c.len-in-loop-alloc-2.result os c.loop-alloc.invariant.short
+    (all-get (AreShort (4096 * suc n)) (states ms rules) c.len-in-loop-alloc-2.result os c.loop-alloc.invariant.short
     here))
 
 pub loop-alloc-preserved : goal.loop-alloc-preserved

@@ -1,11 +1,11 @@
 use Rattle.std.proofs.Common.{◌-◌, [], ◌∷◌, length, map, sym, ap, subst, arith}
 use Rattle.std.specs.Prelude.{IfSome}
 use Rattle.std.proofs.lemmas.List.{length-map}
+use Rattle.mp_subst.proofs.TrailLaws.{all-get}
 use Rattle.mp_net.specs.Items.{tables, opens}
 use Rattle.mp_net.specs.View.{mark_of}
 use Rattle.mp_net.specs.Short.{IsShort, AreShort}
 use Rattle.mp_net.specs.NetOf.{IsNetOf}
-use Rattle.mp_net.proofs.ItemLaws.{all-held}
 use Rattle.mp_net.proofs.ShortLaws.{starts-short}
 use Rattle.mp_net.proofs.GroupLaws.{tables-held, one-group, more-group, below-fails}
 use Rattle.mp_net.proofs.group.largest_group.Goals as goal
@@ -16,7 +16,7 @@ chain-requires c =
     let first = c.args.first in
     let v = c.index-marks-first.result in
     let held = tables-held marks first v c.requires.within c.index-marks-first.is in
-    let few = (all-held (IsShort 4096) (tables marks) first (map mark_of v.items) c.requires.short held).0 in
+    let few = (all-get (IsShort 4096) (tables marks) first (map mark_of v.items) c.requires.short held).0 in
     record { few = omega (arith, few, length-map v.items mark_of, ap length c.deref.ensures.value) }
 
 pub build_net-requires : goal.build_net-requires

@@ -1,10 +1,10 @@
 use Rattle.std.proofs.Common.{◌+◌, ◌<◌, ◌^◌, ◌∙◌, length, refl, sym}
 use Rattle.std.proofs.lemmas.List.{length-map, length-set}
 use Rattle.std.proofs.lemmas.Option.{slice_get_read}
+use Rattle.mp_subst.proofs.TrailLaws.{all-get}
 use Rattle.mp_net.specs.Net as net
 use Rattle.mp_net.specs.View.{mark_of}
 use Rattle.mp_net.specs.Items.{listed, item_below}
-use Rattle.mp_net.proofs.ItemLaws.{all-held}
 use Rattle.mp_net.proofs.TurnLaws.{joined-nil, entered-next}
 use Rattle.mp_net.proofs.turn.enter_each.Goals as goal
 
@@ -14,7 +14,7 @@ loop-index-init c = record { count = c.requires.lists; lists = sym (joined-nil (
 pub inside-requires : goal.inside-requires
 inside-requires c =
     let n = c.args.behind.free in
-    all-held (λ h. n + net.arity (mark_of h) < 2 ^ 64) c.args.heads.now c.loop-index.index c.index-heads-index.result
+    all-get (λ h. n + net.arity (mark_of h) < 2 ^ 64) c.args.heads.now c.loop-index.index c.index-heads-index.result
     c.requires.fits
     (slice_get_read c.args.heads.now (length c.args.heads.now) c.loop-index.index c.index-heads-index.result refl
     c.loop-index-test.true c.index-heads-index.is)

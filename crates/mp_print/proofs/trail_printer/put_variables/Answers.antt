@@ -6,9 +6,8 @@ use Rattle.mp_pattern.specs.Value.{Binding}
 use Rattle.mp_subst.specs.Bound.{bound_of, value_in}
 use Rattle.mp_subst.specs.Trail.{last_value, bindings_from}
 use Rattle.mp_print.specs.Printing.{binding_text, gap_text, separated}
-use Rattle.mp_print.proofs.Separated.{Puts-pushed}
+use Rattle.mp_print.proofs.Separated.{Puts-pushed, gap_text-pushed}
 use Rattle.mp_print.proofs.BoundVariables.{bindings_from-unbound, bindings_from-nameless, bindings_from-bound}
-use Rattle.mp_print.proofs.BoundVariables.{gap_text-pushed}
 use Rattle.mp_print.proofs.trail_printer.put_variables.Goals as goal
 
 pub loop-var-preserved-in_default : goal.loop-var-preserved-in_default

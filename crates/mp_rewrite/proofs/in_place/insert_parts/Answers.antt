@@ -2,7 +2,7 @@ use Rattle.std.proofs.Common.{◌≡◌, ◌∙◌, ◌+◌, ◌≤◌, ◌++◌
 use Rattle.std.proofs.Common.{suc, List, [], length, take, drop}
 use Rattle.std.proofs.Common.{true}
 use Rattle.std.specs.List.{insert, remove}
-use Rattle.std.proofs.lemmas.List.{take-append-drop}
+use Rattle.std.proofs.lemmas.List.{take-append-drop, nil_from_length}
 use Rattle.std.proofs.lemmas.List.Edits.{length-insert, length-remove}
 use Rattle.mp_term.specs.Tree.{Tree}
 use Rattle.mp_term.specs.View.{tree}
@@ -10,7 +10,7 @@ use Rattle.mp_term.specs.Normal.{in_order}
 use Rattle.mp_term.specs.NormalTest.{ascending}
 use Rattle.mp_rewrite.specs.MarkView.{mark_of}
 use Rattle.mp_rewrite.proofs.MarkLaws.{AllKnown, known-get, known-insert, known-remove}
-use Rattle.mp_rewrite.proofs.PutBack.{put_one, last-removed, in_order-ascending, empty-from}
+use Rattle.mp_rewrite.proofs.PutBack.{put_one, last-removed, in_order-ascending}
 use Rattle.mp_rewrite.proofs.in_place.insert_parts.Goals as goal
 
 pub loop-op-preserved : goal.loop-op-preserved
@@ -72,6 +72,6 @@ returns-clause-terms c =
     let terms = c.loop-op.terms in
     let after = c.loop-op.invariant in
     let none : c.loop-op.more ≡ [] =
-    empty-from c.loop-op.more (omega (arith, c.len.ensures, c.loop-op-test.false)) in
+    nil_from_length c.loop-op.more (omega (arith, c.len.ensures, c.loop-op-test.false)) in
     sym (in_order-ascending sig f terms after.ascending) ∙ ap (in_order sig f) (sym (take-append-drop i terms))
     ∙ ap (λ us. in_order sig f (take i terms ++ (us ++ drop i terms))) (sym none) ∙ after.terms

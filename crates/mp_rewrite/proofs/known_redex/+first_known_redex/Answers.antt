@@ -7,13 +7,14 @@ use Rattle.mp_term.specs.Size.{node_count, all_nodes}
 use Rattle.mp_term.specs.Normal.{IsNormal}
 use Rattle.mp_rewrite.specs.Computed as computed
 use Rattle.mp_pattern.specs.Planned.{planned_rule}
+use Rattle.mp_subst.proofs.TrailLaws.{all-get}
 use Rattle.mp_rewrite.specs.Marks.{dead}
 use Rattle.mp_rewrite.specs.MarkView.{mark_of}
 use Rattle.mp_rewrite.specs.Known.{IsKnown}
 use Rattle.mp_rewrite.specs.Made.{redex_of}
 use Rattle.mp_rewrite.proofs.MarkLaws.{AllKnown, known-length, known-get, known-set, known-set-again}
 use Rattle.mp_rewrite.proofs.PutBack.{arguments-pass, arguments-normal}
-use Rattle.mp_rewrite.proofs.FirstRedexes.{mapped-at, holds-at, nodes-at, index-few, below-Some, below-None}
+use Rattle.mp_rewrite.proofs.FirstRedexes.{mapped-at, nodes-at, index-few, below-Some, below-None}
 use Rattle.mp_rewrite.proofs.known_redex.+first_known_redex.Goals as goal
 
 pub first_below-loop-index-preserved-then-is_dead : goal.first_below-loop-index-preserved-then-is_dead
@@ -61,7 +62,7 @@ first_below-first_known_redex-requires t c =
       (
         c.requires.planned,
         (
-          holds-at (IsNormal sig) args i arg c.requires.normal at,
+          all-get (IsNormal sig) args i arg c.requires.normal at,
           (
             omega (arith, small, c.requires.few),
             known-get sig rules c.loop-index.known args i (mark_of c.take-before.result) arg

@@ -1,8 +1,9 @@
 use Rattle.std.proofs.Common.{refl, map, arith}
 use Rattle.std.proofs.lemmas.List.{length-map}
+use Rattle.std.proofs.lemmas.Option.{slice_get_within}
 use Rattle.mp_term.specs.View.{tree}
 use Rattle.mp_rewrite.proofs.FirstRedexes.{mapped-at}
-use Rattle.mp_rewrite.proofs.CancellationSteps.{under-here, under-step, within-get}
+use Rattle.mp_rewrite.proofs.CancellationSteps.{under-here, under-step}
 use Rattle.mp_rewrite.proofs.taken.under_places.Goals as goal
 
 pub returns-in-At : goal.returns-in-At
@@ -26,7 +27,7 @@ loop-index-preserved c =
 pub returns : goal.returns
 returns c = λ i v e. c.loop-index.invariant i v (omega (
   arith,
-  within-get (map tree c.args.args.now) i _ e,
+  slice_get_within (map tree c.args.args.now) i _ e,
   length-map c.args.args.now tree,
   c.loop-index-test.false,
 )) e

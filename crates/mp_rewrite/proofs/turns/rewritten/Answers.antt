@@ -1,8 +1,9 @@
 use Rattle.std.proofs.Common.{◌≡◌, ◌∙◌, ◌-◌, map, ap, refl, subst, sym, arith}
 use Rattle.std.specs.Prelude.{Ok, Err, is_some}
-use Rattle.mp_rewrite.proofs.CallAnswers.{is_some-map, stopped, went_on, ended, at_limit}
+use Rattle.mp_rewrite.proofs.CallAnswers.{stopped, went_on, ended, at_limit}
 use Rattle.mp_rewrite.proofs.Runs.{left-after, left-still}
 use Rattle.mp_term.specs.View.{tree}
+use Rattle.mp_term.proofs.SignatureLaws.{is_some-option_map}
 use Rattle.mp_rewrite.specs.Computed.{rewriting, rewriting_from, next_step}
 use Rattle.mp_rewrite.specs.ComputedAnswers.{IsComputedRewriting}
 use Rattle.mp_rewrite.specs.Made.{redex_of}
@@ -81,6 +82,6 @@ returns c =
     at_limit sig rules c.args.max c.loop-turns.turns here w (next_step sig rules here) c.is_some-more.result
     (omega (arith, c.loop-turns-test.false)) (omega (arith, c.loop-turns.invariant.few))
     c.loop-turns.invariant.left refl
-    (c.is_some-more.ensures ∙ sym (is_some-map (λ r. redex_of r.redex) c.in_ok-first_known_redex.field-0) ∙ redex
+    (c.is_some-more.ensures ∙ sym (is_some-option_map (λ r. redex_of r.redex) c.in_ok-first_known_redex.field-0) ∙ redex
     ∙ sym (is_some-next_step sig rules c.signature_is_valid.ensures c.requires.rules here
     c.loop-turns.invariant.here.rewritable))

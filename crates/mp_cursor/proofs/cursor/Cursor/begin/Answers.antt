@@ -8,10 +8,10 @@ use Rattle.mp_pattern.specs.Variables.{variables}
 use Rattle.mp_pattern.specs.View.{pattern_tree}
 use Rattle.mp_theory.specs.NoOptional.{HasNoOptional}
 use Rattle.mp_theory.proofs.OneListLaws.{one_list-is, item_list-are, item_substs-item_list}
+use Rattle.mp_search.proofs.TableLaws.{subject-normal}
 use Rattle.mp_cursor.specs.declared.matched.Matched.{Matched}
 use Rattle.mp_cursor.specs.Listing.{subject_of}
 use Rattle.mp_cursor.proofs.BeginLaws.{is-matched, can-decide, condition-held}
-use Rattle.mp_cursor.proofs.SubjectLaws.{subject-normal}
 use Rattle.mp_cursor.proofs.cursor.Cursor.begin.Goals as goal
 
 pub invariant_of-result : goal.invariant_of-result
