@@ -4,7 +4,7 @@ use Rattle.std.proofs.Common.{drop, Bool}
 use Rattle.std.proofs.Common.{eqb-true, true, false, nat_eq, ◌&&◌, refl, ap, sym, ◌∙◌, subst, arith, slice_index_or}
 use Rattle.std.specs.Prelude.{Option, Some, None, slice_get, MatchBool, MatchOption, if◌then◌else◌}
 use Rattle.std.proofs.lemmas.Bool.Decides.{nat_tests}
-use Rattle.std.specs.Prelude.{nat_lt, Result, Ok, Err, IfOk}
+use Rattle.std.specs.Prelude.{nat_lt}
 use Rattle.std.specs.List.{AllByRecursion}
 use Rattle.mp_term.specs.Normal.{IsNormal}
 use Rattle.mp_term.specs.NormalTest.{has_head, is_single, passes}
@@ -47,10 +47,6 @@ use Rattle.mp_walk.proofs.TrailLaws.{name_of-less, name_of-only}
 use Rattle.mp_walk.proofs.WayLaws.{ways-none, ways-step}
 
 -- ---- rooms
-
-pub ok-then : {X E : Type 0} (P Q : X → Type 0) → ((x : X) → P x → Q x) → (r : Result X E) → IfOk r P → IfOk r Q
-ok-then P Q f (Ok x) h = f x h
-ok-then P Q f (Err e) h = tt
 
 levels-over : (t : Table) (w : ℕ) (ls : List Level) → AreLevels t w ls → AllByRecursion (levels.IsOver t) ls
 levels-over t w [] h = tt

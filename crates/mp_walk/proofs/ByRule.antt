@@ -3,7 +3,6 @@ use Rattle.std.proofs.Common.{◌≡◌, ℕ, suc, List, [], ◌∷◌, ◌++◌
 use Rattle.std.proofs.Common.{sym, ◌∙◌, append_assoc, append-nil}
 use Rattle.std.specs.Prelude.{Option, Some, None, flat_map, option_map, if◌then◌else◌}
 use Rattle.std.proofs.lemmas.Bool.{and_parts, and_from}
-use Rattle.std.proofs.lemmas.List.{map-append}
 use Rattle.mp_term.specs.Signature.{Sig, is_comm, is_one}
 use Rattle.mp_pattern.specs.PatternTree.{Wildcard, is_sequence, Pattern, symbol_pattern, app_pattern, wild_pattern}
 use Rattle.mp_pattern.specs.PatternTree.{Patterns, no_patterns, more_patterns}
@@ -22,6 +21,7 @@ use Rattle.mp_ac.specs.CommList.{below}
 use Rattle.mp_theory.specs.Machine.{reads, entries, said, is_headed}
 use Rattle.mp_pattern.specs.NetTokens.{NetToken, sym_token, enter_token, leave_token, wild_token, comm_token, tokens}
 use Rattle.mp_pattern.specs.NetTokens.{all_tokens, renamed, all_renamed, numbered, number_in}
+use Rattle.mp_theory.proofs.SubBags.{map-flat}
 use Rattle.mp_walk.specs.Forests.{runs}
 use Rattle.mp_walk.specs.TokenMachine.{Open, State, rest_of_open, entries_for, taken_below, opened, told, steps_by}
 use Rattle.mp_walk.specs.TokenMachine.{token_ends}
@@ -219,12 +219,6 @@ module _ (sig : Sig) (vs : List (List ℕ)) where
           (at (f ∷ fs) s) T ≡ []
       by_test true q go = rw (e, q) refl
       by_test false q go = go (rw q at n)
-
--- `map` over `flat_map`
-pub map-flat : {X Y Z : Type 0} (f : Y → Z) (g : X → List Y) (xs : List X)
-    → map f (flat_map g xs) ≡ flat_map (λ x. map f (g x)) xs
-map-flat f g [] = refl
-map-flat f g (x ∷ xs) = map-append f (g x) (flat_map g xs) ∙ ap (λ ys. map f (g x) ++ ys) (map-flat f g xs)
 
 -- the tables are those of the runs
 module _ (steps : State → NetToken → List (List Entry × State)) where

@@ -29,6 +29,7 @@ use Rattle.mp_theory.proofs.ItemLaws.{items-derivations}
 use Rattle.mp_theory.proofs.ItemTables.{items-exact}
 use Rattle.mp_theory.proofs.TrailLaws.{shape-tested}
 use Rattle.mp_search.proofs.SubstLaws.{value_of-subst_from}
+use Rattle.mp_search.proofs.NumberLaws.{in-slice_get}
 use Rattle.mp_ac.specs.CommItems.{SameValues}
 use Rattle.mp_walk.specs.TokenMachine.{begin_state, steps_by}
 use Rattle.mp_walk.specs.Trails.{name_of, numbered_subst}
@@ -54,12 +55,6 @@ run-fits sig t normal q few T r i =
 
 -- ---- variables by their numbers
 
-got-in : {X : Type 0} (xs : List X) (j : ℕ) (x : X) → slice_get xs j ≡ Some x → In x xs
-got-in [] zero x e = cc
-got-in [] (suc j) x e = cc
-got-in (y ∷ xs) zero x e = inl (let q : x ≡ y = cc in q)
-got-in (y ∷ xs) (suc j) x e = inr (got-in xs j x e)
-
 got-below : {X : Type 0} (xs : List X) (j : ℕ) (x : X) → slice_get xs j ≡ Some x → j < length xs
 got-below [] zero x e = cc
 got-below [] (suc j) x e = cc
@@ -80,7 +75,7 @@ number-at [] (suc j) x d e = cc
 number-at (v ∷ vs) zero x d e =
     (let q : v ≡ x = cc in rw (ap (λ z. same_name z x) q ∙ same_name-itself x) refl)
 number-at (v ∷ vs) (suc j) x d e =
-    rw (all_in (λ y. same_name v y ≡ false) vs x d.0 (got-in vs j x e))
+    rw (all_in (λ y. same_name v y ≡ false) vs x d.0 (in-slice_get vs j x e))
     (let h = number-at vs j x d.1 e in omega (arith, h))
 
 value-at : (s : Subst) (j : ℕ) (b : Binding) → Distinct same_name (map (λ (c : Binding). c.name) s)
@@ -92,7 +87,7 @@ value-at (c ∷ s) zero b d e =
     (ap (λ (z : Binding). Some z.value) q))
 value-at (c ∷ s) (suc j) b d e =
     rw (all_in (λ y. same_name c.name y ≡ false) (map (λ (z : Binding). z.name) s) b.name d.0
-    (in-map (λ (z : Binding). z.name) b s (got-in s j b e))) (value-at s j b d.1 e)
+    (in-map (λ (z : Binding). z.name) b s (in-slice_get s j b e))) (value-at s j b d.1 e)
 
 module _ (sig : Sig) (vs : List (List ℕ)) (few : length vs < 2 ^ 64) where
   -- a variable has the value that its new name has
@@ -166,7 +161,7 @@ trail-read sig q few many table u xs s r names read e same =
         let value : value_of (numbered_subst table u.stack) (numbered j) ≡ Some b.value =
         same (numbered j) ∙ ap (λ z. value_of z (numbered j)) (sym e)
         ∙ ap (λ n. value_of (new_subst sig (variables q) few s) (numbered n)) (sym number)
-        ∙ value-new sig (variables q) few s b.name known (named b (got-in s j b g))
+        ∙ value-new sig (variables q) few s b.name known (named b (in-slice_get s j b g))
         ∙ value-at s j b (subst (Distinct same_name) (sym names) distinct) g in
         through (last_value u.stack j)
         (sym (value_of-subst_from table name_of (numbered j) j (name_of-less j (omega (arith, less, many)))

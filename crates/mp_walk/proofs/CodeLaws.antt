@@ -1,7 +1,7 @@
 -- Tables of instructions with their plans.
-use Rattle.std.proofs.Common.{◌≡◌, ◌≤◌, ℕ, zero, suc, List, [], ◌∷◌, ◌++◌, drop, length, refl, ap, sym, ◌∙◌, subst}
+use Rattle.std.proofs.Common.{◌≡◌, ℕ, zero, suc, List, [], ◌∷◌, ◌++◌, length, refl, ap, sym, ◌∙◌, subst}
 use Rattle.std.proofs.Common.{arith, ◌<◌, ◌-◌, slice_index_or}
-use Rattle.std.proofs.lemmas.Option.{get_or_from_slice_get}
+use Rattle.std.proofs.lemmas.Option.{get_or_from_slice_get, slice_get_within}
 use Rattle.std.specs.Prelude.{Option, Some, slice_get}
 use Rattle.std.specs.List.{AllByRecursion}
 use Rattle.std.proofs.lemmas.List.{append_assoc, append-nil}
@@ -58,19 +58,7 @@ planned-at sig (j ∷ is) (o ∷ os) h zero i e =
     (o, refl, subst (λ k. IsPlanned sig k.token o) q h.0)
 planned-at sig (j ∷ is) (o ∷ os) h (suc n) i e = planned-at sig is os h.1 n i e
 
--- nothing stands behind the last item
-pub drop-none : {X : Type 0} (n : ℕ) (xs : List X) → length xs ≤ n → drop n xs ≡ []
-drop-none zero [] h = refl
-drop-none zero (x ∷ xs) h = absurd (omega arith)
-drop-none (suc n) [] h = refl
-drop-none (suc n) (x ∷ xs) h = drop-none n xs (omega arith)
-
 -- so it is found by the number of the instruction
-get-within : {X : Type 0} (xs : List X) (n : ℕ) (x : X) → slice_get xs n ≡ Some x → n < length xs
-get-within [] n x e = cc
-get-within (y ∷ xs) zero x e = omega arith
-get-within (y ∷ xs) (suc n) x e = omega (arith, get-within xs n x e)
-
 pub plan-found : (sig : Sig) (is : List Instr) (os : List (Option CommPlan)) → ArePlanned sig is os
     → (n : ℕ) (i : Instr)
     → instr_at is n ≡ Some i → (n - 1 < length os)
@@ -79,7 +67,7 @@ plan-found sig is os h zero i e = cc
 plan-found sig is os h (suc m) i e =
     let at = planned-at sig is os h m i e in
     let less : suc m - 1 ≡ m = omega arith in (
-      omega (arith, less, get-within os m at.0 at.1),
+      omega (arith, less, slice_get_within os m at.0 at.1),
       λ o k. subst (IsPlanned sig i.token) (sym (k ∙ ap (λ n. slice_index_or os n o) less
           ∙ get_or_from_slice_get os m at.0 o at.1)) at.2,
     )

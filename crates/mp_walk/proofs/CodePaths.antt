@@ -7,6 +7,7 @@ use Rattle.mp_term.specs.Listing.{In}
 use Rattle.mp_term.specs.Signature.{Sig}
 use Rattle.mp_term.proofs.SearchLaws.{in-left, in-right, from_in-append, from_in-map, in-flat}
 use Rattle.mp_pattern.specs.NetTokens.{NetToken}
+use Rattle.mp_search.proofs.NumberLaws.{in-slice_get}
 use Rattle.mp_ac.specs.CommItems.{NoneTwice}
 use Rattle.mp_walk.specs.Instrs.{Instr, instr_at, targets}
 use Rattle.mp_walk.specs.Forests.{Forest, node, none, beside, lists}
@@ -39,16 +40,10 @@ none-beyond code (suc n) h = beyond code n (omega arith)
 some-is : {X : Type 0} (x y : X) → Some x ≡ Some y → x ≡ y
 some-is x y e = cc
 
--- what stands at an index is in the list
-held-in : {X : Type 0} (xs : List X) (n : ℕ) (x : X) → slice_get xs n ≡ Some x → In x xs
-held-in [] n x e = cc
-held-in (y ∷ xs) zero x e = inl (sym (some-is y x e))
-held-in (y ∷ xs) (suc n) x e = inr (held-in xs n x e)
-
 -- an instruction is one of the table, and there is one for each number
 pub instr-in : (code : List Instr) (n : ℕ) (i : Instr) → instr_at code n ≡ Some i → In i code
 instr-in code zero i e = cc
-instr-in code (suc n) i e = held-in code n i e
+instr-in code (suc n) i e = in-slice_get code n i e
 
 pub instr-there : (code : List Instr) (n : ℕ) → 1 ≤ n → n ≤ length code → (i : Instr) × (instr_at code n ≡ Some i)
 instr-there code zero h k = absurd (omega arith)
@@ -218,10 +213,10 @@ one-place f [] y a b u v h p q i j = cc
 one-place f (x ∷ xs) y zero zero u v h p q i j = refl
 one-place f (x ∷ xs) y zero (suc b) u v h p q i j =
     absurd (none-apart (f x) (flat_map f xs) h y (subst (λ z. In y (f z)) (sym (some-is x u p)) i)
-    (in-flat f v y xs (held-in xs b v q) j))
+    (in-flat f v y xs (in-slice_get xs b v q) j))
 one-place f (x ∷ xs) y (suc a) zero u v h p q i j =
     absurd (none-apart (f x) (flat_map f xs) h y (subst (λ z. In y (f z)) (sym (some-is x v q)) j)
-    (in-flat f u y xs (held-in xs a u p) i))
+    (in-flat f u y xs (in-slice_get xs a u p) i))
 one-place f (x ∷ xs) y (suc a) (suc b) u v h p q i j =
     ap suc (one-place f xs y a b u v (none-right (f x) (flat_map f xs) h) p q i j)
 

@@ -10,7 +10,7 @@ use Rattle.std.specs.List.Sorted.{IsStrictlySortedBy}
 use Rattle.std.specs.Ordering.{is_ne, nat_cmp, ordering_then}
 use Rattle.std.specs.declared.cmp.Ordering.{Ordering}
 use Rattle.std.specs.declared.cmp.Ordering.TheVariants.{Less, Equal, Greater}
-use Rattle.std.proofs.lemmas.List.{length-map}
+use Rattle.std.proofs.lemmas.List.{length-map, drop_all}
 use Rattle.std.proofs.lemmas.Cmp.{lists_total, nat_cmp_total, nat_list_cmp_total, tied_itself}
 use Rattle.mp_term.specs.Listing.{In, IsListing}
 use Rattle.mp_term.specs.OrderLaws.{both_equal, nat_same, nats_same}
@@ -86,13 +86,7 @@ module _ (n m : ℕ) (t u : tables.Table) (ks js : List Kept) (rule : n ≡ m) w
       → o ≡ values_cmp → o ≡ found_cmp (ranked_pair n t ks) (ranked_pair m u js)
   found-same_names same o is = is ∙ sym (of-one-rule ∙ ap (λ c. ordering_then c values_cmp) same)
 
--- what is behind the items of a list, and at a place within it
-drop-past : {X : Type 0} (i : ℕ) (xs : List X) → length xs ≤ i → drop i xs ≡ []
-drop-past zero [] h = refl
-drop-past (suc i) [] h = refl
-drop-past zero (x ∷ xs) h = absurd (omega (arith, h))
-drop-past (suc i) (x ∷ xs) h = drop-past i xs (omega (arith, h))
-
+-- what is at a place within a list, and behind it
 drop-within : {X : Type 0} (i : ℕ) (xs : List X) → i < length xs → (x : X) × (rest : List X) × (drop i xs ≡ x ∷ rest)
 drop-within i [] h = absurd (omega (arith, h))
 drop-within zero (x ∷ xs) h = (x, xs, refl)
@@ -106,12 +100,12 @@ module _ (i : ℕ) (bs os : List Kept) where
   pub ended-less : length bs ≤ i → i < length os → compared (drop i bs) (drop i os) ≡ Less
   ended-less h k =
       let w = drop-within i os k in
-      subst (λ cs. compared cs (drop i os) ≡ Less) (sym (drop-past i bs h))
+      subst (λ cs. compared cs (drop i os) ≡ Less) (sym (drop_all i bs h))
       (subst (λ ds. compared [] ds ≡ Less) (sym w.2) refl)
 
   pub ended-equal : length bs ≤ i → length os ≤ i → compared (drop i bs) (drop i os) ≡ Equal
-  ended-equal h k = subst (λ cs. compared cs (drop i os) ≡ Equal) (sym (drop-past i bs h))
-      (subst (λ ds. compared [] ds ≡ Equal) (sym (drop-past i os k)) refl)
+  ended-equal h k = subst (λ cs. compared cs (drop i os) ≡ Equal) (sym (drop_all i bs h))
+      (subst (λ ds. compared [] ds ≡ Equal) (sym (drop_all i os k)) refl)
 
 -- pairs of which those of one rule have the same variables
 module _ (P : Pair → Type 0) (alike : (p q : Pair) → P p → P q → p.0 ≡ q.0 → names_of p.1 ≡ names_of q.1) where

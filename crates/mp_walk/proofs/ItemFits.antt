@@ -11,6 +11,7 @@ use Rattle.mp_pattern.specs.Variables.{variables}
 use Rattle.mp_pattern.proofs.PlanNodes.{plan-names}
 use Rattle.mp_table.specs.Table.{Table}
 use Rattle.mp_subst.specs.Trail.{Trail, subst_in}
+use Rattle.mp_search.proofs.TableLaws.{subject-normal}
 use Rattle.mp_walk.specs.declared.course.Course.{Course}
 use Rattle.mp_walk.specs.declared.frame.Frame.{Frame}
 use Rattle.mp_walk.specs.declared.level.Level.{Level}
@@ -23,7 +24,6 @@ use Rattle.mp_walk.specs.TokenMachine.{token_ends}
 use Rattle.mp_walk.specs.Walkable.{Path}
 use Rattle.mp_walk.specs.WalkView.{subject_of}
 use Rattle.mp_walk.proofs.ChainFits.{chain-fits, last_read}
-use Rattle.mp_walk.proofs.ViewLaws.{subject-normal}
 
 -- the last token that is read is that of the last level
 last-level : (t : Table) (fs : List Frame) (u : Trail) (l : Level) (ls : List Level)

@@ -12,6 +12,7 @@ use Rattle.mp_pattern.specs.PatternTree.{Pattern, symbol_pattern, app_pattern, w
 use Rattle.mp_pattern.specs.Size.{pattern_nodes}
 use Rattle.mp_ac.specs.CommPlan.{nodes_below}
 use Rattle.mp_theory.specs.Machine.{arguments}
+use Rattle.mp_theory.proofs.Narrow.{length-all_nodes}
 use Rattle.mp_walk.specs.Course.{opens_by, way_cost, IsWayValid}
 use Rattle.mp_walk.specs.Levels.{opens_load, search_cost, step_cost}
 use Rattle.mp_walk.specs.SoundTokens.{token_nodes}
@@ -28,11 +29,6 @@ nodes-parted : (n : ℕ) (ts : List Tree) → all_nodes (take n ts) + all_nodes 
 nodes-parted zero ts = omega arith
 nodes-parted (suc n) [] = refl
 nodes-parted (suc n) (t ∷ ts) = omega (arith, nodes-parted n ts)
-
--- a list has no more terms than nodes
-pub length-nodes : (ts : List Tree) → length ts ≤ all_nodes ts
-length-nodes [] = omega arith
-length-nodes (t ∷ ts) = omega (arith, some-nodes t, length-nodes ts)
 
 front-nodes : (n : ℕ) (ts : List Tree) → n ≤ length ts → n ≤ all_nodes (take n ts)
 front-nodes zero ts h = omega arith
@@ -54,7 +50,7 @@ rest-nodes : (n : ℕ) (ts : List Tree) → all_nodes (take n ts) + all_nodes (w
 rest-nodes n ts = ap (λ l. all_nodes (take n ts) + all_nodes l) (without-front n ts) ∙ nodes-parted n ts
 
 pub length-load : (f : Open) (fs : List Open) → length f.left ≤ opens_load (f ∷ fs)
-length-load f fs = omega (arith, length-nodes f.left)
+length-load f fs = omega (arith, length-all_nodes f.left)
 
 pub load-after : (k : NetToken) (f : Open) (fs : List Open) (way : ℕ) → IsWayValid k f way
     → opens_load (opens_by k f fs way) + way_cost k way ≤ opens_load (f ∷ fs) + 3 * token_nodes k

@@ -15,12 +15,12 @@ use Rattle.mp_table.specs.Table as tables
 use Rattle.mp_subst.specs.Bound.{Bound, value_in}
 use Rattle.mp_subst.specs.Trail.{TrailEntry, last_value, bindings_from, subst_in}
 use Rattle.mp_theory.proofs.FitsSolves.{fits-solves}
+use Rattle.mp_search.proofs.TableLaws.{subject-normal}
 use Rattle.mp_walk.specs.declared.course.Course.{Course}
 use Rattle.mp_walk.specs.CourseView.{IsAtItem, item_of}
 use Rattle.mp_walk.specs.NamedItems.{with_names, called, IsNamedSubst}
 use Rattle.mp_walk.specs.WalkView.{subject_of}
 use Rattle.mp_walk.proofs.ItemFits.{item-fits_names}
-use Rattle.mp_walk.proofs.ViewLaws.{subject-normal}
 
 -- the names of the variables that are called by them
 pub names-called : (xs : List (List ℕ)) → map (λ (v : Variable). v.name) (called xs) ≡ xs

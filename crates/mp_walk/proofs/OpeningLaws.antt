@@ -31,6 +31,7 @@ use Rattle.mp_walk.specs.Course.{rest_by, opens_by, opens_after, IsWayValid}
 use Rattle.mp_walk.specs.TokenMachine.{Open, rest_of_open, opened, numbered_wildcard}
 use Rattle.mp_walk.specs.Ways.{first_entry}
 use Rattle.mp_walk.proofs.WayLaws.{without-front}
+use Rattle.mp_walk.proofs.ViewLaws.{not-zero}
 
 -- what takes a term isn't left out
 left_out-some : (p : Pattern) (t : Tree) (ts : List Tree) → is_left_out p (t ∷ ts) ≡ false
@@ -102,17 +103,13 @@ rest-one k f way (inr (inr h)) v =
     subst (λ j. record f { left = drop 1 f.left } ≡ rest_by (net_token j) f way) (sym h.1)
     (rest-comm (pattern_tree h.0) f way (subst (λ j. IsWayValid (net_token j) f way) h.1 v).0)
 
-some-way : (n : ℕ) → (n ≡ 0 → ⊥) → 1 ≤ n
-some-way zero h = absurd (h refl)
-some-way (suc n) h = omega arith
-
 -- an optional wildcard that takes a term
 pub rest-optional : (k : declared.NetToken) (x : Option ℕ) (d : Term) (f : Open) (way : ℕ) → k ≡ Opt x d
     → IsWayValid (net_token k) f way → (way ≡ 0 → ⊥) → record f { left = drop way f.left } ≡ rest_by (net_token k) f way
 rest-optional k x d f way e v h =
     subst (λ j. record f { left = drop way f.left } ≡ rest_by (net_token j) f way) (sym e)
     (rest-wild (optional (tree d)) x f way (left_out-front (numbered_wildcard (optional (tree d)) x) way f.left
-    (some-way way h)
+    (not-zero way h)
     (subst (λ j. IsWayValid (net_token j) f way) e v)))
 
 -- another wildcard

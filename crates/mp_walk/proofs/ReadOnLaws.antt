@@ -3,6 +3,7 @@ use Rattle.std.proofs.Common.{◌≡◌, ◌≤◌, ℕ, zero, suc, List, [], �
 use Rattle.std.proofs.Common.{arith, inl, inr}
 use Rattle.std.specs.Prelude.{Some, IsSome, slice_get}
 use Rattle.std.specs.List.{AllByRecursion}
+use Rattle.std.proofs.lemmas.List.{length-take-le}
 use Rattle.mp_term.specs.Listing.{In}
 use Rattle.mp_term.specs.Signature.{Sig}
 use Rattle.mp_term.specs.Tree.{Tree}
@@ -17,7 +18,6 @@ use Rattle.mp_walk.specs.Instrs.{Instr, instr_at}
 use Rattle.mp_walk.specs.OpenOnes.{AreFrames}
 use Rattle.mp_walk.specs.Trails.{HoldsDefault, shape_of}
 use Rattle.mp_walk.proofs.CodePaths.{instr-in}
-use Rattle.mp_walk.proofs.ListLaws.{take-exact}
 
 -- what stands in a front stands in the list
 get-take : {X : Type 0} (n : ℕ) (xs : List X) (i : ℕ) (x : X) → slice_get (take n xs) i ≡ Some x
@@ -39,7 +39,7 @@ frames-take sig t fs n a i f e = a i f (get-take n fs i f e)
 -- the length of a trail that goes on from a cut
 pub cut-within : (m : ℕ) (u v : Trail) → m ≤ length u.stack → cut m v ≡ cut m u → m ≤ length v.stack
 cut-within m u v h e =
-    let long : length (take m v.stack) ≡ m = ap (λ (w : Trail). length w.stack) e ∙ take-exact m u.stack h in
+    let long : length (take m v.stack) ≡ m = ap (λ (w : Trail). length w.stack) e ∙ length-take-le m u.stack h in
     omega (arith, long, front-shorter m v.stack)
 
 -- trails with the same front are the same at lesser lengths

@@ -3,6 +3,7 @@ use Rattle.std.proofs.Common.{◌≡◌, ◌≤◌, ◌+◌, ◌*◌, ◌&&◌, 
 use Rattle.std.proofs.Common.{◌++◌, map}
 use Rattle.std.proofs.Common.{drop, length, nat_eq, nat_lt, refl, ap, sym, ◌∙◌, subst}
 use Rattle.std.specs.Prelude.{Option, Some, None, Result, Ok, Err, IfOk, if◌then◌else◌, MatchBool}
+use Rattle.std.proofs.lemmas.List.{length-take-le}
 use Rattle.mp_term.specs.Size.{node_count}
 use Rattle.mp_term.specs.Tree.{Tree}
 use Rattle.mp_pattern.specs.PatternTree.{Patterns, app_pattern}
@@ -27,7 +28,6 @@ use Rattle.mp_walk.specs.Levels.{innermost_left}
 use Rattle.mp_walk.specs.SoundTokens.{IsSoundComm}
 use Rattle.mp_walk.specs.Trails.{IsTrailOf, numbered_subst}
 use Rattle.mp_walk.specs.Ways.{HasNoWay, is_way}
-use Rattle.mp_walk.proofs.ListLaws.{take-exact}
 use Rattle.mp_walk.proofs.WayLaws.{ways-none}
 use Rattle.mp_term.specs.Signature.{Sig}
 use Rattle.mp_pattern.specs.NetTokens.{NetToken, sym_token, enter_token, leave_token, wild_token, comm_token}
@@ -305,7 +305,7 @@ module _ (sig : Sig) (t : Table) (p : Pattern) (b : Below) (pattern : pattern_of
       → IsAbove b m u v → (found ≡ true → u.spare ≤ v.spare + cost_of b) → (found ≡ false → v ≡ u)
       → LiesOver t (if found then step_cost (comm_token p) os way else 0) u v
   below-lies found m way u v w long is above spare back = record {
-    cut = ap (λ n. cut n v) (ap (λ (z : Trail). length z.stack) is ∙ take-exact m w.stack long) ∙ above.cut;
+    cut = ap (λ n. cut n v) (ap (λ (z : Trail). length z.stack) is ∙ length-take-le m w.stack long) ∙ above.cut;
     trail = subst (λ z. IsTrailOf z v) of_table above.trail;
     spare = by_found found spare back;
   }

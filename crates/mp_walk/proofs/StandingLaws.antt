@@ -36,7 +36,7 @@ use Rattle.mp_walk.proofs.LevelLaws.{level-kept, levels-kept, reads-kept, read-k
 use Rattle.mp_table.specs.Table.{rank_of}
 use Rattle.mp_walk.specs.CodeConstants.{token_constants}
 use Rattle.std.specs.List.{AllByRecursion}
-use Rattle.mp_walk.proofs.ListLaws.{take-exact}
+use Rattle.std.proofs.lemmas.List.{length-take-le}
 use Rattle.mp_walk.proofs.OpenLaws.{opens-take}
 use Rattle.mp_walk.proofs.PathLaws.{token-sound, path-narrow}
 use Rattle.mp_walk.specs.CourseVisits.{read_visits, visits_from}
@@ -67,7 +67,7 @@ some-same i j e = cc
 
 module _ (x : Setting) (fs : List Frame) (u : Trail) (ls : List Level) (l : Level) (S : StandsBehind x fs u ls l) where
   pub front-length : length (take l.frames fs) ≡ l.frames
-  front-length = take-exact l.frames fs S.places
+  front-length = length-take-le l.frames fs S.places
 
   pub front-frames : AreFrames x.sig.now x.table.now (take l.frames fs)
   front-frames = frames-take x.sig.now x.table.now fs l.frames S.frames
@@ -219,7 +219,7 @@ module _ (x : Setting) (fs : List Frame) (u : Trail) (ls : List Level) (l : Leve
   pub lies-back : (cost : ℕ) (v : Trail) → LiesOver x.table.now cost (trail_before u l) v
       → cut (length_at l.mark) v ≡ trail_before u l
   lies-back cost v h =
-      ap (λ n. cut n v) (sym (take-exact (length_at l.mark) u.stack S.marks)) ∙ h.cut
+      ap (λ n. cut n v) (sym (length-take-le (length_at l.mark) u.stack S.marks)) ∙ h.cut
 
   -- a step is taken
   pub taken : (i : Instr) → instr_at x.code.now.instrs l.instr ≡ Some i → (v : Trail) (m : Level) → AreOfOneToken l m
@@ -269,7 +269,8 @@ module _ (x : Setting) (fs : List Frame) (u : Trail) (ls : List Level) (l : Leve
       → IsAtWay m.next m.search
       → IsLeftBehind x (take l.frames fs) (trail_before u l) ls m i
   left i held m one h none search way =
-      let long : length (trail_before u l).stack ≡ length_at l.mark = take-exact (length_at l.mark) u.stack S.marks in
+      let long : length (trail_before u l).stack ≡ length_at l.mark =
+      length-take-le (length_at l.mark) u.stack S.marks in
       let same : trail_before (trail_before u l) l ≡ trail_before u l =
       cut-cut (length_at l.mark) (length_at l.mark) u (omega arith) S.marks in
       record {

@@ -1,13 +1,7 @@
 -- A walk as what it is read as.
 use Rattle.std.proofs.Common.{◌≡◌, ◌≤◌, ◌-◌, ℕ, zero, suc, arith, List, [], ◌∷◌, refl, ap, sym, ◌∙◌, subst}
 use Rattle.std.specs.Prelude.{Some, IsSome, IfOk, Result, Ok, Err, slice_index_or, length}
-use Rattle.std.specs.List.{AllByRecursion}
-use Rattle.std.proofs.lemmas.Option.{get_or_from_slice_get}
-use Rattle.mp_term.specs.Normal.{IsNormal}
-use Rattle.mp_term.specs.Signature.{Sig}
-use Rattle.mp_term.specs.Tree.{symbol}
-use Rattle.mp_subst.proofs.TrailLaws.{item_at, all-get}
-use Rattle.mp_table.specs.Table.{Table, IsTable}
+use Rattle.mp_subst.proofs.TrailLaws.{item_at}
 use Rattle.mp_walk.specs.declared.course.Course.{Course}
 use Rattle.mp_walk.specs.declared.level.Level.{Level}
 use Rattle.mp_walk.specs.declared.stage.Stage.{Stage}
@@ -15,15 +9,6 @@ use Rattle.mp_walk.specs.declared.stage.Stage.TheVariants.{Before, Standing, End
 use Rattle.mp_walk.specs.CourseView.{IsCourse, IsAtItem, item_of, last_instr}
 use Rattle.mp_walk.specs.WalkInside as inside
 use Rattle.mp_walk.specs.WalkInside.{IsAtStage}
-use Rattle.mp_walk.specs.WalkView.{subject_of}
-
--- the subject of a table of normal terms is normal
-pub subject-normal : (sig : Sig) (t : Table) → IsTable t → AllByRecursion (IsNormal sig) t.terms
-    → IsNormal sig (subject_of t)
-subject-normal sig t h n =
-    let at = item_at t.terms t.root h.root in
-    subst (IsNormal sig) (sym (get_or_from_slice_get t.terms t.root at.0 (symbol []) at.1))
-    (all-get (IsNormal sig) t.terms t.root at.0 n at.1)
 
 -- a walk that goes on has a course
 pub going-course : (s : Stage) (c : Course) → (s ≡ Ended → ⊥) → (s ≡ Failed → ⊥) → IsAtStage s c → IsCourse c

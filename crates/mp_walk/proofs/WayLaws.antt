@@ -7,6 +7,7 @@ use Rattle.std.specs.Prelude.{option_map, MatchBool}
 use Rattle.std.specs.List.{range_with_len}
 use Rattle.std.specs.Option.{option_and_then}
 use Rattle.std.proofs.lemmas.Bool.Decides.{nat_tests}
+use Rattle.std.proofs.lemmas.List.{length-take-le, take-map}
 use Rattle.mp_term.proofs.PiecesLaws.{same-itself}
 use Rattle.mp_term.specs.Order.{tree_cmp}
 use Rattle.mp_term.specs.OrderLaws.{tree_cmp_total, tree_same}
@@ -22,7 +23,7 @@ use Rattle.mp_table.specs.declared.rank.Rank.{Rank}
 use Rattle.mp_theory.proofs.Wildcards.{final-passes}
 use Rattle.mp_theory.specs.Machine.{default_passes}
 use Rattle.mp_theory.specs.Solve.{given, bind}
-use Rattle.mp_walk.proofs.ListLaws.{take-short, take-exact, take-mapped}
+use Rattle.mp_walk.proofs.ListLaws.{take-short}
 use Rattle.mp_walk.specs.TokenMachine.{Open, rest_of_open, numbered_wildcard, told}
 use Rattle.mp_walk.specs.Trails.{told_by}
 use Rattle.mp_walk.specs.Ways.{Step, front_entry, is_front, front_steps, way_steps, ways_from}
@@ -37,7 +38,7 @@ without-front (suc n) (t ∷ ts) = rw (same-itself tree_cmp tree_cmp_total tree_
 -- the terms of a front of ranks
 pub front-terms : (t : Table) (rs : List Rank) (n : ℕ) (left : List Tree) → terms_at t rs ≡ left
     → terms_at t (take n rs) ≡ take n left
-front-terms t rs n left e = take-mapped (term_at t) n rs ∙ ap (take n) e
+front-terms t rs n left e = sym (take-map (term_at t) n rs) ∙ ap (take n) e
 
 pub default_passes-normal : (sig : Sig) (x : Option (List ℕ)) (w : Wildcard) (ts : List Tree) → DefaultIsNormal sig w
     → default_passes sig x w ts ≡ true
@@ -156,7 +157,7 @@ module _ (sig : Sig) (f : Open) (fs : List Open) (s : Subst) (w : Wildcard) (x :
 
       by_test : n ≤ length f.left → (b : Bool) → is_some (given sig f.under w (take n f.left)) ≡ b → b ≡ false
       by_test l true e =
-          let same : length (take n f.left) ≡ n = take-exact n f.left l in
+          let same : length (take n f.left) ≡ n = length-take-le n f.left l in
           absurd (omega (arith, bound (take n f.left) (omega arith) e, same))
       by_test l false e = refl
 

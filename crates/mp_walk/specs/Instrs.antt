@@ -1,5 +1,5 @@
 -- What contracts see of a table of instructions.
-use Rattle.std.specs.Prelude.{ℕ, zero, suc, List, ◌++◌, Option, None, option_to_list, slice_get}
+use Rattle.std.specs.Prelude.{ℕ, zero, suc, List, [], ◌++◌, Option, None, Some, option_to_list, slice_get}
 use Rattle.mp_pattern.specs.NetTokens.{NetToken}
 
 -- a token; the instruction that reads what comes after it, the instruction that reads another token in its place, and
@@ -14,6 +14,10 @@ pub record Instr : Type 0 where
 abbrev pub instr_at : List Instr → ℕ → Option Instr
 instr_at code zero = None
 instr_at code (suc n) = slice_get code n
+
+-- the rules that the instruction of the number accepts
+abbrev pub accepts_at : List Instr → ℕ → List ℕ
+accepts_at code n = elim (instr_at code n) [ None ↦ [] | Some i ↦ i.accepts ]
 
 -- the instructions to which it leads
 abbrev pub targets : Instr → List ℕ

@@ -5,7 +5,7 @@ ghost use Rattle.mp_term.specs.Signature.{Sig};
 ghost use Rattle.mp_pattern.specs.NetTokenView.{net_token};
 ghost use Rattle.mp_walk.specs.Code.{IsPlanned, ArePlanned, IsCode};
 ghost use Rattle.mp_walk.specs.Instrs as plain;
-ghost use Rattle.mp_walk.specs.Instrs.{instr_at};
+ghost use Rattle.mp_walk.specs.Instrs.{accepts_at, instr_at};
 ghost use Rattle.mp_walk.specs.InstrView.{plain_instr};
 ghost use Rattle.mp_walk.specs.SoundTokens.{IsSoundToken};
 ghost use Rattle.mp_walk.specs.Walkable.{IsWalkable};
@@ -99,5 +99,16 @@ impl Code {
             return None;
         }
         self.instrs.get(number as usize - 1)
+    }
+
+    /// The rules that the instruction of the number accepts, from 1 (`accepts_at` of `specs/Instrs.antt`): none where
+    /// there is no such instruction.
+    pub fn accepts(&self, number: u32) -> &[u32]
+        ensures { result.now ≡ accepts_at self.now.instrs number }
+    {
+        match self.instr(number) {
+            None => &[],
+            Some(instr) => instr.accepts.as_slice(),
+        }
     }
 }

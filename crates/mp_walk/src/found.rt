@@ -119,12 +119,14 @@ fn listed<'a>(
     Ok(pairs)
 }
 
-// The pairs that a walk has found, seen as the list of them: whether they ascend, and how many of them may be kept
-// where they don't, before those that stand twice are dropped.
+/// The pairs that a walk has found. Contracts see the list of those that are kept: all that were added, but what stood
+/// twice may stand there once. They are given in the order `found_cmp` of `specs/Found.antt`.
 #[derive(Drop)]
 pub struct Finds<'a> {
     found: Vec<Found<'a>>,
+    // Whether they ascend.
     ascending: bool,
+    // How many of them may be kept where they don't, before those that stand twice are dropped.
     most: usize,
 }
 
@@ -147,7 +149,7 @@ impl<'a> Model for Finds<'a> {
 }
 
 impl<'a> Finds<'a> {
-    // No pairs.
+    /// No pairs. It takes no memory.
     pub fn new(alloc: Global) -> Finds<'a>
         ensures { result ≡ [] }
     {
@@ -158,7 +160,9 @@ impl<'a> Finds<'a> {
         }
     }
 
-    // Adds a pair. The room is that of the distinct ones.
+    /// Adds a pair: kept are then exactly those that were, and this one. The room is that of the distinct ones.
+    /// `Memory` comes where there is none for the pair: then it is dropped, and nothing is promised of those that are
+    /// kept.
     pub fn add(&mut self, pair: RankedPair<'a>) -> Result<(), Memory>
         ensures { OnOk result ((p : lists.Pair) → Contains self.new p ↔ Contains (self.old ++ pair.entry ∷ []) p) }
     {
@@ -171,7 +175,8 @@ impl<'a> Finds<'a> {
         Ok(())
     }
 
-    // The pairs in order, each once.
+    /// The pairs that are kept, each once, ascending in the order `found_cmp` of `specs/Found.antt`. `Memory` comes
+    /// where there is no room for the list: then all of them are dropped.
     pub fn into_pairs(self, alloc: Global) -> Result<Vec<RankedPair<'a>>, Memory>
         ensures { IfOk result (λ ps. IsListing found_cmp (Contains self.entry) ps.items) }
     {

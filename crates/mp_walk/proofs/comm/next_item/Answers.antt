@@ -1,11 +1,11 @@
 use Rattle.std.proofs.Common.{◌≡◌, ◌∙◌, length, ap, sym, subst}
 use Rattle.std.specs.Prelude.{[], drop, slice_get, MatchBool, Some}
+use Rattle.std.proofs.lemmas.List.{length-take-le}
 use Rattle.mp_subst.specs.Trail.{cut, length_at}
 use Rattle.mp_search.specs.At.{BindsOnly}
 use Rattle.mp_ac.specs.Search.{ahead, item_table, mark_of, read_by}
 use Rattle.mp_walk.specs.Below.{IsNextItem, IsSearch}
 use Rattle.mp_walk.proofs.BelowLaws.{item-next}
-use Rattle.mp_walk.proofs.ListLaws.{take-exact}
 use Rattle.mp_walk.proofs.comm.next_item.Goals as goal
 
 pub returns-in-Some-clause-found : goal.returns-in-Some-clause-found
@@ -16,7 +16,7 @@ returns-in-Some-clause-found c =
     let u = cut m t in
     let k = c.in-Some.search in
     let h = subst (IsSearch b u) c.in-Some.is c.requires.search in
-    let long : length u.stack ≡ m = take-exact m t.stack c.requires.above.long in
+    let long : length u.stack ≡ m = length-take-le m t.stack c.requires.above.long in
     let mark : mark_of k ≡ m = h.mark ∙ long in
     let same : cut (mark_of k) t ≡ u = ap (λ n. cut n t) mark in
     let kept : cut (length u.stack) c.next.new.trail ≡ u =

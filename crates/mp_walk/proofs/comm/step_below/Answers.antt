@@ -1,10 +1,10 @@
 use Rattle.std.proofs.Common.{◌≡◌, ◌∙◌, [], length, ap, sym, subst, arith}
+use Rattle.std.proofs.lemmas.List.{length-take-le}
 use Rattle.mp_subst.specs.Trail.{Trail, cut, length_at}
 use Rattle.mp_subst.proofs.TrailLaws.{cut-cut}
 use Rattle.mp_walk.specs.Below.{IsSearchOf, below_ahead}
 use Rattle.mp_walk.specs.Trails.{numbered_subst}
 use Rattle.mp_walk.proofs.BelowLaws as laws
-use Rattle.mp_walk.proofs.ListLaws.{take-exact}
 use Rattle.mp_walk.proofs.comm.step_below.Goals as goal
 
 pub returns-in_default-clause-step : goal.returns-in_default-clause-step
@@ -32,7 +32,7 @@ returns-in_default-clause-above c =
     let t = c.args.trail.now in
     let back = c.undo.ensures.trail ∙ c.next_item.ensures.above.cut ∙ c.loop-alloc.invariant.above.cut in
     record {
-      long = omega (arith, ap (λ (w : Trail). length w.stack) back, take-exact m t.stack c.requires.above.long);
+      long = omega (arith, ap (λ (w : Trail). length w.stack) back, length-take-le m t.stack c.requires.above.long);
       cut = ap (cut m) back ∙ cut-cut m m t (omega arith) c.requires.above.long;
       trail = record {
         goes = c.undo.ensures.goes_with b.table.now c.next_item.ensures.above.trail.goes;
@@ -68,7 +68,7 @@ loop-alloc-preserved c =
       search = subst (λ w. IsSearchOf b w c.in_ok-begin.field-0) back c.in_ok-begin.ensures.search;
       way = (omega arith, omega (arith, way.0.few));
       above = record {
-        long = omega (arith, ap (λ (w : Trail). length w.stack) back, take-exact m t.stack c.requires.above.long);
+        long = omega (arith, ap (λ (w : Trail). length w.stack) back, length-take-le m t.stack c.requires.above.long);
         cut = ap (cut m) back ∙ cut-cut m m t (omega arith) c.requires.above.long;
         trail = record {
           goes = c.undo.ensures.goes_with b.table.now c.next_item.ensures.above.trail.goes;

@@ -1,15 +1,15 @@
 use Rattle.std.proofs.Common.{[], ◌∷◌, refl, subst}
 use Rattle.std.specs.List.{AllByRecursion}
+use Rattle.std.proofs.lemmas.Result.{IfOk-weaker}
 use Rattle.mp_table.specs.Table.{Table}
 use Rattle.mp_ac.specs.CommRoom.{IsOfTable, IsRoomFor}
 use Rattle.mp_search.proofs.GroundsHeld.{both}
-use Rattle.mp_walk.proofs.BelowLaws.{ok-then}
 use Rattle.mp_walk.proofs.comm.take_room.Goals as goal
 
 pub returns-in_default-clause-room : goal.returns-in_default-clause-room
 returns-in_default-clause-room c =
-    ok-then (λ r. (t : Table) → IsRoomFor t c.args.nodes c.args.width r)
-    (IsRoomFor c.args.table.now c.args.nodes c.args.width) (λ r h. h c.args.table.now) c.new.result c.new.ensures
+    IfOk-weaker c.new.result (λ r. (t : Table) → IsRoomFor t c.args.nodes c.args.width r)
+    (IsRoomFor c.args.table.now c.args.nodes c.args.width) (λ r h. h c.args.table.now) c.new.ensures
 
 pub returns-then-is_for-clause-room : goal.returns-then-is_for-clause-room
 returns-then-is_for-clause-room c =
@@ -18,6 +18,6 @@ returns-then-is_for-clause-room c =
 
 pub returns-else-is_for-clause-room : goal.returns-else-is_for-clause-room
 returns-else-is_for-clause-room c =
-    ok-then (λ r. (t : Table) → IsRoomFor t c.args.nodes c.args.width r)
-    (IsRoomFor c.args.table.now c.args.nodes c.args.width) (λ r h. h c.args.table.now) c.new-else-is_for.result
+    IfOk-weaker c.new-else-is_for.result (λ r. (t : Table) → IsRoomFor t c.args.nodes c.args.width r)
+    (IsRoomFor c.args.table.now c.args.nodes c.args.width) (λ r h. h c.args.table.now)
     c.new-else-is_for.ensures

@@ -1,12 +1,12 @@
 use Rattle.std.proofs.Common.{◌≡◌, ◌≤◌, length, take, ap, sym, ◌∙◌, subst, arith}
 use Rattle.std.proofs.Common.{inl, inr}
-use Rattle.std.proofs.lemmas.List.{length-map}
+use Rattle.std.proofs.lemmas.List.{length-map, length-take-le}
 use Rattle.mp_table.specs.Table.{term_at}
 use Rattle.mp_pattern.specs.NetTokenView.{net_token}
 use Rattle.mp_walk.specs.OpenOnes.{open_of}
 use Rattle.mp_walk.specs.Trails.{numbered_subst, shape_of, number_of}
 use Rattle.mp_walk.specs.Ways.{way_steps}
-use Rattle.mp_walk.proofs.ListLaws.{below_or_not, take-short, take-exact}
+use Rattle.mp_walk.proofs.ListLaws.{below_or_not, take-short}
 use Rattle.mp_walk.proofs.WayLaws.{wild-clash, wild-beyond, too-few, too-many}
 use Rattle.mp_walk.proofs.front.bounds.Goals as goal
 
@@ -34,7 +34,7 @@ returns-in-Some-clause-longest c fs n l =
       | inl h ↦ wild-beyond sig f fs s (shape_of k) (number_of k) n h
       | inr h ↦ wild-clash sig f fs s (shape_of k) (number_of k) n
           (c.in-Some.ensures sig t f.under (take n f.left) c.requires.ordered
-          (λ e. omega (arith, e, l, many, c.min.ensures, take-exact n f.left (omega (arith, h)))))
+          (λ e. omega (arith, e, l, many, c.min.ensures, length-take-le n f.left (omega (arith, h)))))
     ]
 
 pub returns-in-None-clause-fewest : goal.returns-in-None-clause-fewest

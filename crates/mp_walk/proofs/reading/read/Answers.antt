@@ -1,6 +1,7 @@
 use Rattle.std.proofs.Common.{◌≡◌, ◌≤◌, ◌-◌, [], drop, refl, ap, sym, ◌∙◌, subst, arith}
 use Rattle.std.specs.Prelude.{IsSome, MatchBool, if◌then◌else◌}
 use Rattle.std.specs.List.{AllByRecursion}
+use Rattle.std.proofs.lemmas.Result.{IfOk-weaker}
 use Rattle.mp_pattern.specs.NetTokens.{comm_token}
 use Rattle.mp_pattern.specs.NetTokenView.{net_token}
 use Rattle.mp_pattern.specs.View.{pattern_tree}
@@ -16,7 +17,6 @@ use Rattle.mp_walk.specs.Levels.{read_of, state_of, trail_before, search_cost, s
 use Rattle.mp_walk.specs.OpenOnes.{opens}
 use Rattle.mp_walk.specs.SoundTokens.{IsSoundToken}
 use Rattle.mp_walk.specs.Trails.{numbered_subst, IsTrailOf, LiesOver}
-use Rattle.mp_walk.proofs.BelowLaws.{ok-then}
 use Rattle.mp_walk.proofs.ReadOnLaws.{default-held}
 use Rattle.mp_walk.proofs.ReadingLaws.{single-token, single-search, none-search, step-ended, lies-step, none-searched}
 use Rattle.mp_walk.proofs.ReadingLaws.{none-left, search-of, search-kept, cost-same, below-step, below-valid}
@@ -181,8 +181,9 @@ step_below-requires-clause-rooms c =
 
 pub returns-clause-rooms : goal.returns-clause-rooms
 returns-clause-rooms c =
-    ok-then _ _ (λ found e. subst (λ z. AllByRecursion (IsOfTable z) c.step_below.new.rooms.items)
-    c.in-Some.ensures.3 e) c.step_below.result c.step_below.ensures.rooms
+    IfOk-weaker c.step_below.result _ _
+    (λ found e. subst (λ z. AllByRecursion (IsOfTable z) c.step_below.new.rooms.items)
+    c.in-Some.ensures.3 e) c.step_below.ensures.rooms
 
 pub returns-clause-step : goal.returns-clause-step
 returns-clause-step c =
@@ -202,13 +203,13 @@ returns-clause-step c =
     let n = c.step_below.new.next in
     let q = c.step_below.new.search in
     let m : Level = record l { next = n; search = q } in
-    ok-then _ _ (λ found e. subst (λ j. MatchBool found
+    IfOk-weaker c.step_below.result _ _
+    (λ found e. subst (λ j. MatchBool found
     (IsStepTaken sig j (read_of t fs u l) (read_of t fs v m) (numbered_subst t v.stack))
     ((steps_left sig j (read_of t fs u l) ≡ []) × (steps_left sig j (read_of t fs v m) ≡ []))) (sym is)
     (below-step sig t p b h.1 h.2 h.3 os h.4 found before v (read_of t fs u l) (read_of t fs v m) l.next n l.search q
     refl refl refl refl (ap (state_of t fs l.place) e.1.cut) refl
     (ap (λ w. below_ahead q (numbered_subst t w.stack)) e.1.cut) refl e.0.0 e.0.1))
-    c.step_below.result
     (ok-both _ _ c.step_below.result (ok-both _ _ c.step_below.result c.step_below.ensures.step
     c.step_below.ensures.ended) c.step_below.ensures.above)
 
@@ -228,10 +229,10 @@ returns-clause-kept c =
     let before = trail_before u l in
     let v = c.step_below.new.trail in
     let n = c.step_below.new.next in
-    ok-then _ _ (λ found e. subst (λ j. LiesOver t (if found then step_cost j os (n - 1) else 0) before v) (sym is)
+    IfOk-weaker c.step_below.result _ _
+    (λ found e. subst (λ j. LiesOver t (if found then step_cost j os (n - 1) else 0) before v) (sym is)
     (below-lies sig t p b h.1 h.2 h.3 os h.4 found (length_at l.mark) (n - 1) before v u c.requires.mark refl e.1
     e.0.0 e.0.1))
-    c.step_below.result
     (ok-both _ _ c.step_below.result (ok-both _ _ c.step_below.result c.step_below.ensures.spare
     c.step_below.ensures.back) c.step_below.ensures.above)
 
@@ -249,9 +250,10 @@ returns-clause-valid c =
     let b = c.in-Some.below in
     let h = c.in-Some.ensures in
     let n = c.step_below.new.next in
-    ok-then _ _ (λ found e truth f gs at. subst (λ j. IsWayValid j f (n - 1)) (sym is)
+    IfOk-weaker c.step_below.result _ _
+    (λ found e truth f gs at. subst (λ j. IsWayValid j f (n - 1)) (sym is)
     (below-valid sig t p b h.1 h.2 h.3 os h.4 n (e truth).0 (e truth).1 f gs at))
-    c.step_below.result c.step_below.ensures.next
+    c.step_below.ensures.next
 
 pub returns-clause-search : goal.returns-clause-search
 returns-clause-search c =
@@ -267,6 +269,7 @@ returns-clause-search c =
     let b = c.in-Some.below in
     let h = c.in-Some.ensures in
     let q = c.step_below.new.search in
-    ok-then _ _ (λ found e. subst (λ j. HasSearch t j os (trail_before u l) q) (sym is)
+    IfOk-weaker c.step_below.result _ _
+    (λ found e. subst (λ j. HasSearch t j os (trail_before u l) q) (sym is)
     (search-kept b p t (innermost_left os) (drop 1 (innermost_left os)) (trail_before u l) q h.1 h.3 h.4 e))
-    c.step_below.result c.step_below.ensures.search
+    c.step_below.ensures.search

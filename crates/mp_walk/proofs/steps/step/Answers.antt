@@ -1,4 +1,5 @@
 use Rattle.std.proofs.Common.{◌≡◌, ◌≤◌, ◌<◌, ◌+◌, ◌-◌, List, [], ◌∷◌, length, ap, sym, ◌∙◌, subst, arith}
+use Rattle.std.proofs.lemmas.List.{length-take-le}
 use Rattle.mp_pattern.specs.NetTokenView.{net_token}
 use Rattle.mp_subst.specs.Trail.{Trail, length_at, cut}
 use Rattle.mp_walk.specs.Course.{entries_by, opens_by, IsWayValid}
@@ -8,7 +9,6 @@ use Rattle.mp_walk.specs.OpenOnes.{IsPlaceBelow, opens, open_of}
 use Rattle.mp_walk.specs.TokenMachine.{Open}
 use Rattle.mp_walk.specs.Trails.{numbered_subst, IsTrailOf, LiesOver}
 use Rattle.mp_walk.specs.Ways.{HasNoWay, IsFirstWay}
-use Rattle.mp_walk.proofs.ListLaws.{take-exact}
 use Rattle.mp_walk.proofs.StepLaws.{step-none, step-taken, frame_at, frame-there, opens-there}
 use Rattle.mp_walk.proofs.TrailLaws.{lies-same}
 use Rattle.mp_walk.proofs.steps.step.Goals as goal
@@ -81,7 +81,7 @@ returns-in-Some-way_from-clause-step c =
     let is = opens-there sig t fs c.requires.frames l.place c.in-Some.place c.in-Some.is c.requires.place in
     let long : length_at l.mark ≡ length c.undo.new.self.stack =
     sym (ap (λ (u : Trail). length u.stack) c.undo.ensures.trail
-    ∙ take-exact (length_at l.mark) c.args.trail.now.stack c.requires.mark) in
+    ∙ length-take-le (length_at l.mark) c.args.trail.now.stack c.requires.mark) in
     let same : cut (length_at l.mark) c.way_from.new.trail ≡ trail_before c.args.trail.now l =
     ap (λ n. cut n c.way_from.new.trail) long ∙ c.in-Some-way_from.ensures.kept.cut ∙ c.undo.ensures.trail in
     step-taken sig k (read_of t fs c.args.trail.now l) (read_of t fs c.way_from.new.trail (record {

@@ -1,8 +1,7 @@
 use Rattle.std.proofs.Common.{◌≡◌, ◌∙◌, ap, sym, drop, arith}
-use Rattle.std.proofs.lemmas.List.{drop-map}
+use Rattle.std.proofs.lemmas.List.{drop-map, take_rest}
 use Rattle.mp_table.specs.Table.{term_at, terms_at}
 use Rattle.mp_walk.specs.OpenOnes.{list_of}
-use Rattle.mp_walk.proofs.ListLaws.{take-rest}
 use Rattle.mp_walk.proofs.frame.Frame.left.Goals as goal
 use Rattle.mp_walk.proofs.frame.Frame.left.Goals.{then-self, else-self}
 
@@ -14,6 +13,6 @@ returns-clause-terms c =
       | then-self w ↦ grind arith
       | else-self w ↦ grind arith
     ] in
-    ap (terms_at t) (take-rest n c.if-self.list.now)
+    ap (terms_at t) (take_rest c.if-self.list.now n)
     ∙ sym (drop-map (term_at t) n c.if-self.list.now)
     ∙ ap (drop n) same
