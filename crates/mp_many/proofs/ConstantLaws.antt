@@ -24,7 +24,7 @@ use Rattle.mp_theory.proofs.FirstsLaws.{from_in-firsts_after}
 
 -- what holds of the tokens of lists holds of the tokens of their states
 module _ (Q : NetToken → Type 0) where
-  abbrev AllOf : List Numbered → Type 0
+  abbrev pub AllOf : List Numbered → Type 0
   AllOf ls = AllByRecursion (λ l. AllByRecursion Q l.1) ls
 
   all-heads : (ls : List Numbered) → AllOf ls → AllByRecursion Q (flat_map head_of (bare ls))
@@ -59,11 +59,11 @@ module _ (Q : NetToken → Type 0) where
       own i = elim (from_in-firsts_after same_token k [] (flat_map head_of (bare ls)) i)
           [ inl j ↦ absurd j | inr j ↦ all_in Q (flat_map head_of (bare ls)) k (all-heads ls h) j ]
 
-  all-laid : (d : ℕ) (ls : List Numbered) (n : ℕ) → AllOf ls → AllByRecursion (λ i. Q i.token) (laid d ls n)
+  pub all-laid : (d : ℕ) (ls : List Numbered) (n : ℕ) → AllOf ls → AllByRecursion (λ i. Q i.token) (laid d ls n)
   all-laid zero ls n h = tt
   all-laid (suc d) ls n h = all-each d (all-laid d) ls h (heads (bare ls)) n (λ k i. i)
 
-  all-numbered : (n : ℕ) (ls : List Path) → AllByRecursion (AllByRecursion Q) ls → AllOf (numbered_from n ls)
+  pub all-numbered : (n : ℕ) (ls : List Path) → AllByRecursion (AllByRecursion Q) ls → AllOf (numbered_from n ls)
   all-numbered n [] h = tt
   all-numbered n (l ∷ ls) h = (h.0, all-numbered (suc n) ls h.1)
 

@@ -1,8 +1,8 @@
 -- What a walk finds: that it is what the rules admit.
-use Rattle.std.proofs.Common.{◌≡◌, ◌≤◌, ◌⊎◌, ℕ, zero, suc, true, false, List, [], ◌∷◌, ◌++◌, ◌+◌}
+use Rattle.std.proofs.Common.{◌≡◌, ◌≤◌, ◌⊎◌, ℕ, true, false, List, [], ◌∷◌, ◌++◌, ◌+◌}
 use Rattle.std.proofs.Common.{drop, refl, ap, sym, ◌∙◌}
 use Rattle.std.proofs.Common.{inl, inr, subst, arith}
-use Rattle.std.specs.Prelude.{◌↔◌, Contains, IfOk, IfSome, IsSome, Option, Result, Ok, Err, Some, None, option_map}
+use Rattle.std.specs.Prelude.{◌↔◌, Contains, IfSome, IsSome, Option, Some, None, option_map}
 use Rattle.std.specs.Prelude.{slice_get}
 use Rattle.std.specs.List.{AllByRecursion}
 use Rattle.mp_term.specs.Listing.{In}
@@ -32,6 +32,7 @@ use Rattle.mp_cond.proofs.ReadyLaws.{IsReady-over}
 use Rattle.mp_theory.specs.ValueSizes.{HasAtMost}
 use Rattle.mp_theory.proofs.FitsSolves.{fits-solves}
 use Rattle.mp_theory.proofs.ValueSizes.{fits-within}
+use Rattle.mp_subst.proofs.TrailLaws.{all-get}
 use Rattle.mp_many.specs.Given.{IsGivenBy, IsPairOf}
 use Rattle.mp_many.specs.Many.{Many}
 use Rattle.mp_many.specs.WalkItems.{AreWalkItems, IsWalkItem}
@@ -204,13 +205,6 @@ module _ (sig : Sig) (t : Tree) (few : node_count t ≤ MAX_TERM_NODES) where
 
 -- ---- the item of a walk
 
--- what holds of each item holds of that at a place
-all_held : {X : Type 0} (P : X → Type 0) (xs : List X) (k : ℕ) (x : X) → AllByRecursion P xs → slice_get xs k ≡ Some x
-    → P x
-all_held P [] k x h e = cc
-all_held P (y ∷ ys) zero x h e = let same : y ≡ x = let w : Some y ≡ Some x = e in cc in subst P same h.0
-all_held P (y ∷ ys) (suc k) x h e = all_held P ys k x h.1 e
-
 module _ (m : Many) (t : Tree) (sound : AreSoundRules m.sig m.rules) (normal : IsNormal m.sig t)
     (few : node_count t ≤ MAX_TERM_NODES) (n : ℕ) (rule : code_rule.Rule)
     (held : slice_get m.rules n ≡ Some (rule_tree rule)) (s : Subst) where
@@ -231,7 +225,7 @@ module _ (m : Many) (t : Tree) (sound : AreSoundRules m.sig m.rules) (normal : I
       → IfSome rule.condition (λ c. IsReady s (cond_tree c))
   ready-item None h k = cc
   ready-item (Some i) h k =
-      let own = all_held (IsSoundRule m.sig) m.rules n (rule_tree rule) sound.each held in
+      let own = all-get (IsSoundRule m.sig) m.rules n (rule_tree rule) sound.each held in
       ready-fits m.sig t few (rule_tree rule).pattern s i.1 rule.condition own.pattern own.condition (of-item i k).1
 
   -- and where this holds it is the pair of the item
@@ -257,8 +251,3 @@ same-number None a b s h k = cc
 same-number (Some i) a b s h k = h ∙ sym k
 
 -- ---- tables and answers
-
--- what an answer holds is so
-pub ok-also : {X E : Type 0} (P Q : X → Type 0) → ((x : X) → P x → Q x) → (r : Result X E) → IfOk r P → IfOk r Q
-ok-also P Q f (Ok x) h = f x h
-ok-also P Q f (Err e) h = h

@@ -10,6 +10,7 @@ use Rattle.std.proofs.lemmas.Grind.{flat_map-append}
 use Rattle.mp_pattern.specs.Firsts.{is_known, add_new, firsts_after}
 use Rattle.mp_pattern.specs.NetTokens.{NetToken, same_token}
 use Rattle.mp_pattern.specs.NetTokenLaws.{same_token-is, same_token-itself}
+use Rattle.mp_pattern.proofs.PlanLaws.{firsts_after-append}
 use Rattle.mp_theory.proofs.FirstsLaws.{Distinct, distinct-firsts}
 use Rattle.mp_walk.specs.Walkable.{Path}
 use Rattle.mp_many.specs.Prefixes.{head_of, heads, rest_after}
@@ -28,11 +29,6 @@ entered_all gs [] = gs
 entered_all gs (l ∷ ls) = entered_all (entered_first gs l) ls
 
 -- ---- what is known of tokens in order of first occurrence
-
-firsts_after-append : {X : Type 0} (same : X → X → Bool) (ys xs zs : List X)
-    → firsts_after same ys (xs ++ zs) ≡ firsts_after same (firsts_after same ys xs) zs
-firsts_after-append same ys [] zs = refl
-firsts_after-append same ys (x ∷ xs) zs = firsts_after-append same (add_new same ys x) xs zs
 
 known-push : (ys : List NetToken) (y x : NetToken) → is_known same_token (ys ++ (y ∷ [])) x ≡ false
     → (is_known same_token ys x ≡ false) × (same_token y x ≡ false)

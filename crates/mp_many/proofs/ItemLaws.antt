@@ -1,5 +1,5 @@
 -- The walk over the tree of sound rules has exactly the items of the rules, each once.
-use Rattle.std.proofs.Common.{◌≡◌, ◌≤◌, ℕ, zero, suc, ◌+◌, List, [], ◌∷◌, map, length, refl, ap, sym, ◌∙◌}
+use Rattle.std.proofs.Common.{◌≡◌, ◌≤◌, ℕ, ◌+◌, List, [], ◌∷◌, length, refl, ap, sym, ◌∙◌}
 use Rattle.std.proofs.Common.{subst}
 use Rattle.std.proofs.Common.{arith}
 use Rattle.std.specs.Prelude.{◌≢◌, Some, option_map, slice_get}
@@ -40,16 +40,11 @@ use Rattle.mp_pattern.specs.Size.{pattern_nodes}
 use Rattle.mp_many.specs.Laid.{tree_of}
 use Rattle.mp_many.specs.Prefixes.{accepted_by, token_lists, token_count, prefixes}
 use Rattle.mp_theory.proofs.OneTable.{fits-same}
+use Rattle.mp_search.proofs.NumberLaws.{in-slice_get}
+use Rattle.mp_ac.proofs.MatcherLaws.{one-place, get-map}
 use Rattle.mp_many.specs.WalkItems.{IsWalkItem, AreWalkItems, HaveOneTable, accepts_at, each_with, rule_items}
-use Rattle.mp_many.proofs.OnceLaws.{none-flat, get-once, prefixes-once, prefixes-full, accepted-once}
-use Rattle.mp_many.proofs.WalkableLaws.{in-at, accepted-in, from_in-accepted, leaf-accepts, rule-reached}
-
--- what stands at a place of a mapped list
-mapped-at : {X Y : Type 0} (f : X → Y) (xs : List X) (j : ℕ) (y : Y) → slice_get (map f xs) j ≡ Some y
-    → (x : X) × (slice_get xs j ≡ Some x) × (f x ≡ y)
-mapped-at f [] j y e = cc
-mapped-at f (x ∷ xs) zero y e = (x, refl, (let h : f x ≡ y = cc in h))
-mapped-at f (x ∷ xs) (suc j) y e = mapped-at f xs j y e
+use Rattle.mp_many.proofs.OnceLaws.{none-flat, prefixes-once, prefixes-full, accepted-once}
+use Rattle.mp_many.proofs.WalkableLaws.{accepted-in, from_in-accepted, leaf-accepts, rule-reached}
 
 -- ---- what a path stands for
 
@@ -101,7 +96,7 @@ leaf-rule sig rules t i leaf n h =
     rw (a.1, accepts_at) a.2 in
     let f = from_in-accepted 0 n (token_lists sig rules) leaf.path (subst (In n) e h) in
     let number : f.0 ≡ n = omega (arith, f.1) in
-    let r = mapped-at (λ (q : Rule). tokens_of sig q.pattern) rules f.0 leaf.path f.2 in (
+    let r = get-map (λ (q : Rule). tokens_of sig q.pattern) rules f.0 leaf.path f.2 in (
       r.0,
       ap (slice_get rules) (sym number) ∙ r.1,
       subst (λ ks. In {X = ℕ × Path} (i.0, ks) (lists (code_forest (tree_of sig rules)))) (sym r.2) leaf.leaf,
@@ -119,7 +114,7 @@ module _ (sig : Sig) (rules : List Rule) (sound : AllByRecursion (IsSoundRule si
   ls = token_lists sig rules
 
   rule-sound : (j : ℕ) (r : Rule) → slice_get rules j ≡ Some r → IsSoundPattern sig r.pattern
-  rule-sound j r e = (all_in (IsSoundRule sig) rules r sound (in-at rules j r e)).pattern
+  rule-sound j r e = (all_in (IsSoundRule sig) rules r sound (in-slice_get rules j r e)).pattern
 
   -- what a leaf accepts
   accepts-are : (n : ℕ) (ks : Path) → In {X = ℕ × Path} (n, ks) (lists (code_forest code))
@@ -142,7 +137,7 @@ module _ (sig : Sig) (rules : List Rule) (sound : AllByRecursion (IsSoundRule si
       let b = from_in-map (λ n. (n, a.0.1)) i (accepts_at code a.0.0) a.2 in
       let leaf = (are.exactly a.0).0 a.1 in
       let held = accepted-rule a.0.0 b.0 leaf.path leaf.leaf b.2 in
-      let r = mapped-at (λ (q : Rule). tokens_of sig q.pattern) rules b.0 leaf.path held in
+      let r = get-map (λ (q : Rule). tokens_of sig q.pattern) rules b.0 leaf.path held in
       let f = leaf-fits sig t normal leaf.path leaf.pattern r.0.pattern leaf.stands (rule-sound b.0 r.0 r.1) r.2
       leaf.subst a.0.1 leaf.fits in
       subst (IsWalkItem sig rules t) (sym b.1) (record { rule = r.0; numbered = r.1; subst = f.0; fits = f.1 })
@@ -192,7 +187,7 @@ module _ (sig : Sig) (rules : List Rule) (sound : AllByRecursion (IsSoundRule si
       let e = accepted-rule i.0 x.0 l.path l.leaf x.2 in
       let f = accepted-rule j.0 y.0 m.path m.leaf y.2 in
       let path : l.path ≡ m.path = (let w : Some l.path ≡ Some m.path = sym e ∙ ap (slice_get ls) number ∙ f in cc) in
-      let leaf : i.0 ≡ j.0 = get-once ([] ∷ prefixes sig rules) i.0 j.0 m.path
+      let leaf : i.0 ≡ j.0 = one-place ([] ∷ prefixes sig rules) i.0 j.0 m.path
       (prefixes-full (token_count ls) ls, prefixes-once (token_count ls) ls)
       ((accepts-are i.0 l.path l.leaf).1 ∙ ap Some path) (accepts-are j.0 m.path m.leaf).1 in
       λ k. (leaf k, table k))

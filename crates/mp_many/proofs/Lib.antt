@@ -1,17 +1,17 @@
-mod TokenLists
-mod LaidLaws
-mod StateLaws
+pub mod TokenLists
+pub mod LaidLaws
+pub mod StateLaws
 mod GroupLaws
 mod DigestLaws
 mod RowLaws
-mod TreeLaws
+pub mod TreeLaws
 mod CodeLaws
-mod WalkableLaws
+pub mod WalkableLaws
 mod TreeExamples
 pub mod ConstantLaws
 pub mod WalkTables
 pub mod WalkConstantLaws
-mod OnceLaws
+pub mod OnceLaws
 mod ItemLaws
 mod WalkLaws
 mod UsedNameLaws

@@ -2,7 +2,7 @@
 use Rattle.std.proofs.Common.{◌≡◌, ℕ, zero, suc, List, [], ◌∷◌, map, true, false, refl, ap, sym}
 use Rattle.std.proofs.Common.{◌∙◌}
 use Rattle.std.proofs.Common.{inl, inr, subst, arith}
-use Rattle.std.specs.Prelude.{Some, if◌then◌else◌, flat_map, slice_get}
+use Rattle.std.specs.Prelude.{if◌then◌else◌, flat_map}
 use Rattle.std.specs.List.{AllByRecursion}
 use Rattle.mp_term.specs.Listing.{In}
 use Rattle.mp_term.proofs.ListingLaws.{all_in}
@@ -17,7 +17,7 @@ use Rattle.mp_many.specs.Prefixes.{head_of, heads, rests, prefixes_within, same_
 use Rattle.mp_many.specs.Laid.{numbered_from}
 use Rattle.mp_many.proofs.LaidLaws.{bare-numbered}
 use Rattle.mp_many.proofs.StateLaws.{full-prefixes}
-use Rattle.mp_many.proofs.WalkableLaws.{in-at, none-accepted}
+use Rattle.mp_many.proofs.WalkableLaws.{none-accepted}
 
 -- what parts that have nothing in common give stands once
 pub none-flat : {X Y : Type 0} (f : X → List Y) (xs : List X) → NoneTwice xs
@@ -29,19 +29,6 @@ none-flat f (x ∷ xs) once each apart =
     (none-flat f xs once.1 (λ y i. each y (inr i)) (λ y z w i j. apart y z w (inr i) (inr j)))
     (λ z i j. let a = from_in-flat f z xs j in
     once.0 (subst (λ w. In w xs) (sym (apart x a.0 z (inl refl) (inr a.1) i a.2)) a.1))
-
--- the place of what stands once
-pub get-once : {X : Type 0} (xs : List X) (a b : ℕ) (x : X) → NoneTwice xs → slice_get xs a ≡ Some x
-    → slice_get xs b ≡ Some x → a ≡ b
-get-once [] a b x once e f = cc
-get-once (y ∷ xs) zero zero x once e f = refl
-get-once (y ∷ xs) zero (suc b) x once e f =
-    let same : x ≡ y = let w : Some y ≡ Some x = e in cc in
-    absurd (once.0 (subst (λ z. In z xs) same (in-at xs b x f)))
-get-once (y ∷ xs) (suc a) zero x once e f =
-    let same : x ≡ y = let w : Some y ≡ Some x = f in cc in
-    absurd (once.0 (subst (λ z. In z xs) same (in-at xs a x e)))
-get-once (y ∷ xs) (suc a) (suc b) x once e f = ap (λ n. suc n) (get-once xs a b x once.1 e f)
 
 -- ---- prefixes
 

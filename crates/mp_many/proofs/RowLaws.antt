@@ -6,6 +6,7 @@ use Rattle.std.proofs.Common.{nat_lt}
 use Rattle.std.specs.Prelude.{Option, Some, None, is_some, option_map, if◌then◌else◌, flat_map, slice_get}
 use Rattle.std.proofs.lemmas.List.{length-append}
 use Rattle.std.proofs.lemmas.Bool.Decides.{nat_tests}
+use Rattle.std.proofs.Math.Seq.{drop-append_seam, take-append_seam}
 use Rattle.mp_pattern.specs.NetTokens.{NetToken, same_token}
 use Rattle.mp_walk.specs.Instrs.{Instr}
 use Rattle.mp_walk.specs.Walkable.{Path}
@@ -152,14 +153,6 @@ target-more n i xs =
       | false ↦ λ e. target-past n i xs (most-from i (length xs) e)
     ] refl
 
-take-seam : {X : Type 0} (xs ys : List X) → take (length xs) (xs ++ ys) ≡ xs
-take-seam [] ys = refl
-take-seam (x ∷ xs) ys = ap (λ zs. x ∷ zs) (take-seam xs ys)
-
-drop-seam : {X : Type 0} (xs ys : List X) → drop (length xs) (xs ++ ys) ≡ ys
-drop-seam [] ys = refl
-drop-seam (x ∷ xs) ys = drop-seam xs ys
-
 -- the rows of one group, linked, are the states of its token and below it
 pub laid-step : (below : List Numbered → ℕ → List Instr) (ls : List Numbered) (ks js : List NetToken) (k : NetToken)
     (rows made done : List Instr) (own : ℕ) (more : Bool)
@@ -177,9 +170,9 @@ laid-step below ls ks js k rows made done own more e o t m f =
     let made_is : made ≡ rows ++ (first ∷ states) =
     m ∙ ap (λ i. (rows ++ (first ∷ [])) ++ below (left_after k ls) i) size ∙ append_assoc rows (first ∷ []) states in
     let front : take own made ≡ rows =
-    ap (λ i. take i made) o ∙ ap (take n) made_is ∙ take-seam rows (first ∷ states) in
+    ap (λ i. take i made) o ∙ ap (take n) made_is ∙ take-append_seam rows (first ∷ states) in
     let back : drop own made ≡ first ∷ states =
-    ap (λ i. drop i made) o ∙ ap (drop n) made_is ∙ drop-seam rows (first ∷ states) in
+    ap (λ i. drop i made) o ∙ ap (drop n) made_is ∙ drop-append_seam rows (first ∷ states) in
     let row : Instr = record {
       token = k;
       down = target (suc (suc n)) states;

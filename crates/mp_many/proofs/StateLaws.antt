@@ -4,6 +4,7 @@ use Rattle.std.proofs.Common.{ap, sym, ◌∙◌, inl, inr, subst, arith, append
 use Rattle.std.specs.Prelude.{Some, flat_map, slice_get, ⊤}
 use Rattle.std.specs.List.{AllByRecursion}
 use Rattle.std.proofs.lemmas.List.{length-append, length-map, map-append}
+use Rattle.std.proofs.Math.Seq.{drop-append_seam}
 use Rattle.mp_term.specs.Listing.{In}
 use Rattle.mp_term.proofs.ListLaws.{all-append}
 use Rattle.mp_term.proofs.ListingLaws.{all_in}
@@ -51,10 +52,6 @@ all_from-at P n (suc i) (y ∷ ys) x h e =
 pub get-seam : {X : Type 0} (xs : List X) (y : X) (ys : List X) → slice_get (xs ++ (y ∷ ys)) (length xs) ≡ Some y
 get-seam [] y ys = refl
 get-seam (x ∷ xs) y ys = get-seam xs y ys
-
-drop-seam : {X : Type 0} (xs ys : List X) → drop (length xs) (xs ++ ys) ≡ ys
-drop-seam [] ys = refl
-drop-seam (x ∷ xs) ys = drop-seam xs ys
 
 -- ---- prefixes below one
 
@@ -262,7 +259,7 @@ module _ (all lists : List Path) where
         where
           rest_is : drop n all ≡ inner ++ (beside ++ after)
           rest_is = ap (λ m. drop m all) (sym length_own) ∙ ap (drop (length (before ++ (own ∷ [])))) with_own
-              ∙ drop-seam (before ++ (own ∷ [])) (inner ++ (beside ++ after))
+              ∙ drop-append_seam (before ++ (own ∷ [])) (inner ++ (beside ++ after))
 
       accepts_are : flat_map ended left ≡ accepted_by 0 lists own
       accepts_are = ended-among left ∙ sym (among-left k [] ls) ∙ sym (st.accepted (k ∷ []))

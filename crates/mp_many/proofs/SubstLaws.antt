@@ -1,6 +1,5 @@
 -- The item at which a walk stands, and the substitution of its table.
-use Rattle.std.proofs.Common.{◌≡◌, ◌≤◌, ◌<◌, ℕ, zero, suc, List, [], ◌∷◌, ◌++◌, length, get_or, refl, ap, sym, subst}
-use Rattle.std.proofs.Common.{arith}
+use Rattle.std.proofs.Common.{◌≡◌, ◌≤◌, ℕ, List, [], ◌∷◌, ◌++◌, length, get_or, refl, ap, sym, subst}
 use Rattle.std.proofs.Common.{true, inl}
 use Rattle.std.specs.Prelude.{◌≢◌, Option, Some, None, IsSome, IfSome, slice_get}
 use Rattle.mp_term.specs.Listing.{In}
@@ -21,6 +20,7 @@ use Rattle.mp_table.specs.Table as tables
 use Rattle.mp_subst.specs.Trail.{Trail, subst_in}
 use Rattle.mp_theory.specs.NoOptional.{HasNoOptional}
 use Rattle.mp_theory.proofs.Instances.{fits-applied}
+use Rattle.mp_search.proofs.NumberLaws.{in-slice_get}
 use Rattle.mp_walk.specs.CodeForest.{code_forest}
 use Rattle.mp_walk.specs.Forests.{lists}
 use Rattle.mp_walk.specs.Instrs.{Instr}
@@ -32,7 +32,6 @@ use Rattle.mp_many.specs.Many.{Many, subject_of}
 use Rattle.mp_many.specs.RuleWalk.{Item, given}
 use Rattle.mp_many.specs.WalkItems.{accepts_at}
 use Rattle.mp_many.proofs.ItemLaws.{leaf-rule}
-use Rattle.mp_many.proofs.WalkableLaws.{in-at}
 
 -- the item at which the walk stands is of a rule that is left, and of the leaf
 pub given-some : (ns : List ℕ) (o : Option Item) → IsSome (slice_get (given ns o) 0) → (ns ≢ []) × IsSome o
@@ -54,12 +53,6 @@ pub given-number : (ns : List ℕ) (o : Option Item)
 given-number ns None = tt
 given-number [] (Some j) = tt
 given-number (n ∷ ns) (Some j) = refl
-
--- what is at a place is within the list
-pub get-within : {X : Type 0} (xs : List X) (n : ℕ) (x : X) → slice_get xs n ≡ Some x → n < length xs
-get-within [] n x e = cc
-get-within (y ∷ xs) zero x e = omega arith
-get-within (y ∷ xs) (suc n) x e = omega (arith, get-within xs n x e)
 
 module _ (m : Many) (t : Tree) (ns : List ℕ) (i : Item)
     (leaf : IsLeafItem m.sig (tree_of m.sig m.rules) t i) (front : List ℕ)
@@ -115,7 +108,7 @@ module _ (m : Many) (sound : AreSoundRules m.sig m.rules) (table : tables.Table)
 
   own-sound : IsSoundRule m.sig rule.rule
   own-sound = all_in (IsSoundRule m.sig) m.rules rule.rule sound.each
-      (in-at m.rules (get_or ns 0 0) rule.rule rule.held)
+      (in-slice_get m.rules (get_or ns 0 0) rule.rule rule.held)
 
   -- the names are the variables of the rule of the item, and so not too many
   module _ (names : List (List ℕ))

@@ -1,5 +1,5 @@
 -- The steps of a walk over rules, over plain lists.
-use Rattle.std.proofs.Common.{◌≡◌, ◌≤◌, ℕ, zero, suc, List, [], ◌∷◌, ◌++◌, length, drop, take, Bool, true, false}
+use Rattle.std.proofs.Common.{◌≡◌, ◌≤◌, ℕ, zero, suc, List, [], ◌∷◌, ◌++◌, length, drop, take}
 use Rattle.std.proofs.Common.{◌-◌, ◌∙◌, refl, ap, sym, arith, append_assoc, append-nil, take_all}
 use Rattle.std.specs.Prelude.{◌≢◌, Option, Some, None, IsSome, option_map, slice_get, slice_index_or}
 use Rattle.std.specs.List.{AllByRecursion}
@@ -75,10 +75,6 @@ next-leaf code old new item (Some i) (j ∷ to_come) leaf short e l a all =
           ∙ ap (λ xs. drop 1 (xs ++ (each_with (accepts_at code j.0) j.1 ++ rest)))
           (sym (last-given old item short));
     }
-
-pub not-failed : (b : Bool) → (b ≡ true → ⊥) → b ≡ false
-not-failed true h = absurd (h refl)
-not-failed false h = refl
 
 -- where no rule is left, and no leaf to come, nothing is
 pub nothing-given : (o : Option Item) → given [] o ≡ []

@@ -16,6 +16,7 @@ use Rattle.mp_pattern.specs.NetTokens.{tokens_of}
 use Rattle.mp_pattern.specs.PatternTree.{Pattern, symbol_pattern, app_pattern, wild_pattern}
 use Rattle.mp_pattern.specs.SoundRule.{IsSoundRule}
 use Rattle.mp_pattern.specs.Variables.{variables}
+pub use Rattle.mp_search.proofs.NumberLaws.{in-slice_get}
 use Rattle.mp_walk.specs.CodeForest.{code_forest}
 use Rattle.mp_walk.specs.Forests.{lists}
 use Rattle.mp_walk.specs.Instrs.{Instr, instr_at, targets}
@@ -31,11 +32,6 @@ use Rattle.mp_many.proofs.StateLaws.{all_from-at, first-prefix, states-are}
 use Rattle.mp_many.proofs.TreeLaws.{laid-inside, AreShort, laid-leads, laid-reached}
 
 -- ---- lists
-
-pub in-at : {X : Type 0} (xs : List X) (j : ℕ) (x : X) → slice_get xs j ≡ Some x → In x xs
-in-at [] j x e = cc
-in-at (y ∷ xs) zero x e = inl (let h : x ≡ y = cc in h)
-in-at (y ∷ xs) (suc j) x e = inr (in-at xs j x e)
 
 get-drop : {X : Type 0} (xs : List X) (m j : ℕ) → slice_get (drop m xs) j ≡ slice_get xs (m + j)
 get-drop xs zero j = let e : j ≡ 0 + j = omega arith in ap (slice_get xs) e
@@ -223,7 +219,7 @@ module _ (sig : Sig) (rules : List Rule) where
   forward-at (suc m) t i e h =
       let are = laid-inside (token_count ls) (numbered_from 0 ls) 1 in
       let f = all_from-at (λ k j. (u : ℕ) → In u (targets j) → k < u) 1 m code i are.forward e t h in
-      let g = are.inside t (in-flat targets i t code (in-at code m i e) h) in
+      let g = are.inside t (in-flat targets i t code (in-slice_get code m i e) h) in
       (omega (arith, f), omega (arith, g.1))
 
   -- an instruction that accepts has the tokens of a rule
@@ -251,6 +247,12 @@ module _ (sig : Sig) (rules : List Rule) where
             (whole-sound_pattern sig r.0.pattern (all_in (IsSoundRule sig) rules r.0 sound r.1).pattern);
       }
 
+  -- what stands above a state in its path is the state's parent
+  pub before-state : (sound : AllByRecursion (IsSoundRule sig) rules) (n : ℕ) (i : Instr) (s : IsState sig rules n i)
+      → (walkable sound).before n ≡ s.parent
+  unfolding walkable
+  before-state sound n i s = before-parent n i s
+
   -- a path to an instruction that accepts is the token list of the rules it accepts
   pub leaf-accepts : (n : ℕ) (ks : Path) → In {X = ℕ × Path} (n, ks) (lists (code_forest (tree_of sig rules)))
       → (i : Instr) × (instr_at (tree_of sig rules) n ≡ Some i) × (i.accepts ≡ accepted_by 0 (token_lists sig rules) ks)
@@ -267,7 +269,7 @@ module _ (sig : Sig) (rules : List Rule) where
   pub rule-reached : (j : ℕ) (l : Path) → slice_get (token_lists sig rules) j ≡ Some l
       → (n : ℕ) × In {X = ℕ × Path} (n, l) (lists (code_forest (tree_of sig rules)))
   rule-reached j l e =
-      let r = from_in-map (λ (q : Rule). tokens_of sig q.pattern) l rules (in-at ls j l e) in
+      let r = from_in-map (λ (q : Rule). tokens_of sig q.pattern) l rules (in-slice_get ls j l e) in
       let t = tokens-some sig r.0.pattern in
       let is : l ≡ t.0 ∷ t.1 = r.1 ∙ t.2 in
       let listed = subst (λ q. In {X = Numbered} (0 + j, q) (numbered_from 0 ls)) is (numbered-in 0 j ls l e) in

@@ -1,5 +1,5 @@
 -- The items of a walk over rules: the pairs of a rule's number and a take table that fits.
-use Rattle.std.specs.Prelude.{◌≡◌, ◌↔◌, ℕ, true, List, [], map, flat_map, Some, None, slice_get}
+use Rattle.std.specs.Prelude.{◌≡◌, ◌↔◌, ℕ, true, List, map, flat_map, Some, slice_get}
 use Rattle.mp_term.specs.Listing.{In}
 use Rattle.mp_term.specs.Tree.{Tree}
 use Rattle.mp_term.specs.Signature.{Sig}
@@ -9,7 +9,8 @@ use Rattle.mp_pattern.specs.Value.{Subst}
 use Rattle.mp_pattern.specs.Fits.{Table, Fits}
 use Rattle.mp_theory.specs.NoOptional.{HasNoOptional}
 use Rattle.mp_ac.specs.CommItems.{NoneTwice}
-use Rattle.mp_walk.specs.Instrs.{Instr, instr_at}
+pub use Rattle.mp_walk.specs.Instrs.{accepts_at}
+use Rattle.mp_walk.specs.Instrs.{Instr}
 
 module _ (sig : Sig) (rules : List Rule) (t : Tree) where
   -- the table fits the rule of the number and the subject with some substitution, whatever the rule's condition says
@@ -31,10 +32,6 @@ module _ (sig : Sig) (rules : List Rule) (t : Tree) where
       (n : ℕ) (r : Rule) (s : Subst) (T U : Table) → slice_get rules n ≡ Some r
       → is_fully_named r.pattern ≡ true → HasNoOptional r.pattern
       → In (n, T) is → Fits sig r.pattern t s T → In (n, U) is → Fits sig r.pattern t s U → T ≡ U
-
--- the rules that an instruction accepts
-abbrev pub accepts_at : List Instr → ℕ → List ℕ
-accepts_at code n = elim (instr_at code n) [ None ↦ [] | Some i ↦ i.accepts ]
 
 -- each of the rules with the table
 abbrev pub each_with : List ℕ → Table → List (ℕ × Table)

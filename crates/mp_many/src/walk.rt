@@ -8,8 +8,7 @@ ghost use Rattle.mp_subst.specs.View.{subst_of};
 ghost use Rattle.mp_walk.specs.WalkView.{nothing, ReadsAs};
 ghost use Rattle.mp_many.specs.RuleWalk.{Item};
 ghost use Rattle.mp_many.specs.Many.{subject_of, IsWalkTable};
-ghost use Rattle.mp_many.specs.Laid.{tree_of};
-ghost use Rattle.mp_many.specs.WalkItems.{AreWalkItems, HaveOneTable, accepts_at};
+ghost use Rattle.mp_many.specs.WalkItems.{AreWalkItems, HaveOneTable};
 
 use crate::many::Many;
 use mp_subst::Subst;
@@ -45,16 +44,6 @@ impl<'a> Model for Walk<'a> {
     ghost view = { walk_view };
 
     ghost invariant = { IsWalk };
-}
-
-// The rules that a leaf of the tree accepts.
-fn accepts_of<'a>(many: &'a Many<'_>, leaf: u32) -> &'a [u32]
-    ensures { result.now ≡ accepts_at (tree_of many.now.sig many.now.rules) leaf }
-{
-    match many.code().instr(leaf) {
-        None => &[],
-        Some(instr) => instr.accepts.as_slice(),
-    }
 }
 
 impl<'a> Walk<'a> {
@@ -99,7 +88,7 @@ impl<'a> Walk<'a> {
         if !self.leaves.next()? {
             return Ok(false);
         }
-        self.accepts = accepts_of(self.many, self.leaves.leaf());
+        self.accepts = self.many.code().accepts(self.leaves.leaf());
         Ok(true)
     }
 

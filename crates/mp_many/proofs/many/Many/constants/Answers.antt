@@ -1,9 +1,9 @@
 use Rattle.std.proofs.Common.{◌∙◌, ap, length, subst, sym}
+use Rattle.std.proofs.lemmas.Result.{IfOk-weaker}
 use Rattle.mp_term.specs.Listing.{IsListing}
 use Rattle.mp_term.specs.Order.{tree_cmp}
 use Rattle.mp_pattern.specs.Constants.{IsConstantOf}
 use Rattle.mp_many.specs.WalkConstants.{AreWalkConstants}
-use Rattle.mp_many.proofs.FoundLaws.{ok-also}
 use Rattle.mp_many.proofs.WalkableLaws.{length-tree}
 use Rattle.mp_many.proofs.WalkConstantLaws.{constants-rules}
 use Rattle.mp_many.proofs.many.Many.constants.Goals as goal
@@ -16,7 +16,7 @@ have_none-requires c =
 pub returns : goal.returns
 returns c =
     let m = c.args.self.now in
-    ok-also (IsListing tree_cmp (IsConstantOf c.rules.result.now)) (AreWalkConstants m)
+    IfOk-weaker c.constants.result (IsListing tree_cmp (IsConstantOf c.rules.result.now)) (AreWalkConstants m)
     (λ ts l. constants-rules m ts c.rules.ensures.sound
-    (subst (λ rs. IsListing tree_cmp (IsConstantOf rs) ts) c.rules.ensures.rules l)) c.constants.result
+    (subst (λ rs. IsListing tree_cmp (IsConstantOf rs) ts) c.rules.ensures.rules l))
     c.constants.ensures

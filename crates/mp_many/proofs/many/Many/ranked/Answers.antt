@@ -1,26 +1,15 @@
-use Rattle.std.proofs.Common.{◌≡◌, ◌∙◌, ◌<◌, List, [], ◌∷◌, ◌++◌, arith, drop, length, subst, sym}
-use Rattle.std.specs.Prelude.{IfSome, IsSome, Option, slice_get}
-use Rattle.std.specs.List.{AllByRecursion}
+use Rattle.std.proofs.Common.{◌∙◌, ◌<◌, [], ◌∷◌, ◌++◌, drop, length, subst, sym}
+use Rattle.std.specs.Prelude.{IfSome}
+use Rattle.std.proofs.lemmas.Result.{IfOk-weaker}
 use Rattle.mp_pattern.specs.Lists.{IsAllList}
 use Rattle.mp_many.specs.Given.{IsPairOf}
 use Rattle.mp_many.specs.Many.{subject_of}
 use Rattle.mp_many.specs.WalkItems.{IsWalkItem}
 use Rattle.mp_walk.proofs.FoundLaws.{listing-all_list}
-use Rattle.mp_many.proofs.FoundLaws.{HasFound, found-alike, found-first, found-last, ok-also}
+use Rattle.mp_walk.proofs.ListLaws.{first-holds, fewer-behind}
+use Rattle.mp_many.proofs.FoundLaws.{HasFound, found-alike, found-first, found-last}
 use Rattle.mp_many.proofs.FoundLaws.{step-last, step-none, step-some}
 use Rattle.mp_many.proofs.many.Many.ranked.Goals as goal
-
--- what holds of each item holds of the first one, where there is one
-first-holds : {X : Type 0} (P : X → Type 0) (xs : List X) (o : Option X) → o ≡ slice_get xs 0 → AllByRecursion P xs
-    → IfSome o P
-first-holds P [] o e h = subst (λ o. IfSome o P) (sym e) tt
-first-holds P (x ∷ xs) o e h = subst (λ o. IfSome o P) (sym e) h.0
-
--- behind the first item, where there is one, stand fewer
-fewer-behind : {X : Type 0} (xs : List X) (o : Option X) → o ≡ slice_get xs 0 → IsSome o
-    → length (drop 1 xs) < length xs
-fewer-behind [] o e h = let none = subst IsSome e h in cc
-fewer-behind (x ∷ xs) o e h = omega arith
 
 pub admitted-requires-clause-item : goal.admitted-requires-clause-item
 admitted-requires-clause-item c =
@@ -102,6 +91,6 @@ returns c =
     let next = c.in_ok-next.ensures in
     let ended = step-last m.sig m.rules t found c.loop-found.walk.to_come c.loop-found.invariant.found
     c.next.new.self.item (λ h. let b = next.answer.1 h in cc) next.item in
-    ok-also _ (λ ps. IsAllList m.sig m.rules t ps.items)
+    IfOk-weaker c.into_pairs.result _ (λ ps. IsAllList m.sig m.rules t ps.items)
     (λ ps l. listing-all_list m.sig m.rules t found ps.items (found-last m.sig m.rules t found c.loop-found.walk.to_come
-    c.loop-found.invariant.found ended) l) c.into_pairs.result c.into_pairs.ensures
+    c.loop-found.invariant.found ended) l) c.into_pairs.ensures

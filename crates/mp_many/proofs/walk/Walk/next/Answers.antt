@@ -1,5 +1,6 @@
 use Rattle.std.proofs.Common.{◌≡◌, ◌∙◌, [], ◌++◌, length, take, drop, true, false, ap, sym, subst, refl, arith}
 use Rattle.std.specs.Prelude.{◌≢◌, IsSome, IsErr, slice_get}
+use Rattle.std.proofs.lemmas.Bool.{false_from_ne_true}
 use Rattle.mp_many.specs.Laid.{tree_of}
 use Rattle.mp_many.specs.RuleWalk.{given}
 use Rattle.mp_many.specs.WalkItems.{accepts_at, rule_items}
@@ -7,7 +8,7 @@ use Rattle.mp_term.proofs.ListLaws.{all-also}
 use Rattle.mp_walk.specs.WalkItems.{IsLeafItem}
 use Rattle.mp_many.specs.Many.{subject_of}
 use Rattle.mp_many.proofs.ItemLaws.{leaf-some}
-use Rattle.mp_many.proofs.WalkLaws.{next-leaf, last-leaf, front-next, not-failed, nothing-given}
+use Rattle.mp_many.proofs.WalkLaws.{next-leaf, last-leaf, front-next, nothing-given}
 use Rattle.mp_many.proofs.walk.Walk.next.Goals as goal
 
 pub returns-then-self-gt1-clause-stays : goal.returns-then-self-gt1-clause-stays
@@ -53,15 +54,16 @@ returns-clause-to_come c =
     let w = c.self.inside in
     let m = w.many.now in
     let sound : w.leaves.failed ≡ false =
-    not-failed w.leaves.failed (λ e. let f = subst IsErr c.in_ok-next.was (c.next.ensures.fails e) in cc) in
-    let n = next-leaf (tree_of m.sig m.rules) w.accepts.now c.accepts_of-self-inside.result.now w.leaves.item
+    false_from_ne_true w.leaves.failed (λ e. let f = subst IsErr c.in_ok-next.was (c.next.ensures.fails e) in cc) in
+    let n = next-leaf (tree_of m.sig m.rules) w.accepts.now c.accepts-self-inside.result.now w.leaves.item
     c.next.new.self.item w.leaves.to_come c.leaf.result (omega arith)
-    (ap (λ v. v.item) c.in_ok-next.ensures.moved) c.leaf.ensures c.accepts_of-self-inside.ensures
+    (ap (λ v. v.item) c.in_ok-next.ensures.moved) c.leaf.ensures
+    (c.accepts-self-inside.ensures ∙ ap (λ code. accepts_at code c.leaf.result) c.code.ensures.tree)
     (all-also (IsLeafItem m.sig (tree_of m.sig m.rules) (subject_of w.table.now))
     (λ i. accepts_at (tree_of m.sig m.rules) i.0 ≢ [])
     (leaf-some m.sig m.rules (subject_of w.table.now)) w.leaves.to_come (c.self.invariant.to_come sound)) in
     let code = tree_of m.sig m.rules in
-    ap (λ ls. drop 1 (given c.accepts_of-self-inside.result.now c.next.new.self.item) ++ rule_items code ls)
+    ap (λ ls. drop 1 (given c.accepts-self-inside.result.now c.next.new.self.item) ++ rule_items code ls)
     (ap (λ v. v.to_come) c.in_ok-next.ensures.moved)
     ∙ n.to_come ∙ ap (λ v. drop 1 v.to_come) c.self.view_is
 
@@ -70,10 +72,11 @@ returns-clause-item c =
     let w = c.self.inside in
     let m = w.many.now in
     let sound : w.leaves.failed ≡ false =
-    not-failed w.leaves.failed (λ e. let f = subst IsErr c.in_ok-next.was (c.next.ensures.fails e) in cc) in
-    let n = next-leaf (tree_of m.sig m.rules) w.accepts.now c.accepts_of-self-inside.result.now w.leaves.item
+    false_from_ne_true w.leaves.failed (λ e. let f = subst IsErr c.in_ok-next.was (c.next.ensures.fails e) in cc) in
+    let n = next-leaf (tree_of m.sig m.rules) w.accepts.now c.accepts-self-inside.result.now w.leaves.item
     c.next.new.self.item w.leaves.to_come c.leaf.result (omega arith)
-    (ap (λ v. v.item) c.in_ok-next.ensures.moved) c.leaf.ensures c.accepts_of-self-inside.ensures
+    (ap (λ v. v.item) c.in_ok-next.ensures.moved) c.leaf.ensures
+    (c.accepts-self-inside.ensures ∙ ap (λ code. accepts_at code c.leaf.result) c.code.ensures.tree)
     (all-also (IsLeafItem m.sig (tree_of m.sig m.rules) (subject_of w.table.now))
     (λ i. accepts_at (tree_of m.sig m.rules) i.0 ≢ [])
     (leaf-some m.sig m.rules (subject_of w.table.now)) w.leaves.to_come (c.self.invariant.to_come sound)) in
@@ -84,10 +87,11 @@ returns-clause-answer c =
     let w = c.self.inside in
     let m = w.many.now in
     let sound : w.leaves.failed ≡ false =
-    not-failed w.leaves.failed (λ e. let f = subst IsErr c.in_ok-next.was (c.next.ensures.fails e) in cc) in
-    let n = next-leaf (tree_of m.sig m.rules) w.accepts.now c.accepts_of-self-inside.result.now w.leaves.item
+    false_from_ne_true w.leaves.failed (λ e. let f = subst IsErr c.in_ok-next.was (c.next.ensures.fails e) in cc) in
+    let n = next-leaf (tree_of m.sig m.rules) w.accepts.now c.accepts-self-inside.result.now w.leaves.item
     c.next.new.self.item w.leaves.to_come c.leaf.result (omega arith)
-    (ap (λ v. v.item) c.in_ok-next.ensures.moved) c.leaf.ensures c.accepts_of-self-inside.ensures
+    (ap (λ v. v.item) c.in_ok-next.ensures.moved) c.leaf.ensures
+    (c.accepts-self-inside.ensures ∙ ap (λ code. accepts_at code c.leaf.result) c.code.ensures.tree)
     (all-also (IsLeafItem m.sig (tree_of m.sig m.rules) (subject_of w.table.now))
     (λ i. accepts_at (tree_of m.sig m.rules) i.0 ≢ [])
     (leaf-some m.sig m.rules (subject_of w.table.now)) w.leaves.to_come (c.self.invariant.to_come sound)) in

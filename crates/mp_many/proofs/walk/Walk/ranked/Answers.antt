@@ -1,5 +1,7 @@
 use Rattle.std.proofs.Common.{◌≡◌, get_or, true, ap, sym, subst}
 use Rattle.std.specs.Prelude.{IfOk, IfSome, IsSome, slice_get}
+use Rattle.std.proofs.lemmas.Result.{IfOk-weaker}
+use Rattle.std.proofs.lemmas.Option.{slice_get_within}
 use Rattle.mp_pattern.specs.Fits.{Fits}
 use Rattle.mp_pattern.specs.Instance.{is_fully_named, IsPatternApplied}
 use Rattle.mp_pattern.specs.Lists.{Pair}
@@ -9,8 +11,7 @@ use Rattle.mp_walk.specs.NamedItems.{called}
 use Rattle.mp_many.specs.RuleWalk.{given}
 use Rattle.mp_many.specs.Laid.{tree_of}
 use Rattle.mp_many.specs.Many.{subject_of}
-use Rattle.mp_many.proofs.FoundLaws.{ok-also}
-use Rattle.mp_many.proofs.SubstLaws.{applied-fits, few-names, fits-given, get-within, given-number, given-some}
+use Rattle.mp_many.proofs.SubstLaws.{applied-fits, few-names, fits-given, given-number, given-some}
 use Rattle.mp_many.proofs.SubstLaws.{has-trail, rule-left}
 use Rattle.mp_many.proofs.WalkLaws.{subject-normal}
 use Rattle.mp_many.proofs.walk.Walk.ranked.Goals as goal
@@ -23,7 +24,7 @@ names-requires c =
     let full = (given-some w.accepts.now w.leaves.item some).0 in
     let here = c.self.invariant.here full in
     let r = rule-left m (subject_of w.table.now) w.accepts.now here.item here.leaf here.front here.rules full in
-    get-within m.rules (get_or w.accepts.now 0 0) r.rule r.held
+    slice_get_within m.rules (get_or w.accepts.now 0 0) r.rule r.held
 
 pub new-requires-clause-goes : goal.new-requires-clause-goes
 new-requires-clause-goes c = subst (λ t. GoesWith t c.trail.result.now) c.self.invariant.table c.trail.ensures.goes
@@ -48,10 +49,11 @@ returns-clause-rule c =
     let w = c.self.inside in
     let ns = w.accepts.now in
     subst (λ v. IfOk c.new.result (λ p. IfSome v.item (λ i. p.0 ≡ i.0))) c.self.view_is
-    (ok-also (λ (p : Pair). p ≡ (get_or ns 0 0, subst_in w.table.now (called c.names.result.now) c.trail.result.now))
+    (IfOk-weaker c.new.result
+    (λ (p : Pair). p ≡ (get_or ns 0 0, subst_in w.table.now (called c.names.result.now) c.trail.result.now))
     (λ p. IfSome (slice_get (given ns w.leaves.item) 0) (λ i. p.0 ≡ i.0))
     (λ p e. subst (λ n. IfSome (slice_get (given ns w.leaves.item) 0) (λ i. n ≡ i.0)) (sym (ap (λ (q : Pair). q.0) e))
-    (given-number ns w.leaves.item)) c.new.result c.new.ensures)
+    (given-number ns w.leaves.item)) c.new.ensures)
 
 pub returns-clause-fits : goal.returns-clause-fits
 returns-clause-fits c =
@@ -71,11 +73,11 @@ returns-clause-fits c =
     here.rules trail trail_of names c.names.ensures.names in
     subst (λ v. IfOk c.new.result (λ p. IfSome v.item (λ i. IfSome (slice_get v.many.rules i.0)
     (λ r. Fits v.many.sig r.pattern (subject_of v.table) p.1 i.1)))) c.self.view_is
-    (ok-also (λ (p : Pair). p ≡ (get_or ns 0 0, subst_in w.table.now (called names) trail))
+    (IfOk-weaker c.new.result (λ (p : Pair). p ≡ (get_or ns 0 0, subst_in w.table.now (called names) trail))
     (λ p. IfSome (slice_get (given ns o) 0) (λ i. IfSome (slice_get m.rules i.0)
     (λ r. Fits m.sig r.pattern t p.1 i.1)))
     (λ p e. subst (λ s. IfSome (slice_get (given ns o) 0) (λ i. IfSome (slice_get m.rules i.0)
-    (λ r. Fits m.sig r.pattern t s i.1))) (sym (ap (λ (q : Pair). q.1) e)) fits) c.new.result c.new.ensures)
+    (λ r. Fits m.sig r.pattern t s i.1))) (sym (ap (λ (q : Pair). q.1) e)) fits) c.new.ensures)
 
 pub returns-clause-applied : goal.returns-clause-applied
 returns-clause-applied c =
@@ -99,9 +101,9 @@ returns-clause-applied c =
     subst (λ v. IfOk c.new.result (λ p. IfSome v.item (λ i. IfSome (slice_get v.many.rules i.0)
     (λ r. is_fully_named r.pattern ≡ true → HasNoOptional r.pattern
     → IsPatternApplied v.many.sig r.pattern p.1 (subject_of v.table))))) c.self.view_is
-    (ok-also (λ (p : Pair). p ≡ (get_or ns 0 0, subst_in w.table.now (called names) trail))
+    (IfOk-weaker c.new.result (λ (p : Pair). p ≡ (get_or ns 0 0, subst_in w.table.now (called names) trail))
     (λ p. IfSome (slice_get (given ns o) 0) (λ i. IfSome (slice_get m.rules i.0)
     (λ r. is_fully_named r.pattern ≡ true → HasNoOptional r.pattern → IsPatternApplied m.sig r.pattern p.1 t)))
     (λ p e. subst (λ s. IfSome (slice_get (given ns o) 0) (λ i. IfSome (slice_get m.rules i.0)
     (λ r. is_fully_named r.pattern ≡ true → HasNoOptional r.pattern → IsPatternApplied m.sig r.pattern s t)))
-    (sym (ap (λ (q : Pair). q.1) e)) applied) c.new.result c.new.ensures)
+    (sym (ap (λ (q : Pair). q.1) e)) applied) c.new.ensures)
