@@ -226,9 +226,9 @@ module _ (sig : Sig) (h : IsSpelledSignature sig) where
           is = sym is.is;
         }
 
-    -- a condition that is read is read again
-    pub cond-again : (bytes : List ℕ) (c : Cond) → IsCondOf sig scope bytes c → IsCondOf sig scope (cond_text sig c) c
-    cond-again bytes c b =
+    -- a condition that is read passes the checks
+    pub readable-cond : (bytes : List ℕ) (c : Cond) → IsCondOf sig scope bytes c → IsReadableCondition sig scope c
+    readable-cond bytes c b =
         let d = b.syntax_tree.condition in
         let place = b.syntax_tree.start in
         let p = nil-append (fault_if (is_large_condition d) _ place) (condition_faults sig scope d) b.faultless in
@@ -237,7 +237,11 @@ module _ (sig : Sig) (h : IsSpelledSignature sig) where
               (condition_bytes-names bytes d b.syntax.0) p.1 (nil-fault_if (is_large_condition d) _ place p.0);
           shallow = shallow-cond_of sig d b.syntax.0.fits;
         } in
-        subst (λ c. IsCondOf sig scope (cond_text sig c) c) (sym b.is) (condition-readable (cond_of sig d) readable)
+        subst (IsReadableCondition sig scope) (sym b.is) readable
+
+    -- it is read again
+    pub cond-again : (bytes : List ℕ) (c : Cond) → IsCondOf sig scope bytes c → IsCondOf sig scope (cond_text sig c) c
+    cond-again bytes c b = condition-readable c (readable-cond bytes c b)
 
   -- so is the condition of a sound rule, over any variables
   pub rule_condition-again : (p : Pattern) (c : Cond) → IsFormed sig p → IsSoundCondition sig p c

@@ -2,7 +2,6 @@
 use Rattle.std.proofs.Common.{append-nil}
 use Rattle.std.proofs.Common.{◌≡◌, ◌≢◌, ℕ, ◌-◌, true, false, List, [], ◌∷◌, ◌++◌, map}
 use Rattle.std.proofs.Common.{length, Option, Some, None, refl, sym, ap, subst, ◌∙◌, arith, append_assoc}
-use Rattle.std.proofs.Common.{rules}
 use Rattle.std.specs.Prelude.{codes, option_map}
 use Rattle.std.specs.List.{AllByRecursion}
 use Rattle.std.proofs.lemmas.List.{map-append, length-map}
@@ -17,7 +16,7 @@ use Rattle.mp_term.specs.Signature.{Sig, Kind, none_clash, IsSignature}
 use Rattle.mp_term.proofs.ListLaws.{all-append, all-map, all-also}
 use Rattle.mp_pattern.specs.Admission.{Rule}
 use Rattle.mp_pattern.specs.TemplateTree.{Template}
-use Rattle.mp_pattern.specs.SoundRule.{IsVariableOf, HasSoundTemplate, IsSoundRule}
+use Rattle.mp_pattern.specs.SoundRule.{IsSymbol, IsVariableOf, HasSoundTemplate, IsSoundRule}
 use Rattle.mp_parser.specs.declared.limits.TheConstants.{MAX_OPEN}
 use Rattle.mp_parser.specs.Syntax.{Statement, EditOf, AreStatements}
 use Rattle.mp_parser.specs.Syntax.{StatementsHaveNames, TemplateHasNames, FitsTemplate}
@@ -25,7 +24,7 @@ use Rattle.mp_syntax.specs.Printed.{unplaced_spot, unplaced_change, unplaced}
 use Rattle.mp_syntax.proofs.Whole.{syntax-names}
 use Rattle.mp_build.specs.declared.fault.TextFault.{TextFault}
 use Rattle.mp_text.specs.File.{FileTree}
-use Rattle.mp_build.specs.Build.{op_decls, kind_decls, sig_of}
+use Rattle.mp_build.specs.Build.{sig_with, op_decls, kind_decls, sig_of}
 use Rattle.mp_text.specs.Subjects.{subjects_of}
 use Rattle.mp_text.specs.FileBuild.{rules_of, file_over, file_tree_of}
 use Rattle.mp_build.specs.Checks.{op_statement_faults, kind_statement_faults, declaration_faults, faults_by}
@@ -53,7 +52,8 @@ use Rattle.mp_text.proofs.DeclaredParts.{IsSomeSign, HasOpNames, IsDeclaredOp, I
 use Rattle.mp_round_trip.proofs.SpelledHead.{HasOps}
 use Rattle.mp_round_trip.proofs.SpelledTerm.{HasNames-term_spelling, Fits-term_spelling}
 use Rattle.mp_round_trip.proofs.SpelledPattern.{HasNames-pattern_spelling, Fits-pattern_spelling}
-use Rattle.mp_round_trip.proofs.SpelledCondition.{IsShallowIf, shallow-condition_of, HasNames-if_spelling}
+use Rattle.mp_round_trip.specs.OpenBrackets.{IsShallowIf}
+use Rattle.mp_round_trip.proofs.SpelledCondition.{shallow-condition_of, HasNames-if_spelling}
 use Rattle.mp_round_trip.proofs.SpelledCondition.{Fits-if_spelling}
 use Rattle.mp_round_trip.proofs.SpelledDeclarations.{StatementHasNames-op_spelling, FitsStatement-op_spelling}
 use Rattle.mp_round_trip.proofs.SpelledDeclarations.{StatementHasNames-kind_spelling, FitsStatement-kind_spelling}
@@ -428,6 +428,19 @@ spelled-signature bytes f file = let h = read-bytes bytes f file in
       kinds = all-also (IsDeclaredKind f.sig.ops) (λ k. is_name k.name ≡ true)
           (λ k own. is_name-IsName k.name own.name) f.sig.kinds h.kinds;
     }
+
+-- the members of its kinds are names
+pub named-members : (bytes : List ℕ) (f : FileTree) → IsFileOf bytes f
+    → AllByRecursion (λ k. AllByRecursion (λ m. is_name m ≡ true) k.members) f.sig.kinds
+named-members bytes f file = all-also (IsDeclaredKind f.sig.ops)
+    (λ k. AllByRecursion (λ m. is_name m ≡ true) k.members)
+    (λ k own. all-also (IsSymbol (sig_with f.sig.ops [])) (λ m. is_name m ≡ true) (λ m s. s.name) k.members own.members)
+    f.sig.kinds (read-bytes bytes f file).kinds
+
+-- the conditions of its rules aren't too deep
+pub shallow-rules : (bytes : List ℕ) (f : FileTree) → IsFileOf bytes f
+    → AllByRecursion (λ r. IsShallowIf r.condition) f.rules
+shallow-rules bytes f file = (read-bytes bytes f file).shallow
 
 -- what is printed of a file that was read is read as that file
 pub printed-file : (bytes : List ℕ) (f : FileTree) → IsFileOf bytes f → IsFileOf (file_text f) f

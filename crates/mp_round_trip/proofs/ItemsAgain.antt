@@ -1,7 +1,6 @@
 -- What spells the declarations, rules and subjects of a file stands for them and has no faults, where they are sound.
 use Rattle.std.proofs.Common.{◌≡◌, ◌≤◌, ◌<◌, ℕ, ◌-◌, Bool, true, false, not, List, [], ◌∷◌, ◌++◌, map}
 use Rattle.std.proofs.Common.{length, Option, Some, None, refl, sym, ap, subst, ◌∙◌, arith, length-append, append_assoc}
-use Rattle.std.proofs.Common.{rules}
 use Rattle.std.specs.Prelude.{codes}
 use Rattle.std.specs.List.{list_all, list_any, AllByRecursion}
 use Rattle.std.specs.Str.{bytes_eq}
@@ -28,7 +27,7 @@ use Rattle.mp_text.specs.FileBuild.{rules_of}
 use Rattle.mp_build.specs.Checks.{is_large_term, term_faults, whole_pattern_faults, name_faults}
 use Rattle.mp_build.specs.Checks.{op_statement_faults, kind_statement_faults, faults_by}
 use Rattle.mp_build.specs.TemplateChecks.{arrow_faults}
-use Rattle.mp_text.specs.FileChecks.{rule_faults, is_large_rule, statement_faults, faults}
+use Rattle.mp_text.specs.FileChecks.{rule_faults, is_large_rule, statement_faults}
 use Rattle.mp_text.specs.EditStatements.{edit_sets_behind}
 use Rattle.mp_build.specs.Scope.{pattern_variables}
 use Rattle.mp_build.specs.ConditionChecks.{if_faults}
@@ -41,7 +40,7 @@ use Rattle.mp_build.proofs.Faultless.{nil-both}
 use Rattle.mp_build.proofs.Words.{first-of, second-of}
 use Rattle.mp_text.proofs.DeclaredParts.{IsDeclaredOp, IsDeclaredKind}
 use Rattle.mp_round_trip.proofs.SpelledHead.{HasOps}
-use Rattle.mp_round_trip.proofs.SpelledCondition.{IsShallowIf}
+use Rattle.mp_round_trip.specs.OpenBrackets.{IsShallowIf}
 use Rattle.mp_round_trip.proofs.SpelledDeclarations.{name_set-names_ascend, op_decl-alike}
 use Rattle.mp_round_trip.proofs.SpelledDeclarations.{kind_decl-alike, none-name_faults, none-op_faults}
 use Rattle.mp_round_trip.proofs.SpelledDeclarations.{none-kind_faults}

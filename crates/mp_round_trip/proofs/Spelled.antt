@@ -1,6 +1,6 @@
 -- What is printed of terms, patterns, templates and conditions is the text of what they are spelled as.
 use Rattle.std.proofs.Common.{◌≡◌, Bool, true, false, cond, List, [], ◌∷◌, ◌++◌, map, length, Some, None, refl}
-use Rattle.std.proofs.Common.{sym, ap, ◌∙◌, append_assoc, append-nil, leb, not}
+use Rattle.std.proofs.Common.{sym, ap, ◌∙◌, append_assoc, append-nil, leb}
 use Rattle.std.specs.Prelude.{Option, unwrap_or, slice_get, codes}
 use Rattle.std.proofs.lemmas.List.{length-map}
 use Rattle.mp_io.specs.Devices.{Text}

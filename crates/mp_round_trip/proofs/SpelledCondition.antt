@@ -26,7 +26,7 @@ use Rattle.mp_build.specs.Conditions.{cond_of, condition_of}
 use Rattle.mp_build.specs.Scope.{Scope}
 use Rattle.mp_build.specs.SoundCondition.{MayBeNamed, IsScopedOperand, IsScopedAmount, IsScoped, AreScoped}
 use Rattle.mp_round_trip.specs.OpenBrackets.{operand_depth, amount_depth, negated_depth, literal_depth, literals_depth}
-use Rattle.mp_round_trip.specs.OpenBrackets.{alternatives_depth, condition_depth}
+use Rattle.mp_round_trip.specs.OpenBrackets.{alternatives_depth, condition_depth, IsShallowIf}
 use Rattle.mp_round_trip.specs.Spelled.{piece, negated_spelling, operand_spelling, amount_spelling, literal_spelling}
 use Rattle.mp_round_trip.specs.Spelled.{literal_spellings, alternative_spellings, cond_spelling}
 use Rattle.mp_build.proofs.Words.{IsName-is_name}
@@ -38,11 +38,6 @@ use Rattle.mp_round_trip.proofs.SpelledDeclarations.{number-written, name-writte
 use Rattle.mp_round_trip.proofs.ScopedCondition.{HasScopedCondition}
 
 -- ---- how many brackets stand open at once
-
--- the condition of a rule, where there is one, has at most MAX_DEPTH brackets open at once
-abbrev pub IsShallowIf : Option Cond → Type 0
-IsShallowIf None = Unit {0}
-IsShallowIf (Some c) = condition_depth c ≤ MAX_DEPTH
 
 -- ---- a condition that is read
 

@@ -12,6 +12,7 @@ use Rattle.mp_io.specs.Devices.{Text}
 use Rattle.mp_term.specs.declared.signature.OpDecl.{OpDecl}
 use Rattle.mp_term.specs.Names.{are_distinct}
 use Rattle.mp_term.specs.Signature.{Sig, has_name, is_that_sign, has_sign, shares_sign, clashes, none_clash, kind_names}
+use Rattle.mp_term.proofs.ListLaws.{all-at as list_all-at}
 use Rattle.mp_term.proofs.SignatureLaws.{position-behind, position-first}
 use Rattle.mp_pattern.specs.SoundRule.{HoldsOp, HoldsKind}
 use Rattle.mp_print.specs.Printing.{kind_name_text}
@@ -101,14 +102,6 @@ position-distinct (n ∷ names) (suc i) name h here =
     position-behind (bytes_eq name) n names
     (not-true (bytes_eq name n) (list_all-at (λ m. not (bytes_eq m n)) names i name p.0 here))
     ∙ ap (option_map (λ k. k + 1)) (position-distinct names i name p.1 here) ∙ ap Some (add-one i)
-  where
-    list_all-at : (test : Text → Bool) (xs : List Text) (i : ℕ) (x : Text) → list_all test xs ≡ true
-        → slice_get xs i ≡ Some x → test x ≡ true
-    list_all-at test [] i x h here = cc
-    list_all-at test (y ∷ xs) zero x h here = let same : y ≡ x = cc in
-        subst (λ z. test z ≡ true) same (and_parts (test y) (list_all test xs) h).0
-    list_all-at test (y ∷ xs) (suc i) x h here =
-        list_all-at test xs i x (and_parts (test y) (list_all test xs) h).1 here
 
 -- the first name that is this one is this one
 pub position-name : (name : Text) (names : List Text) (k : ℕ) → position (bytes_eq name) names ≡ Some k

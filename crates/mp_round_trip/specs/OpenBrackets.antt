@@ -1,6 +1,7 @@
 -- How many brackets stand open at once in the printed text of a condition.
-use Rattle.std.specs.Prelude.{ℕ, suc, max}
+use Rattle.std.specs.Prelude.{◌≤◌, ℕ, suc, max, Option, Some, None, ⊤}
 use Rattle.mp_term.specs.Size.{depth}
+use Rattle.mp_pattern.specs.declared.limits.TheConstants.{MAX_DEPTH}
 use Rattle.mp_pattern.specs.CondTree as cond
 use Rattle.mp_pattern.specs.CondTree.{Operand, var, ground, fixed, count, size, Cond, amounts, less, free, of_kind}
 use Rattle.mp_pattern.specs.CondTree.{headed, negation, all_of, any_of, Conds, no_conds, more_conds}
@@ -48,3 +49,8 @@ abbrev pub condition_depth : Cond → ℕ
 condition_depth (all_of cs) = literals_depth cs
 condition_depth (any_of cs) = alternatives_depth cs
 condition_depth c = literal_depth c
+
+-- at most MAX_DEPTH in a condition, where there is one
+abbrev pub IsShallowIf : Option Cond → Type 0
+IsShallowIf None = ⊤
+IsShallowIf (Some c) = condition_depth c ≤ MAX_DEPTH

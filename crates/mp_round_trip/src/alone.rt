@@ -73,6 +73,9 @@ pub fn printed_condition_is_read()
     // A condition that some bytes are is read of its printed text.
     ensures read { (sig : Sig) (scope : Scope) (bytes : List ℕ) (c : Cond) → IsSpelledSignature sig
         → IsCondOf sig scope bytes c → IsCondOf sig scope (cond_text sig c) c }
+    // A condition that some bytes are passes the checks.
+    ensures passes { (sig : Sig) (scope : Scope) (bytes : List ℕ) (c : Cond) → IsSpelledSignature sig
+        → IsCondOf sig scope bytes c → IsReadableCondition sig scope c }
     // The condition of a sound rule is read of its printed text, over any variables.
     ensures rule { (sig : Sig) (p : Pattern) (c : Cond) → IsSpelledSignature sig → IsFormed sig p
         → IsSoundCondition sig p c → condition_depth c ≤ MAX_DEPTH → IsCondOf sig None (cond_text sig c) c }

@@ -1,12 +1,15 @@
 //! The laws of whole files: what is printed of a file is read again.
 
-ghost use Rattle.std.specs.Prelude.{◌≡◌, ℕ, List, map};
+ghost use Rattle.std.specs.Prelude.{◌≡◌, ℕ, true, List, map};
+ghost use Rattle.std.specs.List.{AllByRecursion};
+ghost use Rattle.mp_term.specs.Names.{is_name};
 ghost use Rattle.mp_parser.specs.declared.limits.TheConstants.{MAX_OPEN};
 ghost use Rattle.mp_parser.specs.Syntax.{Statement, IsSyntaxOf, AreStatements, StatementsHaveNames};
 ghost use Rattle.mp_syntax.specs.Printed.{unplaced};
 ghost use Rattle.mp_text.specs.File.{FileTree};
 ghost use Rattle.mp_text.specs.PrintedFile.{file_text};
 ghost use Rattle.mp_text.specs.Reading.{IsFileOf};
+ghost use Rattle.mp_round_trip.specs.OpenBrackets.{IsShallowIf};
 ghost use Rattle.mp_round_trip.specs.Readable.{IsSpelledSignature};
 ghost use Rattle.mp_round_trip.specs.Spelled.{file_spelling};
 
@@ -27,6 +30,17 @@ pub fn printed_file_is_its_statements()
 /// It does nothing when it runs.
 pub fn signatures_of_files_are_spelled()
     ensures { (bytes : List ℕ) (file : FileTree) → IsFileOf bytes file → IsSpelledSignature file.sig }
+{}
+
+/// Law: in a file that some bytes are, `IsFileOf` of `mp_text`, the members of the kinds are names, and at most
+/// `MAX_DEPTH` brackets are open at once in the condition of a rule.
+///
+/// It does nothing when it runs.
+pub fn members_and_conditions_of_files_are_spelled()
+    ensures members { (bytes : List ℕ) (file : FileTree) → IsFileOf bytes file
+        → AllByRecursion (λ k. AllByRecursion (λ m. is_name m ≡ true) k.members) file.sig.kinds }
+    ensures shallow { (bytes : List ℕ) (file : FileTree) → IsFileOf bytes file
+        → AllByRecursion (λ r. IsShallowIf r.condition) file.rules }
 {}
 
 /// Law: the text that a file is printed as, `file_text` of `specs/PrintedFile.antt`, is read as that file, for every

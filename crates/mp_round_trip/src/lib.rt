@@ -10,5 +10,6 @@ pub use alone::{
     printed_term_is_read,
 };
 pub use file::{
-    printed_file_is_its_statements, printed_file_is_read, signatures_of_files_are_spelled,
+    members_and_conditions_of_files_are_spelled, printed_file_is_its_statements,
+    printed_file_is_read, signatures_of_files_are_spelled,
 };
