@@ -1,6 +1,6 @@
 -- Program texts, programs and faults that are computed.
-use Rattle.std.proofs.Common.{◌≡◌, ℕ, List, [], ◌∷◌, ◌++◌, Bool, true, false, Option, Some, None, refl, arith}
-use Rattle.std.specs.Prelude.{codes, decimal, slice_get, IsSome}
+use Rattle.std.proofs.Common.{◌≡◌, ℕ, List, [], ◌∷◌, ◌++◌, Bool, true, false, Option, Some, None, refl, ap, arith}
+use Rattle.std.specs.Prelude.{codes, slice_get, IsSome, bytes_eq}
 use Rattle.std.specs.Fmt.{digits}
 use Rattle.std.specs.List.{AllByRecursion}
 use Rattle.mp_io.specs.Devices.{Text}
@@ -157,18 +157,19 @@ pub pair-version : IsProgramFaultOf sig (pair_text (codes "3")) WrongVersion
 unfolding digits
 pair-version = version
     (record {
-      format = 3;
+      number = codes "3";
       rest = pair_lines;
       first = refl;
-      not_one = λ e. let wrong : 3 ≡ 1 = e in omega (arith, wrong);
-      not_two = λ e. let wrong : 3 ≡ 2 = e in omega (arith, wrong);
+      numeral = refl;
+      not_one = λ e. let wrong : false ≡ true = ap (λ w. bytes_eq w (codes "1")) e in cc;
+      not_two = λ e. let wrong : false ≡ true = ap (λ w. bytes_eq w (codes "2")) e in cc;
     })
     refl
 
 -- no bytes: the first line is missing
 pub empty-fault : IsProgramFaultOf sig [] (BadLine 1)
 empty-fault = line 1
-    (λ v. let wrong : [] ≡ (codes "matchpy program " ++ decimal v.format) ∷ v.rest = v.first in cc)
+    (λ v. let wrong : [] ≡ (codes "matchpy program " ++ v.number) ∷ v.rest = v.first in cc)
     (record {
       before = 0;
       number = refl;

@@ -59,6 +59,7 @@ lines_of-ended (b ∷ u) rest =
 abbrev pub Ended : Text → Type 0
 Ended t = (u : Text) × (t ≡ u ++ 10 ∷ [])
 
+-- a text that ends so does with more in front
 pub Ended-append : (s t : Text) → Ended t → Ended (s ++ t)
 Ended-append s t h = (s ++ h.0, ap (λ l. s ++ l) h.1 ∙ sym (append_assoc s h.0 (10 ∷ [])))
 

@@ -29,10 +29,12 @@ use Rattle.mp_program.proofs.PrintedLines.{op-ended}
 
 -- ---- empty lists
 
+-- of two lists that are none together the first is none
 pub nil-left : {X : Type 0} (xs ys : List X) → xs ++ ys ≡ [] → xs ≡ []
 nil-left [] ys e = refl
 nil-left (x ∷ xs) ys e = cc
 
+-- and the second
 pub nil-right : {X : Type 0} (xs ys : List X) → xs ++ ys ≡ [] → ys ≡ []
 nil-right [] ys e = e
 nil-right (x ∷ xs) ys e = cc
@@ -96,7 +98,7 @@ tests-again sig f h =
 -- ---- instructions
 
 -- where the first instruction is led to, `begin` leads to it
-begin-again : (begin : Option ℕ) (code : List Instr) (sig : Sig) (most : ℕ) (tests : List Cond)
+pub begin-again : (begin : Option ℕ) (code : List Instr) (sig : Sig) (most : ℕ) (tests : List Cond)
     (rules : List ProgramRule) (stop line : ℕ) → IsSome begin ↔ (code ≢ [])
     → code_faults sig most tests rules stop line 1 (lead [] begin) code ≡ [] → first_target code ≡ begin
 begin-again None [] sig most tests rules stop line h e = refl

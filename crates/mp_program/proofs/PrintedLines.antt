@@ -19,6 +19,7 @@ use Rattle.mp_program.proofs.LineLaws.{Ended, Ended-append, lines_text-append, l
 
 -- ---- declarations
 
+-- the declaration of an operation ends with a line feed
 pub op-ended : (d : OpDecl) → Ended (op_text d)
 op-ended d =
     Ended-append (codes "op ") _ (Ended-append d.name _ (Ended-append (codes " ") _ (Ended-append (decimal d.least) _
@@ -27,6 +28,7 @@ op-ended d =
     (Ended-append (text_if (is_some d.sign) (codes " infix ")) _ (Ended-append (unwrap_or d.sign []) _
     (59 ∷ [], refl))))))))))
 
+-- so does that of a kind
 pub kind-ended : (k : Kind) → Ended (kind_text k)
 kind-ended k = Ended-append (head_text (codes "kind") k.name) _ (Ended-append (separated (codes " ") k.members) _
     (59 ∷ [], refl))
@@ -103,6 +105,7 @@ pub first_target-none : {X : Type 0} (f : X → Instr) (xs : List X) → length 
 first_target-none f [] e = refl
 first_target-none f (x ∷ xs) e = absurd (omega arith)
 
+-- where there are instructions the first has the number 1
 pub first_target-some : {X : Type 0} (f : X → Instr) (xs : List X) → nat_eq (length xs) 0 ≡ false
     → Some 1 ≡ first_target (map f xs)
 first_target-some f [] h = (let wrong : true ≡ false = h in cc)
@@ -122,22 +125,28 @@ lines_text-maps g f [] = refl
 lines_text-maps g f (x ∷ xs) = ap (λ t. (f (g x) ++ 10 ∷ []) ++ t) (lines_text-maps g f xs)
 
 module _ (sig : Sig) (p : Program) where
+  -- the lines of operations
   abbrev op_lines : List Text
   op_lines = lines_of (flat_map op_text sig.ops)
 
+  -- the lines of kinds
   abbrev kind_lines : List Text
   kind_lines = lines_of (flat_map kind_text sig.kinds)
 
+  -- the text of the tests
   abbrev tests_text : Text
   tests_text = flat_map (λ t. test_line sig t ++ codes "\n") p.tests
 
+  -- the text of the rules
   abbrev rules_text : Text
   rules_text = flat_map (λ r. rule_line sig (line_of_rule r) ++ codes "\n") p.rules
 
+  -- the lines from `code` on
   abbrev lines_from_code : List Text
   lines_from_code = codes "code" ∷ (codes "0 begin down " ++ target_text (first_target p.code))
       ∷ code_lines sig 1 p.code
 
+  -- the lines from the first rule on
   abbrev lines_from_rules : List Text
   lines_from_rules = map (rule_line sig) (map line_of_rule p.rules) ++ lines_from_code
 
@@ -150,6 +159,7 @@ module _ (sig : Sig) (p : Program) where
   lines_from_code-text = ap (λ t. codes "code\n0 begin down " ++ t)
       (append_assoc (target_text (first_target p.code)) (codes "\n") (lines_text (code_lines sig 1 p.code)))
 
+  -- the printed text of a program is these parts one after the other
   pub program_text-parts : program_text sig p
       ≡ codes "matchpy program 2\n" ++ (signature_text sig ++ (tests_text ++ (rules_text ++ code_text)))
   unfolding digits

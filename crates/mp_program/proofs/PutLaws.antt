@@ -1,36 +1,13 @@
 -- What a loop puts that gets its items by their index.
-use Rattle.std.proofs.Common.{◌≡◌, ℕ, zero, suc, ◌+◌, List, [], ◌∷◌, ◌++◌, take, refl, sym, ap, subst, ◌∙◌}
-use Rattle.std.proofs.Common.{add-one, append-nil, append_assoc, map, length, get_or, ◌<◌}
+use Rattle.std.proofs.Common.{◌≡◌, ℕ, ◌+◌, List, [], ◌∷◌, ◌++◌, take, sym, ap, subst, ◌∙◌}
+use Rattle.std.proofs.Common.{append-nil, append_assoc, map, length, get_or, ◌<◌}
 use Rattle.std.proofs.lemmas.List.{take_more}
-use Rattle.std.specs.Prelude.{slice_get}
 use Rattle.std.specs.List.{flat_map}
-use Rattle.std.specs.Option.{option_map_or}
 use Rattle.mp_io.specs.Devices.{Text}
 use Rattle.mp_io.specs.Writing.{Puts}
 use Rattle.mp_io.specs.declared.devices.Sink.{Ghosts as SinkWords}
 use Rattle.mp_io.specs.declared.writer.Writer.{Writer}
 use Rattle.mp_io.proofs.WritingLaws.{Puts-then}
-
--- the texts before the next index end with the text of the item that is got there, where there is one
-flat_map-take : {X : Type 0} (f : X → Text) (xs : List X) (i : ℕ)
-    → flat_map f (take (i + 1) xs) ≡ flat_map f (take i xs) ++ option_map_or f (slice_get xs i) []
-flat_map-take {X = X} f xs i = ap (λ k. flat_map f (take k xs)) (add-one i) ∙ go xs i
-  where
-    go : (xs : List X) (i : ℕ) → flat_map f (take (suc i) xs)
-        ≡ flat_map f (take i xs) ++ option_map_or f (slice_get xs i) []
-    go [] zero = refl
-    go [] (suc i) = refl
-    go (x ∷ xs) zero = append-nil (f x)
-    go (x ∷ xs) (suc i) = ap (λ l. f x ++ l) (go xs i)
-        ∙ sym (append_assoc (f x) (flat_map f (take i xs)) (option_map_or f (slice_get xs i) []))
-
--- the items before an index are put, and then the item that is got there
-pub Puts-got : {K X : Type 0} (words : SinkWords K) (f : X → Text) (xs : List X) (i : ℕ) (t u w : Writer K)
-    → Puts words t u (flat_map f (take i xs)) → Puts words u w (option_map_or f (slice_get xs i) [])
-    → Puts words t w (flat_map f (take (i + 1) xs))
-Puts-got words f xs i t u w before item =
-    subst (Puts words t w) (sym (flat_map-take f xs i))
-    (Puts-then words t u w (flat_map f (take i xs)) (option_map_or f (slice_get xs i) []) before item)
 
 -- the texts of what items are read as, and one more
 flat_map-push : {X Y : Type 0} (g : X → Y) (f : Y → Text) (xs : List X) (x : X)

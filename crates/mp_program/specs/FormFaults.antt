@@ -109,13 +109,15 @@ abbrev pub most_nodes : Format → ℕ
 most_nodes One = 64
 most_nodes Two = MAX_PATTERN_NODES
 
--- the numbers of the first test line, of the first rule line and of the line of `begin`
+-- the number of the first test line, or of the line where it would stand
 abbrev pub first_test_line : Form → ℕ
 first_test_line f = 2 + length (f.ops ++ f.kinds)
 
+-- so of the first rule line
 abbrev pub first_rule_line : Form → ℕ
 first_rule_line f = first_test_line f + length f.tests
 
+-- the number of the line of `begin`
 abbrev pub line_of_begin : Form → ℕ
 line_of_begin f = first_rule_line f + length f.rules + 1
 
@@ -128,9 +130,11 @@ module _ (sig : Sig) (f : Form) where
   abbrev pub faults_of_declarations : List ProgramError
   faults_of_declarations = declaration_faults 2 (lines_of (signature_text sig)) (f.ops ++ f.kinds)
 
+  -- tests of which an earlier one is equal
   abbrev pub faults_of_tests : List ProgramError
   faults_of_tests = faults_along (test_faults sig) [] (first_test_line f) f.tests
 
+  -- rules with the name of an earlier one, or with bad variables or a bad test
   abbrev pub faults_of_rules : List ProgramError
   faults_of_rules = faults_along (rule_faults (length f.tests)) [] (first_rule_line f) f.rules
 

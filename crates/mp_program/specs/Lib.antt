@@ -3,6 +3,7 @@ pub mod ProgramCode
 pub mod ProgramView
 pub mod Form
 pub mod FormText
+pub mod RuleView
 pub mod TokenPaths
 pub mod RightForm
 pub mod Leads

@@ -19,6 +19,7 @@ module _ (xs : List Text) where
   renamed_operand (var x) = var (numbered (number_in xs x))
   renamed_operand (ground t) = ground t
 
+  -- the amount, where that of its operand is called so
   abbrev pub renamed_amount : Amount → Amount
   renamed_amount (fixed n) = fixed n
   renamed_amount (count a) = count (renamed_operand a)
@@ -37,6 +38,7 @@ module _ (xs : List Text) where
     renamed_cond (all_of cs) = all_of (renamed_conds cs)
     renamed_cond (any_of cs) = any_of (renamed_conds cs)
 
+    -- so of each condition
     pub renamed_conds : Conds → Conds
     renamed_conds no_conds = no_conds
     renamed_conds (more_conds c cs) = more_conds (renamed_cond c) (renamed_conds cs)

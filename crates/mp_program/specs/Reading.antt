@@ -1,6 +1,8 @@
 -- Which bytes are which program, and which fault others have.
-use Rattle.std.specs.Prelude.{◌≡◌, ◌≢◌, ◌≤◌, ◌<◌, ℕ, suc, List, [], ◌∷◌, ◌++◌, length, take, Option, Some, None, codes}
-use Rattle.std.specs.Prelude.{decimal}
+use Rattle.std.specs.Prelude.{◌≡◌, ◌≢◌, ◌≤◌, ◌<◌, ℕ, suc, Bool, true, false, ◌&&◌, ◌||◌, not, List, [], ◌∷◌, ◌++◌}
+use Rattle.std.specs.Prelude.{length, take, Option, Some, None, nat_eq, codes}
+use Rattle.std.specs.Char.{is_ascii_digit}
+use Rattle.std.specs.List.{list_all}
 use Rattle.mp_io.specs.Devices.{Text}
 use Rattle.mp_term.specs.Signature.{Sig}
 use Rattle.mp_program.specs.declared.fault.ProgramError.{ProgramError}
@@ -37,13 +39,19 @@ pub record IsBadLine (sig : Sig) (bytes : Text) (n : ℕ) : Type 0 where
   pub stops : before < length (lines_of bytes) → Begins sig (take (suc before) (lines_of bytes)) → ⊥
   pub formless : (f : Form) → IsFormOf sig bytes f → ⊥
 
+-- the word is a number in decimal, however great: digits, of which the first is 0 in `0` alone
+abbrev pub is_numeral : Text → Bool
+is_numeral [] = false
+is_numeral (c ∷ cs) = list_all is_ascii_digit (c ∷ cs) && (not (nat_eq c 48) || nat_eq (length cs) 0)
+
 -- the first line names another format than 1 and 2
 pub record IsOtherVersion (bytes : Text) : Type 0 where
-  pub format : ℕ
+  pub number : Text
   pub rest : List Text
-  pub first : lines_of bytes ≡ (codes "matchpy program " ++ decimal format) ∷ rest
-  pub not_one : format ≢ 1
-  pub not_two : format ≢ 2
+  pub first : lines_of bytes ≡ (codes "matchpy program " ++ number) ∷ rest
+  pub numeral : is_numeral number ≡ true
+  pub not_one : number ≢ codes "1"
+  pub not_two : number ≢ codes "2"
 
 -- ---- programs and faults
 

@@ -65,6 +65,7 @@ abbrev pub IsWildcardOf : Format → Wildcard → Type 0
 IsWildcardOf One (counted n fixed) = ⊥
 IsWildcardOf _ _ = ⊤
 
+-- the pattern is an application of f
 abbrev pub is_headed : ℕ → Pattern → Bool
 is_headed f (app_pattern g ps) = nat_eq f g
 is_headed f _ = false

@@ -114,6 +114,7 @@ abbrev mutual
   less_names (any_of cs) = all_less_names cs
   less_names _ = []
 
+  -- so in each condition
   pub all_less_names : Conds → List Text
   all_less_names no_conds = []
   all_less_names (more_conds c cs) = less_names c ++ all_less_names cs

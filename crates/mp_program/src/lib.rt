@@ -5,11 +5,19 @@
 mod fault;
 mod format;
 mod laws;
+mod numbered;
 mod printer;
 mod program;
+mod renamed;
+mod rule_line;
+mod text_sink;
 
 pub use fault::ProgramError;
 pub use format::Format;
 pub use laws::a_program_has_one_spelling;
+pub use numbered::rules_of;
 pub use printer::{put_program, write_program};
 pub use program::{Program, ProgramRule, ProgramRules};
+pub use renamed::{numbered_name, renamed_cond};
+pub use rule_line::{RuleLine, RuleTest};
+pub use text_sink::TextSink;

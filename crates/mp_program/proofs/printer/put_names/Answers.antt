@@ -1,7 +1,7 @@
 use Rattle.std.proofs.Common.{◌++◌}
 use Rattle.std.specs.Prelude.{codes}
 use Rattle.mp_io.specs.Devices.{Text}
-use Rattle.mp_program.proofs.PutLaws.{Puts-got}
+use Rattle.mp_print.proofs.Parts.{Puts-got}
 use Rattle.mp_program.proofs.printer.put_names.Goals as goal
 
 pub loop-index-preserved : goal.loop-index-preserved
