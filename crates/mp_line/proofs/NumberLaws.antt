@@ -1,0 +1,148 @@
+-- Numbers in decimal: what they write, and that no two have one text.
+use Rattle.std.proofs.Common.{◌≡◌, ◌≢◌, ◌<◌, ◌≤◌, ◌+◌, ◌-◌, ◌*◌, ◌/◌, ◌%◌, ◌^◌, ℕ, Bool, true, false, List, [], ◌∷◌}
+use Rattle.std.proofs.Common.{◌++◌, Option, Some, None, min, inl, inr, refl, sym, ap, ◌∙◌, arith, rules}
+use Rattle.std.specs.Prelude.{nat_eq, decimal, codes, ◌||◌, ◌&&◌, bytes_eq}
+use Rattle.std.specs.Char.{is_ascii_digit}
+use Rattle.std.specs.List.{list_any, list_all}
+use Rattle.std.proofs.lemmas.Bool.{eqb-true, cases_lt}
+use Rattle.std.proofs.lemmas.Fmt.{decimal_by_steps}
+use Rattle.std.proofs.lemmas.List.Folds.{list_all-append}
+use Rattle.std.proofs.lemmas.Slice.Eq.{bytes_eq-Decides}
+use Rattle.mp_io.specs.Devices.{Text}
+use Rattle.mp_build.specs.Names.{number_after, number_of}
+use Rattle.mp_program.specs.RightForm.{IsShort}
+use Rattle.mp_line.specs.Finds.{IsOnly}
+use Rattle.mp_line.specs.LineTexts.{IsNumberText, IsTargetText}
+use Rattle.mp_line.specs.Words.{IsWithout}
+
+-- ---- numbers that are cut at a bound
+
+-- further digits make a number no smaller
+number_after-grows : (n : ℕ) (digits : List ℕ) → n ≤ number_after n digits
+number_after-grows n [] = omega arith
+number_after-grows n (d ∷ ds) = let h = number_after-grows (10 * n + (d - 48)) ds in omega arith
+
+-- a bound that a number has passed stays passed
+number_after-cut : (bound n : ℕ) (digits : List ℕ)
+    → min (number_after (min n bound) digits) bound ≡ min (number_after n digits) bound
+number_after-cut bound n digits =
+    elim (cases_lt bound n) [
+      | inl h ↦ omega (arith, number_after-grows (min n bound) digits, number_after-grows n digits)
+      | inr h ↦ (let e : min n bound ≡ n = omega arith in ap (λ m. min (number_after m digits) bound) e)
+    ]
+
+-- one digit more of a number that is cut at a bound
+pub number_after-next : (bound n digit : ℕ) (digits rest all : List ℕ) → digits ≡ digit ∷ rest
+    → min (number_after n digits) bound ≡ min (number_after 0 all) bound
+    → min (number_after (min (10 * n + (digit - 48)) bound) rest) bound ≡ min (number_after 0 all) bound
+number_after-next bound n digit digits rest all e h =
+    rw (number_after-cut bound (10 * n + (digit - 48)) rest) (rw e at h)
+
+-- ---- the text of a number
+
+-- the text of a number
+pub record IsDecimal (n : ℕ) (digits : Text) : Type 0 where
+  pub value : number_of digits ≡ n
+  pub are_digits : list_all is_ascii_digit digits ≡ true
+  pub some : digits ≢ []
+
+-- digits in two parts
+number_after-append : (n : ℕ) (front back : Text)
+    → number_after n (front ++ back) ≡ number_after (number_after n front) back
+number_after-append n [] back = refl
+number_after-append n (d ∷ ds) back = number_after-append (10 * n + (d - 48)) ds back
+
+-- the decimal text of a number
+pub decimal-text : (n : ℕ) → n < 2 ^ 64 → IsDecimal n (decimal n)
+decimal-text = decimal_by_steps IsDecimal one more
+  where
+    digit : (n : ℕ) → n < 10 → is_ascii_digit (48 + n) ≡ true
+    digit n small = search (rules, small)
+
+    one : (n : ℕ) → n < 10 → IsDecimal n ((48 + n) ∷ [])
+    one n small = record { value = omega arith; are_digits = rw (digit n small) refl; some = λ e. absurd cc }
+
+    more : (n : ℕ) (ds : Text) → 10 ≤ n → IsDecimal (n / 10) ds → IsDecimal n (ds ++ ((48 + n % 10) ∷ []))
+    more n ds large w =
+        let small : n % 10 < 10 = omega arith in
+        let front = w.value in
+        let last : 10 * number_of ds + ((48 + n % 10) - 48) ≡ n = omega arith in
+        record {
+          value = number_after-append 0 ds ((48 + n % 10) ∷ []) ∙ last;
+          are_digits = list_all-append is_ascii_digit ds ((48 + n % 10) ∷ [])
+              ∙ rw (w.are_digits, digit (n % 10) small) refl;
+          some = λ e. absurd (filled ds (48 + n % 10) e);
+        }
+      where
+        filled : (ds : Text) (d : ℕ) → ds ++ d ∷ [] ≡ [] → ⊥
+        filled [] d e = cc
+        filled (c ∷ ds) d e = cc
+
+-- a byte that is no digit isn't among digits
+pub without-digits : (b : ℕ) (ds : Text) → is_ascii_digit b ≡ false → list_all is_ascii_digit ds ≡ true → IsWithout b ds
+without-digits b [] other h = refl
+without-digits b (d ∷ ds) other h = go (is_ascii_digit d) refl h (λ rest. without-digits b ds other rest)
+  where
+    differ : (v : Bool) → nat_eq d b ≡ v → is_ascii_digit d ≡ true → IsWithout b ds
+        → (v || list_any (λ c. nat_eq c b) ds) ≡ false
+    differ false e is rest = rest
+    differ true e is rest =
+        (let same = eqb-true d b e in let wrong : true ≡ false = sym is ∙ ap is_ascii_digit same ∙ other in cc)
+
+    go : (v : Bool) → is_ascii_digit d ≡ v → (v && list_all is_ascii_digit ds) ≡ true
+        → (list_all is_ascii_digit ds ≡ true → IsWithout b ds) → IsWithout b (d ∷ ds)
+    go false is h behind = (let wrong : false ≡ true = h in cc)
+    go true is h behind = differ (nat_eq d b) refl is (behind h)
+
+-- nor is it in a number
+pub without-decimal : (b n : ℕ) → is_ascii_digit b ≡ false → n < 2 ^ 64 → IsWithout b (decimal n)
+without-decimal b n other small = without-digits b (decimal n) other (decimal-text n small).are_digits
+
+-- a number of 32 bits has no blank
+pub bare-decimal : (n : ℕ) → IsShort n → IsWithout 32 (decimal n)
+bare-decimal n h = (let short : n < 2 ^ 32 = h in without-decimal 32 n refl (omega arith))
+
+-- the number that a text writes
+pub number-written : (word : Text) (n : ℕ) → IsNumberText word n → number_of word ≡ n
+number-written word n h = ap number_of (sym h.text) ∙ (decimal-text n
+    (let small : n < 2 ^ 32 = h.short in omega arith)).value
+
+-- ---- what is found
+
+-- a text that writes too great a number is none of a short one
+pub no-number : (word : Text) (value : ℕ) → value ≡ min (number_of word) (2 ^ 32) → 2 ^ 32 ≤ value
+    → (n : ℕ) → IsNumberText word n → ⊥
+no-number word value is great n h =
+    let small : n < 2 ^ 32 = h.short in
+    let same = number-written word n h in
+    omega arith
+
+-- a short number is found where the text is its own
+pub is-number : (word : Text) (n : ℕ) → n ≡ min (number_of word) (2 ^ 32) → n < 2 ^ 32 → bytes_eq (decimal n) word
+    ≡ true
+    → IsOnly (IsNumberText word) n
+is-number word n is small test = record {
+  is = record { short = small; text = (bytes_eq-Decides (decimal n) word).0 test };
+  only = λ m h. (let short : m < 2 ^ 32 = h.short in let same = number-written word m h in omega arith);
+}
+
+-- and else none is
+pub not-number : (word : Text) (n : ℕ) → n ≡ min (number_of word) (2 ^ 32) → n < 2 ^ 32
+    → bytes_eq (decimal n) word ≡ false → (m : ℕ) → IsNumberText word m → ⊥
+not-number word n is small test m h =
+    let short : m < 2 ^ 32 = h.short in
+    let written = number-written word m h in
+    let same : m ≡ n = omega arith in
+    let here = (bytes_eq-Decides (decimal n) word).1 (ap decimal (sym same) ∙ h.text) in
+    let wrong : true ≡ false = sym here ∙ test in cc
+
+-- `-` is the text of no number
+pub dash-only : (word : Text) → word ≡ codes "-" → IsOnly (IsTargetText word) None
+dash-only word is = record { is = record { short = tt; text = sym is }; only = go }
+  where
+    go : (x : Option ℕ) → IsTargetText word x → x ≡ None
+    go None v = refl
+    go (Some m) v =
+        let small : m < 2 ^ 32 = v.short in
+        let digits = (decimal-text m (omega arith)).are_digits in
+        let wrong : false ≡ true = ap (list_all is_ascii_digit) (sym (v.text ∙ is)) ∙ digits in cc

@@ -1,0 +1,23 @@
+use Rattle.std.proofs.lemmas.Bool.{MatchBool-at_true, MatchBool-at_false}
+use Rattle.std.specs.Prelude.{None}
+use Rattle.mp_pattern.specs.CondView.{cond_tree}
+use Rattle.mp_print.specs.PrintedCond.{cond_text}
+use Rattle.mp_build.specs.AloneCondition.{IsCondOf}
+use Rattle.mp_line.proofs.ExactLaws.{exact-only, exact-none}
+use Rattle.mp_line.proofs.exact.exact_cond.Goals as goal
+
+pub returns-then-is_same : goal.returns-then-is_same
+returns-then-is_same c =
+    let sig = c.args.sig.now in
+    exact-only (IsCondOf sig None) (cond_text sig) c.args.text.now
+    (cond_tree c.in-Ok.cond) c.in-Ok.ensures.only c.in-Ok.ensures.found
+    (MatchBool-at_true _ _ c.if-is_same.true c.in_ok-is_same-in-Ok.ensures)
+
+pub returns-else-is_same : goal.returns-else-is_same
+returns-else-is_same c =
+    let sig = c.args.sig.now in
+    exact-none (IsCondOf sig None) (cond_text sig) c.args.text.now (cond_tree c.in-Ok.cond) c.in-Ok.ensures.only
+    (MatchBool-at_false _ _ c.if-is_same.false c.in_ok-is_same-in-Ok.ensures)
+
+pub returns-in-Err-Text : goal.returns-in-Err-Text
+returns-in-Err-Text c = λ a h. (rw c.in-Err-Text.field-0-is at c.in-Err-Text.ensures.only a h.read)
