@@ -1,0 +1,108 @@
+//! The match program of rules.
+
+ghost use Rattle.std.specs.Prelude.{◌≡◌, ◌++◌, suc, length, map, slice_get, option_map, option_to_list, IfOk, OnOk};
+ghost use Rattle.std.specs.List.{AllByRecursion};
+ghost use Rattle.mp_pattern.specs.CondView.{cond_tree};
+ghost use Rattle.mp_pattern.specs.Planned.{planned_rule, IsPlanned, rule_plan};
+ghost use Rattle.mp_many.specs.Prefixes.{prefixes};
+ghost use Rattle.mp_program.specs.FormText.{program_text};
+ghost use Rattle.mp_program.specs.Reading.{IsProgramOf, IsValid};
+ghost use Rattle.mp_program.specs.RightForm.{IsShort};
+ghost use Rattle.mp_program.specs.ProgramView.{program_view};
+ghost use Rattle.mp_program.specs.RuleView.{rule_test, rule_line_view};
+ghost use Rattle.mp_gen.specs.Generated.{spelled_condition, spelled_rule, generated};
+ghost use Rattle.mp_gen.specs.Printable.{ArePrintable};
+
+use crate::laws::a_generated_program_is_valid;
+use mp_many::{Many, the_tree_is_of_the_prefixes};
+use mp_pattern::{Cond, Plan, PlannedRule, copy_cond, plan_rules};
+use mp_program::{Program, RuleLine, RuleTest, rules_of};
+use mp_term::{Memory, Names, Signature};
+use std::alloc::Global;
+
+// Adds the name of the variable of the number, where there is one.
+fn push_name(alloc: Global, plan: &Plan, variable: u32, names: &mut Names) -> Result<(), Memory>
+    ensures { OnOk result (names.new
+        ≡ names.old ++ option_to_list (option_map (λ v. v.name) (slice_get plan.now.variables variable))) }
+{
+    if let Some(name) = plan.var_name(variable) {
+        names.push(name.copy(alloc)?)?;
+    }
+    Ok(())
+}
+
+// The names of the variables of the plan, in order.
+fn names_of(alloc: Global, plan: &Plan) -> Result<Names, Memory>
+    ensures { IfOk result (λ ns. ns ≡ map (λ v. v.name) plan.now.variables) }
+{
+    let mut names = Names::new(alloc);
+    for variable in 0..plan.vars() {
+        push_name(alloc, plan, variable, &mut names)?;
+    }
+    Ok(names)
+}
+
+// What the line of a rule with the condition says of it.
+fn spelled(alloc: Global, condition: &Option<Cond>) -> Result<RuleTest, Memory>
+    ensures { IfOk result (λ t. rule_test t ≡ spelled_condition (option_map cond_tree condition.now)) }
+{
+    match condition {
+        None => Ok(RuleTest::Untested),
+        Some(cond) => Ok(RuleTest::Spelled(copy_cond(alloc, cond)?)),
+    }
+}
+
+// The line of the rule.
+fn line_of(alloc: Global, sig: &Signature, planned: &PlannedRule<'_>) -> Result<RuleLine, Memory>
+    requires { IsPlanned sig.now (rule_plan planned.now) }
+    ensures { IfOk result (λ l. rule_line_view l ≡ spelled_rule (planned_rule planned.now)) }
+{
+    let name = planned.rule.name.copy(alloc)?;
+    let vars = names_of(alloc, &planned.plan)?;
+    let test = spelled(alloc, &planned.rule.condition)?;
+    Ok(RuleLine { name, vars, test })
+}
+
+// The lines of the rules.
+fn lines_of(
+    alloc: Global,
+    sig: &Signature,
+    rules: &[PlannedRule<'_>],
+) -> Result<Vec<RuleLine>, Memory>
+    requires { AllByRecursion (IsPlanned sig.now) (map rule_plan rules.now) }
+    ensures { IfOk result (λ ls. map rule_line_view ls.items ≡ map spelled_rule (map planned_rule rules.now)) }
+{
+    let mut lines = Vec::new(alloc);
+    for rule in rules {
+        lines.push(line_of(alloc, sig, rule)?)?;
+    }
+    Ok(lines)
+}
+
+/// The program of the rules (`generated` of `specs/Generated.antt`): the rules in order, each distinct condition once,
+/// as a test on numbered variables, and an instruction for each prefix of the rules' token lists, as many as `many` has
+/// states. `Memory` comes where there is no room for it, or where a `u32` can't number its instructions with `begin`
+/// and `stop`. Of rules that can be printed (`ArePrintable` of `specs/Printable.antt`) it is valid, and its printed
+/// text is read as it.
+pub fn generate(alloc: Global, many: &Many<'_>) -> Result<Program, Memory>
+    ensures program { IfOk result (λ p. program_view p ≡ generated many.now.sig many.now.rules) }
+    ensures short { IfOk result (λ p. IsShort (suc (length p.code))) }
+    ensures instrs { IfOk result (λ p. length p.code ≡ length (prefixes many.now.sig many.now.rules)) }
+    ensures again { IfOk result (λ p. ArePrintable many.now.sig many.now.rules
+        → IsProgramOf many.now.sig (program_text many.now.sig (program_view p)) (program_view p)) }
+    ensures valid { IfOk result (λ p. ArePrintable many.now.sig many.now.rules
+        → IsValid many.now.sig (program_view p)) }
+{
+    let tree = many.code();
+    if tree.len() >= u32::MAX as usize {
+        return Err(Memory);
+    }
+    let sig = many.sig();
+    let planned = plan_rules(alloc, sig, many.rules().as_slice())?;
+    let lines = lines_of(alloc, sig, &planned)?;
+    let (rules, tests) = rules_of(alloc, sig, lines)?;
+    let code = tree.instrs().copy(alloc)?;
+    the_tree_is_of_the_prefixes();
+    a_generated_program_is_valid();
+    Ok(Program { rules, tests, code })
+}
