@@ -1,0 +1,141 @@
+-- The terms that a program's instructions bring to a table, and the table of a subject with them.
+use Rattle.std.proofs.Common.{◌≡◌, ◌≤◌, ℕ, zero, suc, List, [], ◌∷◌, refl, ap, sym, subst, inl, inr}
+use Rattle.std.specs.Prelude.{Contains, Some, IsSome, IfOk, Result, Ok, Err, slice_get}
+use Rattle.std.specs.List.{AllByRecursion}
+use Rattle.std.proofs.lemmas.Option.{get_or_from_slice_get}
+use Rattle.mp_term.specs.Listing.{In, IsListing}
+use Rattle.mp_term.specs.Normal.{IsNormal}
+use Rattle.mp_term.specs.Order.{tree_cmp}
+use Rattle.mp_term.specs.Signature.{Sig}
+use Rattle.mp_term.specs.Size.{all_nodes, node_count}
+use Rattle.mp_term.specs.Tree.{Tree, symbol}
+use Rattle.mp_term.proofs.ListLaws.{all-also, all-append, all-flat_map}
+use Rattle.mp_term.proofs.ListingLaws.{all_in, contains-from_in, in-from_contains}
+use Rattle.mp_term.proofs.SearchLaws.{all-from_in}
+use Rattle.mp_pattern.specs.Constants.{default_of, pattern_constants, all_pattern_constants}
+use Rattle.mp_pattern.specs.EachWildcard.{AllEachWildcard}
+use Rattle.mp_pattern.specs.declared.limits.TheConstants.{MAX_TERM_NODES}
+use Rattle.mp_pattern.specs.NetTokens.{NetToken, sym_token, enter_token, leave_token, wild_token, comm_token}
+use Rattle.mp_pattern.specs.PatternTree.{Wildcard, dot, kind, plus, star, optional, counted}
+use Rattle.mp_pattern.specs.PatternTree.{Pattern, symbol_pattern, app_pattern, wild_pattern}
+use Rattle.mp_pattern.specs.PatternTree.{Patterns, no_patterns, more_patterns}
+use Rattle.mp_pattern.specs.Sound.{DefaultIsNormal, DefaultsAreNormal}
+use Rattle.mp_table.specs.declared.limits.TheConstants.{MAX_CONSTANT_NODES}
+use Rattle.mp_table.specs.Subterms.{IsSubtermOf}
+use Rattle.mp_table.specs.Table.{IsTableOf, Table, rank_of}
+use Rattle.mp_table.proofs.RankLaws.{rank_of-slice_get}
+use Rattle.mp_walk.specs.CodeConstants.{code_constants, token_constants}
+use Rattle.mp_walk.specs.Instrs.{Instr}
+use Rattle.mp_walk.specs.SoundTokens.{IsSoundToken}
+use Rattle.mp_walk.specs.Walkable.{IsWalkable}
+use Rattle.mp_walk.specs.WalkView.{subject_of}
+use Rattle.mp_walk.proofs.CodeLaws.{tokens-sound}
+use Rattle.mp_program.specs.Program.{Program}
+use Rattle.mp_vm.specs.ProgramList.{IsProgramTable}
+use Rattle.mp_vm.specs.RunnerView.{AreCodeConstants}
+
+-- ---- the constants are normal
+
+module _ (sig : Sig) where
+  default-normal : (w : Wildcard) → DefaultIsNormal sig w → AllByRecursion (IsNormal sig) (default_of w)
+  default-normal dot h = tt
+  default-normal (kind k) h = tt
+  default-normal plus h = tt
+  default-normal star h = tt
+  default-normal (optional t) h = (h, tt)
+  default-normal (counted n fixed) h = tt
+
+  mutual
+    pattern-normal : (p : Pattern) → DefaultsAreNormal sig p → AllByRecursion (IsNormal sig) (pattern_constants p)
+    pattern-normal (symbol_pattern n) h = (refl, tt)
+    pattern-normal (app_pattern f ps) h = patterns-normal ps h
+    pattern-normal (wild_pattern w x) h = default-normal w h
+
+    patterns-normal : (ps : Patterns) → AllEachWildcard (DefaultIsNormal sig) ps
+        → AllByRecursion (IsNormal sig) (all_pattern_constants ps)
+    patterns-normal no_patterns h = tt
+    patterns-normal (more_patterns p ps) h = all-append (IsNormal sig) (pattern_constants p)
+        (all_pattern_constants ps) (pattern-normal p h.0) (patterns-normal ps h.1)
+
+  token-normal : (k : NetToken) → IsSoundToken sig k → AllByRecursion (IsNormal sig) (token_constants k)
+  token-normal (sym_token n) h = tt
+  token-normal (enter_token f) h = tt
+  token-normal (leave_token f) h = tt
+  token-normal (wild_token w x) h = default-normal w h.0
+  token-normal (comm_token p) h = pattern-normal p h.defaults
+
+  -- a list of exactly the constants of instructions that may be walked will do for a table, where it has few nodes
+  pub code_constants-listed : (code : List Instr) (ts : List Tree) → IsWalkable sig code
+      → IsListing tree_cmp (Contains (code_constants code)) ts → all_nodes ts ≤ MAX_CONSTANT_NODES
+      → AreCodeConstants sig code ts
+  code_constants-listed code ts walkable listed few =
+      let all = code_constants code in
+      let normal : AllByRecursion (IsNormal sig) all =
+      all-flat_map (IsNormal sig) (λ (i : Instr). IsSoundToken sig i.token) (λ i. token_constants i.token)
+      (λ i h. token-normal i.token h) code (tokens-sound sig code walkable) in
+      record {
+        normal = all-from_in (IsNormal sig) ts
+            (λ t i. all_in (IsNormal sig) all t normal
+            (in-from_contains t all ((listed.exactly t).0 (contains-from_in t ts i))));
+        few = few;
+        held = all-from_in (λ u. In u ts) all
+            (λ t i. in-from_contains t ts ((listed.exactly t).1 (contains-from_in t all i)));
+      }
+
+-- ---- the table
+
+-- the place of a member
+place-in : {X : Type 0} (x : X) (xs : List X) → In x xs → (i : ℕ) × (slice_get xs i ≡ Some x)
+place-in x [] h = absurd h
+place-in x (y ∷ xs) (inl e) = (zero, ap Some (sym e))
+place-in x (y ∷ xs) (inr i) = let r = place-in x xs i in (suc r.0, r.1)
+
+-- a term is one of its own subterms
+own-subterm : (u : Tree) (ts : List Tree) → In u ts → IsSubtermOf ts u
+own-subterm u [] h = absurd h
+own-subterm u (t ∷ ts) (inl e) = inl ([], ap Some (sym e))
+own-subterm u (t ∷ ts) (inr i) = inr (own-subterm u ts i)
+
+module _ (table : Table) (subject : Tree) (constants : List Tree) (built : IsTableOf subject constants table) where
+  -- its subject is that of its build
+  pub subject-built : subject_of table ≡ subject
+  subject-built = get_or_from_slice_get table.terms table.root subject (symbol []) built.root
+
+  -- and it holds the constants
+  held-built : (u : Tree) → In u constants → IsSome (rank_of table u)
+  held-built u i =
+      let held : In u table.terms = in-from_contains u table.terms
+      ((built.listing.exactly u).1 (inr (own-subterm u constants i))) in
+      let place = place-in u table.terms held in
+      subst IsSome (sym (rank_of-slice_get table u built.listing.ascending place.0 place.1)) refl
+
+  -- a program may be run on it, where the constants are those of the program
+  pub program_table-built : (sig : Sig) (p : Program) → AreCodeConstants sig p.code constants
+      → AllByRecursion (IsNormal sig) table.terms → node_count subject ≤ MAX_TERM_NODES → IsProgramTable sig p table
+  program_table-built sig p h normal few = record {
+    normal = normal;
+    few = subst (λ t. node_count t ≤ MAX_TERM_NODES) (sym subject-built) few;
+    constants = all-also (λ u. In u constants) (λ u. IsSome (rank_of table u)) held-built
+        (code_constants p.code) h.held;
+  }
+
+-- so it is with a table that may not be built
+module _ {E : Type 0} (r : Result Table E) (subject : Tree) (constants : List Tree)
+    (built : IfOk r (IsTableOf subject constants)) where
+  pub subjects-built : IfOk r (λ table. subject_of table ≡ subject)
+  subjects-built = by_case r built
+    where
+      by_case : (r : Result Table E) → IfOk r (IsTableOf subject constants)
+          → IfOk r (λ table. subject_of table ≡ subject)
+      by_case (Ok table) h = subject-built table subject constants h
+      by_case (Err e) h = tt
+
+  pub program_tables-built : (sig : Sig) (p : Program) → AreCodeConstants sig p.code constants
+      → IfOk r (λ table. AllByRecursion (IsNormal sig) table.terms) → node_count subject ≤ MAX_TERM_NODES
+      → IfOk r (IsProgramTable sig p)
+  program_tables-built sig p h normal few = by_case r built normal
+    where
+      by_case : (r : Result Table E) → IfOk r (IsTableOf subject constants)
+          → IfOk r (λ table. AllByRecursion (IsNormal sig) table.terms) → IfOk r (IsProgramTable sig p)
+      by_case (Ok table) k n = program_table-built table subject constants k sig p h n few
+      by_case (Err e) k n = tt

@@ -1,0 +1,17 @@
+use Rattle.std.proofs.Common.{◌≡◌, ◌++◌, drop, map, flat_map}
+use Rattle.mp_term.specs.View.{tree}
+use Rattle.mp_pattern.specs.CondTree.{conds}
+use Rattle.mp_pattern.specs.CondSize.{cond_nodes}
+use Rattle.mp_pattern.specs.CondView.{cond_tree}
+use Rattle.mp_pattern.specs.Operands.{operands, all_operands}
+use Rattle.mp_pattern.specs.Constants.{ground_term}
+use Rattle.mp_vm.proofs.constants.+push_cond.Given as goal
+
+abbrev pub decreases-push_cond : goal.decreases-push_cond
+decreases-push_cond l = cond_nodes (cond_tree l.cond.now)
+
+abbrev pub invariant-loop-part : goal.invariant-loop-part
+invariant-loop-part l =
+    map tree l.found.items
+    ++ flat_map ground_term (all_operands (conds (map cond_tree (drop l.part-index l.part-items))))
+    ≡ map tree l.fn.found.items ++ flat_map ground_term (operands (cond_tree l.cond))

@@ -1,0 +1,17 @@
+pub mod ProgramList
+pub mod Runnable
+pub mod ProgramConstants
+pub mod Machine
+pub mod FirstLine
+pub mod Kept
+pub mod DraftView
+pub mod Checked
+pub mod FormRead
+pub mod Known
+pub mod Looks
+pub mod RuleNeeds
+pub mod SettingView
+pub mod WayView
+pub mod ProgramAnswers
+pub mod Runner
+pub mod RunnerView
