@@ -4,6 +4,7 @@ use Rattle.std.proofs.Common.{ap, ap₂, subst, arith}
 use Rattle.std.specs.Prelude.{Some, None, flat_map, position, true}
 use Rattle.std.specs.List.{AllByRecursion, drop-map}
 use Rattle.std.specs.Str.{bytes_eq}
+use Rattle.std.proofs.lemmas.List.{length-map}
 use Rattle.mp_io.specs.Devices.{Text}
 use Rattle.mp_term.specs.Names.{are_distinct}
 use Rattle.mp_term.proofs.SignatureLaws.{position-map}
@@ -16,10 +17,6 @@ get_or-map : {A X : Type 0} (view : A → X) (xs : List A) (i : ℕ) (x : A)
 get_or-map view [] i x = refl
 get_or-map view (y ∷ xs) zero x = refl
 get_or-map view (y ∷ xs) (suc i) x = get_or-map view xs i x
-
-length-mapped : {A X : Type 0} (view : A → X) (xs : List A) → length (map view xs) ≡ length xs
-length-mapped view [] = refl
-length-mapped view (x ∷ xs) = let rest = length-mapped view xs in omega (arith, rest)
 
 module _ {A X : Type 0} (view : A → X) (f : X → List Match) (name : X → Text) (token word : Text) (P : X → Type 0)
     (named : (x : X) → P x → (name x ≡ word → ⊥) → behind_token token (f x) ≡ None) (xs : List A)
@@ -39,7 +36,7 @@ module _ {A X : Type 0} (view : A → X) (f : X → List Match) (name : X → Te
     pub found-within : i < length xs
     found-within =
         let p = position-some (λ x. bytes_eq (name x) word) (map view xs) i mapped in
-        omega (arith, p.0, p.1, length-mapped view xs)
+        omega (arith, p.0, p.1, length-map xs view)
 
     -- it is the one part whose matches may have the token
     pub found-some : (x : A) → x ≡ get_or xs i x → are_distinct (map name (map view xs)) ≡ true

@@ -15,6 +15,5 @@ pub mod Resumed
 pub mod Places
 pub mod FoundMatches
 pub mod AnswerLaws
-pub mod AllListedLaws
+pub mod PairsListedLaws
 pub mod PairsLaws
-pub mod Separated

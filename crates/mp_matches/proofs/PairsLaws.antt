@@ -1,40 +1,41 @@
 -- Lines of pairs are printed, and others are still to come.
-use Rattle.std.proofs.Common.{◌≡◌, ◌<◌, ◌≤◌, ◌+◌, ℕ, Bool, true, List, [], ◌∷◌, ◌++◌, length, map, drop, get_or}
-use Rattle.std.proofs.Common.{sym, ap, ap₂, ◌∙◌, subst, arith}
-use Rattle.std.proofs.Common.{append_assoc, length-append}
+use Rattle.std.proofs.Common.{◌≡◌, ◌<◌, ◌≤◌, ◌+◌, ℕ, zero, suc, Bool, true, List, [], ◌∷◌, ◌++◌, length, map, drop}
+use Rattle.std.proofs.Common.{get_or, refl, sym, ap, ap₂, ◌∙◌, subst, arith, append_assoc, append-nil, length-append}
 use Rattle.std.proofs.Math.ListN.{drop_of_length-le}
 use Rattle.std.proofs.KnownBytes.{Appends-trans}
-use Rattle.std.specs.Prelude.{Option, Result, Ok, Err, ◌||◌}
+use Rattle.std.specs.Prelude.{Option, Some, None, Result, Ok, Err, ◌||◌, slice_get}
+use Rattle.std.specs.Borrow.{Bor}
 use Rattle.std.specs.Io.KnownBytes.{Appends}
 use Rattle.mp_io.specs.Devices.{Rose, Text}
 use Rattle.mp_io.specs.Moments.{Sunk, sunk}
-use Rattle.mp_io.specs.Printing.{Prints}
+use Rattle.mp_io.specs.Printing.{AppendsFront, Prints}
 use Rattle.mp_io.specs.Writing.{HasPut, Puts}
 use Rattle.mp_io.specs.declared.devices.Sink.{Ghosts as SinkWords}
 use Rattle.mp_io.specs.declared.writer.Writer.{Writer}
 use Rattle.mp_io.proofs.WritingLaws.{Puts-then}
 use Rattle.mp_term.specs.Signature.{Sig}
-use Rattle.mp_pattern.specs.Admission.{Rule}
-use Rattle.mp_pattern.specs.Lists.{Pair, IsAllList}
+use Rattle.mp_term.specs.Tree.{Tree}
+use Rattle.mp_pattern.specs.Lists.{Pair}
 use Rattle.mp_term.proofs.ListLaws.{drop-item}
 use Rattle.mp_text.specs.declared.file.Subject as code
 use Rattle.mp_text.specs.File.{Subject, subject_tree}
-use Rattle.mp_matches.specs.AllListed.{AreSubjectLines, front_lines, more_follow, pair_line}
+use Rattle.mp_matches.specs.PairsListed.{AreSubjectLines, front_lines, more_follow, name_of, named, pair_line}
 use Rattle.mp_matches.specs.Matches.{IsJoinedBy}
-use Rattle.mp_matches.specs.Printed.{IsCutOff}
+use Rattle.mp_matches.specs.Listed.{lines}
+use Rattle.mp_matches.specs.Printed.{IsCutOff, IsWritten, Lists, has_some}
 use Rattle.mp_matches.specs.PrintedPairs.{PrintsUpTo, PutsUpTo}
+use Rattle.mp_matches.specs.declared.fault.ListFault.TheVariants as fault
 use Rattle.mp_matches.specs.declared.stop.Stop.{Stop}
 use Rattle.mp_matches.specs.declared.stop.Stop.TheVariants as stop
-use Rattle.mp_matches.proofs.AllListedLaws.{subject_lines-exact}
-use Rattle.mp_matches.proofs.PrintedLaws.{has_some-append, has_some-behind}
+use Rattle.mp_matches.proofs.PrintedLaws.{has_some-append, has_some-behind, has_some-long}
 use Rattle.mp_matches.proofs.PutLaws.{Puts-finished, PutsFront-all, PutsFront-cut_off}
 use Rattle.mp_matches.proofs.SoFar.{front-behind}
 
 -- ---- lines
 
 -- a line isn't empty
-pub length-pair_line : (sig : Sig) (rules : List Rule) (s : Subject) (p : Pair) → 0 < length (pair_line sig rules s p)
-length-pair_line sig rules s p = simp length-append (omega arith)
+pub length-pair_line : (sig : Sig) (names : List Text) (s : Subject) (p : Pair) → 0 < length (pair_line sig names s p)
+length-pair_line sig names s p = simp length-append (omega arith)
 
 -- the next line of pairs
 pub front-next : {X : Type 0} (pair : X → Pair) (line : Pair → Text) (left : Option ℕ) (xs : List X) (i : ℕ) (x : X)
@@ -131,26 +132,85 @@ module _ (whole rest next : Text) (a b c : Option Text) (m n k : ℕ) (any : Boo
         omega (arith, longer, length-append so.0 rest, h.2),
       )
 
-module _ (sig : Sig) (rules : List Rule) (subjects : List code.Subject) (i : ℕ) (s : code.Subject)
-    (within : i < length subjects) (is : s ≡ get_or subjects i s) where
+module _ (sig : Sig) (names : List Text) (finds : Tree → List Pair → Type 0) (subjects : List code.Subject) (i : ℕ)
+    (s : code.Subject) (within : i < length subjects) (is : s ≡ get_or subjects i s) where
   -- the lines of the subjects from an index on are those of the one there and those of the ones behind it
   pub joined-next : (rest : List Text)
-      → IsJoinedBy (AreSubjectLines sig rules) (map subject_tree (drop i subjects)) rest
+      → IsJoinedBy (AreSubjectLines sig names finds) (map subject_tree (drop i subjects)) rest
       → (own : List Text) × (behind : List Text) × (rest ≡ own ++ behind)
-      × AreSubjectLines sig rules (subject_tree s) own
-      × IsJoinedBy (AreSubjectLines sig rules) (map subject_tree (drop (i + 1) subjects)) behind
+      × AreSubjectLines sig names finds (subject_tree s) own
+      × IsJoinedBy (AreSubjectLines sig names finds) (map subject_tree (drop (i + 1) subjects)) behind
   joined-next rest h =
-      let parts = subst (λ ss. IsJoinedBy (AreSubjectLines sig rules) (map subject_tree ss) rest)
+      let parts = subst (λ ss. IsJoinedBy (AreSubjectLines sig names finds) (map subject_tree ss) rest)
       (drop-item subjects i s within is) h in
       (parts.0, parts.1, parts.2, parts.3, parts.4)
 
--- what is printed of the pairs of the all-list is what is printed of a subject's lines
-pub subject-printed : (sig : Sig) (rules : List Rule) (subject : Subject) (pairs : List Pair)
-    → IsAllList sig rules subject.term pairs → (before after : Option ℕ) (out : Sunk) (told : Result Bool Stop)
-    → ((rest : List Text) → PrintsUpTo (front_lines before (map (pair_line sig rules subject) pairs ++ rest))
+-- what is printed of the only pairs that may be found is what is printed of a subject's lines
+pub subject-printed : (sig : Sig) (names : List Text) (finds : Tree → List Pair → Type 0) (subject : Subject)
+    (pairs : List Pair) → ((qs : List Pair) → finds subject.term qs → qs ≡ pairs)
+    → (before after : Option ℕ) (out : Sunk) (told : Result Bool Stop)
+    → ((rest : List Text) → PrintsUpTo (front_lines before (map (pair_line sig names subject) pairs ++ rest))
     (front_lines after rest) out told)
-    → (ls rest : List Text) → AreSubjectLines sig rules subject ls
+    → (ls rest : List Text) → AreSubjectLines sig names finds subject ls
     → PrintsUpTo (front_lines before (ls ++ rest)) (front_lines after rest) out told
-subject-printed sig rules subject pairs all before after out told printed ls rest h =
+subject-printed sig names finds subject pairs only before after out told printed ls rest h =
     subst (λ own. PrintsUpTo (front_lines before (own ++ rest)) (front_lines after rest) out told)
-    (sym ((subject_lines-exact sig rules subject pairs all ls).0 h)) (printed rest)
+    (sym (h.2 ∙ ap (map (pair_line sig names subject)) (only h.0 h.1))) (printed rest)
+
+-- ---- the end
+
+-- nothing is left to be printed behind all lines
+front-nothing : (left : Option ℕ) → front_lines left [] ≡ []
+front-nothing None = refl
+front-nothing (Some n) = refl
+
+-- all lines are printed, where none are left
+pub printed-all : {X : Type 0} (P : X → List Text → Type 0) (xs : List X) (whole : Text) (left : Option ℕ)
+    (rest : List Text) (out : Sunk) (any : Bool) → xs ≡ [] → IsJoinedBy P xs rest
+    → PrintsUpTo whole (front_lines left rest) out (Ok any) → PrintsUpTo whole (front_lines left []) out (Ok any)
+printed-all P [] whole left rest out any e joined h =
+    subst (λ ls. PrintsUpTo whole (front_lines left ls) out (Ok any)) joined h
+printed-all P (x ∷ xs) whole left rest out any e joined h = absurd cc
+
+module _ (text whole : Text) (left : Option ℕ) (out : Sunk) (is : text ≡ whole) where
+  -- the text is told
+  pub lists-all : (any : Bool) → PrintsUpTo whole (front_lines left []) out (Ok any) → Lists (lines text) out (Ok any)
+  lists-all any h =
+      let same : h.0 ≡ text = sym (append-nil h.0) ∙ ap (λ t. h.0 ++ t) (sym (front-nothing left)) ∙ sym h.1 ∙ sym is in
+      (refl, subst (λ t. IsWritten t out) same h.2, h.3 ∙ ap has_some same)
+
+  pub lists-more : (e : Stop) → e ≡ stop.More → PrintsUpTo whole (front_lines left []) out (Err e)
+      → Lists (lines text) out (Ok true)
+  lists-more e is_more h =
+      let told : PrintsUpTo whole (front_lines left []) out (Err stop.More) =
+      subst (λ (x : Stop). PrintsUpTo whole (front_lines left []) out (Err x)) is_more h in (
+        refl,
+        subst (λ t. IsWritten t out) (sym is) told.0,
+        subst (λ t. true ≡ has_some t) (sym is) (sym (has_some-long whole told.1)),
+      )
+
+  pub lists-cut_off : (e : Stop) → e ≡ stop.CannotWrite → PrintsUpTo whole (front_lines left []) out (Err e)
+      → Lists (lines text) out (Err fault.CannotWrite)
+  lists-cut_off e is_cut h =
+      subst (λ t. IsCutOff t out) (sym is)
+      (subst (λ (x : Stop). PrintsUpTo whole (front_lines left []) out (Err x)) is_cut h)
+
+  pub lists-memory : (e : Stop) → e ≡ stop.Memory → PrintsUpTo whole (front_lines left []) out (Err e)
+      → Lists (lines text) out (Err fault.Memory)
+  lists-memory e is_memory h =
+      subst (AppendsFront out.old out.new) (sym is)
+      (subst (λ (x : Stop). PrintsUpTo whole (front_lines left []) out (Err x)) is_memory h)
+
+-- ---- names
+
+-- the name at a place
+pub name-there : (names : List (Bor Text)) (i : ℕ) (name : Bor Text) → i < length names → name ≡ get_or names i name
+    → name.now ≡ name_of (slice_get (named names) i)
+name-there [] i name within is = absurd (omega (arith, within))
+name-there (n ∷ names) zero name within is = ap (λ x. x.now) is
+name-there (n ∷ names) (suc i) name within is = name-there names i name (omega (arith, within)) is
+
+pub name-past : (names : List (Bor Text)) (i : ℕ) → length names ≤ i → [] ≡ name_of (slice_get (named names) i)
+name-past [] i past = refl
+name-past (n ∷ names) zero past = absurd (omega (arith, past))
+name-past (n ∷ names) (suc i) past = name-past names i (omega (arith, past))

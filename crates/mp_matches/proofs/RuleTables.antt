@@ -13,21 +13,17 @@ use Rattle.mp_pattern.specs.Admission.{Rule}
 use Rattle.mp_pattern.specs.Constants.{rule_constants, IsConstantOf}
 use Rattle.mp_pattern.specs.Planned.{IsPlanned, RulePlan}
 use Rattle.mp_pattern.proofs.ConstantLaws.{constants-normal, constants-nodes}
-use Rattle.mp_table.specs.Subterms.{IsSubterm, IsSubtermOf}
+use Rattle.mp_table.specs.Subterms.{IsSubtermOf}
 use Rattle.mp_table.specs.Table.{Table, IsTableOf}
 use Rattle.mp_table.specs.declared.limits.TheConstants.{MAX_CONSTANT_NODES}
+use Rattle.mp_matches.proofs.TokenSpelling.{member-subterm_of}
 
 -- a subterm of a member is one of the list's
-subterm_of-member : (us : List Tree) (t u : Tree) → In t us → IsSubterm t u → IsSubtermOf us u
-subterm_of-member [] t u i s = absurd i
-subterm_of-member (v ∷ us) t u (inl e) s = inl (subst (λ w. IsSubterm w u) e s)
-subterm_of-member (v ∷ us) t u (inr i) s = inr (subterm_of-member us t u i s)
-
 -- a subterm of some trees is one of all of them
 subterm_of-part : (ts us : List Tree) → ((t : Tree) → In t ts → In t us) → (u : Tree) → IsSubtermOf ts u
     → IsSubtermOf us u
 subterm_of-part [] us part u s = absurd s
-subterm_of-part (t ∷ ts) us part u (inl s) = subterm_of-member us t u (part t (inl refl)) s
+subterm_of-part (t ∷ ts) us part u (inl s) = member-subterm_of us t u (part t (inl refl)) s
 subterm_of-part (t ∷ ts) us part u (inr s) = subterm_of-part ts us (λ v i. part v (inr i)) u s
 
 -- the table of a subject and of some constants is that of the same constants in another list

@@ -4,6 +4,7 @@ use Rattle.std.proofs.Common.{sym, cond, subst, inl, inr, arith, append-nil}
 use Rattle.std.specs.Prelude.{Contains, Option, None}
 use Rattle.std.specs.Ordering.{eq_by_cmp}
 use Rattle.std.specs.List.{AllByRecursion, dedup, dedup_from}
+use Rattle.std.proofs.lemmas.List.{length-map}
 use Rattle.mp_term.specs.Listing.{In, IsListing}
 use Rattle.mp_term.specs.Order.{tree_cmp}
 use Rattle.mp_term.specs.OrderLaws.{tree_cmp_total}
@@ -69,7 +70,7 @@ subterm_of-member [] u h = absurd h
 subterm_of-member (t ∷ ts) u (inl s) = (t, inl refl, s)
 subterm_of-member (t ∷ ts) u (inr h) = let r = subterm_of-member ts u h in (r.0, inr r.1, r.2)
 
-member-subterm_of : (ts : List Tree) (t u : Tree) → In t ts → IsSubterm t u → IsSubtermOf ts u
+pub member-subterm_of : (ts : List Tree) (t u : Tree) → In t ts → IsSubterm t u → IsSubtermOf ts u
 member-subterm_of [] t u i s = absurd i
 member-subterm_of (v ∷ ts) t u (inl e) s = inl (subst (λ w. IsSubterm w u) e s)
 member-subterm_of (v ∷ ts) t u (inr i) s = inr (member-subterm_of ts t u i s)
@@ -145,10 +146,6 @@ match_token m = record {
   entries = map (entry_in (table_of m.subject.term (rule_constants m.rule))) m.table;
 }
 
-length-mapped : {X Y : Type 0} (f : X → Y) (xs : List X) → length (map f xs) ≡ length xs
-length-mapped f [] = refl
-length-mapped f (x ∷ xs) = ap suc (length-mapped f xs)
-
 -- the text that is computed spells it
 pub token_of-spells : (sig : Sig) (m : Match) → IsSoundSubject sig m.subject → IsSoundRule sig m.rule
     → Fits sig m.rule.pattern m.subject.term m.subst m.table → IsSpelling (token_of m) (match_token m)
@@ -159,7 +156,7 @@ token_of-spells sig m s r h =
       token = record {
         subject = s.name;
         rule = r.name;
-        some = omega (arith, some, length-mapped (entry_in ranks) m.table);
+        some = omega (arith, some, length-map m.table (entry_in ranks));
         entries = small-entries ranks (few-terms sig m s r) (map (entry_in ranks) m.table) m.table
             (entries-fit sig m h);
       };

@@ -9,7 +9,7 @@ use Rattle.mp_pattern.specs.Lists.{Pair}
 use Rattle.mp_theory.specs.OneList.{Item, item_list}
 use Rattle.mp_text.specs.File.{FileTree, Subject}
 use Rattle.mp_token.specs.Machine.{spelling_fault}
-use Rattle.mp_matches.specs.AllListed.{front_lines, pair_line}
+use Rattle.mp_matches.specs.PairsListed.{front_lines, pair_line}
 use Rattle.mp_matches.specs.Left.{left_at_first, printed}
 use Rattle.mp_matches.specs.Listed.{Listed, lines, misspelt, no_match}
 use Rattle.mp_matches.specs.Match.{Match}
@@ -74,12 +74,12 @@ module _ (sig : Sig) (limit : Option ℕ) where
 abbrev pub listed : FileTree → Option Text → Option ℕ → Listed
 listed file resume limit = told_from file.sig limit resume (file_matches file)
 
--- ---- all-lists
+-- ---- pairs
 
 -- a line for each of the pairs that are given of a subject
-abbrev pub pair_lines : FileTree → (Tree → List Pair) → Subject → List Text
-pair_lines file pairs subject = map (pair_line file.sig file.rules subject) (pairs subject.term)
+abbrev pub pair_lines : FileTree → List Text → (Tree → List Pair) → Subject → List Text
+pair_lines file names pairs subject = map (pair_line file.sig names subject) (pairs subject.term)
 
 -- what is told of these pairs of a file
-abbrev pub pairs_listed : FileTree → (Tree → List Pair) → Option ℕ → Listed
-pairs_listed file pairs limit = lines (front_lines limit (flat_map (pair_lines file pairs) file.subjects))
+abbrev pub pairs_listed : FileTree → List Text → (Tree → List Pair) → Option ℕ → Listed
+pairs_listed file names pairs limit = lines (front_lines limit (flat_map (pair_lines file names pairs) file.subjects))

@@ -1,6 +1,7 @@
 pub mod Match
 pub mod Matches
 pub mod Listed
+pub mod PairsListed
 pub mod AllListed
 pub mod TokenOf
 pub mod Left

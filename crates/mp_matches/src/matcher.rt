@@ -1,17 +1,17 @@
-//! What finds all that rules admit on a subject, and prints it.
+//! What finds pairs on a subject, and prints them.
 
 ghost use Rattle.std.specs.Prelude.{◌≡◌, ◌++◌, List};
 ghost use Rattle.mp_io.specs.Devices.{Text};
 ghost use Rattle.mp_io.specs.Moments.{sunk};
 ghost use Rattle.mp_io.specs.Writing.{Puts};
 ghost use Rattle.mp_term.specs.Signature.{Sig};
-ghost use Rattle.mp_pattern.specs.Admission.{Rule};
+ghost use Rattle.mp_term.specs.Tree.{Tree};
 ghost use Rattle.mp_pattern.specs.Lists.{Pair as PlainPair};
 ghost use Rattle.mp_print.specs.Printing.{subst_text};
 ghost use Rattle.mp_subst.specs.View.{pair_of};
-ghost use Rattle.mp_text.specs.File.{file_tree, subject_tree};
+ghost use Rattle.mp_text.specs.File.{subject_tree};
 ghost use Rattle.mp_text.specs.Sound.{IsSoundSubject};
-ghost use Rattle.mp_matches.specs.AllListed.{AreSubjectLines, front_lines};
+ghost use Rattle.mp_matches.specs.PairsListed.{AreSubjectLines, front_lines, named};
 ghost use Rattle.mp_matches.specs.PrintedPairs.{PrintsUpTo};
 
 use crate::ranked::put_ranked;
@@ -19,8 +19,8 @@ use crate::stop::Stop;
 use mp_io::{Sink, Writer};
 use mp_print::put_subst;
 use mp_subst::Pair;
-use mp_term::Signature;
-use mp_text::{File, Subject};
+use mp_term::{Name, Signature};
+use mp_text::Subject;
 use mp_walk::RankedPair;
 use std::alloc::Global;
 
@@ -62,30 +62,30 @@ impl Line for RankedPair<'_> {
     }
 }
 
-/// Rules over a signature, with a way to find all that they admit on one subject after the other.
+/// What finds pairs of a rule and a substitution on one subject after the other, over a signature.
 pub trait Matcher {
     /// The signature.
     ghost signature: { Self → Sig };
 
-    /// The rules.
-    ghost rules: { Self → List Rule };
+    /// Which pairs are found on a subject, as a list.
+    ghost finds: { Self → Tree → List PlainPair → Type 0 };
 
-    /// Prints a line for each pair that the rules of the file admit on the subject, in order, as many as may be, and
-    /// says whether there are any (`AreSubjectLines` and `front_lines` of `specs/AllListed.antt`). The signature and
-    /// the rules are those of the file. Where it is cut off, a front of the lines is written.
+    /// Prints a line for each pair that is found on the subject, in order, as many as may be, and says whether there
+    /// are any (`AreSubjectLines` and `front_lines` of `specs/PairsListed.antt`). The rules have these names. Where it
+    /// is cut off, a front of the lines is written.
     fn print<O: Sink>(
         &self,
         alloc: Global,
-        file: &File,
+        sig: &Signature,
+        names: &[&Name],
         subject: &Subject,
         left: &mut Option<u32>,
         out: &mut O,
     ) -> Result<bool, Stop>
-        requires over { (file_tree file.now).sig ≡ signature self.now }
-        requires matched { (file_tree file.now).rules ≡ rules self.now }
-        requires sound { IsSoundSubject (file_tree file.now).sig (subject_tree subject.now) }
+        requires over { sig.now ≡ signature self.now }
+        requires sound { IsSoundSubject sig.now (subject_tree subject.now) }
         ensures { (ls rest : List Text) →
-            AreSubjectLines (file_tree file.now).sig (file_tree file.now).rules (subject_tree subject.now) ls →
+            AreSubjectLines sig.now (named names.now) (finds self.now) (subject_tree subject.now) ls →
             PrintsUpTo (front_lines left.old (ls ++ rest)) (front_lines left.new rest)
             (sunk O.Sink out.old out.new) result };
 }

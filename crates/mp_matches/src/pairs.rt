@@ -7,8 +7,8 @@ ghost use Rattle.mp_io.specs.Moments.{sunk};
 ghost use Rattle.mp_io.specs.Writing.{Puts};
 ghost use Rattle.mp_text.specs.File.{file_tree, subject_tree};
 ghost use Rattle.mp_text.specs.Sound.{IsSoundFile, IsSoundSubject};
-ghost use Rattle.mp_matches.specs.AllListed.{AreSubjectLines, IsAllListed, front_lines, more_follow, name_of};
-ghost use Rattle.mp_matches.specs.AllListed.{pair_line};
+ghost use Rattle.mp_matches.specs.PairsListed.{AreSubjectLines, IsPairsListed, front_lines, more_follow, name_of};
+ghost use Rattle.mp_matches.specs.PairsListed.{named, pair_line};
 ghost use Rattle.mp_matches.specs.Listed.{lines};
 ghost use Rattle.mp_matches.specs.Matches.{IsJoinedBy};
 ghost use Rattle.mp_matches.specs.Printed.{Lists};
@@ -18,36 +18,35 @@ use crate::fault::ListFault;
 use crate::matcher::{Line, Matcher};
 use crate::stop::Stop;
 use mp_io::{Sink, Writer};
-use mp_pattern::Rules;
-use mp_term::Signature;
+use mp_term::{Name, Signature};
 use mp_text::{File, Subject};
 use std::alloc::Global;
 
 // The name of the rule of that number.
-fn name_at(rules: &Rules, number: u32) -> &[u8]
-    ensures { result.now ≡ name_of (slice_get rules.now number) }
+fn name_at<'a>(names: &[&'a Name], number: u32) -> &'a [u8]
+    ensures { result.now ≡ name_of (slice_get (named names.now) number) }
 {
-    match rules.get(number as usize) {
+    match names.get(number as usize) {
         None => &[],
-        Some(rule) => rule.name.bytes(),
+        Some(name) => name.bytes(),
     }
 }
 
-// Puts the line of a pair that the rules admit on the subject.
+// Puts the line of a pair on the subject, where the rules have these names.
 fn put_pair<L: Line, O: Sink>(
     sig: &Signature,
-    rules: &Rules,
+    names: &[&Name],
     subject: &Subject,
     pair: &L,
     out: &mut Writer<'_, O>,
 )
     ensures { Puts O.Sink out.old out.new
-        (pair_line sig.now rules.now (subject_tree subject.now) (L.pair pair.now)) }
+        (pair_line sig.now (named names.now) (subject_tree subject.now) (L.pair pair.now)) }
 {
     out.put_all(&[
         subject.name.bytes(),
         b" ",
-        name_at(rules, pair.rule()),
+        name_at(names, pair.rule()),
         b" ",
     ]);
     pair.put(sig, out);
@@ -74,7 +73,7 @@ fn take_line(left: &mut Option<u32>) -> bool
 // Puts the lines of a subject's pairs, as many as may be, and says whether there are any.
 fn put_pairs<L: Line, O: Sink>(
     sig: &Signature,
-    rules: &Rules,
+    names: &[&Name],
     subject: &Subject,
     pairs: &[L],
     left: &mut Option<u32>,
@@ -82,7 +81,7 @@ fn put_pairs<L: Line, O: Sink>(
 ) -> Result<bool, Stop>
     ensures same { out.new.sink.ghost_name ≡ out.old.sink.ghost_name }
     ensures puts { (rest : List Text) → PutsUpTo O.Sink (front_lines left.old
-        (map (pair_line sig.now rules.now (subject_tree subject.now)) (map L.pair pairs.now) ++ rest))
+        (map (pair_line sig.now (named names.now) (subject_tree subject.now)) (map L.pair pairs.now) ++ rest))
         (front_lines left.new rest) out.old out.new result }
 {
     let mut any = false;
@@ -91,28 +90,28 @@ fn put_pairs<L: Line, O: Sink>(
             out.put(b"more\n");
             return Err(Stop::More);
         }
-        put_pair(sig, rules, subject, pair, out);
+        put_pair(sig, names, subject, pair, out);
         any = true;
     }
     Ok(any)
 }
 
-/// Prints the lines of pairs on a subject, as many as may be, and says whether there are any (`front_lines` of
-/// `specs/AllListed.antt`).
+/// Prints the lines of pairs on a subject, as many as may be, where the rules have these names, and says whether there
+/// are any (`front_lines` of `specs/PairsListed.antt`).
 pub fn print_pairs<L: Line, O: Sink>(
     sig: &Signature,
-    rules: &Rules,
+    names: &[&Name],
     subject: &Subject,
     pairs: &[L],
     left: &mut Option<u32>,
     out: &mut O,
 ) -> Result<bool, Stop>
     ensures { (rest : List Text) → PrintsUpTo (front_lines left.old
-        (map (pair_line sig.now rules.now (subject_tree subject.now)) (map L.pair pairs.now) ++ rest))
+        (map (pair_line sig.now (named names.now) (subject_tree subject.now)) (map L.pair pairs.now) ++ rest))
         (front_lines left.new rest) (sunk O.Sink out.old out.new) result }
 {
     let mut out = Writer::new(out);
-    let told = put_pairs(sig, rules, subject, pairs, left, &mut out);
+    let told = put_pairs(sig, names, subject, pairs, left, &mut out);
     out.finish()?;
     told
 }
@@ -120,52 +119,52 @@ pub fn print_pairs<L: Line, O: Sink>(
 // Prints the lines of the pairs of subjects, as many as may be, and says whether there are any.
 fn print_subjects<M: Matcher, O: Sink>(
     alloc: Global,
-    file: &File,
+    sig: &Signature,
+    names: &[&Name],
     subjects: &[Subject],
     matcher: &M,
     left: &mut Option<u32>,
     out: &mut O,
 ) -> Result<bool, Stop>
-    requires subjects { AllByRecursion (IsSoundSubject (file_tree file.now).sig) (map subject_tree subjects.now) }
-    requires over { (file_tree file.now).sig ≡ M.signature matcher.now }
-    requires matched { (file_tree file.now).rules ≡ M.rules matcher.now }
-    ensures { (all : List Text) → IsJoinedBy (AreSubjectLines (file_tree file.now).sig (file_tree file.now).rules)
+    requires subjects { AllByRecursion (IsSoundSubject sig.now) (map subject_tree subjects.now) }
+    requires over { sig.now ≡ M.signature matcher.now }
+    ensures { (all : List Text) → IsJoinedBy (AreSubjectLines sig.now (named names.now) (M.finds matcher.now))
         (map subject_tree subjects.now) all →
         PrintsUpTo (front_lines left.old all) (front_lines left.new []) (sunk O.Sink out.old out.new) result }
 {
     let mut any = false;
     for subject in subjects {
-        any |= matcher.print(alloc, file, subject, left, out)?;
+        any |= matcher.print(alloc, sig, names, subject, left, out)?;
     }
     Ok(any)
 }
 
-/// Prints a line for each pair that the rules of the file admit on a subject, in order, and says whether there are any:
-/// `IsAllListed` of `specs/AllListed.antt`. The matcher finds the pairs, and has the signature and the rules of the
-/// file.
+/// Prints a line for each pair that the matcher finds on a subject of the file, in order, and says whether there are
+/// any: `IsPairsListed` of `specs/PairsListed.antt`. The matcher has the signature of the file, and its rules have
+/// these names.
 ///
-/// Subjects come in file order, and for each of them the pairs in the order of `IsAllList` of mp_pattern's
-/// `specs/Lists.antt`: the rules in file order, and for each rule the substitutions in their own order. The lines of a
-/// subject are written as soon as its pairs are found. At most `limit` lines are printed, where there is a limit; where
-/// more pairs follow, a last line is `more`.
+/// Subjects come in file order, and for each of them the pairs in the order in which they are found, as that of
+/// `IsAllList` of mp_pattern's `specs/Lists.antt`: the rules by their numbers, and for each rule the substitutions in
+/// their own order. The lines of a subject are written as soon as its pairs are found. At most `limit` lines are
+/// printed, where there is a limit; where more pairs follow, a last line is `more`.
 ///
 /// `Memory`: memory ran out. `CannotWrite`: a write failed. A front of the lines is written then. No other fault comes.
 pub fn list_pairs<M: Matcher, O: Sink>(
     alloc: Global,
     file: &File,
+    names: &[&Name],
     matcher: &M,
     limit: Option<u32>,
     out: &mut O,
 ) -> Result<bool, ListFault>
     requires file { IsSoundFile (file_tree file.now) }
     requires over { M.signature matcher.now ≡ (file_tree file.now).sig }
-    requires matched { M.rules matcher.now ≡ (file_tree file.now).rules }
-    ensures { (text : Text) → IsAllListed (file_tree file.now) limit text →
+    ensures { (text : Text) → IsPairsListed (file_tree file.now) (named names.now) (M.finds matcher.now) limit text →
         Lists (lines text) (sunk O.Sink out.old out.new) result }
 {
     let mut left = limit;
     let subjects = file.subjects.as_slice();
-    match print_subjects(alloc, file, subjects, matcher, &mut left, out) {
+    match print_subjects(alloc, &file.sig, names, subjects, matcher, &mut left, out) {
         Ok(any) => Ok(any),
         Err(Stop::More) => Ok(true),
         Err(Stop::CannotWrite) => Err(ListFault::CannotWrite),

@@ -8,7 +8,7 @@ use Rattle.mp_pattern.proofs.SoundRules.{HasConditionOver-HasSoundCondition}
 use Rattle.mp_table.specs.Table.{IsTableOf}
 use Rattle.mp_theory.specs.OneList.{item_list}
 use Rattle.mp_text.specs.File.{subject_tree}
-use Rattle.mp_cursor.proofs.FirstLaws.{constants-held, subject-is}
+use Rattle.mp_cursor.proofs.FirstLaws.{constants-held, subject-built}
 use Rattle.mp_matches.specs.Computed.{matches_of, rule_matches}
 use Rattle.mp_matches.specs.Left.{left_of, printed}
 use Rattle.mp_matches.specs.Printed.{PrintsMatches}
@@ -41,7 +41,7 @@ room_for-requires g c =
     let s = subject_tree c.args.subject.now in
     omega (
       arith,
-      ap node_count (subject-is c.in_ok-table.table s.term c.args.planned.now.constants c.in_ok-table.ensures.table),
+      ap node_count (subject-built c.in_ok-table.table s.term c.args.planned.now.constants c.in_ok-table.ensures.table),
       c.requires.subject.term.few_nodes,
     )
 
@@ -77,7 +77,7 @@ returns-clause-prints g c =
     let r = planned_rule p in
     let left = left_of c.args.left.now in
     let list = c.begin-cursor.ensures.list
-    ∙ ap (item_list sig r) (subject-is c.in_ok-table.table s.term p.constants c.in_ok-table.ensures.table) in
+    ∙ ap (item_list sig r) (subject-built c.in_ok-table.table s.term p.constants c.in_ok-table.ensures.table) in
     subst (λ p. PrintsMatches p (sunk g.O.Sink c.args.out.now c.print_to_come.new.out)
     (left_of c.print_to_come.new.left) c.print_to_come.result)
     (ap₂ (λ g is. printed g left (matches_of s r is)) c.begin-cursor.ensures.over.0 list) c.print_to_come.ensures.prints

@@ -1,9 +1,11 @@
-use Rattle.std.proofs.Common.{◌∙◌, ap, sym}
-use Rattle.mp_matches.specs.AllListed.{name_of}
+use Rattle.std.proofs.Common.{◌∙◌}
+use Rattle.mp_matches.proofs.PairsLaws.{name-past, name-there}
 use Rattle.mp_matches.proofs.pairs.name_at.Goals as goal
 
 pub returns-in-None : goal.returns-in-None
-returns-in-None c = sym (ap name_of c.in-None.ensures)
+returns-in-None c = name-past c.args.names.now c.args.number c.in-None.ensures.lookup.3
 
 pub returns-in-Some : goal.returns-in-Some
-returns-in-Some c = c.bytes.ensures.bytes ∙ sym (ap name_of c.in-Some.ensures)
+returns-in-Some c = c.bytes.ensures.bytes
+    ∙ name-there c.args.names.now c.args.number c.in-Some.name.now c.in-Some.ensures.lookup.3.0
+    c.in-Some.ensures.lookup.1

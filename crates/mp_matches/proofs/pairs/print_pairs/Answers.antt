@@ -1,7 +1,7 @@
 use Rattle.std.proofs.Common.{◌++◌, map, rules}
 use Rattle.mp_io.specs.Moments.{sunk}
 use Rattle.mp_text.specs.File.{subject_tree}
-use Rattle.mp_matches.specs.AllListed.{front_lines, pair_line}
+use Rattle.mp_matches.specs.PairsListed.{front_lines, named, pair_line}
 use Rattle.mp_matches.specs.PrintedPairs.{PrintsUpTo}
 use Rattle.mp_matches.specs.declared.stop.Stop.TheVariants as stop
 use Rattle.mp_matches.proofs.PairsLaws.{up_to-cut_off, up_to-finished}
@@ -11,7 +11,7 @@ use Rattle.mp_matches.proofs.pairs.print_pairs.Goals as goal
 pub returns-in_err-finish : goal.returns-in_err-finish
 returns-in_err-finish g c rest =
     let whole = front_lines c.args.left.now
-    (map (pair_line c.args.sig.now c.args.rules.now (subject_tree c.args.subject.now))
+    (map (pair_line c.args.sig.now (named c.args.names.now) (subject_tree c.args.subject.now))
     (map g.L.Line.pair c.args.pairs.now) ++ rest) in
     let told = c.put_pairs-told in
     let behind = front_lines told.new.left rest in
@@ -26,7 +26,7 @@ returns-in_err-finish g c rest =
 pub returns : goal.returns
 returns g c rest =
     let whole = front_lines c.args.left.now
-    (map (pair_line c.args.sig.now c.args.rules.now (subject_tree c.args.subject.now))
+    (map (pair_line c.args.sig.now (named c.args.names.now) (subject_tree c.args.subject.now))
     (map g.L.Line.pair c.args.pairs.now) ++ rest) in
     let told = c.put_pairs-told in
     let behind = front_lines told.new.left rest in

@@ -1,14 +1,14 @@
 use Rattle.std.proofs.Common.{◌∙◌, ◌++◌, ◌+◌, arith, refl, drop, map, subst}
 use Rattle.std.specs.Prelude.{Ok}
 use Rattle.mp_text.specs.File.{subject_tree}
-use Rattle.mp_matches.specs.AllListed.{front_lines, pair_line}
+use Rattle.mp_matches.specs.PairsListed.{front_lines, named, pair_line}
 use Rattle.mp_matches.specs.PrintedPairs.{PutsUpTo}
 use Rattle.mp_matches.proofs.PairsLaws.{front-ended, front-next, length-pair_line, up_to-line, up_to-more}
 use Rattle.mp_matches.proofs.pairs.put_pairs.Goals as goal
 
 pub returns-then-not-take_line-clause-puts : goal.returns-then-not-take_line-clause-puts
 returns-then-not-take_line-clause-puts g c rest =
-    let line = pair_line c.args.sig.now c.args.rules.now (subject_tree c.args.subject.now) in
+    let line = pair_line c.args.sig.now (named c.args.names.now) (subject_tree c.args.subject.now) in
     let pairs = c.args.pairs.now in
     let i = c.loop-pair.pair-index in
     up_to-more g.O.Sink (front_lines c.args.left.now (map line (map g.L.Line.pair pairs) ++ rest))
@@ -22,7 +22,7 @@ pub loop-pair-preserved : goal.loop-pair-preserved
 loop-pair-preserved g c = record {
   same = c.put_pair.ensures.same ∙ c.loop-pair.invariant.same;
   put = λ rest.
-      let line = pair_line c.args.sig.now c.args.rules.now (subject_tree c.args.subject.now) in
+      let line = pair_line c.args.sig.now (named c.args.names.now) (subject_tree c.args.subject.now) in
       let pairs = c.args.pairs.now in
       let i = c.loop-pair.pair-index in
       let behind = map line (map g.L.Line.pair (drop (i + 1) pairs)) ++ rest in
@@ -32,13 +32,13 @@ loop-pair-preserved g c = record {
       (line (g.L.Line.pair c.pair-item.result)) (front_lines c.take_line.new.left behind)
       (front-next g.L.Line.pair line c.loop-pair.left pairs i c.pair-item.result rest (omega arith) c.pair-item.is
       ∙ c.if-not-take_line.ensures.taken refl (line (g.L.Line.pair c.pair-item.result)) behind) c.put_pair.ensures
-      (length-pair_line c.args.sig.now c.args.rules.now (subject_tree c.args.subject.now)
+      (length-pair_line c.args.sig.now (named c.args.names.now) (subject_tree c.args.subject.now)
       (g.L.Line.pair c.pair-item.result));
 }
 
 pub returns-clause-puts : goal.returns-clause-puts
 returns-clause-puts g c rest =
-    let line = pair_line c.args.sig.now c.args.rules.now (subject_tree c.args.subject.now) in
+    let line = pair_line c.args.sig.now (named c.args.names.now) (subject_tree c.args.subject.now) in
     let pairs = c.args.pairs.now in
     let i = c.loop-pair.pair-index in
     subst (λ behind. PutsUpTo g.O.Sink (front_lines c.args.left.now (map line (map g.L.Line.pair pairs) ++ rest))

@@ -5,7 +5,7 @@ use Rattle.std.proofs.lemmas.Option.{get_or_from_slice_get}
 use Rattle.mp_io.specs.Writing.{Puts}
 use Rattle.mp_print.specs.Printing.{binding_text, gap_text, separated}
 use Rattle.mp_walk.specs.RankedView.{shown_binding}
-use Rattle.mp_matches.proofs.Separated.{Puts-pushed, gap_text-pushed}
+use Rattle.mp_print.proofs.Separated.{Puts-pushed, gap_text-pushed}
 use Rattle.mp_matches.proofs.ranked.put_bindings.Goals as goal
 
 pub loop-index-preserved : goal.loop-index-preserved

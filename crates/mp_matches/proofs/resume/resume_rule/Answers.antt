@@ -11,7 +11,7 @@ use Rattle.mp_theory.specs.OneList.{item_list}
 use Rattle.mp_text.specs.File.{subject_tree}
 use Rattle.mp_token.specs.TokenText.{token_text}
 use Rattle.mp_cursor.specs.Listing.{StandForNone, StandsAt}
-use Rattle.mp_cursor.proofs.FirstLaws.{constants-held, subject-is}
+use Rattle.mp_cursor.proofs.FirstLaws.{constants-held, subject-built}
 use Rattle.mp_matches.specs.Computed.{behind_token, matches_of, rule_matches}
 use Rattle.mp_matches.specs.Left.{left_of, printed}
 use Rattle.mp_matches.specs.Printed.{PrintsMatches}
@@ -33,7 +33,7 @@ room_for-requires g c =
     let s = subject_tree c.args.subject.now in
     omega (
       arith,
-      ap node_count (subject-is c.in_ok-table.table s.term c.args.planned.now.constants c.in_ok-table.ensures.table),
+      ap node_count (subject-built c.in_ok-table.table s.term c.args.planned.now.constants c.in_ok-table.ensures.table),
       c.requires.subject.term.few_nodes,
     )
 
@@ -59,7 +59,7 @@ returns-in-Err-clause-prints g c =
     let token = c.args.token.now in
     let ranked = table_of-constants r p.constants c.requires.planned.constants s.term table c.in_ok-table.ensures.table
     in
-    let own = subject-is table s.term p.constants c.in_ok-table.ensures.table in (
+    let own = subject-built table s.term p.constants c.in_ok-table.ensures.table in (
       resumed-none sig s r c.requires.subject c.requires.planned.sound token c.requires.token table ranked
           (λ same. subst (λ t. StandForNone table token.entries (item_list sig r t)) own (c.in-Err.ensures same)),
       (Appends-nil (g.O.Sink.contents c.args.out.now), refl),
@@ -93,7 +93,7 @@ returns-in_err-any-clause-prints g c =
     let ranked = subst (IsTableOf s.term (rule_constants r)) (sym told.1.2)
     (table_of-constants r p.constants c.requires.planned.constants s.term c.in_ok-table.table
     c.in_ok-table.ensures.table) in
-    let own = subject-is c.in_ok-table.table s.term p.constants c.in_ok-table.ensures.table in
+    let own = subject-built c.in_ok-table.table s.term p.constants c.in_ok-table.ensures.table in
     let found : ms ≡ Some (matches_of s r cursor.to_come) = resumed-at sig s r c.requires.subject
     c.requires.planned.sound token c.requires.token cursor ranked c.requires.named told.0
     (subst (λ t. StandsAt token.entries (item_list sig r t) cursor) own told.2) in
@@ -119,7 +119,7 @@ returns-clause-prints g c =
     let ranked = subst (IsTableOf s.term (rule_constants r)) (sym told.1.2)
     (table_of-constants r p.constants c.requires.planned.constants s.term c.in_ok-table.table
     c.in_ok-table.ensures.table) in
-    let own = subject-is c.in_ok-table.table s.term p.constants c.in_ok-table.ensures.table in
+    let own = subject-built c.in_ok-table.table s.term p.constants c.in_ok-table.ensures.table in
     let found : ms ≡ Some (matches_of s r cursor.to_come) = resumed-at sig s r c.requires.subject
     c.requires.planned.sound token c.requires.token cursor ranked c.requires.named told.0
     (subst (λ t. StandsAt token.entries (item_list sig r t) cursor) own told.2) in
