@@ -41,25 +41,28 @@ matches_of-named a name all e =
     ap (rows_after (built a).top.rules (names_of (built a))) (argument_words-named a name all e)
 
 -- the options of these values
-abbrev options_of : Option Text → Option Text → Option Text → Option Text → Options
-options_of engine limit resume max =
-    (codes "engine", engine) ∷ (codes "limit", limit) ∷ (codes "resume", resume) ∷ (codes "max", max) ∷ []
+abbrev options_of : Option Text → Option Text → Option Text → Option Text → Option Text → Options
+options_of engine limit resume max from = (codes "engine", engine) ∷ (codes "limit", limit)
+    ∷ (codes "resume", resume) ∷ (codes "max", max) ∷ (codes "from", from) ∷ []
 
 -- what the getters read is what the rows have
 pub request_by-found : (f : Found) (name : Option Text) (rest : Option (List Text))
-    (engine limit resume max : Option Text)
+    (engine limit resume max from : Option Text)
     → name ≡ first_value f (codes "action") → rest ≡ option_map raw_values (matched_of f (codes "rest"))
     → engine ≡ first_value f (codes "engine") → limit ≡ first_value f (codes "limit")
     → resume ≡ first_value f (codes "resume") → max ≡ first_value f (codes "max")
-    → request_by name rest (options_of engine limit resume max) ≡ request_at (rows_of f)
-request_by-found f name rest engine limit resume max n r e l s m =
+    → from ≡ first_value f (codes "from")
+    → request_by name rest (options_of engine limit resume max from) ≡ request_at (rows_of f)
+request_by-found f name rest engine limit resume max from n r e l s m o =
     let name_is = n ∙ first_value-rows f (codes "action") in
     let rest_is = r ∙ raw_values-rows f (codes "rest") in
     let engine_is = e ∙ first_value-rows f (codes "engine") in
     let limit_is = l ∙ first_value-rows f (codes "limit") in
     let resume_is = s ∙ first_value-rows f (codes "resume") in
     let max_is = m ∙ first_value-rows f (codes "max") in
-    λ i. request_by (name_is i) (rest_is i) (options_of (engine_is i) (limit_is i) (resume_is i) (max_is i))
+    let from_is = o ∙ first_value-rows f (codes "from") in
+    λ i. request_by (name_is i) (rest_is i)
+    (options_of (engine_is i) (limit_is i) (resume_is i) (max_is i) (from_is i))
 
 -- the request of words that clap takes
 request_of-taken : (all : List Text) → fault_of command all ≡ []

@@ -11,16 +11,17 @@ use Rattle.clap.specs.Lexer.{usize_max}
 use Rattle.clap.specs.Kinds.{Kinds}
 use Rattle.mp_term.specs.Signature.{is_number}
 use Rattle.mp_words.specs.declared.request.Action.{Action}
-use Rattle.mp_words.specs.declared.request.Action.TheVariants.{Match, Show, Rewrite, Edit}
+use Rattle.mp_words.specs.declared.request.Action.TheVariants.{Match, Show, Rewrite, Edit, Compile, Run}
 use Rattle.mp_words.specs.declared.request.Engine.{Engine}
-use Rattle.mp_words.specs.declared.request.Engine.TheVariants.{One, Many, Net}
+use Rattle.mp_words.specs.declared.request.Engine.TheVariants.{One, Many, Net, Program}
 
--- what is asked for: an action, the file that it is done with, what finds the matches, how many of them are printed at
--- most and the token behind which they begin, where these are said, and how many steps rewriting makes of a subject at
--- most
+-- what is asked for: an action, the file that it is done with, the program file, where there is one, what finds the
+-- matches, how many of them are printed at most and the token behind which they begin, where these are said, and how
+-- many steps rewriting makes of a subject at most
 pub record Request : Type 0 where
   pub action : Action
   pub file : Text
+  pub program : Option Text
   pub engine : Engine
   pub limit : Option ℕ
   pub resume : Option Text
@@ -28,32 +29,46 @@ pub record Request : Type 0 where
 
 -- ---- the table
 
--- a line of the table: an action, its name, and the names of the options that may stand at it
+-- a line of the table: an action, its name, whether a program file stands behind the file, and the names of the options
+-- that may stand at it
 pub record Line : Type 0 where
   pub name : Text
   pub action : Action
+  pub has_program : Bool
   pub options : List Text
 
 -- the matches of a file
 abbrev pub match_line : Line
-match_line =
-    record { name = codes "match"; action = Match; options = codes "engine" ∷ codes "limit" ∷ codes "resume" ∷ [] }
+match_line = record {
+  name = codes "match";
+  action = Match;
+  has_program = false;
+  options = codes "engine" ∷ codes "limit" ∷ codes "resume" ∷ [];
+}
 
 -- a file itself
 abbrev pub show_line : Line
-show_line = record { name = codes "show"; action = Show; options = [] }
+show_line = record { name = codes "show"; action = Show; has_program = false; options = [] }
 
 -- its rewritten subjects
 abbrev pub rewrite_line : Line
-rewrite_line = record { name = codes "rewrite"; action = Rewrite; options = codes "max" ∷ [] }
+rewrite_line = record { name = codes "rewrite"; action = Rewrite; has_program = false; options = codes "max" ∷ [] }
 
 -- its edited subjects
 abbrev pub edit_line : Line
-edit_line = record { name = codes "edit"; action = Edit; options = [] }
+edit_line = record { name = codes "edit"; action = Edit; has_program = false; options = [] }
+
+-- the match program of its rules, or of a program file
+abbrev pub compile_line : Line
+compile_line = record { name = codes "compile"; action = Compile; has_program = false; options = codes "from" ∷ [] }
+
+-- what a match program accepts on its subjects
+abbrev pub run_line : Line
+run_line = record { name = codes "run"; action = Run; has_program = true; options = [] }
 
 -- all lines of the table
 abbrev pub actions : List Line
-actions = match_line ∷ show_line ∷ rewrite_line ∷ edit_line ∷ []
+actions = match_line ∷ show_line ∷ rewrite_line ∷ edit_line ∷ compile_line ∷ run_line ∷ []
 
 -- the first line of that name
 abbrev pub find_action : Text → List Line → Option Line
@@ -62,7 +77,7 @@ find_action name (line ∷ lines) = if bytes_eq name line.name then Some line el
 
 -- the engines, each with its name
 abbrev pub engines : List (Text × Engine)
-engines = (codes "one", One) ∷ (codes "many", Many) ∷ (codes "net", Net) ∷ []
+engines = (codes "one", One) ∷ (codes "many", Many) ∷ (codes "net", Net) ∷ (codes "program", Program) ∷ []
 
 -- the first engine of that name
 abbrev pub find_engine : Text → List (Text × Engine) → Option Engine
@@ -85,7 +100,7 @@ greatest_max = 1000000
 
 -- the names of the command's options
 abbrev pub option_names : List Text
-option_names = codes "engine" ∷ codes "limit" ∷ codes "resume" ∷ codes "max" ∷ []
+option_names = codes "engine" ∷ codes "limit" ∷ codes "resume" ∷ codes "max" ∷ codes "from" ∷ []
 
 -- an option with one value, as clap has it
 abbrev pub option_rule : Text → Rule
@@ -148,6 +163,7 @@ abbrev pub may_resume : Engine → Option Text → Bool
 may_resume One resume = true
 may_resume Many resume = not (is_some resume)
 may_resume Net resume = not (is_some resume)
+may_resume Program resume = not (is_some resume)
 
 -- the number that 1 to 10 digits write, where it is in the range
 abbrev pub number_in : ℕ → ℕ → Text → Option ℕ
@@ -166,24 +182,44 @@ abbrev pub max_of : Option Text → Option ℕ
 max_of None = Some usual_max
 max_of (Some text) = number_in 0 greatest_max text
 
--- the request for an action with a file, by an engine and by options that may stand at it
-abbrev pub request_with : Line → Text → Options → Engine → Option Request
-request_with line file options engine =
+-- the file, and the program file: behind it where the action has one there, and else as the option says
+abbrev pub files_of : Line → List Text → Option Text → Option (Text × Option Text)
+files_of line (file ∷ []) from = if line.has_program then None else Some (file, from)
+files_of line (file ∷ program ∷ []) from = if line.has_program then Some (file, Some program) else None
+files_of line files from = None
+
+-- the name of standard input
+abbrev pub is_input : Text → Bool
+is_input name = bytes_eq name (codes "-")
+
+-- both files are standard input
+abbrev pub both_are_input : Text → Option Text → Bool
+both_are_input file None = false
+both_are_input file (Some program) = is_input file && is_input program
+
+-- the request for an action with a file and perhaps a program file, by an engine and by options that may stand at it
+abbrev pub request_with : Line → Text × Option Text → Options → Engine → Option Request
+request_with line files options engine =
     if may_resume engine (value_of (codes "resume") options) then option_and_then (λ limit.
     option_map (λ max. record {
       action = line.action;
-      file = file;
+      file = files.0;
+      program = files.1;
       engine = engine;
       limit = limit;
       resume = value_of (codes "resume") options;
       max = max;
     }) (max_of (value_of (codes "max") options))) (limit_of (value_of (codes "limit") options)) else None
 
--- the request for an action with one file, by options that may stand at it
+-- the request for an action with such files, of which standard input is one at most, by options that may stand at it
+abbrev pub request_over : Line → Options → Text × Option Text → Option Request
+request_over line options files = if not (both_are_input files.0 files.1) && are_among line.options options
+    then option_and_then (request_with line files options) (engine_of (value_of (codes "engine") options)) else None
+
+-- the request for an action by what stands behind it and by the options
 abbrev pub request_for : Line → List Text → Options → Option Request
-request_for line (file ∷ []) options = if are_among line.options options
-    then option_and_then (request_with line file options) (engine_of (value_of (codes "engine") options)) else None
-request_for line files options = None
+request_for line rest options =
+    option_and_then (request_over line options) (files_of line rest (value_of (codes "from") options))
 
 -- the request by the action's name and what stands behind it
 abbrev pub request_by : Option Text → Option (List Text) → Options → Option Request

@@ -2,17 +2,18 @@
 
 ghost use Rattle.std.specs.Prelude.{◌≡◌, [], ◌∷◌, None, Some, codes};
 ghost use Rattle.mp_words.specs.Words.{request_of};
-ghost use Rattle.mp_words.specs.declared.request.Action.TheVariants.{Match, Rewrite, Show};
+ghost use Rattle.mp_words.specs.declared.request.Action.TheVariants.{Compile, Match, Rewrite, Run, Show};
 ghost use Rattle.mp_words.specs.declared.request.Engine.TheVariants.{Many, Net, One};
 
 /// What `request_of` of `specs/Words.antt` says of some words: options stand in any order, with `=` or without; help,
 /// an option of another action, a token for an engine other than `one`, a number out of range and two files make no
-/// request; behind `--` a file may begin with `-`.
+/// request, nor does standard input as both file and program; behind `--` a file may begin with `-`.
 pub fn words_make_requests()
     ensures matched { request_of (codes "--resume" ∷ codes "s/r/1" ∷ codes "match" ∷ codes "t" ∷ codes "--limit=3" ∷ [])
         ≡ Some (record {
           action = Match;
           file = codes "t";
+          program = None;
           engine = One;
           limit = Some 3;
           resume = Some (codes "s/r/1");
@@ -22,6 +23,7 @@ pub fn words_make_requests()
         ≡ Some (record {
           action = Match;
           file = codes "t";
+          program = None;
           engine = Many;
           limit = None;
           resume = None;
@@ -31,6 +33,7 @@ pub fn words_make_requests()
         ≡ Some (record {
           action = Match;
           file = codes "t";
+          program = None;
           engine = Net;
           limit = Some 3;
           resume = None;
@@ -40,6 +43,7 @@ pub fn words_make_requests()
         ≡ Some (record {
           action = Rewrite;
           file = codes "-t";
+          program = None;
           engine = One;
           limit = None;
           resume = None;
@@ -49,6 +53,27 @@ pub fn words_make_requests()
         ≡ Some (record {
           action = Show;
           file = codes "-";
+          program = None;
+          engine = One;
+          limit = None;
+          resume = None;
+          max = 1000;
+        }) }
+    ensures compiled { request_of (codes "compile" ∷ codes "t" ∷ codes "--from" ∷ codes "-" ∷ [])
+        ≡ Some (record {
+          action = Compile;
+          file = codes "t";
+          program = Some (codes "-");
+          engine = One;
+          limit = None;
+          resume = None;
+          max = 1000;
+        }) }
+    ensures run { request_of (codes "run" ∷ codes "t" ∷ codes "p" ∷ [])
+        ≡ Some (record {
+          action = Run;
+          file = codes "t";
+          program = Some (codes "p");
           engine = One;
           limit = None;
           resume = None;
@@ -61,4 +86,6 @@ pub fn words_make_requests()
         ≡ None }
     ensures range { request_of (codes "match" ∷ codes "t" ∷ codes "--limit=0" ∷ []) ≡ None }
     ensures files { request_of (codes "match" ∷ codes "t" ∷ codes "u" ∷ []) ≡ None }
+    ensures no_program { request_of (codes "run" ∷ codes "t" ∷ []) ≡ None }
+    ensures inputs { request_of (codes "compile" ∷ codes "-" ∷ codes "--from=-" ∷ []) ≡ None }
 {}

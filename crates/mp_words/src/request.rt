@@ -3,8 +3,8 @@
 ghost use Rattle.std.specs.Prelude.{◌≡◌, map};
 ghost use Rattle.std.specs.Option.{option_map};
 ghost use Rattle.mp_words.specs.Requests.{asked, given, line_of, some_text};
-ghost use Rattle.mp_words.specs.Words.{actions, are_among, engine_of, engines, find_action, find_engine, limit_of};
-ghost use Rattle.mp_words.specs.Words.{max_of, may_resume, request_by, request_for};
+ghost use Rattle.mp_words.specs.Words.{actions, are_among, both_are_input, engine_of, engines, files_of, find_action};
+ghost use Rattle.mp_words.specs.Words.{find_engine, limit_of, max_of, may_resume, request_by, request_for};
 
 use crate::number::read_number;
 
@@ -19,6 +19,10 @@ pub enum Action {
     Rewrite,
     /// Its edits are made, and what its subjects become by them is printed.
     Edit,
+    /// The match program of its rules is printed, or one that is read.
+    Compile,
+    /// What a match program accepts on its subjects is printed.
+    Run,
 }
 
 /// What finds the matches.
@@ -30,6 +34,8 @@ pub enum Engine {
     Many,
     /// Nets over all rules, which must be syntactic.
     Net,
+    /// The match program of the rules, which is run.
+    Program,
 }
 
 /// What the command is asked to do.
@@ -39,6 +45,9 @@ pub struct Request<'a> {
     pub action: Action,
     /// The name of the file, `-` for standard input.
     pub file: &'a str,
+    /// The name of a file with a match program, `-` for standard input, which `file` isn't then. `Run` has one, and so
+    /// may `Compile`; it is `None` where the action is another.
+    pub program: Option<&'a str>,
     /// What finds the matches; `One` where the words don't say it, and where the action is another than `Match`.
     pub engine: Engine,
     /// How many matches are printed at most, 1 to 1,000,000,000. There is no limit where it is `None`, and where the
@@ -68,6 +77,7 @@ pub(crate) struct Options<'a> {
     pub(crate) limit: Option<&'a str>,
     pub(crate) resume: Option<&'a str>,
     pub(crate) max: Option<&'a str>,
+    pub(crate) from: Option<&'a str>,
 }
 
 // The action of that name, if there is one.
@@ -82,6 +92,10 @@ fn named_action(name: &str) -> Option<Action>
         Some(Action::Rewrite)
     } else if name == "edit" {
         Some(Action::Edit)
+    } else if name == "compile" {
+        Some(Action::Compile)
+    } else if name == "run" {
+        Some(Action::Run)
     } else {
         None
     }
@@ -91,16 +105,15 @@ fn named_action(name: &str) -> Option<Action>
 fn may_stand(action: Action, options: &Options) -> bool
     ensures { result ≡ are_among (line_of action).options (given options.now) }
 {
+    let none_of_match = options.engine.is_none()
+        && options.limit.is_none()
+        && options.resume.is_none();
     match action {
-        Action::Match => options.max.is_none(),
-        Action::Rewrite => {
-            options.engine.is_none() && options.limit.is_none() && options.resume.is_none()
-        }
-        Action::Show | Action::Edit => {
-            options.engine.is_none()
-                && options.limit.is_none()
-                && options.resume.is_none()
-                && options.max.is_none()
+        Action::Match => options.max.is_none() && options.from.is_none(),
+        Action::Rewrite => none_of_match && options.from.is_none(),
+        Action::Compile => none_of_match && options.max.is_none(),
+        Action::Show | Action::Edit | Action::Run => {
+            none_of_match && options.max.is_none() && options.from.is_none()
         }
     }
 }
@@ -115,6 +128,8 @@ fn named_engine(name: &str) -> Option<Engine>
         Some(Engine::Many)
     } else if name == "net" {
         Some(Engine::Net)
+    } else if name == "program" {
+        Some(Engine::Program)
     } else {
         None
     }
@@ -136,7 +151,7 @@ fn may_resume(engine: Engine, resume: Option<&str>) -> bool
 {
     match engine {
         Engine::One => true,
-        Engine::Many | Engine::Net => resume.is_none(),
+        Engine::Many | Engine::Net | Engine::Program => resume.is_none(),
     }
 }
 
@@ -163,14 +178,48 @@ fn read_max(max: Option<&str>) -> Option<u32>
     }
 }
 
+// The file that stands behind the action, and the program file: behind it where the action runs one, else the one of
+// the option.
+fn files_of<'a>(
+    action: Action,
+    rest: &[&'a str],
+    from: Option<&'a str>,
+) -> Option<(&'a str, Option<&'a str>)>
+    ensures { option_map (λ files. (files.0.now, some_text files.1)) result
+        ≡ files_of (line_of action) (map (λ w. w.now) rest.now) (some_text from.entry) }
+{
+    match action {
+        Action::Run => {
+            let [file, program] = rest else {
+                return None;
+            };
+            Some((file, Some(program)))
+        }
+        _ => {
+            let [file] = rest else {
+                return None;
+            };
+            Some((file, from))
+        }
+    }
+}
+
+// Both files are standard input.
+fn both_are_input(file: &str, program: Option<&str>) -> bool
+    ensures { result ≡ both_are_input file.now (some_text program.entry) }
+{
+    match program {
+        None => false,
+        Some(program) => file == "-" && program == "-",
+    }
+}
+
 // The request for an action, by what stands behind it and by the options.
 fn request_for<'a>(action: Action, rest: &[&'a str], options: &Options<'a>) -> Option<Request<'a>>
     ensures { option_map asked result ≡ request_for (line_of action) (map (λ w. w.now) rest.now) (given options.now) }
 {
-    let [file] = rest else {
-        return None;
-    };
-    if !may_stand(action, options) {
+    let (file, program) = files_of(action, rest, options.from)?;
+    if both_are_input(file, program) || !may_stand(action, options) {
         return None;
     }
     let engine = read_engine(options.engine)?;
@@ -182,6 +231,7 @@ fn request_for<'a>(action: Action, rest: &[&'a str], options: &Options<'a>) -> O
     Some(Request {
         action,
         file,
+        program,
         engine,
         limit,
         resume: options.resume,

@@ -46,7 +46,8 @@ fn make_command<'a>(alloc: Global) -> Result<Command<'a>, AllocError>
     let engine = both.arg(make_option(alloc, "engine"))?;
     let limit = engine.arg(make_option(alloc, "limit"))?;
     let resume = limit.arg(make_option(alloc, "resume"))?;
-    resume.arg(make_option(alloc, "max"))
+    let max = resume.arg(make_option(alloc, "max"))?;
+    max.arg(make_option(alloc, "from"))
 }
 
 // The request that clap's matches make, if they make one.
@@ -59,11 +60,13 @@ fn request_in<'a>(matches: &ArgMatches<'a>) -> Option<Request<'a>>
     let limit = matches.get_str("limit");
     let resume = matches.get_str("resume");
     let max = matches.get_str("max");
+    let from = matches.get_str("from");
     let options = Options {
         engine,
         limit,
         resume,
         max,
+        from,
     };
     request_by(name, rest, &options)
 }
@@ -71,13 +74,14 @@ fn request_in<'a>(matches: &ArgMatches<'a>) -> Option<Request<'a>>
 /// The request that the words make, if they make one. `all` is the program's name, whatever it is, and the words behind
 /// it.
 ///
-/// The words are the name of an action and, behind it, that of one file, and the options that may stand at the action,
-/// each once at most and at any place: `--engine` with `one` or `net`, `--limit` with a number from 1 to 1,000,000,000
-/// and, unless the engine is `net`, `--resume` with any text at `match`; `--max` with a number from 0 to 1,000,000 at
-/// `rewrite`; none at `show` and `edit`.
-/// A number is 1 to 10 digits. An option and its value are two words, or one with `=` between them; a value that begins
-/// with `-`, other than `-` alone, stands behind `=`. The name of a file is any text; one that begins with `-`, other
-/// than `-` alone, stands behind the word `--`, where no word is an option. Words that ask for help make no request.
+/// The words are the name of an action and, behind it, that of one file, at `run` those of a file and of a program
+/// file, and the options that may stand at the action, each once at most and at any place: `--engine` with `one`,
+/// `many`, `net` or `program`, `--limit` with a number from 1 to 1,000,000,000 and, where the engine is `one`,
+/// `--resume` with any text at `match`; `--max` with a number from 0 to 1,000,000 at `rewrite`; `--from` with the name
+/// of a program file at `compile`; none at `show`, `edit` and `run`. Not both files are `-`. A number is 1 to 10
+/// digits. An option and its value are two words, or one with `=` between them; a value that begins with `-`, other
+/// than `-` alone, stands behind `=`. The name of a file is any text; one that begins with `-`, other than `-` alone,
+/// stands behind the word `--`, where no word is an option. Words that ask for help make no request.
 ///
 /// It meets `request_of` of `specs/Words.antt`. An error is want of memory.
 pub fn read_words<'a>(alloc: Global, all: &'a [&'a str]) -> Result<Option<Request<'a>>, Memory>

@@ -11,10 +11,14 @@ returns c = record {
   netted = refl;
   rewritten = refl;
   shown = refl;
+  compiled = refl;
+  run = refl;
   help = refl;
   other = refl;
   token = refl;
   many_token = refl;
   range = refl;
   files = refl;
+  no_program = refl;
+  inputs = refl;
 }

@@ -19,6 +19,9 @@ limit = with_rule engine (option_rule (codes "limit"))
 abbrev resume : App
 resume = with_rule limit (option_rule (codes "resume"))
 
+abbrev max : App
+max = with_rule resume (option_rule (codes "max"))
+
 pub returns : goal.returns
 returns c =
     let first_is : app_of c.in_ok-first.first ≡ first = c.in_ok-first.ensures.shape c.make_action.ensures.local
@@ -31,5 +34,7 @@ returns c =
     ∙ ap₂ with_rule engine_is c.make_option-2.ensures.rule in
     let resume_is : app_of c.in_ok-resume.resume ≡ resume = c.in_ok-resume.ensures.shape c.make_option-3.ensures.local
     ∙ ap₂ with_rule limit_is c.make_option-3.ensures.rule in
-    IfOk-weaker c.arg-6.result _ _ (λ made adds. adds.shape c.make_option-4.ensures.local
-    ∙ ap₂ with_rule resume_is c.make_option-4.ensures.rule) c.arg-6.ensures
+    let max_is : app_of c.in_ok-max.max ≡ max = c.in_ok-max.ensures.shape c.make_option-4.ensures.local
+    ∙ ap₂ with_rule resume_is c.make_option-4.ensures.rule in
+    IfOk-weaker c.arg-7.result _ _ (λ made adds. adds.shape c.make_option-5.ensures.local
+    ∙ ap₂ with_rule max_is c.make_option-5.ensures.rule) c.arg-7.ensures
