@@ -1,6 +1,6 @@
--- The law of each action.
-use Rattle.std.proofs.Common.{◌≡◌, ℕ, Bool, true, false, List, [], ◌∷◌, arith}
-use Rattle.std.specs.Prelude.{◌↔◌, Option, Some, None, slice_get, if◌then◌else◌}
+-- No action comes to the status of a file that isn't read.
+use Rattle.std.proofs.Common.{◌≡◌, ℕ, Bool, true, false, List, [], ◌∷◌, arith, subst, sym}
+use Rattle.std.specs.Prelude.{Option, Some, None, slice_get, if◌then◌else◌}
 use Rattle.mp_io.specs.Devices.{Text}
 use Rattle.mp_term.specs.Tree.{Tree}
 use Rattle.mp_term.specs.Signature.{Sig}
@@ -21,19 +21,12 @@ use Rattle.mp_words.specs.declared.request.Action.{Action}
 use Rattle.mp_words.specs.declared.request.Action.TheVariants as action
 use Rattle.mp_words.specs.declared.request.Engine.{Engine}
 use Rattle.mp_words.specs.declared.request.Engine.TheVariants as engine
-use Rattle.mp_command.specs.Computed.{matched_whole, matches_by, outcome_of, over_syntactic, over_templates, rewritten}
+use Rattle.mp_program.specs.Program.{Program}
+use Rattle.mp_command.specs.Computed.{matched_whole, matches_by, over_syntactic, over_templates, rewritten}
 use Rattle.mp_command.specs.Outcome.{IsDone, Outcome, edited_before, edits_made, first_not_syntactic}
 use Rattle.mp_command.specs.Outcome.{first_without_template, matched, rewritten_before, statement_before}
 use Rattle.mp_command.proofs.Matched.{matches_by-exact}
 use Rattle.mp_command.proofs.Rewrites.{over_templates-exact}
-
--- what the proofs know of an action
-pub record IsLawful (action : Action) : Type 0 where
-  -- over a sound file it comes to what its function gives, and to nothing else
-  pub exact : (request : Request) (file : FileTree) (o : Outcome) → IsSoundFile file
-      → IsDone action request file o ↔ (o ≡ outcome_of action request file)
-  -- its status isn't that of a file that isn't read
-  pub read : (request : Request) (file : FileTree) → (outcome_of action request file).status ≡ 4 → ⊥
 
 -- the outcome has a status other than that of a file that isn't read
 abbrev IsRead : Outcome → Type 0
@@ -57,6 +50,7 @@ over_syntactic-read over (Some rule) h = λ e. absurd (omega arith)
 matches_by-read : (engine : Engine) (request : Request) (file : FileTree) → IsRead (matches_by engine request file)
 matches_by-read engine.One request file = matched-read (listed file request.resume request.limit)
 matches_by-read engine.Many request file = any_or_none (has_some _)
+matches_by-read engine.Program request file = any_or_none (has_some _)
 matches_by-read engine.Net request file =
     over_syntactic-read (matched_whole file request.limit) (first_not_syntactic file.sig file.rules)
     (any_or_none (has_some _))
@@ -105,20 +99,19 @@ edits_made-read sig ss (e ∷ es) =
 
 -- ---- the actions
 
-pub action_law : (action : Action) → IsLawful action
-action_law action.Match = record {
-  exact = λ request. matches_by-exact request.engine request;
-  read = λ request file. matches_by-read request.engine request file;
-}
-action_law action.Show =
-    record { exact = λ request file o sound. (λ e. e, λ e. e); read = λ request file e. absurd (omega arith) }
-action_law action.Rewrite = record {
-  exact = λ request. over_templates-exact request.max;
-  read = λ request file.
-      over_templates-read (rewritten file.sig request.max file.rules file.subjects)
-      (first_without_template file.rules) (rewritten-read file.sig request.max file.rules file.subjects);
-}
-action_law action.Edit = record {
-  exact = λ request file o sound. (λ e. e, λ e. e);
-  read = λ request file. edits_made-read file.sig file.subjects file.edits;
-}
+-- over a sound file the status isn't that of a file that isn't read
+pub done-read : (request : Request) (file : FileTree) (program : Option Program) (action : Action) (o : Outcome)
+    → IsSoundFile file → IsDone request file program action o → IsRead o
+done-read request file program action.Match o sound h =
+    subst IsRead (sym ((matches_by-exact request.engine request file o sound).0 h))
+    (matches_by-read request.engine request file)
+done-read request file program action.Show o sound h = subst IsRead (sym h) (λ e. absurd (omega arith))
+done-read request file program action.Rewrite o sound h =
+    subst IsRead (sym ((over_templates-exact request.max file o sound).0 h))
+    (over_templates-read (rewritten file.sig request.max file.rules file.subjects)
+    (first_without_template file.rules) (rewritten-read file.sig request.max file.rules file.subjects))
+done-read request file program action.Edit o sound h =
+    subst IsRead (sym h) (edits_made-read file.sig file.subjects file.edits)
+done-read request file program action.Compile o sound h = subst IsRead (sym h) (λ e. absurd (omega arith))
+done-read request file None action.Run o sound h = subst IsRead (sym h) (λ e. absurd (omega arith))
+done-read request file (Some p) action.Run o sound h = subst IsRead (sym h.2) (matched-read (lines h.0))

@@ -1,5 +1,5 @@
 -- The matches of a file by an engine, as a relation, are those as a function.
-use Rattle.std.proofs.Common.{◌≡◌, ◌<◌, ◌⊎◌, ℕ, Bool, false, not, List, [], ◌∷◌, length, refl, ap, ◌∙◌, subst}
+use Rattle.std.proofs.Common.{◌≡◌, ◌<◌, ◌⊎◌, ℕ, Bool, false, not, List, [], ◌∷◌, length, refl, ap, ◌∙◌, subst, sym}
 use Rattle.std.proofs.Common.{inl, inr, arith}
 use Rattle.std.specs.Prelude.{◌↔◌, Option, Some, None, IfSome, find, flat_map, option_map, position, slice_get}
 use Rattle.std.specs.Prelude.{if◌then◌else◌}
@@ -19,9 +19,13 @@ use Rattle.mp_net.specs.declared.fault.NetFault.{NetFault}
 use Rattle.mp_net.specs.declared.fault.NetFault.TheVariants as net_fault
 use Rattle.mp_text.specs.File.{FileTree, Subject}
 use Rattle.mp_text.specs.Sound.{IsSoundFile, IsSoundSubject}
-use Rattle.mp_matches.specs.AllListed.{IsAllListed, front_lines}
+use Rattle.mp_io.specs.Devices.{Text}
+use Rattle.mp_matches.specs.AllListed.{IsAllListed, names_of}
 use Rattle.mp_matches.specs.Computed.{listed, pair_lines}
-use Rattle.mp_matches.proofs.AllListedLaws.{IsAllListed-exact}
+use Rattle.mp_matches.specs.PairsListed.{front_lines}
+use Rattle.mp_matches.proofs.MatchesLaws.{IsListOf}
+use Rattle.mp_matches.proofs.PairsListedLaws.{IsPairsListed-exact}
+use Rattle.mp_theory.proofs.AllList.{IsAllList-unique}
 use Rattle.mp_matches.proofs.BehindLaws.{position-none, position-some}
 use Rattle.mp_matches.proofs.ListedLaws.{IsListed-exact}
 use Rattle.mp_words.specs.Words.{Request}
@@ -81,21 +85,30 @@ module _ (file : FileTree) (sound : IsSoundFile file) (limit : Option ℕ) where
   abbrev pairs : Tree → List Pair
   pairs = all_pairs file.sig file.rules
 
-  abbrev IsListed : Subject → Type 0
-  IsListed s = IsAllList file.sig file.rules s.term (pairs s.term)
+  abbrev IsOnly : Subject → Type 0
+  IsOnly s = IsListOf (IsAllList file.sig file.rules) pairs s.term
 
-  each : AllByRecursion IsListed file.subjects
-  each = all-also (IsSoundSubject file.sig) IsListed
-      (λ s h. all_pairs-all_list file.sig s.term h.term.normal file.rules) file.subjects sound.subjects
+  each : AllByRecursion IsOnly file.subjects
+  each = all-also (IsSoundSubject file.sig) IsOnly (λ s h qs.
+      let listed = all_pairs-all_list file.sig s.term h.term.normal file.rules in (
+        λ k. IsAllList-unique file.sig file.rules s.term qs (pairs s.term) k listed,
+        λ e. subst (IsAllList file.sig file.rules s.term) (sym e) listed,
+      )) file.subjects sound.subjects
+
+  -- the lines of the all-lists
+  abbrev pub all_text : Text
+  all_text = front_lines limit (flat_map (pair_lines file (names_of file.rules) pairs) file.subjects)
 
   -- what is told is told of the all-lists
-  pub all_listed : IsAllListed file limit (front_lines limit (flat_map (pair_lines file pairs) file.subjects))
-  all_listed = (IsAllListed-exact file pairs each limit _).1 refl
+  pub all_listed : IsAllListed file limit all_text
+  all_listed =
+      (IsPairsListed-exact file (names_of file.rules) (IsAllList file.sig file.rules) pairs each limit all_text).1 refl
 
   pub IsMatchedWhole-exact : (o : Outcome) → IsMatchedWhole file limit o ↔ (o ≡ matched_whole file limit)
   IsMatchedWhole-exact o = (
-    λ h. h.2 ∙ ap matched ((IsAllListed-exact file pairs each limit h.0).0 h.1),
-    λ e. (front_lines limit (flat_map (pair_lines file pairs) file.subjects), all_listed, e),
+    λ h. h.2 ∙ ap matched ((IsPairsListed-exact file (names_of file.rules) (IsAllList file.sig file.rules) pairs each
+        limit h.0).0 h.1),
+    λ e. (all_text, all_listed, e),
   )
 
 -- ---- by an engine
@@ -107,6 +120,7 @@ matches_by-exact engine.One request file o sound =
     let told = listed file request.resume request.limit in
     (λ h. h.2 ∙ ap matched ((exact h.0).0 h.1), λ e. (told, (exact told).1 refl, e))
 matches_by-exact engine.Many request file o sound = IsMatchedWhole-exact file sound request.limit o
+matches_by-exact engine.Program request file o sound = IsMatchedWhole-exact file sound request.limit o
 matches_by-exact engine.Net request file o sound = by_rules (first_not_syntactic file.sig file.rules)
   where
     by_rules : (found : Option Rule) → IsOverSyntactic (IsMatchedWhole file request.limit) found o

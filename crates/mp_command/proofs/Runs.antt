@@ -1,7 +1,7 @@
 -- From the answer of a run to the clause of the command.
-use Rattle.std.proofs.Common.{◌≡◌, ◌⊎◌, inl, inr, ℕ, ◌<◌, ◌≤◌, List, [], ◌∷◌, ◌++◌, length, Bool, true, false, refl}
+use Rattle.std.proofs.Common.{◌≡◌, ◌⊎◌, inl, inr, ℕ, ◌<◌, ◌≤◌, List, [], ◌∷◌, ◌++◌, length, refl}
 use Rattle.std.proofs.Common.{sym, ap, ◌∙◌, subst, arith, append-nil}
-use Rattle.std.specs.Prelude.{Option, Some, None, IfSome, if◌then◌else◌, nat_lt}
+use Rattle.std.specs.Prelude.{Option, Some, None, IfSome}
 use Rattle.std.specs.List.{Contains}
 use Rattle.std.specs.Io.KnownBytes.{Appends, Keeps}
 use Rattle.mp_io.specs.Devices.{Files, IsMissing, Rose, Text, held}
@@ -9,21 +9,21 @@ use Rattle.mp_io.specs.Moments.{Shelved, Sunk}
 use Rattle.mp_io.specs.Printing.{AppendsFront}
 use Rattle.mp_io.proofs.Written.{whole_front}
 use Rattle.mp_text.specs.File.{FileTree}
-use Rattle.mp_text.specs.Computed.{fault_of, file_of}
-use Rattle.mp_build.specs.declared.fault.TextFault.{TextFault}
+use Rattle.mp_text.specs.Sound.{IsSoundFile}
+use Rattle.mp_text.proofs.SoundFile.{IsSoundFile-IsFileOf}
 use Rattle.mp_command.specs.Answers.{Answers, IsReached, IsUnopened}
-use Rattle.mp_command.specs.Computed.{given, outcome_at, outcome_of, outcome_over, over_file}
 use Rattle.mp_command.specs.Endings.{line_of, status_of, told_line, told_status}
 use Rattle.mp_command.specs.Messages.{long_line, memory_line, open_line, read_line, write_line}
-use Rattle.mp_command.specs.Outcome.{Outcome, file_limit, refused}
-use Rattle.mp_command.specs.Run.{HasOutcome, IsSomeMissing, IsTurnOf, Runs, Says, names_of, statuses}
+use Rattle.mp_command.specs.Outcome.{IsDoneWith, IsOutcomeAt, IsOutcomeOver, IsOutcomeWith, IsOver, Named, Outcome}
+use Rattle.mp_command.specs.Outcome.{file_limit, program_limit, refused}
+use Rattle.mp_command.specs.Run.{HasOutcome, IsSomeMissing, IsTurnOf, Runs, Says, ShelfRose, Wanted, statuses}
+use Rattle.mp_command.specs.Run.{wanted_by, wanted_program}
 use Rattle.mp_words.specs.Words.{Request, request_of}
 use Rattle.mp_command.specs.declared.ending.Told.{Told}
 use Rattle.mp_command.specs.declared.ending.Told.TheVariants as told
 use Rattle.mp_command.specs.declared.ending.Ending.{Ending}
 use Rattle.mp_command.specs.declared.ending.Ending.TheVariants as ending
-use Rattle.mp_command.proofs.Actions.{action_law}
-use Rattle.mp_command.proofs.Outcomes.{outcome_at-exact}
+use Rattle.mp_command.proofs.Actions.{done-read}
 
 -- ---- laws of the outcome
 
@@ -35,34 +35,70 @@ IsSilent o = o.status ≡ 4 → o.out ≡ []
 abbrev IsUnheld : Outcome → Type 0
 IsUnheld o = (o.status ≡ 4) × (o.out ≡ [])
 
-given-silent : (limit : ℕ) (name : Text) (over : Text → Outcome) (found : Option Text)
-    → ((bytes : Text) → IsSilent (over bytes)) → IsSilent (given limit name over found)
-given-silent limit name over None h = λ e. refl
-given-silent limit name over (Some bytes) h = by_length (nat_lt limit (length bytes))
-  where
-    by_length : (long : Bool) → IsSilent (if long then refused 4 (long_line name) else over bytes)
-    by_length true = λ e. refl
-    by_length false = h bytes
+refused-silent : (line : Text) (o : Outcome) → o ≡ refused 4 line → IsUnheld o
+refused-silent line o e = (ap (λ x. x.status) e, ap (λ x. x.out) e)
+
+over-silent : (limit : ℕ) (name : Text) (With : Text → Outcome → Type 0) (found : Option Text) (o : Outcome)
+    → ((bytes : Text) → With bytes o → IsSilent o) → IsOver limit name With found o → IsSilent o
+over-silent limit name With None o h over = λ _. (refused-silent (open_line name) o over).1
+over-silent limit name With (Some bytes) o h (inl long) = λ _. (refused-silent (long_line name) o long.1).1
+over-silent limit name With (Some bytes) o h (inr over) = h bytes over.1
 
 -- over the bytes of a file the status isn't 4
-over_file-read : (request : Request) (fault : Option TextFault) (found : Option FileTree)
-    → (over_file (outcome_of request.action request) request.file fault found).status ≡ 4 → ⊥
-over_file-read request (Some fault) found = λ e. absurd (omega arith)
-over_file-read request None None = λ e. absurd (omega arith)
-over_file-read request None (Some file) = (action_law request.action).read request file
+with-read : (request : Request) (file : FileTree) (program : Option Named) (o : Outcome) → IsSoundFile file
+    → IsDoneWith request file program o → o.status ≡ 4 → ⊥
+with-read request file None o sound h = done-read request file None request.action o sound h
+with-read request file (Some named) o sound (inl h) =
+    done-read request file (Some h.0) request.action o sound h.2
+with-read request file (Some named) o sound (inr h) =
+    λ e. let is : o.status ≡ 12 = ap (λ x. x.status) h.2 in absurd (omega (arith, is, e))
 
-outcome_at-silent : (files : Files) (request : Option Request) → IsSilent (outcome_at files request)
-outcome_at-silent files None = λ e. refl
-outcome_at-silent files (Some request) =
-    given-silent file_limit request.file (outcome_over request) (held files request.file)
-    (λ bytes e. absurd (over_file-read request (fault_of bytes) (file_of bytes) e))
+bytes-read : (request : Request) (program : Option Named) (bytes : Text) (o : Outcome)
+    → IsOutcomeOver request program bytes o → o.status ≡ 4 → ⊥
+bytes-read request program bytes o (inl h) =
+    with-read request h.0 program o (IsSoundFile-IsFileOf bytes h.0 h.1) h.2
+bytes-read request program bytes o (inr h) =
+    λ e. let is : o.status ≡ 3 = ap (λ x. x.status) h.2 in absurd (omega (arith, is, e))
 
-outcome_at-missing : (files : Files) (request : Option Request) → IsSomeMissing files (names_of request)
-    → IsUnheld (outcome_at files request)
-outcome_at-missing files None h = absurd h
-outcome_at-missing files (Some request) (inl m) =
-    subst (λ found. IsUnheld (given file_limit request.file (outcome_over request) found)) (sym m) (refl, refl)
-outcome_at-missing files (Some request) (inr h) = absurd h
+behind-silent : (files : Files) (request : Request) (program : Option Text) (bytes : Text) (o : Outcome)
+    → IsOutcomeWith files request program bytes o → IsSilent o
+behind-silent files request None bytes o h = λ e. absurd (bytes-read request None bytes o h e)
+behind-silent files request (Some name) bytes o h =
+    over-silent program_limit name _ (held files name) o
+    (λ text k e. absurd (bytes-read request (Some (record { name = name; bytes = text })) bytes o k e)) h
+
+outcome-silent : (files : Files) (request : Option Request) (o : Outcome) → IsOutcomeAt files request o → IsSilent o
+outcome-silent files None o h = λ e. let is : o.status ≡ 2 = ap (λ x. x.status) h in absurd (omega (arith, is, e))
+outcome-silent files (Some request) o h =
+    over-silent file_limit request.file (IsOutcomeWith files request request.program) (held files request.file) o
+    (λ bytes. behind-silent files request request.program bytes o) h
+
+over-missing : (limit : ℕ) (name : Text) (With : Text → Outcome → Type 0) (found : Option Text) (o : Outcome)
+    → ((bytes : Text) → With bytes o → IsUnheld o) → IsOver limit name With found o → IsUnheld o
+over-missing limit name With None o h over = refused-silent (open_line name) o over
+over-missing limit name With (Some bytes) o h (inl long) = refused-silent (long_line name) o long.1
+over-missing limit name With (Some bytes) o h (inr over) = h bytes over.1
+
+over-unheld : (limit : ℕ) (name : Text) (With : Text → Outcome → Type 0) (found : Option Text) (o : Outcome)
+    → found ≡ None → IsOver limit name With found o → IsUnheld o
+over-unheld limit name With None o e over = refused-silent (open_line name) o over
+over-unheld limit name With (Some bytes) o e over = absurd cc
+
+behind-missing : (files : Files) (request : Request) (program : Option Text) (bytes : Text) (o : Outcome)
+    → IsSomeMissing files (wanted_program program) → IsOutcomeWith files request program bytes o → IsUnheld o
+behind-missing files request None bytes o m h = absurd m
+behind-missing files request (Some name) bytes o (inl m) h =
+    over-unheld program_limit name _ (held files name) o m h
+behind-missing files request (Some name) bytes o (inr m) h = absurd m
+
+outcome-missing : (files : Files) (request : Option Request) (o : Outcome) → IsSomeMissing files (wanted_by request)
+    → IsOutcomeAt files request o → IsUnheld o
+outcome-missing files None o m h = absurd m
+outcome-missing files (Some request) o (inl m) h =
+    over-unheld file_limit request.file (IsOutcomeWith files request request.program) (held files request.file) o m h
+outcome-missing files (Some request) o (inr m) h =
+    over-missing file_limit request.file (IsOutcomeWith files request request.program) (held files request.file) o
+    (λ bytes. behind-missing files request request.program bytes o m) h
 
 -- ---- what is kept and what is appended
 
@@ -80,9 +116,10 @@ AppendsFront-keeps : (out : Sunk) (text : Text) → Keeps out.old out.new → Ap
 AppendsFront-keeps out text k =
     record { front = []; rest = text; split = refl; written = Appends-keeps out.old out.new k }
 
-IsTurnOf-some : (files : Option Files) (names : List Text) (name : Text) → IsTurnOf files names name → 0 < length names
-IsTurnOf-some files [] name h = absurd h
-IsTurnOf-some files (n ∷ names) name h = omega arith
+IsTurnOf-some : (files : Option Files) (wanted : List Wanted) (file : Wanted) → IsTurnOf files wanted file
+    → 0 < length wanted
+IsTurnOf-some files [] file h = absurd h
+IsTurnOf-some files (w ∷ ws) file h = omega arith
 
 -- what the words and the files decide is neither a failed write nor want of memory
 told_status-settled : (t : Told) → (told_status t ≡ 5 → ⊥) × (told_status t ≡ 8 → ⊥)
@@ -90,6 +127,7 @@ told_status-settled told.Done = (λ e. absurd (omega arith), λ e. absurd (omega
 told_status-settled told.Empty = (λ e. absurd (omega arith), λ e. absurd (omega arith))
 told_status-settled told.Usage = (λ e. absurd (omega arith), λ e. absurd (omega arith))
 told_status-settled (told.BadText name fault) = (λ e. absurd (omega arith), λ e. absurd (omega arith))
+told_status-settled (told.BadProgram name fault) = (λ e. absurd (omega arith), λ e. absurd (omega arith))
 told_status-settled (told.TooLong name) = (λ e. absurd (omega arith), λ e. absurd (omega arith))
 told_status-settled (told.Misspelt at) = (λ e. absurd (omega arith), λ e. absurd (omega arith))
 told_status-settled told.NoItem = (λ e. absurd (omega arith), λ e. absurd (omega arith))
@@ -107,6 +145,7 @@ status_of-listed (ending.Told told.Done) = (0, omega arith, refl)
 status_of-listed (ending.Told told.Empty) = (1, omega arith, refl)
 status_of-listed (ending.Told told.Usage) = (2, omega arith, refl)
 status_of-listed (ending.Told (told.BadText name fault)) = (3, omega arith, refl)
+status_of-listed (ending.Told (told.BadProgram name fault)) = (12, omega arith, refl)
 status_of-listed (ending.Told (told.TooLong name)) = (4, omega arith, refl)
 status_of-listed (ending.Told (told.Misspelt at)) = (9, omega arith, refl)
 status_of-listed (ending.Told told.NoItem) = (9, omega arith, refl)
@@ -137,6 +176,7 @@ Says-done err (ending.Told told.Done) says few = Says-nothing err says
 Says-done err (ending.Told told.Empty) says few = Says-nothing err says
 Says-done err (ending.Told told.Usage) says few = absurd (omega arith)
 Says-done err (ending.Told (told.BadText name fault)) says few = absurd (omega arith)
+Says-done err (ending.Told (told.BadProgram name fault)) says few = absurd (omega arith)
 Says-done err (ending.Told (told.TooLong name)) says few = absurd (omega arith)
 Says-done err (ending.Told (told.Misspelt at)) says few = absurd (omega arith)
 Says-done err (ending.Told told.NoItem) says few = absurd (omega arith)
@@ -162,159 +202,185 @@ told-here P found files e h = subst (λ x. IfSome x P) e h
 
 module _ (files : Files) (request : Option Request) (shelf : Shelved) (told_files : shelf.files ≡ Some files)
     (out err : Sunk) where
-  abbrev o : Outcome
-  o = outcome_at files request
+  abbrev wanted : List Wanted
+  wanted = wanted_by request
 
-  Runs-told : (t : Told) → IsReached o out t → Says err (told_line t) → (told_status t ≡ 5 → ⊥)
-      → (told_status t ≡ 8 → ⊥)
-      → Runs o (names_of request) files shelf out err (told_status t)
-  Runs-told t h says not5 not8 = record {
-    unread = λ e. inl (sym h.status ∙ e);
-    missing = λ m. inl (h.status ∙ (outcome_at-missing files request m).0);
-    settled = λ _ _ _. (h.status, h.text);
-    front = whole_front out.old out.new o.out h.text;
-    nothing = λ e. Keeps-appends out.old out.new
-        (subst (λ (x : Text). Appends out.old out.new x) (outcome_at-silent files request (sym h.status ∙ e)) h.text);
-    write = λ e. absurd (not5 e);
-    unfailed = λ _ _ _. h.stays;
-    line = (
-      told_line t,
-      record {
-        write = λ e. absurd (not5 e);
-        memory = λ e. absurd (not8 e);
-        unread = λ e. inl (sym h.status ∙ e, h.line);
-        other = λ _ _ _. h.line;
-      },
-      says,
-    );
-  }
+  module _ (o : Outcome) (is : IsOutcomeAt files request o) where
+    Runs-told : (t : Told) → IsReached o out t → Says err (told_line t)
+        → Runs o wanted files shelf out err (told_status t)
+    Runs-told t h says =
+        let settled = told_status-settled t in
+        record {
+          unread = λ e. inl (sym h.status ∙ e);
+          missing = λ m. inl (h.status ∙ (outcome-missing files request o m is).0);
+          settled = λ _ _ _. (h.status, h.text);
+          front = whole_front out.old out.new o.out h.text;
+          nothing = λ e. Keeps-appends out.old out.new
+              (subst (λ (x : Text). Appends out.old out.new x)
+              (outcome-silent files request o is (sym h.status ∙ e)) h.text);
+          write = λ e. absurd (settled.0 e);
+          unfailed = λ _ _ _. h.stays;
+          line = (
+            told_line t,
+            record {
+              write = λ e. absurd (settled.0 e);
+              memory = λ e. absurd (settled.1 e);
+              unread = λ e. inl (sym h.status ∙ e, h.line);
+              other = λ _ _ _. h.line;
+            },
+            says,
+          );
+        }
 
-  Runs-memory : AppendsFront out.old out.new o.out → Says err memory_line
-      → Runs o (names_of request) files shelf out err 8
-  Runs-memory h says = record {
-    unread = λ e. absurd (omega arith);
-    missing = λ m. inr refl;
-    settled = λ _ not8 _. absurd (not8 refl);
-    front = h;
-    nothing = λ e. absurd (omega arith);
-    write = λ e. absurd (omega arith);
-    unfailed = λ _ _ not8. absurd (not8 refl);
-    line = (
-      memory_line,
-      record {
-        write = λ e. absurd (omega arith);
-        memory = λ _. refl;
-        unread = λ e. absurd (omega arith);
-        other = λ _ not8 _. absurd (not8 refl);
-      },
-      says,
-    );
-  }
+    Runs-memory : AppendsFront out.old out.new o.out → Says err memory_line → Runs o wanted files shelf out err 8
+    Runs-memory h says = record {
+      unread = λ e. absurd (omega arith);
+      missing = λ m. inr refl;
+      settled = λ _ not8 _. absurd (not8 refl);
+      front = h;
+      nothing = λ e. absurd (omega arith);
+      write = λ e. absurd (omega arith);
+      unfailed = λ _ _ not8. absurd (not8 refl);
+      line = (
+        memory_line,
+        record {
+          write = λ e. absurd (omega arith);
+          memory = λ _. refl;
+          unread = λ e. absurd (omega arith);
+          other = λ _ not8 _. absurd (not8 refl);
+        },
+        says,
+      );
+    }
 
-  Runs-write : Rose out.faults out.faults_after → AppendsFront out.old out.new o.out → 0 < length o.out
-      → Says err write_line → Runs o (names_of request) files shelf out err 5
-  Runs-write rose h long says = record {
-    unread = λ e. absurd (omega arith);
-    missing = λ m. let none : 0 ≡ length o.out = sym (ap length (outcome_at-missing files request m).1) in
-        absurd (omega arith);
-    settled = λ not5 _ _. absurd (not5 refl);
-    front = h;
-    nothing = λ e. absurd (omega arith);
-    write = λ _. (long, rose);
-    unfailed = λ _ not5 _. absurd (not5 refl);
-    line = (
-      write_line,
-      record {
-        write = λ _. refl;
-        memory = λ e. absurd (omega arith);
-        unread = λ e. absurd (omega arith);
-        other = λ not5 _ _. absurd (not5 refl);
-      },
-      says,
-    );
-  }
+    Runs-write : Rose out.faults out.faults_after → AppendsFront out.old out.new o.out → 0 < length o.out
+        → Says err write_line → Runs o wanted files shelf out err 5
+    Runs-write rose h long says = record {
+      unread = λ e. absurd (omega arith);
+      missing = λ m. let none : 0 ≡ length o.out = sym (ap length (outcome-missing files request o m is).1) in
+          absurd (omega arith);
+      settled = λ not5 _ _. absurd (not5 refl);
+      front = h;
+      nothing = λ e. absurd (omega arith);
+      write = λ _. (long, rose);
+      unfailed = λ _ not5 _. absurd (not5 refl);
+      line = (
+        write_line,
+        record {
+          write = λ _. refl;
+          memory = λ e. absurd (omega arith);
+          unread = λ e. absurd (omega arith);
+          other = λ not5 _ _. absurd (not5 refl);
+        },
+        says,
+      );
+    }
 
-  Runs-open : (name : Text) → Keeps out.old out.new → IsTurnOf shelf.files (names_of request) name
-      → Rose shelf.start_faults shelf.start_faults_after ⊎ IsUnopened (open_line name) o
-      → Says err (open_line name) → Runs o (names_of request) files shelf out err 4
-  Runs-open name kept turn why says = record {
-    unread = λ _. elim why [
-      | inl rose ↦ inr (IsTurnOf-some shelf.files (names_of request) name turn, inl rose)
-      | inr m ↦ inl m.0
-    ];
-    missing = λ m. inl refl;
-    settled = λ _ _ calm. elim why [
-      | inl rose ↦ absurd (calm refl (inl rose))
-      | inr m ↦
-          (sym m.0, subst (λ (x : Text). Appends out.old out.new x) (sym m.2) (Appends-keeps out.old out.new kept))
-    ];
-    front = AppendsFront-keeps out o.out kept;
-    nothing = λ _. kept;
-    write = λ e. absurd (omega arith);
-    unfailed = λ not4 _ _. absurd (not4 refl);
-    line = (
-      open_line name,
-      record {
-        write = λ e. absurd (omega arith);
-        memory = λ e. absurd (omega arith);
-        unread = λ _. elim why [ inl rose ↦ inr (name, turn, inl (refl, rose)) | inr m ↦ inl (m.0, m.1) ];
-        other = λ _ _ not4. absurd (not4 refl);
-      },
-      says,
-    );
-  }
+    Runs-open : (file : Wanted) → Keeps out.old out.new → IsTurnOf shelf.files wanted file
+        → Rose shelf.start_faults shelf.start_faults_after ⊎ IsUnopened (open_line file.name) o
+        → Says err (open_line file.name) → Runs o wanted files shelf out err 4
+    Runs-open file kept turn why says = record {
+      unread = λ _. elim why [
+        | inl rose ↦ inr (IsTurnOf-some shelf.files wanted file turn, inl rose)
+        | inr m ↦ inl m.0
+      ];
+      missing = λ m. inl refl;
+      settled = λ _ _ calm. elim why [
+        | inl rose ↦ absurd (calm refl (inl rose))
+        | inr m ↦
+            (sym m.0, subst (λ (x : Text). Appends out.old out.new x) (sym m.2) (Appends-keeps out.old out.new kept))
+      ];
+      front = AppendsFront-keeps out o.out kept;
+      nothing = λ _. kept;
+      write = λ e. absurd (omega arith);
+      unfailed = λ not4 _ _. absurd (not4 refl);
+      line = (
+        open_line file.name,
+        record {
+          write = λ e. absurd (omega arith);
+          memory = λ e. absurd (omega arith);
+          unread = λ _. elim why [ inl rose ↦ inr (file, turn, inl (refl, rose)) | inr m ↦ inl (m.0, m.1) ];
+          other = λ _ _ not4. absurd (not4 refl);
+        },
+        says,
+      );
+    }
 
-  Runs-read : (name : Text) → Keeps out.old out.new → IsTurnOf shelf.files (names_of request) name
-      → (IsMissing shelf.files name → ⊥)
-      → Rose shelf.read_faults shelf.read_faults_after
-      → Says err (read_line name) → Runs o (names_of request) files shelf out err 4
-  Runs-read name kept turn there rose says = record {
-    unread = λ _. inr (IsTurnOf-some shelf.files (names_of request) name turn, inr rose);
-    missing = λ m. inl refl;
-    settled = λ _ _ calm. absurd (calm refl (inr rose));
-    front = AppendsFront-keeps out o.out kept;
-    nothing = λ _. kept;
-    write = λ e. absurd (omega arith);
-    unfailed = λ not4 _ _. absurd (not4 refl);
-    line = (
-      read_line name,
-      record {
-        write = λ e. absurd (omega arith);
-        memory = λ e. absurd (omega arith);
-        unread = λ _. inr (name, turn, inr (refl, there, rose));
-        other = λ _ _ not4. absurd (not4 refl);
-      },
-      says,
-    );
-  }
+    Runs-read : (file : Wanted) → Keeps out.old out.new → IsTurnOf shelf.files wanted file
+        → (IsMissing shelf.files file.name → ⊥)
+        → Rose shelf.read_faults shelf.read_faults_after
+        → Says err (read_line file.name) → Runs o wanted files shelf out err 4
+    Runs-read file kept turn there rose says = record {
+      unread = λ _. inr (IsTurnOf-some shelf.files wanted file turn, inr rose);
+      missing = λ m. inl refl;
+      settled = λ _ _ calm. absurd (calm refl (inr rose));
+      front = AppendsFront-keeps out o.out kept;
+      nothing = λ _. kept;
+      write = λ e. absurd (omega arith);
+      unfailed = λ not4 _ _. absurd (not4 refl);
+      line = (
+        read_line file.name,
+        record {
+          write = λ e. absurd (omega arith);
+          memory = λ e. absurd (omega arith);
+          unread = λ _. inr (file, turn, inr (refl, there, rose));
+          other = λ _ _ not4. absurd (not4 refl);
+        },
+        says,
+      );
+    }
 
-  Runs-answers : (e : Ending) → Answers (names_of request) (λ fs. outcome_at fs request) shelf out e
-      → Says err (line_of e)
-      → Runs o (names_of request) files shelf out err (status_of e)
-  Runs-answers (ending.Told t) h says =
-      Runs-told t (told-here _ shelf.files files told_files h) says (told_status-settled t).0 (told_status-settled t).1
-  Runs-answers ending.Memory h says = Runs-memory (told-here _ shelf.files files told_files h) says
-  Runs-answers ending.CannotWrite h says =
-      let cut = told-here _ shelf.files files told_files h.1 in
-      Runs-write h.0 cut.0 cut.1 says
-  Runs-answers (ending.CannotOpen name) h says =
-      Runs-open name.now h.0 h.1
-      (elim h.2 [ inl rose ↦ inl rose | inr m ↦ inr (told-here _ shelf.files files told_files m.1) ]) says
-  Runs-answers (ending.CannotRead name) h says = Runs-read name.now h.0 h.1 h.2 h.3 says
+    Runs-answers : (e : Ending) → Answers wanted (λ fs. IsOutcomeAt fs request) shelf out e
+        → Says err (line_of e)
+        → Runs o wanted files shelf out err (status_of e)
+    Runs-answers (ending.Told t) h says =
+        Runs-told t ((told-here _ shelf.files files told_files h).each o is) says
+    Runs-answers ending.Memory h says = Runs-memory (told-here _ shelf.files files told_files h o is) says
+    Runs-answers ending.CannotWrite h says =
+        let cut = told-here _ shelf.files files told_files h.1 o is in
+        Runs-write h.0 cut.0 cut.1 says
+    Runs-answers (ending.CannotOpen name) h says =
+        let file = h.1.0 in
+        let unopened : Rose shelf.start_faults shelf.start_faults_after ⊎ IsUnopened (open_line name.now) o = elim h.2 [
+          | inl rose ↦ inl rose
+          | inr m ↦ inr ((told-here _ shelf.files files told_files m.1).each o is)
+        ] in
+        Runs-open file h.0 h.1.1
+        (subst (λ n. Rose shelf.start_faults shelf.start_faults_after ⊎ IsUnopened (open_line n) o) (sym h.1.2)
+        unopened)
+        (subst (λ n. Says err (open_line n)) (sym h.1.2) says)
+    Runs-answers (ending.CannotRead name) h says =
+        let file = h.1.0 in
+        Runs-read file h.0 h.1.1
+        (λ m. h.2 (subst (IsMissing shelf.files) h.1.2 m)) h.3 (subst (λ n. Says err (read_line n)) (sym h.1.2) says)
+
+  -- there is an outcome where memory and faults didn't keep the run from it
+  outcome-answers : (e : Ending) → Answers wanted (λ fs. IsOutcomeAt fs request) shelf out e
+      → (status_of e ≡ 5 → ⊥) → (status_of e ≡ 8 → ⊥) → (status_of e ≡ 4 → ShelfRose shelf → ⊥)
+      → (o : Outcome) × IsOutcomeAt files request o
+  outcome-answers (ending.Told t) h not5 not8 calm = (told-here _ shelf.files files told_files h).some
+  outcome-answers ending.Memory h not5 not8 calm = absurd (not8 refl)
+  outcome-answers ending.CannotWrite h not5 not8 calm = absurd (not5 refl)
+  outcome-answers (ending.CannotOpen name) h not5 not8 calm = elim h.2 [
+    | inl rose ↦ absurd (calm refl (inl rose))
+    | inr m ↦ (told-here _ shelf.files files told_files m.1).some
+  ]
+  outcome-answers (ending.CannotRead name) h not5 not8 calm = absurd (calm refl (inr h.3))
 
 -- the clause, of the request that the words make
 pub HasOutcome-answers : (shelf : Shelved) (words : List Text) (asked_for : Option Request) (out err : Sunk)
     (e : Ending) (status : ℕ)
     → asked_for ≡ request_of words → status ≡ status_of e
-    → Answers (names_of asked_for) (λ fs. outcome_at fs asked_for) shelf out e → Says err (line_of e)
+    → Answers (wanted_by asked_for) (λ fs. IsOutcomeAt fs asked_for) shelf out e → Says err (line_of e)
     → IfSome shelf.files (λ files. HasOutcome words files shelf out err status)
 HasOutcome-answers shelf words asked_for out err e status asked_is status_is h says =
     IfSome-told shelf.files (λ files told_files.
-    let o = outcome_at files (request_of words) in
     let whole : HasOutcome words files shelf out err (status_of e) = record {
-      outcome = o;
-      is_outcome = (outcome_at-exact files (request_of words) o).1 refl;
-      runs = subst (λ r. Runs (outcome_at files r) (names_of r) files shelf out err (status_of e)) asked_is
-          (Runs-answers files asked_for shelf told_files out err e h says);
+      runs = λ o is. subst (λ r. Runs o (wanted_by r) files shelf out err (status_of e)) asked_is
+          (Runs-answers files asked_for shelf told_files out err o
+          (subst (λ r. IsOutcomeAt files r o) (sym asked_is) is) e h says);
+      outcome = λ not5 not8 calm.
+          let found = outcome-answers files asked_for shelf told_files out err e h not5 not8 calm in
+          (found.0, subst (λ r. IsOutcomeAt files r found.0) asked_is found.1);
     } in
     subst (HasOutcome words files shelf out err) (sym status_is) whole)

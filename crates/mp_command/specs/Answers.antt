@@ -1,5 +1,5 @@
 -- What an ending says: of an action over bytes, and of a run over a shelf.
-use Rattle.std.specs.Prelude.{◌≡◌, ◌⊎◌, ◌<◌, ◌≤◌, ℕ, List, [], length, IfSome, Result, Ok, Err, Vec, ⊤}
+use Rattle.std.specs.Prelude.{◌≡◌, ◌⊎◌, ◌<◌, ◌≤◌, ℕ, List, [], length, IfSome, Option, Result, Ok, Err, Vec, ⊤}
 use Rattle.std.specs.Global.{Global}
 use Rattle.std.specs.Io.KnownBytes.{Appends, Keeps}
 use Rattle.mp_io.specs.Devices.{Files, HoldsBytes, IsLonger, IsMissing, Rose, Text}
@@ -8,7 +8,7 @@ use Rattle.mp_io.specs.Printing.{AppendsFront}
 use Rattle.mp_command.specs.Endings.{line_of, status_of, told_line, told_status}
 use Rattle.mp_command.specs.Messages.{long_line}
 use Rattle.mp_command.specs.Outcome.{Outcome, written_before}
-use Rattle.mp_command.specs.Run.{IsTurnOf, IsUnreadLine}
+use Rattle.mp_command.specs.Run.{IsTurnOf, IsUnreadLine, Wanted}
 use Rattle.mp_command.specs.declared.ending.Told.{Told}
 use Rattle.mp_command.specs.declared.ending.Ending.{Ending}
 use Rattle.mp_command.specs.declared.ending.Ending.TheVariants as ending
@@ -30,6 +30,22 @@ Acts o out ending.CannotWrite =
     AppendsFront out.old out.new o.out × Rose out.faults out.faults_after × (0 < length o.out)
 Acts o out (ending.CannotOpen name) = ⊥
 Acts o out (ending.CannotRead name) = ⊥
+
+-- what the words and the files decide
+abbrev pub IsTold : Ending → Type 0
+IsTold (ending.Told t) = ⊤
+IsTold _ = ⊥
+
+-- at a write that failed the count rose
+abbrev pub HasFailed : Ending → Sunk → Type 0
+HasFailed ending.CannotWrite out = Rose out.faults out.faults_after
+HasFailed _ out = ⊤
+
+-- an action ends so, whichever of these outcomes it has, and it has one where the words and the files decide the ending
+pub record ActsAs (IsOne : Outcome → Type 0) (out : Sunk) (e : Ending) : Type 0 where
+  pub each : (o : Outcome) → IsOne o → Acts o out e
+  pub some : IsTold e → (o : Outcome) × IsOne o
+  pub failed : HasFailed e out
 
 -- A part of an action was done: its text was written, and of the outcome `rest` is left; or the action ended in it.
 abbrev pub GoesOn : Outcome → Outcome → Sunk → Result ⊤ Ending → Type 0
@@ -63,23 +79,39 @@ Loads name limit shelf (Err (ending.CannotRead n)) =
 abbrev pub IsUnopened : Text → Outcome → Type 0
 IsUnopened line o = (o.status ≡ 4) × (line ≡ o.err) × (o.out ≡ [])
 
--- a run, of which the files with these names are read in turn, ends so
-abbrev pub Answers : List Text → (Files → Outcome) → Shelved → Sunk → Ending → Type 0
-Answers names over shelf out (ending.Told t) = IfSome shelf.files (λ files. IsReached (over files) out t)
-Answers names over shelf out ending.Memory =
-    IfSome shelf.files (λ files. AppendsFront out.old out.new (over files).out)
-Answers names over shelf out ending.CannotWrite =
+-- all outcomes are such, and there is one
+pub record AreOnly (IsOne : Outcome → Type 0) (P : Outcome → Type 0) : Type 0 where
+  pub each : (o : Outcome) → IsOne o → P o
+  pub some : (o : Outcome) × IsOne o
+
+-- the file of this name is one of these, and those before it are held
+abbrev pub IsTurnAt : Option Files → List Wanted → Text → Type 0
+IsTurnAt files wanted name = (file : Wanted) × IsTurnOf files wanted file × (file.name ≡ name)
+
+-- a run, of which these files are read in turn, ends so, whichever of these outcomes it has over the files
+abbrev pub Answers : List Wanted → (Files → Outcome → Type 0) → Shelved → Sunk → Ending → Type 0
+Answers wanted Over shelf out (ending.Told t) =
+    IfSome shelf.files (λ files. AreOnly (Over files) (λ o. IsReached o out t))
+Answers wanted Over shelf out ending.Memory =
+    IfSome shelf.files (λ files. (o : Outcome) → Over files o → AppendsFront out.old out.new o.out)
+Answers wanted Over shelf out ending.CannotWrite =
     Rose out.faults out.faults_after
-    × IfSome shelf.files (λ files. AppendsFront out.old out.new (over files).out × (0 < length (over files).out))
-Answers names over shelf out (ending.CannotOpen name) =
-    Keeps out.old out.new × IsTurnOf shelf.files names name.now
+    × IfSome shelf.files (λ files. (o : Outcome) → Over files o
+    → AppendsFront out.old out.new o.out × (0 < length o.out))
+Answers wanted Over shelf out (ending.CannotOpen name) =
+    Keeps out.old out.new × IsTurnAt shelf.files wanted name.now
     × (Rose shelf.start_faults shelf.start_faults_after
     ⊎ (IsMissing shelf.files name.now
-    × IfSome shelf.files (λ files. IsUnopened (line_of (ending.CannotOpen name)) (over files))))
-Answers names over shelf out (ending.CannotRead name) =
-    Keeps out.old out.new × IsTurnOf shelf.files names name.now
+    × IfSome shelf.files (λ files. AreOnly (Over files) (IsUnopened (line_of (ending.CannotOpen name))))))
+Answers wanted Over shelf out (ending.CannotRead name) =
+    Keeps out.old out.new × IsTurnAt shelf.files wanted name.now
     × (IsMissing shelf.files name.now → ⊥) × Rose shelf.read_faults shelf.read_faults_after
 
 -- an ending with status 4 has its cause, whether or not the shelf tells its files
-abbrev pub HasCauses : ℕ → List Text → Shelved → Ending → Type 0
-HasCauses limit names shelf e = status_of e ≡ 4 → IsUnreadLine limit names shelf (line_of e)
+abbrev pub HasCauses : List Wanted → Shelved → Ending → Type 0
+HasCauses wanted shelf e = status_of e ≡ 4 → IsUnreadLine wanted shelf (line_of e)
+
+-- no count of faults fell
+pub record IsLater (shelf : Shelved) : Type 0 where
+  pub start_faults : shelf.start_faults ≤ shelf.start_faults_after
+  pub read_faults : shelf.read_faults ≤ shelf.read_faults_after

@@ -3,7 +3,7 @@ use Rattle.std.specs.Prelude.{ℕ, []}
 use Rattle.mp_io.specs.Devices.{Text}
 use Rattle.mp_command.specs.Messages.{deep_line, fault_line, large_line, limit_line, long_line, memory_line}
 use Rattle.mp_command.specs.Messages.{no_item_line, no_template_line, not_syntactic_line, open_line, read_line}
-use Rattle.mp_command.specs.Messages.{spelling_line, usage_line, write_line}
+use Rattle.mp_command.specs.Messages.{program_fault_line, spelling_line, usage_line, write_line}
 use Rattle.mp_command.specs.declared.ending.Told.{Told}
 use Rattle.mp_command.specs.declared.ending.Told.TheVariants as told
 use Rattle.mp_command.specs.declared.ending.Ending.{Ending}
@@ -15,6 +15,7 @@ told_status told.Done = 0
 told_status told.Empty = 1
 told_status told.Usage = 2
 told_status (told.BadText name fault) = 3
+told_status (told.BadProgram name fault) = 12
 told_status (told.TooLong name) = 4
 told_status (told.Misspelt at) = 9
 told_status told.NoItem = 9
@@ -30,6 +31,7 @@ told_line told.Done = []
 told_line told.Empty = []
 told_line told.Usage = usage_line
 told_line (told.BadText name fault) = fault_line name.now fault
+told_line (told.BadProgram name fault) = program_fault_line name.now fault
 told_line (told.TooLong name) = long_line name.now
 told_line (told.Misspelt at) = spelling_line at
 told_line told.NoItem = no_item_line

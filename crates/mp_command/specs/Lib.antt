@@ -4,3 +4,4 @@ pub mod Run
 pub mod Computed
 pub mod Endings
 pub mod Answers
+pub mod Programs

@@ -11,6 +11,9 @@ use Rattle.mp_build.specs.declared.fault.TextKind.TheVariants.{KindClash, LooseS
 use Rattle.mp_build.specs.declared.fault.TextKind.TheVariants.{UnboundVariable}
 use Rattle.mp_build.specs.declared.fault.TextKind.TheVariants.{ConditionKind, UnknownSubject, BadPosition, Overlap}
 use Rattle.mp_build.specs.declared.fault.TextKind.TheVariants.{BadCount}
+use Rattle.mp_program.specs.declared.fault.ProgramError.{ProgramError}
+use Rattle.mp_program.specs.declared.fault.ProgramError.TheVariants.{WrongVersion, BadLine, BackwardTarget}
+use Rattle.mp_program.specs.declared.fault.ProgramError.TheVariants.{BadReference, Unbalanced, Memory}
 
 -- what is said after the program's name, as a line
 abbrev pub told : Text → Text
@@ -22,7 +25,9 @@ said_of name text = codes "matchpy: " ++ (name ++ (text ++ 10 ∷ []))
 
 -- the words are no request
 abbrev pub usage_line : Text
-usage_line = codes "usage: matchpy ACTION [FILE ..] [--engine E] [--limit N] [--resume TOKEN] [--max N]" ++ 10 ∷ []
+usage_line =
+    codes "usage: matchpy ACTION [FILE ..] [--engine E] [--limit N] [--resume TOKEN] [--max N] [--from PROGRAM]"
+    ++ 10 ∷ []
 
 -- there wasn't enough memory
 abbrev pub memory_line : Text
@@ -74,6 +79,32 @@ said_at name line column text = codes "matchpy: "
 -- a fault of a file's text
 abbrev pub fault_line : Text → TextFault → Text
 fault_line name fault = said_at name (decimal fault.line) (decimal fault.column) (kind_text fault.kind)
+
+-- the line that says at which line of a named file what stands
+abbrev pub said_at_line : Text → Text → Text → Text
+said_at_line name line text = codes "matchpy: " ++ (name ++ (codes ":" ++ (line ++ (codes ": " ++ (text ++ 10 ∷ [])))))
+
+-- how a kind of fault of a program is called; want of memory is none
+abbrev pub program_kind_text : ProgramError → Text
+program_kind_text WrongVersion = codes "WrongVersion"
+program_kind_text (BadLine line) = codes "BadLine"
+program_kind_text (BackwardTarget line) = codes "BackwardTarget"
+program_kind_text (BadReference line) = codes "BadReference"
+program_kind_text (Unbalanced line) = codes "Unbalanced"
+program_kind_text Memory = []
+
+-- the line of a program's text at which a fault stands; the format is named in the first one
+abbrev pub fault_line_number : ProgramError → ℕ
+fault_line_number WrongVersion = 1
+fault_line_number (BadLine line) = line
+fault_line_number (BackwardTarget line) = line
+fault_line_number (BadReference line) = line
+fault_line_number (Unbalanced line) = line
+fault_line_number Memory = 0
+
+-- a fault of a program file's text
+abbrev pub program_fault_line : Text → ProgramError → Text
+program_fault_line name fault = said_at_line name (decimal (fault_line_number fault)) (program_kind_text fault)
 
 -- the line that says something of a name, with the digits of a number in it
 abbrev pub said_number : Text → Text → Text → Text → Text

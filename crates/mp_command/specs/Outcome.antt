@@ -19,10 +19,17 @@ use Rattle.mp_text.specs.File.{FileTree, Subject}
 use Rattle.mp_text.specs.PrintedFile.{file_text}
 use Rattle.mp_text.specs.Reading.{IsFaultOf, IsFileOf}
 use Rattle.mp_build.specs.declared.fault.TextFault.{TextFault}
+use Rattle.mp_program.specs.declared.fault.ProgramError.{ProgramError}
+use Rattle.mp_program.specs.FormText.{program_text}
+use Rattle.mp_program.specs.Program.{Program}
+use Rattle.mp_program.specs.Reading.{IsProgramFaultOf, IsProgramOf}
+use Rattle.mp_gen.specs.Generated.{generated}
+use Rattle.mp_vm.specs.ProgramList.{IsProgramList}
 use Rattle.mp_command.specs.Messages.{deep_line, excess_line, fault_line, large_line, limit_line, long_line}
 use Rattle.mp_command.specs.Messages.{no_item_line, no_template_line, not_syntactic_line, open_line, spelling_line}
-use Rattle.mp_command.specs.Messages.{usage_line}
+use Rattle.mp_command.specs.Messages.{program_fault_line, usage_line}
 use Rattle.mp_matches.specs.AllListed.{IsAllListed}
+use Rattle.mp_matches.specs.PairsListed.{IsPairsListed}
 use Rattle.mp_matches.specs.Listed.{IsListed, Listed, lines, misspelt, no_match}
 use Rattle.mp_matches.specs.Printed.{has_some}
 use Rattle.mp_words.specs.Words.{Request, request_of}
@@ -54,6 +61,10 @@ written_before text o = record { out = text ++ o.out; err = o.err; status = o.st
 abbrev pub file_limit : ℕ
 file_limit = 1048576
 
+-- and a file with a program so many
+abbrev pub program_limit : ℕ
+program_limit = 33554432
+
 -- ---- matches, and the file
 
 -- the lines of the matches, where the status tells whether there is one; or a token that is that of no match
@@ -76,13 +87,14 @@ abbrev pub IsMatchedWhole : FileTree → Option ℕ → Outcome → Type 0
 IsMatchedWhole file limit o = (text : Text) × IsAllListed file limit text × (o ≡ matched (lines text))
 
 -- What the matches of a file come to by an engine: rule by rule, all or so many, from the first or from behind a token
--- on; or of all rules together, all or so many, by nets where each rule is syntactic.
+-- on; or of all rules together, all or so many, by nets where each rule is syntactic, or by the program of the rules.
 abbrev pub IsMatchedBy : Engine → Request → FileTree → Outcome → Type 0
 IsMatchedBy engine.One request file o =
     (l : Listed) × IsListed file request.resume request.limit l × (o ≡ matched l)
 IsMatchedBy engine.Many request file o = IsMatchedWhole file request.limit o
 IsMatchedBy engine.Net request file o =
     IsOverSyntactic (IsMatchedWhole file request.limit) (first_not_syntactic file.sig file.rules) o
+IsMatchedBy engine.Program request file o = IsMatchedWhole file request.limit o
 
 -- the printed file
 abbrev pub shown : FileTree → Outcome
@@ -148,23 +160,66 @@ module _ (sig : Sig) where
   edits_made subjects (e ∷ es) =
       statement_before e.edits (slice_get subjects e.subject) (edits_made subjects es)
 
+-- ---- programs
+
+-- the printed program
+abbrev pub printed_program : Sig → Program → Outcome
+printed_program sig p = record { out = program_text sig p; err = []; status = 0 }
+
+-- the names of a program's rules
+abbrev pub program_names : Program → List Text
+program_names p = map (λ r. r.name) p.rules
+
+-- the lines of what a program accepts on the subjects of a file
+abbrev pub IsAccepted : FileTree → Program → Outcome → Type 0
+IsAccepted file p o = (text : Text)
+    × IsPairsListed file (program_names p) (IsProgramList file.sig p) None text × (o ≡ matched (lines text))
+
+-- what a program that is run accepts; nothing where none is given, though the words of `run` always name one
+abbrev pub IsRun : FileTree → Option Program → Outcome → Type 0
+IsRun file None o = o ≡ finished
+IsRun file (Some p) o = IsAccepted file p o
+
+-- the program that is given, or else that of the rules of the file
+abbrev pub program_or_rules : FileTree → Option Program → Program
+program_or_rules file None = generated file.sig file.rules
+program_or_rules file (Some p) = p
+
 -- ---- the actions
 
--- What an action of a request comes to over a file: the matches of the file are printed, as the engine finds them; or
--- the file, or its subjects after rewriting with a limit, or after its edits.
-abbrev pub IsDone : Action → Request → FileTree → Outcome → Type 0
-IsDone action.Match request file o = IsMatchedBy request.engine request file o
-IsDone action.Show request file o = o ≡ shown file
-IsDone action.Rewrite request file o =
+-- What an action of a request comes to over a file, and over a program, where one is given: the matches of the file are
+-- printed, as the engine finds them; or the file, or its subjects after rewriting with a limit, or after its edits; or
+-- the program, or what it accepts on the subjects of the file.
+abbrev pub IsDone : Request → FileTree → Option Program → Action → Outcome → Type 0
+IsDone request file program action.Match o = IsMatchedBy request.engine request file o
+IsDone request file program action.Show o = o ≡ shown file
+IsDone request file program action.Rewrite o =
     IsOverTemplates (AreRewritten file.sig request.max file.rules file.subjects) (first_without_template file.rules) o
-IsDone action.Edit request file o = o ≡ edits_made file.sig file.subjects file.edits
+IsDone request file program action.Edit o = o ≡ edits_made file.sig file.subjects file.edits
+IsDone request file program action.Compile o = o ≡ printed_program file.sig (program_or_rules file program)
+IsDone request file program action.Run o = IsRun file program o
 
 -- ---- the run
 
--- over the bytes of a file: what the action over the file that they are comes to, or the fault that they have
-abbrev pub IsOutcomeOver : Request → Text → Outcome → Type 0
-IsOutcomeOver request bytes o =
-    ((file : FileTree) × IsFileOf bytes file × IsDone request.action request file o)
+-- a file's name and its bytes
+pub record Named : Type 0 where
+  pub name : Text
+  pub bytes : Text
+
+-- Over a file, and the bytes of a program file, where one is given: what the action comes to with the program that they
+-- are over the file's signature, or the fault that they have.
+abbrev pub IsDoneWith : Request → FileTree → Option Named → Outcome → Type 0
+IsDoneWith request file None o = IsDone request file None request.action o
+IsDoneWith request file (Some named) o =
+    ((p : Program) × IsProgramOf file.sig named.bytes p × IsDone request file (Some p) request.action o)
+    ⊎ ((fault : ProgramError) × IsProgramFaultOf file.sig named.bytes fault
+    × (o ≡ refused 12 (program_fault_line named.name fault)))
+
+-- over the bytes of a file, and a program file, where one is given: what the action comes to with the file that the
+-- bytes are, or the fault that they have
+abbrev pub IsOutcomeOver : Request → Option Named → Text → Outcome → Type 0
+IsOutcomeOver request program bytes o =
+    ((file : FileTree) × IsFileOf bytes file × IsDoneWith request file program o)
     ⊎ ((fault : TextFault) × IsFaultOf bytes fault × (o ≡ refused 3 (fault_line request.file fault)))
 
 -- a named file is held and not too long, and over its bytes the outcome is as told; or it is refused
@@ -173,10 +228,19 @@ IsOver limit name over None o = o ≡ refused 4 (open_line name)
 IsOver limit name over (Some bytes) o =
     ((limit < length bytes) × (o ≡ refused 4 (long_line name))) ⊎ ((length bytes ≤ limit) × over bytes o)
 
--- words that make no request are refused; else the outcome is that of the request over the file that it names
+-- over the bytes of a file: the outcome is that over them alone, or over them and the program file of this name
+abbrev pub IsOutcomeWith : Files → Request → Option Text → Text → Outcome → Type 0
+IsOutcomeWith files request None bytes o = IsOutcomeOver request None bytes o
+IsOutcomeWith files request (Some name) bytes o =
+    IsOver program_limit name (λ program. IsOutcomeOver request (Some (record { name = name; bytes = program })) bytes)
+    (held files name) o
+
+-- words that make no request are refused; else the outcome is that of the request over the file that it names, and over
+-- the program file, where it names one
 abbrev pub IsOutcomeAt : Files → Option Request → Outcome → Type 0
 IsOutcomeAt files None o = o ≡ refused 2 usage_line
-IsOutcomeAt files (Some request) o = IsOver file_limit request.file (IsOutcomeOver request) (held files request.file) o
+IsOutcomeAt files (Some request) o =
+    IsOver file_limit request.file (IsOutcomeWith files request request.program) (held files request.file) o
 
 -- o is the outcome of these words over these files
 abbrev pub IsOutcome : List Text → Files → Outcome → Type 0

@@ -1,5 +1,5 @@
 -- What the whole command promises.
-use Rattle.std.specs.Prelude.{◌≡◌, ◌⊎◌, ◌<◌, ◌≤◌, ◌+◌, ◌*◌, ℕ, List, [], ◌∷◌, length, map, Option, Some, None}
+use Rattle.std.specs.Prelude.{◌≡◌, ◌⊎◌, ◌<◌, ◌≤◌, ◌+◌, ℕ, List, [], ◌∷◌, length, map, Option, Some, None, IfSome}
 use Rattle.std.specs.Prelude.{drop, string_bytes}
 use Rattle.std.specs.Borrow.{Bor}
 use Rattle.std.specs.Io.KnownBytes.{Appends, Keeps}
@@ -10,7 +10,7 @@ use Rattle.mp_io.specs.Moments.{Shelved, Sunk}
 use Rattle.mp_io.specs.Printing.{AppendsFront}
 use Rattle.mp_words.specs.Words.{Request, request_of}
 use Rattle.mp_command.specs.Messages.{long_line, memory_line, open_line, read_line, usage_line, write_line}
-use Rattle.mp_command.specs.Outcome.{IsOutcome, Outcome, file_limit}
+use Rattle.mp_command.specs.Outcome.{IsOutcome, Outcome, file_limit, program_limit}
 
 -- ---- words and names
 
@@ -22,26 +22,40 @@ words_of = map string_bytes
 abbrev pub words_behind : List (Bor Text) → List Text
 words_behind all = drop 1 (map (λ word. word.now) all)
 
+-- a file that is to be read: its name, and how many bytes it has at most
+pub record Wanted : Type 0 where
+  pub name : Text
+  pub limit : ℕ
+
+-- the program file, where one is named
+abbrev pub wanted_program : Option Text → List Wanted
+wanted_program None = []
+wanted_program (Some name) = record { name = name; limit = program_limit } ∷ []
+
 -- the files that a request names, in the order in which they are read
-abbrev pub names_of : Option Request → List Text
-names_of None = []
-names_of (Some request) = request.file ∷ []
+abbrev pub wanted_by : Option Request → List Wanted
+wanted_by None = []
+wanted_by (Some request) = record { name = request.file; limit = file_limit } ∷ wanted_program request.program
 
--- one of the names isn't held
-abbrev pub IsSomeMissing : Files → List Text → Type 0
+-- a request that names no program file, or none
+abbrev pub HasNoProgram : Option Request → Type 0
+HasNoProgram request = IfSome request (λ r. r.program ≡ None)
+
+-- one of the files isn't held
+abbrev pub IsSomeMissing : Files → List Wanted → Type 0
 IsSomeMissing files [] = ⊥
-IsSomeMissing files (name ∷ names) = (held files name ≡ None) ⊎ IsSomeMissing files names
+IsSomeMissing files (w ∷ ws) = (held files w.name ≡ None) ⊎ IsSomeMissing files ws
 
--- the name is one of these, and those before it are held
-abbrev pub IsTurnOf : Option Files → List Text → Text → Type 0
-IsTurnOf files [] name = ⊥
-IsTurnOf files (n ∷ names) name = (n ≡ name) ⊎ ((IsMissing files n → ⊥) × IsTurnOf files names name)
+-- the file is one of these, and those before it are held
+abbrev pub IsTurnOf : Option Files → List Wanted → Wanted → Type 0
+IsTurnOf files [] file = ⊥
+IsTurnOf files (w ∷ ws) file = (w ≡ file) ⊎ ((IsMissing files w.name → ⊥) × IsTurnOf files ws file)
 
 -- ---- statuses and lines
 
 -- what a run answers
 abbrev pub statuses : List ℕ
-statuses = 0 ∷ 1 ∷ 2 ∷ 3 ∷ 4 ∷ 5 ∷ 6 ∷ 7 ∷ 8 ∷ 9 ∷ 10 ∷ 11 ∷ []
+statuses = 0 ∷ 1 ∷ 2 ∷ 3 ∷ 4 ∷ 5 ∷ 6 ∷ 7 ∷ 8 ∷ 9 ∷ 10 ∷ 11 ∷ 12 ∷ []
 
 -- a count of the shelf's faults rose
 abbrev pub ShelfRose : Shelved → Type 0
@@ -49,28 +63,28 @@ ShelfRose shelf =
     Rose shelf.start_faults shelf.start_faults_after ⊎ Rose shelf.read_faults shelf.read_faults_after
 
 -- a line for a fault of the shelf, whose count rose, at a file whose turn it was
-abbrev pub IsFaultLine : List Text → Shelved → Text → Type 0
-IsFaultLine names shelf line =
-    (name : Text) × IsTurnOf shelf.files names name
-    × (((line ≡ open_line name) × Rose shelf.start_faults shelf.start_faults_after)
-    ⊎ ((line ≡ read_line name) × (IsMissing shelf.files name → ⊥)
+abbrev pub IsFaultLine : List Wanted → Shelved → Text → Type 0
+IsFaultLine wanted shelf line =
+    (file : Wanted) × IsTurnOf shelf.files wanted file
+    × (((line ≡ open_line file.name) × Rose shelf.start_faults shelf.start_faults_after)
+    ⊎ ((line ≡ read_line file.name) × (IsMissing shelf.files file.name → ⊥)
     × Rose shelf.read_faults shelf.read_faults_after))
 
 -- a file was refused by this line: one that was to be read now couldn't be opened, couldn't be read, or gave more bytes
--- than the limit
-abbrev pub IsUnreadLine : ℕ → List Text → Shelved → Text → Type 0
-IsUnreadLine limit names shelf line =
-    (name : Text) × IsTurnOf shelf.files names name
-    × (((line ≡ open_line name)
-    × (Rose shelf.start_faults shelf.start_faults_after ⊎ IsMissing shelf.files name))
-    ⊎ ((line ≡ read_line name) × Rose shelf.read_faults shelf.read_faults_after)
-    ⊎ ((line ≡ long_line name) × (limit < shelf.given_after)))
+-- than its limit
+abbrev pub IsUnreadLine : List Wanted → Shelved → Text → Type 0
+IsUnreadLine wanted shelf line =
+    (file : Wanted) × IsTurnOf shelf.files wanted file
+    × (((line ≡ open_line file.name)
+    × (Rose shelf.start_faults shelf.start_faults_after ⊎ IsMissing shelf.files file.name))
+    ⊎ ((line ≡ read_line file.name) × Rose shelf.read_faults shelf.read_faults_after)
+    ⊎ ((line ≡ long_line file.name) × (file.limit < shelf.given_after)))
 
 -- the line for a status that was answered
-pub record IsLine (o : Outcome) (names : List Text) (shelf : Shelved) (status : ℕ) (line : Text) : Type 0 where
+pub record IsLine (o : Outcome) (wanted : List Wanted) (shelf : Shelved) (status : ℕ) (line : Text) : Type 0 where
   pub write : status ≡ 5 → line ≡ write_line
   pub memory : status ≡ 8 → line ≡ memory_line
-  pub unread : status ≡ 4 → ((o.status ≡ 4) × (line ≡ o.err)) ⊎ IsFaultLine names shelf line
+  pub unread : status ≡ 4 → ((o.status ≡ 4) × (line ≡ o.err)) ⊎ IsFaultLine wanted shelf line
   pub other : (status ≡ 5 → ⊥) → (status ≡ 8 → ⊥) → (status ≡ 4 → ⊥) → line ≡ o.err
 
 -- the line went to the sink, or a front of it where the sink's count rose
@@ -81,12 +95,12 @@ pub record Says (err : Sunk) (line : Text) : Type 0 where
 -- ---- a run
 
 -- a run over files that are told is as this outcome says
-pub record Runs (o : Outcome) (names : List Text) (files : Files) (shelf : Shelved) (out err : Sunk)
+pub record Runs (o : Outcome) (wanted : List Wanted) (files : Files) (shelf : Shelved) (out err : Sunk)
     (status : ℕ) : Type 0 where
   -- status 4 comes only where the outcome has it, or at a fault of the shelf
-  pub unread : status ≡ 4 → (o.status ≡ 4) ⊎ ((0 < length names) × ShelfRose shelf)
+  pub unread : status ≡ 4 → (o.status ≡ 4) ⊎ ((0 < length wanted) × ShelfRose shelf)
   -- and always, but for want of memory, where a file isn't held
-  pub missing : IsSomeMissing files names → (status ≡ 4) ⊎ (status ≡ 8)
+  pub missing : IsSomeMissing files wanted → (status ≡ 4) ⊎ (status ≡ 8)
   -- without a fault and with memory, the outcome is met
   pub settled : (status ≡ 5 → ⊥) → (status ≡ 8 → ⊥) → (status ≡ 4 → ShelfRose shelf → ⊥)
       → (status ≡ o.status) × Appends out.old out.new o.out
@@ -97,25 +111,32 @@ pub record Runs (o : Outcome) (names : List Text) (files : Files) (shelf : Shelv
   pub write : status ≡ 5 → (0 < length o.out) × Rose out.faults out.faults_after
   pub unfailed : (status ≡ 4 → ⊥) → (status ≡ 5 → ⊥) → (status ≡ 8 → ⊥) → out.faults_after ≡ out.faults
   -- what is said
-  pub line : (text : Text) × IsLine o names shelf status text × Says err text
+  pub line : (text : Text) × IsLine o wanted shelf status text × Says err text
 
--- a run of these words over files that are told has an outcome, and is as that says
+-- A run of these words over files that are told is as each outcome says that they have. And they have one where memory
+-- and faults didn't keep the run from it.
 pub record HasOutcome (words : List Text) (files : Files) (shelf : Shelved) (out err : Sunk) (status : ℕ) : Type 0 where
-  pub outcome : Outcome
-  pub is_outcome : IsOutcome words files outcome
-  pub runs : Runs outcome (names_of (request_of words)) files shelf out err status
+  pub runs : (o : Outcome) → IsOutcome words files o
+      → Runs o (wanted_by (request_of words)) files shelf out err status
+  pub outcome : (status ≡ 5 → ⊥) → (status ≡ 8 → ⊥) → (status ≡ 4 → ShelfRose shelf → ⊥)
+      → (o : Outcome) × IsOutcome words files o
 
 -- what is said at the statuses that files and words alone don't decide, and where all went well, whether or not the
 -- shelf tells its files
 pub record Tells (words : List Text) (shelf : Shelved) (out err : Sunk) (status : ℕ) : Type 0 where
   pub usage : status ≡ 2 → Says err usage_line
   pub unread : status ≡ 4
-      → (line : Text) × IsUnreadLine file_limit (names_of (request_of words)) shelf line × Says err line
+      → (line : Text) × IsUnreadLine (wanted_by (request_of words)) shelf line × Says err line
   pub write : status ≡ 5 → Rose out.faults out.faults_after × Says err write_line
   pub memory : status ≡ 8 → Says err memory_line
   pub done : status ≤ 1 → Keeps err.old err.new
 
--- each of the named files is started once at most, and read in so many calls at most; no other file is
-pub record IsReadOnce (limit : ℕ) (names : List Text) (shelf : Shelved) : Type 0 where
-  pub starts : shelf.starts_after ≤ shelf.starts + length names
-  pub reads : shelf.reads_after ≤ shelf.reads + length names * (limit + 2)
+-- in how many calls these files are read at most
+abbrev pub reads_of : List Wanted → ℕ
+reads_of [] = 0
+reads_of (w ∷ ws) = w.limit + 2 + reads_of ws
+
+-- each of the files is started once at most, and read in so many calls at most; no other file is
+pub record IsReadOnce (wanted : List Wanted) (shelf : Shelved) : Type 0 where
+  pub starts : shelf.starts_after ≤ shelf.starts + length wanted
+  pub reads : shelf.reads_after ≤ shelf.reads + reads_of wanted

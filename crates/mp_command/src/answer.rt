@@ -1,29 +1,37 @@
 //! The answer to a request, over a shelf.
 
-ghost use Rattle.std.specs.Prelude.{◌≡◌, ◌≤◌, ◌∷◌, [], length, IfErr};
-ghost use Rattle.mp_io.specs.Devices.{held};
+ghost use Rattle.std.specs.Prelude.{◌≡◌, ◌≤◌, ◌∷◌, [], length, IfErr, IfSome, Some};
 ghost use Rattle.mp_io.specs.Moments.{shelved, sunk};
 ghost use Rattle.mp_text.specs.File.{file_tree};
 ghost use Rattle.mp_text.specs.Sound.{IsSoundFile};
-ghost use Rattle.mp_command.specs.Answers.{Acts, Answers, HasCauses, Loads, items_in};
-ghost use Rattle.mp_command.specs.Computed.{given, outcome_of, outcome_over};
+ghost use Rattle.mp_program.specs.Reading.{IsValid};
+ghost use Rattle.mp_command.specs.Answers.{ActsAs, Answers, HasCauses, IsLater, Loads, items_in};
 ghost use Rattle.mp_command.specs.Endings.{status_of};
-ghost use Rattle.mp_command.specs.Outcome.{file_limit};
+ghost use Rattle.mp_command.specs.Outcome.{IsDone, IsDoneWith, IsOutcomeAt, IsOutcomeOver, IsOutcomeWith, file_limit};
+ghost use Rattle.mp_command.specs.Outcome.{program_limit};
+ghost use Rattle.mp_command.specs.Programs.{IsRead, given, named};
+ghost use Rattle.mp_command.specs.Run.{IsReadOnce, wanted_by, wanted_program};
 ghost use Rattle.mp_words.specs.Requests.{asked};
-ghost use Rattle.mp_command.specs.Run.{IsReadOnce};
 
+use crate::accepted::run_file;
+use crate::compile::compile_file;
 use crate::edit::edit_file;
 use crate::ending::{Ending, Told};
 use crate::matches::match_file;
+use crate::programs::{ProgramText, read_program_text};
 use crate::rewrite::rewrite_file;
 use crate::show::show_file;
 use mp_io::{ReadFault, Shelf, Sink, read_whole};
 use mp_text::{File, TextError, read_file};
+use mp_vm::Program;
 use mp_words::{Action, Request};
 use std::alloc::Global;
 
 // A file of rules has at most so many bytes.
 const FILE_LIMIT: usize = 1_048_576;
+
+// A file with a program has at most so many bytes.
+const PROGRAM_LIMIT: usize = 33_554_432;
 
 // Reads the named file, where it has at most `limit` bytes.
 fn load<'a, S: Shelf>(
@@ -34,7 +42,9 @@ fn load<'a, S: Shelf>(
 ) -> Result<Vec<u8>, Ending<'a>>
     ensures loads { Loads name.entry.now limit (shelved S.Shelf shelf.old shelf.new) (items_in result) }
     ensures files { S.files shelf.new ≡ S.files shelf.old }
-    ensures once { IsReadOnce limit (name.entry.now ∷ []) (shelved S.Shelf shelf.old shelf.new) }
+    ensures later { IsLater (shelved S.Shelf shelf.old shelf.new) }
+    ensures once { IsReadOnce (record { name = name.entry.now; limit = limit } ∷ [])
+        (shelved S.Shelf shelf.old shelf.new) }
     ensures used { IfErr result (λ e. status_of e ≡ 2 → ⊥) }
 {
     match read_whole(alloc, shelf, name, limit) {
@@ -46,11 +56,20 @@ fn load<'a, S: Shelf>(
     }
 }
 
-// Does what the request asks for, over a file that was read.
-fn act<'a, O: Sink>(alloc: Global, request: Request<'a>, file: &File, out: &mut O) -> Ending<'a>
-    requires { IsSoundFile (file_tree file.now) }
+// Does what the request asks for, over a file and perhaps a program, which were read.
+fn act<'a, O: Sink>(
+    alloc: Global,
+    request: Request<'a>,
+    file: &File,
+    program: Option<&Program>,
+    out: &mut O,
+) -> Ending<'a>
+    requires file { IsSoundFile (file_tree file.now) }
+    requires read { IsRead (file_tree file.now) }
+    requires program { IfSome (given program) (IsValid (file_tree file.now).sig) }
     ensures acts { let asked_for = asked request.entry in
-        Acts (outcome_of asked_for.action asked_for (file_tree file.now)) (sunk O.Sink out.old out.new) result }
+        ActsAs (IsDone asked_for (file_tree file.now) (given program.entry) asked_for.action)
+        (sunk O.Sink out.old out.new) result }
     ensures used { status_of result ≡ 2 → ⊥ }
     ensures read { status_of result ≡ 4 → ⊥ }
 {
@@ -59,33 +78,97 @@ fn act<'a, O: Sink>(alloc: Global, request: Request<'a>, file: &File, out: &mut 
         Action::Show => show_file(file, out),
         Action::Rewrite => rewrite_file(alloc, file, u64::from(request.max), out),
         Action::Edit => edit_file(alloc, file, out),
+        Action::Compile => compile_file(alloc, file, program, out),
+        Action::Run => run_file(alloc, file, program, out),
     }
 }
 
-// Does what the request asks for, over the bytes of its file.
+// Does what the request asks for, over a file that was read and a program file, where one is given.
+fn act_with<'a, O: Sink>(
+    alloc: Global,
+    request: Request<'a>,
+    file: &File,
+    text: Option<ProgramText<'a, '_>>,
+    out: &mut O,
+) -> Ending<'a>
+    requires file { IsSoundFile (file_tree file.now) }
+    requires read { IsRead (file_tree file.now) }
+    requires length { IfSome (named text) (λ n. length n.bytes ≤ program_limit) }
+    ensures acts { ActsAs (IsDoneWith (asked request.entry) (file_tree file.now) (named text.entry))
+        (sunk O.Sink out.old out.new) result }
+    ensures used { status_of result ≡ 2 → ⊥ }
+    ensures read { status_of result ≡ 4 → ⊥ }
+{
+    let Some(text) = text else {
+        return act(alloc, request, file, None, out);
+    };
+    match read_program_text(alloc, &file.sig, text) {
+        Ok(program) => act(alloc, request, file, Some(&program), out),
+        Err(ending) => ending,
+    }
+}
+
+// Does what the request asks for, over the bytes of its file and a program file, where one is given.
 fn act_over<'a, O: Sink>(
     alloc: Global,
     request: Request<'a>,
     bytes: &[u8],
+    text: Option<ProgramText<'a, '_>>,
     out: &mut O,
 ) -> Ending<'a>
-    requires { length bytes.now ≤ file_limit }
-    ensures acts { Acts (outcome_over (asked request.entry) bytes.now) (sunk O.Sink out.old out.new) result }
+    requires file { length bytes.now ≤ file_limit }
+    requires program { IfSome (named text) (λ n. length n.bytes ≤ program_limit) }
+    ensures acts { ActsAs (IsOutcomeOver (asked request.entry) (named text.entry) bytes.now)
+        (sunk O.Sink out.old out.new) result }
     ensures used { status_of result ≡ 2 → ⊥ }
     ensures read { status_of result ≡ 4 → ⊥ }
 {
     match read_file(alloc, bytes) {
-        Ok(file) => act(alloc, request, &file, out),
+        Ok(file) => act_with(alloc, request, &file, text, out),
         Err(TextError::Text(fault)) => Ending::Told(Told::BadText(request.file, fault)),
         Err(TextError::Memory) => Ending::Memory,
     }
 }
 
-/// Reads the file that the request names, and does its action over it.
+// Reads the program file, where the request names one, and does its action over it and the bytes of its file.
+fn answer_over<'a, S: Shelf, O: Sink>(
+    alloc: Global,
+    request: Request<'a>,
+    bytes: &[u8],
+    shelf: &mut S,
+    out: &mut O,
+) -> Ending<'a>
+    requires { length bytes.now ≤ file_limit }
+    ensures answers { let asked_for = asked request.entry in
+        Answers (wanted_program asked_for.program)
+        (λ files. IsOutcomeWith files asked_for asked_for.program bytes.now)
+        (shelved S.Shelf shelf.old shelf.new) (sunk O.Sink out.old out.new) result }
+    ensures causes { HasCauses (wanted_program (asked request.entry).program)
+        (shelved S.Shelf shelf.old shelf.new) result }
+    ensures later { IsLater (shelved S.Shelf shelf.old shelf.new) }
+    ensures once { IsReadOnce (wanted_program (asked request.entry).program) (shelved S.Shelf shelf.old shelf.new) }
+    ensures used { status_of result ≡ 2 → ⊥ }
+{
+    let Some(name) = request.program else {
+        return act_over(alloc, request, bytes, None, out);
+    };
+    match load(alloc, shelf, name, PROGRAM_LIMIT) {
+        Ok(program) => {
+            let text = ProgramText {
+                name,
+                bytes: &program,
+            };
+            act_over(alloc, request, bytes, Some(text), out)
+        }
+        Err(ending) => ending,
+    }
+}
+
+/// Reads the file that the request names, and then the program file, where it names one, and does its action over them.
 ///
-/// The ending is that of `outcome_over` of `specs/Computed.antt` over the file's bytes, or a file that isn't held, is
-/// too long, or whose start or read failed, or want of memory, or a write that failed. The file is started once, and no
-/// other is.
+/// The ending is that of `IsOutcomeAt` of `specs/Outcome.antt` over the files, or a file that isn't held, is too long,
+/// or whose start or read failed, or want of memory, or a write that failed. Each of the files is started once at most,
+/// and no other is.
 pub fn answer_file<'a, S: Shelf, O: Sink>(
     alloc: Global,
     request: Request<'a>,
@@ -93,17 +176,14 @@ pub fn answer_file<'a, S: Shelf, O: Sink>(
     out: &mut O,
 ) -> Ending<'a>
     ensures answers { let asked_for = asked request.entry in
-        Answers (asked_for.file ∷ []) (λ files.
-        given file_limit asked_for.file (outcome_over asked_for) (held files asked_for.file))
+        Answers (wanted_by (Some asked_for)) (λ files. IsOutcomeAt files (Some asked_for))
         (shelved S.Shelf shelf.old shelf.new) (sunk O.Sink out.old out.new) result }
-    ensures causes { let name = request.entry.file.now in
-        HasCauses file_limit (name ∷ []) (shelved S.Shelf shelf.old shelf.new) result }
-    ensures once { let name = request.entry.file.now in
-        IsReadOnce file_limit (name ∷ []) (shelved S.Shelf shelf.old shelf.new) }
+    ensures causes { HasCauses (wanted_by (Some (asked request.entry))) (shelved S.Shelf shelf.old shelf.new) result }
+    ensures once { IsReadOnce (wanted_by (Some (asked request.entry))) (shelved S.Shelf shelf.old shelf.new) }
     ensures used { status_of result ≡ 2 → ⊥ }
 {
     match load(alloc, shelf, request.file, FILE_LIMIT) {
-        Ok(bytes) => act_over(alloc, request, &bytes, out),
+        Ok(bytes) => answer_over(alloc, request, &bytes, shelf, out),
         Err(ending) => ending,
     }
 }

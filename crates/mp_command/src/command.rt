@@ -4,10 +4,10 @@ ghost use Rattle.std.specs.Prelude.{◌≡◌, ◌⊎◌, None, IfOk, IfSome};
 ghost use Rattle.std.specs.List.{Contains};
 ghost use Rattle.mp_io.specs.Moments.{shelved, sunk};
 ghost use Rattle.mp_command.specs.Answers.{Answers, HasCauses};
-ghost use Rattle.mp_command.specs.Computed.{outcome_at};
 ghost use Rattle.mp_command.specs.Endings.{line_of, status_of};
-ghost use Rattle.mp_command.specs.Outcome.{file_limit};
-ghost use Rattle.mp_command.specs.Run.{HasOutcome, IsReadOnce, Says, Tells, names_of, statuses, words_behind, words_of};
+ghost use Rattle.mp_command.specs.Outcome.{IsOutcomeAt};
+ghost use Rattle.mp_command.specs.Run.{HasOutcome, IsReadOnce, Says, Tells, statuses, wanted_by, words_behind};
+ghost use Rattle.mp_command.specs.Run.{words_of};
 ghost use Rattle.mp_words.specs.Words.{request_of};
 
 use crate::answer::answer_file;
@@ -37,12 +37,12 @@ fn answer<'a, S: Shelf, O: Sink>(
     out: &mut O,
 ) -> Ending<'a>
     ensures answers { let asked_for = request_of (words_behind all.entry.now) in
-        Answers (names_of asked_for) (λ files. outcome_at files asked_for)
+        Answers (wanted_by asked_for) (λ files. IsOutcomeAt files asked_for)
         (shelved S.Shelf shelf.old shelf.new) (sunk O.Sink out.old out.new) result }
-    ensures causes { let names = names_of (request_of (words_behind all.entry.now)) in
-        HasCauses file_limit names (shelved S.Shelf shelf.old shelf.new) result }
-    ensures once { let names = names_of (request_of (words_behind all.entry.now)) in
-        IsReadOnce file_limit names (shelved S.Shelf shelf.old shelf.new) }
+    ensures causes { let wanted = wanted_by (request_of (words_behind all.entry.now)) in
+        HasCauses wanted (shelved S.Shelf shelf.old shelf.new) result }
+    ensures once { let wanted = wanted_by (request_of (words_behind all.entry.now)) in
+        IsReadOnce wanted (shelved S.Shelf shelf.old shelf.new) }
     ensures usage { status_of result ≡ 2 → request_of (words_behind all.entry.now) ≡ None }
     ensures no_usage { request_of (words_behind all.entry.now) ≡ None
         → (status_of result ≡ 2) ⊎ (status_of result ≡ 8) }
@@ -67,13 +67,14 @@ fn finish<E: Sink>(err: &mut E, ending: Ending<'_>) -> u8
 
 /// The whole command: does what the words ask for, over the files of a shelf, and answers the status.
 ///
-/// What is asked for goes to `out`, and one line on what went wrong to `err`. The statuses are 0 (done, by `match` with
-/// at least one line), 1 (`match` has no line), 2 (the words make no request), 3 (the file's text has a fault), 4 (a
-/// file can't be opened or read, or is too long), 5 (`out` failed), 6 (rewriting a subject reached the limit of steps,
-/// and more could be made), 7 (a step or an edit would make a term that is too large or too deep), 8 (want of memory),
-/// 9 (the token of `--resume` is misspelt, or that of no match), 10 (the engine `net` was asked for, and a rule isn't
-/// syntactic) and 11 (`rewrite` was asked for, and a rule has no template). The definition is `IsOutcome` of
-/// `specs/Outcome.antt`, and `specs/Run.antt` says how a run meets it where memory or a device fails.
+/// What is asked for goes to `out`, and one line on what went wrong to `err`. The statuses are 0 (done, by `match` and
+/// `run` with at least one line), 1 (`match` or `run` has no line), 2 (the words make no request), 3 (the file's text
+/// has a fault), 4 (a file can't be opened or read, or is too long), 5 (`out` failed), 6 (rewriting a subject reached
+/// the limit of steps, and more could be made), 7 (a step or an edit would make a term that is too large or too deep),
+/// 8 (want of memory), 9 (the token of `--resume` is misspelt, or that of no match), 10 (the engine `net` was asked
+/// for, and a rule isn't syntactic), 11 (`rewrite` was asked for, and a rule has no template) and 12 (the text of a
+/// program file has a fault). The definition is `IsOutcome` of `specs/Outcome.antt`, and `specs/Run.antt` says how a
+/// run meets it where memory or a device fails.
 pub fn run<S: Shelf, O: Sink, E: Sink>(
     alloc: Global,
     words: &[String],
@@ -88,8 +89,8 @@ pub fn run<S: Shelf, O: Sink, E: Sink>(
     ensures usage { result ≡ 2 → request_of (words_of words.now) ≡ None }
     ensures no_usage { request_of (words_of words.now) ≡ None → (result ≡ 2) ⊎ (result ≡ 8) }
 
-    // Where the shelf tells its files, there is an outcome, and all that is written and answered is as it says, but for
-    // memory and faults.
+    // Where the shelf tells its files, all that is written and answered is as the outcome says, but for memory and
+    // faults.
     ensures outcome { IfSome (S.files shelf.old) (λ files. HasOutcome (words_of words.now) files
         (shelved S.Shelf shelf.old shelf.new) (sunk O.Sink out.old out.new) (sunk E.Sink err.old err.new) result) }
 
@@ -99,8 +100,7 @@ pub fn run<S: Shelf, O: Sink, E: Sink>(
         (shelved S.Shelf shelf.old shelf.new) (sunk O.Sink out.old out.new) (sunk E.Sink err.old err.new) result }
 
     // No file is started but those that the request names, and each of these once at most.
-    ensures once { IsReadOnce file_limit (names_of (request_of (words_of words.now)))
-        (shelved S.Shelf shelf.old shelf.new) }
+    ensures once { IsReadOnce (wanted_by (request_of (words_of words.now))) (shelved S.Shelf shelf.old shelf.new) }
 {
     match all_words(alloc, words) {
         Ok(all) => finish(err, answer(alloc, &all, shelf, out)),

@@ -4,13 +4,15 @@ ghost use Rattle.std.specs.Prelude.{◌≡◌};
 ghost use Rattle.mp_io.specs.Moments.{sunk};
 ghost use Rattle.mp_io.specs.Printing.{Prints};
 ghost use Rattle.mp_command.specs.Endings.{line_of, status_of, told_line, told_status};
-ghost use Rattle.mp_command.specs.Messages.{deep_line, fault_line, kind_text, large_line, limit_line};
-ghost use Rattle.mp_command.specs.Messages.{said_at, said_number, said_of, spelling_line};
+ghost use Rattle.mp_command.specs.Messages.{deep_line, fault_line, fault_line_number, kind_text, large_line};
+ghost use Rattle.mp_command.specs.Messages.{limit_line, program_fault_line, program_kind_text, said_at};
+ghost use Rattle.mp_command.specs.Messages.{said_at_line, said_number, said_of, spelling_line};
 
 use itoa::Buffer;
 use mp_io::{Failed, Sink, put, put_all};
 use mp_term::{Memory, Name};
 use mp_text::{TextFault, TextKind};
+use mp_vm::ProgramError;
 
 /// An end that the words and the files decide.
 #[derive(Drop)]
@@ -23,6 +25,8 @@ pub enum Told<'a> {
     Usage,
     /// The named file's text has a fault.
     BadText(&'a str, TextFault),
+    /// The text of the named program file has a fault.
+    BadProgram(&'a str, ProgramError),
     /// The named file has more bytes than its limit.
     TooLong(&'a str),
     /// The text of a token spells none: some token begins with so many of its bytes, and none with more of them.
@@ -85,6 +89,7 @@ fn told_status(told: &Told<'_>) -> u8
         Told::Empty => 1,
         Told::Usage => 2,
         Told::BadText(_, _) => 3,
+        Told::BadProgram(_, _) => 12,
         Told::TooLong(_) => 4,
         Told::Misspelt(_) | Told::NoItem => 9,
         Told::NotSyntactic(_) => 10,
@@ -175,6 +180,59 @@ fn say_fault<E: Sink>(err: &mut E, name: &[u8], fault: TextFault) -> Result<(), 
     say_at(err, name, line, column, kind_text(fault.kind))
 }
 
+// Writes the line that says at which line of a file what stands.
+fn say_line<E: Sink>(err: &mut E, name: &[u8], line: &str, text: &[u8]) -> Result<(), Failed>
+    ensures { Prints (sunk E.Sink err.old err.new) (said_at_line name.now line.now text.now) result }
+{
+    let parts = [
+        b"matchpy: ",
+        name,
+        b":",
+        line.as_bytes(),
+        b": ",
+        text,
+        b"\n",
+    ];
+    put_all(err, &parts)
+}
+
+// How a fault of a program is called.
+fn program_kind_text(fault: &ProgramError) -> &'static [u8]
+    ensures { result.now ≡ program_kind_text fault.now }
+{
+    match fault {
+        ProgramError::WrongVersion => b"WrongVersion",
+        ProgramError::BadLine { .. } => b"BadLine",
+        ProgramError::BackwardTarget { .. } => b"BackwardTarget",
+        ProgramError::BadReference { .. } => b"BadReference",
+        ProgramError::Unbalanced { .. } => b"Unbalanced",
+        ProgramError::Memory => b"",
+    }
+}
+
+// The line at which it stands.
+fn fault_line_number(fault: &ProgramError) -> u32
+    ensures { result ≡ fault_line_number fault.now }
+{
+    match fault {
+        ProgramError::WrongVersion => 1,
+        ProgramError::BadLine { line } => *line,
+        ProgramError::BackwardTarget { line } => *line,
+        ProgramError::BadReference { line } => *line,
+        ProgramError::Unbalanced { line } => *line,
+        ProgramError::Memory => 0,
+    }
+}
+
+// Writes the line of a fault of a program's text.
+fn say_program_fault<E: Sink>(err: &mut E, name: &[u8], fault: &ProgramError) -> Result<(), Failed>
+    ensures { Prints (sunk E.Sink err.old err.new) (program_fault_line name.now fault.now) result }
+{
+    let mut line = Buffer::new();
+    let line = line.format(fault_line_number(fault));
+    say_line(err, name, line, program_kind_text(fault))
+}
+
 // Writes the line that says something of a name, with the digits of a number in it.
 fn say_digits<E: Sink>(
     err: &mut E,
@@ -248,6 +306,7 @@ fn say_told<E: Sink>(err: &mut E, told: &Told<'_>) -> Result<(), Failed>
         Told::Empty => Ok(()),
         Told::Usage => put(err, USAGE),
         Told::BadText(name, fault) => say_fault(err, name.as_bytes(), *fault),
+        Told::BadProgram(name, fault) => say_program_fault(err, name.as_bytes(), fault),
         Told::TooLong(name) => say_of(err, name.as_bytes(), b": too long"),
         Told::Misspelt(at) => say_spelling(err, *at),
         Told::NoItem => put(err, b"matchpy: token: not an item\n"),
@@ -275,4 +334,4 @@ pub fn say<E: Sink>(err: &mut E, ending: &Ending<'_>) -> Result<(), Failed>
 }
 
 const USAGE: &[u8] =
-    b"usage: matchpy ACTION [FILE ..] [--engine E] [--limit N] [--resume TOKEN] [--max N]\n";
+    b"usage: matchpy ACTION [FILE ..] [--engine E] [--limit N] [--resume TOKEN] [--max N] [--from PROGRAM]\n";

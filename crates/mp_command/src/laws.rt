@@ -3,14 +3,22 @@
 ghost use Rattle.std.specs.Prelude.{◌≡◌, List};
 ghost use Rattle.mp_io.specs.Devices.{Files, Text};
 ghost use Rattle.mp_command.specs.Outcome.{IsOutcome, Outcome};
+ghost use Rattle.mp_command.specs.Run.{HasNoProgram};
+ghost use Rattle.mp_words.specs.Words.{request_of};
+
+use mp_vm::a_text_is_one_program_at_most;
 
 /// These words over these files have one outcome at most, by `IsOutcome` of `specs/Outcome.antt`.
 pub fn an_outcome_is_unique()
     ensures { (words : List Text) (files : Files) (o p : Outcome) → IsOutcome words files o → IsOutcome words files p
         → o ≡ p }
-{}
+{
+    a_text_is_one_program_at_most();
+}
 
-/// These words over these files have an outcome.
+/// Words that name no program file have an outcome over these files. With a program file too there is one where the
+/// command says what it is: that is said of each run, by `HasOutcome` of `specs/Run.antt`.
 pub fn there_is_an_outcome()
-    ensures { (words : List Text) (files : Files) → (o : Outcome) × IsOutcome words files o }
+    ensures { (words : List Text) (files : Files) → HasNoProgram (request_of words)
+        → (o : Outcome) × IsOutcome words files o }
 {}

@@ -2,14 +2,19 @@
 //! file.
 #![tactic(auto)]
 
+mod accepted;
 mod answer;
 mod command;
+mod compile;
 mod edit;
 mod ending;
 mod laws;
 mod many_matcher;
 mod matches;
+mod names;
 mod net_matcher;
+mod program_matcher;
+mod programs;
 mod rewrite;
 mod show;
 

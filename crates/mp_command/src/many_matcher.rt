@@ -1,6 +1,7 @@
 //! The engine `many`.
 
 ghost use Rattle.std.specs.Prelude.{◌≡◌, IfOk};
+ghost use Rattle.mp_pattern.specs.Lists.{IsAllList};
 ghost use Rattle.mp_pattern.specs.SoundRule.{AreSoundRules};
 
 use mp_io::Sink;
@@ -8,8 +9,8 @@ use mp_many::Many;
 use mp_matches::{Matcher, Stop, print_pairs};
 use mp_pattern::Rules;
 use mp_table::Table;
-use mp_term::{Memory, Signature, Terms};
-use mp_text::{File, Subject};
+use mp_term::{Memory, Name, Signature, Terms};
+use mp_text::Subject;
 use std::alloc::Global;
 use std::marker::Model;
 
@@ -56,18 +57,19 @@ impl<'a> ManyMatcher<'a> {
 impl Matcher for ManyMatcher<'_> {
     ghost signature = { λ m. m.sig };
 
-    ghost rules = { λ m. m.rules };
+    ghost finds = { λ m. IsAllList m.sig m.rules };
 
     fn print<O: Sink>(
         &self,
         alloc: Global,
-        file: &File,
+        sig: &Signature,
+        names: &[&Name],
         subject: &Subject,
         left: &mut Option<u32>,
         out: &mut O,
     ) -> Result<bool, Stop> {
-        let table = Table::build(alloc, &file.sig, &subject.term, &self.constants)?;
+        let table = Table::build(alloc, sig, &subject.term, &self.constants)?;
         let pairs = self.many.ranked(alloc, &table)?;
-        print_pairs(&file.sig, &file.rules, subject, &pairs, left, out)
+        print_pairs(sig, names, subject, &pairs, left, out)
     }
 }

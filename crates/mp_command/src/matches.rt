@@ -1,9 +1,11 @@
 //! The action `match`: the matches of a file's rules on its subjects, a line each.
 
-ghost use Rattle.std.specs.Prelude.{◌≡◌, ◌<◌, ℕ, Option, Some, length, slice_get};
+ghost use Rattle.std.specs.Prelude.{◌≡◌, ◌<◌, ℕ, List, Option, Some, length, slice_get};
 ghost use Rattle.mp_io.specs.Devices.{Text};
 ghost use Rattle.mp_io.specs.Moments.{Sunk, sunk};
+ghost use Rattle.mp_term.specs.Tree.{Tree};
 ghost use Rattle.mp_pattern.specs.Admission.{Rule};
+ghost use Rattle.mp_pattern.specs.Lists.{IsAllList, Pair};
 ghost use Rattle.mp_text.specs.File.{file_tree};
 ghost use Rattle.mp_text.specs.Sound.{IsSoundFile};
 ghost use Rattle.mp_matches.specs.Listed.{Listed};
@@ -14,21 +16,26 @@ ghost use Rattle.mp_command.specs.Computed.{matched_whole, matches_by, over_synt
 ghost use Rattle.mp_command.specs.Endings.{status_of};
 ghost use Rattle.mp_command.specs.Messages.{not_syntactic_line};
 ghost use Rattle.mp_command.specs.Outcome.{first_not_syntactic, matched, refused};
+ghost use Rattle.mp_command.specs.Programs.{IsRead};
 
+use crate::accepted::print_rules_accepted;
 use crate::ending::{Ending, Told};
 use crate::many_matcher::ManyMatcher;
+use crate::names::rule_names;
 use crate::net_matcher::NetMatcher;
+use mp_gen::{a_generated_program_has_the_items_of_the_rules, a_generated_program_is_valid};
 use mp_io::Sink;
-use mp_matches::{ListFault, list_matches, list_pairs};
+use mp_matches::{ListFault, Matcher, list_matches, list_pairs};
 use mp_net::{NetFault, Nets};
 use mp_pattern::Rules;
+use mp_round_trip::{members_and_conditions_of_files_are_spelled, signatures_of_files_are_spelled};
 use mp_term::Memory;
 use mp_text::File;
 use mp_words::{Engine, Request};
 use std::alloc::Global;
 
-// How it ends where matches were listed so.
-fn ending<'a>(listed: Result<bool, ListFault>) -> Ending<'a>
+/// How it ends where matches were listed so.
+pub fn ending<'a>(listed: Result<bool, ListFault>) -> Ending<'a>
     ensures acts { (l : Listed) (out : Sunk) → Lists l out listed → Acts (matched l) out result }
     ensures used { status_of result ≡ 2 → ⊥ }
     ensures read { status_of result ≡ 4 → ⊥ }
@@ -61,6 +68,28 @@ fn not_syntactic<'a>(alloc: Global, rules: &Rules, number: u32) -> Ending<'a>
     }
 }
 
+// Prints the pairs that the matcher finds by the file's rules.
+fn print_matches<'a, M: Matcher, O: Sink>(
+    alloc: Global,
+    file: &File,
+    matcher: &M,
+    limit: Option<u32>,
+    out: &mut O,
+) -> Ending<'a>
+    requires file { IsSoundFile (file_tree file.now) }
+    requires over { M.signature matcher.now ≡ (file_tree file.now).sig }
+    requires finds { (t : Tree) (ps : List Pair) → IsAllList (file_tree file.now).sig (file_tree file.now).rules t ps
+        → M.finds matcher.now t ps }
+    ensures acts { Acts (matched_whole (file_tree file.now) limit) (sunk O.Sink out.old out.new) result }
+    ensures used { status_of result ≡ 2 → ⊥ }
+    ensures read { status_of result ≡ 4 → ⊥ }
+{
+    match rule_names(alloc, file.rules.as_slice()) {
+        Ok(names) => ending(list_pairs(alloc, file, &names, matcher, limit, out)),
+        Err(Memory) => Ending::Memory,
+    }
+}
+
 // Prints the pairs that a walk over all rules at once finds.
 fn match_by_walk<'a, O: Sink>(
     alloc: Global,
@@ -74,7 +103,7 @@ fn match_by_walk<'a, O: Sink>(
     ensures read { status_of result ≡ 4 → ⊥ }
 {
     match ManyMatcher::build(alloc, &file.sig, &file.rules) {
-        Ok(matcher) => ending(list_pairs(alloc, file, &matcher, limit, out)),
+        Ok(matcher) => print_matches(alloc, file, &matcher, limit, out),
         Err(Memory) => Ending::Memory,
     }
 }
@@ -94,10 +123,30 @@ fn match_by_nets<'a, O: Sink>(
     ensures read { status_of result ≡ 4 → ⊥ }
 {
     match Nets::build(alloc, &file.sig, &file.rules) {
-        Ok(nets) => ending(list_pairs(alloc, file, &NetMatcher { nets }, limit, out)),
+        Ok(nets) => print_matches(alloc, file, &NetMatcher { nets }, limit, out),
         Err(NetFault::NotSyntactic { rule }) => not_syntactic(alloc, &file.rules, rule),
         Err(NetFault::Memory) => Ending::Memory,
     }
+}
+
+// Prints the pairs that the match program of the rules accepts.
+fn match_by_program<'a, O: Sink>(
+    alloc: Global,
+    file: &File,
+    limit: Option<u32>,
+    out: &mut O,
+) -> Ending<'a>
+    requires file { IsSoundFile (file_tree file.now) }
+    requires read { IsRead (file_tree file.now) }
+    ensures acts { Acts (matched_whole (file_tree file.now) limit) (sunk O.Sink out.old out.new) result }
+    ensures used { status_of result ≡ 2 → ⊥ }
+    ensures read { status_of result ≡ 4 → ⊥ }
+{
+    signatures_of_files_are_spelled();
+    members_and_conditions_of_files_are_spelled();
+    a_generated_program_is_valid();
+    a_generated_program_has_the_items_of_the_rules();
+    print_rules_accepted(alloc, file, limit, out)
 }
 
 /// Prints a line for each subject, rule and admitted substitution of the file, as the engine finds them: at most as
@@ -112,7 +161,8 @@ pub fn match_file<'a, O: Sink>(
     request: &Request<'_>,
     out: &mut O,
 ) -> Ending<'a>
-    requires { IsSoundFile (file_tree file.now) }
+    requires file { IsSoundFile (file_tree file.now) }
+    requires read { IsRead (file_tree file.now) }
     ensures acts { Acts (matches_by request.now.engine (asked request.now) (file_tree file.now))
         (sunk O.Sink out.old out.new) result }
     ensures used { status_of result ≡ 2 → ⊥ }
@@ -122,5 +172,6 @@ pub fn match_file<'a, O: Sink>(
         Engine::One => ending(list_matches(alloc, file, request.limit, request.resume, out)),
         Engine::Many => match_by_walk(alloc, file, request.limit, out),
         Engine::Net => match_by_nets(alloc, file, request.limit, out),
+        Engine::Program => match_by_program(alloc, file, request.limit, out),
     }
 }

@@ -11,8 +11,8 @@ use mp_matches::{Matcher, Stop, print_pairs};
 use mp_net::{Nets, Probe};
 use mp_subst::Pairs;
 use mp_table::Table;
-use mp_term::{Memory, Signature, Term, Terms};
-use mp_text::{File, Subject};
+use mp_term::{Memory, Name, Signature, Term, Terms};
+use mp_text::Subject;
 use std::alloc::Global;
 
 /// Nets of rules, which find all that the rules admit on a subject.
@@ -35,17 +35,18 @@ fn pairs(alloc: Global, nets: &Nets<'_>, sig: &Signature, subject: &Term) -> Res
 impl Matcher for NetMatcher<'_> {
     ghost signature = { λ m. m.nets.sig };
 
-    ghost rules = { λ m. m.nets.rules };
+    ghost finds = { λ m. IsAllList m.nets.sig m.nets.rules };
 
     fn print<O: Sink>(
         &self,
         alloc: Global,
-        file: &File,
+        sig: &Signature,
+        names: &[&Name],
         subject: &Subject,
         left: &mut Option<u32>,
         out: &mut O,
     ) -> Result<bool, Stop> {
-        let pairs = pairs(alloc, &self.nets, &file.sig, &subject.term)?;
-        print_pairs(&file.sig, &file.rules, subject, pairs.as_slice(), left, out)
+        let pairs = pairs(alloc, &self.nets, sig, &subject.term)?;
+        print_pairs(sig, names, subject, pairs.as_slice(), left, out)
     }
 }

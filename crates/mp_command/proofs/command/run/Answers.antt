@@ -2,10 +2,9 @@ use Rattle.std.proofs.Common.{◌≡◌, ◌≤◌, refl, rules, subst, sym, ◌
 use Rattle.std.specs.List.{Contains}
 use Rattle.mp_io.specs.Moments.{shelved, sunk}
 use Rattle.mp_words.specs.Words.{request_of}
-use Rattle.mp_command.specs.Computed.{outcome_at}
 use Rattle.mp_command.specs.Endings.{line_of}
-use Rattle.mp_command.specs.Outcome.{file_limit}
-use Rattle.mp_command.specs.Run.{IsUnreadLine, names_of, statuses, words_behind, words_of}
+use Rattle.mp_command.specs.Outcome.{IsOutcomeAt}
+use Rattle.mp_command.specs.Run.{IsUnreadLine, statuses, wanted_by, words_behind, words_of}
 use Rattle.mp_command.specs.declared.ending.Ending.TheVariants as ending
 use Rattle.mp_command.proofs.Chain.{Answers-nothing}
 use Rattle.mp_command.proofs.Runs.{HasOutcome-answers, Says-done, status_of-listed}
@@ -31,7 +30,7 @@ returns-in-Ok-clause-tells g c =
       usage = search rules;
       unread = λ e. (
         line,
-        subst (λ r. IsUnreadLine file_limit (names_of r) (shelved g.S.Shelf c.args.shelf.now c.answer.new.shelf) line)
+        subst (λ r. IsUnreadLine (wanted_by r) (shelved g.S.Shelf c.args.shelf.now c.answer.new.shelf) line)
             same (c.answer.ensures.causes (sym c.finish.ensures.status ∙ e)),
         c.finish.ensures.says,
       );
@@ -47,5 +46,5 @@ returns-in-Err-clause-outcome g c =
     let shelf = shelved g.S.Shelf c.args.shelf.now c.args.shelf.now in
     let out = sunk g.O.Sink c.args.out.now c.args.out.now in
     HasOutcome-answers shelf _ asked_for out _ ending.Memory _ refl c.finish-in-Err.ensures.status
-    (Answers-nothing (names_of asked_for) (λ fs. outcome_at fs asked_for) shelf out refl)
+    (Answers-nothing (wanted_by asked_for) (λ fs. IsOutcomeAt fs asked_for) shelf out refl)
     c.finish-in-Err.ensures.says

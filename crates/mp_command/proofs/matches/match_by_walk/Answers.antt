@@ -1,8 +1,11 @@
+use Rattle.std.proofs.Common.{subst, sym}
 use Rattle.mp_text.specs.File.{file_tree}
-use Rattle.mp_command.proofs.Matched.{all_listed}
+use Rattle.mp_pattern.specs.Lists.{IsAllList}
 use Rattle.mp_command.proofs.matches.match_by_walk.Goals as goal
 
-pub returns-in-Ok-clause-acts : goal.returns-in-Ok-clause-acts
-returns-in-Ok-clause-acts g c =
+pub print_matches-requires-clause-finds : goal.print_matches-requires-clause-finds
+print_matches-requires-clause-finds g c = λ t ps h.
     let file = file_tree c.args.file.now in
-    c.ending.ensures.acts _ _ (c.list_pairs.ensures _ (all_listed file c.requires c.args.limit))
+    let m = c.in-Ok.matcher in
+    subst (λ sig. IsAllList sig m.rules t ps) (sym c.in-Ok.ensures.sig)
+    (subst (λ rs. IsAllList file.sig rs t ps) (sym c.in-Ok.ensures.rules) h)

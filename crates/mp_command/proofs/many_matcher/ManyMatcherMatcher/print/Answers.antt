@@ -5,9 +5,11 @@ use Rattle.mp_io.specs.Moments.{sunk}
 use Rattle.mp_term.specs.Normal.{IsNormal}
 use Rattle.mp_term.specs.View.{tree}
 use Rattle.mp_pattern.specs.Lists.{IsAllList}
-use Rattle.mp_text.specs.File.{file_tree, subject_tree}
+use Rattle.mp_text.specs.File.{subject_tree}
+use Rattle.mp_theory.proofs.AllList.{IsAllList-unique}
 use Rattle.mp_many.specs.Many.{subject_of}
 use Rattle.mp_many.proofs.WalkTables.{subject-built, walk_table-built}
+use Rattle.mp_matches.specs.PairsListed.{named}
 use Rattle.mp_matches.proofs.PairsLaws.{subject-printed}
 use Rattle.mp_command.proofs.many_matcher.ManyMatcherMatcher.print.Goals as goal
 
@@ -17,14 +19,14 @@ build-requires-clause-constant_nodes g c = c.self.invariant.few
 pub build-requires-clause-normal_constants : goal.build-requires-clause-normal_constants
 build-requires-clause-normal_constants g c =
     let m = c.self.inside in
-    let same : c.args.file.now.sig ≡ m.many.sig = c.requires.over ∙ sym (ap (λ n. n.sig) c.self.view_is) in
+    let same : c.args.sig.now ≡ m.many.sig = c.requires.over ∙ sym (ap (λ n. n.sig) c.self.view_is) in
     subst (λ sig. AllByRecursion (IsNormal sig) m.constants) (sym same) c.self.invariant.normal
 
 pub ranked-requires : goal.ranked-requires
 ranked-requires g c =
     let table = c.in_ok-table.table in
     let m = c.self.inside in
-    let same : c.args.file.now.sig ≡ m.many.sig = c.requires.over ∙ sym (ap (λ n. n.sig) c.self.view_is) in
+    let same : c.args.sig.now ≡ m.many.sig = c.requires.over ∙ sym (ap (λ n. n.sig) c.self.view_is) in
     walk_table-built table (tree c.args.subject.now.term) m.constants c.in_ok-table.ensures.table m.many
     c.self.invariant
     (subst (λ sig. AllByRecursion (IsNormal sig) table.terms) same c.in_ok-table.ensures.normal)
@@ -32,21 +34,19 @@ ranked-requires g c =
 
 pub returns : goal.returns
 returns g c =
-    let file = file_tree c.args.file.now in
+    let sig = c.args.sig.now in
+    let own = c.args.self.now in
     let subject = subject_tree c.args.subject.now in
     let table = c.in_ok-table.table in
     let m = c.self.inside in
     let pairs = c.deref.result.now in
     let same = subject-built table (tree c.args.subject.now.term) m.constants c.in_ok-table.ensures.table in
-    let sig : m.many.sig ≡ file.sig = ap (λ n. n.sig) c.self.view_is ∙ sym c.requires.over in
-    let rules : m.many.rules ≡ file.rules = ap (λ n. n.rules) c.self.view_is ∙ sym c.requires.matched in
     let found = subst (λ ps. IsAllList m.many.sig m.many.rules (subject_of table) ps) (sym c.deref.ensures.value)
     c.in_ok-pairs.ensures in
-    let all : IsAllList file.sig file.rules subject.term pairs =
-    subst (λ s. IsAllList s file.rules subject.term pairs) sig
-    (subst (λ rs. IsAllList m.many.sig rs subject.term pairs) rules
-    (subst (λ t. IsAllList m.many.sig m.many.rules t pairs) same found)) in
+    let all : IsAllList own.sig own.rules subject.term pairs =
+    subst (λ n. IsAllList n.sig n.rules subject.term pairs) c.self.view_is
+    (subst (λ t. IsAllList m.many.sig m.many.rules t pairs) same found) in
     let told = c.print_pairs in
-    subject-printed file.sig file.rules subject (map (λ p. p) pairs)
-    (subst (IsAllList file.sig file.rules subject.term) (sym (map-id pairs)) all) c.args.left.now told.new.left
-    (sunk g.O.Sink c.args.out.now told.new.out) told.result told.ensures
+    subject-printed sig (named c.args.names.now) (IsAllList own.sig own.rules) subject (map (λ p. p) pairs)
+    (λ qs h. IsAllList-unique own.sig own.rules subject.term qs pairs h all ∙ sym (map-id pairs)) c.args.left.now
+    told.new.left (sunk g.O.Sink c.args.out.now told.new.out) told.result told.ensures

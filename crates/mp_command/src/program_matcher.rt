@@ -1,0 +1,36 @@
+//! The engine `program`.
+
+ghost use Rattle.mp_vm.specs.ProgramList.{IsProgramList};
+
+use mp_io::Sink;
+use mp_matches::{Matcher, Stop, print_pairs};
+use mp_term::{Name, Signature};
+use mp_text::Subject;
+use mp_vm::Runner;
+use std::alloc::Global;
+
+/// A match program that is run on subjects.
+#[derive(Drop)]
+pub struct ProgramMatcher<'a> {
+    pub runner: Runner<'a>,
+}
+
+impl Matcher for ProgramMatcher<'_> {
+    ghost signature = { λ m. m.runner.sig };
+
+    ghost finds = { λ m. IsProgramList m.runner.sig m.runner.program };
+
+    fn print<O: Sink>(
+        &self,
+        alloc: Global,
+        sig: &Signature,
+        names: &[&Name],
+        subject: &Subject,
+        left: &mut Option<u32>,
+        out: &mut O,
+    ) -> Result<bool, Stop> {
+        let table = self.runner.table(alloc, &subject.term)?;
+        let pairs = self.runner.pairs(alloc, &table)?;
+        print_pairs(sig, names, subject, &pairs, left, out)
+    }
+}
