@@ -4,10 +4,12 @@ use mp_words::{Action, Engine, Request, read_words, words_make_requests};
 use std::alloc::Global;
 use std::process::Abort;
 
-// What is asked for: the action, the file, the engine, the limit, the resume token and the number of steps.
+// What is asked for: the action, the file, the program file, the engine, the limit, the resume token and the number of
+// steps.
 type Asked = (
     Action,
     &'static str,
+    Option<&'static str>,
     Engine,
     Option<u32>,
     Option<&'static str>,
@@ -20,29 +22,30 @@ type Asked = (
 const REQUESTS: &[(&str, Asked)] = &[
     (
         "matchpy match t",
-        (Action::Match, "t", Engine::One, None, None, 1000),
+        (Action::Match, "t", None, Engine::One, None, None, 1000),
     ),
     (
         "matchpy show -",
-        (Action::Show, "-", Engine::One, None, None, 1000),
+        (Action::Show, "-", None, Engine::One, None, None, 1000),
     ),
     (
         "matchpy show ",
-        (Action::Show, "", Engine::One, None, None, 1000),
+        (Action::Show, "", None, Engine::One, None, None, 1000),
     ),
     (
         "matchpy rewrite t",
-        (Action::Rewrite, "t", Engine::One, None, None, 1000),
+        (Action::Rewrite, "t", None, Engine::One, None, None, 1000),
     ),
     (
         "matchpy edit t",
-        (Action::Edit, "t", Engine::One, None, None, 1000),
+        (Action::Edit, "t", None, Engine::One, None, None, 1000),
     ),
     (
         "matchpy --resume s/r/1 match t --limit=3",
         (
             Action::Match,
             "t",
+            None,
             Engine::One,
             Some(3),
             Some("s/r/1"),
@@ -51,13 +54,22 @@ const REQUESTS: &[(&str, Asked)] = &[
     ),
     (
         "matchpy match --limit 0000000003 --engine=one t --resume=",
-        (Action::Match, "t", Engine::One, Some(3), Some(""), 1000),
+        (
+            Action::Match,
+            "t",
+            None,
+            Engine::One,
+            Some(3),
+            Some(""),
+            1000,
+        ),
     ),
     (
         "matchpy match t --limit 1000000000 --resume -",
         (
             Action::Match,
             "t",
+            None,
             Engine::One,
             Some(1_000_000_000),
             Some("-"),
@@ -66,35 +78,91 @@ const REQUESTS: &[(&str, Asked)] = &[
     ),
     (
         "matchpy match t --engine many",
-        (Action::Match, "t", Engine::Many, None, None, 1000),
+        (Action::Match, "t", None, Engine::Many, None, None, 1000),
     ),
     (
         "matchpy --engine=many match t --limit=1",
-        (Action::Match, "t", Engine::Many, Some(1), None, 1000),
+        (Action::Match, "t", None, Engine::Many, Some(1), None, 1000),
     ),
     (
         "matchpy match t --engine net",
-        (Action::Match, "t", Engine::Net, None, None, 1000),
+        (Action::Match, "t", None, Engine::Net, None, None, 1000),
     ),
     (
         "matchpy --limit=2 match --engine=net -- -t",
-        (Action::Match, "-t", Engine::Net, Some(2), None, 1000),
+        (Action::Match, "-t", None, Engine::Net, Some(2), None, 1000),
     ),
     (
         "matchpy rewrite t --max 1000000",
-        (Action::Rewrite, "t", Engine::One, None, None, 1_000_000),
+        (
+            Action::Rewrite,
+            "t",
+            None,
+            Engine::One,
+            None,
+            None,
+            1_000_000,
+        ),
     ),
     (
         "matchpy --max=0 rewrite -- -t",
-        (Action::Rewrite, "-t", Engine::One, None, None, 0),
+        (Action::Rewrite, "-t", None, Engine::One, None, None, 0),
     ),
     (
         "matchpy -- edit --max",
-        (Action::Edit, "--max", Engine::One, None, None, 1000),
+        (Action::Edit, "--max", None, Engine::One, None, None, 1000),
     ),
     (
         "matchpy show -- --",
-        (Action::Show, "--", Engine::One, None, None, 1000),
+        (Action::Show, "--", None, Engine::One, None, None, 1000),
+    ),
+    (
+        "matchpy match --engine=program t --limit 2",
+        (
+            Action::Match,
+            "t",
+            None,
+            Engine::Program,
+            Some(2),
+            None,
+            1000,
+        ),
+    ),
+    (
+        "matchpy compile t",
+        (Action::Compile, "t", None, Engine::One, None, None, 1000),
+    ),
+    (
+        "matchpy compile --from p t",
+        (
+            Action::Compile,
+            "t",
+            Some("p"),
+            Engine::One,
+            None,
+            None,
+            1000,
+        ),
+    ),
+    (
+        "matchpy compile - --from=p",
+        (
+            Action::Compile,
+            "-",
+            Some("p"),
+            Engine::One,
+            None,
+            None,
+            1000,
+        ),
+    ),
+    (
+        "matchpy run t p",
+        (Action::Run, "t", Some("p"), Engine::One, None, None, 1000),
+    ),
+    (
+        "matchpy run -- -t -",
+        (Action::Run, "-t", Some("-"), Engine::One, None, None, 1000),
     ),
 ];
 
@@ -115,7 +183,8 @@ matchpy match t --engine=all\n\
 matchpy match t --engine=many --resume=s/r/1\n\
 matchpy match t --resume  --engine many\n\
 matchpy rewrite t --engine=many\n\
-matchpy match t --engine=program\n\
+matchpy match t --engine=programs\n\
+matchpy match t --engine=program --resume=s/r/1\n\
 matchpy match t --engine=Net\n\
 matchpy match t --engine=one --engine=net\n\
 matchpy match t --engine=net --resume=s/r/1\n\
@@ -136,7 +205,17 @@ matchpy match t --max=1\n\
 matchpy rewrite t --max=1000001\n\
 matchpy rewrite t --engine=one\n\
 matchpy show t --resume=x\n\
-matchpy edit t --limit=1";
+matchpy edit t --limit=1\n\
+matchpy run t\n\
+matchpy run t p q\n\
+matchpy run - -\n\
+matchpy run t p --limit=1\n\
+matchpy run t p --from=q\n\
+matchpy compile t p\n\
+matchpy compile - --from -\n\
+matchpy compile t --from=p --from=q\n\
+matchpy compile t --engine=program\n\
+matchpy match t --from=p";
 
 // Whether this is what is asked for; `None` where there is no request.
 fn is_asked(request: Option<Request>, asked: Option<&Asked>) -> bool {
@@ -144,10 +223,11 @@ fn is_asked(request: Option<Request>, asked: Option<&Asked>) -> bool {
         (Some(request), Some(asked)) => {
             request.action as u8 == asked.0 as u8
                 && request.file == asked.1
-                && request.engine as u8 == asked.2 as u8
-                && request.limit == asked.3
-                && request.resume == asked.4
-                && request.max == asked.5
+                && request.program == asked.2
+                && request.engine as u8 == asked.3 as u8
+                && request.limit == asked.4
+                && request.resume == asked.5
+                && request.max == asked.6
         }
         (None, None) => true,
         _ => false,

@@ -746,9 +746,11 @@ match t --engine two|\n\
 match t --help|\n\
 rewrite t --resume s/r/2;0;1|\n\
 match t t|\n\
+run t|\n\
+compile - --from -|\n\
 show|\n\
 |";
 
 /// What is said of them.
 pub const USAGE: &str =
-    "usage: matchpy ACTION [FILE ..] [--engine E] [--limit N] [--resume TOKEN] [--max N]\n";
+    "usage: matchpy ACTION [FILE ..] [--engine E] [--limit N] [--resume TOKEN] [--max N] [--from PROGRAM]\n";

@@ -134,35 +134,35 @@ s: a after 1
 op f 2; rule r: f(x_, y_) -> $x; subject s: f(a, b);
 ----
 ----
-usage: matchpy ACTION [FILE ..] [--engine E] [--limit N] [--resume TOKEN] [--max N]
+usage: matchpy ACTION [FILE ..] [--engine E] [--limit N] [--resume TOKEN] [--max N] [--from PROGRAM]
 ====
 2 rewrite t --max 00000000001
 ----
 op f 2; rule r: f(x_, y_) -> $x; subject s: f(a, b);
 ----
 ----
-usage: matchpy ACTION [FILE ..] [--engine E] [--limit N] [--resume TOKEN] [--max N]
+usage: matchpy ACTION [FILE ..] [--engine E] [--limit N] [--resume TOKEN] [--max N] [--from PROGRAM]
 ====
 2 rewrite t --max +1
 ----
 op f 2; rule r: f(x_, y_) -> $x; subject s: f(a, b);
 ----
 ----
-usage: matchpy ACTION [FILE ..] [--engine E] [--limit N] [--resume TOKEN] [--max N]
+usage: matchpy ACTION [FILE ..] [--engine E] [--limit N] [--resume TOKEN] [--max N] [--from PROGRAM]
 ====
 2 rewrite t --max
 ----
 op f 2; rule r: f(x_, y_) -> $x; subject s: f(a, b);
 ----
 ----
-usage: matchpy ACTION [FILE ..] [--engine E] [--limit N] [--resume TOKEN] [--max N]
+usage: matchpy ACTION [FILE ..] [--engine E] [--limit N] [--resume TOKEN] [--max N] [--from PROGRAM]
 ====
 2 match t --max 1
 ----
 op f 2; rule r: f(x_, y_) -> $x; subject s: f(a, b);
 ----
 ----
-usage: matchpy ACTION [FILE ..] [--engine E] [--limit N] [--resume TOKEN] [--max N]
+usage: matchpy ACTION [FILE ..] [--engine E] [--limit N] [--resume TOKEN] [--max N] [--from PROGRAM]
 ====
 4 rewrite none
 ----

@@ -116,19 +116,19 @@ matchpy: t:1:23: Syntax
 op f 2; rule r: f(x_, y_); rule q: f(a, y_); subject s: f(a, b);
 ----
 ----
-usage: matchpy ACTION [FILE ..] [--engine E] [--limit N] [--resume TOKEN] [--max N]
+usage: matchpy ACTION [FILE ..] [--engine E] [--limit N] [--resume TOKEN] [--max N] [--from PROGRAM]
 ====
-2 match t --engine program
+2 match t --engine programs
 ----
 op f 2; rule r: f(x_, y_); subject s: f(a, b);
 ----
 ----
-usage: matchpy ACTION [FILE ..] [--engine E] [--limit N] [--resume TOKEN] [--max N]
+usage: matchpy ACTION [FILE ..] [--engine E] [--limit N] [--resume TOKEN] [--max N] [--from PROGRAM]
 ====
 2 rewrite t --engine net
 ----
 op f 2; rule r: f(x_, y_); subject s: f(a, b);
 ----
 ----
-usage: matchpy ACTION [FILE ..] [--engine E] [--limit N] [--resume TOKEN] [--max N]
+usage: matchpy ACTION [FILE ..] [--engine E] [--limit N] [--resume TOKEN] [--max N] [--from PROGRAM]
 ";

@@ -1,4 +1,4 @@
-//! A run of the command over one file in memory, and over devices that may fail.
+//! A run of the command over one file or two in memory, and over devices that may fail.
 
 use mp_command::run;
 use mp_io::{MemoryShelf, MemorySink};
@@ -60,11 +60,18 @@ fn owned(rt: &impl Abort, alloc: Global, words: &str) -> Vec<String> {
     all
 }
 
-// A shelf of one file `t`.
-fn shelf(rt: &impl Abort, alloc: Global, fails: &[u64], file: &str) -> MemoryShelf {
+// A shelf of one file `t`, or of `t` and `p` where a line `%%%%` stands between them.
+fn shelf(rt: &impl Abort, alloc: Global, fails: &[u64], files: &str) -> MemoryShelf {
     let fails = fails.to_vec(alloc).expect(rt, "memory");
     let mut shelf = MemoryShelf::new(alloc, fails);
+    let (file, program) = match files.split_once("%%%%\n") {
+        None => (files, None),
+        Some((file, program)) => (file, Some(program)),
+    };
     shelf.add("t", file.as_bytes()).expect(rt, "memory");
+    if let Some(program) = program {
+        shelf.add("p", program.as_bytes()).expect(rt, "memory");
+    }
     shelf
 }
 
@@ -74,7 +81,8 @@ fn sink(rt: &impl Abort, alloc: Global, fails: &[u64], room: usize) -> MemorySin
     MemorySink::new(alloc, room, fails).expect(rt, "memory")
 }
 
-/// The run that the words between blanks ask for, over one file `t`.
+/// The run that the words between blanks ask for, over one file `t`, or over `t` and `p` with a line `%%%%` between
+/// them.
 pub fn ran(
     rt: &impl Abort,
     alloc: Global,

@@ -4,6 +4,7 @@ use crate::cases::{
     BEFORE, BEHIND, CONDITIONS, EXAMPLES, FAULTS, FILE, HOLDS, MATCHES, REFUSED, RUNS, USAGE,
 };
 use crate::changes::CHANGES;
+use crate::compiled::COMPILED;
 use crate::listed::LISTED;
 use crate::netted::NETTED;
 use crate::ran::{SOUND, check_run, ran};
@@ -19,6 +20,8 @@ enum Sort {
     Matched,
     // The same, for a walk over all rules at once, which finds the lines in whatever order.
     Walked,
+    // The same, for the program of the rules.
+    Programmed,
     // The same, for lists that are cut behind each match and resumed there.
     Resumed,
     // A condition and, behind `|`, the status of a run over the rule with that condition.
@@ -40,8 +43,8 @@ fn check_lines(rt: &impl Abort, printed: &str, lines: &str) {
     assert!(rt; printed.len() == lines.len(), "{lines}");
 }
 
-fn check_walked(rt: &impl Abort, alloc: Global, file: &str, lines: &str) {
-    let ran = ran(rt, alloc, &SOUND, "match t --engine many", file);
+fn check_engine(rt: &impl Abort, alloc: Global, words: &str, file: &str, lines: &str) {
+    let ran = ran(rt, alloc, &SOUND, words, file);
     let printed = ran.printed(rt);
     assert!(rt; ran.is(u8::from(lines.is_empty()), printed, ""), "{file}");
     check_lines(rt, printed, lines);
@@ -107,7 +110,8 @@ fn check_refused(rt: &impl Abort, alloc: Global, words: &str) {
 fn check(rt: &impl Abort, alloc: Global, sort: Sort, front: &str, back: &str) {
     match sort {
         Sort::Matched => check_matched(rt, alloc, front, back),
-        Sort::Walked => check_walked(rt, alloc, front, back),
+        Sort::Walked => check_engine(rt, alloc, "match t --engine many", front, back),
+        Sort::Programmed => check_engine(rt, alloc, "match t --engine program", front, back),
         Sort::Resumed => check_resumed(rt, alloc, front, back),
         Sort::Condition => check_condition(rt, alloc, front, back),
         Sort::Fault => check_fault(rt, alloc, front, back),
@@ -141,6 +145,12 @@ fn a_walk_over_all_rules_finds_the_same_matches(rt: HostRuntime) {
 }
 
 #[test]
+fn the_program_of_the_rules_accepts_the_same_matches(rt: HostRuntime) {
+    check_all(&rt, rt.alloc(), Sort::Programmed, MATCHES);
+    check_all(&rt, rt.alloc(), Sort::Programmed, EXAMPLES);
+}
+
+#[test]
 fn a_list_that_is_cut_goes_on_behind_its_token(rt: HostRuntime) {
     check_all(&rt, rt.alloc(), Sort::Resumed, MATCHES);
     check_all(&rt, rt.alloc(), Sort::Resumed, EXAMPLES);
@@ -151,7 +161,7 @@ fn rules_match_where_their_conditions_hold(rt: HostRuntime) {
     check_all(&rt, rt.alloc(), Sort::Condition, CONDITIONS);
 }
 
-const TABLES: &[&str] = &[RUNS, CHANGES, LISTED, NETTED, WALKED];
+const TABLES: &[&str] = &[RUNS, CHANGES, LISTED, NETTED, WALKED, COMPILED];
 
 #[test]
 fn words_and_files_decide_what_is_printed(rt: HostRuntime) {

@@ -236,12 +236,12 @@ matchpy: t:1:23: Syntax
 op f 2; rule r: f(x_, y_); subject s: f(a, b);
 ----
 ----
-usage: matchpy ACTION [FILE ..] [--engine E] [--limit N] [--resume TOKEN] [--max N]
+usage: matchpy ACTION [FILE ..] [--engine E] [--limit N] [--resume TOKEN] [--max N] [--from PROGRAM]
 ====
 2 rewrite t --engine many
 ----
 op f 2; rule r: f(x_, y_); subject s: f(a, b);
 ----
 ----
-usage: matchpy ACTION [FILE ..] [--engine E] [--limit N] [--resume TOKEN] [--max N]
+usage: matchpy ACTION [FILE ..] [--engine E] [--limit N] [--resume TOKEN] [--max N] [--from PROGRAM]
 ";

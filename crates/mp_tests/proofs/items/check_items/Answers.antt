@@ -3,7 +3,7 @@ use Rattle.mp_term.specs.Size.{node_count}
 use Rattle.mp_term.specs.View.{tree}
 use Rattle.mp_pattern.specs.Planned.{planned_rule}
 use Rattle.mp_pattern.proofs.SoundRules.{HasConditionOver-HasSoundCondition}
-use Rattle.mp_cursor.proofs.FirstLaws.{subject-is, constants-held}
+use Rattle.mp_cursor.proofs.FirstLaws.{subject-built, constants-held}
 use Rattle.mp_tests.proofs.items.check_items.Goals as goal
 
 pub room_for-requires : goal.room_for-requires
@@ -12,7 +12,7 @@ room_for-requires g c =
     omega (
       arith,
       ap node_count
-          (subject-is m.table.now (tree m.subject.now) m.planned.now.constants c.requires.table),
+          (subject-built m.table.now (tree m.subject.now) m.planned.now.constants c.requires.table),
       c.requires.few,
     )
 
