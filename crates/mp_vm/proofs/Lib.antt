@@ -32,3 +32,7 @@ pub mod StandsAlone
 pub mod ProgramLists
 pub mod OneReading
 pub mod OneForm
+pub mod Decisions
+pub mod ValueDecisions
+pub mod LineDecisions
+pub mod TextDecisions

@@ -64,7 +64,7 @@ unsnoc x (y ∷ xs) = (let r = unsnoc y xs in (x ∷ r.0, r.1, ap (λ l. x ∷ l
 
 module _ (sig : Sig) (held : IsSignature sig) (most : ℕ) where
   -- the next line is read in one way
-  next-one : (s : State) (line : Text) (l : Line) → IsState sig s → IsNextText sig s.form line l
+  pub next-one : (s : State) (line : Text) (l : Line) → IsState sig s → IsNextText sig s.form line l
       → IsOnlyNext sig most s.form line l
   next-one s line l h t = record {
     is = t;

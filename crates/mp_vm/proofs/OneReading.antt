@@ -117,7 +117,7 @@ module _ {A : Type 0} (IsItem : A → Type 0) (printed : A → Text) (bare : (a 
       let rest = items-one xs ys h.1 k.1 m.1 in
       λ i. first i ∷ rest i
 
-numbers-one : (xs ys : List ℕ) (text : Text) → AreNumbersText text xs → AreNumbersText text ys → xs ≡ ys
+pub numbers-one : (xs ys : List ℕ) (text : Text) → AreNumbersText text xs → AreNumbersText text ys → xs ≡ ys
 numbers-one xs ys text h k = items-one IsShort decimal bare-decimal (λ m n a b e. same-number m n a b e) xs ys h.right
     k.right (h.spelled ∙ sym k.spelled)
 
@@ -266,16 +266,16 @@ count-only n true text h = record { is = h; only = λ p k. go p.0 p.1 k }
 -- ---- terms, patterns and conditions
 
 module _ (sig : Sig) where
-  term-only : (text : Text) (t : Tree) → IsExactTerm sig text t → IsOnly (IsExactTerm sig text) t
+  pub term-only : (text : Text) (t : Tree) → IsExactTerm sig text t → IsOnly (IsExactTerm sig text) t
   term-only text t h = exact-only (IsTermOf sig) (term_text sig) text t
       (λ u k. h.read.is ∙ ap (normal_term_of sig) (read-unique expr_is_read text h.read.syntax_tree k.syntax_tree
       h.read.syntax k.syntax) ∙ sym k.is) h.read h.spelled
 
-  pattern-one : (text : Text) (p q : Pattern) → IsPatternOf sig text p → IsPatternOf sig text q → p ≡ q
+  pub pattern-one : (text : Text) (p q : Pattern) → IsPatternOf sig text p → IsPatternOf sig text q → p ≡ q
   pattern-one text p q h k = h.is ∙ ap (pattern_of sig)
       (read-unique expr_is_read text h.syntax_tree k.syntax_tree h.syntax k.syntax) ∙ sym k.is
 
-  cond-one : (text : Text) (c d : Cond) → IsCondOf sig None text c → IsCondOf sig None text d → c ≡ d
+  pub cond-one : (text : Text) (c d : Cond) → IsCondOf sig None text c → IsCondOf sig None text d → c ≡ d
   cond-one text c d h k = h.is ∙ ap (cond_of sig) (read-unique condition_is_read text h.syntax_tree.condition
       k.syntax_tree.condition h.syntax.0 k.syntax.0) ∙ sym k.is
 
@@ -285,17 +285,17 @@ module _ (sig : Sig) where
 
 -- ---- operations and kinds
 
-plain-map : {A : Type 0} (o : Option A) → option_map (λ a. a) o ≡ o
+pub plain-map : {A : Type 0} (o : Option A) → option_map (λ a. a) o ≡ o
 plain-map None = refl
 plain-map (Some a) = refl
 
 module _ (sig : Sig) (held : IsSignature sig) where
-  op-only : (name : Text) (f : ℕ) → IsHeldOp sig name f → IsOnly (IsHeldOp sig name) f
+  pub op-only : (name : Text) (f : ℕ) → IsHeldOp sig name f → IsOnly (IsHeldOp sig name) f
   op-only name f h = known-only (IsHeldOp sig name) (position (has_name name) sig.ops)
       (Finds-op (λ i. i) sig name (position (has_name name) sig.ops) held.ops_distinct
       (plain-map (position (has_name name) sig.ops))) f h
 
-  kind-only : (name : Text) (k : ℕ) → IsHeldKind sig name k → IsOnly (IsHeldKind sig name) k
+  pub kind-only : (name : Text) (k : ℕ) → IsHeldKind sig name k → IsOnly (IsHeldKind sig name) k
   kind-only name k h = known-only (IsHeldKind sig name) (position (bytes_eq name) (kind_names sig))
       (Finds-kind (λ i. i) sig name (position (bytes_eq name) (kind_names sig)) held.kinds_distinct
       (plain-map (position (bytes_eq name) (kind_names sig)))) k h

@@ -1,6 +1,6 @@
 //! That bytes are one program at most, each fact as the contract of a function that does nothing.
 
-ghost use Rattle.std.specs.Prelude.{◌≡◌, List, ℕ};
+ghost use Rattle.std.specs.Prelude.{◌≡◌, ◌⊎◌, List, ℕ};
 ghost use Rattle.mp_term.specs.Signature.{Sig, IsSignature};
 ghost use Rattle.mp_program.specs.declared.fault.ProgramError.{ProgramError};
 ghost use Rattle.mp_program.specs.Form.{Form};
@@ -24,4 +24,12 @@ pub fn a_text_is_one_program_at_most()
     // They have one fault at most.
     ensures fault { (sig : Sig) (bytes : List ℕ) (e f : ProgramError) → IsSignature sig
         → IsProgramFaultOf sig bytes e → IsProgramFaultOf sig bytes f → e ≡ f }
+{}
+
+/// Law: over a signature bytes are a program, or they have a fault.
+///
+/// It does nothing when it runs.
+pub fn a_text_is_a_program_or_has_a_fault()
+    ensures { (sig : Sig) (bytes : List ℕ) → IsSignature sig
+        → ((p : Program) × IsProgramOf sig bytes p) ⊎ ((f : ProgramError) × IsProgramFaultOf sig bytes f) }
 {}

@@ -1,4 +1,4 @@
-use Rattle.std.proofs.Common.{◌≡◌, ◌∙◌, ap, map, subst, sym}
+use Rattle.std.proofs.Common.{◌∙◌, subst, sym}
 use Rattle.std.specs.Prelude.{Contains}
 use Rattle.mp_term.specs.Listing.{IsListing}
 use Rattle.mp_term.specs.Order.{tree_cmp}

@@ -1,7 +1,5 @@
-use Rattle.std.proofs.Common.{◌≡◌, ap, subst, sym}
-use Rattle.std.specs.List.{AllByRecursion}
+use Rattle.std.proofs.Common.{subst}
 use Rattle.std.specs.Prelude.{IfOk}
-use Rattle.mp_term.specs.Normal.{IsNormal}
 use Rattle.mp_term.specs.View.{tree}
 use Rattle.mp_program.specs.ProgramView.{program_view}
 use Rattle.mp_vm.specs.ProgramList.{IsProgramTable}
