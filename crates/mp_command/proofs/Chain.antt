@@ -13,7 +13,7 @@ use Rattle.mp_command.specs.Answers.{HasFailed, Loads}
 use Rattle.mp_command.specs.Endings.{line_of, status_of}
 use Rattle.mp_command.specs.Messages.{long_line, open_line, read_line}
 use Rattle.mp_command.specs.Outcome.{IsOver, Outcome, refused}
-use Rattle.mp_command.specs.Run.{IsReadOnce, IsTurnOf, Wanted}
+use Rattle.mp_command.specs.Run.{IsTurnOf, Wanted}
 use Rattle.mp_command.specs.declared.ending.Told.{Told}
 use Rattle.mp_command.specs.declared.ending.Ending.{Ending}
 use Rattle.mp_command.specs.declared.ending.Ending.TheVariants as ending
@@ -214,33 +214,6 @@ module _ (With : Files → Text → Outcome → Type 0) (file : Wanted) (wanted 
     λ m. h.2 (subst (λ found. IsMissing found n.now) (sym files_same) m),
     read_rose h.3,
   )
-
-  -- and why, whether or not the files are told
-  pub HasCauses-loaded : (e : Ending) → HasCauses wanted second e → HasCauses (file ∷ wanted) (joined first second) e
-  HasCauses-loaded e h = λ s. let u = h s in (
-    u.0,
-    turn-behind u.0 u.1,
-    elim u.2 [
-      | inl x ↦ inl (
-        x.0,
-        elim x.1 [
-          | inl rose ↦ inl (start_rose rose)
-          | inr m ↦ inr (subst (λ found. IsMissing found u.0.name) files_same m)
-        ],
-      )
-      | inr (inl x) ↦ inr (inl (x.0, read_rose x.1))
-      | inr (inr x) ↦ inr (inr x)
-    ],
-  )
-
--- the files are read once
-pub IsReadOnce-joined : (file : Wanted) (wanted : List Wanted) (first second : Shelved)
-    → second.starts ≡ first.starts_after → second.reads ≡ first.reads_after
-    → IsReadOnce (file ∷ []) first → IsReadOnce wanted second → IsReadOnce (file ∷ wanted) (joined first second)
-IsReadOnce-joined file wanted first second starts reads h k = record {
-  starts = omega (arith, starts, h.starts, k.starts);
-  reads = omega (arith, reads, h.reads, k.reads);
-}
 
 -- ---- a file that wasn't loaded
 

@@ -1,8 +1,8 @@
 pub mod Matched
 pub mod Rewrites
 pub mod Actions
-pub mod Outcomes
 pub mod OneOutcome
+pub mod SomeOutcome
 pub mod Chain
 pub mod RenamedFits
 pub mod GeneratedItems

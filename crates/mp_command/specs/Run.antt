@@ -1,5 +1,5 @@
 -- What the whole command promises.
-use Rattle.std.specs.Prelude.{◌≡◌, ◌⊎◌, ◌<◌, ◌≤◌, ◌+◌, ℕ, List, [], ◌∷◌, length, map, Option, Some, None, IfSome}
+use Rattle.std.specs.Prelude.{◌≡◌, ◌⊎◌, ◌<◌, ◌≤◌, ◌+◌, ℕ, List, [], ◌∷◌, length, map, Option, Some, None}
 use Rattle.std.specs.Prelude.{drop, string_bytes}
 use Rattle.std.specs.Borrow.{Bor}
 use Rattle.std.specs.Io.KnownBytes.{Appends, Keeps}
@@ -36,10 +36,6 @@ wanted_program (Some name) = record { name = name; limit = program_limit } ∷ [
 abbrev pub wanted_by : Option Request → List Wanted
 wanted_by None = []
 wanted_by (Some request) = record { name = request.file; limit = file_limit } ∷ wanted_program request.program
-
--- a request that names no program file, or none
-abbrev pub HasNoProgram : Option Request → Type 0
-HasNoProgram request = IfSome request (λ r. r.program ≡ None)
 
 -- one of the files isn't held
 abbrev pub IsSomeMissing : Files → List Wanted → Type 0

@@ -3,10 +3,8 @@
 ghost use Rattle.std.specs.Prelude.{◌≡◌, List};
 ghost use Rattle.mp_io.specs.Devices.{Files, Text};
 ghost use Rattle.mp_command.specs.Outcome.{IsOutcome, Outcome};
-ghost use Rattle.mp_command.specs.Run.{HasNoProgram};
-ghost use Rattle.mp_words.specs.Words.{request_of};
 
-use mp_vm::a_text_is_one_program_at_most;
+use mp_vm::{a_text_is_a_program_or_has_a_fault, a_text_is_one_program_at_most};
 
 /// These words over these files have one outcome at most, by `IsOutcome` of `specs/Outcome.antt`.
 pub fn an_outcome_is_unique()
@@ -16,9 +14,9 @@ pub fn an_outcome_is_unique()
     a_text_is_one_program_at_most();
 }
 
-/// Words that name no program file have an outcome over these files. With a program file too there is one where the
-/// command says what it is: that is said of each run, by `HasOutcome` of `specs/Run.antt`.
+/// These words over these files have an outcome.
 pub fn there_is_an_outcome()
-    ensures { (words : List Text) (files : Files) → HasNoProgram (request_of words)
-        → (o : Outcome) × IsOutcome words files o }
-{}
+    ensures { (words : List Text) (files : Files) → (o : Outcome) × IsOutcome words files o }
+{
+    a_text_is_a_program_or_has_a_fault();
+}
