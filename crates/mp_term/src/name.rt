@@ -10,14 +10,18 @@ ghost use Rattle.mp_term.specs.Names.{is_name, is_name_byte, name_set, names_asc
 
 use crate::limits::MAX_NAME_BYTES;
 use crate::memory::Memory;
+use smallvec::SmallVec;
 use std::alloc::{AllocError, Global};
 use std::cmp::Ordering;
 use std::marker::Model;
 
+// A name of so many bytes, or fewer, takes no allocation.
+const INLINE_BYTES: usize = 16;
+
 /// A name: 1 to 64 ASCII letters and digits. Contracts see its bytes. Names compare by their bytes.
 #[derive(Drop)]
 pub struct Name {
-    bytes: Vec<u8>,
+    bytes: SmallVec<u8, INLINE_BYTES>,
 }
 
 impl Model for Name {
@@ -99,8 +103,7 @@ impl Name {
         if !is_name(bytes) {
             return Err(NameFault::Spelling);
         }
-        let mut copy = Vec::new(alloc);
-        copy.extend_from_slice(bytes)?;
+        let copy = SmallVec::from_slice(alloc, bytes)?;
         Ok(Name { bytes: copy })
     }
 
@@ -109,15 +112,14 @@ impl Name {
         ensures bytes { result.now ≡ self.now }
         ensures name { is_name result.now ≡ true }
     {
-        &self.bytes
+        self.bytes.as_slice()
     }
 
     /// An equal name. `Memory` comes where there is no room for it.
     pub fn copy(&self, alloc: Global) -> Result<Name, Memory>
         ensures { IfOk result (λ n. n ≡ self.now) }
     {
-        let mut bytes = Vec::new(alloc);
-        bytes.extend_from_slice(&self.bytes)?;
+        let bytes = SmallVec::from_slice(alloc, self.bytes())?;
         Ok(Name { bytes })
     }
 }
@@ -156,7 +158,7 @@ impl Ord for Name {
     ghost matches_eq = { λ _ _. refl };
 
     fn cmp(&self, other: &Name) -> Ordering {
-        compare_bytes(&self.bytes, &other.bytes)
+        compare_bytes(self.bytes.as_slice(), other.bytes.as_slice())
     }
 }
 

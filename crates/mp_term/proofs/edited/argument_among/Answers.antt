@@ -6,7 +6,6 @@ use Rattle.std.proofs.lemmas.Bool.{and_from}
 use Rattle.std.proofs.lemmas.Bool.Decides.{nat_tests}
 use Rattle.mp_term.proofs.EditedLaws.{starts-argument}
 use Rattle.mp_term.proofs.EditWalkLaws.{starts-other}
-use Rattle.mp_term.proofs.edited.argument_among.Goals.{else-from-index-via-then-from-index+then-index-end+else-starts_with}
 use Rattle.mp_term.proofs.edited.argument_among.Goals.{else-from-index-via-then-from-index+else-index-end}
 use Rattle.mp_term.proofs.edited.argument_among.Goals.{else-from-index-via-else-from-index}
 use Rattle.mp_term.proofs.edited.argument_among.Goals as goal
@@ -27,7 +26,7 @@ returns-clause-none c = λ k low high.
     let i = get_or inner (length p) 0 in
     let long : length p < length inner = omega arith in
     elim c.else-from-index.branch [
-      | else-from-index-via-then-from-index+then-index-end+else-starts_with w ↦
+      | goal.else-from-index-via-then-from-index+then-index-end+else-starts_with w ↦
           starts-argument inner p k long
           ∙ ap (λ b. nat_eq i k && b) (sym w.starts_with.ensures.value ∙ w.if-starts_with.false)
           ∙ and-false (nat_eq i k)
