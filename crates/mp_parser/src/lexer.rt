@@ -211,7 +211,23 @@ fn is_word_byte(byte: u8) -> bool
 fn is_sign_byte(byte: u8) -> bool
     ensures { result ≡ is_sign_byte byte }
 {
-    b"+-*/=<>&|^~!%@?".iter().any(|sign| byte == *sign)
+    matches!(
+        byte,
+        b'+' | b'-'
+            | b'*'
+            | b'/'
+            | b'='
+            | b'<'
+            | b'>'
+            | b'&'
+            | b'|'
+            | b'^'
+            | b'~'
+            | b'!'
+            | b'%'
+            | b'@'
+            | b'?'
+    )
 }
 
 // Whether a byte is a space, a tab, a carriage return or a line feed.

@@ -199,6 +199,11 @@ module _ {A : Type 0} {sort : Text} {pick : Pick A} {whole : A → Parsed} {Is :
       (good-first bytes t.0 (whole-are sort bytes t.0 t.1 t.2))
       ∙ k.only bytes v f
 
+  -- nor is one of what the machine reads
+  pub machine-good : (bytes : List ℕ) (v : A) → run [] (start sort) (lexemes bytes first_place) ≡ read_ok (whole v)
+      → text_reading sort bytes ≡ read_ok (whole v)
+  machine-good bytes v e = only-good bytes v (k.found bytes v e)
+
   found-good : (bytes : List ℕ) (v : A) → text_reading sort bytes ≡ read_ok (whole v) → Is bytes v
   found-good bytes v e = k.found bytes v (machine-read sort bytes (whole v) e)
 

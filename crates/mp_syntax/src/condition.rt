@@ -1,6 +1,9 @@
 //! Reads conditions alone.
 
-ghost use Rattle.std.specs.Prelude.{◌≡◌, ◌<◌, ◌-◌, ◌^◌, ℕ, List, length, IfOk, IfErr};
+ghost use Rattle.std.specs.Prelude.{◌≡◌, ◌<◌, ◌-◌, ◌^◌, ℕ, List, [], length, IfOk, IfErr};
+ghost use Rattle.mp_parser.specs.Tokens.{first_place};
+ghost use Rattle.mp_parser.specs.Lexing.{lexemes};
+ghost use Rattle.mp_parser.specs.Machine.{BeforeLiteral, ConditionAlone, no_level, run};
 ghost use Rattle.mp_parser.specs.View.{condition_tree};
 ghost use Rattle.mp_parser.specs.Syntax as syntax;
 ghost use Rattle.mp_parser.specs.declared.limits.TheConstants as limits;
@@ -11,7 +14,7 @@ ghost use Rattle.mp_syntax.specs.FirstFault.{IsFirstFault};
 ghost use Rattle.mp_syntax.specs.Reading.{text_reading, IfFault, IsConditionOrMemory};
 ghost use Rattle.mp_syntax.specs.StatementParsing.{ConditionAloneGives};
 
-use crate::bad_token::bad_token;
+use crate::bad_token::first_error;
 use mp_parser::condition_tree::Condition;
 use mp_parser::fault::SyntaxError;
 use mp_parser::limits::MAX_OPEN;
@@ -66,9 +69,18 @@ fn alone<'a>(alloc: Global, bytes: &'a [u8]) -> Result<Condition<'a>, SyntaxErro
     requires { length bytes.now < 2 ^ 32 - 1 }
     ensures { ConditionAloneGives result (text_reading OfCondition bytes.now) }
 {
-    if let Some(fault) = bad_token(bytes) {
-        return Err(SyntaxError::Fault(fault));
+    match parse(alloc, bytes) {
+        Ok(condition) => Ok(condition),
+        Err(error) => Err(first_error(bytes, error)),
     }
+}
+
+// Reads a condition up to the end, or the first fault that the grammar has.
+fn parse<'a>(alloc: Global, bytes: &'a [u8]) -> Result<Condition<'a>, SyntaxError>
+    requires { length bytes.now < 2 ^ 32 - 1 }
+    ensures { ConditionAloneGives result
+        (run [] (BeforeLiteral ConditionAlone [] no_level) (lexemes bytes.now first_place)) }
+{
     let mut parser = Parser::new(bytes);
     let condition = parser.condition(alloc, MAX_OPEN)?;
     if !parser.is_at_end() {

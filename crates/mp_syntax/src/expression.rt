@@ -1,7 +1,10 @@
 //! Reads expressions alone.
 
-ghost use Rattle.std.specs.Prelude.{◌≡◌, ◌<◌, ◌-◌, ◌^◌, ℕ, List, length, IfOk};
+ghost use Rattle.std.specs.Prelude.{◌≡◌, ◌<◌, ◌-◌, ◌^◌, ℕ, List, [], length, IfOk};
 ghost use Rattle.std.specs.Prelude.{IfErr};
+ghost use Rattle.mp_parser.specs.Tokens.{first_place};
+ghost use Rattle.mp_parser.specs.Lexing.{lexemes};
+ghost use Rattle.mp_parser.specs.Machine.{BeforeExpr, Alone, run};
 ghost use Rattle.mp_parser.specs.View.{expr_tree};
 ghost use Rattle.mp_parser.specs.declared.limits.TheConstants as limits;
 ghost use Rattle.mp_parser.specs.Syntax.{Tree, IsExprOf, Fits, HasNames};
@@ -11,7 +14,7 @@ ghost use Rattle.mp_syntax.specs.FirstFault.{IsFirstFault};
 ghost use Rattle.mp_syntax.specs.Reading.{text_reading, IfFault, IsExprOrMemory};
 ghost use Rattle.mp_syntax.specs.StatementParsing.{AloneGives};
 
-use crate::bad_token::bad_token;
+use crate::bad_token::first_error;
 use mp_parser::fault::SyntaxError;
 use mp_parser::limits::MAX_OPEN;
 use mp_parser::parser::Parser;
@@ -65,9 +68,17 @@ fn alone<'a>(alloc: Global, bytes: &'a [u8]) -> Result<Expr<'a>, SyntaxError>
     requires { length bytes.now < 2 ^ 32 - 1 }
     ensures { AloneGives result (text_reading OfExpr bytes.now) }
 {
-    if let Some(fault) = bad_token(bytes) {
-        return Err(SyntaxError::Fault(fault));
+    match parse(alloc, bytes) {
+        Ok(expr) => Ok(expr),
+        Err(error) => Err(first_error(bytes, error)),
     }
+}
+
+// Reads an expression up to the end, or the first fault that the grammar has.
+fn parse<'a>(alloc: Global, bytes: &'a [u8]) -> Result<Expr<'a>, SyntaxError>
+    requires { length bytes.now < 2 ^ 32 - 1 }
+    ensures { AloneGives result (run [] (BeforeExpr Alone []) (lexemes bytes.now first_place)) }
+{
     let mut parser = Parser::new(bytes);
     let expr = parser.expr(alloc, MAX_OPEN)?;
     if !parser.is_at_end() {

@@ -1,10 +1,11 @@
 //! Reads statements and whole files.
 
-ghost use Rattle.std.specs.Prelude.{◌≡◌, ◌<◌, ◌≤◌, ◌-◌, ◌^◌, ℕ, List, false, length, map, OnOk, IfOk};
+ghost use Rattle.std.specs.Prelude.{◌≡◌, ◌<◌, ◌≤◌, ◌-◌, ◌^◌, ℕ, List, [], false, length, map, OnOk, IfOk};
 ghost use Rattle.std.specs.Prelude.{IfErr};
-ghost use Rattle.mp_parser.specs.Lexing.{token_of};
+ghost use Rattle.mp_parser.specs.Tokens.{first_place};
+ghost use Rattle.mp_parser.specs.Lexing.{token_of, lexemes};
 ghost use Rattle.mp_parser.specs.Machine.{is_end, keyword, OfRule, OfSubject, Top, AfterOp, AfterKind, AfterRole};
-ghost use Rattle.mp_parser.specs.Machine.{AfterEdit};
+ghost use Rattle.mp_parser.specs.Machine.{AfterEdit, run};
 ghost use Rattle.mp_parser.specs.Syntax as syntax;
 ghost use Rattle.mp_parser.specs.Syntax.{IsSyntaxOf, StatementsHaveNames, AreStatements};
 ghost use Rattle.mp_syntax.specs.Printed.{statements_text, unplaced};
@@ -16,7 +17,7 @@ ghost use Rattle.mp_syntax.specs.Begins.{OfFile};
 ghost use Rattle.mp_syntax.specs.FirstFault.{IsFirstFault};
 ghost use Rattle.mp_syntax.specs.Reading.{text_reading, IfFault, IsOkOrMemory};
 
-use crate::bad_token::bad_token;
+use crate::bad_token::first_error;
 use mp_parser::fault::SyntaxError;
 use mp_parser::limits::MAX_OPEN;
 use mp_parser::parser::Parser;
@@ -105,9 +106,17 @@ fn statements<'a>(alloc: Global, bytes: &'a [u8]) -> Result<Vec<Statement<'a>>, 
     requires { length bytes.now < 2 ^ 32 - 1 }
     ensures { FileGives result (text_reading OfFile bytes.now) }
 {
-    if let Some(fault) = bad_token(bytes) {
-        return Err(SyntaxError::Fault(fault));
+    match parse(alloc, bytes) {
+        Ok(statements) => Ok(statements),
+        Err(error) => Err(first_error(bytes, error)),
     }
+}
+
+// Reads all statements, or the first fault that the grammar has.
+fn parse<'a>(alloc: Global, bytes: &'a [u8]) -> Result<Vec<Statement<'a>>, SyntaxError>
+    requires { length bytes.now < 2 ^ 32 - 1 }
+    ensures { FileGives result (run [] Top (lexemes bytes.now first_place)) }
+{
     let mut parser = Parser::new(bytes);
     let mut statements = Vec::new(alloc);
     while !parser.is_at_end() {

@@ -1,13 +1,11 @@
-use Rattle.std.proofs.Common.{sym, ap, ◌∙◌, map}
-use Rattle.std.proofs.lemmas.List.{map_push}
-use Rattle.mp_parser.specs.Machine.{Top, run}
+use Rattle.std.proofs.Common.{map}
 use Rattle.mp_parser.specs.View.{statement_tree}
-use Rattle.mp_parser.specs.Parsing.{ahead}
+use Rattle.mp_syntax.proofs.Whole.{file_is_read, machine-good}
 use Rattle.mp_syntax.proofs.statement.statements.Goals as goal
 
-pub loop-parser-preserved : goal.loop-parser-preserved
-loop-parser-preserved c =
-    c.loop-parser.invariant
-    ∙ c.in_ok-statement.ensures.read (map statement_tree c.loop-parser.statements.items)
-    ∙ ap (λ l. run l Top (ahead c.statement.new.parser))
-    (sym (ap (map statement_tree) c.in_ok-push.ensures.items ∙ map_push statement_tree _ _))
+pub returns-in-Ok : goal.returns-in-Ok
+returns-in-Ok c = machine-good file_is_read c.args.bytes.now (map statement_tree c.in-Ok.statements.items)
+    (rw c.in-Ok.is at c.parse.ensures)
+
+pub returns-in-Err : goal.returns-in-Err
+returns-in-Err c = c.first_error.ensures _ (rw c.in-Err.is at c.parse.ensures)

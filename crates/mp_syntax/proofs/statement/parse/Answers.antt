@@ -1,0 +1,13 @@
+use Rattle.std.proofs.Common.{sym, ap, ◌∙◌, map}
+use Rattle.std.proofs.lemmas.List.{map_push}
+use Rattle.mp_parser.specs.Machine.{Top, run}
+use Rattle.mp_parser.specs.View.{statement_tree}
+use Rattle.mp_parser.specs.Parsing.{ahead}
+use Rattle.mp_syntax.proofs.statement.parse.Goals as goal
+
+pub loop-parser-preserved : goal.loop-parser-preserved
+loop-parser-preserved c =
+    c.loop-parser.invariant
+    ∙ c.in_ok-statement.ensures.read (map statement_tree c.loop-parser.statements.items)
+    ∙ ap (λ l. run l Top (ahead c.statement.new.parser))
+    (sym (ap (map statement_tree) c.in_ok-push.ensures.items ∙ map_push statement_tree _ _))
