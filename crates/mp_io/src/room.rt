@@ -1,6 +1,6 @@
 //! A room of fixed size for bytes that are held back.
 
-ghost use Rattle.std.specs.Prelude.{◌≡◌, ◌≤◌, ◌++◌, [], MatchBool, drop, length};
+ghost use Rattle.std.specs.Prelude.{◌≡◌, ◌≤◌, ◌++◌, ◌∷◌, [], MatchBool, drop, length};
 
 use std::marker::Model;
 
@@ -54,6 +54,18 @@ impl Room {
         let end = self.count + text.len();
         self.bytes[self.count..end].copy_from_slice(text);
         self.count = end;
+        true
+    }
+
+    /// Takes the byte behind the bytes, where there is room for it, and says whether there is.
+    pub(crate) fn take_byte(&mut self, byte: u8) -> bool
+        ensures { MatchBool result (self.new ≡ self.old ++ byte ∷ []) (self.new ≡ self.old) }
+    {
+        if self.count == ROOM {
+            return false;
+        }
+        self.bytes[self.count] = byte;
+        self.count += 1;
         true
     }
 

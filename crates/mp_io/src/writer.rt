@@ -1,6 +1,6 @@
 //! A writer that keeps its failure, so that what prints to it needn't look at each write.
 
-ghost use Rattle.std.specs.Prelude.{◌≡◌, IsErr, false, true, []};
+ghost use Rattle.std.specs.Prelude.{◌≡◌, ◌∷◌, IsErr, false, true, []};
 ghost use Rattle.mp_io.specs.Moments.{sunk};
 ghost use Rattle.mp_io.specs.Printing.{Prints, joined};
 ghost use Rattle.mp_io.specs.Writing.{HasPut, Puts};
@@ -37,9 +37,26 @@ impl<'a, K: Sink> Writer<'a, K> {
     pub fn put(&mut self, text: &[u8])
         ensures { Puts K.Sink self.old self.new text.now }
     {
-        if self.room.take(text) {
-            return;
+        if !self.room.take(text) {
+            self.put_over(text);
         }
+    }
+
+    /// Puts the byte behind the text so far. Together they are written at once where they fit into the room.
+    pub fn put_byte(&mut self, byte: u8)
+        ensures { Puts K.Sink self.old self.new (byte ∷ []) }
+    {
+        if !self.room.take_byte(byte) {
+            self.put_over(&[byte]);
+        }
+    }
+
+    // Puts the text behind the text so far, of which it leaves no whole line in the room.
+    #[cold]
+    #[inline(never)]
+    fn put_over(&mut self, text: &[u8])
+        ensures { Puts K.Sink self.old self.new text.now }
+    {
         self.flush_lines();
         self.put_at_once(text);
     }
