@@ -12,7 +12,7 @@ use Rattle.std.proofs.lemmas.Bool.{and_parts}
 use Rattle.std.proofs.lemmas.Cmp.{nat_list_cmp_total}
 use Rattle.mp_term.specs.Listing.{In}
 use Rattle.mp_term.proofs.ListingLaws.{all_in, irreflexive}
-use Rattle.mp_table.proofs.Distinct.{in-key, all-members}
+use Rattle.mp_table.proofs.Distinct.{in-key}
 use Rattle.mp_pattern.proofs.NameLaws.{same_name-is, same_name-itself}
 use Rattle.mp_net.specs.Net.{Mark, named, entered, anything, same_mark, Open, asks, edge_of}
 use Rattle.mp_net.specs.Keys.{mark_key}
@@ -154,6 +154,12 @@ edge-place (g ∷ hs) q k h e =
       | true ↦ λ p c. let r : q ≡ k = cc in (0, omega arith, ap Some (same_mark-is g h p))
       | false ↦ λ p c. let r = edge-place hs (suc q) k h c in (suc r.0, omega (arith, r.1), r.2)
     ] refl e
+
+-- what follows for each member of the keys holds of each item's key
+pub all-members : {X Y : Type 0} (f : Y → X) (Q : X → Type 0) (ys : List Y) → ((x : X) → In x (map f ys) → Q x)
+    → AllByRecursion (λ y. Q (f y)) ys
+all-members f Q [] h = tt
+all-members f Q (y ∷ ys) h = (h (f y) (inl refl), all-members f Q ys (λ x i. h x (inr i)))
 
 -- the keys of marks
 keys-mapped : (hs : List Held) → map mark_key (map mark_of hs) ≡ keys hs

@@ -4,9 +4,8 @@ use Rattle.std.proofs.Common.{sym, ◌∙◌, subst, inl, inr, arith, Result, Ok
 use Rattle.std.specs.Prelude.{MatchResult, nat_lt}
 use Rattle.std.specs.declared.cmp.Ordering.{Ordering}
 use Rattle.std.specs.declared.cmp.Ordering.TheVariants.{Less, Equal, Greater}
-use Rattle.std.specs.Ordering.{nat_cmp, is_lt, ordering_reverse, ordering_index, ordering_then}
+use Rattle.std.specs.Ordering.{nat_cmp, is_lt, ordering_reverse, ordering_index}
 use Rattle.std.specs.Cmp.{IsTotalOrder}
-use Rattle.std.specs.Cmp.Lexicographic.{slice_cmp}
 use Rattle.std.specs.List.{AllByRecursion}
 use Rattle.std.specs.List.Sorted.{IsStrictlySortedBy, IsSorted, IsBinarySearchResult}
 use Rattle.std.specs.List.Sorted.{IsNonDecreasingBy, IsPartitionPoint}
@@ -31,17 +30,6 @@ module _ {X : Type 0} (cmp : X → X → Ordering) (o : IsTotalOrder cmp) where
               o.antisymm (get_or xs i d) (get_or xs j d)
               ∙ ap ordering_reverse (Less-from_sorted cmp xs j i d up (ranked i j Greater (sym e)) h)
         ] refl
-
-    -- and so do lists of places
-    pub lists_cmp : (is js : List ℕ) → AllByRecursion (λ i. i < length xs) is → AllByRecursion (λ j. j < length xs) js
-        → slice_cmp cmp (map (λ i. get_or xs i d) is) (map (λ j. get_or xs j d) js) ≡ slice_cmp nat_cmp is js
-    lists_cmp [] [] h k = refl
-    lists_cmp [] (j ∷ js) h k = refl
-    lists_cmp (i ∷ is) [] h k = refl
-    lists_cmp (i ∷ is) (j ∷ js) h k =
-        ap (λ r. ordering_then r (slice_cmp cmp (map (λ m. get_or xs m d) is) (map (λ m. get_or xs m d) js)))
-        (items_cmp i j h.0 k.0)
-        ∙ ap (ordering_then (nat_cmp i j)) (lists_cmp is js h.1 k.1)
 
   less_back : (r s : Ordering) → s ≡ ordering_reverse r → r ≡ Less → is_lt s ≡ false
   less_back r s e l = rw (e, l) refl

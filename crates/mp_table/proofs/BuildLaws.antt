@@ -13,23 +13,24 @@ use Rattle.mp_term.specs.Order.{tree_cmp}
 use Rattle.mp_term.specs.Signature.{Sig}
 use Rattle.mp_term.specs.Size.{node_count, all_nodes}
 use Rattle.mp_term.specs.Tree.{Tree, symbol}
+use Rattle.mp_term.specs.View.{tree}
 use Rattle.mp_term.proofs.ListingLaws.{all_in, contains-from_in, in-from_contains}
 use Rattle.mp_term.specs.declared.limits.TheConstants.{MAX_TERM_NODES}
 use Rattle.mp_table.specs.declared.limits.TheConstants.{MAX_CONSTANT_NODES}
 use Rattle.mp_table.specs.declared.entry.Entry.{Entry}
 use Rattle.mp_table.specs.declared.piece.Piece.{Piece}
 use Rattle.mp_table.specs.declared.preorder.Preorder.{Preorder}
-use Rattle.mp_table.specs.Codes.{AreCodes}
-use Rattle.mp_table.specs.Pieces.{code_at, piece_codes, ArePieces}
+use Rattle.mp_table.specs.Pieces.{piece_terms, ArePieces}
 use Rattle.mp_table.specs.Preorder.{all_preorder}
 use Rattle.mp_table.specs.Reading.{entry_trees, AreEntries}
 use Rattle.mp_table.specs.Table.{IsTableOf}
-use Rattle.mp_table.specs.Text.{shown, IsText, piece_terms}
+use Rattle.mp_table.specs.Text.{shown, IsText}
 use Rattle.mp_table.proofs.NormalSubterms.{normal_subterms}
 use Rattle.mp_table.proofs.PreorderLaws.{preorder_is, length-all_preorder, subterm_of-from_in, in-from_subterm_of}
 use Rattle.mp_table.proofs.PreorderLaws.{node_count_is}
 use Rattle.mp_table.proofs.ReadingLaws.{entry_trees-is, length-entries}
-use Rattle.mp_table.proofs.TextLaws.{terms_ascend, term_of_rank, in-text, in-pieces, length-nodes, term_in}
+use Rattle.mp_table.proofs.PieceLaws.{in-text}
+use Rattle.mp_table.proofs.TextLaws.{term_in}
 
 -- so many places has the text
 pub few_places : (places : List ℕ) (subject : Tree) (constants : List Tree)
@@ -46,73 +47,65 @@ all-from_in P (t ∷ ts) h = (h t (inl refl), all-from_in P ts (λ u i. h u (inr
 first-preorder : (t : Tree) (ts : List Tree) → term_in (all_preorder (t ∷ ts)) 0 ≡ t
 first-preorder t ts = ap (λ l. term_in (l ++ all_preorder ts) 0) (preorder_is t)
 
-module _ (subject : Tree) (constants : List Tree) (text : Preorder) (codes : List ℕ)
+module _ (subject : Tree) (constants : List Tree) (text : Preorder)
     (terms : shown text ≡ all_preorder (subject ∷ constants))
-    (counts : text.nodes.items ≡ map node_count (all_preorder (subject ∷ constants)))
-    (numbers : AreCodes (shown text) codes) where
+    (counts : text.nodes.items ≡ map node_count (all_preorder (subject ∷ constants))) where
   -- it is a text
-  pub is_text : IsText text codes
+  pub is_text : IsText text
   is_text = record {
     roots = subject ∷ constants;
     terms = terms;
     nodes = counts ∙ ap (map node_count) (sym terms);
-    codes = numbers;
   }
 
-  pub some_place : 0 < length text.nodes.items
+  pub some_place : 0 < length text.terms.items
   some_place =
-      let all = all_preorder (subject ∷ constants) in
       omega (
         arith,
-        ap length counts,
-        length-map all node_count,
+        ap length terms,
+        length-map text.terms.items (λ t. tree t.now),
         length-all_preorder (subject ∷ constants),
         node_count_is subject,
       )
 
-  module _ (ps : List Piece) (pieces : ArePieces codes text.nodes.items ps) (es : List Entry)
-      (entries : AreEntries es (piece_terms text ps)) (root : ℕ) (within : root < length ps)
-      (code : get_or (piece_codes ps) root [] ≡ code_at codes text.nodes.items 0) where
-    length-terms : length (piece_terms text ps) ≡ length ps
-    length-terms = length-map ps (λ p. get_or (shown text) p.start (symbol []))
+  module _ (ps : List Piece) (pieces : ArePieces (shown text) ps) (es : List Entry)
+      (entries : AreEntries es (piece_terms ps)) (root : ℕ) (within : root < length ps)
+      (first : get_or (piece_terms ps) root (symbol []) ≡ term_in (shown text) 0) where
+    length-terms : length (piece_terms ps) ≡ length ps
+    length-terms = length-map ps (λ p. tree p.term.now)
 
     pub length-built : length es ≡ length ps
-    length-built = length-entries (piece_terms text ps) es (piece_terms text ps) entries ∙ length-terms
+    length-built = length-entries (piece_terms ps) es (piece_terms ps) entries ∙ length-terms
 
-    read : entry_trees es ≡ piece_terms text ps
-    read = entry_trees-is (piece_terms text ps) es entries
+    read : entry_trees es ≡ piece_terms ps
+    read = entry_trees-is (piece_terms ps) es entries
 
     pub entries_built : AreEntries es (entry_trees es)
     entries_built = subst (AreEntries es) (sym read) entries
 
-    ascending : IsStrictlySortedBy tree_cmp (piece_terms text ps)
-    ascending = terms_ascend text codes is_text ps pieces.pieces pieces.ascending
-
     pub ascending_built : IsStrictlySortedBy tree_cmp (entry_trees es)
-    ascending_built = subst (IsStrictlySortedBy tree_cmp) (sym read) ascending
+    ascending_built = subst (IsStrictlySortedBy tree_cmp) (sym read) pieces.ascending
 
-    from_table : (u : Tree) → In u (piece_terms text ps) → In u (all_preorder (subject ∷ constants))
-    from_table u i = subst (In u) terms (in-text text codes is_text ps pieces.pieces u i)
+    from_table : (u : Tree) → In u (piece_terms ps) → In u (all_preorder (subject ∷ constants))
+    from_table u i = subst (In u) terms (in-text (shown text) ps pieces.pieces u i)
 
-    to_table : (u : Tree) → In u (all_preorder (subject ∷ constants)) → In u (piece_terms text ps)
-    to_table u i = in-pieces text codes is_text ps pieces u (subst (In u) (sym terms) i)
+    to_table : (u : Tree) → In u (all_preorder (subject ∷ constants)) → In u (piece_terms ps)
+    to_table u i = pieces.all u (subst (In u) (sym terms) i)
 
-    root-is : slice_get (piece_terms text ps) root ≡ Some subject
+    root-is : slice_get (piece_terms ps) root ≡ Some subject
     root-is =
-        slice_get-get_or (piece_terms text ps) root (symbol []) (omega (arith, within, length-terms))
-        ∙ ap Some (term_of_rank text codes is_text ps pieces.pieces root 0 within
-        (omega (arith, some_place, length-nodes text codes is_text)) code
-        ∙ ap (λ l. term_in l 0) terms ∙ first-preorder subject constants)
+        slice_get-get_or (piece_terms ps) root (symbol []) (omega (arith, within, length-terms))
+        ∙ ap Some (first ∙ ap (λ l. term_in l 0) terms ∙ first-preorder subject constants)
 
     -- it is the table
     pub table_built : IsTableOf subject constants (record { terms = entry_trees es; root = root })
     table_built = subst (λ l. IsTableOf subject constants (record { terms = l; root = root })) (sym read) (record {
       listing = record {
         exactly = λ u. (
-          λ h. subterm_of-from_in (subject ∷ constants) u (from_table u (in-from_contains u (piece_terms text ps) h)),
-          λ h. contains-from_in u (piece_terms text ps) (to_table u (in-from_subterm_of (subject ∷ constants) u h)),
+          λ h. subterm_of-from_in (subject ∷ constants) u (from_table u (in-from_contains u (piece_terms ps) h)),
+          λ h. contains-from_in u (piece_terms ps) (to_table u (in-from_subterm_of (subject ∷ constants) u h)),
         );
-        ascending = ascending;
+        ascending = pieces.ascending;
       };
       root = root-is;
     })
@@ -121,5 +114,5 @@ module _ (subject : Tree) (constants : List Tree) (text : Preorder) (codes : Lis
     pub normal_built : (sig : Sig) → IsNormal sig subject → AllByRecursion (IsNormal sig) constants
         → AllByRecursion (IsNormal sig) (entry_trees es)
     normal_built sig h k = subst (AllByRecursion (IsNormal sig)) (sym read) (all-from_in (IsNormal sig)
-        (piece_terms text ps) (λ u i. all_in (IsNormal sig) (all_preorder (subject ∷ constants)) u
+        (piece_terms ps) (λ u i. all_in (IsNormal sig) (all_preorder (subject ∷ constants)) u
         (normal_subterms sig (subject ∷ constants) (h, k)) (from_table u i)))

@@ -20,12 +20,6 @@ use Rattle.mp_term.specs.Listing.{In}
 use Rattle.mp_term.proofs.ListLaws.{all-append, all-also}
 use Rattle.mp_table.proofs.Ascending.{keys_ascend, place}
 
--- what follows for each member of the keys holds of each item's key
-pub all-members : {X Y : Type 0} (f : Y → X) (Q : X → Type 0) (ys : List Y) → ((x : X) → In x (map f ys) → Q x)
-    → AllByRecursion (λ y. Q (f y)) ys
-all-members f Q [] h = tt
-all-members f Q (y ∷ ys) h = (h (f y) (inl refl), all-members f Q ys (λ x i. h x (inr i)))
-
 -- the key at a place is a member
 pub in-key : {X Y : Type 0} (f : Y → X) (ys : List Y) (i : ℕ) (d : Y) → i < length ys
     → In (f (get_or ys i d)) (map f ys)
@@ -50,6 +44,18 @@ in-front x [] ys h = absurd h
 in-front x (y ∷ xs) ys (inl e) = inl e
 in-front x (y ∷ xs) ys (inr h) = inr (in-front x xs ys h)
 
+all-own : {X Y : Type 0} (f : Y → X) (ys : List Y) → AllByRecursion (λ y. In (f y) (map f ys)) ys
+all-own f [] = tt
+all-own f (y ∷ ys) = (
+  inl refl,
+  all-also (λ z. In (f z) (map f ys)) (λ z. In (f z) (f y ∷ map f ys)) (λ z h. inr h) ys (all-own f ys),
+)
+
+-- each item has its key among the keys
+pub all-keys : {X Y : Type 0} (f : Y → X) (ks : List X) (ys : List Y) → map f ys ≡ ks
+    → AllByRecursion (λ y. In (f y) ks) ys
+all-keys f ks ys e = subst (λ l. AllByRecursion (λ y. In (f y) l) ys) e (all-own f ys)
+
 -- one item more whose key is a member
 pub members-more : {X Y : Type 0} (f : Y → X) (ks : List X) (ys : List Y) (i : ℕ) (d : Y) → i < length ys
     → In (f (get_or ys i d)) ks → AllByRecursion (λ y. In (f y) ks) (take i ys)
@@ -66,6 +72,13 @@ members-pushed f ks ys i d h a =
     let k = f (get_or ys i d) in
     members-more f (ks ++ k ∷ []) ys i d h (in-last k ks)
     (all-also (λ y. In (f y) ks) (λ y. In (f y) (ks ++ k ∷ [])) (λ y. in-front (f y) ks (k ∷ [])) (take i ys) a)
+
+-- each key is a member
+pub from-keys : {X Y : Type 0} (f : Y → X) (ks : List X) (ys : List Y) → AllByRecursion (λ y. In (f y) ks) ys → (x : X)
+    → In x (map f ys) → In x ks
+from-keys f ks [] h x i = absurd i
+from-keys f ks (y ∷ ys) h x (inl e) = subst (λ z. In z ks) (sym e) h.0
+from-keys f ks (y ∷ ys) h x (inr i) = from-keys f ks ys h.1 x i
 
 pub equal-from : (o : Ordering) → is_eq o ≡ true → o ≡ Equal
 equal-from Less e = cc

@@ -1,10 +1,7 @@
 pub mod Ascending
 pub mod Distinct
-pub mod Ranges
 pub mod PieceLaws
-pub mod CodeOrder
 pub mod PreorderLaws
-pub mod TextOrder
 pub mod TextLaws
 pub mod ReadingLaws
 pub mod HeadLaws

@@ -1,24 +1,25 @@
--- The codes at the first places, among the codes of pieces.
-use Rattle.std.proofs.Common.{ℕ, ◌+◌, List, [], ◌∷◌, ◌++◌, sym, subst}
-use Rattle.std.specs.List.{AllByRecursion, range_with_len}
-use Rattle.mp_term.proofs.ListLaws.{all-append, all-also}
+-- The terms of the pieces of a text are its subterms.
+use Rattle.std.proofs.Common.{◌≡◌, ◌∙◌, ℕ, ◌<◌, List, [], ◌∷◌, length, get_or, sym, subst, inl, inr}
+use Rattle.std.specs.List.{AllByRecursion}
+use Rattle.std.proofs.lemmas.List.{get_or-map}
+use Rattle.std.proofs.lemmas.List.Elements.{All-from_recursion}
 use Rattle.mp_term.specs.Listing.{In}
-use Rattle.mp_table.proofs.Distinct.{in-last, in-front}
-use Rattle.mp_table.proofs.Ranges.{range-more}
+use Rattle.mp_term.specs.Tree.{Tree, symbol}
+use Rattle.mp_term.specs.View.{tree}
+use Rattle.mp_table.specs.declared.piece.Piece.{Piece}
+use Rattle.mp_table.specs.Pieces.{piece_terms, IsPiece}
+use Rattle.mp_table.proofs.Distinct.{in-place}
 
--- one place more, whose code is there
-pub first-more : {X : Type 0} (f : ℕ → X) (ks : List X) (n : ℕ) → In (f n) ks
-    → AllByRecursion (λ i. In (f i) ks) (range_with_len 0 n)
-    → AllByRecursion (λ i. In (f i) ks) (range_with_len 0 (n + 1))
-first-more f ks n k a =
-    subst (AllByRecursion (λ i. In (f i) ks)) (sym (range-more n))
-    (all-append (λ i. In (f i) ks) (range_with_len 0 n) (n ∷ []) a (k, tt))
+module _ (ts : List Tree) where
+  -- the term of a piece is a subterm
+  pub in-text : (ps : List Piece) → AllByRecursion (IsPiece ts) ps → (u : Tree) → In u (piece_terms ps) → In u ts
+  in-text [] h u i = absurd i
+  in-text (p ∷ ps) h u (inl e) =
+      subst (λ v. In v ts) (sym (e ∙ h.0.1)) (in-place ts p.start (symbol []) h.0.0)
+  in-text (p ∷ ps) h u (inr i) = in-text ps h.1 u i
 
--- one place more, whose code is added
-pub first-pushed : {X : Type 0} (f : ℕ → X) (ks : List X) (n : ℕ)
-    → AllByRecursion (λ i. In (f i) ks) (range_with_len 0 n)
-    → AllByRecursion (λ i. In (f i) (ks ++ f n ∷ [])) (range_with_len 0 (n + 1))
-first-pushed f ks n a =
-    first-more f (ks ++ f n ∷ []) n (in-last (f n) ks)
-    (all-also (λ i. In (f i) ks) (λ i. In (f i) (ks ++ f n ∷ [])) (λ i. in-front (f i) ks (f n ∷ []))
-    (range_with_len 0 n) a)
+  -- the term of the piece at a rank stands where the piece begins
+  pub piece_at : (ps : List Piece) → AllByRecursion (IsPiece ts) ps → (r : ℕ) (d : Piece) → r < length ps
+      → get_or (piece_terms ps) r (symbol []) ≡ get_or ts (get_or ps r d).start (symbol [])
+  piece_at ps h r d k =
+      get_or-map (λ p. tree p.term.now) ps r d (symbol []) k ∙ (All-from_recursion (IsPiece ts) ps h r d k).1

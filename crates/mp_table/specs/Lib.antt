@@ -1,7 +1,5 @@
 pub mod Subterms
 pub mod Preorder
-pub mod Heading
-pub mod Codes
 pub mod Pieces
 pub mod Table
 pub mod TableCode

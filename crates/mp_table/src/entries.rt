@@ -5,13 +5,11 @@ ghost use Rattle.mp_term.specs.Tree.{symbol};
 ghost use Rattle.mp_term.specs.View.{tree};
 ghost use Rattle.mp_table.specs.Subterms.{arguments};
 ghost use Rattle.mp_table.specs.Reading.{with_head, IsEntryOf, AreEntries};
-ghost use Rattle.mp_table.specs.Pieces.{ArePieces};
-ghost use Rattle.mp_table.specs.Text.{IsText, piece_terms, shown};
+ghost use Rattle.mp_table.specs.Pieces.{piece_terms, ArePieces};
+ghost use Rattle.mp_table.specs.Text.{IsText, shown};
 
 use crate::entry::{Entry, OwnHead};
-use crate::guess::Guesses;
-use crate::piece::Piece;
-use crate::pieces::{guesses_at, rank_near};
+use crate::pieces::{Ranked, rank_at};
 use crate::preorder::Preorder;
 use crate::rank::Rank;
 use mp_term::{Memory, Term};
@@ -35,36 +33,28 @@ fn arg_count(term: &Term) -> usize {
     }
 }
 
-// The ranks of the arguments of the subterm at a place. Arguments often ascend: each is looked for right behind the one
-// before.
+// The ranks of the arguments of the subterm at a place.
 fn ranks_of_args(
     alloc: Global,
     text: &Preorder<'_>,
-    codes: &[u32],
-    pieces: &[Piece<'_>],
-    guesses: &Guesses,
+    ranked: &Ranked<'_>,
     start: usize,
 ) -> Result<Vec<Rank>, Memory>
-    requires text { IsText text.now codes.now }
-    requires pieces { ArePieces codes.now text.now.nodes.items pieces.now }
-    requires short { length pieces.now < 2 ^ 32 }
+    requires text { IsText text.now }
+    requires pieces { ArePieces (shown text.now) ranked.now.pieces.items }
+    requires short { length ranked.now.pieces.items < 2 ^ 32 }
     requires start { start < length text.now.nodes.items }
     ensures terms { IfOk result
-        (λ rs. map (λ r. slice_index_or (piece_terms text.now pieces.now) r.0 (symbol [])) rs.items
+        (λ rs. map (λ r. slice_index_or (piece_terms ranked.now.pieces.items) r.0 (symbol [])) rs.items
         ≡ arguments (slice_index_or (shown text.now) start (symbol []))) }
-    ensures within { IfOk result (λ rs. AllByRecursion (λ r. r.0 < length pieces.now) rs.items) }
+    ensures within { IfOk result (λ rs. AllByRecursion (λ r. r.0 < length ranked.now.pieces.items) rs.items) }
 {
     let end = start + text.nodes[start] as usize;
     let mut ranks = Vec::with_capacity(alloc, arg_count(text.terms[start]))?;
     let mut next = start + 1;
-    let mut behind = 0;
     while next < end {
-        let after = next + text.nodes[next] as usize;
-        let code = &codes[next..after];
-        let rank = rank_near(pieces, code, behind, guesses);
-        ranks.push(rank)?;
-        behind = rank.0 as usize + 1;
-        next = after;
+        ranks.push(rank_at(text, ranked, next))?;
+        next += text.nodes[next] as usize;
     }
     Ok(ranks)
 }
@@ -73,20 +63,18 @@ fn ranks_of_args(
 fn entry_of(
     alloc: Global,
     text: &Preorder<'_>,
-    codes: &[u32],
-    pieces: &[Piece<'_>],
-    guesses: &Guesses,
+    ranked: &Ranked<'_>,
     start: usize,
 ) -> Result<Entry, Memory>
-    requires text { IsText text.now codes.now }
-    requires pieces { ArePieces codes.now text.now.nodes.items pieces.now }
-    requires short { length pieces.now < 2 ^ 32 }
+    requires text { IsText text.now }
+    requires pieces { ArePieces (shown text.now) ranked.now.pieces.items }
+    requires short { length ranked.now.pieces.items < 2 ^ 32 }
     requires start { start < length text.now.nodes.items }
     ensures { IfOk result
-        (IsEntryOf (piece_terms text.now pieces.now) (slice_index_or (shown text.now) start (symbol []))) }
+        (IsEntryOf (piece_terms ranked.now.pieces.items) (slice_index_or (shown text.now) start (symbol []))) }
 {
     let head = head_of(alloc, text.terms[start])?;
-    let args = ranks_of_args(alloc, text, codes, pieces, guesses, start)?;
+    let args = ranks_of_args(alloc, text, ranked, start)?;
     let nodes = u64::from(text.nodes[start]);
     Ok(Entry { head, args, nodes })
 }
@@ -95,18 +83,16 @@ fn entry_of(
 pub(crate) fn entries_of(
     alloc: Global,
     text: &Preorder<'_>,
-    codes: &[u32],
-    pieces: &[Piece<'_>],
+    ranked: &Ranked<'_>,
 ) -> Result<Vec<Entry>, Memory>
-    requires text { IsText text.now codes.now }
-    requires pieces { ArePieces codes.now text.now.nodes.items pieces.now }
-    requires short { length pieces.now < 2 ^ 32 }
-    ensures { IfOk result (λ es. AreEntries es.items (piece_terms text.now pieces.now)) }
+    requires text { IsText text.now }
+    requires pieces { ArePieces (shown text.now) ranked.now.pieces.items }
+    requires short { length ranked.now.pieces.items < 2 ^ 32 }
+    ensures { IfOk result (λ es. AreEntries es.items (piece_terms ranked.now.pieces.items)) }
 {
-    let guesses = guesses_at(alloc, pieces)?;
-    let mut entries = Vec::with_capacity(alloc, pieces.len())?;
-    for piece in pieces {
-        entries.push(entry_of(alloc, text, codes, pieces, &guesses, piece.start)?)?;
+    let mut entries = Vec::with_capacity(alloc, ranked.pieces.len())?;
+    for piece in &ranked.pieces {
+        entries.push(entry_of(alloc, text, ranked, piece.start)?)?;
     }
     Ok(entries)
 }

@@ -1,63 +1,68 @@
-//! Guesses at places, by a digest of what is looked for.
+//! Guesses at places, by a digest of the term that is looked for.
 use mp_term::{Memory, Term};
 use std::alloc::Global;
+
+// The places in a row. They are kept in rows, since a row is made at once.
+const ROW: usize = 16;
 
 // Places, each kept where a digest points. A later digest may point to the same, so a place that is read is only a
 // guess, which the reader has to try.
 #[derive(Drop)]
 pub(crate) struct Guesses {
-    places: Vec<usize>,
+    rows: Vec<[usize; ROW]>,
 }
 
 impl Guesses {
-    // Room for guesses at the places of so many things. As long as none is kept, a place is read at which nothing
-    // stands. An odd digest and an even one never point to the same.
+    // Room for guesses at the places of so many things, twice as many at least. As long as none is kept, a place is
+    // read at which nothing stands. An odd digest and an even one never point to the same.
     pub(crate) fn new(alloc: Global, count: usize) -> Result<Guesses, Memory> {
-        let places = vec![in alloc; usize::MAX; count.wrapping_mul(2)]?;
-        Ok(Guesses { places })
+        let rows = vec![in alloc; [usize::MAX; ROW]; count / (ROW / 2) + 1]?;
+        Ok(Guesses { rows })
     }
 
     // The place that a digest points to.
     pub(crate) fn at(&self, digest: usize) -> usize {
-        let count = self.places.len();
+        let count = self.rows.len();
         if count == 0 {
             return 0;
         }
-        self.places[digest % count]
+        self.rows[digest / ROW % count][digest % ROW]
     }
 
     // Keeps a place.
     pub(crate) fn put(&mut self, digest: usize, place: usize) {
-        let count = self.places.len();
+        let count = self.rows.len();
         if count == 0 {
             return;
         }
-        self.places[digest % count] = place;
+        self.rows[digest / ROW % count][digest % ROW] = place;
     }
 }
 
-// A digest of the term's head, even for a symbol.
-pub(crate) fn head_digest(term: &Term) -> usize {
+// A digest of the term's head.
+fn head_digest(term: &Term) -> usize {
     match term {
         Term::Sym(name) => {
             let mut digest: usize = 0;
             for byte in name.bytes() {
                 digest = digest.wrapping_mul(31).wrapping_add(*byte as usize);
             }
-            digest.wrapping_mul(2)
+            digest
         }
-        Term::App(op, _) => (op.0 as usize).wrapping_mul(2).wrapping_add(1),
+        Term::App(op, args) => (op.0 as usize).wrapping_mul(31).wrapping_add(args.len()),
     }
 }
 
-// A digest of a code: even, and another for each symbol, else of its length and its first numbers.
-pub(crate) fn code_digest(code: &[u32]) -> usize {
-    if code.len() == 1 {
-        return (code[0] as usize).wrapping_mul(2);
+// A digest of the term, even for a symbol, else of its head and of those of its first arguments.
+pub(crate) fn digest_of(term: &Term) -> usize {
+    let mut digest = head_digest(term);
+    match term {
+        Term::Sym(_) => digest.wrapping_mul(2),
+        Term::App(_, args) => {
+            for arg in args.as_slice().iter().take(4) {
+                digest = digest.wrapping_mul(31).wrapping_add(head_digest(arg));
+            }
+            digest.wrapping_mul(2).wrapping_add(1)
+        }
     }
-    let mut digest = code.len();
-    for number in code.iter().take(4) {
-        digest = digest.wrapping_mul(31).wrapping_add(*number as usize);
-    }
-    digest.wrapping_mul(2).wrapping_add(1)
 }

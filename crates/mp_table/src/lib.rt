@@ -1,11 +1,9 @@
 //! Tables of terms: the distinct subterms of a subject and of constants, each by its rank in the term order.
 #![tactic(auto)]
 
-mod code;
 mod entries;
 mod entry;
 mod guess;
-mod heading;
 mod laws;
 mod limits;
 mod piece;

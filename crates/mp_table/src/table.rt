@@ -8,11 +8,10 @@ ghost use Rattle.mp_table.specs.Subterms.{arguments};
 ghost use Rattle.mp_table.specs.Table.{term_at, terms_at, HasRank, HasRanks, IsTable, IsTableOf};
 ghost use Rattle.mp_table.specs.Reading.{IsHeadOf};
 
-use crate::code::codes;
 use crate::entries::entries_of;
 use crate::entry::{Entry, OwnHead};
 use crate::limits::MAX_CONSTANT_NODES;
-use crate::pieces::{distinct_pieces, rank_of};
+use crate::pieces::{distinct_pieces, rank_at};
 use crate::preorder::collect;
 use crate::rank::{Head, Rank};
 use mp_term::{MAX_TERM_NODES, Memory, Signature, Term, Terms};
@@ -72,10 +71,9 @@ impl Table {
         // The table is the same over each signature.
         let _ = sig;
         let text = collect(alloc, subject, constants)?;
-        let codes = codes(alloc, &text.terms)?;
-        let pieces = distinct_pieces(alloc, &codes, &text.nodes)?;
-        let root = rank_of(&pieces, &codes[..text.nodes[0] as usize]);
-        let entries = entries_of(alloc, &text, &codes, &pieces)?;
+        let ranked = distinct_pieces(alloc, &text.terms)?;
+        let root = rank_at(&text, &ranked, 0);
+        let entries = entries_of(alloc, &text, &ranked)?;
         Ok(Table { entries, root })
     }
 

@@ -6,12 +6,12 @@ use Rattle.std.proofs.lemmas.List.{at_drop_all}
 use Rattle.std.proofs.lemmas.List.Filters.{dedup_is}
 use Rattle.mp_term.specs.Listing.{In}
 use Rattle.mp_term.specs.OrderLaws.{nats_same}
-use Rattle.mp_table.proofs.Distinct.{distinct_ascends, distinct_all, distinct_keep, all-members}
+use Rattle.mp_table.proofs.Distinct.{distinct_ascends, distinct_all, distinct_keep}
 use Rattle.mp_net.specs.Keys.{mark_key}
 use Rattle.mp_net.specs.View.{mark_of}
 use Rattle.mp_net.specs.Items.{tables, opens}
 use Rattle.mp_net.specs.Turned.{heads_of}
-use Rattle.mp_net.proofs.MarkLaws.{have-heads}
+use Rattle.mp_net.proofs.MarkLaws.{have-heads, all-members}
 use Rattle.mp_net.proofs.turn.heads_asked.Goals as goal
 
 pub returns-clause-ascending : goal.returns-clause-ascending

@@ -1,31 +1,43 @@
-use Rattle.std.proofs.Common.{◌≡◌, ◌++◌, ◌∷◌, [], length, take, get_or, sym, subst, arith}
-use Rattle.std.proofs.lemmas.List.{take_all, take_more, length-map, get_or-map}
+use Rattle.std.proofs.Common.{◌≡◌, ◌∙◌, ◌<◌, ◌++◌, List, ◌∷◌, [], length, take, get_or, ap, sym, subst, arith}
+use Rattle.std.specs.List.{AllByRecursion}
+use Rattle.std.proofs.lemmas.List.{take_all, take_more, length-map}
 use Rattle.mp_term.specs.Tree.{symbol}
+use Rattle.mp_term.specs.View.{tree}
+use Rattle.mp_table.specs.declared.piece.Piece.{Piece}
+use Rattle.mp_table.specs.Pieces.{piece_terms, IsPiece}
 use Rattle.mp_table.specs.Reading.{AreEntriesOf, IsEntryOf}
-use Rattle.mp_table.specs.Text.{shown, piece_terms}
+use Rattle.mp_table.specs.Text.{shown}
+use Rattle.mp_table.proofs.PieceLaws.{piece_at}
 use Rattle.mp_table.proofs.ReadingLaws.{entries_push}
 use Rattle.mp_table.proofs.entries.entries_of.Goals as goal
 
 pub loop-piece-preserved : goal.loop-piece-preserved
 loop-piece-preserved c =
-    let ts = piece_terms c.args.text.now c.args.pieces.now in
+    let os = shown c.args.text.now in
+    let ps = c.args.ranked.now.pieces.items in
+    let qs = c.deref-piece-items.result.now in
+    let same = c.deref-piece-items.ensures.value in
+    let ts = piece_terms ps in
     let n = c.loop-piece.piece-index in
-    let long : length ts ≡ length c.args.pieces.now =
-    length-map c.args.pieces.now (λ p. get_or (shown c.args.text.now) p.start (symbol [])) in
+    let there : n < length ps = subst (λ (l : List Piece). n < length l) same c.loop-piece-test.true in
+    let long : length ts ≡ length ps = length-map ps (λ p. tree p.term.now) in
+    let is = ap (λ (l : List Piece). get_or (piece_terms l) n (symbol [])) (sym same)
+    ∙ piece_at os qs (subst (AllByRecursion (IsPiece os)) (sym same) c.requires.pieces.pieces) n
+    c.piece-item.result c.loop-piece-test.true
+    ∙ ap (λ (p : Piece). get_or os p.start (symbol [])) (sym c.piece-item.is) in
     rw c.in_ok-push.ensures.items (subst (AreEntriesOf ts (c.loop-piece.entries.items ++ _ ∷ []))
-    (sym (take_more ts n (symbol []) (omega (arith, long, c.loop-piece-test.true))))
+    (sym (take_more ts n (symbol []) (omega (arith, long, there))))
     (entries_push ts c.loop-piece.entries.items (take n ts) _ (get_or ts n (symbol [])) c.loop-piece.invariant
-    (subst (λ u. IsEntryOf ts u c.in_ok-entry_of.field-0) (sym (get_or-map (λ p. get_or (shown c.args.text.now)
-    p.start (symbol []))
-    c.args.pieces.now n _ (symbol []) c.loop-piece-test.true)) c.in_ok-entry_of.ensures)))
+    (subst (λ u. IsEntryOf ts u c.in_ok-entry_of.field-0) (sym is) c.in_ok-entry_of.ensures)))
 
 pub returns : goal.returns
 returns c =
-    let ts = piece_terms c.args.text.now c.args.pieces.now in
+    let ps = c.args.ranked.now.pieces.items in
+    let ts = piece_terms ps in
     subst (AreEntriesOf ts c.loop-piece.entries.items)
     (take_all c.loop-piece.piece-index ts (omega (
       arith,
-      length-map c.args.pieces.now (λ p. get_or (shown
-          c.args.text.now) p.start (symbol [])),
+      length-map ps (λ p. tree p.term.now),
+      ap length c.deref-piece-items.ensures.value,
       c.loop-piece-test.false,
     ))) c.loop-piece.invariant

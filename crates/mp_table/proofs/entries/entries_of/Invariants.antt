@@ -1,8 +1,9 @@
 use Rattle.std.proofs.Common.{take}
 use Rattle.mp_table.specs.Reading.{AreEntriesOf}
-use Rattle.mp_table.specs.Text.{piece_terms}
+use Rattle.mp_table.specs.Pieces.{piece_terms}
 use Rattle.mp_table.proofs.entries.entries_of.Given as goal
 
 abbrev pub invariant-loop-piece : goal.invariant-loop-piece
 invariant-loop-piece l =
-    AreEntriesOf (piece_terms l.text l.pieces) l.entries.items (take l.piece-index (piece_terms l.text l.pieces))
+    AreEntriesOf (piece_terms l.ranked.pieces.items) l.entries.items
+    (take l.piece-index (piece_terms l.ranked.pieces.items))

@@ -1,4 +1,4 @@
-use Rattle.std.proofs.Common.{◌≡◌, ◌∙◌, ◌<◌, [], length, get_or, ap, sym, subst, arith}
+use Rattle.std.proofs.Common.{◌≡◌, ◌∙◌, ◌<◌, [], length, ap, sym, subst, arith}
 use Rattle.std.specs.List.{AllByRecursion}
 use Rattle.std.proofs.lemmas.List.{get_or-map, get_or_read, length-map}
 use Rattle.mp_term.specs.Tree.{symbol}
@@ -13,7 +13,7 @@ pub returns : goal.returns
 returns c =
     let text = c.args.text.now in
     let here : c.args.start < length (shown text) =
-    omega (arith, c.requires.start, length-nodes text c.args.codes.now c.requires.text) in
+    omega (arith, c.requires.start, length-nodes text c.requires.text) in
     let same : tree c.index.result.now.now ≡ term_in (shown text) c.args.start =
     ap (λ t. tree t.now) c.index.ensures
     ∙ sym (get_or-map (λ t. tree t.now) text.terms.items c.args.start c.index.result.now (symbol [])
@@ -23,9 +23,9 @@ returns c =
           ∙ ap (λ t. with_head c.in_ok-head.head (arguments t)) (sym same) ∙ c.in_ok-head.ensures ∙ same;
       args = c.in_ok-args.ensures.terms;
       within = subst (λ n. AllByRecursion (λ r. r.0 < n) c.in_ok-args.args.items)
-          (sym (length-map c.args.pieces.now (λ p. get_or (shown text) p.start (symbol []))))
+          (sym (length-map c.args.ranked.now.pieces.items (λ p. tree p.term.now)))
           c.in_ok-args.ensures.within;
       nodes = c.from-nodes.ensures
           ∙ get_or_read text.nodes.items c.args.start c.index-2.result.now c.requires.start c.index-2.ensures 0
-          ∙ nodes_at text c.args.codes.now c.requires.text c.args.start here;
+          ∙ nodes_at text c.requires.text c.args.start here;
     }

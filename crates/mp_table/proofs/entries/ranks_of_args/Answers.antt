@@ -1,71 +1,50 @@
-use Rattle.std.proofs.Common.{◌≡◌, ◌∙◌, ℕ, ◌+◌, ◌-◌, ◌<◌, ◌≤◌, List, [], ◌∷◌, ◌++◌, map, length, get_or, take, drop}
-use Rattle.std.proofs.Common.{sym, ap, subst, arith, length-append}
-use Rattle.std.proofs.lemmas.List.{get_or_read, map_push, take_all, take_more}
-use Rattle.mp_term.specs.Listing.{In}
+use Rattle.std.proofs.Common.{◌≡◌, ◌∙◌, ℕ, ◌+◌, ◌<◌, ◌≤◌, [], ◌∷◌, ◌++◌, map, length, get_or, take}
+use Rattle.std.proofs.Common.{sym, ap, arith, length-append}
+use Rattle.std.proofs.lemmas.List.{get_or_read, map_push, take_all, take_more, length-map}
 use Rattle.mp_term.specs.Size.{all_nodes}
 use Rattle.mp_term.specs.Tree.{symbol}
+use Rattle.mp_term.specs.View.{tree}
 use Rattle.mp_term.proofs.ListLaws.{all-append}
-use Rattle.mp_table.specs.Pieces.{piece_codes}
+use Rattle.mp_table.specs.Pieces.{piece_terms}
 use Rattle.mp_table.specs.Subterms.{arguments}
-use Rattle.mp_table.specs.Text.{shown, piece_terms, IsText}
+use Rattle.mp_table.specs.Text.{shown, IsText}
 use Rattle.mp_table.specs.declared.preorder.Preorder.{Preorder}
-use Rattle.mp_table.proofs.TextLaws.{IsNext, is_next, all_behind, term_of_rank, are_within, length-nodes, term_in}
+use Rattle.mp_table.proofs.TextLaws.{IsNext, is_next, all_behind, length-nodes, term_in}
 use Rattle.mp_table.proofs.entries.ranks_of_args.Goals as goal
 
 -- what stands at the loop's place
-step : (text : Preorder) (codes : List ℕ) (is : IsText text codes) (i w k next : ℕ) → i < length text.nodes.items
+step : (text : Preorder) (is : IsText text) (i w k next : ℕ) → i < length text.nodes.items
     → w ≡ get_or text.nodes.items i w → k ≤ length (arguments (term_in (shown text) i))
     → next ≡ i + 1 + all_nodes (take k (arguments (term_in (shown text) i))) → next < i + w
-    → IsNext text codes is i k next
-step text codes is i w k next h read few at less =
-    is_next text codes is i k next (i + w) (omega (arith, h, length-nodes text codes is))
+    → IsNext text is i k next
+step text is i w k next h read few at less =
+    is_next text is i k next (i + w) (omega (arith, h, length-nodes text is))
     (ap (λ n. i + n) (get_or_read text.nodes.items i w h read 0)) few at less
+
+pub rank_at-requires-clause-start : goal.rank_at-requires-clause-start
+rank_at-requires-clause-start c =
+    let text = c.args.text.now in
+    let n = step text c.requires.text c.args.start c.index.result.now (length c.loop-next.ranks.items)
+    c.loop-next.next c.requires.start c.index.ensures c.loop-next.invariant.few c.loop-next.invariant.next
+    c.loop-next-test.true in
+    omega (arith, n.within, length-map text.terms.items (λ t. tree t.now))
 
 pub index-requires-in-loop-next : goal.index-requires-in-loop-next
 index-requires-in-loop-next c =
     let text = c.args.text.now in
-    let n = step text c.args.codes.now c.requires.text c.args.start c.index.result.now (length c.loop-next.ranks.items)
+    let n = step text c.requires.text c.args.start c.index.result.now (length c.loop-next.ranks.items)
     c.loop-next.next c.requires.start c.index.ensures c.loop-next.invariant.few c.loop-next.invariant.next
     c.loop-next-test.true in
-    omega (arith, n.within, length-nodes text c.args.codes.now c.requires.text, text.nodes.ok.0)
-
-pub slice_bounds-code-end : goal.slice_bounds-code-end
-slice_bounds-code-end c =
-    let text = c.args.text.now in
-    let n = step text c.args.codes.now c.requires.text c.args.start c.index.result.now (length c.loop-next.ranks.items)
-    c.loop-next.next c.requires.start c.index.ensures c.loop-next.invariant.few c.loop-next.invariant.next
-    c.loop-next-test.true in
-    let there : c.loop-next.next < length text.nodes.items =
-    omega (arith, n.within, length-nodes text c.args.codes.now c.requires.text) in
-    let width : c.index-in-loop-next.result.now ≡ get_or text.nodes.items c.loop-next.next 0 =
-    get_or_read text.nodes.items c.loop-next.next c.index-in-loop-next.result.now there c.index-in-loop-next.ensures 0
-    in
-    omega (arith, width, are_within text c.args.codes.now c.requires.text c.loop-next.next there)
-
-pub rank_near-rank-requires-clause-there : goal.rank_near-rank-requires-clause-there
-rank_near-rank-requires-clause-there c =
-    let text = c.args.text.now in
-    let n = step text c.args.codes.now c.requires.text c.args.start c.index.result.now (length c.loop-next.ranks.items)
-    c.loop-next.next c.requires.start c.index.ensures c.loop-next.invariant.few c.loop-next.invariant.next
-    c.loop-next-test.true in
-    let there : c.loop-next.next < length text.nodes.items =
-    omega (arith, n.within, length-nodes text c.args.codes.now c.requires.text) in
-    let width : c.index-in-loop-next.result.now ≡ get_or text.nodes.items c.loop-next.next 0 =
-    get_or_read text.nodes.items c.loop-next.next c.index-in-loop-next.result.now there c.index-in-loop-next.ensures 0
-    in
-    let e : (c.loop-next.next + c.index-in-loop-next.result.now) - c.loop-next.next
-    ≡ get_or text.nodes.items c.loop-next.next 0 = omega (arith, width) in
-    subst (λ w. In (take w (drop c.loop-next.next c.args.codes.now)) (piece_codes c.args.pieces.now)) (sym e)
-    (c.requires.pieces.all c.loop-next.next there)
+    omega (arith, n.within, length-nodes text c.requires.text, text.nodes.ok.0)
 
 pub loop-next-smaller : goal.loop-next-smaller
 loop-next-smaller c =
     let text = c.args.text.now in
-    let n = step text c.args.codes.now c.requires.text c.args.start c.index.result.now (length c.loop-next.ranks.items)
+    let n = step text c.requires.text c.args.start c.index.result.now (length c.loop-next.ranks.items)
     c.loop-next.next c.requires.start c.index.ensures c.loop-next.invariant.few c.loop-next.invariant.next
     c.loop-next-test.true in
     let there : c.loop-next.next < length text.nodes.items =
-    omega (arith, n.within, length-nodes text c.args.codes.now c.requires.text) in
+    omega (arith, n.within, length-nodes text c.requires.text) in
     let width : c.index-in-loop-next.result.now ≡ get_or text.nodes.items c.loop-next.next 0 =
     get_or_read text.nodes.items c.loop-next.next c.index-in-loop-next.result.now there c.index-in-loop-next.ensures 0
     in
@@ -74,35 +53,29 @@ loop-next-smaller c =
 pub loop-next-preserved : goal.loop-next-preserved
 loop-next-preserved c =
     let text = c.args.text.now in
+    let ps = c.args.ranked.now.pieces.items in
     let k = length c.loop-next.ranks.items in
     let us = arguments (term_in (shown text) c.args.start) in
-    let n = step text c.args.codes.now c.requires.text c.args.start c.index.result.now k c.loop-next.next
+    let n = step text c.requires.text c.args.start c.index.result.now k c.loop-next.next
     c.requires.start c.index.ensures c.loop-next.invariant.few c.loop-next.invariant.next c.loop-next-test.true in
     let there : c.loop-next.next < length text.nodes.items =
-    omega (arith, n.within, length-nodes text c.args.codes.now c.requires.text) in
+    omega (arith, n.within, length-nodes text c.requires.text) in
     let width : c.index-in-loop-next.result.now ≡ get_or text.nodes.items c.loop-next.next 0 =
     get_or_read text.nodes.items c.loop-next.next c.index-in-loop-next.result.now there c.index-in-loop-next.ensures 0
     in
     let longer : length c.push.new.self.items ≡ k + 1 =
     ap length c.in_ok-push.ensures.items ∙ length-append c.loop-next.ranks.items _ in
-    let e : (c.loop-next.next + c.index-in-loop-next.result.now) - c.loop-next.next
-    ≡ get_or text.nodes.items c.loop-next.next 0 = omega (arith, width) in
-    let found : get_or (piece_terms text c.args.pieces.now) c.rank_near-rank.result.0 (symbol [])
-    ≡ term_in (shown text) c.loop-next.next =
-    term_of_rank text c.args.codes.now c.requires.text c.args.pieces.now c.requires.pieces.pieces
-    c.rank_near-rank.result.0 c.loop-next.next c.rank_near-rank.ensures.within n.within
-    (c.rank_near-rank.ensures.code ∙ ap (λ w. take w (drop c.loop-next.next c.args.codes.now)) e) in
     record {
       few = omega (arith, longer, n.more);
       next = ap (λ w. c.loop-next.next + w) width ∙ n.after
           ∙ ap (λ m. c.args.start + 1 + all_nodes (take m us)) (sym longer);
-      terms = ap (map (λ r. get_or (piece_terms text c.args.pieces.now) r.0 (symbol []))) c.in_ok-push.ensures.items
-          ∙ map_push (λ r. get_or (piece_terms text c.args.pieces.now) r.0 (symbol [])) c.loop-next.ranks.items _
-          ∙ (λ i. c.loop-next.invariant.terms i ++ (found ∙ n.term) i ∷ [])
+      terms = ap (map (λ r. get_or (piece_terms ps) r.0 (symbol []))) c.in_ok-push.ensures.items
+          ∙ map_push (λ r. get_or (piece_terms ps) r.0 (symbol [])) c.loop-next.ranks.items _
+          ∙ (λ i. c.loop-next.invariant.terms i ++ (c.rank_at.ensures.term ∙ n.term) i ∷ [])
           ∙ sym (take_more us k (symbol []) n.more)
           ∙ ap (λ m. take m us) (sym longer);
-      within = rw c.in_ok-push.ensures.items (all-append (λ r. r.0 < length c.args.pieces.now) c.loop-next.ranks.items _
-          c.loop-next.invariant.within (c.rank_near-rank.ensures.within, tt));
+      within = rw c.in_ok-push.ensures.items (all-append (λ r. r.0 < length ps) c.loop-next.ranks.items _
+          c.loop-next.invariant.within (c.rank_at.ensures.within, tt));
     }
 
 pub returns-clause-terms : goal.returns-clause-terms
@@ -110,9 +83,9 @@ returns-clause-terms c =
     let text = c.args.text.now in
     let k = length c.loop-next.ranks.items in
     let here : c.args.start < length (shown text) =
-    omega (arith, c.requires.start, length-nodes text c.args.codes.now c.requires.text) in
+    omega (arith, c.requires.start, length-nodes text c.requires.text) in
     c.loop-next.invariant.terms
-    ∙ take_all k (arguments (term_in (shown text) c.args.start)) (all_behind text c.args.codes.now c.requires.text
+    ∙ take_all k (arguments (term_in (shown text) c.args.start)) (all_behind text c.requires.text
     c.args.start k c.loop-next.next (c.args.start + c.index.result.now) here (ap (λ n. c.args.start + n) (get_or_read
     text.nodes.items c.args.start c.index.result.now c.requires.start c.index.ensures 0)) c.loop-next.invariant.few
     c.loop-next.invariant.next c.loop-next-test.false)

@@ -3,7 +3,8 @@ use Rattle.std.specs.List.{AllByRecursion}
 use Rattle.mp_term.specs.Tree.{symbol}
 use Rattle.mp_term.specs.Size.{all_nodes}
 use Rattle.mp_table.specs.Subterms.{arguments}
-use Rattle.mp_table.specs.Text.{shown, piece_terms}
+use Rattle.mp_table.specs.Pieces.{piece_terms}
+use Rattle.mp_table.specs.Text.{shown}
 use Rattle.mp_table.proofs.entries.ranks_of_args.Given as goal
 
 abbrev pub invariant-loop-next : goal.invariant-loop-next
@@ -11,9 +12,9 @@ invariant-loop-next l = record {
   few : length l.ranks.items ≤ length (arguments (get_or (shown l.text) l.start (symbol [])));
   next : l.next
       ≡ l.start + 1 + all_nodes (take (length l.ranks.items) (arguments (get_or (shown l.text) l.start (symbol []))));
-  terms : map (λ r. get_or (piece_terms l.text l.pieces) r.0 (symbol [])) l.ranks.items
+  terms : map (λ r. get_or (piece_terms l.ranked.pieces.items) r.0 (symbol [])) l.ranks.items
       ≡ take (length l.ranks.items) (arguments (get_or (shown l.text) l.start (symbol [])));
-  within : AllByRecursion (λ r. r.0 < length l.pieces) l.ranks.items;
+  within : AllByRecursion (λ r. r.0 < length l.ranked.pieces.items) l.ranks.items;
 }
 
 abbrev pub decreases-loop-next : goal.decreases-loop-next

@@ -1,59 +1,71 @@
-use Rattle.std.proofs.Common.{◌≡◌, ◌+◌, ◌-◌, ◌<◌, ◌∙◌, ◌++◌, [], ◌∷◌, length, sym, ap, subst, get_or, take, drop, refl}
-use Rattle.std.proofs.Common.{List, arith, length-append}
-use Rattle.std.proofs.lemmas.List.{map_push, length-map}
-use Rattle.std.specs.List.{AllByRecursion, range_with_len}
+use Rattle.std.proofs.Common.{◌≡◌, ◌<◌, ◌+◌, ◌++◌, ◌∙◌, List, [], ◌∷◌, map, length, take, get_or, sym, ap, subst, refl}
+use Rattle.std.proofs.Common.{arith, length-append}
+use Rattle.std.proofs.lemmas.List.{get_or-map, take_all, map_push, length-map}
+use Rattle.std.specs.List.{AllByRecursion}
 use Rattle.mp_term.specs.Listing.{In}
+use Rattle.mp_term.specs.Tree.{symbol}
+use Rattle.mp_term.specs.View.{tree}
 use Rattle.mp_term.proofs.ListLaws.{all-append}
-use Rattle.mp_table.specs.Pieces.{code_at, piece_codes, IsPiece}
+use Rattle.mp_table.specs.Pieces.{piece_terms, IsPiece}
 use Rattle.mp_table.specs.declared.piece.Piece.{Piece}
-use Rattle.mp_table.proofs.Distinct.{in-place}
-use Rattle.mp_table.proofs.PieceLaws.{first-more, first-pushed}
+use Rattle.mp_table.proofs.Distinct.{in-place, members-more, members-pushed}
 use Rattle.mp_table.proofs.pieces.new_pieces.Goals as goal
 
-pub loop-start-preserved-then-is_at : goal.loop-start-preserved-then-is_at
-loop-start-preserved-then-is_at c =
-    let codes = c.args.codes.now in
-    let nodes = c.args.nodes.now in
+pub loop-start-preserved-then-has_term : goal.loop-start-preserved-then-has_term
+loop-start-preserved-then-has_term c =
+    let terms = c.args.terms.now in
     let start = c.loop-start.start in
-    let width = get_or nodes start 0 in
-    let e : (start + width) - start ≡ width = omega arith in
+    let term = c.index-terms-start.result in
     let ps = c.deref.result.now in
-    let within : c.at-near.result < length (piece_codes ps) = omega (
+    let within : c.at-near.result < length (piece_terms ps) = omega (
       arith,
-      c.if-is_at.ensures.within refl,
-      length-map ps (λ p. p.code.now),
+      c.if-has_term.ensures.within refl,
+      length-map ps (λ p. tree p.term.now),
     ) in
-    let there : In (code_at codes nodes start) (piece_codes c.loop-start.pieces.items) =
-    subst (λ (l : List Piece). In (code_at codes nodes start) (piece_codes l)) c.deref.ensures.value
-    (subst (λ k. In k (piece_codes ps)) (c.if-is_at.ensures.code refl ∙ ap (λ n. take n (drop start codes)) e)
-    (in-place (piece_codes ps) c.at-near.result [] within)) in
+    let there : In (tree term.now) (piece_terms c.loop-start.pieces.items) =
+    subst (λ (l : List Piece). In (tree term.now) (piece_terms l)) c.deref.ensures.value
+    (subst (λ u. In u (piece_terms ps)) (c.if-has_term.ensures.term refl)
+    (in-place (piece_terms ps) c.at-near.result (symbol []) within)) in
     record {
       pieces = c.loop-start.invariant.pieces;
-      all = first-more (code_at codes nodes) (piece_codes c.loop-start.pieces.items) start there
+      all = members-more (λ t. tree t.now) (piece_terms c.loop-start.pieces.items) terms start term
+          c.loop-start-test.true
+          (subst (λ t. In (tree t.now) (piece_terms c.loop-start.pieces.items)) c.index-terms-start.is there)
           c.loop-start.invariant.all;
       few = omega (arith, c.loop-start.invariant.few);
     }
 
 pub loop-start-preserved : goal.loop-start-preserved
 loop-start-preserved c =
-    let codes = c.args.codes.now in
-    let nodes = c.args.nodes.now in
+    let terms = c.args.terms.now in
     let start = c.loop-start.start in
-    let width = get_or nodes start 0 in
-    let e : (start + width) - start ≡ width = omega arith in
-    let is = ap (λ n. take n (drop start codes)) e in
+    let term = c.index-terms-start.result in
     let ps = c.loop-start.pieces.items in
-    let pushed : piece_codes c.push.new.self.items ≡ piece_codes ps ++ code_at codes nodes start ∷ [] =
-    ap piece_codes c.in_ok-push.ensures.items ∙ map_push (λ p. p.code.now) ps _
-    ∙ ap (λ k. piece_codes ps ++ k ∷ []) is in
-    let longer : length c.push.new.self.items ≡ length ps + 1 =
-    ap length c.in_ok-push.ensures.items ∙ length-append ps _ in
+    let added : Piece = record { term = term; start = start } in
+    let there : start < length terms = c.loop-start-test.true in
+    let is : tree term.now ≡ get_or (map (λ t. tree t.now) terms) start (symbol []) =
+    ap (λ t. tree t.now) c.index-terms-start.is
+    ∙ sym (get_or-map (λ t. tree t.now) terms start term (symbol []) there) in
+    let pushed : piece_terms c.push-in-loop-start-2.new.self.items ≡ piece_terms ps ++ tree (get_or terms start term).now ∷ [] =
+    ap piece_terms c.in_ok-push-3.ensures.items ∙ map_push (λ p. tree p.term.now) ps added
+    ∙ ap (λ t. piece_terms ps ++ tree t.now ∷ []) c.index-terms-start.is in
     record {
-      pieces = rw c.in_ok-push.ensures.items (all-append (IsPiece codes nodes) ps _ c.loop-start.invariant.pieces (
-        (omega arith, is),
-        tt,
-      ));
-      all = subst (λ ks. AllByRecursion (λ i. In (code_at codes nodes i) ks) (range_with_len 0 (start + 1)))
-          (sym pushed) (first-pushed (code_at codes nodes) (piece_codes ps) start c.loop-start.invariant.all);
-      few = omega (arith, c.loop-start.invariant.few, longer);
+      pieces = rw c.in_ok-push-3.ensures.items (all-append (IsPiece (map (λ t. tree t.now) terms)) ps _
+          c.loop-start.invariant.pieces (
+            (omega (arith, there, length-map terms (λ t. tree t.now)), is),
+            tt,
+          ));
+      all = subst (λ ks. AllByRecursion (λ t. In (tree t.now) ks) (take (start + 1) terms)) (sym pushed)
+          (members-pushed (λ t. tree t.now) (piece_terms ps) terms start term there c.loop-start.invariant.all);
+      few = omega (
+        arith,
+        c.loop-start.invariant.few,
+        ap length c.in_ok-push-3.ensures.items,
+        length-append ps (added ∷ []),
+      );
     }
+
+pub returns-clause-all : goal.returns-clause-all
+returns-clause-all c =
+    subst (AllByRecursion (λ t. In (tree t.now) (piece_terms c.loop-start.pieces.items)))
+    (take_all c.loop-start.start c.args.terms.now c.loop-start-test.false) c.loop-start.invariant.all

@@ -1,12 +1,13 @@
-use Rattle.std.proofs.Common.{◌≤◌, length}
-use Rattle.std.specs.List.{AllByRecursion, range_with_len}
+use Rattle.std.proofs.Common.{◌≤◌, map, length, take}
+use Rattle.std.specs.List.{AllByRecursion}
 use Rattle.mp_term.specs.Listing.{In}
-use Rattle.mp_table.specs.Pieces.{code_at, piece_codes, IsPiece}
+use Rattle.mp_term.specs.View.{tree}
+use Rattle.mp_table.specs.Pieces.{piece_terms, IsPiece}
 use Rattle.mp_table.proofs.pieces.new_pieces.Given as goal
 
 abbrev pub invariant-loop-start : goal.invariant-loop-start
 invariant-loop-start l = record {
-  pieces : AllByRecursion (IsPiece l.codes l.nodes) l.pieces.items;
-  all : AllByRecursion (λ i. In (code_at l.codes l.nodes i) (piece_codes l.pieces.items)) (range_with_len 0 l.start);
+  pieces : AllByRecursion (IsPiece (map (λ t. tree t.now) l.terms)) l.pieces.items;
+  all : AllByRecursion (λ t. In (tree t.now) (piece_terms l.pieces.items)) (take l.start l.terms);
   few : length l.pieces.items ≤ l.start;
 }

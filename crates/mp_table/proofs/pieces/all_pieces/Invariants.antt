@@ -1,0 +1,11 @@
+use Rattle.std.proofs.Common.{◌≡◌, map, take}
+use Rattle.std.specs.List.{AllByRecursion}
+use Rattle.mp_term.specs.View.{tree}
+use Rattle.mp_table.specs.Pieces.{piece_terms, IsPiece}
+use Rattle.mp_table.proofs.pieces.all_pieces.Given as goal
+
+abbrev pub invariant-loop-start : goal.invariant-loop-start
+invariant-loop-start l = record {
+  pieces : AllByRecursion (IsPiece (map (λ t. tree t.now) l.terms)) l.pieces.items;
+  all : piece_terms l.pieces.items ≡ map (λ t. tree t.now) (take l.start l.terms);
+}
