@@ -29,6 +29,7 @@ pub mod FirstPlace
 pub mod PartLaws
 pub mod MatchLaws
 pub mod LackLaws
+pub mod LastLaws
 pub mod MadeLaws
 pub mod Contributions
 pub mod EndLaws

@@ -6,7 +6,7 @@ use Rattle.std.specs.List.Sorted.{IsStrictlySortedBy}
 use Rattle.std.proofs.lemmas.Bool.{and_parts}
 use Rattle.mp_term.specs.Order.{tree_cmp}
 use Rattle.mp_term.specs.OrderLaws.{tree_cmp_total, tree_same}
-use Rattle.mp_term.specs.Pieces.{is_prefix, is_piece}
+use Rattle.mp_term.specs.Pieces.{is_prefix, is_piece, without}
 use Rattle.mp_term.specs.Search.{In}
 use Rattle.mp_term.specs.Signature.{Sig}
 use Rattle.mp_term.specs.Tree.{Tree}
@@ -14,16 +14,16 @@ use Rattle.mp_term.proofs.ListingLaws.{same_members}
 use Rattle.mp_term.proofs.PiecesLaws.{same-sound, same-itself}
 use Rattle.mp_pattern.specs.DerivationOrder.{entry_cmp}
 use Rattle.mp_pattern.specs.Fits.{Entry, Table}
-use Rattle.mp_pattern.specs.PatternTree.{Wildcard, Pattern, symbol_pattern, app_pattern, wild_pattern}
+use Rattle.mp_pattern.specs.PatternTree.{Pattern, symbol_pattern, app_pattern, wild_pattern}
 use Rattle.mp_pattern.specs.Value.{Subst}
 use Rattle.mp_pattern.specs.View.{pattern_tree}
-use Rattle.mp_table.specs.Table.{term_at, terms_at}
+use Rattle.mp_table.specs.Table.{rank_cmp, term_at, terms_at}
 use Rattle.mp_table.specs.declared.rank.Rank.{Rank}
 use Rattle.mp_theory.specs.Frames.{Frame, Next, child}
 use Rattle.mp_theory.specs.Items.{items, behind}
 use Rattle.mp_theory.specs.OneList.{Item}
 use Rattle.mp_subst.specs.Trail.{Trail, GoesWith, cut}
-use Rattle.mp_theory.specs.Machine.{reads, choices, onward, said}
+use Rattle.mp_theory.specs.Machine.{reads, choices, entered, onward, said}
 use Rattle.mp_theory.specs.Narrow.{load}
 use Rattle.mp_theory.specs.Solve.{solve}
 use Rattle.mp_theory.specs.Trail.{allows, listed_by}
@@ -32,7 +32,7 @@ use Rattle.mp_theory.proofs.Tables.{choices-ascending, entry_cmp_total}
 use Rattle.mp_theory.proofs.TrailLaws.{choice-allowed}
 use Rattle.mp_theory.proofs.Walk.{choices-exact}
 use Rattle.mp_search.specs.Bounds.{TakesNext}
-use Rattle.mp_search.specs.Parts.{IsWild}
+use Rattle.mp_search.specs.Parts.{IsLeaf}
 use Rattle.mp_search.specs.declared.level.Level.{Level}
 use Rattle.mp_search.specs.declared.mode.Mode.{Mode}
 use Rattle.mp_search.specs.declared.mode.Mode.TheVariants.{First, After, At}
@@ -46,15 +46,18 @@ use Rattle.mp_search.specs.Passed.{IsPassed, IsShut}
 use Rattle.mp_search.specs.Reading.{entry_of, entry_at, subst_of, table_of}
 use Rattle.mp_search.specs.Site.{site_frame, site_place}
 use Rattle.mp_search.specs.Wanted.{wanted, good, IsStanding}
-use Rattle.mp_search.proofs.BindAtLaws.{less-wild, wild-trail, wild-spare}
+use Rattle.mp_search.proofs.BindAtLaws.{less-childless, leaf-childless, childless-trail, childless-spare}
 use Rattle.mp_search.proofs.FoundLaws.{wanted-first}
+use Rattle.mp_search.proofs.PartLaws.{first-others}
+use Rattle.mp_search.proofs.RankOrder.{rank_total, rank_means}
 use Rattle.mp_search.proofs.OnwardLaws.{node-kept, at-kept, trail-kept}
 use Rattle.mp_search.proofs.VisitLaws.{begins, at-other, items-kept}
 
--- a wildcard reads no list collapsed
-plain : (sig : Sig) (p : Pattern) (f : Option ℕ) (l : List Tree) (c : Bool) → IsWild p
+-- a leaf reads no list collapsed
+plain : (sig : Sig) (p : Pattern) (f : Option ℕ) (l : List Tree) (c : Bool) → IsLeaf p
     → reads sig p f (record { terms = l; collapsed = c }) ≡ true → c ≡ false
-plain sig (symbol_pattern n) f l c w h = absurd w
+plain sig (symbol_pattern n) f l true w h = cc
+plain sig (symbol_pattern n) f l false w h = refl
 plain sig (app_pattern g ps) f l c w h = absurd w
 plain sig (wild_pattern v x) f l true w h = cc
 plain sig (wild_pattern v x) f l false w h = refl
@@ -92,7 +95,7 @@ module _ (sig : Sig) (p : Pattern) (f : Frame) (fs : List Frame) (h : TakesNext 
       let high : length d.terms ≤ 1 = subst (AtMost (length d.terms)) h.single.1 w.1 in (
         omega (arith, h.single.0, w.0, high),
         subst (λ b. is_piece tree_cmp b d.terms f.left ≡ true) h.ordered c.0,
-        plain sig p f.under d.terms d.collapsed h.wild c.1,
+        plain sig p f.under d.terms d.collapsed h.leaf c.1,
         c.1,
       )
 
@@ -197,6 +200,20 @@ next-taken q x d own rs b n h taken ranks is =
         (next-allowed q.sig.now (pattern_tree x.child.now) (site_frame q x) [] h t f.0 f.1 (sym r))
     by_answer t f false r = next-unread q.sig.now (pattern_tree x.child.now) (site_frame q x) [] h t f.0 f.1 (sym r)
 
+-- the first rank alone is a front
+pub first-front : (xs : List Rank) (d : Rank) → 1 ≤ length xs → slice_index_or xs 0 d ∷ [] ≡ take 1 xs
+first-front [] d n = absurd (omega (arith, n))
+first-front (r ∷ xs) d n = refl
+
+-- without it the others are left
+pub without-first : (xs : List Rank) → 1 ≤ length xs
+    → without rank_cmp (take 1 xs) xs ≡ take (length xs - 1) (drop 1 xs)
+without-first [] n = absurd (omega (arith, n))
+without-first (r ∷ xs) n =
+    let whole = first-others (r ∷ xs) r n in
+    let others : xs ≡ take (length (r ∷ xs) - 1) (drop 1 (r ∷ xs)) = cc in
+    rw (same-itself rank_cmp rank_total rank_means r) others
+
 -- where none is left there is none
 pub none-left : (q : Query) (x : Site) → TakesNext q.sig.now (above x.under) (pattern_tree x.child.now)
     → length x.left.now ≡ 0 → choices q.sig.now (site_place q x []) ≡ []
@@ -239,11 +256,11 @@ module _ (q : Query) (k : ℕ) (L : List Level) (s : Subst) (within : k < length
       by_mode After i = let c = (begins q k L s within m i standing).allowed in cc
       by_mode At i = at-other q k L s within m i a
 
--- a wildcard that isn't optional
-wild-parts : (p : Pattern) → IsWild p → (w : Wildcard) × (x : Option (List ℕ)) × (p ≡ wild_pattern w x)
-wild-parts (symbol_pattern n) h = absurd h
-wild-parts (app_pattern g ps) h = absurd h
-wild-parts (wild_pattern w x) h = (w, x, refl)
+-- a leaf is no operation to enter
+pub entered-leaf : (p : Pattern) (e : Entry) (fs : List Frame) → IsLeaf p → entered p e fs ≡ fs
+entered-leaf (symbol_pattern n) e fs h = refl
+entered-leaf (app_pattern g ps) e fs h = absurd h
+entered-leaf (wild_pattern w x) e fs h = refl
 
 -- what an entry says doesn't depend on the frames around
 said-any : (c : Pattern) (f : Frame) (fs gs : List Frame) (e : Entry) → said (child c f fs) e ≡ said (child c f gs) e
@@ -275,11 +292,10 @@ module _ (q : Query) (k : ℕ) (L : List Level) (p : Place) (t : Trail) (within 
   next-less : (e : Entry) → allows q.sig.now (place_after q (take k L)) e ≡ true
       → length e.terms ≤ load (place_after q (take k L))
   next-less e a =
-      let w = wild-parts (pattern_tree p.child.now) next.wild in
       let l = subst
       (λ m. allows q.sig.now m e ≡ true → load (onward m e) + length e.terms ≤ load m) at.stands
-      (less-wild q.sig.now (pattern_tree p.child.now) w.0 w.1 (inner_of q (take k L) p)
-      (stack_frames q (take k L) p.outer.now) e w.2) a in
+      (less-childless q.sig.now (pattern_tree p.child.now) (inner_of q (take k L) p)
+      (stack_frames q (take k L) p.outer.now) e (leaf-childless (pattern_tree p.child.now) next.leaf)) a in
       omega (arith, l)
 
   pub next-room : HasTrail q k L t → (e : Entry) → allows q.sig.now (place_after q (take k L)) e ≡ true
@@ -352,11 +368,10 @@ module _ (q : Query) (k : ℕ) (L : List Level) (p : Place) (t : Trail) (within 
 
       pub new-trail : HasTrail q (k + 1) N u
       new-trail =
-          let w = wild-parts (pattern_tree p.child.now) next.wild in
-          wild-trail q k N p new-within new-at new-allowed w.0 w.1 t u w.2 (trail-kept q k L N t trail levels) kept
-          spare goes
+          childless-trail q k N p new-within new-at new-allowed t u
+          (leaf-childless (pattern_tree p.child.now) next.leaf) (trail-kept q k L N t trail levels) kept spare goes
 
       pub new-spare : t.spare + load (place_after q (take (k + 1) N)) ≤ u.spare + (load there + 3)
       new-spare =
-          let w = wild-parts (pattern_tree p.child.now) next.wild in
-          wild-spare q k N p new-within new-at new-allowed w.0 w.1 t u w.2 spare
+          childless-spare q k N p new-within new-at new-allowed t u
+          (leaf-childless (pattern_tree p.child.now) next.leaf) spare

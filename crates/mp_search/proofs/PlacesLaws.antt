@@ -1,6 +1,6 @@
 -- Where the terms stand that a child may match.
 use Rattle.std.proofs.Common.{◌≡◌, ℕ, ◌≤◌, ◌<◌, List, [], ◌∷◌, length, Bool, true, false, refl, ap, sym, ◌∙◌}
-use Rattle.std.proofs.Common.{subst}
+use Rattle.std.proofs.Common.{subst, suc, ◌-◌, take, drop, slice_index_or}
 use Rattle.std.proofs.Common.{get_or, eq-eqb, arith}
 use Rattle.std.proofs.lemmas.List.{length-map}
 use Rattle.std.specs.Prelude.{Option, Some, None, IfSome, option_map, nat_lt, if◌then◌else◌}
@@ -12,7 +12,7 @@ use Rattle.std.specs.declared.cmp.Ordering.TheVariants.{Less, Equal, Greater}
 use Rattle.mp_term.specs.Order.{tree_cmp}
 use Rattle.mp_term.specs.OrderLaws.{tree_cmp_total, tree_same}
 use Rattle.mp_term.specs.Pieces.{same}
-use Rattle.mp_term.proofs.PiecesLaws.{same-sound}
+use Rattle.mp_term.proofs.PiecesLaws.{same-sound, same-itself}
 use Rattle.mp_term.specs.Signature.{Sig}
 use Rattle.mp_term.specs.Tree.{Tree, symbol}
 use Rattle.mp_pattern.specs.PatternTree.{Pattern, Patterns, symbol_pattern, app_pattern, more_patterns, patterns}
@@ -25,10 +25,10 @@ use Rattle.mp_table.proofs.RankLaws.{rank_order}
 use Rattle.mp_theory.specs.Known.{contributed}
 use Rattle.mp_theory.specs.MayMatch.{is_alone_in, is_plain, may_collapse, may_match, each_may_match}
 use Rattle.mp_search.specs.Grounds.{ground_of}
-use Rattle.mp_search.specs.Portion.{first_before, args_before, IsOf}
+use Rattle.mp_search.specs.Portion.{first_before, args_before, second_is, IsOf}
 use Rattle.mp_search.specs.declared.headed.Group.{Group}
 use Rattle.mp_search.proofs.HeadedLaws.{group-there, match-headed}
-use Rattle.mp_search.proofs.MatchLaws.{alone-contribution, match-children}
+use Rattle.mp_search.proofs.MatchLaws.{alone-contribution, match-children, rank-same}
 
 -- what a test of the first argument finds
 abbrev pub by_order : Bool → Ordering → Bool
@@ -108,6 +108,33 @@ module _ (sig : Sig) (s : Subst) (f : Option ℕ) where
           let is : u ≡ t = only t (and_parts (may_match sig s f p t) _ h).0 in
           let tied : tree_cmp t u ≡ Equal = ap (tree_cmp t) is ∙ tied_itself tree_cmp_total t in
           (ap (by_order false) tied, ap (by_order true) tied)
+
+  -- and the second one the second
+  pub each-second : (p r : Pattern) (ps rs qs : Patterns) (ts : List Tree) (u : Tree) → qs ≡ more_patterns p ps
+      → ps ≡ more_patterns r rs → ((t : Tree) → may_match sig s f r t ≡ true → u ≡ t)
+      → each_may_match sig s f qs ts ≡ true → second_is u ts ≡ true
+  each-second p r ps rs qs ts u e i only h =
+      second ts (subst (λ vs. each_may_match sig s f vs ts ≡ true) (e ∙ ap (more_patterns p) i) h)
+    where
+      second : (ts : List Tree) → each_may_match sig s f (more_patterns p (more_patterns r rs)) ts ≡ true
+          → second_is u ts ≡ true
+      second [] h = cc
+      second (t ∷ []) h =
+          let none = (and_parts (may_match sig s f p t) _ h).1 in cc
+      second (t ∷ v ∷ ts) h =
+          let later = (and_parts (may_match sig s f p t) _ h).1 in
+          let is : u ≡ v = only v (and_parts (may_match sig s f r v) _ later).0 in
+          ap (same tree_cmp u) (sym is) ∙ same-itself tree_cmp tree_cmp_total tree_same u
+
+-- the second of the terms of ranks is that of a rank only where this is the second rank
+pub second-rank : (t : Table) → IsTable t → (r d : Rank) (rs : List Rank) → HasRank t r → HasRanks t rs
+    → second_is (term_at t r) (terms_at t rs) ≡ true
+    → (slice_index_or (take (length rs - 1) (drop 1 rs)) 0 d).0 ≡ r.0
+second-rank t h r d [] k l e = cc
+second-rank t h r d (s ∷ []) k l e = cc
+second-rank t h r d (s ∷ o ∷ rs) k l e =
+    let many : suc (suc (length rs)) - 1 ≡ suc (length rs) = omega arith in
+    ap (λ n. (slice_index_or (take n (o ∷ rs)) 0 d).0) many ∙ sym (rank-same t h r o k l.1.0 e)
 
 -- what an application may match, which can't be collapsed, is of its group
 pub match-group : (t : Table) (sig : Sig) (s : Subst) (f : Option ℕ) (k : Group) (ps : Patterns) (u : Tree)

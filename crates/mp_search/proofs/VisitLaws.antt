@@ -153,6 +153,14 @@ module _ (q : Query) (k : ℕ) (L : List Level) (s : Subst) (within : k < length
       (λ m. wanted q m (table_of q.table.now (drop k L)) (by e)
       ++ filter (good q) (flat_map by (above_entry e (choices q.sig.now n)))) (sym i)
 
+  -- nothing comes where there are no entries above
+  pub after-last : (m : Mode) → m ≡ After → allows q.sig.now n e ≡ true
+      → wanted q m (table_of q.table.now (drop k L)) (by e) ≡ [] → above_entry e (choices q.sig.now n) ≡ []
+      → wanted q m (table_of q.table.now (drop k L)) (items_from q k L s) ≡ []
+  after-last m i h none last = after m i h
+      ∙ ap (λ is. is ++ filter (good q) (flat_map by (above_entry e (choices q.sig.now n)))) none
+      ∙ ap (λ es. filter (good q) (flat_map by es)) last
+
   pub after-found : (m : Mode) (x : Item) → m ≡ After → allows q.sig.now n e ≡ true
       → slice_get (wanted q m (table_of q.table.now (drop k L)) (by e)) 0 ≡ Some x
       → slice_get (wanted q m (table_of q.table.now (drop k L)) (items_from q k L s)) 0 ≡ Some x

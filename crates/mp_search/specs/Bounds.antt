@@ -20,7 +20,7 @@ use Rattle.mp_search.specs.declared.bounds.Bounds.{Bounds}
 use Rattle.mp_search.specs.declared.query.Query.{Query}
 use Rattle.mp_search.specs.declared.site.Site.{Site}
 use Rattle.mp_search.specs.Numbers.{IsNumberOf}
-use Rattle.mp_search.specs.Parts.{IsWild}
+use Rattle.mp_search.specs.Parts.{IsLeaf}
 use Rattle.mp_search.specs.Site.{site_place}
 
 -- the child's variable, which has no value and that number
@@ -49,7 +49,7 @@ TakesOne sig f p = (least p ≡ 1) × (most sig f p ≡ Some 1)
 -- the child takes the next term alone
 pub record TakesNext (sig : Sig) (f : Option ℕ) (p : Pattern) : Type 0 where
   pub ordered : comm_above sig f ≡ false
-  pub wild : IsWild p
+  pub leaf : IsLeaf p
   pub single : TakesOne sig f p
 
 -- each choice with an item has a number of terms within the bounds, and so often what is left has each of its terms

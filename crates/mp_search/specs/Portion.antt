@@ -1,12 +1,14 @@
 -- Which ranks a child may take, and how often a rank stands in a list.
 use Rattle.std.specs.Prelude.{◌≡◌, ◌<◌, ◌≤◌, ℕ, ◌+◌, List, [], ◌∷◌, length, Bool, true, nat_eq, nat_lt, if◌then◌else◌}
-use Rattle.std.specs.Prelude.{slice_index_or, false, Option, Some, None, option_map}
+use Rattle.std.specs.Prelude.{slice_index_or, false, Option, Some, None, option_map, IfSome}
 use Rattle.std.specs.declared.cmp.Ordering.TheVariants.{Less, Equal, Greater}
 use Rattle.mp_term.specs.Order.{tree_cmp}
+use Rattle.mp_term.specs.Pieces.{same}
 use Rattle.mp_term.specs.Tree.{Tree, symbol, app, tree_list}
 use Rattle.mp_pattern.specs.Value.{Subst}
 use Rattle.mp_pattern.specs.View.{pattern_tree}
-use Rattle.mp_table.specs.Table.{Table, term_at}
+use Rattle.mp_table.specs.Subterms.{arguments}
+use Rattle.mp_table.specs.Table.{Table, HasRank, term_at}
 use Rattle.mp_table.specs.declared.rank.Rank.{Rank}
 use Rattle.mp_theory.specs.MayMatch.{may_match}
 use Rattle.mp_search.specs.declared.headed.Group.{Group}
@@ -57,3 +59,16 @@ pub record StandBetween (Wanted : Rank → Type 0) (rs : List Rank) (first end :
   pub within : end ≤ length rs
   pub before : (z : Rank) (k : ℕ) → Wanted z → k < first → (slice_index_or rs k z).0 ≡ z.0 → ⊥
   pub behind : (z : Rank) (k : ℕ) → Wanted z → end ≤ k → k < length rs → (slice_index_or rs k z).0 ≡ z.0 → ⊥
+
+-- the second argument is u
+abbrev pub second_is : Tree → List Tree → Bool
+second_is u [] = false
+second_is u (t ∷ []) = false
+second_is u (t ∷ v ∷ ts) = same tree_cmp u v
+
+-- the second argument of each term that the child may match is that of the rank, if one is given
+pub record IsSecond (q : Query) (x : Site) (s : Subst) (second : Option Rank) : Type 0 where
+  pub within : IfSome second (HasRank q.table.now)
+  pub only : IfSome second (λ r. (f : Option ℕ) (t : Tree)
+      → may_match q.sig.now s f (pattern_tree x.child.now) t ≡ true
+      → second_is (term_at q.table.now r) (arguments t) ≡ true)

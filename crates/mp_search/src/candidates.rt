@@ -8,12 +8,13 @@ ghost use Rattle.mp_pattern.specs.Subpatterns.{subpatterns, all_subpatterns};
 ghost use Rattle.mp_pattern.specs.View.{pattern_tree};
 ghost use Rattle.mp_subst.specs.Bound.{bound_of, value_in, IsBoundIn};
 ghost use Rattle.mp_subst.specs.Trail.{GoesWith};
-ghost use Rattle.mp_table.specs.Table.{HasRank, HasRanks, rank_cmp, term_at, terms_at};
+ghost use Rattle.mp_table.specs.Subterms.{arguments};
+ghost use Rattle.mp_table.specs.Table.{IsTable, HasRank, HasRanks, rank_cmp, term_at, terms_at};
 ghost use Rattle.mp_theory.specs.Known.{contributed};
 ghost use Rattle.mp_theory.specs.MayMatch as look;
 ghost use Rattle.mp_search.specs.Frames.{above};
 ghost use Rattle.mp_search.specs.Parts.{StandsAt, IsWild};
-ghost use Rattle.mp_search.specs.Portion.{first_before, StandBetween};
+ghost use Rattle.mp_search.specs.Portion.{first_before, second_is, StandBetween};
 ghost use Rattle.mp_search.specs.Query.{IsQuery};
 ghost use Rattle.mp_search.specs.Reading.{subst_of};
 
@@ -170,6 +171,74 @@ fn tells_first(sig: &Signature, op: OpId, children: &[Pattern]) -> bool
             }
             is_plain(sig, Some(op), children)
         }
+    }
+}
+
+// The rank of the only second argument that a term may have of which the two arguments are matched by the children, if
+// there are two, and it is known.
+fn second_among(query: &Query<'_>, trail: &Trail, children: &[Pattern], node: u32) -> Option<Rank>
+    requires query { IsQuery query.now }
+    requires trail { GoesWith query.now.table.now trail.now }
+    requires children { StandsAt query.now node (all_subpatterns (patterns (map pattern_tree children.now))) }
+    ensures within { IfSome result (HasRank query.now.table.now) }
+    ensures only { IfSome result (λ r. (f : Option ℕ) (ts : List Tree) → look.each_may_match query.now.sig.now
+        (subst_of query.now trail.now) f (patterns (map pattern_tree children.now)) ts ≡ true →
+        second_is (term_at query.now.table.now r) ts ≡ true) }
+{
+    match children {
+        [] => None,
+        [child, later @ ..] => match later {
+            [second] => {
+                let end = end_of(query, child, node);
+                known_rank(query, trail, second, end)
+            }
+            _ => None,
+        },
+    }
+}
+
+// The rank of the only second argument that a term may have which the child may match, if that is all that is to be
+// looked at.
+pub(crate) fn second_rank(
+    query: &Query<'_>,
+    trail: &Trail,
+    child: &Pattern,
+    node: u32,
+) -> Option<Rank>
+    requires query { IsQuery query.now }
+    requires trail { GoesWith query.now.table.now trail.now }
+    requires child { StandsAt query.now node (subpatterns (pattern_tree child.now)) }
+    ensures within { IfSome result (HasRank query.now.table.now) }
+    ensures only { IfSome result (λ r. (f : Option ℕ) (t : Tree) → look.may_match query.now.sig.now
+        (subst_of query.now trail.now) f (pattern_tree child.now) t ≡ true →
+        second_is (term_at query.now.table.now r) (arguments t) ≡ true) }
+{
+    match child {
+        Pattern::App(op, children) => {
+            let children = children.as_slice();
+            if !tells_first(query.sig, *op, children) {
+                return None;
+            }
+            let below = first_below(query, child, node);
+            second_among(query, trail, children, below)
+        }
+        _ => None,
+    }
+}
+
+// Whether the second argument of the term is that of the rank.
+pub(crate) fn has_second(table: &Table, rank: Rank, second: Rank) -> bool
+    requires table { IsTable table.now }
+    requires rank { HasRank table.now rank }
+    requires second { HasRank table.now second }
+    ensures { second_is (term_at table.now second) (arguments (term_at table.now rank)) ≡ true → IsTrue result }
+{
+    match table.args(rank) {
+        [] => false,
+        [_, later @ ..] => match later {
+            [] => false,
+            [own, ..] => own.0 == second.0,
+        },
     }
 }
 

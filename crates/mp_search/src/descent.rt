@@ -1,5 +1,6 @@
 //! The search for the first table, for the first one after another, or for one alone.
-ghost use Rattle.std.specs.Prelude.{◌≡◌, ◌<◌, ◌≤◌, ◌+◌, ◌-◌, ◌*◌, true, take, drop, length, filter, flat_map, IsTrue};
+ghost use Rattle.std.specs.Prelude.{◌≡◌, ◌<◌, ◌≤◌, ◌+◌, ◌-◌, ◌*◌, ◌∷◌, true, take, drop, length};
+ghost use Rattle.std.specs.Prelude.{filter, flat_map, IsTrue};
 ghost use Rattle.mp_term.specs.Listing.{In};
 ghost use Rattle.mp_term.specs.Order.{tree_cmp};
 ghost use Rattle.mp_term.specs.Pieces.{without};
@@ -12,7 +13,8 @@ ghost use Rattle.mp_subst.specs.Trail.{GoesWith, cut};
 ghost use Rattle.mp_search.specs.At.{IsAt, IsAtNode, HasTrail, IsDrawn, Keeps, IsFound, drawn_at, own_at, items_from};
 ghost use Rattle.mp_search.specs.At.{items_with, BindsOnly};
 ghost use Rattle.mp_search.specs.Bounds.{TakesNext};
-ghost use Rattle.mp_search.specs.Frames.{above, stack_frames, left_of, rest_at, place_after, start_of, IsBelow};
+ghost use Rattle.mp_search.specs.Frames.{above, frame_of, stack_frames, left_of, rest_at, place_after, start_of};
+ghost use Rattle.mp_search.specs.Frames.{LeftBelow, IsBelow};
 ghost use Rattle.mp_search.specs.Levels.{AreLevels};
 ghost use Rattle.mp_search.specs.Query.{IsReady, width};
 ghost use Rattle.mp_search.specs.Reading.{table_of, entry_at, subst_of};
@@ -20,12 +22,13 @@ ghost use Rattle.mp_search.specs.Tried.{to_try};
 ghost use Rattle.mp_search.specs.Wanted.{wanted, good, IsStanding, AreComplete};
 
 use crate::behind::{inner_frame, rest_frame};
-use crate::judge::holds;
+use crate::judge::{fails, holds};
 use crate::level::Level;
 use crate::mode::Mode;
 use crate::next::takes_the_next;
 use crate::node::{
     bind_at, first_at, leads_nowhere_at, leave_at, may_stand, next_at, pass_at, prepare_at,
+    takes_all_at,
 };
 use crate::query::Query;
 use crate::stack::{Frame, Left, Next, Place, Stack, settle};
@@ -60,11 +63,8 @@ fn descend<'a>(
     let rest = Stack::Within(rest_frame(query, place, levels, k), place.outer);
     match place.child {
         Pattern::App(op, children) => {
-            let inner = Stack::Within(
-                inner_frame(query, *op, children.as_slice(), levels, k),
-                &rest,
-            );
-            search(query, &inner, levels, k + 1, trail, mode)
+            let inner = inner_frame(query, *op, children.as_slice(), levels, k);
+            search_within(query, inner, &rest, levels, k + 1, trail, mode)
         }
         _ => search(query, &rest, levels, k + 1, trail, mode),
     }
@@ -100,7 +100,7 @@ fn follow<'a>(
     if !bind_at(query, place, levels, k, trail) {
         return false;
     }
-    if leads_nowhere_at(query, place, levels, k, trail) {
+    if leads_nowhere_at(query, place, levels, k, trail, mode) {
         return false;
     }
     leave_at(&*query, &*place, levels, k);
@@ -163,6 +163,31 @@ fn ended(query: &Query<'_>, levels: &[Level], k: usize, trail: &Trail, mode: Mod
     }
 }
 
+// Whether the entry of node k may stand there, as that of a table does after which one looks.
+fn stands(
+    query: &Query<'_>,
+    place: &Place<'_>,
+    levels: &[Level],
+    k: usize,
+    trail: &Trail,
+    mode: Mode,
+) -> bool
+    requires within { k < length levels.now }
+    requires node { IsAtNode query.now k levels.now }
+    requires place { IsAt query.now (take k levels.now) place.now }
+    requires standing { IsStanding mode (table_of query.now.table.now (drop k levels.now))
+        (items_from query.now k levels.now (subst_of query.now trail.now)) }
+    ensures { result ≡ allows query.now.sig.now (place_after query.now (take k levels.now))
+        (entry_at query.now.table.now levels.now k) }
+{
+    // That of which table it is, is said over the trail.
+    let _ = trail;
+    match mode {
+        Mode::After => true,
+        _ => may_stand(query, place, levels, k),
+    }
+}
+
 // Looks for what is wanted at a child that takes the next term, node k.
 #[cycle(search)]
 fn visit_next<'a>(
@@ -191,13 +216,14 @@ fn visit_next<'a>(
             if !pass_at(&*query, &*place, levels, k, trail) {
                 return false;
             }
-            if leads_nowhere_at(query, place, levels, k, trail) {
+            if fails(query, trail) {
                 return false;
             }
-            descend(query, place, levels, k, trail, Mode::First)
+            let rest = rest_frame(query, place, levels, k);
+            search_within(query, rest, place.outer, levels, k + 1, trail, Mode::First)
         }
         _ => {
-            if !may_stand(query, place, levels, k) {
+            if !stands(query, place, levels, k, trail, mode) {
                 return false;
             }
             follow(query, place, levels, k, trail, mode)
@@ -244,10 +270,14 @@ fn visit<'a>(
         }
         Mode::After => {
             let mark = trail.mark();
+            let last = takes_all_at(query, place, &*levels, k);
             if follow(query, place, levels, k, trail, mode) {
                 return true;
             }
             trail.undo(mark);
+            if last {
+                return false;
+            }
             prepare_at(&*query, &*place, levels, k, trail);
             let found = next_at(&*query, &*place, levels, k);
             try_each(query, place, levels, k, trail, found)
@@ -289,6 +319,50 @@ fn search<'a>(
             visit(query, &place, levels, k, trail, mode)
         }
     }
+}
+
+// The same, where the innermost frame is given: mostly its next child takes the next term.
+#[cycle(search)]
+fn search_within<'a>(
+    query: &Query<'_>,
+    frame: Frame<'a>,
+    outer: &'a Stack<'a>,
+    levels: &mut [Level],
+    k: usize,
+    trail: &mut Trail,
+    mode: Mode,
+) -> bool
+    requires within { k ≤ length levels.old }
+    requires node { IsAtNode query.now k levels.old }
+    requires stands { walk.settle (frame_of query.now (take k levels.old) frame
+        ∷ stack_frames query.now (take k levels.old) outer.now) ≡ place_after query.now (take k levels.old) }
+    requires below { LeftBelow k frame.left × IsBelow k outer.now }
+    requires trail { HasTrail query.now k levels.old trail.old }
+    requires standing { IsStanding mode (table_of query.now.table.now (drop k levels.old))
+        (items_from query.now k levels.old (subst_of query.now trail.old)) }
+    requires complete { AreComplete query.now (items_from query.now k levels.old (subst_of query.now trail.old)) }
+    ensures found { let is = wanted query.now mode (table_of query.now.table.now (drop k levels.old))
+        (items_from query.now k levels.old (subst_of query.now trail.old)) in
+        IsFound query.now result is (drop k levels.new) trail.new }
+    ensures kept { Keeps query.now k levels.old levels.new trail.old trail.new }
+{
+    if k < levels.len() {
+        if let [child, later @ ..] = frame.children {
+            if takes_the_next(query.sig, frame.under, child) {
+                let place = Place {
+                    child,
+                    under: frame.under,
+                    later,
+                    left: frame.left,
+                    owes: frame.owes,
+                    outer,
+                };
+                return visit_next(query, &place, levels, k, trail, mode);
+            }
+        }
+    }
+    let stack = Stack::Within(frame, outer);
+    search(query, &stack, levels, k, trail, mode)
 }
 
 /// Looks for a table of the items from the query's start on, over the trail: for the first one, for the first one after

@@ -115,7 +115,7 @@ pub(crate) fn first_place(table: &Table, group: &Group, list: &[Rank]) -> usize
     place_between(table, group, false, list, 0, list.len())
 }
 
-// How many terms of a group are looked at before all that come behind its first one.
+// How many terms of a group are looked at, one after the other, before all that come behind.
 const NEAR: usize = 4;
 
 // The first place in an ascending list at which the term comes behind the group, which begins at the given one.
@@ -133,8 +133,12 @@ pub(crate) fn place_behind(table: &Table, group: &Group, list: &[Rank], first: u
     ensures behind { AllWithin (λ r. precedes table.now group.now true (term_at table.now r) ≡ false) list.now result
         (length list.now) }
 {
-    if NEAR < list.len() - first && !is_before(table, group, true, list[first + NEAR]) {
-        return place_between(table, group, true, list, first, first + NEAR);
+    let mut end = first;
+    while end < list.len() && end - first < NEAR {
+        if !is_before(table, group, true, list[end]) {
+            return end;
+        }
+        end += 1;
     }
-    place_between(table, group, true, list, first, list.len())
+    place_between(table, group, true, list, end, list.len())
 }

@@ -23,8 +23,9 @@ ghost use Rattle.mp_search.specs.Wanted.{good, AreComplete};
 use crate::end::end_of;
 use crate::judge::fails;
 use crate::level::Level;
+use crate::mode::Mode;
 use crate::query::Query;
-use crate::rivals::{has_rival, is_first, mark_rivals};
+use crate::rivals::{come_soon, has_rival, is_first, mark_rivals};
 use crate::site::Site;
 use crate::supply::are_lacking;
 use mp_pattern::{Pattern, is_comm_above};
@@ -91,6 +92,9 @@ fn lacks_terms(query: &Query<'_>, site: &Site<'_>, own: &Level, trail: &Trail) -
         (machine.onward (site_place query.now site.now fs) (entry_of query.now.table.now own.now))
         (subst_of query.now trail.now) ≡ [] }
 {
+    if come_soon(query, site.child, site.later) {
+        return false;
+    }
     are_short(query, site, own.take.as_slice(), trail)
 }
 
@@ -110,8 +114,9 @@ pub(crate) fn lacks_terms_before(query: &Query<'_>, site: &Site<'_>, trail: &Tra
     are_short(query, site, &[], trail)
 }
 
-// Whether anything is looked at behind an entry of the child of that number: a condition, or later children.
-pub(crate) fn looks_behind(
+// Whether anything is looked at behind an entry of the child of that number: a condition, or later children, unless
+// they come soon.
+fn has_look(
     query: &Query<'_>,
     under: Option<OpId>,
     child: &Pattern,
@@ -119,7 +124,24 @@ pub(crate) fn looks_behind(
     later: &[Pattern],
 ) -> bool {
     query.condition.is_some()
-        || is_comm_above(query.sig, under) && has_rival(query, child, node, later)
+        || is_comm_above(query.sig, under)
+            && has_rival(query, child, node, later)
+            && !come_soon(query, child, later)
+}
+
+// The same of an entry that is tried: behind those of a table at hand there is one way, which is gone at once.
+pub(crate) fn looks_behind(
+    query: &Query<'_>,
+    under: Option<OpId>,
+    child: &Pattern,
+    node: u32,
+    later: &[Pattern],
+    mode: Mode,
+) -> bool {
+    match mode {
+        Mode::First => has_look(query, under, child, node, later),
+        _ => false,
+    }
 }
 
 // Whether it is seen that nothing is found behind the entry at hand, once it is bound: the condition fails, or what is

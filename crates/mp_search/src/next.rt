@@ -1,5 +1,5 @@
 //! Children that take the next term.
-ghost use Rattle.std.specs.Prelude.{◌≡◌, ◌<◌, ◌≤◌, ◌+◌, [], ◌∷◌, true, length, IsTrue, MatchBool};
+ghost use Rattle.std.specs.Prelude.{◌≡◌, ◌<◌, ◌≤◌, ◌+◌, [], ◌∷◌, true, take, length, IsTrue, MatchBool};
 ghost use Rattle.std.specs.List.{AllByRecursion};
 ghost use Rattle.mp_term.specs.Pieces.{without};
 ghost use Rattle.mp_pattern.specs.Fits.{Entry};
@@ -27,13 +27,14 @@ use mp_subst::Trail;
 use mp_term::{OpId, Signature};
 use std::slice;
 
-// Whether the child is a wildcard that takes the next term alone, whatever its variable's value.
+// Whether the child is a symbol, or a wildcard that takes the next term alone, whatever its variable's value.
 pub(crate) fn takes_the_next(sig: &Signature, under: Option<OpId>, child: &Pattern) -> bool
     ensures { IsTrue result → TakesNext sig.now (above under) (pattern_tree child.now) }
 {
     match child {
         Pattern::Wild(Shape::Dot, _) => !is_comm_above(sig, under) && !is_assoc_above(sig, under),
         Pattern::Wild(Shape::Kind(_), _) => !is_comm_above(sig, under),
+        Pattern::Sym(_) => !is_comm_above(sig, under),
         _ => false,
     }
 }
@@ -47,6 +48,8 @@ pub(crate) fn take_next(query: &Query<'_>, site: &Site<'_>, own: &mut Level) -> 
     requires next { TakesNext query.now.sig.now (above site.now.under) (pattern_tree site.now.child.now) }
     ensures choice { let es = machine.choices query.now.sig.now (site_place query.now site.now []) in
         MatchBool result (es ≡ entry_of query.now.table.now own.new ∷ []) (es ≡ []) }
+    ensures taken { IsTrue result
+        → (1 ≤ length site.now.left.now) × (own.new.take.items.items ≡ take 1 site.now.left.now) }
     ensures draws { draws_of own.new ≡ draws_of own.old }
     ensures rooms { rooms_of own.new ≡ rooms_of own.old }
     ensures over { IsOver query.now.table.now own.new }
@@ -88,6 +91,6 @@ pub(crate) fn pass(query: &Query<'_>, site: &Site<'_>, own: &mut Level, trail: &
     if !bind(query, site, &*own, trail) {
         return false;
     }
-    own.leave(site.left, false);
+    own.rest.refill(&site.left[1..]);
     true
 }

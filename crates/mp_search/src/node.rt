@@ -28,6 +28,7 @@ use crate::binding::bind;
 use crate::choice::is_choice;
 use crate::level::Level;
 use crate::look::{leads_nowhere, looks_behind};
+use crate::mode::Mode;
 use crate::own::{first_own, next_own, pass_own, prepare_own};
 use crate::query::Query;
 use crate::site::Site;
@@ -79,6 +80,25 @@ pub(crate) fn may_stand(query: &Query<'_>, place: &Place<'_>, levels: &[Level], 
     is_choice(query, &site, &levels[k])
 }
 
+// Whether the child of node k is a wildcard that takes all that is left, so that it has no entry above.
+pub(crate) fn takes_all_at(query: &Query<'_>, place: &Place<'_>, levels: &[Level], k: usize) -> bool
+    requires within { k < length levels.now }
+    requires node { IsAtNode query.now k levels.now }
+    requires place { IsAt query.now (take k levels.now) place.now }
+    requires allowed { allows query.now.sig.now (place_after query.now (take k levels.now))
+        (entry_at query.now.table.now levels.now k) ≡ true }
+    ensures { IsTrue result → above_entry (entry_at query.now.table.now levels.now k)
+        (machine.choices query.now.sig.now (place_after query.now (take k levels.now))) ≡ [] }
+{
+    match place.child {
+        Pattern::Wild(..) => {
+            let site = site_at(query, place, &levels[..k]);
+            levels[k].take.len() == site.left.len()
+        }
+        _ => false,
+    }
+}
+
 // Binds what the entry of node k says, and answers false where that clashes with the trail.
 pub(crate) fn bind_at(
     query: &Query<'_>,
@@ -118,6 +138,7 @@ pub(crate) fn leads_nowhere_at(
     levels: &[Level],
     k: usize,
     trail: &Trail,
+    mode: Mode,
 ) -> bool
     requires within { k < length levels.now }
     requires node { IsAtNode query.now k levels.now }
@@ -137,6 +158,7 @@ pub(crate) fn leads_nowhere_at(
         place.child,
         node_at(query, k),
         place.later,
+        mode,
     ) {
         return false;
     }

@@ -3,15 +3,18 @@ ghost use Rattle.std.specs.Prelude.{◌≡◌, ◌<◌, ◌≤◌, ◌+◌, ◌*
 ghost use Rattle.std.specs.Prelude.{true, IsTrue, IsFalse};
 ghost use Rattle.std.specs.List.Sorted.{IsSorted};
 ghost use Rattle.mp_term.specs.Pieces.{is_sublist};
-ghost use Rattle.mp_table.specs.Table.{rank_cmp, HasRank};
+ghost use Rattle.mp_pattern.specs.View.{pattern_tree};
+ghost use Rattle.mp_table.specs.Table.{rank_cmp, HasRank, term_at};
 ghost use Rattle.mp_table.specs.declared.rank.Rank.{Rank as plain_rank};
 ghost use Rattle.mp_subst.specs.Trail.{GoesWith};
-ghost use Rattle.mp_search.specs.Portion.{occurrences, is_at, MayTake, StandBetween};
+ghost use Rattle.mp_theory.specs.MayMatch.{may_match};
+ghost use Rattle.mp_search.specs.Frames.{above};
+ghost use Rattle.mp_search.specs.Portion.{occurrences, is_at, IsSecond, MayTake, StandBetween};
 ghost use Rattle.mp_search.specs.Query.{IsQuery};
 ghost use Rattle.mp_search.specs.Reading.{subst_of};
 ghost use Rattle.mp_search.specs.Site.{IsSite};
 
-use crate::candidates::{may_match_there, places_of, tells_more};
+use crate::candidates::{has_second, may_match_there, places_of, second_rank, tells_more};
 use crate::query::Query;
 use crate::room::Room;
 use crate::site::Site;
@@ -34,18 +37,37 @@ fn has_portion(list: &[Rank], place: usize, rank: Rank, count: usize) -> bool
     list[place + (count - 1)].0 == rank.0
 }
 
+// Whether the child may take the term of the rank alone, which stands where it may stand: false says that it can't.
+// Where the second argument is given that it must have, no more is looked at.
+fn fits(query: &Query<'_>, site: &Site<'_>, trail: &Trail, second: Option<Rank>, rank: Rank) -> bool
+    requires query { IsQuery query.now }
+    requires site { IsSite query.now site.now }
+    requires trail { GoesWith query.now.table.now trail.now }
+    requires second { IsSecond query.now site.now (subst_of query.now trail.now) second }
+    requires rank { HasRank query.now.table.now rank }
+    ensures { may_match query.now.sig.now (subst_of query.now trail.now) (above site.now.under)
+        (pattern_tree site.now.child.now) (term_at query.now.table.now rank) ≡ true → IsTrue result }
+{
+    match second {
+        Some(second) => has_second(query.table, rank, second),
+        None => may_match_there(query, trail, site.under, site.child, site.node, rank),
+    }
+}
+
 // Adds the rank, unless it is looked at and the child can't take its term alone. There is room for it.
 fn add_taken(
     query: &Query<'_>,
     site: &Site<'_>,
     trail: &Trail,
     looks: bool,
+    second: Option<Rank>,
     rank: Rank,
     room: &mut Room<Rank>,
 )
     requires query { IsQuery query.now }
     requires site { IsSite query.now site.now }
     requires trail { GoesWith query.now.table.now trail.now }
+    requires second { IsSecond query.now site.now (subst_of query.now trail.now) second }
     requires rank { HasRank query.now.table.now rank }
     requires room { length room.old.items.items < room.old.room }
     ensures items { (room.new.items.items ≡ room.old.items.items ++ rank ∷ [])
@@ -53,7 +75,7 @@ fn add_taken(
         × (MayTake query.now site.now (subst_of query.now trail.now) looks rank → ⊥)) }
     ensures room { room.new.room ≡ room.old.room }
 {
-    if looks && !may_match_there(query, trail, site.under, site.child, site.node, rank) {
+    if looks && !fits(query, site, trail, second, rank) {
         return;
     }
     room.push(rank);
@@ -103,12 +125,13 @@ pub(crate) fn fill_portion(
         room.refill(&list[first..end]);
         return;
     }
+    let second = second_rank(query, trail, site.child, site.node);
     room.clear();
     let mut place = first;
     while place < end {
         let rank = list[place];
         if has_portion(list, place, rank, count) {
-            add_taken(query, site, trail, looks, rank, room);
+            add_taken(query, site, trail, looks, second, rank, room);
             place += count;
         } else {
             place += 1;

@@ -325,6 +325,31 @@ pub(crate) fn has_rival(
     }
 }
 
+// Whether the child is a symbol, or an application within which there is no choice.
+fn is_at_once(query: &Query<'_>, child: &Pattern) -> bool {
+    match child {
+        Pattern::Wild(_, _) => false,
+        _ => goes_on_at_once(query, child),
+    }
+}
+
+// How many later children come soon, at most.
+const FEW: usize = 3;
+
+// Whether a search comes to each of the later children so soon that a look at them costs more than it may save: they
+// are few, and there is no choice within the child or any of them but for the last one.
+pub(crate) fn come_soon(query: &Query<'_>, child: &Pattern, later: &[Pattern]) -> bool {
+    if later.len() > FEW {
+        return false;
+    }
+    match later {
+        [] => true,
+        [others @ .., _] => {
+            goes_on_at_once(query, child) && others.iter().all(|other| is_at_once(query, other))
+        }
+    }
+}
+
 // Whether the child of that number isn't looked at, or finds a place among the terms that are left. If not, those are
 // marked that have the places that it may have.
 fn is_placed(

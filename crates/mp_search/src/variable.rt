@@ -1,8 +1,9 @@
 //! The numbers of variables in the trail.
-ghost use Rattle.std.specs.Prelude.{◌≡◌, Some, slice_get, option_map};
+ghost use Rattle.std.specs.Prelude.{◌≡◌, Some, None, slice_get, option_map, IsFalse};
 ghost use Rattle.mp_pattern.specs.View.{pattern_tree};
 ghost use Rattle.mp_pattern.specs.Subpatterns.{subpatterns};
 ghost use Rattle.mp_pattern.specs.PlanView.{shown_label};
+ghost use Rattle.mp_search.specs.declared.query.Query.{Query as plain_query};
 ghost use Rattle.mp_search.specs.Numbers.{IsNumberAt, number_in};
 ghost use Rattle.mp_search.specs.Query.{IsQuery};
 
@@ -19,13 +20,22 @@ fn number_in(node: &Option<PlanNode<'_>>) -> Option<u32>
     }
 }
 
+// Whether the child is a wildcard with a name.
+fn is_named(child: &Pattern) -> bool
+    ensures { IsFalse result → (q : plain_query) → IsNumberAt q (pattern_tree child.now) None }
+{
+    matches!(child, Pattern::Wild(_, Some(_)))
+}
+
 // The number in the trail of the variable of the node, if it has one.
 pub(crate) fn number_at(query: &Query<'_>, child: &Pattern, node: u32) -> Option<u32>
     requires query { IsQuery query.now }
     requires child { slice_get (subpatterns query.now.plan.now.pattern) node ≡ Some (pattern_tree child.now) }
     ensures { IsNumberAt query.now (pattern_tree child.now) result }
 {
-    let _ = child;
+    if !is_named(child) {
+        return None;
+    }
     match number_in(&query.plan.node(node)) {
         None => None,
         Some(number) => Some(query.vars[number as usize]),

@@ -3,9 +3,10 @@ use Rattle.std.proofs.Common.{◌∷◌, ◌++◌, refl, sym, ap, ◌∙◌, sub
 use Rattle.std.specs.Prelude.{Some}
 use Rattle.mp_pattern.specs.PatternTree.{app_pattern, patterns}
 use Rattle.mp_pattern.specs.View.{pattern_tree}
+use Rattle.mp_theory.specs.Frames as walk
 use Rattle.mp_theory.specs.Machine as machine
 use Rattle.mp_search.specs.At.{HasTrail, IsDrawn, drawn_at, items_from, items_with}
-use Rattle.mp_search.specs.Frames.{stack_frames, frame_of, inner_of, left_of}
+use Rattle.mp_search.specs.Frames.{above, stack_frames, frame_of, inner_of, left_of, place_after, LeftBelow, IsBelow}
 use Rattle.mp_search.specs.Reading.{table_of, entry_at, subst_of}
 use Rattle.mp_search.specs.Wanted.{wanted, good, IsStanding, AreComplete}
 use Rattle.mp_search.specs.declared.mode.Mode.TheVariants.{First}
@@ -13,7 +14,9 @@ use Rattle.mp_term.specs.Order.{tree_cmp}
 use Rattle.mp_term.specs.Pieces.{without}
 use Rattle.mp_search.proofs.FramesLaws.{settle-more, rest-behind, outer-below, entered-plain, frame-front}
 use Rattle.mp_search.proofs.FollowLaws as follows
-use Rattle.mp_search.proofs.LevelsLaws.{draws-kept}
+use Rattle.mp_search.proofs.JudgeLaws.{none-good}
+use Rattle.mp_search.proofs.LevelsLaws.{draws-kept, length-take_within}
+use Rattle.mp_search.proofs.PartLaws.{first-pattern}
 use Rattle.mp_search.proofs.OnwardLaws.{node-kept, at-kept, trail-kept, cut-back, levels-after}
 use Rattle.mp_search.specs.Tried.{to_try}
 use Rattle.mp_subst.specs.Trail.{length_at}
@@ -24,8 +27,8 @@ use Rattle.mp_search.proofs.NextLaws as nexts
 use Rattle.mp_search.proofs.VisitLaws as visits
 use Rattle.mp_search.proofs.descent.+search.Goals as goal
 
-pub descend-search-requires : goal.descend-search-requires
-descend-search-requires t c =
+pub descend-search_within-requires : goal.descend-search_within-requires
+descend-search_within-requires t c =
     let q = c.args.query.now in
     let k = c.args.k in
     let L = c.args.levels.now in
@@ -36,10 +39,10 @@ descend-search-requires t c =
     let taken = machine.taken_out (pattern_tree p.child.now) e (inner_of q (take k L) p) in
     let outer = stack_frames q (take k L) p.outer.now in
     let rest = frame_of q (take (k + 1) L) c.rest_frame.result ∷ stack_frames q (take (k + 1) L) p.outer.now in
-    let frames : frame_of q (take (k + 1) L) c.inner_frame.result ∷ rest
+    let frames : frame_of q (take (k + 1) L) c.inner_frame-inner.result ∷ rest
     ≡ machine.entered (pattern_tree p.child.now) e (taken ∷ outer) =
-    ap (λ f. f ∷ rest) (frame-front q (k + 1) L c.inner_frame.result c.inner_frame.ensures.below)
-    ∙ ap (λ l. l ++ rest) c.inner_frame.ensures.frame
+    ap (λ f. f ∷ rest) (frame-front q (k + 1) L c.inner_frame-inner.result c.inner_frame-inner.ensures.below)
+    ∙ ap (λ l. l ++ rest) c.inner_frame-inner.ensures.frame
     ∙ ap (λ ps. machine.entered (app_pattern c.in-App.op.0 (patterns ps)) e rest) c.as_slice.ensures
     ∙ ap (λ z. machine.entered (pattern_tree z) e rest) (sym c.in-App.is)
     ∙ ap (machine.entered (pattern_tree p.child.now) e)
@@ -51,9 +54,9 @@ descend-search-requires t c =
           c.requires.node,
           (
             settle-more q k L p
-                (frame_of q (take (k + 1) L) c.inner_frame.result ∷ rest) within at frames,
+                (frame_of q (take (k + 1) L) c.inner_frame-inner.result ∷ rest) within at frames,
             (
-              (c.inner_frame.ensures.below, (c.rest_frame.ensures.below, outer-below q k L p within at)),
+              (c.inner_frame-inner.ensures.below, (c.rest_frame.ensures.below, outer-below q k L p within at)),
               (c.requires.trail, (c.requires.standing, c.requires.complete)),
             ),
           ),
@@ -61,8 +64,8 @@ descend-search-requires t c =
       ),
     )
 
-pub descend-search-requires-in_default : goal.descend-search-requires-in_default
-descend-search-requires-in_default t c =
+pub descend-search-requires : goal.descend-search-requires
+descend-search-requires t c =
     let q = c.args.query.now in
     let k = c.args.k in
     let L = c.args.levels.now in
@@ -334,26 +337,9 @@ visit_next-returns-then-not-pass_at-clause-kept t c =
     r.next c.pass_at.new.levels c.pass_at.new.trail a.levels a.kept a.only a.trail a.spare
     c.if-not-pass_at.ensures.passed
 
-pub visit_next-leads_nowhere_at-requires-clause-node : goal.visit_next-leads_nowhere_at-requires-clause-node
-visit_next-leads_nowhere_at-requires-clause-node t c =
-    node-kept c.args.query.now c.args.k c.args.levels.now c.pass_at.new.levels c.requires.node c.pass_at.ensures.levels
-
-pub visit_next-leads_nowhere_at-requires-clause-place : goal.visit_next-leads_nowhere_at-requires-clause-place
-visit_next-leads_nowhere_at-requires-clause-place t c =
-    at-kept c.args.query.now c.args.k c.args.levels.now c.pass_at.new.levels c.args.place.now c.requires.place
-    c.pass_at.ensures.levels.front
-
-pub visit_next-leads_nowhere_at-requires-clause-allowed : goal.visit_next-leads_nowhere_at-requires-clause-allowed
-visit_next-leads_nowhere_at-requires-clause-allowed t c =
-    let r = c.requires in
-    let a = c.pass_at.ensures in
-    nexts.new-allowed c.args.query.now c.args.k c.args.levels.now c.args.place.now c.args.trail.now r.within r.place
-    r.next c.pass_at.new.levels c.pass_at.new.trail a.levels a.kept a.only a.trail a.spare r.node r.trail
-    c.if-not-pass_at.ensures.passed
-
-pub visit_next-returns-then-leads_nowhere_at-clause-found
-    : goal.visit_next-returns-then-leads_nowhere_at-clause-found
-visit_next-returns-then-leads_nowhere_at-clause-found t c =
+pub visit_next-returns-then-fails-clause-found
+    : goal.visit_next-returns-then-fails-clause-found
+visit_next-returns-then-fails-clause-found t c =
     let q = c.args.query.now in
     let k = c.args.k in
     let L = c.args.levels.now in
@@ -374,18 +360,20 @@ visit_next-returns-then-leads_nowhere_at-clause-found t c =
     sym (nexts.first-wanted q k L s r.within (entry_at q.table.now N k) c.args.mode (table_of q.table.now (drop k N))
     (table_of q.table.now (drop k L)) (items_with q k N s (entry_at q.table.now N k)) c.in-First.is is)
     ∙ follows.nowhere q k N First s (subst_of q U) within bound
-    (c.if-leads_nowhere_at.ensures refl (length N - suc k)) (subst (AreComplete q) is r.complete)
+    (none-good q (length N - suc k)
+    (machine.onward (place_after q (take k N)) (entry_at q.table.now N k)) (subst_of q U)
+    (c.fails.ensures c.if-fails.true)) (subst (AreComplete q) is r.complete)
 
-pub visit_next-returns-then-leads_nowhere_at-clause-kept : goal.visit_next-returns-then-leads_nowhere_at-clause-kept
-visit_next-returns-then-leads_nowhere_at-clause-kept t c =
+pub visit_next-returns-then-fails-clause-kept : goal.visit_next-returns-then-fails-clause-kept
+visit_next-returns-then-fails-clause-kept t c =
     let r = c.requires in
     let a = c.pass_at.ensures in
     nexts.passed-keeps c.args.query.now c.args.k c.args.levels.now c.args.place.now c.args.trail.now r.within r.place
     r.next c.pass_at.new.levels c.pass_at.new.trail a.levels a.kept a.only a.trail a.spare
     c.if-not-pass_at.ensures.passed
 
-pub visit_next-descend-requires : goal.visit_next-descend-requires
-visit_next-descend-requires t c =
+pub visit_next-search_within-requires : goal.visit_next-search_within-requires
+visit_next-search_within-requires t c =
     let q = c.args.query.now in
     let k = c.args.k in
     let L = c.args.levels.now in
@@ -407,18 +395,25 @@ visit_next-descend-requires t c =
     let within : k < length N = omega (arith, a.levels.many, r.within) in
     let ready = follows.ready q k N First (subst_of q T) N U within (node-kept q k L N r.node a.levels) allowed
     (record { front = refl; many = refl; levels = a.levels.levels }) refl trail bound tt
-    (subst (AreComplete q) is r.complete) in (
+    (subst (AreComplete q) is r.complete) in
+    let at = at-kept q k L N p r.place a.levels.front in
+    let e = entry_at q.table.now N k in
+    let taken = machine.taken_out (pattern_tree p.child.now) e (inner_of q (take k N) p) in
+    let outer = stack_frames q (take k N) p.outer.now in
+    let rest = frame_of q (take (k + 1) N) c.rest_frame-rest.result ∷ stack_frames q (take (k + 1) N) p.outer.now in
+    let frames : rest ≡ machine.entered (pattern_tree p.child.now) e (taken ∷ outer) =
+    rest-behind q k N p c.rest_frame-rest.result taken within at c.rest_frame-rest.ensures.frame
+    c.rest_frame-rest.ensures.below
+    ∙ sym (nexts.entered-leaf (pattern_tree p.child.now) e (taken ∷ outer) r.next.leaf) in (
       omega (arith, c.decreases, a.levels.many, r.within),
       (
-        within,
+        omega (arith, within),
         (
           ready.node,
           (
-            at-kept q k L N p r.place a.levels.front,
+            settle-more q k N p rest within at frames,
             (
-              c.if-not-pass_at.ensures.rest refl
-                  ∙ ap (λ ls. without tree_cmp (entry_at q.table.now N k).terms (left_of q ls p.left))
-                  (sym a.levels.front),
+              (c.rest_frame-rest.ensures.below, outer-below q k N p within at),
               (ready.trail, (ready.standing, ready.complete)),
             ),
           ),
@@ -426,9 +421,18 @@ visit_next-descend-requires t c =
       ),
     )
 
-pub visit_next-returns-else-leads_nowhere_at-clause-found
-    : goal.visit_next-returns-else-leads_nowhere_at-clause-found
-visit_next-returns-else-leads_nowhere_at-clause-found t c =
+pub visit_next-rest_frame-rest-requires-clause-rest : goal.visit_next-rest_frame-rest-requires-clause-rest
+visit_next-rest_frame-rest-requires-clause-rest t c =
+    let q = c.args.query.now in
+    let k = c.args.k in
+    let N = c.pass_at.new.levels in
+    c.if-not-pass_at.ensures.rest refl
+    ∙ ap (λ ls. without tree_cmp (entry_at q.table.now N k).terms (left_of q ls c.args.place.now.left))
+    (sym c.pass_at.ensures.levels.front)
+
+pub visit_next-returns-else-fails-clause-found
+    : goal.visit_next-returns-else-fails-clause-found
+visit_next-returns-else-fails-clause-found t c =
     let q = c.args.query.now in
     let k = c.args.k in
     let L = c.args.levels.now in
@@ -445,15 +449,16 @@ visit_next-returns-else-leads_nowhere_at-clause-found t c =
     let bound = nexts.new-bound q k L p T r.within r.place r.next N U a.levels a.kept a.only a.trail a.spare r.node
     r.trail b in
     let within : k < length N = omega (arith, a.levels.many, r.within) in
-    follows.told-same c.descend.result _ _ _ _
+    follows.told-same c.search_within.result _ _ _ _
     (nexts.first-wanted q k L s r.within (entry_at q.table.now N k) c.args.mode (table_of q.table.now (drop k N))
     (table_of q.table.now (drop k L)) (items_with q k N s (entry_at q.table.now N k)) c.in-First.is is) refl
-    (follows.found q k First N N c.descend.new.levels c.descend.result s (subst_of q U)
-    (subst_of q c.descend.new.trail) within refl c.descend.ensures.kept.many refl refl c.descend.ensures.kept.front
-    bound c.descend.ensures.found)
+    (follows.found q k First N N c.search_within.new.levels c.search_within.result s (subst_of q U)
+    (subst_of q c.search_within.new.trail) within refl c.search_within.ensures.kept.many refl refl
+    c.search_within.ensures.kept.front
+    bound c.search_within.ensures.found)
 
-pub visit_next-returns-else-leads_nowhere_at-clause-kept : goal.visit_next-returns-else-leads_nowhere_at-clause-kept
-visit_next-returns-else-leads_nowhere_at-clause-kept t c =
+pub visit_next-returns-else-fails-clause-kept : goal.visit_next-returns-else-fails-clause-kept
+visit_next-returns-else-fails-clause-kept t c =
     let q = c.args.query.now in
     let k = c.args.k in
     let L = c.args.levels.now in
@@ -465,19 +470,19 @@ visit_next-returns-else-leads_nowhere_at-clause-kept t c =
     let spare = nexts.new-spare q k L c.args.place.now T r.within r.place r.next N U a.levels a.kept a.only a.trail
     a.spare r.node r.trail c.if-not-pass_at.ensures.passed in
     let within : k < length N = omega (arith, a.levels.many, r.within) in
-    follows.kept-after q k L N c.descend.new.levels T T c.descend.new.trail a.levels refl
-    (follows.kept q k N N c.descend.new.levels T U c.descend.new.trail within
+    follows.kept-after q k L N c.search_within.new.levels T T c.search_within.new.trail a.levels refl
+    (follows.kept q k N N c.search_within.new.levels T U c.search_within.new.trail within
     (record { front = refl; many = refl; levels = a.levels.levels }) refl a.kept spare a.only
-    c.descend.ensures.kept)
+    c.search_within.ensures.kept)
 
-pub visit_next-returns-then-not-may_stand-clause-found : goal.visit_next-returns-then-not-may_stand-clause-found
-visit_next-returns-then-not-may_stand-clause-found t c =
+pub visit_next-returns-then-not-stands-clause-found : goal.visit_next-returns-then-not-stands-clause-found
+visit_next-returns-then-not-stands-clause-found t c =
     let q = c.args.query.now in
     nexts.other-wanted q c.args.k c.args.levels.now (subst_of q c.args.trail.now) c.requires.within c.args.mode
-    c.in_default.not-First c.requires.standing (sym c.if-not-may_stand.ensures)
+    c.in_default.not-First c.requires.standing (sym c.if-not-stands.ensures)
 
-pub visit_next-returns-then-not-may_stand-clause-kept : goal.visit_next-returns-then-not-may_stand-clause-kept
-visit_next-returns-then-not-may_stand-clause-kept t c =
+pub visit_next-returns-then-not-stands-clause-kept : goal.visit_next-returns-then-not-stands-clause-kept
+visit_next-returns-then-not-stands-clause-kept t c =
     follows.kept-levels c.args.query.now c.args.k c.args.levels.now c.args.levels.now c.args.trail.now c.args.trail.now
     (record { front = refl; many = refl; levels = c.requires.node.levels }) refl c.requires.trail.trail
 
@@ -488,7 +493,7 @@ visit_next-follow-requires t c =
     let L = c.args.levels.now in
     let s = subst_of q c.args.trail.now in
     let r = c.requires in
-    let allowed = sym c.if-not-may_stand.ensures in
+    let allowed = sym c.if-not-stands.ensures in
     let is = nexts.only-items q k L s r.within (entry_at q.table.now L k)
     (nexts.place-choice q (take k L) c.args.place.now (entry_at q.table.now L k) r.place r.next allowed) in (
       omega (arith, c.decreases, r.within),
@@ -513,8 +518,8 @@ visit_next-follow-requires t c =
       ),
     )
 
-pub visit_next-returns-else-not-may_stand-clause-found : goal.visit_next-returns-else-not-may_stand-clause-found
-visit_next-returns-else-not-may_stand-clause-found t c =
+pub visit_next-returns-else-not-stands-clause-found : goal.visit_next-returns-else-not-stands-clause-found
+visit_next-returns-else-not-stands-clause-found t c =
     let q = c.args.query.now in
     let k = c.args.k in
     let L = c.args.levels.now in
@@ -523,7 +528,7 @@ visit_next-returns-else-not-may_stand-clause-found t c =
     (ap (wanted q c.args.mode (table_of q.table.now (drop k L)))
     (sym (nexts.only-items q k L (subst_of q c.args.trail.now) c.requires.within e
     (nexts.place-choice q (take k L) c.args.place.now e c.requires.place c.requires.next
-    (sym c.if-not-may_stand.ensures))))) refl c.follow.ensures.found
+    (sym c.if-not-stands.ensures))))) refl c.follow.ensures.found
 
 pub visit-visit_next-requires : goal.visit-visit_next-requires
 visit-visit_next-requires t c =
@@ -682,6 +687,32 @@ visit-returns-then-follow-clause-found t c =
     b.allowed
     c.if-follow.ensures.found
 
+pub visit-takes_all_at-last-requires-clause-allowed : goal.visit-takes_all_at-last-requires-clause-allowed
+visit-takes_all_at-last-requires-clause-allowed t c =
+    let q = c.args.query.now in
+    (visits.begins q c.args.k c.args.levels.now (subst_of q c.args.trail.now) c.requires.within c.args.mode
+    c.in-After.is c.requires.standing).allowed
+
+pub visit-returns-then-last-clause-found : goal.visit-returns-then-last-clause-found
+visit-returns-then-last-clause-found t c =
+    let q = c.args.query.now in
+    let k = c.args.k in
+    let L = c.args.levels.now in
+    let s = subst_of q c.args.trail.now in
+    let r = c.requires in
+    let b = visits.begins q k L s r.within c.args.mode c.in-After.is r.standing in
+    visits.after-last q k L s r.within c.args.mode c.in-After.is b.allowed c.if-follow.ensures.found
+    (c.takes_all_at-last.ensures c.if-last.true)
+
+pub visit-returns-then-last-clause-kept : goal.visit-returns-then-last-clause-kept
+visit-returns-then-last-clause-kept t c =
+    let T = c.args.trail.now in
+    let f = c.follow-in-After.ensures in
+    let undone = cut-back T c.follow-in-After.new.trail c.undo.new.self (length_at c.mark-mark.result)
+    c.mark-mark.ensures f.kept.cut c.undo.ensures.trail in
+    follows.kept-levels c.args.query.now c.args.k c.args.levels.now c.follow-in-After.new.levels T c.undo.new.self
+    (record { front = f.kept.front; many = f.kept.many; levels = f.kept.levels }) undone c.requires.trail.trail
+
 pub visit-next_at-found-requires-clause-drawn : goal.visit-next_at-found-requires-clause-drawn
 visit-next_at-found-requires-clause-drawn t c =
     let q = c.args.query.now in
@@ -743,8 +774,8 @@ visit-try_each-requires-in-After t c =
       ),
     )
 
-pub visit-returns-else-follow-clause-found : goal.visit-returns-else-follow-clause-found
-visit-returns-else-follow-clause-found t c =
+pub visit-returns-else-last-clause-found : goal.visit-returns-else-last-clause-found
+visit-returns-else-last-clause-found t c =
     let q = c.args.query.now in
     let k = c.args.k in
     let p = c.args.place.now in
@@ -778,3 +809,46 @@ visit-returns-else-follow-clause-found t c =
     (subst (λ u. IsDrawn q p L2 k (subst_of q u)) undone a.drawn) f.kept.front f.kept.many f.own a.kept a.entry x.kept
     x.draws x.choice)
     refl c.try_each-in-After.ensures.found
+
+pub search_within-visit_next-requires : goal.search_within-visit_next-requires
+search_within-visit_next-requires t c =
+    let q = c.args.query.now in
+    let k = c.args.k in
+    let B = take k c.args.levels.now in
+    let f = c.args.frame in
+    let r = c.requires in
+    let fs = stack_frames q B c.args.outer.now in
+    let first = first-pattern f.children.now c.child-item.result c.in-len1-up.len_at_least c.child-item.is in
+    let stands = ap
+    (λ ps. walk.settle (record {
+      under = above f.under;
+      children = ps;
+      left = left_of q B f.left;
+      owes = f.owes;
+    } ∷ fs)) (sym first) ∙ r.stands in (
+      omega (arith, c.decreases, c.if-k-levels.true),
+      (
+        omega (arith, c.if-k-levels.true),
+        (
+          r.node,
+          (
+            record {
+              stands = stands;
+              within = subst (λ i. LeftBelow i f.left × IsBelow i c.args.outer.now)
+                  (sym (length-take_within k c.args.levels.now r.within)) r.below;
+            },
+            (
+              c.takes_the_next.ensures c.if-takes_the_next.true,
+              (r.trail, (r.standing, r.complete)),
+            ),
+          ),
+        ),
+      ),
+    )
+
+pub search_within-search-requires : goal.search_within-search-requires
+search_within-search-requires t c =
+    let r = c.requires in (
+      omega (arith, c.decreases),
+      (r.within, (r.node, (r.stands, (r.below, (r.trail, (r.standing, r.complete)))))),
+    )

@@ -1,9 +1,9 @@
 use Rattle.std.proofs.Common.{◌+◌, ◌≤◌, ◌∙◌, ap, subst, length, sym, refl}
-use Rattle.mp_pattern.specs.View.{pattern_tree, wildcard}
+use Rattle.mp_pattern.specs.View.{pattern_tree}
 use Rattle.mp_search.specs.Reading.{subst_of}
 use Rattle.mp_subst.proofs.TrailLaws.{cut-whole}
-use Rattle.mp_search.proofs.BindAtLaws.{wild-room, wild-trail, wild-spare, plain-trail, plain-bound}
-use Rattle.mp_search.proofs.BindAtLaws.{plain-spare, length-taken}
+use Rattle.mp_search.proofs.BindAtLaws.{IsChildless, childless-room, childless-trail, childless-spare}
+use Rattle.mp_search.proofs.BindAtLaws.{plain-trail, plain-bound, plain-spare, length-taken}
 use Rattle.mp_search.proofs.OnlyLaws.{only-same}
 use Rattle.mp_search.proofs.node.bind_at.Goals as goal
 
@@ -15,8 +15,8 @@ bind-requires-clause-spare c =
     let own = c.index-levels-k in
     let same = ap (λ l. length l.take.items.items) own.is in
     subst (λ n. n + 3 ≤ c.args.trail.now.spare) (sym (same ∙ length-taken q.table.now L k own.result c.requires.within))
-    (wild-room q k L c.args.place.now c.requires.within c.requires.place c.requires.allowed (wildcard c.in-Wild.field-0)
-    c.in-Wild.field-1 c.args.trail.now (ap pattern_tree c.in-Wild.is) c.requires.trail)
+    (childless-room q k L c.args.place.now c.requires.within c.requires.place c.requires.allowed c.args.trail.now
+    (subst IsChildless (sym (ap pattern_tree c.in-Wild.is)) tt) c.requires.trail)
 
 pub returns-in-Wild-clause-trail : goal.returns-in-Wild-clause-trail
 returns-in-Wild-clause-trail c =
@@ -25,9 +25,8 @@ returns-in-Wild-clause-trail c =
     let k = c.args.k in
     let own = c.index-levels-k in
     let same = ap (λ l. length l.take.items.items) own.is in
-    wild-trail q k L c.args.place.now c.requires.within c.requires.place c.requires.allowed (wildcard c.in-Wild.field-0)
-    c.in-Wild.field-1 c.args.trail.now c.bind.new.trail
-    (ap pattern_tree c.in-Wild.is) c.requires.trail c.bind.ensures.kept
+    childless-trail q k L c.args.place.now c.requires.within c.requires.place c.requires.allowed c.args.trail.now
+    c.bind.new.trail (subst IsChildless (sym (ap pattern_tree c.in-Wild.is)) tt) c.requires.trail c.bind.ensures.kept
     (subst (λ n. c.args.trail.now.spare ≤ c.bind.new.trail.spare + (n + 3))
     (same ∙ length-taken q.table.now L k own.result c.requires.within) c.bind.ensures.spare) c.bind.ensures.trail
 
@@ -38,8 +37,8 @@ returns-in-Wild-clause-spare c =
     let k = c.args.k in
     let own = c.index-levels-k in
     let same = ap (λ l. length l.take.items.items) own.is in
-    wild-spare q k L c.args.place.now c.requires.within c.requires.place c.requires.allowed
-    (wildcard c.in-Wild.field-0) c.in-Wild.field-1 c.args.trail.now c.bind.new.trail (ap pattern_tree c.in-Wild.is)
+    childless-spare q k L c.args.place.now c.requires.within c.requires.place c.requires.allowed c.args.trail.now
+    c.bind.new.trail (subst IsChildless (sym (ap pattern_tree c.in-Wild.is)) tt)
     (subst (λ n. c.args.trail.now.spare ≤ c.bind.new.trail.spare + (n + 3))
     (same ∙ length-taken q.table.now L k own.result c.requires.within) c.bind.ensures.spare)
 

@@ -131,3 +131,6 @@ returns-then-not-tells_more-clause-enough c = λ z m w k.
 
 pub tells_more-requires-clause-child : goal.tells_more-requires-clause-child
 tells_more-requires-clause-child c = site-child c.args.query.now c.args.site.now c.requires.site
+
+pub second_rank-second-requires-clause-child : goal.second_rank-second-requires-clause-child
+second_rank-second-requires-clause-child c = site-child c.args.query.now c.args.site.now c.requires.site
