@@ -10,6 +10,7 @@ use Rattle.mp_walk.specs.declared.level.Level.{Level}
 use Rattle.mp_walk.specs.Course.{Read, unread, read_to_come, reads_to_come, table_read, to_come_in}
 use Rattle.mp_walk.specs.Chained.{IsChained, IsOwed}
 use Rattle.mp_walk.specs.CourseView.{reads_of, course_of, course_to_come, AreChained, LeadsTo, IsCourse}
+use Rattle.mp_walk.specs.CourseView.{StandsBehind}
 use Rattle.mp_walk.specs.Instrs.{instr_at}
 use Rattle.mp_walk.specs.Levels.{read_of, state_of, trail_before, HasRoom, HasSearch, HasSearchIn, innermost_left}
 use Rattle.mp_walk.specs.Levels.{IsLevel, AreLevels}
@@ -215,3 +216,18 @@ module _ (c : Course) (C : IsCourse c) where
         (length_at l.mark)) (sym frames)
         (subst (AreLevels c.set C.setting.walkable.before c.frames.items c.trail c.levels.items (length c.frames.items))
         (sym mark) C.levels)
+
+    -- it stands behind the levels
+    pub new-standing : l.node ≡ c.node → l.frames ≡ length c.frames.items → l.next ≡ 0 → l.search ≡ None
+        → StandsBehind c.set c.frames.items c.trail c.levels.items l
+    new-standing node frames next search = record {
+      setting = C.setting;
+      frames = C.frames;
+      trail = C.trail;
+      levels = new-levels frames;
+      last = new-level node frames search;
+      places = omega (arith, frames);
+      marks = omega (arith, mark);
+      chained = new-chained;
+      owed = new-owed next search;
+    }

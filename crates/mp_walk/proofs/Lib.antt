@@ -43,3 +43,5 @@ pub mod ItemFits
 pub mod NamedLaws
 pub mod FoundLaws
 pub mod FoundRuns
+pub mod FirstLaws
+pub mod SpentLaws

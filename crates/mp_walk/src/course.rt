@@ -1,5 +1,5 @@
 //! The course of a walk: the tokens that it has read, and what is to be tried next.
-ghost use Rattle.std.specs.Prelude.{◌≡◌, ℕ, [], ◌∷◌, ⊤, IfOk, MatchOption, MatchBool, if◌then◌else◌};
+ghost use Rattle.std.specs.Prelude.{◌≡◌, ℕ, [], ◌∷◌, Some, IfOk, MatchOption, MatchBool, if◌then◌else◌};
 ghost use Rattle.std.specs.Prelude.{◌≤◌, ◌<◌, length};
 ghost use Rattle.std.specs.List.{AllByRecursion};
 ghost use Rattle.mp_term.specs.Size.{node_count};
@@ -26,9 +26,10 @@ use crate::level::Level;
 use crate::opening::opened;
 use crate::reading::read;
 use crate::setting::Setting;
+use crate::steps::{is_spent, way_from};
 use crate::token::nodes;
 use mp_ac::CommRoom;
-use mp_pattern::{MAX_PATTERN_NODES, MAX_VARIABLES};
+use mp_pattern::{MAX_PATTERN_NODES, MAX_VARIABLES, NetToken};
 use mp_subst::Trail;
 use mp_table::Rank;
 use mp_term::{MAX_TERM_NODES, Memory};
@@ -58,6 +59,9 @@ pub(crate) struct Course<'a> {
     pub(crate) target: Option<u32>,
 }
 
+// There is room for so many frames and tokens at first.
+const FEW: usize = 16;
+
 // The first instruction, where there is one.
 fn first_target(code: &Code) -> Option<u32>
     ensures { IsFirstTarget code.now.instrs result }
@@ -83,48 +87,21 @@ impl<'a> Course<'a> {
             MAX_VARIABLES as u32,
             nodes + 3 * (MAX_PATTERN_NODES + 1),
         )?;
-        let mut frames = Vec::new(alloc);
+        let mut frames = Vec::with_capacity(alloc, FEW)?;
         frames.push(Frame::root(root))?;
+        let levels = Vec::with_capacity(alloc, FEW)?;
         let target = first_target(set.code);
         Ok(Course {
             alloc,
             set,
             trail,
             frames,
-            levels: Vec::new(alloc),
+            levels,
             rooms: Vec::new(alloc),
             place: Some(0),
             node: 0,
             target,
         })
-    }
-
-    // The token whose next step is to be taken: that of the instruction to be tried, or the last one that was read.
-    fn last(&mut self) -> Option<Level<'a>>
-        requires { IsCourse self.old }
-        ensures to_come { MatchOption result (course_to_come self.old ≡ []) (λ l. course_to_come self.old
-            ≡ token_to_come self.new (read_of self.new.set.table.now self.new.frames.items self.new.trail l)) }
-        ensures standing { MatchOption result ⊤ (IsStanding self.new) }
-        ensures visits { MatchOption result ⊤ (λ l. course_visits self.old
-            ≡ token_visits self.new (read_of self.new.set.table.now self.new.frames.items self.new.trail l)) }
-        ensures rooms { self.new.rooms ≡ self.old.rooms }
-        ensures setting { self.new.set ≡ self.old.set }
-    {
-        match self.target {
-            None => match self.levels.pop() {
-                None => None,
-                Some(level) => Some(level),
-            },
-            Some(instr) => Some(Level {
-                instr,
-                node: self.node,
-                place: self.place,
-                frames: self.frames.len(),
-                mark: self.trail.mark(),
-                next: 0,
-                search: None,
-            }),
-        }
     }
 
     // An instruction that is read accepts here: it accepts something, and only the root is open, and done.
@@ -217,6 +194,92 @@ impl<'a> Course<'a> {
         Ok(Turn::On)
     }
 
+    // Reads the token of an instruction of which nothing is read yet, as one that is read on.
+    fn read_new(&mut self, number: u32) -> Result<Turn, Memory>
+        requires course { IsCourse self.old }
+        requires target { self.old.target ≡ Some number }
+        ensures turn { IfOk result (λ turn. IsBroughtOn (course_to_come self.old) turn self.new) }
+        ensures less { IfOk result (IsFewer (course_visits self.new) (course_visits self.old)) }
+        ensures setting { self.new.set ≡ self.old.set }
+    {
+        let level = Level {
+            instr: number,
+            node: self.node,
+            place: self.place,
+            frames: self.frames.len(),
+            mark: self.trail.mark(),
+            next: 0,
+            search: None,
+        };
+        self.read_on(level)
+    }
+
+    // Reads the token of an instruction of which nothing is read yet: nothing is set up for one that reads nothing.
+    fn read_first(&mut self, number: u32) -> Result<Turn, Memory>
+        requires course { IsCourse self.old }
+        requires target { self.old.target ≡ Some number }
+        ensures turn { IfOk result (λ turn. IsBroughtOn (course_to_come self.old) turn self.new) }
+        ensures less { IfOk result (IsFewer (course_visits self.new) (course_visits self.old)) }
+        ensures setting { self.new.set ≡ self.old.set }
+    {
+        let Setting { sig, code, table } = self.set;
+        let Some(instr) = code.instr(number) else {
+            unreachable!()
+        };
+        if let NetToken::Comm(_) = &instr.token {
+            return self.read_new(number);
+        }
+        let Some(place) = self.place else {
+            self.target = instr.over;
+            return Ok(Turn::On);
+        };
+        let mark = self.trail.mark();
+        let frame = self.frames[place];
+        let Some(way) = way_from(sig, table, &frame, &instr.token, 0, &mut self.trail) else {
+            self.target = instr.over;
+            return Ok(Turn::On);
+        };
+        let level = Level {
+            instr: number,
+            node: self.node,
+            place: self.place,
+            frames: self.frames.len(),
+            mark,
+            next: way + 1,
+            search: None,
+        };
+        self.go_down(level, instr)
+    }
+
+    // Reads on a token of which something is read.
+    fn read_again(&mut self, level: Level<'a>) -> Result<Turn, Memory>
+        requires standing { IsStanding self.old level }
+        requires rooms { AllByRecursion (IsOfTable self.old.set.table.now) self.old.rooms.items }
+        ensures turn { IfOk result (λ turn. IsBroughtOn (token_to_come self.old
+            (read_of self.old.set.table.now self.old.frames.items self.old.trail level.entry)) turn self.new) }
+        ensures less { IfOk result (IsFewer (course_visits self.new) (token_visits self.old
+            (read_of self.old.set.table.now self.old.frames.items self.old.trail level.entry))) }
+        ensures setting { self.new.set ≡ self.old.set }
+    {
+        let Setting { code, .. } = self.set;
+        let Some(instr) = code.instr(level.instr) else {
+            unreachable!()
+        };
+        if is_spent(
+            self.set,
+            &self.frames,
+            level.place,
+            &instr.token,
+            level.next,
+        ) {
+            self.frames.truncate(level.frames);
+            self.trail.undo(level.mark);
+            self.go_over(&level, instr);
+            return Ok(Turn::On);
+        }
+        self.read_on(level)
+    }
+
     // One turn: the next step of a token is taken, or the token is left behind.
     pub(crate) fn turn(&mut self) -> Result<Turn, Memory>
         requires { IsCourse self.old }
@@ -224,9 +287,12 @@ impl<'a> Course<'a> {
         ensures less { IfOk result (IsFewer (course_visits self.new) (course_visits self.old)) }
         ensures setting { self.new.set ≡ self.old.set }
     {
-        match self.last() {
-            None => Ok(Turn::Ended),
-            Some(level) => self.read_on(level),
+        match self.target {
+            Some(number) => self.read_first(number),
+            None => match self.levels.pop() {
+                None => Ok(Turn::Ended),
+                Some(level) => self.read_again(level),
+            },
         }
     }
 

@@ -1,7 +1,7 @@
 //! What a wildcard takes of the terms that are left: a front of them.
 ghost use Rattle.std.specs.Prelude.{◌≡◌, ◌≤◌, ◌<◌, ◌+◌, ◌&&◌, ℕ, List, [], ◌∷◌, length, Some, None, true, false};
 ghost use Rattle.std.specs.Prelude.{MatchBool, Option, ◌≢◌};
-ghost use Rattle.std.specs.Prelude.{IsSome, IfSome, ◌^◌, MatchOption, IsFalse, nat_lt, if◌then◌else◌};
+ghost use Rattle.std.specs.Prelude.{IsSome, IfSome, ◌^◌, MatchOption, IsTrue, IsFalse, nat_lt, if◌then◌else◌};
 ghost use Rattle.mp_term.specs.Signature.{Sig};
 ghost use Rattle.mp_term.specs.Tree.{Tree};
 ghost use Rattle.mp_term.specs.View.{tree};
@@ -10,7 +10,7 @@ ghost use Rattle.mp_pattern.specs.NetTokens.{wild_token, numbered};
 ghost use Rattle.mp_pattern.specs.NetTokenView.{net_token};
 ghost use Rattle.mp_pattern.specs.PatternTree.{wild_pattern, is_sequence};
 ghost use Rattle.mp_pattern.specs.Sound.{DefaultIsNormal};
-ghost use Rattle.mp_pattern.specs.Value.{one, one_form};
+ghost use Rattle.mp_pattern.specs.Value.{Subst, one, one_form};
 ghost use Rattle.mp_pattern.specs.Variables.{comm_above};
 ghost use Rattle.mp_table.specs.Table as plain_table;
 ghost use Rattle.mp_table.specs.Table.{HasRanks, terms_at, rank_of};
@@ -266,6 +266,25 @@ fn bounds(
         Some(length) => (length, length.min(room)),
         None => (least(token), most(sig, frame.under, token, room)),
     }
+}
+
+// The number is greater than that of any terms that the wildcard takes.
+pub(crate) fn is_behind(
+    sig: &Signature,
+    table: &Table,
+    frame: &Frame,
+    token: &NetToken,
+    from: usize,
+) -> bool
+    requires frame { IsFrame table.now frame.now }
+    requires wild { net_token token.now
+        ≡ wild_token (shape_of (net_token token.now)) (number_of (net_token token.now)) }
+    ensures wild { net_token token.now
+        ≡ wild_token (shape_of (net_token token.now)) (number_of (net_token token.now)) }
+    ensures none { IsTrue result → (fs : List Open) (s : Subst)
+        → HasNoWay sig.now (open_of table.now frame.now) fs s (net_token token.now) from }
+{
+    from > most(sig, frame.under, token, frame.left(table).len())
 }
 
 // Takes the first front of at least so many terms that the wildcard may take, and binds it: its length. None comes

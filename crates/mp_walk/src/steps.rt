@@ -13,7 +13,7 @@ ghost use Rattle.mp_pattern.specs.Variables.{comm_above};
 ghost use Rattle.mp_table.specs.Table.{HasRank, term_at};
 ghost use Rattle.mp_subst.specs.Trail.{length_at};
 ghost use Rattle.mp_walk.specs.Course.{entries_by, opens_by, IsWayValid, way_cost, is_comm_token};
-ghost use Rattle.mp_walk.specs.Course.{steps_left, IsStepTaken};
+ghost use Rattle.mp_walk.specs.Course.{Read, steps_left, IsStepTaken};
 ghost use Rattle.mp_walk.specs.Levels.{read_of, trail_before, AreOfOneToken};
 ghost use Rattle.mp_walk.specs.OpenOnes.{IsFrame, IsPlaceBelow, AreFrames, above, open_of, opens};
 ghost use Rattle.mp_walk.specs.SoundTokens.{IsSoundToken};
@@ -22,7 +22,7 @@ ghost use Rattle.mp_walk.specs.Trails.{numbered_subst, shape_of, IsTrailOf, Lies
 ghost use Rattle.mp_walk.specs.Ways.{HasNoWay, IsFirstWay, way_among, is_first_symbol};
 
 use crate::frame::Frame;
-use crate::front::take_front;
+use crate::front::{is_behind, take_front};
 use crate::level::Level;
 use crate::setting::Setting;
 use crate::token::is_headed;
@@ -109,7 +109,7 @@ fn begin_way(sig: &Signature, table: &Table, frame: &Frame, op: OpId, from: usiz
 
 // The first way from the number on in which the token reads on in the open operation, which is bound: the token isn't
 // that of a commutative application. None comes where there is none, and then nothing is bound.
-fn way_from(
+pub(crate) fn way_from(
     sig: &Signature,
     table: &Table,
     frame: &Frame,
@@ -158,6 +158,43 @@ fn way_from(
         NetToken::Enter(op) => begin_way(sig, table, frame, *op, from),
         NetToken::Comm(_) => None,
         _ => take_front(sig, table, frame, token, from, trail),
+    }
+}
+
+// No way of the token from the number on reads on in the open operation, as is told without the trail.
+fn has_no_way(sig: &Signature, table: &Table, frame: &Frame, token: &NetToken, from: usize) -> bool
+    requires frame { IsFrame table.now frame.now }
+    ensures none { IsTrue result → (fs : List Open) (s : Subst)
+        → HasNoWay sig.now (open_of table.now frame.now) fs s (net_token token.now) from }
+    ensures single { IsTrue result → is_comm_token (net_token token.now) ≡ false }
+{
+    match token {
+        NetToken::Sym(name) => from > 0 || !is_first_symbol(table, frame, name),
+        NetToken::Leave(_) => from > 0 || !frame.is_done(table),
+        NetToken::Enter(op) => begin_way(sig, table, frame, *op, from).is_none(),
+        NetToken::Comm(_) => false,
+        _ => is_behind(sig, table, frame, token, from),
+    }
+}
+
+// No step of the token from the way of the number on is left in the operations that are open at the place, as is told
+// without the trail.
+pub(crate) fn is_spent(
+    set: Setting<'_>,
+    frames: &[Frame],
+    place: Option<usize>,
+    token: &NetToken,
+    from: usize,
+) -> bool
+    requires frames { AreFrames set.sig.now set.table.now frames.now }
+    requires place { IsPlaceBelow (length frames.now) place }
+    ensures none { IsTrue result → (l : Read) → l.state.open_ones ≡ opens set.entry.table.now frames.now place
+        → l.next ≡ from → l.ahead ≡ [] → steps_left set.entry.sig.now (net_token token.now) l ≡ [] }
+    ensures single { IsTrue result → is_comm_token (net_token token.now) ≡ false }
+{
+    match place {
+        None => false,
+        Some(place) => has_no_way(set.sig, set.table, &frames[place], token, from),
     }
 }
 

@@ -46,7 +46,7 @@ returns-clause-course c =
     let w = c.requires.setting.walkable in
     let o = c.first_target-target.result in
     let frames : c.push.new.self.items ≡ root_frame r ∷ [] =
-    c.in_ok-push.ensures.items ∙ ap (λ xs. xs ++ c.root.result ∷ []) c.new-frames.ensures.items
+    c.in_ok-push.ensures.items ∙ ap (λ xs. xs ++ c.root.result ∷ []) c.in_ok-frames.ensures.items
     ∙ ap (λ f. f ∷ []) c.root.ensures in
     let count = c.nodes-nodes.ensures in
     record {
@@ -58,15 +58,15 @@ returns-clause-course c =
         vars = refl;
       });
       levels = subst (λ ls. AreLevels x w.before c.push.new.self.items c.in_ok-trail.trail ls
-          (length c.push.new.self.items) (length c.in_ok-trail.trail.stack)) (sym c.new-2.ensures.items) tt;
-      rooms = subst (AllByRecursion (IsOfTable t)) (sym c.new-3.ensures.items) tt;
+          (length c.push.new.self.items) (length c.in_ok-trail.trail.stack)) (sym c.in_ok-levels.ensures.items) tt;
+      rooms = subst (AllByRecursion (IsOfTable t)) (sym c.new-2.ensures.items) tt;
       there = begin-there x.code.now.instrs o c.first_target-target.ensures;
       node = begin-node x.sig.now x.code.now.instrs w o c.first_target-target.ensures;
       room = if-any _ o (subst (λ fs. HasRoom 0 (opens t fs (Some 0)) c.in_ok-trail.trail) (sym frames)
           (subst (HasRoom 0 (opens t (root_frame r ∷ []) (Some 0))) (sym c.in_ok-trail.ensures)
           (omega (arith, count))));
       chained = subst (λ ls. AreChained x w.before c.push.new.self.items c.in_ok-trail.trail ls (LeadsTo w.before o)
-          (state_of t c.push.new.self.items (Some 0) c.in_ok-trail.trail)) (sym c.new-2.ensures.items) (
+          (state_of t c.push.new.self.items (Some 0) c.in_ok-trail.trail)) (sym c.in_ok-levels.ensures.items) (
             alike-same (begin_state (subject_of t)) (state_of t c.push.new.self.items (Some 0) c.in_ok-trail.trail)
                 (sym (begin-state t r c.root-root.ensures.rank c.push.new.self.items c.in_ok-trail.trail frames
                 (ap (λ u. u.stack) c.in_ok-trail.ensures))),
@@ -85,11 +85,11 @@ returns-clause-to_come c =
     let u = c.in_ok-trail.trail in
     let fs = c.push.new.self.items in
     let frames : fs ≡ root_frame r ∷ [] =
-    c.in_ok-push.ensures.items ∙ ap (λ xs. xs ++ c.root.result ∷ []) c.new-frames.ensures.items
+    c.in_ok-push.ensures.items ∙ ap (λ xs. xs ++ c.root.result ∷ []) c.in_ok-frames.ensures.items
     ∙ ap (λ f. f ∷ []) c.root.ensures in
     let state = begin-state t r c.root-root.ensures.rank fs u frames (ap (λ v. v.stack) c.in_ok-trail.ensures) in
     ap (λ ls. walk_from sig code o (state_of t fs (Some 0) u) (table_read code (map (read_of t fs u) ls))
-    ++ reads_to_come sig code [] (map (read_of t fs u) ls)) c.new-2.ensures.items
+    ++ reads_to_come sig code [] (map (read_of t fs u) ls)) c.in_ok-levels.ensures.items
     ∙ append-nil (walk_from sig code o (state_of t fs (Some 0) u) [])
     ∙ ap (λ s. walk_from sig code o s []) state
     ∙ begin-walk sig code o c.first_target-target.ensures (begin_state (subject_of t))

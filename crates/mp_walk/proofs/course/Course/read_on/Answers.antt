@@ -1,28 +1,22 @@
-use Rattle.std.proofs.Common.{◌≡◌, ◌≤◌, ◌<◌, ◌+◌, ◌-◌, ℕ, List, [], ◌∷◌, length, map, take, ap}
+use Rattle.std.proofs.Common.{◌≡◌, ◌≤◌, ◌<◌, ◌+◌, ◌-◌, List, [], ◌∷◌, length, map, take, ap}
 use Rattle.std.proofs.Common.{sym, ◌∙◌, subst, arith}
-use Rattle.std.specs.Prelude.{option_map, Result, Ok, Err, IfOk, MatchBool, if◌then◌else◌}
-use Rattle.mp_term.specs.declared.memory.Memory.{Memory}
-use Rattle.mp_subst.specs.Trail.{Trail, length_at, cut}
+use Rattle.std.specs.Prelude.{option_map, MatchBool, if◌then◌else◌}
+use Rattle.mp_subst.specs.Trail.{length_at, cut}
 use Rattle.mp_subst.proofs.TrailLaws.{cut-cut}
 use Rattle.mp_pattern.specs.NetTokenView.{net_token}
-use Rattle.mp_walk.specs.declared.course.Course.{Course}
-use Rattle.mp_walk.specs.declared.course.Turn.{Turn}
 use Rattle.mp_walk.specs.declared.frame.Frame.{Frame}
-use Rattle.mp_walk.specs.declared.level.Level.{Level}
-use Rattle.mp_walk.specs.declared.setting.Setting.{Setting}
-use Rattle.mp_walk.specs.Instrs.{Instr}
-use Rattle.mp_pattern.specs.Fits.{Table}
-use Rattle.mp_walk.specs.Course.{Read, IsStepTaken, steps_left}
-use Rattle.mp_walk.specs.CourseView.{IsTakenBehind, IsLeftBehind, IsBroughtOn}
+use Rattle.mp_walk.specs.Course.{IsStepTaken, steps_left}
+use Rattle.mp_walk.specs.CourseView.{IsTakenBehind, IsLeftBehind}
 use Rattle.mp_walk.specs.InstrView.{plain_instr}
 use Rattle.mp_walk.specs.Levels.{read_of, trail_before, step_cost, search_cost, innermost_left, HasSearch}
 use Rattle.mp_walk.specs.OpenOnes.{AreFrames, IsPlaceBelow, opens}
 use Rattle.mp_walk.specs.Trails.{numbered_subst, IsTrailOf, LiesOver}
 use Rattle.mp_walk.proofs.StandingLaws.{sound, constants, front-frames, front-place, front-search, search-spare, spare}
-use Rattle.mp_walk.specs.CourseVisits.{course_visits, read_visits, visits_behind, IsFewer}
+use Rattle.mp_walk.specs.CourseVisits.{course_visits, read_visits, visits_behind}
 use Rattle.mp_walk.specs.Visits.{total}
 use Rattle.mp_walk.proofs.StandingLaws.{kept-reads, none-visits}
 use Rattle.mp_walk.proofs.StandingLaws.{front-read, taken, left, none-to_come, lies-back, kept-to_come, behind_to_come}
+use Rattle.mp_walk.proofs.FirstLaws.{fewer_by_result, by_result}
 use Rattle.mp_walk.proofs.course.Course.read_on.Goals as goal
 
 pub read-requires-clause-instr : goal.read-requires-clause-instr
@@ -121,26 +115,6 @@ go_down-requires-clause-rooms c = c.in_ok-found.ensures.rooms
 
 pub go_over-requires-clause-rooms : goal.go_over-requires-clause-rooms
 go_over-requires-clause-rooms c = c.in_ok-found.ensures.rooms
-
--- what each token makes less the one that was read does
-fewer_by_result : (r : Result Turn Memory) (x : Setting) (fs : List Frame) (v : Trail) (ls : List Level) (b : Read)
-    (m : Level) (i : Instr) (visits many : ℕ) → IsTakenBehind x fs v ls b m i
-    → visits_behind x.sig.now x.code.now.instrs (map (read_of x.table.now fs v) ls) b ≡ many
-    → IfOk r (λ turn. (before : Read) → IsTakenBehind x fs v ls before m i
-    → IsFewer visits (visits_behind x.sig.now x.code.now.instrs (map (read_of x.table.now fs v) ls) before) turn)
-    → IfOk r (IsFewer visits many)
-fewer_by_result (Ok turn) x fs v ls b m i visits many h e g = subst (λ n. IsFewer visits n turn) e (g b h)
-fewer_by_result (Err w) x fs v ls b m i visits many h e g = tt
-
--- what holds of each token holds of the one that was read
-by_result : (r : Result Turn Memory) (x : Setting) (fs : List Frame) (v : Trail) (ls : List Level) (b : Read)
-    (m : Level) (i : Instr) (d : Course) (is : List (ℕ × Table)) → IsTakenBehind x fs v ls b m i
-    → behind_to_come x fs v ls b ≡ is
-    → IfOk r (λ turn. (before : Read) → IsTakenBehind x fs v ls before m i
-    → IsBroughtOn (behind_to_come x fs v ls before) turn d)
-    → IfOk r (λ turn. IsBroughtOn is turn d)
-by_result (Ok turn) x fs v ls b m i d is h e g = subst (λ js. IsBroughtOn js turn d) e (g b h)
-by_result (Err w) x fs v ls b m i d is h e g = tt
 
 pub returns-then-found-clause-turn : goal.returns-then-found-clause-turn
 returns-then-found-clause-turn c =

@@ -1,0 +1,127 @@
+-- What holds of a course when a token that has no step left is passed over.
+use Rattle.std.proofs.Common.{◌≡◌, ◌<◌, ◌+◌, ℕ, List, [], ◌++◌, map, take, refl, ap, sym, ◌∙◌, subst}
+use Rattle.std.proofs.Common.{arith}
+use Rattle.std.specs.Prelude.{Option, Some, None, IfSome}
+use Rattle.mp_subst.specs.Trail.{Trail, length_at, cut}
+use Rattle.mp_subst.proofs.TrailLaws.{cut-cut}
+use Rattle.mp_walk.specs.declared.course.Course.{Course}
+use Rattle.mp_walk.specs.declared.frame.Frame.{Frame}
+use Rattle.mp_walk.specs.declared.level.Level.{Level}
+use Rattle.mp_walk.specs.declared.setting.Setting.{Setting}
+use Rattle.mp_walk.specs.Below.{below_ahead}
+use Rattle.mp_walk.specs.Course.{Read, unread, reads_to_come, table_read, to_come_in, steps_left}
+use Rattle.mp_walk.specs.CourseView.{reads_of, course_of, course_to_come, LeadsTo, IsCourse, StandsBehind, IsLeftBehind}
+use Rattle.mp_walk.specs.CourseVisits.{course_visits, visits_from, visits_behind}
+use Rattle.mp_walk.specs.Instrs.{Instr, instr_at}
+use Rattle.mp_walk.specs.Levels.{read_of, trail_before, HasRoom}
+use Rattle.mp_walk.specs.OpenOnes.{opens}
+use Rattle.mp_walk.specs.SoundTokens.{path_nodes}
+use Rattle.mp_walk.specs.TokenMachine.{begin_state}
+use Rattle.mp_walk.specs.Trails.{numbered_subst, IsTrailOf}
+use Rattle.mp_walk.specs.WalkView.{subject_of}
+use Rattle.mp_walk.proofs.ChainLaws.{alike-same, chain-end}
+use Rattle.mp_walk.proofs.CodePaths.{over-target, instr-there}
+use Rattle.mp_walk.proofs.CourseLaws.{over-to_come}
+use Rattle.mp_walk.proofs.DownLaws.{if-some}
+use Rattle.mp_walk.proofs.StandingLaws.{front-opens, front-search, left, behind_to_come, kept-reads, kept-read}
+use Rattle.mp_walk.proofs.StandingLaws.{kept-to_come}
+use Rattle.mp_walk.proofs.TurnLaws.{opens-ordered, new-to_come}
+use Rattle.mp_walk.proofs.VisitLaws.{unread-visits, over-visits}
+
+-- nothing of the token is read yet
+module _ (c : Course) (C : IsCourse c) (n : ℕ) (e : c.target ≡ Some n) (i : Instr)
+    (held : instr_at c.set.code.now.instrs n ≡ Some i)
+    (nothing : steps_left c.set.sig.now i.token (unread n (course_of c).present) ≡ []) where
+  abbrev passed : Course
+  passed = record c { target = i.over }
+
+  pub passed-course : IsCourse passed
+  passed-course =
+      let before = C.setting.walkable.before in
+      let p = (course_of c).present in
+      let node : c.node ≡ path_nodes (before n) =
+      subst (λ o. IfSome o (λ m. c.node ≡ path_nodes (before m))) e C.node in
+      let room : HasRoom c.node (opens c.set.table.now c.frames.items c.place) c.trail =
+      subst (λ o. IfSome o (λ m. HasRoom c.node (opens c.set.table.now c.frames.items c.place) c.trail)) e C.room in
+      record {
+        setting = C.setting;
+        frames = C.frames;
+        place = C.place;
+        trail = C.trail;
+        levels = C.levels;
+        rooms = C.rooms;
+        there = if-some _ i.over (λ m h.
+            let f = C.setting.walkable.forward n m i held (over-target i m h) in
+            let j = instr-there c.set.code.now.instrs m (omega (arith, f.0)) f.1 in
+            rw j.1 refl);
+        node = if-some _ i.over (λ m h. node ∙ ap path_nodes (sym (C.setting.walkable.paths.over n m i held h)));
+        room = if-some _ i.over (λ m h. room);
+        chained = chain-end c.set.sig.now c.set.code.now.instrs before (LeadsTo before c.target) (LeadsTo before i.over)
+            [] (begin_state (subject_of c.set.table.now)) (reads_of c) p p C.chained (alike-same p p refl)
+            (λ path h. if-some (λ m. before m ≡ path) i.over
+            (λ m g. C.setting.walkable.paths.over n m i held g ∙ subst (λ o. LeadsTo before o path) e h));
+      }
+
+  pub passed-to_come : course_to_come passed ≡ course_to_come c
+  passed-to_come =
+      let sig = c.set.sig.now in
+      let code = c.set.code.now.instrs in
+      let reads = reads_of c in
+      let p = (course_of c).present in
+      sym (ap (λ o. to_come_in sig code (record { reads = reads; present = p; target = o })) e
+      ∙ new-to_come sig code C.setting.walkable reads n i p held
+      (opens-ordered sig c.set.table.now c.frames.items C.frames c.place C.place)
+      ∙ ap (λ is. is ++ reads_to_come sig code [] reads)
+      (over-to_come sig code (table_read code reads) (unread n p) i held nothing))
+
+  -- and less is to be read
+  pub passed-less : course_visits passed < course_visits c
+  passed-less =
+      let sig = c.set.sig.now in
+      let code = c.set.code.now.instrs in
+      let p = (course_of c).present in
+      let target = ap (λ o. visits_from sig code o p) e in
+      let visits = unread-visits sig code C.setting.walkable n i p held
+      (opens-ordered sig c.set.table.now c.frames.items C.frames c.place C.place) in
+      let over = over-visits sig code (unread n p) i held nothing in
+      omega (arith, target, visits, over)
+
+-- no step is left of a token in open operations, from the way of the number on
+abbrev pub IsSpentIn : Setting → List Frame → Option ℕ → Instr → ℕ → Type 0
+IsSpentIn x fs place i from = (l : Read) → l.state.open_ones ≡ opens x.table.now fs place → l.next ≡ from
+    → l.ahead ≡ [] → steps_left x.sig.now i.token l ≡ []
+
+-- something of the token is read
+module _ (x : Setting) (fs : List Frame) (u : Trail) (ls : List Level) (l : Level) (S : StandsBehind x fs u ls l) where
+  same : cut (length_at l.mark) (trail_before u l) ≡ trail_before u l
+  same = cut-cut (length_at l.mark) (length_at l.mark) u (omega arith) S.marks
+
+  pub spent-left : (i : Instr) → instr_at x.code.now.instrs l.instr ≡ Some i → IsSpentIn x fs l.place i l.next
+      → l.search ≡ None → IsTrailOf x.table.now (trail_before u l)
+      → IsLeftBehind x (take l.frames fs) (trail_before u l) ls l i
+  spent-left i held none search h =
+      left x fs u ls l S i held l (record { instr = refl; node = refl; place = refl; frames = refl; mark = refl }) h
+      (none (read_of x.table.now (take l.frames fs) (trail_before u l) l)
+      (front-opens x fs u ls l S l.place S.last.place) refl
+      (ap (λ o. below_ahead o (numbered_subst x.table.now (trail_before (trail_before u l) l).stack)) search))
+      (front-search x fs u ls l S i held) S.last.way
+
+  -- the same is to come of it
+  pub spent-to_come : behind_to_come x (take l.frames fs) (trail_before u l) ls
+      (read_of x.table.now (take l.frames fs) (trail_before u l) l)
+      ≡ behind_to_come x fs u ls (read_of x.table.now fs u l)
+  spent-to_come =
+      kept-to_come x fs u ls l S (trail_before u l) same (read_of x.table.now (take l.frames fs) (trail_before u l) l)
+      ∙ ap (behind_to_come x fs u ls) (kept-read x fs u ls l S (trail_before u l) same)
+
+  -- and as much is to be read
+  pub spent-visits : visits_behind x.sig.now x.code.now.instrs
+      (map (read_of x.table.now (take l.frames fs) (trail_before u l)) ls)
+      (read_of x.table.now (take l.frames fs) (trail_before u l) l)
+      ≡ visits_behind x.sig.now x.code.now.instrs (map (read_of x.table.now fs u) ls) (read_of x.table.now fs u l)
+  spent-visits =
+      ap (λ rs. visits_behind x.sig.now x.code.now.instrs rs
+      (read_of x.table.now (take l.frames fs) (trail_before u l) l))
+      (kept-reads x fs u ls l S (trail_before u l) same)
+      ∙ ap (visits_behind x.sig.now x.code.now.instrs (map (read_of x.table.now fs u) ls))
+      (kept-read x fs u ls l S (trail_before u l) same)
