@@ -18,3 +18,4 @@ mod UsedNameLaws
 mod SubstLaws
 pub mod AllPairsLaws
 pub mod FoundLaws
+pub mod MarkLaws

@@ -2,6 +2,7 @@ pub mod Prefixes
 pub mod Laid
 pub mod Digest
 pub mod Groups
+pub mod Marks
 pub mod GroupView
 pub mod Many
 pub mod UsedNames

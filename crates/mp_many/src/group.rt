@@ -1,14 +1,16 @@
 //! Token lists that begin alike from a place on, together.
-ghost use Rattle.std.specs.Prelude.{◌≡◌, ◌<◌, length, map, flat_map, IfOk, OnOk};
+ghost use Rattle.std.specs.Prelude.{◌≡◌, ◌<◌, ◌++◌, [], ◌∷◌, length, map, flat_map, IfOk, OnOk};
 ghost use Rattle.std.specs.List.{AllByRecursion};
 ghost use Rattle.mp_pattern.specs.NetTokenView.{net_token};
 ghost use Rattle.mp_many.specs.Groups.{entered, grouped, left_at};
 ghost use Rattle.mp_many.specs.Laid.{ended};
 ghost use Rattle.mp_many.specs.GroupView.{group_of, IsDigested};
 ghost use Rattle.mp_many.specs.Digest.{token_digest};
+ghost use Rattle.mp_many.specs.Marks.{AreMarked};
 ghost use Rattle.mp_pattern.specs.NetTokens.{same_token};
 
 use crate::digest::token_digest;
+use crate::marks::{has_mark, marks_for, set_mark};
 use mp_pattern::{NetToken, NetTokens};
 use mp_term::Memory;
 use mp_walk::Numbers;
@@ -31,25 +33,20 @@ fn is_of(group: &Group<'_>, token: &NetToken, digest: u64) -> bool
     group.digest == digest && *group.token == *token
 }
 
-// Adds a number to the group of its token, which is a new one where there is none.
-fn enter<'a>(
+// Adds a group of one list.
+fn push_group<'a>(
     alloc: Global,
     groups: &mut Vec<Group<'a>>,
     token: &'a NetToken,
+    digest: u64,
     number: u32,
 ) -> Result<(), Memory>
+    requires digest { digest ≡ token_digest (net_token token.now) }
     requires digests { AllByRecursion IsDigested groups.old.items }
-    ensures entered { OnOk result (map group_of groups.new.items
-        ≡ entered (map group_of groups.old.items) (net_token token.now) number) }
+    ensures groups { OnOk result (map group_of groups.new.items
+        ≡ map group_of groups.old.items ++ (net_token token.now, number ∷ []) ∷ []) }
     ensures digests { OnOk result (AllByRecursion IsDigested groups.new.items) }
 {
-    let digest = token_digest(token);
-    for index in 0..groups.len() {
-        if is_of(&groups[index], token, digest) {
-            groups[index].numbers.push(number)?;
-            return Ok(());
-        }
-    }
     let mut numbers = Vec::new(alloc);
     numbers.push(number)?;
     groups.push(Group {
@@ -58,6 +55,52 @@ fn enter<'a>(
         numbers,
     })?;
     Ok(())
+}
+
+// Adds a number to the group of its token, which is a new one where there is none.
+fn enter<'a>(
+    alloc: Global,
+    groups: &mut Vec<Group<'a>>,
+    token: &'a NetToken,
+    digest: u64,
+    number: u32,
+) -> Result<(), Memory>
+    requires digest { digest ≡ token_digest (net_token token.now) }
+    requires digests { AllByRecursion IsDigested groups.old.items }
+    ensures entered { OnOk result (map group_of groups.new.items
+        ≡ entered (map group_of groups.old.items) (net_token token.now) number) }
+    ensures digests { OnOk result (AllByRecursion IsDigested groups.new.items) }
+{
+    for index in 0..groups.len() {
+        if is_of(&groups[index], token, digest) {
+            groups[index].numbers.push(number)?;
+            return Ok(());
+        }
+    }
+    push_group(alloc, groups, token, digest, number)
+}
+
+// Adds it too, where the digests of the groups' tokens have their marks: a token whose digest has none is new.
+fn enter_marked<'a>(
+    alloc: Global,
+    groups: &mut Vec<Group<'a>>,
+    marks: &mut Vec<bool>,
+    token: &'a NetToken,
+    number: u32,
+) -> Result<(), Memory>
+    requires digests { AllByRecursion IsDigested groups.old.items }
+    requires marked { AreMarked marks.old.items (map group_of groups.old.items) }
+    ensures entered { OnOk result (map group_of groups.new.items
+        ≡ entered (map group_of groups.old.items) (net_token token.now) number) }
+    ensures digests { OnOk result (AllByRecursion IsDigested groups.new.items) }
+    ensures marked { OnOk result (AreMarked marks.new.items (map group_of groups.new.items)) }
+{
+    let digest = token_digest(token);
+    if has_mark(marks, digest) {
+        return enter(alloc, groups, token, digest, number);
+    }
+    set_mark(marks, digest);
+    push_group(alloc, groups, token, digest, number)
 }
 
 // The groups of the lists of the numbers by their tokens at the place, in order of the first list of each.
@@ -71,9 +114,10 @@ pub(crate) fn groups_of<'a>(
     ensures { IfOk result (λ gs. map group_of gs.items ≡ grouped (left_at lists.now place numbers.now)) }
 {
     let mut groups = Vec::new(alloc);
+    let mut marks = marks_for(alloc, numbers.len())?;
     for number in numbers {
         if let Some(token) = lists[*number as usize].get(place) {
-            enter(alloc, &mut groups, token, *number)?;
+            enter_marked(alloc, &mut groups, &mut marks, token, *number)?;
         }
     }
     Ok(groups)

@@ -9,6 +9,7 @@ mod group;
 mod laws;
 mod lists;
 mod many;
+mod marks;
 mod names;
 mod rows;
 mod tree;

@@ -1,14 +1,23 @@
-use Rattle.std.proofs.Common.{◌≡◌, ◌∙◌, ◌+◌, [], drop, get_or, map, sym, ap, subst, arith}
+use Rattle.std.proofs.Common.{◌≡◌, ◌∙◌, ◌+◌, [], drop, get_or, map, sym, ap, subst, arith, Bool, Vec, Global}
 use Rattle.std.specs.Prelude.{option_map}
 use Rattle.std.proofs.lemmas.List.{drop_all}
 use Rattle.std.specs.List.{AllByRecursion}
 use Rattle.mp_pattern.specs.NetTokenView.{net_token}
 use Rattle.mp_many.specs.Groups.{left_at}
+use Rattle.mp_many.specs.declared.group.Group.{Group}
 use Rattle.mp_many.specs.GroupView.{group_of, IsDigested}
+use Rattle.mp_many.specs.Marks.{AreMarked}
 use Rattle.mp_many.proofs.GroupLaws.{entered_all, entered-grouped}
 use Rattle.mp_many.proofs.RowLaws.{entered_by, entered-step, within-step}
 use Rattle.mp_many.proofs.group.groups_of.Goals as goal
-use Rattle.mp_many.proofs.group.groups_of.Goals.{in-Some+in_ok-enter, in_default}
+use Rattle.mp_many.proofs.group.groups_of.Goals.{in-Some+in_ok-enter_marked, in_default}
+
+-- marks and groups that are these are marked as they are
+marked-as : {a b : Vec Bool Global} {g h : Vec Group Global} → a ≡ b → g ≡ h → AreMarked b.items (map group_of h.items)
+    → AreMarked a.items (map group_of g.items)
+marked-as {a} {b} {g} {h} e f m =
+    subst (λ v. AreMarked v.items (map group_of g.items)) (sym e)
+    (subst (λ v. AreMarked b.items (map group_of v.items)) (sym f) m)
 
 pub loop-number-preserved : goal.loop-number-preserved
 loop-number-preserved c =
@@ -25,15 +34,20 @@ loop-number-preserved c =
       within = step.1;
       digests =
           elim c.match-get.branch [
-            | in-Some+in_ok-enter w ↦
-                subst (λ v. AllByRecursion IsDigested v.items) (sym w.groups-is) w.in_ok-enter.ensures.digests
+            | in-Some+in_ok-enter_marked w ↦
+                subst (λ v. AllByRecursion IsDigested v.items) (sym w.groups-is) w.in_ok-enter_marked.ensures.digests
             | in_default w ↦ subst (λ v. AllByRecursion IsDigested v.items) (sym w.groups-is) old.digests
+          ];
+      marked =
+          elim c.match-get.branch [
+            | in-Some+in_ok-enter_marked w ↦ marked-as w.marks-is w.groups-is w.in_ok-enter_marked.ensures.marked
+            | in_default w ↦ marked-as w.marks-is w.groups-is old.marked
           ];
       groups =
           elim c.match-get.branch [
-            | in-Some+in_ok-enter w ↦
+            | in-Some+in_ok-enter_marked w ↦
                 ap (λ hs. entered_all hs (left_at lists c.args.place (drop (i + 1) ns)))
-                (ap (λ v. map group_of v.items) w.groups-is ∙ w.in_ok-enter.ensures.entered
+                (ap (λ v. map group_of v.items) w.groups-is ∙ w.in_ok-enter_marked.ensures.entered
                 ∙ ap (entered_by gs (get_or ns i 0)) (sym (ap (option_map (λ k. net_token k.now)) w.in-Some.is)))
                 ∙ sym e ∙ old.groups
             | in_default w ↦
@@ -54,5 +68,6 @@ returns c =
     sym (ap (λ ms. entered_all gs (left_at lists c.args.place ms)) all) ∙ c.loop-number.invariant.groups
     ∙ entered-grouped (left_at lists c.args.place ns)
 
-pub enter-requires : goal.enter-requires
-enter-requires c = record { digests = c.loop-number.invariant.digests }
+pub enter_marked-requires : goal.enter_marked-requires
+enter_marked-requires c =
+    record { digests = c.loop-number.invariant.digests; marked = c.loop-number.invariant.marked }
