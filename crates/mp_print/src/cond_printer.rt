@@ -68,7 +68,7 @@ fn put_parts<K: Sink>(
         (separated separator.now (part_texts sig.now least (conds (map cond_tree parts.now)))) }
 {
     for (index, part) in parts.iter().enumerate() {
-        put_gap(index, &[separator], out);
+        put_gap(index, separator, out);
         put_part(sig, least, part, out);
     }
 }

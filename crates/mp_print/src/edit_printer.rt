@@ -22,7 +22,7 @@ pub fn put_edits<K: Sink>(sig: &Signature, edits: &Edits, out: &mut Writer<'_, K
     ensures { Puts K.Sink out.old out.new (edits_text sig.now edits.now) }
 {
     for index in 0..edits.len() {
-        put_gap(index, &[b", ".as_slice()], out);
+        put_gap(index, b", ", out);
         put_edit_of(sig, edits, index, out);
     }
 }
@@ -60,7 +60,7 @@ fn put_indexes<K: Sink>(indexes: &[u32], out: &mut Writer<'_, K>)
     ensures { Puts K.Sink out.old out.new (separated (codes ".") (map decimal indexes.now)) }
 {
     for (place, index) in indexes.iter().enumerate() {
-        put_gap(place, &[b".".as_slice()], out);
+        put_gap(place, b".", out);
         put_number(*index, out);
     }
 }

@@ -148,7 +148,7 @@ fn put_names<K: Sink>(names: &Names, out: &mut Writer<'_, K>)
     ensures { Puts K.Sink out.old out.new (separated (codes " ") names.now) }
 {
     for index in 0..names.len() {
-        put_gap(index, &[b" ".as_slice()], out);
+        put_gap(index, b" ", out);
         put_name_of(names, index, out);
     }
 }

@@ -40,7 +40,7 @@ fn put_bindings<K: Sink>(sig: &Signature, bindings: &[Binding], out: &mut Writer
         (map (binding_text sig.now) (map binding_of bindings.now))) }
 {
     for (index, binding) in bindings.iter().enumerate() {
-        put_gap(index, &[b", ".as_slice()], out);
+        put_gap(index, b", ", out);
         put_binding(sig, binding, out);
     }
 }

@@ -1,13 +1,12 @@
 //! Prints trees of operations and their arguments, whatever their leaves are.
 
 ghost use Rattle.std.specs.Prelude.{◌≡◌, ◌<◌, ◌++◌, ℕ, List, [], length, map, slice_get, sum_by, MatchOption, ⊤, codes};
-ghost use Rattle.mp_io.specs.Printing.{joined};
 ghost use Rattle.mp_io.specs.Writing.{Puts};
 ghost use Rattle.mp_term.specs.Signature.{Sig};
 ghost use Rattle.mp_print.specs.Printing.{front_text, gap_text, held_text, separated, separator_text};
 
 use mp_io::{Sink, Writer};
-use mp_term::{OpDecl, OpId, Signature};
+use mp_term::{OpDecl, OpId, Sign, Signature};
 
 /// A tree that is printed: a leaf, or an operation with its arguments. `B` is what it stands on: a rank stands for a
 /// tree in a table, and a tree of another kind stands on nothing, which is `()`.
@@ -61,45 +60,25 @@ pub(crate) fn put_application<B, T: PrintedTree<B>, K: Sink>(
 {
     if let Some(decl) = sig.op(op) {
         put_front(decl, args.len(), out);
-        put_arguments(sig, base, decl, args, out);
-        out.put(b")");
+        put_between(sig, base, &decl.sign, args, out);
+        out.put_byte(b')');
     }
 }
 
-/// Puts the texts of an operation's arguments, with its separator between each two.
+/// Puts the texts of trees, with what stands between each two arguments of an operation with this sign.
 #[cycle(put_tree)]
-fn put_arguments<B, T: PrintedTree<B>, K: Sink>(
+fn put_between<B, T: PrintedTree<B>, K: Sink>(
     sig: &Signature,
     base: &B,
-    decl: &OpDecl,
-    args: &[T],
-    out: &mut Writer<'_, K>,
-)
-    ensures { Puts K.Sink out.old out.new
-        (separated (separator_text decl.now.sign (length args.now)) (map (T.text sig.now base.now) args.now)) }
-{
-    match &decl.sign {
-        Some(sign) if args.len() >= 2 => {
-            put_between(sig, base, &[b" ", sign.bytes(), b" "], args, out);
-        }
-        _ => put_between(sig, base, &[b", ".as_slice()], args, out),
-    }
-}
-
-/// Puts the texts of trees, with the separator between each two.
-#[cycle(put_tree)]
-pub(crate) fn put_between<B, T: PrintedTree<B>, K: Sink>(
-    sig: &Signature,
-    base: &B,
-    separator: &[&[u8]],
+    sign: &Option<Sign>,
     trees: &[T],
     out: &mut Writer<'_, K>,
 )
     ensures { Puts K.Sink out.old out.new
-        (separated (joined separator.now) (map (T.text sig.now base.now) trees.now)) }
+        (separated (separator_text sign.now (length trees.now)) (map (T.text sig.now base.now) trees.now)) }
 {
     for (index, tree) in trees.iter().enumerate() {
-        put_gap(index, separator, out);
+        put_argument_gap(index, sign, trees.len(), out);
         put_tree(sig, base, tree, out);
     }
 }
@@ -117,7 +96,7 @@ pub(crate) fn put_enclosed<B, T: PrintedTree<B>, K: Sink>(
         (opening.now ++ (separated (codes ", ") (map (T.text sig.now base.now) trees.now) ++ closing.now)) }
 {
     out.put(opening);
-    put_between(sig, base, &[b", ".as_slice()], trees, out);
+    put_between(sig, base, &None, trees, out);
     out.put(closing);
 }
 
@@ -126,16 +105,53 @@ fn put_front<K: Sink>(decl: &OpDecl, count: usize, out: &mut Writer<'_, K>)
     ensures { Puts K.Sink out.old out.new (front_text decl.now decl.now.sign count) }
 {
     match &decl.sign {
-        Some(_) if count >= 2 => out.put(b"("),
-        _ => out.put_all(&[decl.name.bytes(), b"("]),
+        Some(_) if count >= 2 => {}
+        _ => out.put(decl.name.bytes()),
+    }
+    out.put_byte(b'(');
+}
+
+/// Puts what stands before the argument of that index, of so many.
+fn put_argument_gap<K: Sink>(
+    index: usize,
+    sign: &Option<Sign>,
+    count: usize,
+    out: &mut Writer<'_, K>,
+)
+    ensures { Puts K.Sink out.old out.new (gap_text (separator_text sign.now count) index) }
+{
+    if index > 0 {
+        put_separator(sign, count, out);
     }
 }
 
+/// Puts what stands between each two of so many arguments.
+fn put_separator<K: Sink>(sign: &Option<Sign>, count: usize, out: &mut Writer<'_, K>)
+    ensures { Puts K.Sink out.old out.new (separator_text sign.now count) }
+{
+    match sign {
+        Some(sign) if count >= 2 => put_spaced(sign, out),
+        _ => {
+            out.put_byte(b',');
+            out.put_byte(b' ');
+        }
+    }
+}
+
+/// Puts a sign between two blanks.
+fn put_spaced<K: Sink>(sign: &Sign, out: &mut Writer<'_, K>)
+    ensures { Puts K.Sink out.old out.new (codes " " ++ (sign.now ++ (codes " " ++ []))) }
+{
+    out.put_byte(b' ');
+    out.put(sign.bytes());
+    out.put_byte(b' ');
+}
+
 /// Puts what stands before the item of that index: the separator, but nothing before the first.
-pub(crate) fn put_gap<K: Sink>(index: usize, separator: &[&[u8]], out: &mut Writer<'_, K>)
-    ensures { Puts K.Sink out.old out.new (gap_text (joined separator.now) index) }
+pub(crate) fn put_gap<K: Sink>(index: usize, separator: &[u8], out: &mut Writer<'_, K>)
+    ensures { Puts K.Sink out.old out.new (gap_text separator.now index) }
 {
     if index > 0 {
-        out.put_all(separator);
+        out.put(separator);
     }
 }

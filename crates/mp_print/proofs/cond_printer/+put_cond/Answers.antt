@@ -1,4 +1,4 @@
-use Rattle.std.proofs.Common.{◌≡◌, ◌≤◌, map, get_or, ap, append-nil, arith, sym, refl}
+use Rattle.std.proofs.Common.{◌≡◌, ◌≤◌, map, get_or, ap, arith, sym, refl}
 use Rattle.mp_pattern.specs.declared.condition.Cond.{Cond}
 use Rattle.mp_pattern.specs.CondSize.{cond_nodes, cond_list_nodes}
 use Rattle.mp_pattern.specs.CondView.{cond_tree}
@@ -29,7 +29,7 @@ put_parts-loop-index-preserved g t c =
     Puts-separated g.K.Sink (λ x. text (cond_tree x)) c.args.separator.now parts _
     (sym (texts-map cond_tree conds text (part_texts c.args.sig.now c.args.least) refl (λ x xs. refl) parts))
     c.loop-index.index c.index-parts-index.result (omega arith) c.index-parts-index.is _ _ _ _
-    c.loop-index.invariant (rw (append-nil c.args.separator.now) at c.put_gap.ensures) c.put_part.ensures
+    c.loop-index.invariant c.put_gap.ensures c.put_part.ensures
 
 pub put_parts-returns : goal.put_parts-returns
 put_parts-returns g t c =

@@ -7,4 +7,4 @@ use Rattle.mp_print.proofs.edit_printer.put_edits.Goals as goal
 pub loop-index-preserved : goal.loop-index-preserved
 loop-index-preserved g c =
     Puts-got_between g.K.Sink (edit_text c.args.sig.now) (codes ", ") c.args.edits.now c.loop-index.index (omega arith)
-    _ _ _ _ c.loop-index.invariant (rw c.as_slice.ensures at c.put_gap.ensures) c.put_edit_of.ensures
+    _ _ _ _ c.loop-index.invariant c.put_gap.ensures c.put_edit_of.ensures

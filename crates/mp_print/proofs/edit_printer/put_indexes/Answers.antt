@@ -11,4 +11,4 @@ loop-place-preserved g c =
     let within : place < length indexes = omega arith in
     Puts-separated g.K.Sink decimal (codes ".") indexes _ refl place (get_or indexes place 0) within
     (sym (get_or_default indexes place (get_or indexes place 0) 0 within)) _ _ _ _
-    c.loop-place.invariant (rw c.as_slice.ensures at c.put_gap.ensures) c.put_number.ensures
+    c.loop-place.invariant c.put_gap.ensures c.put_number.ensures

@@ -16,4 +16,4 @@ loop-index-preserved g c =
     ap (λ o. unwrap_or o []) (slice_get-get_or names index [] within) in
     Puts-separated g.K.Sink (λ (n : Text). n) (codes " ") names names (map-id names) index name within
     (get_or_default names index [] name within) _ _ _ _
-    c.loop-index.invariant (rw c.as_slice.ensures at c.put_gap.ensures) (rw same at c.put_name_of.ensures)
+    c.loop-index.invariant c.put_gap.ensures (rw same at c.put_name_of.ensures)

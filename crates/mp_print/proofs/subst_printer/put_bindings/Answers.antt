@@ -14,4 +14,4 @@ loop-index-preserved g c =
     Puts-separated g.K.Sink (λ b. text (binding_of b)) (codes ", ")
     bindings _ (sym (map-map text binding_of bindings)) c.loop-index.index c.index-bindings-index.result
     (omega arith) c.index-bindings-index.is _ _ _ _
-    c.loop-index.invariant (rw c.as_slice.ensures at c.put_gap.ensures) c.put_binding.ensures
+    c.loop-index.invariant c.put_gap.ensures c.put_binding.ensures
