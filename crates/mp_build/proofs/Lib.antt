@@ -1,5 +1,7 @@
 mod Numbers
 pub mod Applied
+pub mod Counts
+mod Plain
 pub mod Fails
 mod BuiltLists
 pub mod Words

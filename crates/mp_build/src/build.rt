@@ -24,7 +24,7 @@ use crate::fault::{TextError, TextKind, error_at};
 use crate::wildcard::{PatternWildcard, build_counted, build_optional, build_wildcard};
 use mp_pattern::{Pattern, Patterns, Shape};
 use mp_syntax::{Expr, InfixSign, Place, Wildcard, Word};
-use mp_term::{Name, NameFault, Signature, Term, Terms, normalise};
+use mp_term::{Name, NameFault, Signature, Term, Terms, is_normal, normalise};
 use std::alloc::Global;
 
 /// The name that a word is, any word being one.
@@ -56,7 +56,7 @@ pub fn symbol(alloc: Global, sig: &Signature, word: Word<'_>) -> Result<Name, Te
 
 /// The term of an expression as it is written, or its first fault.
 #[cycle(build_term)]
-pub fn build_term(alloc: Global, sig: &Signature, expr: &Expr<'_>) -> Result<Term, TextError>
+fn build_term(alloc: Global, sig: &Signature, expr: &Expr<'_>) -> Result<Term, TextError>
     ensures { Gives result (term_faults sig.now (expr_tree expr.now))
         (λ t. tree t ≡ term_of sig.now (expr_tree expr.now)) }
 {
@@ -91,6 +91,9 @@ pub fn normal_term(alloc: Global, sig: &Signature, expr: &Expr<'_>) -> Result<Te
         (λ t. tree t ≡ normal sig.now (term_of sig.now (expr_tree expr.now))) }
 {
     let term = build_term(alloc, sig, expr)?;
+    if is_normal(sig, &term) {
+        return Ok(term);
+    }
     let term = normalise(alloc, sig, term)?;
     Ok(term)
 }

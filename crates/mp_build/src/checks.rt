@@ -1,6 +1,7 @@
 //! Limits and counts of expressions.
 
-ghost use Rattle.std.specs.Prelude.{◌≡◌, ◌+◌, ◌-◌, ◌^◌, ◌≤◌, ◌||◌, [], length, map, flat_map, min};
+ghost use Rattle.std.specs.Prelude.{◌≡◌, ◌+◌, ◌-◌, ◌^◌, ◌≤◌, [], length, map, flat_map, min};
+ghost use Rattle.std.specs.Prelude.{if◌then◌else◌};
 ghost use Rattle.std.specs.Prelude.{IfOk, OnOk};
 ghost use Rattle.std.specs.Str.{bytes_eq};
 ghost use Rattle.mp_pattern.specs.Firsts.{firsts_after};
@@ -40,26 +41,34 @@ pub fn number_of(digits: &[u8], limit: u32) -> u32
 }
 
 /// The number of symbols, applications and wildcards, of which one with its default is one; the greatest `u64` where
-/// there are more.
+/// there are more, or where a default has more nodes than one may have.
 #[cycle(node_count)]
 fn node_count(expr: &Expr<'_>) -> u64
-    ensures { result ≡ min (nodes (expr_tree expr.now)) (2 ^ 64 - 1) }
+    ensures { result ≡ (if has_large_default (expr_tree expr.now) then 2 ^ 64 - 1
+        else min (nodes (expr_tree expr.now)) (2 ^ 64 - 1)) }
 {
     match expr {
         Expr::Symbol(_) => 1,
         Expr::Apply(_, args) => 1_u64.saturating_add(node_counts(args)),
         Expr::Infix { operands, .. } => 1_u64.saturating_add(node_counts(operands)),
         Expr::Wild(_) => 1,
-        Expr::Optional { .. } => 1,
+        Expr::Optional { default, .. } => {
+            if node_count(default) > MAX_DEFAULT_NODES {
+                u64::MAX
+            } else {
+                1
+            }
+        }
         Expr::Counted { .. } => 1,
         Expr::Variable(_) => 1,
     }
 }
 
-/// The nodes of all expressions; the greatest `u64` where there are more.
+/// The nodes of all expressions; the greatest `u64` where there are more, or where a default is too large.
 #[cycle(node_count)]
 fn node_counts(exprs: &[Expr<'_>]) -> u64
-    ensures { result ≡ min (all_nodes (trees (map expr_tree exprs.now))) (2 ^ 64 - 1) }
+    ensures { result ≡ (if some_large_default (trees (map expr_tree exprs.now)) then 2 ^ 64 - 1
+        else min (all_nodes (trees (map expr_tree exprs.now))) (2 ^ 64 - 1)) }
 {
     let mut count: u64 = 0;
     for expr in exprs {
@@ -112,47 +121,21 @@ fn is_among(name: &[u8], names: &[&[u8]]) -> bool
     false
 }
 
-/// A default in the expression has more nodes than a default may have.
-#[cycle(has_large_default)]
-fn has_large_default(expr: &Expr<'_>) -> bool
-    ensures { result ≡ has_large_default (expr_tree expr.now) }
-{
-    match expr {
-        Expr::Symbol(_) => false,
-        Expr::Apply(_, args) => some_large_default(args),
-        Expr::Infix { operands, .. } => some_large_default(operands),
-        Expr::Wild(_) => false,
-        Expr::Optional { default, .. } => {
-            node_count(default) > MAX_DEFAULT_NODES || has_large_default(default)
-        }
-        Expr::Counted { .. } => false,
-        Expr::Variable(_) => false,
-    }
-}
-
-/// A default in one of the expressions has more nodes than a default may have.
-#[cycle(has_large_default)]
-fn some_large_default(exprs: &[Expr<'_>]) -> bool
-    ensures { result ≡ some_large_default (trees (map expr_tree exprs.now)) }
-{
-    for expr in exprs {
-        if has_large_default(expr) {
-            return true;
-        }
-    }
-    false
-}
-
 /// The pattern has more nodes or more variables than a pattern may have, or a default in it has more nodes than a
 /// default may have: `is_large_pattern` of `specs/Checks.antt`. The error comes where memory ran out.
 pub fn is_large_pattern(alloc: Global, expr: &Expr<'_>) -> Result<bool, AllocError>
     ensures { IfOk result (λ large. large ≡ is_large_pattern (expr_tree expr.now)) }
 {
-    if node_count(expr) > u64::from(MAX_PATTERN_NODES) {
+    let nodes = node_count(expr);
+    if nodes > u64::from(MAX_PATTERN_NODES) {
         return Ok(true);
     }
-    let count = variable_count(alloc, expr)?;
-    Ok(count > MAX_VARIABLES || has_large_default(expr))
+    // There are no more variables than nodes.
+    if nodes <= MAX_VARIABLES as u64 {
+        return Ok(false);
+    }
+    let variables = variable_count(alloc, expr)?;
+    Ok(variables > MAX_VARIABLES)
 }
 
 /// The template has more nodes than a template may have, or a default in it has more than a default may have:
@@ -160,7 +143,7 @@ pub fn is_large_pattern(alloc: Global, expr: &Expr<'_>) -> Result<bool, AllocErr
 pub fn is_large_template(expr: &Expr<'_>) -> bool
     ensures { result ≡ is_large_template (expr_tree expr.now) }
 {
-    node_count(expr) > u64::from(MAX_PATTERN_NODES) || has_large_default(expr)
+    node_count(expr) > u64::from(MAX_PATTERN_NODES)
 }
 
 /// The term has more nodes than a term may have, or a default in it has more than a default may have: `is_large_term`
@@ -168,14 +151,14 @@ pub fn is_large_template(expr: &Expr<'_>) -> bool
 pub fn is_large_term(expr: &Expr<'_>) -> bool
     ensures { result ≡ is_large_term (expr_tree expr.now) }
 {
-    node_count(expr) > MAX_TERM_NODES || has_large_default(expr)
+    node_count(expr) > MAX_TERM_NODES
 }
 
 /// The operand of a condition has more nodes than one may have.
 pub fn is_large_operand(expr: &Expr<'_>) -> bool
     ensures { result ≡ is_large_operand (expr_tree expr.now) }
 {
-    node_count(expr) > MAX_OPERAND_NODES || has_large_default(expr)
+    node_count(expr) > MAX_OPERAND_NODES
 }
 
 /// The least number of arguments that an expression of a pattern takes.

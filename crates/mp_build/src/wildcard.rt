@@ -14,7 +14,7 @@ ghost use Rattle.mp_build.specs.Wildcards.{same_class, differs};
 ghost use Rattle.mp_build.specs.WildcardView.{default_view, wildcard_view};
 ghost use Rattle.mp_build.specs.Checks.{wildcard_faults, count_faults, default_faults};
 
-use crate::build::{build_term, shape, variable, wildcard_in_term};
+use crate::build::{normal_term, shape, variable, wildcard_in_term};
 use crate::extent::{
     Extent, check_count, count_of, counted_extent, counted_shape, marked_extent, marked_shape,
 };
@@ -22,7 +22,7 @@ use crate::fault::{TextError, TextKind, error_at};
 use crate::written::written_term;
 use mp_pattern::{Pattern, Shape};
 use mp_syntax::{Expr, Wildcard, Word};
-use mp_term::{Name, Signature, Term, normal_form, normalise};
+use mp_term::{Name, Signature, Term, normal_form};
 use std::alloc::Global;
 
 /// The default of a wildcard.
@@ -198,9 +198,7 @@ fn default_term(
     if let [other, ..] = others {
         return Err(wildcard_in_term(sig, *other));
     }
-    let term = build_term(alloc, sig, default)?;
-    let term = normalise(alloc, sig, term)?;
-    Ok(term)
+    normal_term(alloc, sig, default)
 }
 
 /// One of the others has the name of the wildcard, and another class, kind, count or default.
