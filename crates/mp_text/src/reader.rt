@@ -83,7 +83,7 @@ fn read(alloc: Global, bytes: &[u8]) -> Result<File, TextError>
     ensures { ReadGives bytes.now result }
 {
     let statements = read_statements(alloc, bytes)?;
-    build_file(alloc, &statements)
+    build_file(alloc, statements)
 }
 
 /// A file while it is built, with the names of its rules and those of its subjects: `IsDraftOf` of `specs/Draft.antt`.
@@ -239,12 +239,26 @@ fn add_statement(
     }
 }
 
-/// The file that the statements stand for, or their first fault.
-fn build_file(alloc: Global, statements: &[Statement<'_>]) -> Result<File, TextError>
-    ensures { Gives result (faults (map statement_tree statements.now))
-        (λ f. file_tree f ≡ file_tree_of (map statement_tree statements.now)) }
+/// Adds what a statement gives to the file, and drops its trees.
+fn take_statement(
+    alloc: Global,
+    draft: &mut Draft,
+    statement: Statement<'_>,
+) -> Result<(), TextError>
+    requires { length draft.old.subject_names ≤ MAX_SUBJECTS }
+    ensures { (sig : Sig) (earlier : List syntax.Statement) → IsDraftOf sig earlier draft.old
+        → Gives result (statement_faults sig earlier (statement_tree statement.entry))
+        (λ _. IsDraftOf sig (earlier ++ statement_tree statement.entry ∷ []) draft.new) }
 {
-    let sig = declare(alloc, statements)?;
+    add_statement(alloc, draft, &statement)
+}
+
+/// The file that the statements stand for, or their first fault.
+fn build_file(alloc: Global, statements: Vec<Statement<'_>>) -> Result<File, TextError>
+    ensures { Gives result (faults (map statement_tree statements.entry.items))
+        (λ f. file_tree f ≡ file_tree_of (map statement_tree statements.entry.items)) }
+{
+    let sig = declare(alloc, &statements)?;
     let file = File {
         sig,
         rules: Rules::new(alloc),
@@ -257,7 +271,7 @@ fn build_file(alloc: Global, statements: &[Statement<'_>]) -> Result<File, TextE
         subject_names: NameTable::new(alloc),
     };
     for statement in statements {
-        add_statement(alloc, &mut draft, statement)?;
+        take_statement(alloc, &mut draft, statement)?;
     }
     Ok(draft.file)
 }

@@ -1,39 +1,29 @@
 //! Makes rules of syntax trees, and checks them on the way.
 
-ghost use Rattle.std.specs.Prelude.{◌≡◌, true, option_map, IfOk};
-ghost use Rattle.mp_pattern.specs.Normal.{normal_pattern};
-ghost use Rattle.mp_pattern.specs.View.{pattern_tree};
+ghost use Rattle.std.specs.Prelude.{◌≡◌, ◌++◌, Some, true, option_map, IfOk};
 ghost use Rattle.mp_pattern.specs.CondView.{cond_tree};
+ghost use Rattle.mp_pattern.specs.TemplateView.{template_tree};
 ghost use Rattle.mp_pattern.specs.RuleView.{rule_tree};
 ghost use Rattle.mp_parser.specs.View.{spot_of, expr_tree, arrow_tree, if_tree};
 ghost use Rattle.mp_build.specs.Answers.{Gives};
-ghost use Rattle.mp_build.specs.Build.{pattern_of};
+ghost use Rattle.mp_build.specs.Build.{template_of};
+ghost use Rattle.mp_build.specs.Scope.{pattern_variables};
 ghost use Rattle.mp_build.specs.ScopeView.{scope_of};
 ghost use Rattle.mp_build.specs.Conditions.{condition_of};
 ghost use Rattle.mp_text.specs.FileBuild.{rule_of};
-ghost use Rattle.mp_build.specs.Checks.{whole_pattern_faults};
 ghost use Rattle.mp_build.specs.ConditionChecks.{has_large_condition, if_faults};
+ghost use Rattle.mp_build.specs.TemplateChecks.{arrow_faults};
 ghost use Rattle.mp_text.specs.FileChecks.{rule_faults, is_large_rule};
 
 use crate::template::{has_large_template, rule_template};
 use mp_build::{
     Scope, TextError, build_condition, is_large_condition, is_large_pattern, new_name,
-    pattern_variables, whole_pattern,
+    normal_pattern, pattern_variables,
 };
-use mp_pattern::{Cond, Pattern, Rule, normalise_pattern};
+use mp_pattern::{Cond, Rule, Template};
 use mp_syntax::{Condition, Expr, Word};
 use mp_term::Signature;
 use std::alloc::{AllocError, Global};
-
-/// The pattern of an expression in normal form, or its first fault.
-fn rule_pattern(alloc: Global, sig: &Signature, expr: &Expr<'_>) -> Result<Pattern, TextError>
-    ensures { Gives result (whole_pattern_faults sig.now (expr_tree expr.now))
-        (λ p. pattern_tree p ≡ normal_pattern sig.now (pattern_of sig.now (expr_tree expr.now))) }
-{
-    let pattern = whole_pattern(alloc, sig, expr)?;
-    let pattern = normalise_pattern(alloc, sig, pattern)?;
-    Ok(pattern)
-}
 
 /// The condition of a rule over the variables that it may name, where it has one, or its first fault.
 fn rule_condition(
@@ -80,6 +70,31 @@ pub fn is_large_rule(
     Ok(has_large_template(template) || has_large_condition(condition))
 }
 
+/// The template of a rule and its condition, where it has them, or their first fault.
+///
+/// The variables of the pattern, which they may name, are gathered where there is one of them.
+fn rule_results<'a>(
+    alloc: Global,
+    sig: &Signature,
+    pattern: &Expr<'a>,
+    template: &Option<Expr<'a>>,
+    condition: &Option<Condition<'_>>,
+) -> Result<(Option<Template>, Option<Cond>), TextError>
+    ensures { Gives result
+        (arrow_faults (pattern_variables (expr_tree pattern.now)) sig.now (arrow_tree template.now)
+        ++ if_faults sig.now (Some (pattern_variables (expr_tree pattern.now))) (if_tree condition.now))
+        (λ r. (option_map template_tree r.0 ≡ option_map (template_of sig.now) (arrow_tree template.now))
+        × (option_map cond_tree r.1 ≡ condition_of sig.now (if_tree condition.now))) }
+{
+    if let (None, None) = (template, condition) {
+        return Ok((None, None));
+    }
+    let variables = pattern_variables(alloc, pattern)?;
+    let template = rule_template(alloc, sig, &variables, template)?;
+    let condition = rule_condition(alloc, sig, &Scope::Among(variables), condition)?;
+    Ok((template, condition))
+}
+
 /// A rule, with its pattern in normal form and its template as it is written, or its first fault behind its name.
 pub fn build_rule<'a>(
     alloc: Global,
@@ -94,10 +109,8 @@ pub fn build_rule<'a>(
         (λ r. rule_tree r ≡ rule_of sig.now (spot_of name.entry) (expr_tree pattern.now) (arrow_tree template.now)
         (if_tree condition.now)) }
 {
-    let normal = rule_pattern(alloc, sig, pattern)?;
-    let variables = pattern_variables(alloc, pattern)?;
-    let template = rule_template(alloc, sig, &variables, template)?;
-    let condition = rule_condition(alloc, sig, &Scope::Among(variables), condition)?;
+    let normal = normal_pattern(alloc, sig, pattern)?;
+    let (template, condition) = rule_results(alloc, sig, pattern, template, condition)?;
     let name = new_name(alloc, name)?;
     Ok(Rule {
         name,
