@@ -1,24 +1,24 @@
 -- A text ends with an action in one way.
-use Rattle.std.proofs.Common.{◌≡◌, ◌<◌, ◌≤◌, ◌^◌, ◌++◌, ℕ, zero, suc, Bool, true, false, List, [], ◌∷◌}
+use Rattle.std.proofs.Common.{◌≡◌, ◌≢◌, ◌<◌, ◌≤◌, ◌^◌, ◌++◌, ℕ, zero, suc, Bool, true, false, List, [], ◌∷◌}
 use Rattle.std.proofs.Common.{Option}
 use Rattle.std.proofs.Common.{Some, None, length, take, drop, get_or, map, refl, sym, ap, subst, ◌∙◌, arith}
 use Rattle.std.proofs.Common.{append_assoc}
-use Rattle.std.specs.Prelude.{codes, decimal, ◌&&◌, ◌||◌, nat_lt, nat_eq}
+use Rattle.std.specs.Prelude.{codes, decimal, not, ◌&&◌, ◌||◌, nat_lt, nat_eq}
 use Rattle.std.specs.List.{list_all, AllByRecursion}
 use Rattle.std.specs.Char.{is_ascii_digit}
 use Rattle.std.proofs.Math.Seq.{drop-cons}
-use Rattle.std.proofs.lemmas.Bool.{and_parts, lt-ltb, ltb-true}
-use Rattle.std.proofs.lemmas.List.{append-nil, take-append-drop}
+use Rattle.std.proofs.lemmas.Bool.{and_parts, ne_eqb, lt-ltb, ltb-true}
+use Rattle.std.proofs.lemmas.List.{append-nil, take-append-drop, append_cancel_left}
 use Rattle.std.proofs.lemmas.List.Folds.{list_all-append}
 use Rattle.mp_io.specs.Devices.{Text}
 use Rattle.mp_print.specs.Printing.{preceded}
 use Rattle.mp_program.specs.FormText.{action_text}
 use Rattle.mp_program.specs.RightForm.{IsShort, IsRightAction, are_ascending}
 use Rattle.mp_line.specs.Finds.{IsOnly, Finds}
-use Rattle.mp_line.specs.LineTexts.{AreNumbersText, IsDownTo, IsAccepting, IsActionOf, leads_down, accepts}
+use Rattle.mp_line.specs.LineTexts.{IsNumberText, AreNumbersText, IsBlankNumber, are_accepted, AreAcceptedText}
 use Rattle.mp_line.specs.LineTexts.{IsActionText}
 use Rattle.mp_line.specs.Words.{is_digit_or_blank, IsBeforeNumbers}
-use Rattle.mp_line.proofs.FindsLaws.{Finds-like, Finds-through}
+use Rattle.mp_line.proofs.FindsLaws.{Finds-like}
 use Rattle.mp_line.proofs.NumberLaws.{decimal-text}
 use Rattle.mp_line.proofs.WordLaws.{last-byte}
 
@@ -156,6 +156,13 @@ shorts : (down : Option ℕ) (rules : List ℕ) → IsRightAction down rules →
 shorts None rules h = h.2
 shorts (Some n) rules h = (h.0, tt)
 
+-- no text ends with both words
+words-differ : (x y : Text) → x ++ codes " down" ≡ y ++ codes " accept" → ⊥
+words-differ x y e =
+    let same = last-byte (x ++ codes " dow") (y ++ codes " accep") 110 116
+    (append_assoc x (codes " dow") (codes "n") ∙ (e ∙ sym (append_assoc y (codes " accep") (codes "t")))) in
+    omega arith
+
 module _ (text before digits : Text) (split : IsBeforeNumbers text before digits) where
   -- what stands before the numbers of an action, and they
   pub action-parts : (front : Text) (down : Option ℕ) (rules : List ℕ) → IsActionText text front down rules
@@ -170,138 +177,140 @@ module _ (text before digits : Text) (split : IsBeforeNumbers text before digits
       }) in
       (same.0, record { right = short; spelled = sym same.1 })
 
-  -- without numbers there is no action
-  pub no-numbers : ((ns : List ℕ) → AreNumbersText digits ns → ⊥) → (p : Text × (Option ℕ × List ℕ))
-      → IsActionText text p.0 p.1.0 p.1.1 → ⊥
-  no-numbers none p h = none (action_numbers p.1.0 p.1.1) (action-parts p.0 p.1.0 p.1.1 h).1
-
-  module _ (ns : List ℕ) (numbers : IsOnly (AreNumbersText digits) ns) where
-    to-text : (front : Text) (down : Option ℕ) (rules : List ℕ) → before ≡ front ++ action_word down
-        → ns ≡ action_numbers down rules → IsRightAction down rules → IsActionText text front down rules
-    to-text front down rules word same right = record {
-      right = right;
-      spelled = action-spelling front down rules ∙ (ap (λ t. t ++ preceded (codes " ")
-          (map decimal (action_numbers down rules))) (sym word)
-          ∙ (ap (λ l. before ++ preceded (codes " ") (map decimal l)) (sym same)
-          ∙ (ap (λ t. before ++ t) numbers.is.spelled ∙ sym split.parts)));
-    }
-
-    to : (front : Text) (down : Option ℕ) (rules : List ℕ) → IsActionOf before ns front down rules
-        → IsActionText text front down rules
-    to front (Some n) rules (leads_down e d) =
-        let same : n ≡ d.number = (let t = d.target in cc) in
-        let one : ns ≡ n ∷ [] = d.one ∙ ap (λ m. m ∷ []) (sym same) in
-        let short = subst (AllByRecursion IsShort) one numbers.is.right in
-        to-text front (Some n) rules e one (short.0, d.none)
-    to front None rules (leads_down e d) = absurd (let t = d.target in cc)
-    to front (Some n) rules (accepts e a) = absurd (let t = a.none in cc)
-    to front None rules (accepts e a) =
-        to-text front None rules e (sym a.rules) (
-          (λ empty. a.some (sym a.rules ∙ empty)),
-          ap are_ascending a.rules ∙ a.ascending,
-          subst (AllByRecursion IsShort) (sym a.rules) numbers.is.right,
-        )
-
-    from : (front : Text) (down : Option ℕ) (rules : List ℕ) → IsActionText text front down rules
-        → IsActionOf before ns front down rules
-    from front (Some n) rules h =
-        let p = action-parts front (Some n) rules h in
-        leads_down p.0 (record {
-          number = n;
-          one = sym (numbers.only (n ∷ []) p.1);
-          target = refl;
-          none = h.right.1;
-        })
-    from front None rules h =
-        let p = action-parts front None rules h in
-        let same : rules ≡ ns = numbers.only rules p.1 in
-        accepts p.0 (record {
-          none = refl;
-          some = λ empty. h.right.0 (same ∙ empty);
-          ascending = ap are_ascending (sym same) ∙ h.right.1;
-          rules = same;
-        })
-
-    -- the action of a text is that of its word and its numbers
-    pub action-through : {T : Type 0} (view : T → Text × (Option ℕ × List ℕ)) (r : Option T)
-        → Finds view (λ p. IsActionOf before ns p.0 p.1.0 p.1.1) r
-        → Finds view (λ p. IsActionText text p.0 p.1.0 p.1.1) r
-    action-through view r =
-        Finds-like view (λ p. IsActionOf before ns p.0 p.1.0 p.1.1) (λ p. IsActionText text p.0 p.1.0 p.1.1) r
-        (λ p. to p.0 p.1.0 p.1.1) (λ p. from p.0 p.1.0 p.1.1)
-
--- ---- the word of an action
-
--- no text ends with both words
-words-differ : (x y : Text) → x ++ codes " down" ≡ y ++ codes " accept" → ⊥
-words-differ x y e =
-    let same = last-byte (x ++ codes " dow") (y ++ codes " accep") 110 116
-    (append_assoc x (codes " dow") (codes "n") ∙ (e ∙ sym (append_assoc y (codes " accep") (codes "t")))) in
-    omega arith
-
-module _ (before : Text) (ns : List ℕ) where
-  -- behind `down` an action is found by its one number
-  pub down-through : {T : Type 0} (view : T → Option ℕ × List ℕ) (token : Text) (r : Option T)
-      → IsOnly (λ rest. before ≡ rest ++ codes " down") token → Finds view (λ a. IsDownTo ns a.0 a.1) r
-      → Finds {A = Text × (Option ℕ × List ℕ)} (λ t. (token, view t)) (λ p. IsActionOf before ns p.0 p.1.0 p.1.1) r
-  down-through view token r h =
-      Finds-through view (λ a. (token, a)) (λ a. IsDownTo ns a.0 a.1) (λ p. IsActionOf before ns p.0 p.1.0 p.1.1) r
-      (λ a d. leads_down h.is d) (λ p. from p.0 p.1)
-    where
-      from : (front : Text) (a : Option ℕ × List ℕ) → IsActionOf before ns front a.0 a.1
-          → (b : Option ℕ × List ℕ) × ◌≡◌ {A = Text × (Option ℕ × List ℕ)} (front, a) (token, b) × IsDownTo ns b.0 b.1
-      from front a (leads_down e d) = (a, ap (λ t. (t, a)) (h.only front e), d)
-      from front a (accepts e d) = absurd (words-differ token front (sym h.is ∙ e))
-
-  -- behind `accept` it is found by its rules
-  pub accept-through : {T : Type 0} (view : T → Option ℕ × List ℕ) (token : Text) (r : Option T)
-      → IsOnly (λ rest. before ≡ rest ++ codes " accept") token → Finds view (λ a. IsAccepting ns a.0 a.1) r
-      → Finds {A = Text × (Option ℕ × List ℕ)} (λ t. (token, view t)) (λ p. IsActionOf before ns p.0 p.1.0 p.1.1) r
-  accept-through view token r h =
-      Finds-through view (λ a. (token, a)) (λ a. IsAccepting ns a.0 a.1) (λ p. IsActionOf before ns p.0 p.1.0 p.1.1) r
-      (λ a d. accepts h.is d) (λ p. from p.0 p.1)
-    where
-      from : (front : Text) (a : Option ℕ × List ℕ) → IsActionOf before ns front a.0 a.1
-          → (b : Option ℕ × List ℕ) × ◌≡◌ {A = Text × (Option ℕ × List ℕ)} (front, a) (token, b)
-          × IsAccepting ns b.0 b.1
-      from front a (leads_down e d) = absurd (words-differ front token (sym e ∙ h.is))
-      from front a (accepts e d) = (a, ap (λ t. (t, a)) (h.only front e), d)
+  -- the action of its word and its numbers
+  action-made : (front : Text) (down : Option ℕ) (rules : List ℕ) → before ≡ front ++ action_word down
+      → preceded (codes " ") (map decimal (action_numbers down rules)) ≡ digits → IsRightAction down rules
+      → IsActionText text front down rules
+  action-made front down rules word spelled right = record {
+    right = right;
+    spelled = action-spelling front down rules
+        ∙ (ap (λ t. t ++ preceded (codes " ") (map decimal (action_numbers down rules))) (sym word)
+        ∙ (ap (λ t. before ++ t) spelled ∙ sym split.parts));
+  }
 
   -- without one of the words there is no action
-  pub no-word : ((rest : Text) → before ≡ rest ++ codes " down" → ⊥) → ((rest : Text) → before
-      ≡ rest ++ codes " accept" → ⊥)
-      → (p : Text × (Option ℕ × List ℕ)) → IsActionOf before ns p.0 p.1.0 p.1.1 → ⊥
+  pub no-word : ((rest : Text) → before ≡ rest ++ codes " down" → ⊥)
+      → ((rest : Text) → before ≡ rest ++ codes " accept" → ⊥) → (p : Text × (Option ℕ × List ℕ))
+      → IsActionText text p.0 p.1.0 p.1.1 → ⊥
   no-word down accept p h = go p.0 p.1.0 p.1.1 h
     where
-      go : (front : Text) (d : Option ℕ) (rules : List ℕ) → IsActionOf before ns front d rules → ⊥
-      go front d rules (leads_down e x) = down front e
-      go front d rules (accepts e x) = accept front e
+      go : (front : Text) (d : Option ℕ) (rules : List ℕ) → IsActionText text front d rules → ⊥
+      go front None rules h = accept front (action-parts front None rules h).0
+      go front (Some n) rules h = down front (action-parts front (Some n) rules h).0
+
+  module _ (token : Text) where
+    -- behind `down` there is a number
+    down-number : before ≡ token ++ codes " down" → (front : Text) (d : Option ℕ) (rules : List ℕ)
+        → IsActionText text front d rules → (n : ℕ) × (d ≡ Some n) × (rules ≡ []) × IsBlankNumber digits n
+    down-number is front None rules h = absurd (words-differ token front (sym is ∙ (action-parts front None rules h).0))
+    down-number is front (Some n) rules h =
+        let p = (action-parts front (Some n) rules h).1 in (
+          n,
+          refl,
+          h.right.1,
+          record {
+            short = h.right.0;
+            spelled = ap (λ t. codes " " ++ t) (sym (append-nil (decimal n))) ∙ p.spelled;
+          },
+        )
+
+    -- behind `accept` there are rules
+    accepted-rules : before ≡ token ++ codes " accept" → (front : Text) (d : Option ℕ) (rules : List ℕ)
+        → IsActionText text front d rules → (d ≡ None) × AreAcceptedText digits rules
+    accepted-rules is front None rules h =
+        (refl, record { right = h.right; spelled = (action-parts front None rules h).1.spelled })
+    accepted-rules is front (Some n) rules h =
+        absurd (words-differ front token (sym (action-parts front (Some n) rules h).0 ∙ is))
+
+    -- the token of an action is what stands before the word
+    down-token : IsOnly (λ rest. before ≡ rest ++ codes " down") token → (front : Text) (d : Option ℕ)
+        (rules : List ℕ) → IsActionText text front d rules → front ≡ token
+    down-token h front None rules a = absurd (words-differ token front (sym h.is ∙ (action-parts front None rules a).0))
+    down-token h front (Some n) rules a = h.only front (action-parts front (Some n) rules a).0
+
+    accept-token : IsOnly (λ rest. before ≡ rest ++ codes " accept") token → (front : Text) (d : Option ℕ)
+        (rules : List ℕ) → IsActionText text front d rules → front ≡ token
+    accept-token h front None rules a = h.only front (action-parts front None rules a).0
+    accept-token h front (Some n) rules a =
+        absurd (words-differ front token (sym (action-parts front (Some n) rules a).0 ∙ h.is))
+
+    module _ (h : IsOnly (λ rest. before ≡ rest ++ codes " down") token) where
+      -- behind `down` the action is found by its number
+      pub down-found : (n : ℕ) (accepts : List ℕ) → IsOnly (IsBlankNumber digits) n → accepts ≡ []
+          → IsOnly (λ (p : Text × (Option ℕ × List ℕ)). IsActionText text p.0 p.1.0 p.1.1) (token, (Some n, accepts))
+      down-found n accepts number none = record {
+        is = action-made token (Some n) accepts h.is (
+            ap (λ t. codes " " ++ t) (append-nil (decimal n)) ∙ number.is.spelled
+            ) (number.is.short, none);
+        only = λ p a. (
+            let d = down-number h.is p.0 p.1.0 p.1.1 a in
+            let same = number.only d.0 d.3 in
+            ap (λ t. (t, p.1)) (down-token h p.0 p.1.0 p.1.1 a)
+            ∙ (ap (λ x. (token, (x, p.1.1))) (d.1 ∙ ap Some same) ∙ ap (λ x. (token, (Some n, x))) (d.2 ∙ sym none))
+            );
+      }
+
+      -- without a number there is none
+      pub no-down : ((n : ℕ) → IsBlankNumber digits n → ⊥) → (p : Text × (Option ℕ × List ℕ))
+          → IsActionText text p.0 p.1.0 p.1.1 → ⊥
+      no-down none p a = (let d = down-number h.is p.0 p.1.0 p.1.1 a in none d.0 d.3)
+
+    module _ (h : IsOnly (λ rest. before ≡ rest ++ codes " accept") token) where
+      -- behind `accept` it is found by its rules
+      pub accept-found : (rules : List ℕ) → IsOnly (AreAcceptedText digits) rules
+          → IsOnly (λ (p : Text × (Option ℕ × List ℕ)). IsActionText text p.0 p.1.0 p.1.1) (token, (None, rules))
+      accept-found rules accepts = record {
+        is = action-made token None rules h.is accepts.is.spelled accepts.is.right;
+        only = λ p a. (
+            let d = accepted-rules h.is p.0 p.1.0 p.1.1 a in
+            ap (λ t. (t, p.1)) (accept-token h p.0 p.1.0 p.1.1 a)
+            ∙ (ap (λ x. (token, (x, p.1.1))) d.0 ∙ ap (λ x. (token, (None, x))) (accepts.only p.1.1 d.1))
+            );
+      }
+
+      -- without rules there is none
+      pub no-accept : ((rules : List ℕ) → AreAcceptedText digits rules → ⊥) → (p : Text × (Option ℕ × List ℕ))
+          → IsActionText text p.0 p.1.0 p.1.1 → ⊥
+      no-accept none p a = none p.1.1 (accepted-rules h.is p.0 p.1.0 p.1.1 a).1
 
 -- ---- one number, and rules
 
--- one number is that of the one action which leads down
-pub one-down : (ns : List ℕ) (n : ℕ) (rules : List ℕ) → ns ≡ n ∷ [] → rules ≡ []
-    → IsOnly (λ (a : Option ℕ × List ℕ). IsDownTo ns a.0 a.1) (Some n, rules)
-one-down ns n rules one none = record {
-  is = record { number = n; one = one; target = refl; none = none };
-  only = λ a d. (
-      let same : d.number ≡ n = (let e = sym d.one ∙ one in cc) in
-      ap (λ x. (x, a.1)) (d.target ∙ ap Some same) ∙ ap (λ x. (Some n, x)) (d.none ∙ sym none)
-      );
-}
+-- behind a blank a number is found by its word
+pub blank_number-through : {T : Type 0} (view : T → ℕ) (text word : Text) (r : Option T) → text ≡ codes " " ++ word
+    → Finds view (IsNumberText word) r → Finds view (IsBlankNumber text) r
+blank_number-through view text word r e =
+    Finds-like view (IsNumberText word) (IsBlankNumber text) r
+    (λ n h. record { short = h.short; spelled = ap (λ t. codes " " ++ t) h.text ∙ sym e })
+    (λ n h. record { short = h.short; text = append_cancel_left (codes " ") (decimal n) word (h.spelled ∙ e) })
 
--- ascending rules are those of the one action which accepts
-pub rules-accepted : (ns rules : List ℕ) (down : Option ℕ) → down ≡ None → rules ≡ ns → 0 < length ns
-    → are_ascending ns ≡ true → IsOnly (λ (a : Option ℕ × List ℕ). IsAccepting ns a.0 a.1) (down, rules)
-rules-accepted ns rules down none same some up = record {
-  is = record {
-    none = none;
-    some = λ e. (let empty : length ns ≡ 0 = ap length e in absurd (omega arith));
-    ascending = up;
-    rules = same;
-  };
-  only = λ a d. ap (λ x. (x, a.1)) (d.none ∙ sym none) ∙ ap (λ x. (down, x)) (d.rules ∙ sym same);
-}
+-- a number that is accepted is behind a blank
+pub accepted-numbers : (text : Text) (rules : List ℕ) → AreAcceptedText text rules → AreNumbersText text rules
+accepted-numbers text rules h = record { right = h.right.2; spelled = h.spelled }
+
+module _ (text : Text) (ns : List ℕ) (h : IsOnly (AreNumbersText text) ns) where
+  -- some ascending numbers are accepted
+  pub rules-accepted : are_accepted ns ≡ true → IsOnly (AreAcceptedText text) ns
+  rules-accepted test =
+      let t = and_parts (not (nat_eq (length ns) 0)) (are_ascending ns) test in
+      record {
+        is = record { right = (some ns t.0, t.1, h.is.right); spelled = h.is.spelled };
+        only = λ rules a. h.only rules (accepted-numbers text rules a);
+      }
+    where
+      some : (ns : List ℕ) → not (nat_eq (length ns) 0) ≡ true → ns ≢ []
+      some [] t e = (let wrong : false ≡ true = t in cc)
+      some (n ∷ ns) t e = absurd cc
+
+  -- and no others are
+  pub no-rules : are_accepted ns ≡ false → (rules : List ℕ) → AreAcceptedText text rules → ⊥
+  no-rules test rules a =
+      let same : rules ≡ ns = h.only rules (accepted-numbers text rules a) in
+      let wrong : true ≡ false = sym (go rules a.right.0 a.right.1) ∙ (ap are_accepted same ∙ test) in cc
+    where
+      go : (ns : List ℕ) → ns ≢ [] → are_ascending ns ≡ true → are_accepted ns ≡ true
+      go [] some up = absurd (some refl)
+      go (n ∷ ns) some up =
+          ap (λ v. not v && are_ascending (n ∷ ns)) (ne_eqb (length (n ∷ ns)) 0 (λ e. omega arith)) ∙ up
 
 -- ---- ascending numbers
 

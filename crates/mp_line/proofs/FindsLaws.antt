@@ -1,8 +1,6 @@
 -- What is found, said of other words.
-use Rattle.std.proofs.Common.{◌≡◌, ◌≢◌, ◌++◌, Option, Some, None, sym, ap, ◌∙◌, MatchOption, Bor}
+use Rattle.std.proofs.Common.{◌≡◌, Option, Some, None, ap, ◌∙◌}
 use Rattle.std.specs.Prelude.{Result, Ok, Err, IfOk}
-use Rattle.std.proofs.lemmas.List.{append_cancel_left, append_cancel_right}
-use Rattle.mp_io.specs.Devices.{Text}
 use Rattle.mp_line.specs.Finds.{Finds}
 
 -- what is found by one fact is found by another that says the same
@@ -24,24 +22,4 @@ Finds-through view f Q P None to from h = λ a p. (let m = from a p in h m.0 m.2
 Finds-through view f Q P (Some v) to from h = record {
   is = to (view v) h.is;
   only = λ a p. (let m = from a p in m.1 ∙ ap f (h.only m.0 m.2));
-}
-
--- what stands behind a front
-pub Finds-behind : (s front : Text) (r : Option (Bor Text))
-    → MatchOption r ((rest : Text) → s ≢ front ++ rest) (λ x. s ≡ front ++ x.now)
-    → Finds (λ (x : Bor Text). x.now) (λ rest. s ≡ front ++ rest) r
-Finds-behind s front None h = h
-Finds-behind s front (Some x) h = record {
-  is = h;
-  only = λ rest e. append_cancel_left front rest x.now (sym e ∙ h);
-}
-
--- what stands before an end
-pub Finds-before : (s end : Text) (r : Option (Bor Text))
-    → MatchOption r ((rest : Text) → s ≢ rest ++ end) (λ x. s ≡ x.now ++ end)
-    → Finds (λ (x : Bor Text). x.now) (λ rest. s ≡ rest ++ end) r
-Finds-before s end None h = h
-Finds-before s end (Some x) h = record {
-  is = h;
-  only = λ rest e. append_cancel_right rest x.now end (sym e ∙ h);
 }

@@ -5,6 +5,7 @@ pub mod ExactLaws
 pub mod ItemLaws
 pub mod HeldLaws
 pub mod TokenLaws
+pub mod SymbolLaws
 pub mod ActionLaws
 pub mod InstrLaws
 pub mod LineLaws

@@ -20,8 +20,9 @@ use Rattle.mp_line.specs.Finds.{IsOnly, Finds}
 use Rattle.mp_line.specs.LineTexts.{IsTargetText, IsTestText, IsRuleText, IsInstrText}
 use Rattle.mp_line.specs.Lines.{Line, op_line, kind_line, test_line, rule_line, code_line, begin_line, instr_line}
 use Rattle.mp_line.specs.Lines.{stop_line, IsLineText, IsCodeLine}
-use Rattle.mp_line.specs.Words.{IsWithout}
+use Rattle.mp_line.specs.Words.{IsWithout, begins_with_digit}
 use Rattle.mp_line.proofs.FindsLaws.{Finds-like, Finds-through}
+use Rattle.mp_line.proofs.InstrLaws.{no-line}
 use Rattle.mp_line.proofs.NumberLaws.{decimal-text, without-decimal}
 use Rattle.mp_line.proofs.WordLaws.{with-none, first-only, apart}
 
@@ -49,19 +50,12 @@ stop-rest text n rest e = (
 -- ---- numbers at the begin
 
 -- a number begins with a digit
-not-digit : (c : ℕ) (cs : Text) (n : ℕ) (rest : Text) → n < 2 ^ 32 → c ∷ cs ≡ decimal n ++ rest → is_ascii_digit c
-    ≡ false
-    → ⊥
-not-digit c cs n rest small e other =
-    let h = decimal-text n (omega arith) in
-    go (decimal n) h.some h.are_digits e
+number-begins : (n : ℕ) (rest : Text) → n < 2 ^ 32 → begins_with_digit (decimal n ++ rest) ≡ true
+number-begins n rest small = let h = decimal-text n (omega arith) in go (decimal n) h.some h.are_digits
   where
-    go : (ds : Text) → ds ≢ [] → list_all is_ascii_digit ds ≡ true → c ∷ cs ≡ ds ++ rest → ⊥
-    go [] some all e = some refl
-    go (d ∷ ds) some all e =
-        let p = and_parts (is_ascii_digit d) (list_all is_ascii_digit ds) all in
-        let same : d ≡ c = cc in
-        let wrong : true ≡ false = sym p.0 ∙ (ap is_ascii_digit same ∙ other) in cc
+    go : (ds : Text) → ds ≢ [] → list_all is_ascii_digit ds ≡ true → begins_with_digit (ds ++ rest) ≡ true
+    go [] some all = absurd (some refl)
+    go (d ∷ ds) some all = (and_parts (is_ascii_digit d) (list_all is_ascii_digit ds) all).0
 
 -- a number that isn't 0 isn't spelt so
 not-zero : (n : ℕ) (rest more : Text) → 1 ≤ n → n < 2 ^ 32 → decimal n ++ 32 ∷ rest ≡ codes "0" ++ 32 ∷ more → ⊥
@@ -125,6 +119,14 @@ module _ (sig : Sig) (format : Format) (n : ℕ) (some : 1 ≤ n) (small : n < 2
       only stop_line g = refl
       only l g = absurd g
 
+  -- a text that begins neither with the word of `begin` nor with the number is none
+  pub no-number : ((word : Text) → text ≡ codes "0 begin down " ++ word → ⊥)
+      → ((rest : Text) → text ≡ decimal n ++ (codes " " ++ rest) → ⊥) → (l : Line) → IsHere l → ⊥
+  no-number start none (begin_line x) g = start (target_text x) g.1
+  no-number start none (instr_line i) g = no-line sig format n text none i g
+  no-number start none stop_line g = none (codes "stop") g
+  no-number start none l g = absurd g
+
   module _ (no_start : (word : Text) → text ≡ codes "0 begin down " ++ word → ⊥)
       (no_stop : text ≢ decimal n ++ codes " stop") where
     -- another line is found by its instruction
@@ -148,16 +150,14 @@ module _ (sig : Sig) (format : Format) (n : ℕ) (some : 1 ≤ n) (small : n < 2
     IsThere = IsLineText sig format most n text
 
     -- the text begins with another byte than that of a number
-    no-number-line : (c : ℕ) (cs : Text) → text ≡ c ∷ cs → is_ascii_digit c ≡ false → (l : Line) → IsHere l → ⊥
-    no-number-line c cs e other (begin_line x) g =
-        (let same = sym e ∙ g.1 in
-        let wrong : true ≡ false = sym (ap is_ascii_digit (first-of c 48 cs _ same)) ∙ other in cc)
-      where
-        first-of : (a b : ℕ) (x y : Text) → a ∷ x ≡ b ∷ y → a ≡ b
-        first-of a b x y e = cc
-    no-number-line c cs e other (instr_line i) g = not-digit c cs n _ small (sym e ∙ sym g.text) other
-    no-number-line c cs e other stop_line g = not-digit c cs n _ small (sym e ∙ g) other
-    no-number-line c cs e other l g = absurd g
+    no-number-line : begins_with_digit text ≡ false → (l : Line) → IsHere l → ⊥
+    no-number-line other (begin_line x) g =
+        (let wrong : true ≡ false = sym (ap begins_with_digit g.1) ∙ other in cc)
+    no-number-line other (instr_line i) g =
+        let wrong : true ≡ false = sym (number-begins n _ small) ∙ (ap begins_with_digit g.text ∙ other) in cc
+    no-number-line other stop_line g =
+        let wrong : true ≡ false = sym (ap begins_with_digit g ∙ number-begins n _ small) ∙ other in cc
+    no-number-line other l g = absurd g
 
     -- the line of an operation is found
     pub op-found : (middle : Text) → text ≡ codes "op " ++ (middle ++ codes ";") → IsOnly IsThere op_line
@@ -169,9 +169,9 @@ module _ (sig : Sig) (format : Format) (n : ℕ) (some : 1 ≤ n) (small : n < 2
         only (test_line c) g = absurd (apart 2 _ _ refl (sym e ∙ sym g.text))
         only (rule_line r) g = absurd (apart 2 _ _ refl (sym e ∙ sym g.text))
         only code_line g = absurd (apart 2 _ _ refl (sym e ∙ g))
-        only (begin_line x) g = absurd (no-number-line 111 _ e refl (begin_line x) g)
-        only (instr_line i) g = absurd (no-number-line 111 _ e refl (instr_line i) g)
-        only stop_line g = absurd (no-number-line 111 _ e refl stop_line g)
+        only (begin_line x) g = absurd (no-number-line (ap begins_with_digit e) (begin_line x) g)
+        only (instr_line i) g = absurd (no-number-line (ap begins_with_digit e) (instr_line i) g)
+        only stop_line g = absurd (no-number-line (ap begins_with_digit e) stop_line g)
 
     -- so is that of a kind
     pub kind-line-found : (middle : Text) → text ≡ codes "kind " ++ (middle ++ codes ";") → IsOnly IsThere kind_line
@@ -183,9 +183,9 @@ module _ (sig : Sig) (format : Format) (n : ℕ) (some : 1 ≤ n) (small : n < 2
         only (test_line c) g = absurd (apart 2 _ _ refl (sym e ∙ sym g.text))
         only (rule_line r) g = absurd (apart 2 _ _ refl (sym e ∙ sym g.text))
         only code_line g = absurd (apart 2 _ _ refl (sym e ∙ g))
-        only (begin_line x) g = absurd (no-number-line 107 _ e refl (begin_line x) g)
-        only (instr_line i) g = absurd (no-number-line 107 _ e refl (instr_line i) g)
-        only stop_line g = absurd (no-number-line 107 _ e refl stop_line g)
+        only (begin_line x) g = absurd (no-number-line (ap begins_with_digit e) (begin_line x) g)
+        only (instr_line i) g = absurd (no-number-line (ap begins_with_digit e) (instr_line i) g)
+        only stop_line g = absurd (no-number-line (ap begins_with_digit e) stop_line g)
 
     -- a test line is found by its test
     pub test-found : (c : Cond) → IsOnly (IsTestText sig text) c → IsOnly IsThere (test_line c)
@@ -197,9 +197,9 @@ module _ (sig : Sig) (format : Format) (n : ℕ) (some : 1 ≤ n) (small : n < 2
         only (test_line d) g = ap test_line (h.only d g)
         only (rule_line r) g = absurd (apart 2 _ _ refl (h.is.text ∙ sym g.text))
         only code_line g = absurd (apart 2 _ _ refl (h.is.text ∙ g))
-        only (begin_line x) g = absurd (no-number-line 116 _ (sym h.is.text) refl (begin_line x) g)
-        only (instr_line i) g = absurd (no-number-line 116 _ (sym h.is.text) refl (instr_line i) g)
-        only stop_line g = absurd (no-number-line 116 _ (sym h.is.text) refl stop_line g)
+        only (begin_line x) g = absurd (no-number-line (ap begins_with_digit (sym h.is.text)) (begin_line x) g)
+        only (instr_line i) g = absurd (no-number-line (ap begins_with_digit (sym h.is.text)) (instr_line i) g)
+        only stop_line g = absurd (no-number-line (ap begins_with_digit (sym h.is.text)) stop_line g)
 
     -- a rule line is found by its rule
     pub rule-found : (r : RuleLine) → IsOnly (IsRuleText sig format most text) r → IsOnly IsThere (rule_line r)
@@ -211,9 +211,9 @@ module _ (sig : Sig) (format : Format) (n : ℕ) (some : 1 ≤ n) (small : n < 2
         only (test_line d) g = absurd (apart 2 _ _ refl (h.is.text ∙ sym g.text))
         only (rule_line s) g = ap rule_line (h.only s g)
         only code_line g = absurd (apart 2 _ _ refl (h.is.text ∙ g))
-        only (begin_line x) g = absurd (no-number-line 114 _ (sym h.is.text) refl (begin_line x) g)
-        only (instr_line i) g = absurd (no-number-line 114 _ (sym h.is.text) refl (instr_line i) g)
-        only stop_line g = absurd (no-number-line 114 _ (sym h.is.text) refl stop_line g)
+        only (begin_line x) g = absurd (no-number-line (ap begins_with_digit (sym h.is.text)) (begin_line x) g)
+        only (instr_line i) g = absurd (no-number-line (ap begins_with_digit (sym h.is.text)) (instr_line i) g)
+        only stop_line g = absurd (no-number-line (ap begins_with_digit (sym h.is.text)) stop_line g)
 
     -- the line before the instructions is found
     pub code-found : text ≡ codes "code" → IsOnly IsThere code_line
@@ -225,16 +225,14 @@ module _ (sig : Sig) (format : Format) (n : ℕ) (some : 1 ≤ n) (small : n < 2
         only (test_line c) g = absurd (apart 2 _ _ refl (sym e ∙ sym g.text))
         only (rule_line r) g = absurd (apart 2 _ _ refl (sym e ∙ sym g.text))
         only code_line g = refl
-        only (begin_line x) g = absurd (no-number-line 99 _ e refl (begin_line x) g)
-        only (instr_line i) g = absurd (no-number-line 99 _ e refl (instr_line i) g)
-        only stop_line g = absurd (no-number-line 99 _ e refl stop_line g)
+        only (begin_line x) g = absurd (no-number-line (ap begins_with_digit e) (begin_line x) g)
+        only (instr_line i) g = absurd (no-number-line (ap begins_with_digit e) (instr_line i) g)
+        only stop_line g = absurd (no-number-line (ap begins_with_digit e) stop_line g)
 
-    -- where the others aren't there, the line is one of an instruction
-    pub code-line-through : {T : Type 0} (view : T → Line) (r : Option T) → (IsDeclaration (codes "op ") text → ⊥)
-        → (IsDeclaration (codes "kind ") text → ⊥) → ((c : Cond) → IsTestText sig text c → ⊥)
-        → ((s : RuleLine) → IsRuleText sig format most text s → ⊥) → text ≢ codes "code" → Finds view IsHere r
-        → Finds view IsThere r
-    code-line-through view r op kd ts rl cd = Finds-like view IsHere IsThere r to from
+    -- a line that begins with a digit is one of an instruction
+    pub code-line-through : {T : Type 0} (view : T → Line) (r : Option T) → begins_with_digit text ≡ true
+        → Finds view IsHere r → Finds view IsThere r
+    code-line-through view r digit = Finds-like view IsHere IsThere r to from
       where
         to : (l : Line) → IsHere l → IsThere l
         to op_line g = absurd g
@@ -246,12 +244,28 @@ module _ (sig : Sig) (format : Format) (n : ℕ) (some : 1 ≤ n) (small : n < 2
         to (instr_line i) g = g
         to stop_line g = g
 
+        other : begins_with_digit text ≡ false → ⊥
+        other e = (let wrong : true ≡ false = sym digit ∙ e in cc)
+
         from : (l : Line) → IsThere l → IsHere l
-        from op_line g = op g
-        from kind_line g = kd g
-        from (test_line c) g = ts c g
-        from (rule_line s) g = rl s g
-        from code_line g = cd g
+        from op_line g = absurd (other (ap begins_with_digit g.1))
+        from kind_line g = absurd (other (ap begins_with_digit g.1))
+        from (test_line c) g = absurd (other (ap begins_with_digit (sym g.text)))
+        from (rule_line s) g = absurd (other (ap begins_with_digit (sym g.text)))
+        from code_line g = absurd (other (ap begins_with_digit g))
         from (begin_line x) g = g
         from (instr_line i) g = g
         from stop_line g = g
+
+    -- another is one of the others
+    pub no-word-line : begins_with_digit text ≡ false → (IsDeclaration (codes "op ") text → ⊥)
+        → (IsDeclaration (codes "kind ") text → ⊥) → ((c : Cond) → IsTestText sig text c → ⊥)
+        → ((s : RuleLine) → IsRuleText sig format most text s → ⊥) → text ≢ codes "code" → (l : Line) → IsThere l → ⊥
+    no-word-line other op kd ts rl cd op_line g = op g
+    no-word-line other op kd ts rl cd kind_line g = kd g
+    no-word-line other op kd ts rl cd (test_line c) g = ts c g
+    no-word-line other op kd ts rl cd (rule_line s) g = rl s g
+    no-word-line other op kd ts rl cd code_line g = cd g
+    no-word-line other op kd ts rl cd (begin_line x) g = no-number-line other (begin_line x) g
+    no-word-line other op kd ts rl cd (instr_line i) g = no-number-line other (instr_line i) g
+    no-word-line other op kd ts rl cd stop_line g = no-number-line other stop_line g

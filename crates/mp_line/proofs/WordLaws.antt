@@ -1,18 +1,21 @@
 -- A text is split at the first, and at the last, such byte in one way.
 use Rattle.std.proofs.Common.{◌≡◌, ◌<◌, ◌≤◌, ℕ, zero, suc, Bool, true, false, [], ◌∷◌, ◌++◌, take, drop}
 use Rattle.std.proofs.Common.{length}
-use Rattle.std.proofs.Common.{get_or, inl, inr, refl, sym, ap, ◌∙◌, arith}
-use Rattle.std.specs.Prelude.{nat_eq, nat_lt, ◌||◌, Some, None, cond}
+use Rattle.std.proofs.Common.{get_or, inl, inr, refl, sym, ap, ◌∙◌, add-one, arith}
+use Rattle.std.specs.Prelude.{nat_eq, nat_lt, ◌+◌, ◌||◌, ◌&&◌, Some, None, cond}
 use Rattle.std.specs.List.{list_any, position, position_or_len}
 use Rattle.std.proofs.lemmas.Bool.{eqb-true, eq-eqb, ltb-false}
 use Rattle.std.proofs.lemmas.List.Quantifiers.{position-Some}
 use Rattle.std.proofs.lemmas.List.Sums.{fails_before_first}
-use Rattle.std.proofs.lemmas.List.{take-append-drop, append-nil, append_cancel_left}
+use Rattle.std.proofs.lemmas.List.{take-append-drop, append-nil, append_cancel_left, append_cancel_right}
+use Rattle.std.proofs.lemmas.List.{length-append}
 use Rattle.std.proofs.Math.Bool.{or-true}
-use Rattle.std.proofs.Math.Seq.{drop-cons}
+use Rattle.std.proofs.Math.ListN.{drop_of_length-le}
+use Rattle.std.proofs.Math.Seq.{drop-cons, take-append_seam, drop-append_seam}
 use Rattle.std.specs.Prelude.{bytes_eq}
 use Rattle.std.proofs.lemmas.Slice.Eq.{bytes_eq-Decides}
 use Rattle.mp_io.specs.Devices.{Text}
+use Rattle.mp_line.specs.Finds.{IsOnly}
 use Rattle.mp_line.specs.Words.{IsWithout, IsLastPlace, IsSplitAtFirst, IsSplitAtLast, IsFirstWord}
 
 module _ (b : ℕ) where
@@ -141,6 +144,62 @@ cut-none t r e end = record {
   bare = without-position 32 t e;
   ends = inl end;
 }
+
+-- ---- texts that are compared byte by byte
+
+-- where the next bytes are the same, texts are the same as what stands behind these
+pub same-next : (s t : Text) (i : ℕ) → i < length s → length s ≡ length t → get_or s i 0 ≡ get_or t i 0
+    → bytes_eq (drop (i + 1) s) (drop (i + 1) t) ≡ bytes_eq (drop i s) (drop i t)
+same-next s t i within same e =
+    ap (λ k. bytes_eq (drop k s) (drop k t)) (add-one i)
+    ∙ sym (ap (λ l. bytes_eq l (drop i t)) (drop-cons s i 0 within)
+    ∙ (ap (bytes_eq (get_or s i 0 ∷ drop (suc i) s)) (drop-cons t i 0 (omega arith))
+    ∙ ap (λ v. v && bytes_eq (drop (suc i) s) (drop (suc i) t)) (eq-eqb (get_or s i 0) (get_or t i 0) e)))
+
+-- where they are not, the texts differ
+pub same-stop : (s t : Text) (i : ℕ) → i < length s → length s ≡ length t → (get_or s i 0 ≡ get_or t i 0 → ⊥)
+    → s ≡ t → ⊥
+same-stop s t i within same other e = other (ap (λ l. get_or l i 0) e)
+
+-- where all are, they are the same
+pub same-end : (s t : Text) (i : ℕ) → length s ≤ i → length s ≡ length t
+    → bytes_eq (drop i s) (drop i t) ≡ bytes_eq s t → s ≡ t
+same-end s t i past same e =
+    (bytes_eq-Decides s t).0 (sym e ∙ (ap (λ l. bytes_eq l (drop i t)) (drop_of_length-le s past)
+    ∙ ap (bytes_eq []) (drop_of_length-le t (omega arith))))
+
+module _ (s : Text) where
+  -- what stands behind a front is found
+  pub behind-found : (front : Text) → take (length front) s ≡ front
+      → IsOnly (λ rest. s ≡ front ++ rest) (drop (length front) s)
+  behind-found front e =
+      let parts = sym (take-append-drop (length front) s) ∙ ap (λ l. l ++ drop (length front) s) e in
+      record { is = parts; only = λ rest g. append_cancel_left front rest (drop (length front) s) (sym g ∙ parts) }
+
+  -- a text with a front begins so
+  pub behind-begins : (front rest : Text) → s ≡ front ++ rest
+      → (length front ≤ length s) × (take (length front) s ≡ front)
+  behind-begins front rest e = (
+    omega (arith, ap length e, length-append front rest),
+    ap (take (length front)) e ∙ take-append_seam front rest,
+  )
+
+  -- what stands before an end is found
+  pub before-found : (end : Text) (at : ℕ) → drop at s ≡ end → IsOnly (λ rest. s ≡ rest ++ end) (take at s)
+  before-found end at e =
+      let parts = sym (take-append-drop at s) ∙ ap (λ l. take at s ++ l) e in
+      record { is = parts; only = λ rest g. append_cancel_right rest (take at s) end (sym g ∙ parts) }
+
+  -- a text with an end ends so
+  pub before-ends : (end rest : Text) → s ≡ rest ++ end
+      → (length end ≤ length s) × ((at : ℕ) → at + length end ≡ length s → drop at s ≡ end)
+  before-ends end rest e = (
+    omega (arith, ap length e, length-append rest end),
+    λ at h. (
+        let same : at ≡ length rest = omega (arith, ap length e, length-append rest end) in
+        ap (λ n. drop n s) same ∙ (ap (drop (length rest)) e ∙ drop-append_seam rest end)
+        ),
+  )
 
 -- ---- texts that differ
 

@@ -1,12 +1,12 @@
 -- Of what a text is the printed text.
-use Rattle.std.specs.Prelude.{◌≡◌, ◌≢◌, ◌≤◌, ℕ, Bool, true, not, List, [], ◌∷◌, ◌++◌, map, take, Option, Some, None}
-use Rattle.std.specs.Prelude.{⊤, slice_get, codes, decimal, IsSome}
+use Rattle.std.specs.Prelude.{◌≡◌, ◌≢◌, ◌≤◌, ℕ, Bool, true, not, ◌&&◌, List, ◌++◌, map, take, Option, Some, None}
+use Rattle.std.specs.Prelude.{⊤, nat_eq, length, slice_get, codes, decimal, IsSome, position}
 use Rattle.std.specs.List.{AllByRecursion}
 use Rattle.mp_io.specs.Devices.{Text}
 use Rattle.mp_term.specs.Names.{is_name}
 use Rattle.mp_term.specs.Size.{node_count}
 use Rattle.mp_term.specs.Tree.{Tree, symbol}
-use Rattle.mp_term.specs.Signature.{Sig, kind_names}
+use Rattle.mp_term.specs.Signature.{Sig, kind_names, has_name}
 use Rattle.mp_pattern.specs.declared.limits.TheConstants.{MAX_COUNT, MAX_DEFAULT_NODES}
 use Rattle.mp_pattern.specs.CondTree.{Cond}
 use Rattle.mp_pattern.specs.NetTokens.{NetToken, sym_token, numbered}
@@ -73,6 +73,12 @@ pub record AreNamesText (most : ℕ) (text : Text) (kept : List Text) : Type 0 w
   pub all : List Text
   pub names : AreItemsText IsName (λ x. x) text all
   pub front : kept ≡ take most all
+
+-- the word is the name, which no operation has
+pub record IsFreeName (sig : Sig) (word name : Text) : Type 0 where
+  pub right : is_name name ≡ true
+  pub free : position (has_name name) sig.ops ≡ None
+  pub text : name ≡ word
 
 -- ---- terms, patterns and conditions
 
@@ -175,24 +181,19 @@ pub record IsOverText (text front : Text) (target : Option ℕ) : Type 0 where
   pub short : IsShortTarget target
   pub spelled : front ++ (codes " over " ++ target_text target) ≡ text
 
--- the numbers are the one instruction to which an action leads down
-pub record IsDownTo (ns : List ℕ) (down : Option ℕ) (accepts : List ℕ) : Type 0 where
-  pub number : ℕ
-  pub one : ns ≡ number ∷ []
-  pub target : down ≡ Some number
-  pub none : accepts ≡ []
+-- the text is the number, a blank before it
+pub record IsBlankNumber (text : Text) (n : ℕ) : Type 0 where
+  pub short : IsShort n
+  pub spelled : codes " " ++ decimal n ≡ text
 
--- the numbers are the rules that an action accepts
-pub record IsAccepting (ns : List ℕ) (down : Option ℕ) (accepts : List ℕ) : Type 0 where
-  pub none : down ≡ None
-  pub some : ns ≢ []
-  pub ascending : are_ascending ns ≡ true
-  pub rules : accepts ≡ ns
+-- there are numbers, and each is less than the next
+abbrev pub are_accepted : List ℕ → Bool
+are_accepted ns = not (nat_eq (length ns) 0) && are_ascending ns
 
--- the text and the numbers are those of the action, which stands behind the front
-pub data IsActionOf (text : Text) (ns : List ℕ) (front : Text) (down : Option ℕ) (accepts : List ℕ) : Type 0 where
-  leads_down : text ≡ front ++ codes " down" → IsDownTo ns down accepts → IsActionOf text ns front down accepts
-  accepts : text ≡ front ++ codes " accept" → IsAccepting ns down accepts → IsActionOf text ns front down accepts
+-- the text is the numbers of the rules that an action accepts, a blank before each
+pub record AreAcceptedText (text : Text) (rules : List ℕ) : Type 0 where
+  pub right : IsRightAction None rules
+  pub spelled : preceded (codes " ") (map decimal rules) ≡ text
 
 -- the text ends with the action, where it leads down and which rules it accepts
 pub record IsActionText (text front : Text) (down : Option ℕ) (accepts : List ℕ) : Type 0 where

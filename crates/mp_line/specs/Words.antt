@@ -52,6 +52,11 @@ pub record IsBeforeNumbers (text front digits : Text) : Type 0 where
   pub only : list_all is_digit_or_blank digits ≡ true
   pub last : (before : Text) (c : ℕ) → front ≡ before ++ c ∷ [] → is_digit_or_blank c ≡ false
 
+-- a digit comes first
+abbrev pub begins_with_digit : Text → Bool
+begins_with_digit [] = false
+begins_with_digit (c ∷ cs) = is_ascii_digit c
+
 -- a letter, a digit or a blank
 abbrev pub is_letter_or_blank : ℕ → Bool
 is_letter_or_blank c = is_name_byte c || nat_eq c 32

@@ -4,11 +4,11 @@ ghost use Rattle.std.specs.Prelude.{◌≡◌, IfOk};
 ghost use Rattle.mp_program.specs.RightForm.{are_ascending};
 ghost use Rattle.mp_line.specs.ActionView.{action_view};
 ghost use Rattle.mp_line.specs.Finds.{Finds, FindsPair};
-ghost use Rattle.mp_line.specs.LineTexts.{IsActionText, IsActionOf, IsDownTo, IsAccepting};
+ghost use Rattle.mp_line.specs.LineTexts.{IsBlankNumber, are_accepted, AreAcceptedText, IsActionText};
 ghost use Rattle.mp_line.specs.Words.{IsBeforeNumbers, is_digit_or_blank};
 
-use crate::numbers::numbers;
-use crate::words::before;
+use crate::numbers::{number, numbers};
+use crate::words::{before, behind};
 use mp_term::Memory;
 use mp_walk::Numbers;
 use std::alloc::Global;
@@ -53,49 +53,35 @@ fn before_numbers(text: &[u8]) -> (&[u8], &[u8])
     (b"".as_slice(), text)
 }
 
-// The action that leads down to the one number.
-fn down_to(alloc: Global, numbers: &[u32]) -> Option<Action>
-    ensures { Finds action_view (λ a. IsDownTo numbers.now a.0 a.1) result }
+// The number, with a blank before it.
+fn blank_and_number(text: &[u8]) -> Option<u32>
+    ensures { Finds (λ n. n) (IsBlankNumber text.now) result }
 {
-    match numbers {
-        [number] => Some(Action {
-            down: Some(*number),
-            accepts: Numbers::new(alloc),
-        }),
-        _ => None,
-    }
-}
-
-// The action that accepts the rules.
-fn accepted(accepts: Numbers) -> Option<Action>
-    ensures { Finds action_view (λ a. IsAccepting accepts a.0 a.1) result }
-{
-    if accepts.len() > 0 && are_ascending(accepts.as_slice()) {
-        return Some(Action {
-            down: None,
-            accepts,
-        });
-    }
-    None
-}
-
-// The text of the token before the word of an action and its numbers, and the action.
-fn action_of(alloc: Global, front: &[u8], numbers: Numbers) -> Option<(&[u8], Action)>
-    ensures { FindsPair (λ p. p.0.now) (λ p. action_view p.1)
-        (λ token a. IsActionOf front.now numbers token a.0 a.1) result }
-{
-    if let Some(token) = before(front, b" down") {
-        let Some(action) = down_to(alloc, numbers.as_slice()) else {
-            return None;
-        };
-        return Some((token, action));
-    }
-    let Some(token) = before(front, b" accept") else {
-        return None;
-    };
-    match accepted(numbers) {
-        Some(action) => Some((token, action)),
+    match behind(b" ", text) {
+        Some(word) => number(word),
         None => None,
+    }
+}
+
+// There are numbers, and each is less than the next.
+fn are_accepted(numbers: &[u32]) -> bool
+    ensures { result ≡ are_accepted numbers.now }
+{
+    !numbers.is_empty() && are_ascending(numbers)
+}
+
+// The numbers of the rules that an action accepts, a blank before each.
+fn accepted(alloc: Global, text: &[u8]) -> Result<Option<Numbers>, Memory>
+    ensures { IfOk result (λ o. Finds (λ ns. ns) (AreAcceptedText text.now) o) }
+{
+    let Some(numbers) = numbers(alloc, text)? else {
+        return Ok(None);
+    };
+    let is_right = are_accepted(numbers.as_slice());
+    if is_right {
+        Ok(Some(numbers))
+    } else {
+        Ok(None)
     }
 }
 
@@ -105,8 +91,25 @@ pub(crate) fn split_action(alloc: Global, text: &[u8]) -> Result<Option<(&[u8], 
         (λ front a. IsActionText text.now front a.0 a.1) o) }
 {
     let (front, digits) = before_numbers(text);
-    match numbers(alloc, digits)? {
-        Some(numbers) => Ok(action_of(alloc, front, numbers)),
-        None => Ok(None),
+    if let Some(token) = before(front, b" down") {
+        let Some(number) = blank_and_number(digits) else {
+            return Ok(None);
+        };
+        let accepts = Numbers::new(alloc);
+        let down = Some(number);
+        return Ok(Some((token, Action { down, accepts })));
     }
+    let Some(token) = before(front, b" accept") else {
+        return Ok(None);
+    };
+    let Some(accepts) = accepted(alloc, digits)? else {
+        return Ok(None);
+    };
+    Ok(Some((
+        token,
+        Action {
+            down: None,
+            accepts,
+        },
+    )))
 }

@@ -22,6 +22,9 @@ fn is_term_text(alloc: Global, sig: &Signature, term: &Term, text: &[u8]) -> Res
     ensures { IfOk result (λ same. MatchBool same (term_text sig.now (tree term.now) ≡ text.now)
         (term_text sig.now (tree term.now) ≢ text.now)) }
 {
+    if let Term::Sym(name) = term {
+        return Ok(name.bytes() == text);
+    }
     let mut sink = TextSink::new(alloc);
     match write_term(sig, term, &mut sink) {
         Ok(()) => Ok(sink.content() == text),

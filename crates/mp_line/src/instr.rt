@@ -3,10 +3,10 @@
 ghost use Rattle.std.specs.Prelude.{◌<◌, ◌^◌, ◌-◌, length, IfOk};
 ghost use Rattle.mp_walk.specs.InstrView.{plain_instr};
 ghost use Rattle.mp_line.specs.Finds.{Finds, FindsPair};
-ghost use Rattle.mp_line.specs.LineTexts.{IsInstrBody, IsInstrText, IsOverText};
+ghost use Rattle.mp_line.specs.LineTexts.{IsInstrBody, IsOverText};
 
 use crate::action::split_action;
-use crate::numbers::{behind_number, target};
+use crate::numbers::target;
 use crate::token::token;
 use crate::words::{before, split_last};
 use mp_program::Format;
@@ -31,7 +31,7 @@ fn split_over(text: &[u8]) -> Option<(&[u8], Option<u32>)>
 }
 
 // The instruction whose printed line this is, behind its number and the blank.
-fn numbered_instr(
+pub(crate) fn instr(
     alloc: Global,
     sig: &Signature,
     format: Format,
@@ -53,23 +53,6 @@ fn numbered_instr(
             over,
             accepts: action.accepts,
         })),
-        None => Ok(None),
-    }
-}
-
-// The instruction of the number whose printed line this is.
-pub(crate) fn instr(
-    alloc: Global,
-    sig: &Signature,
-    format: Format,
-    own: u32,
-    line: &[u8],
-) -> Result<Option<Instr>, Memory>
-    requires { length line.now < 2 ^ 32 - 1 }
-    ensures { IfOk result (λ o. Finds plain_instr (IsInstrText sig.now format own line.now) o) }
-{
-    match behind_number(own, line) {
-        Some(rest) => numbered_instr(alloc, sig, format, rest),
         None => Ok(None),
     }
 }

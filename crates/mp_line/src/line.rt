@@ -1,17 +1,18 @@
 //! Whole lines.
 
-ghost use Rattle.std.specs.Prelude.{◌≡◌, ◌≤◌, ◌<◌, ◌^◌, ◌-◌, ◌++◌, ◌↔◌, length, codes, decimal, IfOk, IsTrue};
+ghost use Rattle.std.specs.Prelude.{◌≡◌, ◌≤◌, ◌<◌, ◌^◌, ◌-◌, ◌↔◌, ℕ, false, length, IfOk, IsTrue};
 ghost use Rattle.mp_program.specs.RightForm.{IsDeclaration};
 ghost use Rattle.mp_line.specs.Finds.{Finds};
 ghost use Rattle.mp_line.specs.Lines.{IsLineText, IsCodeLine};
 ghost use Rattle.mp_line.specs.LineView.{line_view};
+ghost use Rattle.mp_line.specs.Words.{begins_with_digit};
 
 use crate::instr::instr;
 use crate::names::MAX_KEPT;
 use crate::numbers::{behind_number, target};
 use crate::rule::rule;
 use crate::test::test;
-use crate::words::{behind, between};
+use crate::words::{behind, between, is_same};
 use mp_pattern::Cond;
 use mp_program::{Format, RuleLine};
 use mp_term::{Memory, Signature};
@@ -46,16 +47,6 @@ fn is_declaration(word: &[u8], text: &[u8]) -> bool
     between(word, text, b";").is_some()
 }
 
-// The line is the last one of the instructions, where the next instruction would have the number.
-fn is_stop(own: u32, text: &[u8]) -> bool
-    ensures { IsTrue result ↔ (text.now ≡ decimal own ++ codes " stop") }
-{
-    match behind_number(own, text) {
-        Some(rest) => rest == b"stop".as_slice(),
-        None => false,
-    }
-}
-
 // The line of an instruction, of `begin` or of `stop`, where the next instruction has the number.
 fn code_line(
     alloc: Global,
@@ -74,13 +65,56 @@ fn code_line(
         };
         return Ok(Some(Line::Begin(first)));
     }
-    if is_stop(own, text) {
+    let Some(rest) = behind_number(own, text) else {
+        return Ok(None);
+    };
+    if is_same(rest, b"stop") {
         return Ok(Some(Line::Stop));
     }
-    match instr(alloc, sig, format, own, text)? {
+    match instr(alloc, sig, format, rest)? {
         Some(instr) => Ok(Some(Line::Instr(instr))),
         None => Ok(None),
     }
+}
+
+// A digit comes first.
+fn begins_with_digit(text: &[u8]) -> bool
+    ensures { result ≡ begins_with_digit text.now }
+{
+    match text {
+        [first, ..] => first.is_ascii_digit(),
+        [] => false,
+    }
+}
+
+// The line that is no instruction, no `begin` and no `stop`.
+fn word_line(
+    alloc: Global,
+    sig: &Signature,
+    format: Format,
+    text: &[u8],
+) -> Result<Option<Line>, Memory>
+    requires few { length text.now < 2 ^ 32 - 1 }
+    requires other { begins_with_digit text.now ≡ false }
+    ensures { (n : ℕ) → 1 ≤ n → n < 2 ^ 32
+        → IfOk result (λ o. Finds line_view (IsLineText sig.now format MAX_KEPT n text.now) o) }
+{
+    if let Some(line) = rule(alloc, sig, format, text)? {
+        return Ok(Some(Line::Rule(line)));
+    }
+    if let Some(cond) = test(alloc, sig, text)? {
+        return Ok(Some(Line::Test(cond)));
+    }
+    if is_declaration(b"op ", text) {
+        return Ok(Some(Line::Op));
+    }
+    if is_declaration(b"kind ", text) {
+        return Ok(Some(Line::Kind));
+    }
+    if is_same(text, b"code") {
+        return Ok(Some(Line::Code));
+    }
+    Ok(None)
 }
 
 /// The line whose text this is, without its line feed, in a program text of the format, where the next instruction has
@@ -99,20 +133,8 @@ pub fn read_line(
     requires few { length text.now < 2 ^ 32 - 1 }
     ensures { IfOk result (λ o. Finds line_view (IsLineText sig.now format MAX_KEPT own text.now) o) }
 {
-    if is_declaration(b"op ", text) {
-        return Ok(Some(Line::Op));
+    if begins_with_digit(text) {
+        return code_line(alloc, sig, format, own, text);
     }
-    if is_declaration(b"kind ", text) {
-        return Ok(Some(Line::Kind));
-    }
-    if let Some(cond) = test(alloc, sig, text)? {
-        return Ok(Some(Line::Test(cond)));
-    }
-    if let Some(line) = rule(alloc, sig, format, text)? {
-        return Ok(Some(Line::Rule(line)));
-    }
-    if text == b"code".as_slice() {
-        return Ok(Some(Line::Code));
-    }
-    code_line(alloc, sig, format, own, text)
+    word_line(alloc, sig, format, text)
 }

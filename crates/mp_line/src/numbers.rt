@@ -1,12 +1,14 @@
 //! Numbers of a line.
 
-ghost use Rattle.std.specs.Prelude.{◌≡◌, ◌^◌, ◌++◌, min, bytes_eq, codes, decimal, IfOk};
+ghost use Rattle.std.specs.Char.{is_ascii_digit};
+ghost use Rattle.std.specs.List.{list_all};
+ghost use Rattle.std.specs.Prelude.{◌≡◌, ◌^◌, ◌++◌, min, codes, decimal, IfOk};
 ghost use Rattle.mp_build.specs.Names.{number_of};
+ghost use Rattle.mp_program.specs.Reading.{is_numeral};
 ghost use Rattle.mp_line.specs.Finds.{Finds};
 ghost use Rattle.mp_line.specs.LineTexts.{IsNumberText, IsNumberedText, IsVariableText, IsTargetText, AreNumbersText};
 
-use crate::words::{behind, blank_and_word};
-use itoa::Buffer;
+use crate::words::{behind, blank_and_word, is_same, split_first};
 use mp_term::Memory;
 use mp_walk::Numbers;
 use std::alloc::Global;
@@ -22,11 +24,21 @@ fn value_of(digits: &[u8]) -> u64
     value
 }
 
-// The word is the decimal text of the number.
-fn is_decimal(number: u32, word: &[u8]) -> bool
-    ensures { result ≡ bytes_eq (decimal number) word.now }
+// All bytes are digits.
+fn all_digits(word: &[u8]) -> bool
+    ensures { result ≡ list_all is_ascii_digit word.now }
 {
-    Buffer::new().format(number).as_bytes() == word
+    word.iter().all(|byte| byte.is_ascii_digit())
+}
+
+// The word is a number in decimal, however great.
+fn is_numeral(word: &[u8]) -> bool
+    ensures { result ≡ is_numeral word.now }
+{
+    match word {
+        [first, rest @ ..] => all_digits(word) && (*first != b'0' || rest.is_empty()),
+        [] => false,
+    }
 }
 
 /// The number of 32 bits of which the word is the decimal text, which has no leading zero. `None`: there is none.
@@ -38,11 +50,7 @@ pub fn number(word: &[u8]) -> Option<u32>
         return None;
     }
     let number = value as u32;
-    if is_decimal(number, word) {
-        Some(number)
-    } else {
-        None
-    }
+    if is_numeral(word) { Some(number) } else { None }
 }
 
 /// The number of 32 bits of which the word is `v` and the decimal text. `None`: there is none.
@@ -59,7 +67,7 @@ pub fn number_of_name(word: &[u8]) -> Option<u32>
 pub(crate) fn variable(word: &[u8]) -> Option<Option<u32>>
     ensures { Finds (λ x. x) (IsVariableText word.now) result }
 {
-    if word == b"_".as_slice() {
+    if is_same(word, b"_") {
         return Some(None);
     }
     match number_of_name(word) {
@@ -72,7 +80,7 @@ pub(crate) fn variable(word: &[u8]) -> Option<Option<u32>>
 pub(crate) fn target(word: &[u8]) -> Option<Option<u32>>
     ensures { Finds (λ t. t) (IsTargetText word.now) result }
 {
-    if word == b"-".as_slice() {
+    if is_same(word, b"-") {
         return Some(None);
     }
     match number(word) {
@@ -101,12 +109,14 @@ pub(crate) fn numbers(alloc: Global, text: &[u8]) -> Result<Option<Numbers>, Mem
 }
 
 // What stands behind the number and a blank, where the line begins so.
-pub(crate) fn behind_number(number: u32, line: &[u8]) -> Option<&[u8]>
-    ensures { Finds (λ rest. rest.now) (λ rest. line.now ≡ decimal number ++ (codes " " ++ rest)) result }
+pub(crate) fn behind_number(own: u32, line: &[u8]) -> Option<&[u8]>
+    ensures { Finds (λ rest. rest.now) (λ rest. line.now ≡ decimal own ++ (codes " " ++ rest)) result }
 {
-    let mut buffer = Buffer::new();
-    match behind(buffer.format(number).as_bytes(), line) {
-        Some(rest) => behind(b" ", rest),
-        None => None,
-    }
+    let Some((word, rest)) = split_first(b' ', line) else {
+        return None;
+    };
+    let Some(number) = number(word) else {
+        return None;
+    };
+    if number == own { Some(rest) } else { None }
 }

@@ -1,20 +1,21 @@
 //! Tokens.
 
-ghost use Rattle.std.specs.Prelude.{◌<◌, ◌^◌, ◌-◌, ◌++◌, length, codes, IfOk};
+ghost use Rattle.std.specs.Prelude.{◌<◌, ◌^◌, ◌-◌, ◌++◌, length, codes, IfOk, IfSome};
 ghost use Rattle.mp_term.specs.View.{tree};
 ghost use Rattle.mp_pattern.specs.NetTokenView.{net_token};
 ghost use Rattle.mp_program.specs.declared.format.Format.{Format};
 ghost use Rattle.mp_line.specs.Finds.{Finds};
-ghost use Rattle.mp_line.specs.LineTexts.{IsTokenText, IsSymbolOf, IsDefaultText};
+ghost use Rattle.mp_line.specs.LineTexts.{IsTokenText, IsFreeName, IsSymbolOf, IsDefaultText};
 
 use crate::comm::comm_pattern;
 use crate::exact::exact_term;
+use crate::names::name;
 use crate::numbers::variable;
 use crate::wild::plain_token;
 use crate::words::{behind, split_first};
 use mp_pattern::{MAX_DEFAULT_NODES, NetToken};
 use mp_program::Format;
-use mp_term::{Memory, Signature, Term, node_count};
+use mp_term::{Memory, Name, Signature, Term, node_count};
 use std::alloc::Global;
 
 // The token whose printed text this is.
@@ -49,12 +50,25 @@ fn symbol_of(term: Term) -> Option<NetToken>
     }
 }
 
+// The name that the text is, where it is one and no operation has it.
+fn free_name(alloc: Global, sig: &Signature, text: &[u8]) -> Result<Option<Name>, Memory>
+    ensures { IfOk result (λ o. IfSome o (λ n. IsFreeName sig.now text.now n)) }
+{
+    if sig.find_op(text).is_some() {
+        return Ok(None);
+    }
+    name(alloc, text)
+}
+
 // A symbol.
 fn symbol(alloc: Global, sig: &Signature, name: &[u8]) -> Result<Option<NetToken>, Memory>
     requires { length name.now < 2 ^ 32 - 1 }
     ensures { (format : Format) →
         IfOk result (λ o. Finds net_token (IsTokenText sig.now format (codes "sym " ++ name.now)) o) }
 {
+    if let Some(free) = free_name(alloc, sig, name)? {
+        return Ok(Some(NetToken::Sym(free)));
+    }
     match exact_term(alloc, sig, name)? {
         Some(term) => Ok(symbol_of(term)),
         None => Ok(None),

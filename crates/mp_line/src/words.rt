@@ -1,6 +1,6 @@
 //! Words of a line.
 
-ghost use Rattle.std.specs.Prelude.{◌≡◌, ◌++◌, position, nat_eq, MatchOption};
+ghost use Rattle.std.specs.Prelude.{◌≡◌, ◌↔◌, ◌++◌, position, nat_eq, MatchOption, IsTrue};
 ghost use Rattle.mp_line.specs.Finds.{Finds, FindsPair};
 ghost use Rattle.mp_line.specs.Words.{IsWithout, IsLastPlace, IsSplitAtFirst, IsSplitAtLast, IsFirstWord, IsBlankWord};
 
@@ -47,18 +47,48 @@ pub(crate) fn split_last(byte: u8, text: &[u8]) -> Option<(&[u8], &[u8])>
     }
 }
 
+// The texts are the same. Most are short: they are compared byte by byte.
+pub(crate) fn is_same(a: &[u8], b: &[u8]) -> bool
+    ensures { IsTrue result ↔ (a.now ≡ b.now) }
+{
+    if a.len() != b.len() {
+        return false;
+    }
+    for index in 0..a.len() {
+        if a[index] != b[index] {
+            return false;
+        }
+    }
+    true
+}
+
 // What stands behind a front.
 pub(crate) fn behind<'a>(front: &[u8], text: &'a [u8]) -> Option<&'a [u8]>
     ensures { Finds (λ rest. rest.now) (λ rest. text.now ≡ front.now ++ rest) result }
 {
-    text.strip_prefix(front)
+    if front.len() > text.len() {
+        return None;
+    }
+    if is_same(&text[..front.len()], front) {
+        Some(&text[front.len()..])
+    } else {
+        None
+    }
 }
 
 // What stands before an end.
 pub(crate) fn before<'a>(text: &'a [u8], end: &[u8]) -> Option<&'a [u8]>
     ensures { Finds (λ rest. rest.now) (λ rest. text.now ≡ rest ++ end.now) result }
 {
-    text.strip_suffix(end)
+    if end.len() > text.len() {
+        return None;
+    }
+    let at = text.len() - end.len();
+    if is_same(&text[at..], end) {
+        Some(&text[..at])
+    } else {
+        None
+    }
 }
 
 // What stands between a front and an end.

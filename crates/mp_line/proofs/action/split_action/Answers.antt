@@ -1,22 +1,38 @@
 use Rattle.std.proofs.Common.{subst}
 use Rattle.std.specs.Prelude.{ℕ, List}
-use Rattle.std.specs.Borrow.{Bor}
-use Rattle.mp_line.specs.declared.action.Action.{Action}
-use Rattle.mp_line.specs.ActionView.{action_view}
 use Rattle.mp_line.specs.Finds.{Finds}
-use Rattle.mp_line.specs.LineTexts.{AreNumbersText}
-use Rattle.mp_line.proofs.ActionLaws.{no-numbers, action-through}
+use Rattle.mp_line.specs.LineTexts.{AreAcceptedText}
+use Rattle.mp_line.proofs.ActionLaws.{no-word, down-found, no-down, accept-found, no-accept}
 use Rattle.mp_line.proofs.action.split_action.Goals as goal
+
+pub returns-in_default-blank_and_number : goal.returns-in_default-blank_and_number
+returns-in_default-blank_and_number c =
+    let parts = c.before_numbers.result in
+    no-down c.args.text.now parts.0.now parts.1.now c.before_numbers.ensures c.in-Some.token.now c.in-Some.ensures
+    c.in_default-blank_and_number.ensures
 
 pub returns-in-Some : goal.returns-in-Some
 returns-in-Some c =
     let parts = c.before_numbers.result in
-    action-through c.args.text.now parts.0.now parts.1.now c.before_numbers.ensures c.in-Some.numbers
-    (subst (Finds (λ (ns : List ℕ). ns) (AreNumbersText parts.1.now)) c.in-Some.is c.in_ok-numbers.ensures)
-    (λ (p : Bor (List ℕ) × Action). (p.0.now, action_view p.1)) c.action_of.result c.action_of.ensures
+    down-found c.args.text.now parts.0.now parts.1.now c.before_numbers.ensures c.in-Some.token.now c.in-Some.ensures
+    c.in-Some-blank_and_number.number c.new-accepts.result c.in-Some-blank_and_number.ensures c.new-accepts.ensures
 
-pub returns-in-None : goal.returns-in-None
-returns-in-None c =
+pub returns-in_default-before : goal.returns-in_default-before
+returns-in_default-before c =
     let parts = c.before_numbers.result in
-    no-numbers c.args.text.now parts.0.now parts.1.now c.before_numbers.ensures
-    (subst (Finds (λ (ns : List ℕ). ns) (AreNumbersText parts.1.now)) c.in-None.is c.in_ok-numbers.ensures)
+    no-word c.args.text.now parts.0.now parts.1.now c.before_numbers.ensures c.in_default.ensures
+    c.in_default-before.ensures
+
+pub returns-in_default-2 : goal.returns-in_default-2
+returns-in_default-2 c =
+    let parts = c.before_numbers.result in
+    no-accept c.args.text.now parts.0.now parts.1.now c.before_numbers.ensures c.in-Some-before.token.now
+    c.in-Some-before.ensures
+    (subst (Finds (λ (ns : List ℕ). ns) (AreAcceptedText parts.1.now)) c.in_default-2.is c.in_ok-accepts.ensures)
+
+pub returns : goal.returns
+returns c =
+    let parts = c.before_numbers.result in
+    accept-found c.args.text.now parts.0.now parts.1.now c.before_numbers.ensures c.in-Some-before.token.now
+    c.in-Some-before.ensures c.in-Some-2.accepts
+    (subst (Finds (λ (ns : List ℕ). ns) (AreAcceptedText parts.1.now)) c.in-Some-2.is c.in_ok-accepts.ensures)

@@ -1,8 +1,18 @@
-use Rattle.std.proofs.lemmas.Bool.Decides.{Decides-eqb}
-use Rattle.std.proofs.lemmas.Slice.Eq.{strip_prefix_is}
-use Rattle.mp_line.proofs.FindsLaws.{Finds-behind}
+use Rattle.std.proofs.Common.{◌≡◌, true, false, length, sym, ◌∙◌, arith}
+use Rattle.std.proofs.lemmas.List.{take_rest}
+use Rattle.mp_line.proofs.WordLaws.{behind-found, behind-begins}
 use Rattle.mp_line.proofs.words.behind.Goals as goal
 
-pub returns : goal.returns
-returns c = Finds-behind c.args.text.now c.args.front.now c.strip_prefix.result
-    (strip_prefix_is Decides-eqb c.args.text.now c.args.front.now c.strip_prefix.result c.strip_prefix.ensures.cases)
+pub returns-then-front-text : goal.returns-then-front-text
+returns-then-front-text c = λ rest g. omega (arith, (behind-begins c.args.text.now c.args.front.now rest g).0)
+
+pub returns-then-is_same : goal.returns-then-is_same
+returns-then-is_same c =
+    rw (take_rest c.args.text.now (length c.args.front.now))
+    (behind-found c.args.text.now c.args.front.now (c.is_same.ensures.0 c.if-is_same.true))
+
+pub returns-else-is_same : goal.returns-else-is_same
+returns-else-is_same c = λ rest g. (
+    let here = c.is_same.ensures.1 (behind-begins c.args.text.now c.args.front.now rest g).1 in
+    let wrong : true ≡ false = sym here ∙ c.if-is_same.false in cc
+    )

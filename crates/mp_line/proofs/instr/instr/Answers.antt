@@ -8,7 +8,7 @@ use Rattle.mp_line.specs.ActionView.{action_view}
 use Rattle.mp_line.specs.Finds.{Finds, FindsPair}
 use Rattle.mp_line.specs.LineTexts.{IsTokenText, IsActionText}
 use Rattle.mp_line.proofs.InstrLaws.{front-length, no-over, no-action, no-token, instr-found}
-use Rattle.mp_line.proofs.instr.numbered_instr.Goals as goal
+use Rattle.mp_line.proofs.instr.instr.Goals as goal
 
 pub token-requires : goal.token-requires
 token-requires c =
