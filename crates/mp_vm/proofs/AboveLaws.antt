@@ -1,7 +1,8 @@
 -- What is known of a right path with one token more.
 use Rattle.std.proofs.Common.{◌≡◌, ℕ, ◌+◌, ◌<◌, ◌≤◌, List, [], ◌∷◌, ◌++◌, map, Bool, true, false, refl, ap, sym, ◌∙◌}
-use Rattle.std.proofs.Common.{inl, inr, arith}
-use Rattle.std.specs.Prelude.{◌&&◌, not, Option, Some, None}
+use Rattle.std.proofs.Common.{inl, inr, arith, length, drop, reverse}
+use Rattle.std.specs.Prelude.{◌&&◌, not, Option, Some, None, option_to_list, MatchOption}
+use Rattle.std.proofs.lemmas.List.{map-append, append-nil, reverse-append, nil_from_length}
 use Rattle.std.proofs.lemmas.Bool.{and_parts, and_cases, not-true, not-false}
 use Rattle.mp_term.specs.Signature.{Sig}
 use Rattle.mp_pattern.specs.NetTokens.{NetToken}
@@ -89,3 +90,14 @@ good-begin sig most whole good ks js split =
 pub true-value : {X : Type 0} (b : Bool) (x y : X) (o : Option X) → o ≡ where_true b x → o ≡ Some y → o ≡ Some x
 true-value true x y o e h = e
 true-value false x y o e h = (let wrong : None ≡ Some y = sym e ∙ h in cc)
+
+-- the last item is taken away
+pub popped : {X : Type 0} (number : X → ℕ) (old new : List X) (m n : ℕ) (o : Option X) → old ≡ new ++ option_to_list o
+    → MatchOption o ((m ≡ 0) × (n ≡ 0)) (λ _. n + 1 ≡ m) → n ≡ length new
+    → reverse (map number new) ≡ drop 1 (reverse (map number old))
+popped number old new m n (Some x) e cases len = sym (ap (drop 1) (ap (λ l. reverse (map number l)) e
+    ∙ ap reverse (map-append number new (x ∷ [])) ∙ reverse-append (map number new) (number x ∷ [])))
+popped number old new m n None e cases len =
+    let nil : new ≡ [] = nil_from_length new (omega (arith, cases.1, len)) in
+    ap (λ l. reverse (map number l)) nil
+    ∙ sym (ap (λ l. drop 1 (reverse (map number l))) (e ∙ append-nil new ∙ nil))

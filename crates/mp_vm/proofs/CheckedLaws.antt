@@ -1,7 +1,7 @@
 -- Checks of faults, one behind the other.
 use Rattle.std.proofs.Common.{◌≡◌, ◌<◌, ◌≤◌, ◌+◌, ℕ, suc, List, [], ◌∷◌, ◌++◌, length, map, get_or, take, drop, Some}
 use Rattle.std.proofs.Common.{None, sym, ap, subst, ◌∙◌, add-one}
-use Rattle.std.specs.Prelude.{◌≢◌, Result, Ok, Err, IsErrAnd}
+use Rattle.std.specs.Prelude.{◌≢◌, Result, Ok, Err, IfOk, IsErrAnd}
 use Rattle.std.proofs.lemmas.List.{map_more, drop_all}
 use Rattle.mp_term.proofs.ListLaws.{drop-item}
 use Rattle.mp_program.specs.declared.fault.ProgramError.{ProgramError}
@@ -9,6 +9,12 @@ use Rattle.mp_program.specs.declared.fault.ProgramError.TheVariants.{Memory}
 use Rattle.mp_program.specs.FormFaults.{faults_along}
 use Rattle.mp_program.specs.Reading.{first_fault}
 use Rattle.mp_vm.specs.Checked.{Checks}
+
+-- two facts of a value at once
+pub IfOk-both : {X E : Type 0} (r : Result X E) (P Q R : X → Type 0) → ((x : X) → P x → Q x → R x) → IfOk r P
+    → IfOk r Q → IfOk r R
+IfOk-both (Ok x) P Q R more p q = more x p q
+IfOk-both (Err e) P Q R more p q = tt
 
 -- ---- faults in two parts
 

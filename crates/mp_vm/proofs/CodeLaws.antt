@@ -17,6 +17,7 @@ use Rattle.mp_walk.specs.Instrs.{Instr, instr_at, targets}
 use Rattle.mp_walk.specs.InstrView.{plain_instr}
 use Rattle.mp_walk.specs.Walkable.{Path}
 use Rattle.mp_walk.specs.declared.instr.Instr as read
+use Rattle.mp_walk.proofs.CodePaths.{number-within}
 use Rattle.mp_program.specs.declared.fault.ProgramError.{ProgramError}
 use Rattle.mp_program.specs.declared.fault.ProgramError.TheVariants.{BadReference, Unbalanced, Memory}
 use Rattle.mp_program.specs.declared.format.Format.{Format}
@@ -27,10 +28,10 @@ use Rattle.mp_program.specs.Program.{ProgramRule}
 use Rattle.mp_program.specs.Reading.{first_fault}
 use Rattle.mp_program.specs.TokenPaths.{is_right_path, open_along, is_balanced, may_accept}
 use Rattle.mp_vm.specs.Checked.{Checks}
-use Rattle.mp_vm.specs.Known.{IsGoodPath, Knows}
+use Rattle.mp_vm.specs.Known.{IsGoodPath, Knows, IsGathered, opened}
 use Rattle.mp_vm.specs.Looks.{look_wildcard}
 use Rattle.mp_vm.specs.RuleNeeds.{needs_view, needs_of, meets_all}
-use Rattle.mp_vm.specs.SettingView.{setting_code, faults_of_instr, faults_behind}
+use Rattle.mp_vm.specs.SettingView.{setting_code, faults_of_instr, faults_behind, HasGathered}
 use Rattle.mp_vm.specs.WayView.{way_at, way_more, AreAbove, IsLedFrom, IsWayTo, AreWays}
 use Rattle.mp_vm.specs.declared.above.Above.{Above}
 use Rattle.mp_vm.specs.declared.code.Setting.{Setting}
@@ -42,6 +43,7 @@ use Rattle.mp_vm.proofs.CheckedLaws.{first_fault-before, checks-passed}
 use Rattle.mp_vm.proofs.LeadLaws.{befores-append}
 use Rattle.mp_vm.proofs.NeedLaws.{meets-all}
 use Rattle.mp_vm.proofs.PathRules.{right-none}
+use Rattle.mp_vm.proofs.WayLaws.{above-top, above-step}
 
 -- ---- the faults of a path
 
@@ -270,6 +272,35 @@ module _ (sig : Sig) (most : ℕ) (code : List Instr) (ls : List Lead) (done : �
       down-ways count next_led next_others still led.good (omega arith) (omega (arith, led.checked, number))
       over-onward)
 
+-- behind an instruction the ways up to it stay
+module _ (code : List Instr) (ws ys zs : List Way) (n : ℕ) (i : Instr) (bounds : (t : ℕ) → In t (targets i) → n < t)
+    (first_others : (m : ℕ) → i.down ≢ Some m → way_at ys m ≡ way_at ws m)
+    (next_others : (m : ℕ) → i.over ≢ Some m → way_at zs m ≡ way_at ys m) where
+  ways-still : (m : ℕ) → m ≤ n → way_at ws m ≡ way_at zs m
+  ways-still m less =
+      let down : i.down ≢ Some m = λ e.
+      (let later = bounds m (in-left m (option_to_list i.down) (option_to_list i.over)
+      (subst (λ o. In m (option_to_list o)) (sym e) (inl refl))) in omega (arith, later, less)) in
+      let over : i.over ≢ Some m = λ e.
+      (let later = bounds m (in-right m (option_to_list i.down) (option_to_list i.over)
+      (subst (λ o. In m (option_to_list o)) (sym e) (inl refl))) in omega (arith, later, less)) in
+      sym (next_others m over ∙ first_others m down)
+
+  -- so does what is above them
+  pub above-before : (m : ℕ) → m ≤ n → (ks : List NetToken) → AreAbove code zs m ks → AreAbove code ws m ks
+  above-before m less ks are = above-kept code zs ws n ways-still m ks less are
+
+  -- what is above the instruction itself, where one way leads to it
+  pub above-behind : (above : ℕ) → instr_at code n ≡ Some i → way_at ws n ≡ One above → (ks : List NetToken)
+      → AreAbove code zs n ks → (js : List NetToken) × AreAbove code ws above js × (ks ≡ i.token ∷ js)
+  above-behind above at way ks are =
+      let s = above-step code ws n ks (above-before n (omega arith) ks are) (number-within code n i at).0 in
+      let both : Some s.instr ≡ Some i = sym s.held ∙ at in
+      let same : s.instr ≡ i = cc in
+      let ways : One s.above ≡ One above = sym s.way ∙ way in
+      let from : s.above ≡ above = cc in
+      (s.rest, subst (λ a. AreAbove code ws a s.rest) from s.are, s.is ∙ ap (λ (j : Instr). j.token ∷ s.rest) same)
+
 -- ---- where the rules are met
 
 -- the rules may accept the path where their needs are met
@@ -355,3 +386,11 @@ checks-err xs f r same h = subst (λ l. Checks l r) (append-nil xs) (checks-pass
 pub most-few : (format : Format) → most_nodes format < 2 ^ 64 - 1
 most-few FormatOne = omega arith
 most-few Two = omega arith
+
+-- nothing is above the top, and all is known of that
+pub gathered-top : (s : Setting) (ws : List Way) (a : Above) → Knows s.sig.now s.most a [] → opened a ≡ []
+    → HasGathered s ws 0 a
+gathered-top s ws a known none = λ ks are good.
+    subst (λ js. IsGathered s.sig.now s.most a (reverse js))
+    (sym (above-top (map plain_instr s.code.now) ws 0 ks are refl))
+    (record { known = known; opens = ap Some (sym none) })

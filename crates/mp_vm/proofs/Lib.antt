@@ -26,6 +26,7 @@ pub mod PathRules
 pub mod AboveLaws
 pub mod NeedLaws
 pub mod WayLaws
+pub mod TrailLaws
 pub mod CodeLaws
 pub mod RunnerLaws
 pub mod StandsAlone

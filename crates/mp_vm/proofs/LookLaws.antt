@@ -1,12 +1,12 @@
 -- The wildcards of the variables of a path, occurrence by occurrence.
 use Rattle.std.proofs.Common.{◌≡◌, ℕ, zero, suc, ◌+◌, ◌<◌, List, [], ◌∷◌, ◌++◌, map, length, Bool, true, false}
-use Rattle.std.proofs.Common.{refl, ap, sym, ◌∙◌, inl, inr, subst, arith, length-append}
+use Rattle.std.proofs.Common.{refl, ap, sym, ◌∙◌, inl, inr, subst, arith, length-append, take}
 use Rattle.std.specs.Prelude.{◌||◌, ◌&&◌, not, Option, Some, None, if◌then◌else◌, nat_eq, nat_lt, nat_le, slice_get}
 use Rattle.std.specs.List.{list_any}
 use Rattle.std.specs.Option.{option_map_or}
 use Rattle.std.proofs.lemmas.Bool.{and_parts, and_from, or_right, not-true, not_from_false, ltb-true}
 use Rattle.std.proofs.lemmas.Bool.{eqb-true, eq-eqb, lt-ltb, leb-true, le-leb, false_from_ne_true}
-use Rattle.std.proofs.lemmas.List.{map-append, append_assoc, append-nil}
+use Rattle.std.proofs.lemmas.List.{map-append, append_assoc, append-nil, take_all, take-append-le}
 use Rattle.mp_io.specs.Devices.{Text}
 use Rattle.mp_term.specs.Listing.{In}
 use Rattle.mp_term.proofs.SearchLaws.{in-right, from_in-append, from_in-map}
@@ -406,3 +406,56 @@ keeps-looks us ws (u ∷ more) h right e = by_look (with_look ws (placed u)) ref
         → ((ys : List Wildcard) → HasLooks (us ++ u ∷ []) ys → with_looks ys (map placed more) ≡ None → ⊥) → ⊥
     by_look None q e go = keeps-look us ws u more h right q
     by_look (Some ys) q e go = go ys (with-look us ws ys u h q) e
+
+-- ---- the wildcards that were there
+
+kept-all : {X : Type 0} (xs : List X) → take (length xs) xs ≡ xs
+kept-all xs = take_all (length xs) xs (omega arith)
+
+kept-more : {X : Type 0} (xs ys zs : List X) → take (length xs) ys ≡ xs → take (length ys) zs ≡ ys
+    → take (length xs) zs ≡ xs
+kept-more [] ys zs h k = refl
+kept-more (x ∷ xs) [] zs h k = (let wrong : [] ≡ x ∷ xs = h in cc)
+kept-more (x ∷ xs) (y ∷ ys) [] h k = (let wrong : [] ≡ y ∷ ys = k in cc)
+kept-more (x ∷ xs) (y ∷ ys) (z ∷ zs) h k =
+    let both : y ∷ take (length xs) ys ≡ x ∷ xs = h in
+    let first : y ≡ x = cc in
+    let rest : take (length xs) ys ≡ xs = cc in
+    let pair : z ∷ take (length ys) zs ≡ y ∷ ys = k in
+    let next : z ≡ y = cc in
+    let more : take (length ys) zs ≡ ys = cc in
+    λ i. (next ∙ first) i ∷ kept-more xs ys zs rest more i
+
+look-kept : (ws : List Wildcard) (u : ℕ × Wildcard) (vs : List Wildcard) → with_look ws u ≡ Some vs
+    → take (length ws) vs ≡ ws
+look-kept ws u vs e = by_old (nat_lt u.0 (length ws)) e
+  where
+    by_known : (b : Bool) → (if b then Some ws else None) ≡ Some vs → take (length ws) vs ≡ ws
+    by_known true e = (let both : Some ws ≡ Some vs = e in let same : ws ≡ vs = cc in
+        ap (take (length ws)) (sym same) ∙ kept-all ws)
+    by_known false e = (let wrong : None ≡ Some vs = e in cc)
+
+    by_new : (b : Bool) → (if b then Some (ws ++ u.1 ∷ []) else None) ≡ Some vs → take (length ws) vs ≡ ws
+    by_new true e = (let both : Some (ws ++ u.1 ∷ []) ≡ Some vs = e in let same : ws ++ u.1 ∷ [] ≡ vs = cc in
+        ap (take (length ws)) (sym same) ∙ take-append-le (length ws) ws (u.1 ∷ []) (omega arith) ∙ kept-all ws)
+    by_new false e = (let wrong : None ≡ Some vs = e in cc)
+
+    by_old : (b : Bool)
+        → (if b then (if option_map_or (λ w. same_shape w u.1) (slice_get ws u.0) false then Some ws else None) else
+        (if nat_eq u.0 (length ws) && nat_lt u.0 MAX_VARIABLES then Some (ws ++ u.1 ∷ []) else None)) ≡ Some vs
+        → take (length ws) vs ≡ ws
+    by_old true e = by_known (option_map_or (λ w. same_shape w u.1) (slice_get ws u.0) false) e
+    by_old false e = by_new (nat_eq u.0 (length ws) && nat_lt u.0 MAX_VARIABLES) e
+
+-- further occurrences keep the wildcards that are there
+pub looks-kept : (ws : List Wildcard) (us : List (ℕ × Wildcard)) (vs : List Wildcard) → with_looks ws us ≡ Some vs
+    → take (length ws) vs ≡ ws
+looks-kept ws [] vs e = (let both : Some ws ≡ Some vs = e in let same : ws ≡ vs = cc in
+    ap (take (length ws)) (sym same) ∙ kept-all ws)
+looks-kept ws (u ∷ us) vs e = by_look (with_look ws u) refl e (λ zs k. looks-kept zs us vs k)
+  where
+    by_look : (o : Option (List Wildcard)) → with_look ws u ≡ o
+        → (elim o as (λ _. Option (List Wildcard)) [ None ↦ None | Some zs ↦ with_looks zs us ]) ≡ Some vs
+        → ((zs : List Wildcard) → with_looks zs us ≡ Some vs → take (length zs) vs ≡ zs) → take (length ws) vs ≡ ws
+    by_look None k e rest = (let wrong : None ≡ Some vs = e in cc)
+    by_look (Some zs) k e rest = kept-more ws zs vs (look-kept ws u zs k) (rest zs e)

@@ -1,8 +1,8 @@
 -- Names that stand among others.
 use Rattle.std.proofs.Common.{◌≡◌, ◌<◌, ◌+◌, ℕ, Bool, true, false, List, [], ◌∷◌, length, get_or, drop, Some, None}
-use Rattle.std.proofs.Common.{sym, ap, ◌∙◌, refl}
+use Rattle.std.proofs.Common.{map, sym, ap, ◌∙◌, refl}
 use Rattle.std.specs.Prelude.{not, ◌||◌, ◌&&◌, bytes_eq, slice_get}
-use Rattle.std.specs.List.{list_all}
+use Rattle.std.specs.List.{list_any, list_all}
 use Rattle.std.proofs.lemmas.Map.Text.{is_eq-slice_cmp}
 use Rattle.std.proofs.lemmas.Option.{slice_get_within, slice_get-get_or, get_or_from_slice_get}
 use Rattle.mp_io.specs.Devices.{Text}
@@ -59,3 +59,10 @@ module _ (xs : List Text) (i : ℕ) (x : Text) (at : slice_get xs i ≡ Some x) 
       → are_distinct (drop (i + 1) xs) ≡ are_distinct (drop i xs)
   distinct-behind unknown = sym (ap are_distinct (rest-at xs i x at)
       ∙ ap (λ b. b && are_distinct (drop (i + 1) xs)) (distinct-known (drop (i + 1) xs) x ∙ ap not unknown))
+
+-- ---- tests of parts
+
+pub list_any-map : {X Y : Type 0} (p : X → Bool) (f : Y → X) (ys : List Y)
+    → list_any p (map f ys) ≡ list_any (λ y. p (f y)) ys
+list_any-map p f [] = refl
+list_any-map p f (y ∷ ys) = ap (λ b. p (f y) || b) (list_any-map p f ys)

@@ -38,6 +38,7 @@ use Rattle.mp_program.specs.RightForm.{IsRightRuleTest, IsRightRule, IsRightForm
 use Rattle.mp_program.specs.RuleView.{rule_line_view}
 use Rattle.mp_program.proofs.LineLaws.{lines_text-append}
 use Rattle.mp_line.specs.LineTexts.{kept_line}
+use Rattle.mp_vm.specs.NumberedRules.{named_test, numbered_rule}
 use Rattle.mp_vm.specs.declared.draft.Draft.{Draft}
 use Rattle.mp_vm.specs.declared.stage.Stage.TheVariants.{Stop}
 use Rattle.mp_vm.specs.Checked.{Checks}
@@ -227,17 +228,16 @@ module _ (sig : Sig) where
           by_test (tested n) k = refl
           by_test (spelled c) k = (let wrong : Two ≡ One = k.0 in cc)
 
-  -- so its rules are the same with other tests
-  rules-alike : (ts us : List Cond) (rs : List RuleLine) → AllByRecursion (IsRightRule sig Two) rs
-      → map (rule_of sig ts) rs ≡ map (rule_of sig us) rs
-  rules-alike ts us [] h = refl
-  rules-alike ts us (r ∷ rs) h = λ i. one r h.0 i ∷ rules-alike ts us rs h.1 i
+  -- so the rules of its lines name their tests, whatever these are
+  rules-numbered : (ts : List Cond) (rs : List RuleLine) → AllByRecursion (IsRightRule sig Two) rs
+      → map numbered_rule rs ≡ map (rule_of sig ts) rs
+  rules-numbered ts [] h = refl
+  rules-numbered ts (r ∷ rs) h = λ i. one r h.0 i ∷ rules-numbered ts rs h.1 i
     where
-      one : (r : RuleLine) → IsRightRule sig Two r → rule_of sig ts r ≡ rule_of sig us r
+      one : (r : RuleLine) → IsRightRule sig Two r → numbered_rule r ≡ rule_of sig ts r
       one r k = ap (λ n. record { name = r.name; vars = r.vars; test = n }) (by_test r.test k.test)
         where
-          by_test : (t : RuleTest) → IsRightRuleTest sig Two t
-              → test_number sig ts r.vars t ≡ test_number sig us r.vars t
+          by_test : (t : RuleTest) → IsRightRuleTest sig Two t → named_test t ≡ test_number sig ts r.vars t
           by_test untested k = refl
           by_test (tested n) k = refl
           by_test (spelled c) k = (let wrong : Two ≡ One = k.0 in cc)
@@ -253,11 +253,11 @@ module _ (sig : Sig) where
       (flat_map (λ r. spelled_test r.vars r.test) f.rules)) (right.no_tests e)) in
       (r ∙ ap (λ l. map (rule_of sig l) f.rules) same, same)
 
-  pub made-two : (f : Form) → IsRightForm sig f → f.format ≡ Two → (rules : List ProgramRule) (tests others : List Cond)
-      → tests ≡ f.tests → rules ≡ map (rule_of sig others) f.rules → AreMade f rules tests
-  made-two f right e rules tests others t r =
+  pub made-two : (f : Form) → IsRightForm sig f → f.format ≡ Two → (rules : List ProgramRule) (tests : List Cond)
+      → tests ≡ f.tests → rules ≡ map numbered_rule f.rules → AreMade f rules tests
+  made-two f right e rules tests t r =
       let lines = subst (λ format. AllByRecursion (IsRightRule sig format) f.rules) e right.rules in (
-        r ∙ rules-alike others (tests_of sig f) f.rules lines,
+        r ∙ rules-numbered (tests_of sig f) f.rules lines,
         t ∙ sym (append-nil f.tests) ∙ sym (ap (λ l. f.tests ++ firsts_after (same_cond sig) [] l)
             (spelled-none f.rules lines)),
       )

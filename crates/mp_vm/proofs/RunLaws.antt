@@ -21,7 +21,6 @@ use Rattle.mp_pattern.specs.Fits.{Table, Fits}
 use Rattle.mp_pattern.specs.Holds.{holds}
 use Rattle.mp_pattern.specs.Limits.{DefaultIsSmall}
 use Rattle.mp_pattern.specs.Lists.{Pair}
-use Rattle.mp_pattern.specs.NetTokens.{numbered}
 use Rattle.mp_pattern.specs.Operands.{operands, IsOperandOver, IsConditionOver}
 use Rattle.mp_pattern.specs.PatternTree.{Pattern}
 use Rattle.mp_pattern.specs.Value.{Binding, Subst, same_name}

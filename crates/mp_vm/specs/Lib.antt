@@ -11,7 +11,9 @@ pub mod Known
 pub mod Looks
 pub mod RuleNeeds
 pub mod SettingView
+pub mod TrailView
 pub mod WayView
 pub mod ProgramAnswers
+pub mod NumberedRules
 pub mod Runner
 pub mod RunnerView

@@ -1,6 +1,7 @@
 -- What the instructions of a program are checked against, and how far the check has come.
-use Rattle.std.specs.Prelude.{◌≡◌, ◌<◌, ◌-◌, ◌+◌, ◌^◌, ℕ, suc, List, ◌++◌, map, length, drop}
+use Rattle.std.specs.Prelude.{◌≡◌, ◌<◌, ◌-◌, ◌+◌, ◌^◌, ℕ, suc, List, ◌++◌, map, length, drop, reverse}
 use Rattle.mp_pattern.specs.CondTree.{Cond}
+use Rattle.mp_pattern.specs.NetTokens.{NetToken}
 use Rattle.mp_walk.specs.Instrs.{Instr, targets}
 use Rattle.mp_walk.specs.InstrView.{plain_instr}
 use Rattle.mp_program.specs.declared.fault.ProgramError.{ProgramError}
@@ -9,7 +10,9 @@ use Rattle.mp_program.specs.Leads.{Lead, befores}
 use Rattle.mp_program.specs.Program.{ProgramRule}
 use Rattle.mp_walk.specs.Walkable.{Path}
 use Rattle.mp_vm.specs.RuleNeeds.{needs_view, needs_of}
-use Rattle.mp_vm.specs.WayView.{AreWays}
+use Rattle.mp_vm.specs.Known.{IsGoodPath, IsGathered}
+use Rattle.mp_vm.specs.WayView.{AreAbove, AreWays}
+use Rattle.mp_vm.specs.declared.above.Above.{Above}
 use Rattle.mp_vm.specs.declared.code.Setting.{Setting}
 use Rattle.mp_vm.specs.declared.ways.Way.{Way}
 
@@ -40,3 +43,8 @@ module _ (tests : List Cond) (rules : List ProgramRule) (s : Setting) where
   -- these ways are known where so many are checked
   abbrev pub HasWays : List Lead → ℕ → List Way → Type 0
   HasWays ls done ws = AreWays s.sig.now s.most setting_code ls done ws
+
+-- all is known of the tokens of an instruction and of those above it, where they are a good path
+abbrev pub HasGathered : Setting → List Way → ℕ → Above → Type 0
+HasGathered s ws n a = (ks : List NetToken) → AreAbove (map plain_instr s.code.now) ws n ks
+    → IsGoodPath s.sig.now s.most (reverse ks) → IsGathered s.sig.now s.most a (reverse ks)

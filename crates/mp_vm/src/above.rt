@@ -1,7 +1,7 @@
 //! What is known of the tokens of a path.
 
 ghost use Rattle.std.specs.Prelude.{◌≡◌, ◌<◌, ◌-◌, ◌^◌, [], ◌∷◌, ◌++◌, map, min, reverse, IfOk, OnOk, IsTrue};
-ghost use Rattle.std.specs.Prelude.{ℕ, Some, not, ◌&&◌};
+ghost use Rattle.std.specs.Prelude.{ℕ, Some, not, ◌&&◌, take, length};
 ghost use Rattle.mp_term.specs.Signature.{Sig};
 ghost use Rattle.mp_pattern.specs.NetTokenView.{net_token};
 ghost use Rattle.mp_pattern.specs.Size.{pattern_nodes};
@@ -9,8 +9,9 @@ ghost use Rattle.mp_pattern.specs.View.{pattern_tree};
 ghost use Rattle.mp_walk.specs.SoundTokens.{token_nodes};
 ghost use Rattle.mp_walk.specs.Walkable.{Path};
 ghost use Rattle.mp_program.specs.TokenPaths.{is_loose_token, enters_comm, is_right_path, open_after, open_along};
-ghost use Rattle.mp_vm.specs.Known.{IsGoodPath, Knows, IsGathered, opened, tokens_in};
-ghost use Rattle.mp_vm.specs.Looks.{where_true};
+ghost use Rattle.mp_vm.specs.Known.{IsGoodPath, Knows, IsGathered, opened, tokens_in, open_before};
+ghost use Rattle.mp_vm.specs.Known.{IsBefore, IsBack};
+ghost use Rattle.mp_vm.specs.Looks.{look_wildcard, where_true};
 
 use crate::look::{Look, Use, add_token_looks, is_loose, wildcard_of};
 use mp_pattern::{NetToken, Pattern};
@@ -27,6 +28,15 @@ pub(crate) struct Above<'a> {
     pub(crate) open: Vec<OpId>,
     is_first: bool,
     uses: Vec<Use<'a>>,
+}
+
+// What is known before a token that comes behind others.
+#[derive(Clone, Copy)]
+pub(crate) struct Before<'a> {
+    token: &'a NetToken,
+    nodes: u64,
+    looks: usize,
+    is_first: bool,
 }
 
 // How many nodes a pattern has, or the greatest `u64` where there are more.
@@ -77,6 +87,24 @@ fn enters_comm(sig: &Signature, token: &NetToken) -> bool
     }
 }
 
+// Undoes what the token did to the operations that are open.
+fn unnest(token: &NetToken, open: &mut Vec<OpId>) -> Result<(), Memory>
+    ensures { OnOk result (reverse (map (λ f. f.0) open.new.items)
+        ≡ open_before (reverse (map (λ f. f.0) open.old.items)) (net_token token.now)) }
+{
+    match token {
+        NetToken::Enter(_) => {
+            let _ = open.pop();
+            Ok(())
+        }
+        NetToken::Leave(op) => {
+            open.push(*op)?;
+            Ok(())
+        }
+        _ => Ok(()),
+    }
+}
+
 // Opens or ends the application of the token, or answers false where it doesn't name the innermost one.
 fn nest(token: &NetToken, open: &mut Vec<OpId>) -> Result<bool, Memory>
     ensures { IfOk result (λ b. open_after (reverse (map (λ f. f.0) open.old.items)) (net_token token.now)
@@ -97,7 +125,10 @@ fn nest(token: &NetToken, open: &mut Vec<OpId>) -> Result<bool, Memory>
 
 impl<'a> Above<'a> {
     // No token.
-    pub(crate) fn new(alloc: Global) -> Above<'a> {
+    pub(crate) fn new(alloc: Global) -> Above<'a>
+        ensures known { (sig : Sig) → (most : ℕ) → Knows sig most result [] }
+        ensures open { opened result ≡ [] }
+    {
         Above {
             nodes: 0,
             looks: Vec::new(alloc),
@@ -139,6 +170,9 @@ impl<'a> Above<'a> {
             → IfOk result (λ b. is_right_path sig.now most (ks ++ net_token token.now ∷ []) ≡ b) }
         ensures known { (ks : Path) → Knows sig.now most self.old ks
             → IfOk result (λ b. IsTrue b → Knows sig.now most self.new (ks ++ net_token token.now ∷ [])) }
+        ensures looks { IfOk result (λ b. IsTrue b
+            → take (length self.old.looks.items) (map look_wildcard self.new.looks.items)
+            ≡ map look_wildcard self.old.looks.items) }
         ensures open { self.new.open ≡ self.old.open }
     {
         if !self.may_come(sig, token) {
@@ -158,8 +192,33 @@ impl<'a> Above<'a> {
             → IfOk result (λ b. open_along [] (ks ++ net_token token.now ∷ []) ≡ where_true b (opened self.new)) }
         ensures known { (sig : Sig) → (most : ℕ) → (ks : Path) → Knows sig most self.old ks
             → Knows sig most self.new ks }
+        ensures one { IfOk result (λ b. open_after (opened self.old) (net_token token.now)
+            ≡ where_true b (opened self.new)) }
+        ensures looks { self.new.looks ≡ self.old.looks }
     {
         nest(token, &mut self.open)
+    }
+
+    // What is known before the token, which is to come next.
+    pub(crate) fn before(&self, token: &'a NetToken) -> Before<'a>
+        ensures { IsBefore (net_token token.now) self.now result }
+    {
+        Before {
+            token,
+            nodes: self.nodes,
+            looks: self.looks.len(),
+            is_first: self.is_first,
+        }
+    }
+
+    // Takes the last token away, before which this was known.
+    pub(crate) fn go_back(&mut self, before: &Before<'a>) -> Result<(), Memory>
+        ensures { OnOk result (IsBack before.now self.old self.new) }
+    {
+        self.nodes = before.nodes;
+        self.looks.truncate(before.looks);
+        self.is_first = before.is_first;
+        unnest(before.token, &mut self.open)
     }
 
     // Puts together what is known of the tokens of a right path, which stand in the list from the last one on.

@@ -14,13 +14,15 @@ ghost use Rattle.mp_program.specs.Leads.{Lead, lead, leads_after};
 ghost use Rattle.mp_program.specs.Program as program;
 ghost use Rattle.mp_program.specs.TokenPaths.{is_balanced};
 ghost use Rattle.mp_vm.specs.Checked.{Checks};
-ghost use Rattle.mp_vm.specs.Known.{IsGoodPath, IsGathered};
+ghost use Rattle.mp_vm.specs.Known.{IsGoodPath, IsGathered, IsMore};
 ghost use Rattle.mp_vm.specs.SettingView.{IsSetting, faults_of_path, faults_of_instr, faults_behind};
 ghost use Rattle.mp_vm.specs.SettingView.{HasWays};
+ghost use Rattle.mp_vm.specs.TrailView.{HasTrail};
 ghost use Rattle.mp_vm.specs.WayView.{AreAbove};
 
 use crate::above::Above;
 use crate::needs::{Needs, all_needs, are_met};
+use crate::trail::Trail;
 use crate::ways::Ways;
 use mp_pattern::{Conds, MAX_PATTERN_NODES, NetToken};
 use mp_program::{Format, ProgramError, ProgramRules};
@@ -37,12 +39,13 @@ struct Setting<'a> {
     needs: Vec<Needs>,
 }
 
-// How far the check has come: the ways that are known, and room for the tokens of a path and what is known of them.
+// How far the check has come: the ways that are known, the path to the instruction that is checked, and room for the
+// tokens of a path.
 #[derive(Drop)]
 struct Progress<'a> {
     ways: Ways,
+    trail: Trail<'a>,
     tokens: Vec<&'a NetToken>,
-    above: Above<'a>,
 }
 
 // How many nodes a path of the format has at most.
@@ -125,7 +128,29 @@ impl<'a> Setting<'a> {
         known.gather(self.sig, self.most, tokens)
     }
 
-    // The path with the instruction behind the tokens that are known is right.
+    // Goes to the instruction of the number: by steps back, where they lead there.
+    fn go_to(
+        &self,
+        ways: &Ways,
+        number: u32,
+        tokens: &mut Vec<&'a NetToken>,
+        trail: &mut Trail<'a>,
+    ) -> Result<(), Memory>
+        requires { self.now.most < 2 ^ 64 - 1 }
+        ensures at { OnOk result (trail.new.at ≡ number) }
+        ensures trail { HasTrail self.now ways.now.ways.items trail.old
+            → OnOk result (HasTrail self.now ways.now.ways.items trail.new) }
+    {
+        trail.go_back(number)?;
+        if trail.at == number {
+            return Ok(());
+        }
+        self.gather(ways, number, tokens, &mut trail.known)?;
+        trail.start(number);
+        Ok(())
+    }
+
+    // The path with the instruction behind the tokens that are known is right; its own is known then.
     fn check_known(
         &self,
         known: &mut Above<'a>,
@@ -133,10 +158,13 @@ impl<'a> Setting<'a> {
         line: u32,
     ) -> Result<(), ProgramError>
         requires { self.now.most < 2 ^ 64 - 1 }
-        ensures { (tests : List conds.Cond) → (rules : List program.ProgramRule) → (ks : Path)
+        ensures faults { (tests : List conds.Cond) → (rules : List program.ProgramRule) → (ks : Path)
             → IsSetting tests rules self.now → IsGathered self.now.sig.now self.now.most known.old ks
             → Checks (faults_of_path tests rules self.now line (ks ++ net_token instr.now.token ∷ [])
             (plain_instr instr.now)) result }
+        ensures gathered { (ks : Path) → IsGathered self.now.sig.now self.now.most known.old ks
+            → OnOk result (IsGathered self.now.sig.now self.now.most known.new (ks ++ net_token instr.now.token ∷ [])) }
+        ensures more { OnOk result (IsMore (net_token instr.now.token) known.old known.new) }
     {
         if !known.add(self.sig, self.most, &instr.token)? {
             return Err(ProgramError::BadReference { line });
@@ -164,25 +192,34 @@ impl<'a> Setting<'a> {
         requires { self.now.most < 2 ^ 64 - 1 }
         ensures faults { (tests : List conds.Cond) → (rules : List program.ProgramRule) → (ls : List Lead) → (done : ℕ)
             → IsSetting tests rules self.now → HasWays tests rules self.now ls done progress.old.ways.ways.items
+            → HasTrail self.now progress.old.ways.ways.items progress.old.trail
             → number ≡ suc done → instr_at (map plain_instr self.now.code.now) number ≡ Some (plain_instr instr.now)
             → Checks (faults_of_instr tests rules self.now line number ls (plain_instr instr.now)) result }
         ensures ways { (tests : List conds.Cond) → (rules : List program.ProgramRule) → (ls : List Lead) → (done : ℕ)
             → IsSetting tests rules self.now → HasWays tests rules self.now ls done progress.old.ways.ways.items
+            → HasTrail self.now progress.old.ways.ways.items progress.old.trail
             → number ≡ suc done → instr_at (map plain_instr self.now.code.now) number ≡ Some (plain_instr instr.now)
             → OnOk result (HasWays tests rules self.now (leads_after ls number (plain_instr instr.now)) number
             progress.new.ways.ways.items) }
+        ensures trail { (tests : List conds.Cond) → (rules : List program.ProgramRule) → (ls : List Lead) → (done : ℕ)
+            → IsSetting tests rules self.now → HasWays tests rules self.now ls done progress.old.ways.ways.items
+            → HasTrail self.now progress.old.ways.ways.items progress.old.trail
+            → number ≡ suc done → instr_at (map plain_instr self.now.code.now) number ≡ Some (plain_instr instr.now)
+            → OnOk result (HasTrail self.now progress.new.ways.ways.items progress.new.trail) }
     {
         check_targets(instr.down, instr.over, number, self.code.len(), line)?;
         let Some(above) = progress.ways.above(number) else {
             return Err(ProgramError::BadReference { line });
         };
-        self.gather(
+        self.go_to(
             &progress.ways,
             above,
             &mut progress.tokens,
-            &mut progress.above,
+            &mut progress.trail,
         )?;
-        self.check_known(&mut progress.above, instr, line)?;
+        let before = progress.trail.known.before(&instr.token);
+        self.check_known(&mut progress.trail.known, instr, line)?;
+        progress.trail.step(number, before)?;
         progress.ways.lead(instr.down, number);
         progress.ways.lead(instr.over, above);
         Ok(())
@@ -194,6 +231,7 @@ impl<'a> Setting<'a> {
         requires few { line + length self.now.code.now < 2 ^ 32 - 1 }
         ensures { (tests : List conds.Cond) → (rules : List program.ProgramRule) → (ls : List Lead)
             → IsSetting tests rules self.now → HasWays tests rules self.now ls 0 progress.old.ways.ways.items
+            → HasTrail self.now progress.old.ways.ways.items progress.old.trail
             → Checks (faults_behind tests rules self.now line 0 ls) result }
     {
         let mut number: u32 = 0;
@@ -233,8 +271,8 @@ pub(crate) fn check_code(
     };
     let mut progress = Progress {
         ways,
+        trail: Trail::new(alloc),
         tokens: Vec::new(alloc),
-        above: Above::new(alloc),
     };
     setting.check_instrs(&mut progress, line)
 }

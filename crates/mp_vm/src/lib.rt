@@ -16,6 +16,7 @@ mod rules;
 mod run;
 mod runner;
 mod stage;
+mod trail;
 mod ways;
 
 pub use constants::program_constants;

@@ -1,24 +1,18 @@
 //! The lines of bytes.
 
-ghost use Rattle.std.specs.Prelude.{◌≡◌, [], position, nat_eq, MatchOption};
+ghost use Rattle.std.specs.Prelude.{◌≡◌, [], MatchOption};
 ghost use Rattle.mp_program.specs.FormText.{lines_of};
 ghost use Rattle.mp_vm.specs.FirstLine.{IsFirstLine};
 
+use memchr::memchr;
 use std::marker::Model;
-
-// The place of the first line feed.
-fn first_end(bytes: &[u8]) -> Option<usize>
-    ensures { result ≡ position (λ c. nat_eq c 10) bytes.now }
-{
-    bytes.iter().position(|byte| *byte == b'\n')
-}
 
 // The first line, without the line feed with which it ends, and what stands behind that.
 fn split_line(bytes: &[u8]) -> Option<(&[u8], &[u8])>
     ensures { MatchOption result (lines_of bytes.now ≡ [])
         (λ parts. IsFirstLine bytes.now parts.0.now parts.1.now) }
 {
-    match first_end(bytes) {
+    match memchr(b'\n', bytes) {
         Some(end) => Some((&bytes[..end], &bytes[end + 1..])),
         None => None,
     }

@@ -140,21 +140,6 @@ fn add_pattern_uses<'a>(pattern: &'a Pattern, uses: &mut Vec<Use<'a>>) -> Result
     }
 }
 
-// Adds the occurrences of variables in a token.
-fn add_uses<'a>(token: &'a NetToken, uses: &mut Vec<Use<'a>>) -> Result<(), Memory>
-    ensures { OnOk result (map use_view uses.new.items
-        ≡ map use_view uses.old.items ++ token_places (net_token token.now)) }
-{
-    if let NetToken::Comm(pattern) = token {
-        return add_pattern_uses(pattern, uses);
-    }
-    if let Some((look, Some(number))) = wildcard_of(token) {
-        let place = place_of_number(number);
-        uses.push(Use { place, look })?;
-    }
-    Ok(())
-}
-
 // Adds the wildcard of a new variable, or answers false where it isn't the next one, where there would be too many, or
 // where the variable has another wildcard.
 fn add_look<'a>(occurrence: Use<'a>, looks: &mut Vec<Look<'a>>) -> Result<bool, Memory>
@@ -191,10 +176,22 @@ pub(crate) fn add_token_looks<'a>(
     uses: &mut Vec<Use<'a>>,
     looks: &mut Vec<Look<'a>>,
 ) -> Result<bool, Memory>
-    ensures { IfOk result (λ b. with_looks (map look_wildcard looks.old.items) (token_places (net_token token.now))
-        ≡ where_true b (map look_wildcard looks.new.items)) }
+    ensures { IfOk result (λ b. with_looks (map look_wildcard looks.old.items)
+        (token_places (net_token token.now)) ≡ where_true b (map look_wildcard looks.new.items)) }
 {
-    uses.clear();
-    add_uses(token, uses)?;
-    add_looks(uses, looks)
+    if let NetToken::Comm(pattern) = token {
+        uses.clear();
+        add_pattern_uses(pattern, uses)?;
+        return add_looks(uses, looks);
+    }
+    match wildcard_of(token) {
+        Some((look, Some(number))) => add_look(
+            Use {
+                place: place_of_number(number),
+                look,
+            },
+            looks,
+        ),
+        _ => Ok(true),
+    }
 }

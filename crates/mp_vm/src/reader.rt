@@ -28,7 +28,7 @@ use crate::code::check_code;
 use crate::declared::check_declarations;
 use crate::draft::Draft;
 use crate::lines::Lines;
-use crate::rules::{check_rules, check_tests};
+use crate::rules::{check_rules, check_tests, numbered_rules};
 use mp_line::MAX_KEPT;
 use mp_pattern::Conds;
 use mp_program::{Format, Program, ProgramError, ProgramRules, RuleLine, rules_of};
@@ -156,10 +156,9 @@ fn rules_and_tests(
         → tests ≡ f.tests
         → IfOk result (λ p. (p.0 ≡ map (rule_of sig.now (tests_of sig.now f)) f.rules) × (p.1 ≡ tests_of sig.now f)) }
 {
-    let (rules, spelled) = rules_of(alloc, sig, lines)?;
     match format {
-        Format::One => Ok((rules, spelled)),
-        Format::Two => Ok((rules, tests)),
+        Format::One => rules_of(alloc, sig, lines),
+        Format::Two => Ok((numbered_rules(alloc, lines)?, tests)),
     }
 }
 

@@ -12,16 +12,19 @@ ghost use Rattle.mp_program.specs.Form as form;
 ghost use Rattle.mp_program.specs.FormFaults.{faults_along, test_faults, used_test, used_tests, is_bad_test};
 ghost use Rattle.mp_program.specs.FormFaults.{rule_faults, unused_faults, fault_if};
 ghost use Rattle.mp_program.specs.declared.fault.ProgramError.TheVariants as errors;
+ghost use Rattle.mp_program.specs.ProgramView.{rule_view};
 ghost use Rattle.mp_program.specs.RuleView.{rule_test, rule_line_view};
 ghost use Rattle.mp_program.specs.TokenPaths.{cond_names};
 ghost use Rattle.mp_line.specs.LineTexts.{kept_line};
 ghost use Rattle.mp_line.specs.Named.{names_in};
 ghost use Rattle.mp_vm.specs.Checked.{Checks, numbers_below};
+ghost use Rattle.mp_vm.specs.NumberedRules.{named_test, numbered_rule};
 
 use crate::printed::printed_cond;
+use indexmap::IndexSet;
 use mp_line::{MAX_KEPT, condition_names};
 use mp_pattern::{Cond, MAX_VARIABLES};
-use mp_program::{ProgramError, RuleLine, RuleTest};
+use mp_program::{ProgramError, ProgramRule, ProgramRules, RuleLine, RuleTest};
 use mp_term::{Memory, Name, NameTable, Names, Signature};
 use std::alloc::Global;
 
@@ -35,6 +38,15 @@ fn add_new(texts: &mut NameTable, text: &[u8]) -> Result<bool, Memory>
     }
     texts.push(text)?;
     Ok(true)
+}
+
+// Adds a name to others, or answers false where it is one of them.
+fn add_name<'a>(names: &mut IndexSet<&'a [u8]>, name: &'a [u8]) -> Result<bool, Memory>
+    ensures new { IfOk result (λ b. b ≡ not (list_any (bytes_eq name.now) (map (λ k. k.now) names.old.keys))) }
+    ensures names { IfOk result (λ b. IsTrue b
+        → map (λ k. k.now) names.new.keys ≡ map (λ k. k.now) names.old.keys ++ name.now ∷ []) }
+{
+    Ok(names.insert(name)?)
 }
 
 // The tests are distinct. The first of them stands on this line.
@@ -130,17 +142,18 @@ fn is_right_test(
 }
 
 // The line is right behind those of rules with these names, which use so many of the tests. Its name is then added.
-fn add_rule(
+fn add_rule<'a>(
     alloc: Global,
-    line: &RuleLine,
+    line: &'a RuleLine,
     count: usize,
     used: usize,
-    names: &mut NameTable,
+    names: &mut IndexSet<&'a [u8]>,
 ) -> Result<bool, Memory>
     ensures right { (before : List form.RuleLine) → length (used_tests before) ≡ used
-        → names.old ≡ map (λ r. r.name) before → IfOk result (λ b. (n : ℕ)
+        → map (λ k. k.now) names.old.keys ≡ map (λ r. r.name) before → IfOk result (λ b. (n : ℕ)
         → rule_faults count before n (rule_line_view line.now) ≡ fault_if (not b) (errors.BadReference n)) }
-    ensures names { IfOk result (λ b. IsTrue b → names.new ≡ names.old ++ line.now.name ∷ []) }
+    ensures names { IfOk result (λ b. IsTrue b
+        → map (λ k. k.now) names.new.keys ≡ map (λ k. k.now) names.old.keys ++ line.now.name ∷ []) }
 {
     if line.vars.len() > MAX_VARIABLES || !are_distinct(&line.vars) {
         return Ok(false);
@@ -148,7 +161,7 @@ fn add_rule(
     if !is_right_test(alloc, &line.test, &line.vars, count, used)? {
         return Ok(false);
     }
-    add_new(names, line.name.bytes())
+    add_name(names, line.name.bytes())
 }
 
 // How many tests are used once a line has named its test, where the first ones are used before.
@@ -174,7 +187,7 @@ fn check_lines(
     ensures lines { Checks (faults_along (rule_faults count) [] first (map rule_line_view rules.now)) result }
     ensures used { IfOk result (λ used. used_tests (map rule_line_view rules.now) ≡ numbers_below used) }
 {
-    let mut names = NameTable::new(alloc);
+    let mut names: IndexSet<&[u8]> = IndexSet::new(alloc);
     let mut used: usize = 0;
     let mut number = first;
     for line in rules {
@@ -208,4 +221,37 @@ pub(crate) fn check_rules(
         });
     }
     Ok(())
+}
+
+// The number of the test that a line names, if it names one.
+fn named_test(test: &RuleTest) -> Option<u32>
+    ensures { result ≡ named_test (rule_test test.now) }
+{
+    match test {
+        RuleTest::Tested(number) => Some(*number),
+        _ => None,
+    }
+}
+
+// The rule of a line that spells no test.
+fn numbered_rule(line: RuleLine) -> ProgramRule
+    ensures { rule_view result ≡ numbered_rule (rule_line_view line) }
+{
+    let RuleLine { name, vars, test } = line;
+    ProgramRule {
+        name,
+        vars,
+        test: named_test(&test),
+    }
+}
+
+// The rules of lines that spell no test.
+pub(crate) fn numbered_rules(alloc: Global, lines: Vec<RuleLine>) -> Result<ProgramRules, Memory>
+    ensures { IfOk result (λ rs. rs ≡ map numbered_rule (map rule_line_view lines.items)) }
+{
+    let mut rules = ProgramRules::new(alloc);
+    for line in lines {
+        rules.push(numbered_rule(line))?;
+    }
+    Ok(rules)
 }

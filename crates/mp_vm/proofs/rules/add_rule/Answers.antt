@@ -1,4 +1,4 @@
-use Rattle.std.proofs.Common.{◌≡◌, ◌≤◌, ℕ, false, length, sym, ap, ◌∙◌, arith}
+use Rattle.std.proofs.Common.{◌≡◌, ◌≤◌, ℕ, false, length, map, sym, ap, ◌∙◌, arith}
 use Rattle.std.specs.Prelude.{not, bytes_eq}
 use Rattle.std.specs.List.{list_any}
 use Rattle.std.proofs.lemmas.Result.{IfOk-weaker}
@@ -16,9 +16,10 @@ returns-clause-right c = λ before used names. (
     let few : length line.vars ≤ MAX_VARIABLES = omega (arith, c.if-len-gt-MAX_VARIABLES.false, c.len.ensures) in
     let good : is_bad_test c.args.count before line.vars (rule_test line.test) ≡ false =
     sym (c.in_ok-is_right_test.ensures before used) ∙ ap not c.if-not-branch.false in
-    IfOk-weaker c.add_new.result (λ b. b ≡ not (list_any (bytes_eq c.bytes.result.now) c.args.names.now))
+    IfOk-weaker c.add_name.result
+    (λ b. b ≡ not (list_any (bytes_eq c.bytes.result.now) (map (λ k. k.now) c.args.names.now.keys)))
     (λ b. (n : ℕ) → rule_faults c.args.count before n (rule_line_view line) ≡ fault_if (not b) (BadReference n))
-    (λ b new n. rule_faults-name c.args.count before n (rule_line_view line) distinct few good c.args.names.now
-    c.bytes.result.now b names c.bytes.ensures.bytes new)
-    c.add_new.ensures.new
+    (λ b new n. rule_faults-name c.args.count before n (rule_line_view line) distinct few good
+    (map (λ k. k.now) c.args.names.now.keys) c.bytes.result.now b names c.bytes.ensures.bytes new)
+    c.add_name.ensures.new
     )

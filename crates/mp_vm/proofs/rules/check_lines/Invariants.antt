@@ -9,7 +9,7 @@ abbrev pub invariant-loop-line : goal.invariant-loop-line
 invariant-loop-line l =
     let done = map rule_line_view (take l.line-index l.rules) in
     record {
-      names : l.names ≡ map (λ r. r.name) done;
+      names : map (λ k. k.now) l.names.keys ≡ map (λ r. r.name) done;
       used : used_tests done ≡ numbers_below l.used;
       number : l.number ≡ l.fn.first + l.line-index;
       faults : faults_along (rule_faults l.count) done l.number (map rule_line_view (drop l.line-index l.rules))

@@ -1,8 +1,10 @@
-use Rattle.std.proofs.Common.{◌∙◌, refl, sym, map, ap, arith}
+use Rattle.std.proofs.Common.{◌∙◌, refl, sym, map, ap, take, arith}
+use Rattle.std.proofs.lemmas.List.{length-map}
 use Rattle.std.proofs.lemmas.Result.{IfOk-weaker}
 use Rattle.mp_pattern.specs.NetTokenView.{net_token}
-use Rattle.mp_vm.specs.Looks.{look_wildcard, where_true}
+use Rattle.mp_vm.specs.Looks.{look_wildcard, token_places, where_true}
 use Rattle.mp_vm.proofs.AboveLaws.{wrong-count, right-come, knows-come}
+use Rattle.mp_vm.proofs.LookLaws.{looks-kept}
 use Rattle.mp_vm.proofs.above.Above.add.Goals as goal
 
 pub returns-then-self-most-clause-right : goal.returns-then-self-most-clause-right
@@ -24,5 +26,14 @@ returns-clause-known c = λ ks h. IfOk-weaker c.add_token_looks.result _ _
     (omega (arith, c.if-self-most.false, c.saturating_add-self.ensures, c.token_nodes.ensures, c.requires))
     _ refl
     (omega (arith, c.if-self-most.false, c.saturating_add-self.ensures, c.token_nodes.ensures, c.requires))
+    (e ∙ ap (λ v. where_true v (map look_wildcard c.add_token_looks.new.looks.items)) t))
+    c.add_token_looks.ensures
+
+pub returns-clause-looks : goal.returns-clause-looks
+returns-clause-looks c = IfOk-weaker c.add_token_looks.result _ _
+    (λ b e t. ap (λ n. take n (map look_wildcard c.add_token_looks.new.looks.items))
+    (sym (length-map c.args.self.now.looks.items look_wildcard))
+    ∙ looks-kept (map look_wildcard c.args.self.now.looks.items) (token_places (net_token c.args.token.now))
+    (map look_wildcard c.add_token_looks.new.looks.items)
     (e ∙ ap (λ v. where_true v (map look_wildcard c.add_token_looks.new.looks.items)) t))
     c.add_token_looks.ensures
