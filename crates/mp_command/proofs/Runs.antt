@@ -14,9 +14,9 @@ use Rattle.mp_text.proofs.SoundFile.{IsSoundFile-IsFileOf}
 use Rattle.mp_command.specs.Answers.{Answers, IsReached, IsUnopened}
 use Rattle.mp_command.specs.Endings.{line_of, status_of, told_line, told_status}
 use Rattle.mp_command.specs.Messages.{long_line, memory_line, open_line, read_line, write_line}
-use Rattle.mp_command.specs.Outcome.{IsDoneWith, IsOutcomeAt, IsOutcomeOver, IsOutcomeWith, IsOver, Named, Outcome}
-use Rattle.mp_command.specs.Outcome.{file_limit, program_limit, refused}
-use Rattle.mp_command.specs.Run.{HasOutcome, IsSomeMissing, IsTurnOf, Runs, Says, ShelfRose, Wanted, statuses}
+use Rattle.mp_command.specs.Outcome.{IsDoneWith, IsOutcome, IsOutcomeAt, IsOutcomeOver, IsOutcomeWith, IsOver, Named}
+use Rattle.mp_command.specs.Outcome.{Outcome, file_limit, program_limit, refused}
+use Rattle.mp_command.specs.Run.{HasOutcome, IsSomeMissing, IsTurnOf, Runs, Says, Wanted, statuses}
 use Rattle.mp_command.specs.Run.{wanted_by, wanted_program}
 use Rattle.mp_words.specs.Words.{Request, request_of}
 use Rattle.mp_command.specs.declared.ending.Told.{Told}
@@ -354,33 +354,19 @@ module _ (files : Files) (request : Option Request) (shelf : Shelved) (told_file
         Runs-read file h.0 h.1.1
         (λ m. h.2 (subst (IsMissing shelf.files) h.1.2 m)) h.3 (subst (λ n. Says err (read_line n)) (sym h.1.2) says)
 
-  -- there is an outcome where memory and faults didn't keep the run from it
-  outcome-answers : (e : Ending) → Answers wanted (λ fs. IsOutcomeAt fs request) shelf out e
-      → (status_of e ≡ 5 → ⊥) → (status_of e ≡ 8 → ⊥) → (status_of e ≡ 4 → ShelfRose shelf → ⊥)
-      → (o : Outcome) × IsOutcomeAt files request o
-  outcome-answers (ending.Told t) h not5 not8 calm = (told-here _ shelf.files files told_files h).some
-  outcome-answers ending.Memory h not5 not8 calm = absurd (not8 refl)
-  outcome-answers ending.CannotWrite h not5 not8 calm = absurd (not5 refl)
-  outcome-answers (ending.CannotOpen name) h not5 not8 calm = elim h.2 [
-    | inl rose ↦ absurd (calm refl (inl rose))
-    | inr m ↦ (told-here _ shelf.files files told_files m.1).some
-  ]
-  outcome-answers (ending.CannotRead name) h not5 not8 calm = absurd (calm refl (inr h.3))
-
 -- the clause, of the request that the words make
 pub HasOutcome-answers : (shelf : Shelved) (words : List Text) (asked_for : Option Request) (out err : Sunk)
     (e : Ending) (status : ℕ)
+    → ((files : Files) → (o : Outcome) × IsOutcome words files o)
     → asked_for ≡ request_of words → status ≡ status_of e
     → Answers (wanted_by asked_for) (λ fs. IsOutcomeAt fs asked_for) shelf out e → Says err (line_of e)
     → IfSome shelf.files (λ files. HasOutcome words files shelf out err status)
-HasOutcome-answers shelf words asked_for out err e status asked_is status_is h says =
+HasOutcome-answers shelf words asked_for out err e status there asked_is status_is h says =
     IfSome-told shelf.files (λ files told_files.
     let whole : HasOutcome words files shelf out err (status_of e) = record {
+      outcome = there files;
       runs = λ o is. subst (λ r. Runs o (wanted_by r) files shelf out err (status_of e)) asked_is
           (Runs-answers files asked_for shelf told_files out err o
           (subst (λ r. IsOutcomeAt files r o) (sym asked_is) is) e h says);
-      outcome = λ not5 not8 calm.
-          let found = outcome-answers files asked_for shelf told_files out err e h not5 not8 calm in
-          (found.0, subst (λ r. IsOutcomeAt files r found.0) asked_is found.1);
     } in
     subst (HasOutcome words files shelf out err) (sym status_is) whole)

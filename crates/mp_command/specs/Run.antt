@@ -109,13 +109,11 @@ pub record Runs (o : Outcome) (wanted : List Wanted) (files : Files) (shelf : Sh
   -- what is said
   pub line : (text : Text) × IsLine o wanted shelf status text × Says err text
 
--- A run of these words over files that are told is as each outcome says that they have. And they have one where memory
--- and faults didn't keep the run from it.
+-- these words have an outcome over files that are told, and a run of them is as each outcome says that they have
 pub record HasOutcome (words : List Text) (files : Files) (shelf : Shelved) (out err : Sunk) (status : ℕ) : Type 0 where
+  pub outcome : (o : Outcome) × IsOutcome words files o
   pub runs : (o : Outcome) → IsOutcome words files o
       → Runs o (wanted_by (request_of words)) files shelf out err status
-  pub outcome : (status ≡ 5 → ⊥) → (status ≡ 8 → ⊥) → (status ≡ 4 → ShelfRose shelf → ⊥)
-      → (o : Outcome) × IsOutcome words files o
 
 -- what is said at the statuses that files and words alone don't decide, and where all went well, whether or not the
 -- shelf tells its files

@@ -12,6 +12,7 @@ ghost use Rattle.mp_words.specs.Words.{request_of};
 
 use crate::answer::answer_file;
 use crate::ending::{Ending, Told, say, status};
+use crate::laws::there_is_an_outcome;
 use mp_io::{Failed, Shelf, Sink};
 use mp_term::Memory;
 use mp_words::read_words;
@@ -89,8 +90,8 @@ pub fn run<S: Shelf, O: Sink, E: Sink>(
     ensures usage { result ≡ 2 → request_of (words_of words.now) ≡ None }
     ensures no_usage { request_of (words_of words.now) ≡ None → (result ≡ 2) ⊎ (result ≡ 8) }
 
-    // Where the shelf tells its files, all that is written and answered is as the outcome says, but for memory and
-    // faults.
+    // Where the shelf tells its files, the words have an outcome over them, and all that is written and answered is as
+    // it says, but for memory and faults.
     ensures outcome { IfSome (S.files shelf.old) (λ files. HasOutcome (words_of words.now) files
         (shelved S.Shelf shelf.old shelf.new) (sunk O.Sink out.old out.new) (sunk E.Sink err.old err.new) result) }
 
@@ -102,6 +103,7 @@ pub fn run<S: Shelf, O: Sink, E: Sink>(
     // No file is started but those that the request names, and each of these once at most.
     ensures once { IsReadOnce (wanted_by (request_of (words_of words.now))) (shelved S.Shelf shelf.old shelf.new) }
 {
+    there_is_an_outcome();
     match all_words(alloc, words) {
         Ok(all) => finish(err, answer(alloc, &all, shelf, out)),
         Err(Memory) => finish(err, Ending::Memory),

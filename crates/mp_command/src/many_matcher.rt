@@ -4,9 +4,9 @@ ghost use Rattle.std.specs.Prelude.{◌≡◌, IfOk};
 ghost use Rattle.mp_pattern.specs.Lists.{IsAllList};
 ghost use Rattle.mp_pattern.specs.SoundRule.{AreSoundRules};
 
-use mp_io::Sink;
+use mp_io::{Sink, Writer};
 use mp_many::Many;
-use mp_matches::{Matcher, Stop, print_pairs};
+use mp_matches::{Matcher, Stop, put_pairs};
 use mp_pattern::Rules;
 use mp_table::Table;
 use mp_term::{Memory, Name, Signature, Terms};
@@ -59,17 +59,17 @@ impl Matcher for ManyMatcher<'_> {
 
     ghost finds = { λ m. IsAllList m.sig m.rules };
 
-    fn print<O: Sink>(
+    fn put<O: Sink>(
         &self,
         alloc: Global,
         sig: &Signature,
         names: &[&Name],
         subject: &Subject,
         left: &mut Option<u32>,
-        out: &mut O,
+        out: &mut Writer<'_, O>,
     ) -> Result<bool, Stop> {
         let table = Table::build(alloc, sig, &subject.term, &self.constants)?;
         let pairs = self.many.ranked(alloc, &table)?;
-        print_pairs(sig, names, subject, &pairs, left, out)
+        put_pairs(sig, names, subject, &pairs, left, out)
     }
 }

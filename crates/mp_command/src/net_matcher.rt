@@ -6,8 +6,8 @@ ghost use Rattle.mp_pattern.specs.Lists.{IsAllList};
 ghost use Rattle.mp_pattern.specs.SoundRule.{IsSoundTerm};
 ghost use Rattle.mp_pattern.specs.declared.limits.TheConstants.{MAX_TERM_NODES};
 
-use mp_io::Sink;
-use mp_matches::{Matcher, Stop, print_pairs};
+use mp_io::{Sink, Writer};
+use mp_matches::{Matcher, Stop, put_pairs};
 use mp_net::{Nets, Probe};
 use mp_subst::Pairs;
 use mp_table::Table;
@@ -37,16 +37,16 @@ impl Matcher for NetMatcher<'_> {
 
     ghost finds = { λ m. IsAllList m.nets.sig m.nets.rules };
 
-    fn print<O: Sink>(
+    fn put<O: Sink>(
         &self,
         alloc: Global,
         sig: &Signature,
         names: &[&Name],
         subject: &Subject,
         left: &mut Option<u32>,
-        out: &mut O,
+        out: &mut Writer<'_, O>,
     ) -> Result<bool, Stop> {
         let pairs = pairs(alloc, &self.nets, sig, &subject.term)?;
-        print_pairs(sig, names, subject, pairs.as_slice(), left, out)
+        put_pairs(sig, names, subject, pairs.as_slice(), left, out)
     }
 }

@@ -2,8 +2,8 @@
 
 ghost use Rattle.mp_vm.specs.ProgramList.{IsProgramList};
 
-use mp_io::Sink;
-use mp_matches::{Matcher, Stop, print_pairs};
+use mp_io::{Sink, Writer};
+use mp_matches::{Matcher, Stop, put_pairs};
 use mp_term::{Name, Signature};
 use mp_text::Subject;
 use mp_vm::Runner;
@@ -20,17 +20,17 @@ impl Matcher for ProgramMatcher<'_> {
 
     ghost finds = { λ m. IsProgramList m.runner.sig m.runner.program };
 
-    fn print<O: Sink>(
+    fn put<O: Sink>(
         &self,
         alloc: Global,
         sig: &Signature,
         names: &[&Name],
         subject: &Subject,
         left: &mut Option<u32>,
-        out: &mut O,
+        out: &mut Writer<'_, O>,
     ) -> Result<bool, Stop> {
         let table = self.runner.table(alloc, &subject.term)?;
         let pairs = self.runner.pairs(alloc, &table)?;
-        print_pairs(sig, names, subject, &pairs, left, out)
+        put_pairs(sig, names, subject, &pairs, left, out)
     }
 }

@@ -2,11 +2,9 @@
 use Rattle.std.proofs.Common.{◌≡◌, ◌<◌, ◌≤◌, ◌+◌, ℕ, zero, suc, Bool, true, List, [], ◌∷◌, ◌++◌, length, map, drop}
 use Rattle.std.proofs.Common.{get_or, refl, sym, ap, ap₂, ◌∙◌, subst, arith, append_assoc, append-nil, length-append}
 use Rattle.std.proofs.Math.ListN.{drop_of_length-le}
-use Rattle.std.proofs.KnownBytes.{Appends-trans}
 use Rattle.std.specs.Prelude.{Option, Some, None, Result, Ok, Err, ◌||◌, slice_get}
 use Rattle.std.specs.Borrow.{Bor}
-use Rattle.std.specs.Io.KnownBytes.{Appends}
-use Rattle.mp_io.specs.Devices.{Rose, Text}
+use Rattle.mp_io.specs.Devices.{Text}
 use Rattle.mp_io.specs.Moments.{Sunk, sunk}
 use Rattle.mp_io.specs.Printing.{AppendsFront, Prints}
 use Rattle.mp_io.specs.Writing.{HasPut, Puts}
@@ -28,8 +26,7 @@ use Rattle.mp_matches.specs.declared.fault.ListFault.TheVariants as fault
 use Rattle.mp_matches.specs.declared.stop.Stop.{Stop}
 use Rattle.mp_matches.specs.declared.stop.Stop.TheVariants as stop
 use Rattle.mp_matches.proofs.PrintedLaws.{has_some-append, has_some-behind, has_some-long}
-use Rattle.mp_matches.proofs.PutLaws.{Puts-finished, PutsFront-all, PutsFront-cut_off}
-use Rattle.mp_matches.proofs.SoFar.{front-behind}
+use Rattle.mp_matches.proofs.PutLaws.{Puts-finished, PutsFront-all, PutsFront-behind, PutsFront-cut_off}
 
 -- ---- lines
 
@@ -81,13 +78,19 @@ module _ {K : Type 0} (words : SinkWords K) where
     -- it ends well, and what was put is printed
     pub up_to-finished : (value : T)
         → ((text : Text) → HasPut words start text w → Prints {E = E} (sunk words start new) text (Ok value))
-        → (told : Result Bool Stop) → PutsUpTo words whole rest u w told
+        → (w.failed ≡ true → ⊥) → (told : Result Bool Stop) → PutsUpTo words whole rest u w told
         → PrintsUpTo whole rest (sunk words start new) told
-    up_to-finished value put (Ok any) h =
+    up_to-finished value put going (Ok any) h =
         (h.0, h.1, Puts-finished words start new u w none value put h.0 h.2, h.3)
-    up_to-finished value put (Err stop.More) h = (Puts-finished words start new u w none value put whole h.0, h.1)
-    up_to-finished value put (Err stop.Memory) h = absurd h
-    up_to-finished value put (Err stop.CannotWrite) h = absurd h
+    up_to-finished value put going (Err stop.More) h =
+        (Puts-finished words start new u w none value put whole h.0, h.1)
+    up_to-finished value put going (Err stop.Memory) h = record {
+      front = h.front;
+      rest = h.rest;
+      split = h.split;
+      written = (Puts-finished words start new u w none value put h.front h.puts).0;
+    }
+    up_to-finished value put going (Err stop.CannotWrite) h = absurd (going h.1)
 
     -- a write failed, and a front was written
     pub up_to-cut_off : (error : E)
@@ -97,40 +100,46 @@ module _ {K : Type 0} (words : SinkWords K) where
         (record { front = h.0; rest = rest; split = h.1; puts = h.2 })
     up_to-cut_off error put (Err stop.More) h =
         PutsFront-cut_off words start new u w none error put whole (PutsFront-all words u w whole h.0)
-    up_to-cut_off error put (Err stop.Memory) h = absurd h
-    up_to-cut_off error put (Err stop.CannotWrite) h = absurd h
+    up_to-cut_off error put (Err stop.Memory) h = PutsFront-cut_off words start new u w none error put whole h
+    up_to-cut_off error put (Err stop.CannotWrite) h = PutsFront-cut_off words start new u w none error put whole h.0
 
--- ---- what is printed of one subject after the other
+-- ---- what is put of one subject after the other
 
-module _ (whole rest next : Text) (a b c : Option Text) (m n k : ℕ) (any : Bool)
-    (so : PrintsUpTo whole rest (record { old = a; new = b; faults = m; faults_after = n }) (Ok any)) where
-  -- the lines of one subject more are printed
-  pub printed-more : (some : Bool)
-      → PrintsUpTo rest next (record { old = b; new = c; faults = n; faults_after = k }) (Ok some)
-      → PrintsUpTo whole next (record { old = a; new = c; faults = m; faults_after = k }) (Ok (any || some))
-  printed-more some h = (
+module _ {K : Type 0} (words : SinkWords K) (whole rest next : Text) (u v w : Writer K) (any : Bool)
+    (so : PutsUpTo words whole rest u v (Ok any)) where
+  -- the lines of one subject more are put
+  pub up_to-subject : (some : Bool) → PutsUpTo words rest next v w (Ok some)
+      → PutsUpTo words whole next u w (Ok (any || some))
+  up_to-subject some h = (
     so.0 ++ h.0,
     so.1 ∙ ap (λ t. so.0 ++ t) h.1 ∙ sym (append_assoc so.0 h.0 next),
-    (Appends-trans a b c so.0 h.0 so.2.0 h.2.0, h.2.1 ∙ so.2.1),
+    Puts-then words u v w so.0 h.0 so.2 h.2,
     ap₂ (λ (p q : Bool). p || q) so.3 h.3 ∙ sym (has_some-append so.0 h.0),
   )
 
+  -- a write of them has failed
+  pub up_to-failed : (some : Bool) → PutsUpTo words rest next v w (Ok some) → w.failed ≡ true → (last : Text)
+      → PutsUpTo words whole last u w (Err stop.CannotWrite)
+  up_to-failed some h failed last = (
+    record {
+      front = so.0 ++ h.0;
+      rest = next;
+      split = so.1 ∙ ap (λ t. so.0 ++ t) h.1 ∙ sym (append_assoc so.0 h.0 next);
+      puts = Puts-then words u v w so.0 h.0 so.2 h.2;
+    },
+    failed,
+  )
+
   -- it ended in them
-  pub printed-ends : (e : Stop)
-      → PrintsUpTo rest next (record { old = b; new = c; faults = n; faults_after = k }) (Err e) → (last : Text)
-      → PrintsUpTo whole last (record { old = a; new = c; faults = m; faults_after = k }) (Err e)
-  printed-ends stop.More h last =
+  pub up_to-ends : (e : Stop) → PutsUpTo words rest next v w (Err e) → (last : Text)
+      → PutsUpTo words whole last u w (Err e)
+  up_to-ends stop.More h last =
       let longer : length whole ≡ length (so.0 ++ rest) = ap length so.1 in (
-        (subst (Appends a c) (sym so.1) (Appends-trans a b c so.0 rest so.2.0 h.0.0), h.0.1 ∙ so.2.1),
+        subst (Puts words u w) (sym so.1) (Puts-then words u v w so.0 rest so.2 h.0),
         omega (arith, longer, length-append so.0 rest, h.1),
       )
-  printed-ends stop.Memory h last = front-behind a b c so.0 whole rest so.2.0 h so.1
-  printed-ends stop.CannotWrite h last =
-      let longer : length whole ≡ length (so.0 ++ rest) = ap length so.1 in (
-        front-behind a b c so.0 whole rest so.2.0 h.0 so.1,
-        subst (λ f. Rose f k) so.2.1 h.1,
-        omega (arith, longer, length-append so.0 rest, h.2),
-      )
+  up_to-ends stop.Memory h last = PutsFront-behind words u v w so.0 rest whole so.1 so.2 h
+  up_to-ends stop.CannotWrite h last = (PutsFront-behind words u v w so.0 rest whole so.1 so.2 h.0, h.1)
 
 module _ (sig : Sig) (names : List Text) (finds : Tree → List Pair → Type 0) (subjects : List code.Subject) (i : ℕ)
     (s : code.Subject) (within : i < length subjects) (is : s ≡ get_or subjects i s) where
@@ -145,17 +154,18 @@ module _ (sig : Sig) (names : List Text) (finds : Tree → List Pair → Type 0)
       (drop-item subjects i s within is) h in
       (parts.0, parts.1, parts.2, parts.3, parts.4)
 
--- what is printed of the only pairs that may be found is what is printed of a subject's lines
-pub subject-printed : (sig : Sig) (names : List Text) (finds : Tree → List Pair → Type 0) (subject : Subject)
-    (pairs : List Pair) → ((qs : List Pair) → finds subject.term qs → qs ≡ pairs)
-    → (before after : Option ℕ) (out : Sunk) (told : Result Bool Stop)
-    → ((rest : List Text) → PrintsUpTo (front_lines before (map (pair_line sig names subject) pairs ++ rest))
-    (front_lines after rest) out told)
+-- what is put of the only pairs that may be found is what is put of a subject's lines
+pub subject-put : {K : Type 0} (words : SinkWords K) (sig : Sig) (names : List Text)
+    (finds : Tree → List Pair → Type 0) (subject : Subject) (pairs : List Pair)
+    → ((qs : List Pair) → finds subject.term qs → qs ≡ pairs)
+    → (before after : Option ℕ) (u w : Writer K) (told : Result Bool Stop)
+    → ((rest : List Text) → PutsUpTo words (front_lines before (map (pair_line sig names subject) pairs ++ rest))
+    (front_lines after rest) u w told)
     → (ls rest : List Text) → AreSubjectLines sig names finds subject ls
-    → PrintsUpTo (front_lines before (ls ++ rest)) (front_lines after rest) out told
-subject-printed sig names finds subject pairs only before after out told printed ls rest h =
-    subst (λ own. PrintsUpTo (front_lines before (own ++ rest)) (front_lines after rest) out told)
-    (sym (h.2 ∙ ap (map (pair_line sig names subject)) (only h.0 h.1))) (printed rest)
+    → PutsUpTo words (front_lines before (ls ++ rest)) (front_lines after rest) u w told
+subject-put words sig names finds subject pairs only before after u w told put ls rest h =
+    subst (λ own. PutsUpTo words (front_lines before (own ++ rest)) (front_lines after rest) u w told)
+    (sym (h.2 ∙ ap (map (pair_line sig names subject)) (only h.0 h.1))) (put rest)
 
 -- ---- the end
 
@@ -164,13 +174,14 @@ front-nothing : (left : Option ℕ) → front_lines left [] ≡ []
 front-nothing None = refl
 front-nothing (Some n) = refl
 
--- all lines are printed, where none are left
-pub printed-all : {X : Type 0} (P : X → List Text → Type 0) (xs : List X) (whole : Text) (left : Option ℕ)
-    (rest : List Text) (out : Sunk) (any : Bool) → xs ≡ [] → IsJoinedBy P xs rest
-    → PrintsUpTo whole (front_lines left rest) out (Ok any) → PrintsUpTo whole (front_lines left []) out (Ok any)
-printed-all P [] whole left rest out any e joined h =
-    subst (λ ls. PrintsUpTo whole (front_lines left ls) out (Ok any)) joined h
-printed-all P (x ∷ xs) whole left rest out any e joined h = absurd cc
+-- all lines are put, where none are left
+pub up_to-all : {K X : Type 0} (words : SinkWords K) (P : X → List Text → Type 0) (xs : List X) (whole : Text)
+    (left : Option ℕ) (rest : List Text) (u w : Writer K) (any : Bool) → xs ≡ [] → IsJoinedBy P xs rest
+    → PutsUpTo words whole (front_lines left rest) u w (Ok any)
+    → PutsUpTo words whole (front_lines left []) u w (Ok any)
+up_to-all words P [] whole left rest u w any e joined h =
+    subst (λ ls. PutsUpTo words whole (front_lines left ls) u w (Ok any)) joined h
+up_to-all words P (x ∷ xs) whole left rest u w any e joined h = absurd cc
 
 module _ (text whole : Text) (left : Option ℕ) (out : Sunk) (is : text ≡ whole) where
   -- the text is told

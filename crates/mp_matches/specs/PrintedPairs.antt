@@ -1,5 +1,5 @@
 -- What a call that prints lines of pairs answers, where others may come behind them.
-use Rattle.std.specs.Prelude.{◌≡◌, ◌++◌, ◌<◌, Bool, length, Result, Ok, Err}
+use Rattle.std.specs.Prelude.{◌≡◌, ◌++◌, ◌<◌, Bool, true, length, Result, Ok, Err}
 use Rattle.mp_io.specs.Devices.{Text}
 use Rattle.mp_io.specs.Moments.{Sunk}
 use Rattle.mp_io.specs.Printing.{AppendsFront}
@@ -7,17 +7,18 @@ use Rattle.mp_io.specs.Writing.{Puts}
 use Rattle.mp_io.specs.declared.devices.Sink.{Ghosts as SinkWords}
 use Rattle.mp_io.specs.declared.writer.Writer.{Writer}
 use Rattle.mp_matches.specs.Printed.{has_some, IsCutOff, IsWritten}
+use Rattle.mp_matches.specs.Put.{PutsFront}
 use Rattle.mp_matches.specs.declared.stop.Stop.{Stop}
 use Rattle.mp_matches.specs.declared.stop.Stop.TheVariants as stop
 
 -- The text was put up to the rest, and whether that has a byte is told; or all of it was put, and its last line says
--- that others follow.
+-- that others follow; or a front of it was put, since memory ran out or a write has failed.
 abbrev pub PutsUpTo : {K : Type 0} → SinkWords K → Text → Text → Writer K → Writer K → Result Bool Stop → Type 0
 PutsUpTo words text rest old new (Ok any) =
     (front : Text) × (text ≡ front ++ rest) × Puts words old new front × (any ≡ has_some front)
 PutsUpTo words text rest old new (Err stop.More) = Puts words old new text × (0 < length text)
-PutsUpTo words text rest old new (Err stop.Memory) = ⊥
-PutsUpTo words text rest old new (Err stop.CannotWrite) = ⊥
+PutsUpTo words text rest old new (Err stop.Memory) = PutsFront words old new text
+PutsUpTo words text rest old new (Err stop.CannotWrite) = PutsFront words old new text × (new.failed ≡ true)
 
 -- The text was printed up to the rest, and whether that has a byte is told; or all of it was printed, and its last line
 -- says that others follow; or a front of it was, since memory ran out or a write failed.

@@ -17,5 +17,5 @@ mod stop;
 pub use fault::ListFault;
 pub use list::list_matches;
 pub use matcher::{Line, Matcher};
-pub use pairs::{list_pairs, print_pairs};
+pub use pairs::{list_pairs, put_pairs};
 pub use stop::Stop;

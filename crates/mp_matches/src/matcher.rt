@@ -1,8 +1,7 @@
-//! What finds pairs on a subject, and prints them.
+//! What finds pairs on a subject, and puts their lines.
 
 ghost use Rattle.std.specs.Prelude.{◌≡◌, ◌++◌, List};
 ghost use Rattle.mp_io.specs.Devices.{Text};
-ghost use Rattle.mp_io.specs.Moments.{sunk};
 ghost use Rattle.mp_io.specs.Writing.{Puts};
 ghost use Rattle.mp_term.specs.Signature.{Sig};
 ghost use Rattle.mp_term.specs.Tree.{Tree};
@@ -12,7 +11,7 @@ ghost use Rattle.mp_subst.specs.View.{pair_of};
 ghost use Rattle.mp_text.specs.File.{subject_tree};
 ghost use Rattle.mp_text.specs.Sound.{IsSoundSubject};
 ghost use Rattle.mp_matches.specs.PairsListed.{AreSubjectLines, front_lines, named};
-ghost use Rattle.mp_matches.specs.PrintedPairs.{PrintsUpTo};
+ghost use Rattle.mp_matches.specs.PrintedPairs.{PutsUpTo};
 
 use crate::ranked::put_ranked;
 use crate::stop::Stop;
@@ -70,22 +69,22 @@ pub trait Matcher {
     /// Which pairs are found on a subject, as a list.
     ghost finds: { Self → Tree → List PlainPair → Type 0 };
 
-    /// Prints a line for each pair that is found on the subject, in order, as many as may be, and says whether there
-    /// are any (`AreSubjectLines` and `front_lines` of `specs/PairsListed.antt`). The rules have these names. Where it
-    /// is cut off, a front of the lines is written.
-    fn print<O: Sink>(
+    /// Puts a line for each pair that is found on the subject, in order, as many as may be, and says whether there are
+    /// any (`AreSubjectLines` and `front_lines` of `specs/PairsListed.antt`). The rules have these names. Where memory
+    /// runs out, a front of the lines is put.
+    fn put<O: Sink>(
         &self,
         alloc: Global,
         sig: &Signature,
         names: &[&Name],
         subject: &Subject,
         left: &mut Option<u32>,
-        out: &mut O,
+        out: &mut Writer<'_, O>,
     ) -> Result<bool, Stop>
         requires over { sig.now ≡ signature self.now }
         requires sound { IsSoundSubject sig.now (subject_tree subject.now) }
-        ensures { (ls rest : List Text) →
+        ensures same { out.new.sink.ghost_name ≡ out.old.sink.ghost_name }
+        ensures puts { (ls rest : List Text) →
             AreSubjectLines sig.now (named names.now) (finds self.now) (subject_tree subject.now) ls →
-            PrintsUpTo (front_lines left.old (ls ++ rest)) (front_lines left.new rest)
-            (sunk O.Sink out.old out.new) result };
+            PutsUpTo O.Sink (front_lines left.old (ls ++ rest)) (front_lines left.new rest) out.old out.new result };
 }

@@ -50,7 +50,7 @@ fn put_pair<L: Line, O: Sink>(
         b" ",
     ]);
     pair.put(sig, out);
-    out.put(b"\n");
+    out.put_byte(b'\n');
 }
 
 // Takes one of the lines that may still be printed, and says whether there was one.
@@ -70,8 +70,9 @@ fn take_line(left: &mut Option<u32>) -> bool
     }
 }
 
-// Puts the lines of a subject's pairs, as many as may be, and says whether there are any.
-fn put_pairs<L: Line, O: Sink>(
+/// Puts the lines of pairs on a subject, as many as may be, where the rules have these names, and says whether there
+/// are any (`front_lines` of `specs/PairsListed.antt`).
+pub fn put_pairs<L: Line, O: Sink>(
     sig: &Signature,
     names: &[&Name],
     subject: &Subject,
@@ -96,24 +97,32 @@ fn put_pairs<L: Line, O: Sink>(
     Ok(any)
 }
 
-/// Prints the lines of pairs on a subject, as many as may be, where the rules have these names, and says whether there
-/// are any (`front_lines` of `specs/PairsListed.antt`).
-pub fn print_pairs<L: Line, O: Sink>(
+// Puts the lines of the pairs of subjects, as many as may be, and says whether there are any. It ends behind the
+// subject at which a write has failed.
+fn put_subjects<M: Matcher, O: Sink>(
+    alloc: Global,
     sig: &Signature,
     names: &[&Name],
-    subject: &Subject,
-    pairs: &[L],
+    subjects: &[Subject],
+    matcher: &M,
     left: &mut Option<u32>,
-    out: &mut O,
+    out: &mut Writer<'_, O>,
 ) -> Result<bool, Stop>
-    ensures { (rest : List Text) → PrintsUpTo (front_lines left.old
-        (map (pair_line sig.now (named names.now) (subject_tree subject.now)) (map L.pair pairs.now) ++ rest))
-        (front_lines left.new rest) (sunk O.Sink out.old out.new) result }
+    requires subjects { AllByRecursion (IsSoundSubject sig.now) (map subject_tree subjects.now) }
+    requires over { sig.now ≡ M.signature matcher.now }
+    ensures same { out.new.sink.ghost_name ≡ out.old.sink.ghost_name }
+    ensures puts { (all : List Text) → IsJoinedBy (AreSubjectLines sig.now (named names.now) (M.finds matcher.now))
+        (map subject_tree subjects.now) all →
+        PutsUpTo O.Sink (front_lines left.old all) (front_lines left.new []) out.old out.new result }
 {
-    let mut out = Writer::new(out);
-    let told = put_pairs(sig, names, subject, pairs, left, &mut out);
-    out.finish()?;
-    told
+    let mut any = false;
+    for subject in subjects {
+        any |= matcher.put(alloc, sig, names, subject, left, out)?;
+        if out.has_failed() {
+            return Err(Stop::CannotWrite);
+        }
+    }
+    Ok(any)
 }
 
 // Prints the lines of the pairs of subjects, as many as may be, and says whether there are any.
@@ -132,11 +141,10 @@ fn print_subjects<M: Matcher, O: Sink>(
         (map subject_tree subjects.now) all →
         PrintsUpTo (front_lines left.old all) (front_lines left.new []) (sunk O.Sink out.old out.new) result }
 {
-    let mut any = false;
-    for subject in subjects {
-        any |= matcher.print(alloc, sig, names, subject, left, out)?;
-    }
-    Ok(any)
+    let mut out = Writer::new(out);
+    let told = put_subjects(alloc, sig, names, subjects, matcher, left, &mut out);
+    out.finish()?;
+    told
 }
 
 /// Prints a line for each pair that the matcher finds on a subject of the file, in order, and says whether there are
@@ -145,8 +153,8 @@ fn print_subjects<M: Matcher, O: Sink>(
 ///
 /// Subjects come in file order, and for each of them the pairs in the order in which they are found, as that of
 /// `IsAllList` of mp_pattern's `specs/Lists.antt`: the rules by their numbers, and for each rule the substitutions in
-/// their own order. The lines of a subject are written as soon as its pairs are found. At most `limit` lines are
-/// printed, where there is a limit; where more pairs follow, a last line is `more`.
+/// their own order. Lines are written in blocks of up to 4,096 bytes, each as soon as it is full, and at the end. At
+/// most `limit` lines are printed, where there is a limit; where more pairs follow, a last line is `more`.
 ///
 /// `Memory`: memory ran out. `CannotWrite`: a write failed. A front of the lines is written then. No other fault comes.
 pub fn list_pairs<M: Matcher, O: Sink>(

@@ -38,7 +38,7 @@ fn put_bindings<K: Sink>(sig: &Signature, pair: &RankedPair<'_>, out: &mut Write
 pub(crate) fn put_ranked<K: Sink>(sig: &Signature, pair: &RankedPair<'_>, out: &mut Writer<'_, K>)
     ensures { Puts K.Sink out.old out.new (subst_text sig.now pair.now.1) }
 {
-    out.put(b"{");
+    out.put_byte(b'{');
     put_bindings(sig, pair, out);
-    out.put(b"}");
+    out.put_byte(b'}');
 }

@@ -18,7 +18,8 @@ pub returns-in-Ok-clause-outcome : goal.returns-in-Ok-clause-outcome
 returns-in-Ok-clause-outcome g c =
     let asked_for = request_of (words_behind c.deref.result.now) in
     let same : asked_for ≡ request_of (words_of c.args.words.now) = cc (c.in-Ok.ensures) in
-    HasOutcome-answers _ _ asked_for _ _ c.answer.result _ same c.finish.ensures.status
+    HasOutcome-answers _ _ asked_for _ _ c.answer.result _ (c.there_is_an_outcome.ensures _) same
+    c.finish.ensures.status
     c.answer.ensures.answers c.finish.ensures.says
 
 pub returns-in-Ok-clause-tells : goal.returns-in-Ok-clause-tells
@@ -45,6 +46,7 @@ returns-in-Err-clause-outcome g c =
     let asked_for = request_of (words_of c.args.words.now) in
     let shelf = shelved g.S.Shelf c.args.shelf.now c.args.shelf.now in
     let out = sunk g.O.Sink c.args.out.now c.args.out.now in
-    HasOutcome-answers shelf _ asked_for out _ ending.Memory _ refl c.finish-in-Err.ensures.status
+    HasOutcome-answers shelf _ asked_for out _ ending.Memory _ (c.there_is_an_outcome.ensures _) refl
+    c.finish-in-Err.ensures.status
     (Answers-nothing (wanted_by asked_for) (λ fs. IsOutcomeAt fs asked_for) shelf out refl)
     c.finish-in-Err.ensures.says

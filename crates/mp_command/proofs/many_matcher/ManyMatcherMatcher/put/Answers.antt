@@ -1,7 +1,6 @@
-use Rattle.std.proofs.Common.{◌≡◌, ◌∙◌, ap, map, sym, subst}
+use Rattle.std.proofs.Common.{◌≡◌, ◌++◌, ◌∙◌, ap, map, sym, subst}
 use Rattle.std.proofs.lemmas.List.{map-id}
 use Rattle.std.specs.List.{AllByRecursion}
-use Rattle.mp_io.specs.Moments.{sunk}
 use Rattle.mp_term.specs.Normal.{IsNormal}
 use Rattle.mp_term.specs.View.{tree}
 use Rattle.mp_pattern.specs.Lists.{IsAllList}
@@ -9,9 +8,13 @@ use Rattle.mp_text.specs.File.{subject_tree}
 use Rattle.mp_theory.proofs.AllList.{IsAllList-unique}
 use Rattle.mp_many.specs.Many.{subject_of}
 use Rattle.mp_many.proofs.WalkTables.{subject-built, walk_table-built}
-use Rattle.mp_matches.specs.PairsListed.{named}
-use Rattle.mp_matches.proofs.PairsLaws.{subject-printed}
-use Rattle.mp_command.proofs.many_matcher.ManyMatcherMatcher.print.Goals as goal
+use Rattle.mp_matches.specs.PairsListed.{front_lines, named}
+use Rattle.mp_matches.specs.PrintedPairs.{PutsUpTo}
+use Rattle.mp_matches.specs.declared.stop.Stop.TheVariants as stop
+use Rattle.mp_matches.proofs.PairsLaws.{subject-put}
+use Rattle.mp_matches.proofs.PutLaws.{PutsFront-nothing}
+use Rattle.mp_matches.proofs.SoFar.{of-err}
+use Rattle.mp_command.proofs.many_matcher.ManyMatcherMatcher.put.Goals as goal
 
 pub build-requires-clause-constant_nodes : goal.build-requires-clause-constant_nodes
 build-requires-clause-constant_nodes g c = c.self.invariant.few
@@ -32,8 +35,21 @@ ranked-requires g c =
     (subst (λ sig. AllByRecursion (IsNormal sig) table.terms) same c.in_ok-table.ensures.normal)
     c.requires.sound.term.few_nodes
 
-pub returns : goal.returns
-returns g c =
+pub returns-in_err-table-clause-puts : goal.returns-in_err-table-clause-puts
+returns-in_err-table-clause-puts g c ls rest h =
+    let whole = front_lines c.args.left.now (ls ++ rest) in
+    of-err (PutsUpTo g.O.Sink whole (front_lines c.args.left.now rest) c.args.out.now c.args.out.now)
+    c.from_residual.result stop.Memory c.from_residual.ensures.1 (PutsFront-nothing g.O.Sink c.args.out.now whole)
+
+pub returns-in_err-pairs-clause-puts : goal.returns-in_err-pairs-clause-puts
+returns-in_err-pairs-clause-puts g c ls rest h =
+    let whole = front_lines c.args.left.now (ls ++ rest) in
+    of-err (PutsUpTo g.O.Sink whole (front_lines c.args.left.now rest) c.args.out.now c.args.out.now)
+    c.from_residual-in_err-pairs.result stop.Memory c.from_residual-in_err-pairs.ensures.1
+    (PutsFront-nothing g.O.Sink c.args.out.now whole)
+
+pub returns-clause-puts : goal.returns-clause-puts
+returns-clause-puts g c =
     let sig = c.args.sig.now in
     let own = c.args.self.now in
     let subject = subject_tree c.args.subject.now in
@@ -46,7 +62,7 @@ returns g c =
     let all : IsAllList own.sig own.rules subject.term pairs =
     subst (λ n. IsAllList n.sig n.rules subject.term pairs) c.self.view_is
     (subst (λ t. IsAllList m.many.sig m.many.rules t pairs) same found) in
-    let told = c.print_pairs in
-    subject-printed sig (named c.args.names.now) (IsAllList own.sig own.rules) subject (map (λ p. p) pairs)
+    let told = c.put_pairs in
+    subject-put g.O.Sink sig (named c.args.names.now) (IsAllList own.sig own.rules) subject (map (λ p. p) pairs)
     (λ qs h. IsAllList-unique own.sig own.rules subject.term qs pairs h all ∙ sym (map-id pairs)) c.args.left.now
-    told.new.left (sunk g.O.Sink c.args.out.now told.new.out) told.result told.ensures
+    told.new.left c.args.out.now told.new.out told.result told.ensures.puts
