@@ -16,14 +16,14 @@ use mp_syntax::Expr;
 use mp_term::{OpId, Signature};
 use std::alloc::Global;
 
-/// The operation is associative, commutative or one-identity.
+// The operation is associative, commutative or one-identity.
 fn has_equation(sig: &Signature, op: OpId) -> bool
     ensures { result ≡ (is_assoc sig.now op.0 || (is_comm sig.now op.0 || is_one sig.now op.0)) }
 {
     sig.is_assoc(op) || sig.is_comm(op) || sig.is_one(op)
 }
 
-/// No operation of the pattern has an equation, so that it is its own normal form.
+// No operation of the pattern has an equation, so that it is its own normal form.
 fn is_plain(sig: &Signature, pattern: &Pattern) -> bool
     ensures { IsTrue result → IsNormalPattern sig.now (pattern_tree pattern.now) }
 {

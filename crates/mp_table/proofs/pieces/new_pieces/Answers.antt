@@ -46,7 +46,8 @@ loop-start-preserved c =
     let is : tree term.now ≡ get_or (map (λ t. tree t.now) terms) start (symbol []) =
     ap (λ t. tree t.now) c.index-terms-start.is
     ∙ sym (get_or-map (λ t. tree t.now) terms start term (symbol []) there) in
-    let pushed : piece_terms c.push-in-loop-start-2.new.self.items ≡ piece_terms ps ++ tree (get_or terms start term).now ∷ [] =
+    let pushed : piece_terms c.push-in-loop-start-2.new.self.items
+    ≡ piece_terms ps ++ tree (get_or terms start term).now ∷ [] =
     ap piece_terms c.in_ok-push-3.ensures.items ∙ map_push (λ p. tree p.term.now) ps added
     ∙ ap (λ t. piece_terms ps ++ tree t.now ∷ []) c.index-terms-start.is in
     record {
