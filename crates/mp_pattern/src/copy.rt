@@ -42,7 +42,7 @@ pub fn copy_pattern(alloc: Global, pattern: &Pattern) -> Result<Pattern, Memory>
     match pattern {
         Pattern::Sym(name) => Ok(Pattern::Sym(name.copy(alloc)?)),
         Pattern::App(op, args) => {
-            let mut copies = Patterns::new(alloc);
+            let mut copies = Patterns::with_room(alloc, args.len())?;
             for arg in &args.items {
                 copies.push(copy_pattern(alloc, arg)?)?;
             }

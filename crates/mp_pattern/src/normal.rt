@@ -75,7 +75,7 @@ fn normal_form(alloc: Global, sig: &Signature, pattern: Pattern) -> Result<Patte
         Pattern::Sym(name) => Ok(Pattern::Sym(name)),
         Pattern::Wild(shape, name) => Ok(Pattern::Wild(shape, name)),
         Pattern::App(op, args) => {
-            let mut flat = Patterns::new(alloc);
+            let mut flat = Patterns::with_room(alloc, args.len())?;
             for arg in args.items {
                 push_parts(&mut flat, sig, op, normal_form(alloc, sig, arg)?)?;
             }

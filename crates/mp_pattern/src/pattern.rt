@@ -1,5 +1,5 @@
 //! Patterns: terms with wildcards.
-ghost use Rattle.std.specs.Prelude.{◌≡◌, [], ◌∷◌, ◌++◌, length, map, slice_get, OnOk, OnErr, option_map};
+ghost use Rattle.std.specs.Prelude.{◌≡◌, [], ◌∷◌, ◌++◌, length, map, slice_get, OnOk, OnErr, IfOk, option_map};
 ghost use Rattle.mp_pattern.specs.Fits.{no_sequence};
 ghost use Rattle.mp_pattern.specs.PatternTree.{meets_count, is_sequence, least, most, is_loose, patterns};
 ghost use Rattle.mp_pattern.specs.View.{wildcard, pattern_tree};
@@ -130,6 +130,14 @@ impl Patterns {
         Patterns {
             items: Vec::new(alloc),
         }
+    }
+
+    /// The empty list, with room for so many patterns at once. For want of memory it answers `Memory`.
+    pub fn with_room(alloc: Global, room: usize) -> Result<Self, Memory>
+        ensures { IfOk result (λ ps. ps ≡ []) }
+    {
+        let items = Vec::with_capacity(alloc, room)?;
+        Ok(Patterns { items })
     }
 
     /// Adds a pattern at the end. For want of memory it answers `Memory`, drops the pattern and leaves the list as it

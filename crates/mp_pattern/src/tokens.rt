@@ -78,7 +78,7 @@ fn renamed(alloc: Global, names: &[&Name], pattern: &Pattern) -> Result<Pattern,
     match pattern {
         Pattern::Sym(name) => Ok(Pattern::Sym(name.copy(alloc)?)),
         Pattern::App(op, args) => {
-            let mut copies = Patterns::new(alloc);
+            let mut copies = Patterns::with_room(alloc, args.len())?;
             for arg in &args.items {
                 copies.push(renamed(alloc, names, arg)?)?;
             }

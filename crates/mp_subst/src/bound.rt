@@ -30,7 +30,7 @@ pub(crate) fn terms_of(alloc: Global, table: &Table, ranks: &[Rank]) -> Result<T
     requires { HasRanks table.now ranks.now }
     ensures { IfOk result (λ ts. ts ≡ terms_at table.now ranks.now) }
 {
-    let mut terms = Terms::new(alloc);
+    let mut terms = Terms::with_room(alloc, ranks.len())?;
     for rank in ranks {
         terms.push(table.term_of(alloc, *rank)?)?;
     }

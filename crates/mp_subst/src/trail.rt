@@ -39,8 +39,8 @@ pub(crate) struct Entry {
 /// but `new` and `copy` take no memory. Contracts see it as the record `Trail` of `specs/Trail.antt`; the value of a
 /// variable is that of its last entry on the stack.
 // Of the ranks the first `used` are in use: those behind them are of entries that were taken back, and are written
-// over. The number of an entry is its place and one more. `last` has for each variable the number of its last entry, 0
-// if there is none; variables past its end are looked for on the stack.
+// over. The number of an entry is its place and one more. `last` has for each of the first variables the number of its
+// last entry, 0 if there is none; variables past its end are looked for on the stack.
 #[derive(Drop)]
 pub struct Trail {
     pub(crate) vars: u32,
@@ -169,6 +169,9 @@ fn refill<T: Copy>(list: &mut Vec<T>, items: &[T])
     write_from(list, 0, items);
 }
 
+// The numbers of last entries are kept for so many variables at most.
+const KEPT: u32 = 128;
+
 impl Trail {
     /// A trail whose stack is empty, for that many variables, with a room of so many ranks and entries together: a
     /// binding takes at most two more of it than it has ranks. `Memory` comes where there is no memory for the room.
@@ -181,7 +184,7 @@ impl Trail {
         let Ok(ranks) = Vec::with_capacity(alloc, room as usize) else {
             return Err(Memory);
         };
-        let Ok(last) = Vec::from_elem(alloc, 0, vars as usize) else {
+        let Ok(last) = Vec::from_elem(alloc, 0, vars.min(KEPT) as usize) else {
             return Err(Memory);
         };
         Ok(Trail {

@@ -129,7 +129,7 @@ impl Table {
         match self.head(rank) {
             Head::Sym(name) => Ok(Term::Sym(name.copy(alloc)?)),
             Head::App(op) => {
-                let mut terms = Terms::new(alloc);
+                let mut terms = Terms::with_room(alloc, self.args(rank).len())?;
                 for arg in self.args(rank) {
                     terms.push(self.term_of(alloc, *arg)?)?;
                 }

@@ -60,7 +60,7 @@ pub fn normal_form(alloc: Global, sig: &Signature, term: Term) -> Result<Term, M
     match term {
         Term::Sym(name) => Ok(Term::Sym(name)),
         Term::App(op, args) => {
-            let mut flat = Terms::new(alloc);
+            let mut flat = Terms::with_room(alloc, args.len())?;
             for arg in args.items {
                 push_parts(&mut flat, sig, op, normal_form(alloc, sig, arg)?)?;
             }

@@ -65,6 +65,14 @@ impl Terms {
         }
     }
 
+    /// The empty list, with room for so many terms at once. `Memory` comes where there is no such room.
+    pub fn with_room(alloc: Global, room: usize) -> Result<Self, Memory>
+        ensures { IfOk result (λ ts. ts ≡ []) }
+    {
+        let items = Vec::with_capacity(alloc, room)?;
+        Ok(Terms { items })
+    }
+
     /// Adds a term at the end. At `Memory` the list is as before, and the term is dropped.
     pub fn push(&mut self, item: Term) -> Result<(), Memory>
         ensures ok { OnOk result (self.new ≡ self.old ++ tree item ∷ []) }
@@ -184,7 +192,7 @@ pub fn copy_term(alloc: Global, term: &Term) -> Result<Term, Memory>
 pub fn copy_terms(alloc: Global, terms: &Terms) -> Result<Terms, Memory>
     ensures { IfOk result (λ ts. ts ≡ terms.now) }
 {
-    let mut copies = Terms::new(alloc);
+    let mut copies = Terms::with_room(alloc, terms.len())?;
     for term in &terms.items {
         copies.push(copy_term(alloc, term)?)?;
     }

@@ -14,6 +14,6 @@ loop-arg-init t c =
     let rest = into_iter_items c.into_iter-arg-iterator.result in
     let all : map pattern_tree rest ≡ c.in-App.args =
     ap (map pattern_tree) c.into_iter-arg-iterator.ensures.into_iter_gives.0 ∙ c.args-in-App.view_is in
-    rw (c.in-App.is, c.new-flat.ensures)
+    rw (c.in-App.is, c.in_ok-flat-in-App.ensures)
     (ap (λ ps. collapsed sig f (in_order sig f (flat_map (parts sig f) ps)))
     (sym (normal_patterns-map sig pattern_tree rest) ∙ ap (λ qs. normal_patterns sig (patterns qs)) all))
