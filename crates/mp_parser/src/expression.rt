@@ -179,7 +179,7 @@ impl<'a> Parser<'a> {
         ensures read { RowGives closes room result (ahead self.old) (ahead self.new) }
         ensures shorter { OnOk result (length (ahead self.new) ≤ length (ahead self.old)) }
     {
-        let mut exprs = Vec::new(alloc);
+        let mut exprs = Vec::with_capacity(alloc, 2)?;
         loop {
             exprs.push(self.expr(alloc, room)?)?;
             if !self.sees(Punct::Comma) {
@@ -227,7 +227,7 @@ impl<'a> Parser<'a> {
             (ahead self.new) }
         ensures shorter { OnOk result (length (ahead self.new) ≤ length (ahead self.old)) }
     {
-        let mut operands = Vec::new(alloc);
+        let mut operands = Vec::with_capacity(alloc, 2)?;
         operands.push(first)?;
         loop {
             operands.push(self.expr(alloc, room)?)?;

@@ -43,7 +43,7 @@ word_or_bracket-invariant_of-behind_word t c =
 pub row-returns-in_err-expr-clause-read : goal.row-returns-in_err-expr-clause-read
 row-returns-in_err-expr-clause-read t c = λ done x k frame to row room.
     let es = map expr_tree c.loop-exprs.exprs.items in
-    breaks _ _ _ _ _ _ _ c.from_residual.ensures.1
+    breaks _ _ _ _ _ _ _ c.from_residual-in_err-expr.ensures.1
     (c.loop-exprs.invariant.read done x k frame to row room)
     (c.in_err-expr.ensures.read done x (frame es ∷ k) (room es))
 
