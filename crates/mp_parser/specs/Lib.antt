@@ -6,3 +6,4 @@ pub mod Machine
 pub mod Partial
 pub mod Parsing
 pub mod ConditionParsing
+pub mod Fronts

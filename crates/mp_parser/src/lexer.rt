@@ -1,10 +1,12 @@
 //! Cuts the bytes of a rule file into tokens, from left to right, one at a time.
 
-ghost use Rattle.std.specs.Prelude.{◌≡◌, ◌≤◌, ◌<◌, ◌+◌, ◌-◌, ◌^◌, length, false};
+ghost use Rattle.std.specs.Prelude.{◌≡◌, ◌≤◌, ◌<◌, ◌+◌, ◌-◌, ◌^◌, length, false, MatchOption};
 ghost use Rattle.std.specs.List.{prefix_len};
 ghost use Rattle.mp_parser.specs.Tokens.{is_word_byte, is_sign_byte, is_blank, after_byte, first_place, IsFirstPlace};
+ghost use Rattle.mp_parser.specs.Tokens.{Punctuation, Bad};
 ghost use Rattle.mp_parser.specs.Lexing.{is_underscore, least, run_at, settled, word_or_wildcard_at, punct_at};
 ghost use Rattle.mp_parser.specs.Lexing.{after_blanks, token_of, token_at};
+ghost use Rattle.mp_parser.specs.Fronts.{front_at, NoPunct};
 ghost use Rattle.mp_parser.specs.View.{placed};
 
 use crate::limits::MAX_WORD_BYTES;
@@ -53,16 +55,33 @@ impl<'a> Lexer<'a> {
         ensures { token_at self.old.rest.now self.old.place ≡ (placed result, (self.new.rest.now, self.new.place)) }
     {
         self.skip_blanks();
-        let (run, len) = longest(self.rest);
-        let kind = settled(run);
         let place = self.place;
-        let (_, rest) = self.rest.split_at(len);
-        self.rest = rest;
-        self.place.column += len as u32;
+        let kind = self.front();
         Token { kind, place }
     }
 
-    // Passes the blanks and comments at the front.
+    // Passes the longest token at the front and gives it.
+    fn front(&mut self) -> Kind<'a>
+        ensures { front_at self.old.rest.now self.old.place
+            ≡ (token_of result, (self.new.rest.now, self.new.place)) }
+    {
+        let [first, rest @ ..] = self.rest else {
+            return Kind::End;
+        };
+        if let Some(punct) = punct(*first) {
+            self.rest = rest;
+            self.place.column += 1;
+            return Kind::Punct(punct);
+        }
+        let (run, len) = longest(self.rest);
+        let kind = settled(run);
+        let (_, rest) = self.rest.split_at(len);
+        self.rest = rest;
+        self.place.column += len as u32;
+        kind
+    }
+
+    // Passes the blanks and comments at the front. No blank is above `#`, and most bytes are.
     fn skip_blanks(&mut self)
         ensures { (self.new.rest.now, self.new.place) ≡ after_blanks false self.old.rest.now self.old.place }
     {
@@ -72,7 +91,7 @@ impl<'a> Lexer<'a> {
                 in_comment = *first != b'\n';
             } else if *first == b'#' {
                 in_comment = true;
-            } else if !is_blank(*first) {
+            } else if *first > b'#' || !is_blank(*first) {
                 return;
             }
             self.place = after_byte(self.place, *first);
@@ -101,8 +120,9 @@ fn after_byte(place: Place, byte: u8) -> Place
 }
 
 // The longest run at the front that is one token, with words of any length and the arrow as a
-// sign, and how many bytes it has.
+// sign, and how many bytes it has, where no punctuation character stands there.
 fn longest<'a>(bytes: &'a [u8]) -> (Kind<'a>, usize)
+    requires { NoPunct bytes.now }
     ensures value { (token_of result.0, result.1) ≡ run_at bytes.now }
     ensures within { result.1 ≤ length bytes.now }
 {
@@ -115,7 +135,7 @@ fn longest<'a>(bytes: &'a [u8]) -> (Kind<'a>, usize)
                 let (sign, _) = bytes.split_at(sign_len(bytes));
                 (Kind::Sign(sign), sign.len())
             } else {
-                (punct(*first), 1)
+                (Kind::Bad, 1)
             }
         }
     }
@@ -180,23 +200,23 @@ fn mark_count(bytes: &[u8]) -> usize
     }
 }
 
-// The punctuation character that a byte is, or `Bad`.
-fn punct(byte: u8) -> Kind<'static>
-    ensures { token_of result ≡ punct_at byte }
+// The punctuation character that a byte is.
+fn punct(byte: u8) -> Option<Punct>
+    ensures { MatchOption result (punct_at byte ≡ Bad) (λ p. punct_at byte ≡ Punctuation p) }
 {
     match byte {
-        b'(' => Kind::Punct(Punct::Open),
-        b')' => Kind::Punct(Punct::Close),
-        b'[' => Kind::Punct(Punct::OpenSquare),
-        b']' => Kind::Punct(Punct::CloseSquare),
-        b'{' => Kind::Punct(Punct::OpenBrace),
-        b'}' => Kind::Punct(Punct::CloseBrace),
-        b',' => Kind::Punct(Punct::Comma),
-        b';' => Kind::Punct(Punct::Semicolon),
-        b':' => Kind::Punct(Punct::Colon),
-        b'.' => Kind::Punct(Punct::Dot),
-        b'$' => Kind::Punct(Punct::Dollar),
-        _ => Kind::Bad,
+        b'(' => Some(Punct::Open),
+        b')' => Some(Punct::Close),
+        b'[' => Some(Punct::OpenSquare),
+        b']' => Some(Punct::CloseSquare),
+        b'{' => Some(Punct::OpenBrace),
+        b'}' => Some(Punct::CloseBrace),
+        b',' => Some(Punct::Comma),
+        b';' => Some(Punct::Semicolon),
+        b':' => Some(Punct::Colon),
+        b'.' => Some(Punct::Dot),
+        b'$' => Some(Punct::Dollar),
+        _ => None,
     }
 }
 
