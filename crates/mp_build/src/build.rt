@@ -159,7 +159,7 @@ fn build_terms(alloc: Global, sig: &Signature, exprs: &[Expr<'_>]) -> Result<Ter
     ensures { Gives result (all_term_faults sig.now (trees (map expr_tree exprs.now)))
         (λ ts. ts ≡ map (term_of sig.now) (map expr_tree exprs.now)) }
 {
-    let mut terms = Terms::new(alloc);
+    let mut terms = Terms::with_room(alloc, exprs.len())?;
     for expr in exprs {
         let term = build_term(alloc, sig, expr)?;
         terms.push(term)?;
@@ -275,7 +275,7 @@ fn build_patterns<'a>(
         × (map wildcard_view before.new.items
         ≡ map wildcard_view before.old.items ++ all_pattern_wildcards sig.now (trees (map expr_tree exprs.now)))) }
 {
-    let mut patterns = Patterns::new(alloc);
+    let mut patterns = Patterns::with_room(alloc, exprs.len())?;
     for expr in exprs {
         let pattern = build_pattern(alloc, sig, expr, before)?;
         patterns.push(pattern)?;

@@ -69,7 +69,7 @@ fn normal_terms(alloc: Global, sig: &Signature, exprs: &[Expr<'_>]) -> Result<Te
     ensures { Gives result (flat_map (term_faults sig.now) (map expr_tree exprs.now))
         (λ ts. ts ≡ map (λ t. normal sig.now (term_of sig.now t)) (map expr_tree exprs.now)) }
 {
-    let mut terms = Terms::new(alloc);
+    let mut terms = Terms::with_room(alloc, exprs.len())?;
     for expr in exprs {
         let term = normal_term(alloc, sig, expr)?;
         terms.push(term)?;
@@ -90,7 +90,7 @@ fn new_terms(
     match replacement {
         Replacement::Single(expr) => {
             let term = normal_term(alloc, sig, expr)?;
-            let mut terms = Terms::new(alloc);
+            let mut terms = Terms::with_room(alloc, 1)?;
             terms.push(term)?;
             Ok(terms)
         }

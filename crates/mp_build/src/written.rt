@@ -74,7 +74,7 @@ fn written_terms(
         (λ o. o ≡ (if all_have_terms sig.now (trees (map expr_tree exprs.now)) then Some
         (map (term_of sig.now) (map expr_tree exprs.now)) else None)) }
 {
-    let mut terms = Terms::new(alloc);
+    let mut terms = Terms::with_room(alloc, exprs.len())?;
     for expr in exprs {
         match written_term(alloc, sig, expr)? {
             None => return Ok(None),

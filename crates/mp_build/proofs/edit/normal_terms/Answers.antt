@@ -10,7 +10,7 @@ use Rattle.mp_build.proofs.edit.normal_terms.Goals as goal
 
 pub returns-in_err-term : goal.returns-in_err-term
 returns-in_err-term c =
-    let p = err_from_is_err_and c.from_residual.result c.from_residual.ensures.1 in
+    let p = err_from_is_err_and c.from_residual-in_err-term.result c.from_residual-in_err-term.ensures.1 in
     let here = drop-item c.args.exprs.now c.loop-expr.expr-index c.expr-item.result
     (omega arith) c.expr-item.is in
     let sig = c.args.sig.now in
