@@ -122,6 +122,14 @@ impl Instrs {
         }
     }
 
+    /// The empty list, with room for so many instructions at once. `Memory` comes where there is no such room.
+    pub fn with_room(alloc: Global, room: usize) -> Result<Self, Memory>
+        ensures { IfOk result (λ is. is ≡ []) }
+    {
+        let items = Vec::with_capacity(alloc, room)?;
+        Ok(Instrs { items })
+    }
+
     /// Adds an instruction at the end. For want of memory it answers `Memory`, drops the instruction and leaves the
     /// list as it was.
     pub fn push(&mut self, item: Instr) -> Result<(), Memory>
@@ -152,11 +160,12 @@ impl Instrs {
     {
         &self.items
     }
+
     /// An equal list. `Memory` comes where there is no room for it.
     pub fn copy(&self, alloc: Global) -> Result<Instrs, Memory>
         ensures { IfOk result (λ is. is ≡ self.now) }
     {
-        let mut copy = Instrs::new(alloc);
+        let mut copy = Instrs::with_room(alloc, self.len())?;
         for instr in self.as_slice() {
             copy.push(Instr {
                 token: copy_token(alloc, &instr.token)?,
