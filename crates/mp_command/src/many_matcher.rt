@@ -6,7 +6,7 @@ ghost use Rattle.mp_pattern.specs.SoundRule.{AreSoundRules};
 
 use mp_io::{Sink, Writer};
 use mp_many::Many;
-use mp_matches::{Matcher, Stop, put_pairs};
+use mp_matches::{Matcher, Told, put_pairs};
 use mp_pattern::Rules;
 use mp_table::Table;
 use mp_term::{Memory, Name, Signature, Terms};
@@ -67,9 +67,9 @@ impl Matcher for ManyMatcher<'_> {
         subject: &Subject,
         left: &mut Option<u32>,
         out: &mut Writer<'_, O>,
-    ) -> Result<bool, Stop> {
+    ) -> Result<Told, Memory> {
         let table = Table::build(alloc, sig, &subject.term, &self.constants)?;
         let pairs = self.many.ranked(alloc, &table)?;
-        put_pairs(sig, names, subject, &pairs, left, out)
+        Ok(put_pairs(sig, names, subject, &pairs, left, out))
     }
 }

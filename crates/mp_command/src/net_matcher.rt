@@ -7,7 +7,7 @@ ghost use Rattle.mp_pattern.specs.SoundRule.{IsSoundTerm};
 ghost use Rattle.mp_pattern.specs.declared.limits.TheConstants.{MAX_TERM_NODES};
 
 use mp_io::{Sink, Writer};
-use mp_matches::{Matcher, Stop, put_pairs};
+use mp_matches::{Matcher, Told, put_pairs};
 use mp_net::{Nets, Probe};
 use mp_subst::Pairs;
 use mp_table::Table;
@@ -45,8 +45,8 @@ impl Matcher for NetMatcher<'_> {
         subject: &Subject,
         left: &mut Option<u32>,
         out: &mut Writer<'_, O>,
-    ) -> Result<bool, Stop> {
+    ) -> Result<Told, Memory> {
         let pairs = pairs(alloc, &self.nets, sig, &subject.term)?;
-        put_pairs(sig, names, subject, pairs.as_slice(), left, out)
+        Ok(put_pairs(sig, names, subject, pairs.as_slice(), left, out))
     }
 }

@@ -3,8 +3,8 @@
 ghost use Rattle.mp_vm.specs.ProgramList.{IsProgramList};
 
 use mp_io::{Sink, Writer};
-use mp_matches::{Matcher, Stop, put_pairs};
-use mp_term::{Name, Signature};
+use mp_matches::{Matcher, Told, put_pairs};
+use mp_term::{Memory, Name, Signature};
 use mp_text::Subject;
 use mp_vm::Runner;
 use std::alloc::Global;
@@ -28,9 +28,9 @@ impl Matcher for ProgramMatcher<'_> {
         subject: &Subject,
         left: &mut Option<u32>,
         out: &mut Writer<'_, O>,
-    ) -> Result<bool, Stop> {
+    ) -> Result<Told, Memory> {
         let table = self.runner.table(alloc, &subject.term)?;
         let pairs = self.runner.pairs(alloc, &table)?;
-        put_pairs(sig, names, subject, &pairs, left, out)
+        Ok(put_pairs(sig, names, subject, &pairs, left, out))
     }
 }

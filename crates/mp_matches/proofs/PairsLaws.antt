@@ -21,10 +21,13 @@ use Rattle.mp_matches.specs.PairsListed.{AreSubjectLines, front_lines, more_foll
 use Rattle.mp_matches.specs.Matches.{IsJoinedBy}
 use Rattle.mp_matches.specs.Listed.{lines}
 use Rattle.mp_matches.specs.Printed.{IsCutOff, IsWritten, Lists, has_some}
-use Rattle.mp_matches.specs.PrintedPairs.{PrintsUpTo, PutsUpTo}
+use Rattle.mp_matches.specs.Put.{PutsFront}
+use Rattle.mp_matches.specs.PrintedPairs.{PrintsUpTo, PutsOrStops, PutsUpTo}
 use Rattle.mp_matches.specs.declared.fault.ListFault.TheVariants as fault
 use Rattle.mp_matches.specs.declared.stop.Stop.{Stop}
 use Rattle.mp_matches.specs.declared.stop.Stop.TheVariants as stop
+use Rattle.mp_matches.specs.declared.told.Told.{Told}
+use Rattle.mp_matches.specs.declared.told.Told.TheVariants as told
 use Rattle.mp_matches.proofs.PrintedLaws.{has_some-append, has_some-behind, has_some-long}
 use Rattle.mp_matches.proofs.PutLaws.{Puts-finished, PutsFront-all, PutsFront-behind, PutsFront-cut_off}
 
@@ -52,10 +55,10 @@ front-ended pair line left xs i rest past =
 -- ---- what was put
 
 module _ {K : Type 0} (words : SinkWords K) where
-  module _ (whole rest : Text) (u v w : Writer K) (any : Bool) (so : PutsUpTo words whole rest u v (Ok any))
+  module _ (whole rest : Text) (u v w : Writer K) (any : Bool) (so : PutsUpTo words whole rest u v (told.All any))
       (line next : Text) (split : rest ≡ line ++ next) (put : Puts words v w line) (some : 0 < length line) where
     -- a line more is put
-    pub up_to-line : PutsUpTo words whole next u w (Ok true)
+    pub up_to-line : PutsUpTo words whole next u w (told.All true)
     up_to-line = (
       so.0 ++ line,
       so.1 ∙ ap (λ t. so.0 ++ t) split ∙ sym (append_assoc so.0 line next),
@@ -64,8 +67,8 @@ module _ {K : Type 0} (words : SinkWords K) where
     )
 
   -- it is told that others follow
-  pub up_to-more : (whole rest : Text) (u v w : Writer K) (any : Bool) → PutsUpTo words whole rest u v (Ok any)
-      → rest ≡ more_follow → Puts words v w more_follow → PutsUpTo words whole rest u w (Err stop.More)
+  pub up_to-more : (whole rest : Text) (u v w : Writer K) (any : Bool) → PutsUpTo words whole rest u v (told.All any)
+      → rest ≡ more_follow → Puts words v w more_follow → PutsUpTo words whole rest u w told.More
   up_to-more whole rest u v w any so is put =
       let same : whole ≡ so.0 ++ more_follow = so.1 ∙ ap (λ t. so.0 ++ t) is in (
         subst (Puts words u w) (sym same) (Puts-then words u v w so.0 more_follow so.2 put),
@@ -78,8 +81,8 @@ module _ {K : Type 0} (words : SinkWords K) where
     -- it ends well, and what was put is printed
     pub up_to-finished : (value : T)
         → ((text : Text) → HasPut words start text w → Prints {E = E} (sunk words start new) text (Ok value))
-        → (w.failed ≡ true → ⊥) → (told : Result Bool Stop) → PutsUpTo words whole rest u w told
-        → PrintsUpTo whole rest (sunk words start new) told
+        → (w.failed ≡ true → ⊥) → (ended : Result Bool Stop) → PutsOrStops words whole rest u w ended
+        → PrintsUpTo whole rest (sunk words start new) ended
     up_to-finished value put going (Ok any) h =
         (h.0, h.1, Puts-finished words start new u w none value put h.0 h.2, h.3)
     up_to-finished value put going (Err stop.More) h =
@@ -95,7 +98,7 @@ module _ {K : Type 0} (words : SinkWords K) where
     -- a write failed, and a front was written
     pub up_to-cut_off : (error : E)
         → ((text : Text) → HasPut words start text w → Prints {T = T} (sunk words start new) text (Err error))
-        → (told : Result Bool Stop) → PutsUpTo words whole rest u w told → IsCutOff whole (sunk words start new)
+        → (ended : Result Bool Stop) → PutsOrStops words whole rest u w ended → IsCutOff whole (sunk words start new)
     up_to-cut_off error put (Ok any) h = PutsFront-cut_off words start new u w none error put whole
         (record { front = h.0; rest = rest; split = h.1; puts = h.2 })
     up_to-cut_off error put (Err stop.More) h =
@@ -106,40 +109,45 @@ module _ {K : Type 0} (words : SinkWords K) where
 -- ---- what is put of one subject after the other
 
 module _ {K : Type 0} (words : SinkWords K) (whole rest next : Text) (u v w : Writer K) (any : Bool)
-    (so : PutsUpTo words whole rest u v (Ok any)) where
+    (so : PutsUpTo words whole rest u v (told.All any)) where
   -- the lines of one subject more are put
-  pub up_to-subject : (some : Bool) → PutsUpTo words rest next v w (Ok some)
-      → PutsUpTo words whole next u w (Ok (any || some))
-  up_to-subject some h = (
-    so.0 ++ h.0,
-    so.1 ∙ ap (λ t. so.0 ++ t) h.1 ∙ sym (append_assoc so.0 h.0 next),
-    Puts-then words u v w so.0 h.0 so.2 h.2,
-    ap₂ (λ (p q : Bool). p || q) so.3 h.3 ∙ sym (has_some-append so.0 h.0),
-  )
+  pub up_to-subject : (said : Told) (some : Bool) → said ≡ told.All some → PutsUpTo words rest next v w said
+      → PutsUpTo words whole next u w (told.All (any || some))
+  up_to-subject said some is put =
+      let h = subst (PutsUpTo words rest next v w) is put in (
+        so.0 ++ h.0,
+        so.1 ∙ ap (λ t. so.0 ++ t) h.1 ∙ sym (append_assoc so.0 h.0 next),
+        Puts-then words u v w so.0 h.0 so.2 h.2,
+        ap₂ (λ (p q : Bool). p || q) so.3 h.3 ∙ sym (has_some-append so.0 h.0),
+      )
 
   -- a write of them has failed
-  pub up_to-failed : (some : Bool) → PutsUpTo words rest next v w (Ok some) → w.failed ≡ true → (last : Text)
-      → PutsUpTo words whole last u w (Err stop.CannotWrite)
-  up_to-failed some h failed last = (
-    record {
-      front = so.0 ++ h.0;
-      rest = next;
-      split = so.1 ∙ ap (λ t. so.0 ++ t) h.1 ∙ sym (append_assoc so.0 h.0 next);
-      puts = Puts-then words u v w so.0 h.0 so.2 h.2;
-    },
-    failed,
-  )
+  pub up_to-failed : (said : Told) (some : Bool) → said ≡ told.All some → PutsUpTo words rest next v w said
+      → w.failed ≡ true → (last : Text) → PutsOrStops words whole last u w (Err stop.CannotWrite)
+  up_to-failed said some is put failed last =
+      let h = subst (PutsUpTo words rest next v w) is put in (
+        record {
+          front = so.0 ++ h.0;
+          rest = next;
+          split = so.1 ∙ ap (λ t. so.0 ++ t) h.1 ∙ sym (append_assoc so.0 h.0 next);
+          puts = Puts-then words u v w so.0 h.0 so.2 h.2;
+        },
+        failed,
+      )
 
-  -- it ended in them
-  pub up_to-ends : (e : Stop) → PutsUpTo words rest next v w (Err e) → (last : Text)
-      → PutsUpTo words whole last u w (Err e)
-  up_to-ends stop.More h last =
+  -- it is told behind some of them that others follow
+  pub up_to-full : (said : Told) → said ≡ told.More → PutsUpTo words rest next v w said → (last : Text)
+      → PutsUpTo words whole last u w told.More
+  up_to-full said is put last =
+      let h = subst (PutsUpTo words rest next v w) is put in
       let longer : length whole ≡ length (so.0 ++ rest) = ap length so.1 in (
         subst (Puts words u w) (sym so.1) (Puts-then words u v w so.0 rest so.2 h.0),
         omega (arith, longer, length-append so.0 rest, h.1),
       )
-  up_to-ends stop.Memory h last = PutsFront-behind words u v w so.0 rest whole so.1 so.2 h
-  up_to-ends stop.CannotWrite h last = (PutsFront-behind words u v w so.0 rest whole so.1 so.2 h.0, h.1)
+
+  -- a front of them is put
+  pub up_to-front : PutsFront words v w rest → PutsFront words u w whole
+  up_to-front h = PutsFront-behind words u v w so.0 rest whole so.1 so.2 h
 
 module _ (sig : Sig) (names : List Text) (finds : Tree → List Pair → Type 0) (subjects : List code.Subject) (i : ℕ)
     (s : code.Subject) (within : i < length subjects) (is : s ≡ get_or subjects i s) where
@@ -158,7 +166,7 @@ module _ (sig : Sig) (names : List Text) (finds : Tree → List Pair → Type 0)
 pub subject-put : {K : Type 0} (words : SinkWords K) (sig : Sig) (names : List Text)
     (finds : Tree → List Pair → Type 0) (subject : Subject) (pairs : List Pair)
     → ((qs : List Pair) → finds subject.term qs → qs ≡ pairs)
-    → (before after : Option ℕ) (u w : Writer K) (told : Result Bool Stop)
+    → (before after : Option ℕ) (u w : Writer K) (told : Told)
     → ((rest : List Text) → PutsUpTo words (front_lines before (map (pair_line sig names subject) pairs ++ rest))
     (front_lines after rest) u w told)
     → (ls rest : List Text) → AreSubjectLines sig names finds subject ls
@@ -177,10 +185,10 @@ front-nothing (Some n) = refl
 -- all lines are put, where none are left
 pub up_to-all : {K X : Type 0} (words : SinkWords K) (P : X → List Text → Type 0) (xs : List X) (whole : Text)
     (left : Option ℕ) (rest : List Text) (u w : Writer K) (any : Bool) → xs ≡ [] → IsJoinedBy P xs rest
-    → PutsUpTo words whole (front_lines left rest) u w (Ok any)
-    → PutsUpTo words whole (front_lines left []) u w (Ok any)
+    → PutsUpTo words whole (front_lines left rest) u w (told.All any)
+    → PutsUpTo words whole (front_lines left []) u w (told.All any)
 up_to-all words P [] whole left rest u w any e joined h =
-    subst (λ ls. PutsUpTo words whole (front_lines left ls) u w (Ok any)) joined h
+    subst (λ ls. PutsUpTo words whole (front_lines left ls) u w (told.All any)) joined h
 up_to-all words P (x ∷ xs) whole left rest u w any e joined h = absurd cc
 
 module _ (text whole : Text) (left : Option ℕ) (out : Sunk) (is : text ≡ whole) where

@@ -13,9 +13,10 @@ mod pairs;
 mod ranked;
 mod resume;
 mod stop;
+mod told;
 
 pub use fault::ListFault;
 pub use list::list_matches;
 pub use matcher::{Line, Matcher};
 pub use pairs::{list_pairs, put_pairs};
-pub use stop::Stop;
+pub use told::Told;

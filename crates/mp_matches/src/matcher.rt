@@ -11,14 +11,14 @@ ghost use Rattle.mp_subst.specs.View.{pair_of};
 ghost use Rattle.mp_text.specs.File.{subject_tree};
 ghost use Rattle.mp_text.specs.Sound.{IsSoundSubject};
 ghost use Rattle.mp_matches.specs.PairsListed.{AreSubjectLines, front_lines, named};
-ghost use Rattle.mp_matches.specs.PrintedPairs.{PutsUpTo};
+ghost use Rattle.mp_matches.specs.PrintedPairs.{PutsWithMemory};
 
 use crate::ranked::put_ranked;
-use crate::stop::Stop;
+use crate::told::Told;
 use mp_io::{Sink, Writer};
 use mp_print::put_subst;
 use mp_subst::Pair;
-use mp_term::{Name, Signature};
+use mp_term::{Memory, Name, Signature};
 use mp_text::Subject;
 use mp_walk::RankedPair;
 use std::alloc::Global;
@@ -70,8 +70,9 @@ pub trait Matcher {
     ghost finds: { Self → Tree → List PlainPair → Type 0 };
 
     /// Puts a line for each pair that is found on the subject, in order, as many as may be, and says whether there are
-    /// any (`AreSubjectLines` and `front_lines` of `specs/PairsListed.antt`). The rules have these names. Where memory
-    /// runs out, a front of the lines is put.
+    /// any (`AreSubjectLines` and `front_lines` of `specs/PairsListed.antt`). The rules have these names.
+    ///
+    /// `Memory`: memory ran out. A front of the lines is put then.
     fn put<O: Sink>(
         &self,
         alloc: Global,
@@ -80,11 +81,12 @@ pub trait Matcher {
         subject: &Subject,
         left: &mut Option<u32>,
         out: &mut Writer<'_, O>,
-    ) -> Result<bool, Stop>
+    ) -> Result<Told, Memory>
         requires over { sig.now ≡ signature self.now }
         requires sound { IsSoundSubject sig.now (subject_tree subject.now) }
         ensures same { out.new.sink.ghost_name ≡ out.old.sink.ghost_name }
         ensures puts { (ls rest : List Text) →
             AreSubjectLines sig.now (named names.now) (finds self.now) (subject_tree subject.now) ls →
-            PutsUpTo O.Sink (front_lines left.old (ls ++ rest)) (front_lines left.new rest) out.old out.new result };
+            PutsWithMemory O.Sink (front_lines left.old (ls ++ rest)) (front_lines left.new rest) out.old out.new
+            result };
 }

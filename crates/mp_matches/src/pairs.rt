@@ -12,11 +12,12 @@ ghost use Rattle.mp_matches.specs.PairsListed.{named, pair_line};
 ghost use Rattle.mp_matches.specs.Listed.{lines};
 ghost use Rattle.mp_matches.specs.Matches.{IsJoinedBy};
 ghost use Rattle.mp_matches.specs.Printed.{Lists};
-ghost use Rattle.mp_matches.specs.PrintedPairs.{PrintsUpTo, PutsUpTo};
+ghost use Rattle.mp_matches.specs.PrintedPairs.{PrintsUpTo, PutsOrStops, PutsUpTo};
 
 use crate::fault::ListFault;
 use crate::matcher::{Line, Matcher};
 use crate::stop::Stop;
+use crate::told::Told;
 use mp_io::{Sink, Writer};
 use mp_term::{Name, Signature};
 use mp_text::{File, Subject};
@@ -79,7 +80,7 @@ pub fn put_pairs<L: Line, O: Sink>(
     pairs: &[L],
     left: &mut Option<u32>,
     out: &mut Writer<'_, O>,
-) -> Result<bool, Stop>
+) -> Told
     ensures same { out.new.sink.ghost_name ≡ out.old.sink.ghost_name }
     ensures puts { (rest : List Text) → PutsUpTo O.Sink (front_lines left.old
         (map (pair_line sig.now (named names.now) (subject_tree subject.now)) (map L.pair pairs.now) ++ rest))
@@ -89,12 +90,12 @@ pub fn put_pairs<L: Line, O: Sink>(
     for pair in pairs {
         if !take_line(left) {
             out.put(b"more\n");
-            return Err(Stop::More);
+            return Told::More;
         }
         put_pair(sig, names, subject, pair, out);
         any = true;
     }
-    Ok(any)
+    Told::All(any)
 }
 
 // Puts the lines of the pairs of subjects, as many as may be, and says whether there are any. It ends behind the
@@ -113,11 +114,14 @@ fn put_subjects<M: Matcher, O: Sink>(
     ensures same { out.new.sink.ghost_name ≡ out.old.sink.ghost_name }
     ensures puts { (all : List Text) → IsJoinedBy (AreSubjectLines sig.now (named names.now) (M.finds matcher.now))
         (map subject_tree subjects.now) all →
-        PutsUpTo O.Sink (front_lines left.old all) (front_lines left.new []) out.old out.new result }
+        PutsOrStops O.Sink (front_lines left.old all) (front_lines left.new []) out.old out.new result }
 {
     let mut any = false;
     for subject in subjects {
-        any |= matcher.put(alloc, sig, names, subject, left, out)?;
+        match matcher.put(alloc, sig, names, subject, left, out)? {
+            Told::All(some) => any |= some,
+            Told::More => return Err(Stop::More),
+        }
         if out.has_failed() {
             return Err(Stop::CannotWrite);
         }

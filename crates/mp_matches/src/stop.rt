@@ -3,14 +3,14 @@
 use mp_io::Failed;
 use mp_term::Memory;
 
-/// Why the printing of matches stops before the last of them.
+// Why the printing of matches stops before the last of them.
 #[derive(Clone, Copy)]
-pub enum Stop {
-    /// As many as may be are printed, and it is told that others follow.
+pub(crate) enum Stop {
+    // As many as may be are printed, and it is told that others follow.
     More,
-    /// A write failed.
+    // A write failed.
     CannotWrite,
-    /// There was no memory.
+    // There was no memory.
     Memory,
 }
 

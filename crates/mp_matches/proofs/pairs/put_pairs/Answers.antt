@@ -1,8 +1,8 @@
 use Rattle.std.proofs.Common.{◌∙◌, ◌++◌, ◌+◌, arith, refl, drop, map, subst}
-use Rattle.std.specs.Prelude.{Ok}
 use Rattle.mp_text.specs.File.{subject_tree}
 use Rattle.mp_matches.specs.PairsListed.{front_lines, named, pair_line}
 use Rattle.mp_matches.specs.PrintedPairs.{PutsUpTo}
+use Rattle.mp_matches.specs.declared.told.Told.TheVariants as told
 use Rattle.mp_matches.proofs.PairsLaws.{front-ended, front-next, length-pair_line, up_to-line, up_to-more}
 use Rattle.mp_matches.proofs.pairs.put_pairs.Goals as goal
 
@@ -42,5 +42,5 @@ returns-clause-puts g c rest =
     let pairs = c.args.pairs.now in
     let i = c.loop-pair.pair-index in
     subst (λ behind. PutsUpTo g.O.Sink (front_lines c.args.left.now (map line (map g.L.Line.pair pairs) ++ rest))
-    behind c.args.out.now c.loop-pair.out (Ok c.loop-pair.any))
+    behind c.args.out.now c.loop-pair.out (told.All c.loop-pair.any))
     (front-ended g.L.Line.pair line c.loop-pair.left pairs i rest (omega arith)) (c.loop-pair.invariant.put rest)

@@ -1,9 +1,9 @@
 use Rattle.std.proofs.Common.{◌≡◌, List, ◌++◌, drop, map}
-use Rattle.std.specs.Prelude.{Ok}
 use Rattle.mp_io.specs.Devices.{Text}
 use Rattle.mp_text.specs.File.{subject_tree}
 use Rattle.mp_matches.specs.PairsListed.{front_lines, named, pair_line}
 use Rattle.mp_matches.specs.PrintedPairs.{PutsUpTo}
+use Rattle.mp_matches.specs.declared.told.Told.TheVariants as told
 use Rattle.mp_matches.proofs.pairs.put_pairs.Given as goal
 
 abbrev pub invariant-loop-pair : goal.invariant-loop-pair
@@ -15,5 +15,5 @@ invariant-loop-pair g l = record {
       (front_lines l.left
       (map (pair_line l.sig (named l.names) (subject_tree l.subject)) (map g.L.Line.pair (drop l.pair-index l.pairs))
       ++ rest))
-      l.fn.out l.out (Ok l.any);
+      l.fn.out l.out (told.All l.any);
 }

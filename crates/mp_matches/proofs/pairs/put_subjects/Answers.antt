@@ -1,10 +1,13 @@
 use Rattle.std.proofs.Common.{◌≡◌, ◌∙◌, ap, arith, drop, drop_of_length-le, map, subst, sym}
-use Rattle.std.specs.Prelude.{Err, Ok, []}
+use Rattle.std.specs.Prelude.{[]}
 use Rattle.mp_text.specs.File.{subject_tree}
 use Rattle.mp_text.specs.Sound.{IsSoundSubject}
 use Rattle.mp_matches.specs.PairsListed.{AreSubjectLines, front_lines, named}
-use Rattle.mp_matches.specs.PrintedPairs.{PutsUpTo}
-use Rattle.mp_matches.proofs.PairsLaws.{joined-next, up_to-all, up_to-ends, up_to-failed, up_to-subject}
+use Rattle.mp_matches.specs.PrintedPairs.{PutsOrStops, PutsUpTo}
+use Rattle.mp_matches.specs.Put.{PutsFront}
+use Rattle.mp_matches.specs.declared.stop.Stop.TheVariants as stop
+use Rattle.mp_matches.proofs.PairsLaws.{joined-next, up_to-all, up_to-failed, up_to-front, up_to-full}
+use Rattle.mp_matches.proofs.PairsLaws.{up_to-subject}
 use Rattle.mp_matches.proofs.Parts.{AllByRecursion-drop}
 use Rattle.mp_matches.proofs.SoFar.{of-err}
 use Rattle.mp_matches.proofs.pairs.put_subjects.Goals as goal
@@ -14,8 +17,8 @@ put-requires-clause-sound g c = (AllByRecursion-drop subject_tree (IsSoundSubjec
     c.args.subjects.now c.loop-subject.subject-index c.subject-item.result (omega arith) c.subject-item.is
     c.loop-subject.invariant.subjects).0
 
-pub returns-in_err-any-clause-puts : goal.returns-in_err-any-clause-puts
-returns-in_err-any-clause-puts g c all joined =
+pub returns-in_err-some-clause-puts : goal.returns-in_err-some-clause-puts
+returns-in_err-some-clause-puts g c all joined =
     let i = c.loop-subject.subject-index in
     let s = c.subject-item.result in
     let so = c.loop-subject.invariant.put all joined in
@@ -24,13 +27,28 @@ returns-in_err-any-clause-puts g c all joined =
     let left = c.put.new.left in
     let whole = front_lines c.args.left.now all in
     let rest = front_lines c.loop-subject.left so.0 in
-    of-err (PutsUpTo g.O.Sink whole (front_lines left []) c.args.out.now c.put.new.out)
-    c.from_residual.result c.in_err-any.field-0.0 c.from_residual.ensures.1
-    (up_to-ends g.O.Sink whole rest (front_lines left next.1) c.args.out.now c.loop-subject.out c.put.new.out
-    c.loop-subject.any so.2 c.in_err-any.field-0.0
-    (subst (λ ls. PutsUpTo g.O.Sink (front_lines c.loop-subject.left ls) (front_lines left next.1) c.loop-subject.out
-    c.put.new.out (Err c.in_err-any.field-0.0)) (sym next.2) (c.in_err-any.ensures.puts next.0 next.1 next.3))
-    (front_lines left []))
+    of-err (PutsOrStops g.O.Sink whole (front_lines left []) c.args.out.now c.put.new.out)
+    c.from_residual.result stop.Memory c.from_residual.ensures.1
+    (up_to-front g.O.Sink whole rest (front_lines left next.1) c.args.out.now c.loop-subject.out c.put.new.out
+    c.loop-subject.any so.2
+    (subst (λ ls. PutsFront g.O.Sink c.loop-subject.out c.put.new.out (front_lines c.loop-subject.left ls))
+    (sym next.2) (c.in_err-some.ensures.puts next.0 next.1 next.3)))
+
+pub returns-in-More-clause-puts : goal.returns-in-More-clause-puts
+returns-in-More-clause-puts g c all joined =
+    let i = c.loop-subject.subject-index in
+    let s = c.subject-item.result in
+    let so = c.loop-subject.invariant.put all joined in
+    let next = joined-next c.args.sig.now (named c.args.names.now) (g.M.Matcher.finds c.args.matcher.now)
+    c.args.subjects.now i s (omega arith) c.subject-item.is so.0 so.1 in
+    let left = c.put.new.left in
+    let told : PutsUpTo g.O.Sink (front_lines c.loop-subject.left so.0) (front_lines left next.1) c.loop-subject.out
+    c.put.new.out c.in_ok-some.field-0 =
+    subst (λ ls. PutsUpTo g.O.Sink (front_lines c.loop-subject.left ls) (front_lines left next.1) c.loop-subject.out
+    c.put.new.out c.in_ok-some.field-0) (sym next.2) (c.in_ok-some.ensures.puts next.0 next.1 next.3) in
+    up_to-full g.O.Sink (front_lines c.args.left.now all) (front_lines c.loop-subject.left so.0)
+    (front_lines left next.1) c.args.out.now c.loop-subject.out c.put.new.out c.loop-subject.any so.2
+    c.in_ok-some.field-0 c.in-More.is told (front_lines left [])
 
 pub returns-then-has_failed-clause-puts : goal.returns-then-has_failed-clause-puts
 returns-then-has_failed-clause-puts g c all joined =
@@ -40,16 +58,18 @@ returns-then-has_failed-clause-puts g c all joined =
     let next = joined-next c.args.sig.now (named c.args.names.now) (g.M.Matcher.finds c.args.matcher.now)
     c.args.subjects.now i s (omega arith) c.subject-item.is so.0 so.1 in
     let left = c.put.new.left in
+    let told : PutsUpTo g.O.Sink (front_lines c.loop-subject.left so.0) (front_lines left next.1) c.loop-subject.out
+    c.put.new.out c.in_ok-some.field-0 =
+    subst (λ ls. PutsUpTo g.O.Sink (front_lines c.loop-subject.left ls) (front_lines left next.1) c.loop-subject.out
+    c.put.new.out c.in_ok-some.field-0) (sym next.2) (c.in_ok-some.ensures.puts next.0 next.1 next.3) in
     up_to-failed g.O.Sink (front_lines c.args.left.now all) (front_lines c.loop-subject.left so.0)
     (front_lines left next.1) c.args.out.now c.loop-subject.out c.put.new.out c.loop-subject.any so.2
-    c.in_ok-any.field-0
-    (subst (λ ls. PutsUpTo g.O.Sink (front_lines c.loop-subject.left ls) (front_lines left next.1) c.loop-subject.out
-    c.put.new.out (Ok c.in_ok-any.field-0)) (sym next.2) (c.in_ok-any.ensures.puts next.0 next.1 next.3))
-    (sym c.has_failed.ensures ∙ c.if-has_failed.true) (front_lines left [])
+    c.in_ok-some.field-0 c.in-All.some c.in-All.is told (sym c.has_failed.ensures ∙ c.if-has_failed.true)
+    (front_lines left [])
 
 pub loop-subject-preserved : goal.loop-subject-preserved
 loop-subject-preserved g c = record {
-  same = c.in_ok-any.ensures.same ∙ c.loop-subject.invariant.same;
+  same = c.in_ok-some.ensures.same ∙ c.loop-subject.invariant.same;
   subjects =
       (AllByRecursion-drop subject_tree (IsSoundSubject c.args.sig.now) c.args.subjects.now
       c.loop-subject.subject-index c.subject-item.result (omega arith) c.subject-item.is
@@ -60,15 +80,17 @@ loop-subject-preserved g c = record {
       let so = c.loop-subject.invariant.put all joined in
       let next = joined-next c.args.sig.now (named c.args.names.now) (g.M.Matcher.finds c.args.matcher.now)
       c.args.subjects.now i s (omega arith) c.subject-item.is so.0 so.1 in
-      let left = c.put.new.left in (
+      let left = c.put.new.left in
+      let told : PutsUpTo g.O.Sink (front_lines c.loop-subject.left so.0) (front_lines left next.1)
+      c.loop-subject.out c.put.new.out c.in_ok-some.field-0 =
+      subst (λ ls. PutsUpTo g.O.Sink (front_lines c.loop-subject.left ls) (front_lines left next.1)
+      c.loop-subject.out c.put.new.out c.in_ok-some.field-0) (sym next.2)
+      (c.in_ok-some.ensures.puts next.0 next.1 next.3) in (
         next.1,
         next.4,
         up_to-subject g.O.Sink (front_lines c.args.left.now all) (front_lines c.loop-subject.left so.0)
             (front_lines left next.1) c.args.out.now c.loop-subject.out c.put.new.out c.loop-subject.any so.2
-            c.in_ok-any.field-0
-            (subst (λ ls. PutsUpTo g.O.Sink (front_lines c.loop-subject.left ls) (front_lines left next.1)
-            c.loop-subject.out c.put.new.out (Ok c.in_ok-any.field-0)) (sym next.2)
-            (c.in_ok-any.ensures.puts next.0 next.1 next.3)),
+            c.in_ok-some.field-0 c.in-All.some c.in-All.is told,
       );
 }
 

@@ -9,8 +9,7 @@ use Rattle.mp_theory.proofs.AllList.{IsAllList-unique}
 use Rattle.mp_many.specs.Many.{subject_of}
 use Rattle.mp_many.proofs.WalkTables.{subject-built, walk_table-built}
 use Rattle.mp_matches.specs.PairsListed.{front_lines, named}
-use Rattle.mp_matches.specs.PrintedPairs.{PutsUpTo}
-use Rattle.mp_matches.specs.declared.stop.Stop.TheVariants as stop
+use Rattle.mp_matches.specs.PrintedPairs.{PutsWithMemory}
 use Rattle.mp_matches.proofs.PairsLaws.{subject-put}
 use Rattle.mp_matches.proofs.PutLaws.{PutsFront-nothing}
 use Rattle.mp_matches.proofs.SoFar.{of-err}
@@ -38,14 +37,15 @@ ranked-requires g c =
 pub returns-in_err-table-clause-puts : goal.returns-in_err-table-clause-puts
 returns-in_err-table-clause-puts g c ls rest h =
     let whole = front_lines c.args.left.now (ls ++ rest) in
-    of-err (PutsUpTo g.O.Sink whole (front_lines c.args.left.now rest) c.args.out.now c.args.out.now)
-    c.from_residual.result stop.Memory c.from_residual.ensures.1 (PutsFront-nothing g.O.Sink c.args.out.now whole)
+    of-err (PutsWithMemory g.O.Sink whole (front_lines c.args.left.now rest) c.args.out.now c.args.out.now)
+    c.from_residual.result c.in_err-table.field-0.0 c.from_residual.ensures.1
+    (PutsFront-nothing g.O.Sink c.args.out.now whole)
 
 pub returns-in_err-pairs-clause-puts : goal.returns-in_err-pairs-clause-puts
 returns-in_err-pairs-clause-puts g c ls rest h =
     let whole = front_lines c.args.left.now (ls ++ rest) in
-    of-err (PutsUpTo g.O.Sink whole (front_lines c.args.left.now rest) c.args.out.now c.args.out.now)
-    c.from_residual-in_err-pairs.result stop.Memory c.from_residual-in_err-pairs.ensures.1
+    of-err (PutsWithMemory g.O.Sink whole (front_lines c.args.left.now rest) c.args.out.now c.args.out.now)
+    c.from_residual-in_err-pairs.result c.in_err-pairs.field-0.0 c.from_residual-in_err-pairs.ensures.1
     (PutsFront-nothing g.O.Sink c.args.out.now whole)
 
 pub returns-clause-puts : goal.returns-clause-puts

@@ -4,8 +4,7 @@ use Rattle.mp_subst.specs.View.{pair_of}
 use Rattle.mp_text.specs.File.{subject_tree}
 use Rattle.mp_theory.proofs.AllList.{IsAllList-unique}
 use Rattle.mp_matches.specs.PairsListed.{front_lines, named}
-use Rattle.mp_matches.specs.PrintedPairs.{PutsUpTo}
-use Rattle.mp_matches.specs.declared.stop.Stop.TheVariants as stop
+use Rattle.mp_matches.specs.PrintedPairs.{PutsWithMemory}
 use Rattle.mp_matches.proofs.PairsLaws.{subject-put}
 use Rattle.mp_matches.proofs.PutLaws.{PutsFront-nothing}
 use Rattle.mp_matches.proofs.SoFar.{of-err}
@@ -14,8 +13,9 @@ use Rattle.mp_command.proofs.net_matcher.NetMatcherMatcher.put.Goals as goal
 pub returns-in_err-pairs-clause-puts : goal.returns-in_err-pairs-clause-puts
 returns-in_err-pairs-clause-puts g c ls rest h =
     let whole = front_lines c.args.left.now (ls ++ rest) in
-    of-err (PutsUpTo g.O.Sink whole (front_lines c.args.left.now rest) c.args.out.now c.args.out.now)
-    c.from_residual.result stop.Memory c.from_residual.ensures.1 (PutsFront-nothing g.O.Sink c.args.out.now whole)
+    of-err (PutsWithMemory g.O.Sink whole (front_lines c.args.left.now rest) c.args.out.now c.args.out.now)
+    c.from_residual.result c.in_err-pairs.field-0.0 c.from_residual.ensures.1
+    (PutsFront-nothing g.O.Sink c.args.out.now whole)
 
 pub returns-clause-puts : goal.returns-clause-puts
 returns-clause-puts g c =
