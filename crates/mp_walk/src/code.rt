@@ -1,9 +1,11 @@
 //! Tables of instructions that are ready to be walked.
-ghost use Rattle.std.specs.Prelude.{◌≡◌, length, map, IfOk, option_map};
+ghost use Rattle.std.specs.Prelude.{◌≡◌, ◌++◌, ◌+◌, List, [], ◌∷◌, length, map, IfOk, option_map};
 ghost use Rattle.std.specs.List.{AllByRecursion};
+ghost use Rattle.std.specs.List.Sorted.{IsStrictlySortedBy};
+ghost use Rattle.std.specs.Ordering.{nat_cmp};
 ghost use Rattle.mp_term.specs.Signature.{Sig};
 ghost use Rattle.mp_pattern.specs.NetTokenView.{net_token};
-ghost use Rattle.mp_walk.specs.Code.{IsPlanned, ArePlanned, IsCode};
+ghost use Rattle.mp_walk.specs.Code.{IsPlanned, ArePlanned, IsCode, plan_at};
 ghost use Rattle.mp_walk.specs.Instrs as plain;
 ghost use Rattle.mp_walk.specs.Instrs.{accepts_at, instr_at};
 ghost use Rattle.mp_walk.specs.InstrView.{plain_instr};
@@ -16,37 +18,65 @@ use mp_pattern::NetToken;
 use mp_term::{Memory, Signature};
 use std::alloc::Global;
 
+// The plans of the tokens of commutative applications, in order, and the numbers of the instructions that have them.
+#[derive(Drop)]
+pub(crate) struct Plans {
+    pub(crate) numbers: Vec<usize>,
+    pub(crate) plans: Vec<CommPlan>,
+}
+
 /// A table of instructions that is ready to be walked: with each token of a commutative application goes the plan of
 /// its pattern. `IsCode` of `specs/Code.antt` says over which signature.
 #[derive(Drop)]
 pub struct Code {
     pub(crate) instrs: Instrs,
-    pub(crate) plans: Vec<Option<CommPlan>>,
+    pub(crate) plans: Plans,
 }
 
-// The plan of a token.
-fn plan_of(alloc: Global, sig: &Signature, token: &NetToken) -> Result<Option<CommPlan>, Memory>
-    requires { IsSoundToken sig.now (net_token token.now) }
-    ensures { IfOk result (IsPlanned sig.now (net_token token.now)) }
-{
-    match token {
-        NetToken::Comm(pattern) => Ok(Some(CommPlan::new(alloc, sig, pattern)?)),
-        _ => Ok(None),
+impl Plans {
+    // Adds the plan of the next instruction, which has the number, where its token has one.
+    fn add(
+        &mut self,
+        alloc: Global,
+        sig: &Signature,
+        number: usize,
+        token: &NetToken,
+    ) -> Result<(), Memory>
+        requires { IsSoundToken sig.now (net_token token.now) }
+        ensures { IfOk result (λ _. (is : List plain.Instr) (i : plain.Instr) → i.token ≡ net_token token.now
+            → number ≡ length is + 1 → ArePlanned sig.now is self.old → ArePlanned sig.now (is ++ i ∷ []) self.new) }
+    {
+        let NetToken::Comm(pattern) = token else {
+            return Ok(());
+        };
+        self.plans.push(CommPlan::new(alloc, sig, pattern)?)?;
+        self.numbers.push(number)?;
+        Ok(())
+    }
+
+    // The plan beside the number.
+    fn at(&self, number: usize) -> Option<&CommPlan>
+        ensures { IsStrictlySortedBy nat_cmp self.now.numbers.items
+            → plan_at self.now.numbers.items self.now.plans.items number ≡ option_map (λ c. c.now) result }
+    {
+        match self.numbers.binary_search(&number) {
+            Ok(place) => self.plans.get(place),
+            Err(_) => None,
+        }
     }
 }
 
 // The plans of the instructions.
-fn plans_of(
-    alloc: Global,
-    sig: &Signature,
-    instrs: &[Instr],
-) -> Result<Vec<Option<CommPlan>>, Memory>
+fn plans_of(alloc: Global, sig: &Signature, instrs: &[Instr]) -> Result<Plans, Memory>
     requires { AllByRecursion (λ i. IsSoundToken sig.now i.token) (map plain_instr instrs.now) }
-    ensures { IfOk result (λ ps. ArePlanned sig.now (map plain_instr instrs.now) ps.items) }
+    ensures { IfOk result (ArePlanned sig.now (map plain_instr instrs.now)) }
 {
-    let mut plans = Vec::with_capacity(alloc, instrs.len())?;
-    for instr in instrs {
-        plans.push(plan_of(alloc, sig, &instr.token)?)?;
+    let mut plans = Plans {
+        numbers: Vec::new(alloc),
+        plans: Vec::new(alloc),
+    };
+    for (index, instr) in instrs.iter().enumerate() {
+        plans.add(alloc, sig, index + 1, &instr.token)?;
     }
     Ok(plans)
 }
@@ -82,13 +112,7 @@ impl Code {
         ensures { (sig : Sig) (i : plain.Instr) → IsCode sig self.now → instr_at self.now.instrs number ≡ Some i
             → IsPlanned sig i.token (option_map (λ c. c.now) result) }
     {
-        if number == 0 {
-            return None;
-        }
-        match self.plans.get(number as usize - 1) {
-            None => None,
-            Some(plan) => plan.as_ref(),
-        }
+        self.plans.at(number as usize)
     }
 
     /// The instruction of the number, from 1. It is None exactly where there is none.

@@ -1,5 +1,5 @@
 use Rattle.std.proofs.Common.{◌≡◌, ◌<◌, ◌∙◌, ◌∷◌, drop, length, refl, ap, sym, subst}
-use Rattle.std.specs.Prelude.{Some, option_map}
+use Rattle.std.specs.Prelude.{Some, None, option_map}
 use Rattle.std.specs.Prelude.{IsSome}
 use Rattle.std.specs.List.{AllByRecursion}
 use Rattle.mp_table.specs.Table.{rank_of, term_at}
@@ -24,6 +24,13 @@ pub returns-in_default-first : goal.returns-in_default-first
 returns-in_default-first c =
     ap innermost_left (opens-there c.args.set.sig.now c.args.set.table.now c.args.frames.now c.requires.frames
     c.args.level.now.place c.in-Some.place c.in-Some.is c.requires.place) ∙ c.in_default-first.ensures.term
+
+pub unreachable-requires : goal.unreachable-requires
+unreachable-requires c =
+    let token = c.requires.instr.0.token in
+    subst (λ t. IsPlanned c.args.set.sig.now t None) c.requires.instr.2
+    (subst (λ o. IsPlanned c.args.set.sig.now token (option_map (λ x. x.now) o)) c.in_default-plan.is
+    (c.plan.ensures c.args.set.sig.now c.requires.instr.0 c.requires.setting.plans c.requires.instr.1))
 
 pub returns : goal.returns
 returns c =
