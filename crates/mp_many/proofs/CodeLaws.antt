@@ -8,17 +8,17 @@ use Rattle.std.specs.List.{AllByRecursion}
 use Rattle.std.proofs.Math.Seq.{get_or-append_seam}
 use Rattle.std.proofs.lemmas.List.{length-append, length-map, map-set, get_or-map, length-drop}
 use Rattle.mp_pattern.specs.NetTokens.{NetToken, same_token}
-use Rattle.mp_pattern.specs.NetTokenView.{net_token}
 use Rattle.mp_walk.specs.Instrs.{Instr}
 use Rattle.mp_walk.specs.Walkable.{Path}
 use Rattle.mp_many.specs.declared.group.Group.{Group}
 use Rattle.mp_many.specs.declared.rows.Row.{Row}
-use Rattle.mp_many.specs.GroupView.{group_of, row_of}
+use Rattle.mp_many.specs.GroupView.{group_of, numbers_of, row_of}
 use Rattle.mp_many.specs.Groups as plain
 use Rattle.mp_many.specs.Groups.{entered, grouped, left_at, count_from}
 use Rattle.mp_many.specs.Laid.{Numbered, bare, left_after, target, each_laid, laid, unlinked, linked}
 use Rattle.mp_many.specs.Laid.{numbered_from}
 use Rattle.mp_many.specs.Prefixes.{heads}
+use Rattle.mp_many.specs.TokenView.{read_token}
 use Rattle.mp_many.proofs.GroupLaws.{AreWithin, numbers_after, left-numbers, numbers-within}
 use Rattle.mp_many.proofs.RowLaws.{get_or-same, drop-next, entered-pass, entered-at, pushed, target-more}
 use Rattle.mp_many.proofs.RowLaws.{laid-step}
@@ -31,7 +31,7 @@ group-read : (gs : List Group) (i : ℕ) (g : Group) → i < length gs → g ≡
 group-read gs i g h e = get_or-map group_of gs i g (group_of g) h ∙ ap group_of (sym e)
 
 pub enter-set : (gs : List Group) (k : NetToken) (n i : ℕ) (g h new : Group) → i < length gs → g ≡ get_or gs i g
-    → h ≡ get_or gs i h → same_token (net_token g.token.now) k ≡ true → group_of new ≡ pushed (group_of h) n
+    → h ≡ get_or gs i h → same_token (read_token g.token) k ≡ true → group_of new ≡ pushed (group_of h) n
     → entered (map group_of gs) k n ≡ take i (map group_of gs) ++ entered (drop i (map group_of gs)) k n
     → map group_of (set gs i new) ≡ entered (map group_of gs) k n
 enter-set gs k n i g h new within e f s p q =
@@ -44,7 +44,7 @@ enter-set gs k n i g h new within e f s p q =
     ∙ sym (entered-at (map group_of gs) k n i (group_of h) w t q)
 
 pub enter-pass : (gs : List Group) (k : NetToken) (n i : ℕ) (g : Group) → i < length gs → g ≡ get_or gs i g
-    → same_token (net_token g.token.now) k ≡ false
+    → same_token (read_token g.token) k ≡ false
     → entered (map group_of gs) k n ≡ take i (map group_of gs) ++ entered (drop i (map group_of gs)) k n
     → entered (map group_of gs) k n ≡ take (i + 1) (map group_of gs) ++ entered (drop (i + 1) (map group_of gs)) k n
 enter-pass gs k n i g within e s q =
@@ -53,11 +53,11 @@ enter-pass gs k n i g within e s q =
 
 -- the group of an index, among the groups of lists
 pub group-at : (gs : List Group) (ls : List Numbered) (i : ℕ) (g : Group) → map group_of gs ≡ grouped ls
-    → i < length gs → g ≡ get_or gs i g → (g.numbers.items ≡ numbers_after (net_token g.token.now) ls)
-    × (drop i (heads (bare ls)) ≡ net_token g.token.now ∷ drop (i + 1) (heads (bare ls)))
+    → i < length gs → g ≡ get_or gs i g → (numbers_of g ≡ numbers_after (read_token g.token) ls)
+    × (drop i (heads (bare ls)) ≡ read_token g.token ∷ drop (i + 1) (heads (bare ls)))
 group-at gs ls i g m within e =
     let hs = heads (bare ls) in
-    let k = net_token g.token.now in
+    let k = read_token g.token in
     let size : length gs ≡ length hs =
     sym (length-map gs group_of) ∙ ap length m ∙ length-map hs (λ k. (k, numbers_after k ls)) in
     let w : i < length hs = omega (arith, within, size) in
@@ -105,7 +105,7 @@ over-is more own size is o e (inr h) = rw h.0 h.1
 -- a row that is told where it leads
 pub link-set : (rs : List Row) (own : ℕ) (more : Bool) (r new : Row) (down over : Option ℕ) → own < length rs
     → r ≡ get_or rs own r → row_of new ≡ record {
-      token = net_token r.token.now;
+      token = read_token r.token;
       down = down;
       over = over;
       accepts = r.accepts;
@@ -122,12 +122,12 @@ link-set rs own more r new down over within e p d o =
     let front : drop own is ≡ row_of r ∷ rest = drop-next is own (row_of r) w
     ∙ (λ i. read i ∷ drop (sym next i) is) in
     let told : row_of new ≡ record {
-      token = net_token r.token.now;
+      token = read_token r.token;
       down = target (suc (suc own)) rest;
       over = if more then Some (suc (suc own) + length rest) else None;
       accepts = r.accepts;
     } = p ∙ (λ i. record {
-      token = net_token r.token.now;
+      token = read_token r.token;
       down = down-target own rest down (subst (λ n. IsDown own n down) size d) i;
       over = over-is more own (length rs) rest over size o i;
       accepts = r.accepts;
@@ -148,8 +148,8 @@ left-group lists place ns ms k e =
 pub group-step : (most place : ℕ) (lists : List Path) (ns : List ℕ) (gs : List Group) (i : ℕ) (g : Group)
     (numbers : List ℕ) (rows pushed made done : List Instr) (own count : ℕ)
     → map group_of gs ≡ grouped (left_at lists place ns) → i < length gs → g ≡ get_or gs i g → count ≡ length gs
-    → numbers ≡ g.numbers.items → own ≡ length rows
-    → pushed ≡ rows ++ (unlinked (net_token g.token.now) (left_at lists (place + 1) g.numbers.items) ∷ [])
+    → numbers ≡ numbers_of g → own ≡ length rows
+    → pushed ≡ rows ++ (unlinked (read_token g.token) (left_at lists (place + 1) (numbers_of g)) ∷ [])
     → made ≡ pushed ++ laid most (left_at lists (place + 1) numbers) (suc (length pushed))
     → done ≡ take own made ++ linked own (nat_lt (i + 1) count) (drop own made)
     → done ++ each_laid (laid most) (left_at lists place ns)
@@ -159,9 +159,9 @@ pub group-step : (most place : ℕ) (lists : List Path) (ns : List ℕ) (gs : Li
 group-step most place lists ns gs i g numbers rows pushed made done own count m within e c n o p q d =
     let ls = left_at lists place ns in
     let hs = heads (bare ls) in
-    let k = net_token g.token.now in
+    let k = read_token g.token in
     let at = group-at gs ls i g m within e in
-    let left = left-group lists place ns g.numbers.items k at.0 in
+    let left = left-group lists place ns (numbers_of g) k at.0 in
     let first : pushed ≡ rows ++ (unlinked k (left_after k ls) ∷ []) = p ∙ ap (λ l. rows ++ (unlinked k l ∷ [])) left in
     laid-step (laid most) ls (drop i hs) (drop (i + 1) hs) k rows made done own (nat_lt (i + 1) count) at.1 o
     (λ m'. target-more m' (i + 1) hs
@@ -170,10 +170,10 @@ group-step most place lists ns gs i g numbers rows pushed made done own count m 
 
 pub group-within : (place : ℕ) (lists : List Path) (ns : List ℕ) (gs : List Group) (i : ℕ) (g : Group)
     → map group_of gs ≡ grouped (left_at lists place ns) → i < length gs → g ≡ get_or gs i g → AreWithin lists ns
-    → AreWithin lists g.numbers.items
+    → AreWithin lists (numbers_of g)
 group-within place lists ns gs i g m within e h =
     let at = group-at gs (left_at lists place ns) i g m within e in
-    subst (AreWithin lists) (sym at.0) (numbers-within lists place (net_token g.token.now) ns h)
+    subst (AreWithin lists) (sym at.0) (numbers-within lists place (read_token g.token) ns h)
 
 -- after the last group all states are there
 pub groups-done : (most count : ℕ) (ls : List Numbered) (gs : List Group) (rows begun : List Instr)

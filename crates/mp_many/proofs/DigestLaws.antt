@@ -1,6 +1,6 @@
 -- Groups that hold the digests of their tokens.
 use Rattle.std.proofs.Common.{◌≡◌, ◌<◌, ℕ, zero, suc, List, [], ◌∷◌, ◌++◌, length, get_or, set, Bool, true}
-use Rattle.std.proofs.Common.{false, nat_eq, refl, ap, sym, ◌∙◌, subst, arith, ne_eqb}
+use Rattle.std.proofs.Common.{false, refl, ap, sym, ◌∙◌, subst, arith}
 use Rattle.std.specs.List.{AllByRecursion}
 use Rattle.mp_term.proofs.ListLaws.{all-append}
 use Rattle.mp_pattern.specs.NetTokens.{NetToken, same_token}
@@ -15,11 +15,11 @@ digest-same j k e = ap token_digest (same_token-is j k e)
 
 -- so where the digests differ the tokens do
 pub digest-other : (j k : NetToken) (m n : ℕ) → m ≡ token_digest j → n ≡ token_digest k → (m ≡ n → ⊥)
-    → nat_eq m n ≡ same_token j k
+    → false ≡ same_token j k
 digest-other j k m n d e h = by_test (same_token j k) refl
   where
-    by_test : (b : Bool) → same_token j k ≡ b → nat_eq m n ≡ b
-    by_test false is = ne_eqb m n h
+    by_test : (b : Bool) → same_token j k ≡ b → false ≡ b
+    by_test false is = refl
     by_test true is = absurd (h (d ∙ digest-same j k is ∙ sym e))
 
 -- the group of an index

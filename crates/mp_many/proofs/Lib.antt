@@ -1,6 +1,8 @@
 pub mod TokenLists
 pub mod LaidLaws
 pub mod StateLaws
+mod TokenLaws
+mod ChainLaws
 mod GroupLaws
 mod DigestLaws
 mod RowLaws

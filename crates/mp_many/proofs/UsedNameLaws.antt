@@ -9,8 +9,11 @@ use Rattle.mp_pattern.specs.Admission.{Rule}
 use Rattle.mp_pattern.specs.Firsts.{firsts_after, is_known}
 use Rattle.mp_pattern.specs.PatternTree.{Pattern, symbol_pattern, app_pattern, wild_pattern, Patterns, no_patterns}
 use Rattle.mp_pattern.specs.PatternTree.{more_patterns}
+use Rattle.mp_pattern.specs.RuleView.{rule_tree}
 use Rattle.mp_pattern.specs.Value.{same_name}
 use Rattle.mp_pattern.specs.Variables.{Use, uses, all_uses, variables}
+use Rattle.mp_pattern.specs.View.{pattern_tree}
+use Rattle.mp_pattern.specs.declared.rule.Rule as code
 use Rattle.mp_many.specs.UsedNames.{used_names, all_used_names}
 
 mutual
@@ -50,3 +53,20 @@ variables-at (r ∷ rs) (x ∷ xs) (suc n) d h e is =
     let both : x ∷ xs ≡ variables r.pattern ∷ map (λ r. variables r.pattern) rs = e in
     let rest : xs ≡ map (λ r. variables r.pattern) rs = cc in
     variables-at rs xs n d (omega (arith, h)) rest is
+
+-- and of rules as the code has them
+pub names-at : (rules : List code.Rule) (all : List (List (List ℕ))) (n : ℕ) (x : List (List ℕ)) (r : code.Rule)
+    → n < length rules → all ≡ map (λ (r : Rule). variables r.pattern) (map rule_tree rules) → x ≡ get_or all n x
+    → r ≡ get_or rules n r → x ≡ variables (pattern_tree r.pattern)
+names-at [] all n x r h e w z = absurd (omega (arith, h))
+names-at (s ∷ rs) [] n x r h e w z = (let wrong = ap length e in absurd (omega (arith, wrong)))
+names-at (s ∷ rs) (y ∷ ys) zero x r h e w z =
+    let both : y ∷ ys
+    ≡ variables (pattern_tree s.pattern) ∷ map (λ (r : Rule). variables r.pattern) (map rule_tree rs) = e in
+    let head : y ≡ variables (pattern_tree s.pattern) = cc in
+    w ∙ head ∙ ap (λ (q : code.Rule). variables (pattern_tree q.pattern)) (sym z)
+names-at (s ∷ rs) (y ∷ ys) (suc n) x r h e w z =
+    let both : y ∷ ys
+    ≡ variables (pattern_tree s.pattern) ∷ map (λ (r : Rule). variables r.pattern) (map rule_tree rs) = e in
+    let rest : ys ≡ map (λ (r : Rule). variables r.pattern) (map rule_tree rs) = cc in
+    names-at rs ys n x r (omega (arith, h)) rest w z

@@ -1,21 +1,29 @@
 -- What the groups and the rows of the tree are read as.
-use Rattle.std.specs.Prelude.{◌≡◌}
-use Rattle.mp_pattern.specs.NetTokens as plain
-use Rattle.mp_pattern.specs.NetTokenView.{net_token}
+use Rattle.std.specs.Prelude.{◌≡◌, ℕ, List, [], ◌∷◌}
 use Rattle.mp_walk.specs.Instrs.{Instr}
 use Rattle.mp_many.specs.declared.group.Group.{Group}
 use Rattle.mp_many.specs.declared.rows.Row.{Row}
 use Rattle.mp_many.specs.Digest.{token_digest}
 use Rattle.mp_many.specs.Groups as groups
+use Rattle.mp_many.specs.TokenView.{read_token}
+
+-- the numbers of a list that is kept where there are several, and of the first alone where there isn't one
+abbrev pub numbers_among : ℕ → List ℕ → List ℕ
+numbers_among first [] = first ∷ []
+numbers_among first (n ∷ ns) = n ∷ ns
+
+-- the numbers of a group
+abbrev pub numbers_of : Group → List ℕ
+numbers_of g = numbers_among g.first g.all.items
 
 -- a group
 abbrev pub group_of : Group → groups.Group
-group_of g = (net_token g.token.now, g.numbers.items)
+group_of g = (read_token g.token, numbers_of g)
 
 -- its digest is that of its token
 abbrev pub IsDigested : Group → Type 0
-IsDigested g = g.digest ≡ token_digest (net_token g.token.now)
+IsDigested g = g.digest ≡ token_digest (read_token g.token)
 
 -- a row as the instruction that it becomes
 abbrev pub row_of : Row → Instr
-row_of r = record { token = net_token r.token.now; down = r.down; over = r.over; accepts = r.accepts }
+row_of r = record { token = read_token r.token; down = r.down; over = r.over; accepts = r.accepts }

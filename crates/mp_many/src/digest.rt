@@ -1,10 +1,11 @@
 //! Numbers of tokens, by which different ones are mostly told apart at once.
 ghost use Rattle.std.specs.Prelude.{◌≡◌};
-ghost use Rattle.mp_pattern.specs.NetTokenView.{net_token};
 ghost use Rattle.mp_pattern.specs.View.{pattern_tree};
 ghost use Rattle.mp_many.specs.Digest.{mixed, mixed_all, pattern_digest, token_digest};
+ghost use Rattle.mp_many.specs.TokenView.{read_token};
 
-use mp_pattern::{NetToken, Pattern};
+use crate::token::Token;
+use mp_pattern::Pattern;
 
 // A number with another mixed in.
 fn mixed(seed: u64, number: u64) -> u64
@@ -42,14 +43,14 @@ fn pattern_digest(seed: u64, pattern: &Pattern) -> u64
 }
 
 // The number of a token (`token_digest` of `specs/Digest.antt`).
-pub(crate) fn token_digest(token: &NetToken) -> u64
-    ensures { result ≡ token_digest (net_token token.now) }
+pub(crate) fn token_digest(token: &Token<'_>) -> u64
+    ensures { result ≡ token_digest (read_token token.now) }
 {
     match token {
-        NetToken::Sym(name) => mixed_all(1, name.bytes()),
-        NetToken::Enter(op) => mixed(2, u64::from(op.0)),
-        NetToken::Leave(op) => mixed(3, u64::from(op.0)),
-        NetToken::Comm(pattern) => pattern_digest(5, pattern),
-        _ => 4,
+        Token::Sym(name) => mixed_all(1, name.bytes()),
+        Token::Enter(op) => mixed(2, u64::from(op.0)),
+        Token::Leave(op) => mixed(3, u64::from(op.0)),
+        Token::Wild(_, _) => 4,
+        Token::Comm(pattern, _) => pattern_digest(5, pattern),
     }
 }

@@ -1,58 +1,89 @@
 //! Token lists that begin alike from a place on, together.
 ghost use Rattle.std.specs.Prelude.{◌≡◌, ◌<◌, ◌++◌, [], ◌∷◌, length, map, flat_map, IfOk, OnOk};
 ghost use Rattle.std.specs.List.{AllByRecursion};
-ghost use Rattle.mp_pattern.specs.NetTokenView.{net_token};
 ghost use Rattle.mp_many.specs.Groups.{entered, grouped, left_at};
 ghost use Rattle.mp_many.specs.Laid.{ended};
-ghost use Rattle.mp_many.specs.GroupView.{group_of, IsDigested};
+ghost use Rattle.mp_many.specs.GroupView.{group_of, numbers_of, IsDigested};
 ghost use Rattle.mp_many.specs.Digest.{token_digest};
 ghost use Rattle.mp_many.specs.Marks.{AreMarked};
+ghost use Rattle.mp_many.specs.TokenView.{read_token};
 ghost use Rattle.mp_pattern.specs.NetTokens.{same_token};
 
 use crate::digest::token_digest;
 use crate::marks::{has_mark, marks_for, set_mark};
-use mp_pattern::{NetToken, NetTokens};
+use crate::token::{Token, TokenList, is_same};
 use mp_term::Memory;
 use mp_walk::Numbers;
 use std::alloc::Global;
+use std::slice;
 
-// A token with its digest, and the numbers of the lists that have it at the place.
+// A token with its digest, and the numbers of the lists that have it at the place: the first alone, or all of them
+// where there are more.
 #[derive(Drop)]
 pub(crate) struct Group<'a> {
-    pub(crate) token: &'a NetToken,
+    pub(crate) token: Token<'a>,
     pub(crate) digest: u64,
-    pub(crate) numbers: Vec<u32>,
+    pub(crate) first: u32,
+    pub(crate) all: Vec<u32>,
+}
+
+impl<'a> Group<'a> {
+    // The numbers of its lists.
+    pub(crate) fn numbers(&self) -> &[u32]
+        ensures { result.now ≡ numbers_of self.now }
+    {
+        if self.all.is_empty() {
+            slice::from_ref(&self.first)
+        } else {
+            &self.all
+        }
+    }
+
+    // Adds the number of a list.
+    fn add(&mut self, number: u32) -> Result<(), Memory>
+        ensures group { OnOk result (group_of self.new
+            ≡ (read_token self.old.token, numbers_of self.old ++ number ∷ [])) }
+        ensures digest { OnOk result (IsDigested self.old → IsDigested self.new) }
+    {
+        if self.all.is_empty() {
+            self.all.push(self.first)?;
+        }
+        self.all.push(number)?;
+        Ok(())
+    }
 }
 
 // The group is that of the token, whose digest is given.
-fn is_of(group: &Group<'_>, token: &NetToken, digest: u64) -> bool
+fn is_of(alloc: Global, group: &Group<'_>, token: &Token<'_>, digest: u64) -> Result<bool, Memory>
     requires group { IsDigested group.now }
-    requires digest { digest ≡ token_digest (net_token token.now) }
-    ensures { result ≡ same_token (net_token group.now.token.now) (net_token token.now) }
+    requires digest { digest ≡ token_digest (read_token token.now) }
+    ensures { IfOk result (λ b. b ≡ same_token (read_token group.now.token) (read_token token.now)) }
 {
-    group.digest == digest && *group.token == *token
+    if group.digest != digest {
+        return Ok(false);
+    }
+    is_same(alloc, &group.token, token)
 }
 
 // Adds a group of one list.
 fn push_group<'a>(
     alloc: Global,
     groups: &mut Vec<Group<'a>>,
-    token: &'a NetToken,
+    token: Token<'a>,
     digest: u64,
     number: u32,
 ) -> Result<(), Memory>
-    requires digest { digest ≡ token_digest (net_token token.now) }
+    requires digest { digest ≡ token_digest (read_token token) }
     requires digests { AllByRecursion IsDigested groups.old.items }
     ensures groups { OnOk result (map group_of groups.new.items
-        ≡ map group_of groups.old.items ++ (net_token token.now, number ∷ []) ∷ []) }
+        ≡ map group_of groups.old.items ++ (read_token token.entry, number ∷ []) ∷ []) }
     ensures digests { OnOk result (AllByRecursion IsDigested groups.new.items) }
 {
-    let mut numbers = Vec::new(alloc);
-    numbers.push(number)?;
     groups.push(Group {
         token,
         digest,
-        numbers,
+        first: number,
+        all: Vec::new(alloc),
     })?;
     Ok(())
 }
@@ -61,20 +92,20 @@ fn push_group<'a>(
 fn enter<'a>(
     alloc: Global,
     groups: &mut Vec<Group<'a>>,
-    token: &'a NetToken,
+    token: Token<'a>,
     digest: u64,
     number: u32,
 ) -> Result<(), Memory>
-    requires digest { digest ≡ token_digest (net_token token.now) }
+    requires digest { digest ≡ token_digest (read_token token) }
     requires digests { AllByRecursion IsDigested groups.old.items }
     ensures entered { OnOk result (map group_of groups.new.items
-        ≡ entered (map group_of groups.old.items) (net_token token.now) number) }
+        ≡ entered (map group_of groups.old.items) (read_token token.entry) number) }
     ensures digests { OnOk result (AllByRecursion IsDigested groups.new.items) }
 {
     for index in 0..groups.len() {
-        if is_of(&groups[index], token, digest) {
-            groups[index].numbers.push(number)?;
-            return Ok(());
+        let same = is_of(alloc, &groups[index], &token, digest)?;
+        if same {
+            return groups[index].add(number);
         }
     }
     push_group(alloc, groups, token, digest, number)
@@ -85,17 +116,17 @@ fn enter_marked<'a>(
     alloc: Global,
     groups: &mut Vec<Group<'a>>,
     marks: &mut Vec<bool>,
-    token: &'a NetToken,
+    token: Token<'a>,
     number: u32,
 ) -> Result<(), Memory>
     requires digests { AllByRecursion IsDigested groups.old.items }
     requires marked { AreMarked marks.old.items (map group_of groups.old.items) }
     ensures entered { OnOk result (map group_of groups.new.items
-        ≡ entered (map group_of groups.old.items) (net_token token.now) number) }
+        ≡ entered (map group_of groups.old.items) (read_token token.entry) number) }
     ensures digests { OnOk result (AllByRecursion IsDigested groups.new.items) }
     ensures marked { OnOk result (AreMarked marks.new.items (map group_of groups.new.items)) }
 {
-    let digest = token_digest(token);
+    let digest = token_digest(&token);
     if has_mark(marks, digest) {
         return enter(alloc, groups, token, digest, number);
     }
@@ -106,7 +137,7 @@ fn enter_marked<'a>(
 // The groups of the lists of the numbers by their tokens at the place, in order of the first list of each.
 pub(crate) fn groups_of<'a>(
     alloc: Global,
-    lists: &'a [NetTokens],
+    lists: &[TokenList<'a>],
     numbers: &[u32],
     place: usize,
 ) -> Result<Vec<Group<'a>>, Memory>
@@ -126,7 +157,7 @@ pub(crate) fn groups_of<'a>(
 // The numbers of the lists that end at the place.
 pub(crate) fn ended(
     alloc: Global,
-    lists: &[NetTokens],
+    lists: &[TokenList<'_>],
     numbers: &[u32],
     place: usize,
 ) -> Result<Numbers, Memory>

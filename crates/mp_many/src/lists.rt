@@ -1,37 +1,93 @@
 //! The token lists of rules.
-ghost use Rattle.std.specs.Prelude.{◌≡◌, map, IfOk};
+ghost use Rattle.std.specs.Prelude.{◌≡◌, ◌≤◌, ◌++◌, flat_map, length, map, sum, IfOk, OnOk};
+ghost use Rattle.mp_pattern.specs.NetTokens.{tokens};
 ghost use Rattle.mp_pattern.specs.RuleView.{rule_tree};
-ghost use Rattle.mp_many.specs.Prefixes.{token_lists, token_count};
+ghost use Rattle.mp_pattern.specs.Variables.{variables};
+ghost use Rattle.mp_pattern.specs.View.{pattern_tree};
+ghost use Rattle.mp_many.specs.Prefixes.{token_lists};
+ghost use Rattle.mp_many.specs.TokenView.{cut, read_token};
 
-use mp_pattern::{NetTokens, Rule, tokens_of};
-use mp_term::{Memory, Signature};
+use crate::renamed::variable_number;
+use crate::token::{Token, TokenList};
+use mp_pattern::{Pattern, Rule};
+use mp_term::{Memory, Names, Signature};
 use std::alloc::Global;
 
-// The tokens of the pattern of each rule.
-pub(crate) fn token_lists(
-    alloc: Global,
-    sig: &Signature,
-    rules: &[Rule],
-) -> Result<Vec<NetTokens>, Memory>
-    ensures { IfOk result (λ ls. ls.items ≡ token_lists sig.now (map rule_tree rules.now)) }
-{
-    let mut lists = Vec::new(alloc);
-    for rule in rules {
-        lists.push(tokens_of(alloc, sig, &rule.pattern)?)?;
-    }
-    Ok(lists)
+// The tokens of rules, those of one behind those of the other, and how many each rule has.
+#[derive(Drop)]
+pub(crate) struct RuleTokens<'a> {
+    pub(crate) tokens: Vec<Token<'a>>,
+    pub(crate) counts: Vec<usize>,
 }
 
-// How many tokens the lists have together. `Memory` comes where a `usize` can't hold it.
-pub(crate) fn token_count(lists: &[NetTokens]) -> Result<usize, Memory>
-    ensures { IfOk result (λ n. n ≡ token_count lists.now) }
+// Adds the tokens of the pattern, as the names number its variables.
+fn push_tokens<'a>(
+    sig: &Signature,
+    names: &'a Names,
+    pattern: &'a Pattern,
+    out: &mut Vec<Token<'a>>,
+) -> Result<(), Memory>
+    ensures { OnOk result (map read_token out.new.items
+        ≡ map read_token out.old.items ++ tokens sig.now names.now (pattern_tree pattern.now)) }
 {
-    let mut count = 0usize;
-    for list in lists {
-        let Some(sum) = count.checked_add(list.len()) else {
-            return Err(Memory);
-        };
-        count = sum;
+    match pattern {
+        Pattern::Sym(name) => out.push(Token::Sym(name))?,
+        Pattern::App(op, args) => {
+            if sig.is_comm(*op) {
+                out.push(Token::Comm(pattern, names))?;
+                return Ok(());
+            }
+            out.push(Token::Enter(*op))?;
+            for arg in args.as_slice() {
+                push_tokens(sig, names, arg, out)?;
+            }
+            out.push(Token::Leave(*op))?;
+        }
+        Pattern::Wild(shape, variable) => {
+            let number = variable_number(names, variable)?;
+            out.push(Token::Wild(shape, number))?;
+        }
     }
-    Ok(count)
+    Ok(())
+}
+
+// The tokens of the pattern of each rule, whose variables have these names.
+pub(crate) fn rule_tokens<'a>(
+    alloc: Global,
+    sig: &Signature,
+    rules: &'a [Rule],
+    names: &'a [Names],
+) -> Result<RuleTokens<'a>, Memory>
+    requires { names.now ≡ map (λ r. variables r.pattern) (map rule_tree rules.now) }
+    ensures tokens { IfOk result (λ r. map read_token r.tokens.items
+        ≡ flat_map (λ ks. ks) (token_lists sig.now (map rule_tree rules.now))) }
+    ensures counts { IfOk result (λ r. r.counts.items ≡ map length (token_lists sig.now (map rule_tree rules.now))) }
+{
+    let mut tokens = Vec::new(alloc);
+    let mut counts = Vec::with_capacity(alloc, rules.len())?;
+    for (index, rule) in rules.iter().enumerate() {
+        let before = tokens.len();
+        push_tokens(sig, &names[index], &rule.pattern, &mut tokens)?;
+        counts.push(tokens.len() - before)?;
+    }
+    Ok(RuleTokens { tokens, counts })
+}
+
+// The tokens in lists of so many each.
+pub(crate) fn cut<'a>(
+    alloc: Global,
+    tokens: &'a [Token<'a>],
+    counts: &[usize],
+) -> Result<Vec<TokenList<'a>>, Memory>
+    requires { sum counts.now ≤ length tokens.now }
+    ensures { IfOk result (λ ls. ls.items ≡ cut counts.now (map read_token tokens.now)) }
+{
+    let mut lists = Vec::with_capacity(alloc, counts.len())?;
+    let mut start = 0;
+    for count in counts {
+        let end = start + *count;
+        lists.push(TokenList::new(&tokens[start..end]))?;
+        start = end;
+    }
+    Ok(lists)
 }

@@ -7,7 +7,6 @@ ghost use Rattle.mp_many.specs.Laid.{tree_of};
 ghost use Rattle.mp_many.specs.ManyView.{state_view};
 ghost use Rattle.mp_many.specs.Prefixes.{prefixes, IsState};
 
-use crate::lists::token_lists;
 use crate::names::names_of;
 use crate::tree::tree_of;
 use mp_pattern::{NetToken, Rules};
@@ -59,13 +58,12 @@ impl<'a> Many<'a> {
         ensures sig { IfOk result (λ m. m.sig ≡ sig.now) }
         ensures rules { IfOk result (λ m. m.rules ≡ rules.now) }
     {
-        let lists = token_lists(alloc, sig, rules.as_slice())?;
-        let instrs = tree_of(alloc, &lists)?;
+        let names = names_of(alloc, rules.as_slice())?;
+        let instrs = tree_of(alloc, sig, rules.as_slice(), &names)?;
         if instrs.len() > u32::MAX as usize {
             return Err(Memory);
         }
         let code = Code::new(alloc, sig, instrs)?;
-        let names = names_of(alloc, rules.as_slice())?;
         Ok(Many {
             sig,
             rules,

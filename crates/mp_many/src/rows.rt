@@ -1,13 +1,14 @@
 //! The tree of token lists, state by state.
 ghost use Rattle.std.specs.Prelude.{◌≡◌, ◌<◌, ◌+◌, ◌^◌, [], ◌∷◌, ◌++◌, suc, length, map, take, drop, IfOk, OnOk};
+ghost use Rattle.std.specs.Prelude.{None, Some, if◌then◌else◌};
 ghost use Rattle.std.specs.List.{AllByRecursion};
 ghost use Rattle.mp_many.specs.Groups.{left_at};
-ghost use Rattle.mp_many.specs.GroupView.{row_of};
+ghost use Rattle.mp_many.specs.GroupView.{numbers_of, row_of};
 ghost use Rattle.mp_many.specs.Laid.{laid, unlinked, linked};
-ghost use Rattle.mp_pattern.specs.NetTokenView.{net_token};
+ghost use Rattle.mp_many.specs.TokenView.{read_token};
 
 use crate::group::{Group, ended, groups_of};
-use mp_pattern::{NetToken, NetTokens};
+use crate::token::{Token, TokenList};
 use mp_term::Memory;
 use mp_walk::Numbers;
 use std::alloc::Global;
@@ -15,7 +16,7 @@ use std::alloc::Global;
 // A state of the tree: its token, the numbers of its first child and of its next sibling, and the lists that end there.
 #[derive(Drop)]
 pub(crate) struct Row<'a> {
-    pub(crate) token: &'a NetToken,
+    pub(crate) token: Token<'a>,
     pub(crate) down: Option<u32>,
     pub(crate) over: Option<u32>,
     pub(crate) accepts: Numbers,
@@ -34,16 +35,16 @@ fn next_number(rows: &[Row<'_>]) -> Result<u32, Memory>
 // Adds the row of a group, which leads nowhere yet; `place` is the place behind the group's token.
 fn push_row<'a>(
     alloc: Global,
-    lists: &[NetTokens],
+    lists: &[TokenList<'_>],
     group: &Group<'a>,
     place: usize,
     rows: &mut Vec<Row<'a>>,
 ) -> Result<(), Memory>
-    requires { AllByRecursion (λ n. n < length lists.now) group.now.numbers.items }
+    requires { AllByRecursion (λ n. n < length lists.now) (numbers_of group.now) }
     ensures { OnOk result (map row_of rows.new.items ≡ map row_of rows.old.items
-        ++ unlinked (net_token group.now.token.now) (left_at lists.now place group.now.numbers.items) ∷ []) }
+        ++ unlinked (read_token group.now.token) (left_at lists.now place (numbers_of group.now)) ∷ []) }
 {
-    let accepts = ended(alloc, lists, &group.numbers, place)?;
+    let accepts = ended(alloc, lists, group.numbers(), place)?;
     rows.push(Row {
         token: group.token,
         down: None,
@@ -73,10 +74,63 @@ fn link_row(rows: &mut Vec<Row<'_>>, own: usize, more: bool) -> Result<(), Memor
     Ok(())
 }
 
+// The number of the row behind the one that comes next, where there is one.
+fn number_behind(rows: &[Row<'_>], more: bool) -> Result<Option<u32>, Memory>
+    ensures { IfOk result (λ o. o ≡ (if more then Some (suc (suc (length rows.now))) else None)) }
+{
+    let own = next_number(rows)?;
+    if !more {
+        return Ok(None);
+    }
+    match own.checked_add(1) {
+        None => Err(Memory),
+        Some(behind) => Ok(Some(behind)),
+    }
+}
+
+// What is accepted after a token of a list: its number where no token follows.
+fn accepted(alloc: Global, number: u32, is_last: bool) -> Result<Numbers, Memory>
+    ensures { IfOk result (λ ns. ns ≡ (if is_last then number ∷ [] else [])) }
+{
+    let mut accepts = Numbers::new(alloc);
+    if is_last {
+        accepts.push(number)?;
+    }
+    Ok(accepts)
+}
+
+// Adds the rows of the one list of the number, of which the tokens from the place on are taken, and so many at most.
+fn push_chain<'a>(
+    alloc: Global,
+    tokens: &'a [Token<'a>],
+    number: u32,
+    place: usize,
+    most: usize,
+    rows: &mut Vec<Row<'a>>,
+) -> Result<(), Memory>
+    requires { place + most < 2 ^ 64 }
+    ensures { OnOk result (map row_of rows.new.items ≡ map row_of rows.old.items
+        ++ laid most ((number, drop place (map read_token tokens.now)) ∷ [])
+        (suc (length (map row_of rows.old.items)))) }
+{
+    let end = tokens.len().min(place + most);
+    for index in place..end {
+        let down = number_behind(rows, index + 1 < end)?;
+        let accepts = accepted(alloc, number, index + 1 == tokens.len())?;
+        rows.push(Row {
+            token: tokens[index],
+            down,
+            over: None,
+            accepts,
+        })?;
+    }
+    Ok(())
+}
+
 // Adds the rows of the lists of the numbers, of which the tokens from the place on are taken, and so many at most.
 pub(crate) fn push_rows<'a>(
     alloc: Global,
-    lists: &'a [NetTokens],
+    lists: &[TokenList<'a>],
     numbers: &[u32],
     place: usize,
     most: usize,
@@ -90,11 +144,15 @@ pub(crate) fn push_rows<'a>(
     if most == 0 {
         return Ok(());
     }
+    if let [number] = numbers {
+        let list = &lists[*number as usize];
+        return push_chain(alloc, list.as_slice(), *number, place, most, rows);
+    }
     let groups = groups_of(alloc, lists, numbers, place)?;
     for (index, group) in groups.iter().enumerate() {
         let own = rows.len();
         push_row(alloc, lists, group, place + 1, rows)?;
-        push_rows(alloc, lists, &group.numbers, place + 1, most - 1, rows)?;
+        push_rows(alloc, lists, group.numbers(), place + 1, most - 1, rows)?;
         link_row(rows, own, index + 1 < groups.len())?;
     }
     Ok(())

@@ -1,15 +1,18 @@
 //! The tree of token lists as instructions.
 ghost use Rattle.std.specs.Prelude.{◌≡◌, ◌<◌, ◌^◌, length, map, IfOk};
+ghost use Rattle.mp_pattern.specs.RuleView.{rule_tree};
+ghost use Rattle.mp_pattern.specs.Variables.{variables};
 ghost use Rattle.mp_many.specs.GroupView.{row_of};
 ghost use Rattle.mp_many.specs.Groups.{count_from};
-ghost use Rattle.mp_many.specs.Laid.{laid, numbered_from};
+ghost use Rattle.mp_many.specs.Laid.{laid, numbered_from, tree_of};
 ghost use Rattle.mp_many.specs.Prefixes.{token_count};
 
-use crate::lists::token_count;
+use crate::lists::{cut, rule_tokens};
 use crate::rows::{Row, push_rows};
-use mp_pattern::NetTokens;
-use mp_term::Memory;
-use mp_walk::{Instr, Instrs, copy_token};
+use crate::token::{TokenList, to_net_token};
+use mp_pattern::Rule;
+use mp_term::{Memory, Names, Signature};
+use mp_walk::{Instr, Instrs};
 use std::alloc::Global;
 
 // The numbers from 0 on, so many.
@@ -17,20 +20,20 @@ fn first_numbers(alloc: Global, count: usize) -> Result<Vec<u32>, Memory>
     requires { count < 2 ^ 32 }
     ensures { IfOk result (λ ns. ns.items ≡ count_from 0 count) }
 {
-    let mut numbers = Vec::new(alloc);
+    let mut numbers = Vec::with_capacity(alloc, count)?;
     for number in 0..count {
         numbers.push(number as u32)?;
     }
     Ok(numbers)
 }
 
-// The rows of all lists.
-fn rows_of<'a>(alloc: Global, lists: &'a [NetTokens]) -> Result<Vec<Row<'a>>, Memory>
-    requires { length lists.now < 2 ^ 32 }
+// The rows of all lists, which have so many tokens together.
+fn rows_of<'a>(alloc: Global, lists: &[TokenList<'a>], most: usize) -> Result<Vec<Row<'a>>, Memory>
+    requires few { length lists.now < 2 ^ 32 }
+    requires most { most ≡ token_count lists.now }
     ensures { IfOk result (λ rs. map row_of rs.items ≡ laid (token_count lists.now) (numbered_from 0 lists.now) 1) }
 {
     let numbers = first_numbers(alloc, lists.len())?;
-    let most = token_count(lists)?;
     let mut rows = Vec::new(alloc);
     push_rows(alloc, lists, &numbers, 0, most, &mut rows)?;
     Ok(rows)
@@ -40,10 +43,10 @@ fn rows_of<'a>(alloc: Global, lists: &'a [NetTokens]) -> Result<Vec<Row<'a>>, Me
 fn instrs_of(alloc: Global, rows: Vec<Row<'_>>) -> Result<Instrs, Memory>
     ensures { IfOk result (λ is. is ≡ map row_of rows.entry.items) }
 {
-    let mut instrs = Instrs::new(alloc);
+    let mut instrs = Instrs::with_room(alloc, rows.len())?;
     for row in rows {
         instrs.push(Instr {
-            token: copy_token(alloc, row.token)?,
+            token: to_net_token(alloc, &row.token)?,
             down: row.down,
             over: row.over,
             accepts: row.accepts,
@@ -52,10 +55,19 @@ fn instrs_of(alloc: Global, rows: Vec<Row<'_>>) -> Result<Instrs, Memory>
     Ok(instrs)
 }
 
-// The table of the tree of the lists.
-pub(crate) fn tree_of(alloc: Global, lists: &[NetTokens]) -> Result<Instrs, Memory>
-    requires { length lists.now < 2 ^ 32 }
-    ensures { IfOk result (λ is. is ≡ laid (token_count lists.now) (numbered_from 0 lists.now) 1) }
+// The table of the tree of the rules, whose variables have these names.
+pub(crate) fn tree_of(
+    alloc: Global,
+    sig: &Signature,
+    rules: &[Rule],
+    names: &[Names],
+) -> Result<Instrs, Memory>
+    requires few { length rules.now < 2 ^ 32 }
+    requires names { names.now ≡ map (λ r. variables r.pattern) (map rule_tree rules.now) }
+    ensures { IfOk result (λ is. is ≡ tree_of sig.now (map rule_tree rules.now)) }
 {
-    instrs_of(alloc, rows_of(alloc, lists)?)
+    let all = rule_tokens(alloc, sig, rules, names)?;
+    let lists = cut(alloc, &all.tokens, &all.counts)?;
+    let rows = rows_of(alloc, &lists, all.tokens.len())?;
+    instrs_of(alloc, rows)
 }

@@ -2,11 +2,11 @@ use Rattle.std.proofs.Common.{◌≡◌, ◌∙◌, ◌+◌, [], drop, get_or, m
 use Rattle.std.specs.Prelude.{option_map}
 use Rattle.std.proofs.lemmas.List.{drop_all}
 use Rattle.std.specs.List.{AllByRecursion}
-use Rattle.mp_pattern.specs.NetTokenView.{net_token}
 use Rattle.mp_many.specs.Groups.{left_at}
 use Rattle.mp_many.specs.declared.group.Group.{Group}
 use Rattle.mp_many.specs.GroupView.{group_of, IsDigested}
 use Rattle.mp_many.specs.Marks.{AreMarked}
+use Rattle.mp_many.specs.TokenView.{read_token}
 use Rattle.mp_many.proofs.GroupLaws.{entered_all, entered-grouped}
 use Rattle.mp_many.proofs.RowLaws.{entered_by, entered-step, within-step}
 use Rattle.mp_many.proofs.group.groups_of.Goals as goal
@@ -27,7 +27,7 @@ loop-number-preserved c =
     let gs = map group_of c.loop-number.groups.items in
     let old = c.loop-number.invariant in
     let step = within-step lists ns i c.loop-number-test.true old.within in
-    let o = option_map (λ k. net_token k.now) c.get.result in
+    let o = option_map read_token c.get.result in
     let e = entered-step lists c.args.place ns i c.index-lists-number.result gs o c.loop-number-test.true old.within
     c.index-lists-number.is c.get.ensures in
     record {
@@ -48,12 +48,12 @@ loop-number-preserved c =
             | in-Some+in_ok-enter_marked w ↦
                 ap (λ hs. entered_all hs (left_at lists c.args.place (drop (i + 1) ns)))
                 (ap (λ v. map group_of v.items) w.groups-is ∙ w.in_ok-enter_marked.ensures.entered
-                ∙ ap (entered_by gs (get_or ns i 0)) (sym (ap (option_map (λ k. net_token k.now)) w.in-Some.is)))
+                ∙ ap (entered_by gs (get_or ns i 0)) (sym (ap (option_map read_token) w.in-Some.is)))
                 ∙ sym e ∙ old.groups
             | in_default w ↦
                 ap (λ hs. entered_all hs (left_at lists c.args.place (drop (i + 1) ns)))
                 (ap (λ v. map group_of v.items) w.groups-is
-                ∙ ap (entered_by gs (get_or ns i 0)) (sym (ap (option_map (λ k. net_token k.now)) w.in_default.is)))
+                ∙ ap (entered_by gs (get_or ns i 0)) (sym (ap (option_map read_token) w.in_default.is)))
                 ∙ sym e ∙ old.groups
           ];
     }

@@ -1,9 +1,9 @@
 use Rattle.std.proofs.Common.{◌≡◌, ◌∙◌, ◌+◌, ◌-◌, [], ◌∷◌, ◌++◌, suc, length, map, sym, ap, subst, arith}
 use Rattle.std.proofs.lemmas.List.{length-append, length-map}
-use Rattle.mp_pattern.specs.NetTokenView.{net_token}
 use Rattle.mp_many.specs.Groups.{left_at}
-use Rattle.mp_many.specs.GroupView.{group_of, row_of}
+use Rattle.mp_many.specs.GroupView.{group_of, numbers_of, row_of}
 use Rattle.mp_many.specs.Laid.{laid, unlinked}
+use Rattle.mp_many.specs.TokenView.{read_token}
 use Rattle.mp_many.proofs.GroupLaws.{AreWithin}
 use Rattle.mp_many.proofs.CodeLaws.{group-within, group-step, groups-done}
 use Rattle.mp_many.proofs.rows.+push_rows.Goals as goal
@@ -22,7 +22,7 @@ push_rows-requires t c =
     c.group-item.result (ap (map group_of) c.deref-group-items.ensures.value ∙ c.in_ok-groups.ensures)
     c.loop-index-test.true c.group-item.is c.requires.numbers in (
       omega arith,
-      (subst (AreWithin lists) (sym c.deref.ensures.value) within, omega arith),
+      (subst (AreWithin lists) (sym c.numbers.ensures) within, omega arith),
     )
 
 pub link_row-requires : goal.link_row-requires
@@ -30,9 +30,9 @@ link_row-requires t c =
     let a = ap length c.in_ok-push_row.ensures in
     let b = ap length c.in_ok-push_rows.ensures in
     let rows = map row_of c.loop-index.rows.items in
-    let first = unlinked (net_token c.group-item.result.token.now)
-    (left_at c.args.lists.now (c.args.place + 1) c.group-item.result.numbers.items) in
-    let states = laid (c.args.most - 1) (left_at c.args.lists.now (c.args.place + 1) c.deref.result.now)
+    let first = unlinked (read_token c.group-item.result.token)
+    (left_at c.args.lists.now (c.args.place + 1) (numbers_of c.group-item.result)) in
+    let states = laid (c.args.most - 1) (left_at c.args.lists.now (c.args.place + 1) c.numbers.result.now)
     (suc (length (map row_of c.push_row.new.rows.items))) in
     omega (
       arith,
@@ -48,11 +48,11 @@ link_row-requires t c =
 pub loop-index-preserved : goal.loop-index-preserved
 loop-index-preserved t c =
     group-step (c.args.most - 1) c.args.place c.args.lists.now c.args.numbers.now c.deref-group-items.result.now
-    c.loop-index.index c.group-item.result c.deref.result.now (map row_of c.loop-index.rows.items)
+    c.loop-index.index c.group-item.result c.numbers.result.now (map row_of c.loop-index.rows.items)
     (map row_of c.push_row.new.rows.items) (map row_of c.push_rows.new.rows.items)
     (map row_of c.link_row.new.rows.items) c.len-own.result c.len.result
     (ap (map group_of) c.deref-group-items.ensures.value ∙ c.in_ok-groups.ensures) c.loop-index-test.true
-    c.group-item.is (omega (arith, c.len.ensures, c.deref-group-items.ensures.len)) c.deref.ensures.value
+    c.group-item.is (omega (arith, c.len.ensures, c.deref-group-items.ensures.len)) c.numbers.ensures
     (omega (arith, c.len-own.ensures, length-map c.loop-index.rows.items row_of)) c.in_ok-push_row.ensures
     c.in_ok-push_rows.ensures c.in_ok-link_row.ensures
     ∙ c.loop-index.invariant

@@ -15,7 +15,7 @@ pub returns : goal.returns
 returns c =
     let lists = c.args.lists.now in
     c.in_ok-push_rows.ensures
-    ∙ ap (λ rs. map row_of rs ++ laid c.in_ok-most.most (left_at lists 0 c.deref.result.now)
+    ∙ ap (λ rs. map row_of rs ++ laid c.args.most (left_at lists 0 c.deref.result.now)
     (suc (length (map row_of rs)))) c.new-rows.ensures.items
-    ∙ (λ i. laid (c.in_ok-most.ensures i)
+    ∙ (λ i. laid (c.requires.most i)
     ((ap (left_at lists 0) (c.deref.ensures.value ∙ c.in_ok-numbers.ensures) ∙ count-left lists) i) 1)

@@ -1,0 +1,46 @@
+use Rattle.std.proofs.Common.{◌≡◌, ◌∙◌, ◌+◌, ◌-◌, ◌++◌, [], ◌∷◌, List, drop, length, map, sym, ap, arith, append_assoc}
+use Rattle.std.specs.Prelude.{flat_map}
+use Rattle.std.proofs.lemmas.List.{length-append, length-map}
+use Rattle.mp_term.proofs.ListLaws.{drop-item}
+use Rattle.mp_pattern.specs.NetTokens.{NetToken, tokens, tokens_of}
+use Rattle.mp_pattern.specs.RuleView.{rule_tree}
+use Rattle.mp_pattern.specs.View.{pattern_tree}
+use Rattle.mp_pattern.specs.declared.rule.Rule as code
+use Rattle.mp_many.specs.Prefixes.{token_lists}
+use Rattle.mp_many.specs.TokenView.{read_token}
+use Rattle.mp_many.proofs.UsedNameLaws.{names-at}
+use Rattle.mp_many.proofs.lists.rule_tokens.Goals as goal
+
+pub loop-index-preserved : goal.loop-index-preserved
+loop-index-preserved c =
+    let sig = c.args.sig.now in
+    let rules = c.args.rules.now in
+    let i = c.loop-index.index in
+    let rule = c.index-rules-index.result in
+    let p = pattern_tree rule.pattern in
+    let own = tokens_of sig p in
+    let old = map read_token c.loop-index.tokens.items in
+    let counts = c.loop-index.counts.items in
+    let lists : List code.Rule → List (List NetToken) = λ rs. token_lists sig (map rule_tree rs) in
+    let rest = lists (drop (i + 1) rules) in
+    let split = drop-item rules i rule c.loop-index-test.true c.index-rules-index.is in
+    let named = names-at rules c.args.names.now i c.index-names-index.result rule c.loop-index-test.true c.requires
+    c.index-names-index.is c.index-rules-index.is in
+    let pushed : map read_token c.push_tokens.new.out.items ≡ old ++ own =
+    c.in_ok-push_tokens.ensures ∙ ap (λ xs. old ++ tokens sig xs p) named in
+    let size : c.len.result - c.len-before.result ≡ length own = omega (
+      arith,
+      c.len.ensures,
+      c.len-before.ensures,
+      ap length pushed,
+      length-append old own,
+      length-map c.loop-index.tokens.items read_token,
+      length-map c.push_tokens.new.out.items read_token,
+    ) in
+    record {
+      tokens = ap (λ ks. ks ++ flat_map (λ l. l) rest) pushed ∙ append_assoc old own (flat_map (λ l. l) rest)
+          ∙ ap (λ rs. old ++ flat_map (λ l. l) (lists rs)) (sym split) ∙ c.loop-index.invariant.tokens;
+      counts = ap (λ ns. ns ++ map length rest) (c.in_ok-push.ensures.items ∙ ap (λ n. counts ++ n ∷ []) size)
+          ∙ append_assoc counts (length own ∷ []) (map length rest)
+          ∙ ap (λ rs. counts ++ map length (lists rs)) (sym split) ∙ c.loop-index.invariant.counts;
+    }

@@ -1,0 +1,116 @@
+//! The tokens of the patterns of rules, read where they stand.
+ghost use Rattle.std.specs.Prelude.{◌≡◌, length, map, slice_get, IfOk, option_map};
+ghost use Rattle.mp_pattern.specs.NetTokens.{same_token, wild_token};
+ghost use Rattle.mp_pattern.specs.NetTokenView.{net_token};
+ghost use Rattle.mp_pattern.specs.View.{wildcard};
+ghost use Rattle.mp_many.specs.TokenView.{read_token};
+
+use crate::renamed::renamed;
+use mp_pattern::{NetToken, Pattern, Shape};
+use mp_term::{Memory, Name, Names, OpId, copy_term};
+use std::alloc::Global;
+use std::marker::Model;
+
+// A token of a rule's pattern where it stands: a wildcard with the number of its variable, and an application of a
+// commutative operation with the variables of the whole pattern.
+#[derive(Clone, Copy)]
+pub(crate) enum Token<'a> {
+    Sym(&'a Name),
+    Enter(OpId),
+    Leave(OpId),
+    Wild(&'a Shape, Option<u32>),
+    Comm(&'a Pattern, &'a Names),
+}
+
+// The tokens of a rule, seen by contracts as the list of the plain ones.
+#[derive(Drop)]
+pub(crate) struct TokenList<'a> {
+    items: &'a [Token<'a>],
+}
+
+impl<'a> Model for TokenList<'a> {
+    ghost use Rattle.std.specs.Prelude.{List, map};
+    ghost use Rattle.std.specs.Coded.{coded_list};
+    ghost use Rattle.mp_pattern.specs.NetTokens as plain;
+    ghost use Rattle.mp_pattern.specs.NetTokenCode.{coded_net_token};
+
+    ghost Value = { List plain.NetToken };
+
+    ghost coded = { coded_list coded_net_token };
+
+    ghost use Rattle.mp_many.specs.TokenView.{read_token};
+
+    ghost view = { λ ts. map read_token ts.items.now };
+}
+
+impl<'a> TokenList<'a> {
+    // The list of these tokens.
+    pub(crate) fn new(items: &'a [Token<'a>]) -> Self
+        ensures { result ≡ map read_token items.now }
+    {
+        TokenList { items }
+    }
+
+    // The tokens in order.
+    pub(crate) fn as_slice(&self) -> &'a [Token<'a>]
+        ensures { map read_token result.now ≡ self.now }
+    {
+        self.items
+    }
+
+    // How many tokens there are.
+    pub(crate) fn len(&self) -> usize
+        ensures { result ≡ length self.now }
+    {
+        self.items.len()
+    }
+
+    // The token at the place, from 0. It is None exactly where the place isn't below the length.
+    pub(crate) fn get(&self, place: usize) -> Option<Token<'a>>
+        ensures { slice_get self.now place ≡ option_map read_token result }
+    {
+        match self.items.get(place) {
+            None => None,
+            Some(token) => Some(*token),
+        }
+    }
+}
+
+// The token of a wildcard with this number of its variable.
+fn wild_token(alloc: Global, shape: &Shape, number: Option<u32>) -> Result<NetToken, Memory>
+    ensures { IfOk result (λ k. net_token k ≡ wild_token (wildcard shape.now) number) }
+{
+    match shape {
+        Shape::Dot => Ok(NetToken::Dot(number)),
+        Shape::Kind(kind) => Ok(NetToken::Kind(*kind, number)),
+        Shape::Plus => Ok(NetToken::Plus(number)),
+        Shape::Star => Ok(NetToken::Star(number)),
+        Shape::Opt(term) => Ok(NetToken::Opt(number, copy_term(alloc, term)?)),
+        Shape::Counted { least, fixed } => Ok(NetToken::Counted(*least, *fixed, number)),
+    }
+}
+
+// The token with copies of its parts.
+pub(crate) fn to_net_token(alloc: Global, token: &Token<'_>) -> Result<NetToken, Memory>
+    ensures { IfOk result (λ k. net_token k ≡ read_token token.now) }
+{
+    match token {
+        Token::Sym(name) => Ok(NetToken::Sym(name.copy(alloc)?)),
+        Token::Enter(op) => Ok(NetToken::Enter(*op)),
+        Token::Leave(op) => Ok(NetToken::Leave(*op)),
+        Token::Wild(shape, number) => wild_token(alloc, shape, *number),
+        Token::Comm(pattern, names) => Ok(NetToken::Comm(renamed(alloc, names, pattern)?)),
+    }
+}
+
+// The tokens are equal. `Memory` comes where there is no room to compare applications of a commutative operation.
+pub(crate) fn is_same(alloc: Global, token: &Token<'_>, other: &Token<'_>) -> Result<bool, Memory>
+    ensures { IfOk result (λ b. b ≡ same_token (read_token token.now) (read_token other.now)) }
+{
+    match (token, other) {
+        (Token::Sym(m), Token::Sym(n)) => Ok(**m == **n),
+        (Token::Enter(f), Token::Enter(g)) => Ok(*f == *g),
+        (Token::Leave(f), Token::Leave(g)) => Ok(*f == *g),
+        _ => Ok(to_net_token(alloc, token)? == to_net_token(alloc, other)?),
+    }
+}
