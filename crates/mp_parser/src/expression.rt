@@ -179,13 +179,13 @@ impl<'a> Parser<'a> {
         ensures read { RowGives closes room result (ahead self.old) (ahead self.new) }
         ensures shorter { OnOk result (length (ahead self.new) ≤ length (ahead self.old)) }
     {
-        let mut exprs = Vec::with_capacity(alloc, 2)?;
-        loop {
-            exprs.push(self.expr(alloc, room)?)?;
-            if !self.sees(Punct::Comma) {
-                break;
-            }
+        let first = self.expr(alloc, room)?;
+        let count = if self.sees(Punct::Comma) { 3 } else { 1 };
+        let mut exprs = Vec::with_capacity(alloc, count)?;
+        exprs.push(first)?;
+        while self.sees(Punct::Comma) {
             self.advance();
+            exprs.push(self.expr(alloc, room)?)?;
         }
         self.expect(closes)?;
         Ok(exprs)

@@ -22,7 +22,8 @@ pub fn first_token_place(bytes: &[u8]) -> Place
     ensures { IsFirstPlace bytes.now result }
 {
     let mut lexer = Lexer::new(bytes);
-    lexer.next_token().place
+    lexer.skip_blanks();
+    lexer.place
 }
 
 /// The bytes that are left, and the place where they begin.
@@ -73,6 +74,21 @@ impl<'a> Lexer<'a> {
             self.place.column += 1;
             return Kind::Punct(punct);
         }
+        let (word, rest) = self.rest.split_at(word_len(self.rest));
+        if !word.is_empty() && mark_count(rest) == 0 {
+            self.rest = rest;
+            self.place.column += word.len() as u32;
+            return settled(Kind::Word(word));
+        }
+        self.run()
+    }
+
+    // Passes the longest token at the front and gives it, where no punctuation character stands there.
+    fn run(&mut self) -> Kind<'a>
+        requires { NoPunct self.old.rest.now }
+        ensures { front_at self.old.rest.now self.old.place
+            ≡ (token_of result, (self.new.rest.now, self.new.place)) }
+    {
         let (run, len) = longest(self.rest);
         let kind = settled(run);
         let (_, rest) = self.rest.split_at(len);
@@ -85,13 +101,23 @@ impl<'a> Lexer<'a> {
     fn skip_blanks(&mut self)
         ensures { (self.new.rest.now, self.new.place) ≡ after_blanks false self.old.rest.now self.old.place }
     {
+        match self.rest {
+            [first, ..] if *first > b'#' => {}
+            _ => self.pass_blanks(),
+        }
+    }
+
+    // Passes the blanks and comments at the front, byte by byte.
+    fn pass_blanks(&mut self)
+        ensures { (self.new.rest.now, self.new.place) ≡ after_blanks false self.old.rest.now self.old.place }
+    {
         let mut in_comment = false;
         while let [first, rest @ ..] = self.rest {
             if in_comment {
                 in_comment = *first != b'\n';
             } else if *first == b'#' {
                 in_comment = true;
-            } else if *first > b'#' || !is_blank(*first) {
+            } else if !is_blank(*first) {
                 return;
             }
             self.place = after_byte(self.place, *first);

@@ -11,6 +11,7 @@ ghost use Rattle.mp_parser.specs.Parsing.{PlusGives};
 
 use crate::fault::{Fault, FaultKind, SyntaxError};
 use crate::lexer::Lexer;
+use crate::place::Place;
 use crate::token::{Kind, Punct, Token};
 use crate::tree::Wildcard;
 use crate::word::{InfixSign, Word};
@@ -40,14 +41,25 @@ impl<'a> Parser<'a> {
         requires { length bytes.now < 2 ^ 32 - 1 }
         ensures { ahead result ≡ lexemes bytes.now first_place }
     {
-        let mut lexer = Lexer::new(bytes);
-        let token = lexer.next_token();
-        Parser { token, lexer }
+        let lexer = Lexer::new(bytes);
+        let place = Place { line: 1, column: 1 };
+        let kind = Kind::End;
+        let token = Token { kind, place };
+        let mut parser = Parser { token, lexer };
+        parser.take();
+        parser
     }
 
     /// Passes the token that is held. The end stays.
     pub fn advance(&mut self)
         ensures { ahead self.old ≡ placed self.old.token ∷ behind (token_of self.old.token.kind) (ahead self.new) }
+    {
+        self.take();
+    }
+
+    // Holds the next token in place of the one that is held.
+    fn take(&mut self)
+        ensures { ahead self.new ≡ lexemes self.old.lexer.rest.now self.old.lexer.place }
     {
         self.token = self.lexer.next_token();
     }

@@ -40,53 +40,75 @@ pub word_or_bracket-invariant_of-behind_word : goal.word_or_bracket-invariant_of
 word_or_bracket-invariant_of-behind_word t c =
     record { named = c.args.self.now.token.spelled.word _ (ap token_of c.in-Word.is) }
 
+pub row-returns-in_err-first-clause-read : goal.row-returns-in_err-first-clause-read
+row-returns-in_err-first-clause-read t c = λ done x k frame to row room.
+    breaks _ _ _ _ _ _ _ c.from_residual.ensures.1 refl (c.in_err-first.ensures.read done x (frame [] ∷ k) (room []))
+
+pub row-loop-alloc-init : goal.row-loop-alloc-init
+row-loop-alloc-init t c =
+    record {
+      before = [];
+      last = c.in_ok-first.first;
+      items = c.in_ok-push.ensures.items ∙ ap (λ l. l ++ c.in_ok-first.first ∷ []) c.in_ok-exprs.ensures.items;
+      read = λ done x k frame to row room. c.in_ok-first.ensures.read done x (frame [] ∷ k) (room []);
+      shorter = omega (arith, c.in_ok-first.ensures.shorter);
+    }
+
+pub row-loop-alloc-preserved : goal.row-loop-alloc-preserved
+row-loop-alloc-preserved t c =
+    let before = c.loop-alloc.invariant.before in
+    let last = c.loop-alloc.invariant.last in
+    let es = map expr_tree before in
+    let e = expr_tree last in
+    let held = sym c.sees-in-loop-alloc.ensures ∙ c.loop-alloc-test.true in
+    record {
+      before = before ++ last ∷ [];
+      last = c.in_ok-expr.field-0;
+      items = c.in_ok-push-2.ensures.items ∙ ap (λ l. l ++ c.in_ok-expr.field-0 ∷ []) c.loop-alloc.invariant.items;
+      read = λ done x k frame to row room.
+          c.loop-alloc.invariant.read done x k frame to row room
+          ∙ over-punct Comma (placed c.loop-alloc.self.token) _ _ c.advance.ensures held done
+          (AfterExpr x (frame es ∷ k) e) (Go (BeforeExpr x (frame (es ++ e ∷ []) ∷ k)))
+          (row-again c.args.closes x k frame to row es e (placed c.loop-alloc.self.token) held)
+          ∙ c.in_ok-expr.ensures.read done x (frame (es ++ e ∷ []) ∷ k) (room (es ++ e ∷ []))
+          ∙ ap (λ l. run done (AfterExpr x (frame l ∷ k) (expr_tree c.in_ok-expr.field-0)) (ahead c.expr-in-loop-alloc.new.self))
+          (sym (map_push expr_tree before last));
+      shorter = let passed = length-passed Comma (placed c.loop-alloc.self.token) _ _ c.advance.ensures held in
+          omega (arith, passed, c.in_ok-expr.ensures.shorter, c.loop-alloc.invariant.shorter);
+    }
+
 pub row-returns-in_err-expr-clause-read : goal.row-returns-in_err-expr-clause-read
 row-returns-in_err-expr-clause-read t c = λ done x k frame to row room.
-    let es = map expr_tree c.loop-exprs.exprs.items in
+    let es = map expr_tree c.loop-alloc.invariant.before in
+    let e = expr_tree c.loop-alloc.invariant.last in
+    let held = sym c.sees-in-loop-alloc.ensures ∙ c.loop-alloc-test.true in
     breaks _ _ _ _ _ _ _ c.from_residual-in_err-expr.ensures.1
-    (c.loop-exprs.invariant.read done x k frame to row room)
-    (c.in_err-expr.ensures.read done x (frame es ∷ k) (room es))
+    (c.loop-alloc.invariant.read done x k frame to row room
+    ∙ over-punct Comma (placed c.loop-alloc.self.token) _ _ c.advance.ensures held done
+    (AfterExpr x (frame es ∷ k) e) (Go (BeforeExpr x (frame (es ++ e ∷ []) ∷ k)))
+    (row-again c.args.closes x k frame to row es e (placed c.loop-alloc.self.token) held))
+    (c.in_err-expr.ensures.read done x (frame (es ++ e ∷ []) ∷ k) (room (es ++ e ∷ [])))
 
 pub row-returns-in_err-expect-clause-read : goal.row-returns-in_err-expect-clause-read
 row-returns-in_err-expect-clause-read t c = λ done x k frame to row room.
-    let es = map expr_tree c.loop-exprs.exprs.items in
-    let e = expr_tree c.in_ok-expr.field-0 in
+    let es = map expr_tree c.loop-alloc.invariant.before in
+    let e = expr_tree c.loop-alloc.invariant.last in
     breaks _ _ _ _ _ _ _ c.from_residual-in_err-expect.ensures.1
-    (c.loop-exprs.invariant.read done x k frame to row room
-    ∙ c.in_ok-expr.ensures.read done x (frame es ∷ k) (room es))
+    (c.loop-alloc.invariant.read done x k frame to row room)
     (c.in_err-expect.ensures.read done (AfterExpr x (frame es ∷ k) e) _
-    (row-closes c.args.closes x k frame to row es e (placed c.expr.new.self.token)
-    (sym c.sees.ensures ∙ c.if-not-sees.true)))
+    (row-closes c.args.closes x k frame to row es e (placed c.loop-alloc.self.token)
+    (sym c.sees-in-loop-alloc.ensures ∙ c.loop-alloc-test.false)))
 
 pub row-returns-clause-read : goal.row-returns-clause-read
 row-returns-clause-read t c = λ done x k frame to row room.
-    let es = map expr_tree c.loop-exprs.exprs.items in
-    let e = expr_tree c.in_ok-expr.field-0 in
-    c.loop-exprs.invariant.read done x k frame to row room
-    ∙ c.in_ok-expr.ensures.read done x (frame es ∷ k) (room es)
-    ∙ c.in_ok-expect.ensures.read done (AfterExpr x (frame es ∷ k) e) _
-    (row-closes c.args.closes x k frame to row es e (placed c.expr.new.self.token)
-    (sym c.sees.ensures ∙ c.if-not-sees.true))
+    let before = c.loop-alloc.invariant.before in
+    let last = c.loop-alloc.invariant.last in
+    c.loop-alloc.invariant.read done x k frame to row room
+    ∙ c.in_ok-expect.ensures.read done (AfterExpr x (frame (map expr_tree before) ∷ k) (expr_tree last)) _
+    (row-closes c.args.closes x k frame to row (map expr_tree before) (expr_tree last) (placed c.loop-alloc.self.token)
+    (sym c.sees-in-loop-alloc.ensures ∙ c.loop-alloc-test.false))
     ∙ ap (λ l. run done (to l) (ahead c.expect.new.self))
-    (sym (ap (map expr_tree) c.in_ok-push.ensures.items ∙ map_push expr_tree _ _))
-
-pub row-loop-exprs-preserved : goal.row-loop-exprs-preserved
-row-loop-exprs-preserved t c =
-    let held = sym c.sees.ensures ∙ c.if-not-sees.false in
-    record {
-      read = λ done x k frame to row room.
-          let es = map expr_tree c.loop-exprs.exprs.items in
-          let e = expr_tree c.in_ok-expr.field-0 in
-          c.loop-exprs.invariant.read done x k frame to row room
-          ∙ c.in_ok-expr.ensures.read done x (frame es ∷ k) (room es)
-          ∙ over-punct Comma (placed c.expr.new.self.token) _ _ c.advance.ensures held done
-          (AfterExpr x (frame es ∷ k) e) (Go (BeforeExpr x (frame (es ++ e ∷ []) ∷ k)))
-          (row-again c.args.closes x k frame to row es e (placed c.expr.new.self.token) held)
-          ∙ ap (λ l. run done (BeforeExpr x (frame l ∷ k)) (ahead c.advance.new.self))
-          (sym (ap (map expr_tree) c.in_ok-push.ensures.items ∙ map_push expr_tree _ _));
-      shorter = let passed = length-passed Comma (placed c.expr.new.self.token) _ _ c.advance.ensures held in
-          omega (arith, passed, c.in_ok-expr.ensures.shorter, c.loop-exprs.invariant.shorter);
-    }
+    (sym (ap (map expr_tree) c.loop-alloc.invariant.items ∙ map_push expr_tree before last))
 
 pub behind_word-returns-then-sees-clause-read : goal.behind_word-returns-then-sees-clause-read
 behind_word-returns-then-sees-clause-read t c = λ done h k len.

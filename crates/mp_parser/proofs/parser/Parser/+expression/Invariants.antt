@@ -1,8 +1,8 @@
-use Rattle.std.proofs.Common.{◌≡◌, ◌≤◌, ◌+◌, ◌*◌, List, [], ◌∷◌, length, map}
+use Rattle.std.proofs.Common.{◌≡◌, ◌≤◌, ◌+◌, ◌*◌, List, [], ◌∷◌, ◌++◌, length, map}
 use Rattle.mp_parser.specs.declared.place.Place.{Place}
 use Rattle.mp_parser.specs.declared.tree.Expr.{Expr}
 use Rattle.mp_parser.specs.Syntax.{Tree, Statement}
-use Rattle.mp_parser.specs.Machine.{Within, Frame, Operands, BeforeExpr, run, State}
+use Rattle.mp_parser.specs.Machine.{Within, Frame, Operands, BeforeExpr, AfterExpr, run, State}
 use Rattle.mp_parser.specs.View.{spot_of_sign, expr_tree}
 use Rattle.mp_parser.specs.Parsing.{ahead, HasRoom, IsRow}
 use Rattle.mp_parser.proofs.parser.Parser.+expression.Given as goal
@@ -28,18 +28,21 @@ decreases-infix l = 5 * l.room + 1
 abbrev pub decreases-operands : goal.decreases-operands
 decreases-operands l = 5 * l.room + 5
 
--- the expressions so far are those that the open bracket holds
-abbrev pub invariant-row-loop-exprs : goal.invariant-row-loop-exprs
-invariant-row-loop-exprs l = record {
+-- the expressions so far are those that the open bracket holds, and the last that is read
+abbrev pub invariant-row-loop-alloc : goal.invariant-row-loop-alloc
+invariant-row-loop-alloc l = record {
+  before : List Expr;
+  last : Expr;
+  items : l.exprs.items ≡ before ++ last ∷ [];
   read : (done : List Statement) (x : Within) (k : List Frame) (frame : List Tree → Frame) (to : List Tree → State)
       → IsRow l.closes x k frame to → ((es : List Tree) → HasRoom (frame es ∷ k) l.room)
       → run done (BeforeExpr x (frame [] ∷ k)) (ahead l.fn.self)
-      ≡ run done (BeforeExpr x (frame (map expr_tree l.exprs.items) ∷ k)) (ahead l.self);
+      ≡ run done (AfterExpr x (frame (map expr_tree before) ∷ k) (expr_tree last)) (ahead l.self);
   shorter : length (ahead l.self) ≤ length (ahead l.fn.self);
 }
 
-abbrev pub decreases-row-loop-exprs : goal.decreases-row-loop-exprs
-decreases-row-loop-exprs l = length (ahead l.self)
+abbrev pub decreases-row-loop-alloc : goal.decreases-row-loop-alloc
+decreases-row-loop-alloc l = length (ahead l.self)
 
 -- the operands so far are the first, and the others that the open bracket holds
 abbrev pub invariant-operands-loop-operands : goal.invariant-operands-loop-operands

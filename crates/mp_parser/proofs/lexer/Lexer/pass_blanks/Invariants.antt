@@ -1,6 +1,6 @@
 use Rattle.std.proofs.Common.{◌≡◌, length, false}
 use Rattle.mp_parser.specs.Lexing.{after_blanks}
-use Rattle.mp_parser.proofs.lexer.Lexer.skip_blanks.Given as goal
+use Rattle.mp_parser.proofs.lexer.Lexer.pass_blanks.Given as goal
 
 -- what is passed from here on is what is passed from the start
 abbrev pub invariant-loop-self : goal.invariant-loop-self
