@@ -26,6 +26,9 @@ use mp_parser::tree::{Expr, Statement};
 use mp_parser::word::Word;
 use std::alloc::Global;
 
+// The number of bytes of the shortest statement, `op f 0;`.
+const SHORTEST: usize = 7;
+
 // What a statement is, by the word that it begins with.
 #[derive(Clone, Copy, Debug)]
 enum Keyword {
@@ -112,13 +115,24 @@ fn statements<'a>(alloc: Global, bytes: &'a [u8]) -> Result<Vec<Statement<'a>>, 
     }
 }
 
+// Room for so many statements is enough: each ends with a semicolon, and has more bytes besides.
+fn statement_room(bytes: &[u8]) -> usize {
+    let mut count: usize = 0;
+    for byte in bytes {
+        if *byte == b';' {
+            count = count.wrapping_add(1);
+        }
+    }
+    count.min(bytes.len() / SHORTEST)
+}
+
 // Reads all statements, or the first fault that the grammar has.
 fn parse<'a>(alloc: Global, bytes: &'a [u8]) -> Result<Vec<Statement<'a>>, SyntaxError>
     requires { length bytes.now < 2 ^ 32 - 1 }
     ensures { FileGives result (run [] Top (lexemes bytes.now first_place)) }
 {
     let mut parser = Parser::new(bytes);
-    let mut statements = Vec::new(alloc);
+    let mut statements = Vec::with_capacity(alloc, statement_room(bytes))?;
     while !parser.is_at_end() {
         let statement = statement(&mut parser, alloc)?;
         statements.push(statement)?;
