@@ -2,6 +2,8 @@ mod Numbers
 pub mod Applied
 pub mod Counts
 mod Plain
+mod Free
+mod FirstOp
 pub mod Fails
 mod BuiltLists
 pub mod Words

@@ -1,6 +1,7 @@
 pub mod Names
 pub mod Flags
 pub mod Build
+pub mod Equations
 pub mod Scope
 pub mod ScopeView
 pub mod Wildcards

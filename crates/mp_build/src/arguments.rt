@@ -11,6 +11,7 @@ ghost use Rattle.mp_build.specs.ArgumentsView.{allows_arguments};
 use crate::checks::allows_patterns;
 use crate::fault::{TextError, TextKind, error_at};
 use crate::given::allows_given;
+use crate::operations::find_decl;
 use crate::scope::Variable;
 use mp_syntax::{Expr, InfixSign, Place, Word};
 use mp_term::{OpDecl, OpId, Signature};
@@ -28,6 +29,7 @@ pub enum Arguments<'s, 'a> {
 }
 
 /// The operation allows the number of arguments.
+#[inline(always)]
 fn allows(decl: &OpDecl, args: Arguments<'_, '_>) -> bool
     ensures { (sig : Sig) → result ≡ allows_arguments sig args.entry decl.now }
 {
@@ -36,16 +38,6 @@ fn allows(decl: &OpDecl, args: Arguments<'_, '_>) -> bool
         Arguments::Patterns(args) => allows_patterns(decl, args),
         Arguments::Templates(variables, args) => allows_given(decl, variables, args),
     }
-}
-
-/// The number and the declaration of the first operation of that name.
-fn find_decl<'a>(sig: &'a Signature, name: &[u8]) -> Option<(OpId, &'a OpDecl)>
-    ensures number { option_map (λ p. p.0.0) result ≡ op_number sig.now name.now }
-    ensures decl { option_map (λ p. p.1.now) result ≡ op_named sig.now name.now }
-{
-    let id = sig.find_op(name)?;
-    let decl = sig.op(id)?;
-    Some((id, decl))
 }
 
 /// The number and the declaration of the first operation of that sign.
@@ -64,6 +56,7 @@ fn find_sign_decl<'a>(sig: &'a Signature, sign: &[u8]) -> Option<(OpId, &'a OpDe
 ///   at the name, by `head_faults` of `specs/Checks.antt`.
 ///
 /// It takes no memory.
+#[inline(always)]
 pub fn head_op(sig: &Signature, name: Word<'_>, args: Arguments<'_, '_>) -> Result<OpId, TextError>
     ensures { Gives result
         (head_faults (allows_arguments sig.now args.entry) (spot_of name.entry) (op_named sig.now name.entry.text.now))

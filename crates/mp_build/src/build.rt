@@ -21,6 +21,7 @@ ghost use Rattle.mp_build.specs.Checks.{pattern_faults, pattern_operand_faults, 
 use crate::arguments::{Arguments, head_op, sign_op};
 use crate::extent::{count_of, counted_shape, marked_shape};
 use crate::fault::{TextError, TextKind, error_at};
+use crate::operations::{are_few_and_free, find_decl};
 use crate::wildcard::{PatternWildcard, build_counted, build_optional, build_wildcard};
 use mp_pattern::{Pattern, Patterns, Shape};
 use mp_syntax::{Expr, InfixSign, Place, Wildcard, Word};
@@ -30,6 +31,7 @@ use std::alloc::Global;
 /// The name that a word is, any word being one.
 ///
 /// `Memory`: memory ran out. No other error comes.
+#[inline(always)]
 pub fn new_name(alloc: Global, word: Word<'_>) -> Result<Name, TextError>
     ensures { Gives result [] (λ n. n ≡ word.entry.text.now) }
 {
@@ -45,10 +47,11 @@ pub fn new_name(alloc: Global, word: Word<'_>) -> Result<Name, TextError>
 /// - `Text`: an operation of the signature has the name (`BareOperation`), at the word, by `symbol_faults` of
 ///   `specs/Checks.antt`.
 /// - `Memory`: memory ran out.
+#[inline(always)]
 pub fn symbol(alloc: Global, sig: &Signature, word: Word<'_>) -> Result<Name, TextError>
     ensures { Gives result (symbol_faults sig.now (spot_of word.entry)) (λ n. n ≡ word.entry.text.now) }
 {
-    if sig.find_op(word.text).is_some() {
+    if find_decl(sig, word.text).is_some() {
         return Err(error_at(TextKind::BareOperation, word.place));
     }
     new_name(alloc, word)
@@ -91,7 +94,7 @@ pub fn normal_term(alloc: Global, sig: &Signature, expr: &Expr<'_>) -> Result<Te
         (λ t. tree t ≡ normal sig.now (term_of sig.now (expr_tree expr.now))) }
 {
     let term = build_term(alloc, sig, expr)?;
-    if is_normal(sig, &term) {
+    if are_few_and_free(sig) || is_normal(sig, &term) {
         return Ok(term);
     }
     let term = normalise(alloc, sig, term)?;

@@ -22,6 +22,7 @@ mod fault;
 mod flags;
 mod given;
 mod normal;
+mod operations;
 mod scope;
 mod wildcard;
 mod written;

@@ -1,7 +1,6 @@
 //! Patterns of expressions in normal form.
 
-ghost use Rattle.std.specs.Prelude.{◌≡◌, ◌||◌, IsTrue};
-ghost use Rattle.mp_term.specs.Signature.{is_assoc, is_comm, is_one};
+ghost use Rattle.std.specs.Prelude.{◌≡◌, IsTrue};
 ghost use Rattle.mp_pattern.specs.Normal.{normal_pattern, IsNormalPattern};
 ghost use Rattle.mp_pattern.specs.View.{pattern_tree};
 ghost use Rattle.mp_parser.specs.View.{expr_tree};
@@ -11,17 +10,11 @@ ghost use Rattle.mp_build.specs.Checks.{whole_pattern_faults};
 
 use crate::build::whole_pattern;
 use crate::fault::TextError;
+use crate::operations::{are_few_and_free, has_equation};
 use mp_pattern::{Pattern, normalise_pattern};
 use mp_syntax::Expr;
-use mp_term::{OpId, Signature};
+use mp_term::Signature;
 use std::alloc::Global;
-
-// The operation is associative, commutative or one-identity.
-fn has_equation(sig: &Signature, op: OpId) -> bool
-    ensures { result ≡ (is_assoc sig.now op.0 || (is_comm sig.now op.0 || is_one sig.now op.0)) }
-{
-    sig.is_assoc(op) || sig.is_comm(op) || sig.is_one(op)
-}
 
 // No operation of the pattern has an equation, so that it is its own normal form.
 fn is_plain(sig: &Signature, pattern: &Pattern) -> bool
@@ -53,7 +46,7 @@ pub fn normal_pattern(alloc: Global, sig: &Signature, expr: &Expr<'_>) -> Result
         (λ p. pattern_tree p ≡ normal_pattern sig.now (pattern_of sig.now (expr_tree expr.now))) }
 {
     let pattern = whole_pattern(alloc, sig, expr)?;
-    if is_plain(sig, &pattern) {
+    if are_few_and_free(sig) || is_plain(sig, &pattern) {
         return Ok(pattern);
     }
     let pattern = normalise_pattern(alloc, sig, pattern)?;
