@@ -4,6 +4,7 @@
 
 mod file;
 mod file_printer;
+mod names;
 mod reader;
 mod rule;
 mod template;

@@ -21,6 +21,7 @@ ghost use Rattle.mp_build.specs.Answers.{IfText, IsFaultOrMemory};
 ghost use Rattle.mp_text.specs.Computed.{file_of, fault_of, ReadGives, IsComputed};
 
 use crate::file::{EditSet, EditSets, File, Subject, Subjects};
+use crate::names::TextNames;
 use crate::rule::{build_rule, is_large_rule};
 use mp_build::{
     TextError, TextKind, build_edits, check_edits_of, check_name, declare, error_at, is_large_edit,
@@ -28,7 +29,7 @@ use mp_build::{
 };
 use mp_pattern::{MAX_EDIT_STATEMENTS, MAX_RULES, MAX_SUBJECTS, Rules};
 use mp_syntax::{Change, Condition, Expr, Statement, Word, read_statements};
-use mp_term::{Edits, MAX_EDITS, NameTable, Signature};
+use mp_term::{Edits, MAX_EDITS, Signature};
 use std::alloc::Global;
 
 /// Reads a rule file: the operations, kinds, rules, subjects and edits that its statements stand for.
@@ -88,17 +89,17 @@ fn read(alloc: Global, bytes: &[u8]) -> Result<File, TextError>
 
 /// A file while it is built, with the names of its rules and those of its subjects: `IsDraftOf` of `specs/Draft.antt`.
 #[derive(Drop)]
-struct Draft {
+struct Draft<'a> {
     file: File,
-    rule_names: NameTable,
-    subject_names: NameTable,
+    rule_names: TextNames<'a>,
+    subject_names: TextNames<'a>,
 }
 
 /// Adds the name of a statement behind these, or finds its fault: it is one of them, there are as many as there may be,
 /// or the statement is too large.
-fn add_statement_name(
-    names: &mut NameTable,
-    name: Word<'_>,
+fn add_statement_name<'a>(
+    names: &mut TextNames<'a>,
+    name: Word<'a>,
     count: usize,
     most: usize,
     is_large: bool,
@@ -106,17 +107,16 @@ fn add_statement_name(
     ensures { count ≡ length names.old → Gives result (name_faults most names.old is_large (spot_of name.entry))
         (λ _. names.new ≡ names.old ++ name.entry.text.now ∷ []) }
 {
-    let is_held = names.index_of(name.text).is_some();
-    check_name(name, is_held, count, most, is_large)?;
-    names.push(name.text)?;
+    let is_new = names.insert(name.text)?;
+    check_name(name, !is_new, count, most, is_large)?;
     Ok(())
 }
 
 /// Adds a rule, with its pattern in normal form.
 fn add_rule<'a>(
     alloc: Global,
-    draft: &mut Draft,
-    name: Word<'_>,
+    draft: &mut Draft<'a>,
+    name: Word<'a>,
     pattern: &Expr<'a>,
     template: &Option<Expr<'a>>,
     condition: &Option<Condition<'_>>,
@@ -138,10 +138,10 @@ fn add_rule<'a>(
 }
 
 /// Adds a subject, with its term in normal form.
-fn add_subject(
+fn add_subject<'a>(
     alloc: Global,
-    draft: &mut Draft,
-    name: Word<'_>,
+    draft: &mut Draft<'a>,
+    name: Word<'a>,
     term: &Expr<'_>,
 ) -> Result<(), TextError>
     ensures { (sig : Sig) (earlier : List syntax.Statement) → IsDraftOf sig earlier draft.old
@@ -185,7 +185,7 @@ fn check_edits_on(
 /// Adds the edits of a subject, with their new terms in normal form.
 fn add_edit(
     alloc: Global,
-    draft: &mut Draft,
+    draft: &mut Draft<'_>,
     name: Word<'_>,
     changes: &[Change<'_>],
 ) -> Result<(), TextError>
@@ -215,10 +215,10 @@ fn add_edit(
 }
 
 /// Adds what a statement gives to the file.
-fn add_statement(
+fn add_statement<'a>(
     alloc: Global,
-    draft: &mut Draft,
-    statement: &Statement<'_>,
+    draft: &mut Draft<'a>,
+    statement: &Statement<'a>,
 ) -> Result<(), TextError>
     requires { length draft.old.subject_names ≤ MAX_SUBJECTS }
     ensures { (sig : Sig) (earlier : List syntax.Statement) → IsDraftOf sig earlier draft.old
@@ -240,10 +240,10 @@ fn add_statement(
 }
 
 /// Adds what a statement gives to the file, and drops its trees.
-fn take_statement(
+fn take_statement<'a>(
     alloc: Global,
-    draft: &mut Draft,
-    statement: Statement<'_>,
+    draft: &mut Draft<'a>,
+    statement: Statement<'a>,
 ) -> Result<(), TextError>
     requires { length draft.old.subject_names ≤ MAX_SUBJECTS }
     ensures { (sig : Sig) (earlier : List syntax.Statement) → IsDraftOf sig earlier draft.old
@@ -267,8 +267,8 @@ fn build_file(alloc: Global, statements: Vec<Statement<'_>>) -> Result<File, Tex
     };
     let mut draft = Draft {
         file,
-        rule_names: NameTable::new(alloc),
-        subject_names: NameTable::new(alloc),
+        rule_names: TextNames::new(alloc),
+        subject_names: TextNames::new(alloc),
     };
     for statement in statements {
         take_statement(alloc, &mut draft, statement)?;

@@ -24,7 +24,7 @@ returns-in_default c = λ sig earlier d.
       is_large = c.is_large_edit.ensures;
       small = c.if-is_large_edit.false;
     } in
-    let found = c.index_of.ensures.index ∙ ap (position (bytes_eq c.args.name.text.now)) d.subjects in
+    let found = c.index_of.ensures ∙ ap (position (bytes_eq c.args.name.text.now)) d.subjects in
     fails-unknown sig earlier name cs c.error_at-in_default.result c.len.result c.is_large_edit.result
     c.index_of.result room found c.in_default.is c.error_at-in_default.ensures
 
@@ -39,7 +39,7 @@ returns-in_err-edits c = λ sig earlier d.
       is_large = c.is_large_edit.ensures;
       small = c.if-is_large_edit.false;
     } in
-    let found = c.index_of.ensures.index ∙ ap (position (bytes_eq c.args.name.text.now)) d.subjects in
+    let found = c.index_of.ensures ∙ ap (position (bytes_eq c.args.name.text.now)) d.subjects in
     let known = faults-known sig earlier name cs c.len.result c.is_large_edit.result c.index_of.result c.in-Some.number
     room found c.in-Some.is in
     let e = c.in_err-edits.field-0.0 in
@@ -60,7 +60,7 @@ returns-in_err-check_edits_on c = λ sig earlier d.
       is_large = c.is_large_edit.ensures;
       small = c.if-is_large_edit.false;
     } in
-    let found = c.index_of.ensures.index ∙ ap (position (bytes_eq c.args.name.text.now)) d.subjects in
+    let found = c.index_of.ensures ∙ ap (position (bytes_eq c.args.name.text.now)) d.subjects in
     let known = faults-known sig earlier name cs c.len.result c.is_large_edit.result c.index_of.result c.in-Some.number
     room found c.in-Some.is in
     let e = c.in_err-check_edits_on.field-0.0 in
@@ -82,7 +82,7 @@ returns c = λ sig earlier d.
       is_large = c.is_large_edit.ensures;
       small = c.if-is_large_edit.false;
     } in
-    let found = c.index_of.ensures.index ∙ ap (position (bytes_eq c.args.name.text.now)) d.subjects in
+    let found = c.index_of.ensures ∙ ap (position (bytes_eq c.args.name.text.now)) d.subjects in
     let known = faults-known sig earlier name cs c.len.result c.is_large_edit.result c.index_of.result c.in-Some.number
     room found c.in-Some.is in
     let subject = sym c.get.ensures ∙ ap (λ f. slice_get f.subjects c.in-Some.number) d.file in

@@ -1,0 +1,9 @@
+use Rattle.std.proofs.Common.{◌∙◌, ap, sym}
+use Rattle.std.specs.Prelude.{position, bytes_eq}
+use Rattle.mp_term.proofs.SignatureLaws.{position-map}
+use Rattle.mp_text.proofs.names.TextNames.index_of.Goals as goal
+
+pub returns : goal.returns
+returns c = c.get_index_of.ensures.index
+    ∙ sym (position-map (bytes_eq c.args.name.now) (λ k. k.now) c.self.inside.names.keys)
+    ∙ ap (position (bytes_eq c.args.name.now)) c.self.view_is

@@ -1,0 +1,49 @@
+//! The names of statements, each found by its bytes.
+
+ghost use Rattle.std.specs.Prelude.{◌≡◌, ◌++◌, ◌∷◌, [], not, position, bytes_eq, IfOk, IsTrue};
+ghost use Rattle.std.specs.List.{list_any};
+
+use indexmap::IndexSet;
+use mp_term::Memory;
+use std::alloc::Global;
+use std::marker::Model;
+
+/// Distinct names of a text in the order in which they came. Contracts see the list of the names.
+#[derive(Drop)]
+pub struct TextNames<'a> {
+    names: IndexSet<&'a [u8]>,
+}
+
+impl<'a> Model for TextNames<'a> {
+    ghost use Rattle.std.specs.Prelude.{ℕ, List, map};
+
+    ghost Value = { List (List ℕ) };
+
+    ghost view = { λ t. map (λ k. k.now) t.names.keys };
+}
+
+impl<'a> TextNames<'a> {
+    /// No name. It takes no memory.
+    pub fn new(alloc: Global) -> Self
+        ensures { result ≡ [] }
+    {
+        TextNames {
+            names: IndexSet::new(alloc),
+        }
+    }
+
+    /// The index of the name of these bytes, from 0. It is None exactly where the name isn't there. It takes no memory.
+    pub fn index_of(&self, name: &[u8]) -> Option<usize>
+        ensures { result ≡ position (bytes_eq name.now) self.now }
+    {
+        self.names.get_index_of(name)
+    }
+
+    /// Adds a name behind the others, or answers false where it is one of them.
+    pub fn insert(&mut self, name: &'a [u8]) -> Result<bool, Memory>
+        ensures new { IfOk result (λ is_new. is_new ≡ not (list_any (bytes_eq name.now) self.old)) }
+        ensures names { IfOk result (λ is_new. IsTrue is_new → self.new ≡ self.old ++ name.now ∷ []) }
+    {
+        Ok(self.names.insert(name)?)
+    }
+}
