@@ -36,7 +36,7 @@ sublist-short : (l ts : List Tree) → is_sublist tree_cmp l ts ≡ true → len
 sublist-short l ts h = omega (arith, length-without tree_cmp tree_cmp_total tree_same l ts h)
 
 -- a sublist that is as long is the list
-sublist-whole : (l ts : List Tree) → is_sublist tree_cmp l ts ≡ true → length l ≡ length ts → l ≡ ts
+pub sublist-whole : (l ts : List Tree) → is_sublist tree_cmp l ts ≡ true → length l ≡ length ts → l ≡ ts
 sublist-whole [] [] h n = refl
 sublist-whole [] (t ∷ ts) h n = absurd (omega (arith, n))
 sublist-whole (e ∷ l) [] h n = absurd (omega (arith, n))

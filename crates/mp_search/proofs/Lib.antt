@@ -49,3 +49,4 @@ pub mod HeadedLaws
 pub mod PoolLaws
 pub mod PlacesLaws
 pub mod TableLaws
+pub mod OneWayLaws

@@ -4,7 +4,7 @@ use Rattle.std.proofs.Common.{subst, arith, ◌<◌, ◌≤◌, ◌-◌, slice_i
 use Rattle.std.specs.Prelude.{Option, Some, None, slice_get, option_map}
 use Rattle.std.proofs.lemmas.Option.{slice_get_within}
 use Rattle.mp_pattern.specs.declared.pattern.Pattern as declared
-use Rattle.mp_pattern.specs.PatternTree.{Pattern, app_pattern, Patterns, more_patterns, patterns}
+use Rattle.mp_pattern.specs.PatternTree.{Pattern, app_pattern, Patterns, no_patterns, more_patterns, patterns}
 use Rattle.mp_pattern.specs.Plan.{Node, Plan}
 use Rattle.mp_pattern.specs.Subpatterns.{subpatterns, all_subpatterns}
 use Rattle.mp_pattern.specs.Variables.{variables}
@@ -121,3 +121,26 @@ first-pattern cs c l e = ap (λ ds. patterns (map pattern_tree ds)) (first-item 
 -- a pattern has a first node
 pub some-subpatterns : (p : Pattern) → 1 ≤ length (subpatterns p)
 some-subpatterns p = omega (arith, ap length (subpatterns-first p))
+
+-- a list without an item has none
+pub no-pattern : (cs : List declared.Pattern) → length cs < 1 → patterns (map pattern_tree cs) ≡ no_patterns
+no-pattern [] l = refl
+no-pattern (c ∷ cs) l = absurd (omega (arith, l))
+
+-- the first of a list's patterns stands where they do, and the others behind it
+module _ (q : Query) (k : ℕ) (cs : List declared.Pattern) (c : declared.Pattern) (l : 1 ≤ length cs)
+    (i : c ≡ slice_index_or cs 0 c) (h : StandsAt q k (all_subpatterns (patterns (map pattern_tree cs)))) where
+  abbrev first : List Pattern
+  first = subpatterns (pattern_tree c)
+
+  abbrev others : List Pattern
+  others = all_subpatterns (patterns (map pattern_tree (take (length cs - 1) (drop 1 cs))))
+
+  pub stands-parts : StandsAt q k (first ++ others)
+  stands-parts = subst (StandsAt q k) (ap all_subpatterns (first-pattern cs c l i)) h
+
+  pub stands-item : StandsAt q k first
+  stands-item = stands-left q k first others stands-parts
+
+  pub stands-others : (e : ℕ) → e ≡ k + length first → StandsAt q e others
+  stands-others e n = subst (λ m. StandsAt q m others) (sym n) (stands-right q k first others stands-parts)

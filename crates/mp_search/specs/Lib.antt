@@ -19,3 +19,4 @@ pub mod Lacking
 pub mod Tried
 pub mod Sublists
 pub mod Stage
+pub mod OneWay

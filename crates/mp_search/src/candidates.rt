@@ -23,6 +23,7 @@ use crate::ground::ground_rank;
 use crate::headed::{Group, first_place, place_behind};
 use crate::may_match::{each_may_match, is_plain, may_collapse, may_match};
 use crate::query::Query;
+use crate::told::has_value;
 use crate::variable::number_at;
 use mp_pattern::{Pattern, Shape};
 use mp_subst::{Bound, Trail};
@@ -87,10 +88,7 @@ fn is_known(query: &Query<'_>, trail: &Trail, child: &Pattern, node: u32) -> boo
     requires child { StandsAt query.now node (subpatterns (pattern_tree child.now)) }
 {
     match child {
-        Pattern::Wild(Shape::Dot, _) => match number_at(query, child, node) {
-            None => false,
-            Some(var) => trail.binding(var).is_some(),
-        },
+        Pattern::Wild(Shape::Dot, _) => has_value(query, trail, child, node),
         _ => true,
     }
 }

@@ -27,8 +27,8 @@ use crate::level::Level;
 use crate::mode::Mode;
 use crate::next::takes_the_next;
 use crate::node::{
-    bind_at, first_at, leads_nowhere_at, leave_at, may_stand, next_at, pass_at, prepare_at,
-    takes_all_at,
+    bind_at, first_at, has_one_way_at, leads_nowhere_at, leave_at, may_stand, next_at, pass_at,
+    prepare_at, takes_all_at,
 };
 use crate::query::Query;
 use crate::stack::{Frame, Left, Next, Place, Stack, settle};
@@ -269,6 +269,9 @@ fn visit<'a>(
             follow(query, place, levels, k, trail, mode)
         }
         Mode::After => {
+            if has_one_way_at(query, place, &*levels, k, &*trail) {
+                return false;
+            }
             let mark = trail.mark();
             let last = takes_all_at(query, place, &*levels, k);
             if follow(query, place, levels, k, trail, mode) {

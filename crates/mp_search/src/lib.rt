@@ -35,6 +35,7 @@ mod site;
 mod stack;
 mod stage;
 mod supply;
+mod told;
 mod variable;
 
 pub use descent::find;

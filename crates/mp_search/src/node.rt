@@ -14,10 +14,11 @@ ghost use Rattle.mp_theory.specs.Items.{items, above_entry};
 ghost use Rattle.mp_theory.specs.Narrow.{load};
 ghost use Rattle.mp_theory.specs.Trail.{allows};
 ghost use Rattle.mp_search.specs.At.{IsAt, IsAtNode, HasTrail, IsDrawn, HasPool, KeepsLevels, AreInOrder, drawn_at};
-ghost use Rattle.mp_search.specs.At.{draws_at, own_at, BindsOnly};
+ghost use Rattle.mp_search.specs.At.{draws_at, own_at, items_from, BindsOnly};
 ghost use Rattle.mp_search.specs.Bounds.{TakesNext};
 ghost use Rattle.mp_search.specs.Frames.{above, stack_frames, left_of, rest_at, place_after};
 ghost use Rattle.mp_search.specs.Levels.{AreLevels};
+ghost use Rattle.mp_search.specs.OneWay.{HaveOneTable};
 ghost use Rattle.mp_search.specs.Passed.{IsPassed, IsShut};
 ghost use Rattle.mp_search.specs.Query.{IsQuery, width};
 ghost use Rattle.mp_search.specs.Reading.{table_of, entry_at, subst_of};
@@ -32,7 +33,8 @@ use crate::mode::Mode;
 use crate::own::{first_own, next_own, pass_own, prepare_own};
 use crate::query::Query;
 use crate::site::Site;
-use crate::stack::{Place, left_list};
+use crate::stack::{Place, Stack, left_list};
+use crate::told::has_one_way;
 use mp_pattern::{Pattern, is_comm_above};
 use mp_subst::Trail;
 
@@ -94,6 +96,30 @@ pub(crate) fn takes_all_at(query: &Query<'_>, place: &Place<'_>, levels: &[Level
         Pattern::Wild(..) => {
             let site = site_at(query, place, &levels[..k]);
             levels[k].take.len() == site.left.len()
+        }
+        _ => false,
+    }
+}
+
+// Whether it is seen that all items from node k on have one table: there is nothing around the operation above, and the
+// trail tells of the child and of its later siblings what they take.
+pub(crate) fn has_one_way_at(
+    query: &Query<'_>,
+    place: &Place<'_>,
+    levels: &[Level],
+    k: usize,
+    trail: &Trail,
+) -> bool
+    requires within { k < length levels.now }
+    requires node { IsAtNode query.now k levels.now }
+    requires place { IsAt query.now (take k levels.now) place.now }
+    requires trail { GoesWith query.now.table.now trail.now }
+    ensures { IsTrue result → HaveOneTable (items_from query.now k levels.now (subst_of query.now trail.now)) }
+{
+    match place.outer {
+        Stack::Root => {
+            let site = site_at(query, place, &levels[..k]);
+            has_one_way(query, trail, site.child, site.node, site.later)
         }
         _ => false,
     }

@@ -1,25 +1,18 @@
-use Rattle.std.proofs.Common.{◌-◌, map, take, drop, length, ap, ◌∙◌, subst}
+use Rattle.std.proofs.Common.{◌-◌, map, take, drop, length, ◌∙◌}
 use Rattle.std.proofs.lemmas.List.{length-map}
 use Rattle.std.specs.Prelude.{Some}
 use Rattle.mp_pattern.specs.PatternTree.{patterns}
-use Rattle.mp_pattern.specs.Subpatterns.{subpatterns, all_subpatterns}
 use Rattle.mp_pattern.specs.View.{pattern_tree}
 use Rattle.mp_table.specs.Table.{term_at}
-use Rattle.mp_search.specs.Parts.{StandsAt}
 use Rattle.mp_search.specs.Reading.{subst_of}
-use Rattle.mp_search.proofs.PartLaws.{stands-left, first-pattern}
+use Rattle.mp_search.proofs.PartLaws.{stands-item, first-pattern}
 use Rattle.mp_search.proofs.PlacesLaws.{if_some-map, each-length, each-first}
 use Rattle.mp_search.proofs.candidates.first_rank.Goals as goal
 
 pub known_rank-requires-clause-child : goal.known_rank-requires-clause-child
 known_rank-requires-clause-child c =
-    let q = c.args.query.now in
-    let p = pattern_tree c.child-item.result in
-    let later = all_subpatterns
-    (patterns (map pattern_tree (take (length c.args.children.now - 1) (drop 1 c.args.children.now)))) in
-    let e = ap all_subpatterns
-    (first-pattern c.args.children.now c.child-item.result c.in-len1-up.len_at_least c.child-item.is) in
-    stands-left q c.args.node (subpatterns p) later (subst (StandsAt q c.args.node) e c.requires.children)
+    stands-item c.args.query.now c.args.node c.args.children.now c.child-item.result c.in-len1-up.len_at_least
+    c.child-item.is c.requires.children
 
 pub returns-in-len1-up-clause-only : goal.returns-in-len1-up-clause-only
 returns-in-len1-up-clause-only c =

@@ -1,38 +1,24 @@
-use Rattle.std.proofs.Common.{◌-◌, map, take, drop, length, ap, sym, subst}
+use Rattle.std.proofs.Common.{◌-◌, map, take, drop, length}
 use Rattle.mp_pattern.specs.PatternTree.{patterns}
-use Rattle.mp_pattern.specs.Subpatterns.{subpatterns, all_subpatterns}
 use Rattle.mp_pattern.specs.View.{pattern_tree}
 use Rattle.mp_table.specs.Table.{term_at}
-use Rattle.mp_search.specs.Parts.{StandsAt}
 use Rattle.mp_search.specs.Reading.{subst_of}
-use Rattle.mp_search.proofs.PartLaws.{stands-left, stands-right, first-pattern}
+use Rattle.mp_search.proofs.PartLaws.{stands-item, stands-others, first-pattern}
 use Rattle.mp_search.proofs.PlacesLaws.{if_some-map, each-second}
 use Rattle.mp_search.proofs.candidates.second_among.Goals as goal
 
 pub end_of-end-requires-clause-child : goal.end_of-end-requires-clause-child
 end_of-end-requires-clause-child c =
-    let q = c.args.query.now in
-    let p = pattern_tree c.child-item.result in
-    let later = all_subpatterns
-    (patterns (map pattern_tree (take (length c.args.children.now - 1) (drop 1 c.args.children.now)))) in
-    let e = ap all_subpatterns
-    (first-pattern c.args.children.now c.child-item.result c.in-len1-up.len_at_least c.child-item.is) in
-    stands-left q c.args.node (subpatterns p) later (subst (StandsAt q c.args.node) e c.requires.children)
+    stands-item c.args.query.now c.args.node c.args.children.now c.child-item.result c.in-len1-up.len_at_least
+    c.child-item.is c.requires.children
 
 pub known_rank-requires-clause-child : goal.known_rank-requires-clause-child
 known_rank-requires-clause-child c =
-    let q = c.args.query.now in
     let cs = c.args.children.now in
-    let ds = take (length cs - 1) (drop 1 cs) in
-    let p = pattern_tree c.child-item.result in
-    let later = all_subpatterns (patterns (map pattern_tree ds)) in
-    let others = all_subpatterns (patterns (map pattern_tree (take (length ds - 1) (drop 1 ds)))) in
-    let e = ap all_subpatterns (first-pattern cs c.child-item.result c.in-len1-up.len_at_least c.child-item.is) in
-    let i = ap all_subpatterns (first-pattern ds c.second-item.result c.in-len1.len_at_least c.second-item.is) in
-    let behind = subst (λ k. StandsAt q k later) (sym c.end_of-end.ensures)
-    (stands-right q c.args.node (subpatterns p) later (subst (StandsAt q c.args.node) e c.requires.children)) in
-    stands-left q c.end_of-end.result (subpatterns (pattern_tree c.second-item.result)) others
-    (subst (StandsAt q c.end_of-end.result) i behind)
+    let behind = stands-others c.args.query.now c.args.node cs c.child-item.result c.in-len1-up.len_at_least
+    c.child-item.is c.requires.children c.end_of-end.result c.end_of-end.ensures in
+    stands-item c.args.query.now c.end_of-end.result (take (length cs - 1) (drop 1 cs)) c.second-item.result
+    c.in-len1.len_at_least c.second-item.is behind
 
 pub returns-in-len1-clause-only : goal.returns-in-len1-clause-only
 returns-in-len1-clause-only c =

@@ -24,6 +24,7 @@ use Rattle.mp_subst.proofs.TrailLaws.{length-kept}
 use Rattle.mp_search.proofs.TriedLaws.{trying-init, trying-allowed, trying-complete, trying-found, trying-next}
 use Rattle.mp_search.proofs.TriedLaws.{IsTrying, trying-falls, member-kept, pool-kept}
 use Rattle.mp_search.proofs.NextLaws as nexts
+use Rattle.mp_search.proofs.OneWayLaws.{none-after}
 use Rattle.mp_search.proofs.VisitLaws as visits
 use Rattle.mp_search.proofs.descent.+search.Goals as goal
 
@@ -643,6 +644,19 @@ visit-returns-else-not-may_stand-clause-found t c =
     follows.told-same c.follow.result _ _ _ _
     (visits.at-entry q c.args.k c.args.levels.now (subst_of q c.args.trail.now) c.requires.within c.args.mode c.in-At.is
     (sym c.if-not-may_stand.ensures)) refl c.follow.ensures.found
+
+pub visit-returns-then-has_one_way_at-clause-found : goal.visit-returns-then-has_one_way_at-clause-found
+visit-returns-then-has_one_way_at-clause-found t c =
+    let q = c.args.query.now in
+    let k = c.args.k in
+    let L = c.args.levels.now in
+    none-after q c.args.mode (table_of q.table.now (drop k L)) (items_from q k L (subst_of q c.args.trail.now))
+    c.in-After.is c.requires.standing (c.if-has_one_way_at.ensures refl)
+
+pub visit-returns-then-has_one_way_at-clause-kept : goal.visit-returns-then-has_one_way_at-clause-kept
+visit-returns-then-has_one_way_at-clause-kept t c =
+    follows.kept-levels c.args.query.now c.args.k c.args.levels.now c.args.levels.now c.args.trail.now c.args.trail.now
+    (record { front = refl; many = refl; levels = c.requires.node.levels }) refl c.requires.trail.trail
 
 pub visit-follow-requires-in-After : goal.visit-follow-requires-in-After
 visit-follow-requires-in-After t c =

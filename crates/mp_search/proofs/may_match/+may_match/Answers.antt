@@ -10,8 +10,8 @@ use Rattle.mp_search.specs.Frames.{above}
 use Rattle.mp_search.specs.Parts.{StandsAt}
 use Rattle.mp_search.specs.Reading.{subst_of}
 use Rattle.mp_search.proofs.MatchLaws.{match-known, match-children, match-first}
-use Rattle.mp_search.proofs.PartLaws.{stands-left, stands-right, stands-below, first-others, first-pattern}
-use Rattle.mp_search.proofs.PartLaws.{some-subpatterns}
+use Rattle.mp_search.proofs.PartLaws.{stands-item, stands-left, stands-others, stands-below, first-others}
+use Rattle.mp_search.proofs.PartLaws.{first-pattern, some-subpatterns}
 use Rattle.mp_search.proofs.may_match.+may_match.Goals as goal
 
 pub each_may_match-may_match-requires : goal.each_may_match-may_match-requires
@@ -36,13 +36,8 @@ each_may_match-may_match-requires t c =
 
 pub each_may_match-end_of-end-requires-clause-child : goal.each_may_match-end_of-end-requires-clause-child
 each_may_match-end_of-end-requires-clause-child t c =
-    let q = c.args.query.now in
-    let p = pattern_tree c.child-item.result in
-    let later = all_subpatterns
-    (patterns (map pattern_tree (take (length c.args.children.now - 1) (drop 1 c.args.children.now)))) in
-    let e = ap all_subpatterns
-    (first-pattern c.args.children.now c.child-item.result c.in-len1-up.len_at_least c.child-item.is) in
-    stands-left q c.args.node (subpatterns p) later (subst (StandsAt q c.args.node) e c.requires.children)
+    stands-item c.args.query.now c.args.node c.args.children.now c.child-item.result c.in-len1-up.len_at_least
+    c.child-item.is c.requires.children
 
 pub each_may_match-each_may_match-requires : goal.each_may_match-each_may_match-requires
 each_may_match-each_may_match-requires t c =
@@ -52,6 +47,8 @@ each_may_match-each_may_match-requires t c =
     (patterns (map pattern_tree (take (length c.args.children.now - 1) (drop 1 c.args.children.now)))) in
     let e = ap all_subpatterns
     (first-pattern c.args.children.now c.child-item.result c.in-len1-up.len_at_least c.child-item.is) in
+    let others = stands-others c.args.query.now c.args.node c.args.children.now c.child-item.result
+    c.in-len1-up.len_at_least c.child-item.is c.requires.children c.end_of-end.result c.end_of-end.ensures in
     let r = subst (HasRanks q.table.now)
     (first-others c.args.ranks.now (record { 0 = 0 }) c.in-len1-up-ranks.len_at_least) c.requires.ranks in (
       omega (arith, c.decreases, ap length e, length-append (subpatterns p) later, some-subpatterns p),
@@ -60,9 +57,7 @@ each_may_match-each_may_match-requires t c =
         (
           c.requires.trail,
           (
-            subst (λ k. StandsAt q k later) (sym c.end_of-end.ensures)
-                (stands-right q c.args.node (subpatterns p) later
-                (subst (StandsAt q c.args.node) e c.requires.children)),
+            others,
             r.1,
           ),
         ),

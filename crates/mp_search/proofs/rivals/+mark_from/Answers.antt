@@ -1,39 +1,21 @@
-use Rattle.std.proofs.Common.{◌-◌, map, take, drop, length, ap, sym, subst, arith}
-use Rattle.mp_pattern.specs.PatternTree.{patterns}
-use Rattle.mp_pattern.specs.Subpatterns.{subpatterns, all_subpatterns}
-use Rattle.mp_pattern.specs.View.{pattern_tree}
-use Rattle.mp_search.specs.Parts.{StandsAt}
-use Rattle.mp_search.proofs.PartLaws.{stands-left, stands-right, first-pattern}
+use Rattle.std.proofs.Common.{arith}
+use Rattle.mp_search.proofs.PartLaws.{stands-item, stands-others}
 use Rattle.mp_search.proofs.rivals.+mark_from.Goals as goal
 
 pub is_placed-requires-clause-child : goal.is_placed-requires-clause-child
 is_placed-requires-clause-child t c =
-    let q = c.args.query.now in
-    let p = pattern_tree c.child-item.result in
-    let later = all_subpatterns
-    (patterns (map pattern_tree (take (length c.args.children.now - 1) (drop 1 c.args.children.now)))) in
-    let e = ap all_subpatterns
-    (first-pattern c.args.children.now c.child-item.result c.in-len1-up.len_at_least c.child-item.is) in
-    stands-left q c.args.child_node (subpatterns p) later (subst (StandsAt q c.args.child_node) e c.requires.children)
+    stands-item c.args.query.now c.args.child_node c.args.children.now c.child-item.result c.in-len1-up.len_at_least
+    c.child-item.is c.requires.children
 
 pub end_of-end-requires-clause-child : goal.end_of-end-requires-clause-child
 end_of-end-requires-clause-child t c =
-    let q = c.args.query.now in
-    let p = pattern_tree c.child-item.result in
-    let later = all_subpatterns
-    (patterns (map pattern_tree (take (length c.args.children.now - 1) (drop 1 c.args.children.now)))) in
-    let e = ap all_subpatterns
-    (first-pattern c.args.children.now c.child-item.result c.in-len1-up.len_at_least c.child-item.is) in
-    stands-left q c.args.child_node (subpatterns p) later (subst (StandsAt q c.args.child_node) e c.requires.children)
+    stands-item c.args.query.now c.args.child_node c.args.children.now c.child-item.result c.in-len1-up.len_at_least
+    c.child-item.is c.requires.children
 
 pub mark_from-requires : goal.mark_from-requires
 mark_from-requires t c =
-    let q = c.args.query.now in
-    let p = pattern_tree c.child-item.result in
-    let later = all_subpatterns
-    (patterns (map pattern_tree (take (length c.args.children.now - 1) (drop 1 c.args.children.now)))) in
-    let e = ap all_subpatterns
-    (first-pattern c.args.children.now c.child-item.result c.in-len1-up.len_at_least c.child-item.is) in (
+    let others = stands-others c.args.query.now c.args.child_node c.args.children.now c.child-item.result
+    c.in-len1-up.len_at_least c.child-item.is c.requires.children c.end_of-end.result c.end_of-end.ensures in (
       omega (arith, c.decreases, c.in-len1-up.len_at_least),
       (
         c.requires.query,
@@ -46,9 +28,7 @@ mark_from-requires t c =
               (
                 c.requires.later,
                 (
-                  subst (λ k. StandsAt q k later) (sym c.end_of-end.ensures)
-                      (stands-right q c.args.child_node (subpatterns p) later
-                      (subst (StandsAt q c.args.child_node) e c.requires.children)),
+                  others,
                   omega (arith, c.is_placed.ensures.places, c.is_placed.ensures.marks, c.requires.many),
                 ),
               ),

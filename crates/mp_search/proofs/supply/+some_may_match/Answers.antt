@@ -1,51 +1,31 @@
-use Rattle.std.proofs.Common.{◌≡◌, true, false, ◌-◌, map, take, drop, length, ap, sym, ◌∙◌, subst, arith}
-use Rattle.mp_pattern.specs.PatternTree.{patterns}
-use Rattle.mp_pattern.specs.Subpatterns.{subpatterns, all_subpatterns}
-use Rattle.mp_pattern.specs.View.{pattern_tree}
+use Rattle.std.proofs.Common.{◌≡◌, true, false, sym, ◌∙◌, arith}
 use Rattle.mp_search.specs.Frames.{above}
-use Rattle.mp_search.specs.Parts.{StandsAt}
 use Rattle.mp_search.specs.Reading.{subst_of}
 use Rattle.mp_search.proofs.LackLaws.{some-others}
-use Rattle.mp_search.proofs.PartLaws.{stands-left, stands-right, first-others, first-pattern}
+use Rattle.mp_search.proofs.PartLaws.{stands-item, stands-others, first-others, first-pattern}
 use Rattle.mp_search.proofs.supply.+some_may_match.Goals as goal
 
 pub is_met-requires-clause-child : goal.is_met-requires-clause-child
 is_met-requires-clause-child t c =
-    let q = c.args.query.now in
-    let p = pattern_tree c.child-item.result in
-    let later = all_subpatterns
-    (patterns (map pattern_tree (take (length c.args.children.now - 1) (drop 1 c.args.children.now)))) in
-    let e = ap all_subpatterns
-    (first-pattern c.args.children.now c.child-item.result c.in-len1-up-children.len_at_least c.child-item.is) in
-    stands-left q c.args.node (subpatterns p) later (subst (StandsAt q c.args.node) e c.requires.children)
+    stands-item c.args.query.now c.args.node c.args.children.now c.child-item.result c.in-len1-up-children.len_at_least
+    c.child-item.is c.requires.children
 
 pub end_of-end-requires-clause-child : goal.end_of-end-requires-clause-child
 end_of-end-requires-clause-child t c =
-    let q = c.args.query.now in
-    let p = pattern_tree c.child-item.result in
-    let later = all_subpatterns
-    (patterns (map pattern_tree (take (length c.args.children.now - 1) (drop 1 c.args.children.now)))) in
-    let e = ap all_subpatterns
-    (first-pattern c.args.children.now c.child-item.result c.in-len1-up-children.len_at_least c.child-item.is) in
-    stands-left q c.args.node (subpatterns p) later (subst (StandsAt q c.args.node) e c.requires.children)
+    stands-item c.args.query.now c.args.node c.args.children.now c.child-item.result c.in-len1-up-children.len_at_least
+    c.child-item.is c.requires.children
 
 pub some_may_match-requires : goal.some_may_match-requires
 some_may_match-requires t c =
-    let q = c.args.query.now in
-    let p = pattern_tree c.child-item.result in
-    let later = all_subpatterns
-    (patterns (map pattern_tree (take (length c.args.children.now - 1) (drop 1 c.args.children.now)))) in
-    let e = ap all_subpatterns
-    (first-pattern c.args.children.now c.child-item.result c.in-len1-up-children.len_at_least c.child-item.is) in (
+    let others = stands-others c.args.query.now c.args.node c.args.children.now c.child-item.result
+    c.in-len1-up-children.len_at_least c.child-item.is c.requires.children c.end_of-end.result c.end_of-end.ensures in (
       omega (arith, c.decreases, c.in-len1-up-children.len_at_least),
       (
         c.requires.query,
         (
           c.requires.trail,
           (
-            subst (λ k. StandsAt q k later) (sym c.end_of-end.ensures)
-                (stands-right q c.args.node (subpatterns p) later
-                (subst (StandsAt q c.args.node) e c.requires.children)),
+            others,
             c.requires.rank,
           ),
         ),
