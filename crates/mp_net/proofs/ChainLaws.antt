@@ -88,9 +88,6 @@ chain-net r m = record {
   lead = λ q t os a b. chain-lead (chain_rules r m) 0 r m refl q t os a b;
 }
 
-pub chain-start : (r : ℕ) (m : List Mark) → slice_get (chain_rules r m) 0 ≡ Some (single r m)
-chain-start = first-chain
-
 -- the turns of the marks, and the one behind them
 pub asking-chain : (q : ℕ) (m : List Mark) → asking_turns q m ++ nowhere ∷ [] ≡ chain_turns q m
 asking-chain q [] = refl
@@ -126,7 +123,7 @@ chain-net_of r m n turns takes few states =
     record {
       rules = chain_rules r m;
       net = subst (IsNet (chain_rules r m)) (sym turns) (chain-net r m);
-      start = chain-start r m;
+      start = first-chain r m;
       accepted = takes ∙ sym (chain-accepted r m);
       few = omega (arith, count, few);
       states = states;

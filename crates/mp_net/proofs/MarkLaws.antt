@@ -1,5 +1,5 @@
 -- The order of marks, and the edges of heads that ascend.
-use Rattle.std.proofs.Common.{◌≡◌, ℕ, zero, suc, ◌+◌, ◌<◌, List, [], ◌∷◌, Bool, true, false, ◌&&◌, ◌||◌, refl, ap, sym}
+use Rattle.std.proofs.Common.{◌≡◌, ℕ, zero, suc, ◌+◌, ◌<◌, List, [], ◌∷◌, true, false, ◌&&◌, ◌||◌, refl, ap, sym}
 use Rattle.std.proofs.Common.{◌∙◌, subst, map, length, get_or, inl, inr, eqb-true, eq-eqb, arith}
 use Rattle.std.specs.Prelude.{Some, None, if◌then◌else◌, nat_eq, slice_get}
 use Rattle.std.specs.Ordering.{nat_cmp}
@@ -8,7 +8,7 @@ use Rattle.std.specs.declared.cmp.Ordering.TheVariants.{Less}
 use Rattle.std.specs.Cmp.Lexicographic.{slice_cmp}
 use Rattle.std.specs.List.{list_any, cons_option, AllByRecursion}
 use Rattle.std.specs.List.Sorted.{IsStrictlySortedBy}
-use Rattle.std.proofs.lemmas.Bool.{and_parts}
+use Rattle.std.proofs.lemmas.Bool.{false_from_ne_true, and_parts}
 use Rattle.std.proofs.lemmas.Cmp.{nat_list_cmp_total}
 use Rattle.mp_term.specs.Listing.{In}
 use Rattle.mp_term.proofs.ListingLaws.{all_in, irreflexive}
@@ -56,18 +56,13 @@ mark_key-is anything (named n) e = apart 0 2 n [] (sym e) (omega arith)
 mark_key-is anything (entered f k) e = apart 1 2 (f ∷ k ∷ []) [] (sym e) (omega arith)
 mark_key-is anything anything e = refl
 
--- a test that can't be true
-not_true : (b : Bool) → (b ≡ true → ⊥) → b ≡ false
-not_true true h = absurd (h refl)
-not_true false h = refl
-
 -- of two marks in order neither asks for the other
 pub same_mark-less : (g h : Mark) → cmp (mark_key g) (mark_key h) ≡ Less → same_mark g h ≡ false
-same_mark-less g h e = not_true (same_mark g h) (λ p. irreflexive cmp nat_list_cmp_total (mark_key g)
+same_mark-less g h e = false_from_ne_true (same_mark g h) (λ p. irreflexive cmp nat_list_cmp_total (mark_key g)
     (subst (λ k. cmp (mark_key g) (mark_key k) ≡ Less) (sym (same_mark-is g h p)) e))
 
 pub same_mark-greater : (g h : Mark) → cmp (mark_key h) (mark_key g) ≡ Less → same_mark g h ≡ false
-same_mark-greater g h e = not_true (same_mark g h) (λ p. irreflexive cmp nat_list_cmp_total (mark_key h)
+same_mark-greater g h e = false_from_ne_true (same_mark g h) (λ p. irreflexive cmp nat_list_cmp_total (mark_key h)
     (subst (λ k. cmp (mark_key h) (mark_key k) ≡ Less) (same_mark-is g h p) e))
 
 module _ {Y : Type 0} (f : Y → Mark) where
@@ -102,7 +97,7 @@ module _ {Y : Type 0} (f : Y → Mark) where
   edge-none [] q h n = refl
   edge-none (y ∷ ys) q h n =
       let t : same_mark (f y) h ≡ false =
-      not_true (same_mark (f y) h) (λ p. n (inl (ap mark_key (sym (same_mark-is (f y) h p))))) in
+      false_from_ne_true (same_mark (f y) h) (λ p. n (inl (ap mark_key (sym (same_mark-is (f y) h p))))) in
       subst (λ b. None ≡ (if b then Some q else edge_of h (numbered (suc q) (map f ys)))) (sym t)
       (edge-none ys (suc q) h (λ i. n (inr i)))
 
@@ -129,7 +124,7 @@ module _ {Y : Type 0} (f : Y → Mark) where
   none-asked (o ∷ os) ys q h a e = by_rest (λ b. none-asked os ys q h b e) o.rest a
     where
       other : (g : Mark) → In (mark_key g) (map (λ y. mark_key (f y)) ys) → same_mark g h ≡ false
-      other g i = not_true (same_mark g h) (λ p.
+      other g i = false_from_ne_true (same_mark g h) (λ p.
           edge-there ys q h (subst (λ x. same_mark x h ≡ true) (same_mark-is g h p) p)
           (subst (λ x. In (mark_key x) (map (λ y. mark_key (f y)) ys)) (same_mark-is g h p) i) e)
 

@@ -1,10 +1,10 @@
 -- A run through a net takes every rule as far as it goes alone, and a rule alone goes through where its pattern has
 -- the shape.
-use Rattle.std.proofs.Common.{◌≡◌, ℕ, suc, List, [], ◌∷◌, ◌++◌, Bool, true, false, ◌&&◌, ◌||◌, refl, ap}
+use Rattle.std.proofs.Common.{◌≡◌, ℕ, suc, List, [], ◌∷◌, ◌++◌, Bool, true, false, ◌&&◌, refl, ap}
 use Rattle.std.proofs.Common.{sym, ◌∙◌, length, append_assoc, get_or, eq-eqb, eqb-true, arith}
 use Rattle.std.specs.Prelude.{Option, Some, None, if◌then◌else◌, nat_eq, slice_get, option_map, option_and_then}
 use Rattle.std.specs.List.{list_any, cons_option}
-use Rattle.std.proofs.lemmas.Bool.{and_parts}
+use Rattle.std.proofs.lemmas.Bool.{or_parts, and_parts}
 use Rattle.std.proofs.lemmas.Option.{slice_get_within, slice_get-get_or}
 use Rattle.mp_term.specs.Tree.{Tree, symbol, app, Trees, no_trees, more_trees, tree_list}
 use Rattle.mp_pattern.specs.PatternTree.{Pattern, symbol_pattern, app_pattern, wild_pattern, Patterns, no_patterns}
@@ -19,10 +19,6 @@ use Rattle.mp_net.specs.Eaten.{eaten, all_eaten}
 abbrev onto : ℕ → Option (List Mark) → Option Open
 onto r o = option_map (λ m. record { rule = r; rest = m }) o
 
-either_false : (a b : Bool) → (a || b) ≡ false → (a ≡ false) × (b ≡ false)
-either_false true b e = cc
-either_false false b e = (refl, e)
-
 -- rules go on alike by what is alike for each
 going-same : (f g : List Mark → Option (List Mark)) → ((m : List Mark) → f m ≡ g m) → (os : List Open)
     → going f os ≡ going g os
@@ -35,7 +31,7 @@ going-unasked : (h : Mark) (f g : List Mark → Option (List Mark)) → ((m : Li
     → (os : List Open) → list_any (λ o. asks h o.rest) os ≡ false → going f os ≡ going g os
 going-unasked h f g k [] e = refl
 going-unasked h f g k (o ∷ os) e =
-    let c = either_false (asks h o.rest) (list_any (λ o. asks h o.rest) os) e in
+    let c = or_parts (asks h o.rest) (list_any (λ o. asks h o.rest) os) e in
     ap (λ r. cons_option (onto o.rule r) (going f os)) (k o.rest c.0)
     ∙ ap (cons_option (onto o.rule (g o.rest))) (going-unasked h f g k os c.1)
 

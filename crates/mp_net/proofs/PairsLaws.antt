@@ -5,7 +5,7 @@ use Rattle.std.specs.Prelude.{Option, Some, None, if◌then◌else◌, slice_get
 use Rattle.std.specs.Prelude.{Result, Ok, Err, slice_index_or, ◌^◌}
 use Rattle.std.proofs.Math.Nat.{mul-le-mul_left}
 use Rattle.std.specs.List.{AllByRecursion, filter_map, cons_option, take-map}
-use Rattle.std.proofs.lemmas.List.{drop-map, length-take-le, drop-drop, take-append-drop, length-map}
+use Rattle.std.proofs.lemmas.List.{nil_from_length, drop-map, length-take-le, drop-drop, take-append-drop, length-map}
 use Rattle.std.proofs.lemmas.Option.{slice_get-map}
 use Rattle.mp_term.specs.Listing.{In}
 use Rattle.mp_term.specs.Signature.{Sig}
@@ -284,10 +284,6 @@ pub drop-zero : {X : Type 0} (xs : List X) → drop 0 xs ≡ xs
 drop-zero [] = refl
 drop-zero (x ∷ xs) = refl
 
-none-long : {X : Type 0} (xs : List X) → length xs ≡ 0 → xs ≡ []
-none-long [] e = refl
-none-long (x ∷ xs) e = absurd (omega (arith, e))
-
 pub at-start : (sig : Sig) (t : Tree) (rules : List Rule) (ns : List Net) → AreNets 0 (rule_marks rules) ns
     → IsAt sig t rules ns []
 at-start sig t rules ns h = (
@@ -332,7 +328,7 @@ at-end sig t rules ps h =
       ap length (drop-map (λ r. marks r.pattern) i rules),
       length-map (drop i rules) (λ r. marks r.pattern),
     ) in
-    sym (append-nil ps) ∙ ap (λ us. ps ++ pairs_from sig t i us) (sym (none-long (drop i rules) long)) ∙ h.2
+    sym (append-nil ps) ∙ ap (λ us. ps ++ pairs_from sig t i us) (sym (nil_from_length (drop i rules) long)) ∙ h.2
 
 -- ---- what is handed on
 

@@ -1,10 +1,11 @@
 -- What a run reads: each node once at most, and the nodes of each pattern that the tree has the shape of.
 use Rattle.std.proofs.Common.{◌≡◌, ℕ, ◌+◌, ◌≤◌, List, [], ◌∷◌, ◌++◌, Bool, true, false, ◌||◌, refl}
-use Rattle.std.proofs.Common.{ap, sym, ◌∙◌, inl, inr, subst, length, drop, append_assoc, length-append}
+use Rattle.std.proofs.Common.{ap, sym, ◌∙◌, inl, inr, subst, length, append_assoc, length-append}
 use Rattle.std.proofs.Common.{arith}
 use Rattle.std.specs.Prelude.{Option, Some, None, nat_eq, option_map}
 use Rattle.std.specs.List.{list_any, cons_option}
 use Rattle.std.proofs.lemmas.Bool.{and_parts, and_from}
+use Rattle.std.proofs.Math.Seq.{drop-append_seam}
 use Rattle.mp_term.specs.Tree.{Tree, symbol, app, Trees, no_trees, more_trees, tree_list}
 use Rattle.mp_term.specs.Size.{node_count, node_counts}
 use Rattle.mp_pattern.specs.PatternTree.{Wildcard, Pattern, symbol_pattern, app_pattern, wild_pattern, Patterns}
@@ -39,10 +40,6 @@ module _ (turns : List Turn) where
           trace-bound t q,
           all_trace-bound ts (run turns t q),
         )
-
-drop-past : {X : Type 0} (xs ys : List X) → drop (length xs) (xs ++ ys) ≡ ys
-drop-past [] ys = refl
-drop-past (x ∷ xs) ys = drop-past xs ys
 
 -- a rule that goes on is among those that do
 in-going : (f : List Mark → Option (List Mark)) (r : ℕ) (m k : List Mark) (os : List Open)
@@ -86,7 +83,7 @@ read-anything turns w x (app f ts) q vs = at_edge (edge_at turns (entered f (len
       (
         omega (arith, length-append (traces turns ts (Some k)) vs),
         sym
-            (drop-past (traces turns ts (Some k)) vs),
+            (drop-append_seam (traces turns ts (Some k)) vs),
       ),
     )
 
