@@ -1,6 +1,6 @@
 -- Items in the order of their tables, and what comes after one of them.
 use Rattle.std.proofs.Common.{◌≡◌, ◌<◌, List, [], ◌∷◌, Bool, true, false, refl, ap, sym, ◌∙◌, arith, length, drop}
-use Rattle.std.proofs.Common.{subst, inl}
+use Rattle.std.proofs.Common.{subst}
 use Rattle.std.specs.Prelude.{filter, Some, slice_get, if◌then◌else◌}
 use Rattle.std.specs.List.{AllByRecursion}
 use Rattle.std.specs.List.Sorted.{IsStrictlySortedBy}
@@ -8,13 +8,13 @@ use Rattle.std.specs.Ordering.{is_lt}
 use Rattle.std.specs.declared.cmp.Ordering.{Ordering}
 use Rattle.std.specs.declared.cmp.Ordering.TheVariants.{Less, Equal, Greater}
 use Rattle.std.proofs.lemmas.Cmp.{tied_itself, lists_total}
-use Rattle.mp_term.specs.Search.{In}
 use Rattle.mp_term.proofs.SearchLaws.{from_in-filter}
 use Rattle.mp_pattern.specs.Fits.{Table}
 use Rattle.mp_pattern.specs.DerivationOrder.{table_cmp}
 use Rattle.mp_theory.specs.OneList.{Item, item_tables}
 use Rattle.mp_theory.proofs.Tables.{entry_cmp_total}
 use Rattle.mp_theory.proofs.SecondSearch.{ascending-kept}
+use Rattle.mp_search.proofs.NumberLaws.{in-slice_get}
 use Rattle.mp_cursor.specs.Listing.{items_after}
 
 -- two filters in turn, in the other order
@@ -83,16 +83,11 @@ after-after W j (i ∷ is) h =
           ] refl
     ] refl
 
--- the first of a list stands in it
-pub first-in : {X : Type 0} (x : X) (xs : List X) → slice_get xs 0 ≡ Some x → In x xs
-first-in x [] e = cc
-first-in x (y ∷ ys) e = inl (let same : y ≡ x = cc in sym same)
-
 -- after the first of those after W
 pub after-found : (W : Table) (j : Item) (is : List Item) → IsStrictlySortedBy table_cmp (item_tables is)
     → slice_get (items_after W is) 0 ≡ Some j → items_after j.0 is ≡ drop 1 (items_after W is)
 after-found W j is up e =
-    let m = from_in-filter (λ i. is_lt (table_cmp W i.0)) j is (first-in j (items_after W is) e) in
+    let m = from_in-filter (λ i. is_lt (table_cmp W i.0)) j is (in-slice_get (items_after W is) 0 j e) in
     sym (after-after W j is (lt-Less (table_cmp W j.0) m.1))
     ∙ after-first j (items_after W is) (ascending-kept (λ i. is_lt (table_cmp W i.0)) is up) e
 

@@ -2,6 +2,7 @@
 use Rattle.std.proofs.Common.{◌≡◌, ◌<◌, ℕ, Bool, true, false, List, [], length, map, refl, ap, sym, ◌∙◌, subst, arith}
 use Rattle.std.specs.Prelude.{Option, Some, None, IsSome, not, option_map, slice_get}
 use Rattle.std.proofs.lemmas.List.{length-map}
+use Rattle.std.proofs.lemmas.Bool.{not-false}
 use Rattle.mp_term.specs.Search.{In}
 use Rattle.mp_term.specs.Size.{node_count}
 use Rattle.mp_pattern.specs.CondTree.{Cond}
@@ -63,11 +64,7 @@ names-apart x y b h t e =
     cc
 
 pub names-same : (x y : List ℕ) (b : Bool) → b ≡ not (same_name x y) → b ≡ false → x ≡ y
-names-same x y b h f = same_name-is x y (double (same_name x y) (sym f ∙ h))
-  where
-    double : (d : Bool) → false ≡ not d → d ≡ true
-    double true e = refl
-    double false e = cc
+names-same x y b h f = same_name-is x y (not-false (same_name x y) (sym h ∙ f))
 
 -- the items of a rule are those sought under its condition
 pub items-sought : (m : Matched) → IsMatched m → (r : Rule) (o : Option Cond)

@@ -12,6 +12,7 @@ use Rattle.mp_theory.specs.OneList.{Item, item_list}
 use Rattle.mp_search.specs.declared.mode.Mode.{Mode}
 use Rattle.mp_search.specs.declared.mode.Mode.TheVariants.{First, After}
 use Rattle.mp_search.specs.Wanted.{IsStanding, beyond}
+use Rattle.mp_search.proofs.NumberLaws.{in-slice_get}
 use Rattle.mp_cursor.specs.declared.cursor.Cursor.TheInside.{Inside}
 use Rattle.mp_cursor.specs.declared.matched.Matched.{Matched}
 use Rattle.mp_cursor.specs.declared.parts.Parts.{Parts}
@@ -22,7 +23,6 @@ use Rattle.mp_cursor.specs.Listing.{advanced, subject_of}
 use Rattle.mp_cursor.specs.Matched.{IsMatched, all_items, looked_for, sought}
 use Rattle.mp_cursor.specs.Parts.{AreOver, item_of}
 use Rattle.mp_search.specs.Stage.{mode_at}
-use Rattle.mp_cursor.proofs.AfterLaws.{first-in}
 use Rattle.mp_cursor.proofs.LeastLaws.{sought-member, member-sought}
 use Rattle.mp_cursor.proofs.SoughtLaws.{is_least, sought-first, sought-after, item-standing}
 
@@ -74,7 +74,7 @@ module _ (m : Matched) (h : IsMatched m) (r : Rule) (e : m.plan.now.pattern ≡ 
         sym (ap (λ is. slice_get is 0) to_come ∙ f.0),
         sought-after m h r j.0 (sym e) ∙ sym f.1 ∙ sym (ap (drop 1) to_come),
         subst (λ is. In j is) (sym (sought-first m h r i.0 (sym e)))
-            (sought-any mode i.0 i.0 j (first-in j (sought m r.condition mode i.0) f.0)),
+            (sought-any mode i.0 i.0 j (in-slice_get (sought m r.condition mode i.0) 0 j f.0)),
       )
   moved-by stage mode false j q f =
       let none = to_come-at stage mode q ∙ f in

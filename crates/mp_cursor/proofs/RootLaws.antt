@@ -1,7 +1,7 @@
 -- What a pattern that takes a term at the root says of it.
 use Rattle.std.proofs.Common.{◌≡◌, List, [], ◌∷◌, ◌++◌, Bool, true, false, refl, ap, sym, ◌∙◌, ◌⊎◌, inl, inr, ℕ, eq-eqb}
 use Rattle.std.proofs.Common.{subst}
-use Rattle.std.proofs.lemmas.Bool.{and_parts}
+use Rattle.std.proofs.lemmas.Bool.{not-true, and_parts}
 use Rattle.std.specs.Prelude.{Option, Some, None, filter, not, ◌&&◌, ◌||◌, if◌then◌else◌}
 use Rattle.std.specs.Ordering.{is_eq, nat_cmp}
 use Rattle.std.specs.Cmp.{nat_cmp_total}
@@ -83,10 +83,6 @@ module _ (sig : Sig) (s : Subst) where
   kind-alone g k (seq ts) l w = absurd w
   kind-alone g k (bag ts) l w = absurd w
 
-  not_true : (b : Bool) → not b ≡ true → b ≡ false
-  not_true true e = cc
-  not_true false e = refl
-
   -- a child that takes one term takes a list of one
   pub alone-taken : (g : ℕ) (p : Pattern) (l : List Tree) (W : fits.Table) → takes_one sig (Some g) p ≡ true
       → fits.Takes sig s (Some g) p l W → (t : Tree) × (l ≡ t ∷ [])
@@ -95,8 +91,8 @@ module _ (sig : Sig) (s : Subst) where
       (app k (trees (fits.arranged sig (Some k) (fits.joined h.takes))), h.node)
   alone-taken g (app_pattern k ps) l W o (inr h) = (h.term, h.node)
   alone-taken g (wild_pattern dot None) l W o h =
-      (h.0.0, contributed-alone g h.0.0 l (not_true (is_assoc sig g) o) h.0.2)
-  alone-taken g (wild_pattern dot (Some x)) l W o h = dot-alone g h.0.0 l (not_true (is_assoc sig g) o) h.0.2
+      (h.0.0, contributed-alone g h.0.0 l (not-true (is_assoc sig g) o) h.0.2)
+  alone-taken g (wild_pattern dot (Some x)) l W o h = dot-alone g h.0.0 l (not-true (is_assoc sig g) o) h.0.2
   alone-taken g (wild_pattern (kind k) None) l W o h = (h.0.0, h.0.1)
   alone-taken g (wild_pattern (kind k) (Some x)) l W o h = kind-alone g k h.0.0 l h.0.2
   alone-taken g (wild_pattern plus x) l W o h = cc

@@ -3,7 +3,9 @@ use Rattle.std.proofs.Common.{◌≡◌, ◌<◌, ◌≤◌, ◌+◌, ◌-◌, �
 use Rattle.std.proofs.Common.{ap, sym, ◌∙◌, subst, arith, add-one}
 use Rattle.std.specs.Prelude.{slice_set, slice_index_or, slice_get, Some, None}
 use Rattle.std.specs.List.{AllByRecursion}
-use Rattle.std.proofs.lemmas.List.{length-map, take_all}
+use Rattle.std.proofs.lemmas.Option.{slice_get_within, get_or_from_slice_get}
+use Rattle.std.proofs.lemmas.List.{drop_all, length-map, take_all}
+use Rattle.mp_term.proofs.ListLaws.{drop-item}
 
 taken-set : {X Y : Type 0} (f : X → Y) (xs : List X) (i : ℕ) (x : X) → i < length xs
     → map f (take (suc i) (slice_set xs i x)) ≡ map f (take i xs) ++ f x ∷ []
@@ -52,23 +54,15 @@ all-at P (y ∷ xs) (suc i) d h k = all-at P xs i d h.1 (omega (arith, k))
 
 -- the item at a place, and what is left from it on
 pub drop-at : {X : Type 0} (xs : List X) (i : ℕ) (x : X) → slice_get xs i ≡ Some x → drop i xs ≡ x ∷ drop (i + 1) xs
-drop-at {X = X} xs i x e = subst (λ n. drop i xs ≡ x ∷ drop n xs) (sym (add-one i)) (go xs i e)
-  where
-    go : (xs : List X) (i : ℕ) → slice_get xs i ≡ Some x → drop i xs ≡ x ∷ drop (suc i) xs
-    go [] i e = cc
-    go (y ∷ xs) zero e = let same : y ≡ x = cc in ap (λ z. z ∷ xs) same
-    go (y ∷ xs) (suc i) e = go xs i e
-
-pub drop-none : {X : Type 0} (xs : List X) (i : ℕ) → slice_get xs i ≡ None → drop i xs ≡ []
-drop-none [] zero e = refl
-drop-none [] (suc i) e = refl
-drop-none (y ∷ xs) zero e = cc
-drop-none (y ∷ xs) (suc i) e = drop-none xs i e
+drop-at xs i x e = drop-item xs i x (slice_get_within xs i x e) (sym (get_or_from_slice_get xs i x x e))
 
 pub got-within : {X : Type 0} (xs : List X) (i : ℕ) → slice_get xs i ≡ None → length xs ≤ i
 got-within [] i e = omega arith
 got-within (y ∷ xs) zero e = cc
 got-within (y ∷ xs) (suc i) e = omega (arith, got-within xs i e)
+
+pub drop-none : {X : Type 0} (xs : List X) (i : ℕ) → slice_get xs i ≡ None → drop i xs ≡ []
+drop-none xs i e = drop_all i xs (got-within xs i e)
 
 pub same-lengths : {X Y Z : Type 0} (f : X → Z) (g : Y → Z) (xs : List X) (ys : List Y) → map f xs ≡ map g ys
     → length xs ≡ length ys

@@ -26,10 +26,11 @@ use Rattle.mp_search.specs.Wanted.{beyond}
 use Rattle.mp_cursor.specs.declared.matched.Matched.{Matched}
 use Rattle.mp_cursor.specs.Matched.{IsMatched, IsOnward, IsDecided, all_items, looked_for, sought}
 use Rattle.mp_cursor.specs.Listing.{items_after, subject_of}
-use Rattle.mp_cursor.proofs.AfterLaws.{after-first, after-found, kept-after, kept-first, left-first, first-in}
+use Rattle.mp_cursor.proofs.AfterLaws.{after-first, after-found, kept-after, kept-first, left-first}
 use Rattle.mp_cursor.proofs.AfterLaws.{fewer-behind}
 use Rattle.mp_cursor.proofs.FilterLaws.{filter-all, filter-both, kept-pass}
 use Rattle.mp_pattern.proofs.PlanNodes.{plan-nodes}
+use Rattle.mp_search.proofs.NumberLaws.{in-slice_get}
 use Rattle.mp_search.proofs.TableLaws.{subject-normal}
 
 module _ (m : Matched) where
@@ -74,7 +75,7 @@ module _ (m : Matched) where
       → In j (all_items m s) × ((meets m.sig.now c j.1 && beyond mode W j.0) ≡ true)
   found-item c mode W s j e =
       from_in-filter (λ i. meets m.sig.now c i.1 && beyond mode W i.0) j (all_items m s)
-      (first-in j (looked_for m c mode W s) e)
+      (in-slice_get (looked_for m c mode W s) 0 j e)
 
   -- its table is that of an item
   pub item-standing : (j : Item) → In j (all_items m []) → In j.0 (item_tables (all_items m []))
