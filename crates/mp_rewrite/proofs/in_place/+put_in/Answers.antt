@@ -1,4 +1,4 @@
-use Rattle.std.proofs.Common.{◌≡◌, ◌∙◌, ◌+◌, ◌++◌, ap, sym, subst, arith, length, take, drop}
+use Rattle.std.proofs.Common.{◌≡◌, ◌∙◌, ℕ, ◌+◌, ◌++◌, ap, sym, subst, arith, length, take, drop}
 use Rattle.std.specs.List.{remove}
 use Rattle.std.proofs.lemmas.List.Edits.{length-remove}
 use Rattle.mp_term.specs.Tree.{app, trees}
@@ -12,41 +12,31 @@ use Rattle.mp_rewrite.proofs.MarkLaws.{AllKnown, known-get, known-remove}
 use Rattle.mp_rewrite.proofs.PutBack.{IsInside, inside-within, inside-below, inside-normal, inside-ascending}
 use Rattle.mp_rewrite.proofs.PutBack.{inside-result, inside-nodes}
 use Rattle.mp_rewrite.proofs.in_place.+put_in.Goals as goal
+use Rattle.mp_rewrite.proofs.in_place.+put_in.Goals.{In-App}
+
+-- the position leads below an argument
+is_inside : {t : ℕ} (c : In-App t) → IsInside c.args.sig.now (tree c.args.into.term) c.args.position.now c.in-App.op.0
+    c.in-App.terms c.in-Some.index.now c.in-Some.below.now
+is_inside c = record {
+  whole = ap tree c.in-App.is;
+  way = c.in-Some.ensures.cases.0;
+  there = c.requires.there;
+  normal = c.requires.normal;
+}
 
 pub remove-requires : goal.remove-requires
 remove-requires t c =
-    let inside : IsInside c.args.sig.now (tree c.args.into.term) c.args.position.now c.in-App.op.0 c.in-App.terms
-    c.in-Some.index.now c.in-Some.below.now =
-    record {
-      whole = ap tree c.in-App.is;
-      way = c.in-Some.ensures.cases.0;
-      there = c.requires.there;
-      normal = c.requires.normal;
-    } in
+    let inside = is_inside (goal.at.remove-requires t c).In-App in
     inside-within _ _ _ _ _ _ _ inside
 
 pub remove-requires-in-App : goal.remove-requires-in-App
 remove-requires-in-App t c =
-    let inside : IsInside c.args.sig.now (tree c.args.into.term) c.args.position.now c.in-App.op.0 c.in-App.terms
-    c.in-Some.index.now c.in-Some.below.now =
-    record {
-      whole = ap tree c.in-App.is;
-      way = c.in-Some.ensures.cases.0;
-      there = c.requires.there;
-      normal = c.requires.normal;
-    } in
+    let inside = is_inside (goal.at.remove-requires-in-App t c).In-App in
     omega (arith, inside-within _ _ _ _ _ _ _ inside, c.in_ok-all-in-App.ensures.count, c.len.ensures)
 
 pub put_in-requires : goal.put_in-requires
 put_in-requires t c =
-    let inside : IsInside c.args.sig.now (tree c.args.into.term) c.args.position.now c.in-App.op.0 c.in-App.terms
-    c.in-Some.index.now c.in-Some.below.now =
-    record {
-      whole = ap tree c.in-App.is;
-      way = c.in-Some.ensures.cases.0;
-      there = c.requires.there;
-      normal = c.requires.normal;
-    } in
+    let inside = is_inside (goal.at.put_in-requires t c).In-App in
     let a = tree c.remove.result in (
       omega (arith, c.in-Some.ensures.cases.1),
       (
@@ -57,14 +47,7 @@ put_in-requires t c =
 
 pub put_back-requires-clause-within : goal.put_back-requires-clause-within
 put_back-requires-clause-within t c =
-    let inside : IsInside c.args.sig.now (tree c.args.into.term) c.args.position.now c.in-App.op.0 c.in-App.terms
-    c.in-Some.index.now c.in-Some.below.now =
-    record {
-      whole = ap tree c.in-App.is;
-      way = c.in-Some.ensures.cases.0;
-      there = c.requires.there;
-      normal = c.requires.normal;
-    } in
+    let inside = is_inside (goal.at.put_back-requires-clause-within t c).In-App in
     let within = inside-within _ _ _ _ _ _ _ inside in
     omega (
       arith,
@@ -75,14 +58,7 @@ put_back-requires-clause-within t c =
 
 pub put_back-requires-clause-same : goal.put_back-requires-clause-same
 put_back-requires-clause-same t c =
-    let inside : IsInside c.args.sig.now (tree c.args.into.term) c.args.position.now c.in-App.op.0 c.in-App.terms
-    c.in-Some.index.now c.in-Some.below.now =
-    record {
-      whole = ap tree c.in-App.is;
-      way = c.in-Some.ensures.cases.0;
-      there = c.requires.there;
-      normal = c.requires.normal;
-    } in
+    let inside = is_inside (goal.at.put_back-requires-clause-same t c).In-App in
     let within = inside-within _ _ _ _ _ _ _ inside in
     let same : length c.in_ok-all-in-App.all ≡ length c.in-App.terms =
     c.in_ok-all-in-App.ensures.count ∙ c.len.ensures in
@@ -97,26 +73,12 @@ put_back-requires-clause-same t c =
 
 pub put_back-requires-clause-ascending : goal.put_back-requires-clause-ascending
 put_back-requires-clause-ascending t c =
-    let inside : IsInside c.args.sig.now (tree c.args.into.term) c.args.position.now c.in-App.op.0 c.in-App.terms
-    c.in-Some.index.now c.in-Some.below.now =
-    record {
-      whole = ap tree c.in-App.is;
-      way = c.in-Some.ensures.cases.0;
-      there = c.requires.there;
-      normal = c.requires.normal;
-    } in
+    let inside = is_inside (goal.at.put_back-requires-clause-ascending t c).In-App in
     λ comm. ap ascending c.remove.ensures.rest ∙ inside-ascending _ _ _ _ _ _ _ inside comm
 
 pub returns-clause-term : goal.returns-clause-term
 returns-clause-term t c =
-    let inside : IsInside c.args.sig.now (tree c.args.into.term) c.args.position.now c.in-App.op.0 c.in-App.terms
-    c.in-Some.index.now c.in-Some.below.now =
-    record {
-      whole = ap tree c.in-App.is;
-      way = c.in-Some.ensures.cases.0;
-      there = c.requires.there;
-      normal = c.requires.normal;
-    } in
+    let inside = is_inside (goal.at.returns-clause-term t c).In-App in
     let sig = c.args.sig.now in
     let f = c.in-App.op.0 in
     let i = c.in-Some.index.now in
@@ -147,14 +109,7 @@ returns-clause-known t c = λ rules h.
 
 pub returns-clause-nodes : goal.returns-clause-nodes
 returns-clause-nodes t c = λ rest h.
-    let inside : IsInside c.args.sig.now (tree c.args.into.term) c.args.position.now c.in-App.op.0 c.in-App.terms
-    c.in-Some.index.now c.in-Some.below.now =
-    record {
-      whole = ap tree c.in-App.is;
-      way = c.in-Some.ensures.cases.0;
-      there = c.requires.there;
-      normal = c.requires.normal;
-    } in
+    let inside = is_inside (goal.at.returns-clause-nodes t c).In-App in
     let i = c.in-Some.index.now in
     let removed : all_nodes c.remove.new.self ≡ all_nodes (remove c.in-App.terms i) =
     ap all_nodes c.remove.ensures.rest in
