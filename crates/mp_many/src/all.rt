@@ -79,7 +79,7 @@ impl<'a> Many<'a> {
                 found.add(pair)?;
             }
         }
-        found.into_pairs(alloc)
+        Ok(found.into_pairs())
     }
 
     /// The same pairs, with copies of their terms.

@@ -146,7 +146,7 @@ pub(crate) fn accepted<'a>(
         let accepts = code.accepts(walk.leaf());
         add_pairs(alloc, sig, program, table, &walk, accepts, &mut found)?;
     }
-    found.into_pairs(alloc)
+    Ok(found.into_pairs())
 }
 
 /// The pairs of a rule's number and a substitution that the program accepts on the table's subject, each once, in order

@@ -15,7 +15,6 @@ use Rattle.mp_walk.specs.Instrs.{Instr, instr_at}
 use Rattle.mp_walk.specs.Levels.{state_of}
 use Rattle.mp_walk.specs.Trails.{numbered_subst}
 use Rattle.mp_walk.specs.OpenOnes.{opens, AreFrames, IsFrameAt}
-use Rattle.mp_walk.specs.SoundTokens.{path_nodes}
 use Rattle.mp_walk.specs.TokenMachine.{State, begin_state, token_steps, token_ends}
 use Rattle.mp_walk.specs.Walkable.{IsWalkable}
 use Rattle.mp_walk.specs.WalkView.{subject_of, IsFirstTarget}
@@ -54,21 +53,11 @@ begin-there code (Some n) h =
     let i = instr-there code 1 (omega arith) h.1 in
     subst (λ m. IsSome (instr_at code m)) (sym h.0) (subst IsSome (sym i.1) refl)
 
-pub begin-node : (sig : Sig) (code : List Instr) (W : IsWalkable sig code) (o : Option ℕ) → IsFirstTarget code o
-    → IfSome o (λ n. 0 ≡ path_nodes (W.before n))
-begin-node sig code W None h = tt
-begin-node sig code W (Some n) h =
-    subst (λ m. 0 ≡ path_nodes (W.before m)) (sym h.0) (ap path_nodes (sym W.paths.first))
-
 -- the empty path leads to it
 pub begin-first : (sig : Sig) (code : List Instr) (W : IsWalkable sig code) (o : Option ℕ) → IsFirstTarget code o
     → LeadsTo W.before o []
 begin-first sig code W None h = tt
 begin-first sig code W (Some n) h = ap W.before h.0 ∙ W.paths.first
-
-pub if-any : (P : Type 0) (o : Option ℕ) → P → IfSome o (λ n. P)
-if-any P None h = tt
-if-any P (Some n) h = h
 
 -- what is to come from the first instruction on
 pub begin-walk : (sig : Sig) (code : List Instr) (o : Option ℕ) → IsFirstTarget code o → (s : State)

@@ -1,5 +1,5 @@
 -- What holds of a course when a token is left, or when a walk goes on below it.
-use Rattle.std.proofs.Common.{◌≡◌, ◌≤◌, ◌<◌, ◌+◌, ◌*◌, ◌-◌, ℕ, List, [], ◌∷◌, ◌++◌, map, length, Bool, true}
+use Rattle.std.proofs.Common.{◌≡◌, ◌≤◌, ◌<◌, ◌+◌, ◌-◌, ℕ, List, [], ◌∷◌, ◌++◌, map, length, Bool, true}
 use Rattle.std.proofs.Common.{false, ◌&&◌, not, refl, ap, sym, ◌∙◌, subst, arith}
 use Rattle.std.specs.Prelude.{Option, Some, None, IsSome, IfSome, is_none, is_some, slice_get, if◌then◌else◌}
 use Rattle.std.specs.Prelude.{nat_lt}
@@ -14,6 +14,8 @@ use Rattle.mp_subst.specs.Trail.{Trail, length_at, cut}
 use Rattle.mp_subst.proofs.TrailLaws.{cut-whole, item_at}
 use Rattle.mp_table.specs.Table as plain_table
 use Rattle.mp_theory.specs.Frames.{is_done}
+use Rattle.mp_walk.specs.Rooms.{target_room}
+use Rattle.mp_walk.proofs.RoomLaws.{below-room, beside-room}
 use Rattle.mp_walk.specs.declared.frame.Frame.{Frame}
 use Rattle.mp_walk.specs.declared.level.Level.{Level}
 use Rattle.mp_walk.specs.declared.setting.Setting.{Setting}
@@ -25,7 +27,6 @@ use Rattle.mp_walk.specs.Forests.{put_out}
 use Rattle.mp_walk.specs.Instrs.{Instr, instr_at}
 use Rattle.mp_walk.specs.Levels.{read_of, state_of, step_cost, trail_before, HasRoom, AreLevels}
 use Rattle.mp_walk.specs.OpenOnes.{IsPlaceBelow, AreFrames, open_of, opens}
-use Rattle.mp_walk.specs.SoundTokens.{path_nodes}
 use Rattle.std.proofs.lemmas.Bool.Decides.{nat_tests}
 use Rattle.mp_walk.specs.TokenMachine.{Open, State, begin_state, token_steps, token_ends}
 use Rattle.mp_walk.specs.WalkView.{subject_of}
@@ -33,18 +34,16 @@ use Rattle.mp_walk.proofs.ChainLaws.{alike-same, chain-end, chain-more}
 use Rattle.mp_walk.proofs.CodePaths.{down-target, over-target, instr-there}
 use Rattle.mp_walk.proofs.OpenLaws.{opens-is}
 use Rattle.std.proofs.lemmas.List.{length-append}
-use Rattle.mp_pattern.specs.declared.limits.TheConstants.{MAX_PATTERN_NODES}
 use Rattle.mp_walk.specs.CodeForest.{forest_of}
 use Rattle.mp_walk.specs.Course.{after_step, entries_in, read_entries, opens_after, opens_by, IsWayValid}
 use Rattle.mp_walk.specs.CourseView.{last_instr, IsCourse}
 use Rattle.std.proofs.Common.{Vec, Global}
-use Rattle.mp_walk.specs.Levels.{opens_load}
-use Rattle.mp_walk.specs.SoundTokens.{token_nodes, IsSoundToken}
+use Rattle.mp_walk.specs.SoundTokens.{IsSoundToken}
 use Rattle.mp_walk.proofs.CourseLaws.{down-to_come, table_read-more, reads_to_come-more}
 use Rattle.mp_walk.proofs.LevelLaws.{level-kept, levels-kept, levels-more, read-kept, reads-kept}
 use Rattle.mp_walk.proofs.LoadLaws.{load-step}
 use Rattle.mp_walk.proofs.OpenLaws.{opens-append}
-use Rattle.mp_walk.proofs.PathLaws.{path_nodes-append, token-sound, path-narrow}
+use Rattle.mp_walk.proofs.PathLaws.{token-sound}
 use Rattle.mp_walk.proofs.VisitLaws.{total-more, over-visits, down-visits}
 use Rattle.mp_walk.proofs.WalkSame.{walk-same, visits-same}
 use Rattle.mp_walk.specs.CourseVisits.{visits_from, read_visits, visits_behind}
@@ -148,7 +147,7 @@ if-some P (Some x) h = h x refl
 
 -- ---- a token that is left
 
-module _ (x : Setting) (fs : List Frame) (u : Trail) (ls : List Level) (l : Level) (i : Instr)
+module _ {x : Setting} {fs : List Frame} {u : Trail} {ls : List Level} {l : Level} {i : Instr}
     (L : IsLeftBehind x fs u ls l i) where
   pub trail-whole : trail_before u l ≡ u
   trail-whole = ap (λ n. cut n u) (sym L.marks) ∙ cut-whole u
@@ -156,9 +155,9 @@ module _ (x : Setting) (fs : List Frame) (u : Trail) (ls : List Level) (l : Leve
   pub over-place : IsPlaceBelow (length fs) l.place
   over-place = subst (λ n. IsPlaceBelow n l.place) (sym L.places) L.standing.last.place
 
-  pub over-levels : AreLevels x L.standing.setting.walkable.before fs u ls (length fs) (length u.stack)
-  over-levels = subst (λ n. AreLevels x L.standing.setting.walkable.before fs u ls n (length u.stack)) (sym L.places)
-      (subst (AreLevels x L.standing.setting.walkable.before fs u ls l.frames) (sym L.marks) L.standing.levels)
+  pub over-levels : AreLevels x fs u ls (length fs) (length u.stack)
+  over-levels = subst (λ n. AreLevels x fs u ls n (length u.stack)) (sym L.places)
+      (subst (AreLevels x fs u ls l.frames) (sym L.marks) L.standing.levels)
 
   pub over-there : (n : ℕ) → i.over ≡ Some n → IsSome (instr_at x.code.now.instrs n)
   over-there n e =
@@ -166,12 +165,12 @@ module _ (x : Setting) (fs : List Frame) (u : Trail) (ls : List Level) (l : Leve
       let j = instr-there x.code.now.instrs n (omega (arith, f.0)) f.1 in
       rw j.1 refl
 
-  pub over-node : (n : ℕ) → i.over ≡ Some n → l.node ≡ path_nodes (L.standing.setting.walkable.before n)
-  over-node n e =
-      L.standing.last.node ∙ ap path_nodes (sym (L.standing.setting.walkable.paths.over l.instr n i L.instr e))
-
-  pub over-room : HasRoom l.node (opens x.table.now fs l.place) u
-  over-room = subst (HasRoom l.node (opens x.table.now fs l.place)) trail-whole L.standing.last.room
+  pub over-room : HasRoom (target_room x.code.now.instrs i.over) (opens x.table.now fs l.place) u
+  over-room =
+      let room = subst (HasRoom (target_room x.code.now.instrs (Some l.instr)) (opens x.table.now fs l.place))
+      trail-whole L.standing.last.room in
+      let beside = beside-room x.code.now.instrs L.standing.setting.walkable.forward l.instr i L.instr in
+      omega (arith, room, beside)
 
   -- and less is to be read
   pub over-less : visits_from x.sig.now x.code.now.instrs i.over (state_of x.table.now fs l.place u)
@@ -204,8 +203,8 @@ last_instr-more [] l = refl
 last_instr-more (k ∷ []) l = refl
 last_instr-more (k ∷ m ∷ ls) l = last_instr-more (m ∷ ls) l
 
-module _ (x : Setting) (fs : List Frame) (u : Trail) (ls : List Level) (before : Read) (l : Level) (i : Instr)
-    (T : IsTakenBehind x fs u ls before l i) (place : ℕ) (at : l.place ≡ Some place) where
+module _ {x : Setting} {fs : List Frame} {u : Trail} {ls : List Level} {before : Read} {l : Level} {i : Instr}
+    (T : IsTakenBehind x fs u ls before l i) {place : ℕ} (at : l.place ≡ Some place) where
   pub down-place : place < length fs
   down-place = subst (λ n. place < n) (sym T.places) (subst (IsPlaceBelow l.frames) at T.standing.last.place)
 
@@ -215,12 +214,6 @@ module _ (x : Setting) (fs : List Frame) (u : Trail) (ls : List Level) (before :
 
   pub down-sound : IsSoundToken x.sig.now i.token
   down-sound = token-sound x.sig.now x.code.now.instrs T.standing.setting.walkable l.instr i T.instr
-
-  pub down-narrow : l.node + token_nodes i.token ≤ MAX_PATTERN_NODES
-  down-narrow =
-      let h = path-narrow x.sig.now x.code.now.instrs T.standing.setting.walkable l.instr i T.instr in
-      let e = T.standing.last.node in
-      omega (arith, h, e)
 
   module _ (o : Option ℕ) (gs more : List Frame) (made : gs ≡ fs ++ more)
       (is : opens x.table.now gs o ≡ opens_after i.token (opens x.table.now fs (Some place)) (l.next - 1)) where
@@ -232,12 +225,12 @@ module _ (x : Setting) (fs : List Frame) (u : Trail) (ls : List Level) (before :
     longer : l.frames ≤ length gs
     longer = (let e = ap length made in let n = length-append fs more in let k = T.places in omega (arith, e, n, k))
 
-    pub down-levels : AreLevels x T.standing.setting.walkable.before gs u (ls ++ l ∷ []) (length gs) (length u.stack)
+    pub down-levels : AreLevels x gs u (ls ++ l ∷ []) (length gs) (length u.stack)
     down-levels =
-        levels-more x T.standing.setting.walkable.before gs u ls l (length gs) (length u.stack)
-        (levels-kept x T.standing.setting.walkable.before fs gs u u l.frames (length_at l.mark) kept-opens
+        levels-more x gs u ls l (length gs) (length u.stack)
+        (levels-kept x fs gs u u l.frames (length_at l.mark) kept-opens
         (λ n h. refl) ls T.standing.levels)
-        (level-kept x T.standing.setting.walkable.before fs gs u u l.frames (length_at l.mark) kept-opens
+        (level-kept x fs gs u u l.frames (length_at l.mark) kept-opens
         (λ n h. refl) l
         (omega arith) (omega arith) T.standing.last)
         longer T.standing.marks
@@ -248,49 +241,28 @@ module _ (x : Setting) (fs : List Frame) (u : Trail) (ls : List Level) (before :
         let j = instr-there x.code.now.instrs n (omega (arith, f.0)) f.1 in
         rw j.1 refl
 
-    pub down-node : (n : ℕ) → i.down ≡ Some n
-        → l.node + token_nodes i.token ≡ path_nodes (T.standing.setting.walkable.before n)
-    down-node n e =
-        let p = ap path_nodes (T.standing.setting.walkable.paths.down l.instr n i T.instr e) in
-        let a = path_nodes-append (T.standing.setting.walkable.before l.instr) (i.token ∷ []) in
-        let b = T.standing.last.node in
-        omega (arith, p, a, b)
-
     -- the open operations before the token
     opened-before : (f : Frame) → slice_get fs place ≡ Some f
         → opens x.table.now fs (Some place) ≡ open_of x.table.now f ∷ opens x.table.now fs f.outer
     opened-before f e = opens-is x.table.now x.sig.now fs T.standing.frames place f e
 
-    pub down-room : HasRoom (l.node + token_nodes i.token) (opens x.table.now gs o) u
+    pub down-room : HasRoom (target_room x.code.now.instrs i.down) (opens x.table.now gs o) u
     down-room =
         let at_place = item_at fs place down-place in
-        let f = at_place.0 in
-        let load = load-step i.token (open_of x.table.now at_place.0) (opens x.table.now fs at_place.0.outer)
-        (l.next - 1)
-        (down-valid at_place.0 at_place.1) in
-        let room : opens_load (open_of x.table.now at_place.0 ∷ opens x.table.now fs at_place.0.outer) + 3 *
-        (MAX_PATTERN_NODES + 1 - l.node)
-        ≤ (trail_before u l).spare =
-        subst (λ os. opens_load os + 3 * (MAX_PATTERN_NODES + 1 - l.node) ≤ (trail_before u l).spare)
-        (ap (opens x.table.now fs) at ∙ opened-before at_place.0 at_place.1) T.standing.last.room in
-        let spare = subst (λ os. (trail_before u l).spare ≤ u.spare + step_cost i.token os (l.next - 1))
-        (ap (opens x.table.now fs) at ∙ opened-before at_place.0 at_place.1) T.lies.spare in
-        let now : opens x.table.now gs o ≡ opens_by i.token (open_of x.table.now at_place.0)
-        (opens x.table.now fs at_place.0.outer) (l.next - 1) =
+        let f = open_of x.table.now at_place.0 in
+        let outer = opens x.table.now fs at_place.0.outer in
+        let before : opens x.table.now fs l.place ≡ f ∷ outer =
+        ap (opens x.table.now fs) at ∙ opened-before at_place.0 at_place.1 in
+        let load = load-step i.token f outer (l.next - 1) (down-valid at_place.0 at_place.1) in
+        let below = below-room x.code.now.instrs T.standing.setting.walkable.forward l.instr i T.instr in
+        let room = subst (λ os. HasRoom (target_room x.code.now.instrs (Some l.instr)) os (trail_before u l)) before
+        T.standing.last.room in
+        let spare = subst (λ os. (trail_before u l).spare ≤ u.spare + step_cost i.token os (l.next - 1)) before
+        T.lies.spare in
+        let now : opens x.table.now gs o ≡ opens_by i.token f outer (l.next - 1) =
         is ∙ ap (λ os. opens_after i.token os (l.next - 1)) (opened-before at_place.0 at_place.1) in
-        subst (λ os. opens_load os + 3 * (MAX_PATTERN_NODES + 1 - (l.node + token_nodes i.token)) ≤ u.spare) (sym now)
-        (room-after
-        (opens_load (opens_by i.token (open_of x.table.now at_place.0) (opens x.table.now fs at_place.0.outer)
-        (l.next - 1)))
-        (step_cost i.token (open_of x.table.now at_place.0 ∷ opens x.table.now fs at_place.0.outer) (l.next - 1))
-        (opens_load (open_of x.table.now at_place.0 ∷ opens x.table.now fs at_place.0.outer))
-        (token_nodes i.token) l.node (trail_before u l).spare u.spare down-narrow load room spare)
-      where
-        room-after : (after cost had nodes node old new : ℕ) → node + nodes ≤ MAX_PATTERN_NODES
-            → after + cost ≤ had + 3 * nodes
-            → had + 3 * (MAX_PATTERN_NODES + 1 - node) ≤ old → old ≤ new + cost
-            → after + 3 * (MAX_PATTERN_NODES + 1 - (node + nodes)) ≤ new
-        room-after after cost had nodes node old new a b c d = omega (arith, a, b, c, d)
+        subst (λ os. HasRoom (target_room x.code.now.instrs i.down) os u) (sym now)
+        (omega (arith, load, below, room, spare))
 
     -- ---- the tokens that are read
 
@@ -307,10 +279,10 @@ module _ (x : Setting) (fs : List Frame) (u : Trail) (ls : List Level) (before :
     reads-more =
         map-append (read_of x.table.now gs u) ls (l ∷ [])
         ∙ ap (λ rs. rs ++ read_of x.table.now gs u l ∷ [])
-        (reads-kept x T.standing.setting.walkable.before fs gs u u l.frames (length_at l.mark) kept-opens
+        (reads-kept x fs gs u u l.frames (length_at l.mark) kept-opens
         (λ n h. refl) ls T.standing.levels)
         ∙ ap (λ r. old_reads ++ r ∷ [])
-        (read-kept x T.standing.setting.walkable.before fs gs u u l.frames (length_at l.mark) kept-opens (λ n h. refl) l
+        (read-kept x fs gs u u l.frames (length_at l.mark) kept-opens (λ n h. refl) l
         (omega arith) (omega arith) T.standing.last.place)
 
     abbrev present : State
@@ -450,38 +422,34 @@ module _ (x : Setting) (fs : List Frame) (u : Trail) (ls : List Level) (before :
         omega (arith, taken, alike, more)
 
 -- the course below the token
-pub down-course : (x : Setting) (fs : List Frame) (u : Trail) (ls : List Level) (before : Read) (l : Level) (i : Instr)
-    (T : IsTakenBehind x fs u ls before l i) (place : ℕ) (at : l.place ≡ Some place) (o : Option ℕ)
-    (frames : Vec Frame Global) (more : List Frame) (made : frames.items ≡ fs ++ more)
-    (is : opens x.table.now frames.items o ≡ opens_after i.token (opens x.table.now fs (Some place)) (l.next - 1))
-    → IsPlaceBelow (length frames.items) o → AreFrames x.sig.now x.table.now frames.items
-    → (levels : Vec Level Global) → levels.items ≡ ls ++ l ∷ [] → (node : ℕ) → node ≡ l.node + token_nodes i.token
-    → (alloc : Global) → (rooms : Vec CommRoom Global) → AllByRecursion (IsOfTable x.table.now) rooms.items
-    → IsCourse (record {
-      alloc = alloc;
-      set = x;
-      trail = u;
-      frames = frames;
-      levels = levels;
-      rooms = rooms;
-      place = o;
-      node = node;
-      target = i.down;
-    })
-down-course x fs u ls before l i T place at o frames more made is below are levels ks node e alloc rooms R = record {
-  setting = T.standing.setting;
-  frames = are;
-  place = below;
-  trail = T.standing.trail;
-  levels = subst (λ ms. AreLevels x T.standing.setting.walkable.before frames.items u ms (length frames.items)
-      (length u.stack)) (sym ks)
-      (down-levels x fs u ls before l i T place at o frames.items more made is);
-  rooms = R;
-  there = if-some _ i.down (down-there x fs u ls before l i T place at o frames.items more made is);
-  node = if-some _ i.down (λ n h. e ∙ down-node x fs u ls before l i T place at o frames.items more made is n h);
-  room = if-some _ i.down (λ n h. subst (λ m. HasRoom m (opens x.table.now frames.items o) u) (sym e)
-      (down-room x fs u ls before l i T place at o frames.items more made is));
-  chained = subst (λ ms. AreChained x T.standing.setting.walkable.before frames.items u ms
-      (LeadsTo T.standing.setting.walkable.before i.down) (state_of x.table.now frames.items o u)) (sym ks)
-      (down-chained x fs u ls before l i T place at o frames.items more made is);
-}
+module _ {x : Setting} {fs : List Frame} {u : Trail} {ls : List Level} {before : Read} {l : Level} {i : Instr}
+    (T : IsTakenBehind x fs u ls before l i) {place : ℕ} (at : l.place ≡ Some place) where
+  pub down-course : (o : Option ℕ) (frames : Vec Frame Global) (more : List Frame) (made : frames.items ≡ fs ++ more)
+      (is : opens x.table.now frames.items o ≡ opens_after i.token (opens x.table.now fs (Some place)) (l.next - 1))
+      → IsPlaceBelow (length frames.items) o → AreFrames x.sig.now x.table.now frames.items
+      → (levels : Vec Level Global) → levels.items ≡ ls ++ l ∷ [] → (alloc : Global)
+      → (rooms : Vec CommRoom Global) → AllByRecursion (IsOfTable x.table.now) rooms.items
+      → IsCourse (record {
+        alloc = alloc;
+        set = x;
+        trail = u;
+        frames = frames;
+        levels = levels;
+        rooms = rooms;
+        place = o;
+        target = i.down;
+      })
+  down-course o frames more made is below are levels ks alloc rooms R = record {
+    setting = T.standing.setting;
+    frames = are;
+    place = below;
+    trail = T.standing.trail;
+    levels = subst (λ ms. AreLevels x frames.items u ms (length frames.items) (length u.stack)) (sym ks)
+        (down-levels T at o frames.items more made is);
+    rooms = R;
+    there = if-some _ i.down (down-there T at o frames.items more made is);
+    room = down-room T at o frames.items more made is;
+    chained = subst (λ ms. AreChained x T.standing.setting.walkable.before frames.items u ms
+        (LeadsTo T.standing.setting.walkable.before i.down) (state_of x.table.now frames.items o u)) (sym ks)
+        (down-chained T at o frames.items more made is);
+  }

@@ -31,7 +31,6 @@ use Rattle.mp_walk.specs.Instrs.{Instr, instr_at}
 use Rattle.mp_walk.specs.Levels.{AreLevels, HasSearchIn, IsLevel, innermost_left, read_of}
 use Rattle.mp_walk.specs.OpenOnes.{opens}
 use Rattle.mp_walk.specs.TokenMachine.{Open}
-use Rattle.mp_walk.specs.Walkable.{Path}
 use Rattle.mp_walk.specs.WalkView.{nothing, ReadsAs}
 use Rattle.mp_walk.specs.Ways.{front_entry}
 use Rattle.mp_walk.proofs.LevelLaws.{first-below}
@@ -189,15 +188,15 @@ module _ (code : List Instr) (read : Level → Read) where
       omega (arith, s, more, most, h)
 
 -- a level among others, and its places
-pub level-at : (x : Setting) (before : ℕ → Path) (fs : List Frame) (u : Trail) (ls : List Level) (places marks : ℕ)
-    → AreLevels x before fs u ls places marks → (n : ℕ) (l : Level) → slice_get ls n ≡ Some l
-    → IsLevel x before fs u l × (l.frames ≤ places)
-level-at x before fs u [] places marks h n l e = cc
-level-at x before fs u (k ∷ ls) places marks h zero l e =
+pub level-at : (x : Setting) (fs : List Frame) (u : Trail) (ls : List Level) (places marks : ℕ)
+    → AreLevels x fs u ls places marks → (n : ℕ) (l : Level) → slice_get ls n ≡ Some l
+    → IsLevel x fs u l × (l.frames ≤ places)
+level-at x fs u [] places marks h n l e = cc
+level-at x fs u (k ∷ ls) places marks h zero l e =
     let same : k ≡ l = (let z : Some k ≡ Some l = e in cc) in
-    let most = (first-below x before fs u ls places marks h.3).0 in
-    subst (λ j. IsLevel x before fs u j × (j.frames ≤ places)) same (h.0, omega (arith, h.1, most))
-level-at x before fs u (k ∷ ls) places marks h (suc n) l e = level-at x before fs u ls places marks h.3 n l e
+    let most = (first-below x fs u ls places marks h.3).0 in
+    subst (λ j. IsLevel x fs u j × (j.frames ≤ places)) same (h.0, omega (arith, h.1, most))
+level-at x fs u (k ∷ ls) places marks h (suc n) l e = level-at x fs u ls places marks h.3 n l e
 
 -- the entries of a token whose instruction is there
 pub entries-held : (code : List Instr) (l : Read) (i : Instr) → instr_at code l.instr ≡ Some i

@@ -5,6 +5,7 @@ use Rattle.std.proofs.Common.{sym, ◌∙◌, subst, arith}
 use Rattle.std.specs.Prelude.{Some, None, Result, Ok, Err, IfOk}
 use Rattle.mp_term.specs.declared.memory.Memory.{Memory}
 use Rattle.mp_pattern.specs.Fits.{Table}
+use Rattle.mp_subst.specs.declared.trail.Mark.{Mark}
 use Rattle.mp_subst.specs.Trail.{Trail, length_at, cut}
 use Rattle.mp_subst.proofs.TrailLaws.{cut-whole}
 use Rattle.mp_walk.specs.declared.course.Course.{Course}
@@ -31,154 +32,164 @@ use Rattle.mp_walk.proofs.ReadingLaws.{none-search, lies-step}
 use Rattle.mp_walk.proofs.StandingLaws.{sound, constants, spare, taken, behind_to_come, kept-to_come, kept-reads}
 use Rattle.mp_walk.proofs.StepLaws.{step-none, step-taken}
 
--- what each token makes less the one that was read does
-pub fewer_by_result : (r : Result Turn Memory) (x : Setting) (fs : List Frame) (v : Trail) (ls : List Level) (b : Read)
-    (m : Level) (i : Instr) (visits many : ℕ) → IsTakenBehind x fs v ls b m i
-    → visits_behind x.sig.now x.code.now.instrs (map (read_of x.table.now fs v) ls) b ≡ many
-    → IfOk r (λ turn. (before : Read) → IsTakenBehind x fs v ls before m i
-    → IsFewer visits (visits_behind x.sig.now x.code.now.instrs (map (read_of x.table.now fs v) ls) before) turn)
-    → IfOk r (IsFewer visits many)
-fewer_by_result (Ok turn) x fs v ls b m i visits many h e g = subst (λ n. IsFewer visits n turn) e (g b h)
-fewer_by_result (Err w) x fs v ls b m i visits many h e g = tt
+module _ {x : Setting} {fs : List Frame} {v : Trail} {ls : List Level} {b : Read} {m : Level} {i : Instr}
+    (h : IsTakenBehind x fs v ls b m i) where
+  -- what each token makes less the one that was read does
+  pub fewer_by_result : (r : Result Turn Memory) (visits many : ℕ)
+      → visits_behind x.sig.now x.code.now.instrs (map (read_of x.table.now fs v) ls) b ≡ many
+      → IfOk r (λ turn. (before : Read) → IsTakenBehind x fs v ls before m i
+      → IsFewer visits (visits_behind x.sig.now x.code.now.instrs (map (read_of x.table.now fs v) ls) before) turn)
+      → IfOk r (IsFewer visits many)
+  fewer_by_result (Ok turn) visits many e g = subst (λ n. IsFewer visits n turn) e (g b h)
+  fewer_by_result (Err w) visits many e g = tt
 
--- what holds of each token holds of the one that was read
-pub by_result : (r : Result Turn Memory) (x : Setting) (fs : List Frame) (v : Trail) (ls : List Level) (b : Read)
-    (m : Level) (i : Instr) (d : Course) (is : List (ℕ × Table)) → IsTakenBehind x fs v ls b m i
-    → behind_to_come x fs v ls b ≡ is
-    → IfOk r (λ turn. (before : Read) → IsTakenBehind x fs v ls before m i
-    → IsBroughtOn (behind_to_come x fs v ls before) turn d)
-    → IfOk r (λ turn. IsBroughtOn is turn d)
-by_result (Ok turn) x fs v ls b m i d is h e g = subst (λ js. IsBroughtOn js turn d) e (g b h)
-by_result (Err w) x fs v ls b m i d is h e g = tt
+  -- what holds of each token holds of the one that was read
+  pub by_result : (r : Result Turn Memory) (d : Course) (is : List (ℕ × Table)) → behind_to_come x fs v ls b ≡ is
+      → IfOk r (λ turn. (before : Read) → IsTakenBehind x fs v ls before m i
+      → IsBroughtOn (behind_to_come x fs v ls before) turn d)
+      → IfOk r (λ turn. IsBroughtOn is turn d)
+  by_result (Ok turn) d is e g = subst (λ js. IsBroughtOn js turn d) e (g b h)
+  by_result (Err w) d is e g = tt
 
-module _ (c : Course) (C : IsCourse c) (n : ℕ) (e : c.target ≡ Some n) (l : Level) (instr : l.instr ≡ n)
-    (place : l.place ≡ c.place) (mark : length_at l.mark ≡ length c.trail.stack) (node : l.node ≡ c.node)
-    (frames : l.frames ≡ length c.frames.items) (next : l.next ≡ 0) (search : l.search ≡ None) (i : Instr)
-    (held : instr_at c.set.code.now.instrs n ≡ Some i) where
+-- the token of an instruction of which nothing is read yet, at the place of the course
+abbrev pub new_level : Course → ℕ → Mark → Level
+new_level c n mark = record {
+  instr = n;
+  place = c.place;
+  frames = length c.frames.items;
+  mark = mark;
+  next = 0;
+  search = None;
+}
+
+-- the instruction that is to be tried is there, and an operation is open
+pub record IsFirst (c : Course) (n : ℕ) (mark : Mark) (i : Instr) (f : Open) (gs : List Open) : Type 0 where
+  pub course : IsCourse c
+  pub target : c.target ≡ Some n
+  pub marks : length_at mark ≡ length c.trail.stack
+  pub held : instr_at c.set.code.now.instrs n ≡ Some i
+  pub is : opens c.set.table.now c.frames.items c.place ≡ f ∷ gs
+
+-- its first way is taken
+pub record IsFirstTaken (c : Course) (n : ℕ) (mark : Mark) (i : Instr) (f : Open) (gs : List Open) (way : ℕ)
+    (v : Trail) (m : Level) : Type 0 where
+  pub single : is_comm_token i.token ≡ false
+  pub lies : LiesOver c.set.table.now (way_cost i.token way) c.trail v
+  pub valid : IsWayValid i.token f way
+  pub first : IsFirstWay c.set.sig.now f gs (numbered_subst c.set.table.now c.trail.stack) i.token 0 way (
+    entries_by i.token f way [],
+    record { open_ones = opens_by i.token f gs way; trail = numbered_subst c.set.table.now v.stack },
+  )
+  pub one : AreOfOneToken (new_level c n mark) m
+  pub more : m.next ≡ suc way
+  pub none : m.search ≡ None
+
+module _ {c : Course} {n : ℕ} {mark : Mark} {i : Instr} {f : Open} {gs : List Open} (h : IsFirst c n mark i f gs) where
+  abbrev l : Level
+  l = new_level c n mark
+
   standing : StandsBehind c.set c.frames.items c.trail c.levels.items l
-  standing = new-standing c C n e l instr place mark node frames next search
-
-  held-there : instr_at c.set.code.now.instrs l.instr ≡ Some i
-  held-there = ap (instr_at c.set.code.now.instrs) instr ∙ held
+  standing = new-standing c h.course n h.target l refl refl h.marks refl refl refl
 
   whole : trail_before c.trail l ≡ c.trail
-  whole = ap (λ m. cut m c.trail) mark ∙ cut-whole c.trail
+  whole = ap (λ m. cut m c.trail) h.marks ∙ cut-whole c.trail
 
   all : take l.frames c.frames.items ≡ c.frames.items
-  all = ap (λ m. take m c.frames.items) frames ∙ take-length c.frames.items
+  all = take-length c.frames.items
 
   pub first-sound : IsSoundToken c.set.sig.now i.token
-  first-sound = sound c.set c.frames.items c.trail c.levels.items l standing i held-there
+  first-sound = sound c.set c.frames.items c.trail c.levels.items l standing i h.held
 
   pub first-held : HoldsDefault c.set.table.now (shape_of i.token)
   first-held = default-held c.set.table.now i.token
-      (constants c.set c.frames.items c.trail c.levels.items l standing i held-there)
+      (constants c.set c.frames.items c.trail c.levels.items l standing i h.held)
 
-  pub first-spare : (f : Open) (gs : List Open) → opens c.set.table.now c.frames.items c.place ≡ f ∷ gs
-      → length f.left + 3 ≤ c.trail.spare
-  first-spare f gs is = subst (λ (u : Trail). length f.left + 3 ≤ u.spare) whole
-      (spare c.set c.frames.items c.trail c.levels.items l standing i held-there f gs
-      (ap (λ fs. opens c.set.table.now fs l.place) all ∙ ap (opens c.set.table.now c.frames.items) place ∙ is))
+  pub first-spare : length f.left + 3 ≤ c.trail.spare
+  first-spare = subst (λ (u : Trail). length f.left + 3 ≤ u.spare) whole
+      (spare c.set c.frames.items c.trail c.levels.items l standing i h.held f gs
+      (ap (λ fs. opens c.set.table.now fs l.place) all ∙ h.is))
 
-  module _ (f : Open) (gs : List Open) (is : opens c.set.table.now c.frames.items c.place ≡ f ∷ gs) where
-    -- it has no way
-    pub first-none : HasNoWay c.set.sig.now f gs (numbered_subst c.set.table.now c.trail.stack) i.token 0
-        → steps_left c.set.sig.now i.token (unread n (course_of c).present) ≡ []
-    first-none h = step-none c.set.sig.now i.token (unread n (course_of c).present) f gs is refl h
+  -- it has no way
+  pub first-none : HasNoWay c.set.sig.now f gs (numbered_subst c.set.table.now c.trail.stack) i.token 0
+      → steps_left c.set.sig.now i.token (unread n (course_of c).present) ≡ []
+  first-none none = step-none c.set.sig.now i.token (unread n (course_of c).present) f gs h.is refl none
 
-    -- its first way is taken
-    module _ (single : is_comm_token i.token ≡ false) (way : ℕ) (v : Trail)
-        (lies : LiesOver c.set.table.now (way_cost i.token way) c.trail v) (valid : IsWayValid i.token f way)
-        (h : IsFirstWay c.set.sig.now f gs (numbered_subst c.set.table.now c.trail.stack) i.token 0 way (
+  module _ {way : ℕ} {v : Trail} {m : Level} (k : IsFirstTaken c n mark i f gs way v m) where
+    same : cut (length_at l.mark) v ≡ trail_before c.trail l
+    same = ap (λ o. cut o v) h.marks ∙ k.lies.cut ∙ sym whole
+
+    at-way : m.next - 1 ≡ way
+    at-way = omega (arith, k.more)
+
+    read-same : read_of c.set.table.now (take l.frames c.frames.items) c.trail l
+        ≡ read_of c.set.table.now c.frames.items c.trail l
+    read-same = ap (λ fs. read_of c.set.table.now fs c.trail l) all
+
+    opens-same : opens c.set.table.now (take l.frames c.frames.items) l.place ≡ f ∷ gs
+    opens-same = ap (λ fs. opens c.set.table.now fs l.place) all ∙ h.is
+
+    state-same : state_of c.set.table.now (take l.frames c.frames.items) m.place (trail_before v m)
+        ≡ state_of c.set.table.now (take l.frames c.frames.items) l.place (trail_before c.trail l)
+    state-same =
+        ap (λ o. state_of c.set.table.now (take l.frames c.frames.items) o (trail_before v m)) k.one.place
+        ∙ ap (λ o. state_of c.set.table.now (take l.frames c.frames.items) l.place (cut (length_at o) v)) k.one.mark
+        ∙ ap (state_of c.set.table.now (take l.frames c.frames.items) l.place) same
+
+    step : IsStepTaken c.set.sig.now i.token
+        (read_of c.set.table.now (take l.frames c.frames.items) c.trail l)
+        (read_of c.set.table.now (take l.frames c.frames.items) v m) (numbered_subst c.set.table.now v.stack)
+    step = step-taken c.set.sig.now i.token
+        (read_of c.set.table.now (take l.frames c.frames.items) c.trail l)
+        (read_of c.set.table.now (take l.frames c.frames.items) v m) f gs way
+        (numbered_subst c.set.table.now v.stack) opens-same state-same
+        refl (ap (λ o. below_ahead o (numbered_subst c.set.table.now (trail_before v m).stack)) k.none)
+        (ap below_table k.none) k.more
+        (subst (λ (u : Trail). IsFirstWay c.set.sig.now f gs (numbered_subst c.set.table.now u.stack) i.token 0 way (
           entries_by i.token f way [],
-          record {
-            open_ones = opens_by i.token f gs way;
-            trail = numbered_subst c.set.table.now v.stack;
-          },
-        ))
-        (m : Level) (one : AreOfOneToken l m) (more : m.next ≡ suc way) (none : m.search ≡ None) where
-      same : cut (length_at l.mark) v ≡ trail_before c.trail l
-      same = ap (λ k. cut k v) mark ∙ lies.cut ∙ sym whole
+          record { open_ones = opens_by i.token f gs way; trail = numbered_subst c.set.table.now v.stack },
+        )) (sym whole) k.first)
 
-      at-way : m.next - 1 ≡ way
-      at-way = omega (arith, more)
+    pub first-taken : IsTakenBehind c.set c.frames.items v c.levels.items
+        (read_of c.set.table.now c.frames.items c.trail (new_level c n mark)) m i
+    first-taken =
+        let t = c.set.table.now in
+        let front = take l.frames c.frames.items in
+        let os = opens t front l.place in
+        let over : LiesOver t (step_cost i.token os (m.next - 1)) (trail_before c.trail l) v =
+        subst (λ (u : Trail). LiesOver t (step_cost i.token os (m.next - 1)) u v) (sym whole)
+        (subst (λ o. LiesOver t (step_cost i.token os o) c.trail v) (sym at-way)
+        (lies-step t i.token os way c.trail v true k.lies)) in
+        let right : (g : Open) (hs : List Open) → os ≡ g ∷ hs → IsWayValid i.token g (m.next - 1) =
+        λ g hs e. subst (IsWayValid i.token g) (sym at-way) (subst (λ o. IsWayValid i.token o way)
+        (heads f g gs hs (sym opens-same ∙ e)) k.valid) in
+        let found : HasSearch t i.token os (trail_before c.trail l) m.search =
+        none-search t i.token os (trail_before c.trail l) m.search k.single k.none in
+        let at : IsAtWay m.next m.search = subst (IsAtWay m.next) (sym k.none) tt in
+        subst (λ r. IsTakenBehind c.set c.frames.items v c.levels.items r m i) read-same
+        (subst (λ fs. IsTakenBehind c.set fs v c.levels.items (read_of t front c.trail l) m i) all
+        (taken c.set c.frames.items c.trail c.levels.items l standing i h.held v m k.one over step right found at))
+      where
+        heads : (f g : Open) (fs gs : List Open) → f ∷ fs ≡ g ∷ gs → f ≡ g
+        heads f g fs gs e = cc
 
-      read-same : read_of c.set.table.now (take l.frames c.frames.items) c.trail l
-          ≡ read_of c.set.table.now c.frames.items c.trail l
-      read-same = ap (λ fs. read_of c.set.table.now fs c.trail l) all
+    -- what is to come of it, and before it, is what is to come
+    pub first-to_come : behind_to_come c.set c.frames.items v c.levels.items
+        (read_of c.set.table.now c.frames.items c.trail (new_level c n mark)) ≡ course_to_come c
+    first-to_come =
+        sym (ap (λ fs. behind_to_come c.set fs v c.levels.items (read_of c.set.table.now c.frames.items c.trail l))
+        all)
+        ∙ kept-to_come c.set c.frames.items c.trail c.levels.items l standing v same
+        (read_of c.set.table.now c.frames.items c.trail l)
+        ∙ sym (last-new c h.course n h.target l refl refl h.marks refl refl)
 
-      opens-same : opens c.set.table.now (take l.frames c.frames.items) l.place ≡ f ∷ gs
-      opens-same = ap (λ fs. opens c.set.table.now fs l.place) all
-          ∙ ap (opens c.set.table.now c.frames.items) place ∙ is
-
-      state-same : state_of c.set.table.now (take l.frames c.frames.items) m.place (trail_before v m)
-          ≡ state_of c.set.table.now (take l.frames c.frames.items) l.place (trail_before c.trail l)
-      state-same =
-          ap (λ o. state_of c.set.table.now (take l.frames c.frames.items) o (trail_before v m)) one.place
-          ∙ ap (λ k. state_of c.set.table.now (take l.frames c.frames.items) l.place (cut (length_at k) v)) one.mark
-          ∙ ap (state_of c.set.table.now (take l.frames c.frames.items) l.place) same
-
-      step : IsStepTaken c.set.sig.now i.token
-          (read_of c.set.table.now (take l.frames c.frames.items) c.trail l)
-          (read_of c.set.table.now (take l.frames c.frames.items) v m) (numbered_subst c.set.table.now v.stack)
-      step = step-taken c.set.sig.now i.token
-          (read_of c.set.table.now (take l.frames c.frames.items) c.trail l)
-          (read_of c.set.table.now (take l.frames c.frames.items) v m) f gs way
-          (numbered_subst c.set.table.now v.stack) opens-same state-same
-          (ap (λ o. below_ahead o (numbered_subst c.set.table.now (trail_before c.trail l).stack)) search)
-          (ap (λ o. below_ahead o (numbered_subst c.set.table.now (trail_before v m).stack)) none)
-          (ap below_table none) more
-          (subst (λ k. IsFirstWay c.set.sig.now f gs (numbered_subst c.set.table.now (trail_before c.trail l).stack)
-          i.token k way (
-            entries_by i.token f way [],
-            record { open_ones = opens_by i.token f gs way; trail = numbered_subst c.set.table.now v.stack },
-          )) (sym next)
-          (subst (λ (u : Trail). IsFirstWay c.set.sig.now f gs (numbered_subst c.set.table.now u.stack) i.token 0 way (
-            entries_by i.token f way [],
-            record { open_ones = opens_by i.token f gs way; trail = numbered_subst c.set.table.now v.stack },
-          )) (sym whole) h))
-
-      pub first-taken : IsTakenBehind c.set c.frames.items v c.levels.items
-          (read_of c.set.table.now c.frames.items c.trail l) m i
-      first-taken =
-          let t = c.set.table.now in
-          let front = take l.frames c.frames.items in
-          let os = opens t front l.place in
-          let over : LiesOver t (step_cost i.token os (m.next - 1)) (trail_before c.trail l) v =
-          subst (λ (u : Trail). LiesOver t (step_cost i.token os (m.next - 1)) u v) (sym whole)
-          (subst (λ k. LiesOver t (step_cost i.token os k) c.trail v) (sym at-way)
-          (lies-step t i.token os way c.trail v true lies)) in
-          let right : (g : Open) (hs : List Open) → os ≡ g ∷ hs → IsWayValid i.token g (m.next - 1) =
-          λ g hs k. subst (IsWayValid i.token g) (sym at-way) (subst (λ o. IsWayValid i.token o way)
-          (heads f g gs hs (sym opens-same ∙ k)) valid) in
-          let found : HasSearch t i.token os (trail_before c.trail l) m.search =
-          none-search t i.token os (trail_before c.trail l) m.search single none in
-          let at : IsAtWay m.next m.search = subst (IsAtWay m.next) (sym none) tt in
-          subst (λ r. IsTakenBehind c.set c.frames.items v c.levels.items r m i) read-same
-          (subst (λ fs. IsTakenBehind c.set fs v c.levels.items (read_of t front c.trail l) m i) all
-          (taken c.set c.frames.items c.trail c.levels.items l standing i held-there v m one over step right found at))
-        where
-          heads : (f g : Open) (fs gs : List Open) → f ∷ fs ≡ g ∷ gs → f ≡ g
-          heads f g fs gs e = cc
-
-      -- what is to come of it, and before it, is what is to come
-      pub first-to_come : behind_to_come c.set c.frames.items v c.levels.items
-          (read_of c.set.table.now c.frames.items c.trail l) ≡ course_to_come c
-      first-to_come =
-          sym (ap (λ fs. behind_to_come c.set fs v c.levels.items (read_of c.set.table.now c.frames.items c.trail l))
-          all)
-          ∙ kept-to_come c.set c.frames.items c.trail c.levels.items l standing v same
-          (read_of c.set.table.now c.frames.items c.trail l)
-          ∙ sym (last-new c C n e l instr place mark next search)
-
-      -- and as much is to be read
-      pub first-visits : visits_behind c.set.sig.now c.set.code.now.instrs
-          (map (read_of c.set.table.now c.frames.items v) c.levels.items)
-          (read_of c.set.table.now c.frames.items c.trail l) ≡ course_visits c
-      first-visits =
-          let r = read_of c.set.table.now c.frames.items c.trail l in
-          sym (ap (λ fs. visits_behind c.set.sig.now c.set.code.now.instrs
-          (map (read_of c.set.table.now fs v) c.levels.items) r) all)
-          ∙ ap (λ rs. visits_behind c.set.sig.now c.set.code.now.instrs rs r)
-          (kept-reads c.set c.frames.items c.trail c.levels.items l standing v same)
-          ∙ sym (visits-new c C n e l instr place mark next search)
+    -- and as much is to be read
+    pub first-visits : visits_behind c.set.sig.now c.set.code.now.instrs
+        (map (read_of c.set.table.now c.frames.items v) c.levels.items)
+        (read_of c.set.table.now c.frames.items c.trail (new_level c n mark)) ≡ course_visits c
+    first-visits =
+        let r = read_of c.set.table.now c.frames.items c.trail l in
+        sym (ap (λ fs. visits_behind c.set.sig.now c.set.code.now.instrs
+        (map (read_of c.set.table.now fs v) c.levels.items) r) all)
+        ∙ ap (λ rs. visits_behind c.set.sig.now c.set.code.now.instrs rs r)
+        (kept-reads c.set c.frames.items c.trail c.levels.items l standing v same)
+        ∙ sym (visits-new c h.course n h.target l refl refl h.marks refl refl)

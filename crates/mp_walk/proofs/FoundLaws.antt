@@ -1,16 +1,16 @@
 -- The order of what is found: that what rules admit is their all-list in it.
-use Rattle.std.proofs.Common.{◌≡◌, ◌≤◌, ◌<◌, ℕ, zero, suc, length, false, List, [], ◌∷◌, ◌++◌, ◌+◌, map}
+use Rattle.std.proofs.Common.{◌≡◌, ◌≤◌, ◌<◌, ℕ, zero, suc, length, false, List, [], ◌∷◌, ◌++◌, map}
 use Rattle.std.proofs.Common.{drop, refl, ap, ap₂, sym, true, ◌∙◌}
 use Rattle.std.proofs.Common.{inl, inr, subst, arith}
 use Rattle.std.specs.Prelude.{◌↔◌, Contains, Some}
 use Rattle.std.specs.Prelude.{slice_get}
 use Rattle.std.specs.FinMap.{slice_cmp-IsAntisymmetric}
-use Rattle.std.specs.List.{AllByRecursion}
-use Rattle.std.specs.List.Sorted.{IsStrictlySortedBy}
-use Rattle.std.specs.Ordering.{is_ne, nat_cmp, ordering_then}
+use Rattle.std.specs.List.{dedup, AllByRecursion}
+use Rattle.std.specs.List.Sorted.{IsPermutation, IsSorted, IsStrictlySortedBy}
+use Rattle.std.specs.Ordering.{eq_by_cmp, is_ne, nat_cmp, ordering_then}
 use Rattle.std.specs.declared.cmp.Ordering.{Ordering}
 use Rattle.std.specs.declared.cmp.Ordering.TheVariants.{Less, Equal, Greater}
-use Rattle.std.proofs.lemmas.List.{length-map, drop_all}
+use Rattle.std.proofs.lemmas.List.{length-map, drop_all, map-id}
 use Rattle.std.proofs.lemmas.Cmp.{lists_total, nat_cmp_total, nat_list_cmp_total, tied_itself}
 use Rattle.mp_term.specs.Listing.{In, IsListing}
 use Rattle.mp_term.specs.OrderLaws.{both_equal, nat_same, nats_same}
@@ -18,6 +18,7 @@ use Rattle.mp_term.specs.Signature.{Sig}
 use Rattle.mp_term.specs.Tree.{Tree}
 use Rattle.mp_term.proofs.ListingLaws.{contains-from_in, in-from_contains}
 use Rattle.mp_term.proofs.SearchLaws.{all-from_in, from_in-append, in-left, in-right}
+use Rattle.mp_pattern.proofs.Distinct.{IsListing-dedup}
 use Rattle.mp_pattern.specs.Admission.{Rule}
 use Rattle.mp_pattern.specs.Lists.{IsAllList, Pair, PairAdmitted, pair_cmp, subst_cmp}
 use Rattle.mp_pattern.specs.Value.{Subst}
@@ -25,6 +26,7 @@ use Rattle.mp_pattern.specs.Variables.{variables}
 use Rattle.mp_subst.proofs.Equality.{equal-subst_cmp}
 use Rattle.mp_table.specs.Table as tables
 use Rattle.mp_walk.specs.Found.{found_cmp, names_cmp, names_of}
+use Rattle.mp_walk.specs.FoundOrder.{found_cmp_total}
 use Rattle.mp_walk.specs.RankedView.{kept_binding, kept_name, ranked_pair}
 use Rattle.mp_walk.specs.declared.ranked.Kept.{Kept}
 
@@ -156,6 +158,15 @@ module _ (sig : Sig) (rules : List Rule) (t : Tree) where
   }
 
 -- ---- lists of pairs
+
+-- pairs that are sorted, each once, are in order
+pub listing-dedup : (ps qs : List Pair) → IsPermutation ps qs → IsSorted found_cmp qs
+    → IsListing found_cmp (Contains ps) (dedup (eq_by_cmp found_cmp) qs)
+listing-dedup ps qs moved sorted =
+    let once = dedup (eq_by_cmp found_cmp) qs in
+    subst (IsListing found_cmp (Contains ps)) (map-id once)
+    (subst (λ l. IsListing found_cmp (Contains l) (map (λ (p : Pair). p) once)) (map-id ps)
+    (IsListing-dedup found_cmp found_cmp_total found_same (λ p. p) ps qs moved sorted))
 
 -- one more pair behind lists of the same pairs
 pub contains-pushed : (xs ys : List Pair) (q : Pair) → ((p : Pair) → Contains ys p ↔ Contains xs p)

@@ -1,5 +1,5 @@
 -- Pairs that ascend as they are found.
-use Rattle.std.proofs.Common.{◌≡◌, ◌<◌, ℕ, zero, suc, List, [], ◌∷◌, ◌++◌, length, get_or, map, sym, ◌∙◌, ap, subst}
+use Rattle.std.proofs.Common.{◌≡◌, ◌<◌, ℕ, zero, suc, List, [], ◌∷◌, ◌++◌, length, get_or}
 use Rattle.std.proofs.Common.{arith, refl, true}
 use Rattle.std.specs.Prelude.{Contains}
 use Rattle.std.specs.List.{AllByRecursion}
@@ -7,14 +7,11 @@ use Rattle.std.specs.List.Sorted.{IsStrictlySortedBy}
 use Rattle.std.specs.Ordering.{is_lt}
 use Rattle.std.specs.declared.cmp.Ordering.{Ordering}
 use Rattle.std.specs.declared.cmp.Ordering.TheVariants.{Less, Equal, Greater}
-use Rattle.std.proofs.lemmas.List.{get_or-map, length-map}
 use Rattle.mp_term.specs.Listing.{IsListing}
 use Rattle.mp_term.proofs.ListLaws.{all-append}
 use Rattle.mp_pattern.specs.Lists.{Pair}
 use Rattle.mp_walk.specs.Found.{found_cmp}
 use Rattle.mp_walk.specs.FoundOrder.{found_cmp_total}
-use Rattle.mp_walk.specs.FoundView.{found_pair}
-use Rattle.mp_walk.specs.declared.found.Found.{Found}
 
 -- what holds of all holds of that at a place
 at-place : (P : Pair → Type 0) (ps : List Pair) (n : ℕ) (d : Pair) → AllByRecursion P ps → n < length ps
@@ -24,7 +21,7 @@ at-place P (p ∷ ps) zero d h k = h.0
 at-place P (p ∷ ps) (suc n) d h k = at-place P ps n d h.1 (omega (arith, k))
 
 -- a pair behind the last one that is greater keeps them ascending
-ascends-push : (ps : List Pair) (n : ℕ) (d q : Pair) → length ps ≡ suc n → found_cmp (get_or ps n d) q ≡ Less
+pub ascends-push : (ps : List Pair) (n : ℕ) (d q : Pair) → length ps ≡ suc n → found_cmp (get_or ps n d) q ≡ Less
     → IsStrictlySortedBy found_cmp ps → IsStrictlySortedBy found_cmp (ps ++ q ∷ [])
 unfolding IsStrictlySortedBy
 ascends-push [] n d q e l h = absurd (omega (arith, e))
@@ -43,26 +40,16 @@ pub ascends-none : IsStrictlySortedBy found_cmp []
 unfolding IsStrictlySortedBy
 ascends-none = tt
 
-pub ascends-first : (fs : List Found) (q : Pair) → length fs ≡ zero
-    → IsStrictlySortedBy found_cmp (map found_pair fs ++ q ∷ [])
+pub ascends-first : (ps : List Pair) (q : Pair) → length ps ≡ zero → IsStrictlySortedBy found_cmp (ps ++ q ∷ [])
 unfolding IsStrictlySortedBy
 ascends-first [] q e = (tt, tt)
-ascends-first (f ∷ fs) q e = absurd (omega (arith, e))
+ascends-first (p ∷ ps) q e = absurd (omega (arith, e))
 
 -- what is tested to be less is less
 pub lt-less : (o : Ordering) → is_lt o ≡ true → o ≡ Less
 lt-less Less h = refl
 lt-less Equal h = cc
 lt-less Greater h = cc
-
--- the same of what is found
-pub follows-push : (fs : List Found) (n : ℕ) (f : Found) (q : Pair) → length fs ≡ suc n → f ≡ get_or fs n f
-    → found_cmp (found_pair f) q ≡ Less → IsStrictlySortedBy found_cmp (map found_pair fs)
-    → IsStrictlySortedBy found_cmp (map found_pair fs ++ q ∷ [])
-follows-push fs n f q e is l =
-    ascends-push (map found_pair fs) n (found_pair f) q (length-map fs found_pair ∙ e)
-    (ap (λ p. found_cmp p q)
-    (get_or-map found_pair fs n f (found_pair f) (omega (arith, e)) ∙ ap found_pair (sym is)) ∙ l)
 
 -- what ascends is in order
 pub ascending-listing : (ps : List Pair) → IsStrictlySortedBy found_cmp ps → IsListing found_cmp (Contains ps) ps

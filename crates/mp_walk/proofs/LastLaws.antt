@@ -5,6 +5,7 @@ use Rattle.std.proofs.lemmas.List.{map-append}
 use Rattle.mp_pattern.specs.Fits.{Table}
 use Rattle.mp_subst.specs.Trail.{Trail, length_at, cut}
 use Rattle.mp_subst.proofs.TrailLaws.{cut-whole}
+use Rattle.mp_walk.specs.Rooms.{target_room}
 use Rattle.mp_walk.specs.declared.course.Course.{Course}
 use Rattle.mp_walk.specs.declared.level.Level.{Level}
 use Rattle.mp_walk.specs.Course.{Read, unread, read_to_come, reads_to_come, table_read, to_come_in}
@@ -19,7 +20,6 @@ use Rattle.mp_walk.specs.Trails.{numbered_subst}
 use Rattle.mp_pattern.specs.NetTokens.{NetToken, sym_token, enter_token, leave_token, wild_token, comm_token}
 use Rattle.mp_table.specs.Table as plain_table
 use Rattle.mp_walk.specs.OpenOnes.{opens, IsPlaceBelow}
-use Rattle.mp_walk.specs.SoundTokens.{path_nodes}
 use Rattle.mp_term.specs.Listing.{In}
 use Rattle.mp_term.specs.Tree.{Tree}
 use Rattle.mp_walk.specs.CourseVisits.{course_visits, token_visits, read_visits, visits_behind, visits_from}
@@ -190,19 +190,20 @@ module _ (c : Course) (C : IsCourse c) where
         (λ i at r m. subst (In r) (sym (unread-steps c.set.sig.now c.set.code.now.instrs C.setting.walkable i.token n
         (course_of c).present (opens-ordered c.set.sig.now c.set.table.now c.frames.items C.frames c.place C.place))) m)
 
-    pub new-level : l.node ≡ c.node → l.frames ≡ length c.frames.items → l.search ≡ None
-        → IsLevel c.set C.setting.walkable.before c.frames.items c.trail l
-    new-level node frames search = record {
+    pub new-level : l.frames ≡ length c.frames.items → l.search ≡ None
+        → IsLevel c.set c.frames.items c.trail l
+    new-level frames search = record {
       instr = subst (λ m. IsSome (instr_at c.set.code.now.instrs m)) (sym instr) is-there;
-      node = node ∙ subst (λ o. IfSome o (λ m. c.node ≡ path_nodes (C.setting.walkable.before m))) e C.node
-          ∙ ap (λ m. path_nodes (C.setting.walkable.before m)) (sym instr);
       place = subst (λ m. IsPlaceBelow m l.place) (sym frames)
           (subst (IsPlaceBelow (length c.frames.items)) (sym place) C.place);
-      room = subst (λ m. HasRoom m (opens c.set.table.now c.frames.items l.place) (trail_before c.trail l)) (sym node)
-          (subst (λ o. HasRoom c.node (opens c.set.table.now c.frames.items o) (trail_before c.trail l)) (sym place)
-          (subst (HasRoom c.node (opens c.set.table.now c.frames.items c.place)) (sym whole)
-          (subst (λ o. IfSome o (λ m. HasRoom c.node (opens c.set.table.now c.frames.items c.place) c.trail)) e
-          C.room)));
+      room = subst (λ m. HasRoom (target_room c.set.code.now.instrs (Some m))
+          (opens c.set.table.now c.frames.items l.place) (trail_before c.trail l)) (sym instr)
+          (subst (λ o. HasRoom (target_room c.set.code.now.instrs (Some n)) (opens c.set.table.now c.frames.items o)
+          (trail_before c.trail l)) (sym place)
+          (subst (HasRoom (target_room c.set.code.now.instrs (Some n))
+          (opens c.set.table.now c.frames.items c.place)) (sym whole)
+          (subst (λ o. HasRoom (target_room c.set.code.now.instrs o) (opens c.set.table.now c.frames.items c.place)
+          c.trail) e C.room)));
       searched = λ i held. subst (HasSearch c.set.table.now i.token (opens c.set.table.now c.frames.items l.place)
           (trail_before c.trail l)) (sym search) (no-search c.set.table.now i.token
           (innermost_left (opens c.set.table.now c.frames.items l.place)) (trail_before c.trail l));
@@ -210,22 +211,22 @@ module _ (c : Course) (C : IsCourse c) where
     }
 
     pub new-levels : l.frames ≡ length c.frames.items
-        → AreLevels c.set C.setting.walkable.before c.frames.items c.trail c.levels.items l.frames (length_at l.mark)
+        → AreLevels c.set c.frames.items c.trail c.levels.items l.frames (length_at l.mark)
     new-levels frames =
-        subst (λ m. AreLevels c.set C.setting.walkable.before c.frames.items c.trail c.levels.items m
+        subst (λ m. AreLevels c.set c.frames.items c.trail c.levels.items m
         (length_at l.mark)) (sym frames)
-        (subst (AreLevels c.set C.setting.walkable.before c.frames.items c.trail c.levels.items (length c.frames.items))
+        (subst (AreLevels c.set c.frames.items c.trail c.levels.items (length c.frames.items))
         (sym mark) C.levels)
 
     -- it stands behind the levels
-    pub new-standing : l.node ≡ c.node → l.frames ≡ length c.frames.items → l.next ≡ 0 → l.search ≡ None
+    pub new-standing : l.frames ≡ length c.frames.items → l.next ≡ 0 → l.search ≡ None
         → StandsBehind c.set c.frames.items c.trail c.levels.items l
-    new-standing node frames next search = record {
+    new-standing frames next search = record {
       setting = C.setting;
       frames = C.frames;
       trail = C.trail;
       levels = new-levels frames;
-      last = new-level node frames search;
+      last = new-level frames search;
       places = omega (arith, frames);
       marks = omega (arith, mark);
       chained = new-chained;

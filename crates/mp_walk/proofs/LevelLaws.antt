@@ -3,6 +3,7 @@ use Rattle.std.proofs.Common.{◌≡◌, ◌≤◌, ℕ, List, [], ◌∷◌, �
 use Rattle.std.proofs.Common.{arith}
 use Rattle.std.specs.Prelude.{Option, Some, None}
 use Rattle.mp_subst.specs.Trail.{Trail, length_at, cut}
+use Rattle.mp_walk.specs.Rooms.{target_room}
 use Rattle.mp_walk.specs.declared.frame.Frame.{Frame}
 use Rattle.mp_walk.specs.declared.level.Level.{Level}
 use Rattle.mp_walk.specs.declared.setting.Setting.{Setting}
@@ -11,7 +12,6 @@ use Rattle.mp_walk.specs.Levels.{HasSearch}
 use Rattle.mp_walk.specs.Below.{below_table, below_ahead}
 use Rattle.mp_walk.specs.OpenOnes.{opens, IsPlaceBelow}
 use Rattle.mp_walk.specs.Trails.{numbered_subst}
-use Rattle.mp_walk.specs.Walkable.{Path}
 
 -- a place below so many is below more
 pub below-more : (m n : ℕ) → m ≤ n → (o : Option ℕ) → IsPlaceBelow m o → IsPlaceBelow n o
@@ -27,10 +27,10 @@ first_mark-more : (ls : List Level) (l : Level) (n : ℕ) → first_mark (ls ++ 
 first_mark-more [] l n = refl
 first_mark-more (k ∷ ls) l n = refl
 
-module _ (x : Setting) (before : ℕ → Path) where
+module _ (x : Setting) where
   module _ (fs : List Frame) (u : Trail) where
     -- the first bounds are no greater than the last
-    pub first-below : (ls : List Level) (places marks : ℕ) → AreLevels x before fs u ls places marks
+    pub first-below : (ls : List Level) (places marks : ℕ) → AreLevels x fs u ls places marks
         → (first_frames ls places ≤ places) × (first_mark ls marks ≤ marks)
     first-below [] places marks h = (omega arith, omega arith)
     first-below (l ∷ ls) places marks h =
@@ -39,8 +39,8 @@ module _ (x : Setting) (before : ℕ → Path) where
 
     -- one level more
     pub levels-more : (ls : List Level) (l : Level) (places marks : ℕ)
-        → AreLevels x before fs u ls l.frames (length_at l.mark) → IsLevel x before fs u l → l.frames ≤ places
-        → length_at l.mark ≤ marks → AreLevels x before fs u (ls ++ l ∷ []) places marks
+        → AreLevels x fs u ls l.frames (length_at l.mark) → IsLevel x fs u l → l.frames ≤ places
+        → length_at l.mark ≤ marks → AreLevels x fs u (ls ++ l ∷ []) places marks
     levels-more [] l places marks h k a b = (k, a, b, tt)
     levels-more (m ∷ ls) l places marks h k a b = (
       h.0,
@@ -51,13 +51,13 @@ module _ (x : Setting) (before : ℕ → Path) where
 
     -- and one less
     pub record AreParted (ls : List Level) (l : Level) (most many : ℕ) : Type 0 where
-      pub levels : AreLevels x before fs u ls l.frames (length_at l.mark)
-      pub last : IsLevel x before fs u l
+      pub levels : AreLevels x fs u ls l.frames (length_at l.mark)
+      pub last : IsLevel x fs u l
       pub places : l.frames ≤ most
       pub marks : length_at l.mark ≤ many
 
     pub levels-last : (ls : List Level) (l : Level) (places marks : ℕ)
-        → AreLevels x before fs u (ls ++ l ∷ []) places marks → AreParted ls l places marks
+        → AreLevels x fs u (ls ++ l ∷ []) places marks → AreParted ls l places marks
     levels-last [] l places marks h = record { levels = tt; last = h.0; places = h.1; marks = h.2 }
     levels-last (m ∷ ls) l places marks h =
         let r = levels-last ls l places marks h.3 in
@@ -77,18 +77,18 @@ module _ (x : Setting) (before : ℕ → Path) where
   module _ (fs gs : List Frame) (u v : Trail) (places marks : ℕ)
       (same : (o : Option ℕ) → IsPlaceBelow places o → opens x.table.now gs o ≡ opens x.table.now fs o)
       (kept : (n : ℕ) → n ≤ marks → cut n v ≡ cut n u) where
-    pub level-kept : (l : Level) → l.frames ≤ places → length_at l.mark ≤ marks → IsLevel x before fs u l
-        → IsLevel x before gs v l
+    pub level-kept : (l : Level) → l.frames ≤ places → length_at l.mark ≤ marks → IsLevel x fs u l
+        → IsLevel x gs v l
     level-kept l a b h =
         let p : opens x.table.now gs l.place ≡ opens x.table.now fs l.place =
         same l.place (below-more l.frames places a l.place h.place) in
         let t : trail_before v l ≡ trail_before u l = kept (length_at l.mark) b in
         record {
           instr = h.instr;
-          node = h.node;
           place = h.place;
-          room = subst (λ os. HasRoom l.node os (trail_before v l)) (sym p)
-              (subst (HasRoom l.node (opens x.table.now fs l.place)) (sym t) h.room);
+          room = subst (λ os. HasRoom (target_room x.code.now.instrs (Some l.instr)) os (trail_before v l)) (sym p)
+              (subst (HasRoom (target_room x.code.now.instrs (Some l.instr)) (opens x.table.now fs l.place)) (sym t)
+              h.room);
           searched = λ i e. subst (λ os. HasSearch x.table.now i.token os (trail_before v l) l.search) (sym p)
               (subst (λ w. HasSearch x.table.now i.token (opens x.table.now fs l.place) w l.search) (sym t)
               (h.searched i e));
@@ -116,14 +116,14 @@ module _ (x : Setting) (before : ℕ → Path) where
           ahead = below_ahead l.search (numbered_subst x.table.now w.stack);
         }) t
 
-    pub levels-kept : (ls : List Level) → AreLevels x before fs u ls places marks
-        → AreLevels x before gs v ls places marks
+    pub levels-kept : (ls : List Level) → AreLevels x fs u ls places marks
+        → AreLevels x gs v ls places marks
     levels-kept [] h = tt
     levels-kept (l ∷ ls) h =
         let r = first-below fs u (l ∷ ls) places marks h in
         (level-kept l r.0 r.1 h.0, h.1, h.2, levels-kept ls h.3)
 
-    pub reads-kept : (ls : List Level) → AreLevels x before fs u ls places marks
+    pub reads-kept : (ls : List Level) → AreLevels x fs u ls places marks
         → map (read_of x.table.now gs v) ls ≡ map (read_of x.table.now fs u) ls
     reads-kept [] h = refl
     reads-kept (l ∷ ls) h =

@@ -20,6 +20,7 @@ pub mod CourseLaws
 pub mod OpenLaws
 pub mod WayLaws
 pub mod LevelLaws
+pub mod RoomLaws
 pub mod LoadLaws
 pub mod DownLaws
 pub mod CodeLaws

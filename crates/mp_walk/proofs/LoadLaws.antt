@@ -8,14 +8,12 @@ use Rattle.mp_term.specs.Size.{node_count, node_counts, all_nodes}
 use Rattle.mp_term.specs.Tree.{Tree, symbol, app, tree_list}
 use Rattle.mp_term.specs.TreeLists.{trees-tree_list}
 use Rattle.mp_pattern.specs.NetTokens.{NetToken, sym_token, enter_token, leave_token, wild_token, comm_token}
-use Rattle.mp_pattern.specs.PatternTree.{Pattern, symbol_pattern, app_pattern, wild_pattern}
-use Rattle.mp_pattern.specs.Size.{pattern_nodes}
 use Rattle.mp_ac.specs.CommPlan.{nodes_below}
 use Rattle.mp_theory.specs.Machine.{arguments}
 use Rattle.mp_theory.proofs.Narrow.{length-all_nodes}
 use Rattle.mp_walk.specs.Course.{opens_by, way_cost, IsWayValid}
 use Rattle.mp_walk.specs.Levels.{opens_load, search_cost, step_cost}
-use Rattle.mp_walk.specs.SoundTokens.{token_nodes}
+use Rattle.mp_walk.specs.Rooms.{token_room}
 use Rattle.mp_walk.specs.TokenMachine.{Open}
 use Rattle.mp_walk.proofs.WayLaws.{without-front}
 
@@ -53,14 +51,14 @@ pub length-load : (f : Open) (fs : List Open) → length f.left ≤ opens_load (
 length-load f fs = omega (arith, length-all_nodes f.left)
 
 pub load-after : (k : NetToken) (f : Open) (fs : List Open) (way : ℕ) → IsWayValid k f way
-    → opens_load (opens_by k f fs way) + way_cost k way ≤ opens_load (f ∷ fs) + 3 * token_nodes k
+    → opens_load (opens_by k f fs way) + way_cost k way ≤ opens_load (f ∷ fs) + token_room k
 load-after (sym_token n) f fs way v = (let e = rest-nodes 1 f.left in omega (arith, e))
 load-after (leave_token g) f fs way v = omega arith
 load-after (enter_token g) f fs way v = by_way (nat_eq way 1)
   where
     by_way : (b : Bool) → all_nodes (if b then take 1 f.left else arguments (take 1 f.left))
         + (all_nodes (without tree_cmp (take 1 f.left) f.left) + opens_load
-        fs) + 0 ≤ all_nodes f.left + opens_load fs + 3 * 1
+        fs) + 0 ≤ all_nodes f.left + opens_load fs + 0
     by_way true = (let e = rest-nodes 1 f.left in omega (arith, e))
     by_way false = (let e = rest-nodes 1 f.left in let a = arguments-nodes (take 1 f.left) in omega (arith, e, a))
 load-after (wild_token w x) f fs way v =
@@ -68,13 +66,8 @@ load-after (wild_token w x) f fs way v =
 load-after (comm_token p) f fs way v = (let e = rest-nodes 1 f.left in omega (arith, e))
 
 -- so it is where a search takes of the trail too
-below-nodes : (q : Pattern) → nodes_below q ≤ pattern_nodes q
-below-nodes (symbol_pattern n) = omega arith
-below-nodes (wild_pattern w x) = omega arith
-below-nodes (app_pattern g ps) = omega arith
-
 pub load-step : (k : NetToken) (f : Open) (fs : List Open) (way : ℕ) → IsWayValid k f way
-    → opens_load (opens_by k f fs way) + step_cost k (f ∷ fs) way ≤ opens_load (f ∷ fs) + 3 * token_nodes k
+    → opens_load (opens_by k f fs way) + step_cost k (f ∷ fs) way ≤ opens_load (f ∷ fs) + token_room k
 load-step (sym_token n) f fs way v = (let h = load-after (sym_token n) f fs way v in omega (arith, h))
 load-step (leave_token g) f fs way v = (let h = load-after (leave_token g) f fs way v in omega (arith, h))
 load-step (enter_token g) f fs way v = (let h = load-after (enter_token g) f fs way v in omega (arith, h))
@@ -83,6 +76,6 @@ load-step (comm_token p) f fs way v = by_left f.left v.0
   where
     by_left : (ts : List Tree) → 1 ≤ length ts
         → all_nodes (without tree_cmp (take 1 ts) ts) + opens_load fs + (0 + search_cost (comm_token p) ts)
-        ≤ all_nodes ts + opens_load fs + 3 * pattern_nodes p
+        ≤ all_nodes ts + opens_load fs + 3 * nodes_below p
     by_left [] h = absurd (omega arith)
-    by_left (t ∷ ts) h = (let e = rest-nodes 1 (t ∷ ts) in let b = below-nodes p in omega (arith, e, b))
+    by_left (t ∷ ts) h = (let e = rest-nodes 1 (t ∷ ts) in omega (arith, e))

@@ -1,10 +1,13 @@
--- The values of the item at hand, called by names that are given, are those of each substitution with which its table
--- fits a pattern.
+-- The values of an item, called by names that are given, are those of each substitution with which its table fits a
+-- pattern.
 use Rattle.std.proofs.Common.{◌≡◌, ℕ, suc, ◌+◌, ◌≤◌, List, [], ◌∷◌, ◌++◌, map, drop, length, refl, ap, sym, ◌∙◌}
 use Rattle.std.proofs.Common.{arith}
 use Rattle.std.specs.Prelude.{Option, Some, None, slice_get}
 use Rattle.std.proofs.lemmas.List.{length-map}
 use Rattle.std.proofs.lemmas.Option.{get_or_from_slice_get, slice_get_within}
+use Rattle.mp_term.specs.Normal.{IsNormal}
+use Rattle.mp_term.specs.Signature.{Sig}
+use Rattle.mp_term.specs.Tree.{Tree}
 use Rattle.mp_term.proofs.ListLaws.{drop-item}
 use Rattle.mp_pattern.specs.declared.limits.TheConstants.{MAX_VARIABLES}
 use Rattle.mp_pattern.specs.Fits.{Table}
@@ -13,12 +16,13 @@ use Rattle.mp_pattern.specs.Value.{Binding, Subst}
 use Rattle.mp_pattern.specs.Variables.{variables}
 use Rattle.mp_table.specs.Table as tables
 use Rattle.mp_subst.specs.Bound.{Bound, value_in}
-use Rattle.mp_subst.specs.Trail.{TrailEntry, last_value, bindings_from, subst_in}
+use Rattle.mp_subst.specs.Trail.{Trail, TrailEntry, last_value, bindings_from, subst_in}
 use Rattle.mp_theory.proofs.FitsSolves.{fits-solves}
 use Rattle.mp_search.proofs.TableLaws.{subject-normal}
 use Rattle.mp_walk.specs.declared.course.Course.{Course}
 use Rattle.mp_walk.specs.CourseView.{IsAtItem, item_of}
-use Rattle.mp_walk.specs.NamedItems.{with_names, called, IsNamedSubst}
+use Rattle.mp_walk.specs.Instrs.{Instr}
+use Rattle.mp_walk.specs.NamedItems.{with_names, called, IsNamedSubst, IsItemTrail}
 use Rattle.mp_walk.specs.WalkView.{subject_of}
 use Rattle.mp_walk.proofs.ItemFits.{item-fits_names}
 
@@ -86,21 +90,27 @@ module _ (table : tables.Table) (es : List TrailEntry) where
       by_last None k go = absurd (omega (arith, k, few-bindings (suc n) xs))
       by_last (Some b) k go = ap (λ s. record { name = y; value = value_in table b } ∷ s) (go (omega (arith, k)))
 
--- the values of the trail are those of the substitution
+-- the values of an item's trail are those of the item's substitution
+pub trail-named : (sig : Sig) (code : List Instr) (t : Tree) (terms : tables.Table) (trail : Trail)
+    (names : List (List ℕ)) (i : ℕ × Table) → length names ≤ MAX_VARIABLES → IsNormal sig t
+    → IsItemTrail sig code t terms trail i → IsNamedSubst sig code t names (subst_in terms (called names) trail) i
+trail-named sig code t terms trail names i few normal fits q r count leaf given =
+    let xs = variables q in
+    let own = subst_in terms (called xs) trail in
+    let f = fits q (omega (arith, count, few)) leaf in
+    let both : Some r ≡ Some own = sym (fits-solves sig q t r i.1 normal given).1
+    ∙ (fits-solves sig q t own i.1 normal f).1 in
+    let same : own ≡ r = cc in
+    let all : length own ≡ length xs = sym (length-map own (λ (b : Binding). b.name)) ∙ ap length f.subst_of.names in
+    bindings-called terms trail.stack 0 xs names (sym count) all ∙ ap (with_names names) same
+
+-- so with the item at hand
 pub item-named : (c : Course) → IsAtItem c → (names : List (List ℕ)) → length names ≤ MAX_VARIABLES
     → IsNamedSubst c.set.sig.now c.set.code.now.instrs (subject_of c.set.table.now) names
     (subst_in c.set.table.now (called names) c.trail) (item_of c)
-item-named c h names few q r count leaf fits =
+item-named c h names few =
     let sig = c.set.sig.now in
     let table = c.set.table.now in
-    let t = subject_of table in
-    let xs = variables q in
-    let own = subst_in table (called xs) c.trail in
-    let many : length xs ≤ MAX_VARIABLES = omega (arith, count, few) in
-    let f = item-fits_names c h q many (called xs) (names-called xs) leaf in
-    let normal = subject-normal sig table h.0.setting.table h.0.setting.normal in
-    let both : Some r ≡ Some own = sym (fits-solves sig q t r (item_of c).1 normal fits).1
-    ∙ (fits-solves sig q t own (item_of c).1 normal f).1 in
-    let same : own ≡ r = cc in
-    let all : length own ≡ length xs = sym (length-map own (λ (b : Binding). b.name)) ∙ ap length f.subst_of.names in
-    bindings-called table c.trail.stack 0 xs names (sym count) all ∙ ap (with_names names) same
+    trail-named sig c.set.code.now.instrs (subject_of table) table c.trail names (item_of c) few
+    (subject-normal sig table h.0.setting.table h.0.setting.normal)
+    (λ q many leaf. item-fits_names c h q many (called (variables q)) (names-called (variables q)) leaf)

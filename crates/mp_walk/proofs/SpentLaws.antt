@@ -1,9 +1,12 @@
 -- What holds of a course when a token that has no step left is passed over.
 use Rattle.std.proofs.Common.{◌≡◌, ◌<◌, ◌+◌, ℕ, List, [], ◌++◌, map, take, refl, ap, sym, ◌∙◌, subst}
 use Rattle.std.proofs.Common.{arith}
-use Rattle.std.specs.Prelude.{Option, Some, None, IfSome}
+use Rattle.std.specs.Prelude.{Option, Some, None, slice_get}
+use Rattle.mp_pattern.specs.Value.{Subst}
 use Rattle.mp_subst.specs.Trail.{Trail, length_at, cut}
 use Rattle.mp_subst.proofs.TrailLaws.{cut-cut}
+use Rattle.mp_walk.specs.Rooms.{target_room}
+use Rattle.mp_walk.proofs.RoomLaws.{beside-room}
 use Rattle.mp_walk.specs.declared.course.Course.{Course}
 use Rattle.mp_walk.specs.declared.frame.Frame.{Frame}
 use Rattle.mp_walk.specs.declared.level.Level.{Level}
@@ -14,19 +17,33 @@ use Rattle.mp_walk.specs.CourseView.{reads_of, course_of, course_to_come, LeadsT
 use Rattle.mp_walk.specs.CourseVisits.{course_visits, visits_from, visits_behind}
 use Rattle.mp_walk.specs.Instrs.{Instr, instr_at}
 use Rattle.mp_walk.specs.Levels.{read_of, trail_before, HasRoom}
-use Rattle.mp_walk.specs.OpenOnes.{opens}
-use Rattle.mp_walk.specs.SoundTokens.{path_nodes}
-use Rattle.mp_walk.specs.TokenMachine.{begin_state}
+use Rattle.mp_walk.specs.OpenOnes.{opens, open_of}
+use Rattle.mp_walk.specs.TokenMachine.{begin_state, Open}
 use Rattle.mp_walk.specs.Trails.{numbered_subst, IsTrailOf}
 use Rattle.mp_walk.specs.WalkView.{subject_of}
+use Rattle.mp_walk.specs.Ways.{HasNoWay}
 use Rattle.mp_walk.proofs.ChainLaws.{alike-same, chain-end}
 use Rattle.mp_walk.proofs.CodePaths.{over-target, instr-there}
 use Rattle.mp_walk.proofs.CourseLaws.{over-to_come}
 use Rattle.mp_walk.proofs.DownLaws.{if-some}
+use Rattle.mp_walk.proofs.OpenLaws.{opens-is}
 use Rattle.mp_walk.proofs.StandingLaws.{front-opens, front-search, left, behind_to_come, kept-reads, kept-read}
 use Rattle.mp_walk.proofs.StandingLaws.{kept-to_come}
+use Rattle.mp_walk.proofs.StepLaws.{step-none}
 use Rattle.mp_walk.proofs.TurnLaws.{opens-ordered, new-to_come}
 use Rattle.mp_walk.proofs.VisitLaws.{unread-visits, over-visits}
+
+-- no step is left of a token that has no way
+pub no-step : (c : Course) → IsCourse c → (n : ℕ) (i : Instr) (place : ℕ) (f : Frame) → c.place ≡ Some place
+    → slice_get c.frames.items place ≡ Some f
+    → ((gs : List Open) (s : Subst) → HasNoWay c.set.sig.now (open_of c.set.table.now f) gs s i.token 0)
+    → steps_left c.set.sig.now i.token (unread n (course_of c).present) ≡ []
+no-step c C n i place f e at h =
+    let t = c.set.table.now in
+    let fs = c.frames.items in
+    step-none c.set.sig.now i.token (unread n (course_of c).present) (open_of t f) (opens t fs f.outer)
+    (ap (opens t fs) e ∙ opens-is t c.set.sig.now fs C.frames place f at) refl
+    (h (opens t fs f.outer) (course_of c).present.trail)
 
 -- nothing of the token is read yet
 module _ (c : Course) (C : IsCourse c) (n : ℕ) (e : c.target ≡ Some n) (i : Instr)
@@ -39,10 +56,11 @@ module _ (c : Course) (C : IsCourse c) (n : ℕ) (e : c.target ≡ Some n) (i : 
   passed-course =
       let before = C.setting.walkable.before in
       let p = (course_of c).present in
-      let node : c.node ≡ path_nodes (before n) =
-      subst (λ o. IfSome o (λ m. c.node ≡ path_nodes (before m))) e C.node in
-      let room : HasRoom c.node (opens c.set.table.now c.frames.items c.place) c.trail =
-      subst (λ o. IfSome o (λ m. HasRoom c.node (opens c.set.table.now c.frames.items c.place) c.trail)) e C.room in
+      let room : HasRoom (target_room c.set.code.now.instrs (Some n)) (opens c.set.table.now c.frames.items c.place)
+      c.trail =
+      subst (λ o. HasRoom (target_room c.set.code.now.instrs o) (opens c.set.table.now c.frames.items c.place) c.trail)
+      e C.room in
+      let beside = beside-room c.set.code.now.instrs C.setting.walkable.forward n i held in
       record {
         setting = C.setting;
         frames = C.frames;
@@ -54,8 +72,7 @@ module _ (c : Course) (C : IsCourse c) (n : ℕ) (e : c.target ≡ Some n) (i : 
             let f = C.setting.walkable.forward n m i held (over-target i m h) in
             let j = instr-there c.set.code.now.instrs m (omega (arith, f.0)) f.1 in
             rw j.1 refl);
-        node = if-some _ i.over (λ m h. node ∙ ap path_nodes (sym (C.setting.walkable.paths.over n m i held h)));
-        room = if-some _ i.over (λ m h. room);
+        room = omega (arith, room, beside);
         chained = chain-end c.set.sig.now c.set.code.now.instrs before (LeadsTo before c.target) (LeadsTo before i.over)
             [] (begin_state (subject_of c.set.table.now)) (reads_of c) p p C.chained (alike-same p p refl)
             (λ path h. if-some (λ m. before m ≡ path) i.over
@@ -100,7 +117,7 @@ module _ (x : Setting) (fs : List Frame) (u : Trail) (ls : List Level) (l : Leve
       → l.search ≡ None → IsTrailOf x.table.now (trail_before u l)
       → IsLeftBehind x (take l.frames fs) (trail_before u l) ls l i
   spent-left i held none search h =
-      left x fs u ls l S i held l (record { instr = refl; node = refl; place = refl; frames = refl; mark = refl }) h
+      left x fs u ls l S i held l (record { instr = refl; place = refl; frames = refl; mark = refl }) h
       (none (read_of x.table.now (take l.frames fs) (trail_before u l) l)
       (front-opens x fs u ls l S l.place S.last.place) refl
       (ap (λ o. below_ahead o (numbered_subst x.table.now (trail_before (trail_before u l) l).stack)) search))

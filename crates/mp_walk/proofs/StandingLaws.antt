@@ -7,13 +7,12 @@ use Rattle.mp_term.specs.Size.{all_nodes}
 use Rattle.mp_term.specs.Tree.{Tree}
 use Rattle.mp_ac.specs.CommPlan.{nodes_below}
 use Rattle.mp_pattern.specs.NetTokens.{NetToken, sym_token, enter_token, leave_token, wild_token, comm_token}
-use Rattle.mp_pattern.specs.PatternTree.{Pattern, symbol_pattern, app_pattern, wild_pattern}
-use Rattle.mp_pattern.specs.Size.{pattern_nodes}
 use Rattle.mp_pattern.specs.Fits.{Table}
-use Rattle.mp_pattern.specs.declared.limits.TheConstants.{MAX_PATTERN_NODES}
 use Rattle.mp_subst.specs.Trail.{Trail, length_at, cut}
 use Rattle.mp_subst.proofs.TrailLaws.{cut-cut}
 use Rattle.mp_theory.proofs.Narrow.{length-all_nodes}
+use Rattle.mp_walk.specs.Rooms.{target_room, token_room}
+use Rattle.mp_walk.proofs.RoomLaws.{own-room}
 use Rattle.mp_walk.specs.declared.frame.Frame.{Frame}
 use Rattle.mp_walk.specs.declared.level.Level.{Level}
 use Rattle.mp_walk.specs.declared.setting.Setting.{Setting}
@@ -26,7 +25,7 @@ use Rattle.mp_walk.specs.Below.{IsAtWay}
 use Rattle.mp_walk.specs.Levels.{read_of, state_of, trail_before, HasRoom, HasSearch, step_cost, search_cost}
 use Rattle.mp_walk.specs.Levels.{innermost_left, opens_load, IsLevel, AreLevels, AreOfOneToken}
 use Rattle.mp_walk.specs.OpenOnes.{IsPlaceBelow, AreFrames, opens}
-use Rattle.mp_walk.specs.SoundTokens.{path_nodes, token_nodes, IsSoundToken}
+use Rattle.mp_walk.specs.SoundTokens.{IsSoundToken}
 use Rattle.mp_walk.specs.TokenMachine.{Open, begin_state}
 use Rattle.mp_walk.specs.WalkView.{subject_of}
 use Rattle.mp_walk.proofs.ChainLaws.{alike-same, chain-end, owed-taken, owed-none}
@@ -38,14 +37,14 @@ use Rattle.mp_walk.specs.CodeConstants.{token_constants}
 use Rattle.std.specs.List.{AllByRecursion}
 use Rattle.std.proofs.lemmas.List.{length-take-le}
 use Rattle.mp_walk.proofs.OpenLaws.{opens-take}
-use Rattle.mp_walk.proofs.PathLaws.{token-sound, path-narrow}
+use Rattle.mp_walk.proofs.PathLaws.{token-sound}
 use Rattle.mp_walk.specs.CourseVisits.{read_visits, visits_from}
 use Rattle.mp_walk.proofs.VisitLaws.{over-visits}
 use Rattle.mp_walk.proofs.ReadOnLaws.{frames-take, cuts-kept, cut-within, constants-held}
 
 -- what a search takes is no more than what is left and what its token stands for
 pub search-load : (k : NetToken) (os : List Open)
-    → search_cost k (innermost_left os) ≤ opens_load os + 3 * token_nodes k
+    → search_cost k (innermost_left os) ≤ opens_load os + token_room k
 search-load (sym_token n) os = omega arith
 search-load (enter_token g) os = omega arith
 search-load (leave_token g) os = omega arith
@@ -53,14 +52,9 @@ search-load (wild_token w x) os = omega arith
 search-load (comm_token p) [] = omega arith
 search-load (comm_token p) (f ∷ fs) = by_left f.left
   where
-    below : (q : Pattern) → nodes_below q ≤ pattern_nodes q
-    below (symbol_pattern n) = omega arith
-    below (wild_pattern w x) = omega arith
-    below (app_pattern g ps) = omega arith
-
-    by_left : (ts : List Tree) → search_cost (comm_token p) ts ≤ all_nodes ts + opens_load fs + 3 * pattern_nodes p
+    by_left : (ts : List Tree) → search_cost (comm_token p) ts ≤ all_nodes ts + opens_load fs + 3 * nodes_below p
     by_left [] = omega arith
-    by_left (t ∷ ts) = let b = below p in omega arith
+    by_left (t ∷ ts) = omega arith
 
 some-same : (i j : Instr) → Some i ≡ Some j → i ≡ j
 some-same i j e = cc
@@ -86,12 +80,6 @@ module _ (x : Setting) (fs : List Frame) (u : Trail) (ls : List Level) (l : Leve
     pub constants : AllByRecursion (λ t. IsSome (rank_of x.table.now t)) (token_constants i.token)
     constants = constants-held x.table.now x.code.now.instrs l.instr i held S.setting.held
 
-    pub narrow : l.node + token_nodes i.token ≤ MAX_PATTERN_NODES
-    narrow =
-        let n : l.node ≡ path_nodes (S.setting.walkable.before l.instr) = S.last.node in
-        let h = path-narrow x.sig.now x.code.now.instrs S.setting.walkable l.instr i held in
-        omega arith
-
     pub front-search : HasSearch x.table.now i.token (opens x.table.now (take l.frames fs) l.place) (trail_before u l)
         l.search
     front-search = subst (λ os. HasSearch x.table.now i.token os (trail_before u l) l.search)
@@ -100,26 +88,26 @@ module _ (x : Setting) (fs : List Frame) (u : Trail) (ls : List Level) (l : Leve
     pub search-spare : search_cost i.token (innermost_left (opens x.table.now (take l.frames fs) l.place))
         ≤ (trail_before u l).spare
     search-spare =
-        let room : HasRoom l.node (opens x.table.now (take l.frames fs) l.place) (trail_before u l) =
-        subst (λ os. HasRoom l.node os (trail_before u l)) (sym (front-opens l.place S.last.place)) S.last.room in
-        let few = narrow in
+        let most = target_room x.code.now.instrs (Some l.instr) in
+        let room : HasRoom most (opens x.table.now (take l.frames fs) l.place) (trail_before u l) =
+        subst (λ os. HasRoom most os (trail_before u l)) (sym (front-opens l.place S.last.place)) S.last.room in
+        let own = own-room x.code.now.instrs S.setting.walkable.forward l.instr i held in
         let less = search-load i.token (opens x.table.now (take l.frames fs) l.place) in
-        omega arith
+        omega (arith, room, own, less)
 
     pub spare : (f : Open) (gs : List Open)
         → opens x.table.now (take l.frames fs) l.place ≡ f ∷ gs
         → length f.left + 3 ≤ (trail_before u l).spare
     spare f gs e =
-        let room : HasRoom l.node (f ∷ gs) (trail_before u l) =
-        subst (λ os. HasRoom l.node os (trail_before u l)) (sym (front-opens l.place S.last.place) ∙ e)
-        S.last.room in
+        let most = target_room x.code.now.instrs (Some l.instr) in
+        let room : HasRoom most (f ∷ gs) (trail_before u l) =
+        subst (λ os. HasRoom most os (trail_before u l)) (sym (front-opens l.place S.last.place) ∙ e) S.last.room in
         let some = length-all_nodes f.left in
-        let few = narrow in
-        omega arith
+        omega (arith, room, some)
 
   -- the token reads the same in the frames that are left
   pub front-read : read_of x.table.now (take l.frames fs) u l ≡ read_of x.table.now fs u l
-  front-read = read-kept x S.setting.walkable.before fs (take l.frames fs) u u l.frames (length_at l.mark) front-opens
+  front-read = read-kept x fs (take l.frames fs) u u l.frames (length_at l.mark) front-opens
       (λ n h. refl) l (omega arith) (omega arith) S.last.place
 
   -- what is left of it are steps of it
@@ -133,37 +121,37 @@ module _ (x : Setting) (fs : List Frame) (u : Trail) (ls : List Level) (l : Leve
 
     pub kept-reads : map (read_of x.table.now (take l.frames fs) v) ls
         ≡ map (read_of x.table.now fs u) ls
-    kept-reads = reads-kept x S.setting.walkable.before fs (take l.frames fs) u v
+    kept-reads = reads-kept x fs (take l.frames fs) u v
         l.frames (length_at l.mark) front-opens kept ls S.levels
 
     module _ (m : Level) (one : AreOfOneToken l m)
         (found : (i : Instr) → instr_at x.code.now.instrs l.instr ≡ Some i
         → HasSearch x.table.now i.token (opens x.table.now (take l.frames fs) l.place) (trail_before u l) m.search)
         (way : IsAtWay m.next m.search) where
-      pub kept-levels : AreLevels x S.setting.walkable.before (take l.frames fs) v ls m.frames
+      pub kept-levels : AreLevels x (take l.frames fs) v ls m.frames
           (length_at m.mark)
       kept-levels =
-          let h = levels-kept x S.setting.walkable.before fs (take l.frames fs) u v
+          let h = levels-kept x fs (take l.frames fs) u v
           l.frames (length_at l.mark) front-opens kept ls S.levels in
-          subst (λ n. AreLevels x S.setting.walkable.before (take l.frames fs) v ls n
+          subst (λ n. AreLevels x (take l.frames fs) v ls n
           (length_at m.mark)) (sym one.frames)
-          (subst (λ k. AreLevels x S.setting.walkable.before (take l.frames fs) v ls l.frames
+          (subst (λ k. AreLevels x (take l.frames fs) v ls l.frames
           (length_at k)) (sym one.mark) h)
 
-      pub kept-last : IsLevel x S.setting.walkable.before (take l.frames fs) v m
+      pub kept-last : IsLevel x (take l.frames fs) v m
       kept-last =
-          let h = level-kept x S.setting.walkable.before fs (take l.frames fs) u v
+          let h = level-kept x fs (take l.frames fs) u v
           l.frames (length_at l.mark) front-opens kept l (omega arith) (omega arith) S.last in
           record {
             instr = subst (λ n. IsSome (instr_at x.code.now.instrs n)) (sym one.instr) h.instr;
-            node = one.node ∙ h.node ∙ ap (λ n. path_nodes (S.setting.walkable.before n)) (sym one.instr);
             place = subst (λ n. IsPlaceBelow n m.place) (sym one.frames)
                 (subst (IsPlaceBelow l.frames) (sym one.place) h.place);
-            room = subst (λ n. HasRoom n (opens x.table.now (take l.frames fs) m.place)
-                (trail_before v m)) (sym one.node)
-                (subst (λ o. HasRoom l.node (opens x.table.now (take l.frames fs) o) (trail_before v m))
-                (sym one.place)
-                (subst (λ k. HasRoom l.node (opens x.table.now (take l.frames fs) l.place)
+            room = subst (λ n. HasRoom (target_room x.code.now.instrs (Some n))
+                (opens x.table.now (take l.frames fs) m.place) (trail_before v m)) (sym one.instr)
+                (subst (λ o. HasRoom (target_room x.code.now.instrs (Some l.instr))
+                (opens x.table.now (take l.frames fs) o) (trail_before v m)) (sym one.place)
+                (subst (λ k. HasRoom (target_room x.code.now.instrs (Some l.instr))
+                (opens x.table.now (take l.frames fs) l.place)
                 (cut (length_at k) v)) (sym one.mark) h.room));
             searched = λ i e. subst (λ o. HasSearch x.table.now i.token (opens x.table.now (take l.frames fs) o)
                 (trail_before v m) m.search) (sym one.place)
@@ -299,7 +287,7 @@ module _ (x : Setting) (fs : List Frame) (u : Trail) (ls : List Level) (l : Leve
       ++ reads_to_come x.sig.now x.code.now.instrs [] rs) (kept-reads x fs u ls l S v same)
 
   pub kept-read : read_of x.table.now (take l.frames fs) v l ≡ read_of x.table.now fs u l
-  kept-read = read-kept x S.setting.walkable.before fs (take l.frames fs) u v l.frames (length_at l.mark)
+  kept-read = read-kept x fs (take l.frames fs) u v l.frames (length_at l.mark)
       (front-opens x fs u ls l S) (kept x fs u ls l S v same) l (omega arith) (omega arith) S.last.place
 
   -- the state before the token

@@ -1,6 +1,8 @@
 -- Which ways of a token read on.
 use Rattle.std.proofs.Common.{◌≡◌, ◌≤◌, ◌<◌, ◌+◌, ◌-◌, ℕ, zero, suc, List, [], ◌∷◌, ◌++◌, length, take, drop, Bool}
 use Rattle.std.proofs.Common.{true}
+use Rattle.std.specs.Ordering.{is_eq}
+use Rattle.mp_term.specs.Tree.{symbol}
 use Rattle.std.proofs.Common.{false, refl, ap, sym, ◌∙◌, arith, ◌⊎◌, inl, inr}
 use Rattle.std.specs.Prelude.{Option, Some, None, is_some, not, ◌&&◌, if◌then◌else◌, nat_le, nat_lt, flat_map}
 use Rattle.std.specs.Prelude.{option_map, MatchBool}
@@ -10,12 +12,13 @@ use Rattle.std.proofs.lemmas.Bool.Decides.{nat_tests}
 use Rattle.std.proofs.lemmas.List.{length-take-le, take-map}
 use Rattle.mp_term.proofs.PiecesLaws.{same-itself}
 use Rattle.mp_term.specs.Order.{tree_cmp}
-use Rattle.mp_term.specs.OrderLaws.{tree_cmp_total, tree_same}
+use Rattle.mp_term.specs.OrderLaws.{ordering_then-equal, tree_cmp_total, tree_same}
 use Rattle.mp_term.specs.Pieces.{without}
 use Rattle.mp_term.specs.Signature.{Sig}
 use Rattle.mp_term.specs.Tree.{Tree}
 use Rattle.mp_pattern.specs.NetTokens.{NetToken, sym_token, enter_token, leave_token, wild_token, comm_token, numbered}
 use Rattle.mp_pattern.specs.PatternTree.{Wildcard, dot, kind, plus, star, counted, optional, is_sequence}
+use Rattle.mp_pattern.specs.PatternTree.{symbol_pattern}
 use Rattle.mp_pattern.specs.Sound.{DefaultIsNormal}
 use Rattle.mp_pattern.specs.Value.{Subst, Value}
 use Rattle.mp_table.specs.Table.{Table, term_at, terms_at}
@@ -27,7 +30,7 @@ use Rattle.mp_walk.proofs.ListLaws.{take-short}
 use Rattle.mp_walk.specs.TokenMachine.{Open, rest_of_open, numbered_wildcard, told}
 use Rattle.mp_walk.specs.Trails.{told_by}
 use Rattle.mp_walk.specs.Ways.{Step, front_entry, is_front, front_steps, way_steps, ways_from}
-use Rattle.mp_walk.specs.Ways.{HasNoWay, IsFirstWay}
+use Rattle.mp_walk.specs.Ways.{HasNoWay, IsFirstWay, is_first_symbol}
 
 -- what is left of a list without a front of it
 pub without-front : (n : ℕ) (ts : List Tree) → without tree_cmp (take n ts) ts ≡ drop n ts
@@ -226,3 +229,18 @@ module _ (sig : Sig) (f : Open) (fs : List Open) (s : Subst) (k : NetToken) wher
       go (suc d) m e l u =
           ways-step m ∙ ap (λ rs. rs ++ ways_from sig f fs s k (suc m)) (a.earlier m l (omega arith))
           ∙ go d (suc m) (omega arith) (omega arith) (omega arith)
+
+-- a symbol that isn't the first term that is left
+pub no-symbol : (sig : Sig) (f : Open) (fs : List Open) (s : Subst) (n : List ℕ) → is_first_symbol n f.left ≡ false
+    → HasNoWay sig f fs s (sym_token n) 0
+no-symbol sig f fs s n e zero l = rw (by_left f.left refl e) refl
+  where
+    and-false : (b : Bool) → (b && false) ≡ false
+    and-false true = refl
+    and-false false = refl
+
+    by_left : (ts : List Tree) → f.left ≡ ts → is_first_symbol n ts ≡ false
+        → is_front sig f (symbol_pattern n) 1 ≡ false
+    by_left [] h e = rw h refl
+    by_left (t ∷ ts) h e = rw h (rw (ap is_eq (ordering_then-equal (tree_cmp t (symbol n))) ∙ e) (and-false _))
+no-symbol sig f fs s n e (suc way) l = refl

@@ -7,7 +7,9 @@ use Rattle.mp_term.specs.Signature.{Sig}
 use Rattle.mp_pattern.specs.NetTokens.{NetToken, comm_token}
 use Rattle.mp_ac.specs.CommPlan.{IsCommPlanOf}
 use Rattle.mp_ac.specs.declared.comm_plan.CommPlan.{CommPlan}
+use Rattle.mp_walk.specs.CodeForest.{code_forest}
 use Rattle.mp_walk.specs.Instrs.{Instr, instr_at}
+use Rattle.mp_walk.specs.Rooms.{forest_room}
 use Rattle.mp_walk.specs.declared.code.Code.{Code}
 use Rattle.mp_walk.specs.declared.code.Plans.{Plans}
 
@@ -32,6 +34,7 @@ pub record ArePlanned (sig : Sig) (is : List Instr) (x : Plans) : Type 0 where
   pub planned : (n : ℕ) (i : Instr) → instr_at is n ≡ Some i
       → IsPlanned sig i.token (plan_at x.numbers.items x.plans.items n)
 
--- the instructions have their plans
-abbrev pub IsCode : Sig → Code → Type 0
-IsCode sig c = ArePlanned sig c.instrs c.plans
+-- the instructions have their plans, and it is known how much of a trail's room they take
+pub record IsCode (sig : Sig) (c : Code) : Type 0 where
+  pub planned : ArePlanned sig c.instrs c.plans
+  pub room : c.room ≡ forest_room (code_forest c.instrs)

@@ -19,7 +19,7 @@ use Rattle.mp_walk.specs.Instrs.{Instr, instr_at}
 use Rattle.mp_walk.specs.Levels.{read_of, state_of, step_cost, trail_before, HasRoom, IsLevel, AreLevels}
 use Rattle.mp_walk.specs.OpenOnes.{IsPlaceBelow, AreFrames, opens}
 use Rattle.mp_walk.specs.Setting.{IsSetting}
-use Rattle.mp_walk.specs.SoundTokens.{path_nodes}
+use Rattle.mp_walk.specs.Rooms.{target_room}
 use Rattle.mp_walk.specs.TokenMachine.{Open, State, begin_state, token_steps, token_ends}
 use Rattle.mp_walk.specs.Trails.{numbered_subst, IsTrailOf, LiesOver}
 use Rattle.mp_walk.specs.Walkable.{Path}
@@ -68,19 +68,17 @@ abbrev pub LeadsTo : (ℕ → Path) → Option ℕ → Path → Type 0
 LeadsTo before target path = IfSome target (λ n. before n ≡ path)
 
 -- the frames, the levels and the trail fit together, and the rooms are of the table; the instruction that is to be
--- tried is there and comes behind the nodes that are read; the trail has room for what comes; and the tokens that are
--- read lead to it
+-- tried is there; the trail has room for what comes; and the tokens that are read lead to it
 pub record IsCourse (c : Course) : Type 0 where
   pub setting : IsSetting c.set
   pub frames : AreFrames c.set.sig.now c.set.table.now c.frames.items
   pub place : IsPlaceBelow (length c.frames.items) c.place
   pub trail : IsTrailOf c.set.table.now c.trail
-  pub levels : AreLevels c.set setting.walkable.before c.frames.items c.trail c.levels.items (length c.frames.items)
+  pub levels : AreLevels c.set c.frames.items c.trail c.levels.items (length c.frames.items)
       (length c.trail.stack)
   pub rooms : AllByRecursion (IsOfTable c.set.table.now) c.rooms.items
   pub there : IfSome c.target (λ n. IsSome (instr_at c.set.code.now.instrs n))
-  pub node : IfSome c.target (λ n. c.node ≡ path_nodes (setting.walkable.before n))
-  pub room : IfSome c.target (λ n. HasRoom c.node (opens c.set.table.now c.frames.items c.place) c.trail)
+  pub room : HasRoom (target_room c.set.code.now.instrs c.target) (opens c.set.table.now c.frames.items c.place) c.trail
   pub chained : AreChained c.set setting.walkable.before c.frames.items c.trail c.levels.items
       (LeadsTo setting.walkable.before c.target) (course_of c).present
 
@@ -95,8 +93,8 @@ module _ (x : Setting) (fs : List Frame) (u : Trail) (ls : List Level) where
     pub setting : IsSetting x
     pub frames : AreFrames x.sig.now x.table.now fs
     pub trail : IsTrailOf x.table.now u
-    pub levels : AreLevels x setting.walkable.before fs u ls l.frames (length_at l.mark)
-    pub last : IsLevel x setting.walkable.before fs u l
+    pub levels : AreLevels x fs u ls l.frames (length_at l.mark)
+    pub last : IsLevel x fs u l
     pub places : l.frames ≤ length fs
     pub marks : length_at l.mark ≤ length u.stack
     pub chained : AreChained x setting.walkable.before fs u ls (λ path. setting.walkable.before l.instr ≡ path)

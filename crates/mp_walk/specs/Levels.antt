@@ -1,9 +1,8 @@
 -- What the levels of a walk stand for, and what holds of them.
-use Rattle.std.specs.Prelude.{◌≡◌, ◌≤◌, ◌+◌, ◌-◌, ◌*◌, ⊤, ℕ, List, [], ◌∷◌, length, Option, Some, None, IsSome}
+use Rattle.std.specs.Prelude.{◌≡◌, ◌≤◌, ◌+◌, ◌*◌, ⊤, ℕ, List, [], ◌∷◌, length, Option, Some, None, IsSome}
 use Rattle.std.specs.Prelude.{IfSome}
 use Rattle.mp_term.specs.Size.{all_nodes, node_count}
 use Rattle.mp_term.specs.Tree.{Tree}
-use Rattle.mp_pattern.specs.declared.limits.TheConstants.{MAX_PATTERN_NODES}
 use Rattle.mp_table.specs.Table.{Table, terms_at}
 use Rattle.mp_subst.specs.Trail.{Trail, length_at, cut}
 use Rattle.mp_ac.specs.declared.search.CommSearch.{CommSearch}
@@ -19,10 +18,9 @@ use Rattle.mp_walk.specs.declared.setting.Setting.{Setting}
 use Rattle.mp_walk.specs.Course.{Read, way_cost}
 use Rattle.mp_walk.specs.Instrs.{Instr, instr_at}
 use Rattle.mp_walk.specs.OpenOnes.{opens, IsPlaceBelow}
-use Rattle.mp_walk.specs.SoundTokens.{path_nodes}
+use Rattle.mp_walk.specs.Rooms.{target_room}
 use Rattle.mp_walk.specs.TokenMachine.{Open, State}
 use Rattle.mp_walk.specs.Trails.{numbered_subst}
-use Rattle.mp_walk.specs.Walkable.{Path}
 
 -- the state where the open operations are those from a place outward
 abbrev pub state_of : Table → List Frame → Option ℕ → Trail → State
@@ -47,9 +45,9 @@ abbrev pub opens_load : List Open → ℕ
 opens_load [] = 0
 opens_load (f ∷ fs) = all_nodes f.left + opens_load fs
 
--- so many nodes are read, and the trail has room for what may come behind them
+-- the trail has room for the terms that are left, and so much more
 abbrev pub HasRoom : ℕ → List Open → Trail → Type 0
-HasRoom node os u = opens_load os + 3 * (MAX_PATTERN_NODES + 1 - node) ≤ u.spare
+HasRoom most os u = opens_load os + most + 3 ≤ u.spare
 
 -- how much of the trail's room a search below a token takes at most: the nodes of the term that stands first, and three
 -- for each node below
@@ -91,14 +89,13 @@ abbrev pub first_mark : List Level → ℕ → ℕ
 first_mark [] n = n
 first_mark (l ∷ ls) n = length_at l.mark
 
-module _ (x : Setting) (before : ℕ → Path) (fs : List Frame) (u : Trail) where
-  -- what holds of a level: its instruction is there, and comes behind the nodes that are read; the places and the
-  -- entries that it counts are there, and there was room
+module _ (x : Setting) (fs : List Frame) (u : Trail) where
+  -- what holds of a level: its instruction is there; the places and the entries that it counts are there, and there was
+  -- room
   pub record IsLevel (l : Level) : Type 0 where
     pub instr : IsSome (instr_at x.code.now.instrs l.instr)
-    pub node : l.node ≡ path_nodes (before l.instr)
     pub place : IsPlaceBelow l.frames l.place
-    pub room : HasRoom l.node (opens x.table.now fs l.place) (trail_before u l)
+    pub room : HasRoom (target_room x.code.now.instrs (Some l.instr)) (opens x.table.now fs l.place) (trail_before u l)
     pub searched : (i : Instr) → instr_at x.code.now.instrs l.instr ≡ Some i
         → HasSearch x.table.now i.token (opens x.table.now fs l.place) (trail_before u l) l.search
     pub way : IsAtWay l.next l.search
@@ -113,7 +110,6 @@ module _ (x : Setting) (before : ℕ → Path) (fs : List Frame) (u : Trail) whe
 -- two levels are those of one token at one place
 pub record AreOfOneToken (old new : Level) : Type 0 where
   pub instr : new.instr ≡ old.instr
-  pub node : new.node ≡ old.node
   pub place : new.place ≡ old.place
   pub frames : new.frames ≡ old.frames
   pub mark : new.mark ≡ old.mark

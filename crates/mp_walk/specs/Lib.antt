@@ -12,6 +12,7 @@ pub mod OpenOnes
 pub mod Ways
 pub mod Trails
 pub mod Course
+pub mod Rooms
 pub mod Code
 pub mod Setting
 pub mod Below
@@ -25,7 +26,6 @@ pub mod WalkCode
 pub mod WalkInside
 pub mod Found
 pub mod FoundOrder
-pub mod FoundView
 pub mod Chained
 pub mod NamedItems
 pub mod RankedView

@@ -1,16 +1,24 @@
 -- What values by ranks are read as.
-use Rattle.std.specs.Prelude.{ℕ, List, map}
+use Rattle.std.specs.Prelude.{ℕ, List, [], ◌∷◌, map}
 use Rattle.std.specs.List.{AllByRecursion}
 use Rattle.mp_pattern.specs.Lists.{Pair}
 use Rattle.mp_pattern.specs.Value.{Binding}
 use Rattle.mp_table.specs.Table.{Table}
+use Rattle.mp_table.specs.declared.rank.Rank.{Rank}
 use Rattle.mp_subst.specs.Bound.{Bound, bound_from, bound_of, value_in, IsBoundIn}
 use Rattle.mp_walk.specs.declared.ranked.Kept.{Kept}
+use Rattle.mp_walk.specs.declared.ranked.Ranks.{Ranks}
+use Rattle.mp_walk.specs.declared.ranked.Ranks.TheVariants.{One, Many}
 use Rattle.mp_walk.specs.declared.ranked.RankedBinding.{RankedBinding}
+
+-- the ranks of a value
+abbrev pub listed : Ranks → List Rank
+listed (One r) = r ∷ []
+listed (Many rs) = rs.items
 
 -- the value of a variable by ranks
 abbrev pub kept_bound : Kept → Bound
-kept_bound k = bound_from k.form k.wrap k.ranks.items
+kept_bound k = bound_from k.form k.wrap (listed k.ranks)
 
 -- the variable
 abbrev pub kept_name : Kept → List ℕ

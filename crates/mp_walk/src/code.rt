@@ -1,15 +1,18 @@
 //! Tables of instructions that are ready to be walked.
-ghost use Rattle.std.specs.Prelude.{◌≡◌, ◌++◌, ◌+◌, List, [], ◌∷◌, length, map, IfOk, option_map};
+ghost use Rattle.std.specs.Prelude.{◌≡◌, ◌≤◌, ◌++◌, ◌+◌, List, [], ◌∷◌, length, map, IfOk, IfSome, option_map};
 ghost use Rattle.std.specs.List.{AllByRecursion};
 ghost use Rattle.std.specs.List.Sorted.{IsStrictlySortedBy};
 ghost use Rattle.std.specs.Ordering.{nat_cmp};
 ghost use Rattle.mp_term.specs.Signature.{Sig};
 ghost use Rattle.mp_pattern.specs.NetTokenView.{net_token};
+ghost use Rattle.mp_pattern.specs.declared.limits.TheConstants.{MAX_PATTERN_NODES};
 ghost use Rattle.mp_walk.specs.Code.{IsPlanned, ArePlanned, IsCode, plan_at};
+ghost use Rattle.mp_walk.specs.CodeForest.{code_forest};
 ghost use Rattle.mp_walk.specs.Instrs as plain;
 ghost use Rattle.mp_walk.specs.Instrs.{accepts_at, instr_at};
 ghost use Rattle.mp_walk.specs.InstrView.{plain_instr};
-ghost use Rattle.mp_walk.specs.SoundTokens.{IsSoundToken};
+ghost use Rattle.mp_walk.specs.Rooms.{forest_room, room_at, token_room};
+ghost use Rattle.mp_walk.specs.SoundTokens.{IsSoundToken, token_nodes};
 ghost use Rattle.mp_walk.specs.Walkable.{IsWalkable};
 
 use crate::instr::{Instr, Instrs};
@@ -27,10 +30,12 @@ pub(crate) struct Plans {
 
 /// A table of instructions that is ready to be walked: with each token of a commutative application goes the plan of
 /// its pattern. `IsCode` of `specs/Code.antt` says over which signature.
+// With it goes how much of a trail's room a walk takes at most, beside the terms of its subject.
 #[derive(Drop)]
 pub struct Code {
     pub(crate) instrs: Instrs,
     pub(crate) plans: Plans,
+    pub(crate) room: u32,
 }
 
 impl Plans {
@@ -66,6 +71,59 @@ impl Plans {
     }
 }
 
+// What the token of the instruction of the number takes of a trail's room at most, beside the terms that it takes.
+fn token_room(token: &NetToken, number: usize, plans: &Plans) -> u32
+    requires narrow { token_nodes (net_token token.now) ≤ MAX_PATTERN_NODES }
+    requires ascending { IsStrictlySortedBy nat_cmp plans.now.numbers.items }
+    requires planned { (sig : Sig) × IsPlanned sig (net_token token.now)
+        (plan_at plans.now.numbers.items plans.now.plans.items number) }
+    ensures { result ≡ token_room (net_token token.now) }
+{
+    match token {
+        NetToken::Sym(_) | NetToken::Enter(_) | NetToken::Leave(_) => 0,
+        NetToken::Comm(_) => match plans.at(number) {
+            Some(plan) => 3 * plan.nodes(),
+            None => unreachable!(),
+        },
+        _ => 3,
+    }
+}
+
+// What is read from the target on takes at most, where that of each instruction is given.
+fn room_at(rooms: &[u32], target: Option<u32>) -> u32
+    requires { IfSome target (λ n. (1 ≤ n) × (n ≤ length rooms.now)) }
+    ensures { result ≡ room_at rooms.now target }
+{
+    match target {
+        Some(number) => rooms[number as usize - 1],
+        None => 0,
+    }
+}
+
+// What is read over the instructions takes of a trail's room at most, beside the subject's terms.
+fn room_of(alloc: Global, sig: &Signature, instrs: &Instrs, plans: &Plans) -> Result<u32, Memory>
+    requires walkable { IsWalkable sig.now instrs.now }
+    requires planned { ArePlanned sig.now instrs.now plans.now }
+    ensures { IfOk result (λ n. n ≡ forest_room (code_forest instrs.now)) }
+{
+    let _ = sig;
+    let mut rooms = Vec::from_elem(alloc, 0, instrs.len())?;
+    let mut left = instrs.len();
+    while left > 0 {
+        let number = left;
+        left -= 1;
+        let Some(instr) = instrs.get(left) else {
+            unreachable!()
+        };
+        let below = token_room(&instr.token, number, plans) + room_at(&rooms, instr.down);
+        rooms[left] = below.max(room_at(&rooms, instr.over));
+    }
+    Ok(match rooms.first() {
+        Some(room) => *room,
+        None => 0,
+    })
+}
+
 // The plans of the instructions.
 fn plans_of(alloc: Global, sig: &Signature, instrs: &[Instr]) -> Result<Plans, Memory>
     requires { AllByRecursion (λ i. IsSoundToken sig.now i.token) (map plain_instr instrs.now) }
@@ -90,7 +148,12 @@ impl Code {
         ensures planned { IfOk result (IsCode sig.now) }
     {
         let plans = plans_of(alloc, sig, instrs.as_slice())?;
-        Ok(Code { instrs, plans })
+        let room = room_of(alloc, sig, &instrs, &plans)?;
+        Ok(Code {
+            instrs,
+            plans,
+            room,
+        })
     }
 
     /// The number of the instructions.

@@ -1,6 +1,6 @@
 //! The course of a walk: the tokens that it has read, and what is to be tried next.
 ghost use Rattle.std.specs.Prelude.{◌≡◌, ℕ, [], ◌∷◌, Some, IfOk, MatchOption, MatchBool, if◌then◌else◌};
-ghost use Rattle.std.specs.Prelude.{◌≤◌, ◌<◌, length};
+ghost use Rattle.std.specs.Prelude.{◌≤◌, ◌<◌, length, IsTrue, IsSome};
 ghost use Rattle.std.specs.List.{AllByRecursion};
 ghost use Rattle.mp_term.specs.Size.{node_count};
 ghost use Rattle.mp_pattern.specs.Fits.{Table};
@@ -26,10 +26,9 @@ use crate::level::Level;
 use crate::opening::opened;
 use crate::reading::read;
 use crate::setting::Setting;
-use crate::steps::{is_spent, way_from};
-use crate::token::nodes;
+use crate::steps::{is_other_symbol, is_spent, way_from};
 use mp_ac::CommRoom;
-use mp_pattern::{MAX_PATTERN_NODES, MAX_VARIABLES, NetToken};
+use mp_pattern::{MAX_VARIABLES, NetToken};
 use mp_subst::Trail;
 use mp_table::Rank;
 use mp_term::{MAX_TERM_NODES, Memory};
@@ -44,8 +43,7 @@ pub(crate) enum Turn {
 }
 
 // The allocator; what a walk goes by; the trail; the frames; the tokens that are read; the rooms that their searches
-// gave back; the place of the innermost open operation; how many nodes are read; and the instruction that is to be
-// tried there.
+// gave back; the place of the innermost open operation; and the instruction that is to be tried there.
 #[derive(Drop)]
 pub(crate) struct Course<'a> {
     pub(crate) alloc: Global,
@@ -55,7 +53,6 @@ pub(crate) struct Course<'a> {
     pub(crate) levels: Vec<Level<'a>>,
     pub(crate) rooms: Vec<CommRoom>,
     pub(crate) place: Option<usize>,
-    pub(crate) node: u32,
     pub(crate) target: Option<u32>,
 }
 
@@ -82,11 +79,7 @@ impl<'a> Course<'a> {
     {
         let root = set.table.root();
         let nodes = set.table.nodes(root) as u32;
-        let trail = Trail::new(
-            alloc,
-            MAX_VARIABLES as u32,
-            nodes + 3 * (MAX_PATTERN_NODES + 1),
-        )?;
+        let trail = Trail::new(alloc, MAX_VARIABLES as u32, nodes + set.code.room + 3)?;
         let mut frames = Vec::with_capacity(alloc, FEW)?;
         frames.push(Frame::root(root))?;
         let levels = Vec::with_capacity(alloc, FEW)?;
@@ -99,7 +92,6 @@ impl<'a> Course<'a> {
             levels,
             rooms: Vec::new(alloc),
             place: Some(0),
-            node: 0,
             target,
         })
     }
@@ -129,7 +121,6 @@ impl<'a> Course<'a> {
         ensures setting { self.new.set ≡ self.old.set }
     {
         self.place = level.place;
-        self.node = level.node;
         self.target = instr.over;
     }
 
@@ -148,11 +139,10 @@ impl<'a> Course<'a> {
         let Some(place) = level.place else {
             unreachable!()
         };
-        let Setting { sig, code, table } = self.set;
+        let Setting { sig, table, .. } = self.set;
         let way = level.next.saturating_sub(1);
         self.frames.reserve(2)?;
         self.place = opened(sig, table, &instr.token, place, way, &mut self.frames);
-        self.node = level.node + nodes(&instr.token, code.plan(level.instr));
         self.target = instr.down;
         self.levels.push(level)?;
         Ok(if self.accepts(instr) {
@@ -204,7 +194,6 @@ impl<'a> Course<'a> {
     {
         let level = Level {
             instr: number,
-            node: self.node,
             place: self.place,
             frames: self.frames.len(),
             mark: self.trail.mark(),
@@ -241,7 +230,6 @@ impl<'a> Course<'a> {
         };
         let level = Level {
             instr: number,
-            node: self.node,
             place: self.place,
             frames: self.frames.len(),
             mark,
@@ -280,6 +268,46 @@ impl<'a> Course<'a> {
         self.read_on(level)
     }
 
+    // A symbol is to be tried.
+    fn tries_symbol(&self) -> bool
+        ensures { IsTrue result → IsSome self.now.target }
+    {
+        let Some(number) = self.target else {
+            return false;
+        };
+        match self.set.code.instr(number) {
+            Some(instr) => matches!(&instr.token, NetToken::Sym(_)),
+            None => false,
+        }
+    }
+
+    // Leaves the symbols behind that are to be tried and aren't the first term that is left.
+    fn pass_symbols(&mut self)
+        requires { IsCourse self.old }
+        ensures course { IsCourse self.new }
+        ensures to_come { course_to_come self.new ≡ course_to_come self.old }
+        ensures visits { course_visits self.new ≤ course_visits self.old }
+        ensures setting { self.new.set ≡ self.old.set }
+    {
+        if !self.tries_symbol() {
+            return;
+        }
+        let Some(place) = self.place else {
+            return;
+        };
+        let Setting { code, table, .. } = self.set;
+        let first = self.frames[place].first(table);
+        while let Some(number) = self.target {
+            let Some(instr) = code.instr(number) else {
+                unreachable!()
+            };
+            if !is_other_symbol(table, first, &instr.token) {
+                return;
+            }
+            self.target = instr.over;
+        }
+    }
+
     // One turn: the next step of a token is taken, or the token is left behind.
     pub(crate) fn turn(&mut self) -> Result<Turn, Memory>
         requires { IsCourse self.old }
@@ -305,6 +333,7 @@ impl<'a> Course<'a> {
         ensures setting { self.new.set ≡ self.old.set }
     {
         loop {
+            self.pass_symbols();
             match self.turn()? {
                 Turn::On => {}
                 Turn::Found => return Ok(true),

@@ -104,8 +104,8 @@ pub(crate) fn entry_among<'t>(
     node: u32,
 ) -> Option<(&'t [Rank], bool)>
     requires frames { AreFrames set.sig.now set.table.now frames.now }
-    requires levels { (before : ℕ → Path) × (u : plain_trail) × (marks : ℕ)
-        × AreLevels set before frames.now u levels.now (length frames.now) marks }
+    requires levels { (u : plain_trail) × (marks : ℕ)
+        × AreLevels set frames.now u levels.now (length frames.now) marks }
     ensures { (u : plain_trail) →
         let table = set.entry.table.now in
         let entries = table_read set.entry.code.now.instrs (map (read_of table frames.now u) levels.now) in

@@ -2,13 +2,12 @@
 use mp_ac::CommSearch;
 use mp_subst::Mark;
 
-// A token that is read: the number of its instruction; that of the first node that it stands for; the place of the
-// innermost operation that was open before it, and how many places there were; how long the trail was; the way that is
-// to be tried next; and the search below a commutative application.
+// A token that is read: the number of its instruction; the place of the innermost operation that was open before it,
+// and how many places there were; how long the trail was; the way that is to be tried next; and the search below a
+// commutative application.
 #[derive(Drop)]
 pub(crate) struct Level<'a> {
     pub(crate) instr: u32,
-    pub(crate) node: u32,
     pub(crate) place: Option<usize>,
     pub(crate) frames: usize,
     pub(crate) mark: Mark,

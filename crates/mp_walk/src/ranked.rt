@@ -1,13 +1,16 @@
 //! Pairs of a rule and a substitution, whose values are kept by ranks in a table.
-ghost use Rattle.std.specs.Prelude.{◌≡◌, ◌≤◌, length, map, slice_get, option_map, IfOk};
+ghost use Rattle.std.specs.Prelude.{◌≡◌, ◌≤◌, length, map, slice_get, option_map, IfOk, Some, refl};
+ghost use Rattle.std.specs.Ordering.{is_eq};
+ghost use Rattle.std.specs.Cmp.{partial_equiv_from_equiv, po, eq_by_cmp_equiv};
 ghost use Rattle.mp_pattern.specs.Lists.{subst_cmp};
 ghost use Rattle.mp_pattern.specs.declared.limits.TheConstants.{MAX_VARIABLES};
 ghost use Rattle.mp_subst.specs.Bound.{bound_of};
 ghost use Rattle.mp_subst.specs.Trail.{GoesWith, subst_in};
 ghost use Rattle.mp_subst.specs.View.{pair_of, subst_of};
 ghost use Rattle.mp_walk.specs.Found.{found_cmp, names_cmp};
+ghost use Rattle.mp_walk.specs.FoundOrder.{found_cmp_total};
 ghost use Rattle.mp_walk.specs.NamedItems.{called};
-ghost use Rattle.mp_walk.specs.RankedView.{kept_binding, kept_bound, kept_name, shown_binding, AreKept};
+ghost use Rattle.mp_walk.specs.RankedView.{kept_binding, kept_bound, kept_name, listed, shown_binding, AreKept};
 
 use crate::rank_order::compare_bounds;
 use mp_pattern::Form;
@@ -17,6 +20,15 @@ use mp_term::{Memory, Name, Names, OpId};
 use std::alloc::Global;
 use std::cmp::Ordering;
 use std::marker::Model;
+use std::slice;
+
+// The ranks of a value. Most values are one term, which takes no allocation.
+#[derive(Drop)]
+pub(crate) enum Ranks {
+    One(Rank),
+    // None, or more than one.
+    Many(Vec<Rank>),
+}
 
 // A variable with its value by ranks.
 #[derive(Drop)]
@@ -24,7 +36,7 @@ pub(crate) struct Kept<'a> {
     pub(crate) name: &'a Name,
     pub(crate) form: Form,
     pub(crate) wrap: Option<OpId>,
-    pub(crate) ranks: Vec<Rank>,
+    pub(crate) ranks: Ranks,
 }
 
 /// A variable, and its value by ranks in a table. Contracts see it as the binding `shown_binding` of
@@ -40,7 +52,7 @@ pub struct RankedBinding<'a> {
 }
 
 /// The number of a rule, its index from 0, and a substitution that the rule admits, its values by ranks in a table.
-/// Contracts see it as the plain pair.
+/// Contracts see it as the plain pair. Pairs are in the order `found_cmp` of `specs/Found.antt`.
 #[derive(Drop)]
 pub struct RankedPair<'a> {
     rule: u32,
@@ -62,6 +74,30 @@ impl<'a> Model for RankedPair<'a> {
     ghost invariant = { λ p. AreKept p.table.now p.values.items };
 }
 
+impl Ranks {
+    // The ranks, which are copied.
+    fn new(alloc: Global, ranks: &[Rank]) -> Result<Ranks, Memory>
+        ensures { IfOk result (λ own. listed own ≡ ranks.now) }
+    {
+        if ranks.len() == 1 {
+            return Ok(Ranks::One(ranks[0]));
+        }
+        let mut list = Vec::with_capacity(alloc, ranks.len())?;
+        list.extend_from_slice(ranks)?;
+        Ok(Ranks::Many(list))
+    }
+
+    // The list of them.
+    fn as_slice(&self) -> &[Rank]
+        ensures { result.now ≡ listed self.now }
+    {
+        match self {
+            Ranks::One(rank) => slice::from_ref(rank),
+            Ranks::Many(list) => list,
+        }
+    }
+}
+
 // The value of a variable as a bound.
 fn bound<'a>(kept: &'a Kept<'_>) -> Bound<'a>
     ensures { bound_of result ≡ kept_bound kept.now }
@@ -69,7 +105,7 @@ fn bound<'a>(kept: &'a Kept<'_>) -> Bound<'a>
     Bound {
         form: kept.form,
         wrap: kept.wrap,
-        ranks: &kept.ranks,
+        ranks: kept.ranks.as_slice(),
     }
 }
 
@@ -78,8 +114,7 @@ fn keep<'a>(alloc: Global, name: &'a Name, bound: &Bound<'_>) -> Result<Kept<'a>
     ensures name { IfOk result (λ k. k.name.now ≡ name.now) }
     ensures bound { IfOk result (λ k. kept_bound k ≡ bound_of bound.now) }
 {
-    let mut ranks = Vec::with_capacity(alloc, bound.ranks.len())?;
-    ranks.extend_from_slice(bound.ranks)?;
+    let ranks = Ranks::new(alloc, bound.ranks)?;
     Ok(Kept {
         name,
         form: bound.form,
@@ -156,7 +191,7 @@ fn compare_values(
 }
 
 // The order of pairs, where those of one rule have the same variables: by the rules' numbers and the substitutions.
-pub(crate) fn compare(pair: &RankedPair<'_>, other: &RankedPair<'_>) -> Ordering
+fn compare(pair: &RankedPair<'_>, other: &RankedPair<'_>) -> Ordering
     ensures { result ≡ found_cmp pair.now other.now }
 {
     if pair.rule != other.rule {
@@ -167,6 +202,44 @@ pub(crate) fn compare(pair: &RankedPair<'_>, other: &RankedPair<'_>) -> Ordering
         return names;
     }
     compare_values(pair.table, &pair.values, other.table, &other.values)
+}
+
+impl PartialEq for RankedPair<'_> {
+    ghost eq = { λ p q. is_eq (found_cmp p q) };
+
+    ghost laws = { partial_equiv_from_equiv (eq_by_cmp_equiv found_cmp_total) };
+
+    fn eq(&self, other: &Self) -> bool {
+        compare(self, other).is_eq()
+    }
+}
+
+impl Eq for RankedPair<'_> {
+    ghost laws = { eq_by_cmp_equiv found_cmp_total };
+}
+
+impl PartialOrd for RankedPair<'_> {
+    ghost partial_cmp = { λ p q. Some (found_cmp p q) };
+
+    ghost laws = { po found_cmp_total (λ _ _. refl) };
+
+    fn partial_cmp(&self, other: &Self) -> Option<Ordering> {
+        Some(compare(self, other))
+    }
+}
+
+impl Ord for RankedPair<'_> {
+    ghost cmp = { found_cmp };
+
+    ghost total = { found_cmp_total };
+
+    ghost matches_partial_cmp = { λ _ _. refl };
+
+    ghost matches_eq = { λ _ _. refl };
+
+    fn cmp(&self, other: &Self) -> Ordering {
+        compare(self, other)
+    }
 }
 
 impl<'a> RankedPair<'a> {

@@ -1,10 +1,10 @@
 //! The steps of a token in the innermost open operation.
 ghost use Rattle.std.specs.Prelude.{◌≡◌, ◌≤◌, ◌<◌, ◌+◌, ◌^◌, ◌&&◌, [], ◌∷◌, List, length, IfSome, MatchOption, false};
-ghost use Rattle.std.specs.Prelude.{◌-◌, None, IsTrue, IsFalse, MatchBool, if◌then◌else◌};
+ghost use Rattle.std.specs.Prelude.{◌-◌, None, IsTrue, IsFalse, MatchBool, if◌then◌else◌, drop, bytes_eq};
 ghost use Rattle.std.specs.Ordering.{is_eq};
 ghost use Rattle.mp_term.specs.NormalTest.{has_head};
 ghost use Rattle.mp_term.specs.Order.{tree_cmp};
-ghost use Rattle.mp_term.specs.Signature.{is_one};
+ghost use Rattle.mp_term.specs.Signature.{is_one, Sig};
 ghost use Rattle.mp_term.specs.Tree.{symbol};
 ghost use Rattle.mp_pattern.specs.NetTokens.{enter_token};
 ghost use Rattle.mp_pattern.specs.NetTokenView.{net_token};
@@ -31,13 +31,30 @@ use mp_subst::Trail;
 use mp_table::{Head, Rank, Table};
 use mp_term::{Name, OpId, Signature};
 
+// The names are the same. Many are numbered, and differ at the end, where their bytes are compared first.
+fn is_same(own: &[u8], name: &[u8]) -> bool
+    ensures { result ≡ bytes_eq own.now name.now }
+{
+    if own.len() != name.len() {
+        return false;
+    }
+    let mut place = own.len();
+    while 0 < place {
+        place -= 1;
+        if own[place] != name[place] {
+            return false;
+        }
+    }
+    true
+}
+
 // The term is the symbol of the name.
 fn is_symbol(table: &Table, rank: Rank, name: &Name) -> bool
     requires { HasRank table.now rank }
     ensures { result ≡ is_eq (tree_cmp (term_at table.now rank) (symbol name.now)) }
 {
     match table.head(rank) {
-        Head::Sym(own) => own.cmp(name).is_eq(),
+        Head::Sym(own) => is_same(own.bytes(), name.bytes()),
         Head::App(_) => false,
     }
 }
@@ -50,6 +67,20 @@ fn is_first_symbol(table: &Table, frame: &Frame, name: &Name) -> bool
     match frame.first(table) {
         None => false,
         Some(rank) => is_symbol(table, rank, name),
+    }
+}
+
+// The token is a symbol other than the first term that is left, which has the rank where there is one.
+pub(crate) fn is_other_symbol(table: &Table, first: Option<Rank>, token: &NetToken) -> bool
+    requires { IfSome first (HasRank table.now) }
+    ensures { IsTrue result → (sig : Sig) (f : Open) (fs : List Open) (s : Subst)
+        → MatchOption first (f.left ≡ []) (λ r. f.left ≡ term_at table.now r ∷ drop 1 f.left)
+        → HasNoWay sig f fs s (net_token token.now) 0 }
+{
+    match (token, first) {
+        (NetToken::Sym(name), Some(rank)) => !is_symbol(table, rank, name),
+        (NetToken::Sym(_), None) => true,
+        _ => false,
     }
 }
 

@@ -1,5 +1,5 @@
 //! What the token of a wildcard takes, whatever was taken before.
-ghost use Rattle.std.specs.Prelude.{◌≡◌, ◌≤◌, ℕ, List, [], Option, is_some, length, option_map, true};
+ghost use Rattle.std.specs.Prelude.{◌≡◌, ◌≤◌, ℕ, List, [], Option, is_some, length, true};
 ghost use Rattle.mp_term.specs.Signature.{in_kind, Sig};
 ghost use Rattle.mp_term.specs.NormalTest.{has_head};
 ghost use Rattle.mp_term.specs.Tree.{Tree};
@@ -9,13 +9,10 @@ ghost use Rattle.mp_pattern.specs.PatternTree.{Wildcard, is_sequence};
 ghost use Rattle.mp_table.specs.Table.{HasRank, HasRanks, term_at, terms_at};
 ghost use Rattle.mp_theory.specs.Solve as solve;
 ghost use Rattle.mp_pattern.specs.Fits.{is_left_out};
-ghost use Rattle.mp_walk.specs.Code.{IsPlanned};
 ghost use Rattle.mp_walk.specs.OpenOnes.{above};
-ghost use Rattle.mp_walk.specs.SoundTokens.{token_nodes};
 ghost use Rattle.mp_walk.specs.TokenMachine.{numbered_wildcard};
 
-use mp_ac::CommPlan;
-use mp_pattern::{MAX_PATTERN_NODES, NetToken, is_assoc_above, meets_count};
+use mp_pattern::{NetToken, is_assoc_above, meets_count};
 use mp_table::{Head, Rank, Table};
 use mp_term::{KindId, OpId, Signature};
 
@@ -50,19 +47,6 @@ pub(crate) fn is_optional(token: &NetToken) -> bool
         → result ≡ is_left_out (numbered_wildcard w x) [] }
 {
     matches!(token, NetToken::Opt(_, _))
-}
-
-// How many nodes the token stands for, which has its plan where it is that of a commutative application.
-pub(crate) fn nodes(token: &NetToken, plan: Option<&CommPlan>) -> u32
-    requires planned { (sig : Sig) × IsPlanned sig (net_token token.now) (option_map (λ c. c.now) plan) }
-    requires narrow { token_nodes (net_token token.now) ≤ MAX_PATTERN_NODES }
-    ensures { result ≡ token_nodes (net_token token.now) }
-{
-    match (token, plan) {
-        (NetToken::Leave(_), _) => 0,
-        (NetToken::Comm(_), Some(plan)) => plan.nodes() + 1,
-        _ => 1,
-    }
 }
 
 // A number of terms that the wildcard takes at least.

@@ -1,11 +1,9 @@
 use Rattle.std.proofs.Common.{◌∙◌, ap, sym, subst}
 use Rattle.std.specs.Prelude.{IfSome}
-use Rattle.std.proofs.lemmas.Result.{IfOk-weaker}
 use Rattle.mp_walk.specs.WalkItems.{IsLeafItem, AreLeafItems}
 use Rattle.mp_walk.specs.WalkView.{subject_of}
 use Rattle.mp_walk.proofs.ListLaws.{first-holds}
 use Rattle.mp_program.specs.ProgramView.{program_view}
-use Rattle.mp_vm.specs.ProgramList.{IsProgramList}
 use Rattle.mp_vm.proofs.RunLaws.{HasFound, added-over, found-first, found-last, found-next, leaf-accepts}
 use Rattle.mp_vm.proofs.RunLaws.{listing-program, none-left, shorter}
 use Rattle.mp_vm.proofs.run.accepted.Goals as goal
@@ -76,6 +74,6 @@ returns c =
     let next = c.in_ok-next.ensures in
     let ended = none-left c.loop-found.walk.to_come c.next.new.self.item (λ h. let b = next.answer.1 h in cc)
     (ap (λ w. w.item) next.moved) in
-    IfOk-weaker c.into_pairs.result _ (λ ps. IsProgramList sig p t ps.items)
-    (λ ps l. listing-program sig p c.requires.runnable t found ps.items (found-last sig p c.requires.runnable t found
-    c.loop-found.walk.to_come c.loop-found.invariant.found ended) l) c.into_pairs.ensures
+    listing-program sig p c.requires.runnable t found c.into_pairs.result.items
+    (found-last sig p c.requires.runnable t found c.loop-found.walk.to_come c.loop-found.invariant.found ended)
+    c.into_pairs.ensures

@@ -14,8 +14,8 @@ unreachable-requires c =
     let l = c.level-item.result in
     let at = slice_get-get_or c.args.levels.now c.loop-level.level-index l c.loop-level-test.true
     ∙ ap Some (sym c.level-item.is) in
-    let h = level-at c.args.set c.requires.levels.0 c.args.frames.now c.requires.levels.1 c.args.levels.now
-    (length c.args.frames.now) c.requires.levels.2 c.requires.levels.3 c.loop-level.level-index l at in
+    let h = level-at c.args.set c.args.frames.now c.requires.levels.0 c.args.levels.now
+    (length c.args.frames.now) c.requires.levels.1 c.requires.levels.2 c.loop-level.level-index l at in
     none-some _ c.in_default.ensures h.0.instr
 
 pub entry_in-requires-clause-place : goal.entry_in-requires-clause-place
@@ -23,8 +23,8 @@ entry_in-requires-clause-place c =
     let l = c.level-item.result in
     let at = slice_get-get_or c.args.levels.now c.loop-level.level-index l c.loop-level-test.true
     ∙ ap Some (sym c.level-item.is) in
-    let h = level-at c.args.set c.requires.levels.0 c.args.frames.now c.requires.levels.1 c.args.levels.now
-    (length c.args.frames.now) c.requires.levels.2 c.requires.levels.3 c.loop-level.level-index l at in
+    let h = level-at c.args.set c.args.frames.now c.requires.levels.0 c.args.levels.now
+    (length c.args.frames.now) c.requires.levels.1 c.requires.levels.2 c.loop-level.level-index l at in
     below-more l.frames (length c.args.frames.now) h.1 l.place h.0.place
 
 pub entry_in-requires-clause-search : goal.entry_in-requires-clause-search
@@ -32,10 +32,10 @@ entry_in-requires-clause-search c =
     let l = c.level-item.result in
     let at = slice_get-get_or c.args.levels.now c.loop-level.level-index l c.loop-level-test.true
     ∙ ap Some (sym c.level-item.is) in
-    let h = level-at c.args.set c.requires.levels.0 c.args.frames.now c.requires.levels.1 c.args.levels.now
-    (length c.args.frames.now) c.requires.levels.2 c.requires.levels.3 c.loop-level.level-index l at in
+    let h = level-at c.args.set c.args.frames.now c.requires.levels.0 c.args.levels.now
+    (length c.args.frames.now) c.requires.levels.1 c.requires.levels.2 c.loop-level.level-index l at in
     let held = c.instr.ensures ∙ ap (option_map (λ i. plain_instr i.now)) c.in-Some.is in
-    (c.requires.levels.1, h.0.searched (plain_instr c.in-Some.instr.now) held)
+    (c.requires.levels.0, h.0.searched (plain_instr c.in-Some.instr.now) held)
 
 pub returns-in-Ok : goal.returns-in-Ok
 returns-in-Ok c = λ u.

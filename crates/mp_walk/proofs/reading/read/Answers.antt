@@ -2,7 +2,6 @@ use Rattle.std.proofs.Common.{◌≡◌, ◌≤◌, ◌-◌, [], drop, refl, ap,
 use Rattle.std.specs.Prelude.{IsSome, MatchBool, if◌then◌else◌}
 use Rattle.std.specs.List.{AllByRecursion}
 use Rattle.std.proofs.lemmas.Result.{IfOk-weaker}
-use Rattle.mp_pattern.specs.NetTokens.{comm_token}
 use Rattle.mp_pattern.specs.NetTokenView.{net_token}
 use Rattle.mp_pattern.specs.View.{pattern_tree}
 use Rattle.mp_table.specs.Table.{rank_of}
@@ -31,14 +30,9 @@ step-requires-clause-single c = single-token c.args.instr.now.token c.in_default
 
 pub step-requires-clause-search : goal.step-requires-clause-search
 step-requires-clause-search c =
-    let t = c.args.set.table.now in
-    let sig = c.args.set.sig.now in
-    let k = net_token c.args.instr.now.token in
-    let fs = c.args.frames.now in
-    let l = c.args.level.now in
-    let u = c.args.trail.now in
-    let os = opens t fs l.place in
-    single-search t k os (trail_before u l) l.search
+    let before = trail_before c.args.trail.now c.args.level.now in
+    single-search c.args.set.table.now (net_token c.args.instr.now.token)
+    (opens c.args.set.table.now c.args.frames.now c.args.level.now.place) before c.args.level.now.search
     (single-token c.args.instr.now.token c.in_default.not-Comm) c.requires.search
 
 pub step-requires-clause-held : goal.step-requires-clause-held
@@ -46,41 +40,25 @@ step-requires-clause-held c = default-held c.args.set.table.now (net_token c.arg
 
 pub returns-in_default-clause-step : goal.returns-in_default-clause-step
 returns-in_default-clause-step c =
-    let t = c.args.set.table.now in
-    let sig = c.args.set.sig.now in
-    let k = net_token c.args.instr.now.token in
-    let fs = c.args.frames.now in
-    let l = c.args.level.now in
-    let u = c.args.trail.now in
-    let os = opens t fs l.place in
-    step-ended sig t fs k u c.step.new.trail l c.step.new.level c.requires.mark c.step.result c.step.ensures.step
-    c.step.ensures.refused
+    step-ended c.args.set.sig.now c.args.set.table.now c.args.frames.now (net_token c.args.instr.now.token)
+    c.args.trail.now c.step.new.trail c.args.level.now c.step.new.level c.requires.mark c.step.result
+    c.step.ensures.step c.step.ensures.refused
 
 pub returns-in_default-clause-kept : goal.returns-in_default-clause-kept
 returns-in_default-clause-kept c =
-    let t = c.args.set.table.now in
-    let sig = c.args.set.sig.now in
-    let k = net_token c.args.instr.now.token in
-    let fs = c.args.frames.now in
-    let l = c.args.level.now in
-    let u = c.args.trail.now in
-    let os = opens t fs l.place in
-    lies-step t k os (c.step.new.level.next - 1) (trail_before u l) c.step.new.trail c.step.result
-    c.step.ensures.kept
+    let os = opens c.args.set.table.now c.args.frames.now c.args.level.now.place in
+    let before = trail_before c.args.trail.now c.args.level.now in
+    lies-step c.args.set.table.now (net_token c.args.instr.now.token) os (c.step.new.level.next - 1) before
+    c.step.new.trail c.step.result c.step.ensures.kept
 
 pub returns-in_default-clause-back : goal.returns-in_default-clause-back
 returns-in_default-clause-back c = λ e. (c.step.ensures.refused e).0
 
 pub returns-in_default-clause-search : goal.returns-in_default-clause-search
 returns-in_default-clause-search c =
-    let t = c.args.set.table.now in
-    let sig = c.args.set.sig.now in
-    let k = net_token c.args.instr.now.token in
-    let fs = c.args.frames.now in
-    let l = c.args.level.now in
-    let u = c.args.trail.now in
-    let os = opens t fs l.place in
-    none-search t k os (trail_before u l) c.step.new.level.search
+    let os = opens c.args.set.table.now c.args.frames.now c.args.level.now.place in
+    let before = trail_before c.args.trail.now c.args.level.now in
+    none-search c.args.set.table.now (net_token c.args.instr.now.token) os before c.step.new.level.search
     (single-token c.args.instr.now.token c.in_default.not-Comm) c.step.ensures.search
 
 -- ---- a commutative application, where no term is left
@@ -100,35 +78,28 @@ pub returns-in_default-below-clause-step : goal.returns-in_default-below-clause-
 returns-in_default-below-clause-step c =
     let t = c.args.set.table.now in
     let sig = c.args.set.sig.now in
-    let k = net_token c.args.instr.now.token in
-    let fs = c.args.frames.now in
     let l = c.args.level.now in
-    let u = c.args.trail.now in
-    let os = opens t fs l.place in
+    let os = opens t c.args.frames.now l.place in
+    let before = trail_before c.args.trail.now l in
     let p = pattern_tree c.in-Comm.pattern in
-    let is : k ≡ comm_token p = ap net_token c.in-Comm.is in
+    let is = ap net_token c.in-Comm.is in
     let sound = subst (IsSoundToken sig) is c.requires.sound in
-    let none = none-searched t p (innermost_left os) (trail_before u l) l.search c.in_default-below.ensures
-    (subst (λ j. HasSearch t j os (trail_before u l) l.search) is c.requires.search) in
-    let over = λ (w : Trail). subst (λ j. steps_left sig j (read_of t fs w l) ≡ []) (sym is)
-    (none-left sig p sound (read_of t fs w l) os refl c.in_default-below.ensures
+    let none = none-searched t p (innermost_left os) before l.search c.in_default-below.ensures
+    (subst (λ j. HasSearch t j os before l.search) is c.requires.search) in
+    let over = λ (w : Trail). subst (λ j. steps_left sig j (read_of t c.args.frames.now w l) ≡ []) (sym is)
+    (none-left sig p sound (read_of t c.args.frames.now w l) os refl c.in_default-below.ensures
     (ap (λ o. below_ahead o (numbered_subst t (trail_before w l).stack)) none)) in
-    (over u, over c.undo.new.self)
+    (over c.args.trail.now, over c.undo.new.self)
 
 pub returns-in_default-below-clause-kept : goal.returns-in_default-below-clause-kept
 returns-in_default-below-clause-kept c =
     let t = c.args.set.table.now in
-    let sig = c.args.set.sig.now in
-    let k = net_token c.args.instr.now.token in
-    let fs = c.args.frames.now in
-    let l = c.args.level.now in
-    let u = c.args.trail.now in
-    let os = opens t fs l.place in
-    let same : IsTrailOf t (trail_before u l) = subst (IsTrailOf t) c.undo.ensures.trail (record {
+    let before = trail_before c.args.trail.now c.args.level.now in
+    let same : IsTrailOf t before = subst (IsTrailOf t) c.undo.ensures.trail (record {
       goes = c.undo.ensures.goes_with t c.requires.trail.goes;
       vars = ap (λ w. w.vars) c.undo.ensures.trail ∙ c.requires.trail.vars;
     }) in
-    subst (LiesOver t 0 (trail_before u l)) (sym c.undo.ensures.trail) (lies-same t 0 (trail_before u l) same)
+    subst (LiesOver t 0 before) (sym c.undo.ensures.trail) (lies-same t 0 before same)
 
 -- ---- where a term stands first
 
@@ -138,18 +109,12 @@ step_below-requires-clause-below c = c.in-Some.ensures.0
 pub step_below-requires-clause-search : goal.step_below-requires-clause-search
 step_below-requires-clause-search c =
     let t = c.args.set.table.now in
-    let sig = c.args.set.sig.now in
-    let k = net_token c.args.instr.now.token in
-    let fs = c.args.frames.now in
     let l = c.args.level.now in
-    let u = c.args.trail.now in
-    let os = opens t fs l.place in
-    let p = pattern_tree c.in-Comm.pattern in
-    let is : k ≡ comm_token p = ap net_token c.in-Comm.is in
-    let b = c.in-Some.below in
+    let os = opens t c.args.frames.now l.place in
+    let before = trail_before c.args.trail.now l in
     let h = c.in-Some.ensures in
-    search-of b p t (innermost_left os) (drop 1 (innermost_left os)) (trail_before u l) l.search h.1 h.3 h.4
-    (subst (λ j. HasSearch t j os (trail_before u l) l.search) is c.requires.search)
+    search-of c.in-Some.below _ t (innermost_left os) (drop 1 (innermost_left os)) before l.search h.1 h.3 h.4
+    (subst (λ j. HasSearch t j os before l.search) (ap net_token c.in-Comm.is) c.requires.search)
 
 pub step_below-requires-clause-above : goal.step_below-requires-clause-above
 step_below-requires-clause-above c = record {
@@ -160,19 +125,12 @@ step_below-requires-clause-above c = record {
 
 pub step_below-requires-clause-spare : goal.step_below-requires-clause-spare
 step_below-requires-clause-spare c =
-    let t = c.args.set.table.now in
-    let sig = c.args.set.sig.now in
-    let k = net_token c.args.instr.now.token in
-    let fs = c.args.frames.now in
-    let l = c.args.level.now in
-    let u = c.args.trail.now in
-    let os = opens t fs l.place in
-    let p = pattern_tree c.in-Comm.pattern in
-    let is : k ≡ comm_token p = ap net_token c.in-Comm.is in
-    let b = c.in-Some.below in
+    let os = opens c.args.set.table.now c.args.frames.now c.args.level.now.place in
+    let before = trail_before c.args.trail.now c.args.level.now in
     let h = c.in-Some.ensures in
-    let cost = subst (λ j. search_cost j (innermost_left os) ≤ (trail_before u l).spare) is c.requires.cost in
-    let same = cost-same b p (innermost_left os) (drop 1 (innermost_left os)) h.1 h.4 in
+    let cost = subst (λ j. search_cost j (innermost_left os) ≤ before.spare) (ap net_token c.in-Comm.is)
+    c.requires.cost in
+    let same = cost-same c.in-Some.below _ (innermost_left os) (drop 1 (innermost_left os)) h.1 h.4 in
     omega (arith, cost, same)
 
 pub step_below-requires-clause-rooms : goal.step_below-requires-clause-rooms
@@ -189,16 +147,10 @@ pub returns-clause-step : goal.returns-clause-step
 returns-clause-step c =
     let t = c.args.set.table.now in
     let sig = c.args.set.sig.now in
-    let k = net_token c.args.instr.now.token in
     let fs = c.args.frames.now in
     let l = c.args.level.now in
     let u = c.args.trail.now in
-    let os = opens t fs l.place in
-    let p = pattern_tree c.in-Comm.pattern in
-    let is : k ≡ comm_token p = ap net_token c.in-Comm.is in
-    let b = c.in-Some.below in
     let h = c.in-Some.ensures in
-    let before = trail_before u l in
     let v = c.step_below.new.trail in
     let n = c.step_below.new.next in
     let q = c.step_below.new.search in
@@ -206,70 +158,49 @@ returns-clause-step c =
     IfOk-weaker c.step_below.result _ _
     (λ found e. subst (λ j. MatchBool found
     (IsStepTaken sig j (read_of t fs u l) (read_of t fs v m) (numbered_subst t v.stack))
-    ((steps_left sig j (read_of t fs u l) ≡ []) × (steps_left sig j (read_of t fs v m) ≡ []))) (sym is)
-    (below-step sig t p b h.1 h.2 h.3 os h.4 found before v (read_of t fs u l) (read_of t fs v m) l.next n l.search q
-    refl refl refl refl (ap (state_of t fs l.place) e.1.cut) refl
-    (ap (λ w. below_ahead q (numbered_subst t w.stack)) e.1.cut) refl e.0.0 e.0.1))
+    ((steps_left sig j (read_of t fs u l) ≡ []) × (steps_left sig j (read_of t fs v m) ≡ [])))
+    (sym (ap net_token c.in-Comm.is))
+    (below-step sig t _ c.in-Some.below h.1 h.2 h.3 (opens t fs l.place) h.4 found (trail_before u l) v
+    (read_of t fs u l) (read_of t fs v m) l.next n l.search q refl refl refl refl
+    (ap (state_of t fs l.place) e.1.cut) refl (ap (λ w. below_ahead q (numbered_subst t w.stack)) e.1.cut) refl
+    e.0.0 e.0.1))
     (ok-both _ _ c.step_below.result (ok-both _ _ c.step_below.result c.step_below.ensures.step
     c.step_below.ensures.ended) c.step_below.ensures.above)
 
 pub returns-clause-kept : goal.returns-clause-kept
 returns-clause-kept c =
     let t = c.args.set.table.now in
-    let sig = c.args.set.sig.now in
-    let k = net_token c.args.instr.now.token in
-    let fs = c.args.frames.now in
-    let l = c.args.level.now in
-    let u = c.args.trail.now in
-    let os = opens t fs l.place in
-    let p = pattern_tree c.in-Comm.pattern in
-    let is : k ≡ comm_token p = ap net_token c.in-Comm.is in
-    let b = c.in-Some.below in
+    let os = opens c.args.set.table.now c.args.frames.now c.args.level.now.place in
+    let before = trail_before c.args.trail.now c.args.level.now in
     let h = c.in-Some.ensures in
-    let before = trail_before u l in
     let v = c.step_below.new.trail in
     let n = c.step_below.new.next in
     IfOk-weaker c.step_below.result _ _
-    (λ found e. subst (λ j. LiesOver t (if found then step_cost j os (n - 1) else 0) before v) (sym is)
-    (below-lies sig t p b h.1 h.2 h.3 os h.4 found (length_at l.mark) (n - 1) before v u c.requires.mark refl e.1
-    e.0.0 e.0.1))
+    (λ found e. subst (λ j. LiesOver t (if found then step_cost j os (n - 1) else 0) before v)
+    (sym (ap net_token c.in-Comm.is))
+    (below-lies c.args.set.sig.now t _ c.in-Some.below h.1 h.2 h.3 os h.4 found (length_at c.args.level.now.mark)
+    (n - 1) before v c.args.trail.now c.requires.mark refl e.1 e.0.0 e.0.1))
     (ok-both _ _ c.step_below.result (ok-both _ _ c.step_below.result c.step_below.ensures.spare
     c.step_below.ensures.back) c.step_below.ensures.above)
 
 pub returns-clause-valid : goal.returns-clause-valid
 returns-clause-valid c =
-    let t = c.args.set.table.now in
-    let sig = c.args.set.sig.now in
-    let k = net_token c.args.instr.now.token in
-    let fs = c.args.frames.now in
-    let l = c.args.level.now in
-    let u = c.args.trail.now in
-    let os = opens t fs l.place in
-    let p = pattern_tree c.in-Comm.pattern in
-    let is : k ≡ comm_token p = ap net_token c.in-Comm.is in
-    let b = c.in-Some.below in
+    let os = opens c.args.set.table.now c.args.frames.now c.args.level.now.place in
     let h = c.in-Some.ensures in
     let n = c.step_below.new.next in
     IfOk-weaker c.step_below.result _ _
-    (λ found e truth f gs at. subst (λ j. IsWayValid j f (n - 1)) (sym is)
-    (below-valid sig t p b h.1 h.2 h.3 os h.4 n (e truth).0 (e truth).1 f gs at))
+    (λ found e truth f gs at. subst (λ j. IsWayValid j f (n - 1)) (sym (ap net_token c.in-Comm.is))
+    (below-valid _ _ _ c.in-Some.below h.1 h.2 h.3 os h.4 n (e truth).0 (e truth).1 f gs at))
     c.step_below.ensures.next
 
 pub returns-clause-search : goal.returns-clause-search
 returns-clause-search c =
     let t = c.args.set.table.now in
-    let sig = c.args.set.sig.now in
-    let k = net_token c.args.instr.now.token in
-    let fs = c.args.frames.now in
-    let l = c.args.level.now in
-    let u = c.args.trail.now in
-    let os = opens t fs l.place in
-    let p = pattern_tree c.in-Comm.pattern in
-    let is : k ≡ comm_token p = ap net_token c.in-Comm.is in
-    let b = c.in-Some.below in
+    let os = opens c.args.set.table.now c.args.frames.now c.args.level.now.place in
+    let before = trail_before c.args.trail.now c.args.level.now in
     let h = c.in-Some.ensures in
     let q = c.step_below.new.search in
     IfOk-weaker c.step_below.result _ _
-    (λ found e. subst (λ j. HasSearch t j os (trail_before u l) q) (sym is)
-    (search-kept b p t (innermost_left os) (drop 1 (innermost_left os)) (trail_before u l) q h.1 h.3 h.4 e))
+    (λ found e. subst (λ j. HasSearch t j os before q) (sym (ap net_token c.in-Comm.is))
+    (search-kept c.in-Some.below _ t (innermost_left os) (drop 1 (innermost_left os)) before q h.1 h.3 h.4 e))
     c.step_below.ensures.search

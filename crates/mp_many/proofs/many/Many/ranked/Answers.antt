@@ -1,7 +1,5 @@
 use Rattle.std.proofs.Common.{◌∙◌, ◌<◌, [], ◌∷◌, ◌++◌, drop, length, subst, sym}
 use Rattle.std.specs.Prelude.{IfSome}
-use Rattle.std.proofs.lemmas.Result.{IfOk-weaker}
-use Rattle.mp_pattern.specs.Lists.{IsAllList}
 use Rattle.mp_many.specs.Given.{IsPairOf}
 use Rattle.mp_many.specs.Many.{subject_of}
 use Rattle.mp_many.specs.WalkItems.{IsWalkItem}
@@ -91,6 +89,5 @@ returns c =
     let next = c.in_ok-next.ensures in
     let ended = step-last m.sig m.rules t found c.loop-found.walk.to_come c.loop-found.invariant.found
     c.next.new.self.item (λ h. let b = next.answer.1 h in cc) next.item in
-    IfOk-weaker c.into_pairs.result _ (λ ps. IsAllList m.sig m.rules t ps.items)
-    (λ ps l. listing-all_list m.sig m.rules t found ps.items (found-last m.sig m.rules t found c.loop-found.walk.to_come
-    c.loop-found.invariant.found ended) l) c.into_pairs.ensures
+    listing-all_list m.sig m.rules t found c.into_pairs.result.items
+    (found-last m.sig m.rules t found c.loop-found.walk.to_come c.loop-found.invariant.found ended) c.into_pairs.ensures

@@ -12,11 +12,13 @@ use Rattle.mp_walk.specs.CourseView.{AreChained, LeadsTo}
 use Rattle.mp_walk.specs.Course.{table_read, reads_to_come, walk_from}
 use Rattle.mp_walk.specs.Levels.{read_of, state_of, HasRoom, AreLevels}
 use Rattle.mp_walk.specs.OpenOnes.{AreFrames, opens}
+use Rattle.mp_walk.specs.Rooms.{target_room}
 use Rattle.mp_walk.specs.TokenMachine.{begin_state}
 use Rattle.mp_walk.specs.Trails.{IsTrailOf}
 use Rattle.mp_walk.specs.WalkView.{subject_of}
-use Rattle.mp_walk.proofs.BeginLaws.{root_frame, begin-frames, begin-state, begin-there, begin-node, begin-first}
-use Rattle.mp_walk.proofs.BeginLaws.{if-any, begin-walk}
+use Rattle.mp_walk.proofs.BeginLaws.{root_frame, begin-frames, begin-state, begin-there, begin-first}
+use Rattle.mp_walk.proofs.BeginLaws.{begin-walk}
+use Rattle.mp_walk.proofs.RoomLaws.{few-all, first-room}
 use Rattle.mp_walk.proofs.ChainLaws.{alike-same}
 use Rattle.mp_walk.proofs.course.Course.begin.Goals as goal
 
@@ -36,7 +38,22 @@ overflow_add-nodes c =
     ap (λ (n : ℕ). term_at t (record { 0 = n })) c.root-root.ensures.rank in
     let count = c.nodes-nodes.ensures ∙ ap node_count same in
     let few = c.requires.nodes in
-    omega (arith, count, few)
+    let x = c.args.set in
+    let room = c.requires.setting.plans.room in
+    let little = few-all x.sig.now x.code.now.instrs c.requires.setting.walkable in
+    omega (arith, count, few, room, little)
+
+pub overflow_add-nodes-2 : goal.overflow_add-nodes-2
+overflow_add-nodes-2 c =
+    let t = c.args.set.table.now in
+    let same : term_at t c.root-root.result ≡ subject_of t =
+    ap (λ (n : ℕ). term_at t (record { 0 = n })) c.root-root.ensures.rank in
+    let count = c.nodes-nodes.ensures ∙ ap node_count same in
+    let few = c.requires.nodes in
+    let x = c.args.set in
+    let room = c.requires.setting.plans.room in
+    let little = few-all x.sig.now x.code.now.instrs c.requires.setting.walkable in
+    omega (arith, count, few, room, little)
 
 pub returns-clause-course : goal.returns-clause-course
 returns-clause-course c =
@@ -49,6 +66,8 @@ returns-clause-course c =
     c.in_ok-push.ensures.items ∙ ap (λ xs. xs ++ c.root.result ∷ []) c.in_ok-frames.ensures.items
     ∙ ap (λ f. f ∷ []) c.root.ensures in
     let count = c.nodes-nodes.ensures in
+    let first = first-room x.sig.now x.code.now.instrs w o c.first_target-target.ensures in
+    let most = c.requires.setting.plans.room in
     record {
       setting = c.requires.setting;
       frames = subst (AreFrames x.sig.now t) (sym frames) (begin-frames x.sig.now t r c.root-root.ensures.within);
@@ -57,14 +76,14 @@ returns-clause-course c =
         goes = record { values = tt; variables = tt };
         vars = refl;
       });
-      levels = subst (λ ls. AreLevels x w.before c.push.new.self.items c.in_ok-trail.trail ls
+      levels = subst (λ ls. AreLevels x c.push.new.self.items c.in_ok-trail.trail ls
           (length c.push.new.self.items) (length c.in_ok-trail.trail.stack)) (sym c.in_ok-levels.ensures.items) tt;
       rooms = subst (AllByRecursion (IsOfTable t)) (sym c.new-2.ensures.items) tt;
       there = begin-there x.code.now.instrs o c.first_target-target.ensures;
-      node = begin-node x.sig.now x.code.now.instrs w o c.first_target-target.ensures;
-      room = if-any _ o (subst (λ fs. HasRoom 0 (opens t fs (Some 0)) c.in_ok-trail.trail) (sym frames)
-          (subst (HasRoom 0 (opens t (root_frame r ∷ []) (Some 0))) (sym c.in_ok-trail.ensures)
-          (omega (arith, count))));
+      room = subst (λ fs. HasRoom (target_room x.code.now.instrs o) (opens t fs (Some 0)) c.in_ok-trail.trail)
+          (sym frames)
+          (subst (HasRoom (target_room x.code.now.instrs o) (opens t (root_frame r ∷ []) (Some 0)))
+          (sym c.in_ok-trail.ensures) (omega (arith, count, first, most)));
       chained = subst (λ ls. AreChained x w.before c.push.new.self.items c.in_ok-trail.trail ls (LeadsTo w.before o)
           (state_of t c.push.new.self.items (Some 0) c.in_ok-trail.trail)) (sym c.in_ok-levels.ensures.items) (
             alike-same (begin_state (subject_of t)) (state_of t c.push.new.self.items (Some 0) c.in_ok-trail.trail)

@@ -10,13 +10,11 @@ entry_among-requires-clause-frames c =
 
 pub entry_among-requires-clause-levels : goal.entry_among-requires-clause-levels
 entry_among-requires-clause-levels c =
-    let self = c.args.self.now in
-    let before = c.requires.setting.walkable.before in (
-      before,
+    let self = c.args.self.now in (
       self.trail,
       length self.trail.stack,
-      subst (λ ls. AreLevels self.set before c.deref.result.now self.trail ls (length c.deref.result.now)
+      subst (λ ls. AreLevels self.set c.deref.result.now self.trail ls (length c.deref.result.now)
           (length self.trail.stack)) (sym c.deref-2.ensures.value)
-          (subst (λ fs. AreLevels self.set before fs self.trail self.levels.items (length fs)
+          (subst (λ fs. AreLevels self.set fs self.trail self.levels.items (length fs)
           (length self.trail.stack)) (sym c.deref.ensures.value) c.requires.levels),
     )

@@ -11,13 +11,12 @@ read_on-requires-clause-standing c =
     let many : c.len.result ≡ length self.frames.items = omega (arith, c.len.ensures, self.frames.ok.0) in
     new-standing self c.requires.course c.args.number c.requires.target (record {
       instr = c.args.number;
-      node = self.node;
       place = self.place;
       frames = c.len.result;
       mark = c.mark.result;
       next = 0;
       search = None;
-    }) refl refl c.mark.ensures refl many refl refl
+    }) refl refl c.mark.ensures many refl refl
 
 pub returns-clause-turn : goal.returns-clause-turn
 returns-clause-turn c =
@@ -25,7 +24,6 @@ returns-clause-turn c =
     subst (λ is. IfOk c.read_on.result (λ turn. IsBroughtOn is turn c.read_on.new.self))
     (sym (last-new self c.requires.course c.args.number c.requires.target (record {
       instr = c.args.number;
-      node = self.node;
       place = self.place;
       frames = c.len.result;
       mark = c.mark.result;
@@ -39,7 +37,6 @@ returns-clause-less c =
     subst (λ n. IfOk c.read_on.result (IsFewer (course_visits c.read_on.new.self) n))
     (sym (visits-new self c.requires.course c.args.number c.requires.target (record {
       instr = c.args.number;
-      node = self.node;
       place = self.place;
       frames = c.len.result;
       mark = c.mark.result;

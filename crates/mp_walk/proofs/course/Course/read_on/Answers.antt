@@ -1,12 +1,15 @@
-use Rattle.std.proofs.Common.{◌≡◌, ◌≤◌, ◌<◌, ◌+◌, ◌-◌, List, [], ◌∷◌, length, map, take, ap}
-use Rattle.std.proofs.Common.{sym, ◌∙◌, subst, arith}
-use Rattle.std.specs.Prelude.{option_map, MatchBool, if◌then◌else◌}
-use Rattle.mp_subst.specs.Trail.{length_at, cut}
-use Rattle.mp_subst.proofs.TrailLaws.{cut-cut}
+use Rattle.std.proofs.Common.{◌≡◌, ◌≤◌, ◌<◌, ◌+◌, ◌-◌, Bool, true, List, [], ◌∷◌, length, map, take, ap}
+use Rattle.std.proofs.Common.{sym, ◌∙◌, subst}
+use Rattle.std.specs.Prelude.{Some, option_map, MatchBool, if◌then◌else◌}
+use Rattle.std.proofs.lemmas.Bool.{MatchBool-at_true, MatchBool-at_false}
+use Rattle.mp_subst.specs.Trail.{Trail, length_at, cut}
 use Rattle.mp_pattern.specs.NetTokenView.{net_token}
+use Rattle.mp_walk.specs.declared.course.Course.{Course}
 use Rattle.mp_walk.specs.declared.frame.Frame.{Frame}
-use Rattle.mp_walk.specs.Course.{IsStepTaken, steps_left}
+use Rattle.mp_walk.specs.declared.level.Level.{Level}
+use Rattle.mp_walk.specs.Course.{Read, IsStepTaken, steps_left}
 use Rattle.mp_walk.specs.CourseView.{IsTakenBehind, IsLeftBehind}
+use Rattle.mp_walk.specs.Instrs.{Instr, instr_at}
 use Rattle.mp_walk.specs.InstrView.{plain_instr}
 use Rattle.mp_walk.specs.Levels.{read_of, trail_before, step_cost, search_cost, innermost_left, HasSearch}
 use Rattle.mp_walk.specs.OpenOnes.{AreFrames, IsPlaceBelow, opens}
@@ -18,6 +21,99 @@ use Rattle.mp_walk.proofs.StandingLaws.{kept-reads, none-visits}
 use Rattle.mp_walk.proofs.StandingLaws.{front-read, taken, left, none-to_come, lies-back, kept-to_come, behind_to_come}
 use Rattle.mp_walk.proofs.FirstLaws.{fewer_by_result, by_result}
 use Rattle.mp_walk.proofs.course.Course.read_on.Goals as goal
+use Rattle.mp_walk.proofs.course.Course.read_on.Goals.{In_ok-found}
+
+module _ (c : In_ok-found) where
+  abbrev self : Course
+  self = c.args.self.now
+
+  -- the token before the step and after it, the trail after it, and the instruction
+  abbrev l : Level
+  l = c.args.level
+
+  abbrev m : Level
+  m = c.read.new.level
+
+  abbrev v : Trail
+  v = c.read.new.trail
+
+  abbrev i : Instr
+  i = plain_instr c.in-Some.instr.now
+
+  -- the frames of the token
+  abbrev front : List Frame
+  front = take l.frames self.frames.items
+
+  -- what is read, before the step and after it
+  abbrev before : Read
+  before = read_of self.set.table.now front self.trail l
+
+  abbrev after : Read
+  after = read_of self.set.table.now front v m
+
+  -- the instruction is there
+  held : instr_at self.set.code.now.instrs l.instr ≡ Some i
+  held = c.instr.ensures ∙ ap (option_map (λ j. plain_instr j.now)) c.in-Some.is
+
+  -- the token is read among its frames
+  same : c.deref.result.now ≡ front
+  same = c.deref.ensures.value ∙ c.truncate.ensures.items
+
+  -- among them the trail lies over what it was before the token
+  abbrev Lies : List Frame → Bool → Type 0
+  Lies fs found = LiesOver self.set.table.now
+      (if found then step_cost i.token (opens self.set.table.now fs l.place) (m.next - 1) else 0)
+      (trail_before self.trail l) v
+
+  lies : Lies front c.in_ok-found.found
+  lies = subst (λ fs. Lies fs c.in_ok-found.found) same c.in_ok-found.ensures.kept
+
+  back : cut (length_at l.mark) v ≡ trail_before self.trail l
+  back = lies-back self.set self.frames.items self.trail self.levels.items l c.requires.standing _ v lies
+
+  -- among them a step is taken, or none is left
+  abbrev Steps : List Frame → Type 0
+  Steps fs =
+      let t = self.set.table.now in
+      let sig = self.set.sig.now in
+      MatchBool c.in_ok-found.found
+      (IsStepTaken sig i.token (read_of t fs self.trail l) (read_of t fs v m) (numbered_subst t v.stack))
+      ((steps_left sig i.token (read_of t fs self.trail l) ≡ []) × (steps_left sig i.token (read_of t fs v m) ≡ []))
+
+  steps : Steps front
+  steps = subst Steps same c.in_ok-found.ensures.step
+
+  -- and the search is one of the token
+  search : HasSearch self.set.table.now i.token (opens self.set.table.now front l.place) (trail_before self.trail l)
+      m.search
+  search = subst (λ fs. HasSearch self.set.table.now i.token (opens self.set.table.now fs l.place)
+      (trail_before self.trail l) m.search) same c.in_ok-found.ensures.search
+
+  -- the tokens before it stay as they are
+  reads-same : map (read_of self.set.table.now c.truncate.new.self.items v) self.levels.items
+      ≡ map (read_of self.set.table.now self.frames.items self.trail) self.levels.items
+  reads-same =
+      ap (λ fs. map (read_of self.set.table.now fs v) self.levels.items) c.truncate.ensures.items
+      ∙ kept-reads self.set self.frames.items self.trail self.levels.items l c.requires.standing v back
+
+  to_come-same : (r : Read) → behind_to_come self.set c.truncate.new.self.items v self.levels.items r
+      ≡ behind_to_come self.set self.frames.items self.trail self.levels.items r
+  to_come-same r =
+      ap (λ fs. behind_to_come self.set fs v self.levels.items r) c.truncate.ensures.items
+      ∙ kept-to_come self.set self.frames.items self.trail self.levels.items l c.requires.standing v back r
+
+  before-same : before ≡ read_of self.set.table.now self.frames.items self.trail l
+  before-same = front-read self.set self.frames.items self.trail self.levels.items l c.requires.standing
+
+  -- a step is taken
+  is_taken : c.in_ok-found.found ≡ true
+      → IsTakenBehind self.set c.truncate.new.self.items v self.levels.items before m i
+  is_taken found =
+      subst (λ fs. IsTakenBehind self.set fs v self.levels.items before m i) (sym c.truncate.ensures.items)
+      (taken self.set self.frames.items self.trail self.levels.items l c.requires.standing i held v m
+      c.in_ok-found.ensures.same (subst (Lies front) found lies) (MatchBool-at_true _ _ found steps)
+      (λ f gs e. c.in_ok-found.ensures.valid found f gs
+      (subst (λ fs. opens self.set.table.now fs l.place ≡ f ∷ gs) (sym same) e)) search c.in_ok-found.ensures.way)
 
 pub read-requires-clause-instr : goal.read-requires-clause-instr
 read-requires-clause-instr c = c.instr.ensures ∙ ap (option_map (λ i. plain_instr i.now)) c.in-Some.is
@@ -75,40 +171,8 @@ read-requires-clause-search c =
 
 pub go_down-requires-clause-taken : goal.go_down-requires-clause-taken
 go_down-requires-clause-taken c =
-    let self = c.args.self.now in
-    let t = self.set.table.now in
-    let l = c.args.level in
-    let m = c.read.new.level in
-    let v = c.read.new.trail in
-    let k = net_token c.in-Some.instr.now.token in
-    let i = plain_instr c.in-Some.instr.now in
-    let held = c.instr.ensures ∙ ap (option_map (λ j. plain_instr j.now)) c.in-Some.is in
-    let front = take l.frames self.frames.items in
-    let before = read_of t front self.trail l in
-    let same = c.deref.ensures.value ∙ c.truncate.ensures.items in
-    let lies = subst (λ b. LiesOver t
-    (if b then step_cost k (opens t front l.place) (m.next - 1) else 0) (trail_before self.trail l) v) c.if-found.true
-    (subst (λ fs. LiesOver t (if c.in_ok-found.found then step_cost k (opens t fs l.place) (m.next - 1) else 0)
-    (trail_before self.trail l) v) same c.in_ok-found.ensures.kept) in
-    let step = subst (λ b. MatchBool b
-    (IsStepTaken self.set.sig.now k (read_of t front self.trail l) (read_of t front v m) (numbered_subst t v.stack))
-    ((steps_left self.set.sig.now k (read_of t front self.trail l) ≡ [])
-    × (steps_left self.set.sig.now k (read_of t front v m) ≡ []))) c.if-found.true
-    (subst (λ fs. MatchBool c.in_ok-found.found
-    (IsStepTaken self.set.sig.now k (read_of t fs self.trail l) (read_of t fs v m) (numbered_subst t v.stack))
-    ((steps_left self.set.sig.now k (read_of t fs self.trail l) ≡ [])
-    × (steps_left self.set.sig.now k (read_of t fs v m) ≡ []))) same
-    c.in_ok-found.ensures.step) in
-    let h = taken self.set self.frames.items self.trail self.levels.items l c.requires.standing i held v m
-    c.in_ok-found.ensures.same
-    lies
-    step
-    (λ f gs e. c.in_ok-found.ensures.valid c.if-found.true f gs
-    (subst (λ fs. opens t fs l.place ≡ f ∷ gs) (sym same) e))
-    (subst (λ fs. HasSearch t k (opens t fs l.place) (trail_before self.trail l) m.search) same
-    c.in_ok-found.ensures.search)
-    c.in_ok-found.ensures.way in
-    (before, subst (λ fs. IsTakenBehind self.set fs v self.levels.items before m i) (sym c.truncate.ensures.items) h)
+    let known = (goal.at.go_down-requires-clause-taken c).In_ok-found in
+    (before known, is_taken known c.if-found.true)
 
 pub go_down-requires-clause-rooms : goal.go_down-requires-clause-rooms
 go_down-requires-clause-rooms c = c.in_ok-found.ensures.rooms
@@ -119,101 +183,22 @@ go_over-requires-clause-rooms c = c.in_ok-found.ensures.rooms
 pub returns-then-found-clause-turn : goal.returns-then-found-clause-turn
 returns-then-found-clause-turn c =
     let self = c.args.self.now in
-    let t = self.set.table.now in
-    let l = c.args.level in
-    let m = c.read.new.level in
-    let v = c.read.new.trail in
-    let k = net_token c.in-Some.instr.now.token in
-    let i = plain_instr c.in-Some.instr.now in
-    let held = c.instr.ensures ∙ ap (option_map (λ j. plain_instr j.now)) c.in-Some.is in
-    let front = take l.frames self.frames.items in
-    let before = read_of t front self.trail l in
-    let same = c.deref.ensures.value ∙ c.truncate.ensures.items in
-    let lies = subst (λ b. LiesOver t
-    (if b then step_cost k (opens t front l.place) (m.next - 1) else 0) (trail_before self.trail l) v) c.if-found.true
-    (subst (λ fs. LiesOver t (if c.in_ok-found.found then step_cost k (opens t fs l.place) (m.next - 1) else 0)
-    (trail_before self.trail l) v) same c.in_ok-found.ensures.kept) in
-    let step = subst (λ b. MatchBool b
-    (IsStepTaken self.set.sig.now k (read_of t front self.trail l) (read_of t front v m) (numbered_subst t v.stack))
-    ((steps_left self.set.sig.now k (read_of t front self.trail l) ≡ [])
-    × (steps_left self.set.sig.now k (read_of t front v m) ≡ []))) c.if-found.true
-    (subst (λ fs. MatchBool c.in_ok-found.found
-    (IsStepTaken self.set.sig.now k (read_of t fs self.trail l) (read_of t fs v m) (numbered_subst t v.stack))
-    ((steps_left self.set.sig.now k (read_of t fs self.trail l) ≡ [])
-    × (steps_left self.set.sig.now k (read_of t fs v m) ≡ []))) same
-    c.in_ok-found.ensures.step) in
-    let h = taken self.set self.frames.items self.trail self.levels.items l c.requires.standing i held v m
-    c.in_ok-found.ensures.same
-    lies
-    step
-    (λ f gs e. c.in_ok-found.ensures.valid c.if-found.true f gs
-    (subst (λ fs. opens t fs l.place ≡ f ∷ gs) (sym same) e))
-    (subst (λ fs. HasSearch t k (opens t fs l.place) (trail_before self.trail l) m.search) same
-    c.in_ok-found.ensures.search)
-    c.in_ok-found.ensures.way in
-    let back = lies-back self.set self.frames.items self.trail self.levels.items l c.requires.standing
-    (step_cost k (opens t front l.place) (m.next - 1)) v
-    lies in
-    by_result c.go_down.result self.set c.truncate.new.self.items v self.levels.items before m i c.go_down.new.self
-    (behind_to_come self.set self.frames.items self.trail self.levels.items
-    (read_of t self.frames.items self.trail l))
-    (subst (λ fs. IsTakenBehind self.set fs v self.levels.items before m i) (sym c.truncate.ensures.items) h)
-    (ap (λ gs. behind_to_come self.set gs v self.levels.items before) c.truncate.ensures.items
-    ∙ kept-to_come self.set self.frames.items self.trail self.levels.items l c.requires.standing v back before
-    ∙ ap (behind_to_come self.set self.frames.items self.trail self.levels.items)
-    (front-read self.set self.frames.items self.trail self.levels.items l c.requires.standing))
+    let known = (goal.at.returns-then-found-clause-turn c).In_ok-found in
+    by_result (is_taken known c.if-found.true) c.go_down.result c.go_down.new.self _
+    (to_come-same known (before known)
+    ∙ ap (behind_to_come self.set self.frames.items self.trail self.levels.items) (before-same known))
     c.go_down.ensures.turn
 
 pub returns-then-found-clause-less : goal.returns-then-found-clause-less
 returns-then-found-clause-less c =
     let self = c.args.self.now in
-    let t = self.set.table.now in
-    let l = c.args.level in
-    let m = c.read.new.level in
-    let v = c.read.new.trail in
-    let k = net_token c.in-Some.instr.now.token in
-    let i = plain_instr c.in-Some.instr.now in
-    let held = c.instr.ensures ∙ ap (option_map (λ j. plain_instr j.now)) c.in-Some.is in
-    let front = take l.frames self.frames.items in
-    let before = read_of t front self.trail l in
-    let same = c.deref.ensures.value ∙ c.truncate.ensures.items in
-    let lies = subst (λ b. LiesOver t
-    (if b then step_cost k (opens t front l.place) (m.next - 1) else 0) (trail_before self.trail l) v) c.if-found.true
-    (subst (λ fs. LiesOver t (if c.in_ok-found.found then step_cost k (opens t fs l.place) (m.next - 1) else 0)
-    (trail_before self.trail l) v) same c.in_ok-found.ensures.kept) in
-    let step = subst (λ b. MatchBool b
-    (IsStepTaken self.set.sig.now k (read_of t front self.trail l) (read_of t front v m) (numbered_subst t v.stack))
-    ((steps_left self.set.sig.now k (read_of t front self.trail l) ≡ [])
-    × (steps_left self.set.sig.now k (read_of t front v m) ≡ []))) c.if-found.true
-    (subst (λ fs. MatchBool c.in_ok-found.found
-    (IsStepTaken self.set.sig.now k (read_of t fs self.trail l) (read_of t fs v m) (numbered_subst t v.stack))
-    ((steps_left self.set.sig.now k (read_of t fs self.trail l) ≡ [])
-    × (steps_left self.set.sig.now k (read_of t fs v m) ≡ []))) same
-    c.in_ok-found.ensures.step) in
-    let h = taken self.set self.frames.items self.trail self.levels.items l c.requires.standing i held v m
-    c.in_ok-found.ensures.same
-    lies
-    step
-    (λ f gs e. c.in_ok-found.ensures.valid c.if-found.true f gs
-    (subst (λ fs. opens t fs l.place ≡ f ∷ gs) (sym same) e))
-    (subst (λ fs. HasSearch t k (opens t fs l.place) (trail_before self.trail l) m.search) same
-    c.in_ok-found.ensures.search)
-    c.in_ok-found.ensures.way in
-    let back = lies-back self.set self.frames.items self.trail self.levels.items l c.requires.standing
-    (step_cost k (opens t front l.place) (m.next - 1)) v
-    lies in
-    fewer_by_result c.go_down.result self.set c.truncate.new.self.items v self.levels.items before m i
-    (course_visits c.go_down.new.self) (visits_behind self.set.sig.now self.set.code.now.instrs
-    (map (read_of t self.frames.items self.trail) self.levels.items) (read_of t self.frames.items self.trail l))
-    (subst (λ fs. IsTakenBehind self.set fs v self.levels.items before m i) (sym c.truncate.ensures.items) h)
-    (ap (λ gs. visits_behind self.set.sig.now self.set.code.now.instrs (map (read_of t gs v) self.levels.items) before)
-    c.truncate.ensures.items
-    ∙ ap (λ rs. visits_behind self.set.sig.now self.set.code.now.instrs rs before)
-    (kept-reads self.set self.frames.items self.trail self.levels.items l c.requires.standing v back)
-    ∙ ap (visits_behind self.set.sig.now self.set.code.now.instrs
-    (map (read_of t self.frames.items self.trail) self.levels.items))
-    (front-read self.set self.frames.items self.trail self.levels.items l c.requires.standing))
-    c.go_down.ensures.less
+    let sig = self.set.sig.now in
+    let code = self.set.code.now.instrs in
+    let known = (goal.at.returns-then-found-clause-less c).In_ok-found in
+    fewer_by_result (is_taken known c.if-found.true) c.go_down.result (course_visits c.go_down.new.self) _
+    (ap (λ rs. visits_behind sig code rs (before known)) (reads-same known)
+    ∙ ap (visits_behind sig code (map (read_of self.set.table.now self.frames.items self.trail) self.levels.items))
+    (before-same known)) c.go_down.ensures.less
 
 pub go_over-requires-clause-left : goal.go_over-requires-clause-left
 go_over-requires-clause-left c =
@@ -221,104 +206,50 @@ go_over-requires-clause-left c =
     let t = self.set.table.now in
     let l = c.args.level in
     let m = c.read.new.level in
-    let v = c.read.new.trail in
-    let k = net_token c.in-Some.instr.now.token in
     let i = plain_instr c.in-Some.instr.now in
-    let held = c.instr.ensures ∙ ap (option_map (λ j. plain_instr j.now)) c.in-Some.is in
-    let front = take l.frames self.frames.items in
-    let before = read_of t front self.trail l in
-    let same = c.deref.ensures.value ∙ c.truncate.ensures.items in
-    let none = subst (λ b. MatchBool b
-    (IsStepTaken self.set.sig.now k (read_of t front self.trail l) (read_of t front v m) (numbered_subst t v.stack))
-    ((steps_left self.set.sig.now k (read_of t front self.trail l) ≡ [])
-    × (steps_left self.set.sig.now k (read_of t front v m) ≡ []))) c.if-found.false
-    (subst (λ fs. MatchBool c.in_ok-found.found
-    (IsStepTaken self.set.sig.now k (read_of t fs self.trail l) (read_of t fs v m) (numbered_subst t v.stack))
-    ((steps_left self.set.sig.now k (read_of t fs self.trail l) ≡ [])
-    × (steps_left self.set.sig.now k (read_of t fs v m) ≡ []))) same
-    c.in_ok-found.ensures.step) in
+    let known = (goal.at.go_over-requires-clause-left c).In_ok-found in
+    let none = MatchBool-at_false _ _ c.if-found.false (steps known) in
     let back = c.in_ok-found.ensures.back c.if-found.false in
-    let h = left self.set self.frames.items self.trail self.levels.items l c.requires.standing i held m
+    let h = left self.set self.frames.items self.trail self.levels.items l c.requires.standing i (held known) m
     c.in_ok-found.ensures.same (subst (IsTrailOf t) back c.in_ok-found.ensures.kept.trail)
-    (subst (λ w. steps_left self.set.sig.now k (read_of t front w m) ≡ []) back
-    none.1)
-    (subst (λ fs. HasSearch t k (opens t fs l.place) (trail_before self.trail l) m.search) same
-    c.in_ok-found.ensures.search)
-    c.in_ok-found.ensures.way in
-    subst (λ fs. IsLeftBehind self.set fs v self.levels.items m i) (sym c.truncate.ensures.items)
-    (subst (λ w. IsLeftBehind self.set front w self.levels.items m i) (sym back) h)
+    (subst (λ w. steps_left self.set.sig.now i.token (read_of t (front known) w m) ≡ []) back none.1)
+    (search known) c.in_ok-found.ensures.way in
+    subst (λ fs. IsLeftBehind self.set fs c.read.new.trail self.levels.items m i) (sym c.truncate.ensures.items)
+    (subst (λ w. IsLeftBehind self.set (front known) w self.levels.items m i) (sym back) h)
 
 pub returns-clause-turn : goal.returns-clause-turn
 returns-clause-turn c =
     let self = c.args.self.now in
-    let t = self.set.table.now in
-    let l = c.args.level in
     let m = c.read.new.level in
     let v = c.read.new.trail in
-    let k = net_token c.in-Some.instr.now.token in
-    let i = plain_instr c.in-Some.instr.now in
-    let held = c.instr.ensures ∙ ap (option_map (λ j. plain_instr j.now)) c.in-Some.is in
-    let front = take l.frames self.frames.items in
-    let before = read_of t front self.trail l in
-    let same = c.deref.ensures.value ∙ c.truncate.ensures.items in
-    let none = subst (λ b. MatchBool b
-    (IsStepTaken self.set.sig.now k (read_of t front self.trail l) (read_of t front v m) (numbered_subst t v.stack))
-    ((steps_left self.set.sig.now k (read_of t front self.trail l) ≡ [])
-    × (steps_left self.set.sig.now k (read_of t front v m) ≡ []))) c.if-found.false
-    (subst (λ fs. MatchBool c.in_ok-found.found
-    (IsStepTaken self.set.sig.now k (read_of t fs self.trail l) (read_of t fs v m) (numbered_subst t v.stack))
-    ((steps_left self.set.sig.now k (read_of t fs self.trail l) ≡ [])
-    × (steps_left self.set.sig.now k (read_of t fs v m) ≡ []))) same
-    c.in_ok-found.ensures.step) in
-    let back = c.in_ok-found.ensures.back c.if-found.false in
-    let kept = ap (λ w. cut (length_at l.mark) w) back
-    ∙ cut-cut (length_at l.mark) (length_at l.mark) self.trail (omega arith) c.requires.standing.marks in (
+    let known = (goal.at.returns-clause-turn c).In_ok-found in
+    let none = MatchBool-at_false _ _ c.if-found.false (steps known) in
+    let behind = behind_to_come self.set self.frames.items self.trail self.levels.items in (
       c.go_over.ensures.course,
       c.go_over.ensures.to_come
-          ∙ ap (λ fs. behind_to_come self.set fs v self.levels.items (read_of t fs v m)) c.truncate.ensures.items
-          ∙ kept-to_come self.set self.frames.items self.trail self.levels.items l c.requires.standing v kept
-          (read_of t front v m)
-          ∙ none-to_come self.set self.frames.items self.trail self.levels.items l c.requires.standing v kept i held m
-          c.in_ok-found.ensures.same
-          none.0 none.1
-          ∙ ap (behind_to_come self.set self.frames.items self.trail self.levels.items)
-          (front-read self.set self.frames.items self.trail self.levels.items l c.requires.standing),
+          ∙ to_come-same known (read_of self.set.table.now c.truncate.new.self.items v m)
+          ∙ ap (λ fs. behind (read_of self.set.table.now fs v m)) c.truncate.ensures.items
+          ∙ none-to_come self.set self.frames.items self.trail self.levels.items c.args.level c.requires.standing v
+          (back known) (i known) (held known) m c.in_ok-found.ensures.same none.0 none.1
+          ∙ ap behind (before-same known),
     )
 
 pub returns-clause-less : goal.returns-clause-less
 returns-clause-less c =
     let self = c.args.self.now in
-    let t = self.set.table.now in
-    let l = c.args.level in
+    let sig = self.set.sig.now in
+    let code = self.set.code.now.instrs in
     let m = c.read.new.level in
     let v = c.read.new.trail in
-    let k = net_token c.in-Some.instr.now.token in
-    let i = plain_instr c.in-Some.instr.now in
-    let held = c.instr.ensures ∙ ap (option_map (λ j. plain_instr j.now)) c.in-Some.is in
-    let front = take l.frames self.frames.items in
-    let before = read_of t front self.trail l in
-    let same = c.deref.ensures.value ∙ c.truncate.ensures.items in
-    let none = subst (λ b. MatchBool b
-    (IsStepTaken self.set.sig.now k (read_of t front self.trail l) (read_of t front v m) (numbered_subst t v.stack))
-    ((steps_left self.set.sig.now k (read_of t front self.trail l) ≡ [])
-    × (steps_left self.set.sig.now k (read_of t front v m) ≡ []))) c.if-found.false
-    (subst (λ fs. MatchBool c.in_ok-found.found
-    (IsStepTaken self.set.sig.now k (read_of t fs self.trail l) (read_of t fs v m) (numbered_subst t v.stack))
-    ((steps_left self.set.sig.now k (read_of t fs self.trail l) ≡ [])
-    × (steps_left self.set.sig.now k (read_of t fs v m) ≡ []))) same
-    c.in_ok-found.ensures.step) in
-    let back = c.in_ok-found.ensures.back c.if-found.false in
-    let kept = ap (λ w. cut (length_at l.mark) w) back
-    ∙ cut-cut (length_at l.mark) (length_at l.mark) self.trail (omega arith) c.requires.standing.marks in
+    let known = (goal.at.returns-clause-less c).In_ok-found in
+    let none = MatchBool-at_false _ _ c.if-found.false (steps known) in
     subst (λ n. course_visits c.go_over.new.self < n)
-    (ap (λ fs. visits_behind self.set.sig.now self.set.code.now.instrs (map (read_of t fs v) self.levels.items)
-    (read_of t fs v m)) c.truncate.ensures.items
-    ∙ ap (λ rs. visits_behind self.set.sig.now self.set.code.now.instrs rs (read_of t front v m))
-    (kept-reads self.set self.frames.items self.trail self.levels.items l c.requires.standing v kept)
-    ∙ ap (λ n. n + total (map (read_visits self.set.sig.now self.set.code.now.instrs)
-    (map (read_of t self.frames.items self.trail) self.levels.items)))
-    (none-visits self.set self.frames.items self.trail self.levels.items l c.requires.standing v kept i held m
-    c.in_ok-found.ensures.same none.0 none.1
-    ∙ ap (read_visits self.set.sig.now self.set.code.now.instrs)
-    (front-read self.set self.frames.items self.trail self.levels.items l c.requires.standing)))
+    (ap (λ fs. visits_behind sig code (map (read_of self.set.table.now c.truncate.new.self.items v) self.levels.items)
+    (read_of self.set.table.now fs v m)) c.truncate.ensures.items
+    ∙ ap (λ rs. visits_behind sig code rs (after known)) (reads-same known)
+    ∙ ap (λ n. n + total (map (read_visits sig code)
+    (map (read_of self.set.table.now self.frames.items self.trail) self.levels.items)))
+    (none-visits self.set self.frames.items self.trail self.levels.items c.args.level c.requires.standing v
+    (back known) (i known) (held known) m c.in_ok-found.ensures.same none.0 none.1
+    ∙ ap (read_visits sig code) (before-same known)))
     c.go_over.ensures.less

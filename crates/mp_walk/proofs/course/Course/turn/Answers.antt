@@ -11,9 +11,9 @@ pub read_again-requires-clause-standing : goal.read_again-requires-clause-standi
 read_again-requires-clause-standing c =
     let self = c.args.self.now in
     let l = c.in-Some-pop.level in
-    let p = levels-last self.set c.requires.setting.walkable.before self.frames.items self.trail c.pop.new.self.items l
+    let p = levels-last self.set self.frames.items self.trail c.pop.new.self.items l
     (length self.frames.items) (length self.trail.stack)
-    (subst (λ ls. AreLevels self.set c.requires.setting.walkable.before self.frames.items self.trail ls
+    (subst (λ ls. AreLevels self.set self.frames.items self.trail ls
     (length self.frames.items) (length self.trail.stack)) c.in-Some-pop.ensures.items c.requires.levels) in
     let h = last-chained self c.requires c.pop.new.self.items l c.in-Some-pop.ensures.items in
     record {

@@ -1,27 +1,22 @@
-use Rattle.std.proofs.Common.{◌≡◌, [], ◌∷◌, ◌++◌, ◌∙◌, ap, map, subst, sym}
+use Rattle.std.proofs.Common.{[], ◌∷◌, ◌++◌, subst, sym}
 use Rattle.std.specs.Prelude.{◌↔◌, Contains}
-use Rattle.std.proofs.lemmas.List.{map-append}
 use Rattle.mp_pattern.specs.Lists.{Pair}
-use Rattle.mp_walk.specs.FoundView.{found_pair}
 use Rattle.mp_walk.proofs.FoundLaws.{contains-pushed}
 use Rattle.mp_walk.proofs.found.Finds.add.Goals.{then-self, else-self}
 use Rattle.mp_walk.proofs.found.Finds.add.Goals as goal
 
 pub returns : goal.returns
 returns c =
-    let before = map found_pair c.self.inside.found.items in
+    let before = c.self.inside.found.items in
     let left = c.if-self.self-inside.found.items in
     let q = c.args.pair in
-    let same : (p : Pair) → Contains (map found_pair left) p ↔ Contains before p =
+    let same : (p : Pair) → Contains left p ↔ Contains before p =
     elim c.if-self.branch [
-      | then-self w ↦ λ p. subst (λ i. Contains (map found_pair i.found.items) p ↔ Contains before p)
-          (sym w.self-inside-is) (λ h. h, λ h. h)
-      | else-self w ↦ λ p. subst (λ i. Contains (map found_pair i.found.items) p ↔ Contains before p)
-          (sym w.self-inside-is) (w.make_room-self-inside.ensures p)
+      | then-self w ↦ λ p. subst (λ i. Contains i.found.items p ↔ Contains before p) (sym w.self-inside-is)
+          (λ h. h, λ h. h)
+      | else-self w ↦ λ p. subst (λ i. Contains i.found.items p ↔ Contains before p) (sym w.self-inside-is)
+          (w.make_room-self-inside.ensures p)
     ] in
-    let pushed : map found_pair c.push.new.self.items ≡ map found_pair left ++ q ∷ [] =
-    ap (map found_pair) c.in_ok-push.ensures.items ∙ map-append found_pair left (record { pair = c.args.pair } ∷ []) in
-    subst (λ xs. (p : Pair) → Contains (map found_pair c.push.new.self.items) p ↔ Contains (xs ++ q ∷ []) p)
-    c.self.view_is
-    (subst (λ xs. (p : Pair) → Contains xs p ↔ Contains (before ++ q ∷ []) p) (sym pushed)
-    (contains-pushed before (map found_pair left) q same))
+    subst (λ xs. (p : Pair) → Contains c.push.new.self.items p ↔ Contains (xs ++ q ∷ []) p) c.self.view_is
+    (subst (λ xs. (p : Pair) → Contains xs p ↔ Contains (before ++ q ∷ []) p) (sym c.in_ok-push.ensures.items)
+    (contains-pushed before left q same))
