@@ -13,7 +13,6 @@ use Rattle.mp_walk.specs.Walkable.{Path}
 use Rattle.mp_many.specs.declared.group.Group.{Group}
 use Rattle.mp_many.specs.declared.rows.Row.{Row}
 use Rattle.mp_many.specs.GroupView.{group_of, numbers_of, row_of}
-use Rattle.mp_many.specs.Groups as plain
 use Rattle.mp_many.specs.Groups.{entered, grouped, left_at, count_from}
 use Rattle.mp_many.specs.Laid.{Numbered, bare, left_after, target, each_laid, laid, unlinked, linked}
 use Rattle.mp_many.specs.Laid.{numbered_from}

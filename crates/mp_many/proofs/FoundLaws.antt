@@ -26,7 +26,6 @@ use Rattle.mp_pattern.specs.SoundRule.{AreSoundRules, HasSoundCondition, IsSound
 use Rattle.mp_pattern.specs.Value.{Subst}
 use Rattle.mp_pattern.specs.declared.limits.TheConstants.{MAX_TERM_NODES}
 use Rattle.mp_pattern.proofs.SoundRules.{DefaultsAreSmall-IsFormed, HasConditionOver-HasSoundCondition}
-use Rattle.mp_subst.specs.declared.subst.Binding as code_binding
 use Rattle.mp_cond.specs.Ready.{AreCountable, IsCountable, IsReady}
 use Rattle.mp_cond.proofs.ReadyLaws.{IsReady-over}
 use Rattle.mp_theory.specs.ValueSizes.{HasAtMost}

@@ -34,7 +34,7 @@ fn rows_of<'a>(alloc: Global, lists: &[TokenList<'a>], most: usize) -> Result<Ve
     ensures { IfOk result (λ rs. map row_of rs.items ≡ laid (token_count lists.now) (numbered_from 0 lists.now) 1) }
 {
     let numbers = first_numbers(alloc, lists.len())?;
-    let mut rows = Vec::new(alloc);
+    let mut rows = Vec::with_capacity(alloc, most)?;
     push_rows(alloc, lists, &numbers, 0, most, &mut rows)?;
     Ok(rows)
 }

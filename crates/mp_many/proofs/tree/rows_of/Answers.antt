@@ -16,6 +16,6 @@ returns c =
     let lists = c.args.lists.now in
     c.in_ok-push_rows.ensures
     ∙ ap (λ rs. map row_of rs ++ laid c.args.most (left_at lists 0 c.deref.result.now)
-    (suc (length (map row_of rs)))) c.new-rows.ensures.items
+    (suc (length (map row_of rs)))) c.in_ok-rows.ensures.items
     ∙ (λ i. laid (c.requires.most i)
     ((ap (left_at lists 0) (c.deref.ensures.value ∙ c.in_ok-numbers.ensures) ∙ count-left lists) i) 1)
