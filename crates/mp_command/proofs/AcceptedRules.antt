@@ -1,7 +1,7 @@
 -- The program of rules accepts what the rules admit.
 use Rattle.std.proofs.Common.{◌≡◌, ◌≤◌, ℕ, List, [], ◌∷◌, length, true, refl, ap, sym, ◌∙◌, inl, inr, subst}
 use Rattle.std.proofs.Common.{arith}
-use Rattle.std.specs.Prelude.{Option, Some, None, slice_get}
+use Rattle.std.specs.Prelude.{Some, slice_get}
 use Rattle.std.proofs.lemmas.List.{length-map}
 use Rattle.mp_term.specs.Listing.{In}
 use Rattle.mp_term.specs.Normal.{IsNormal}
@@ -31,45 +31,15 @@ use Rattle.mp_many.specs.Laid.{tree_of}
 use Rattle.mp_many.specs.WalkItems.{AreWalkItems, accepts_at, each_with, rule_items}
 use Rattle.mp_many.proofs.WalkableLaws.{in-slice_get, walkable}
 use Rattle.mp_program.specs.Program.{Program, ProgramRule}
-use Rattle.mp_program.specs.ProgramOf.{renamed_cond, rule_of, spelled_test}
+use Rattle.mp_program.specs.ProgramOf.{rule_of}
 use Rattle.mp_program.specs.TokenPaths.{test_of}
-use Rattle.mp_build.specs.AloneCondition.{IsCondOf}
-use Rattle.mp_pattern.specs.CondTree.{Cond}
-use Rattle.mp_print.specs.PrintedCond.{cond_text}
-use Rattle.mp_gen.specs.Generated.{generated, spelled_condition, spelled_rule}
+use Rattle.mp_gen.specs.Generated.{generated, spelled_rule}
 use Rattle.mp_command.proofs.GeneratedItems.{accepted-tokens, rule-held, test-renamed}
 use Rattle.mp_command.proofs.RenamedFits.{fits-back, fits-renamed, meets-renamed, numbered_subst}
-use Rattle.mp_gen.proofs.RuleFaults.{spelled_all, spelled_of}
 use Rattle.mp_gen.proofs.RuleNames.{new_name, variables-renamed}
 use Rattle.mp_gen.proofs.TreeFaults.{AreReadConditions}
 use Rattle.mp_vm.specs.ProgramList.{IsProgramList, IsProgramPair}
 use Rattle.mp_vm.proofs.StandsAlone.{fits-once, stands-same}
-
--- a condition that the rules spell is that of one of them, renamed
-spelled-from : (rules : List Rule) (c : Cond) → In c (spelled_all rules)
-    → (r : Rule) × (d : Cond) × In r rules × (r.condition ≡ Some d) × (c ≡ renamed_cond (variables r.pattern) d)
-spelled-from [] c h = absurd h
-spelled-from (r ∷ rules) c h = elim (from_in-append c (spelled_of r) (spelled_all rules) h) [
-  | inl j ↦ by_condition r.condition refl j
-  | inr j ↦ (let k = spelled-from rules c j in (k.0, k.1, inr k.2, k.3, k.4))
-]
-  where
-    by_condition : (o : Option Cond) → r.condition ≡ o
-        → In c (spelled_test (variables r.pattern) (spelled_condition o))
-        → (q : Rule) × (d : Cond) × In q (r ∷ rules) × (q.condition ≡ Some d)
-        × (c ≡ renamed_cond (variables q.pattern) d)
-    by_condition None e j = absurd j
-    by_condition (Some d) e (inl k) = (r, d, inl refl, e, k)
-    by_condition (Some d) e (inr k) = absurd k
-
--- where each rule's condition is read of its text, so is each that they spell
-pub conditions-read : (sig : Sig) (rules : List Rule)
-    → ((r : Rule) (c : Cond) → In r rules → r.condition ≡ Some c
-    → let d = renamed_cond (variables r.pattern) c in IsCondOf sig None (cond_text sig d) d)
-    → AreReadConditions sig rules
-conditions-read sig rules each c h =
-    let k = spelled-from rules c h in
-    subst (λ d. IsCondOf sig None (cond_text sig d) d) (sym k.4) (each k.0 k.1 k.2 k.3)
 
 -- an item of the rules is one of a leaf that accepts the rule
 each-number : (ns : List ℕ) (T U : Table) (n : ℕ) → In {X = ℕ × Table} (n, U) (each_with ns T) → In n ns × (U ≡ T)

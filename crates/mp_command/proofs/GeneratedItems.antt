@@ -16,11 +16,10 @@ use Rattle.mp_walk.proofs.CodePaths.{forest-paths}
 use Rattle.mp_many.specs.WalkItems.{accepts_at}
 use Rattle.mp_many.proofs.WalkableLaws.{before-state, in-slice_get, walkable}
 use Rattle.mp_program.specs.Program.{Program}
-use Rattle.mp_pattern.specs.Firsts.{firsts_after}
-use Rattle.mp_program.specs.ProgramOf.{renamed_cond, rule_of, same_cond, test_number}
+use Rattle.mp_program.specs.ProgramOf.{renamed_cond, rule_of, test_number}
 use Rattle.mp_program.specs.TokenPaths.{test_of}
 use Rattle.mp_gen.specs.Generated.{generated, spelled_condition, spelled_rule}
-use Rattle.mp_gen.proofs.RuleFaults.{all, rules-spelled}
+use Rattle.mp_gen.proofs.RuleFaults.{all}
 use Rattle.mp_gen.proofs.TreeFaults.{AreReadConditions, accepted-at, state, test-held}
 
 module _ (sig : Sig) (rules : List Rule) (sound : AreSoundRules sig rules) (read : AreReadConditions sig rules) where
@@ -29,7 +28,7 @@ module _ (sig : Sig) (rules : List Rule) (sound : AreSoundRules sig rules) (read
 
   -- the tests are the conditions of the rules, renamed, each once
   tests-are : program.tests ≡ all sig rules sound
-  tests-are = ap (λ cs. firsts_after (same_cond sig) [] cs) (rules-spelled rules)
+  tests-are = refl
 
   -- a rule of the program is that of a rule
   pub rule-held : (n : ℕ) (r : Rule) → slice_get rules n ≡ Some r

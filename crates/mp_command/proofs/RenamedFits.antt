@@ -126,69 +126,68 @@ module _ (vs : List (List ℕ)) where
   names-numbered [] = refl
   names-numbered (b ∷ s) = ap (λ ns. new_name vs b.name ∷ ns) (names-numbered s)
 
-  module _ (few : length vs ≤ MAX_VARIABLES) where
+  module _ (sig : Sig) (few : length vs ≤ MAX_VARIABLES) where
     -- a variable has the same value
     value-numbered : (s : Subst) (x : List ℕ) → AllByRecursion (λ (b : Binding). In b.name vs) s → In x vs
         → value_of (numbered_subst s) (new_name vs x) ≡ value_of s x
     value-numbered [] x h i = refl
     value-numbered (b ∷ s) x h i =
-        ap₂ (λ (t : Bool) (o : Option Value). if t then Some b.value else o) (same-new vs few b.name x h.0 i)
+        ap₂ (λ (t : Bool) (o : Option Value). if t then Some b.value else o) (same-new vs sig few b.name x h.0 i)
         (value-numbered s x h.1 i)
 
-    module _ (sig : Sig) where
-      -- and the same form
-      mine-numbered : (us : List Use) (x : List ℕ) → AllByRecursion (λ (u : Use). In u.name vs) us → In x vs
-          → filter (λ u. same_name (new_name vs x) u.name && is_sequence u.wildcard) (map (new_use vs) us)
-          ≡ map (new_use vs) (filter (λ u. same_name x u.name && is_sequence u.wildcard) us)
-      mine-numbered [] x h i = refl
-      mine-numbered (u ∷ us) x h i =
-          ap (λ (t : Bool). if t && is_sequence u.wildcard
-          then new_use vs u ∷ filter (λ w. same_name (new_name vs x) w.name && is_sequence w.wildcard)
-          (map (new_use vs) us)
-          else filter (λ w. same_name (new_name vs x) w.name && is_sequence w.wildcard) (map (new_use vs) us))
-          (same-new vs few x u.name i h.0)
-          ∙ by_test (same_name x u.name && is_sequence u.wildcard) (mine-numbered us x h.1 i)
-        where
-          by_test : (t : Bool) → filter (λ w. same_name (new_name vs x) w.name && is_sequence w.wildcard)
-              (map (new_use vs) us)
-              ≡ map (new_use vs) (filter (λ w. same_name x w.name && is_sequence w.wildcard) us)
-              → (if t then new_use vs u ∷ filter (λ w. same_name (new_name vs x) w.name && is_sequence w.wildcard)
-              (map (new_use vs) us)
-              else filter (λ w. same_name (new_name vs x) w.name && is_sequence w.wildcard) (map (new_use vs) us))
-              ≡ map (new_use vs) (if t then u ∷ filter (λ w. same_name x w.name && is_sequence w.wildcard) us
-              else filter (λ w. same_name x w.name && is_sequence w.wildcard) us)
-          by_test true e = ap (λ ws. new_use vs u ∷ ws) e
-          by_test false e = e
+    -- and the same form
+    mine-numbered : (us : List Use) (x : List ℕ) → AllByRecursion (λ (u : Use). In u.name vs) us → In x vs
+        → filter (λ u. same_name (new_name vs x) u.name && is_sequence u.wildcard) (map (new_use vs) us)
+        ≡ map (new_use vs) (filter (λ u. same_name x u.name && is_sequence u.wildcard) us)
+    mine-numbered [] x h i = refl
+    mine-numbered (u ∷ us) x h i =
+        ap (λ (t : Bool). if t && is_sequence u.wildcard
+        then new_use vs u ∷ filter (λ w. same_name (new_name vs x) w.name && is_sequence w.wildcard)
+        (map (new_use vs) us)
+        else filter (λ w. same_name (new_name vs x) w.name && is_sequence w.wildcard) (map (new_use vs) us))
+        (same-new vs sig few x u.name i h.0)
+        ∙ by_test (same_name x u.name && is_sequence u.wildcard) (mine-numbered us x h.1 i)
+      where
+        by_test : (t : Bool) → filter (λ w. same_name (new_name vs x) w.name && is_sequence w.wildcard)
+            (map (new_use vs) us)
+            ≡ map (new_use vs) (filter (λ w. same_name x w.name && is_sequence w.wildcard) us)
+            → (if t then new_use vs u ∷ filter (λ w. same_name (new_name vs x) w.name && is_sequence w.wildcard)
+            (map (new_use vs) us)
+            else filter (λ w. same_name (new_name vs x) w.name && is_sequence w.wildcard) (map (new_use vs) us))
+            ≡ map (new_use vs) (if t then u ∷ filter (λ w. same_name x w.name && is_sequence w.wildcard) us
+            else filter (λ w. same_name x w.name && is_sequence w.wildcard) us)
+        by_test true e = ap (λ ws. new_use vs u ∷ ws) e
+        by_test false e = e
 
-      any_tuple-numbered : (us : List Use) → list_any (λ (u : Use). not (comm_above sig u.under)) (map (new_use vs) us)
-          ≡ list_any (λ (u : Use). not (comm_above sig u.under)) us
-      any_tuple-numbered [] = refl
-      any_tuple-numbered (u ∷ us) = ap (λ b. not (comm_above sig u.under) || b) (any_tuple-numbered us)
+    any_tuple-numbered : (us : List Use) → list_any (λ (u : Use). not (comm_above sig u.under)) (map (new_use vs) us)
+        ≡ list_any (λ (u : Use). not (comm_above sig u.under)) us
+    any_tuple-numbered [] = refl
+    any_tuple-numbered (u ∷ us) = ap (λ b. not (comm_above sig u.under) || b) (any_tuple-numbered us)
 
-      any-numbered : (us : List Use) → list_any (λ (u : Use). true) (map (new_use vs) us)
-          ≡ list_any (λ (u : Use). true) us
-      any-numbered [] = refl
-      any-numbered (u ∷ us) = refl
+    any-numbered : (us : List Use) → list_any (λ (u : Use). true) (map (new_use vs) us)
+        ≡ list_any (λ (u : Use). true) us
+    any-numbered [] = refl
+    any-numbered (u ∷ us) = refl
 
-      form-numbered : (us : List Use) (x : List ℕ) → AllByRecursion (λ (u : Use). In u.name vs) us → In x vs
-          → form_among sig (map (new_use vs) us) (new_name vs x) ≡ form_among sig us x
-      form-numbered us x h i =
-          let mine = filter (λ (u : Use). same_name x u.name && is_sequence u.wildcard) us in
-          rw (mine-numbered us x h i, any_tuple-numbered mine, any-numbered mine) refl
+    form-numbered : (us : List Use) (x : List ℕ) → AllByRecursion (λ (u : Use). In u.name vs) us → In x vs
+        → form_among sig (map (new_use vs) us) (new_name vs x) ≡ form_among sig us x
+    form-numbered us x h i =
+        let mine = filter (λ (u : Use). same_name x u.name && is_sequence u.wildcard) us in
+        rw (mine-numbered us x h i, any_tuple-numbered mine, any-numbered mine) refl
 
-      final-numbered : (s : Subst) → AllByRecursion (λ (b : Binding). IsFinal sig b.value) s
-          → AllByRecursion (λ (b : Binding). IsFinal sig b.value) (numbered_subst s)
-      final-numbered [] h = tt
-      final-numbered (b ∷ s) h = (h.0, final-numbered s h.1)
+    final-numbered : (s : Subst) → AllByRecursion (λ (b : Binding). IsFinal sig b.value) s
+        → AllByRecursion (λ (b : Binding). IsFinal sig b.value) (numbered_subst s)
+    final-numbered [] h = tt
+    final-numbered (b ∷ s) h = (h.0, final-numbered s h.1)
 
-      forms-numbered : (us : List Use) (s : Subst) → AllByRecursion (λ (u : Use). In u.name vs) us
-          → AllByRecursion (λ (b : Binding). In b.name vs) s
-          → AllByRecursion (λ (b : Binding). form_of b.value ≡ form_among sig us b.name) s
-          → AllByRecursion (λ (b : Binding). form_of b.value ≡ form_among sig (map (new_use vs) us) b.name)
-          (numbered_subst s)
-      forms-numbered us [] h k forms = tt
-      forms-numbered us (b ∷ s) h k forms =
-          (forms.0 ∙ sym (form-numbered us b.name h k.0), forms-numbered us s h k.1 forms.1)
+    forms-numbered : (us : List Use) (s : Subst) → AllByRecursion (λ (u : Use). In u.name vs) us
+        → AllByRecursion (λ (b : Binding). In b.name vs) s
+        → AllByRecursion (λ (b : Binding). form_of b.value ≡ form_among sig us b.name) s
+        → AllByRecursion (λ (b : Binding). form_of b.value ≡ form_among sig (map (new_use vs) us) b.name)
+        (numbered_subst s)
+    forms-numbered us [] h k forms = tt
+    forms-numbered us (b ∷ s) h k forms =
+        (forms.0 ∙ sym (form-numbered us b.name h k.0), forms-numbered us s h k.1 forms.1)
 
 -- ---- fits
 
@@ -221,10 +220,10 @@ module _ (sig : Sig) (p : Pattern) (few : length (variables p) ≤ MAX_VARIABLES
             ∙ sym (variables-renamed sig p few stands);
         forms = subst (λ us. AllByRecursion (λ (b : Binding). form_of b.value ≡ form_among sig us b.name)
             (numbered_subst vs s)) (sym (uses-renamed vs None p))
-            (forms-numbered vs few sig (uses None p) s (uses-among (uses None p) (λ u i. i)) among fits.subst_of.forms);
-        final = final-numbered vs few sig s fits.subst_of.final;
+            (forms-numbered vs sig few (uses None p) s (uses-among (uses None p) (λ u i. i)) among fits.subst_of.forms);
+        final = final-numbered vs sig few s fits.subst_of.final;
       };
-      takes = takes-renamed sig vs s (numbered_subst vs s) (λ x i. value-numbered vs few s x among i) None p (t ∷ []) T
+      takes = takes-renamed sig vs s (numbered_subst vs s) (λ x i. value-numbered vs sig few s x among i) None p (t ∷ []) T
           (own-names p) fits.takes;
     }
 
@@ -289,7 +288,7 @@ module _ (sig : Sig) (p : Pattern) (few : length (variables p) ≤ MAX_VARIABLES
       → AllByRecursion (IsKept sig named s (numbered_subst named s)) ops
   operands-kept [] h = tt
   operands-kept (var x ∷ ops) h = (
-    value-numbered named few s x (names-among s named (λ y i. subst (In y) fits.subst_of.names i))
+    value-numbered named sig few s x (names-among s named (λ y i. subst (In y) fits.subst_of.names i))
         (known-in same_name same_name-is named x h.0),
     operands-kept ops h.1,
   )

@@ -3,7 +3,7 @@ use Rattle.std.proofs.Common.{◌≡◌, ◌≤◌, ℕ, ◌+◌, List, [], ◌�
 use Rattle.std.proofs.Common.{ap, sym, ◌∙◌, subst, arith, eqb-true}
 use Rattle.std.specs.Prelude.{Option, Some, None, IsSome, not, max, nat_eq, option_map, slice_get, if◌then◌else◌}
 use Rattle.std.specs.List.{AllByRecursion}
-use Rattle.std.proofs.lemmas.Bool.{and_parts, and_from}
+use Rattle.std.proofs.lemmas.Bool.{and_parts, and_from, not-true}
 use Rattle.std.proofs.Math.Bool.{and-false}
 use Rattle.mp_term.specs.declared.signature.OpDecl.{OpDecl}
 use Rattle.mp_term.specs.Signature.{Sig, holds_of, is_assoc, is_comm, is_one}
@@ -16,12 +16,12 @@ use Rattle.mp_pattern.specs.Normal.{is_loose, is_collapsible, parts, flattened, 
 use Rattle.mp_pattern.specs.Normal.{normal_patterns, IsNormalPattern}
 use Rattle.mp_pattern.specs.PatternTree.{Wildcard, Pattern, symbol_pattern, app_pattern, wild_pattern, Patterns}
 use Rattle.mp_pattern.specs.PatternTree.{no_patterns, more_patterns, pattern_list, patterns}
-use Rattle.mp_pattern.specs.Value.{same_name}
 use Rattle.mp_pattern.specs.SoundRule.{IsSymbol, IsSoundWildcard, IsVariable, IsFormed, AreFormed, fewest, greatest}
 use Rattle.mp_pattern.specs.SoundRule.{pattern_least, pattern_most, sum_most, allows_patterns}
 use Rattle.mp_pattern.proofs.NetTokenLists.{is_name-numbered}
 use Rattle.mp_pattern.proofs.NormalLaws.{all-in_order}
 use Rattle.mp_program.specs.RightForm.{is_headed, is_flat, are_flat}
+use Rattle.mp_program.proofs.NameLaws.{number_in-most}
 
 -- ---- normal patterns are flat
 
@@ -37,10 +37,6 @@ module _ (sig : Sig) where
   all-are_flat : (f : ℕ) (ps : List Pattern) → AllByRecursion (IsFlatUnder f) ps → are_flat sig f (patterns ps) ≡ true
   all-are_flat f [] h = refl
   all-are_flat f (p ∷ ps) h = and_from _ _ (ap not h.0.1) (and_from _ _ h.0.0 (all-are_flat f ps h.1))
-
-  not-true : (b : Bool) → not b ≡ true → b ≡ false
-  not-true true e = cc
-  not-true false e = refl
 
   are_flat-all : (f : ℕ) (ps : Patterns) → are_flat sig f ps ≡ true
       → AllByRecursion (IsFlatUnder f) (pattern_list ps)
@@ -194,18 +190,9 @@ module _ (sig : Sig) (vs : List (List ℕ)) where
   holds-renamed ps (Some d) h = allows-renamed ps d ∙ h
 
   module _ (few : length vs ≤ MAX_VARIABLES) where
-    number-least : (xs : List (List ℕ)) (x : List ℕ) → number_in xs x ≤ length xs
-    number-least [] x = omega arith
-    number-least (y ∷ xs) x = by_test (same_name y x) (number-least xs x)
-      where
-        by_test : (b : Bool) → number_in xs x ≤ length xs
-            → (if b then 0 else number_in xs x + 1) ≤ length (y ∷ xs)
-        by_test true h = omega arith
-        by_test false h = omega (arith, h)
-
     variable-renamed : (x : Option (List ℕ)) → IsVariable sig (option_map (λ y. numbered (number_in vs y)) x)
     variable-renamed None = tt
-    variable-renamed (Some x) = is_name-numbered (number_in vs x) (let h = number-least vs x in omega (arith, h, few))
+    variable-renamed (Some x) = is_name-numbered (number_in vs x) (let h = number_in-most vs x in omega (arith, h, few))
 
     mutual
       pub formed-renamed : (p : Pattern) → IsFormed sig p → IsFormed sig (renamed vs p)

@@ -3,7 +3,6 @@ use Rattle.std.proofs.Common.{◌≡◌, ℕ, suc, ◌+◌, List, [], ◌∷◌,
 use Rattle.std.proofs.Common.{refl, arith}
 use Rattle.std.specs.Prelude.{Option, Some, None, ⊤, not, flat_map, codes, decimal}
 use Rattle.std.specs.List.{AllByRecursion}
-use Rattle.mp_io.specs.Devices.{Text}
 use Rattle.mp_term.specs.Names.{is_name}
 use Rattle.mp_term.specs.Signature.{Sig, Kind}
 use Rattle.mp_term.proofs.ListLaws.{all-append}
@@ -18,10 +17,11 @@ use Rattle.mp_round_trip.specs.Readable.{IsSpelledSignature}
 use Rattle.mp_program.specs.FormText.{lines_of, variable_text, target_text, action_text, wild_text, token_text}
 use Rattle.mp_program.specs.FormText.{instr_line, instr_lines, code_lines}
 use Rattle.mp_program.specs.RightForm.{IsShort, IsShortTarget, IsDeclaration}
-use Rattle.mp_program_laws.proofs.LineFeeds.{IsOneLine, HasOneLines, line-append, name-line}
+use Rattle.mp_program.proofs.LineLaws.{IsOneLine}
+use Rattle.mp_program_laws.proofs.LineFeeds.{HasOneLines, if-line, line-append, name-line, name-lines}
 use Rattle.mp_program_laws.proofs.LineFeeds.{decimal-line, preceded-line, separated-line, kind-line, op-line}
 use Rattle.mp_program_laws.proofs.LineFeeds.{term-line, count-line, pattern-line}
-use Rattle.mp_program_laws.proofs.DeclaredLines.{IsStatement, ends-more, statement-ends, declared-lines, if-line}
+use Rattle.mp_program_laws.proofs.DeclaredLines.{IsStatement, ends-more, statement-ends, declared-lines}
 use Rattle.mp_gen.proofs.FlatPatterns.{IsFormedWildcard, IsFormedToken}
 
 -- ---- declarations
@@ -32,10 +32,6 @@ kind-statement k h i = statement-ends (codes "kind ") ((k.name ++ codes ": ") ++
     (ends-more (k.name ++ codes ": ") _ (line-append k.name (codes ": ") h refl)
     (ends-more (separated (codes " ") k.members) _ (separated-line (codes " ") k.members refl i)
     (record { front = []; is = refl; line = refl })))
-
-all-names : (ns : List Text) → AllByRecursion (λ n. is_name n ≡ true) ns → AllByRecursion IsOneLine ns
-all-names [] h = tt
-all-names (n ∷ ns) h = (name-line n h.0, all-names ns h.1)
 
 module _ (sig : Sig) (spelled : IsSpelledSignature sig) where
   -- the lines of kinds are declarations where their members are names
@@ -48,7 +44,7 @@ module _ (sig : Sig) (spelled : IsSpelledSignature sig) where
           → AllByRecursion (λ k. AllByRecursion (λ m. is_name m ≡ true) k.members) ks
           → AllByRecursion (λ k. IsStatement (codes "kind ") (kind_text k)) ks
       each [] h i = tt
-      each (k ∷ ks) h i = (kind-statement k (name-line k.name h.0) (all-names k.members i.0), each ks h.1 i.1)
+      each (k ∷ ks) h i = (kind-statement k (name-line k.name h.0) (name-lines k.members i.0), each ks h.1 i.1)
 
 -- ---- instructions
 

@@ -1,10 +1,10 @@
 -- A table in which each instruction is led to once, by right paths, has no faults.
-use Rattle.std.proofs.Common.{◌≡◌, ◌<◌, ℕ, zero, suc, ◌+◌, List, [], ◌∷◌, ◌++◌, map, length, Bool, true, false}
+use Rattle.std.proofs.Common.{◌≡◌, ◌<◌, ℕ, suc, ◌+◌, List, [], ◌∷◌, ◌++◌, map, length, Bool, true, false}
 use Rattle.std.proofs.Common.{refl, ap, sym, ◌∙◌, inl, inr, subst, arith, append_assoc, append-nil}
 use Rattle.std.specs.Prelude.{Option, Some, None, flat_map, filter, option_to_list, slice_get, nat_eq, nat_le}
 use Rattle.std.specs.Prelude.{if◌then◌else◌}
 use Rattle.std.specs.List.{list_any}
-use Rattle.std.proofs.lemmas.Bool.{eqb-true}
+use Rattle.std.proofs.lemmas.Bool.{eqb-true, eq-eqb}
 use Rattle.std.proofs.lemmas.Bool.Decides.{nat_tests}
 use Rattle.std.proofs.lemmas.Grind.{flat_map-append}
 use Rattle.std.proofs.lemmas.List.{length-append, map-append}
@@ -16,12 +16,13 @@ use Rattle.mp_ac.specs.CommItems.{NoneTwice}
 use Rattle.mp_walk.specs.Instrs.{Instr, instr_at, targets}
 use Rattle.mp_walk.specs.Walkable.{Path, ArePaths}
 use Rattle.mp_walk.proofs.CodePaths.{IsForward}
+use Rattle.mp_walk.proofs.EntryLaws.{get-front}
 use Rattle.mp_walk.proofs.ForestLaws.{none-left}
 use Rattle.mp_program.specs.Program.{ProgramRule}
 use Rattle.mp_program.specs.FormText.{first_target}
 use Rattle.mp_program.specs.FormFaults.{target_faults, path_faults, way_faults, code_faults}
 use Rattle.mp_program.specs.Leads.{Lead, lead, leads, befores, leads_after}
-use Rattle.mp_program_laws.proofs.TestPlaces.{none-any}
+use Rattle.mp_program.proofs.ListLaws.{list_any-none, place-in}
 use Rattle.mp_gen.proofs.TreeTargets.{AreTargets}
 
 -- ---- ways to one instruction
@@ -53,10 +54,7 @@ befores-one (l ∷ ls) n P once i same =
         let none : befores ls n ≡ [] = befores-none ls n (λ h. once.0 (subst (λ z. In z (to_of ls)) (sym to) h)) in
         ap (λ p. p ∷ befores ls n) here ∙ ap (λ ps. P ∷ ps) none
     go false e (inl h) r =
-        let wrong : true ≡ false = sym (ap (λ z. nat_eq z n) (sym h) ∙ itself n) ∙ e in cc
-      where
-        itself : (m : ℕ) → nat_eq m m ≡ true
-        itself m = grind (arith, nat_tests)
+        let wrong : true ≡ false = sym (ap (λ z. nat_eq z n) (sym h) ∙ eq-eqb n n refl) ∙ e in cc
     go false e (inr h) r = r h
 
 -- the numbers of the ways of an instruction are its targets
@@ -69,11 +67,6 @@ from-lead P None l i = absurd i
 from-lead P (Some n) l (inl e) = (ap (λ k. Some k.to) (sym e), ap (λ k. k.before) e)
 from-lead P (Some n) l (inr i) = absurd i
 
-in-slice : {X : Type 0} (xs : List X) (x : X) → In x xs → (m : ℕ) × (slice_get xs m ≡ Some x)
-in-slice [] x i = absurd i
-in-slice (y ∷ xs) x (inl e) = (0, ap Some (sym e))
-in-slice (y ∷ xs) x (inr i) = let r = in-slice xs x i in (suc r.0, r.1)
-
 get-behind : {X : Type 0} (xs ys : List X) (m : ℕ) → slice_get (xs ++ ys) (length xs + m) ≡ slice_get ys m
 get-behind [] ys m = let e : 0 + m ≡ m = omega arith in ap (slice_get ys) e
 get-behind (x ∷ xs) ys m =
@@ -85,9 +78,9 @@ pub none-target_faults : (stop line n : ℕ) (ts : List ℕ) → ((t : ℕ) → 
     → target_faults stop line n ts ≡ []
 none-target_faults stop line n ts h =
     let low : list_any (λ t. nat_le t n) ts ≡ false =
-    none-any (λ t. nat_le t n) ts (λ t i. let f = h t i in past t n f.0) in
+    list_any-none (λ t. nat_le t n) ts (λ t i. let f = h t i in past t n f.0) in
     let high : list_any (nat_le stop) ts ≡ false =
-    none-any (nat_le stop) ts (λ t i. let f = h t i in past stop t f.1) in
+    list_any-none (nat_le stop) ts (λ t i. let f = h t i in past stop t f.1) in
     rw (low, high) refl
   where
     past : (a b : ℕ) → b < a → nat_le a b ≡ false
@@ -124,7 +117,7 @@ module _ (code : List Instr) (before : ℕ → Path) (paths : ArePaths code befo
     later : (t : ℕ) → In t (flat_map targets (i ∷ is)) → own < t
     later t h =
         let r = from_in-flat targets t (i ∷ is) h in
-        let s = in-slice (i ∷ is) r.0 r.1 in
+        let s = place-in r.0 (i ∷ is) r.1 in
         let f = forward (suc (length front + s.0)) t r.0 (held-behind s.0 r.0 s.1) r.2 in
         omega (arith, f.0)
 
@@ -146,18 +139,12 @@ module _ (code : List Instr) (before : ℕ → Path) (paths : ArePaths code befo
     once-front : NoneTwice (1 ∷ flat_map targets front)
     once-front = (
       λ h. (let r = from_in-flat targets 1 front h in
-          let s = in-slice front r.0 r.1 in
+          let s = place-in r.0 front r.1 in
           let held : instr_at code (suc s.0) ≡ Some r.0 =
           ap (λ l. slice_get l s.0) whole ∙ get-front front (i ∷ is) s.0 r.0 s.1 in
           let f = forward (suc s.0) 1 r.0 held r.2 in omega (arith, f.0)),
       none-left (flat_map targets front) (flat_map targets (i ∷ is)) (subst NoneTwice split once),
     )
-      where
-        get-front : (xs ys : List Instr) (n : ℕ) (x : Instr) → slice_get xs n ≡ Some x
-            → slice_get (xs ++ ys) n ≡ Some x
-        get-front [] ys n x e = cc
-        get-front (y ∷ xs) ys zero x e = e
-        get-front (y ∷ xs) ys (suc n) x e = get-front xs ys n x e
 
     module _ (ls : List Lead) (are : AreLeads front ls) where
       pub befores-own : befores ls own ≡ before own ∷ []

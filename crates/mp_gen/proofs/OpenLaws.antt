@@ -7,7 +7,9 @@ use Rattle.mp_pattern.specs.NetTokens.{NetToken, enter_token, leave_token, comm_
 use Rattle.mp_pattern.specs.PatternTree.{Pattern, symbol_pattern, app_pattern, wild_pattern, Patterns, no_patterns}
 use Rattle.mp_pattern.specs.PatternTree.{more_patterns}
 use Rattle.mp_walk.specs.Walkable.{Path}
+use Rattle.mp_build.proofs.Faultless.{nil-append}
 use Rattle.mp_program.specs.TokenPaths.{open_after, open_along}
+use Rattle.mp_program.proofs.ListLaws.{first-same, rest-same}
 
 -- ---- lists in two ways
 
@@ -15,12 +17,6 @@ use Rattle.mp_program.specs.TokenPaths.{open_after, open_along}
 pub data Splits {X : Type 0} (ks rest xs ys : List X) : Type 0 where
   inside : (zs : List X) → ks ++ zs ≡ xs → zs ++ ys ≡ rest → Splits ks rest xs ys
   beyond : (z : X) (zs : List X) → ks ≡ xs ++ z ∷ zs → (z ∷ zs) ++ rest ≡ ys → Splits ks rest xs ys
-
-first-same : {X : Type 0} (x y : X) (xs ys : List X) → x ∷ xs ≡ y ∷ ys → x ≡ y
-first-same x y xs ys e = cc
-
-rest-same : {X : Type 0} (x y : X) (xs ys : List X) → x ∷ xs ≡ y ∷ ys → xs ≡ ys
-rest-same x y xs ys e = cc
 
 pub splits : {X : Type 0} (ks rest xs ys : List X) → ks ++ rest ≡ xs ++ ys → Splits ks rest xs ys
 splits [] rest xs ys e = inside xs refl (sym e)
@@ -133,12 +129,8 @@ module _ (sig : Sig) (vs : List (List ℕ)) where
                   }
             ]
           where
-            nothing : {X : Type 0} (xs ys : List X) → xs ++ ys ≡ [] → (xs ≡ []) × (ys ≡ [])
-            nothing [] ys q = (refl, q)
-            nothing (x ∷ xs) ys q = cc
-
             ends_at : (z : NetToken) (zs : Path) → (z ∷ zs) ++ rest ≡ leave_token g ∷ [] → (zs ≡ []) × (rest ≡ [])
-            ends_at z zs q = nothing zs rest (rest-same z (leave_token g) (zs ++ rest) [] q)
+            ends_at z zs q = nil-append zs rest (rest-same z (leave_token g) (zs ++ rest) [] q)
 
     open-all_front : (ps : Patterns) (fs : List ℕ) (ks rest : Path) → ks ++ rest ≡ all_tokens sig vs ps
         → IsOpenOver fs ks
@@ -162,24 +154,16 @@ module _ (sig : Sig) (vs : List (List ℕ)) where
     pub others : List ℕ
     pub opened : open_along [] ks ≡ Some (first ∷ others)
 
+  single : (r : NetToken) (rest ks : Path) → ks ++ r ∷ rest ≡ [] → ⊥
+  single r rest [] e = cc
+  single r rest (j ∷ ks) e = cc
+
   pub open-before : (p : Pattern) (k : NetToken) (ks : Path) (r : NetToken) (rest : Path)
       → (k ∷ ks) ++ r ∷ rest ≡ tokens sig vs p → IsOpen (k ∷ ks)
-  open-before (symbol_pattern n) k ks r rest e = absurd (single ks (rest-same k _ (ks ++ r ∷ rest) [] e))
-    where
-      single : (ks : Path) → ks ++ r ∷ rest ≡ [] → ⊥
-      single [] e = cc
-      single (j ∷ ks) e = cc
-  open-before (wild_pattern w x) k ks r rest e = absurd (single ks (rest-same k _ (ks ++ r ∷ rest) [] e))
-    where
-      single : (ks : Path) → ks ++ r ∷ rest ≡ [] → ⊥
-      single [] e = cc
-      single (j ∷ ks) e = cc
+  open-before (symbol_pattern n) k ks r rest e = absurd (single r rest ks (rest-same k _ (ks ++ r ∷ rest) [] e))
+  open-before (wild_pattern w x) k ks r rest e = absurd (single r rest ks (rest-same k _ (ks ++ r ∷ rest) [] e))
   open-before (app_pattern g ps) k ks r rest e = by_comm (is_comm sig g) e
     where
-      single : (js : Path) → js ++ r ∷ rest ≡ [] → ⊥
-      single [] e = cc
-      single (j ∷ js) e = cc
-
       behind : (gs : List ℕ) → open_along (g ∷ []) ks ≡ Some (gs ++ g ∷ []) → k ≡ enter_token g → IsOpen (k ∷ ks)
       behind [] o same = record {
         first = g;
@@ -194,11 +178,11 @@ module _ (sig : Sig) (vs : List (List ℕ)) where
 
       by_comm : (b : Bool) → (k ∷ ks) ++ r ∷ rest ≡ (if b then comm_token (renamed vs (app_pattern g ps)) ∷ []
           else (enter_token g ∷ (all_tokens sig vs ps ++ (leave_token g ∷ [])))) → IsOpen (k ∷ ks)
-      by_comm true h = absurd (single ks (rest-same k _ (ks ++ r ∷ rest) [] h))
+      by_comm true h = absurd (single r rest ks (rest-same k _ (ks ++ r ∷ rest) [] h))
       by_comm false h =
           let same = first-same k (enter_token g) (ks ++ r ∷ rest) (all_tokens sig vs ps ++ (leave_token g ∷ [])) h in
           let inner = rest-same k (enter_token g) (ks ++ r ∷ rest) (all_tokens sig vs ps ++ (leave_token g ∷ [])) h in
           elim (splits ks (r ∷ rest) (all_tokens sig vs ps) (leave_token g ∷ []) inner) [
             | inside zs i j ↦ (let o = open-all_front ps (g ∷ []) ks zs i in behind o.more o.opened same)
-            | beyond z zs i j ↦ absurd (single zs (rest-same z (leave_token g) (zs ++ r ∷ rest) [] j))
+            | beyond z zs i j ↦ absurd (single r rest zs (rest-same z (leave_token g) (zs ++ r ∷ rest) [] j))
           ]

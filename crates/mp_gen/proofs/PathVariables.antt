@@ -1,9 +1,9 @@
 -- A path that begins the tokens of a pattern with numbered variables is right.
-use Rattle.std.proofs.Common.{◌≡◌, ◌≤◌, ℕ, zero, suc, ◌+◌, List, [], ◌∷◌, ◌++◌, map, length, Bool, true, false, ◌&&◌}
-use Rattle.std.proofs.Common.{refl, ap, sym, ◌∙◌, inl, inr, subst, arith, append-nil}
+use Rattle.std.proofs.Common.{◌≡◌, ◌≤◌, ℕ, ◌+◌, List, [], ◌∷◌, ◌++◌, length, Bool, true, false, ◌&&◌}
+use Rattle.std.proofs.Common.{refl, ap, sym, ◌∙◌, inl, inr, subst, arith}
 use Rattle.std.specs.Prelude.{Option, Some, None, not, nat_le, if◌then◌else◌}
 use Rattle.std.specs.List.{AllByRecursion, list_any}
-use Rattle.std.proofs.lemmas.Bool.{and_parts, and_from}
+use Rattle.std.proofs.lemmas.Bool.{and_from}
 use Rattle.std.proofs.lemmas.Bool.Decides.{nat_tests}
 use Rattle.std.proofs.lemmas.Grind.{flat_map-append}
 use Rattle.std.proofs.lemmas.List.{length-append, map-append}
@@ -15,7 +15,7 @@ use Rattle.mp_term.proofs.SearchLaws.{in-left, in-right, from_in-append, in-map,
 use Rattle.mp_pattern.specs.declared.limits.TheConstants.{MAX_PATTERN_NODES, MAX_VARIABLES}
 use Rattle.mp_pattern.specs.Clash.{same_shape}
 use Rattle.mp_pattern.specs.Firsts.{firsts_after, fresh_after}
-use Rattle.mp_pattern.specs.NetTokens.{NetToken, sym_token, enter_token, leave_token, wild_token, comm_token, numbered}
+use Rattle.mp_pattern.specs.NetTokens.{NetToken, sym_token, enter_token, leave_token, wild_token, comm_token}
 use Rattle.mp_pattern.specs.NetTokens.{renamed, tokens, all_tokens}
 use Rattle.mp_pattern.specs.Normal.{is_loose}
 use Rattle.mp_pattern.specs.PatternTree.{Pattern, symbol_pattern, app_pattern, wild_pattern, Patterns, no_patterns}
@@ -24,63 +24,18 @@ use Rattle.mp_pattern.specs.Subpatterns.{subpatterns, all_subpatterns}
 use Rattle.mp_pattern.specs.Value.{same_name}
 use Rattle.mp_pattern.specs.Variables.{Use, uses, all_uses, variables}
 use Rattle.mp_pattern.proofs.ClashLaws.{Agree, InOrder, InOrder-first_clash_after, same_shape-itself}
-use Rattle.mp_pattern.proofs.NameLaws.{same_name-is, same_name-itself}
+use Rattle.mp_pattern.proofs.NameLaws.{same_name-is}
 use Rattle.mp_pattern.proofs.PlanLaws.{firsts_after-append}
 use Rattle.mp_pattern.proofs.PlanParts.{plan_fault-parts}
 use Rattle.mp_theory.proofs.FirstsLaws.{firsts_after-fresh}
 use Rattle.mp_walk.specs.SoundTokens.{path_nodes, IsSoundToken}
-use Rattle.mp_walk.specs.Walkable.{Path, numbered_names, IsWhole}
-use Rattle.mp_walk.proofs.NumberedNames.{NamesIn, AllNamesIn, own-names, numbered-number_in, renamed-itself}
+use Rattle.mp_walk.specs.Walkable.{Path, IsWhole}
 use Rattle.mp_walk.proofs.PathLaws.{path_nodes-append, whole-sound, whole-narrow}
 use Rattle.mp_program.specs.TokenPaths.{has_plain_root, enters_comm, token_uses, path_uses}
 use Rattle.mp_program.specs.TokenPaths.{path_variables, are_numbered_from, differ, some_differ, is_right_path}
-use Rattle.mp_program_laws.proofs.TestPlaces.{none-any}
-
--- ---- the uses of a path
-
--- an occurrence wherever it stands
-abbrev pub bare_use : Use → Use
-bare_use u = record { name = u.name; wildcard = u.wildcard; under = None }
-
-abbrev pub use_names : List Use → List (List ℕ)
-use_names us = map (λ u. u.name) us
-
-names-bare : (us : List Use) → use_names (map bare_use us) ≡ use_names us
-names-bare [] = refl
-names-bare (u ∷ us) = ap (λ l. u.name ∷ l) (names-bare us)
-
-pub names-same : (us vs : List Use) → map bare_use us ≡ map bare_use vs → use_names us ≡ use_names vs
-names-same us vs e = sym (names-bare us) ∙ ap use_names e ∙ names-bare vs
-
-module _ (sig : Sig) (vs : List (List ℕ)) (names : vs ≡ numbered_names (length vs)) where
-  mutual
-    -- the occurrences in the tokens of a pattern over numbered variables are those in the pattern
-    pub bare-tokens : (f : Option ℕ) (p : Pattern) → NamesIn vs p
-        → map bare_use (path_uses (tokens sig vs p)) ≡ map bare_use (uses f p)
-    bare-tokens f (symbol_pattern n) h = refl
-    bare-tokens f (wild_pattern w None) h = refl
-    bare-tokens f (wild_pattern w (Some x)) h =
-        ap (λ y. record { name = y; wildcard = w; under = None } ∷ []) (numbered-number_in vs names x h)
-    bare-tokens f (app_pattern g ps) h = by_comm (is_comm sig g) (all_bare-tokens (Some g) ps h)
-      where
-        by_comm : (b : Bool) → map bare_use (path_uses (all_tokens sig vs ps)) ≡ map bare_use (all_uses (Some g) ps)
-            → map bare_use (path_uses (if b then comm_token (renamed vs (app_pattern g ps)) ∷ []
-            else (enter_token g ∷ (all_tokens sig vs ps ++ (leave_token g ∷ [])))))
-            ≡ map bare_use (all_uses (Some g) ps)
-        by_comm true k = ap (map bare_use) (append-nil (uses None (renamed vs (app_pattern g ps)))
-            ∙ ap (uses None) (renamed-itself vs names (app_pattern g ps) h))
-        by_comm false k = ap (map bare_use) (flat_map-append token_uses (all_tokens sig vs ps) (leave_token g ∷ [])
-            ∙ append-nil (path_uses (all_tokens sig vs ps))) ∙ k
-
-    all_bare-tokens : (f : Option ℕ) (ps : Patterns) → AllNamesIn vs ps
-        → map bare_use (path_uses (all_tokens sig vs ps)) ≡ map bare_use (all_uses f ps)
-    all_bare-tokens f no_patterns h = refl
-    all_bare-tokens f (more_patterns p ps) h =
-        ap (map bare_use) (flat_map-append token_uses (tokens sig vs p) (all_tokens sig vs ps))
-        ∙ map-append bare_use (path_uses (tokens sig vs p)) (path_uses (all_tokens sig vs ps))
-        ∙ ap (λ l. l ++ map bare_use (path_uses (all_tokens sig vs ps))) (bare-tokens f p h.0)
-        ∙ ap (λ l. map bare_use (uses f p) ++ l) (all_bare-tokens f ps h.1)
-        ∙ sym (map-append bare_use (uses f p) (all_uses f ps))
+use Rattle.mp_program.proofs.ListLaws.{list_any-none}
+use Rattle.mp_program.proofs.NameLaws.{numbered-front, numbered-names}
+use Rattle.mp_program.proofs.PathLaws.{bare, use_names, root-front, uses-path, variables-path}
 
 -- ---- variables, numbered
 
@@ -93,35 +48,6 @@ variables-append ks rest =
     ∙ firsts_after-append same_name [] (use_names (path_uses ks)) (use_names (path_uses rest))
     ∙ firsts_after-fresh same_name (path_variables ks) (use_names (path_uses rest))
 
-numbered-front : (n : ℕ) (xs ys : List (List ℕ)) → are_numbered_from n (xs ++ ys) ≡ true
-    → are_numbered_from n xs ≡ true
-numbered-front n [] ys h = refl
-numbered-front n (x ∷ xs) ys h =
-    let both = and_parts (same_name x (numbered n)) (are_numbered_from (suc n) (xs ++ ys)) h in
-    and_from _ _ both.0 (numbered-front (suc n) xs ys both.1)
-
-numbered-append : (n : ℕ) (xs ys : List (List ℕ)) → are_numbered_from n xs ≡ true
-    → are_numbered_from (n + length xs) ys ≡ true → are_numbered_from n (xs ++ ys) ≡ true
-numbered-append n [] ys h k = subst (λ m. are_numbered_from m ys ≡ true) (let e : n + 0 ≡ n = omega arith in e) k
-numbered-append n (x ∷ xs) ys h k =
-    let both = and_parts (same_name x (numbered n)) (are_numbered_from (suc n) xs) h in
-    let e : n + suc (length xs) ≡ suc n + length xs = omega arith in
-    and_from _ _ both.0
-    (numbered-append (suc n) xs ys both.1 (subst (λ m. are_numbered_from m ys ≡ true) e k))
-
-length-numbered : (n : ℕ) → length (numbered_names n) ≡ n
-length-numbered zero = refl
-length-numbered (suc n) =
-    let e = length-append (numbered_names n) (numbered n ∷ []) in
-    let k = length-numbered n in omega (arith, e, k)
-
-numbered-numbered : (n : ℕ) → are_numbered_from 0 (numbered_names n) ≡ true
-numbered-numbered zero = refl
-numbered-numbered (suc n) = numbered-append 0 (numbered_names n) (numbered n ∷ []) (numbered-numbered n)
-    (let e : 0 + length (numbered_names n) ≡ n = (let k = length-numbered n in omega (arith, k)) in
-    subst (λ m. are_numbered_from m (numbered n ∷ []) ≡ true) (sym e)
-    (and_from _ _ (same_name-itself (numbered n)) refl))
-
 -- ---- one wildcard a variable
 
 -- no two occurrences differ
@@ -130,7 +56,7 @@ pub none-differ : (us : List Use) → ((u v : Use) → In u us → In v us → u
 none-differ [] h = refl
 none-differ (u ∷ us) h =
     let first : list_any (differ u) us ≡ false =
-    none-any (differ u) us (λ v i. same_uses v (h u v (inl refl) (inr i))) in
+    list_any-none (differ u) us (λ v i. same_uses v (h u v (inl refl) (inr i))) in
     rw (first, none-differ us (λ v w i j. h v w (inr i) (inr j))) refl
   where
     same_uses : (v : Use) → (u.name ≡ v.name → u.wildcard ≡ v.wildcard) → differ u v ≡ false
@@ -192,10 +118,6 @@ root-tokens sig vs (app_pattern g ps) h = by_comm (is_comm sig g)
     by_comm true = refl
     by_comm false = refl
 
-root-front : (ks rest : Path) → has_plain_root (ks ++ rest) ≡ true → has_plain_root ks ≡ true
-root-front [] rest h = refl
-root-front (k ∷ ks) rest h = h
-
 -- no token of sound ones enters a commutative operation
 none-enters : (sig : Sig) (ks : Path) → AllByRecursion (IsSoundToken sig) ks → list_any (enters_comm sig) ks ≡ false
 none-enters sig [] h = refl
@@ -211,16 +133,6 @@ none-enters sig (k ∷ ks) h = rw (each k h.0, none-enters sig ks h.1) refl
 -- ---- whole paths and their fronts
 
 module _ (sig : Sig) (path : Path) (w : IsWhole sig path) where
-  -- the occurrences in a whole path are those in its pattern
-  pub whole-uses : map bare_use (path_uses path) ≡ map bare_use (uses None w.pattern)
-  whole-uses = ap (λ ks. map bare_use (path_uses ks)) (sym w.stands.tokens)
-      ∙ bare-tokens sig (variables w.pattern) w.stands.names None w.pattern (own-names w.pattern)
-
-  -- and so are the variables
-  pub whole-variables : path_variables path ≡ variables w.pattern
-  whole-variables =
-      ap (firsts_after same_name []) (names-same (path_uses path) (uses None w.pattern) whole-uses)
-
   whole-agree : (u v : Use) → In u (path_uses path) → In v (path_uses path) → u.name ≡ v.name
       → u.wildcard ≡ v.wildcard
   whole-agree u v i j n =
@@ -234,9 +146,9 @@ module _ (sig : Sig) (path : Path) (w : IsWhole sig path) where
       ∙ sym (ap (λ (z : Use). z.wildcard) b.1)
     where
       bare-use : (z : Use) → In z (path_uses path)
-          → (y : Use) × (bare_use z ≡ bare_use y) × In y (uses None w.pattern)
-      bare-use z h = from_in-map bare_use (bare_use z) (uses None w.pattern)
-          (subst (In (bare_use z)) whole-uses (in-map bare_use z (path_uses path) h))
+          → (y : Use) × (bare z ≡ bare y) × In y (uses None w.pattern)
+      bare-use z h = from_in-map bare (bare z) (uses None w.pattern)
+          (subst (In (bare z)) (uses-path sig path w.pattern w.stands) (in-map bare z (path_uses path) h))
 
 -- the front of a whole path is right
 pub right-front : (sig : Sig) (ks rest : Path) → IsWhole sig (ks ++ rest)
@@ -260,13 +172,13 @@ right-front sig ks rest w =
 
     split : path_variables ks ++ fresh_after same_name (path_variables ks) (use_names (path_uses rest))
         ≡ variables w.pattern
-    split = sym (variables-append ks rest) ∙ whole-variables sig (ks ++ rest) w
+    split = sym (variables-append ks rest) ∙ variables-path sig (ks ++ rest) w.pattern w.stands
 
     numbers : are_numbered_from 0 (path_variables ks) ≡ true
     numbers = numbered-front 0 (path_variables ks)
         (fresh_after same_name (path_variables ks) (use_names (path_uses rest)))
         (subst (λ l. are_numbered_from 0 l ≡ true) (sym (split ∙ w.stands.names))
-        (numbered-numbered (length (variables w.pattern))))
+        (numbered-names (length (variables w.pattern))))
 
     few : nat_le (length (path_variables ks)) MAX_VARIABLES ≡ true
     few = let e : length (variables w.pattern) ≡ length (path_variables ks

@@ -10,10 +10,8 @@ use Rattle.mp_term.specs.Tree.{Tree, symbol}
 use Rattle.mp_term.proofs.ListingLaws.{all_in}
 use Rattle.mp_term.proofs.SearchLaws.{in-map, all-from_in}
 use Rattle.mp_pattern.specs.Admission.{Rule}
-use Rattle.mp_pattern.specs.EachWildcard.{EachWildcard, AllEachWildcard}
 use Rattle.mp_pattern.specs.NetTokens.{NetToken, sym_token, enter_token, leave_token, wild_token, comm_token}
-use Rattle.mp_pattern.specs.PatternTree.{Wildcard, dot, kind, plus, star, optional, counted, Pattern, symbol_pattern}
-use Rattle.mp_pattern.specs.PatternTree.{app_pattern, wild_pattern, Patterns, no_patterns, more_patterns}
+use Rattle.mp_pattern.specs.PatternTree.{Wildcard, dot, kind, plus, star, optional, counted, Pattern}
 use Rattle.mp_pattern.specs.SoundRule.{IsSoundRule, AreSoundRules}
 use Rattle.mp_pattern.specs.Value.{same_name}
 use Rattle.mp_pattern.specs.Variables.{Use, uses, variables}
@@ -33,8 +31,9 @@ use Rattle.mp_many.specs.Laid.{numbered_from, tree_of}
 use Rattle.mp_many.proofs.ConstantLaws.{all-laid, all-numbered}
 use Rattle.mp_many.proofs.WalkableLaws.{walkable}
 use Rattle.mp_program.specs.declared.format.Format.TheVariants.{Two}
-use Rattle.mp_program.specs.RightForm.{IsNumberedName, IsShortTarget, IsWildcardOf, is_comm_rooted, IsRightComm}
+use Rattle.mp_program.specs.RightForm.{IsNumberedName, IsShortTarget, is_comm_rooted, IsRightComm}
 use Rattle.mp_program.specs.RightForm.{IsRightWildcard, IsRightToken}
+use Rattle.mp_program_laws.proofs.CodeAgain.{any-wildcard, each-wildcard}
 use Rattle.mp_gen.proofs.FlatPatterns.{IsFormedWildcard, IsFormedToken, flat-normal, formed-tokens}
 
 -- each term that may be read is read of its printed text
@@ -44,24 +43,6 @@ AreTermsRead sig = (t : Tree) → IsReadableTerm sig t → IsTermOf sig (term_te
 -- and so is each pattern
 abbrev pub ArePatternsRead : Sig → Type 0
 ArePatternsRead sig = (p : Pattern) → IsReadablePattern sig p → IsPatternOf sig (pattern_text sig p) p
-
-two-wildcard : (w : Wildcard) → IsWildcardOf Two w
-two-wildcard dot = tt
-two-wildcard (kind k) = tt
-two-wildcard plus = tt
-two-wildcard star = tt
-two-wildcard (optional t) = tt
-two-wildcard (counted n exact) = tt
-
-mutual
-  two-wildcards : (p : Pattern) → EachWildcard (IsWildcardOf Two) p
-  two-wildcards (symbol_pattern n) = tt
-  two-wildcards (app_pattern f ps) = all-two-wildcards ps
-  two-wildcards (wild_pattern w x) = two-wildcard w
-
-  all-two-wildcards : (ps : Patterns) → AllEachWildcard (IsWildcardOf Two) ps
-  all-two-wildcards no_patterns = tt
-  all-two-wildcards (more_patterns p ps) = (two-wildcards p, all-two-wildcards ps)
 
 pub short-variable : (x : Option ℕ) → IsVariableNumber x → IsShortTarget x
 short-variable None h = tt
@@ -100,7 +81,7 @@ module _ (sig : Sig) (terms : AreTermsRead sig) (patterns : ArePatternsRead sig)
         rooted = ap (is_comm_rooted sig) s.is ∙ s.comm;
         flat = h.1;
         names = all-from_in (λ (u : Use). IsNumberedName u.name) (uses None p) (λ u i. numbered_use u i);
-        wildcards = two-wildcards p;
+        wildcards = each-wildcard p;
       }
     where
       numbered_use : (u : Use) → In u (uses None p) → IsNumberedName u.name
@@ -115,7 +96,7 @@ module _ (sig : Sig) (terms : AreTermsRead sig) (patterns : ArePatternsRead sig)
       terms (symbol n) (record { formed = refl; symbols = h; few_nodes = omega arith; shallow = omega arith })
   right-token (enter_token f) h s = h
   right-token (leave_token f) h s = h
-  right-token (wild_token w x) h s = (right-wildcard w h, two-wildcard w, short-variable x s.1)
+  right-token (wild_token w x) h s = (right-wildcard w h, any-wildcard w, short-variable x s.1)
   right-token (comm_token p) h s = right-comm p h s
 
 module _ (sig : Sig) (rules : List Rule) (sound : AreSoundRules sig rules) where

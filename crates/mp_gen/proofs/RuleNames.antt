@@ -1,8 +1,7 @@
 -- The variables of a pattern under the names of their numbers.
 use Rattle.std.proofs.Common.{◌≡◌, ◌≤◌, ℕ, List, [], ◌∷◌, ◌++◌, map, length, Bool, true, false, refl, ap, sym}
 use Rattle.std.proofs.Common.{◌∙◌, inl, inr, subst, arith}
-use Rattle.std.specs.Prelude.{Option, Some, None, ◌||◌, decimal, slice_get, if◌then◌else◌}
-use Rattle.std.proofs.lemmas.Fmt.{decimal_injective}
+use Rattle.std.specs.Prelude.{Option, Some, None, ◌||◌, if◌then◌else◌}
 use Rattle.std.proofs.lemmas.List.{map-append, length-map}
 use Rattle.mp_term.specs.Listing.{In}
 use Rattle.mp_term.specs.Signature.{Sig}
@@ -14,12 +13,13 @@ use Rattle.mp_pattern.specs.PatternTree.{Pattern, symbol_pattern, app_pattern, w
 use Rattle.mp_pattern.specs.PatternTree.{more_patterns}
 use Rattle.mp_pattern.specs.Value.{same_name}
 use Rattle.mp_pattern.specs.Variables.{Use, uses, all_uses, variables}
-use Rattle.mp_pattern.proofs.NameLaws.{same_name-is, same_name-itself}
+use Rattle.mp_pattern.proofs.NameLaws.{same_name-is}
 use Rattle.mp_theory.proofs.FirstItems.{in-firsts_after}
 use Rattle.mp_walk.specs.Walkable.{StandsFor}
-use Rattle.mp_walk.proofs.NumberedNames.{number_in-at, number_in-less, own-names}
+use Rattle.mp_walk.proofs.Renaming.{same_new}
+use Rattle.mp_walk.proofs.NumberedNames.{own-names}
 use Rattle.mp_program.specs.TokenPaths.{path_uses, path_variables}
-use Rattle.mp_gen.proofs.PathVariables.{bare_use, use_names, names-same, bare-tokens}
+use Rattle.mp_program.proofs.PathLaws.{all_bare, use_names, names-same, uses-tokens}
 
 module _ (vs : List (List ℕ)) where
   -- the name of a variable's number
@@ -47,32 +47,10 @@ module _ (vs : List (List ℕ)) where
   new-names [] = refl
   new-names (u ∷ us) = ap (λ l. new_name u.name ∷ l) (new-names us)
 
-  module _ (few : length vs ≤ MAX_VARIABLES) where
-    new-injective : (x y : List ℕ) → In x vs → In y vs → new_name x ≡ new_name y → x ≡ y
-    new-injective x y i j e =
-        let digits : decimal (number_in vs x) ≡ decimal (number_in vs y) = cc in
-        let l = number_in-less vs x i in
-        let m = number_in-less vs y j in
-        let n : number_in vs x ≡ number_in vs y = decimal_injective (number_in vs x) (number_in vs y)
-        (omega (arith, l, few)) (omega (arith, m, few)) digits in
-        let both : Some x ≡ Some y = sym (number_in-at vs x i) ∙ ap (slice_get vs) n ∙ number_in-at vs y j in
-        cc
-
+  module _ (sig : Sig) (few : length vs ≤ MAX_VARIABLES) where
     -- new names are the same exactly where the names are
     pub same-new : (x y : List ℕ) → In x vs → In y vs → same_name (new_name x) (new_name y) ≡ same_name x y
-    same-new x y i j = by_tests (same_name (new_name x) (new_name y)) (same_name x y) refl refl
-      where
-        by_tests : (a b : Bool) → same_name (new_name x) (new_name y) ≡ a → same_name x y ≡ b
-            → same_name (new_name x) (new_name y) ≡ same_name x y
-        by_tests true true p q = p ∙ sym q
-        by_tests false false p q = p ∙ sym q
-        by_tests true false p q =
-            let e = new-injective x y i j (same_name-is (new_name x) (new_name y) p) in
-            let wrong : false ≡ true = sym q ∙ (ap (same_name x) (sym e) ∙ same_name-itself x) in cc
-        by_tests false true p q =
-            let wrong : false ≡ true = sym p
-            ∙ (ap (λ z. same_name (new_name x) (new_name z)) (sym (same_name-is x y q))
-            ∙ same_name-itself (new_name x)) in cc
+    same-new x y i j = same_new sig vs (omega (arith, few)) x y i j
 
     -- a name is known exactly where its new name is
     pub known-new : (ys : List (List ℕ)) (x : List ℕ) → ((y : List ℕ) → In y ys → In y vs) → In x vs
@@ -120,17 +98,17 @@ module _ (sig : Sig) (p : Pattern) (few : length (variables p) ≤ MAX_VARIABLES
   variables-renamed =
       ap (λ us. firsts_after same_name [] (use_names us)) (uses-renamed (variables p) None p)
       ∙ ap (firsts_after same_name []) (new-names (variables p) (uses None p))
-      ∙ firsts-new (variables p) few [] (use_names (uses None p)) (λ y i. absurd i) (λ x i.
+      ∙ firsts-new (variables p) sig few [] (use_names (uses None p)) (λ y i. absurd i) (λ x i.
       in-firsts_after same_name same_name-is [] (use_names (uses None p)) x (inr i))
 
   -- the occurrences in the tokens are those in the pattern, under new names
-  pub rule-uses : map bare_use (path_uses (tokens_of sig p))
-      ≡ map bare_use (map (new_use (variables p)) (uses None p))
+  pub rule-uses : all_bare (path_uses (tokens_of sig p))
+      ≡ all_bare (map (new_use (variables p)) (uses None p))
   rule-uses =
-      ap (λ ks. map bare_use (path_uses ks)) (sym stands.tokens)
-      ∙ bare-tokens sig (variables (renamed (variables p) p)) stands.names None (renamed (variables p) p)
+      ap (λ ks. all_bare (path_uses ks)) (sym stands.tokens)
+      ∙ uses-tokens sig (variables (renamed (variables p) p)) stands.names None (renamed (variables p) p)
       (own-names (renamed (variables p) p))
-      ∙ ap (map bare_use) (uses-renamed (variables p) None p)
+      ∙ ap all_bare (uses-renamed (variables p) None p)
 
   -- and so are the variables
   pub rule-variables : path_variables (tokens_of sig p) ≡ map (new_name (variables p)) (variables p)

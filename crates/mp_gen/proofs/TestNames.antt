@@ -24,69 +24,24 @@ use Rattle.mp_pattern.specs.Variables.{Use, uses, variables, comm_above}
 use Rattle.mp_pattern.proofs.NameLaws.{same_name-is, same_name-itself}
 use Rattle.mp_theory.proofs.FirstItems.{known-in}
 use Rattle.mp_walk.specs.Walkable.{StandsFor}
-use Rattle.mp_program.specs.ProgramOf.{renamed_operand, renamed_amount, renamed_cond, renamed_conds}
+use Rattle.mp_program.specs.ProgramOf.{renamed_cond, renamed_conds}
 use Rattle.mp_program.specs.TokenPaths.{path_uses, path_variables, operand_names, cond_names, less_names}
 use Rattle.mp_program.specs.TokenPaths.{all_less_names, is_sequence_name, suits_test}
-use Rattle.mp_program_laws.proofs.TestPlaces.{none-any}
-use Rattle.mp_gen.proofs.PathVariables.{bare_use}
+use Rattle.mp_program.proofs.ListLaws.{list_any-none}
+use Rattle.mp_program.proofs.PathLaws.{bare}
+use Rattle.mp_program_laws.proofs.RenamedLaws.{operand-names, cond_names-renamed}
 use Rattle.mp_gen.proofs.RuleNames.{new_name, new_use, same-new, known-new, use-variable, rule-uses, rule-variables}
 
 -- ---- the names of a renamed condition
 
 module _ (vs : List (List ℕ)) where
-  abbrev new : List ℕ → List ℕ
-  new = new_name vs
-
-  operand-new : (a : Operand) → operand_names (renamed_operand vs a) ≡ map new (operand_names a)
-  operand-new (var x) = refl
-  operand-new (ground t) = refl
-
-  amount-new : (m : Amount) → amount_operands (renamed_amount vs m) ≡ map (renamed_operand vs) (amount_operands m)
-  amount-new (fixed n) = refl
-  amount-new (count a) = refl
-  amount-new (size a) = refl
-
-  mutual
-    operands-new : (c : Cond) → operands (renamed_cond vs c) ≡ map (renamed_operand vs) (operands c)
-    operands-new (amounts m c n) =
-        ap (λ l. l ++ amount_operands (renamed_amount vs n)) (amount-new m)
-        ∙ ap (λ l. map (renamed_operand vs) (amount_operands m) ++ l) (amount-new n)
-        ∙ sym (map-append (renamed_operand vs) (amount_operands m) (amount_operands n))
-    operands-new (same a b) = refl
-    operands-new (less a b) = refl
-    operands-new (free a b) = refl
-    operands-new (of_kind a k) = refl
-    operands-new (headed a f) = refl
-    operands-new (negation c) = operands-new c
-    operands-new (all_of cs) = all_operands-new cs
-    operands-new (any_of cs) = all_operands-new cs
-
-    all_operands-new : (cs : Conds) → all_operands (renamed_conds vs cs) ≡ map (renamed_operand vs) (all_operands cs)
-    all_operands-new no_conds = refl
-    all_operands-new (more_conds c cs) =
-        ap (λ l. l ++ all_operands (renamed_conds vs cs)) (operands-new c)
-        ∙ ap (λ l. map (renamed_operand vs) (operands c) ++ l) (all_operands-new cs)
-        ∙ sym (map-append (renamed_operand vs) (operands c) (all_operands cs))
-
-  names-new : (ops : List Operand)
-      → flat_map operand_names (map (renamed_operand vs) ops) ≡ map new (flat_map operand_names ops)
-  names-new [] = refl
-  names-new (a ∷ ops) =
-      ap (λ l. l ++ flat_map operand_names (map (renamed_operand vs) ops)) (operand-new a)
-      ∙ ap (λ l. map new (operand_names a) ++ l) (names-new ops)
-      ∙ sym (map-append new (operand_names a) (flat_map operand_names ops))
-
-  pub cond_names-renamed : (c : Cond) → cond_names (renamed_cond vs c) ≡ map (new_name vs) (cond_names c)
-  cond_names-renamed c = ap (flat_map operand_names) (operands-new c) ∙ names-new (operands c)
-
   mutual
     pub less_names-renamed : (c : Cond) → less_names (renamed_cond vs c) ≡ map (new_name vs) (less_names c)
     less_names-renamed (amounts m c n) = refl
     less_names-renamed (same a b) = refl
     less_names-renamed (less a b) =
-        ap (λ l. l ++ operand_names (renamed_operand vs b)) (operand-new a)
-        ∙ ap (λ l. map new (operand_names a) ++ l) (operand-new b)
-        ∙ sym (map-append new (operand_names a) (operand_names b))
+        (λ i. operand-names vs a i ++ operand-names vs b i)
+        ∙ sym (map-append (new_name vs) (operand_names a) (operand_names b))
     less_names-renamed (free a b) = refl
     less_names-renamed (of_kind a k) = refl
     less_names-renamed (headed a f) = refl
@@ -99,8 +54,8 @@ module _ (vs : List (List ℕ)) where
     all_less_names-renamed no_conds = refl
     all_less_names-renamed (more_conds c cs) =
         ap (λ l. l ++ all_less_names (renamed_conds vs cs)) (less_names-renamed c)
-        ∙ ap (λ l. map new (less_names c) ++ l) (all_less_names-renamed cs)
-        ∙ sym (map-append new (less_names c) (all_less_names cs))
+        ∙ ap (λ l. map (new_name vs) (less_names c) ++ l) (all_less_names-renamed cs)
+        ∙ sym (map-append (new_name vs) (less_names c) (all_less_names cs))
 
 -- ---- the names of a checked condition
 
@@ -225,11 +180,11 @@ module _ (sig : Sig) (p : Pattern) (few : length (variables p) ≤ MAX_VARIABLES
       → is_known same_name (path_variables (tokens_of sig p)) (new_name (variables p) x) ≡ true
   name-known x h =
       ap (λ l. is_known same_name l (new_name (variables p) x)) (rule-variables sig p few stands)
-      ∙ known-new (variables p) few (variables p) x (λ y i. i) (variable-in x h) ∙ h
+      ∙ known-new (variables p) sig few (variables p) x (λ y i. i) (variable-in x h) ∙ h
 
   name-single : (x : List ℕ) → IsVariableOf sig p x × IsOneTerm sig p x
       → is_sequence_name (path_uses (tokens_of sig p)) (new_name (variables p) x) ≡ false
-  name-single x h = none-any (λ (u : Use). same_name u.name (new_name (variables p) x) && is_sequence u.wildcard)
+  name-single x h = list_any-none (λ (u : Use). same_name u.name (new_name (variables p) x) && is_sequence u.wildcard)
       (path_uses (tokens_of sig p)) each
     where
       each : (u : Use) → In u (path_uses (tokens_of sig p))
@@ -239,16 +194,17 @@ module _ (sig : Sig) (p : Pattern) (few : length (variables p) ≤ MAX_VARIABLES
           by_name : (b : Bool) → same_name u.name (new_name (variables p) x) ≡ b → (b && is_sequence u.wildcard) ≡ false
           by_name false e = refl
           by_name true e =
-              let a = from_in-map bare_use (bare_use u) (map (new_use (variables p)) (uses None p))
-              (subst (In (bare_use u)) (rule-uses sig p few stands)
-              (in-map bare_use u (path_uses (tokens_of sig p)) i)) in
+              let a = from_in-map bare (bare u) (map (new_use (variables p)) (uses None p))
+              (subst (In (bare u)) (rule-uses sig p few stands)
+              (in-map bare u (path_uses (tokens_of sig p)) i)) in
               let v = from_in-map (new_use (variables p)) a.0 (uses None p) a.2 in
               let name : u.name ≡ new_name (variables p) v.0.name =
               ap (λ (z : Use). z.name) a.1 ∙ ap (λ (z : Use). z.name) v.1 in
               let wild : u.wildcard ≡ v.0.wildcard =
               ap (λ (z : Use). z.wildcard) a.1 ∙ ap (λ (z : Use). z.wildcard) v.1 in
               let same : same_name v.0.name x ≡ true =
-              sym (same-new (variables p) few v.0.name x (use-variable sig p few stands v.0 v.2) (variable-in x h.0))
+              sym (same-new (variables p) sig few v.0.name x (use-variable sig p few stands v.0 v.2)
+              (variable-in x h.0))
               ∙ ap (λ z. same_name z (new_name (variables p) x)) (sym name) ∙ e in
               let turned : same_name x v.0.name ≡ true =
               ap (same_name x) (same_name-is v.0.name x same) ∙ same_name-itself x in

@@ -1,5 +1,5 @@
 -- The tree of rules has no faults, and its actions are right.
-use Rattle.std.proofs.Common.{◌≡◌, ◌<◌, ℕ, zero, suc, List, [], ◌∷◌, ◌++◌, map, length, Bool, true}
+use Rattle.std.proofs.Common.{◌≡◌, ◌<◌, ℕ, suc, List, [], ◌∷◌, ◌++◌, map, length, Bool, true}
 use Rattle.std.proofs.Common.{false, refl, ap, sym, ◌∙◌, inl, inr, subst, arith}
 use Rattle.std.specs.Prelude.{Option, Some, None, ◌&&◌, option_map, slice_get, nat_eq, nat_lt}
 use Rattle.std.specs.Prelude.{if◌then◌else◌}
@@ -7,7 +7,7 @@ use Rattle.std.specs.List.{list_all}
 use Rattle.std.specs.Option.{option_map_or}
 use Rattle.std.proofs.lemmas.Bool.{and_from}
 use Rattle.std.proofs.lemmas.Bool.Decides.{nat_tests}
-use Rattle.std.proofs.lemmas.Option.{slice_get-map}
+use Rattle.std.proofs.lemmas.Option.{slice_get_within, slice_get-map}
 use Rattle.mp_term.specs.Listing.{In}
 use Rattle.mp_term.specs.Signature.{Sig}
 use Rattle.mp_term.proofs.ListingLaws.{all_in}
@@ -53,11 +53,6 @@ list_all-from : {X : Type 0} (test : X → Bool) (xs : List X) → ((x : X) → 
     → list_all test xs ≡ true
 list_all-from test [] h = refl
 list_all-from test (x ∷ xs) h = and_from _ _ (h x (inl refl)) (list_all-from test xs (λ y i. h y (inr i)))
-
-get-within : {X : Type 0} (xs : List X) (j : ℕ) (x : X) → slice_get xs j ≡ Some x → j < length xs
-get-within [] j x e = cc
-get-within (y ∷ xs) zero x e = omega arith
-get-within (y ∷ xs) (suc j) x e = let h = get-within xs j x e in omega (arith, h)
 
 ascending-more : (m : ℕ) (xs : List ℕ) → ((x : ℕ) → In x xs → m < x) → are_ascending xs ≡ true
     → are_ascending (m ∷ xs) ≡ true
@@ -195,7 +190,7 @@ module _ (sig : Sig) (rules : List Rule) (sound : AreSoundRules sig rules) (read
         each_short : (m : ℕ) → In m i.accepts → IsShort m
         each_short m h =
             let a = accepted-at m h in
-            let w = get-within rules m a.0 a.1 in
+            let w = slice_get_within rules m a.0 a.1 in
             let f = sound.few in omega (arith, w, f)
 
         by_down : (o : Option ℕ) → i.down ≡ o → IsRightAction o i.accepts

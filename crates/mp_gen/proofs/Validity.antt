@@ -1,10 +1,10 @@
 -- What is generated of sound rules is valid.
-use Rattle.std.proofs.Common.{◌≡◌, ◌≢◌, ◌≤◌, ◌<◌, ℕ, zero, suc, ◌+◌, List, [], ◌∷◌, ◌++◌, map, length, Bool, true}
+use Rattle.std.proofs.Common.{◌≡◌, ◌≢◌, ◌≤◌, ◌<◌, ℕ, zero, suc, ◌+◌, List, [], ◌∷◌, ◌++◌, map, length, true}
 use Rattle.std.proofs.Common.{false, refl, ap, sym, ◌∙◌, inl, inr, subst, arith, append-nil, ◌⊎◌, ◌^◌}
 use Rattle.std.specs.Prelude.{Option, Some, None, ◌↔◌, IsSome, flat_map, option_to_list}
 use Rattle.std.specs.Prelude.{codes, decimal, if◌then◌else◌}
 use Rattle.std.specs.List.{AllByRecursion}
-use Rattle.std.proofs.lemmas.List.{length-append, length-map}
+use Rattle.std.proofs.lemmas.List.{length-map}
 use Rattle.std.proofs.lemmas.Slice.Eq.{bytes_eq-Decides}
 use Rattle.mp_io.specs.Devices.{Text}
 use Rattle.mp_term.specs.Listing.{In}
@@ -12,7 +12,7 @@ use Rattle.mp_term.specs.Names.{is_name}
 use Rattle.mp_term.specs.Signature.{Sig}
 use Rattle.mp_term.proofs.ListLaws.{all-append}
 use Rattle.mp_term.proofs.ListingLaws.{all_in}
-use Rattle.mp_term.proofs.SearchLaws.{from_in-append, from_in-map, from_in-flat, all-from_in, all-map}
+use Rattle.mp_term.proofs.SearchLaws.{from_in-append, from_in-map, all-from_in, all-map}
 use Rattle.mp_pattern.specs.declared.limits.TheConstants.{MAX_PATTERN_NODES, MAX_VARIABLES, MAX_RULES, MAX_DEPTH}
 use Rattle.mp_pattern.specs.Admission.{Rule}
 use Rattle.mp_pattern.specs.CondTree.{Cond}
@@ -55,24 +55,25 @@ use Rattle.mp_program.specs.Reading.{IsProgramOf}
 use Rattle.mp_program.specs.RightForm.{IsShort, IsShortTarget, IsRightAction, IsRightInstr, IsRightTest, IsRightRule}
 use Rattle.mp_program.specs.RightForm.{IsRightRuleTest, IsRightForm}
 use Rattle.mp_program.specs.TokenPaths.{cond_names}
-use Rattle.mp_program_laws.proofs.RenamedLaws.{known-numbered}
-use Rattle.mp_program_laws.proofs.LineFeeds.{IsOneLine, line-append, decimal-line, cond-line, lines_of-lines_text}
-use Rattle.mp_program_laws.proofs.LineFeeds.{line-lines_of}
-use Rattle.mp_program.proofs.LineLaws.{lines_of-append}
+use Rattle.mp_program.proofs.LineLaws.{IsOneLine, lines_of-append, lines_of-lines_text, line-lines_of}
+use Rattle.mp_program.proofs.NameLaws.{known-numbered}
 use Rattle.mp_program.proofs.PrintedLines.{op-ended}
+use Rattle.mp_program_laws.proofs.LineFeeds.{line-append, decimal-line, cond-line}
+use Rattle.mp_program_laws.proofs.RenamedLaws.{cond_names-renamed}
+use Rattle.mp_program_laws.proofs.SpelledTests.{none-tests}
 use Rattle.mp_gen.specs.Generated.{spelled_condition, spelled_rule, generated}
 use Rattle.mp_gen.specs.Printable.{ArePrintable}
 use Rattle.mp_gen.proofs.FormLines.{kind-declared, HasShortVariable, IsLineInstr, code-line}
 use Rattle.mp_gen.proofs.FlatPatterns.{IsFormedToken}
 use Rattle.mp_gen.proofs.LeadLaws.{none-target_faults}
 use Rattle.mp_gen.proofs.RightTokens.{AreTermsRead, ArePatternsRead, short-variable, tree-formed, tree-token}
-use Rattle.mp_gen.proofs.RuleFaults.{spelled_of, spelled_all, all, line, spelled-known, none-tests, none-unused}
-use Rattle.mp_gen.proofs.RuleFaults.{none-rules, rules-spelled}
+use Rattle.mp_gen.proofs.RuleFaults.{spelled_all, spelled-from, spelling, all, line, spelled-known, none-unused}
+use Rattle.mp_gen.proofs.RuleFaults.{none-rules}
 use Rattle.mp_gen.proofs.RuleNames.{new_name}
-use Rattle.mp_gen.proofs.TestNames.{cond_names-renamed, checked-names}
+use Rattle.mp_gen.proofs.TestNames.{checked-names}
 use Rattle.mp_program_laws.proofs.TestPlaces.{placed}
 use Rattle.mp_program_laws.proofs.DeclaredLines.{spelled-lines, op-declared}
-use Rattle.mp_program_laws.proofs.FormAgain.{rule-text}
+use Rattle.mp_program_laws.proofs.FormAgain.{length-firsts, length-spelled, rule-text}
 use Rattle.mp_gen.proofs.TreeFaults.{AreReadConditions, program_rules, right-action, none-instructions}
 
 -- ---- lists
@@ -85,30 +86,6 @@ all-index P (i ∷ is) h = (h 1 i refl, all-index P is (λ n j e. h (suc n) j (l
     later : (n : ℕ) (j : Instr) → instr_at is n ≡ Some j → instr_at (i ∷ is) (suc n) ≡ Some j
     later zero j e = cc
     later (suc n) j e = e
-
-length-firsts : {X : Type 0} (same : X → X → Bool) (ys xs : List X)
-    → length (firsts_after same ys xs) ≤ length ys + length xs
-length-firsts same ys [] = omega arith
-length-firsts same ys (x ∷ xs) = by_known (is_known same ys x) (length-firsts same ys xs)
-    (length-firsts same (ys ++ (x ∷ [])) xs)
-  where
-    by_known : (b : Bool) → length (firsts_after same ys xs) ≤ length ys + length xs
-        → length (firsts_after same (ys ++ (x ∷ [])) xs) ≤ length (ys ++ (x ∷ [])) + length xs
-        → length (firsts_after same (if b then ys else ys ++ (x ∷ [])) xs) ≤ length ys + suc (length xs)
-    by_known true old new = omega (arith, old)
-    by_known false old new = let e = length-append ys (x ∷ []) in omega (arith, new, e)
-
-length-spelled : (rs : List Rule) → length (spelled_all rs) ≤ length rs
-length-spelled [] = omega arith
-length-spelled (r ∷ rs) =
-    let own : length (spelled_of r) ≤ 1 = by_condition r.condition in
-    let rest = length-spelled rs in
-    let e = length-append (spelled_of r) (spelled_all rs) in
-    omega (arith, own, rest, e)
-  where
-    by_condition : (o : Option Cond) → length (spelled_test (variables r.pattern) (spelled_condition o)) ≤ 1
-    by_condition None = omega arith
-    by_condition (Some c) = omega arith
 
 all-new : (vs xs : List (List ℕ)) → length vs ≤ MAX_VARIABLES
     → AllByRecursion (λ x. is_known same_name vs x ≡ true) xs
@@ -156,21 +133,6 @@ none-declared at [] = refl
 none-declared at (l ∷ ls) =
     ap (λ b. if b then declaration_faults (suc at) ls ls else (BadReference at ∷ [])) ((bytes_eq-Decides l l).1 refl)
     ∙ none-declared (suc at) ls
-
--- a test that is spelled is the condition of a rule, renamed
-spelled-from : (rules : List Rule) (c : Cond) → In c (spelled_all rules)
-    → (r : Rule) × (d : Cond) × In r rules × (r.condition ≡ Some d) × (c ≡ renamed_cond (variables r.pattern) d)
-spelled-from rules c i =
-    let a = from_in-flat spelled_of c rules i in
-    let b = by_condition a.0 a.0.condition refl a.2 in
-    (a.0, b.0, a.1, b.1, b.2)
-  where
-    by_condition : (r : Rule) (o : Option Cond) → r.condition ≡ o
-        → In c (spelled_test (variables r.pattern) (spelled_condition o))
-        → (d : Cond) × (r.condition ≡ Some d) × (c ≡ renamed_cond (variables r.pattern) d)
-    by_condition r None e h = absurd h
-    by_condition r (Some d) e (inl h) = (d, e, h)
-    by_condition r (Some d) e (inr h) = absurd h
 
 -- ---- the form of the program
 
@@ -235,9 +197,7 @@ module _ (sig : Sig) (rules : List Rule) (sound : AreSoundRules sig rules) (prin
   }
 
   program-is : generated sig rules ≡ program
-  program-is = ap (λ ts. let all = firsts_after (same_cond sig) [] ts in
-      record { rules = map (rule_of sig all) (map spelled_rule rules); tests = all; code = tree_of sig rules })
-      (rules-spelled rules)
+  program-is = refl
 
   rule-lines : (rs : List Rule) → map line_of_rule (map (rule_of sig tests) (map spelled_rule rs))
       ≡ map (line sig rules sound) rs
@@ -264,8 +224,9 @@ module _ (sig : Sig) (rules : List Rule) (sound : AreSoundRules sig rules) (prin
   few-tests : length tests ≤ MAX_RULES
   few-tests =
       let a = length-firsts (same_cond sig) [] (spelled_all rules) in
-      let b = length-spelled rules in
-      let c = sound.few in omega (arith, a, b, c)
+      let b = length-spelled (map spelled_rule rules) in
+      let c = length-map rules spelled_rule in
+      let d = sound.few in omega (arith, a, b, c, d)
 
   right-test : (c : Cond) → In c tests → IsRightTest sig c
   right-test c i =
@@ -495,7 +456,7 @@ module _ (sig : Sig) (rules : List Rule) (sound : AreSoundRules sig rules) (prin
       ap (λ ls. declaration_faults 2 ls (lines_of (flat_map op_text sig.ops)
       ++ lines_of (flat_map kind_text sig.kinds))) declared-lines
       ∙ none-declared 2 (lines_of (flat_map op_text sig.ops) ++ lines_of (flat_map kind_text sig.kinds)) in
-      nil-all declared (none-tests sig rules sound (first_test_line form))
+      nil-all declared (none-tests sig (map spelled_rule rules) (spelling rules) (first_test_line form))
       (none-rules sig rules sound (first_rule_line form)) (none-unused sig rules sound (first_test_line form))
       (begin-none (line_of_begin form) (tree_of sig rules)) (code-none (suc (line_of_begin form)))
     where

@@ -10,6 +10,7 @@ use Rattle.mp_pattern.specs.Variables.{variables}
 use Rattle.mp_walk.specs.Instrs.{Instr, instr_at}
 use Rattle.mp_walk.specs.Walkable.{Path, IsWhole, IsWalkable}
 use Rattle.mp_walk.proofs.CodePaths.{instr-in, instr-there, down-target}
+use Rattle.mp_walk.proofs.EntryLaws.{none-some}
 use Rattle.mp_walk.proofs.PathLaws.{path-goes_on}
 use Rattle.mp_program.specs.TokenPaths.{is_right_path, open_along, is_balanced}
 use Rattle.mp_gen.proofs.OpenLaws.{open-tokens, open-before}
@@ -70,11 +71,7 @@ module _ (sig : Sig) (code : List Instr) (w : IsWalkable sig code) (n : ℕ) (i 
   pub end-accepts : i.down ≡ None → i.accepts ≢ []
   end-accepts e k =
       let some = all_in (λ j. j.accepts ≡ [] → IsSome j.down) code i w.leads (instr-in code n i held) k in
-      nothing i.down e some
-    where
-      nothing : (o : Option ℕ) → o ≡ None → IsSome o → ⊥
-      nothing None q h = cc
-      nothing (Some t) q h = cc
+      none-some i.down e some
 
   -- an operation is open exactly where it leads down
   pub path-balanced : is_balanced (open_along [] (w.before n ++ i.token ∷ [])) (is_some i.down) ≡ true

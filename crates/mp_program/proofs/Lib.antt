@@ -1,6 +1,10 @@
 pub mod LineLaws
+pub mod ListLaws
+pub mod FaultLaws
+pub mod NameLaws
+pub mod PathLaws
 pub mod PrintedLines
 mod PutLaws
-mod TestLaws
+pub mod TestLaws
 pub mod OneSpelling
 mod Examples

@@ -2,8 +2,8 @@
 use Rattle.std.proofs.Common.{◌≡◌, ◌≢◌, List, [], ◌∷◌, ◌++◌, map, Bool, true, false, refl, sym, ap, ◌∙◌}
 use Rattle.std.proofs.Common.{append_assoc}
 use Rattle.std.specs.Prelude.{nat_eq, if◌then◌else◌}
-use Rattle.std.specs.List.{flat_map}
-use Rattle.std.proofs.lemmas.Bool.{eqb-true}
+use Rattle.std.specs.List.{AllByRecursion, flat_map, list_any}
+use Rattle.std.proofs.lemmas.Bool.{eqb-true, or_parts}
 use Rattle.mp_io.specs.Devices.{Text}
 use Rattle.mp_program.specs.FormText.{begin_line_with, lines_of, lines_text}
 
@@ -87,3 +87,34 @@ lines_of-append f (x ∷ xs) rest ended =
     ∙ ap (λ l. lines_of (u ++ 10 ∷ []) ++ l) (lines_of-append f xs rest ended)
     ∙ sym (append_assoc (lines_of (u ++ 10 ∷ [])) (lines_of all) (lines_of rest))
     ∙ ap (λ l. l ++ lines_of rest) (sym (lines_of-ended u all) ∙ ap lines_of (sym (whole all)))
+
+-- ---- texts of one line
+
+-- the text has no line feed
+abbrev pub IsOneLine : Text → Type 0
+IsOneLine t = list_any (λ c. nat_eq c 10) t ≡ false
+
+-- a line without a line feed is read again
+pub lines_of-line : (l t : Text) → IsOneLine l → lines_of ((l ++ 10 ∷ []) ++ t) ≡ l ∷ lines_of t
+lines_of-line [] t h = refl
+lines_of-line (b ∷ l) t h =
+    let both = or_parts (nat_eq b 10) (list_any (λ c. nat_eq c 10) l) h in
+    ap (λ v. if v then [] ∷ lines_of ((l ++ 10 ∷ []) ++ t) else begin_line_with b (lines_of ((l ++ 10 ∷ []) ++ t)))
+    both.0 ∙ ap (begin_line_with b) (lines_of-line l t both.1)
+
+-- and so are all
+pub lines_of-lines_text : (ls : List Text) → AllByRecursion IsOneLine ls → lines_of (lines_text ls) ≡ ls
+lines_of-lines_text [] h = refl
+lines_of-lines_text (l ∷ ls) h =
+    lines_of-line l (lines_text ls) h.0 ∙ ap (λ ms. l ∷ ms) (lines_of-lines_text ls h.1)
+
+-- the lines of a text are such
+pub line-lines_of : (t : Text) → AllByRecursion IsOneLine (lines_of t)
+line-lines_of [] = tt
+line-lines_of (b ∷ t) = by_byte (nat_eq b 10) refl (lines_of t) (line-lines_of t)
+  where
+    by_byte : (v : Bool) → nat_eq b 10 ≡ v → (ls : List Text) → AllByRecursion IsOneLine ls
+        → AllByRecursion IsOneLine (if v then [] ∷ ls else begin_line_with b ls)
+    by_byte true e ls h = (refl, h)
+    by_byte false e [] h = tt
+    by_byte false e (l ∷ ls) h = (rw (e, h.0) refl, h.1)

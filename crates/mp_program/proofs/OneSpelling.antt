@@ -11,6 +11,7 @@ use Rattle.mp_pattern.specs.CondTree.{Cond}
 use Rattle.mp_pattern.specs.Firsts.{firsts_after}
 use Rattle.mp_walk.specs.Instrs.{Instr, targets}
 use Rattle.mp_print.specs.PrintedSignature.{op_text, kind_text, signature_text}
+use Rattle.mp_build.proofs.Faultless.{nil-append}
 use Rattle.mp_program.specs.declared.fault.ProgramError.TheVariants.{BadReference}
 use Rattle.mp_program.specs.declared.format.Format.TheVariants.{One, Two}
 use Rattle.mp_program.specs.Program.{ProgramRule, Program}
@@ -26,18 +27,6 @@ use Rattle.mp_program.specs.ProgramOf.{same_cond, spelled_test, tests_of, test_n
 use Rattle.mp_program.specs.Reading.{IsProgramOf}
 use Rattle.mp_program.proofs.LineLaws.{lines_of-append}
 use Rattle.mp_program.proofs.PrintedLines.{op-ended}
-
--- ---- empty lists
-
--- of two lists that are none together the first is none
-pub nil-left : {X : Type 0} (xs ys : List X) → xs ++ ys ≡ [] → xs ≡ []
-nil-left [] ys e = refl
-nil-left (x ∷ xs) ys e = cc
-
--- and the second
-pub nil-right : {X : Type 0} (xs ys : List X) → xs ++ ys ≡ [] → ys ≡ []
-nil-right [] ys e = e
-nil-right (x ∷ xs) ys e = cc
 
 -- ---- declarations
 
@@ -108,9 +97,9 @@ begin-again (Some d) [] sig most tests rules stop line h e = absurd (h.0 refl re
 begin-again (Some d) (i ∷ is) sig most tests rules stop line h e = go (nat_eq d 1) refl
   where
     way : way_faults sig most tests rules stop line (befores (lead [] (Some d)) 1) i ≡ []
-    way = nil-right (target_faults stop line 1 (targets i)) _
-        (nil-left (target_faults stop line 1 (targets i)
-        ++ way_faults sig most tests rules stop line (befores (lead [] (Some d)) 1) i) _ e)
+    way = (nil-append (target_faults stop line 1 (targets i)) _
+        (nil-append (target_faults stop line 1 (targets i)
+        ++ way_faults sig most tests rules stop line (befores (lead [] (Some d)) 1) i) _ e).0).1
 
     go : (v : Bool) → nat_eq d 1 ≡ v → Some 1 ≡ Some d
     go true same = ap Some (sym (eqb-true d 1 same))
@@ -135,7 +124,7 @@ lines-of-program sig f two right none =
     ∙ ap (λ l. (codes "matchpy program " ++ decimal 2) ∷ l)
     (sym (append_assoc f.ops f.kinds behind)
     ∙ ap (λ l. l ++ behind) (sym (declared-same 2 (lines_of (signature_text sig)) (f.ops ++ f.kinds)
-    (nil-left (faults_of_declarations sig f) _ none)) ∙ declared)
+    (nil-append (faults_of_declarations sig f) _ none).0) ∙ declared)
     ∙ append_assoc (lines_of (flat_map op_text sig.ops)) (lines_of (flat_map kind_text sig.kinds)) behind
     ∙ ap (λ l. lines_of (flat_map op_text sig.ops) ++ (lines_of (flat_map kind_text sig.kinds) ++ l)) same)
   where
@@ -150,9 +139,9 @@ lines-of-program sig f two right none =
     rules = subst (λ n. AllByRecursion (IsRightRule sig n) f.rules) two right.rules
 
     code_none : faults_of_code sig f ≡ []
-    code_none = nil-right (faults_of_begin sig f) _ (nil-right (faults_of_unused sig f) _
-        (nil-right (faults_of_rules sig f) _ (nil-right (faults_of_tests sig f) _
-        (nil-right (faults_of_declarations sig f) _ none))))
+    code_none = (nil-append (faults_of_begin sig f) _ (nil-append (faults_of_unused sig f) _
+        (nil-append (faults_of_rules sig f) _ (nil-append (faults_of_tests sig f) _
+        (nil-append (faults_of_declarations sig f) _ none).1).1).1).1).1
 
     again : List RuleLine
     again = map line_of_rule (map (rule_of sig (tests_of sig f)) f.rules)

@@ -5,6 +5,7 @@ use Rattle.std.specs.Prelude.{Result, Ok, Err, OnOk}
 use Rattle.std.specs.Prelude.{◌||◌, cond, not, nat_lt, bytes_eq, is_some, slice_get, if◌then◌else◌}
 use Rattle.std.specs.List.{flat_map, list_any, position, position_or_len}
 use Rattle.std.proofs.lemmas.Slice.Eq.{bytes_eq-Decides}
+use Rattle.std.proofs.Math.Bool.{or-true}
 use Rattle.mp_io.specs.Devices.{Text}
 use Rattle.mp_term.specs.Signature.{Sig}
 use Rattle.mp_term.proofs.SignatureLaws.{is_some-position}
@@ -12,6 +13,7 @@ use Rattle.mp_pattern.specs.CondTree.{Cond, conds, more_conds}
 use Rattle.mp_pattern.specs.Firsts.{is_known, add_new, firsts_after}
 use Rattle.mp_pattern.specs.NetTokens.{number_in}
 use Rattle.mp_pattern.specs.Value.{same_name}
+use Rattle.mp_pattern.proofs.PlanLaws.{firsts_after-append}
 use Rattle.mp_print.specs.PrintedCond.{cond_text}
 use Rattle.mp_build.proofs.Declared.{bytes_eq_comm}
 use Rattle.mp_program.specs.Program.{ProgramRule}
@@ -29,12 +31,6 @@ on-ok (Err e) h = tt
 -- ---- items, each once
 
 module _ {X : Type 0} (same : X → X → Bool) where
-  -- items in two parts
-  pub firsts_after-append : (ys xs zs : List X)
-      → firsts_after same ys (xs ++ zs) ≡ firsts_after same (firsts_after same ys xs) zs
-  firsts_after-append ys [] zs = refl
-  firsts_after-append ys (x ∷ xs) zs = firsts_after-append (add_new same ys x) xs zs
-
   -- a known item is known among more
   known-more : (ys zs : List X) (x : X) → is_known same ys x ≡ true → is_known same (ys ++ zs) x ≡ true
   known-more [] zs x h = (let wrong : false ≡ true = h in cc)
@@ -130,7 +126,7 @@ module _ (sig : Sig) where
           go false h rest = ap suc (rest h)
 
   -- a known test keeps its place
-  place-more : (ts us : List Cond) (c : Cond) → is_known (same_cond sig) ts c ≡ true
+  pub place-more : (ts us : List Cond) (c : Cond) → is_known (same_cond sig) ts c ≡ true
       → cond_place sig (ts ++ us) c ≡ cond_place sig ts c
   place-more [] us c h = (let wrong : false ≡ true = h in cc)
   place-more (t ∷ ts) us c h = go (same_cond sig t c) h (place-more ts us c)
@@ -159,11 +155,7 @@ module _ (sig : Sig) where
     where
       here : (ts : List Cond) → is_known (same_cond sig) (ts ++ c ∷ []) c ≡ true
       here [] = rw ((bytes_eq-Decides (cond_text sig c) (cond_text sig c)).1 refl) refl
-      here (t ∷ ts) = rw (here ts) (or_true (same_cond sig t c))
-        where
-          or_true : (b : Bool) → (b || true) ≡ true
-          or_true true = refl
-          or_true false = refl
+      here (t ∷ ts) = rw (here ts) (or-true (same_cond sig t c))
 
       go : (b : Bool) → is_known (same_cond sig) ts c ≡ b
           → is_known (same_cond sig) (if b then ts else ts ++ c ∷ []) c ≡ true

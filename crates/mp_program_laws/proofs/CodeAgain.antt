@@ -14,6 +14,7 @@ use Rattle.mp_pattern.specs.PatternTree.{app_pattern, wild_pattern, Patterns, no
 use Rattle.mp_walk.specs.Instrs.{Instr, targets}
 use Rattle.mp_walk.specs.SoundTokens.{path_nodes}
 use Rattle.mp_walk.specs.Walkable.{Path}
+use Rattle.mp_build.proofs.Faultless.{nil-append, nil-both}
 use Rattle.mp_program.specs.declared.fault.ProgramError.{ProgramError}
 use Rattle.mp_program.specs.declared.fault.ProgramError.TheVariants.{BackwardTarget, BadReference, Unbalanced}
 use Rattle.mp_program.specs.declared.format.Format.TheVariants.{One, Two}
@@ -23,13 +24,12 @@ use Rattle.mp_program.specs.Leads.{Lead, befores, leads_after}
 use Rattle.mp_program.specs.RightForm.{IsWildcardOf, IsRightToken, IsRightInstr}
 use Rattle.mp_program.specs.TokenPaths.{has_plain_root, enters_comm, path_variables, are_numbered_from, path_uses}
 use Rattle.mp_program.specs.TokenPaths.{some_differ, is_right_path, open_along, is_balanced, may_accept}
-use Rattle.mp_program.proofs.OneSpelling.{nil-left, nil-right}
-use Rattle.mp_program_laws.proofs.TestPlaces.{nil-both}
+use Rattle.mp_program.proofs.FaultLaws.{nil-fault_if}
 
 -- ---- tokens
 
 -- each wildcard stands in format 2
-any-wildcard : (w : Wildcard) → IsWildcardOf Two w
+pub any-wildcard : (w : Wildcard) → IsWildcardOf Two w
 any-wildcard dot = tt
 any-wildcard (kind k) = tt
 any-wildcard plus = tt
@@ -38,12 +38,12 @@ any-wildcard (optional t) = tt
 any-wildcard (counted n exact) = tt
 
 mutual
-  each-wildcard : (p : Pattern) → EachWildcard (IsWildcardOf Two) p
+  pub each-wildcard : (p : Pattern) → EachWildcard (IsWildcardOf Two) p
   each-wildcard (symbol_pattern n) = tt
   each-wildcard (app_pattern f ps) = all-wildcards ps
   each-wildcard (wild_pattern w x) = any-wildcard w
 
-  all-wildcards : (ps : Patterns) → AllEachWildcard (IsWildcardOf Two) ps
+  pub all-wildcards : (ps : Patterns) → AllEachWildcard (IsWildcardOf Two) ps
   all-wildcards no_patterns = tt
   all-wildcards (more_patterns p ps) = (each-wildcard p, all-wildcards ps)
 
@@ -71,16 +71,13 @@ code-right sig (i ∷ is) h = (
 
 -- ---- faults
 
-no-fault : (b : Bool) (f : ProgramError) → fault_if b f ≡ [] → b ≡ false
-no-fault false f e = refl
-no-fault true f e = (let wrong : f ∷ [] ≡ [] = e in cc)
-
 -- two faults that don't stand there aren't those of another line
 two-again : (a b a' b' : Bool) (f g f' g' : ProgramError) → (a ≡ false → a' ≡ false) → (b ≡ false → b' ≡ false)
     → fault_if a f ++ fault_if b g ≡ [] → fault_if a' f' ++ fault_if b' g' ≡ []
 two-again a b a' b' f g f' g' first second none =
-    let here = first (no-fault a f (nil-left (fault_if a f) (fault_if b g) none)) in
-    let behind = second (no-fault b g (nil-right (fault_if a f) (fault_if b g) none)) in
+    let both = nil-append (fault_if a f) (fault_if b g) none in
+    let here = first (nil-fault_if a f both.0) in
+    let behind = second (nil-fault_if b g both.1) in
     λ i. fault_if (here i) f' ++ fault_if (behind i) g'
 
 -- targets without a fault have none on another line
@@ -136,10 +133,11 @@ module _ (sig : Sig) (most more : ℕ) (grows : most ≤ more) (tests : List Con
         let targeted = target_faults stop line n (targets i) in
         let led = way_faults sig most tests rules stop line (befores ls n) i in
         let behind = code_faults sig most tests rules stop (suc line) (suc n) (leads_after ls n i) is in
-        let here = nil-left (targeted ++ led) behind none in
+        let both = nil-append (targeted ++ led) behind none in
+        let here = nil-append targeted led both.0 in
         nil-both (target_faults stop at n (targets i) ++ way_faults sig more tests rules stop at (befores ls n) i)
         (code_faults sig more tests rules stop (suc at) (suc n) (leads_after ls n i) is)
         (nil-both (target_faults stop at n (targets i)) (way_faults sig more tests rules stop at (befores ls n) i)
-        (targets-again stop line at n (targets i) (nil-left targeted led here))
-        (way-again line at (befores ls n) i (nil-right targeted led here)))
-        (code-again (suc line) (suc at) (suc n) (leads_after ls n i) is (nil-right (targeted ++ led) behind none))
+        (targets-again stop line at n (targets i) here.0)
+        (way-again line at (befores ls n) i here.1))
+        (code-again (suc line) (suc at) (suc n) (leads_after ls n i) is both.1)

@@ -16,10 +16,10 @@ use Rattle.mp_print.specs.PrintedSignature.{op_text, kind_text, signature_text}
 use Rattle.mp_round_trip.specs.Readable.{IsSpelledSign, IsSpelledOp, IsSpelledSignature}
 use Rattle.mp_program.specs.FormText.{begin_line_with, lines_of}
 use Rattle.mp_program.specs.RightForm.{IsDeclaration}
-use Rattle.mp_program.proofs.LineLaws.{lines_of-append}
+use Rattle.mp_program.proofs.LineLaws.{IsOneLine, lines_of-append, lines_of-line}
 use Rattle.mp_program.proofs.PrintedLines.{op-ended}
-use Rattle.mp_program_laws.proofs.LineFeeds.{IsOneLine, IsOneLineOp, IsOneLineSign, HasOneLines, line-append, name-line}
-use Rattle.mp_program_laws.proofs.LineFeeds.{sign-line, decimal-line, lines_of-line}
+use Rattle.mp_program_laws.proofs.LineFeeds.{IsOneLineOp, IsOneLineSign, HasOneLines, line-append, name-line}
+use Rattle.mp_program_laws.proofs.LineFeeds.{sign-line, decimal-line, if-line}
 
 -- ---- declarations
 
@@ -64,10 +64,6 @@ declared-lines word f (x ∷ xs) h k =
     let lines : lines_of (f x ++ flat_map f xs) ≡ own ∷ lines_of (flat_map f xs) =
     ap (λ t. lines_of (t ++ flat_map f xs)) whole ∙ lines_of-line own (flat_map f xs) line in
     subst (AllByRecursion (IsDeclaration word)) (sym lines) ((m, refl), declared-lines word f xs h k.1)
-
-pub if-line : (b : Bool) (t : Text) → IsOneLine t → IsOneLine (text_if b t)
-if-line true t h = h
-if-line false t h = refl
 
 -- ---- signatures
 

@@ -1,8 +1,9 @@
 -- The program of right lines of format 1 in which nothing is wrong: its printed text is read as it.
 use Rattle.std.proofs.Common.{◌≡◌, ◌≢◌, ◌≤◌, ◌+◌, ℕ, suc, Bool, true, false, List, [], ◌∷◌, ◌++◌, map, length, refl}
 use Rattle.std.proofs.Common.{Option, Some, None, ap, sym, ◌∙◌, subst, inl, inr, arith, append-nil, append_assoc}
-use Rattle.std.specs.Prelude.{◌↔◌, not, flat_map, codes, decimal, option_to_list, IsSome, if◌then◌else◌}
+use Rattle.std.specs.Prelude.{◌↔◌, flat_map, codes, decimal, option_to_list, IsSome, if◌then◌else◌}
 use Rattle.std.specs.List.{AllByRecursion, list_all}
+use Rattle.std.proofs.lemmas.Bool.{not-false}
 use Rattle.std.proofs.lemmas.Bool.Decides.{nat_tests}
 use Rattle.std.proofs.lemmas.List.{length-map, length-append}
 use Rattle.mp_io.specs.Devices.{Text}
@@ -20,6 +21,7 @@ use Rattle.mp_walk.specs.Walkable.{numbered_names}
 use Rattle.mp_print.specs.Printing.{preceded}
 use Rattle.mp_print.specs.PrintedCond.{cond_text}
 use Rattle.mp_print.specs.PrintedSignature.{op_text, kind_text, signature_text}
+use Rattle.mp_build.proofs.Faultless.{nil-append, nil-both}
 use Rattle.mp_round_trip.specs.Readable.{IsSpelledSignature, IsReadableCondition}
 use Rattle.mp_program.specs.declared.format.Format.TheVariants.{One, Two}
 use Rattle.mp_program.specs.Program.{ProgramRule, Program}
@@ -39,35 +41,36 @@ use Rattle.mp_program.specs.ProgramOf.{same_cond, spelled_test, tests_of, test_n
 use Rattle.mp_program.specs.ProgramOf.{program_of}
 use Rattle.mp_program.specs.Reading.{IsProgramOf}
 use Rattle.mp_program.specs.TokenPaths.{cond_names}
-use Rattle.mp_program_laws.proofs.LineFeeds.{IsOneLine, line-append, name-line, decimal-line, preceded-line, cond-line}
-use Rattle.mp_program_laws.proofs.LineFeeds.{lines_of-lines_text, line-lines_of}
-use Rattle.mp_program.proofs.OneSpelling.{nil-left, nil-right, declared-same, begin-again}
+use Rattle.mp_program.proofs.FaultLaws.{IsFine, fine-rule}
+use Rattle.mp_program.proofs.LineLaws.{IsOneLine, lines_of-lines_text, line-lines_of}
+use Rattle.mp_program.proofs.OneSpelling.{declared-same, begin-again}
+use Rattle.mp_program.proofs.TestLaws.{spelled_tests}
+use Rattle.mp_program_laws.proofs.LineFeeds.{line-append, name-line, name-lines, decimal-line, preceded-line}
+use Rattle.mp_program_laws.proofs.LineFeeds.{cond-line}
 use Rattle.mp_program_laws.proofs.CodeAgain.{code-right, targets-again, code-again}
 use Rattle.mp_program_laws.proofs.DeclaredLines.{spelled-lines, declared-parts}
 use Rattle.mp_program_laws.proofs.RenamedLaws.{renamed-readable, cond_names-renamed, place_names-known}
-use Rattle.mp_program_laws.proofs.SpelledTests.{IsFine, along-at, fine-rule, IsBelow, IsSpelling, spelled_of}
-use Rattle.mp_program_laws.proofs.SpelledTests.{spelled_all}
+use Rattle.mp_program_laws.proofs.SpelledTests.{along-at, IsBelow, IsSpelling, spelled_of}
 use Rattle.mp_program_laws.proofs.SpelledTests.{none-tests, none-rules, none-unused, test-number}
-use Rattle.mp_program_laws.proofs.TestPlaces.{nil-both}
 
 -- ---- lists
 
-length-firsts : (sig : Sig) (ys xs : List Cond)
-    → length (firsts_after (same_cond sig) ys xs) ≤ length ys + length xs
-length-firsts sig ys [] = omega arith
-length-firsts sig ys (x ∷ xs) =
-    let more = added (is_known (same_cond sig) ys x) in
-    let rest = length-firsts sig (add_new (same_cond sig) ys x) xs in
+pub length-firsts : {X : Type 0} (same : X → X → Bool) (ys xs : List X)
+    → length (firsts_after same ys xs) ≤ length ys + length xs
+length-firsts same ys [] = omega arith
+length-firsts same ys (x ∷ xs) =
+    let more = added (is_known same ys x) in
+    let rest = length-firsts same (add_new same ys x) xs in
     omega (arith, more, rest)
   where
     added : (b : Bool) → length (if b then ys else ys ++ x ∷ []) ≤ length ys + 1
     added true = omega arith
     added false = let e = length-append ys (x ∷ []) in omega (arith, e)
 
-length-spelled : (rs : List RuleLine) → length (spelled_all rs) ≤ length rs
+pub length-spelled : (rs : List RuleLine) → length (spelled_tests rs) ≤ length rs
 length-spelled [] = omega arith
 length-spelled (r ∷ rs) =
-    let e = length-append (spelled_of r) (spelled_all rs) in
+    let e = length-append (spelled_of r) (spelled_tests rs) in
     let one = own r.test in
     let rest = length-spelled rs in
     omega (arith, e, one, rest)
@@ -86,7 +89,7 @@ lines-map sig tests [] = refl
 lines-map sig tests (r ∷ rs) = ap (λ l. line_of_rule (rule_of sig tests r) ∷ l) (lines-map sig tests rs)
 
 -- its line spells nothing
-spelled-again : (rs : List ProgramRule) → spelled_all (map line_of_rule rs) ≡ []
+spelled-again : (rs : List ProgramRule) → spelled_tests (map line_of_rule rs) ≡ []
 spelled-again [] = refl
 spelled-again (r ∷ rs) = (λ i. own r.test i ++ spelled-again rs i)
   where
@@ -110,16 +113,12 @@ pub rule-text : (sig : Sig) (r : ProgramRule) → is_name r.name ≡ true → Al
     → IsShortTarget r.test → IsOneLine (rule_line sig (line_of_rule r))
 rule-text sig r named vars short = by_test r.test short
   where
-    names : (xs : List Text) → AllByRecursion (λ x. is_name x ≡ true) xs → AllByRecursion IsOneLine xs
-    names [] h = tt
-    names (x ∷ xs) h = (name-line x h.0, names xs h.1)
-
     whole : (t : Text) → IsOneLine t
         → IsOneLine (codes "rule " ++ (r.name ++ (preceded (codes " ") r.vars ++ (t ++ codes ";"))))
     whole t h = line-append (codes "rule ") (r.name ++ (preceded (codes " ") r.vars ++ (t ++ codes ";"))) refl
         (line-append r.name (preceded (codes " ") r.vars ++ (t ++ codes ";")) (name-line r.name named)
         (line-append (preceded (codes " ") r.vars) (t ++ codes ";")
-        (preceded-line (codes " ") r.vars refl (names r.vars vars)) (line-append t (codes ";") h refl)))
+        (preceded-line (codes " ") r.vars refl (name-lines r.vars vars)) (line-append t (codes ";") h refl)))
 
     by_test : (o : Option ℕ) → IsShortTarget o
         → IsOneLine (rule_line sig (line_of_rule (record { name = r.name; vars = r.vars; test = o })))
@@ -137,21 +136,15 @@ module _ (sig : Sig) (names_spelled : IsSpelledSignature sig)
   -- ---- what isn't wrong with them
 
   none_declared : faults_of_declarations sig f ≡ []
-  none_declared = nil-left (faults_of_declarations sig f) _ none
+  none_declared = (nil-append (faults_of_declarations sig f) _ none).0
 
-  none_rules : faults_of_rules sig f ≡ []
-  none_rules = nil-left (faults_of_rules sig f) _
-      (nil-right (faults_of_tests sig f) _ (nil-right (faults_of_declarations sig f) _ none))
+  none_tested : (faults_of_rules sig f ≡ [])
+      × (faults_of_unused sig f ++ (faults_of_begin sig f ++ faults_of_code sig f) ≡ [])
+  none_tested = nil-append (faults_of_rules sig f) _
+      (nil-append (faults_of_tests sig f) _ (nil-append (faults_of_declarations sig f) _ none).1).1
 
-  none_later : faults_of_begin sig f ++ faults_of_code sig f ≡ []
-  none_later = nil-right (faults_of_unused sig f) _ (nil-right (faults_of_rules sig f) _
-      (nil-right (faults_of_tests sig f) _ (nil-right (faults_of_declarations sig f) _ none)))
-
-  none_begin : faults_of_begin sig f ≡ []
-  none_begin = nil-left (faults_of_begin sig f) _ none_later
-
-  none_code : faults_of_code sig f ≡ []
-  none_code = nil-right (faults_of_begin sig f) _ none_later
+  none_later : (faults_of_begin sig f ≡ []) × (faults_of_code sig f ≡ [])
+  none_later = nil-append (faults_of_begin sig f) _ (nil-append (faults_of_unused sig f) _ none_tested.1).1
 
   rules_right : AllByRecursion (IsRightRule sig One) f.rules
   rules_right = subst (λ n. AllByRecursion (IsRightRule sig n) f.rules) one right.rules
@@ -172,7 +165,7 @@ module _ (sig : Sig) (names_spelled : IsSpelledSignature sig)
   -- ---- the program, and what its text says
 
   abbrev spells : List Cond
-  spells = firsts_after (same_cond sig) [] (spelled_all f.rules)
+  spells = firsts_after (same_cond sig) [] (spelled_tests f.rules)
 
   abbrev program : Program
   program = record { rules = map (rule_of sig spells) f.rules; tests = spells; code = f.code }
@@ -192,11 +185,11 @@ module _ (sig : Sig) (names_spelled : IsSpelledSignature sig)
 
   begin-same : first_target f.code ≡ f.begin
   begin-same = begin-again f.begin f.code sig (most_nodes f.format) (tests_of sig f) (program_of sig f).rules
-      (stop_number sig f) (suc (line_of_begin f)) right.begins none_code
+      (stop_number sig f) (suc (line_of_begin f)) right.begins none_later.1
 
   few-tests : length spells ≤ MAX_RULES
   few-tests =
-      let a = length-firsts sig [] (spelled_all f.rules) in
+      let a = length-firsts (same_cond sig) [] (spelled_tests f.rules) in
       let b = length-spelled f.rules in
       let c = right.few_rules in
       omega (arith, a, b, c)
@@ -206,7 +199,7 @@ module _ (sig : Sig) (names_spelled : IsSpelledSignature sig)
   fine : (front : List RuleLine) (r : RuleLine) (back : List RuleLine) → f.rules ≡ front ++ r ∷ back
       → IsFine front (length f.tests) r
   fine front r back e =
-      let here = along-at (rule_faults (length f.tests)) [] f.rules front r back (first_rule_line f) none_rules e in
+      let here = along-at (rule_faults (length f.tests)) [] f.rules front r back (first_rule_line f) none_tested.0 e in
       fine-rule (length f.tests) front here.0 r here.1
 
   own-right : (front : List RuleLine) (r : RuleLine) (back : List RuleLine) → f.rules ≡ front ++ r ∷ back
@@ -229,14 +222,14 @@ module _ (sig : Sig) (names_spelled : IsSpelledSignature sig)
     names : AllByRecursion (λ x. is_known same_name (numbered_names MAX_VARIABLES) x ≡ true) (cond_names c)
 
   spelled-fine : (front back : List RuleLine) → f.rules ≡ front ++ back
-      → AllByRecursion IsFineTest (spelled_all back)
+      → AllByRecursion IsFineTest (spelled_tests back)
   spelled-fine front [] e = tt
-  spelled-fine front (r ∷ back) e = all-append IsFineTest (spelled_of r) (spelled_all back)
+  spelled-fine front (r ∷ back) e = all-append IsFineTest (spelled_of r) (spelled_tests back)
       (by_test r.test (fine front r back e).test (own-right front r back e).test)
       (spelled-fine (front ++ r ∷ []) back (next front r back e))
     where
       few : length r.vars ≤ MAX_VARIABLES
-      few = let h = (fine front r back e).few in grind (arith, nat_tests, h)
+      few = let h = (fine front r back e).names.few in grind (arith, nat_tests, h)
 
       by_test : (t : RuleTest) → is_bad_test (length f.tests) front r.vars t ≡ false → IsRightRuleTest sig One t
           → AllByRecursion IsFineTest (spelled_test r.vars t)
@@ -248,20 +241,16 @@ module _ (sig : Sig) (names_spelled : IsSpelledSignature sig)
           names = subst (AllByRecursion (λ x. is_known same_name (numbered_names MAX_VARIABLES) x ≡ true))
               (sym (cond_names-renamed r.vars c))
               (place_names-known r.vars few (cond_names c)
-              (not_not (list_all (is_known same_name r.vars) (cond_names c)) h));
+              (not-false (list_all (is_known same_name r.vars) (cond_names c)) h));
         },
         tt,
       )
-        where
-          not_not : (v : Bool) → not v ≡ false → v ≡ true
-          not_not true e = refl
-          not_not false e = (let wrong : true ≡ false = e in cc)
 
   tests-fine : AllByRecursion IsFineTest spells
   tests-fine = all-from_in IsFineTest spells (λ c i.
-      elim (from_in-firsts_after (same_cond sig) c [] (spelled_all f.rules) i) [
+      elim (from_in-firsts_after (same_cond sig) c [] (spelled_tests f.rules) i) [
         | inl j ↦ absurd j
-        | inr j ↦ all_in IsFineTest (spelled_all f.rules) c (spelled-fine [] f.rules refl) j
+        | inr j ↦ all_in IsFineTest (spelled_tests f.rules) c (spelled-fine [] f.rules refl) j
       ])
 
   -- the lines of the rules are right, and have no line feed
@@ -344,7 +333,7 @@ module _ (sig : Sig) (names_spelled : IsSpelledSignature sig)
   none-lines = ap (faults_along (rule_faults (length spells)) [] (first_rule_line again)) (lines-map sig spells f.rules)
       ∙ none-rules sig f.rules spelling (first_rule_line f) (first_rule_line again)
       (ap (λ n. faults_along (rule_faults n) [] (first_rule_line f) f.rules)
-      (sym (ap (λ l. length l) (right.no_tests one))) ∙ none_rules)
+      (sym (ap (λ l. length l) (right.no_tests one))) ∙ none_tested.0)
 
   none-left_over : faults_of_unused sig again ≡ []
   none-left_over = ap (λ l. faults_along (unused_faults l) [] (first_test_line again) spells)
@@ -352,7 +341,8 @@ module _ (sig : Sig) (names_spelled : IsSpelledSignature sig)
 
   none-begin : faults_of_begin sig again ≡ []
   none-begin = ap (λ t. target_faults (stop_number sig f) (line_of_begin again) 0 (option_to_list t)) begin-same
-      ∙ targets-again (stop_number sig f) (line_of_begin f) (line_of_begin again) 0 (option_to_list f.begin) none_begin
+      ∙ targets-again (stop_number sig f) (line_of_begin f) (line_of_begin again) 0 (option_to_list f.begin)
+      none_later.0
 
   none-code : faults_of_code sig again ≡ []
   none-code =
@@ -365,7 +355,7 @@ module _ (sig : Sig) (names_spelled : IsSpelledSignature sig)
       (ap (λ n. code_faults sig (most_nodes n) spells program.rules (stop_number sig f) (suc (line_of_begin f)) 1
       (lead [] f.begin) f.code) (sym one)
       ∙ ap (λ p. code_faults sig (most_nodes f.format) p.tests p.rules (stop_number sig f) (suc (line_of_begin f)) 1
-      (lead [] f.begin) f.code) (sym program-same) ∙ none_code)
+      (lead [] f.begin) f.code) (sym program-same) ∙ none_later.1)
 
   none-again : form_faults sig again ≡ []
   none-again = nil-both (faults_of_declarations sig again) _ none-declared

@@ -1,4 +1,4 @@
--- Printed texts have no line feed, and lines without one are read again from their text.
+-- Printed texts have no line feed.
 use Rattle.std.proofs.Common.{◌≡◌, ◌≤◌, ◌<◌, ◌^◌, ℕ, zero, suc, List, [], ◌∷◌, ◌++◌, Bool, true, false, refl, ap}
 use Rattle.std.proofs.Common.{sym, ◌∙◌, arith, eqb-true}
 use Rattle.std.specs.Prelude.{Option, Some, None, ◌&&◌, not, ⊤, codes, decimal, length, nat_eq, nat_le, nat_lt}
@@ -28,13 +28,9 @@ use Rattle.mp_print.specs.PrintedPattern.{count_text, shape_text, pattern_text, 
 use Rattle.mp_print.specs.PrintedCond.{sense_text, measure_text, relation_text, operand_text, amount_text}
 use Rattle.mp_print.specs.PrintedCond.{op_name_text, tightness, part_text, cond_text, part_texts}
 use Rattle.mp_build.specs.SoundCondition.{IsScopedOperand, IsScopedAmount, IsScoped, AreScoped}
-use Rattle.mp_program.specs.FormText.{begin_line_with, lines_of, lines_text}
+use Rattle.mp_program.proofs.LineLaws.{IsOneLine}
 
 -- ---- texts of one line
-
--- the text has no line feed
-abbrev pub IsOneLine : Text → Type 0
-IsOneLine t = list_any (λ c. nat_eq c 10) t ≡ false
 
 pub line-append : (s t : Text) → IsOneLine s → IsOneLine t → IsOneLine (s ++ t)
 line-append [] t h k = k
@@ -57,6 +53,10 @@ pub name-line : (n : Text) → is_name n ≡ true → IsOneLine n
 name-line n h = line-by is_name_byte refl n
     (and_parts (nat_le 1 (length n) && nat_le (length n) MAX_NAME_BYTES) (list_all is_name_byte n) h).1
 
+pub name-lines : (ns : List Text) → AllByRecursion (λ n. is_name n ≡ true) ns → AllByRecursion IsOneLine ns
+name-lines [] h = tt
+name-lines (n ∷ ns) h = (name-line n h.0, name-lines ns h.1)
+
 pub sign-line : (s : Text) → is_sign s ≡ true → IsOneLine s
 sign-line s h = line-by is_sign_byte refl s
     (and_parts ((nat_le 1 (length s) && nat_le (length s) MAX_SIGN_BYTES) && not (is_arrow s))
@@ -65,6 +65,10 @@ sign-line s h = line-by is_sign_byte refl s
 pub decimal-line : (n : ℕ) → n < 2 ^ 32 → IsOneLine (decimal n)
 decimal-line n h = (or_parts (nat_eq 118 10) (list_any (λ c. nat_eq c 10) (decimal n))
     (name-line (numbered n) (is_name-numbered n h))).1
+
+pub if-line : (b : Bool) (t : Text) → IsOneLine t → IsOneLine (text_if b t)
+if-line true t h = h
+if-line false t h = refl
 
 -- ---- texts behind separators
 
@@ -159,10 +163,6 @@ module _ (sig : Sig) (lines : HasOneLines sig) where
     terms-line (more_trees t ts) h = (term-line t h.0, terms-line ts h.1)
 
   -- ---- patterns
-
-  if-line : (b : Bool) (t : Text) → IsOneLine t → IsOneLine (text_if b t)
-  if-line true t h = h
-  if-line false t h = refl
 
   pub count-line : (n : ℕ) → n ≤ MAX_COUNT → IsOneLine (decimal n)
   count-line n h = decimal-line n (omega (arith, h))
@@ -260,30 +260,3 @@ module _ (sig : Sig) (lines : HasOneLines sig) where
     conds-line least no_conds h = tt
     conds-line least (more_conds c cs) h =
         (part-line least c (cond_text sig c) (cond-line c h.0), conds-line least cs h.1)
-
--- ---- lines
-
--- a line without a line feed is read again
-pub lines_of-line : (l t : Text) → IsOneLine l → lines_of ((l ++ 10 ∷ []) ++ t) ≡ l ∷ lines_of t
-lines_of-line [] t h = refl
-lines_of-line (b ∷ l) t h =
-    let both = or_parts (nat_eq b 10) (list_any (λ c. nat_eq c 10) l) h in
-    ap (λ v. if v then [] ∷ lines_of ((l ++ 10 ∷ []) ++ t) else begin_line_with b (lines_of ((l ++ 10 ∷ []) ++ t)))
-    both.0 ∙ ap (begin_line_with b) (lines_of-line l t both.1)
-
--- and so are all
-pub lines_of-lines_text : (ls : List Text) → AllByRecursion IsOneLine ls → lines_of (lines_text ls) ≡ ls
-lines_of-lines_text [] h = refl
-lines_of-lines_text (l ∷ ls) h =
-    lines_of-line l (lines_text ls) h.0 ∙ ap (λ ms. l ∷ ms) (lines_of-lines_text ls h.1)
-
--- the lines of a text are such
-pub line-lines_of : (t : Text) → AllByRecursion IsOneLine (lines_of t)
-line-lines_of [] = tt
-line-lines_of (b ∷ t) = by_byte (nat_eq b 10) refl (lines_of t) (line-lines_of t)
-  where
-    by_byte : (v : Bool) → nat_eq b 10 ≡ v → (ls : List Text) → AllByRecursion IsOneLine ls
-        → AllByRecursion IsOneLine (if v then [] ∷ ls else begin_line_with b ls)
-    by_byte true e ls h = (refl, h)
-    by_byte false e [] h = tt
-    by_byte false e (l ∷ ls) h = (rw (e, h.0) refl, h.1)

@@ -1,9 +1,9 @@
 -- Conditions whose variables are called by their places among names.
-use Rattle.std.proofs.Common.{◌≡◌, ◌<◌, ◌≤◌, ◌^◌, ◌+◌, ℕ, zero, suc, Bool, true, false, List, [], ◌∷◌, ◌++◌, length}
-use Rattle.std.proofs.Common.{map, None, max, sym, ap, ◌∙◌, subst, refl, arith, inl, inr}
-use Rattle.std.specs.Prelude.{◌⊎◌, ◌||◌, if◌then◌else◌, flat_map}
+use Rattle.std.proofs.Common.{◌≡◌, ◌<◌, ◌≤◌, ◌^◌, ◌+◌, ℕ, suc, Bool, true, false, List, [], ◌∷◌, ◌++◌, length}
+use Rattle.std.proofs.Common.{map, None, max, sym, ap, ◌∙◌, subst, refl, arith}
+use Rattle.std.specs.Prelude.{◌||◌, if◌then◌else◌, flat_map}
 use Rattle.std.specs.List.{AllByRecursion, list_all}
-use Rattle.std.proofs.lemmas.Bool.{and_parts, cases_lt}
+use Rattle.std.proofs.lemmas.Bool.{and_parts}
 use Rattle.std.proofs.lemmas.List.{map-append}
 use Rattle.mp_io.specs.Devices.{Text}
 use Rattle.mp_term.specs.Signature.{Sig}
@@ -16,7 +16,6 @@ use Rattle.mp_pattern.specs.NetTokens.{numbered, number_in}
 use Rattle.mp_pattern.specs.Operands.{amount_operands, operands, all_operands}
 use Rattle.mp_pattern.specs.SoundRule.{AreSeveral, atom_count, atom_counts}
 use Rattle.mp_pattern.specs.Value.{same_name}
-use Rattle.mp_pattern.proofs.NameLaws.{same_name-itself}
 use Rattle.mp_pattern.proofs.NetTokenLists.{is_name-numbered}
 use Rattle.mp_walk.specs.Walkable.{numbered_names}
 use Rattle.mp_build.specs.SoundCondition.{IsScopedOperand, IsScopedSingle, IsScopedAmount, IsScoped, AreScoped}
@@ -25,18 +24,9 @@ use Rattle.mp_round_trip.specs.OpenBrackets.{alternatives_depth, condition_depth
 use Rattle.mp_round_trip.specs.Readable.{IsReadableCondition}
 use Rattle.mp_program.specs.ProgramOf.{renamed_operand, renamed_amount, renamed_cond, renamed_conds}
 use Rattle.mp_program.specs.TokenPaths.{operand_names, cond_names}
-use Rattle.mp_program_laws.proofs.TestPlaces.{known-push}
+use Rattle.mp_program.proofs.NameLaws.{number_in-most, known-numbered}
 
 -- ---- numbers of names
-
--- so many names stand before one at most
-pub number_in-least : (xs : List Text) (x : Text) → number_in xs x ≤ length xs
-number_in-least [] x = omega arith
-number_in-least (y ∷ xs) x = by_test (same_name y x) (number_in-least xs x)
-  where
-    by_test : (b : Bool) → number_in xs x ≤ length xs → (if b then 0 else number_in xs x + 1) ≤ length (y ∷ xs)
-    by_test true h = omega arith
-    by_test false h = omega (arith, h)
 
 -- fewer than all before one that is known
 pub number_in-known : (xs : List Text) (x : Text) → is_known same_name xs x ≡ true → number_in xs x < length xs
@@ -49,31 +39,12 @@ number_in-known (y ∷ xs) x h = by_test (same_name y x) h (number_in-known xs x
     by_test true h rest = omega arith
     by_test false h rest = let below = rest h in omega (arith, below)
 
--- the first numbered names are those of the numbers below
-pub known-numbered : (most n : ℕ) → n < most → is_known same_name (numbered_names most) (numbered n) ≡ true
-known-numbered zero n h = absurd (omega arith)
-known-numbered (suc k) n h =
-    known-push same_name (numbered_names k) (numbered k) (numbered n) ∙ by_number (cases_lt n k) (known-numbered k n)
-  where
-    or_true : (b : Bool) → (b || true) ≡ true
-    or_true true = refl
-    or_true false = refl
-
-    by_number : (n < k) ⊎ (k ≤ n) → (n < k → is_known same_name (numbered_names k) (numbered n) ≡ true)
-        → (is_known same_name (numbered_names k) (numbered n) || same_name (numbered k) (numbered n)) ≡ true
-    by_number (inl below) rest = ap (λ b. b || same_name (numbered k) (numbered n)) (rest below)
-    by_number (inr past) rest =
-        let is : k ≡ n = omega arith in
-        ap (λ m. is_known same_name (numbered_names k) (numbered n) || same_name (numbered m) (numbered n)) is
-        ∙ ap (λ b. is_known same_name (numbered_names k) (numbered n) || b) (same_name-itself (numbered n))
-        ∙ or_true (is_known same_name (numbered_names k) (numbered n))
-
 -- ---- the checks of conditions
 
 module _ (sig : Sig) (xs : List Text) (few : length xs < 2 ^ 32) where
   renamed-operand : (a : Operand) → IsScopedOperand sig None a → IsScopedOperand sig None (renamed_operand xs a)
   renamed-operand (var x) h =
-      is_name-numbered (number_in xs x) (let least = number_in-least xs x in omega (arith, least, few))
+      is_name-numbered (number_in xs x) (let least = number_in-most xs x in omega (arith, least, few))
   renamed-operand (ground t) h = h
 
   renamed-single : (a : Operand) → IsScopedSingle sig None (renamed_operand xs a)
@@ -219,7 +190,7 @@ module _ (xs : List Text) where
   abbrev pub place_name : Text → Text
   place_name x = numbered (number_in xs x)
 
-  operand-names : (a : Operand) → operand_names (renamed_operand xs a) ≡ map place_name (operand_names a)
+  pub operand-names : (a : Operand) → operand_names (renamed_operand xs a) ≡ map place_name (operand_names a)
   operand-names (var x) = refl
   operand-names (ground t) = refl
 

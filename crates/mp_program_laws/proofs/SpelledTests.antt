@@ -3,24 +3,22 @@ use Rattle.std.proofs.Common.{◌≡◌, ◌<◌, ◌≤◌, ℕ, suc, Bool, tru
 use Rattle.std.proofs.Common.{Option, Some, None, ◌∙◌, subst, inl, inr, arith, append-nil, append_assoc}
 use Rattle.std.specs.Prelude.{◌||◌, not, ⊤, flat_map, nat_eq, nat_le, nat_lt}
 use Rattle.std.specs.List.{AllByRecursion, list_any}
-use Rattle.std.proofs.lemmas.Bool.{or_parts}
 use Rattle.std.proofs.lemmas.Bool.Decides.{nat_tests}
 use Rattle.std.proofs.lemmas.Grind.{flat_map-append}
 use Rattle.std.proofs.lemmas.List.{length-append, map-append, map-id}
 use Rattle.std.proofs.lemmas.Slice.Eq.{bytes_eq-Decides}
 use Rattle.mp_io.specs.Devices.{Text}
 use Rattle.mp_term.specs.Listing.{In}
-use Rattle.mp_term.specs.Names.{are_distinct}
 use Rattle.mp_term.specs.Signature.{Sig}
 use Rattle.mp_term.proofs.ListLaws.{all-split}
 use Rattle.mp_term.proofs.SearchLaws.{in-right, in-flat}
-use Rattle.mp_pattern.specs.declared.limits.TheConstants.{MAX_VARIABLES}
 use Rattle.mp_pattern.specs.CondTree.{Cond}
 use Rattle.mp_pattern.specs.Firsts.{is_known, firsts_after}
 use Rattle.mp_pattern.specs.Value.{same_name}
 use Rattle.mp_pattern.proofs.PlanLaws.{firsts_after-append}
 use Rattle.mp_theory.proofs.FirstsLaws.{Distinct, distinct-firsts}
 use Rattle.mp_print.specs.PrintedCond.{cond_text}
+use Rattle.mp_build.proofs.Faultless.{nil-append}
 use Rattle.mp_program.specs.declared.fault.ProgramError.{ProgramError}
 use Rattle.mp_program.specs.declared.fault.ProgramError.TheVariants.{BadReference}
 use Rattle.mp_program.specs.Form.{RuleTest, untested, tested, spelled, RuleLine}
@@ -28,7 +26,10 @@ use Rattle.mp_program.specs.FormText.{numbered_test, line_of_rule}
 use Rattle.mp_program.specs.FormFaults.{fault_if, faults_along, test_faults, used_test, used_tests, is_bad_test}
 use Rattle.mp_program.specs.FormFaults.{rule_faults, unused_faults}
 use Rattle.mp_program.specs.ProgramOf.{renamed_cond, same_cond, cond_place, spelled_test, test_number, rule_of}
-use Rattle.mp_program_laws.proofs.TestPlaces.{none-any, none-along, upto, length-upto, upto-known, known-firsts}
+use Rattle.mp_program.proofs.FaultLaws.{HasFineNames, fine-rule}
+use Rattle.mp_program.proofs.ListLaws.{list_any-none}
+use Rattle.mp_program.proofs.TestLaws.{spelled_tests}
+use Rattle.mp_program_laws.proofs.TestPlaces.{none-along, upto, length-upto, upto-known, known-firsts}
 use Rattle.mp_program_laws.proofs.TestPlaces.{distinct-front, same_cond-itself, same_cond-text, placed, place-among}
 use Rattle.mp_program_laws.proofs.TestPlaces.{places-upto}
 
@@ -43,53 +44,20 @@ along-at faults before [] (y ∷ front) a back line none e = (let wrong : [] ≡
 along-at faults before (x ∷ xs) [] a back line none e =
     let all : x ∷ xs ≡ a ∷ back = e in
     let is : x ≡ a = cc in
-    let here = none-left (faults before line x) (faults_along faults (before ++ x ∷ []) (suc line) xs) none in
-    (line, subst (λ l. faults l line a ≡ []) (sym (append-nil before)) (subst (λ y. faults before line y ≡ []) is here))
-  where
-    none-left : {Y : Type 0} (ys zs : List Y) → ys ++ zs ≡ [] → ys ≡ []
-    none-left [] zs h = refl
-    none-left (y ∷ ys) zs h = (let wrong : y ∷ (ys ++ zs) ≡ [] = h in cc)
+    let both = nil-append (faults before line x) (faults_along faults (before ++ x ∷ []) (suc line) xs) none in (
+      line,
+      subst (λ l. faults l line a ≡ []) (sym (append-nil before)) (subst (λ y. faults before line y ≡ []) is both.0),
+    )
 along-at faults before (x ∷ xs) (y ∷ front) a back line none e =
     let all : x ∷ xs ≡ y ∷ (front ++ a ∷ back) = e in
     let is : x ≡ y = cc in
     let behind : xs ≡ front ++ a ∷ back = cc in
-    let rest = along-at faults (before ++ x ∷ []) xs front a back (suc line)
-    (none-right (faults before line x) (faults_along faults (before ++ x ∷ []) (suc line) xs) none) behind in (
+    let both = nil-append (faults before line x) (faults_along faults (before ++ x ∷ []) (suc line) xs) none in
+    let rest = along-at faults (before ++ x ∷ []) xs front a back (suc line) both.1 behind in (
       rest.0,
       subst (λ l. faults l rest.0 a ≡ []) (append_assoc before (x ∷ []) front
           ∙ ap (λ z. before ++ z ∷ front) is) rest.1,
     )
-  where
-    none-right : {Y : Type 0} (ys zs : List Y) → ys ++ zs ≡ [] → zs ≡ []
-    none-right [] zs h = h
-    none-right (y ∷ ys) zs h = (let wrong : y ∷ (ys ++ zs) ≡ [] = h in cc)
-
--- what isn't wrong with a rule line
-pub record IsFine (before : List RuleLine) (count : ℕ) (r : RuleLine) : Type 0 where
-  pub name : list_any (λ q. same_name q.name r.name) before ≡ false
-  pub distinct : are_distinct r.vars ≡ true
-  pub few : nat_lt MAX_VARIABLES (length r.vars) ≡ false
-  pub test : is_bad_test count before r.vars r.test ≡ false
-
-pub fine-rule : (count : ℕ) (before : List RuleLine) (n : ℕ) (r : RuleLine) → rule_faults count before n r ≡ []
-    → IsFine before count r
-fine-rule count before n r h =
-    let a = list_any (λ q. same_name q.name r.name) before in
-    let b = not (are_distinct r.vars) in
-    let c = nat_lt MAX_VARIABLES (length r.vars) in
-    let d = is_bad_test count before r.vars r.test in
-    let first = or_parts a (b || (c || d)) (no_fault (a || (b || (c || d))) h) in
-    let second = or_parts b (c || d) first.1 in
-    let third = or_parts c d second.1 in
-    record { name = first.0; distinct = not_not (are_distinct r.vars) second.0; few = third.0; test = third.1 }
-  where
-    no_fault : (v : Bool) → fault_if v (BadReference n) ≡ [] → v ≡ false
-    no_fault false e = refl
-    no_fault true e = (let wrong : BadReference n ∷ [] ≡ [] = e in cc)
-
-    not_not : (v : Bool) → not v ≡ false → v ≡ true
-    not_not true e = refl
-    not_not false e = (let wrong : true ≡ false = e in cc)
 
 -- the number, where there is one, is below this one
 abbrev pub IsBelow : ℕ → Option ℕ → Type 0
@@ -103,24 +71,21 @@ abbrev pub IsSpelling : RuleTest → Type 0
 IsSpelling (tested n) = ⊥
 IsSpelling _ = ⊤
 
--- what a line spells, and what all do
+-- what a line spells
 abbrev pub spelled_of : RuleLine → List Cond
 spelled_of r = spelled_test r.vars r.test
-
-abbrev pub spelled_all : List RuleLine → List Cond
-spelled_all rs = flat_map spelled_of rs
 
 module _ (sig : Sig) (rules : List RuleLine) (spelling : AllByRecursion (λ r. IsSpelling r.test) rules) where
   -- the tests, each once
   abbrev pub all : List Cond
-  all = firsts_after (same_cond sig) [] (spelled_all rules)
+  all = firsts_after (same_cond sig) [] (spelled_tests rules)
 
   -- the line with the number of its test
   abbrev pub line : RuleLine → RuleLine
   line r = line_of_rule (rule_of sig all r)
 
   abbrev firsts : List RuleLine → List Cond
-  firsts rs = firsts_after (same_cond sig) [] (spelled_all rs)
+  firsts rs = firsts_after (same_cond sig) [] (spelled_tests rs)
 
   used-line : (r : RuleLine) → IsSpelling r.test → used_test (line r).test ≡ map (cond_place sig all) (spelled_of r)
   used-line r h = by_test r.test h
@@ -132,16 +97,16 @@ module _ (sig : Sig) (rules : List RuleLine) (spelling : AllByRecursion (λ r. I
       by_test (spelled c) h = refl
 
   used-lines : (rs : List RuleLine) → AllByRecursion (λ r. IsSpelling r.test) rs
-      → flat_map (λ (l : RuleLine). used_test l.test) (map line rs) ≡ map (cond_place sig all) (spelled_all rs)
+      → flat_map (λ (l : RuleLine). used_test l.test) (map line rs) ≡ map (cond_place sig all) (spelled_tests rs)
   used-lines [] h = refl
   used-lines (r ∷ rs) h = (λ i. used-line r h.0 i ++ used-lines rs h.1 i)
-      ∙ sym (map-append (cond_place sig all) (spelled_of r) (spelled_all rs))
+      ∙ sym (map-append (cond_place sig all) (spelled_of r) (spelled_tests rs))
 
   all-parts : (front back : List RuleLine) → rules ≡ front ++ back
-      → all ≡ firsts_after (same_cond sig) (firsts front) (spelled_all back)
-  all-parts front back e = ap (λ rs. firsts_after (same_cond sig) [] (spelled_all rs)) e
+      → all ≡ firsts_after (same_cond sig) (firsts front) (spelled_tests back)
+  all-parts front back e = ap (λ rs. firsts_after (same_cond sig) [] (spelled_tests rs)) e
       ∙ ap (firsts_after (same_cond sig) []) (flat_map-append spelled_of front back)
-      ∙ firsts_after-append (same_cond sig) [] (spelled_all front) (spelled_all back)
+      ∙ firsts_after-append (same_cond sig) [] (spelled_tests front) (spelled_tests back)
 
   -- the tests that the first rules use are the first ones
   used-front : (front back : List RuleLine) → rules ≡ front ++ back
@@ -149,7 +114,7 @@ module _ (sig : Sig) (rules : List RuleLine) (spelling : AllByRecursion (λ r. I
   used-front front back e = ap (firsts_after nat_eq [])
       (used-lines front (all-split (λ r. IsSpelling r.test) front back
       (subst (AllByRecursion (λ r. IsSpelling r.test)) e spelling)).0)
-      ∙ places-upto sig all [] (spelled_all front) (spelled_all back) (all-parts front back e)
+      ∙ places-upto sig all [] (spelled_tests front) (spelled_tests back) (all-parts front back e)
 
   -- the tests are distinct
   pub none-tests : (at : ℕ) → faults_along (test_faults sig) [] at all ≡ []
@@ -160,10 +125,10 @@ module _ (sig : Sig) (rules : List RuleLine) (spelling : AllByRecursion (λ r. I
           → test_faults sig (map (λ d. d) front) l c ≡ []
       each front c back l e =
           let distinct = subst (Distinct (same_cond sig)) e
-          (distinct-firsts (same_cond sig) [] (spelled_all rules) tt) in
+          (distinct-firsts (same_cond sig) [] (spelled_tests rules) tt) in
           let none : list_any (same_cond sig c) (map (λ d. d) front) ≡ false =
           ap (list_any (same_cond sig c)) (map-id front)
-          ∙ none-any (same_cond sig c) front
+          ∙ list_any-none (same_cond sig c) front
           (λ d i. turned d (distinct-front (same_cond sig) front c back distinct d i))
           in
           rw none refl
@@ -200,7 +165,7 @@ module _ (sig : Sig) (rules : List RuleLine) (spelling : AllByRecursion (λ r. I
   -- what a line spells is one of the tests
   spelled-known : (front : List RuleLine) (r : RuleLine) (back : List RuleLine) (d : Cond) → rules ≡ front ++ r ∷ back
       → spelled_of r ≡ d ∷ [] → is_known (same_cond sig) all d ≡ true
-  spelled-known front r back d e own = known-firsts (same_cond sig) (same_cond-itself sig) [] (spelled_all rules) d
+  spelled-known front r back d e own = known-firsts (same_cond sig) (same_cond-itself sig) [] (spelled_tests rules) d
       (inr (in-flat spelled_of r d rules (subst (In r) (sym e) (in-right r front (r ∷ back) (inl refl)))
       (subst (In d) (sym own) (inl refl))))
 
@@ -221,12 +186,12 @@ module _ (sig : Sig) (rules : List RuleLine) (spelling : AllByRecursion (λ r. I
           let there : nat_le (length all) n ≡ false = (let w = p.within in grind (arith, nat_tests, w)) in
           let used : length (used_tests (map line front)) ≡ length (firsts front) =
           ap (λ l. length l) (used-front front (r ∷ back) e) ∙ length-upto (length (firsts front)) in
-          let parts : all ≡ firsts_after (same_cond sig) (firsts front) (d ∷ spelled_all back) =
+          let parts : all ≡ firsts_after (same_cond sig) (firsts front) (d ∷ spelled_tests back) =
           all-parts front (r ∷ back) e
-          ∙ ap (λ l. firsts_after (same_cond sig) (firsts front) (l ++ spelled_all back)) own in
+          ∙ ap (λ l. firsts_after (same_cond sig) (firsts front) (l ++ spelled_tests back)) own in
           let among : n ≤ length (firsts front) =
           subst (λ l. cond_place sig l d ≤ length (firsts front)) (sym parts)
-          (place-among sig (firsts front) (spelled_all back) d) in
+          (place-among sig (firsts front) (spelled_tests back) d) in
           let next : nat_lt (length (used_tests (map line front))) n ≡ false =
           grind (arith, nat_tests, used, among) in
           rw (there, next) refl
@@ -248,18 +213,24 @@ module _ (sig : Sig) (rules : List RuleLine) (spelling : AllByRecursion (λ r. I
   names-line [] n = refl
   names-line (q ∷ qs) n = ap (λ b. same_name q.name n || b) (names-line qs n)
 
-  -- lines in which nothing is wrong are so with the numbers too
-  pub none-rules : (before at : ℕ) → faults_along (rule_faults 0) [] before rules ≡ []
-      → faults_along (rule_faults (length all)) [] at (map line rules) ≡ []
-  none-rules before at none = none-along line (rule_faults (length all)) rules [] rules at refl each
+  -- lines with whose names nothing is wrong have no faults with the numbers
+  pub none-fine : ((front : List RuleLine) (r : RuleLine) (back : List RuleLine) → rules ≡ front ++ r ∷ back
+      → HasFineNames front r) → (at : ℕ) → faults_along (rule_faults (length all)) [] at (map line rules) ≡ []
+  none-fine are_fine at = none-along line (rule_faults (length all)) rules [] rules at refl each
     where
       each : (front : List RuleLine) (r : RuleLine) (back : List RuleLine) (l : ℕ) → rules ≡ front ++ r ∷ back
           → rule_faults (length all) (map line front) l (line r) ≡ []
       each front r back l e =
-          let here = along-at (rule_faults 0) [] rules front r back before none e in
-          let fine = fine-rule 0 front here.0 r here.1 in
+          let fine = are_fine front r back e in
           let names = names-line front r.name ∙ fine.name in
           let test = good-test front r back e
           ((all-split (λ q. IsSpelling q.test) front (r ∷ back)
           (subst (AllByRecursion (λ q. IsSpelling q.test)) e spelling)).1.0) in
           λ i. fault_if (names i || (not (fine.distinct i) || (fine.few i || test i))) (BadReference l)
+
+  -- so with lines in which nothing is wrong
+  pub none-rules : (before at : ℕ) → faults_along (rule_faults 0) [] before rules ≡ []
+      → faults_along (rule_faults (length all)) [] at (map line rules) ≡ []
+  none-rules before at none = none-fine (λ front r back e.
+      let here = along-at (rule_faults 0) [] rules front r back before none e in
+      (fine-rule 0 front here.0 r here.1).names) at

@@ -2,10 +2,10 @@
 use Rattle.std.proofs.Common.{◌≡◌, ◌<◌, ◌≤◌, ℕ, zero, suc, List, [], ◌∷◌, ◌++◌, map, length, Bool, true, false}
 use Rattle.std.proofs.Common.{◌⊎◌, refl, ap, sym, ◌∙◌, inl, inr, subst, arith, append_assoc}
 use Rattle.std.specs.Prelude.{Some, ◌||◌, slice_get, nat_eq, if◌then◌else◌}
-use Rattle.std.specs.List.{list_any}
 use Rattle.std.proofs.lemmas.Bool.Decides.{nat_tests}
 use Rattle.std.proofs.lemmas.List.{length-append}
 use Rattle.std.proofs.lemmas.Slice.Eq.{bytes_eq-Decides}
+use Rattle.std.proofs.Math.Bool.{or-true}
 use Rattle.mp_term.specs.Listing.{In}
 use Rattle.mp_term.specs.Signature.{Sig}
 use Rattle.mp_term.proofs.ListLaws.{all-split}
@@ -13,22 +13,14 @@ use Rattle.mp_pattern.specs.CondTree.{Cond}
 use Rattle.mp_pattern.specs.Firsts.{is_known, add_new, firsts_after, fresh_after}
 use Rattle.mp_theory.proofs.FirstsLaws.{Distinct, firsts_after-fresh}
 use Rattle.mp_print.specs.PrintedCond.{cond_text}
+use Rattle.mp_build.proofs.Faultless.{nil-both}
 use Rattle.mp_program.specs.declared.fault.ProgramError.{ProgramError}
 use Rattle.mp_program.specs.FormFaults.{faults_along}
 use Rattle.mp_program.specs.ProgramOf.{same_cond, cond_place}
-
--- ---- tests of items
-
--- no item passes
-pub none-any : {X : Type 0} (test : X → Bool) (ts : List X) → ((t : X) → In t ts → test t ≡ false)
-    → list_any test ts ≡ false
-none-any test [] h = refl
-none-any test (t ∷ ts) h = rw (h t (inl refl), none-any test ts (λ u i. h u (inr i))) refl
+use Rattle.mp_program.proofs.NameLaws.{known-push}
+use Rattle.mp_program.proofs.TestLaws.{place-more}
 
 -- ---- faults of items one after the other
-
-pub nil-both : {X : Type 0} (xs ys : List X) → xs ≡ [] → ys ≡ [] → xs ++ ys ≡ []
-nil-both xs ys e f = rw (e, f) refl
 
 -- items of which none has a fault behind those before it
 pub none-along : {A X : Type 0} (g : A → X) (faults : List X → ℕ → X → List ProgramError) (all before xs : List A)
@@ -58,31 +50,13 @@ length-upto zero = refl
 length-upto (suc n) =
     let e = length-append (upto n) (n ∷ []) in let k = length-upto n in omega (arith, e, k)
 
-pub known-push : {X : Type 0} (same : X → X → Bool) (ys : List X) (y x : X)
-    → is_known same (ys ++ y ∷ []) x ≡ (is_known same ys x || same y x)
-known-push same [] y x = by_last (same y x)
-  where
-    by_last : (b : Bool) → (b || false) ≡ b
-    by_last true = refl
-    by_last false = refl
-known-push same (z ∷ ys) y x = by_first (same z x) (is_known same (ys ++ y ∷ []) x) (is_known same ys x) (same y x)
-    (known-push same ys y x)
-  where
-    by_first : (a b c d : Bool) → b ≡ (c || d) → (a || b) ≡ ((a || c) || d)
-    by_first true b c d e = refl
-    by_first false b c d e = e
-
 pub upto-known : (n m : ℕ) → m < n → is_known nat_eq (upto n) m ≡ true
 upto-known zero m h = absurd (omega (arith, h))
 upto-known (suc n) m h = known-push nat_eq (upto n) n m ∙ by_last (nat_eq n m) refl (λ l. upto-known n m l)
   where
     by_last : (b : Bool) → nat_eq n m ≡ b → (m < n → is_known nat_eq (upto n) m ≡ true)
         → (is_known nat_eq (upto n) m || b) ≡ true
-    by_last true e f = or_true (is_known nat_eq (upto n) m)
-      where
-        or_true : (a : Bool) → (a || true) ≡ true
-        or_true true = refl
-        or_true false = refl
+    by_last true e f = or-true (is_known nat_eq (upto n) m)
     by_last false e f =
         let differ : nat_eq n m ≡ true → ⊥ = λ q. (let wrong : true ≡ false = sym q ∙ e in cc) in
         let below : m < n = at (nat_eq n m) refl differ in
@@ -108,17 +82,13 @@ known-firsts same itself ys [] x (inl k) = k
 known-firsts same itself ys [] x (inr i) = absurd i
 known-firsts same itself ys (z ∷ xs) x h = known-firsts same itself (add_new same ys z) xs x (by_place h)
   where
-    or_true : (a : Bool) → (a || true) ≡ true
-    or_true true = refl
-    or_true false = refl
-
     added : (w : Bool) → is_known same ys z ≡ w → (is_known same ys x ≡ true) ⊎ (x ≡ z)
         → is_known same (if w then ys else ys ++ z ∷ []) x ≡ true
     added true e (inl k) = k
     added true e (inr q) = ap (is_known same ys) q ∙ e
     added false e (inl k) = known-push same ys z x ∙ ap (λ a. a || same z x) k
     added false e (inr q) = known-push same ys z x ∙ ap (λ a. is_known same ys x || a) (ap (same z) q ∙ itself z)
-        ∙ or_true (is_known same ys x)
+        ∙ or-true (is_known same ys x)
 
     by_place : (is_known same ys x ≡ true) ⊎ In x (z ∷ xs) → (is_known same (add_new same ys z) x ≡ true) ⊎ In x xs
     by_place (inl k) = inl (added (is_known same ys z) refl (inl k))
@@ -174,18 +144,7 @@ module _ (sig : Sig) where
             within = omega (arith, there, p.within);
           }
 
-  -- it keeps its place among more, and an unknown one has the next place once it is added
-  place-more : (ts us : List Cond) (c : Cond) → is_known (same_cond sig) ts c ≡ true
-      → cond_place sig (ts ++ us) c ≡ cond_place sig ts c
-  place-more [] us c h = (let wrong : false ≡ true = h in cc)
-  place-more (t ∷ ts) us c h = by_test (same_cond sig t c) h (place-more ts us c)
-    where
-      by_test : (b : Bool) → (b || is_known (same_cond sig) ts c) ≡ true
-          → (is_known (same_cond sig) ts c ≡ true → cond_place sig (ts ++ us) c ≡ cond_place sig ts c)
-          → (if b then 0 else suc (cond_place sig (ts ++ us) c)) ≡ (if b then 0 else suc (cond_place sig ts c))
-      by_test true k f = refl
-      by_test false k f = ap suc (f k)
-
+  -- an unknown one has the next place once it is added
   place-next : (ts us : List Cond) (c : Cond) → is_known (same_cond sig) ts c ≡ false
       → cond_place sig (ts ++ c ∷ us) c ≡ length ts
   place-next [] us c h = ap (λ b. if b then 0 else suc (cond_place sig us c)) (same_cond-itself c)
@@ -209,7 +168,7 @@ module _ (sig : Sig) where
       by_known true e =
           let same : cond_place sig (firsts ts xs) c ≡ cond_place sig ts c =
           ap (λ l. cond_place sig l c) (firsts_after-fresh (same_cond sig) ts xs)
-          ∙ place-more ts (fresh_after (same_cond sig) ts xs) c e in
+          ∙ place-more sig ts (fresh_after (same_cond sig) ts xs) c e in
           let p = placed ts c e in omega (arith, same, p.within)
       by_known false e =
           let more = fresh_after (same_cond sig) (ts ++ c ∷ []) xs in
@@ -246,7 +205,7 @@ module _ (sig : Sig) where
       by_known true k q old new =
           let m = behind ts q in
           let at : cond_place sig all x ≡ cond_place sig ts x =
-          ap (λ l. cond_place sig l x) m.1 ∙ place-more ts m.0 x k in
+          ap (λ l. cond_place sig l x) m.1 ∙ place-more sig ts m.0 x k in
           let p = placed ts x k in
           let known : is_known nat_eq (upto (length ts)) (cond_place sig all x) ≡ true =
           upto-known (length ts) (cond_place sig all x) (omega (arith, at, p.within)) in

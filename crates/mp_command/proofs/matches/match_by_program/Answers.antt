@@ -1,7 +1,8 @@
 use Rattle.mp_gen.specs.Printable.{ArePrintable}
 use Rattle.mp_text.specs.File.{file_tree}
 use Rattle.mp_command.proofs.Acted.{generated-listed}
-use Rattle.mp_command.proofs.AcceptedRules.{conditions-read, generated-lists}
+use Rattle.mp_gen.proofs.Validity.{read-rules}
+use Rattle.mp_command.proofs.AcceptedRules.{generated-lists}
 use Rattle.mp_command.proofs.Matched.{all_text}
 use Rattle.mp_command.proofs.matches.match_by_program.Goals as goal
 
@@ -29,7 +30,7 @@ returns-clause-acts g c =
     let sound = c.requires.file.rules in
     let conditions =
     c.a_generated_program_is_valid.ensures.conditions file.sig file.rules sound printable in
-    let read = conditions-read file.sig file.rules conditions in
+    let read = read-rules file.sig file.rules conditions in
     c.print_rules_accepted.ensures.acts (all_text file c.requires.file c.args.limit)
     (generated-listed file c.requires.file c.args.limit (λ t normal.
     generated-lists file.sig file.rules sound read t normal

@@ -1,4 +1,4 @@
-use Rattle.std.proofs.Common.{◌≡◌, ◌<◌, ◌++◌, [], ◌∷◌, length, map, Some, None, sym, ap, ◌∙◌, subst, arith}
+use Rattle.std.proofs.Common.{◌≡◌, ◌<◌, ◌++◌, [], ◌∷◌, length, map, sym, ap, ◌∙◌, subst, arith}
 use Rattle.std.proofs.lemmas.List.{length-map, map-append}
 use Rattle.std.proofs.lemmas.Result.{IfOk-weaker}
 use Rattle.std.specs.Prelude.{◌≢◌, bytes_eq, IfSome}
@@ -9,17 +9,22 @@ use Rattle.mp_print.specs.PrintedCond.{cond_text}
 use Rattle.mp_program.specs.ProgramOf.{same_cond, cond_place}
 use Rattle.mp_program.proofs.TestLaws.{on-ok, place-found, place-added}
 use Rattle.mp_program.proofs.numbered.text_place.Goals as goal
+use Rattle.mp_program.proofs.numbered.text_place.Goals.{After-index_of}
+
+-- where the text of the condition stands among those of the tests
+place-of : (c : After-index_of) → c.index_of.result
+    ≡ position (bytes_eq (cond_text c.args.sig.now (cond_tree c.args.cond.now)))
+    (map (cond_text c.args.sig.now) c.args.tests.now)
+place-of c = c.index_of.ensures.index
+    ∙ (λ i. position (bytes_eq ((c.content.ensures ∙ c.in_ok-text.ensures) i)) (c.requires i))
 
 pub returns-in-Some-clause-place : goal.returns-in-Some-clause-place
 returns-in-Some-clause-place c =
     let sig = c.args.sig.now in
     let ts = c.args.tests.now in
     let x = cond_tree c.args.cond.now in
-    let text : c.content.result.now ≡ cond_text sig x = c.content.ensures ∙ c.in_ok-text.ensures in
-    let found : Some c.in-Some.index ≡ position (bytes_eq (cond_text sig x)) (map (cond_text sig) ts) =
-    sym c.in-Some.is ∙ c.index_of.ensures.index ∙ ap (λ t. position (bytes_eq t) c.args.texts.now) text
-    ∙ ap (position (bytes_eq (cond_text sig x))) c.requires in
-    let laws = place-found sig ts x c.in-Some.index found in
+    let place = place-of (goal.at.returns-in-Some-clause-place c).After-index_of in
+    let laws = place-found sig ts x c.in-Some.index (sym c.in-Some.is ∙ place) in
     IfOk-weaker c.place_number.result (λ n. n ≡ c.in-Some.index)
     (λ n. n ≡ cond_place sig (firsts_after (same_cond sig) ts (x ∷ [])) x)
     (λ n is. is ∙ laws.0 ∙ ap (λ l. cond_place sig l x) laws.1) c.place_number.ensures
@@ -29,11 +34,8 @@ returns-in-Some-clause-known c =
     let sig = c.args.sig.now in
     let ts = c.args.tests.now in
     let x = cond_tree c.args.cond.now in
-    let text : c.content.result.now ≡ cond_text sig x = c.content.ensures ∙ c.in_ok-text.ensures in
-    let found : Some c.in-Some.index ≡ position (bytes_eq (cond_text sig x)) (map (cond_text sig) ts) =
-    sym c.in-Some.is ∙ c.index_of.ensures.index ∙ ap (λ t. position (bytes_eq t) c.args.texts.now) text
-    ∙ ap (position (bytes_eq (cond_text sig x))) c.requires in
-    let laws = place-found sig ts x c.in-Some.index found in
+    let place = place-of (goal.at.returns-in-Some-clause-known c).After-index_of in
+    let laws = place-found sig ts x c.in-Some.index (sym c.in-Some.is ∙ place) in
     IfOk-weaker c.place_number.result (λ n. n ≡ c.in-Some.index)
     (λ n. n ≢ length ts → firsts_after (same_cond sig) ts (x ∷ []) ≡ ts)
     (λ n is other. sym laws.1) c.place_number.ensures
@@ -56,11 +58,8 @@ returns-in-Some-clause-texts c =
     let sig = c.args.sig.now in
     let ts = c.args.tests.now in
     let x = cond_tree c.args.cond.now in
-    let text : c.content.result.now ≡ cond_text sig x = c.content.ensures ∙ c.in_ok-text.ensures in
-    let found : Some c.in-Some.index ≡ position (bytes_eq (cond_text sig x)) (map (cond_text sig) ts) =
-    sym c.in-Some.is ∙ c.index_of.ensures.index ∙ ap (λ t. position (bytes_eq t) c.args.texts.now) text
-    ∙ ap (position (bytes_eq (cond_text sig x))) c.requires in
-    let laws = place-found sig ts x c.in-Some.index found in
+    let place = place-of (goal.at.returns-in-Some-clause-texts c).After-index_of in
+    let laws = place-found sig ts x c.in-Some.index (sym c.in-Some.is ∙ place) in
     on-ok c.place_number.result (c.requires ∙ ap (map (cond_text sig)) laws.1)
 
 pub push-requires : goal.push-requires
@@ -68,24 +67,19 @@ push-requires c =
     let sig = c.args.sig.now in
     let ts = c.args.tests.now in
     let x = cond_tree c.args.cond.now in
-    let text : c.content.result.now ≡ cond_text sig x = c.content.ensures ∙ c.in_ok-text.ensures in
     let again : c.content-in-None.result.now ≡ cond_text sig x = c.content-in-None.ensures ∙ c.in_ok-text.ensures in
-    let none : None ≡ position (bytes_eq (cond_text sig x)) (map (cond_text sig) ts) =
-    sym c.in-None.is ∙ c.index_of.ensures.index ∙ ap (λ t. position (bytes_eq t) c.args.texts.now) text
-    ∙ ap (position (bytes_eq (cond_text sig x))) c.requires in
+    let place = place-of (goal.at.push-requires c).After-index_of in
+    let laws = place-added sig ts x (sym c.in-None.is ∙ place) in
     ap (λ t. list_any (bytes_eq t) c.args.texts.now) again ∙ ap (list_any (bytes_eq (cond_text sig x))) c.requires
-    ∙ (place-added sig ts x none).2
+    ∙ laws.2
 
 pub returns-clause-place : goal.returns-clause-place
 returns-clause-place c =
     let sig = c.args.sig.now in
     let ts = c.args.tests.now in
     let x = cond_tree c.args.cond.now in
-    let text : c.content.result.now ≡ cond_text sig x = c.content.ensures ∙ c.in_ok-text.ensures in
-    let none : None ≡ position (bytes_eq (cond_text sig x)) (map (cond_text sig) ts) =
-    sym c.in-None.is ∙ c.index_of.ensures.index ∙ ap (λ t. position (bytes_eq t) c.args.texts.now) text
-    ∙ ap (position (bytes_eq (cond_text sig x))) c.requires in
-    let laws = place-added sig ts x none in
+    let place = place-of (goal.at.returns-clause-place c).After-index_of in
+    let laws = place-added sig ts x (sym c.in-None.is ∙ place) in
     IfOk-weaker c.place_number-in-None.result (λ n. n ≡ c.len.result)
     (λ n. n ≡ cond_place sig (firsts_after (same_cond sig) ts (x ∷ [])) x)
     (λ n is. is ∙ c.len.ensures ∙ laws.0 ∙ ap (λ l. cond_place sig l x) laws.1) c.place_number-in-None.ensures
@@ -104,25 +98,21 @@ returns-clause-other c =
     let sig = c.args.sig.now in
     let ts = c.args.tests.now in
     let x = cond_tree c.args.cond.now in
-    let text : c.content.result.now ≡ cond_text sig x = c.content.ensures ∙ c.in_ok-text.ensures in
-    let none : None ≡ position (bytes_eq (cond_text sig x)) (map (cond_text sig) ts) =
-    sym c.in-None.is ∙ c.index_of.ensures.index ∙ ap (λ t. position (bytes_eq t) c.args.texts.now) text
-    ∙ ap (position (bytes_eq (cond_text sig x))) c.requires in
+    let place = place-of (goal.at.returns-clause-other c).After-index_of in
+    let laws = place-added sig ts x (sym c.in-None.is ∙ place) in
     IfOk-weaker c.place_number-in-None.result (λ n. n ≡ c.len.result)
     (λ n. n ≡ length ts → firsts_after (same_cond sig) ts (x ∷ []) ≡ ts ++ x ∷ [])
-    (λ n is all. sym (place-added sig ts x none).1) c.place_number-in-None.ensures
+    (λ n is all. sym laws.1) c.place_number-in-None.ensures
 
 pub returns-clause-texts : goal.returns-clause-texts
 returns-clause-texts c =
     let sig = c.args.sig.now in
     let ts = c.args.tests.now in
     let x = cond_tree c.args.cond.now in
-    let text : c.content.result.now ≡ cond_text sig x = c.content.ensures ∙ c.in_ok-text.ensures in
     let again : c.content-in-None.result.now ≡ cond_text sig x = c.content-in-None.ensures ∙ c.in_ok-text.ensures in
-    let none : None ≡ position (bytes_eq (cond_text sig x)) (map (cond_text sig) ts) =
-    sym c.in-None.is ∙ c.index_of.ensures.index ∙ ap (λ t. position (bytes_eq t) c.args.texts.now) text
-    ∙ ap (position (bytes_eq (cond_text sig x))) c.requires in
+    let place = place-of (goal.at.returns-clause-texts c).After-index_of in
+    let laws = place-added sig ts x (sym c.in-None.is ∙ place) in
     on-ok c.place_number-in-None.result (c.in_ok-push-in-None.ensures.ok
     ∙ ap (λ l. l ++ c.content-in-None.result.now ∷ []) c.requires
     ∙ ap (λ t. map (cond_text sig) ts ++ t ∷ []) again ∙ sym (map-append (cond_text sig) ts (x ∷ []))
-    ∙ ap (map (cond_text sig)) (place-added sig ts x none).1)
+    ∙ ap (map (cond_text sig)) laws.1)
