@@ -8,19 +8,19 @@ use Rattle.std.specs.List.{list_all, AllByRecursion}
 use Rattle.std.specs.Char.{is_ascii_digit}
 use Rattle.std.proofs.Math.Seq.{drop-cons}
 use Rattle.std.proofs.lemmas.Bool.{and_parts, ne_eqb, lt-ltb, ltb-true}
-use Rattle.std.proofs.lemmas.List.{append-nil, take-append-drop, append_cancel_left}
+use Rattle.std.proofs.lemmas.List.{same_from_push, append-nil, take-append-drop}
 use Rattle.std.proofs.lemmas.List.Folds.{list_all-append}
 use Rattle.mp_io.specs.Devices.{Text}
 use Rattle.mp_print.specs.Printing.{preceded}
+use Rattle.mp_build.proofs.Faultless.{some-behind}
 use Rattle.mp_program.specs.FormText.{action_text}
 use Rattle.mp_program.specs.RightForm.{IsShort, IsRightAction, are_ascending}
-use Rattle.mp_line.specs.Finds.{IsOnly, Finds}
-use Rattle.mp_line.specs.LineTexts.{IsNumberText, AreNumbersText, IsBlankNumber, are_accepted, AreAcceptedText}
+use Rattle.mp_line.specs.Finds.{IsOnly}
+use Rattle.mp_line.specs.LineTexts.{IsNumberText, AreNumbersText, are_accepted, AreAcceptedText}
 use Rattle.mp_line.specs.LineTexts.{IsActionText}
-use Rattle.mp_line.specs.Words.{is_digit_or_blank, IsBeforeNumbers}
-use Rattle.mp_line.proofs.FindsLaws.{Finds-like}
-use Rattle.mp_line.proofs.NumberLaws.{decimal-text}
-use Rattle.mp_line.proofs.WordLaws.{last-byte}
+use Rattle.mp_line.specs.Words.{IsWithout, IsSplitAtLast, is_digit_or_blank, IsBeforeNumbers}
+use Rattle.mp_line.proofs.NumberLaws.{decimal-text, bare-decimal}
+use Rattle.mp_line.proofs.WordLaws.{with-none, last-only}
 
 -- ---- digits and blanks at the end
 
@@ -72,7 +72,7 @@ cut-behind t i within all other = record {
   parts = sym (take-append-drop (suc i) t);
   only = all;
   last = λ before c e. subst (λ b. is_digit_or_blank b ≡ false)
-      (last-byte (take i t) before (get_or t i 0) c (sym (take-one t i within) ∙ e)) other;
+      (same_from_push (take i t) before (get_or t i 0) c (sym (take-one t i within) ∙ e)).1 other;
 }
   where
     take-one : (t : Text) (i : ℕ) → suc i ≤ length t → take (suc i) t ≡ take i t ++ get_or t i 0 ∷ []
@@ -85,12 +85,8 @@ pub cut-before : (t front : Text) → front ≡ [] → list_all is_digit_or_blan
 cut-before t front none all = record {
   parts = sym (ap (λ x. x ++ t) none);
   only = all;
-  last = λ before c e. absurd (filled before c (sym e ∙ none));
+  last = λ before c e. absurd (some-behind before c (sym e ∙ none));
 }
-  where
-    filled : (x : Text) (c : ℕ) → x ++ c ∷ [] ≡ [] → ⊥
-    filled [] c e = cc
-    filled (d ∷ x) c e = cc
 
 -- one byte more of digits and blanks
 pub all-more : (t : Text) (i : ℕ) → suc i ≤ length t → list_all is_digit_or_blank (drop (suc i) t) ≡ true
@@ -145,10 +141,10 @@ action-spelling front (Some n) rules =
 word-stops : (front : Text) (down : Option ℕ) → Stops (front ++ action_word down)
 word-stops front None before c e =
     subst (λ b. is_digit_or_blank b ≡ false)
-    (last-byte (front ++ codes " accep") before 116 c (append_assoc front (codes " accep") (codes "t") ∙ e)) refl
+    (same_from_push (front ++ codes " accep") before 116 c (append_assoc front (codes " accep") (codes "t") ∙ e)).1 refl
 word-stops front (Some n) before c e =
     subst (λ b. is_digit_or_blank b ≡ false)
-    (last-byte (front ++ codes " dow") before 110 c (append_assoc front (codes " dow") (codes "n") ∙ e)) refl
+    (same_from_push (front ++ codes " dow") before 110 c (append_assoc front (codes " dow") (codes "n") ∙ e)).1 refl
 
 -- the numbers of an action have 32 bits
 shorts : (down : Option ℕ) (rules : List ℕ) → IsRightAction down rules → AllByRecursion IsShort
@@ -157,11 +153,20 @@ shorts None rules h = h.2
 shorts (Some n) rules h = (h.0, tt)
 
 -- no text ends with both words
-words-differ : (x y : Text) → x ++ codes " down" ≡ y ++ codes " accept" → ⊥
+pub words-differ : (x y : Text) → x ++ codes " down" ≡ y ++ codes " accept" → ⊥
 words-differ x y e =
-    let same = last-byte (x ++ codes " dow") (y ++ codes " accep") 110 116
+    let same = same_from_push (x ++ codes " dow") (y ++ codes " accep") 110 116
     (append_assoc x (codes " dow") (codes "n") ∙ (e ∙ sym (append_assoc y (codes " accep") (codes "t")))) in
-    omega arith
+    omega (arith, same.1)
+
+-- what stands before the numbers of an action
+action-split : (text front : Text) (down : Option ℕ) (rules : List ℕ) → IsActionText text front down rules
+    → IsBeforeNumbers text (front ++ action_word down) (preceded (codes " ") (map decimal (action_numbers down rules)))
+action-split text front down rules h = record {
+  parts = sym h.spelled ∙ action-spelling front down rules;
+  only = numbers-alone (action_numbers down rules) (shorts down rules h.right);
+  last = word-stops front down;
+}
 
 module _ (text before digits : Text) (split : IsBeforeNumbers text before digits) where
   -- what stands before the numbers of an action, and they
@@ -170,11 +175,7 @@ module _ (text before digits : Text) (split : IsBeforeNumbers text before digits
   action-parts front down rules h =
       let short = shorts down rules h.right in
       let same = before_numbers-only text before digits (front ++ action_word down)
-      (preceded (codes " ") (map decimal (action_numbers down rules))) split (record {
-        parts = sym h.spelled ∙ action-spelling front down rules;
-        only = numbers-alone (action_numbers down rules) short;
-        last = word-stops front down;
-      }) in
+      (preceded (codes " ") (map decimal (action_numbers down rules))) split (action-split text front down rules h) in
       (same.0, record { right = short; spelled = sym same.1 })
 
   -- the action of its word and its numbers
@@ -188,32 +189,17 @@ module _ (text before digits : Text) (split : IsBeforeNumbers text before digits
         ∙ (ap (λ t. before ++ t) spelled ∙ sym split.parts));
   }
 
-  -- without one of the words there is no action
-  pub no-word : ((rest : Text) → before ≡ rest ++ codes " down" → ⊥)
+  -- without one that leads down, and without the other word, there is no action
+  pub no-word : ((p : Text × ℕ) → IsActionText text p.0 (Some p.1) [] → ⊥)
       → ((rest : Text) → before ≡ rest ++ codes " accept" → ⊥) → (p : Text × (Option ℕ × List ℕ))
       → IsActionText text p.0 p.1.0 p.1.1 → ⊥
   no-word down accept p h = go p.0 p.1.0 p.1.1 h
     where
       go : (front : Text) (d : Option ℕ) (rules : List ℕ) → IsActionText text front d rules → ⊥
       go front None rules h = accept front (action-parts front None rules h).0
-      go front (Some n) rules h = down front (action-parts front (Some n) rules h).0
+      go front (Some n) rules h = down (front, n) (record { right = (h.right.0, refl); spelled = h.spelled })
 
   module _ (token : Text) where
-    -- behind `down` there is a number
-    down-number : before ≡ token ++ codes " down" → (front : Text) (d : Option ℕ) (rules : List ℕ)
-        → IsActionText text front d rules → (n : ℕ) × (d ≡ Some n) × (rules ≡ []) × IsBlankNumber digits n
-    down-number is front None rules h = absurd (words-differ token front (sym is ∙ (action-parts front None rules h).0))
-    down-number is front (Some n) rules h =
-        let p = (action-parts front (Some n) rules h).1 in (
-          n,
-          refl,
-          h.right.1,
-          record {
-            short = h.right.0;
-            spelled = ap (λ t. codes " " ++ t) (sym (append-nil (decimal n))) ∙ p.spelled;
-          },
-        )
-
     -- behind `accept` there are rules
     accepted-rules : before ≡ token ++ codes " accept" → (front : Text) (d : Option ℕ) (rules : List ℕ)
         → IsActionText text front d rules → (d ≡ None) × AreAcceptedText digits rules
@@ -223,37 +209,11 @@ module _ (text before digits : Text) (split : IsBeforeNumbers text before digits
         absurd (words-differ front token (sym (action-parts front (Some n) rules h).0 ∙ is))
 
     -- the token of an action is what stands before the word
-    down-token : IsOnly (λ rest. before ≡ rest ++ codes " down") token → (front : Text) (d : Option ℕ)
-        (rules : List ℕ) → IsActionText text front d rules → front ≡ token
-    down-token h front None rules a = absurd (words-differ token front (sym h.is ∙ (action-parts front None rules a).0))
-    down-token h front (Some n) rules a = h.only front (action-parts front (Some n) rules a).0
-
     accept-token : IsOnly (λ rest. before ≡ rest ++ codes " accept") token → (front : Text) (d : Option ℕ)
         (rules : List ℕ) → IsActionText text front d rules → front ≡ token
     accept-token h front None rules a = h.only front (action-parts front None rules a).0
     accept-token h front (Some n) rules a =
         absurd (words-differ front token (sym (action-parts front (Some n) rules a).0 ∙ h.is))
-
-    module _ (h : IsOnly (λ rest. before ≡ rest ++ codes " down") token) where
-      -- behind `down` the action is found by its number
-      pub down-found : (n : ℕ) (accepts : List ℕ) → IsOnly (IsBlankNumber digits) n → accepts ≡ []
-          → IsOnly (λ (p : Text × (Option ℕ × List ℕ)). IsActionText text p.0 p.1.0 p.1.1) (token, (Some n, accepts))
-      down-found n accepts number none = record {
-        is = action-made token (Some n) accepts h.is (
-            ap (λ t. codes " " ++ t) (append-nil (decimal n)) ∙ number.is.spelled
-            ) (number.is.short, none);
-        only = λ p a. (
-            let d = down-number h.is p.0 p.1.0 p.1.1 a in
-            let same = number.only d.0 d.3 in
-            ap (λ t. (t, p.1)) (down-token h p.0 p.1.0 p.1.1 a)
-            ∙ (ap (λ x. (token, (x, p.1.1))) (d.1 ∙ ap Some same) ∙ ap (λ x. (token, (Some n, x))) (d.2 ∙ sym none))
-            );
-      }
-
-      -- without a number there is none
-      pub no-down : ((n : ℕ) → IsBlankNumber digits n → ⊥) → (p : Text × (Option ℕ × List ℕ))
-          → IsActionText text p.0 p.1.0 p.1.1 → ⊥
-      no-down none p a = (let d = down-number h.is p.0 p.1.0 p.1.1 a in none d.0 d.3)
 
     module _ (h : IsOnly (λ rest. before ≡ rest ++ codes " accept") token) where
       -- behind `accept` it is found by its rules
@@ -273,15 +233,66 @@ module _ (text before digits : Text) (split : IsBeforeNumbers text before digits
           → IsActionText text p.0 p.1.0 p.1.1 → ⊥
       no-accept none p a = none p.1.1 (accepted-rules h.is p.0 p.1.0 p.1.1 a).1
 
--- ---- one number, and rules
+-- ---- one number
 
--- behind a blank a number is found by its word
-pub blank_number-through : {T : Type 0} (view : T → ℕ) (text word : Text) (r : Option T) → text ≡ codes " " ++ word
-    → Finds view (IsNumberText word) r → Finds view (IsBlankNumber text) r
-blank_number-through view text word r e =
-    Finds-like view (IsNumberText word) (IsBlankNumber text) r
-    (λ n h. record { short = h.short; spelled = ap (λ t. codes " " ++ t) h.text ∙ sym e })
-    (λ n h. record { short = h.short; text = append_cancel_left (codes " ") (decimal n) word (h.spelled ∙ e) })
+module _ (text : Text) where
+  -- the action that leads down
+  abbrev pub IsLed : Text × ℕ → Type 0
+  IsLed p = IsActionText text p.0 (Some p.1) []
+
+  -- its number is the last word
+  led-split : (p : Text × ℕ) → IsLed p → IsSplitAtLast 32 text (p.0 ++ codes " down") (decimal p.1)
+  led-split p h = record {
+    parts = sym h.spelled ∙ sym (append_assoc p.0 (codes " down") (32 ∷ decimal p.1));
+    last = bare-decimal p.1 h.right.0;
+  }
+
+  -- a text without a blank has no such action
+  pub not-led : IsWithout 32 text → (p : Text × ℕ) → IsLed p → ⊥
+  not-led bare p h =
+      with-none 32 (p.0 ++ codes " down") (decimal p.1) (subst (IsWithout 32) (led-split p h).parts bare)
+
+  -- the words of one that has it
+  pub led-words : (front word : Text) → IsSplitAtLast 32 text front word → (p : Text × ℕ) → IsLed p
+      → (front ≡ p.0 ++ codes " down") × IsNumberText word p.1
+  led-words front word split p h =
+      let same = last-only 32 text front word (p.0 ++ codes " down") (decimal p.1) split (led-split p h) in
+      (same.0, record { short = h.right.0; text = sym same.1 })
+
+  -- it is found by its words
+  pub led-found : (front word token : Text) (n : ℕ) → IsSplitAtLast 32 text front word
+      → IsOnly (λ rest. front ≡ rest ++ codes " down") token → IsOnly (IsNumberText word) n → IsOnly IsLed (token, n)
+  led-found front word token n split h g = record {
+    is = record {
+      right = (g.is.short, refl);
+      spelled = sym (append_assoc token (codes " down") (32 ∷ decimal n))
+          ∙ (ap (λ x. x ++ 32 ∷ decimal n) (sym h.is) ∙ (ap (λ x. front ++ 32 ∷ x) g.is.text ∙ sym split.parts));
+    };
+    only = λ p o. (
+        let m = led-words front word split p o in
+        ap (λ x. (x, p.1)) (h.only p.0 m.0) ∙ ap (λ x. (token, x)) (g.only p.1 m.1)
+        );
+  }
+
+  -- and is the only action then
+  pub led-through : (token : Text) (n : ℕ) (accepts : List ℕ) → IsOnly IsLed (token, n) → accepts ≡ []
+      → IsOnly (λ (p : Text × (Option ℕ × List ℕ)). IsActionText text p.0 p.1.0 p.1.1) (token, (Some n, accepts))
+  led-through token n accepts h none = record {
+    is = record { right = (h.is.right.0, none); spelled = h.is.spelled };
+    only = λ p a. go p.0 p.1.0 p.1.1 a;
+  }
+    where
+      go : (front : Text) (d : Option ℕ) (rules : List ℕ) → IsActionText text front d rules
+          → ◌≡◌ {A = Text × (Option ℕ × List ℕ)} (front, (d, rules)) (token, (Some n, accepts))
+      go front None rules a = absurd (words-differ token front (action-parts text (token ++ codes " down")
+          (preceded (codes " ") (map decimal (n ∷ []))) (action-split text token (Some n) [] h.is)
+          front None rules a).0)
+      go front (Some m) rules a =
+          ap (λ (x : Text × ℕ). (x.0, (Some x.1, rules)))
+          (h.only (front, m) (record { right = (a.right.0, refl); spelled = a.spelled }))
+          ∙ ap (λ x. (token, (Some n, x))) (a.right.1 ∙ sym none)
+
+-- ---- rules
 
 -- a number that is accepted is behind a blank
 pub accepted-numbers : (text : Text) (rules : List ℕ) → AreAcceptedText text rules → AreNumbersText text rules

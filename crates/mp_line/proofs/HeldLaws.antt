@@ -12,8 +12,9 @@ use Rattle.mp_io.specs.Devices.{Text}
 use Rattle.mp_term.specs.declared.signature.OpDecl.{OpDecl}
 use Rattle.mp_term.specs.Names.{are_distinct}
 use Rattle.mp_term.specs.Signature.{Sig, has_name, shares_sign, clashes, none_clash, kind_names}
+use Rattle.mp_term.proofs.ListLaws.{all-at}
 use Rattle.mp_term.proofs.SignatureLaws.{position-map, position-behind, position-first}
-use Rattle.mp_line.specs.Finds.{Finds}
+use Rattle.mp_line.specs.Finds.{IsOnly, Finds}
 use Rattle.mp_line.specs.LineTexts.{IsHeldOp, IsHeldKind}
 use Rattle.mp_line.proofs.FindsLaws.{Finds-like}
 
@@ -29,16 +30,8 @@ position-distinct (n ∷ names) zero name h here =
 position-distinct (n ∷ names) (suc i) name h here =
     let p = and_parts (list_all (λ m. not (bytes_eq m n)) names) (are_distinct names) h in
     position-behind (bytes_eq name) n names
-    (not-true (bytes_eq name n) (list_all-at (λ m. not (bytes_eq m n)) names i name p.0 here))
+    (not-true (bytes_eq name n) (all-at (λ m. not (bytes_eq m n)) names i name p.0 here))
     ∙ ap (option_map (λ k. k + 1)) (position-distinct names i name p.1 here) ∙ ap Some (add-one i)
-  where
-    list_all-at : (test : Text → Bool) (xs : List Text) (i : ℕ) (x : Text) → list_all test xs ≡ true
-        → slice_get xs i ≡ Some x → test x ≡ true
-    list_all-at test [] i x h here = cc
-    list_all-at test (y ∷ xs) zero x h here = let same : y ≡ x = cc in
-        subst (λ z. test z ≡ true) same (and_parts (test y) (list_all test xs) h).0
-    list_all-at test (y ∷ xs) (suc i) x h here =
-        list_all-at test xs i x (and_parts (test y) (list_all test xs) h).1 here
 
 -- the first name that is this one is this one
 position-name : (name : Text) (names : List Text) (k : ℕ) → position (bytes_eq name) names ≡ Some k
@@ -119,6 +112,16 @@ Finds-op view sig name r apart e =
     (λ i h. slice_get-map (λ (d : OpDecl). d.name) sig.ops i ∙ op-at (slice_get sig.ops i) name h.held h.text)
     (Finds-name view (map (λ (d : OpDecl). d.name) sig.ops) name r (are_distinct-names sig.ops apart)
     (e ∙ sym (position-map (bytes_eq name) (λ (d : OpDecl). d.name) sig.ops)))
+
+-- an operation of the name is the only one
+pub op-alone : (sig : Sig) (name : Text) (i : ℕ) (d : OpDecl) → none_clash sig.ops ≡ true
+    → slice_get sig.ops i ≡ Some d → d.name ≡ name → IsOnly (IsHeldOp sig name) i
+op-alone sig name i d apart here same =
+    Finds-op (λ j. j) sig name (Some i) apart
+    (sym (position-distinct (map (λ (e : OpDecl). e.name) sig.ops) i name (are_distinct-names sig.ops apart)
+    (slice_get-map (λ (e : OpDecl). e.name) sig.ops i
+    ∙ (ap (option_map (λ (e : OpDecl). e.name)) here ∙ ap Some same)))
+    ∙ position-map (bytes_eq name) (λ (e : OpDecl). e.name) sig.ops)
 
 -- ---- kinds
 

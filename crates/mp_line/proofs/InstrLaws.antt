@@ -21,7 +21,7 @@ use Rattle.mp_line.proofs.WordLaws.{with-none, last-only}
 -- ---- the last word
 
 -- the word of a target has no blank
-bare-target : (t : Option ℕ) → IsShortTarget t → IsWithout 32 (target_text t)
+pub bare-target : (t : Option ℕ) → IsShortTarget t → IsWithout 32 (target_text t)
 bare-target None short = refl
 bare-target (Some n) short = without-decimal 32 n refl (omega arith)
 

@@ -1,9 +1,9 @@
 -- Items behind blanks are read of a text in one way.
-use Rattle.std.proofs.Common.{Bool, true, false, length, arith}
+use Rattle.std.proofs.Common.{Bool, true, false, length}
 use Rattle.std.proofs.Common.{◌≡◌, ◌++◌, ℕ, List, [], ◌∷◌, inl, inr, refl, sym, ap, subst, ◌∙◌, append_assoc}
 use Rattle.std.specs.Prelude.{codes, map, nat_eq}
 use Rattle.std.proofs.lemmas.Bool.{eqb-true}
-use Rattle.std.proofs.lemmas.List.{append-nil}
+use Rattle.std.proofs.lemmas.List.{nil_from_length, append-nil}
 use Rattle.mp_io.specs.Devices.{Text}
 use Rattle.mp_print.specs.Printing.{preceded}
 use Rattle.mp_line.specs.Finds.{IsOnly}
@@ -64,11 +64,7 @@ not-empty t b e other none =
 
 -- one of no length is
 pub is-empty : (t : Text) (b : Bool) → b ≡ nat_eq (length t) 0 → b ≡ true → t ≡ []
-is-empty t b e here = go t (eqb-true (length t) 0 (sym e ∙ here))
-  where
-    go : (t : Text) → length t ≡ 0 → t ≡ []
-    go [] h = refl
-    go (c ∷ t) h = absurd (omega arith)
+is-empty t b e here = nil_from_length t (eqb-true (length t) 0 (sym e ∙ here))
 
 -- ---- items
 

@@ -22,7 +22,6 @@ use Rattle.mp_line.specs.Lines.{Line, op_line, kind_line, test_line, rule_line, 
 use Rattle.mp_line.specs.Lines.{stop_line, IsLineText, IsCodeLine}
 use Rattle.mp_line.specs.Words.{IsWithout, begins_with_digit}
 use Rattle.mp_line.proofs.FindsLaws.{Finds-like, Finds-through}
-use Rattle.mp_line.proofs.InstrLaws.{no-line}
 use Rattle.mp_line.proofs.NumberLaws.{decimal-text, without-decimal}
 use Rattle.mp_line.proofs.WordLaws.{with-none, first-only, apart}
 
@@ -119,14 +118,6 @@ module _ (sig : Sig) (format : Format) (n : ℕ) (some : 1 ≤ n) (small : n < 2
       only stop_line g = refl
       only l g = absurd g
 
-  -- a text that begins neither with the word of `begin` nor with the number is none
-  pub no-number : ((word : Text) → text ≡ codes "0 begin down " ++ word → ⊥)
-      → ((rest : Text) → text ≡ decimal n ++ (codes " " ++ rest) → ⊥) → (l : Line) → IsHere l → ⊥
-  no-number start none (begin_line x) g = start (target_text x) g.1
-  no-number start none (instr_line i) g = no-line sig format n text none i g
-  no-number start none stop_line g = none (codes "stop") g
-  no-number start none l g = absurd g
-
   module _ (no_start : (word : Text) → text ≡ codes "0 begin down " ++ word → ⊥)
       (no_stop : text ≢ decimal n ++ codes " stop") where
     -- another line is found by its instruction
@@ -141,6 +132,23 @@ module _ (sig : Sig) (format : Format) (n : ℕ) (some : 1 ≤ n) (small : n < 2
         from (instr_line i) g = (i, refl, g)
         from stop_line g = absurd (no_stop g)
         from l g = absurd g
+
+  -- an instruction begins with its number, which isn't 0, and the line isn't the last one
+  not-begin : (i : Instr) → IsInstrText sig format n text i → (word : Text) → text ≡ codes "0 begin down " ++ word → ⊥
+  not-begin i g word e = not-zero n _ _ some small (g.text ∙ e)
+
+  -- where there is an instruction it is the only line
+  pub instr-here : (i : Instr) → IsOnly (IsInstrText sig format n text) i → IsOnly IsHere (instr_line i)
+  instr-here i h = instr_line-through (not-begin i h.is) (instr-stop i h.is) (λ j. j) (Some i) h
+
+  -- a line that is no begin, no instruction and not the last one is none
+  pub no-code-line : ((word : Text) → text ≡ codes "0 begin down " ++ word → ⊥)
+      → ((i : Instr) → IsInstrText sig format n text i → ⊥) → text ≢ decimal n ++ codes " stop" → (l : Line)
+      → IsHere l → ⊥
+  no-code-line start none stop (begin_line x) g = start (target_text x) g.1
+  no-code-line start none stop (instr_line i) g = none i g
+  no-code-line start none stop stop_line g = stop g
+  no-code-line start none stop l g = absurd g
 
   -- ---- all lines
 
@@ -256,6 +264,12 @@ module _ (sig : Sig) (format : Format) (n : ℕ) (some : 1 ≤ n) (small : n < 2
         from (begin_line x) g = g
         from (instr_line i) g = g
         from stop_line g = g
+
+    -- the line of an instruction is found by it
+    pub instr-found : (i : Instr) → IsOnly (IsInstrText sig format n text) i → IsOnly IsThere (instr_line i)
+    instr-found i h =
+        code-line-through instr_line (Some i) (sym (ap begins_with_digit h.is.text) ∙ number-begins n _ small)
+        (instr-here i h)
 
     -- another is one of the others
     pub no-word-line : begins_with_digit text ≡ false → (IsDeclaration (codes "op ") text → ⊥)

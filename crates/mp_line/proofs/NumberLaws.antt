@@ -1,16 +1,19 @@
 -- Numbers in decimal: what they write, and that no two have one text.
-use Rattle.std.proofs.Common.{◌≡◌, ◌≢◌, ◌<◌, ◌≤◌, ◌+◌, ◌-◌, ◌*◌, ◌/◌, ◌%◌, ◌^◌, ℕ, Bool, true, false, List, [], ◌∷◌}
-use Rattle.std.proofs.Common.{◌++◌, Option, Some, None, min, inl, inr, refl, sym, ap, subst, ◌∙◌, arith, rules}
+use Rattle.std.proofs.Common.{◌≡◌, ◌≢◌, ◌<◌, ◌≤◌, ◌+◌, ◌-◌, ◌*◌, ◌/◌, ◌%◌, ◌^◌, ℕ, Bool, true, false, [], ◌∷◌}
+use Rattle.std.proofs.Common.{◌++◌, Option, Some, None, inl, inr, refl, sym, ap, subst, ◌∙◌, arith, rules}
 use Rattle.std.specs.Prelude.{nat_eq, nat_le, decimal, codes, length, not, get_or, ◌||◌, ◌&&◌}
 use Rattle.std.specs.Char.{is_ascii_digit}
 use Rattle.std.specs.List.{list_any, list_all}
 use Rattle.std.specs.Int.{IsInRange}
 use Rattle.std.proofs.lemmas.Bool.{and_parts, eqb-true, eq-eqb, ne_eqb, leb-true, le-leb, cases_lt}
 use Rattle.std.proofs.lemmas.Fmt.{decimal_by_steps, decimal_digit, first_decimal, decimal-digits_value}
+use Rattle.std.proofs.lemmas.Fmt.{length-decimal-le}
+use Rattle.std.proofs.lemmas.Grind.{pow_more}
 use Rattle.std.proofs.lemmas.List.Folds.{list_all-append}
 use Rattle.std.proofs.lemmas.Str.Parse.{IsDigitsTest, FoldsDigits, numerals_by_fold}
 use Rattle.mp_io.specs.Devices.{Text}
 use Rattle.mp_build.specs.Names.{number_after, number_of}
+use Rattle.mp_build.proofs.Faultless.{some-behind}
 use Rattle.mp_program.specs.Reading.{is_numeral}
 use Rattle.mp_program.specs.RightForm.{IsShort}
 use Rattle.mp_line.specs.Finds.{IsOnly}
@@ -18,28 +21,19 @@ use Rattle.mp_line.specs.LineTexts.{IsNumberText, IsTargetText}
 use Rattle.mp_line.specs.Words.{IsWithout, IsSplitAtFirst}
 use Rattle.mp_line.proofs.WordLaws.{first-only, with-none}
 
--- ---- numbers that are cut at a bound
+-- ---- digits
 
--- further digits make a number no smaller
-number_after-grows : (n : ℕ) (digits : List ℕ) → n ≤ number_after n digits
-number_after-grows n [] = omega arith
-number_after-grows n (d ∷ ds) = let h = number_after-grows (10 * n + (d - 48)) ds in omega arith
+-- one digit more of a number of so many
+pub number-below : (n digit i : ℕ) → is_ascii_digit digit ≡ true → n < 10 ^ i → 10 * n + (digit - 48) < 10 ^ (i + 1)
+number-below n digit i is small =
+    let h = and_parts (nat_le 48 digit) (nat_le digit 57) is in
+    omega (arith, leb-true digit 57 h.1, pow_more 10 i, small)
 
--- a bound that a number has passed stays passed
-number_after-cut : (bound n : ℕ) (digits : List ℕ)
-    → min (number_after (min n bound) digits) bound ≡ min (number_after n digits) bound
-number_after-cut bound n digits =
-    elim (cases_lt bound n) [
-      | inl h ↦ omega (arith, number_after-grows (min n bound) digits, number_after-grows n digits)
-      | inr h ↦ (let e : min n bound ≡ n = omega arith in ap (λ m. min (number_after m digits) bound) e)
-    ]
-
--- one digit more of a number that is cut at a bound
-pub number_after-next : (bound n digit : ℕ) (digits rest all : List ℕ) → digits ≡ digit ∷ rest
-    → min (number_after n digits) bound ≡ min (number_after 0 all) bound
-    → min (number_after (min (10 * n + (digit - 48)) bound) rest) bound ≡ min (number_after 0 all) bound
-number_after-next bound n digit digits rest all e h =
-    rw (number_after-cut bound (10 * n + (digit - 48)) rest) (rw e at h)
+-- the bytes behind a digit are digits where all are
+pub first-digit : (digit : ℕ) (digits rest : Text) → digits ≡ digit ∷ rest → is_ascii_digit digit ≡ true
+    → list_all is_ascii_digit rest ≡ list_all is_ascii_digit digits
+first-digit digit digits rest e h =
+    sym (ap (list_all is_ascii_digit) e ∙ ap (λ v. v && list_all is_ascii_digit rest) h)
 
 -- ---- the text of a number
 
@@ -74,12 +68,8 @@ decimal-text = decimal_by_steps IsDecimal one more
           value = number_after-append 0 ds ((48 + n % 10) ∷ []) ∙ last;
           are_digits = list_all-append is_ascii_digit ds ((48 + n % 10) ∷ [])
               ∙ rw (w.are_digits, digit (n % 10) small) refl;
-          some = λ e. absurd (filled ds (48 + n % 10) e);
+          some = λ e. absurd (some-behind ds (48 + n % 10) e);
         }
-      where
-        filled : (ds : Text) (d : ℕ) → ds ++ d ∷ [] ≡ [] → ⊥
-        filled [] d e = cc
-        filled (c ∷ ds) d e = cc
 
 -- a byte that is no digit isn't among digits
 pub without-digits : (b : ℕ) (ds : Text) → is_ascii_digit b ≡ false → list_all is_ascii_digit ds ≡ true → IsWithout b ds
@@ -113,12 +103,18 @@ number-written word n h = ap number_of (sym h.text) ∙ (decimal-text n
 -- ---- what is found
 
 -- a text that writes too great a number is none of a short one
-pub no-number : (word : Text) (value : ℕ) → value ≡ min (number_of word) (2 ^ 32) → 2 ^ 32 ≤ value
-    → (n : ℕ) → IsNumberText word n → ⊥
-no-number word value is great n h =
+pub no-number : (word : Text) → 2 ^ 32 ≤ number_of word → (n : ℕ) → IsNumberText word n → ⊥
+no-number word great n h =
     let small : n < 2 ^ 32 = h.short in
     let same = number-written word n h in
     omega arith
+
+-- nor is a long text
+pub long-number : (word : Text) → 10 < length word → (n : ℕ) → IsNumberText word n → ⊥
+long-number word long n h =
+    let small : n < 2 ^ 32 = h.short in
+    let few = length-decimal-le 10 n (omega arith) (omega arith) (omega arith) in
+    omega (arith, ap length h.text, few, long)
 
 -- digits are told by a test
 tells : IsDigitsTest (λ ds. list_all is_ascii_digit ds ≡ true)
@@ -173,14 +169,12 @@ decimal-numeral n small =
         ])
 
 -- a short number is found where the text is one in decimal
-pub is-number : (word : Text) (n : ℕ) → is_numeral word ≡ true → n ≡ min (number_of word) (2 ^ 32) → n < 2 ^ 32
+pub is-number : (word : Text) (n : ℕ) → is_numeral word ≡ true → n ≡ number_of word → n < 2 ^ 32
     → IsOnly (IsNumberText word) n
-is-number word n numeral is small =
-    let same : n ≡ number_of word = omega arith in
-    record {
-      is = record { short = small; text = ap decimal same ∙ numeral-text word numeral (omega arith) };
-      only = λ m h. (let short : m < 2 ^ 32 = h.short in let written = number-written word m h in omega arith);
-    }
+is-number word n numeral same small = record {
+  is = record { short = small; text = ap decimal same ∙ numeral-text word numeral (omega arith) };
+  only = λ m h. sym (number-written word m h) ∙ sym same;
+}
 
 -- and else none is
 pub not-number : (word : Text) → is_numeral word ≡ false → (m : ℕ) → IsNumberText word m → ⊥

@@ -1,11 +1,10 @@
 -- A test is read of its text, and names the variables v0 to v31 alone.
-use Rattle.std.proofs.Common.{◌≡◌, ◌<◌, ◌≤◌, ◌^◌, ◌++◌, ℕ, zero, suc, Bool, true, false, List, [], ◌∷◌, None, inl, inr}
+use Rattle.std.proofs.Common.{◌≡◌, ◌<◌, ◌≤◌, ◌^◌, ◌++◌, ℕ, zero, suc, Bool, true, false, List, [], ◌∷◌, None}
 use Rattle.std.proofs.Common.{refl, sym, ap, subst, ◌∙◌, arith}
-use Rattle.std.specs.Prelude.{codes, decimal, nat_lt, ◌⊎◌, ◌&&◌, ◌||◌}
+use Rattle.std.specs.Prelude.{codes, decimal, nat_lt, ◌&&◌, ◌||◌}
 use Rattle.std.specs.List.{list_all, AllByRecursion}
-use Rattle.std.proofs.lemmas.Bool.{and_parts, cases_lt, lt-ltb, ltb-true}
+use Rattle.std.proofs.lemmas.Bool.{and_parts, lt-ltb, ltb-true}
 use Rattle.std.proofs.lemmas.List.{append_cancel_left, append_cancel_right}
-use Rattle.std.proofs.Math.Bool.{or-true}
 use Rattle.mp_io.specs.Devices.{Text}
 use Rattle.mp_term.specs.Signature.{Sig}
 use Rattle.mp_term.proofs.ListLaws.{bool_same}
@@ -14,11 +13,12 @@ use Rattle.mp_pattern.specs.CondTree.{Cond}
 use Rattle.mp_pattern.specs.Firsts.{is_known}
 use Rattle.mp_pattern.specs.NetTokens.{numbered}
 use Rattle.mp_pattern.specs.Value.{same_name}
-use Rattle.mp_pattern.proofs.NameLaws.{same_name-is, same_name-itself}
+use Rattle.mp_pattern.proofs.NameLaws.{same_name-is}
 use Rattle.mp_walk.specs.Walkable.{numbered_names}
 use Rattle.mp_print.specs.PrintedCond.{cond_text}
 use Rattle.mp_build.specs.AloneCondition.{IsCondOf}
 use Rattle.mp_program.specs.TokenPaths.{cond_names}
+use Rattle.mp_program.proofs.NameLaws.{known-push, known-numbered}
 use Rattle.mp_line.specs.Finds.{IsOnly}
 use Rattle.mp_line.specs.LineTexts.{IsNumberedText, IsExactCond, IsTestText}
 use Rattle.mp_line.specs.Named.{are_test_names}
@@ -26,29 +26,12 @@ use Rattle.mp_line.proofs.NumberLaws.{number-written}
 
 -- ---- the names of numbers
 
--- a test of three in two ways
-or-behind : (a b c : Bool) → (a || (b || c)) ≡ ((a || b) || c)
-or-behind true b c = refl
-or-behind false b c = refl
-
--- a test beside one that fails
-or-none : (b : Bool) → (b || false) ≡ b
-or-none true = refl
-or-none false = refl
-
--- what is known among names and one more
-known-append : (xs : List Text) (y x : Text)
-    → is_known same_name (xs ++ y ∷ []) x ≡ (is_known same_name xs x || same_name y x)
-known-append [] y x = or-none (same_name y x)
-known-append (z ∷ xs) y x = ap (λ v. same_name z x || v) (known-append xs y x)
-    ∙ or-behind (same_name z x) (is_known same_name xs x) (same_name y x)
-
 -- a name that is known is that of a number
 known-of : (most : ℕ) (x : Text) → is_known same_name (numbered_names most) x ≡ true
     → (n : ℕ) × (n < most) × (x ≡ numbered n)
 known-of zero x h = (let wrong : false ≡ true = h in cc)
 known-of (suc k) x h =
-    go (is_known same_name (numbered_names k) x) refl (sym (known-append (numbered_names k) (numbered k) x) ∙ h)
+    go (is_known same_name (numbered_names k) x) refl (sym (known-push same_name (numbered_names k) (numbered k) x) ∙ h)
     (known-of k x)
   where
     go : (v : Bool) → is_known same_name (numbered_names k) x ≡ v
@@ -59,20 +42,6 @@ known-of (suc k) x h =
     go false e h ih =
         let here : same_name (numbered k) x ≡ true = sym (ap (λ v. v || same_name (numbered k) x) e) ∙ h in
         (k, omega arith, sym (same_name-is (numbered k) x here))
-
--- that of each number is
-known-at : (most n : ℕ) → n < most → is_known same_name (numbered_names most) (numbered n) ≡ true
-known-at zero n h = absurd (omega arith)
-known-at (suc k) n h = known-append (numbered_names k) (numbered k) (numbered n) ∙ go (cases_lt n k) (known-at k n)
-  where
-    go : (n < k) ⊎ (k ≤ n) → (n < k → is_known same_name (numbered_names k) (numbered n) ≡ true)
-        → (is_known same_name (numbered_names k) (numbered n) || same_name (numbered k) (numbered n)) ≡ true
-    go (inl l) ih = ap (λ v. v || same_name (numbered k) (numbered n)) (ih l)
-    go (inr l) ih =
-        let same : n ≡ k = omega arith in
-        ap (λ v. is_known same_name (numbered_names k) (numbered n) || v)
-        (ap (λ m. same_name (numbered m) (numbered n)) (sym same) ∙ same_name-itself (numbered n))
-        ∙ or-true (is_known same_name (numbered_names k) (numbered n))
 
 -- no two numbers have one name
 numbered-only : (m n : ℕ) → m < 2 ^ 32 → n < 2 ^ 32 → numbered m ≡ numbered n → m ≡ n
@@ -85,7 +54,7 @@ numbered-only m n small short e =
 pub known-number : (most n : ℕ) (x : Text) → most ≤ 2 ^ 32 → IsNumberedText x n
     → nat_lt n most ≡ is_known same_name (numbered_names most) x
 known-number most n x few h = bool_same (nat_lt n most) (is_known same_name (numbered_names most) x)
-    (λ e. ap (is_known same_name (numbered_names most)) (sym h.text) ∙ known-at most n (ltb-true n most e))
+    (λ e. ap (is_known same_name (numbered_names most)) (sym h.text) ∙ known-numbered most n (ltb-true n most e))
     (λ e. (
     let m = known-of most x e in
     let less : m.0 < most = m.1 in

@@ -207,18 +207,3 @@ module _ (s : Text) where
 pub apart : (n : ℕ) (s t : Text) → bytes_eq (take n s) (take n t) ≡ false → s ≡ t → ⊥
 apart n s t other e =
     let wrong : true ≡ false = sym ((bytes_eq-Decides (take n s) (take n t)).1 (ap (take n) e)) ∙ other in cc
-
--- texts that end with one byte end with the same
-pub last-byte : (x y : Text) (a b : ℕ) → x ++ a ∷ [] ≡ y ++ b ∷ [] → a ≡ b
-last-byte [] [] a b e = cc
-last-byte [] (d ∷ y) a b e = absurd (filled y b (let rest : [] ≡ y ++ b ∷ [] = cc in sym rest))
-  where
-    filled : (y : Text) (b : ℕ) → y ++ b ∷ [] ≡ [] → ⊥
-    filled [] b e = cc
-    filled (d ∷ y) b e = cc
-last-byte (c ∷ x) [] a b e = absurd (filled x a (let rest : x ++ a ∷ [] ≡ [] = cc in rest))
-  where
-    filled : (y : Text) (b : ℕ) → y ++ b ∷ [] ≡ [] → ⊥
-    filled [] b e = cc
-    filled (d ∷ y) b e = cc
-last-byte (c ∷ x) (d ∷ y) a b e = last-byte x y a b (let rest : x ++ a ∷ [] ≡ y ++ b ∷ [] = cc in rest)

@@ -1,14 +1,14 @@
 //! What an instruction does behind its token.
 
-ghost use Rattle.std.specs.Prelude.{◌≡◌, IfOk};
+ghost use Rattle.std.specs.Prelude.{◌≡◌, [], Some, IfOk};
 ghost use Rattle.mp_program.specs.RightForm.{are_ascending};
 ghost use Rattle.mp_line.specs.ActionView.{action_view};
 ghost use Rattle.mp_line.specs.Finds.{Finds, FindsPair};
-ghost use Rattle.mp_line.specs.LineTexts.{IsBlankNumber, are_accepted, AreAcceptedText, IsActionText};
+ghost use Rattle.mp_line.specs.LineTexts.{are_accepted, AreAcceptedText, IsActionText};
 ghost use Rattle.mp_line.specs.Words.{IsBeforeNumbers, is_digit_or_blank};
 
 use crate::numbers::{number, numbers};
-use crate::words::{before, behind};
+use crate::words::{before, split_last};
 use mp_term::Memory;
 use mp_walk::Numbers;
 use std::alloc::Global;
@@ -53,16 +53,6 @@ fn before_numbers(text: &[u8]) -> (&[u8], &[u8])
     (b"".as_slice(), text)
 }
 
-// The number, with a blank before it.
-fn blank_and_number(text: &[u8]) -> Option<u32>
-    ensures { Finds (λ n. n) (IsBlankNumber text.now) result }
-{
-    match behind(b" ", text) {
-        Some(word) => number(word),
-        None => None,
-    }
-}
-
 // There are numbers, and each is less than the next.
 fn are_accepted(numbers: &[u32]) -> bool
     ensures { result ≡ are_accepted numbers.now }
@@ -85,20 +75,33 @@ fn accepted(alloc: Global, text: &[u8]) -> Result<Option<Numbers>, Memory>
     }
 }
 
+// What stands before ` down`, and the number behind it and a blank, with which the text ends.
+fn led(text: &[u8]) -> Option<(&[u8], u32)>
+    ensures { FindsPair (λ p. p.0.now) (λ p. p.1) (λ front n. IsActionText text.now front (Some n) []) result }
+{
+    let Some((front, word)) = split_last(b' ', text) else {
+        return None;
+    };
+    let Some(token) = before(front, b" down") else {
+        return None;
+    };
+    match number(word) {
+        Some(number) => Some((token, number)),
+        None => None,
+    }
+}
+
 // The text of the token before an action, and the action.
 pub(crate) fn split_action(alloc: Global, text: &[u8]) -> Result<Option<(&[u8], Action)>, Memory>
     ensures { IfOk result (λ o. FindsPair (λ p. p.0.now) (λ p. action_view p.1)
         (λ front a. IsActionText text.now front a.0 a.1) o) }
 {
-    let (front, digits) = before_numbers(text);
-    if let Some(token) = before(front, b" down") {
-        let Some(number) = blank_and_number(digits) else {
-            return Ok(None);
-        };
+    if let Some((token, number)) = led(text) {
         let accepts = Numbers::new(alloc);
         let down = Some(number);
         return Ok(Some((token, Action { down, accepts })));
     }
+    let (front, digits) = before_numbers(text);
     let Some(token) = before(front, b" accept") else {
         return Ok(None);
     };

@@ -3,10 +3,10 @@
 ghost use Rattle.std.specs.Prelude.{◌<◌, ◌^◌, ◌-◌, length, IfOk};
 ghost use Rattle.mp_walk.specs.InstrView.{plain_instr};
 ghost use Rattle.mp_line.specs.Finds.{Finds, FindsPair};
-ghost use Rattle.mp_line.specs.LineTexts.{IsInstrBody, IsOverText};
+ghost use Rattle.mp_line.specs.LineTexts.{IsInstrBody, IsInstrText, IsOverText};
 
 use crate::action::split_action;
-use crate::numbers::target;
+use crate::numbers::{behind_number, target};
 use crate::token::token;
 use crate::words::{before, split_last};
 use mp_program::Format;
@@ -31,7 +31,7 @@ fn split_over(text: &[u8]) -> Option<(&[u8], Option<u32>)>
 }
 
 // The instruction whose printed line this is, behind its number and the blank.
-pub(crate) fn instr(
+fn instr(
     alloc: Global,
     sig: &Signature,
     format: Format,
@@ -53,6 +53,26 @@ pub(crate) fn instr(
             over,
             accepts: action.accepts,
         })),
+        None => Ok(None),
+    }
+}
+
+/// The instruction whose text this is, without its line feed, in a program text of the format, where the next
+/// instruction has the number (`IsInstrText` of `specs/LineTexts.antt`). The text has fewer than 4,294,967,295 bytes.
+///
+/// `None`: it is the text of no instruction of the number. `Memory`: memory ran out.
+pub fn read_instr(
+    alloc: Global,
+    sig: &Signature,
+    format: Format,
+    own: u32,
+    text: &[u8],
+) -> Result<Option<Instr>, Memory>
+    requires { length text.now < 2 ^ 32 - 1 }
+    ensures { IfOk result (λ o. Finds plain_instr (IsInstrText sig.now format own text.now) o) }
+{
+    match behind_number(own, text) {
+        Some(rest) => instr(alloc, sig, format, rest),
         None => Ok(None),
     }
 }

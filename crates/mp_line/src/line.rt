@@ -1,16 +1,16 @@
 //! Whole lines.
 
-ghost use Rattle.std.specs.Prelude.{◌≡◌, ◌≤◌, ◌<◌, ◌^◌, ◌-◌, ◌↔◌, ℕ, false, length, IfOk, IsTrue};
+ghost use Rattle.std.specs.Prelude.{◌≡◌, ◌≤◌, ◌<◌, ◌^◌, ◌-◌, ◌++◌, ◌↔◌, ℕ, false, length, codes, decimal, IfOk, IsTrue};
 ghost use Rattle.mp_program.specs.RightForm.{IsDeclaration};
 ghost use Rattle.mp_line.specs.Finds.{Finds};
 ghost use Rattle.mp_line.specs.Lines.{IsLineText, IsCodeLine};
 ghost use Rattle.mp_line.specs.LineView.{line_view};
 ghost use Rattle.mp_line.specs.Words.{begins_with_digit};
 
-use crate::instr::instr;
+use crate::instr::read_instr;
 use crate::names::MAX_KEPT;
 use crate::numbers::{behind_number, target};
-use crate::rule::rule;
+use crate::rule::read_rule;
 use crate::test::test;
 use crate::words::{behind, between, is_same};
 use mp_pattern::Cond;
@@ -47,6 +47,16 @@ fn is_declaration(word: &[u8], text: &[u8]) -> bool
     between(word, text, b";").is_some()
 }
 
+// The line ends the instructions before that of the number.
+fn is_stop(own: u32, text: &[u8]) -> bool
+    ensures { IsTrue result ↔ (text.now ≡ decimal own ++ codes " stop") }
+{
+    match behind_number(own, text) {
+        Some(rest) => is_same(rest, b"stop"),
+        None => false,
+    }
+}
+
 // The line of an instruction, of `begin` or of `stop`, where the next instruction has the number.
 fn code_line(
     alloc: Global,
@@ -65,16 +75,13 @@ fn code_line(
         };
         return Ok(Some(Line::Begin(first)));
     }
-    let Some(rest) = behind_number(own, text) else {
-        return Ok(None);
-    };
-    if is_same(rest, b"stop") {
+    if let Some(instr) = read_instr(alloc, sig, format, own, text)? {
+        return Ok(Some(Line::Instr(instr)));
+    }
+    if is_stop(own, text) {
         return Ok(Some(Line::Stop));
     }
-    match instr(alloc, sig, format, rest)? {
-        Some(instr) => Ok(Some(Line::Instr(instr))),
-        None => Ok(None),
-    }
+    Ok(None)
 }
 
 // A digit comes first.
@@ -99,7 +106,7 @@ fn word_line(
     ensures { (n : ℕ) → 1 ≤ n → n < 2 ^ 32
         → IfOk result (λ o. Finds line_view (IsLineText sig.now format MAX_KEPT n text.now) o) }
 {
-    if let Some(line) = rule(alloc, sig, format, text)? {
+    if let Some(line) = read_rule(alloc, sig, format, text)? {
         return Ok(Some(Line::Rule(line)));
     }
     if let Some(cond) = test(alloc, sig, text)? {

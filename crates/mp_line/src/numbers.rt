@@ -2,7 +2,7 @@
 
 ghost use Rattle.std.specs.Char.{is_ascii_digit};
 ghost use Rattle.std.specs.List.{list_all};
-ghost use Rattle.std.specs.Prelude.{◌≡◌, ◌^◌, ◌++◌, min, codes, decimal, IfOk};
+ghost use Rattle.std.specs.Prelude.{◌≡◌, ◌≤◌, ◌++◌, ◌&&◌, true, false, length, codes, decimal, IfOk, MatchOption};
 ghost use Rattle.mp_build.specs.Names.{number_of};
 ghost use Rattle.mp_program.specs.Reading.{is_numeral};
 ghost use Rattle.mp_line.specs.Finds.{Finds};
@@ -13,30 +13,31 @@ use mp_term::Memory;
 use mp_walk::Numbers;
 use std::alloc::Global;
 
-// The number that decimal digits write, or 2^32 where it is greater; another byte than a digit counts as some digit.
-fn value_of(digits: &[u8]) -> u64
-    ensures { result ≡ min (number_of digits.now) (2 ^ 32) }
+// How many digits a number of 32 bits has at most.
+const MOST_DIGITS: usize = 10;
+
+// The number that decimal digits write, which are few. None: another byte is among them.
+fn value_of(word: &[u8]) -> Option<u64>
+    requires { length word.now ≤ MOST_DIGITS }
+    ensures { MatchOption result (list_all is_ascii_digit word.now ≡ false)
+        (λ v. (list_all is_ascii_digit word.now ≡ true) × (v ≡ number_of word.now)) }
 {
     let mut value: u64 = 0;
-    for digit in digits {
-        value = (10 * value + u64::from(digit.saturating_sub(b'0'))).min(1 << 32);
+    for digit in word {
+        if !digit.is_ascii_digit() {
+            return None;
+        }
+        value = 10 * value + u64::from(digit.saturating_sub(b'0'));
     }
-    value
+    Some(value)
 }
 
-// All bytes are digits.
-fn all_digits(word: &[u8]) -> bool
-    ensures { result ≡ list_all is_ascii_digit word.now }
-{
-    word.iter().all(|byte| byte.is_ascii_digit())
-}
-
-// The word is a number in decimal, however great.
-fn is_numeral(word: &[u8]) -> bool
-    ensures { result ≡ is_numeral word.now }
+// There are digits, and no zero before others.
+fn begins_right(word: &[u8]) -> bool
+    ensures { is_numeral word.now ≡ list_all is_ascii_digit word.now && result }
 {
     match word {
-        [first, rest @ ..] => all_digits(word) && (*first != b'0' || rest.is_empty()),
+        [first, rest @ ..] => *first != b'0' || rest.is_empty(),
         [] => false,
     }
 }
@@ -45,12 +46,19 @@ fn is_numeral(word: &[u8]) -> bool
 pub fn number(word: &[u8]) -> Option<u32>
     ensures { Finds (λ n. n) (IsNumberText word.now) result }
 {
-    let value = value_of(word);
+    if word.len() > MOST_DIGITS {
+        return None;
+    }
+    if !begins_right(word) {
+        return None;
+    }
+    let Some(value) = value_of(word) else {
+        return None;
+    };
     if value > u64::from(u32::MAX) {
         return None;
     }
-    let number = value as u32;
-    if is_numeral(word) { Some(number) } else { None }
+    Some(value as u32)
 }
 
 /// The number of 32 bits of which the word is `v` and the decimal text. `None`: there is none.

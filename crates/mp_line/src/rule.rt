@@ -5,30 +5,42 @@ ghost use Rattle.mp_io.specs.Devices.{Text};
 ghost use Rattle.mp_term.specs.Names.{is_name_byte};
 ghost use Rattle.mp_term.specs.Signature.{Sig};
 ghost use Rattle.mp_program.specs.declared.format.Format.TheVariants.{One, Two};
-ghost use Rattle.mp_program.specs.Form.{untested};
-ghost use Rattle.mp_program.specs.RuleView.{rule_test, rule_line_view};
+ghost use Rattle.mp_program.specs.Form.{untested, tested, spelled};
+ghost use Rattle.mp_program.specs.RuleView.{rule_line_view};
+ghost use Rattle.mp_pattern.specs.CondView.{cond_tree};
 ghost use Rattle.mp_line.specs.Finds.{Finds, FindsPair};
-ghost use Rattle.mp_line.specs.LineTexts.{IsHeadText, IsBeforeTest, IsRuleBody, IsRuleText};
+ghost use Rattle.mp_line.specs.LineTexts.{untested_line, IsHeadText, IsBeforeTest, IsRuleBody, IsRuleText};
 ghost use Rattle.mp_line.specs.Words.{is_letter_or_blank, IsFrontOfWords, has_if, IsSplitAtIf};
 
 use crate::exact::exact_cond;
 use crate::names::{MAX_KEPT, name, names};
 use crate::numbers::number;
 use crate::words::{before, behind, between, first_word, split_last};
+use mp_pattern::Cond;
 use mp_program::{Format, RuleLine, RuleTest};
-use mp_term::{Memory, Signature};
+use mp_term::{Memory, Name, Names, Signature};
 use std::alloc::Global;
 
-// The rule line of the names in the text, without a test.
-fn head(alloc: Global, text: &[u8]) -> Result<Option<RuleLine>, Memory>
-    ensures { IfOk result (λ o. Finds rule_line_view (IsHeadText MAX_KEPT text.now untested) o) }
+// The names in the text: that of a rule, and those of its variables.
+fn head(alloc: Global, text: &[u8]) -> Result<Option<(Name, Names)>, Memory>
+    ensures { IfOk result (λ o. Finds untested_line (IsHeadText MAX_KEPT text.now untested) o) }
 {
     let (word, rest) = first_word(text);
     let Some(name) = name(alloc, word)? else {
         return Ok(None);
     };
     match names(alloc, rest)? {
-        Some(vars) => Ok(Some(RuleLine {
+        Some(vars) => Ok(Some((name, vars))),
+        None => Ok(None),
+    }
+}
+
+// The rule line of the names in the text, without a test.
+fn untested_rule(alloc: Global, text: &[u8]) -> Result<Option<RuleLine>, Memory>
+    ensures { IfOk result (λ o. Finds rule_line_view (IsHeadText MAX_KEPT text.now untested) o) }
+{
+    match head(alloc, text)? {
+        Some((name, vars)) => Ok(Some(RuleLine {
             name,
             vars,
             test: RuleTest::Untested,
@@ -37,27 +49,32 @@ fn head(alloc: Global, text: &[u8]) -> Result<Option<RuleLine>, Memory>
     }
 }
 
-// The same line with the test.
-fn with_test(line: Option<RuleLine>, test: RuleTest) -> Option<RuleLine>
-    ensures { (text : Text) → Finds rule_line_view (IsHeadText MAX_KEPT text untested) line
-        → Finds rule_line_view (IsHeadText MAX_KEPT text (rule_test test)) result }
+// The rule line of the names in the text and of the number of a test.
+fn tested_rule(alloc: Global, text: &[u8], test: u32) -> Result<Option<RuleLine>, Memory>
+    ensures { IfOk result (λ o. Finds rule_line_view (IsHeadText MAX_KEPT text.now (tested test)) o) }
 {
-    match line {
-        Some(line) => Some(RuleLine {
-            name: line.name,
-            vars: line.vars,
-            test,
-        }),
-        None => None,
+    match head(alloc, text)? {
+        Some((name, vars)) => Ok(Some(RuleLine {
+            name,
+            vars,
+            test: RuleTest::Tested(test),
+        })),
+        None => Ok(None),
     }
 }
 
-// The rule line of the names in the text and of the test.
-fn with_names(alloc: Global, text: &[u8], test: RuleTest) -> Result<Option<RuleLine>, Memory>
-    ensures { IfOk result (λ o. Finds rule_line_view (IsHeadText MAX_KEPT text.now (rule_test test)) o) }
+// The rule line of the names in the text and of a condition.
+fn conditional_rule(alloc: Global, text: &[u8], cond: Cond) -> Result<Option<RuleLine>, Memory>
+    ensures { IfOk result (λ o. Finds rule_line_view (IsHeadText MAX_KEPT text.now (spelled (cond_tree cond))) o) }
 {
-    let line = head(alloc, text)?;
-    Ok(with_test(line, test))
+    match head(alloc, text)? {
+        Some((name, vars)) => Ok(Some(RuleLine {
+            name,
+            vars,
+            test: RuleTest::Spelled(cond),
+        })),
+        None => Ok(None),
+    }
 }
 
 // What stands before ` if [`, and the number between that and the end.
@@ -81,10 +98,10 @@ fn numbered_rule(alloc: Global, text: &[u8]) -> Result<Option<RuleLine>, Memory>
     ensures { (sig : Sig) → IfOk result (λ o. Finds rule_line_view (IsRuleBody sig Two MAX_KEPT text.now) o) }
 {
     let Some(tested) = before(text, b"]") else {
-        return with_names(alloc, text, RuleTest::Untested);
+        return untested_rule(alloc, text);
     };
     match split_number(tested) {
-        Some((front, test)) => with_names(alloc, front, RuleTest::Tested(test)),
+        Some((front, test)) => tested_rule(alloc, front, test),
         None => Ok(None),
     }
 }
@@ -140,20 +157,24 @@ fn spelled_rule(alloc: Global, sig: &Signature, text: &[u8]) -> Result<Option<Ru
 {
     let (words, rest) = front_of_words(text);
     if rest.is_empty() {
-        return with_names(alloc, text, RuleTest::Untested);
+        return untested_rule(alloc, text);
     }
     let Some(front) = before_last_if(words) else {
         return Ok(None);
     };
     let spelling = &text[front.len() + 4..];
     match exact_cond(alloc, sig, spelling)? {
-        Some(cond) => with_names(alloc, front, RuleTest::Spelled(cond)),
+        Some(cond) => conditional_rule(alloc, front, cond),
         None => Ok(None),
     }
 }
 
-// The rule line of the format whose printed text this is.
-pub(crate) fn rule(
+/// The rule line whose text this is, without its line feed, in a program text of the format (`IsRuleText` of
+/// `specs/LineTexts.antt`). The text has fewer than 4,294,967,295 bytes. The names of `MAX_KEPT` variables are kept at
+/// most.
+///
+/// `None`: it is the text of no rule line. `Memory`: memory ran out.
+pub fn read_rule(
     alloc: Global,
     sig: &Signature,
     format: Format,

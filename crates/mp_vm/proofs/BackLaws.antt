@@ -3,16 +3,19 @@ use Rattle.std.proofs.Common.{◌≡◌, ℕ, suc, List, [], ◌∷◌, ◌++◌
 use Rattle.std.proofs.Common.{◌⊎◌, inl, inr, subst, arith, length-append}
 use Rattle.std.specs.Prelude.{◌≢◌, Option, Some, None, IsSome, codes, decimal}
 use Rattle.std.specs.List.{AllByRecursion}
+use Rattle.std.proofs.lemmas.List.{same_from_push}
 use Rattle.mp_io.specs.Devices.{Text}
 use Rattle.mp_term.specs.Signature.{Sig}
 use Rattle.mp_term.proofs.ListLaws.{all-split}
 use Rattle.mp_pattern.specs.CondTree as cond
 use Rattle.mp_walk.specs.Instrs.{Instr}
+use Rattle.mp_build.proofs.Faultless.{nil-both, some-behind}
 use Rattle.mp_program.specs.declared.format.Format.{Format}
 use Rattle.mp_program.specs.declared.format.Format.TheVariants.{One, Two}
 use Rattle.mp_program.specs.Form.{format_number, RuleLine, Form}
 use Rattle.mp_program.specs.FormText as text
 use Rattle.mp_program.specs.RightForm.{IsDeclaration, IsRightTest, IsRightRule, IsRightInstr}
+use Rattle.mp_program.proofs.ListLaws.{rest-same}
 use Rattle.mp_line.specs.Lines.{Line, op_line, kind_line, test_line, rule_line, code_line, begin_line, instr_line}
 use Rattle.mp_line.specs.Lines.{stop_line}
 use Rattle.mp_vm.specs.declared.stage.Stage.{Stage}
@@ -21,7 +24,7 @@ use Rattle.mp_vm.specs.Machine.{State, IsBeforeBegin, IsAtStage, begin_text, sta
 use Rattle.mp_vm.specs.Machine.{may_follow, MayCome, IsNextText, step}
 use Rattle.mp_vm.proofs.MachineLaws.{Parts, parts-of, behind-of, state-of, behind-before, behind-begin}
 use Rattle.mp_vm.proofs.MachineLaws.{At, step-state}
-use Rattle.mp_vm.proofs.FrontLaws.{heads, tails, front-nil}
+use Rattle.mp_vm.proofs.FrontLaws.{front-nil}
 
 -- ---- lists
 
@@ -43,26 +46,10 @@ nil-or : {X : Type 0} (xs : List X) → (xs ≡ []) ⊎ (xs ≢ [])
 nil-or [] = inl refl
 nil-or (x ∷ xs) = inr (λ e. cc)
 
--- an item behind a list is the only item where the list is empty
-behind-none : {X : Type 0} (a : List X) (x : X) → [] ≡ a ++ x ∷ [] → ⊥
-behind-none [] x e = cc
-behind-none (y ∷ a) x e = cc
-
-ends-same : {X : Type 0} (a b : List X) (x y : X) → a ++ x ∷ [] ≡ b ++ y ∷ [] → (a ≡ b) × (x ≡ y)
-ends-same [] [] x y e = (refl, heads x y [] [] e)
-ends-same [] (z ∷ b) x y e = absurd (behind-none b y (tails x z [] (b ++ y ∷ []) e))
-ends-same (z ∷ a) [] x y e = absurd (behind-none a x (sym (tails z y (a ++ x ∷ []) [] e)))
-ends-same (z ∷ a) (w ∷ b) x y e =
-    let h = ends-same a b x y (tails z w (a ++ x ∷ []) (b ++ y ∷ []) e) in
-    (ap (λ v. v ∷ a) (heads z w (a ++ x ∷ []) (b ++ y ∷ []) e) ∙ ap (λ l. w ∷ l) h.0, h.1)
-
 -- one item is the last one with nothing before it
 single : {X : Type 0} (h : X) (rest a : List X) (x : X) → rest ≡ [] → h ∷ rest ≡ a ++ x ∷ [] → a ≡ []
 single h rest [] x n e = refl
-single h rest (y ∷ a) x n e = absurd (behind-none a x (sym n ∙ tails h y rest (a ++ x ∷ []) e))
-
-nil-behind : {X : Type 0} (a r : List X) → a ≡ [] → r ≡ [] → a ++ r ≡ []
-nil-behind a r e n = ap (λ l. l ++ r) e ∙ n
+single h rest (y ∷ a) x n e = absurd (some-behind a x (sym (rest-same h y rest (a ++ x ∷ []) e) ∙ n))
 
 -- the format of a text with tests
 two-format : (format : Format) → (format ≡ One → ⊥) → format ≡ Two
@@ -137,7 +124,7 @@ module _ (sig : Sig) where
       → IsState sig s → MayCome s l → IsNextText sig s.form own l → z ≡ step own l s → Back read line z
   back read line own z s l h is comes next same =
       let onward = step-state sig s l own is comes next in
-      let both = ends-same (state_lines sig s) read own line
+      let both = same_from_push (state_lines sig s) read own line
       (sym onward.lines ∙ ap (state_lines sig) (sym same) ∙ h.lines) in
       record {
         before = s;
@@ -221,8 +208,8 @@ module _ (sig : Sig) where
         by_ops : (f.ops ≡ []) ⊎ (f.ops ≢ []) → Back read line (At sig Ops f)
         by_ops (inl e) =
             let at = h.is.at in
-            let none = nil-behind f.ops _ e (nil-behind f.kinds _ at.0 (nil-behind (map (text.test_line sig) f.tests) _
-            (ap (map (text.test_line sig)) at.1) (nil-behind (map (text.rule_line sig) f.rules) []
+            let none = nil-both f.ops _ e (nil-both f.kinds _ at.0 (nil-both (map (text.test_line sig) f.tests) _
+            (ap (map (text.test_line sig)) at.1) (nil-both (map (text.rule_line sig) f.rules) []
             (ap (map (text.rule_line sig)) at.2) refl))) in
             absurd (some (single (codes "matchpy program " ++ decimal (format_number f.format)) _ read line none
             h.lines))

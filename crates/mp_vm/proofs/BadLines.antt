@@ -2,6 +2,7 @@
 use Rattle.std.proofs.Common.{◌≡◌, ℕ, suc, List, [], ◌∷◌, ◌++◌, length, take, refl, ap, sym, ◌∙◌, subst, arith}
 use Rattle.std.proofs.Common.{length-append, append_assoc}
 use Rattle.std.specs.Prelude.{◌≢◌, codes, decimal}
+use Rattle.std.proofs.Math.Seq.{take-length, take-append_seam}
 use Rattle.mp_io.specs.Devices.{Text}
 use Rattle.mp_term.specs.Signature.{Sig}
 use Rattle.mp_program.specs.declared.format.Format.{Format}
@@ -9,17 +10,13 @@ use Rattle.mp_program.specs.declared.format.Format.TheVariants.{Two}
 use Rattle.mp_program.specs.Form.{format_number, Form}
 use Rattle.mp_program.specs.FormText.{lines_of, lines_text, form_lines}
 use Rattle.mp_program.specs.Reading.{IsFormOf, Begins, IsBadLine}
+use Rattle.mp_program.proofs.ListLaws.{first-same}
 use Rattle.mp_line.specs.Lines.{Line}
 use Rattle.mp_vm.specs.declared.stage.Stage.TheVariants.{Stop}
 use Rattle.mp_vm.specs.Machine.{State, start, MayCome, IsNextText}
 use Rattle.mp_vm.proofs.MachineLaws.{start-state, state-begins}
-use Rattle.mp_vm.proofs.FrontLaws.{heads}
 use Rattle.mp_vm.specs.Kept.{IsOnlyState}
 use Rattle.mp_vm.proofs.ReadingLaws.{no_next, only-begins, not_whole-form}
-
-pub take-front : {X : Type 0} (a b : List X) → take (length a) (a ++ b) ≡ a
-take-front [] b = refl
-take-front (x ∷ a) b = ap (λ l. x ∷ l) (take-front a b)
 
 pub take-further : {X : Type 0} (a b : List X) (x : X) → take (suc (length a)) (a ++ x ∷ b) ≡ a ++ x ∷ []
 take-further [] b x = refl
@@ -39,7 +36,7 @@ module _ (sig : Sig) (most : ℕ) where
     before = length read;
     number = refl;
     within = (let n = ap length e in omega (arith, n, length-append read (line ∷ rest)));
-    begins = subst (Begins sig) (sym (ap (take (length read)) e ∙ take-front read (line ∷ rest)))
+    begins = subst (Begins sig) (sym (ap (take (length read)) e ∙ take-append_seam read (line ∷ rest)))
         (only-begins sig most read s h);
     stops = λ _ b. no_next sig most read line s some h refused
         (subst (Begins sig) (ap (take (suc (length read))) e ∙ take-further read rest line) b);
@@ -54,14 +51,10 @@ module _ (sig : Sig) (most : ℕ) where
     before = length (lines_of bytes);
     number = refl;
     within = omega arith;
-    begins = subst (Begins sig) (sym (take-all (lines_of bytes))) (only-begins sig most (lines_of bytes) s h);
+    begins = subst (Begins sig) (sym (take-length (lines_of bytes))) (only-begins sig most (lines_of bytes) s h);
     stops = λ more _. absurd (omega (arith, more));
     formless = formless;
   }
-    where
-      take-all : {X : Type 0} (a : List X) → take (length a) a ≡ a
-      take-all [] = refl
-      take-all (x ∷ a) = ap (λ l. x ∷ l) (take-all a)
 
   pub bad-open : (bytes : Text) (s : State) → IsOnlyState sig most (lines_of bytes) s → (s.stage ≡ Stop → ⊥)
       → IsBadLine sig bytes (suc (length (lines_of bytes)))
@@ -93,7 +86,7 @@ module _ (sig : Sig) (most : ℕ) where
     where
       first : (f : Form) (more : List Text) → form_lines sig f ≡ line ∷ more
           → codes "matchpy program " ++ decimal (format_number f.format) ≡ line
-      first f more e = heads _ line _ more e
+      first f more e = first-same _ line _ more e
 
   -- a missing one is bad too
   pub bad-empty : (bytes : Text) → lines_of bytes ≡ [] → IsBadLine sig bytes 1

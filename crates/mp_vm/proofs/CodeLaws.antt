@@ -1,7 +1,7 @@
 -- The check of a program's instructions against their faults.
-use Rattle.std.proofs.Common.{◌≡◌, ℕ, zero, suc, ◌+◌, ◌<◌, ◌≤◌, List, [], ◌∷◌, ◌++◌, map, length, Bool, true, false}
+use Rattle.std.proofs.Common.{◌≡◌, ℕ, suc, ◌+◌, ◌<◌, ◌≤◌, List, [], ◌∷◌, ◌++◌, map, length, Bool, true, false}
 use Rattle.std.proofs.Common.{refl, ap, sym, ◌∙◌, inl, inr, subst, arith, drop, reverse, append-nil, append_assoc}
-use Rattle.std.proofs.Common.{length-append}
+use Rattle.std.proofs.Common.{length-append, add-one}
 use Rattle.std.specs.Prelude.{◌≢◌, ◌||◌, not, Option, Some, None, is_some, flat_map, option_to_list, slice_get}
 use Rattle.std.specs.Prelude.{◌-◌, ◌^◌, Result, IsErrAnd}
 use Rattle.std.specs.List.{list_all}
@@ -39,6 +39,7 @@ use Rattle.mp_vm.specs.declared.look.Look.{Look}
 use Rattle.mp_vm.specs.declared.needs.Needs.{Needs}
 use Rattle.mp_vm.specs.declared.ways.Way.{Way}
 use Rattle.mp_vm.specs.declared.ways.Way.TheVariants.{Unknown, One, Several}
+use Rattle.mp_vm.proofs.NameChecks.{rest-at}
 use Rattle.mp_vm.proofs.CheckedLaws.{first_fault-before, checks-passed}
 use Rattle.mp_vm.proofs.LeadLaws.{befores-append}
 use Rattle.mp_vm.proofs.NeedLaws.{meets-all}
@@ -325,12 +326,8 @@ module _ (tests : List Cond) (rules : List ProgramRule) (s : Setting) (line done
       ++ code_faults s.sig.now s.most tests rules (suc (length (setting_code tests rules s))) (suc (suc (line + done)))
       (suc (suc done)) (leads_after ls (suc done) i) (drop (suc done) (setting_code tests rules s))
   behind-split i at = ap (code_faults s.sig.now s.most tests rules (suc (length (setting_code tests rules s)))
-      (suc (line + done)) (suc done) ls) (drop-at (setting_code tests rules s) done i at)
-    where
-      drop-at : (xs : List Instr) (k : ℕ) (x : Instr) → slice_get xs k ≡ Some x → drop k xs ≡ x ∷ drop (suc k) xs
-      drop-at [] k x e = cc
-      drop-at (y ∷ xs) zero x e = ap (λ z. z ∷ xs) (let both : Some y ≡ Some x = e in let q : y ≡ x = cc in q)
-      drop-at (y ∷ xs) (suc k) x e = drop-at xs k x e
+      (suc (line + done)) (suc done) ls) (rest-at (setting_code tests rules s) done i at
+      ∙ ap (λ k. i ∷ drop k (setting_code tests rules s)) (add-one done))
 
   -- where it has none, those of the others are left
   pub behind-next : (n : ℕ) (i : Instr) → n ≡ suc done → slice_get (setting_code tests rules s) done ≡ Some i

@@ -5,8 +5,7 @@ use Rattle.std.specs.Prelude.{◌^◌, ⊤, Option, Some, None, is_some, slice_g
 use Rattle.std.specs.List.{AllByRecursion}
 use Rattle.std.proofs.lemmas.Bool.{and_from, eqb-true}
 use Rattle.std.proofs.lemmas.Fmt.{decimal_injective}
-use Rattle.std.proofs.lemmas.Grind.{flat_map-append}
-use Rattle.std.proofs.lemmas.List.{append_assoc, append-nil, map-append}
+use Rattle.std.proofs.lemmas.List.{append_assoc, append-nil}
 use Rattle.mp_term.specs.Listing.{In}
 use Rattle.mp_term.specs.Signature.{Sig, is_comm}
 use Rattle.mp_pattern.specs.declared.limits.TheConstants.{MAX_VARIABLES}
@@ -25,8 +24,9 @@ use Rattle.mp_walk.specs.Walkable.{Path, numbered_names}
 use Rattle.mp_walk.proofs.NumberedNames.{NamesIn, number_in-less, numbered-number_in, renamed-itself}
 use Rattle.mp_walk.proofs.PathLaws.{path_nodes-append}
 use Rattle.mp_program.specs.RightForm.{is_comm_rooted}
-use Rattle.mp_program.specs.TokenPaths.{is_loose_token, token_uses, path_uses, open_after, open_along}
-use Rattle.mp_vm.proofs.UseLaws.{all_bare, bare, root_uses, root_uses-append, root_uses-subpatterns}
+use Rattle.mp_program.specs.TokenPaths.{is_loose_token, path_uses, open_after, open_along}
+use Rattle.mp_program.proofs.PathLaws.{all_bare, uses-append}
+use Rattle.mp_vm.proofs.UseLaws.{root_uses, root_uses-append, root_uses-subpatterns}
 
 -- something is open before each token
 abbrev pub StaysOpen : List ℕ → Path → Type 0
@@ -74,10 +74,6 @@ leaves-open fs (j ∷ ks) k g gs h e = by_open (open_after fs j) h e (λ hs l d.
         → elim o as (λ _. Type 0) [ None ↦ ⊥ | Some hs ↦ (hs ≢ []) × LeavesOpen hs (ks ++ k ∷ []) ]
     by_open None h e f = absurd h
     by_open (Some hs) h e f = (h.0, f hs h.1 e)
-
--- the occurrences in paths one after the other, and in one token
-pub uses-append : (ks js : Path) → all_bare (path_uses (ks ++ js)) ≡ all_bare (path_uses ks) ++ all_bare (path_uses js)
-uses-append ks js = ap all_bare (flat_map-append token_uses ks js) ∙ map-append bare (path_uses ks) (path_uses js)
 
 module _ (sig : Sig) (vs : List (List ℕ)) (few : length vs ≤ MAX_VARIABLES)
     (names : vs ≡ numbered_names (length vs)) where

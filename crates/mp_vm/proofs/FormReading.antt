@@ -6,8 +6,11 @@ use Rattle.std.specs.Prelude.{◌^◌, ◌≢◌, min, nat_eq, codes, decimal, E
 use Rattle.std.specs.Fmt.{digits}
 use Rattle.std.proofs.lemmas.Bool.{eqb-true}
 use Rattle.std.proofs.lemmas.List.{append_cancel_left}
+use Rattle.std.proofs.Math.Seq.{take-append_seam}
+use Rattle.std.proofs.lemmas.List.{nil_from_length}
 use Rattle.mp_io.specs.Devices.{Text}
 use Rattle.mp_term.specs.Signature.{Sig}
+use Rattle.mp_build.proofs.Faultless.{some-behind}
 use Rattle.mp_program.specs.declared.fault.ProgramError.{ProgramError}
 use Rattle.mp_program.specs.declared.fault.ProgramError.TheVariants.{WrongVersion, BadLine, BackwardTarget}
 use Rattle.mp_program.specs.declared.fault.ProgramError.TheVariants.{BadReference, Unbalanced, Memory}
@@ -18,6 +21,7 @@ use Rattle.mp_program.specs.FormText.{lines_of, lines_text}
 use Rattle.mp_program.specs.Reading as reading
 use Rattle.mp_program.specs.Reading.{is_numeral, IsFormOf, Begins, IsOtherVersion, IsBadLine}
 use Rattle.mp_program.proofs.LineLaws.{lines_text-append}
+use Rattle.mp_program.proofs.ListLaws.{first-same}
 use Rattle.mp_vm.specs.declared.draft.Draft.{Draft}
 use Rattle.mp_vm.specs.declared.stage.Stage.TheVariants.{Stop}
 use Rattle.mp_vm.specs.Machine.{State, IsStateOf, start}
@@ -25,10 +29,9 @@ use Rattle.mp_vm.specs.Kept.{kept_state, IsOnlyState}
 use Rattle.mp_vm.specs.DraftView.{IsDraftOf, HasRead}
 use Rattle.mp_vm.specs.FirstLine.{IsFirstLine}
 use Rattle.mp_vm.specs.FormRead.{first_line, NamesOther, NamesNone, IsNamed, IsDraftOfBytes, IsFormFault}
-use Rattle.mp_vm.proofs.MachineLaws.{pushed, At, form-state}
-use Rattle.mp_vm.proofs.FrontLaws.{heads}
+use Rattle.mp_vm.proofs.MachineLaws.{At, form-state}
 use Rattle.mp_vm.proofs.ReadingLaws.{start-only, whole-form, only-begins}
-use Rattle.mp_vm.proofs.BadLines.{take-front, take-further, form-begins, bad-open, bad-unended, bad-first, bad-empty}
+use Rattle.mp_vm.proofs.BadLines.{take-further, form-begins, bad-open, bad-unended, bad-first, bad-empty}
 use Rattle.mp_vm.proofs.DraftLaws.{length-lines_text-append, length-lines_text-cons, lines-within}
 
 pub empty-text : (t : Text) → nat_eq (length t) 0 ≡ true → t ≡ []
@@ -62,7 +65,7 @@ not-other Two number e one two =
 format-version : (bytes : Text) (f : Format) (rest : List Text) → lines_of bytes ≡ first_line f ∷ rest
     → IsOtherVersion bytes → ⊥
 format-version bytes f rest e v =
-    not-other f v.number (heads _ (codes "matchpy program " ++ v.number) rest v.rest (sym e ∙ v.first)) v.not_one
+    not-other f v.number (first-same _ (codes "matchpy program " ++ v.number) rest v.rest (sym e ∙ v.first)) v.not_one
     v.not_two
 
 module _ (sig : Sig) where
@@ -99,7 +102,7 @@ module _ (sig : Sig) where
       (λ f e. none (decimal (format_number f)) e (numeral-format f)) in
       record {
         fault = reading.line 1
-            (λ v. none v.number (heads line _ (lines_of rest) v.rest (sym h.lines ∙ v.first)) v.numeral) bad refl;
+            (λ v. none v.number (first-same line _ (lines_of rest) v.rest (sym h.lines ∙ v.first)) v.numeral) bad refl;
         formless = bad.formless;
       }
 
@@ -178,7 +181,7 @@ module _ (sig : Sig) where
           → IsReading new behind line
       reading-next new line few has e = record {
         read = h.read ++ text ∷ [];
-        some = pushed h.read text;
+        some = some-behind h.read text;
         has = has;
         parts = next-parts;
         lines = next-lines;
@@ -197,7 +200,7 @@ module _ (sig : Sig) where
             number = refl;
             within = (let n = ap length e in omega (arith, n, length-append h.read (text ∷ lines_of behind)));
             begins = subst (Begins sig)
-                (sym (ap (take (length h.read)) e ∙ take-front h.read (text ∷ lines_of behind)))
+                (sym (ap (take (length h.read)) e ∙ take-append_seam h.read (text ∷ lines_of behind)))
                 (only-begins sig most h.read h.has.state h.has.only);
             stops = λ _ b. refused (subst (Begins sig) (ap (take (suc (length h.read))) e
                 ∙ take-further h.read (lines_of behind) text) b);
@@ -247,14 +250,10 @@ module _ (sig : Sig) where
 
       -- the last one has no line feed
       pub reading-unended : (rest ≡ [] → ⊥) → IsFormFault sig bytes (BadLine number)
-      reading-unended some = end-fault (bad-unended sig most bytes h.has.state all-only (λ e. some (empty rest
+      reading-unended some = end-fault (bad-unended sig most bytes h.has.state all-only (λ e. some (nil_from_length rest
           (let w = sym (ap lines_text all-read) ∙ e ∙ h.parts in
           let n = ap length w in
           let m = length-append (lines_text h.read) rest in omega (arith, n, m)))))
-        where
-          empty : (t : Text) → length t ≡ 0 → t ≡ []
-          empty [] e = refl
-          empty (c ∷ t) e = absurd (omega (arith, e))
 
       -- they are a form
       pub reading-whole : d.stage ≡ Stop → rest ≡ [] → IsDraftOfBytes sig most bytes d

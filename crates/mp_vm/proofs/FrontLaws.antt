@@ -8,12 +8,14 @@ use Rattle.mp_term.specs.Signature.{Sig}
 use Rattle.mp_term.proofs.ListLaws.{all-split}
 use Rattle.mp_pattern.specs.CondTree as cond
 use Rattle.mp_walk.specs.Instrs.{Instr}
+use Rattle.mp_build.proofs.Faultless.{nil-append}
 use Rattle.mp_program.specs.declared.format.Format.{Format}
 use Rattle.mp_program.specs.Form.{format_number, RuleLine, Form}
 use Rattle.mp_program.specs.FormText as text
 use Rattle.mp_program.specs.FormText.{instr_lines, code_lines}
 use Rattle.mp_program.specs.RightForm.{IsDeclaration, IsRightTest, IsRightRule, IsRightInstr, IsRightForm}
 use Rattle.mp_program.specs.Reading.{Begins}
+use Rattle.mp_program.proofs.ListLaws.{first-same, rest-same}
 use Rattle.mp_vm.specs.declared.stage.Stage.{Stage}
 use Rattle.mp_vm.specs.declared.stage.Stage.TheVariants.{Ops, Kinds, Tests, Rules, Code, Begin, Instrs, Stop}
 use Rattle.mp_vm.specs.Machine.{State, IsAtStage, completed_code, begin_text, begun_lines, IsStateOf}
@@ -26,16 +28,10 @@ data Cut {X : Type 0} (a b p r : List X) : Type 0 where
   within : (x : List X) → a ≡ p ++ x → Cut a b p r
   beyond : (y : List X) → p ≡ a ++ y → b ≡ y ++ r → Cut a b p r
 
-pub heads : {X : Type 0} (x y : X) (a b : List X) → x ∷ a ≡ y ∷ b → x ≡ y
-heads x y a b e = cc
-
-pub tails : {X : Type 0} (x y : X) (a b : List X) → x ∷ a ≡ y ∷ b → a ≡ b
-tails x y a b e = cc
-
 cut : {X : Type 0} (a b p r : List X) → a ++ b ≡ p ++ r → Cut a b p r
 cut [] b p r e = beyond p refl e
 cut (x ∷ a) b [] r e = within (x ∷ a) refl
-cut (x ∷ a) b (y ∷ p) r e = one (heads x y (a ++ b) (p ++ r) e) (cut a b p r (tails x y (a ++ b) (p ++ r) e))
+cut (x ∷ a) b (y ∷ p) r e = one (first-same x y (a ++ b) (p ++ r) e) (cut a b p r (rest-same x y (a ++ b) (p ++ r) e))
   where
     one : x ≡ y → Cut a b p r → Cut (x ∷ a) b (y ∷ p) r
     one same (within z h) = within z (ap (λ w. w ∷ a) same ∙ ap (λ l. y ∷ l) h)
@@ -52,12 +48,12 @@ map-cut : {X Y : Type 0} (f : X → Y) (xs : List X) (p r : List Y) → map f xs
 map-cut f xs [] r e = record { front = []; rest = xs; split = refl; images = refl }
 map-cut f [] (y ∷ p) r e = cc
 map-cut f (x ∷ xs) (y ∷ p) r e =
-    let h = map-cut f xs p r (tails (f x) y (map f xs) (p ++ r) e) in
+    let h = map-cut f xs p r (rest-same (f x) y (map f xs) (p ++ r) e) in
     record {
       front = x ∷ h.front;
       rest = h.rest;
       split = ap (λ l. x ∷ l) h.split;
-      images = ap (λ w. w ∷ map f h.front) (heads (f x) y (map f xs) (p ++ r) e) ∙ ap (λ l. y ∷ l) h.images;
+      images = ap (λ w. w ∷ map f h.front) (first-same (f x) y (map f xs) (p ++ r) e) ∙ ap (λ l. y ∷ l) h.images;
     }
 
 -- a front has no more items
@@ -149,12 +145,12 @@ module _ (sig : Sig) where
   instrs-cut n (i ∷ is) (y ∷ p) r e =
       let first = text.instr_line sig n i in
       let more = instr_lines sig (suc n) is in
-      let h = instrs-cut (suc n) is p r (tails first y more (p ++ r) e) in
+      let h = instrs-cut (suc n) is p r (rest-same first y more (p ++ r) e) in
       record {
         front = i ∷ h.front;
         rest = h.rest;
         split = ap (λ l. i ∷ l) h.split;
-        lines = ap (λ w. w ∷ instr_lines sig (suc n) h.front) (heads first y more (p ++ r) e)
+        lines = ap (λ w. w ∷ instr_lines sig (suc n) h.front) (first-same first y more (p ++ r) e)
             ∙ ap (λ l. y ∷ l) h.lines;
       }
 
@@ -242,8 +238,8 @@ module _ (sig : Sig) where
         instrs-state d u (instrs-cut 1 f.code (d ∷ u) []
         (sym (append-nil (instr_lines sig 1 f.code)) ∙ sym e ∙ sym (append-nil (d ∷ u))))
     by_code d u r (beyond (s ∷ y) e k) =
-        let same = heads stop_text s [] (y ++ r) k in
-        let none = ended y r (tails stop_text s [] (y ++ r) k) in
+        let same = first-same stop_text s [] (y ++ r) k in
+        let none = (nil-append y r (sym (rest-same stop_text s [] (y ++ r) k))).0 in
         let all = e ∙ ap (λ l. instr_lines sig 1 f.code ++ l)
         (ap (λ w. w ∷ y) (sym same) ∙ ap (λ l. stop_text ∷ l) none) in
         code-state Stop f.begin f.code (codes "code" ∷ begin_text f.begin ∷ (d ∷ u)) tt (record {
@@ -252,10 +248,6 @@ module _ (sig : Sig) where
           few = h.few_instrs;
           code = h.code;
         }) (ap (λ l. codes "code" ∷ begin_text f.begin ∷ l) (sym all))
-      where
-        ended : (y r : List Text) → [] ≡ y ++ r → y ≡ []
-        ended [] r e = refl
-        ended (x ∷ y) r e = cc
 
     by_tail : (v r : List Text) → codes "code" ∷ begin_text f.begin ∷ code_lines sig 1 f.code ≡ v ++ r
         → Reached (through v)
@@ -264,19 +256,19 @@ module _ (sig : Sig) where
         (ap (λ l. first_line f.format ∷ (f.ops ++ (f.kinds ++ (tests_of ++ l)))) (sym (append-nil rules_of)))
     by_tail (c ∷ []) r k =
         code-state Code None [] (c ∷ []) (refl, refl) (behind-before sig f.format Code None [] refl refl)
-        (ap (λ w. w ∷ []) (heads (codes "code") c (begin_text f.begin ∷ code_lines sig 1 f.code) r k))
+        (ap (λ w. w ∷ []) (first-same (codes "code") c (begin_text f.begin ∷ code_lines sig 1 f.code) r k))
     by_tail (c ∷ b ∷ []) r k =
         let rest = code_lines sig 1 f.code in
-        let more = tails (codes "code") c (begin_text f.begin ∷ rest) (b ∷ r) k in
+        let more = rest-same (codes "code") c (begin_text f.begin ∷ rest) (b ∷ r) k in
         code-state Begin f.begin [] (c ∷ b ∷ []) refl (behind-begin sig f.format f.begin [] h.begin refl)
-        (ap (λ w. w ∷ begin_text f.begin ∷ []) (heads (codes "code") c (begin_text f.begin ∷ rest) (b ∷ r) k)
-        ∙ ap (λ w. c ∷ w ∷ []) (heads (begin_text f.begin) b rest r more))
+        (ap (λ w. w ∷ begin_text f.begin ∷ []) (first-same (codes "code") c (begin_text f.begin ∷ rest) (b ∷ r) k)
+        ∙ ap (λ w. c ∷ w ∷ []) (first-same (begin_text f.begin) b rest r more))
     by_tail (c ∷ b ∷ (d ∷ u)) r k =
         let rest = code_lines sig 1 f.code in
-        let more = tails (codes "code") c (begin_text f.begin ∷ rest) (b ∷ ((d ∷ u) ++ r)) k in
-        let last = tails (begin_text f.begin) b rest ((d ∷ u) ++ r) more in
-        let head = heads (codes "code") c (begin_text f.begin ∷ rest) (b ∷ ((d ∷ u) ++ r)) k in
-        let next = heads (begin_text f.begin) b rest ((d ∷ u) ++ r) more in
+        let more = rest-same (codes "code") c (begin_text f.begin ∷ rest) (b ∷ ((d ∷ u) ++ r)) k in
+        let last = rest-same (begin_text f.begin) b rest ((d ∷ u) ++ r) more in
+        let head = first-same (codes "code") c (begin_text f.begin ∷ rest) (b ∷ ((d ∷ u) ++ r)) k in
+        let next = first-same (begin_text f.begin) b rest ((d ∷ u) ++ r) more in
         subst (λ l. Reached (through l)) (ap (λ w. w ∷ begin_text f.begin ∷ (d ∷ u)) head
         ∙ ap (λ w. c ∷ w ∷ (d ∷ u)) next)
         (by_code d u r (cut (instr_lines sig 1 f.code) (stop_text ∷ []) (d ∷ u) r last))
@@ -330,6 +322,6 @@ module _ (sig : Sig) where
       let f = b.form in
       let rest = f.ops ++ (f.kinds ++ (map (text.test_line sig) f.tests ++ (map (text.rule_line sig) f.rules
       ++ (codes "code" ∷ begin_text f.begin ∷ code_lines sig 1 f.code)))) in
-      let same = heads (first_line f.format) l rest (ls ++ b.rest) b.split in
-      let more = tails (first_line f.format) l rest (ls ++ b.rest) b.split in
+      let same = first-same (first_line f.format) l rest (ls ++ b.rest) b.split in
+      let more = rest-same (first_line f.format) l rest (ls ++ b.rest) b.split in
       subst (λ w. Reached (w ∷ ls)) same (by_ops f b.right ls b.rest (cut f.ops _ ls b.rest more))

@@ -22,12 +22,9 @@ use Rattle.mp_program.specs.Program.{ProgramRule}
 use Rattle.mp_program.specs.FormFaults.{fault_if, target_faults, way_faults, code_faults}
 use Rattle.mp_program.specs.Leads.{Lead, lead, leads, befores, leads_after}
 use Rattle.mp_program.specs.TokenPaths.{is_right_path, open_along, is_balanced, may_accept}
+use Rattle.mp_program.proofs.FaultLaws.{nil-fault_if}
 
 -- ---- tests
-
-fault-none : (b : Bool) (f : ProgramError) → fault_if b f ≡ [] → b ≡ false
-fault-none true f h = cc
-fault-none false f h = refl
 
 any-none : {X : Type 0} (p : X → Bool) (xs : List X) → list_any p xs ≡ false → (x : X) → In x xs → p x ≡ false
 any-none p [] h x i = absurd i
@@ -39,8 +36,8 @@ pub target-bounds : (stop line n : ℕ) (ts : List ℕ) → target_faults stop l
     → (n < t) × (t < stop)
 target-bounds stop line n ts h t i =
     let p = nil-append (fault_if (list_any (λ u. nat_le u n) ts) _) (fault_if (list_any (nat_le stop) ts) _) h in (
-      leb-false t n (any-none (λ u. nat_le u n) ts (fault-none _ _ p.0) t i),
-      leb-false stop t (any-none (nat_le stop) ts (fault-none _ _ p.1) t i),
+      leb-false t n (any-none (λ u. nat_le u n) ts (nil-fault_if _ _ p.0) t i),
+      leb-false stop t (any-none (nat_le stop) ts (nil-fault_if _ _ p.1) t i),
     )
 
 -- ---- ways
@@ -121,14 +118,14 @@ module _ (sig : Sig) (most : ℕ) (tests : List Cond) (rules : List ProgramRule)
           let q = nil-append (fault_if (not (is_right_path sig most ks)
           || not (list_all (may_accept tests rules ks) i.accepts)) _) _ k in
           let r = or_parts (not (is_right_path sig most ks)) (not (list_all (may_accept tests rules ks) i.accepts))
-          (fault-none _ _ q.0) in
+          (nil-fault_if _ _ q.0) in
           record {
             before = b;
             one = e;
             bounds = bounds;
             right = not-false (is_right_path sig most ks) r.0;
             accepted = not-false (list_all (may_accept tests rules ks) i.accepts) r.1;
-            balanced = not-false (is_balanced (open_along [] ks) (is_some i.down)) (fault-none _ _ q.1);
+            balanced = not-false (is_balanced (open_along [] ks) (is_some i.down)) (nil-fault_if _ _ q.1);
           }
 
   -- the first instruction is led to, and the others are faultless behind it

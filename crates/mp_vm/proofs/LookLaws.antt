@@ -6,7 +6,8 @@ use Rattle.std.specs.List.{list_any}
 use Rattle.std.specs.Option.{option_map_or}
 use Rattle.std.proofs.lemmas.Bool.{and_parts, and_from, or_right, not-true, not_from_false, ltb-true}
 use Rattle.std.proofs.lemmas.Bool.{eqb-true, eq-eqb, lt-ltb, leb-true, le-leb, false_from_ne_true}
-use Rattle.std.proofs.lemmas.List.{map-append, append_assoc, append-nil, take_all, take-append-le}
+use Rattle.std.proofs.lemmas.List.{map-append, append_assoc, append-nil, take-append-le}
+use Rattle.std.proofs.Math.Seq.{take-length}
 use Rattle.mp_io.specs.Devices.{Text}
 use Rattle.mp_term.specs.Listing.{In}
 use Rattle.mp_term.proofs.SearchLaws.{in-right, from_in-append, from_in-map}
@@ -26,9 +27,12 @@ use Rattle.mp_theory.proofs.FirstsLaws.{firsts_after-fresh, from_in-firsts_after
 use Rattle.mp_walk.specs.Walkable.{numbered_names}
 use Rattle.mp_walk.proofs.EntryLaws.{get-front}
 use Rattle.mp_program.specs.TokenPaths.{are_numbered_from, differ, some_differ, token_uses}
+use Rattle.mp_program.proofs.ListLaws.{list_any-none}
+use Rattle.mp_program.proofs.NameLaws.{length-names, numbered-front, numbered-names}
+use Rattle.mp_program.proofs.PathLaws.{use_names}
 use Rattle.mp_vm.specs.Looks.{place_of, placed, placed_in, all_placed_in, token_places, with_look, with_looks}
 use Rattle.mp_vm.specs.Looks.{HasLooks}
-use Rattle.mp_vm.proofs.PlaceLaws.{length-names, place_of-number, named-place_of, known-place_of}
+use Rattle.mp_vm.proofs.PlaceLaws.{place_of-number, named-place_of, known-place_of}
 
 -- ---- the occurrences of a token
 
@@ -56,12 +60,9 @@ placed-token_uses (comm_token p) = placed-uses None p
 
 -- ---- right occurrences
 
-abbrev pub names_of : List Use → List Text
-names_of us = map (λ (u : Use). u.name) us
-
 -- the variables in order of first occurrence
 abbrev pub first_names : List Use → List Text
-first_names us = firsts_after same_name [] (names_of us)
+first_names us = firsts_after same_name [] (use_names us)
 
 -- the variables first occur as v0, v1 and so on; there are at most MAX_VARIABLES, each with one wildcard
 abbrev pub are_right_uses : List Use → Bool
@@ -82,10 +83,6 @@ any-in p [] x i h = absurd i
 any-in p (y ∷ xs) x (inl e) h = ap (λ b. b || list_any p xs) (ap p (sym e) ∙ h)
 any-in p (y ∷ xs) x (inr i) h = or_right (p y) (list_any p xs) (any-in p xs x i h)
 
-any-none : {X : Type 0} (p : X → Bool) (xs : List X) → ((x : X) → In x xs → p x ≡ false) → list_any p xs ≡ false
-any-none p [] h = refl
-any-none p (y ∷ xs) h = ap (λ b. b || list_any p xs) (h y (inl refl)) ∙ any-none p xs (λ x i. h x (inr i))
-
 -- ---- names
 
 numbered-at : (n : ℕ) (xs : List Text) (x : Text) (ys : List Text) → are_numbered_from n (xs ++ x ∷ ys) ≡ true
@@ -97,38 +94,15 @@ numbered-at n (y ∷ xs) x ys h =
     numbered-at (suc n) xs x ys (and_parts (same_name y (numbered n)) _ h).1
     ∙ ap numbered (let e : suc n + length xs ≡ n + suc (length xs) = omega arith in e)
 
-numbered-more : (n : ℕ) (xs : List Text) (x : Text) → are_numbered_from n xs ≡ true → x ≡ numbered (n + length xs)
-    → are_numbered_from n (xs ++ x ∷ []) ≡ true
-numbered-more n [] x h e =
-    let none : n + 0 ≡ n = omega arith in
-    and_from (same_name x (numbered n)) true
-    (ap (same_name x) (sym (e ∙ ap numbered none)) ∙ same_name-itself x) refl
-numbered-more n (y ∷ xs) x h e =
-    let p = and_parts (same_name y (numbered n)) _ h in
-    let same : n + suc (length xs) ≡ suc n + length xs = omega arith in
-    and_from (same_name y (numbered n)) (are_numbered_from (suc n) (xs ++ x ∷ [])) p.0
-    (numbered-more (suc n) xs x p.1 (e ∙ ap numbered same))
-
-numbered-names : (m : ℕ) → are_numbered_from 0 (numbered_names m) ≡ true
-numbered-names zero = refl
-numbered-names (suc m) = numbered-more 0 (numbered_names m) (numbered m) (numbered-names m)
-    (ap numbered (let e : m ≡ 0 + length (numbered_names m) = omega (arith, length-names m) in e))
-
-numbered-front : (n : ℕ) (xs ys : List Text) → are_numbered_from n (xs ++ ys) ≡ true → are_numbered_from n xs ≡ true
-numbered-front n [] ys h = refl
-numbered-front n (x ∷ xs) ys h =
-    let p = and_parts (same_name x (numbered n)) _ h in
-    and_from (same_name x (numbered n)) (are_numbered_from (suc n) xs) p.0 (numbered-front (suc n) xs ys p.1)
-
 first_names-append : (us vs : List Use)
-    → first_names (us ++ vs) ≡ firsts_after same_name (first_names us) (names_of vs)
+    → first_names (us ++ vs) ≡ firsts_after same_name (first_names us) (use_names vs)
 first_names-append us vs = ap (firsts_after same_name []) (map-append (λ (u : Use). u.name) us vs)
-    ∙ firsts_after-append same_name [] (names_of us) (names_of vs)
+    ∙ firsts_after-append same_name [] (use_names us) (use_names vs)
 
 -- those of all begin with those of the first ones
 first_names-front : (us vs : List Use)
-    → first_names (us ++ vs) ≡ first_names us ++ fresh_after same_name (first_names us) (names_of vs)
-first_names-front us vs = first_names-append us vs ∙ firsts_after-fresh same_name (first_names us) (names_of vs)
+    → first_names (us ++ vs) ≡ first_names us ++ fresh_after same_name (first_names us) (use_names vs)
+first_names-front us vs = first_names-append us vs ∙ firsts_after-fresh same_name (first_names us) (use_names vs)
 
 -- ---- occurrences that differ
 
@@ -142,7 +116,7 @@ differ-in (x ∷ us) v u rest (inr i) h =
 
 none-differ : (us : List Use) → ((u v : Use) → In u us → In v us → differ u v ≡ false) → some_differ us ≡ false
 none-differ [] h = refl
-none-differ (u ∷ us) h = ap (λ b. b || some_differ us) (any-none (differ u) us (λ v i. h u v (inl refl) (inr i)))
+none-differ (u ∷ us) h = ap (λ b. b || some_differ us) (list_any-none (differ u) us (λ v i. h u v (inl refl) (inr i)))
     ∙ none-differ us (λ x y i j. h x y (inr i) (inr j))
 
 differ-front : (us vs : List Use) → some_differ (us ++ vs) ≡ false → some_differ us ≡ false
@@ -168,7 +142,7 @@ differ-front us vs h = false_from_ne_true (some_differ us) (λ e. (
 -- right occurrences begin with right ones
 pub right-front : (us vs : List Use) → are_right_uses (us ++ vs) ≡ true → are_right_uses us ≡ true
 right-front us vs h =
-    let rest = fresh_after same_name (first_names us) (names_of vs) in
+    let rest = fresh_after same_name (first_names us) (use_names vs) in
     let a = and_parts (are_numbered_from 0 (first_names (us ++ vs))) _ h in
     let b = and_parts (nat_le (length (first_names (us ++ vs))) MAX_VARIABLES) _ a.1 in
     let split = first_names-front us vs in
@@ -316,7 +290,7 @@ keeps-look us ws u rest h right none = by_old (nat_lt (place_of u.name) (length 
         then Some ws else None) ≡ None → ⊥
     old less e =
         let i = known-in same_name same_name-is (first_names us) u.name (known-looks us ws h u.name ∙ less) in
-        elim (from_in-firsts_after same_name u.name [] (names_of us) i) [
+        elim (from_in-firsts_after same_name u.name [] (use_names us) i) [
           | inl n ↦ absurd n
           | inr j ↦
               let v = from_in-map (λ (x : Use). x.name) u.name us j in
@@ -342,14 +316,14 @@ keeps-look us ws u rest h right none = by_old (nat_lt (place_of u.name) (length 
         → (if nat_eq (place_of u.name) (length ws) && nat_lt (place_of u.name) MAX_VARIABLES
         then Some (ws ++ u.wildcard ∷ []) else None) ≡ None → ⊥
     new less e =
-        let own = names_of (u ∷ rest) in
-        let more = fresh_after same_name (numbered_names (length ws) ++ u.name ∷ []) (names_of rest) in
+        let own = use_names (u ∷ rest) in
+        let more = fresh_after same_name (numbered_names (length ws) ++ u.name ∷ []) (use_names rest) in
         let split : first_names (us ++ u ∷ rest) ≡ (numbered_names (length ws) ++ u.name ∷ []) ++ more =
         first_names-append us (u ∷ rest)
-        ∙ ap (λ c. firsts_after same_name (if c then first_names us else first_names us ++ u.name ∷ []) (names_of rest))
-        (known-looks us ws h u.name ∙ less)
-        ∙ ap (λ ys. firsts_after same_name (ys ++ u.name ∷ []) (names_of rest)) h.names
-        ∙ firsts_after-fresh same_name (numbered_names (length ws) ++ u.name ∷ []) (names_of rest) in
+        ∙ ap (λ c. firsts_after same_name (if c then first_names us else first_names us ++ u.name ∷ [])
+        (use_names rest)) (known-looks us ws h u.name ∙ less)
+        ∙ ap (λ ys. firsts_after same_name (ys ++ u.name ∷ []) (use_names rest)) h.names
+        ∙ firsts_after-fresh same_name (numbered_names (length ws) ++ u.name ∷ []) (use_names rest) in
         let whole : first_names (us ++ u ∷ rest) ≡ numbered_names (length ws) ++ (u.name ∷ more) =
         split ∙ append_assoc (numbered_names (length ws)) (u.name ∷ []) more in
         let named : u.name ≡ numbered (0 + length (numbered_names (length ws))) =
@@ -409,9 +383,6 @@ keeps-looks us ws (u ∷ more) h right e = by_look (with_look ws (placed u)) ref
 
 -- ---- the wildcards that were there
 
-kept-all : {X : Type 0} (xs : List X) → take (length xs) xs ≡ xs
-kept-all xs = take_all (length xs) xs (omega arith)
-
 kept-more : {X : Type 0} (xs ys zs : List X) → take (length xs) ys ≡ xs → take (length ys) zs ≡ ys
     → take (length xs) zs ≡ xs
 kept-more [] ys zs h k = refl
@@ -432,12 +403,12 @@ look-kept ws u vs e = by_old (nat_lt u.0 (length ws)) e
   where
     by_known : (b : Bool) → (if b then Some ws else None) ≡ Some vs → take (length ws) vs ≡ ws
     by_known true e = (let both : Some ws ≡ Some vs = e in let same : ws ≡ vs = cc in
-        ap (take (length ws)) (sym same) ∙ kept-all ws)
+        ap (take (length ws)) (sym same) ∙ take-length ws)
     by_known false e = (let wrong : None ≡ Some vs = e in cc)
 
     by_new : (b : Bool) → (if b then Some (ws ++ u.1 ∷ []) else None) ≡ Some vs → take (length ws) vs ≡ ws
     by_new true e = (let both : Some (ws ++ u.1 ∷ []) ≡ Some vs = e in let same : ws ++ u.1 ∷ [] ≡ vs = cc in
-        ap (take (length ws)) (sym same) ∙ take-append-le (length ws) ws (u.1 ∷ []) (omega arith) ∙ kept-all ws)
+        ap (take (length ws)) (sym same) ∙ take-append-le (length ws) ws (u.1 ∷ []) (omega arith) ∙ take-length ws)
     by_new false e = (let wrong : None ≡ Some vs = e in cc)
 
     by_old : (b : Bool)
@@ -451,7 +422,7 @@ look-kept ws u vs e = by_old (nat_lt u.0 (length ws)) e
 pub looks-kept : (ws : List Wildcard) (us : List (ℕ × Wildcard)) (vs : List Wildcard) → with_looks ws us ≡ Some vs
     → take (length ws) vs ≡ ws
 looks-kept ws [] vs e = (let both : Some ws ≡ Some vs = e in let same : ws ≡ vs = cc in
-    ap (take (length ws)) (sym same) ∙ kept-all ws)
+    ap (take (length ws)) (sym same) ∙ take-length ws)
 looks-kept ws (u ∷ us) vs e = by_look (with_look ws u) refl e (λ zs k. looks-kept zs us vs k)
   where
     by_look : (o : Option (List Wildcard)) → with_look ws u ≡ o

@@ -11,6 +11,8 @@ use Rattle.mp_term.proofs.ListLaws.{all-append}
 use Rattle.mp_pattern.specs.declared.limits.TheConstants.{MAX_RULES}
 use Rattle.mp_pattern.specs.CondTree as cond
 use Rattle.mp_walk.specs.Instrs.{Instr}
+use Rattle.mp_walk.proofs.EntryLaws.{none-some}
+use Rattle.mp_build.proofs.Faultless.{nil-both, some-behind}
 use Rattle.mp_program.specs.declared.format.Format.{Format}
 use Rattle.mp_program.specs.declared.format.Format.TheVariants.{One, Two}
 use Rattle.mp_program.specs.Form.{format_number, RuleLine, Form}
@@ -56,15 +58,6 @@ put-fourth : {X : Type 0} (a b c d r : List X) (x : X) → r ≡ []
     → a ++ (b ++ (c ++ ((d ++ x ∷ []) ++ r))) ≡ (a ++ (b ++ (c ++ (d ++ r)))) ++ x ∷ []
 put-fourth a b c d r x e =
     ap (λ l. a ++ l) (put-third b c d r x e) ∙ sym (append_assoc a (b ++ (c ++ (d ++ r))) (x ∷ []))
-
--- nothing behind nothing
-nil-append : {X : Type 0} (a r : List X) → a ≡ [] → r ≡ [] → a ++ r ≡ []
-nil-append a r e n = ap (λ l. l ++ r) e ∙ n
-
--- a list with an item isn't empty
-pub pushed : {X : Type 0} (a : List X) (x : X) → a ++ x ∷ [] ≢ []
-pushed [] x e = cc
-pushed (y ∷ a) x e = cc
 
 -- ---- a state's lines begin right lines
 
@@ -176,14 +169,10 @@ module _ (sig : Sig) where
   pub behind-none : (format : Format) → Behind format None []
   behind-none format = record {
     begin = tt;
-    begins = (λ h. absurd (none-some None refl h), λ h. absurd (h refl));
+    begins = (λ h. absurd (none-some {X = ℕ} None refl h), λ h. absurd (h refl));
     few = omega arith;
     code = tt;
   }
-    where
-      none-some : (d : Option ℕ) → d ≡ None → IsSome d → ⊥
-      none-some None e h = cc
-      none-some (Some n) e h = cc
 
   completed-none : (st : Stage) → completed_code st None [] ≡ []
   completed-none Ops = refl
@@ -242,8 +231,8 @@ module _ (sig : Sig) where
         }) (behind-before f.format Ops f.begin f.code h.at.3.0 h.at.3.1);
         lines = ap (λ l. (codes "matchpy program " ++ decimal (format_number f.format)) ∷ l)
             (put-end f.ops (f.kinds ++ (map (text.test_line sig) f.tests ++ (map (text.rule_line sig) f.rules ++ [])))
-            line (nil-append f.kinds _ h.at.0 (nil-append (map (text.test_line sig) f.tests) _
-            (ap (map (text.test_line sig)) h.at.1) (nil-append (map (text.rule_line sig) f.rules) []
+            line (nil-both f.kinds _ h.at.0 (nil-both (map (text.test_line sig) f.tests) _
+            (ap (map (text.test_line sig)) h.at.1) (nil-both (map (text.rule_line sig) f.rules) []
             (ap (map (text.rule_line sig)) h.at.2) refl))));
       }
 
@@ -256,7 +245,7 @@ module _ (sig : Sig) where
       let tests = map (text.test_line sig) f.tests in
       let rules = map (text.rule_line sig) f.rules in
       record {
-        is = state-of Kinds (longer line kind_line f) (pushed f.kinds line, t, r, b) (record {
+        is = state-of Kinds (longer line kind_line f) (some-behind f.kinds line, t, r, b) (record {
           ops = p.ops;
           kinds = all-append (IsDeclaration (codes "kind ")) f.kinds (line ∷ []) p.kinds (d, tt);
           no_tests = p.no_tests;
@@ -265,8 +254,8 @@ module _ (sig : Sig) where
           few_rules = p.few_rules;
           rules = p.rules;
         }) (behind-before f.format Kinds f.begin f.code b.0 b.1);
-        lines = ap (λ l. first ∷ l) (put-second f.ops f.kinds (tests ++ (rules ++ [])) line (nil-append tests _
-            (ap (map (text.test_line sig)) t) (nil-append rules [] (ap (map (text.rule_line sig)) r) refl)))
+        lines = ap (λ l. first ∷ l) (put-second f.ops f.kinds (tests ++ (rules ++ [])) line (nil-both tests _
+            (ap (map (text.test_line sig)) t) (nil-both rules [] (ap (map (text.rule_line sig)) r) refl)))
             ∙ ap (λ l. (first ∷ (f.ops ++ (f.kinds ++ (tests ++ (rules ++ l))))) ++ line ∷ []) (sym begun);
       }
 
@@ -279,7 +268,7 @@ module _ (sig : Sig) where
       let tests = map (text.test_line sig) f.tests in
       let rules = map (text.rule_line sig) f.rules in
       record {
-        is = state-of Tests (longer line (test_line c) f) (pushed f.tests c, r, b) (record {
+        is = state-of Tests (longer line (test_line c) f) (some-behind f.tests c, r, b) (record {
           ops = p.ops;
           kinds = p.kinds;
           no_tests = λ e. let w : Two ≡ One = sym room.0 ∙ e in cc;
@@ -291,7 +280,7 @@ module _ (sig : Sig) where
         lines = ap (λ l. first ∷ (f.ops ++ (f.kinds ++ (l ++ (rules ++ []))))) (map-append (text.test_line sig) f.tests
             (c ∷ []) ∙ ap (λ l. tests ++ l ∷ []) own)
             ∙ ap (λ l. first ∷ l) (put-third f.ops f.kinds tests (rules ++ []) line
-            (nil-append rules [] (ap (map (text.rule_line sig)) r) refl))
+            (nil-both rules [] (ap (map (text.rule_line sig)) r) refl))
             ∙ ap (λ l. (first ∷ (f.ops ++ (f.kinds ++ (tests ++ (rules ++ l))))) ++ line ∷ []) (sym begun);
       }
 
@@ -304,7 +293,7 @@ module _ (sig : Sig) where
       let tests = map (text.test_line sig) f.tests in
       let rules = map (text.rule_line sig) f.rules in
       record {
-        is = state-of Rules (longer line (rule_line r) f) (pushed f.rules r, b) (record {
+        is = state-of Rules (longer line (rule_line r) f) (some-behind f.rules r, b) (record {
           ops = p.ops;
           kinds = p.kinds;
           no_tests = p.no_tests;
@@ -392,7 +381,7 @@ module _ (sig : Sig) where
       let more = instr_lines-append 1 f.code i ∙ ap (λ l. instr_lines sig 1 f.code ++ l ∷ [])
       (ap (λ n. text.instr_line sig n i) number ∙ own) in
       record {
-        is = state-of Instrs (longer line (instr_line i) f) (pushed f.code i) (record {
+        is = state-of Instrs (longer line (instr_line i) f) (some-behind f.code i) (record {
           ops = p.ops;
           kinds = p.kinds;
           no_tests = p.no_tests;
@@ -402,7 +391,7 @@ module _ (sig : Sig) where
           rules = p.rules;
         }) (record {
           begin = h.right.begin;
-          begins = (λ s. pushed f.code i, λ e. some);
+          begins = (λ s. some-behind f.code i, λ e. some);
           few = omega (arith, room, length-append f.code (i ∷ []));
           code = all-append (IsRightInstr sig f.format) f.code (i ∷ []) code (right, tt);
         });

@@ -8,6 +8,7 @@ use Rattle.std.specs.Option.{option_map_or}
 use Rattle.std.proofs.lemmas.Bool.{and_parts, and_from, or_right, lt-ltb, ltb-true, le-leb, leb-true, eqb-true}
 use Rattle.std.proofs.lemmas.List.{map-append}
 use Rattle.std.proofs.lemmas.Option.{slice_get-map, slice_get_within}
+use Rattle.std.proofs.Math.Bool.{or-false}
 use Rattle.mp_io.specs.Devices.{Text}
 use Rattle.mp_term.specs.Listing.{In}
 use Rattle.mp_term.proofs.ListLaws.{bool_same, drop-item}
@@ -29,11 +30,13 @@ use Rattle.mp_program.specs.Program.{ProgramRule}
 use Rattle.mp_program.specs.TokenPaths.{path_uses, path_variables, is_sequence_name, cond_names, less_names, suits_test}
 use Rattle.mp_program.specs.TokenPaths.{all_less_names}
 use Rattle.mp_program.specs.TokenPaths.{test_of, may_accept}
+use Rattle.mp_program.proofs.NameLaws.{length-names}
+use Rattle.mp_program.proofs.PathLaws.{use_names}
 use Rattle.mp_vm.specs.Looks.{place_of, HasLooks}
 use Rattle.mp_vm.specs.RuleNeeds.{places, count_named, with_places, needs_with, needs_of, is_sequence_at}
 use Rattle.mp_vm.specs.RuleNeeds.{meets_needs, meets_all}
-use Rattle.mp_vm.proofs.LookLaws.{any-in, names_of, first_names, known-looks}
-use Rattle.mp_vm.proofs.PlaceLaws.{length-names, known-place_of}
+use Rattle.mp_vm.proofs.LookLaws.{any-in, first_names, known-looks}
+use Rattle.mp_vm.proofs.PlaceLaws.{known-place_of}
 
 -- ---- items, each once
 
@@ -63,11 +66,7 @@ any-push p (y ∷ ys) x = elim (p y) as (λ b. (b || list_any p (ys ++ x ∷ [])
 
 -- one of the items is such where one of them, each once, is
 any-firsts : (p : ℕ → Bool) (ys xs : List ℕ) → list_any p (firsts_after nat_eq ys xs) ≡ (list_any p ys || list_any p xs)
-any-firsts p ys [] = or-none (list_any p ys)
-  where
-    or-none : (b : Bool) → b ≡ (b || false)
-    or-none true = refl
-    or-none false = refl
+any-firsts p ys [] = sym (or-false (list_any p ys))
 any-firsts p ys (x ∷ xs) = by_test (is_known nat_eq ys x) refl (any-firsts p ys xs) (any-firsts p (ys ++ x ∷ []) xs)
   where
     by_test : (b : Bool) → is_known nat_eq ys x ≡ b
@@ -130,7 +129,7 @@ module _ (us : List Use) (ws : List Wildcard) (h : HasLooks us ws) where
           let known = known-looks us ws h x
           ∙ lt-ltb (place_of x) (length ws) (slice_get_within ws (place_of x) w q) in
           let i = known-in same_name same_name-is (first_names us) x known in
-          elim (from_in-firsts_after same_name x [] (names_of us) i) [
+          elim (from_in-firsts_after same_name x [] (use_names us) i) [
             | inl n ↦ absurd n
             | inr j ↦
                 let v = from_in-map (λ (u : Use). u.name) x us j in

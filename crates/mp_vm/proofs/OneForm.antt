@@ -13,6 +13,7 @@ use Rattle.mp_program.specs.Program.{Program}
 use Rattle.mp_program.specs.ProgramOf.{program_of}
 use Rattle.mp_program.specs.Reading as reading
 use Rattle.mp_program.specs.Reading.{IsFormOf, IsProgramOf, IsProgramFaultOf, first_fault}
+use Rattle.mp_program.proofs.ListLaws.{first-same}
 use Rattle.mp_line.specs.Lines.{Line}
 use Rattle.mp_line.specs.LineTexts.{kept_line}
 use Rattle.mp_vm.specs.declared.stage.Stage.TheVariants.{Stop}
@@ -23,7 +24,6 @@ use Rattle.mp_vm.proofs.AnswerLaws.{formless-one}
 use Rattle.mp_vm.proofs.BackLaws.{state-back}
 use Rattle.mp_vm.proofs.DraftLaws.{few-code}
 use Rattle.mp_vm.proofs.FormReading.{other-formless}
-use Rattle.mp_vm.proofs.FrontLaws.{heads}
 use Rattle.mp_vm.proofs.MachineLaws.{At, form-state}
 use Rattle.mp_vm.proofs.NextLines.{kept-line}
 use Rattle.mp_vm.proofs.OneReading.{line-one}
@@ -80,7 +80,8 @@ module _ (sig : Sig) (held : IsSignature sig) (most : ℕ) where
   state-only zero [] n s h = absurd (omega (arith, n))
   state-only zero (x ∷ []) n s h =
       let format = s.form.format in
-      let same : (first_line format ∷ []) ≡ (x ∷ []) = ap (λ l. l ∷ []) (heads (first_line format) x _ [] h.lines) in
+      let same : (first_line format ∷ []) ≡ (x ∷ []) =
+      ap (λ l. l ∷ []) (first-same (first_line format) x _ [] h.lines) in
       let first = subst (λ ls. IsOnlyState sig most ls (start format)) same (start-only sig most format) in
       record { is = h; only = λ z m. first.only z m ∙ sym (first.only s h) }
   state-only zero (x ∷ y ∷ read) n s h = absurd (omega (arith, n))

@@ -5,7 +5,7 @@ use Rattle.std.specs.Prelude.{◌&&◌, codes, decimal, position, bytes_eq, opti
 use Rattle.std.specs.List.{AllByRecursion, list_all}
 use Rattle.std.specs.Char.{is_ascii_digit}
 use Rattle.std.proofs.lemmas.Bool.{and_parts}
-use Rattle.std.proofs.lemmas.List.{append_cancel_left, append_cancel_right, map-id}
+use Rattle.std.proofs.lemmas.List.{same_from_push, append_cancel_left, append_cancel_right, map-id}
 use Rattle.std.proofs.lemmas.List.Folds.{list_all-append}
 use Rattle.mp_io.specs.Devices.{Text}
 use Rattle.mp_term.specs.Signature.{Sig, IsSignature, has_name, kind_names}
@@ -22,6 +22,7 @@ use Rattle.mp_build.specs.Alone.{IsTermOf, IsPatternOf, normal_term_of}
 use Rattle.mp_build.specs.AloneCondition.{IsCondOf}
 use Rattle.mp_build.specs.Build.{pattern_of}
 use Rattle.mp_build.specs.Conditions.{cond_of}
+use Rattle.mp_build.proofs.Faultless.{some-behind}
 use Rattle.mp_program.specs.declared.format.Format.{Format}
 use Rattle.mp_program.specs.declared.format.Format.TheVariants.{One, Two}
 use Rattle.mp_program.specs.Form.{RuleTest, untested, tested, spelled, RuleLine}
@@ -37,11 +38,11 @@ use Rattle.mp_line.specs.Lines.{Line, op_line, kind_line, test_line, rule_line, 
 use Rattle.mp_line.specs.Lines.{stop_line, IsLineText, IsCodeLine}
 use Rattle.mp_line.specs.Words.{IsWithout, is_digit_or_blank, IsBeforeNumbers}
 use Rattle.mp_line.specs.Words.{IsWordEnd, IsFrontOfWords, is_letter_or_blank}
-use Rattle.mp_line.proofs.ActionLaws.{action-parts}
+use Rattle.mp_line.proofs.ActionLaws.{action-parts, words-differ}
 use Rattle.mp_line.proofs.CondOpens.{right-opens}
 use Rattle.mp_line.proofs.ExactLaws.{exact-only}
 use Rattle.mp_line.proofs.HeldLaws.{Finds-op, Finds-kind}
-use Rattle.mp_line.proofs.InstrLaws.{over-found, instr-found, body-through}
+use Rattle.mp_line.proofs.InstrLaws.{bare-target, over-found, instr-found, body-through}
 use Rattle.mp_line.proofs.ItemLaws.{items-end, first_word-only}
 use Rattle.mp_line.proofs.LineLaws.{begin-found, stop-found, op-found, kind-line-found, test-found, rule-found}
 use Rattle.mp_line.proofs.LineLaws.{code-found}
@@ -54,7 +55,7 @@ use Rattle.mp_line.proofs.SpelledLaws.{names-through, spelled-through}
 use Rattle.mp_line.proofs.TokenLaws.{bare-variable, symbol-found, default-found, symbol-through, comm-through}
 use Rattle.mp_line.proofs.TokenLaws.{enter-through, leave-through, dot-through, plus-through, star-through, kind-found}
 use Rattle.mp_line.proofs.TokenLaws.{optional-found, counted-found, open-count, fixed-count}
-use Rattle.mp_line.proofs.WordLaws.{apart, last-byte}
+use Rattle.mp_line.proofs.WordLaws.{apart}
 
 -- ---- numbers and words
 
@@ -93,10 +94,6 @@ target-only (Some n) h = record { is = record { short = h; text = refl }; only =
         (record { short = h; text = refl }) in cc
     go (Some m) k = ap Some (same-number m n k.short h k.text)
 
-bare-target : (t : Option ℕ) → IsShortTarget t → IsWithout 32 (target_text t)
-bare-target None h = refl
-bare-target (Some n) h = bare-decimal n h
-
 -- ---- items
 
 module _ {A : Type 0} (IsItem : A → Type 0) (printed : A → Text) (bare : (a : A) → IsItem a → IsWithout 32 (printed a))
@@ -130,17 +127,10 @@ names-one xs ys text h k = items-one IsName (λ x. x) bare-name (λ m n a b e. e
 
 -- a text is split before the digits and blanks with which it ends
 numbers-split : (t : Text) → (front : Text) × (digits : Text) × IsBeforeNumbers t front digits
-numbers-split [] = ([], [], record { parts = refl; only = refl; last = λ before c e. absurd (none before c e) })
-  where
-    none : (before : Text) (c : ℕ) → [] ≡ before ++ c ∷ [] → ⊥
-    none [] c e = cc
-    none (b ∷ before) c e = cc
+numbers-split [] =
+    ([], [], record { parts = refl; only = refl; last = λ before c e. absurd (some-behind before c (sym e)) })
 numbers-split (c ∷ t) = (let r = numbers-split t in go r.0 r.1 r.2 (is_digit_or_blank c) refl)
   where
-    none : (before : Text) (b : ℕ) → [] ≡ before ++ b ∷ [] → ⊥
-    none [] b e = cc
-    none (d ∷ before) b e = cc
-
     go : (front digits : Text) → IsBeforeNumbers t front digits → (v : Bool) → is_digit_or_blank c ≡ v
         → (front : Text) × (digits : Text) × IsBeforeNumbers (c ∷ t) front digits
     go [] digits h true e = (
@@ -149,7 +139,7 @@ numbers-split (c ∷ t) = (let r = numbers-split t in go r.0 r.1 r.2 (is_digit_o
       record {
         parts = ap (λ l. c ∷ l) h.parts;
         only = ap (λ v. v && list_all is_digit_or_blank digits) e ∙ h.only;
-        last = λ before b w. absurd (none before b w);
+        last = λ before b w. absurd (some-behind before b (sym w));
       },
     )
     go [] digits h false e = (
@@ -158,7 +148,7 @@ numbers-split (c ∷ t) = (let r = numbers-split t in go r.0 r.1 r.2 (is_digit_o
       record {
         parts = ap (λ l. c ∷ l) h.parts;
         only = h.only;
-        last = λ before b w. subst (λ x. is_digit_or_blank x ≡ false) (last-byte [] before c b w) e;
+        last = λ before b w. subst (λ x. is_digit_or_blank x ≡ false) (same_from_push [] before c b w).1 e;
       },
     )
     go (d ∷ front) digits h v e = (
@@ -192,17 +182,11 @@ action-one text front other d e rules more h k = (let s = numbers-split text in 
     go None (Some n) s h k =
         let a = action-parts text s.0 s.1 s.2 front None rules h in
         let b = action-parts text s.0 s.1 s.2 other (Some n) more k in
-        let last : 116 ≡ 110 = last-byte (front ++ codes " accep") (other ++ codes " dow") 116 110
-        (append_assoc front (codes " accep") (codes "t") ∙ sym a.0 ∙ b.0
-        ∙ sym (append_assoc other (codes " dow") (codes "n"))) in
-        absurd (omega (arith, last))
+        absurd (words-differ other front (sym b.0 ∙ a.0))
     go (Some m) None s h k =
         let a = action-parts text s.0 s.1 s.2 front (Some m) rules h in
         let b = action-parts text s.0 s.1 s.2 other None more k in
-        let last : 110 ≡ 116 = last-byte (front ++ codes " dow") (other ++ codes " accep") 110 116
-        (append_assoc front (codes " dow") (codes "n") ∙ sym a.0 ∙ b.0
-        ∙ sym (append_assoc other (codes " accep") (codes "t"))) in
-        absurd (omega (arith, last))
+        absurd (words-differ front other (sym a.0 ∙ b.0))
     go (Some m) (Some n) s h k =
         let a = action-parts text s.0 s.1 s.2 front (Some m) rules h in
         let b = action-parts text s.0 s.1 s.2 other (Some n) more k in

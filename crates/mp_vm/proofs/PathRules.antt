@@ -16,6 +16,7 @@ use Rattle.mp_walk.specs.Walkable.{Path}
 use Rattle.mp_walk.proofs.PathLaws.{path_nodes-append}
 use Rattle.mp_program.specs.TokenPaths.{is_loose_token, has_plain_root, enters_comm, token_uses, path_uses}
 use Rattle.mp_program.specs.TokenPaths.{is_right_path, open_after, open_along}
+use Rattle.mp_program.proofs.PathLaws.{root-front}
 use Rattle.mp_vm.specs.Known.{is_none}
 use Rattle.mp_vm.specs.Looks.{placed, with_looks, token_places, HasLooks}
 use Rattle.mp_vm.proofs.LookLaws.{are_right_uses, right-front, no-looks, right-looks, with-looks, keeps-looks}
@@ -26,10 +27,6 @@ use Rattle.mp_vm.proofs.LookLaws.{placed-token_uses}
 root-more : (ks : Path) (k : NetToken) → is_none ks ≡ false → has_plain_root (ks ++ k ∷ []) ≡ has_plain_root ks
 root-more [] k h = cc
 root-more (j ∷ ks) k h = refl
-
-root-front : (ks js : Path) → has_plain_root (ks ++ js) ≡ true → has_plain_root ks ≡ true
-root-front [] js h = refl
-root-front (k ∷ ks) js h = h
 
 none-is : (ks : Path) → is_none ks ≡ true → ks ≡ []
 none-is [] h = refl
@@ -76,13 +73,13 @@ open-front fs (k ∷ ks) js gs h = by_open (open_after fs k) h (λ hs e. open-fr
 
 module _ (sig : Sig) (most : ℕ) where
   -- what a right path has
-  record HasParts (ks : Path) : Type 0 where
-    root : has_plain_root ks ≡ true
-    enters : list_any (enters_comm sig) ks ≡ false
-    nodes : path_nodes ks ≤ most
-    uses : are_right_uses (path_uses ks) ≡ true
+  pub record HasParts (ks : Path) : Type 0 where
+    pub root : has_plain_root ks ≡ true
+    pub enters : list_any (enters_comm sig) ks ≡ false
+    pub nodes : path_nodes ks ≤ most
+    pub uses : are_right_uses (path_uses ks) ≡ true
 
-  right-parts : (ks : Path) → is_right_path sig most ks ≡ true → HasParts ks
+  pub right-parts : (ks : Path) → is_right_path sig most ks ≡ true → HasParts ks
   right-parts ks h =
       let a = and_parts (has_plain_root ks) _ h in
       let b = and_parts (not (list_any (enters_comm sig) ks)) _ a.1 in

@@ -1,7 +1,7 @@
 -- The places of names among v0, v1 and so on: the place of the name of a small number is the number, and a name whose
 -- place is small is that of its place.
 use Rattle.std.proofs.Common.{◌≡◌, ℕ, zero, suc, ◌+◌, ◌<◌, ◌≤◌, List, [], ◌∷◌, length, Bool, true, false, refl}
-use Rattle.std.proofs.Common.{ap, sym, ◌∙◌, inl, inr, subst, arith, length-append}
+use Rattle.std.proofs.Common.{ap, sym, ◌∙◌, inl, inr, subst, arith}
 use Rattle.std.specs.Prelude.{◌||◌, ◌^◌, if◌then◌else◌, nat_lt, decimal}
 use Rattle.std.proofs.lemmas.Bool.{cases_lt, lt-ltb, ltb-true}
 use Rattle.std.proofs.lemmas.Fmt.{decimal_injective}
@@ -17,13 +17,10 @@ use Rattle.mp_pattern.proofs.NameLaws.{same_name-is, same_name-itself}
 use Rattle.mp_theory.proofs.FirstItems.{known-in}
 use Rattle.mp_walk.specs.Walkable.{numbered_names}
 use Rattle.mp_walk.proofs.NumberedNames.{number_in-less, numbered-number_in}
+use Rattle.mp_program.proofs.NameLaws.{length-names, number_in-most}
 use Rattle.mp_vm.specs.Looks.{place_of}
 
 -- ---- numbered names
-
-pub length-names : (n : ℕ) → length (numbered_names n) ≡ n
-length-names zero = refl
-length-names (suc n) = omega (arith, length-append (numbered_names n) (numbered n ∷ []), length-names n)
 
 -- the name of each number below is there
 in-names : (m k : ℕ) → k < m → In (numbered k) (numbered_names m)
@@ -50,12 +47,6 @@ number_in-in (y ∷ ys) x h = by_test (same_name y x) refl h (λ l. number_in-in
         → (number_in ys x < length ys → In x ys) → In x (y ∷ ys)
     by_test true e l go = inl (sym (same_name-is y x e))
     by_test false e l go = inr (go (omega (arith, l)))
-
-number_in-most : (xs : List Text) (x : Text) → number_in xs x ≤ length xs
-number_in-most [] x = omega arith
-number_in-most (y ∷ ys) x = elim (same_name y x) as
-    (λ b. (if b then 0 else number_in ys x + 1) ≤ length (y ∷ ys))
-    [ true ↦ omega arith | false ↦ omega (arith, number_in-most ys x) ]
 
 in-known : (ys : List Text) (x : Text) → In x ys → is_known same_name ys x ≡ true
 in-known [] x i = absurd i

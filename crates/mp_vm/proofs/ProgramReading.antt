@@ -1,42 +1,44 @@
 -- From the form that bytes are to the program: the declarations among the bytes, how many lines there are, the rules
 -- and the tests, and the instructions.
-use Rattle.std.proofs.Common.{◌≡◌, ◌≤◌, ℕ, suc, ◌+◌, Bool, true, false, List, [], ◌∷◌, ◌++◌, map, length, take, drop}
+use Rattle.std.proofs.Common.{◌≡◌, ◌≤◌, ℕ, suc, ◌+◌, List, [], ◌∷◌, ◌++◌, map, length, take, drop}
 use Rattle.std.proofs.Common.{Option, Some, None, refl, ap, sym, ◌∙◌, arith, subst, length-append, append_assoc}
 use Rattle.std.proofs.Common.{append-nil}
-use Rattle.std.specs.Prelude.{◌||◌, not, nat_eq, nat_lt, codes, decimal, option_to_list, if◌then◌else◌, MatchOption}
+use Rattle.std.specs.Prelude.{codes, decimal, option_to_list, MatchOption}
 use Rattle.std.specs.Prelude.{Result}
-use Rattle.std.specs.List.{AllByRecursion, list_any, flat_map}
-use Rattle.std.proofs.lemmas.Bool.{ltb-false, or_parts}
+use Rattle.std.specs.List.{AllByRecursion, flat_map}
+use Rattle.std.proofs.lemmas.Bool.{ltb-false}
 use Rattle.std.proofs.lemmas.List.{append_cancel_left, length-map, take_all}
+use Rattle.std.proofs.Math.Seq.{take-append_seam}
 use Rattle.mp_io.specs.Devices.{Text}
-use Rattle.mp_term.specs.Names.{are_distinct}
 use Rattle.mp_term.specs.Signature.{Sig}
+use Rattle.mp_term.proofs.ListLaws.{all-split}
 use Rattle.mp_pattern.specs.declared.limits.TheConstants.{MAX_VARIABLES}
 use Rattle.mp_pattern.specs.CondTree.{Cond}
 use Rattle.mp_pattern.specs.Firsts.{firsts_after}
-use Rattle.mp_pattern.specs.Value.{same_name}
 use Rattle.mp_walk.specs.Instrs.{Instr}
 use Rattle.mp_print.specs.PrintedSignature.{signature_text}
 use Rattle.mp_build.proofs.Faultless.{nil-append}
 use Rattle.mp_program.specs.declared.fault.ProgramError.{ProgramError}
-use Rattle.mp_program.specs.declared.fault.ProgramError.TheVariants.{BadReference}
 use Rattle.mp_program.specs.declared.format.Format.{Format}
 use Rattle.mp_program.specs.declared.format.Format.TheVariants.{One, Two}
 use Rattle.mp_program.specs.Form.{RuleTest, untested, tested, spelled, RuleLine, Form}
-use Rattle.mp_program.specs.FormFaults.{fault_if, faults_along, declaration_faults, test_faults, is_bad_test}
+use Rattle.mp_program.specs.FormFaults.{faults_along, declaration_faults, test_faults}
 use Rattle.mp_program.specs.FormFaults.{rule_faults, unused_faults, target_faults, code_faults, most_nodes}
 use Rattle.mp_program.specs.FormFaults.{first_test_line, line_of_begin, faults_of_declarations}
 use Rattle.mp_program.specs.FormFaults.{faults_of_tests, faults_of_rules, faults_of_unused, faults_of_begin}
 use Rattle.mp_program.specs.FormFaults.{faults_of_code}
 use Rattle.mp_program.specs.FormText as text
-use Rattle.mp_program.specs.FormText.{begin_line_with, lines_of, lines_text, instr_lines, code_lines}
+use Rattle.mp_program.specs.FormText.{lines_of, lines_text, instr_lines, code_lines}
 use Rattle.mp_program.specs.Leads.{lead}
 use Rattle.mp_program.specs.Program.{ProgramRule}
 use Rattle.mp_program.specs.ProgramOf.{same_cond, spelled_test, test_number, rule_of, tests_of}
 use Rattle.mp_program.specs.Reading.{IsFormOf}
 use Rattle.mp_program.specs.RightForm.{IsRightRuleTest, IsRightRule, IsRightForm}
 use Rattle.mp_program.specs.RuleView.{rule_line_view}
-use Rattle.mp_program.proofs.LineLaws.{lines_text-append}
+use Rattle.mp_program.proofs.FaultLaws.{fine-rule}
+use Rattle.mp_program.proofs.LineLaws.{IsOneLine, lines_text-append, lines_of-lines_text, line-lines_of}
+use Rattle.mp_program.proofs.OneSpelling.{spelled-none}
+use Rattle.mp_program.proofs.ListLaws.{rest-same}
 use Rattle.mp_line.specs.LineTexts.{kept_line}
 use Rattle.mp_vm.specs.NumberedRules.{named_test, numbered_rule}
 use Rattle.mp_vm.specs.declared.draft.Draft.{Draft}
@@ -47,41 +49,7 @@ use Rattle.mp_vm.specs.DraftView.{IsDraftOf}
 use Rattle.mp_vm.specs.FirstLine.{IsFirstLine}
 use Rattle.mp_vm.specs.FormRead.{first_line}
 use Rattle.mp_vm.proofs.MachineLaws.{At}
-use Rattle.mp_vm.proofs.FrontLaws.{tails}
-use Rattle.mp_vm.proofs.BadLines.{take-front}
 use Rattle.mp_vm.proofs.DraftLaws.{length-lines_text-append, lines-within}
-
--- ---- lines of a text
-
--- the text has no line feed
-abbrev IsOneLine : Text → Type 0
-IsOneLine t = list_any (λ c. nat_eq c 10) t ≡ false
-
-lines_of-line : (l t : Text) → IsOneLine l → lines_of ((l ++ 10 ∷ []) ++ t) ≡ l ∷ lines_of t
-lines_of-line [] t h = refl
-lines_of-line (b ∷ l) t h =
-    let both = or_parts (nat_eq b 10) (list_any (λ c. nat_eq c 10) l) h in
-    ap (λ v. if v then [] ∷ lines_of ((l ++ 10 ∷ []) ++ t) else begin_line_with b (lines_of ((l ++ 10 ∷ []) ++ t)))
-    both.0 ∙ ap (begin_line_with b) (lines_of-line l t both.1)
-
-lines_of-lines_text : (ls : List Text) → AllByRecursion IsOneLine ls → lines_of (lines_text ls) ≡ ls
-lines_of-lines_text [] h = refl
-lines_of-lines_text (l ∷ ls) h =
-    lines_of-line l (lines_text ls) h.0 ∙ ap (λ ms. l ∷ ms) (lines_of-lines_text ls h.1)
-
-line-lines_of : (t : Text) → AllByRecursion IsOneLine (lines_of t)
-line-lines_of [] = tt
-line-lines_of (b ∷ t) = by_byte (nat_eq b 10) refl (lines_of t) (line-lines_of t)
-  where
-    by_byte : (v : Bool) → nat_eq b 10 ≡ v → (ls : List Text) → AllByRecursion IsOneLine ls
-        → AllByRecursion IsOneLine (if v then [] ∷ ls else begin_line_with b ls)
-    by_byte true e ls h = (refl, h)
-    by_byte false e [] h = tt
-    by_byte false e (l ∷ ls) h = (rw (e, h.0) refl, h.1)
-
-all-front : {X : Type 0} (P : X → Type 0) (xs ys : List X) → AllByRecursion P (xs ++ ys) → AllByRecursion P xs
-all-front P [] ys h = tt
-all-front P (x ∷ xs) ys h = (h.0, all-front P xs ys h.1)
 
 -- ---- the bytes of the declarations
 
@@ -100,7 +68,7 @@ module _ (bytes rest line first : Text) (declared others : List Text) (h : IsFir
       sym h.parts ∙ sym ended ∙ ap lines_text h.lines ∙ append_assoc line (10 ∷ []) (lines_text (lines_of rest)) in
       let behind = append_cancel_left line (10 ∷ rest) (10 ∷ lines_text (lines_of rest)) whole in
       let same : rest ≡ lines_text (lines_of rest) = ap (drop 1) behind in
-      same ∙ ap lines_text (tails line first (lines_of rest) (declared ++ others) (sym h.lines ∙ e))
+      same ∙ ap lines_text (rest-same line first (lines_of rest) (declared ++ others) (sym h.lines ∙ e))
       ∙ lines_text-append declared others
 
   pub lines_of-declared : (count : ℕ) → count ≡ length (lines_text declared) → lines_of (take count rest) ≡ declared
@@ -108,8 +76,8 @@ module _ (bytes rest line first : Text) (declared others : List Text) (h : IsFir
       let one : AllByRecursion IsOneLine (first ∷ (declared ++ others)) =
       subst (AllByRecursion IsOneLine) e (line-lines_of bytes) in
       ap lines_of (ap (λ m. take m rest) n ∙ ap (take (length (lines_text declared))) rest-parts
-      ∙ take-front (lines_text declared) (lines_text others))
-      ∙ lines_of-lines_text declared (all-front IsOneLine declared others one.1)
+      ∙ take-append_seam (lines_text declared) (lines_text others))
+      ∙ lines_of-lines_text declared ((all-split IsOneLine declared others one.1).0)
 
 -- ---- how many lines there are
 
@@ -188,24 +156,12 @@ module _ (sig : Sig) (most : ℕ) (bytes : Text) (d : Draft) (f : Form) (is : Is
 
 -- ---- rules of which nothing is wrong are kept whole
 
-few-variables : (count : ℕ) (before : List RuleLine) (n : ℕ) (r : RuleLine) → rule_faults count before n r ≡ []
-    → length r.vars ≤ MAX_VARIABLES
-few-variables count before n r h = ltb-false MAX_VARIABLES (length r.vars)
-    (go (list_any (λ q. same_name q.name r.name) before) (not (are_distinct r.vars))
-    (nat_lt MAX_VARIABLES (length r.vars)) (is_bad_test count before r.vars r.test) h)
-  where
-    go : (a b c d : Bool) → fault_if (a || (b || (c || d))) (BadReference n) ≡ [] → c ≡ false
-    go a b false d h = refl
-    go true b true d h = (let wrong : BadReference n ∷ [] ≡ [] = h in cc)
-    go false true true d h = (let wrong : BadReference n ∷ [] ≡ [] = h in cc)
-    go false false true d h = (let wrong : BadReference n ∷ [] ≡ [] = h in cc)
-
 pub kept-whole : (most count : ℕ) → MAX_VARIABLES ≤ most → (before : List RuleLine) (n : ℕ) (rs : List RuleLine)
     → faults_along (rule_faults count) before n rs ≡ [] → map (kept_line most) rs ≡ rs
 kept-whole most count enough before n [] h = refl
 kept-whole most count enough before n (r ∷ rs) h =
     let parts = nil-append (rule_faults count before n r) _ h in
-    let few = few-variables count before n r parts.0 in
+    let few = ltb-false MAX_VARIABLES (length r.vars) (fine-rule count before n r parts.0).names.few in
     let one : kept_line most r ≡ r = ap (λ vars. record { name = r.name; vars = vars; test = r.test })
     (take_all most r.vars (omega (arith, few))) in
     let rest = kept-whole most count enough (before ++ r ∷ []) (suc n) rs parts.1 in
@@ -214,21 +170,7 @@ kept-whole most count enough before n (r ∷ rs) h =
 -- ---- the rules and the tests of the program
 
 module _ (sig : Sig) where
-  -- no line of format 2 spells a test
-  spelled-none : (rs : List RuleLine) → AllByRecursion (IsRightRule sig Two) rs
-      → flat_map (λ r. spelled_test r.vars r.test) rs ≡ []
-  spelled-none [] h = refl
-  spelled-none (r ∷ rs) h = λ i. none r h.0 i ++ spelled-none rs h.1 i
-    where
-      none : (r : RuleLine) → IsRightRule sig Two r → spelled_test r.vars r.test ≡ []
-      none r k = by_test r.test k.test
-        where
-          by_test : (t : RuleTest) → IsRightRuleTest sig Two t → spelled_test r.vars t ≡ []
-          by_test untested k = refl
-          by_test (tested n) k = refl
-          by_test (spelled c) k = (let wrong : Two ≡ One = k.0 in cc)
-
-  -- so the rules of its lines name their tests, whatever these are
+  -- the rules of lines of format 2 name their tests, whatever these are
   rules-numbered : (ts : List Cond) (rs : List RuleLine) → AllByRecursion (IsRightRule sig Two) rs
       → map numbered_rule rs ≡ map (rule_of sig ts) rs
   rules-numbered ts [] h = refl
@@ -259,7 +201,7 @@ module _ (sig : Sig) where
       let lines = subst (λ format. AllByRecursion (IsRightRule sig format) f.rules) e right.rules in (
         r ∙ rules-numbered (tests_of sig f) f.rules lines,
         t ∙ sym (append-nil f.tests) ∙ sym (ap (λ l. f.tests ++ firsts_after (same_cond sig) [] l)
-            (spelled-none f.rules lines)),
+            (spelled-none sig f.rules lines)),
       )
 
   -- ---- the instructions

@@ -9,12 +9,14 @@ use Rattle.mp_io.specs.Devices.{Text}
 use Rattle.mp_term.specs.Signature.{Sig}
 use Rattle.mp_pattern.specs.CondTree as cond
 use Rattle.mp_walk.specs.Instrs.{Instr}
+use Rattle.mp_build.proofs.Faultless.{nil-append}
 use Rattle.mp_program.specs.declared.format.Format.{Format}
 use Rattle.mp_program.specs.declared.format.Format.TheVariants.{One, Two}
 use Rattle.mp_program.specs.Form.{format_number, RuleLine, Form}
 use Rattle.mp_program.specs.FormText as text
 use Rattle.mp_program.specs.FormText.{lines_of, lines_text}
 use Rattle.mp_program.specs.Reading.{IsFormOf, Begins}
+use Rattle.mp_program.proofs.ListLaws.{first-same, rest-same}
 use Rattle.mp_line.specs.Lines.{Line, op_line, kind_line, test_line, rule_line, code_line, begin_line, instr_line}
 use Rattle.mp_line.specs.Lines.{stop_line}
 use Rattle.mp_line.specs.LineTexts.{kept_line}
@@ -24,7 +26,7 @@ use Rattle.mp_vm.specs.Machine.{State, start, begun_lines, IsState, IsStateOf, H
 use Rattle.mp_vm.specs.Machine.{IsNextText, step}
 use Rattle.mp_vm.specs.Kept.{kept, kept_form, kept_state, IsOnlyState, IsOnlyNext}
 use Rattle.mp_vm.proofs.MachineLaws.{At, start-state, state-begins, step-state, form-state, stop-form}
-use Rattle.mp_vm.proofs.FrontLaws.{heads, tails, begins-state}
+use Rattle.mp_vm.proofs.FrontLaws.{begins-state}
 use Rattle.mp_vm.proofs.BackLaws.{state-back}
 
 -- ---- what is kept
@@ -173,14 +175,6 @@ module _ (sig : Sig) (most : ℕ) where
       by_format Two One e = absurd (omega (arith, e))
       by_format Two Two e = refl
 
-  left-nil : {X : Type 0} (a r : List X) → a ++ r ≡ [] → a ≡ []
-  left-nil [] r e = refl
-  left-nil (x ∷ a) r e = cc
-
-  right-nil : {X : Type 0} (a r : List X) → a ++ r ≡ [] → r ≡ []
-  right-nil [] r e = e
-  right-nil (x ∷ a) r e = cc
-
   map-nil : {X Y : Type 0} (f : X → Y) (xs : List X) → map f xs ≡ [] → xs ≡ []
   map-nil f [] e = refl
   map-nil f (x ∷ xs) e = cc
@@ -238,11 +232,12 @@ module _ (sig : Sig) (most : ℕ) where
           let own = codes "matchpy program " ++ decimal (format_number f.format) in
           let first = codes "matchpy program " ++ decimal (format_number format) in
           let rest = f.ops ++ (f.kinds ++ (tests ++ (rules ++ begun))) in
-          let none = tails own first rest [] k.lines in
-          let behind-ops = right-nil f.ops (f.kinds ++ (tests ++ (rules ++ begun))) none in
-          let behind-kinds = right-nil f.kinds (tests ++ (rules ++ begun)) behind-ops in
-          let behind-tests = right-nil tests (rules ++ begun) behind-kinds in
-          first-stage z.stage f format k.is (same-format f.format format (heads own first rest [] k.lines))
-          (left-nil f.ops _ none) (left-nil f.kinds _ behind-ops)
-          (map-nil (text.test_line sig) f.tests (left-nil tests _ behind-kinds))
-          (map-nil (text.rule_line sig) f.rules (left-nil rules _ behind-tests)) (right-nil rules begun behind-tests)
+          let none = rest-same own first rest [] k.lines in
+          let behind-ops = (nil-append f.ops (f.kinds ++ (tests ++ (rules ++ begun))) none).1 in
+          let behind-kinds = (nil-append f.kinds (tests ++ (rules ++ begun)) behind-ops).1 in
+          let behind-tests = (nil-append tests (rules ++ begun) behind-kinds).1 in
+          first-stage z.stage f format k.is (same-format f.format format (first-same own first rest [] k.lines))
+          (nil-append f.ops _ none).0 (nil-append f.kinds _ behind-ops).0
+          (map-nil (text.test_line sig) f.tests (nil-append tests _ behind-kinds).0)
+          (map-nil (text.rule_line sig) f.rules (nil-append rules _ behind-tests).0)
+          (nil-append rules begun behind-tests).1

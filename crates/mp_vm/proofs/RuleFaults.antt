@@ -23,6 +23,7 @@ use Rattle.mp_program.specs.FormFaults.{fault_if, faults_along, test_faults, use
 use Rattle.mp_program.specs.FormFaults.{rule_faults, unused_faults}
 use Rattle.mp_program.specs.ProgramOf.{same_cond}
 use Rattle.mp_program.specs.Reading.{first_fault}
+use Rattle.mp_program.proofs.NameLaws.{known-push}
 use Rattle.mp_line.specs.LineTexts.{kept_line}
 use Rattle.mp_vm.specs.Checked.{numbers_below}
 
@@ -54,24 +55,11 @@ test_faults-text sig done c n texts text b known is new =
 
 -- ---- used tests
 
-known-push : (ys : List ℕ) (y n : ℕ) → is_known nat_eq (ys ++ y ∷ []) n ≡ (is_known nat_eq ys n || nat_eq y n)
-known-push [] y n = or_false (nat_eq y n)
-  where
-    or_false : (b : Bool) → (b || false) ≡ b
-    or_false true = refl
-    or_false false = refl
-known-push (z ∷ ys) y n = ap (λ b. nat_eq z n || b) (known-push ys y n)
-    ∙ or_assoc (nat_eq z n) (is_known nat_eq ys n) (nat_eq y n)
-  where
-    or_assoc : (a b c : Bool) → (a || (b || c)) ≡ ((a || b) || c)
-    or_assoc true b c = refl
-    or_assoc false b c = refl
-
 -- the numbers below one are those that are less
 pub known-below : (u n : ℕ) → is_known nat_eq (numbers_below u) n ≡ nat_lt n u
 known-below zero n = grind (arith, nat_tests)
 known-below (suc u) n =
-    known-push (numbers_below u) u n ∙ ap (λ b. b || nat_eq u n) (known-below u n) ∙ one_more u n
+    known-push nat_eq (numbers_below u) u n ∙ ap (λ b. b || nat_eq u n) (known-below u n) ∙ one_more u n
   where
     one_more : (u n : ℕ) → (nat_lt n u || nat_eq u n) ≡ nat_lt n (suc u)
     one_more u n = grind (arith, nat_tests)
@@ -120,18 +108,6 @@ used_test-fits count before vars (tested n) used is good = (next (length (used_t
     next u h g = grind (arith, nat_tests)
 
 module _ (count : ℕ) (before : List RuleLine) (n : ℕ) (r : RuleLine) where
-  -- the parts of a line of which nothing is wrong
-  pub rule_faults-none : rule_faults count before n r ≡ [] → is_bad_test count before r.vars r.test ≡ false
-  rule_faults-none h = go (list_any (λ q. same_name q.name r.name) before) (not (are_distinct r.vars))
-      (nat_lt MAX_VARIABLES (length r.vars)) (is_bad_test count before r.vars r.test) h
-    where
-      go : (a b c d : Bool) → fault_if (a || (b || (c || d))) (BadReference n) ≡ [] → d ≡ false
-      go a b c false h = refl
-      go true b c true h = (let wrong : BadReference n ∷ [] ≡ [] = h in cc)
-      go false true c true h = (let wrong : BadReference n ∷ [] ≡ [] = h in cc)
-      go false false true true h = (let wrong : BadReference n ∷ [] ≡ [] = h in cc)
-      go false false false true h = (let wrong : BadReference n ∷ [] ≡ [] = h in cc)
-
   -- what is wrong with a line, where but for its name nothing is
   pub rule_faults-name : are_distinct r.vars ≡ true → length r.vars ≤ MAX_VARIABLES
       → is_bad_test count before r.vars r.test ≡ false → (names : List Text) (name : Text) (b : Bool)

@@ -30,6 +30,7 @@ use Rattle.mp_cond.specs.Ready.{AreCountable, IsCountable, IsReady}
 use Rattle.mp_cond.proofs.ReadyLaws.{IsReady-over}
 use Rattle.mp_theory.specs.ValueSizes.{HasAtMost}
 use Rattle.mp_theory.proofs.ValueSizes.{fits-within}
+use Rattle.mp_search.proofs.NumberLaws.{in-slice_get}
 use Rattle.mp_walk.specs.CodeForest.{code_forest}
 use Rattle.mp_walk.specs.Forests.{lists}
 use Rattle.mp_walk.specs.Found.{found_cmp, names_of}
@@ -41,20 +42,16 @@ use Rattle.mp_walk.proofs.CodePaths.{leaf-whole}
 use Rattle.mp_walk.proofs.FoundLaws.{ascending-pairs}
 use Rattle.mp_program.specs.Program.{ProgramRule, Program}
 use Rattle.mp_program.specs.TokenPaths.{operand_names, cond_names, path_variables, suits_test, test_of}
+use Rattle.mp_program.proofs.NameLaws.{length-names}
+use Rattle.mp_program.proofs.PathLaws.{variables-path}
 use Rattle.mp_vm.specs.ProgramList.{IsGivenBy, IsProgramPair, IsProgramList, IsAcceptedAt, IsTestedBy}
 use Rattle.mp_vm.specs.ProgramList.{IsPairOf}
 use Rattle.mp_vm.specs.Runnable.{IsSmallOperand, HasSmallOperands, IsRunnable}
-use Rattle.mp_vm.proofs.PlaceLaws.{length-names}
-use Rattle.mp_vm.proofs.WholePaths.{variables-path, each-path}
+use Rattle.mp_vm.proofs.WholePaths.{each-path}
 
 -- ---- lists
 
 -- what stands at a place is in the list
-in-place : {X : Type 0} (xs : List X) (k : ℕ) (x : X) → slice_get xs k ≡ Some x → In x xs
-in-place [] k x e = cc
-in-place (y ∷ xs) zero x e = inl (let w : Some y ≡ Some x = e in let h : x ≡ y = cc in h)
-in-place (y ∷ xs) (suc k) x e = inr (in-place xs k x e)
-
 -- one item more
 pub take-next : (xs : List ℕ) (k : ℕ) → k < length xs → take (k + 1) xs ≡ take k xs ++ get_or xs k 0 ∷ []
 take-next xs k h = ap (λ n. take n xs) (let m : k + 1 ≡ suc k = omega arith in m) ∙ next xs k h
@@ -105,7 +102,7 @@ over-operands xs (ground t ∷ os) h k = (k.0, over-operands xs os h k.1)
 -- a test is one of the tests
 test-among : (tests : List Cond) (o : Option ℕ) (c : Cond) → test_of tests o ≡ Some c → In c tests
 test-among tests None c e = cc
-test-among tests (Some n) c e = in-place tests n c e
+test-among tests (Some n) c e = in-slice_get tests n c e
 
 -- ---- what is found
 

@@ -2,10 +2,10 @@
 use Rattle.std.proofs.Common.{◌≡◌, ℕ, zero, suc, ◌+◌, ◌<◌, ◌≤◌, List, [], ◌∷◌, ◌++◌, map, length}
 use Rattle.std.proofs.Common.{Bool, true, false, refl}
 use Rattle.std.proofs.Common.{ap, sym, ◌∙◌, inl, inr, subst, arith}
-use Rattle.std.specs.Prelude.{◌≢◌, Option, Some, None, IsSome, is_some, slice_get, flat_map, option_to_list}
+use Rattle.std.specs.Prelude.{◌≢◌, Option, Some, None, IsSome, is_some, flat_map, option_to_list}
 use Rattle.std.specs.Prelude.{if◌then◌else◌, nat_eq, nat_lt}
-use Rattle.std.specs.List.{AllByRecursion, list_all}
-use Rattle.std.proofs.lemmas.Bool.{and_parts, or_parts}
+use Rattle.std.specs.List.{AllByRecursion}
+use Rattle.std.proofs.lemmas.Bool.{or_parts}
 use Rattle.mp_io.specs.Devices.{Text}
 use Rattle.mp_term.specs.Listing.{In}
 use Rattle.mp_term.specs.Signature.{Sig}
@@ -45,6 +45,7 @@ use Rattle.mp_program.specs.Reading.{IsValid}
 use Rattle.mp_program.specs.RightForm.{IsRightWildcard, IsRightToken, IsRightAction, IsRightInstr, IsRightCond}
 use Rattle.mp_program.specs.RightForm.{IsRightTest, IsRightRuleTest, IsRightRule, IsRightForm}
 use Rattle.mp_program.specs.TokenPaths.{is_right_path, open_along, is_balanced, may_accept}
+use Rattle.mp_program.proofs.ListLaws.{list_all-in, place-in}
 use Rattle.mp_vm.specs.Runnable.{EachOfToken, HasSmallOperands, IsRunnable}
 use Rattle.mp_vm.proofs.Decoded.{LeavesOpen, leaves-open}
 use Rattle.mp_vm.proofs.LeadLaws.{all_leads, target-bounds, IsPlaced, placed, stable, all_leads-to, good-leads}
@@ -56,12 +57,6 @@ use Rattle.mp_vm.proofs.WholePaths.{whole-path}
 abbrev pub first_path : List Path → Path
 first_path [] = []
 first_path (b ∷ bs) = b
-
--- where an item stands
-place-of : {X : Type 0} (xs : List X) (x : X) → In x xs → (k : ℕ) × (slice_get xs k ≡ Some x)
-place-of [] x i = absurd i
-place-of (y ∷ xs) x (inl e) = (0, ap Some (sym e))
-place-of (y ∷ xs) x (inr i) = let p = place-of xs x i in (suc p.0, p.1)
 
 -- an operation is open behind an instruction that leads down, and none behind another
 open-down : (o : Option (List ℕ)) → is_balanced o true ≡ true → (f : ℕ) × (fs : List ℕ) × (o ≡ Some (f ∷ fs))
@@ -105,12 +100,6 @@ module _ (sig : Sig) (format : Format) where
 most-limit : (format : Format) → most_nodes format ≤ MAX_PATTERN_NODES
 most-limit One = omega arith
 most-limit Two = omega arith
-
--- what all items pass each passes
-all-pass : {X : Type 0} (p : X → Bool) (xs : List X) (x : X) → list_all p xs ≡ true → In x xs → p x ≡ true
-all-pass p [] x h i = absurd i
-all-pass p (y ∷ xs) x h (inl e) = ap p e ∙ (and_parts (p y) _ h).0
-all-pass p (y ∷ xs) x h (inr i) = all-pass p xs x (and_parts (p y) _ h).1 i
 
 -- the first ones of items that hold hold
 first-hold : {X : Type 0} (same : X → X → Bool) (P : X → Type 0) (ys xs : List X) → AllByRecursion P ys
@@ -248,7 +237,7 @@ module _ (sig : Sig) (format : Format) (tests : List Cond) (rules : List Program
     | inl j ↦ let b = target-bounds stop line 0 (option_to_list begin) begins m j in (omega (arith, b.0), b.1)
     | inr j ↦
         let a = from_in-flat targets m code j in
-        let k = place-of code a.0 a.1 in
+        let k = place-in a.0 code a.1 in
         let b = (at (suc k.0) a.0 k.1).led.bounds m a.2 in
         (omega (arith, b.0), b.1)
   ]
@@ -323,7 +312,7 @@ module _ (sig : Sig) (format : Format) (tests : List Cond) (rules : List Program
         let among : accepts_at code n ≡ f.0.accepts =
         ap (λ o. elim o as (λ _. List ℕ) [ None ↦ [] | Some i ↦ i.accepts ]) f.1 in
         subst (λ ks. may_accept tests rules ks r ≡ true) own
-        (all-pass (may_accept tests rules (p.led.before ++ f.0.token ∷ [])) f.0.accepts r p.led.accepted
+        (list_all-in (may_accept tests rules (p.led.before ++ f.0.token ∷ [])) f.0.accepts r p.led.accepted
         (subst (In r) among accepts));
     defaults = λ n path leads.
         let f = path-of n path leads in

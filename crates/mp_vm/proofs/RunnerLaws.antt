@@ -1,14 +1,13 @@
 -- The terms that a program's instructions bring to a table, and the table of a subject with them.
-use Rattle.std.proofs.Common.{◌≡◌, ◌≤◌, ℕ, zero, suc, List, [], ◌∷◌, refl, ap, sym, subst, inl, inr}
-use Rattle.std.specs.Prelude.{Contains, Some, IsSome, IfOk, Result, Ok, Err, slice_get}
+use Rattle.std.proofs.Common.{◌≡◌, ◌≤◌, List, refl, sym, subst}
+use Rattle.std.specs.Prelude.{Contains, IsSome, IfOk, Result, Ok, Err}
 use Rattle.std.specs.List.{AllByRecursion}
-use Rattle.std.proofs.lemmas.Option.{get_or_from_slice_get}
 use Rattle.mp_term.specs.Listing.{In, IsListing}
 use Rattle.mp_term.specs.Normal.{IsNormal}
 use Rattle.mp_term.specs.Order.{tree_cmp}
 use Rattle.mp_term.specs.Signature.{Sig}
 use Rattle.mp_term.specs.Size.{all_nodes, node_count}
-use Rattle.mp_term.specs.Tree.{Tree, symbol}
+use Rattle.mp_term.specs.Tree.{Tree}
 use Rattle.mp_term.proofs.ListLaws.{all-also, all-append, all-flat_map}
 use Rattle.mp_term.proofs.ListingLaws.{all_in, contains-from_in, in-from_contains}
 use Rattle.mp_term.proofs.SearchLaws.{all-from_in}
@@ -21,9 +20,8 @@ use Rattle.mp_pattern.specs.PatternTree.{Pattern, symbol_pattern, app_pattern, w
 use Rattle.mp_pattern.specs.PatternTree.{Patterns, no_patterns, more_patterns}
 use Rattle.mp_pattern.specs.Sound.{DefaultIsNormal, DefaultsAreNormal}
 use Rattle.mp_table.specs.declared.limits.TheConstants.{MAX_CONSTANT_NODES}
-use Rattle.mp_table.specs.Subterms.{IsSubtermOf}
 use Rattle.mp_table.specs.Table.{IsTableOf, Table, rank_of}
-use Rattle.mp_table.proofs.RankLaws.{rank_of-slice_get}
+use Rattle.mp_search.proofs.TableLaws.{subject-built, held-built}
 use Rattle.mp_walk.specs.CodeConstants.{code_constants, token_constants}
 use Rattle.mp_walk.specs.Instrs.{Instr}
 use Rattle.mp_walk.specs.SoundTokens.{IsSoundToken}
@@ -84,38 +82,15 @@ module _ (sig : Sig) where
 
 -- ---- the table
 
--- the place of a member
-place-in : {X : Type 0} (x : X) (xs : List X) → In x xs → (i : ℕ) × (slice_get xs i ≡ Some x)
-place-in x [] h = absurd h
-place-in x (y ∷ xs) (inl e) = (zero, ap Some (sym e))
-place-in x (y ∷ xs) (inr i) = let r = place-in x xs i in (suc r.0, r.1)
-
--- a term is one of its own subterms
-own-subterm : (u : Tree) (ts : List Tree) → In u ts → IsSubtermOf ts u
-own-subterm u [] h = absurd h
-own-subterm u (t ∷ ts) (inl e) = inl ([], ap Some (sym e))
-own-subterm u (t ∷ ts) (inr i) = inr (own-subterm u ts i)
-
 module _ (table : Table) (subject : Tree) (constants : List Tree) (built : IsTableOf subject constants table) where
-  -- its subject is that of its build
-  pub subject-built : subject_of table ≡ subject
-  subject-built = get_or_from_slice_get table.terms table.root subject (symbol []) built.root
-
-  -- and it holds the constants
-  held-built : (u : Tree) → In u constants → IsSome (rank_of table u)
-  held-built u i =
-      let held : In u table.terms = in-from_contains u table.terms
-      ((built.listing.exactly u).1 (inr (own-subterm u constants i))) in
-      let place = place-in u table.terms held in
-      subst IsSome (sym (rank_of-slice_get table u built.listing.ascending place.0 place.1)) refl
-
   -- a program may be run on it, where the constants are those of the program
   pub program_table-built : (sig : Sig) (p : Program) → AreCodeConstants sig p.code constants
       → AllByRecursion (IsNormal sig) table.terms → node_count subject ≤ MAX_TERM_NODES → IsProgramTable sig p table
   program_table-built sig p h normal few = record {
     normal = normal;
-    few = subst (λ t. node_count t ≤ MAX_TERM_NODES) (sym subject-built) few;
-    constants = all-also (λ u. In u constants) (λ u. IsSome (rank_of table u)) held-built
+    few = subst (λ t. node_count t ≤ MAX_TERM_NODES) (sym (subject-built table subject constants built)) few;
+    constants = all-also (λ u. In u constants) (λ u. IsSome (rank_of table u))
+        (held-built table subject constants built)
         (code_constants p.code) h.held;
   }
 

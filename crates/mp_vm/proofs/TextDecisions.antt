@@ -17,17 +17,18 @@ use Rattle.mp_program.specs.ProgramOf.{program_of}
 use Rattle.mp_program.specs.Reading as reading
 use Rattle.mp_program.specs.Reading.{is_numeral, IsFormOf, IsBadLine, IsOtherVersion, IsProgramOf, IsProgramFaultOf}
 use Rattle.mp_program.specs.Reading.{first_fault}
+use Rattle.mp_program.proofs.ListLaws.{first-same}
 use Rattle.mp_line.specs.Lines.{Line, op_line, kind_line, test_line, rule_line, code_line, begin_line, instr_line}
 use Rattle.mp_line.specs.Lines.{stop_line}
 use Rattle.mp_vm.specs.declared.stage.Stage.{Stage}
 use Rattle.mp_vm.specs.declared.stage.Stage.TheVariants.{Ops, Kinds, Tests, Rules, Code, Begin, Instrs, Stop}
 use Rattle.mp_vm.specs.FormRead.{first_line}
-use Rattle.mp_vm.specs.Kept.{kept, IsOnlyState}
+use Rattle.mp_vm.specs.Kept.{IsOnlyState}
 use Rattle.mp_vm.specs.Machine.{State, start, IsState, may_follow, HasRoom, MayCome, IsNextText, step}
 use Rattle.mp_vm.proofs.BadLines.{bad-next, bad-open, bad-unended, bad-first, bad-empty}
 use Rattle.mp_vm.proofs.Decisions.{Decided, decided-by, decided-both, decided-not, decided-true, decided-less}
 use Rattle.mp_vm.proofs.Decisions.{decided-text, decided-behind}
-use Rattle.mp_vm.proofs.FrontLaws.{heads}
+use Rattle.mp_vm.proofs.DraftLaws.{comes-kept, kept-comes}
 use Rattle.mp_vm.proofs.LineDecisions.{decided-line}
 use Rattle.mp_vm.proofs.OneForm.{next-one}
 use Rattle.mp_vm.proofs.ReadingLaws.{start-only, next-only, whole-form}
@@ -48,27 +49,6 @@ decided-room f stop_line = inl tt
 decided-comes : (s : State) (l : Line) → Decided (MayCome s l)
 decided-comes s l = decided-by (λ h. record { follows = h.0; room = h.1 }) (λ h. (h.follows, h.room))
     (decided-both (decided-true (may_follow l s.stage s.form.begin)) (decided-room s.form l))
-
--- what may come next doesn't rest on what isn't kept of it
-comes-kept : (s : State) (l : Line) → MayCome s l → MayCome s (kept 0 l)
-comes-kept s op_line h = h
-comes-kept s kind_line h = h
-comes-kept s (test_line c) h = h
-comes-kept s (rule_line r) h = record { follows = h.follows; room = h.room }
-comes-kept s code_line h = h
-comes-kept s (begin_line d) h = h
-comes-kept s (instr_line i) h = h
-comes-kept s stop_line h = h
-
-kept-comes : (s : State) (l : Line) → MayCome s (kept 0 l) → MayCome s l
-kept-comes s op_line h = h
-kept-comes s kind_line h = h
-kept-comes s (test_line c) h = h
-kept-comes s (rule_line r) h = record { follows = h.follows; room = h.room }
-kept-comes s code_line h = h
-kept-comes s (begin_line d) h = h
-kept-comes s (instr_line i) h = h
-kept-comes s stop_line h = h
 
 decided-stop : (st : Stage) → Decided (st ≡ Stop)
 decided-stop Ops = inr (λ e. cc)
@@ -108,7 +88,7 @@ decided-version bytes = go (lines_of bytes) refl
         })
         (λ v. (
           v.number,
-          heads line (codes "matchpy program " ++ v.number) rest v.rest (sym e ∙ v.first),
+          first-same line (codes "matchpy program " ++ v.number) rest v.rest (sym e ∙ v.first),
           (v.numeral, (v.not_one, v.not_two)),
         ))
         (decided-behind (codes "matchpy program ") IsOther line (λ number _. decided-other number))
@@ -123,8 +103,8 @@ module _ (sig : Sig) (held : IsSignature sig) where
     where
       by_kept : (l : Line) → IsNextText sig s.form line l → Decided (MayCome s l) → Decided (IsNext s line)
       by_kept l t (inl comes) = inl (l, t, comes)
-      by_kept l t (inr never) = inr (λ h. never (kept-comes s l
-          (subst (MayCome s) ((next-one sig held 0 s line l is t).only h.0 h.1) (comes-kept s h.0 h.2))))
+      by_kept l t (inr never) = inr (λ h. never (kept-comes 0 s l
+          (subst (MayCome s) ((next-one sig held 0 s line l is t).only h.0 h.1) (comes-kept 0 s h.0 h.2))))
 
       go : Decided ((l : Line) × IsNextText sig s.form line l) → Decided (IsNext s line)
       go (inl h) = by_kept h.0 h.1 (decided-comes s h.0)

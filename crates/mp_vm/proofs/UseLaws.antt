@@ -1,6 +1,6 @@
 -- The occurrences of variables in a pattern, whatever they stand under: names and wildcards alone decide whether two of
 -- them differ.
-use Rattle.std.proofs.Common.{◌≡◌, ℕ, List, [], ◌∷◌, ◌++◌, map, true, false, refl, ap, sym, ◌∙◌, inl, inr, subst}
+use Rattle.std.proofs.Common.{◌≡◌, ℕ, List, [], ◌∷◌, ◌++◌, true, false, refl, ap, sym, ◌∙◌, inl, inr, subst}
 use Rattle.std.specs.Prelude.{◌||◌, ◌&&◌, not, Option, Some, None}
 use Rattle.std.specs.List.{list_any}
 use Rattle.std.proofs.lemmas.Bool.{or_parts, not-false}
@@ -16,13 +16,7 @@ use Rattle.mp_pattern.specs.Variables.{Use, uses, all_uses}
 use Rattle.mp_pattern.proofs.ClashLaws.{Agree, InOrder, same_shape-same}
 use Rattle.mp_pattern.proofs.NameLaws.{same_name-itself}
 use Rattle.mp_program.specs.TokenPaths.{differ, some_differ}
-
--- an occurrence at the root
-abbrev pub bare : Use → Use
-bare u = record { name = u.name; wildcard = u.wildcard; under = None }
-
-abbrev pub all_bare : List Use → List Use
-all_bare us = map bare us
+use Rattle.mp_program.proofs.PathLaws.{bare, all_bare}
 
 -- those of wildcards among patterns
 abbrev pub root_uses : List Pattern → List Use
@@ -57,12 +51,7 @@ mutual
       ∙ ap (λ us. all_bare (uses f p) ++ us) (root_uses-all_subpatterns f ps)
       ∙ sym (map-append bare (uses f p) (all_uses f ps))
 
--- what they stand under says nothing of their names
-pub names-bare : (us : List Use) → map (λ (u : Use). u.name) (all_bare us) ≡ map (λ (u : Use). u.name) us
-names-bare [] = refl
-names-bare (u ∷ us) = ap (λ xs. u.name ∷ xs) (names-bare us)
-
--- nor whether two of them differ
+-- what they stand under says nothing of whether two of them differ
 any-bare : (u : Use) (us : List Use) → list_any (differ (bare u)) (all_bare us) ≡ list_any (differ u) us
 any-bare u [] = refl
 any-bare u (v ∷ us) = ap (λ b. differ u v || b) (any-bare u us)

@@ -1,7 +1,7 @@
 -- Ways to the instructions of a program, and the tokens along them.
-use Rattle.std.proofs.Common.{◌≡◌, ℕ, zero, suc, ◌-◌, ◌<◌, List, [], ◌∷◌, ◌++◌, map, refl, ap, sym}
+use Rattle.std.proofs.Common.{◌≡◌, ℕ, zero, suc, ◌-◌, ◌<◌, List, [], ◌∷◌, map, refl, ap, sym}
 use Rattle.std.proofs.Common.{◌∙◌, arith}
-use Rattle.std.specs.Prelude.{Option, Some, None, slice_get, option_map}
+use Rattle.std.specs.Prelude.{Option, Some, None, slice_get, option_map, replicate}
 use Rattle.std.proofs.lemmas.Option.{slice_get-map}
 use Rattle.mp_pattern.specs.NetTokens.{NetToken}
 use Rattle.mp_pattern.specs.NetTokenView.{net_token}
@@ -12,17 +12,12 @@ use Rattle.mp_vm.specs.WayView.{way_at, AreAbove}
 use Rattle.mp_vm.specs.declared.ways.Way.{Way}
 use Rattle.mp_vm.specs.declared.ways.Way.TheVariants.{Unknown, One}
 
--- no way is known to one instruction more
-pub way_at-none : (ws : List Way) → ((n : ℕ) → way_at ws n ≡ Unknown) → (n : ℕ)
-    → way_at (ws ++ Unknown ∷ []) n ≡ Unknown
-way_at-none ws h zero = refl
-way_at-none ws h (suc k) = more ws k (h (suc k))
-  where
-    more : (ws : List Way) (k : ℕ) → way_at ws (suc k) ≡ Unknown → way_at (ws ++ Unknown ∷ []) (suc k) ≡ Unknown
-    more [] zero h = refl
-    more [] (suc k) h = refl
-    more (w ∷ ws) zero h = h
-    more (w ∷ ws) (suc k) h = more ws k h
+-- no way is known to any of so many instructions
+pub way_at-replicate : (count n : ℕ) → way_at (replicate count Unknown) n ≡ Unknown
+way_at-replicate count zero = refl
+way_at-replicate zero (suc k) = refl
+way_at-replicate (suc count) (suc zero) = refl
+way_at-replicate (suc count) (suc (suc k)) = way_at-replicate count (suc k)
 
 -- nothing is above the top
 pub above-top : (code : List Instr) (ws : List Way) (n : ℕ) (ks : List NetToken) → AreAbove code ws n ks → n ≡ 0

@@ -1,10 +1,10 @@
 -- The path of an instruction that accepts, in a faultless program, stands for a pattern that has a plan.
 use Rattle.std.proofs.Common.{◌≡◌, ℕ, suc, ◌+◌, ◌≤◌, List, [], ◌∷◌, ◌++◌, map, length, Bool, true, false, refl}
 use Rattle.std.proofs.Common.{ap, sym, ◌∙◌, inl, inr, subst, arith}
-use Rattle.std.specs.Prelude.{not, Option, Some, None, nat_le, if◌then◌else◌}
+use Rattle.std.specs.Prelude.{Some, None, nat_le, if◌then◌else◌}
 use Rattle.std.specs.List.{AllByRecursion, list_any}
 use Rattle.std.proofs.lemmas.Bool.{and_parts, or_parts, not-true, leb-true}
-use Rattle.std.proofs.lemmas.List.{append_assoc, append-nil, map-append}
+use Rattle.std.proofs.lemmas.List.{append_assoc, append-nil}
 use Rattle.mp_io.specs.Devices.{Text}
 use Rattle.mp_term.specs.Listing.{In}
 use Rattle.mp_term.specs.Normal.{IsNormal}
@@ -22,7 +22,7 @@ use Rattle.mp_pattern.specs.PatternTree.{app_pattern, wild_pattern, Patterns, no
 use Rattle.mp_pattern.specs.Sound.{DefaultIsNormal, DefaultsAreNormal, holds_ops}
 use Rattle.mp_pattern.specs.Subpatterns.{subpatterns}
 use Rattle.mp_pattern.specs.Value.{same_name}
-use Rattle.mp_pattern.specs.Variables.{Use, uses, all_uses, variables}
+use Rattle.mp_pattern.specs.Variables.{Use, uses, variables}
 use Rattle.mp_pattern.proofs.ClashLaws.{first_clash_after-InOrder}
 use Rattle.mp_pattern.proofs.NameLaws.{same_name-is}
 use Rattle.mp_pattern.proofs.PlanParts.{parts-plan_fault}
@@ -35,14 +35,16 @@ use Rattle.mp_build.proofs.Faultless.{nil-append}
 use Rattle.mp_build.proofs.SoundLaws.{holds_ops-pattern_of, defaults-pattern_of}
 use Rattle.mp_walk.specs.SoundTokens.{path_nodes}
 use Rattle.mp_walk.specs.Walkable.{Path, numbered_names, StandsFor, IsWhole}
-use Rattle.mp_walk.proofs.NumberedNames.{NamesIn, AllNamesIn, names-in, own-names, numbered-number_in, renamed-itself}
+use Rattle.mp_walk.proofs.NumberedNames.{NamesIn, AllNamesIn, names-in, own-names, renamed-itself}
 use Rattle.mp_program.specs.declared.format.Format.{Format}
 use Rattle.mp_program.specs.RightForm.{IsRightWildcard, IsRightToken}
 use Rattle.mp_program.specs.TokenPaths.{is_loose_token, has_plain_root, enters_comm, token_uses, path_uses}
 use Rattle.mp_program.specs.TokenPaths.{path_variables, are_numbered_from, some_differ, is_right_path, open_along}
+use Rattle.mp_program.proofs.PathLaws.{all_bare, names-same}
 use Rattle.mp_vm.specs.Runnable.{EachOfToken}
-use Rattle.mp_vm.proofs.Decoded.{LeavesOpen, FitsIn, spelled, uses-append}
-use Rattle.mp_vm.proofs.UseLaws.{all_bare, bare, root_uses-subpatterns, names-bare, some_differ-bare, in-order-parts}
+use Rattle.mp_vm.proofs.Decoded.{LeavesOpen, FitsIn, spelled}
+use Rattle.mp_vm.proofs.PathRules.{right-parts}
+use Rattle.mp_vm.proofs.UseLaws.{root_uses-subpatterns, some_differ-bare, in-order-parts}
 
 -- ---- names
 
@@ -110,53 +112,30 @@ module _ (sig : Sig) (format : Format) where
 
   -- ---- whole paths
 
-  -- what a right path has
-  record HasRightPath (most : ℕ) (ks : Path) : Type 0 where
-    root : has_plain_root ks ≡ true
-    enters : list_any (enters_comm sig) ks ≡ false
-    nodes : path_nodes ks ≤ most
-    numbers : are_numbered_from 0 (path_variables ks) ≡ true
-    few : length (path_variables ks) ≤ MAX_VARIABLES
-    alike : some_differ (path_uses ks) ≡ false
-
-  right-parts : (most : ℕ) (ks : Path) → is_right_path sig most ks ≡ true → HasRightPath most ks
-  right-parts most ks h =
-      let a = and_parts (has_plain_root ks) _ h in
-      let b = and_parts (not (list_any (enters_comm sig) ks)) _ a.1 in
-      let c = and_parts (nat_le (path_nodes ks) most) _ b.1 in
-      let d = and_parts (are_numbered_from 0 (path_variables ks)) _ c.1 in
-      let e = and_parts (nat_le (length (path_variables ks)) MAX_VARIABLES) _ d.1 in
-      record {
-        root = a.0;
-        enters = not-true (list_any (enters_comm sig) ks) b.0;
-        nodes = leb-true (path_nodes ks) most c.0;
-        numbers = d.0;
-        few = leb-true (length (path_variables ks)) MAX_VARIABLES e.0;
-        alike = not-true (some_differ (path_uses ks)) e.1;
-      }
-
   pub whole-path : (most : ℕ) → most ≤ MAX_PATTERN_NODES → (front : Path) (k : NetToken)
       → AllByRecursion (IsRightToken sig format) (front ++ k ∷ []) → is_right_path sig most (front ++ k ∷ []) ≡ true
       → LeavesOpen [] front → open_along [] (front ++ k ∷ []) ≡ Some [] → IsWhole sig (front ++ k ∷ [])
   whole-path most limit front k right path stays closed =
       let ks = front ++ k ∷ [] in
       let vs = path_variables ks in
-      let h = right-parts most ks path in
+      let h = right-parts sig most ks path in
+      let a = and_parts (are_numbered_from 0 vs) _ h.uses in
+      let b = and_parts (nat_le (length vs) MAX_VARIABLES) _ a.1 in
+      let few = leb-true (length vs) MAX_VARIABLES b.0 in
       let none : 0 + length vs ≡ length vs = omega arith in
-      let names : vs ≡ numbered_names (length vs) = numbered-from 0 vs h.numbers ∙ ap numbered_names none in
-      let s = spelled sig vs h.few names front k (fits-tokens vs h.few names ks right h.enters (use-named ks)) stays
+      let names : vs ≡ numbered_names (length vs) = numbered-from 0 vs a.0 ∙ ap numbered_names none in
+      let s = spelled sig vs few names front k (fits-tokens vs few names ks right h.enters (use-named ks)) stays
       closed in
       let split : ks ≡ s.0 ∷ s.1 = s.2 in
       let p = s.3.pattern in
       let spells = s.3.spells in
       let same : all_bare (uses None p) ≡ all_bare (path_uses ks) =
       sym (root_uses-subpatterns None p) ∙ spells.uses ∙ ap (λ js. all_bare (path_uses js)) (sym split) in
-      let own : variables p ≡ vs = ap (firsts_after same_name [])
-      (sym (names-bare (uses None p)) ∙ ap (map (λ (u : Use). u.name)) same ∙ names-bare (path_uses ks)) in
+      let own : variables p ≡ vs = ap (firsts_after same_name []) (names-same (uses None p) (path_uses ks) same) in
       let firm : is_loose_token s.0 ≡ false = not-true (is_loose_token s.0)
       (subst (λ js. has_plain_root js ≡ true) split h.root) in
       let alike : some_differ (uses None p) ≡ false = sym (some_differ-bare (uses None p)) ∙ ap some_differ same
-      ∙ some_differ-bare (path_uses ks) ∙ h.alike in
+      ∙ some_differ-bare (path_uses ks) ∙ not-true (some_differ (path_uses ks)) b.1 in
       let nodes : path_nodes (s.0 ∷ s.1) ≤ most = subst (λ js. path_nodes js ≤ most) split h.nodes in
       record {
         pattern = p;
@@ -167,7 +146,7 @@ module _ (sig : Sig) (format : Format) where
         planned = parts-plan_fault p (record {
           firm = s.3.firm firm;
           few_nodes = omega (arith, spells.nodes, nodes, limit);
-          few_variables = subst (λ xs. length xs ≤ MAX_VARIABLES) (sym own) h.few;
+          few_variables = subst (λ xs. length xs ≤ MAX_VARIABLES) (sym own) few;
           no_clash = first_clash_after-InOrder [] (subpatterns p) (in-order-parts p alike);
         });
         held = spells.held;
@@ -177,35 +156,6 @@ module _ (sig : Sig) (format : Format) where
 -- ---- patterns for which a path stands
 
 module _ (sig : Sig) (vs : List (List ℕ)) (names : vs ≡ numbered_names (length vs)) where
-  mutual
-    -- the occurrences of variables in a pattern are those in its tokens
-    uses-tokens : (f : Option ℕ) (p : Pattern) → NamesIn vs p
-        → all_bare (path_uses (tokens sig vs p)) ≡ all_bare (uses f p)
-    uses-tokens f (symbol_pattern n) h = refl
-    uses-tokens f (wild_pattern w None) h = refl
-    uses-tokens f (wild_pattern w (Some x)) h =
-        ap (λ y. record { name = y; wildcard = w; under = None } ∷ []) (numbered-number_in vs names x h)
-    uses-tokens f (app_pattern g ps) h = by_comm (is_comm sig g) (uses-all_tokens (Some g) ps h)
-      where
-        by_comm : (b : Bool) → all_bare (path_uses (all_tokens sig vs ps)) ≡ all_bare (all_uses (Some g) ps)
-            → all_bare (path_uses (if b then comm_token (renamed vs (app_pattern g ps)) ∷ []
-            else (enter_token g ∷ (all_tokens sig vs ps ++ (leave_token g ∷ []))))) ≡ all_bare (all_uses (Some g) ps)
-        by_comm true k =
-            ap all_bare (append-nil (uses None (renamed vs (app_pattern g ps))))
-            ∙ ap (λ q. all_bare (uses None q)) (renamed-itself vs names (app_pattern g ps) h)
-        by_comm false k =
-            uses-append (all_tokens sig vs ps) (leave_token g ∷ [])
-            ∙ append-nil (all_bare (path_uses (all_tokens sig vs ps))) ∙ k
-
-    uses-all_tokens : (f : Option ℕ) (ps : Patterns) → AllNamesIn vs ps
-        → all_bare (path_uses (all_tokens sig vs ps)) ≡ all_bare (all_uses f ps)
-    uses-all_tokens f no_patterns h = refl
-    uses-all_tokens f (more_patterns p ps) h =
-        uses-append (tokens sig vs p) (all_tokens sig vs ps)
-        ∙ ap (λ us. us ++ all_bare (path_uses (all_tokens sig vs ps))) (uses-tokens f p h.0)
-        ∙ ap (λ us. all_bare (uses f p) ++ us) (uses-all_tokens f ps h.1)
-        ∙ sym (map-append bare (uses f p) (all_uses f ps))
-
   module _ (Q : Wildcard → Type 0) where
     mutual
       -- what holds of those of the tokens of a pattern holds of its own
@@ -229,16 +179,7 @@ module _ (sig : Sig) (vs : List (List ℕ)) (names : vs ≡ numbered_names (leng
           (each-tokens p h.0 r.0, all_each-tokens ps h.1 r.1)
 
 module _ (sig : Sig) (path : Path) (p : Pattern) (stands : StandsFor sig path p) where
-  -- the variables of a path are those of the pattern
-  pub variables-path : path_variables path ≡ variables p
-  variables-path =
-      let same : all_bare (path_uses path) ≡ all_bare (uses None p) =
-      ap (λ ks. all_bare (path_uses ks)) (sym stands.tokens)
-      ∙ uses-tokens sig (variables p) stands.names None p (own-names p) in
-      ap (firsts_after same_name [])
-      (sym (names-bare (path_uses path)) ∙ ap (map (λ (u : Use). u.name)) same ∙ names-bare (uses None p))
-
-  -- and its wildcards those of the pattern
+  -- the wildcards of a path are those of the pattern
   pub each-path : (Q : Wildcard → Type 0)
       → AllByRecursion (EachOfToken Q) path → EachWildcard Q p
   each-path Q h = each-tokens sig (variables p) stands.names Q p (own-names p)

@@ -1,22 +1,27 @@
 //! The form of the lines of a program text, as far as it is read.
 
 ghost use Rattle.std.specs.Prelude.{◌≡◌, ◌≢◌, ◌<◌, ◌^◌, ◌+◌, ◌-◌, ◌++◌, ◌∷◌};
-ghost use Rattle.std.specs.Prelude.{[], List, false, ◌↔◌, length, IfOk, IsTrue, MatchOption, ◌≤◌};
+ghost use Rattle.std.specs.Prelude.{[], List, ℕ, suc, false, ◌↔◌, length, IfOk, IsTrue, MatchOption, ◌≤◌};
 ghost use Rattle.mp_io.specs.Devices.{Text};
+ghost use Rattle.mp_pattern.specs.declared.limits.TheConstants.{MAX_RULES};
+ghost use Rattle.mp_program.specs.Form as form;
 ghost use Rattle.mp_program.specs.FormText.{lines_text};
 ghost use Rattle.mp_program.specs.Reading.{Begins};
-ghost use Rattle.mp_line.specs.Lines.{instr_line, stop_line};
+ghost use Rattle.mp_program.specs.RightForm.{IsShort};
+ghost use Rattle.mp_program.specs.RuleView.{rule_line_view};
+ghost use Rattle.mp_walk.specs.InstrView.{plain_instr};
+ghost use Rattle.mp_line.specs.Lines.{rule_line, code_line, instr_line, stop_line};
 ghost use Rattle.mp_line.specs.LineView.{line_view};
 ghost use Rattle.mp_vm.specs.Machine.{State, start, may_follow, HasRoom, MayCome, any_instr, stage_of};
 ghost use Rattle.mp_vm.specs.declared.stage.Stage.TheVariants as stage;
 ghost use Rattle.mp_vm.specs.DraftView.{IsDraftOf, HasRead, IsKept};
 
 use crate::stage::Stage;
-use mp_line::{Line, MAX_KEPT, read_line};
+use mp_line::{Line, MAX_KEPT, read_instr, read_line, read_rule};
 use mp_pattern::{Conds, MAX_RULES};
 use mp_program::{Format, RuleLine};
 use mp_term::{Memory, Signature};
-use mp_walk::Instrs;
+use mp_walk::{Instr, Instrs};
 use std::alloc::Global;
 
 // What is read behind the first line.
@@ -34,20 +39,21 @@ pub(crate) struct Draft {
 }
 
 impl Draft {
-    // Only the first line is read.
-    pub(crate) fn new(alloc: Global, format: Format) -> Draft
-        ensures { IsDraftOf MAX_KEPT result (start format) }
+    // Only the first line is read, of a text of so many bytes. An instruction takes some 32 of them.
+    pub(crate) fn new(alloc: Global, format: Format, size: usize) -> Result<Draft, Memory>
+        ensures { IfOk result (λ d. IsDraftOf MAX_KEPT d (start format)) }
     {
-        Draft {
+        let code = Instrs::with_room(alloc, size / 32)?;
+        Ok(Draft {
             format,
             declarations: 0,
             declared: 0,
             tests: Conds::new(alloc),
             rules: Vec::new(alloc),
             begin: None,
-            code: Instrs::new(alloc),
+            code,
             stage: Stage::Ops,
-        }
+        })
     }
 
     // Takes a line behind those that are read, or answers false where no right lines begin with these and it: the draft
@@ -69,6 +75,20 @@ impl Draft {
         let Some(own) = self.next_number() else {
             return Ok(false);
         };
+        if self.may_go_on() {
+            if let Some(instr) = read_instr(alloc, sig, self.format, own, text)? {
+                let right = self.has_room_for_more();
+                self.keep_instr(instr)?;
+                return Ok(right);
+            }
+        }
+        if self.may_have_rules() {
+            if let Some(rule) = read_rule(alloc, sig, self.format, text)? {
+                let right = self.has_room_for_rules();
+                self.keep_rule(rule)?;
+                return Ok(right);
+            }
+        }
         match read_line(alloc, sig, self.format, own, text)? {
             Some(line) => {
                 let right = self.may_come(&line);
@@ -108,10 +128,7 @@ impl Draft {
             Line::Op => self.stage == Stage::Ops,
             Line::Kind => matches!(self.stage, Stage::Ops | Stage::Kinds),
             Line::Test(_) => matches!(self.stage, Stage::Ops | Stage::Kinds | Stage::Tests),
-            Line::Rule(_) | Line::Code => matches!(
-                self.stage,
-                Stage::Ops | Stage::Kinds | Stage::Tests | Stage::Rules
-            ),
+            Line::Rule(_) | Line::Code => self.may_have_rules(),
             Line::Begin(_) => self.stage == Stage::Code,
             Line::Instr(_) => self.may_go_on(),
             Line::Stop => self.may_stop(),
@@ -124,10 +141,35 @@ impl Draft {
     {
         match line {
             Line::Test(_) => self.format == Format::Two && self.tests.len() < MAX_RULES,
-            Line::Rule(_) => self.rules.len() < MAX_RULES,
-            Line::Instr(_) => self.code.len() < u32::MAX as usize - 1,
+            Line::Rule(_) => self.has_room_for_rules(),
+            Line::Instr(_) => self.has_room_for_more(),
             _ => true,
         }
+    }
+
+    // There is room for one rule more.
+    fn has_room_for_rules(&self) -> bool
+        ensures { (s : State) → IsDraftOf MAX_KEPT self.now s → (IsTrue result ↔ length s.form.rules < MAX_RULES) }
+    {
+        self.rules.len() < MAX_RULES
+    }
+
+    // There is room for one instruction more.
+    fn has_room_for_more(&self) -> bool
+        ensures { IsTrue result ↔ IsShort (suc (suc (length self.now.code))) }
+    {
+        self.code.len() < u32::MAX as usize - 1
+    }
+
+    // A rule may come next, or `code`.
+    fn may_have_rules(&self) -> bool
+        ensures rule { (r : form.RuleLine) → result ≡ may_follow (rule_line r) self.now.stage self.now.begin }
+        ensures code { result ≡ may_follow code_line self.now.stage self.now.begin }
+    {
+        matches!(
+            self.stage,
+            Stage::Ops | Stage::Kinds | Stage::Tests | Stage::Rules
+        )
     }
 
     // An instruction may come next.
@@ -175,6 +217,25 @@ impl Draft {
             Line::Instr(instr) => self.code.push(instr),
             Line::Code | Line::Stop => Ok(()),
         }
+    }
+
+    // Keeps a rule line, whether or not it may stand there.
+    fn keep_rule(&mut self, rule: RuleLine) -> Result<(), Memory>
+        ensures { IfOk result (λ _. (length : ℕ)
+            → IsKept MAX_KEPT self.old self.new (rule_line (rule_line_view rule)) length) }
+    {
+        self.stage = Stage::Rules;
+        self.rules.push(rule)?;
+        Ok(())
+    }
+
+    // Keeps an instruction, whether or not it may stand there.
+    fn keep_instr(&mut self, instr: Instr) -> Result<(), Memory>
+        ensures { IfOk result (λ _. (length : ℕ)
+            → IsKept MAX_KEPT self.old self.new (instr_line (plain_instr instr)) length) }
+    {
+        self.stage = Stage::Instrs;
+        self.code.push(instr)
     }
 }
 

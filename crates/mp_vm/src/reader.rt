@@ -95,7 +95,8 @@ fn read_form(alloc: Global, sig: &Signature, bytes: &[u8]) -> Result<Draft, Prog
     let Some(first) = lines.next() else {
         return Err(ProgramError::BadLine { line: 1 });
     };
-    let mut draft = Draft::new(alloc, format_of(first)?);
+    let format = format_of(first)?;
+    let mut draft = Draft::new(alloc, format, bytes.len())?;
     let mut line: u32 = 2;
     while let Some(text) = lines.next() {
         if !draft.take(alloc, sig, text)? {

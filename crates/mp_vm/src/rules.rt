@@ -40,6 +40,13 @@ fn add_new(texts: &mut NameTable, text: &[u8]) -> Result<bool, Memory>
     Ok(true)
 }
 
+// No name, and room for so many.
+fn no_names<'a>(alloc: Global, room: usize) -> Result<IndexSet<&'a [u8]>, Memory>
+    ensures { IfOk result (λ names. map (λ k. k.now) names.keys ≡ []) }
+{
+    Ok(IndexSet::with_capacity(alloc, room)?)
+}
+
 // Adds a name to others, or answers false where it is one of them.
 fn add_name<'a>(names: &mut IndexSet<&'a [u8]>, name: &'a [u8]) -> Result<bool, Memory>
     ensures new { IfOk result (λ b. b ≡ not (list_any (bytes_eq name.now) (map (λ k. k.now) names.old.keys))) }
@@ -187,7 +194,7 @@ fn check_lines(
     ensures lines { Checks (faults_along (rule_faults count) [] first (map rule_line_view rules.now)) result }
     ensures used { IfOk result (λ used. used_tests (map rule_line_view rules.now) ≡ numbers_below used) }
 {
-    let mut names: IndexSet<&[u8]> = IndexSet::new(alloc);
+    let mut names = no_names(alloc, rules.len())?;
     let mut used: usize = 0;
     let mut number = first;
     for line in rules {

@@ -43,10 +43,7 @@ impl Ways {
         ensures count { IfOk result (λ w. length w.ways.items ≡ count) }
         ensures none { IfOk result (λ w. (n : ℕ) → way_at w.ways.items n ≡ way.Unknown) }
     {
-        let mut ways = Vec::with_capacity(alloc, count)?;
-        for _ in 0..count {
-            ways.push(Way::Unknown)?;
-        }
+        let ways = Vec::from_elem(alloc, Way::Unknown, count)?;
         Ok(Ways { ways })
     }
 

@@ -2,20 +2,13 @@ use Rattle.std.proofs.Common.{subst}
 use Rattle.std.specs.Prelude.{ℕ, List}
 use Rattle.mp_line.specs.Finds.{Finds}
 use Rattle.mp_line.specs.LineTexts.{AreAcceptedText}
-use Rattle.mp_line.proofs.ActionLaws.{no-word, down-found, no-down, accept-found, no-accept}
+use Rattle.mp_line.proofs.ActionLaws.{no-word, led-through, accept-found, no-accept}
 use Rattle.mp_line.proofs.action.split_action.Goals as goal
-
-pub returns-in_default-blank_and_number : goal.returns-in_default-blank_and_number
-returns-in_default-blank_and_number c =
-    let parts = c.before_numbers.result in
-    no-down c.args.text.now parts.0.now parts.1.now c.before_numbers.ensures c.in-Some.token.now c.in-Some.ensures
-    c.in_default-blank_and_number.ensures
 
 pub returns-in-Some : goal.returns-in-Some
 returns-in-Some c =
-    let parts = c.before_numbers.result in
-    down-found c.args.text.now parts.0.now parts.1.now c.before_numbers.ensures c.in-Some.token.now c.in-Some.ensures
-    c.in-Some-blank_and_number.number c.new-accepts.result c.in-Some-blank_and_number.ensures c.new-accepts.ensures
+    led-through c.args.text.now c.in-Some.token.now c.in-Some.number c.new-accepts.result c.in-Some.ensures
+    c.new-accepts.ensures
 
 pub returns-in_default-before : goal.returns-in_default-before
 returns-in_default-before c =

@@ -20,11 +20,11 @@ returns-then-is_empty c =
     let sig = c.args.sig.now in
     let text = c.args.text.now in
     let parts = c.front_of_words.result in
-    IfOk-also c.with_names.result (λ o. Finds rule_line_view (IsHeadText MAX_KEPT text untested) o)
+    IfOk-also c.untested_rule.result (λ o. Finds rule_line_view (IsHeadText MAX_KEPT text untested) o)
     (λ o. Finds rule_line_view (IsRuleBody sig One MAX_KEPT text) o)
     (λ o h. names-through sig (right-opens sig) MAX_KEPT text parts.0.now parts.1.now c.front_of_words.ensures
     rule_line_view o (is-empty parts.1.now c.is_empty.result c.is_empty.ensures c.if-is_empty.true) h)
-    c.with_names.ensures
+    c.untested_rule.ensures
 
 pub overflow_add-spelling : goal.overflow_add-spelling
 overflow_add-spelling c =
@@ -90,14 +90,14 @@ returns-in-Some-2 c =
     let spelling = take (length text - (length front + 4)) (drop (length front + 4) text) in
     let same : spelling ≡ begin ++ parts.1.now = take_rest text (length front + 4)
     ∙ (ap (drop (length front + 4)) whole ∙ drop-behind front (begin ++ parts.1.now)) in
-    IfOk-also c.with_names-in-Some-2.result
+    IfOk-also c.conditional_rule.result
     (λ o. Finds rule_line_view (IsHeadText MAX_KEPT front (spelled (cond_tree c.in-Some-2.cond))) o)
     (λ o. Finds rule_line_view (IsRuleBody sig One MAX_KEPT text) o)
     (λ o h. spelled-through sig (right-opens sig) MAX_KEPT text parts.0.now parts.1.now c.front_of_words.ensures some
     front begin split rule_line_view o (cond_tree c.in-Some-2.cond)
     (subst (λ t. Finds cond_tree (IsExactCond sig t) (Some c.in-Some-2.cond)) same
     (subst (Finds cond_tree (IsExactCond sig spelling)) c.in-Some-2.is c.in_ok-cond.ensures)) h)
-    c.with_names-in-Some-2.ensures
+    c.conditional_rule.ensures
 
 pub returns-in-None : goal.returns-in-None
 returns-in-None c =

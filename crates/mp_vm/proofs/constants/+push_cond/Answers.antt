@@ -1,20 +1,12 @@
-use Rattle.std.proofs.Common.{◌≡◌, ◌≤◌, ◌<◌, ◌+◌, ℕ, zero, suc, List, [], ◌∷◌, length, get_or, map, ap, arith}
+use Rattle.std.proofs.Common.{◌≡◌, ◌+◌, List, ap, arith}
 use Rattle.std.proofs.Common.{◌⊎◌, inl, inr}
 use Rattle.mp_pattern.specs.declared.condition.Cond.{Cond}
 use Rattle.mp_pattern.specs.declared.condition.Cond.TheVariants.{All, Any}
 use Rattle.mp_pattern.specs.CondTree as plain
 use Rattle.mp_pattern.specs.CondSize.{cond_nodes, cond_list_nodes}
 use Rattle.mp_pattern.specs.CondView.{cond_tree}
+use Rattle.mp_line.proofs.NamedLaws.{item-nodes}
 use Rattle.mp_vm.proofs.constants.+push_cond.Goals as goal
-
--- a condition of a list has no more nodes than the list
-nodes-part : (cs : List Cond) (i : ℕ) (x : Cond) → i < length cs → x ≡ get_or cs i x
-    → cond_nodes (cond_tree x) ≤ cond_list_nodes (map cond_tree cs)
-nodes-part [] i x within is = absurd (omega (arith, within))
-nodes-part (c ∷ cs) zero x within is =
-    let same : cond_nodes (cond_tree x) ≡ cond_nodes (cond_tree c) = ap (λ d. cond_nodes (cond_tree d)) is in
-    omega (arith, same)
-nodes-part (c ∷ cs) (suc i) x within is = omega (arith, nodes-part cs i x (omega (arith, within)) is)
 
 -- where a condition is made of others, it has one node more than these
 nodes-whole : (c : Cond) (cs : List plain.Cond) → (c ≡ All cs) ⊎ (c ≡ Any cs)
@@ -27,5 +19,5 @@ push_cond-requires-in-loop-part t c =
     let parts = c.as_slice-part-items.result.now in
     let whole = nodes-whole c.args.cond.now c.in-All.parts c.in-All.is in
     let same = ap cond_list_nodes c.as_slice-part-items.ensures in
-    let small = nodes-part parts c.loop-part.part-index c.part-item.result c.loop-part-test.true c.part-item.is in
+    let small = item-nodes parts c.loop-part.part-index c.part-item.result c.loop-part-test.true c.part-item.is in
     (omega (arith, c.decreases, whole, same, small), tt)

@@ -16,20 +16,20 @@ returns-in_default-clause-fault c =
     λ _. first-empty c.args.sig.now c.args.bytes.now
     (ap lines_of (sym c.new-lines.ensures) ∙ c.in_default.ensures.first)
 
-pub returns-in_err-format_of-clause-fault : goal.returns-in_err-format_of-clause-fault
-returns-in_err-format_of-clause-fault c =
+pub returns-in_err-format-clause-fault : goal.returns-in_err-format-clause-fault
+returns-in_err-format-clause-fault c =
     let p = err_from_is_err_and c.from_residual.result c.from_residual.ensures.1 in
     let line = subst (λ b. IsFirstLine b c.in-Some.first.now c.next.new.self) c.new-lines.ensures
     c.in-Some.ensures.first in
     rw (p.1, p.2) (λ _. first-fault c.args.sig.now c.args.bytes.now c.in-Some.first.now c.next.new.self line
-    c.in_err-format_of.field-0.0 c.in_err-format_of.ensures)
+    c.in_err-format.field-0.0 c.in_err-format.ensures)
 
 pub loop-text-init : goal.loop-text-init
 loop-text-init c =
     let line = subst (λ b. IsFirstLine b c.in-Some.first.now c.next.new.self) c.new-lines.ensures
     c.in-Some.ensures.first in
-    reading-start c.args.sig.now MAX_KEPT c.args.bytes.now c.in-Some.first.now c.next.new.self c.in_ok-format_of.field-0
-    c.new-draft.result line c.in_ok-format_of.ensures c.new-draft.ensures
+    reading-start c.args.sig.now MAX_KEPT c.args.bytes.now c.in-Some.first.now c.next.new.self c.in_ok-format.format
+    c.in_ok-draft.draft line c.in_ok-format.ensures c.in_ok-draft.ensures
 
 pub returns-then-not-branch-clause-fault : goal.returns-then-not-branch-clause-fault
 returns-then-not-branch-clause-fault c =

@@ -6,8 +6,9 @@ use Rattle.mp_program.specs.declared.fault.ProgramError.TheVariants.{BadReferenc
 use Rattle.mp_program.specs.Form.{RuleLine}
 use Rattle.mp_program.specs.FormFaults.{faults_along, rule_faults, fault_if, used_test, used_tests}
 use Rattle.mp_program.specs.RuleView.{rule_test, rule_line_view}
+use Rattle.mp_program.proofs.FaultLaws.{fine-rule}
 use Rattle.mp_vm.proofs.CheckedLaws.{along-here, along-next, passed-more}
-use Rattle.mp_vm.proofs.RuleFaults.{length-below, used_test-fits, used_tests-more, rule_faults-none}
+use Rattle.mp_vm.proofs.RuleFaults.{length-below, used_test-fits, used_tests-more}
 use Rattle.mp_vm.proofs.rules.check_lines.Goals as goal
 
 pub returns-then-not-branch-clause-lines : goal.returns-then-not-branch-clause-lines
@@ -30,9 +31,9 @@ used_after-used-requires c =
     let x = c.line-item.result in
     let used = ap (λ l. length l) at.invariant.used ∙ length-below at.used in
     used_test-fits c.args.count done x.vars (rule_test x.test) at.used used
-    (rule_faults-none c.args.count done at.number (rule_line_view x)
+    (fine-rule c.args.count done at.number (rule_line_view x)
     (c.in_ok-add_rule.ensures.right done used at.invariant.names at.number
-    ∙ ap (λ b. fault_if (not b) (BadReference at.number)) c.if-not-branch.false))
+    ∙ ap (λ b. fault_if (not b) (BadReference at.number)) c.if-not-branch.false)).test
 
 pub loop-line-preserved : goal.loop-line-preserved
 loop-line-preserved c =

@@ -7,7 +7,7 @@ use Rattle.mp_walk.specs.Walkable.{numbered_names}
 use Rattle.mp_walk.specs.WalkView.{subject_of}
 use Rattle.mp_program.specs.ProgramView.{program_view, rule_view}
 use Rattle.mp_vm.specs.ProgramList.{IsTestedBy}
-use Rattle.mp_vm.proofs.PlaceLaws.{length-names}
+use Rattle.mp_program.proofs.NameLaws.{length-names}
 use Rattle.mp_vm.proofs.RunLaws.{item-few, item-ready, item-tested, named-over}
 use Rattle.mp_vm.proofs.run.passes.Goals as goal
 

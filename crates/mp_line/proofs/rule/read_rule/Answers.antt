@@ -8,7 +8,7 @@ use Rattle.mp_line.specs.Finds.{Finds}
 use Rattle.mp_line.specs.LineTexts.{IsRuleBody, IsRuleText}
 use Rattle.mp_line.proofs.FindsLaws.{IfOk-also}
 use Rattle.mp_line.proofs.RuleLaws.{rule-through, no-rule}
-use Rattle.mp_line.proofs.rule.rule.Goals as goal
+use Rattle.mp_line.proofs.rule.read_rule.Goals as goal
 
 pub spelled_rule-requires : goal.spelled_rule-requires
 spelled_rule-requires c =
