@@ -1,6 +1,7 @@
 //! Terms over a signature: the term order, the normal form, positions and edits.
 #![tactic(auto)]
 
+mod bytes;
 mod edit;
 mod edit_check;
 mod edit_fault;
@@ -19,6 +20,7 @@ mod signature;
 mod size;
 mod term;
 
+pub use bytes::same_bytes;
 pub use edit::{Edit, Edits};
 pub use edit_check::check_edits;
 pub use edit_fault::EditFault;

@@ -2,6 +2,7 @@
 ghost use Rattle.std.specs.Prelude.{◌≡◌, ◌<◌, ◌++◌, ◌∷◌, [], length, position, bytes_eq, IfSome, OnOk, OnErr, false};
 ghost use Rattle.std.specs.List.{list_any};
 
+use crate::bytes::same_bytes;
 use crate::memory::Memory;
 use indexmap::IndexSet;
 use std::alloc::Global;
@@ -22,6 +23,9 @@ impl Model for NameTable {
     ghost view = { λ t. map (λ k. k.items) t.names.keys };
 }
 
+// The most names of which each is looked at, which takes less time than a look-up.
+const FEW: usize = 8;
+
 impl NameTable {
     /// The table of no name. It takes no memory.
     pub fn new(alloc: Global) -> Self
@@ -38,7 +42,26 @@ impl NameTable {
         ensures index { result ≡ position (bytes_eq name.now) self.now }
         ensures within { IfSome result (λ i. i < length self.now) }
     {
-        self.names.get_index_of(name)
+        if self.names.len() <= FEW {
+            self.look_for(name)
+        } else {
+            self.names.get_index_of(name)
+        }
+    }
+
+    // The same: each name is looked at.
+    fn look_for(&self, name: &[u8]) -> Option<usize>
+        ensures index { result ≡ position (bytes_eq name.now) self.now }
+        ensures within { IfSome result (λ i. i < length self.now) }
+    {
+        for index in 0..self.names.len() {
+            if let Some(own) = self.names.get_index(index)
+                && same_bytes(own, name)
+            {
+                return Some(index);
+            }
+        }
+        None
     }
 
     /// Adds a name that isn't there, behind the others.
