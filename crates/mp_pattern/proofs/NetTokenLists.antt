@@ -1,14 +1,17 @@
 -- The renaming of a list of patterns, and the names that it gives.
 use Rattle.std.proofs.Common.{◌≡◌, ℕ, ◌+◌, ◌^◌, ◌<◌, ◌≤◌, ◌%◌, true, List, [], ◌∷◌, ◌++◌, map, length, refl, ap, ◌∙◌}
-use Rattle.std.proofs.Common.{arith}
-use Rattle.std.specs.Prelude.{nat_le, decimal}
+use Rattle.std.proofs.Common.{drop, sym, arith}
+use Rattle.std.specs.Prelude.{Some, nat_le, decimal, if◌then◌else◌, slice_get}
 use Rattle.std.specs.List.{list_all}
 use Rattle.std.proofs.lemmas.Bool.Decides.{nat_tests}
 use Rattle.std.proofs.lemmas.Fmt.{decimal_by_steps, length-decimal-le}
 use Rattle.std.proofs.lemmas.List.Folds.{list_all-append}
+use Rattle.std.proofs.lemmas.Option.{get_or_from_slice_get, slice_get_within}
 use Rattle.mp_term.specs.Names.{is_name_byte, is_name}
+use Rattle.mp_term.proofs.ListLaws.{drop-item}
 use Rattle.mp_pattern.specs.PatternTree.{Pattern, more_patterns, patterns}
-use Rattle.mp_pattern.specs.NetTokens.{numbered, renamed, all_renamed}
+use Rattle.mp_pattern.specs.NetTokens.{number_in, numbered, renamed, all_renamed}
+use Rattle.mp_pattern.specs.Value.{same_name}
 
 -- each pattern of a list is renamed
 pub all_renamed-patterns : (xs : List (List ℕ)) (ps : List Pattern)
@@ -43,3 +46,9 @@ is_name-numbered n small =
     let most : nat_le (length (numbered n)) 64 ≡ true = grind (arith, nat_tests) in
     let some : nat_le 1 (length (numbered n)) ≡ true = grind (arith, nat_tests) in
     rw (some, most, decimal-bytes n few) refl
+
+-- the number of a name, by the next of the names
+pub number_in-next : (names : List (List ℕ)) (i : ℕ) (other name : List ℕ) → slice_get names i ≡ Some other
+    → number_in (drop i names) name ≡ (if same_name other name then 0 else number_in (drop (i + 1) names) name + 1)
+number_in-next names i other name at = ap (λ l. number_in l name)
+    (drop-item names i other (slice_get_within names i other at) (sym (get_or_from_slice_get names i other other at)))

@@ -14,6 +14,7 @@ pub mod Ground
 pub mod Firsts
 pub mod Value
 pub mod Variables
+pub mod UsedNames
 pub mod Extent
 pub mod Contribution
 pub mod Fits

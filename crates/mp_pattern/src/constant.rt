@@ -15,8 +15,13 @@ use crate::rule::{Rule, Rules};
 use mp_term::{Memory, Term, Terms, copy_term};
 use std::alloc::Global;
 
-// Adds the symbols and the defaults of a pattern, in preorder.
-fn push_pattern(alloc: Global, found: &mut Vec<Term>, pattern: &Pattern) -> Result<(), Memory>
+/// Adds the symbols and the defaults of a pattern, in preorder, each as often as it stands there (`pattern_constants` of
+/// `specs/Constants.antt`). `Memory` comes where there is no room for them.
+pub fn push_pattern_constants(
+    alloc: Global,
+    found: &mut Vec<Term>,
+    pattern: &Pattern,
+) -> Result<(), Memory>
     ensures { OnOk result (map tree found.new.items
         ≡ map tree found.old.items ++ pattern_constants (pattern_tree pattern.now)) }
 {
@@ -24,7 +29,7 @@ fn push_pattern(alloc: Global, found: &mut Vec<Term>, pattern: &Pattern) -> Resu
         Pattern::Sym(name) => found.push(Term::Sym(name.copy(alloc)?))?,
         Pattern::App(_, args) => {
             for arg in &args.items {
-                push_pattern(alloc, found, arg)?;
+                push_pattern_constants(alloc, found, arg)?;
             }
         }
         Pattern::Wild(Shape::Opt(default), _) => found.push(copy_term(alloc, default)?)?,
@@ -64,8 +69,9 @@ fn push_amount(alloc: Global, found: &mut Vec<Term>, source: &Amount) -> Result<
     }
 }
 
-// Adds the ground operands of a condition, in order.
-fn push_cond(alloc: Global, found: &mut Vec<Term>, cond: &Cond) -> Result<(), Memory>
+/// Adds the ground operands of a condition, in order, each as often as it stands there (`operands` of
+/// `specs/Operands.antt`, `ground_term` of `specs/Constants.antt`). `Memory` comes where there is no room for them.
+pub fn push_cond_constants(alloc: Global, found: &mut Vec<Term>, cond: &Cond) -> Result<(), Memory>
     ensures { OnOk result (map tree found.new.items
         ≡ map tree found.old.items ++ flat_map ground_term (operands (cond_tree cond.now))) }
 {
@@ -76,10 +82,10 @@ fn push_cond(alloc: Global, found: &mut Vec<Term>, cond: &Cond) -> Result<(), Me
         }
         Cond::Same(a, b) | Cond::Less(a, b) | Cond::Free(a, b) => push_both(alloc, found, a, b),
         Cond::OfKind(a, _) | Cond::Headed(a, _) => push_operand(alloc, found, a),
-        Cond::Not(boxed) => push_cond(alloc, found, &boxed.cond),
+        Cond::Not(boxed) => push_cond_constants(alloc, found, &boxed.cond),
         Cond::All(parts) | Cond::Any(parts) => {
             for part in &parts.items {
-                push_cond(alloc, found, part)?;
+                push_cond_constants(alloc, found, part)?;
             }
             Ok(())
         }
@@ -91,15 +97,15 @@ fn push_rule(alloc: Global, found: &mut Vec<Term>, rule: &Rule) -> Result<(), Me
     ensures { OnOk result (map tree found.new.items
         ≡ map tree found.old.items ++ rule_constants (rule_tree rule.now)) }
 {
-    push_pattern(alloc, found, &rule.pattern)?;
+    push_pattern_constants(alloc, found, &rule.pattern)?;
     if let Some(cond) = &rule.condition {
-        push_cond(alloc, found, cond)?;
+        push_cond_constants(alloc, found, cond)?;
     }
     Ok(())
 }
 
-// The terms in ascending order, each once.
-fn listing(alloc: Global, mut terms: Vec<Term>) -> Result<Terms, Memory>
+/// The terms ascending in the term order, each once. `Memory` comes where there is no room for the list.
+pub fn term_listing(alloc: Global, mut terms: Vec<Term>) -> Result<Terms, Memory>
     ensures { IfOk result (IsListing tree_cmp (Contains (map tree terms.items))) }
 {
     terms.sort_unstable();
@@ -121,7 +127,7 @@ pub fn constants(alloc: Global, rules: &Rules) -> Result<Terms, Memory>
     for rule in rules.as_slice() {
         push_rule(alloc, &mut found, rule)?;
     }
-    listing(alloc, found)
+    term_listing(alloc, found)
 }
 
 /// The constants of one rule, as `constants` gives them.
@@ -130,5 +136,5 @@ pub fn rule_constants(alloc: Global, rule: &Rule) -> Result<Terms, Memory>
 {
     let mut found = Vec::new(alloc);
     push_rule(alloc, &mut found, rule)?;
-    listing(alloc, found)
+    term_listing(alloc, found)
 }

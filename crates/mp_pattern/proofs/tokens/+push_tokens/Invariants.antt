@@ -6,6 +6,6 @@ use Rattle.mp_pattern.proofs.tokens.+push_tokens.Given as goal
 
 abbrev pub invariant-loop-arg : goal.invariant-loop-arg
 invariant-loop-arg l =
-    l.out ++ (all_tokens l.sig (map (λ n. n.now) l.names) (patterns (map pattern_tree (drop l.arg-index l.arg-items)))
+    l.out ++ (all_tokens l.sig l.names (patterns (map pattern_tree (drop l.arg-index l.arg-items)))
     ++ (leave_token l.op.0 ∷ []))
-    ≡ l.fn.out ++ tokens l.sig (map (λ n. n.now) l.names) (pattern_tree l.pattern)
+    ≡ l.fn.out ++ tokens l.sig l.names (pattern_tree l.pattern)

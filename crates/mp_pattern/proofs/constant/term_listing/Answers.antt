@@ -7,7 +7,7 @@ use Rattle.mp_term.specs.Order.{tree_cmp}
 use Rattle.mp_term.specs.OrderLaws.{tree_cmp_total, tree_same}
 use Rattle.mp_term.specs.Listing.{IsListing}
 use Rattle.mp_pattern.proofs.Distinct.{IsListing-dedup}
-use Rattle.mp_pattern.proofs.constant.listing.Goals as goal
+use Rattle.mp_pattern.proofs.constant.term_listing.Goals as goal
 
 pub loop-term-init : goal.loop-term-init
 loop-term-init c =

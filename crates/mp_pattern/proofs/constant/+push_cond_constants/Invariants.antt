@@ -4,7 +4,7 @@ use Rattle.mp_pattern.specs.CondTree.{conds}
 use Rattle.mp_pattern.specs.CondView.{cond_tree}
 use Rattle.mp_pattern.specs.Operands.{operands, all_operands}
 use Rattle.mp_pattern.specs.Constants.{ground_term}
-use Rattle.mp_pattern.proofs.constant.+push_cond.Given as goal
+use Rattle.mp_pattern.proofs.constant.+push_cond_constants.Given as goal
 
 abbrev pub invariant-loop-part : goal.invariant-loop-part
 invariant-loop-part l =

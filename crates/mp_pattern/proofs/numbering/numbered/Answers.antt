@@ -2,7 +2,7 @@ use Rattle.std.proofs.Common.{◌≡◌, true, false, Err, sym, ap, ◌∙◌, t
 use Rattle.mp_term.specs.Names.{is_name}
 use Rattle.mp_pattern.specs.NetTokens.{numbered}
 use Rattle.mp_pattern.proofs.NetTokenLists.{is_name-numbered}
-use Rattle.mp_pattern.proofs.tokens.numbered.Goals as goal
+use Rattle.mp_pattern.proofs.numbering.numbered.Goals as goal
 
 pub unreachable-requires : goal.unreachable-requires
 unreachable-requires c =

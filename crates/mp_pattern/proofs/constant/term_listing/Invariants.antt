@@ -4,7 +4,7 @@ use Rattle.mp_term.specs.View.{tree}
 use Rattle.mp_term.specs.Order.{tree_cmp}
 use Rattle.mp_term.specs.Listing.{IsListing}
 use Rattle.std.specs.Prelude.{Contains}
-use Rattle.mp_pattern.proofs.constant.listing.Given as goal
+use Rattle.mp_pattern.proofs.constant.term_listing.Given as goal
 
 abbrev pub invariant-loop-term : goal.invariant-loop-term
 invariant-loop-term l =

@@ -1,0 +1,94 @@
+//! Patterns with their variables named by numbers.
+ghost use Rattle.std.specs.Prelude.{◌≡◌, IfOk, option_map};
+ghost use Rattle.mp_pattern.specs.NetTokens.{number_in, numbered, renamed};
+ghost use Rattle.mp_pattern.specs.View.{pattern_tree};
+
+use crate::copy::copy_shape;
+use crate::pattern::{Pattern, Patterns};
+use mp_term::{Memory, Name, NameFault, Names};
+use std::alloc::Global;
+
+// How many of the names stand before the name.
+fn names_before(names: &Names, name: &Name) -> usize
+    ensures { result ≡ number_in names.now name.now }
+{
+    for index in 0..names.len() {
+        let Some(other) = names.get(index) else {
+            return index;
+        };
+        if *other == *name {
+            return index;
+        }
+    }
+    names.len()
+}
+
+// The number of the variable. `Memory` comes where a `u32` can't hold it.
+fn number_of(names: &Names, name: &Name) -> Result<u32, Memory>
+    ensures { IfOk result (λ n. n ≡ number_in names.now name.now) }
+{
+    let number = names_before(names, name);
+    if number > u32::MAX as usize {
+        return Err(Memory);
+    }
+    Ok(number as u32)
+}
+
+/// The number of a variable among the names, from 0 (`number_in` of `specs/NetTokens.antt`), where there is a variable:
+/// as many as there are names, where it is none of them. `Memory` comes where a `u32` can't hold it.
+pub fn variable_number(names: &Names, variable: &Option<Name>) -> Result<Option<u32>, Memory>
+    ensures { IfOk result (λ x. x ≡ option_map (number_in names.now) variable.now) }
+{
+    match variable {
+        None => Ok(None),
+        Some(name) => Ok(Some(number_of(names, name)?)),
+    }
+}
+
+// The name of the variable of that number in a commutative pattern.
+fn numbered(alloc: Global, number: u32) -> Result<Name, Memory>
+    ensures { IfOk result (λ n. n ≡ numbered number) }
+{
+    let text = format!(in alloc; "v{number}")?;
+    match Name::new(alloc, text.as_bytes()) {
+        Ok(name) => Ok(name),
+        Err(NameFault::Memory) => Err(Memory),
+        Err(NameFault::Spelling) => unreachable!(),
+    }
+}
+
+// The name of the variable by its number, where there is a variable.
+fn renamed_variable(
+    alloc: Global,
+    names: &Names,
+    variable: &Option<Name>,
+) -> Result<Option<Name>, Memory>
+    ensures { IfOk result (λ x. x ≡ option_map (λ y. numbered (number_in names.now y)) variable.now) }
+{
+    match variable {
+        None => Ok(None),
+        Some(name) => Ok(Some(numbered(alloc, number_of(names, name)?)?)),
+    }
+}
+
+/// A copy of the pattern with its variables named by their numbers among the names (`renamed` of
+/// `specs/NetTokens.antt`). `Memory` comes where there is no room for it, or where the number of a variable is beyond
+/// `u32::MAX`.
+pub fn renamed(alloc: Global, names: &Names, pattern: &Pattern) -> Result<Pattern, Memory>
+    ensures { IfOk result (λ p. pattern_tree p ≡ renamed names.now (pattern_tree pattern.now)) }
+{
+    match pattern {
+        Pattern::Sym(name) => Ok(Pattern::Sym(name.copy(alloc)?)),
+        Pattern::App(op, args) => {
+            let mut copies = Patterns::with_room(alloc, args.len())?;
+            for arg in &args.items {
+                copies.push(renamed(alloc, names, arg)?)?;
+            }
+            Ok(Pattern::App(*op, copies))
+        }
+        Pattern::Wild(shape, variable) => {
+            let shape = copy_shape(alloc, shape)?;
+            Ok(Pattern::Wild(shape, renamed_variable(alloc, names, variable)?))
+        }
+    }
+}
