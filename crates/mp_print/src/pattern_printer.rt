@@ -11,7 +11,7 @@ ghost use Rattle.mp_print.specs.PrintedPattern.{count_text, pattern_text, shape_
 
 use crate::printer::put_term;
 use crate::signature_printer::text_if;
-use crate::tree_printer::{PrintedTree, put_tree};
+use crate::tree_printer::{PrintedTree, put_name, put_tree};
 use itoa::Buffer;
 use mp_io::{Failed, Sink, Writer};
 use mp_pattern::{Pattern, Shape};
@@ -54,7 +54,7 @@ impl PrintedTree<()> for Pattern {
     ) -> Option<(OpId, &'t [Pattern])> {
         match self {
             Pattern::Sym(name) => {
-                out.put(name.bytes());
+                put_name(name, out);
                 None
             }
             Pattern::App(op, args) => Some((*op, args.as_slice())),
@@ -76,7 +76,7 @@ fn put_wildcard<K: Sink>(
     ensures { Puts K.Sink out.old out.new (wildcard_text sig.now (wildcard shape.now) name.now) }
 {
     if let Some(name) = name {
-        out.put(name.bytes());
+        put_name(name, out);
     }
     put_shape(sig, shape, out);
 }

@@ -8,7 +8,7 @@ ghost use Rattle.mp_term.specs.Size.{node_count};
 ghost use Rattle.mp_term.specs.View.{tree};
 ghost use Rattle.mp_print.specs.Printing.{term_text};
 
-use crate::tree_printer::{PrintedTree, put_tree};
+use crate::tree_printer::{PrintedTree, put_name, put_tree};
 use mp_io::{Failed, Sink, Writer};
 use mp_term::{OpId, Signature, Term};
 
@@ -45,7 +45,7 @@ impl PrintedTree<()> for Term {
     ) -> Option<(OpId, &'t [Term])> {
         match self {
             Term::Sym(name) => {
-                out.put(name.bytes());
+                put_name(name, out);
                 None
             }
             Term::App(op, args) => Some((*op, args.as_slice())),

@@ -8,7 +8,7 @@ ghost use Rattle.mp_table.specs.Table.{term_at};
 ghost use Rattle.mp_subst.specs.Bound.{bound_of, value_from, value_in};
 ghost use Rattle.mp_print.specs.Printing.{term_text, value_text};
 
-use crate::tree_printer::{PrintedTree, put_application, put_enclosed, put_tree};
+use crate::tree_printer::{PrintedTree, put_application, put_enclosed, put_name, put_tree};
 use mp_io::{Sink, Writer};
 use mp_pattern::Form;
 use mp_subst::Bound;
@@ -39,7 +39,7 @@ impl PrintedTree<Table> for Rank {
         }
         match base.head(*self) {
             Head::Sym(name) => {
-                out.put(name.bytes());
+                put_name(name, out);
                 None
             }
             Head::App(op) => Some((op, base.args(*self))),

@@ -6,7 +6,7 @@ ghost use Rattle.mp_pattern.specs.TemplateSize.{template_nodes};
 ghost use Rattle.mp_pattern.specs.TemplateView.{template_tree};
 ghost use Rattle.mp_print.specs.PrintedTemplate.{template_text};
 
-use crate::tree_printer::{PrintedTree, put_tree};
+use crate::tree_printer::{PrintedTree, put_name, put_tree};
 use mp_io::{Sink, Writer};
 use mp_pattern::Template;
 use mp_term::{OpId, Signature};
@@ -33,7 +33,7 @@ impl PrintedTree<()> for Template {
     ) -> Option<(OpId, &'t [Template])> {
         match self {
             Template::Sym(name) => {
-                out.put(name.bytes());
+                put_name(name, out);
                 None
             }
             Template::App(op, args) => Some((*op, args.as_slice())),

@@ -6,7 +6,10 @@ ghost use Rattle.mp_term.specs.Signature.{Sig};
 ghost use Rattle.mp_print.specs.Printing.{front_text, gap_text, held_text, separated, separator_text};
 
 use mp_io::{Sink, Writer};
-use mp_term::{OpDecl, OpId, Sign, Signature};
+use mp_term::{Name, OpDecl, OpId, Sign, Signature};
+
+// A name of so many bytes, or fewer, is put byte by byte, which takes less than a copy.
+const FEW_BYTES: usize = 4;
 
 /// A tree that is printed: a leaf, or an operation with its arguments. `B` is what it stands on: a rank stands for a
 /// tree in a table, and a tree of another kind stands on nothing, which is `()`.
@@ -106,9 +109,23 @@ fn put_front<K: Sink>(decl: &OpDecl, count: usize, out: &mut Writer<'_, K>)
 {
     match &decl.sign {
         Some(_) if count >= 2 => {}
-        _ => out.put(decl.name.bytes()),
+        _ => put_name(&decl.name, out),
     }
     out.put_byte(b'(');
+}
+
+/// Puts a name.
+pub(crate) fn put_name<K: Sink>(name: &Name, out: &mut Writer<'_, K>)
+    ensures { Puts K.Sink out.old out.new name.now }
+{
+    let bytes = name.bytes();
+    if bytes.len() > FEW_BYTES {
+        out.put(bytes);
+        return;
+    }
+    for byte in bytes {
+        out.put_byte(*byte);
+    }
 }
 
 /// Puts what stands before the argument of that index, of so many.
