@@ -23,12 +23,14 @@ use Rattle.mp_search.specs.declared.level.Level.{Level}
 use Rattle.mp_search.specs.declared.query.Query.{Query}
 use Rattle.mp_search.specs.declared.stack.Place.{Place}
 use Rattle.mp_search.specs.Frames.{above, left_of, inner_of, stack_frames, start_frame, place_after}
+use Rattle.mp_search.specs.Parts.{StandsAt}
 use Rattle.mp_search.specs.Query.{IsQuery, width}
 use Rattle.mp_search.specs.Reading.{table_of}
 use Rattle.mp_search.specs.Site.{IsSite, site_place}
 use Rattle.mp_search.specs.At.{IsAt, AreInOrder, site_of}
 use Rattle.mp_search.proofs.LevelsLaws.{length-table}
 use Rattle.mp_search.proofs.NodeLaws.{plan_node}
+use Rattle.mp_search.proofs.PartLaws.{stands-left}
 
 take-front : {X : Type 0} (xs ys : List X) → take (length xs) (xs ++ ys) ≡ xs
 take-front [] ys = refl
@@ -105,6 +107,11 @@ module _ (q : Query) (below : List Level) (p : Place) (h : IsQuery q) (at : IsAt
   front = sym (take-front own (frames_nodes outer))
       ∙ ap (take (length own))
       (append_assoc (subpatterns child) (all_subpatterns frame.children) (frames_nodes outer) ∙ child-nodes)
+
+  -- so the child stands there
+  pub child-stands : (node : ℕ) → node ≡ q.first + length below → StandsAt q node (subpatterns child)
+  child-stands node numbered = stands-left q node (subpatterns child) (all_subpatterns frame.children)
+      (subst (λ i. own ≡ take (length own) (drop i (subpatterns q.plan.now.pattern))) (sym numbered) front)
 
   module _ (node : ℕ) (left : Bor (List Rank)) (numbered : node ≡ q.first + length below)
       (terms : terms_at q.table.now left.now ≡ left_of q below p.left) where

@@ -1,7 +1,7 @@
 -- Where the substitution so far tells what children take, all items have one table.
 use Rattle.std.proofs.Common.{◌≡◌, ℕ, zero, suc, List, [], ◌∷◌, length, Bool, true, false, refl, ap, sym, ◌∙◌, subst}
 use Rattle.std.proofs.Common.{inl, inr, arith, eqb-true}
-use Rattle.std.specs.Prelude.{◌&&◌, ◌||◌, not, Option, Some, None, is_some, if◌then◌else◌}
+use Rattle.std.specs.Prelude.{filter, ◌&&◌, ◌||◌, not, Option, Some, None, is_some, if◌then◌else◌}
 use Rattle.std.specs.Cmp.{IsTotalOrder}
 use Rattle.std.specs.Ordering.{is_lt}
 use Rattle.std.specs.declared.cmp.Ordering.TheVariants.{Equal}
@@ -16,7 +16,7 @@ use Rattle.mp_term.specs.Signature.{Sig, is_one}
 use Rattle.mp_term.specs.Tree.{Tree, symbol, app, Trees, trees, tree_list}
 use Rattle.mp_term.specs.TreeLists.{trees-tree_list}
 use Rattle.mp_term.proofs.PiecesLaws.{same-sound, length-without, sublist-from_piece}
-use Rattle.mp_term.proofs.SearchLaws.{from_in-map}
+use Rattle.mp_term.proofs.SearchLaws.{from_in-map, in-map}
 use Rattle.mp_pattern.specs.DerivationOrder.{table_cmp}
 use Rattle.mp_pattern.specs.Fits.{Entry, Table, no_sequence}
 use Rattle.mp_pattern.specs.PatternTree.{Wildcard, Pattern, symbol_pattern, app_pattern, wild_pattern}
@@ -26,14 +26,14 @@ use Rattle.mp_pattern.specs.Variables.{comm_above}
 use Rattle.mp_subst.specs.Bound.{Bound, value_in}
 use Rattle.mp_subst.specs.Trail.{Trail, last_value}
 use Rattle.mp_theory.specs.Frames.{Frame, Next, ended, refused, child, settle, is_done}
-use Rattle.mp_theory.specs.Items.{items}
+use Rattle.mp_theory.specs.Items.{items, items_by, behind}
 use Rattle.mp_theory.specs.Kept.{Keeps}
 use Rattle.mp_theory.specs.Known.{contributed}
 use Rattle.mp_theory.specs.Machine.{is_ended, is_headed, arguments, onward, said, reads}
 use Rattle.mp_theory.specs.MayMatch.{has_optional, is_alone_in, takes_one, each_takes_one, is_plain, may_collapse}
 use Rattle.mp_theory.specs.MayMatch.{may_match, each_may_match}
-use Rattle.mp_theory.specs.OneList.{Item}
-use Rattle.mp_theory.proofs.ItemLaws.{GoesOn}
+use Rattle.mp_theory.specs.OneList.{Item, item_tables}
+use Rattle.mp_theory.proofs.ItemLaws.{GoesOn, from_in-items}
 use Rattle.mp_theory.proofs.KeptValues.{filter-none, item-goes_on, solve-keeps}
 use Rattle.mp_theory.proofs.Matching.{one-taken, match-taken, matching-behind}
 use Rattle.mp_theory.proofs.Tables.{entry_cmp_total}
@@ -46,9 +46,10 @@ use Rattle.mp_search.specs.Numbers.{IsNumberAt}
 use Rattle.mp_search.specs.OneWay.{IsTold, AreTold, IsToldWithin, IsAnyWild, HaveOneWay, HaveOneTable}
 use Rattle.mp_search.specs.Parts.{IsWild}
 use Rattle.mp_search.specs.Reading.{subst_of}
-use Rattle.mp_search.specs.Wanted.{wanted, good, IsStanding}
+use Rattle.mp_search.specs.Wanted.{wanted, good, beyond, IsStanding}
 use Rattle.mp_search.proofs.LastLaws.{sublist-whole}
 use Rattle.mp_search.proofs.MatchLaws.{known-value, match-known}
+use Rattle.mp_search.proofs.StandingLaws.{by-bound}
 use Rattle.mp_search.proofs.SubstLaws.{has-value}
 
 same-entry : (d e : Entry) → d.terms ≡ e.terms → d.collapsed ≡ e.collapsed → d ≡ e
@@ -267,6 +268,23 @@ module _ (sig : Sig) where
                 (matching-behind sig k p f fs e g.after (T, r) g.rest).0,
           )
 
+  -- where one is told within, all go on with the entry of any
+  told-by : (k : ℕ) (p : Pattern) (f : Frame) (fs : List Frame) (s : Subst) → IsToldWithin sig s p
+      → (e : Entry) (W : Table) → In (e ∷ W) (item_tables (items sig (suc k) (child p f fs) s))
+      → (i : Item) → In i (items sig (suc k) (child p f fs) s) → In i (items_by sig k (child p f fs) s e)
+  told-by k p f fs s told e W h i m =
+      let n = child p f fs in
+      let a = from_in-map (λ i. i.0) (e ∷ W) (items sig (suc k) n s) h in
+      let g = from_in-items sig k n s e W a.0.1
+      (subst (λ T. In {X = Item} (T, a.0.1) (items sig (suc k) n s)) (sym a.1) a.2) in
+      let b = item-goes_on sig k n s i m in
+      let same : e ≡ b.0 =
+      decided-same k p f fs s (within-decided s f.under p told) e b.0 W b.1 a.0.1 i.1 g b.3 in
+      subst (λ d. In i (items_by sig k n s d)) (sym same)
+      (subst (λ T. In {X = Item} (T, i.1) (items_by sig k n s b.0)) (sym b.2)
+      (subst (λ is. In {X = Item} (b.0 ∷ b.1, i.1) is) (sym (by-bound sig k n s b.3.after b.0 b.3.bound))
+      (in-map (behind b.0) (b.1, i.1) (items sig k (onward n b.0) b.3.after) b.3.rest)))
+
   abbrev frame : Option ℕ → Patterns → List Tree → Bool → Frame
   frame u ps left o = record { under = u; children = ps; left = left; owes = o }
 
@@ -389,3 +407,28 @@ none-after q After W is e h one =
     let same : W ≡ i.0 = a.1 ∙ one a.0 i a.2 m in
     and-false (good q i) (is_lt (table_cmp W i.0))
     (ap is_lt (subst (λ T. table_cmp W T ≡ Equal) same (tied_itself total W))))
+
+-- what is left out of a list isn't in what is found of it
+none-in : {X : Type 0} (p : X → Bool) (xs : List X) (x : X) → filter p xs ≡ [] → In x xs → p x ≡ false
+none-in p [] x e m = absurd m
+none-in p (y ∷ ys) x e m = at (p y) refl e m (none-in p ys x)
+  where
+    at : (b : Bool) → p y ≡ b → (if b then y ∷ filter p ys else filter p ys) ≡ [] → In x (y ∷ ys)
+        → (filter p ys ≡ [] → In x ys → p x ≡ false) → p x ≡ false
+    at true h e m later = cc
+    at false h e (inl i) later = ap p i ∙ h
+    at false h e (inr i) later = later e i
+
+-- where the child of the place is told within, nothing comes but behind the entry of the table at hand
+pub none-told : (q : Query) (m : Mode) (k : ℕ) (n : Next) (p : Pattern) (f : Frame) (fs : List Frame) (s : Subst)
+    (e : Entry) (W : Table) → child p f fs ≡ n → m ≡ After → IsToldWithin q.sig.now s p
+    → IsStanding m (e ∷ W) (items q.sig.now (suc k) n s) → wanted q m (e ∷ W) (items_by q.sig.now k n s e) ≡ []
+    → wanted q m (e ∷ W) (items q.sig.now (suc k) n s) ≡ []
+none-told q m k n p f fs s e W same after told =
+    subst
+    (λ n. IsStanding m (e ∷ W) (items q.sig.now (suc k) n s) → wanted q m (e ∷ W) (items_by q.sig.now k n s e) ≡ []
+    → wanted q m (e ∷ W) (items q.sig.now (suc k) n s) ≡ []) same
+    (λ stands none. filter-none (λ i. good q i && beyond m (e ∷ W) i.0) (items q.sig.now (suc k) (child p f fs) s)
+    (λ i h. none-in (λ i. good q i && beyond m (e ∷ W) i.0) (items_by q.sig.now k (child p f fs) s e) i none
+    (told-by q.sig.now k p f fs s told e W
+    (subst (λ m. IsStanding m (e ∷ W) (items q.sig.now (suc k) (child p f fs) s)) after stands) i h)))

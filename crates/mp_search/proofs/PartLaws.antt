@@ -91,9 +91,10 @@ module _ (q : Query) where
       slice_get_within q.plan.now.nodes k m.0 (ap (λ (P : Plan). slice_get P.nodes k) h.plan ∙ m.1)
 
   -- the children of an application, by the pattern that is one
-  pub stands-below : (k g : ℕ) (ps : Patterns) (p : Pattern) → p ≡ app_pattern g ps → StandsAt q k (subpatterns p)
-      → StandsAt q (k + 1) (all_subpatterns ps)
-  stands-below k g ps p e s = stands-children k g ps (subst (λ r. StandsAt q k (subpatterns r)) e s)
+  pub stands-below : (k m g : ℕ) (ps : Patterns) (p : Pattern) → p ≡ app_pattern g ps → m ≡ k + 1
+      → StandsAt q k (subpatterns p) → StandsAt q m (all_subpatterns ps)
+  stands-below k m g ps p e n s = subst (λ i. StandsAt q i (all_subpatterns ps)) (sym n)
+      (stands-children k g ps (subst (λ r. StandsAt q k (subpatterns r)) e s))
 
 -- all of a list but its first item
 whole : {X : Type 0} (xs : List X) → take (length xs) xs ≡ xs

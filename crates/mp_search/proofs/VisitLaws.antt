@@ -8,6 +8,7 @@ use Rattle.mp_term.specs.Search.{In}
 use Rattle.mp_pattern.specs.DerivationOrder.{entry_cmp}
 use Rattle.mp_pattern.specs.Fits.{Entry, Table}
 use Rattle.mp_pattern.specs.Value.{Subst}
+use Rattle.mp_pattern.specs.View.{pattern_tree}
 use Rattle.mp_theory.specs.Solve.{solve}
 use Rattle.mp_theory.specs.Frames.{Next}
 use Rattle.mp_theory.specs.Items.{items, items_by, above_entry, LeadsTo}
@@ -21,15 +22,17 @@ use Rattle.mp_search.specs.declared.mode.Mode.{Mode}
 use Rattle.mp_search.specs.declared.mode.Mode.TheVariants.{First, After, At}
 use Rattle.mp_search.specs.declared.query.Query.{Query}
 use Rattle.mp_search.specs.declared.stack.Place.{Place}
-use Rattle.mp_search.specs.Frames.{place_after}
+use Rattle.mp_search.specs.Frames.{place_after, inner_of, stack_frames}
 use Rattle.mp_search.specs.Levels.{IsDrawable}
+use Rattle.mp_search.specs.OneWay.{IsToldWithin}
 use Rattle.mp_search.specs.Query.{width}
 use Rattle.mp_search.specs.Reading.{table_of, entry_at}
 use Rattle.mp_search.specs.Tried.{to_try}
 use Rattle.mp_search.specs.Wanted.{wanted, good, IsStanding, AreComplete}
-use Rattle.mp_search.specs.At.{IsDrawn, KeepsLevels, drawn_at, draws_at, own_at, items_from, items_with}
+use Rattle.mp_search.specs.At.{IsAt, IsDrawn, KeepsLevels, drawn_at, draws_at, own_at, items_from, items_with}
 use Rattle.mp_search.proofs.FoundLaws.{wanted-first, above-same, after-one, at-one, at-none, first-append}
 use Rattle.mp_search.proofs.LevelsLaws.{table-from, entry-kept}
+use Rattle.mp_search.proofs.OneWayLaws.{none-told}
 use Rattle.mp_search.proofs.StandingLaws.{standing-begins, Begins, complete-by}
 use Rattle.mp_search.proofs.TriedLaws.{drawn-kept, moved-all, tried-above, moved-first, moved-above}
 
@@ -160,6 +163,21 @@ module _ (q : Query) (k : ℕ) (L : List Level) (s : Subst) (within : k < length
   after-last m i h none last = after m i h
       ∙ ap (λ is. is ++ filter (good q) (flat_map by (above_entry e (choices q.sig.now n)))) none
       ∙ ap (λ es. filter (good q) (flat_map by es)) last
+
+  -- or where the trail tells of the child what it takes
+  pub after-told : (m : Mode) (p : Place) → m ≡ After → IsAt q (take k L) p
+      → IsToldWithin q.sig.now s (pattern_tree p.child.now)
+      → IsStanding m (table_of q.table.now (drop k L)) (items_from q k L s)
+      → wanted q m (table_of q.table.now (drop k L)) (by e) ≡ []
+      → wanted q m (table_of q.table.now (drop k L)) (items_from q k L s) ≡ []
+  after-told m p i at told h none =
+      subst (λ V. wanted q m V (items_from q k L s) ≡ []) (sym here)
+      (subst (λ x. wanted q m (e ∷ W) (items q.sig.now x n s) ≡ []) (sym more)
+      (none-told q m j n (pattern_tree p.child.now) (inner_of q (take k L) p)
+      (stack_frames q (take k L) p.outer.now) s e W at.stands i told
+      (subst (λ x. IsStanding m (e ∷ W) (items q.sig.now x n s)) more
+      (subst (λ V. IsStanding m V (items_from q k L s)) here h))
+      (subst (λ V. wanted q m V (by e) ≡ []) here none)))
 
   pub after-found : (m : Mode) (x : Item) → m ≡ After → allows q.sig.now n e ≡ true
       → slice_get (wanted q m (table_of q.table.now (drop k L)) (by e)) 0 ≡ Some x

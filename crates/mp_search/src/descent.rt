@@ -27,8 +27,8 @@ use crate::level::Level;
 use crate::mode::Mode;
 use crate::next::takes_the_next;
 use crate::node::{
-    bind_at, first_at, has_one_way_at, leads_nowhere_at, leave_at, may_stand, next_at, pass_at,
-    prepare_at, takes_all_at,
+    bind_at, first_at, has_one_way_at, is_told_at, leads_nowhere_at, leave_at, may_stand, next_at,
+    pass_at, prepare_at, takes_all_at,
 };
 use crate::query::Query;
 use crate::stack::{Frame, Left, Next, Place, Stack, settle};
@@ -274,11 +274,15 @@ fn visit<'a>(
             }
             let mark = trail.mark();
             let last = takes_all_at(query, place, &*levels, k);
+            let told = is_told_at(query, place, &*levels, k, &*trail);
             if follow(query, place, levels, k, trail, mode) {
                 return true;
             }
             trail.undo(mark);
             if last {
+                return false;
+            }
+            if told {
                 return false;
             }
             prepare_at(&*query, &*place, levels, k, trail);

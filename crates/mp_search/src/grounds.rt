@@ -1,13 +1,17 @@
 //! What is known of a pattern's nodes before any search.
-ghost use Rattle.std.specs.Prelude.{◌≡◌, ◌≤◌, ◌+◌, ◌++◌, length, map, IfOk};
+ghost use Rattle.std.specs.Prelude.{◌≡◌, ◌≤◌, ◌+◌, ◌++◌, length, map, option_map, IfOk};
+ghost use Rattle.std.specs.Ordering.{is_eq};
+ghost use Rattle.mp_term.specs.Order.{tree_cmp};
+ghost use Rattle.mp_term.specs.Tree.{symbol};
 ghost use Rattle.mp_pattern.specs.View.{pattern_tree};
 ghost use Rattle.mp_pattern.specs.Subpatterns.{subpatterns};
+ghost use Rattle.mp_table.specs.Table.{HasRank, term_at, rank_of};
 ghost use Rattle.mp_search.specs.Grounds.{ground_in, AreGrounds};
 
 use crate::room::Room;
 use mp_pattern::{Pattern, Shape};
-use mp_table::{Rank, Table};
-use mp_term::Memory;
+use mp_table::{Head, Rank, Table};
+use mp_term::{Memory, Name};
 use std::alloc::Global;
 
 /// What is known of a node: the rank of its symbol, or of its default.
@@ -27,12 +31,38 @@ pub struct Grounds {
     pub list: Room<Ground>,
 }
 
-// What is known of the node.
-fn node_ground(table: &Table, pattern: &Pattern) -> Ground
+// For how many nodes what was known of the pattern before is a guess.
+const GUESSES: usize = 16;
+
+// Whether the term of the rank is the symbol of the name.
+fn is_symbol(table: &Table, rank: Rank, name: &Name) -> bool
+    requires { HasRank table.now rank }
+    ensures { result ≡ is_eq (tree_cmp (term_at table.now rank) (symbol name.now)) }
+{
+    match table.head(rank) {
+        Head::Sym(own) => own.cmp(name).is_eq(),
+        Head::App(_) => false,
+    }
+}
+
+// The rank of the symbol of the name, if the table holds it. The guess is looked at first.
+fn symbol_rank(table: &Table, name: &Name, guess: Ground) -> Option<Rank>
+    ensures { option_map (λ r. r.0) result ≡ rank_of table.now (symbol name.now) }
+{
+    if let Ground::At(rank) = guess {
+        if rank.0 < table.len() && is_symbol(table, rank, name) {
+            return Some(rank);
+        }
+    }
+    table.find_symbol(name)
+}
+
+// What is known of the node, with a guess for its symbol.
+fn node_ground(table: &Table, pattern: &Pattern, guess: Ground) -> Ground
     ensures { result ≡ ground_in table.now (pattern_tree pattern.now) }
 {
     match pattern {
-        Pattern::Sym(name) => match table.find_symbol(name) {
+        Pattern::Sym(name) => match symbol_rank(table, name, guess) {
             None => Ground::Absent,
             Some(rank) => Ground::At(rank),
         },
@@ -44,17 +74,21 @@ fn node_ground(table: &Table, pattern: &Pattern) -> Ground
     }
 }
 
-// Adds what is known of the pattern's nodes. There is room for it.
-fn add_grounds(table: &Table, pattern: &Pattern, list: &mut Room<Ground>)
+// Adds what is known of the pattern's nodes, with guesses for the first nodes. There is room for it.
+fn add_grounds(table: &Table, pattern: &Pattern, guesses: &[Ground], list: &mut Room<Ground>)
     requires { length list.old.items.items + length (subpatterns (pattern_tree pattern.now)) ≤ list.old.room }
     ensures grounds { list.new.items.items
         ≡ list.old.items.items ++ map (ground_in table.now) (subpatterns (pattern_tree pattern.now)) }
     ensures room { list.new.room ≡ list.old.room }
 {
-    list.push(node_ground(table, pattern));
+    let guess = match guesses.get(list.len()) {
+        None => Ground::Open,
+        Some(guess) => *guess,
+    };
+    list.push(node_ground(table, pattern, guess));
     if let Pattern::App(_, args) = pattern {
         for arg in args.as_slice() {
-            add_grounds(table, arg, list);
+            add_grounds(table, arg, guesses, list);
         }
     }
 }
@@ -76,8 +110,12 @@ impl Grounds {
         ensures grounds { AreGrounds table.now (subpatterns (pattern_tree pattern.now)) self.new.list.items.items }
         ensures room { self.new.list.room ≡ self.old.list.room }
     {
+        // Patterns that follow each other often have symbols in common, at the same nodes.
+        let mut guesses = [Ground::Open; GUESSES];
+        let count = self.list.len().min(GUESSES);
+        guesses[..count].copy_from_slice(&self.list.as_slice()[..count]);
         self.list.clear();
-        add_grounds(table, pattern, &mut self.list);
+        add_grounds(table, pattern, &guesses, &mut self.list);
     }
 
     /// The nodes in preorder.

@@ -18,7 +18,7 @@ ghost use Rattle.mp_search.specs.At.{draws_at, own_at, items_from, BindsOnly};
 ghost use Rattle.mp_search.specs.Bounds.{TakesNext};
 ghost use Rattle.mp_search.specs.Frames.{above, stack_frames, left_of, rest_at, place_after};
 ghost use Rattle.mp_search.specs.Levels.{AreLevels};
-ghost use Rattle.mp_search.specs.OneWay.{HaveOneTable};
+ghost use Rattle.mp_search.specs.OneWay.{HaveOneTable, IsToldWithin};
 ghost use Rattle.mp_search.specs.Passed.{IsPassed, IsShut};
 ghost use Rattle.mp_search.specs.Query.{IsQuery, width};
 ghost use Rattle.mp_search.specs.Reading.{table_of, entry_at, subst_of};
@@ -34,7 +34,7 @@ use crate::own::{first_own, next_own, pass_own, prepare_own};
 use crate::query::Query;
 use crate::site::Site;
 use crate::stack::{Place, Stack, left_list};
-use crate::told::has_one_way;
+use crate::told::{has_one_way, is_told_within};
 use mp_pattern::{Pattern, is_comm_above};
 use mp_subst::Trail;
 
@@ -123,6 +123,26 @@ pub(crate) fn has_one_way_at(
         }
         _ => false,
     }
+}
+
+// Whether the trail tells of the child of node k what it takes, so that there is no other entry.
+pub(crate) fn is_told_at(
+    query: &Query<'_>,
+    place: &Place<'_>,
+    levels: &[Level],
+    k: usize,
+    trail: &Trail,
+) -> bool
+    requires within { k < length levels.now }
+    requires node { IsAtNode query.now k levels.now }
+    requires place { IsAt query.now (take k levels.now) place.now }
+    requires trail { GoesWith query.now.table.now trail.now }
+    ensures { IsTrue result
+        → IsToldWithin query.now.sig.now (subst_of query.now trail.now) (pattern_tree place.now.child.now) }
+{
+    // The place stands behind what the levels take.
+    let _ = levels;
+    is_told_within(query, trail, place.child, node_at(query, k))
 }
 
 // Binds what the entry of node k says, and answers false where that clashes with the trail.

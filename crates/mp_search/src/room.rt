@@ -62,6 +62,10 @@ impl<T: Copy> Room<T> {
         ensures items { self.new.items.items ≡ items.now }
         ensures room { self.new.room ≡ self.old.room }
     {
+        if let ([own], [item]) = (self.items.as_mut_slice(), items) {
+            *own = *item;
+            return;
+        }
         // What is there is written over, since to clear a list takes as long as it is.
         let kept = items.len().min(self.items.len());
         self.items.truncate(kept);

@@ -63,7 +63,7 @@ fn are_told(query: &Query<'_>, trail: &Trail, children: &[Pattern], node: u32) -
 
 // Whether the child is an application that can't be collapsed to children that are so and take their terms in order,
 // one each.
-fn is_told_within(query: &Query<'_>, trail: &Trail, child: &Pattern, node: u32) -> bool
+pub(crate) fn is_told_within(query: &Query<'_>, trail: &Trail, child: &Pattern, node: u32) -> bool
     requires query { IsQuery query.now }
     requires trail { GoesWith query.now.table.now trail.now }
     requires child { StandsAt query.now node (subpatterns (pattern_tree child.now)) }

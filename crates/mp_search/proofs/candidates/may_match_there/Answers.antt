@@ -1,12 +1,10 @@
 use Rattle.std.proofs.Common.{◌≡◌, true, refl, map, sym, subst}
 use Rattle.std.specs.Prelude.{Some}
 use Rattle.mp_pattern.specs.PatternTree.{patterns, app_pattern}
-use Rattle.mp_pattern.specs.Subpatterns.{all_subpatterns}
 use Rattle.mp_pattern.specs.View.{pattern_tree}
 use Rattle.mp_table.specs.Table.{term_at}
 use Rattle.mp_theory.specs.MayMatch as look
 use Rattle.mp_search.specs.Frames.{above}
-use Rattle.mp_search.specs.Parts.{StandsAt}
 use Rattle.mp_search.specs.Reading.{subst_of}
 use Rattle.mp_search.proofs.MatchLaws.{match-children}
 use Rattle.mp_search.proofs.PartLaws.{stands-below}
@@ -14,12 +12,9 @@ use Rattle.mp_search.proofs.candidates.may_match_there.Goals as goal
 
 pub later_may_match-requires-clause-children : goal.later_may_match-requires-clause-children
 later_may_match-requires-clause-children c =
-    let q = c.args.query.now in
-    let ps = patterns (map pattern_tree c.as_slice-children.result.now) in
-    let e : pattern_tree c.args.child.now ≡ app_pattern c.in-App.op.0 ps = rw (c.in-App.is, c.as_slice-children.ensures)
-    refl in
-    subst (λ k. StandsAt q k (all_subpatterns ps)) (sym c.first_below-below.ensures)
-    (stands-below q c.args.node c.in-App.op.0 ps (pattern_tree c.args.child.now) e c.requires.child)
+    stands-below c.args.query.now c.args.node c.first_below-below.result c.in-App.op.0
+    (patterns (map pattern_tree c.as_slice-children.result.now)) (pattern_tree c.args.child.now)
+    (rw (c.in-App.is, c.as_slice-children.ensures) refl) c.first_below-below.ensures c.requires.child
 
 pub returns-else-not-tells_first : goal.returns-else-not-tells_first
 returns-else-not-tells_first c = λ h.

@@ -718,6 +718,22 @@ visit-returns-then-last-clause-found t c =
     visits.after-last q k L s r.within c.args.mode c.in-After.is b.allowed c.if-follow.ensures.found
     (c.takes_all_at-last.ensures c.if-last.true)
 
+pub visit-returns-then-told-clause-found : goal.visit-returns-then-told-clause-found
+visit-returns-then-told-clause-found t c =
+    let q = c.args.query.now in
+    visits.after-told q c.args.k c.args.levels.now (subst_of q c.args.trail.now) c.requires.within c.args.mode
+    c.args.place.now c.in-After.is c.requires.place (c.is_told_at-told.ensures c.if-told.true) c.requires.standing
+    c.if-follow.ensures.found
+
+pub visit-returns-then-told-clause-kept : goal.visit-returns-then-told-clause-kept
+visit-returns-then-told-clause-kept t c =
+    let T = c.args.trail.now in
+    let f = c.follow-in-After.ensures in
+    let undone = cut-back T c.follow-in-After.new.trail c.undo.new.self (length_at c.mark-mark.result)
+    c.mark-mark.ensures f.kept.cut c.undo.ensures.trail in
+    follows.kept-levels c.args.query.now c.args.k c.args.levels.now c.follow-in-After.new.levels T c.undo.new.self
+    (record { front = f.kept.front; many = f.kept.many; levels = f.kept.levels }) undone c.requires.trail.trail
+
 pub visit-returns-then-last-clause-kept : goal.visit-returns-then-last-clause-kept
 visit-returns-then-last-clause-kept t c =
     let T = c.args.trail.now in
@@ -788,8 +804,8 @@ visit-try_each-requires-in-After t c =
       ),
     )
 
-pub visit-returns-else-last-clause-found : goal.visit-returns-else-last-clause-found
-visit-returns-else-last-clause-found t c =
+pub visit-returns-else-told-clause-found : goal.visit-returns-else-told-clause-found
+visit-returns-else-told-clause-found t c =
     let q = c.args.query.now in
     let k = c.args.k in
     let p = c.args.place.now in

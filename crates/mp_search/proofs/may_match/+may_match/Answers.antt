@@ -85,8 +85,8 @@ may_match-each_may_match-requires t c =
         (
           c.requires.trail,
           (
-            subst (λ k. StandsAt q k (all_subpatterns ps)) (sym c.first_below.ensures)
-                (stands-below q c.args.node c.in-App.op.0 ps (pattern_tree c.args.child.now) e c.requires.child),
+            stands-below q c.args.node c.first_below.result c.in-App.op.0 ps (pattern_tree c.args.child.now) e
+                c.first_below.ensures c.requires.child,
             c.args-args.ensures.within,
           ),
         ),
