@@ -1,11 +1,12 @@
 -- Lists: fronts whose elements pass a test, and the tests of elements; options.
-use Rattle.std.proofs.Common.{◌≡◌, ℕ, zero, suc, ◌+◌, Bool, true, false, cond, List, [], ◌∷◌, ◌++◌, length, take}
+use Rattle.std.proofs.Common.{◌≡◌, ◌≤◌, ℕ, zero, suc, ◌+◌, Bool, true, false, cond, List, [], ◌∷◌, ◌++◌, length, take}
 use Rattle.std.proofs.Common.{drop, Option, Some, refl, sym, ap, ◌∙◌, arith, inl, inr}
 use Rattle.std.specs.Prelude.{◌⊎◌, ◌==◌}
 use Rattle.std.specs.List.{prefix_len, list_all, list_any}
 use Rattle.std.proofs.lemmas.Bool.{and_parts, and_from, or_cases, eqb-true}
 use Rattle.std.proofs.lemmas.List.Folds.{list_all-append}
-use Rattle.std.proofs.lemmas.List.{take_at, drop_at}
+use Rattle.std.proofs.Math.Seq.{take-append_seam, drop-append_seam}
+use Rattle.std.proofs.lemmas.List.{take_at, drop_at, length-append, append_assoc}
 
 -- a front whose elements pass, and then more
 pub prefix_len-pass : (p : ℕ → Bool) (a b : List ℕ) → list_all p a ≡ true
@@ -74,3 +75,21 @@ some a = Some a
 -- two options with values are the same where these are
 pub some-is : {A : Type 0} (a b : A) → some a ≡ some b → a ≡ b
 some-is a b e = cc
+
+-- a list behind so many elements, and what lies before it
+pub drop-behind : (n : ℕ) {A : Type 0} (whole front list : List A) → n ≡ length front → whole ≡ front ++ list
+    → drop n whole ≡ list
+drop-behind n whole front list h e = (λ i. drop (h i) (e i)) ∙ drop-append_seam front list
+
+pub take-before : (n : ℕ) {A : Type 0} (whole front list : List A) → n ≡ length front → whole ≡ front ++ list
+    → take n whole ≡ front
+take-before n whole front list h e = (λ i. take (h i) (e i)) ∙ take-append_seam front list
+
+pub front-le : (n : ℕ) {A : Type 0} (whole front list : List A) → n ≡ length front → whole ≡ front ++ list
+    → n ≤ length whole
+front-le n whole front list h e = omega (arith, h, ap length e, length-append front list)
+
+-- an element more at the end of the list that lies behind a front
+pub push-behind : {A : Type 0} (whole front list : List A) (x : A) → whole ≡ front ++ list
+    → whole ++ x ∷ [] ≡ front ++ (list ++ x ∷ [])
+push-behind whole front list x e = ap (λ l. l ++ x ∷ []) e ∙ append_assoc front list (x ∷ [])

@@ -1,8 +1,9 @@
 -- Trees and lists of trees, the trees of applications and infix expressions, and wildcards, which fit at any number of
 -- brackets.
-use Rattle.std.proofs.Common.{◌≡◌, ℕ, zero, suc, Bool, true, List, [], ◌∷◌, ◌++◌, length, map, Vec, Global, refl, ap}
+use Rattle.std.proofs.Common.{◌≡◌, ℕ, zero, suc, Bool, true, List, [], ◌∷◌, ◌++◌, length, map, refl, ap}
 use Rattle.std.proofs.Common.{◌∙◌}
 use Rattle.std.specs.Prelude.{◌&&◌, ◌==◌}
+use Rattle.std.specs.Borrow.{Bor}
 use Rattle.std.proofs.lemmas.Bool.{and_parts, eqb-true}
 use mathlib.Core.Former.{Count}
 use Rattle.std.proofs.lemmas.List.{nil_from_length}
@@ -30,8 +31,8 @@ tree_list-trees [] = refl
 tree_list-trees (t ∷ ts) = ap (λ l. t ∷ l) (tree_list-trees ts)
 
 abbrev row_of : Expr → (n : Count) × Row_of-Expr n
-row_of (Apply' _ _ row) = (_, row)
-row_of (Infix' _ _ _ row) = (_, row)
+row_of (Apply' _ _ _ row) = (_, row)
+row_of (Infix' _ _ _ _ row) = (_, row)
 row_of _ = (_, end_of-Expr)
 
 row_trees-row : (n : _) (row : Row_of-Expr n) → row_trees row ≡ trees (map expr_tree (items-the_row-Expr n row))
@@ -39,20 +40,20 @@ row_trees-row n end_of-Expr = refl
 row_trees-row n (more_of-Expr e row) = ap (more_trees (expr_tree e)) (row_trees-row _ row)
 
 -- an application is its name and the trees of its arguments
-pub expr_tree-Apply : (f : code_word.Word) (v : Vec Expr Global)
-    → expr_tree (code.Apply f v) ≡ syntax.Apply (spot_of f) (trees (map expr_tree v.items))
+pub expr_tree-Apply : (f : code_word.Word) (v : Bor (List Expr))
+    → expr_tree (code.Apply f v) ≡ syntax.Apply (spot_of f) (trees (map expr_tree v.now))
 expr_tree-Apply f v =
     let row = row_of (code.Apply f v) in
     ap (syntax.Apply (spot_of f)) (row_trees-row row.0 row.1
-    ∙ ap (λ l. trees (map expr_tree l)) (items_hidden-the_row-Expr-0 v))
+    ∙ ap (λ l. trees (map expr_tree l)) (items_hidden-the_row-Expr-0 v.now))
 
 -- an infix expression is its bracket, its sign and the trees of its operands
-pub expr_tree-Infix : (place : Place) (sign : code_sign.InfixSign) (v : Vec Expr Global)
-    → expr_tree (Infix place sign v) ≡ syntax.InfixOf place (spot_of_sign sign) (trees (map expr_tree v.items))
+pub expr_tree-Infix : (place : Place) (sign : code_sign.InfixSign) (v : Bor (List Expr))
+    → expr_tree (Infix place sign v) ≡ syntax.InfixOf place (spot_of_sign sign) (trees (map expr_tree v.now))
 expr_tree-Infix place sign v =
     let row = row_of (Infix place sign v) in
     ap (syntax.InfixOf place (spot_of_sign sign))
-    (row_trees-row row.0 row.1 ∙ ap (λ l. trees (map expr_tree l)) (items_hidden-the_row-Expr-0 v))
+    (row_trees-row row.0 row.1 ∙ ap (λ l. trees (map expr_tree l)) (items_hidden-the_row-Expr-0 v.now))
 
 -- a wildcard with one underscore and no kind
 pub is_dot-true : (w : Wildcard) → is_dot w ≡ true → IsDot w

@@ -1,6 +1,7 @@
 -- What each function of the parser gives, as an equation between two runs of the machine.
 use Rattle.std.specs.Prelude.{◌≡◌, ℕ, ◌+◌, Bool, true, false, List, [], ◌∷◌, ◌++◌, map, Option, Some, None, Result}
 use Rattle.std.specs.Prelude.{Ok, Err, ◌&&◌, if◌then◌else◌, codes}
+use Rattle.std.specs.Borrow.{Bor}
 use Rattle.std.specs.Global.{Vec}
 use Rattle.mp_parser.specs.declared.limits.TheConstants.{MAX_OPEN}
 use Rattle.mp_parser.specs.declared.place.Place.{Place}
@@ -195,13 +196,12 @@ CountGives w result old new = (done : List Statement) (x : Within) (k : List Fra
     → Passes (run done (AfterWildcard x k w)) (λ e. run done (AfterExpr x k (expr_tree e))) result old new
 
 -- wildcards with a colon behind each are passed, and behind them a wildcard, where one stands there; only memory can
--- run
--- out
-abbrev pub ChainGives : Result (Vec code_wildcard.Wildcard × Option code_wildcard.Wildcard) SyntaxError → List Placed
-    → List Placed → Type 0
+-- run out
+abbrev pub ChainGives : Result (Bor (List code_wildcard.Wildcard) × Option code_wildcard.Wildcard) SyntaxError
+    → List Placed → List Placed → Type 0
 ChainGives (Ok r) old new = (done : List Statement) (x : Within) (k : List Frame)
     → run done (BeforeExpr x k) old
-    ≡ run done (behind_wildcard x (within_defaults (map wildcard_of r.0.items) k) r.1) new
+    ≡ run done (behind_wildcard x (within_defaults (map wildcard_of r.0.now) k) r.1) new
 ChainGives (Err e) old new = e ≡ errors.Memory
 
 -- behind an expression in this open bracket there is a comma, or what closes it
@@ -212,18 +212,18 @@ IsRow ending x k frame to = (es : List Tree) (e : Tree) (t : Placed)
     else on_punct ending t.token (Go (to (es ++ e ∷ []))))
 
 -- expressions are passed up to what closes the bracket, or the first fault is given
-abbrev pub RowGives : Punct → ℕ → Result (Vec Expr) SyntaxError → List Placed → List Placed → Type 0
+abbrev pub RowGives : Punct → ℕ → Result (Bor (List Expr)) SyntaxError → List Placed → List Placed → Type 0
 RowGives ending room result old new = (done : List Statement) (x : Within) (k : List Frame) (frame : List Tree → Frame)
     (to : List Tree → State) → IsRow ending x k frame to
     → ((es : List Tree) → HasRoom (frame es ∷ k) room)
-    → Passes (run done (BeforeExpr x (frame [] ∷ k))) (λ es. run done (to (map expr_tree es.items))) result old new
+    → Passes (run done (BeforeExpr x (frame [] ∷ k))) (λ es. run done (to (map expr_tree es.now))) result old new
 
 -- operands behind the first sign are passed up to the closing bracket, or the first fault is given
-abbrev pub OperandsGive : ℕ → Tree → Spot → Result (Vec Expr) SyntaxError → List Placed → List Placed → Type 0
+abbrev pub OperandsGive : ℕ → Tree → Spot → Result (Bor (List Expr)) SyntaxError → List Placed → List Placed → Type 0
 OperandsGive room first sign result old new = (done : List Statement) (x : Within) (k : List Frame) (place : Place)
     → HasRoom (Operands place sign first [] ∷ k) room
     → Passes (run done (BeforeExpr x (Operands place sign first [] ∷ k)))
-    (λ es. run done (AfterExpr x k (InfixOf place sign (trees (map expr_tree es.items))))) result old new
+    (λ es. run done (AfterExpr x k (InfixOf place sign (trees (map expr_tree es.now))))) result old new
 
 -- the arrow and the template of a rule are passed, where the arrow stands there, or the first fault is given; where it
 -- doesn't, the token that is held then is no arrow
@@ -263,7 +263,7 @@ ReplacementGives result old new = (done : List Statement) (d : Edited) (p : Posi
     → Passes (run done (AfterArrow d p)) (λ r. run done (AfterChange d (change p (replacement_tree r)))) result old new
 
 -- the expressions of a list are passed up to the square bracket that closes it, or the first fault is given
-abbrev pub ListedGives : Result (Vec Expr) SyntaxError → List Placed → List Placed → Type 0
+abbrev pub ListedGives : Result (Bor (List Expr)) SyntaxError → List Placed → List Placed → Type 0
 ListedGives result old new = (done : List Statement) (d : Edited) (p : Position)
     → Passes (run done (AfterSquare d p))
-    (λ es. run done (AfterChange d (change p (syntax.Listed (trees (map expr_tree es.items)))))) result old new
+    (λ es. run done (AfterChange d (change p (syntax.Listed (trees (map expr_tree es.now)))))) result old new

@@ -52,12 +52,12 @@ wildcard_of w = record { name = w.name.now; marks = w.marks; kind = w.kind.now; 
 abbrev mutual
   pub expr_tree : Expr → Tree
   expr_tree (Symbol w) = syntax.Symbol (spot_of w)
-  expr_tree (Apply' f shape row) = syntax.Apply (spot_of f) (row_trees row)
-  expr_tree (Infix' opened sign shape row) = syntax.InfixOf opened (spot_of_sign sign) (row_trees row)
+  expr_tree (Apply' f p shape row) = syntax.Apply (spot_of f) (row_trees row)
+  expr_tree (Infix' opened sign p shape row) = syntax.InfixOf opened (spot_of_sign sign) (row_trees row)
   expr_tree (Wild w) = syntax.Wild (wildcard_of w)
-  expr_tree (Counted w count more) = syntax.Counted (wildcard_of w) (spot_of count) more
+  expr_tree (Counted w count more) = syntax.Counted (wildcard_of w.now) (spot_of count.now) more
   expr_tree (Optional' w others p default) =
-      syntax.Optional (wildcard_of w) (map wildcard_of others.items) (expr_tree default)
+      syntax.Optional (wildcard_of w.now) (map wildcard_of others.now) (expr_tree default)
   expr_tree (Variable w) = syntax.Variable (spot_of w)
 
   pub row_trees : {n : _} → Row_of-Expr n → Trees
@@ -121,7 +121,7 @@ position_of (code_positions.Path first others) = syntax.Path (spot_of first) (ma
 -- the replacement as plain data
 abbrev pub replacement_tree : code_replacement.Replacement → Replacement
 replacement_tree (code_replacements.Single e) = syntax.Single (expr_tree e)
-replacement_tree (code_replacements.Listed es) = syntax.Listed (trees (map expr_tree es.items))
+replacement_tree (code_replacements.Listed es) = syntax.Listed (trees (map expr_tree es.now))
 
 -- the change as plain data
 abbrev pub change_tree : code_change.Change → Change

@@ -9,32 +9,32 @@ ghost use Rattle.mp_parser.specs.Parsing.{ahead};
 ghost use Rattle.mp_parser.specs.ConditionParsing.{AtomGives, RelationGives, PropertyGives, AmountGives, MeasureGives};
 ghost use Rattle.mp_parser.specs.ConditionParsing.{OperandGives, SenseGives};
 
+use crate::arena::Arena;
 use crate::condition_tree::{Amount, Atom, Measure, Property, Relation, Sense};
 use crate::fault::{FaultKind, SyntaxError};
 use crate::parser::{Parser, is_number};
 use crate::token::{Kind, Punct};
 use crate::tree::Expr;
 use crate::word::Word;
-use std::alloc::Global;
 
 impl<'a> Parser<'a> {
     /// Reads an atom, in which at most `room` brackets stand open at once, where no square bracket is held.
-    pub fn atom(&mut self, alloc: Global, room: usize) -> Result<Atom<'a>, SyntaxError>
+    pub fn atom(&mut self, arena: &mut Arena<'a>, room: usize) -> Result<Atom<'a>, SyntaxError>
         requires { is_punct Punct.OpenSquare (token_of self.old.token.kind) ≡ false }
         ensures read { AtomGives room result (ahead self.old) (ahead self.new) }
         ensures shorter { OnOk result (length (ahead self.new) < length (ahead self.old)) }
     {
         if let Some(relation) = self.sees_relation() {
             self.advance();
-            return self.relation(alloc, relation, room);
+            return self.relation(arena, relation, room);
         }
         if let Some(property) = self.sees_property() {
             self.advance();
-            return self.property(alloc, property, room);
+            return self.property(arena, property, room);
         }
-        let first = self.amount(alloc, room)?;
+        let first = self.amount(arena, room)?;
         let sense = self.sense()?;
-        let second = self.amount(alloc, room)?;
+        let second = self.amount(arena, room)?;
         Ok(Atom::Compare(first, sense, second))
     }
 
@@ -61,16 +61,16 @@ impl<'a> Parser<'a> {
     // Reads two operands in brackets behind the word of this relation.
     fn relation(
         &mut self,
-        alloc: Global,
+        arena: &mut Arena<'a>,
         relation: Relation,
         room: usize,
     ) -> Result<Atom<'a>, SyntaxError>
         ensures read { RelationGives room relation result (ahead self.old) (ahead self.new) }
         ensures shorter { OnOk result (length (ahead self.new) ≤ length (ahead self.old)) }
     {
-        let first = self.operand(alloc, room)?;
+        let first = self.operand(arena, room)?;
         self.expect(Punct::Comma)?;
-        let second = self.expr(alloc, room - 1)?;
+        let second = self.expr(arena, room - 1)?;
         self.expect(Punct::Close)?;
         Ok(Atom::Relate(relation, first, second))
     }
@@ -78,14 +78,14 @@ impl<'a> Parser<'a> {
     // Reads an operand and a name in brackets behind the word of this property.
     fn property(
         &mut self,
-        alloc: Global,
+        arena: &mut Arena<'a>,
         property: Property,
         room: usize,
     ) -> Result<Atom<'a>, SyntaxError>
         ensures read { PropertyGives room property result (ahead self.old) (ahead self.new) }
         ensures shorter { OnOk result (length (ahead self.new) ≤ length (ahead self.old)) }
     {
-        let operand = self.operand(alloc, room)?;
+        let operand = self.operand(arena, room)?;
         self.expect(Punct::Comma)?;
         let name = self.word()?;
         self.expect(Punct::Close)?;
@@ -93,7 +93,7 @@ impl<'a> Parser<'a> {
     }
 
     // Reads an amount: a number, or the word of a measure and an operand in brackets.
-    fn amount(&mut self, alloc: Global, room: usize) -> Result<Amount<'a>, SyntaxError>
+    fn amount(&mut self, arena: &mut Arena<'a>, room: usize) -> Result<Amount<'a>, SyntaxError>
         ensures read { AmountGives room (placed self.old.token) result (ahead self.old) (ahead self.new) }
         ensures shorter { OnOk result (length (ahead self.new) < length (ahead self.old)) }
     {
@@ -109,22 +109,22 @@ impl<'a> Parser<'a> {
             return Err(self.refused());
         };
         self.advance();
-        let operand = self.measured(alloc, room)?;
+        let operand = self.measured(arena, room)?;
         Ok(Amount::Measured(measure, operand))
     }
 
     // Reads an operand in brackets behind the word of a measure.
-    fn measured(&mut self, alloc: Global, room: usize) -> Result<Expr<'a>, SyntaxError>
+    fn measured(&mut self, arena: &mut Arena<'a>, room: usize) -> Result<Expr<'a>, SyntaxError>
         ensures read { MeasureGives room result (ahead self.old) (ahead self.new) }
         ensures shorter { OnOk result (length (ahead self.new) ≤ length (ahead self.old)) }
     {
-        let operand = self.operand(alloc, room)?;
+        let operand = self.operand(arena, room)?;
         self.expect(Punct::Close)?;
         Ok(operand)
     }
 
     // Reads the bracket behind the word of an atom, and the expression behind it.
-    fn operand(&mut self, alloc: Global, room: usize) -> Result<Expr<'a>, SyntaxError>
+    fn operand(&mut self, arena: &mut Arena<'a>, room: usize) -> Result<Expr<'a>, SyntaxError>
         ensures read { OperandGives room result (ahead self.old) (ahead self.new) }
         ensures some { OnOk result (0 < room) }
         ensures shorter { OnOk result (length (ahead self.new) < length (ahead self.old)) }
@@ -136,7 +136,7 @@ impl<'a> Parser<'a> {
             return Err(self.fault(FaultKind::TooDeep));
         }
         self.advance();
-        self.expr(alloc, room - 1)
+        self.expr(arena, room - 1)
     }
 
     // Reads the sign of a comparison.

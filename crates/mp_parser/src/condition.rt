@@ -7,23 +7,27 @@ ghost use Rattle.mp_parser.specs.Parsing.{ahead};
 ghost use Rattle.mp_parser.specs.ConditionParsing.{ConditionGives, AlternativeGives, LiteralGives};
 ghost use Rattle.mp_parser.specs.ConditionParsing.{NegationGives, BracketedGives, EndsCondition, EndsAlternative};
 
+use crate::arena::Arena;
 use crate::condition_tree::{Alternative, Condition, Literal};
 use crate::fault::{FaultKind, SyntaxError};
 use crate::parser::Parser;
 use crate::token::Punct;
-use std::alloc::Global;
 
 impl<'a> Parser<'a> {
     /// Reads a condition, in which at most `room` brackets stand open at once.
     #[cycle(condition)]
-    pub fn condition(&mut self, alloc: Global, room: usize) -> Result<Condition<'a>, SyntaxError>
+    pub fn condition(
+        &mut self,
+        arena: &mut Arena<'a>,
+        room: usize,
+    ) -> Result<Condition<'a>, SyntaxError>
         ensures read { ConditionGives room result (ahead self.old) (ahead self.new) }
         ensures ends { OnOk result (EndsCondition (token_of self.new.token.kind)) }
         ensures shorter { OnOk result (length (ahead self.new) < length (ahead self.old)) }
     {
-        let mut alternatives = Vec::new(alloc);
+        let mut alternatives = Vec::new(arena.alloc);
         loop {
-            alternatives.push(self.alternative(alloc, room)?)?;
+            alternatives.push(self.alternative(arena, room)?)?;
             if !self.sees_word(b"or") {
                 break;
             }
@@ -34,14 +38,18 @@ impl<'a> Parser<'a> {
 
     // Reads literals with `and` between each two, in which at most `room` brackets stand open at once.
     #[cycle(condition)]
-    fn alternative(&mut self, alloc: Global, room: usize) -> Result<Alternative<'a>, SyntaxError>
+    fn alternative(
+        &mut self,
+        arena: &mut Arena<'a>,
+        room: usize,
+    ) -> Result<Alternative<'a>, SyntaxError>
         ensures read { AlternativeGives room result (ahead self.old) (ahead self.new) }
         ensures ends { OnOk result (EndsAlternative (token_of self.new.token.kind)) }
         ensures shorter { OnOk result (length (ahead self.new) < length (ahead self.old)) }
     {
-        let mut literals = Vec::new(alloc);
+        let mut literals = Vec::new(arena.alloc);
         loop {
-            literals.push(self.literal(alloc, room)?)?;
+            literals.push(self.literal(arena, room)?)?;
             if !self.sees_word(b"and") {
                 break;
             }
@@ -52,16 +60,16 @@ impl<'a> Parser<'a> {
 
     // Reads a literal, in which at most `room` brackets stand open at once.
     #[cycle(condition)]
-    fn literal(&mut self, alloc: Global, room: usize) -> Result<Literal<'a>, SyntaxError>
+    fn literal(&mut self, arena: &mut Arena<'a>, room: usize) -> Result<Literal<'a>, SyntaxError>
         ensures read { LiteralGives room result (ahead self.old) (ahead self.new) }
         ensures shorter { OnOk result (length (ahead self.new) < length (ahead self.old)) }
     {
         let negated = self.negation();
         if self.sees(Punct::OpenSquare) {
-            let condition = self.bracketed(alloc, room)?;
+            let condition = self.bracketed(arena, room)?;
             return Ok(Literal::Bracketed { negated, condition });
         }
-        let atom = self.atom(alloc, room)?;
+        let atom = self.atom(arena, room)?;
         Ok(Literal::Atom { negated, atom })
     }
 
@@ -79,7 +87,11 @@ impl<'a> Parser<'a> {
 
     // Reads a condition in square brackets, of which the opening one is held.
     #[cycle(condition)]
-    fn bracketed(&mut self, alloc: Global, room: usize) -> Result<Condition<'a>, SyntaxError>
+    fn bracketed(
+        &mut self,
+        arena: &mut Arena<'a>,
+        room: usize,
+    ) -> Result<Condition<'a>, SyntaxError>
         requires { is_punct Punct.OpenSquare (token_of self.old.token.kind) ≡ true }
         ensures read { BracketedGives room result (ahead self.old) (ahead self.new) }
         ensures shorter { OnOk result (length (ahead self.new) < length (ahead self.old)) }
@@ -88,7 +100,7 @@ impl<'a> Parser<'a> {
             return Err(self.fault(FaultKind::TooDeep));
         }
         self.advance();
-        let condition = self.condition(alloc, room - 1)?;
+        let condition = self.condition(arena, room - 1)?;
         self.expect(Punct::CloseSquare)?;
         Ok(condition)
     }

@@ -4,6 +4,7 @@ ghost use Rattle.std.specs.Prelude.{◌<◌, ◌≤◌, length, OnOk};
 ghost use Rattle.mp_parser.specs.Parsing.{ahead, ChangesGive, ChangeGives, PositionGives, IndicesGive};
 ghost use Rattle.mp_parser.specs.Parsing.{ReplacementGives, ListedGives};
 
+use crate::arena::Arena;
 use crate::fault::SyntaxError;
 use crate::limits::MAX_OPEN;
 use crate::parser::Parser;
@@ -14,13 +15,13 @@ use std::alloc::Global;
 
 impl<'a> Parser<'a> {
     /// Reads changes with a comma between each two, at least one, and the semicolon.
-    pub fn changes(&mut self, alloc: Global) -> Result<Vec<Change<'a>>, SyntaxError>
+    pub fn changes(&mut self, arena: &mut Arena<'a>) -> Result<Vec<Change<'a>>, SyntaxError>
         ensures read { ChangesGive result (ahead self.old) (ahead self.new) }
         ensures shorter { OnOk result (length (ahead self.new) ≤ length (ahead self.old)) }
     {
-        let mut changes = Vec::new(alloc);
+        let mut changes = Vec::new(arena.alloc);
         loop {
-            changes.push(self.change(alloc)?)?;
+            changes.push(self.change(arena)?)?;
             if !self.sees(Punct::Comma) {
                 break;
             }
@@ -31,12 +32,12 @@ impl<'a> Parser<'a> {
     }
 
     // Reads a position, the arrow, and what stands there then.
-    fn change(&mut self, alloc: Global) -> Result<Change<'a>, SyntaxError>
+    fn change(&mut self, arena: &mut Arena<'a>) -> Result<Change<'a>, SyntaxError>
         ensures read { ChangeGives result (ahead self.old) (ahead self.new) }
         ensures shorter { OnOk result (length (ahead self.new) < length (ahead self.old)) }
     {
-        let position = self.position(alloc)?;
-        let terms = self.replacement(alloc)?;
+        let position = self.position(arena.alloc)?;
+        let terms = self.replacement(arena)?;
         Ok(Change { position, terms })
     }
 
@@ -71,28 +72,28 @@ impl<'a> Parser<'a> {
     }
 
     // Reads an expression, or expressions in square brackets.
-    fn replacement(&mut self, alloc: Global) -> Result<Replacement<'a>, SyntaxError>
+    fn replacement(&mut self, arena: &mut Arena<'a>) -> Result<Replacement<'a>, SyntaxError>
         ensures read { ReplacementGives result (ahead self.old) (ahead self.new) }
         ensures shorter { OnOk result (length (ahead self.new) < length (ahead self.old)) }
     {
         if !self.sees(Punct::OpenSquare) {
-            let expr = self.expr(alloc, MAX_OPEN)?;
+            let expr = self.expr(arena, MAX_OPEN)?;
             return Ok(Replacement::Single(expr));
         }
         self.advance();
-        let exprs = self.listed(alloc)?;
+        let exprs = self.listed(arena)?;
         Ok(Replacement::Listed(exprs))
     }
 
     // Reads any number of expressions with a comma between each two, and the square bracket that closes them.
-    fn listed(&mut self, alloc: Global) -> Result<Vec<Expr<'a>>, SyntaxError>
+    fn listed(&mut self, arena: &mut Arena<'a>) -> Result<&'a [Expr<'a>], SyntaxError>
         ensures read { ListedGives result (ahead self.old) (ahead self.new) }
         ensures shorter { OnOk result (length (ahead self.new) ≤ length (ahead self.old)) }
     {
         if self.sees(Punct::CloseSquare) {
             self.advance();
-            return Ok(Vec::new(alloc));
+            return Ok(&[]);
         }
-        self.row(alloc, Punct::CloseSquare, MAX_OPEN - 1)
+        self.row(arena, Punct::CloseSquare, MAX_OPEN - 1)
     }
 }

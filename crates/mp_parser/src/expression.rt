@@ -1,6 +1,6 @@
 //! Reads expressions.
 
-ghost use Rattle.std.specs.Prelude.{◌≡◌, ◌<◌, ◌≤◌, None, true, length, OnOk, IfOk};
+ghost use Rattle.std.specs.Prelude.{◌≡◌, ◌<◌, ◌≤◌, [], None, true, length, OnOk, IfOk};
 ghost use Rattle.std.specs.Prelude.{IfSome, IfNone};
 ghost use Rattle.mp_parser.specs.Lexing.{token_of};
 ghost use Rattle.mp_parser.specs.Machine.{is_punct, wildcard_at};
@@ -9,24 +9,27 @@ ghost use Rattle.mp_parser.specs.Syntax.{HasNoDefault};
 ghost use Rattle.mp_parser.specs.Parsing.{ahead, ExprGives, WordLeads, DollarLeads, WildcardLeads};
 ghost use Rattle.mp_parser.specs.Parsing.{HasNoDefaultBehind, CountGives, ChainGives, RowGives, OperandsGive};
 
+use crate::arena::Arena;
 use crate::fault::{FaultKind, SyntaxError};
 use crate::parser::Parser;
 use crate::place::Place;
 use crate::token::{Kind, Punct};
 use crate::tree::{Expr, Wildcard};
 use crate::word::{InfixSign, Word};
+use bumpalo::Bump;
 use std::alloc::Global;
 
 impl<'a> Parser<'a> {
     /// Reads an expression, in which at most `room` brackets stand open at once.
     #[cycle(expression)]
-    pub fn expr(&mut self, alloc: Global, room: usize) -> Result<Expr<'a>, SyntaxError>
+    pub fn expr(&mut self, arena: &mut Arena<'a>, room: usize) -> Result<Expr<'a>, SyntaxError>
         ensures read { ExprGives room result (ahead self.old) (ahead self.new) }
         ensures shorter { OnOk result (length (ahead self.new) < length (ahead self.old)) }
+        ensures kept { OnOk result (arena.new.pending.items ≡ arena.old.pending.items) }
     {
         match self.wildcard() {
-            Some(wildcard) => self.behind_wildcard(alloc, wildcard, room),
-            None => self.word_or_bracket(alloc, room),
+            Some(wildcard) => self.behind_wildcard(arena, wildcard, room),
+            None => self.word_or_bracket(arena, room),
         }
     }
 
@@ -35,32 +38,33 @@ impl<'a> Parser<'a> {
     #[cycle(expression)]
     fn behind_wildcard(
         &mut self,
-        alloc: Global,
+        arena: &mut Arena<'a>,
         wildcard: Wildcard<'a>,
         room: usize,
     ) -> Result<Expr<'a>, SyntaxError>
         ensures read { WildcardLeads room (wildcard_of wildcard.entry) result (ahead self.old) (ahead self.new) }
         ensures shorter { OnOk result (length (ahead self.new) ≤ length (ahead self.old)) }
+        ensures kept { OnOk result (arena.new.pending.items ≡ arena.old.pending.items) }
     {
         if !self.sees_default(&wildcard) {
-            return self.counted(wildcard);
+            return self.counted(arena.bump, wildcard);
         }
         self.advance();
-        let (others, last) = self.chain(alloc)?;
+        let (others, last) = self.chain(arena.alloc, arena.bump)?;
         let default = match last {
-            Some(wildcard) => self.counted(wildcard)?,
-            None => self.word_or_bracket(alloc, room)?,
+            Some(wildcard) => self.counted(arena.bump, wildcard)?,
+            None => self.word_or_bracket(arena, room)?,
         };
         Ok(Expr::Optional {
-            wildcard,
+            wildcard: arena.bump.try_alloc(wildcard)?,
             others,
-            default: Box::new(alloc, default)?,
+            default: arena.bump.try_alloc(default)?,
         })
     }
 
     // Reads what begins with this wildcard, where no default of it follows: one with a count, where a brace follows, or
     // the wildcard alone.
-    fn counted(&mut self, wildcard: Wildcard<'a>) -> Result<Expr<'a>, SyntaxError>
+    fn counted(&mut self, bump: &'a Bump, wildcard: Wildcard<'a>) -> Result<Expr<'a>, SyntaxError>
         requires { HasNoDefaultBehind (wildcard_of wildcard) (token_of self.old.token.kind) }
         ensures read { CountGives (wildcard_of wildcard.entry) result (ahead self.old) (ahead self.new) }
         ensures plain { IfOk result (λ e. HasNoDefault (expr_tree e)) }
@@ -74,8 +78,8 @@ impl<'a> Parser<'a> {
         let open = self.plus();
         self.expect(Punct::CloseBrace)?;
         Ok(Expr::Counted {
-            wildcard,
-            count,
+            wildcard: bump.try_alloc(wildcard)?,
+            count: bump.try_alloc(count)?,
             open,
         })
     }
@@ -84,7 +88,8 @@ impl<'a> Parser<'a> {
     fn chain(
         &mut self,
         alloc: Global,
-    ) -> Result<(Vec<Wildcard<'a>>, Option<Wildcard<'a>>), SyntaxError>
+        bump: &'a Bump,
+    ) -> Result<(&'a [Wildcard<'a>], Option<Wildcard<'a>>), SyntaxError>
         ensures read { ChainGives result (ahead self.old) (ahead self.new) }
         ensures held { IfOk result (λ r. IfNone r.1
             (wildcard_at (token_of self.new.token.kind) self.new.token.place ≡ None)) }
@@ -102,25 +107,31 @@ impl<'a> Parser<'a> {
             self.advance();
             last = self.wildcard();
         }
+        let others = bump.try_alloc_slice_copy(others.as_slice())?;
         Ok((others, last))
     }
 
     // Reads an expression that begins with a word or a bracket, where no wildcard is held.
     #[cycle(expression)]
-    fn word_or_bracket(&mut self, alloc: Global, room: usize) -> Result<Expr<'a>, SyntaxError>
+    fn word_or_bracket(
+        &mut self,
+        arena: &mut Arena<'a>,
+        room: usize,
+    ) -> Result<Expr<'a>, SyntaxError>
         requires { wildcard_at (token_of self.old.token.kind) self.old.token.place ≡ None }
         ensures read { ExprGives room result (ahead self.old) (ahead self.new) }
         ensures plain { IfOk result (λ e. HasNoDefault (expr_tree e)) }
         ensures shorter { OnOk result (length (ahead self.new) < length (ahead self.old)) }
+        ensures kept { OnOk result (arena.new.pending.items ≡ arena.old.pending.items) }
     {
         if self.sees(Punct::Open) {
-            return self.infix(alloc, room);
+            return self.infix(arena, room);
         }
         let place = self.token.place;
         match self.token.kind {
             Kind::Word(text) => {
                 self.advance();
-                self.behind_word(alloc, Word { text, place }, room)
+                self.behind_word(arena, Word { text, place }, room)
             }
             Kind::Punct(Punct::Dollar) => {
                 self.advance();
@@ -134,13 +145,14 @@ impl<'a> Parser<'a> {
     #[cycle(expression)]
     fn behind_word(
         &mut self,
-        alloc: Global,
+        arena: &mut Arena<'a>,
         name: Word<'a>,
         room: usize,
     ) -> Result<Expr<'a>, SyntaxError>
         ensures read { WordLeads room (spot_of name.entry) result (ahead self.old) (ahead self.new) }
         ensures plain { IfOk result (λ e. HasNoDefault (expr_tree e)) }
         ensures shorter { OnOk result (length (ahead self.new) ≤ length (ahead self.old)) }
+        ensures kept { OnOk result (arena.new.pending.items ≡ arena.old.pending.items) }
     {
         if !self.sees(Punct::Open) {
             return Ok(Expr::Symbol(name));
@@ -151,9 +163,9 @@ impl<'a> Parser<'a> {
         self.advance();
         if self.sees(Punct::Close) {
             self.advance();
-            return Ok(Expr::Apply(name, Vec::new(alloc)));
+            return Ok(Expr::Apply(name, no_exprs()));
         }
-        let args = self.row(alloc, Punct::Close, room - 1)?;
+        let args = self.row(arena, Punct::Close, room - 1)?;
         Ok(Expr::Apply(name, args))
     }
 
@@ -172,41 +184,44 @@ impl<'a> Parser<'a> {
     #[cycle(expression)]
     pub fn row(
         &mut self,
-        alloc: Global,
+        arena: &mut Arena<'a>,
         closes: Punct,
         room: usize,
-    ) -> Result<Vec<Expr<'a>>, SyntaxError>
+    ) -> Result<&'a [Expr<'a>], SyntaxError>
         ensures read { RowGives closes room result (ahead self.old) (ahead self.new) }
         ensures shorter { OnOk result (length (ahead self.new) ≤ length (ahead self.old)) }
+        ensures kept { OnOk result (arena.new.pending.items ≡ arena.old.pending.items) }
     {
-        let first = self.expr(alloc, room)?;
-        let count = if self.sees(Punct::Comma) { 3 } else { 1 };
-        let mut exprs = Vec::with_capacity(alloc, count)?;
-        exprs.push(first)?;
+        let start = arena.start();
+        let first = self.expr(arena, room)?;
+        arena.push(first)?;
         while self.sees(Punct::Comma) {
             self.advance();
-            exprs.push(self.expr(alloc, room)?)?;
+            let expr = self.expr(arena, room)?;
+            arena.push(expr)?;
         }
         self.expect(closes)?;
-        Ok(exprs)
+        let list = arena.finish(start)?;
+        Ok(list)
     }
 
     // Reads operands with one sign between them, in brackets of which the opening one is held.
     #[cycle(expression)]
-    fn infix(&mut self, alloc: Global, room: usize) -> Result<Expr<'a>, SyntaxError>
+    fn infix(&mut self, arena: &mut Arena<'a>, room: usize) -> Result<Expr<'a>, SyntaxError>
         requires { is_punct Punct.Open (token_of self.old.token.kind) ≡ true }
         ensures read { ExprGives room result (ahead self.old) (ahead self.new) }
         ensures plain { IfOk result (λ e. HasNoDefault (expr_tree e)) }
         ensures shorter { OnOk result (length (ahead self.new) < length (ahead self.old)) }
+        ensures kept { OnOk result (arena.new.pending.items ≡ arena.old.pending.items) }
     {
         if room == 0 {
             return Err(self.fault(FaultKind::TooDeep));
         }
         let open = self.token.place;
         self.advance();
-        let first = self.expr(alloc, room - 1)?;
+        let first = self.expr(arena, room - 1)?;
         let sign = self.sign()?;
-        let operands = self.operands(alloc, first, sign, room - 1)?;
+        let operands = self.operands(arena, first, sign, room - 1)?;
         Ok(Expr::Infix {
             open,
             sign,
@@ -218,25 +233,35 @@ impl<'a> Parser<'a> {
     #[cycle(expression)]
     fn operands(
         &mut self,
-        alloc: Global,
+        arena: &mut Arena<'a>,
         first: Expr<'a>,
         sign: InfixSign<'a>,
         room: usize,
-    ) -> Result<Vec<Expr<'a>>, SyntaxError>
+    ) -> Result<&'a [Expr<'a>], SyntaxError>
         ensures read { OperandsGive room (expr_tree first.entry) (spot_of_sign sign.entry) result (ahead self.old)
             (ahead self.new) }
         ensures shorter { OnOk result (length (ahead self.new) ≤ length (ahead self.old)) }
+        ensures kept { OnOk result (arena.new.pending.items ≡ arena.old.pending.items) }
     {
-        let mut operands = Vec::with_capacity(alloc, 2)?;
-        operands.push(first)?;
+        let start = arena.start();
+        arena.push(first)?;
         loop {
-            operands.push(self.expr(alloc, room)?)?;
+            let expr = self.expr(arena, room)?;
+            arena.push(expr)?;
             if !self.sees_sign(sign.text) {
                 break;
             }
             self.advance();
         }
         self.expect(Punct::Close)?;
-        Ok(operands)
+        let list = arena.finish(start)?;
+        Ok(list)
     }
+}
+
+// The list without expressions.
+fn no_exprs<'a>() -> &'a [Expr<'a>]
+    ensures { result.now ≡ [] }
+{
+    &[]
 }

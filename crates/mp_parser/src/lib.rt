@@ -1,6 +1,7 @@
 //! The tokens and the grammar of rule files: syntax trees with places, and the parser of the parts of statements.
 #![tactic(auto)]
 
+pub mod arena;
 mod atom;
 mod condition;
 pub mod condition_tree;

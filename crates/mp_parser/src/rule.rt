@@ -6,16 +6,16 @@ ghost use Rattle.mp_parser.specs.View.{placed};
 ghost use Rattle.mp_parser.specs.Parsing.{ahead, TemplateGives};
 ghost use Rattle.mp_parser.specs.ConditionParsing.{IfGives, EndsIf};
 
+use crate::arena::Arena;
 use crate::condition_tree::Condition;
 use crate::fault::SyntaxError;
 use crate::limits::MAX_OPEN;
 use crate::parser::Parser;
 use crate::tree::Expr;
-use std::alloc::Global;
 
 impl<'a> Parser<'a> {
     /// Reads the arrow and an expression, where the arrow is held.
-    pub fn template(&mut self, alloc: Global) -> Result<Option<Expr<'a>>, SyntaxError>
+    pub fn template(&mut self, arena: &mut Arena<'a>) -> Result<Option<Expr<'a>>, SyntaxError>
         ensures read { TemplateGives (token_of self.new.token.kind) result (ahead self.old) (ahead self.new) }
         ensures shorter { OnOk result (length (ahead self.new) ≤ length (ahead self.old)) }
     {
@@ -23,12 +23,15 @@ impl<'a> Parser<'a> {
             return Ok(None);
         }
         self.advance();
-        let template = self.expr(alloc, MAX_OPEN)?;
+        let template = self.expr(arena, MAX_OPEN)?;
         Ok(Some(template))
     }
 
     /// Reads `if` and a condition, where `if` is held.
-    pub fn rule_condition(&mut self, alloc: Global) -> Result<Option<Condition<'a>>, SyntaxError>
+    pub fn rule_condition(
+        &mut self,
+        arena: &mut Arena<'a>,
+    ) -> Result<Option<Condition<'a>>, SyntaxError>
         ensures read { IfGives (placed self.old.token) result (ahead self.old) (ahead self.new) }
         ensures ends { IfOk result (λ o. EndsIf o (token_of self.new.token.kind)) }
         ensures shorter { OnOk result (length (ahead self.new) ≤ length (ahead self.old)) }
@@ -37,7 +40,7 @@ impl<'a> Parser<'a> {
             return Ok(None);
         }
         self.advance();
-        let condition = self.condition(alloc, MAX_OPEN)?;
+        let condition = self.condition(arena, MAX_OPEN)?;
         Ok(Some(condition))
     }
 }

@@ -6,6 +6,7 @@ ghost use Rattle.mp_parser.specs.Syntax.{HasParts};
 use crate::condition_tree::Condition;
 use crate::place::Place;
 use crate::word::{InfixSign, Word};
+use std::fmt;
 
 /// A wildcard as it is written.
 ///
@@ -35,15 +36,15 @@ impl Wildcard<'_> {
     }
 }
 
-/// An expression.
+/// An expression. Its lists, and what it refers to besides, lie in an arena.
 ///
 /// As plain data it is a `Tree` of `specs/Syntax.antt`, by `expr_tree` of `specs/View.antt`.
-#[derive(Debug, Drop)]
+#[derive(Clone, Copy)]
 pub enum Expr<'a> {
     /// A word alone.
     Symbol(Word<'a>),
     /// A word, and in brackets behind it any number of arguments.
-    Apply(Word<'a>, Vec<Expr<'a>>),
+    Apply(Word<'a>, &'a [Expr<'a>]),
     /// In brackets two operands or more, with one sign between each two of them.
     Infix {
         /// The place of the opening bracket.
@@ -51,16 +52,16 @@ pub enum Expr<'a> {
         /// The sign, at the place where it stands first.
         sign: InfixSign<'a>,
         /// The operands, in order; what is read has two or more.
-        operands: Vec<Expr<'a>>,
+        operands: &'a [Expr<'a>],
     },
     /// A wildcard.
     Wild(Wildcard<'a>),
     /// A wildcard with one underscore and no kind, and in braces behind it how many arguments it takes.
     Counted {
         /// The wildcard.
-        wildcard: Wildcard<'a>,
+        wildcard: &'a Wildcard<'a>,
         /// The number in the braces, in digits.
-        count: Word<'a>,
+        count: &'a Word<'a>,
         /// Whether it takes more arguments: a `+` stands behind the number.
         open: bool,
     },
@@ -68,14 +69,79 @@ pub enum Expr<'a> {
     /// the last.
     Optional {
         /// The first wildcard.
-        wildcard: Wildcard<'a>,
+        wildcard: &'a Wildcard<'a>,
         /// The further wildcards, in order.
-        others: Vec<Wildcard<'a>>,
+        others: &'a [Wildcard<'a>],
         /// The expression behind the last colon; what is read is no wildcard with a default.
-        default: Box<Expr<'a>>,
+        default: &'a Expr<'a>,
     },
     /// `$NAME`: the name, at the place of the `$`.
     Variable(Word<'a>),
+}
+
+impl fmt::Debug for Expr<'_> {
+    fn fmt<W: fmt::Write>(&self, f: &mut fmt::Formatter<W>) -> fmt::Result {
+        write_expr(f, self)
+    }
+}
+
+// Writes an expression as a derived `Debug` would.
+#[cycle(write)]
+fn write_expr<W: fmt::Write>(f: &mut fmt::Formatter<W>, expr: &Expr<'_>) -> fmt::Result {
+    match expr {
+        Expr::Symbol(word) => write!(f, "Symbol({word:?})"),
+        Expr::Apply(word, args) => {
+            write!(f, "Apply({word:?}, ")?;
+            write_exprs(f, args)?;
+            f.write_str(")")
+        }
+        Expr::Infix {
+            open,
+            sign,
+            operands,
+        } => {
+            write!(f, "Infix {{ open: {open:?}, sign: {sign:?}, operands: ")?;
+            write_exprs(f, operands)?;
+            f.write_str(" }")
+        }
+        Expr::Wild(wildcard) => write!(f, "Wild({wildcard:?})"),
+        Expr::Counted {
+            wildcard,
+            count,
+            open,
+        } => write!(
+            f,
+            "Counted {{ wildcard: {wildcard:?}, count: {count:?}, open: {open:?} }}"
+        ),
+        Expr::Optional {
+            wildcard,
+            others,
+            default,
+        } => {
+            write!(
+                f,
+                "Optional {{ wildcard: {wildcard:?}, others: {others:?}, default: "
+            )?;
+            write_expr(f, default)?;
+            f.write_str(" }")
+        }
+        Expr::Variable(word) => write!(f, "Variable({word:?})"),
+    }
+}
+
+// Writes expressions as a list.
+#[cycle(write)]
+fn write_exprs<W: fmt::Write>(f: &mut fmt::Formatter<W>, exprs: &[Expr<'_>]) -> fmt::Result {
+    f.write_str("[")?;
+    let mut first = true;
+    for expr in exprs {
+        if !first {
+            f.write_str(", ")?;
+        }
+        write_expr(f, expr)?;
+        first = false;
+    }
+    f.write_str("]")
 }
 
 /// A flag of an operation.
@@ -117,7 +183,7 @@ pub enum Replacement<'a> {
     /// An expression.
     Single(Expr<'a>),
     /// Any number of expressions in square brackets, in order.
-    Listed(Vec<Expr<'a>>),
+    Listed(&'a [Expr<'a>]),
 }
 
 /// A change of a subject: `POSITION -> EXPR` or `POSITION -> [EXPR, ..]`.

@@ -15,6 +15,8 @@ ghost use Rattle.mp_syntax.specs.Reading.{text_reading, IfFault, IsConditionOrMe
 ghost use Rattle.mp_syntax.specs.StatementParsing.{ConditionAloneGives};
 
 use crate::bad_token::first_error;
+use bumpalo::Bump;
+use mp_parser::arena::Arena;
 use mp_parser::condition_tree::Condition;
 use mp_parser::fault::SyntaxError;
 use mp_parser::limits::MAX_OPEN;
@@ -31,8 +33,13 @@ use std::alloc::Global;
 ///   `IsFirstFault` of `specs/FirstFault.antt`. Its kinds are those of `read_statements`; behind a condition no
 ///   text goes on with a token that isn't part of it.
 ///
-/// After an error nothing is kept.
-pub fn read_condition<'a>(alloc: Global, bytes: &'a [u8]) -> Result<Condition<'a>, SyntaxError>
+/// The lists of the tree lie in the arena `bump`. What an error leaves in it stays there until the arena is reset or
+/// dropped; besides it nothing is kept.
+pub fn read_condition<'a>(
+    alloc: Global,
+    bump: &'a Bump,
+    bytes: &'a [u8],
+) -> Result<Condition<'a>, SyntaxError>
     requires { length bytes.now < 2 ^ 32 - 1 }
 
     // What is answered is what the bytes are.
@@ -44,7 +51,7 @@ pub fn read_condition<'a>(alloc: Global, bytes: &'a [u8]) -> Result<Condition<'a
     // A fault is the first one of the bytes.
     ensures fault { IfErr result (λ e. IfFault e (λ f. IsFirstFault OfCondition bytes.now f)) }
 {
-    alone(alloc, bytes)
+    alone(alloc, bump, bytes)
 }
 
 /// Law: bytes are one condition at most.
@@ -65,24 +72,25 @@ pub fn printed_condition_is_read()
 {}
 
 // Reads a condition up to the end, or the first fault.
-fn alone<'a>(alloc: Global, bytes: &'a [u8]) -> Result<Condition<'a>, SyntaxError>
+fn alone<'a>(alloc: Global, bump: &'a Bump, bytes: &'a [u8]) -> Result<Condition<'a>, SyntaxError>
     requires { length bytes.now < 2 ^ 32 - 1 }
     ensures { ConditionAloneGives result (text_reading OfCondition bytes.now) }
 {
-    match parse(alloc, bytes) {
+    match parse(alloc, bump, bytes) {
         Ok(condition) => Ok(condition),
         Err(error) => Err(first_error(bytes, error)),
     }
 }
 
 // Reads a condition up to the end, or the first fault that the grammar has.
-fn parse<'a>(alloc: Global, bytes: &'a [u8]) -> Result<Condition<'a>, SyntaxError>
+fn parse<'a>(alloc: Global, bump: &'a Bump, bytes: &'a [u8]) -> Result<Condition<'a>, SyntaxError>
     requires { length bytes.now < 2 ^ 32 - 1 }
     ensures { ConditionAloneGives result
         (run [] (BeforeLiteral ConditionAlone [] no_level) (lexemes bytes.now first_place)) }
 {
     let mut parser = Parser::new(bytes);
-    let condition = parser.condition(alloc, MAX_OPEN)?;
+    let mut arena = Arena::new(alloc, bump);
+    let condition = parser.condition(&mut arena, MAX_OPEN)?;
     if !parser.is_at_end() {
         return Err(parser.refused());
     }

@@ -15,6 +15,8 @@ ghost use Rattle.mp_syntax.specs.Reading.{text_reading, IfFault, IsExprOrMemory}
 ghost use Rattle.mp_syntax.specs.StatementParsing.{AloneGives};
 
 use crate::bad_token::first_error;
+use bumpalo::Bump;
+use mp_parser::arena::Arena;
 use mp_parser::fault::SyntaxError;
 use mp_parser::limits::MAX_OPEN;
 use mp_parser::parser::Parser;
@@ -31,8 +33,13 @@ use std::alloc::Global;
 ///   `IsFirstFault` of `specs/FirstFault.antt`. Its kinds are those of `read_statements`; behind an expression
 ///   no text goes on with a token that isn't part of it.
 ///
-/// After an error nothing is kept.
-pub fn read_expression<'a>(alloc: Global, bytes: &'a [u8]) -> Result<Expr<'a>, SyntaxError>
+/// The lists of the tree lie in the arena `bump`. What an error leaves in it stays there until the arena is reset or
+/// dropped; besides it nothing is kept.
+pub fn read_expression<'a>(
+    alloc: Global,
+    bump: &'a Bump,
+    bytes: &'a [u8],
+) -> Result<Expr<'a>, SyntaxError>
     requires { length bytes.now < 2 ^ 32 - 1 }
 
     // What is answered is what the bytes are.
@@ -44,7 +51,7 @@ pub fn read_expression<'a>(alloc: Global, bytes: &'a [u8]) -> Result<Expr<'a>, S
     // A fault is the first one of the bytes.
     ensures fault { IfErr result (λ e. IfFault e (λ f. IsFirstFault OfExpr bytes.now f)) }
 {
-    alone(alloc, bytes)
+    alone(alloc, bump, bytes)
 }
 
 /// Law: bytes are one expression at most.
@@ -64,23 +71,24 @@ pub fn printed_expression_is_read()
 {}
 
 // Reads an expression up to the end, or the first fault.
-fn alone<'a>(alloc: Global, bytes: &'a [u8]) -> Result<Expr<'a>, SyntaxError>
+fn alone<'a>(alloc: Global, bump: &'a Bump, bytes: &'a [u8]) -> Result<Expr<'a>, SyntaxError>
     requires { length bytes.now < 2 ^ 32 - 1 }
     ensures { AloneGives result (text_reading OfExpr bytes.now) }
 {
-    match parse(alloc, bytes) {
+    match parse(alloc, bump, bytes) {
         Ok(expr) => Ok(expr),
         Err(error) => Err(first_error(bytes, error)),
     }
 }
 
 // Reads an expression up to the end, or the first fault that the grammar has.
-fn parse<'a>(alloc: Global, bytes: &'a [u8]) -> Result<Expr<'a>, SyntaxError>
+fn parse<'a>(alloc: Global, bump: &'a Bump, bytes: &'a [u8]) -> Result<Expr<'a>, SyntaxError>
     requires { length bytes.now < 2 ^ 32 - 1 }
     ensures { AloneGives result (run [] (BeforeExpr Alone []) (lexemes bytes.now first_place)) }
 {
     let mut parser = Parser::new(bytes);
-    let expr = parser.expr(alloc, MAX_OPEN)?;
+    let mut arena = Arena::new(alloc, bump);
+    let expr = parser.expr(&mut arena, MAX_OPEN)?;
     if !parser.is_at_end() {
         return Err(parser.refused());
     }

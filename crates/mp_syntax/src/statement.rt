@@ -18,6 +18,8 @@ ghost use Rattle.mp_syntax.specs.FirstFault.{IsFirstFault};
 ghost use Rattle.mp_syntax.specs.Reading.{text_reading, IfFault, IsOkOrMemory};
 
 use crate::bad_token::first_error;
+use bumpalo::Bump;
+use mp_parser::arena::Arena;
 use mp_parser::fault::SyntaxError;
 use mp_parser::limits::MAX_OPEN;
 use mp_parser::parser::Parser;
@@ -57,9 +59,11 @@ enum Keyword {
 ///   100 are open (`TooDeep`), or with which none go on (`Syntax`); and where there is no such token it is
 ///   `Syntax` at the end, since the statements go on.
 ///
-/// After an error nothing is kept.
+/// The lists of the trees lie in the arena `bump`. What an error leaves in it stays there until the arena is reset or
+/// dropped; besides it nothing is kept.
 pub fn read_statements<'a>(
     alloc: Global,
+    bump: &'a Bump,
     bytes: &'a [u8],
 ) -> Result<Vec<Statement<'a>>, SyntaxError>
     requires { length bytes.now < 2 ^ 32 - 1 }
@@ -74,7 +78,7 @@ pub fn read_statements<'a>(
     // A fault is the first one of the bytes.
     ensures fault { IfErr result (λ e. IfFault e (λ f. IsFirstFault OfFile bytes.now f)) }
 {
-    statements(alloc, bytes)
+    statements(alloc, bump, bytes)
 }
 
 /// Law: bytes are one list of statements at most.
@@ -105,11 +109,15 @@ pub fn printed_statements_are_read()
 {}
 
 // Reads all statements, or the first fault.
-fn statements<'a>(alloc: Global, bytes: &'a [u8]) -> Result<Vec<Statement<'a>>, SyntaxError>
+fn statements<'a>(
+    alloc: Global,
+    bump: &'a Bump,
+    bytes: &'a [u8],
+) -> Result<Vec<Statement<'a>>, SyntaxError>
     requires { length bytes.now < 2 ^ 32 - 1 }
     ensures { FileGives result (text_reading OfFile bytes.now) }
 {
-    match parse(alloc, bytes) {
+    match parse(alloc, bump, bytes) {
         Ok(statements) => Ok(statements),
         Err(error) => Err(first_error(bytes, error)),
     }
@@ -127,31 +135,39 @@ fn statement_room(bytes: &[u8]) -> usize {
 }
 
 // Reads all statements, or the first fault that the grammar has.
-fn parse<'a>(alloc: Global, bytes: &'a [u8]) -> Result<Vec<Statement<'a>>, SyntaxError>
+fn parse<'a>(
+    alloc: Global,
+    bump: &'a Bump,
+    bytes: &'a [u8],
+) -> Result<Vec<Statement<'a>>, SyntaxError>
     requires { length bytes.now < 2 ^ 32 - 1 }
     ensures { FileGives result (run [] Top (lexemes bytes.now first_place)) }
 {
     let mut parser = Parser::new(bytes);
+    let mut arena = Arena::new(alloc, bump);
     let mut statements = Vec::with_capacity(alloc, statement_room(bytes))?;
     while !parser.is_at_end() {
-        let statement = statement(&mut parser, alloc)?;
+        let statement = statement(&mut parser, &mut arena)?;
         statements.push(statement)?;
     }
     Ok(statements)
 }
 
 // Reads one statement, where the end is not held.
-fn statement<'a>(parser: &mut Parser<'a>, alloc: Global) -> Result<Statement<'a>, SyntaxError>
+fn statement<'a>(
+    parser: &mut Parser<'a>,
+    arena: &mut Arena<'a>,
+) -> Result<Statement<'a>, SyntaxError>
     requires { is_end (token_of parser.old.token.kind) ≡ false }
     ensures read { StatementFrom Top result (ahead parser.old) (ahead parser.new) }
     ensures shorter { OnOk result (length (ahead parser.new) < length (ahead parser.old)) }
 {
     match next_keyword(parser)? {
-        Keyword::Op => op(parser, alloc),
-        Keyword::Kind => kind(parser, alloc),
-        Keyword::Rule => rule(parser, alloc),
-        Keyword::Subject => subject(parser, alloc),
-        Keyword::Edit => edit(parser, alloc),
+        Keyword::Op => op(parser, arena.alloc),
+        Keyword::Kind => kind(parser, arena.alloc),
+        Keyword::Rule => rule(parser, arena),
+        Keyword::Subject => subject(parser, arena),
+        Keyword::Edit => edit(parser, arena),
     }
 }
 
@@ -185,13 +201,13 @@ fn kind<'a>(parser: &mut Parser<'a>, alloc: Global) -> Result<Statement<'a>, Syn
 
 // Reads what follows `rule`: a name, a colon, an expression, perhaps the arrow and another one, perhaps `if` and a
 // condition, and the semicolon.
-fn rule<'a>(parser: &mut Parser<'a>, alloc: Global) -> Result<Statement<'a>, SyntaxError>
+fn rule<'a>(parser: &mut Parser<'a>, arena: &mut Arena<'a>) -> Result<Statement<'a>, SyntaxError>
     ensures read { StatementFrom (AfterRole OfRule) result (ahead parser.old) (ahead parser.new) }
     ensures shorter { OnOk result (length (ahead parser.new) ≤ length (ahead parser.old)) }
 {
-    let (name, pattern) = named_expr(parser, alloc)?;
-    let template = parser.template(alloc)?;
-    let condition = parser.rule_condition(alloc)?;
+    let (name, pattern) = named_expr(parser, arena)?;
+    let template = parser.template(arena)?;
+    let condition = parser.rule_condition(arena)?;
     parser.expect(Punct::Semicolon)?;
     Ok(Statement::Rule {
         name,
@@ -202,37 +218,37 @@ fn rule<'a>(parser: &mut Parser<'a>, alloc: Global) -> Result<Statement<'a>, Syn
 }
 
 // Reads what follows `subject`: a name, a colon, an expression and the semicolon.
-fn subject<'a>(parser: &mut Parser<'a>, alloc: Global) -> Result<Statement<'a>, SyntaxError>
+fn subject<'a>(parser: &mut Parser<'a>, arena: &mut Arena<'a>) -> Result<Statement<'a>, SyntaxError>
     ensures read { StatementFrom (AfterRole OfSubject) result (ahead parser.old) (ahead parser.new) }
     ensures shorter { OnOk result (length (ahead parser.new) ≤ length (ahead parser.old)) }
 {
-    let (name, term) = named_expr(parser, alloc)?;
+    let (name, term) = named_expr(parser, arena)?;
     parser.expect(Punct::Semicolon)?;
     Ok(Statement::Subject { name, term })
 }
 
 // Reads what follows `edit`: a name, a colon, changes and the semicolon.
-fn edit<'a>(parser: &mut Parser<'a>, alloc: Global) -> Result<Statement<'a>, SyntaxError>
+fn edit<'a>(parser: &mut Parser<'a>, arena: &mut Arena<'a>) -> Result<Statement<'a>, SyntaxError>
     ensures read { StatementFrom AfterEdit result (ahead parser.old) (ahead parser.new) }
     ensures shorter { OnOk result (length (ahead parser.new) ≤ length (ahead parser.old)) }
 {
     let subject = parser.word()?;
     parser.expect(Punct::Colon)?;
-    let changes = parser.changes(alloc)?;
+    let changes = parser.changes(arena)?;
     Ok(Statement::Edit { subject, changes })
 }
 
 // Reads a name, a colon and an expression.
 fn named_expr<'a>(
     parser: &mut Parser<'a>,
-    alloc: Global,
+    arena: &mut Arena<'a>,
 ) -> Result<(Word<'a>, Expr<'a>), SyntaxError>
     ensures read { NamedExprGives result (ahead parser.old) (ahead parser.new) }
     ensures shorter { OnOk result (length (ahead parser.new) ≤ length (ahead parser.old)) }
 {
     let name = parser.word()?;
     parser.expect(Punct::Colon)?;
-    let expr = parser.expr(alloc, MAX_OPEN)?;
+    let expr = parser.expr(arena, MAX_OPEN)?;
     Ok((name, expr))
 }
 

@@ -13,6 +13,7 @@ use Rattle.mp_parser.proofs.Runs.{length-passed, row-closes, row-again, operand-
 use Rattle.mp_parser.proofs.Runs.{open-expr, bracket-opens, over-punct, length-passed_sign, over-sign, operand-again}
 use Rattle.mp_parser.proofs.Runs.{over-default, defaults-behind, chained-optional, open_count-within_defaults, breaks}
 use Rattle.mp_parser.proofs.Runs.{passes-along, word-begins, dollar-begins}
+use Rattle.mp_parser.proofs.ListLaws.{drop-behind, take-before, front-le, push-behind}
 use Rattle.mp_parser.proofs.Trees.{expr_tree-Apply, expr_tree-Infix}
 use Rattle.mp_parser.proofs.parser.Parser.+expression.Goals as goal
 use Rattle.mp_parser.proofs.parser.Parser.+expression.Goals.{behind_wildcard-in-Some+in_ok-default-in-Some}
@@ -44,71 +45,87 @@ pub row-returns-in_err-first-clause-read : goal.row-returns-in_err-first-clause-
 row-returns-in_err-first-clause-read t c = λ done x k frame to row room.
     breaks _ _ _ _ _ _ _ c.from_residual.ensures.1 refl (c.in_err-first.ensures.read done x (frame [] ∷ k) (room []))
 
-pub row-loop-alloc-init : goal.row-loop-alloc-init
-row-loop-alloc-init t c =
+pub row-loop-self-init : goal.row-loop-self-init
+row-loop-self-init t c =
     record {
       before = [];
       last = c.in_ok-first.first;
-      items = c.in_ok-push.ensures.items ∙ ap (λ l. l ++ c.in_ok-first.first ∷ []) c.in_ok-exprs.ensures.items;
+      items = c.in_ok-push.ensures ∙ ap (λ l. l ++ c.in_ok-first.first ∷ []) c.in_ok-first.ensures.kept;
       read = λ done x k frame to row room. c.in_ok-first.ensures.read done x (frame [] ∷ k) (room []);
       shorter = omega (arith, c.in_ok-first.ensures.shorter);
     }
 
-pub row-loop-alloc-preserved : goal.row-loop-alloc-preserved
-row-loop-alloc-preserved t c =
-    let before = c.loop-alloc.invariant.before in
-    let last = c.loop-alloc.invariant.last in
+pub row-loop-self-preserved : goal.row-loop-self-preserved
+row-loop-self-preserved t c =
+    let before = c.loop-self.invariant.before in
+    let last = c.loop-self.invariant.last in
     let es = map expr_tree before in
     let e = expr_tree last in
-    let held = sym c.sees-in-loop-alloc.ensures ∙ c.loop-alloc-test.true in
+    let held = sym c.sees.ensures ∙ c.loop-self-test.true in
     record {
       before = before ++ last ∷ [];
-      last = c.in_ok-expr.field-0;
-      items = c.in_ok-push-2.ensures.items ∙ ap (λ l. l ++ c.in_ok-expr.field-0 ∷ []) c.loop-alloc.invariant.items;
+      last = c.in_ok-expr.expr;
+      items = c.in_ok-push-2.ensures
+          ∙ push-behind _ c.args.arena.now.pending.items (before ++ last ∷ []) c.in_ok-expr.expr
+          (c.in_ok-expr.ensures.kept ∙ c.loop-self.invariant.items);
       read = λ done x k frame to row room.
-          c.loop-alloc.invariant.read done x k frame to row room
-          ∙ over-punct Comma (placed c.loop-alloc.self.token) _ _ c.advance.ensures held done
+          c.loop-self.invariant.read done x k frame to row room
+          ∙ over-punct Comma (placed c.loop-self.self.token) _ _ c.advance.ensures held done
           (AfterExpr x (frame es ∷ k) e) (Go (BeforeExpr x (frame (es ++ e ∷ []) ∷ k)))
-          (row-again c.args.closes x k frame to row es e (placed c.loop-alloc.self.token) held)
+          (row-again c.args.closes x k frame to row es e (placed c.loop-self.self.token) held)
           ∙ c.in_ok-expr.ensures.read done x (frame (es ++ e ∷ []) ∷ k) (room (es ++ e ∷ []))
-          ∙ ap (λ l. run done (AfterExpr x (frame l ∷ k) (expr_tree c.in_ok-expr.field-0)) (ahead c.expr-in-loop-alloc.new.self))
+          ∙ ap (λ l. run done (AfterExpr x (frame l ∷ k) (expr_tree c.in_ok-expr.expr))
+          (ahead c.expr-in-loop-self.new.self))
           (sym (map_push expr_tree before last));
-      shorter = let passed = length-passed Comma (placed c.loop-alloc.self.token) _ _ c.advance.ensures held in
-          omega (arith, passed, c.in_ok-expr.ensures.shorter, c.loop-alloc.invariant.shorter);
+      shorter = let passed = length-passed Comma (placed c.loop-self.self.token) _ _ c.advance.ensures held in
+          omega (arith, passed, c.in_ok-expr.ensures.shorter, c.loop-self.invariant.shorter);
     }
 
 pub row-returns-in_err-expr-clause-read : goal.row-returns-in_err-expr-clause-read
 row-returns-in_err-expr-clause-read t c = λ done x k frame to row room.
-    let es = map expr_tree c.loop-alloc.invariant.before in
-    let e = expr_tree c.loop-alloc.invariant.last in
-    let held = sym c.sees-in-loop-alloc.ensures ∙ c.loop-alloc-test.true in
+    let es = map expr_tree c.loop-self.invariant.before in
+    let e = expr_tree c.loop-self.invariant.last in
+    let held = sym c.sees.ensures ∙ c.loop-self-test.true in
     breaks _ _ _ _ _ _ _ c.from_residual-in_err-expr.ensures.1
-    (c.loop-alloc.invariant.read done x k frame to row room
-    ∙ over-punct Comma (placed c.loop-alloc.self.token) _ _ c.advance.ensures held done
+    (c.loop-self.invariant.read done x k frame to row room
+    ∙ over-punct Comma (placed c.loop-self.self.token) _ _ c.advance.ensures held done
     (AfterExpr x (frame es ∷ k) e) (Go (BeforeExpr x (frame (es ++ e ∷ []) ∷ k)))
-    (row-again c.args.closes x k frame to row es e (placed c.loop-alloc.self.token) held))
+    (row-again c.args.closes x k frame to row es e (placed c.loop-self.self.token) held))
     (c.in_err-expr.ensures.read done x (frame (es ++ e ∷ []) ∷ k) (room (es ++ e ∷ [])))
 
 pub row-returns-in_err-expect-clause-read : goal.row-returns-in_err-expect-clause-read
 row-returns-in_err-expect-clause-read t c = λ done x k frame to row room.
-    let es = map expr_tree c.loop-alloc.invariant.before in
-    let e = expr_tree c.loop-alloc.invariant.last in
+    let es = map expr_tree c.loop-self.invariant.before in
+    let e = expr_tree c.loop-self.invariant.last in
     breaks _ _ _ _ _ _ _ c.from_residual-in_err-expect.ensures.1
-    (c.loop-alloc.invariant.read done x k frame to row room)
+    (c.loop-self.invariant.read done x k frame to row room)
     (c.in_err-expect.ensures.read done (AfterExpr x (frame es ∷ k) e) _
-    (row-closes c.args.closes x k frame to row es e (placed c.loop-alloc.self.token)
-    (sym c.sees-in-loop-alloc.ensures ∙ c.loop-alloc-test.false)))
+    (row-closes c.args.closes x k frame to row es e (placed c.loop-self.self.token)
+    (sym c.sees.ensures ∙ c.loop-self-test.false)))
 
 pub row-returns-clause-read : goal.row-returns-clause-read
 row-returns-clause-read t c = λ done x k frame to row room.
-    let before = c.loop-alloc.invariant.before in
-    let last = c.loop-alloc.invariant.last in
-    c.loop-alloc.invariant.read done x k frame to row room
+    let before = c.loop-self.invariant.before in
+    let last = c.loop-self.invariant.last in
+    c.loop-self.invariant.read done x k frame to row room
     ∙ c.in_ok-expect.ensures.read done (AfterExpr x (frame (map expr_tree before) ∷ k) (expr_tree last)) _
-    (row-closes c.args.closes x k frame to row (map expr_tree before) (expr_tree last) (placed c.loop-alloc.self.token)
-    (sym c.sees-in-loop-alloc.ensures ∙ c.loop-alloc-test.false))
+    (row-closes c.args.closes x k frame to row (map expr_tree before) (expr_tree last) (placed c.loop-self.self.token)
+    (sym c.sees.ensures ∙ c.loop-self-test.false))
     ∙ ap (λ l. run done (to l) (ahead c.expect.new.self))
-    (sym (ap (map expr_tree) c.loop-alloc.invariant.items ∙ map_push expr_tree before last))
+    (sym (ap (map expr_tree) (c.in_ok-list.ensures.list
+    ∙ drop-behind c.start-start.result _ c.args.arena.now.pending.items (before ++ last ∷ []) c.start-start.ensures
+    c.loop-self.invariant.items) ∙ map_push expr_tree before last))
+
+pub row-returns-clause-kept : goal.row-returns-clause-kept
+row-returns-clause-kept t c =
+    c.in_ok-list.ensures.kept
+    ∙ take-before c.start-start.result _ c.args.arena.now.pending.items
+    (c.loop-self.invariant.before ++ c.loop-self.invariant.last ∷ []) c.start-start.ensures c.loop-self.invariant.items
+
+pub row-finish-requires : goal.row-finish-requires
+row-finish-requires t c =
+    front-le c.start-start.result _ c.args.arena.now.pending.items
+    (c.loop-self.invariant.before ++ c.loop-self.invariant.last ∷ []) c.start-start.ensures c.loop-self.invariant.items
 
 pub behind_word-returns-then-sees-clause-read : goal.behind_word-returns-then-sees-clause-read
 behind_word-returns-then-sees-clause-read t c = λ done h k len.
@@ -121,8 +138,8 @@ behind_word-returns-then-sees-clause-read t c = λ done h k len.
     (sym c.sees-2.ensures ∙ c.if-sees.true) done (AfterOpen h k name) (Go (AfterExpr h k (Apply name (trees []))))
     (open-closes h k name (placed c.advance.new.self.token) (sym c.sees-2.ensures ∙ c.if-sees.true))
     ∙ ap (λ x. run done (AfterExpr h k x) (ahead c.advance-then-sees.new.self))
-    (sym (expr_tree-Apply c.args.name c.new.result
-    ∙ ap (λ l. Apply name (trees (map expr_tree l))) c.new.ensures.items))
+    (sym (expr_tree-Apply c.args.name c.no_exprs.result
+    ∙ ap (λ l. Apply name (trees (map expr_tree l))) c.no_exprs.ensures))
 
 pub behind_word-returns-clause-read : goal.behind_word-returns-clause-read
 behind_word-returns-clause-read t c = λ done h k len.
@@ -192,10 +209,10 @@ pub operands-returns-in_err-expect-clause-read : goal.operands-returns-in_err-ex
 operands-returns-in_err-expect-clause-read t c = λ done h k place len.
     let sign = spot_of_sign c.args.sign in
     let first = expr_tree c.args.first in
-    let others = map expr_tree c.loop-operands.invariant.others in
-    let e = expr_tree c.in_ok-expr.field-0 in
+    let others = map expr_tree c.loop-expr.invariant.others in
+    let e = expr_tree c.in_ok-expr.expr in
     breaks _ _ _ _ _ _ _ c.from_residual-in_err-expect.ensures.1
-    (c.loop-operands.invariant.read done h k place len
+    (c.loop-expr.invariant.read done h k place len
     ∙ c.in_ok-expr.ensures.read done h (Operands place sign first others ∷ k) (omega (arith, len)))
     (c.in_err-expect.ensures.read done (AfterExpr h (Operands place sign first others ∷ k) e) _
     (operand-closes h place sign first others k e (placed c.expr.new.self.token)
@@ -205,23 +222,44 @@ pub operands-returns-clause-read : goal.operands-returns-clause-read
 operands-returns-clause-read t c = λ done h k place len.
     let sign = spot_of_sign c.args.sign in
     let first = expr_tree c.args.first in
-    let others = map expr_tree c.loop-operands.invariant.others in
-    let e = expr_tree c.in_ok-expr.field-0 in
-    c.loop-operands.invariant.read done h k place len
+    let others = map expr_tree c.loop-expr.invariant.others in
+    let e = expr_tree c.in_ok-expr.expr in
+    c.loop-expr.invariant.read done h k place len
     ∙ c.in_ok-expr.ensures.read done h (Operands place sign first others ∷ k) (omega (arith, len))
     ∙ c.in_ok-expect.ensures.read done (AfterExpr h (Operands place sign first others ∷ k) e) _
     (operand-closes h place sign first others k e (placed c.expr.new.self.token)
     (sym c.sees_sign.ensures ∙ c.if-not-sees_sign.true))
     ∙ ap (λ l. run done (AfterExpr h k (InfixOf place sign (trees l))) (ahead c.expect.new.self))
-    (sym (ap (map expr_tree) (c.in_ok-push-2.ensures.items
-    ∙ ap (λ l. l ++ c.in_ok-expr.field-0 ∷ []) c.loop-operands.invariant.items)
-    ∙ ap (λ l. first ∷ l) (map_push expr_tree c.loop-operands.invariant.others c.in_ok-expr.field-0)))
+    (sym (ap (map expr_tree) (c.in_ok-list.ensures.list
+    ∙ drop-behind c.start-start.result _ c.args.arena.now.pending.items
+    (c.args.first ∷ c.loop-expr.invariant.others ++ c.in_ok-expr.expr ∷ []) c.start-start.ensures
+    (c.in_ok-push-2.ensures
+    ∙ push-behind _ c.args.arena.now.pending.items (c.args.first ∷ c.loop-expr.invariant.others) c.in_ok-expr.expr
+    (c.in_ok-expr.ensures.kept ∙ c.loop-expr.invariant.items)))
+    ∙ ap (λ l. first ∷ l) (map_push expr_tree c.loop-expr.invariant.others c.in_ok-expr.expr)))
+
+pub operands-returns-clause-kept : goal.operands-returns-clause-kept
+operands-returns-clause-kept t c =
+    c.in_ok-list.ensures.kept
+    ∙ take-before c.start-start.result _ c.args.arena.now.pending.items
+    (c.args.first ∷ c.loop-expr.invariant.others ++ c.in_ok-expr.expr ∷ []) c.start-start.ensures
+    (c.in_ok-push-2.ensures
+    ∙ push-behind _ c.args.arena.now.pending.items (c.args.first ∷ c.loop-expr.invariant.others) c.in_ok-expr.expr
+    (c.in_ok-expr.ensures.kept ∙ c.loop-expr.invariant.items))
+
+pub operands-finish-requires : goal.operands-finish-requires
+operands-finish-requires t c =
+    front-le c.start-start.result _ c.args.arena.now.pending.items
+    (c.args.first ∷ c.loop-expr.invariant.others ++ c.in_ok-expr.expr ∷ []) c.start-start.ensures
+    (c.in_ok-push-2.ensures
+    ∙ push-behind _ c.args.arena.now.pending.items (c.args.first ∷ c.loop-expr.invariant.others) c.in_ok-expr.expr
+    (c.in_ok-expr.ensures.kept ∙ c.loop-expr.invariant.items))
 
 pub behind_wildcard-returns-in_err-default-in-None-clause-read :
     goal.behind_wildcard-returns-in_err-default-in-None-clause-read
 behind_wildcard-returns-in_err-default-in-None-clause-read t c = λ done x k len.
     let w = wildcard_of c.args.wildcard in
-    let ws = w ∷ map wildcard_of c.in_ok-others.others.items in
+    let ws = w ∷ map wildcard_of c.in_ok-others.others.now in
     let test = sym c.sees_default.ensures ∙ c.if-not-sees_default.false in
     breaks _ _ _ _ _ _ _ c.from_residual-in_err-default-in-None.ensures.1
     (over-default (placed c.args.self.now.token) _ _ c.advance.ensures done x k w test
@@ -234,7 +272,7 @@ pub behind_wildcard-returns-in_err-default-in-Some-clause-read :
     goal.behind_wildcard-returns-in_err-default-in-Some-clause-read
 behind_wildcard-returns-in_err-default-in-Some-clause-read t c = λ done x k len.
     let w = wildcard_of c.args.wildcard in
-    let ws = w ∷ map wildcard_of c.in_ok-others.others.items in
+    let ws = w ∷ map wildcard_of c.in_ok-others.others.now in
     let test = sym c.sees_default.ensures ∙ c.if-not-sees_default.false in
     breaks _ _ _ _ _ _ _ c.from_residual-in_err-default-in-Some.ensures.1
     (over-default (placed c.args.self.now.token) _ _ c.advance.ensures done x k w test
@@ -245,7 +283,7 @@ behind_wildcard-returns-in_err-default-in-Some-clause-read t c = λ done x k len
 pub behind_wildcard-returns-clause-read : goal.behind_wildcard-returns-clause-read
 behind_wildcard-returns-clause-read t c = λ done x k len.
     let w = wildcard_of c.args.wildcard in
-    let others = map wildcard_of c.in_ok-others.others.items in
+    let others = map wildcard_of c.in_ok-others.others.now in
     let ws = w ∷ others in
     let e = expr_tree c.match-last.default in
     let test = sym c.sees_default.ensures ∙ c.if-not-sees_default.false in
@@ -274,28 +312,32 @@ behind_wildcard-returns-clause-read t c = λ done x k len.
     ∙ last
     ∙ defaults-behind MAX_OPEN done x ws k e (ahead c.match-last.self)
     ∙ ap (λ t. run done (AfterExpr x k t) (ahead c.match-last.self))
-    (chained-optional w others e plain ∙ ap (λ d. Optional w others (expr_tree d)) (sym c.in_ok-new.ensures.ok))
+    (chained-optional w others e plain
+    ∙ (λ i. Optional (wildcard_of (sym c.in_ok-try_alloc.ensures i)) others
+    (expr_tree (sym c.in_ok-try_alloc-2.ensures i))))
 
-pub operands-loop-operands-preserved : goal.operands-loop-operands-preserved
-operands-loop-operands-preserved t c =
+pub operands-loop-expr-preserved : goal.operands-loop-expr-preserved
+operands-loop-expr-preserved t c =
     let sign = spot_of_sign c.args.sign in
     let first = expr_tree c.args.first in
-    let others = map expr_tree c.loop-operands.invariant.others in
-    let e = expr_tree c.in_ok-expr.field-0 in
+    let others = map expr_tree c.loop-expr.invariant.others in
+    let e = expr_tree c.in_ok-expr.expr in
     let held = sym c.sees_sign.ensures ∙ c.if-not-sees_sign.false in
     record {
-      others = c.loop-operands.invariant.others ++ c.in_ok-expr.field-0 ∷ [];
-      items = c.in_ok-push-2.ensures.items ∙ ap (λ l. l ++ c.in_ok-expr.field-0 ∷ []) c.loop-operands.invariant.items;
+      others = c.loop-expr.invariant.others ++ c.in_ok-expr.expr ∷ [];
+      items = c.in_ok-push-2.ensures
+          ∙ push-behind _ c.args.arena.now.pending.items (c.args.first ∷ c.loop-expr.invariant.others) c.in_ok-expr.expr
+          (c.in_ok-expr.ensures.kept ∙ c.loop-expr.invariant.items);
       read = λ done x k place len.
-          c.loop-operands.invariant.read done x k place len
+          c.loop-expr.invariant.read done x k place len
           ∙ c.in_ok-expr.ensures.read done x (Operands place sign first others ∷ k) (omega (arith, len))
           ∙ over-sign c.args.sign.text.now (placed c.expr.new.self.token) _ _ c.advance.ensures held done
           (AfterExpr x (Operands place sign first others ∷ k) e)
           (Go (BeforeExpr x (Operands place sign first (others ++ e ∷ []) ∷ k)))
           (operand-again MAX_OPEN x place sign first others k e (placed c.expr.new.self.token) held)
           ∙ ap (λ l. run done (BeforeExpr x (Operands place sign first l ∷ k)) (ahead c.advance.new.self))
-          (sym (map_push expr_tree c.loop-operands.invariant.others c.in_ok-expr.field-0));
+          (sym (map_push expr_tree c.loop-expr.invariant.others c.in_ok-expr.expr));
       shorter = let passed = length-passed_sign c.args.sign.text.now
           (placed c.expr.new.self.token) _ _ c.advance.ensures held in
-          omega (arith, passed, c.in_ok-expr.ensures.shorter, c.loop-operands.invariant.shorter);
+          omega (arith, passed, c.in_ok-expr.ensures.shorter, c.loop-expr.invariant.shorter);
     }

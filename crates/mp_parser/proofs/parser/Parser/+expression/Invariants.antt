@@ -28,12 +28,12 @@ decreases-infix l = 5 * l.room + 1
 abbrev pub decreases-operands : goal.decreases-operands
 decreases-operands l = 5 * l.room + 5
 
--- the expressions so far are those that the open bracket holds, and the last that is read
-abbrev pub invariant-row-loop-alloc : goal.invariant-row-loop-alloc
-invariant-row-loop-alloc l = record {
+-- the expressions so far are those that the open bracket holds, and the last that is read, behind what was pending
+abbrev pub invariant-row-loop-self : goal.invariant-row-loop-self
+invariant-row-loop-self l = record {
   before : List Expr;
   last : Expr;
-  items : l.exprs.items ≡ before ++ last ∷ [];
+  items : l.arena.pending.items ≡ l.fn.arena.pending.items ++ (before ++ last ∷ []);
   read : (done : List Statement) (x : Within) (k : List Frame) (frame : List Tree → Frame) (to : List Tree → State)
       → IsRow l.closes x k frame to → ((es : List Tree) → HasRoom (frame es ∷ k) l.room)
       → run done (BeforeExpr x (frame [] ∷ k)) (ahead l.fn.self)
@@ -41,14 +41,14 @@ invariant-row-loop-alloc l = record {
   shorter : length (ahead l.self) ≤ length (ahead l.fn.self);
 }
 
-abbrev pub decreases-row-loop-alloc : goal.decreases-row-loop-alloc
-decreases-row-loop-alloc l = length (ahead l.self)
+abbrev pub decreases-row-loop-self : goal.decreases-row-loop-self
+decreases-row-loop-self l = length (ahead l.self)
 
--- the operands so far are the first, and the others that the open bracket holds
-abbrev pub invariant-operands-loop-operands : goal.invariant-operands-loop-operands
-invariant-operands-loop-operands l = record {
+-- the operands so far are the first, and the others that the open bracket holds, behind what was pending
+abbrev pub invariant-operands-loop-expr : goal.invariant-operands-loop-expr
+invariant-operands-loop-expr l = record {
   others : List Expr;
-  items : l.operands.items ≡ l.fn.first ∷ others;
+  items : l.arena.pending.items ≡ l.fn.arena.pending.items ++ (l.fn.first ∷ others);
   read : (done : List Statement) (x : Within) (k : List Frame) (place : Place)
       → HasRoom (Operands place (spot_of_sign l.sign) (expr_tree l.fn.first) [] ∷ k) l.room
       → run done (BeforeExpr x (Operands place (spot_of_sign l.sign) (expr_tree l.fn.first) [] ∷ k)) (ahead l.fn.self)
@@ -57,5 +57,5 @@ invariant-operands-loop-operands l = record {
   shorter : length (ahead l.self) ≤ length (ahead l.fn.self);
 }
 
-abbrev pub decreases-operands-loop-operands : goal.decreases-operands-loop-operands
-decreases-operands-loop-operands l = length (ahead l.self)
+abbrev pub decreases-operands-loop-expr : goal.decreases-operands-loop-expr
+decreases-operands-loop-expr l = length (ahead l.self)

@@ -1,6 +1,8 @@
 use Rattle.std.proofs.Common.{refl, sym, ◌∙◌}
-use Rattle.mp_parser.specs.Machine.{AfterBrace, AfterCount, BeforeBrace}
+use Rattle.mp_parser.specs.Syntax.{Counted}
+use Rattle.mp_parser.specs.Machine.{AfterBrace, AfterCount, AfterExpr, BeforeBrace, run}
 use Rattle.mp_parser.specs.View.{placed, spot_of, wildcard_of}
+use Rattle.mp_parser.specs.Parsing.{ahead}
 use Rattle.mp_parser.proofs.Runs.{breaks, over-count}
 use Rattle.mp_parser.proofs.parser.Parser.counted.Goals as goal
 
@@ -32,3 +34,6 @@ returns-clause-read c = λ done x k.
     ∙ c.in_ok-count.ensures.read done (AfterBrace x k w) (λ n. AfterCount x k w n) refl
     ∙ c.plus-open.ensures.read done (AfterCount x k w n) (λ more. BeforeBrace x k w n more) (λ t. refl)
     ∙ c.in_ok-expect.ensures.read done (BeforeBrace x k w n c.plus-open.result) _ refl
+    ∙ (λ i. run done (AfterExpr x k
+    (Counted (wildcard_of (sym c.in_ok-try_alloc.ensures i)) (spot_of (sym c.in_ok-try_alloc-2.ensures i))
+    c.plus-open.result)) (ahead c.expect.new.self))
