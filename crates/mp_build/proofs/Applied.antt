@@ -1,6 +1,7 @@
--- Counts and names of applications and infix expressions, whose arguments the code holds in a vector.
-use Rattle.std.proofs.Common.{◌≡◌, ℕ, zero, suc, ◌+◌, ◌≤◌, ◌<◌, List, [], ◌∷◌, map, length, get_or, Vec, Global, ap}
+-- Counts and names of applications and infix expressions, whose arguments the code holds in a slice.
+use Rattle.std.proofs.Common.{◌≡◌, ℕ, zero, suc, ◌+◌, ◌≤◌, ◌<◌, List, [], ◌∷◌, map, length, get_or, ap}
 use Rattle.std.proofs.Common.{◌∙◌, arith, subst, sym}
+use Rattle.std.specs.Borrow.{Bor}
 use Rattle.std.specs.Prelude.{◌&&◌, is_some}
 use Rattle.mp_term.specs.Signature.{Sig}
 use Rattle.mp_parser.specs.declared.place.Place.{Place}
@@ -19,50 +20,50 @@ use Rattle.mp_build.specs.Scope.{pattern_variables, all_pattern_variables}
 use Rattle.mp_build.specs.Wildcards.{pattern_wildcards, all_pattern_wildcards}
 
 -- the nodes of an application
-pub nodes-Apply : (f : code.Word) (v : Vec Expr Global)
-    → nodes (expr_tree (Apply f v)) ≡ 1 + all_nodes (trees (map expr_tree v.items))
+pub nodes-Apply : (f : code.Word) (v : Bor (List Expr))
+    → nodes (expr_tree (Apply f v)) ≡ 1 + all_nodes (trees (map expr_tree v.now))
 nodes-Apply f v = ap nodes (expr_tree-Apply f v) ∙ omega arith
 
 -- whether a default of an application is large
-pub has_large_default-Apply : (f : code.Word) (v : Vec Expr Global)
-    → has_large_default (expr_tree (Apply f v)) ≡ some_large_default (trees (map expr_tree v.items))
+pub has_large_default-Apply : (f : code.Word) (v : Bor (List Expr))
+    → has_large_default (expr_tree (Apply f v)) ≡ some_large_default (trees (map expr_tree v.now))
 has_large_default-Apply f v = ap has_large_default (expr_tree-Apply f v)
 
 -- the same of an infix expression
-pub has_large_default-Infix : (place : Place) (sign : code_sign.InfixSign) (v : Vec Expr Global)
-    → has_large_default (expr_tree (Infix place sign v)) ≡ some_large_default (trees (map expr_tree v.items))
+pub has_large_default-Infix : (place : Place) (sign : code_sign.InfixSign) (v : Bor (List Expr))
+    → has_large_default (expr_tree (Infix place sign v)) ≡ some_large_default (trees (map expr_tree v.now))
 has_large_default-Infix place sign v = ap has_large_default (expr_tree-Infix place sign v)
 
 -- whether an application is a term
-pub has_term-Apply : (sig : Sig) (f : code.Word) (v : Vec Expr Global)
+pub has_term-Apply : (sig : Sig) (f : code.Word) (v : Bor (List Expr))
     → has_term sig (expr_tree (Apply f v))
-    ≡ (is_some (op_number sig f.text.now) && all_have_terms sig (trees (map expr_tree v.items)))
+    ≡ (is_some (op_number sig f.text.now) && all_have_terms sig (trees (map expr_tree v.now)))
 has_term-Apply sig f v = ap (has_term sig) (expr_tree-Apply f v)
 
 -- the same of an infix expression
-pub has_term-Infix : (sig : Sig) (place : Place) (sign : code_sign.InfixSign) (v : Vec Expr Global)
+pub has_term-Infix : (sig : Sig) (place : Place) (sign : code_sign.InfixSign) (v : Bor (List Expr))
     → has_term sig (expr_tree (Infix place sign v))
-    ≡ (is_some (sign_number sig sign.text.now) && all_have_terms sig (trees (map expr_tree v.items)))
+    ≡ (is_some (sign_number sig sign.text.now) && all_have_terms sig (trees (map expr_tree v.now)))
 has_term-Infix sig place sign v = ap (has_term sig) (expr_tree-Infix place sign v)
 
 -- the wildcards of an application
-pub pattern_wildcards-Apply : (sig : Sig) (f : code.Word) (v : Vec Expr Global)
-    → pattern_wildcards sig (expr_tree (Apply f v)) ≡ all_pattern_wildcards sig (trees (map expr_tree v.items))
+pub pattern_wildcards-Apply : (sig : Sig) (f : code.Word) (v : Bor (List Expr))
+    → pattern_wildcards sig (expr_tree (Apply f v)) ≡ all_pattern_wildcards sig (trees (map expr_tree v.now))
 pattern_wildcards-Apply sig f v = ap (pattern_wildcards sig) (expr_tree-Apply f v)
 
 -- the nodes of an infix expression
-pub nodes-Infix : (place : Place) (sign : code_sign.InfixSign) (v : Vec Expr Global)
-    → nodes (expr_tree (Infix place sign v)) ≡ 1 + all_nodes (trees (map expr_tree v.items))
+pub nodes-Infix : (place : Place) (sign : code_sign.InfixSign) (v : Bor (List Expr))
+    → nodes (expr_tree (Infix place sign v)) ≡ 1 + all_nodes (trees (map expr_tree v.now))
 nodes-Infix place sign v = ap nodes (expr_tree-Infix place sign v) ∙ omega arith
 
 -- the variables of an application
-pub pattern_variables-Apply : (f : code.Word) (v : Vec Expr Global)
-    → pattern_variables (expr_tree (Apply f v)) ≡ all_pattern_variables (trees (map expr_tree v.items))
+pub pattern_variables-Apply : (f : code.Word) (v : Bor (List Expr))
+    → pattern_variables (expr_tree (Apply f v)) ≡ all_pattern_variables (trees (map expr_tree v.now))
 pattern_variables-Apply f v = ap pattern_variables (expr_tree-Apply f v)
 
 -- the variables of an infix expression
-pub pattern_variables-Infix : (place : Place) (sign : code_sign.InfixSign) (v : Vec Expr Global)
-    → pattern_variables (expr_tree (Infix place sign v)) ≡ all_pattern_variables (trees (map expr_tree v.items))
+pub pattern_variables-Infix : (place : Place) (sign : code_sign.InfixSign) (v : Bor (List Expr))
+    → pattern_variables (expr_tree (Infix place sign v)) ≡ all_pattern_variables (trees (map expr_tree v.now))
 pattern_variables-Infix place sign v = ap pattern_variables (expr_tree-Infix place sign v)
 
 -- an item has no more nodes than the list

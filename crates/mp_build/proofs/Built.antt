@@ -1,6 +1,7 @@
 -- The terms, patterns, templates and faults of applications and infix expressions, whose arguments the code holds in a
--- vector.
-use Rattle.std.proofs.Common.{◌≡◌, true, false, List, [], ◌∷◌, ◌++◌, map, length, Vec, Global, refl, ap, ◌∙◌}
+-- slice.
+use Rattle.std.proofs.Common.{◌≡◌, true, false, List, [], ◌∷◌, ◌++◌, map, length, refl, ap, ◌∙◌}
+use Rattle.std.specs.Borrow.{Bor}
 use Rattle.std.specs.Prelude.{Option, Some, None, is_some}
 use Rattle.std.proofs.lemmas.List.{length-map}
 use Rattle.mp_term.specs.declared.signature.OpDecl.{OpDecl}
@@ -46,56 +47,56 @@ module _ (sig : Sig) where
   templates_of-trees (t ∷ ts) = ap (template.more_templates (template_of sig t)) (templates_of-trees ts)
 
   -- the term of an application
-  pub term_of-Apply : (f : code.Word) (v : Vec Expr Global)
+  pub term_of-Apply : (f : code.Word) (v : Bor (List Expr))
       → term_of sig (expr_tree (Apply f v)) ≡ term.app (head_number (op_number sig f.text.now))
-      (term.trees (map (term_of sig) (map expr_tree v.items)))
+      (term.trees (map (term_of sig) (map expr_tree v.now)))
   term_of-Apply f v = ap (term_of sig) (expr_tree-Apply f v)
-      ∙ ap (term.app (head_number (op_number sig f.text.now))) (terms_of-trees (map expr_tree v.items))
+      ∙ ap (term.app (head_number (op_number sig f.text.now))) (terms_of-trees (map expr_tree v.now))
 
   -- the pattern of an application
-  pub pattern_of-Apply : (f : code.Word) (v : Vec Expr Global)
+  pub pattern_of-Apply : (f : code.Word) (v : Bor (List Expr))
       → pattern_of sig (expr_tree (Apply f v))
       ≡ pattern.app_pattern (head_number (op_number sig f.text.now))
-      (pattern.patterns (map (pattern_of sig) (map expr_tree v.items)))
+      (pattern.patterns (map (pattern_of sig) (map expr_tree v.now)))
   pattern_of-Apply f v = ap (pattern_of sig) (expr_tree-Apply f v)
-      ∙ ap (pattern.app_pattern (head_number (op_number sig f.text.now))) (patterns_of-trees (map expr_tree v.items))
+      ∙ ap (pattern.app_pattern (head_number (op_number sig f.text.now))) (patterns_of-trees (map expr_tree v.now))
 
   -- the template of an application
-  pub template_of-Apply : (f : code.Word) (v : Vec Expr Global)
+  pub template_of-Apply : (f : code.Word) (v : Bor (List Expr))
       → template_of sig (expr_tree (Apply f v))
       ≡ template.app_template (head_number (op_number sig f.text.now))
-      (template.templates (map (template_of sig) (map expr_tree v.items)))
+      (template.templates (map (template_of sig) (map expr_tree v.now)))
   template_of-Apply f v = ap (template_of sig) (expr_tree-Apply f v)
-      ∙ ap (template.app_template (head_number (op_number sig f.text.now))) (templates_of-trees (map expr_tree v.items))
+      ∙ ap (template.app_template (head_number (op_number sig f.text.now))) (templates_of-trees (map expr_tree v.now))
 
   -- the faults of an application in a term
-  pub term_faults-Apply : (f : code.Word) (v : Vec Expr Global)
+  pub term_faults-Apply : (f : code.Word) (v : Bor (List Expr))
       → term_faults sig (expr_tree (Apply f v))
-      ≡ head_faults (allows (length v.items)) (spot_of f) (op_named sig f.text.now)
-      ++ all_term_faults sig (trees (map expr_tree v.items))
+      ≡ head_faults (allows (length v.now)) (spot_of f) (op_named sig f.text.now)
+      ++ all_term_faults sig (trees (map expr_tree v.now))
   term_faults-Apply f v =
-      let count : length (tree_list (trees (map expr_tree v.items))) ≡ length v.items =
-      ap length (tree_list-trees (map expr_tree v.items)) ∙ length-map v.items expr_tree in
+      let count : length (tree_list (trees (map expr_tree v.now))) ≡ length v.now =
+      ap length (tree_list-trees (map expr_tree v.now)) ∙ length-map v.now expr_tree in
       ap (term_faults sig) (expr_tree-Apply f v)
       ∙ ap (λ n. head_faults (allows n) (spot_of f) (op_named sig f.text.now)
-      ++ all_term_faults sig (trees (map expr_tree v.items))) count
+      ++ all_term_faults sig (trees (map expr_tree v.now))) count
 
   -- the faults of an application in a template
-  pub template_faults-Apply : (vs : List Variable) (f : code.Word) (v : Vec Expr Global)
+  pub template_faults-Apply : (vs : List Variable) (f : code.Word) (v : Bor (List Expr))
       → template_faults vs sig (expr_tree (Apply f v))
-      ≡ head_faults (allows_given vs sig (trees (map expr_tree v.items))) (spot_of f) (op_named sig f.text.now)
-      ++ all_template_faults vs sig (trees (map expr_tree v.items))
+      ≡ head_faults (allows_given vs sig (trees (map expr_tree v.now))) (spot_of f) (op_named sig f.text.now)
+      ++ all_template_faults vs sig (trees (map expr_tree v.now))
   template_faults-Apply vs f v = ap (template_faults vs sig) (expr_tree-Apply f v)
 
   -- the faults of an application in a pattern
-  pub pattern_faults-Apply : (before : List PatternWildcard) (f : code.Word) (v : Vec Expr Global)
+  pub pattern_faults-Apply : (before : List PatternWildcard) (f : code.Word) (v : Bor (List Expr))
       → pattern_faults sig before (expr_tree (Apply f v))
-      ≡ head_faults (allows_patterns (map (pattern_of sig) (map expr_tree v.items))) (spot_of f)
-      (op_named sig f.text.now) ++ all_pattern_faults sig before (trees (map expr_tree v.items))
+      ≡ head_faults (allows_patterns (map (pattern_of sig) (map expr_tree v.now))) (spot_of f)
+      (op_named sig f.text.now) ++ all_pattern_faults sig before (trees (map expr_tree v.now))
   pattern_faults-Apply before f v =
       ap (pattern_faults sig before) (expr_tree-Apply f v)
       ∙ ap (λ l. head_faults (allows_patterns (map (pattern_of sig) l)) (spot_of f) (op_named sig f.text.now)
-      ++ all_pattern_faults sig before (trees (map expr_tree v.items))) (tree_list-trees (map expr_tree v.items))
+      ++ all_pattern_faults sig before (trees (map expr_tree v.now))) (tree_list-trees (map expr_tree v.now))
 
   -- the term of operands with a sign between them
   pub term_of-operands : (place : Place) (sign : Spot) (es : List Expr)

@@ -12,7 +12,6 @@ use Rattle.mp_term.specs.declared.signature.OpDecl.{OpDecl}
 use Rattle.mp_term.specs.Names.{name_set}
 use Rattle.mp_term.specs.Signature.{Sig, Kind, has_name, has_sign}
 use Rattle.mp_term.proofs.SignatureLaws.{is_some-position, is_some-option_map}
-use Rattle.mp_pattern.specs.Admission.{Rule}
 use Rattle.mp_parser.specs.declared.word.Word.{Word}
 use Rattle.mp_parser.specs.declared.tree.Statement as code
 use Rattle.mp_parser.specs.declared.tree.Statement.TheVariants as statements

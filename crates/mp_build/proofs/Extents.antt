@@ -22,7 +22,7 @@ use Rattle.mp_pattern.specs.Variables.{Use, uses, all_uses}
 use Rattle.mp_pattern.specs.Firsts.{is_known}
 use Rattle.mp_pattern.proofs.Preserved.{of_normal_pattern}
 use Rattle.mp_pattern.proofs.TemplateLaws.{known-firsts}
-use Rattle.mp_parser.specs.Syntax.{Wildcard, Tree, Symbol, Apply, InfixOf, Wild, Optional, Counted, Variable, Trees}
+use Rattle.mp_parser.specs.Syntax.{Tree, Symbol, Apply, InfixOf, Wild, Optional, Counted, Variable, Trees}
 use Rattle.mp_parser.specs.Syntax.{no_trees, more_trees, Fits, AreFit, HasNames, HaveNames}
 use Rattle.mp_build.specs.Build.{op_number, sign_number, head_number, marked_shape, count_of, counted_shape, kind_shape}
 use Rattle.mp_build.specs.Build.{shape_of, counted_shape_of, variable_of, term_of, pattern_of, patterns_of}

@@ -3,7 +3,6 @@ pub mod Applied
 pub mod Counts
 mod Plain
 mod Free
-mod FirstOp
 pub mod Fails
 mod BuiltLists
 pub mod Words

@@ -17,6 +17,7 @@ ghost use Rattle.mp_build.specs.Alone.{IsTermFaultOf, IsPatternOf, IsPatternFaul
 use crate::build::{normal_term, whole_pattern};
 use crate::checks::{is_large_pattern, is_large_term};
 use crate::fault::{TextError, TextKind, error_at};
+use bumpalo::Bump;
 use mp_pattern::Pattern;
 use mp_syntax::{Expr, Place, read_expression};
 use mp_term::{Signature, Term};
@@ -84,7 +85,8 @@ fn term_of_text(alloc: Global, sig: &Signature, bytes: &[u8]) -> Result<Term, Te
     requires { length bytes.now < 2 ^ 32 - 1 }
     ensures { Answers (term_alone_faults sig.now) (normal_term_of sig.now) tree (expr_reading bytes.now) result }
 {
-    let expr = read_expression(alloc, bytes)?;
+    let bump = Bump::new(alloc);
+    let expr = read_expression(alloc, &bump, bytes)?;
     term_alone(alloc, sig, &expr)
 }
 
@@ -93,7 +95,8 @@ fn pattern_of_text(alloc: Global, sig: &Signature, bytes: &[u8]) -> Result<Patte
     requires { length bytes.now < 2 ^ 32 - 1 }
     ensures { Answers (pattern_alone_faults sig.now) (pattern_of sig.now) pattern_tree (expr_reading bytes.now) result }
 {
-    let expr = read_expression(alloc, bytes)?;
+    let bump = Bump::new(alloc);
+    let expr = read_expression(alloc, &bump, bytes)?;
     pattern_alone(alloc, sig, &expr)
 }
 
@@ -123,10 +126,10 @@ fn pattern_alone(alloc: Global, sig: &Signature, expr: &Expr<'_>) -> Result<Patt
 fn start(expr: &Expr<'_>) -> Place
     ensures { result ≡ start (expr_tree expr.now) }
 {
-    match expr {
+    match *expr {
         Expr::Symbol(word) => word.place,
         Expr::Apply(name, _) => name.place,
-        Expr::Infix { open: place, .. } => *place,
+        Expr::Infix { open: place, .. } => place,
         Expr::Wild(wild) => wild.place,
         Expr::Optional { wildcard, .. } => wildcard.place,
         Expr::Counted { wildcard, .. } => wildcard.place,

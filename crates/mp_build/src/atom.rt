@@ -54,8 +54,8 @@ fn check_single(scope: &Scope<'_>, name: Word<'_>) -> Result<(), TextError>
 fn check_single_operand(scope: &Scope<'_>, expr: &Expr<'_>) -> Result<(), TextError>
     ensures { Gives result (single_faults (scope_of scope.now) (expr_tree expr.now)) (λ _. Unit {0}) }
 {
-    match expr {
-        Expr::Variable(name) => check_single(scope, *name),
+    match *expr {
+        Expr::Variable(name) => check_single(scope, name),
         _ => Ok(()),
     }
 }
@@ -70,10 +70,10 @@ fn build_operand(
     ensures { Gives result (operand_faults sig.now (scope_of scope.now) (expr_tree expr.now))
         (λ a. operand a ≡ operand_of sig.now (expr_tree expr.now)) }
 {
-    match expr {
+    match *expr {
         Expr::Variable(name) => {
-            check_bound(scope, *name)?;
-            let name = new_name(alloc, *name)?;
+            check_bound(scope, name)?;
+            let name = new_name(alloc, name)?;
             Ok(Operand::Var(name))
         }
         _ => {

@@ -63,13 +63,13 @@ fn build_term(alloc: Global, sig: &Signature, expr: &Expr<'_>) -> Result<Term, T
     ensures { Gives result (term_faults sig.now (expr_tree expr.now))
         (λ t. tree t ≡ term_of sig.now (expr_tree expr.now)) }
 {
-    match expr {
+    match *expr {
         Expr::Symbol(word) => {
-            let name = symbol(alloc, sig, *word)?;
+            let name = symbol(alloc, sig, word)?;
             Ok(Term::Sym(name))
         }
         Expr::Apply(name, args) => {
-            let op = head_op(sig, *name, Arguments::Terms(args))?;
+            let op = head_op(sig, name, Arguments::Terms(args))?;
             let terms = build_terms(alloc, sig, args)?;
             Ok(Term::App(op, terms))
         }
@@ -77,8 +77,8 @@ fn build_term(alloc: Global, sig: &Signature, expr: &Expr<'_>) -> Result<Term, T
             open: place,
             sign,
             operands,
-        } => infix_term(alloc, sig, *place, *sign, operands),
-        Expr::Wild(wild) => Err(wildcard_in_term(sig, *wild)),
+        } => infix_term(alloc, sig, place, sign, operands),
+        Expr::Wild(wild) => Err(wildcard_in_term(sig, wild)),
         Expr::Optional { wildcard, .. } => Err(wildcard_in_term(sig, *wildcard)),
         Expr::Counted { wildcard, .. } => Err(wildcard_in_term(sig, *wildcard)),
         Expr::Variable(name) => Err(error_at(TextKind::WildcardInTerm, name.place)),
@@ -185,13 +185,13 @@ fn build_pattern<'a>(
         × (map wildcard_view before.new.items
         ≡ map wildcard_view before.old.items ++ pattern_wildcards sig.now (expr_tree expr.now))) }
 {
-    match expr {
+    match *expr {
         Expr::Symbol(word) => {
-            let name = symbol(alloc, sig, *word)?;
+            let name = symbol(alloc, sig, word)?;
             Ok(Pattern::Sym(name))
         }
         Expr::Apply(name, args) => {
-            let op = head_op(sig, *name, Arguments::Patterns(args))?;
+            let op = head_op(sig, name, Arguments::Patterns(args))?;
             let patterns = build_patterns(alloc, sig, args, before)?;
             Ok(Pattern::App(op, patterns))
         }
@@ -199,8 +199,8 @@ fn build_pattern<'a>(
             open: place,
             sign,
             operands,
-        } => infix_pattern(alloc, sig, *place, *sign, operands, before),
-        Expr::Wild(wild) => build_wildcard(alloc, sig, *wild, before),
+        } => infix_pattern(alloc, sig, place, sign, operands, before),
+        Expr::Wild(wild) => build_wildcard(alloc, sig, wild, before),
         Expr::Optional {
             wildcard,
             others,
@@ -210,7 +210,7 @@ fn build_pattern<'a>(
             wildcard,
             count,
             open: is_open,
-        } => build_counted(alloc, sig, *wildcard, *count, *is_open, before),
+        } => build_counted(alloc, sig, *wildcard, *count, is_open, before),
         Expr::Variable(name) => Err(error_at(TextKind::WildcardInTerm, name.place)),
     }
 }
@@ -333,7 +333,7 @@ pub fn whole_pattern(alloc: Global, sig: &Signature, expr: &Expr<'_>) -> Result<
 fn check_root(expr: &Expr<'_>) -> Result<(), TextError>
     ensures { Gives result (loose_faults (expr_tree expr.now)) (λ _. Unit {0}) }
 {
-    match expr {
+    match *expr {
         Expr::Wild(wild) => {
             if marked_shape(wild.marks).is_loose() {
                 return Err(error_at(TextKind::LooseSequence, wild.place));
@@ -348,7 +348,7 @@ fn check_root(expr: &Expr<'_>) -> Result<(), TextError>
             count,
             open: is_open,
         } => {
-            if counted_shape(count_of(*count), *is_open).is_loose() {
+            if counted_shape(count_of(*count), is_open).is_loose() {
                 return Err(error_at(TextKind::LooseSequence, wildcard.place));
             }
             Ok(())

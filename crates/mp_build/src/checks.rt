@@ -47,7 +47,7 @@ fn node_count(expr: &Expr<'_>) -> u64
     ensures { result ≡ (if has_large_default (expr_tree expr.now) then 2 ^ 64 - 1
         else min (nodes (expr_tree expr.now)) (2 ^ 64 - 1)) }
 {
-    match expr {
+    match *expr {
         Expr::Symbol(_) => 1,
         Expr::Apply(_, args) => 1_u64.saturating_add(node_counts(args)),
         Expr::Infix { operands, .. } => 1_u64.saturating_add(node_counts(operands)),
@@ -165,14 +165,14 @@ pub fn is_large_operand(expr: &Expr<'_>) -> bool
 fn least(expr: &Expr<'_>) -> usize
     ensures { (sig : Sig) → result ≡ pattern_least (pattern_of sig (expr_tree expr.now)) }
 {
-    match expr {
+    match *expr {
         Expr::Wild(wild) if wild.kind.is_empty() => marked_shape(wild.marks).least(),
         Expr::Optional { .. } => 0,
         Expr::Counted {
             wildcard,
             count,
             open: is_open,
-        } if wildcard.kind.is_empty() => counted_shape(count_of(*count), *is_open).least(),
+        } if wildcard.kind.is_empty() => counted_shape(count_of(*count), is_open).least(),
         _ => 1,
     }
 }
@@ -182,14 +182,14 @@ fn least(expr: &Expr<'_>) -> usize
 fn most(assoc: bool, expr: &Expr<'_>) -> Option<usize>
     ensures { (sig : Sig) → result ≡ pattern_most assoc (pattern_of sig (expr_tree expr.now)) }
 {
-    match expr {
+    match *expr {
         Expr::Wild(wild) if wild.kind.is_empty() => marked_shape(wild.marks).most(assoc),
         Expr::Optional { .. } if assoc => None,
         Expr::Counted {
             wildcard,
             count,
             open: is_open,
-        } if wildcard.kind.is_empty() => counted_shape(count_of(*count), *is_open).most(assoc),
+        } if wildcard.kind.is_empty() => counted_shape(count_of(*count), is_open).most(assoc),
         _ => Some(1),
     }
 }

@@ -18,6 +18,7 @@ use crate::condition::build_condition;
 use crate::condition_size::is_large_condition;
 use crate::fault::{TextError, TextKind, error_at};
 use crate::scope::{Scope, plan_variables};
+use bumpalo::Bump;
 use mp_pattern::{Cond, Plan};
 use mp_syntax::{Condition, Place, first_token_place, read_condition};
 use mp_term::Signature;
@@ -96,7 +97,8 @@ fn cond_of_text(
         (placed_reading bytes.now) result }
 {
     let start = first_token_place(bytes);
-    let condition = read_condition(alloc, bytes)?;
+    let bump = Bump::new(alloc);
+    let condition = read_condition(alloc, &bump, bytes)?;
     cond_alone(alloc, sig, scope, start, &condition)
 }
 

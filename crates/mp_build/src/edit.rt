@@ -87,9 +87,9 @@ fn new_terms(
         (λ ts. ts
         ≡ map (λ t. normal sig.now (term_of sig.now t)) (new_exprs (replacement_tree replacement.now))) }
 {
-    match replacement {
+    match *replacement {
         Replacement::Single(expr) => {
-            let term = normal_term(alloc, sig, expr)?;
+            let term = normal_term(alloc, sig, &expr)?;
             let mut terms = Terms::with_room(alloc, 1)?;
             terms.push(term)?;
             Ok(terms)
@@ -144,8 +144,8 @@ fn some_large_term(exprs: &[Expr<'_>]) -> bool
 fn has_large_term(change: &Change<'_>) -> bool
     ensures { result ≡ list_any is_large_term (new_exprs (change_tree change.now).terms) }
 {
-    match &change.terms {
-        Replacement::Single(expr) => is_large_term(expr),
+    match change.terms {
+        Replacement::Single(expr) => is_large_term(&expr),
         Replacement::Listed(exprs) => some_large_term(exprs),
     }
 }

@@ -32,7 +32,7 @@ fn given(variables: &[Variable<'_>], expr: &Expr<'_>) -> Extent
     ensures { (sig : Sig) → extent_view result
         ≡ template_extent (extent_in (map variable_of variables.now)) (template_of sig (expr_tree expr.now)) }
 {
-    match expr {
+    match *expr {
         Expr::Variable(name) => extent_in(variables, name.text).unwrap_or(Extent::one()),
         _ => Extent::one(),
     }

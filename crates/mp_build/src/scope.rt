@@ -41,7 +41,7 @@ fn add_variables<'a>(expr: &Expr<'a>, variables: &mut Vec<Variable<'a>>) -> Resu
     ensures { OnOk result (map variable_of variables.new.items
         ≡ map variable_of variables.old.items ++ pattern_variables (expr_tree expr.now)) }
 {
-    match expr {
+    match *expr {
         Expr::Symbol(_) => Ok(()),
         Expr::Apply(_, args) => add_all_variables(args, variables),
         Expr::Infix { operands, .. } => add_all_variables(operands, variables),
@@ -52,7 +52,7 @@ fn add_variables<'a>(expr: &Expr<'a>, variables: &mut Vec<Variable<'a>>) -> Resu
             count,
             open: is_open,
         } => {
-            let extent = counted_extent(count_of(*count), *is_open);
+            let extent = counted_extent(count_of(*count), is_open);
             add_variable(wildcard.name, extent, variables)
         }
         Expr::Variable(_) => Ok(()),

@@ -25,9 +25,9 @@ pub fn written_term(
     ensures { Gives result [] (λ o. option_map tree o
         ≡ (if has_term sig.now (expr_tree expr.now) then Some (term_of sig.now (expr_tree expr.now)) else None)) }
 {
-    match expr {
+    match *expr {
         Expr::Symbol(word) => {
-            let name = new_name(alloc, *word)?;
+            let name = new_name(alloc, word)?;
             Ok(Some(Term::Sym(name)))
         }
         Expr::Apply(name, args) => match sig.find_op(name.text) {

@@ -23,6 +23,7 @@ ghost use Rattle.mp_text.specs.Computed.{file_of, fault_of, ReadGives, IsCompute
 use crate::file::{EditSet, EditSets, File, Subject, Subjects};
 use crate::names::TextNames;
 use crate::rule::{build_rule, is_large_rule};
+use bumpalo::Bump;
 use mp_build::{
     TextError, TextKind, build_edits, check_edits_of, check_name, declare, error_at, is_large_edit,
     is_large_term, new_name, normal_term,
@@ -83,8 +84,9 @@ fn read(alloc: Global, bytes: &[u8]) -> Result<File, TextError>
     requires { length bytes.now < 2 ^ 32 - 1 }
     ensures { ReadGives bytes.now result }
 {
-    let statements = read_statements(alloc, bytes)?;
-    build_file(alloc, statements)
+    let bump = Bump::new(alloc);
+    let statements = read_statements(alloc, &bump, bytes)?;
+    build_file(alloc, &statements)
 }
 
 /// A file while it is built, with the names of its rules and those of its subjects: `IsDraftOf` of `specs/Draft.antt`.
@@ -239,26 +241,12 @@ fn add_statement<'a>(
     }
 }
 
-/// Adds what a statement gives to the file, and drops its trees.
-fn take_statement<'a>(
-    alloc: Global,
-    draft: &mut Draft<'a>,
-    statement: Statement<'a>,
-) -> Result<(), TextError>
-    requires { length draft.old.subject_names ≤ MAX_SUBJECTS }
-    ensures { (sig : Sig) (earlier : List syntax.Statement) → IsDraftOf sig earlier draft.old
-        → Gives result (statement_faults sig earlier (statement_tree statement.entry))
-        (λ _. IsDraftOf sig (earlier ++ statement_tree statement.entry ∷ []) draft.new) }
-{
-    add_statement(alloc, draft, &statement)
-}
-
 /// The file that the statements stand for, or their first fault.
-fn build_file(alloc: Global, statements: Vec<Statement<'_>>) -> Result<File, TextError>
-    ensures { Gives result (faults (map statement_tree statements.entry.items))
-        (λ f. file_tree f ≡ file_tree_of (map statement_tree statements.entry.items)) }
+fn build_file(alloc: Global, statements: &[Statement<'_>]) -> Result<File, TextError>
+    ensures { Gives result (faults (map statement_tree statements.now))
+        (λ f. file_tree f ≡ file_tree_of (map statement_tree statements.now)) }
 {
-    let sig = declare(alloc, &statements)?;
+    let sig = declare(alloc, statements)?;
     let file = File {
         sig,
         rules: Rules::new(alloc),
@@ -271,7 +259,7 @@ fn build_file(alloc: Global, statements: Vec<Statement<'_>>) -> Result<File, Tex
         subject_names: TextNames::new(alloc),
     };
     for statement in statements {
-        take_statement(alloc, &mut draft, statement)?;
+        add_statement(alloc, &mut draft, statement)?;
     }
     Ok(draft.file)
 }

@@ -44,13 +44,13 @@ fn build_template<'a>(
     ensures { Gives result (template_faults (map variable_of variables.now) sig.now (expr_tree expr.now))
         (λ x. template_tree x ≡ template_of sig.now (expr_tree expr.now)) }
 {
-    match expr {
+    match *expr {
         Expr::Symbol(word) => {
-            let name = symbol(alloc, sig, *word)?;
+            let name = symbol(alloc, sig, word)?;
             Ok(Template::Sym(name))
         }
         Expr::Apply(name, args) => {
-            let op = head_op(sig, *name, Arguments::Templates(variables, args))?;
+            let op = head_op(sig, name, Arguments::Templates(variables, args))?;
             let templates = build_templates(alloc, sig, variables, args)?;
             Ok(Template::App(op, templates))
         }
@@ -58,12 +58,12 @@ fn build_template<'a>(
             open: place,
             sign,
             operands,
-        } => infix_template(alloc, sig, variables, *place, *sign, operands),
-        Expr::Wild(wild) => Err(wildcard_in_term(sig, *wild)),
+        } => infix_template(alloc, sig, variables, place, sign, operands),
+        Expr::Wild(wild) => Err(wildcard_in_term(sig, wild)),
         Expr::Optional { wildcard, .. } => Err(wildcard_in_term(sig, *wildcard)),
         Expr::Counted { wildcard, .. } => Err(wildcard_in_term(sig, *wildcard)),
         Expr::Variable(name) => {
-            let name = variable(alloc, variables, *name)?;
+            let name = variable(alloc, variables, name)?;
             Ok(Template::Var(name))
         }
     }
@@ -140,7 +140,7 @@ fn check_root(variables: &[Variable<'_>], expr: &Expr<'_>) -> Result<(), TextErr
     ensures { Gives result (loose_template_faults (map variable_of variables.now) (expr_tree expr.now))
         (λ _. Unit {0}) }
 {
-    match expr {
+    match *expr {
         Expr::Variable(name) => {
             if is_bound_sequence(variables, name.text) {
                 return Err(error_at(TextKind::LooseSequence, name.place));

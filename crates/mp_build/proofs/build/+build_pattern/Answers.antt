@@ -1,6 +1,6 @@
 use Rattle.std.proofs.Common.{◌≡◌, ◌+◌, ◌++◌, map, arith, ◌∙◌, sym, ap, subst, refl}
 use Rattle.std.proofs.lemmas.Result.{err_from_is_err_and}
-use Rattle.mp_parser.specs.Syntax.{Tree, InfixOf, trees}
+use Rattle.mp_parser.specs.Syntax.{Tree, trees}
 use Rattle.mp_pattern.specs.View.{pattern_tree}
 use Rattle.mp_parser.specs.View.{spot_of_sign, expr_tree}
 use Rattle.mp_build.specs.WildcardView.{wildcard_view}
@@ -27,7 +27,7 @@ build_pattern-returns-in_err-op-in-Apply t c =
       pattern_faults-Apply c.args.sig.now
           (map wildcard_view c.args.before.now.items) c.in-Apply.name c.in-Apply.args,
     )
-    (fails-front c.in_err-op-in-Apply.field-0.0 _ _ (rw c.deref.ensures.value at c.in_err-op-in-Apply.ensures))
+    (fails-front c.in_err-op-in-Apply.field-0.0 _ _ c.in_err-op-in-Apply.ensures)
 
 pub build_pattern-returns-in_err-patterns-in-Apply : goal.build_pattern-returns-in_err-patterns-in-Apply
 build_pattern-returns-in_err-patterns-in-Apply t c =
@@ -40,8 +40,8 @@ build_pattern-returns-in_err-patterns-in-Apply t c =
       pattern_faults-Apply c.args.sig.now
           (map wildcard_view c.args.before.now.items) c.in-Apply.name c.in-Apply.args,
     )
-    (fails-behind c.in_err-patterns-in-Apply.field-0.0 _ _ (rw c.deref.ensures.value at c.in_ok-op-in-Apply.ensures.0)
-    (rw c.deref-in-Apply.ensures.value at c.in_err-patterns-in-Apply.ensures))
+    (fails-behind c.in_err-patterns-in-Apply.field-0.0 _ _ c.in_ok-op-in-Apply.ensures.0
+    c.in_err-patterns-in-Apply.ensures)
 
 pub build_pattern-returns-in_ok-patterns-in-Apply : goal.build_pattern-returns-in_ok-patterns-in-Apply
 build_pattern-returns-in_ok-patterns-in-Apply t c = (
@@ -50,8 +50,7 @@ build_pattern-returns-in_ok-patterns-in-Apply t c = (
     pattern_faults-Apply c.args.sig.now
         (map wildcard_view c.args.before.now.items) c.in-Apply.name c.in-Apply.args,
   )
-      (none-append _ _ (rw c.deref.ensures.value at c.in_ok-op-in-Apply.ensures.0)
-      ∙ (rw c.deref-in-Apply.ensures.value at c.in_ok-patterns-in-Apply.ensures.0)),
+      (none-append _ _ c.in_ok-op-in-Apply.ensures.0 ∙ c.in_ok-patterns-in-Apply.ensures.0),
   (
     rw (
       c.in-Apply.is,
@@ -59,17 +58,16 @@ build_pattern-returns-in_ok-patterns-in-Apply t c = (
           c.in-Apply.args,
       c.in_ok-op-in-Apply.ensures.1,
       c.in_ok-patterns-in-Apply.ensures.1.0,
-      c.deref-in-Apply.ensures.value,
     ) refl,
     rw (c.in-Apply.is, pattern_wildcards-Apply c.args.sig.now c.in-Apply.name c.in-Apply.args)
-        (rw c.deref-in-Apply.ensures.value at c.in_ok-patterns-in-Apply.ensures.1.1),
+        c.in_ok-patterns-in-Apply.ensures.1.1,
   ),
 )
 
 pub build_pattern-build_patterns-requires : goal.build_pattern-build_patterns-requires
 build_pattern-build_patterns-requires t c =
-    let args : nodes (expr_tree c.args.expr.now) ≡ 1 + all_nodes (trees (map expr_tree c.deref-in-Apply.result.now)) =
-    rw (c.in-Apply.is, c.deref-in-Apply.ensures.value) (nodes-Apply c.in-Apply.name c.in-Apply.args) in
+    let args : nodes (expr_tree c.args.expr.now) ≡ 1 + all_nodes (trees (map expr_tree c.in-Apply.args.now)) =
+    rw c.in-Apply.is (nodes-Apply c.in-Apply.name c.in-Apply.args) in
     omega (arith, args, c.decreases)
 
 pub build_patterns-build_pattern-requires : goal.build_patterns-build_pattern-requires
@@ -83,9 +81,8 @@ build_patterns-build_pattern-requires t c =
 
 pub build_pattern-infix_pattern-requires : goal.build_pattern-infix_pattern-requires
 build_pattern-infix_pattern-requires t c =
-    let args : nodes (expr_tree c.args.expr.now) ≡ 1 + all_nodes (trees (map expr_tree c.deref-in-Infix.result.now)) =
-    rw (c.in-Infix.is, c.deref-in-Infix.ensures.value)
-    (nodes-Infix c.in-Infix.place c.in-Infix.sign c.in-Infix.operands) in
+    let args : nodes (expr_tree c.args.expr.now) ≡ 1 + all_nodes (trees (map expr_tree c.in-Infix.operands.now)) =
+    rw c.in-Infix.is (nodes-Infix c.in-Infix.place c.in-Infix.sign c.in-Infix.operands) in
     omega (arith, args, c.decreases)
 
 pub build_pattern-returns-in-Infix : goal.build_pattern-returns-in-Infix
@@ -95,9 +92,7 @@ build_pattern-returns-in-Infix t c =
     (λ v. (pattern_tree v ≡ pattern_of c.args.sig.now e)
     × (map wildcard_view c.infix_pattern.new.before.items
     ≡ map wildcard_view c.args.before.now.items ++ pattern_wildcards c.args.sig.now e)) in
-    let same = ap expr_tree c.in-Infix.is ∙ expr_tree-Infix c.in-Infix.place c.in-Infix.sign c.in-Infix.operands
-    ∙ ap (λ l. InfixOf c.in-Infix.place (spot_of_sign c.in-Infix.sign) (trees (map expr_tree l)))
-    (sym c.deref-in-Infix.ensures.value) in
+    let same = ap expr_tree c.in-Infix.is ∙ expr_tree-Infix c.in-Infix.place c.in-Infix.sign c.in-Infix.operands in
     subst Q (sym same) c.infix_pattern.ensures
 
 pub infix_pattern-returns-in_err-sign_op : goal.infix_pattern-returns-in_err-sign_op

@@ -1,6 +1,6 @@
 use Rattle.std.proofs.Common.{◌≡◌, ◌+◌, map, arith, ◌∙◌, sym, ap, subst, refl}
 use Rattle.std.proofs.lemmas.Result.{err_from_is_err_and}
-use Rattle.mp_parser.specs.Syntax.{Tree, InfixOf, trees}
+use Rattle.mp_parser.specs.Syntax.{Tree, trees}
 use Rattle.mp_term.specs.View.{tree}
 use Rattle.mp_parser.specs.View.{spot_of_sign, expr_tree}
 use Rattle.mp_parser.proofs.Trees.{expr_tree-Infix}
@@ -20,36 +20,34 @@ build_term-returns-in_err-op-in-Apply t c =
     let p = err_from_is_err_and c.from_residual-in_err-op-in-Apply.result
     c.from_residual-in_err-op-in-Apply.ensures.1 in
     rw (p.1, p.2, c.in-Apply.is, term_faults-Apply c.args.sig.now c.in-Apply.name c.in-Apply.args)
-    (fails-front c.in_err-op-in-Apply.field-0.0 _ _ (rw c.deref.ensures.value at c.in_err-op-in-Apply.ensures))
+    (fails-front c.in_err-op-in-Apply.field-0.0 _ _ c.in_err-op-in-Apply.ensures)
 
 pub build_term-returns-in_err-terms-in-Apply : goal.build_term-returns-in_err-terms-in-Apply
 build_term-returns-in_err-terms-in-Apply t c =
     let p = err_from_is_err_and c.from_residual-in_err-terms-in-Apply.result
     c.from_residual-in_err-terms-in-Apply.ensures.1 in
     rw (p.1, p.2, c.in-Apply.is, term_faults-Apply c.args.sig.now c.in-Apply.name c.in-Apply.args)
-    (fails-behind c.in_err-terms-in-Apply.field-0.0 _ _ (rw c.deref.ensures.value at c.in_ok-op-in-Apply.ensures.0)
-    (rw c.deref-in-Apply.ensures.value at c.in_err-terms-in-Apply.ensures))
+    (fails-behind c.in_err-terms-in-Apply.field-0.0 _ _ c.in_ok-op-in-Apply.ensures.0
+    c.in_err-terms-in-Apply.ensures)
 
 pub build_term-returns-in_ok-terms-in-Apply : goal.build_term-returns-in_ok-terms-in-Apply
 build_term-returns-in_ok-terms-in-Apply t c = (
   rw (c.in-Apply.is, term_faults-Apply c.args.sig.now c.in-Apply.name c.in-Apply.args)
-      (none-append _ _ (rw c.deref.ensures.value at c.in_ok-op-in-Apply.ensures.0)
-      ∙ (rw c.deref-in-Apply.ensures.value at c.in_ok-terms-in-Apply.ensures.0)),
+      (none-append _ _ c.in_ok-op-in-Apply.ensures.0 ∙ c.in_ok-terms-in-Apply.ensures.0),
   rw (
     c.in-Apply.is,
     term_of-Apply c.args.sig.now c.in-Apply.name
         c.in-Apply.args,
     c.in_ok-op-in-Apply.ensures.1,
     c.in_ok-terms-in-Apply.ensures.1,
-    c.deref-in-Apply.ensures.value,
   )
       refl,
 )
 
 pub build_term-build_terms-requires : goal.build_term-build_terms-requires
 build_term-build_terms-requires t c =
-    let args : nodes (expr_tree c.args.expr.now) ≡ 1 + all_nodes (trees (map expr_tree c.deref-in-Apply.result.now)) =
-    rw (c.in-Apply.is, c.deref-in-Apply.ensures.value) (nodes-Apply c.in-Apply.name c.in-Apply.args) in
+    let args : nodes (expr_tree c.args.expr.now) ≡ 1 + all_nodes (trees (map expr_tree c.in-Apply.args.now)) =
+    rw c.in-Apply.is (nodes-Apply c.in-Apply.name c.in-Apply.args) in
     omega (arith, args, c.decreases)
 
 pub build_terms-build_term-requires : goal.build_terms-build_term-requires
@@ -63,18 +61,15 @@ build_terms-build_term-requires t c =
 
 pub build_term-infix_term-requires : goal.build_term-infix_term-requires
 build_term-infix_term-requires t c =
-    let args : nodes (expr_tree c.args.expr.now) ≡ 1 + all_nodes (trees (map expr_tree c.deref-in-Infix.result.now)) =
-    rw (c.in-Infix.is, c.deref-in-Infix.ensures.value)
-    (nodes-Infix c.in-Infix.place c.in-Infix.sign c.in-Infix.operands) in
+    let args : nodes (expr_tree c.args.expr.now) ≡ 1 + all_nodes (trees (map expr_tree c.in-Infix.operands.now)) =
+    rw c.in-Infix.is (nodes-Infix c.in-Infix.place c.in-Infix.sign c.in-Infix.operands) in
     omega (arith, args, c.decreases)
 
 pub build_term-returns-in-Infix : goal.build_term-returns-in-Infix
 build_term-returns-in-Infix t c =
     let Q : Tree → Type 0 = λ e. Gives c.infix_term.result (term_faults c.args.sig.now e)
     (λ v. tree v ≡ term_of c.args.sig.now e) in
-    let same = ap expr_tree c.in-Infix.is ∙ expr_tree-Infix c.in-Infix.place c.in-Infix.sign c.in-Infix.operands
-    ∙ ap (λ l. InfixOf c.in-Infix.place (spot_of_sign c.in-Infix.sign) (trees (map expr_tree l)))
-    (sym c.deref-in-Infix.ensures.value) in
+    let same = ap expr_tree c.in-Infix.is ∙ expr_tree-Infix c.in-Infix.place c.in-Infix.sign c.in-Infix.operands in
     subst Q (sym same) c.infix_term.ensures
 
 pub infix_term-returns-in_err-sign_op : goal.infix_term-returns-in_err-sign_op

@@ -8,7 +8,6 @@ use Rattle.mp_build.proofs.edit.has_large_term.Goals as goal
 
 pub returns-in-Listed : goal.returns-in-Listed
 returns-in-Listed c =
-    let same : new_exprs (replacement_tree c.args.change.now.terms) ≡ map expr_tree c.in-Listed.exprs.items =
-    rw c.in-Listed.is (tree_list-trees (map expr_tree c.in-Listed.exprs.items)) in
-    c.some_large_term.ensures ∙ ap (λ es. list_any is_large_term (map expr_tree es)) c.deref.ensures.value
-    ∙ sym (ap (list_any is_large_term) same)
+    let same : new_exprs (replacement_tree c.args.change.now.terms) ≡ map expr_tree c.in-Listed.exprs.now =
+    rw c.in-Listed.is (tree_list-trees (map expr_tree c.in-Listed.exprs.now)) in
+    c.some_large_term.ensures ∙ sym (ap (list_any is_large_term) same)

@@ -13,8 +13,8 @@ use Rattle.mp_build.proofs.edit.new_terms.Goals as goal
 pub returns-in-Listed : goal.returns-in-Listed
 returns-in-Listed c =
     let sig = c.args.sig.now in
-    let same : new_exprs (replacement_tree c.args.replacement.now) ≡ map expr_tree c.in-Listed.exprs.items =
-    rw c.in-Listed.is (tree_list-trees (map expr_tree c.in-Listed.exprs.items)) in
+    let same : new_exprs (replacement_tree c.args.replacement.now) ≡ map expr_tree c.in-Listed.exprs.now =
+    rw c.in-Listed.is (tree_list-trees (map expr_tree c.in-Listed.exprs.now)) in
     let P : List Tree → Type 0 = λ es. Gives c.normal_terms.result (flat_map (term_faults sig) es)
     (λ ts. ts ≡ map (λ t. normal sig (term_of sig t)) es) in
-    subst P (sym same) (rw c.deref.ensures.value at c.normal_terms.ensures)
+    subst P (sym same) c.normal_terms.ensures

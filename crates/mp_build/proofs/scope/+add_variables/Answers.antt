@@ -23,22 +23,21 @@ add_all_variables-loop-expr-preserved t c =
 
 pub add_variables-add_all_variables-requires : goal.add_variables-add_all_variables-requires
 add_variables-add_all_variables-requires t c =
-    let args : nodes (expr_tree c.args.expr.now) ≡ 1 + all_nodes (trees (map expr_tree c.deref.result.now)) =
-    rw (c.in-Apply.is, c.deref.ensures.value) (nodes-Apply c.in-Apply.field-0 c.in-Apply.args) in
+    let args : nodes (expr_tree c.args.expr.now) ≡ 1 + all_nodes (trees (map expr_tree c.in-Apply.args.now)) =
+    rw c.in-Apply.is (nodes-Apply c.in-Apply.field-0 c.in-Apply.args) in
     omega (arith, args, c.decreases)
 
 pub add_variables-add_all_variables-requires-in-Infix : goal.add_variables-add_all_variables-requires-in-Infix
 add_variables-add_all_variables-requires-in-Infix t c =
-    let args : nodes (expr_tree c.args.expr.now) ≡ 1 + all_nodes (trees (map expr_tree c.deref-in-Infix.result.now)) =
-    rw (c.in-Infix.is, c.deref-in-Infix.ensures.value)
-    (nodes-Infix c.in-Infix.«open» c.in-Infix.sign c.in-Infix.operands) in
+    let args : nodes (expr_tree c.args.expr.now) ≡ 1 + all_nodes (trees (map expr_tree c.in-Infix.operands.now)) =
+    rw c.in-Infix.is (nodes-Infix c.in-Infix.«open» c.in-Infix.sign c.in-Infix.operands) in
     omega (arith, args, c.decreases)
 
 pub add_variables-returns-in-Apply : goal.add_variables-returns-in-Apply
 add_variables-returns-in-Apply t c = rw (c.in-Apply.is, pattern_variables-Apply c.in-Apply.field-0 c.in-Apply.args)
-    (rw c.deref.ensures.value at c.add_all_variables.ensures)
+    c.add_all_variables.ensures
 
 pub add_variables-returns-in-Infix : goal.add_variables-returns-in-Infix
 add_variables-returns-in-Infix t c =
     rw (c.in-Infix.is, pattern_variables-Infix c.in-Infix.«open» c.in-Infix.sign c.in-Infix.operands)
-    (rw c.deref-in-Infix.ensures.value at c.add_all_variables-in-Infix.ensures)
+    c.add_all_variables-in-Infix.ensures

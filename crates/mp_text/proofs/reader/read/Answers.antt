@@ -11,4 +11,4 @@ returns-in_err-statements c =
 
 pub returns : goal.returns
 returns c = ReadGives-statements c.args.bytes.now (map statement_tree c.in_ok-statements.statements.items)
-    c.build_file.result c.in_ok-statements.ensures.found c.build_file.ensures
+    c.build_file.result c.in_ok-statements.ensures.found (rw c.deref.ensures.value at c.build_file.ensures)

@@ -2,7 +2,7 @@ use Rattle.std.proofs.Common.{◌≡◌, ◌+◌, map, arith, ◌∙◌, sym, ap
 use Rattle.std.proofs.lemmas.Result.{err_from_is_err_and}
 use Rattle.mp_pattern.specs.TemplateTree as template
 use Rattle.mp_pattern.specs.TemplateView.{template_tree}
-use Rattle.mp_parser.specs.Syntax.{Tree, InfixOf, trees}
+use Rattle.mp_parser.specs.Syntax.{Tree, trees}
 use Rattle.mp_parser.specs.View.{spot_of_sign, expr_tree}
 use Rattle.mp_parser.proofs.Trees.{expr_tree-Infix}
 use Rattle.mp_build.specs.Answers.{Gives}
@@ -27,7 +27,7 @@ build_template-returns-in_err-op-in-Apply t c =
       template_faults-Apply c.args.sig.now (map variable_of c.args.variables.now) c.in-Apply.name
           c.in-Apply.args,
     )
-    (fails-front c.in_err-op-in-Apply.field-0.0 _ _ (rw c.deref.ensures.value at c.in_err-op-in-Apply.ensures))
+    (fails-front c.in_err-op-in-Apply.field-0.0 _ _ c.in_err-op-in-Apply.ensures)
 
 pub build_template-returns-in_err-templates-in-Apply : goal.build_template-returns-in_err-templates-in-Apply
 build_template-returns-in_err-templates-in-Apply t c =
@@ -40,8 +40,8 @@ build_template-returns-in_err-templates-in-Apply t c =
       template_faults-Apply c.args.sig.now (map variable_of c.args.variables.now) c.in-Apply.name
           c.in-Apply.args,
     )
-    (fails-behind c.in_err-templates-in-Apply.field-0.0 _ _ (rw c.deref.ensures.value at c.in_ok-op-in-Apply.ensures.0)
-    (rw c.deref-in-Apply.ensures.value at c.in_err-templates-in-Apply.ensures))
+    (fails-behind c.in_err-templates-in-Apply.field-0.0 _ _ c.in_ok-op-in-Apply.ensures.0
+    c.in_err-templates-in-Apply.ensures)
 
 pub build_template-returns-in_ok-templates-in-Apply : goal.build_template-returns-in_ok-templates-in-Apply
 build_template-returns-in_ok-templates-in-Apply t c = (
@@ -50,23 +50,21 @@ build_template-returns-in_ok-templates-in-Apply t c = (
     template_faults-Apply c.args.sig.now (map variable_of c.args.variables.now) c.in-Apply.name
         c.in-Apply.args,
   )
-      (none-append _ _ (rw c.deref.ensures.value at c.in_ok-op-in-Apply.ensures.0)
-      ∙ (rw c.deref-in-Apply.ensures.value at c.in_ok-templates-in-Apply.ensures.0)),
+      (none-append _ _ c.in_ok-op-in-Apply.ensures.0 ∙ c.in_ok-templates-in-Apply.ensures.0),
   rw (
     c.in-Apply.is,
     template_of-Apply c.args.sig.now c.in-Apply.name
         c.in-Apply.args,
     c.in_ok-op-in-Apply.ensures.1,
     c.in_ok-templates-in-Apply.ensures.1,
-    c.deref-in-Apply.ensures.value,
   )
       refl,
 )
 
 pub build_template-build_templates-requires : goal.build_template-build_templates-requires
 build_template-build_templates-requires t c =
-    let args : nodes (expr_tree c.args.expr.now) ≡ 1 + all_nodes (trees (map expr_tree c.deref-in-Apply.result.now)) =
-    rw (c.in-Apply.is, c.deref-in-Apply.ensures.value) (nodes-Apply c.in-Apply.name c.in-Apply.args) in
+    let args : nodes (expr_tree c.args.expr.now) ≡ 1 + all_nodes (trees (map expr_tree c.in-Apply.args.now)) =
+    rw c.in-Apply.is (nodes-Apply c.in-Apply.name c.in-Apply.args) in
     omega (arith, args, c.decreases)
 
 pub build_templates-build_template-requires : goal.build_templates-build_template-requires
@@ -80,9 +78,8 @@ build_templates-build_template-requires t c =
 
 pub build_template-infix_template-requires : goal.build_template-infix_template-requires
 build_template-infix_template-requires t c =
-    let args : nodes (expr_tree c.args.expr.now) ≡ 1 + all_nodes (trees (map expr_tree c.deref-in-Infix.result.now)) =
-    rw (c.in-Infix.is, c.deref-in-Infix.ensures.value)
-    (nodes-Infix c.in-Infix.place c.in-Infix.sign c.in-Infix.operands) in
+    let args : nodes (expr_tree c.args.expr.now) ≡ 1 + all_nodes (trees (map expr_tree c.in-Infix.operands.now)) =
+    rw c.in-Infix.is (nodes-Infix c.in-Infix.place c.in-Infix.sign c.in-Infix.operands) in
     omega (arith, args, c.decreases)
 
 pub build_template-returns-in-Infix : goal.build_template-returns-in-Infix
@@ -90,9 +87,7 @@ build_template-returns-in-Infix t c =
     let Q : Tree → Type 0 = λ e. Gives c.infix_template.result
     (template_faults (map variable_of c.args.variables.now) c.args.sig.now e)
     (λ v. template_tree v ≡ template_of c.args.sig.now e) in
-    let same = ap expr_tree c.in-Infix.is ∙ expr_tree-Infix c.in-Infix.place c.in-Infix.sign c.in-Infix.operands
-    ∙ ap (λ l. InfixOf c.in-Infix.place (spot_of_sign c.in-Infix.sign) (trees (map expr_tree l)))
-    (sym c.deref-in-Infix.ensures.value) in
+    let same = ap expr_tree c.in-Infix.is ∙ expr_tree-Infix c.in-Infix.place c.in-Infix.sign c.in-Infix.operands in
     subst Q (sym same) c.infix_template.ensures
 
 pub infix_template-returns-in_err-sign_op : goal.infix_template-returns-in_err-sign_op
