@@ -100,7 +100,8 @@ impl<'a> Finds<'a> {
         Ok(())
     }
 
-    /// The pairs that are kept, each once, ascending in the order `found_cmp` of `specs/Found.antt`. It takes no memory.
+    /// The pairs that are kept, each once, ascending in the order `found_cmp` of `specs/Found.antt`. It takes no
+    /// memory.
     pub fn into_pairs(self) -> Vec<RankedPair<'a>>
         ensures { IsListing found_cmp (Contains self.entry) result.items }
     {

@@ -1,6 +1,6 @@
 //! The steps of a token in the innermost open operation.
 ghost use Rattle.std.specs.Prelude.{◌≡◌, ◌≤◌, ◌<◌, ◌+◌, ◌^◌, ◌&&◌, [], ◌∷◌, List, length, IfSome, MatchOption, false};
-ghost use Rattle.std.specs.Prelude.{◌-◌, None, IsTrue, IsFalse, MatchBool, if◌then◌else◌, drop, bytes_eq};
+ghost use Rattle.std.specs.Prelude.{◌-◌, None, IsTrue, IsFalse, MatchBool, if◌then◌else◌, drop};
 ghost use Rattle.std.specs.Ordering.{is_eq};
 ghost use Rattle.mp_term.specs.NormalTest.{has_head};
 ghost use Rattle.mp_term.specs.Order.{tree_cmp};
@@ -29,24 +29,7 @@ use crate::token::is_headed;
 use mp_pattern::NetToken;
 use mp_subst::Trail;
 use mp_table::{Head, Rank, Table};
-use mp_term::{Name, OpId, Signature};
-
-// The names are the same. Many are numbered, and differ at the end, where their bytes are compared first.
-fn is_same(own: &[u8], name: &[u8]) -> bool
-    ensures { result ≡ bytes_eq own.now name.now }
-{
-    if own.len() != name.len() {
-        return false;
-    }
-    let mut place = own.len();
-    while 0 < place {
-        place -= 1;
-        if own[place] != name[place] {
-            return false;
-        }
-    }
-    true
-}
+use mp_term::{Name, OpId, Signature, same_bytes};
 
 // The term is the symbol of the name.
 fn is_symbol(table: &Table, rank: Rank, name: &Name) -> bool
@@ -54,7 +37,7 @@ fn is_symbol(table: &Table, rank: Rank, name: &Name) -> bool
     ensures { result ≡ is_eq (tree_cmp (term_at table.now rank) (symbol name.now)) }
 {
     match table.head(rank) {
-        Head::Sym(own) => is_same(own.bytes(), name.bytes()),
+        Head::Sym(own) => same_bytes(own.bytes(), name.bytes()),
         Head::App(_) => false,
     }
 }

@@ -9,7 +9,7 @@ use Rattle.mp_walk.proofs.steps.is_symbol.Goals as goal
 
 pub returns-in-Sym : goal.returns-in-Sym
 returns-in-Sym c =
-    c.is_same.ensures ∙ ap₂ bytes_eq c.bytes.ensures.bytes c.bytes-in-Sym.ensures.bytes
+    c.same_bytes.ensures ∙ ap₂ bytes_eq c.bytes.ensures.bytes c.bytes-in-Sym.ensures.bytes
     ∙ of-symbol (term_at c.args.table.now c.args.rank) c.in-Sym.own.now c.args.name.now c.in-Sym.ensures
   where
     of-symbol : (t : Tree) (own name : List ℕ)
