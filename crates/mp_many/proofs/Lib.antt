@@ -16,7 +16,7 @@ pub mod WalkConstantLaws
 pub mod OnceLaws
 mod ItemLaws
 mod WalkLaws
-mod UsedNameLaws
+mod RuleNameLaws
 mod SubstLaws
 pub mod AllPairsLaws
 pub mod FoundLaws

@@ -1,25 +1,16 @@
 -- Tokens that stand in the patterns of rules: their numbers, their digests, and their lists.
 use Rattle.std.proofs.Common.{◌≡◌, ◌<◌, ℕ, ◌+◌, List, [], ◌∷◌, ◌++◌, map, length, take, drop}
 use Rattle.std.proofs.Common.{get_or, refl, ap, sym, ◌∙◌, arith, append_assoc}
-use Rattle.std.specs.Prelude.{Some, flat_map, if◌then◌else◌, slice_get, sum}
+use Rattle.std.specs.Prelude.{flat_map, sum}
 use Rattle.std.proofs.Math.Seq.{drop-append_seam, take-append_seam}
 use Rattle.std.proofs.lemmas.List.{drop-drop, length-append}
 use Rattle.std.proofs.lemmas.List.Sums.{sum_by-cons}
-use Rattle.std.proofs.lemmas.Option.{get_or_from_slice_get, slice_get_within}
-use Rattle.mp_term.proofs.ListLaws.{drop-item}
-use Rattle.mp_pattern.specs.NetTokens.{number_in, renamed, all_renamed}
+use Rattle.mp_pattern.specs.NetTokens.{renamed, all_renamed}
 use Rattle.mp_pattern.specs.PatternTree.{Pattern, symbol_pattern, app_pattern, wild_pattern, Patterns, no_patterns}
 use Rattle.mp_pattern.specs.PatternTree.{more_patterns}
-use Rattle.mp_pattern.specs.Value.{same_name}
 use Rattle.mp_many.specs.Digest.{mixed, pattern_digest, all_digest}
 use Rattle.mp_many.specs.TokenView.{cut}
 use Rattle.mp_many.proofs.RowLaws.{drop-next}
-
--- the number of a name, by the next of the names
-pub number_in-next : (names : List (List ℕ)) (i : ℕ) (other name : List ℕ) → slice_get names i ≡ Some other
-    → number_in (drop i names) name ≡ (if same_name other name then 0 else number_in (drop (i + 1) names) name + 1)
-number_in-next names i other name at = ap (λ l. number_in l name)
-    (drop-item names i other (slice_get_within names i other at) (sym (get_or_from_slice_get names i other other at)))
 
 mutual
   -- the digest of a pattern is no matter of its variables' names

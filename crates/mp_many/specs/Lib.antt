@@ -6,7 +6,6 @@ pub mod Groups
 pub mod Marks
 pub mod GroupView
 pub mod Many
-pub mod UsedNames
 pub mod WalkConstants
 pub mod ManyCode
 pub mod ManyView

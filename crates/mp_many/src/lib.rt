@@ -11,7 +11,6 @@ mod lists;
 mod many;
 mod marks;
 mod names;
-mod renamed;
 mod rows;
 mod token;
 mod tree;

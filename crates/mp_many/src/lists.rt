@@ -7,11 +7,13 @@ ghost use Rattle.mp_pattern.specs.View.{pattern_tree};
 ghost use Rattle.mp_many.specs.Prefixes.{token_lists};
 ghost use Rattle.mp_many.specs.TokenView.{cut, read_token};
 
-use crate::renamed::variable_number;
 use crate::token::{Token, TokenList};
-use mp_pattern::{Pattern, Rule};
+use mp_pattern::{Pattern, Rule, variable_number};
 use mp_term::{Memory, Names, Signature};
 use std::alloc::Global;
+
+// How many tokens of a rule there is room for at once, the rules taken together.
+const ROOM_FOR_TOKENS: usize = 16;
 
 // The tokens of rules, those of one behind those of the other, and how many each rule has.
 #[derive(Drop)]
@@ -63,7 +65,7 @@ pub(crate) fn rule_tokens<'a>(
         ≡ flat_map (λ ks. ks) (token_lists sig.now (map rule_tree rules.now))) }
     ensures counts { IfOk result (λ r. r.counts.items ≡ map length (token_lists sig.now (map rule_tree rules.now))) }
 {
-    let mut tokens = Vec::new(alloc);
+    let mut tokens = Vec::with_capacity(alloc, rules.len().saturating_mul(ROOM_FOR_TOKENS))?;
     let mut counts = Vec::with_capacity(alloc, rules.len())?;
     for (index, rule) in rules.iter().enumerate() {
         let before = tokens.len();

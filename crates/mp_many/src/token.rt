@@ -1,13 +1,11 @@
 //! The tokens of the patterns of rules, read where they stand.
 ghost use Rattle.std.specs.Prelude.{◌≡◌, length, map, slice_get, IfOk, option_map};
-ghost use Rattle.mp_pattern.specs.NetTokens.{same_token, wild_token};
+ghost use Rattle.mp_pattern.specs.NetTokens.{same_token};
 ghost use Rattle.mp_pattern.specs.NetTokenView.{net_token};
-ghost use Rattle.mp_pattern.specs.View.{wildcard};
 ghost use Rattle.mp_many.specs.TokenView.{read_token};
 
-use crate::renamed::renamed;
-use mp_pattern::{NetToken, Pattern, Shape};
-use mp_term::{Memory, Name, Names, OpId, copy_term};
+use mp_pattern::{NetToken, Pattern, Shape, renamed, wild_token};
+use mp_term::{Memory, Name, Names, OpId};
 use std::alloc::Global;
 use std::marker::Model;
 
@@ -73,20 +71,6 @@ impl<'a> TokenList<'a> {
             None => None,
             Some(token) => Some(*token),
         }
-    }
-}
-
-// The token of a wildcard with this number of its variable.
-fn wild_token(alloc: Global, shape: &Shape, number: Option<u32>) -> Result<NetToken, Memory>
-    ensures { IfOk result (λ k. net_token k ≡ wild_token (wildcard shape.now) number) }
-{
-    match shape {
-        Shape::Dot => Ok(NetToken::Dot(number)),
-        Shape::Kind(kind) => Ok(NetToken::Kind(*kind, number)),
-        Shape::Plus => Ok(NetToken::Plus(number)),
-        Shape::Star => Ok(NetToken::Star(number)),
-        Shape::Opt(term) => Ok(NetToken::Opt(number, copy_term(alloc, term)?)),
-        Shape::Counted { least, fixed } => Ok(NetToken::Counted(*least, *fixed, number)),
     }
 }
 

@@ -8,8 +8,22 @@ use Rattle.mp_pattern.specs.View.{pattern_tree}
 use Rattle.mp_pattern.specs.declared.rule.Rule as code
 use Rattle.mp_many.specs.Prefixes.{token_lists}
 use Rattle.mp_many.specs.TokenView.{read_token}
-use Rattle.mp_many.proofs.UsedNameLaws.{names-at}
+use Rattle.mp_many.proofs.RuleNameLaws.{names-at}
 use Rattle.mp_many.proofs.lists.rule_tokens.Goals as goal
+
+pub overflow_sub-len : goal.overflow_sub-len
+overflow_sub-len c =
+    let old = map read_token c.loop-index.tokens.items in
+    let own = tokens c.args.sig.now c.index-names-index.result (pattern_tree c.index-rules-index.result.pattern) in
+    omega (
+      arith,
+      c.len.ensures,
+      c.len-before.ensures,
+      ap length c.in_ok-push_tokens.ensures,
+      length-append old own,
+      length-map c.loop-index.tokens.items read_token,
+      length-map c.push_tokens.new.out.items read_token,
+    )
 
 pub loop-index-preserved : goal.loop-index-preserved
 loop-index-preserved c =

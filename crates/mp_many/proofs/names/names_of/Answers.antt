@@ -1,14 +1,10 @@
-use Rattle.std.proofs.Common.{◌≡◌, ◌+◌, ◌++◌, ◌∷◌, [], ◌∙◌, ℕ, List, drop, map, ap, sym, append_assoc, arith}
+use Rattle.std.proofs.Common.{◌+◌, ◌++◌, ◌∷◌, [], ◌∙◌, ℕ, List, drop, map, ap, sym, append_assoc, arith}
 use Rattle.mp_term.proofs.ListLaws.{drop-item}
 use Rattle.mp_pattern.specs.Admission.{Rule}
-use Rattle.mp_pattern.specs.Firsts.{firsts_after}
 use Rattle.mp_pattern.specs.RuleView.{rule_tree}
-use Rattle.mp_pattern.specs.Value.{same_name}
 use Rattle.mp_pattern.specs.Variables.{variables}
 use Rattle.mp_pattern.specs.View.{pattern_tree}
 use Rattle.mp_pattern.specs.declared.rule.Rule as code
-use Rattle.mp_many.specs.UsedNames.{used_names}
-use Rattle.mp_many.proofs.UsedNameLaws.{firsts-used_names}
 use Rattle.mp_many.proofs.names.names_of.Goals as goal
 
 pub loop-rule-preserved : goal.loop-rule-preserved
@@ -18,9 +14,7 @@ loop-rule-preserved c =
     let rule = c.rule-item.result in
     let p = pattern_tree rule.pattern in
     let before = c.loop-rule.all.items in
-    let own : c.add_names.new.names ≡ variables p =
-    c.in_ok-add_names.ensures ∙ ap (λ ns. firsts_after same_name ns (used_names p)) c.new-names.ensures
-    ∙ firsts-used_names p in
+    let own = c.in_ok-variable_names.ensures in
     let all : List code.Rule → List (List (List ℕ)) =
     λ rs. map (λ (r : Rule). variables r.pattern) (map rule_tree rs) in
     let rest = all (drop (i + 1) rules) in

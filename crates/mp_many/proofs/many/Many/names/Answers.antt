@@ -3,7 +3,7 @@ use Rattle.std.specs.Prelude.{IfSome, slice_get}
 use Rattle.std.proofs.lemmas.List.{length-map}
 use Rattle.mp_pattern.specs.Admission.{Rule}
 use Rattle.mp_pattern.specs.Variables.{variables}
-use Rattle.mp_many.proofs.UsedNameLaws.{variables-at}
+use Rattle.mp_many.proofs.RuleNameLaws.{variables-at}
 use Rattle.mp_many.proofs.many.Many.names.Goals as goal
 
 pub index-requires : goal.index-requires

@@ -1,6 +1,0 @@
-use Rattle.std.proofs.Common.{◌≡◌, ◌+◌, drop}
-use Rattle.mp_pattern.specs.NetTokens.{number_in}
-use Rattle.mp_many.proofs.renamed.names_before.Given as goal
-
-abbrev pub invariant-loop-index : goal.invariant-loop-index
-invariant-loop-index l = l.index + number_in (drop l.index l.names) l.name ≡ number_in l.names l.name
