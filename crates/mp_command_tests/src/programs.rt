@@ -222,7 +222,14 @@ fn check_rule(
 ) {
     match line_of(rt, alloc, sig, Format::One, 1, text) {
         Some(Line::Rule(rule)) => match &rule.test {
-            RuleTest::Spelled(cond) => check_names(rt, alloc, &rule.vars, cond, names, numbered),
+            RuleTest::Spelled(cond) => check_names(
+                rt,
+                alloc,
+                &rule.vars,
+                cond.get(),
+                names,
+                numbered,
+            ),
             _ => panic!(rt; "no condition: {text}"),
         },
         _ => panic!(rt; "no rule: {text}"),

@@ -15,7 +15,7 @@ ghost use Rattle.mp_gen.specs.Printable.{ArePrintable};
 
 use crate::laws::a_generated_program_is_valid;
 use mp_many::{Many, the_tree_is_of_the_prefixes};
-use mp_pattern::{Cond, Plan, PlannedRule, copy_cond, plan_rules};
+use mp_pattern::{BoxedCond, Cond, Plan, PlannedRule, copy_cond, plan_rules};
 use mp_program::{Program, RuleLine, RuleTest, rules_of};
 use mp_term::{Memory, Names, Signature};
 use std::alloc::Global;
@@ -48,7 +48,7 @@ fn spelled(alloc: Global, condition: &Option<Cond>) -> Result<RuleTest, Memory>
 {
     match condition {
         None => Ok(RuleTest::Untested),
-        Some(cond) => Ok(RuleTest::Spelled(copy_cond(alloc, cond)?)),
+        Some(cond) => Ok(RuleTest::Spelled(BoxedCond::new(alloc, copy_cond(alloc, cond)?)?)),
     }
 }
 

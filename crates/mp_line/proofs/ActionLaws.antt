@@ -18,9 +18,9 @@ use Rattle.mp_program.specs.RightForm.{IsShort, IsRightAction, are_ascending}
 use Rattle.mp_line.specs.Finds.{IsOnly}
 use Rattle.mp_line.specs.LineTexts.{IsNumberText, AreNumbersText, are_accepted, AreAcceptedText}
 use Rattle.mp_line.specs.LineTexts.{IsActionText}
-use Rattle.mp_line.specs.Words.{IsWithout, IsSplitAtLast, is_digit_or_blank, IsBeforeNumbers}
+use Rattle.mp_line.specs.Words.{is_digit_or_blank, IsBeforeNumbers}
+use Rattle.mp_line.proofs.EndLaws.{Ends}
 use Rattle.mp_line.proofs.NumberLaws.{decimal-text, bare-decimal}
-use Rattle.mp_line.proofs.WordLaws.{with-none, last-only}
 
 -- ---- digits and blanks at the end
 
@@ -240,38 +240,18 @@ module _ (text : Text) where
   abbrev pub IsLed : Text × ℕ → Type 0
   IsLed p = IsActionText text p.0 (Some p.1) []
 
-  -- its number is the last word
-  led-split : (p : Text × ℕ) → IsLed p → IsSplitAtLast 32 text (p.0 ++ codes " down") (decimal p.1)
-  led-split p h = record {
-    parts = sym h.spelled ∙ sym (append_assoc p.0 (codes " down") (32 ∷ decimal p.1));
-    last = bare-decimal p.1 h.right.0;
-  }
-
-  -- a text without a blank has no such action
-  pub not-led : IsWithout 32 text → (p : Text × ℕ) → IsLed p → ⊥
-  not-led bare p h =
-      with-none 32 (p.0 ++ codes " down") (decimal p.1) (subst (IsWithout 32) (led-split p h).parts bare)
-
-  -- the words of one that has it
-  pub led-words : (front word : Text) → IsSplitAtLast 32 text front word → (p : Text × ℕ) → IsLed p
-      → (front ≡ p.0 ++ codes " down") × IsNumberText word p.1
-  led-words front word split p h =
-      let same = last-only 32 text front word (p.0 ++ codes " down") (decimal p.1) split (led-split p h) in
-      (same.0, record { short = h.right.0; text = sym same.1 })
-
-  -- it is found by its words
-  pub led-found : (front word token : Text) (n : ℕ) → IsSplitAtLast 32 text front word
-      → IsOnly (λ rest. front ≡ rest ++ codes " down") token → IsOnly (IsNumberText word) n → IsOnly IsLed (token, n)
-  led-found front word token n split h g = record {
-    is = record {
-      right = (g.is.short, refl);
-      spelled = sym (append_assoc token (codes " down") (32 ∷ decimal n))
-          ∙ (ap (λ x. x ++ 32 ∷ decimal n) (sym h.is) ∙ (ap (λ x. front ++ 32 ∷ x) g.is.text ∙ sym split.parts));
+  -- it ends with `down` and its number
+  pub led-ends : Ends (codes " down") 32 text IsNumberText (λ front n. IsLed (front, n))
+  led-ends = record {
+    made = λ front word n split h. record {
+      right = (h.short, refl);
+      spelled = ap (λ x. front ++ (codes " down" ++ 32 ∷ x)) h.text ∙ sym split.parts;
     };
-    only = λ p o. (
-        let m = led-words front word split p o in
-        ap (λ x. (x, p.1)) (h.only p.0 m.0) ∙ ap (λ x. (token, x)) (g.only p.1 m.1)
-        );
+    parts = λ front n h. (
+      decimal n,
+      record { parts = sym h.spelled; last = bare-decimal n h.right.0 },
+      record { short = h.right.0; text = refl },
+    );
   }
 
   -- and is the only action then

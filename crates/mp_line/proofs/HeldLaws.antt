@@ -14,7 +14,7 @@ use Rattle.mp_term.specs.Names.{are_distinct}
 use Rattle.mp_term.specs.Signature.{Sig, has_name, shares_sign, clashes, none_clash, kind_names}
 use Rattle.mp_term.proofs.ListLaws.{all-at}
 use Rattle.mp_term.proofs.SignatureLaws.{position-map, position-behind, position-first}
-use Rattle.mp_line.specs.Finds.{IsOnly, Finds}
+use Rattle.mp_line.specs.Finds.{Finds}
 use Rattle.mp_line.specs.LineTexts.{IsHeldOp, IsHeldKind}
 use Rattle.mp_line.proofs.FindsLaws.{Finds-like}
 
@@ -112,16 +112,6 @@ Finds-op view sig name r apart e =
     (λ i h. slice_get-map (λ (d : OpDecl). d.name) sig.ops i ∙ op-at (slice_get sig.ops i) name h.held h.text)
     (Finds-name view (map (λ (d : OpDecl). d.name) sig.ops) name r (are_distinct-names sig.ops apart)
     (e ∙ sym (position-map (bytes_eq name) (λ (d : OpDecl). d.name) sig.ops)))
-
--- an operation of the name is the only one
-pub op-alone : (sig : Sig) (name : Text) (i : ℕ) (d : OpDecl) → none_clash sig.ops ≡ true
-    → slice_get sig.ops i ≡ Some d → d.name ≡ name → IsOnly (IsHeldOp sig name) i
-op-alone sig name i d apart here same =
-    Finds-op (λ j. j) sig name (Some i) apart
-    (sym (position-distinct (map (λ (e : OpDecl). e.name) sig.ops) i name (are_distinct-names sig.ops apart)
-    (slice_get-map (λ (e : OpDecl). e.name) sig.ops i
-    ∙ (ap (option_map (λ (e : OpDecl). e.name)) here ∙ ap Some same)))
-    ∙ position-map (bytes_eq name) (λ (e : OpDecl). e.name) sig.ops)
 
 -- ---- kinds
 

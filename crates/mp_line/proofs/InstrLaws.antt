@@ -1,5 +1,5 @@
 -- The text of an instruction is split at `over`, at its action and at its token in one way.
-use Rattle.std.proofs.Common.{◌≡◌, ◌++◌, ℕ, List, ◌∷◌, Option, Some, None, refl, sym, ap, subst, ◌∙◌, arith}
+use Rattle.std.proofs.Common.{◌≡◌, ◌++◌, ℕ, List, ◌∷◌, Option, Some, None, refl, sym, ap, ◌∙◌, arith}
 use Rattle.std.proofs.Common.{append_assoc}
 use Rattle.std.proofs.Common.{◌≤◌, length}
 use Rattle.std.specs.Prelude.{codes, decimal}
@@ -13,10 +13,10 @@ use Rattle.mp_program.specs.FormText.{target_text, token_text, action_text}
 use Rattle.mp_program.specs.RightForm.{IsShortTarget}
 use Rattle.mp_line.specs.Finds.{IsOnly, Finds}
 use Rattle.mp_line.specs.LineTexts.{IsTargetText, IsTokenText, IsOverText, IsActionText, IsInstrBody, IsInstrText}
-use Rattle.mp_line.specs.Words.{IsWithout, IsSplitAtLast}
+use Rattle.mp_line.specs.Words.{IsWithout}
+use Rattle.mp_line.proofs.EndLaws.{Ends}
 use Rattle.mp_line.proofs.FindsLaws.{Finds-like}
 use Rattle.mp_line.proofs.NumberLaws.{without-decimal}
-use Rattle.mp_line.proofs.WordLaws.{with-none, last-only}
 
 -- ---- the last word
 
@@ -25,41 +25,18 @@ pub bare-target : (t : Option ℕ) → IsShortTarget t → IsWithout 32 (target_
 bare-target None short = refl
 bare-target (Some n) short = without-decimal 32 n refl (omega arith)
 
--- the target is the last word
-over-split : (text front : Text) (t : Option ℕ) → IsOverText text front t
-    → IsSplitAtLast 32 text (front ++ codes " over") (target_text t)
-over-split text front t h = record {
-  parts = sym h.spelled ∙ sym (append_assoc front (codes " over") (32 ∷ target_text t));
-  last = bare-target t h.short;
-}
-
--- a text without a blank has no such word
-pub no-split : (text : Text) → IsWithout 32 text → (p : Text × Option ℕ) → IsOverText text p.0 p.1 → ⊥
-no-split text bare p h =
-    with-none 32 (p.0 ++ codes " over") (target_text p.1) (subst (IsWithout 32) (over-split text p.0 p.1 h).parts bare)
-
--- the words of a text that ends with a target
-pub over-words : (text front word : Text) → IsSplitAtLast 32 text front word → (p : Text × Option ℕ)
-    → IsOverText text p.0 p.1 → (front ≡ p.0 ++ codes " over") × IsTargetText word p.1
-over-words text front word split p h =
-    let same = last-only 32 text front word (p.0 ++ codes " over") (target_text p.1) split
-    (over-split text p.0 p.1 h) in
-    (same.0, record { short = h.short; text = sym same.1 })
-
--- it is found by its words
-pub over-found : (text front word rest : Text) (t : Option ℕ) → IsSplitAtLast 32 text front word
-    → IsOnly (λ r. front ≡ r ++ codes " over") rest → IsOnly (IsTargetText word) t
-    → IsOnly (λ (p : Text × Option ℕ). IsOverText text p.0 p.1) (rest, t)
-over-found text front word rest t split h g = record {
-  is = record {
-    short = g.is.short;
-    spelled = sym (append_assoc rest (codes " over") (32 ∷ target_text t))
-        ∙ (ap (λ x. x ++ 32 ∷ target_text t) (sym h.is) ∙ (ap (λ x. front ++ 32 ∷ x) g.is.text ∙ sym split.parts));
+-- a text ends with `over` and a target in one way
+pub over-ends : (text : Text) → Ends (codes " over") 32 text IsTargetText (IsOverText text)
+over-ends text = record {
+  made = λ front word t split h. record {
+    short = h.short;
+    spelled = ap (λ x. front ++ (codes " over" ++ 32 ∷ x)) h.text ∙ sym split.parts;
   };
-  only = λ p o. (
-      let m = over-words text front word split p o in
-      ap (λ x. (x, p.1)) (h.only p.0 m.0) ∙ ap (λ x. (rest, x)) (g.only p.1 m.1)
-      );
+  parts = λ front t h. (
+    target_text t,
+    record { parts = sym h.spelled; last = bare-target t h.short },
+    record { short = h.short; text = refl },
+  );
 }
 
 -- ---- the parts of an instruction

@@ -1,5 +1,6 @@
 pub mod WordLaws
 pub mod FindsLaws
+pub mod EndLaws
 pub mod NumberLaws
 pub mod ExactLaws
 pub mod ItemLaws

@@ -18,12 +18,12 @@ use Rattle.mp_program.specs.RightForm.{IsRightRuleTest}
 use Rattle.mp_line.specs.Finds.{IsOnly, Finds}
 use Rattle.mp_line.specs.LineTexts.{IsNumberText, IsName, IsNameText, AreNamesText, kept_line, IsHeadText}
 use Rattle.mp_line.specs.LineTexts.{IsBeforeTest, IsRuleBody, IsRuleText}
-use Rattle.mp_line.specs.Words.{IsWithout, IsWordEnd, IsFirstWord, IsSplitAtLast, is_letter_or_blank}
+use Rattle.mp_line.specs.Words.{IsWordEnd, IsFirstWord, is_letter_or_blank}
+use Rattle.mp_line.proofs.EndLaws.{Ends}
 use Rattle.mp_line.proofs.FindsLaws.{Finds-like}
 use Rattle.mp_line.proofs.ItemLaws.{first_word-only, items-end}
 use Rattle.mp_line.proofs.NameLaws.{bare-name, letters-of}
 use Rattle.mp_line.proofs.NumberLaws.{without-decimal}
-use Rattle.mp_line.proofs.WordLaws.{with-none, last-only}
 
 -- ---- the names of a rule line
 
@@ -175,40 +175,21 @@ head-letters r name vars =
 
 -- ---- tests by their numbers
 
--- a test and its number are split at the last bracket
-number-split : (text front : Text) (n : ℕ) → IsBeforeTest text front n
-    → IsSplitAtLast 91 text (front ++ codes " if ") (decimal n)
-number-split text front n h = record {
-  parts = sym h.spelled ∙ sym (append_assoc front (codes " if ") (91 ∷ decimal n));
-  last = without-decimal 91 n refl (let short : n < 2 ^ 32 = h.short in omega arith);
-}
-
--- without a bracket there is no number of a test
-pub no-bracket : (text : Text) → IsWithout 91 text → (p : Text × ℕ) → IsBeforeTest text p.0 p.1 → ⊥
-no-bracket text bare p h =
-    with-none 91 (p.0 ++ codes " if ") (decimal p.1) (subst (IsWithout 91) (number-split text p.0 p.1 h).parts bare)
-
 -- the number of a test stands behind the last bracket
-pub number-words : (text front word : Text) → IsSplitAtLast 91 text front word → (p : Text × ℕ)
-    → IsBeforeTest text p.0 p.1 → (front ≡ p.0 ++ codes " if ") × IsNumberText word p.1
-number-words text front word split p h =
-    let same = last-only 91 text front word (p.0 ++ codes " if ") (decimal p.1) split (number-split text p.0 p.1 h) in
-    (same.0, record { short = h.short; text = sym same.1 })
-
--- it is found by that word
-pub number-found : (text front word rest : Text) (n : ℕ) → IsSplitAtLast 91 text front word
-    → IsOnly (λ r. front ≡ r ++ codes " if ") rest → IsOnly (IsNumberText word) n
-    → IsOnly (λ (p : Text × ℕ). IsBeforeTest text p.0 p.1) (rest, n)
-number-found text front word rest n split h g = record {
-  is = record {
-    short = g.is.short;
-    spelled = sym (append_assoc rest (codes " if ") (91 ∷ decimal n))
-        ∙ (ap (λ x. x ++ 91 ∷ decimal n) (sym h.is) ∙ (ap (λ x. front ++ 91 ∷ x) g.is.text ∙ sym split.parts));
+pub test-ends : (text : Text) → Ends (codes " if ") 91 text IsNumberText (IsBeforeTest text)
+test-ends text = record {
+  made = λ front word n split h. record {
+    short = h.short;
+    spelled = ap (λ x. front ++ (codes " if " ++ 91 ∷ x)) h.text ∙ sym split.parts;
   };
-  only = λ p o. (
-      let m = number-words text front word split p o in
-      ap (λ x. (x, p.1)) (h.only p.0 m.0) ∙ ap (λ x. (rest, x)) (g.only p.1 m.1)
-      );
+  parts = λ front n h. (
+    decimal n,
+    record {
+      parts = sym h.spelled;
+      last = without-decimal 91 n refl (let short : n < 2 ^ 32 = h.short in omega arith);
+    },
+    record { short = h.short; text = refl },
+  );
 }
 
 module _ (sig : Sig) (most : ℕ) (text : Text) where

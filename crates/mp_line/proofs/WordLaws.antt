@@ -1,8 +1,8 @@
 -- A text is split at the first, and at the last, such byte in one way.
 use Rattle.std.proofs.Common.{◌≡◌, ◌<◌, ◌≤◌, ℕ, zero, suc, Bool, true, false, [], ◌∷◌, ◌++◌, take, drop}
 use Rattle.std.proofs.Common.{length}
-use Rattle.std.proofs.Common.{get_or, inl, inr, refl, sym, ap, ◌∙◌, add-one, arith}
-use Rattle.std.specs.Prelude.{nat_eq, nat_lt, ◌+◌, ◌||◌, ◌&&◌, Some, None, cond}
+use Rattle.std.proofs.Common.{get_or, inl, inr, refl, sym, ap, ◌∙◌, arith}
+use Rattle.std.specs.Prelude.{nat_eq, nat_lt, ◌+◌, ◌||◌, Some, None, cond}
 use Rattle.std.specs.List.{list_any, position, position_or_len}
 use Rattle.std.proofs.lemmas.Bool.{eqb-true, eq-eqb, ltb-false}
 use Rattle.std.proofs.lemmas.List.Quantifiers.{position-Some}
@@ -10,7 +10,6 @@ use Rattle.std.proofs.lemmas.List.Sums.{fails_before_first}
 use Rattle.std.proofs.lemmas.List.{take-append-drop, append-nil, append_cancel_left, append_cancel_right}
 use Rattle.std.proofs.lemmas.List.{length-append}
 use Rattle.std.proofs.Math.Bool.{or-true}
-use Rattle.std.proofs.Math.ListN.{drop_of_length-le}
 use Rattle.std.proofs.Math.Seq.{drop-cons, take-append_seam, drop-append_seam}
 use Rattle.std.specs.Prelude.{bytes_eq}
 use Rattle.std.proofs.lemmas.Slice.Eq.{bytes_eq-Decides}
@@ -145,28 +144,7 @@ cut-none t r e end = record {
   ends = inl end;
 }
 
--- ---- texts that are compared byte by byte
-
--- where the next bytes are the same, texts are the same as what stands behind these
-pub same-next : (s t : Text) (i : ℕ) → i < length s → length s ≡ length t → get_or s i 0 ≡ get_or t i 0
-    → bytes_eq (drop (i + 1) s) (drop (i + 1) t) ≡ bytes_eq (drop i s) (drop i t)
-same-next s t i within same e =
-    ap (λ k. bytes_eq (drop k s) (drop k t)) (add-one i)
-    ∙ sym (ap (λ l. bytes_eq l (drop i t)) (drop-cons s i 0 within)
-    ∙ (ap (bytes_eq (get_or s i 0 ∷ drop (suc i) s)) (drop-cons t i 0 (omega arith))
-    ∙ ap (λ v. v && bytes_eq (drop (suc i) s) (drop (suc i) t)) (eq-eqb (get_or s i 0) (get_or t i 0) e)))
-
--- where they are not, the texts differ
-pub same-stop : (s t : Text) (i : ℕ) → i < length s → length s ≡ length t → (get_or s i 0 ≡ get_or t i 0 → ⊥)
-    → s ≡ t → ⊥
-same-stop s t i within same other e = other (ap (λ l. get_or l i 0) e)
-
--- where all are, they are the same
-pub same-end : (s t : Text) (i : ℕ) → length s ≤ i → length s ≡ length t
-    → bytes_eq (drop i s) (drop i t) ≡ bytes_eq s t → s ≡ t
-same-end s t i past same e =
-    (bytes_eq-Decides s t).0 (sym e ∙ (ap (λ l. bytes_eq l (drop i t)) (drop_of_length-le s past)
-    ∙ ap (bytes_eq []) (drop_of_length-le t (omega arith))))
+-- ---- fronts and ends
 
 module _ (s : Text) where
   -- what stands behind a front is found

@@ -26,6 +26,11 @@ pub record IsSplitAtLast (byte : ℕ) (text front behind : Text) : Type 0 where
   pub parts : text ≡ front ++ byte ∷ behind
   pub last : IsWithout byte behind
 
+-- the text ends with the end, such a byte and a word without one
+pub record IsSplitBehind (end : Text) (byte : ℕ) (text front word : Text) : Type 0 where
+  pub parts : text ≡ front ++ (end ++ byte ∷ word)
+  pub last : IsWithout byte word
+
 -- nothing stands behind a word, or another blank
 abbrev pub IsWordEnd : Text → Type 0
 IsWordEnd behind = (behind ≡ []) ⊎ ((rest : Text) × (behind ≡ 32 ∷ rest))

@@ -8,7 +8,7 @@ ghost use Rattle.mp_line.specs.LineTexts.{are_accepted, AreAcceptedText, IsActio
 ghost use Rattle.mp_line.specs.Words.{IsBeforeNumbers, is_digit_or_blank};
 
 use crate::numbers::{number, numbers};
-use crate::words::{before, split_last};
+use crate::words::{before, split_behind};
 use mp_term::Memory;
 use mp_walk::Numbers;
 use std::alloc::Global;
@@ -79,10 +79,7 @@ fn accepted(alloc: Global, text: &[u8]) -> Result<Option<Numbers>, Memory>
 fn led(text: &[u8]) -> Option<(&[u8], u32)>
     ensures { FindsPair (λ p. p.0.now) (λ p. p.1) (λ front n. IsActionText text.now front (Some n) []) result }
 {
-    let Some((front, word)) = split_last(b' ', text) else {
-        return None;
-    };
-    let Some(token) = before(front, b" down") else {
+    let Some((token, word)) = split_behind(b" down", b' ', text) else {
         return None;
     };
     match number(word) {

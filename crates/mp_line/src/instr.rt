@@ -8,7 +8,7 @@ ghost use Rattle.mp_line.specs.LineTexts.{IsInstrBody, IsInstrText, IsOverText};
 use crate::action::split_action;
 use crate::numbers::{behind_number, target};
 use crate::token::token;
-use crate::words::{before, split_last};
+use crate::words::split_behind;
 use mp_program::Format;
 use mp_term::{Memory, Signature};
 use mp_walk::Instr;
@@ -18,10 +18,7 @@ use std::alloc::Global;
 fn split_over(text: &[u8]) -> Option<(&[u8], Option<u32>)>
     ensures { FindsPair (λ p. p.0.now) (λ p. p.1) (IsOverText text.now) result }
 {
-    let Some((front, word)) = split_last(b' ', text) else {
-        return None;
-    };
-    let Some(rest) = before(front, b" over") else {
+    let Some((rest, word)) = split_behind(b" over", b' ', text) else {
         return None;
     };
     match target(word) {

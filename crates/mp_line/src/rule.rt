@@ -15,8 +15,8 @@ ghost use Rattle.mp_line.specs.Words.{is_letter_or_blank, IsFrontOfWords, has_if
 use crate::exact::exact_cond;
 use crate::names::{MAX_KEPT, name, names};
 use crate::numbers::number;
-use crate::words::{before, behind, between, first_word, split_last};
-use mp_pattern::Cond;
+use crate::words::{before, behind, between, first_word, split_behind};
+use mp_pattern::{BoxedCond, Cond};
 use mp_program::{Format, RuleLine, RuleTest};
 use mp_term::{Memory, Name, Names, Signature};
 use std::alloc::Global;
@@ -68,11 +68,10 @@ fn conditional_rule(alloc: Global, text: &[u8], cond: Cond) -> Result<Option<Rul
     ensures { IfOk result (λ o. Finds rule_line_view (IsHeadText MAX_KEPT text.now (spelled (cond_tree cond))) o) }
 {
     match head(alloc, text)? {
-        Some((name, vars)) => Ok(Some(RuleLine {
-            name,
-            vars,
-            test: RuleTest::Spelled(cond),
-        })),
+        Some((name, vars)) => {
+            let test = RuleTest::Spelled(BoxedCond::new(alloc, cond)?);
+            Ok(Some(RuleLine { name, vars, test }))
+        }
         None => Ok(None),
     }
 }
@@ -81,10 +80,7 @@ fn conditional_rule(alloc: Global, text: &[u8], cond: Cond) -> Result<Option<Rul
 fn split_number(text: &[u8]) -> Option<(&[u8], u32)>
     ensures { FindsPair (λ p. p.0.now) (λ p. p.1) (IsBeforeTest text.now) result }
 {
-    let Some((front, word)) = split_last(b'[', text) else {
-        return None;
-    };
-    let Some(rest) = before(front, b" if ") else {
+    let Some((rest, word)) = split_behind(b" if ", b'[', text) else {
         return None;
     };
     match number(word) {

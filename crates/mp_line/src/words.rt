@@ -2,7 +2,10 @@
 
 ghost use Rattle.std.specs.Prelude.{◌≡◌, ◌↔◌, ◌++◌, position, nat_eq, MatchOption, IsTrue};
 ghost use Rattle.mp_line.specs.Finds.{Finds, FindsPair};
-ghost use Rattle.mp_line.specs.Words.{IsWithout, IsLastPlace, IsSplitAtFirst, IsSplitAtLast, IsFirstWord, IsBlankWord};
+ghost use Rattle.mp_line.specs.Words.{IsWithout, IsLastPlace, IsSplitAtFirst, IsSplitAtLast, IsSplitBehind};
+ghost use Rattle.mp_line.specs.Words.{IsFirstWord, IsBlankWord};
+
+use mp_term::same_bytes;
 
 // The place of the first such byte.
 fn first_place(byte: u8, text: &[u8]) -> Option<usize>
@@ -47,19 +50,11 @@ pub(crate) fn split_last(byte: u8, text: &[u8]) -> Option<(&[u8], &[u8])>
     }
 }
 
-// The texts are the same. Most are short: they are compared byte by byte.
+// The texts are the same.
 pub(crate) fn is_same(a: &[u8], b: &[u8]) -> bool
     ensures { IsTrue result ↔ (a.now ≡ b.now) }
 {
-    if a.len() != b.len() {
-        return false;
-    }
-    for index in 0..a.len() {
-        if a[index] != b[index] {
-            return false;
-        }
-    }
-    true
+    same_bytes(a, b)
 }
 
 // What stands behind a front.
@@ -88,6 +83,19 @@ pub(crate) fn before<'a>(text: &'a [u8], end: &[u8]) -> Option<&'a [u8]>
         Some(&text[..at])
     } else {
         None
+    }
+}
+
+// What stands before an end, such a byte and a last word without one, and the word.
+pub(crate) fn split_behind<'a>(end: &[u8], byte: u8, text: &'a [u8]) -> Option<(&'a [u8], &'a [u8])>
+    ensures { FindsPair (λ p. p.0.now) (λ p. p.1.now) (IsSplitBehind end.now byte text.now) result }
+{
+    let Some((front, word)) = split_last(byte, text) else {
+        return None;
+    };
+    match before(front, end) {
+        Some(rest) => Some((rest, word)),
+        None => None,
     }
 }
 

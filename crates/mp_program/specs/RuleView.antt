@@ -1,5 +1,4 @@
 -- What a rule line is read as.
-use Rattle.mp_pattern.specs.CondView.{cond_tree}
 use Rattle.mp_program.specs.Form as plain
 use Rattle.mp_program.specs.Form.{untested, tested, spelled}
 use Rattle.mp_program.specs.declared.rule_line.RuleTest.{RuleTest}
@@ -10,7 +9,7 @@ use Rattle.mp_program.specs.declared.rule_line.RuleLine.{RuleLine}
 abbrev pub rule_test : RuleTest → plain.RuleTest
 rule_test Untested = untested
 rule_test (Tested n) = tested n
-rule_test (Spelled c) = spelled (cond_tree c)
+rule_test (Spelled c) = spelled c
 
 -- a rule line
 abbrev pub rule_line_view : RuleLine → plain.RuleLine

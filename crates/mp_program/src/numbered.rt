@@ -108,7 +108,13 @@ fn test_of(
         RuleTest::Untested => Ok(None),
         RuleTest::Tested(number) => Ok(Some(*number)),
         RuleTest::Spelled(cond) => {
-            let place = place_of(alloc, sig, renamed_cond(alloc, vars, cond)?, texts, tests)?;
+            let place = place_of(
+                alloc,
+                sig,
+                renamed_cond(alloc, vars, cond.get())?,
+                texts,
+                tests,
+            )?;
             Ok(Some(place))
         }
     }

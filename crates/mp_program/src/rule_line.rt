@@ -1,6 +1,6 @@
 //! Rule lines of program texts.
 
-use mp_pattern::Cond;
+use mp_pattern::BoxedCond;
 use mp_term::{Name, Names};
 
 /// What a rule line says of a test. Contracts see it as `rule_test` of `specs/RuleView.antt`.
@@ -11,7 +11,7 @@ pub enum RuleTest {
     /// The number of a test line, from 0. Format 2 alone has it.
     Tested(u32),
     /// The condition itself, on the variables of the line. Format 1 alone has it.
-    Spelled(Cond),
+    Spelled(BoxedCond),
 }
 
 /// A rule line. Contracts see it as the record `rule_line_view` of `specs/RuleView.antt`.

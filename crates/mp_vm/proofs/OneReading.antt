@@ -42,14 +42,15 @@ use Rattle.mp_line.proofs.ActionLaws.{action-parts, words-differ}
 use Rattle.mp_line.proofs.CondOpens.{right-opens}
 use Rattle.mp_line.proofs.ExactLaws.{exact-only}
 use Rattle.mp_line.proofs.HeldLaws.{Finds-op, Finds-kind}
-use Rattle.mp_line.proofs.InstrLaws.{bare-target, over-found, instr-found, body-through}
+use Rattle.mp_line.proofs.EndLaws.{behind-split, end-found}
+use Rattle.mp_line.proofs.InstrLaws.{bare-target, over-ends, instr-found, body-through}
 use Rattle.mp_line.proofs.ItemLaws.{items-end, first_word-only}
 use Rattle.mp_line.proofs.LineLaws.{begin-found, stop-found, op-found, kind-line-found, test-found, rule-found}
 use Rattle.mp_line.proofs.LineLaws.{code-found}
 use Rattle.mp_line.proofs.NameLaws.{bare-name}
 use Rattle.mp_line.proofs.NumberLaws.{decimal-text, without-decimal, bare-decimal, number-written, dash-only}
 use Rattle.mp_line.proofs.OpeningLaws.{cond-opening}
-use Rattle.mp_line.proofs.RuleLaws.{head-found, head_text, head-letters, number-found, untested-through}
+use Rattle.mp_line.proofs.RuleLaws.{head-found, head_text, head-letters, test-ends, untested-through}
 use Rattle.mp_line.proofs.RuleLaws.{tested-through, rule-through}
 use Rattle.mp_line.proofs.SpelledLaws.{names-through, spelled-through}
 use Rattle.mp_line.proofs.TokenLaws.{bare-variable, symbol-found, default-found, symbol-through, comm-through}
@@ -205,12 +206,13 @@ action-only text front d rules h = record {
 
 over-only : (text front : Text) (t : Option ℕ) → IsOverText text front t
     → IsOnly (λ (p : Text × Option ℕ). IsOverText text p.0 p.1) (front, t)
-over-only text front t h = over-found text (front ++ codes " over") (target_text t) front t
+over-only text front t h = end-found (over-ends text) front (target_text t) t
+    (behind-split (codes " over") 32 text (front ++ codes " over") (target_text t) front
     (record {
       parts = sym h.spelled ∙ sym (append_assoc front (codes " over") (32 ∷ target_text t));
       last = bare-target t h.short;
     })
-    (record { is = refl; only = λ r e. append_cancel_right r front (codes " over") (sym e) })
+    (record { is = refl; only = λ r e. append_cancel_right r front (codes " over") (sym e) }))
     (target-only t h.short)
 
 -- ---- counts
@@ -395,12 +397,13 @@ module _ (sig : Sig) (most : ℕ) where
           ∙ sym (append_assoc (head_text r) (codes " if [" ++ decimal n) (codes "]")) in
           tested-through sig most (head_text r ++ rule_test_text sig r.test) before ends (λ k. k)
           (Some (kept_line most r)) (head_text r) n
-          (number-found before (head_text r ++ codes " if ") (decimal n) (head_text r) n
+          (end-found (test-ends before) (head_text r) (decimal n) n
+          (behind-split (codes " if ") 91 before (head_text r ++ codes " if ") (decimal n) (head_text r)
           (record {
             parts = sym (append_assoc (head_text r) (codes " if ") (91 ∷ decimal n));
             last = without-decimal 91 n refl (let short : n < 2 ^ 32 = right.1 in omega arith);
           })
-          (record { is = refl; only = λ q e. append_cancel_right q (head_text r) (codes " if ") (sym e) })
+          (record { is = refl; only = λ q e. append_cancel_right q (head_text r) (codes " if ") (sym e) }))
           (number-only n right.1))
           (subst (λ t. IsOnly (IsHeadText most (head_text r) t) (kept_line most r)) is
           (head-only r h.name h.vars))

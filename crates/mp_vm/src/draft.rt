@@ -39,17 +39,19 @@ pub(crate) struct Draft {
 }
 
 impl Draft {
-    // Only the first line is read, of a text of so many bytes. An instruction takes some 32 of them.
+    // Only the first line is read, of a text of so many bytes. An instruction takes some 32 of them, and
+    // a rule with its instructions some 128.
     pub(crate) fn new(alloc: Global, format: Format, size: usize) -> Result<Draft, Memory>
         ensures { IfOk result (λ d. IsDraftOf MAX_KEPT d (start format)) }
     {
+        let rules = Vec::with_capacity(alloc, size / 128)?;
         let code = Instrs::with_room(alloc, size / 32)?;
         Ok(Draft {
             format,
             declarations: 0,
             declared: 0,
             tests: Conds::new(alloc),
-            rules: Vec::new(alloc),
+            rules,
             begin: None,
             code,
             stage: Stage::Ops,
@@ -82,6 +84,26 @@ impl Draft {
                 return Ok(right);
             }
         }
+        self.take_other(alloc, sig, own, text)
+    }
+
+    // Takes any line, where the next instruction has the number.
+    fn take_other(
+        &mut self,
+        alloc: Global,
+        sig: &Signature,
+        own: u32,
+        text: &[u8],
+    ) -> Result<bool, Memory>
+        requires few { length text.now < 2 ^ 32 - 1 }
+        requires own { own ≡ length self.old.code + 1 }
+        ensures taken { (read : List Text) → read ≢ [] → HasRead sig.now MAX_KEPT self.old read
+            → length (lines_text (read ++ text.now ∷ [])) < 2 ^ 32 - 1
+            → IfOk result (λ b. IsTrue b → HasRead sig.now MAX_KEPT self.new (read ++ text.now ∷ [])) }
+        ensures refused { (read : List Text) → read ≢ [] → HasRead sig.now MAX_KEPT self.old read
+            → length (lines_text (read ++ text.now ∷ [])) < 2 ^ 32 - 1
+            → IfOk result (λ b. b ≡ false → Begins sig.now (read ++ text.now ∷ []) → ⊥) }
+    {
         if self.may_have_rules() {
             if let Some(rule) = read_rule(alloc, sig, self.format, text)? {
                 let right = self.has_room_for_rules();

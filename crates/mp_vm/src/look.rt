@@ -179,19 +179,22 @@ pub(crate) fn add_token_looks<'a>(
     ensures { IfOk result (λ b. with_looks (map look_wildcard looks.old.items)
         (token_places (net_token token.now)) ≡ where_true b (map look_wildcard looks.new.items)) }
 {
-    if let NetToken::Comm(pattern) = token {
-        uses.clear();
-        add_pattern_uses(pattern, uses)?;
-        return add_looks(uses, looks);
-    }
-    match wildcard_of(token) {
-        Some((look, Some(number))) => add_look(
-            Use {
-                place: place_of_number(number),
-                look,
-            },
-            looks,
-        ),
-        _ => Ok(true),
+    match token {
+        NetToken::Sym(_) | NetToken::Enter(_) | NetToken::Leave(_) => Ok(true),
+        NetToken::Comm(pattern) => {
+            uses.clear();
+            add_pattern_uses(pattern, uses)?;
+            add_looks(uses, looks)
+        }
+        _ => match wildcard_of(token) {
+            Some((look, Some(number))) => add_look(
+                Use {
+                    place: place_of_number(number),
+                    look,
+                },
+                looks,
+            ),
+            _ => Ok(true),
+        },
     }
 }

@@ -144,7 +144,7 @@ fn is_right_test(
             let number = *number as usize;
             Ok(number < count && number <= used)
         }
-        RuleTest::Spelled(cond) => has_names_among(alloc, cond, vars),
+        RuleTest::Spelled(cond) => has_names_among(alloc, cond.get(), vars),
     }
 }
 

@@ -15,9 +15,8 @@ ghost use Rattle.mp_program.specs.ProgramView.{program_view};
 ghost use Rattle.mp_program.specs.Reading.{IsValid};
 ghost use Rattle.mp_vm.specs.ProgramList.{IsProgramList, IsProgramTable};
 
-use crate::constants::{listing, push_pattern};
 use crate::run::accepted;
-use mp_pattern::NetToken;
+use mp_pattern::{NetToken, push_pattern_constants, term_listing};
 use mp_program::Program;
 use mp_table::{MAX_CONSTANT_NODES, Table};
 use mp_term::{Memory, Signature, Term, Terms, copy_term, node_count};
@@ -57,7 +56,7 @@ fn push_constants(alloc: Global, found: &mut Vec<Term>, token: &NetToken) -> Res
 {
     match token {
         NetToken::Opt(_, default) => found.push(copy_term(alloc, default)?)?,
-        NetToken::Comm(pattern) => push_pattern(alloc, found, pattern)?,
+        NetToken::Comm(pattern) => push_pattern_constants(alloc, found, pattern)?,
         _ => {}
     }
     Ok(())
@@ -84,7 +83,7 @@ fn constants_of(alloc: Global, code: &[Instr]) -> Result<Terms, Memory>
     for instr in code {
         push_constants(alloc, &mut found, &instr.token)?;
     }
-    let terms = listing(alloc, found)?;
+    let terms = term_listing(alloc, found)?;
     if are_few(terms.as_slice()) {
         Ok(terms)
     } else {

@@ -1,17 +1,14 @@
-use Rattle.mp_line.proofs.RuleLaws.{no-bracket, number-words, number-found}
+use Rattle.mp_line.proofs.EndLaws.{no-end, other-end, end-found}
+use Rattle.mp_line.proofs.RuleLaws.{test-ends}
 use Rattle.mp_line.proofs.rule.split_number.Goals as goal
 
 pub returns-in_default : goal.returns-in_default
-returns-in_default c = no-bracket c.args.text.now c.in_default.ensures
-
-pub returns-in_default-before : goal.returns-in_default-before
-returns-in_default-before c = λ p h. c.in_default-before.ensures p.0
-    (number-words c.args.text.now c.in-Some.front.now c.in-Some.word.now c.in-Some.ensures p h).0
+returns-in_default c = no-end (test-ends c.args.text.now) c.in_default.ensures
 
 pub returns-in-Some-number : goal.returns-in-Some-number
-returns-in-Some-number c = number-found c.args.text.now c.in-Some.front.now c.in-Some.word.now c.in-Some-before.rest.now
-    c.in-Some-number.test c.in-Some.ensures c.in-Some-before.ensures c.in-Some-number.ensures
+returns-in-Some-number c = end-found (test-ends c.args.text.now) c.in-Some.rest.now c.in-Some.word.now
+    c.in-Some-number.test c.in-Some.ensures c.in-Some-number.ensures
 
 pub returns-in-None : goal.returns-in-None
-returns-in-None c = λ p h. c.in-None.ensures p.1
-    (number-words c.args.text.now c.in-Some.front.now c.in-Some.word.now c.in-Some.ensures p h).1
+returns-in-None c =
+    other-end (test-ends c.args.text.now) c.in-Some.rest.now c.in-Some.word.now c.in-Some.ensures c.in-None.ensures

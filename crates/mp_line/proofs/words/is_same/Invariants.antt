@@ -1,6 +1,0 @@
-use Rattle.std.proofs.Common.{◌≡◌, drop}
-use Rattle.std.specs.Prelude.{bytes_eq}
-use Rattle.mp_line.proofs.words.is_same.Given as goal
-
-abbrev pub invariant-loop-index : goal.invariant-loop-index
-invariant-loop-index l = bytes_eq (drop l.index l.a) (drop l.index l.b) ≡ bytes_eq l.a l.b
