@@ -223,8 +223,8 @@ module _ (sig : Sig) (p : Pattern) (few : length (variables p) ≤ MAX_VARIABLES
             (forms-numbered vs sig few (uses None p) s (uses-among (uses None p) (λ u i. i)) among fits.subst_of.forms);
         final = final-numbered vs sig few s fits.subst_of.final;
       };
-      takes = takes-renamed sig vs s (numbered_subst vs s) (λ x i. value-numbered vs sig few s x among i) None p (t ∷ []) T
-          (own-names p) fits.takes;
+      takes = takes-renamed sig vs s (numbered_subst vs s) (λ x i. value-numbered vs sig few s x among i) None p
+          (t ∷ []) T (own-names p) fits.takes;
     }
 
     -- under the old names its values are as before
