@@ -1,8 +1,11 @@
 //! The net tokens of a pattern on a case worked out by hand.
 
 use crate::values::{name, no_operations, operation};
-use mp_pattern::{NetToken, NetTokens, Pattern, Patterns, Shape, tokens_of};
-use mp_term::{OpId, Signature};
+use mp_pattern::{
+    NetToken, NetTokens, Pattern, Patterns, Shape, renamed, tokens_of, variable_names,
+    variable_number, wild_token,
+};
+use mp_term::{Name, OpId, Signature};
 use std::alloc::Global;
 use std::process::Abort;
 
@@ -26,13 +29,17 @@ fn of_plus(rt: &impl Abort, alloc: Global, op: u32) -> Pattern {
     Pattern::App(OpId(op), args)
 }
 
-// The tokens of h(s(x__), g(x__)).
-fn tokens(rt: &impl Abort, alloc: Global) -> NetTokens {
+// The pattern h(s(x__), g(x__)).
+fn pattern(rt: &impl Abort, alloc: Global) -> Box<Pattern> {
     let mut args = Patterns::new(alloc);
     args.push(of_plus(rt, alloc, 1)).expect(rt, "memory");
     args.push(of_plus(rt, alloc, 2)).expect(rt, "memory");
-    let pattern = Box::new(alloc, Pattern::App(OpId(0), args)).expect(rt, "memory");
-    tokens_of(alloc, &signature(rt, alloc), &pattern).expect(rt, "memory")
+    Box::new(alloc, Pattern::App(OpId(0), args)).expect(rt, "memory")
+}
+
+// Its tokens.
+fn tokens(rt: &impl Abort, alloc: Global) -> NetTokens {
+    tokens_of(alloc, &signature(rt, alloc), &pattern(rt, alloc)).expect(rt, "memory")
 }
 
 // Whether the wildcard is v0__.
@@ -65,4 +72,34 @@ fn are_read(tokens: &NetTokens) -> bool {
 #[test]
 fn a_commutative_part_is_one_token(rt: HostRuntime) {
     assert!(rt; are_read(&tokens(&rt, rt.alloc())));
+}
+
+// The number of the variable of that name in the pattern, where there is one.
+fn number(rt: &impl Abort, alloc: Global, variable: Option<Name>) -> Option<u32> {
+    let names = variable_names(alloc, &pattern(rt, alloc)).expect(rt, "memory");
+    variable_number(&names, &variable).expect(rt, "a number")
+}
+
+// Whether s(x__) becomes s(v0__).
+fn is_renamed(rt: &impl Abort, alloc: Global) -> bool {
+    let names = variable_names(alloc, &pattern(rt, alloc)).expect(rt, "memory");
+    match renamed(alloc, &names, &of_plus(rt, alloc, 1)).expect(rt, "memory") {
+        Pattern::App(OpId(1), args) => args.len() == 1 && is_numbered(args.get(0)),
+        _ => false,
+    }
+}
+
+#[test]
+fn variables_are_numbered_by_first_occurrence(rt: HostRuntime) {
+    let alloc = rt.alloc();
+    assert!(rt; number(&rt, alloc, Some(name(&rt, alloc, b"x"))) == Some(0));
+    assert!(rt; number(&rt, alloc, Some(name(&rt, alloc, b"y"))) == Some(1));
+    assert!(rt; number(&rt, alloc, None).is_none());
+    assert!(rt; is_renamed(&rt, alloc));
+    assert!(rt;
+        matches!(
+            wild_token(alloc, &Shape::Plus, Some(1)),
+            Ok(NetToken::Plus(Some(1)))
+        )
+    );
 }

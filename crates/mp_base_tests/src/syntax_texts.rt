@@ -2,6 +2,7 @@
 
 ghost use Rattle.std.specs.Prelude.{◌≤◌, length};
 
+use bumpalo::Bump;
 use mp_syntax::{SyntaxError, read_condition, read_expression, read_statements};
 use std::alloc::Global;
 use std::process::Abort;
@@ -56,10 +57,11 @@ pub fn expanded(rt: &impl Abort, alloc: Global, text: &str) -> Vec<u8>
 pub fn error(alloc: Global, sort: Sort, text: &[u8]) -> Option<SyntaxError>
     requires { length text.now ≤ 5000 }
 {
+    let bump = Bump::new(alloc);
     match sort {
-        Sort::Statements => read_statements(alloc, text).err(),
-        Sort::Expression => read_expression(alloc, text).err(),
-        Sort::Condition => read_condition(alloc, text).err(),
+        Sort::Statements => read_statements(alloc, &bump, text).err(),
+        Sort::Expression => read_expression(alloc, &bump, text).err(),
+        Sort::Condition => read_condition(alloc, &bump, text).err(),
     }
 }
 
@@ -67,10 +69,11 @@ pub fn error(alloc: Global, sort: Sort, text: &[u8]) -> Option<SyntaxError>
 pub fn told(rt: &impl Abort, alloc: Global, sort: Sort, text: &[u8]) -> String
     requires { length text.now ≤ 5000 }
 {
+    let bump = Bump::new(alloc);
     let told = match sort {
-        Sort::Statements => format!(in alloc; "{:?}", read_statements(alloc, text)),
-        Sort::Expression => format!(in alloc; "{:?}", read_expression(alloc, text)),
-        Sort::Condition => format!(in alloc; "{:?}", read_condition(alloc, text)),
+        Sort::Statements => format!(in alloc; "{:?}", read_statements(alloc, &bump, text)),
+        Sort::Expression => format!(in alloc; "{:?}", read_expression(alloc, &bump, text)),
+        Sort::Condition => format!(in alloc; "{:?}", read_condition(alloc, &bump, text)),
     };
     told.expect(rt, "memory")
 }

@@ -2,10 +2,10 @@
 
 ghost use Rattle.std.specs.Prelude.{◌≡◌};
 
-use crate::values::{name, names, no_operations, term};
+use crate::values::{name, names, no_operations, operation, term};
 use mp_term::{
     Edit, Edits, KindId, Name, OpDecl, Position, Sign, Signature, Term, Terms, copy_term,
-    node_count, normalise, well_formed,
+    node_count, normalise, same_bytes, well_formed,
 };
 use std::alloc::Global;
 use std::process::Abort;
@@ -85,6 +85,33 @@ fn has_letters(sig: &Signature) -> bool {
 #[test]
 fn kinds_hold_their_members(rt: HostRuntime) {
     assert!(rt; has_letters(&letters(&rt, rt.alloc())));
+}
+
+// Adds an operation of that name, which is found then, and wasn't before.
+fn add_found(rt: &impl Abort, alloc: Global, sig: &mut Signature, name: &[u8], number: u32) {
+    assert!(rt; sig.find_op(name).is_none());
+    sig.add_op(operation(rt, alloc, name, false))
+        .expect(rt, "an operation");
+    assert!(rt; matches!(sig.find_op(name), Some(op) if op.0 == number));
+}
+
+// More names than are looked at one by one.
+const MANY_NAMES: &[&[u8]] = &[
+    b"a", b"b", b"c", b"d", b"e", b"f", b"g", b"h", b"i", b"j", b"ab",
+];
+
+#[test]
+fn operations_are_found_among_few_and_many(rt: HostRuntime) {
+    let mut sig = no_operations(&rt, rt.alloc());
+    for (number, name) in MANY_NAMES.iter().enumerate() {
+        add_found(&rt, rt.alloc(), &mut sig, name, number as u32);
+        assert!(rt; matches!(sig.find_op(b"a"), Some(op) if op.0 == 0));
+    }
+}
+
+#[test]
+fn bytes_are_the_same_or_not(rt: HostRuntime) {
+    assert!(rt; same_bytes(b"ab", b"ab") && !same_bytes(b"ab", b"bb") && !same_bytes(b"ab", b"b"));
 }
 
 // The nodes of the normal form of a copy.

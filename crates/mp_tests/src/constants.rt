@@ -2,7 +2,9 @@
 
 use crate::reading::{file, parts, sink};
 use mp_io::{MemorySink, Writer};
-use mp_pattern::{constants, rule_constants};
+use mp_pattern::{
+    Rule, constants, push_cond_constants, push_pattern_constants, rule_constants, term_listing,
+};
 use mp_print::put_term;
 use mp_term::{Signature, Terms};
 use mp_text::File;
@@ -35,6 +37,16 @@ fn check_terms(rt: &impl Abort, alloc: Global, sig: &Signature, terms: &Terms, t
     assert!(rt; sink.content() == text.as_bytes(), "{text}");
 }
 
+// The constants of a rule, of its pattern and its condition one behind the other.
+fn gathered(rt: &impl Abort, alloc: Global, rule: &Rule) -> Terms {
+    let mut found = Vec::new(alloc);
+    push_pattern_constants(alloc, &mut found, &rule.pattern).expect(rt, "memory");
+    if let Some(cond) = &rule.condition {
+        push_cond_constants(alloc, &mut found, cond).expect(rt, "memory");
+    }
+    term_listing(alloc, found).expect(rt, "memory")
+}
+
 // Stops unless the constants of the file's rules, and those of its first rule, are printed as the texts.
 fn check_constants(rt: &impl Abort, alloc: Global, file: &File, all: &str, first: &str) {
     let terms = constants(alloc, &file.rules).expect(rt, "memory");
@@ -42,6 +54,7 @@ fn check_constants(rt: &impl Abort, alloc: Global, file: &File, all: &str, first
     let rule = file.rules.get(0).expect(rt, "no rule");
     let terms = rule_constants(alloc, rule).expect(rt, "memory");
     check_terms(rt, alloc, &file.sig, &terms, first);
+    check_terms(rt, alloc, &file.sig, &gathered(rt, alloc, rule), first);
 }
 
 #[test]
