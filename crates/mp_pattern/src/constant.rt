@@ -15,8 +15,8 @@ use crate::rule::{Rule, Rules};
 use mp_term::{Memory, Term, Terms, copy_term};
 use std::alloc::Global;
 
-/// Adds the symbols and the defaults of a pattern, in preorder, each as often as it stands there (`pattern_constants` of
-/// `specs/Constants.antt`). `Memory` comes where there is no room for them.
+/// Adds the symbols and the defaults of a pattern, in preorder, each as often as it stands there: `pattern_constants`
+/// of `specs/Constants.antt`. `Memory` comes where there is no room for them.
 pub fn push_pattern_constants(
     alloc: Global,
     found: &mut Vec<Term>,

@@ -64,8 +64,8 @@ fn add_all_names(alloc: Global, patterns: &[Pattern], names: &mut Names) -> Resu
 }
 
 /// The names of the variables of a pattern, each once, in the order in which they first occur in it (`variables` of
-/// `specs/Variables.antt`): the place of a name, from 0, is the number of its variable. `Memory` comes where there is no
-/// room for them.
+/// `specs/Variables.antt`): the place of a name, from 0, is the number of its variable. `Memory` comes where there is
+/// no room for them.
 pub fn variable_names(alloc: Global, pattern: &Pattern) -> Result<Names, Memory>
     ensures { IfOk result (λ ns. ns ≡ variables (pattern_tree pattern.now)) }
 {
