@@ -193,7 +193,7 @@ fn variables_of(
         ≡ map (λ x. record { name = x; form = form_among sig.now (map occurrence occurrences.now) x })
         (map (λ n. n.now) names.now)) }
 {
-    let mut variables = Vec::new(alloc);
+    let mut variables = Vec::with_capacity(alloc, names.len())?;
     for name in names {
         let form = form_among(sig, occurrences, name);
         let name = name.copy(alloc)?;
@@ -237,7 +237,7 @@ fn build(
     requires names { map (λ n. n.now) outline.now.names.items ≡ variables (pattern_tree pattern.now) }
     ensures { IfOk result (λ plan. IsPlanOf sig.now (pattern_tree pattern.now) plan) }
 {
-    let mut nodes = Vec::new(alloc);
+    let mut nodes = Vec::with_capacity(alloc, node_count(pattern) as usize)?;
     push_nodes(alloc, &mut nodes, &outline.names, pattern, None)?;
     let variables = variables_of(alloc, sig, &outline.occurrences, &outline.names)?;
     let pattern = copy_pattern(alloc, pattern)?;

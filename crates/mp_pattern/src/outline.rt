@@ -169,7 +169,7 @@ pub(crate) fn outline_of<'a>(alloc: Global, pattern: &'a Pattern) -> Result<Outl
     let mut occurrences = Vec::new(alloc);
     push_occurrences(&mut occurrences, pattern, None)?;
     let names = first_names(alloc, &occurrences)?;
-    let mut patterns = Vec::new(alloc);
+    let mut patterns = Vec::with_capacity(alloc, node_count(pattern) as usize)?;
     push_subpatterns(&mut patterns, pattern)?;
     Ok(Outline {
         occurrences,
