@@ -1,5 +1,6 @@
 pub mod Separated
 pub mod Parts
+mod KeptTextLaws
 mod Arguments
 mod CondTexts
 mod BoundVariables

@@ -4,3 +4,4 @@ pub mod PrintedTemplate
 pub mod PrintedCond
 pub mod PrintedEdits
 pub mod PrintedSignature
+pub mod KeptTexts

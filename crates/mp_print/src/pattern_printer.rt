@@ -1,6 +1,6 @@
 //! Prints patterns.
 
-ghost use Rattle.std.specs.Prelude.{◌≡◌, ◌++◌, codes};
+ghost use Rattle.std.specs.Prelude.{◌≡◌, ◌++◌, codes, ⊤};
 ghost use Rattle.mp_io.specs.Moments.{sunk};
 ghost use Rattle.mp_io.specs.Printing.{Prints};
 ghost use Rattle.mp_io.specs.Writing.{Puts};
@@ -11,7 +11,7 @@ ghost use Rattle.mp_print.specs.PrintedPattern.{count_text, pattern_text, shape_
 
 use crate::printer::put_term;
 use crate::signature_printer::text_if;
-use crate::tree_printer::{PrintedTree, put_name, put_tree};
+use crate::tree_printer::{PrintedTree, put_tree};
 use itoa::Buffer;
 use mp_io::{Failed, Sink, Writer};
 use mp_pattern::{Pattern, Shape};
@@ -46,6 +46,8 @@ impl PrintedTree<()> for Pattern {
 
     ghost size = { λ _ p. pattern_nodes (pattern_tree p) };
 
+    ghost may_print = { λ _ _. ⊤ };
+
     fn put_leaf<'t, K: Sink>(
         &'t self,
         sig: &Signature,
@@ -54,7 +56,7 @@ impl PrintedTree<()> for Pattern {
     ) -> Option<(OpId, &'t [Pattern])> {
         match self {
             Pattern::Sym(name) => {
-                put_name(name, out);
+                out.put(name.bytes());
                 None
             }
             Pattern::App(op, args) => Some((*op, args.as_slice())),
@@ -76,7 +78,7 @@ fn put_wildcard<K: Sink>(
     ensures { Puts K.Sink out.old out.new (wildcard_text sig.now (wildcard shape.now) name.now) }
 {
     if let Some(name) = name {
-        put_name(name, out);
+        out.put(name.bytes());
     }
     put_shape(sig, shape, out);
 }

@@ -1,6 +1,6 @@
 //! Prints terms.
 
-ghost use Rattle.std.specs.Prelude.{◌≡◌};
+ghost use Rattle.std.specs.Prelude.{◌≡◌, ⊤};
 ghost use Rattle.mp_io.specs.Moments.{sunk};
 ghost use Rattle.mp_io.specs.Printing.{Prints};
 ghost use Rattle.mp_io.specs.Writing.{Puts};
@@ -8,7 +8,7 @@ ghost use Rattle.mp_term.specs.Size.{node_count};
 ghost use Rattle.mp_term.specs.View.{tree};
 ghost use Rattle.mp_print.specs.Printing.{term_text};
 
-use crate::tree_printer::{PrintedTree, put_name, put_tree};
+use crate::tree_printer::{PrintedTree, put_tree};
 use mp_io::{Failed, Sink, Writer};
 use mp_term::{OpId, Signature, Term};
 
@@ -37,6 +37,8 @@ impl PrintedTree<()> for Term {
 
     ghost size = { λ _ t. node_count (tree t) };
 
+    ghost may_print = { λ _ _. ⊤ };
+
     fn put_leaf<'t, K: Sink>(
         &'t self,
         sig: &Signature,
@@ -45,7 +47,7 @@ impl PrintedTree<()> for Term {
     ) -> Option<(OpId, &'t [Term])> {
         match self {
             Term::Sym(name) => {
-                put_name(name, out);
+                out.put(name.bytes());
                 None
             }
             Term::App(op, args) => Some((*op, args.as_slice())),

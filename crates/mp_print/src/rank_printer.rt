@@ -1,48 +1,102 @@
 //! Prints terms and values by ranks in a table. It takes no memory.
 
-ghost use Rattle.std.specs.Prelude.{◌≡◌, option_map};
+ghost use Rattle.std.specs.Prelude.{◌≡◌, IfSome, map, option_map};
+ghost use Rattle.mp_io.specs.Moments.{sunk};
+ghost use Rattle.mp_io.specs.Printing.{Prints};
 ghost use Rattle.mp_io.specs.Writing.{Puts};
+ghost use Rattle.mp_term.specs.Signature.{Sig};
 ghost use Rattle.mp_term.specs.Size.{node_count};
 ghost use Rattle.mp_pattern.specs.Value.{one_form};
 ghost use Rattle.mp_table.specs.Table.{term_at};
 ghost use Rattle.mp_subst.specs.Bound.{bound_of, value_from, value_in};
+ghost use Rattle.mp_print.specs.KeptTexts.{AreKeptTexts};
 ghost use Rattle.mp_print.specs.Printing.{term_text, value_text};
 
-use crate::tree_printer::{PrintedTree, put_application, put_enclosed, put_name, put_tree};
-use mp_io::{Sink, Writer};
+use crate::tree_printer::{PrintedTree, put_application, put_enclosed, put_tree};
+use mp_io::{Failed, Sink, Writer};
 use mp_pattern::Form;
 use mp_subst::Bound;
 use mp_table::{Head, Rank, Table};
 use mp_term::{OpId, Signature};
+
+/// What ranks are printed by: a table, and the texts that are kept of its terms, each at the rank of its term, with
+/// nothing where none is kept.
+#[derive(Drop)]
+pub(crate) struct RankBase<'a> {
+    pub(crate) table: &'a Table,
+    pub(crate) texts: &'a [Vec<u8>],
+}
+
+impl<'a> RankBase<'a> {
+    /// The table, of whose terms no text is kept.
+    fn plain(table: &'a Table) -> RankBase<'a>
+        ensures table { result.table.now ≡ table.now }
+        ensures texts { (sig : Sig) → AreKeptTexts sig table.now (map (λ t. t.items) result.texts.now) }
+    {
+        RankBase { table, texts: &[] }
+    }
+
+    /// The text that is kept of the term of the rank, where there is one.
+    fn kept_text(&self, rank: Rank) -> Option<&[u8]>
+        ensures { IfSome result (λ text. (sig : Sig) →
+            AreKeptTexts sig self.now.table.now (map (λ t. t.items) self.now.texts.now) →
+            text.now ≡ term_text sig (term_at self.now.table.now rank)) }
+    {
+        let text = self.texts.get(rank.0 as usize)?;
+        if text.is_empty() { None } else { Some(text) }
+    }
+}
+
+/// Appends the text of the term of a rank to the sink, as `put_rank` puts it.
+///
+/// `Failed`: the sink's count of faults rose, and a front of the text was appended.
+pub(crate) fn write_rank<K: Sink>(
+    sig: &Signature,
+    table: &Table,
+    rank: Rank,
+    sink: &mut K,
+) -> Result<(), Failed>
+    ensures { Prints (sunk K.Sink sink.old sink.new) (term_text sig.now (term_at table.now rank)) result }
+{
+    let mut out = Writer::new(sink);
+    put_rank(sig, table, rank, &mut out);
+    out.finish()
+}
 
 /// Puts the text of the term of a rank, as `put_term` puts that of a term. A rank that the table doesn't have has no
 /// text.
 pub fn put_rank<K: Sink>(sig: &Signature, table: &Table, rank: Rank, out: &mut Writer<'_, K>)
     ensures { Puts K.Sink out.old out.new (term_text sig.now (term_at table.now rank)) }
 {
-    put_tree(sig, table, &rank, out);
+    put_tree(sig, &RankBase::plain(table), &rank, out);
 }
 
-impl PrintedTree<Table> for Rank {
-    ghost text = { λ sig t r. term_text sig (term_at t r) };
+impl<'a> PrintedTree<RankBase<'a>> for Rank {
+    ghost text = { λ sig b r. term_text sig (term_at b.table.now r) };
 
-    ghost size = { λ t r. node_count (term_at t r) };
+    ghost size = { λ b r. node_count (term_at b.table.now r) };
+
+    ghost may_print = { λ sig b. AreKeptTexts sig b.table.now (map (λ t. t.items) b.texts.now) };
 
     fn put_leaf<'t, K: Sink>(
         &'t self,
         sig: &Signature,
-        base: &'t Table,
+        base: &'t RankBase<'a>,
         out: &mut Writer<'_, K>,
     ) -> Option<(OpId, &'t [Rank])> {
-        if self.0 >= base.len() {
+        if let Some(text) = base.kept_text(*self) {
+            out.put(text);
             return None;
         }
-        match base.head(*self) {
+        if self.0 >= base.table.len() {
+            return None;
+        }
+        match base.table.head(*self) {
             Head::Sym(name) => {
-                put_name(name, out);
+                out.put(name.bytes());
                 None
             }
-            Head::App(op) => Some((op, base.args(*self))),
+            Head::App(op) => Some((op, base.table.args(*self))),
         }
     }
 }
@@ -57,29 +111,43 @@ pub fn put_bound<K: Sink>(
 )
     ensures { Puts K.Sink out.old out.new (value_text sig.now (value_in table.now (bound_of bound.now))) }
 {
+    put_bound_by(sig, &RankBase::plain(table), bound, out);
+}
+
+/// The same, by the texts that are kept.
+pub(crate) fn put_bound_by<K: Sink>(
+    sig: &Signature,
+    base: &RankBase<'_>,
+    bound: &Bound<'_>,
+    out: &mut Writer<'_, K>,
+)
+    requires { AreKeptTexts sig.now base.now.table.now (map (λ t. t.items) base.now.texts.now) }
+    ensures { Puts K.Sink out.old out.new (value_text sig.now (value_in base.now.table.now (bound_of bound.now))) }
+{
     match bound.form {
-        Form::One => put_single(sig, table, bound.wrap, bound.ranks, out),
-        Form::Seq => put_enclosed(sig, table, b"(", bound.ranks, b")", out),
-        Form::Bag => put_enclosed(sig, table, b"{", bound.ranks, b"}", out),
+        Form::One => put_single(sig, base, bound.wrap, bound.ranks, out),
+        Form::Seq => put_enclosed(sig, base, b"(", bound.ranks, b")", out),
+        Form::Bag => put_enclosed(sig, base, b"{", bound.ranks, b"}", out),
     }
 }
 
 /// Puts the term of the rank, or that of the operation that is applied to the terms of the ranks.
 fn put_single<K: Sink>(
     sig: &Signature,
-    table: &Table,
+    base: &RankBase<'_>,
     wrap: Option<OpId>,
     ranks: &[Rank],
     out: &mut Writer<'_, K>,
 )
+    requires { AreKeptTexts sig.now base.now.table.now (map (λ t. t.items) base.now.texts.now) }
     ensures { Puts K.Sink out.old out.new
-        (value_text sig.now (value_from table.now one_form (option_map (λ f. f.0) wrap) ranks.now)) }
+        (value_text sig.now (value_from base.now.table.now one_form (option_map (λ f. f.0) wrap) ranks.now)) }
 {
     match wrap {
-        Some(op) => put_application(sig, table, op, ranks, out),
+        Some(op) => put_application(sig, base, op, ranks, out),
         None => {
             if let Some(rank) = ranks.first() {
-                put_tree(sig, table, rank, out);
+                put_tree(sig, base, rank, out);
             }
         }
     }

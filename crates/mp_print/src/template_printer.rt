@@ -1,12 +1,12 @@
 //! Prints templates.
 
-ghost use Rattle.std.specs.Prelude.{◌≡◌};
+ghost use Rattle.std.specs.Prelude.{◌≡◌, ⊤};
 ghost use Rattle.mp_io.specs.Writing.{Puts};
 ghost use Rattle.mp_pattern.specs.TemplateSize.{template_nodes};
 ghost use Rattle.mp_pattern.specs.TemplateView.{template_tree};
 ghost use Rattle.mp_print.specs.PrintedTemplate.{template_text};
 
-use crate::tree_printer::{PrintedTree, put_name, put_tree};
+use crate::tree_printer::{PrintedTree, put_tree};
 use mp_io::{Sink, Writer};
 use mp_pattern::Template;
 use mp_term::{OpId, Signature};
@@ -25,6 +25,8 @@ impl PrintedTree<()> for Template {
 
     ghost size = { λ _ x. template_nodes (template_tree x) };
 
+    ghost may_print = { λ _ _. ⊤ };
+
     fn put_leaf<'t, K: Sink>(
         &'t self,
         sig: &Signature,
@@ -33,7 +35,7 @@ impl PrintedTree<()> for Template {
     ) -> Option<(OpId, &'t [Template])> {
         match self {
             Template::Sym(name) => {
-                put_name(name, out);
+                out.put(name.bytes());
                 None
             }
             Template::App(op, args) => Some((*op, args.as_slice())),

@@ -6,10 +6,7 @@ ghost use Rattle.mp_term.specs.Signature.{Sig};
 ghost use Rattle.mp_print.specs.Printing.{front_text, gap_text, held_text, separated, separator_text};
 
 use mp_io::{Sink, Writer};
-use mp_term::{Name, OpDecl, OpId, Sign, Signature};
-
-// A name of so many bytes, or fewer, is put byte by byte, which takes less than a copy.
-const FEW_BYTES: usize = 4;
+use mp_term::{OpDecl, OpId, Sign, Signature};
 
 /// A tree that is printed: a leaf, or an operation with its arguments. `B` is what it stands on: a rank stands for a
 /// tree in a table, and a tree of another kind stands on nothing, which is `()`.
@@ -20,6 +17,9 @@ pub(crate) trait PrintedTree<B> {
     /// A number that is smaller for the arguments of a tree, and for all of them together.
     ghost size: { B → Self → ℕ };
 
+    /// Trees may be printed over this signature and this base.
+    ghost may_print: { Sig → B → Type 0 };
+
     /// Puts the text of a leaf, or puts nothing and answers the operation and its arguments.
     fn put_leaf<'t, K: Sink>(
         &'t self,
@@ -27,6 +27,7 @@ pub(crate) trait PrintedTree<B> {
         base: &'t B,
         out: &mut Writer<'_, K>,
     ) -> Option<(OpId, &'t [Self])>
+        requires { may_print sig.now base.now }
         ensures puts { MatchOption result (Puts K.Sink out.old out.new (text sig.now base.now self.now))
             (λ a. Puts K.Sink out.old out.new []) }
         ensures text { MatchOption result ⊤ (λ a. text sig.now base.now self.now
@@ -42,6 +43,7 @@ pub(crate) fn put_tree<B, T: PrintedTree<B>, K: Sink>(
     tree: &T,
     out: &mut Writer<'_, K>,
 )
+    requires { T.may_print sig.now base.now }
     ensures { Puts K.Sink out.old out.new (T.text sig.now base.now tree.now) }
 {
     if let Some((op, args)) = tree.put_leaf(sig, base, out) {
@@ -58,6 +60,7 @@ pub(crate) fn put_application<B, T: PrintedTree<B>, K: Sink>(
     args: &[T],
     out: &mut Writer<'_, K>,
 )
+    requires { T.may_print sig.now base.now }
     ensures { Puts K.Sink out.old out.new
         (held_text (slice_get sig.now.ops op.0) (map (T.text sig.now base.now) args.now)) }
 {
@@ -77,6 +80,7 @@ fn put_between<B, T: PrintedTree<B>, K: Sink>(
     trees: &[T],
     out: &mut Writer<'_, K>,
 )
+    requires { T.may_print sig.now base.now }
     ensures { Puts K.Sink out.old out.new
         (separated (separator_text sign.now (length trees.now)) (map (T.text sig.now base.now) trees.now)) }
 {
@@ -95,6 +99,7 @@ pub(crate) fn put_enclosed<B, T: PrintedTree<B>, K: Sink>(
     closing: &[u8],
     out: &mut Writer<'_, K>,
 )
+    requires { T.may_print sig.now base.now }
     ensures { Puts K.Sink out.old out.new
         (opening.now ++ (separated (codes ", ") (map (T.text sig.now base.now) trees.now) ++ closing.now)) }
 {
@@ -109,23 +114,9 @@ fn put_front<K: Sink>(decl: &OpDecl, count: usize, out: &mut Writer<'_, K>)
 {
     match &decl.sign {
         Some(_) if count >= 2 => {}
-        _ => put_name(&decl.name, out),
+        _ => out.put(decl.name.bytes()),
     }
     out.put_byte(b'(');
-}
-
-/// Puts a name.
-pub(crate) fn put_name<K: Sink>(name: &Name, out: &mut Writer<'_, K>)
-    ensures { Puts K.Sink out.old out.new name.now }
-{
-    let bytes = name.bytes();
-    if bytes.len() > FEW_BYTES {
-        out.put(bytes);
-        return;
-    }
-    for byte in bytes {
-        out.put_byte(*byte);
-    }
 }
 
 /// Puts what stands before the argument of that index, of so many.

@@ -10,7 +10,7 @@ use Rattle.mp_print.proofs.rank_printer.put_single.Goals as goal
 pub returns-in-Some : goal.returns-in-Some
 returns-in-Some g c =
     let sig = c.args.sig.now in
-    let T = c.args.table.now in
+    let T = c.args.base.now.table.now in
     let rs = c.args.ranks.now in
     let text = text-app (term_at T) trees (term_text sig) (term_texts sig) refl (λ t ts. refl)
     (slice_get sig.ops c.in-Some.op.0) (terms_at T rs) rs refl in

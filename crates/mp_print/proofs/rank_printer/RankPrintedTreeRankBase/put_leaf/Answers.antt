@@ -6,12 +6,12 @@ use Rattle.mp_table.specs.Table.{term_at, terms_at}
 use Rattle.mp_table.proofs.HeadLaws.{app_is}
 use Rattle.mp_print.specs.Printing.{term_text, term_texts}
 use Rattle.mp_print.proofs.Arguments.{sizes-sum, text-app}
-use Rattle.mp_print.proofs.rank_printer.RankPrintedTreeTable.put_leaf.Goals as goal
+use Rattle.mp_print.proofs.rank_printer.RankPrintedTreeRankBase.put_leaf.Goals as goal
 
 pub returns-in-App-clause-text : goal.returns-in-App-clause-text
 returns-in-App-clause-text g c =
     let sig = c.args.sig.now in
-    let T = c.args.base.now in
+    let T = c.args.base.now.table.now in
     let rs = c.args-in-App.result.now in
     let op = c.in-App.op in
     let is : app op.0 (trees (terms_at T rs)) ≡ term_at T c.args.self.now =
@@ -22,7 +22,7 @@ returns-in-App-clause-text g c =
 
 pub returns-in-App-clause-smaller : goal.returns-in-App-clause-smaller
 returns-in-App-clause-smaller g c =
-    let T = c.args.base.now in
+    let T = c.args.base.now.table.now in
     let rs = c.args-in-App.result.now in
     let op = c.in-App.op in
     let is : app op.0 (trees (terms_at T rs)) ≡ term_at T c.args.self.now =
