@@ -31,7 +31,7 @@ use crate::node::{
     pass_at, prepare_at, takes_all_at,
 };
 use crate::query::Query;
-use crate::stack::{Frame, Left, Next, Place, Stack, settle};
+use crate::stack::{Frame, Left, Next, Place, Stack, is_behind, settle};
 use mp_pattern::Pattern;
 use mp_subst::Trail;
 
@@ -328,7 +328,7 @@ fn search<'a>(
     }
 }
 
-// The same, where the innermost frame is given: mostly its next child takes the next term.
+// The same, where the innermost frame is given: mostly it has a child to take next.
 #[cycle(search)]
 fn search_within<'a>(
     query: &Query<'_>,
@@ -353,19 +353,20 @@ fn search_within<'a>(
         IsFound query.now result is (drop k levels.new) trail.new }
     ensures kept { Keeps query.now k levels.old levels.new trail.old trail.new }
 {
+    if is_behind(query, &levels[..k], &frame) {
+        return search(query, outer, levels, k, trail, mode);
+    }
     if k < levels.len() {
         if let [child, later @ ..] = frame.children {
-            if takes_the_next(query.sig, frame.under, child) {
-                let place = Place {
-                    child,
-                    under: frame.under,
-                    later,
-                    left: frame.left,
-                    owes: frame.owes,
-                    outer,
-                };
-                return visit_next(query, &place, levels, k, trail, mode);
-            }
+            let place = Place {
+                child,
+                under: frame.under,
+                later,
+                left: frame.left,
+                owes: frame.owes,
+                outer,
+            };
+            return visit(query, &place, levels, k, trail, mode);
         }
     }
     let stack = Stack::Within(frame, outer);

@@ -1,5 +1,5 @@
 //! What is known of a pattern's nodes before any search.
-ghost use Rattle.std.specs.Prelude.{◌≡◌, ◌≤◌, ◌+◌, ◌++◌, length, map, option_map, IfOk};
+ghost use Rattle.std.specs.Prelude.{◌≡◌, ◌≤◌, ◌+◌, ◌++◌, Some, length, map, option_map, IfOk, IsTrue};
 ghost use Rattle.std.specs.Ordering.{is_eq};
 ghost use Rattle.mp_term.specs.Order.{tree_cmp};
 ghost use Rattle.mp_term.specs.Tree.{symbol};
@@ -45,13 +45,27 @@ fn is_symbol(table: &Table, rank: Rank, name: &Name) -> bool
     }
 }
 
-// The rank of the symbol of the name, if the table holds it. The guess is looked at first.
+// Whether the symbol of the name is the term of that place in the table.
+fn is_at(table: &Table, place: u32, name: &Name) -> bool
+    ensures { IsTrue result → rank_of table.now (symbol name.now) ≡ Some place }
+{
+    if place >= table.len() {
+        return false;
+    }
+    is_symbol(table, Rank(place), name)
+}
+
+// The rank of the symbol of the name, if the table holds it. The guess is looked at first, and what comes behind it.
 fn symbol_rank(table: &Table, name: &Name, guess: Ground) -> Option<Rank>
     ensures { option_map (λ r. r.0) result ≡ rank_of table.now (symbol name.now) }
 {
     if let Ground::At(rank) = guess {
-        if rank.0 < table.len() && is_symbol(table, rank, name) {
+        if is_at(table, rank.0, name) {
             return Some(rank);
+        }
+        let next = rank.0.saturating_add(1);
+        if is_at(table, next, name) {
+            return Some(Rank(next));
         }
     }
     table.find_symbol(name)
@@ -110,7 +124,8 @@ impl Grounds {
         ensures grounds { AreGrounds table.now (subpatterns (pattern_tree pattern.now)) self.new.list.items.items }
         ensures room { self.new.list.room ≡ self.old.list.room }
     {
-        // Patterns that follow each other often have symbols in common, at the same nodes.
+        // Patterns that follow each other often have symbols in common, at the same nodes, or symbols that follow each
+        // other.
         let mut guesses = [Ground::Open; GUESSES];
         let count = self.list.len().min(GUESSES);
         guesses[..count].copy_from_slice(&self.list.as_slice()[..count]);

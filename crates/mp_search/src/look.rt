@@ -125,8 +125,8 @@ fn has_look(
 ) -> bool {
     query.condition.is_some()
         || is_comm_above(query.sig, under)
-            && has_rival(query, child, node, later)
             && !come_soon(query, child, later)
+            && has_rival(query, child, node, later)
 }
 
 // The same of an entry that is tried: behind those of a table at hand there is one way, which is gone at once.

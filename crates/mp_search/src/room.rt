@@ -62,6 +62,10 @@ impl<T: Copy> Room<T> {
         ensures items { self.new.items.items ≡ items.now }
         ensures room { self.new.room ≡ self.old.room }
     {
+        if items.is_empty() {
+            self.items.clear();
+            return;
+        }
         if let ([own], [item]) = (self.items.as_mut_slice(), items) {
             *own = *item;
             return;

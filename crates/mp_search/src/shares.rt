@@ -161,9 +161,12 @@ fn is_use(query: &Query<'_>, child: &Pattern, node: u32, var: Option<u32>) -> bo
     if is_optional(child) {
         return false;
     }
-    match (var, number_at(query, child, node)) {
-        (Some(var), Some(other)) => var == other,
-        _ => false,
+    match var {
+        None => false,
+        Some(var) => match number_at(query, child, node) {
+            None => false,
+            Some(other) => var == other,
+        },
     }
 }
 

@@ -1,9 +1,9 @@
 //! The operations that a search is inside of: the patterns by reference, the ranks by the level that has them.
-ghost use Rattle.std.specs.Prelude.{◌≡◌, length};
+ghost use Rattle.std.specs.Prelude.{◌≡◌, ◌∷◌, List, IsTrue, length};
 ghost use Rattle.mp_table.specs.Table.{HasRanks, terms_at};
 ghost use Rattle.mp_theory.specs.Frames as walk;
 ghost use Rattle.mp_theory.specs.Machine.{arguments};
-ghost use Rattle.mp_search.specs.Frames.{stack_frames, next_of, left_of, IsBelow, LeftBelow, NextBelow};
+ghost use Rattle.mp_search.specs.Frames.{frame_of, stack_frames, next_of, left_of, IsBelow, LeftBelow, NextBelow};
 ghost use Rattle.mp_search.specs.Levels.{AreLevels};
 ghost use Rattle.mp_search.specs.Query.{IsQuery, width};
 
@@ -85,6 +85,20 @@ pub(crate) fn left_list<'a>(query: &Query<'a>, below: &'a [Level], left: Left) -
         Left::Take(j) => below[j].take.as_slice(),
         Left::Rest(j) => below[j].rest.as_slice(),
         Left::Args(j) => arguments_of(query.table, below[j].take.as_slice()),
+    }
+}
+
+// Whether the operation is left behind: its children have all taken, nothing is left to them, and none owes.
+pub(crate) fn is_behind(query: &Query<'_>, below: &[Level], frame: &Frame<'_>) -> bool
+    requires query { IsQuery query.now }
+    requires levels { AreLevels query.now.table.now (width query.now) below.now }
+    requires within { LeftBelow (length below.now) frame.now.left }
+    ensures { IsTrue result → (fs : List walk.Frame) →
+        walk.settle (frame_of query.now below.now frame.now ∷ fs) ≡ walk.settle fs }
+{
+    match frame.children {
+        [] => !frame.owes && left_list(&*query, below, frame.left).is_empty(),
+        _ => false,
     }
 }
 

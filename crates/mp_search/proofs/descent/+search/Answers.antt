@@ -840,8 +840,8 @@ visit-returns-else-told-clause-found t c =
     x.draws x.choice)
     refl c.try_each-in-After.ensures.found
 
-pub search_within-visit_next-requires : goal.search_within-visit_next-requires
-search_within-visit_next-requires t c =
+pub search_within-visit-requires : goal.search_within-visit-requires
+search_within-visit-requires t c =
     let q = c.args.query.now in
     let k = c.args.k in
     let B = take k c.args.levels.now in
@@ -867,10 +867,7 @@ search_within-visit_next-requires t c =
               within = subst (λ i. LeftBelow i f.left × IsBelow i c.args.outer.now)
                   (sym (length-take_within k c.args.levels.now r.within)) r.below;
             },
-            (
-              c.takes_the_next.ensures c.if-takes_the_next.true,
-              (r.trail, (r.standing, r.complete)),
-            ),
+            (r.trail, (r.standing, r.complete)),
           ),
         ),
       ),
@@ -878,7 +875,18 @@ search_within-visit_next-requires t c =
 
 pub search_within-search-requires : goal.search_within-search-requires
 search_within-search-requires t c =
+    let q = c.args.query.now in
+    let fs = stack_frames q (take c.args.k c.args.levels.now) c.args.outer.now in
     let r = c.requires in (
       omega (arith, c.decreases),
-      (r.within, (r.node, (r.stands, (r.below, (r.trail, (r.standing, r.complete)))))),
+      (
+        r.within,
+        (
+          r.node,
+          (
+            sym (c.is_behind.ensures c.if-is_behind.true fs) ∙ r.stands,
+            (r.below.1, (r.trail, (r.standing, r.complete))),
+          ),
+        ),
+      ),
     )

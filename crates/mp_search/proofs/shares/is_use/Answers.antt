@@ -5,9 +5,9 @@ use Rattle.mp_search.specs.Shares.{IsUsed}
 use Rattle.mp_search.proofs.ShareLaws.{is_use-number}
 use Rattle.mp_search.proofs.shares.is_use.Goals as goal
 
-pub returns-in-Some-Some : goal.returns-in-Some-Some
-returns-in-Some-Some c o n =
+pub returns-in-Some-number_at : goal.returns-in-Some-number_at
+returns-in-Some-number_at c o n =
     let q = c.args.query.now in
     let p = pattern_tree c.args.child.now in
-    is_use-number q p o c.in-Some-Some.var c.in-Some-Some.other (sym c.is_optional.ensures ∙ c.if-is_optional.false)
-    (subst (IsUsed q o) c.in-Some-Some.is-0 n) (subst (IsNumberAt q p) c.in-Some-Some.is-1 c.number_at.ensures)
+    is_use-number q p o c.in-Some.var c.in-Some-number_at.other (sym c.is_optional.ensures ∙ c.if-is_optional.false)
+    (subst (IsUsed q o) c.in-Some.is n) (subst (IsNumberAt q p) c.in-Some-number_at.is c.number_at.ensures)
