@@ -28,7 +28,7 @@ use Rattle.mp_walk.specs.Below.{below_table}
 use Rattle.mp_walk.specs.Course.{Read, entries_by, entries_in, is_comm_token, read_entries, table_read}
 use Rattle.mp_walk.specs.Entries.{entry_read, IsEntryAt}
 use Rattle.mp_walk.specs.Instrs.{Instr, instr_at}
-use Rattle.mp_walk.specs.Levels.{AreLevels, HasSearchIn, IsLevel, innermost_left, read_of}
+use Rattle.mp_walk.specs.Levels.{AreLevels, HasSearchIn, IsLevel, innermost_left, read_of, search_of}
 use Rattle.mp_walk.specs.OpenOnes.{opens}
 use Rattle.mp_walk.specs.TokenMachine.{Open}
 use Rattle.mp_walk.specs.WalkView.{nothing, ReadsAs}
@@ -86,20 +86,20 @@ module _ (t : Table) (fs : List Frame) (u : Trail) (l : Level) (k : NetToken) wh
   pub entries-none : opens t fs l.place ≡ [] → entries_in k (read_of t fs u l) ≡ []
   entries-none e = ap (λ os. elim os as (λ _. List Entry) [
     | [] ↦ []
-    | f ∷ gs ↦ entries_by k f (l.next - 1) (below_table l.search)
+    | f ∷ gs ↦ entries_by k f (l.next - 1) (below_table (search_of l))
   ]) e
 
   -- and where one is, those of the token itself come first
-  pub entries-there : (v : Trail) → HasSearchIn t k (innermost_left (opens t fs l.place)) v l.search → (f : Open)
+  pub entries-there : (v : Trail) → HasSearchIn t k (innermost_left (opens t fs l.place)) v (search_of l) → (f : Open)
       (gs : List Open) → opens t fs l.place ≡ f ∷ gs
-      → entries_in k (read_of t fs u l) ≡ entries_by k f (l.next - 1) [] ++ below_table l.search
+      → entries_in k (read_of t fs u l) ≡ entries_by k f (l.next - 1) [] ++ below_table (search_of l)
   entries-there v h f gs e =
       ap (λ os. elim os as (λ _. List Entry) [
         | [] ↦ []
-        | g ∷ hs ↦ entries_by k g (l.next - 1) (below_table l.search)
+        | g ∷ hs ↦ entries_by k g (l.next - 1) (below_table (search_of l))
       ]) e
-      ∙ entries-parts k f (l.next - 1) (below_table l.search)
-      (none-below t k (innermost_left (opens t fs l.place)) v l.search h)
+      ∙ entries-parts k f (l.next - 1) (below_table (search_of l))
+      (none-below t k (innermost_left (opens t fs l.place)) v (search_of l) h)
 
 -- a token without an entry of its own isn't a commutative application
 pub none-own : (k : NetToken) (f : Open) (way : ℕ) → entries_by k f way [] ≡ [] → is_comm_token k ≡ false

@@ -20,7 +20,7 @@ use Rattle.mp_walk.specs.CourseView.{course_of, course_to_come, IsCourse, IsTake
 use Rattle.mp_walk.specs.CourseView.{IsBroughtOn}
 use Rattle.mp_walk.specs.CourseVisits.{course_visits, visits_behind, IsFewer}
 use Rattle.mp_walk.specs.Instrs.{Instr, instr_at}
-use Rattle.mp_walk.specs.Levels.{read_of, state_of, trail_before, step_cost, HasSearch, AreOfOneToken}
+use Rattle.mp_walk.specs.Levels.{read_of, state_of, trail_before, step_cost, HasSearch, AreOfOneToken, search_of}
 use Rattle.mp_walk.specs.OpenOnes.{opens}
 use Rattle.mp_walk.specs.SoundTokens.{IsSoundToken}
 use Rattle.mp_walk.specs.TokenMachine.{Open}
@@ -82,7 +82,7 @@ pub record IsFirstTaken (c : Course) (n : ℕ) (mark : Mark) (i : Instr) (f : Op
   )
   pub one : AreOfOneToken (new_level c n mark) m
   pub more : m.next ≡ suc way
-  pub none : m.search ≡ None
+  pub none : (search_of m) ≡ None
 
 module _ {c : Course} {n : ℕ} {mark : Mark} {i : Instr} {f : Open} {gs : List Open} (h : IsFirst c n mark i f gs) where
   abbrev l : Level
@@ -162,9 +162,9 @@ module _ {c : Course} {n : ℕ} {mark : Mark} {i : Instr} {f : Open} {gs : List 
         let right : (g : Open) (hs : List Open) → os ≡ g ∷ hs → IsWayValid i.token g (m.next - 1) =
         λ g hs e. subst (IsWayValid i.token g) (sym at-way) (subst (λ o. IsWayValid i.token o way)
         (heads f g gs hs (sym opens-same ∙ e)) k.valid) in
-        let found : HasSearch t i.token os (trail_before c.trail l) m.search =
-        none-search t i.token os (trail_before c.trail l) m.search k.single k.none in
-        let at : IsAtWay m.next m.search = subst (IsAtWay m.next) (sym k.none) tt in
+        let found : HasSearch t i.token os (trail_before c.trail l) (search_of m) =
+        none-search t i.token os (trail_before c.trail l) (search_of m) k.single k.none in
+        let at : IsAtWay m.next (search_of m) = subst (IsAtWay m.next) (sym k.none) tt in
         subst (λ r. IsTakenBehind c.set c.frames.items v c.levels.items r m i) read-same
         (subst (λ fs. IsTakenBehind c.set fs v c.levels.items (read_of t front c.trail l) m i) all
         (taken c.set c.frames.items c.trail c.levels.items l standing i h.held v m k.one over step right found at))

@@ -10,13 +10,15 @@ use Rattle.std.specs.List.Sorted.{IsPermutation, IsSorted, IsStrictlySortedBy}
 use Rattle.std.specs.Ordering.{eq_by_cmp, is_ne, nat_cmp, ordering_then}
 use Rattle.std.specs.declared.cmp.Ordering.{Ordering}
 use Rattle.std.specs.declared.cmp.Ordering.TheVariants.{Less, Equal, Greater}
-use Rattle.std.proofs.lemmas.List.{length-map, drop_all, map-id}
+use Rattle.std.proofs.lemmas.List.{length-map, drop_all}
+use Rattle.std.proofs.lemmas.List.Kept.{Contains-from_dedup}
+use Rattle.std.proofs.lemmas.List.Sorted.{Contains-permutation, IsPermutation-sym}
 use Rattle.std.proofs.lemmas.Cmp.{lists_total, nat_cmp_total, nat_list_cmp_total, tied_itself}
 use Rattle.mp_term.specs.Listing.{In, IsListing}
 use Rattle.mp_term.specs.OrderLaws.{both_equal, nat_same, nats_same}
 use Rattle.mp_term.specs.Signature.{Sig}
 use Rattle.mp_term.specs.Tree.{Tree}
-use Rattle.mp_term.proofs.ListingLaws.{contains-from_in, in-from_contains}
+use Rattle.mp_term.proofs.ListingLaws.{all_in, contains-from_in, in-from_contains}
 use Rattle.mp_term.proofs.SearchLaws.{all-from_in, from_in-append, in-left, in-right}
 use Rattle.mp_pattern.proofs.Distinct.{IsListing-dedup}
 use Rattle.mp_pattern.specs.Admission.{Rule}
@@ -27,6 +29,7 @@ use Rattle.mp_subst.proofs.Equality.{equal-subst_cmp}
 use Rattle.mp_table.specs.Table as tables
 use Rattle.mp_walk.specs.Found.{found_cmp, names_cmp, names_of}
 use Rattle.mp_walk.specs.FoundOrder.{found_cmp_total}
+use Rattle.mp_walk.specs.Ranked.{Ranked, ranked_cmp, pairs_of, AreOver}
 use Rattle.mp_walk.specs.RankedView.{kept_binding, kept_name, ranked_pair}
 use Rattle.mp_walk.specs.declared.ranked.Kept.{Kept}
 
@@ -160,13 +163,18 @@ module _ (sig : Sig) (rules : List Rule) (t : Tree) where
 -- ---- lists of pairs
 
 -- pairs that are sorted, each once, are in order
-pub listing-dedup : (ps qs : List Pair) → IsPermutation ps qs → IsSorted found_cmp qs
-    → IsListing found_cmp (Contains ps) (dedup (eq_by_cmp found_cmp) qs)
-listing-dedup ps qs moved sorted =
-    let once = dedup (eq_by_cmp found_cmp) qs in
-    subst (IsListing found_cmp (Contains ps)) (map-id once)
-    (subst (λ l. IsListing found_cmp (Contains l) (map (λ (p : Pair). p) once)) (map-id ps)
-    (IsListing-dedup found_cmp found_cmp_total found_same (λ p. p) ps qs moved sorted))
+pub listing-dedup : (rs qs : List Ranked) → IsPermutation rs qs → IsSorted ranked_cmp qs
+    → IsListing found_cmp (Contains (pairs_of rs)) (pairs_of (dedup (eq_by_cmp ranked_cmp) qs))
+listing-dedup = IsListing-dedup found_cmp found_cmp_total found_same (λ r. r.pair)
+
+-- and over the same table
+pub AreOver-dedup : (t : tables.Table) (rs qs : List Ranked) → IsPermutation rs qs → AreOver t rs
+    → AreOver t (dedup (eq_by_cmp ranked_cmp) qs)
+AreOver-dedup t rs qs moved over =
+    let once = dedup (eq_by_cmp ranked_cmp) qs in
+    all-from_in (λ r. r.table ≡ t) once (λ r i. all_in (λ r. r.table ≡ t) rs r over
+    (in-from_contains r rs (Contains-permutation qs rs r (IsPermutation-sym rs qs moved)
+    (Contains-from_dedup (eq_by_cmp ranked_cmp) qs r (contains-from_in r once i)))))
 
 -- one more pair behind lists of the same pairs
 pub contains-pushed : (xs ys : List Pair) (q : Pair) → ((p : Pair) → Contains ys p ↔ Contains xs p)

@@ -13,6 +13,7 @@ use Rattle.mp_walk.specs.Chained.{IsChained, IsOwed}
 use Rattle.mp_walk.specs.CourseView.{reads_of, course_of, course_to_come, AreChained, LeadsTo, IsCourse}
 use Rattle.mp_walk.specs.CourseView.{StandsBehind}
 use Rattle.mp_walk.specs.Instrs.{instr_at}
+use Rattle.mp_walk.specs.Levels.{search_of}
 use Rattle.mp_walk.specs.Levels.{read_of, state_of, trail_before, HasRoom, HasSearch, HasSearchIn, innermost_left}
 use Rattle.mp_walk.specs.Levels.{IsLevel, AreLevels}
 use Rattle.mp_walk.specs.Below.{below_table, below_ahead, IsAtWay}
@@ -122,7 +123,7 @@ module _ (c : Course) (C : IsCourse c) where
         ∙ ap (state_of c.set.table.now c.frames.items c.place) whole
 
     -- it is read as one that isn't
-    new-read : l.next ≡ 0 → l.search ≡ None
+    new-read : l.next ≡ 0 → search_of l ≡ None
         → read_of c.set.table.now c.frames.items c.trail l ≡ unread n (course_of c).present
     new-read next search =
         let t = c.set.table.now in
@@ -144,7 +145,7 @@ module _ (c : Course) (C : IsCourse c) where
         ∙ ap (λ s. record { instr = n; state = s; next = l.next; below = []; ahead = [] }) new-state
         ∙ ap (λ m. record { instr = n; state = p; next = m; below = []; ahead = [] }) next
 
-    pub last-new : l.next ≡ 0 → l.search ≡ None
+    pub last-new : l.next ≡ 0 → search_of l ≡ None
         → course_to_come c ≡ Of c.levels.items (read_of c.set.table.now c.frames.items c.trail l)
     last-new next search =
         let sig = c.set.sig.now in
@@ -156,7 +157,7 @@ module _ (c : Course) (C : IsCourse c) where
         (opens-ordered sig c.set.table.now c.frames.items C.frames c.place C.place)
         ∙ ap (Of c.levels.items) (sym (new-read next search))
 
-    pub visits-new : l.next ≡ 0 → l.search ≡ None → course_visits c
+    pub visits-new : l.next ≡ 0 → search_of l ≡ None → course_visits c
         ≡ token_visits c (read_of c.set.table.now c.frames.items c.trail l)
     visits-new next search =
         let sig = c.set.sig.now in
@@ -184,13 +185,13 @@ module _ (c : Course) (C : IsCourse c) where
         ∙ subst (λ o. LeadsTo C.setting.walkable.before o path) e h)
 
     -- all of its steps are left
-    pub new-owed : l.next ≡ 0 → l.search ≡ None
+    pub new-owed : l.next ≡ 0 → search_of l ≡ None
         → IsOwed c.set.sig.now c.set.code.now.instrs (read_of c.set.table.now c.frames.items c.trail l)
     new-owed next search = subst (IsOwed c.set.sig.now c.set.code.now.instrs) (sym (new-read next search))
         (λ i at r m. subst (In r) (sym (unread-steps c.set.sig.now c.set.code.now.instrs C.setting.walkable i.token n
         (course_of c).present (opens-ordered c.set.sig.now c.set.table.now c.frames.items C.frames c.place C.place))) m)
 
-    pub new-level : l.frames ≡ length c.frames.items → l.search ≡ None
+    pub new-level : l.frames ≡ length c.frames.items → search_of l ≡ None
         → IsLevel c.set c.frames.items c.trail l
     new-level frames search = record {
       instr = subst (λ m. IsSome (instr_at c.set.code.now.instrs m)) (sym instr) is-there;
@@ -219,7 +220,7 @@ module _ (c : Course) (C : IsCourse c) where
         (sym mark) C.levels)
 
     -- it stands behind the levels
-    pub new-standing : l.frames ≡ length c.frames.items → l.next ≡ 0 → l.search ≡ None
+    pub new-standing : l.frames ≡ length c.frames.items → l.next ≡ 0 → search_of l ≡ None
         → StandsBehind c.set c.frames.items c.trail c.levels.items l
     new-standing frames next search = record {
       setting = C.setting;

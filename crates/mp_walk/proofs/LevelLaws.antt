@@ -7,6 +7,7 @@ use Rattle.mp_walk.specs.Rooms.{target_room}
 use Rattle.mp_walk.specs.declared.frame.Frame.{Frame}
 use Rattle.mp_walk.specs.declared.level.Level.{Level}
 use Rattle.mp_walk.specs.declared.setting.Setting.{Setting}
+use Rattle.mp_walk.specs.Levels.{search_of}
 use Rattle.mp_walk.specs.Levels.{read_of, trail_before, HasRoom, first_frames, first_mark, IsLevel, AreLevels}
 use Rattle.mp_walk.specs.Levels.{HasSearch}
 use Rattle.mp_walk.specs.Below.{below_table, below_ahead}
@@ -89,8 +90,8 @@ module _ (x : Setting) where
           room = subst (λ os. HasRoom (target_room x.code.now.instrs (Some l.instr)) os (trail_before v l)) (sym p)
               (subst (HasRoom (target_room x.code.now.instrs (Some l.instr)) (opens x.table.now fs l.place)) (sym t)
               h.room);
-          searched = λ i e. subst (λ os. HasSearch x.table.now i.token os (trail_before v l) l.search) (sym p)
-              (subst (λ w. HasSearch x.table.now i.token (opens x.table.now fs l.place) w l.search) (sym t)
+          searched = λ i e. subst (λ os. HasSearch x.table.now i.token os (trail_before v l) (search_of l)) (sym p)
+              (subst (λ w. HasSearch x.table.now i.token (opens x.table.now fs l.place) w (search_of l)) (sym t)
               (h.searched i e));
           way = h.way;
         }
@@ -105,15 +106,15 @@ module _ (x : Setting) where
           instr = l.instr;
           state = record { open_ones = os; trail = numbered_subst x.table.now (trail_before v l).stack };
           next = l.next;
-          below = below_table l.search;
-          ahead = below_ahead l.search (numbered_subst x.table.now (trail_before v l).stack);
+          below = below_table (search_of l);
+          ahead = below_ahead (search_of l) (numbered_subst x.table.now (trail_before v l).stack);
         }) p
         ∙ ap (λ w. record {
           instr = l.instr;
           state = record { open_ones = opens x.table.now fs l.place; trail = numbered_subst x.table.now w.stack };
           next = l.next;
-          below = below_table l.search;
-          ahead = below_ahead l.search (numbered_subst x.table.now w.stack);
+          below = below_table (search_of l);
+          ahead = below_ahead (search_of l) (numbered_subst x.table.now w.stack);
         }) t
 
     pub levels-kept : (ls : List Level) → AreLevels x fs u ls places marks

@@ -23,6 +23,7 @@ use Rattle.mp_walk.specs.Below.{IsAbove, IsSearch, IsStepBelow, cost_of}
 use Rattle.mp_walk.specs.Course.{IsWayValid, way_cost}
 use Rattle.mp_walk.specs.declared.frame.Frame.{Frame}
 use Rattle.mp_walk.specs.declared.level.Level.{Level}
+use Rattle.mp_walk.specs.Levels.{search_of}
 use Rattle.mp_walk.specs.Levels.{HasSearchIn, IsSearching, read_of, state_of, trail_before, search_cost, step_cost}
 use Rattle.mp_walk.specs.Levels.{innermost_left}
 use Rattle.mp_walk.specs.SoundTokens.{IsSoundComm}
@@ -137,8 +138,8 @@ step-ended sig t fs k u v l m h false s r =
             instr = l.instr;
             state = state_of t fs l.place w;
             next = l.next;
-            below = below_table l.search;
-            ahead = below_ahead l.search (numbered_subst t w.stack);
+            below = below_table (search_of l);
+            ahead = below_ahead (search_of l) (numbered_subst t w.stack);
           })) back ∙ s)),
     )
 

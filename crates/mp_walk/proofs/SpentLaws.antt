@@ -16,7 +16,7 @@ use Rattle.mp_walk.specs.Course.{Read, unread, reads_to_come, table_read, to_com
 use Rattle.mp_walk.specs.CourseView.{reads_of, course_of, course_to_come, LeadsTo, IsCourse, StandsBehind, IsLeftBehind}
 use Rattle.mp_walk.specs.CourseVisits.{course_visits, visits_from, visits_behind}
 use Rattle.mp_walk.specs.Instrs.{Instr, instr_at}
-use Rattle.mp_walk.specs.Levels.{read_of, trail_before, HasRoom}
+use Rattle.mp_walk.specs.Levels.{read_of, trail_before, HasRoom, search_of}
 use Rattle.mp_walk.specs.OpenOnes.{opens, open_of}
 use Rattle.mp_walk.specs.TokenMachine.{begin_state, Open}
 use Rattle.mp_walk.specs.Trails.{numbered_subst, IsTrailOf}
@@ -114,7 +114,7 @@ module _ (x : Setting) (fs : List Frame) (u : Trail) (ls : List Level) (l : Leve
   same = cut-cut (length_at l.mark) (length_at l.mark) u (omega arith) S.marks
 
   pub spent-left : (i : Instr) → instr_at x.code.now.instrs l.instr ≡ Some i → IsSpentIn x fs l.place i l.next
-      → l.search ≡ None → IsTrailOf x.table.now (trail_before u l)
+      → (search_of l) ≡ None → IsTrailOf x.table.now (trail_before u l)
       → IsLeftBehind x (take l.frames fs) (trail_before u l) ls l i
   spent-left i held none search h =
       left x fs u ls l S i held l (record { instr = refl; place = refl; frames = refl; mark = refl }) h

@@ -22,6 +22,7 @@ use Rattle.mp_walk.specs.Chained.{IsChained, IsOwed}
 use Rattle.mp_walk.specs.CourseView.{AreChained, StandsBehind, IsLeftBehind, IsTakenBehind}
 use Rattle.mp_walk.specs.Instrs.{Instr, instr_at}
 use Rattle.mp_walk.specs.Below.{IsAtWay}
+use Rattle.mp_walk.specs.Levels.{search_of}
 use Rattle.mp_walk.specs.Levels.{read_of, state_of, trail_before, HasRoom, HasSearch, step_cost, search_cost}
 use Rattle.mp_walk.specs.Levels.{innermost_left, opens_load, IsLevel, AreLevels, AreOfOneToken}
 use Rattle.mp_walk.specs.OpenOnes.{IsPlaceBelow, AreFrames, opens}
@@ -81,8 +82,8 @@ module _ (x : Setting) (fs : List Frame) (u : Trail) (ls : List Level) (l : Leve
     constants = constants-held x.table.now x.code.now.instrs l.instr i held S.setting.held
 
     pub front-search : HasSearch x.table.now i.token (opens x.table.now (take l.frames fs) l.place) (trail_before u l)
-        l.search
-    front-search = subst (λ os. HasSearch x.table.now i.token os (trail_before u l) l.search)
+        (search_of l)
+    front-search = subst (λ os. HasSearch x.table.now i.token os (trail_before u l) (search_of l))
         (sym (front-opens l.place S.last.place)) (S.last.searched i held)
 
     pub search-spare : search_cost i.token (innermost_left (opens x.table.now (take l.frames fs) l.place))
@@ -126,8 +127,8 @@ module _ (x : Setting) (fs : List Frame) (u : Trail) (ls : List Level) (l : Leve
 
     module _ (m : Level) (one : AreOfOneToken l m)
         (found : (i : Instr) → instr_at x.code.now.instrs l.instr ≡ Some i
-        → HasSearch x.table.now i.token (opens x.table.now (take l.frames fs) l.place) (trail_before u l) m.search)
-        (way : IsAtWay m.next m.search) where
+        → HasSearch x.table.now i.token (opens x.table.now (take l.frames fs) l.place) (trail_before u l) (search_of m))
+        (way : IsAtWay m.next (search_of m)) where
       pub kept-levels : AreLevels x (take l.frames fs) v ls m.frames
           (length_at m.mark)
       kept-levels =
@@ -154,8 +155,9 @@ module _ (x : Setting) (fs : List Frame) (u : Trail) (ls : List Level) (l : Leve
                 (opens x.table.now (take l.frames fs) l.place)
                 (cut (length_at k) v)) (sym one.mark) h.room));
             searched = λ i e. subst (λ o. HasSearch x.table.now i.token (opens x.table.now (take l.frames fs) o)
-                (trail_before v m) m.search) (sym one.place)
-                (subst (λ w. HasSearch x.table.now i.token (opens x.table.now (take l.frames fs) l.place) w m.search)
+                (trail_before v m) (search_of m)) (sym one.place)
+                (subst (λ w. HasSearch x.table.now i.token (opens x.table.now (take l.frames fs) l.place) w
+                (search_of m))
                 (sym same ∙ ap (λ k. cut (length_at k) v) (sym one.mark))
                 (found i (ap (instr_at x.code.now.instrs) (sym one.instr) ∙ e)));
             way = way;
@@ -217,8 +219,8 @@ module _ (x : Setting) (fs : List Frame) (u : Trail) (ls : List Level) (l : Leve
       (read_of x.table.now (take l.frames fs) v m) (numbered_subst x.table.now v.stack)
       → ((f : Open) (gs : List Open) → opens x.table.now (take l.frames fs) l.place ≡ f ∷ gs
       → IsWayValid i.token f (m.next - 1))
-      → HasSearch x.table.now i.token (opens x.table.now (take l.frames fs) l.place) (trail_before u l) m.search
-      → IsAtWay m.next m.search
+      → HasSearch x.table.now i.token (opens x.table.now (take l.frames fs) l.place) (trail_before u l) (search_of m)
+      → IsAtWay m.next (search_of m)
       → IsTakenBehind x (take l.frames fs) v ls (read_of x.table.now (take l.frames fs) u l) m i
   taken i held v m one h step valid search way =
       let same = lies-back (step_cost i.token (opens x.table.now (take l.frames fs) l.place) (m.next - 1)) v h in
@@ -232,8 +234,8 @@ module _ (x : Setting) (fs : List Frame) (u : Trail) (ls : List Level) (l : Leve
       (numbered_subst x.table.now v.stack) front-owed held one.instr (sym state) step in
       record {
         standing = kept-standing v same m one (λ j e. subst (λ k. HasSearch x.table.now k.token
-            (opens x.table.now (take l.frames fs) l.place) (trail_before u l) m.search) (some-same i j (sym held ∙ e))
-            search) way h.trail own.1;
+            (opens x.table.now (take l.frames fs) l.place) (trail_before u l) (search_of m))
+            (some-same i j (sym held ∙ e)) search) way h.trail own.1;
         instr = ap (instr_at x.code.now.instrs) one.instr ∙ held;
         same = sym one.instr;
         state = state;
@@ -253,8 +255,8 @@ module _ (x : Setting) (fs : List Frame) (u : Trail) (ls : List Level) (l : Leve
   pub left : (i : Instr) → instr_at x.code.now.instrs l.instr ≡ Some i → (m : Level) → AreOfOneToken l m
       → IsTrailOf x.table.now (trail_before u l)
       → steps_left x.sig.now i.token (read_of x.table.now (take l.frames fs) (trail_before u l) m) ≡ []
-      → HasSearch x.table.now i.token (opens x.table.now (take l.frames fs) l.place) (trail_before u l) m.search
-      → IsAtWay m.next m.search
+      → HasSearch x.table.now i.token (opens x.table.now (take l.frames fs) l.place) (trail_before u l) (search_of m)
+      → IsAtWay m.next (search_of m)
       → IsLeftBehind x (take l.frames fs) (trail_before u l) ls m i
   left i held m one h none search way =
       let long : length (trail_before u l).stack ≡ length_at l.mark =
@@ -263,8 +265,9 @@ module _ (x : Setting) (fs : List Frame) (u : Trail) (ls : List Level) (l : Leve
       cut-cut (length_at l.mark) (length_at l.mark) u (omega arith) S.marks in
       record {
         standing = kept-standing (trail_before u l) same m one (λ j e. subst (λ k. HasSearch x.table.now k.token
-            (opens x.table.now (take l.frames fs) l.place) (trail_before u l) m.search) (some-same i j (sym held ∙ e))
-            search) way h (owed-none x.sig.now x.code.now.instrs S.setting.walkable.before i
+            (opens x.table.now (take l.frames fs) l.place) (trail_before u l) (search_of m))
+            (some-same i j (sym held ∙ e)) search) way h
+            (owed-none x.sig.now x.code.now.instrs S.setting.walkable.before i
             (read_of x.table.now (take l.frames fs) (trail_before u l) m)
             (ap (instr_at x.code.now.instrs) one.instr ∙ held) none);
         instr = ap (instr_at x.code.now.instrs) one.instr ∙ held;

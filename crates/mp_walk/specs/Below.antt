@@ -1,7 +1,8 @@
 -- What a walk does below a commutative application, in whose operation around it the term of a rank stands first.
 use Rattle.std.specs.Prelude.{◌≡◌, ◌≤◌, ◌<◌, ◌+◌, ◌-◌, ◌*◌, ⊤, ℕ, Bool, true, List, [], ◌∷◌, ◌++◌, drop, length, map}
 use Rattle.std.specs.Prelude.{slice_get, nat_eq}
-use Rattle.std.specs.Prelude.{Option, Some, None, MatchBool, IsSome, if◌then◌else◌}
+use Rattle.std.specs.Prelude.{Box, Option, Some, None, MatchBool, IsSome, if◌then◌else◌}
+use Rattle.std.specs.Global.{Global}
 use Rattle.std.specs.List.{AllByRecursion}
 use Rattle.mp_term.specs.Normal.{IsNormal}
 use Rattle.mp_term.specs.NormalTest.{has_head}
@@ -35,6 +36,11 @@ pattern_of b = b.plan.now.plan.pattern
 -- the term that stands first
 abbrev pub term_of : Below → Tree
 term_of b = term_at b.table.now b.rank
+
+-- the search that is kept in a box
+abbrev pub unboxed : Option (Box CommSearch Global) → Option CommSearch
+unboxed None = None
+unboxed (Some b) = Some b.value
 
 -- the table below the item at which a search stands, and the items that come after it
 abbrev pub below_table : Option CommSearch → fits.Table

@@ -11,7 +11,7 @@ use Rattle.mp_ac.specs.Asked.{cost}
 use Rattle.mp_ac.specs.CommPlan.{nodes_below}
 use Rattle.mp_ac.specs.Search.{IsNumberedSearch, IsOver, mark_of}
 use Rattle.mp_pattern.specs.NetTokens.{NetToken, comm_token}
-use Rattle.mp_walk.specs.Below.{below_table, below_ahead, IsAtWay}
+use Rattle.mp_walk.specs.Below.{below_table, below_ahead, unboxed, IsAtWay}
 use Rattle.mp_walk.specs.declared.frame.Frame.{Frame}
 use Rattle.mp_walk.specs.declared.level.Level.{Level}
 use Rattle.mp_walk.specs.declared.setting.Setting.{Setting}
@@ -21,6 +21,10 @@ use Rattle.mp_walk.specs.OpenOnes.{opens, IsPlaceBelow}
 use Rattle.mp_walk.specs.Rooms.{target_room}
 use Rattle.mp_walk.specs.TokenMachine.{Open, State}
 use Rattle.mp_walk.specs.Trails.{numbered_subst}
+
+-- the search of a level
+abbrev pub search_of : Level → Option CommSearch
+search_of l = unboxed l.search
 
 -- the state where the open operations are those from a place outward
 abbrev pub state_of : Table → List Frame → Option ℕ → Trail → State
@@ -36,8 +40,8 @@ read_of t fs u l = record {
   instr = l.instr;
   state = state_of t fs l.place (trail_before u l);
   next = l.next;
-  below = below_table l.search;
-  ahead = below_ahead l.search (numbered_subst t (trail_before u l).stack);
+  below = below_table (search_of l);
+  ahead = below_ahead (search_of l) (numbered_subst t (trail_before u l).stack);
 }
 
 -- the nodes of the terms that are left to the open operations
@@ -97,8 +101,8 @@ module _ (x : Setting) (fs : List Frame) (u : Trail) where
     pub place : IsPlaceBelow l.frames l.place
     pub room : HasRoom (target_room x.code.now.instrs (Some l.instr)) (opens x.table.now fs l.place) (trail_before u l)
     pub searched : (i : Instr) → instr_at x.code.now.instrs l.instr ≡ Some i
-        → HasSearch x.table.now i.token (opens x.table.now fs l.place) (trail_before u l) l.search
-    pub way : IsAtWay l.next l.search
+        → HasSearch x.table.now i.token (opens x.table.now fs l.place) (trail_before u l) (search_of l)
+    pub way : IsAtWay l.next (search_of l)
 
   -- what holds of levels: the numbers of places and the lengths of the trail rise
   abbrev pub AreLevels : List Level → ℕ → ℕ → Type 0

@@ -25,7 +25,9 @@ pub mod WalkView
 pub mod WalkCode
 pub mod WalkInside
 pub mod Found
+pub mod FindsView
 pub mod FoundOrder
 pub mod Chained
 pub mod NamedItems
+pub mod Ranked
 pub mod RankedView

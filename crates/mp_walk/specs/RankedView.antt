@@ -6,6 +6,7 @@ use Rattle.mp_pattern.specs.Value.{Binding}
 use Rattle.mp_table.specs.Table.{Table}
 use Rattle.mp_table.specs.declared.rank.Rank.{Rank}
 use Rattle.mp_subst.specs.Bound.{Bound, bound_from, bound_of, value_in, IsBoundIn}
+use Rattle.mp_walk.specs.Ranked.{Ranked}
 use Rattle.mp_walk.specs.declared.ranked.Kept.{Kept}
 use Rattle.mp_walk.specs.declared.ranked.Ranks.{Ranks}
 use Rattle.mp_walk.specs.declared.ranked.Ranks.TheVariants.{One, Many}
@@ -35,6 +36,10 @@ shown_binding b = record { name = b.name.now; value = value_in b.table.now (boun
 -- the number of a rule with the substitution of values in the table
 abbrev pub ranked_pair : ℕ → Table → List Kept → Pair
 ranked_pair n t ks = (n, map (kept_binding t) ks)
+
+-- and with the table
+abbrev pub ranked : ℕ → Table → List Kept → Ranked
+ranked n t ks = record { table = t; pair = ranked_pair n t ks }
 
 -- the values are ones of the table
 abbrev pub AreKept : Table → List Kept → Type 0

@@ -8,7 +8,7 @@ ghost use Rattle.mp_ac.specs.Args.{args_of};
 ghost use Rattle.mp_ac.specs.CommRoom.{IsOfTable, IsRoomFor};
 ghost use Rattle.mp_ac.specs.Search.{ahead};
 ghost use Rattle.mp_walk.specs.Below.{IsAbove, IsBelow, IsNextItem, IsSearch, IsSearchOf, IsStepBelow, cost_of};
-ghost use Rattle.mp_walk.specs.Below.{left_steps, term_of};
+ghost use Rattle.mp_walk.specs.Below.{left_steps, term_of, unboxed};
 ghost use Rattle.mp_walk.specs.TokenMachine.{Open};
 ghost use Rattle.mp_walk.specs.Below.{IsAtWay, IsWayOf, items_by_way, taken_by};
 ghost use Rattle.mp_walk.specs.Trails.{IsTrailOf, numbered_subst};
@@ -58,11 +58,11 @@ fn take_room(
 // Gives the room of a search back.
 fn give_back<'a>(
     below: Below<'a>,
-    search: &mut Option<CommSearch<'a>>,
+    search: &mut Option<Box<CommSearch<'a>>>,
     rooms: &mut Vec<CommRoom>,
     trail: &Trail,
 ) -> Result<(), Memory>
-    requires search { IsSearch below trail.now search.old }
+    requires search { IsSearch below trail.now (unboxed search.old) }
     requires rooms { AllByRecursion (IsOfTable below.table.now) rooms.old.items }
     ensures rooms { IfOk result (λ _. AllByRecursion (IsOfTable below.entry.table.now) rooms.new.items) }
     ensures search { IfOk result (λ _. search.new ≡ None) }
@@ -70,7 +70,7 @@ fn give_back<'a>(
     let _ = below;
     let _ = trail;
     if let Some(search) = search.take() {
-        rooms.push(search.into_room())?;
+        rooms.push(Box::into_inner(search).into_room())?;
     }
     Ok(())
 }
@@ -79,14 +79,14 @@ fn give_back<'a>(
 fn next_item<'a>(
     below: Below<'a>,
     mark: Mark,
-    search: &mut Option<CommSearch<'a>>,
+    search: &mut Option<Box<CommSearch<'a>>>,
     trail: &mut Trail,
 ) -> bool
-    requires search { IsSearch below (cut (length_at mark) trail.old) search.old }
+    requires search { IsSearch below (cut (length_at mark) trail.old) (unboxed search.old) }
     requires above { IsAbove below (length_at mark) (cut (length_at mark) trail.old) trail.old }
     ensures found { let u = cut (length_at mark) trail.old in
-        IsNextItem result search.old search.new u trail.new below.entry.table.now }
-    ensures search { IsSearch below.entry (cut (length_at mark) trail.old) search.new }
+        IsNextItem result (unboxed search.old) (unboxed search.new) u trail.new below.entry.table.now }
+    ensures search { IsSearch below.entry (cut (length_at mark) trail.old) (unboxed search.new) }
     ensures above { IsAbove below.entry (length_at mark) (cut (length_at mark) trail.old) trail.new }
     ensures spare { IsTrue result → (cut (length_at mark) trail.old).spare ≤ trail.new.spare + cost_of below.entry }
 {
@@ -148,27 +148,27 @@ pub(crate) fn step_below<'a>(
     below: Below<'a>,
     mark: Mark,
     next: &mut usize,
-    search: &mut Option<CommSearch<'a>>,
+    search: &mut Option<Box<CommSearch<'a>>>,
     rooms: &mut Vec<CommRoom>,
     trail: &mut Trail,
 ) -> Result<bool, Memory>
     requires below { IsBelow below }
-    requires search { IsSearch below (cut (length_at mark) trail.old) search.old }
-    requires way { IsAtWay next.old search.old }
+    requires search { IsSearch below (cut (length_at mark) trail.old) (unboxed search.old) }
+    requires way { IsAtWay next.old (unboxed search.old) }
     requires above { IsAbove below (length_at mark) (cut (length_at mark) trail.old) trail.old }
     requires spare { cost_of below ≤ (cut (length_at mark) trail.old).spare }
     requires rooms { AllByRecursion (IsOfTable below.table.now) rooms.old.items }
-    ensures step { IfOk result (λ found. IsStepBelow below.entry found (next.old, search.old) (next.new, search.new)
-        (cut (length_at mark) trail.old) trail.new) }
+    ensures step { IfOk result (λ found. IsStepBelow below.entry found (next.old, unboxed search.old)
+        (next.new, unboxed search.new) (cut (length_at mark) trail.old) trail.new) }
     ensures next { IfOk result (λ found. IsTrue found → (1 ≤ next.new) × (next.new ≤ 2)) }
-    ensures way { IfOk result (λ _. IsAtWay next.new search.new) }
-    ensures search { IfOk result (λ _. IsSearch below.entry (cut (length_at mark) trail.old) search.new) }
+    ensures way { IfOk result (λ _. IsAtWay next.new (unboxed search.new)) }
+    ensures search { IfOk result (λ _. IsSearch below.entry (cut (length_at mark) trail.old) (unboxed search.new)) }
     ensures above { IfOk result (λ _.
         IsAbove below.entry (length_at mark) (cut (length_at mark) trail.old) trail.new) }
     ensures spare { IfOk result (λ found.
         IsTrue found → (cut (length_at mark) trail.old).spare ≤ trail.new.spare + cost_of below.entry) }
     ensures ended { IfOk result (λ found. IsFalse found → (f : Open) (gs : List Open)
-        → f.left ≡ term_of below.entry ∷ drop 1 f.left → left_steps below.entry f gs next.new search.new
+        → f.left ≡ term_of below.entry ∷ drop 1 f.left → left_steps below.entry f gs next.new (unboxed search.new)
         (numbered_subst below.entry.table.now (cut (length_at mark) trail.old).stack) ≡ []) }
     ensures back { IfOk result (λ found. IsFalse found → trail.new ≡ cut (length_at mark) trail.old) }
     ensures rooms { IfOk result (λ _. AllByRecursion (IsOfTable below.entry.table.now) rooms.new.items) }
@@ -186,7 +186,8 @@ pub(crate) fn step_below<'a>(
         ) else {
             return Ok(false);
         };
-        *search = Some(begin(alloc, below, way, rooms, trail)?);
+        let begun = begin(alloc, below, way, rooms, trail)?;
+        *search = Some(Box::new(alloc, begun)?);
         *next = way + 1;
     }
     Ok(true)

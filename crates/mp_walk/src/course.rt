@@ -296,12 +296,12 @@ impl<'a> Course<'a> {
             return;
         };
         let Setting { code, table, .. } = self.set;
-        let first = self.frames[place].first(table);
+        let first = self.frames[place].first_name(table);
         while let Some(number) = self.target {
             let Some(instr) = code.instr(number) else {
                 unreachable!()
             };
-            if !is_other_symbol(table, first, &instr.token) {
+            if !is_other_symbol(first, &instr.token) {
                 return;
             }
             self.target = instr.over;

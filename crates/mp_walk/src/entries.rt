@@ -7,7 +7,7 @@ ghost use Rattle.mp_table.specs.Table.{HasRanks};
 ghost use Rattle.mp_ac.specs.Search.{IsOver, item_table};
 ghost use Rattle.mp_walk.specs.Course.{entries_by, entries_in, table_read};
 ghost use Rattle.mp_walk.specs.Entries.{entry_read, IsEntryAt};
-ghost use Rattle.mp_walk.specs.Levels.{AreLevels, HasSearch, read_of, trail_before};
+ghost use Rattle.mp_walk.specs.Levels.{AreLevels, HasSearch, read_of, search_of, trail_before};
 ghost use Rattle.mp_walk.specs.OpenOnes.{IsFrame, IsPlaceBelow, AreFrames, open_of, opens};
 ghost use Rattle.mp_walk.specs.Walkable.{Path};
 
@@ -74,7 +74,7 @@ fn entry_in<'t>(
     requires frames { (sig : Sig) × AreFrames sig table.now frames.now }
     requires place { IsPlaceBelow (length frames.now) level.now.place }
     requires search { (u : plain_trail) × HasSearch table.now (net_token token.now)
-        (opens table.now frames.now level.now.place) (trail_before u level.now) level.now.search }
+        (opens table.now frames.now level.now.place) (trail_before u level.now) (search_of level.now) }
     ensures { (u : plain_trail) →
         let entries = entries_in (net_token token.now) (read_of table.now frames.now u level.now) in
         MatchResult result (λ e. IsEntryAt table.now entries node (e.0.now, e.1))
@@ -100,7 +100,7 @@ fn entry_in<'t>(
 pub(crate) fn entry_among<'t>(
     set: Setting<'t>,
     frames: &'t [Frame],
-    levels: &'t [Level<'t>],
+    levels: &'t [Level<'_>],
     node: u32,
 ) -> Option<(&'t [Rank], bool)>
     requires frames { AreFrames set.sig.now set.table.now frames.now }

@@ -3,9 +3,12 @@ ghost use Rattle.std.specs.Prelude.{◌≡◌, ◌↔◌, [], ◌∷◌, ◌++�
 ghost use Rattle.std.specs.List.Sorted.{IsStrictlySortedBy};
 ghost use Rattle.mp_term.specs.Listing.{IsListing};
 ghost use Rattle.mp_pattern.specs.Lists as lists;
+ghost use Rattle.mp_table.specs.Table as tables;
 ghost use Rattle.mp_walk.specs.Found.{found_cmp};
+ghost use Rattle.mp_walk.specs.Ranked.{pairs_of, AreOver};
 
 use crate::ranked::RankedPair;
+use mp_table::Table;
 use mp_term::Memory;
 use std::alloc::Global;
 use std::marker::Model;
@@ -15,8 +18,9 @@ const FEW: usize = 64;
 
 // Puts the pairs in order, each once; they are so where they ascend.
 fn compact(found: &mut Vec<RankedPair<'_>>, ascending: bool)
-    requires { IsTrue ascending → IsStrictlySortedBy found_cmp found.old.items }
-    ensures { IsListing found_cmp (Contains found.old.items) found.new.items }
+    requires { IsTrue ascending → IsStrictlySortedBy found_cmp (pairs_of found.old.items) }
+    ensures pairs { IsListing found_cmp (Contains (pairs_of found.old.items)) (pairs_of found.new.items) }
+    ensures over { (t : tables.Table) → AreOver t found.old.items → AreOver t found.new.items }
 {
     if !ascending {
         found.sort_unstable();
@@ -27,7 +31,8 @@ fn compact(found: &mut Vec<RankedPair<'_>>, ascending: bool)
 // Where there are so many pairs those that stand twice are dropped. It answers how many may be kept from now on, which
 // are twice as many as are left, and more.
 fn make_room(found: &mut Vec<RankedPair<'_>>, most: usize) -> usize
-    ensures { (p : lists.Pair) → Contains found.new.items p ↔ Contains found.old.items p }
+    ensures pairs { (p : lists.Pair) → Contains (pairs_of found.new.items) p ↔ Contains (pairs_of found.old.items) p }
+    ensures over { (t : tables.Table) → AreOver t found.old.items → AreOver t found.new.items }
 {
     if found.len() < most {
         return most;
@@ -38,17 +43,19 @@ fn make_room(found: &mut Vec<RankedPair<'_>>, most: usize) -> usize
 
 // The pair comes after the last one, where there is one.
 fn follows(found: &[RankedPair<'_>], pair: &RankedPair<'_>) -> bool
-    ensures { IsTrue result → IsStrictlySortedBy found_cmp found.now
-        → IsStrictlySortedBy found_cmp (found.now ++ pair.now ∷ []) }
+    ensures { IsTrue result → IsStrictlySortedBy found_cmp (pairs_of found.now)
+        → IsStrictlySortedBy found_cmp (pairs_of found.now ++ pair.now.pair ∷ []) }
 {
     let count = found.len();
     count == 0 || found[count - 1].cmp(pair).is_lt()
 }
 
-/// The pairs that a walk has found. Contracts see the list of those that are kept: all that were added, but what stood
-/// twice may stand there once. They are given in the order `found_cmp` of `specs/Found.antt`.
+/// The pairs that a walk has found, whose values are by ranks in one table. Contracts see it as the record `Finds` of
+/// `specs/FindsView.antt`: the table, and the list of the pairs that are kept, which are all that were added, but what
+/// stood twice may stand there once. They are given in the order `found_cmp` of `specs/Found.antt`.
 #[derive(Drop)]
 pub struct Finds<'a> {
+    table: &'a Table,
     found: Vec<RankedPair<'a>>,
     // Whether they ascend.
     ascending: bool,
@@ -57,39 +64,45 @@ pub struct Finds<'a> {
 }
 
 impl<'a> Model for Finds<'a> {
-    ghost use Rattle.std.specs.Prelude.{List, IsTrue};
-    ghost use Rattle.std.specs.Coded.{coded_list};
+    ghost use Rattle.std.specs.Prelude.{IsTrue};
     ghost use Rattle.std.specs.List.Sorted.{IsStrictlySortedBy};
-    ghost use Rattle.mp_pattern.specs.Lists as lists;
-    ghost use Rattle.mp_subst.specs.Code.{coded_pair};
+    ghost use Rattle.mp_walk.specs.FindsView as plain;
+    ghost use Rattle.mp_walk.specs.FindsView.{coded_finds};
     ghost use Rattle.mp_walk.specs.Found.{found_cmp};
+    ghost use Rattle.mp_walk.specs.Ranked.{pairs_of, AreOver};
 
-    ghost Value = { List lists.Pair };
+    ghost Value = { plain.Finds };
 
-    ghost coded = { coded_list coded_pair };
+    ghost coded = { coded_finds };
 
-    ghost view = { λ f. f.found.items };
+    ghost view = { λ f. record { table = f.table.now; pairs = pairs_of f.found.items } };
 
-    ghost invariant = { λ f. IsTrue f.ascending → IsStrictlySortedBy found_cmp f.found.items };
+    ghost invariant = { λ f. (IsTrue f.ascending → IsStrictlySortedBy found_cmp (pairs_of f.found.items))
+        × AreOver f.table.now f.found.items };
 }
 
 impl<'a> Finds<'a> {
-    /// No pairs. It takes no memory.
-    pub fn new(alloc: Global) -> Finds<'a>
-        ensures { result ≡ [] }
+    /// No pairs, over the table. It takes no memory.
+    pub fn new(alloc: Global, table: &'a Table) -> Finds<'a>
+        ensures none { result.pairs ≡ [] }
+        ensures table { result.table ≡ table.now }
     {
         Finds {
+            table,
             found: Vec::new(alloc),
             ascending: true,
             most: FEW,
         }
     }
 
-    /// Adds a pair: kept are then exactly those that were, and this one. The room is that of the distinct ones.
-    /// `Memory` comes where there is none for the pair: then it is dropped, and nothing is promised of those that are
-    /// kept.
+    /// Adds a pair over the table: kept are then exactly those that were, and this one. The room is that of the
+    /// distinct ones. `Memory` comes where there is none for the pair: then it is dropped, and nothing is promised of
+    /// those that are kept.
     pub fn add(&mut self, pair: RankedPair<'a>) -> Result<(), Memory>
-        ensures { OnOk result ((p : lists.Pair) → Contains self.new p ↔ Contains (self.old ++ pair.entry ∷ []) p) }
+        requires { pair.table ≡ self.old.table }
+        ensures pairs { OnOk result ((p : lists.Pair) →
+            Contains self.new.pairs p ↔ Contains (self.old.pairs ++ pair.entry.pair ∷ []) p) }
+        ensures table { self.new.table ≡ self.old.table }
     {
         if self.ascending {
             self.ascending = follows(&self.found, &pair);
@@ -100,10 +113,11 @@ impl<'a> Finds<'a> {
         Ok(())
     }
 
-    /// The pairs that are kept, each once, ascending in the order `found_cmp` of `specs/Found.antt`. It takes no
-    /// memory.
+    /// The pairs that are kept, all over the table, each once, ascending in the order `found_cmp` of
+    /// `specs/Found.antt`. It takes no memory.
     pub fn into_pairs(self) -> Vec<RankedPair<'a>>
-        ensures { IsListing found_cmp (Contains self.entry) result.items }
+        ensures pairs { IsListing found_cmp (Contains self.entry.pairs) (pairs_of result.items) }
+        ensures over { AreOver self.entry.table result.items }
     {
         let Finds {
             mut found,

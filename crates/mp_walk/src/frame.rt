@@ -1,13 +1,15 @@
 //! The operations that a walk has open.
 ghost use Rattle.std.specs.Prelude.{◌≡◌, ◌≤◌, ◌<◌, ◌+◌, ◌^◌, true, false, [], ◌∷◌, drop, length};
 ghost use Rattle.std.specs.Prelude.{None, Some};
-ghost use Rattle.std.specs.Prelude.{MatchOption, IfSome};
+ghost use Rattle.std.specs.Prelude.{ℕ, List, MatchOption, IfSome};
+ghost use Rattle.std.specs.Str.{bytes_eq};
 ghost use Rattle.mp_table.specs.Table.{HasRank, HasRanks, term_at, terms_at};
 ghost use Rattle.mp_theory.specs.Frames.{is_done};
 ghost use Rattle.mp_walk.specs.OpenOnes.{IsFrame, open_of};
+ghost use Rattle.mp_walk.specs.Ways.{is_first_symbol};
 
-use mp_table::{Rank, Table};
-use mp_term::OpId;
+use mp_table::{Head, Rank, Table};
+use mp_term::{Name, OpId};
 use std::slice;
 
 // An open operation: the term whose arguments its children take, or which they take alone, as at the root and where the
@@ -85,6 +87,20 @@ impl Frame {
         match self.left(table) {
             [] => None,
             [first, ..] => Some(*first),
+        }
+    }
+
+    // The name of the first term that is left, if that is a symbol.
+    pub(crate) fn first_name<'t>(&self, table: &'t Table) -> Option<&'t Name>
+        requires { IsFrame table.now self.now }
+        ensures { (name : List ℕ) → MatchOption result
+            (is_first_symbol name (open_of table.now self.now).left ≡ false)
+            (λ own. is_first_symbol name (open_of table.now self.now).left ≡ bytes_eq own.now name) }
+    {
+        let first = self.first(table)?;
+        match table.head(first) {
+            Head::Sym(name) => Some(name),
+            Head::App(_) => None,
         }
     }
 

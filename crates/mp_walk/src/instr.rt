@@ -1,6 +1,7 @@
 //! Tables of instructions.
-ghost use Rattle.std.specs.Prelude.{◌≡◌, ℕ, List, [], ◌∷◌, ◌++◌, length, map, slice_get, OnOk, OnErr, IfOk};
-ghost use Rattle.std.specs.Prelude.{option_map};
+ghost use Rattle.std.specs.Prelude.{◌≡◌, ◌<◌, ℕ, List, [], ◌∷◌, ◌++◌, length, map, slice_get, slice_set, OnOk, OnErr};
+ghost use Rattle.std.specs.Prelude.{IfOk, Some, option_map};
+ghost use Rattle.mp_walk.specs.Instrs as plain;
 ghost use Rattle.mp_walk.specs.InstrView.{plain_instr};
 
 use crate::copy::copy_token;
@@ -138,6 +139,17 @@ impl Instrs {
     {
         self.items.push(item)?;
         Ok(())
+    }
+
+    /// Tells the instruction at the index, from 0, where it leads.
+    pub fn link(&mut self, index: usize, down: Option<u32>, over: Option<u32>)
+        requires { index < length self.old }
+        ensures { (i : plain.Instr) → slice_get self.old index ≡ Some i
+            → self.new ≡ slice_set self.old index (record i { down = down; over = over }) }
+    {
+        let instr = &mut self.items[index];
+        instr.down = down;
+        instr.over = over;
     }
 
     /// How many instructions there are.

@@ -4,7 +4,7 @@ use mp_subst::Mark;
 
 // A token that is read: the number of its instruction; the place of the innermost operation that was open before it,
 // and how many places there were; how long the trail was; the way that is to be tried next; and the search below a
-// commutative application.
+// commutative application, in a box, since few tokens have one.
 #[derive(Drop)]
 pub(crate) struct Level<'a> {
     pub(crate) instr: u32,
@@ -12,5 +12,5 @@ pub(crate) struct Level<'a> {
     pub(crate) frames: usize,
     pub(crate) mark: Mark,
     pub(crate) next: usize,
-    pub(crate) search: Option<CommSearch<'a>>,
+    pub(crate) search: Option<Box<CommSearch<'a>>>,
 }

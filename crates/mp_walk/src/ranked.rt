@@ -1,5 +1,5 @@
 //! Pairs of a rule and a substitution, whose values are kept by ranks in a table.
-ghost use Rattle.std.specs.Prelude.{◌≡◌, ◌≤◌, length, map, slice_get, option_map, IfOk, Some, refl};
+ghost use Rattle.std.specs.Prelude.{◌≡◌, ◌≤◌, length, map, slice_get, option_map, IfOk, IfSome, Some, refl};
 ghost use Rattle.std.specs.Ordering.{is_eq};
 ghost use Rattle.std.specs.Cmp.{partial_equiv_from_equiv, po, eq_by_cmp_equiv};
 ghost use Rattle.mp_pattern.specs.Lists.{subst_cmp};
@@ -7,9 +7,10 @@ ghost use Rattle.mp_pattern.specs.declared.limits.TheConstants.{MAX_VARIABLES};
 ghost use Rattle.mp_subst.specs.Bound.{bound_of};
 ghost use Rattle.mp_subst.specs.Trail.{GoesWith, subst_in};
 ghost use Rattle.mp_subst.specs.View.{pair_of, subst_of};
-ghost use Rattle.mp_walk.specs.Found.{found_cmp, names_cmp};
-ghost use Rattle.mp_walk.specs.FoundOrder.{found_cmp_total};
+ghost use Rattle.mp_walk.specs.Found.{names_cmp};
+ghost use Rattle.mp_walk.specs.FoundOrder.{ranked_cmp_total};
 ghost use Rattle.mp_walk.specs.NamedItems.{called};
+ghost use Rattle.mp_walk.specs.Ranked.{ranked_cmp};
 ghost use Rattle.mp_walk.specs.RankedView.{kept_binding, kept_bound, kept_name, listed, shown_binding, AreKept};
 
 use crate::rank_order::compare_bounds;
@@ -52,7 +53,8 @@ pub struct RankedBinding<'a> {
 }
 
 /// The number of a rule, its index from 0, and a substitution that the rule admits, its values by ranks in a table.
-/// Contracts see it as the plain pair. Pairs are in the order `found_cmp` of `specs/Found.antt`.
+/// Contracts see it as the record `Ranked` of `specs/Ranked.antt`: the table and the plain pair. Pairs are in the order
+/// `found_cmp` of `specs/Found.antt`.
 #[derive(Drop)]
 pub struct RankedPair<'a> {
     rule: u32,
@@ -61,15 +63,15 @@ pub struct RankedPair<'a> {
 }
 
 impl<'a> Model for RankedPair<'a> {
-    ghost use Rattle.mp_pattern.specs.Lists as lists;
-    ghost use Rattle.mp_subst.specs.Code.{coded_pair};
-    ghost use Rattle.mp_walk.specs.RankedView.{ranked_pair, AreKept};
+    ghost use Rattle.mp_walk.specs.Ranked as plain;
+    ghost use Rattle.mp_walk.specs.Ranked.{coded_ranked};
+    ghost use Rattle.mp_walk.specs.RankedView.{ranked, AreKept};
 
-    ghost Value = { lists.Pair };
+    ghost Value = { plain.Ranked };
 
-    ghost coded = { coded_pair };
+    ghost coded = { coded_ranked };
 
-    ghost view = { λ p. ranked_pair p.rule p.table.now p.values.items };
+    ghost view = { λ p. ranked p.rule p.table.now p.values.items };
 
     ghost invariant = { λ p. AreKept p.table.now p.values.items };
 }
@@ -192,7 +194,7 @@ fn compare_values(
 
 // The order of pairs, where those of one rule have the same variables: by the rules' numbers and the substitutions.
 fn compare(pair: &RankedPair<'_>, other: &RankedPair<'_>) -> Ordering
-    ensures { result ≡ found_cmp pair.now other.now }
+    ensures { result ≡ ranked_cmp pair.now other.now }
 {
     if pair.rule != other.rule {
         return pair.rule.cmp(&other.rule);
@@ -205,9 +207,9 @@ fn compare(pair: &RankedPair<'_>, other: &RankedPair<'_>) -> Ordering
 }
 
 impl PartialEq for RankedPair<'_> {
-    ghost eq = { λ p q. is_eq (found_cmp p q) };
+    ghost eq = { λ p q. is_eq (ranked_cmp p q) };
 
-    ghost laws = { partial_equiv_from_equiv (eq_by_cmp_equiv found_cmp_total) };
+    ghost laws = { partial_equiv_from_equiv (eq_by_cmp_equiv ranked_cmp_total) };
 
     fn eq(&self, other: &Self) -> bool {
         compare(self, other).is_eq()
@@ -215,13 +217,13 @@ impl PartialEq for RankedPair<'_> {
 }
 
 impl Eq for RankedPair<'_> {
-    ghost laws = { eq_by_cmp_equiv found_cmp_total };
+    ghost laws = { eq_by_cmp_equiv ranked_cmp_total };
 }
 
 impl PartialOrd for RankedPair<'_> {
-    ghost partial_cmp = { λ p q. Some (found_cmp p q) };
+    ghost partial_cmp = { λ p q. Some (ranked_cmp p q) };
 
-    ghost laws = { po found_cmp_total (λ _ _. refl) };
+    ghost laws = { po ranked_cmp_total (λ _ _. refl) };
 
     fn partial_cmp(&self, other: &Self) -> Option<Ordering> {
         Some(compare(self, other))
@@ -229,9 +231,9 @@ impl PartialOrd for RankedPair<'_> {
 }
 
 impl Ord for RankedPair<'_> {
-    ghost cmp = { found_cmp };
+    ghost cmp = { ranked_cmp };
 
-    ghost total = { found_cmp_total };
+    ghost total = { ranked_cmp_total };
 
     ghost matches_partial_cmp = { λ _ _. refl };
 
@@ -254,7 +256,8 @@ impl<'a> RankedPair<'a> {
     ) -> Result<RankedPair<'a>, Memory>
         requires goes { GoesWith table.now trail.now }
         requires few { length names.now ≤ MAX_VARIABLES }
-        ensures { IfOk result (λ p. p ≡ (rule, subst_in table.now (called names.now) trail.now)) }
+        ensures pair { IfOk result (λ p. p.pair ≡ (rule, subst_in table.now (called names.now) trail.now)) }
+        ensures table { IfOk result (λ p. p.table ≡ table.now) }
     {
         let values = kept_values(alloc, names, table, trail)?;
         Ok(RankedPair {
@@ -266,21 +269,22 @@ impl<'a> RankedPair<'a> {
 
     /// The rule's number.
     pub fn rule(&self) -> u32
-        ensures { result ≡ self.now.0 }
+        ensures { result ≡ self.now.pair.0 }
     {
         self.rule
     }
 
     /// How many bindings the substitution has.
     pub fn len(&self) -> usize
-        ensures { result ≡ length self.now.1 }
+        ensures { result ≡ length self.now.pair.1 }
     {
         self.values.len()
     }
 
     /// The binding of the substitution at the index, from 0. It is None exactly where there is none.
     pub fn binding(&self, index: usize) -> Option<RankedBinding<'_>>
-        ensures { slice_get self.now.1 index ≡ option_map shown_binding result }
+        ensures binding { slice_get self.now.pair.1 index ≡ option_map shown_binding result }
+        ensures table { IfSome result (λ b. b.table.now ≡ self.now.table) }
     {
         let kept = self.values.get(index)?;
         Some(RankedBinding {
@@ -292,7 +296,7 @@ impl<'a> RankedPair<'a> {
 
     /// The substitution, with copies of its terms. `Memory` comes where there is no room for it.
     pub fn to_subst(&self, alloc: Global) -> Result<Subst, Memory>
-        ensures { IfOk result (λ s. subst_of s ≡ self.now.1) }
+        ensures { IfOk result (λ s. subst_of s ≡ self.now.pair.1) }
     {
         let mut bindings = Bindings::new(alloc);
         for kept in &self.values {
@@ -305,7 +309,7 @@ impl<'a> RankedPair<'a> {
 
     /// The same pair, with copies of its terms. `Memory` comes where there is no room for it.
     pub fn to_pair(&self, alloc: Global) -> Result<Pair, Memory>
-        ensures { IfOk result (λ p. pair_of p ≡ self.now) }
+        ensures { IfOk result (λ p. pair_of p ≡ self.now.pair) }
     {
         let subst = self.to_subst(alloc)?;
         Ok(Pair {

@@ -16,7 +16,7 @@ ghost use Rattle.mp_walk.specs.InstrView.{plain_instr};
 ghost use Rattle.mp_walk.specs.Instrs as plain;
 ghost use Rattle.mp_walk.specs.Instrs.{instr_at};
 ghost use Rattle.mp_walk.specs.Levels.{read_of, trail_before, step_cost, search_cost, innermost_left, HasSearch};
-ghost use Rattle.mp_walk.specs.Levels.{AreOfOneToken};
+ghost use Rattle.mp_walk.specs.Levels.{AreOfOneToken, search_of};
 ghost use Rattle.mp_walk.specs.OpenOnes.{IsPlaceBelow, AreFrames, opens};
 ghost use Rattle.mp_walk.specs.Setting.{IsSetting};
 ghost use Rattle.mp_walk.specs.SoundTokens.{IsSoundComm, IsSoundToken};
@@ -104,11 +104,11 @@ pub(crate) fn read<'a>(
     requires cost { search_cost (net_token instr.now.token)
         (innermost_left (opens set.table.now frames.now level.old.place)) ≤ (trail_before trail.old level.old).spare }
     requires search { HasSearch set.table.now (net_token instr.now.token)
-        (opens set.table.now frames.now level.old.place) (trail_before trail.old level.old) level.old.search }
-    requires way { IsAtWay level.old.next level.old.search }
+        (opens set.table.now frames.now level.old.place) (trail_before trail.old level.old) (search_of level.old) }
+    requires way { IsAtWay level.old.next (search_of level.old) }
     requires rooms { AllByRecursion (IsOfTable set.table.now) rooms.old.items }
     ensures rooms { IfOk result (λ _. AllByRecursion (IsOfTable set.entry.table.now) rooms.new.items) }
-    ensures way { IfOk result (λ _. IsAtWay level.new.next level.new.search) }
+    ensures way { IfOk result (λ _. IsAtWay level.new.next (search_of level.new)) }
     ensures same { IfOk result (λ _. AreOfOneToken level.old level.new) }
     ensures step { IfOk result (λ found. MatchBool found
         (IsStepTaken set.entry.sig.now (net_token instr.now.token)
@@ -128,7 +128,8 @@ pub(crate) fn read<'a>(
         → opens set.entry.table.now frames.now level.old.place ≡ f ∷ fs
         → IsWayValid (net_token instr.now.token) f (level.new.next - 1)) }
     ensures search { IfOk result (λ _. HasSearch set.entry.table.now (net_token instr.now.token)
-        (opens set.entry.table.now frames.now level.old.place) (trail_before trail.old level.old) level.new.search) }
+        (opens set.entry.table.now frames.now level.old.place) (trail_before trail.old level.old)
+        (search_of level.new)) }
 {
     let NetToken::Comm(pattern) = &instr.token else {
         return Ok(step(set, frames, &instr.token, level, trail));

@@ -1,11 +1,9 @@
 //! The steps of a token in the innermost open operation.
-ghost use Rattle.std.specs.Prelude.{◌≡◌, ◌≤◌, ◌<◌, ◌+◌, ◌^◌, ◌&&◌, [], ◌∷◌, List, length, IfSome, MatchOption, false};
-ghost use Rattle.std.specs.Prelude.{◌-◌, None, IsTrue, IsFalse, MatchBool, if◌then◌else◌, drop};
-ghost use Rattle.std.specs.Ordering.{is_eq};
+ghost use Rattle.std.specs.Prelude.{◌≡◌, ◌≤◌, ◌<◌, ◌+◌, ◌^◌, ◌&&◌, [], ◌∷◌, ℕ, List, length, IfSome, MatchOption, false};
+ghost use Rattle.std.specs.Prelude.{◌-◌, None, IsTrue, IsFalse, MatchBool, if◌then◌else◌};
+ghost use Rattle.std.specs.Str.{bytes_eq};
 ghost use Rattle.mp_term.specs.NormalTest.{has_head};
-ghost use Rattle.mp_term.specs.Order.{tree_cmp};
 ghost use Rattle.mp_term.specs.Signature.{is_one, Sig};
-ghost use Rattle.mp_term.specs.Tree.{symbol};
 ghost use Rattle.mp_pattern.specs.NetTokens.{enter_token};
 ghost use Rattle.mp_pattern.specs.NetTokenView.{net_token};
 ghost use Rattle.mp_pattern.specs.Value.{Subst};
@@ -14,7 +12,7 @@ ghost use Rattle.mp_table.specs.Table.{HasRank, term_at};
 ghost use Rattle.mp_subst.specs.Trail.{length_at};
 ghost use Rattle.mp_walk.specs.Course.{entries_by, opens_by, IsWayValid, way_cost, is_comm_token};
 ghost use Rattle.mp_walk.specs.Course.{Read, steps_left, IsStepTaken};
-ghost use Rattle.mp_walk.specs.Levels.{read_of, trail_before, AreOfOneToken};
+ghost use Rattle.mp_walk.specs.Levels.{read_of, search_of, trail_before, AreOfOneToken};
 ghost use Rattle.mp_walk.specs.OpenOnes.{IsFrame, IsPlaceBelow, AreFrames, above, open_of, opens};
 ghost use Rattle.mp_walk.specs.SoundTokens.{IsSoundToken};
 ghost use Rattle.mp_walk.specs.TokenMachine.{Open};
@@ -28,40 +26,28 @@ use crate::setting::Setting;
 use crate::token::is_headed;
 use mp_pattern::NetToken;
 use mp_subst::Trail;
-use mp_table::{Head, Rank, Table};
+use mp_table::{Rank, Table};
 use mp_term::{Name, OpId, Signature, same_bytes};
-
-// The term is the symbol of the name.
-fn is_symbol(table: &Table, rank: Rank, name: &Name) -> bool
-    requires { HasRank table.now rank }
-    ensures { result ≡ is_eq (tree_cmp (term_at table.now rank) (symbol name.now)) }
-{
-    match table.head(rank) {
-        Head::Sym(own) => same_bytes(own.bytes(), name.bytes()),
-        Head::App(_) => false,
-    }
-}
 
 // The first term that is left is the symbol of the name.
 fn is_first_symbol(table: &Table, frame: &Frame, name: &Name) -> bool
     requires { IsFrame table.now frame.now }
     ensures { result ≡ is_first_symbol name.now (open_of table.now frame.now).left }
 {
-    match frame.first(table) {
+    match frame.first_name(table) {
         None => false,
-        Some(rank) => is_symbol(table, rank, name),
+        Some(own) => same_bytes(own.bytes(), name.bytes()),
     }
 }
 
-// The token is a symbol other than the first term that is left, which has the rank where there is one.
-pub(crate) fn is_other_symbol(table: &Table, first: Option<Rank>, token: &NetToken) -> bool
-    requires { IfSome first (HasRank table.now) }
+// The token is a symbol other than the first term that is left, whose name is given where it is a symbol too.
+pub(crate) fn is_other_symbol(first: Option<&Name>, token: &NetToken) -> bool
     ensures { IsTrue result → (sig : Sig) (f : Open) (fs : List Open) (s : Subst)
-        → MatchOption first (f.left ≡ []) (λ r. f.left ≡ term_at table.now r ∷ drop 1 f.left)
-        → HasNoWay sig f fs s (net_token token.now) 0 }
+        → ((name : List ℕ) → MatchOption first.entry (is_first_symbol name f.left ≡ false)
+        (λ own. is_first_symbol name f.left ≡ bytes_eq own.now name)) → HasNoWay sig f fs s (net_token token.now) 0 }
 {
     match (token, first) {
-        (NetToken::Sym(name), Some(rank)) => !is_symbol(table, rank, name),
+        (NetToken::Sym(name), Some(own)) => !same_bytes(own.bytes(), name.bytes()),
         (NetToken::Sym(_), None) => true,
         _ => false,
     }
@@ -222,7 +208,7 @@ pub(crate) fn step(
 ) -> bool
     requires normal { IsSoundToken set.sig.now (net_token token.now) }
     requires single { is_comm_token (net_token token.now) ≡ false }
-    requires search { level.old.search ≡ None }
+    requires search { search_of level.old ≡ None }
     requires held { HoldsDefault set.table.now (shape_of (net_token token.now)) }
     requires frames { AreFrames set.sig.now set.table.now frames.now }
     requires place { IsPlaceBelow (length frames.now) level.old.place }
@@ -241,7 +227,7 @@ pub(crate) fn step(
     ensures kept { LiesOver set.entry.table.now
         (if result then way_cost (net_token token.now) (level.new.next - 1) else 0)
         (trail_before trail.old level.old) trail.new }
-    ensures search { level.new.search ≡ None }
+    ensures search { search_of level.new ≡ None }
     ensures refused { IsFalse result → (trail.new ≡ trail_before trail.old level.old) × (level.new ≡ level.old) }
     ensures valid { IsTrue result → (f : Open) (fs : List Open)
         → opens set.entry.table.now frames.now level.old.place ≡ f ∷ fs

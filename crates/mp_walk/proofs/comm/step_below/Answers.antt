@@ -2,7 +2,8 @@ use Rattle.std.proofs.Common.{◌≡◌, ◌∙◌, [], length, ap, sym, subst, 
 use Rattle.std.proofs.lemmas.List.{length-take-le}
 use Rattle.mp_subst.specs.Trail.{Trail, cut, length_at}
 use Rattle.mp_subst.proofs.TrailLaws.{cut-cut}
-use Rattle.mp_walk.specs.Below.{IsSearchOf, below_ahead}
+use Rattle.mp_ac.specs.Search.{ahead}
+use Rattle.mp_walk.specs.Below.{IsSearchOf, below_ahead, unboxed}
 use Rattle.mp_walk.specs.Trails.{numbered_subst}
 use Rattle.mp_walk.proofs.BelowLaws as laws
 use Rattle.mp_walk.proofs.comm.step_below.Goals as goal
@@ -12,17 +13,18 @@ returns-in_default-clause-step c = λ f gs first.
     let b = c.args.below in
     let u = cut (length_at c.args.mark) c.args.trail.now in
     let s = numbered_subst b.table.now u.stack in
-    let none = subst (λ (w : Trail). below_ahead c.loop-alloc.search (numbered_subst b.table.now w.stack) ≡ [])
+    let o = unboxed c.loop-alloc.search in
+    let none = subst (λ (w : Trail). below_ahead o (numbered_subst b.table.now w.stack) ≡ [])
     c.loop-alloc.invariant.above.cut c.loop-alloc-test.ensures.found in
-    sym (c.loop-alloc.invariant.same f gs first) ∙ laws.step-over b f gs c.loop-alloc.next s c.loop-alloc.search none
+    sym (c.loop-alloc.invariant.same f gs first) ∙ laws.step-over b f gs c.loop-alloc.next s o none
     ∙ laws.step-ended b c.requires.below f gs s first c.loop-alloc.next (sym c.in_default.is ∙ c.first_way.ensures)
 
 pub returns-in_default-clause-ended : goal.returns-in_default-clause-ended
 returns-in_default-clause-ended c truth f gs first =
     let b = c.args.below in
     let s = numbered_subst b.table.now (cut (length_at c.args.mark) c.args.trail.now).stack in
-    laws.step-over b f gs c.loop-alloc.next s c.give_back.new.search
-    (ap (λ o. below_ahead o s) c.in_ok-give_back.ensures.search)
+    laws.step-over b f gs c.loop-alloc.next s (unboxed c.give_back.new.search)
+    (ap (λ o. below_ahead (unboxed o) s) c.in_ok-give_back.ensures.search)
     ∙ laws.step-ended b c.requires.below f gs s first c.loop-alloc.next (sym c.in_default.is ∙ c.first_way.ensures)
 
 pub returns-in_default-clause-above : goal.returns-in_default-clause-above
@@ -55,17 +57,21 @@ loop-alloc-preserved c =
     let t = c.args.trail.now in
     let u = cut m t in
     let s = numbered_subst b.table.now u.stack in
-    let none = subst (λ (w : Trail). below_ahead c.loop-alloc.search (numbered_subst b.table.now w.stack) ≡ [])
+    let o = unboxed c.loop-alloc.search in
+    let none = subst (λ (w : Trail). below_ahead o (numbered_subst b.table.now w.stack) ≡ [])
     c.loop-alloc.invariant.above.cut c.loop-alloc-test.ensures.found in
     let back = c.undo.ensures.trail ∙ c.next_item.ensures.above.cut ∙ c.loop-alloc.invariant.above.cut in
+    let made = c.in_ok-new.field-0.value in
+    let boxed : made ≡ c.in_ok-begun.begun = c.in_ok-new.ensures.ok in
     let way = laws.way-next b c.loop-alloc.next c.in-Some.way (sym c.in-Some.is ∙ c.first_way.ensures) in
     record {
       same = λ f gs first.
-          laws.step-begun b c.requires.below f gs s first c.loop-alloc.next c.in-Some.way c.in_ok-begin.field-0
-          (sym c.in-Some.is ∙ c.first_way.ensures) (c.in_ok-begin.ensures.list s)
-          ∙ sym (laws.step-over b f gs c.loop-alloc.next s c.loop-alloc.search none)
+          laws.step-begun b c.requires.below f gs s first c.loop-alloc.next c.in-Some.way made
+          (sym c.in-Some.is ∙ c.first_way.ensures) (ap (λ q. ahead q s) boxed ∙ c.in_ok-begun.ensures.list s)
+          ∙ sym (laws.step-over b f gs c.loop-alloc.next s o none)
           ∙ c.loop-alloc.invariant.same f gs first;
-      search = subst (λ w. IsSearchOf b w c.in_ok-begin.field-0) back c.in_ok-begin.ensures.search;
+      search = subst (IsSearchOf b u) (sym boxed)
+          (subst (λ w. IsSearchOf b w c.in_ok-begun.begun) back c.in_ok-begun.ensures.search);
       way = (omega arith, omega (arith, way.0.few));
       above = record {
         long = omega (arith, ap (λ (w : Trail). length w.stack) back, length-take-le m t.stack c.requires.above.long);
@@ -75,5 +81,5 @@ loop-alloc-preserved c =
           vars = ap (λ (w : Trail). w.vars) back ∙ c.requires.above.trail.vars;
         };
       };
-      rooms = c.in_ok-begin.ensures.rooms;
+      rooms = c.in_ok-begun.ensures.rooms;
     }

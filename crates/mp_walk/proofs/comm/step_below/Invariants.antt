@@ -2,7 +2,7 @@ use Rattle.std.proofs.Common.{◌≡◌, ◌-◌, ◌∷◌, List, drop}
 use Rattle.std.specs.List.{AllByRecursion}
 use Rattle.mp_subst.specs.Trail.{cut, length_at}
 use Rattle.mp_ac.specs.CommRoom.{IsOfTable}
-use Rattle.mp_walk.specs.Below.{IsAbove, IsAtWay, IsSearch, left_steps, term_of}
+use Rattle.mp_walk.specs.Below.{IsAbove, IsAtWay, IsSearch, left_steps, term_of, unboxed}
 use Rattle.mp_walk.specs.TokenMachine.{Open}
 use Rattle.mp_walk.specs.Trails.{numbered_subst}
 use Rattle.mp_walk.proofs.comm.step_below.Given as goal
@@ -10,12 +10,12 @@ use Rattle.mp_walk.proofs.comm.step_below.Given as goal
 abbrev pub invariant-loop-alloc : goal.invariant-loop-alloc
 invariant-loop-alloc l = record {
   same : (f : Open) (gs : List Open) → f.left ≡ term_of l.below ∷ drop 1 f.left
-      → left_steps l.below f gs l.next l.search
+      → left_steps l.below f gs l.next (unboxed l.search)
       (numbered_subst l.below.table.now (cut (length_at l.mark) l.initial.trail).stack)
-      ≡ left_steps l.below f gs l.initial.next l.initial.search
+      ≡ left_steps l.below f gs l.initial.next (unboxed l.initial.search)
       (numbered_subst l.below.table.now (cut (length_at l.mark) l.initial.trail).stack);
-  search : IsSearch l.below (cut (length_at l.mark) l.initial.trail) l.search;
-  way : IsAtWay l.next l.search;
+  search : IsSearch l.below (cut (length_at l.mark) l.initial.trail) (unboxed l.search);
+  way : IsAtWay l.next (unboxed l.search);
   above : IsAbove l.below (length_at l.mark) (cut (length_at l.mark) l.initial.trail) l.trail;
   rooms : AllByRecursion (IsOfTable l.below.table.now) l.rooms.items;
 }

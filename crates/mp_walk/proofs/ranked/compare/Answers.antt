@@ -1,6 +1,7 @@
 use Rattle.std.proofs.Common.{◌≡◌, ◌∙◌, List, length, map, ap, ap₂, sym}
 use Rattle.mp_pattern.specs.Lists.{subst_cmp}
-use Rattle.mp_walk.specs.Found.{found_cmp, names_cmp}
+use Rattle.mp_walk.specs.Found.{names_cmp}
+use Rattle.mp_walk.specs.Ranked.{ranked_cmp}
 use Rattle.mp_walk.specs.RankedView.{kept_binding, kept_name}
 use Rattle.mp_walk.specs.declared.ranked.Kept.{Kept}
 use Rattle.mp_walk.proofs.FoundLaws.{equal-not_ne, found-other_names, found-same_names, many-kept}
@@ -17,7 +18,7 @@ returns-then-is_ne c =
     c.deref-2.ensures.value in
     found-other_names p.rule q.rule p.table.now q.table.now p.values.items q.values.items c.if-pair-other.false
     c.compare_names-names.result names (sym c.is_ne.ensures ∙ c.if-is_ne.true)
-    ∙ ap₂ found_cmp c.pair.view_is c.other.view_is
+    ∙ ap₂ ranked_cmp c.pair.view_is c.other.view_is
 
 pub compare_values-requires-clause-many : goal.compare_values-requires-clause-many
 compare_values-requires-clause-many c =
@@ -49,4 +50,4 @@ returns c =
     c.deref-3.ensures.value c.deref-4.ensures.value in
     found-same_names p.rule q.rule p.table.now q.table.now p.values.items q.values.items c.if-pair-other.false
     (sym names ∙ equal) c.compare_values.result values
-    ∙ ap₂ found_cmp c.pair.view_is c.other.view_is
+    ∙ ap₂ ranked_cmp c.pair.view_is c.other.view_is

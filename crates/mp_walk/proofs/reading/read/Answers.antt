@@ -8,10 +8,11 @@ use Rattle.mp_table.specs.Table.{rank_of}
 use Rattle.mp_subst.specs.Trail.{Trail, length_at}
 use Rattle.mp_ac.specs.CommRoom.{IsOfTable}
 use Rattle.mp_walk.specs.declared.level.Level.{Level}
-use Rattle.mp_walk.specs.Below.{below_ahead}
+use Rattle.mp_walk.specs.Below.{below_ahead, unboxed}
 use Rattle.mp_walk.specs.CodeConstants.{token_constants}
 use Rattle.mp_walk.specs.Course.{IsStepTaken, IsWayValid, steps_left}
 use Rattle.mp_walk.specs.InstrView.{plain_instr}
+use Rattle.mp_walk.specs.Levels.{search_of}
 use Rattle.mp_walk.specs.Levels.{read_of, state_of, trail_before, search_cost, step_cost, innermost_left, HasSearch}
 use Rattle.mp_walk.specs.OpenOnes.{opens}
 use Rattle.mp_walk.specs.SoundTokens.{IsSoundToken}
@@ -32,7 +33,7 @@ pub step-requires-clause-search : goal.step-requires-clause-search
 step-requires-clause-search c =
     let before = trail_before c.args.trail.now c.args.level.now in
     single-search c.args.set.table.now (net_token c.args.instr.now.token)
-    (opens c.args.set.table.now c.args.frames.now c.args.level.now.place) before c.args.level.now.search
+    (opens c.args.set.table.now c.args.frames.now c.args.level.now.place) before (search_of c.args.level.now)
     (single-token c.args.instr.now.token c.in_default.not-Comm) c.requires.search
 
 pub step-requires-clause-held : goal.step-requires-clause-held
@@ -58,7 +59,7 @@ pub returns-in_default-clause-search : goal.returns-in_default-clause-search
 returns-in_default-clause-search c =
     let os = opens c.args.set.table.now c.args.frames.now c.args.level.now.place in
     let before = trail_before c.args.trail.now c.args.level.now in
-    none-search c.args.set.table.now (net_token c.args.instr.now.token) os before c.step.new.level.search
+    none-search c.args.set.table.now (net_token c.args.instr.now.token) os before (search_of c.step.new.level)
     (single-token c.args.instr.now.token c.in_default.not-Comm) c.step.ensures.search
 
 -- ---- a commutative application, where no term is left
@@ -84,8 +85,8 @@ returns-in_default-below-clause-step c =
     let p = pattern_tree c.in-Comm.pattern in
     let is = ap net_token c.in-Comm.is in
     let sound = subst (IsSoundToken sig) is c.requires.sound in
-    let none = none-searched t p (innermost_left os) before l.search c.in_default-below.ensures
-    (subst (λ j. HasSearch t j os before l.search) is c.requires.search) in
+    let none = none-searched t p (innermost_left os) before (search_of l) c.in_default-below.ensures
+    (subst (λ j. HasSearch t j os before (search_of l)) is c.requires.search) in
     let over = λ (w : Trail). subst (λ j. steps_left sig j (read_of t c.args.frames.now w l) ≡ []) (sym is)
     (none-left sig p sound (read_of t c.args.frames.now w l) os refl c.in_default-below.ensures
     (ap (λ o. below_ahead o (numbered_subst t (trail_before w l).stack)) none)) in
@@ -113,8 +114,8 @@ step_below-requires-clause-search c =
     let os = opens t c.args.frames.now l.place in
     let before = trail_before c.args.trail.now l in
     let h = c.in-Some.ensures in
-    search-of c.in-Some.below _ t (innermost_left os) (drop 1 (innermost_left os)) before l.search h.1 h.3 h.4
-    (subst (λ j. HasSearch t j os before l.search) (ap net_token c.in-Comm.is) c.requires.search)
+    search-of c.in-Some.below _ t (innermost_left os) (drop 1 (innermost_left os)) before (search_of l) h.1 h.3 h.4
+    (subst (λ j. HasSearch t j os before (search_of l)) (ap net_token c.in-Comm.is) c.requires.search)
 
 pub step_below-requires-clause-above : goal.step_below-requires-clause-above
 step_below-requires-clause-above c = record {
@@ -153,15 +154,15 @@ returns-clause-step c =
     let h = c.in-Some.ensures in
     let v = c.step_below.new.trail in
     let n = c.step_below.new.next in
-    let q = c.step_below.new.search in
-    let m : Level = record l { next = n; search = q } in
+    let q = unboxed c.step_below.new.search in
+    let m : Level = record l { next = n; search = c.step_below.new.search } in
     IfOk-weaker c.step_below.result _ _
     (λ found e. subst (λ j. MatchBool found
     (IsStepTaken sig j (read_of t fs u l) (read_of t fs v m) (numbered_subst t v.stack))
     ((steps_left sig j (read_of t fs u l) ≡ []) × (steps_left sig j (read_of t fs v m) ≡ [])))
     (sym (ap net_token c.in-Comm.is))
     (below-step sig t _ c.in-Some.below h.1 h.2 h.3 (opens t fs l.place) h.4 found (trail_before u l) v
-    (read_of t fs u l) (read_of t fs v m) l.next n l.search q refl refl refl refl
+    (read_of t fs u l) (read_of t fs v m) l.next n (search_of l) q refl refl refl refl
     (ap (state_of t fs l.place) e.1.cut) refl (ap (λ w. below_ahead q (numbered_subst t w.stack)) e.1.cut) refl
     e.0.0 e.0.1))
     (ok-both _ _ c.step_below.result (ok-both _ _ c.step_below.result c.step_below.ensures.step
@@ -199,7 +200,7 @@ returns-clause-search c =
     let os = opens c.args.set.table.now c.args.frames.now c.args.level.now.place in
     let before = trail_before c.args.trail.now c.args.level.now in
     let h = c.in-Some.ensures in
-    let q = c.step_below.new.search in
+    let q = unboxed c.step_below.new.search in
     IfOk-weaker c.step_below.result _ _
     (λ found e. subst (λ j. HasSearch t j os before q) (sym (ap net_token c.in-Comm.is))
     (search-kept c.in-Some.below _ t (innermost_left os) (drop 1 (innermost_left os)) before q h.1 h.3 h.4 e))

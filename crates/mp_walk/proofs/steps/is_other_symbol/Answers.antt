@@ -1,7 +1,6 @@
-use Rattle.std.proofs.Common.{◌≡◌, [], ◌∷◌, drop, Bool, true, false, refl, ap, sym, ◌∙◌, subst}
-use Rattle.std.specs.Prelude.{MatchOption, not}
+use Rattle.std.proofs.Common.{◌≡◌, Bool, true, false, refl, ap, ap₂, sym, ◌∙◌, subst}
+use Rattle.std.specs.Prelude.{MatchOption, bytes_eq, not}
 use Rattle.mp_pattern.specs.NetTokenView.{net_token}
-use Rattle.mp_table.specs.Table.{term_at}
 use Rattle.mp_walk.specs.Ways.{HasNoWay, is_first_symbol}
 use Rattle.mp_walk.proofs.WayLaws.{no-symbol}
 use Rattle.mp_walk.proofs.steps.is_other_symbol.Goals as goal
@@ -12,15 +11,17 @@ not-true false e = refl
 
 pub returns-in-Sym-Some : goal.returns-in-Sym-Some
 returns-in-Sym-Some c = λ t sig f fs s h.
-    let left = subst (λ o. MatchOption o (f.left ≡ []) (λ r. f.left ≡ term_at c.args.table.now r ∷ drop 1 f.left))
-    c.in-Sym-Some.is-1 h in
+    let name = c.in-Sym-Some.name in
+    let first = subst (λ o. MatchOption o (is_first_symbol name f.left ≡ false)
+    (λ own. is_first_symbol name f.left ≡ bytes_eq own.now name)) c.in-Sym-Some.is-1 (h name) in
     subst (λ k. HasNoWay sig f fs s k 0) (sym (ap net_token c.in-Sym-Some.is-0))
-    (no-symbol sig f fs s _
-    (ap (is_first_symbol _) left ∙ sym c.is_symbol.ensures ∙ not-true c.is_symbol.result t))
+    (no-symbol sig f fs s name (first ∙ sym (c.same_bytes.ensures ∙ ap₂ bytes_eq c.bytes.ensures.bytes
+    c.bytes-in-Sym-Some.ensures.bytes) ∙ not-true c.same_bytes.result t))
 
 pub returns-in-Sym-None : goal.returns-in-Sym-None
 returns-in-Sym-None c = λ t sig f fs s h.
-    let left = subst (λ o. MatchOption o (f.left ≡ []) (λ r. f.left ≡ term_at c.args.table.now r ∷ drop 1 f.left))
-    c.in-Sym-None.is-1 h in
+    let name = c.in-Sym-None.field-0-0 in
+    let first = subst (λ o. MatchOption o (is_first_symbol name f.left ≡ false)
+    (λ own. is_first_symbol name f.left ≡ bytes_eq own.now name)) c.in-Sym-None.is-1 (h name) in
     subst (λ k. HasNoWay sig f fs s k 0) (sym (ap net_token c.in-Sym-None.is-0))
-    (no-symbol sig f fs s _ (ap (is_first_symbol _) left))
+    (no-symbol sig f fs s name first)

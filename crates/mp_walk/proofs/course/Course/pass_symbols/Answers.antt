@@ -13,8 +13,8 @@ use Rattle.mp_walk.proofs.OpeningLaws.{index-at}
 use Rattle.mp_walk.proofs.SpentLaws.{no-step, passed-course, passed-to_come, passed-less}
 use Rattle.mp_walk.proofs.course.Course.pass_symbols.Goals as goal
 
-pub first-first-requires : goal.first-first-requires
-first-first-requires c =
+pub first_name-first-requires : goal.first_name-first-requires
+first_name-first-requires c =
     let self = c.args.self.now in
     let fs = self.frames.items in
     let at = index-at fs c.in-Some.place c.index.result.now
@@ -44,7 +44,7 @@ nothing c =
     (kept.1 ∙ c.in-Some.is) (ap (λ fs. slice_get fs.items c.in-Some.place) kept.2 ∙ at)
     (subst (λ x. (gs : List Open) (s : Subst) → HasNoWay x.sig.now (open_of x.table.now f) gs s i.token 0)
     (sym kept.0) (λ gs s. c.is_other_symbol.ensures c.if-not-is_other_symbol.false before.set.sig.now
-    (open_of before.set.table.now f) gs s c.first-first.ensures.term))
+    (open_of before.set.table.now f) gs s c.first_name-first.ensures))
 
 at-most : (m n o : ℕ) → m < n → n ≤ o → m ≤ o
 at-most m n o less most = omega (arith, less, most)

@@ -3,7 +3,7 @@ use Rattle.std.specs.Prelude.{option_map}
 use Rattle.mp_walk.specs.CourseView.{IsLeftBehind}
 use Rattle.mp_walk.specs.CourseVisits.{course_visits, visits_behind}
 use Rattle.mp_walk.specs.InstrView.{plain_instr}
-use Rattle.mp_walk.specs.Levels.{read_of, trail_before}
+use Rattle.mp_walk.specs.Levels.{read_of, trail_before, search_of}
 use Rattle.mp_walk.specs.OpenOnes.{IsPlaceBelow, AreFrames, opens}
 use Rattle.mp_walk.specs.Trails.{IsTrailOf}
 use Rattle.mp_walk.proofs.LevelLaws.{below-more}
@@ -34,7 +34,7 @@ go_over-requires-clause-left c =
     let none = subst (λ fs. IsSpentIn self.set fs l.place i l.next) c.deref.ensures.value
     (c.is_spent.ensures.none c.if-is_spent.true) in
     let search = single-search self.set.table.now i.token (opens self.set.table.now self.frames.items l.place)
-    (trail_before self.trail l) l.search (c.is_spent.ensures.single c.if-is_spent.true) (S.last.searched i held) in
+    (trail_before self.trail l) (search_of l) (c.is_spent.ensures.single c.if-is_spent.true) (S.last.searched i held) in
     let trail : IsTrailOf self.set.table.now (trail_before self.trail l) =
     subst (IsTrailOf self.set.table.now) c.undo.ensures.trail (record {
       goes = c.undo.ensures.goes_with self.set.table.now S.trail.goes;

@@ -11,7 +11,7 @@ use Rattle.mp_walk.specs.Course.{Read, IsStepTaken, steps_left}
 use Rattle.mp_walk.specs.CourseView.{IsTakenBehind, IsLeftBehind}
 use Rattle.mp_walk.specs.Instrs.{Instr, instr_at}
 use Rattle.mp_walk.specs.InstrView.{plain_instr}
-use Rattle.mp_walk.specs.Levels.{read_of, trail_before, step_cost, search_cost, innermost_left, HasSearch}
+use Rattle.mp_walk.specs.Levels.{read_of, trail_before, step_cost, search_cost, innermost_left, HasSearch, search_of}
 use Rattle.mp_walk.specs.OpenOnes.{AreFrames, IsPlaceBelow, opens}
 use Rattle.mp_walk.specs.Trails.{numbered_subst, IsTrailOf, LiesOver}
 use Rattle.mp_walk.proofs.StandingLaws.{sound, constants, front-frames, front-place, front-search, search-spare, spare}
@@ -85,9 +85,9 @@ module _ (c : In_ok-found) where
 
   -- and the search is one of the token
   search : HasSearch self.set.table.now i.token (opens self.set.table.now front l.place) (trail_before self.trail l)
-      m.search
+      (search_of m)
   search = subst (λ fs. HasSearch self.set.table.now i.token (opens self.set.table.now fs l.place)
-      (trail_before self.trail l) m.search) same c.in_ok-found.ensures.search
+      (trail_before self.trail l) (search_of m)) same c.in_ok-found.ensures.search
 
   -- the tokens before it stay as they are
   reads-same : map (read_of self.set.table.now c.truncate.new.self.items v) self.levels.items
@@ -164,7 +164,7 @@ pub read-requires-clause-search : goal.read-requires-clause-search
 read-requires-clause-search c =
     let self = c.args.self.now in
     subst (λ fs. HasSearch self.set.table.now (net_token c.in-Some.instr.now.token)
-    (opens self.set.table.now fs c.args.level.place) (trail_before self.trail c.args.level) c.args.level.search)
+    (opens self.set.table.now fs c.args.level.place) (trail_before self.trail c.args.level) (search_of c.args.level))
     (sym (c.deref.ensures.value ∙ c.truncate.ensures.items))
     (front-search self.set self.frames.items self.trail self.levels.items c.args.level c.requires.standing
     (plain_instr c.in-Some.instr.now) (c.instr.ensures ∙ ap (option_map (λ i. plain_instr i.now)) c.in-Some.is))
