@@ -1,9 +1,9 @@
--- The steps of the making of groups and rows, over the code's own lists.
+-- The steps of the making of groups and states, over the code's own lists.
 use Rattle.std.proofs.Common.{◌≡◌, ◌<◌, ◌≤◌, ℕ, zero, suc, ◌+◌, List, [], ◌∷◌, ◌++◌, map, length, take, drop, set}
 use Rattle.std.proofs.Common.{get_or}
 use Rattle.std.proofs.Common.{Bool, true, false, refl, ap, sym, ◌∙◌, ◌⊎◌, inl, inr, subst, arith, nat_lt, append-nil}
 use Rattle.std.proofs.Common.{append_assoc}
-use Rattle.std.specs.Prelude.{Option, Some, None, if◌then◌else◌}
+use Rattle.std.specs.Prelude.{Option, Some, None, if◌then◌else◌, slice_get}
 use Rattle.std.specs.List.{AllByRecursion}
 use Rattle.std.proofs.Math.Seq.{get_or-append_seam}
 use Rattle.std.proofs.lemmas.List.{length-append, length-map, map-set, get_or-map, length-drop}
@@ -11,13 +11,15 @@ use Rattle.mp_pattern.specs.NetTokens.{NetToken, same_token}
 use Rattle.mp_walk.specs.Instrs.{Instr}
 use Rattle.mp_walk.specs.Walkable.{Path}
 use Rattle.mp_many.specs.declared.group.Group.{Group}
-use Rattle.mp_many.specs.declared.rows.Row.{Row}
-use Rattle.mp_many.specs.GroupView.{group_of, numbers_of, row_of}
-use Rattle.mp_many.specs.Groups.{entered, grouped, left_at, count_from}
+use Rattle.mp_many.specs.GroupView.{group_of, numbers_of}
+use Rattle.mp_many.specs.Digest.{token_digest}
+use Rattle.mp_many.specs.Groups.{entered, grouped, left_at, count_from, AreApart}
 use Rattle.mp_many.specs.Laid.{Numbered, bare, left_after, target, each_laid, laid, unlinked, linked}
 use Rattle.mp_many.specs.Laid.{numbered_from}
+use Rattle.mp_many.specs.Marks.{has_mark, AreMarked}
 use Rattle.mp_many.specs.Prefixes.{heads}
 use Rattle.mp_many.specs.TokenView.{read_token}
+use Rattle.mp_many.proofs.ApartLaws.{apart-before, marked-at}
 use Rattle.mp_many.proofs.GroupLaws.{AreWithin, numbers_after, left-numbers, numbers-within}
 use Rattle.mp_many.proofs.RowLaws.{get_or-same, drop-next, entered-pass, entered-at, pushed, target-more}
 use Rattle.mp_many.proofs.RowLaws.{laid-step}
@@ -50,6 +52,27 @@ enter-pass gs k n i g within e s q =
     entered-pass (map group_of gs) k n i (group_of g) (omega (arith, within, length-map gs group_of))
     (ap (λ x. same_token x.0 k) (group-read gs i g within e) ∙ s) q
 
+-- the group of an index has the token
+token-read : (gs : List Group) (k : NetToken) (i : ℕ) (g : Group) → i < length gs → g ≡ get_or gs i g
+    → same_token (read_token g.token) k ≡ true → same_token (get_or (map group_of gs) i (group_of g)).0 k ≡ true
+token-read gs k i g h e s = ap (λ x. same_token x.0 k) (group-read gs i g h e) ∙ s
+
+-- a number is added to a group of its token, and there is no other one
+pub enter-own : (gs : List Group) (k : NetToken) (n i : ℕ) (g h new : Group) → i < length gs → g ≡ get_or gs i g
+    → h ≡ get_or gs i h → same_token (read_token g.token) k ≡ true → group_of new ≡ pushed (group_of h) n
+    → AreApart (map group_of gs) → map group_of (set gs i new) ≡ entered (map group_of gs) k n
+enter-own gs k n i g h new within e f s p a =
+    enter-set gs k n i g h new within e f s p (apart-before (map group_of gs) k n i (group_of g) a
+    (omega (arith, within, length-map gs group_of)) (token-read gs k i g within e s))
+
+-- that token has its mark
+pub own-marked : (ms : List Bool) (gs : List Group) (k : NetToken) (i : ℕ) (g : Group) → i < length gs
+    → g ≡ get_or gs i g → same_token (read_token g.token) k ≡ true → AreMarked ms (map group_of gs)
+    → has_mark ms (token_digest k) ≡ true
+own-marked ms gs k i g within e s a =
+    marked-at ms (map group_of gs) k i (group_of g) a (omega (arith, within, length-map gs group_of))
+    (token-read gs k i g within e s)
+
 -- the group of an index, among the groups of lists
 pub group-at : (gs : List Group) (ls : List Numbered) (i : ℕ) (g : Group) → map group_of gs ≡ grouped ls
     → i < length gs → g ≡ get_or gs i g → (numbers_of g ≡ numbers_after (read_token g.token) ls)
@@ -73,14 +96,14 @@ pub groups-size : (gs : List Group) (ls : List Numbered) → map group_of gs ≡
 groups-size gs ls m =
     sym (length-map gs group_of) ∙ ap length m ∙ length-map (heads (bare ls)) (λ k. (k, numbers_after k ls))
 
--- ---- rows
+-- ---- states
 
 set-parts : {X : Type 0} (xs : List X) (i : ℕ) (y : X) → i < length xs → set xs i y ≡ take i xs ++ (y ∷ drop (suc i) xs)
 set-parts [] i y h = absurd (omega (arith, h))
 set-parts (x ∷ xs) zero y h = refl
 set-parts (x ∷ xs) (suc i) y h = ap (λ zs. x ∷ zs) (set-parts xs i y (omega (arith, h)))
 
--- where a row leads down
+-- where a state leads down
 abbrev pub IsDown : ℕ → ℕ → Option ℕ → Type 0
 IsDown own size o = ((own + 1 < size) × (o ≡ Some (own + 2))) ⊎ ((size ≤ own + 1) × (o ≡ None))
 
@@ -101,38 +124,36 @@ over-is more own size is o e (inl h) =
     let f : suc size ≡ suc (suc own) + length is = omega (arith, e) in rw h.0 (h.1 ∙ ap Some f)
 over-is more own size is o e (inr h) = rw h.0 h.1
 
--- a row that is told where it leads
-pub link-set : (rs : List Row) (own : ℕ) (more : Bool) (r new : Row) (down over : Option ℕ) → own < length rs
-    → r ≡ get_or rs own r → row_of new ≡ record {
-      token = read_token r.token;
-      down = down;
-      over = over;
-      accepts = r.accepts;
-    } → IsDown own (length rs) down → IsOver more (length rs) over
-    → map row_of (set rs own new) ≡ take own (map row_of rs) ++ linked own more (drop own (map row_of rs))
-link-set rs own more r new down over within e p d o =
-    let is = map row_of rs in
-    let w : own < length is = omega (arith, within, length-map rs row_of) in
+-- the state of a place
+at-place : {X : Type 0} (xs : List X) (n : ℕ) → n < length xs
+    → (x : X) × ((slice_get xs n ≡ Some x) × (drop n xs ≡ x ∷ drop (suc n) xs))
+at-place [] n h = absurd (omega (arith, h))
+at-place (x ∷ xs) zero h = (x, (refl, refl))
+at-place (x ∷ xs) (suc n) h = at-place xs n (omega (arith, h))
+
+-- a state that is told where it leads
+pub link-set : (is : List Instr) (own : ℕ) (more : Bool) (done : List Instr) (down over : Option ℕ) → own < length is
+    → ((i : Instr) → slice_get is own ≡ Some i → done ≡ set is own (record i { down = down; over = over }))
+    → IsDown own (length is) down → IsOver more (length is) over
+    → done ≡ take own is ++ linked own more (drop own is)
+link-set is own more done down over within p d o =
+    let at = at-place is own within in
+    let i = at.0 in
     let rest = drop (suc own) is in
-    let size : length rs ≡ suc own + length rest =
-    omega (arith, within, length-map rs row_of, length-drop (suc own) is) in
-    let read : get_or is own (row_of r) ≡ row_of r = get_or-map row_of rs own r (row_of r) within ∙ ap row_of (sym e) in
-    let next : suc own ≡ own + 1 = omega arith in
-    let front : drop own is ≡ row_of r ∷ rest = drop-next is own (row_of r) w
-    ∙ (λ i. read i ∷ drop (sym next i) is) in
-    let told : row_of new ≡ record {
-      token = read_token r.token;
+    let size : length is ≡ suc own + length rest = omega (arith, within, length-drop (suc own) is) in
+    let told : record i { down = down; over = over } ≡ record {
+      token = i.token;
       down = target (suc (suc own)) rest;
       over = if more then Some (suc (suc own) + length rest) else None;
-      accepts = r.accepts;
-    } = p ∙ (λ i. record {
-      token = read_token r.token;
-      down = down-target own rest down (subst (λ n. IsDown own n down) size d) i;
-      over = over-is more own (length rs) rest over size o i;
-      accepts = r.accepts;
-    }) in
-    map-set row_of rs own new ∙ set-parts is own (row_of new) w
-    ∙ ap (λ x. take own is ++ (x ∷ rest)) told ∙ ap (λ xs. take own is ++ linked own more xs) (sym front)
+      accepts = i.accepts;
+    } = λ j. record {
+      token = i.token;
+      down = down-target own rest down (subst (λ n. IsDown own n down) size d) j;
+      over = over-is more own (length is) rest over size o j;
+      accepts = i.accepts;
+    } in
+    p i at.1.0 ∙ set-parts is own (record i { down = down; over = over }) within
+    ∙ ap (λ x. take own is ++ (x ∷ rest)) told ∙ ap (λ xs. take own is ++ linked own more xs) (sym at.1.1)
 
 -- the numbers of a group, from the next place on
 pub left-group : (lists : List Path) (place : ℕ) (ns ms : List ℕ) (k : NetToken)
@@ -143,7 +164,7 @@ left-group lists place ns ms k e =
     ap (left_at lists (place + 1)) e ∙ ap (λ p. left_at lists p (numbers_after k (left_at lists place ns))) f
     ∙ left-numbers lists place k ns
 
--- the rows of a group are the states of its token and below it
+-- what is added for a group is the states of its token and below it
 pub group-step : (most place : ℕ) (lists : List Path) (ns : List ℕ) (gs : List Group) (i : ℕ) (g : Group)
     (numbers : List ℕ) (rows pushed made done : List Instr) (own count : ℕ)
     → map group_of gs ≡ grouped (left_at lists place ns) → i < length gs → g ≡ get_or gs i g → count ≡ length gs

@@ -1,4 +1,4 @@
--- The steps of the making of groups and rows, over plain lists.
+-- The steps of the making of groups and states, over plain lists.
 use Rattle.std.proofs.Common.{◌≡◌, ◌<◌, ◌≤◌, ℕ, zero, suc, ◌+◌, List, [], ◌∷◌, ◌++◌, length, take, drop, set}
 use Rattle.std.proofs.Common.{get_or, Bool}
 use Rattle.std.proofs.Common.{true, false, refl, ap, sym, ◌∙◌, subst, arith, append_assoc, drop-cons}

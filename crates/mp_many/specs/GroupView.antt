@@ -1,8 +1,6 @@
--- What the groups and the rows of the tree are read as.
+-- What the groups are read as.
 use Rattle.std.specs.Prelude.{◌≡◌, ℕ, List, [], ◌∷◌}
-use Rattle.mp_walk.specs.Instrs.{Instr}
 use Rattle.mp_many.specs.declared.group.Group.{Group}
-use Rattle.mp_many.specs.declared.rows.Row.{Row}
 use Rattle.mp_many.specs.Digest.{token_digest}
 use Rattle.mp_many.specs.Groups as groups
 use Rattle.mp_many.specs.TokenView.{read_token}
@@ -23,7 +21,3 @@ group_of g = (read_token g.token, numbers_of g)
 -- its digest is that of its token
 abbrev pub IsDigested : Group → Type 0
 IsDigested g = g.digest ≡ token_digest (read_token g.token)
-
--- a row as the instruction that it becomes
-abbrev pub row_of : Row → Instr
-row_of r = record { token = read_token r.token; down = r.down; over = r.over; accepts = r.accepts }

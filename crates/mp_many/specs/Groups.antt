@@ -1,5 +1,7 @@
 -- Groups of numbered lists by their first tokens.
-use Rattle.std.specs.Prelude.{ℕ, zero, suc, List, [], ◌∷◌, ◌++◌, map, drop, slice_index_or, if◌then◌else◌}
+use Rattle.std.specs.Prelude.{◌≡◌, ⊤, ℕ, zero, suc, false, List, [], ◌∷◌, ◌++◌, map, drop, slice_index_or}
+use Rattle.std.specs.Prelude.{if◌then◌else◌}
+use Rattle.std.specs.List.{AllByRecursion}
 use Rattle.mp_pattern.specs.NetTokens.{NetToken, same_token}
 use Rattle.mp_many.specs.Prefixes.{heads}
 use Rattle.mp_many.specs.Laid.{Numbered, bare, left_after}
@@ -12,6 +14,11 @@ Group = NetToken × List ℕ
 abbrev pub entered : List Group → NetToken → ℕ → List Group
 entered [] k n = (k, n ∷ []) ∷ []
 entered (g ∷ gs) k n = if same_token g.0 k then (g.0, g.1 ++ n ∷ []) ∷ gs else g ∷ entered gs k n
+
+-- no two groups have one token
+abbrev pub AreApart : List Group → Type 0
+AreApart [] = ⊤
+AreApart (g ∷ gs) = AllByRecursion (λ h. same_token g.0 h.0 ≡ false) gs × AreApart gs
 
 -- the groups of lists, in order of the first list of each
 abbrev pub grouped : List Numbered → List Group

@@ -1,5 +1,5 @@
 //! All that many rules admit on a subject.
-ghost use Rattle.std.specs.Prelude.{◌≡◌, ◌≤◌, IfOk, IfSome, IsSome};
+ghost use Rattle.std.specs.Prelude.{◌≡◌, ◌≤◌, IfOk, IfSome, IsSome, option_map};
 ghost use Rattle.mp_term.specs.Normal.{IsNormal};
 ghost use Rattle.mp_term.specs.Size.{node_count};
 ghost use Rattle.mp_pattern.specs.Admission.{meets};
@@ -8,6 +8,7 @@ ghost use Rattle.mp_pattern.specs.Lists.{IsAllList};
 ghost use Rattle.mp_pattern.specs.RuleView.{rule_tree};
 ghost use Rattle.mp_pattern.specs.declared.limits.TheConstants.{MAX_TERM_NODES};
 ghost use Rattle.mp_cond.specs.Ready.{IsReady};
+ghost use Rattle.mp_walk.specs.Ranked.{pairs_of, AreOver};
 ghost use Rattle.mp_many.specs.Given.{IsPairOf};
 ghost use Rattle.mp_many.specs.Many.{subject_of, IsWalkTable};
 ghost use Rattle.mp_many.specs.WalkItems.{IsWalkItem};
@@ -24,8 +25,8 @@ use std::alloc::Global;
 
 // The rule's condition, where it has one, holds of the pair's substitution.
 fn meets(alloc: Global, sig: &Signature, rule: &Rule, pair: &RankedPair<'_>) -> Result<bool, Memory>
-    requires { IfSome rule.now.condition (λ c. IsReady pair.now.1 (cond_tree c)) }
-    ensures { IfOk result (λ b. b ≡ meets sig.now (rule_tree rule.now).condition pair.now.1) }
+    requires { IfSome rule.now.condition (λ c. IsReady pair.now.pair.1 (cond_tree c)) }
+    ensures { IfOk result (λ b. b ≡ meets sig.now (rule_tree rule.now).condition pair.now.pair.1) }
 {
     match &rule.condition {
         None => Ok(true),
@@ -44,8 +45,9 @@ fn admitted<'a>(
     requires few { node_count (subject_of walk.now.table) ≤ MAX_TERM_NODES }
     requires some { IsSome walk.now.item }
     requires item { IfSome walk.now.item (IsWalkItem many.now.sig many.now.rules (subject_of walk.now.table)) }
-    ensures { IfOk result (λ o. IfSome walk.now.item (λ i.
-        IsPairOf many.now.sig many.now.rules (subject_of walk.now.table) i o)) }
+    ensures pair { IfOk result (λ o. IfSome walk.now.item (λ i.
+        IsPairOf many.now.sig many.now.rules (subject_of walk.now.table) i (option_map (λ p. p.pair) o))) }
+    ensures table { IfOk result (λ o. IfSome o (λ p. p.table ≡ walk.now.table)) }
 {
     let Some(rule) = many.rules().get(walk.rule() as usize) else {
         unreachable!()
@@ -70,10 +72,12 @@ impl<'a> Many<'a> {
         table: &'t Table,
     ) -> Result<Vec<RankedPair<'t>>, Memory>
         requires { IsWalkTable self.now table.now }
-        ensures { IfOk result (λ ps. IsAllList self.now.sig self.now.rules (subject_of table.now) ps.items) }
+        ensures pairs { IfOk result
+            (λ ps. IsAllList self.now.sig self.now.rules (subject_of table.now) (pairs_of ps.items)) }
+        ensures table { IfOk result (λ ps. AreOver table.now ps.items) }
     {
         let mut walk = Walk::begin(alloc, self, table)?;
-        let mut found = Finds::new(alloc);
+        let mut found = Finds::new(alloc, table);
         while walk.next()? {
             if let Some(pair) = admitted(alloc, self, &walk)? {
                 found.add(pair)?;

@@ -1,7 +1,7 @@
 //! Token lists that begin alike from a place on, together.
 ghost use Rattle.std.specs.Prelude.{◌≡◌, ◌<◌, ◌++◌, [], ◌∷◌, length, map, flat_map, IfOk, OnOk};
 ghost use Rattle.std.specs.List.{AllByRecursion};
-ghost use Rattle.mp_many.specs.Groups.{entered, grouped, left_at};
+ghost use Rattle.mp_many.specs.Groups.{entered, grouped, left_at, AreApart};
 ghost use Rattle.mp_many.specs.Laid.{ended};
 ghost use Rattle.mp_many.specs.GroupView.{group_of, numbers_of, IsDigested};
 ghost use Rattle.mp_many.specs.Digest.{token_digest};
@@ -11,7 +11,7 @@ ghost use Rattle.mp_pattern.specs.NetTokens.{same_token};
 
 use crate::digest::token_digest;
 use crate::marks::{has_mark, marks_for, set_mark};
-use crate::token::{Token, TokenList, is_same};
+use crate::token::{Token, TokenList, is_plainly_same, is_same};
 use mp_term::Memory;
 use mp_walk::Numbers;
 use std::alloc::Global;
@@ -134,6 +134,29 @@ fn enter_marked<'a>(
     push_group(alloc, groups, token, digest, number)
 }
 
+// Adds it too, at once where the last group is that of the token: lists that begin alike mostly stand together.
+fn enter_next<'a>(
+    alloc: Global,
+    groups: &mut Vec<Group<'a>>,
+    marks: &mut Vec<bool>,
+    token: Token<'a>,
+    number: u32,
+) -> Result<(), Memory>
+    requires digests { AllByRecursion IsDigested groups.old.items }
+    requires marked { AreMarked marks.old.items (map group_of groups.old.items) }
+    requires apart { AreApart (map group_of groups.old.items) }
+    ensures entered { OnOk result (map group_of groups.new.items
+        ≡ entered (map group_of groups.old.items) (read_token token.entry) number) }
+    ensures digests { OnOk result (AllByRecursion IsDigested groups.new.items) }
+    ensures marked { OnOk result (AreMarked marks.new.items (map group_of groups.new.items)) }
+{
+    let count = groups.len();
+    if count > 0 && is_plainly_same(&groups[count - 1].token, &token) {
+        return groups[count - 1].add(number);
+    }
+    enter_marked(alloc, groups, marks, token, number)
+}
+
 // The groups of the lists of the numbers by their tokens at the place, in order of the first list of each.
 pub(crate) fn groups_of<'a>(
     alloc: Global,
@@ -148,7 +171,7 @@ pub(crate) fn groups_of<'a>(
     let mut marks = marks_for(alloc, numbers.len())?;
     for number in numbers {
         if let Some(token) = lists[*number as usize].get(place) {
-            enter_marked(alloc, &mut groups, &mut marks, token, *number)?;
+            enter_next(alloc, &mut groups, &mut marks, token, *number)?;
         }
     }
     Ok(groups)

@@ -11,7 +11,7 @@ mod lists;
 mod many;
 mod marks;
 mod names;
-mod rows;
+mod states;
 mod token;
 mod tree;
 mod walk;

@@ -1,5 +1,5 @@
 //! The tokens of the patterns of rules, read where they stand.
-ghost use Rattle.std.specs.Prelude.{◌≡◌, length, map, slice_get, IfOk, option_map};
+ghost use Rattle.std.specs.Prelude.{◌≡◌, true, length, map, slice_get, IfOk, IsTrue, option_map};
 ghost use Rattle.mp_pattern.specs.NetTokens.{same_token};
 ghost use Rattle.mp_pattern.specs.NetTokenView.{net_token};
 ghost use Rattle.mp_many.specs.TokenView.{read_token};
@@ -87,14 +87,26 @@ pub(crate) fn to_net_token(alloc: Global, token: &Token<'_>) -> Result<NetToken,
     }
 }
 
+// The tokens are equal, as is told at once of all but applications of commutative operations and wildcards other than
+// dots.
+pub(crate) fn is_plainly_same(token: &Token<'_>, other: &Token<'_>) -> bool
+    ensures { IsTrue result → same_token (read_token token.now) (read_token other.now) ≡ true }
+{
+    match (token, other) {
+        (Token::Sym(m), Token::Sym(n)) => **m == **n,
+        (Token::Enter(f), Token::Enter(g)) => *f == *g,
+        (Token::Leave(f), Token::Leave(g)) => *f == *g,
+        (Token::Wild(Shape::Dot, m), Token::Wild(Shape::Dot, n)) => *m == *n,
+        _ => false,
+    }
+}
+
 // The tokens are equal. `Memory` comes where there is no room to compare applications of a commutative operation.
 pub(crate) fn is_same(alloc: Global, token: &Token<'_>, other: &Token<'_>) -> Result<bool, Memory>
     ensures { IfOk result (λ b. b ≡ same_token (read_token token.now) (read_token other.now)) }
 {
-    match (token, other) {
-        (Token::Sym(m), Token::Sym(n)) => Ok(**m == **n),
-        (Token::Enter(f), Token::Enter(g)) => Ok(*f == *g),
-        (Token::Leave(f), Token::Leave(g)) => Ok(*f == *g),
-        _ => Ok(to_net_token(alloc, token)? == to_net_token(alloc, other)?),
+    if is_plainly_same(token, other) {
+        return Ok(true);
     }
+    Ok(to_net_token(alloc, token)? == to_net_token(alloc, other)?)
 }

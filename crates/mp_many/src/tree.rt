@@ -2,17 +2,16 @@
 ghost use Rattle.std.specs.Prelude.{◌≡◌, ◌<◌, ◌^◌, length, map, IfOk};
 ghost use Rattle.mp_pattern.specs.RuleView.{rule_tree};
 ghost use Rattle.mp_pattern.specs.Variables.{variables};
-ghost use Rattle.mp_many.specs.GroupView.{row_of};
 ghost use Rattle.mp_many.specs.Groups.{count_from};
 ghost use Rattle.mp_many.specs.Laid.{laid, numbered_from, tree_of};
 ghost use Rattle.mp_many.specs.Prefixes.{token_count};
 
 use crate::lists::{cut, rule_tokens};
-use crate::rows::{Row, push_rows};
-use crate::token::{TokenList, to_net_token};
+use crate::states::push_states;
+use crate::token::TokenList;
 use mp_pattern::Rule;
 use mp_term::{Memory, Names, Signature};
-use mp_walk::{Instr, Instrs};
+use mp_walk::Instrs;
 use std::alloc::Global;
 
 // The numbers from 0 on, so many.
@@ -27,32 +26,17 @@ fn first_numbers(alloc: Global, count: usize) -> Result<Vec<u32>, Memory>
     Ok(numbers)
 }
 
-// The rows of all lists, which have so many tokens together.
-fn rows_of<'a>(alloc: Global, lists: &[TokenList<'a>], most: usize) -> Result<Vec<Row<'a>>, Memory>
+// The states of all lists, which have so many tokens together.
+fn states_of(alloc: Global, lists: &[TokenList<'_>], most: usize) -> Result<Instrs, Memory>
     requires few { length lists.now < 2 ^ 32 }
     requires most { most ≡ token_count lists.now }
-    ensures { IfOk result (λ rs. map row_of rs.items ≡ laid (token_count lists.now) (numbered_from 0 lists.now) 1) }
+    ensures { IfOk result (λ is. is ≡ laid (token_count lists.now) (numbered_from 0 lists.now) 1) }
 {
     let numbers = first_numbers(alloc, lists.len())?;
-    let mut rows = Vec::with_capacity(alloc, most)?;
-    push_rows(alloc, lists, &numbers, 0, most, &mut rows)?;
-    Ok(rows)
-}
-
-// The instructions of rows.
-fn instrs_of(alloc: Global, rows: Vec<Row<'_>>) -> Result<Instrs, Memory>
-    ensures { IfOk result (λ is. is ≡ map row_of rows.entry.items) }
-{
-    let mut instrs = Instrs::with_room(alloc, rows.len())?;
-    for row in rows {
-        instrs.push(Instr {
-            token: to_net_token(alloc, &row.token)?,
-            down: row.down,
-            over: row.over,
-            accepts: row.accepts,
-        })?;
-    }
-    Ok(instrs)
+    // Rules share their beginnings: there is room for half of the tokens at first.
+    let mut states = Instrs::with_room(alloc, most / 2)?;
+    push_states(alloc, lists, &numbers, 0, most, &mut states)?;
+    Ok(states)
 }
 
 // The table of the tree of the rules, whose variables have these names.
@@ -68,6 +52,5 @@ pub(crate) fn tree_of(
 {
     let all = rule_tokens(alloc, sig, rules, names)?;
     let lists = cut(alloc, &all.tokens, &all.counts)?;
-    let rows = rows_of(alloc, &lists, all.tokens.len())?;
-    instrs_of(alloc, rows)
+    states_of(alloc, &lists, all.tokens.len())
 }

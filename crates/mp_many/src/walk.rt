@@ -116,12 +116,13 @@ impl<'a> Walk<'a> {
     /// there is no room for it.
     pub fn ranked(&self, alloc: Global) -> Result<RankedPair<'a>, Memory>
         requires { IsSome self.now.item }
-        ensures rule { IfOk result (λ p. IfSome self.now.item (λ i. p.0 ≡ i.0)) }
+        ensures rule { IfOk result (λ p. IfSome self.now.item (λ i. p.pair.0 ≡ i.0)) }
         ensures fits { IfOk result (λ p. IfSome self.now.item (λ i. IfSome (slice_get self.now.many.rules i.0)
-            (λ r. Fits self.now.many.sig r.pattern (subject_of self.now.table) p.1 i.1))) }
+            (λ r. Fits self.now.many.sig r.pattern (subject_of self.now.table) p.pair.1 i.1))) }
         ensures applied { IfOk result (λ p. IfSome self.now.item (λ i. IfSome (slice_get self.now.many.rules i.0)
             (λ r. is_fully_named r.pattern ≡ true → HasNoOptional r.pattern →
-            IsPatternApplied self.now.many.sig r.pattern p.1 (subject_of self.now.table)))) }
+            IsPatternApplied self.now.many.sig r.pattern p.pair.1 (subject_of self.now.table)))) }
+        ensures table { IfOk result (λ p. p.table ≡ self.now.table) }
     {
         let rule = self.accepts[0];
         RankedPair::new(

@@ -11,7 +11,7 @@ pub meets-requires : goal.meets-requires
 meets-requires c =
     let m = c.args.many.now in
     let t = subject_of c.args.walk.now.table in
-    let s = c.in_ok-pair.pair.1 in
+    let s = c.in_ok-pair.pair.pair.1 in
     let item = c.args.walk.now.item in
     let number = c.rule.result in
     let held : slice_get m.rules number ≡ Some (rule_tree c.in-Some.rule.now) =
@@ -22,13 +22,13 @@ meets-requires c =
     ready-item m t c.rules.ensures.sound c.requires.normal c.requires.few number c.in-Some.rule.now held s
     item c.requires.some (c.rule.ensures, fits)
 
-pub returns-then-branch : goal.returns-then-branch
-returns-then-branch c =
+pub returns-then-branch-clause-pair : goal.returns-then-branch-clause-pair
+returns-then-branch-clause-pair c =
     let m = c.args.many.now in
     let t = subject_of c.args.walk.now.table in
-    let s = c.in_ok-pair.pair.1 in
+    let s = c.in_ok-pair.pair.pair.1 in
     let item = c.args.walk.now.item in
-    let number = c.in_ok-pair.pair.0 in
+    let number = c.in_ok-pair.pair.pair.0 in
     let same = same-number item c.rule.result number c.requires.some c.rule.ensures c.in_ok-pair.ensures.rule in
     let rule = rule_tree c.in-Some.rule.now in
     let held : slice_get m.rules number ≡ Some rule =
@@ -41,11 +41,11 @@ returns-then-branch c =
     some-item m t c.rules.ensures.sound c.requires.normal c.requires.few number c.in-Some.rule.now held s
     item c.requires.some (c.in_ok-pair.ensures.rule, fits) (sym holds ∙ c.if-branch.true)
 
-pub returns : goal.returns
-returns c =
+pub returns-clause-pair : goal.returns-clause-pair
+returns-clause-pair c =
     let m = c.args.many.now in
     let t = subject_of c.args.walk.now.table in
-    let s = c.in_ok-pair.pair.1 in
+    let s = c.in_ok-pair.pair.pair.1 in
     let item = c.args.walk.now.item in
     let number = c.rule.result in
     let rule = rule_tree c.in-Some.rule.now in

@@ -2,15 +2,16 @@ use Rattle.std.proofs.Common.{◌≡◌, ◌∙◌, ◌+◌, [], drop, get_or, m
 use Rattle.std.specs.Prelude.{option_map}
 use Rattle.std.proofs.lemmas.List.{drop_all}
 use Rattle.std.specs.List.{AllByRecursion}
-use Rattle.mp_many.specs.Groups.{left_at}
+use Rattle.mp_many.specs.Groups.{left_at, AreApart}
 use Rattle.mp_many.specs.declared.group.Group.{Group}
 use Rattle.mp_many.specs.GroupView.{group_of, IsDigested}
 use Rattle.mp_many.specs.Marks.{AreMarked}
 use Rattle.mp_many.specs.TokenView.{read_token}
+use Rattle.mp_many.proofs.ApartLaws.{apart-entered}
 use Rattle.mp_many.proofs.GroupLaws.{entered_all, entered-grouped}
 use Rattle.mp_many.proofs.RowLaws.{entered_by, entered-step, within-step}
 use Rattle.mp_many.proofs.group.groups_of.Goals as goal
-use Rattle.mp_many.proofs.group.groups_of.Goals.{in-Some+in_ok-enter_marked, in_default}
+use Rattle.mp_many.proofs.group.groups_of.Goals.{in-Some+in_ok-enter_next, in_default}
 
 -- marks and groups that are these are marked as they are
 marked-as : {a b : Vec Bool Global} {g h : Vec Group Global} → a ≡ b → g ≡ h → AreMarked b.items (map group_of h.items)
@@ -34,20 +35,28 @@ loop-number-preserved c =
       within = step.1;
       digests =
           elim c.match-get.branch [
-            | in-Some+in_ok-enter_marked w ↦
-                subst (λ v. AllByRecursion IsDigested v.items) (sym w.groups-is) w.in_ok-enter_marked.ensures.digests
+            | in-Some+in_ok-enter_next w ↦
+                subst (λ v. AllByRecursion IsDigested v.items) (sym w.groups-is) w.in_ok-enter_next.ensures.digests
             | in_default w ↦ subst (λ v. AllByRecursion IsDigested v.items) (sym w.groups-is) old.digests
+          ];
+      apart =
+          elim c.match-get.branch [
+            | in-Some+in_ok-enter_next w ↦
+                subst (λ v. AreApart (map group_of v.items)) (sym w.groups-is)
+                (subst AreApart (sym w.in_ok-enter_next.ensures.entered)
+                (apart-entered gs (read_token w.in-Some.token) (get_or ns i 0) old.apart))
+            | in_default w ↦ subst (λ v. AreApart (map group_of v.items)) (sym w.groups-is) old.apart
           ];
       marked =
           elim c.match-get.branch [
-            | in-Some+in_ok-enter_marked w ↦ marked-as w.marks-is w.groups-is w.in_ok-enter_marked.ensures.marked
+            | in-Some+in_ok-enter_next w ↦ marked-as w.marks-is w.groups-is w.in_ok-enter_next.ensures.marked
             | in_default w ↦ marked-as w.marks-is w.groups-is old.marked
           ];
       groups =
           elim c.match-get.branch [
-            | in-Some+in_ok-enter_marked w ↦
+            | in-Some+in_ok-enter_next w ↦
                 ap (λ hs. entered_all hs (left_at lists c.args.place (drop (i + 1) ns)))
-                (ap (λ v. map group_of v.items) w.groups-is ∙ w.in_ok-enter_marked.ensures.entered
+                (ap (λ v. map group_of v.items) w.groups-is ∙ w.in_ok-enter_next.ensures.entered
                 ∙ ap (entered_by gs (get_or ns i 0)) (sym (ap (option_map read_token) w.in-Some.is)))
                 ∙ sym e ∙ old.groups
             | in_default w ↦
@@ -68,6 +77,10 @@ returns c =
     sym (ap (λ ms. entered_all gs (left_at lists c.args.place ms)) all) ∙ c.loop-number.invariant.groups
     ∙ entered-grouped (left_at lists c.args.place ns)
 
-pub enter_marked-requires : goal.enter_marked-requires
-enter_marked-requires c =
-    record { digests = c.loop-number.invariant.digests; marked = c.loop-number.invariant.marked }
+pub enter_next-requires : goal.enter_next-requires
+enter_next-requires c =
+    record {
+      digests = c.loop-number.invariant.digests;
+      marked = c.loop-number.invariant.marked;
+      apart = c.loop-number.invariant.apart;
+    }

@@ -21,8 +21,8 @@ cut-requires c =
     ∙ ap length c.in_ok-all.ensures.tokens in
     omega (arith, counted, held)
 
-pub rows_of-requires-clause-few : goal.rows_of-requires-clause-few
-rows_of-requires-clause-few c =
+pub states_of-requires-clause-few : goal.states_of-requires-clause-few
+states_of-requires-clause-few c =
     let sig = c.args.sig.now in
     let rules = map rule_tree c.args.rules.now in
     let ls = token_lists sig rules in
@@ -34,8 +34,8 @@ rows_of-requires-clause-few c =
     ∙ length-map c.args.rules.now rule_tree in
     omega (arith, size, c.requires.few)
 
-pub rows_of-requires-clause-most : goal.rows_of-requires-clause-most
-rows_of-requires-clause-most c =
+pub states_of-requires-clause-most : goal.states_of-requires-clause-most
+states_of-requires-clause-most c =
     let ls = token_lists c.args.sig.now (map rule_tree c.args.rules.now) in
     let lists : c.deref-3.result.now ≡ ls = c.deref-3.ensures.value ∙ c.in_ok-lists.ensures
     ∙ (λ i. cut ((c.deref-2.ensures.value ∙ c.in_ok-all.ensures.counts) i)
@@ -50,6 +50,5 @@ returns c =
     let lists : c.deref-3.result.now ≡ ls = c.deref-3.ensures.value ∙ c.in_ok-lists.ensures
     ∙ (λ i. cut ((c.deref-2.ensures.value ∙ c.in_ok-all.ensures.counts) i)
     ((ap (map read_token) c.deref.ensures.value ∙ c.in_ok-all.ensures.tokens) i)) ∙ cut-lists ls in
-    IfOk-weaker c.instrs_of.result _ (λ is. is ≡ tree_of c.args.sig.now (map rule_tree c.args.rules.now))
-    (λ is e. e ∙ c.in_ok-rows.ensures ∙ ap (λ l. laid (token_count l) (numbered_from 0 l) 1) lists)
-    c.instrs_of.ensures
+    IfOk-weaker c.states_of.result _ (λ is. is ≡ tree_of c.args.sig.now (map rule_tree c.args.rules.now))
+    (λ is e. e ∙ ap (λ l. laid (token_count l) (numbered_from 0 l) 1) lists) c.states_of.ensures

@@ -7,7 +7,8 @@ abbrev pub invariant-loop-found : goal.invariant-loop-found
 invariant-loop-found l = record {
   many : l.walk.many ≡ l.self;
   table : l.walk.table ≡ l.table;
-  found : HasFound l.self.sig l.self.rules (subject_of l.table) l.found l.walk.to_come;
+  found : HasFound l.self.sig l.self.rules (subject_of l.table) l.found.pairs l.walk.to_come;
+  over : l.found.table ≡ l.table;
 }
 
 abbrev pub decreases-loop-found : goal.decreases-loop-found

@@ -8,6 +8,7 @@ use Rattle.mp_pattern.specs.Lists.{Pair}
 use Rattle.mp_theory.specs.NoOptional.{HasNoOptional}
 use Rattle.mp_subst.specs.Trail.{GoesWith, subst_in}
 use Rattle.mp_walk.specs.NamedItems.{called}
+use Rattle.mp_walk.specs.Ranked.{Ranked}
 use Rattle.mp_many.specs.RuleWalk.{given}
 use Rattle.mp_many.specs.Laid.{tree_of}
 use Rattle.mp_many.specs.Many.{subject_of}
@@ -48,12 +49,12 @@ pub returns-clause-rule : goal.returns-clause-rule
 returns-clause-rule c =
     let w = c.self.inside in
     let ns = w.accepts.now in
-    subst (λ v. IfOk c.new.result (λ p. IfSome v.item (λ i. p.0 ≡ i.0))) c.self.view_is
+    subst (λ v. IfOk c.new.result (λ p. IfSome v.item (λ i. p.pair.0 ≡ i.0))) c.self.view_is
     (IfOk-weaker c.new.result
-    (λ (p : Pair). p ≡ (get_or ns 0 0, subst_in w.table.now (called c.names.result.now) c.trail.result.now))
-    (λ p. IfSome (slice_get (given ns w.leaves.item) 0) (λ i. p.0 ≡ i.0))
+    (λ (p : Ranked). p.pair ≡ (get_or ns 0 0, subst_in w.table.now (called c.names.result.now) c.trail.result.now))
+    (λ p. IfSome (slice_get (given ns w.leaves.item) 0) (λ i. p.pair.0 ≡ i.0))
     (λ p e. subst (λ n. IfSome (slice_get (given ns w.leaves.item) 0) (λ i. n ≡ i.0)) (sym (ap (λ (q : Pair). q.0) e))
-    (given-number ns w.leaves.item)) c.new.ensures)
+    (given-number ns w.leaves.item)) c.new.ensures.pair)
 
 pub returns-clause-fits : goal.returns-clause-fits
 returns-clause-fits c =
@@ -72,12 +73,12 @@ returns-clause-fits c =
     let fits = fits-given m c.names.ensures.sound w.table.now ns full o here.item here.stands here.leaf here.front
     here.rules trail trail_of names c.names.ensures.names in
     subst (λ v. IfOk c.new.result (λ p. IfSome v.item (λ i. IfSome (slice_get v.many.rules i.0)
-    (λ r. Fits v.many.sig r.pattern (subject_of v.table) p.1 i.1)))) c.self.view_is
-    (IfOk-weaker c.new.result (λ (p : Pair). p ≡ (get_or ns 0 0, subst_in w.table.now (called names) trail))
+    (λ r. Fits v.many.sig r.pattern (subject_of v.table) p.pair.1 i.1)))) c.self.view_is
+    (IfOk-weaker c.new.result (λ (p : Ranked). p.pair ≡ (get_or ns 0 0, subst_in w.table.now (called names) trail))
     (λ p. IfSome (slice_get (given ns o) 0) (λ i. IfSome (slice_get m.rules i.0)
-    (λ r. Fits m.sig r.pattern t p.1 i.1)))
+    (λ r. Fits m.sig r.pattern t p.pair.1 i.1)))
     (λ p e. subst (λ s. IfSome (slice_get (given ns o) 0) (λ i. IfSome (slice_get m.rules i.0)
-    (λ r. Fits m.sig r.pattern t s i.1))) (sym (ap (λ (q : Pair). q.1) e)) fits) c.new.ensures)
+    (λ r. Fits m.sig r.pattern t s i.1))) (sym (ap (λ (q : Pair). q.1) e)) fits) c.new.ensures.pair)
 
 pub returns-clause-applied : goal.returns-clause-applied
 returns-clause-applied c =
@@ -100,10 +101,13 @@ returns-clause-applied c =
     normal fits in
     subst (λ v. IfOk c.new.result (λ p. IfSome v.item (λ i. IfSome (slice_get v.many.rules i.0)
     (λ r. is_fully_named r.pattern ≡ true → HasNoOptional r.pattern
-    → IsPatternApplied v.many.sig r.pattern p.1 (subject_of v.table))))) c.self.view_is
-    (IfOk-weaker c.new.result (λ (p : Pair). p ≡ (get_or ns 0 0, subst_in w.table.now (called names) trail))
+    → IsPatternApplied v.many.sig r.pattern p.pair.1 (subject_of v.table))))) c.self.view_is
+    (IfOk-weaker c.new.result (λ (p : Ranked). p.pair ≡ (get_or ns 0 0, subst_in w.table.now (called names) trail))
     (λ p. IfSome (slice_get (given ns o) 0) (λ i. IfSome (slice_get m.rules i.0)
-    (λ r. is_fully_named r.pattern ≡ true → HasNoOptional r.pattern → IsPatternApplied m.sig r.pattern p.1 t)))
+    (λ r. is_fully_named r.pattern ≡ true → HasNoOptional r.pattern → IsPatternApplied m.sig r.pattern p.pair.1 t)))
     (λ p e. subst (λ s. IfSome (slice_get (given ns o) 0) (λ i. IfSome (slice_get m.rules i.0)
     (λ r. is_fully_named r.pattern ≡ true → HasNoOptional r.pattern → IsPatternApplied m.sig r.pattern s t)))
-    (sym (ap (λ (q : Pair). q.1) e)) applied) c.new.ensures)
+    (sym (ap (λ (q : Pair). q.1) e)) applied) c.new.ensures.pair)
+
+pub returns-clause-table : goal.returns-clause-table
+returns-clause-table c = subst (λ v. IfOk c.new.result (λ p. p.table ≡ v.table)) c.self.view_is c.new.ensures.table

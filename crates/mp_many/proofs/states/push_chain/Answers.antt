@@ -1,12 +1,11 @@
 use Rattle.std.proofs.Common.{◌≡◌, ◌≤◌, ◌<◌, ◌∙◌, ◌+◌, ◌-◌, ◌++◌, [], ◌∷◌, suc, drop, get_or, length, map, sym}
 use Rattle.std.proofs.Common.{ap, arith, append-nil, nat_eq, nat_lt}
 use Rattle.std.specs.Prelude.{None, Some, if◌then◌else◌, min}
-use Rattle.std.proofs.lemmas.List.{get_or-map, length-map, map-append}
+use Rattle.std.proofs.lemmas.List.{get_or-map, length-map}
 use Rattle.mp_walk.specs.Instrs.{Instr}
-use Rattle.mp_many.specs.GroupView.{row_of}
 use Rattle.mp_many.specs.TokenView.{read_token}
 use Rattle.mp_many.proofs.ChainLaws.{chain, chain-past, chain-step}
-use Rattle.mp_many.proofs.rows.push_chain.Goals as goal
+use Rattle.mp_many.proofs.states.push_chain.Goals as goal
 
 pub loop-index-preserved : goal.loop-index-preserved
 loop-index-preserved c =
@@ -16,10 +15,9 @@ loop-index-preserved c =
     let i = c.loop-index.index in
     let end = c.min-end.result in
     let left = (c.args.place + c.args.most) - (i + 1) in
-    let rows = c.loop-index.rows.items in
-    let now = map row_of rows in
+    let now = c.loop-index.states in
     let t = c.index-tokens-index.result in
-    let row : Instr = record {
+    let state : Instr = record {
       token = read_token t;
       down = c.in_ok-down.down;
       over = None;
@@ -32,22 +30,20 @@ loop-index-preserved c =
     ap read_token c.index-tokens-index.is ∙ sym (get_or-map read_token tokens i t (read_token t) within) in
     let bound : end ≡ min (length ks) (suc i + left) =
     omega (arith, c.loop-index-test.true, c.min-end.ensures, whole) in
-    let size : length c.deref.result.now ≡ length now =
-    ap length c.deref.ensures.value ∙ sym (length-map rows row_of) in
-    let made : row ≡ record {
+    let made : state ≡ record {
       token = read_token t;
       down = if nat_lt (i + 1) end then Some (suc (suc (length now))) else None;
       over = None;
       accepts = if nat_eq (i + 1) (length ks) then n ∷ [] else [];
     } = λ j. record {
       token = read_token t;
-      down = (c.in_ok-down.ensures ∙ ap (λ m. if nat_lt (i + 1) end then Some (suc (suc m)) else None) size) j;
+      down = c.in_ok-down.ensures j;
       over = None;
       accepts = (c.in_ok-accepts.ensures ∙ ap (λ m. if nat_eq (i + 1) m then n ∷ [] else []) (sym whole)) j;
     } in
-    let pushed : map row_of c.push.new.self.items ≡ now ++ row ∷ [] =
-    ap (map row_of) c.in_ok-push.ensures.items ∙ map-append row_of rows _ in
-    let step = chain-step ks n left end i (read_token t) now row inside is bound made in
+    let pushed : c.push.new.self ≡ now ++ state ∷ [] =
+    c.in_ok-push.ensures.ok ∙ ap (λ k. now ++ record state { token = k } ∷ []) c.in_ok-token.ensures in
+    let step = chain-step ks n left end i (read_token t) now state inside is bound made in
     let more : suc left ≡ (c.args.place + c.args.most) - i = omega (arith, c.loop-index-test.true, c.min-end.ensures) in
     ap (λ rs. rs ++ chain left n (drop (i + 1) ks) (suc (length rs))) pushed ∙ step
     ∙ ap (λ d. now ++ chain d n (drop i ks) (suc (length now))) more ∙ c.loop-index.invariant
@@ -58,7 +54,7 @@ returns c =
     let ks = map read_token tokens in
     let i = c.loop-index.index in
     let left = (c.args.place + c.args.most) - i in
-    let now = map row_of c.loop-index.rows.items in
+    let now = c.loop-index.states in
     let past : min (length ks) (i + left) ≤ i =
     omega (arith, c.loop-index-test.false, c.min-end.ensures, length-map tokens read_token) in
     sym (append-nil now)

@@ -1,21 +1,19 @@
-use Rattle.std.proofs.Common.{◌∙◌, ◌++◌, suc, length, map, sym, ap, subst}
+use Rattle.std.proofs.Common.{◌∙◌, ◌++◌, suc, length, sym, ap, subst}
 use Rattle.mp_many.specs.Groups.{left_at}
-use Rattle.mp_many.specs.GroupView.{row_of}
 use Rattle.mp_many.specs.Laid.{laid}
 use Rattle.mp_many.proofs.GroupLaws.{AreWithin}
 use Rattle.mp_many.proofs.CodeLaws.{count-within, count-left}
-use Rattle.mp_many.proofs.tree.rows_of.Goals as goal
+use Rattle.mp_many.proofs.tree.states_of.Goals as goal
 
-pub push_rows-requires-clause-numbers : goal.push_rows-requires-clause-numbers
-push_rows-requires-clause-numbers c =
+pub push_states-requires-clause-numbers : goal.push_states-requires-clause-numbers
+push_states-requires-clause-numbers c =
     subst (AreWithin c.args.lists.now) (sym (c.deref.ensures.value ∙ c.in_ok-numbers.ensures))
     (count-within c.args.lists.now)
 
 pub returns : goal.returns
 returns c =
     let lists = c.args.lists.now in
-    c.in_ok-push_rows.ensures
-    ∙ ap (λ rs. map row_of rs ++ laid c.args.most (left_at lists 0 c.deref.result.now)
-    (suc (length (map row_of rs)))) c.in_ok-rows.ensures.items
+    c.in_ok-push_states.ensures
+    ∙ ap (λ is. is ++ laid c.args.most (left_at lists 0 c.deref.result.now) (suc (length is))) c.in_ok-states.ensures
     ∙ (λ i. laid (c.requires.most i)
     ((ap (left_at lists 0) (c.deref.ensures.value ∙ c.in_ok-numbers.ensures) ∙ count-left lists) i) 1)
