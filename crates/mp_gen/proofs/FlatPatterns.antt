@@ -30,10 +30,6 @@ module _ (sig : Sig) where
   abbrev IsFlatUnder : ℕ → Pattern → Type 0
   IsFlatUnder f p = (is_flat sig p ≡ true) × ((is_assoc sig f && is_headed f p) ≡ false)
 
-  flat-under : (f : ℕ) (p : Pattern) → IsFlatUnder f p
-      → (not (is_assoc sig f && is_headed f p) && is_flat sig p) ≡ true
-  flat-under f p h = and_from _ _ (ap not h.1) h.0
-
   all-are_flat : (f : ℕ) (ps : List Pattern) → AllByRecursion (IsFlatUnder f) ps → are_flat sig f (patterns ps) ≡ true
   all-are_flat f [] h = refl
   all-are_flat f (p ∷ ps) h = and_from _ _ (ap not h.0.1) (and_from _ _ h.0.0 (all-are_flat f ps h.1))

@@ -1,7 +1,7 @@
 -- Tests, each once, and their places.
 use Rattle.std.proofs.Common.{◌≡◌, ℕ, suc, List, [], ◌∷◌, ◌++◌, map, length, Bool, true, false, Some, None, refl}
 use Rattle.std.proofs.Common.{sym, ap, ◌∙◌, zero, ◌+◌, drop, append_assoc, add-one, arith}
-use Rattle.std.specs.Prelude.{Result, Ok, Err, OnOk}
+use Rattle.std.specs.Prelude.{Result, Ok, Err, IfOk, OnOk}
 use Rattle.std.specs.Prelude.{◌||◌, cond, not, nat_lt, bytes_eq, is_some, slice_get, if◌then◌else◌}
 use Rattle.std.specs.List.{flat_map, list_any, position, position_or_len}
 use Rattle.std.proofs.lemmas.Slice.Eq.{bytes_eq-Decides}
@@ -20,13 +20,6 @@ use Rattle.mp_program.specs.Program.{ProgramRule}
 use Rattle.mp_program.specs.Form.{RuleTest, untested, tested, spelled, RuleLine}
 use Rattle.mp_program.specs.ProgramOf.{renamed_cond, renamed_conds, same_cond, cond_place, spelled_test, test_number}
 use Rattle.mp_program.specs.ProgramOf.{rule_of}
-
--- ---- results
-
--- a fact holds where there is a value
-pub on-ok : {X E P : Type 0} (r : Result X E) → P → OnOk r P
-on-ok (Ok x) h = h
-on-ok (Err e) h = tt
 
 -- ---- items, each once
 
@@ -76,7 +69,7 @@ module _ (sig : Sig) where
       ap Some (place ∙ ap (cond_place sig tests) renamed) ∙ sym (ap (test_number sig tests vars) is)
 
   -- the place of one that is found
-  pub place-found : (ts : List Cond) (c : Cond) (i : ℕ)
+  place-found : (ts : List Cond) (c : Cond) (i : ℕ)
       → Some i ≡ position (bytes_eq (cond_text sig c)) (map (cond_text sig) ts)
       → (i ≡ cond_place sig ts c) × (ts ≡ firsts_after (same_cond sig) ts (c ∷ []))
   place-found ts c i found = (place ∙ place-text ts c, sym again)
@@ -96,18 +89,19 @@ module _ (sig : Sig) where
       again : firsts_after (same_cond sig) ts (c ∷ []) ≡ ts
       again = rw known refl
 
-  -- the place of one that isn't found, once it is added
-  pub place-added : (ts : List Cond) (c : Cond)
-      → None ≡ position (bytes_eq (cond_text sig c)) (map (cond_text sig) ts)
-      → (length ts ≡ cond_place sig (ts ++ c ∷ []) c) × (ts ++ c ∷ [] ≡ firsts_after (same_cond sig) ts (c ∷ []))
-      × (list_any (bytes_eq (cond_text sig c)) (map (cond_text sig) ts) ≡ false)
-  place-added ts c none = (place ts unknown, sym added, new)
-    where
-      new : list_any (bytes_eq (cond_text sig c)) (map (cond_text sig) ts) ≡ false
-      new = sym (is_some-position (bytes_eq (cond_text sig c)) (map (cond_text sig) ts)) ∙ ap is_some (sym none)
+  -- a text that isn't found is none of them
+  pub new-text : (ts : List Cond) (c : Cond) → None ≡ position (bytes_eq (cond_text sig c)) (map (cond_text sig) ts)
+      → list_any (bytes_eq (cond_text sig c)) (map (cond_text sig) ts) ≡ false
+  new-text ts c none =
+      sym (is_some-position (bytes_eq (cond_text sig c)) (map (cond_text sig) ts)) ∙ ap is_some (sym none)
 
+  -- the place of one that isn't found, once it is added
+  place-added : (ts : List Cond) (c : Cond) → None ≡ position (bytes_eq (cond_text sig c)) (map (cond_text sig) ts)
+      → (length ts ≡ cond_place sig (ts ++ c ∷ []) c) × (ts ++ c ∷ [] ≡ firsts_after (same_cond sig) ts (c ∷ []))
+  place-added ts c none = (place ts unknown, sym added)
+    where
       unknown : is_known (same_cond sig) ts c ≡ false
-      unknown = known-text ts c ∙ new
+      unknown = known-text ts c ∙ new-text ts c none
 
       added : firsts_after (same_cond sig) ts (c ∷ []) ≡ ts ++ c ∷ []
       added = rw unknown refl
@@ -124,6 +118,23 @@ module _ (sig : Sig) where
               → suc (length ts) ≡ (if b then 0 else suc (cond_place sig (ts ++ c ∷ []) c))
           go true h rest = (let wrong : true ≡ false = h in cc)
           go false h rest = ap suc (rest h)
+
+  -- what is answered where the test is there
+  pub known-test : {E : Type 0} (r : Result ℕ E) (ts : List Cond) (c : Cond) (i : ℕ)
+      → Some i ≡ position (bytes_eq (cond_text sig c)) (map (cond_text sig) ts) → IfOk r (λ n. n ≡ i)
+      → IfOk r (λ n. n ≡ cond_place sig ts c) × OnOk r (ts ≡ firsts_after (same_cond sig) ts (c ∷ []))
+  known-test (Ok n) ts c i found is = (let laws = place-found ts c i found in (is ∙ laws.0, laws.1))
+  known-test (Err e) ts c i found is = (tt, tt)
+
+  -- what is answered where it is added
+  pub added-test : {E : Type 0} (r : Result ℕ E) (ts more : List Cond) (c : Cond)
+      → None ≡ position (bytes_eq (cond_text sig c)) (map (cond_text sig) ts) → IfOk r (λ n. n ≡ length ts)
+      → OnOk r (more ≡ ts ++ c ∷ [])
+      → IfOk r (λ n. n ≡ cond_place sig more c) × OnOk r (more ≡ firsts_after (same_cond sig) ts (c ∷ []))
+  added-test (Ok n) ts more c none is added =
+      let laws = place-added ts c none in
+      (is ∙ laws.0 ∙ ap (λ l. cond_place sig l c) (sym added), added ∙ laws.1)
+  added-test (Err e) ts more c none is added = (tt, tt)
 
   -- a known test keeps its place
   pub place-more : (ts us : List Cond) (c : Cond) → is_known (same_cond sig) ts c ≡ true

@@ -20,4 +20,4 @@ pub use printer::{put_program, write_program};
 pub use program::{Program, ProgramRule, ProgramRules};
 pub use renamed::{numbered_name, renamed_cond};
 pub use rule_line::{RuleLine, RuleTest};
-pub use text_sink::TextSink;
+pub use text_sink::{TextSink, printed_cond};

@@ -1,6 +1,7 @@
 //! The rules that rule lines stand for, and the tests that they spell.
 
-ghost use Rattle.std.specs.Prelude.{◌≡◌, ◌≢◌, [], ◌∷◌, ◌++◌, length, map, flat_map, IfOk, OnOk};
+ghost use Rattle.std.specs.Prelude.{◌≡◌, false, [], ◌∷◌, ◌++◌, length, map, flat_map, bytes_eq, IfOk, OnOk};
+ghost use Rattle.std.specs.List.{list_any};
 ghost use Rattle.mp_pattern.specs.CondView.{cond_tree};
 ghost use Rattle.mp_pattern.specs.Firsts.{firsts_after};
 ghost use Rattle.mp_print.specs.PrintedCond.{cond_text};
@@ -11,22 +12,10 @@ ghost use Rattle.mp_program.specs.RuleView.{rule_test, rule_line_view};
 use crate::program::{ProgramRule, ProgramRules};
 use crate::renamed::renamed_cond;
 use crate::rule_line::{RuleLine, RuleTest};
-use crate::text_sink::TextSink;
+use crate::text_sink::printed_cond;
 use mp_pattern::{Cond, Conds};
-use mp_print::write_cond;
 use mp_term::{Memory, NameTable, Names, Signature};
 use std::alloc::Global;
-
-// The printed text of the condition.
-fn text_of(alloc: Global, sig: &Signature, cond: &Cond) -> Result<TextSink, Memory>
-    ensures { IfOk result (λ s. s.bytes.items ≡ cond_text sig.now (cond_tree cond.now)) }
-{
-    let mut sink = TextSink::new(alloc);
-    match write_cond(sig, cond, &mut sink) {
-        Ok(()) => Ok(sink),
-        Err(_) => Err(Memory),
-    }
-}
 
 // The place as a number of 32 bits. `Memory` comes where a `u32` can't hold it.
 fn place_number(place: usize) -> Result<u32, Memory>
@@ -38,33 +27,23 @@ fn place_number(place: usize) -> Result<u32, Memory>
     Ok(place as u32)
 }
 
-// The place that the condition has once it is one of the tests, whose printed texts these are: behind them exactly
-// where it isn't one of them yet. Its text is then added. `Memory` comes where a `u32` can't hold the place.
-fn text_place(
-    alloc: Global,
-    sig: &Signature,
-    cond: &Cond,
-    tests: &Conds,
+// Adds the condition behind the tests, and its printed text behind theirs, which doesn't stand there. The answer is its
+// place. `Memory` comes where a `u32` can't hold the place.
+fn add_test(
+    cond: Cond,
+    text: &[u8],
     texts: &mut NameTable,
+    tests: &mut Conds,
 ) -> Result<u32, Memory>
-    requires { texts.old ≡ map (cond_text sig.now) tests.now }
-    ensures place { IfOk result (λ n. n ≡ cond_place sig.now
-        (firsts_after (same_cond sig.now) tests.now (cond_tree cond.now ∷ [])) (cond_tree cond.now)) }
-    ensures known { IfOk result (λ n. n ≢ length tests.now
-        → firsts_after (same_cond sig.now) tests.now (cond_tree cond.now ∷ []) ≡ tests.now) }
-    ensures other { IfOk result (λ n. n ≡ length tests.now
-        → firsts_after (same_cond sig.now) tests.now (cond_tree cond.now ∷ []) ≡ tests.now ++ cond_tree cond.now ∷ []) }
-    ensures texts { OnOk result (texts.new ≡ map (cond_text sig.now)
-        (firsts_after (same_cond sig.now) tests.now (cond_tree cond.now ∷ []))) }
+    requires { list_any (bytes_eq text.now) texts.old ≡ false }
+    ensures place { IfOk result (λ n. n ≡ length tests.old) }
+    ensures tests { OnOk result (tests.new ≡ tests.old ++ cond_tree cond ∷ []) }
+    ensures texts { OnOk result (texts.new ≡ texts.old ++ text.now ∷ []) }
 {
-    let text = text_of(alloc, sig, cond)?;
-    match texts.index_of(text.content()) {
-        Some(index) => place_number(index),
-        None => {
-            texts.push(text.content())?;
-            place_number(tests.len())
-        }
-    }
+    let place = place_number(tests.len())?;
+    texts.push(text)?;
+    tests.push(cond)?;
+    Ok(place)
 }
 
 // The place of the condition among the tests, whose printed texts these are. It is added where it isn't there. `Memory`
@@ -81,11 +60,11 @@ fn place_of(
     ensures tests { OnOk result (tests.new ≡ firsts_after (same_cond sig.now) tests.old (cond_tree cond ∷ [])) }
     ensures texts { OnOk result (texts.new ≡ map (cond_text sig.now) tests.new) }
 {
-    let place = text_place(alloc, sig, &cond, tests, texts)?;
-    if place as usize == tests.len() {
-        tests.push(cond)?;
+    let text = printed_cond(alloc, sig, &cond)?;
+    match texts.index_of(text.content()) {
+        Some(index) => place_number(index),
+        None => add_test(cond, text.content(), texts, tests),
     }
-    Ok(place)
 }
 
 // The number of the test of a rule with these variables. A test that it spells is added to the tests where it isn't

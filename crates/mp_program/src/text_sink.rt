@@ -1,11 +1,16 @@
-//! A sink that grows.
+//! A sink that grows, and what is printed into one.
 
 ghost use Rattle.std.specs.Prelude.{◌≡◌, ◌<◌, [], Some, length, Ok, IfOk};
 ghost use Rattle.std.specs.Io.{WritesAtMost};
 ghost use Rattle.std.specs.Io.KnownBytes.{WriteAppends};
 ghost use Rattle.mp_io.specs.Devices.{HasCause};
+ghost use Rattle.mp_pattern.specs.CondView.{cond_tree};
+ghost use Rattle.mp_print.specs.PrintedCond.{cond_text};
 
 use mp_io::{Failed, Sink};
+use mp_pattern::Cond;
+use mp_print::write_cond;
+use mp_term::{Memory, Signature};
 use std::alloc::Global;
 
 /// Bytes that are kept in memory, as many as there is memory for.
@@ -57,5 +62,17 @@ impl Sink for TextSink {
                 Err(Failed)
             }
         }
+    }
+}
+
+/// The printed text of the condition (`cond_text` of mp_print's `specs/PrintedCond.antt`). `Memory` comes where there is
+/// no room for it.
+pub fn printed_cond(alloc: Global, sig: &Signature, cond: &Cond) -> Result<TextSink, Memory>
+    ensures { IfOk result (λ s. s.bytes.items ≡ cond_text sig.now (cond_tree cond.now)) }
+{
+    let mut sink = TextSink::new(alloc);
+    match write_cond(sig, cond, &mut sink) {
+        Ok(()) => Ok(sink),
+        Err(_) => Err(Memory),
     }
 }

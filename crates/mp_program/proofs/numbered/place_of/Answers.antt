@@ -1,38 +1,50 @@
-use Rattle.std.proofs.Common.{map, sym, ap, ◌∙◌}
+use Rattle.std.proofs.Common.{◌≡◌, Some, None, map, sym, ap, ◌∙◌}
+use Rattle.std.specs.Prelude.{bytes_eq}
+use Rattle.std.specs.List.{list_any, position}
 use Rattle.mp_pattern.specs.CondView.{cond_tree}
 use Rattle.mp_print.specs.PrintedCond.{cond_text}
-use Rattle.mp_program.specs.ProgramOf.{cond_place}
+use Rattle.mp_program.proofs.TestLaws.{new-text, known-test, added-test}
 use Rattle.mp_program.proofs.numbered.place_of.Goals as goal
+use Rattle.mp_program.proofs.numbered.place_of.Goals.{In-Some, In-None}
 
-pub returns-in_ok-push-clause-place : goal.returns-in_ok-push-clause-place
-returns-in_ok-push-clause-place c =
-    let x = cond_tree c.args.cond in
-    let last = c.if-place-len.true ∙ c.len.ensures in
-    c.in_ok-place.ensures.place
-    ∙ ap (λ l. cond_place c.args.sig.now l x) (c.in_ok-place.ensures.other last ∙ sym c.in_ok-push.ensures.ok)
+-- where the text of the condition stands among those of the tests
+found : (c : In-Some) → Some c.in-Some.index
+    ≡ position (bytes_eq (cond_text c.args.sig.now (cond_tree c.args.cond)))
+    (map (cond_text c.args.sig.now) c.args.tests.now)
+found c = sym c.in-Some.is ∙ c.index_of.ensures.index
+    ∙ (λ i. position (bytes_eq ((c.content.ensures ∙ c.in_ok-text.ensures) i)) (c.requires i))
 
-pub returns-in_ok-push-clause-tests : goal.returns-in_ok-push-clause-tests
-returns-in_ok-push-clause-tests c =
-    let last = c.if-place-len.true ∙ c.len.ensures in
-    c.in_ok-push.ensures.ok ∙ sym (c.in_ok-place.ensures.other last)
+-- it stands nowhere there
+missing : (c : In-None) → None
+    ≡ position (bytes_eq (cond_text c.args.sig.now (cond_tree c.args.cond)))
+    (map (cond_text c.args.sig.now) c.args.tests.now)
+missing c = sym c.in-None.is ∙ c.index_of.ensures.index
+    ∙ (λ i. position (bytes_eq ((c.content.ensures ∙ c.in_ok-text.ensures) i)) (c.requires i))
 
-pub returns-in_ok-push-clause-texts : goal.returns-in_ok-push-clause-texts
-returns-in_ok-push-clause-texts c =
-    let last = c.if-place-len.true ∙ c.len.ensures in
-    c.in_ok-place.ensures.texts
-    ∙ ap (map (cond_text c.args.sig.now)) (c.in_ok-place.ensures.other last ∙ sym c.in_ok-push.ensures.ok)
+pub returns-in-Some-clause-place : goal.returns-in-Some-clause-place
+returns-in-Some-clause-place c = (known-test c.args.sig.now c.place_number.result c.args.tests.now
+    (cond_tree c.args.cond) c.in-Some.index (found (goal.at.returns-in-Some-clause-place c).In-Some)
+    c.place_number.ensures).0
 
-pub returns-else-place-len-clause-place : goal.returns-else-place-len-clause-place
-returns-else-place-len-clause-place c =
-    let x = cond_tree c.args.cond in
-    let known = c.in_ok-place.ensures.known (λ e. c.if-place-len.false (e ∙ sym c.len.ensures)) in
-    c.in_ok-place.ensures.place ∙ ap (λ l. cond_place c.args.sig.now l x) known
+pub returns-in-Some-clause-tests : goal.returns-in-Some-clause-tests
+returns-in-Some-clause-tests c = (known-test c.args.sig.now c.place_number.result c.args.tests.now
+    (cond_tree c.args.cond) c.in-Some.index (found (goal.at.returns-in-Some-clause-tests c).In-Some)
+    c.place_number.ensures).1
 
-pub returns-else-place-len-clause-tests : goal.returns-else-place-len-clause-tests
-returns-else-place-len-clause-tests c =
-    sym (c.in_ok-place.ensures.known (λ e. c.if-place-len.false (e ∙ sym c.len.ensures)))
+pub add_test-requires : goal.add_test-requires
+add_test-requires c =
+    let sig = c.args.sig.now in
+    let same = c.content-in-None.ensures ∙ c.in_ok-text.ensures in
+    ap (λ t. list_any (bytes_eq t) c.args.texts.now) same
+    ∙ ap (list_any (bytes_eq (cond_text sig (cond_tree c.args.cond)))) c.requires
+    ∙ new-text sig c.args.tests.now (cond_tree c.args.cond) (missing (goal.at.add_test-requires c).In-None)
 
-pub returns-else-place-len-clause-texts : goal.returns-else-place-len-clause-texts
-returns-else-place-len-clause-texts c =
-    let known = c.in_ok-place.ensures.known (λ e. c.if-place-len.false (e ∙ sym c.len.ensures)) in
-    c.in_ok-place.ensures.texts ∙ ap (map (cond_text c.args.sig.now)) known
+pub returns-in-None-clause-place : goal.returns-in-None-clause-place
+returns-in-None-clause-place c = (added-test c.args.sig.now c.add_test.result c.args.tests.now c.add_test.new.tests
+    (cond_tree c.args.cond) (missing (goal.at.returns-in-None-clause-place c).In-None) c.add_test.ensures.place
+    c.add_test.ensures.tests).0
+
+pub returns-in-None-clause-tests : goal.returns-in-None-clause-tests
+returns-in-None-clause-tests c = (added-test c.args.sig.now c.add_test.result c.args.tests.now c.add_test.new.tests
+    (cond_tree c.args.cond) (missing (goal.at.returns-in-None-clause-tests c).In-None) c.add_test.ensures.place
+    c.add_test.ensures.tests).1
