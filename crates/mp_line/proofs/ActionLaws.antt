@@ -1,18 +1,16 @@
 -- A text ends with an action in one way.
-use Rattle.std.proofs.Common.{◌≡◌, ◌≢◌, ◌<◌, ◌≤◌, ◌^◌, ◌++◌, ℕ, zero, suc, Bool, true, false, List, [], ◌∷◌}
+use Rattle.std.proofs.Common.{◌≡◌, ◌≢◌, ◌<◌, ◌≤◌, ◌^◌, ◌++◌, ℕ, zero, suc, true, false, List, [], ◌∷◌}
 use Rattle.std.proofs.Common.{Option}
-use Rattle.std.proofs.Common.{Some, None, length, take, drop, get_or, map, refl, sym, ap, subst, ◌∙◌, arith}
+use Rattle.std.proofs.Common.{Some, None, length, drop, map, refl, sym, ap, subst, ◌∙◌, arith}
 use Rattle.std.proofs.Common.{append_assoc}
-use Rattle.std.specs.Prelude.{codes, decimal, not, ◌&&◌, ◌||◌, nat_lt, nat_eq}
+use Rattle.std.specs.Prelude.{codes, decimal, not, ◌&&◌, ◌||◌, nat_eq}
 use Rattle.std.specs.List.{list_all, AllByRecursion}
 use Rattle.std.specs.Char.{is_ascii_digit}
-use Rattle.std.proofs.Math.Seq.{drop-cons}
-use Rattle.std.proofs.lemmas.Bool.{and_parts, ne_eqb, lt-ltb, ltb-true}
-use Rattle.std.proofs.lemmas.List.{same_from_push, append-nil, take-append-drop}
+use Rattle.std.proofs.lemmas.Bool.{and_parts, ne_eqb}
+use Rattle.std.proofs.lemmas.List.{same_from_push, append-nil}
 use Rattle.std.proofs.lemmas.List.Folds.{list_all-append}
 use Rattle.mp_io.specs.Devices.{Text}
 use Rattle.mp_print.specs.Printing.{preceded}
-use Rattle.mp_build.proofs.Faultless.{some-behind}
 use Rattle.mp_program.specs.FormText.{action_text}
 use Rattle.mp_program.specs.RightForm.{IsShort, IsRightAction, are_ascending}
 use Rattle.mp_line.specs.Finds.{IsOnly}
@@ -64,36 +62,6 @@ one_split (c ∷ f) d (b ∷ g) e same p q s t =
 -- so one text has one front before these
 pub before_numbers-only : (t f d g e : Text) → IsBeforeNumbers t f d → IsBeforeNumbers t g e → (f ≡ g) × (d ≡ e)
 before_numbers-only t f d g e h k = one_split f d g e (sym h.parts ∙ k.parts) h.only k.only h.last k.last
-
--- a text is cut behind the last byte that is no digit and no blank
-pub cut-behind : (t : Text) (i : ℕ) → suc i ≤ length t → list_all is_digit_or_blank (drop (suc i) t) ≡ true
-    → is_digit_or_blank (get_or t i 0) ≡ false → IsBeforeNumbers t (take (suc i) t) (drop (suc i) t)
-cut-behind t i within all other = record {
-  parts = sym (take-append-drop (suc i) t);
-  only = all;
-  last = λ before c e. subst (λ b. is_digit_or_blank b ≡ false)
-      (same_from_push (take i t) before (get_or t i 0) c (sym (take-one t i within) ∙ e)).1 other;
-}
-  where
-    take-one : (t : Text) (i : ℕ) → suc i ≤ length t → take (suc i) t ≡ take i t ++ get_or t i 0 ∷ []
-    take-one [] i h = absurd (omega arith)
-    take-one (c ∷ t) zero h = refl
-    take-one (c ∷ t) (suc i) h = ap (λ x. c ∷ x) (take-one t i (omega arith))
-
--- where there is none, all of it is behind
-pub cut-before : (t front : Text) → front ≡ [] → list_all is_digit_or_blank t ≡ true → IsBeforeNumbers t front t
-cut-before t front none all = record {
-  parts = sym (ap (λ x. x ++ t) none);
-  only = all;
-  last = λ before c e. absurd (some-behind before c (sym e ∙ none));
-}
-
--- one byte more of digits and blanks
-pub all-more : (t : Text) (i : ℕ) → suc i ≤ length t → list_all is_digit_or_blank (drop (suc i) t) ≡ true
-    → is_digit_or_blank (get_or t i 0) ≡ true → list_all is_digit_or_blank (drop i t) ≡ true
-all-more t i within all here =
-    ap (list_all is_digit_or_blank) (drop-cons t i 0 within)
-    ∙ (ap (λ v. v && list_all is_digit_or_blank (drop (suc i) t)) here ∙ all)
 
 -- ---- the numbers of an action
 
@@ -304,27 +272,6 @@ module _ (text : Text) (ns : List ℕ) (h : IsOnly (AreNumbersText text) ns) whe
           ap (λ v. not v && are_ascending (n ∷ ns)) (ne_eqb (length (n ∷ ns)) 0 (λ e. omega arith)) ∙ up
 
 -- ---- ascending numbers
-
--- where the next number is greater, numbers ascend as those behind the first do
-pub ascending-next : (s : List ℕ) (j : ℕ) → suc j < length s → get_or s j 0 < get_or s (suc j) 0
-    → are_ascending (drop j s) ≡ are_ascending (drop (suc j) s)
-ascending-next s j within less =
-    ap are_ascending (drop-cons s j 0 (omega arith) ∙ ap (λ t. get_or s j 0 ∷ t) (drop-cons s (suc j) 0 within))
-    ∙ (ap (λ v. v && are_ascending (get_or s (suc j) 0 ∷ drop (suc (suc j)) s))
-    (lt-ltb (get_or s j 0) (get_or s (suc j) 0) less) ∙ sym (ap are_ascending (drop-cons s (suc j) 0 within)))
-
--- where it is not greater they do not ascend
-pub ascending-stop : (s : List ℕ) (j : ℕ) → suc j < length s → get_or s (suc j) 0 ≤ get_or s j 0
-    → are_ascending (drop j s) ≡ false
-ascending-stop s j within other =
-    ap are_ascending (drop-cons s j 0 (omega arith) ∙ ap (λ t. get_or s j 0 ∷ t) (drop-cons s (suc j) 0 within))
-    ∙ ap (λ v. v && are_ascending (get_or s (suc j) 0 ∷ drop (suc (suc j)) s)) (go (nat_lt (get_or s j 0) (get_or s
-    (suc j) 0)) refl)
-  where
-    go : (v : Bool) → nat_lt (get_or s j 0) (get_or s (suc j) 0) ≡ v → nat_lt (get_or s j 0) (get_or s (suc j) 0)
-        ≡ false
-    go false e = e
-    go true e = absurd (let h = ltb-true (get_or s j 0) (get_or s (suc j) 0) e in omega arith)
 
 -- one number ascends, and none does
 pub ascending-end : (s : List ℕ) (j : ℕ) → length s ≤ suc j → are_ascending (drop j s) ≡ true

@@ -86,15 +86,6 @@ front_of_words-only t w r x s h g = fronts w r x s (sym h.parts ∙ g.parts) h.a
 
 -- ---- what loops find
 
--- they end before the first other byte
-pub front-found : (t : Text) (i : ℕ) → i < length t → list_all is_letter_or_blank (take i t) ≡ true
-    → is_letter_or_blank (get_or t i 0) ≡ false → IsFrontOfWords t (take i t) (drop i t)
-front-found t i within all other = record {
-  parts = sym (take-append-drop i t);
-  all = all;
-  ends = inr (get_or t i 0, drop (suc i) t, drop-cons t i 0 within, other);
-}
-
 -- or with the text
 pub front-whole : (t r : Text) (i : ℕ) → length t ≤ i → list_all is_letter_or_blank (take i t) ≡ true → r ≡ []
     → IsFrontOfWords t t r

@@ -2,8 +2,7 @@
 use Rattle.std.proofs.Common.{◌≡◌, ◌<◌, ◌≤◌, ◌+◌, ◌++◌, ℕ, zero, suc, List, [], ◌∷◌, length, map, get_or, drop}
 use Rattle.std.proofs.Common.{sym, ap, ◌∙◌, append_assoc, arith}
 use Rattle.std.specs.Prelude.{Result, Ok, Err, OnOk}
-use Rattle.std.specs.Borrow.{Bor}
-use Rattle.std.proofs.lemmas.List.{append-nil, map-append}
+use Rattle.std.proofs.lemmas.List.{append-nil}
 use Rattle.std.proofs.lemmas.Grind.{flat_map-append}
 use Rattle.std.proofs.Math.ListN.{drop_of_length-le}
 use Rattle.mp_io.specs.Devices.{Text}
@@ -14,11 +13,7 @@ use Rattle.mp_pattern.specs.CondView.{cond_tree}
 use Rattle.mp_pattern.specs.Operands.{operands, all_operands}
 use Rattle.mp_pattern.specs.declared.condition.Cond.{Cond}
 use Rattle.mp_program.specs.TokenPaths.{operand_names, cond_names}
-use Rattle.mp_line.specs.Named.{names_in, operands_names, all_cond_names}
-
--- a name more
-pub names_in-more : (ns : List (Bor Text)) (n : Bor Text) → names_in (ns ++ n ∷ []) ≡ names_in ns ++ n.now ∷ []
-names_in-more ns n = map-append (λ (m : Bor Text). m.now) ns (n ∷ [])
+use Rattle.mp_line.specs.Named.{operands_names, all_cond_names}
 
 -- none more
 pub names-none : (x : List Text) → x ≡ x ++ []

@@ -57,41 +57,6 @@ no-names most text word behind test first none k t =
     let same = first_word-only text t.word t.behind word behind t.first first in
     none k.vars (subst (λ w. AreNamesText most w k.vars) same.1 t.vars)
 
--- a line with a test has the names of one without
-untested-head : (most : ℕ) (text : Text) (test : RuleTest) (k : RuleLine) → IsHeadText most text test k
-    → IsHeadText most text untested (record { name = k.name; vars = k.vars; test = untested })
-untested-head most text test k t = record {
-  word = t.word;
-  behind = t.behind;
-  first = t.first;
-  name = t.name;
-  vars = t.vars;
-  same = refl;
-}
-
--- the line that has no test has the same names with a test
-pub head-test : (most : ℕ) (text : Text) (test : RuleTest) (k : RuleLine) → IsOnly (IsHeadText most text untested) k
-    → IsOnly (IsHeadText most text test) (record { name = k.name; vars = k.vars; test = test })
-head-test most text test k h = record {
-  is = record {
-    word = h.is.word;
-    behind = h.is.behind;
-    first = h.is.first;
-    name = h.is.name;
-    vars = h.is.vars;
-    same = refl;
-  };
-  only = λ b t. (
-      ap (λ x. record { name = b.name; vars = b.vars; test = x }) t.same
-      ∙ ap (λ l. record { name = l.name; vars = l.vars; test = test }) (h.only _ (untested-head most text test b t))
-      );
-}
-
--- without the names there is no line with a test either
-pub no-head-test : (most : ℕ) (text : Text) (test : RuleTest)
-    → ((k : RuleLine) → IsHeadText most text untested k → ⊥) → (k : RuleLine) → IsHeadText most text test k → ⊥
-no-head-test most text test none k t = none _ (untested-head most text test k t)
-
 -- the text of a rule line's names
 abbrev pub head_text : RuleLine → Text
 head_text r = r.name ++ preceded (codes " ") r.vars
@@ -116,10 +81,6 @@ head-of most r name vars = record {
   };
   same = refl;
 }
-
--- the whole rule line of names
-whole-of : (most : ℕ) (text : Text) (test : RuleTest) (k : RuleLine) → IsHeadText most text test k → RuleLine
-whole-of most text test k t = record { name = k.name; vars = t.vars.all; test = test }
 
 -- the name and the names of the variables are the whole text
 text-of : (most : ℕ) (text : Text) (test : RuleTest) (k : RuleLine) (t : IsHeadText most text test k)

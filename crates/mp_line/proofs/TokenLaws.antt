@@ -17,8 +17,6 @@ use Rattle.mp_term.specs.Signature.{Sig, kind_names}
 use Rattle.mp_pattern.specs.NetTokens.{NetToken, sym_token, enter_token, leave_token, wild_token, comm_token}
 use Rattle.mp_pattern.specs.PatternTree.{dot, kind, plus, star, optional, counted, Pattern}
 use Rattle.mp_print.specs.Printing.{text_if, kind_name_text, term_text}
-use Rattle.mp_print.specs.PrintedCond.{op_name_text}
-use Rattle.mp_print.specs.PrintedPattern.{pattern_text}
 use Rattle.mp_build.specs.Alone.{IsTermOf}
 use Rattle.mp_program.specs.declared.format.Format.{Format}
 use Rattle.mp_program.specs.declared.format.Format.TheVariants.{One, Two}
@@ -26,11 +24,11 @@ use Rattle.mp_program.specs.FormText.{variable_text}
 use Rattle.mp_program.specs.RightForm.{IsShortTarget, IsWildcardOf}
 use Rattle.mp_line.specs.Finds.{IsOnly, Finds}
 use Rattle.mp_line.specs.LineTexts.{IsVariableText, IsExactTerm, IsHeldOp, IsHeldKind, IsDefaultText}
-use Rattle.mp_line.specs.LineTexts.{IsSymbolOf, IsCountWord, IsCountText, IsCommText, IsTokenText, IsPlainText}
+use Rattle.mp_line.specs.LineTexts.{IsSymbolOf, IsCountWord, IsCountText, IsCommText, IsTokenText}
 use Rattle.mp_line.specs.Words.{IsWithout, IsSplitAtFirst, IsSplitAtLast}
 use Rattle.mp_line.proofs.FindsLaws.{Finds-like, Finds-through}
 use Rattle.mp_line.proofs.NumberLaws.{without-decimal, decimal-text}
-use Rattle.mp_line.proofs.WordLaws.{with-none, first-only, last-only, apart}
+use Rattle.mp_line.proofs.WordLaws.{first-only, last-only, apart}
 
 -- what holds in each format
 either : (P : Format → Type 0) → P One → P Two → (format : Format) → P format
@@ -60,12 +58,6 @@ default-found sig text t h small = record {
   is = record { exact = h.is; small = small };
   only = λ u g. h.only u g.exact;
 }
-
--- a term that is too large is no default
-pub default-large : (sig : Sig) (text : Text) (t : Tree) → IsOnly (IsExactTerm sig text) t
-    → (node_count t ≤ MAX_DEFAULT_NODES → ⊥) → (u : Tree) → IsDefaultText sig text u → ⊥
-default-large sig text t h large u g =
-    large (subst (λ v. node_count v ≤ MAX_DEFAULT_NODES) (h.only u g.exact) g.small)
 
 module _ (sig : Sig) (format : Format) where
   -- ---- symbols and whole applications
@@ -260,21 +252,6 @@ module _ (sig : Sig) (format : Format) where
       let same = first-only 32 text (variable_text m.1) (term_text sig m.0) word default m.5 split in
       (m.0, m.1, subst (λ v. IsDefaultText sig v m.0) same.1 m.3, record { short = m.4; text = same.0 })
 
-  -- a text of one word is none of either
-  pub no-kind-words : (text : Text) (k : NetToken) → IsWithout 32 text → IsTokenText sig format
-      (codes "kind " ++ text) k
-      → ⊥
-  no-kind-words text k bare g =
-      let m = kind-words text k g in
-      with-none 32 (kind_name_text sig m.0) (variable_text m.1) (subst (IsWithout 32) m.5.parts bare)
-
-  -- without a blank there is none
-  pub no-optional-words : (text : Text) (k : NetToken) → IsWithout 32 text
-      → IsTokenText sig format (codes "opt " ++ text) k → ⊥
-  no-optional-words text k bare g =
-      let m = optional-words text k g in
-      with-none 32 (variable_text m.1) (term_text sig m.0) (subst (IsWithout 32) m.5.parts bare)
-
   -- the wildcard of a kind is found by its words
   pub kind-found : (text name word : Text) (n : ℕ) (x : Option ℕ) → IsSplitAtLast 32 text name word
       → IsOnly (IsVariableText word) x → IsOnly (IsHeldKind sig name) n
@@ -319,28 +296,7 @@ module _ (sig : Sig) (format : Format) where
             ∙ ap (wild_token (optional t)) (h.only m.1 (record { short = m.4; text = same.0 })))
             );
       }
-
   -- ---- texts of no token
-
-  -- a token has one of the words
-  pub no-plain : (text : Text) → IsPlainText text → ((rest : Text) → text ≡ codes "enter " ++ rest → ⊥)
-      → ((rest : Text) → text ≡ codes "leave " ++ rest → ⊥) → ((rest : Text) → text ≡ codes "dot " ++ rest → ⊥)
-      → ((rest : Text) → text ≡ codes "plus " ++ rest → ⊥) → ((rest : Text) → text ≡ codes "star " ++ rest → ⊥)
-      → ((rest : Text) → text ≡ codes "kind " ++ rest → ⊥) → ((rest : Text) → text ≡ codes "counted " ++ rest → ⊥)
-      → (k : NetToken) → IsTokenText sig format text k → ⊥
-  no-plain text plain e l d p s kd c (sym_token n) g = plain.not_symbol n (sym g.spelled)
-  no-plain text plain e l d p s kd c (enter_token f) g = e (op_name_text sig f) (sym g.spelled)
-  no-plain text plain e l d p s kd c (leave_token f) g = l (op_name_text sig f) (sym g.spelled)
-  no-plain text plain e l d p s kd c (comm_token q) g = plain.not_comm (pattern_text sig q) (sym g.spelled)
-  no-plain text plain e l d p s kd c (wild_token dot x) g = d (variable_text x) (sym g.spelled)
-  no-plain text plain e l d p s kd c (wild_token (kind n) x) g =
-      kd (kind_name_text sig n ++ (codes " " ++ variable_text x)) (sym g.spelled)
-  no-plain text plain e l d p s kd c (wild_token plus x) g = p (variable_text x) (sym g.spelled)
-  no-plain text plain e l d p s kd c (wild_token star x) g = s (variable_text x) (sym g.spelled)
-  no-plain text plain e l d p s kd c (wild_token (optional t) x) g =
-      plain.not_optional (variable_text x ++ (codes " " ++ term_text sig t)) (sym g.spelled)
-  no-plain text plain e l d p s kd c (wild_token (counted n fixed) x) g =
-      c (variable_text x ++ (codes " " ++ (decimal n ++ text_if (not fixed) (codes "+")))) (sym g.spelled)
 
 -- ---- counted wildcards
 
@@ -441,12 +397,3 @@ count-open text word n false e h = record {
   most = h.most;
   spelled = ap (λ t. t ++ codes "+") h.number.text ∙ sym e;
 }
-
--- a word that is a count is the text of a fixed one
-pub count-fixed : (text : Text) (n : ℕ) (fixed : Bool) → IsCountWord text true n fixed → IsCountText text n fixed
-count-fixed text n true h = record {
-  least = h.least;
-  most = h.most;
-  spelled = append-nil (decimal n) ∙ h.number.text;
-}
-count-fixed text n false h = (let wrong = h.same in cc)

@@ -19,7 +19,7 @@ use Rattle.mp_print.specs.PrintedCond.{op_name_text, cond_text}
 use Rattle.mp_build.specs.Alone.{IsTermOf, IsPatternOf}
 use Rattle.mp_build.specs.AloneCondition.{IsCondOf}
 use Rattle.mp_program.specs.declared.format.Format.{Format}
-use Rattle.mp_program.specs.Form.{RuleTest, untested, RuleLine}
+use Rattle.mp_program.specs.Form.{RuleTest, RuleLine}
 use Rattle.mp_program.specs.FormText.{variable_text, target_text, token_text, action_text, instr_line, test_line}
 use Rattle.mp_program.specs.FormText.{rule_test_text, rule_line}
 use Rattle.mp_program.specs.RightForm.{IsShort, IsShortTarget, are_ascending, IsNumberedName, IsWildcardOf, is_flat}
@@ -216,10 +216,6 @@ pub record IsTestText (sig : Sig) (line : Text) (c : Cond) : Type 0 where
 -- a rule line of which so many variables are kept
 abbrev pub kept_line : ℕ → RuleLine → RuleLine
 kept_line most r = record { name = r.name; vars = take most r.vars; test = r.test }
-
--- the rule line of a name and those of variables, without a test
-abbrev pub untested_line : Text × List Text → RuleLine
-untested_line p = record { name = p.0; vars = p.1; test = untested }
 
 -- the text is the name of a rule and those of its variables, and the test is given
 pub record IsHeadText (most : ℕ) (text : Text) (test : RuleTest) (kept : RuleLine) : Type 0 where

@@ -11,8 +11,8 @@ ghost use Rattle.mp_line.specs.Finds.{Finds};
 ghost use Rattle.mp_line.specs.LineTexts.{IsExactTerm, IsExactPattern, IsExactCond};
 
 use mp_pattern::{Cond, Pattern};
-use mp_print::{write_cond, write_pattern, write_term};
-use mp_program::TextSink;
+use mp_print::{write_pattern, write_term};
+use mp_program::{TextSink, printed_cond};
 use mp_term::{Memory, Signature, Term};
 use mp_text::{TextError, read_loose_cond, read_pattern, read_term};
 use std::alloc::Global;
@@ -92,11 +92,8 @@ fn is_cond_text(alloc: Global, sig: &Signature, cond: &Cond, text: &[u8]) -> Res
     ensures { IfOk result (λ same. MatchBool same (cond_text sig.now (cond_tree cond.now) ≡ text.now)
         (cond_text sig.now (cond_tree cond.now) ≢ text.now)) }
 {
-    let mut sink = TextSink::new(alloc);
-    match write_cond(sig, cond, &mut sink) {
-        Ok(()) => Ok(sink.content() == text),
-        Err(_) => Err(Memory),
-    }
+    let printed = printed_cond(alloc, sig, cond)?;
+    Ok(printed.content() == text)
 }
 
 // The condition that is read of the text, where that is its printed text.

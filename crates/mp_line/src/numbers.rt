@@ -42,7 +42,8 @@ fn begins_right(word: &[u8]) -> bool
     }
 }
 
-/// The number of 32 bits of which the word is the decimal text, which has no leading zero. `None`: there is none.
+/// The number of 32 bits of which the word is the decimal text, which has no leading zero (`IsNumberText` of
+/// `specs/LineTexts.antt`). `None`: there is none.
 pub fn number(word: &[u8]) -> Option<u32>
     ensures { Finds (λ n. n) (IsNumberText word.now) result }
 {
@@ -61,7 +62,8 @@ pub fn number(word: &[u8]) -> Option<u32>
     Some(value as u32)
 }
 
-/// The number of 32 bits of which the word is `v` and the decimal text. `None`: there is none.
+/// The number of 32 bits of which the word is `v` and the decimal text (`IsNumberedText` of `specs/LineTexts.antt`).
+/// `None`: there is none.
 pub fn number_of_name(word: &[u8]) -> Option<u32>
     ensures { Finds (λ n. n) (IsNumberedText word.now) result }
 {

@@ -5,73 +5,30 @@ ghost use Rattle.mp_io.specs.Devices.{Text};
 ghost use Rattle.mp_term.specs.Names.{is_name_byte};
 ghost use Rattle.mp_term.specs.Signature.{Sig};
 ghost use Rattle.mp_program.specs.declared.format.Format.TheVariants.{One, Two};
-ghost use Rattle.mp_program.specs.Form.{untested, tested, spelled};
-ghost use Rattle.mp_program.specs.RuleView.{rule_line_view};
-ghost use Rattle.mp_pattern.specs.CondView.{cond_tree};
+ghost use Rattle.mp_program.specs.RuleView.{rule_test, rule_line_view};
 ghost use Rattle.mp_line.specs.Finds.{Finds, FindsPair};
-ghost use Rattle.mp_line.specs.LineTexts.{untested_line, IsHeadText, IsBeforeTest, IsRuleBody, IsRuleText};
+ghost use Rattle.mp_line.specs.LineTexts.{IsHeadText, IsBeforeTest, IsRuleBody, IsRuleText};
 ghost use Rattle.mp_line.specs.Words.{is_letter_or_blank, IsFrontOfWords, has_if, IsSplitAtIf};
 
 use crate::exact::exact_cond;
 use crate::names::{MAX_KEPT, name, names};
 use crate::numbers::number;
 use crate::words::{before, behind, between, first_word, split_behind};
-use mp_pattern::{BoxedCond, Cond};
+use mp_pattern::BoxedCond;
 use mp_program::{Format, RuleLine, RuleTest};
-use mp_term::{Memory, Name, Names, Signature};
+use mp_term::{Memory, Signature};
 use std::alloc::Global;
 
-// The names in the text: that of a rule, and those of its variables.
-fn head(alloc: Global, text: &[u8]) -> Result<Option<(Name, Names)>, Memory>
-    ensures { IfOk result (λ o. Finds untested_line (IsHeadText MAX_KEPT text.now untested) o) }
+// The rule line of the names in the text, that of the rule and those of its variables, and of a test.
+fn rule_with(alloc: Global, text: &[u8], test: RuleTest) -> Result<Option<RuleLine>, Memory>
+    ensures { IfOk result (λ o. Finds rule_line_view (IsHeadText MAX_KEPT text.now (rule_test test)) o) }
 {
     let (word, rest) = first_word(text);
     let Some(name) = name(alloc, word)? else {
         return Ok(None);
     };
     match names(alloc, rest)? {
-        Some(vars) => Ok(Some((name, vars))),
-        None => Ok(None),
-    }
-}
-
-// The rule line of the names in the text, without a test.
-fn untested_rule(alloc: Global, text: &[u8]) -> Result<Option<RuleLine>, Memory>
-    ensures { IfOk result (λ o. Finds rule_line_view (IsHeadText MAX_KEPT text.now untested) o) }
-{
-    match head(alloc, text)? {
-        Some((name, vars)) => Ok(Some(RuleLine {
-            name,
-            vars,
-            test: RuleTest::Untested,
-        })),
-        None => Ok(None),
-    }
-}
-
-// The rule line of the names in the text and of the number of a test.
-fn tested_rule(alloc: Global, text: &[u8], test: u32) -> Result<Option<RuleLine>, Memory>
-    ensures { IfOk result (λ o. Finds rule_line_view (IsHeadText MAX_KEPT text.now (tested test)) o) }
-{
-    match head(alloc, text)? {
-        Some((name, vars)) => Ok(Some(RuleLine {
-            name,
-            vars,
-            test: RuleTest::Tested(test),
-        })),
-        None => Ok(None),
-    }
-}
-
-// The rule line of the names in the text and of a condition.
-fn conditional_rule(alloc: Global, text: &[u8], cond: Cond) -> Result<Option<RuleLine>, Memory>
-    ensures { IfOk result (λ o. Finds rule_line_view (IsHeadText MAX_KEPT text.now (spelled (cond_tree cond))) o) }
-{
-    match head(alloc, text)? {
-        Some((name, vars)) => {
-            let test = RuleTest::Spelled(BoxedCond::new(alloc, cond)?);
-            Ok(Some(RuleLine { name, vars, test }))
-        }
+        Some(vars) => Ok(Some(RuleLine { name, vars, test })),
         None => Ok(None),
     }
 }
@@ -94,10 +51,10 @@ fn numbered_rule(alloc: Global, text: &[u8]) -> Result<Option<RuleLine>, Memory>
     ensures { (sig : Sig) → IfOk result (λ o. Finds rule_line_view (IsRuleBody sig Two MAX_KEPT text.now) o) }
 {
     let Some(tested) = before(text, b"]") else {
-        return untested_rule(alloc, text);
+        return rule_with(alloc, text, RuleTest::Untested);
     };
     match split_number(tested) {
-        Some((front, test)) => tested_rule(alloc, front, test),
+        Some((front, test)) => rule_with(alloc, front, RuleTest::Tested(test)),
         None => Ok(None),
     }
 }
@@ -153,14 +110,18 @@ fn spelled_rule(alloc: Global, sig: &Signature, text: &[u8]) -> Result<Option<Ru
 {
     let (words, rest) = front_of_words(text);
     if rest.is_empty() {
-        return untested_rule(alloc, text);
+        return rule_with(alloc, text, RuleTest::Untested);
     }
     let Some(front) = before_last_if(words) else {
         return Ok(None);
     };
     let spelling = &text[front.len() + 4..];
     match exact_cond(alloc, sig, spelling)? {
-        Some(cond) => conditional_rule(alloc, front, cond),
+        Some(cond) => rule_with(
+            alloc,
+            front,
+            RuleTest::Spelled(BoxedCond::new(alloc, cond)?),
+        ),
         None => Ok(None),
     }
 }

@@ -97,7 +97,8 @@ fn all_condition_names<'a>(conds: &'a [Cond], names: &mut Vec<&'a Name>) -> Resu
     Ok(())
 }
 
-/// The name is one of `v0` to `v31`: `v` and the decimal text of a number below `MAX_VARIABLES`.
+/// The name is one of `v0` to `v31`: `v` and the decimal text of a number below `MAX_VARIABLES` (`numbered_names` of
+/// mp_walk's `specs/Walkable.antt`).
 pub fn is_test_name(name: &[u8]) -> bool
     ensures { result ≡ is_known same_name (numbered_names MAX_VARIABLES) name.now }
 {

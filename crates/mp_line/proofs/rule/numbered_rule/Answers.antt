@@ -10,20 +10,20 @@ use Rattle.mp_line.proofs.rule.numbered_rule.Goals as goal
 
 pub returns-in_default : goal.returns-in_default
 returns-in_default c = λ sig.
-    IfOk-also c.untested_rule.result (λ o. Finds rule_line_view (IsHeadText MAX_KEPT c.args.text.now untested) o)
+    IfOk-also c.rule_with.result (λ o. Finds rule_line_view (IsHeadText MAX_KEPT c.args.text.now untested) o)
     (λ o. Finds rule_line_view (IsRuleBody sig Two MAX_KEPT c.args.text.now) o)
     (λ o h. untested-through sig MAX_KEPT c.args.text.now rule_line_view o c.in_default.ensures h)
-    c.untested_rule.ensures
+    c.rule_with.ensures
 
 pub returns-in-Some-split_number : goal.returns-in-Some-split_number
 returns-in-Some-split_number c = λ sig.
     let front = c.in-Some-split_number.front.now in
     let number = c.in-Some-split_number.test in
-    IfOk-also c.tested_rule.result
+    IfOk-also c.rule_with-in-Some-split_number.result
     (λ o. Finds rule_line_view (IsHeadText MAX_KEPT front (tested number)) o)
     (λ o. Finds rule_line_view (IsRuleBody sig Two MAX_KEPT c.args.text.now) o)
     (λ o h. tested-through sig MAX_KEPT c.args.text.now c.in-Some.tested.now c.in-Some.ensures.is rule_line_view o front
-    number c.in-Some-split_number.ensures h) c.tested_rule.ensures
+    number c.in-Some-split_number.ensures h) c.rule_with-in-Some-split_number.ensures
 
 pub returns-in-None : goal.returns-in-None
 returns-in-None c = λ sig.
