@@ -1,9 +1,9 @@
 -- What is known of a right path with one token more.
 use Rattle.std.proofs.Common.{◌≡◌, ℕ, ◌+◌, ◌<◌, ◌≤◌, List, [], ◌∷◌, ◌++◌, map, Bool, true, false, refl, ap, sym, ◌∙◌}
-use Rattle.std.proofs.Common.{inl, inr, arith, length, drop, reverse}
+use Rattle.std.proofs.Common.{arith, length, drop, reverse}
 use Rattle.std.specs.Prelude.{◌&&◌, not, Option, Some, None, option_to_list, MatchOption}
 use Rattle.std.proofs.lemmas.List.{map-append, append-nil, reverse-append, nil_from_length}
-use Rattle.std.proofs.lemmas.Bool.{and_parts, and_cases, not-true, not-false}
+use Rattle.std.proofs.lemmas.Bool.{and_parts, not-true}
 use Rattle.mp_term.specs.Signature.{Sig}
 use Rattle.mp_pattern.specs.NetTokens.{NetToken}
 use Rattle.mp_pattern.specs.PatternTree.{Wildcard}
@@ -13,7 +13,7 @@ use Rattle.mp_program.specs.TokenPaths.{is_loose_token, enters_comm, is_right_pa
 use Rattle.mp_vm.specs.Known.{is_none, IsGoodPath, Knows}
 use Rattle.mp_vm.specs.Looks.{look_wildcard, token_places, with_looks, where_true}
 use Rattle.mp_vm.specs.declared.above.Above.{Above}
-use Rattle.mp_vm.proofs.PathRules.{wrong-root, wrong-enters, wrong-nodes, wrong-looks, more-looks, right-more}
+use Rattle.mp_vm.proofs.PathRules.{wrong-nodes, wrong-looks, more-looks, right-more}
 use Rattle.mp_vm.proofs.PathRules.{right-begin, open-front, nodes-one}
 
 none-more : (ks : Path) (k : NetToken) → is_none (ks ++ k ∷ []) ≡ false
@@ -25,15 +25,6 @@ abbrev pub may_come : Sig → Above → NetToken → Bool
 may_come sig a k = not (a.is_first && is_loose_token k) && not (enters_comm sig k)
 
 module _ (sig : Sig) (most : ℕ) (a : Above) (ks : Path) (k : NetToken) (h : Knows sig most a ks) where
-  -- one that may not makes the path wrong
-  pub wrong-come : may_come sig a k ≡ false → is_right_path sig most (ks ++ k ∷ []) ≡ false
-  wrong-come e = elim (and_cases (not (a.is_first && is_loose_token k)) (not (enters_comm sig k)) e) [
-    | inl p ↦
-        let q = and_parts a.is_first (is_loose_token k) (not-false (a.is_first && is_loose_token k) p) in
-        wrong-root sig most ks k (sym h.first ∙ q.0) q.1
-    | inr p ↦ wrong-enters sig most ks k (not-false (enters_comm sig k) p)
-  ]
-
   -- so does one with too many nodes
   pub wrong-count : most < a.nodes + token_nodes k → is_right_path sig most (ks ++ k ∷ []) ≡ false
   wrong-count many = wrong-nodes sig most ks k (omega (arith, many, h.nodes))

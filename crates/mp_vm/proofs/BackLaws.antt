@@ -22,7 +22,7 @@ use Rattle.mp_vm.specs.declared.stage.Stage.{Stage}
 use Rattle.mp_vm.specs.declared.stage.Stage.TheVariants.{Ops, Kinds, Tests, Rules, Code, Begin, Instrs, Stop}
 use Rattle.mp_vm.specs.Machine.{State, IsBeforeBegin, IsAtStage, begin_text, state_lines, IsState, IsStateOf}
 use Rattle.mp_vm.specs.Machine.{may_follow, MayCome, IsNextText, step}
-use Rattle.mp_vm.proofs.MachineLaws.{Parts, parts-of, behind-of, state-of, behind-before, behind-begin}
+use Rattle.mp_vm.proofs.MachineLaws.{PartsOf, parts-of, behind-of, state-of, behind-before, behind-begin}
 use Rattle.mp_vm.proofs.MachineLaws.{At, step-state}
 use Rattle.mp_vm.proofs.FrontLaws.{front-nil}
 
@@ -137,70 +137,22 @@ module _ (sig : Sig) where
 
   module _ (read : List Text) (line : Text) (some : read ≢ []) (f : Form) where
     abbrev with_ops : List Text → Form
-    with_ops ops = record {
-      format = f.format;
-      ops = ops;
-      kinds = f.kinds;
-      tests = f.tests;
-      rules = f.rules;
-      begin = f.begin;
-      code = f.code;
-    }
+    with_ops ops = record f { ops = ops }
 
     abbrev with_kinds : List Text → Form
-    with_kinds kinds = record {
-      format = f.format;
-      ops = f.ops;
-      kinds = kinds;
-      tests = f.tests;
-      rules = f.rules;
-      begin = f.begin;
-      code = f.code;
-    }
+    with_kinds kinds = record f { kinds = kinds }
 
     abbrev with_tests : List cond.Cond → Form
-    with_tests tests = record {
-      format = f.format;
-      ops = f.ops;
-      kinds = f.kinds;
-      tests = tests;
-      rules = f.rules;
-      begin = f.begin;
-      code = f.code;
-    }
+    with_tests tests = record f { tests = tests }
 
     abbrev with_rules : List RuleLine → Form
-    with_rules rules = record {
-      format = f.format;
-      ops = f.ops;
-      kinds = f.kinds;
-      tests = f.tests;
-      rules = rules;
-      begin = f.begin;
-      code = f.code;
-    }
+    with_rules rules = record f { rules = rules }
 
     abbrev with_begin : Option ℕ → Form
-    with_begin begin = record {
-      format = f.format;
-      ops = f.ops;
-      kinds = f.kinds;
-      tests = f.tests;
-      rules = f.rules;
-      begin = begin;
-      code = f.code;
-    }
+    with_begin begin = record f { begin = begin }
 
     abbrev with_code : List Instr → Form
-    with_code code = record {
-      format = f.format;
-      ops = f.ops;
-      kinds = f.kinds;
-      tests = f.tests;
-      rules = f.rules;
-      begin = f.begin;
-      code = code;
-    }
+    with_code code = record f { code = code }
 
     back-ops : IsStateOf sig (read ++ line ∷ []) (At sig Ops f) → Back read line (At sig Ops f)
     back-ops h = by_ops (nil-or f.ops)
@@ -312,17 +264,9 @@ module _ (sig : Sig) where
 
     back-begin : IsStateOf sig (read ++ line ∷ []) (At sig Begin f) → Back read line (At sig Begin f)
     back-begin h =
-        let p = parts-of sig (At sig Begin f) h.is in
         back read line (begin_text f.begin) (At sig Begin f) (At sig Code (with_begin None)) (begin_line f.begin) h
-        (state-of sig Code (with_begin None) (refl, h.is.at) (record {
-          ops = p.ops;
-          kinds = p.kinds;
-          no_tests = p.no_tests;
-          few_tests = p.few_tests;
-          tests = p.tests;
-          few_rules = p.few_rules;
-          rules = p.rules;
-        }) (behind-before sig f.format Code None f.code refl h.is.at)) (record { follows = refl; room = tt })
+        (state-of sig Code (with_begin None) (refl, h.is.at) (parts-of sig (At sig Begin f) h.is)
+        (behind-before sig f.format Code None f.code refl h.is.at)) (record { follows = refl; room = tt })
         (h.is.right.begin, refl) refl
 
     follows-begin : (d : Option ℕ) (i : Instr) → IsSome d → may_follow (instr_line i) Begin d ≡ true
@@ -336,18 +280,8 @@ module _ (sig : Sig) where
         (subst (AllByRecursion (IsRightInstr sig f.format)) c.split h.is.right.code) in
         by_front c all.0 all.1.0 (nil-or c.front)
       where
-        parts : (is : List Instr) → Parts sig (with_code is)
-        parts is =
-            let p = parts-of sig (At sig Instrs f) h.is in
-            record {
-              ops = p.ops;
-              kinds = p.kinds;
-              no_tests = p.no_tests;
-              few_tests = p.few_tests;
-              tests = p.tests;
-              few_rules = p.few_rules;
-              rules = p.rules;
-            }
+        parts : PartsOf sig f
+        parts = parts-of sig (At sig Instrs f) h.is
 
         by_front : (c : Snoc f.code) → AllByRecursion (IsRightInstr sig f.format) c.front
             → IsRightInstr sig f.format c.item → (c.front ≡ []) ⊎ (c.front ≢ []) → Back read line (At sig Instrs f)
@@ -356,7 +290,7 @@ module _ (sig : Sig) where
             let counted = length-append c.front (c.item ∷ []) in
             back read line (text.instr_line sig (suc (length c.front)) c.item) (At sig Instrs f)
             (At sig Begin (with_code c.front)) (instr_line c.item) h
-            (state-of sig Begin (with_code c.front) e (parts c.front)
+            (state-of sig Begin (with_code c.front) e parts
             (behind-begin sig f.format f.begin c.front h.is.right.begin e)) (record {
               follows = follows-begin f.begin c.item (h.is.right.begins.1 h.is.at);
               room = (let few = h.is.right.few_instrs in omega (arith, few, count, counted));
@@ -366,7 +300,7 @@ module _ (sig : Sig) where
             let counted = length-append c.front (c.item ∷ []) in
             back read line (text.instr_line sig (suc (length c.front)) c.item) (At sig Instrs f)
             (At sig Instrs (with_code c.front)) (instr_line c.item) h
-            (state-of sig Instrs (with_code c.front) e (parts c.front) (record {
+            (state-of sig Instrs (with_code c.front) e parts (record {
               begin = h.is.right.begin;
               begins = (λ s. e, λ s. h.is.right.begins.1 h.is.at);
               few = (let few = h.is.right.few_instrs in omega (arith, few, count, counted));

@@ -1,8 +1,8 @@
 -- Checks of faults, one behind the other.
-use Rattle.std.proofs.Common.{◌≡◌, ◌<◌, ◌≤◌, ◌+◌, ℕ, suc, List, [], ◌∷◌, ◌++◌, length, map, get_or, take, drop, Some}
+use Rattle.std.proofs.Common.{◌≡◌, ◌<◌, ◌+◌, ℕ, suc, List, [], ◌∷◌, ◌++◌, length, map, get_or, take, drop, Some}
 use Rattle.std.proofs.Common.{None, sym, ap, subst, ◌∙◌, add-one}
 use Rattle.std.specs.Prelude.{◌≢◌, Result, Ok, Err, IfOk, IsErrAnd}
-use Rattle.std.proofs.lemmas.List.{map_more, drop_all}
+use Rattle.std.proofs.lemmas.List.{map_more}
 use Rattle.mp_term.proofs.ListLaws.{drop-item}
 use Rattle.mp_program.specs.declared.fault.ProgramError.{ProgramError}
 use Rattle.mp_program.specs.declared.fault.ProgramError.TheVariants.{Memory}
@@ -45,11 +45,6 @@ checks-passed T xs ys f (Err e) same h = subst (λ x. x ≢ Memory → first_fau
 -- those of the items from an index on, behind those before it
 module _ {X Y : Type 0} (faults : List Y → ℕ → Y → List ProgramError) (f : X → Y) (xs : List X) (i n : ℕ)
     (all : List ProgramError) (left : faults_along faults (map f (take i xs)) n (map f (drop i xs)) ≡ all) where
-  -- no item is left
-  pub along-end : length xs ≤ i → all ≡ []
-  along-end past =
-      sym left ∙ ap (λ l. faults_along faults (map f (take i xs)) n (map f l)) (drop_all i xs past)
-
   module _ (x : X) (within : i < length xs) (at : x ≡ get_or xs i x) where
     parts : faults (map f (take i xs)) n (f x)
         ++ faults_along faults (map f (take i xs) ++ f x ∷ []) (suc n) (map f (drop (i + 1) xs)) ≡ all

@@ -63,9 +63,6 @@ module _ (sig : Sig) (most : ℕ) (tests : List Cond) (rules : List ProgramRule)
   abbrev faults : List ProgramError
   faults = path_faults sig most tests rules stop line ks i
 
-  pub wrong-path : is_right_path sig most ks ≡ false → first_fault faults ≡ Some (BadReference line)
-  wrong-path e = ap (λ b. first_fault (faults_with b accepted balanced)) e
-
   pub wrong-rules : is_right_path sig most ks ≡ true → accepted ≡ false → first_fault faults ≡ Some (BadReference line)
   wrong-rules r e = ap (λ b. first_fault (faults_with b accepted balanced)) r
       ∙ ap (λ b. first_fault (faults_with true b balanced)) e

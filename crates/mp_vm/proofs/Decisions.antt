@@ -155,10 +155,6 @@ decided-behind word P t d =
 abbrev pub Spells : {A : Type 0} → (A → Type 0) → (A → Text) → Text → Type 0
 Spells {A = A} Right printed t = (a : A) × Right a × (printed a ≡ t)
 
--- two values, the text of one behind that of the other
-abbrev pub SpellBoth : {A B : Type 0} → (A → Type 0) → (A → Text) → Text → (B → Type 0) → (B → Text) → Text → Type 0
-SpellBoth P first between Q second t = InParts (λ a b. Spells P first a × Behind between (Spells Q second) b) t
-
 pub decided-spell-both : {A B : Type 0} (P : A → Type 0) (first : A → Text) (between : Text) (Q : B → Type 0)
     (second : B → Text) (t : Text) → ((t : Text) → Decided (Spells P first t))
     → ((t : Text) → Decided (Spells Q second t))

@@ -32,7 +32,7 @@ use Rattle.mp_vm.specs.FormRead.{first_line, NamesOther, NamesNone, IsNamed, IsD
 use Rattle.mp_vm.proofs.MachineLaws.{At, form-state}
 use Rattle.mp_vm.proofs.ReadingLaws.{start-only, whole-form, only-begins}
 use Rattle.mp_vm.proofs.BadLines.{take-further, form-begins, bad-open, bad-unended, bad-first, bad-empty}
-use Rattle.mp_vm.proofs.DraftLaws.{length-lines_text-append, length-lines_text-cons, lines-within}
+use Rattle.mp_vm.proofs.DraftLaws.{lines-within}
 
 pub empty-text : (t : Text) → nat_eq (length t) 0 ≡ true → t ≡ []
 empty-text [] e = refl
@@ -169,12 +169,6 @@ module _ (sig : Sig) where
           let e = ap length next-parts in
           let n = length-append (lines_text (h.read ++ text ∷ [])) behind in
           omega (arith, e, n)
-
-      pub next-short : length text ≤ length bytes
-      next-short =
-          let n = length-lines_text-append h.read (text ∷ []) in
-          let m = length-lines_text-cons text [] in
-          omega (arith, next-few, n, m)
 
       pub reading-next : (new : Draft) (line : ℕ) → length bytes < 2 ^ 32 - 1
           → HasRead sig most new (h.read ++ text ∷ []) → line ≡ min (number + 1) (2 ^ 32 - 1)

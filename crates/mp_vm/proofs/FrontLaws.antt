@@ -19,7 +19,7 @@ use Rattle.mp_program.proofs.ListLaws.{first-same, rest-same}
 use Rattle.mp_vm.specs.declared.stage.Stage.{Stage}
 use Rattle.mp_vm.specs.declared.stage.Stage.TheVariants.{Ops, Kinds, Tests, Rules, Code, Begin, Instrs, Stop}
 use Rattle.mp_vm.specs.Machine.{State, IsAtStage, completed_code, begin_text, begun_lines, IsStateOf}
-use Rattle.mp_vm.proofs.MachineLaws.{Parts, Behind, state-of, behind-before, behind-begin}
+use Rattle.mp_vm.proofs.MachineLaws.{before_code, Parts, PartsOf, Behind, state-of, behind-before, behind-begin}
 
 -- ---- lists
 
@@ -69,18 +69,6 @@ pub all-front : {X : Type 0} (P : X → Type 0) (xs p r : List X) → xs ≡ p +
 all-front P xs p r e h = (all-split P p r (subst (AllByRecursion P) e h)).0
 
 -- ---- states before `code`
-
--- what the lines before `code` say
-abbrev before_code : Format → List Text → List Text → List cond.Cond → List RuleLine → Form
-before_code format ops kinds tests rules = record {
-  format = format;
-  ops = ops;
-  kinds = kinds;
-  tests = tests;
-  rules = rules;
-  begin = None;
-  code = [];
-}
 
 -- the part of the last one of them
 abbrev parts_stage : List Text → List cond.Cond → List RuleLine → Stage
@@ -173,24 +161,8 @@ module _ (sig : Sig) where
       rules = all-front (IsRightRule sig f.format) f.rules r r' er h.rules;
     }
 
-    parts-all : Parts sig (before_code f.format f.ops f.kinds f.tests f.rules)
-    parts-all = parts-front f.ops [] f.kinds [] f.tests [] f.rules [] (sym (append-nil f.ops))
-        (sym (append-nil f.kinds)) (sym (append-nil f.tests)) (sym (append-nil f.rules))
-
-    -- the same with a begin and instructions
-    abbrev with_code : Option ℕ → List Instr → Form
-    with_code d is = record {
-      format = f.format;
-      ops = f.ops;
-      kinds = f.kinds;
-      tests = f.tests;
-      rules = f.rules;
-      begin = d;
-      code = is;
-    }
-
-    parts-with : (d : Option ℕ) (is : List Instr) → Parts sig (with_code d is)
-    parts-with d is = record {
+    parts-all : PartsOf sig f
+    parts-all = record {
       ops = h.ops;
       kinds = h.kinds;
       no_tests = h.no_tests;
@@ -199,6 +171,10 @@ module _ (sig : Sig) where
       few_rules = h.few_rules;
       rules = h.rules;
     }
+
+    -- the same with a begin and instructions
+    abbrev with_code : Option ℕ → List Instr → Form
+    with_code d is = record f { begin = d; code = is }
 
     -- all lines before `code`, and these
     abbrev through : List Text → List Text
@@ -209,7 +185,7 @@ module _ (sig : Sig) where
         → Reached (through read)
     code-state st d is read at b e = record {
       state = record { stage = st; form = with_code d is };
-      is = record { is = state-of sig st (with_code d is) at (parts-with d is) b; lines = ap through e };
+      is = record { is = state-of sig st (with_code d is) at parts-all b; lines = ap through e };
     }
 
     -- some of the instructions

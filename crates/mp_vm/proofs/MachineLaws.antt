@@ -59,6 +59,18 @@ put-fourth : {X : Type 0} (a b c d r : List X) (x : X) → r ≡ []
 put-fourth a b c d r x e =
     ap (λ l. a ++ l) (put-third b c d r x e) ∙ sym (append_assoc a (b ++ (c ++ (d ++ r))) (x ∷ []))
 
+-- what the lines before `code` say
+abbrev pub before_code : Format → List Text → List Text → List cond.Cond → List RuleLine → Form
+before_code format ops kinds tests rules = record {
+  format = format;
+  ops = ops;
+  kinds = kinds;
+  tests = tests;
+  rules = rules;
+  begin = None;
+  code = [];
+}
+
 -- ---- a state's lines begin right lines
 
 module _ (sig : Sig) where
@@ -119,6 +131,10 @@ module _ (sig : Sig) where
     pub few_rules : length f.rules ≤ MAX_RULES
     pub rules : AllByRecursion (IsRightRule sig f.format) f.rules
 
+  -- those of a form
+  abbrev pub PartsOf : Form → Type 0
+  PartsOf f = Parts (before_code f.format f.ops f.kinds f.tests f.rules)
+
   -- the lines behind it
   pub record Behind (format : Format) (d : Option ℕ) (is : List Instr) : Type 0 where
     pub begin : IsShortTarget d
@@ -126,7 +142,7 @@ module _ (sig : Sig) where
     pub few : IsShort (suc (length is))
     pub code : AllByRecursion (IsRightInstr sig format) is
 
-  pub parts-of : (s : State) → IsState sig s → Parts s.form
+  pub parts-of : (s : State) → IsState sig s → PartsOf s.form
   parts-of s h = record {
     ops = h.right.ops;
     kinds = h.right.kinds;
@@ -146,7 +162,7 @@ module _ (sig : Sig) where
     code = h.right.code;
   }
 
-  pub state-of : (st : Stage) (f : Form) → IsAtStage st f → Parts f
+  pub state-of : (st : Stage) (f : Form) → IsAtStage st f → PartsOf f
       → Behind f.format f.begin (completed_code st f.begin f.code) → IsState sig (record { stage = st; form = f })
   state-of st f at p b = record {
     at = at;
@@ -347,17 +363,9 @@ module _ (sig : Sig) where
   step-begin : (f : Form) (line : Text) (d : Option ℕ) → IsState sig (At Code f) → IsShortTarget d
       → line ≡ begin_text d → Leads (At Code f) line (At Begin (longer line (begin_line d) f))
   step-begin f line d h short own =
-      let p = parts-of (At Code f) h in
       record {
-        is = state-of Begin (longer line (begin_line d) f) h.at.1 (record {
-          ops = p.ops;
-          kinds = p.kinds;
-          no_tests = p.no_tests;
-          few_tests = p.few_tests;
-          tests = p.tests;
-          few_rules = p.few_rules;
-          rules = p.rules;
-        }) (behind-begin f.format d f.code short h.at.1);
+        is = state-of Begin (longer line (begin_line d) f) h.at.1 (parts-of (At Code f) h)
+            (behind-begin f.format d f.code short h.at.1);
         lines = lines-last f (codes "code" ∷ []) line Code (codes "code" ∷ begin_text d ∷ []) refl
             (ap (λ l. codes "code" ∷ l ∷ []) (sym own));
       }
@@ -376,20 +384,11 @@ module _ (sig : Sig) where
       → text.instr_line sig (suc (length f.code)) i ≡ line
       → Leads (At st f) line (At Instrs (longer line (instr_line i) f))
   step-instr st f line i h begun some code room right own =
-      let p = parts-of (At st f) h in
       let number : 1 + length f.code ≡ suc (length f.code) = omega arith in
       let more = instr_lines-append 1 f.code i ∙ ap (λ l. instr_lines sig 1 f.code ++ l ∷ [])
       (ap (λ n. text.instr_line sig n i) number ∙ own) in
       record {
-        is = state-of Instrs (longer line (instr_line i) f) (some-behind f.code i) (record {
-          ops = p.ops;
-          kinds = p.kinds;
-          no_tests = p.no_tests;
-          few_tests = p.few_tests;
-          tests = p.tests;
-          few_rules = p.few_rules;
-          rules = p.rules;
-        }) (record {
+        is = state-of Instrs (longer line (instr_line i) f) (some-behind f.code i) (parts-of (At st f) h) (record {
           begin = h.right.begin;
           begins = (λ s. some-behind f.code i, λ e. some);
           few = omega (arith, room, length-append f.code (i ∷ []));

@@ -45,15 +45,7 @@ kept-all most (r ∷ rs) h =
     λ i. one i ∷ rest i
 
 kept-form-all : (most : ℕ) (f : Form) → variables_of f.rules ≤ most → kept_form most f ≡ f
-kept-form-all most f h = ap (λ rs. record {
-  format = f.format;
-  ops = f.ops;
-  kinds = f.kinds;
-  tests = f.tests;
-  rules = rs;
-  begin = f.begin;
-  code = f.code;
-}) (kept-all most f.rules h)
+kept-form-all most f h = ap (λ rs. record f { rules = rs }) (kept-all most f.rules h)
 
 -- ---- states
 

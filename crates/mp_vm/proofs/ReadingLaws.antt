@@ -40,15 +40,7 @@ kept-step most line (test_line c) s = refl
 kept-step most line (rule_line r) s =
     ap (λ rs. record {
       stage = Rules;
-      form = record {
-        format = s.form.format;
-        ops = s.form.ops;
-        kinds = s.form.kinds;
-        tests = s.form.tests;
-        rules = rs;
-        begin = s.form.begin;
-        code = s.form.code;
-      };
+      form = record s.form { rules = rs };
     }) (map-append (kept_line most) s.form.rules (r ∷ []))
 kept-step most line code_line s = refl
 kept-step most line (begin_line d) s = refl

@@ -14,15 +14,7 @@ kept most l = l
 
 -- of a form
 abbrev pub kept_form : ℕ → Form → Form
-kept_form most f = record {
-  format = f.format;
-  ops = f.ops;
-  kinds = f.kinds;
-  tests = f.tests;
-  rules = map (kept_line most) f.rules;
-  begin = f.begin;
-  code = f.code;
-}
+kept_form most f = record f { rules = map (kept_line most) f.rules }
 
 -- of a state
 abbrev pub kept_state : ℕ → State → State

@@ -59,15 +59,7 @@ completed_code _ _ code = code
 
 -- what such a text says
 abbrev pub completed : State → Form
-completed s = record {
-  format = s.form.format;
-  ops = s.form.ops;
-  kinds = s.form.kinds;
-  tests = s.form.tests;
-  rules = s.form.rules;
-  begin = s.form.begin;
-  code = completed_code s.stage s.form.begin s.form.code;
-}
+completed s = record s.form { code = completed_code s.stage s.form.begin s.form.code }
 
 -- the line behind `code`
 abbrev pub begin_text : Option ℕ → Text
@@ -160,60 +152,12 @@ stage_of stop_line = Stop
 
 -- what the lines say with one more of the text, which is read as the line
 abbrev pub longer : Text → Line → Form → Form
-longer line op_line f = record {
-  format = f.format;
-  ops = f.ops ++ line ∷ [];
-  kinds = f.kinds;
-  tests = f.tests;
-  rules = f.rules;
-  begin = f.begin;
-  code = f.code;
-}
-longer line kind_line f = record {
-  format = f.format;
-  ops = f.ops;
-  kinds = f.kinds ++ line ∷ [];
-  tests = f.tests;
-  rules = f.rules;
-  begin = f.begin;
-  code = f.code;
-}
-longer line (test_line c) f = record {
-  format = f.format;
-  ops = f.ops;
-  kinds = f.kinds;
-  tests = f.tests ++ c ∷ [];
-  rules = f.rules;
-  begin = f.begin;
-  code = f.code;
-}
-longer line (rule_line r) f = record {
-  format = f.format;
-  ops = f.ops;
-  kinds = f.kinds;
-  tests = f.tests;
-  rules = f.rules ++ r ∷ [];
-  begin = f.begin;
-  code = f.code;
-}
-longer line (begin_line d) f = record {
-  format = f.format;
-  ops = f.ops;
-  kinds = f.kinds;
-  tests = f.tests;
-  rules = f.rules;
-  begin = d;
-  code = f.code;
-}
-longer line (instr_line i) f = record {
-  format = f.format;
-  ops = f.ops;
-  kinds = f.kinds;
-  tests = f.tests;
-  rules = f.rules;
-  begin = f.begin;
-  code = f.code ++ i ∷ [];
-}
+longer line op_line f = record f { ops = f.ops ++ line ∷ [] }
+longer line kind_line f = record f { kinds = f.kinds ++ line ∷ [] }
+longer line (test_line c) f = record f { tests = f.tests ++ c ∷ [] }
+longer line (rule_line r) f = record f { rules = f.rules ++ r ∷ [] }
+longer line (begin_line d) f = record f { begin = d }
+longer line (instr_line i) f = record f { code = f.code ++ i ∷ [] }
 longer line _ f = f
 
 -- the state behind it

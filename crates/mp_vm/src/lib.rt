@@ -10,7 +10,6 @@ mod laws;
 mod lines;
 mod look;
 mod needs;
-mod printed;
 mod reader;
 mod rules;
 mod run;

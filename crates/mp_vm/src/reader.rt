@@ -192,7 +192,7 @@ fn program_of(alloc: Global, sig: &Signature, draft: Draft) -> Result<Program, P
     Ok(Program { rules, tests, code })
 }
 
-/// Reads a program over a signature, in format 1 or 2.
+/// Reads a program over a signature, in format 1 or 2. The text has fewer than 4,294,967,295 bytes.
 ///
 /// The bytes are a program by `IsProgramOf` of mp_program's `specs/Reading.antt`: lines in their printed spelling in
 /// which nothing is wrong. Another text has the fault that `IsProgramFaultOf` says, with its line: `WrongVersion`, the

@@ -20,11 +20,10 @@ ghost use Rattle.mp_line.specs.Named.{names_in};
 ghost use Rattle.mp_vm.specs.Checked.{Checks, numbers_below};
 ghost use Rattle.mp_vm.specs.NumberedRules.{named_test, numbered_rule};
 
-use crate::printed::printed_cond;
 use indexmap::IndexSet;
 use mp_line::{MAX_KEPT, condition_names};
 use mp_pattern::{Cond, MAX_VARIABLES};
-use mp_program::{ProgramError, ProgramRule, ProgramRules, RuleLine, RuleTest};
+use mp_program::{ProgramError, ProgramRule, ProgramRules, RuleLine, RuleTest, printed_cond};
 use mp_term::{Memory, Name, NameTable, Names, Signature};
 use std::alloc::Global;
 

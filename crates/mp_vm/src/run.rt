@@ -1,5 +1,5 @@
 //! What programs accept on a subject.
-ghost use Rattle.std.specs.Prelude.{◌≡◌, ◌≤◌, ◌↔◌, ◌⊎◌};
+ghost use Rattle.std.specs.Prelude.{◌≡◌, ◌≤◌, ◌↔◌, ◌⊎◌, option_map};
 ghost use Rattle.std.specs.Prelude.{Contains, IfOk, IfSome, IsSome, IsSomeAnd, OnOk};
 ghost use Rattle.mp_term.specs.Listing.{In};
 ghost use Rattle.mp_term.specs.Normal.{IsNormal};
@@ -8,6 +8,7 @@ ghost use Rattle.mp_pattern.specs.declared.limits.TheConstants.{MAX_TERM_NODES};
 ghost use Rattle.mp_pattern.specs.Lists as lists;
 ghost use Rattle.mp_walk.specs.Code.{IsCode};
 ghost use Rattle.mp_walk.specs.Instrs.{accepts_at};
+ghost use Rattle.mp_walk.specs.Ranked.{pairs_of, AreOver};
 ghost use Rattle.mp_walk.specs.Walkable.{numbered_names};
 ghost use Rattle.mp_walk.specs.WalkItems.{IsLeafItem};
 ghost use Rattle.mp_walk.specs.WalkView.{subject_of};
@@ -82,8 +83,9 @@ fn admitted<'a>(
     requires some { IsSome walk.now.item }
     requires item { IfSome walk.now.item (IsLeafItem sig.now program.now.code (subject_of walk.now.table)) }
     requires accepts { IfSome walk.now.item (λ i. In number (accepts_at program.now.code i.0)) }
-    ensures { IfOk result (λ o. IfSome walk.now.item (λ i. IsPairOf sig.now (program_view program.now)
-        (subject_of walk.now.table) i number o)) }
+    ensures pair { IfOk result (λ o. IfSome walk.now.item (λ i. IsPairOf sig.now (program_view program.now)
+        (subject_of walk.now.table) i number (option_map (λ p. p.pair) o))) }
+    ensures table { IfOk result (λ o. IfSome o (λ p. p.table ≡ table.now)) }
 {
     let Some(rule) = program.rules.get(number as usize) else {
         unreachable!()
@@ -114,9 +116,11 @@ fn add_pairs<'a>(
     requires some { IsSome walk.now.item }
     requires item { IfSome walk.now.item (IsLeafItem sig.now program.now.code (subject_of walk.now.table)) }
     requires accepts { IfSome walk.now.item (λ i. accepts_at program.now.code i.0 ≡ accepts.now) }
-    ensures { OnOk result ((q : lists.Pair) → Contains found.new q ↔ (Contains found.old q ⊎ IsSomeAnd walk.now.item
-        (λ i. In q.0 accepts.now
+    requires over { found.old.table ≡ table.now }
+    ensures pairs { OnOk result ((q : lists.Pair) → Contains found.new.pairs q
+        ↔ (Contains found.old.pairs q ⊎ IsSomeAnd walk.now.item (λ i. In q.0 accepts.now
         × IsGivenBy sig.now (program_view program.now) (subject_of walk.now.table) i.0 i.1 q))) }
+    ensures over { found.new.table ≡ table.now }
 {
     for number in accepts {
         if let Some(pair) = admitted(alloc, sig, program, *number, table, walk)? {
@@ -138,10 +142,12 @@ pub(crate) fn accepted<'a>(
     requires code { code.now.instrs ≡ program.now.code }
     requires plans { IsCode sig.now code.now }
     requires table { IsProgramTable sig.now (program_view program.now) table.now }
-    ensures { IfOk result (λ ps. IsProgramList sig.now (program_view program.now) (subject_of table.now) ps.items) }
+    ensures pairs { IfOk result
+        (λ ps. IsProgramList sig.now (program_view program.now) (subject_of table.now) (pairs_of ps.items)) }
+    ensures table { IfOk result (λ ps. AreOver table.now ps.items) }
 {
     let mut walk = Walk::begin(alloc, sig, code, table)?;
-    let mut found = Finds::new(alloc);
+    let mut found = Finds::new(alloc, table);
     while walk.next()? {
         let accepts = code.accepts(walk.leaf());
         add_pairs(alloc, sig, program, table, &walk, accepts, &mut found)?;
@@ -162,7 +168,9 @@ pub fn run_ranked<'a>(
 ) -> Result<Vec<RankedPair<'a>>, Memory>
     requires valid { IsValid sig.now (program_view program.now) }
     requires table { IsProgramTable sig.now (program_view program.now) table.now }
-    ensures { IfOk result (λ ps. IsProgramList sig.now (program_view program.now) (subject_of table.now) ps.items) }
+    ensures pairs { IfOk result
+        (λ ps. IsProgramList sig.now (program_view program.now) (subject_of table.now) (pairs_of ps.items)) }
+    ensures table { IfOk result (λ ps. AreOver table.now ps.items) }
 {
     let code = Code::new(alloc, sig, program.code.copy(alloc)?)?;
     accepted(alloc, sig, program, &code, table)

@@ -10,6 +10,7 @@ ghost use Rattle.mp_pattern.specs.NetTokenView.{net_token};
 ghost use Rattle.mp_table.specs.declared.limits.TheConstants.{MAX_CONSTANT_NODES};
 ghost use Rattle.mp_walk.specs.CodeConstants.{code_constants, token_constants};
 ghost use Rattle.mp_walk.specs.InstrView.{plain_instr};
+ghost use Rattle.mp_walk.specs.Ranked.{pairs_of, AreOver};
 ghost use Rattle.mp_walk.specs.WalkView.{subject_of};
 ghost use Rattle.mp_program.specs.ProgramView.{program_view};
 ghost use Rattle.mp_program.specs.Reading.{IsValid};
@@ -131,7 +132,9 @@ impl<'a> Runner<'a> {
         table: &'b Table,
     ) -> Result<Vec<RankedPair<'b>>, Memory>
         requires { IsProgramTable self.now.sig self.now.program table.now }
-        ensures { IfOk result (λ ps. IsProgramList self.now.sig self.now.program (subject_of table.now) ps.items) }
+        ensures pairs { IfOk result
+            (λ ps. IsProgramList self.now.sig self.now.program (subject_of table.now) (pairs_of ps.items)) }
+        ensures table { IfOk result (λ ps. AreOver table.now ps.items) }
     {
         accepted(alloc, self.sig, self.program, &self.code, table)
     }

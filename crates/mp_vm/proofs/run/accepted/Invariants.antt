@@ -9,7 +9,8 @@ invariant-loop-found l = record {
   sig : l.walk.sig ≡ l.sig;
   code : l.walk.code ≡ l.program.code;
   table : l.walk.table ≡ l.table;
-  found : HasFound l.sig (program_view l.program) (subject_of l.table) l.found l.walk.to_come;
+  found : HasFound l.sig (program_view l.program) (subject_of l.table) l.found.pairs l.walk.to_come;
+  over : l.found.table ≡ l.table;
 }
 
 abbrev pub decreases-loop-found : goal.decreases-loop-found

@@ -1,4 +1,5 @@
-use Rattle.std.proofs.Common.{◌++◌, ◌∷◌, [], take, get_or, sym, subst, arith}
+use Rattle.std.proofs.Common.{◌≡◌, ◌∙◌, ◌++◌, ◌∷◌, [], ap, take, get_or, sym, subst, arith}
+use Rattle.std.specs.Prelude.{option_map}
 use Rattle.mp_walk.specs.WalkView.{subject_of}
 use Rattle.mp_program.specs.ProgramView.{program_view}
 use Rattle.mp_vm.proofs.RunLaws.{HasAdded, in-accepts, in-get, item-add, item-skip, take-next, take-whole}
@@ -21,25 +22,33 @@ loop-number-preserved c =
     let xs = c.args.accepts.now in
     let k = c.loop-number.number-index in
     let n = get_or xs k 0 in
-    let old = c.args.found.now in
-    let now = c.loop-number.found in
-    let o = c.in_ok-pair.field-0 in
-    subst (HasAdded sig p t old c.match-branch-2.found item) (sym (take-next xs k c.loop-number-test.true))
-    (elim c.match-branch-2.branch [
-      | in-Some+in_ok-add w ↦
-          subst (λ f. HasAdded sig p t old f item (take k xs ++ n ∷ [])) (sym w.found-is)
-          (item-add sig p c.requires.runnable t old now w.add.new.self item (take k xs) n o w.in-Some.pair
-          c.requires.some c.loop-number.invariant c.in_ok-pair.ensures w.in-Some.is
-          w.in_ok-add.ensures)
-      | in_default w ↦
-          subst (λ f. HasAdded sig p t old f item (take k xs ++ n ∷ [])) (sym w.found-is)
-          (item-skip sig p c.requires.runnable t old now item (take k xs) n o c.requires.some c.loop-number.invariant
-          c.in_ok-pair.ensures w.in_default.is)
-    ])
+    let old = c.args.found.now.pairs in
+    let now = c.loop-number.found.pairs in
+    let o = option_map (λ q. q.pair) c.in_ok-pair.field-0 in
+    record {
+      added = subst (HasAdded sig p t old c.match-branch-2.found.pairs item)
+          (sym (take-next xs k c.loop-number-test.true))
+          (elim c.match-branch-2.branch [
+            | in-Some+in_ok-add w ↦
+                subst (λ f. HasAdded sig p t old f.pairs item (take k xs ++ n ∷ [])) (sym w.found-is)
+                (item-add sig p c.requires.runnable t old now w.add.new.self.pairs item (take k xs) n o
+                w.in-Some.pair.pair c.requires.some c.loop-number.invariant.added c.in_ok-pair.ensures.pair
+                (ap (option_map (λ q. q.pair)) w.in-Some.is) w.in_ok-add.ensures.pairs)
+            | in_default w ↦
+                subst (λ f. HasAdded sig p t old f.pairs item (take k xs ++ n ∷ [])) (sym w.found-is)
+                (item-skip sig p c.requires.runnable t old now item (take k xs) n o c.requires.some
+                c.loop-number.invariant.added c.in_ok-pair.ensures.pair (ap (option_map (λ q. q.pair)) w.in_default.is))
+          ]);
+      over = elim c.match-branch-2.branch [
+        | in-Some+in_ok-add w ↦ subst (λ f. f.table ≡ c.args.table.now) (sym w.found-is)
+            (w.add.ensures.table ∙ c.loop-number.invariant.over)
+        | in_default w ↦ subst (λ f. f.table ≡ c.args.table.now) (sym w.found-is) c.loop-number.invariant.over
+      ];
+    }
 
-pub returns : goal.returns
-returns c =
+pub returns-clause-pairs : goal.returns-clause-pairs
+returns-clause-pairs c =
     let all = let a = c.loop-number-test.false in let b = c.loop-number.auto.number-index-end in
     take-whole c.loop-number.number-index c.args.accepts.now (omega (arith, a, b)) in
     subst (HasAdded c.args.sig.now (program_view c.args.program.now) (subject_of c.args.walk.now.table)
-    c.args.found.now c.loop-number.found c.args.walk.now.item) all c.loop-number.invariant
+    c.args.found.now.pairs c.loop-number.found.pairs c.args.walk.now.item) all c.loop-number.invariant.added

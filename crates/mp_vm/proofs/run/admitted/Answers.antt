@@ -30,16 +30,16 @@ new-requires-clause-few c =
     (item-accepted sig p c.requires.runnable t c.requires.few item c.requires.item c.args.number r
     (c.get.ensures ∙ ap (option_map (λ q. rule_view q.now)) c.in-Some.is) c.requires.accepts)
 
-pub returns-then-not-branch : goal.returns-then-not-branch
-returns-then-not-branch c =
+pub returns-then-not-branch-clause-pair : goal.returns-then-not-branch-clause-pair
+returns-then-not-branch-clause-pair c =
     item-none c.args.sig.now (program_view c.args.program.now) c.requires.runnable
     (subject_of c.args.walk.now.table) c.requires.few c.args.walk.now.item c.requires.item c.args.number
     (rule_view c.in-Some.rule.now) c.in_ok-passes.field-0
     (c.get.ensures ∙ ap (option_map (λ q. rule_view q.now)) c.in-Some.is) c.requires.accepts c.in_ok-passes.ensures
     c.if-not-branch.true
 
-pub returns : goal.returns
-returns c =
+pub returns-clause-pair : goal.returns-clause-pair
+returns-clause-pair c =
     let sig = c.args.sig.now in
     let p = program_view c.args.program.now in
     let r = rule_view c.in-Some.rule.now in
@@ -51,7 +51,7 @@ returns c =
     let few = item-few sig p c.requires.runnable t c.requires.few w.item c.requires.item r c.requires.some
     (item-accepted sig p c.requires.runnable t c.requires.few w.item c.requires.item c.args.number r held
     c.requires.accepts) in
-    subst (λ q. IfSome w.item (λ i. IsPairOf sig p t i c.args.number (Some q))) (sym c.in_ok-pair.ensures)
+    subst (λ q. IfSome w.item (λ i. IsPairOf sig p t i c.args.number (Some q))) (sym c.in_ok-pair.ensures.pair)
     (item-some sig p c.requires.runnable t c.requires.few w.item c.requires.item c.args.number r c.in_ok-passes.field-0
     (subst_in terms (called r.vars) trail) held c.requires.accepts c.in_ok-passes.ensures c.if-not-branch.false
     (item-trail_named w.item t w.sig sig w.code p.code w.table terms trail r.vars c.requires.sig c.requires.code
