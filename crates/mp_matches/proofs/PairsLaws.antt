@@ -13,6 +13,7 @@ use Rattle.mp_io.specs.declared.writer.Writer.{Writer}
 use Rattle.mp_io.proofs.WritingLaws.{Puts-then}
 use Rattle.mp_term.specs.Signature.{Sig}
 use Rattle.mp_term.specs.Tree.{Tree}
+use Rattle.mp_term.specs.declared.memory.Memory.{Memory}
 use Rattle.mp_pattern.specs.Lists.{Pair}
 use Rattle.mp_term.proofs.ListLaws.{drop-item}
 use Rattle.mp_text.specs.declared.file.Subject as code
@@ -22,7 +23,7 @@ use Rattle.mp_matches.specs.Matches.{IsJoinedBy}
 use Rattle.mp_matches.specs.Listed.{lines}
 use Rattle.mp_matches.specs.Printed.{IsCutOff, IsWritten, Lists, has_some}
 use Rattle.mp_matches.specs.Put.{PutsFront}
-use Rattle.mp_matches.specs.PrintedPairs.{PrintsUpTo, PutsOrStops, PutsUpTo}
+use Rattle.mp_matches.specs.PrintedPairs.{PrintsUpTo, PutsOrStops, PutsUpTo, PutsWithMemory}
 use Rattle.mp_matches.specs.declared.fault.ListFault.TheVariants as fault
 use Rattle.mp_matches.specs.declared.stop.Stop.{Stop}
 use Rattle.mp_matches.specs.declared.stop.Stop.TheVariants as stop
@@ -166,13 +167,13 @@ module _ (sig : Sig) (names : List Text) (finds : Tree → List Pair → Type 0)
 pub subject-put : {K : Type 0} (words : SinkWords K) (sig : Sig) (names : List Text)
     (finds : Tree → List Pair → Type 0) (subject : Subject) (pairs : List Pair)
     → ((qs : List Pair) → finds subject.term qs → qs ≡ pairs)
-    → (before after : Option ℕ) (u w : Writer K) (told : Told)
-    → ((rest : List Text) → PutsUpTo words (front_lines before (map (pair_line sig names subject) pairs ++ rest))
-    (front_lines after rest) u w told)
+    → (before after : Option ℕ) (u w : Writer K) (result : Result Told Memory)
+    → ((rest : List Text) → PutsWithMemory words (front_lines before (map (pair_line sig names subject) pairs ++ rest))
+    (front_lines after rest) u w result)
     → (ls rest : List Text) → AreSubjectLines sig names finds subject ls
-    → PutsUpTo words (front_lines before (ls ++ rest)) (front_lines after rest) u w told
-subject-put words sig names finds subject pairs only before after u w told put ls rest h =
-    subst (λ own. PutsUpTo words (front_lines before (own ++ rest)) (front_lines after rest) u w told)
+    → PutsWithMemory words (front_lines before (ls ++ rest)) (front_lines after rest) u w result
+subject-put words sig names finds subject pairs only before after u w result put ls rest h =
+    subst (λ own. PutsWithMemory words (front_lines before (own ++ rest)) (front_lines after rest) u w result)
     (sym (h.2 ∙ ap (map (pair_line sig names subject)) (only h.0 h.1))) (put rest)
 
 -- ---- the end

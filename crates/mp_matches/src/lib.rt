@@ -18,5 +18,5 @@ mod told;
 pub use fault::ListFault;
 pub use list::list_matches;
 pub use matcher::{Line, Matcher};
-pub use pairs::{list_pairs, put_pairs};
+pub use pairs::{list_pairs, put_pairs, put_ranked_pairs};
 pub use told::Told;

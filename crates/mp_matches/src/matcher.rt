@@ -1,6 +1,6 @@
 //! What finds pairs on a subject, and puts their lines.
 
-ghost use Rattle.std.specs.Prelude.{◌≡◌, ◌++◌, List};
+ghost use Rattle.std.specs.Prelude.{◌≡◌, ◌++◌, List, ⊤};
 ghost use Rattle.mp_io.specs.Devices.{Text};
 ghost use Rattle.mp_io.specs.Writing.{Puts};
 ghost use Rattle.mp_term.specs.Signature.{Sig};
@@ -16,48 +16,62 @@ ghost use Rattle.mp_matches.specs.PrintedPairs.{PutsWithMemory};
 use crate::ranked::put_ranked;
 use crate::told::Told;
 use mp_io::{Sink, Writer};
-use mp_print::put_subst;
+use mp_print::{RankTexts, put_subst};
 use mp_subst::Pair;
 use mp_term::{Memory, Name, Signature};
 use mp_text::Subject;
 use mp_walk::RankedPair;
 use std::alloc::Global;
 
-/// A pair of a rule and a substitution that can be printed.
-pub trait Line {
+/// A pair of a rule and a substitution that can be printed. `B` is what its values stand on: values by ranks stand on
+/// a table and the texts of its terms, and values of terms stand on nothing, which is `()`.
+pub trait Line<B> {
     /// The pair.
     ghost pair: { Self → PlainPair };
+
+    /// The pair may be printed over this signature and this base.
+    ghost may_put: { Sig → B → Self → Type 0 };
 
     /// The rule's number.
     fn rule(&self) -> u32
         ensures { result ≡ (pair self.now).0 };
 
     /// Puts the text of the substitution.
-    fn put<K: Sink>(&self, sig: &Signature, out: &mut Writer<'_, K>)
+    fn put<K: Sink>(&self, sig: &Signature, base: &B, out: &mut Writer<'_, K>)
+        requires { may_put sig.now base.now self.now }
         ensures { Puts K.Sink out.old out.new (subst_text sig.now (pair self.now).1) };
 }
 
-impl Line for Pair {
+impl Line<()> for Pair {
     ghost pair = { pair_of };
+
+    ghost may_put = { λ _ _ _. ⊤ };
 
     fn rule(&self) -> u32 {
         self.rule
     }
 
-    fn put<K: Sink>(&self, sig: &Signature, out: &mut Writer<'_, K>) {
+    fn put<K: Sink>(&self, sig: &Signature, base: &(), out: &mut Writer<'_, K>) {
+        let _ = base;
         put_subst(sig, &self.subst, out);
     }
 }
 
-impl Line for RankedPair<'_> {
-    ghost pair = { λ p. p };
+impl<'t> Line<RankTexts<'t>> for RankedPair<'_> {
+    ghost pair = { λ p. p.pair };
 
-    fn rule(&self) -> u32 {
+    ghost may_put = { λ sig b p. (b.sig ≡ sig) × (p.table ≡ b.table) };
+
+    fn rule(&self) -> u32
+        ensures { result ≡ self.now.pair.0 }
+    {
         RankedPair::rule(self)
     }
 
-    fn put<K: Sink>(&self, sig: &Signature, out: &mut Writer<'_, K>) {
-        put_ranked(sig, self, out);
+    fn put<K: Sink>(&self, sig: &Signature, base: &RankTexts<'t>, out: &mut Writer<'_, K>) {
+        // The base has the signature.
+        let _ = sig;
+        put_ranked(base, self, out);
     }
 }
 

@@ -1,27 +1,34 @@
 //! The pairs that rules admit on subjects, one after the other.
 
-ghost use Rattle.std.specs.Prelude.{◌≡◌, [], ◌∷◌, ◌++◌, List, false, map, slice_get, true};
+ghost use Rattle.std.specs.Prelude.{◌≡◌, [], ◌∷◌, ◌++◌, IfOk, List, false, map, slice_get, true};
 ghost use Rattle.std.specs.List.{AllByRecursion};
 ghost use Rattle.mp_io.specs.Devices.{Text};
 ghost use Rattle.mp_io.specs.Moments.{sunk};
 ghost use Rattle.mp_io.specs.Writing.{Puts};
 ghost use Rattle.mp_text.specs.File.{file_tree, subject_tree};
 ghost use Rattle.mp_text.specs.Sound.{IsSoundFile, IsSoundSubject};
+ghost use Rattle.mp_walk.specs.Ranked.{pairs_of, AreOver};
 ghost use Rattle.mp_matches.specs.PairsListed.{AreSubjectLines, IsPairsListed, front_lines, more_follow, name_of};
 ghost use Rattle.mp_matches.specs.PairsListed.{named, pair_line};
 ghost use Rattle.mp_matches.specs.Listed.{lines};
 ghost use Rattle.mp_matches.specs.Matches.{IsJoinedBy};
 ghost use Rattle.mp_matches.specs.Printed.{Lists};
-ghost use Rattle.mp_matches.specs.PrintedPairs.{PrintsUpTo, PutsOrStops, PutsUpTo};
+ghost use Rattle.mp_matches.specs.PrintedPairs.{PrintsUpTo, PutsOrStops, PutsUpTo, PutsWithMemory};
 
 use crate::fault::ListFault;
 use crate::matcher::{Line, Matcher};
 use crate::stop::Stop;
 use crate::told::Told;
 use mp_io::{Sink, Writer};
-use mp_term::{Name, Signature};
+use mp_print::RankTexts;
+use mp_table::Table;
+use mp_term::{Memory, Name, Signature};
 use mp_text::{File, Subject};
+use mp_walk::RankedPair;
 use std::alloc::Global;
+
+// As many pairs are printed without the texts of a table.
+const FEW: usize = 8;
 
 // The name of the rule of that number.
 fn name_at<'a>(names: &[&'a Name], number: u32) -> &'a [u8]
@@ -34,13 +41,15 @@ fn name_at<'a>(names: &[&'a Name], number: u32) -> &'a [u8]
 }
 
 // Puts the line of a pair on the subject, where the rules have these names.
-fn put_pair<L: Line, O: Sink>(
+fn put_pair<B, L: Line<B>, O: Sink>(
     sig: &Signature,
+    base: &B,
     names: &[&Name],
     subject: &Subject,
     pair: &L,
     out: &mut Writer<'_, O>,
 )
+    requires { L.may_put sig.now base.now pair.now }
     ensures { Puts O.Sink out.old out.new
         (pair_line sig.now (named names.now) (subject_tree subject.now) (L.pair pair.now)) }
 {
@@ -50,7 +59,7 @@ fn put_pair<L: Line, O: Sink>(
         name_at(names, pair.rule()),
         b" ",
     ]);
-    pair.put(sig, out);
+    pair.put(sig, base, out);
     out.put_byte(b'\n');
 }
 
@@ -72,15 +81,17 @@ fn take_line(left: &mut Option<u32>) -> bool
 }
 
 /// Puts the lines of pairs on a subject, as many as may be, where the rules have these names, and says whether there
-/// are any (`front_lines` of `specs/PairsListed.antt`).
-pub fn put_pairs<L: Line, O: Sink>(
+/// are any (`front_lines` of `specs/PairsListed.antt`). The values of the pairs stand on the base.
+pub fn put_pairs<B, L: Line<B>, O: Sink>(
     sig: &Signature,
+    base: &B,
     names: &[&Name],
     subject: &Subject,
     pairs: &[L],
     left: &mut Option<u32>,
     out: &mut Writer<'_, O>,
 ) -> Told
+    requires { AllByRecursion (L.may_put sig.now base.now) pairs.now }
     ensures same { out.new.sink.ghost_name ≡ out.old.sink.ghost_name }
     ensures puts { (rest : List Text) → PutsUpTo O.Sink (front_lines left.old
         (map (pair_line sig.now (named names.now) (subject_tree subject.now)) (map L.pair pairs.now) ++ rest))
@@ -92,10 +103,51 @@ pub fn put_pairs<L: Line, O: Sink>(
             out.put(b"more\n");
             return Told::More;
         }
-        put_pair(sig, names, subject, pair, out);
+        put_pair(sig, base, names, subject, pair, out);
         any = true;
     }
     Told::All(any)
+}
+
+// The table for so many pairs: its small terms are written beforehand where there are more than a few.
+fn texts_for<'t>(
+    alloc: Global,
+    sig: &'t Signature,
+    table: &'t Table,
+    count: usize,
+) -> Result<RankTexts<'t>, Memory>
+    ensures sig { IfOk result (λ t. t.sig ≡ sig.now) }
+    ensures table { IfOk result (λ t. t.table ≡ table.now) }
+{
+    if count > FEW {
+        RankTexts::build(alloc, sig, table)
+    } else {
+        Ok(RankTexts::plain(alloc, sig, table))
+    }
+}
+
+/// Puts the lines of pairs whose values are by ranks in the table, as `put_pairs` puts them. Where there are more than
+/// a few, the texts of the table's small terms are written once.
+///
+/// `Memory`: there was no room for these texts, and nothing is put.
+pub fn put_ranked_pairs<O: Sink>(
+    alloc: Global,
+    sig: &Signature,
+    table: &Table,
+    names: &[&Name],
+    subject: &Subject,
+    pairs: &[RankedPair<'_>],
+    left: &mut Option<u32>,
+    out: &mut Writer<'_, O>,
+) -> Result<Told, Memory>
+    requires { AreOver table.now pairs.now }
+    ensures same { out.new.sink.ghost_name ≡ out.old.sink.ghost_name }
+    ensures puts { (rest : List Text) → PutsWithMemory O.Sink (front_lines left.old
+        (map (pair_line sig.now (named names.now) (subject_tree subject.now)) (pairs_of pairs.now) ++ rest))
+        (front_lines left.new rest) out.old out.new result }
+{
+    let texts = texts_for(alloc, sig, table, pairs.len())?;
+    Ok(put_pairs(sig, &texts, names, subject, pairs, left, out))
 }
 
 // Puts the lines of the pairs of subjects, as many as may be, and says whether there are any. It ends behind the

@@ -1,27 +1,28 @@
 //! Prints substitutions whose values are kept by ranks.
 
-ghost use Rattle.std.specs.Prelude.{map, codes};
+ghost use Rattle.std.specs.Prelude.{◌≡◌, map, codes};
 ghost use Rattle.mp_io.specs.Writing.{Puts};
 ghost use Rattle.mp_print.specs.Printing.{binding_text, separated, subst_text};
 ghost use Rattle.mp_walk.specs.RankedView.{shown_binding};
 
 use mp_io::{Sink, Writer};
-use mp_print::put_bound;
-use mp_term::Signature;
+use mp_print::RankTexts;
 use mp_walk::{RankedBinding, RankedPair};
 
 // Puts a variable and its value.
-fn put_binding<K: Sink>(sig: &Signature, binding: &RankedBinding<'_>, out: &mut Writer<'_, K>)
-    ensures { Puts K.Sink out.old out.new (binding_text sig.now (shown_binding binding.now)) }
+fn put_binding<K: Sink>(texts: &RankTexts<'_>, binding: &RankedBinding<'_>, out: &mut Writer<'_, K>)
+    requires { binding.now.table.now ≡ texts.now.table }
+    ensures { Puts K.Sink out.old out.new (binding_text texts.now.sig (shown_binding binding.now)) }
 {
     out.put(binding.name.bytes());
     out.put(b" -> ");
-    put_bound(sig, binding.table, &binding.bound, out);
+    texts.put_bound(&binding.bound, out);
 }
 
 // Puts the bindings, with a comma between each two.
-fn put_bindings<K: Sink>(sig: &Signature, pair: &RankedPair<'_>, out: &mut Writer<'_, K>)
-    ensures { Puts K.Sink out.old out.new (separated (codes ", ") (map (binding_text sig.now) pair.now.1)) }
+fn put_bindings<K: Sink>(texts: &RankTexts<'_>, pair: &RankedPair<'_>, out: &mut Writer<'_, K>)
+    requires { pair.now.table ≡ texts.now.table }
+    ensures { Puts K.Sink out.old out.new (separated (codes ", ") (map (binding_text texts.now.sig) pair.now.pair.1)) }
 {
     let mut gap = b"".as_slice();
     for index in 0..pair.len() {
@@ -29,16 +30,21 @@ fn put_bindings<K: Sink>(sig: &Signature, pair: &RankedPair<'_>, out: &mut Write
             unreachable!()
         };
         out.put(gap);
-        put_binding(sig, &binding, out);
+        put_binding(texts, &binding, out);
         gap = b", ".as_slice();
     }
 }
 
 // Puts the text of the substitution of a pair, as `put_subst` puts that of a substitution.
-pub(crate) fn put_ranked<K: Sink>(sig: &Signature, pair: &RankedPair<'_>, out: &mut Writer<'_, K>)
-    ensures { Puts K.Sink out.old out.new (subst_text sig.now pair.now.1) }
+pub(crate) fn put_ranked<K: Sink>(
+    texts: &RankTexts<'_>,
+    pair: &RankedPair<'_>,
+    out: &mut Writer<'_, K>,
+)
+    requires { pair.now.table ≡ texts.now.table }
+    ensures { Puts K.Sink out.old out.new (subst_text texts.now.sig pair.now.pair.1) }
 {
     out.put_byte(b'{');
-    put_bindings(sig, pair, out);
+    put_bindings(texts, pair, out);
     out.put_byte(b'}');
 }
