@@ -29,6 +29,7 @@ use Rattle.mp_vm.specs.ProgramAnswers.{IsFaultOrMemory, IsProgramOrMemory}
 use Rattle.mp_vm.specs.ProgramList.{IsProgramList}
 use Rattle.mp_vm.proofs.ProgramLists.{IsProgramList-unique, program_list}
 use Rattle.mp_words.specs.Words.{Request}
+use Rattle.mp_words.specs.declared.request.Action.{Action}
 use Rattle.mp_command.specs.Answers.{Acts, ActsAs}
 use Rattle.mp_command.specs.Messages.{fault_line, program_fault_line}
 use Rattle.mp_command.specs.Outcome.{IsAccepted, IsDone, IsDoneWith, IsOutcomeOver, Named, Outcome, matched}
@@ -84,6 +85,17 @@ generated-listed file sound limit each =
     (λ (s : Subject). (ps : List Pair) → IsAllList file.sig file.rules s.term ps → IsProgramList file.sig p s.term ps)
     (λ s h. each s.term h.term.normal) file.subjects sound.subjects)
     limit (all_text file sound limit) (all_listed file sound limit))
+
+-- ---- an action
+
+-- the outcome of the action that is asked for is determined
+pub done-exact : (request : Request) (file : FileTree) (program : Option Program) (out : Sunk) (e : Ending)
+    (action : Action) → request.action ≡ action → (o : Outcome)
+    → ((p : Outcome) → IsDone request file program action p ↔ (p ≡ o)) → Acts o out e
+    → ActsAs (IsDone request file program request.action) out e
+done-exact request file program out e action is o exact acts =
+    subst (λ a. ActsAs (IsDone request file program a) out e) (sym is)
+    (ActsAs-exact (IsDone request file program action) out e o exact acts)
 
 -- ---- the text of a program
 

@@ -1,7 +1,7 @@
 -- An action that is done part by part.
-use Rattle.std.proofs.Common.{◌≡◌, ℕ, ◌+◌, ◌<◌, ◌≤◌, List, [], ◌∷◌, ◌++◌, length, map, drop, get_or}
+use Rattle.std.proofs.Common.{◌≡◌, ℕ, ◌+◌, ◌<◌, List, ◌∷◌, ◌++◌, length, map, drop, get_or}
 use Rattle.std.proofs.Common.{refl, sym, ap, ◌∙◌, subst}
-use Rattle.std.proofs.Common.{append_assoc, append-nil, length-append, drop_of_length-le, arith}
+use Rattle.std.proofs.Common.{append_assoc, append-nil, length-append, arith}
 use Rattle.std.specs.Prelude.{Option, Result, Ok, Err, IsErrAnd, ⊤}
 use Rattle.std.specs.List.{AllByRecursion}
 use Rattle.std.specs.Io.KnownBytes.{Appends}
@@ -12,7 +12,7 @@ use Rattle.mp_io.specs.Moments.{Sunk}
 use Rattle.mp_io.specs.Printing.{AppendsFront, IsCut}
 use Rattle.mp_command.specs.Answers.{Acts, GoesOn}
 use Rattle.mp_command.specs.Endings.{told_line, told_status}
-use Rattle.mp_command.specs.Outcome.{Outcome, finished, refused, written_before}
+use Rattle.mp_command.specs.Outcome.{Outcome, refused, written_before}
 use Rattle.mp_command.specs.declared.ending.Told.{Told}
 use Rattle.mp_command.specs.declared.ending.Told.TheVariants as told
 use Rattle.mp_command.specs.declared.ending.Ending.{Ending}
@@ -25,10 +25,6 @@ between a b m n = record { old = a; new = b; faults = m; faults_after = n }
 -- two texts in front of an outcome are one
 written-twice : (s t : Text) (o : Outcome) → written_before s (written_before t o) ≡ written_before (s ++ t) o
 written-twice s t o = ap (λ x. record { out = x; err = o.err; status = o.status }) (sym (append_assoc s t o.out))
-
--- at the start the whole outcome is left
-pub goes_on-start : (o : Outcome) (a : Option Text) (m : ℕ) → GoesOn o o (between a a m m) (Ok tt)
-goes_on-start o a m = ([], refl, Appends-nil a, refl)
 
 module _ (o p : Outcome) (a b c : Option Text) (m n k : ℕ) (before : GoesOn o p (between a b m n) (Ok tt)) where
   -- a further part is done
@@ -66,12 +62,6 @@ module _ (o p : Outcome) (a b c : Option Text) (m n k : ℕ) (before : GoesOn o 
   goes_on-ends (ending.CannotOpen name) h = absurd h
   goes_on-ends (ending.CannotRead name) h = absurd h
 
--- nothing is left
-pub goes_on-done : (o : Outcome) (a b : Option Text) (m n : ℕ) → GoesOn o finished (between a b m n) (Ok tt)
-    → Acts o (between a b m n) (ending.Told told.Done)
-goes_on-done o a b m n h = goes_on-ends o finished a b b m n n h (ending.Told told.Done)
-    (record { status = refl; line = refl; text = Appends-nil b; stays = refl })
-
 -- ---- the endings of a part
 
 -- a front of a text is one of the text with more behind it
@@ -82,10 +72,6 @@ front-longer a b text more h = record {
   split = ap (λ x. x ++ more) h.split ∙ append_assoc h.front h.rest more;
   written = h.written;
 }
-
--- nothing is written for want of memory
-pub memory-early : (o : Outcome) (a : Option Text) (m : ℕ) → Acts o (between a a m m) ending.Memory
-memory-early o a m = record { front = []; rest = o.out; split = refl; written = Appends-nil a }
 
 -- the line is written, and then there is no memory
 pub memory-late : (text : Text) (o : Outcome) (a b : Option Text) (m n : ℕ) → Appends a b text
@@ -127,11 +113,6 @@ module _ {A : Type 0} (left : List A → Outcome) (part : A → Outcome → Outc
         → Acts o (between a c m k) e
     loop-ends e h = goes_on-ends o (part x (left (drop (i + 1) xs))) a b c m n k
         (subst (λ p. GoesOn o p (between a b m n) (Ok tt)) from_item before) e (h (left (drop (i + 1) xs)))
-
-  -- all parts are done
-  pub loop-done : length xs ≤ i → left [] ≡ finished → Acts o (between a b m n) (ending.Told told.Done)
-  loop-done h none = goes_on-done o a b m n
-      (subst (λ p. GoesOn o p (between a b m n) (Ok tt)) (ap left (drop_of_length-le xs h) ∙ none) before)
 
 -- ---- the answer of a part
 

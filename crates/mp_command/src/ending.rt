@@ -1,12 +1,11 @@
 //! How a run ends, and what is said of it.
 
-ghost use Rattle.std.specs.Prelude.{◌≡◌};
+ghost use Rattle.std.specs.Prelude.{◌≡◌, decimal};
 ghost use Rattle.mp_io.specs.Moments.{sunk};
 ghost use Rattle.mp_io.specs.Printing.{Prints};
 ghost use Rattle.mp_command.specs.Endings.{line_of, status_of, told_line, told_status};
-ghost use Rattle.mp_command.specs.Messages.{deep_line, fault_line, fault_line_number, kind_text, large_line};
-ghost use Rattle.mp_command.specs.Messages.{limit_line, program_fault_line, program_kind_text, said_at};
-ghost use Rattle.mp_command.specs.Messages.{said_at_line, said_number, said_of, spelling_line};
+ghost use Rattle.mp_command.specs.Messages.{fault_line, fault_line_number, kind_text, program_fault_line};
+ghost use Rattle.mp_command.specs.Messages.{program_kind_text, said_at, said_at_line, said_number, said_of};
 
 use itoa::Buffer;
 use mp_io::{Failed, Sink, put, put_all};
@@ -247,54 +246,19 @@ fn say_digits<E: Sink>(
     put_all(err, &parts)
 }
 
-// Writes the line that says with how many of its bytes a misspelt token is one so far.
-fn say_spelling<E: Sink>(err: &mut E, at: u64) -> Result<(), Failed>
-    ensures { Prints (sunk E.Sink err.old err.new) (spelling_line at) result }
+// Writes the line that says something of a name, with a number in it.
+fn say_number<E: Sink>(
+    err: &mut E,
+    name: &[u8],
+    before: &[u8],
+    number: u64,
+    behind: &[u8],
+) -> Result<(), Failed>
+    ensures { Prints (sunk E.Sink err.old err.new)
+        (said_number name.now before.now (decimal number) behind.now) result }
 {
     let mut digits = Buffer::new();
-    say_digits(err, b"token", b": spelling at ", digits.format(at), b"")
-}
-
-// Writes the line that says that the subject has reached the limit of steps.
-fn say_limit<E: Sink>(err: &mut E, subject: &Name, max: u64) -> Result<(), Failed>
-    ensures { Prints (sunk E.Sink err.old err.new) (limit_line subject.now max) result }
-{
-    let mut digits = Buffer::new();
-    say_digits(
-        err,
-        subject.bytes(),
-        b": turn limit ",
-        digits.format(max),
-        b"",
-    )
-}
-
-// Writes the line that says that what the subject would become is too large.
-fn say_large<E: Sink>(err: &mut E, subject: &Name, nodes: u64) -> Result<(), Failed>
-    ensures { Prints (sunk E.Sink err.old err.new) (large_line subject.now nodes) result }
-{
-    let mut digits = Buffer::new();
-    say_digits(
-        err,
-        subject.bytes(),
-        b": too large: ",
-        digits.format(nodes),
-        b" nodes",
-    )
-}
-
-// Writes the line that says that what the subject would become is too deep.
-fn say_deep<E: Sink>(err: &mut E, subject: &Name, depth: u64) -> Result<(), Failed>
-    ensures { Prints (sunk E.Sink err.old err.new) (deep_line subject.now depth) result }
-{
-    let mut digits = Buffer::new();
-    say_digits(
-        err,
-        subject.bytes(),
-        b": too deep: depth ",
-        digits.format(depth),
-        b"",
-    )
+    say_digits(err, name, before, digits.format(number), behind)
 }
 
 // Writes the line of what is told.
@@ -308,13 +272,31 @@ fn say_told<E: Sink>(err: &mut E, told: &Told<'_>) -> Result<(), Failed>
         Told::BadText(name, fault) => say_fault(err, name.as_bytes(), *fault),
         Told::BadProgram(name, fault) => say_program_fault(err, name.as_bytes(), fault),
         Told::TooLong(name) => say_of(err, name.as_bytes(), b": too long"),
-        Told::Misspelt(at) => say_spelling(err, *at),
+        Told::Misspelt(at) => say_number(err, b"token", b": spelling at ", *at, b""),
         Told::NoItem => put(err, b"matchpy: token: not an item\n"),
         Told::NotSyntactic(rule) => say_of(err, rule.bytes(), b": not syntactic"),
         Told::NoTemplate(rule) => say_of(err, rule.bytes(), b": no template"),
-        Told::TurnLimit(subject, max) => say_limit(err, subject, *max),
-        Told::TooLarge(subject, nodes) => say_large(err, subject, *nodes),
-        Told::TooDeep(subject, depth) => say_deep(err, subject, *depth),
+        Told::TurnLimit(subject, max) => say_number(
+            err,
+            subject.bytes(),
+            b": turn limit ",
+            *max,
+            b"",
+        ),
+        Told::TooLarge(subject, nodes) => say_number(
+            err,
+            subject.bytes(),
+            b": too large: ",
+            *nodes,
+            b" nodes",
+        ),
+        Told::TooDeep(subject, depth) => say_number(
+            err,
+            subject.bytes(),
+            b": too deep: depth ",
+            *depth,
+            b"",
+        ),
     }
 }
 

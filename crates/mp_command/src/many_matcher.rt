@@ -6,7 +6,7 @@ ghost use Rattle.mp_pattern.specs.SoundRule.{AreSoundRules};
 
 use mp_io::{Sink, Writer};
 use mp_many::Many;
-use mp_matches::{Matcher, Told, put_pairs};
+use mp_matches::{Matcher, Told, put_ranked_pairs};
 use mp_pattern::Rules;
 use mp_table::Table;
 use mp_term::{Memory, Name, Signature, Terms};
@@ -70,6 +70,6 @@ impl Matcher for ManyMatcher<'_> {
     ) -> Result<Told, Memory> {
         let table = Table::build(alloc, sig, &subject.term, &self.constants)?;
         let pairs = self.many.ranked(alloc, &table)?;
-        Ok(put_pairs(sig, names, subject, &pairs, left, out))
+        put_ranked_pairs(alloc, sig, &table, names, subject, &pairs, left, out)
     }
 }

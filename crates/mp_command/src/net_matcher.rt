@@ -47,6 +47,6 @@ impl Matcher for NetMatcher<'_> {
         out: &mut Writer<'_, O>,
     ) -> Result<Told, Memory> {
         let pairs = pairs(alloc, &self.nets, sig, &subject.term)?;
-        Ok(put_pairs(sig, names, subject, pairs.as_slice(), left, out))
+        Ok(put_pairs(sig, &(), names, subject, pairs.as_slice(), left, out))
     }
 }

@@ -3,7 +3,7 @@
 ghost use Rattle.mp_vm.specs.ProgramList.{IsProgramList};
 
 use mp_io::{Sink, Writer};
-use mp_matches::{Matcher, Told, put_pairs};
+use mp_matches::{Matcher, Told, put_ranked_pairs};
 use mp_term::{Memory, Name, Signature};
 use mp_text::Subject;
 use mp_vm::Runner;
@@ -31,6 +31,6 @@ impl Matcher for ProgramMatcher<'_> {
     ) -> Result<Told, Memory> {
         let table = self.runner.table(alloc, &subject.term)?;
         let pairs = self.runner.pairs(alloc, &table)?;
-        Ok(put_pairs(sig, names, subject, &pairs, left, out))
+        put_ranked_pairs(alloc, sig, &table, names, subject, &pairs, left, out)
     }
 }

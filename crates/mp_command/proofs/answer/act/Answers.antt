@@ -8,7 +8,7 @@ use Rattle.mp_command.specs.Computed.{matches_by, over_templates, rewritten}
 use Rattle.mp_command.specs.Outcome.{IsDone, edits_made, first_without_template, printed_program, program_or_rules}
 use Rattle.mp_command.specs.Outcome.{shown}
 use Rattle.mp_command.specs.Programs.{given}
-use Rattle.mp_command.proofs.Chain.{ActsAs-exact}
+use Rattle.mp_command.proofs.Acted.{done-exact}
 use Rattle.mp_command.proofs.Matched.{matches_by-exact}
 use Rattle.mp_command.proofs.Rewrites.{over_templates-exact}
 use Rattle.mp_command.proofs.answer.act.Goals as goal
@@ -17,60 +17,44 @@ pub returns-in-Match-clause-acts : goal.returns-in-Match-clause-acts
 returns-in-Match-clause-acts g c =
     let request = asked c.args.request in
     let file = file_tree c.args.file.now in
-    let program = given c.args.program in
-    let out = sunk g.O.Sink c.args.out.now c.match_file.new.out in
-    subst (λ a. ActsAs (IsDone request file program a) out c.match_file.result) (sym c.in-Match.is)
-    (ActsAs-exact (IsDone request file program action.Match) out c.match_file.result
-    (matches_by request.engine request file)
-    (λ o. matches_by-exact request.engine request file o c.requires.file) c.match_file.ensures.acts)
+    done-exact request file (given c.args.program) (sunk g.O.Sink c.args.out.now c.match_file.new.out)
+    c.match_file.result action.Match c.in-Match.is (matches_by request.engine request file)
+    (λ o. matches_by-exact request.engine request file o c.requires.file) c.match_file.ensures.acts
 
 pub returns-in-Show-clause-acts : goal.returns-in-Show-clause-acts
 returns-in-Show-clause-acts g c =
-    let request = asked c.args.request in
     let file = file_tree c.args.file.now in
-    let program = given c.args.program in
-    let out = sunk g.O.Sink c.args.out.now c.show_file.new.out in
-    subst (λ a. ActsAs (IsDone request file program a) out c.show_file.result) (sym c.in-Show.is)
-    (ActsAs-exact (IsDone request file program action.Show) out c.show_file.result (shown file)
-    (λ o. (λ e. e, λ e. e)) c.show_file.ensures.acts)
+    done-exact (asked c.args.request) file (given c.args.program)
+    (sunk g.O.Sink c.args.out.now c.show_file.new.out) c.show_file.result action.Show c.in-Show.is (shown file)
+    (λ o. (λ e. e, λ e. e)) c.show_file.ensures.acts
 
 pub returns-in-Rewrite-clause-acts : goal.returns-in-Rewrite-clause-acts
 returns-in-Rewrite-clause-acts g c =
     let request = asked c.args.request in
     let file = file_tree c.args.file.now in
-    let program = given c.args.program in
     let out = sunk g.O.Sink c.args.out.now c.rewrite_file.new.out in
-    subst (λ a. ActsAs (IsDone request file program a) out c.rewrite_file.result) (sym c.in-Rewrite.is)
-    (ActsAs-exact (IsDone request file program action.Rewrite) out c.rewrite_file.result
+    done-exact request file (given c.args.program) out c.rewrite_file.result action.Rewrite c.in-Rewrite.is
     (over_templates (rewritten file.sig request.max file.rules file.subjects) (first_without_template file.rules))
     (λ o. over_templates-exact request.max file o c.requires.file)
     (subst (λ max. Acts (over_templates (rewritten file.sig max file.rules file.subjects)
-    (first_without_template file.rules)) out c.rewrite_file.result) c.from.ensures c.rewrite_file.ensures.acts))
+    (first_without_template file.rules)) out c.rewrite_file.result) c.from.ensures c.rewrite_file.ensures.acts)
 
 pub returns-in-Edit-clause-acts : goal.returns-in-Edit-clause-acts
 returns-in-Edit-clause-acts g c =
-    let request = asked c.args.request in
     let file = file_tree c.args.file.now in
-    let program = given c.args.program in
-    let out = sunk g.O.Sink c.args.out.now c.edit_file.new.out in
-    subst (λ a. ActsAs (IsDone request file program a) out c.edit_file.result) (sym c.in-Edit.is)
-    (ActsAs-exact (IsDone request file program action.Edit) out c.edit_file.result
-    (edits_made file.sig file.subjects file.edits) (λ o. (λ e. e, λ e. e)) c.edit_file.ensures.acts)
+    done-exact (asked c.args.request) file (given c.args.program)
+    (sunk g.O.Sink c.args.out.now c.edit_file.new.out) c.edit_file.result action.Edit c.in-Edit.is
+    (edits_made file.sig file.subjects file.edits) (λ o. (λ e. e, λ e. e)) c.edit_file.ensures.acts
 
 pub returns-in-Compile-clause-acts : goal.returns-in-Compile-clause-acts
 returns-in-Compile-clause-acts g c =
-    let request = asked c.args.request in
     let file = file_tree c.args.file.now in
     let program = given c.args.program in
-    let out = sunk g.O.Sink c.args.out.now c.compile_file.new.out in
-    subst (λ a. ActsAs (IsDone request file program a) out c.compile_file.result) (sym c.in-Compile.is)
-    (ActsAs-exact (IsDone request file program action.Compile) out c.compile_file.result
-    (printed_program file.sig (program_or_rules file program)) (λ o. (λ e. e, λ e. e)) c.compile_file.ensures.acts)
+    done-exact (asked c.args.request) file program (sunk g.O.Sink c.args.out.now c.compile_file.new.out)
+    c.compile_file.result action.Compile c.in-Compile.is (printed_program file.sig (program_or_rules file program))
+    (λ o. (λ e. e, λ e. e)) c.compile_file.ensures.acts
 
 pub returns-in-Run-clause-acts : goal.returns-in-Run-clause-acts
 returns-in-Run-clause-acts g c =
-    let request = asked c.args.request in
-    let file = file_tree c.args.file.now in
-    let program = given c.args.program in
-    let out = sunk g.O.Sink c.args.out.now c.run_file.new.out in
-    subst (λ a. ActsAs (IsDone request file program a) out c.run_file.result) (sym c.in-Run.is) c.run_file.ensures.acts
+    subst (λ a. ActsAs (IsDone (asked c.args.request) (file_tree c.args.file.now) (given c.args.program) a)
+    (sunk g.O.Sink c.args.out.now c.run_file.new.out) c.run_file.result) (sym c.in-Run.is) c.run_file.ensures.acts

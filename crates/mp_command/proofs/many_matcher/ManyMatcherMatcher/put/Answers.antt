@@ -1,11 +1,11 @@
-use Rattle.std.proofs.Common.{◌≡◌, ◌++◌, ◌∙◌, ap, map, sym, subst}
-use Rattle.std.proofs.lemmas.List.{map-id}
+use Rattle.std.proofs.Common.{◌≡◌, ◌++◌, ◌∙◌, ap, sym, subst}
 use Rattle.std.specs.List.{AllByRecursion}
 use Rattle.mp_term.specs.Normal.{IsNormal}
 use Rattle.mp_term.specs.View.{tree}
 use Rattle.mp_pattern.specs.Lists.{IsAllList}
 use Rattle.mp_text.specs.File.{subject_tree}
 use Rattle.mp_theory.proofs.AllList.{IsAllList-unique}
+use Rattle.mp_walk.specs.Ranked.{pairs_of, AreOver}
 use Rattle.mp_many.specs.Many.{subject_of}
 use Rattle.mp_many.proofs.WalkTables.{subject-built, walk_table-built}
 use Rattle.mp_matches.specs.PairsListed.{front_lines, named}
@@ -34,6 +34,10 @@ ranked-requires g c =
     (subst (λ sig. AllByRecursion (IsNormal sig) table.terms) same c.in_ok-table.ensures.normal)
     c.requires.sound.term.few_nodes
 
+pub put_ranked_pairs-requires : goal.put_ranked_pairs-requires
+put_ranked_pairs-requires g c =
+    subst (AreOver c.in_ok-table.table) (sym c.deref.ensures.value) c.in_ok-pairs.ensures.table
+
 pub returns-in_err-table-clause-puts : goal.returns-in_err-table-clause-puts
 returns-in_err-table-clause-puts g c ls rest h =
     let whole = front_lines c.args.left.now (ls ++ rest) in
@@ -55,14 +59,14 @@ returns-clause-puts g c =
     let subject = subject_tree c.args.subject.now in
     let table = c.in_ok-table.table in
     let m = c.self.inside in
-    let pairs = c.deref.result.now in
+    let pairs = pairs_of c.deref.result.now in
     let same = subject-built table (tree c.args.subject.now.term) m.constants c.in_ok-table.ensures.table in
-    let found = subst (λ ps. IsAllList m.many.sig m.many.rules (subject_of table) ps) (sym c.deref.ensures.value)
-    c.in_ok-pairs.ensures in
+    let found = subst (λ ps. IsAllList m.many.sig m.many.rules (subject_of table) (pairs_of ps))
+    (sym c.deref.ensures.value) c.in_ok-pairs.ensures.pairs in
     let all : IsAllList own.sig own.rules subject.term pairs =
     subst (λ n. IsAllList n.sig n.rules subject.term pairs) c.self.view_is
     (subst (λ t. IsAllList m.many.sig m.many.rules t pairs) same found) in
-    let told = c.put_pairs in
-    subject-put g.O.Sink sig (named c.args.names.now) (IsAllList own.sig own.rules) subject (map (λ p. p) pairs)
-    (λ qs h. IsAllList-unique own.sig own.rules subject.term qs pairs h all ∙ sym (map-id pairs)) c.args.left.now
+    let told = c.put_ranked_pairs in
+    subject-put g.O.Sink sig (named c.args.names.now) (IsAllList own.sig own.rules) subject pairs
+    (λ qs h. IsAllList-unique own.sig own.rules subject.term qs pairs h all) c.args.left.now
     told.new.left c.args.out.now told.new.out told.result told.ensures.puts

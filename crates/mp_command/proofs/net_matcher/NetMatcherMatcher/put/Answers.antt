@@ -1,4 +1,4 @@
-use Rattle.std.proofs.Common.{◌∙◌, ◌++◌, map, sym}
+use Rattle.std.proofs.Common.{◌∙◌, ◌++◌, Ok, map, sym}
 use Rattle.mp_pattern.specs.Lists.{IsAllList}
 use Rattle.mp_subst.specs.View.{pair_of}
 use Rattle.mp_text.specs.File.{subject_tree}
@@ -26,4 +26,4 @@ returns-clause-puts g c =
     (map pair_of c.as_slice.result.now)
     (λ qs h. IsAllList-unique nets.sig nets.rules subject.term qs c.in_ok-pairs.pairs h c.in_ok-pairs.ensures
     ∙ sym c.as_slice.ensures) c.args.left.now told.new.left
-    c.args.out.now told.new.out told.result told.ensures.puts
+    c.args.out.now told.new.out (Ok told.result) told.ensures.puts

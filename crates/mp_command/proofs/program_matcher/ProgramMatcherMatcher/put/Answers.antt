@@ -1,8 +1,8 @@
-use Rattle.std.proofs.Common.{◌∙◌, ◌++◌, map, subst, sym}
-use Rattle.std.proofs.lemmas.List.{map-id}
+use Rattle.std.proofs.Common.{◌++◌, subst, sym}
 use Rattle.mp_term.specs.Normal.{IsNormal}
 use Rattle.mp_term.specs.View.{tree}
 use Rattle.mp_text.specs.File.{subject_tree}
+use Rattle.mp_walk.specs.Ranked.{pairs_of, AreOver}
 use Rattle.mp_walk.specs.WalkView.{subject_of}
 use Rattle.mp_matches.specs.PairsListed.{front_lines, named}
 use Rattle.mp_matches.specs.PrintedPairs.{PutsWithMemory}
@@ -19,6 +19,10 @@ table-requires-clause-normal g c =
 
 pub table-requires-clause-few : goal.table-requires-clause-few
 table-requires-clause-few g c = c.requires.sound.term.few_nodes
+
+pub put_ranked_pairs-requires : goal.put_ranked_pairs-requires
+put_ranked_pairs-requires g c =
+    subst (AreOver c.in_ok-table.table) (sym c.deref.ensures.value) c.in_ok-pairs.ensures.table
 
 pub returns-in_err-table-clause-puts : goal.returns-in_err-table-clause-puts
 returns-in_err-table-clause-puts g c ls rest h =
@@ -39,13 +43,12 @@ returns-clause-puts g c =
     let own = c.args.self.now.runner in
     let subject = subject_tree c.args.subject.now in
     let table = c.in_ok-table.table in
-    let pairs = c.deref.result.now in
-    let found = subst (IsProgramList own.sig own.program (subject_of table)) (sym c.deref.ensures.value)
-    c.in_ok-pairs.ensures in
+    let pairs = pairs_of c.deref.result.now in
+    let found = subst (λ ps. IsProgramList own.sig own.program (subject_of table) (pairs_of ps))
+    (sym c.deref.ensures.value) c.in_ok-pairs.ensures.pairs in
     let all : IsProgramList own.sig own.program subject.term pairs =
     subst (λ t. IsProgramList own.sig own.program t pairs) c.in_ok-table.ensures.subject found in
-    let told = c.put_pairs in
+    let told = c.put_ranked_pairs in
     subject-put g.O.Sink c.args.sig.now (named c.args.names.now) (IsProgramList own.sig own.program) subject
-    (map (λ p. p) pairs)
-    (λ qs h. IsProgramList-unique own.sig own.program subject.term qs pairs h all ∙ sym (map-id pairs))
-    c.args.left.now told.new.left c.args.out.now told.new.out told.result told.ensures.puts
+    pairs (λ qs h. IsProgramList-unique own.sig own.program subject.term qs pairs h all) c.args.left.now told.new.left
+    c.args.out.now told.new.out told.result told.ensures.puts
