@@ -12,10 +12,19 @@ use std::process::ExitCode;
 use std::rt::Env;
 use std::{env, io};
 
+// The C library gives the pages of a large block back to the system when it is freed, and takes new ones for the next,
+// until a block of this size was freed: from then on it keeps those of smaller blocks for later.
+const KEPT_BYTES: usize = 1_048_576;
+
 // Why the words weren't given.
 enum NoWords {
     Memory,
     System,
+}
+
+// Has the pages of freed blocks kept for later ones. The block isn't touched, so it takes no page.
+fn keep_freed_pages(rt: &impl AllocGlobal) {
+    let _untouched: Result<Vec<u8>, AllocError> = Vec::with_capacity(rt.alloc(), KEPT_BYTES);
 }
 
 // The words after the program's name.
@@ -38,6 +47,7 @@ fn given_words(rt: &(impl Env + AllocGlobal)) -> Result<Vec<String>, NoWords> {
 fn status(rt: &HostRuntime) -> u8
     ensures { (result ≡ 17) ⊎ Contains statuses result }
 {
+    keep_freed_pages(rt);
     let words = match given_words(rt) {
         Ok(words) => words,
         Err(NoWords::Memory) => return 8,
