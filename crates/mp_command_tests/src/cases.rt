@@ -558,9 +558,12 @@ not [0 == 1 or 1 == 1]|1
 1 == 1 or 1 == 1 and 0 == 1|0
 [1 == 1 or 1 == 1] and 0 == 1|1";
 
-/// Runs over one file `t`: the status and the words, the file's text, what is written, and what is said.
+/// Runs over one file `t`: the status and the words of each, the file's text, what is written, and what is said.
 pub const RUNS: &str = "\
 0 match t
+0 match t --engine program
+0 match t --engine net
+0 match t --engine many
 ----
 op f 2; rule r: f(x_, y_); subject s: f(a, b);
 ----
@@ -575,6 +578,7 @@ t r {x -> b}
 ----
 ====
 0 match t
+0 match t --engine program
 ----
 op g 1; op c 0; rule q: x_; rule r: g(g(x_)); rule p: g(y_); subject s: g(g(c()));
 ----
@@ -604,11 +608,13 @@ subject s: (a + b + c);
 ----
 ====
 0 show t
+0 rewrite t
 ----
 ----
 ----
 ====
 3 show t
+3 match t --resume s
 ----
 op f 2; op f 3;
 ----
@@ -748,6 +754,20 @@ rewrite t --resume s/r/2;0;1|\n\
 match t t|\n\
 run t|\n\
 compile - --from -|\n\
+rewrite t --max 1000001|\n\
+rewrite t --max 00000000001|\n\
+rewrite t --max +1|\n\
+rewrite t --max|\n\
+match t --max 1|\n\
+match t --engine program --resume s/r/2|\n\
+run - -|\n\
+run t p --limit 2|\n\
+match t --from p|\n\
+match t --engine net --resume s/r/2;0;1|\n\
+match t --engine programs|\n\
+rewrite t --engine net|\n\
+match t --engine many --resume s/r/2;0;1|\n\
+rewrite t --engine many|\n\
 show|\n\
 |";
 

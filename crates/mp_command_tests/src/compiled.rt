@@ -1,6 +1,7 @@
 //! Runs of the actions `compile` and `run`, and of the engine `program`.
 
-/// The status and the words, the file `t` and, behind a line `%%%%`, the file `p`, what is printed and what is said.
+/// The status and the words of each run, the file `t` and, behind `%%%%`, the file `p`, what is printed and what is
+/// said. A line `%%%%` that goes on says what `p` has in place of a part of the program of the rule `r: f(x_, y_)`.
 pub const COMPILED: &str = "\
 0 compile t
 ----
@@ -96,17 +97,7 @@ matchpy: t:1:21: Syntax
 0 run t p
 ----
 op f 2; subject t: f(c, c);
-%%%%
-matchpy program 2
-op f 2;
-rule r x y;
-code
-0 begin down 1
-1 enter f down 2 over -
-2 dot v0 down 3 over -
-3 dot v1 down 4 over -
-4 leave f accept 0 over -
-5 stop
+%%%% r
 ----
 t r {x -> c, y -> c}
 ----
@@ -114,17 +105,7 @@ t r {x -> c, y -> c}
 0 run t p
 ----
 op f 2; subject t: f(c, c);
-%%%%
-matchpy program 1
-op f 2;
-rule r x y;
-code
-0 begin down 1
-1 enter f down 2 over -
-2 dot v0 down 3 over -
-3 dot v1 down 4 over -
-4 leave f accept 0 over -
-5 stop
+%%%% program 2 -> program 1
 ----
 t r {x -> c, y -> c}
 ----
@@ -132,17 +113,7 @@ t r {x -> c, y -> c}
 12 run t p
 ----
 op f 2 comm; subject t: f(c, c);
-%%%%
-matchpy program 2
-op f 2;
-rule r x y;
-code
-0 begin down 1
-1 enter f down 2 over -
-2 dot v0 down 3 over -
-3 dot v1 down 4 over -
-4 leave f accept 0 over -
-5 stop
+%%%% r
 ----
 ----
 matchpy: p:2: BadReference
@@ -172,17 +143,7 @@ t q {x -> c}
 1 run t p
 ----
 op f 2; rule r: f(x_, y_); subject t: a;
-%%%%
-matchpy program 2
-op f 2;
-rule r x y;
-code
-0 begin down 1
-1 enter f down 2 over -
-2 dot v0 down 3 over -
-3 dot v1 down 4 over -
-4 leave f accept 0 over -
-5 stop
+%%%% r
 ----
 ----
 ====
@@ -224,17 +185,7 @@ t r {y -> {a, a}, z -> {}}
 0 compile t --from p
 ----
 op f 2; subject t: f(c, c);
-%%%%
-matchpy program 1
-op f 2;
-rule r x y;
-code
-0 begin down 1
-1 enter f down 2 over -
-2 dot v0 down 3 over -
-3 dot v1 down 4 over -
-4 leave f accept 0 over -
-5 stop
+%%%% program 2 -> program 1
 ----
 matchpy program 2
 op f 2;
@@ -251,17 +202,7 @@ code
 0 compile t --from p
 ----
 op f 2; rule q: f(a, b);
-%%%%
-matchpy program 2
-op f 2;
-rule r x y;
-code
-0 begin down 1
-1 enter f down 2 over -
-2 dot v0 down 3 over -
-3 dot v1 down 4 over -
-4 leave f accept 0 over -
-5 stop
+%%%% r
 ----
 matchpy program 2
 op f 2;
@@ -278,17 +219,7 @@ code
 12 compile t --from p
 ----
 op f 2; subject t: f(c, c);
-%%%%
-matchpy program 3
-op f 2;
-rule r x y;
-code
-0 begin down 1
-1 enter f down 2 over -
-2 dot v0 down 3 over -
-3 dot v1 down 4 over -
-4 leave f accept 0 over -
-5 stop
+%%%% program 2 -> program 3
 ----
 ----
 matchpy: p:1: WrongVersion
@@ -296,17 +227,7 @@ matchpy: p:1: WrongVersion
 12 compile t --from=p
 ----
 op f 2;
-%%%%
-matchpy program 02
-op f 2;
-rule r x y;
-code
-0 begin down 1
-1 enter f down 2 over -
-2 dot v0 down 3 over -
-3 dot v1 down 4 over -
-4 leave f accept 0 over -
-5 stop
+%%%% program 2 -> program 02
 ----
 ----
 matchpy: p:1: BadLine
@@ -331,17 +252,7 @@ matchpy: p:10: BadLine
 12 compile t --from p
 ----
 op f 2;
-%%%%
-matchpy program 2
-op f 2;
-rule r x y;
-code
-0 begin down 1
-1 enter f down 2 over -
-2 dot v0 down 1 over -
-3 dot v1 down 4 over -
-4 leave f accept 0 over -
-5 stop
+%%%% 2 dot v0 down 3 -> 2 dot v0 down 1
 ----
 ----
 matchpy: p:7: BackwardTarget
@@ -349,17 +260,7 @@ matchpy: p:7: BackwardTarget
 12 compile t --from p
 ----
 op f 2;
-%%%%
-matchpy program 2
-op f 2;
-rule r x y;
-code
-0 begin down 1
-1 enter f down 2 over -
-2 dot v0 down 3 over -
-3 dot v1 down 4 over -
-4 leave f accept 1 over -
-5 stop
+%%%% 4 leave f accept 0 -> 4 leave f accept 1
 ----
 ----
 matchpy: p:9: BadReference
@@ -386,17 +287,7 @@ matchpy: p:10: Unbalanced
 12 compile t --from p
 ----
 op f 2;
-%%%%
-matchpy program 2
-op f 2;
-rule r  x y;
-code
-0 begin down 1
-1 enter f down 2 over -
-2 dot v0 down 3 over -
-3 dot v1 down 4 over -
-4 leave f accept 0 over -
-5 stop
+%%%% rule r x y; -> rule r  x y;
 ----
 ----
 matchpy: p:3: BadLine
@@ -419,17 +310,7 @@ matchpy: none: cannot open
 4 run none p
 ----
 op f 2;
-%%%%
-matchpy program 2
-op f 2;
-rule r x y;
-code
-0 begin down 1
-1 enter f down 2 over -
-2 dot v0 down 3 over -
-3 dot v1 down 4 over -
-4 leave f accept 0 over -
-5 stop
+%%%% r
 ----
 ----
 matchpy: none: cannot open
@@ -442,13 +323,6 @@ nothing
 ----
 ----
 matchpy: t:1:26: Syntax
-====
-0 match t --engine program
-----
-op f 2; rule r: f(x_, y_); subject s: f(a, b);
-----
-s r {x -> a, y -> b}
-----
 ====
 0 match t --engine program
 ----
@@ -465,77 +339,4 @@ s r {x -> a, y -> (b + c)}
 s r {x -> b, y -> (a + c)}
 more
 ----
-====
-0 match t --engine program
-----
-op g 1; op c 0; rule q: x_; rule r: g(g(x_)); rule p: g(y_); subject s: g(g(c()));
-----
-s q {x -> g(g(c()))}
-s r {x -> c()}
-s p {y -> g(c())}
-----
-====
-2 match t --engine program --resume s/r/2
-----
-op f 2; rule r: f(x_, y_); subject s: f(a, b);
-----
-----
-usage: matchpy ACTION [FILE ..] [--engine E] [--limit N] [--resume TOKEN] [--max N] [--from PROGRAM]
-====
-2 run t
-----
-op f 2;
-----
-----
-usage: matchpy ACTION [FILE ..] [--engine E] [--limit N] [--resume TOKEN] [--max N] [--from PROGRAM]
-====
-2 run - -
-----
-op f 2;
-----
-----
-usage: matchpy ACTION [FILE ..] [--engine E] [--limit N] [--resume TOKEN] [--max N] [--from PROGRAM]
-====
-2 compile - --from -
-----
-op f 2;
-----
-----
-usage: matchpy ACTION [FILE ..] [--engine E] [--limit N] [--resume TOKEN] [--max N] [--from PROGRAM]
-====
-2 run t p --limit 2
-----
-op f 2;
-%%%%
-matchpy program 2
-op f 2;
-rule r x y;
-code
-0 begin down 1
-1 enter f down 2 over -
-2 dot v0 down 3 over -
-3 dot v1 down 4 over -
-4 leave f accept 0 over -
-5 stop
-----
-----
-usage: matchpy ACTION [FILE ..] [--engine E] [--limit N] [--resume TOKEN] [--max N] [--from PROGRAM]
-====
-2 match t --from p
-----
-op f 2;
-%%%%
-matchpy program 2
-op f 2;
-rule r x y;
-code
-0 begin down 1
-1 enter f down 2 over -
-2 dot v0 down 3 over -
-3 dot v1 down 4 over -
-4 leave f accept 0 over -
-5 stop
-----
-----
-usage: matchpy ACTION [FILE ..] [--engine E] [--limit N] [--resume TOKEN] [--max N] [--from PROGRAM]
 ";

@@ -1,6 +1,6 @@
 //! Runs with a limit of lines, and with the token behind whose match they begin.
 
-/// The status and the words, the file `t`, what is printed and what is said.
+/// The status and the words of each run, the file `t`, what is printed and what is said.
 pub const LISTED: &str = "\
 0 match t --limit 1
 ----
@@ -76,14 +76,8 @@ rule r: plus(x_, y_); subject s: (a + b + c);
 ----
 ====
 9 match t --resume s/r/3;0;1
-----
-op plus 1+ assoc comm one infix +;
-rule r: plus(x_, y_); subject s: (a + b + c);
-----
-----
-matchpy: token: not an item
-====
 9 match t --resume s/q/3;0;1,2
+9 match t --resume s/r/3;0;1,2;
 ----
 op plus 1+ assoc comm one infix +;
 rule r: plus(x_, y_); subject s: (a + b + c);
@@ -98,14 +92,6 @@ rule r: plus(x_, y_); subject s: (a + b + c);
 ----
 ----
 matchpy: token: spelling at 3
-====
-9 match t --resume s/r/3;0;1,2;
-----
-op plus 1+ assoc comm one infix +;
-rule r: plus(x_, y_); subject s: (a + b + c);
-----
-----
-matchpy: token: not an item
 ====
 9 match t --resume=
 ----
@@ -142,17 +128,12 @@ u q {y -> c, x -> {c}}
 ----
 ====
 1 match t --limit 1
+1 match t --engine net --limit 1
+1 match t --engine many
 ----
 op f 2; rule r: f(x_, x_); subject s: f(a, b);
 ----
 ----
-====
-3 match t --resume s
-----
-op f 2; op f 3;
-----
-----
-matchpy: t:1:12: DuplicateName
 ====
 4 match -- -t
 ----

@@ -1,15 +1,9 @@
 //! Runs with the engine `net`.
 
-/// The status and the words, the file `t`, what is printed and what is said.
+/// The status and the words of each run, the file `t`, what is printed and what is said.
 pub const NETTED: &str = "\
 0 match t --engine net
-----
-op f 2; rule r: f(x_, y_); subject s: f(a, b);
-----
-s r {x -> a, y -> b}
-----
-====
-0 match t --engine net
+0 match t --engine many
 ----
 op f 2; op g 1; kind small: a b;
 rule any: f(x_, y_);
@@ -36,6 +30,7 @@ more
 ----
 ====
 0 match t --engine net --limit 2
+0 match t --engine many --limit 2
 ----
 op f 2; rule r: f(x_, y_); rule q: f(a, y_); subject s: f(a, b); subject n: a; subject t: f(c, c);
 ----
@@ -45,14 +40,6 @@ more
 ----
 ====
 0 match t --engine net --limit 3
-----
-op f 2; rule r: f(x_, y_); rule q: f(a, y_); subject s: f(a, b); subject n: a; subject t: f(c, c);
-----
-s r {x -> a, y -> b}
-s q {y -> b}
-t r {x -> c, y -> c}
-----
-====
 0 match t --engine net --limit 4
 ----
 op f 2; rule r: f(x_, y_); rule q: f(a, y_); subject s: f(a, b); subject n: a; subject t: f(c, c);
@@ -68,12 +55,6 @@ op f 2; rule r: f(x_, y_); rule q: f(a, y_); subject s: f(a, b);
 ----
 s r {x -> a, y -> b}
 more s/r/2;0;1
-----
-====
-1 match t --engine net --limit 1
-----
-op f 2; rule r: f(x_, x_); subject s: f(a, b);
-----
 ----
 ====
 1 match t --engine net
@@ -98,6 +79,7 @@ op g 0+; rule open: g();
 matchpy: open: not syntactic
 ====
 0 match t --engine one
+0 match t --engine many
 ----
 op g 0+; rule open: g(); subject s: g();
 ----
@@ -105,30 +87,10 @@ s open {}
 ----
 ====
 3 match t --engine net
+3 match t --engine many
 ----
 op g 0+; rule open: g(; subject s: g();
 ----
 ----
 matchpy: t:1:23: Syntax
-====
-2 match t --engine net --resume s/r/2;0;1
-----
-op f 2; rule r: f(x_, y_); rule q: f(a, y_); subject s: f(a, b);
-----
-----
-usage: matchpy ACTION [FILE ..] [--engine E] [--limit N] [--resume TOKEN] [--max N] [--from PROGRAM]
-====
-2 match t --engine programs
-----
-op f 2; rule r: f(x_, y_); subject s: f(a, b);
-----
-----
-usage: matchpy ACTION [FILE ..] [--engine E] [--limit N] [--resume TOKEN] [--max N] [--from PROGRAM]
-====
-2 rewrite t --engine net
-----
-op f 2; rule r: f(x_, y_); subject s: f(a, b);
-----
-----
-usage: matchpy ACTION [FILE ..] [--engine E] [--limit N] [--resume TOKEN] [--max N] [--from PROGRAM]
 ";

@@ -157,26 +157,44 @@ fn check_lines(
     );
 }
 
-// Stops unless the program of the row's rules is that of its texts.
+// The text of the row's program in format 2.
+fn numbered_text(rt: &impl Abort, alloc: Global, row: &Row) -> String {
+    let Row {
+        declared,
+        numbered,
+        code,
+        ..
+    } = row;
+    format!(in alloc; "matchpy program 2\n{declared}{numbered}{code}").expect(rt, "memory")
+}
+
+// Stops unless the program of the row's rules is that of its text.
 fn check_row(rt: &impl Abort, alloc: Global, row: &Row) {
-    let file = file(rt, alloc, row.0);
+    let file = file(rt, alloc, row.rules);
     let many = Many::build(alloc, &file.sig, &file.rules).expect(rt, "memory");
     let program = generate(alloc, &many).expect(rt, "memory");
-    check_text(rt, alloc, &file.sig, &program, row.2);
+    let text = numbered_text(rt, alloc, row);
+    check_text(rt, alloc, &file.sig, &program, text.as_str());
     let count = file.rules.len();
     assert!(rt;
         program.rules.len() == count && program.rules.get(count).is_none(),
         "{}",
-        row.0
+        row.rules
     );
 }
 
 // Stops unless the texts of the row are read as its program.
 fn check_read(rt: &impl Abort, alloc: Global, row: &Row) {
-    let file = file(rt, alloc, row.0);
-    check_lines(rt, alloc, &file.sig, Format::Two, row.2, row.2);
-    if !row.1.is_empty() {
-        check_lines(rt, alloc, &file.sig, Format::One, row.1, row.2);
+    let file = file(rt, alloc, row.rules);
+    let two = numbered_text(rt, alloc, row);
+    let two = two.as_str();
+    check_lines(rt, alloc, &file.sig, Format::Two, two, two);
+    if let Some(spelled) = row.spelled {
+        let one = format!(in alloc;
+            "matchpy program 1\n{}{spelled}{}",
+            row.declared, row.code
+        ).expect(rt, "memory");
+        check_lines(rt, alloc, &file.sig, Format::One, one.as_str(), two);
     }
 }
 

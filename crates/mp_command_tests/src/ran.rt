@@ -1,5 +1,6 @@
 //! A run of the command over one file or two in memory, and over devices that may fail.
 
+use crate::texts::parts;
 use mp_command::run;
 use mp_io::{MemoryShelf, MemorySink};
 use std::alloc::Global;
@@ -60,16 +61,47 @@ fn owned(rt: &impl Abort, alloc: Global, words: &str) -> Vec<String> {
     all
 }
 
-// A shelf of one file `t`, or of `t` and `p` where a line `%%%%` stands between them.
+// The program of the rule `r: f(x_, y_)`.
+const PROGRAM: &str = "\
+matchpy program 2
+op f 2;
+rule r x y;
+code
+0 begin down 1
+1 enter f down 2 over -
+2 dot v0 down 3 over -
+3 dot v1 down 4 over -
+4 leave f accept 0 over -
+5 stop
+";
+
+// The file `p`, of which this stands behind `%%%%`: all that stands behind the line; or, where the line goes on, that
+// program, with what stands behind ` -> ` in place of what stands before it.
+fn program(rt: &impl Abort, alloc: Global, text: &str) -> String {
+    let (line, rest) = parts(rt, text, "\n");
+    if line.is_empty() {
+        return String::from_str(alloc, rest).expect(rt, "memory");
+    }
+    match line.split_once(" -> ") {
+        None => String::from_str(alloc, PROGRAM).expect(rt, "memory"),
+        Some((old, new)) => {
+            let (front, back) = parts(rt, PROGRAM, old.trim_start());
+            format!(in alloc; "{front}{new}{back}").expect(rt, "memory")
+        }
+    }
+}
+
+// A shelf of one file `t`, or of `t` and `p` where `%%%%` stands between them.
 fn shelf(rt: &impl Abort, alloc: Global, fails: &[u64], files: &str) -> MemoryShelf {
     let fails = fails.to_vec(alloc).expect(rt, "memory");
     let mut shelf = MemoryShelf::new(alloc, fails);
-    let (file, program) = match files.split_once("%%%%\n") {
+    let (file, text) = match files.split_once("%%%%") {
         None => (files, None),
-        Some((file, program)) => (file, Some(program)),
+        Some((file, text)) => (file, Some(text)),
     };
     shelf.add("t", file.as_bytes()).expect(rt, "memory");
-    if let Some(program) = program {
+    if let Some(text) = text {
+        let program = program(rt, alloc, text);
         shelf.add("p", program.as_bytes()).expect(rt, "memory");
     }
     shelf
@@ -81,8 +113,9 @@ fn sink(rt: &impl Abort, alloc: Global, fails: &[u64], room: usize) -> MemorySin
     MemorySink::new(alloc, room, fails).expect(rt, "memory")
 }
 
-/// The run that the words between blanks ask for, over one file `t`, or over `t` and `p` with a line `%%%%` between
-/// them.
+/// The run that the words between blanks ask for, over one file `t`, or over `t` and `p` with `%%%%` between them:
+/// behind a line `%%%%` stands the program `p`; a longer line says what `p` has in place of a part of the program of
+/// the rule `r: f(x_, y_)`.
 pub fn ran(
     rt: &impl Abort,
     alloc: Global,

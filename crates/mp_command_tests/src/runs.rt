@@ -28,7 +28,7 @@ enum Sort {
     Condition,
     // A file and, behind `|`, the place and the kind of its first fault.
     Fault,
-    // The status and the words, the file, what is written, and what is said.
+    // The status and the words of each run, the file, what is written, and what is said.
     Run,
     // Words that are refused.
     Refused,
@@ -89,12 +89,14 @@ fn check_fault(rt: &impl Abort, alloc: Global, file: &str, fault: &str) {
     check_run(rt, alloc, "match t", file, 3, "", said.as_str());
 }
 
-fn check_words(rt: &impl Abort, alloc: Global, line: &str, rest: &str) {
-    let (status, words) = parts(rt, line.trim_end(), " ");
+fn check_words(rt: &impl Abort, alloc: Global, lines: &str, rest: &str) {
     let (file, rest) = parts(rt, rest, "----\n");
     let (out, err) = parts(rt, rest, "----\n");
-    let status = status.parse::<u8>().expect(rt, "no status");
-    check_run(rt, alloc, words, file, status, out, err);
+    for line in lines.lines() {
+        let (status, words) = parts(rt, line, " ");
+        let status = status.parse::<u8>().expect(rt, "no status");
+        check_run(rt, alloc, words, file, status, out, err);
+    }
 }
 
 fn check_matched(rt: &impl Abort, alloc: Global, file: &str, lines: &str) {

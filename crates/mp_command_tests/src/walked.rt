@@ -1,14 +1,7 @@
 //! Runs with the engine `many`.
 
-/// The status and the words, the file `t`, what is printed and what is said.
+/// The status and the words of each run, the file `t`, what is printed and what is said.
 pub const WALKED: &str = "\
-0 match t --engine many
-----
-op f 2; rule r: f(x_, y_); subject s: f(a, b);
-----
-s r {x -> a, y -> b}
-----
-====
 0 match t --engine many
 ----
 op p 1+ assoc; rule r: p(x_, y_); subject s: p(a, p(b, c));
@@ -18,6 +11,7 @@ s r {x -> p(a, b), y -> c}
 ----
 ====
 0 match t --engine many
+0 match t --engine many --limit 2
 ----
 op s 0+ comm; rule r: s(x_, y_); subject t: s(b, a);
 ----
@@ -73,24 +67,6 @@ op f 2; rule r: f(x_, y_); rule q: f(x_, a); subject s: f(b, a); subject t: f(a,
 s r {x -> b, y -> a}
 s q {x -> b}
 t r {x -> a, y -> b}
-----
-====
-0 match t --engine many
-----
-op f 2; op g 1; kind small: a b;
-rule any: f(x_, y_);
-rule twice: f(x_, x_);
-rule left: f(a, _);
-rule kinds: f(x_small, g(y_)) if not same($y, c);
-subject s: f(a, a); subject n: g(a); subject t: f(a, g(b)); subject u: f(b, g(c));
-----
-s any {x -> a, y -> a}
-s twice {x -> a}
-s left {}
-t any {x -> a, y -> g(b)}
-t left {}
-t kinds {x -> a, y -> b}
-u any {x -> b, y -> g(c)}
 ----
 ====
 0 match t --engine many
@@ -177,14 +153,6 @@ t r {x -> a, y -> b}
 more
 ----
 ====
-0 match t --engine many --limit 2
-----
-op s 0+ comm; rule r: s(x_, y_); subject t: s(b, a);
-----
-t r {x -> a, y -> b}
-t r {x -> b, y -> a}
-----
-====
 0 match t --engine many --limit 3
 ----
 op f 2; rule r: f(x_, y_); rule q: f(a, y_);
@@ -196,52 +164,9 @@ t r {x -> c, y -> c}
 more
 ----
 ====
-0 match t --engine many --limit 2
-----
-op f 2; rule r: f(x_, y_); rule q: f(a, y_); subject s: f(a, b); subject n: a; subject t: f(c, c);
-----
-s r {x -> a, y -> b}
-s q {y -> b}
-more
-----
-====
-1 match t --engine many
-----
-op f 2; rule r: f(x_, x_); subject s: f(a, b);
-----
-----
-====
 1 match t --engine many --limit 1
 ----
 op f 2; subject s: f(a, b);
 ----
 ----
-====
-0 match t --engine many
-----
-op g 0+; rule open: g(); subject s: g();
-----
-s open {}
-----
-====
-3 match t --engine many
-----
-op g 0+; rule open: g(; subject s: g();
-----
-----
-matchpy: t:1:23: Syntax
-====
-2 match t --engine many --resume s/r/2;0;1
-----
-op f 2; rule r: f(x_, y_); subject s: f(a, b);
-----
-----
-usage: matchpy ACTION [FILE ..] [--engine E] [--limit N] [--resume TOKEN] [--max N] [--from PROGRAM]
-====
-2 rewrite t --engine many
-----
-op f 2; rule r: f(x_, y_); subject s: f(a, b);
-----
-----
-usage: matchpy ACTION [FILE ..] [--engine E] [--limit N] [--resume TOKEN] [--max N] [--from PROGRAM]
 ";

@@ -1,19 +1,14 @@
 //! Rules and subjects with their items and tokens.
 
-use crate::matched::Sizes;
-
-// The sizes of a room for the rule and the subject; how many items more are looked for where the items end with `...`;
-// and a text: a file of a rule and a subject and, behind a line `----`, the items, each with its token and, behind a
-// bar, its substitution; and behind another such line, tokens that no item has.
-pub type Row = (Sizes, u32, &'static str);
+// For how many nodes, variables and ranks at a node a room for the rule and the subject is; how many items more are
+// looked for where the items end with `...`; and a text: a file of a rule and a subject and, behind a line `----`, the
+// items, each with its token and, behind a bar, its substitution; and behind another such line, tokens that no item
+// has. A line `near` there stands for six that differ little from the first item's.
+pub type Row = ((u32, u32, u32), u32, &'static str);
 
 pub const ROWS: &[Row] = &[
     (
-        Sizes {
-            nodes: 5,
-            vars: 1,
-            width: 7,
-        },
+        (5, 1, 7),
         0,
         "\
 op h 2; op g 0+; op s 0+ comm;\n\
@@ -22,19 +17,10 @@ subject t: h(s(a, b), g(b, a));\n\
 ----\n\
 t/r/2;4;0,1;3;1,0|{x -> (b, a)}\n\
 ----\n\
-t/q/2;4;0,1;3;1,0\n\
-t/r/2;4;0,1;3\n\
-t/r/2;4;0,1;3;1,0;\n\
-t/r/2;4;0,1;3;99\n\
-t/r/2!;4;0,1;3;1,0\n\
-t/r/2;4;0,1;3;1,0,0\n",
+near\n",
     ),
     (
-        Sizes {
-            nodes: 3,
-            vars: 2,
-            width: 4,
-        },
+        (3, 2, 4),
         0,
         "\
 op plus 1+ assoc comm one infix +;\n\
@@ -48,20 +34,11 @@ s/r/3;0,1;2|{x -> (a + b), y -> c}\n\
 s/r/3;0,2;1|{x -> (a + c), y -> b}\n\
 s/r/3;1,2;0|{x -> (b + c), y -> a}\n\
 ----\n\
-s/q/3;0;1,2\n\
-s/r/3;0\n\
-s/r/3;0;1\n\
-s/r/3;0;1,2;\n\
-s/r/3;0;99\n\
-s/r/3!;0;1,2\n\
-s/r/3;0;1,2,0\n",
+near\n\
+s/r/3;0;1\n",
     ),
     (
-        Sizes {
-            nodes: 5,
-            vars: 3,
-            width: 7,
-        },
+        (5, 3, 7),
         0,
         "\
 op k 2 comm; op s 0+ comm;\n\
@@ -73,19 +50,10 @@ t/r/6;4;3;0;5|{x -> d, y -> a, z -> k(b, c)}\n\
 t/r/6;5;1;2;4|{x -> b, y -> c, z -> k(a, d)}\n\
 t/r/6;5;2;1;4|{x -> c, y -> b, z -> k(a, d)}\n\
 ----\n\
-t/q/6;4;0;3;5\n\
-t/r/6;4;0;3\n\
-t/r/6;4;0;3;5;\n\
-t/r/6;4;0;3;99\n\
-t/r/6!;4;0;3;5\n\
-t/r/6;4;0;3;5,0\n",
+near\n",
     ),
     (
-        Sizes {
-            nodes: 3,
-            vars: 2,
-            width: 61,
-        },
+        (3, 2, 61),
         20_000,
         "\
 op plus 1+ assoc comm one infix +;\n\
@@ -113,11 +81,7 @@ a51, a52, a53, a54, a55, a56, a57, a58, a59, a60}}\n\
 ----\n",
     ),
     (
-        Sizes {
-            nodes: 1,
-            vars: 0,
-            width: 1,
-        },
+        (1, 0, 1),
         0,
         "\
 rule r: a;\n\
@@ -131,11 +95,7 @@ s/r/99\n\
 s/r/0!\n",
     ),
     (
-        Sizes {
-            nodes: 1,
-            vars: 1,
-            width: 2,
-        },
+        (1, 1, 2),
         0,
         "\
 op f 1;\n\
@@ -150,11 +110,7 @@ s/r/99\n\
 s/r/1!\n",
     ),
     (
-        Sizes {
-            nodes: 1,
-            vars: 1,
-            width: 1,
-        },
+        (1, 1, 1),
         0,
         "\
 kind v: a b;\n\
@@ -165,11 +121,7 @@ subject s: c;\n\
 s/r/0\n",
     ),
     (
-        Sizes {
-            nodes: 3,
-            vars: 1,
-            width: 3,
-        },
+        (3, 1, 3),
         0,
         "\
 op f 2;\n\
@@ -180,11 +132,7 @@ subject s: f(a, b);\n\
 s/r/0;0;0\n",
     ),
     (
-        Sizes {
-            nodes: 4,
-            vars: 3,
-            width: 4,
-        },
+        (4, 3, 4),
         0,
         "\
 op g 0+;\n\
@@ -195,19 +143,10 @@ s/r/2;;0;1,0|{x -> (), y -> a, z -> (b, a)}\n\
 s/r/2;0;1;0|{x -> (a), y -> b, z -> (a)}\n\
 s/r/2;0,1;0;|{x -> (a, b), y -> a, z -> ()}\n\
 ----\n\
-s/q/2;;0;1,0\n\
-s/r/2;;0\n\
-s/r/2;;0;1,0;\n\
-s/r/2;;0;99\n\
-s/r/2!;;0;1,0\n\
-s/r/2;;0;1,0,0\n",
+near\n",
     ),
     (
-        Sizes {
-            nodes: 4,
-            vars: 2,
-            width: 7,
-        },
+        (4, 2, 7),
         0,
         "\
 op g 0+;\n\
@@ -216,19 +155,10 @@ subject s: g(a, b, a, b, a, b);\n\
 ----\n\
 s/r/2;0,1;0,1;0,1|{x -> (a, b), y -> (a, b)}\n\
 ----\n\
-s/q/2;0,1;0,1;0,1\n\
-s/r/2;0,1;0,1\n\
-s/r/2;0,1;0,1;0,1;\n\
-s/r/2;0,1;0,1;99\n\
-s/r/2!;0,1;0,1;0,1\n\
-s/r/2;0,1;0,1;0,1,0\n",
+near\n",
     ),
     (
-        Sizes {
-            nodes: 4,
-            vars: 1,
-            width: 6,
-        },
+        (4, 1, 6),
         0,
         "\
 op g 0+;\n\
@@ -238,19 +168,10 @@ subject s: g(a, b, c, d, e);\n\
 s/r/5;0,1;;2,3,4|{x -> ()}\n\
 s/r/5;0,1;2;3,4|{x -> (c)}\n\
 ----\n\
-s/q/5;0,1;;2,3,4\n\
-s/r/5;0,1;\n\
-s/r/5;0,1;;2,3,4;\n\
-s/r/5;0,1;;99\n\
-s/r/5!;0,1;;2,3,4\n\
-s/r/5;0,1;;2,3,4,0\n",
+near\n",
     ),
     (
-        Sizes {
-            nodes: 3,
-            vars: 2,
-            width: 5,
-        },
+        (3, 2, 5),
         0,
         "\
 op p 1+ assoc;\n\
@@ -261,19 +182,10 @@ s/r/4;0;1,2,3|{x -> a, y -> p(b, c, d)}\n\
 s/r/4;0,1;2,3|{x -> p(a, b), y -> p(c, d)}\n\
 s/r/4;0,1,2;3|{x -> p(a, b, c), y -> d}\n\
 ----\n\
-s/q/4;0;1,2,3\n\
-s/r/4;0\n\
-s/r/4;0;1,2,3;\n\
-s/r/4;0;99\n\
-s/r/4!;0;1,2,3\n\
-s/r/4;0;1,2,3,0\n",
+near\n",
     ),
     (
-        Sizes {
-            nodes: 5,
-            vars: 2,
-            width: 8,
-        },
+        (5, 2, 8),
         0,
         "\
 op p 1+ assoc; op h 2;\n\
@@ -282,19 +194,10 @@ subject s: h(p(a, b, c), p(a, b));\n\
 ----\n\
 s/r/5;4;0,1;2;3|{x -> p(a, b), y -> c}\n\
 ----\n\
-s/q/5;4;0,1;2;3\n\
-s/r/5;4;0,1;2\n\
-s/r/5;4;0,1;2;3;\n\
-s/r/5;4;0,1;2;99\n\
-s/r/5!;4;0,1;2;3\n\
-s/r/5;4;0,1;2;3,0\n",
+near\n",
     ),
     (
-        Sizes {
-            nodes: 3,
-            vars: 2,
-            width: 5,
-        },
+        (3, 2, 5),
         0,
         "\
 op p 1+ assoc;\n\
@@ -303,19 +206,10 @@ subject s: p(a, b, c, d);\n\
 ----\n\
 s/r/4;0,1;2,3|{x -> (a, b), y -> p(c, d)}\n\
 ----\n\
-s/q/4;0,1;2,3\n\
-s/r/4;0,1\n\
-s/r/4;0,1;2,3;\n\
-s/r/4;0,1;99\n\
-s/r/4!;0,1;2,3\n\
-s/r/4;0,1;2,3,0\n",
+near\n",
     ),
     (
-        Sizes {
-            nodes: 4,
-            vars: 1,
-            width: 4,
-        },
+        (4, 1, 4),
         0,
         "\
 op p 1+ assoc;\n\
@@ -326,19 +220,10 @@ s/r/3;0;1;2|{x -> b}\n\
 s/r/3;0;1,2;|{x -> p(b, c)}\n\
 s/r/3;0,1;2;|{x -> c}\n\
 ----\n\
-s/q/3;0;1;2\n\
-s/r/3;0;1\n\
-s/r/3;0;1;2;\n\
-s/r/3;0;1;99\n\
-s/r/3!;0;1;2\n\
-s/r/3;0;1;2,0\n",
+near\n",
     ),
     (
-        Sizes {
-            nodes: 3,
-            vars: 2,
-            width: 4,
-        },
+        (3, 2, 4),
         0,
         "\
 op s 0+ comm;\n\
@@ -351,19 +236,10 @@ t/r/2;0,0;1|{x -> {a, a}, y -> {b}}\n\
 t/r/2;0,1;0|{x -> {a, b}, y -> {a}}\n\
 t/r/2;0,0,1;|{x -> {a, a, b}, y -> {}}\n\
 ----\n\
-t/q/2;0;0,1\n\
-t/r/2;0\n\
-t/r/2;0;0,1;\n\
-t/r/2;0;99\n\
-t/r/2!;0;0,1\n\
-t/r/2;0;0,1,0\n",
+near\n",
     ),
     (
-        Sizes {
-            nodes: 4,
-            vars: 2,
-            width: 6,
-        },
+        (4, 2, 6),
         0,
         "\
 op s 0+ comm;\n\
@@ -373,19 +249,10 @@ subject t: s(a, a, b, b, c);\n\
 t/r/3;0;0;1,1,2|{x -> a, y -> {b, b, c}}\n\
 t/r/3;1;1;0,0,2|{x -> b, y -> {a, a, c}}\n\
 ----\n\
-t/q/3;0;0;1,1,2\n\
-t/r/3;0;0\n\
-t/r/3;0;0;1,1,2;\n\
-t/r/3;0;0;99\n\
-t/r/3!;0;0;1,1,2\n\
-t/r/3;0;0;1,1,2,0\n",
+near\n",
     ),
     (
-        Sizes {
-            nodes: 4,
-            vars: 2,
-            width: 6,
-        },
+        (4, 2, 6),
         0,
         "\
 op s 0+ comm;\n\
@@ -398,19 +265,10 @@ t/r/2;0;1,1;0,0|{x -> a, y -> {b, b}}\n\
 t/r/2;1;0,0;0,1|{x -> b, y -> {a, a}}\n\
 t/r/2;1;0,1;0,0|{x -> b, y -> {a, b}}\n\
 ----\n\
-t/q/2;0;0,0;1,1\n\
-t/r/2;0;0,0\n\
-t/r/2;0;0,0;1,1;\n\
-t/r/2;0;0,0;99\n\
-t/r/2!;0;0,0;1,1\n\
-t/r/2;0;0,0;1,1,0\n",
+near\n",
     ),
     (
-        Sizes {
-            nodes: 4,
-            vars: 1,
-            width: 4,
-        },
+        (4, 1, 4),
         0,
         "\
 op s 0+ comm;\n\
@@ -421,21 +279,12 @@ t/r/3;0;1;2|{x -> a}\n\
 t/r/3;1;0;2|{x -> b}\n\
 t/r/3;2;0;1|{x -> c}\n\
 ----\n\
+near\n\
 t/r/3;0;2;1\n\
-t/r/3;1;2;0\n\
-t/q/3;0;1;2\n\
-t/r/3;0;1\n\
-t/r/3;0;1;2;\n\
-t/r/3;0;1;99\n\
-t/r/3!;0;1;2\n\
-t/r/3;0;1;2,0\n",
+t/r/3;1;2;0\n",
     ),
     (
-        Sizes {
-            nodes: 6,
-            vars: 2,
-            width: 9,
-        },
+        (6, 2, 9),
         0,
         "\
 op s 0+ comm; op h 2; op g 0+;\n\
@@ -444,19 +293,10 @@ subject t: h(g(b, a), s(a, a, b, c));\n\
 ----\n\
 t/r/4;5;1,0;3;0,1;0,2|{x -> (b, a), y -> {a, c}}\n\
 ----\n\
-t/q/4;5;1,0;3;0,1;0,2\n\
-t/r/4;5;1,0;3;0,1\n\
-t/r/4;5;1,0;3;0,1;0,2;\n\
-t/r/4;5;1,0;3;0,1;99\n\
-t/r/4!;5;1,0;3;0,1;0,2\n\
-t/r/4;5;1,0;3;0,1;0,2,0\n",
+near\n",
     ),
     (
-        Sizes {
-            nodes: 7,
-            vars: 3,
-            width: 7,
-        },
+        (7, 3, 7),
         0,
         "\
 op k 2 comm;\n\
@@ -466,19 +306,10 @@ subject t: k(k(a, b), k(b, a));\n\
 t/r/3;2;0;1;2;1;0|{x -> a, y -> b, z -> a}\n\
 t/r/3;2;1;0;2;0;1|{x -> b, y -> a, z -> b}\n\
 ----\n\
-t/q/3;2;0;1;2;1;0\n\
-t/r/3;2;0;1;2;1\n\
-t/r/3;2;0;1;2;1;0;\n\
-t/r/3;2;0;1;2;1;99\n\
-t/r/3!;2;0;1;2;1;0\n\
-t/r/3;2;0;1;2;1;0,0\n",
+near\n",
     ),
     (
-        Sizes {
-            nodes: 3,
-            vars: 2,
-            width: 1,
-        },
+        (3, 2, 1),
         0,
         "\
 op u 1+ assoc comm one infix +;\n\
@@ -495,11 +326,7 @@ s/r/1;1;\n\
 s/r/1!;1;0\n",
     ),
     (
-        Sizes {
-            nodes: 3,
-            vars: 2,
-            width: 3,
-        },
+        (3, 2, 3),
         0,
         "\
 op u 1+ assoc comm one infix +;\n\
@@ -511,19 +338,10 @@ s/r/3;1;2|{x -> a, y -> b}\n\
 s/r/3;2;1|{x -> b, y -> a}\n\
 s/r/3;1,2;|{x -> (a + b), y -> 0}\n\
 ----\n\
-s/q/3;;1,2\n\
-s/r/3;\n\
-s/r/3;;1,2;\n\
-s/r/3;;99\n\
-s/r/3!;;1,2\n\
-s/r/3;;1,2,0\n",
+near\n",
     ),
     (
-        Sizes {
-            nodes: 5,
-            vars: 3,
-            width: 5,
-        },
+        (5, 3, 5),
         0,
         "\
 op u 1+ assoc comm one infix +; op m 1+ assoc comm one infix *;\n\
@@ -536,19 +354,10 @@ s/r/5;6;4;3;2|{z -> c, x -> b, y -> a}\n\
 s/r/5;6;3,4;;2|{z -> (b * c), x -> 1, y -> a}\n\
 s/r/5!;5!;5;;|{z -> (a + (b * c)), x -> 1, y -> 0}\n\
 ----\n\
-s/q/5;2!;2;;6\n\
-s/r/5;2!;2;\n\
-s/r/5;2!;2;;6;\n\
-s/r/5;2!;2;;99\n\
-s/r/5!;2!;2;;6\n\
-s/r/5;2!;2;;6,0\n",
+near\n",
     ),
     (
-        Sizes {
-            nodes: 5,
-            vars: 1,
-            width: 5,
-        },
+        (5, 1, 5),
         0,
         "\
 op u 1+ assoc one; op h 2;\n\
@@ -558,19 +367,10 @@ subject s: h(u(a, b), b);\n\
 s/r/4;3;;1,2;2|{x -> u(a, b)}\n\
 s/r/4;3;1;2;2|{x -> b}\n\
 ----\n\
-s/q/4;3;;1,2;2\n\
-s/r/4;3;;1,2\n\
-s/r/4;3;;1,2;2;\n\
-s/r/4;3;;1,2;99\n\
-s/r/4!;3;;1,2;2\n\
-s/r/4;3;;1,2;2,0\n",
+near\n",
     ),
     (
-        Sizes {
-            nodes: 3,
-            vars: 2,
-            width: 4,
-        },
+        (3, 2, 4),
         0,
         "\
 op u 1+ assoc comm one infix +; kind v: a b;\n\
@@ -581,21 +381,12 @@ s/r/3;0;1,2|{x -> a, y -> (b + c)}\n\
 s/r/3;1;0,2|{x -> b, y -> (a + c)}\n\
 s/r/3;2;0,1|{x -> c, y -> (a + b)}\n\
 ----\n\
+near\n\
 s/r/3;0,1;2\n\
-s/r/3;0,2;1\n\
-s/q/3;0;1,2\n\
-s/r/3;0\n\
-s/r/3;0;1,2;\n\
-s/r/3;0;99\n\
-s/r/3!;0;1,2\n\
-s/r/3;0;1,2,0\n",
+s/r/3;0,2;1\n",
     ),
     (
-        Sizes {
-            nodes: 3,
-            vars: 2,
-            width: 5,
-        },
+        (3, 2, 5),
         0,
         "\
 op s 0+ comm;\n\
@@ -609,21 +400,12 @@ t/r/4;1,2;0,3|{x -> {b, c}, y -> {a, d}}\n\
 t/r/4;1,3;0,2|{x -> {b, d}, y -> {a, c}}\n\
 t/r/4;2,3;0,1|{x -> {c, d}, y -> {a, b}}\n\
 ----\n\
+near\n\
 t/r/4;0;1,2,3\n\
-t/r/4;1;0,2,3\n\
-t/q/4;0,1;2,3\n\
-t/r/4;0,1\n\
-t/r/4;0,1;2,3;\n\
-t/r/4;0,1;99\n\
-t/r/4!;0,1;2,3\n\
-t/r/4;0,1;2,3,0\n",
+t/r/4;1;0,2,3\n",
     ),
     (
-        Sizes {
-            nodes: 4,
-            vars: 1,
-            width: 6,
-        },
+        (4, 1, 6),
         0,
         "\
 op g 0+; op f 1;\n\
@@ -633,21 +415,12 @@ subject t: g(a, f(a), b, a);\n\
 t/r/2;;0;3,1,0|{x -> a}\n\
 t/r/2;0;3;1,0|{x -> f(a)}\n\
 ----\n\
+near\n\
 t/r/2;0,3;1;0\n\
-t/r/2;0,3,1;0;\n\
-t/q/2;;0;3,1,0\n\
-t/r/2;;0\n\
-t/r/2;;0;3,1,0;\n\
-t/r/2;;0;99\n\
-t/r/2!;;0;3,1,0\n\
-t/r/2;;0;3,1,0,0\n",
+t/r/2;0,3,1;0;\n",
     ),
     (
-        Sizes {
-            nodes: 5,
-            vars: 3,
-            width: 8,
-        },
+        (5, 3, 8),
         0,
         "\
 op s 0+ comm; op f 1;\n\
@@ -657,13 +430,8 @@ subject t: s(f(a), f(f(b)), c, d);\n\
 t/r/4;7;6;2;3,5|{x -> f(b), y -> c, z -> {d, f(a)}}\n\
 t/r/4;7;6;5;2,3|{x -> f(b), y -> f(a), z -> {c, d}}\n\
 ----\n\
+near\n\
 t/r/4;5;0;2;3,7\n\
-t/r/4;5;0;3;2,7\n\
-t/q/4;7;6;2;3,5\n\
-t/r/4;7;6;2\n\
-t/r/4;7;6;2;3,5;\n\
-t/r/4;7;6;2;99\n\
-t/r/4!;7;6;2;3,5\n\
-t/r/4;7;6;2;3,5,0\n",
+t/r/4;5;0;3;2,7\n",
     ),
 ];

@@ -157,14 +157,47 @@ fn check_each_resumed(rt: &impl Abort, alloc: Global, m: Matched<'_>, sizes: Siz
     }
 }
 
+// Tokens that differ little from that of the line: it is another rule's, has an entry fewer or more, ranks that are at
+// none of the nodes, an entry that is collapsed, or a rank more.
+fn near(rt: &impl Abort, alloc: Global, line: &str) -> String {
+    let (token, _) = parts(rt, line, "|");
+    let (subject, rest) = parts(rt, token, "/");
+    let (rule, entries) = parts(rt, rest, "/");
+    let (first, others) = parts(rt, entries, ";");
+    let (front, _) = token.rsplit_once(';').expect(rt, line);
+    format!(in alloc;
+        "{subject}/q/{entries}\n{front}\n{token};\n{front};99\n{subject}/{rule}/{first}!;{others}\n{token},0"
+    ).expect(rt, "memory")
+}
+
 // Stops unless each of the tokens is that of no item.
 fn check_refused(rt: &impl Abort, alloc: Global, m: Matched<'_>, sizes: Sizes, tokens: &str)
     requires { IsMatched m.sig.now (rule_plan m.planned.now) (tree m.subject.now) m.table.now }
 {
-    for text in tokens.split('\n') {
-        if !text.is_empty() {
-            let token = read_token(alloc, text.as_bytes()).expect(rt, text);
-            assert!(rt; resume(rt, alloc, m, sizes, &token).is_err(), "{text}");
+    for text in tokens.lines() {
+        let token = read_token(alloc, text.as_bytes()).expect(rt, text);
+        assert!(rt; resume(rt, alloc, m, sizes, &token).is_err(), "{text}");
+    }
+}
+
+// Stops unless each of the tokens, and each that is near the first item's where a line `near` says so, is that of no
+// item.
+fn check_all_refused(
+    rt: &impl Abort,
+    alloc: Global,
+    m: Matched<'_>,
+    sizes: Sizes,
+    lines: &str,
+    tokens: &str,
+)
+    requires { IsMatched m.sig.now (rule_plan m.planned.now) (tree m.subject.now) m.table.now }
+{
+    match tokens.strip_prefix("near\n") {
+        None => check_refused(rt, alloc, m, sizes, tokens),
+        Some(others) => {
+            let near = near(rt, alloc, parts(rt, lines, "\n").0);
+            check_refused(rt, alloc, m, sizes, near.as_str());
+            check_refused(rt, alloc, m, sizes, others);
         }
     }
 }
@@ -191,11 +224,13 @@ pub fn check_row(rt: &impl Abort, alloc: Global, m: Matched<'_>, row: &Row)
 {
     let (_, rest) = parts(rt, row.2, "----\n");
     let (lines, tokens) = parts(rt, rest, "----\n");
-    let room = room(rt, alloc, row.0);
-    let mut cursor = begin(rt, m, room, row.0);
+    let (nodes, vars, width) = row.0;
+    let sizes = Sizes { nodes, vars, width };
+    let room = room(rt, alloc, sizes);
+    let mut cursor = begin(rt, m, room, sizes);
     check_rest(rt, alloc, m, &mut cursor, lines, row.1);
-    check_each_resumed(rt, alloc, m, row.0, lines);
-    check_refused(rt, alloc, m, row.0, tokens);
+    check_each_resumed(rt, alloc, m, sizes, lines);
+    check_all_refused(rt, alloc, m, sizes, lines, tokens);
     check_first(rt, alloc, m, lines);
 }
 

@@ -4,7 +4,7 @@ use crate::alone::DECLARED;
 use crate::reading::{file, parts, plan, sink, term};
 use mp_io::{MemorySink, Writer};
 use mp_pattern::Form;
-use mp_print::{put_bound, write_trail};
+use mp_print::{RankTexts, put_bound, write_trail};
 use mp_subst::{Bound, Trail};
 use mp_table::{Rank, Table};
 use mp_term::{MAX_TERM_NODES, OpId, Signature, Terms, is_normal, node_count};
@@ -27,9 +27,19 @@ const VALUES: &[Value] = &[
     (Form::Bag, None, ";a;a|{a, a}"),
 ];
 
+// A term of more nodes than a small one, and its printed text.
+const LARGE: &str = "f(f(f(f(a, b), f(a, b)), f(a, b)), f(f(f(a, b), f(a, b)), b))";
+
+const LARGE_VALUE: Value = (
+    Form::Seq,
+    None,
+    ";f(f(f(f(a, b), f(a, b)), f(a, b)), f(f(f(a, b), f(a, b)), b));b\
+    |(f(f(f(f(a, b), f(a, b)), f(a, b)), f(f(f(a, b), f(a, b)), b)), b)",
+);
+
 // The table of the subject, in a box.
-fn table(rt: &impl Abort, alloc: Global, sig: &Signature) -> Box<Table> {
-    let subject = term(rt, alloc, sig, SUBJECT);
+fn table(rt: &impl Abort, alloc: Global, sig: &Signature, subject: &str) -> Box<Table> {
+    let subject = term(rt, alloc, sig, subject);
     assert!(rt; is_normal(sig, &subject) && node_count(&subject) <= MAX_TERM_NODES);
     let table = Table::build(alloc, sig, &subject, &Terms::new(alloc)).expect(rt, "memory");
     Box::new(alloc, table).expect(rt, "memory")
@@ -54,7 +64,14 @@ fn print(sig: &Signature, table: &Table, bound: &Bound<'_>, sink: &mut MemorySin
     out.finish().is_ok()
 }
 
-// Stops unless what is printed of the value is what stands behind its bar.
+// Prints the value by the texts that are kept. Answers whether it was printed.
+fn print_kept(texts: &RankTexts<'_>, bound: &Bound<'_>, sink: &mut MemorySink) -> bool {
+    let mut out = Writer::new(sink);
+    texts.put_bound(bound, &mut out);
+    out.finish().is_ok()
+}
+
+// Stops unless what is printed of the value, by the texts of small terms too, is what stands behind its bar.
 fn check_value(rt: &impl Abort, alloc: Global, sig: &Signature, table: &Table, value: &Value) {
     let (words, wanted) = parts(rt, value.2, "|");
     let ranks = ranks(rt, alloc, sig, table, words);
@@ -63,18 +80,34 @@ fn check_value(rt: &impl Abort, alloc: Global, sig: &Signature, table: &Table, v
         wrap: value.1,
         ranks: &ranks,
     };
-    let mut sink = sink(rt, alloc);
-    assert!(rt; print(sig, table, &bound, &mut sink), "{wanted}");
-    assert!(rt; sink.content() == wanted.as_bytes(), "{wanted}");
+    let mut printed = sink(rt, alloc);
+    assert!(rt; print(sig, table, &bound, &mut printed), "{wanted}");
+    assert!(rt; printed.content() == wanted.as_bytes(), "{wanted}");
+    let texts = [
+        RankTexts::plain(alloc, sig, table),
+        RankTexts::build(alloc, sig, table).expect(rt, "memory"),
+    ];
+    for texts in &texts {
+        let mut printed = sink(rt, alloc);
+        assert!(rt; print_kept(texts, &bound, &mut printed), "{wanted}");
+        assert!(rt; printed.content() == wanted.as_bytes(), "{wanted}");
+    }
 }
 
 #[test]
 fn values_are_printed_by_ranks_as_by_terms(rt: HostRuntime) {
     let file = file(&rt, rt.alloc(), DECLARED);
-    let table = table(&rt, rt.alloc(), &file.sig);
+    let table = table(&rt, rt.alloc(), &file.sig, SUBJECT);
     for value in VALUES {
         check_value(&rt, rt.alloc(), &file.sig, &table, value);
     }
+}
+
+#[test]
+fn a_large_term_is_printed_by_its_parts(rt: HostRuntime) {
+    let file = file(&rt, rt.alloc(), DECLARED);
+    let table = table(&rt, rt.alloc(), &file.sig, LARGE);
+    check_value(&rt, rt.alloc(), &file.sig, &table, &LARGE_VALUE);
 }
 
 // The trail of three variables of which the first is the term of rank 0, and the last the tuple of those of ranks 2 and
@@ -90,7 +123,7 @@ fn trail(rt: &impl Abort, alloc: Global, table: &Table) -> Trail {
 #[test]
 fn a_trail_is_printed_as_its_substitution(rt: HostRuntime) {
     let file = file(&rt, rt.alloc(), DECLARED);
-    let table = table(&rt, rt.alloc(), &file.sig);
+    let table = table(&rt, rt.alloc(), &file.sig, SUBJECT);
     let plan = plan(&rt, rt.alloc(), &file.sig, "g(x_, y_, z__)");
     let trail = trail(&rt, rt.alloc(), &table);
     let mut sink = sink(&rt, rt.alloc());
