@@ -65,8 +65,8 @@ impl Sink for TextSink {
     }
 }
 
-/// The printed text of the condition (`cond_text` of mp_print's `specs/PrintedCond.antt`). `Memory` comes where there is
-/// no room for it.
+/// The printed text of the condition (`cond_text` of mp_print's `specs/PrintedCond.antt`). `Memory` comes where there
+/// is no room for it.
 pub fn printed_cond(alloc: Global, sig: &Signature, cond: &Cond) -> Result<TextSink, Memory>
     ensures { IfOk result (λ s. s.bytes.items ≡ cond_text sig.now (cond_tree cond.now)) }
 {

@@ -1,6 +1,6 @@
 //! The steps of a token in the innermost open operation.
-ghost use Rattle.std.specs.Prelude.{◌≡◌, ◌≤◌, ◌<◌, ◌+◌, ◌^◌, ◌&&◌, [], ◌∷◌, ℕ, List, length, IfSome, MatchOption, false};
-ghost use Rattle.std.specs.Prelude.{◌-◌, None, IsTrue, IsFalse, MatchBool, if◌then◌else◌};
+ghost use Rattle.std.specs.Prelude.{◌≡◌, ◌≤◌, ◌<◌, ◌+◌, ◌-◌, ◌^◌, ◌&&◌, [], ◌∷◌, ℕ, List, length, None, false};
+ghost use Rattle.std.specs.Prelude.{IfSome, IsFalse, IsTrue, MatchBool, MatchOption, if◌then◌else◌};
 ghost use Rattle.std.specs.Str.{bytes_eq};
 ghost use Rattle.mp_term.specs.NormalTest.{has_head};
 ghost use Rattle.mp_term.specs.Signature.{is_one, Sig};
