@@ -27,9 +27,6 @@ use mp_text::{File, Subject};
 use mp_walk::RankedPair;
 use std::alloc::Global;
 
-// As many pairs are printed without the texts of a table.
-const FEW: usize = 8;
-
 // The name of the rule of that number.
 fn name_at<'a>(names: &[&'a Name], number: u32) -> &'a [u8]
     ensures { result.now ≡ name_of (slice_get (named names.now) number) }
@@ -109,7 +106,7 @@ pub fn put_pairs<B, L: Line<B>, O: Sink>(
     Told::All(any)
 }
 
-// The table for so many pairs: its small terms are written beforehand where there are more than a few.
+// The table for so many pairs: its small terms are written beforehand where there are more pairs than terms.
 fn texts_for<'t>(
     alloc: Global,
     sig: &'t Signature,
@@ -119,15 +116,15 @@ fn texts_for<'t>(
     ensures sig { IfOk result (λ t. t.sig ≡ sig.now) }
     ensures table { IfOk result (λ t. t.table ≡ table.now) }
 {
-    if count > FEW {
+    if count > table.len() as usize {
         RankTexts::build(alloc, sig, table)
     } else {
         Ok(RankTexts::plain(alloc, sig, table))
     }
 }
 
-/// Puts the lines of pairs whose values are by ranks in the table, as `put_pairs` puts them. Where there are more than
-/// a few, the texts of the table's small terms are written once.
+/// Puts the lines of pairs whose values are by ranks in the table, as `put_pairs` puts them. Where there are more pairs
+/// than terms in the table, the texts of its small terms are written once.
 ///
 /// `Memory`: there was no room for these texts, and nothing is put.
 pub fn put_ranked_pairs<O: Sink>(
