@@ -13,6 +13,12 @@ pub data Label : Type 0 where
   app_label : ℕ → Label
   wild_label : Wildcard → Option ℕ → Label
 
+-- the number of the variable of a label
+abbrev pub label_variable : Label → Option ℕ
+label_variable (symbol_label s) = None
+label_variable (app_label f) = None
+label_variable (wild_label w x) = x
+
 -- a node: its label, the number of the node after its subpattern, and the number of its parent
 pub record Node : Type 0 where
   pub label : Label

@@ -11,18 +11,18 @@ ghost use Rattle.mp_pattern.specs.PatternTree.{is_sequence};
 ghost use Rattle.mp_pattern.specs.Variables.{uses, variables, comm_above, form_among};
 ghost use Rattle.mp_pattern.specs.Clash.{first_clash_after};
 ghost use Rattle.mp_pattern.specs.Plan.{nodes, variable_number, IsPlanOf};
-ghost use Rattle.mp_pattern.specs.PlanView.{form, label, node, variable};
+ghost use Rattle.mp_pattern.specs.PlanView.{form, kept_of, names_of, stored, variable};
 ghost use Rattle.mp_pattern.specs.UseView.{occurrence};
 ghost use Rattle.mp_pattern.specs.PlanFault.{plan_fault, IsCompiled, OrMemory};
 
 use crate::above::is_comm_above;
-use crate::copy::{copy_pattern, copy_shape};
+use crate::copy::copy_pattern;
 use crate::entry::Form;
 use crate::limits::{MAX_PATTERN_NODES, MAX_VARIABLES};
 use crate::normal::is_loose;
 use crate::outline::{Occurrence, Outline, first_clash, node_count, outline_of};
 use crate::pattern::{Pattern, Shape};
-use crate::plan::{Label, Node, Plan, Variable};
+use crate::plan::{Node, Plan, Variable};
 use mp_term::{Memory, Name, Signature};
 use std::alloc::{AllocError, Global};
 use thiserror::Error;
@@ -94,19 +94,27 @@ fn variable_number(names: &[&Name], variable: &Option<Name>) -> Option<u32>
     }
 }
 
-// Adds a node.
-fn push_node(out: &mut Vec<Node>, what: Label, end: u32, parent: Option<u32>) -> Result<(), Memory>
-    ensures { OnOk result (map node out.new.items
-        ≡ map node out.old.items ++ record { label = label what; end = end; parent = parent } ∷ []) }
+// Adds what is kept of a node.
+fn push_node(
+    out: &mut Vec<Node>,
+    end: u32,
+    parent: Option<u32>,
+    variable: Option<u32>,
+) -> Result<(), Memory>
+    ensures { OnOk result (map stored out.new.items
+        ≡ map stored out.old.items ++ record { end = end; parent = parent; variable = variable } ∷ []) }
 {
-    let label = what;
-    out.push(Node { label, end, parent })?;
+    out.push(Node {
+        end,
+        parent,
+        variable,
+    })?;
     Ok(())
 }
 
-// Adds the nodes of the pattern in preorder, the root with this parent, as the names number its variables.
+// Adds what is kept of the nodes of the pattern in preorder, the root with this parent, as the names number its
+// variables.
 fn push_nodes(
-    alloc: Global,
     out: &mut Vec<Node>,
     names: &[&Name],
     pattern: &Pattern,
@@ -114,27 +122,23 @@ fn push_nodes(
 ) -> Result<(), Memory>
     requires variables { length names.now ≤ MAX_VARIABLES }
     requires room { length out.old.items + pattern_nodes (pattern_tree pattern.now) ≤ MAX_PATTERN_NODES }
-    ensures nodes { OnOk result (map node out.new.items ≡ map node out.old.items
-        ++ nodes (map (λ n. n.now) names.now) parent (length out.old.items) (pattern_tree pattern.now)) }
+    ensures nodes { OnOk result (map stored out.new.items ≡ map stored out.old.items
+        ++ map kept_of (nodes (map (λ n. n.now) names.now) parent (length out.old.items) (pattern_tree pattern.now))) }
     ensures count { OnOk result
         (length out.new.items ≡ length out.old.items + pattern_nodes (pattern_tree pattern.now)) }
 {
     let number = out.len() as u32;
     match pattern {
-        Pattern::Sym(name) => {
-            let what = Label::Sym(name.copy(alloc)?);
-            push_node(out, what, number + 1, parent)
-        }
-        Pattern::App(op, args) => {
-            push_node(out, Label::App(*op), number + node_count(pattern), parent)?;
+        Pattern::Sym(_) => push_node(out, number + 1, parent, None),
+        Pattern::App(_, args) => {
+            push_node(out, number + node_count(pattern), parent, None)?;
             for arg in &args.items {
-                push_nodes(alloc, out, names, arg, Some(number))?;
+                push_nodes(out, names, arg, Some(number))?;
             }
             Ok(())
         }
-        Pattern::Wild(shape, variable) => {
-            let what = Label::Wild(copy_shape(alloc, shape)?, variable_number(names, variable));
-            push_node(out, what, number + 1, parent)
+        Pattern::Wild(_, variable) => {
+            push_node(out, number + 1, parent, variable_number(names, variable))
         }
     }
 }
@@ -189,9 +193,10 @@ fn variables_of(
     occurrences: &[Occurrence<'_>],
     names: &[&Name],
 ) -> Result<Vec<Variable>, Memory>
-    ensures { IfOk result (λ vs. map variable vs.items
+    ensures variables { IfOk result (λ vs. map variable vs.items
         ≡ map (λ x. record { name = x; form = form_among sig.now (map occurrence occurrences.now) x })
         (map (λ n. n.now) names.now)) }
+    ensures names { IfOk result (λ vs. names_of vs.items ≡ map (λ n. n.now) names.now) }
 {
     let mut variables = Vec::with_capacity(alloc, names.len())?;
     for name in names {
@@ -238,7 +243,7 @@ fn build(
     ensures { IfOk result (λ plan. IsPlanOf sig.now (pattern_tree pattern.now) plan) }
 {
     let mut nodes = Vec::with_capacity(alloc, node_count(pattern) as usize)?;
-    push_nodes(alloc, &mut nodes, &outline.names, pattern, None)?;
+    push_nodes(&mut nodes, &outline.names, pattern, None)?;
     let variables = variables_of(alloc, sig, &outline.occurrences, &outline.names)?;
     let pattern = copy_pattern(alloc, pattern)?;
     Ok(Plan {

@@ -1,9 +1,13 @@
 //! Plans: a pattern with its nodes and its variables, each by its number.
-ghost use Rattle.std.specs.Prelude.{◌≡◌, ◌<◌, ◌≤◌, IfSome, length, slice_get, position, option_map};
+ghost use Rattle.std.specs.Prelude.{◌≡◌, ◌+◌, ◌<◌, ◌≤◌, IfErr, IfOk, IfSome, Some, length, slice_get, position};
+ghost use Rattle.std.specs.Prelude.{option_map};
 ghost use Rattle.std.specs.Option.{option_and_then};
+ghost use Rattle.mp_pattern.specs.Plan.{label_variable};
+ghost use Rattle.mp_pattern.specs.Size.{pattern_nodes};
+ghost use Rattle.mp_pattern.specs.Subpatterns.{subpatterns};
 ghost use Rattle.mp_pattern.specs.Value.{same_name};
-ghost use Rattle.mp_pattern.specs.View.{pattern_tree};
-ghost use Rattle.mp_pattern.specs.PlanView.{form, label, shown_label};
+ghost use Rattle.mp_pattern.specs.View.{pattern_tree, wildcard};
+ghost use Rattle.mp_pattern.specs.PlanView.{form, kept_of, shown_label, stored, variable_label};
 
 use crate::entry::Form;
 use crate::limits::{MAX_PATTERN_NODES, MAX_VARIABLES};
@@ -22,20 +26,12 @@ pub enum PlanNode<'a> {
     Wild(&'a Shape, Option<u32>),
 }
 
-// The same, owned.
-#[derive(Drop)]
-pub(crate) enum Label {
-    Sym(Name),
-    App(OpId),
-    Wild(Shape, Option<u32>),
-}
-
-// A node, with the number of the node after its subpattern and that of its parent.
+// What is kept of a node: the number of the node after its subpattern, that of its parent, and that of its variable.
 #[derive(Drop)]
 pub(crate) struct Node {
-    pub(crate) label: Label,
     pub(crate) end: u32,
     pub(crate) parent: Option<u32>,
+    pub(crate) variable: Option<u32>,
 }
 
 // A variable with its form.
@@ -56,7 +52,7 @@ pub struct Plan {
 }
 
 impl Model for Plan {
-    ghost use Rattle.std.specs.Prelude.{◌≤◌, length, map};
+    ghost use Rattle.std.specs.Prelude.{◌≡◌, ◌≤◌, None, length, map};
     ghost use Rattle.mp_pattern.specs.Plan as plain;
     ghost use Rattle.mp_pattern.specs.PlanCode.{coded_plan};
     ghost use Rattle.mp_pattern.specs.declared.limits.TheConstants.{MAX_PATTERN_NODES, MAX_VARIABLES};
@@ -66,26 +62,49 @@ impl Model for Plan {
     ghost coded = { coded_plan };
 
     ghost use Rattle.mp_pattern.specs.View.{pattern_tree};
-    ghost use Rattle.mp_pattern.specs.PlanView.{node, variable};
+    ghost use Rattle.mp_pattern.specs.PlanView.{kept_of, names_of, stored, variable};
 
     ghost view = { λ p. record {
       pattern = pattern_tree p.pattern;
-      nodes = map node p.nodes.items;
+      nodes = plain.nodes (names_of p.variables.items) None 0 (pattern_tree p.pattern);
       variables = map variable p.variables.items;
     } };
 
-    ghost invariant = { λ p. (length p.nodes.items ≤ MAX_PATTERN_NODES) × (length p.variables.items ≤ MAX_VARIABLES) };
+    ghost invariant = { λ p.
+        (map stored p.nodes.items
+        ≡ map kept_of (plain.nodes (names_of p.variables.items) None 0 (pattern_tree p.pattern)))
+        × ((length p.nodes.items ≤ MAX_PATTERN_NODES) × (length p.variables.items ≤ MAX_VARIABLES)) };
 }
 
-// What a reader is shown of a label.
-fn show(own: &Label) -> PlanNode<'_>
-    ensures { shown_label result ≡ label own.now }
+// What a reader is shown of the root of a pattern, whose variable has this number.
+fn show(pattern: &Pattern, variable: Option<u32>) -> PlanNode<'_>
+    ensures { shown_label result ≡ variable_label (pattern_tree pattern.now) variable }
 {
-    match own {
-        Label::Sym(name) => PlanNode::Sym(name),
-        Label::App(op) => PlanNode::App(*op),
-        Label::Wild(shape, variable) => PlanNode::Wild(shape, *variable),
+    match pattern {
+        Pattern::Sym(name) => PlanNode::Sym(name),
+        Pattern::App(op, _) => PlanNode::App(*op),
+        Pattern::Wild(shape, _) => PlanNode::Wild(shape, variable),
     }
+}
+
+// The subpattern at the place in preorder, from 0, or how many places behind the last one it is.
+fn subpattern_at(pattern: &Pattern, place: u32) -> Result<&Pattern, u32>
+    ensures found { IfOk result (λ p. slice_get (subpatterns (pattern_tree pattern.now)) place
+        ≡ Some (pattern_tree p.now)) }
+    ensures behind { IfErr result (λ rest. place ≡ pattern_nodes (pattern_tree pattern.now) + rest) }
+{
+    let Some(mut left) = place.checked_sub(1) else {
+        return Ok(pattern);
+    };
+    if let Pattern::App(_, args) = pattern {
+        for arg in &args.items {
+            match subpattern_at(arg, left) {
+                Ok(found) => return Ok(found),
+                Err(behind) => left = behind,
+            }
+        }
+    }
+    Err(left)
 }
 
 // The variable has this name.
@@ -121,13 +140,32 @@ impl Plan {
         self.nodes.len() as u32
     }
 
-    /// What stands at the node of that number. It is None exactly where no node has the number.
+    // What is kept of the node of that number, where there is one.
+    fn kept(&self, node: u32) -> Option<&Node>
+        ensures { option_map (λ n. stored n.now) result ≡ option_map kept_of (slice_get self.now.nodes node) }
+    {
+        self.nodes.get(node as usize)
+    }
+
+    /// What stands at the node of that number. It is None exactly where no node has the number. It goes over the nodes
+    /// before.
     pub fn node(&self, node: u32) -> Option<PlanNode<'_>>
         ensures { option_map shown_label result ≡ option_map (λ n. n.label) (slice_get self.now.nodes node) }
     {
-        match self.nodes.get(node as usize) {
+        let variable = self.variable_at(node);
+        match subpattern_at(&self.pattern, node) {
+            Ok(pattern) => Some(show(pattern, variable)),
+            Err(_) => None,
+        }
+    }
+
+    /// The number of the variable at the node of that number, where a wildcard with a name stands there.
+    pub fn variable_at(&self, node: u32) -> Option<u32>
+        ensures { result ≡ option_and_then (λ n. label_variable n.label) (slice_get self.now.nodes node) }
+    {
+        match self.kept(node) {
             None => None,
-            Some(own) => Some(show(&own.label)),
+            Some(own) => own.variable,
         }
     }
 
@@ -136,7 +174,7 @@ impl Plan {
     pub fn end(&self, node: u32) -> Option<u32>
         ensures { result ≡ option_map (λ n. n.end) (slice_get self.now.nodes node) }
     {
-        match self.nodes.get(node as usize) {
+        match self.kept(node) {
             None => None,
             Some(own) => Some(own.end),
         }
@@ -147,7 +185,7 @@ impl Plan {
     pub fn parent(&self, node: u32) -> Option<u32>
         ensures { result ≡ option_and_then (λ n. n.parent) (slice_get self.now.nodes node) }
     {
-        match self.nodes.get(node as usize) {
+        match self.kept(node) {
             None => None,
             Some(own) => own.parent,
         }

@@ -1,5 +1,5 @@
 //! Rules: what is matched, under which condition, and what is made of it.
-ghost use Rattle.std.specs.Prelude.{◌≡◌, [], ◌∷◌, ◌++◌, length, map, slice_get, OnOk, OnErr, option_map};
+ghost use Rattle.std.specs.Prelude.{◌≡◌, [], ◌∷◌, ◌++◌, length, map, slice_get, IfOk, OnOk, OnErr, option_map};
 ghost use Rattle.mp_pattern.specs.RuleView.{rule_tree};
 
 use crate::{Cond, Pattern, Template};
@@ -51,6 +51,14 @@ impl Rules {
         Rules {
             items: Vec::new(alloc),
         }
+    }
+
+    /// The empty list, with room for so many rules at once. `Memory` comes where there is no such room.
+    pub fn with_room(alloc: Global, room: usize) -> Result<Self, Memory>
+        ensures { IfOk result (λ rs. rs ≡ []) }
+    {
+        let items = Vec::with_capacity(alloc, room)?;
+        Ok(Rules { items })
     }
 
     /// Adds a rule at the end. For want of memory it answers `Memory`, drops the rule and leaves the list as it was.

@@ -29,7 +29,7 @@ use Rattle.mp_search.specs.Reading.{table_of}
 use Rattle.mp_search.specs.Site.{IsSite, site_place}
 use Rattle.mp_search.specs.At.{IsAt, AreInOrder, site_of}
 use Rattle.mp_search.proofs.LevelsLaws.{length-table}
-use Rattle.mp_search.proofs.NodeLaws.{plan_node}
+use Rattle.mp_pattern.proofs.NodeLaws.{plan_node}
 use Rattle.mp_search.proofs.PartLaws.{stands-left}
 
 take-front : {X : Type 0} (xs ys : List X) → take (length xs) (xs ++ ys) ≡ xs

@@ -15,7 +15,7 @@ use Rattle.mp_search.specs.declared.site.Site.{Site}
 use Rattle.mp_search.specs.Parts.{StandsAt}
 use Rattle.mp_search.specs.Query.{IsQuery}
 use Rattle.mp_search.specs.Site.{IsSite}
-use Rattle.mp_search.proofs.NodeLaws.{plan_node}
+use Rattle.mp_pattern.proofs.NodeLaws.{plan_node}
 use Rattle.mp_search.proofs.SiteLaws.{front_at, rest_of, subpatterns-first}
 
 -- the first and the last part of a front

@@ -2,14 +2,8 @@
 use Rattle.std.specs.Prelude.{◌≡◌, ℕ, List, Option, Some, None}
 use Rattle.mp_term.specs.Listing.{In}
 use Rattle.mp_pattern.specs.PatternTree.{Pattern, wild_pattern}
-use Rattle.mp_pattern.specs.Plan.{Label, wild_label}
 use Rattle.mp_search.specs.declared.query.Query.{Query}
 use Rattle.mp_search.specs.Reading.{name_at}
-
--- the number of the variable that a label has, if there is one
-abbrev pub number_in : Option Label → Option ℕ
-number_in (Some (wild_label w o)) = o
-number_in _ = None
 
 -- v is the number of the variable x, and no other number is
 pub record IsNumberOf (q : Query) (x : List ℕ) (v : ℕ) : Type 0 where

@@ -1,24 +1,13 @@
 //! The numbers of variables in the trail.
-ghost use Rattle.std.specs.Prelude.{◌≡◌, Some, None, slice_get, option_map, IsFalse};
+ghost use Rattle.std.specs.Prelude.{◌≡◌, Some, None, slice_get, IsFalse};
 ghost use Rattle.mp_pattern.specs.View.{pattern_tree};
 ghost use Rattle.mp_pattern.specs.Subpatterns.{subpatterns};
-ghost use Rattle.mp_pattern.specs.PlanView.{shown_label};
 ghost use Rattle.mp_search.specs.declared.query.Query.{Query as plain_query};
-ghost use Rattle.mp_search.specs.Numbers.{IsNumberAt, number_in};
+ghost use Rattle.mp_search.specs.Numbers.{IsNumberAt};
 ghost use Rattle.mp_search.specs.Query.{IsQuery};
 
 use crate::query::Query;
-use mp_pattern::{Pattern, PlanNode};
-
-// The number of the variable that a node shows.
-fn number_in(node: &Option<PlanNode<'_>>) -> Option<u32>
-    ensures { result ≡ number_in (option_map shown_label node.now) }
-{
-    match node {
-        Some(PlanNode::Wild(_, number)) => *number,
-        _ => None,
-    }
-}
+use mp_pattern::Pattern;
 
 // Whether the child is a wildcard with a name.
 fn is_named(child: &Pattern) -> bool
@@ -36,7 +25,7 @@ pub(crate) fn number_at(query: &Query<'_>, child: &Pattern, node: u32) -> Option
     if !is_named(child) {
         return None;
     }
-    match number_in(&query.plan.node(node)) {
+    match query.plan.variable_at(node) {
         None => None,
         Some(number) => Some(query.vars[number as usize]),
     }
