@@ -20,6 +20,7 @@ use Rattle.mp_table.specs.declared.limits.TheConstants.{MAX_CONSTANT_NODES}
 use Rattle.mp_table.specs.declared.entry.Entry.{Entry}
 use Rattle.mp_table.specs.declared.piece.Piece.{Piece}
 use Rattle.mp_table.specs.declared.preorder.Preorder.{Preorder}
+use Rattle.mp_table.specs.declared.rank.Rank.{Rank}
 use Rattle.mp_table.specs.Pieces.{piece_terms, ArePieces}
 use Rattle.mp_table.specs.Preorder.{all_preorder}
 use Rattle.mp_table.specs.Reading.{entry_trees, AreEntries}
@@ -68,22 +69,22 @@ module _ (subject : Tree) (constants : List Tree) (text : Preorder)
         node_count_is subject,
       )
 
-  module _ (ps : List Piece) (pieces : ArePieces (shown text) ps) (es : List Entry)
-      (entries : AreEntries es (piece_terms ps)) (root : ℕ) (within : root < length ps)
+  module _ (ps : List Piece) (pieces : ArePieces (shown text) ps) (rs : List Rank) (es : List Entry)
+      (entries : AreEntries rs es (piece_terms ps)) (root : ℕ) (within : root < length ps)
       (first : get_or (piece_terms ps) root (symbol []) ≡ term_in (shown text) 0) where
     length-terms : length (piece_terms ps) ≡ length ps
     length-terms = length-map ps (λ p. tree p.term.now)
 
     pub length-built : length es ≡ length ps
-    length-built = length-entries (piece_terms ps) es (piece_terms ps) entries ∙ length-terms
+    length-built = length-entries rs (piece_terms ps) es (piece_terms ps) entries ∙ length-terms
 
-    read : entry_trees es ≡ piece_terms ps
-    read = entry_trees-is (piece_terms ps) es entries
+    read : entry_trees rs es ≡ piece_terms ps
+    read = entry_trees-is rs (piece_terms ps) es entries
 
-    pub entries_built : AreEntries es (entry_trees es)
-    entries_built = subst (AreEntries es) (sym read) entries
+    pub entries_built : AreEntries rs es (entry_trees rs es)
+    entries_built = subst (AreEntries rs es) (sym read) entries
 
-    pub ascending_built : IsStrictlySortedBy tree_cmp (entry_trees es)
+    pub ascending_built : IsStrictlySortedBy tree_cmp (entry_trees rs es)
     ascending_built = subst (IsStrictlySortedBy tree_cmp) (sym read) pieces.ascending
 
     from_table : (u : Tree) → In u (piece_terms ps) → In u (all_preorder (subject ∷ constants))
@@ -98,7 +99,7 @@ module _ (subject : Tree) (constants : List Tree) (text : Preorder)
         ∙ ap Some (first ∙ ap (λ l. term_in l 0) terms ∙ first-preorder subject constants)
 
     -- it is the table
-    pub table_built : IsTableOf subject constants (record { terms = entry_trees es; root = root })
+    pub table_built : IsTableOf subject constants (record { terms = entry_trees rs es; root = root })
     table_built = subst (λ l. IsTableOf subject constants (record { terms = l; root = root })) (sym read) (record {
       listing = record {
         exactly = λ u. (
@@ -112,7 +113,7 @@ module _ (subject : Tree) (constants : List Tree) (text : Preorder)
 
     -- and its terms are normal
     pub normal_built : (sig : Sig) → IsNormal sig subject → AllByRecursion (IsNormal sig) constants
-        → AllByRecursion (IsNormal sig) (entry_trees es)
+        → AllByRecursion (IsNormal sig) (entry_trees rs es)
     normal_built sig h k = subst (AllByRecursion (IsNormal sig)) (sym read) (all-from_in (IsNormal sig)
         (piece_terms ps) (λ u i. all_in (IsNormal sig) (all_preorder (subject ∷ constants)) u
         (normal_subterms sig (subject ∷ constants) (h, k)) (from_table u i)))

@@ -73,6 +73,21 @@ members-pushed f ks ys i d h a =
     members-more f (ks ++ k ∷ []) ys i d h (in-last k ks)
     (all-also (λ y. In (f y) ks) (λ y. In (f y) (ks ++ k ∷ [])) (λ y. in-front (f y) ks (k ∷ [])) (take i ys) a)
 
+in-between : {X : Type 0} (x y : X) (xs ys : List X) → In x (xs ++ ys) → In x ((xs ++ y ∷ []) ++ ys)
+in-between x y [] ys h = inr h
+in-between x y (z ∷ xs) ys (inl e) = inl e
+in-between x y (z ∷ xs) ys (inr h) = inr (in-between x y xs ys h)
+
+-- one item more whose key is put between
+pub members-between : {X Y : Type 0} (f : Y → X) (ks ls : List X) (ys : List Y) (i : ℕ) (d : Y) → i < length ys
+    → AllByRecursion (λ y. In (f y) (ks ++ ls)) (take i ys)
+    → AllByRecursion (λ y. In (f y) ((ks ++ f (get_or ys i d) ∷ []) ++ ls)) (take (i + 1) ys)
+members-between f ks ls ys i d h a =
+    let k = f (get_or ys i d) in
+    members-more f ((ks ++ k ∷ []) ++ ls) ys i d h (in-front k (ks ++ k ∷ []) ls (in-last k ks))
+    (all-also (λ y. In (f y) (ks ++ ls)) (λ y. In (f y) ((ks ++ k ∷ []) ++ ls)) (λ y. in-between (f y) k ks ls)
+    (take i ys) a)
+
 -- each key is a member
 pub from-keys : {X Y : Type 0} (f : Y → X) (ks : List X) (ys : List Y) → AllByRecursion (λ y. In (f y) ks) ys → (x : X)
     → In x (map f ys) → In x ks

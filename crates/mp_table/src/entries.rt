@@ -1,5 +1,5 @@
 //! The entries of a table.
-ghost use Rattle.std.specs.Prelude.{◌≡◌, ◌<◌, ◌^◌, map, length, IfOk, slice_index_or, []};
+ghost use Rattle.std.specs.Prelude.{◌≡◌, ◌<◌, ◌^◌, map, length, take, drop, IfOk, OnOk, slice_index_or, []};
 ghost use Rattle.std.specs.List.{AllByRecursion};
 ghost use Rattle.mp_term.specs.Tree.{symbol};
 ghost use Rattle.mp_term.specs.View.{tree};
@@ -15,6 +15,13 @@ use crate::rank::Rank;
 use mp_term::{Memory, Term};
 use std::alloc::Global;
 
+// The entries of a table, and the ranks of the arguments of all of them.
+#[derive(Drop)]
+pub(crate) struct Entries {
+    pub(crate) entries: Vec<Entry>,
+    pub(crate) args: Vec<Rank>,
+}
+
 // A copy of the term's head.
 fn head_of(alloc: Global, term: &Term) -> Result<OwnHead, Memory>
     ensures { IfOk result (λ h. with_head h (arguments (tree term.now)) ≡ tree term.now) }
@@ -25,43 +32,38 @@ fn head_of(alloc: Global, term: &Term) -> Result<OwnHead, Memory>
     }
 }
 
-// How many arguments the term has.
-fn arg_count(term: &Term) -> usize {
-    match term {
-        Term::Sym(_) => 0,
-        Term::App(_, args) => args.len(),
-    }
-}
-
-// The ranks of the arguments of the subterm at a place.
-fn ranks_of_args(
-    alloc: Global,
+// Adds the ranks of the arguments of the subterm at a place.
+fn push_ranks(
+    args: &mut Vec<Rank>,
     text: &Preorder<'_>,
     ranked: &Ranked<'_>,
     start: usize,
-) -> Result<Vec<Rank>, Memory>
+) -> Result<(), Memory>
     requires text { IsText text.now }
     requires pieces { ArePieces (shown text.now) ranked.now.pieces.items }
     requires short { length ranked.now.pieces.items < 2 ^ 32 }
     requires start { start < length text.now.nodes.items }
-    ensures terms { IfOk result
-        (λ rs. map (λ r. slice_index_or (piece_terms ranked.now.pieces.items) r.0 (symbol [])) rs.items
+    ensures kept { OnOk result (take (length args.old.items) args.new.items ≡ args.old.items) }
+    ensures terms { OnOk result
+        (map (λ r. slice_index_or (piece_terms ranked.now.pieces.items) r.0 (symbol []))
+        (drop (length args.old.items) args.new.items)
         ≡ arguments (slice_index_or (shown text.now) start (symbol []))) }
-    ensures within { IfOk result (λ rs. AllByRecursion (λ r. r.0 < length ranked.now.pieces.items) rs.items) }
+    ensures within { OnOk result (AllByRecursion (λ r. r.0 < length ranked.now.pieces.items)
+        (drop (length args.old.items) args.new.items)) }
 {
     let end = start + text.nodes[start] as usize;
-    let mut ranks = Vec::with_capacity(alloc, arg_count(text.terms[start]))?;
     let mut next = start + 1;
     while next < end {
-        ranks.push(rank_at(text, ranked, next))?;
+        args.push(rank_at(text, ranked, next))?;
         next += text.nodes[next] as usize;
     }
-    Ok(ranks)
+    Ok(())
 }
 
-// The entry of the subterm at a place.
+// The entry of the subterm at a place, the ranks of whose arguments are added.
 fn entry_of(
     alloc: Global,
+    args: &mut Vec<Rank>,
     text: &Preorder<'_>,
     ranked: &Ranked<'_>,
     start: usize,
@@ -70,29 +72,38 @@ fn entry_of(
     requires pieces { ArePieces (shown text.now) ranked.now.pieces.items }
     requires short { length ranked.now.pieces.items < 2 ^ 32 }
     requires start { start < length text.now.nodes.items }
-    ensures { IfOk result
-        (IsEntryOf (piece_terms ranked.now.pieces.items) (slice_index_or (shown text.now) start (symbol []))) }
+    ensures kept { OnOk result (take (length args.old.items) args.new.items ≡ args.old.items) }
+    ensures entry { IfOk result (IsEntryOf args.new.items (piece_terms ranked.now.pieces.items)
+        (slice_index_or (shown text.now) start (symbol []))) }
 {
     let head = head_of(alloc, text.terms[start])?;
-    let args = ranks_of_args(alloc, text, ranked, start)?;
+    let from = args.len();
+    push_ranks(args, text, ranked, start)?;
+    let end = args.len();
     let nodes = u64::from(text.nodes[start]);
-    Ok(Entry { head, args, nodes })
+    Ok(Entry {
+        head,
+        from,
+        end,
+        nodes,
+    })
 }
 
-// The entries of the subterms at the pieces.
+// The entries of the subterms at the pieces, with the ranks of all their arguments.
 pub(crate) fn entries_of(
     alloc: Global,
     text: &Preorder<'_>,
     ranked: &Ranked<'_>,
-) -> Result<Vec<Entry>, Memory>
+) -> Result<Entries, Memory>
     requires text { IsText text.now }
     requires pieces { ArePieces (shown text.now) ranked.now.pieces.items }
     requires short { length ranked.now.pieces.items < 2 ^ 32 }
-    ensures { IfOk result (λ es. AreEntries es.items (piece_terms ranked.now.pieces.items)) }
+    ensures { IfOk result (λ e. AreEntries e.args.items e.entries.items (piece_terms ranked.now.pieces.items)) }
 {
     let mut entries = Vec::with_capacity(alloc, ranked.pieces.len())?;
+    let mut args = Vec::with_capacity(alloc, text.nodes.len())?;
     for piece in &ranked.pieces {
-        entries.push(entry_of(alloc, text, ranked, piece.start)?)?;
+        entries.push(entry_of(alloc, &mut args, text, ranked, piece.start)?)?;
     }
-    Ok(entries)
+    Ok(Entries { entries, args })
 }

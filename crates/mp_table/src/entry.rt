@@ -1,5 +1,4 @@
 //! What a table keeps of each of its terms.
-use crate::rank::Rank;
 use mp_term::{Name, OpId};
 
 // What stands at the top of a term, owned.
@@ -9,10 +8,11 @@ pub(crate) enum OwnHead {
     App(OpId),
 }
 
-// A term: its head, the ranks of its arguments, and how many nodes it has.
+// A term: its head, where the ranks of its arguments begin and end in the list of all, and how many nodes it has.
 #[derive(Drop)]
 pub(crate) struct Entry {
     pub(crate) head: OwnHead,
-    pub(crate) args: Vec<Rank>,
+    pub(crate) from: usize,
+    pub(crate) end: usize,
     pub(crate) nodes: u64,
 }

@@ -31,7 +31,16 @@ struct Found<'a> {
     firsts: Vec<usize>,
 }
 
-// A piece for each subterm, as often as it occurs.
+// Whether the term is a symbol.
+fn is_symbol(term: &Term) -> bool {
+    match term {
+        Term::Sym(_) => true,
+        Term::App(_, _) => false,
+    }
+}
+
+// A piece for each subterm, as often as it occurs. Symbols are put first, as they come first in the term order: what is
+// nearly sorted takes few comparisons.
 fn all_pieces<'a>(alloc: Global, terms: &[&'a Term]) -> Result<Found<'a>, Memory>
     ensures pieces { IfOk result
         (λ f. AllByRecursion (IsPiece (map (λ t. tree t.now) terms.now)) f.pieces.items) }
@@ -39,9 +48,15 @@ fn all_pieces<'a>(alloc: Global, terms: &[&'a Term]) -> Result<Found<'a>, Memory
     ensures few { IfOk result (λ f. length f.pieces.items ≤ length terms.now) }
 {
     let mut pieces = Vec::with_capacity(alloc, terms.len())?;
+    let mut apps = Vec::with_capacity(alloc, terms.len())?;
     for (start, term) in terms.iter().enumerate() {
-        pieces.push(Piece { term: *term, start })?;
+        if is_symbol(*term) {
+            pieces.push(Piece { term: *term, start })?;
+            continue;
+        }
+        apps.push(Piece { term: *term, start })?;
     }
+    pieces.append(&mut apps)?;
     Ok(Found {
         pieces,
         firsts: Vec::new(alloc),

@@ -1,5 +1,5 @@
 //! Tables of terms.
-ghost use Rattle.std.specs.Prelude.{◌≡◌, ◌≤◌, ◌<◌, map, length, IfOk};
+ghost use Rattle.std.specs.Prelude.{◌≡◌, ◌≤◌, ◌<◌, [], ◌∷◌, map, length, IfOk};
 ghost use Rattle.std.specs.List.{AllByRecursion};
 ghost use Rattle.mp_term.specs.View.{tree};
 ghost use Rattle.mp_term.specs.Normal.{IsNormal};
@@ -17,6 +17,7 @@ use crate::rank::{Head, Rank};
 use mp_term::{MAX_TERM_NODES, Memory, Signature, Term, Terms};
 use std::alloc::Global;
 use std::marker::Model;
+use std::slice;
 
 /// The distinct subterms of a subject and of constants, ranked from 0 in the term order. Contracts see it as the record
 /// `Table` of `specs/Table.antt`, which holds the ascending list of these terms and the subject's rank. `IsTable` says
@@ -24,6 +25,7 @@ use std::marker::Model;
 #[derive(Drop)]
 pub struct Table {
     entries: Vec<Entry>,
+    args: Vec<Rank>,
     root: Rank,
 }
 
@@ -40,11 +42,11 @@ impl Model for Table {
 
     ghost use Rattle.mp_table.specs.Reading.{entry_trees, AreEntries};
 
-    ghost view = { λ t. record { terms = entry_trees t.entries.items; root = t.root.0 } };
+    ghost view = { λ t. record { terms = entry_trees t.args.items t.entries.items; root = t.root.0 } };
 
     ghost invariant = { λ t.
-        AreEntries t.entries.items (entry_trees t.entries.items)
-        × IsStrictlySortedBy tree_cmp (entry_trees t.entries.items)
+        AreEntries t.args.items t.entries.items (entry_trees t.args.items t.entries.items)
+        × IsStrictlySortedBy tree_cmp (entry_trees t.args.items t.entries.items)
         × (length t.entries.items < 2 ^ 32)
         × (t.root.0 < length t.entries.items) };
 }
@@ -73,8 +75,12 @@ impl Table {
         let text = collect(alloc, subject, constants)?;
         let ranked = distinct_pieces(alloc, &text.terms)?;
         let root = rank_at(&text, &ranked, 0);
-        let entries = entries_of(alloc, &text, &ranked)?;
-        Ok(Table { entries, root })
+        let made = entries_of(alloc, &text, &ranked)?;
+        Ok(Table {
+            entries: made.entries,
+            args: made.args,
+            root,
+        })
     }
 
     /// The number of terms. The clause `valid` says what holds of every table.
@@ -91,6 +97,14 @@ impl Table {
         ensures within { HasRank self.now result }
     {
         self.root
+    }
+
+    /// The subject's rank, as the list of it alone.
+    pub fn root_list(&self) -> &[Rank]
+        ensures ranks { result.now ≡ record { 0 = self.now.root } ∷ [] }
+        ensures within { HasRanks self.now result.now }
+    {
+        slice::from_ref(&self.root)
     }
 
     /// What stands at the top of the term of a rank, which must be below `len`.
@@ -110,7 +124,8 @@ impl Table {
         ensures terms { terms_at self.now result.now ≡ arguments (term_at self.now rank) }
         ensures within { HasRanks self.now result.now }
     {
-        &self.entries[rank.0 as usize].args
+        let entry = &self.entries[rank.0 as usize];
+        &self.args[entry.from..entry.end]
     }
 
     /// The number of nodes of the term of a rank, which must be below `len`.

@@ -8,7 +8,7 @@ use Rattle.mp_table.specs.Pieces.{piece_terms, IsPiece}
 use Rattle.mp_table.specs.Reading.{AreEntriesOf, IsEntryOf}
 use Rattle.mp_table.specs.Text.{shown}
 use Rattle.mp_table.proofs.PieceLaws.{piece_at}
-use Rattle.mp_table.proofs.ReadingLaws.{entries_push}
+use Rattle.mp_table.proofs.ReadingLaws.{entries_push, entries_kept}
 use Rattle.mp_table.proofs.entries.entries_of.Goals as goal
 
 pub loop-piece-preserved : goal.loop-piece-preserved
@@ -25,16 +25,19 @@ loop-piece-preserved c =
     ∙ piece_at os qs (subst (AllByRecursion (IsPiece os)) (sym same) c.requires.pieces.pieces) n
     c.piece-item.result c.loop-piece-test.true
     ∙ ap (λ (p : Piece). get_or os p.start (symbol [])) (sym c.piece-item.is) in
-    rw c.in_ok-push.ensures.items (subst (AreEntriesOf ts (c.loop-piece.entries.items ++ _ ∷ []))
+    let new = c.entry_of.new.args.items in
+    rw c.in_ok-push.ensures.items (subst (AreEntriesOf new ts (c.loop-piece.entries.items ++ _ ∷ []))
     (sym (take_more ts n (symbol []) (omega (arith, long, there))))
-    (entries_push ts c.loop-piece.entries.items (take n ts) _ (get_or ts n (symbol [])) c.loop-piece.invariant
-    (subst (λ u. IsEntryOf ts u c.in_ok-entry_of.field-0) (sym is) c.in_ok-entry_of.ensures)))
+    (entries_push new ts c.loop-piece.entries.items (take n ts) _ (get_or ts n (symbol []))
+    (entries_kept c.loop-piece.args.items new ts c.loop-piece.entries.items (take n ts) c.in_ok-entry_of.ensures.kept
+    c.loop-piece.invariant)
+    (subst (λ u. IsEntryOf new ts u c.in_ok-entry_of.field-0) (sym is) c.in_ok-entry_of.ensures.entry)))
 
 pub returns : goal.returns
 returns c =
     let ps = c.args.ranked.now.pieces.items in
     let ts = piece_terms ps in
-    subst (AreEntriesOf ts c.loop-piece.entries.items)
+    subst (AreEntriesOf c.loop-piece.args.items ts c.loop-piece.entries.items)
     (take_all c.loop-piece.piece-index ts (omega (
       arith,
       length-map ps (λ p. tree p.term.now),

@@ -1,5 +1,6 @@
-use Rattle.std.proofs.Common.{◌≡◌, map, take}
+use Rattle.std.proofs.Common.{◌+◌, ◌≤◌, ◌++◌, map, take, length}
 use Rattle.std.specs.List.{AllByRecursion}
+use Rattle.mp_term.specs.Listing.{In}
 use Rattle.mp_term.specs.View.{tree}
 use Rattle.mp_table.specs.Pieces.{piece_terms, IsPiece}
 use Rattle.mp_table.proofs.pieces.all_pieces.Given as goal
@@ -7,5 +8,8 @@ use Rattle.mp_table.proofs.pieces.all_pieces.Given as goal
 abbrev pub invariant-loop-start : goal.invariant-loop-start
 invariant-loop-start l = record {
   pieces : AllByRecursion (IsPiece (map (λ t. tree t.now) l.terms)) l.pieces.items;
-  all : piece_terms l.pieces.items ≡ map (λ t. tree t.now) (take l.start l.terms);
+  apps : AllByRecursion (IsPiece (map (λ t. tree t.now) l.terms)) l.apps.items;
+  all : AllByRecursion (λ t. In (tree t.now) (piece_terms l.pieces.items ++ piece_terms l.apps.items))
+      (take l.start l.terms);
+  few : length l.pieces.items + length l.apps.items ≤ l.start;
 }

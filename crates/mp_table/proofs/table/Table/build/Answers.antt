@@ -65,7 +65,8 @@ pub invariant_of-result : goal.invariant_of-result
 invariant_of-result c =
     let text = c.in_ok-text.text in
     let ps = c.in_ok-ranked.ranked.pieces.items in
-    let es = c.in_ok-entries.entries.items in
+    let rs = c.in_ok-made.made.args.items in
+    let es = c.in_ok-made.made.entries.items in
     let all = all_preorder (tree c.args.subject.now ∷ c.args.constants.now) in
     let terms = c.in_ok-text.ensures.terms in
     let counts = c.in_ok-text.ensures.nodes in
@@ -74,12 +75,12 @@ invariant_of-result c =
     let within = c.rank_at-root.ensures.within in
     let few = built.few_places text.nodes.items (tree c.args.subject.now) c.args.constants.now counts
     c.requires.subject_nodes c.requires.constant_nodes in
-    let long = built.length-built (tree c.args.subject.now) c.args.constants.now text terms counts ps pieces es
-    c.in_ok-entries.ensures c.rank_at-root.result.0 within c.rank_at-root.ensures.term in (
-      built.entries_built (tree c.args.subject.now) c.args.constants.now text terms counts ps pieces es
-          c.in_ok-entries.ensures c.rank_at-root.result.0 within c.rank_at-root.ensures.term,
-      built.ascending_built (tree c.args.subject.now) c.args.constants.now text terms counts ps pieces es
-          c.in_ok-entries.ensures c.rank_at-root.result.0 within c.rank_at-root.ensures.term,
+    let long = built.length-built (tree c.args.subject.now) c.args.constants.now text terms counts ps pieces rs es
+    c.in_ok-made.ensures c.rank_at-root.result.0 within c.rank_at-root.ensures.term in (
+      built.entries_built (tree c.args.subject.now) c.args.constants.now text terms counts ps pieces rs es
+          c.in_ok-made.ensures c.rank_at-root.result.0 within c.rank_at-root.ensures.term,
+      built.ascending_built (tree c.args.subject.now) c.args.constants.now text terms counts ps pieces rs es
+          c.in_ok-made.ensures c.rank_at-root.result.0 within c.rank_at-root.ensures.term,
       omega (
         arith,
         few,
@@ -100,7 +101,8 @@ returns-clause-table c =
     let pieces = subst (λ ts. ArePieces (map (λ t. tree t.now) ts) ps) c.deref.ensures.value
     c.in_ok-ranked.ensures.pieces in
     built.table_built (tree c.args.subject.now) c.args.constants.now c.in_ok-text.text c.in_ok-text.ensures.terms
-    c.in_ok-text.ensures.nodes ps pieces c.in_ok-entries.entries.items c.in_ok-entries.ensures
+    c.in_ok-text.ensures.nodes ps pieces c.in_ok-made.made.args.items
+    c.in_ok-made.made.entries.items c.in_ok-made.ensures
     c.rank_at-root.result.0 c.rank_at-root.ensures.within c.rank_at-root.ensures.term
 
 pub returns-clause-normal : goal.returns-clause-normal
@@ -109,6 +111,7 @@ returns-clause-normal c =
     let pieces = subst (λ ts. ArePieces (map (λ t. tree t.now) ts) ps) c.deref.ensures.value
     c.in_ok-ranked.ensures.pieces in
     built.normal_built (tree c.args.subject.now) c.args.constants.now c.in_ok-text.text c.in_ok-text.ensures.terms
-    c.in_ok-text.ensures.nodes ps pieces c.in_ok-entries.entries.items c.in_ok-entries.ensures
+    c.in_ok-text.ensures.nodes ps pieces c.in_ok-made.made.args.items
+    c.in_ok-made.made.entries.items c.in_ok-made.ensures
     c.rank_at-root.result.0 c.rank_at-root.ensures.within c.rank_at-root.ensures.term c.args.sig.now
     c.requires.normal_subject c.requires.normal_constants
