@@ -10,6 +10,7 @@ use Rattle.mp_pattern.specs.PatternTree.{patterns}
 use Rattle.mp_pattern.specs.Size.{pattern_nodes, all_pattern_nodes}
 use Rattle.mp_pattern.specs.Subpatterns.{subpatterns, all_subpatterns}
 use Rattle.mp_pattern.specs.View.{pattern_tree}
+use Rattle.mp_pattern.proofs.ItemLaws.{slice_get-found, slice_get-second}
 use Rattle.mp_term.specs.declared.term.OpId.{OpId}
 use Rattle.mp_search.proofs.PartLaws.{first-pattern}
 
@@ -28,18 +29,6 @@ some-nodes : (p : Pattern) → 1 ≤ pattern_nodes p
 some-nodes (symbol_pattern n) = omega arith
 some-nodes (app_pattern g ps) = omega arith
 some-nodes (wild_pattern w x) = omega arith
-
--- an item of the front of a list
-pub get-front : {X : Type 0} (xs ys : List X) (n : ℕ) (x : X) → slice_get xs n ≡ Some x
-    → slice_get (xs ++ ys) n ≡ Some x
-get-front [] ys n x e = cc
-get-front (y ∷ xs) ys zero x e = e
-get-front (y ∷ xs) ys (suc n) x e = get-front xs ys n x e
-
-get-behind : {X : Type 0} (xs ys : List X) (k n : ℕ) → n ≡ length xs + k → slice_get (xs ++ ys) n ≡ slice_get ys k
-get-behind [] ys k n e = ap (slice_get ys) (omega (arith, e))
-get-behind (x ∷ xs) ys k zero e = absurd (omega (arith, e))
-get-behind (x ∷ xs) ys k (suc n) e = get-behind xs ys k n (omega (arith, e))
 
 module _ (list : List declared.Pattern) (first : declared.Pattern) (some : 1 ≤ length list)
     (is : first ≡ slice_index_or list 0 first) where
@@ -72,14 +61,14 @@ module _ (list : List declared.Pattern) (first : declared.Pattern) (some : 1 ≤
       → slice_get (all list) n ≡ Some p
   inner-found zero p some e = absurd (some refl)
   inner-found (suc n) p some e = ap (λ ps. slice_get ps (suc n)) all-is
-      ∙ get-front (inner (pattern_tree first)) (all later) n p
+      ∙ slice_get-found (inner (pattern_tree first)) (all later) n p
       (subst (λ m. slice_get (inner (pattern_tree first)) m ≡ Some p) (omega arith) e)
 
   pub later-found : (n k : ℕ) → (n ≡ 0 → ⊥) → n - 1 ≡ length (inner (pattern_tree first)) + k
       → slice_get (all list) n ≡ slice_get (all later) k
   later-found zero k some e = absurd (some refl)
   later-found (suc n) k some e = ap (λ ps. slice_get ps (suc n)) all-is
-      ∙ get-behind (inner (pattern_tree first)) (all later) k n (omega (arith, e))
+      ∙ slice_get-second (inner (pattern_tree first)) (all later) k n (omega (arith, e))
 
   -- how many there are
   pub later-less : (n k l : ℕ) → (n ≡ 0 → ⊥) → n - 1 ≡ length (inner (pattern_tree first)) + k

@@ -43,7 +43,7 @@ use Rattle.mp_search.specs.Reading.{name_at, subst_of}
 use Rattle.mp_search.specs.Says.{Says}
 use Rattle.mp_search.specs.Wanted.{condition_of, good, IsComplete, AreComplete}
 use Rattle.mp_search.proofs.NumberLaws.{same-swapped, distinct-variables, numbered}
-use Rattle.mp_search.proofs.NumberedLaws.{plan_names}
+use Rattle.mp_search.proofs.NumberedLaws.{names}
 use Rattle.mp_search.proofs.SubstLaws.{value_of-subst_from}
 
 -- the form of a bound is that of its value
@@ -98,9 +98,9 @@ module _ (q : Query) (h : IsQuery q) (t : Trail)
       let zero_on : 0 + n ≡ n = omega arith in
       let stands : slice_get q.vars.now n ≡ Some n =
       ap (λ ws. slice_get ws n) plain ∙ slice_get-range (length vars) 0 n within ∙ ap Some zero_on in
-      let told = numbered q.vars.now vars (variables q.plan.now.pattern) n n v.name (plan_names q h)
+      let told = numbered q.vars.now vars (variables q.plan.now.pattern) n n v.name (names q h)
       (distinct-variables q.plan.now.pattern) h.distinct stands
-      (subst (λ ys. slice_get ys n ≡ Some v.name) (plan_names q h) (name-at vars n v e)) in
+      (subst (λ ys. slice_get ys n ≡ Some v.name) (names q h) (name-at vars n v e)) in
       value_of-subst_from q.table.now (name_at q) v.name n told.0 told.1 [] t.stack
     where
       name-at : (xs : List Variable) (n : ℕ) (v : Variable) → slice_get xs n ≡ Some v

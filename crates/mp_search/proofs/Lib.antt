@@ -6,7 +6,6 @@ pub mod ListsAbove
 pub mod Sublists
 pub mod DrawnLaws
 pub mod RankOrder
-pub mod NodeLaws
 pub mod NumberLaws
 pub mod SubstLaws
 pub mod NumberedLaws
@@ -28,6 +27,7 @@ pub mod PieceLaws
 pub mod FirstPlace
 pub mod PartLaws
 pub mod MatchLaws
+pub mod OwnItems
 pub mod LackLaws
 pub mod LastLaws
 pub mod MadeLaws
@@ -48,5 +48,6 @@ pub mod PortionLaws
 pub mod HeadedLaws
 pub mod PoolLaws
 pub mod PlacesLaws
+pub mod PartnerLaws
 pub mod TableLaws
 pub mod OneWayLaws

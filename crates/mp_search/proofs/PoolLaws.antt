@@ -39,10 +39,8 @@ use Rattle.mp_subst.proofs.BoundLaws.{sorted-terms, ranks_same}
 use Rattle.mp_theory.specs.Frames.{Frame}
 use Rattle.mp_theory.specs.Items.{items_by}
 use Rattle.mp_theory.specs.Machine.{choices}
-use Rattle.mp_theory.specs.MayMatch.{may_match}
 use Rattle.mp_theory.specs.OneList.{Item}
 use Rattle.mp_theory.proofs.Cuts.{count, IsAscending, ascends-from, ascends-sublist, sorted-from, sublist-from_counts}
-use Rattle.mp_theory.proofs.Matching.{matched}
 use Rattle.mp_theory.proofs.PoolLaws.{sublist-then}
 use Rattle.mp_theory.proofs.Walk.{choices-exact}
 use Rattle.mp_search.specs.declared.bounds.Bounds.{Bounds}
@@ -165,9 +163,8 @@ module _ (q : Query) (x : Site) (h : IsQuery q) (k : IsSite q x) (s : Subst) (b 
     among : is_sublist tree_cmp some_terms left ≡ true
     among = is_sublist-terms q.table.now h.table.ascending pool x.left.now held k.left ∙ part
 
-    -- the pool has enough of each term that the child may match, where that is looked at
-    has_enough : (z : Tree) (m : ℕ)
-        → (1 ≤ m → looks ≡ true → may_match q.sig.now s (above x.under) (pattern_tree x.child.now) z ≡ true)
+    -- the pool has enough of each term with which the child leads on, where that is looked at
+    has_enough : (z : Tree) (m : ℕ) → ((r : Rank) → z ≡ term_at q.table.now r → 1 ≤ m → MayTake q x s looks r)
         → b.uses * m ≤ count z left → m ≤ count z some_terms
     has_enough z zero w n = omega arith
     has_enough z (suc m) w n =
@@ -176,19 +173,21 @@ module _ (q : Query) (x : Site) (h : IsQuery q) (k : IsSite q x) (s : Subst) (b 
         let p = count-rank q.table.now h.table f.0 pool f.1 held in
         let there : b.uses * suc m ≤ occurrences f.0 x.left.now =
         subst (λ j. b.uses * suc m ≤ j) (ap (λ u. count u left) f.2 ∙ l) n in
-        let matches : MayTake q x s looks f.0 =
-        λ o. subst (λ u. may_match q.sig.now s (above x.under) (pattern_tree x.child.now) u ≡ true) f.2
-        (w (omega arith) o) in
-        omega (arith, enough f.0 (suc m) matches there, p, ap (λ u. count u some_terms) f.2)
+        omega (arith, enough f.0 (suc m) (w f.0 f.2 (omega arith)) there, p, ap (λ u. count u some_terms) f.2)
 
-    -- a choice with an item has none but such
-    entry-matches : (fs : List Frame) (j : ℕ) (e : Entry) (i : Item) (z : Tree)
+    -- with each term of a choice with an item it does
+    entry-leads : (fs : List Frame) (j : ℕ) (e : Entry) (i : Item) (z : Tree)
         → In e (choices q.sig.now (site_place q x fs)) → In i (items_by q.sig.now j (site_place q x fs) s e)
-        → 1 ≤ count z e.terms → looks ≡ true
-        → may_match q.sig.now s (above x.under) (pattern_tree x.child.now) z ≡ true
-    entry-matches fs j e i z c m n o =
-        let few : length e.terms ≤ 1 = omega (arith, single o, (a.lengths fs j e i c m).1) in
-        matched q.sig.now j (pattern_tree x.child.now) (site_frame q x) fs s e z i c m (alone e.terms few n)
+        → (r : Rank) → z ≡ term_at q.table.now r → 1 ≤ count z e.terms → MayTake q x s looks r
+    entry-leads fs j e i z c m r k n = λ o. record {
+      frames = fs;
+      count = j;
+      entry = e;
+      item = i;
+      choice = c;
+      found = m;
+      alone = alone e.terms (omega (arith, single o, (a.lengths fs j e i c m).1)) n ∙ ap (λ u. u ∷ []) k;
+    }
       where
         alone : (l : List Tree) → length l ≤ 1 → 1 ≤ count z l → l ≡ z ∷ []
         alone [] f n = absurd (omega (arith, n))
@@ -209,7 +208,7 @@ module _ (q : Query) (x : Site) (h : IsQuery q) (k : IsSite q x) (s : Subst) (b 
           let p = subst (λ c. is_piece tree_cmp c e.terms left ≡ true) g (there-item fs e c).0 in
           let sub = sublist-from_counts e.terms some_terms (ascends-sublist e.terms left p in_order)
           (ascends-sublist some_terms left among in_order)
-          (λ z. has_enough z (count z e.terms) (entry-matches fs j e i z c m) (a.counts fs j e i z c m)) in
+          (λ z. has_enough z (count z e.terms) (entry-leads fs j e i z c m) (a.counts fs j e i z c m)) in
           (among-exact tree_cmp tree_cmp_total tree_same true b.least b.most e.terms some_terms).1 (
             o.0,
             omega (arith, o.1, length-without tree_cmp tree_cmp_total tree_same e.terms some_terms sub),

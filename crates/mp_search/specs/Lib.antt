@@ -14,6 +14,7 @@ pub mod Says
 pub mod Shares
 pub mod Bounds
 pub mod Portion
+pub mod Partners
 pub mod At
 pub mod Lacking
 pub mod Tried

@@ -1,25 +1,38 @@
 -- Which ranks a child may take, and how often a rank stands in a list.
 use Rattle.std.specs.Prelude.{◌≡◌, ◌<◌, ◌≤◌, ℕ, ◌+◌, List, [], ◌∷◌, length, Bool, true, nat_eq, nat_lt, if◌then◌else◌}
-use Rattle.std.specs.Prelude.{slice_index_or, false, Option, Some, None, option_map, IfSome}
+use Rattle.std.specs.Prelude.{slice_index_or, false, Option, Some, None, option_map}
 use Rattle.std.specs.declared.cmp.Ordering.TheVariants.{Less, Equal, Greater}
 use Rattle.mp_term.specs.Order.{tree_cmp}
 use Rattle.mp_term.specs.Pieces.{same}
 use Rattle.mp_term.specs.Tree.{Tree, symbol, app, tree_list}
+use Rattle.mp_term.specs.Listing.{In}
+use Rattle.mp_pattern.specs.Fits.{Entry}
 use Rattle.mp_pattern.specs.Value.{Subst}
-use Rattle.mp_pattern.specs.View.{pattern_tree}
 use Rattle.mp_table.specs.Subterms.{arguments}
-use Rattle.mp_table.specs.Table.{Table, HasRank, term_at}
+use Rattle.mp_table.specs.Table.{Table, term_at}
 use Rattle.mp_table.specs.declared.rank.Rank.{Rank}
-use Rattle.mp_theory.specs.MayMatch.{may_match}
+use Rattle.mp_theory.specs.Frames.{Frame}
+use Rattle.mp_theory.specs.Items.{items_by}
+use Rattle.mp_theory.specs.Machine.{choices}
+use Rattle.mp_theory.specs.OneList.{Item}
 use Rattle.mp_search.specs.declared.headed.Group.{Group}
 use Rattle.mp_search.specs.declared.query.Query.{Query}
 use Rattle.mp_search.specs.declared.site.Site.{Site}
-use Rattle.mp_search.specs.Frames.{above}
+use Rattle.mp_search.specs.Site.{site_place}
 
--- the child may match the term of the rank, where that is looked at
+-- in some item that comes at the child over the substitution, it takes the term of the rank alone
+pub record LeadsOn (q : Query) (x : Site) (s : Subst) (r : Rank) : Type 0 where
+  pub frames : List Frame
+  pub count : ℕ
+  pub entry : Entry
+  pub item : Item
+  pub choice : In entry (choices q.sig.now (site_place q x frames))
+  pub found : In item (items_by q.sig.now count (site_place q x frames) s entry)
+  pub alone : entry.terms ≡ term_at q.table.now r ∷ []
+
+-- so it is, where that is looked at
 abbrev pub MayTake : Query → Site → Subst → Bool → Rank → Type 0
-MayTake q x s looks r = looks ≡ true
-    → may_match q.sig.now s (above x.under) (pattern_tree x.child.now) (term_at q.table.now r) ≡ true
+MayTake q x s looks r = looks ≡ true → LeadsOn q x s r
 
 -- once where the ranks are equal
 abbrev pub is_at : Rank → Rank → ℕ
@@ -65,10 +78,3 @@ abbrev pub second_is : Tree → List Tree → Bool
 second_is u [] = false
 second_is u (t ∷ []) = false
 second_is u (t ∷ v ∷ ts) = same tree_cmp u v
-
--- the second argument of each term that the child may match is that of the rank, if one is given
-pub record IsSecond (q : Query) (x : Site) (s : Subst) (second : Option Rank) : Type 0 where
-  pub within : IfSome second (HasRank q.table.now)
-  pub only : IfSome second (λ r. (f : Option ℕ) (t : Tree)
-      → may_match q.sig.now s f (pattern_tree x.child.now) t ≡ true
-      → second_is (term_at q.table.now r) (arguments t) ≡ true)

@@ -157,7 +157,7 @@ pub(crate) fn tells_more(query: &Query<'_>, trail: &Trail, child: &Pattern, node
 
 // Whether the place of a term among those that ascend tells of its first argument what a look may tell: the application
 // to the children can't be collapsed, and they take one argument each, the first one without looking into it.
-fn tells_first(sig: &Signature, op: OpId, children: &[Pattern]) -> bool
+pub(crate) fn tells_first(sig: &Signature, op: OpId, children: &[Pattern]) -> bool
     ensures { IsTrue result → (look.may_collapse sig.now op.0 (patterns (map pattern_tree children.now)) ≡ false)
         × (look.is_plain sig.now (Some op.0) (patterns (map pattern_tree children.now)) ≡ true) }
 {

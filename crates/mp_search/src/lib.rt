@@ -23,6 +23,7 @@ mod mode;
 mod next;
 mod node;
 mod own;
+mod partner;
 mod pieces;
 mod portion;
 mod prepare;

@@ -3,18 +3,17 @@ ghost use Rattle.std.specs.Prelude.{◌≡◌, ◌<◌, ◌≤◌, ◌+◌, ◌*
 ghost use Rattle.std.specs.Prelude.{true, IsTrue, IsFalse};
 ghost use Rattle.std.specs.List.Sorted.{IsSorted};
 ghost use Rattle.mp_term.specs.Pieces.{is_sublist};
-ghost use Rattle.mp_pattern.specs.View.{pattern_tree};
-ghost use Rattle.mp_table.specs.Table.{rank_cmp, HasRank, term_at};
+ghost use Rattle.mp_table.specs.Table.{rank_cmp, HasRank};
 ghost use Rattle.mp_table.specs.declared.rank.Rank.{Rank as plain_rank};
 ghost use Rattle.mp_subst.specs.Trail.{GoesWith};
-ghost use Rattle.mp_theory.specs.MayMatch.{may_match};
-ghost use Rattle.mp_search.specs.Frames.{above};
-ghost use Rattle.mp_search.specs.Portion.{occurrences, is_at, IsSecond, MayTake, StandBetween};
+ghost use Rattle.mp_search.specs.Partners.{IsSecond};
+ghost use Rattle.mp_search.specs.Portion.{occurrences, is_at, LeadsOn, MayTake, StandBetween};
 ghost use Rattle.mp_search.specs.Query.{IsQuery};
 ghost use Rattle.mp_search.specs.Reading.{subst_of};
 ghost use Rattle.mp_search.specs.Site.{IsSite};
 
 use crate::candidates::{has_second, may_match_there, places_of, second_rank, tells_more};
+use crate::partner::{has_partner, partners_of};
 use crate::query::Query;
 use crate::room::Room;
 use crate::site::Site;
@@ -37,20 +36,63 @@ fn has_portion(list: &[Rank], place: usize, rank: Rank, count: usize) -> bool
     list[place + (count - 1)].0 == rank.0
 }
 
-// Whether the child may take the term of the rank alone, which stands where it may stand: false says that it can't.
-// Where the second argument is given that it must have, no more is looked at.
-fn fits(query: &Query<'_>, site: &Site<'_>, trail: &Trail, second: Option<Rank>, rank: Rank) -> bool
+// What is known of the second argument of the child's term.
+#[derive(Clone, Copy)]
+pub(crate) enum Second<'a> {
+    // Nothing.
+    Any,
+    // It is the term of the rank, and no more is to be looked at.
+    Is(Rank),
+    // It is that of one of these terms, and no more is to be looked at.
+    Shared(&'a [Rank]),
+}
+
+// What is known of it, where terms are looked at.
+fn second_of<'a>(query: &Query<'_>, site: &Site<'a>, trail: &Trail, looks: bool) -> Second<'a>
+    requires query { IsQuery query.now }
+    requires site { IsSite query.now site.now }
+    requires trail { GoesWith query.now.table.now trail.now }
+    requires ascending { IsSorted rank_cmp site.now.left.now }
+    ensures { IsSecond query.now site.now (subst_of query.now trail.now) result }
+{
+    if !looks {
+        return Second::Any;
+    }
+    if let Some(rank) = second_rank(query, trail, site.child, site.node) {
+        return Second::Is(rank);
+    }
+    match partners_of(query, site, trail) {
+        None => Second::Any,
+        Some(ranks) => Second::Shared(ranks),
+    }
+}
+
+// Whether a look at a term may tell more of whether the child takes it than its place among those that ascend.
+fn tells(query: &Query<'_>, site: &Site<'_>, trail: &Trail, looks: bool, second: Second<'_>) -> bool
+    requires query { IsQuery query.now }
+    requires site { IsSite query.now site.now }
+    requires trail { GoesWith query.now.table.now trail.now }
+{
+    match second {
+        Second::Any => looks && tells_more(query, trail, site.child, site.node),
+        _ => true,
+    }
+}
+
+// Whether the child may take the term of the rank alone, which stands where it may stand: false says that it can't, or
+// that nothing is found where it does.
+fn fits(query: &Query<'_>, site: &Site<'_>, trail: &Trail, second: Second<'_>, rank: Rank) -> bool
     requires query { IsQuery query.now }
     requires site { IsSite query.now site.now }
     requires trail { GoesWith query.now.table.now trail.now }
     requires second { IsSecond query.now site.now (subst_of query.now trail.now) second }
     requires rank { HasRank query.now.table.now rank }
-    ensures { may_match query.now.sig.now (subst_of query.now trail.now) (above site.now.under)
-        (pattern_tree site.now.child.now) (term_at query.now.table.now rank) ≡ true → IsTrue result }
+    ensures { LeadsOn query.now site.now (subst_of query.now trail.now) rank → IsTrue result }
 {
     match second {
-        Some(second) => has_second(query.table, rank, second),
-        None => may_match_there(query, trail, site.under, site.child, site.node, rank),
+        Second::Any => may_match_there(query, trail, site.under, site.child, site.node, rank),
+        Second::Is(second) => has_second(query.table, rank, second),
+        Second::Shared(ranks) => has_partner(query.table, ranks, rank),
     }
 }
 
@@ -60,7 +102,7 @@ fn add_taken(
     site: &Site<'_>,
     trail: &Trail,
     looks: bool,
-    second: Option<Rank>,
+    second: Second<'_>,
     rank: Rank,
     room: &mut Room<Rank>,
 )
@@ -121,11 +163,11 @@ pub(crate) fn fill_portion(
 {
     let list = site.left;
     let (first, end) = places(query, site, trail, looks);
-    if count == 1 && !(looks && tells_more(query, trail, site.child, site.node)) {
+    let second = second_of(query, site, trail, looks);
+    if count == 1 && !tells(query, site, trail, looks, second) {
         room.refill(&list[first..end]);
         return;
     }
-    let second = second_rank(query, trail, site.child, site.node);
     room.clear();
     let mut place = first;
     while place < end {

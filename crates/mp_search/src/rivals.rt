@@ -13,6 +13,7 @@ ghost use Rattle.mp_search.specs.Site.{IsSite};
 use crate::candidates::places_of;
 use crate::end::end_of;
 use crate::may_match::{is_firm, is_plain, may_match};
+use crate::partner::are_alike;
 use crate::query::Query;
 use crate::site::Site;
 use mp_pattern::Pattern;
@@ -262,14 +263,6 @@ pub(crate) fn is_first(query: &Query<'_>, node: u32) -> bool {
     match query.plan.parent(node) {
         None => true,
         Some(parent) => node.saturating_sub(parent) == 1,
-    }
-}
-
-// Whether both are applications of one operation.
-fn are_alike(child: &Pattern, other: &Pattern) -> bool {
-    match (child, other) {
-        (Pattern::App(op, _), Pattern::App(own, _)) => op.0 == own.0,
-        _ => false,
     }
 }
 

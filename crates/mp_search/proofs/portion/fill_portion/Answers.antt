@@ -8,7 +8,6 @@ use Rattle.mp_search.specs.Reading.{subst_of}
 use Rattle.mp_search.proofs.HeadedLaws.{occurrences-drop, occurrences-none}
 use Rattle.mp_search.proofs.PortionLaws.{HasEnough, portion-kept, skip-part, skip-enough, enough-end, sub-front}
 use Rattle.mp_search.proofs.PortionLaws.{slice-enough}
-use Rattle.mp_search.proofs.PartLaws.{site-child}
 use Rattle.mp_search.proofs.RankOrder.{rank_total, rank_means}
 use Rattle.mp_search.proofs.Sublists.{sub-slice}
 use Rattle.mp_search.proofs.portion.fill_portion.Goals as goal
@@ -111,15 +110,15 @@ loop-place-init c =
       room = refl;
     }
 
-pub returns-then-not-tells_more-clause-part : goal.returns-then-not-tells_more-clause-part
-returns-then-not-tells_more-clause-part c =
+pub returns-then-not-tells-clause-part : goal.returns-then-not-tells-clause-part
+returns-then-not-tells-clause-part c =
     let xs = c.args.site.now.left.now in
     let first = c.places-first.result.0 in
     subst (λ rs. is_sublist rank_cmp rs xs ≡ true) (sym c.refill.ensures.items)
     (sub-slice rank_cmp rank_total rank_means first (c.places-first.result.1 - first) xs)
 
-pub returns-then-not-tells_more-clause-enough : goal.returns-then-not-tells_more-clause-enough
-returns-then-not-tells_more-clause-enough c = λ z m w k.
+pub returns-then-not-tells-clause-enough : goal.returns-then-not-tells-clause-enough
+returns-then-not-tells-clause-enough c = λ z m w k.
     let xs = c.args.site.now.left.now in
     let between = c.places-first.ensures.between in
     let first = c.places-first.result.0 in
@@ -128,9 +127,3 @@ returns-then-not-tells_more-clause-enough c = λ z m w k.
     (slice-enough z c.args.count xs first end c.if-count-eq1.true c.places-first.ensures.ordered
     (occurrences-drop z xs first (λ j a o e. between.before z j w a e))
     (occurrences-none z xs end (λ j a o e. between.behind z j w a o e)) m k)
-
-pub tells_more-requires-clause-child : goal.tells_more-requires-clause-child
-tells_more-requires-clause-child c = site-child c.args.query.now c.args.site.now c.requires.site
-
-pub second_rank-second-requires-clause-child : goal.second_rank-second-requires-clause-child
-second_rank-second-requires-clause-child c = site-child c.args.query.now c.args.site.now c.requires.site

@@ -7,6 +7,7 @@ use Rattle.mp_search.specs.Portion.{MayTake}
 use Rattle.mp_search.specs.Reading.{subst_of}
 use Rattle.mp_search.proofs.HeadedLaws.{between-fewer}
 use Rattle.mp_search.proofs.PartLaws.{site-child}
+use Rattle.mp_search.proofs.PartnerLaws.{leads-match}
 use Rattle.mp_search.proofs.portion.places.Goals as goal
 
 pub places_of-requires-clause-child : goal.places_of-requires-clause-child
@@ -19,4 +20,5 @@ returns-then-looks-clause-between c =
     let s = subst_of q c.args.trail.now in
     between-fewer (MayTake q x s c.args.looks)
     (λ r. may_match q.sig.now s (above x.under) (pattern_tree x.child.now) (term_at q.table.now r) ≡ true) x.left.now
-    c.places_of.result.0 c.places_of.result.1 (λ z w. w c.if-looks.true) (c.places_of.ensures.places (above x.under))
+    c.places_of.result.0 c.places_of.result.1 (λ z w. leads-match q x s z (w c.if-looks.true))
+    (c.places_of.ensures.places (above x.under))
