@@ -1,7 +1,7 @@
 -- Texts that are kept of the terms of a table, and one more.
 use Rattle.std.proofs.Common.{◌≡◌, ◌<◌, ℕ, zero, suc, List, [], ◌∷◌, ◌++◌, length, map, Some, inl, inr, refl, sym, ap}
 use Rattle.std.proofs.Common.{◌∙◌}
-use Rattle.std.specs.Prelude.{◌⊎◌, slice_get, slice_index_or}
+use Rattle.std.specs.Prelude.{◌⊎◌, codes, slice_get, slice_index_or}
 use Rattle.std.proofs.lemmas.List.{length-map, map-append}
 use Rattle.mp_io.specs.Devices.{Text}
 use Rattle.mp_term.specs.Signature.{Sig}
@@ -22,7 +22,7 @@ slice_get-pushed (z ∷ xs) x y (suc i) e =
 -- the text at the next rank is that of its term, or is empty
 pub AreKeptTexts-pushed : {X : Type 0} (text_of : X → Text) (sig : Sig) (t : Table) (xs : List X) (x : X) (n : ℕ)
     → length xs ≡ n → AreKeptTexts sig t (map text_of xs)
-    → (0 < length (text_of x) → text_of x ≡ term_text sig (slice_index_or t.terms n (symbol [])))
+    → (0 < length (text_of x) → text_of x ≡ codes ", " ++ term_text sig (slice_index_or t.terms n (symbol [])))
     → AreKeptTexts sig t (map text_of (xs ++ x ∷ []))
 AreKeptTexts-pushed text_of sig t xs x n next kept own r text at some =
     elim (slice_get-pushed (map text_of xs) (text_of x) text r.0
@@ -30,5 +30,6 @@ AreKeptTexts-pushed text_of sig t xs x n next kept own r text at some =
       | inl before ↦ kept r text before some
       | inr last ↦
           let here : n ≡ r.0 = sym (last.0 ∙ length-map xs text_of ∙ next) in
-          sym last.1 ∙ own (rw last.1 some) ∙ ap (λ k. term_text sig (slice_index_or t.terms k (symbol []))) here
+          sym last.1 ∙ own (rw last.1 some)
+          ∙ ap (λ k. codes ", " ++ term_text sig (slice_index_or t.terms k (symbol []))) here
     ]

@@ -1,6 +1,7 @@
 -- Texts with a separator between them, as a loop puts them, and the text of an application.
-use Rattle.std.proofs.Common.{◌≡◌, Bool, true, false, Option, None, append_assoc, append-nil, ℕ, ◌+◌, ◌<◌, ◌≤◌, List}
-use Rattle.std.proofs.Common.{[], ◌∷◌, ◌++◌, map, length, take, get_or, Some, refl, ap, sym, ◌∙◌, subst, arith}
+use Rattle.std.proofs.Common.{◌≡◌, Bool, true, false, Option, None, append_assoc, append-nil, ℕ, ◌+◌, ◌-◌, ◌<◌, ◌≤◌}
+use Rattle.std.proofs.Common.{List, [], ◌∷◌, ◌++◌, map, length, take, drop, get_or, Some, refl, ap, sym, ◌∙◌, subst}
+use Rattle.std.proofs.Common.{arith}
 use Rattle.std.specs.Prelude.{nat_le, if◌then◌else◌, codes}
 use Rattle.std.proofs.lemmas.List.{length-map, length-take-le, map-append, take-map, take_all, take_more}
 use Rattle.mp_io.specs.Devices.{Text}
@@ -12,20 +13,22 @@ use Rattle.mp_term.specs.declared.signature.OpDecl.{OpDecl}
 use Rattle.mp_print.specs.Printing.{separated, preceded, gap_text, prefix_text, infix_text, application_text}
 use Rattle.mp_print.specs.Printing.{front_text, separator_text, held_text}
 
+-- texts behind the separator, and one more behind them
+preceded-push : (separator : Text) (texts : List Text) (text : Text)
+    → preceded separator (texts ++ text ∷ []) ≡ preceded separator texts ++ (separator ++ text)
+preceded-push separator [] text = ap (λ l. separator ++ l) (append-nil text)
+preceded-push separator (next ∷ texts) text =
+    ap (λ l. separator ++ (next ++ l)) (preceded-push separator texts text)
+    ∙ ap (λ l. separator ++ l) (sym (append_assoc next (preceded separator texts) (separator ++ text)))
+    ∙ sym (append_assoc separator (next ++ preceded separator texts) (separator ++ text))
+
 -- the texts and one more behind them
 separated-push : (separator : Text) (texts : List Text) (text : Text)
     → separated separator (texts ++ text ∷ [])
     ≡ separated separator texts ++ (gap_text separator (length texts) ++ text)
 separated-push separator [] text = append-nil text
-separated-push separator (first ∷ texts) text = ap (λ l. first ++ l) (go texts)
+separated-push separator (first ∷ texts) text = ap (λ l. first ++ l) (preceded-push separator texts text)
     ∙ sym (append_assoc first (preceded separator texts) (separator ++ text))
-  where
-    go : (texts : List Text) → preceded separator (texts ++ text ∷ []) ≡ preceded separator texts ++ (separator ++ text)
-    go [] = ap (λ l. separator ++ l) (append-nil text)
-    go (next ∷ texts) =
-        ap (λ l. separator ++ (next ++ l)) (go texts)
-        ∙ ap (λ l. separator ++ l) (sym (append_assoc next (preceded separator texts) (separator ++ text)))
-        ∙ sym (append_assoc separator (next ++ preceded separator texts) (separator ++ text))
 
 -- what stands behind items and one more is a separator
 pub gap_text-pushed : {X : Type 0} (separator : Text) (xs : List X) (x : X)
@@ -46,16 +49,27 @@ Puts-pushed words separator texts text t u v w before gap item =
 module _ {K X : Type 0} (words : SinkWords K) (f : X → Text) (separator : Text) (xs : List X) (texts : List Text)
     (same : map f xs ≡ texts) where
   -- the texts before the next index
+  take-next : (i : ℕ) (x : X) → i < length xs → x ≡ get_or xs i x → take (i + 1) texts ≡ take i texts ++ f x ∷ []
+  take-next i x within is = ap (take (i + 1)) (sym same) ∙ take-map f (i + 1) xs
+      ∙ ap (map f) (take_more xs i x within ∙ ap (λ y. take i xs ++ y ∷ []) (sym is))
+      ∙ map-append f (take i xs) (x ∷ []) ∙ ap (λ l. l ++ f x ∷ []) (sym (take-map f i xs) ∙ ap (take i) same)
+
+  -- they, with the separator between each two
   separated-next : (i : ℕ) (x : X) → i < length xs → x ≡ get_or xs i x
       → separated separator (take (i + 1) texts) ≡ separated separator (take i texts) ++ (gap_text separator i ++ f x)
   separated-next i x within is =
-      let next : take (i + 1) texts ≡ take i texts ++ f x ∷ [] =
-      ap (take (i + 1)) (sym same) ∙ take-map f (i + 1) xs
-      ∙ ap (map f) (take_more xs i x within ∙ ap (λ y. take i xs ++ y ∷ []) (sym is))
-      ∙ map-append f (take i xs) (x ∷ []) ∙ ap (λ l. l ++ f x ∷ []) (sym (take-map f i xs) ∙ ap (take i) same) in
       let count : length (take i texts) ≡ i = length-take-le i texts (omega (arith, ap length same, length-map xs f)) in
-      ap (separated separator) next ∙ separated-push separator (take i texts) (f x)
+      ap (separated separator) (take-next i x within is) ∙ separated-push separator (take i texts) (f x)
       ∙ ap (λ n. separated separator (take i texts) ++ (gap_text separator n ++ f x)) count
+
+  -- the texts of the items before an index are put, each behind the separator, and then so is that of the item there
+  pub Puts-preceded : (i : ℕ) (x : X) → i < length xs → x ≡ get_or xs i x → (t u v : Writer K)
+      → Puts words t u (preceded separator (take i texts)) → Puts words u v (separator ++ f x)
+      → Puts words t v (preceded separator (take (i + 1) texts))
+  Puts-preceded i x within is t u v before item =
+      subst (Puts words t v)
+      (sym (ap (preceded separator) (take-next i x within is) ∙ preceded-push separator (take i texts) (f x)))
+      (Puts-then words t u v (preceded separator (take i texts)) (separator ++ f x) before item)
 
   -- the texts of the items before an index are put, then a gap, and then the text of the item there
   pub Puts-separated : (i : ℕ) (x : X) → i < length xs → x ≡ get_or xs i x → (t u v w : Writer K)
@@ -65,6 +79,20 @@ module _ {K X : Type 0} (words : SinkWords K) (f : X → Text) (separator : Text
       subst (Puts words t w) (sym (separated-next i x within is))
       (Puts-then words t u w (separated separator (take i texts)) (gap_text separator i ++ f x) before
       (Puts-then words u v w (gap_text separator i) (f x) gap item))
+
+  -- the text of the first item is put, and then those of the others, each behind the separator
+  pub Puts-first : (d : X) → 1 ≤ length xs → (t u v : Writer K) → Puts words t u (f (get_or xs 0 d))
+      → Puts words u v (preceded separator (map f (take (length xs - 1) (drop 1 xs))))
+      → Puts words t v (separated separator texts)
+  Puts-first d some t u v first rest = subst (Puts words t v) (go xs some ∙ ap (separated separator) same)
+      (Puts-then words t u v _ _ first rest)
+    where
+      go : (xs : List X) → 1 ≤ length xs
+          → f (get_or xs 0 d) ++ preceded separator (map f (take (length xs - 1) (drop 1 xs)))
+          ≡ separated separator (map f xs)
+      go [] h = absurd (omega arith)
+      go (x ∷ xs) h =
+          ap (λ l. f x ++ preceded separator (map f l)) (take_all (length (x ∷ xs) - 1) xs (omega arith))
 
   -- the texts of all items are put
   pub Puts-all : (i : ℕ) → length xs ≤ i → (t u : Writer K) → Puts words t u (separated separator (take i texts))

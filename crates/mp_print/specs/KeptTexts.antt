@@ -1,5 +1,5 @@
 -- Texts that are kept of the terms of a table.
-use Rattle.std.specs.Prelude.{◌≡◌, ◌<◌, List, length, slice_get, Some, refl}
+use Rattle.std.specs.Prelude.{◌≡◌, ◌<◌, ◌++◌, List, length, slice_get, Some, refl, codes}
 use Rattle.std.specs.Coded.{Coded, code_by, coded×}
 use Rattle.mp_io.specs.Devices.{Text}
 use Rattle.mp_term.specs.Signature.{Sig}
@@ -14,10 +14,10 @@ pub record RankTexts : Type 0 where
   pub sig : Sig
   pub table : Table
 
--- a text at the rank of a term is that of the term, or is empty
+-- a text at the rank of a term is that of the term behind a comma and a blank, or is empty
 abbrev pub AreKeptTexts : Sig → Table → List Text → Type 0
 AreKeptTexts sig t texts = (r : Rank) (text : Text) → slice_get texts r.0 ≡ Some text → 0 < length text
-    → text ≡ term_text sig (term_at t r)
+    → text ≡ codes ", " ++ term_text sig (term_at t r)
 
 -- a signature and a table as a pair that gives them back
 abbrev pub coded_rank_texts : Coded RankTexts

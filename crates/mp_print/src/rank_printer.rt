@@ -1,6 +1,6 @@
 //! Prints terms and values by ranks in a table. It takes no memory.
 
-ghost use Rattle.std.specs.Prelude.{◌≡◌, IfSome, map, option_map};
+ghost use Rattle.std.specs.Prelude.{◌≡◌, ◌++◌, ◌∷◌, [], IfSome, codes, map, option_map};
 ghost use Rattle.mp_io.specs.Moments.{sunk};
 ghost use Rattle.mp_io.specs.Printing.{Prints};
 ghost use Rattle.mp_io.specs.Writing.{Puts};
@@ -10,17 +10,17 @@ ghost use Rattle.mp_pattern.specs.Value.{one_form};
 ghost use Rattle.mp_table.specs.Table.{term_at};
 ghost use Rattle.mp_subst.specs.Bound.{bound_of, value_from, value_in};
 ghost use Rattle.mp_print.specs.KeptTexts.{AreKeptTexts};
-ghost use Rattle.mp_print.specs.Printing.{term_text, value_text};
+ghost use Rattle.mp_print.specs.Printing.{preceded, separated, term_text, value_text};
 
-use crate::tree_printer::{PrintedTree, put_application, put_enclosed, put_tree};
+use crate::tree_printer::{PrintedTree, put_application, put_tree};
 use mp_io::{Failed, Sink, Writer};
 use mp_pattern::Form;
 use mp_subst::Bound;
 use mp_table::{Head, Rank, Table};
 use mp_term::{OpId, Signature};
 
-/// What ranks are printed by: a table, and the texts that are kept of its terms, each at the rank of its term, with
-/// nothing where none is kept.
+/// What ranks are printed by: a table, and the texts that are kept of its terms, each at the rank of its term and
+/// behind a comma and a blank, with nothing where none is kept.
 #[derive(Drop)]
 pub(crate) struct RankBase<'a> {
     pub(crate) table: &'a Table,
@@ -36,30 +36,31 @@ impl<'a> RankBase<'a> {
         RankBase { table, texts: &[] }
     }
 
-    /// The text that is kept of the term of the rank, where there is one.
+    /// The text that is kept of the term of the rank, behind a comma and a blank, where there is one.
     fn kept_text(&self, rank: Rank) -> Option<&[u8]>
         ensures { IfSome result (λ text. (sig : Sig) →
             AreKeptTexts sig self.now.table.now (map (λ t. t.items) self.now.texts.now) →
-            text.now ≡ term_text sig (term_at self.now.table.now rank)) }
+            text.now ≡ codes ", " ++ term_text sig (term_at self.now.table.now rank)) }
     {
         let text = self.texts.get(rank.0 as usize)?;
         if text.is_empty() { None } else { Some(text) }
     }
 }
 
-/// Appends the text of the term of a rank to the sink, as `put_rank` puts it.
+/// Appends the text of the term of a rank to the sink, behind a comma and a blank.
 ///
 /// `Failed`: the sink's count of faults rose, and a front of the text was appended.
-pub(crate) fn write_rank<K: Sink>(
+pub(crate) fn write_next<K: Sink>(
     sig: &Signature,
     table: &Table,
     rank: Rank,
     sink: &mut K,
 ) -> Result<(), Failed>
-    ensures { Prints (sunk K.Sink sink.old sink.new) (term_text sig.now (term_at table.now rank)) result }
+    ensures { Prints (sunk K.Sink sink.old sink.new)
+        (codes ", " ++ term_text sig.now (term_at table.now rank)) result }
 {
     let mut out = Writer::new(sink);
-    put_rank(sig, table, rank, &mut out);
+    put_next(sig, &RankBase::plain(table), rank, &mut out);
     out.finish()
 }
 
@@ -85,7 +86,7 @@ impl<'a> PrintedTree<RankBase<'a>> for Rank {
         out: &mut Writer<'_, K>,
     ) -> Option<(OpId, &'t [Rank])> {
         if let Some(text) = base.kept_text(*self) {
-            out.put(text);
+            out.put(&text[2..]);
             return None;
         }
         if self.0 >= base.table.len() {
@@ -126,8 +127,8 @@ pub(crate) fn put_bound_by<K: Sink>(
 {
     match bound.form {
         Form::One => put_single(sig, base, bound.wrap, bound.ranks, out),
-        Form::Seq => put_enclosed(sig, base, b"(", bound.ranks, b")", out),
-        Form::Bag => put_enclosed(sig, base, b"{", bound.ranks, b"}", out),
+        Form::Seq => put_list(sig, base, b'(', bound.ranks, b')', out),
+        Form::Bag => put_list(sig, base, b'{', bound.ranks, b'}', out),
     }
 }
 
@@ -149,6 +150,66 @@ fn put_single<K: Sink>(
             if let Some(rank) = ranks.first() {
                 put_tree(sig, base, rank, out);
             }
+        }
+    }
+}
+
+/// Puts the texts of the terms of ranks between an opening and a closing, with a comma between each two.
+fn put_list<K: Sink>(
+    sig: &Signature,
+    base: &RankBase<'_>,
+    opening: u8,
+    ranks: &[Rank],
+    closing: u8,
+    out: &mut Writer<'_, K>,
+)
+    requires { AreKeptTexts sig.now base.now.table.now (map (λ t. t.items) base.now.texts.now) }
+    ensures { Puts K.Sink out.old out.new (opening ∷ (separated (codes ", ")
+        (map (λ r. term_text sig.now (term_at base.now.table.now r)) ranks.now) ++ closing ∷ [])) }
+{
+    out.put_byte(opening);
+    put_ranks(sig, base, ranks, out);
+    out.put_byte(closing);
+}
+
+/// Puts the texts of the terms of ranks, with a comma between each two.
+fn put_ranks<K: Sink>(sig: &Signature, base: &RankBase<'_>, ranks: &[Rank], out: &mut Writer<'_, K>)
+    requires { AreKeptTexts sig.now base.now.table.now (map (λ t. t.items) base.now.texts.now) }
+    ensures { Puts K.Sink out.old out.new (separated (codes ", ")
+        (map (λ r. term_text sig.now (term_at base.now.table.now r)) ranks.now)) }
+{
+    if let [first, rest @ ..] = ranks {
+        put_tree(sig, base, first, out);
+        put_all_next(sig, base, rest, out);
+    }
+}
+
+/// Puts the texts of the terms of ranks, each behind a comma and a blank.
+fn put_all_next<K: Sink>(
+    sig: &Signature,
+    base: &RankBase<'_>,
+    ranks: &[Rank],
+    out: &mut Writer<'_, K>,
+)
+    requires { AreKeptTexts sig.now base.now.table.now (map (λ t. t.items) base.now.texts.now) }
+    ensures { Puts K.Sink out.old out.new (preceded (codes ", ")
+        (map (λ r. term_text sig.now (term_at base.now.table.now r)) ranks.now)) }
+{
+    for rank in ranks {
+        put_next(sig, base, *rank, out);
+    }
+}
+
+/// Puts the text of the term of a rank behind a comma and a blank.
+fn put_next<K: Sink>(sig: &Signature, base: &RankBase<'_>, rank: Rank, out: &mut Writer<'_, K>)
+    requires { AreKeptTexts sig.now base.now.table.now (map (λ t. t.items) base.now.texts.now) }
+    ensures { Puts K.Sink out.old out.new (codes ", " ++ term_text sig.now (term_at base.now.table.now rank)) }
+{
+    match base.kept_text(rank) {
+        Some(text) => out.put(text),
+        None => {
+            out.put(b", ");
+            put_tree(sig, base, &rank, out);
         }
     }
 }

@@ -1,12 +1,12 @@
 //! The texts of the small terms of a table, each written once.
 
-ghost use Rattle.std.specs.Prelude.{◌≡◌, ◌<◌, IfOk, length};
+ghost use Rattle.std.specs.Prelude.{◌≡◌, ◌<◌, ◌++◌, IfOk, codes, length};
 ghost use Rattle.mp_io.specs.Writing.{Puts};
 ghost use Rattle.mp_subst.specs.Bound.{bound_of, value_in};
 ghost use Rattle.mp_table.specs.Table.{term_at, HasRank};
 ghost use Rattle.mp_print.specs.Printing.{term_text, value_text};
 
-use crate::rank_printer::{RankBase, put_bound_by, write_rank};
+use crate::rank_printer::{RankBase, put_bound_by, write_next};
 use crate::text::Text;
 use mp_io::{Sink, Writer};
 use mp_subst::Bound;
@@ -41,13 +41,14 @@ impl<'a> Model for RankTexts<'a> {
     ghost invariant = { λ r. AreKeptTexts r.sig.now r.table.now (map (λ t. t.items) r.texts.items) };
 }
 
-// The text of the term of a rank, and nothing where the term isn't small.
+// The text of the term of a rank behind a comma and a blank, and nothing where the term isn't small.
 fn small_text(alloc: Global, sig: &Signature, table: &Table, rank: Rank) -> Result<Vec<u8>, Memory>
     requires { HasRank table.now rank }
-    ensures { IfOk result (λ text. 0 < length text.items → text.items ≡ term_text sig.now (term_at table.now rank)) }
+    ensures { IfOk result (λ text. 0 < length text.items →
+        text.items ≡ codes ", " ++ term_text sig.now (term_at table.now rank)) }
 {
     let mut text = Text::new(alloc);
-    if table.nodes(rank) <= SMALL && write_rank(sig, table, rank, &mut text).is_err() {
+    if table.nodes(rank) <= SMALL && write_next(sig, table, rank, &mut text).is_err() {
         return Err(Memory);
     }
     Ok(text.bytes)

@@ -1,4 +1,4 @@
-use Rattle.std.proofs.Common.{◌≡◌, ◌≤◌, ◌∙◌, ap, sym, arith, refl}
+use Rattle.std.proofs.Common.{◌≡◌, ◌≤◌, ◌∙◌, ap, length, sym, arith, refl}
 use Rattle.std.specs.Prelude.{slice_get, sum_by}
 use Rattle.mp_term.specs.Tree.{app, trees}
 use Rattle.mp_term.specs.Size.{node_count, all_nodes}
@@ -7,6 +7,12 @@ use Rattle.mp_table.proofs.HeadLaws.{app_is}
 use Rattle.mp_print.specs.Printing.{term_text, term_texts}
 use Rattle.mp_print.proofs.Arguments.{sizes-sum, text-app}
 use Rattle.mp_print.proofs.rank_printer.RankPrintedTreeRankBase.put_leaf.Goals as goal
+
+pub slice_bounds-put-count : goal.slice_bounds-put-count
+slice_bounds-put-count g c = omega (arith, ap length (c.in-Some.ensures c.args.sig.now c.requires))
+
+pub slice_bounds-put-start : goal.slice_bounds-put-start
+slice_bounds-put-start g c = omega (arith, ap length (c.in-Some.ensures c.args.sig.now c.requires))
 
 pub returns-in-App-clause-text : goal.returns-in-App-clause-text
 returns-in-App-clause-text g c =
