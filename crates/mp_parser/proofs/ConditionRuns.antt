@@ -2,6 +2,7 @@
 use Rattle.std.proofs.Common.{◌≡◌, ℕ, ◌<◌, cond, List, [], ◌∷◌, Option, Some, None, Ok, true, false, refl, ap, sym}
 use Rattle.std.proofs.Common.{◌∙◌, arith, subst}
 use Rattle.std.specs.Prelude.{codes}
+use Rattle.std.specs.Borrow.{Bor}
 use Rattle.std.proofs.lemmas.Bool.{lt-leb}
 use Rattle.mp_parser.specs.declared.limits.TheConstants.{MAX_OPEN}
 use Rattle.mp_parser.specs.declared.token.Punct.TheVariants.{Open, OpenSquare, Semicolon}
@@ -166,8 +167,8 @@ whole-step x k v l t h = rw (h.0, h.1) refl
 -- ---- what calls give
 
 -- behind the pattern of a rule, and its template where it has one, stands what ends it
-pub behind-template : (o : Option Expr) (t : Placed) (old new : List Placed) → TemplateGives t.token (Ok o) old new
-    → (done : List Statement) (name : Spot) (pattern : Tree)
+pub behind-template : (o : Option (Bor Expr)) (t : Placed) (old new : List Placed)
+    → TemplateGives t.token (Ok o) old new → (done : List Statement) (name : Spot) (pattern : Tree)
     → (at : State) × (run done (AfterExpr (InStatement (heading OfRule name)) [] pattern) old ≡ run done at new)
     × EndsRule t at name pattern (arrow_tree o)
 behind-template None t old new read done name pattern = (
@@ -176,7 +177,7 @@ behind-template None t old new read done name pattern = (
   ap (λ b. cond b (Go (BeforeExpr (InTemplate name pattern) [])) (step_rule name pattern None t.token)) read.1,
 )
 behind-template (Some e) t old new read done name pattern =
-    (AfterExpr (InTemplate name pattern) [] (expr_tree e), read done name pattern, refl)
+    (AfterExpr (InTemplate name pattern) [] (expr_tree e.now), read done name pattern, refl)
 
 -- behind these and the condition of the rule, where it has one, only the semicolon stands
 pub behind-if : (o : Option code.Condition) (t u : Placed) (ts us : List Placed) → IfGives t (Ok o) (t ∷ ts) (u ∷ us)

@@ -227,11 +227,11 @@ OperandsGive room first sign result old new = (done : List Statement) (x : Withi
 
 -- the arrow and the template of a rule are passed, where the arrow stands there, or the first fault is given; where it
 -- doesn't, the token that is held then is no arrow
-abbrev pub TemplateGives : Token → Result (Option Expr) SyntaxError → List Placed → List Placed → Type 0
+abbrev pub TemplateGives : Token → Result (Option (Bor Expr)) SyntaxError → List Placed → List Placed → Type 0
 TemplateGives t (Ok None) old new = (old ≡ new) × (is_arrow t ≡ false)
 TemplateGives t (Ok (Some e)) old new = (done : List Statement) (name : Spot) (pattern : Tree)
     → run done (AfterExpr (InStatement (heading OfRule name)) [] pattern) old
-    ≡ run done (AfterExpr (InTemplate name pattern) [] (expr_tree e)) new
+    ≡ run done (AfterExpr (InTemplate name pattern) [] (expr_tree e.now)) new
 TemplateGives t (Err e) old new = (done : List Statement) (name : Spot) (pattern : Tree)
     → Fails e (run done (AfterExpr (InStatement (heading OfRule name)) [] pattern) old)
 

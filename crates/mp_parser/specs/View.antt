@@ -1,5 +1,6 @@
 -- The Rust types of the syntax as plain data.
 use Rattle.std.specs.Prelude.{map, Option, Some, None}
+use Rattle.std.specs.Borrow.{Bor}
 use Rattle.mp_parser.specs.declared.word.Word as code_word
 use Rattle.mp_parser.specs.declared.word.InfixSign as code_sign
 use Rattle.mp_parser.specs.declared.token.Token as code_token
@@ -109,9 +110,9 @@ if_tree None = None
 if_tree (Some c) = Some (condition_tree c)
 
 -- the template as plain data, where there is one
-abbrev pub arrow_tree : Option Expr → Option Tree
+abbrev pub arrow_tree : Option (Bor Expr) → Option Tree
 arrow_tree None = None
-arrow_tree (Some e) = Some (expr_tree e)
+arrow_tree (Some e) = Some (expr_tree e.now)
 
 -- the position as plain data
 abbrev pub position_of : code_position.Position → Position
@@ -133,6 +134,6 @@ statement_tree (code_statements.Op name least more flags) =
     syntax.OpOf (spot_of name) (spot_of least) more (map flag_of flags.items)
 statement_tree (code_statements.Kind name members) = syntax.KindOf (spot_of name) (map spot_of members.items)
 statement_tree (code_statements.Rule name pattern template condition) =
-    syntax.RuleOf (spot_of name) (expr_tree pattern) (arrow_tree template) (if_tree condition)
+    syntax.RuleOf (spot_of name) (expr_tree pattern.now) (arrow_tree template) (if_tree condition)
 statement_tree (code_statements.Subject name term) = syntax.SubjectOf (spot_of name) (expr_tree term)
 statement_tree (code_statements.Edit name changes) = syntax.EditOf (spot_of name) (map change_tree changes.items)

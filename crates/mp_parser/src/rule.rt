@@ -15,7 +15,7 @@ use crate::tree::Expr;
 
 impl<'a> Parser<'a> {
     /// Reads the arrow and an expression, where the arrow is held.
-    pub fn template(&mut self, arena: &mut Arena<'a>) -> Result<Option<Expr<'a>>, SyntaxError>
+    pub fn template(&mut self, arena: &mut Arena<'a>) -> Result<Option<&'a Expr<'a>>, SyntaxError>
         ensures read { TemplateGives (token_of self.new.token.kind) result (ahead self.old) (ahead self.new) }
         ensures shorter { OnOk result (length (ahead self.new) ≤ length (ahead self.old)) }
     {
@@ -24,7 +24,7 @@ impl<'a> Parser<'a> {
         }
         self.advance();
         let template = self.expr(arena, MAX_OPEN)?;
-        Ok(Some(template))
+        Ok(Some(arena.bump.try_alloc(template)?))
     }
 
     /// Reads `if` and a condition, where `if` is held.

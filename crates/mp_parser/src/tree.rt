@@ -225,9 +225,9 @@ pub enum Statement<'a> {
         /// The name of the rule.
         name: Word<'a>,
         /// The expression behind the colon.
-        pattern: Expr<'a>,
+        pattern: &'a Expr<'a>,
         /// The expression behind the arrow, where there is one.
-        template: Option<Expr<'a>>,
+        template: Option<&'a Expr<'a>>,
         /// The condition behind `if`, where there is one.
         condition: Option<Condition<'a>>,
     },

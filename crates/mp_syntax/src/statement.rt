@@ -206,6 +206,7 @@ fn rule<'a>(parser: &mut Parser<'a>, arena: &mut Arena<'a>) -> Result<Statement<
     ensures shorter { OnOk result (length (ahead parser.new) ≤ length (ahead parser.old)) }
 {
     let (name, pattern) = named_expr(parser, arena)?;
+    let pattern = arena.bump.try_alloc(pattern)?;
     let template = parser.template(arena)?;
     let condition = parser.rule_condition(arena)?;
     parser.expect(Punct::Semicolon)?;

@@ -120,7 +120,7 @@ fn add_rule<'a>(
     draft: &mut Draft<'a>,
     name: Word<'a>,
     pattern: &Expr<'a>,
-    template: &Option<Expr<'a>>,
+    template: &Option<&Expr<'a>>,
     condition: &Option<Condition<'_>>,
 ) -> Result<(), TextError>
     ensures { (sig : Sig) (earlier : List syntax.Statement) → IsDraftOf sig earlier draft.old
@@ -235,7 +235,7 @@ fn add_statement<'a>(
             pattern,
             template,
             condition,
-        } => add_rule(alloc, draft, *name, pattern, template, condition),
+        } => add_rule(alloc, draft, *name, *pattern, template, condition),
         Statement::Subject { name, term } => add_subject(alloc, draft, *name, term),
         Statement::Edit { subject, changes } => add_edit(alloc, draft, *subject, changes),
     }

@@ -58,7 +58,7 @@ fn has_large_condition(condition: &Option<Condition<'_>>) -> bool
 pub fn is_large_rule(
     alloc: Global,
     pattern: &Expr<'_>,
-    template: &Option<Expr<'_>>,
+    template: &Option<&Expr<'_>>,
     condition: &Option<Condition<'_>>,
 ) -> Result<bool, AllocError>
     ensures { IfOk result
@@ -77,7 +77,7 @@ fn rule_results<'a>(
     alloc: Global,
     sig: &Signature,
     pattern: &Expr<'a>,
-    template: &Option<Expr<'a>>,
+    template: &Option<&Expr<'a>>,
     condition: &Option<Condition<'_>>,
 ) -> Result<(Option<Template>, Option<Cond>), TextError>
     ensures { Gives result
@@ -101,7 +101,7 @@ pub fn build_rule<'a>(
     sig: &Signature,
     name: Word<'_>,
     pattern: &Expr<'a>,
-    template: &Option<Expr<'a>>,
+    template: &Option<&Expr<'a>>,
     condition: &Option<Condition<'_>>,
 ) -> Result<Rule, TextError>
     ensures { Gives result

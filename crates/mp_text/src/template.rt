@@ -170,12 +170,12 @@ pub fn rule_template<'a>(
     alloc: Global,
     sig: &Signature,
     variables: &[Variable<'a>],
-    template: &Option<Expr<'a>>,
+    template: &Option<&Expr<'a>>,
 ) -> Result<Option<Template>, TextError>
     ensures { Gives result (arrow_faults (map variable_of variables.now) sig.now (arrow_tree template.now))
         (λ x. option_map template_tree x ≡ option_map (template_of sig.now) (arrow_tree template.now)) }
 {
-    match template {
+    match *template {
         None => Ok(None),
         Some(expr) => {
             let template = whole_template(alloc, sig, variables, expr)?;
@@ -185,10 +185,10 @@ pub fn rule_template<'a>(
 }
 
 /// The template of a rule, where it has one, is larger than it may be.
-pub fn has_large_template(template: &Option<Expr<'_>>) -> bool
+pub fn has_large_template(template: &Option<&Expr<'_>>) -> bool
     ensures { result ≡ has_large_template (arrow_tree template.now) }
 {
-    match template {
+    match *template {
         None => false,
         Some(expr) => is_large_template(expr),
     }

@@ -1,6 +1,8 @@
-use Rattle.std.proofs.Common.{◌∙◌}
-use Rattle.mp_parser.specs.Machine.{OfRule}
-use Rattle.mp_parser.specs.View.{placed, spot_of, expr_tree, arrow_tree}
+use Rattle.std.proofs.Common.{[], ◌∷◌, ◌++◌, sym, ◌∙◌}
+use Rattle.mp_parser.specs.Syntax.{RuleOf}
+use Rattle.mp_parser.specs.Machine.{OfRule, Top, run}
+use Rattle.mp_parser.specs.View.{placed, spot_of, expr_tree, arrow_tree, if_tree}
+use Rattle.mp_parser.specs.Parsing.{ahead}
 use Rattle.mp_parser.proofs.Runs.{breaks}
 use Rattle.mp_parser.proofs.ConditionRuns.{behind-template, behind-if}
 use Rattle.mp_syntax.proofs.statement.rule.Goals as goal
@@ -37,3 +39,5 @@ returns-clause-read c = λ done.
     (placed c.rule_condition.new.self.token) _ _ c.in_ok-condition.ensures.read c.in_ok-condition.ensures.ends done r.0
     name pattern (arrow_tree o) r.2 in
     c.in_ok-name.ensures.read done OfRule ∙ r.1 ∙ s.1 ∙ c.in_ok-expect.ensures.read done s.0 _ s.2
+    ∙ (λ i. run (done ++ RuleOf name (expr_tree (sym c.in_ok-pattern.ensures i)) (arrow_tree o)
+    (if_tree c.in_ok-condition.condition) ∷ []) Top (ahead c.expect.new.self))
