@@ -1,10 +1,10 @@
 -- The course of a walk before its first turn.
 use Rattle.std.proofs.Common.{◌≡◌, ℕ, zero, suc, List, [], ◌∷◌, refl, ap, sym, ◌∙◌, subst}
-use Rattle.std.proofs.Common.{arith, true, false}
+use Rattle.std.proofs.Common.{arith}
 use Rattle.std.specs.Prelude.{Option, Some, None, IsSome, IfSome}
 use Rattle.mp_term.specs.Signature.{Sig}
-use Rattle.mp_table.specs.Table.{Table, HasRank, term_at}
-use Rattle.mp_table.specs.declared.rank.Rank.{Rank}
+use Rattle.mp_pattern.specs.Variables.{comm_above}
+use Rattle.mp_table.specs.Table.{Table}
 use Rattle.mp_subst.specs.Trail.{Trail}
 use Rattle.mp_walk.specs.declared.frame.Frame.{Frame}
 use Rattle.mp_walk.specs.CodeForest.{forest_of, code_forest}
@@ -14,38 +14,32 @@ use Rattle.mp_walk.specs.Forests.{walk}
 use Rattle.mp_walk.specs.Instrs.{Instr, instr_at}
 use Rattle.mp_walk.specs.Levels.{state_of}
 use Rattle.mp_walk.specs.Trails.{numbered_subst}
-use Rattle.mp_walk.specs.OpenOnes.{opens, AreFrames, IsFrameAt}
+use Rattle.mp_walk.specs.OpenOnes.{above, open_of, opens, opens_at, AreFrames, IsFrame, IsFrameAt, IsPlaceBelow}
 use Rattle.mp_walk.specs.TokenMachine.{State, begin_state, token_steps, token_ends}
 use Rattle.mp_walk.specs.Walkable.{IsWalkable}
 use Rattle.mp_walk.specs.WalkView.{subject_of, IsFirstTarget}
 use Rattle.mp_walk.proofs.CodePaths.{instr-there}
 
--- the frame of the root
-abbrev pub root_frame : Rank → Frame
-root_frame r = record { under = None; rank = r; alone = true; taken = 0; owes = false; outer = None }
-
-pub begin-frames : (sig : Sig) (t : Table) (r : Rank) → HasRank t r → AreFrames sig t (root_frame r ∷ [])
-begin-frames sig t r h zero f e =
-    let same : root_frame r ≡ f = cc in
+-- the frame of the root alone
+pub begin-frames : (sig : Sig) (t : Table) (r : Frame) → IsFrame t r → r.under ≡ None → r.outer ≡ None
+    → AreFrames sig t (r ∷ [])
+begin-frames sig t r h under outer zero f e =
+    let same : r ≡ f = cc in
     subst (IsFrameAt sig t zero) same (record {
-      frame = record { rank = h; taken = omega arith };
-      ordered = refl;
-      outer = tt;
+      frame = h;
+      ordered = ap (λ u. comm_above sig (above u)) under;
+      outer = subst (IsPlaceBelow zero) (sym outer) tt;
     })
-begin-frames sig t r h (suc i) f e = cc
-
--- what is open at the beginning
-begin-opens : (t : Table) (r : Rank) → r.0 ≡ t.root
-    → opens t (root_frame r ∷ []) (Some 0) ≡ (begin_state (subject_of t)).open_ones
-begin-opens t r e = ap (λ (n : ℕ). (begin_state (term_at t (record { 0 = n }))).open_ones) e
+begin-frames sig t r h under outer (suc i) f e = cc
 
 -- the state at the beginning
-pub begin-state : (t : Table) (r : Rank) → r.0 ≡ t.root → (fs : List Frame) (u : Trail) → fs ≡ root_frame r ∷ []
-    → u.stack ≡ [] → state_of t fs (Some 0) u ≡ begin_state (subject_of t)
-begin-state t r h fs u frames none =
+pub begin-state : (t : Table) (r : Frame) → open_of t r ∷ [] ≡ (begin_state (subject_of t)).open_ones → r.outer ≡ None
+    → (fs : List Frame) (u : Trail) → fs ≡ r ∷ [] → u.stack ≡ []
+    → state_of t fs (Some 0) u ≡ begin_state (subject_of t)
+begin-state t r h outer fs u frames none =
     ap (λ gs. state_of t gs (Some 0) u) frames
-    ∙ ap (λ es. record { open_ones = opens t (root_frame r ∷ []) (Some 0); trail = numbered_subst t es }) none
-    ∙ ap (λ os. record { open_ones = os; trail = [] }) (begin-opens t r h)
+    ∙ ap (λ es. record { open_ones = opens t (r ∷ []) (Some 0); trail = numbered_subst t es }) none
+    ∙ ap (λ os. record { open_ones = os; trail = [] }) (ap (λ o. open_of t r ∷ opens_at [] o) outer ∙ h)
 
 pub begin-there : (code : List Instr) (o : Option ℕ) → IsFirstTarget code o → IfSome o (λ n. IsSome (instr_at code n))
 begin-there code None h = tt

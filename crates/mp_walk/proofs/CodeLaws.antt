@@ -1,16 +1,10 @@
 -- Tables of instructions with their plans.
-use Rattle.std.proofs.Common.{◌≡◌, ℕ, zero, suc, List, [], ◌∷◌, ◌++◌, length, refl, ap, sym, ◌∙◌, subst, true, false}
-use Rattle.std.proofs.Common.{arith, ◌<◌, ◌≤◌, ◌+◌, ◌⊎◌, inl, inr, get_or, nat_eq, length-append}
-use Rattle.std.proofs.lemmas.Bool.Decides.{nat_tests}
-use Rattle.std.proofs.lemmas.Cmp.{ranked}
-use Rattle.std.proofs.lemmas.List.Sorted.{searched}
-use Rattle.std.proofs.lemmas.Map.Keys.{Less-from_sorted}
-use Rattle.std.specs.Prelude.{None, Some, Result, Ok, Err, MatchResult, slice_get, if◌then◌else◌}
-use Rattle.std.specs.Cmp.{nat_cmp_is}
+use Rattle.std.proofs.Common.{◌≡◌, ℕ, zero, suc, List, [], ◌∷◌, ◌++◌, length, refl, ap, sym, ◌∙◌, subst}
+use Rattle.std.proofs.Common.{arith, ◌<◌, ◌≤◌, ◌+◌, ◌⊎◌, inl, inr, length-append}
+use Rattle.std.proofs.Math.ListN.{get_or-append}
+use Rattle.std.proofs.Math.Seq.{get_or-append_seam}
+use Rattle.std.specs.Prelude.{None, Some, slice_get, slice_index_or}
 use Rattle.std.specs.List.{AllByRecursion}
-use Rattle.std.specs.List.Sorted.{IsStrictlySortedBy, IsBinarySearchResult}
-use Rattle.std.specs.Ordering.{nat_cmp}
-use Rattle.std.specs.declared.cmp.Ordering.TheVariants.{Less}
 use Rattle.mp_term.specs.Signature.{Sig}
 use Rattle.mp_term.proofs.ListLaws.{all-also, all-append}
 use Rattle.mp_pattern.specs.NetTokenView.{net_token}
@@ -19,14 +13,14 @@ use Rattle.mp_pattern.specs.declared.net_token.NetToken.TheVariants.{Sym, Enter,
 use Rattle.mp_pattern.specs.declared.net_token.NetToken.TheVariants.{Counted, Comm}
 use Rattle.mp_pattern.specs.declared.pattern.Pattern as declared_pattern
 use Rattle.mp_pattern.specs.PatternTree.{Pattern}
+use Rattle.mp_pattern.proofs.ItemLaws.{slice_get-first, slice_get-second}
 use Rattle.mp_ac.specs.CommPlan.{IsNumberedPattern}
 use Rattle.mp_ac.specs.declared.comm_plan.CommPlan.{CommPlan}
-use Rattle.mp_walk.specs.Code.{IsPlanned, ArePlanned, plan_at}
+use Rattle.mp_walk.specs.Code.{IsPlanned, ArePlanned, plan_at, plan_of}
 use Rattle.mp_walk.specs.declared.code.Plans.{Plans}
 use Rattle.mp_walk.specs.Instrs.{Instr, instr_at}
 use Rattle.mp_walk.specs.SoundTokens.{IsSoundComm, IsSoundToken}
 use Rattle.mp_walk.specs.Walkable.{IsWalkable}
-use Rattle.mp_walk.proofs.ListLaws.{below_or_at, below_or_not}
 use Rattle.mp_walk.proofs.PathLaws.{token-sound}
 
 -- the pattern of a sound token can be prepared
@@ -37,101 +31,16 @@ numbered-sound sig p h = record {
   names = λ x i. let n = h.names x i in record { number = n.number; name = n.name; few = n.few };
 }
 
--- numbers that differ are told apart
-lesser : (m n : ℕ) → m < n → nat_eq m n ≡ false
-lesser m n h = let z : nat_eq m n ≡ false = grind (arith, nat_tests) in z
+-- the plan of a number stays where one more is put behind
+plan-stays : (ps : List CommPlan) (p : CommPlan) (n : ℕ) → n ≤ length ps → plan_of (ps ++ p ∷ []) n ≡ plan_of ps n
+plan-stays ps p zero h = refl
+plan-stays ps p (suc n) h = slice_get-first ps (p ∷ []) n (omega (arith, h))
 
-greater : (m n : ℕ) → n < m → nat_eq m n ≡ false
-greater m n h = let z : nat_eq m n ≡ false = grind (arith, nat_tests) in z
-
-equal : (m n : ℕ) → m ≡ n → nat_eq m n ≡ true
-equal m n h = let z : nat_eq m n ≡ true = grind (arith, nat_tests) in z
-
-differ : (m n : ℕ) → (m ≡ n → ⊥) → nat_eq m n ≡ false
-differ m n h = let z : nat_eq m n ≡ false = grind (arith, nat_tests) in z
-
--- numbers that ascend do so with a greater one behind them
-ascends-push : (ms : List ℕ) (n : ℕ) → IsStrictlySortedBy nat_cmp ms → AllByRecursion (λ m. m < n) ms
-    → IsStrictlySortedBy nat_cmp (ms ++ n ∷ [])
-unfolding IsStrictlySortedBy
-ascends-push [] n h k = (tt, tt)
-ascends-push (m ∷ ms) n h k = (
-  all-append (λ x. nat_cmp m x ≡ Less) ms (n ∷ []) h.0 (sym (nat_cmp_is m n Less k.0), tt),
-  ascends-push ms n h.1 k.1,
-)
-
--- no plan stands beside a number that is greater than all
-plan-later : (ms : List ℕ) (ps : List CommPlan) (n : ℕ) → AllByRecursion (λ m. m < n) ms → plan_at ms ps n ≡ None
-plan-later [] ps n h = refl
-plan-later (m ∷ ms) [] n h = refl
-plan-later (m ∷ ms) (p ∷ ps) n h = rw (lesser m n h.0) (plan-later ms ps n h.1)
-
--- what is put behind the others stands beside its number
-plan-pushed : (ms : List ℕ) (ps : List CommPlan) (n : ℕ) (p : CommPlan) → length ms ≡ length ps
-    → AllByRecursion (λ m. m < n) ms → plan_at (ms ++ n ∷ []) (ps ++ p ∷ []) n ≡ Some p
-plan-pushed [] [] n p e h = rw (equal n n refl) refl
-plan-pushed [] (q ∷ ps) n p e h = absurd (omega (arith, e))
-plan-pushed (m ∷ ms) [] n p e h = absurd (omega (arith, e))
-plan-pushed (m ∷ ms) (q ∷ ps) n p e h = rw (lesser m n h.0) (plan-pushed ms ps n p (omega (arith, e)) h.1)
-
--- and the others stay
-plan-stays : (ms : List ℕ) (ps : List CommPlan) (n k : ℕ) (p : CommPlan) → length ms ≡ length ps → k < n
-    → plan_at (ms ++ n ∷ []) (ps ++ p ∷ []) k ≡ plan_at ms ps k
-plan-stays [] [] n k p e h = rw (greater n k h) refl
-plan-stays [] (q ∷ ps) n k p e h = absurd (omega (arith, e))
-plan-stays (m ∷ ms) [] n k p e h = absurd (omega (arith, e))
-plan-stays (m ∷ ms) (q ∷ ps) n k p e h =
-    ap (λ o. if nat_eq m k then Some q else o) (plan-stays ms ps n k p (omega (arith, e)) h)
-
--- the plan at the place of a number that ascends with the others
-plan-there : (ms : List ℕ) (ps : List CommPlan) (i n : ℕ) → IsStrictlySortedBy nat_cmp ms → i < length ms
-    → get_or ms i 0 ≡ n → plan_at ms ps n ≡ slice_get ps i
-unfolding IsStrictlySortedBy
-plan-there [] ps i n h l e = absurd (omega (arith, l))
-plan-there (m ∷ ms) [] i n h l e = refl
-plan-there (m ∷ ms) (p ∷ ps) zero n h l e = rw (equal m n e) refl
-plan-there (m ∷ ms) (p ∷ ps) (suc i) n h l e =
-    let less : m < n = subst (λ k. m < k) e
-    (ranked m (get_or ms i 0) Less (sym (less-at ms i m h.0 (omega (arith, l))))) in
-    rw (lesser m n less) (plan-there ms ps i n h.1 (omega (arith, l)) e)
-  where
-    less-at : (ms : List ℕ) (i m : ℕ) → AllByRecursion (λ x. nat_cmp m x ≡ Less) ms → i < length ms
-        → nat_cmp m (get_or ms i 0) ≡ Less
-    less-at [] i m h l = absurd (omega (arith, l))
-    less-at (x ∷ xs) zero m h l = h.0
-    less-at (x ∷ xs) (suc i) m h l = less-at xs i m h.1 (omega (arith, l))
-
--- no plan stands beside a number that isn't among them
-plan-nowhere : (ms : List ℕ) (ps : List CommPlan) (n : ℕ)
-    → ((k : ℕ) → k < length ms → get_or ms k 0 ≡ n → ⊥) → plan_at ms ps n ≡ None
-plan-nowhere [] ps n h = refl
-plan-nowhere (m ∷ ms) [] n h = refl
-plan-nowhere (m ∷ ms) (p ∷ ps) n h =
-    rw (differ m n (λ e. h 0 (omega arith) e))
-    (plan-nowhere ms ps n (λ k l e. h (suc k) (omega (arith, l)) e))
-
--- numbers that ascend rise
-rises : (ms : List ℕ) → IsStrictlySortedBy nat_cmp ms → (i j : ℕ) → i ≤ j → j < length ms
-    → get_or ms i 0 ≤ get_or ms j 0
-rises ms h i j l k = elim (below_or_at i j (omega (arith, l))) [
-  | inl b ↦ let less = ranked (get_or ms i 0) (get_or ms j 0) Less (sym (Less-from_sorted nat_cmp ms i j 0 h b k)) in
-      omega (arith, less)
-  | inr e ↦ subst (λ n. get_or ms i 0 ≤ get_or ms n 0) e (omega arith)
-]
-
--- where a search for a number ends there is the plan beside it
-pub plan-searched : (ms : List ℕ) (ps : List CommPlan) (n : ℕ) (r : Result ℕ ℕ) → IsStrictlySortedBy nat_cmp ms
-    → IsBinarySearchResult (λ m. nat_cmp m n) ms r
-    → MatchResult r (λ i. plan_at ms ps n ≡ slice_get ps i) (λ i. plan_at ms ps n ≡ None)
-plan-searched ms ps n (Ok i) h s =
-    let f = searched ms n (Ok i) s (rises ms h) in
-    plan-there ms ps i n h f.0 f.1
-plan-searched ms ps n (Err i) h s =
-    let f = searched ms n (Err i) s (rises ms h) in
-    plan-nowhere ms ps n (λ k l e. elim (below_or_not k i) [
-      | inl b ↦ let less = f.1 k b in absurd (omega (arith, less, e))
-      | inr b ↦ let less = f.2 k b l in absurd (omega (arith, less, e))
-    ])
+-- the number at a place
+number-at : (ns : List ℕ) (top k : ℕ) → AllByRecursion (λ n. n ≤ top) ns → slice_index_or ns k 0 ≤ top
+number-at [] top k h = omega arith
+number-at (n ∷ ns) top zero h = h.0
+number-at (n ∷ ns) top (suc k) h = number-at ns top k h.1
 
 -- a token that isn't that of a commutative application has no plan
 pub unplanned : (sig : Sig) (k : declared.NetToken) → ((p : declared_pattern.Pattern) → k ≡ Comm p → ⊥)
@@ -158,16 +67,11 @@ at-pushed (x ∷ is) i j (suc k) e = elim (at-pushed is i j k e) [
   | inr h ↦ inr (ap suc h.0, h.1)
 ]
 
-ascends-none : IsStrictlySortedBy nat_cmp []
-unfolding IsStrictlySortedBy
-ascends-none = tt
-
 -- the plans of no instructions
-pub none-planned : (sig : Sig) (x : Plans) → x.numbers.items ≡ [] → x.plans.items ≡ [] → ArePlanned sig [] x
-none-planned sig x m p = record {
-  ascending = rw m ascends-none;
+pub none-planned : (sig : Sig) (x : Plans) → x.numbers.items ≡ [] → ArePlanned sig [] x
+none-planned sig x m = record {
+  each = ap length m;
   within = rw m tt;
-  beside = ap length m ∙ sym (ap length p);
   planned = λ n i e. absurd (none-at n i e);
 }
   where
@@ -175,68 +79,66 @@ none-planned sig x m p = record {
     none-at zero i e = cc
     none-at (suc n) i e = cc
 
--- one instruction more, whose token has no plan
-pub more-unplanned : (sig : Sig) (is : List Instr) (i : Instr) (x : Plans) → IsPlanned sig i.token None
-    → ArePlanned sig is x → ArePlanned sig (is ++ i ∷ []) x
-more-unplanned sig is i x p h = record {
-  ascending = h.ascending;
-  within = all-also (λ n. n ≤ length is) (λ n. n ≤ length (is ++ i ∷ []))
-      (λ n l. omega (arith, l, length-append is (i ∷ []))) x.numbers.items h.within;
-  beside = h.beside;
-  planned = at-number;
-}
-  where
-    at-number : (n : ℕ) (j : Instr) → instr_at (is ++ i ∷ []) n ≡ Some j
-        → IsPlanned sig j.token (plan_at x.numbers.items x.plans.items n)
-    at-number zero j e = cc
-    at-number (suc k) j e = elim (at-pushed is i j k e) [
-      | inl s ↦ h.planned (suc k) j s.0
-      | inr s ↦
-          let l = s.0 in
-          subst (λ (o : Instr). IsPlanned sig o.token (plan_at x.numbers.items x.plans.items (suc k))) s.1
-          (subst (IsPlanned sig i.token) (sym (plan-later x.numbers.items x.plans.items (suc k)
-          (all-also (λ n. n ≤ length is) (λ n. n < suc k) (λ n b. omega (arith, l, b)) x.numbers.items h.within))) p)
-    ]
+-- one instruction more, whose plan has the number, and perhaps one plan more
+module _ (sig : Sig) (is : List Instr) (i : Instr) (x y : Plans) (n : ℕ)
+    (numbers : y.numbers.items ≡ x.numbers.items ++ n ∷ []) (h : ArePlanned sig is x)
+    (more : length x.plans.items ≤ length y.plans.items) (top : n ≤ length y.plans.items)
+    (stays : (m : ℕ) → m ≤ length x.plans.items → plan_of y.plans.items m ≡ plan_of x.plans.items m)
+    (own : IsPlanned sig i.token (plan_of y.plans.items n)) where
+  planned-more : ArePlanned sig (is ++ i ∷ []) y
+  planned-more = record {
+    each = ap length numbers ∙ length-append x.numbers.items (n ∷ [])
+        ∙ ap (λ k. k + 1) h.each ∙ sym (length-append is (i ∷ []));
+    within = rw numbers (all-append (λ m. m ≤ length y.plans.items) x.numbers.items (n ∷ [])
+        (all-also (λ m. m ≤ length x.plans.items) (λ m. m ≤ length y.plans.items)
+        (λ m l. omega (arith, l, more)) x.numbers.items h.within) (top, tt));
+    planned = at-number;
+  }
+    where
+      at-number : (k : ℕ) (j : Instr) → instr_at (is ++ i ∷ []) k ≡ Some j
+          → IsPlanned sig j.token (plan_at y.numbers.items y.plans.items k)
+      at-number zero j e = cc
+      at-number (suc k) j e = elim (at-pushed is i j k e) [
+        | inl s ↦
+            let l = s.1 in
+            let same : slice_index_or y.numbers.items k 0 ≡ slice_index_or x.numbers.items k 0 =
+            ap (λ ns. slice_index_or ns k 0) numbers
+            ∙ get_or-append x.numbers.items (n ∷ []) 0 k (omega (arith, l, h.each)) in
+            subst (IsPlanned sig j.token)
+            (sym (ap (plan_of y.plans.items) same ∙ stays (slice_index_or x.numbers.items k 0)
+            (number-at x.numbers.items (length x.plans.items) k h.within))) (h.planned (suc k) j s.0)
+        | inr s ↦
+            let last : slice_index_or y.numbers.items k 0 ≡ n =
+            ap (λ ns. slice_index_or ns k 0) numbers
+            ∙ ap (λ m. slice_index_or (x.numbers.items ++ n ∷ []) m 0) (s.0 ∙ sym h.each)
+            ∙ get_or-append_seam x.numbers.items n [] 0 in
+            subst (λ (o : Instr). IsPlanned sig o.token (plan_at y.numbers.items y.plans.items (suc k))) s.1
+            (subst (λ m. IsPlanned sig i.token (plan_of y.plans.items m)) (sym last) own)
+      ]
 
--- one instruction more, whose plan is put beside its number
+-- one instruction more, whose token has no plan
+pub more-unplanned : (sig : Sig) (is : List Instr) (i : Instr) (x y : Plans)
+    → y.numbers.items ≡ x.numbers.items ++ 0 ∷ [] → y.plans ≡ x.plans → IsPlanned sig i.token None
+    → ArePlanned sig is x → ArePlanned sig (is ++ i ∷ []) y
+more-unplanned sig is i x y ns ps p h =
+    planned-more sig is i x y 0 ns h (rw ps (omega arith)) (omega arith) (λ m l. rw ps refl) p
+
+-- one instruction more, whose plan is put behind the others
 pub more-planned : (sig : Sig) (is : List Instr) (i : Instr) (x y : Plans) (p : CommPlan) (n : ℕ)
-    → n ≡ length is + 1 → y.numbers.items ≡ x.numbers.items ++ n ∷ [] → y.plans.items ≡ x.plans.items ++ p ∷ []
-    → IsPlanned sig i.token (Some p) → ArePlanned sig is x → ArePlanned sig (is ++ i ∷ []) y
+    → n ≡ length x.plans.items + 1 → y.numbers.items ≡ x.numbers.items ++ n ∷ []
+    → y.plans.items ≡ x.plans.items ++ p ∷ [] → IsPlanned sig i.token (Some p) → ArePlanned sig is x
+    → ArePlanned sig (is ++ i ∷ []) y
 more-planned sig is i x y p n c ns ps k h =
-    let below : AllByRecursion (λ m. m < n) x.numbers.items =
-    all-also (λ m. m ≤ length is) (λ m. m < n) (λ m l. omega (arith, l, c)) x.numbers.items h.within in
-    record {
-      ascending = rw ns (ascends-push x.numbers.items n h.ascending below);
-      within = rw ns (all-append (λ m. m ≤ length (is ++ i ∷ [])) x.numbers.items (n ∷ [])
-          (all-also (λ m. m ≤ length is) (λ m. m ≤ length (is ++ i ∷ []))
-          (λ m l. omega (arith, l, length-append is (i ∷ []))) x.numbers.items h.within)
-          (omega (arith, c, length-append is (i ∷ [])), tt));
-      beside = rw ns (rw ps (omega (
-        arith,
-        h.beside,
-        length-append x.numbers.items (n ∷ []),
-        length-append x.plans.items (p ∷ []),
-      )));
-      planned = λ m j e. rw ns (rw ps (at-number below m j e));
-    }
+    let many = ap length ps ∙ length-append x.plans.items (p ∷ []) in
+    planned-more sig is i x y n ns h (omega (arith, many)) (omega (arith, many, c))
+    (λ m l. ap (λ qs. plan_of qs m) ps ∙ plan-stays x.plans.items p m l)
+    (subst (IsPlanned sig i.token) (sym last) k)
   where
-    at-number : AllByRecursion (λ m. m < n) x.numbers.items → (m : ℕ) (j : Instr) → instr_at (is ++ i ∷ []) m ≡ Some j
-        → IsPlanned sig j.token (plan_at (x.numbers.items ++ n ∷ []) (x.plans.items ++ p ∷ []) m)
-    at-number below zero j e = cc
-    at-number below (suc m) j e = elim (at-pushed is i j m e) [
-      | inl s ↦
-          let l = s.1 in
-          subst (IsPlanned sig j.token)
-          (sym (plan-stays x.numbers.items x.plans.items n (suc m) p h.beside (omega (arith, l, c))))
-          (h.planned (suc m) j s.0)
-      | inr s ↦
-          let l = s.0 in
-          let same : n ≡ suc m = omega (arith, l, c) in
-          subst (λ o. IsPlanned sig j.token (plan_at (x.numbers.items ++ n ∷ []) (x.plans.items ++ p ∷ []) o)) same
-          (subst (IsPlanned sig j.token)
-          (sym (plan-pushed x.numbers.items x.plans.items n p h.beside below))
-          (subst (λ (o : Instr). IsPlanned sig o.token (Some p)) s.1 k))
-    ]
+    last : plan_of y.plans.items n ≡ Some p
+    last =
+        let e : n ≡ suc (length x.plans.items + 0) = omega (arith, c) in
+        ap (λ m. plan_of y.plans.items m) e ∙ ap (λ qs. slice_get qs (length x.plans.items + 0)) ps
+        ∙ slice_get-second x.plans.items (p ∷ []) 0 (length x.plans.items + 0) refl
 
 -- each token of a table that may be walked is sound
 pub tokens-sound : (sig : Sig) (code : List Instr) → IsWalkable sig code

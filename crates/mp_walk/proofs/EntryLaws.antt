@@ -16,6 +16,7 @@ use Rattle.mp_pattern.specs.Fits as fits
 use Rattle.mp_pattern.specs.Fits.{Entry}
 use Rattle.mp_pattern.specs.NetTokens.{NetToken, sym_token, enter_token, leave_token, wild_token, comm_token}
 use Rattle.mp_pattern.specs.NetTokenView.{net_token}
+use Rattle.mp_pattern.proofs.ItemLaws.{slice_get-found, slice_get-second}
 use Rattle.mp_table.specs.declared.rank.Rank.{Rank}
 use Rattle.mp_table.specs.Table.{Table, HasRanks, terms_at}
 use Rattle.mp_subst.specs.Trail.{Trail}
@@ -35,21 +36,6 @@ use Rattle.mp_walk.specs.WalkView.{nothing, ReadsAs}
 use Rattle.mp_walk.specs.Ways.{front_entry}
 use Rattle.mp_walk.proofs.LevelLaws.{first-below}
 use Rattle.mp_walk.proofs.WayLaws.{front-terms}
-
--- ---- lists
-
--- an item of the front of a list
-pub get-front : {X : Type 0} (xs ys : List X) (n : ℕ) (x : X) → slice_get xs n ≡ Some x
-    → slice_get (xs ++ ys) n ≡ Some x
-get-front [] ys n x e = cc
-get-front (y ∷ xs) ys zero x e = e
-get-front (y ∷ xs) ys (suc n) x e = get-front xs ys n x e
-
--- an item behind the front
-pub get-behind : {X : Type 0} (xs ys : List X) (m n : ℕ) → n + length xs ≡ m → slice_get (xs ++ ys) m ≡ slice_get ys n
-get-behind [] ys m n e = let h : m ≡ n = omega (arith, e) in ap (slice_get ys) h
-get-behind (x ∷ xs) ys zero n e = absurd (omega (arith, e))
-get-behind (x ∷ xs) ys (suc m) n e = get-behind xs ys m n (omega (arith, e))
 
 -- ---- what a token puts out
 
@@ -159,13 +145,13 @@ module _ (code : List Instr) (read : Level → Read) where
   among-found (k ∷ ls) zero l rest node d e s g =
       let same : k ≡ l = (let z : Some k ≡ Some l = e in cc) in
       let at : rest ≡ node = omega (arith, s) in
-      get-front (read_entries code (read k)) (table_read code (map read ls)) node d
+      slice_get-found (read_entries code (read k)) (table_read code (map read ls)) node d
       (subst (λ m. slice_get (read_entries code (read k)) m ≡ Some d) at
       (subst (λ j. slice_get (read_entries code (read j)) rest ≡ Some d) (sym same) g))
   among-found (k ∷ ls) (suc n) l rest node d e s g =
       let front = table_read code (map read (take n ls)) in
       let more = length-append (read_entries code (read k)) front in
-      get-behind (read_entries code (read k)) (table_read code (map read ls)) node (rest + length front)
+      slice_get-second (read_entries code (read k)) (table_read code (map read ls)) (rest + length front) node
       (omega (arith, s, more))
       ∙ among-found ls n l rest (rest + length front) d e refl g
 

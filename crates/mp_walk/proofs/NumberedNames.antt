@@ -1,6 +1,6 @@
 -- Variables that are named by their numbers: their names give the numbers back, and numbering them again changes
 -- nothing.
-use Rattle.std.proofs.Common.{◌≡◌, ℕ, zero, suc, ◌+◌, ◌<◌, List, [], ◌∷◌, ◌++◌, map, length, Bool, true, false}
+use Rattle.std.proofs.Common.{◌≡◌, ℕ, zero, suc, ◌+◌, ◌<◌, List, [], ◌∷◌, map, length, Bool, true, false}
 use Rattle.std.proofs.Common.{refl, ap, sym, ◌∙◌, ◌⊎◌, inl, inr, subst, arith}
 use Rattle.std.proofs.Common.{length-append}
 use Rattle.std.specs.Prelude.{Option, Some, None, ⊤, slice_get, if◌then◌else◌}
@@ -11,6 +11,7 @@ use Rattle.mp_pattern.specs.PatternTree.{Pattern, symbol_pattern, app_pattern, w
 use Rattle.mp_pattern.specs.PatternTree.{more_patterns}
 use Rattle.mp_pattern.specs.Value.{same_name}
 use Rattle.mp_pattern.specs.Variables.{Use, uses, all_uses, variables}
+use Rattle.mp_pattern.proofs.ItemLaws.{slice_get-first, slice_get-second}
 use Rattle.mp_pattern.proofs.NameLaws.{same_name-is, same_name-itself}
 use Rattle.mp_walk.specs.Walkable.{numbered_names}
 use Rattle.mp_theory.proofs.FirstItems.{in-firsts_after}
@@ -38,34 +39,20 @@ number_in-less (y ∷ ys) x i = by_test (same_name y x) refl i (λ j. number_in-
     by_test false e (inl p) go = (let wrong : false ≡ true = sym e ∙ (ap (same_name y) p ∙ same_name-itself y) in cc)
     by_test false e (inr j) go = let h = go j in omega arith
 
-length-numbered_names : (n : ℕ) → length (numbered_names n) ≡ n
+-- how many they are
+pub length-numbered_names : (n : ℕ) → length (numbered_names n) ≡ n
 length-numbered_names zero = refl
-length-numbered_names (suc n) = omega (
-  arith,
-  length-append (numbered_names n)
-      (numbered n ∷ []),
-  length-numbered_names n,
-)
-
--- what stands at a place of a list, in front of others
-at-front : (xs ys : List (List ℕ)) (k : ℕ) → k < length xs → slice_get (xs ++ ys) k ≡ slice_get xs k
-at-front [] ys k h = absurd (omega arith)
-at-front (x ∷ xs) ys zero h = refl
-at-front (x ∷ xs) ys (suc k) h = at-front xs ys k (omega arith)
-
-at-end : (xs : List (List ℕ)) (x : List ℕ) (k : ℕ) → k ≡ length xs → slice_get (xs ++ x ∷ []) k ≡ Some x
-at-end [] x zero h = refl
-at-end [] x (suc k) h = absurd (omega arith)
-at-end (y ∷ xs) x zero h = absurd (omega arith)
-at-end (y ∷ xs) x (suc k) h = at-end xs x k (omega arith)
+length-numbered_names (suc n) =
+    omega (arith, length-append (numbered_names n) (numbered n ∷ []), length-numbered_names n)
 
 numbered_names-at : (n k : ℕ) → k < n → slice_get (numbered_names n) k ≡ Some (numbered k)
 numbered_names-at zero k h = absurd (omega arith)
 numbered_names-at (suc n) k h = elim (below_or_last k n h) [
-  | inl l ↦ at-front (numbered_names n) (numbered n ∷ []) k
+  | inl l ↦ slice_get-first (numbered_names n) (numbered n ∷ []) k
       (let z : length (numbered_names n) ≡ n = length-numbered_names n in omega arith)
       ∙ numbered_names-at n k l
-  | inr e ↦ at-end (numbered_names n) (numbered n) k (e ∙ sym (length-numbered_names n))
+  | inr e ↦ slice_get-second (numbered_names n) (numbered n ∷ []) 0 k
+      (let z : length (numbered_names n) ≡ n = length-numbered_names n in omega (arith, e, z))
       ∙ ap (λ m. Some (numbered m)) (sym e)
 ]
   where

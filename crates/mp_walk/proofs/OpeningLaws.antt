@@ -1,13 +1,11 @@
 -- What a token takes from the open operation, as a frame counts it.
 use Rattle.std.proofs.Common.{◌≡◌, ◌≤◌, ◌<◌, ◌+◌, ◌++◌, ℕ, zero, suc, List, [], ◌∷◌, length, take, drop, Bool, true}
 use Rattle.std.proofs.Common.{false, not, ◌&&◌, ◌⊎◌, inl, inr, nat_eq, refl, ap, sym, ◌∙◌, subst, arith}
-use Rattle.std.specs.Prelude.{Option, Some, slice_get, slice_index_or, if◌then◌else◌}
-use Rattle.mp_term.specs.Tree.{Tree, symbol, app}
+use Rattle.std.specs.Prelude.{Option, Some, slice_get, slice_index_or}
+use Rattle.mp_term.specs.Tree.{Tree, symbol}
 use Rattle.mp_term.specs.Signature.{Sig, is_comm}
 use Rattle.std.proofs.lemmas.List.{length-append}
-use Rattle.mp_table.specs.Subterms.{arguments}
-use Rattle.mp_table.specs.Table.{Table, HasRank, term_at}
-use Rattle.mp_table.specs.declared.rank.Rank.{Rank}
+use Rattle.mp_table.specs.Table.{Table}
 use Rattle.mp_theory.specs.Machine as machine
 use Rattle.mp_pattern.specs.Variables.{comm_above}
 use Rattle.mp_walk.specs.declared.frame.Frame.{Frame}
@@ -187,42 +185,6 @@ module _ (sig : Sig) (t : Table) (fs : List Frame) (are : AreFrames sig t fs) (i
     opened-rest h = opens-rest ∙ sym (ap (λ os. opens_after k os way) (opens-is t sig fs are i f at)
         ∙ h (opens t fs f.outer))
 
--- the arguments of a term, and of a list of it alone
-arguments-alone : (u : Tree) → arguments u ≡ machine.arguments (u ∷ [])
-arguments-alone (symbol n) = refl
-arguments-alone (app g ts) = refl
-
--- the frame of an application that is entered
-pub opened-is : (t : Table) (g : OpId) (u : Rank) (way : ℕ) (outer : ℕ) (left : List Tree)
-    → left ≡ term_at t u ∷ drop 1 left
-    → open_of t (record {
-      under = Some g;
-      rank = u;
-      alone = nat_eq way 1;
-      taken = 0;
-      owes = nat_eq way 1;
-      outer = Some outer;
-    }) ≡ opened g.0 (first_entry left way)
-opened-is t g u way outer left e = by_way (nat_eq way 1)
-  where
-    front : take 1 left ≡ term_at t u ∷ []
-    front = ap (take 1) e
-
-    by_way : (b : Bool) → ◌≡◌ {A = Open} (record {
-      under = Some g.0;
-      left = if b then term_at t u ∷ [] else arguments (term_at t u);
-      owes = b;
-      plain = b && true;
-    }) (record {
-      under = Some g.0;
-      left = if b then take 1 left else machine.arguments (take 1 left);
-      owes = b;
-      plain = b;
-    })
-    by_way true = ap (λ l. record { under = Some g.0; left = l; owes = true; plain = true }) (sym front)
-    by_way false = ap (λ l. record { under = Some g.0; left = l; owes = false; plain = false })
-        (arguments-alone (term_at t u) ∙ ap machine.arguments (sym front))
-
 -- what stands at an index that is told by a value
 pub index-at : {X : Type 0} (xs : List X) (i : ℕ) (x : X) → i < length xs → x ≡ slice_index_or xs i x
     → slice_get xs i ≡ Some x
@@ -250,36 +212,27 @@ module _ (sig : Sig) (t : Table) (fs : List Frame) (are : AreFrames sig t fs) (i
     (at : slice_get fs i ≡ Some f)
     (g : OpId) (way : ℕ) (r : Frame) (frame : IsFrame t r)
     (is : open_of t r ≡ rest_by (enter_token g.0) (open_of t f) way)
-    (outer : r.outer ≡ f.outer) (under : r.under ≡ f.under) (u : Rank) (rank : HasRank t u)
-    (ordered : is_comm sig g.0 ≡ false)
-    (front : (open_of t f).left ≡ term_at t u ∷ drop 1 (open_of t f).left) where
-  abbrev pub entered : Frame
-  entered = record {
-    under = Some g;
-    rank = u;
-    alone = nat_eq way 1;
-    taken = 0;
-    owes = nat_eq way 1;
-    outer = Some (length fs);
-  }
-
-  pub opened-enter : opens t ((fs ++ r ∷ []) ++ entered ∷ []) (Some (length fs + 1))
+    (outer : r.outer ≡ f.outer) (under : r.under ≡ f.under) (ordered : is_comm sig g.0 ≡ false)
+    (e : Frame) (entered : IsFrame t e) (is-entered : open_of t e ≡ opened g.0 (first_entry (open_of t f).left way))
+    (entered-under : e.under ≡ Some g) (entered-outer : e.outer ≡ Some (length fs)) where
+  pub opened-enter : opens t ((fs ++ r ∷ []) ++ e ∷ []) (Some (length fs + 1))
       ≡ opens_after (enter_token g.0) (opens t fs (Some i)) way
   opened-enter =
-      ap (λ n. opens t ((fs ++ r ∷ []) ++ entered ∷ []) (Some n)) (sym (length-append fs (r ∷ [])))
-      ∙ opens-more t (fs ++ r ∷ []) entered
-      ∙ ap (λ o. o ∷ opens t (fs ++ r ∷ []) (Some (length fs)))
-      (opened-is t g u way (length fs) (open_of t f).left front)
+      ap (λ n. opens t ((fs ++ r ∷ []) ++ e ∷ []) (Some n)) (sym (length-append fs (r ∷ [])))
+      ∙ opens-more t (fs ++ r ∷ []) e
+      ∙ ap (λ o. o ∷ opens t (fs ++ r ∷ []) e.outer) is-entered
+      ∙ ap (λ p. opened g.0 (first_entry (open_of t f).left way) ∷ opens t (fs ++ r ∷ []) p) entered-outer
       ∙ ap (λ os. opened g.0 (first_entry (open_of t f).left way) ∷ os)
       (opens-rest sig t fs are i f at (enter_token g.0) way r frame is outer under)
       ∙ sym (ap (λ os. opens_after (enter_token g.0) os way) (opens-is t sig fs are i f at))
 
-  pub frames-enter : AreFrames sig t ((fs ++ r ∷ []) ++ entered ∷ [])
+  pub frames-enter : AreFrames sig t ((fs ++ r ∷ []) ++ e ∷ [])
   frames-enter =
-      frames-more sig t (fs ++ r ∷ []) entered
+      frames-more sig t (fs ++ r ∷ []) e
       (frames-rest sig t fs are i f at (enter_token g.0) way r frame is outer under)
       (record {
-        frame = record { rank = rank; taken = omega arith };
-        ordered = ordered;
-        outer = (let e = length-append fs (r ∷ []) in omega (arith, e));
+        frame = entered;
+        ordered = ap (λ u. comm_above sig (above u)) entered-under ∙ ordered;
+        outer = subst (IsPlaceBelow (length (fs ++ r ∷ []))) (sym entered-outer)
+            (let h = length-append fs (r ∷ []) in omega (arith, h));
       })

@@ -32,14 +32,12 @@ use Rattle.mp_pattern.specs.NetTokens.{number_in, numbered, renamed, all_renamed
 use Rattle.mp_walk.proofs.ByRule.{renamed-sequence, flat-same}
 use Rattle.mp_theory.proofs.FirstItems.{in-firsts_after}
 
-number-least : (vs : List (List ℕ)) (x : List ℕ) → number_in vs x ≤ length vs
-number-least [] x = omega arith
-number-least (v ∷ vs) x = elim (same_name v x) as
-    (λ b. (if b then 0 else number_in vs x + 1) ≤ length (v ∷ vs)) [
-      | true ↦ omega arith
-      | false ↦ omega
-          (arith, number-least vs x)
-    ]
+-- so many names stand before one at most
+pub number_in-most : (vs : List (List ℕ)) (x : List ℕ) → number_in vs x ≤ length vs
+number_in-most [] x = omega arith
+number_in-most (v ∷ vs) x = elim (same_name v x) as
+    (λ b. (if b then 0 else number_in vs x + 1) ≤ length (v ∷ vs))
+    [ true ↦ omega arith | false ↦ omega (arith, number_in-most vs x) ]
 
 -- known names have different numbers
 number-injective : (vs : List (List ℕ)) (x y : List ℕ) → In x vs → In y vs → number_in vs x ≡ number_in vs y → x ≡ y
@@ -76,7 +74,7 @@ module _ (sig : Sig) (vs : List (List ℕ)) (few : length vs < 2 ^ 64) where
           ≡ 118 ∷ decimal (number_in vs y) = same_name-is (new_name x) (new_name y) p in
           let d : decimal (number_in vs x) ≡ decimal (number_in vs y) = cc in
           let n : number_in vs x ≡ number_in vs y = decimal_injective (number_in vs x) (number_in vs y)
-          (omega (arith, number-least vs x)) (omega (arith, number-least vs y)) d in
+          (omega (arith, number_in-most vs x)) (omega (arith, number_in-most vs y)) d in
           let w : false ≡ true = sym q ∙ (ap (same_name x) (sym (number-injective vs x y i j n))
           ∙ same_name-itself x) in
           cc

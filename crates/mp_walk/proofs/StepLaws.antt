@@ -85,7 +85,13 @@ module _ (sig : Sig) (f : Open) (fs : List Open) (s u : Subst) (k : NetToken) (w
 
 -- the frame at a place
 abbrev pub no_frame : Frame
-no_frame = record { under = None; rank = record { 0 = 0 }; alone = false; taken = 0; owes = false; outer = None }
+no_frame = record {
+  under = None;
+  left = record { ref_ptr = (0, 0); now = [] };
+  plain = false;
+  owes = false;
+  outer = None;
+}
 
 abbrev pub frame_at : List Frame → ℕ → Frame
 frame_at fs i = slice_index_or fs i no_frame

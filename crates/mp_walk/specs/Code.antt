@@ -1,8 +1,6 @@
 -- What holds of a table of instructions that is ready to be walked.
-use Rattle.std.specs.Prelude.{◌≡◌, ◌≤◌, ⊤, ℕ, List, [], ◌∷◌, length, Option, Some, None, if◌then◌else◌, nat_eq}
+use Rattle.std.specs.Prelude.{◌≡◌, ◌≤◌, ⊤, ℕ, zero, suc, List, length, Option, Some, None, slice_get, slice_index_or}
 use Rattle.std.specs.List.{AllByRecursion}
-use Rattle.std.specs.List.Sorted.{IsStrictlySortedBy}
-use Rattle.std.specs.Ordering.{nat_cmp}
 use Rattle.mp_term.specs.Signature.{Sig}
 use Rattle.mp_pattern.specs.NetTokens.{NetToken, comm_token}
 use Rattle.mp_ac.specs.CommPlan.{IsCommPlanOf}
@@ -20,17 +18,20 @@ IsPlanned sig (comm_token p) None = ⊥
 IsPlanned sig k None = ⊤
 IsPlanned sig k (Some plan) = ⊥
 
--- the plan that stands beside the number
-abbrev pub plan_at : List ℕ → List CommPlan → ℕ → Option CommPlan
-plan_at [] ps n = None
-plan_at (m ∷ ms) [] n = None
-plan_at (m ∷ ms) (p ∷ ps) n = if nat_eq m n then Some p else plan_at ms ps n
+-- the plan of a number from 1, where 0 is the number of none
+abbrev pub plan_of : List CommPlan → ℕ → Option CommPlan
+plan_of ps zero = None
+plan_of ps (suc n) = slice_get ps n
 
--- the numbers ascend, and are those of instructions, each of which has its plan beside its number
+-- the plan of the instruction of a number from 1, where the number of the plan of each is given
+abbrev pub plan_at : List ℕ → List CommPlan → ℕ → Option CommPlan
+plan_at ns ps zero = None
+plan_at ns ps (suc n) = plan_of ps (slice_index_or ns n 0)
+
+-- each instruction has the number of its plan
 pub record ArePlanned (sig : Sig) (is : List Instr) (x : Plans) : Type 0 where
-  pub ascending : IsStrictlySortedBy nat_cmp x.numbers.items
-  pub within : AllByRecursion (λ n. n ≤ length is) x.numbers.items
-  pub beside : length x.numbers.items ≡ length x.plans.items
+  pub each : length x.numbers.items ≡ length is
+  pub within : AllByRecursion (λ n. n ≤ length x.plans.items) x.numbers.items
   pub planned : (n : ℕ) (i : Instr) → instr_at is n ≡ Some i
       → IsPlanned sig i.token (plan_at x.numbers.items x.plans.items n)
 

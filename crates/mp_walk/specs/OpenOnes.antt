@@ -1,12 +1,10 @@
 -- What contracts see of the operations that a walk has open.
-use Rattle.std.specs.Prelude.{◌≡◌, ◌≤◌, ◌<◌, ⊤, ℕ, false, ◌&&◌, List, [], ◌∷◌, ◌++◌, drop, length, Option, Some, None}
-use Rattle.std.specs.Prelude.{is_some, option_map, slice_get, slice_index_or, if◌then◌else◌}
+use Rattle.std.specs.Prelude.{◌≡◌, ◌<◌, ⊤, ℕ, false, List, [], ◌∷◌, ◌++◌, Option, Some, None}
+use Rattle.std.specs.Prelude.{option_map, slice_get, slice_index_or}
 use Rattle.mp_term.specs.Signature.{Sig}
 use Rattle.mp_pattern.specs.Variables.{comm_above}
-use Rattle.mp_term.specs.Tree.{Tree}
 use Rattle.mp_term.specs.declared.term.OpId.{OpId}
-use Rattle.mp_table.specs.Subterms.{arguments}
-use Rattle.mp_table.specs.Table.{Table, HasRank, term_at}
+use Rattle.mp_table.specs.Table.{Table, HasRanks, terms_at}
 use Rattle.mp_walk.specs.declared.frame.Frame.{Frame}
 use Rattle.mp_walk.specs.TokenMachine.{Open}
 
@@ -14,22 +12,17 @@ use Rattle.mp_walk.specs.TokenMachine.{Open}
 abbrev pub above : Option OpId → Option ℕ
 above f = option_map (λ g. g.0) f
 
--- what the children of the operation take together
-abbrev pub list_of : Table → Frame → List Tree
-list_of t f = if f.alone then term_at t f.rank ∷ [] else arguments (term_at t f.rank)
-
--- the table has the term, and no more is taken than there is
-pub record IsFrame (t : Table) (f : Frame) : Type 0 where
-  pub rank : HasRank t f.rank
-  pub taken : f.taken ≤ length (list_of t f)
+-- the table has the terms that are left
+abbrev pub IsFrame : Table → Frame → Type 0
+IsFrame t f = HasRanks t f.left.now
 
 -- the open operation of a frame
 abbrev pub open_of : Table → Frame → Open
 open_of t f = record {
   under = above f.under;
-  left = drop f.taken (list_of t f);
+  left = terms_at t f.left.now;
   owes = f.owes;
-  plain = f.alone && is_some f.under;
+  plain = f.plain;
 }
 
 -- the open operations from the one at a place outward, where these are known of each place

@@ -1,8 +1,6 @@
 //! Tables of instructions that are ready to be walked.
 ghost use Rattle.std.specs.Prelude.{◌≡◌, ◌≤◌, ◌++◌, ◌+◌, List, [], ◌∷◌, length, map, IfOk, IfSome, option_map};
 ghost use Rattle.std.specs.List.{AllByRecursion};
-ghost use Rattle.std.specs.List.Sorted.{IsStrictlySortedBy};
-ghost use Rattle.std.specs.Ordering.{nat_cmp};
 ghost use Rattle.mp_term.specs.Signature.{Sig};
 ghost use Rattle.mp_pattern.specs.NetTokenView.{net_token};
 ghost use Rattle.mp_pattern.specs.declared.limits.TheConstants.{MAX_PATTERN_NODES};
@@ -21,10 +19,11 @@ use mp_pattern::NetToken;
 use mp_term::{Memory, Signature};
 use std::alloc::Global;
 
-// The plans of the tokens of commutative applications, in order, and the numbers of the instructions that have them.
+// The plans of the tokens of commutative applications, in order, and for each instruction the number of its plan, from
+// 1: 0 where it has none.
 #[derive(Drop)]
 pub(crate) struct Plans {
-    pub(crate) numbers: Vec<usize>,
+    pub(crate) numbers: Vec<u32>,
     pub(crate) plans: Vec<CommPlan>,
 }
 
@@ -39,42 +38,42 @@ pub struct Code {
 }
 
 impl Plans {
-    // Adds the plan of the next instruction, which has the number, where its token has one.
-    fn add(
-        &mut self,
-        alloc: Global,
-        sig: &Signature,
-        number: usize,
-        token: &NetToken,
-    ) -> Result<(), Memory>
+    // Adds the next instruction, which has this token, with its plan, where it has one.
+    fn add(&mut self, alloc: Global, sig: &Signature, token: &NetToken) -> Result<(), Memory>
         requires { IsSoundToken sig.now (net_token token.now) }
         ensures { IfOk result (λ _. (is : List plain.Instr) (i : plain.Instr) → i.token ≡ net_token token.now
-            → number ≡ length is + 1 → ArePlanned sig.now is self.old → ArePlanned sig.now (is ++ i ∷ []) self.new) }
+            → ArePlanned sig.now is self.old → ArePlanned sig.now (is ++ i ∷ []) self.new) }
     {
         let NetToken::Comm(pattern) = token else {
+            self.numbers.push(0)?;
             return Ok(());
         };
+        if self.plans.len() >= u32::MAX as usize {
+            return Err(Memory);
+        }
+        self.numbers.push(self.plans.len() as u32 + 1)?;
         self.plans.push(CommPlan::new(alloc, sig, pattern)?)?;
-        self.numbers.push(number)?;
         Ok(())
     }
 
-    // The plan beside the number.
+    // The plan of the instruction of the number, from 1.
     fn at(&self, number: usize) -> Option<&CommPlan>
-        ensures { IsStrictlySortedBy nat_cmp self.now.numbers.items
-            → plan_at self.now.numbers.items self.now.plans.items number ≡ option_map (λ c. c.now) result }
+        ensures { plan_at self.now.numbers.items self.now.plans.items number ≡ option_map (λ c. c.now) result }
     {
-        match self.numbers.binary_search(&number) {
-            Ok(place) => self.plans.get(place),
-            Err(_) => None,
+        if number == 0 {
+            return None;
         }
+        let plan = *self.numbers.get(number - 1)?;
+        if plan == 0 {
+            return None;
+        }
+        self.plans.get(plan as usize - 1)
     }
 }
 
 // What the token of the instruction of the number takes of a trail's room at most, beside the terms that it takes.
 fn token_room(token: &NetToken, number: usize, plans: &Plans) -> u32
     requires narrow { token_nodes (net_token token.now) ≤ MAX_PATTERN_NODES }
-    requires ascending { IsStrictlySortedBy nat_cmp plans.now.numbers.items }
     requires planned { (sig : Sig) × IsPlanned sig (net_token token.now)
         (plan_at plans.now.numbers.items plans.now.plans.items number) }
     ensures { result ≡ token_room (net_token token.now) }
@@ -129,12 +128,13 @@ fn plans_of(alloc: Global, sig: &Signature, instrs: &[Instr]) -> Result<Plans, M
     requires { AllByRecursion (λ i. IsSoundToken sig.now i.token) (map plain_instr instrs.now) }
     ensures { IfOk result (ArePlanned sig.now (map plain_instr instrs.now)) }
 {
+    let numbers = Vec::with_capacity(alloc, instrs.len())?;
     let mut plans = Plans {
-        numbers: Vec::new(alloc),
+        numbers,
         plans: Vec::new(alloc),
     };
-    for (index, instr) in instrs.iter().enumerate() {
-        plans.add(alloc, sig, index + 1, &instr.token)?;
+    for instr in instrs {
+        plans.add(alloc, sig, &instr.token)?;
     }
     Ok(plans)
 }

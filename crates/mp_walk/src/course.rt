@@ -49,7 +49,7 @@ pub(crate) struct Course<'a> {
     pub(crate) alloc: Global,
     pub(crate) set: Setting<'a>,
     pub(crate) trail: Trail,
-    pub(crate) frames: Vec<Frame>,
+    pub(crate) frames: Vec<Frame<'a>>,
     pub(crate) levels: Vec<Level<'a>>,
     pub(crate) rooms: Vec<CommRoom>,
     pub(crate) place: Option<usize>,
@@ -81,7 +81,7 @@ impl<'a> Course<'a> {
         let nodes = set.table.nodes(root) as u32;
         let trail = Trail::new(alloc, MAX_VARIABLES as u32, nodes + set.code.room + 3)?;
         let mut frames = Vec::with_capacity(alloc, FEW)?;
-        frames.push(Frame::root(root))?;
+        frames.push(Frame::root(set.table))?;
         let levels = Vec::with_capacity(alloc, FEW)?;
         let target = first_target(set.code);
         Ok(Course {

@@ -28,7 +28,7 @@ fn front(ranks: &[Rank], count: usize) -> &[Rank]
 // What a token itself takes by a way of the open operation, and whether it is collapsed, where it takes something.
 fn own_entry<'t>(
     table: &'t Table,
-    frame: &'t Frame,
+    frame: &'t Frame<'_>,
     token: &NetToken,
     way: usize,
 ) -> Option<(&'t [Rank], bool)>
@@ -37,12 +37,11 @@ fn own_entry<'t>(
         MatchOption result (own ≡ [])
         (λ e. HasRanks table.now e.0.now × (own ≡ entry_read table.now (e.0.now, e.1) ∷ [])) }
 {
-    let left = frame.left(table);
     match token {
         NetToken::Leave(_) => None,
-        NetToken::Sym(_) => Some((front(left, 1), false)),
-        NetToken::Enter(_) | NetToken::Comm(_) => Some((front(left, 1), way == 1)),
-        _ => Some((front(left, way), false)),
+        NetToken::Sym(_) => Some((front(frame.left, 1), false)),
+        NetToken::Enter(_) | NetToken::Comm(_) => Some((front(frame.left, 1), way == 1)),
+        _ => Some((front(frame.left, way), false)),
     }
 }
 
@@ -66,7 +65,7 @@ fn below_entry<'t>(search: &'t CommSearch<'_>, node: u32) -> Result<(&'t [Rank],
 // What the node of the number takes among those of a token that is read; or how far it stands behind them.
 fn entry_in<'t>(
     table: &'t Table,
-    frames: &'t [Frame],
+    frames: &'t [Frame<'_>],
     token: &NetToken,
     level: &'t Level<'_>,
     node: u32,
@@ -99,7 +98,7 @@ fn entry_in<'t>(
 // What the node of the number takes among those of the tokens that are read.
 pub(crate) fn entry_among<'t>(
     set: Setting<'t>,
-    frames: &'t [Frame],
+    frames: &'t [Frame<'_>],
     levels: &'t [Level<'_>],
     node: u32,
 ) -> Option<(&'t [Rank], bool)>

@@ -1,80 +1,75 @@
 //! The operations that a walk has open.
-ghost use Rattle.std.specs.Prelude.{◌≡◌, ◌≤◌, ◌<◌, ◌+◌, ◌^◌, true, false, [], ◌∷◌, drop, length};
+ghost use Rattle.std.specs.Prelude.{◌≡◌, ◌≤◌, false, nat_eq, [], ◌∷◌, drop, length};
 ghost use Rattle.std.specs.Prelude.{None, Some};
 ghost use Rattle.std.specs.Prelude.{ℕ, List, MatchOption, IfSome};
 ghost use Rattle.std.specs.Str.{bytes_eq};
-ghost use Rattle.mp_table.specs.Table.{HasRank, HasRanks, term_at, terms_at};
+ghost use Rattle.mp_table.specs.Table.{HasRank, term_at};
 ghost use Rattle.mp_theory.specs.Frames.{is_done};
 ghost use Rattle.mp_walk.specs.OpenOnes.{IsFrame, open_of};
-ghost use Rattle.mp_walk.specs.Ways.{is_first_symbol};
+ghost use Rattle.mp_walk.specs.TokenMachine.{begin_state, opened};
+ghost use Rattle.mp_walk.specs.Ways.{first_entry, is_first_symbol};
+ghost use Rattle.mp_walk.specs.WalkView.{subject_of};
 
 use mp_table::{Head, Rank, Table};
-use mp_term::{Name, OpId};
-use std::slice;
+use mp_term::OpId;
 
-// An open operation: the term whose arguments its children take, or which they take alone, as at the root and where the
-// operation is collapsed; how many of these are taken; whether a child must be left out; and the place of the operation
-// around it.
+// An open operation: the terms that its children are still to take; whether it is collapsed, so that they take one term
+// alone; whether a child must be left out; and the place of the operation around it.
 #[derive(Clone, Copy)]
-pub(crate) struct Frame {
+pub(crate) struct Frame<'a> {
     pub(crate) under: Option<OpId>,
-    pub(crate) rank: Rank,
-    pub(crate) alone: bool,
-    pub(crate) taken: usize,
+    pub(crate) left: &'a [Rank],
+    pub(crate) plain: bool,
     pub(crate) owes: bool,
     pub(crate) outer: Option<usize>,
 }
 
-impl Frame {
-    // The frame of the root, whose child takes the term.
-    pub(crate) fn root(rank: Rank) -> Frame
-        ensures { result ≡ record { under = None; rank = rank; alone = true; taken = 0; owes = false; outer = None } }
+impl<'a> Frame<'a> {
+    // The frame of the root, whose child takes the table's subject.
+    pub(crate) fn root(table: &'a Table) -> Frame<'a>
+        ensures frame { IsFrame table.now result }
+        ensures open { open_of table.now result ∷ [] ≡ (begin_state (subject_of table.now)).open_ones }
+        ensures under { result.under ≡ None }
+        ensures outer { result.outer ≡ None }
     {
         Frame {
             under: None,
-            rank,
-            alone: true,
-            taken: 0,
+            left: table.root_list(),
+            plain: false,
             owes: false,
             outer: None,
         }
     }
 
-    // The frame of an application of the operation, whose children take the arguments of the term, or the term alone.
-    pub(crate) fn opened(op: OpId, rank: Rank, collapsed: bool, outer: usize) -> Frame
-        ensures { result
-            ≡ record {
-              under = Some op;
-              rank = rank;
-              alone = collapsed;
-              taken = 0;
-              owes = collapsed;
-              outer = Some outer;
-            } }
+    // The frame of an application of the operation in this one: its children take the arguments of the first term that
+    // is left, or that term alone, where it is collapsed.
+    pub(crate) fn entered(
+        &self,
+        table: &'a Table,
+        op: OpId,
+        collapsed: bool,
+        outer: usize,
+    ) -> Frame<'a>
+        requires frame { IsFrame table.now self.now }
+        requires some { 1 ≤ length (open_of table.now self.now).left }
+        ensures frame { IsFrame table.now result }
+        ensures open { (way : ℕ) → collapsed ≡ nat_eq way 1
+            → open_of table.now result ≡ opened op.0 (first_entry (open_of table.now self.now).left way) }
+        ensures under { result.under ≡ Some op }
+        ensures outer { result.outer ≡ Some outer }
     {
+        let left = if collapsed {
+            &self.left[..1]
+        } else {
+            table.args(self.left[0])
+        };
         Frame {
             under: Some(op),
-            rank,
-            alone: collapsed,
-            taken: 0,
+            left,
+            plain: collapsed,
             owes: collapsed,
             outer: Some(outer),
         }
-    }
-
-    // What the children are still to take.
-    pub(crate) fn left<'t>(&'t self, table: &'t Table) -> &'t [Rank]
-        requires { IsFrame table.now self.now }
-        ensures terms { terms_at table.now result.now ≡ (open_of table.now self.now).left }
-        ensures ranks { HasRanks table.now result.now }
-        ensures short { self.now.taken + length result.now < 2 ^ 64 }
-    {
-        let list = if self.alone {
-            slice::from_ref(&self.rank)
-        } else {
-            table.args(self.rank)
-        };
-        &list[self.taken..]
     }
 
     // The first term that is left, if there is one.
@@ -84,14 +79,15 @@ impl Frame {
             (λ r. (open_of table.now self.now).left ≡ term_at table.now r ∷ drop 1 (open_of table.now self.now).left) }
         ensures rank { IfSome result (HasRank table.now) }
     {
-        match self.left(table) {
+        let _ = table;
+        match self.left {
             [] => None,
             [first, ..] => Some(*first),
         }
     }
 
-    // The name of the first term that is left, if that is a symbol.
-    pub(crate) fn first_name<'t>(&self, table: &'t Table) -> Option<&'t Name>
+    // The bytes of the first term that is left, if that is a symbol.
+    pub(crate) fn first_name<'t>(&self, table: &'t Table) -> Option<&'t [u8]>
         requires { IsFrame table.now self.now }
         ensures { (name : List ℕ) → MatchOption result
             (is_first_symbol name (open_of table.now self.now).left ≡ false)
@@ -99,7 +95,7 @@ impl Frame {
     {
         let first = self.first(table)?;
         match table.head(first) {
-            Head::Sym(name) => Some(name),
+            Head::Sym(name) => Some(name.bytes()),
             Head::App(_) => None,
         }
     }
@@ -109,32 +105,32 @@ impl Frame {
         requires { IsFrame table.now self.now }
         ensures { result ≡ is_done (open_of table.now self.now).left self.now.owes }
     {
-        self.left(table).is_empty() && !self.owes
+        let _ = table;
+        self.left.is_empty() && !self.owes
     }
 
     // The frame once a child has taken so many terms.
-    pub(crate) fn behind(self, table: &Table, count: usize) -> Frame
+    pub(crate) fn behind(self, table: &Table, count: usize) -> Frame<'a>
         requires frame { IsFrame table.now self }
         requires count { count ≤ length (open_of table.now self).left }
         ensures frame { IsFrame table.now result }
         ensures open { open_of table.now result
-            ≡ record (open_of table.now self) { left = drop count (open_of table.now self).left } }
-        ensures outer { result.outer ≡ self.outer }
+            ≡ record (open_of table.now self.entry) { left = drop count (open_of table.now self.entry).left } }
+        ensures outer { result.outer ≡ self.entry.outer }
     {
-        // What is left is asked for what holds of its length.
-        let _ = self.left(table);
+        let _ = table;
         Frame {
-            taken: self.taken + count,
+            left: &self.left[count..],
             ..self
         }
     }
 
     // The frame once a child is left out.
-    pub(crate) fn settled(self, table: &Table) -> Frame
+    pub(crate) fn settled(self, table: &Table) -> Frame<'a>
         requires frame { IsFrame table.now self }
         ensures frame { IsFrame table.now result }
-        ensures open { open_of table.now result ≡ record (open_of table.now self) { owes = false } }
-        ensures outer { result.outer ≡ self.outer }
+        ensures open { open_of table.now result ≡ record (open_of table.now self.entry) { owes = false } }
+        ensures outer { result.outer ≡ self.entry.outer }
     {
         let _ = table;
         Frame {

@@ -158,7 +158,7 @@ fn bind(
 fn take_exactly(
     sig: &Signature,
     table: &Table,
-    frame: &Frame,
+    frame: &Frame<'_>,
     token: &NetToken,
     count: usize,
     trail: &mut Trail,
@@ -188,7 +188,7 @@ fn take_exactly(
     ensures kept { LiesOver table.now (count + 3) trail.old trail.new }
     ensures refused { IsFalse result → trail.new ≡ trail.old }
 {
-    let left = frame.left(table);
+    let left = frame.left;
     let ranks = &left[..count];
     if !gives(sig, table, frame.under, token, ranks) {
         return false;
@@ -205,13 +205,13 @@ fn greater(a: usize, b: usize) -> usize
 }
 
 // No front is taken by a sequence wildcard under an operation that is collapsed.
-fn is_barred(frame: &Frame, token: &NetToken) -> bool
+fn is_barred(frame: &Frame<'_>, token: &NetToken) -> bool
     requires wild { net_token token.now
         ≡ wild_token (shape_of (net_token token.now)) (number_of (net_token token.now)) }
     ensures { (t : plain_table.Table) →
         result ≡ ((open_of t frame.now).plain && is_sequence (shape_of (net_token token.now))) }
 {
-    frame.alone && frame.under.is_some() && is_sequence(token)
+    frame.plain && is_sequence(token)
 }
 
 // The length of the list that the variable of a sequence wildcard is bound to.
@@ -245,7 +245,7 @@ fn value_length(token: &NetToken, trail: &Trail) -> Option<usize>
 fn bounds(
     sig: &Signature,
     table: &Table,
-    frame: &Frame,
+    frame: &Frame<'_>,
     token: &NetToken,
     trail: &Trail,
 ) -> (usize, usize)
@@ -261,7 +261,7 @@ fn bounds(
     ensures within { result.1 ≤ length (open_of table.now frame.now).left }
     ensures short { result.1 + 1 < 2 ^ 64 }
 {
-    let room = frame.left(table).len();
+    let room = frame.left.len();
     match value_length(token, trail) {
         Some(length) => (length, length.min(room)),
         None => (least(token), most(sig, frame.under, token, room)),
@@ -272,7 +272,7 @@ fn bounds(
 pub(crate) fn is_behind(
     sig: &Signature,
     table: &Table,
-    frame: &Frame,
+    frame: &Frame<'_>,
     token: &NetToken,
     from: usize,
 ) -> bool
@@ -284,7 +284,7 @@ pub(crate) fn is_behind(
     ensures none { IsTrue result → (fs : List Open) (s : Subst)
         → HasNoWay sig.now (open_of table.now frame.now) fs s (net_token token.now) from }
 {
-    from > most(sig, frame.under, token, frame.left(table).len())
+    from > most(sig, frame.under, token, frame.left.len())
 }
 
 // Takes the first front of at least so many terms that the wildcard may take, and binds it: its length. None comes
@@ -292,7 +292,7 @@ pub(crate) fn is_behind(
 pub(crate) fn take_front(
     sig: &Signature,
     table: &Table,
-    frame: &Frame,
+    frame: &Frame<'_>,
     token: &NetToken,
     from: usize,
     trail: &mut Trail,

@@ -7,13 +7,17 @@ ghost use Rattle.mp_walk.specs.InstrView.{plain_instr};
 use crate::copy::copy_token;
 use mp_pattern::NetToken;
 use mp_term::Memory;
+use smallvec::SmallVec;
 use std::alloc::Global;
 use std::marker::Model;
+
+// A list of so many numbers, or fewer, takes no allocation.
+const INLINE_NUMBERS: usize = 4;
 
 /// A list of numbers, seen by contracts as the list of them.
 #[derive(Drop)]
 pub struct Numbers {
-    items: Vec<u32>,
+    items: SmallVec<u32, INLINE_NUMBERS>,
 }
 
 impl Model for Numbers {
@@ -33,7 +37,7 @@ impl Numbers {
         ensures { result ≡ [] }
     {
         Numbers {
-            items: Vec::new(alloc),
+            items: SmallVec::new(alloc),
         }
     }
 
@@ -57,22 +61,21 @@ impl Numbers {
     pub fn get(&self, index: usize) -> Option<&u32>
         ensures { slice_get self.now index ≡ option_map (λ n. n.now) result }
     {
-        self.items.get(index)
+        self.as_slice().get(index)
     }
 
     /// The numbers in order.
     pub fn as_slice(&self) -> &[u32]
         ensures { result.now ≡ self.now }
     {
-        &self.items
+        self.items.as_slice()
     }
 
     /// An equal list. `Memory` comes where there is no room for it.
     pub fn copy(&self, alloc: Global) -> Result<Numbers, Memory>
         ensures { IfOk result (λ ns. ns ≡ self.now) }
     {
-        let mut items = Vec::new(alloc);
-        items.extend_from_slice(&self.items)?;
+        let items = SmallVec::from_slice(alloc, self.as_slice())?;
         Ok(Numbers { items })
     }
 }

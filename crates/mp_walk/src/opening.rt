@@ -13,13 +13,13 @@ use mp_table::Table;
 use mp_term::Signature;
 
 // The frame of the open operation once the token has taken its terms from it.
-fn rest(table: &Table, frame: Frame, token: &NetToken, way: usize) -> Frame
+fn rest<'a>(table: &Table, frame: Frame<'a>, token: &NetToken, way: usize) -> Frame<'a>
     requires frame { IsFrame table.now frame }
     requires valid { IsWayValid (net_token token.now) (open_of table.now frame) way }
     ensures frame { IsFrame table.now result }
-    ensures open { open_of table.now result ≡ rest_by (net_token token.now) (open_of table.now frame) way }
-    ensures outer { result.outer ≡ frame.outer }
-    ensures under { result.under ≡ frame.under }
+    ensures open { open_of table.now result ≡ rest_by (net_token token.now) (open_of table.now frame.entry) way }
+    ensures outer { result.outer ≡ frame.entry.outer }
+    ensures under { result.under ≡ frame.entry.under }
 {
     match token {
         NetToken::Leave(_) => frame,
@@ -31,13 +31,13 @@ fn rest(table: &Table, frame: Frame, token: &NetToken, way: usize) -> Frame
 
 // Opens what the token leads to by the way: frames are added, and the place of the innermost one is answered. There is
 // room for two more. The token is read in the frame at the place.
-pub(crate) fn opened(
+pub(crate) fn opened<'a>(
     sig: &Signature,
-    table: &Table,
+    table: &'a Table,
     token: &NetToken,
     place: usize,
     way: usize,
-    frames: &mut Vec<Frame>,
+    frames: &mut Vec<Frame<'a>>,
 ) -> Option<usize>
     requires frames { AreFrames sig.now table.now frames.old.items }
     requires place { place < length frames.old.items }
@@ -61,9 +61,6 @@ pub(crate) fn opened(
     let NetToken::Enter(op) = token else {
         return Some(behind);
     };
-    let Some(rank) = frame.first(table) else {
-        unreachable!()
-    };
-    frames.push_reserved(Frame::opened(*op, rank, way == 1, behind));
+    frames.push_reserved(frame.entered(table, *op, way == 1, behind));
     Some(behind + 1)
 }

@@ -38,7 +38,7 @@ use std::alloc::Global;
 // What a commutative application is read below, where a term stands first in the innermost open operation.
 fn below<'a>(
     set: Setting<'a>,
-    frames: &[Frame],
+    frames: &[Frame<'_>],
     pattern: &'a Pattern,
     level: &Level<'a>,
 ) -> Option<Below<'a>>
@@ -84,7 +84,7 @@ fn below<'a>(
 pub(crate) fn read<'a>(
     alloc: Global,
     set: Setting<'a>,
-    frames: &[Frame],
+    frames: &[Frame<'_>],
     instr: &'a Instr,
     level: &mut Level<'a>,
     rooms: &mut Vec<CommRoom>,

@@ -30,24 +30,24 @@ use mp_table::{Rank, Table};
 use mp_term::{Name, OpId, Signature, same_bytes};
 
 // The first term that is left is the symbol of the name.
-fn is_first_symbol(table: &Table, frame: &Frame, name: &Name) -> bool
+fn is_first_symbol(table: &Table, frame: &Frame<'_>, name: &Name) -> bool
     requires { IsFrame table.now frame.now }
     ensures { result ≡ is_first_symbol name.now (open_of table.now frame.now).left }
 {
     match frame.first_name(table) {
         None => false,
-        Some(own) => same_bytes(own.bytes(), name.bytes()),
+        Some(own) => same_bytes(own, name.bytes()),
     }
 }
 
-// The token is a symbol other than the first term that is left, whose name is given where it is a symbol too.
-pub(crate) fn is_other_symbol(first: Option<&Name>, token: &NetToken) -> bool
+// The token is a symbol other than the first term that is left, whose bytes are given where it is a symbol too.
+pub(crate) fn is_other_symbol(first: Option<&[u8]>, token: &NetToken) -> bool
     ensures { IsTrue result → (sig : Sig) (f : Open) (fs : List Open) (s : Subst)
         → ((name : List ℕ) → MatchOption first.entry (is_first_symbol name f.left ≡ false)
         (λ own. is_first_symbol name f.left ≡ bytes_eq own.now name)) → HasNoWay sig f fs s (net_token token.now) 0 }
 {
     match (token, first) {
-        (NetToken::Sym(name), Some(own)) => !same_bytes(own.bytes(), name.bytes()),
+        (NetToken::Sym(name), Some(own)) => !same_bytes(own, name.bytes()),
         (NetToken::Sym(_), None) => true,
         _ => false,
     }
@@ -92,7 +92,13 @@ pub(crate) fn first_way(
 }
 
 // The first way from the number on in which the begin of an application reads on.
-fn begin_way(sig: &Signature, table: &Table, frame: &Frame, op: OpId, from: usize) -> Option<usize>
+fn begin_way(
+    sig: &Signature,
+    table: &Table,
+    frame: &Frame<'_>,
+    op: OpId,
+    from: usize,
+) -> Option<usize>
     requires { IsFrame table.now frame.now }
     ensures way { (fs : List Open) (s : Subst) →
         let f = open_of table.now frame.now in
@@ -112,7 +118,7 @@ fn begin_way(sig: &Signature, table: &Table, frame: &Frame, op: OpId, from: usiz
 pub(crate) fn way_from(
     sig: &Signature,
     table: &Table,
-    frame: &Frame,
+    frame: &Frame<'_>,
     token: &NetToken,
     from: usize,
     trail: &mut Trail,
@@ -162,7 +168,13 @@ pub(crate) fn way_from(
 }
 
 // No way of the token from the number on reads on in the open operation, as is told without the trail.
-fn has_no_way(sig: &Signature, table: &Table, frame: &Frame, token: &NetToken, from: usize) -> bool
+fn has_no_way(
+    sig: &Signature,
+    table: &Table,
+    frame: &Frame<'_>,
+    token: &NetToken,
+    from: usize,
+) -> bool
     requires frame { IsFrame table.now frame.now }
     ensures none { IsTrue result → (fs : List Open) (s : Subst)
         → HasNoWay sig.now (open_of table.now frame.now) fs s (net_token token.now) from }
@@ -181,7 +193,7 @@ fn has_no_way(sig: &Signature, table: &Table, frame: &Frame, token: &NetToken, f
 // without the trail.
 pub(crate) fn is_spent(
     set: Setting<'_>,
-    frames: &[Frame],
+    frames: &[Frame<'_>],
     place: Option<usize>,
     token: &NetToken,
     from: usize,
@@ -201,7 +213,7 @@ pub(crate) fn is_spent(
 // Takes the next step of a token, which is bound. False comes where there is none.
 pub(crate) fn step(
     set: Setting<'_>,
-    frames: &[Frame],
+    frames: &[Frame<'_>],
     token: &NetToken,
     level: &mut Level<'_>,
     trail: &mut Trail,

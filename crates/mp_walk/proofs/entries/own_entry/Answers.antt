@@ -1,4 +1,4 @@
-use Rattle.std.proofs.Common.{◌∙◌, sym, subst}
+use Rattle.std.proofs.Common.{◌∙◌, refl, sym, subst}
 use Rattle.mp_table.specs.Table.{HasRanks}
 use Rattle.mp_walk.specs.OpenOnes.{open_of}
 use Rattle.mp_walk.proofs.EntryLaws.{own-front, ranks-front, read-front}
@@ -9,9 +9,9 @@ returns-in_default c =
     let t = c.args.table.now in
     let f = open_of t c.args.frame.now in (
       subst (HasRanks t) (sym c.front-in_default.ensures)
-          (ranks-front t c.args.way c.left-left.result.now c.left-left.ensures.ranks),
+          (ranks-front t c.args.way c.args.frame.now.left.now c.requires),
       own-front c.args.token.now f c.args.way c.in_default.not-Sym c.in_default.not-Enter c.in_default.not-Leave
           c.in_default.not-Comm
-          ∙ read-front t c.args.way c.left-left.result.now f.left c.front-in_default.result.now
-          c.left-left.ensures.terms c.front-in_default.ensures,
+          ∙ read-front t c.args.way c.args.frame.now.left.now f.left c.front-in_default.result.now
+          refl c.front-in_default.ensures,
     )

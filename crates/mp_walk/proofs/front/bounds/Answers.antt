@@ -1,4 +1,4 @@
-use Rattle.std.proofs.Common.{◌≡◌, ◌≤◌, length, take, ap, sym, ◌∙◌, subst, arith}
+use Rattle.std.proofs.Common.{◌≡◌, ◌≤◌, length, take, ap, ◌∙◌, subst, arith}
 use Rattle.std.proofs.Common.{inl, inr}
 use Rattle.std.proofs.lemmas.List.{length-map, length-take-le}
 use Rattle.mp_table.specs.Table.{term_at}
@@ -28,8 +28,7 @@ returns-in-Some-clause-longest c fs n l =
     let t = c.args.table.now in
     let f = open_of t c.args.frame.now in
     let s = numbered_subst t c.args.trail.now.stack in
-    let many : length f.left ≡ length c.left-room.result.now =
-    ap length (sym c.left-room.ensures.terms) ∙ length-map c.left-room.result.now (term_at t) in
+    let many : length f.left ≡ length c.args.frame.now.left.now = length-map c.args.frame.now.left.now (term_at t) in
     ap (λ j. way_steps sig f fs s j n) c.requires.wild ∙ elim (below_or_not (length f.left) n) [
       | inl h ↦ wild-beyond sig f fs s (shape_of k) (number_of k) n h
       | inr h ↦ wild-clash sig f fs s (shape_of k) (number_of k) n
@@ -54,8 +53,7 @@ returns-in-None-clause-longest c fs n l =
     let t = c.args.table.now in
     let f = open_of t c.args.frame.now in
     let s = numbered_subst t c.args.trail.now.stack in
-    let many : length f.left ≡ length c.left-room.result.now =
-    ap length (sym c.left-room.ensures.terms) ∙ length-map c.left-room.result.now (term_at t) in
+    let many : length f.left ≡ length c.args.frame.now.left.now = length-map c.args.frame.now.left.now (term_at t) in
     ap (λ j. way_steps sig f fs s j n) c.requires.wild
     ∙ too-many sig f fs s (shape_of k) (number_of k) c.most.result
     (λ ts m e. c.most.ensures.most (shape_of k) (number_of k) c.requires.wild ts

@@ -1,4 +1,4 @@
-use Rattle.std.proofs.Common.{◌≡◌, ◌≤◌, ◌<◌, length, ap, sym, ◌∙◌, subst, arith}
+use Rattle.std.proofs.Common.{◌≡◌, ◌≤◌, ◌<◌, length, ap, ◌∙◌, subst, arith}
 use Rattle.std.proofs.lemmas.Bool.Decides.{nat_tests}
 use Rattle.std.proofs.lemmas.List.{length-map}
 use Rattle.mp_table.specs.Table.{term_at}
@@ -15,8 +15,7 @@ returns-clause-none c h fs s n l =
     let sig = c.args.sig.now in
     let t = c.args.table.now in
     let f = open_of t c.args.frame.now in
-    let many : length f.left ≡ length c.left.result.now =
-    ap length (sym c.left.ensures.terms) ∙ length-map c.left.result.now (term_at t) in
+    let many : length f.left ≡ length c.args.frame.now.left.now = length-map c.args.frame.now.left.now (term_at t) in
     let less : c.most.result < n = grind (arith, nat_tests, h, l) in
     ap (λ j. way_steps sig f fs s j n) c.requires.wild
     ∙ too-many sig f fs s (shape_of k) (number_of k) c.most.result

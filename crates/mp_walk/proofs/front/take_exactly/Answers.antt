@@ -1,4 +1,4 @@
-use Rattle.std.proofs.Common.{◌≡◌, [], ◌∷◌, take, ap, sym, ◌∙◌, subst}
+use Rattle.std.proofs.Common.{◌≡◌, [], ◌∷◌, take, refl, ap, sym, ◌∙◌, subst}
 use Rattle.std.specs.Prelude.{Some, None, is_some, MatchBool}
 use Rattle.mp_pattern.specs.NetTokenView.{net_token}
 use Rattle.mp_theory.specs.Solve.{given}
@@ -18,7 +18,7 @@ returns-then-not-gives-clause-step c fs =
     ap (λ j. way_steps c.args.sig.now f fs s j c.args.count) c.requires.wild
     ∙ wild-none c.args.sig.now f fs s (shape_of k) (number_of k) c.args.count
     (ap (λ ts. is_some (given c.args.sig.now (above c.args.frame.now.under) (shape_of k) ts))
-    (sym (front-terms c.args.table.now c.left-left.result.now c.args.count f.left c.left-left.ensures.terms))
+    (sym (front-terms c.args.table.now c.args.frame.now.left.now c.args.count f.left refl))
     ∙ sym (c.gives.ensures (shape_of k) (number_of k) c.requires.wild) ∙ c.if-not-gives.true)
 
 pub returns-then-not-gives-clause-kept : goal.returns-then-not-gives-clause-kept
@@ -35,7 +35,7 @@ returns-clause-step c fs =
     let r = numbered_subst t c.bind.new.trail.stack in
     let w = shape_of k in
     let x = number_of k in
-    let same = front-terms t c.left-left.result.now n f.left c.left-left.ensures.terms in
+    let same = front-terms t c.args.frame.now.left.now n f.left refl in
     let bound : MatchBool c.bind.result (told_by sig f.under w x (take n f.left) s ≡ Some r)
     (told_by sig f.under w x (take n f.left) s ≡ None) =
     subst (λ ts. MatchBool c.bind.result (told_by sig f.under w x ts s ≡ Some r) (told_by sig f.under w x ts s ≡ None))

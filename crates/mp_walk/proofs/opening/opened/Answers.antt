@@ -1,12 +1,11 @@
-use Rattle.std.proofs.Common.{◌≡◌, ◌+◌, ◌++◌, false, nat_eq, length, Some}
+use Rattle.std.proofs.Common.{◌≡◌, ◌+◌, ◌++◌, false, length, Some, refl}
 use Rattle.std.proofs.Common.{[], ◌∷◌, ap, sym, ◌∙◌, subst, arith}
 use Rattle.mp_pattern.specs.NetTokenView.{net_token}
-use Rattle.mp_walk.specs.declared.frame.Frame.{Frame}
 use Rattle.mp_walk.specs.Course.{opens_after, rest_by, IsWayValid}
 use Rattle.mp_walk.specs.OpenOnes.{AreFrames, open_of, opens}
 use Rattle.mp_walk.specs.SoundTokens.{IsSoundToken}
 use Rattle.mp_walk.proofs.OpeningLaws.{index-at, opened-leave, outer-below, opened-rest, frames-rest, opens_by-rest}
-use Rattle.mp_walk.proofs.OpeningLaws.{opened-enter, frames-enter, entered}
+use Rattle.mp_walk.proofs.OpeningLaws.{opened-enter, frames-enter}
 use Rattle.std.proofs.lemmas.List.{append_assoc}
 use Rattle.mp_term.specs.Signature.{is_comm}
 use Rattle.mp_pattern.specs.NetTokens.{enter_token}
@@ -58,19 +57,14 @@ returns-in_default-token c =
       front = (c.rest.result ∷ [], c.push_reserved.ensures.items);
     }
 
-pub first-requires : goal.first-requires
-first-requires c =
-    (c.requires.frames c.args.place c.index.result.now
-    (index-at c.args.frames.now.items c.args.place c.index.result.now c.requires.place c.index.ensures)).frame
-
-pub unreachable-requires : goal.unreachable-requires
-unreachable-requires c =
+pub entered-requires : goal.entered-requires
+entered-requires c =
     let at = index-at c.args.frames.now.items c.args.place c.index.result.now c.requires.place c.index.ensures in
-    let v = subst (λ k. IsWayValid (net_token k) (open_of c.args.table.now c.index.result.now) c.args.way) c.in-Enter.is
-    (c.requires.valid c.index.result.now at) in
-    let none = c.in_default-first.ensures in
-    (let e : length (open_of c.args.table.now c.index.result.now).left
-    ≡ 0 = ap length none.term in omega (arith, e, v.0))
+    record {
+      frame = (c.requires.frames c.args.place c.index.result.now at).frame;
+      some = (subst (λ k. IsWayValid (net_token k) (open_of c.args.table.now c.index.result.now) c.args.way)
+          c.in-Enter.is (c.requires.valid c.index.result.now at)).0;
+    }
 
 pub returns : goal.returns
 returns c =
@@ -83,31 +77,19 @@ returns c =
     let count : c.len-behind.result ≡ length c.args.frames.now.items = c.len-behind.ensures ∙ c.args.frames.now.ok.0 in
     let ordered : is_comm c.args.sig.now c.in-Enter.op.0 ≡ false =
     subst (λ k. IsSoundToken c.args.sig.now (net_token k)) c.in-Enter.is c.requires.sound in
-    let last : Frame = entered c.args.sig.now c.args.table.now c.args.frames.now.items c.requires.frames c.args.place
-    c.index.result.now at
-    c.in-Enter.op c.args.way c.rest.result h.frame is h.outer h.under c.in-Some.rank c.in-Some.ensures.rank ordered
-    c.in-Some.ensures.term in
-    let made : c.opened.result ≡ last =
-    c.opened.ensures ∙ ap (λ n. record {
-      under = Some c.in-Enter.op;
-      rank = c.in-Some.rank;
-      alone = nat_eq c.args.way 1;
-      taken = 0;
-      owes = nat_eq c.args.way 1;
-      outer = Some n;
-    }) count in
+    let h2 = c.entered.ensures in
+    let outer : c.entered.result.outer ≡ Some (length c.args.frames.now.items) = h2.outer ∙ ap Some count in
     let all : c.push_reserved-2.new.self.items ≡ (c.args.frames.now.items ++ c.rest.result ∷ [])
-    ++ last ∷ [] =
-    c.push_reserved-2.ensures.items ∙ ap (λ l. l ++ c.opened.result ∷ []) c.push_reserved.ensures.items
-    ∙ ap (λ o. (c.args.frames.now.items ++ c.rest.result ∷ []) ++ o ∷ []) made in
+    ++ c.entered.result ∷ [] =
+    c.push_reserved-2.ensures.items ∙ ap (λ l. l ++ c.entered.result ∷ []) c.push_reserved.ensures.items in
+    let opens-so = opened-enter c.args.sig.now c.args.table.now c.args.frames.now.items c.requires.frames c.args.place
+    c.index.result.now at c.in-Enter.op c.args.way c.rest.result h.frame is h.outer h.under ordered c.entered.result
+    h2.frame (h2.«open» c.args.way refl) h2.under outer in
     record {
       «open» = ap (λ l. opens c.args.table.now l (Some (c.len-behind.result + 1))) all
-          ∙ ap (λ n. opens c.args.table.now ((c.args.frames.now.items ++ c.rest.result ∷ []) ++ last ∷ [])
+          ∙ ap (λ n. opens c.args.table.now ((c.args.frames.now.items ++ c.rest.result ∷ []) ++ c.entered.result ∷ [])
           (Some (n + 1))) count
-          ∙ opened-enter c.args.sig.now c.args.table.now c.args.frames.now.items c.requires.frames c.args.place
-          c.index.result.now at
-          c.in-Enter.op c.args.way c.rest.result h.frame is h.outer h.under c.in-Some.rank c.in-Some.ensures.rank
-          ordered c.in-Some.ensures.term
+          ∙ opens-so
           ∙ sym (ap (λ k. opens_after (net_token k)
           (opens c.args.table.now c.args.frames.now.items (Some c.args.place)) c.args.way) c.in-Enter.is);
       place = (let l = c.push_reserved.ensures.len in let m = c.push_reserved-2.ensures.len in let
@@ -115,13 +97,12 @@ returns c =
           let n = c.push_reserved-2.new.self.ok.0 in omega (arith, l, m, e, n));
       frames = subst (AreFrames c.args.sig.now c.args.table.now) (sym all)
           (frames-enter c.args.sig.now c.args.table.now c.args.frames.now.items c.requires.frames c.args.place
-          c.index.result.now at
-          c.in-Enter.op c.args.way c.rest.result h.frame is h.outer h.under c.in-Some.rank c.in-Some.ensures.rank
-          ordered c.in-Some.ensures.term);
+          c.index.result.now at c.in-Enter.op c.args.way c.rest.result h.frame is h.outer h.under ordered
+          c.entered.result h2.frame (h2.«open» c.args.way refl) h2.under outer);
       front = (
-        c.rest.result ∷ c.opened.result ∷ [],
+        c.rest.result ∷ c.entered.result ∷ [],
         c.push_reserved-2.ensures.items
-            ∙ ap (λ l. l ++ c.opened.result ∷ []) c.push_reserved.ensures.items
-            ∙ append_assoc c.args.frames.now.items (c.rest.result ∷ []) (c.opened.result ∷ []),
+            ∙ ap (λ l. l ++ c.entered.result ∷ []) c.push_reserved.ensures.items
+            ∙ append_assoc c.args.frames.now.items (c.rest.result ∷ []) (c.entered.result ∷ []),
       );
     }

@@ -1,4 +1,4 @@
-use Rattle.std.proofs.Common.{◌≡◌, Bool, true, false, refl, ap, ap₂, sym, ◌∙◌, subst}
+use Rattle.std.proofs.Common.{◌≡◌, Bool, true, false, refl, ap, sym, ◌∙◌, subst}
 use Rattle.std.specs.Prelude.{MatchOption, bytes_eq, not}
 use Rattle.mp_pattern.specs.NetTokenView.{net_token}
 use Rattle.mp_walk.specs.Ways.{HasNoWay, is_first_symbol}
@@ -15,8 +15,9 @@ returns-in-Sym-Some c = λ t sig f fs s h.
     let first = subst (λ o. MatchOption o (is_first_symbol name f.left ≡ false)
     (λ own. is_first_symbol name f.left ≡ bytes_eq own.now name)) c.in-Sym-Some.is-1 (h name) in
     subst (λ k. HasNoWay sig f fs s k 0) (sym (ap net_token c.in-Sym-Some.is-0))
-    (no-symbol sig f fs s name (first ∙ sym (c.same_bytes.ensures ∙ ap₂ bytes_eq c.bytes.ensures.bytes
-    c.bytes-in-Sym-Some.ensures.bytes) ∙ not-true c.same_bytes.result t))
+    (no-symbol sig f fs s name (first
+    ∙ sym (c.same_bytes.ensures ∙ ap (bytes_eq c.in-Sym-Some.own.now) c.bytes.ensures.bytes)
+    ∙ not-true c.same_bytes.result t))
 
 pub returns-in-Sym-None : goal.returns-in-Sym-None
 returns-in-Sym-None c = λ t sig f fs s h.

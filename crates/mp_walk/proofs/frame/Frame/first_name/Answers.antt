@@ -12,6 +12,7 @@ pub returns-in-Sym : goal.returns-in-Sym
 returns-in-Sym c = λ name.
     ap (is_first_symbol name) c.in_ok-first.ensures.term
     ∙ of-symbol (term_at c.args.table.now c.in_ok-first.first) c.in-Sym.name.now name c.in-Sym.ensures
+    ∙ ap (λ own. bytes_eq own name) (sym c.bytes.ensures.bytes)
   where
     of-symbol : (t : Tree) (own name : List ℕ)
         → (elim t as (λ x. Type 0) [ symbol n ↦ own ≡ n | app f ts ↦ ⊥ ])
