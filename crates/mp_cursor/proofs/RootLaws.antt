@@ -1,5 +1,5 @@
 -- What a pattern that takes a term at the root says of it.
-use Rattle.std.proofs.Common.{◌≡◌, List, [], ◌∷◌, ◌++◌, Bool, true, false, refl, ap, sym, ◌∙◌, ◌⊎◌, inl, inr, ℕ, eq-eqb}
+use Rattle.std.proofs.Common.{◌≡◌, List, [], ◌∷◌, ◌++◌, Bool, true, false, refl, ap, sym, ◌∙◌, inl, inr, ℕ}
 use Rattle.std.proofs.Common.{subst}
 use Rattle.std.proofs.lemmas.Bool.{not-true, and_parts}
 use Rattle.std.specs.Prelude.{Option, Some, None, filter, not, ◌&&◌, ◌||◌, if◌then◌else◌}
@@ -10,8 +10,7 @@ use Rattle.std.proofs.lemmas.Cmp.{tied_itself, lists_total}
 use Rattle.mp_term.specs.Order.{tree_cmp}
 use Rattle.mp_term.specs.Sorting.{sorted}
 use Rattle.mp_term.specs.Tree.{Tree, Trees, symbol, app, trees, tree_list}
-use Rattle.mp_term.specs.NormalTest.{has_head}
-use Rattle.mp_term.specs.Signature.{Sig, is_one, is_assoc, is_comm, in_kind}
+use Rattle.mp_term.specs.Signature.{Sig, is_one, is_assoc, is_comm}
 use Rattle.mp_term.specs.Normal.{IsNormal}
 use Rattle.mp_term.specs.Search.{In}
 use Rattle.mp_term.proofs.ListingLaws.{all_in}
@@ -43,25 +42,6 @@ module _ (sig : Sig) (s : Subst) where
   pub symbol-takes : (t : Tree) (f : Option ℕ) (n : List ℕ) (W : fits.Table)
       → fits.Takes sig s f (symbol_pattern n) (t ∷ []) W → t ≡ symbol n
   symbol-takes t f n W h = single t (symbol n) h.0
-
-  -- what an application takes is headed by it, or it is collapsed
-  pub app-takes : (t : Tree) (f : Option ℕ) (g : ℕ) (ps : Patterns) (W : fits.Table)
-      → fits.Takes sig s f (app_pattern g ps) (t ∷ []) W
-      → (has_head g t ≡ true) ⊎ ((is_one sig g ≡ true) × (fits.no_sequence ps ≡ true))
-  app-takes t f g ps W (inl h) = inl (ap (has_head g) (single t _ h.node) ∙ eq-eqb g g refl)
-  app-takes t f g ps W (inr h) = inr (h.identity, h.plain)
-
-  kind-value : (t : Tree) (f : Option ℕ) (k : ℕ) (v : Value) → fits.WildTakes sig f (kind k) v (t ∷ [])
-      → in_kind sig k t ≡ true
-  kind-value t f k (one v) w = ap (in_kind sig k) (single t v w.0) ∙ w.1
-  kind-value t f k (seq ts) w = absurd w
-  kind-value t f k (bag ts) w = absurd w
-
-  -- a wildcard of a kind takes a symbol of the kind
-  pub kind-takes : (t : Tree) (f : Option ℕ) (k : ℕ) (x : Option (List ℕ)) (W : fits.Table)
-      → fits.Takes sig s f (wild_pattern (kind k) x) (t ∷ []) W → in_kind sig k t ≡ true
-  kind-takes t f k None W h = ap (in_kind sig k) (single t h.0.0 h.0.1) ∙ h.0.2
-  kind-takes t f k (Some x) W h = kind-value t f k h.0.0 h.0.2
 
   contributed-alone : (g : ℕ) (v : Tree) (l : List Tree) → is_assoc sig g ≡ false → contribution sig (Some g) v ≡ Some l
       → l ≡ v ∷ []
@@ -172,12 +152,6 @@ module _ (sig : Sig) (s : Subst) where
   none-taken g p ps (l ∷ ls) (W ∷ Ws) o h e =
       let a = alone-taken g p l W o h.0 in
       let whole : a.0 ∷ fits.joined ls ≡ [] = ap (λ k. k ++ fits.joined ls) (sym a.1) ∙ e in cc
-
-  pub nothing-taken : (g : ℕ) (ls : List (List Tree)) (Ws : List fits.Table) → Children g no_patterns ls Ws
-      → fits.joined ls ≡ []
-  nothing-taken g [] [] h = refl
-  nothing-taken g [] (W ∷ Ws) h = absurd h
-  nothing-taken g (l ∷ ls) Ws h = absurd h
 
 empty : {X : Type 0} (xs : List X) → ((x : X) → In x xs → ⊥) → xs ≡ []
 empty [] h = refl

@@ -21,7 +21,7 @@ use Rattle.mp_pattern.specs.SoundRule.{pattern_least, pattern_most, sum_most, al
 use Rattle.mp_pattern.proofs.NetTokenLists.{is_name-numbered}
 use Rattle.mp_pattern.proofs.NormalLaws.{all-in_order}
 use Rattle.mp_program.specs.RightForm.{is_headed, is_flat, are_flat}
-use Rattle.mp_program.proofs.NameLaws.{number_in-most}
+use Rattle.mp_walk.proofs.Renaming.{number_in-most}
 
 -- ---- normal patterns are flat
 

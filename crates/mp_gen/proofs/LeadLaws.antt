@@ -12,11 +12,11 @@ use Rattle.mp_term.specs.Listing.{In}
 use Rattle.mp_term.specs.Signature.{Sig}
 use Rattle.mp_term.proofs.SearchLaws.{from_in-append, from_in-flat}
 use Rattle.mp_pattern.specs.CondTree.{Cond}
+use Rattle.mp_pattern.proofs.ItemLaws.{slice_get-found, slice_get-second}
 use Rattle.mp_ac.specs.CommItems.{NoneTwice}
 use Rattle.mp_walk.specs.Instrs.{Instr, instr_at, targets}
 use Rattle.mp_walk.specs.Walkable.{Path, ArePaths}
 use Rattle.mp_walk.proofs.CodePaths.{IsForward}
-use Rattle.mp_walk.proofs.EntryLaws.{get-front}
 use Rattle.mp_walk.proofs.ForestLaws.{none-left}
 use Rattle.mp_program.specs.Program.{ProgramRule}
 use Rattle.mp_program.specs.FormText.{first_target}
@@ -67,12 +67,6 @@ from-lead P None l i = absurd i
 from-lead P (Some n) l (inl e) = (ap (λ k. Some k.to) (sym e), ap (λ k. k.before) e)
 from-lead P (Some n) l (inr i) = absurd i
 
-get-behind : {X : Type 0} (xs ys : List X) (m : ℕ) → slice_get (xs ++ ys) (length xs + m) ≡ slice_get ys m
-get-behind [] ys m = let e : 0 + m ≡ m = omega arith in ap (slice_get ys) e
-get-behind (x ∷ xs) ys m =
-    let e : suc (length xs) + m ≡ suc (length xs + m) = omega arith in
-    ap (slice_get (x ∷ (xs ++ ys))) e ∙ get-behind xs ys m
-
 -- targets behind an instruction and before `stop` have no fault
 pub none-target_faults : (stop line n : ℕ) (ts : List ℕ) → ((t : ℕ) → In t ts → (n < t) × (t < stop))
     → target_faults stop line n ts ≡ []
@@ -103,7 +97,8 @@ module _ (code : List Instr) (before : ℕ → Path) (paths : ArePaths code befo
     own = suc (length front)
 
     held-behind : (m : ℕ) (j : Instr) → slice_get (i ∷ is) m ≡ Some j → instr_at code (suc (length front + m)) ≡ Some j
-    held-behind m j e = ap (λ l. slice_get l (length front + m)) whole ∙ get-behind front (i ∷ is) m ∙ e
+    held-behind m j e = ap (λ l. slice_get l (length front + m)) whole
+        ∙ slice_get-second front (i ∷ is) m (length front + m) refl ∙ e
 
     pub held-own : instr_at code own ≡ Some i
     held-own =
@@ -141,7 +136,7 @@ module _ (code : List Instr) (before : ℕ → Path) (paths : ArePaths code befo
       λ h. (let r = from_in-flat targets 1 front h in
           let s = place-in r.0 front r.1 in
           let held : instr_at code (suc s.0) ≡ Some r.0 =
-          ap (λ l. slice_get l s.0) whole ∙ get-front front (i ∷ is) s.0 r.0 s.1 in
+          ap (λ l. slice_get l s.0) whole ∙ slice_get-found front (i ∷ is) s.0 r.0 s.1 in
           let f = forward (suc s.0) 1 r.0 held r.2 in omega (arith, f.0)),
       none-left (flat_map targets front) (flat_map targets (i ∷ is)) (subst NoneTwice split once),
     )

@@ -42,13 +42,6 @@ answers-More sig before after ms out h =
     (refl, h.0, sym (has_some-long (printed sig before ms).0 (printed-more sig before ms h.1)))
 
 module _ (sig : Sig) (limit : Option ℕ) (token : Text) (out : Sunk) (after : Left) where
-  -- those behind the token were printed
-  pub behind-Ok : (ms : Option (List Match)) (any : Bool)
-      → PrintsBehind sig (left_at_first limit) ms out after (Ok (Some any))
-      → Lists (told_behind sig limit token ms) out (Ok any)
-  behind-Ok None any h = cc
-  behind-Ok (Some ms) any h = answers-Ok any sig (left_at_first limit) after ms out h.1
-
   -- it is that of none
   pub behind-None : (ms : Option (List Match)) → spelling_fault token ≡ None
       → PrintsBehind sig (left_at_first limit) ms out after (Ok None)

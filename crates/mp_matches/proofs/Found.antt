@@ -1,10 +1,9 @@
 -- The part that has the name of a token is found.
-use Rattle.std.proofs.Common.{◌≡◌, ◌∙◌, ◌+◌, ◌<◌, ℕ, zero, suc, List, [], ◌∷◌, length, map, drop, get_or, refl, sym}
-use Rattle.std.proofs.Common.{ap, ap₂, subst, arith}
+use Rattle.std.proofs.Common.{◌≡◌, ◌∙◌, ◌+◌, ℕ, zero, suc, List, [], ◌∷◌, map, drop, get_or, refl, sym}
+use Rattle.std.proofs.Common.{ap, ap₂, subst}
 use Rattle.std.specs.Prelude.{Some, None, flat_map, position, true}
 use Rattle.std.specs.List.{AllByRecursion, drop-map}
 use Rattle.std.specs.Str.{bytes_eq}
-use Rattle.std.proofs.lemmas.List.{length-map}
 use Rattle.mp_io.specs.Devices.{Text}
 use Rattle.mp_term.specs.Names.{are_distinct}
 use Rattle.mp_term.proofs.SignatureLaws.{position-map}
@@ -31,12 +30,6 @@ module _ {A X : Type 0} (view : A → X) (f : X → List Match) (name : X → Te
   module _ (i : ℕ) (e : position (λ x. bytes_eq (name (view x)) word) xs ≡ Some i) where
     mapped : position (λ x. bytes_eq (name x) word) (map view xs) ≡ Some i
     mapped = position-map (λ x. bytes_eq (name x) word) view xs ∙ e
-
-    -- its place is one of the list
-    pub found-within : i < length xs
-    found-within =
-        let p = position-some (λ x. bytes_eq (name x) word) (map view xs) i mapped in
-        omega (arith, p.0, p.1, length-map xs view)
 
     -- it is the one part whose matches may have the token
     pub found-some : (x : A) → x ≡ get_or xs i x → are_distinct (map name (map view xs)) ≡ true

@@ -1,26 +1,21 @@
 -- The matches behind the one of a token are printed: those of the part that has it, and of the parts behind that.
-use Rattle.std.proofs.Common.{◌≡◌, ℕ, Bool, List, ◌++◌, refl, sym, ap, subst, inl, inr, true≢false}
+use Rattle.std.proofs.Common.{◌≡◌, ℕ, Bool, List, ◌++◌, refl, sym, ap, subst, inl, true≢false}
 use Rattle.std.specs.Prelude.{Option, Some, None, Result, Ok, Err, IsErrAnd, ◌||◌}
 use Rattle.mp_io.specs.Moments.{Sunk}
 use Rattle.mp_term.specs.Signature.{Sig}
 use Rattle.mp_matches.specs.Left.{Left, printed}
 use Rattle.mp_matches.specs.Match.{Match}
-use Rattle.mp_matches.specs.Printed.{PrintsBehind, PrintsMatches, printed_behind}
+use Rattle.mp_matches.specs.Printed.{PrintsBehind, PrintsMatches}
 use Rattle.mp_matches.specs.declared.stop.Stop.{Stop}
 use Rattle.mp_matches.specs.declared.stop.Stop.TheVariants as stop
 use Rattle.mp_matches.proofs.PrintedLaws.{printed-append}
 use Rattle.mp_matches.proofs.BehindLaws.{appended}
-use Rattle.mp_matches.proofs.SoFar.{IsSoFar, nothing-front, of-err, so_far-last, so_far-stopped, stopped-append}
+use Rattle.mp_matches.proofs.SoFar.{IsSoFar, of-err, so_far-last, so_far-stopped, stopped-append}
 
 module _ (sig : Sig) (before : Left) where
   pub behind-err : (ms : Option (List Match)) (out : Sunk) (left : Left) (e : Stop) (r : Result (Option Bool) Stop)
       → IsErrAnd r (λ x. x ≡ e) → PrintsBehind sig before ms out left (Err e) → PrintsBehind sig before ms out left r
   behind-err ms out left e r is h = of-err (λ a. PrintsBehind sig before ms out left a) r e is h
-
-  -- memory ran out before anything was printed
-  pub behind-memory : (ms : Option (List Match)) (left : Left) (a : Option (List ℕ)) (m : ℕ)
-      → PrintsBehind sig before ms (record { old = a; new = a; faults = m; faults_after = m }) left (Err stop.Memory)
-  behind-memory ms left a m = (inr refl, nothing-front a (printed_behind sig before ms).0)
 
   -- the matches behind the token were printed
   pub behind-some : (ms : Option (List Match)) (l : List Match) (out : Sunk) (left : Left) (any : Bool) → ms ≡ Some l

@@ -2,13 +2,13 @@
 use Rattle.std.proofs.Common.{◌≡◌, ℕ, Bool, false, [], ◌++◌, length, refl, sym, ap, ap₂, ◌∙◌, subst, arith}
 use Rattle.std.proofs.Common.{append_assoc, append-nil, length-append}
 use Rattle.std.proofs.KnownBytes.{Appends-nil, Appends-trans}
-use Rattle.std.specs.Prelude.{List, ◌∷◌, Option, Some, Result, Ok, Err, IsErrAnd, ◌||◌, ◌-◌, zero, suc}
+use Rattle.std.specs.Prelude.{List, ◌∷◌, Option, Some, Result, Ok, Err, IsErrAnd, ◌||◌}
 use Rattle.std.specs.Io.KnownBytes.{Appends}
 use Rattle.mp_io.specs.Devices.{Rose, Text}
 use Rattle.mp_io.specs.Moments.{Sunk}
 use Rattle.mp_io.specs.Printing.{AppendsFront}
 use Rattle.mp_term.specs.Signature.{Sig}
-use Rattle.mp_matches.specs.Left.{Left, one_and, full, left_of, printed, text_before}
+use Rattle.mp_matches.specs.Left.{Left, full, left_of, printed, text_before}
 use Rattle.mp_matches.specs.declared.left.Left as code
 use Rattle.mp_matches.specs.declared.left.Left.TheVariants as kind
 use Rattle.mp_matches.specs.Match.{Match, match_line}
@@ -133,10 +133,6 @@ module _ (sig : Sig) (before : Left) (ms ns : List Match) where
 
 -- ---- nothing is printed
 
--- nothing is a front of each text
-pub nothing-front : (a : Option Text) (text : Text) → AppendsFront a a text
-nothing-front a text = record { front = []; rest = text; split = refl; written = Appends-nil a }
-
 -- there is nothing to be printed
 pub nothing-printed : (whole : Text × Option Left) (left : Left) (a : Option Text) (m : ℕ) → whole ≡ ([], Some left)
     → PrintsMatches whole (record { old = a; new = a; faults = m; faults_after = m }) left (Ok false)
@@ -172,15 +168,3 @@ module _ (sig : Sig) (left : code.Left) (m : Match) (ms : List Match) where
   printed-last n token e z t = subst (λ l. printed sig (left_of l) (m ∷ ms)
       ≡ text_before (match_line sig m) (printed sig (full token) ms)) (sym (e ∙ ap kind.Lines z))
       (ap (λ k. text_before (match_line sig m) (printed sig (full k) ms)) (sym t))
-
-  -- one may be printed and then others
-  pub printed-line : (n : ℕ) → left ≡ kind.Lines n → (n ≡ 0 → ⊥)
-      → printed sig (left_of left) (m ∷ ms) ≡ text_before (match_line sig m) (printed sig (one_and (n - 1)) ms)
-  printed-line n e h = subst (λ l. printed sig (left_of l) (m ∷ ms)
-      ≡ text_before (match_line sig m) (printed sig (one_and (n - 1)) ms)) (sym e) (go n h)
-    where
-      go : (n : ℕ) → (n ≡ 0 → ⊥)
-          → printed sig (one_and n) (m ∷ ms) ≡ text_before (match_line sig m) (printed sig (one_and (n - 1)) ms)
-      go zero h = absurd (h refl)
-      go (suc n) h = let fewer : n ≡ suc n - 1 = omega arith in
-          ap (λ k. text_before (match_line sig m) (printed sig (one_and k) ms)) fewer

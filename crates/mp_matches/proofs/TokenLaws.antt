@@ -13,7 +13,6 @@ use Rattle.std.proofs.lemmas.List.Kept.{Contains-dedup, Contains-from_dedup, IsS
 use Rattle.std.proofs.lemmas.Option.{get_or_from_slice_get, slice_get-get_or}
 use Rattle.mp_io.specs.Devices.{Text}
 use Rattle.mp_term.specs.Listing.{In, IsListing}
-use Rattle.mp_term.specs.Normal.{IsNormal}
 use Rattle.mp_term.specs.Order.{tree_cmp}
 use Rattle.mp_term.specs.OrderLaws.{tree_cmp_total, tree_same}
 use Rattle.mp_term.specs.Positions.{subterm}
@@ -39,13 +38,10 @@ use Rattle.mp_table.specs.declared.rank.Rank.{Rank}
 use Rattle.mp_table.proofs.Distinct.{equal-from}
 use Rattle.mp_table.proofs.PreorderLaws.{in-from_subterm_of, subterm_of-from_in}
 use Rattle.mp_table.proofs.RankLaws.{rank_of-found, rank_of-slice_get}
-use Rattle.mp_theory.specs.OneList.{Item, item_list, item_substs, item_tables}
-use Rattle.mp_theory.proofs.OneListLaws.{item_list-are}
-use Rattle.mp_text.specs.File.{Subject}
+use Rattle.mp_theory.specs.OneList.{Item, item_substs, item_tables}
 use Rattle.mp_token.specs.Entry.{Entry}
 use Rattle.mp_token.specs.TokenText.{front_text}
 use Rattle.mp_cursor.specs.Listing.{ReadAs}
-use Rattle.mp_matches.specs.Computed.{match_of}
 use Rattle.mp_matches.specs.Match.{IsTokenOf, Match}
 use Rattle.mp_matches.specs.TokenOf.{entry_in, number_or_0, rank_in, table_of, token_of}
 
@@ -290,11 +286,3 @@ pub least-in : (sig : Sig) (rule : Rule) (t : Tree) (is : List Item) (i : Item)
 least-in sig rule t [] i h k = absurd k
 least-in sig rule t (j ∷ is) i h (inl e) = subst (λ x. IsLeast sig rule.pattern t x.1 x.0) (sym e) h.0
 least-in sig rule t (j ∷ is) i h (inr k) = least-in sig rule t is i h.1 k
-
--- a match of a rule on a normal subject has the token that is computed
-pub token_of-item : (sig : Sig) (subject : Subject) (rule : Rule) (i : Item) → IsNormal sig subject.term
-    → In i (item_list sig rule subject.term)
-    → IsTokenOf (match_of subject rule i) (token_of (match_of subject rule i))
-token_of-item sig subject rule i normal k = token_of-fits sig (match_of subject rule i)
-    (least-in sig rule subject.term (item_list sig rule subject.term) i
-    (item_list-are sig rule subject.term normal).least k).fits

@@ -1,5 +1,5 @@
 -- The tests of equality.
-use Rattle.std.proofs.Common.{◌≡◌, ℕ, List, [], ◌∷◌, Bool, true, false, refl, ap, sym, ◌∙◌, subst}
+use Rattle.std.proofs.Common.{◌≡◌, ℕ, List, [], ◌∷◌, true, ap, sym, ◌∙◌, subst}
 use Rattle.std.proofs.Common.{eqb-true, eq-eqb}
 use Rattle.std.specs.Prelude.{nat_eq, ◌&&◌}
 use Rattle.mp_term.specs.Tree.{Tree, app, trees}
@@ -38,14 +38,6 @@ same-app f g xs ys =
     let i : f ≡ g = cc in
     let j : trees xs ≡ trees ys = cc in
     and_from _ _ (eq-eqb f g i) (same_terms-complete xs ys (trees-injective xs ys j)))
-
-pub same-other_head : (f g : ℕ) (xs ys : List Tree) → (f ≡ g → ⊥)
-    → false ≡ same tree_cmp (app f (trees xs)) (app g (trees ys))
-same-other_head f g xs ys h = ap (λ b. b && same_terms xs ys) (sym (other (nat_eq f g) refl)) ∙ same-app f g xs ys
-  where
-    other : (b : Bool) → nat_eq f g ≡ b → nat_eq f g ≡ false
-    other true e = absurd (h (eqb-true f g e))
-    other false e = e
 
 pub same-same_head : (f g : ℕ) (xs ys : List Tree) → f ≡ g
     → same_terms xs ys ≡ same tree_cmp (app f (trees xs)) (app g (trees ys))

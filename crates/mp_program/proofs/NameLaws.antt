@@ -1,23 +1,17 @@
 -- Names that are numbered in order, and the numbers of names.
 use Rattle.std.proofs.Common.{◌≡◌, ◌<◌, ◌≤◌, ℕ, zero, suc, ◌+◌, List, [], ◌∷◌, ◌++◌, length, Bool, true, false, refl}
-use Rattle.std.proofs.Common.{◌⊎◌, inl, inr, ap, sym, ◌∙◌, arith, length-append}
-use Rattle.std.specs.Prelude.{◌||◌, if◌then◌else◌}
+use Rattle.std.proofs.Common.{◌⊎◌, inl, inr, ap, sym, ◌∙◌, arith}
+use Rattle.std.specs.Prelude.{◌||◌}
 use Rattle.std.proofs.lemmas.Bool.{and_parts, and_from, cases_lt}
 use Rattle.std.proofs.Math.Bool.{or-true, or-false}
 use Rattle.mp_io.specs.Devices.{Text}
 use Rattle.mp_pattern.specs.Firsts.{is_known}
-use Rattle.mp_pattern.specs.NetTokens.{number_in, numbered}
+use Rattle.mp_pattern.specs.NetTokens.{numbered}
 use Rattle.mp_pattern.specs.Value.{same_name}
 use Rattle.mp_pattern.proofs.NameLaws.{same_name-itself}
 use Rattle.mp_walk.specs.Walkable.{numbered_names}
+use Rattle.mp_walk.proofs.NumberedNames.{length-numbered_names}
 use Rattle.mp_program.specs.TokenPaths.{are_numbered_from}
-
--- so many names stand before one at most
-pub number_in-most : (xs : List Text) (x : Text) → number_in xs x ≤ length xs
-number_in-most [] x = omega arith
-number_in-most (y ∷ ys) x = elim (same_name y x) as
-    (λ b. (if b then 0 else number_in ys x + 1) ≤ length (y ∷ ys))
-    [ true ↦ omega arith | false ↦ omega (arith, number_in-most ys x) ]
 
 -- ---- known items
 
@@ -49,10 +43,6 @@ known-numbered (suc k) n h = known-push same_name (numbered_names k) (numbered k
 
 -- ---- names in order
 
-pub length-names : (n : ℕ) → length (numbered_names n) ≡ n
-length-names zero = refl
-length-names (suc n) = omega (arith, length-append (numbered_names n) (numbered n ∷ []), length-names n)
-
 -- the first ones of names in order
 pub numbered-front : (n : ℕ) (xs ys : List Text) → are_numbered_from n (xs ++ ys) ≡ true
     → are_numbered_from n xs ≡ true
@@ -78,4 +68,4 @@ numbered-push n (y ∷ xs) x h e =
 pub numbered-names : (m : ℕ) → are_numbered_from 0 (numbered_names m) ≡ true
 numbered-names zero = refl
 numbered-names (suc m) = numbered-push 0 (numbered_names m) (numbered m) (numbered-names m)
-    (ap numbered (let e : m ≡ 0 + length (numbered_names m) = omega (arith, length-names m) in e))
+    (ap numbered (let e : m ≡ 0 + length (numbered_names m) = omega (arith, length-numbered_names m) in e))

@@ -24,7 +24,8 @@ use Rattle.mp_round_trip.specs.OpenBrackets.{alternatives_depth, condition_depth
 use Rattle.mp_round_trip.specs.Readable.{IsReadableCondition}
 use Rattle.mp_program.specs.ProgramOf.{renamed_operand, renamed_amount, renamed_cond, renamed_conds}
 use Rattle.mp_program.specs.TokenPaths.{operand_names, cond_names}
-use Rattle.mp_program.proofs.NameLaws.{number_in-most, known-numbered}
+use Rattle.mp_walk.proofs.Renaming.{number_in-most}
+use Rattle.mp_program.proofs.NameLaws.{known-numbered}
 
 -- ---- numbers of names
 

@@ -177,12 +177,6 @@ only-trees [] v e = cc
 only-trees (t ∷ []) v e = refl
 only-trees (t ∷ u ∷ ts) v e = cc
 
-pub not-only-head : (f g : ℕ) (t : Tree) (ts : List Tree) → t ≡ app g (trees ts) → (g ≡ f → ⊥) → (v : Tree)
-    → t ≡ app f (trees (v ∷ [])) → ⊥
-not-only-head f g t ts e n v h =
-    let q : app g (trees ts) ≡ app f (trees (v ∷ [])) = sym e ∙ h in
-    n (let i : g ≡ f = cc in i)
-
 pub not-only-length : (f g : ℕ) (t : Tree) (ts : List Tree) → t ≡ app g (trees ts) → (length ts ≡ 1 → ⊥) → (v : Tree)
     → t ≡ app f (trees (v ∷ [])) → ⊥
 not-only-length f g t ts e n v h =

@@ -5,7 +5,7 @@ use Rattle.std.proofs.Common.{get_or, map}
 use Rattle.std.specs.Prelude.{Option, Some, None, slice_get, option_map}
 use Rattle.std.specs.Option.{option_or}
 use Rattle.std.proofs.lemmas.Option.{slice_get-map, slice_get_read}
-use Rattle.mp_term.specs.Tree.{Tree, symbol, app, Trees, trees}
+use Rattle.mp_term.specs.Tree.{Tree, symbol, app, trees}
 use Rattle.mp_term.specs.Size.{node_count, all_nodes}
 use Rattle.mp_term.specs.Signature.{Sig}
 use Rattle.mp_pattern.specs.Admission.{Rule}
@@ -47,18 +47,6 @@ module _ (sig : Sig) (rules : List Rule) where
   root-Some (symbol n) m e =
       ap (λ (o : Option Match). option_map (λ m. record { position = []; «match» = m }) o) e
   root-Some (app f ts) m e =
-      ap (λ (o : Option Match). option_or (option_map (λ m. record { position = []; «match» = m }) o)
-      (first_below sig rules 0 ts)) e
-
-  -- without one there, it is that of the arguments
-  pub root-None-symbol : (n : List ℕ) → first_match sig rules (symbol n) ≡ None
-      → first_redex sig rules (symbol n) ≡ None
-  root-None-symbol n e =
-      ap (λ (o : Option Match). option_map (λ m. record { position = []; «match» = m }) o) e
-
-  pub root-None-app : (f : ℕ) (ts : Trees) → first_match sig rules (app f ts) ≡ None
-      → first_redex sig rules (app f ts) ≡ first_below sig rules 0 ts
-  root-None-app f ts e =
       ap (λ (o : Option Match). option_or (option_map (λ m. record { position = []; «match» = m }) o)
       (first_below sig rules 0 ts)) e
 

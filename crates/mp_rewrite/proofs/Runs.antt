@@ -173,10 +173,6 @@ collapsed-two sig f [] l = absurd (omega (arith, l))
 collapsed-two sig f (t ∷ []) l = absurd (omega (arith, l))
 collapsed-two sig f (t ∷ u ∷ ts) l = refl
 
-copies-none : (o : Option (Bor Name)) → copies o 0 ≡ []
-copies-none None = refl
-copies-none (Some n) = refl
-
 -- ---- the first rule
 
 pub some-pairing : (sig : Sig) (r : Rule) (later rules : List Rule) (f : ℕ) (o : Option Cancellation)
@@ -189,13 +185,6 @@ some-pairing sig r later rules f (Some d) h e = record { rule = r; later = later
 -- ---- runs
 
 module _ (sig : Sig) (rules : List Rule) where
-  -- no step
-  pub no-steps : (t : Tree) → Leads sig rules 0 t t
-  no-steps t = λ left n.
-      let same : 0 + left ≡ left = omega arith in
-      let none : n ≡ 0 + n = omega arith in
-      ap (λ m. rewriting_from sig rules m n t) same ∙ ap (λ m. rewriting_from sig rules left m t) none
-
   -- one step more
   leads-on : (k : ℕ) (t v u : Tree) → Leads sig rules k t v → next_step sig rules v ≡ Some (stepped u)
       → Leads sig rules (suc k) t u
@@ -233,19 +222,6 @@ pub record IsOn (sig : Sig) (rules : List Rule) (d : Cancellation) (t : Tree) (b
       ≡ slice_get (kept ++ (ahead ++ (copies d.put made ++ behind))) (suc k) → ⊥
 
 module _ (sig : Sig) (rules : List Rule) (d : Cancellation) where
-  pub on-begins : (before behind : List Tree) → IsRunnable sig rules d before behind
-      → IsOn sig rules d (app d.op.0 (trees (before ++ behind))) behind [] before 0
-  on-begins before behind h =
-      let e : before ++ behind ≡ before ++ (copies d.put 0 ++ behind) =
-      ap (λ l. before ++ (l ++ behind)) (sym (copies-none d.put)) in
-      record {
-        leads = subst (λ l. Leads sig rules 0 (app d.op.0 (trees (before ++ behind))) (app d.op.0 (trees l))) e
-            (no-steps sig rules (app d.op.0 (trees (before ++ behind))));
-        rewritable = subst (λ l. IsRewritable sig (app d.op.0 (trees l))) e h.rewritable;
-        room = h.room;
-        apart = λ k l e. omega (arith, l);
-      }
-
   -- an argument that isn't equal to the next is kept
   pub on-kept : (t : Tree) (behind kept ahead : List Tree) (made : ℕ) (x y : Tree) (b : Bool)
       → b ≡ same tree_cmp x y → b ≡ false → IsOn sig rules d t behind kept (x ∷ y ∷ ahead) made

@@ -1,8 +1,8 @@
 -- Steps that are made in place.
-use Rattle.std.proofs.Common.{◌≡◌, ◌∙◌, ap, sym, refl, ℕ, zero, suc, ◌+◌, ◌<◌, ◌≤◌, ◌-◌, ◌^◌}
+use Rattle.std.proofs.Common.{◌≡◌, ◌∙◌, ap, sym, refl, ℕ, zero, suc, ◌+◌, ◌≤◌}
 use Rattle.std.proofs.Common.{max, Bool, true, false, List, [], ◌∷◌}
 use Rattle.std.proofs.Common.{length, map, arith}
-use Rattle.std.specs.Prelude.{Option, Some, None, Result, Ok, Err, min}
+use Rattle.std.specs.Prelude.{Option, Some, None, Result, Ok, Err}
 use Rattle.std.specs.Prelude.{nat_lt, if◌then◌else◌, slice_get, option_and_then}
 use Rattle.std.specs.Option.{option_or}
 use Rattle.std.proofs.lemmas.Bool.Decides.{nat_tests}
@@ -30,39 +30,11 @@ use Rattle.mp_rewrite.proofs.Steps.{IsStepBy-step_at}
 
 -- ---- sizes
 
-large : (n : ℕ) (b c : Bool) (m d : ℕ) → nat_lt MAX_TERM_NODES n ≡ b → MAX_TERM_NODES < n
-    → (if b then Some (TooLarge m) else (if c then Some (TooDeep d) else None)) ≡ Some (TooLarge m)
-large n true c m d e h = refl
-large n false c m d e h = absurd (grind (arith, nat_tests, e, h))
-
-deep : (n k : ℕ) (b c : Bool) (m d : ℕ) → nat_lt MAX_TERM_NODES n ≡ b → nat_lt MAX_DEPTH k ≡ c → n ≤ MAX_TERM_NODES
-    → MAX_DEPTH < k → (if b then Some (TooLarge m) else (if c then Some (TooDeep d) else None)) ≡ Some (TooDeep d)
-deep n k true c m d e f h g = absurd (grind (arith, nat_tests, e, h))
-deep n k false true m d e f h g = refl
-deep n k false false m d e f h g = absurd (grind (arith, nat_tests, f, g))
-
 fits : (n k : ℕ) (b c : Bool) (m d : ℕ) → nat_lt MAX_TERM_NODES n ≡ b → nat_lt MAX_DEPTH k ≡ c → n ≤ MAX_TERM_NODES
     → k ≤ MAX_DEPTH → (if b then Some (TooLarge m) else (if c then Some (TooDeep d) else None)) ≡ None
 fits n k true c m d e f h g = absurd (grind (arith, nat_tests, e, h))
 fits n k false true m d e f h g = absurd (grind (arith, nat_tests, f, g))
 fits n k false false m d e f h g = refl
-
--- a term of too many nodes, one that is too deep, and one that is neither
-pub excess-large : (t : Tree) (n : ℕ) → n ≡ node_count t → n < 2 ^ 64 → MAX_TERM_NODES < n
-    → Some (TooLarge n) ≡ excess (t ∷ [])
-excess-large t n e f h =
-    let nodes : min (node_count t + 0) (2 ^ 64 - 1) ≡ n = omega (arith, e, f) in
-    sym (large (node_count t + 0) (nat_lt MAX_TERM_NODES (node_count t + 0)) (nat_lt MAX_DEPTH (max (depth t) 0)) _ _
-    refl
-    (omega (arith, e, h)) ∙ ap (λ m. Some (TooLarge m)) nodes)
-
-pub excess-deep : (t : Tree) (n d : ℕ) → n ≡ node_count t → n ≤ MAX_TERM_NODES → d < 2 ^ 64 → MAX_DEPTH < d
-    → d ≤ depth t → depth t ≤ max MAX_DEPTH d → Some (TooDeep d) ≡ excess (t ∷ [])
-excess-deep t n d e h f g low high =
-    let reach : min (max (depth t) 0) (2 ^ 64 - 1) ≡ d = omega (arith, f, g, low, high) in
-    sym (deep (node_count t + 0) (max (depth t) 0) (nat_lt MAX_TERM_NODES (node_count t + 0))
-    (nat_lt MAX_DEPTH (max (depth t) 0)) _ _ refl refl (omega (arith, e, h)) (omega (arith, g, low))
-    ∙ ap (λ m. Some (TooDeep m)) reach)
 
 pub excess-none : (t : Tree) (n d : ℕ) → n ≡ node_count t → n ≤ MAX_TERM_NODES → d ≤ MAX_DEPTH
     → depth t ≤ max MAX_DEPTH d → None ≡ excess (t ∷ [])
@@ -107,10 +79,6 @@ module _ (sig : Sig) (t : Tree) (r : Redex) (x : Template) (spliced : Tree)
     instance = instance;
     step = step;
   })
-
-  -- the instance is too large or too deep
-  pub step-refused : (e : Excess) → excess (spliced ∷ []) ≡ Some e → step_at sig t r ≡ Some (exceeded e)
-  step-refused e h = made (exceeded e) (ap (λ o. option_or o (excess (put_in sig t r.position spliced))) h)
 
   whole-excess : (o : Option Excess) → excess (spliced ∷ []) ≡ None
       → excess (replaced r.position (normal sig spliced) t ∷ []) ≡ o → step_excess sig t r.position spliced ≡ o

@@ -3,6 +3,7 @@ use Rattle.std.proofs.Common.{◌≡◌, ◌≤◌, ℕ, suc, Bool, true, List, 
 use Rattle.std.proofs.Common.{None, inl, inr, refl, ap, sym, ◌∙◌, subst}
 use Rattle.std.specs.Prelude.{◌≢◌, ◌⊎◌, length, codes, decimal, position, bytes_eq, slice_get, IsSome}
 use Rattle.std.specs.List.{AllByRecursion}
+use Rattle.std.proofs.lemmas.Iterator.Adapters.{option_map_id}
 use Rattle.std.proofs.lemmas.List.{map-id}
 use Rattle.mp_io.specs.Devices.{Text}
 use Rattle.mp_term.specs.Names.{is_name}
@@ -39,7 +40,7 @@ use Rattle.mp_vm.proofs.Decisions.{Decided, decided-by, decided-both, decided-no
 use Rattle.mp_vm.proofs.Decisions.{decided-text, decided-empty, decided-all, decided-found, decided-only}
 use Rattle.mp_vm.proofs.Decisions.{Behind, decided-behind, Spells}
 use Rattle.mp_vm.proofs.Decisions.{decided-spell-both, decided-begun, decided-ended, decided-items}
-use Rattle.mp_vm.proofs.OneReading.{cond-one, numbers-one, plain-map}
+use Rattle.mp_vm.proofs.OneReading.{cond-one, numbers-one}
 use Rattle.mp_vm.proofs.ValueDecisions.{decided-decimal, decided-target, decided-wildcard, decided-format}
 use Rattle.mp_vm.proofs.ValueDecisions.{decided-condition, decided-symbol, decided-default, decided-comm, IsCount}
 use Rattle.mp_vm.proofs.ValueDecisions.{count_text, decided-count, decided-exact}
@@ -94,7 +95,7 @@ module _ (sig : Sig) (held : IsSignature sig) where
   decided-op : (name : Text) → Decided ((f : ℕ) × IsHeldOp sig name f)
   decided-op name = decided-found (IsHeldOp sig name) (position (has_name name) sig.ops)
       (Finds-op (λ i. i) sig name (position (has_name name) sig.ops) held.ops_distinct
-      (plain-map (position (has_name name) sig.ops)))
+      (option_map_id (position (has_name name) sig.ops)))
 
   abbrev IsKind : ℕ → Type 0
   IsKind k = IsSome (slice_get (kind_names sig) k)
@@ -104,7 +105,7 @@ module _ (sig : Sig) (held : IsSignature sig) where
       decided-by (λ h. (h.0, h.1.held, h.1.text)) (λ h. (h.0, record { held = h.1; text = h.2 }))
       (decided-found (IsHeldKind sig name) (position (bytes_eq name) (kind_names sig))
       (Finds-kind (λ i. i) sig name (position (bytes_eq name) (kind_names sig)) held.kinds_distinct
-      (plain-map (position (bytes_eq name) (kind_names sig)))))
+      (option_map_id (position (bytes_eq name) (kind_names sig)))))
 
   abbrev IsDefault : Tree → Type 0
   IsDefault u = IsTermOf sig (term_text sig u) u × (node_count u ≤ MAX_DEFAULT_NODES)

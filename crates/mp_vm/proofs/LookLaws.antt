@@ -1,5 +1,5 @@
 -- The wildcards of the variables of a path, occurrence by occurrence.
-use Rattle.std.proofs.Common.{◌≡◌, ℕ, zero, suc, ◌+◌, ◌<◌, List, [], ◌∷◌, ◌++◌, map, length, Bool, true, false}
+use Rattle.std.proofs.Common.{◌≡◌, ℕ, suc, ◌+◌, ◌<◌, List, [], ◌∷◌, ◌++◌, map, length, Bool, true, false}
 use Rattle.std.proofs.Common.{refl, ap, sym, ◌∙◌, inl, inr, subst, arith, length-append, take}
 use Rattle.std.specs.Prelude.{◌||◌, ◌&&◌, not, Option, Some, None, if◌then◌else◌, nat_eq, nat_lt, nat_le, slice_get}
 use Rattle.std.specs.List.{list_any}
@@ -20,15 +20,16 @@ use Rattle.mp_pattern.specs.PatternTree.{no_patterns, more_patterns}
 use Rattle.mp_pattern.specs.Value.{same_name}
 use Rattle.mp_pattern.specs.Variables.{Use, uses, all_uses}
 use Rattle.mp_pattern.proofs.ClashLaws.{same_shape-same, same_shape-itself}
+use Rattle.mp_pattern.proofs.ItemLaws.{slice_get-found, slice_get-second}
 use Rattle.mp_pattern.proofs.NameLaws.{same_name-is, same_name-itself}
 use Rattle.mp_pattern.proofs.PlanLaws.{firsts_after-append}
 use Rattle.mp_theory.proofs.FirstItems.{known-in}
 use Rattle.mp_theory.proofs.FirstsLaws.{firsts_after-fresh, from_in-firsts_after}
 use Rattle.mp_walk.specs.Walkable.{numbered_names}
-use Rattle.mp_walk.proofs.EntryLaws.{get-front}
 use Rattle.mp_program.specs.TokenPaths.{are_numbered_from, differ, some_differ, token_uses}
 use Rattle.mp_program.proofs.ListLaws.{list_any-none}
-use Rattle.mp_program.proofs.NameLaws.{length-names, numbered-front, numbered-names}
+use Rattle.mp_walk.proofs.NumberedNames.{length-numbered_names}
+use Rattle.mp_program.proofs.NameLaws.{numbered-front, numbered-names}
 use Rattle.mp_program.proofs.PathLaws.{use_names}
 use Rattle.mp_vm.specs.Looks.{place_of, placed, placed_in, all_placed_in, token_places, with_look, with_looks}
 use Rattle.mp_vm.specs.Looks.{HasLooks}
@@ -70,13 +71,6 @@ are_right_uses us = are_numbered_from 0 (first_names us)
     && (nat_le (length (first_names us)) MAX_VARIABLES && not (some_differ us))
 
 -- ---- lists
-
--- what stands behind a list
-at-end : {X : Type 0} (xs : List X) (x : X) (k : ℕ) → k ≡ length xs → slice_get (xs ++ x ∷ []) k ≡ Some x
-at-end [] x zero h = refl
-at-end [] x (suc k) h = absurd (omega (arith, h))
-at-end (y ∷ xs) x zero h = absurd (omega (arith, h))
-at-end (y ∷ xs) x (suc k) h = at-end xs x k (omega (arith, h))
 
 pub any-in : {X : Type 0} (p : X → Bool) (xs : List X) (x : X) → In x xs → p x ≡ true → list_any p xs ≡ true
 any-in p [] x i h = absurd i
@@ -164,7 +158,7 @@ no-looks = record { few = omega arith; names = refl; looks = λ u i. absurd i }
 -- occurrences with one wildcard for each variable are right
 pub right-looks : (us : List Use) (ws : List Wildcard) → HasLooks us ws → are_right_uses us ≡ true
 right-looks us ws h =
-    let count : length (first_names us) ≡ length ws = ap length h.names ∙ length-names (length ws) in
+    let count : length (first_names us) ≡ length ws = ap length h.names ∙ length-numbered_names (length ws) in
     and_from (are_numbered_from 0 (first_names us)) _ (ap (are_numbered_from 0) h.names ∙ numbered-names (length ws))
     (and_from (nat_le (length (first_names us)) MAX_VARIABLES) _
     (le-leb (length (first_names us)) MAX_VARIABLES (omega (arith, count, h.few)))
@@ -227,10 +221,11 @@ with-look us ws vs u h e = by_old (nat_lt (place_of u.name) (length ws)) refl e
           names = names-more us ws h u false less ∙ ap (λ x. numbered_names (length ws) ++ x ∷ []) named
               ∙ ap numbered_names (sym count);
           looks = λ v i. elim (from_in-append v us (u ∷ []) i) [
-            | inl j ↦ get-front ws (u.wildcard ∷ []) (place_of v.name) v.wildcard (h.looks v j)
+            | inl j ↦ slice_get-found ws (u.wildcard ∷ []) (place_of v.name) v.wildcard (h.looks v j)
             | inr j ↦ elim j [
               | inl q ↦ ap (λ (x : Use). slice_get (ws ++ u.wildcard ∷ []) (place_of x.name)) q
-                  ∙ at-end ws u.wildcard (place_of u.name) at ∙ ap (λ (x : Use). Some x.wildcard) (sym q)
+                  ∙ slice_get-second ws (u.wildcard ∷ []) 0 (place_of u.name) (omega (arith, at))
+                  ∙ ap (λ (x : Use). Some x.wildcard) (sym q)
               | inr n ↦ absurd n
             ]
           ];
@@ -331,7 +326,7 @@ keeps-look us ws u rest h right none = by_old (nat_lt (place_of u.name) (length 
         let count : length (first_names (us ++ u ∷ rest)) ≡ length (numbered_names (length ws)) + suc (length more) =
         ap length whole ∙ length-append (numbered_names (length ws)) (u.name ∷ more) in
         let few = leb-true (length (first_names (us ++ u ∷ rest))) MAX_VARIABLES second.0 in
-        let size = length-names (length ws) in
+        let size = length-numbered_names (length ws) in
         let number : 0 + length (numbered_names (length ws)) ≡ length ws = omega (arith, size) in
         let room : length ws < MAX_VARIABLES = omega (arith, count, few, size) in
         let at : place_of u.name ≡ length ws =

@@ -30,7 +30,7 @@ use Rattle.mp_program.specs.Program.{ProgramRule}
 use Rattle.mp_program.specs.TokenPaths.{path_uses, path_variables, is_sequence_name, cond_names, less_names, suits_test}
 use Rattle.mp_program.specs.TokenPaths.{all_less_names}
 use Rattle.mp_program.specs.TokenPaths.{test_of, may_accept}
-use Rattle.mp_program.proofs.NameLaws.{length-names}
+use Rattle.mp_walk.proofs.NumberedNames.{length-numbered_names}
 use Rattle.mp_program.proofs.PathLaws.{use_names}
 use Rattle.mp_vm.specs.Looks.{place_of, HasLooks}
 use Rattle.mp_vm.specs.RuleNeeds.{places, count_named, with_places, needs_with, needs_of, is_sequence_at}
@@ -156,7 +156,7 @@ module _ (us : List Use) (ws : List Wildcard) (h : HasLooks us ws) where
 
 module _ (ks : Path) (ws : List Wildcard) (h : HasLooks (path_uses ks) ws) where
   count-variables : length (path_variables ks) ≡ length ws
-  count-variables = ap length h.names ∙ length-names (length ws)
+  count-variables = ap length h.names ∙ length-numbered_names (length ws)
 
   -- what a rule needs is there where the rule goes with the path
   meets-with : (count : ℕ) (test : Option Cond) → meets_needs ws (needs_with count test)

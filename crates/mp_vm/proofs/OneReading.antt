@@ -1,10 +1,11 @@
 -- A text is the text of one line at most.
 use Rattle.std.proofs.Common.{◌≡◌, ◌<◌, ◌≤◌, ◌^◌, ℕ, Bool, true, false, List, [], ◌∷◌, ◌++◌, map, Option, Some}
 use Rattle.std.proofs.Common.{None, refl, ap, sym, ◌∙◌, subst, arith, append_assoc, append-nil, inl, inr}
-use Rattle.std.specs.Prelude.{◌&&◌, codes, decimal, position, bytes_eq, option_map, not, take}
+use Rattle.std.specs.Prelude.{◌&&◌, codes, decimal, position, bytes_eq, not, take}
 use Rattle.std.specs.List.{AllByRecursion, list_all}
 use Rattle.std.specs.Char.{is_ascii_digit}
 use Rattle.std.proofs.lemmas.Bool.{and_parts}
+use Rattle.std.proofs.lemmas.Iterator.Adapters.{option_map_id}
 use Rattle.std.proofs.lemmas.List.{same_from_push, append_cancel_left, append_cancel_right, map-id}
 use Rattle.std.proofs.lemmas.List.Folds.{list_all-append}
 use Rattle.mp_io.specs.Devices.{Text}
@@ -271,20 +272,16 @@ module _ (sig : Sig) where
 
 -- ---- operations and kinds
 
-pub plain-map : {A : Type 0} (o : Option A) → option_map (λ a. a) o ≡ o
-plain-map None = refl
-plain-map (Some a) = refl
-
 module _ (sig : Sig) (held : IsSignature sig) where
   pub op-only : (name : Text) (f : ℕ) → IsHeldOp sig name f → IsOnly (IsHeldOp sig name) f
   op-only name f h = known-only (IsHeldOp sig name) (position (has_name name) sig.ops)
       (Finds-op (λ i. i) sig name (position (has_name name) sig.ops) held.ops_distinct
-      (plain-map (position (has_name name) sig.ops))) f h
+      (option_map_id (position (has_name name) sig.ops))) f h
 
   pub kind-only : (name : Text) (k : ℕ) → IsHeldKind sig name k → IsOnly (IsHeldKind sig name) k
   kind-only name k h = known-only (IsHeldKind sig name) (position (bytes_eq name) (kind_names sig))
       (Finds-kind (λ i. i) sig name (position (bytes_eq name) (kind_names sig)) held.kinds_distinct
-      (plain-map (position (bytes_eq name) (kind_names sig)))) k h
+      (option_map_id (position (bytes_eq name) (kind_names sig)))) k h
 
   -- ---- tokens
 

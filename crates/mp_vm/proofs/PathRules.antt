@@ -118,23 +118,6 @@ module _ (sig : Sig) (most : ℕ) where
   wrong-if : (ks : Path) → (HasParts ks → ⊥) → is_right_path sig most ks ≡ false
   wrong-if ks none = false_from_ne_true (is_right_path sig most ks) (λ e. none (right-parts ks e))
 
-  -- a loose wildcard at the root
-  pub wrong-root : (ks : Path) (k : NetToken) → is_none ks ≡ true → is_loose_token k ≡ true
-      → is_right_path sig most (ks ++ k ∷ []) ≡ false
-  wrong-root ks k none loose = wrong-if (ks ++ k ∷ []) (λ p.
-      let root : has_plain_root (k ∷ []) ≡ true =
-      ap (λ js. has_plain_root (js ++ k ∷ [])) (sym (none-is ks none)) ∙ p.root in
-      let wrong : true ≡ false = sym loose ∙ not-true (is_loose_token k) root in cc)
-
-  -- a commutative operation is entered
-  pub wrong-enters : (ks : Path) (k : NetToken) → enters_comm sig k ≡ true
-      → is_right_path sig most (ks ++ k ∷ []) ≡ false
-  wrong-enters ks k enters = wrong-if (ks ++ k ∷ []) (λ p.
-      let both = or_parts (list_any (enters_comm sig) ks) (list_any (enters_comm sig) (k ∷ []))
-      (sym (list_any-append (enters_comm sig) ks (k ∷ [])) ∙ p.enters) in
-      let e = (or_parts (enters_comm sig k) false both.1).0 in
-      let wrong : true ≡ false = sym enters ∙ e in cc)
-
   -- too many nodes
   pub wrong-nodes : (ks : Path) (k : NetToken) → most < path_nodes ks + token_nodes k
       → is_right_path sig most (ks ++ k ∷ []) ≡ false

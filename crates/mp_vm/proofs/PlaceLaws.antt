@@ -16,8 +16,8 @@ use Rattle.mp_pattern.specs.Value.{same_name}
 use Rattle.mp_pattern.proofs.NameLaws.{same_name-is, same_name-itself}
 use Rattle.mp_theory.proofs.FirstItems.{known-in}
 use Rattle.mp_walk.specs.Walkable.{numbered_names}
-use Rattle.mp_walk.proofs.NumberedNames.{number_in-less, numbered-number_in}
-use Rattle.mp_program.proofs.NameLaws.{length-names, number_in-most}
+use Rattle.mp_walk.proofs.NumberedNames.{length-numbered_names, number_in-less, numbered-number_in}
+use Rattle.mp_walk.proofs.Renaming.{number_in-most}
 use Rattle.mp_vm.specs.Looks.{place_of}
 
 -- ---- numbered names
@@ -62,19 +62,19 @@ module _ (most : ℕ) (few : most < 2 ^ 64) where
   place x = number_in (numbered_names most) x
 
   place-most : (x : Text) → place x ≤ most
-  place-most x = omega (arith, number_in-most (numbered_names most) x, length-names most)
+  place-most x = omega (arith, number_in-most (numbered_names most) x, length-numbered_names most)
 
   in-place : (x : Text) → place x < most → In x (numbered_names most)
-  in-place x h = number_in-in (numbered_names most) x (omega (arith, h, length-names most))
+  in-place x h = number_in-in (numbered_names most) x (omega (arith, h, length-numbered_names most))
 
   place-named : (x : Text) → In x (numbered_names most) → numbered (place x) ≡ x
-  place-named x i = numbered-number_in (numbered_names most) (ap numbered_names (sym (length-names most))) x i
+  place-named x i = numbered-number_in (numbered_names most) (ap numbered_names (sym (length-numbered_names most))) x i
 
   place-number : (n : ℕ) → n < most → place (numbered n) ≡ n
   place-number n h =
       let i = in-names most n h in
       let l = number_in-less (numbered_names most) (numbered n) i in
-      numbered-same (place (numbered n)) n (omega (arith, l, length-names most, few)) (omega (arith, h, few))
+      numbered-same (place (numbered n)) n (omega (arith, l, length-numbered_names most, few)) (omega (arith, h, few))
       (place-named (numbered n) i)
 
   place-none : (x : Text) → ((n : ℕ) → n < most → numbered n ≡ x → ⊥) → place x ≡ most
@@ -92,9 +92,9 @@ module _ (most : ℕ) (few : most < 2 ^ 64) where
       (λ e.
       let i = known-in same_name same_name-is (numbered_names m) x e in
       let k = number_in (numbered_names m) x in
-      let l : k < m = omega (arith, number_in-less (numbered_names m) x i, length-names m) in
+      let l : k < m = omega (arith, number_in-less (numbered_names m) x i, length-numbered_names m) in
       let n : numbered k ≡ x =
-      numbered-number_in (numbered_names m) (ap numbered_names (sym (length-names m))) x i in
+      numbered-number_in (numbered_names m) (ap numbered_names (sym (length-numbered_names m))) x i in
       let p : place x ≡ k = ap place (sym n) ∙ place-number k (omega (arith, l, h)) in
       lt-ltb (place x) m (omega (arith, p, l)))
       (λ e.

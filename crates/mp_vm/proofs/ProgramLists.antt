@@ -33,7 +33,7 @@ use Rattle.mp_program.specs.Reading.{IsValid}
 use Rattle.mp_program.specs.TokenPaths.{test_of}
 use Rattle.mp_vm.specs.ProgramList.{IsGivenBy, IsProgramPair, IsProgramList}
 use Rattle.mp_vm.specs.Runnable.{IsRunnable}
-use Rattle.mp_vm.proofs.RunLaws.{listing-program, rule-there}
+use Rattle.mp_vm.proofs.RunLaws.{listing-program, rule-there, same-rule}
 use Rattle.mp_vm.proofs.RunnableLaws.{valid-runnable}
 use Rattle.mp_vm.proofs.StandsAlone.{fits-once, stands-same}
 
@@ -75,9 +75,6 @@ module _ (sig : Sig) (p : Program) (run : IsRunnable sig p) (t : Tree) (normal :
     AreGiven n qs = (q : Pair) → In q qs ↔ ((q.0 ≡ n) × IsGivenBy sig p t i.0 i.1 q)
 
     module _ (n : ℕ) (r : ProgramRule) (held : slice_get p.rules n ≡ Some r) where
-      rule-same : (q : Pair) → q.0 ≡ n → (g : IsGivenBy sig p t i.0 i.1 q) → g.rule ≡ r
-      rule-same q e g = let w : Some g.rule ≡ Some r = sym g.numbered ∙ ap (slice_get p.rules) e ∙ held in cc
-
       -- by the answer of its test
       rule-given : (passed : Bool) → meets sig (test_of p.tests r.test) leaf.subst ≡ passed
           → (qs : List Pair) × AreGiven n qs
@@ -89,7 +86,8 @@ module _ (sig : Sig) (p : Program) (run : IsRunnable sig p) (t : Tree) (normal :
               let g = h.1 in
               let own = subst-same g.path g.pattern g.subst g.leads g.stands g.fits in
               let wrong : false ≡ true = sym refused ∙ ap (meets sig (test_of p.tests r.test)) (sym own)
-              ∙ ap (λ z. meets sig (test_of p.tests z.test) g.subst) (sym (rule-same q h.0 g)) ∙ g.test in
+              ∙ ap (λ z. meets sig (test_of p.tests z.test) g.subst) (sym (same-rule sig p t i n r held q h.0 g))
+              ∙ g.test in
               absurd cc,
         ),
       )
@@ -118,7 +116,8 @@ module _ (sig : Sig) (p : Program) (run : IsRunnable sig p) (t : Tree) (normal :
               let g = h.1 in
               let own = subst-same g.path g.pattern g.subst g.leads g.stands g.fits in
               let named : q.1 ≡ with_names r.vars leaf.subst = g.named
-              ∙ ap (λ z. with_names z.vars g.subst) (rule-same q h.0 g) ∙ ap (with_names r.vars) own in
+              ∙ ap (λ z. with_names z.vars g.subst) (same-rule sig p t i n r held q h.0 g)
+              ∙ ap (with_names r.vars) own in
               inl (ap (λ (m : ℕ). (m, q.1)) h.0 ∙ ap (λ (u : Subst). (n, u)) named),
         ),
       )

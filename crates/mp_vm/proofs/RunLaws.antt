@@ -1,6 +1,6 @@
 -- What a walk over a program that may be run gives: the pairs that the program accepts.
-use Rattle.std.proofs.Common.{◌≡◌, ℕ, zero, suc, ◌+◌, ◌<◌, ◌≤◌, List, [], ◌∷◌, ◌++◌, map, length, take, drop}
-use Rattle.std.proofs.Common.{get_or, Bool, true, false, refl, ap, sym, ◌∙◌, ◌⊎◌, inl, inr, subst, arith}
+use Rattle.std.proofs.Common.{◌≡◌, ℕ, suc, ◌+◌, ◌<◌, ◌≤◌, List, [], ◌∷◌, ◌++◌, map, length, drop}
+use Rattle.std.proofs.Common.{Bool, true, false, refl, ap, sym, ◌∙◌, ◌⊎◌, inl, inr, subst, arith}
 use Rattle.std.specs.Prelude.{◌↔◌, ◌&&◌, Contains, Option, Some, None, IsSome, IfSome, IsSomeAnd, slice_get}
 use Rattle.std.specs.Prelude.{nat_eq, flat_map, option_map}
 use Rattle.std.specs.List.{AllByRecursion, list_all}
@@ -42,37 +42,18 @@ use Rattle.mp_walk.proofs.CodePaths.{leaf-whole}
 use Rattle.mp_walk.proofs.FoundLaws.{ascending-pairs}
 use Rattle.mp_program.specs.Program.{ProgramRule, Program}
 use Rattle.mp_program.specs.TokenPaths.{operand_names, cond_names, path_variables, suits_test, test_of}
-use Rattle.mp_program.proofs.NameLaws.{length-names}
+use Rattle.mp_walk.proofs.NumberedNames.{length-numbered_names}
 use Rattle.mp_program.proofs.PathLaws.{variables-path}
 use Rattle.mp_vm.specs.ProgramList.{IsGivenBy, IsProgramPair, IsProgramList, IsAcceptedAt, IsTestedBy}
 use Rattle.mp_vm.specs.ProgramList.{IsPairOf}
 use Rattle.mp_vm.specs.Runnable.{IsSmallOperand, HasSmallOperands, IsRunnable}
 use Rattle.mp_vm.proofs.WholePaths.{each-path}
 
--- ---- lists
-
--- what stands at a place is in the list
--- one item more
-pub take-next : (xs : List ℕ) (k : ℕ) → k < length xs → take (k + 1) xs ≡ take k xs ++ get_or xs k 0 ∷ []
-take-next xs k h = ap (λ n. take n xs) (let m : k + 1 ≡ suc k = omega arith in m) ∙ next xs k h
-  where
-    next : (xs : List ℕ) (k : ℕ) → k < length xs → take (suc k) xs ≡ take k xs ++ get_or xs k 0 ∷ []
-    next [] k h = absurd (omega (arith, h))
-    next (y ∷ xs) zero h = refl
-    next (y ∷ xs) (suc k) h = ap (λ l. y ∷ l) (next xs k (omega (arith, h)))
-
--- all items
-pub take-whole : (k : ℕ) (xs : List ℕ) → length xs ≤ k → take k xs ≡ xs
-take-whole zero [] h = refl
-take-whole (suc k) [] h = refl
-take-whole zero (x ∷ xs) h = absurd (omega (arith, h))
-take-whole (suc k) (x ∷ xs) h = ap (λ l. x ∷ l) (take-whole k xs (omega (arith, h)))
-
--- an item of a list
-pub in-get : (xs : List ℕ) (k : ℕ) → k < length xs → In (get_or xs k 0) xs
-in-get [] k h = absurd (omega (arith, h))
-in-get (x ∷ xs) zero h = inl refl
-in-get (x ∷ xs) (suc k) h = inr (in-get xs k (omega (arith, h)))
+-- the rule of a pair that is given is that of its number
+pub same-rule : (sig : Sig) (p : Program) (t : Tree) (i : ℕ × Table) (n : ℕ) (r : ProgramRule)
+    → slice_get p.rules n ≡ Some r → (q : Pair) → q.0 ≡ n → (g : IsGivenBy sig p t i.0 i.1 q) → g.rule ≡ r
+same-rule sig p t i n r held q e g =
+    let w : Some g.rule ≡ Some r = sym g.numbered ∙ ap (slice_get p.rules) e ∙ held in cc
 
 -- ---- names
 
@@ -193,7 +174,7 @@ module _ (sig : Sig) (p : Program) (run : IsRunnable sig p) where
         let count = rule-count leaf n r path q accepts held leads stands in
         let reached : In {X = ℕ × Path} (leaf, _) (lists (code_forest p.code)) =
         subst (λ ks. In {X = ℕ × Path} (leaf, ks) (lists (code_forest p.code))) (sym stands.tokens) leads in
-        named q s (count ∙ sym (length-names (length r.vars))) reached fits
+        named q s (count ∙ sym (length-numbered_names (length r.vars))) reached fits
         ∙ own-names s (numbered_names (length r.vars))
         (fits.subst_of.names ∙ stands.names ∙ ap numbered_names count)
 
@@ -226,15 +207,11 @@ module _ (sig : Sig) (p : Program) (run : IsRunnable sig p) where
 
     module _ (n : ℕ) (r : ProgramRule) (accepts : In n (accepts_at p.code i.0))
         (held : slice_get p.rules n ≡ Some r) where
-      same-rule : (q : Pair) → q.0 ≡ n → (g : IsGivenBy sig p t i.0 i.1 q) → g.rule ≡ r
-      same-rule q e g =
-          let w : Some g.rule ≡ Some r = sym g.numbered ∙ ap (slice_get p.rules) e ∙ held in cc
-
       pub pair-none : IsTestedBy sig p t r i false → IsPairOf sig p t i n None
       pair-none tested q = (
         λ h.
             let g = h.1 in
-            let rule = same-rule q h.0 g in
+            let rule = same-rule sig p t i n r held q h.0 g in
             let wrong : false ≡ true = sym (tested g.path g.pattern g.subst g.leads g.stands g.fits)
             ∙ ap (λ z. meets sig (test_of p.tests z.test) g.subst) (sym rule) ∙ g.test in
             cc,
@@ -246,7 +223,7 @@ module _ (sig : Sig) (p : Program) (run : IsRunnable sig p) where
       pair-some tested u named q = (
         λ h.
             let g = h.1 in
-            let rule = same-rule q h.0 g in
+            let rule = same-rule sig p t i n r held q h.0 g in
             let own : u ≡ with_names r.vars g.subst =
             rule-named t few i.0 n r accepts held g.path g.leads g.pattern g.stands g.subst i.1 g.fits u named in
             let same : q.1 ≡ u = g.named ∙ ap (λ z. with_names z.vars g.subst) rule ∙ sym own in
@@ -314,14 +291,6 @@ module _ (sig : Sig) (p : Program) (run : IsRunnable sig p) where
         by_item None s l a n = cc
         by_item (Some i) s l a n = ready-item t few i l r c u a e n
 
-    pub item-untested : (r : ProgramRule) → test_of p.tests r.test ≡ None
-        → IfSome item (λ i. IsTestedBy sig p t r i true)
-    item-untested r e = by_item item
-      where
-        by_item : (item : Option (ℕ × Table)) → IfSome item (λ i. IsTestedBy sig p t r i true)
-        by_item None = tt
-        by_item (Some i) = λ path q s leads stands fits. ap (λ o. meets sig o s) e
-
     pub item-tested : (r : ProgramRule) (c : Cond) (u : Subst) → IfSome item (λ i. IsAcceptedAt p r i.0)
         → test_of p.tests r.test ≡ Some c
         → IfSome item (IsNamedSubst sig p.code t (numbered_names (length r.vars)) u)
@@ -360,13 +329,6 @@ module _ (sig : Sig) (p : Program) (run : IsRunnable sig p) where
   -- ---- the pairs of an item
 
   module _ (t : Tree) where
-    pub added-none : (old : List Pair) (item : Option (ℕ × Table)) → HasAdded sig p t old old item []
-    added-none old item q = (λ h. inl h, λ h. elim h [ inl k ↦ k | inr k ↦ never item k ])
-      where
-        never : (item : Option (ℕ × Table)) → IsOf sig p t item [] q → Contains old q
-        never None h = absurd h
-        never (Some i) h = absurd h.0
-
     module _ (old new : List Pair) (i : ℕ × Table) (ns : List ℕ) (n : ℕ)
         (h : HasAdded sig p t old new (Some i) ns) where
       pub added-skip : IsPairOf sig p t i n None → HasAdded sig p t old new (Some i) (ns ++ n ∷ [])
@@ -494,8 +456,7 @@ module _ (sig : Sig) (p : Program) (run : IsRunnable sig p) where
         → names_of q.1 ≡ r.vars
     pair-names q r a held =
         let g = a.given in
-        let w : Some g.rule ≡ Some r = sym g.numbered ∙ held in
-        let rule : g.rule ≡ r = cc in
+        let rule = same-rule sig p t (a.leaf, a.table) q.0 r held q refl g in
         let count : length g.rule.vars ≡ length g.subst =
         sym (rule-count a.leaf q.0 g.rule g.path g.pattern a.accepts g.numbered g.leads g.stands)
         ∙ ap length (sym g.fits.subst_of.names) ∙ names-length g.subst in

@@ -1,4 +1,4 @@
-use Rattle.std.proofs.Common.{◌≡◌, ap, sym, refl, subst, arith}
+use Rattle.std.proofs.Common.{◌≡◌, [], ap, sym, refl, subst, arith, inr}
 use Rattle.std.specs.Prelude.{Some, Ok, Err}
 use Rattle.std.proofs.KnownBytes.{Appends-nil}
 use Rattle.mp_io.specs.Moments.{sunk}
@@ -14,7 +14,8 @@ use Rattle.mp_cursor.specs.Listing.{StandForNone, StandsAt}
 use Rattle.mp_cursor.proofs.FirstLaws.{constants-held, subject-built}
 use Rattle.mp_matches.specs.Computed.{behind_token, matches_of, rule_matches}
 use Rattle.mp_matches.specs.Left.{left_of, printed}
-use Rattle.mp_matches.specs.Printed.{PrintsMatches}
+use Rattle.mp_matches.specs.Printed.{PrintsMatches, printed_behind}
+use Rattle.mp_matches.specs.declared.stop.Stop.TheVariants as stop
 use Rattle.mp_matches.proofs.RuleTables.{planned-few, planned-normal, table_of-constants}
 use Rattle.mp_matches.proofs.Resumed.{behind-err, behind-some, behind-some_stopped}
 use Rattle.mp_matches.proofs.Resuming.{resumed-at, resumed-none}
@@ -48,6 +49,23 @@ resume-requires-clause-constants g c =
     let p = c.args.planned.now in
     constants-held c.in_ok-table.table s.term p.constants c.in_ok-table.ensures.table (planned_rule p)
     c.requires.planned.constants
+
+pub returns-in_err-room-clause-prints : goal.returns-in_err-room-clause-prints
+returns-in_err-room-clause-prints g c =
+    let sig = c.args.sig.now in
+    let left = left_of c.args.left.now in
+    let ms = behind_token (token_text c.args.token.now)
+    (rule_matches sig (subject_tree c.args.subject.now) (planned_rule c.args.planned.now)) in
+    behind-err sig left ms (sunk g.O.Sink c.args.out.now c.args.out.now) left stop.Memory
+    c.from_residual-in_err-room.result c.from_residual-in_err-room.ensures.1 (
+      inr refl,
+      record {
+        front = [];
+        rest = (printed_behind sig left ms).0;
+        split = refl;
+        written = Appends-nil (g.O.Sink.contents c.args.out.now);
+      },
+    )
 
 pub returns-in-Err-clause-prints : goal.returns-in-Err-clause-prints
 returns-in-Err-clause-prints g c =

@@ -1,8 +1,10 @@
 use Rattle.std.proofs.Common.{◌≡◌, ◌∙◌, ◌++◌, ◌∷◌, [], ap, take, get_or, sym, subst, arith}
 use Rattle.std.specs.Prelude.{option_map}
+use Rattle.std.proofs.lemmas.List.{take_all, take_more}
+use Rattle.mp_table.proofs.Distinct.{in-place}
 use Rattle.mp_walk.specs.WalkView.{subject_of}
 use Rattle.mp_program.specs.ProgramView.{program_view}
-use Rattle.mp_vm.proofs.RunLaws.{HasAdded, in-accepts, in-get, item-add, item-skip, take-next, take-whole}
+use Rattle.mp_vm.proofs.RunLaws.{HasAdded, in-accepts, item-add, item-skip}
 use Rattle.mp_vm.proofs.run.add_pairs.Goals as goal
 use Rattle.mp_vm.proofs.run.add_pairs.Goals.{in-Some+in_ok-add, in_default}
 
@@ -11,7 +13,7 @@ admitted-requires-clause-accepts c =
     let xs = c.args.accepts.now in
     let k = c.loop-number.number-index in
     in-accepts c.args.walk.now.item (get_or xs k 0) xs c.args.program.now.code c.requires.accepts
-    (in-get xs k c.loop-number-test.true)
+    (in-place xs k 0 c.loop-number-test.true)
 
 pub loop-number-preserved : goal.loop-number-preserved
 loop-number-preserved c =
@@ -27,7 +29,7 @@ loop-number-preserved c =
     let o = option_map (λ q. q.pair) c.in_ok-pair.field-0 in
     record {
       added = subst (HasAdded sig p t old c.match-branch-2.found.pairs item)
-          (sym (take-next xs k c.loop-number-test.true))
+          (sym (take_more xs k 0 c.loop-number-test.true))
           (elim c.match-branch-2.branch [
             | in-Some+in_ok-add w ↦
                 subst (λ f. HasAdded sig p t old f.pairs item (take k xs ++ n ∷ [])) (sym w.found-is)
@@ -49,6 +51,6 @@ loop-number-preserved c =
 pub returns-clause-pairs : goal.returns-clause-pairs
 returns-clause-pairs c =
     let all = let a = c.loop-number-test.false in let b = c.loop-number.auto.number-index-end in
-    take-whole c.loop-number.number-index c.args.accepts.now (omega (arith, a, b)) in
+    take_all c.loop-number.number-index c.args.accepts.now (omega (arith, a, b)) in
     subst (HasAdded c.args.sig.now (program_view c.args.program.now) (subject_of c.args.walk.now.table)
     c.args.found.now.pairs c.loop-number.found.pairs c.args.walk.now.item) all c.loop-number.invariant.added

@@ -7,7 +7,7 @@ use Rattle.mp_walk.specs.Walkable.{numbered_names}
 use Rattle.mp_walk.specs.WalkView.{subject_of}
 use Rattle.mp_program.specs.ProgramView.{program_view, rule_view}
 use Rattle.mp_vm.specs.ProgramList.{IsTestedBy}
-use Rattle.mp_program.proofs.NameLaws.{length-names}
+use Rattle.mp_walk.proofs.NumberedNames.{length-numbered_names}
 use Rattle.mp_vm.proofs.RunLaws.{item-few, item-ready, item-tested, named-over}
 use Rattle.mp_vm.proofs.run.passes.Goals as goal
 
@@ -27,7 +27,7 @@ named_subst-requires-clause-few c =
     let few : length r.vars ≤ MAX_VARIABLES =
     item-few c.args.sig.now p c.requires.runnable (subject_of c.args.walk.now.table) c.requires.few
     c.args.walk.now.item c.requires.item r c.requires.some c.requires.accepts in
-    omega (arith, few, c.len.ensures, ap length c.in_ok-names.ensures, length-names c.len.result)
+    omega (arith, few, c.len.ensures, ap length c.in_ok-names.ensures, length-numbered_names c.len.result)
 
 pub holds-requires : goal.holds-requires
 holds-requires c =
