@@ -97,6 +97,21 @@ fn rules_hold_what_was_pushed(rt: HostRuntime) {
     check_rules(&rt, &file(&rt, rt.alloc(), "rule r: a;").rules);
 }
 
+#[test]
+fn rules_are_pushed_into_room_that_was_made(rt: HostRuntime) {
+    let mut rules = Rules::with_room(rt.alloc(), 1).expect(&rt, "memory");
+    let name = Name::new(rt.alloc(), b"r").expect(&rt, "memory");
+    let symbol = Name::new(rt.alloc(), b"a").expect(&rt, "memory");
+    let rule = Rule {
+        name,
+        pattern: Pattern::Sym(symbol),
+        template: None,
+        condition: None,
+    };
+    rules.push(rule).expect(&rt, "memory");
+    check_rules(&rt, &rules);
+}
+
 // Stops unless the table has one entry, of a collapsed application.
 fn check_entries(rt: &impl Abort, entries: &Entries) {
     assert!(rt; entries.len() == 1 && entries.as_slice().len() == 1 && entries.get(1).is_none());

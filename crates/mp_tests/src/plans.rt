@@ -38,6 +38,16 @@ fn described(node: Option<PlanNode<'_>>) -> (u8, u32) {
     }
 }
 
+// The number of the variable at a node that is so described.
+fn variable_of(node: (u8, u32)) -> Option<u32> {
+    let (class, number) = node;
+    if class < 3 || number == 9 {
+        None
+    } else {
+        Some(number)
+    }
+}
+
 const MIXED: &str = "f(sum(v_{2}, x__, w___), g(a, x__, v_{2}, _), z_num)";
 
 // What stands at a node, the number of the node after it, and the number of its parent.
@@ -70,6 +80,7 @@ fn nodes_have_the_numbers_of_the_preorder(rt: HostRuntime) {
             plan.end(number) == row.1 && plan.parent(number) == row.2,
             "{number}"
         );
+        assert!(rt; plan.variable_at(number) == variable_of(row.0), "{number}");
     }
 }
 
