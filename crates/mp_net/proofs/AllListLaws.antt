@@ -18,11 +18,11 @@ use Rattle.mp_pattern.specs.Admission.{Rule, meets, Admits}
 use Rattle.mp_pattern.specs.Lists.{Pair, pair_cmp, subst_cmp, IsAllList}
 use Rattle.mp_term.specs.Listing.{In}
 use Rattle.mp_theory.specs.Solve.{solve}
-use Rattle.mp_net.specs.Shape.{shape, of_kinds, takings, table_of}
+use Rattle.mp_theory.specs.Shape.{shape, of_kinds, takings, table_of}
 use Rattle.mp_net.specs.Net.{marks, Open, going, Turn, rules_at, IsNet, run}
 use Rattle.mp_net.specs.Eaten.{eaten}
 use Rattle.mp_net.specs.AllList.{tested, admitted, pairs_from, starts, shaped}
-use Rattle.mp_net.proofs.ShapeLaws.{fits-shape, shape-fits}
+use Rattle.mp_theory.proofs.ShapeLaws.{fits-shape, shape-fits}
 use Rattle.mp_net.proofs.NetLaws.{run-rules, marks-eaten}
 
 -- what is found behind a test

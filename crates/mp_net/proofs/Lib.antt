@@ -1,4 +1,3 @@
-pub mod ShapeLaws
 pub mod NetLaws
 pub mod AllListLaws
 pub mod TraceLaws

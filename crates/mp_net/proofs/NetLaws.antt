@@ -9,7 +9,7 @@ use Rattle.std.proofs.lemmas.Option.{slice_get_within, slice_get-get_or}
 use Rattle.mp_term.specs.Tree.{Tree, symbol, app, Trees, no_trees, more_trees, tree_list}
 use Rattle.mp_pattern.specs.PatternTree.{Pattern, symbol_pattern, app_pattern, wild_pattern, Patterns, no_patterns}
 use Rattle.mp_pattern.specs.PatternTree.{more_patterns, pattern_list}
-use Rattle.mp_net.specs.Shape.{shape, shapes}
+use Rattle.mp_theory.specs.Shape.{shape, shapes}
 use Rattle.mp_net.specs.Net.{Mark, named, entered, anything, same_mark, marks, all_marks, anythings, Open}
 use Rattle.mp_net.specs.Net.{below, behind, asks, going, Turn, edge_of, held_or, rules_at, nowhere, turn_at, IsAt}
 use Rattle.mp_net.specs.Net.{Leads, IsNet, head_of, way, edge_at, run, runs}

@@ -28,18 +28,19 @@ use Rattle.mp_net.specs.Eaten.{eaten}
 use Rattle.mp_net.specs.Net.{Mark, marks, Open, going, Visit, rules_at, held_or, run, trace}
 use Rattle.mp_net.specs.NetOf.{ended, accepted, IsNetOf, IsGroup, AreNets, opening}
 use Rattle.mp_net.specs.Nets.{rule_marks}
-use Rattle.mp_net.specs.Shape.{shape, of_kinds, takings}
+use Rattle.mp_theory.specs.Shape.{shape, of_kinds, takings}
 use Rattle.mp_net.specs.View.{turn_of}
-use Rattle.mp_net.specs.Walk.{IsRead, filled, tested_pair, IsFound, subject_of, visits}
+use Rattle.mp_theory.specs.Filled.{filled}
+use Rattle.mp_net.specs.Walk.{IsRead, tested_pair, IsFound, subject_of, visits}
 use Rattle.mp_net.specs.Probe.{more_reads}
 use Rattle.mp_net.specs.declared.visit.Seen.{Seen}
 use Rattle.mp_table.specs.Table.{Table, term_at}
 use Rattle.mp_table.specs.declared.rank.Rank.{Rank}
 use Rattle.mp_net.specs.declared.build.Net.{Net}
 use Rattle.mp_net.specs.declared.state.State.{State}
-use Rattle.mp_net.proofs.FilledLaws.{filled-solve}
+use Rattle.mp_theory.proofs.FilledLaws.{filled-solve}
 use Rattle.mp_net.proofs.NetLaws.{marks-eaten, run-rules}
-use Rattle.mp_net.proofs.ShapeLaws.{takings-uses}
+use Rattle.mp_theory.proofs.ShapeLaws.{takings-uses}
 use Rattle.mp_net.proofs.TraceLaws.{trace-read}
 
 -- ---- conditions

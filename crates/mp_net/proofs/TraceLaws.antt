@@ -11,7 +11,7 @@ use Rattle.mp_term.specs.Size.{node_count, node_counts}
 use Rattle.mp_pattern.specs.PatternTree.{Wildcard, Pattern, symbol_pattern, app_pattern, wild_pattern, Patterns}
 use Rattle.mp_pattern.specs.PatternTree.{no_patterns, more_patterns, pattern_list}
 use Rattle.mp_term.specs.Listing.{In}
-use Rattle.mp_net.specs.Shape.{shape, shapes}
+use Rattle.mp_theory.specs.Shape.{shape, shapes}
 use Rattle.mp_net.specs.Net.{Mark, entered, same_mark, marks, all_marks, Open, below, asks}
 use Rattle.mp_net.specs.Net.{going, Turn, held_or, rules_at, turn_at, Leads, IsNet, edge_at, run}
 use Rattle.mp_net.specs.Net.{Visit, visited, trace, traces}

@@ -22,9 +22,10 @@ use Rattle.mp_net.specs.Net.{Leads}
 use Rattle.mp_net.specs.Net.{Visit, head_of, way, visited, run, runs, trace, traces}
 use Rattle.mp_net.specs.NetOf.{IsNet}
 use Rattle.mp_net.specs.Probe.{more_reads}
-use Rattle.mp_net.specs.Shape.{suits}
+use Rattle.mp_theory.specs.Shape.{suits}
 use Rattle.mp_net.specs.View.{turn_of}
-use Rattle.mp_net.specs.Walk.{visit_of, visits, IsSeen, IsRead, taken_subst, bound, filled}
+use Rattle.mp_theory.specs.Filled.{bound, filled}
+use Rattle.mp_net.specs.Walk.{visit_of, visits, IsSeen, IsRead, taken_subst}
 use Rattle.mp_net.specs.declared.build.Net.{Net}
 use Rattle.mp_net.specs.declared.state.State.{State}
 use Rattle.mp_net.specs.declared.taken.Taken.{Taken}

@@ -9,7 +9,7 @@ use Rattle.mp_pattern.specs.Value.{Subst}
 use Rattle.mp_pattern.specs.Admission.{Rule, meets}
 use Rattle.mp_pattern.specs.Lists.{Pair}
 use Rattle.mp_theory.specs.Solve.{solve}
-use Rattle.mp_net.specs.Shape.{shape, of_kinds, takings}
+use Rattle.mp_theory.specs.Shape.{shape, of_kinds, takings}
 use Rattle.mp_net.specs.Net.{marks, Open}
 
 module _ (sig : Sig) (t : Tree) where

@@ -1,4 +1,3 @@
-pub mod Shape
 pub mod Net
 pub mod Eaten
 pub mod AllList

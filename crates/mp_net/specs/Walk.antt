@@ -1,6 +1,6 @@
 -- The walk of the subject of a table, and what a rule's variables take of what it reads.
 use Rattle.std.specs.Prelude.{◌≡◌, ◌≤◌, ℕ, true, List, [], ◌∷◌, map, drop, length, slice_index_or, Option, Some}
-use Rattle.std.specs.Prelude.{None, if◌then◌else◌, slice_get, option_map, option_and_then}
+use Rattle.std.specs.Prelude.{slice_get, option_map, option_and_then}
 use Rattle.std.specs.List.{AllByRecursion}
 use Rattle.mp_term.specs.Signature.{Sig}
 use Rattle.mp_term.specs.Tree.{Tree, symbol, app, Trees, no_trees, more_trees}
@@ -11,9 +11,8 @@ use Rattle.mp_pattern.specs.Admission.{Rule}
 use Rattle.mp_pattern.specs.Lists.{Pair}
 use Rattle.mp_table.specs.Table.{Table, term_at, HasRank}
 use Rattle.mp_table.specs.Reading.{IsHeadOf}
-use Rattle.mp_theory.specs.Solve.{bind}
 use Rattle.mp_net.specs.Net as net
-use Rattle.mp_net.specs.Shape.{shape, suits}
+use Rattle.mp_theory.specs.Shape.{shape}
 use Rattle.mp_net.specs.AllList.{tested}
 use Rattle.mp_net.specs.declared.visit.Seen.{Seen}
 use Rattle.mp_net.specs.declared.taken.Taken.{Taken}
@@ -58,26 +57,6 @@ abbrev mutual
   AreRead (more_patterns p ps) no_trees vs rest = ⊥
   AreRead (more_patterns p ps) (more_trees t ts) vs rest =
       (ws : List net.Visit) × IsRead p t vs ws × AreRead ps ts ws rest
-
--- the substitution with the variable, if there is one, bound to the tree too
-abbrev pub bound : Option (List ℕ) → Tree → Subst → Option Subst
-bound None t s = Some s
-bound (Some x) t s = bind s x (one t)
-
-module _ (sig : Sig) where
-  abbrev mutual
-    -- the substitution with what the pattern's variables take of the tree, where the kinds are met and there is one
-    pub filled : Pattern → Tree → Subst → Option Subst
-    filled (symbol_pattern n) t s = Some s
-    filled (app_pattern f ps) (symbol n) s = Some s
-    filled (app_pattern f ps) (app g ts) s = all_filled ps ts s
-    filled (wild_pattern w x) t s = if suits sig w t then bound x t s else None
-
-    -- the same for patterns on trees, one after the other
-    pub all_filled : Patterns → Trees → Subst → Option Subst
-    all_filled no_patterns ts s = Some s
-    all_filled (more_patterns p ps) no_trees s = Some s
-    all_filled (more_patterns p ps) (more_trees t ts) s = option_and_then (all_filled ps ts) (filled p t s)
 
 -- the pair of the rule of that number, which has the shape, where it admits one
 abbrev pub tested_pair : Sig → Tree → List Rule → ℕ → Option Pair

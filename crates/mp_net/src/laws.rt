@@ -12,7 +12,7 @@ ghost use Rattle.mp_theory.specs.Solve.{solve};
 ghost use Rattle.mp_term.specs.Size.{node_count};
 ghost use Rattle.mp_pattern.specs.Admission.{Rule};
 ghost use Rattle.mp_pattern.specs.Lists.{IsAllList};
-ghost use Rattle.mp_net.specs.Shape.{shape, of_kinds, takings};
+ghost use Rattle.mp_theory.specs.Shape.{shape, of_kinds, takings};
 ghost use Rattle.mp_net.specs.Net.{Open, Turn, IsNet, rules_at, run, trace};
 ghost use Rattle.mp_net.specs.AllList.{pairs_from, starts, shaped};
 

@@ -10,7 +10,7 @@ ghost use Rattle.mp_cond.specs.Ready.{IsReady};
 ghost use Rattle.mp_table.specs.Table.{IsTable};
 ghost use Rattle.mp_net.specs.AllList.{tested};
 ghost use Rattle.mp_net.specs.Nets.{is_syntactic_rule};
-ghost use Rattle.mp_net.specs.Shape.{shape};
+ghost use Rattle.mp_theory.specs.Shape.{shape};
 ghost use Rattle.mp_net.specs.Walk.{subject_of, visits, IsSeen, IsRead};
 
 use crate::taken::{follow, to_subst};

@@ -11,8 +11,9 @@ ghost use Rattle.mp_table.specs.Table.{IsTable, term_at, HasRank};
 ghost use Rattle.mp_table.specs.Table as plain_table;
 ghost use Rattle.mp_cond.specs.Ready.{AreCountable};
 ghost use Rattle.mp_net.specs.Net.{Visit};
-ghost use Rattle.mp_net.specs.Shape as plain_shape;
-ghost use Rattle.mp_net.specs.Walk.{visits, IsSeen, IsRead, AreRead, AreHeld, taken_subst, bound, filled, all_filled};
+ghost use Rattle.mp_theory.specs.Shape as plain_shape;
+ghost use Rattle.mp_theory.specs.Filled.{bound, filled, all_filled};
+ghost use Rattle.mp_net.specs.Walk.{visits, IsSeen, IsRead, AreRead, AreHeld, taken_subst};
 
 use crate::visit::Seen;
 use mp_pattern::{Pattern, Shape};

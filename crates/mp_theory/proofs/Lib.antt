@@ -42,3 +42,7 @@ pub mod SupplyLaws
 pub mod UpperBounds
 pub mod PoolLaws
 pub mod ItemTables
+pub mod ShapeLaws
+pub mod FilledLaws
+pub mod NextTerm
+pub mod InnerItems

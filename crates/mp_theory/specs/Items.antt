@@ -1,5 +1,5 @@
 -- The items that a search finds from a place on, and the choices that lead to them.
-use Rattle.std.specs.Prelude.{◌≡◌, ℕ, zero, suc, List, [], ◌∷◌, map, filter, flat_map, if◌then◌else◌}
+use Rattle.std.specs.Prelude.{◌≡◌, ℕ, zero, suc, List, [], ◌∷◌, ◌++◌, map, filter, flat_map, if◌then◌else◌}
 use Rattle.std.specs.Ordering.{is_lt}
 use Rattle.mp_term.specs.Signature.{Sig}
 use Rattle.mp_pattern.specs.Value.{Subst}
@@ -14,6 +14,10 @@ use Rattle.mp_theory.specs.Trail.{listed_by}
 -- the item with the entry in front of its table
 abbrev pub behind : Entry → Item → Item
 behind e i = (e ∷ i.0, i.1)
+
+-- the item with the entries in front of its table
+abbrev pub in_front : Table → Item → Item
+in_front T i = (T ++ i.0, i.1)
 
 -- the place after the entries
 abbrev pub onward_all : Next → Table → Next

@@ -16,3 +16,5 @@ pub mod Kept
 pub mod Known
 pub mod MayMatch
 pub mod Supply
+pub mod Shape
+pub mod Filled

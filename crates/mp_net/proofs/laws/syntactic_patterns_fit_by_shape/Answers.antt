@@ -1,5 +1,5 @@
-use Rattle.mp_net.specs.Shape.{table_of}
-use Rattle.mp_net.proofs.ShapeLaws.{fits-shape, shape-fits}
+use Rattle.mp_theory.specs.Shape.{table_of}
+use Rattle.mp_theory.proofs.ShapeLaws.{fits-shape, shape-fits}
 use Rattle.mp_net.proofs.laws.syntactic_patterns_fit_by_shape.Goals as goal
 
 pub returns : goal.returns

@@ -2,8 +2,9 @@ use Rattle.std.proofs.Common.{◌≡◌, ◌∙◌, subst, sym}
 use Rattle.std.specs.Prelude.{Some, None, true, MatchBool}
 use Rattle.mp_pattern.specs.View.{pattern_tree, wildcard}
 use Rattle.mp_table.specs.Table.{term_at}
-use Rattle.mp_net.specs.Shape.{suits}
-use Rattle.mp_net.specs.Walk.{visits, IsRead, taken_subst, bound}
+use Rattle.mp_theory.specs.Shape.{suits}
+use Rattle.mp_theory.specs.Filled.{bound}
+use Rattle.mp_net.specs.Walk.{visits, IsRead, taken_subst}
 use Rattle.mp_net.proofs.WalkLaws.{wild-read, wild-filled, seen-first}
 use Rattle.mp_net.proofs.taken.+follow.Goals as goal
 

@@ -8,7 +8,8 @@ use Rattle.mp_table.specs.Table.{term_at}
 use Rattle.mp_table.proofs.RankLaws.{rank_order}
 use Rattle.mp_theory.specs.Solve as theory
 use Rattle.mp_net.specs.Walk.{taken_subst, AreHeld}
-use Rattle.mp_net.proofs.FilledLaws.{bind-again, bind-new, match-if}
+use Rattle.mp_theory.proofs.FilledLaws.{bind-again, bind-new}
+use Rattle.mp_net.proofs.FilledLaws.{match-if}
 use Rattle.mp_net.proofs.WalkLaws.{taken_subst-append}
 use Rattle.mp_net.proofs.taken.bind.Goals as goal
 

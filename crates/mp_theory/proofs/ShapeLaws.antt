@@ -29,7 +29,8 @@ use Rattle.mp_theory.proofs.SolveLaws.{Obeys}
 use Rattle.mp_theory.proofs.Solving.{GivesFinal, solved-by, solution}
 use Rattle.mp_theory.proofs.Wildcards.{final-passes}
 use Rattle.mp_theory.proofs.Instances.{none_left_out}
-use Rattle.mp_net.specs.Shape.{shape, shapes, suits, of_kinds, all_of_kinds, takings, all_takings, table_of, tables_of}
+use Rattle.mp_theory.specs.Shape.{shape, shapes, suits, of_kinds, all_of_kinds, takings, all_takings, table_of}
+use Rattle.mp_theory.specs.Shape.{tables_of}
 
 -- no wildcard of a syntactic pattern is optional
 mutual
