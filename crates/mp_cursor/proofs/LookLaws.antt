@@ -1,12 +1,12 @@
 -- What a search over a cursor's trail may count on, and what it finds.
-use Rattle.std.proofs.Common.{◌≡◌, ◌<◌, ◌≤◌, ◌+◌, ℕ, List, [], ◌∷◌, length, map, refl, ap, sym, ◌∙◌, subst, arith}
+use Rattle.std.proofs.Common.{◌≡◌, ◌<◌, ◌≤◌, ℕ, List, [], ◌∷◌, length, map, refl, ap, sym, ◌∙◌, subst, arith}
 use Rattle.std.proofs.Common.{append-nil, false}
 use Rattle.std.specs.Prelude.{Option, Some, None, option_map, slice_get, ⊤}
 use Rattle.std.specs.Borrow.{Bor}
 use Rattle.std.specs.List.{AllByRecursion, range_with_len}
 use Rattle.std.proofs.lemmas.List.FromFn.{length-range_with_len}
 use Rattle.mp_term.specs.Tree.{Tree}
-use Rattle.mp_term.specs.Size.{all_nodes, node_count}
+use Rattle.mp_term.specs.Size.{node_count}
 use Rattle.mp_term.proofs.SearchLaws.{all-from_in}
 use Rattle.mp_pattern.specs.PatternTree.{Pattern, patterns}
 use Rattle.mp_pattern.specs.declared.pattern.Pattern.{Pattern as own_pattern}
@@ -29,7 +29,7 @@ use Rattle.mp_search.specs.declared.query.Query.{Query}
 use Rattle.mp_search.specs.Frames.{start_of}
 use Rattle.mp_search.specs.Grounds.{AreGrounds}
 use Rattle.mp_search.specs.Levels.{AreLevels}
-use Rattle.mp_search.specs.Query.{IsQuery, IsReady, width}
+use Rattle.mp_search.specs.Query.{IsQuery, IsReady}
 use Rattle.mp_search.specs.Reading.{subst_of, name_among, subst_from}
 use Rattle.mp_search.specs.Wanted.{AreComplete, IsComplete}
 use Rattle.mp_cursor.specs.declared.matched.Matched.{Matched}
@@ -42,8 +42,8 @@ use Rattle.mp_cursor.proofs.ReaderLaws.{item-complete}
 
 -- what is asked of a search over the whole pattern
 abbrev pub query_of : Matched → Bor (List ℕ) → Bor (List Ground) → Option (Bor own_cond) → Bor (List own_pattern)
-    → Bor (List Rank) → Query
-query_of m vars grounds condition children left = record {
+    → Bor (List Rank) → ℕ → Query
+query_of m vars grounds condition children left width = record {
   sig = m.sig;
   plan = m.plan;
   first = 0;
@@ -51,6 +51,7 @@ query_of m vars grounds condition children left = record {
   table = m.table;
   grounds = grounds;
   condition = condition;
+  width = width;
   start = record { under = None; children = children; left = left; owes = false };
 }
 
@@ -62,9 +63,10 @@ module _ (m : Matched) (h : IsMatched m) (vars : Bor (List ℕ)) (grounds : Bor 
     (condition : Option (Bor own_cond)) (children : Bor (List own_pattern)) (left : Bor (List Rank)) (r : Rank)
     (numbers : vars.now ≡ range_with_len 0 (length m.plan.now.variables))
     (child : map pattern_tree children.now ≡ m.plan.now.pattern ∷ [])
-    (given : left.now ≡ r ∷ []) (root : r.0 ≡ m.table.now.root) where
+    (given : left.now ≡ r ∷ []) (root : r.0 ≡ m.table.now.root) (wide : ℕ)
+    (nodes : wide ≡ node_count (subject_of m.table.now)) where
   abbrev asked : Query
-  asked = query_of m vars grounds condition children left
+  asked = query_of m vars grounds condition children left wide
 
   given-root : terms_at m.table.now left.now ≡ subject_of m.table.now ∷ []
   given-root = ap (terms_at m.table.now) given ∙ ap (λ u. u ∷ []) (root-term m.table.now r root)
@@ -83,12 +85,6 @@ module _ (m : Matched) (h : IsMatched m) (vars : Bor (List ℕ)) (grounds : Bor 
       → items m.sig.now (length ls) (start_of asked) s ≡ all_items m s
   items-same ls s e = ap (λ n. items m.sig.now n (start_of asked) s) e
       ∙ ap (λ n. items m.sig.now (length m.plan.now.nodes) n s) start-same
-
-  pub width-same : width asked ≡ node_count (subject_of m.table.now)
-  width-same = ap (λ ts. all_nodes ts) given-root ∙ add_zero (node_count (subject_of m.table.now))
-    where
-      add_zero : (n : ℕ) → n + 0 ≡ n
-      add_zero n = omega arith
 
   pub is-query : AreGrounds m.table.now (subpatterns m.plan.now.pattern) grounds.now
       → IsDecidable m (option_map (λ c. cond_tree c.now) condition) → IsQuery asked
@@ -152,8 +148,8 @@ module _ (m : Matched) (h : IsMatched m) (vars : Bor (List ℕ)) (grounds : Bor 
   is-ready ls t g d a w v s =
       record {
         query = is-query g d;
-        levels = subst (λ k. AreLevels m.table.now k ls) (sym width-same) a;
-        narrow = omega (arith, load-same, width-same);
+        levels = subst (λ k. AreLevels m.table.now k ls) (sym nodes) a;
+        narrow = omega (arith, load-same, nodes);
         trail = w;
         vars = subst (AllByRecursion (λ v. v < t.vars)) (sym numbers)
             (range-all (λ v. v < t.vars) 0 (length m.plan.now.variables) (λ u a b. omega (arith, b, v)));

@@ -65,6 +65,7 @@ pub(crate) fn look(
         ≤ trail.new.spare + search_room (length levels.old) (node_count (subject_of matched.entry.table.now)) }
 {
     let root = matched.table.root();
+    let width = matched.table.nodes(root) as usize;
     let query = Query {
         sig: matched.sig,
         plan: matched.plan,
@@ -73,6 +74,7 @@ pub(crate) fn look(
         table: matched.table,
         grounds,
         condition,
+        width,
         start: Start {
             under: None,
             children: slice::from_ref(matched.plan.pattern()),

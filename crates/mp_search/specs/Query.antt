@@ -2,7 +2,6 @@
 use Rattle.std.specs.Prelude.{◌≡◌, ◌<◌, ◌≤◌, ◌+◌, ◌-◌, ◌*◌, ⊤, ℕ, List, map, length, drop, Option, Some, None}
 use Rattle.std.specs.Prelude.{IsSome, take, slice_get}
 use Rattle.std.specs.List.{AllByRecursion, range_with_len}
-use Rattle.mp_term.specs.Size.{all_nodes}
 use Rattle.mp_term.specs.Normal.{IsNormal}
 use Rattle.mp_term.specs.Tree.{Tree}
 use Rattle.mp_pattern.specs.PatternTree.{patterns}
@@ -59,9 +58,9 @@ pub record IsQuery (q : Query) : Type 0 where
   pub plain : ArePlain q
   pub asked : IsAsked q
 
--- how many ranks a node may take
+-- for how many ranks there is room at a node
 abbrev pub width : Query → ℕ
-width q = all_nodes (terms_at q.table.now q.start.left.now)
+width q = q.width
 
 -- from node k on there is room for the search: in the levels, and on the trail, which goes with the table
 pub record IsReady (q : Query) (k : ℕ) (ls : List Level) (t : Trail) : Type 0 where

@@ -43,6 +43,7 @@ pub use descent::find;
 pub use grounds::{Ground, Grounds};
 pub use level::{Level, Source, vacant_levels};
 pub use mode::Mode;
+pub use pieces::place_of;
 pub use query::{Query, Start};
 pub use room::Room;
 pub use stage::Stage;

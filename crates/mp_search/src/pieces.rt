@@ -7,8 +7,8 @@ ghost use Rattle.mp_search.specs.Sublists.{IsFirstAt};
 
 use mp_table::Rank;
 
-// The first place of the rank in an ascending list, if it stands there.
-pub(crate) fn place_of(list: &[Rank], rank: Rank) -> Option<usize>
+/// The first place of the rank in an ascending list, from 0 (`IsFirstAt` of `specs/Sublists.antt`), if it stands there.
+pub fn place_of(list: &[Rank], rank: Rank) -> Option<usize>
     requires { IsSorted rank_cmp list.now }
     ensures { MatchOption result (pieces.is_sublist rank_cmp (rank ∷ []) list.now ≡ false)
         (IsFirstAt rank_cmp rank list.now) }

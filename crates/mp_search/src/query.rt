@@ -35,6 +35,9 @@ pub struct Query<'a> {
     pub grounds: &'a [Ground],
     /// What a substitution is to meet, where it is to meet anything.
     pub condition: Option<&'a Cond>,
+    /// How many ranks there is room for at each node: as many as the terms that are to be taken have nodes together, or
+    /// more.
+    pub width: usize,
     /// Where the search starts.
     pub start: Start<'a>,
 }
