@@ -90,7 +90,7 @@ module _ (m : CommMatcher) (whole : Plan) (vars : List ℕ) (node g : ℕ) (ps :
       → AllByRecursion (λ p. HoldsGround m.table.now (ground_of p)) (subpatterns whole.pattern)
       → HasRanks m.table.now m.args.items
       → AreArguments m.sig.now g (terms_at m.table.now m.args.items)
-      → IsRoomFor m.table.now (nodes_below (app_pattern g ps)) (all_nodes (terms_at m.table.now m.args.items)) m.room
+      → IsRoomFor m.table.now 0 (nodes_below (app_pattern g ps)) (all_nodes (terms_at m.table.now m.args.items)) m.room
       → AreGrounds m.table.now (subpatterns m.plan.pattern) m.room.grounds.list.items.items
       → GoesWith m.table.now t
       → all_nodes (terms_at m.table.now m.args.items) + 3 * all_pattern_nodes ps ≤ t.spare
@@ -121,7 +121,7 @@ module _ (m : CommMatcher) (whole : Plan) (vars : List ℕ) (node g : ℕ) (ps :
         arranged = subst (λ p. arranged m.sig.now (root_op p) (terms_at m.table.now m.args.items)
             ≡ terms_at m.table.now m.args.items) (sym own-pattern) arguments.ordered;
       };
-      room = subst (λ p. IsRoomFor m.table.now (nodes_below p) (all_nodes (terms_at m.table.now m.args.items)) m.room)
+      room = subst (λ p. IsRoomFor m.table.now 0 (nodes_below p) (all_nodes (terms_at m.table.now m.args.items)) m.room)
           (sym own-pattern) room;
       grounds = grounds;
       trail = record {

@@ -19,8 +19,9 @@ use Rattle.mp_theory.proofs.Unique.{same_entry}
 use Rattle.mp_ac.specs.CommItems.{NoneTwice}
 use Rattle.mp_ac.specs.CommList.{behind_table}
 
-total : IsTotalOrder table_cmp
-total = lists_total entry_cmp_total
+-- the order of tables is total
+pub table_total : IsTotalOrder table_cmp
+table_total = lists_total entry_cmp_total
 
 -- tables that compare equal are equal
 same-table : (T U : Table) → table_cmp T U ≡ Equal → T ≡ U
@@ -37,7 +38,7 @@ equal-test Less h = cc
 equal-test Greater h = cc
 
 -- another table isn't behind which one stands
-other-table : (T U : Table) → (T ≡ U → ⊥) → is_eq (table_cmp T U) ≡ false
+pub other-table : (T U : Table) → (T ≡ U → ⊥) → is_eq (table_cmp T U) ≡ false
 other-table T U never =
     elim (is_eq (table_cmp T U)) as (λ b. is_eq (table_cmp T U) ≡ b → b ≡ false) [
       | true ↦ λ e. absurd (never (same-table T U (equal-test (table_cmp T U) e)))
@@ -66,7 +67,7 @@ behind-first [] i e = cc
 behind-first (j ∷ js) i e =
     let k : j ≡ i = cc in
     subst (λ m. behind_table m.0 (j ∷ js) ≡ js) k
-    (ap (λ b. if b then js else behind_table j.0 js) (ap is_eq (tied_itself total j.0)))
+    (ap (λ b. if b then js else behind_table j.0 js) (ap is_eq (tied_itself table_total j.0)))
 
 -- and so it is behind the first item that comes behind another one
 pub behind-next : (W : Table) (is : List Item) (i : Item) → NoneTwice (item_tables is)
@@ -103,14 +104,15 @@ pub behind-greater : (W : Table) (is : List Item) → IsStrictlySortedBy table_c
 unfolding IsStrictlySortedBy
 behind-greater W [] h m = absurd m
 behind-greater W (j ∷ js) h (inl e) =
-    let tied : table_cmp W j.0 ≡ Equal = subst (λ T. table_cmp W T ≡ Equal) e (tied_itself total W) in
+    let tied : table_cmp W j.0 ≡ Equal = subst (λ T. table_cmp W T ≡ Equal) e (tied_itself table_total W) in
     ap (λ o. if is_lt o then j ∷ filter (λ i. is_lt (table_cmp W i.0)) js else filter (λ i. is_lt (table_cmp W i.0)) js)
     tied
     ∙ greater-all W js (subst (λ T. AllByRecursion (λ U. table_cmp T U ≡ Less) (item_tables js)) (sym e) h.0)
     ∙ sym (ap (λ o. if is_eq o then js else behind_table W js) tied)
 behind-greater W (j ∷ js) h (inr m) =
     let less : table_cmp j.0 W ≡ Less = all_in (λ U. table_cmp j.0 U ≡ Less) (item_tables js) W h.0 m in
-    let more : table_cmp W j.0 ≡ Greater = greater-reverse (table_cmp W j.0) (sym (total.antisymm j.0 W) ∙ less) in
+    let more : table_cmp W j.0 ≡ Greater =
+    greater-reverse (table_cmp W j.0) (sym (table_total.antisymm j.0 W) ∙ less) in
     ap (λ o. if is_lt o then j ∷ filter (λ i. is_lt (table_cmp W i.0)) js else filter (λ i. is_lt (table_cmp W i.0)) js)
     more
     ∙ behind-greater W js h.1 m

@@ -187,7 +187,7 @@ module _ (sig : Sig) (g : ℕ) (ps : Patterns) (args : List Tree) (owes : Bool) 
       (λ T i. (words-sound (choices sig) onward is_ended k place T i).1)))
 
   -- an item is accepted and solved
-  item-parts : (s : Subst) (i : Item) → In i (comm_list sig g ps args owes s)
+  pub item-parts : (s : Subst) (i : Item) → In i (comm_list sig g ps args owes s)
       → Accepts (choices sig) onward is_ended place i.0 × (solve sig s (takes place i.0) ≡ Some i.1)
   unfolding comm_list
   item-parts s i m =

@@ -58,7 +58,8 @@ module _ (a : Asked) (h : IsAsked a) where
       (ps : List Pattern) (root : a.plan.now.pattern ≡ app_pattern op.0 (patterns ps))
       (same : map pattern_tree children.now ≡ ps)
       (given : AreGiven a.sig.now a.plan.now.pattern a.table.now args.now)
-      (known : AreGrounds a.table.now (subpatterns a.plan.now.pattern) grounds.now) where
+      (known : AreGrounds a.table.now (subpatterns a.plan.now.pattern) grounds.now) (width : ℕ)
+      (wide : all_nodes (terms_at a.table.now args.now) ≤ width) where
     -- what is asked
     abbrev pub asked : Query
     asked = record {
@@ -69,6 +70,7 @@ module _ (a : Asked) (h : IsAsked a) where
       table = a.table;
       grounds = grounds;
       condition = None;
+      width = width;
       start = record { under = Some op; children = children; left = args; owes = a.owes };
     }
 
@@ -83,6 +85,7 @@ module _ (a : Asked) (h : IsAsked a) where
       holds = subst (λ p. AllByRecursion (λ c. HoldsGround a.table.now (ground_of c)) (subpatterns p)) root h.holds;
       grounds = subst (λ p. AreGrounds a.table.now (subpatterns p) grounds.now) root known;
       condition = refl;
+      wide = wide;
       under = refl;
       children = ap patterns same;
       left = given.ranks;
@@ -104,10 +107,10 @@ module _ (a : Asked) (h : IsAsked a) where
       own-count : length (take n ls) ≡ all_pattern_nodes (patterns ps)
       own-count = front-long ∙ count ∙ below-same
 
-      pub is-ready : AreLevels a.table.now (all_nodes (terms_at a.table.now args.now)) ls
+      pub is-ready : AreLevels a.table.now width ls
           → IsTrailFor a.vars.now a.plan.now.pattern a.table.now args.now t → IsReady asked 0 (take n ls) t
       is-ready l w = comm-ready asked op.0 (patterns ps) is-comm (take n ls) t
-          (all-take (λ k. IsRoomy (all_nodes (terms_at a.table.now args.now)) k × IsOver a.table.now k) n ls l)
+          (all-take (λ k. IsRoomy width k × IsOver a.table.now k) n ls l)
           w.goes w.vars (omega (arith, w.spare, front-long, count))
 
       listed-same : items a.sig.now (length (take n ls)) (start_of asked) (subst_of asked t)

@@ -1,10 +1,11 @@
 -- One step of a search below a node.
 use Rattle.std.proofs.Common.{◌≡◌, ◌≤◌, ◌+◌, List, [], length, drop, true, false, refl, ap, sym, ◌∙◌, subst, arith}
 use Rattle.std.specs.Prelude.{Some, None, slice_get}
+use Rattle.std.specs.Global.{Global}
 use Rattle.std.specs.List.{AllByRecursion}
+use Rattle.std.specs.Prelude.{Vec}
 use Rattle.std.proofs.Math.Seq.{drop-length}
 use Rattle.mp_term.specs.Search.{In}
-use Rattle.mp_term.specs.Size.{all_nodes}
 use Rattle.mp_pattern.specs.Fits.{Table}
 use Rattle.mp_pattern.specs.Subpatterns.{subpatterns}
 use Rattle.mp_table.specs.Table.{terms_at}
@@ -20,6 +21,7 @@ use Rattle.mp_search.specs.Grounds.{AreGrounds}
 use Rattle.mp_search.specs.Levels.{AreLevels}
 use Rattle.mp_search.specs.Wanted.{IsStanding}
 use Rattle.mp_ac.specs.declared.asked.Asked.{Asked}
+use Rattle.mp_ac.specs.declared.pick.Pick.{Pick}
 use Rattle.mp_ac.specs.declared.room.CommRoom.{CommRoom}
 use Rattle.mp_search.specs.declared.stage.Stage.{Stage}
 use Rattle.mp_search.specs.declared.stage.Stage.TheVariants.{Before, Standing, Ended}
@@ -79,9 +81,10 @@ module _ (a : Asked) (rs : List Rank) (stage : Stage) (old : CommRoom) (t : Trai
       sym (looked-ahead stage mode e (levels_table a ls) (all_items a rs (trail_subst a t))
       ∙ ap (λ l. ahead_at stage (levels_table a l) (all_items a rs (trail_subst a t))) p) ∙ none
 
-  module _ (new : CommRoom) (same : new.grounds ≡ old.grounds)
+  module _ (new : CommRoom) (same : new.grounds ≡ old.grounds) (wide : new.width ≡ old.width)
+      (picks : new.picks ≡ old.picks)
       (count : length new.levels.items ≡ length old.levels.items)
-      (levels : AreLevels a.table.now (all_nodes (terms_at a.table.now rs)) new.levels.items) where
+      (levels : AreLevels a.table.now old.width new.levels.items) where
     -- an item is found
     pub moved-found : (u : Trail)
         → slice_get (ahead_in a rs stage old (trail_subst a t)) 0
@@ -97,7 +100,14 @@ module _ (a : Asked) (rs : List Rank) (stage : Stage) (old : CommRoom) (t : Trai
         asked = h.asked;
         given = h.given;
         room = record {
-          levels = levels;
+          of_table = record {
+            picks = subst (λ w. AllByRecursion (λ k. w ≤ k.rest.room) new.picks.items) (sym wide)
+                (subst (λ (v : Vec Pick Global). AllByRecursion (λ k. old.width ≤ k.rest.room) v.items) (sym picks)
+                h.room.of_table.picks);
+            levels = subst (λ w. AreLevels a.table.now w new.levels.items) (sym wide) levels;
+          };
+          wide = omega (arith, h.room.wide, wide);
+          children = omega arith;
           nodes = omega (arith, h.room.nodes, count);
           grounds = subst
               (λ g. nodes_below a.plan.now.pattern + 1 ≤ g.list.room) (sym same) h.room.grounds;
@@ -143,7 +153,14 @@ module _ (a : Asked) (rs : List Rank) (stage : Stage) (old : CommRoom) (t : Trai
         asked = h.asked;
         given = h.given;
         room = record {
-          levels = levels;
+          of_table = record {
+            picks = subst (λ w. AllByRecursion (λ k. w ≤ k.rest.room) new.picks.items) (sym wide)
+                (subst (λ (v : Vec Pick Global). AllByRecursion (λ k. old.width ≤ k.rest.room) v.items) (sym picks)
+                h.room.of_table.picks);
+            levels = subst (λ w. AreLevels a.table.now w new.levels.items) (sym wide) levels;
+          };
+          wide = omega (arith, h.room.wide, wide);
+          children = omega arith;
           nodes = omega (arith, h.room.nodes, count);
           grounds = subst
               (λ g. nodes_below a.plan.now.pattern + 1 ≤ g.list.room) (sym same) h.room.grounds;

@@ -149,7 +149,7 @@ module _ (q : Query) (g : ℕ) (ps : Patterns) (h : IsCommQuery q g ps) where
   comm-ready ls t l w v s = record {
     query = comm-query;
     levels = l;
-    narrow = comm-narrow;
+    narrow = omega (arith, comm-narrow, h.wide);
     trail = w;
     vars = v;
     spare = omega (arith, comm-narrow, s);

@@ -1,8 +1,8 @@
--- A step of a search below a commutative node, where the trail is read by other names too.
+-- A search below a commutative node, where the trail is read by numbers too.
 use Rattle.std.proofs.Common.{◌≡◌, ◌<◌, ℕ, List, [], ◌∷◌, ◌++◌, length, map, drop, true, false, suc}
 use Rattle.std.proofs.Common.{refl, ap}
 use Rattle.std.proofs.Common.{Bool, sym, ◌∙◌, subst, inl, inr, ◌⊎◌}
-use Rattle.std.specs.Prelude.{Option, Some, None, slice_get, if◌then◌else◌, option_map}
+use Rattle.std.specs.Prelude.{MatchBool, Option, Some, None, slice_get, if◌then◌else◌, option_map}
 use Rattle.std.specs.Ordering.{is_eq}
 use Rattle.std.specs.List.{AllByRecursion}
 use Rattle.std.proofs.lemmas.List.{take-append-drop}
@@ -24,6 +24,7 @@ use Rattle.mp_pattern.specs.Variables.{variables}
 use Rattle.mp_pattern.proofs.NameLaws.{same_name-is, same_name-itself}
 use Rattle.mp_table.specs.Table as plain_table
 use Rattle.mp_table.specs.Table.{terms_at}
+use Rattle.mp_table.specs.declared.rank.Rank.{Rank}
 use Rattle.mp_subst.specs.Bound.{value_in}
 use Rattle.mp_subst.specs.Trail.{Trail, TrailEntry, cut}
 use Rattle.mp_theory.specs.Frames.{settle}
@@ -36,20 +37,20 @@ use Rattle.mp_search.proofs.NumberLaws as number_laws
 use Rattle.mp_search.proofs.NumberLaws.{distinct-variables}
 use Rattle.mp_search.proofs.SubstLaws.{value_of-subst_from, value_of-set_other}
 use Rattle.mp_ac.specs.declared.asked.Asked.{Asked}
-use Rattle.mp_ac.specs.declared.search.CommSearch.{CommSearch}
-use Rattle.mp_search.specs.declared.stage.Stage.{Stage}
-use Rattle.mp_search.specs.declared.stage.Stage.TheVariants.{Before, Standing, Ended}
-use Rattle.mp_ac.specs.Args.{args_of}
-use Rattle.mp_ac.specs.Asked.{all_items, root_list}
+use Rattle.mp_search.specs.declared.mode.Mode.{Mode}
+use Rattle.mp_search.specs.declared.mode.Mode.TheVariants.{First, After, At}
+use Rattle.mp_search.specs.Wanted.{IsStanding}
+use Rattle.mp_ac.specs.Asked.{IsAsked, all_items, root_list, trail_subst}
 use Rattle.mp_ac.specs.CommItems.{NoneTwice, SameOn, SameValues}
 use Rattle.mp_ac.specs.CommList.{SameItems, behind_table, below, comm_list}
 use Rattle.mp_ac.specs.CommPlan.{IsApplication}
-use Rattle.mp_ac.specs.Search.{IsOver, IsNumberedSearch, ahead, item_table, read_by}
-use Rattle.mp_ac.specs.Stage.{ahead_at}
-use Rattle.mp_ac.proofs.BehindLaws.{behind-first, behind-next}
+use Rattle.mp_ac.specs.Numbered.{name_of, numbered_subst}
+use Rattle.mp_ac.specs.Seek.{IsFoundOf}
+use Rattle.mp_ac.specs.Stage.{looked_for}
+use Rattle.mp_ac.proofs.BehindLaws.{behind-first, behind-in, behind-next, first-in}
 use Rattle.mp_ac.proofs.ListLaws.{comm_list-others, comm_list-same, once-ascending}
 use Rattle.mp_pattern.proofs.PlanNodes.{plan-names}
-use Rattle.mp_ac.proofs.MovedLaws.{ahead-in}
+use Rattle.mp_ac.proofs.NumberedLaws.{name_of-less, name_of-only}
 
 -- a name is one of them or not
 among : (x : List ℕ) (xs : List (List ℕ)) → In x xs ⊎ (In x xs → ⊥)
@@ -84,11 +85,23 @@ same-behind xs W (i ∷ is) (j ∷ js) h =
     (λ b. SameItems xs (if b then is else behind_table W is) (if b then js else behind_table W js))
     [ true ↦ h.2 | false ↦ same-behind xs W is js h.2 ])
 
-same-ahead : (xs : List (List ℕ)) (stage : Stage) (W : Table) (is js : List Item) → SameItems xs is js
-    → SameItems xs (ahead_at stage W is) (ahead_at stage W js)
-same-ahead xs Before W is js h = h
-same-ahead xs Standing W is js h = same-behind xs W is js h
-same-ahead xs Ended W is js h = tt
+same-looked : (xs : List (List ℕ)) (mode : Mode) (W : Table) (is js : List Item) → SameItems xs is js
+    → SameItems xs (looked_for mode W is) (looked_for mode W js)
+same-looked xs First W is js h = h
+same-looked xs After W is js h = same-behind xs W is js h
+same-looked xs At W is js h = h
+
+same-tables : (xs : List (List ℕ)) (is js : List Item) → SameItems xs is js → item_tables is ≡ item_tables js
+same-tables xs [] [] h = refl
+same-tables xs [] (j ∷ js) h = absurd h
+same-tables xs (i ∷ is) [] h = absurd h
+same-tables xs (i ∷ is) (j ∷ js) h = ap (λ T. T ∷ item_tables is) h.0 ∙ ap (λ Ts. j.0 ∷ Ts) (same-tables xs is js h.2)
+
+same-standing : (mode : Mode) (W : Table) (is js : List Item) → item_tables is ≡ item_tables js
+    → IsStanding mode W is → IsStanding mode W js
+same-standing First W is js e h = tt
+same-standing After W is js e h = subst (In W) e h
+same-standing At W is js e h = tt
 
 same-first : (xs : List (List ℕ)) (is js : List Item) (j : Item) → SameItems xs is js → slice_get js 0 ≡ Some j
     → (r : Subst) × (slice_get is 0 ≡ Some (j.0, r)) × SameOn xs r j.1
@@ -103,12 +116,18 @@ same-none xs [] js h e = refl
 same-none xs (i ∷ is) [] h e = absurd h
 same-none xs (i ∷ is) (j ∷ js) h e = cc
 
--- and behind it come the others
-ahead-next : (stage : Stage) (W : Table) (is : List Item) (i : Item) → NoneTwice (item_tables is)
-    → slice_get (ahead_at stage W is) 0 ≡ Some i → behind_table i.0 is ≡ drop 1 (ahead_at stage W is)
-ahead-next Before W is i n e = behind-first is i e
-ahead-next Standing W is i n e = behind-next W is i n e
-ahead-next Ended W is i n e = cc
+-- the first of those that are looked for is an item, and behind it come the others
+pub looked-in : (mode : Mode) (W : Table) (is : List Item) (i : Item) → slice_get (looked_for mode W is) 0 ≡ Some i
+    → In i is
+looked-in First W is i e = first-in is i e
+looked-in After W is i e = behind-in W is i (first-in (behind_table W is) i e)
+looked-in At W is i e = first-in is i e
+
+looked-next : (mode : Mode) (W : Table) (is : List Item) (i : Item) → NoneTwice (item_tables is)
+    → slice_get (looked_for mode W is) 0 ≡ Some i → behind_table i.0 is ≡ drop 1 (looked_for mode W is)
+looked-next First W is i n e = behind-first is i e
+looked-next After W is i n e = behind-next W is i n e
+looked-next At W is i n e = behind-first is i e
 
 -- no item stands twice
 pub comm_list-once : (sig : Sig) (g : ℕ) (ps : Patterns) (args : List Tree) (owes : Bool) (s : Subst)
@@ -161,93 +180,102 @@ module _ (t : plain_table.Table) (name : ℕ → Option (List ℕ))
           (in-map numbered e.var vs h.0)))
       apart false k = refl
 
-  module _ (c : CommSearch) (u : Trail) (over : IsOver c u) (n : IsNumberedSearch c)
-      (same : c.asked.table.now ≡ t) where
-    -- the plan's variables have the same values by both names
-    read-same : (es : List TrailEntry) → SameOn (variables c.asked.plan.now.pattern) (subst_from t name [] es)
-        (subst_from t (name_among c.asked.vars.now c.asked.plan.now.variables) [] es)
-    read-same es x i =
-        let vs = c.asked.vars.now in
-        let p = c.asked.plan.now.pattern in
-        let r = place-of vs x (subst (In x) (sym n.names) i) in
-        let v = r.1 in
-        let few : v < MAX_VARIABLES = all-get (λ v. v < MAX_VARIABLES) vs r.0 v n.few r.2 in
-        let e : x ≡ numbered v = r.3 in
-        let at : slice_get (variables p) r.0 ≡ Some (numbered v) =
-        ap (λ ys. slice_get ys r.0) (sym n.names) ∙ slice_get-map numbered vs r.0 ∙ ap (option_map numbered) r.2 in
-        let k = number_laws.numbered vs c.asked.plan.now.variables (variables p) r.0 v (numbered v)
-        (plan-names c.asked.sig.now p c.asked.plan.now over.asked.plan) (distinct-variables p) over.asked.distinct
-        r.2 at in
-        subst (λ y. value_of (subst_from t name [] es) y
-        ≡ value_of (subst_from t (name_among vs c.asked.plan.now.variables) [] es) y) (sym e)
-        (value_of-subst_from t name (numbered v) v (is v few) (λ w. only w v few) [] es
-        ∙ sym (value_of-subst_from t (name_among vs c.asked.plan.now.variables) (numbered v) v k.0 k.1 [] es))
+-- what is asked, where each variable of the plan is named by its number too
+module _ (a : Asked) (h : IsAsked a) (names : map numbered a.vars.now ≡ variables a.plan.now.pattern)
+    (few : AllByRecursion (λ v. v < MAX_VARIABLES) a.vars.now) where
+  abbrev own_names : List (List ℕ)
+  own_names = variables a.plan.now.pattern
 
-    read-is : (w : Trail) → read_by c w
-        ≡ subst_from t (name_among c.asked.vars.now c.asked.plan.now.variables) [] w.stack
-    read-is w = ap (λ (k : plain_table.Table).
-        subst_from k (name_among c.asked.vars.now c.asked.plan.now.variables) [] w.stack) same
+  -- the plan's variables have the same values by both names
+  read-same : (es : List TrailEntry) → SameOn own_names (numbered_subst a.table.now es)
+      (subst_from a.table.now (name_among a.vars.now a.plan.now.variables) [] es)
+  read-same es x i =
+      let vs = a.vars.now in
+      let r = place-of vs x (subst (In x) (sym names) i) in
+      let v = r.1 in
+      let less : v < MAX_VARIABLES = all-get (λ v. v < MAX_VARIABLES) vs r.0 v few r.2 in
+      let e : x ≡ numbered v = r.3 in
+      let at : slice_get own_names r.0 ≡ Some (numbered v) =
+      ap (λ ys. slice_get ys r.0) (sym names) ∙ slice_get-map numbered vs r.0 ∙ ap (option_map numbered) r.2 in
+      let k = number_laws.numbered vs a.plan.now.variables own_names r.0 v (numbered v)
+      (plan-names a.sig.now a.plan.now.pattern a.plan.now h.plan) (distinct-variables a.plan.now.pattern) h.distinct
+      r.2 at in
+      subst (λ y. value_of (numbered_subst a.table.now es) y
+      ≡ value_of (subst_from a.table.now (name_among vs a.plan.now.variables) [] es) y) (sym e)
+      (value_of-subst_from a.table.now name_of (numbered v) v (name_of-less v less) (λ w. name_of-only w v less) [] es
+      ∙ sym (value_of-subst_from a.table.now (name_among vs a.plan.now.variables) (numbered v) v k.0 k.1 [] es))
 
-    abbrev all : Subst → List Item
-    all s = all_items c.asked (args_of c.args) s
+  module _ (rs : List Rank) (u : Trail) where
+    -- the items over the trail by its numbers, and by the plan's variables
+    abbrev by_numbers : List Item
+    by_numbers = all_items a rs (numbered_subst a.table.now u.stack)
 
-    lists-same : SameItems (variables c.asked.plan.now.pattern) (ahead c (subst_from t name [] u.stack))
-        (ahead c (read_by c u))
-    lists-same = same-ahead (variables c.asked.plan.now.pattern) c.stage (item_table c)
-        (all (subst_from t name [] u.stack)) (all (read_by c u))
-        (root-same c.asked.sig.now c.asked.plan.now.pattern over.asked.application
-        (terms_at c.asked.table.now (args_of c.args)) c.asked.owes (subst_from t name [] u.stack) (read_by c u)
-        (subst (SameOn (variables c.asked.plan.now.pattern) (subst_from t name [] u.stack)) (sym (read-is u))
-        (read-same u.stack)))
+    abbrev by_names : List Item
+    by_names = all_items a rs (trail_subst a u)
 
-    -- where none is left, none is left
-    pub step-none : ahead c (read_by c u) ≡ [] → ahead c (subst_from t name [] u.stack) ≡ []
-    step-none e = same-none (variables c.asked.plan.now.pattern) (ahead c (subst_from t name [] u.stack))
-        (ahead c (read_by c u)) lists-same e
+    items-same : SameItems own_names by_numbers by_names
+    items-same = root-same a.sig.now a.plan.now.pattern h.application (terms_at a.table.now rs) a.owes
+        (numbered_subst a.table.now u.stack) (trail_subst a u) (read-same u.stack)
 
-    -- where there is an item, it is the first one over the other names too, and behind it come the others
-    pub step-found : (d : CommSearch) (v : Trail) → d.asked ≡ c.asked → d.args ≡ c.args → d.stage ≡ Standing
-        → slice_get (ahead c (read_by c u)) 0 ≡ Some (item_table d, read_by d v)
-        → cut (length u.stack) v ≡ u → BindsOnly c.asked.vars.now u v
-        → ((r : Subst) × (slice_get (ahead c (subst_from t name [] u.stack)) 0 ≡ Some (item_table d, r))
-        × SameValues r (subst_from t name [] v.stack))
-        × (ahead d (subst_from t name [] u.stack) ≡ drop 1 (ahead c (subst_from t name [] u.stack)))
-    step-found d v asked args stage found kept binds = ((f.0, f.1, values), rest)
-      where
-        f : (r : Subst) × (slice_get (ahead c (subst_from t name [] u.stack)) 0 ≡ Some (item_table d, r))
-            × SameOn (variables c.asked.plan.now.pattern) r (read_by d v)
-        f = same-first (variables c.asked.plan.now.pattern) (ahead c (subst_from t name [] u.stack))
-            (ahead c (read_by c u)) (item_table d, read_by d v) lists-same found
+    -- where one stands by the numbers one stands by the variables
+    pub step-standing : (mode : Mode) (W : Table) → IsStanding mode W by_numbers → IsStanding mode W by_names
+    step-standing mode W s =
+        same-standing mode W by_numbers by_names (same-tables own_names by_numbers by_names items-same) s
 
-        stacks : v.stack ≡ u.stack ++ drop (length u.stack) v.stack
-        stacks = sym (take-append-drop (length u.stack) v.stack)
-            ∙ ap (λ (w : Trail). w.stack ++ drop (length u.stack) v.stack) kept
+    module _ (mode : Mode) (W : Table) where
+      looked-same : SameItems own_names (looked_for mode W by_numbers) (looked_for mode W by_names)
+      looked-same = same-looked own_names mode W by_numbers by_names items-same
 
-        values : SameValues f.0 (subst_from t name [] v.stack)
-        values x = by_name (among x (variables c.asked.plan.now.pattern))
-          where
-            by_name : In x (variables c.asked.plan.now.pattern) ⊎ (In x (variables c.asked.plan.now.pattern) → ⊥)
-                → value_of f.0 x ≡ value_of (subst_from t name [] v.stack) x
-            by_name (inl i) = f.2 x i
-                ∙ ap (λ (a : Asked). value_of (subst_from a.table.now (name_among a.vars.now a.plan.now.variables) []
-                v.stack) x) asked
-                ∙ ap (λ s. value_of s x) (read-is v) ∙ sym (read-same v.stack x i)
-            by_name (inr never) =
-                root-others c.asked.sig.now c.asked.plan.now.pattern over.asked.application
-                (terms_at c.asked.table.now (args_of c.args)) c.asked.owes (subst_from t name [] u.stack)
-                (item_table d, f.0) x
-                (ahead-in c.stage (item_table c) (all (subst_from t name [] u.stack)) (item_table d, f.0) f.1) never
-                ∙ sym (ap (λ es. value_of (subst_from t name [] es) x) stacks
-                ∙ ap (λ s. value_of s x) (subst_from-append [] u.stack (drop (length u.stack) v.stack))
-                ∙ others-kept c.asked.vars.now x n.few (λ i. never (subst (In x) n.names i))
-                (subst_from t name [] u.stack) (drop (length u.stack) v.stack) binds)
+      -- where none is found, none is found
+      step-none : looked_for mode W by_names ≡ [] → looked_for mode W by_numbers ≡ []
+      step-none e = same-none own_names (looked_for mode W by_numbers) (looked_for mode W by_names) looked-same e
 
-        rest : ahead d (subst_from t name [] u.stack) ≡ drop 1 (ahead c (subst_from t name [] u.stack))
-        rest = ap (λ k. ahead_at k (item_table d) (all_items d.asked (args_of d.args) (subst_from t name [] u.stack)))
-            stage
-            ∙ ap (λ (a : Asked). behind_table (item_table d) (all_items a (args_of d.args)
-            (subst_from t name [] u.stack))) asked
-            ∙ ap (λ a. behind_table (item_table d) (all_items c.asked (args_of a) (subst_from t name [] u.stack))) args
-            ∙ ahead-next c.stage (item_table c) (all (subst_from t name [] u.stack)) (item_table d, f.0)
-            (root-once c.asked.sig.now c.asked.plan.now.pattern over.asked.application
-            (terms_at c.asked.table.now (args_of c.args)) c.asked.owes (subst_from t name [] u.stack)) f.1
+      -- where there is an item, it is the first one over the numbers too, and behind it come the others
+      step-found : (V : Table) (v : Trail) → slice_get (looked_for mode W by_names) 0 ≡ Some (V, trail_subst a v)
+          → cut (length u.stack) v ≡ u → BindsOnly a.vars.now u v
+          → ((r : Subst) × (slice_get (looked_for mode W by_numbers) 0 ≡ Some (V, r))
+          × SameValues r (numbered_subst a.table.now v.stack))
+          × (behind_table V by_numbers ≡ drop 1 (looked_for mode W by_numbers))
+      step-found V v found kept binds = (
+        (f.0, f.1, values),
+        looked-next mode W by_numbers (V, f.0)
+            (root-once a.sig.now a.plan.now.pattern h.application (terms_at a.table.now rs) a.owes
+            (numbered_subst a.table.now u.stack)) f.1,
+      )
+        where
+          f : (r : Subst) × (slice_get (looked_for mode W by_numbers) 0 ≡ Some (V, r))
+              × SameOn own_names r (trail_subst a v)
+          f = same-first own_names (looked_for mode W by_numbers) (looked_for mode W by_names) (V, trail_subst a v)
+              looked-same found
+
+          stacks : v.stack ≡ u.stack ++ drop (length u.stack) v.stack
+          stacks = sym (take-append-drop (length u.stack) v.stack)
+              ∙ ap (λ (w : Trail). w.stack ++ drop (length u.stack) v.stack) kept
+
+          values : SameValues f.0 (numbered_subst a.table.now v.stack)
+          values x = by_name (among x own_names)
+            where
+              by_name : In x own_names ⊎ (In x own_names → ⊥)
+                  → value_of f.0 x ≡ value_of (numbered_subst a.table.now v.stack) x
+              by_name (inl i) = f.2 x i ∙ sym (read-same v.stack x i)
+              by_name (inr never) =
+                  root-others a.sig.now a.plan.now.pattern h.application (terms_at a.table.now rs) a.owes
+                  (numbered_subst a.table.now u.stack) (V, f.0) x (looked-in mode W by_numbers (V, f.0) f.1) never
+                  ∙ sym (ap (λ es. value_of (numbered_subst a.table.now es) x) stacks
+                  ∙ ap (λ s. value_of s x)
+                  (subst_from-append a.table.now name_of name_of-less name_of-only [] u.stack
+                  (drop (length u.stack) v.stack))
+                  ∙ others-kept a.table.now name_of name_of-less name_of-only a.vars.now x few
+                  (λ i. never (subst (In x) names i)) (numbered_subst a.table.now u.stack)
+                  (drop (length u.stack) v.stack) binds)
+
+      -- what is found by the variables is found by the numbers
+      pub step-finds : (V : Table) (v : Trail) (found : Bool) → cut (length u.stack) v ≡ u
+          → BindsOnly a.vars.now u v
+          → MatchBool found
+          ((slice_get (looked_for mode W by_names) 0 ≡ Some (V, trail_subst a v))
+          × (behind_table V by_names ≡ drop 1 (looked_for mode W by_names)))
+          (looked_for mode W by_names ≡ [])
+          → IsFoundOf mode W V by_numbers (numbered_subst a.table.now v.stack) found
+      step-finds V v true kept binds f = step-found V v f.0 kept binds
+      step-finds V v false kept binds f = step-none f

@@ -25,7 +25,7 @@ inner-is (symbol_pattern n) = refl
 inner-is (app_pattern g ps) = refl
 inner-is (wild_pattern w x) = refl
 
-some-nodes : (p : Pattern) → 1 ≤ pattern_nodes p
+pub some-nodes : (p : Pattern) → 1 ≤ pattern_nodes p
 some-nodes (symbol_pattern n) = omega arith
 some-nodes (app_pattern g ps) = omega arith
 some-nodes (wild_pattern w x) = omega arith

@@ -41,6 +41,11 @@ pub record IsNumberedPattern (p : Pattern) : Type 0 where
   pub planned : plan_fault p ≡ None
   pub names : (x : List ℕ) → In x (variables p) → IsNumbered x
 
+-- the variables of the plan are named by their numbers in the trail, which are within the limit
+pub record IsNumberedPlan (c : CommPlan) : Type 0 where
+  pub names : map numbered c.vars.items ≡ variables c.plan.pattern
+  pub few : AllByRecursion (λ v. v < MAX_VARIABLES) c.vars.items
+
 -- the plan is that of the pattern, and each variable has the number in the trail by which it is named
 pub record IsCommPlanOf (sig : Sig) (p : Pattern) (c : CommPlan) : Type 0 where
   pub application : IsApplication p

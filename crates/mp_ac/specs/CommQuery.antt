@@ -1,7 +1,8 @@
 -- What a search below a commutative node may count on.
-use Rattle.std.specs.Prelude.{◌≡◌, ℕ, List, length, map, Some, None, slice_get}
+use Rattle.std.specs.Prelude.{◌≡◌, ◌≤◌, ℕ, List, length, map, Some, None, slice_get}
 use Rattle.std.specs.List.{AllByRecursion}
 use Rattle.mp_term.specs.Normal.{IsNormal}
+use Rattle.mp_term.specs.Size.{all_nodes}
 use Rattle.mp_term.specs.Tree.{Tree}
 use Rattle.mp_pattern.specs.PatternTree.{Patterns, app_pattern, patterns}
 use Rattle.mp_pattern.specs.View.{pattern_tree}
@@ -19,8 +20,8 @@ abbrev pub args_of : Query → List Tree
 args_of q = terms_at q.table.now q.start.left.now
 
 -- the search starts at the children of g, in the plan of that pattern, and asks for no condition; what it is to take
--- stands in order; the table is one of normal terms, the pattern's symbols and defaults among them; and each variable
--- has a number of its own in the trail
+-- stands in order, and there is room for it; the table is one of normal terms, the pattern's symbols and defaults among
+-- them; and each variable has a number of its own in the trail
 pub record IsCommQuery (q : Query) (g : ℕ) (ps : Patterns) : Type 0 where
   pub plan : IsPlanOf q.sig.now (app_pattern g ps) q.plan.now
   pub first : q.first ≡ 1
@@ -31,6 +32,7 @@ pub record IsCommQuery (q : Query) (g : ℕ) (ps : Patterns) : Type 0 where
   pub holds : AllByRecursion (λ p. HoldsGround q.table.now (ground_of p)) (subpatterns (app_pattern g ps))
   pub grounds : AreGrounds q.table.now (subpatterns (app_pattern g ps)) q.grounds.now
   pub condition : q.condition ≡ None
+  pub wide : all_nodes (args_of q) ≤ q.width
   pub under : above q.start.under ≡ Some g
   pub children : patterns (map pattern_tree q.start.children.now) ≡ ps
   pub left : HasRanks q.table.now q.start.left.now

@@ -3,6 +3,7 @@ pub mod CommItems
 pub mod CommList
 pub mod CommQuery
 pub mod Args
+pub mod Numbered
 pub mod CommPlan
 pub mod CommRoom
 pub mod Stage
@@ -10,3 +11,11 @@ pub mod Asked
 pub mod Moved
 pub mod Search
 pub mod Matcher
+pub mod TakesOne
+pub mod CommPlans
+pub mod Candidates
+pub mod Seek
+pub mod Planned
+pub mod Store
+pub mod Begin
+pub mod Spent

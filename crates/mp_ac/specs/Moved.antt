@@ -26,7 +26,7 @@ module _ (a : Asked) (rs : List Rank) where
   pub record IsStandingAt (stage : Stage) (r : CommRoom) (t : Trail) : Type 0 where
     pub asked : IsAsked a
     pub given : AreGiven a.sig.now a.plan.now.pattern a.table.now rs
-    pub room : IsRoomFor a.table.now (nodes_below a.plan.now.pattern) (all_nodes (terms_at a.table.now rs)) r
+    pub room : IsRoomFor a.table.now 0 (nodes_below a.plan.now.pattern) (all_nodes (terms_at a.table.now rs)) r
     pub grounds : AreGrounds a.table.now (subpatterns a.plan.now.pattern) r.grounds.list.items.items
     pub trail : IsTrailFor a.vars.now a.plan.now.pattern a.table.now rs t
     pub among : IsAmong stage (levels_table a r.levels.items) (all_items a rs (trail_subst a t))

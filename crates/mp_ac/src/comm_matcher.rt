@@ -170,7 +170,7 @@ impl<'a> CommMatcher<'a> {
     {
         let own = own_plan(alloc, sig, plan, node)?;
         let numbers = own_numbers(alloc, plan, &own, vars)?;
-        let mut room = CommRoom::new(alloc, own.len() - 1, nodes_of(table, args))?;
+        let mut room = CommRoom::new(alloc, 0, own.len() - 1, nodes_of(table, args))?;
         // What holds of each table.
         table.len();
         room.grounds.fill(table, own.pattern());

@@ -1,13 +1,14 @@
 //! Patterns of a commutative operation that are prepared once.
-ghost use Rattle.std.specs.Prelude.{◌≡◌, ◌<◌, ℕ, List, map, IfOk};
+ghost use Rattle.std.specs.Prelude.{◌≡◌, ◌<◌, ℕ, List, map, IfOk, IfSome};
 ghost use Rattle.std.specs.List.{AllByRecursion};
 ghost use Rattle.mp_term.specs.Listing.{In};
 ghost use Rattle.mp_term.specs.Signature.{Sig};
 ghost use Rattle.mp_pattern.specs.NetTokens.{numbered};
 ghost use Rattle.mp_pattern.specs.Plan.{IsPlanOf};
 ghost use Rattle.mp_pattern.specs.PlanFault.{plan_fault};
+ghost use Rattle.mp_pattern.specs.Variables.{variables};
 ghost use Rattle.mp_pattern.specs.View.{pattern_tree};
-ghost use Rattle.mp_ac.specs.CommPlan.{IsNumbered, IsNumberedPattern, IsCommPlanOf, nodes_below};
+ghost use Rattle.mp_ac.specs.CommPlan.{IsApplication, IsNumbered, IsNumberedPattern, IsCommPlanOf, nodes_below};
 
 use mp_pattern::{MAX_VARIABLES, Pattern, Plan, PlanFault};
 use mp_term::{Memory, Name, Signature};
@@ -22,7 +23,7 @@ pub struct CommPlan {
 }
 
 // The number in a name.
-fn number_of(name: &Name) -> u32
+pub(crate) fn number_of(name: &Name) -> u32
     requires { IsNumbered name.now }
     ensures name { name.now ≡ numbered result }
     ensures few { result < MAX_VARIABLES }
@@ -73,6 +74,26 @@ impl CommPlan {
         let plan = plan_of(alloc, sig, pattern)?;
         let vars = numbers(alloc, &plan)?;
         Ok(CommPlan { plan, vars })
+    }
+
+    // The same of a pattern that may have no plan: None where it has none.
+    pub(crate) fn planned(
+        alloc: Global,
+        sig: &Signature,
+        pattern: &Pattern,
+    ) -> Result<Option<CommPlan>, Memory>
+        requires application { IsApplication (pattern_tree pattern.now) }
+        requires names { (x : List ℕ) → In x (variables (pattern_tree pattern.now)) → IsNumbered x }
+        ensures { IfOk result (λ o. IfSome o (IsCommPlanOf sig.now (pattern_tree pattern.now))) }
+    {
+        match Plan::compile(alloc, sig, pattern) {
+            Ok(plan) => {
+                let vars = numbers(alloc, &plan)?;
+                Ok(Some(CommPlan { plan, vars }))
+            }
+            Err(PlanFault::Memory) => Err(Memory),
+            Err(_) => Ok(None),
+        }
     }
 
     /// How many nodes there are below the pattern's root.

@@ -3,15 +3,28 @@
 
 mod args;
 mod asked;
+mod begin;
+mod candidates;
 mod comm_matcher;
 mod comm_plan;
+mod comm_plans;
+mod digest;
 mod look;
+mod pick;
+mod planned;
 mod room;
 mod search;
+mod seek;
+mod spent;
+mod store;
 mod subpattern;
+mod syntactic;
 
 pub use args::Args;
+pub use candidates::Candidates;
 pub use comm_matcher::CommMatcher;
 pub use comm_plan::CommPlan;
+pub use comm_plans::{CommPlans, Prepared};
 pub use room::CommRoom;
 pub use search::CommSearch;
+pub use store::CommStore;

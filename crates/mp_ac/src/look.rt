@@ -26,6 +26,7 @@ pub(crate) fn look<'a>(
     asked: Asked<'a>,
     args: &'a [Rank],
     grounds: &'a [Ground],
+    width: usize,
     levels: &mut [Level],
     trail: &mut Trail,
     mode: Mode,
@@ -34,7 +35,8 @@ pub(crate) fn look<'a>(
     requires args { AreGiven asked.sig.now asked.plan.now.pattern asked.table.now args.now }
     requires grounds { AreGrounds asked.table.now (subpatterns asked.plan.now.pattern) grounds.now }
     requires count { nodes_below asked.plan.now.pattern ≤ length levels.old }
-    requires levels { AreLevels asked.table.now (all_nodes (terms_at asked.table.now args.now)) levels.old }
+    requires wide { all_nodes (terms_at asked.table.now args.now) ≤ width }
+    requires levels { AreLevels asked.table.now width levels.old }
     requires trail { IsTrailFor asked.vars.now asked.plan.now.pattern asked.table.now args.now trail.old }
     requires mode { IsOnward mode }
     requires standing { IsStanding mode (levels_table asked levels.old)
@@ -46,7 +48,7 @@ pub(crate) fn look<'a>(
         × (behind_table (levels_table asked.entry levels.new)
         (all_items asked.entry args.now (trail_subst asked.entry trail.old)) ≡ drop 1 is)) (is ≡ []) }
     ensures count { length levels.new ≡ length levels.old }
-    ensures levels { AreLevels asked.entry.table.now (all_nodes (terms_at asked.entry.table.now args.now)) levels.new }
+    ensures levels { AreLevels asked.entry.table.now width levels.new }
     ensures kept { cut (length trail.old.stack) trail.new ≡ trail.old }
     ensures only { BindsOnly asked.entry.vars.now trail.old trail.new }
     ensures spare { trail.old.spare ≤ trail.new.spare
@@ -65,6 +67,7 @@ pub(crate) fn look<'a>(
         table: asked.table,
         grounds,
         condition: None,
+        width,
         start: Start {
             under: Some(*op),
             children: children.as_slice(),
@@ -91,7 +94,8 @@ pub(crate) fn look_on(
     };
     let mark = trail.mark();
     let grounds = room.grounds.as_slice();
-    if look(asked, args, grounds, &mut room.levels, trail, mode) {
+    let width = room.width;
+    if look(asked, args, grounds, width, &mut room.levels, trail, mode) {
         return true;
     }
     trail.undo(mark);

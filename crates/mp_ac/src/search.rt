@@ -1,40 +1,56 @@
 //! The search for the items below a commutative node, one after the other.
 ghost use Rattle.std.specs.Prelude.{◌≡◌, ◌≤◌, ◌+◌, [], drop, length, option_map, slice_get, Some, MatchBool};
-ghost use Rattle.std.specs.Prelude.{IfSome};
+ghost use Rattle.std.specs.Prelude.{IfOk, IfSome, IsSome, IsTrue, OnOk};
 ghost use Rattle.std.specs.List.{AllByRecursion};
-ghost use Rattle.std.specs.Prelude.{IsSome};
 ghost use Rattle.mp_term.specs.Normal.{IsNormal};
 ghost use Rattle.mp_term.specs.Size.{all_nodes};
 ghost use Rattle.mp_pattern.specs.Constants.{pattern_constants};
-ghost use Rattle.mp_pattern.specs.Fits as fits;
+ghost use Rattle.mp_pattern.specs.Fits.{arranged};
 ghost use Rattle.mp_pattern.specs.Value.{Subst};
-ghost use Rattle.mp_table.specs.Table.{HasRanks, rank_of, terms_at};
-ghost use Rattle.mp_subst.specs.Trail.{GoesWith, Trail as plain_trail, cut};
-ghost use Rattle.mp_search.specs.At.{BindsOnly};
-ghost use Rattle.mp_search.specs.Reading.{name_among, subst_from};
-ghost use Rattle.mp_ac.specs.Args.{args_of};
-ghost use Rattle.mp_ac.specs.Asked.{AreGiven, IsTrailFor, cost, root_list};
-ghost use Rattle.mp_ac.specs.CommPlan.{IsCommPlanOf, nodes_below};
-ghost use Rattle.mp_ac.specs.CommRoom.{IsRoomFor};
+ghost use Rattle.mp_pattern.specs.View.{pattern_tree};
+ghost use Rattle.mp_table.specs.Table.{HasRank, HasRanks, rank_of, term_at, terms_at};
+ghost use Rattle.mp_subst.specs.Trail.{Trail as plain_trail, cut};
+ghost use Rattle.mp_ac.specs.Asked.{cost, root_list};
+ghost use Rattle.mp_ac.specs.Candidates.{given_terms};
+ghost use Rattle.mp_ac.specs.CommItems.{SameValues};
+ghost use Rattle.mp_ac.specs.CommPlan.{IsNumberedPattern, root_op};
+ghost use Rattle.mp_ac.specs.CommPlans.{IsPrepared};
+ghost use Rattle.mp_ac.specs.CommRoom.{IsOfTable};
+ghost use Rattle.mp_ac.specs.Numbered.{IsTrailOf, numbered_subst};
+ghost use Rattle.mp_ac.specs.Search.{IsOver, ahead, cost_of, item_table, mark_of, table_of};
+ghost use Rattle.mp_ac.specs.Seek.{IsCommutative};
 ghost use Rattle.mp_ac.specs.Stage.{stage_after};
-ghost use Rattle.mp_ac.specs.Search.{IsNumberedSearch, IsOver, ahead, item_table, mark_of, read_by};
+ghost use Rattle.mp_ac.specs.Store.{IsStoreOf};
+ghost use Rattle.mp_ac.specs.declared.comm_plans.CommPlans.{CommPlans as plain_plans};
 
 use crate::args::Args;
 use crate::asked::Asked;
-use crate::comm_plan::CommPlan;
-use crate::look::look_on;
+use crate::begin::{Node, parts, room_for};
+use crate::comm_plans::{CommPlans, Prepared};
+use crate::pick::entry_picked;
+use crate::planned::Planned;
 use crate::room::CommRoom;
+use crate::seek::{Sought, seek};
+use crate::spent::is_spent;
+use crate::store::CommStore;
+use mp_pattern::Pattern;
 use mp_search::Stage;
 use mp_subst::{Mark, Trail};
 use mp_table::{Rank, Table};
-use mp_term::Signature;
+use mp_term::{Memory, Signature};
+use std::alloc::Global;
 
 /// The items below a commutative node over a trail, one after the other: the tables of the entries of the nodes below
-/// it, each once, with what their children's takes bind. `ahead` of `specs/Search.antt` are those still to come.
+/// it, each once, with what its children's takes bind. `ahead` of `specs/Search.antt` are those still to come.
+// The children that take one term each, and the plan of the others.
 #[derive(Drop)]
 pub struct CommSearch<'a> {
-    pub(crate) asked: Asked<'a>,
+    pub(crate) sig: &'a Signature,
+    pub(crate) table: &'a Table,
+    pub(crate) children: &'a [Pattern],
+    pub(crate) plan: Planned<'a>,
     pub(crate) args: Args<'a>,
+    pub(crate) owes: bool,
     pub(crate) room: CommRoom,
     pub(crate) mark: Mark,
     pub(crate) stage: Stage,
@@ -42,118 +58,174 @@ pub struct CommSearch<'a> {
 
 impl<'a> CommSearch<'a> {
     /// The search before its first item. Its list is `comm_list` of `specs/CommList.antt` over the trail's
-    /// substitution, in which each variable of the plan is read by its number. It takes no memory.
+    /// substitution, in which each variable is named by its number.
     ///
-    /// The table is one of terms that are normal over the signature, and holds the symbols and defaults of the plan's
-    /// pattern. The arguments are those of an application of its operation in order, or one term alone. The room is for
-    /// the nodes below the pattern's root and for the nodes of the arguments. The trail goes with the table, has a
-    /// place for each variable, and room for the nodes of the arguments and three for each node below the root.
+    /// The pattern is an application of a commutative operation, prepared among the plans. The node is a term of the
+    /// table, whose terms are normal over the signature, and which holds the pattern's symbols and defaults. The
+    /// children take its arguments together, which are those of an application of their operation in order, or it
+    /// alone. The trail has room for the nodes of the arguments and three for each node below the pattern's root. The
+    /// store is one of the table and of the plans, also afterwards. `Memory` comes where there is no memory for it.
     pub fn begin(
-        room: CommRoom,
+        alloc: Global,
+        store: &mut CommStore,
         sig: &'a Signature,
-        plan: &'a CommPlan,
+        plans: &'a CommPlans,
+        prepared: Prepared,
+        pattern: &'a Pattern,
         table: &'a Table,
-        args: Args<'a>,
-        owes: bool,
+        node: Rank,
+        alone: bool,
         trail: &Trail,
-    ) -> CommSearch<'a>
-        requires plan { IsCommPlanOf sig.now plan.now.plan.pattern plan.now }
+    ) -> Result<CommSearch<'a>, Memory>
+        requires pattern { IsNumberedPattern (pattern_tree pattern.now) }
+        requires commutative { IsCommutative sig.now (pattern_tree pattern.now) }
+        requires prepared { IsPrepared sig.now plans.now (pattern_tree pattern.now) prepared }
         requires normal { AllByRecursion (IsNormal sig.now) table.now.terms }
         requires constants { AllByRecursion (λ u. IsSome (rank_of table.now u))
-            (pattern_constants plan.now.plan.pattern) }
-        requires args { AreGiven sig.now plan.now.plan.pattern table.now (args_of args) }
-        requires room { IsRoomFor table.now (nodes_below plan.now.plan.pattern)
-            (all_nodes (terms_at table.now (args_of args))) room }
-        requires trail { IsTrailFor plan.now.vars.items plan.now.plan.pattern table.now (args_of args) trail.now }
-        ensures over { IsOver result trail.now }
-        ensures mark { mark_of result ≡ length trail.now.stack }
-        ensures list { (s : Subst) → ahead result s
-            ≡ root_list sig.now plan.now.plan.pattern (terms_at table.now (args_of args.entry)) owes s }
-        ensures numbered { IsNumberedSearch result }
-        ensures table { result.asked.table.now ≡ table.now }
-        ensures cost { cost result.asked.plan.now.pattern (terms_at result.asked.table.now (args_of result.args))
-            ≡ cost plan.now.plan.pattern (terms_at table.now (args_of args.entry)) }
-        ensures reads { (t : plain_trail) → read_by result t
-            ≡ subst_from table.now (name_among plan.now.vars.items plan.now.plan.variables) [] t.stack }
+            (pattern_constants (pattern_tree pattern.now)) }
+        requires node { HasRank table.now node }
+        requires given { let ts = given_terms (term_at table.now node) alone in
+            arranged sig.now (root_op (pattern_tree pattern.now)) ts ≡ ts }
+        requires trail { IsTrailOf table.now trail.now }
+        requires spare { cost (pattern_tree pattern.now) (given_terms (term_at table.now node) alone)
+            ≤ trail.now.spare }
+        requires store { IsStoreOf table.now plans.now store.old }
+        ensures over { IfOk result (λ c. IsOver c trail.now) }
+        ensures mark { IfOk result (λ c. mark_of c ≡ length trail.now.stack) }
+        ensures list { IfOk result (λ c. (s : Subst) → ahead c s ≡ root_list sig.now (pattern_tree pattern.now)
+            (given_terms (term_at table.now node) alone) alone s) }
+        ensures table { IfOk result (λ c. table_of c ≡ table.now) }
+        ensures cost { IfOk result (λ c. cost_of c
+            ≡ cost (pattern_tree pattern.now) (given_terms (term_at table.now node) alone)) }
+        ensures store { IfOk result (λ _. IsStoreOf table.now plans.now store.new) }
     {
-        let asked = Asked {
-            sig,
-            plan: &plan.plan,
-            vars: &plan.vars,
-            table,
-            owes,
+        let Pattern::App(_, children) = pattern else {
+            unreachable!()
         };
-        // What holds of each table.
-        table.len();
-        let mut room = room;
-        room.grounds.fill(table, plan.plan.pattern());
-        CommSearch {
-            asked,
-            args,
+        let node = Node::new(table, node, alone);
+        let (numbers, plan) = parts(alloc, store, sig, plans, prepared, pattern, table, node)?;
+        let room = room_for(alloc, store, table, plans, node, numbers, plan.get())?;
+        Ok(CommSearch {
+            sig,
+            table,
+            children: &children.as_slice()[..numbers.len()],
+            plan,
+            args: node.args,
+            owes: alone,
             room,
             mark: trail.mark(),
             stage: Stage::Before,
+        })
+    }
+
+    // Whether the search stands at an item, and it is seen that none comes behind it.
+    fn is_spent(&self) -> bool
+        requires { (t : plain_trail) × IsOver self.now t }
+        ensures { IsTrue result → (t : plain_trail) → IsOver self.now t
+            → ahead self.now (numbered_subst (table_of self.now) t.stack) ≡ [] }
+    {
+        match self.stage {
+            Stage::Standing => {
+                let plan = self.plan.get();
+                is_spent(&plan.plan, self.children.len(), &self.room.picks)
+            }
+            _ => false,
         }
     }
 
     /// Takes back what was bound since the begin, and moves to the next item: true says that there is one, and that
-    /// the trail has its substitution; false, that none is left, and that the trail is that of the begin. It binds
-    /// variables of the plan alone, and takes no more of the trail's room than `begin` asks for. It takes no memory.
+    /// the trail has its values; false, that none is left, and that the trail is that of the begin. It takes no more of
+    /// the trail's room than `begin` asks for, and no memory.
     ///
     /// Up to its length at the begin the trail is that of the begin.
     pub fn next(&mut self, trail: &mut Trail) -> bool
         requires mark { mark_of self.old ≤ length trail.old.stack }
         requires over { IsOver self.old (cut (mark_of self.old) trail.old) }
-        ensures found { let t = cut (mark_of self.old) trail.old in let s = read_by self.old t in
+        ensures found { let t = cut (mark_of self.old) trail.old in
+            let s = numbered_subst (table_of self.old) t.stack in
             MatchBool result
-            ((slice_get (ahead self.old s) 0 ≡ Some (item_table self.new, read_by self.new trail.new))
+            (((r : Subst) × (slice_get (ahead self.old s) 0 ≡ Some (item_table self.new, r))
+            × SameValues r (numbered_subst (table_of self.old) trail.new.stack))
             × (ahead self.new s ≡ drop 1 (ahead self.old s)))
             ((ahead self.old s ≡ []) × (trail.new ≡ t)) }
-        ensures stage { self.new.stage ≡ stage_after result }
         ensures over { IsOver self.new (cut (mark_of self.old) trail.old) }
         ensures mark { mark_of self.new ≡ mark_of self.old }
-        ensures asked { (self.new.asked ≡ self.old.asked) × (self.new.args ≡ self.old.args) }
+        ensures table { table_of self.new ≡ table_of self.old }
+        ensures cost { cost_of self.new ≡ cost_of self.old }
         ensures kept { cut (mark_of self.old) trail.new ≡ cut (mark_of self.old) trail.old }
-        ensures only { BindsOnly self.old.asked.vars.now (cut (mark_of self.old) trail.old) trail.new }
-        ensures spare { (cut (mark_of self.old) trail.old).spare ≤ trail.new.spare
-            + cost self.old.asked.plan.now.pattern (terms_at self.old.asked.table.now (args_of self.old.args)) }
-        ensures trail { GoesWith self.old.asked.table.now trail.new }
+        ensures spare { (cut (mark_of self.old) trail.old).spare ≤ trail.new.spare + cost_of self.old }
+        ensures trail { IsTrailOf (table_of self.old) trail.new }
     {
         trail.undo(self.mark);
-        let found = look_on(
-            self.asked,
+        if self.is_spent() {
+            self.stage = Stage::Ended;
+            return false;
+        }
+        let Some(mode) = self.stage.mode() else {
+            return false;
+        };
+        let plan = self.plan.get();
+        let sought = Sought {
+            asked: Asked {
+                sig: self.sig,
+                plan: &plan.plan,
+                vars: &plan.vars,
+                table: self.table,
+                owes: self.owes,
+            },
+            choices: &self.room.choices,
+            grounds: self.room.grounds.as_slice(),
+            width: self.room.width,
+        };
+        let found = seek(
+            sought,
+            self.children,
             self.args.as_slice(),
-            &mut self.room,
-            self.stage,
+            &mut self.room.picks,
+            &mut self.room.levels,
             trail,
+            mode,
         );
+        if !found {
+            trail.undo(self.mark);
+        }
         self.stage = if found { Stage::Standing } else { Stage::Ended };
         found
     }
 
     /// What the node of that number takes in the item's table, and whether it is collapsed: the nodes below the
-    /// pattern's root have numbers in preorder, from 0. It is None exactly where no node has the number. It takes no
-    /// memory.
+    /// pattern's root have numbers in preorder, from 0. It is None exactly where no node has the number, or where the
+    /// search doesn't stand at an item. It takes no memory.
     pub fn entry(&self, node: u32) -> Option<(&[Rank], bool)>
-        requires { (t : plain_trail) × IsOver self.now t }
+        requires over { (t : plain_trail) × IsOver self.now t }
         ensures entry { option_map
-            (λ e. record { terms = terms_at self.now.asked.table.now e.0.now; collapsed = e.1 }) result
+            (λ e. record { terms = terms_at (table_of self.now) e.0.now; collapsed = e.1 }) result
             ≡ slice_get (item_table self.now) node }
-        ensures ranks { IfSome result (λ e. HasRanks self.now.asked.table.now e.0.now) }
+        ensures ranks { IfSome result (λ e. HasRanks (table_of self.now) e.0.now) }
     {
-        if node >= self.asked.plan.len() - 1 {
+        let Stage::Standing = self.stage else {
+            return None;
+        };
+        let room = &self.room;
+        let left = match entry_picked(self.table, &room.choices, self.children, &room.picks, node) {
+            Ok(ranks) => return Some((ranks, false)),
+            Err(left) => left,
+        };
+        if left >= self.plan.get().nodes() {
             return None;
         }
-        match self.room.levels.get(node as usize) {
+        match room.levels.get(left as usize) {
             None => None,
             Some(level) => Some((level.take.as_slice(), level.collapsed)),
         }
     }
 
-    /// The room, for another search.
-    pub fn into_room(self) -> CommRoom
-        ensures { result ≡ self.entry.room }
+    /// Gives the room back to the store, for another search. `Memory` comes where there is no memory for it.
+    pub fn give_back(self, store: &mut CommStore) -> Result<(), Memory>
+        requires { (t : plain_trail) × IsOver self t }
+        ensures { OnOk result ((x : plain_plans) → IsStoreOf (table_of self.entry) x store.old
+            → IsStoreOf (table_of self.entry) x store.new) }
     {
-        self.room
+        store.put_room(self.room)
     }
 }

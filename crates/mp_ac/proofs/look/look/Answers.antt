@@ -17,7 +17,8 @@ find-requires-clause-ready c =
     let e = laws.count-below c.args.asked c.requires.asked c.len.result c.len.ensures.count in
     laws.is-ready c.args.asked c.requires.asked c.args.args c.args.grounds c.in-App.op c.as_slice.result
     c.in-App.children (sym c.pattern.ensures ∙ ap pattern_tree c.in-App.is) c.as_slice.ensures c.requires.args
-    c.requires.grounds (c.len.result - 1) c.args.levels.now c.args.trail.now (omega (arith, e)) c.requires.count
+    c.requires.grounds c.args.width c.requires.wide
+    (c.len.result - 1) c.args.levels.now c.args.trail.now (omega (arith, e)) c.requires.count
     c.requires.levels c.requires.trail
 
 pub find-requires-clause-standing : goal.find-requires-clause-standing
@@ -25,7 +26,8 @@ find-requires-clause-standing c =
     let e = laws.count-below c.args.asked c.requires.asked c.len.result c.len.ensures.count in
     laws.is-standing c.args.asked c.requires.asked c.args.args c.args.grounds c.in-App.op c.as_slice.result
     c.in-App.children (sym c.pattern.ensures ∙ ap pattern_tree c.in-App.is) c.as_slice.ensures c.requires.args
-    c.requires.grounds (c.len.result - 1) c.args.levels.now c.args.trail.now (omega (arith, e)) c.requires.count
+    c.requires.grounds c.args.width c.requires.wide
+    (c.len.result - 1) c.args.levels.now c.args.trail.now (omega (arith, e)) c.requires.count
     c.args.mode c.requires.standing
 
 pub returns-clause-found : goal.returns-clause-found
@@ -33,7 +35,8 @@ returns-clause-found c =
     let e = laws.count-below c.args.asked c.requires.asked c.len.result c.len.ensures.count in
     laws.finds c.args.asked c.requires.asked c.args.args c.args.grounds c.in-App.op c.as_slice.result
     c.in-App.children (sym c.pattern.ensures ∙ ap pattern_tree c.in-App.is) c.as_slice.ensures c.requires.args
-    c.requires.grounds (c.len.result - 1) c.args.levels.now c.args.trail.now (omega (arith, e)) c.requires.count
+    c.requires.grounds c.args.width c.requires.wide
+    (c.len.result - 1) c.args.levels.now c.args.trail.now (omega (arith, e)) c.requires.count
     c.find.new.levels _ c.find.new.trail c.find.ensures.many c.args.mode c.find.result c.requires.mode
     c.requires.standing c.find.ensures.found
 
@@ -42,5 +45,6 @@ returns-clause-spare c =
     let e = laws.count-below c.args.asked c.requires.asked c.len.result c.len.ensures.count in
     laws.is-spare c.args.asked c.requires.asked c.args.args c.args.grounds c.in-App.op c.as_slice.result
     c.in-App.children (sym c.pattern.ensures ∙ ap pattern_tree c.in-App.is) c.as_slice.ensures c.requires.args
-    c.requires.grounds (c.len.result - 1) c.args.levels.now c.args.trail.now (omega (arith, e)) c.requires.count
+    c.requires.grounds c.args.width c.requires.wide
+    (c.len.result - 1) c.args.levels.now c.args.trail.now (omega (arith, e)) c.requires.count
     c.find.new.trail c.find.ensures.spare

@@ -6,7 +6,6 @@ use Rattle.mp_pattern.specs.Size.{all_pattern_nodes}
 use Rattle.mp_pattern.specs.Subpatterns.{subpatterns}
 use Rattle.mp_table.specs.Table.{HasRanks, terms_at}
 use Rattle.mp_search.specs.Grounds.{AreGrounds}
-use Rattle.mp_search.specs.Levels.{AreLevels}
 use Rattle.mp_ac.specs.declared.comm_matcher.CommMatcher.{CommMatcher}
 use Rattle.mp_ac.specs.Children.{AreArguments}
 use Rattle.mp_ac.specs.CommItems.{AreCommItems}
@@ -58,8 +57,9 @@ returns-clause-matcher c =
     (subst (HasRanks t) a c.requires.ranks)
     (subst (λ rs. AreArguments c.args.sig.now n.op (terms_at t rs)) a (c.requires.arguments n.op n.children n.is))
     (record {
-      levels = subst (λ w. AreLevels t w c.in_ok-room.room.levels.items)
-          (c.nodes_of.ensures ∙ ap (λ rs. all_nodes (terms_at t rs)) a) r.levels;
+      of_table = record { picks = r.of_table.picks; levels = r.of_table.levels };
+      wide = omega (arith, r.wide, c.nodes_of.ensures, ap (λ rs. all_nodes (terms_at t rs)) a);
+      children = r.children;
       nodes = omega (arith, r.nodes, k, c.len.ensures.count);
       grounds = omega (arith, r.grounds, k, c.len.ensures.count, c.fill.ensures.room);
     })
@@ -78,7 +78,13 @@ made c w = record {
   plan = w;
   vars = c.in_ok-numbers.numbers;
   args = c.in_ok-copy_ranks.field-0;
-  room = record { levels = c.in_ok-room.room.levels; grounds = c.fill.new.self };
+  room = record {
+    width = c.in_ok-room.room.width;
+    choices = c.in_ok-room.room.choices;
+    picks = c.in_ok-room.room.picks;
+    levels = c.in_ok-room.room.levels;
+    grounds = c.fill.new.self;
+  };
   trail = c.in_ok-copy.field-0;
   mark = c.mark.result;
   stage = Before;

@@ -1,62 +1,87 @@
-use Rattle.std.proofs.Common.{◌<◌, ◌∙◌, length, map, ap, sym, subst, arith}
-use Rattle.std.proofs.lemmas.List.{length-map}
-use Rattle.std.specs.List.{AllByRecursion}
-use Rattle.mp_pattern.specs.declared.limits.TheConstants.{MAX_VARIABLES}
-use Rattle.mp_pattern.specs.NetTokens.{numbered}
-use Rattle.mp_pattern.specs.Plan.{Variable}
+use Rattle.std.proofs.Common.{◌≡◌, length, map, refl, ap, sym, subst, ◌∙◌}
+use Rattle.std.proofs.lemmas.List.{length-take-le}
+use Rattle.mp_term.specs.Signature.{Sig}
+use Rattle.mp_term.specs.Size.{all_nodes}
+use Rattle.mp_pattern.specs.PatternTree.{app_pattern, patterns}
 use Rattle.mp_pattern.specs.Subpatterns.{subpatterns}
+use Rattle.mp_pattern.specs.View.{pattern_tree}
+use Rattle.mp_table.specs.Table.{term_at, terms_at}
 use Rattle.mp_search.specs.Grounds.{AreGrounds}
-use Rattle.mp_pattern.proofs.PlanNodes.{plan-names}
-use Rattle.mp_ac.proofs.SearchLaws.{count-subpatterns, distinct-numbers}
-use Rattle.mp_search.proofs.GroundsHeld.{grounds-held}
+use Rattle.mp_ac.specs.Args.{args_of}
+use Rattle.mp_ac.specs.Candidates.{given_terms}
+use Rattle.mp_ac.specs.CommPlan.{IsCommPlanOf, nodes_below}
+use Rattle.mp_ac.specs.CommRoom.{IsRoomFor}
+use Rattle.mp_ac.specs.Planned.{plan_of}
+use Rattle.mp_ac.specs.declared.comm_plan.CommPlan.{CommPlan}
+use Rattle.mp_ac.proofs.BeginSearch.{begun, front-within, node-terms, own-comm_plan, whole-cost, whole-list}
+use Rattle.mp_ac.proofs.PreparedLaws.{numbers-within}
 use Rattle.mp_ac.proofs.search.CommSearch.begin.Goals as goal
 
-pub fill-requires : goal.fill-requires
-fill-requires c =
-    let p = c.args.plan.now.plan.pattern in
-    let e = ap (λ q. length (subpatterns q)) c.pattern.ensures in
-    omega (arith, e, count-subpatterns p c.requires.plan.application, c.requires.room.grounds)
+pub room_for-requires-clause-numbers : goal.room_for-requires-clause-numbers
+room_for-requires-clause-numbers c =
+    let h = c.in_ok-numbers.ensures.parts in
+    numbers-within c.args.plans.now c.in_ok-numbers.numbers.now h.leading h.numbered
+
+pub room_for-requires-clause-plan : goal.room_for-requires-clause-plan
+room_for-requires-clause-plan c =
+    subst (λ (q : CommPlan). (sig : Sig) × IsCommPlanOf sig q.plan.pattern q) (sym c.get.ensures) (
+      c.args.sig.now,
+      own-comm_plan c.args.sig.now c.args.plans.now (pattern_tree c.args.pattern.now)
+          c.in_ok-numbers.numbers.now (plan_of c.in_ok-numbers.plan) c.in_ok-numbers.ensures.parts,
+    )
+
+pub slice_bounds-result-end : goal.slice_bounds-result-end
+slice_bounds-result-end c =
+    let g = c.in-App.field-0.0 in
+    let cs = c.as_slice.result.now in
+    let is : pattern_tree c.args.pattern.now ≡ app_pattern g (patterns (map pattern_tree cs)) =
+    ap pattern_tree c.in-App.is ∙ ap (λ l. app_pattern g (patterns l)) (sym c.as_slice.ensures) in
+    sym (length-take-le (length c.in_ok-numbers.numbers.now) cs (front-within c.args.sig.now c.args.plans.now
+    (pattern_tree c.args.pattern.now) c.in_ok-numbers.numbers.now (plan_of c.in_ok-numbers.plan)
+    c.in_ok-numbers.ensures.parts cs g is))
 
 pub returns-clause-over : goal.returns-clause-over
 returns-clause-over c =
-    let q = c.args.plan.now in
-    let p = q.plan.pattern in
-    let vars = c.deref.result.now in
-    record {
-      asked = record {
-        application = c.requires.plan.application;
-        plan = c.requires.plan.plan;
-        table = c.len.ensures.valid;
-        normal = c.requires.normal;
-        holds = grounds-held c.args.table.now p c.requires.constants;
-        vars = ap length c.deref.ensures.value
-            ∙ sym (length-map q.vars.items numbered)
-            ∙ ap length c.requires.plan.names
-            ∙ sym (ap length (plan-names c.args.sig.now p q.plan c.requires.plan.plan))
-            ∙ length-map q.plan.variables (λ (v : Variable). v.name);
-        distinct = λ i j v a b. distinct-numbers p vars
-            (ap (map numbered) c.deref.ensures.value ∙ c.requires.plan.names) i j v a b;
-      };
-      given = c.requires.args;
-      room = record {
-        levels = c.requires.room.levels;
-        nodes = c.requires.room.nodes;
-        grounds = omega (arith, c.requires.room.grounds, c.fill.ensures.room);
-      };
-      grounds = subst (λ r. AreGrounds c.args.table.now (subpatterns r) c.fill.new.self.list.items.items)
-          c.pattern.ensures
-          c.fill.ensures.grounds;
-      trail = record {
-        goes = c.requires.trail.goes;
-        vars = subst (AllByRecursion (λ v. v < c.args.trail.now.vars))
-            (sym c.deref.ensures.value) c.requires.trail.vars;
-        spare = c.requires.trail.spare;
-      };
-      among = tt;
-    }
+    let g = c.in-App.field-0.0 in
+    let cs = c.as_slice.result.now in
+    let is : pattern_tree c.args.pattern.now ≡ app_pattern g (patterns (map pattern_tree cs)) =
+    ap pattern_tree c.in-App.is ∙ ap (λ l. app_pattern g (patterns l)) (sym c.as_slice.ensures) in
+    let t = c.args.table.now in
+    let node = c.new-node.ensures in
+    let room = c.in_ok-room.ensures in
+    let rs = args_of c.new-node.result.args in
+    begun _ c.args.plans.now (pattern_tree c.args.pattern.now) c.in_ok-numbers.numbers.now c.args.alone
+    (term_at t c.args.node) c.in_ok-numbers.ensures.parts cs g is refl
+    (node-terms t c.new-node.result c.args.node c.args.alone node.node node.is) refl c.args.trail.now c.requires.pattern
+    c.requires.commutative node.table c.requires.normal c.requires.constants node.node.ranks c.requires.given
+    (subst (λ (q : CommPlan). IsRoomFor t 0 (nodes_below q.plan.pattern) (all_nodes (terms_at t rs)) c.in_ok-room.room)
+    c.get.ensures room.room)
+    (subst (λ (q : CommPlan). AreGrounds t (subpatterns q.plan.pattern) c.in_ok-room.room.grounds.list.items.items)
+    c.get.ensures room.grounds)
+    room.choices room.picks c.requires.trail c.requires.spare
 
-pub returns-clause-numbered : goal.returns-clause-numbered
-returns-clause-numbered c = record {
-  names = ap (map numbered) c.deref.ensures.value ∙ c.requires.plan.names;
-  few = subst (AllByRecursion (λ v. v < MAX_VARIABLES)) (sym c.deref.ensures.value) c.requires.plan.few;
-}
+pub returns-clause-list : goal.returns-clause-list
+returns-clause-list c = λ s.
+    let g = c.in-App.field-0.0 in
+    let cs = c.as_slice.result.now in
+    let is : pattern_tree c.args.pattern.now ≡ app_pattern g (patterns (map pattern_tree cs)) =
+    ap pattern_tree c.in-App.is ∙ ap (λ l. app_pattern g (patterns l)) (sym c.as_slice.ensures) in
+    let t = c.args.table.now in
+    let node = c.new-node.ensures in
+    whole-list c.args.sig.now c.args.plans.now (pattern_tree c.args.pattern.now) c.in_ok-numbers.numbers.now
+    (plan_of c.in_ok-numbers.plan) c.in_ok-numbers.ensures.parts cs g is
+    (terms_at t (args_of c.new-node.result.args)) (given_terms (term_at t c.args.node) c.args.alone) c.args.alone s
+    (node-terms t c.new-node.result c.args.node c.args.alone node.node node.is)
+
+pub returns-clause-cost : goal.returns-clause-cost
+returns-clause-cost c =
+    let g = c.in-App.field-0.0 in
+    let cs = c.as_slice.result.now in
+    let is : pattern_tree c.args.pattern.now ≡ app_pattern g (patterns (map pattern_tree cs)) =
+    ap pattern_tree c.in-App.is ∙ ap (λ l. app_pattern g (patterns l)) (sym c.as_slice.ensures) in
+    let t = c.args.table.now in
+    let node = c.new-node.ensures in
+    whole-cost c.args.sig.now c.args.plans.now (pattern_tree c.args.pattern.now) c.in_ok-numbers.numbers.now
+    (plan_of c.in_ok-numbers.plan) c.in_ok-numbers.ensures.parts cs g is
+    (terms_at t (args_of c.new-node.result.args)) (given_terms (term_at t c.args.node) c.args.alone)
+    (node-terms t c.new-node.result c.args.node c.args.alone node.node node.is)

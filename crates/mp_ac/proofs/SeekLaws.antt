@@ -1,0 +1,203 @@
+-- The items where the first child takes one term, and the parts of a list of choices.
+use Rattle.std.proofs.Common.{◌≡◌, ◌≤◌, ◌<◌, ◌+◌, ◌-◌, ℕ, zero, suc, List, [], ◌∷◌, ◌++◌, length, map, take, drop}
+use Rattle.std.proofs.Common.{Bool, true, false, refl, ap, sym, ◌∙◌, subst, arith, get_or, drop-cons}
+use Rattle.std.specs.Prelude.{Some, None, flat_map, slice_get, slice_index_or, option_map, if◌then◌else◌}
+use Rattle.std.specs.List.{AllByRecursion}
+use Rattle.std.specs.List.Sorted.{IsStrictlySortedBy}
+use Rattle.std.proofs.lemmas.List.{append_cancel_left}
+use Rattle.std.proofs.lemmas.Option.{slice_get-map}
+use Rattle.mp_term.specs.Order.{tree_cmp}
+use Rattle.mp_term.specs.Pieces.{without}
+use Rattle.mp_term.specs.Search.{In}
+use Rattle.mp_term.specs.Signature.{Sig}
+use Rattle.mp_term.specs.Tree.{Tree}
+use Rattle.mp_term.proofs.SearchLaws.{from_in-map}
+use Rattle.mp_pattern.specs.Fits.{Table}
+use Rattle.mp_pattern.specs.PatternTree.{Pattern, symbol_pattern, app_pattern, wild_pattern, patterns, pattern_list}
+use Rattle.mp_pattern.specs.Value.{Subst}
+use Rattle.mp_theory.specs.Filled.{filled}
+use Rattle.mp_theory.specs.OneList.{Item, item_tables}
+use Rattle.mp_theory.specs.Shape.{shape, table_of}
+use Rattle.mp_theory.specs.Trail.{listed_by}
+use Rattle.mp_search.specs.declared.mode.Mode.{Mode}
+use Rattle.mp_search.specs.declared.mode.Mode.TheVariants.{First, After, At}
+use Rattle.mp_search.specs.Wanted.{IsStanding}
+use Rattle.mp_ac.specs.Asked.{root_list}
+use Rattle.mp_ac.specs.CommList.{behind_table, comm_list}
+use Rattle.mp_ac.specs.Seek.{IsCommutative, IsFoundOf, root_by, with_children}
+use Rattle.mp_ac.specs.Stage.{looked_for}
+use Rattle.mp_theory.specs.Items.{in_front}
+use Rattle.mp_ac.specs.TakesOne.{is_left, items_with, takes_one}
+use Rattle.mp_ac.proofs.AmongLaws.{behind-in_front, behind_table-among, in-table, items_by-filled}
+use Rattle.mp_ac.proofs.BehindLaws.{table-in}
+use Rattle.mp_ac.proofs.FirstChild.{comm_list-first}
+
+-- nothing, whatever a test says
+nothing : (b : Bool) → (let none : List Item = [] in (if b then none else none) ≡ none)
+nothing true = refl
+nothing false = refl
+
+-- the items of a root with a first child in front of its own
+module _ (sig : Sig) (p : Pattern) (ps : List Pattern) (left : List Tree) (owes : Bool) (s : Subst) where
+  -- those of terms in turn
+  abbrev pub root_among : Pattern → List Tree → List Item
+  root_among q ts = flat_map (root_by sig q p ps left owes s) ts
+
+  -- they are those where it takes each of the terms that it may take, in turn
+  pub root-first : (q : Pattern) → IsCommutative sig q → takes_one sig p ≡ true → (ts : List Tree)
+      → IsStrictlySortedBy tree_cmp ts → ((t : Tree) → In t left → shape p t ≡ true → In t ts)
+      → root_list sig (with_children (p ∷ ps) q) left owes s ≡ root_among q ts
+  root-first (app_pattern g zs) comm one ts up all =
+      comm_list-first sig g p (patterns (ps ++ pattern_list zs)) left owes s comm one ts up all
+  root-first (symbol_pattern n) comm one ts up all = cc
+  root-first (wild_pattern w x) comm one ts up all = cc
+
+  -- behind an item of a term are the others of the term and then those of the later ones
+  pub root-behind : (q : Pattern) (us : List Tree) (t : Tree) (ws : List Tree) (V : Table)
+      → IsStrictlySortedBy tree_cmp (us ++ t ∷ ws) → In V (item_tables (root_by sig q p ps left owes s t))
+      → behind_table V (root_among q (us ++ t ∷ ws))
+      ≡ behind_table V (root_by sig q p ps left owes s t) ++ root_among q ws
+  root-behind (app_pattern g zs) us t ws V up h =
+      behind_table-among sig g p (patterns (ps ++ pattern_list zs)) left owes s us t ws V up h
+  root-behind (symbol_pattern n) us t ws V up h = absurd h
+  root-behind (wild_pattern w x) us t ws V up h = absurd h
+
+  -- an item is of the term with whose table its own begins
+  pub root-table : (q : Pattern) → IsCommutative sig q → (ts : List Tree) (t : Tree) (W : Table) → shape p t ≡ true
+      → In (table_of p t ++ W) (item_tables (root_among q ts))
+      → In (table_of p t ++ W) (item_tables (root_by sig q p ps left owes s t))
+  root-table (app_pattern g zs) comm ts t W h i =
+      in-table sig g p (patterns (ps ++ pattern_list zs)) left owes s ts t W h i
+  root-table (symbol_pattern n) comm ts t W h i = cc
+  root-table (wild_pattern w x) comm ts t W h i = cc
+
+  -- none where the term isn't left, or isn't taken
+  pub root-not_left : (q : Pattern) (t : Tree) → is_left left t ≡ false → root_by sig q p ps left owes s t ≡ []
+  root-not_left (app_pattern g zs) t l = ap (λ b. if b then (if shape p t then
+      items_with sig g p (patterns (ps ++ pattern_list zs)) left owes s t else []) else []) l
+  root-not_left (symbol_pattern n) t l = refl
+  root-not_left (wild_pattern w x) t l = refl
+
+  pub root-not_filled : (q : Pattern) (t : Tree) → shape p t ≡ true → filled sig p t s ≡ None
+      → root_by sig q p ps left owes s t ≡ []
+  root-not_filled (app_pattern g zs) t h f =
+      let qs = patterns (ps ++ pattern_list zs) in
+      ap (λ b. if is_left left t then (if b then items_with sig g p qs left owes s t else []) else []) h
+      ∙ ap (λ o. if is_left left t then map (in_front (table_of p t))
+      (listed_by (λ r. comm_list sig g qs (without tree_cmp (t ∷ []) left) owes r) o) else []) f
+      ∙ nothing (is_left left t)
+  root-not_filled (symbol_pattern n) t h f = refl
+  root-not_filled (wild_pattern w x) t h f = refl
+
+  -- where it is, they are those of the later children, with its table in front
+  pub root-filled : (q : Pattern) (t : Tree) (r : Subst) → is_left left t ≡ true → shape p t ≡ true
+      → filled sig p t s ≡ Some r → root_by sig q p ps left owes s t
+      ≡ map (in_front (table_of p t)) (root_list sig (with_children ps q) (without tree_cmp (t ∷ []) left) owes r)
+  root-filled (app_pattern g zs) t r l h f =
+      items_by-filled sig g p (patterns (ps ++ pattern_list zs)) left owes s t r l h f
+  root-filled (symbol_pattern n) t r l h f = refl
+  root-filled (wild_pattern w x) t r l h f = refl
+
+-- nothing is found among no items
+pub none-found : (mode : Mode) (W : Table) (is : List Item) → is ≡ [] → looked_for mode W is ≡ []
+none-found First W is e = e
+none-found After W is e = ap (behind_table W) e
+none-found At W is e = e
+
+-- what is found among items is found among those with entries in front of their tables
+looked-front : (T W : Table) (mode : Mode) (is : List Item)
+    → looked_for mode (T ++ W) (map (in_front T) is) ≡ map (in_front T) (looked_for mode W is)
+looked-front T W First is = refl
+looked-front T W After is = behind-in_front T W is
+looked-front T W At is = refl
+
+drop-map : (T : Table) (is : List Item) → map (in_front T) (drop 1 is) ≡ drop 1 (map (in_front T) is)
+drop-map T [] = refl
+drop-map T (i ∷ is) = refl
+
+pub front-found : (T W V : Table) (mode : Mode) (is : List Item) (s : Subst) (b : Bool) → IsFoundOf mode W V is s b
+    → IsFoundOf mode (T ++ W) (T ++ V) (map (in_front T) is) s b
+front-found T W V mode is s true f = (
+  (
+    f.0.0,
+    ap (λ js. slice_get js 0) (looked-front T W mode is)
+        ∙ slice_get-map (in_front T) (looked_for mode W is) 0
+        ∙ ap (option_map (in_front T)) f.0.1,
+    f.0.2,
+  ),
+  behind-in_front T V is ∙ ap (map (in_front T)) f.1
+      ∙ drop-map T (looked_for mode W is) ∙ ap (drop 1) (sym (looked-front T W mode is)),
+)
+front-found T W V mode is s false f = looked-front T W mode is ∙ ap (map (in_front T)) f
+
+pub front-standing : (T W : Table) (mode : Mode) (is : List Item) → IsStanding mode (T ++ W) (map (in_front T) is)
+    → IsStanding mode W is
+front-standing T W First is h = tt
+front-standing T W After is h =
+    let m = from_in-map (λ (i : Item). i.0) (T ++ W) (map (in_front T) is) h in
+    let k = from_in-map (in_front T) m.0 is m.2 in
+    let e : T ++ W ≡ T ++ k.0.0 = m.1 ∙ ap (λ i. i.0) k.1 in
+    subst (λ V. In V (item_tables is)) (sym (append_cancel_left T W k.0.0 e)) (table-in is k.0 k.2)
+front-standing T W At is h = tt
+
+-- what is found among the first ones of the items that are looked for is found
+module _ (mode m : Mode) (W U V : Table) (all is js : List Item)
+    (ahead : looked_for mode W all ≡ looked_for m U is ++ js) where
+  append-first : (ks : List Item) (i : Item) → slice_get ks 0 ≡ Some i → slice_get (ks ++ js) 0 ≡ Some i
+  append-first [] i e = cc
+  append-first (k ∷ ks) i e = e
+
+  append-drop : (ks : List Item) (i : Item) → slice_get ks 0 ≡ Some i → drop 1 ks ++ js ≡ drop 1 (ks ++ js)
+  append-drop [] i e = cc
+  append-drop (k ∷ ks) i e = refl
+
+  pub first-found : (s : Subst) → behind_table V all ≡ behind_table V is ++ js → IsFoundOf m U V is s true
+      → IsFoundOf mode W V all s true
+  first-found s later f = (
+    (f.0.0, ap (λ ks. slice_get ks 0) ahead ∙ append-first (looked_for m U is) (V, f.0.0) f.0.1, f.0.2),
+    later ∙ ap (λ ks. ks ++ js) f.1 ∙ append-drop (looked_for m U is) (V, f.0.0) f.0.1 ∙ ap (drop 1) (sym ahead),
+  )
+
+  pub first-none : looked_for m U is ≡ [] → looked_for mode W all ≡ js
+  first-none e = ahead ∙ ap (λ ks. ks ++ js) e
+
+-- the part of a list from i up to n
+module _ {X : Type 0} (d : X) where
+  pub part-first : (xs : List X) (i n : ℕ) → i < n → n ≤ length xs
+      → take (n - i) (drop i xs) ≡ slice_index_or xs i d ∷ take (n - (i + 1)) (drop (i + 1) xs)
+  part-first xs i n h k =
+      let one_more : i + 1 ≡ suc i = omega arith in
+      let size : n - i ≡ suc (n - (i + 1)) = omega (arith, h) in
+      ap (λ ys. take (n - i) ys) (drop-cons xs i d (omega (arith, h, k)))
+      ∙ ap (λ m. take m (get_or xs i d ∷ drop (suc i) xs)) size
+      ∙ ap (λ j. get_or xs i d ∷ take (n - (i + 1)) (drop j xs)) (sym one_more)
+
+  pub part-split : (xs : List X) (f i n : ℕ) → f ≤ i → i < n → n ≤ length xs
+      → (us : List X) × (take (n - f) (drop f xs)
+      ≡ us ++ slice_index_or xs i d ∷ take (n - (i + 1)) (drop (i + 1) xs))
+  part-split xs f i n a b c = by_gap (i - f) f (omega (arith, a))
+    where
+      by_gap : (m f : ℕ) → f + m ≡ i → (us : List X) × (take (n - f) (drop f xs)
+          ≡ us ++ slice_index_or xs i d ∷ take (n - (i + 1)) (drop (i + 1) xs))
+      by_gap zero f e =
+          let same : f ≡ i = omega (arith, e) in
+          ([], ap (λ j. take (n - j) (drop j xs)) same ∙ part-first xs i n b c)
+      by_gap (suc m) f e =
+          let r = by_gap m (f + 1) (omega (arith, e)) in (
+            slice_index_or xs f d ∷ r.0,
+            part-first xs f n (omega (arith, e, b)) c ∙ ap (λ ys. slice_index_or xs f d ∷ ys) r.1,
+          )
+
+  pub part-none : (xs : List X) (i n : ℕ) → n ≤ i → take (n - i) (drop i xs) ≡ []
+  part-none xs i n h = let e : n - i ≡ 0 = omega (arith, h) in ap (λ m. take m (drop i xs)) e
+
+  pub part-get : (P : X → Type 0) (xs : List X) (f i n : ℕ) → f ≤ i → i < n → n ≤ length xs
+      → AllByRecursion P (take (n - f) (drop f xs)) → P (slice_index_or xs i d)
+  part-get P xs f i n a b c h =
+      let s = part-split xs f i n a b c in
+      behind s.0 (subst (AllByRecursion P) s.1 h)
+    where
+      behind : (us : List X) → AllByRecursion P (us ++ slice_index_or xs i d ∷ take (n - (i + 1)) (drop (i + 1) xs))
+          → P (slice_index_or xs i d)
+      behind [] k = k.0
+      behind (u ∷ us) k = behind us k.1

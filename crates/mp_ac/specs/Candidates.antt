@@ -1,0 +1,53 @@
+-- The terms that a child may take, of those that the children of a node take together.
+use Rattle.std.specs.Prelude.{◌≡◌, ◌≤◌, ◌-◌, ℕ, Bool, true, false, List, [], ◌∷◌, take, drop, length, slice_get}
+use Rattle.std.specs.Prelude.{Option, Some, None, nat_eq, if◌then◌else◌}
+use Rattle.std.specs.List.{AllByRecursion}
+use Rattle.std.specs.List.Sorted.{IsStrictlySortedBy}
+use Rattle.mp_term.specs.Listing.{In}
+use Rattle.mp_term.specs.Tree.{Tree}
+use Rattle.mp_pattern.specs.PatternTree.{Pattern}
+use Rattle.mp_table.specs.Subterms.{arguments}
+use Rattle.mp_table.specs.Table.{Table, HasRanks, rank_cmp, term_at}
+use Rattle.mp_table.specs.declared.rank.Rank.{Rank}
+use Rattle.mp_theory.specs.Shape.{shape}
+use Rattle.mp_ac.specs.CommPlans.{child_at}
+use Rattle.mp_ac.specs.declared.candidates.Candidates.{Candidates}
+use Rattle.mp_ac.specs.declared.candidates.Found.{Found}
+use Rattle.mp_ac.specs.declared.comm_plans.CommPlans.{CommPlans}
+
+-- what the children take together below a node: its arguments, or it alone
+abbrev pub given_terms : Tree → Bool → List Tree
+given_terms t alone = if alone then t ∷ [] else arguments t
+
+-- the ranks ascend, their terms have the child's shape, and each of the terms that has it is among them
+pub record AreCandidates (t : Table) (p : Pattern) (us : List Tree) (rs : List Rank) : Type 0 where
+  pub ranks : HasRanks t rs
+  pub ascending : IsStrictlySortedBy rank_cmp rs
+  pub shaped : AllByRecursion (λ r. shape p (term_at t r) ≡ true) rs
+  pub all : (u : Tree) → In u us → shape p u ≡ true → (r : Rank) × In r rs × (term_at t r ≡ u)
+
+-- what is kept of the child of the number: a part of the ranks, and where a node was asked they are the child's
+-- candidates there
+pub record IsFound (t : Table) (plans : CommPlans) (rs : List Rank) (n : ℕ) (e : Found) : Type 0 where
+  pub onward : e.from ≤ e.end
+  pub within : e.end ≤ length rs
+  pub candidates : (node : Rank) (p : Pattern) → e.node ≡ Some node → child_at plans n ≡ Some p
+      → AreCandidates t p (given_terms (term_at t node) e.alone) (take (e.end - e.from) (drop e.from rs))
+
+-- so it is with each of the entries
+abbrev pub AreEntries : Table → CommPlans → List Rank → List Found → Type 0
+AreEntries t plans rs es = (n : ℕ) (e : Found) → slice_get es n ≡ Some e → IsFound t plans rs n e
+
+-- the ranks are those of the table, and the parts of them what they are kept for
+pub record AreFound (t : Table) (plans : CommPlans) (x : Candidates) : Type 0 where
+  pub ranks : HasRanks t x.ranks.items
+  pub entries : AreEntries t plans x.ranks.items x.entries.items
+
+-- the rank is the last one
+abbrev pub is_same : Option Rank → Rank → Bool
+is_same None r = false
+is_same (Some q) r = nat_eq q.0 r.0
+
+-- the entry of a child that wasn't asked
+abbrev pub unasked : Found
+unasked = record { node = None; alone = false; from = 0; end = 0 }

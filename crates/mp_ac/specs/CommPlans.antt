@@ -1,0 +1,59 @@
+-- Commutative patterns that are prepared together: their leading children by numbers, and the plans of the others.
+use Rattle.std.specs.Prelude.{◌≡◌, ◌≤◌, ◌+◌, ℕ, true, List, [], ◌∷◌, ◌++◌, map, take, drop, length, slice_get}
+use Rattle.std.specs.Prelude.{Option, Some, option_map}
+use Rattle.std.specs.List.{AllByRecursion}
+use Rattle.mp_term.specs.Signature.{Sig}
+use Rattle.mp_pattern.specs.PatternTree.{Pattern, app_pattern, Patterns, pattern_list, patterns}
+use Rattle.mp_pattern.specs.View.{pattern_tree}
+use Rattle.mp_pattern.specs.declared.pattern.Pattern as declared
+use Rattle.mp_ac.specs.CommPlan.{IsCommPlanOf}
+use Rattle.mp_ac.specs.TakesOne.{takes_one}
+use Rattle.mp_ac.specs.declared.comm_plan.CommPlan.{CommPlan}
+use Rattle.mp_ac.specs.declared.comm_plans.CommPlans.{CommPlans}
+use Rattle.mp_ac.specs.declared.comm_plans.Prepared.{Prepared}
+
+-- the child of the number
+abbrev pub child_at : CommPlans → ℕ → Option Pattern
+child_at x n = option_map pattern_tree (slice_get x.children.items n)
+
+-- each plan is that of its own pattern over the signature
+abbrev pub AreTails : Sig → List CommPlan → Type 0
+AreTails sig = AllByRecursion (λ c. IsCommPlanOf sig c.plan.pattern c)
+
+abbrev pub ArePlans : Sig → CommPlans → Type 0
+ArePlans sig x = AreTails sig x.tails.items
+
+-- the pattern is prepared: its leading children take one term each and stand by their numbers, and the others have
+-- a plan
+pub record IsPrepared (sig : Sig) (x : CommPlans) (p : Pattern) (r : Prepared) : Type 0 where
+  pub op : ℕ
+  pub children : Patterns
+  pub is : p ≡ app_pattern op children
+  pub few : r.count ≤ length (pattern_list children)
+  pub each : AllByRecursion (λ q. takes_one sig q ≡ true) (take r.count (pattern_list children))
+  pub numbered : map (child_at x) (take r.count (drop r.from x.numbers.items))
+      ≡ map Some (take r.count (pattern_list children))
+  pub within : r.from + r.count ≤ length x.numbers.items
+  pub plan : CommPlan
+  pub held : slice_get x.tails.items r.tail ≡ Some plan
+  pub tail : IsCommPlanOf sig (app_pattern op (patterns (drop r.count (pattern_list children)))) plan
+
+-- y holds what x holds, and behind its numbers those of the children
+pub record AreAdded (x y : CommPlans) (ps : List Pattern) : Type 0 where
+  pub children : (cs : List declared.Pattern) × (y.children.items ≡ x.children.items ++ cs)
+  pub numbers : (ns : List ℕ) × (y.numbers.items ≡ x.numbers.items ++ ns) × (map (child_at y) ns ≡ map Some ps)
+  pub tails : y.tails ≡ x.tails
+  pub list : y.list ≡ x.list
+
+-- the last plan is that of the pattern
+pub record IsLast (sig : Sig) (cs : List CommPlan) (p : Pattern) : Type 0 where
+  pub front : List CommPlan
+  pub plan : CommPlan
+  pub is : cs ≡ front ++ plan ∷ []
+  pub of : IsCommPlanOf sig p plan
+
+-- so many of the children take one term each, and the last plan is that of the operation over the others
+pub record IsLed (sig : Sig) (cs : List CommPlan) (op : ℕ) (ps : List Pattern) (n : ℕ) : Type 0 where
+  pub few : n ≤ length ps
+  pub each : AllByRecursion (λ q. takes_one sig q ≡ true) (take n ps)
+  pub last : IsLast sig cs (app_pattern op (patterns (drop n ps)))

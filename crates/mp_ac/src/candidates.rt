@@ -1,0 +1,178 @@
+//! The terms that children may take, found once for all patterns that have the child.
+ghost use Rattle.std.specs.Prelude.{◌≡◌, ◌<◌, ◌≤◌, ◌-◌, ◌++◌, ℕ, List, take, drop, length, replicate, IfOk, OnOk};
+ghost use Rattle.std.specs.Prelude.{IsTrue, option_map, slice_get};
+ghost use Rattle.std.specs.List.Sorted.{IsSorted};
+ghost use Rattle.mp_pattern.specs.PatternTree as plain;
+ghost use Rattle.mp_pattern.specs.View.{pattern_tree};
+ghost use Rattle.mp_table.specs.Table as terms;
+ghost use Rattle.mp_table.specs.Table.{HasRank, HasRanks, rank_cmp, term_at, terms_at};
+ghost use Rattle.mp_ac.specs.Candidates.{AreCandidates, AreFound, given_terms, is_same, unasked};
+ghost use Rattle.mp_ac.specs.CommPlans.{child_at};
+
+use crate::comm_plans::CommPlans;
+use crate::syntactic::has_shape;
+use mp_pattern::Pattern;
+use mp_table::{Rank, Table};
+use mp_term::Memory;
+use std::alloc::Global;
+
+// What is kept of a child: the node that was asked last and whether it stands alone, and the part of the ranks that
+// the child may take there.
+#[derive(Clone, Copy)]
+pub(crate) struct Found {
+    pub(crate) node: Option<Rank>,
+    pub(crate) alone: bool,
+    pub(crate) from: usize,
+    pub(crate) end: usize,
+}
+
+/// The terms that children may take below the nodes of a table, by ranks: for each child of patterns that are prepared
+/// together those of the node that was asked last.
+#[derive(Drop)]
+pub struct Candidates {
+    pub(crate) entries: Vec<Found>,
+    pub(crate) ranks: Vec<Rank>,
+}
+
+// So many ranks are kept at most when a search is over.
+const KEPT: usize = 65536;
+
+impl Found {
+    // It is what was found at the node.
+    fn is_of(&self, node: Rank, alone: bool) -> bool
+        ensures { IsTrue result → (self.now.node ≡ Some node) × (self.now.alone ≡ alone) }
+    {
+        match self.node {
+            None => false,
+            Some(own) => own.0 == node.0 && self.alone == alone,
+        }
+    }
+}
+
+// Sees to it that there are so many entries.
+fn make_room(entries: &mut Vec<Found>, count: usize) -> Result<(), Memory>
+    ensures { OnOk result ((k : ℕ) × (entries.new.items ≡ entries.old.items ++ replicate k unasked)
+        × (count ≤ length entries.new.items)) }
+{
+    if entries.len() >= count {
+        return Ok(());
+    }
+    let unasked = Found {
+        node: None,
+        alone: false,
+        from: 0,
+        end: 0,
+    };
+    entries.resize(count, unasked)?;
+    Ok(())
+}
+
+// The rank is the last one.
+fn is_same(last: Option<Rank>, rank: Rank) -> bool
+    ensures { result ≡ is_same last rank }
+{
+    match last {
+        None => false,
+        Some(own) => own.0 == rank.0,
+    }
+}
+
+// Adds the ranks of the terms that have the shape of the pattern, each once.
+fn push_candidates(
+    out: &mut Vec<Rank>,
+    table: &Table,
+    pattern: &Pattern,
+    ranks: &[Rank],
+) -> Result<(), Memory>
+    requires ranks { HasRanks table.now ranks.now }
+    requires ascending { IsSorted rank_cmp ranks.now }
+    ensures { OnOk result ((rs : List Rank) × (out.new.items ≡ out.old.items ++ rs)
+        × AreCandidates table.now (pattern_tree pattern.now) (terms_at table.now ranks.now) rs) }
+{
+    let mut last = None;
+    for rank in ranks {
+        if !is_same(last, *rank) && has_shape(table, pattern, *rank) {
+            out.push(*rank)?;
+        }
+        last = Some(*rank);
+    }
+    Ok(())
+}
+
+impl Candidates {
+    /// Nothing is found yet. It takes no memory.
+    pub fn new(alloc: Global) -> Candidates
+        ensures { (t : terms.Table) (plans : CommPlans) → AreFound t plans result }
+    {
+        Candidates {
+            entries: Vec::new(alloc),
+            ranks: Vec::new(alloc),
+        }
+    }
+
+    /// The list of which what is found is a part.
+    pub(crate) fn ranks(&self) -> &[Rank]
+        ensures { result.now ≡ self.now.ranks.items }
+    {
+        &self.ranks
+    }
+
+    // Forgets what was found, where it is much: what a search goes through it has in its room.
+    pub(crate) fn forget(&mut self)
+        ensures { (t : terms.Table) (plans : CommPlans) → AreFound t plans self.old → AreFound t plans self.new }
+    {
+        if self.ranks.len() > KEPT {
+            self.entries.clear();
+            self.ranks.clear();
+        }
+    }
+
+    // What is kept of the child of the number.
+    fn entry(&self, number: usize) -> Option<&Found>
+        ensures { option_map (λ e. e.now) result ≡ slice_get self.now.entries.items number }
+    {
+        self.entries.get(number)
+    }
+
+    // Where the candidates of the child of the number stand among the ranks: they are of what the children of the node
+    // take together, which is given.
+    pub(crate) fn fill(
+        &mut self,
+        table: &Table,
+        plans: &CommPlans,
+        node: Rank,
+        alone: bool,
+        args: &[Rank],
+        number: u32,
+    ) -> Result<(usize, usize), Memory>
+        requires found { AreFound table.now plans.now self.old }
+        requires rank { HasRank table.now node }
+        requires ranks { HasRanks table.now args.now }
+        requires ascending { IsSorted rank_cmp args.now }
+        requires args { terms_at table.now args.now ≡ given_terms (term_at table.now node) alone }
+        requires number { number < length plans.now.children.items }
+        ensures part { IfOk result (λ r. (r.0 ≤ r.1) × (r.1 ≤ length self.new.ranks.items)) }
+        ensures candidates { IfOk result (λ r. (p : plain.Pattern) → child_at plans.now number ≡ Some p
+            → AreCandidates table.now p (given_terms (term_at table.now node) alone)
+            (take (r.1 - r.0) (drop r.0 self.new.ranks.items))) }
+        ensures found { OnOk result (AreFound table.now plans.now self.new) }
+    {
+        let number = number as usize;
+        if let Some(entry) = self.entry(number)
+            && entry.is_of(node, alone)
+        {
+            return Ok((entry.from, entry.end));
+        }
+        make_room(&mut self.entries, plans.children.len())?;
+        let from = self.ranks.len();
+        push_candidates(&mut self.ranks, table, &plans.children[number], args)?;
+        let end = self.ranks.len();
+        self.entries[number] = Found {
+            node: Some(node),
+            alone,
+            from,
+            end,
+        };
+        Ok((from, end))
+    }
+}
