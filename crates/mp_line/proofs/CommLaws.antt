@@ -1,32 +1,19 @@
 -- The pattern of a token is read of its text, and its variables and wildcards are right one by one.
-use Rattle.std.proofs.Common.{◌<◌, ◌≤◌, zero, suc, length, get_or, map, arith}
-use Rattle.std.proofs.Common.{◌≡◌, ℕ, List, [], ◌∷◌, Option, Some, None, sym, ap, subst}
+use Rattle.std.proofs.Common.{ℕ, Option, Some, None, sym, subst}
 use Rattle.std.specs.List.{AllByRecursion}
 use Rattle.mp_io.specs.Devices.{Text}
 use Rattle.mp_term.specs.Signature.{Sig}
 use Rattle.mp_term.proofs.ListLaws.{all-append, all-split}
 use Rattle.mp_pattern.specs.declared.pattern.Pattern as code
-use Rattle.mp_pattern.specs.View.{pattern_tree}
-use Rattle.mp_pattern.specs.Size.{pattern_nodes, all_pattern_nodes}
 use Rattle.mp_pattern.specs.EachWildcard.{EachWildcard, AllEachWildcard}
 use Rattle.mp_pattern.specs.PatternTree.{Pattern, symbol_pattern, app_pattern, wild_pattern, Patterns, no_patterns}
-use Rattle.mp_pattern.specs.PatternTree.{more_patterns, patterns}
+use Rattle.mp_pattern.specs.PatternTree.{more_patterns}
 use Rattle.mp_pattern.specs.Variables.{Use, uses, all_uses}
 use Rattle.mp_build.specs.Alone.{IsPatternOf}
 use Rattle.mp_program.specs.declared.format.Format.{Format}
 use Rattle.mp_program.specs.RightForm.{IsNumberedName, IsWildcardOf}
 use Rattle.mp_line.specs.Finds.{IsOnly}
 use Rattle.mp_line.specs.LineTexts.{IsExactPattern, HasRightWildcards, HaveRightWildcards, IsCommTree, IsCommText}
-
--- a pattern of a list has no more nodes than the list
-pub item-nodes : (ps : List code.Pattern) (i : ℕ) (x : code.Pattern) → i < length ps → x ≡ get_or ps i x
-    → pattern_nodes (pattern_tree x) ≤ all_pattern_nodes (patterns (map pattern_tree ps))
-item-nodes [] i x within is = absurd (omega arith)
-item-nodes (p ∷ ps) zero x within is =
-    let same : pattern_nodes (pattern_tree x) ≡ pattern_nodes (pattern_tree p) =
-    ap (λ q. pattern_nodes (pattern_tree q)) is in
-    omega (arith, same)
-item-nodes (p ∷ ps) (suc i) x within is = omega (arith, item-nodes ps i x (omega arith) is)
 
 module _ (format : Format) where
   -- a use of a variable that is called by a number

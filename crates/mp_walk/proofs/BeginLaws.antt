@@ -13,7 +13,7 @@ use Rattle.mp_walk.specs.CourseView.{LeadsTo}
 use Rattle.mp_walk.specs.Forests.{walk}
 use Rattle.mp_walk.specs.Instrs.{Instr, instr_at}
 use Rattle.mp_walk.specs.Levels.{state_of}
-use Rattle.mp_walk.specs.Trails.{numbered_subst}
+use Rattle.mp_ac.specs.Numbered.{numbered_subst}
 use Rattle.mp_walk.specs.OpenOnes.{above, open_of, opens, opens_at, AreFrames, IsFrame, IsFrameAt, IsPlaceBelow}
 use Rattle.mp_walk.specs.TokenMachine.{State, begin_state, token_steps, token_ends}
 use Rattle.mp_walk.specs.Walkable.{IsWalkable}

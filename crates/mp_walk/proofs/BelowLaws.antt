@@ -2,71 +2,34 @@
 use Rattle.std.proofs.Common.{◌≡◌, ◌≤◌, ◌<◌, ◌+◌, ◌-◌, ℕ, zero, suc, List, [], ◌∷◌, ◌++◌, length, map, take}
 use Rattle.std.proofs.Common.{drop, Bool}
 use Rattle.std.proofs.Common.{eqb-true, true, false, nat_eq, ◌&&◌, refl, ap, sym, ◌∙◌, subst, arith, slice_index_or}
-use Rattle.std.specs.Prelude.{Option, Some, None, slice_get, MatchBool, MatchOption, if◌then◌else◌}
+use Rattle.std.specs.Prelude.{Option, Some, None, slice_get, MatchOption, if◌then◌else◌}
 use Rattle.std.proofs.lemmas.Bool.Decides.{nat_tests}
 use Rattle.std.specs.Prelude.{nat_lt}
 use Rattle.std.specs.List.{AllByRecursion}
 use Rattle.mp_term.specs.Normal.{IsNormal}
 use Rattle.mp_term.specs.NormalTest.{has_head, is_single, passes}
 use Rattle.mp_term.specs.Signature.{is_one}
-use Rattle.mp_term.specs.Size.{node_count, node_counts, all_nodes}
 use Rattle.mp_term.specs.Tree.{Tree, symbol, app, tree_list}
-use Rattle.mp_term.specs.TreeLists.{trees-tree_list}
 use Rattle.mp_pattern.specs.Fits.{arranged, no_sequence}
 use Rattle.mp_pattern.specs.NetTokens.{comm_token}
 use Rattle.mp_pattern.specs.PatternTree.{app_pattern}
 use Rattle.mp_pattern.specs.Value.{Subst}
 use Rattle.mp_table.specs.Subterms.{arguments}
-use Rattle.mp_table.specs.Table.{Table, HasRanks, terms_at}
-use Rattle.mp_table.specs.declared.rank.Rank.{Rank}
-use Rattle.mp_subst.specs.Trail.{Trail, cut}
 use Rattle.mp_theory.specs.Machine as machine
 use Rattle.mp_theory.specs.OneList.{Item}
 use Rattle.mp_theory.proofs.Walk.{fine-arguments, fine-single}
 use Rattle.mp_theory.proofs.Wildcards.{final-passes, IsFine}
-use Rattle.mp_search.specs.At.{BindsOnly}
-use Rattle.mp_search.specs.declared.level.Level.{Level}
-use Rattle.mp_search.specs.Levels as levels
-use Rattle.mp_search.specs.Levels.{AreLevels}
-use Rattle.mp_ac.specs.declared.room.CommRoom.{CommRoom}
 use Rattle.mp_ac.specs.declared.search.CommSearch.{CommSearch}
-use Rattle.mp_ac.specs.Asked.{AreGiven, root_list}
+use Rattle.mp_ac.specs.Asked.{root_list}
 use Rattle.mp_ac.specs.CommPlan.{root_op}
-use Rattle.mp_ac.specs.CommRoom.{IsOfTable, IsRoomFor}
-use Rattle.mp_ac.specs.Search.{ahead, item_table, read_by}
-use Rattle.mp_ac.specs.Stage.{stage_after}
+use Rattle.mp_ac.specs.Search.{ahead}
 use Rattle.mp_ac.proofs.Below.{arguments-fine}
-use Rattle.mp_ac.proofs.StepLaws as ac_steps
 use Rattle.mp_walk.specs.declared.comm.Below.{Below}
-use Rattle.mp_walk.specs.Below.{IsBelow, IsSearchOf, IsNextItem, IsAtWay, IsWayOf, below_ahead}
+use Rattle.mp_walk.specs.Below.{IsBelow, IsAtWay, IsWayOf, below_ahead}
 use Rattle.mp_walk.specs.Below.{below_table, items_by_way, left_steps, pattern_of, step_at, taken_by, term_of}
 use Rattle.mp_walk.specs.TokenMachine.{Open, below_items}
-use Rattle.mp_walk.specs.Trails.{name_of}
 use Rattle.mp_walk.specs.Ways.{Step, first_entry, is_way, item_step, way_among, way_steps, ways_from}
-use Rattle.mp_walk.proofs.TrailLaws.{name_of-less, name_of-only}
 use Rattle.mp_walk.proofs.WayLaws.{ways-none, ways-step}
-
--- ---- rooms
-
-levels-over : (t : Table) (w : ℕ) (ls : List Level) → AreLevels t w ls → AllByRecursion (levels.IsOver t) ls
-levels-over t w [] h = tt
-levels-over t w (l ∷ ls) h = (h.0.1, levels-over t w ls h.1)
-
-levels-narrow : (t : Table) (m n : ℕ) → m ≤ n → (ls : List Level) → AreLevels t n ls → AreLevels t m ls
-levels-narrow t m n k [] h = tt
-levels-narrow t m n k (l ∷ ls) h =
-    let r = h.0.0 in
-    (((omega (arith, k, r.0), omega (arith, k, r.1), omega (arith, k, r.2)), h.0.1), levels-narrow t m n k ls h.1)
-
--- the room of a search has ranks of the table alone
-pub search-room : (b : Below) (u : Trail) (c : CommSearch) → IsSearchOf b u c → IsOfTable b.table.now c.room
-search-room b u c h = subst (λ (t : Table). IsOfTable t c.room) h.table
-    (levels-over c.asked.table.now _ c.room.levels.items h.over.room.levels)
-
--- a room for more is one for less
-pub room-narrow : (t : Table) (n w v : ℕ) (r : CommRoom) → v ≤ w → IsRoomFor t n w r → IsRoomFor t n v r
-room-narrow t n w v r k h =
-    record { levels = levels-narrow t v w k r.levels.items h.levels; nodes = h.nodes; grounds = h.grounds }
 
 -- there are two ways
 no-way : (n : ℕ) (headed single : Bool) → way_among (suc (suc n)) headed single ≡ None
@@ -83,15 +46,6 @@ all-index : {X : Type 0} (P : X → Type 0) (xs : List X) (n : ℕ) (d : X) → 
 all-index P [] n d h l = absurd (omega (arith, l))
 all-index P (x ∷ xs) zero d h l = h.0
 all-index P (x ∷ xs) (suc n) d h l = all-index P xs n d h.1 (omega (arith, l))
-
-pub taken-nodes : (t : Tree) (way : ℕ) → all_nodes (taken_by t way) ≤ node_count t
-taken-nodes t way = by_way (nat_eq way 1) t
-  where
-    by_way : (c : Bool) (t : Tree) → all_nodes (if c then t ∷ [] else arguments t) ≤ node_count t
-    by_way true t = omega arith
-    by_way false (symbol n) = omega arith
-    by_way false (app g us) =
-        let e : all_nodes (tree_list us) ≡ node_counts us = ap node_counts (trees-tree_list us) in omega (arith, e)
 
 module _ (b : Below) (h : IsBelow b) where
   normal-term : IsNormal b.sig.now (term_of b)
@@ -110,15 +64,12 @@ module _ (b : Below) (h : IsBelow b) where
       (final-passes b.sig.now (term_of b) normal-term)
   fine-taken (suc (suc n)) k = absurd (omega (arith, k.few))
 
-  pub given-way : (way : ℕ) → IsWayOf b way → (rs : List Rank) → HasRanks b.table.now rs
-      → terms_at b.table.now rs ≡ taken_by (term_of b) way → AreGiven b.sig.now (pattern_of b) b.table.now rs
-  given-way way k rs r e = record {
-    ranks = r;
-    arranged = subst (λ f. arranged b.sig.now f (terms_at b.table.now rs) ≡ terms_at b.table.now rs)
-        (sym (ap root_op h.application))
-        (subst (λ ts. arranged b.sig.now (Some b.op.0) ts ≡ ts) (sym e)
-        ((arguments-fine b.sig.now b.op.0 (taken_by (term_of b) way)).1 (fine-taken way k)).ordered);
-  }
+  -- what the children take together by a way stands in order
+  pub given-way : (way : ℕ) → IsWayOf b way
+      → arranged b.sig.now (root_op (pattern_of b)) (taken_by (term_of b) way) ≡ taken_by (term_of b) way
+  given-way way k = subst (λ f. arranged b.sig.now f (taken_by (term_of b) way) ≡ taken_by (term_of b) way)
+      (sym (ap root_op h.application))
+      ((arguments-fine b.sig.now b.op.0 (taken_by (term_of b) way)).1 (fine-taken way k)).ordered
 
   -- ---- the ways
 
@@ -213,23 +164,6 @@ module _ (b : Below) (h : IsBelow b) where
     next-way (suc (suc n)) headed single e k =
         subst (λ o. MatchOption o (ways (suc (suc n)) ≡ []) (IsNextWay (suc (suc n)))) (sym (no-way n headed single))
         (ways-late (suc (suc n)) (omega arith))
-
--- ---- the search
-
--- one step of a search
-pub item-next : (b : Below) (u v : Trail) (c d : CommSearch) (found : Bool) → IsSearchOf b u c → d.asked ≡ c.asked
-    → d.args ≡ c.args → d.stage ≡ stage_after found
-    → MatchBool found
-    ((slice_get (ahead c (read_by c u)) 0 ≡ Some (item_table d, read_by d v))
-    × (ahead d (read_by c u) ≡ drop 1 (ahead c (read_by c u))))
-    ((ahead c (read_by c u) ≡ []) × (v ≡ u))
-    → cut (length u.stack) v ≡ u → BindsOnly c.asked.vars.now u v
-    → IsNextItem found (Some c) (Some d) u v b.table.now
-item-next b u v c d true h asked args stage found kept only =
-    ac_steps.step-found b.table.now name_of name_of-less name_of-only c u h.over h.numbered h.table d v asked args stage
-    found.0 kept only
-item-next b u v c d false h asked args stage found kept only =
-    ac_steps.step-none b.table.now name_of name_of-less name_of-only c u h.over h.numbered h.table found.0
 
 -- ---- the steps
 

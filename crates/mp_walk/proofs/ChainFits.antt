@@ -25,7 +25,7 @@ use Rattle.mp_walk.specs.Course.{Read, Alike, read_entries, table_read}
 use Rattle.mp_walk.specs.Forests.{lists}
 use Rattle.mp_walk.specs.Instrs.{Instr, instr_at}
 use Rattle.mp_walk.specs.TokenMachine.{State, begin_state, steps_by, token_steps, token_ends}
-use Rattle.mp_walk.specs.Trails.{numbered_subst}
+use Rattle.mp_ac.specs.Numbered.{numbered_subst}
 use Rattle.mp_walk.specs.Walkable.{Path, IsWalkable}
 use Rattle.mp_walk.proofs.Alike.{AreAlike, there, ends-alike}
 use Rattle.mp_walk.proofs.ByRule.{searched, runs_kept}

@@ -32,10 +32,10 @@ use Rattle.mp_search.proofs.SubstLaws.{value_of-subst_from}
 use Rattle.mp_search.proofs.NumberLaws.{in-slice_get}
 use Rattle.mp_ac.specs.CommItems.{SameValues}
 use Rattle.mp_walk.specs.TokenMachine.{begin_state, steps_by}
-use Rattle.mp_walk.specs.Trails.{name_of, numbered_subst}
+use Rattle.mp_ac.specs.Numbered.{name_of, numbered_subst}
 use Rattle.mp_walk.proofs.ByRule.{searched, runs_kept}
 use Rattle.mp_walk.proofs.Renaming.{new_name, new_subst, same_new, renamed-solved}
-use Rattle.mp_walk.proofs.TrailLaws.{name_of-less, name_of-only}
+use Rattle.mp_ac.proofs.NumberedLaws.{name_of-less, name_of-only}
 use Rattle.mp_walk.proofs.Walked.{items-read}
 
 -- ---- the trail at the end of a run

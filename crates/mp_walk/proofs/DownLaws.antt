@@ -4,12 +4,11 @@ use Rattle.std.proofs.Common.{false, ◌&&◌, not, refl, ap, sym, ◌∙◌, su
 use Rattle.std.specs.Prelude.{Option, Some, None, IsSome, IfSome, is_none, is_some, slice_get, if◌then◌else◌}
 use Rattle.std.specs.Prelude.{nat_lt}
 use Rattle.std.proofs.lemmas.List.{append_assoc, map-append}
-use Rattle.std.specs.List.{AllByRecursion}
 use Rattle.mp_term.specs.Listing.{In}
 use Rattle.mp_term.specs.Signature.{Sig}
 use Rattle.mp_pattern.specs.Fits.{Entry, Table}
-use Rattle.mp_ac.specs.CommRoom.{IsOfTable}
-use Rattle.mp_ac.specs.declared.room.CommRoom.{CommRoom}
+use Rattle.mp_ac.specs.Store.{IsStoreOf}
+use Rattle.mp_ac.specs.declared.store.CommStore.{CommStore}
 use Rattle.mp_subst.specs.Trail.{Trail, length_at, cut}
 use Rattle.mp_subst.proofs.TrailLaws.{cut-whole, item_at}
 use Rattle.mp_table.specs.Table as plain_table
@@ -428,25 +427,25 @@ module _ {x : Setting} {fs : List Frame} {u : Trail} {ls : List Level} {before :
       (is : opens x.table.now frames.items o ≡ opens_after i.token (opens x.table.now fs (Some place)) (l.next - 1))
       → IsPlaceBelow (length frames.items) o → AreFrames x.sig.now x.table.now frames.items
       → (levels : Vec Level Global) → levels.items ≡ ls ++ l ∷ [] → (alloc : Global)
-      → (rooms : Vec CommRoom Global) → AllByRecursion (IsOfTable x.table.now) rooms.items
+      → (store : CommStore) → IsStoreOf x.table.now x.code.now.plans.plans store
       → IsCourse (record {
         alloc = alloc;
         set = x;
         trail = u;
         frames = frames;
         levels = levels;
-        rooms = rooms;
+        store = store;
         place = o;
         target = i.down;
       })
-  down-course o frames more made is below are levels ks alloc rooms R = record {
+  down-course o frames more made is below are levels ks alloc store S = record {
     setting = T.standing.setting;
     frames = are;
     place = below;
     trail = T.standing.trail;
     levels = subst (λ ms. AreLevels x frames.items u ms (length frames.items) (length u.stack)) (sym ks)
         (down-levels T at o frames.items more made is);
-    rooms = R;
+    store = S;
     there = if-some _ i.down (down-there T at o frames.items more made is);
     room = down-room T at o frames.items more made is;
     chained = subst (λ ms. AreChained x T.standing.setting.walkable.before frames.items u ms

@@ -21,7 +21,7 @@ use Rattle.mp_table.specs.declared.rank.Rank.{Rank}
 use Rattle.mp_table.specs.Table.{Table, HasRanks, terms_at}
 use Rattle.mp_subst.specs.Trail.{Trail}
 use Rattle.mp_ac.specs.declared.search.CommSearch.{CommSearch}
-use Rattle.mp_ac.specs.Search.{IsOver}
+use Rattle.mp_ac.specs.Search.{IsOver, table_of}
 use Rattle.mp_walk.specs.declared.frame.Frame.{Frame}
 use Rattle.mp_walk.specs.declared.level.Level.{Level}
 use Rattle.mp_walk.specs.declared.setting.Setting.{Setting}
@@ -59,7 +59,7 @@ none-below t (comm_token p) xs u o h e = cc
 
 -- a search goes by some trail, and is one of the table
 pub search-over : (t : Table) (k : NetToken) (xs : List Tree) (u : Trail) (c : CommSearch)
-    → HasSearchIn t k xs u (Some c) → IsOver c u × (c.asked.table.now ≡ t)
+    → HasSearchIn t k xs u (Some c) → IsOver c u × (table_of c ≡ t)
 search-over t (sym_token n) xs u c h = cc
 search-over t (enter_token g) xs u c h = cc
 search-over t (leave_token g) xs u c h = cc

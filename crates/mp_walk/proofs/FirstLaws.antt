@@ -24,7 +24,8 @@ use Rattle.mp_walk.specs.Levels.{read_of, state_of, trail_before, step_cost, Has
 use Rattle.mp_walk.specs.OpenOnes.{opens}
 use Rattle.mp_walk.specs.SoundTokens.{IsSoundToken}
 use Rattle.mp_walk.specs.TokenMachine.{Open}
-use Rattle.mp_walk.specs.Trails.{numbered_subst, shape_of, LiesOver, HoldsDefault}
+use Rattle.mp_ac.specs.Numbered.{numbered_subst, LiesOver}
+use Rattle.mp_walk.specs.Trails.{shape_of, HoldsDefault}
 use Rattle.mp_walk.specs.Ways.{HasNoWay, IsFirstWay}
 use Rattle.mp_walk.proofs.LastLaws.{last-new, new-standing, visits-new}
 use Rattle.mp_walk.proofs.ReadOnLaws.{default-held}

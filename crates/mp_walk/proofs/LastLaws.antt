@@ -17,7 +17,7 @@ use Rattle.mp_walk.specs.Levels.{search_of}
 use Rattle.mp_walk.specs.Levels.{read_of, state_of, trail_before, HasRoom, HasSearch, HasSearchIn, innermost_left}
 use Rattle.mp_walk.specs.Levels.{IsLevel, AreLevels}
 use Rattle.mp_walk.specs.Below.{below_table, below_ahead, IsAtWay}
-use Rattle.mp_walk.specs.Trails.{numbered_subst}
+use Rattle.mp_ac.specs.Numbered.{numbered_subst}
 use Rattle.mp_pattern.specs.NetTokens.{NetToken, sym_token, enter_token, leave_token, wild_token, comm_token}
 use Rattle.mp_table.specs.Table as plain_table
 use Rattle.mp_walk.specs.OpenOnes.{opens, IsPlaceBelow}

@@ -12,7 +12,7 @@ use Rattle.mp_walk.specs.Levels.{read_of, trail_before, HasRoom, first_frames, f
 use Rattle.mp_walk.specs.Levels.{HasSearch}
 use Rattle.mp_walk.specs.Below.{below_table, below_ahead}
 use Rattle.mp_walk.specs.OpenOnes.{opens, IsPlaceBelow}
-use Rattle.mp_walk.specs.Trails.{numbered_subst}
+use Rattle.mp_ac.specs.Numbered.{numbered_subst}
 
 -- a place below so many is below more
 pub below-more : (m n : ℕ) → m ≤ n → (o : Option ℕ) → IsPlaceBelow m o → IsPlaceBelow n o

@@ -12,10 +12,8 @@ use Rattle.mp_pattern.specs.declared.net_token.NetToken as declared
 use Rattle.mp_pattern.specs.declared.net_token.NetToken.TheVariants.{Sym, Enter, Leave, Dot, Kind, Plus, Star, Opt}
 use Rattle.mp_pattern.specs.declared.net_token.NetToken.TheVariants.{Counted, Comm}
 use Rattle.mp_pattern.specs.declared.pattern.Pattern as declared_pattern
-use Rattle.mp_table.specs.Table.{terms_at}
 use Rattle.mp_theory.specs.Machine.{reads}
-use Rattle.mp_ac.specs.Args.{args_of}
-use Rattle.mp_ac.specs.Asked.{cost}
+use Rattle.mp_ac.specs.Search as search
 use Rattle.mp_ac.specs.CommPlan.{nodes_below}
 use Rattle.mp_subst.specs.Trail.{cut, length_at}
 use Rattle.mp_subst.proofs.TrailLaws.{cut-cut}
@@ -27,7 +25,7 @@ use Rattle.mp_walk.specs.Levels.{search_of}
 use Rattle.mp_walk.specs.Levels.{HasSearchIn, IsSearching, read_of, state_of, trail_before, search_cost, step_cost}
 use Rattle.mp_walk.specs.Levels.{innermost_left}
 use Rattle.mp_walk.specs.SoundTokens.{IsSoundComm}
-use Rattle.mp_walk.specs.Trails.{IsTrailOf, numbered_subst}
+use Rattle.mp_ac.specs.Numbered.{IsTrailOf, numbered_subst}
 use Rattle.mp_walk.specs.Ways.{HasNoWay, is_way}
 use Rattle.mp_walk.proofs.WayLaws.{ways-none}
 use Rattle.mp_term.specs.Signature.{Sig}
@@ -39,7 +37,8 @@ use Rattle.mp_ac.specs.CommItems.{SameValues}
 use Rattle.mp_subst.specs.Trail.{Trail}
 use Rattle.mp_table.specs.Table.{Table}
 use Rattle.mp_walk.specs.Levels.{HasSearch}
-use Rattle.mp_walk.specs.Trails.{LiesOver}
+use Rattle.mp_ac.specs.Numbered.{LiesOver}
+use Rattle.mp_ac.proofs.NumberedLaws.{lies-more}
 use Rattle.mp_walk.specs.declared.comm.Below.{Below}
 use Rattle.mp_walk.specs.Below.{pattern_of, term_of, below_table, below_ahead, left_steps, step_at}
 use Rattle.mp_walk.specs.Course.{Read, steps_in_left, steps_left, entries_by, opens_after, is_comm_token, IsStepTaken}
@@ -143,14 +142,10 @@ step-ended sig t fs k u v l m h false s r =
           })) back ∙ s)),
     )
 
--- a trail that takes less takes no more
-pub grown : (t : Table) (m n : ℕ) (u v : Trail) → m ≤ n → LiesOver t m u v → LiesOver t n u v
-grown t m n u v h l = record { cut = l.cut; trail = l.trail; spare = (let s = l.spare in omega arith) }
-
 -- what a way takes is no more than what a step does
 pub lies-step : (t : Table) (k : NetToken) (os : List Open) (way : ℕ) (u v : Trail) (found : Bool)
     → LiesOver t (if found then way_cost k way else 0) u v → LiesOver t (if found then step_cost k os way else 0) u v
-lies-step t k os way u v true h = grown t (way_cost k way) (step_cost k os way) u v (omega arith) h
+lies-step t k os way u v true h = lies-more t (way_cost k way) (step_cost k os way) u v (omega arith) h
 lies-step t k os way u v false h = h
 
 -- of two things that hold of what is answered
@@ -206,10 +201,8 @@ search-of b p t ts ys u (Some c) e same is h =
     record {
       over = s.over;
       mark = s.mark;
-      numbered = s.numbered;
       table = s.table ∙ sym same;
-      cost = subst (λ q. cost c.asked.plan.now.pattern (terms_at c.asked.table.now (args_of c.args))
-          ≤ node_count (term_of b) + 3 * nodes_below q) (sym e) s.cost;
+      cost = subst (λ q. search.cost_of c ≤ node_count (term_of b) + 3 * nodes_below q) (sym e) s.cost;
     }
 
 pub search-kept : (b : Below) (p : Pattern) (t : Table) (ts ys : List Tree) (u : Trail) (o : Option CommSearch)
@@ -219,10 +212,8 @@ search-kept b p t ts ys u (Some c) e same is h =
     subst (λ xs. HasSearchIn t (comm_token p) xs u (Some c)) (sym is) (record {
       over = h.over;
       mark = h.mark;
-      numbered = h.numbered;
       table = h.table ∙ same;
-      cost = subst (λ q. cost c.asked.plan.now.pattern (terms_at c.asked.table.now (args_of c.args))
-          ≤ node_count (term_of b) + 3 * nodes_below q) e h.cost;
+      cost = subst (λ q. search.cost_of c ≤ node_count (term_of b) + 3 * nodes_below q) e h.cost;
     })
 
 -- what it costs is what the token's search does

@@ -1,6 +1,6 @@
 -- How much of a trail's room the tokens of a table of instructions take.
 use Rattle.std.proofs.Common.{◌≡◌, ◌≤◌, ◌<◌, ◌+◌, ◌-◌, ◌*◌, ℕ, zero, suc, List, [], ◌∷◌, length, refl, ap, sym, ◌∙◌}
-use Rattle.std.proofs.Common.{subst, arith, ◌⊎◌, inl, inr}
+use Rattle.std.proofs.Common.{subst, arith, ◌⊎◌, inl, inr, get_or, map}
 use Rattle.std.specs.Prelude.{Option, Some, None, IfSome, max, slice_index_or, slice_set}
 use Rattle.std.proofs.lemmas.Grind.{get_or-set_at}
 use Rattle.std.proofs.lemmas.List.{get_or-set_other}
@@ -8,8 +8,10 @@ use Rattle.mp_term.specs.Listing.{In}
 use Rattle.mp_term.specs.Signature.{Sig}
 use Rattle.mp_pattern.specs.declared.limits.TheConstants.{MAX_PATTERN_NODES}
 use Rattle.mp_pattern.specs.NetTokens.{NetToken, sym_token, enter_token, leave_token, wild_token, comm_token}
-use Rattle.mp_pattern.specs.PatternTree.{Pattern, symbol_pattern, app_pattern, wild_pattern}
-use Rattle.mp_pattern.specs.Size.{pattern_nodes}
+use Rattle.mp_pattern.specs.PatternTree.{Pattern, symbol_pattern, app_pattern, wild_pattern, patterns}
+use Rattle.mp_pattern.specs.Size.{pattern_nodes, all_pattern_nodes}
+use Rattle.mp_pattern.specs.View.{pattern_tree}
+use Rattle.mp_pattern.specs.declared.pattern.Pattern as declared
 use Rattle.mp_ac.specs.CommPlan.{nodes_below}
 use Rattle.mp_walk.specs.CodeForest.{code_forest}
 use Rattle.mp_walk.specs.Instrs.{Instr, instr_at, targets}
@@ -33,6 +35,16 @@ room-nodes (comm_token p) = (let h = below p in omega (arith, h))
     below (symbol_pattern n) = omega arith
     below (wild_pattern w x) = omega arith
     below (app_pattern g ps) = omega arith
+
+-- a pattern of a list has no more nodes than the list
+pub item-nodes : (ps : List declared.Pattern) (i : ℕ) (x : declared.Pattern) → i < length ps → x ≡ get_or ps i x
+    → pattern_nodes (pattern_tree x) ≤ all_pattern_nodes (patterns (map pattern_tree ps))
+item-nodes [] i x within is = absurd (omega arith)
+item-nodes (p ∷ ps) zero x within is =
+    let same : pattern_nodes (pattern_tree x) ≡ pattern_nodes (pattern_tree p) =
+    ap (λ q. pattern_nodes (pattern_tree q)) is in
+    omega (arith, same)
+item-nodes (p ∷ ps) (suc i) x within is = omega (arith, item-nodes ps i x (omega arith) is)
 
 module _ (code : List Instr) (forward : IsForward code) where
   -- nothing is read where there is no target

@@ -19,7 +19,7 @@ use Rattle.mp_walk.specs.Instrs.{Instr, instr_at}
 use Rattle.mp_walk.specs.Levels.{read_of, trail_before, HasRoom, search_of}
 use Rattle.mp_walk.specs.OpenOnes.{opens, open_of}
 use Rattle.mp_walk.specs.TokenMachine.{begin_state, Open}
-use Rattle.mp_walk.specs.Trails.{numbered_subst, IsTrailOf}
+use Rattle.mp_ac.specs.Numbered.{numbered_subst, IsTrailOf}
 use Rattle.mp_walk.specs.WalkView.{subject_of}
 use Rattle.mp_walk.specs.Ways.{HasNoWay}
 use Rattle.mp_walk.proofs.ChainLaws.{alike-same, chain-end}
@@ -67,7 +67,7 @@ module _ (c : Course) (C : IsCourse c) (n : ℕ) (e : c.target ≡ Some n) (i : 
         place = C.place;
         trail = C.trail;
         levels = C.levels;
-        rooms = C.rooms;
+        store = C.store;
         there = if-some _ i.over (λ m h.
             let f = C.setting.walkable.forward n m i held (over-target i m h) in
             let j = instr-there c.set.code.now.instrs m (omega (arith, f.0)) f.1 in

@@ -30,7 +30,7 @@ use Rattle.mp_walk.specs.SoundTokens.{IsSoundToken}
 use Rattle.mp_walk.specs.TokenMachine.{Open, begin_state}
 use Rattle.mp_walk.specs.WalkView.{subject_of}
 use Rattle.mp_walk.proofs.ChainLaws.{alike-same, chain-end, owed-taken, owed-none}
-use Rattle.mp_walk.specs.Trails.{numbered_subst, IsTrailOf, LiesOver}
+use Rattle.mp_ac.specs.Numbered.{numbered_subst, IsTrailOf, LiesOver}
 use Rattle.mp_walk.proofs.CourseLaws.{over-to_come}
 use Rattle.mp_walk.proofs.LevelLaws.{level-kept, levels-kept, reads-kept, read-kept}
 use Rattle.mp_table.specs.Table.{rank_of}

@@ -16,7 +16,7 @@ use Rattle.mp_pattern.specs.Value.{Subst}
 use Rattle.mp_walk.specs.Course.{Read, steps_in_left, steps_left, entries_by, opens_by, opens_after}
 use Rattle.mp_walk.specs.Course.{pattern_in, IsStepTaken, IsWayValid, way_cost}
 use Rattle.mp_walk.specs.TokenMachine.{Open, rest_of_open, numbered_wildcard}
-use Rattle.mp_walk.specs.Trails.{LiesOver}
+use Rattle.mp_ac.specs.Numbered.{LiesOver}
 use Rattle.mp_walk.specs.Ways.{Step, item_step, front_entry, first_entry, ways_from, HasNoWay, IsFirstWay}
 use Rattle.mp_walk.proofs.WayLaws.{ways-first, ways-none}
 

@@ -1,7 +1,7 @@
 -- What a walk does below a commutative application, in whose operation around it the term of a rank stands first.
 use Rattle.std.specs.Prelude.{◌≡◌, ◌≤◌, ◌<◌, ◌+◌, ◌-◌, ◌*◌, ⊤, ℕ, Bool, true, List, [], ◌∷◌, ◌++◌, drop, length, map}
 use Rattle.std.specs.Prelude.{slice_get, nat_eq}
-use Rattle.std.specs.Prelude.{Box, Option, Some, None, MatchBool, IsSome, if◌then◌else◌}
+use Rattle.std.specs.Prelude.{Box, Option, Some, None, MatchBool, IsSome}
 use Rattle.std.specs.Global.{Global}
 use Rattle.std.specs.List.{AllByRecursion}
 use Rattle.mp_term.specs.Normal.{IsNormal}
@@ -14,24 +14,27 @@ use Rattle.mp_pattern.specs.Fits.{no_sequence}
 use Rattle.mp_pattern.specs.NetTokens.{comm_token}
 use Rattle.mp_pattern.specs.PatternTree.{Pattern, Patterns, app_pattern}
 use Rattle.mp_pattern.specs.Value.{Subst}
-use Rattle.mp_table.specs.Subterms.{arguments}
-use Rattle.mp_table.specs.Table.{Table, HasRank, term_at, terms_at, rank_of}
+use Rattle.mp_pattern.specs.View.{pattern_tree}
+use Rattle.mp_table.specs.Table.{Table, HasRank, term_at, rank_of}
 use Rattle.mp_subst.specs.Trail.{Trail, cut}
 use Rattle.mp_theory.specs.OneList.{Item}
 use Rattle.mp_ac.specs.declared.search.CommSearch.{CommSearch}
-use Rattle.mp_ac.specs.Args.{args_of}
-use Rattle.mp_ac.specs.Asked.{cost, root_list}
+use Rattle.mp_ac.specs.Asked.{root_list}
+use Rattle.mp_ac.specs.Candidates.{given_terms}
 use Rattle.mp_ac.specs.CommItems.{SameValues}
-use Rattle.mp_ac.specs.CommPlan.{IsCommPlanOf, nodes_below}
-use Rattle.mp_ac.specs.Search.{IsNumberedSearch, IsOver, ahead, item_table, mark_of}
+use Rattle.mp_ac.specs.CommPlan.{IsNumberedPattern, nodes_below}
+use Rattle.mp_ac.specs.CommPlans.{IsPrepared}
+use Rattle.mp_ac.specs.Search as search
+use Rattle.mp_ac.specs.Search.{IsOver, ahead, item_table, mark_of, table_of}
+use Rattle.mp_ac.specs.Seek.{IsCommutative}
 use Rattle.mp_walk.specs.declared.comm.Below.{Below}
 use Rattle.mp_walk.specs.TokenMachine.{Open}
-use Rattle.mp_walk.specs.Trails.{IsTrailOf, numbered_subst}
+use Rattle.mp_ac.specs.Numbered.{IsTrailOf, numbered_subst}
 use Rattle.mp_walk.specs.Ways.{Step, first_entry, item_step, ways_from}
 
 -- the pattern
 abbrev pub pattern_of : Below → Pattern
-pattern_of b = b.plan.now.plan.pattern
+pattern_of b = pattern_tree b.pattern.now
 
 -- the term that stands first
 abbrev pub term_of : Below → Tree
@@ -51,10 +54,12 @@ abbrev pub below_ahead : Option CommSearch → Subst → List Item
 below_ahead None s = []
 below_ahead (Some c) s = ahead c s
 
--- the pattern is prepared, an application of that operation; the terms of the table are normal, and it holds the
--- pattern's symbols and defaults, and the rank
+-- the pattern is prepared, an application of that operation, which is commutative, and its variables are named by
+-- numbers; the terms of the table are normal, and it holds the pattern's symbols and defaults, and the rank
 pub record IsBelow (b : Below) : Type 0 where
-  pub plan : IsCommPlanOf b.sig.now (pattern_of b) b.plan.now
+  pub numbered : IsNumberedPattern (pattern_of b)
+  pub commutative : IsCommutative b.sig.now (pattern_of b)
+  pub prepared : IsPrepared b.sig.now b.plans.now (pattern_of b) b.prepared
   pub children : Patterns
   pub application : pattern_of b ≡ app_pattern b.op.0 children
   pub collapses : b.collapses ≡ no_sequence children
@@ -70,9 +75,8 @@ cost_of b = node_count (term_of b) + 3 * nodes_below (pattern_of b)
 pub record IsSearchOf (b : Below) (u : Trail) (c : CommSearch) : Type 0 where
   pub over : IsOver c u
   pub mark : mark_of c ≡ length u.stack
-  pub numbered : IsNumberedSearch c
-  pub table : c.asked.table.now ≡ b.table.now
-  pub cost : cost c.asked.plan.now.pattern (terms_at c.asked.table.now (args_of c.args)) ≤ cost_of b
+  pub table : table_of c ≡ b.table.now
+  pub cost : search.cost_of c ≤ cost_of b
 
 abbrev pub IsSearch : Below → Trail → Option CommSearch → Type 0
 IsSearch b u None = ⊤
@@ -80,7 +84,7 @@ IsSearch b u (Some c) = IsSearchOf b u c
 
 -- what the children take together by a way: the arguments of the term, or the term alone
 abbrev pub taken_by : Tree → ℕ → List Tree
-taken_by t way = if nat_eq way 1 then t ∷ [] else arguments t
+taken_by t way = given_terms t (nat_eq way 1)
 
 -- a way is one of two, and the first one only where the term is an application of the operation
 pub record IsWayOf (b : Below) (way : ℕ) : Type 0 where

@@ -1,9 +1,8 @@
 -- What the course of a walk is read as, and what holds of it.
 use Rattle.std.specs.Prelude.{◌≡◌, ◌≤◌, ◌-◌, ℕ, true, List, [], ◌∷◌, ◌++◌, length, map, Option, Some, IsSome, IfSome}
-use Rattle.std.specs.List.{AllByRecursion}
 use Rattle.mp_term.specs.Listing.{In}
 use Rattle.mp_pattern.specs.Fits.{Table}
-use Rattle.mp_ac.specs.CommRoom.{IsOfTable}
+use Rattle.mp_ac.specs.Store.{IsStoreOf}
 use Rattle.mp_subst.specs.Trail.{Trail, length_at}
 use Rattle.mp_walk.specs.declared.frame.Frame.{Frame}
 use Rattle.mp_walk.specs.declared.setting.Setting.{Setting}
@@ -21,7 +20,7 @@ use Rattle.mp_walk.specs.OpenOnes.{IsPlaceBelow, AreFrames, opens}
 use Rattle.mp_walk.specs.Setting.{IsSetting}
 use Rattle.mp_walk.specs.Rooms.{target_room}
 use Rattle.mp_walk.specs.TokenMachine.{Open, State, begin_state, token_steps, token_ends}
-use Rattle.mp_walk.specs.Trails.{numbered_subst, IsTrailOf, LiesOver}
+use Rattle.mp_ac.specs.Numbered.{numbered_subst, IsTrailOf, LiesOver}
 use Rattle.mp_walk.specs.Walkable.{Path}
 use Rattle.mp_walk.specs.WalkView.{subject_of}
 
@@ -67,7 +66,7 @@ AreChained x before fs u ls Then s =
 abbrev pub LeadsTo : (ℕ → Path) → Option ℕ → Path → Type 0
 LeadsTo before target path = IfSome target (λ n. before n ≡ path)
 
--- the frames, the levels and the trail fit together, and the rooms are of the table; the instruction that is to be
+-- the frames, the levels and the trail fit together, and the store is of the table; the instruction that is to be
 -- tried is there; the trail has room for what comes; and the tokens that are read lead to it
 pub record IsCourse (c : Course) : Type 0 where
   pub setting : IsSetting c.set
@@ -76,7 +75,7 @@ pub record IsCourse (c : Course) : Type 0 where
   pub trail : IsTrailOf c.set.table.now c.trail
   pub levels : AreLevels c.set c.frames.items c.trail c.levels.items (length c.frames.items)
       (length c.trail.stack)
-  pub rooms : AllByRecursion (IsOfTable c.set.table.now) c.rooms.items
+  pub store : IsStoreOf c.set.table.now c.set.code.now.plans.plans c.store
   pub there : IfSome c.target (λ n. IsSome (instr_at c.set.code.now.instrs n))
   pub room : HasRoom (target_room c.set.code.now.instrs c.target) (opens c.set.table.now c.frames.items c.place) c.trail
   pub chained : AreChained c.set setting.walkable.before c.frames.items c.trail c.levels.items

@@ -3,13 +3,11 @@ use Rattle.std.specs.Prelude.{◌≡◌, ◌≤◌, ◌+◌, ◌*◌, ⊤, ℕ, 
 use Rattle.std.specs.Prelude.{IfSome}
 use Rattle.mp_term.specs.Size.{all_nodes, node_count}
 use Rattle.mp_term.specs.Tree.{Tree}
-use Rattle.mp_table.specs.Table.{Table, terms_at}
+use Rattle.mp_table.specs.Table.{Table}
 use Rattle.mp_subst.specs.Trail.{Trail, length_at, cut}
 use Rattle.mp_ac.specs.declared.search.CommSearch.{CommSearch}
-use Rattle.mp_ac.specs.Args.{args_of}
-use Rattle.mp_ac.specs.Asked.{cost}
 use Rattle.mp_ac.specs.CommPlan.{nodes_below}
-use Rattle.mp_ac.specs.Search.{IsNumberedSearch, IsOver, mark_of}
+use Rattle.mp_ac.specs.Search.{IsOver, cost_of, mark_of, table_of}
 use Rattle.mp_pattern.specs.NetTokens.{NetToken, comm_token}
 use Rattle.mp_walk.specs.Below.{below_table, below_ahead, unboxed, IsAtWay}
 use Rattle.mp_walk.specs.declared.frame.Frame.{Frame}
@@ -20,7 +18,7 @@ use Rattle.mp_walk.specs.Instrs.{Instr, instr_at}
 use Rattle.mp_walk.specs.OpenOnes.{opens, IsPlaceBelow}
 use Rattle.mp_walk.specs.Rooms.{target_room}
 use Rattle.mp_walk.specs.TokenMachine.{Open, State}
-use Rattle.mp_walk.specs.Trails.{numbered_subst}
+use Rattle.mp_ac.specs.Numbered.{numbered_subst}
 
 -- the search of a level
 abbrev pub search_of : Level → Option CommSearch
@@ -72,9 +70,8 @@ step_cost k os way = way_cost k way + search_cost k (innermost_left os)
 pub record IsSearching (t : Table) (most : ℕ) (u : Trail) (c : CommSearch) : Type 0 where
   pub over : IsOver c u
   pub mark : mark_of c ≡ length u.stack
-  pub numbered : IsNumberedSearch c
-  pub table : c.asked.table.now ≡ t
-  pub cost : cost c.asked.plan.now.pattern (terms_at c.asked.table.now (args_of c.args)) ≤ most
+  pub table : table_of c ≡ t
+  pub cost : cost_of c ≤ most
 
 -- only below a commutative application of a term there is a search
 abbrev pub HasSearchIn : Table → NetToken → List Tree → Trail → Option CommSearch → Type 0

@@ -1,9 +1,12 @@
 //! Tables of instructions that are ready to be walked.
-ghost use Rattle.std.specs.Prelude.{◌≡◌, ◌≤◌, ◌++◌, ◌+◌, List, [], ◌∷◌, length, map, IfOk, IfSome, option_map};
+ghost use Rattle.std.specs.Prelude.{◌≡◌, ◌≤◌, ◌++◌, List, [], ◌∷◌, length, map, IfOk, IfSome, option_map};
 ghost use Rattle.std.specs.List.{AllByRecursion};
 ghost use Rattle.mp_term.specs.Signature.{Sig};
 ghost use Rattle.mp_pattern.specs.NetTokenView.{net_token};
+ghost use Rattle.mp_pattern.specs.Size.{pattern_nodes};
+ghost use Rattle.mp_pattern.specs.View.{pattern_tree};
 ghost use Rattle.mp_pattern.specs.declared.limits.TheConstants.{MAX_PATTERN_NODES};
+ghost use Rattle.mp_ac.specs.CommPlans.{ArePlans};
 ghost use Rattle.mp_walk.specs.Code.{IsPlanned, ArePlanned, IsCode, plan_at};
 ghost use Rattle.mp_walk.specs.CodeForest.{code_forest};
 ghost use Rattle.mp_walk.specs.Instrs as plain;
@@ -14,21 +17,21 @@ ghost use Rattle.mp_walk.specs.SoundTokens.{IsSoundToken, token_nodes};
 ghost use Rattle.mp_walk.specs.Walkable.{IsWalkable};
 
 use crate::instr::{Instr, Instrs};
-use mp_ac::CommPlan;
-use mp_pattern::NetToken;
+use mp_ac::{CommPlans, Prepared};
+use mp_pattern::{NetToken, Pattern};
 use mp_term::{Memory, Signature};
 use std::alloc::Global;
 
-// The plans of the tokens of commutative applications, in order, and for each instruction the number of its plan, from
-// 1: 0 where it has none.
+// The patterns of the tokens of commutative applications, prepared in order, and for each instruction the number of its
+// pattern, from 1: 0 where it has none.
 #[derive(Drop)]
 pub(crate) struct Plans {
     pub(crate) numbers: Vec<u32>,
-    pub(crate) plans: Vec<CommPlan>,
+    pub(crate) plans: CommPlans,
 }
 
-/// A table of instructions that is ready to be walked: with each token of a commutative application goes the plan of
-/// its pattern. `IsCode` of `specs/Code.antt` says over which signature.
+/// A table of instructions that is ready to be walked: the pattern of each token of a commutative application is
+/// prepared. `IsCode` of `specs/Code.antt` says over which signature.
 // With it goes how much of a trail's room a walk takes at most, beside the terms of its subject.
 #[derive(Drop)]
 pub struct Code {
@@ -38,9 +41,10 @@ pub struct Code {
 }
 
 impl Plans {
-    // Adds the next instruction, which has this token, with its plan, where it has one.
+    // Adds the next instruction, which has this token, and prepares its pattern, where it has one.
     fn add(&mut self, alloc: Global, sig: &Signature, token: &NetToken) -> Result<(), Memory>
-        requires { IsSoundToken sig.now (net_token token.now) }
+        requires sound { IsSoundToken sig.now (net_token token.now) }
+        requires plans { ArePlans sig.now self.old.plans }
         ensures { IfOk result (λ _. (is : List plain.Instr) (i : plain.Instr) → i.token ≡ net_token token.now
             → ArePlanned sig.now is self.old → ArePlanned sig.now (is ++ i ∷ []) self.new) }
     {
@@ -52,13 +56,13 @@ impl Plans {
             return Err(Memory);
         }
         self.numbers.push(self.plans.len() as u32 + 1)?;
-        self.plans.push(CommPlan::new(alloc, sig, pattern)?)?;
+        self.plans.add(alloc, sig, pattern)?;
         Ok(())
     }
 
-    // The plan of the instruction of the number, from 1.
-    fn at(&self, number: usize) -> Option<&CommPlan>
-        ensures { plan_at self.now.numbers.items self.now.plans.items number ≡ option_map (λ c. c.now) result }
+    // What is prepared of the pattern of the instruction of the number, from 1.
+    fn at(&self, number: usize) -> Option<Prepared>
+        ensures { result ≡ plan_at self.now.numbers.items self.now.plans.list.items number }
     {
         if number == 0 {
             return None;
@@ -67,23 +71,33 @@ impl Plans {
         if plan == 0 {
             return None;
         }
-        self.plans.get(plan as usize - 1)
+        self.plans.at(plan as usize - 1)
     }
 }
 
-// What the token of the instruction of the number takes of a trail's room at most, beside the terms that it takes.
-fn token_room(token: &NetToken, number: usize, plans: &Plans) -> u32
-    requires narrow { token_nodes (net_token token.now) ≤ MAX_PATTERN_NODES }
-    requires planned { (sig : Sig) × IsPlanned sig (net_token token.now)
-        (plan_at plans.now.numbers.items plans.now.plans.items number) }
+// How many nodes a pattern has.
+fn node_count(pattern: &Pattern) -> u32
+    requires { pattern_nodes (pattern_tree pattern.now) ≤ MAX_PATTERN_NODES }
+    ensures { result ≡ pattern_nodes (pattern_tree pattern.now) }
+{
+    let Pattern::App(_, children) = pattern else {
+        return 1;
+    };
+    let mut count: u32 = 1;
+    for child in children.as_slice() {
+        count += node_count(child);
+    }
+    count
+}
+
+// What a token takes of a trail's room at most, beside the terms that it takes.
+fn token_room(token: &NetToken) -> u32
+    requires { token_nodes (net_token token.now) ≤ MAX_PATTERN_NODES }
     ensures { result ≡ token_room (net_token token.now) }
 {
     match token {
         NetToken::Sym(_) | NetToken::Enter(_) | NetToken::Leave(_) => 0,
-        NetToken::Comm(_) => match plans.at(number) {
-            Some(plan) => 3 * plan.nodes(),
-            None => unreachable!(),
-        },
+        NetToken::Comm(pattern) => 3 * (node_count(pattern) - 1),
         _ => 3,
     }
 }
@@ -100,21 +114,19 @@ fn room_at(rooms: &[u32], target: Option<u32>) -> u32
 }
 
 // What is read over the instructions takes of a trail's room at most, beside the subject's terms.
-fn room_of(alloc: Global, sig: &Signature, instrs: &Instrs, plans: &Plans) -> Result<u32, Memory>
-    requires walkable { IsWalkable sig.now instrs.now }
-    requires planned { ArePlanned sig.now instrs.now plans.now }
+fn room_of(alloc: Global, sig: &Signature, instrs: &Instrs) -> Result<u32, Memory>
+    requires { IsWalkable sig.now instrs.now }
     ensures { IfOk result (λ n. n ≡ forest_room (code_forest instrs.now)) }
 {
     let _ = sig;
     let mut rooms = Vec::from_elem(alloc, 0, instrs.len())?;
     let mut left = instrs.len();
     while left > 0 {
-        let number = left;
         left -= 1;
         let Some(instr) = instrs.get(left) else {
             unreachable!()
         };
-        let below = token_room(&instr.token, number, plans) + room_at(&rooms, instr.down);
+        let below = token_room(&instr.token) + room_at(&rooms, instr.down);
         rooms[left] = below.max(room_at(&rooms, instr.over));
     }
     Ok(match rooms.first() {
@@ -123,7 +135,7 @@ fn room_of(alloc: Global, sig: &Signature, instrs: &Instrs, plans: &Plans) -> Re
     })
 }
 
-// The plans of the instructions.
+// The patterns of the instructions, prepared.
 fn plans_of(alloc: Global, sig: &Signature, instrs: &[Instr]) -> Result<Plans, Memory>
     requires { AllByRecursion (λ i. IsSoundToken sig.now i.token) (map plain_instr instrs.now) }
     ensures { IfOk result (ArePlanned sig.now (map plain_instr instrs.now)) }
@@ -131,7 +143,7 @@ fn plans_of(alloc: Global, sig: &Signature, instrs: &[Instr]) -> Result<Plans, M
     let numbers = Vec::with_capacity(alloc, instrs.len())?;
     let mut plans = Plans {
         numbers,
-        plans: Vec::new(alloc),
+        plans: CommPlans::new(alloc),
     };
     for instr in instrs {
         plans.add(alloc, sig, &instr.token)?;
@@ -148,7 +160,7 @@ impl Code {
         ensures planned { IfOk result (IsCode sig.now) }
     {
         let plans = plans_of(alloc, sig, instrs.as_slice())?;
-        let room = room_of(alloc, sig, &instrs, &plans)?;
+        let room = room_of(alloc, sig, &instrs)?;
         Ok(Code {
             instrs,
             plans,
@@ -170,10 +182,17 @@ impl Code {
         &self.instrs
     }
 
-    // The plan of the token of the instruction of the number, where that is one of a commutative application.
-    pub(crate) fn plan(&self, number: u32) -> Option<&CommPlan>
+    // The patterns of all tokens of commutative applications, prepared together.
+    pub(crate) fn comm_plans(&self) -> &CommPlans
+        ensures { result.now ≡ self.now.plans.plans }
+    {
+        &self.plans.plans
+    }
+
+    // What is prepared of the token of the instruction of the number, where that is one of a commutative application.
+    pub(crate) fn prepared(&self, number: u32) -> Option<Prepared>
         ensures { (sig : Sig) (i : plain.Instr) → IsCode sig self.now → instr_at self.now.instrs number ≡ Some i
-            → IsPlanned sig i.token (option_map (λ c. c.now) result) }
+            → IsPlanned sig self.now.plans.plans i.token result }
     {
         self.plans.at(number as usize)
     }

@@ -1,76 +1,53 @@
 //! The steps of a walk below a commutative application.
 ghost use Rattle.std.specs.Prelude.{◌≡◌, ◌≤◌, ◌+◌, List, [], ◌∷◌, drop, IfOk, IsTrue, IsFalse, None};
-ghost use Rattle.std.specs.List.{AllByRecursion};
 ghost use Rattle.mp_pattern.specs.Value.{Subst};
-ghost use Rattle.mp_table.specs.Table.{HasRank, HasRanks, term_at, terms_at};
 ghost use Rattle.mp_subst.specs.Trail.{cut, length_at};
-ghost use Rattle.mp_ac.specs.Args.{args_of};
-ghost use Rattle.mp_ac.specs.CommRoom.{IsOfTable, IsRoomFor};
 ghost use Rattle.mp_ac.specs.Search.{ahead};
+ghost use Rattle.mp_ac.specs.Store.{IsStoreOf};
 ghost use Rattle.mp_walk.specs.Below.{IsAbove, IsBelow, IsNextItem, IsSearch, IsSearchOf, IsStepBelow, cost_of};
 ghost use Rattle.mp_walk.specs.Below.{left_steps, term_of, unboxed};
 ghost use Rattle.mp_walk.specs.TokenMachine.{Open};
-ghost use Rattle.mp_walk.specs.Below.{IsAtWay, IsWayOf, items_by_way, taken_by};
-ghost use Rattle.mp_walk.specs.Trails.{IsTrailOf, numbered_subst};
+ghost use Rattle.mp_walk.specs.Below.{IsAtWay, IsWayOf, items_by_way};
+ghost use Rattle.mp_ac.specs.Numbered.{IsTrailOf, numbered_subst};
 
 use crate::steps::first_way;
-use mp_ac::{Args, CommPlan, CommRoom, CommSearch};
+use mp_ac::{CommPlans, CommSearch, CommStore, Prepared};
+use mp_pattern::Pattern;
 use mp_subst::{Mark, Trail};
 use mp_table::{Rank, Table};
 use mp_term::{Memory, OpId, Signature};
 use std::alloc::Global;
 
-// A commutative application that is read where a term stands first: its prepared pattern, its operation, and whether it
-// may be collapsed (`IsBelow` of `specs/Below.antt`).
+// A commutative application that is read where a term stands first: its pattern, which is prepared among the plans, its
+// operation, and whether it may be collapsed (`IsBelow` of `specs/Below.antt`).
 #[derive(Clone, Copy)]
 pub(crate) struct Below<'a> {
     pub(crate) sig: &'a Signature,
     pub(crate) table: &'a Table,
-    pub(crate) plan: &'a CommPlan,
+    pub(crate) plans: &'a CommPlans,
+    pub(crate) prepared: Prepared,
+    pub(crate) pattern: &'a Pattern,
     pub(crate) op: OpId,
     pub(crate) collapses: bool,
     pub(crate) rank: Rank,
-}
-
-// A room for so many nodes and ranks: the last one that was given back, if it is large enough, or a new one.
-fn take_room(
-    alloc: Global,
-    table: &Table,
-    rooms: &mut Vec<CommRoom>,
-    nodes: u32,
-    width: usize,
-) -> Result<CommRoom, Memory>
-    requires { AllByRecursion (IsOfTable table.now) rooms.old.items }
-    ensures room { IfOk result (IsRoomFor table.now nodes width) }
-    ensures rooms { AllByRecursion (IsOfTable table.now) rooms.new.items }
-{
-    let _ = table;
-    let Some(room) = rooms.pop() else {
-        return CommRoom::new(alloc, nodes, width);
-    };
-    if room.is_for(nodes, width) {
-        Ok(room)
-    } else {
-        CommRoom::new(alloc, nodes, width)
-    }
 }
 
 // Gives the room of a search back.
 fn give_back<'a>(
     below: Below<'a>,
     search: &mut Option<Box<CommSearch<'a>>>,
-    rooms: &mut Vec<CommRoom>,
+    store: &mut CommStore,
     trail: &Trail,
 ) -> Result<(), Memory>
     requires search { IsSearch below trail.now (unboxed search.old) }
-    requires rooms { AllByRecursion (IsOfTable below.table.now) rooms.old.items }
-    ensures rooms { IfOk result (λ _. AllByRecursion (IsOfTable below.entry.table.now) rooms.new.items) }
+    requires store { IsStoreOf below.table.now below.plans.now store.old }
+    ensures store { IfOk result (λ _. IsStoreOf below.entry.table.now below.entry.plans.now store.new) }
     ensures search { IfOk result (λ _. search.new ≡ None) }
 {
     let _ = below;
     let _ = trail;
     if let Some(search) = search.take() {
-        rooms.push(Box::into_inner(search).into_room())?;
+        Box::into_inner(search).give_back(store)?;
     }
     Ok(())
 }
@@ -98,47 +75,36 @@ fn next_item<'a>(
     }
 }
 
-// What the children take together by a way.
-fn args_by(table: &Table, rank: Rank, way: usize) -> Args<'_>
-    requires { HasRank table.now rank }
-    ensures terms { terms_at table.now (args_of result) ≡ taken_by (term_at table.now rank) way }
-    ensures ranks { HasRanks table.now (args_of result) }
-{
-    if way == 1 {
-        Args::Alone(rank)
-    } else {
-        Args::These(table.args(rank))
-    }
-}
-
 // The search of a way, before its first item.
 fn begin<'a>(
     alloc: Global,
     below: Below<'a>,
     way: usize,
-    rooms: &mut Vec<CommRoom>,
+    store: &mut CommStore,
     trail: &Trail,
 ) -> Result<CommSearch<'a>, Memory>
     requires below { IsBelow below }
     requires way { IsWayOf below way }
     requires trail { IsTrailOf below.table.now trail.now }
     requires spare { cost_of below ≤ trail.now.spare }
-    requires rooms { AllByRecursion (IsOfTable below.table.now) rooms.old.items }
+    requires store { IsStoreOf below.table.now below.plans.now store.old }
     ensures search { IfOk result (IsSearchOf below.entry trail.now) }
     ensures list { IfOk result (λ c. (s : Subst) → ahead c s ≡ items_by_way below.entry way s) }
-    ensures rooms { AllByRecursion (IsOfTable below.entry.table.now) rooms.new.items }
+    ensures store { IfOk result (λ _. IsStoreOf below.entry.table.now below.entry.plans.now store.new) }
 {
     let Below {
         sig,
+        plans,
+        prepared,
+        pattern,
         table,
-        plan,
         rank,
         ..
     } = below;
-    let args = args_by(table, rank, way);
-    let width = table.nodes(rank) as usize;
-    let room = take_room(alloc, table, rooms, plan.nodes(), width)?;
-    Ok(CommSearch::begin(room, sig, plan, table, args, way == 1, trail))
+    let alone = way == 1;
+    CommSearch::begin(
+        alloc, store, sig, plans, prepared, pattern, table, rank, alone, trail,
+    )
 }
 
 // Takes the next step below the application, which is bound over the trail of the mark: the next item of the search at
@@ -149,7 +115,7 @@ pub(crate) fn step_below<'a>(
     mark: Mark,
     next: &mut usize,
     search: &mut Option<Box<CommSearch<'a>>>,
-    rooms: &mut Vec<CommRoom>,
+    store: &mut CommStore,
     trail: &mut Trail,
 ) -> Result<bool, Memory>
     requires below { IsBelow below }
@@ -157,7 +123,7 @@ pub(crate) fn step_below<'a>(
     requires way { IsAtWay next.old (unboxed search.old) }
     requires above { IsAbove below (length_at mark) (cut (length_at mark) trail.old) trail.old }
     requires spare { cost_of below ≤ (cut (length_at mark) trail.old).spare }
-    requires rooms { AllByRecursion (IsOfTable below.table.now) rooms.old.items }
+    requires store { IsStoreOf below.table.now below.plans.now store.old }
     ensures step { IfOk result (λ found. IsStepBelow below.entry found (next.old, unboxed search.old)
         (next.new, unboxed search.new) (cut (length_at mark) trail.old) trail.new) }
     ensures next { IfOk result (λ found. IsTrue found → (1 ≤ next.new) × (next.new ≤ 2)) }
@@ -171,11 +137,11 @@ pub(crate) fn step_below<'a>(
         → f.left ≡ term_of below.entry ∷ drop 1 f.left → left_steps below.entry f gs next.new (unboxed search.new)
         (numbered_subst below.entry.table.now (cut (length_at mark) trail.old).stack) ≡ []) }
     ensures back { IfOk result (λ found. IsFalse found → trail.new ≡ cut (length_at mark) trail.old) }
-    ensures rooms { IfOk result (λ _. AllByRecursion (IsOfTable below.entry.table.now) rooms.new.items) }
+    ensures store { IfOk result (λ _. IsStoreOf below.entry.table.now below.entry.plans.now store.new) }
 {
     while !next_item(below, mark, search, trail) {
         trail.undo(mark);
-        give_back(below, search, rooms, trail)?;
+        give_back(below, search, store, trail)?;
         let Some(way) = first_way(
             below.sig,
             below.table,
@@ -186,7 +152,7 @@ pub(crate) fn step_below<'a>(
         ) else {
             return Ok(false);
         };
-        let begun = begin(alloc, below, way, rooms, trail)?;
+        let begun = begin(alloc, below, way, store, trail)?;
         *search = Some(Box::new(alloc, begun)?);
         *next = way + 1;
     }

@@ -1,10 +1,9 @@
 //! The course of a walk: the tokens that it has read, and what is to be tried next.
 ghost use Rattle.std.specs.Prelude.{◌≡◌, ℕ, [], ◌∷◌, Some, IfOk, MatchOption, MatchBool, if◌then◌else◌};
 ghost use Rattle.std.specs.Prelude.{◌≤◌, ◌<◌, length, IsTrue, IsSome};
-ghost use Rattle.std.specs.List.{AllByRecursion};
 ghost use Rattle.mp_term.specs.Size.{node_count};
 ghost use Rattle.mp_pattern.specs.Fits.{Table};
-ghost use Rattle.mp_ac.specs.CommRoom.{IsOfTable};
+ghost use Rattle.mp_ac.specs.Store.{IsStoreOf};
 ghost use Rattle.mp_walk.specs.CodeForest.{leaf, code_forest};
 ghost use Rattle.mp_walk.specs.Course.{Read};
 ghost use Rattle.mp_walk.specs.CourseView.{course_of, course_to_come, token_to_come, IsCourse, IsStanding, IsLeft};
@@ -27,7 +26,7 @@ use crate::opening::opened;
 use crate::reading::read;
 use crate::setting::Setting;
 use crate::steps::{is_other_symbol, is_spent, way_from};
-use mp_ac::CommRoom;
+use mp_ac::CommStore;
 use mp_pattern::{MAX_VARIABLES, NetToken};
 use mp_subst::Trail;
 use mp_table::Rank;
@@ -42,8 +41,8 @@ pub(crate) enum Turn {
     Ended,
 }
 
-// The allocator; what a walk goes by; the trail; the frames; the tokens that are read; the rooms that their searches
-// gave back; the place of the innermost open operation; and the instruction that is to be tried there.
+// The allocator; what a walk goes by; the trail; the frames; the tokens that are read; what their searches have in
+// common; the place of the innermost open operation; and the instruction that is to be tried there.
 #[derive(Drop)]
 pub(crate) struct Course<'a> {
     pub(crate) alloc: Global,
@@ -51,7 +50,7 @@ pub(crate) struct Course<'a> {
     pub(crate) trail: Trail,
     pub(crate) frames: Vec<Frame<'a>>,
     pub(crate) levels: Vec<Level<'a>>,
-    pub(crate) rooms: Vec<CommRoom>,
+    pub(crate) store: CommStore,
     pub(crate) place: Option<usize>,
     pub(crate) target: Option<u32>,
 }
@@ -90,7 +89,7 @@ impl<'a> Course<'a> {
             trail,
             frames,
             levels,
-            rooms: Vec::new(alloc),
+            store: CommStore::new(alloc),
             place: Some(0),
             target,
         })
@@ -112,7 +111,7 @@ impl<'a> Course<'a> {
     // Leaves a token behind, and goes on to what stands beside it.
     fn go_over(&mut self, level: &Level<'a>, instr: &Instr)
         requires left { IsLeft self.old level.now (plain_instr instr.now) }
-        requires rooms { AllByRecursion (IsOfTable self.old.set.table.now) self.old.rooms.items }
+        requires store { IsStoreOf self.old.set.table.now self.old.set.code.now.plans.plans self.old.store }
         ensures course { IsCourse self.new }
         ensures to_come { course_to_come self.new ≡ token_to_come self.old
             (read_of self.old.set.table.now self.old.frames.items self.old.trail level.now) }
@@ -127,7 +126,7 @@ impl<'a> Course<'a> {
     // Goes on below a token whose step is taken.
     fn go_down(&mut self, level: Level<'a>, instr: &Instr) -> Result<Turn, Memory>
         requires taken { (before : Read) × IsTaken self.old before level (plain_instr instr.now) }
-        requires rooms { AllByRecursion (IsOfTable self.old.set.table.now) self.old.rooms.items }
+        requires store { IsStoreOf self.old.set.table.now self.old.set.code.now.plans.plans self.old.store }
         ensures turn { IfOk result (λ turn. (before : Read)
             → IsTaken self.old before level.entry (plain_instr instr.now)
             → IsBroughtOn (token_to_come self.old before) turn self.new) }
@@ -155,7 +154,7 @@ impl<'a> Course<'a> {
     // Reads on a token that comes after the levels.
     fn read_on(&mut self, level: Level<'a>) -> Result<Turn, Memory>
         requires standing { IsStanding self.old level }
-        requires rooms { AllByRecursion (IsOfTable self.old.set.table.now) self.old.rooms.items }
+        requires store { IsStoreOf self.old.set.table.now self.old.set.code.now.plans.plans self.old.store }
         ensures turn { IfOk result (λ turn. IsBroughtOn (token_to_come self.old
             (read_of self.old.set.table.now self.old.frames.items self.old.trail level.entry)) turn self.new) }
         ensures less { IfOk result (IsFewer (course_visits self.new) (token_visits self.old
@@ -174,7 +173,7 @@ impl<'a> Course<'a> {
             &self.frames,
             instr,
             &mut level,
-            &mut self.rooms,
+            &mut self.store,
             &mut self.trail,
         )?;
         if found {
@@ -242,7 +241,7 @@ impl<'a> Course<'a> {
     // Reads on a token of which something is read.
     fn read_again(&mut self, level: Level<'a>) -> Result<Turn, Memory>
         requires standing { IsStanding self.old level }
-        requires rooms { AllByRecursion (IsOfTable self.old.set.table.now) self.old.rooms.items }
+        requires store { IsStoreOf self.old.set.table.now self.old.set.code.now.plans.plans self.old.store }
         ensures turn { IfOk result (λ turn. IsBroughtOn (token_to_come self.old
             (read_of self.old.set.table.now self.old.frames.items self.old.trail level.entry)) turn self.new) }
         ensures less { IfOk result (IsFewer (course_visits self.new) (token_visits self.old

@@ -4,7 +4,7 @@ ghost use Rattle.mp_term.specs.Signature.{Sig};
 ghost use Rattle.mp_pattern.specs.NetTokenView.{net_token};
 ghost use Rattle.mp_subst.specs.Trail.{Trail as plain_trail};
 ghost use Rattle.mp_table.specs.Table.{HasRanks};
-ghost use Rattle.mp_ac.specs.Search.{IsOver, item_table};
+ghost use Rattle.mp_ac.specs.Search.{IsOver, item_table, table_of};
 ghost use Rattle.mp_walk.specs.Course.{entries_by, entries_in, table_read};
 ghost use Rattle.mp_walk.specs.Entries.{entry_read, IsEntryAt};
 ghost use Rattle.mp_walk.specs.Levels.{AreLevels, HasSearch, read_of, search_of, trail_before};
@@ -49,7 +49,7 @@ fn own_entry<'t>(
 fn below_entry<'t>(search: &'t CommSearch<'_>, node: u32) -> Result<(&'t [Rank], bool), u32>
     requires { (u : plain_trail) × IsOver search.now u }
     ensures { MatchResult result
-        (λ e. IsEntryAt search.now.asked.table.now (item_table search.now) node (e.0.now, e.1))
+        (λ e. IsEntryAt (table_of search.now) (item_table search.now) node (e.0.now, e.1))
         (λ left. left + length (item_table search.now) ≡ node) }
 {
     if let Some(entry) = search.entry(node) {

@@ -8,7 +8,7 @@ ghost use Rattle.mp_pattern.specs.NetTokenView.{net_token};
 ghost use Rattle.mp_pattern.specs.View.{pattern_tree};
 ghost use Rattle.mp_table.specs.Table.{rank_of};
 ghost use Rattle.mp_subst.specs.Trail.{length_at};
-ghost use Rattle.mp_ac.specs.CommRoom.{IsOfTable};
+ghost use Rattle.mp_ac.specs.Store.{IsStoreOf};
 ghost use Rattle.mp_walk.specs.Below.{IsBelow, IsAtWay, pattern_of, term_of};
 ghost use Rattle.mp_walk.specs.CodeConstants.{token_constants};
 ghost use Rattle.mp_walk.specs.Course.{steps_left, IsStepTaken, IsWayValid};
@@ -21,7 +21,7 @@ ghost use Rattle.mp_walk.specs.OpenOnes.{IsPlaceBelow, AreFrames, opens};
 ghost use Rattle.mp_walk.specs.Setting.{IsSetting};
 ghost use Rattle.mp_walk.specs.SoundTokens.{IsSoundComm, IsSoundToken};
 ghost use Rattle.mp_walk.specs.TokenMachine.{Open};
-ghost use Rattle.mp_walk.specs.Trails.{numbered_subst, IsTrailOf, LiesOver};
+ghost use Rattle.mp_ac.specs.Numbered.{numbered_subst, IsTrailOf, LiesOver};
 
 use crate::comm::{Below, step_below};
 use crate::frame::Frame;
@@ -29,7 +29,7 @@ use crate::instr::Instr;
 use crate::level::Level;
 use crate::setting::Setting;
 use crate::steps::step;
-use mp_ac::CommRoom;
+use mp_ac::CommStore;
 use mp_pattern::{NetToken, Pattern, no_sequence};
 use mp_subst::Trail;
 use mp_term::Memory;
@@ -55,7 +55,8 @@ fn below<'a>(
         (λ b. IsBelow b × (pattern_of b ≡ pattern_tree pattern.now) × (b.sig.now ≡ set.entry.sig.now)
         × (b.table.now ≡ set.entry.table.now)
         × (innermost_left (opens set.entry.table.now frames.now level.now.place)
-        ≡ term_of b ∷ drop 1 (innermost_left (opens set.entry.table.now frames.now level.now.place)))) }
+        ≡ term_of b ∷ drop 1 (innermost_left (opens set.entry.table.now frames.now level.now.place)))
+        × (b.plans.now ≡ set.entry.code.now.plans.plans)) }
 {
     let Setting { sig, code, table } = set;
     let Some(place) = level.place else {
@@ -64,7 +65,7 @@ fn below<'a>(
     let Some(rank) = frames[place].first(table) else {
         return None;
     };
-    let Some(plan) = code.plan(level.instr) else {
+    let Some(prepared) = code.prepared(level.instr) else {
         unreachable!()
     };
     let Pattern::App(op, children) = pattern else {
@@ -73,7 +74,9 @@ fn below<'a>(
     Some(Below {
         sig,
         table,
-        plan,
+        plans: code.comm_plans(),
+        prepared,
+        pattern,
         op: *op,
         collapses: no_sequence(children.as_slice()),
         rank,
@@ -87,7 +90,7 @@ pub(crate) fn read<'a>(
     frames: &[Frame<'_>],
     instr: &'a Instr,
     level: &mut Level<'a>,
-    rooms: &mut Vec<CommRoom>,
+    store: &mut CommStore,
     trail: &mut Trail,
 ) -> Result<bool, Memory>
     requires setting { IsSetting set }
@@ -106,8 +109,8 @@ pub(crate) fn read<'a>(
     requires search { HasSearch set.table.now (net_token instr.now.token)
         (opens set.table.now frames.now level.old.place) (trail_before trail.old level.old) (search_of level.old) }
     requires way { IsAtWay level.old.next (search_of level.old) }
-    requires rooms { AllByRecursion (IsOfTable set.table.now) rooms.old.items }
-    ensures rooms { IfOk result (λ _. AllByRecursion (IsOfTable set.entry.table.now) rooms.new.items) }
+    requires store { IsStoreOf set.table.now set.code.now.plans.plans store.old }
+    ensures store { IfOk result (λ _. IsStoreOf set.entry.table.now set.entry.code.now.plans.plans store.new) }
     ensures way { IfOk result (λ _. IsAtWay level.new.next (search_of level.new)) }
     ensures same { IfOk result (λ _. AreOfOneToken level.old level.new) }
     ensures step { IfOk result (λ found. MatchBool found
@@ -144,7 +147,7 @@ pub(crate) fn read<'a>(
         level.mark,
         &mut level.next,
         &mut level.search,
-        rooms,
+        store,
         trail,
     )
 }

@@ -16,7 +16,8 @@ ghost use Rattle.mp_walk.specs.Levels.{read_of, search_of, trail_before, AreOfOn
 ghost use Rattle.mp_walk.specs.OpenOnes.{IsFrame, IsPlaceBelow, AreFrames, above, open_of, opens};
 ghost use Rattle.mp_walk.specs.SoundTokens.{IsSoundToken};
 ghost use Rattle.mp_walk.specs.TokenMachine.{Open};
-ghost use Rattle.mp_walk.specs.Trails.{numbered_subst, shape_of, IsTrailOf, LiesOver, HoldsDefault};
+ghost use Rattle.mp_ac.specs.Numbered.{numbered_subst, IsTrailOf, LiesOver};
+ghost use Rattle.mp_walk.specs.Trails.{shape_of, HoldsDefault};
 ghost use Rattle.mp_walk.specs.Ways.{HasNoWay, IsFirstWay, way_among, is_first_symbol};
 
 use crate::frame::Frame;

@@ -2,7 +2,7 @@ use Rattle.std.proofs.Common.{ap, arith}
 use Rattle.mp_pattern.specs.PatternTree.{patterns}
 use Rattle.mp_pattern.specs.Size.{pattern_nodes, all_pattern_nodes}
 use Rattle.mp_pattern.specs.View.{pattern_tree}
-use Rattle.mp_line.proofs.CommLaws.{item-nodes}
+use Rattle.mp_walk.proofs.RoomLaws.{item-nodes}
 use Rattle.mp_vm.proofs.above.+pattern_nodes.Goals as goal
 
 pub pattern_nodes-requires : goal.pattern_nodes-requires

@@ -12,7 +12,7 @@ pub loop-instr-init : goal.loop-instr-init
 loop-instr-init c = record {
   sound = c.requires;
   planned = none-planned c.args.sig.now (record { numbers = c.in_ok-numbers.numbers; plans = c.new.result })
-      c.in_ok-numbers.ensures.items;
+      c.in_ok-numbers.ensures.items (c.new.ensures.plans c.args.sig.now);
 }
 
 pub loop-instr-preserved : goal.loop-instr-preserved

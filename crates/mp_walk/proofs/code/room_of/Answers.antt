@@ -17,28 +17,20 @@ instr-before code n i h e =
     let back : suc (n - 1) ≡ n = omega (arith, h) in
     subst (λ m. instr_at code m ≡ Some i) back e
 
-pub token_room-requires-clause-narrow : goal.token_room-requires-clause-narrow
-token_room-requires-clause-narrow c =
+pub token_room-requires : goal.token_room-requires
+token_room-requires c =
     let held = instr-before c.args.instrs.now c.loop-left.left (plain_instr c.in-Some.instr.now) c.loop-left-test.true
     (c.get.ensures ∙ ap (option_map (λ j. plain_instr j.now)) c.in-Some.is) in
-    let h = path-narrow c.args.sig.now c.args.instrs.now c.requires.walkable c.loop-left.left
+    let h = path-narrow c.args.sig.now c.args.instrs.now c.requires c.loop-left.left
     (plain_instr c.in-Some.instr.now) held in
     omega (arith, h)
-
-pub token_room-requires-clause-planned : goal.token_room-requires-clause-planned
-token_room-requires-clause-planned c =
-    let held = instr-before c.args.instrs.now c.loop-left.left (plain_instr c.in-Some.instr.now) c.loop-left-test.true
-    (c.get.ensures ∙ ap (option_map (λ j. plain_instr j.now)) c.in-Some.is) in (
-      c.args.sig.now,
-      c.requires.planned.planned c.loop-left.left (plain_instr c.in-Some.instr.now) held,
-    )
 
 pub room_at-requires : goal.room_at-requires
 room_at-requires c =
     let held = instr-before c.args.instrs.now c.loop-left.left (plain_instr c.in-Some.instr.now) c.loop-left-test.true
     (c.get.ensures ∙ ap (option_map (λ j. plain_instr j.now)) c.in-Some.is) in
     let i = plain_instr c.in-Some.instr.now in
-    target-within c.args.instrs.now c.requires.walkable.forward c.loop-left.left i held c.deref.result.now
+    target-within c.args.instrs.now c.requires.forward c.loop-left.left i held c.deref.result.now
     (ap length c.deref.ensures.value ∙ c.loop-left.invariant.count) i.down (λ t e. down-target i t e)
 
 pub overflow_add-below : goal.overflow_add-below
@@ -46,7 +38,7 @@ overflow_add-below c =
     let held = instr-before c.args.instrs.now c.loop-left.left (plain_instr c.in-Some.instr.now) c.loop-left-test.true
     (c.get.ensures ∙ ap (option_map (λ j. plain_instr j.now)) c.in-Some.is) in
     let code = c.args.instrs.now in
-    let forward = c.requires.walkable.forward in
+    let forward = c.requires.forward in
     let n = c.loop-left.left in
     let i = plain_instr c.in-Some.instr.now in
     let own = c.token_room.ensures in
@@ -54,7 +46,7 @@ overflow_add-below c =
     ∙ target-known code forward n i held c.loop-left.rooms.items c.loop-left.invariant.known i.down
     (λ t e. down-target i t e) in
     let below = below-room code forward n i held in
-    let few = few-room c.args.sig.now code c.requires.walkable n i held in
+    let few = few-room c.args.sig.now code c.requires n i held in
     omega (arith, own, down, below, few)
 
 pub room_at-requires-in-loop-left : goal.room_at-requires-in-loop-left
@@ -62,7 +54,7 @@ room_at-requires-in-loop-left c =
     let held = instr-before c.args.instrs.now c.loop-left.left (plain_instr c.in-Some.instr.now) c.loop-left-test.true
     (c.get.ensures ∙ ap (option_map (λ j. plain_instr j.now)) c.in-Some.is) in
     let i = plain_instr c.in-Some.instr.now in
-    target-within c.args.instrs.now c.requires.walkable.forward c.loop-left.left i held
+    target-within c.args.instrs.now c.requires.forward c.loop-left.left i held
     c.deref-in-loop-left.result.now (ap length c.deref-in-loop-left.ensures.value ∙ c.loop-left.invariant.count) i.over
     (λ t e. over-target i t e)
 
@@ -71,7 +63,7 @@ loop-left-preserved c =
     let held = instr-before c.args.instrs.now c.loop-left.left (plain_instr c.in-Some.instr.now) c.loop-left-test.true
     (c.get.ensures ∙ ap (option_map (λ j. plain_instr j.now)) c.in-Some.is) in
     let code = c.args.instrs.now in
-    let forward = c.requires.walkable.forward in
+    let forward = c.requires.forward in
     let n = c.loop-left.left in
     let rooms = c.loop-left.rooms.items in
     let inv = c.loop-left.invariant in

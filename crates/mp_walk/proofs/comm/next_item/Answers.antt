@@ -1,12 +1,29 @@
-use Rattle.std.proofs.Common.{◌≡◌, ◌∙◌, length, ap, sym, subst}
+use Rattle.std.proofs.Common.{◌≡◌, ◌∙◌, length, ap, sym, subst, Bool, true, false}
 use Rattle.std.specs.Prelude.{[], drop, slice_get, MatchBool, Some}
 use Rattle.std.proofs.lemmas.List.{length-take-le}
-use Rattle.mp_subst.specs.Trail.{cut, length_at}
-use Rattle.mp_search.specs.At.{BindsOnly}
-use Rattle.mp_ac.specs.Search.{ahead, item_table, mark_of, read_by}
+use Rattle.mp_pattern.specs.Value.{Subst}
+use Rattle.mp_table.specs.Table.{Table}
+use Rattle.mp_subst.specs.Trail.{Trail, cut, length_at}
+use Rattle.mp_ac.specs.CommItems.{SameValues}
+use Rattle.mp_ac.specs.Numbered.{numbered_subst}
+use Rattle.mp_ac.specs.Search.{ahead, item_table, mark_of, table_of}
+use Rattle.mp_ac.specs.declared.search.CommSearch.{CommSearch}
 use Rattle.mp_walk.specs.Below.{IsNextItem, IsSearch, IsSearchOf, unboxed}
-use Rattle.mp_walk.proofs.BelowLaws.{item-next}
 use Rattle.mp_walk.proofs.comm.next_item.Goals as goal
+
+-- what the search says of its next item, over the same trail and table
+next-found : (c d : CommSearch) (u v w : Trail) (t x : Table) (found : Bool) → w ≡ u → x ≡ t
+    → (let s = numbered_subst x w.stack in
+    MatchBool found
+    (((r : Subst) × (slice_get (ahead c s) 0 ≡ Some (item_table d, r)) × SameValues r (numbered_subst x v.stack))
+    × (ahead d s ≡ drop 1 (ahead c s)))
+    ((ahead c s ≡ []) × (v ≡ w)))
+    → IsNextItem found (Some c) (Some d) u v t
+next-found c d u v w t x true e f h =
+    subst (λ y. IsNextItem true (Some c) (Some d) y v t) e (subst (λ y. IsNextItem true (Some c) (Some d) w v y) f h)
+next-found c d u v w t x false e f h =
+    subst (λ y. IsNextItem false (Some c) (Some d) y v t) e
+    (subst (λ y. IsNextItem false (Some c) (Some d) w v y) f h.0)
 
 pub returns-in-Some-clause-found : goal.returns-in-Some-clause-found
 returns-in-Some-clause-found c =
@@ -20,16 +37,9 @@ returns-in-Some-clause-found c =
     let long : length u.stack ≡ m = length-take-le m t.stack c.requires.above.long in
     let mark : mark_of k ≡ m = h.mark ∙ long in
     let same : cut (mark_of k) t ≡ u = ap (λ n. cut n t) mark in
-    let kept : cut (length u.stack) c.next.new.trail ≡ u =
-    ap (λ n. cut n c.next.new.trail) (sym h.mark) ∙ c.next.ensures.kept ∙ same in
     subst (λ o. IsNextItem c.next.result (unboxed o) (Some c.next.new.self) u c.next.new.trail b.table.now)
     (sym c.in-Some.is)
     (subst (λ x. IsNextItem c.next.result (Some x) (Some c.next.new.self) u c.next.new.trail b.table.now)
     c.deref_mut.ensures.value
-    (item-next b u c.next.new.trail k c.next.new.self c.next.result h c.next.ensures.asked.0 c.next.ensures.asked.1
-    c.next.ensures.stage
-    (subst (λ w. MatchBool c.next.result
-    ((slice_get (ahead k (read_by k w)) 0 ≡ Some (item_table c.next.new.self, read_by c.next.new.self c.next.new.trail))
-    × (ahead c.next.new.self (read_by k w) ≡ drop 1 (ahead k (read_by k w))))
-    ((ahead k (read_by k w) ≡ []) × (c.next.new.trail ≡ w))) same c.next.ensures.found) kept
-    (subst (λ w. BindsOnly k.asked.vars.now w c.next.new.trail) same c.next.ensures.only)))
+    (next-found k c.next.new.self u c.next.new.trail (cut (mark_of k) t) b.table.now (table_of k) c.next.result same
+    h.table c.next.ensures.found))

@@ -4,7 +4,7 @@ use Rattle.mp_subst.specs.Trail.{Trail, cut, length_at}
 use Rattle.mp_subst.proofs.TrailLaws.{cut-cut}
 use Rattle.mp_ac.specs.Search.{ahead}
 use Rattle.mp_walk.specs.Below.{IsSearchOf, below_ahead, unboxed}
-use Rattle.mp_walk.specs.Trails.{numbered_subst}
+use Rattle.mp_ac.specs.Numbered.{numbered_subst}
 use Rattle.mp_walk.proofs.BelowLaws as laws
 use Rattle.mp_walk.proofs.comm.step_below.Goals as goal
 
@@ -81,5 +81,5 @@ loop-alloc-preserved c =
           vars = ap (λ (w : Trail). w.vars) back ∙ c.requires.above.trail.vars;
         };
       };
-      rooms = c.in_ok-begun.ensures.rooms;
+      store = c.in_ok-begun.ensures.store;
     }

@@ -1,10 +1,9 @@
 use Rattle.std.proofs.Common.{◌≡◌, ◌-◌, ◌∷◌, List, drop}
-use Rattle.std.specs.List.{AllByRecursion}
 use Rattle.mp_subst.specs.Trail.{cut, length_at}
-use Rattle.mp_ac.specs.CommRoom.{IsOfTable}
+use Rattle.mp_ac.specs.Store.{IsStoreOf}
 use Rattle.mp_walk.specs.Below.{IsAbove, IsAtWay, IsSearch, left_steps, term_of, unboxed}
 use Rattle.mp_walk.specs.TokenMachine.{Open}
-use Rattle.mp_walk.specs.Trails.{numbered_subst}
+use Rattle.mp_ac.specs.Numbered.{numbered_subst}
 use Rattle.mp_walk.proofs.comm.step_below.Given as goal
 
 abbrev pub invariant-loop-alloc : goal.invariant-loop-alloc
@@ -17,7 +16,7 @@ invariant-loop-alloc l = record {
   search : IsSearch l.below (cut (length_at l.mark) l.initial.trail) (unboxed l.search);
   way : IsAtWay l.next (unboxed l.search);
   above : IsAbove l.below (length_at l.mark) (cut (length_at l.mark) l.initial.trail) l.trail;
-  rooms : AllByRecursion (IsOfTable l.below.table.now) l.rooms.items;
+  store : IsStoreOf l.below.table.now l.below.plans.now l.store;
 }
 
 abbrev pub decreases-loop-alloc : goal.decreases-loop-alloc

@@ -1,6 +1,7 @@
 use Rattle.std.proofs.Common.{◌≡◌, ◌<◌, ◌-◌, ◌∙◌, ◌∷◌, ◌++◌, [], length, ap, sym, subst, arith}
 use Rattle.std.specs.Prelude.{Some, slice_get}
 use Rattle.mp_pattern.specs.NetTokenView.{net_token}
+use Rattle.mp_ac.specs.Search.{table_of}
 use Rattle.mp_walk.specs.Below.{below_table, unboxed}
 use Rattle.mp_walk.specs.Course.{entries_by}
 use Rattle.mp_walk.specs.Entries.{entry_read}
@@ -106,7 +107,7 @@ returns-in-Some-search c = λ u.
     (subst (λ o. HasSearchIn t k (innermost_left (opens t fs l.place)) v (unboxed o)) c.in-Some-search.is
     c.requires.search.1))).1 in
     let more = c.if-node-eq0.false in
-    entry-below c.below_entry.result (λ e. (e.0.now, e.1)) c.deref.result.now.asked.table.now t
+    entry-below c.below_entry.result (λ e. (e.0.now, e.1)) (table_of c.deref.result.now) t
     (below_table (Some c.deref.result.now)) _ d c.args.node (c.args.node - 1) table same
     (omega (arith, more))
     c.below_entry.ensures

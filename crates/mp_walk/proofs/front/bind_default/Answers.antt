@@ -7,7 +7,7 @@ use Rattle.mp_term.specs.Tree.{Tree, symbol}
 use Rattle.mp_table.specs.Table.{rank_of, term_at, terms_at}
 use Rattle.mp_theory.specs.Solve.{bind}
 use Rattle.mp_search.proofs.GroundLaws.{ground-term}
-use Rattle.mp_walk.specs.Trails.{numbered_subst}
+use Rattle.mp_ac.specs.Numbered.{numbered_subst}
 use Rattle.mp_walk.proofs.front.bind_default.Goals as goal
 
 abbrev option_or : Option Tree → Tree → Tree

@@ -1,5 +1,5 @@
 use Rattle.mp_subst.specs.Bound.{bound_of, value_in}
-use Rattle.mp_walk.proofs.TrailLaws.{bind-numbered}
+use Rattle.mp_ac.proofs.NumberedLaws.{bind-numbered}
 use Rattle.mp_walk.proofs.front.bind_value.Goals as goal
 
 pub returns-clause-bound : goal.returns-clause-bound

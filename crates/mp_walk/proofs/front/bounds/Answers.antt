@@ -4,7 +4,8 @@ use Rattle.std.proofs.lemmas.List.{length-map, length-take-le}
 use Rattle.mp_table.specs.Table.{term_at}
 use Rattle.mp_pattern.specs.NetTokenView.{net_token}
 use Rattle.mp_walk.specs.OpenOnes.{open_of}
-use Rattle.mp_walk.specs.Trails.{numbered_subst, shape_of, number_of}
+use Rattle.mp_ac.specs.Numbered.{numbered_subst}
+use Rattle.mp_walk.specs.Trails.{shape_of, number_of}
 use Rattle.mp_walk.specs.Ways.{way_steps}
 use Rattle.mp_walk.proofs.ListLaws.{below_or_not, take-short}
 use Rattle.mp_walk.proofs.WayLaws.{wild-clash, wild-beyond, too-few, too-many}

@@ -4,9 +4,10 @@ use Rattle.mp_pattern.specs.NetTokenView.{net_token}
 use Rattle.mp_theory.specs.Solve.{given}
 use Rattle.mp_walk.specs.OpenOnes.{above, open_of}
 use Rattle.mp_walk.specs.TokenMachine.{rest_of_open, numbered_wildcard}
-use Rattle.mp_walk.specs.Trails.{numbered_subst, shape_of, number_of, told_by}
+use Rattle.mp_ac.specs.Numbered.{numbered_subst}
+use Rattle.mp_walk.specs.Trails.{shape_of, number_of, told_by}
 use Rattle.mp_walk.specs.Ways.{front_entry, way_steps}
-use Rattle.mp_walk.proofs.TrailLaws.{lies-same}
+use Rattle.mp_ac.proofs.NumberedLaws.{lies-same}
 use Rattle.mp_walk.proofs.WayLaws.{front-terms, wild-none, wild-outcome}
 use Rattle.mp_walk.proofs.front.take_exactly.Goals as goal
 

@@ -6,7 +6,8 @@ use Rattle.std.proofs.lemmas.Bool.Decides.{nat_tests}
 use Rattle.mp_pattern.specs.NetTokenView.{net_token}
 use Rattle.mp_walk.specs.OpenOnes.{open_of}
 use Rattle.mp_walk.specs.TokenMachine.{rest_of_open, numbered_wildcard}
-use Rattle.mp_walk.specs.Trails.{numbered_subst, shape_of, number_of}
+use Rattle.mp_ac.specs.Numbered.{numbered_subst}
+use Rattle.mp_walk.specs.Trails.{shape_of, number_of}
 use Rattle.mp_walk.specs.Ways.{front_entry, way_steps}
 use Rattle.mp_walk.proofs.ListLaws.{below_or_at, below_or_not}
 use Rattle.mp_walk.proofs.WayLaws.{wild-plain}

@@ -2,7 +2,7 @@ use Rattle.std.proofs.Common.{◌≡◌, ◌≤◌, ◌<◌, ◌-◌, ◌+◌, �
 use Rattle.mp_pattern.specs.NetTokenView.{net_token}
 use Rattle.mp_walk.specs.OpenOnes.{open_of}
 use Rattle.mp_walk.specs.TokenMachine.{Open}
-use Rattle.mp_walk.specs.Trails.{numbered_subst}
+use Rattle.mp_ac.specs.Numbered.{numbered_subst}
 use Rattle.mp_walk.specs.Ways.{way_steps}
 use Rattle.mp_walk.proofs.front.take_front.Given as goal
 

@@ -4,7 +4,8 @@ use Rattle.mp_pattern.specs.NetTokenView.{net_token}
 use Rattle.mp_pattern.specs.Value.{seq_form}
 use Rattle.mp_subst.specs.Bound.{bound_of}
 use Rattle.mp_walk.specs.SoundTokens.{IsVariableNumber}
-use Rattle.mp_walk.specs.Trails.{numbered_subst, shape_of, number_of, told_by}
+use Rattle.mp_ac.specs.Numbered.{numbered_subst}
+use Rattle.mp_walk.specs.Trails.{shape_of, number_of, told_by}
 use Rattle.mp_walk.proofs.TrailLaws.{told_by-other_length}
 use Rattle.mp_walk.proofs.front.value_length.Goals as goal
 

@@ -6,7 +6,7 @@ use Rattle.mp_pattern.specs.NetTokenView.{net_token}
 use Rattle.mp_pattern.specs.View.{pattern_tree}
 use Rattle.mp_table.specs.Table.{rank_of}
 use Rattle.mp_subst.specs.Trail.{Trail, length_at}
-use Rattle.mp_ac.specs.CommRoom.{IsOfTable}
+use Rattle.mp_ac.specs.Store.{IsStoreOf}
 use Rattle.mp_walk.specs.declared.level.Level.{Level}
 use Rattle.mp_walk.specs.Below.{below_ahead, unboxed}
 use Rattle.mp_walk.specs.CodeConstants.{token_constants}
@@ -16,12 +16,12 @@ use Rattle.mp_walk.specs.Levels.{search_of}
 use Rattle.mp_walk.specs.Levels.{read_of, state_of, trail_before, search_cost, step_cost, innermost_left, HasSearch}
 use Rattle.mp_walk.specs.OpenOnes.{opens}
 use Rattle.mp_walk.specs.SoundTokens.{IsSoundToken}
-use Rattle.mp_walk.specs.Trails.{numbered_subst, IsTrailOf, LiesOver}
+use Rattle.mp_ac.specs.Numbered.{numbered_subst, IsTrailOf, LiesOver}
 use Rattle.mp_walk.proofs.ReadOnLaws.{default-held}
 use Rattle.mp_walk.proofs.ReadingLaws.{single-token, single-search, none-search, step-ended, lies-step, none-searched}
 use Rattle.mp_walk.proofs.ReadingLaws.{none-left, search-of, search-kept, cost-same, below-step, below-valid}
 use Rattle.mp_walk.proofs.ReadingLaws.{below-lies, ok-both}
-use Rattle.mp_walk.proofs.TrailLaws.{lies-same}
+use Rattle.mp_ac.proofs.NumberedLaws.{lies-same}
 use Rattle.mp_walk.proofs.reading.read.Goals as goal
 
 -- ---- a token that isn't that of a commutative application
@@ -134,15 +134,18 @@ step_below-requires-clause-spare c =
     let same = cost-same c.in-Some.below _ (innermost_left os) (drop 1 (innermost_left os)) h.1 h.4 in
     omega (arith, cost, same)
 
-pub step_below-requires-clause-rooms : goal.step_below-requires-clause-rooms
-step_below-requires-clause-rooms c =
-    subst (λ z. AllByRecursion (IsOfTable z) c.args.rooms.now.items) (sym c.in-Some.ensures.3) c.requires.rooms
+pub step_below-requires-clause-store : goal.step_below-requires-clause-store
+step_below-requires-clause-store c =
+    let h = c.in-Some.ensures in
+    subst (λ z. IsStoreOf c.in-Some.below.table.now z c.args.store.now) (sym h.5)
+    (subst (λ z. IsStoreOf z c.args.set.code.now.plans.plans c.args.store.now) (sym h.3) c.requires.store)
 
-pub returns-clause-rooms : goal.returns-clause-rooms
-returns-clause-rooms c =
+pub returns-clause-store : goal.returns-clause-store
+returns-clause-store c =
+    let h = c.in-Some.ensures in
     IfOk-weaker c.step_below.result _ _
-    (λ found e. subst (λ z. AllByRecursion (IsOfTable z) c.step_below.new.rooms.items)
-    c.in-Some.ensures.3 e) c.step_below.ensures.rooms
+    (λ found e. subst (λ z. IsStoreOf z c.args.set.code.now.plans.plans c.step_below.new.store) h.3
+    (subst (λ z. IsStoreOf c.in-Some.below.table.now z c.step_below.new.store) h.5 e)) c.step_below.ensures.store
 
 pub returns-clause-step : goal.returns-clause-step
 returns-clause-step c =

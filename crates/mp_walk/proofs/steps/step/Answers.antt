@@ -7,10 +7,10 @@ use Rattle.mp_walk.specs.Below.{below_table, below_ahead}
 use Rattle.mp_walk.specs.Levels.{read_of, state_of, trail_before}
 use Rattle.mp_walk.specs.OpenOnes.{IsPlaceBelow, opens, open_of}
 use Rattle.mp_walk.specs.TokenMachine.{Open}
-use Rattle.mp_walk.specs.Trails.{numbered_subst, IsTrailOf, LiesOver}
+use Rattle.mp_ac.specs.Numbered.{numbered_subst, IsTrailOf, LiesOver}
 use Rattle.mp_walk.specs.Ways.{HasNoWay, IsFirstWay}
 use Rattle.mp_walk.proofs.StepLaws.{step-none, step-taken, frame_at, frame-there, opens-there}
-use Rattle.mp_walk.proofs.TrailLaws.{lies-same}
+use Rattle.mp_ac.proofs.NumberedLaws.{lies-same}
 use Rattle.mp_walk.proofs.steps.step.Goals as goal
 
 pub way_from-requires-clause-frame : goal.way_from-requires-clause-frame

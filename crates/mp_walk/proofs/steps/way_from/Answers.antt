@@ -5,10 +5,11 @@ use Rattle.mp_subst.specs.Trail.{Trail}
 use Rattle.mp_table.specs.Table.{Table}
 use Rattle.mp_walk.specs.Course.{entries_by, opens_by, way_cost}
 use Rattle.mp_walk.specs.OpenOnes.{open_of}
-use Rattle.mp_walk.specs.Trails.{numbered_subst, shape_of, number_of, IsTrailOf, LiesOver}
+use Rattle.mp_ac.specs.Numbered.{numbered_subst, IsTrailOf, LiesOver}
+use Rattle.mp_walk.specs.Trails.{shape_of, number_of}
 use Rattle.mp_walk.specs.Ways.{HasNoWay, IsFirstWay}
 use Rattle.mp_walk.proofs.StepLaws.{wild-way, wild-valid, wild-cost}
-use Rattle.mp_walk.proofs.TrailLaws.{lies-same}
+use Rattle.mp_ac.proofs.NumberedLaws.{lies-same}
 use Rattle.mp_walk.proofs.steps.way_from.Goals as goal
 
 pub returns-in-Enter-clause-way : goal.returns-in-Enter-clause-way

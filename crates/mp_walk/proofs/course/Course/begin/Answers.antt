@@ -2,11 +2,9 @@ use Rattle.std.proofs.Common.{◌≡◌, ◌<◌, ℕ, List, [], ◌∷◌, ◌+
 use Rattle.std.proofs.Common.{subst}
 use Rattle.std.proofs.Common.{arith}
 use Rattle.std.specs.Prelude.{Some}
-use Rattle.std.specs.List.{AllByRecursion}
 use Rattle.std.proofs.lemmas.List.{append-nil}
 use Rattle.mp_term.specs.Size.{node_count}
 use Rattle.mp_table.specs.Table.{term_at}
-use Rattle.mp_ac.specs.CommRoom.{IsOfTable}
 use Rattle.mp_walk.specs.declared.frame.Frame.{Frame}
 use Rattle.mp_walk.specs.CourseView.{AreChained, LeadsTo}
 use Rattle.mp_walk.specs.Course.{table_read, reads_to_come, walk_from}
@@ -14,7 +12,7 @@ use Rattle.mp_walk.specs.Levels.{read_of, state_of, HasRoom, AreLevels}
 use Rattle.mp_walk.specs.OpenOnes.{AreFrames}
 use Rattle.mp_walk.specs.Rooms.{target_room}
 use Rattle.mp_walk.specs.TokenMachine.{begin_state}
-use Rattle.mp_walk.specs.Trails.{IsTrailOf}
+use Rattle.mp_ac.specs.Numbered.{IsTrailOf}
 use Rattle.mp_walk.specs.WalkView.{subject_of}
 use Rattle.mp_walk.proofs.BeginLaws.{begin-frames, begin-state, begin-there, begin-first}
 use Rattle.mp_walk.proofs.BeginLaws.{begin-walk}
@@ -81,7 +79,7 @@ returns-clause-course c =
       });
       levels = subst (λ ls. AreLevels x c.push.new.self.items c.in_ok-trail.trail ls
           (length c.push.new.self.items) (length c.in_ok-trail.trail.stack)) (sym c.in_ok-levels.ensures.items) tt;
-      rooms = subst (AllByRecursion (IsOfTable t)) (sym c.new-2.ensures.items) tt;
+      store = c.new-2.ensures t x.code.now.plans.plans;
       there = begin-there x.code.now.instrs o c.first_target-target.ensures;
       room = subst (λ s. HasRoom (target_room x.code.now.instrs o) s.open_ones c.in_ok-trail.trail) (sym state)
           (subst (HasRoom (target_room x.code.now.instrs o) (begin_state (subject_of t)).open_ones)

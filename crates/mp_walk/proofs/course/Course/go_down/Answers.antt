@@ -51,7 +51,7 @@ accepts-requires c =
     let known = (goal.at.accepts-requires c).In_ok-push in
     down-course c.requires.taken.1 c.in-Some.is _ c.opened-self.new.frames _ (made known) (opened known)
     c.opened-self.ensures.place c.opened-self.ensures.frames c.push.new.self c.in_ok-push.ensures.items
-    c.args.self.now.alloc c.args.self.now.rooms c.requires.rooms
+    c.args.self.now.alloc c.args.self.now.store c.requires.store
 
 pub returns-then-accepts-clause-turn : goal.returns-then-accepts-clause-turn
 returns-then-accepts-clause-turn c = λ before T.
@@ -60,7 +60,7 @@ returns-then-accepts-clause-turn c = λ before T.
       (
         down-course T c.in-Some.is _ c.opened-self.new.frames _ (made known) (opened known)
             c.opened-self.ensures.place c.opened-self.ensures.frames c.push.new.self c.in_ok-push.ensures.items
-            c.args.self.now.alloc c.args.self.now.rooms c.requires.rooms,
+            c.args.self.now.alloc c.args.self.now.store c.requires.store,
         put-ends c.args.self.now.set.sig.now n c.args.instr.now.accepts
             (state_of c.args.self.now.set.table.now c.opened-self.new.frames.items c.opened-self.result
             c.args.self.now.trail) []
@@ -75,7 +75,7 @@ returns-else-accepts-clause-turn c = λ before T.
     let known = (goal.at.returns-else-accepts-clause-turn c).In_ok-push in (
       down-course T c.in-Some.is _ c.opened-self.new.frames _ (made known) (opened known)
           c.opened-self.ensures.place c.opened-self.ensures.frames c.push.new.self c.in_ok-push.ensures.items
-          c.args.self.now.alloc c.args.self.now.rooms c.requires.rooms,
+          c.args.self.now.alloc c.args.self.now.store c.requires.store,
       down-on T c.in-Some.is _ _ _ (made known) (opened known) c.push.new.self.items c.in_ok-push.ensures.items
           (λ n b. c.accepts.ensures n b ∙ ap (λ r. if r then (n, b) ∷ [] else []) c.if-accepts.false),
     )

@@ -5,7 +5,7 @@ use Rattle.mp_walk.specs.CourseVisits.{course_visits, visits_behind}
 use Rattle.mp_walk.specs.InstrView.{plain_instr}
 use Rattle.mp_walk.specs.Levels.{read_of, trail_before, search_of}
 use Rattle.mp_walk.specs.OpenOnes.{IsPlaceBelow, AreFrames, opens}
-use Rattle.mp_walk.specs.Trails.{IsTrailOf}
+use Rattle.mp_ac.specs.Numbered.{IsTrailOf}
 use Rattle.mp_walk.proofs.LevelLaws.{below-more}
 use Rattle.mp_walk.proofs.ReadingLaws.{single-search}
 use Rattle.mp_walk.proofs.SpentLaws.{IsSpentIn, spent-left, spent-to_come, spent-visits}

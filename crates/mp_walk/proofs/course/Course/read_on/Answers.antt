@@ -13,7 +13,7 @@ use Rattle.mp_walk.specs.Instrs.{Instr, instr_at}
 use Rattle.mp_walk.specs.InstrView.{plain_instr}
 use Rattle.mp_walk.specs.Levels.{read_of, trail_before, step_cost, search_cost, innermost_left, HasSearch, search_of}
 use Rattle.mp_walk.specs.OpenOnes.{AreFrames, IsPlaceBelow, opens}
-use Rattle.mp_walk.specs.Trails.{numbered_subst, IsTrailOf, LiesOver}
+use Rattle.mp_ac.specs.Numbered.{numbered_subst, IsTrailOf, LiesOver}
 use Rattle.mp_walk.proofs.StandingLaws.{sound, constants, front-frames, front-place, front-search, search-spare, spare}
 use Rattle.mp_walk.specs.CourseVisits.{course_visits, read_visits, visits_behind}
 use Rattle.mp_walk.specs.Visits.{total}
@@ -174,11 +174,11 @@ go_down-requires-clause-taken c =
     let known = (goal.at.go_down-requires-clause-taken c).In_ok-found in
     (before known, is_taken known c.if-found.true)
 
-pub go_down-requires-clause-rooms : goal.go_down-requires-clause-rooms
-go_down-requires-clause-rooms c = c.in_ok-found.ensures.rooms
+pub go_down-requires-clause-store : goal.go_down-requires-clause-store
+go_down-requires-clause-store c = c.in_ok-found.ensures.store
 
-pub go_over-requires-clause-rooms : goal.go_over-requires-clause-rooms
-go_over-requires-clause-rooms c = c.in_ok-found.ensures.rooms
+pub go_over-requires-clause-store : goal.go_over-requires-clause-store
+go_over-requires-clause-store c = c.in_ok-found.ensures.store
 
 pub returns-then-found-clause-turn : goal.returns-then-found-clause-turn
 returns-then-found-clause-turn c =
