@@ -1,20 +1,23 @@
 //! Normal forms of patterns.
-ghost use Rattle.std.specs.Prelude.{◌≡◌, ◌++◌, map, OnOk, IfOk, true};
-ghost use Rattle.mp_term.specs.Sorting.{sorted};
+ghost use Rattle.std.specs.Prelude.{◌≡◌, ◌++◌, map, OnOk, IfOk, MatchOption, true};
+ghost use Rattle.mp_pattern.specs.PatternTree.{app_pattern, patterns};
 ghost use Rattle.mp_pattern.specs.View.{pattern_tree};
-ghost use Rattle.mp_pattern.specs.Order.{pattern_cmp};
-ghost use Rattle.mp_pattern.specs.Normal.{is_loose, is_collapsible, parts, collapsed, normal_pattern};
+ghost use Rattle.mp_pattern.specs.Normal.{is_loose, is_collapsible, parts, flattened, in_order, collapsed};
+ghost use Rattle.mp_pattern.specs.Normal.{normal_pattern};
 ghost use Rattle.mp_pattern.specs.Sound.{holds_ops, DefaultsAreNormal};
 
 use crate::pattern::{Pattern, Patterns};
 use mp_term::{Memory, OpId, Signature};
 use std::alloc::Global;
+use std::mem;
 
-// Sorts the patterns by the pattern order.
-fn sort(list: &mut Patterns)
-    ensures { list.new ≡ sorted pattern_cmp list.old }
+// Puts the arguments of a commutative operation into the pattern order.
+fn put_in_order(sig: &Signature, op: OpId, args: &mut Patterns)
+    ensures { args.new ≡ in_order sig.now op.0 args.old }
 {
-    list.items.sort_unstable();
+    if sig.is_comm(op) {
+        args.items.sort_unstable();
+    }
 }
 
 // Adds what an argument of the operation gives: its own arguments, where the operation is associative and its head.
@@ -54,37 +57,48 @@ fn is_collapsible(args: &[Pattern]) -> bool
     }
 }
 
-// A one-identity operation of one argument is that argument, unless the argument is loose.
-fn collapse(sig: &Signature, op: OpId, mut args: Patterns) -> Pattern
-    ensures { pattern_tree result ≡ collapsed sig.now op.0 args }
+// Replaces the arguments of an associative operation that are headed by it by their arguments.
+fn flatten(alloc: Global, sig: &Signature, op: OpId, args: &mut Patterns) -> Result<(), Memory>
+    ensures { OnOk result (args.new ≡ flattened sig.now op.0 args.old) }
 {
-    if sig.is_one(op)
-        && is_collapsible(&args.items)
-        && let Some(only) = args.items.pop()
-    {
-        return only;
+    if !sig.is_assoc(op) {
+        return Ok(());
     }
-    Pattern::App(op, args)
+    let nested = mem::replace(args, Patterns::with_room(alloc, args.len())?);
+    for arg in nested.items {
+        push_parts(args, sig, op, arg)?;
+    }
+    Ok(())
 }
 
-// The normal form, in one pass from the leaves up.
-fn normal_form(alloc: Global, sig: &Signature, pattern: Pattern) -> Result<Pattern, Memory>
-    ensures { IfOk result (λ p. pattern_tree p ≡ normal_pattern sig.now (pattern_tree pattern)) }
+// Takes the argument that a one-identity operation of one argument is replaced by, which isn't loose.
+fn take_only(sig: &Signature, op: OpId, args: &mut Patterns) -> Option<Pattern>
+    ensures { MatchOption result
+        ((args.new ≡ args.old) × (collapsed sig.now op.0 args.old ≡ app_pattern op.0 (patterns args.old)))
+        (λ p. collapsed sig.now op.0 args.old ≡ pattern_tree p) }
 {
-    match pattern {
-        Pattern::Sym(name) => Ok(Pattern::Sym(name)),
-        Pattern::Wild(shape, name) => Ok(Pattern::Wild(shape, name)),
-        Pattern::App(op, args) => {
-            let mut flat = Patterns::with_room(alloc, args.len())?;
-            for arg in args.items {
-                push_parts(&mut flat, sig, op, normal_form(alloc, sig, arg)?)?;
-            }
-            if sig.is_comm(op) {
-                sort(&mut flat);
-            }
-            Ok(collapse(sig, op, flat))
+    if sig.is_one(op) && is_collapsible(&args.items) {
+        return args.items.pop();
+    }
+    None
+}
+
+// Puts the pattern into normal form, from the leaves up.
+fn normalise(alloc: Global, sig: &Signature, pattern: &mut Pattern) -> Result<(), Memory>
+    ensures { OnOk result (pattern_tree pattern.new ≡ normal_pattern sig.now (pattern_tree pattern.old)) }
+{
+    if let Pattern::App(op, args) = pattern {
+        let op = *op;
+        for arg in args.items.iter_mut() {
+            normalise(alloc, sig, arg)?;
+        }
+        flatten(alloc, sig, op, args)?;
+        put_in_order(sig, op, args);
+        if let Some(only) = take_only(sig, op, args) {
+            *pattern = only;
         }
     }
+    Ok(())
 }
 
 /// The normal form of a pattern (`normal_pattern` of `specs/Normal.antt`): the arguments are normalised, those of an
@@ -103,6 +117,7 @@ pub fn normalise_pattern(
     ensures held { IfOk result (λ p. holds_ops sig.now (pattern_tree p) ≡ true) }
     ensures defaults { IfOk result (λ p. DefaultsAreNormal sig.now (pattern_tree p)) }
 {
-    let normal = normal_form(alloc, sig, pattern)?;
+    let mut normal = pattern;
+    normalise(alloc, sig, &mut normal)?;
     Ok(normal)
 }

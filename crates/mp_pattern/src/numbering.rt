@@ -5,8 +5,12 @@ ghost use Rattle.mp_pattern.specs.View.{pattern_tree};
 
 use crate::copy::copy_shape;
 use crate::pattern::{Pattern, Patterns};
+use itoa::write_digits;
 use mp_term::{Memory, Name, NameFault, Names};
 use std::alloc::Global;
+
+// The length of the longest name of a number: a `v` and the ten digits that a `u32` has at most.
+const LONGEST: usize = 11;
 
 // How many of the names stand before the name.
 fn names_before(names: &Names, name: &Name) -> usize
@@ -45,12 +49,14 @@ pub fn variable_number(names: &Names, variable: &Option<Name>) -> Result<Option<
     }
 }
 
-// The name of the variable of that number in a commutative pattern.
+// The name of the variable of that number in a commutative pattern. The digits end the text, and each byte before them
+// is a `v`.
 fn numbered(alloc: Global, number: u32) -> Result<Name, Memory>
     ensures { IfOk result (λ n. n ≡ numbered number) }
 {
-    let text = format!(in alloc; "v{number}")?;
-    match Name::new(alloc, text.as_bytes()) {
+    let mut text = [b'v'; LONGEST];
+    let start = write_digits(number as u64, &mut text, LONGEST);
+    match Name::new(alloc, &text[start - 1..]) {
         Ok(name) => Ok(name),
         Err(NameFault::Memory) => Err(Memory),
         Err(NameFault::Spelling) => unreachable!(),
