@@ -21,7 +21,7 @@ use Rattle.mp_table.specs.declared.entry.Entry.{Entry}
 use Rattle.mp_table.specs.declared.piece.Piece.{Piece}
 use Rattle.mp_table.specs.declared.preorder.Preorder.{Preorder}
 use Rattle.mp_table.specs.declared.rank.Rank.{Rank}
-use Rattle.mp_table.specs.Pieces.{piece_terms, ArePieces}
+use Rattle.mp_table.specs.Pieces.{piece_terms, ArePieces, AreRanks}
 use Rattle.mp_table.specs.Preorder.{all_preorder}
 use Rattle.mp_table.specs.Reading.{entry_trees, AreEntries}
 use Rattle.mp_table.specs.Table.{IsTableOf}
@@ -68,6 +68,20 @@ module _ (subject : Tree) (constants : List Tree) (text : Preorder)
         length-all_preorder (subject ∷ constants),
         node_count_is subject,
       )
+
+  -- the rank that is read at the first place
+  module _ (ps : List Piece) (rs : List ℕ) (ranks : AreRanks (shown text) (piece_terms ps) rs) (root : ℕ)
+      (read : root ≡ get_or rs 0 root) where
+    some_term : 0 < length (shown text)
+    some_term = omega (arith, some_place, length-map text.terms.items (λ t. tree t.now))
+
+    -- is one
+    pub root-within : root < length ps
+    root-within = omega (arith, read, ranks.within 0 root some_term, length-map ps (λ p. tree p.term.now))
+
+    -- and has the subject
+    pub root-first : get_or (piece_terms ps) root (symbol []) ≡ term_in (shown text) 0
+    root-first = ap (λ r. get_or (piece_terms ps) r (symbol [])) read ∙ ranks.terms 0 root some_term
 
   module _ (ps : List Piece) (pieces : ArePieces (shown text) ps) (rs : List Rank) (es : List Entry)
       (entries : AreEntries rs es (piece_terms ps)) (root : ℕ) (within : root < length ps)

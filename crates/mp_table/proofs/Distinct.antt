@@ -56,13 +56,17 @@ pub all-keys : {X Y : Type 0} (f : Y → X) (ks : List X) (ys : List Y) → map 
     → AllByRecursion (λ y. In (f y) ks) ys
 all-keys f ks ys e = subst (λ l. AllByRecursion (λ y. In (f y) l) ys) e (all-own f ys)
 
+-- one item more of which a fact holds
+pub all-more : {X : Type 0} (P : X → Type 0) (xs : List X) (i : ℕ) (d : X) → i < length xs → P (get_or xs i d)
+    → AllByRecursion P (take i xs) → AllByRecursion P (take (i + 1) xs)
+all-more P xs i d h p a =
+    subst (AllByRecursion P) (sym (take_more xs i d h)) (all-append P (take i xs) (get_or xs i d ∷ []) a (p, tt))
+
 -- one item more whose key is a member
 pub members-more : {X Y : Type 0} (f : Y → X) (ks : List X) (ys : List Y) (i : ℕ) (d : Y) → i < length ys
     → In (f (get_or ys i d)) ks → AllByRecursion (λ y. In (f y) ks) (take i ys)
     → AllByRecursion (λ y. In (f y) ks) (take (i + 1) ys)
-members-more f ks ys i d h k a =
-    subst (AllByRecursion (λ y. In (f y) ks)) (sym (take_more ys i d h))
-    (all-append (λ y. In (f y) ks) (take i ys) (get_or ys i d ∷ []) a (k, tt))
+members-more f ks = all-more (λ y. In (f y) ks)
 
 -- one item more whose key is added
 pub members-pushed : {X Y : Type 0} (f : Y → X) (ks : List X) (ys : List Y) (i : ℕ) (d : Y) → i < length ys
@@ -72,21 +76,6 @@ members-pushed f ks ys i d h a =
     let k = f (get_or ys i d) in
     members-more f (ks ++ k ∷ []) ys i d h (in-last k ks)
     (all-also (λ y. In (f y) ks) (λ y. In (f y) (ks ++ k ∷ [])) (λ y. in-front (f y) ks (k ∷ [])) (take i ys) a)
-
-in-between : {X : Type 0} (x y : X) (xs ys : List X) → In x (xs ++ ys) → In x ((xs ++ y ∷ []) ++ ys)
-in-between x y [] ys h = inr h
-in-between x y (z ∷ xs) ys (inl e) = inl e
-in-between x y (z ∷ xs) ys (inr h) = inr (in-between x y xs ys h)
-
--- one item more whose key is put between
-pub members-between : {X Y : Type 0} (f : Y → X) (ks ls : List X) (ys : List Y) (i : ℕ) (d : Y) → i < length ys
-    → AllByRecursion (λ y. In (f y) (ks ++ ls)) (take i ys)
-    → AllByRecursion (λ y. In (f y) ((ks ++ f (get_or ys i d) ∷ []) ++ ls)) (take (i + 1) ys)
-members-between f ks ls ys i d h a =
-    let k = f (get_or ys i d) in
-    members-more f ((ks ++ k ∷ []) ++ ls) ys i d h (in-front k (ks ++ k ∷ []) ls (in-last k ks))
-    (all-also (λ y. In (f y) (ks ++ ls)) (λ y. In (f y) ((ks ++ k ∷ []) ++ ls)) (λ y. in-between (f y) k ks ls)
-    (take i ys) a)
 
 -- each key is a member
 pub from-keys : {X Y : Type 0} (f : Y → X) (ks : List X) (ys : List Y) → AllByRecursion (λ y. In (f y) ks) ys → (x : X)

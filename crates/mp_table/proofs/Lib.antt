@@ -5,6 +5,8 @@ pub mod PreorderLaws
 pub mod TextLaws
 pub mod ReadingLaws
 pub mod HeadLaws
+pub mod Inserted
 pub mod RankLaws
+pub mod RankedLaws
 pub mod NormalSubterms
 pub mod BuildLaws

@@ -1,14 +1,17 @@
 -- The terms of the pieces of a text are its subterms.
-use Rattle.std.proofs.Common.{◌≡◌, ◌∙◌, ℕ, ◌<◌, List, [], ◌∷◌, length, get_or, sym, subst, inl, inr}
+use Rattle.std.proofs.Common.{◌≡◌, ◌∙◌, ℕ, ◌<◌, ◌≤◌, List, [], ◌∷◌, length, get_or, sym, subst, inl, inr, arith}
 use Rattle.std.specs.List.{AllByRecursion}
-use Rattle.std.proofs.lemmas.List.{get_or-map}
+use Rattle.std.proofs.lemmas.List.{get_or-map, length-map}
 use Rattle.std.proofs.lemmas.List.Elements.{All-from_recursion}
 use Rattle.mp_term.specs.Listing.{In}
+use Rattle.mp_term.specs.Order.{tree_cmp}
+use Rattle.mp_term.specs.OrderLaws.{tree_cmp_total, tree_same}
 use Rattle.mp_term.specs.Tree.{Tree, symbol}
 use Rattle.mp_term.specs.View.{tree}
 use Rattle.mp_table.specs.declared.piece.Piece.{Piece}
-use Rattle.mp_table.specs.Pieces.{piece_terms, IsPiece}
+use Rattle.mp_table.specs.Pieces.{piece_terms, IsPiece, ArePieces}
 use Rattle.mp_table.proofs.Distinct.{in-place}
+use Rattle.mp_table.proofs.Inserted.{length-ascending}
 
 module _ (ts : List Tree) where
   -- the term of a piece is a subterm
@@ -23,3 +26,13 @@ module _ (ts : List Tree) where
       → get_or (piece_terms ps) r (symbol []) ≡ get_or ts (get_or ps r d).start (symbol [])
   piece_at ps h r d k =
       get_or-map (λ p. tree p.term.now) ps r d (symbol []) k ∙ (All-from_recursion (IsPiece ts) ps h r d k).1
+
+  -- there are no more pieces than subterms
+  pub length-pieces : (ps : List Piece) → ArePieces ts ps → length ps ≤ length ts
+  length-pieces ps are =
+      omega (
+        arith,
+        length-ascending tree_cmp tree_cmp_total tree_same (piece_terms ps) ts are.ascending
+            (in-text ps are.pieces),
+        length-map ps (λ p. tree p.term.now),
+      )

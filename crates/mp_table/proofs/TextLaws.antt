@@ -2,7 +2,6 @@
 use Rattle.std.proofs.Common.{◌≡◌, ℕ, zero, suc, ◌+◌, ◌<◌, ◌≤◌, List, [], ◌∷◌, ◌++◌, length, get_or, take, drop}
 use Rattle.std.proofs.Common.{refl, ap, sym, ◌∙◌, subst, inl, inr, arith, append_assoc}
 use Rattle.std.proofs.Common.{true, false}
-use Rattle.std.specs.Borrow.{Bor}
 use Rattle.std.specs.Prelude.{nat_lt}
 use Rattle.std.proofs.lemmas.Bool.Decides.{nat_tests}
 use Rattle.std.proofs.lemmas.List.{length-map, drop_at, get_or-map, take-append-drop}
@@ -11,8 +10,6 @@ use Rattle.std.proofs.lemmas.List.{drop-drop, take_all, take_more}
 use Rattle.mp_term.specs.Listing.{In}
 use Rattle.mp_term.specs.Size.{node_count, all_nodes}
 use Rattle.mp_term.specs.Tree.{Tree, symbol, trees}
-use Rattle.mp_term.specs.View.{tree}
-use Rattle.mp_term.specs.declared.term.Term.{Term}
 use Rattle.mp_term.proofs.NormalSize.{all_nodes-append}
 use Rattle.mp_table.specs.declared.preorder.Preorder.{Preorder}
 use Rattle.mp_table.specs.Preorder.{preorder, all_preorder}
@@ -30,12 +27,6 @@ pub in-place : (xs : List Tree) (i : ℕ) → i < length xs → In (term_in xs i
 in-place [] i h = absurd (omega arith)
 in-place (x ∷ xs) zero h = inl refl
 in-place (x ∷ xs) (suc i) h = inr (in-place xs i (omega arith))
-
--- the subterm that is read at a place
-pub shown_at : (text : Preorder) (i : ℕ) (t : Bor Term) → i < length text.terms.items
-    → t ≡ get_or text.terms.items i t → tree t.now ≡ term_in (shown text) i
-shown_at text i t h is =
-    ap (λ u. tree u.now) is ∙ sym (get_or-map (λ u. tree u.now) text.terms.items i t (symbol []) h)
 
 first-is : (xs ys : List Tree) (x : Tree) (i : ℕ) → drop i xs ≡ x ∷ ys → (i < length xs) × (term_in xs i ≡ x)
 first-is [] ys x zero e = cc

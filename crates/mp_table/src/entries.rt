@@ -1,15 +1,15 @@
 //! The entries of a table.
-ghost use Rattle.std.specs.Prelude.{◌≡◌, ◌<◌, ◌^◌, map, length, take, drop, IfOk, OnOk, slice_index_or, []};
+ghost use Rattle.std.specs.Prelude.{◌≡◌, ◌<◌, map, length, take, drop, IfOk, OnOk, slice_index_or, []};
 ghost use Rattle.std.specs.List.{AllByRecursion};
 ghost use Rattle.mp_term.specs.Tree.{symbol};
 ghost use Rattle.mp_term.specs.View.{tree};
 ghost use Rattle.mp_table.specs.Subterms.{arguments};
 ghost use Rattle.mp_table.specs.Reading.{with_head, IsEntryOf, AreEntries};
-ghost use Rattle.mp_table.specs.Pieces.{piece_terms, ArePieces};
+ghost use Rattle.mp_table.specs.Pieces.{piece_terms, ArePieces, AreRanks};
 ghost use Rattle.mp_table.specs.Text.{IsText, shown};
 
 use crate::entry::{Entry, OwnHead};
-use crate::pieces::{Ranked, rank_at};
+use crate::pieces::Ranked;
 use crate::preorder::Preorder;
 use crate::rank::Rank;
 use mp_term::{Memory, Term};
@@ -40,8 +40,7 @@ fn push_ranks(
     start: usize,
 ) -> Result<(), Memory>
     requires text { IsText text.now }
-    requires pieces { ArePieces (shown text.now) ranked.now.pieces.items }
-    requires short { length ranked.now.pieces.items < 2 ^ 32 }
+    requires ranks { AreRanks (shown text.now) (piece_terms ranked.now.pieces.items) ranked.now.ranks.items }
     requires start { start < length text.now.nodes.items }
     ensures kept { OnOk result (take (length args.old.items) args.new.items ≡ args.old.items) }
     ensures terms { OnOk result
@@ -54,7 +53,7 @@ fn push_ranks(
     let end = start + text.nodes[start] as usize;
     let mut next = start + 1;
     while next < end {
-        args.push(rank_at(text, ranked, next))?;
+        args.push(Rank(ranked.ranks[next]))?;
         next += text.nodes[next] as usize;
     }
     Ok(())
@@ -69,8 +68,7 @@ fn entry_of(
     start: usize,
 ) -> Result<Entry, Memory>
     requires text { IsText text.now }
-    requires pieces { ArePieces (shown text.now) ranked.now.pieces.items }
-    requires short { length ranked.now.pieces.items < 2 ^ 32 }
+    requires ranks { AreRanks (shown text.now) (piece_terms ranked.now.pieces.items) ranked.now.ranks.items }
     requires start { start < length text.now.nodes.items }
     ensures kept { OnOk result (take (length args.old.items) args.new.items ≡ args.old.items) }
     ensures entry { IfOk result (IsEntryOf args.new.items (piece_terms ranked.now.pieces.items)
@@ -97,7 +95,7 @@ pub(crate) fn entries_of(
 ) -> Result<Entries, Memory>
     requires text { IsText text.now }
     requires pieces { ArePieces (shown text.now) ranked.now.pieces.items }
-    requires short { length ranked.now.pieces.items < 2 ^ 32 }
+    requires ranks { AreRanks (shown text.now) (piece_terms ranked.now.pieces.items) ranked.now.ranks.items }
     ensures { IfOk result (λ e. AreEntries e.args.items e.entries.items (piece_terms ranked.now.pieces.items)) }
 {
     let mut entries = Vec::with_capacity(alloc, ranked.pieces.len())?;

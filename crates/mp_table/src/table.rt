@@ -11,7 +11,7 @@ ghost use Rattle.mp_table.specs.Reading.{IsHeadOf};
 use crate::entries::entries_of;
 use crate::entry::{Entry, OwnHead};
 use crate::limits::MAX_CONSTANT_NODES;
-use crate::pieces::{distinct_pieces, rank_at};
+use crate::pieces::distinct_pieces;
 use crate::preorder::collect;
 use crate::rank::{Head, Rank};
 use mp_term::{MAX_TERM_NODES, Memory, Signature, Term, Terms};
@@ -74,7 +74,7 @@ impl Table {
         let _ = sig;
         let text = collect(alloc, subject, constants)?;
         let ranked = distinct_pieces(alloc, &text.terms)?;
-        let root = rank_at(&text, &ranked, 0);
+        let root = Rank(ranked.ranks[0]);
         let made = entries_of(alloc, &text, &ranked)?;
         Ok(Table {
             entries: made.entries,

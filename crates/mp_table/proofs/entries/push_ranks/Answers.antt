@@ -11,6 +11,7 @@ use Rattle.mp_table.specs.Pieces.{piece_terms}
 use Rattle.mp_table.specs.Subterms.{arguments}
 use Rattle.mp_table.specs.Text.{shown, IsText}
 use Rattle.mp_table.specs.declared.preorder.Preorder.{Preorder}
+use Rattle.mp_table.specs.declared.rank.Rank.{Rank}
 use Rattle.mp_table.proofs.TextLaws.{IsNext, is_next, all_behind, length-nodes, term_in}
 use Rattle.mp_table.proofs.entries.push_ranks.Goals as goal
 
@@ -36,17 +37,17 @@ loop-next-init c =
       within = rw none tt;
     }
 
-pub rank_at-requires-clause-start : goal.rank_at-requires-clause-start
-rank_at-requires-clause-start c =
+pub index-requires-in-loop-next : goal.index-requires-in-loop-next
+index-requires-in-loop-next c =
     let text = c.args.text.now in
     let n = step text c.requires.text c.args.start c.index.result.now (length (drop (length c.args.args.now.items)
     c.loop-next.args.items))
     c.loop-next.next c.requires.start c.index.ensures c.loop-next.invariant.few c.loop-next.invariant.next
     c.loop-next-test.true in
-    omega (arith, n.within, length-map text.terms.items (λ t. tree t.now))
+    omega (arith, n.within, c.requires.ranks.many, c.args.ranked.now.ranks.ok.0)
 
-pub index-requires-in-loop-next : goal.index-requires-in-loop-next
-index-requires-in-loop-next c =
+pub index-requires-in-loop-next-2 : goal.index-requires-in-loop-next-2
+index-requires-in-loop-next-2 c =
     let text = c.args.text.now in
     let n = step text c.requires.text c.args.start c.index.result.now (length (drop (length c.args.args.now.items)
     c.loop-next.args.items))
@@ -63,9 +64,9 @@ loop-next-smaller c =
     c.loop-next-test.true in
     let there : c.loop-next.next < length text.nodes.items =
     omega (arith, n.within, length-nodes text c.requires.text) in
-    let width : c.index-in-loop-next.result.now ≡ get_or text.nodes.items c.loop-next.next 0 =
-    get_or_read text.nodes.items c.loop-next.next c.index-in-loop-next.result.now there c.index-in-loop-next.ensures 0
-    in
+    let width : c.index-in-loop-next-2.result.now ≡ get_or text.nodes.items c.loop-next.next 0 =
+    get_or_read text.nodes.items c.loop-next.next c.index-in-loop-next-2.result.now there
+    c.index-in-loop-next-2.ensures 0 in
     omega (arith, width, n.some, c.loop-next-test.true)
 
 pub loop-next-preserved : goal.loop-next-preserved
@@ -78,13 +79,18 @@ loop-next-preserved c =
     c.requires.start c.index.ensures c.loop-next.invariant.few c.loop-next.invariant.next c.loop-next-test.true in
     let there : c.loop-next.next < length text.nodes.items =
     omega (arith, n.within, length-nodes text c.requires.text) in
-    let width : c.index-in-loop-next.result.now ≡ get_or text.nodes.items c.loop-next.next 0 =
-    get_or_read text.nodes.items c.loop-next.next c.index-in-loop-next.result.now there c.index-in-loop-next.ensures 0
-    in
+    let width : c.index-in-loop-next-2.result.now ≡ get_or text.nodes.items c.loop-next.next 0 =
+    get_or_read text.nodes.items c.loop-next.next c.index-in-loop-next-2.result.now there
+    c.index-in-loop-next-2.ensures 0 in
     let old = c.args.args.now.items in
     let xs = c.loop-next.args.items in
     let new = drop (length old) xs in
-    let last = c.rank_at.result ∷ [] in
+    let at = c.index-in-loop-next.result.now in
+    let rank : Rank = record { 0 = at } in
+    let read : at ≡ get_or c.args.ranked.now.ranks.items c.loop-next.next at = c.index-in-loop-next.ensures in
+    let term : get_or (piece_terms ps) at (symbol []) ≡ term_in (shown text) c.loop-next.next =
+    ap (λ m. get_or (piece_terms ps) m (symbol [])) read ∙ c.requires.ranks.terms c.loop-next.next at n.within in
+    let last = rank ∷ [] in
     let grown : drop (length old) c.push.new.self.items ≡ new ++ last =
     ap (drop (length old)) c.in_ok-push.ensures.items
     ∙ drop-append-le (length old) xs last c.loop-next.invariant.more in
@@ -97,12 +103,19 @@ loop-next-preserved c =
       next = ap (λ w. c.loop-next.next + w) width ∙ n.after
           ∙ ap (λ m. c.args.start + 1 + all_nodes (take m us)) (sym longer);
       terms = ap (map (λ r. get_or (piece_terms ps) r.0 (symbol []))) grown
-          ∙ map_push (λ r. get_or (piece_terms ps) r.0 (symbol [])) new c.rank_at.result
-          ∙ (λ i. c.loop-next.invariant.terms i ++ (c.rank_at.ensures.term ∙ n.term) i ∷ [])
+          ∙ map_push (λ r. get_or (piece_terms ps) r.0 (symbol [])) new rank
+          ∙ (λ i. c.loop-next.invariant.terms i ++ (term ∙ n.term) i ∷ [])
           ∙ sym (take_more us k (symbol []) n.more)
           ∙ ap (λ m. take m us) (sym longer);
-      within = rw grown (all-append (λ r. r.0 < length ps) new last c.loop-next.invariant.within
-          (c.rank_at.ensures.within, tt));
+      within = rw grown (all-append (λ r. r.0 < length ps) new last c.loop-next.invariant.within (
+        omega (
+          arith,
+          read,
+          c.requires.ranks.within c.loop-next.next at n.within,
+          length-map ps (λ p. tree p.term.now),
+        ),
+        tt,
+      ));
     }
 
 pub returns-clause-kept : goal.returns-clause-kept

@@ -1,31 +1,20 @@
 use Rattle.std.proofs.Common.{arith, map}
-use Rattle.std.proofs.lemmas.List.Filters.{dedup_is}
-use Rattle.mp_term.specs.Order.{tree_cmp}
-use Rattle.mp_term.specs.OrderLaws.{tree_cmp_total, tree_same}
+use Rattle.std.proofs.lemmas.List.{length-map}
 use Rattle.mp_term.specs.View.{tree}
-use Rattle.mp_table.specs.Pieces.{piece_terms, IsPiece}
-use Rattle.mp_table.proofs.Distinct.{distinct_ascends, distinct_keep, distinct_all, from-keys}
+use Rattle.mp_table.proofs.PieceLaws.{length-pieces}
 use Rattle.mp_table.proofs.pieces.distinct_pieces.Goals as goal
 
-pub returns-clause-pieces : goal.returns-clause-pieces
-returns-clause-pieces c =
-    let terms = c.args.terms.now in
-    let ps = c.in_ok-found.found.pieces.items in
-    let qs = c.sort.new.self.items in
-    rw (dedup_is _ _ _ c.dedup.ensures.filtered) (record {
-      ascending = distinct_ascends tree_cmp tree_cmp_total (λ p. tree p.term.now) qs c.in_ok-sort.ensures.sorted;
-      pieces = distinct_keep tree_cmp tree_cmp_total (λ p. tree p.term.now) (IsPiece (map (λ t. tree t.now) terms)) ps
-          qs c.in_ok-sort.ensures.permutation c.in_ok-found.ensures.pieces;
-      all = λ u h. distinct_all tree_cmp tree_cmp_total (λ p. tree p.term.now) tree_same ps qs
-          c.in_ok-sort.ensures.permutation u (from-keys (λ t. tree t.now) (piece_terms ps) terms
-          c.in_ok-found.ensures.all u h);
-    })
+pub ranks_of-requires-clause-short : goal.ranks_of-requires-clause-short
+ranks_of-requires-clause-short c = omega (
+  arith,
+  c.requires,
+  length-pieces (map (λ t. tree t.now) c.args.terms.now) c.in_ok-found.found.pieces.items c.in_ok-found.ensures,
+  length-map c.args.terms.now (λ t. tree t.now),
+)
 
 pub returns-clause-few : goal.returns-clause-few
 returns-clause-few c = omega (
   arith,
-  c.in_ok-found.ensures.few,
-  c.dedup.ensures.bound,
-  c.dedup.new.self.ok.0,
-  c.in_ok-sort.ensures.len,
+  length-pieces (map (λ t. tree t.now) c.args.terms.now) c.in_ok-found.found.pieces.items c.in_ok-found.ensures,
+  length-map c.args.terms.now (λ t. tree t.now),
 )

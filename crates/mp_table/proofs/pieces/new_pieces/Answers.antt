@@ -1,5 +1,5 @@
 use Rattle.std.proofs.Common.{◌≡◌, ◌<◌, ◌+◌, ◌++◌, ◌∙◌, List, [], ◌∷◌, map, length, take, get_or, sym, ap, subst, refl}
-use Rattle.std.proofs.Common.{arith, length-append}
+use Rattle.std.proofs.Common.{arith}
 use Rattle.std.proofs.lemmas.List.{get_or-map, take_all, map_push, length-map}
 use Rattle.std.specs.List.{AllByRecursion}
 use Rattle.mp_term.specs.Listing.{In}
@@ -32,7 +32,6 @@ loop-start-preserved-then-has_term c =
           c.loop-start-test.true
           (subst (λ t. In (tree t.now) (piece_terms c.loop-start.pieces.items)) c.index-terms-start.is there)
           c.loop-start.invariant.all;
-      few = omega (arith, c.loop-start.invariant.few);
     }
 
 pub loop-start-preserved : goal.loop-start-preserved
@@ -58,12 +57,6 @@ loop-start-preserved c =
           ));
       all = subst (λ ks. AllByRecursion (λ t. In (tree t.now) ks) (take (start + 1) terms)) (sym pushed)
           (members-pushed (λ t. tree t.now) (piece_terms ps) terms start term there c.loop-start.invariant.all);
-      few = omega (
-        arith,
-        c.loop-start.invariant.few,
-        ap length c.in_ok-push-3.ensures.items,
-        length-append ps (added ∷ []),
-      );
     }
 
 pub returns-clause-all : goal.returns-clause-all

@@ -1,4 +1,4 @@
-use Rattle.std.proofs.Common.{◌≤◌, map, length, take}
+use Rattle.std.proofs.Common.{map, take}
 use Rattle.std.specs.List.{AllByRecursion}
 use Rattle.mp_term.specs.Listing.{In}
 use Rattle.mp_term.specs.View.{tree}
@@ -9,5 +9,4 @@ abbrev pub invariant-loop-start : goal.invariant-loop-start
 invariant-loop-start l = record {
   pieces : AllByRecursion (IsPiece (map (λ t. tree t.now) l.terms)) l.pieces.items;
   all : AllByRecursion (λ t. In (tree t.now) (piece_terms l.pieces.items)) (take l.start l.terms);
-  few : length l.pieces.items ≤ l.start;
 }
